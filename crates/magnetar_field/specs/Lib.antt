@@ -1,0 +1,1 @@
+pub mod Gf128
