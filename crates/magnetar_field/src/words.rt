@@ -1,0 +1,42 @@
+// Slices of words that hold elements: word 2i is the low half of element i, and word 2i + 1 its high half.
+use crate::gf128::Gf128;
+
+// The element at index i, or 0 where there is none.
+pub fn get(s: &[u64], i: usize) -> Gf128 {
+    if i < s.len() / 2 {
+        let k = 2 * i;
+        Gf128 {
+            lo: s[k],
+            hi: s[k + 1],
+        }
+    } else {
+        Gf128 { lo: 0, hi: 0 }
+    }
+}
+
+// Stores the element e at index i, where there is room for it.
+pub fn put(s: &mut [u64], i: usize, e: Gf128) {
+    if i < s.len() / 2 {
+        let k = 2 * i;
+        s[k] = e.lo;
+        s[k + 1] = e.hi;
+    }
+}
+
+// Sets every word to 0.
+pub fn clear(s: &mut [u64]) {
+    let mut i = 0;
+    while i < s.len() {
+        s[i] = 0;
+        i += 1;
+    }
+}
+
+// Copies the words of src over those of dst, as many as both have.
+pub fn copy(src: &[u64], dst: &mut [u64]) {
+    let mut i = 0;
+    while i < src.len() && i < dst.len() {
+        dst[i] = src[i];
+        i += 1;
+    }
+}
