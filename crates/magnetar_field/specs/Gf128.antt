@@ -7,7 +7,6 @@ use Rattle.magnetar_field.specs.declared.gf128.Gf128.{Gf128}
 
 infixl 60 _⊕_
 infixl 70 _⊗_
-
 -- the number that an element's two words make, the low word first
 abbrev pub value : Gf128 → ℕ
 value e = e .hi * 2 ^ 64 + e .lo

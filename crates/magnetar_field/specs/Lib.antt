@@ -1,1 +1,9 @@
 pub mod Gf128
+pub mod Polynomial
+pub mod Refusal
+pub mod Sizes
+pub mod Tabulate
+pub mod Words
+pub mod EqTable
+pub mod Multilinear
+pub mod Entries

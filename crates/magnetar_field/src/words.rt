@@ -1,8 +1,15 @@
 // Slices of words that hold elements: word 2i is the low half of element i, and word 2i + 1 its high half.
 use crate::gf128::Gf128;
+ghost use mathlib.Core.Path.{_≡_};
+ghost use Prim.Native.Nat.{min};
+ghost use lib.ListN.{length, getD, replicate};
+ghost use Rattle.magnetar_field.specs.Gf128.{value};
+ghost use Rattle.magnetar_field.specs.Words.{elements, stored, overlaid};
 
 // The element at index i, or 0 where there is none.
-pub fn get(s: &[u64], i: usize) -> Gf128 {
+pub fn get(s: &[u64], i: usize) -> Gf128
+    ensures { λ r. ⌜ value r ≡ getD (elements (now (s .entry))) i 0 ⌝ }
+{
     if i < s.len() / 2 {
         let k = 2 * i;
         Gf128 {
@@ -15,7 +22,9 @@ pub fn get(s: &[u64], i: usize) -> Gf128 {
 }
 
 // Stores the element e at index i, where there is room for it.
-pub fn put(s: &mut [u64], i: usize, e: Gf128) {
+pub fn put(s: &mut [u64], i: usize, e: Gf128)
+    ensures { λ _. ⌜ now (s .exit) ≡ stored (now (s .entry)) i (value e) ⌝ }
+{
     if i < s.len() / 2 {
         let k = 2 * i;
         s[k] = e.lo;
@@ -24,7 +33,9 @@ pub fn put(s: &mut [u64], i: usize, e: Gf128) {
 }
 
 // Sets every word to 0.
-pub fn clear(s: &mut [u64]) {
+pub fn clear(s: &mut [u64])
+    ensures { λ _. ⌜ now (s .exit) ≡ replicate (length (now (s .entry))) 0 ⌝ }
+{
     let mut i = 0;
     while i < s.len() {
         s[i] = 0;
@@ -33,10 +44,19 @@ pub fn clear(s: &mut [u64]) {
 }
 
 // Copies the words of src over those of dst, as many as both have.
-pub fn copy(src: &[u64], dst: &mut [u64]) {
+pub fn copy(src: &[u64], dst: &mut [u64])
+    ensures { λ _. ⌜ now (dst .exit) ≡ overlaid (now (src .entry)) (now (dst .entry)) ⌝ }
+{
+    let n = shorter(src.len(), dst.len());
     let mut i = 0;
-    while i < src.len() && i < dst.len() {
+    while i < n {
         dst[i] = src[i];
         i += 1;
     }
+}
+
+fn shorter(a: usize, b: usize) -> usize
+    ensures { λ r. ⌜ r ≡ min a b ⌝ }
+{
+    if a < b { a } else { b }
 }

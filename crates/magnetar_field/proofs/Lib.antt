@@ -1,0 +1,14 @@
+pub mod Xor
+pub mod Product
+pub mod Square
+pub mod Order
+pub mod Norm
+pub mod Polynomial
+pub mod Bits
+pub mod Fixed
+pub mod Inverse
+pub mod Roots
+pub mod Collide
+pub mod Log2
+pub mod Mask
+pub mod Elements

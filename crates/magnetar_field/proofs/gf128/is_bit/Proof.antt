@@ -1,0 +1,22 @@
+-- `magnetar_field::gf128::is_bit` meets its contract.
+-- Assumes nothing.
+use mathlib.Core.Path.{_≡_}
+use Prim.Native.Nat.{_*_, _+_, _^_, _≤_}
+use native.Mathlib.Nat.{zero-mul, zero-add}
+use native.Mathlib.Omega.{arith}
+use borrow.Author.Tests.{le-ltb}
+use Rattle.magnetar_field.proofs.gf128.is_bit.Statement.{statement}
+use Rattle.magnetar_field.proofs.gf128.is_bit.Tie as tie
+use Rattle.magnetar_field.proofs.gf128.is_bit.Reads as reads
+use Rattle.magnetar_field.proofs.gf128.is_bit.Lts as lts
+
+-- src/gf128.rt:47:1
+returns : tie.Need-returns
+returns c = rw (c .before .if1 .taken, zero-mul, zero-add)
+
+-- src/gf128.rt:47:1
+returns-2 : tie.Need-returns-2
+returns-2 c = let x = c .before .before .args .a in let big : 2 ≤ x .hi * 2 ^ 64 + x .lo = omega arith in rw (le-ltb _ _ big)
+
+pub is-bit-spec : {M : Type 1} → statement M
+is-bit-spec = tie.close (tie.spec returns returns-2)

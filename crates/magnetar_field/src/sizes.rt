@@ -1,0 +1,31 @@
+// Powers of two.
+ghost use mathlib.Core.Path.{_≡_};
+ghost use Prim.Native.Nat.{_^_, _*_, _<_};
+ghost use Rattle.magnetar_field.specs.Sizes.{log₂, powerOfTwo};
+
+// The logarithm to the base 2, rounded down; that of 0 is 0.
+pub fn log2(n: usize) -> usize
+    ensures { λ r. ⌜ r ≡ log₂ n ⌝ }
+{
+    let mut rest = n;
+    let mut k = 0;
+    while rest > 1 {
+        rest = rest / 2;
+        k += 1;
+    }
+    k
+}
+
+pub fn is_power_of_two(n: usize) -> bool
+    ensures { λ r. ⌜ r ≡ powerOfTwo n ⌝ }
+{
+    n == power_of_two(log2(n))
+}
+
+// 2^k.
+pub(crate) fn power_of_two(k: usize) -> usize
+    requires { ⌜ k < 64 ⌝ }
+    ensures { λ r. ⌜ r ≡ 2 ^ k ⌝ }
+{
+    1 << k
+}
