@@ -9,6 +9,7 @@ pub mod Norm
 pub mod Polynomial
 pub mod Bits
 pub mod Fixed
+pub mod Power
 pub mod Inverse
 pub mod Roots
 pub mod Collide
