@@ -18,8 +18,7 @@ pow-word-requires-2 c κs = (rw (c .pow-word .ensures .0) (⊗-lt _ _), rw (c .p
 returns : tie.Need-returns
 returns c =
     let low = c .before .before in
-    let x = low .before .args in
-    rw (c .before .pow-word2 .ensures .0, low .pow-word .ensures .0, low .pow-word .ensures .1) (power-words _ (x .«k_lo») (x .«k_hi»))
+    rw (c .before .pow-word2 .ensures .0, low .pow-word .ensures .0, low .pow-word .ensures .1) (power-words _ _ _)
 
 pub pow-spec : {M : Type 1} → statement M
 pow-spec = tie.close (tie.spec pow-word-requires pow-word-requires-2 returns)
