@@ -16,3 +16,8 @@ pub mod Collide
 pub mod Log2
 pub mod Mask
 pub mod Elements
+pub mod Tabulation
+pub mod EqTables
+pub mod Doublings
+pub mod Filling
+pub mod Refusals
