@@ -1,6 +1,8 @@
 // Equality tables: eq(p, i) is the product over j of p_j where bit j of i is 1, and of 1 + p_j where it is 0.
 use crate::gf128;
-use crate::gf128::{Evaluated, Gf128, ONE};
+use crate::gf128::Evaluated;
+use crate::gf128::Gf128;
+use crate::gf128::ONE;
 use crate::words;
 ghost use mathlib.Core.Path.{_≡_};
 ghost use mathlib.Core.List.{_++_};

@@ -104,10 +104,7 @@ fn pow_bit(p: Powers, bit: u64) -> Powers
     let result = p.result;
     let next = square(base);
     if bit == 0 {
-        Powers {
-            result,
-            base: next,
-        }
+        Powers { result, base: next }
     } else {
         let more = mul(result, base);
         Powers {

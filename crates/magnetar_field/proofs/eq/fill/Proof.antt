@@ -18,8 +18,6 @@ use Rattle.magnetar_field.proofs.eq.expand.Reads as expand-reads
 use Rattle.magnetar_field.proofs.words.get.Reads as get-reads
 use Rattle.magnetar_field.proofs.words.put.Reads as put-reads
 
-
-
 abbrev Inv-loop : tie.InvT-loop
 Inv-loop point out₀ n j₀ m₀ out j m = (j ≤ n) × (length out ≡ 2 * 2 ^ n) × Filled n (elements point) (elements out) m j
 
@@ -63,10 +61,10 @@ loop-less c = search needs
 -- src/eq.rt:123:5
 loop-again : tie.Need-loop-again Inv-loop μ-loop
 loop-again c = (
-    search needs,
-    search needs,
-    filled-more _ _ _ _ _ _ (rw elements-length (omega arith)) (omega arith) (omega arith) (c .before .before .before .before .before .before .loop .inv .2) (cc)
-  )
+  search needs,
+  search needs,
+  filled-more _ _ _ _ _ _ (rw elements-length (omega arith)) (omega arith) (omega arith) (c .before .before .before .before .before .before .loop .inv .2) (cc),
+)
 
 -- src/eq.rt:116:1
 same-length : tie.Need-same-length Inv-loop μ-loop
