@@ -1,0 +1,4 @@
+pub mod Lanes
+pub mod Written
+pub mod Rotate
+pub mod Planes
