@@ -6,15 +6,16 @@ use Prim.Native.Nat.{ℕ, zero, suc, _+_, _*_, _/_, _%_, _^_, _<_, _≤_}
 use native.Mathlib.Nat.{mod-eq-of-lt, mod-lt, zero-lt-suc, add-mul, mul-assoc, div-add-mod'}
 use native.Mathlib.Omega.{arith}
 use lib.Bits.{xor-shifted, xor-comm}
-use lib.Pow.{pow-add, shl-lt, shr-lt}
+use lib.Pow.{pow-add, shl-lt, shr-lt, shl-exact}
 use lib.ListN.{length, getD, set, length-set}
 use lib.Seq.{getD-set-same, set-set}
 use Rattle.magnetar_keccak.specs.State.{_⊕_}
+use Rattle.magnetar_keccak.specs.Keccak.{permuted}
 use Rattle.magnetar_keccak.proofs.Xor.{⊕-assoc}
 use Rattle.magnetar_hash.specs.Bytes.{leBytes}
 use Rattle.magnetar_hash.specs.Sha3.{rate, addByte}
-use Rattle.magnetar_hash.specs.Sponge.{Sponge, sponge, turned, fed}
-use Rattle.magnetar_hash.proofs.Stream.{turned-part}
+use Rattle.magnetar_hash.specs.Sponge.{Sponge, sponge, turned, fed, Ready, Fed}
+use Rattle.magnetar_hash.proofs.Stream.{turned-part, turned-full, fed-by}
 
 -- the lowest byte and the rest, each at its place, are the number
 join-bytes : (w o : ℕ) → w % 256 * 2 ^ (8 * o) ⊕ w / 256 * 2 ^ (8 * (o + 1)) ≡ w * 2 ^ (8 * o)
@@ -68,3 +69,18 @@ fed-lane (suc (suc n)) s j w l h p g f =
         (omega arith)
         (shr-lt (8 * suc n) 8 (rw e at f))
     ∙ ap₂ turned (in-lane-step s j w l h (omega arith)) (omega arith)
+
+-- ---- the same, as the code has it: w is shifted to its place in a word of 64 bits
+
+abbrev pub shifted : List ℕ → ℕ → ℕ → List ℕ
+shifted s j w = set s (j / 8) (getD s (j / 8) 0 ⊕ w * 2 ^ (8 * (j % 8)) % 2 ^ 64)
+
+module _ (s : List ℕ) (j n w : ℕ) (h : Ready s j × (0 < n) × (j % 8 + n ≤ 8) × (w < 2 ^ (8 * n))) where
+  turned-lane : fed (sponge s j) (leBytes n w) ≡ turned (shifted s j w) (j + n)
+  turned-lane = rw (shl-exact (8 * n) (8 * (j % 8)) 64 (h .3) (omega arith)) (fed-lane n s j w (h .0 .size) (h .0 .room) (h .1) (h .2) (h .3))
+
+  pub lane-part : j + n < rate → Fed s j (leBytes n w) (shifted s j w) (j + n)
+  lane-part r = fed-by (h .0) (sym (turned-lane ∙ turned-part (shifted s j w) (j + n) r))
+
+  pub lane-full : {t : List ℕ} → rate ≤ j + n → t ≡ permuted (shifted s j w) → Fed s j (leBytes n w) t 0
+  lane-full r e = fed-by (h .0) (ap (λ (u : List ℕ). sponge u 0) e ∙ sym (turned-lane ∙ turned-full (shifted s j w) (j + n) r))

@@ -15,8 +15,9 @@ use lib.Dec.{ltb}
 use Rattle.magnetar_keccak.specs.State.{_⊕_, table}
 use Rattle.magnetar_keccak.specs.Keccak.{permuted}
 use Rattle.magnetar_keccak.proofs.Xor.{⊕-zero}
+use Rattle.magnetar_keccak.proofs.Lanes.{length-permuted}
 use Rattle.magnetar_hash.specs.Sha3.{rate, addByte, addBytes, absorbBlocks, padding, padded, squeezed, sha3}
-use Rattle.magnetar_hash.specs.Sponge.{Sponge, sponge, turned, fed, finished, Fed}
+use Rattle.magnetar_hash.specs.Sponge.{Sponge, sponge, turned, fed, finished, Ready, Fed}
 
 lt-or-ge : (n m : ℕ) → (n < m) ⊎ (m ≤ n)
 lt-or-ge n m = go (ltb n m) refl
@@ -36,6 +37,10 @@ unfolding turned
 turned-full s n h = rw (le-ltb n 136 h)
 
 -- ---- runs of bytes
+
+pub fed-nil : (s : Sponge) → fed s [] ≡ s
+unfolding fed
+fed-nil s = refl
 
 pub fed-append : (s : Sponge) (p q : List ℕ) → fed s (p ++ q) ≡ fed (fed s p) q
 unfolding fed
@@ -104,15 +109,39 @@ fed-fill t (b ∷ p) h =
     fed-fill (turned (addByte (t .lanes) (t .fill) b) (t .fill + 1)) p (turned-room (addByte (t .lanes) (t .fill) b) (t .fill + 1))
     ∙ fill-step (addByte (t .lanes) (t .fill) b) (t .fill) (length p) h
 
+-- ---- the lanes
+
+turned-size : (s : List ℕ) (n : ℕ) → length s ≡ 25 → length (turned s n .lanes) ≡ 25
+turned-size s n e =
+    ⊎-elim (λ l. rw (turned-part s n l) e) (λ l. rw (turned-full s n l) (length-permuted s)) (lt-or-ge n rate)
+
+add-size : (s : List ℕ) (j b : ℕ) → length s ≡ 25 → length (addByte s j b) ≡ 25
+unfolding addByte
+add-size s j b e = rw length-set e
+
+pub fed-size : (t : Sponge) (p : List ℕ) → length (t .lanes) ≡ 25 → length (fed t p .lanes) ≡ 25
+unfolding fed
+fed-size t [] e = e
+fed-size t (b ∷ p) e =
+    fed-size (turned (addByte (t .lanes) (t .fill) b) (t .fill + 1)) p
+    (turned-size (addByte (t .lanes) (t .fill) b) (t .fill + 1) (add-size (t .lanes) (t .fill) b e))
+
 -- ---- a run, as the functions say it
 
-pub fed-by : {t p s : List ℕ} {m n : ℕ} → m < rate → sponge s n ≡ fed (sponge t m) p → Fed t m p s n
+pub fed-by : {t p s : List ℕ} {m n : ℕ} → Ready t m → sponge s n ≡ fed (sponge t m) p → Fed t m p s n
 fed-by {t} {p} {s} {m} {n} h e =
-    record { state = e; room = rw (ap (λ (u : Sponge). u .fill) e ∙ fed-fill (sponge t m) p h) (mod-lt (m + length p) (zero-lt-suc 135)) }
+    record
+      { state = e;
+        ready =
+          record
+            { size = rw (ap (λ (u : Sponge). u .lanes) e) (fed-size (sponge t m) p (h .size));
+              room = rw (ap (λ (u : Sponge). u .fill) e ∙ fed-fill (sponge t m) p (h .room)) (mod-lt (m + length p) (zero-lt-suc 135))
+            }
+      }
 
 pub fed-join : {t p s q u : List ℕ} {m n k : ℕ} → Fed t m p s n → Fed s n q u k → Fed t m (p ++ q) u k
 fed-join {t} {p} {s} {q} {u} {m} {n} {k} f g =
-    record { state = g .state ∙ ap (λ (x : Sponge). fed x q) (f .state) ∙ sym (fed-append (sponge t m) p q); room = g .room }
+    record { state = g .state ∙ ap (λ (x : Sponge). fed x q) (f .state) ∙ sym (fed-append (sponge t m) p q); ready = g .ready }
 
 -- ---- SHA3-256
 

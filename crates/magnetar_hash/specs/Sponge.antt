@@ -6,6 +6,7 @@ use mathlib.Core.Bool.{cond}
 use mathlib.Core.List.{List, [], _∷_}
 use Prim.Native.Nat.{ℕ, _+_, _-_, _<_}
 use lib.Dec.{ltb}
+use lib.ListN.{length}
 use Rattle.magnetar_keccak.specs.Keccak.{permuted}
 use Rattle.magnetar_hash.specs.Sha3.{rate, addByte, padding, squeezed}
 
@@ -30,7 +31,12 @@ fed s (b ∷ p) = fed (turned (addByte (s .lanes) (s .fill) b) (s .fill + 1)) p
 unfoldable pub finished : Sponge → List ℕ
 finished s = squeezed (fed s (padding (rate - s .fill)) .lanes)
 
+-- s has its 25 lanes, and a block has room for a byte after n
+pub record Ready (s : List ℕ) (n : ℕ) : Type 0 where
+  pub size : length s ≡ 25
+  pub room : n < rate
+
 -- s and n are what the bytes p make of t and m
 pub record Fed (t : List ℕ) (m : ℕ) (p : List ℕ) (s : List ℕ) (n : ℕ) : Type 0 where
   pub state : sponge s n ≡ fed (sponge t m) p
-  pub room : n < rate
+  pub ready : Ready s n

@@ -1,16 +1,16 @@
 // The sponge of SHA3-256 as it is run: a state of 25 lanes, and how many bytes of a block have been added to it.
 ghost use mathlib.Core.Path.{_≡_};
-ghost use Prim.Native.Nat.{_+_, _*_, _/_, _%_, _^_, _<_, _≤_};
+ghost use Prim.Native.Nat.{_+_, _-_, _*_, _/_, _%_, _^_, _<_, _≤_};
 ghost use mathlib.Core.List.{[], _∷_};
 ghost use lib.ListN.{length, take, drop};
 ghost use Rattle.magnetar_hash.specs.Bytes.{leBytes, number, wordBytes};
-ghost use Rattle.magnetar_hash.specs.Sha3.{squeezed, rate};
-ghost use Rattle.magnetar_hash.specs.Sponge.{Fed, sponge, finished};
+ghost use Rattle.magnetar_hash.specs.Sha3.{rate, padding, squeezed};
+ghost use Rattle.magnetar_hash.specs.Sponge.{Fed, Ready, sponge, fed, finished};
 use magnetar_keccak::keccak;
 
 // n bytes that lie in one lane are taken in: w is the number that they make.
 fn feed_part(s: &mut [u64; 25], fill: usize, w: u64, n: usize) -> usize
-    requires { ⌜ (fill < rate) × (0 < n) × (fill % 8 + n ≤ 8) × (w < 2 ^ (8 * n)) ⌝ }
+    requires { ⌜ Ready (now s) fill × (0 < n) × (fill % 8 + n ≤ 8) × (w < 2 ^ (8 * n)) ⌝ }
     ensures { λ r. ⌜ Fed (now (s .entry)) fill (leBytes n w) (now (s .exit)) r ⌝ }
 {
     let k = fill / 8;
@@ -27,7 +27,7 @@ fn feed_part(s: &mut [u64; 25], fill: usize, w: u64, n: usize) -> usize
 
 // The 8 bytes of a word are taken in: those that fit go into the lane, the others into the next one.
 pub(crate) fn feed_word(s: &mut [u64; 25], fill: usize, w: u64) -> usize
-    requires { ⌜ fill < rate ⌝ }
+    requires { ⌜ Ready (now s) fill ⌝ }
     ensures { λ r. ⌜ Fed (now (s .entry)) fill (leBytes 8 w) (now (s .exit)) r ⌝ }
 {
     let o = fill % 8;
@@ -39,25 +39,31 @@ pub(crate) fn feed_word(s: &mut [u64; 25], fill: usize, w: u64) -> usize
     feed_part(s, n, w >> (64 - up), o)
 }
 
-// The number that 8 bytes make.
-pub(crate) fn word_at(b: &[u8], at: usize) -> u64
-    requires { ⌜ at + 8 ≤ length (now b) ⌝ }
-    ensures { λ r. ⌜ r ≡ number (take 8 (drop at (now (b .entry)))) ⌝ }
-{
-    let low = wide(b[at]) + 256 * (wide(b[at + 1]) + 256 * (wide(b[at + 2]) + 256 * wide(b[at + 3])));
-    let high = wide(b[at + 4]) + 256 * (wide(b[at + 5]) + 256 * (wide(b[at + 6]) + 256 * wide(b[at + 7])));
-    low + 0x100000000 * high
-}
-
 fn wide(b: u8) -> u64
     ensures { λ r. ⌜ (r ≡ b) × (r < 256) ⌝ }
 {
     b as u64
 }
 
+// The number that 4 bytes make.
+fn half_at(b: &[u8], at: usize) -> u64
+    requires { ⌜ at + 4 ≤ length (now b) ⌝ }
+    ensures { λ r. ⌜ (r ≡ number (take 4 (drop at (now (b .entry))))) × (r < 2 ^ 32) ⌝ }
+{
+    wide(b[at]) + 256 * (wide(b[at + 1]) + 256 * (wide(b[at + 2]) + 256 * wide(b[at + 3])))
+}
+
+// The number that 8 bytes make.
+pub(crate) fn word_at(b: &[u8], at: usize) -> u64
+    requires { ⌜ at + 8 ≤ length (now b) ⌝ }
+    ensures { λ r. ⌜ r ≡ number (take 8 (drop at (now (b .entry)))) ⌝ }
+{
+    half_at(b, at) + 0x100000000 * half_at(b, at + 4)
+}
+
 // Bytes are taken in, eight at a time.
 pub(crate) fn feed(s: &mut [u64; 25], fill: usize, b: &[u8]) -> usize
-    requires { ⌜ fill < rate ⌝ }
+    requires { ⌜ Ready (now s) fill ⌝ }
     ensures { λ r. ⌜ Fed (now (s .entry)) fill (now (b .entry)) (now (s .exit)) r ⌝ }
 {
     let mut n = fill;
@@ -75,7 +81,7 @@ pub(crate) fn feed(s: &mut [u64; 25], fill: usize, b: &[u8]) -> usize
 
 // The bytes of words are taken in.
 pub(crate) fn feed_words(s: &mut [u64; 25], fill: usize, words: &[u64]) -> usize
-    requires { ⌜ fill < rate ⌝ }
+    requires { ⌜ Ready (now s) fill ⌝ }
     ensures { λ r. ⌜ Fed (now (s .entry)) fill (wordBytes (now (words .entry))) (now (s .exit)) r ⌝ }
 {
     let mut n = fill;
@@ -108,17 +114,26 @@ pub(crate) fn byte_of(w: u64, j: usize) -> u8
     ((w >> (8 * j)) % 256) as u8
 }
 
-// The padding is taken in, and the hash put out.
-pub(crate) fn finish(s: [u64; 25], fill: usize) -> [u8; 32]
-    requires { ⌜ fill < rate ⌝ }
-    ensures { λ r. ⌜ r ≡ finished (sponge s fill) ⌝ }
+// The padding is taken in. Between its first byte and its last there are only zeros, which change nothing.
+fn pad(s: [u64; 25], fill: usize) -> [u64; 25]
+    requires { ⌜ Ready s fill ⌝ }
+    ensures { λ r. ⌜ r ≡ fed (sponge s fill) (padding (rate - fill)) .lanes ⌝ }
 {
     let mut a = s;
     if fill == 135 {
         feed_part(&mut a, 135, 0x86, 1);
-    } else {
-        feed_part(&mut a, fill, 0x06, 1);
-        feed_part(&mut a, 135, 0x80, 1);
+        return a;
     }
+    feed_part(&mut a, fill, 0x06, 1);
+    feed_part(&mut a, 135, 0x80, 1);
+    a
+}
+
+// The padding is taken in, and the hash put out.
+pub(crate) fn finish(s: [u64; 25], fill: usize) -> [u8; 32]
+    requires { ⌜ Ready s fill ⌝ }
+    ensures { λ r. ⌜ r ≡ finished (sponge s fill) ⌝ }
+{
+    let a = pad(s, fill);
     squeeze(&a)
 }

@@ -6,7 +6,7 @@ ghost use lib.ListN.{length, getD, drop};
 ghost use Rattle.magnetar_field.specs.Gf128.{value};
 ghost use Rattle.magnetar_hash.specs.Bytes.{leBytes, wordBytes};
 ghost use Rattle.magnetar_hash.specs.Parts.{framed, parts, sum};
-ghost use Rattle.magnetar_hash.specs.Sponge.{Fed};
+ghost use Rattle.magnetar_hash.specs.Sponge.{Fed, Ready};
 ghost use Rattle.magnetar_hash.specs.Transcript as spec;
 use crate::sha3;
 use crate::sponge;
@@ -95,6 +95,7 @@ fn begin(protocol: &[u8], public: &[u8], lens: &[usize]) -> Transcript
 
 // The first three of the four parts that an absorption and a draw hash.
 fn feed_head(s: &mut [u64; 25], state: &[u8; 32], tag: &[u8], label: &[u8]) -> usize
+    requires { ⌜ Ready (now s) 0 ⌝ }
     ensures { λ r. ⌜ Fed (now (s .entry)) 0 (leBytes 8 4 ++ framed (now (state .entry) ∷ now (tag .entry) ∷ now (label .entry) ∷ [])) (now (s .exit)) r ⌝ }
 {
     let a = sponge::feed_word(s, 0, 4);

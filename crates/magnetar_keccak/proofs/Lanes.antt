@@ -5,10 +5,10 @@ use mathlib.Core.List.{List}
 use Prim.Native.Nat.{ℕ, zero, suc, _+_, _*_, _/_, _%_, _<_}
 use native.Mathlib.Nat.{le-of-suc-le-suc, not-suc-le-zero, zero-add, add-zero, mod-lt, zero-lt-suc}
 use native.Mathlib.Omega.{arith}
-use lib.ListN.{length, getD}
+use lib.ListN.{length, getD, length-set}
 use Rattle.magnetar_keccak.specs.State.{_⊕_, _·_, complement, rotate, table, lane, lanes}
 use Rattle.magnetar_keccak.specs.Offsets.{offset}
-use Rattle.magnetar_keccak.specs.Keccak.{effect, theta, rho, pi, chi}
+use Rattle.magnetar_keccak.specs.Keccak.{effect, theta, rho, pi, chi, iota, round, rounds, permuted}
 use Rattle.magnetar_keccak.specs.Planes.{Effects}
 use Rattle.magnetar_keccak.proofs.Rotate.{rotate-mod}
 
@@ -86,3 +86,7 @@ chi-from a x y u v w r hx hy e eu ev ew = rw (e, eu, ev, ew, chi-lane a x y hx h
 pub length-chi : (a : List ℕ) → length (chi a) ≡ 25
 unfolding chi
 length-chi a = length-table _ 0 25
+
+pub length-permuted : (a : List ℕ) → length (permuted a) ≡ 25
+unfolding permuted rounds round iota
+length-permuted a = length-set (chi (pi (rho (theta (rounds 23 a))))) 0 _ ∙ length-chi (pi (rho (theta (rounds 23 a))))
