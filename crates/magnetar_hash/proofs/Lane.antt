@@ -66,8 +66,8 @@ fed-lane (suc (suc n)) s j w l h p g f =
     let t : List ℕ = addByte s j (w % 256) in
     ap (λ (u : Sponge). fed u (leBytes (suc n) (w / 256))) (turned-part t (j + 1) r)
     ∙ fed-lane (suc n) t (j + 1) (w / 256) (length-set s (j / 8) (getD s (j / 8) 0 ⊕ w % 256 * 2 ^ (8 * (j % 8))) ∙ l) r (omega arith)
-        (omega arith)
-        (shr-lt (8 * suc n) 8 (rw e at f))
+    (omega arith)
+    (shr-lt (8 * suc n) 8 (rw e at f))
     ∙ ap₂ turned (in-lane-step s j w l h (omega arith)) (omega arith)
 
 -- ---- the same, as the code has it: w is shifted to its place in a word of 64 bits

@@ -6,3 +6,5 @@ pub mod Word
 pub mod Left
 pub mod Pad
 pub mod Parts
+pub mod Draws
+pub mod Element

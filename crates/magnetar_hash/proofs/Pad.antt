@@ -35,10 +35,10 @@ pad-two {s} {t} {u} {n} {k} {j} h f g =
     let r = run-end {n = k} (omega arith) f in
     let l : k ≡ n + 1 = omega arith in
     let a : fed (sponge s n) (0x06 ∷ (z ++ 0x80 ∷ [])) ≡ sponge u j =
-        fed-append (sponge s n) (0x06 ∷ []) (z ++ 0x80 ∷ [])
-        ∙ ap (λ (v : Sponge). fed v (z ++ 0x80 ∷ [])) (sym (f .state))
-        ∙ fed-append (sponge t k) z (0x80 ∷ [])
-        ∙ ap (λ (v : Sponge). fed v (0x80 ∷ [])) (middle t n k h l)
-        ∙ sym (g .state)
-        in
+    fed-append (sponge s n) (0x06 ∷ []) (z ++ 0x80 ∷ [])
+    ∙ ap (λ (v : Sponge). fed v (z ++ 0x80 ∷ [])) (sym (f .state))
+    ∙ fed-append (sponge t k) z (0x80 ∷ [])
+    ∙ ap (λ (v : Sponge). fed v (0x80 ∷ [])) (middle t n k h l)
+    ∙ sym (g .state)
+    in
     rw e (ap (λ (v : Sponge). v .lanes) (sym a))

@@ -8,14 +8,14 @@ use native.Mathlib.Numerals.{add-one}
 use native.Mathlib.Nat.{zero-add}
 use native.Mathlib.Omega.{arith}
 use lib.Dec.{eqb}
-use lib.ListN.{length, getD, take, drop, drop-of-length-le}
+use lib.ListN.{length, getD, take, drop, replicate, drop-of-length-le}
 use lib.Seq.{drop-cons, drop-drop}
 use borrow.Author.Tests.{eq-eqb, ne-eqb, eqb-true, eqb-false}
 use Rattle.magnetar_hash.specs.Bytes.{leBytes, wordBytes}
-use Rattle.magnetar_hash.specs.Parts.{framed, serializeParts, parts, sum}
-use Rattle.magnetar_hash.specs.Sponge.{Ready, Fed}
+use Rattle.magnetar_hash.specs.Parts.{framed, serializeParts, sha3Domain, parts, sum}
+use Rattle.magnetar_hash.specs.Sponge.{Fed, sponge, finished}
 use Rattle.magnetar_hash.proofs.Bytes.{length-le, length-words}
-use Rattle.magnetar_hash.proofs.Stream.{fed-join}
+use Rattle.magnetar_hash.proofs.Stream.{fed-join, sha3-of}
 use Rattle.magnetar_hash.proofs.Left.{Left, left-all, left-more, left-none}
 
 framed-one : (p : List ℕ) → leBytes 8 (length p) ++ p ≡ framed (p ∷ [])
@@ -106,9 +106,9 @@ used-over {lens} {size} {left} {i} u h l =
 zero-left : (size left : ℕ) → left ≤ size → eqb left 0 ≡ eqb (size - left) size
 zero-left size left h = go (eqb left 0) refl
   where
-  go : (b : Bool) → eqb left 0 ≡ b → eqb left 0 ≡ eqb (size - left) size
-  go true e = e ∙ sym (eq-eqb (size - left) size (omega (arith, eqb-true left 0 e)))
-  go false e = e ∙ sym (ne-eqb (size - left) size (λ d. eqb-false left 0 e (omega arith)))
+    go : (b : Bool) → eqb left 0 ≡ b → eqb left 0 ≡ eqb (size - left) size
+    go true e = e ∙ sym (eq-eqb (size - left) size (omega (arith, eqb-true left 0 e)))
+    go false e = e ∙ sym (ne-eqb (size - left) size (λ d. eqb-false left 0 e (omega arith)))
 
 sum-end : (lens : List ℕ) (i : ℕ) → length lens ≤ i → sum (drop i lens) ≡ 0
 unfolding sum
@@ -118,3 +118,39 @@ pub used-all : {lens : List ℕ} {size left i : ℕ} → Used lens size left i �
 used-all {lens} {size} {left} {i} u h =
     let e : sum lens ≡ size - left = omega (arith, u .total, sum-end lens i h) in
     rw e (zero-left size left (u .within))
+
+-- ---- parts that are taken in one after the other
+
+pub framed-append : (ps qs : List (List ℕ)) → framed (ps ++ qs) ≡ framed ps ++ framed qs
+unfolding framed
+framed-append [] qs = refl
+framed-append (p ∷ ps) qs =
+    ap (λ (l : List ℕ). leBytes 8 (length p) ++ p ++ l) (framed-append ps qs) ∙ sym (append-assoc (leBytes 8 (length p) ++ p) (framed ps) (framed qs))
+
+pub parts-join
+    : {t s u : List ℕ} {m n k : ℕ} (ps qs : List (List ℕ)) → Fed t m (framed ps) s n → Fed s n (framed qs) u k → Fed t m (framed (ps ++ qs)) u k
+parts-join {t} {s} {u} {m} {n} {k} ps qs f g = subst (λ (l : List ℕ). Fed t m l u k) (sym (framed-append ps qs)) (fed-join f g)
+
+pub length-parts : (ns bs : List ℕ) → length (parts ns bs) ≡ length ns
+unfolding parts
+length-parts [] bs = refl
+length-parts (n ∷ ns) bs = ap suc (length-parts ns (drop n bs))
+
+-- the count, then the parts: the hash of the parts
+pub domain-of
+    : {s u : List ℕ} {n k x : ℕ} (ps : List (List ℕ))
+    → x ≡ length ps
+    → Fed (replicate 25 0) 0 (leBytes 8 x) s n
+    → Fed s n (framed ps) u k
+    → finished (sponge u k) ≡ sha3Domain ps
+unfolding sha3Domain serializeParts
+domain-of {s} {u} {n} {k} ps e f g =
+    sha3-of (subst (λ (y : ℕ). Fed (replicate 25 0) 0 (leBytes 8 y ++ framed ps) u k) e (fed-join f g))
+
+pub four-parts
+    : {s u v : List ℕ} {n k j : ℕ} (a b c d : List ℕ)
+    → Fed (replicate 25 0) 0 (leBytes 8 4) s n
+    → Fed s n (framed (a ∷ b ∷ c ∷ [])) u k
+    → Fed u k (framed (d ∷ [])) v j
+    → finished (sponge v j) ≡ sha3Domain (a ∷ b ∷ c ∷ d ∷ [])
+four-parts a b c d f g h = domain-of (a ∷ b ∷ c ∷ d ∷ []) refl f (parts-join (a ∷ b ∷ c ∷ []) (d ∷ []) g h)

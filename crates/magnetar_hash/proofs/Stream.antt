@@ -22,9 +22,9 @@ use Rattle.magnetar_hash.specs.Sponge.{Sponge, sponge, turned, fed, fini
 lt-or-ge : (n m : ℕ) → (n < m) ⊎ (m ≤ n)
 lt-or-ge n m = go (ltb n m) refl
   where
-  go : (b : Bool) → ltb n m ≡ b → (n < m) ⊎ (m ≤ n)
-  go true e = inl (ltb-true n m e)
-  go false e = inr (ltb-false n m e)
+    go : (b : Bool) → ltb n m ≡ b → (n < m) ⊎ (m ≤ n)
+    go true e = inl (ltb-true n m e)
+    go false e = inr (ltb-false n m e)
 
 -- ---- one step
 
@@ -130,14 +130,14 @@ fed-size t (b ∷ p) e =
 
 pub fed-by : {t p s : List ℕ} {m n : ℕ} → Ready t m → sponge s n ≡ fed (sponge t m) p → Fed t m p s n
 fed-by {t} {p} {s} {m} {n} h e =
-    record
-      { state = e;
-        ready =
-          record
-            { size = rw (ap (λ (u : Sponge). u .lanes) e) (fed-size (sponge t m) p (h .size));
-              room = rw (ap (λ (u : Sponge). u .fill) e ∙ fed-fill (sponge t m) p (h .room)) (mod-lt (m + length p) (zero-lt-suc 135))
-            }
-      }
+    record {
+      state = e;
+      ready =
+          record {
+            size = rw (ap (λ (u : Sponge). u .lanes) e) (fed-size (sponge t m) p (h .size));
+            room = rw (ap (λ (u : Sponge). u .fill) e ∙ fed-fill (sponge t m) p (h .room)) (mod-lt (m + length p) (zero-lt-suc 135));
+          };
+    }
 
 pub fed-join : {t p s q u : List ℕ} {m n k : ℕ} → Fed t m p s n → Fed s n q u k → Fed t m (p ++ q) u k
 fed-join {t} {p} {s} {q} {u} {m} {n} {k} f g =

@@ -25,10 +25,10 @@ absorbed t label bytes =
 -- a draw under a label; the counter is a word of 64 bits
 unfoldable pub drawn : Transcript → List ℕ → Transcript
 drawn t label =
-    record
-      { state = sha3Domain (t .state ∷ ascii "squeeze" ∷ label ∷ leBytes 8 (t .«squeeze_ctr») ∷ []);
-        «squeeze_ctr» = (t .«squeeze_ctr» + 1) % 2 ^ 64
-      }
+    record {
+      state = sha3Domain (t .state ∷ ascii "squeeze" ∷ label ∷ leBytes 8 (t .«squeeze_ctr») ∷ []);
+      «squeeze_ctr» = (t .«squeeze_ctr» + 1) % 2 ^ 64;
+    }
 
 -- the element of the draw that led to a transcript: the first 16 bytes of its state, the low word first
 unfoldable pub element : Transcript → Gf128

@@ -94,14 +94,13 @@ fn begin(protocol: &[u8], public: &[u8], lens: &[usize]) -> Transcript
 }
 
 // The first three of the four parts that an absorption and a draw hash.
-fn feed_head(s: &mut [u64; 25], state: &[u8; 32], tag: &[u8], label: &[u8]) -> usize
-    requires { ⌜ Ready (now s) 0 ⌝ }
-    ensures { λ r. ⌜ Fed (now (s .entry)) 0 (leBytes 8 4 ++ framed (now (state .entry) ∷ now (tag .entry) ∷ now (label .entry) ∷ [])) (now (s .exit)) r ⌝ }
+fn feed_head(s: &mut [u64; 25], fill: usize, state: &[u8; 32], tag: &[u8], label: &[u8]) -> usize
+    requires { ⌜ Ready (now s) fill ⌝ }
+    ensures { λ r. ⌜ Fed (now (s .entry)) fill (framed (now (state .entry) ∷ now (tag .entry) ∷ now (label .entry) ∷ [])) (now (s .exit)) r ⌝ }
 {
-    let a = sponge::feed_word(s, 0, 4);
-    let b = sha3::feed_part(s, a, state);
-    let c = sha3::feed_part(s, b, tag);
-    sha3::feed_part(s, c, label)
+    let a = sha3::feed_part(s, fill, state);
+    let b = sha3::feed_part(s, a, tag);
+    sha3::feed_part(s, b, label)
 }
 
 // Bytes are absorbed under a label. No entry that absorbs reads the counter, so none refuses 14.
@@ -110,9 +109,10 @@ pub fn absorb_bytes(t: Transcript, label: &[u8], bytes: &[u8]) -> Transcript
 {
     let before = t.state;
     let mut s = [0u64; 25];
-    let a = feed_head(&mut s, &before, b"absorb", label);
-    let b = sha3::feed_part(&mut s, a, bytes);
-    let state = sponge::finish(s, b);
+    let a = sponge::feed_word(&mut s, 0, 4);
+    let b = feed_head(&mut s, a, &before, b"absorb", label);
+    let c = sha3::feed_part(&mut s, b, bytes);
+    let state = sponge::finish(s, c);
     Transcript {
         state,
         squeeze_ctr: 0,
@@ -125,9 +125,10 @@ pub fn absorb_words(t: Transcript, label: &[u8], words: &[u64]) -> Transcript
 {
     let before = t.state;
     let mut s = [0u64; 25];
-    let a = feed_head(&mut s, &before, b"absorb", label);
-    let b = sha3::feed_words_part(&mut s, a, words);
-    let state = sponge::finish(s, b);
+    let a = sponge::feed_word(&mut s, 0, 4);
+    let b = feed_head(&mut s, a, &before, b"absorb", label);
+    let c = sha3::feed_words_part(&mut s, b, words);
+    let state = sponge::finish(s, c);
     Transcript {
         state,
         squeeze_ctr: 0,
@@ -158,9 +159,10 @@ pub fn absorb_u64(t: Transcript, label: &[u8], v: u64) -> Transcript
 {
     let before = t.state;
     let mut s = [0u64; 25];
-    let a = feed_head(&mut s, &before, b"absorb", label);
-    let b = sha3::feed_word_part(&mut s, a, v);
-    let state = sponge::finish(s, b);
+    let a = sponge::feed_word(&mut s, 0, 4);
+    let b = feed_head(&mut s, a, &before, b"absorb", label);
+    let c = sha3::feed_word_part(&mut s, b, v);
+    let state = sponge::finish(s, c);
     Transcript {
         state,
         squeeze_ctr: 0,
@@ -181,9 +183,10 @@ pub fn draw(t: Transcript, label: &[u8]) -> Transcript
     let before = t.state;
     let count = t.squeeze_ctr;
     let mut s = [0u64; 25];
-    let a = feed_head(&mut s, &before, b"squeeze", label);
-    let b = sha3::feed_word_part(&mut s, a, count);
-    let state = sponge::finish(s, b);
+    let a = sponge::feed_word(&mut s, 0, 4);
+    let b = feed_head(&mut s, a, &before, b"squeeze", label);
+    let c = sha3::feed_word_part(&mut s, b, count);
+    let state = sponge::finish(s, c);
     Transcript {
         state,
         squeeze_ctr: std::num::wrapping_add_u64(count, 1),
@@ -226,7 +229,7 @@ pub fn challenge_field(t: Transcript, label: &[u8]) -> DrawAnswer
 pub fn draw_vec(t: Transcript, label: &[u8], out: &mut [u64]) -> Transcript
     ensures { λ r. ⌜ (r ≡ spec.drawnTimes (length (now (out .entry)) / 2) t (now (label .entry)))
         × (now (out .exit) ≡ spec.drawnWords (length (now (out .entry)) / 2) t (now (label .entry))
-            ++ drop (2 * (length (now (out .entry)) / 2)) (now (out .entry))) ⌝ }
+        ++ drop (2 * (length (now (out .entry)) / 2)) (now (out .entry))) ⌝ }
 {
     let n = out.len() / 2;
     let mut u = t;
@@ -243,7 +246,12 @@ pub fn draw_vec(t: Transcript, label: &[u8], out: &mut [u64]) -> Transcript
 }
 
 // n elements are drawn under a label into the first words of `out`. Refuses 14, then 15.
-pub fn challenge_field_vec(t: Transcript, label: &[u8], n: usize, out: &mut [u64]) -> TranscriptAnswer
+pub fn challenge_field_vec(
+    t: Transcript,
+    label: &[u8],
+    n: usize,
+    out: &mut [u64],
+) -> TranscriptAnswer
     ensures { λ r. ⌜ (r ≡ spec.drawsAnswer t (now (label .entry)) n (length (now (out .entry))))
         × (now (out .exit) ≡ spec.drawsOut t (now (label .entry)) n (now (out .entry))) ⌝ }
 {

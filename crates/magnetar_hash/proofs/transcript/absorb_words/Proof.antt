@@ -1,38 +1,38 @@
 -- `magnetar_hash::transcript::absorb_words` meets its contract.
 -- Assumes nothing.
+use Rattle.magnetar_hash.specs.Bytes.{ascii, leBytes, wordBytes}
+use Rattle.magnetar_hash.specs.Transcript.{absorbed}
+use Rattle.magnetar_hash.proofs.Parts.{four-parts}
 use borrow.Author.Needs.{needs}
 use Rattle.magnetar_hash.proofs.transcript.absorb_words.Statement.{statement}
 use Rattle.magnetar_hash.proofs.transcript.absorb_words.Tie as tie
-use Rattle.magnetar_hash.proofs.transcript.absorb_words.Reads as reads
-use Rattle.magnetar_hash.proofs.transcript.absorb_words.Lts as lts
-use Rattle.magnetar_hash.proofs.sha3.feed_words_part.Reads as feed-words-part-reads
-use Rattle.magnetar_hash.proofs.sponge.finish.Reads as finish-reads
-use Rattle.magnetar_hash.proofs.transcript.feed_head.Reads as feed-head-reads
 
--- src/transcript.rt:128:40
+feed-word-requires : tie.Need-feed-word-requires
+feed-word-requires c κs = search needs
+
 slice-aggregate-feed-head : tie.Need-slice-aggregate-feed-head
 slice-aggregate-feed-head c = search needs
 
--- src/transcript.rt:128:9
 feed-head-requires : tie.Need-feed-head-requires
 feed-head-requires c κs = search needs
 
--- src/transcript.rt:129:9
 feed-words-part-requires : tie.Need-feed-words-part-requires
 feed-words-part-requires c κs = search needs
 
--- src/transcript.rt:130:9
 finish-requires : tie.Need-finish-requires
 finish-requires c κs = search needs
 
--- src/transcript.rt:123:1
 returns : tie.Need-returns
-returns c = ?
+unfolding absorbed ascii
+returns c =
+    let a = c .before .before .before .before .before .before .before .before .before .before .before .before .args in
+    rw (c .finish .ensures, four-parts (a .t .state) (ascii "absorb") (a .label .now) (wordBytes (a .words .now)) (c .before .before .before .before .before .before .before .feed-word .ensures) (c .before .before .before .feed-head .ensures) (c .before .feed-words-part .ensures))
 
 pub absorb-words-spec : {M : Type 1} → statement M
 absorb-words-spec =
     tie.close
     (tie.spec
+    feed-word-requires
     slice-aggregate-feed-head
     feed-head-requires
     feed-words-part-requires

@@ -1,43 +1,41 @@
 -- `magnetar_hash::transcript::draw` meets its contract.
 -- Assumes nothing.
+use Rattle.magnetar_hash.specs.Bytes.{ascii, leBytes}
+use Rattle.magnetar_hash.specs.Transcript.{drawn}
+use Rattle.magnetar_hash.proofs.Parts.{four-parts}
 use borrow.Author.Needs.{needs}
 use Rattle.magnetar_hash.proofs.transcript.draw.Statement.{statement}
 use Rattle.magnetar_hash.proofs.transcript.draw.Tie as tie
-use Rattle.magnetar_hash.proofs.transcript.draw.Reads as reads
-use Rattle.magnetar_hash.proofs.transcript.draw.Lts as lts
-use Rattle.magnetar_hash.proofs.sha3.feed_word_part.Reads as feed-word-part-reads
-use Rattle.magnetar_hash.proofs.sponge.finish.Reads as finish-reads
-use Rattle.magnetar_hash.proofs.transcript.feed_head.Reads as feed-head-reads
-use Rattle.std.proofs.num.wrapping_add_u64.Reads as wrapping-add-u64-reads
 
--- src/transcript.rt:184:40
+feed-word-requires : tie.Need-feed-word-requires
+feed-word-requires c κs = search needs
+
 slice-aggregate-feed-head : tie.Need-slice-aggregate-feed-head
 slice-aggregate-feed-head c = search needs
 
--- src/transcript.rt:184:9
 feed-head-requires : tie.Need-feed-head-requires
 feed-head-requires c κs = search needs
 
--- src/transcript.rt:185:9
 feed-word-part-requires : tie.Need-feed-word-part-requires
 feed-word-part-requires c κs = search needs
 
--- src/transcript.rt:186:9
 finish-requires : tie.Need-finish-requires
 finish-requires c κs = search needs
 
--- src/transcript.rt:189:22
 wrapping-add-u64-requires : tie.Need-wrapping-add-u64-requires
 wrapping-add-u64-requires c κs = search needs
 
--- src/transcript.rt:178:1
 returns : tie.Need-returns
-returns c = ?
+unfolding drawn ascii
+returns c =
+    let a = c .before .before .before .before .before .before .before .before .before .before .before .before .args in
+    rw (c .before .finish .ensures, four-parts (a .t .state) (ascii "squeeze") (a .label .now) (leBytes 8 (a .t .«squeeze_ctr»)) (c .before .before .before .before .before .before .before .before .feed-word .ensures) (c .before .before .before .before .feed-head .ensures) (c .before .before .feed-word-part .ensures), c .wrapping-add-u64 .ensures)
 
 pub draw-spec : {M : Type 1} → statement M
 draw-spec =
     tie.close
     (tie.spec
+    feed-word-requires
     slice-aggregate-feed-head
     feed-head-requires
     feed-word-part-requires
