@@ -148,9 +148,14 @@ domain-of {s} {u} {n} {k} ps e f g =
     sha3-of (subst (λ (y : ℕ). Fed (replicate 25 0) 0 (leBytes 8 y ++ framed ps) u k) e (fed-join f g))
 
 pub four-parts
-    : {s u v : List ℕ} {n k j : ℕ} (a b c d : List ℕ)
-    → Fed (replicate 25 0) 0 (leBytes 8 4) s n
-    → Fed s n (framed (a ∷ b ∷ c ∷ [])) u k
-    → Fed u k (framed (d ∷ [])) v j
-    → finished (sponge v j) ≡ sha3Domain (a ∷ b ∷ c ∷ d ∷ [])
-four-parts a b c d f g h = domain-of (a ∷ b ∷ c ∷ d ∷ []) refl f (parts-join (a ∷ b ∷ c ∷ []) (d ∷ []) g h)
+    : {s u : List ℕ} {n k : ℕ} (a b c d : List ℕ)
+    → Fed (replicate 25 0) 0 (leBytes 8 4 ++ framed (a ∷ b ∷ c ∷ [])) s n
+    → Fed s n (framed (d ∷ [])) u k
+    → finished (sponge u k) ≡ sha3Domain (a ∷ b ∷ c ∷ d ∷ [])
+unfolding sha3Domain serializeParts
+four-parts {s} {u} {n} {k} a b c d f g =
+    let e : leBytes 8 4 ++ framed (a ∷ b ∷ c ∷ []) ++ framed (d ∷ []) ≡ leBytes 8 4 ++ framed (a ∷ b ∷ c ∷ d ∷ []) =
+    append-assoc (leBytes 8 4) (framed (a ∷ b ∷ c ∷ [])) (framed (d ∷ []))
+    ∙ ap (λ (l : List ℕ). leBytes 8 4 ++ l) (sym (framed-append (a ∷ b ∷ c ∷ []) (d ∷ [])))
+    in
+    sha3-of (subst (λ (l : List ℕ). Fed (replicate 25 0) 0 l u k) e (fed-join f g))

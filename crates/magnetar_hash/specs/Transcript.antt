@@ -12,15 +12,17 @@ use Rattle.magnetar_hash.specs.declared.transcript.Transcript.{Transcrip
 use Rattle.magnetar_hash.specs.declared.transcript.TranscriptAnswer.{TranscriptAnswer}
 use Rattle.magnetar_hash.specs.declared.transcript.DrawAnswer.{DrawAnswer}
 
+-- a state, and no draw since
+abbrev pub fresh : List ℕ → Transcript
+fresh s = record { state = s; «squeeze_ctr» = 0 }
+
 -- a new transcript, bound to a protocol and its public parts
 unfoldable pub begun : List ℕ → List (List ℕ) → Transcript
-begun protocol public =
-    record { state = sha3Domain (ascii "magnetar/transcript/v1" ∷ protocol ∷ public); «squeeze_ctr» = 0 }
+begun protocol public = fresh (sha3Domain (ascii "magnetar/transcript/v1" ∷ protocol ∷ public))
 
 -- bytes are absorbed under a label
 unfoldable pub absorbed : Transcript → List ℕ → List ℕ → Transcript
-absorbed t label bytes =
-    record { state = sha3Domain (t .state ∷ ascii "absorb" ∷ label ∷ bytes ∷ []); «squeeze_ctr» = 0 }
+absorbed t label bytes = fresh (sha3Domain (t .state ∷ ascii "absorb" ∷ label ∷ bytes ∷ []))
 
 -- a draw under a label; the counter is a word of 64 bits
 unfoldable pub drawn : Transcript → List ℕ → Transcript
@@ -46,10 +48,6 @@ drawnWords (suc n) t label = element (drawn t label) .lo ∷ element (drawn t la
 
 -- ---- the answers of the entries, refusals included
 
--- a refused start hands back no transcript but this
-abbrev pub noTranscript : Transcript
-noTranscript = record { state = noDigest; «squeeze_ctr» = 0 }
-
 abbrev pub noElement : Gf128
 noElement = record { lo = 0; hi = 0 }
 
@@ -57,7 +55,7 @@ noElement = record { lo = 0; hi = 0 }
 unfoldable pub newAnswer : List ℕ → List ℕ → List ℕ → TranscriptAnswer
 newAnswer protocol public lens =
     cond (eqb (sum lens) (length public)) (record { code = 0; transcript = begun protocol (parts lens public) })
-    (record { code = 17; transcript = noTranscript })
+    (record { code = 17; transcript = fresh noDigest })
 
 -- 11 where the words are no elements: their count is odd
 unfoldable pub fieldAnswer : Transcript → List ℕ → List ℕ → TranscriptAnswer

@@ -9,7 +9,7 @@ ghost use Rattle.magnetar_hash.specs.Sponge.{Fed, Ready, sponge, fed, fi
 use magnetar_keccak::keccak;
 
 // n bytes that lie in one lane are taken in: w is the number that they make.
-fn feed_part(s: &mut [u64; 25], fill: usize, w: u64, n: usize) -> usize
+fn feed_lane(s: &mut [u64; 25], fill: usize, w: u64, n: usize) -> usize
     requires { ⌜ Ready (now s) fill × (0 < n) × (fill % 8 + n ≤ 8) × (w < 2 ^ (8 * n)) ⌝ }
     ensures { λ r. ⌜ Fed (now (s .entry)) fill (leBytes n w) (now (s .exit)) r ⌝ }
 {
@@ -32,11 +32,11 @@ pub(crate) fn feed_word(s: &mut [u64; 25], fill: usize, w: u64) -> usize
 {
     let o = fill % 8;
     if o == 0 {
-        return feed_part(s, fill, w, 8);
+        return feed_lane(s, fill, w, 8);
     }
     let up = 8 * o;
-    let n = feed_part(s, fill, (w << up) >> up, 8 - o);
-    feed_part(s, n, w >> (64 - up), o)
+    let n = feed_lane(s, fill, (w << up) >> up, 8 - o);
+    feed_lane(s, n, w >> (64 - up), o)
 }
 
 fn wide(b: u8) -> u64
@@ -73,7 +73,7 @@ pub(crate) fn feed(s: &mut [u64; 25], fill: usize, b: &[u8]) -> usize
         at += 8;
     }
     while at < b.len() {
-        n = feed_part(s, n, wide(b[at]), 1);
+        n = feed_lane(s, n, wide(b[at]), 1);
         at += 1;
     }
     n
@@ -121,11 +121,11 @@ fn pad(s: [u64; 25], fill: usize) -> [u64; 25]
 {
     let mut a = s;
     if fill == 135 {
-        feed_part(&mut a, 135, 0x86, 1);
+        feed_lane(&mut a, 135, 0x86, 1);
         return a;
     }
-    feed_part(&mut a, fill, 0x06, 1);
-    feed_part(&mut a, 135, 0x80, 1);
+    feed_lane(&mut a, fill, 0x06, 1);
+    feed_lane(&mut a, 135, 0x80, 1);
     a
 }
 

@@ -93,46 +93,48 @@ fn begin(protocol: &[u8], public: &[u8], lens: &[usize]) -> Transcript
     }
 }
 
-// The first three of the four parts that an absorption and a draw hash.
-fn feed_head(s: &mut [u64; 25], fill: usize, state: &[u8; 32], tag: &[u8], label: &[u8]) -> usize
-    requires { ⌜ Ready (now s) fill ⌝ }
-    ensures { λ r. ⌜ Fed (now (s .entry)) fill (framed (now (state .entry) ∷ now (tag .entry) ∷ now (label .entry) ∷ [])) (now (s .exit)) r ⌝ }
+// The first three of the four parts that an absorption and a draw hash, after the count of the parts.
+fn feed_head(s: &mut [u64; 25], t: Transcript, tag: &[u8], label: &[u8]) -> usize
+    requires { ⌜ Ready (now s) 0 ⌝ }
+    ensures { λ r. ⌜ Fed (now (s .entry)) 0 (leBytes 8 4 ++ framed (t .state ∷ now (tag .entry) ∷ now (label .entry) ∷ [])) (now (s .exit)) r ⌝ }
 {
-    let a = sha3::feed_part(s, fill, state);
-    let b = sha3::feed_part(s, a, tag);
-    sha3::feed_part(s, b, label)
+    let state = t.state;
+    let a = sponge::feed_word(s, 0, 4);
+    let b = sha3::feed_part(s, a, &state);
+    let c = sha3::feed_part(s, b, tag);
+    sha3::feed_part(s, c, label)
 }
 
-// Bytes are absorbed under a label. No entry that absorbs reads the counter, so none refuses 14.
+// The transcript after an absorption: a new state, and no draw since.
+fn renewed(t: Transcript, state: [u8; 32]) -> Transcript
+    ensures { λ r. ⌜ r ≡ spec.fresh state ⌝ }
+{
+    let mut u = t;
+    u.state = state;
+    u.squeeze_ctr = 0;
+    u
+}
+
+// Bytes are absorbed under a label. An absorption does not read the counter, so it never refuses 14.
 pub fn absorb_bytes(t: Transcript, label: &[u8], bytes: &[u8]) -> Transcript
     ensures { λ r. ⌜ r ≡ spec.absorbed t (now (label .entry)) (now (bytes .entry)) ⌝ }
 {
-    let before = t.state;
     let mut s = [0u64; 25];
-    let a = sponge::feed_word(&mut s, 0, 4);
-    let b = feed_head(&mut s, a, &before, b"absorb", label);
-    let c = sha3::feed_part(&mut s, b, bytes);
-    let state = sponge::finish(s, c);
-    Transcript {
-        state,
-        squeeze_ctr: 0,
-    }
+    let a = feed_head(&mut s, t, b"absorb", label);
+    let b = sha3::feed_part(&mut s, a, bytes);
+    let state = sponge::finish(s, b);
+    renewed(t, state)
 }
 
 // The bytes of words are absorbed under a label.
 pub fn absorb_words(t: Transcript, label: &[u8], words: &[u64]) -> Transcript
     ensures { λ r. ⌜ r ≡ spec.absorbed t (now (label .entry)) (wordBytes (now (words .entry))) ⌝ }
 {
-    let before = t.state;
     let mut s = [0u64; 25];
-    let a = sponge::feed_word(&mut s, 0, 4);
-    let b = feed_head(&mut s, a, &before, b"absorb", label);
-    let c = sha3::feed_words_part(&mut s, b, words);
-    let state = sponge::finish(s, c);
-    Transcript {
-        state,
-        squeeze_ctr: 0,
-    }
+    let a = feed_head(&mut s, t, b"absorb", label);
+    let b = sha3::feed_words_part(&mut s, a, words);
+    let state = sponge::finish(s, b);
+    renewed(t, state)
 }
 
 // Elements are absorbed under a label. Refuses 11.
@@ -157,16 +159,11 @@ pub fn absorb_field(t: Transcript, label: &[u8], words: &[u64]) -> TranscriptAns
 pub fn absorb_u64(t: Transcript, label: &[u8], v: u64) -> Transcript
     ensures { λ r. ⌜ r ≡ spec.absorbed t (now (label .entry)) (leBytes 8 v) ⌝ }
 {
-    let before = t.state;
     let mut s = [0u64; 25];
-    let a = sponge::feed_word(&mut s, 0, 4);
-    let b = feed_head(&mut s, a, &before, b"absorb", label);
-    let c = sha3::feed_word_part(&mut s, b, v);
-    let state = sponge::finish(s, c);
-    Transcript {
-        state,
-        squeeze_ctr: 0,
-    }
+    let a = feed_head(&mut s, t, b"absorb", label);
+    let b = sha3::feed_word_part(&mut s, a, v);
+    let state = sponge::finish(s, b);
+    renewed(t, state)
 }
 
 // A hash is absorbed under a label.
@@ -176,17 +173,16 @@ pub fn absorb_digest(t: Transcript, label: &[u8], d: &[u8; 32]) -> Transcript
     absorb_bytes(t, label, d)
 }
 
-// The next transcript of a draw. A run refuses 14 where it starts and draws on past 2^32, so this is the draw without the check.
+// A draw under a label, without its element. A run refuses 14 where it starts, and may draw on past 2^32: so the layers above draw
+// here, where the counter is not checked, and challenge_field is the draw that checks it.
 pub fn draw(t: Transcript, label: &[u8]) -> Transcript
     ensures { λ r. ⌜ r ≡ spec.drawn t (now (label .entry)) ⌝ }
 {
-    let before = t.state;
     let count = t.squeeze_ctr;
     let mut s = [0u64; 25];
-    let a = sponge::feed_word(&mut s, 0, 4);
-    let b = feed_head(&mut s, a, &before, b"squeeze", label);
-    let c = sha3::feed_word_part(&mut s, b, count);
-    let state = sponge::finish(s, c);
+    let a = feed_head(&mut s, t, b"squeeze", label);
+    let b = sha3::feed_word_part(&mut s, a, count);
+    let state = sponge::finish(s, b);
     Transcript {
         state,
         squeeze_ctr: std::num::wrapping_add_u64(count, 1),

@@ -52,8 +52,8 @@ shared-slice-read-wide c = search needs
 wide-requires : tie.Need-wide-requires Inv-loop μ-loop Inv-loop2 μ-loop2
 wide-requires c κs = search needs
 
-feed-part-requires : tie.Need-feed-part-requires Inv-loop μ-loop Inv-loop2 μ-loop2
-feed-part-requires c κs =
+feed-lane-requires : tie.Need-feed-lane-requires Inv-loop μ-loop Inv-loop2 μ-loop2
+feed-lane-requires c κs =
     ((c .before .before .before .before .loop2 .inv .1 .ready), search needs, search needs, c .wide .ensures .1)
 
 add-at-2 : tie.Need-add-at-2 Inv-loop μ-loop Inv-loop2 μ-loop2
@@ -66,7 +66,7 @@ loop2-again : tie.Need-loop2-again Inv-loop μ-loop Inv-loop2 μ-loop2
 loop2-again c =
     let l = c .before .before .before .before .before .loop2 in
     let a = c .before .before .before .before .before .before .before .before .before .args in
-    (search needs, left-byte (a .b .now) (l .at) (search needs) (c .before .wide .ensures .0) (c .before .wide .ensures .1) (l .inv .1) (c .feed-part .ensures))
+    (search needs, left-byte (a .b .now) (l .at) (search needs) (c .before .wide .ensures .0) (c .before .wide .ensures .1) (l .inv .1) (c .feed-lane .ensures))
 
 returns : tie.Need-returns Inv-loop μ-loop Inv-loop2 μ-loop2
 returns c =
@@ -91,7 +91,7 @@ feed-spec =
     loop2-holds
     shared-slice-read-wide
     wide-requires
-    feed-part-requires
+    feed-lane-requires
     add-at-2
     loop2-less
     loop2-again

@@ -7,9 +7,6 @@ use borrow.Author.Needs.{needs}
 use Rattle.magnetar_hash.proofs.transcript.draw.Statement.{statement}
 use Rattle.magnetar_hash.proofs.transcript.draw.Tie as tie
 
-feed-word-requires : tie.Need-feed-word-requires
-feed-word-requires c κs = search needs
-
 slice-aggregate-feed-head : tie.Need-slice-aggregate-feed-head
 slice-aggregate-feed-head c = search needs
 
@@ -28,14 +25,13 @@ wrapping-add-u64-requires c κs = search needs
 returns : tie.Need-returns
 unfolding drawn ascii
 returns c =
-    let a = c .before .before .before .before .before .before .before .before .before .before .before .before .args in
-    rw (c .before .finish .ensures, four-parts (a .t .state) (ascii "squeeze") (a .label .now) (leBytes 8 (a .t .«squeeze_ctr»)) (c .before .before .before .before .before .before .before .before .feed-word .ensures) (c .before .before .before .before .feed-head .ensures) (c .before .before .feed-word-part .ensures), c .wrapping-add-u64 .ensures)
+    let a = c .before .before .before .before .before .before .before .before .args in
+    rw (c .wrapping-add-u64 .ensures, c .before .finish .ensures, four-parts (a .t .state) (ascii "squeeze") (a .label .now) (leBytes 8 (a .t .«squeeze_ctr»)) (c .before .before .before .before .feed-head .ensures) (c .before .before .feed-word-part .ensures))
 
 pub draw-spec : {M : Type 1} → statement M
 draw-spec =
     tie.close
     (tie.spec
-    feed-word-requires
     slice-aggregate-feed-head
     feed-head-requires
     feed-word-part-requires

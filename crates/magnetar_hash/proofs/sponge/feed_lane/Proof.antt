@@ -1,10 +1,10 @@
--- `magnetar_hash::sponge::feed_part` meets its contract.
+-- `magnetar_hash::sponge::feed_lane` meets its contract.
 -- Assumes nothing.
 use Rattle.magnetar_keccak.specs.State.{_⊕_}
 use Rattle.magnetar_hash.proofs.Lane.{lane-part, lane-full}
 use borrow.Author.Needs.{needs}
-use Rattle.magnetar_hash.proofs.sponge.feed_part.Statement.{statement}
-use Rattle.magnetar_hash.proofs.sponge.feed_part.Tie as tie
+use Rattle.magnetar_hash.proofs.sponge.feed_lane.Statement.{statement}
+use Rattle.magnetar_hash.proofs.sponge.feed_lane.Tie as tie
 
 mul-s : tie.Need-mul-s
 mul-s c = search needs
@@ -42,8 +42,8 @@ returns-2 c =
     let a = c .before .before .before .before .args in
     lane-full (a .s .now) (a .fill) (a .n) (a .w) (c .before .before .before .before .pre) (c .before .before .if1 .left) (c .permute .ensures)
 
-pub feed-part-spec : {M : Type 1} → statement M
-feed-part-spec =
+pub feed-lane-spec : {M : Type 1} → statement M
+feed-lane-spec =
     tie.close
     (tie.spec
     mul-s
