@@ -6,7 +6,7 @@ use Prim.Native.Nat.{ℕ, zero, suc, _+_, _*_, _/_, _<_, _≤_}
 use native.Mathlib.Numerals.{add-one}
 use native.Mathlib.Omega.{arith}
 use lib.ListN.{length, set, take, drop, length-append, drop-of-length-le}
-use lib.Seq.{drop-cons, set-at, append-snoc, length-take-le, drop-drop}
+use lib.Seq.{drop-cons, set-at, append-snoc, length-take-le}
 use lib.ListN.{getD, length-drop}
 use Rattle.magnetar_hash.specs.declared.transcript.Transcript.{Transcript}
 use Rattle.magnetar_hash.specs.Transcript.{drawn, element, drawnTimes, drawnWords}

@@ -1,22 +1,21 @@
 -- Laws of parts: one more part, the parts left, and lengths that add up.
 -- Assumes nothing.
-use mathlib.Core.Path.{_≡_, refl, sym, ap, ap₂, _∙_, subst}
+use mathlib.Core.Path.{_≡_, refl, sym, ap, _∙_, subst}
 use mathlib.Core.Bool.{Bool, true, false}
 use mathlib.Core.List.{List, [], _∷_, _++_, append-nil, append-assoc}
-use Prim.Native.Nat.{ℕ, zero, suc, _+_, _-_, _<_, _≤_}
+use Prim.Native.Nat.{ℕ, suc, _+_, _-_, _<_, _≤_}
 use native.Mathlib.Numerals.{add-one}
-use native.Mathlib.Nat.{zero-add}
 use native.Mathlib.Omega.{arith}
 use lib.Dec.{eqb}
 use lib.ListN.{length, getD, take, drop, replicate, drop-of-length-le}
 use lib.Seq.{drop-cons, drop-drop}
 use borrow.Author.Tests.{eq-eqb, ne-eqb, eqb-true, eqb-false}
-use Rattle.magnetar_hash.specs.Bytes.{leBytes, wordBytes}
+use Rattle.magnetar_hash.specs.Bytes.{leBytes}
 use Rattle.magnetar_hash.specs.Parts.{framed, serializeParts, sha3Domain, parts, sum}
 use Rattle.magnetar_hash.specs.Sponge.{Fed, sponge, finished}
-use Rattle.magnetar_hash.proofs.Bytes.{length-le, length-words}
+use Rattle.magnetar_hash.proofs.Bytes.{length-le}
 use Rattle.magnetar_hash.proofs.Stream.{fed-join, sha3-of}
-use Rattle.magnetar_hash.proofs.Left.{Left, left-all, left-more, left-none}
+use Rattle.magnetar_hash.proofs.Left.{Left, left-more, left-none}
 
 framed-one : (p : List ℕ) → leBytes 8 (length p) ++ p ≡ framed (p ∷ [])
 unfolding framed
@@ -136,26 +135,30 @@ unfolding parts
 length-parts [] bs = refl
 length-parts (n ∷ ns) bs = ap suc (length-parts ns (drop n bs))
 
--- the count, then the parts: the hash of the parts
-pub domain-of
-    : {s u : List ℕ} {n k x : ℕ} (ps : List (List ℕ))
+-- the count, then the parts
+pub serialized
+    : {t s u : List ℕ} {m n k x : ℕ} (ps : List (List ℕ))
     → x ≡ length ps
-    → Fed (replicate 25 0) 0 (leBytes 8 x) s n
+    → Fed t m (leBytes 8 x) s n
     → Fed s n (framed ps) u k
-    → finished (sponge u k) ≡ sha3Domain ps
-unfolding sha3Domain serializeParts
-domain-of {s} {u} {n} {k} ps e f g =
-    sha3-of (subst (λ (y : ℕ). Fed (replicate 25 0) 0 (leBytes 8 y ++ framed ps) u k) e (fed-join f g))
+    → Fed t m (serializeParts ps) u k
+unfolding serializeParts
+serialized {t} {s} {u} {m} {n} {k} ps e f g = subst (λ (y : ℕ). Fed t m (leBytes 8 y ++ framed ps) u k) e (fed-join f g)
 
+pub domain-of : {s : List ℕ} {n : ℕ} (ps : List (List ℕ)) → Fed (replicate 25 0) 0 (serializeParts ps) s n → finished (sponge s n) ≡ sha3Domain ps
+unfolding sha3Domain
+domain-of ps f = sha3-of f
+
+-- the four parts of an absorption or a draw
 pub four-parts
     : {s u : List ℕ} {n k : ℕ} (a b c d : List ℕ)
     → Fed (replicate 25 0) 0 (leBytes 8 4 ++ framed (a ∷ b ∷ c ∷ [])) s n
     → Fed s n (framed (d ∷ [])) u k
     → finished (sponge u k) ≡ sha3Domain (a ∷ b ∷ c ∷ d ∷ [])
-unfolding sha3Domain serializeParts
+unfolding serializeParts
 four-parts {s} {u} {n} {k} a b c d f g =
     let e : leBytes 8 4 ++ framed (a ∷ b ∷ c ∷ []) ++ framed (d ∷ []) ≡ leBytes 8 4 ++ framed (a ∷ b ∷ c ∷ d ∷ []) =
     append-assoc (leBytes 8 4) (framed (a ∷ b ∷ c ∷ [])) (framed (d ∷ []))
     ∙ ap (λ (l : List ℕ). leBytes 8 4 ++ l) (sym (framed-append (a ∷ b ∷ c ∷ []) (d ∷ [])))
     in
-    sha3-of (subst (λ (l : List ℕ). Fed (replicate 25 0) 0 l u k) e (fed-join f g))
+    domain-of (a ∷ b ∷ c ∷ d ∷ []) (subst (λ (l : List ℕ). Fed (replicate 25 0) 0 l u k) e (fed-join f g))

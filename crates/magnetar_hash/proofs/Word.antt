@@ -1,9 +1,9 @@
 -- A word of 8 bytes that lies across two lanes, and the word that 8 bytes make.
 -- Assumes nothing.
-use mathlib.Core.Path.{_≡_, refl, sym, ap, ap₂, _∙_}
+use mathlib.Core.Path.{_≡_, sym, ap, _∙_}
 use mathlib.Core.List.{List, [], _∷_, _++_}
-use Prim.Native.Nat.{ℕ, zero, suc, _+_, _*_, _-_, _/_, _%_, _^_, _<_, _≤_}
-use native.Mathlib.Nat.{zero-add, mod-lt, mul-mod-left, add-zero, mul-zero, mul-add, mul-assoc, add-assoc, pow-zero, one-mul}
+use Prim.Native.Nat.{ℕ, suc, _+_, _*_, _-_, _/_, _%_, _^_, _<_, _≤_}
+use native.Mathlib.Nat.{zero-add, mod-lt, mul-mod-left, add-zero, mul-zero, mul-add, mul-assoc, add-assoc, one-mul}
 use native.Mathlib.Numerals.{add-one}
 use native.Mathlib.Omega.{arith}
 use lib.ListN.{length, getD, take, drop}
@@ -12,7 +12,7 @@ use lib.Seq.{drop-cons, take-add, drop-drop, length-take-le}
 use lib.ListN.{length-drop}
 use Rattle.magnetar_hash.specs.Bytes.{leBytes, number}
 use Rattle.magnetar_hash.specs.Sha3.{rate}
-use Rattle.magnetar_hash.specs.Sponge.{Sponge, sponge, Ready, Fed}
+use Rattle.magnetar_hash.specs.Sponge.{Sponge, sponge, Fed}
 use Rattle.magnetar_hash.proofs.Bytes.{length-le, le-append, le-mod}
 use Rattle.magnetar_hash.proofs.Stream.{fed-fill}
 

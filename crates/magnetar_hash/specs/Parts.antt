@@ -27,6 +27,7 @@ unfoldable pub parts : List ℕ → List ℕ → List (List ℕ)
 parts [] bs = []
 parts (n ∷ ns) bs = take n bs ∷ parts ns (drop n bs)
 
+-- the sum of lengths
 unfoldable pub sum : List ℕ → ℕ
 sum [] = 0
 sum (n ∷ ns) = n + sum ns
@@ -35,7 +36,7 @@ sum (n ∷ ns) = n + sum ns
 abbrev pub noDigest : List ℕ
 noDigest = replicate 32 0
 
--- 17 where the lengths don't add up to the bytes
+-- the answer of a hash of parts: 17 where the lengths don't add up to the bytes
 unfoldable pub domainAnswer : List ℕ → List ℕ → DigestAnswer
 domainAnswer bs ns =
     cond (eqb (sum ns) (length bs)) (record { code = 0; digest = sha3Domain (parts ns bs) }) (record { code = 17; digest = noDigest })

@@ -1,7 +1,7 @@
 -- SHA3-256 (FIPS 202): the sponge (4), its padding (5.1) and SHA3-256 (6.1), on bytes. Bit k of byte j of a string is its bit
 -- 8 * j + k (B.1), so byte j of a state is bits 8 * (j mod 8) and up of lane j / 8 (3.1.2).
 -- Assumes nothing.
-use Prim.Native.Nat.{ℕ, zero, suc, _+_, _*_, _-_, _/_, _%_, _^_}
+use Prim.Native.Nat.{ℕ, zero, suc, _*_, _-_, _/_, _%_, _^_}
 use mathlib.Core.List.{List, [], _∷_, _++_}
 use lib.ListN.{length, getD, set, take, drop, replicate}
 use Rattle.magnetar_keccak.specs.State.{_⊕_, table}

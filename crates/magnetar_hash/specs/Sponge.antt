@@ -15,6 +15,7 @@ pub record Sponge : Type 0 where
   pub lanes : List ℕ
   pub fill : ℕ
 
+-- a sponge from its lanes and its fill
 abbrev pub sponge : List ℕ → ℕ → Sponge
 sponge s n = record { lanes = s; fill = n }
 

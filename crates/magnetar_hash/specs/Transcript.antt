@@ -2,7 +2,7 @@
 -- Assumes nothing.
 use mathlib.Core.Bool.{cond}
 use mathlib.Core.List.{List, [], _∷_, _++_}
-use Prim.Native.Nat.{ℕ, zero, suc, _+_, _*_, _/_, _%_, _^_}
+use Prim.Native.Nat.{ℕ, zero, suc, _+_, _*_, _%_, _^_}
 use lib.Dec.{eqb, ltb}
 use lib.ListN.{length, take, drop}
 use Rattle.magnetar_field.specs.declared.gf128.Gf128.{Gf128}
@@ -48,22 +48,23 @@ drawnWords (suc n) t label = element (drawn t label) .lo ∷ element (drawn t la
 
 -- ---- the answers of the entries, refusals included
 
+-- the element of a draw that is refused
 abbrev pub noElement : Gf128
 noElement = record { lo = 0; hi = 0 }
 
--- 17 where the lengths don't add up to the public bytes
+-- the answer of a new transcript: 17 where the lengths don't add up to the public bytes
 unfoldable pub newAnswer : List ℕ → List ℕ → List ℕ → TranscriptAnswer
 newAnswer protocol public lens =
     cond (eqb (sum lens) (length public)) (record { code = 0; transcript = begun protocol (parts lens public) })
     (record { code = 17; transcript = fresh noDigest })
 
--- 11 where the words are no elements: their count is odd
+-- the answer of absorbed elements: 11 where the words are none, their count being odd
 unfoldable pub fieldAnswer : Transcript → List ℕ → List ℕ → TranscriptAnswer
 fieldAnswer t label words =
     cond (eqb (length words % 2) 0) (record { code = 0; transcript = absorbed t label (wordBytes words) })
     (record { code = 11; transcript = t })
 
--- 14 where the counter is 2^32 or more
+-- the answer of a draw: 14 where the counter is 2^32 or more
 unfoldable pub drawAnswer : Transcript → List ℕ → DrawAnswer
 drawAnswer t label =
     cond (ltb (t .«squeeze_ctr») (2 ^ 32))
@@ -72,8 +73,9 @@ drawAnswer t label =
 
 -- the number of n draws into `size` words: 14 where the counter is 2^32 or more, then 15 where n elements have no room
 unfoldable pub drawsCode : Transcript → ℕ → ℕ → ℕ
-drawsCode t n size = cond (ltb (t .«squeeze_ctr») (2 ^ 32)) (cond (ltb (size / 2) n) 15 0) 14
+drawsCode t n size = cond (ltb (t .«squeeze_ctr») (2 ^ 32)) (cond (ltb size (2 * n)) 15 0) 14
 
+-- the answer of n draws into `size` words
 unfoldable pub drawsAnswer : Transcript → List ℕ → ℕ → ℕ → TranscriptAnswer
 drawsAnswer t label n size =
     record { code = drawsCode t n size; transcript = cond (eqb (drawsCode t n size) 0) (drawnTimes n t label) t }

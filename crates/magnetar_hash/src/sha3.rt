@@ -7,7 +7,7 @@ ghost use lib.Dec.{eqb};
 ghost use Rattle.magnetar_hash.specs.Bytes.{leBytes, wordBytes};
 ghost use Rattle.magnetar_hash.specs.Sha3 as spec;
 ghost use Rattle.magnetar_hash.specs.Sponge.{Fed, Ready};
-ghost use Rattle.magnetar_hash.specs.Parts.{framed, parts, sum, domainAnswer};
+ghost use Rattle.magnetar_hash.specs.Parts.{framed, parts, sum, serializeParts, domainAnswer};
 use crate::sponge;
 
 // SHA3-256 of bytes.
@@ -64,7 +64,7 @@ pub(crate) fn add_up(lens: &[usize], size: usize) -> bool
 }
 
 // The parts are taken in, one after the other.
-pub(crate) fn serialize_parts(s: &mut [u64; 25], fill: usize, bytes: &[u8], lens: &[usize]) -> usize
+pub(crate) fn feed_parts(s: &mut [u64; 25], fill: usize, bytes: &[u8], lens: &[usize]) -> usize
     requires { ⌜ Ready (now s) fill × (sum (now lens) ≡ length (now bytes)) ⌝ }
     ensures { λ r. ⌜ Fed (now (s .entry)) fill (framed (parts (now (lens .entry)) (now (bytes .entry)))) (now (s .exit)) r ⌝ }
 {
@@ -80,6 +80,16 @@ pub(crate) fn serialize_parts(s: &mut [u64; 25], fill: usize, bytes: &[u8], lens
     n
 }
 
+// The count of the parts is taken in, then the parts.
+fn serialize_parts(s: &mut [u64; 25], fill: usize, bytes: &[u8], lens: &[usize]) -> usize
+    requires { ⌜ Ready (now s) fill × (sum (now lens) ≡ length (now bytes)) ⌝ }
+    ensures { λ r. ⌜ Fed (now (s .entry)) fill (serializeParts (parts (now (lens .entry)) (now (bytes .entry)))) (now (s .exit)) r ⌝ }
+{
+    let n = sponge::feed_word(s, fill, lens.len() as u64);
+    feed_parts(s, n, bytes, lens)
+}
+
+// The number of the refusal, 0 for none, and the hash, all 0 where the call is refused.
 pub struct DigestAnswer {
     pub code: u32,
     pub digest: [u8; 32],
@@ -91,9 +101,8 @@ pub fn sha3_domain(bytes: &[u8], lens: &[usize]) -> DigestAnswer
 {
     if add_up(lens, bytes.len()) {
         let mut s = [0u64; 25];
-        let n = sponge::feed_word(&mut s, 0, lens.len() as u64);
-        let m = serialize_parts(&mut s, n, bytes, lens);
-        let digest = sponge::finish(s, m);
+        let n = serialize_parts(&mut s, 0, bytes, lens);
+        let digest = sponge::finish(s, n);
         DigestAnswer { code: 0, digest }
     } else {
         DigestAnswer {

@@ -1,7 +1,6 @@
 // The sponge of SHA3-256 as it is run: a state of 25 lanes, and how many bytes of a block have been added to it.
 ghost use mathlib.Core.Path.{_≡_};
 ghost use Prim.Native.Nat.{_+_, _-_, _*_, _/_, _%_, _^_, _<_, _≤_};
-ghost use mathlib.Core.List.{[], _∷_};
 ghost use lib.ListN.{length, take, drop};
 ghost use Rattle.magnetar_hash.specs.Bytes.{leBytes, number, wordBytes};
 ghost use Rattle.magnetar_hash.specs.Sha3.{rate, padding, squeezed};

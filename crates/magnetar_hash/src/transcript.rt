@@ -85,7 +85,7 @@ fn begin(protocol: &[u8], public: &[u8], lens: &[usize]) -> Transcript
     let a = sponge::feed_word(&mut s, 0, lens.len() as u64 + 2);
     let b = sha3::feed_part(&mut s, a, b"magnetar/transcript/v1");
     let c = sha3::feed_part(&mut s, b, protocol);
-    let d = sha3::serialize_parts(&mut s, c, public, lens);
+    let d = sha3::feed_parts(&mut s, c, public, lens);
     let state = sponge::finish(s, d);
     Transcript {
         state,

@@ -1,6 +1,6 @@
 -- A rotation by two shifts.
 -- Assumes nothing.
-use mathlib.Core.Path.{_≡_, ap, _∙_}
+use mathlib.Core.Path.{_≡_, _∙_}
 use Prim.Native.Nat.{ℕ, _+_, _*_, _-_, _/_, _%_, _^_, _<_}
 use native.Mathlib.Nat.{mod-eq-of-lt, mod-mod, mul-mod-left, add-zero, mul-one, div-eq-of-lt}
 use native.Mathlib.Omega.{arith}

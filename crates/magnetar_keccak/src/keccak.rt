@@ -1,7 +1,6 @@
 // Keccak-f[1600], the permutation of FIPS 202. Lane x, y of the state is entry 5 * y + x.
 ghost use mathlib.Core.Path.{_≡_};
 ghost use Prim.Native.Nat.{_<_, _%_, _/_};
-ghost use lib.ListN.{getD};
 ghost use Rattle.magnetar_keccak.specs.State.{rotate, complement, _⊕_, _·_, table, lane};
 ghost use Rattle.magnetar_keccak.specs.Offsets.{offset};
 ghost use Rattle.magnetar_keccak.specs.Rounds.{roundConstant};

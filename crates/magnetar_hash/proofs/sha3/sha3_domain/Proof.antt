@@ -3,7 +3,7 @@
 use mathlib.Core.Path.{sym, _∙_}
 use borrow.Author.Tests.{eqb-true}
 use Rattle.magnetar_hash.specs.Parts.{domainAnswer, parts}
-use Rattle.magnetar_hash.proofs.Parts.{domain-of, length-parts}
+use Rattle.magnetar_hash.proofs.Parts.{domain-of}
 use borrow.Author.Needs.{needs}
 use Rattle.magnetar_hash.proofs.sha3.sha3_domain.Statement.{statement}
 use Rattle.magnetar_hash.proofs.sha3.sha3_domain.Tie as tie
@@ -11,11 +11,8 @@ use Rattle.magnetar_hash.proofs.sha3.sha3_domain.Tie as tie
 add-up-requires : tie.Need-add-up-requires
 add-up-requires c κs = search needs
 
-feed-word-requires : tie.Need-feed-word-requires
-feed-word-requires c κs = search needs
-
 serialize-parts-requires : tie.Need-serialize-parts-requires
-serialize-parts-requires c κs = (c .before .feed-word .ensures .ready, eqb-true _ _ (sym (c .before .before .before .before .add-up .ensures) ∙ c .before .before .before .if1 .taken))
+serialize-parts-requires c κs = (search needs, eqb-true _ _ (sym (c .before .before .add-up .ensures) ∙ c .before .if1 .taken))
 
 finish-requires : tie.Need-finish-requires
 finish-requires c κs = search needs
@@ -23,10 +20,8 @@ finish-requires c κs = search needs
 returns : tie.Need-returns
 unfolding domainAnswer
 returns c =
-    let a = c .before .before .before .before .before .before .before .before .before .args in
-    let e = sym (c .before .before .before .before .before .before .add-up .ensures) ∙ c .before .before .before .before .before .if1 .taken in
-    let p = parts (a .lens .now) (a .bytes .now) in
-    rw (e, c .finish .ensures, domain-of p (sym (length-parts (a .lens .now) (a .bytes .now))) (c .before .before .before .feed-word .ensures) (c .before .serialize-parts .ensures))
+    let a = c .before .before .before .before .before .before .before .args in
+    rw (sym (c .before .before .before .before .add-up .ensures) ∙ c .before .before .before .if1 .taken, c .finish .ensures, domain-of (parts (a .lens .now) (a .bytes .now)) (c .before .serialize-parts .ensures))
 
 returns-2 : tie.Need-returns-2
 unfolding domainAnswer
@@ -34,11 +29,4 @@ returns-2 c = rw (sym (c .before .add-up .ensures) ∙ c .if1 .left)
 
 pub sha3-domain-spec : {M : Type 1} → statement M
 sha3-domain-spec =
-    tie.close
-    (tie.spec
-    add-up-requires
-    feed-word-requires
-    serialize-parts-requires
-    finish-requires
-    returns
-    returns-2)
+    tie.close (tie.spec add-up-requires serialize-parts-requires finish-requires returns returns-2)

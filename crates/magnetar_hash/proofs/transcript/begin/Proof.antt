@@ -8,7 +8,7 @@ use lib.ListN.{length}
 use Rattle.magnetar_hash.specs.Bytes.{ascii}
 use Rattle.magnetar_hash.specs.Parts.{parts}
 use Rattle.magnetar_hash.specs.Transcript.{begun}
-use Rattle.magnetar_hash.proofs.Parts.{parts-join, domain-of, length-parts}
+use Rattle.magnetar_hash.proofs.Parts.{parts-join, serialized, domain-of, length-parts}
 use borrow.Author.Needs.{needs}
 use Rattle.magnetar_hash.proofs.transcript.begin.Statement.{statement}
 use Rattle.magnetar_hash.proofs.transcript.begin.Tie as tie
@@ -28,8 +28,8 @@ feed-part-requires c κs = search needs
 feed-part-requires-2 : tie.Need-feed-part-requires-2
 feed-part-requires-2 c κs = search needs
 
-serialize-parts-requires : tie.Need-serialize-parts-requires
-serialize-parts-requires c κs = search needs
+feed-parts-requires : tie.Need-feed-parts-requires
+feed-parts-requires c κs = search needs
 
 finish-requires : tie.Need-finish-requires
 finish-requires c κs = search needs
@@ -41,8 +41,8 @@ returns c =
     let d = ascii "magnetar/transcript/v1" in
     let ps = parts (a .lens .now) (a .public .now) in
     let e : length (a .lens .now) + 2 ≡ length (d ∷ a .protocol .now ∷ ps) = omega (arith, length-parts (a .lens .now) (a .public .now)) in
-    let f = parts-join (a .protocol .now ∷ []) ps (c .before .before .before .feed-part2 .ensures) (c .before .serialize-parts .ensures) in
-    rw (c .finish .ensures, domain-of (d ∷ a .protocol .now ∷ ps) e (c .before .before .before .before .before .before .before .before .feed-word .ensures) (parts-join (d ∷ []) (a .protocol .now ∷ ps) (c .before .before .before .before .before .feed-part .ensures) f))
+    let f = parts-join (a .protocol .now ∷ []) ps (c .before .before .before .feed-part2 .ensures) (c .before .feed-parts .ensures) in
+    rw (c .finish .ensures, domain-of (d ∷ a .protocol .now ∷ ps) (serialized (d ∷ a .protocol .now ∷ ps) e (c .before .before .before .before .before .before .before .before .feed-word .ensures) (parts-join (d ∷ []) (a .protocol .now ∷ ps) (c .before .before .before .before .before .feed-part .ensures) f)))
 
 pub begin-spec : {M : Type 1} → statement M
 begin-spec =
@@ -53,6 +53,6 @@ begin-spec =
     slice-aggregate-feed-part
     feed-part-requires
     feed-part-requires-2
-    serialize-parts-requires
+    feed-parts-requires
     finish-requires
     returns)

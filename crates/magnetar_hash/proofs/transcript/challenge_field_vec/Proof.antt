@@ -1,6 +1,10 @@
 -- `magnetar_hash::transcript::challenge_field_vec` meets its contract.
 -- Assumes nothing.
-use mathlib.Core.Path.{sym, refl}
+use mathlib.Core.Path.{_≡_, sym, refl}
+use mathlib.Core.Bool.{true, false}
+use Prim.Native.Nat.{_*_}
+use lib.Dec.{ltb}
+use lib.ListN.{length}
 use native.Mathlib.Omega.{arith}
 use lib.Seq.{length-take-le}
 use borrow.Author.Tests.{lt-ltb, le-ltb}
@@ -24,7 +28,10 @@ draw-vec-requires c κs = search needs
 
 returns : tie.Need-returns
 unfolding drawsAnswer drawsOut drawsCode
-returns c = simp (lt-ltb _ _ (c .before .if1 .taken), lt-ltb _ _ (c .if2 .taken)) (refl, refl)
+returns c =
+    let a = c .before .before .before .before .before .args in
+    let e : ltb (length (a .out .now)) (2 * a .n) ≡ true = lt-ltb (length (a .out .now)) (2 * a .n) (omega arith) in
+    simp (lt-ltb _ _ (c .before .if1 .taken), e) (refl, refl)
 
 same-length : tie.Need-same-length
 same-length c = search needs
@@ -34,7 +41,8 @@ unfolding drawsAnswer drawsOut drawsCode
 returns-2 c =
     let a = c .before .before .before .before .before .before .before .before .before .args in
     let v = vec-done (a .t) (a .label .now) (a .out .now) (a .n) (c .before .before .before .before .if2 .left) (c .before .before .draw-vec .ensures .0) (c .before .before .draw-vec .ensures .1) in
-    simp (lt-ltb _ _ (c .before .before .before .before .before .if1 .taken), le-ltb _ _ (c .before .before .before .before .if2 .left), v .0, v .1) (refl, refl)
+    let e : ltb (length (a .out .now)) (2 * a .n) ≡ false = le-ltb (length (a .out .now)) (2 * a .n) (omega arith) in
+    simp (lt-ltb _ _ (c .before .before .before .before .before .if1 .taken), e, v .0, v .1) (refl, refl)
 
 returns-3 : tie.Need-returns-3
 unfolding drawsAnswer drawsOut drawsCode

@@ -1,7 +1,6 @@
 -- `magnetar_keccak::keccak::parity` meets its contract.
 -- Assumes nothing.
 use native.Mathlib.Nat.{zero-add}
-use mathlib.Core.Path.{refl}
 use Rattle.magnetar_keccak.specs.State.{_⊕_}
 use Rattle.magnetar_keccak.specs.Keccak.{parity}
 use borrow.Author.Needs.{needs}

@@ -3,7 +3,7 @@
 use mathlib.Core.Path.{_≡_, refl, _∙_}
 use native.Mathlib.Omega.{arith}
 use native.Mathlib.Numerals.{add-one}
-use Prim.Native.Nat.{ℕ, _≤_, _-_}
+use Prim.Native.Nat.{_≤_, _-_}
 use Rattle.magnetar_keccak.specs.Keccak.{rounds, permuted}
 use borrow.Author.Needs.{needs}
 use Rattle.magnetar_keccak.proofs.keccak.permute.Statement.{statement}

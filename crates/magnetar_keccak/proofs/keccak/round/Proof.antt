@@ -6,11 +6,10 @@ use Rattle.magnetar_keccak.specs.Keccak.{round, iota}
 use Rattle.magnetar_keccak.specs.State.{_⊕_}
 use Rattle.magnetar_keccak.proofs.Lanes.{length-chi}
 use Rattle.magnetar_keccak.proofs.Planes.{written-plane}
-use mathlib.Core.List.{List}
-use Prim.Native.Nat.{ℕ, _≤_, _-_, _*_}
+use Prim.Native.Nat.{_≤_, _-_, _*_}
 use Rattle.magnetar_keccak.specs.Keccak.{theta, rho, pi, chi}
 use Rattle.magnetar_keccak.specs.Planes.{Effects}
-use Rattle.magnetar_keccak.proofs.Written.{Written, written-none, written-more, written-all}
+use Rattle.magnetar_keccak.proofs.Written.{Written, written-none, written-all}
 use borrow.Author.Needs.{needs}
 use Rattle.magnetar_keccak.proofs.keccak.round.Statement.{statement}
 use Rattle.magnetar_keccak.proofs.keccak.round.Tie as tie
