@@ -1,7 +1,7 @@
 -- Laws of numbers as bytes.
 -- Assumes nothing.
 use mathlib.Core.Path.{_≡_, refl, sym, ap, ap₂, _∙_}
-use mathlib.Core.List.{List, [], _∷_, _++_}
+use mathlib.Core.List.{List, [], _∷_, _++_, append-nil}
 use Prim.Native.Nat.{ℕ, zero, suc, _+_, _*_, _/_, _%_, _^_, _<_}
 use native.Mathlib.Nat.{zero-add, suc-add, div-one, le-of-suc-le-suc, not-suc-le-zero}
 use native.Mathlib.Omega.{arith}
@@ -65,11 +65,12 @@ le-number (b ∷ bs) h =
     ap₂ (λ (c : ℕ) (l : List ℕ). c ∷ l) (byte-low b (number bs) (h 0))
     (ap (leBytes (length bs)) (byte-high b (number bs) (h 0)) ∙ le-number bs (λ i. h (suc i)))
 
-eight-more : (n : ℕ) → 8 + 8 * n ≡ 8 * suc n
-eight-more n = omega arith
-
 pub length-words : (ws : List ℕ) → length (wordBytes ws) ≡ 8 * length ws
 unfolding wordBytes
 length-words [] = refl
 length-words (w ∷ ws) =
-    length-append (leBytes 8 w) (wordBytes ws) ∙ ap₂ (λ (x y : ℕ). x + y) (length-le 8 w) (length-words ws) ∙ eight-more (length ws)
+    length-append (leBytes 8 w) (wordBytes ws) ∙ ap₂ (λ (x y : ℕ). x + y) (length-le 8 w) (length-words ws) ∙ eight-suc (length ws)
+
+pub one-word : (w : ℕ) → wordBytes (w ∷ []) ≡ leBytes 8 w
+unfolding wordBytes
+one-word w = append-nil (leBytes 8 w)

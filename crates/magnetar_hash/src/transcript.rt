@@ -159,11 +159,8 @@ pub fn absorb_field(t: Transcript, label: &[u8], words: &[u64]) -> TranscriptAns
 pub fn absorb_u64(t: Transcript, label: &[u8], v: u64) -> Transcript
     ensures { λ r. ⌜ r ≡ spec.absorbed t (now (label .entry)) (leBytes 8 v) ⌝ }
 {
-    let mut s = [0u64; 25];
-    let a = feed_head(&mut s, t, b"absorb", label);
-    let b = sha3::feed_word_part(&mut s, a, v);
-    let state = sponge::finish(s, b);
-    renewed(t, state)
+    let w = [v];
+    absorb_words(t, label, &w)
 }
 
 // A hash is absorbed under a label.
