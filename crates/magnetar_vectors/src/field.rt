@@ -1,0 +1,225 @@
+// Queries on the field. Elements are two words, the low one first; a list is its number of words and the words.
+use magnetar_field::eq::{self, EqBits};
+use magnetar_field::gf128::{self, Evaluated, Gf128};
+use magnetar_field::multilinear;
+use magnetar_field::words;
+use crate::text::{self, at, list, plus, print};
+
+// What stands in a lent word before a call, so that a word that was not written to is seen.
+const MARK: u64 = 0x5a5a5a5a5a5a5a5a;
+
+fn print_line(s: &[u64]) {
+    print(b"= ");
+    text::print_words(s);
+    print(b"\n");
+}
+
+fn print_element(e: Gf128) {
+    let mut w = [0u64; 2];
+    w[0] = e.lo;
+    w[1] = e.hi;
+    print_line(&w);
+}
+
+fn print_bool(b: bool) {
+    if b {
+        print(b"= true\n");
+    } else {
+        print(b"= false\n");
+    }
+}
+
+fn print_refusal(code: u32) {
+    print(b"! ");
+    text::print_count(text::size(text::wide(code)));
+    print(b"\n");
+}
+
+fn print_evaluated(v: Evaluated) {
+    match v {
+        Evaluated::Value(e) => print_element(e),
+        Evaluated::Refused(code) => print_refusal(code),
+    }
+}
+
+// What a call answered, and the lent words after it.
+fn print_code(code: u32, s: &[u64]) {
+    print(b"= ");
+    text::print_count(text::size(text::wide(code)));
+    print(b" ");
+    text::print_words(s);
+    print(b"\n");
+}
+
+// eq P, fused P: the table.
+fn print_table(code: u32, p: &[u64], out: &[u64]) {
+    if code == 0 {
+        print_line(text::first(out, text::table_words(p.len() / 2)));
+    } else {
+        print_refusal(code);
+    }
+}
+
+// eqroom K P: the outcome where K words are lent for the table.
+fn eqroom(k: usize, p: &[u64], out: &mut [u64]) {
+    let room = text::front(out, k);
+    text::fill(room, MARK);
+    let code = EqBits::build(p, room);
+    print_code(code, room);
+}
+
+// mleroom K V P: the value where K words are lent as scratch, and these words after the call.
+fn mleroom(k: usize, v: &[u64], p: &[u64], out: &mut [u64]) {
+    let room = text::front(out, k);
+    text::fill(room, MARK);
+    print_evaluated(multilinear::eval_mle(v, p, room));
+    print_line(room);
+}
+
+// bind VAR T R: the bound table.
+fn bind(code: u32, table: &[u64]) {
+    if code == 0 {
+        print_line(text::first(table, table.len() / 2));
+    } else {
+        print_refusal(code);
+    }
+}
+
+// eqat P BITS: the value of eq at the point and the bits.
+fn eqat(p: &[u64], bits: &[u64]) {
+    let mut b = [false; 64];
+    let n = bits.len();
+    if n > 64 {
+        print(b"? bits\n");
+        return;
+    }
+    text::bools(bits, &mut b);
+    print_evaluated(eq::eq_table(p, &b[..n]));
+}
+
+// Answers a query on elements, or says that it is none.
+fn elements(line: &[u8], nums: &[u64]) -> bool {
+    let v = list(nums, 0);
+    let a = words::get(v, 0);
+    let b = words::get(v, 1);
+    let i = plus(1, v.len());
+    if text::begins(line, b"add") {
+        print_element(gf128::add(a, b));
+        return true;
+    }
+    if text::begins(line, b"mul") {
+        print_element(gf128::mul(a, b));
+        return true;
+    }
+    if text::begins(line, b"mulbit") {
+        print_element(gf128::mul_bit(a, b));
+        return true;
+    }
+    if text::begins(line, b"isbit") {
+        print_bool(gf128::is_bit(a));
+        return true;
+    }
+    if text::begins(line, b"square") {
+        print_element(gf128::square(a));
+        return true;
+    }
+    if text::begins(line, b"inv") {
+        print_element(gf128::inv(a));
+        return true;
+    }
+    if text::begins(line, b"pow") {
+        print_element(gf128::pow(a, at(nums, i), at(nums, plus(i, 1))));
+        return true;
+    }
+    if text::begins(line, b"eqchar2") {
+        print_element(eq::eq_char2(a, at(nums, i) == 1));
+        return true;
+    }
+    false
+}
+
+// Answers a query on tables, or says that it is none.
+fn tables(line: &[u8], nums: &[u64], out: &mut [u64]) -> bool {
+    let v = list(nums, 0);
+    let p = list(nums, plus(1, v.len()));
+    if text::begins(line, b"eq") {
+        let code = EqBits::build(v, out);
+        print_table(code, v, out);
+        return true;
+    }
+    if text::begins(line, b"fused") {
+        let code = eq::eq_build_fused(v, out);
+        print_table(code, v, out);
+        return true;
+    }
+    if text::begins(line, b"eqat") {
+        eqat(v, p);
+        return true;
+    }
+    if text::begins(line, b"evalmle") {
+        print_evaluated(multilinear::eval_mle(v, p, out));
+        return true;
+    }
+    false
+}
+
+// Answers a query that begins with a number, or says that it is none.
+fn numbered(line: &[u8], nums: &[u64], out: &mut [u64]) -> bool {
+    let n = text::size(at(nums, 0));
+    let v = list(nums, 1);
+    let p = list(nums, plus(2, v.len()));
+    let r = words::get(p, 0);
+    if text::begins(line, b"eqroom") {
+        eqroom(n, v, out);
+        return true;
+    }
+    if text::begins(line, b"mleroom") {
+        mleroom(n, v, p, out);
+        return true;
+    }
+    let table = text::front(out, v.len());
+    words::copy(v, table);
+    if text::begins(line, b"bind") {
+        bind(multilinear::bind_var(table, n, r), table);
+        return true;
+    }
+    if text::begins(line, b"fold") {
+        bind(multilinear::fold_pairs(table, n, r), table);
+        return true;
+    }
+    if text::begins(line, b"bindroom") {
+        print_code(multilinear::bind_var(table, n, r), table);
+        return true;
+    }
+    if text::begins(line, b"get") {
+        print_element(words::get(v, n));
+        return true;
+    }
+    if text::begins(line, b"put") {
+        words::put(table, n, r);
+        print_line(table);
+        return true;
+    }
+    if text::begins(line, b"clear") {
+        words::clear(table);
+        print_line(table);
+        return true;
+    }
+    if text::begins(line, b"copy") {
+        words::copy(p, table);
+        print_line(table);
+        return true;
+    }
+    false
+}
+
+// Answers a query on the field, or says that it is none.
+pub(crate) fn answered(line: &[u8], nums: &[u64], out: &mut [u64]) -> bool {
+    if elements(line, nums) {
+        return true;
+    }
+    if tables(line, nums, out) {
+        return true;
+    }
+    numbered(line, nums, out)
+}
