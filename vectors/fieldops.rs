@@ -1,9 +1,9 @@
 //! Answers queries on the published field crate, a line for each, in the form that the test program writes.
 //! Words are in decimal, or in hexadecimal after 0x; a list is its number of words and the words.
 //!   add 4 A B | mulbit 4 R B | isbit 2 A | square 2 A | inv 2 A | pow 2 A KLO KHI
-//!   eqchar2 2 X B | fused P | eqat P BITS | bind VAR T 2 R | fold VAR T 2 R
+//!   chain 4 A B N | eqchar2 2 X B | fused P | eqat P BITS | bind VAR T 2 R | fold VAR T 2 R
 use magnetar_field::eq::{eq_build_fused, eq_char2, eq_table};
-use magnetar_field::gf128::{inv, is_bit, mul_bit, pow, square, Gf128};
+use magnetar_field::gf128::{inv, is_bit, mul, mul_bit, pow, square, Gf128};
 use magnetar_field::multilinear::{bind_var, fold_pairs};
 
 fn list(words: &mut &[u64]) -> Vec<u64> {
@@ -46,6 +46,10 @@ fn answer(op: &str, words: &mut &[u64]) -> String {
         "square" => text(&[square(v[0])]),
         "inv" => text(&[inv(v[0])]),
         "pow" => text(&[pow(v[0], words[0] as u128 | (words[1] as u128) << 64)]),
+        "chain" => {
+            let turn = |(x, y), i| (mul(x, y), y + Gf128(i as u128));
+            text(&[(0..words[0]).fold((v[0], v[1]), turn).0])
+        }
         "eqchar2" => text(&[eq_char2(v[0], words[0] == 1)]),
         "fused" => text(&eq_build_fused(&v)),
         "eqat" => text(&[eq_table(&v, &list(words).iter().map(|b| *b == 1).collect::<Vec<_>>())]),

@@ -92,6 +92,9 @@ def elements(sheet):
     pairs += [(1 << i, 1 << (127 - i)) for i in range(0, 128, 9)] + [(1 << i, 1 << (128 - i)) for i in range(1, 128, 9)]
     for a, b in pairs:
         sheet.rust("oracle", f"mul {listed([a, b])}")
+    sheet.note("chains of products")
+    for n in [0, 1, 2, 1000, 100000]:
+        sheet.rust("fieldops", f"chain {listed(some(2))} {n}")
     sheet.note("sums")
     for _ in range(10):
         sheet.rust("fieldops", f"add {listed(some(2))}")

@@ -1,9 +1,16 @@
 // Queries on the field. Elements are two words, the low one first; a list is its number of words and the words.
-use magnetar_field::eq::{self, EqBits};
-use magnetar_field::gf128::{self, Evaluated, Gf128};
+use crate::text::at;
+use crate::text::list;
+use crate::text::plus;
+use crate::text::print;
+use crate::text::{self};
+use magnetar_field::eq::EqBits;
+use magnetar_field::eq::{self};
+use magnetar_field::gf128::Evaluated;
+use magnetar_field::gf128::Gf128;
+use magnetar_field::gf128::{self};
 use magnetar_field::multilinear;
 use magnetar_field::words;
-use crate::text::{self, at, list, plus, print};
 
 // What stands in a lent word before a call, so that a word that was not written to is seen.
 const MARK: u64 = 0x5a5a5a5a5a5a5a5a;
@@ -94,7 +101,21 @@ fn eqat(p: &[u64], bits: &[u64]) {
         return;
     }
     text::bools(bits, &mut b);
-    print_evaluated(eq::eq_table(p, &b[..n]));
+    print_evaluated(eq::eq_table(p, &b[0..n]));
+}
+
+// chain 4 A B N: N times the product of A and B in the place of A, and the sum of B and the number of the turn in that
+// of B; A after that.
+fn chain(a: Gf128, b: Gf128, n: u64) -> Gf128 {
+    let mut x = a;
+    let mut y = b;
+    let mut i: u64 = 0;
+    while i < n {
+        x = gf128::mul(x, y);
+        y = gf128::add(y, Gf128 { lo: i, hi: 0 });
+        i += 1;
+    }
+    x
 }
 
 // Answers a query on elements, or says that it is none.
@@ -129,6 +150,10 @@ fn elements(line: &[u8], nums: &[u64]) -> bool {
     }
     if text::begins(line, b"pow") {
         print_element(gf128::pow(a, at(nums, i), at(nums, plus(i, 1))));
+        return true;
+    }
+    if text::begins(line, b"chain") {
+        print_element(chain(a, b, at(nums, i)));
         return true;
     }
     if text::begins(line, b"eqchar2") {

@@ -150,7 +150,11 @@ fn stored(r: Reading, nums: &mut [u64]) -> Reading {
 }
 
 fn fed(r: Reading, c: u8, nums: &mut [u64]) -> Reading {
-    if c == b' ' { stored(r, nums) } else { inside(r, c) }
+    if c == b' ' {
+        stored(r, nums)
+    } else {
+        inside(r, c)
+    }
 }
 
 // Stores the numbers of the line, those after its first word, and answers how many there are.
@@ -173,7 +177,7 @@ pub(crate) fn numbers(line: &[u8], nums: &mut [u64]) -> usize {
 // The first n numbers, or all of them where there are fewer.
 pub(crate) fn first(s: &[u64], n: usize) -> &[u64] {
     if n < s.len() {
-        return &s[..n];
+        return &s[0..n];
     }
     s
 }
@@ -181,7 +185,7 @@ pub(crate) fn first(s: &[u64], n: usize) -> &[u64] {
 // The same of words that are written to.
 pub(crate) fn front(s: &mut [u64], n: usize) -> &mut [u64] {
     if n < s.len() {
-        return &mut s[..n];
+        return &mut s[0..n];
     }
     s
 }
@@ -195,11 +199,17 @@ pub(crate) fn fill(s: &mut [u64], w: u64) {
     }
 }
 
+fn set(out: &mut [bool], i: usize, b: bool) {
+    if i < out.len() {
+        out[i] = b;
+    }
+}
+
 // Whether each number is 1, as many as both have.
 pub(crate) fn bools(nums: &[u64], out: &mut [bool]) {
     let mut i = 0;
-    while i < nums.len() && i < out.len() {
-        out[i] = nums[i] == 1;
+    while i < nums.len() {
+        set(out, i, nums[i] == 1);
         i += 1;
     }
 }
@@ -216,7 +226,7 @@ pub(crate) fn list(nums: &[u64], i: usize) -> &[u64] {
         let rest = &nums[i + 1..];
         return first(rest, n);
     }
-    &nums[..0]
+    &nums[0..0]
 }
 
 pub(crate) fn print(s: &[u8]) {
