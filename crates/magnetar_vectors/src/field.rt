@@ -12,6 +12,51 @@ use magnetar_field::gf128::{self};
 use magnetar_field::multilinear;
 use magnetar_field::words;
 
+// The queries by name: its letters, the last one lowest.
+const ADD: u64 = 0x616464;
+
+const MUL: u64 = 0x6d756c;
+
+const MULBIT: u64 = 0x6d756c626974;
+
+const ISBIT: u64 = 0x6973626974;
+
+const SQUARE: u64 = 0x737175617265;
+
+const INV: u64 = 0x696e76;
+
+const POW: u64 = 0x706f77;
+
+const CHAIN: u64 = 0x636861696e;
+
+const EQCHAR2: u64 = 0x65716368617232;
+
+const EQ: u64 = 0x6571;
+
+const FUSED: u64 = 0x6675736564;
+
+const EQAT: u64 = 0x65716174;
+
+const EVALMLE: u64 = 0x6576616c6d6c65;
+
+const BIND: u64 = 0x62696e64;
+
+const FOLD: u64 = 0x666f6c64;
+
+const BINDROOM: u64 = 0x62696e64726f6f6d;
+
+const GET: u64 = 0x676574;
+
+const PUT: u64 = 0x707574;
+
+const CLEAR: u64 = 0x636c656172;
+
+const COPY: u64 = 0x636f7079;
+
+const EQROOM: u64 = 0x6571726f6f6d;
+
+const MLEROOM: u64 = 0x6d6c65726f6f6d;
+
 // What stands in a lent word before a call, so that a word that was not written to is seen.
 const MARK: u64 = 0x5a5a5a5a5a5a5a5a;
 
@@ -119,44 +164,44 @@ fn chain(a: Gf128, b: Gf128, n: u64) -> Gf128 {
 }
 
 // Answers a query on elements, or says that it is none.
-fn elements(line: &[u8], nums: &[u64]) -> bool {
+fn elements(op: u64, nums: &[u64]) -> bool {
     let v = list(nums, 0);
     let a = words::get(v, 0);
     let b = words::get(v, 1);
     let i = plus(1, v.len());
-    if text::begins(line, b"add") {
+    if op == ADD {
         print_element(gf128::add(a, b));
         return true;
     }
-    if text::begins(line, b"mul") {
+    if op == MUL {
         print_element(gf128::mul(a, b));
         return true;
     }
-    if text::begins(line, b"mulbit") {
+    if op == MULBIT {
         print_element(gf128::mul_bit(a, b));
         return true;
     }
-    if text::begins(line, b"isbit") {
+    if op == ISBIT {
         print_bool(gf128::is_bit(a));
         return true;
     }
-    if text::begins(line, b"square") {
+    if op == SQUARE {
         print_element(gf128::square(a));
         return true;
     }
-    if text::begins(line, b"inv") {
+    if op == INV {
         print_element(gf128::inv(a));
         return true;
     }
-    if text::begins(line, b"pow") {
+    if op == POW {
         print_element(gf128::pow(a, at(nums, i), at(nums, plus(i, 1))));
         return true;
     }
-    if text::begins(line, b"chain") {
+    if op == CHAIN {
         print_element(chain(a, b, at(nums, i)));
         return true;
     }
-    if text::begins(line, b"eqchar2") {
+    if op == EQCHAR2 {
         print_element(eq::eq_char2(a, at(nums, i) == 1));
         return true;
     }
@@ -164,73 +209,60 @@ fn elements(line: &[u8], nums: &[u64]) -> bool {
 }
 
 // Answers a query on tables, or says that it is none.
-fn tables(line: &[u8], nums: &[u64], out: &mut [u64]) -> bool {
+fn tables(op: u64, nums: &[u64], out: &mut [u64]) -> bool {
     let v = list(nums, 0);
     let p = list(nums, plus(1, v.len()));
-    if text::begins(line, b"eq") {
+    if op == EQ {
         let code = EqBits::build(v, out);
         print_table(code, v, out);
         return true;
     }
-    if text::begins(line, b"fused") {
+    if op == FUSED {
         let code = eq::eq_build_fused(v, out);
         print_table(code, v, out);
         return true;
     }
-    if text::begins(line, b"eqat") {
+    if op == EQAT {
         eqat(v, p);
         return true;
     }
-    if text::begins(line, b"evalmle") {
+    if op == EVALMLE {
         print_evaluated(multilinear::eval_mle(v, p, out));
         return true;
     }
     false
 }
 
-// Answers a query that begins with a number, or says that it is none.
-fn numbered(line: &[u8], nums: &[u64], out: &mut [u64]) -> bool {
-    let n = text::size(at(nums, 0));
-    let v = list(nums, 1);
-    let p = list(nums, plus(2, v.len()));
+// Answers a query on a table that is written to, or says that it is none. The list p is an element where one is wanted.
+fn written(op: u64, n: usize, p: &[u64], table: &mut [u64]) -> bool {
     let r = words::get(p, 0);
-    if text::begins(line, b"eqroom") {
-        eqroom(n, v, out);
-        return true;
-    }
-    if text::begins(line, b"mleroom") {
-        mleroom(n, v, p, out);
-        return true;
-    }
-    let table = text::front(out, v.len());
-    words::copy(v, table);
-    if text::begins(line, b"bind") {
+    if op == BIND {
         bind(multilinear::bind_var(table, n, r), table);
         return true;
     }
-    if text::begins(line, b"fold") {
+    if op == FOLD {
         bind(multilinear::fold_pairs(table, n, r), table);
         return true;
     }
-    if text::begins(line, b"bindroom") {
+    if op == BINDROOM {
         print_code(multilinear::bind_var(table, n, r), table);
         return true;
     }
-    if text::begins(line, b"get") {
-        print_element(words::get(v, n));
+    if op == GET {
+        print_element(words::get(table, n));
         return true;
     }
-    if text::begins(line, b"put") {
+    if op == PUT {
         words::put(table, n, r);
         print_line(table);
         return true;
     }
-    if text::begins(line, b"clear") {
+    if op == CLEAR {
         words::clear(table);
         print_line(table);
         return true;
     }
-    if text::begins(line, b"copy") {
+    if op == COPY {
         words::copy(p, table);
         print_line(table);
         return true;
@@ -238,13 +270,31 @@ fn numbered(line: &[u8], nums: &[u64], out: &mut [u64]) -> bool {
     false
 }
 
+// Answers a query that begins with a number, or says that it is none.
+fn numbered(op: u64, nums: &[u64], out: &mut [u64]) -> bool {
+    let n = text::size(at(nums, 0));
+    let v = list(nums, 1);
+    let p = list(nums, plus(2, v.len()));
+    if op == EQROOM {
+        eqroom(n, v, out);
+        return true;
+    }
+    if op == MLEROOM {
+        mleroom(n, v, p, out);
+        return true;
+    }
+    let table = text::front(out, v.len());
+    words::copy(v, table);
+    written(op, n, p, table)
+}
+
 // Answers a query on the field, or says that it is none.
-pub(crate) fn answered(line: &[u8], nums: &[u64], out: &mut [u64]) -> bool {
-    if elements(line, nums) {
+pub(crate) fn answered(op: u64, nums: &[u64], out: &mut [u64]) -> bool {
+    if elements(op, nums) {
         return true;
     }
-    if tables(line, nums, out) {
+    if tables(op, nums, out) {
         return true;
     }
-    numbered(line, nums, out)
+    numbered(op, nums, out)
 }

@@ -10,7 +10,7 @@ fn answer(line: &[u8], nums: &mut [u64], out: &mut [u64]) {
         return;
     }
     let n = text::numbers(line, nums);
-    if field::answered(line, text::first(nums, n), out) {
+    if field::answered(text::name(line), text::first(nums, n), out) {
         return;
     }
     text::print(b"? unknown query\n");

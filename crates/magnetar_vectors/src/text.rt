@@ -45,19 +45,16 @@ pub(crate) fn find(s: &[u8], from: usize, b: u8) -> usize
     s.len()
 }
 
-// Whether the line's first word is the name.
-pub(crate) fn begins(line: &[u8], name: &[u8]) -> bool {
-    if find(line, 0, b' ') != name.len() {
-        return false;
-    }
+// The line's first word as a number: its letters, the last one lowest.
+pub(crate) fn name(line: &[u8]) -> u64 {
+    let end = find(line, 0, b' ');
+    let mut v: u64 = 0;
     let mut i = 0;
-    while i < name.len() {
-        if byte(line, i) != name[i] {
-            return false;
-        }
+    while i < end {
+        v = (v << 8) | wide_byte(line[i]);
         i += 1;
     }
-    true
+    v
 }
 
 // The numbers of a line so far: how many are stored, and the one that is being read.
