@@ -57,9 +57,6 @@ const EQROOM: u64 = 0x6571726f6f6d;
 
 const MLEROOM: u64 = 0x6d6c65726f6f6d;
 
-// What stands in a lent word before a call, so that a word that was not written to is seen.
-const MARK: u64 = 0x5a5a5a5a5a5a5a5a;
-
 fn print_line(s: &[u64]) {
     print(b"= ");
     text::print_words(s);
@@ -83,7 +80,7 @@ fn print_bool(b: bool) {
 
 fn print_refusal(code: u32) {
     print(b"! ");
-    text::print_count(text::size(text::wide(code)));
+    text::print_number(text::wide(code));
     print(b"\n");
 }
 
@@ -97,7 +94,7 @@ fn print_evaluated(v: Evaluated) {
 // What a call answered, and the lent words after it.
 fn print_code(code: u32, s: &[u64]) {
     print(b"= ");
-    text::print_count(text::size(text::wide(code)));
+    text::print_number(text::wide(code));
     print(b" ");
     text::print_words(s);
     print(b"\n");
@@ -115,7 +112,7 @@ fn print_table(code: u32, p: &[u64], out: &[u64]) {
 // eqroom K P: the outcome where K words are lent for the table.
 fn eqroom(k: usize, p: &[u64], out: &mut [u64]) {
     let room = text::front(out, k);
-    text::fill(room, MARK);
+    text::fill(room, text::MARK);
     let code = EqBits::build(p, room);
     print_code(code, room);
 }
@@ -123,7 +120,7 @@ fn eqroom(k: usize, p: &[u64], out: &mut [u64]) {
 // mleroom K V P: the value where K words are lent as scratch, and these words after the call.
 fn mleroom(k: usize, v: &[u64], p: &[u64], out: &mut [u64]) {
     let room = text::front(out, k);
-    text::fill(room, MARK);
+    text::fill(room, text::MARK);
     print_evaluated(multilinear::eval_mle(v, p, room));
     print_line(room);
 }

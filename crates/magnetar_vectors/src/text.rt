@@ -1,9 +1,12 @@
-// Lines of words: numbers in, numbers out.
+// Lines of words: numbers and bytes in, numbers and bytes out.
 //
 // Every function here takes any input: what does not fit is left out, and an index that is not there reads as 0.
 ghost use Prim.Native.Nat.{_≤_};
 ghost use lib.ListN.{length};
 use libc::STDOUT_FILENO;
+
+// What stands in a lent word before a call, so that a word that was not written to is seen.
+pub(crate) const MARK: u64 = 0x5a5a5a5a5a5a5a5a;
 
 // The number at index i, or 0.
 pub(crate) fn at(s: &[u64], i: usize) -> u64 {
@@ -66,15 +69,15 @@ struct Reading {
 }
 
 // What a digit stands for, in either base.
-fn digit(c: u8) -> u64 {
+fn digit(c: u8) -> u8 {
     if c >= b'a' {
         if c <= b'f' {
-            return wide_byte(c - 87);
+            return c - 87;
         }
     }
     if c >= b'0' {
         if c <= b'9' {
-            return wide_byte(c - 48);
+            return c - 48;
         }
     }
     0
@@ -88,14 +91,10 @@ pub(crate) fn wide(c: u32) -> u64 {
     c as u64
 }
 
-// value times ten and one digit more, where it fits.
+// value times ten and one digit more, modulo 2^64.
 fn decimal_more(value: u64, d: u64) -> u64 {
-    if value < 1000000000000000000 {
-        if d < 10 {
-            return 10 * value + d;
-        }
-    }
-    0
+    let tenfold = std::num::wrapping_add_u64(value << 3, value << 1);
+    std::num::wrapping_add_u64(tenfold, d)
 }
 
 // One byte of a word of the line: `x` says that the word is in hexadecimal.
@@ -111,14 +110,14 @@ fn inside(r: Reading, c: u8) -> Reading {
     if r.hex {
         return Reading {
             count: r.count,
-            value: (r.value << 4) | digit(c),
+            value: (r.value << 4) | wide_byte(digit(c)),
             hex: true,
             open: true,
         };
     }
     Reading {
         count: r.count,
-        value: decimal_more(r.value, digit(c)),
+        value: decimal_more(r.value, wide_byte(digit(c))),
         hex: false,
         open: true,
     }
@@ -171,6 +170,169 @@ pub(crate) fn numbers(line: &[u8], nums: &mut [u64]) -> usize {
     end.count
 }
 
+fn put_byte(s: &mut [u8], i: usize, b: u8) {
+    if i < s.len() {
+        s[i] = b;
+    }
+}
+
+fn put_size(s: &mut [usize], i: usize, n: usize) {
+    if i < s.len() {
+        s[i] = n;
+    }
+}
+
+fn size_at(s: &[usize], i: usize) -> usize {
+    if i < s.len() { s[i] } else { 0 }
+}
+
+// The bytes of a line so far: how many words are read, how many bytes there are, how many of them are of the word that is
+// being read, and whether half a byte is.
+struct Decoding {
+    words: usize,
+    bytes: usize,
+    own: usize,
+    high: u8,
+    half: bool,
+    open: bool,
+}
+
+// One byte of a word of the line; a byte that is no digit says only that there is a word.
+fn decoded_digit(d: Decoding, c: u8, bytes: &mut [u8]) -> Decoding {
+    if c == b'-' {
+        return Decoding {
+            words: d.words,
+            bytes: d.bytes,
+            own: d.own,
+            high: 0,
+            half: false,
+            open: true,
+        };
+    }
+    if d.half {
+        put_byte(bytes, d.bytes, (d.high << 4) | digit(c));
+        return Decoding {
+            words: d.words,
+            bytes: plus(d.bytes, 1),
+            own: plus(d.own, 1),
+            high: 0,
+            half: false,
+            open: true,
+        };
+    }
+    Decoding {
+        words: d.words,
+        bytes: d.bytes,
+        own: d.own,
+        high: digit(c),
+        half: true,
+        open: true,
+    }
+}
+
+// The end of a word, where there is one.
+fn decoded_end(d: Decoding, lens: &mut [usize]) -> Decoding {
+    if d.open {
+        put_size(lens, d.words, d.own);
+        return Decoding {
+            words: plus(d.words, 1),
+            bytes: d.bytes,
+            own: 0,
+            high: 0,
+            half: false,
+            open: false,
+        };
+    }
+    d
+}
+
+fn decoded(d: Decoding, c: u8, bytes: &mut [u8], lens: &mut [usize]) -> Decoding {
+    if c == b' ' {
+        decoded_end(d, lens)
+    } else {
+        decoded_digit(d, c, bytes)
+    }
+}
+
+// Stores the bytes of the line's words, those after its first word, one after another, and how many each word has, and
+// answers how many words there are. A word is read as hexadecimal whether it is meant so or not.
+pub(crate) fn bytes(line: &[u8], bytes: &mut [u8], lens: &mut [usize]) -> usize {
+    let mut d = Decoding {
+        words: 0,
+        bytes: 0,
+        own: 0,
+        high: 0,
+        half: false,
+        open: false,
+    };
+    let mut i = find(line, 0, b' ');
+    while i < line.len() {
+        d = decoded(d, line[i], bytes, lens);
+        i += 1;
+    }
+    let end = decoded_end(d, lens);
+    end.words
+}
+
+// Where the bytes of word i begin.
+fn start(lens: &[usize], i: usize) -> usize {
+    let mut sum = 0;
+    let mut k = 0;
+    while k < i {
+        sum = plus(sum, size_at(lens, k));
+        k += 1;
+    }
+    sum
+}
+
+// The bytes of the words i to k - 1.
+pub(crate) fn parts<'a>(bytes: &'a [u8], lens: &[usize], i: usize, k: usize) -> &'a [u8] {
+    let from = start(lens, i);
+    let to = start(lens, k);
+    if from <= to {
+        if to <= bytes.len() {
+            return &bytes[from..to];
+        }
+    }
+    &bytes[0..0]
+}
+
+// The bytes of word i.
+pub(crate) fn part<'a>(bytes: &'a [u8], lens: &[usize], i: usize) -> &'a [u8] {
+    parts(bytes, lens, i, plus(i, 1))
+}
+
+// The sizes from i to k - 1.
+pub(crate) fn sizes(s: &[usize], i: usize, k: usize) -> &[usize] {
+    if i <= k {
+        if k <= s.len() {
+            return &s[i..k];
+        }
+    }
+    &s[0..0]
+}
+
+// Stores numbers as sizes, and answers how many.
+pub(crate) fn as_sizes(nums: &[u64], out: &mut [usize]) -> usize {
+    let mut i = 0;
+    while i < nums.len() {
+        put_size(out, i, size(nums[i]));
+        i += 1;
+    }
+    i
+}
+
+// The first 32 bytes, 0 where there are fewer.
+pub(crate) fn digest(s: &[u8]) -> [u8; 32] {
+    let mut d = [0u8; 32];
+    let mut i = 0;
+    while i < 32 {
+        d[i] = byte(s, i);
+        i += 1;
+    }
+    d
+}
+
 // The first n numbers, or all of them where there are fewer.
 pub(crate) fn first(s: &[u64], n: usize) -> &[u64] {
     if n < s.len() {
@@ -216,6 +378,15 @@ pub(crate) fn table_words(n: usize) -> usize {
     if n < 20 { 2 << n } else { 0 }
 }
 
+// Sets every byte to b.
+pub(crate) fn fill_bytes(s: &mut [u8], b: u8) {
+    let mut i = 0;
+    while i < s.len() {
+        s[i] = b;
+        i += 1;
+    }
+}
+
 // The numbers after the count at index i, as many as it says.
 pub(crate) fn list(nums: &[u64], i: usize) -> &[u64] {
     if i < nums.len() {
@@ -232,6 +403,19 @@ pub(crate) fn print(s: &[u8]) {
 
 pub(crate) fn print_count(n: usize) {
     io::print_decimal(STDOUT_FILENO, n as u64);
+}
+
+pub(crate) fn print_number(n: u64) {
+    io::print_decimal(STDOUT_FILENO, n);
+}
+
+// Two digits for each byte.
+pub(crate) fn print_bytes(s: &[u8]) {
+    let mut i = 0;
+    while i < s.len() {
+        io::print_hex(STDOUT_FILENO, wide_byte(s[i]), 2);
+        i += 1;
+    }
 }
 
 // A space and a number in hexadecimal.
