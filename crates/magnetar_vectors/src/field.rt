@@ -160,46 +160,65 @@ fn chain(a: Gf128, b: Gf128, n: u64) -> Gf128 {
     x
 }
 
+// The answer to a query on two elements, or refusal 0 where it is none.
+fn of_two(op: u64, a: Gf128, b: Gf128, n: u64) -> Evaluated {
+    if op == ADD {
+        return Evaluated::Value(gf128::add(a, b));
+    }
+    if op == MUL {
+        return Evaluated::Value(gf128::mul(a, b));
+    }
+    if op == MULBIT {
+        return Evaluated::Value(gf128::mul_bit(a, b));
+    }
+    if op == CHAIN {
+        return Evaluated::Value(chain(a, b, n));
+    }
+    Evaluated::Refused(0)
+}
+
+// The answer to a query on one element, or refusal 0 where it is none.
+fn of_one(op: u64, a: Gf128, m: u64, n: u64) -> Evaluated {
+    if op == SQUARE {
+        return Evaluated::Value(gf128::square(a));
+    }
+    if op == INV {
+        return Evaluated::Value(gf128::inv(a));
+    }
+    if op == POW {
+        return Evaluated::Value(gf128::pow(a, m, n));
+    }
+    if op == EQCHAR2 {
+        return Evaluated::Value(eq::eq_char2(a, m == 1));
+    }
+    Evaluated::Refused(0)
+}
+
+// Writes an element, or says that there is none.
+fn printed(v: Evaluated) -> bool {
+    match v {
+        Evaluated::Value(e) => {
+            print_element(e);
+            true
+        }
+        Evaluated::Refused(_) => false,
+    }
+}
+
 // Answers a query on elements, or says that it is none.
 fn elements(op: u64, nums: &[u64]) -> bool {
     let v = list(nums, 0);
     let a = words::get(v, 0);
-    let b = words::get(v, 1);
     let i = plus(1, v.len());
-    if op == ADD {
-        print_element(gf128::add(a, b));
+    let m = at(nums, i);
+    if printed(of_two(op, a, words::get(v, 1), m)) {
         return true;
     }
-    if op == MUL {
-        print_element(gf128::mul(a, b));
-        return true;
-    }
-    if op == MULBIT {
-        print_element(gf128::mul_bit(a, b));
+    if printed(of_one(op, a, m, at(nums, plus(i, 1)))) {
         return true;
     }
     if op == ISBIT {
         print_bool(gf128::is_bit(a));
-        return true;
-    }
-    if op == SQUARE {
-        print_element(gf128::square(a));
-        return true;
-    }
-    if op == INV {
-        print_element(gf128::inv(a));
-        return true;
-    }
-    if op == POW {
-        print_element(gf128::pow(a, at(nums, i), at(nums, plus(i, 1))));
-        return true;
-    }
-    if op == CHAIN {
-        print_element(chain(a, b, at(nums, i)));
-        return true;
-    }
-    if op == EQCHAR2 {
-        print_element(eq::eq_char2(a, at(nums, i) == 1));
         return true;
     }
     false
@@ -230,9 +249,8 @@ fn tables(op: u64, nums: &[u64], out: &mut [u64]) -> bool {
     false
 }
 
-// Answers a query on a table that is written to, or says that it is none. The list p is an element where one is wanted.
-fn written(op: u64, n: usize, p: &[u64], table: &mut [u64]) -> bool {
-    let r = words::get(p, 0);
+// Answers a query that binds a variable, or says that it is none.
+fn bound(op: u64, n: usize, r: Gf128, table: &mut [u64]) -> bool {
     if op == BIND {
         bind(multilinear::bind_var(table, n, r), table);
         return true;
@@ -245,22 +263,36 @@ fn written(op: u64, n: usize, p: &[u64], table: &mut [u64]) -> bool {
         print_code(multilinear::bind_var(table, n, r), table);
         return true;
     }
-    if op == GET {
-        print_element(words::get(table, n));
-        return true;
-    }
+    false
+}
+
+// Changes words as a query asks, or says that it is none.
+fn changed(op: u64, n: usize, p: &[u64], table: &mut [u64]) -> bool {
     if op == PUT {
-        words::put(table, n, r);
-        print_line(table);
+        words::put(table, n, words::get(p, 0));
         return true;
     }
     if op == CLEAR {
         words::clear(table);
-        print_line(table);
         return true;
     }
     if op == COPY {
         words::copy(p, table);
+        return true;
+    }
+    false
+}
+
+// Answers a query on words, or says that it is none. The list p is an element where one is wanted.
+fn written(op: u64, n: usize, p: &[u64], table: &mut [u64]) -> bool {
+    if bound(op, n, words::get(p, 0), table) {
+        return true;
+    }
+    if op == GET {
+        print_element(words::get(table, n));
+        return true;
+    }
+    if changed(op, n, p, table) {
         print_line(table);
         return true;
     }

@@ -183,6 +183,12 @@ fn hashes(op: u64, nums: &[u64], bytes: &[u8], lens: &[usize], sizes: &[usize]) 
         domain(first, sizes);
         return true;
     }
+    false
+}
+
+// Answers a query for a new transcript, or says that it is none.
+fn begun(op: u64, bytes: &[u8], lens: &[usize], sizes: &[usize]) -> bool {
+    let first = part(bytes, lens, 0);
     if op == NEW {
         begin(
             first,
@@ -264,6 +270,11 @@ fn drawn(op: u64, t: Transcript, label: &[u8], nums: &[u64], out: &mut [u64]) ->
         rawdrawvec(t, label, text::size(at(nums, 3)), out);
         return true;
     }
+    false
+}
+
+// Answers a query for bytes, or says that it is none.
+fn shown(op: u64, t: Transcript, nums: &[u64]) -> bool {
     if op == DIGEST {
         let d = transcript::state_digest(t);
         print_digest(&d);
@@ -297,6 +308,14 @@ pub(crate) fn answered(
     if hashes(op, nums, bytes, lens, text::sizes(sizes, 0, n)) {
         return true;
     }
+    if begun(op, bytes, lens, text::sizes(sizes, 0, n)) {
+        return true;
+    }
+    transcripts(op, nums, bytes, lens, out)
+}
+
+// Answers a query that begins with a transcript, or says that it is none.
+fn transcripts(op: u64, nums: &[u64], bytes: &[u8], lens: &[usize], out: &mut [u64]) -> bool {
     let state = text::digest(part(bytes, lens, 0));
     let t = Transcript {
         state,
@@ -306,5 +325,8 @@ pub(crate) fn answered(
     if absorbs(op, t, label, nums, part(bytes, lens, 3)) {
         return true;
     }
-    drawn(op, t, label, nums, out)
+    if drawn(op, t, label, nums, out) {
+        return true;
+    }
+    shown(op, t, nums)
 }

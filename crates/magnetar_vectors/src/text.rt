@@ -60,14 +60,6 @@ pub(crate) fn name(line: &[u8]) -> u64 {
     v
 }
 
-// The numbers of a line so far: how many are stored, and the one that is being read.
-struct Reading {
-    count: usize,
-    value: u64,
-    hex: bool,
-    open: bool,
-}
-
 // What a digit stands for, in either base.
 fn digit(c: u8) -> u8 {
     if c >= b'a' {
@@ -97,77 +89,49 @@ fn decimal_more(value: u64, d: u64) -> u64 {
     std::num::wrapping_add_u64(tenfold, d)
 }
 
-// One byte of a word of the line: `x` says that the word is in hexadecimal.
-fn inside(r: Reading, c: u8) -> Reading {
+// One letter more of a number; `x` says that it is in hexadecimal.
+fn more(v: u64, c: u8, hex: bool) -> u64 {
     if c == b'x' {
-        return Reading {
-            count: r.count,
-            value: 0,
-            hex: true,
-            open: true,
-        };
+        return 0;
     }
-    if r.hex {
-        return Reading {
-            count: r.count,
-            value: (r.value << 4) | wide_byte(digit(c)),
-            hex: true,
-            open: true,
-        };
-    }
-    Reading {
-        count: r.count,
-        value: decimal_more(r.value, wide_byte(digit(c))),
-        hex: false,
-        open: true,
-    }
-}
-
-// Stores the number that was read, where one was and there is room.
-fn stored(r: Reading, nums: &mut [u64]) -> Reading {
-    let count = r.count;
-    if r.open {
-        if count < nums.len() {
-            nums[count] = r.value;
-            return Reading {
-                count: count + 1,
-                value: 0,
-                hex: false,
-                open: false,
-            };
-        }
-    }
-    Reading {
-        count: count,
-        value: 0,
-        hex: false,
-        open: false,
-    }
-}
-
-fn fed(r: Reading, c: u8, nums: &mut [u64]) -> Reading {
-    if c == b' ' {
-        stored(r, nums)
+    let d = wide_byte(digit(c));
+    if hex {
+        (v << 4) | d
     } else {
-        inside(r, c)
+        decimal_more(v, d)
     }
+}
+
+// The number that a word spells.
+fn number(word: &[u8]) -> u64 {
+    let hex = byte(word, 1) == b'x';
+    let mut v: u64 = 0;
+    let mut i = 0;
+    while i < word.len() {
+        v = more(v, word[i], hex);
+        i += 1;
+    }
+    v
 }
 
 // Stores the numbers of the line, those after its first word, and answers how many there are.
 pub(crate) fn numbers(line: &[u8], nums: &mut [u64]) -> usize {
-    let mut r = Reading {
-        count: 0,
-        value: 0,
-        hex: false,
-        open: false,
-    };
-    let mut i = find(line, 0, b' ');
-    while i < line.len() {
-        r = fed(r, line[i], nums);
-        i += 1;
+    let mut n = 0;
+    let mut at = find(line, 0, b' ');
+    while at < line.len() {
+        let from = at + 1;
+        let to = find(line, from, b' ');
+        put_number(nums, n, number(&line[from..to]));
+        n = plus(n, 1);
+        at = to;
     }
-    let end = stored(r, nums);
-    end.count
+    n
+}
+
+fn put_number(s: &mut [u64], i: usize, n: u64) {
+    if i < s.len() {
+        s[i] = n;
+    }
 }
 
 fn put_byte(s: &mut [u8], i: usize, b: u8) {
@@ -186,92 +150,37 @@ fn size_at(s: &[usize], i: usize) -> usize {
     if i < s.len() { s[i] } else { 0 }
 }
 
-// The bytes of a line so far: how many words are read, how many bytes there are, how many of them are of the word that is
-// being read, and whether half a byte is.
-struct Decoding {
-    words: usize,
-    bytes: usize,
-    own: usize,
-    high: u8,
-    half: bool,
-    open: bool,
-}
-
-// One byte of a word of the line; a byte that is no digit says only that there is a word.
-fn decoded_digit(d: Decoding, c: u8, bytes: &mut [u8]) -> Decoding {
-    if c == b'-' {
-        return Decoding {
-            words: d.words,
-            bytes: d.bytes,
-            own: d.own,
-            high: 0,
-            half: false,
-            open: true,
-        };
+// Stores the bytes that a word spells in hexadecimal from index k on, and answers how many there are.
+fn decode(word: &[u8], bytes: &mut [u8], k: usize) -> usize {
+    let n = word.len() / 2;
+    let mut i = 0;
+    while i < n {
+        put_byte(
+            bytes,
+            plus(k, i),
+            (digit(word[2 * i]) << 4) | digit(word[2 * i + 1]),
+        );
+        i += 1;
     }
-    if d.half {
-        put_byte(bytes, d.bytes, (d.high << 4) | digit(c));
-        return Decoding {
-            words: d.words,
-            bytes: plus(d.bytes, 1),
-            own: plus(d.own, 1),
-            high: 0,
-            half: false,
-            open: true,
-        };
-    }
-    Decoding {
-        words: d.words,
-        bytes: d.bytes,
-        own: d.own,
-        high: digit(c),
-        half: true,
-        open: true,
-    }
-}
-
-// The end of a word, where there is one.
-fn decoded_end(d: Decoding, lens: &mut [usize]) -> Decoding {
-    if d.open {
-        put_size(lens, d.words, d.own);
-        return Decoding {
-            words: plus(d.words, 1),
-            bytes: d.bytes,
-            own: 0,
-            high: 0,
-            half: false,
-            open: false,
-        };
-    }
-    d
-}
-
-fn decoded(d: Decoding, c: u8, bytes: &mut [u8], lens: &mut [usize]) -> Decoding {
-    if c == b' ' {
-        decoded_end(d, lens)
-    } else {
-        decoded_digit(d, c, bytes)
-    }
+    n
 }
 
 // Stores the bytes of the line's words, those after its first word, one after another, and how many each word has, and
 // answers how many words there are. A word is read as hexadecimal whether it is meant so or not.
 pub(crate) fn bytes(line: &[u8], bytes: &mut [u8], lens: &mut [usize]) -> usize {
-    let mut d = Decoding {
-        words: 0,
-        bytes: 0,
-        own: 0,
-        high: 0,
-        half: false,
-        open: false,
-    };
-    let mut i = find(line, 0, b' ');
-    while i < line.len() {
-        d = decoded(d, line[i], bytes, lens);
-        i += 1;
+    let mut n = 0;
+    let mut used = 0;
+    let mut at = find(line, 0, b' ');
+    while at < line.len() {
+        let from = at + 1;
+        let to = find(line, from, b' ');
+        let k = decode(&line[from..to], bytes, used);
+        put_size(lens, n, k);
+        used = plus(used, k);
+        n = plus(n, 1);
+        at = to;
     }
-    let end = decoded_end(d, lens);
-    end.words
+    n
 }
 
 // Where the bytes of word i begin.

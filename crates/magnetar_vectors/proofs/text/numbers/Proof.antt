@@ -1,4 +1,4 @@
--- `magnetar_vectors::text::numbers` is safe and ends. The loop keeps this: the lent numbers keep their length, and no index passes the line.
+-- `magnetar_vectors::text::numbers` is safe and ends. The loop keeps this: the lent numbers keep their length, and the next word starts within the line.
 -- Assumes nothing.
 use Prim.Native.Nat.{_≤_, _-_}
 use mathlib.Core.Path.{_≡_}
@@ -8,10 +8,10 @@ use Rattle.magnetar_vectors.proofs.text.numbers.Statement.{statement}
 use Rattle.magnetar_vectors.proofs.text.numbers.Tie as tie
 
 abbrev Inv-loop : tie.InvT-loop
-Inv-loop line nums₀ r₀ i₀ nums r i = (length nums ≡ length nums₀) × (i ≤ length line)
+Inv-loop line nums₀ n₀ at₀ nums n at = (length nums ≡ length nums₀) × (at ≤ length line)
 
 abbrev μ-loop : tie.MeasureT-loop
-μ-loop line nums₀ r₀ i₀ nums r i = length line - i
+μ-loop line nums₀ n₀ at₀ nums n at = length line - at
 
 find-requires : tie.Need-find-requires Inv-loop μ-loop
 find-requires c κs = search needs
@@ -19,23 +19,35 @@ find-requires c κs = search needs
 loop-holds : tie.Need-loop-holds Inv-loop μ-loop
 loop-holds c = search needs
 
-shared-slice-read-fed : tie.Need-shared-slice-read-fed Inv-loop μ-loop
-shared-slice-read-fed c = search needs
+add-from : tie.Need-add-from Inv-loop μ-loop
+add-from c = search needs
 
-fed-requires : tie.Need-fed-requires Inv-loop μ-loop
-fed-requires c κs = search needs
+find-requires-2 : tie.Need-find-requires-2 Inv-loop μ-loop
+find-requires-2 c κs = search needs
 
-add-i : tie.Need-add-i Inv-loop μ-loop
-add-i c = search needs
+sub-number : tie.Need-sub-number Inv-loop μ-loop
+sub-number c = search needs
+
+part-number-start : tie.Need-part-number-start Inv-loop μ-loop
+part-number-start c = search needs
+
+part-number-end : tie.Need-part-number-end Inv-loop μ-loop
+part-number-end c = search needs
+
+number-requires : tie.Need-number-requires Inv-loop μ-loop
+number-requires c κs = search needs
+
+put-number-requires : tie.Need-put-number-requires Inv-loop μ-loop
+put-number-requires c κs = search needs
+
+plus-requires : tie.Need-plus-requires Inv-loop μ-loop
+plus-requires c κs = search needs
 
 loop-less : tie.Need-loop-less Inv-loop μ-loop
 loop-less c = search needs
 
 loop-again : tie.Need-loop-again Inv-loop μ-loop
 loop-again c = search needs
-
-stored-requires : tie.Need-stored-requires Inv-loop μ-loop
-stored-requires c κs = search needs
 
 same-length : tie.Need-same-length Inv-loop μ-loop
 same-length c = search needs
@@ -51,11 +63,15 @@ numbers-spec =
     μ-loop
     find-requires
     loop-holds
-    shared-slice-read-fed
-    fed-requires
-    add-i
+    add-from
+    find-requires-2
+    sub-number
+    part-number-start
+    part-number-end
+    number-requires
+    put-number-requires
+    plus-requires
     loop-less
     loop-again
-    stored-requires
     same-length
     returns)
