@@ -1,0 +1,6 @@
+pub mod Hom
+pub mod Verifier
+pub mod Tables
+pub mod Pairs
+pub mod EqPairs
+pub mod OuterRound
