@@ -5,7 +5,7 @@ use mathlib.Core.List.{List, [], _∷_, _++_, map, append-nil}
 use Prim.Native.Nat.{ℕ, zero, suc, _+_, _-_, _^_, _≤_, _<_}
 use native.Mathlib.Nat.{two-pow-succ, pow-zero, zero-add}
 use native.Mathlib.Omega.{arith}
-use lib.ListN.{length, getD, take, drop, length-take, length-drop, take-append-drop, List·getD-append}
+use lib.ListN.{length, getD, take, drop, length-append, length-take, length-drop, take-append-drop, List·getD-append}
 use lib.Seq.{getD-append-add, length-take-le, drop-cons}
 use Rattle.magnetar_field.specs.Multilinear.{insertZero}
 use Rattle.magnetar_theory.specs.Field.{Field, Laws}
@@ -19,6 +19,9 @@ use Rattle.magnetar_sumcheck.proofs.Pairs.{next-high, next-low, next-to
 -- a list without its entry v
 abbrev pub without : {A : Type 0} → ℕ → List A → List A
 without v t = take v t ++ drop (suc v) t
+
+pub length-without : {A : Type 0} (v n : ℕ) (t : List A) → length t ≡ suc n → v < suc n → length (without v t) ≡ n
+length-without v n t l h = length-append (take v t) (drop (suc v) t) ∙ omega (arith, length-take v t, length-drop (suc v) t)
 
 module _ (F : Field) (L : Laws F) where
   open Field F using (K, 𝟎, 𝟏, _⊕_, _⊗_)
@@ -89,5 +92,3 @@ module _ (F : Field) (L : Laws F) where
   eq-pair₁ (suc s) n p i l h = rw (next-high s n, next-top n i h, without-last p n l)
       (ap₂ (λ (t : List K) (m : ℕ). getD (eqTable F t) (2 ^ m + i) 𝟎) (last-split p n l) (sym (length-take-le n p (omega arith))) ∙ top-one (take n p) (getD p n 𝟎) i)
 
-  pub length-without : (v n : ℕ) (t : List K) → length t ≡ suc n → v < suc n → length (without v t) ≡ n
-  length-without v n t l h = ?

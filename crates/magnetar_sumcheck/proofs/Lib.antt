@@ -4,3 +4,4 @@ pub mod Tables
 pub mod Pairs
 pub mod EqPairs
 pub mod OuterRound
+pub mod OuterRun

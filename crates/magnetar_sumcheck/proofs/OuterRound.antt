@@ -80,6 +80,10 @@ module _ (F : Field) where
         p₃ : k ⊗ z ⊕ k ⊗ w ≡ k ⊗ (z ⊕ w)
         p₃ = simp (ring, L .laws)
 
+    -- the weight's line at r
+    pub weight-line : (k t e r : K) → lineAt F r (k ⊗ ((𝟏 ⊕ t) ⊗ e)) (k ⊗ (t ⊗ e)) ≡ k ⊗ (𝟏 ⊕ t ⊕ r) ⊗ e
+    weight-line k t e r = simp (ring, L .laws, lineAt)
+
     one-sum : (x : K) → x ≡ x ⊕ 𝟎
     one-sum x = simp (ring, L .laws)
 

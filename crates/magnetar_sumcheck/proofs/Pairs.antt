@@ -1,4 +1,4 @@
--- The theory's pairs of cells and bound tables, entry by entry.
+-- The theory's pairs of cells, entry by entry.
 use mathlib.Core.Path.{_≡_, refl, sym, ap, ap₂, _∙_}
 use mathlib.Core.List.{List, [], _∷_, _++_, map}
 use Prim.Native.Nat.{ℕ, zero, suc, _+_, _-_, _^_, _≤_, _<_}
@@ -9,15 +9,18 @@ use lib.Seq.{getD-take, getD-drop}
 use Rattle.magnetar_field.specs.Tabulate.{tabulate}
 use Rattle.magnetar_field.specs.Multilinear.{insertZero}
 use Rattle.magnetar_theory.specs.Field.{Field}
-use Rattle.magnetar_theory.specs.Table.{Cells, lowPairs, pairUp, pairs, mixAll}
-use Rattle.magnetar_theory.specs.Cells.{lineAt}
-use Rattle.magnetar_theory.specs.EqTable.{bindLow, mixLists, bindNext}
+use Rattle.magnetar_theory.specs.Table.{Cells, lowPairs, pairUp, pairs}
 use Rattle.magnetar_sumcheck.specs.Order.{nextVar}
 use Rattle.magnetar_sumcheck.proofs.Tables.{tabulate-ext, insert-low, insert-top}
 
 pub next-high : (s n : ℕ) → nextVar (suc s) (suc n) ≡ n
 unfolding nextVar
 next-high s n = omega arith
+
+-- of n variables that are left s are high ones and b low ones; where no high ones are left, nothing is said of b
+abbrev pub Left : ℕ → ℕ → ℕ → Type 0
+Left zero b n = Unit {0}
+Left (suc s) b n = suc s + b ≡ n
 
 -- the place of pair i's entry where the next variable is 1
 pub next-low : (i : ℕ) → insertZero 0 i + 2 ^ 0 ≡ suc (i + i)
@@ -85,7 +88,7 @@ module _ (F : Field) (X : Cells F) where
   up-pairs (x ∷ s) (y ∷ t) (suc n) l k = ap (λ (r : List (C × C)). (x, y) ∷ r) (up-pairs s t n (omega arith) (omega arith))
 
   -- the pairs of the next variable, of suc n that are left
-  pub pairs-are : (s b n : ℕ) (t : List C) → s + b ≡ suc n → length t ≡ 2 ^ suc n
+  pub pairs-are : (s b n : ℕ) (t : List C) → Left s b (suc n) → length t ≡ 2 ^ suc n
     → pairs F X s b t ≡ tabulate (pairAt none (λ (x y : C). (x, y)) (nextVar s (suc n)) t) (2 ^ n)
   unfolding nextVar
   pairs-are zero b n t e l = low-pairs t (2 ^ n) (l ∙ two-pow-succ n) ∙ sym (by-low none (λ (x y : C). (x, y)) t (2 ^ n))
@@ -93,42 +96,6 @@ module _ (F : Field) (X : Cells F) where
       ap (λ (k : ℕ). pairUp F X (take (2 ^ k) t) (drop (2 ^ k) t)) same
       ∙ up-pairs (take (2 ^ n) t) (drop (2 ^ n) t) (2 ^ n) (half-take t n l) (half-drop t n l)
       ∙ sym (by-top none (λ (x y : C). (x, y)) t n l) ∙ ap (λ (v : ℕ). tabulate (pairAt none (λ (x y : C). (x, y)) v t) (2 ^ n)) (sym (next-high s n))
-    where
-      same : s + b ≡ n
-      same = omega arith
-
-module _ (F : Field) where
-  open Field F using (K, 𝟎)
-
-  low-bound : (r : K) (t : List K) (n : ℕ) → length t ≡ n + n → bindLow F r t ≡ tabulate (byLow 𝟎 (lineAt F r) t) n
-  unfolding tabulate
-  low-bound r [] zero l = refl
-  low-bound r [] (suc n) l = absurd (omega arith)
-  low-bound r (x ∷ []) zero l = absurd (omega arith)
-  low-bound r (x ∷ []) (suc n) l = absurd (omega arith)
-  low-bound r (x ∷ y ∷ t) zero l = absurd (omega arith)
-  low-bound r (x ∷ y ∷ t) (suc n) l = ap (λ (m : List K). lineAt F r x y ∷ m) (low-bound r t n (omega arith)) ∙ sym (low-cons 𝟎 (lineAt F r) x y t n)
-
-  up-bound : (r : K) (s t : List K) (n : ℕ) → length s ≡ n → length t ≡ n → mixLists F r s t ≡ tabulate (byTwo 𝟎 (lineAt F r) s t) n
-  unfolding tabulate
-  up-bound r [] [] zero l k = refl
-  up-bound r [] [] (suc n) l k = absurd (omega arith)
-  up-bound r [] (y ∷ t) zero l k = absurd (omega arith)
-  up-bound r [] (y ∷ t) (suc n) l k = absurd (omega arith)
-  up-bound r (x ∷ s) [] zero l k = absurd (omega arith)
-  up-bound r (x ∷ s) [] (suc n) l k = absurd (omega arith)
-  up-bound r (x ∷ s) (y ∷ t) zero l k = absurd (omega arith)
-  up-bound r (x ∷ s) (y ∷ t) (suc n) l k = ap (λ (m : List K). lineAt F r x y ∷ m) (up-bound r s t n (omega arith) (omega arith))
-
-  -- a table with the next variable bound
-  pub bound-is : (s b n : ℕ) (r : K) (t : List K) → s + b ≡ suc n → length t ≡ 2 ^ suc n
-    → bindNext F s b r t ≡ tabulate (pairAt 𝟎 (lineAt F r) (nextVar s (suc n)) t) (2 ^ n)
-  unfolding nextVar
-  bound-is zero b n r t e l = low-bound r t (2 ^ n) (l ∙ two-pow-succ n) ∙ sym (by-low 𝟎 (lineAt F r) t (2 ^ n))
-  bound-is (suc s) b n r t e l =
-      ap (λ (k : ℕ). mixLists F r (take (2 ^ k) t) (drop (2 ^ k) t)) same
-      ∙ up-bound r (take (2 ^ n) t) (drop (2 ^ n) t) (2 ^ n) (half-take t n l) (half-drop t n l)
-      ∙ sym (by-top 𝟎 (lineAt F r) t n l) ∙ ap (λ (v : ℕ). tabulate (pairAt 𝟎 (lineAt F r) v t) (2 ^ n)) (sym (next-high s n))
     where
       same : s + b ≡ n
       same = omega arith
