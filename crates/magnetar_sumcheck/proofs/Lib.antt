@@ -5,3 +5,4 @@ pub mod Pairs
 pub mod EqPairs
 pub mod OuterRound
 pub mod OuterRun
+pub mod InnerRun
