@@ -6,3 +6,4 @@ pub mod EqPairs
 pub mod OuterRound
 pub mod OuterRun
 pub mod InnerRun
+pub mod Steps

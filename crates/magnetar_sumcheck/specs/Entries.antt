@@ -21,10 +21,22 @@ outerRefusal out e a b c v =
     refuse 11 (not (isTable v a)) (refuse 11 (not (eqb b a)) (refuse 11 (not (eqb c a)) (refuse 11 (not (eqb e (a / 2)))
     (refuse 15 (ltb out 8) 0))))
 
+abbrev pub outerOut : List ℕ → List ℕ → List ℕ → List ℕ → List ℕ → ℕ → ℕ → ℕ → List ℕ
+outerOut out e a b c v k t =
+    unlessRefused (outerRefusal (length out) (length e) (length a) (length b) (length c) v)
+    (words (outerMessage v k t (elements e) (elements a) (elements b) (elements c)) ++ drop 8 out) out
+
 -- ---- `inner_message`: output out, tables t, z, variable v
 unfoldable pub innerRefusal : ℕ → ℕ → ℕ → ℕ → ℕ
 innerRefusal out t z v = refuse 11 (not (isTable v t)) (refuse 11 (not (eqb z t)) (refuse 15 (ltb out 6) 0))
 
+abbrev pub innerOut : List ℕ → List ℕ → List ℕ → ℕ → List ℕ
+innerOut out t z v =
+    unlessRefused (innerRefusal (length out) (length t) (length z) v) (words (innerMessage v (elements t) (elements z)) ++ drop 6 out) out
+
 -- ---- `drop_var`: table t, variable v
 unfoldable pub dropRefusal : ℕ → ℕ → ℕ
 dropRefusal t v = refuse 11 (not (isTable v t)) 0
+
+abbrev pub dropOut : List ℕ → ℕ → List ℕ
+dropOut t v = unlessRefused (dropRefusal (length t) v) (words (dropVar v (elements t)) ++ drop (length t / 2) t) t

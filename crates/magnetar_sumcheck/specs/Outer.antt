@@ -23,6 +23,10 @@ coefficient₁ v a b c i = at₀ v a i ⊗ slope v b i ⊕ slope v a i ⊗ at₀
 unfoldable pub coefficient₂ : ℕ → List ℕ → List ℕ → ℕ → ℕ
 coefficient₂ v a b i = slope v a i ⊗ slope v b i
 
+-- its value at X = 1
+unfoldable pub atOne : ℕ → List ℕ → List ℕ → List ℕ → ℕ → ℕ
+atOne v a b c i = at₁ v a i ⊗ at₁ v b i ⊕ at₁ v c i
+
 -- the sum over the pairs, pair i weighted by e_i
 unfoldable pub weighted : List ℕ → (ℕ → ℕ) → ℕ → ℕ
 weighted e f n = sumTo (λ i. getD e i 0 ⊗ f i) n
