@@ -4,8 +4,10 @@ use mathlib.Core.List.{List, [], _∷_, map}
 use Prim.Native.Nat.{ℕ, zero, suc, _+_, _-_, _/_, _^_, _≤_, _<_}
 use native.Mathlib.Nat.{two-pow-succ}
 use native.Mathlib.Omega.{arith}
+use lib.Seq.{ext-getD}
 use lib.ListN.{length, getD, length-map}
 use lib.Pow.{pow-pos}
+use Rattle.magnetar_field.proofs.Tabulation.{tabulate-ext, tabulate-length, tabulate-get}
 use Rattle.magnetar_field.specs.Gf128.{_⊕_, _⊗_}
 use Rattle.magnetar_field.specs.Tabulate.{tabulate}
 use Rattle.magnetar_field.specs.Multilinear.{line, insertZero, bindVar}
@@ -22,7 +24,7 @@ use Rattle.magnetar_sumcheck.specs.Order.{nextVar, at₀, at₁, slope}
 use Rattle.magnetar_sumcheck.specs.Inner.{innerSums, innerMessage}
 use Rattle.magnetar_sumcheck.specs.Messages.{innerMessages}
 use Rattle.magnetar_sumcheck.proofs.Hom.{element-line}
-use Rattle.magnetar_sumcheck.proofs.Tables.{tabulate-ext, length-tabulate, getD-tabulate, list-ext, getD-map}
+use Rattle.magnetar_sumcheck.proofs.Tables.{getD-map}
 use Rattle.magnetar_sumcheck.proofs.Pairs.{pairs-are}
 use Rattle.magnetar_sumcheck.proofs.OuterRound.{sumF}
 use Rattle.magnetar_sumcheck.proofs.OuterRun.{element-sum}
@@ -83,7 +85,7 @@ element-slope t i = element-⊕ (at₀ 0 t i) (at₁ 0 t i)
 
 length-bound : (n r : ℕ) (t : List ℕ) → length t ≡ 2 ^ suc n → length (bindVar 0 r t) ≡ 2 ^ n
 unfolding bindVar
-length-bound n r t h = length-tabulate _ (length t / 2) ∙ half n t h
+length-bound n r t h = tabulate-length _ (length t / 2) ∙ half n t h
 
 element-bound : (n r : ℕ) (t : List ℕ) (i : ℕ) → length t ≡ 2 ^ suc n → i < 2 ^ n → getD (els (bindVar 0 r t)) i (element 0) ≡ lineAt gf128 (element r) (lo t i) (hi t i)
 unfolding lo hi
@@ -92,7 +94,7 @@ element-bound n r t i h k = getD-map element (bindVar 0 r t) i 0 ∙ ap element 
     small : i < length t / 2
     small = rw (half n t h) k
     at-i : getD (bindVar 0 r t) i 0 ≡ line r (at₀ 0 t i) (at₁ 0 t i)
-    at-i = unfold bindVar at₀ at₁ in getD-tabulate (λ i. line r (getD t (insertZero 0 i) 0) (getD t (insertZero 0 i + 2 ^ 0) 0)) (length t / 2) i 0 small
+    at-i = unfold bindVar at₀ at₁ in tabulate-get (λ i. line r (getD t (insertZero 0 i) 0) (getD t (insertZero 0 i + 2 ^ 0) 0)) (length t / 2) i 0 small
 
 module _ (b n : ℕ) (t z : List ℕ) (lt : length t ≡ 2 ^ suc n) (lz : length z ≡ 2 ^ suc n) where
   same : length (els z) ≡ length (els t)
@@ -131,8 +133,8 @@ module _ (b n : ℕ) (t z : List ℕ) (lt : length t ≡ 2 ^ suc n) (lz : length
   -- the fold binds the state's lowest variable
   pub fold-is : (r : ℕ) → mixAll gf128 (innerCells gf128) (element r) (pairs gf128 (innerCells gf128) 0 b (zipInner gf128 (els t) (els z))) ≡ zipInner gf128 (els (bindVar 0 r t)) (els (bindVar 0 r z))
   fold-is r = ap (mixAll gf128 (innerCells gf128) (element r)) pairs-of ∙ mixed (element r) pairOf (2 ^ n)
-      ∙ list-ext (tabulate cell (2 ^ n)) after (innerCells gf128 .none) (length-tabulate cell (2 ^ n) ∙ sym (length-zip (els (bindVar 0 r t)) (els (bindVar 0 r z)) sizes ∙ count t lt))
-          (λ i h. getD-tabulate cell (2 ^ n) i (innerCells gf128 .none) (rw (length-tabulate cell (2 ^ n)) at h) ∙ entry i (rw (length-tabulate cell (2 ^ n)) at h) ∙ sym (getD-zip (els (bindVar 0 r t)) (els (bindVar 0 r z)) i sizes))
+      ∙ ext-getD (innerCells gf128 .none) (tabulate cell (2 ^ n)) after (tabulate-length cell (2 ^ n) ∙ sym (length-zip (els (bindVar 0 r t)) (els (bindVar 0 r z)) sizes ∙ count t lt))
+          (λ i h. tabulate-get cell (2 ^ n) i (innerCells gf128 .none) (rw (tabulate-length cell (2 ^ n)) at h) ∙ entry i (rw (tabulate-length cell (2 ^ n)) at h) ∙ sym (getD-zip (els (bindVar 0 r t)) (els (bindVar 0 r z)) i sizes))
     where
       cell : ℕ → InnerCell gf128
       cell i = innerCells gf128 .mix (element r) (pairOf i .0) (pairOf i .1)

@@ -7,3 +7,5 @@ pub mod OuterRound
 pub mod OuterRun
 pub mod InnerRun
 pub mod Steps
+pub mod Message
+pub mod Refusals

@@ -7,8 +7,10 @@ use Prim.Native.Nat.{ℕ, zero, suc, _+_, _-_, _*_, _/_, _%_, _^_, _≤_, _<_}
 use native.Mathlib.Nat.{two-pow-succ, zero-add}
 use native.Mathlib.Omega.{arith}
 use lib.Dec.{eqb}
+use lib.Seq.{ext-getD}
 use lib.ListN.{length, getD, take, drop, length-map}
 use lib.Pow.{pow-pos}
+use Rattle.magnetar_field.proofs.Tabulation.{tabulate-ext, tabulate-length, tabulate-get}
 use Rattle.magnetar_field.specs.Gf128.{_⊕_, _⊗_}
 use Rattle.magnetar_field.specs.Tabulate.{tabulate}
 use Rattle.magnetar_field.specs.EqTable.{eqFactor, odd, eqAt, eqTable}
@@ -29,7 +31,7 @@ use Rattle.magnetar_sumcheck.specs.Order.{nextVar, fewer, at₀, at₁, 
 use Rattle.magnetar_sumcheck.specs.Outer.{coefficient₀, coefficient₁, coefficient₂, weighted, timesEq, outerMessage, dropVar}
 use Rattle.magnetar_sumcheck.specs.Messages.{Outer, outerVar, outerTau, outerNext, outerFold, outerStart, outerMessages}
 use Rattle.magnetar_sumcheck.proofs.Hom.{element-line}
-use Rattle.magnetar_sumcheck.proofs.Tables.{tabulate-ext, length-tabulate, getD-tabulate, list-ext, getD-map}
+use Rattle.magnetar_sumcheck.proofs.Tables.{getD-map}
 use Rattle.magnetar_sumcheck.proofs.Pairs.{Left, pairAt, pairs-are}
 use Rattle.magnetar_sumcheck.proofs.EqPairs.{without, getD-scale, eq-pair₀, eq-pair₁, length-without}
 use Rattle.magnetar_sumcheck.proofs.OuterRound.{sumF, timesEqF, outerPair, q₀, q₁, q₂, outer-poly, weight-line}
@@ -51,12 +53,12 @@ element-eqAt (x ∷ p) i = element-⊗ (eqFactor x (odd i)) (eqAt p (i / 2)) ∙
 
 pub element-eqTable : (p : List ℕ) → els (eqTable p) ≡ eqTableE gf128 (els p)
 unfolding eqTable
-element-eqTable p = list-ext (els (tabulate (eqAt p) (2 ^ length p))) (eqTableE gf128 (els p)) (element 0) sizes
-    (λ i h. getD-map element (tabulate (eqAt p) (2 ^ length p)) i 0 ∙ ap element (getD-tabulate (eqAt p) (2 ^ length p) i 0 (small i h))
+element-eqTable p = ext-getD (element 0) (els (tabulate (eqAt p) (2 ^ length p))) (eqTableE gf128 (els p)) sizes
+    (λ i h. getD-map element (tabulate (eqAt p) (2 ^ length p)) i 0 ∙ ap element (tabulate-get (eqAt p) (2 ^ length p) i 0 (small i h))
       ∙ element-eqAt p i ∙ sym (eq-index gf128 gf128Laws (els p) i (rw (length-map p element) (small i h))))
   where
     count : length (els (tabulate (eqAt p) (2 ^ length p))) ≡ 2 ^ length p
-    count = length-map (tabulate (eqAt p) (2 ^ length p)) element ∙ length-tabulate (eqAt p) (2 ^ length p)
+    count = length-map (tabulate (eqAt p) (2 ^ length p)) element ∙ tabulate-length (eqAt p) (2 ^ length p)
     sizes : length (els (tabulate (eqAt p) (2 ^ length p))) ≡ length (eqTableE gf128 (els p))
     sizes = count ∙ ap (λ (n : ℕ). 2 ^ n) (sym (length-map p element)) ∙ sym (length-eqTable gf128 gf128Laws (els p))
     small : (i : ℕ) → i < length (els (tabulate (eqAt p) (2 ^ length p))) → i < 2 ^ length p
@@ -220,14 +222,14 @@ module _ (S : Outer) (T : State gf128 (outerCells gf128)) (C : Stands S T) (n : 
 
   dropped : (i : ℕ) → i < 2 ^ n → element (getD (dropVar (outerVar S) (S .e)) i 0) ≡ rest i
   unfolding dropVar rest lo hi tau v
-  dropped i h = ap element (getD-tabulate (slope (outerVar S) (S .e)) (length (S .e) / 2) i 0 (rw (half (S .e) size-e) h)) ∙ element-slope (S .e) i
+  dropped i h = ap element (tabulate-get (slope (outerVar S) (S .e)) (length (S .e) / 2) i 0 (rw (half (S .e) size-e) h)) ∙ element-slope (S .e) i
       ∙ ap₂ sum (ap (λ (t : List Element). getD t (insertZero (nextVar (S .high) (suc n)) i) (element 0)) (C .eq) ∙ eq-pair₀ gf128 gf128Laws (S .high) n (els (S .tau)) i (length-map (S .tau) element ∙ left) h)
                 (ap (λ (t : List Element). getD t (insertZero (nextVar (S .high) (suc n)) i + 2 ^ nextVar (S .high) (suc n)) (element 0)) (C .eq) ∙ eq-pair₁ gf128 gf128Laws (S .high) n (els (S .tau)) i (length-map (S .tau) element ∙ left) h)
       ∙ both-halves tau (rest i)
 
   length-dropped : length (dropVar (outerVar S) (S .e)) ≡ 2 ^ n
   unfolding dropVar
-  length-dropped = length-tabulate (slope (outerVar S) (S .e)) (length (S .e) / 2) ∙ half (S .e) size-e
+  length-dropped = tabulate-length (slope (outerVar S) (S .e)) (length (S .e) / 2) ∙ half (S .e) size-e
 
   -- ---- the message
   element-first : (i : ℕ) → element (coefficient₀ (outerVar S) (S .a) (S .b) (S .c) i) ≡ sum (product (lo (S .a) i) (lo (S .b) i)) (lo (S .c) i)
@@ -290,7 +292,7 @@ module _ (S : Outer) (T : State gf128 (outerCells gf128)) (C : Stands S T) (n : 
   -- ---- the fold
   length-bound : (r : ℕ) (t : List ℕ) → length t ≡ 2 ^ length (S .tau) → length (bindVar (outerVar S) r t) ≡ 2 ^ n
   unfolding bindVar
-  length-bound r t h = length-tabulate _ (length t / 2) ∙ half t (h ∙ ap (λ (m : ℕ). 2 ^ m) left)
+  length-bound r t h = tabulate-length _ (length t / 2) ∙ half t (h ∙ ap (λ (m : ℕ). 2 ^ m) left)
 
   element-bound : (r : ℕ) (t : List ℕ) (i : ℕ) → length t ≡ 2 ^ length (S .tau) → i < 2 ^ n
     → getD (els (bindVar (outerVar S) r t)) i (element 0) ≡ lineAt gf128 (element r) (lo t i) (hi t i)
@@ -300,7 +302,7 @@ module _ (S : Outer) (T : State gf128 (outerCells gf128)) (C : Stands S T) (n : 
       small : i < length t / 2
       small = rw (half t (h ∙ ap (λ (m : ℕ). 2 ^ m) left)) k
       at-i : getD (bindVar (outerVar S) r t) i 0 ≡ line r (at₀ (outerVar S) t i) (at₁ (outerVar S) t i)
-      at-i = unfold bindVar at₀ at₁ in getD-tabulate (λ i. line r (getD t (insertZero (outerVar S) i) 0) (getD t (insertZero (outerVar S) i + 2 ^ outerVar S) 0)) (length t / 2) i 0 small
+      at-i = unfold bindVar at₀ at₁ in tabulate-get (λ i. line r (getD t (insertZero (outerVar S) i) 0) (getD t (insertZero (outerVar S) i + 2 ^ outerVar S) 0)) (length t / 2) i 0 small
 
   mixed : (r : Element) (g : ℕ → OuterCell gf128 × OuterCell gf128) (m : ℕ) → mixAll gf128 (outerCells gf128) r (tabulate g m) ≡ tabulate (λ i. outerCells gf128 .mix r (g i .0) (g i .1)) m
   unfolding tabulate
@@ -323,7 +325,7 @@ module _ (S : Outer) (T : State gf128 (outerCells gf128)) (C : Stands S T) (n : 
 
   eq-rest : els (dropVar (outerVar S) (S .e)) ≡ eqTableE gf128 (without (nextVar (S .high) (suc n)) (els (S .tau)))
   unfolding rest v
-  eq-rest = list-ext (els (dropVar (outerVar S) (S .e))) (eqTableE gf128 (without (nextVar (S .high) (suc n)) (els (S .tau)))) (element 0) (count ∙ sym count-rest)
+  eq-rest = ext-getD (element 0) (els (dropVar (outerVar S) (S .e))) (eqTableE gf128 (without (nextVar (S .high) (suc n)) (els (S .tau)))) (count ∙ sym count-rest)
       (λ i h. getD-map element (dropVar (outerVar S) (S .e)) i 0 ∙ dropped i (rw count at h))
     where
       count : length (els (dropVar (outerVar S) (S .e))) ≡ 2 ^ n
@@ -351,8 +353,8 @@ module _ (S : Outer) (T : State gf128 (outerCells gf128)) (C : Stands S T) (n : 
   cells-after : (r : ℕ) → mixAll gf128 (outerCells gf128) (element r) (pairs gf128 (outerCells gf128) (T .tops) (T .rows) (T .cells)) ≡ zip-after r
   unfolding zip-after
   cells-after r = ap (mixAll gf128 (outerCells gf128) (element r)) pairs-of ∙ mixed (element r) pairOf (2 ^ n)
-      ∙ list-ext (tabulate cell (2 ^ n)) (zip-after r) (outerCells gf128 .none) (length-tabulate cell (2 ^ n) ∙ sym zip-size)
-          (λ i h. getD-tabulate cell (2 ^ n) i (outerCells gf128 .none) (rw (length-tabulate cell (2 ^ n)) at h) ∙ same i (rw (length-tabulate cell (2 ^ n)) at h) ∙ sym (entry i))
+      ∙ ext-getD (outerCells gf128 .none) (tabulate cell (2 ^ n)) (zip-after r) (tabulate-length cell (2 ^ n) ∙ sym zip-size)
+          (λ i h. tabulate-get cell (2 ^ n) i (outerCells gf128 .none) (rw (tabulate-length cell (2 ^ n)) at h) ∙ same i (rw (tabulate-length cell (2 ^ n)) at h) ∙ sym (entry i))
     where
       cell : ℕ → OuterCell gf128
       cell i = outerCells gf128 .mix (element r) (pairOf i .0) (pairOf i .1)

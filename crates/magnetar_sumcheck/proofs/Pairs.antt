@@ -6,12 +6,13 @@ use native.Mathlib.Nat.{two-pow-succ, pow-zero}
 use native.Mathlib.Omega.{arith}
 use lib.ListN.{length, getD, take, drop, length-take, length-drop}
 use lib.Seq.{getD-take, getD-drop}
+use Rattle.magnetar_field.proofs.Tabulation.{tabulate-ext}
 use Rattle.magnetar_field.specs.Tabulate.{tabulate}
 use Rattle.magnetar_field.specs.Multilinear.{insertZero}
 use Rattle.magnetar_theory.specs.Field.{Field}
 use Rattle.magnetar_theory.specs.Table.{Cells, lowPairs, pairUp, pairs}
 use Rattle.magnetar_sumcheck.specs.Order.{nextVar}
-use Rattle.magnetar_sumcheck.proofs.Tables.{tabulate-ext, insert-low, insert-top}
+use Rattle.magnetar_sumcheck.proofs.Tables.{insert-low, insert-top}
 
 pub next-high : (s n : ℕ) → nextVar (suc s) (suc n) ≡ n
 unfolding nextVar

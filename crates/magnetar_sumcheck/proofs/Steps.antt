@@ -42,7 +42,7 @@ pub sum-zero : (f : ℕ → ℕ) → sumTo f 0 ≡ 0
 unfolding sumTo
 sum-zero f = refl
 
-sum-add : (f g : ℕ → ℕ) (n : ℕ) → sumTo (λ i. f i ⊕ g i) n ≡ sumTo f n ⊕ sumTo g n
+pub sum-add : (f g : ℕ → ℕ) (n : ℕ) → sumTo (λ i. f i ⊕ g i) n ≡ sumTo f n ⊕ sumTo g n
 unfolding sumTo
 sum-add f g zero = sym (simp xor)
 sum-add f g (suc n) = ap (λ (x : ℕ). x ⊕ (f n ⊕ g n)) (sum-add f g n) ∙ swap (sumTo f n) (sumTo g n) (f n) (g n)
@@ -50,7 +50,7 @@ sum-add f g (suc n) = ap (λ (x : ℕ). x ⊕ (f n ⊕ g n)) (sum-add f g n) ∙
     swap : (a b c d : ℕ) → a ⊕ b ⊕ (c ⊕ d) ≡ a ⊕ c ⊕ (b ⊕ d)
     swap a b c d = simp xor
 
-sum-same : (f g : ℕ → ℕ) (n : ℕ) → ((i : ℕ) → f i ≡ g i) → sumTo f n ≡ sumTo g n
+pub sum-same : (f g : ℕ → ℕ) (n : ℕ) → ((i : ℕ) → f i ≡ g i) → sumTo f n ≡ sumTo g n
 unfolding sumTo
 sum-same f g zero h = refl
 sum-same f g (suc n) h = ap₂ _⊕_ (sum-same f g n h) (h n)
@@ -75,6 +75,21 @@ outer-more v i lo hi e a b c s t h l k p q r = triple
     (one-more (λ j. getD e j 0 ⊗ coefficient₀ v a b c j) i (ap (λ (m : List ℕ). getD m 0 0) h) (rw l at p))
     (one-more (λ j. getD e j 0 ⊗ atOne v a b c j) i (ap (λ (m : List ℕ). getD m 1 0) h) (rw k at q))
     (one-more (λ j. getD e j 0 ⊗ coefficient₂ v a b j) i (ap (λ (m : List ℕ). getD m 2 0) h) (rw (l, k) at r))
+
+pub inner-start : (v : ℕ) (t z : List ℕ) (s : Sums) → value (s .zero) ≡ 0 → value (s .one) ≡ 0 → value (s .top) ≡ 0 → sums s ≡ innerSumsAt v t z 0
+unfolding sums innerSumsAt sumTo
+inner-start v t z s p q r = triple p q r
+
+pub inner-more : (v i lo hi : ℕ) (t z : List ℕ) (s u : Sums) → sums s ≡ innerSumsAt v t z i → lo ≡ insertZero v i → hi ≡ insertZero v i + 2 ^ v
+    → value (u .zero) ≡ value (s .zero) ⊕ getD t lo 0 ⊗ getD z lo 0
+    → value (u .one) ≡ value (s .one) ⊕ getD t hi 0 ⊗ getD z hi 0
+    → value (u .top) ≡ value (s .top) ⊕ (getD t lo 0 ⊕ getD t hi 0) ⊗ (getD z lo 0 ⊕ getD z hi 0)
+    → sums u ≡ innerSumsAt v t z (i + 1)
+unfolding sums innerSumsAt slope at₀ at₁
+inner-more v i lo hi t z s u h l k p q r = triple
+    (one-more (λ j. at₀ v t j ⊗ at₀ v z j) i (ap (λ (m : List ℕ). getD m 0 0) h) (rw l at p))
+    (one-more (λ j. at₁ v t j ⊗ at₁ v z j) i (ap (λ (m : List ℕ). getD m 1 0) h) (rw k at q))
+    (one-more (λ j. slope v t j ⊗ slope v z j) i (ap (λ (m : List ℕ). getD m 2 0) h) (rw (l, k) at r))
 
 -- what holds where a loop is over, of all n
 pub at-end : {A : Type 0} (f : ℕ → A) (x : A) (i n : ℕ) → n ≤ i → i ≤ n → x ≡ f i → x ≡ f n
