@@ -9,3 +9,4 @@ pub mod InnerRun
 pub mod Steps
 pub mod Message
 pub mod Refusals
+pub mod Horner

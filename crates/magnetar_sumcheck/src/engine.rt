@@ -16,7 +16,7 @@ ghost use Rattle.magnetar_field.specs.Gf128.{value, _⊕_, _⊗_};
 ghost use Rattle.magnetar_field.specs.Polynomial.{eval};
 ghost use Rattle.magnetar_field.specs.Words.{elements, words};
 ghost use Rattle.magnetar_field.specs.Multilinear.{insertZero};
-ghost use Rattle.magnetar_sumcheck.specs.Round.{holds, nextClaim};
+ghost use Rattle.magnetar_sumcheck.specs.Round.{checkSum, holds, nextClaim};
 ghost use Rattle.magnetar_sumcheck.specs.Outer.{timesEq, outerEnd};
 ghost use Rattle.magnetar_sumcheck.specs.Inner.{innerEnd};
 ghost use Rattle.magnetar_sumcheck.specs.Sums.{sums, outerSums, innerSumsAt};
@@ -319,4 +319,87 @@ pub fn inner_message(out: &mut [u64], t: &[u64], z: &[u64], v: usize) -> u32
     let s = inner_sums(t, z, v, t.len() / 4);
     put_inner(out, s);
     0
+}
+
+// ---- The verifier.
+
+// What a round leaves: whether the message was right, and the running claim.
+pub struct Round {
+    pub holds: bool,
+    pub claim: Gf128,
+}
+
+// Whether two elements are the same.
+fn same(a: Gf128, b: Gf128) -> bool
+    ensures { λ r. ⌜ r ≡ eqb (value a) (value b) ⌝ }
+{
+    if a.hi != b.hi {
+        return false;
+    }
+    a.lo == b.lo
+}
+
+// The sum of the coefficients but the first: the message's value at 0 plus its value at 1.
+fn check_sum(msg: &[u64]) -> Gf128
+    ensures { λ r. ⌜ value r ≡ checkSum (elements (now (msg .entry))) ⌝ }
+{
+    let mut acc = Gf128 { lo: 0, hi: 0 };
+    let mut i = msg.len() / 2;
+    while i > 1 {
+        i -= 1;
+        acc = gf128::add(words::get(msg, i), acc);
+    }
+    acc
+}
+
+// Whether the message is right for the running claim.
+pub fn sum_holds(msg: &[u64], claim: Gf128) -> bool
+    ensures { λ r. ⌜ r ≡ holds (elements (now (msg .entry))) (value claim) ⌝ }
+{
+    same(check_sum(msg), claim)
+}
+
+// The message's value at r: the next running claim. A product for each coefficient.
+pub fn eval_message(msg: &[u64], r: Gf128) -> Gf128
+    ensures { λ o. ⌜ value o ≡ eval (elements (now (msg .entry))) (value r) ⌝ }
+{
+    let mut acc = Gf128 { lo: 0, hi: 0 };
+    let mut i = msg.len() / 2;
+    while i > 0 {
+        i -= 1;
+        acc = multiply_add(words::get(msg, i), r, acc);
+    }
+    acc
+}
+
+// A round with the challenge r from outside: the check, and the next running claim. A wrong message leaves the claim.
+pub fn round_external(msg: &[u64], claim: Gf128, r: Gf128) -> Round
+    ensures holds { λ o. ⌜ o .holds ≡ holds (elements (now (msg .entry))) (value claim) ⌝ }
+    ensures claim { λ o. ⌜ value (o .claim) ≡ nextClaim (value claim) (elements (now (msg .entry))) (value r) ⌝ }
+{
+    if sum_holds(msg, claim) {
+        let next = eval_message(msg, r);
+        return Round {
+            holds: true,
+            claim: next,
+        };
+    }
+    Round {
+        holds: false,
+        claim: claim,
+    }
+}
+
+// The terminal identity of the outer sum-check: the running claim is e (a b + c), with eq(tau, r) for e. Two products.
+pub fn outer_finish(running: Gf128, e: Gf128, a: Gf128, b: Gf128, c: Gf128) -> bool
+    ensures { λ r. ⌜ r ≡ eqb (outerEnd (value e) (value a) (value b) (value c)) (value running) ⌝ }
+{
+    same(gf128::mul(e, multiply_add(c, a, b)), running)
+}
+
+// The terminal identity of the inner sum-check: the running claim is t z. One product.
+pub fn inner_finish(running: Gf128, t: Gf128, z: Gf128) -> bool
+    ensures { λ r. ⌜ r ≡ eqb (innerEnd (value t) (value z)) (value running) ⌝ }
+{
+    same(gf128::mul(t, z), running)
 }
