@@ -25,9 +25,9 @@ length-without v n t l h = length-append (take v t) (drop (suc v) t) ∙ omega (
 
 module _ (F : Field) (L : Laws F) where
   open Field F using (K, 𝟎, 𝟏, _⊕_, _⊗_)
+
   infixl 60 _⊕_
   infixl 70 _⊗_
-
   zero-product : (k : K) → 𝟎 ≡ k ⊗ 𝟎
   zero-product k = simp (ring, L .laws)
 
@@ -77,7 +77,7 @@ module _ (F : Field) (L : Laws F) where
       nil (x ∷ t) h = absurd (omega arith)
 
   pub eq-pair₀ : (s n : ℕ) (p : List K) (i : ℕ) → length p ≡ suc n → i < 2 ^ n
-    → getD (eqTable F p) (insertZero (nextVar s (suc n)) i) 𝟎 ≡ (𝟏 ⊕ getD p (nextVar s (suc n)) 𝟎) ⊗ getD (eqTable F (without (nextVar s (suc n)) p)) i 𝟎
+      → getD (eqTable F p) (insertZero (nextVar s (suc n)) i) 𝟎 ≡ (𝟏 ⊕ getD p (nextVar s (suc n)) 𝟎) ⊗ getD (eqTable F (without (nextVar s (suc n)) p)) i 𝟎
   unfolding nextVar
   eq-pair₀ zero n [] i l h = absurd (omega arith)
   eq-pair₀ zero n (x ∷ p) i l h = ap (λ (j : ℕ). getD (eqTable F (x ∷ p)) j 𝟎) (insert-low i) ∙ spread-even x (eqTable F p) i
@@ -85,10 +85,9 @@ module _ (F : Field) (L : Laws F) where
       (ap (λ (t : List K). getD (eqTable F t) i 𝟎) (last-split p n l) ∙ top-zero (take n p) (getD p n 𝟎) i (rw (length-take-le n p (omega arith)) h))
 
   pub eq-pair₁ : (s n : ℕ) (p : List K) (i : ℕ) → length p ≡ suc n → i < 2 ^ n
-    → getD (eqTable F p) (insertZero (nextVar s (suc n)) i + 2 ^ nextVar s (suc n)) 𝟎 ≡ getD p (nextVar s (suc n)) 𝟎 ⊗ getD (eqTable F (without (nextVar s (suc n)) p)) i 𝟎
+      → getD (eqTable F p) (insertZero (nextVar s (suc n)) i + 2 ^ nextVar s (suc n)) 𝟎 ≡ getD p (nextVar s (suc n)) 𝟎 ⊗ getD (eqTable F (without (nextVar s (suc n)) p)) i 𝟎
   unfolding nextVar
   eq-pair₁ zero n [] i l h = absurd (omega arith)
   eq-pair₁ zero n (x ∷ p) i l h = ap (λ (j : ℕ). getD (eqTable F (x ∷ p)) j 𝟎) (next-low i) ∙ spread-odd x (eqTable F p) i
   eq-pair₁ (suc s) n p i l h = rw (next-high s n, next-top n i h, without-last p n l)
       (ap₂ (λ (t : List K) (m : ℕ). getD (eqTable F t) (2 ^ m + i) 𝟎) (last-split p n l) (sym (length-take-le n p (omega arith))) ∙ top-one (take n p) (getD p n 𝟎) i)
-

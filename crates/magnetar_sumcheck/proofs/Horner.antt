@@ -43,11 +43,11 @@ summed-start m n e = record { within = omega arith; above = omega arith; is = ap
 
 pub summed-more : (m : List ℕ) (i acc x y : ℕ) → Summed m i acc → 1 < i → x ≡ getD m (i - 1) 0 → y ≡ x ⊕ acc → Summed m (i - 1) y
 unfolding total
-summed-more m i acc x y s h p q = record
-  { within = omega (arith, s .within)
-  ; above = omega (arith, s .within)
-  ; is = q ∙ ap₂ _⊕_ p (s .is) ∙ sym (ap total (drop-cons m (i - 1) 0 (omega (arith, s .within)) ∙ ap (λ (k : ℕ). getD m (i - 1) 0 ∷ drop k m) back))
-  }
+summed-more m i acc x y s h p q = record {
+  within = omega (arith, s .within);
+  above = omega (arith, s .within);
+  is = q ∙ ap₂ _⊕_ p (s .is) ∙ sym (ap total (drop-cons m (i - 1) 0 (omega (arith, s .within)) ∙ ap (λ (k : ℕ). getD m (i - 1) 0 ∷ drop k m) back));
+}
   where
     back : suc (i - 1) ≡ i
     back = omega arith
@@ -71,10 +71,10 @@ evaluated-start m r n e = record { within = omega arith; is = ap (λ (l : List �
 
 pub evaluated-more : (m : List ℕ) (r i acc x y : ℕ) → Evaluated m r i acc → 0 < i → x ≡ getD m (i - 1) 0 → y ≡ x ⊕ r ⊗ acc → Evaluated m r (i - 1) y
 unfolding eval
-evaluated-more m r i acc x y s h p q = record
-  { within = omega (arith, s .within)
-  ; is = q ∙ ap₂ (λ (a b : ℕ). a ⊕ r ⊗ b) p (s .is) ∙ sym (ap (λ (l : List ℕ). eval l r) (drop-cons m (i - 1) 0 (omega (arith, s .within)) ∙ ap (λ (k : ℕ). getD m (i - 1) 0 ∷ drop k m) back))
-  }
+evaluated-more m r i acc x y s h p q = record {
+  within = omega (arith, s .within);
+  is = q ∙ ap₂ (λ (a b : ℕ). a ⊕ r ⊗ b) p (s .is) ∙ sym (ap (λ (l : List ℕ). eval l r) (drop-cons m (i - 1) 0 (omega (arith, s .within)) ∙ ap (λ (k : ℕ). getD m (i - 1) 0 ∷ drop k m) back));
+}
   where
     back : suc (i - 1) ≡ i
     back = omega arith

@@ -35,9 +35,9 @@ els t = map element t
 -- ---- the polynomial, over any field
 module _ (F : Field) (L : Laws F) where
   open Field F using (K, 𝟎, 𝟏, _⊕_, _⊗_)
+
   infixl 60 _⊕_
   infixl 70 _⊗_
-
   one-sum : (x : K) → x ≡ x ⊕ 𝟎
   one-sum x = simp (ring, L .laws)
 
@@ -45,7 +45,7 @@ module _ (F : Field) (L : Laws F) where
   innerPair t₀ t₁ z₀ z₁ i = (record { t = t₀ i; z = z₀ i }, record { t = t₁ i; z = z₁ i })
 
   pub inner-poly : (n : ℕ) (t₀ t₁ z₀ z₁ : ℕ → K) → polyAll F (innerCells F) (tabulate (innerPair t₀ t₁ z₀ z₁) (suc n))
-    ≡ sumF F (λ i. t₀ i ⊗ z₀ i) (suc n) ∷ sumF F (λ i. t₀ i ⊗ (z₀ i ⊕ z₁ i) ⊕ (t₀ i ⊕ t₁ i) ⊗ z₀ i) (suc n) ∷ sumF F (λ i. (t₀ i ⊕ t₁ i) ⊗ (z₀ i ⊕ z₁ i)) (suc n) ∷ []
+      ≡ sumF F (λ i. t₀ i ⊗ z₀ i) (suc n) ∷ sumF F (λ i. t₀ i ⊗ (z₀ i ⊕ z₁ i) ⊕ (t₀ i ⊕ t₁ i) ⊗ z₀ i) (suc n) ∷ sumF F (λ i. (t₀ i ⊕ t₁ i) ⊗ (z₀ i ⊕ z₁ i)) (suc n) ∷ []
   unfolding tabulate
   inner-poly zero t₀ t₁ z₀ z₁ = λ i. one-sum (t₀ 0 ⊗ z₀ 0) i ∷ one-sum (t₀ 0 ⊗ (z₀ 0 ⊕ z₁ 0) ⊕ (t₀ 0 ⊕ t₁ 0) ⊗ z₀ 0) i ∷ one-sum ((t₀ 0 ⊕ t₁ 0) ⊗ (z₀ 0 ⊕ z₁ 0)) i ∷ []
   inner-poly (suc n) t₀ t₁ z₀ z₁ = ap (addPoly F (innerCells F .line (record { t = t₀ 0; z = z₀ 0 }) (record { t = t₁ 0; z = z₁ 0 })))
@@ -93,6 +93,7 @@ element-bound n r t i h k = getD-map element (bindVar 0 r t) i 0 ∙ ap element 
   where
     small : i < length t / 2
     small = rw (half n t h) k
+
     at-i : getD (bindVar 0 r t) i 0 ≡ line r (at₀ 0 t i) (at₁ 0 t i)
     at-i = unfold bindVar at₀ at₁ in tabulate-get (λ i. line r (getD t (insertZero 0 i) 0) (getD t (insertZero 0 i + 2 ^ 0) 0)) (length t / 2) i 0 small
 
@@ -119,31 +120,38 @@ module _ (b n : ℕ) (t z : List ℕ) (lt : length t ≡ 2 ^ suc n) (lz : length
     where
       c₀ : element (sumTo (λ i. at₀ 0 t i ⊗ at₀ 0 z i) (2 ^ n)) ≡ sumF gf128 (λ i. product (lo t i) (lo z i)) (2 ^ n)
       c₀ = unfold lo in element-sum (λ i. at₀ 0 t i ⊗ at₀ 0 z i) (λ i. product (lo t i) (lo z i)) (2 ^ n) (λ i h. element-⊗ (at₀ 0 t i) (at₀ 0 z i))
+
       c₁ : element (sumTo (λ i. at₀ 0 t i ⊗ slope 0 z i ⊕ slope 0 t i ⊗ at₀ 0 z i) (2 ^ n)) ≡ sumF gf128 (λ i. sum (product (lo t i) (sum (lo z i) (hi z i))) (product (sum (lo t i) (hi t i)) (lo z i))) (2 ^ n)
       c₁ = unfold lo in element-sum (λ i. at₀ 0 t i ⊗ slope 0 z i ⊕ slope 0 t i ⊗ at₀ 0 z i) (λ i. sum (product (lo t i) (sum (lo z i) (hi z i))) (product (sum (lo t i) (hi t i)) (lo z i))) (2 ^ n)
           (λ i h. element-⊕ (at₀ 0 t i ⊗ slope 0 z i) (slope 0 t i ⊗ at₀ 0 z i)
-            ∙ ap₂ sum (element-⊗ (at₀ 0 t i) (slope 0 z i) ∙ ap (product (lo t i)) (element-slope z i)) (element-⊗ (slope 0 t i) (at₀ 0 z i) ∙ ap (λ (w : Element). product w (lo z i)) (element-slope t i)))
+          ∙ ap₂ sum (element-⊗ (at₀ 0 t i) (slope 0 z i) ∙ ap (product (lo t i)) (element-slope z i)) (element-⊗ (slope 0 t i) (at₀ 0 z i) ∙ ap (λ (w : Element). product w (lo z i)) (element-slope t i)))
+
       c₂ : element (sumTo (λ i. slope 0 t i ⊗ slope 0 z i) (2 ^ n)) ≡ sumF gf128 (λ i. product (sum (lo t i) (hi t i)) (sum (lo z i) (hi z i))) (2 ^ n)
       c₂ = element-sum (λ i. slope 0 t i ⊗ slope 0 z i) (λ i. product (sum (lo t i) (hi t i)) (sum (lo z i) (hi z i))) (2 ^ n)
           (λ i h. element-⊗ (slope 0 t i) (slope 0 z i) ∙ ap₂ product (element-slope t i) (element-slope z i))
+
       poly : (m k : ℕ) → k ≡ suc m → polyAll gf128 (innerCells gf128) (tabulate pairOf k)
-        ≡ sumF gf128 (λ i. product (lo t i) (lo z i)) k ∷ sumF gf128 (λ i. sum (product (lo t i) (sum (lo z i) (hi z i))) (product (sum (lo t i) (hi t i)) (lo z i))) k ∷ sumF gf128 (λ i. product (sum (lo t i) (hi t i)) (sum (lo z i) (hi z i))) k ∷ []
+          ≡ sumF gf128 (λ i. product (lo t i) (lo z i)) k ∷ sumF gf128 (λ i. sum (product (lo t i) (sum (lo z i) (hi z i))) (product (sum (lo t i) (hi t i)) (lo z i))) k ∷ sumF gf128 (λ i. product (sum (lo t i) (hi t i)) (sum (lo z i) (hi z i))) k ∷ []
       poly m k e = rw e (inner-poly gf128 gf128Laws m (lo t) (hi t) (lo z) (hi z))
 
   -- the fold binds the state's lowest variable
   pub fold-is : (r : ℕ) → mixAll gf128 (innerCells gf128) (element r) (pairs gf128 (innerCells gf128) 0 b (zipInner gf128 (els t) (els z))) ≡ zipInner gf128 (els (bindVar 0 r t)) (els (bindVar 0 r z))
   fold-is r = ap (mixAll gf128 (innerCells gf128) (element r)) pairs-of ∙ mixed (element r) pairOf (2 ^ n)
       ∙ ext-getD (innerCells gf128 .none) (tabulate cell (2 ^ n)) after (tabulate-length cell (2 ^ n) ∙ sym (length-zip (els (bindVar 0 r t)) (els (bindVar 0 r z)) sizes ∙ count t lt))
-          (λ i h. tabulate-get cell (2 ^ n) i (innerCells gf128 .none) (rw (tabulate-length cell (2 ^ n)) at h) ∙ entry i (rw (tabulate-length cell (2 ^ n)) at h) ∙ sym (getD-zip (els (bindVar 0 r t)) (els (bindVar 0 r z)) i sizes))
+      (λ i h. tabulate-get cell (2 ^ n) i (innerCells gf128 .none) (rw (tabulate-length cell (2 ^ n)) at h) ∙ entry i (rw (tabulate-length cell (2 ^ n)) at h) ∙ sym (getD-zip (els (bindVar 0 r t)) (els (bindVar 0 r z)) i sizes))
     where
       cell : ℕ → InnerCell gf128
       cell i = innerCells gf128 .mix (element r) (pairOf i .0) (pairOf i .1)
+
       after : List (InnerCell gf128)
       after = zipInner gf128 (els (bindVar 0 r t)) (els (bindVar 0 r z))
+
       count : (u : List ℕ) → length u ≡ 2 ^ suc n → length (els (bindVar 0 r u)) ≡ 2 ^ n
       count u h = length-map (bindVar 0 r u) element ∙ length-bound n r u h
+
       sizes : length (els (bindVar 0 r z)) ≡ length (els (bindVar 0 r t))
       sizes = count z lz ∙ sym (count t lt)
+
       entry : (i : ℕ) → i < 2 ^ n → cell i ≡ record { t = getD (els (bindVar 0 r t)) i (element 0); z = getD (els (bindVar 0 r z)) i (element 0) }
       entry i h = λ j. record { t = sym (element-bound n r t i lt h) j; z = sym (element-bound n r z i lz h) j }
 
@@ -155,4 +163,4 @@ messages-are b [] t z n h lt lz = refl
 messages-are b (r ∷ rs) t z zero h lt lz = absurd (omega arith)
 messages-are b (r ∷ rs) t z (suc n) h lt lz = ap₂ _∷_ (next-is b n t z lt lz)
     (messages-are b rs (bindVar 0 r t) (bindVar 0 r z) n (omega arith) (length-bound n r t lt) (length-bound n r z lz)
-     ∙ ap (λ (c : List (InnerCell gf128)). honest gf128 (tableRounds gf128 (innerCells gf128)) (record { tops = 0; rows = b; cells = c }) (els rs)) (sym (fold-is b n t z lt lz r)))
+    ∙ ap (λ (c : List (InnerCell gf128)). honest gf128 (tableRounds gf128 (innerCells gf128)) (record { tops = 0; rows = b; cells = c }) (els rs)) (sym (fold-is b n t z lt lz r)))

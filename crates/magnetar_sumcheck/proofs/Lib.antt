@@ -10,3 +10,4 @@ pub mod Steps
 pub mod Message
 pub mod Refusals
 pub mod Horner
+pub mod EqFactor

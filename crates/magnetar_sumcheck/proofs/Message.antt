@@ -37,8 +37,10 @@ outer-middle v n e a b c = sum-three _ _ _ _ n one
   where
     spread : (e x y z : ℕ) → e ⊗ (x ⊕ y ⊕ z) ≡ e ⊗ x ⊕ e ⊗ y ⊕ e ⊗ z
     spread e x y z = simp (⊗-⊕)
+
     middle : (i : ℕ) → coefficient₁ v a b c i ≡ coefficient₀ v a b c i ⊕ atOne v a b c i ⊕ coefficient₂ v a b i
     middle i = unfold coefficient₀ coefficient₁ coefficient₂ atOne slope in karatsuba (at₀ v a i) (at₁ v a i) (at₀ v b i) (at₁ v b i) (at₀ v c i) (at₁ v c i)
+
     one : (i : ℕ) → getD e i 0 ⊗ coefficient₁ v a b c i ≡ getD e i 0 ⊗ coefficient₀ v a b c i ⊕ getD e i 0 ⊗ atOne v a b c i ⊕ getD e i 0 ⊗ coefficient₂ v a b i
     one i = ap (λ (x : ℕ). getD e i 0 ⊗ x) (middle i) ∙ spread (getD e i 0) (coefficient₀ v a b c i) (atOne v a b c i) (coefficient₂ v a b i)
 
@@ -49,14 +51,18 @@ outer-message-is v k t n e a b c s l h = go
   where
     q₀ : value (s .zero) ≡ weighted e (coefficient₀ v a b c) (length e)
     q₀ = ap (λ (m : List ℕ). getD m 0 0) h ∙ ap (weighted e (coefficient₀ v a b c)) l
+
     at-one : value (s .one) ≡ weighted e (atOne v a b c) (length e)
     at-one = ap (λ (m : List ℕ). getD m 1 0) h ∙ ap (weighted e (atOne v a b c)) l
+
     q₂ : value (s .top) ≡ weighted e (coefficient₂ v a b) (length e)
     q₂ = ap (λ (m : List ℕ). getD m 2 0) h ∙ ap (weighted e (coefficient₂ v a b)) l
+
     q₁ : value (s .zero) ⊕ value (s .one) ⊕ value (s .top) ≡ weighted e (coefficient₁ v a b c) (length e)
     q₁ = (λ i. q₀ i ⊕ at-one i ⊕ q₂ i) ∙ sym (outer-middle v (length e) e a b c)
+
     go : timesEq k t (value (s .zero)) (value (s .zero) ⊕ value (s .one) ⊕ value (s .top)) (value (s .top))
-      ≡ timesEq k t (weighted e (coefficient₀ v a b c) (length e)) (weighted e (coefficient₁ v a b c) (length e)) (weighted e (coefficient₂ v a b) (length e))
+        ≡ timesEq k t (weighted e (coefficient₀ v a b c) (length e)) (weighted e (coefficient₁ v a b c) (length e)) (weighted e (coefficient₂ v a b) (length e))
     go = λ i. timesEq k t (q₀ i) (q₁ i) (q₂ i)
 
 inner-middle : (t₀ t₁ z₀ z₁ : ℕ) → t₀ ⊗ (z₀ ⊕ z₁) ⊕ (t₀ ⊕ t₁) ⊗ z₀ ≡ t₀ ⊗ z₀ ⊕ t₁ ⊗ z₁ ⊕ (t₀ ⊕ t₁) ⊗ (z₀ ⊕ z₁)
@@ -69,14 +75,19 @@ inner-message-is v n t z s l h = go (length t / 2) l
   where
     q₀ : value (s .zero) ≡ sumTo (λ i. at₀ v t i ⊗ at₀ v z i) n
     q₀ = ap (λ (m : List ℕ). getD m 0 0) h
+
     at-one : value (s .one) ≡ sumTo (λ i. at₁ v t i ⊗ at₁ v z i) n
     at-one = ap (λ (m : List ℕ). getD m 1 0) h
+
     q₂ : value (s .top) ≡ sumTo (λ i. slope v t i ⊗ slope v z i) n
     q₂ = ap (λ (m : List ℕ). getD m 2 0) h
+
     middle : (i : ℕ) → at₀ v t i ⊗ slope v z i ⊕ slope v t i ⊗ at₀ v z i ≡ at₀ v t i ⊗ at₀ v z i ⊕ at₁ v t i ⊗ at₁ v z i ⊕ slope v t i ⊗ slope v z i
     middle i = unfold slope in inner-middle (at₀ v t i) (at₁ v t i) (at₀ v z i) (at₁ v z i)
+
     q₁ : value (s .zero) ⊕ value (s .one) ⊕ value (s .top) ≡ sumTo (λ i. at₀ v t i ⊗ slope v z i ⊕ slope v t i ⊗ at₀ v z i) n
     q₁ = (λ i. q₀ i ⊕ at-one i ⊕ q₂ i) ∙ sym (sum-three _ _ _ _ n middle)
+
     go : (m : ℕ) → n ≡ m → _≡_ {A = List ℕ} (value (s .zero) ∷ (value (s .zero) ⊕ value (s .one) ⊕ value (s .top)) ∷ value (s .top) ∷ []) (innerSums v t z m)
     go m e = (λ i. q₀ i ∷ q₁ i ∷ q₂ i ∷ []) ∙ ap (innerSums v t z) e
 
@@ -106,16 +117,21 @@ stored-next n xs out s v l h e = rw e (rw (lt-ltb n (length (words xs ++ drop (2
   where
     count : length (words xs) ≡ 2 * n
     count = words-length xs ∙ ap (λ (k : ℕ). 2 * k) l
+
     room : n < length (words xs ++ drop (2 * n) out) / 2
     room = omega (arith, length-append (words xs) (drop (2 * n) out), length-drop (2 * n) out, count)
+
     after : suc (suc (2 * n)) ≡ 2 * n + 2
     after = omega arith
+
     next : suc (2 * n) ≡ 2 * n + 1
     next = omega arith
+
     two : drop (2 * n) out ≡ getD out (2 * n) 0 ∷ getD out (suc (2 * n)) 0 ∷ drop (2 * n + 2) out
     two = drop-cons out (2 * n) 0 (omega arith) ∙ ap (λ (r : List ℕ). getD out (2 * n) 0 ∷ r) (drop-cons out (suc (2 * n)) 0 (omega arith) ∙ ap (λ (k : ℕ). getD out (suc (2 * n)) 0 ∷ drop k out) after)
+
     places : set (set (words xs ++ (getD out (2 * n) 0 ∷ getD out (suc (2 * n)) 0 ∷ drop (2 * n + 2) out)) (2 * n) (v % 2 ^ 64)) (2 * n + 1) (v / 2 ^ 64)
-      ≡ words xs ++ (v % 2 ^ 64 ∷ v / 2 ^ 64 ∷ drop (2 * n + 2) out)
+        ≡ words xs ++ (v % 2 ^ 64 ∷ v / 2 ^ 64 ∷ drop (2 * n + 2) out)
     places = rw (← next, ← count) (set-pair (words xs) (getD out (length (words xs)) 0) (getD out (suc (length (words xs))) 0) (drop (length (words xs) + 2) out) (v % 2 ^ 64) (v / 2 ^ 64))
 
 pub put-four : (out : List ℕ) (a b c d : ℕ) → 8 ≤ length out → stored (stored (stored (stored out 0 a) 1 b) 2 c) 3 d ≡ words (a ∷ b ∷ c ∷ d ∷ []) ++ drop 8 out

@@ -55,12 +55,14 @@ pub element-eqTable : (p : List ℕ) → els (eqTable p) ≡ eqTableE gf128 (els
 unfolding eqTable
 element-eqTable p = ext-getD (element 0) (els (tabulate (eqAt p) (2 ^ length p))) (eqTableE gf128 (els p)) sizes
     (λ i h. getD-map element (tabulate (eqAt p) (2 ^ length p)) i 0 ∙ ap element (tabulate-get (eqAt p) (2 ^ length p) i 0 (small i h))
-      ∙ element-eqAt p i ∙ sym (eq-index gf128 gf128Laws (els p) i (rw (length-map p element) (small i h))))
+    ∙ element-eqAt p i ∙ sym (eq-index gf128 gf128Laws (els p) i (rw (length-map p element) (small i h))))
   where
     count : length (els (tabulate (eqAt p) (2 ^ length p))) ≡ 2 ^ length p
     count = length-map (tabulate (eqAt p) (2 ^ length p)) element ∙ tabulate-length (eqAt p) (2 ^ length p)
+
     sizes : length (els (tabulate (eqAt p) (2 ^ length p))) ≡ length (eqTableE gf128 (els p))
     sizes = count ∙ ap (λ (n : ℕ). 2 ^ n) (sym (length-map p element)) ∙ sym (length-eqTable gf128 gf128Laws (els p))
+
     small : (i : ℕ) → i < length (els (tabulate (eqAt p) (2 ^ length p))) → i < 2 ^ length p
     small i h = rw count at h
 
@@ -164,7 +166,7 @@ module _ (S : Outer) (T : State gf128 (outerCells gf128)) (C : Stands S T) (n : 
   pairOf i = outerPair gf128 (element (S .k)) tau rest (lo (S .a)) (hi (S .a)) (lo (S .b)) (hi (S .b)) (lo (S .c)) (hi (S .c)) i
 
   cells-at : (j : ℕ) → getD (T .cells) j (outerCells gf128 .none)
-    ≡ record { a = getD (els (S .a)) j (element 0); b = getD (els (S .b)) j (element 0); c = getD (els (S .c)) j (element 0); e = getD weights j (element 0) }
+      ≡ record { a = getD (els (S .a)) j (element 0); b = getD (els (S .b)) j (element 0); c = getD (els (S .c)) j (element 0); e = getD weights j (element 0) }
   unfolding weights
   cells-at j = ap (λ (t : List (OuterCell gf128)). getD t j (outerCells gf128 .none)) (C .cells)
       ∙ getD-zip (els (S .a)) (els (S .b)) (els (S .c)) weights j (size (S .b) (C .size-b) ∙ sym (size (S .a) (C .size-a))) (size (S .c) (C .size-c) ∙ sym (size (S .a) (C .size-a))) (length-weights ∙ sym (size (S .a) (C .size-a)))
@@ -191,6 +193,7 @@ module _ (S : Outer) (T : State gf128 (outerCells gf128)) (C : Stands S T) (n : 
     where
       full₀ : (i : ℕ) → i < 2 ^ n → getD (T .cells) (insertZero (nextVar (S .high) (suc n)) i) (outerCells gf128 .none) ≡ pairOf i .0
       full₀ i h = cells-at (insertZero (nextVar (S .high) (suc n)) i) ∙ (λ j. record { a = lo (S .a) i; b = lo (S .b) i; c = lo (S .c) i; e = weight₀ i h j })
+
       full₁ : (i : ℕ) → i < 2 ^ n → getD (T .cells) (insertZero (nextVar (S .high) (suc n)) i + 2 ^ nextVar (S .high) (suc n)) (outerCells gf128 .none) ≡ pairOf i .1
       full₁ i h = cells-at (insertZero (nextVar (S .high) (suc n)) i + 2 ^ nextVar (S .high) (suc n)) ∙ (λ j. record { a = hi (S .a) i; b = hi (S .b) i; c = hi (S .c) i; e = weight₁ i h j })
 
@@ -224,7 +227,7 @@ module _ (S : Outer) (T : State gf128 (outerCells gf128)) (C : Stands S T) (n : 
   unfolding dropVar rest lo hi tau v
   dropped i h = ap element (tabulate-get (slope (outerVar S) (S .e)) (length (S .e) / 2) i 0 (rw (half (S .e) size-e) h)) ∙ element-slope (S .e) i
       ∙ ap₂ sum (ap (λ (t : List Element). getD t (insertZero (nextVar (S .high) (suc n)) i) (element 0)) (C .eq) ∙ eq-pair₀ gf128 gf128Laws (S .high) n (els (S .tau)) i (length-map (S .tau) element ∙ left) h)
-                (ap (λ (t : List Element). getD t (insertZero (nextVar (S .high) (suc n)) i + 2 ^ nextVar (S .high) (suc n)) (element 0)) (C .eq) ∙ eq-pair₁ gf128 gf128Laws (S .high) n (els (S .tau)) i (length-map (S .tau) element ∙ left) h)
+      (ap (λ (t : List Element). getD t (insertZero (nextVar (S .high) (suc n)) i + 2 ^ nextVar (S .high) (suc n)) (element 0)) (C .eq) ∙ eq-pair₁ gf128 gf128Laws (S .high) n (els (S .tau)) i (length-map (S .tau) element ∙ left) h)
       ∙ both-halves tau (rest i)
 
   length-dropped : length (dropVar (outerVar S) (S .e)) ≡ 2 ^ n
@@ -238,24 +241,24 @@ module _ (S : Outer) (T : State gf128 (outerCells gf128)) (C : Stands S T) (n : 
       ∙ ap₂ sum (element-⊗ (at₀ (outerVar S) (S .a) i) (at₀ (outerVar S) (S .b) i) ∙ ap₂ product (element-at₀ (S .a) i) (element-at₀ (S .b) i)) (element-at₀ (S .c) i)
 
   element-second : (i : ℕ) → element (coefficient₁ (outerVar S) (S .a) (S .b) (S .c) i)
-    ≡ sum (sum (product (lo (S .a) i) (sum (lo (S .b) i) (hi (S .b) i))) (product (sum (lo (S .a) i) (hi (S .a) i)) (lo (S .b) i))) (sum (lo (S .c) i) (hi (S .c) i))
+      ≡ sum (sum (product (lo (S .a) i) (sum (lo (S .b) i) (hi (S .b) i))) (product (sum (lo (S .a) i) (hi (S .a) i)) (lo (S .b) i))) (sum (lo (S .c) i) (hi (S .c) i))
   unfolding coefficient₁
   element-second i = element-⊕ (at₀ (outerVar S) (S .a) i ⊗ slope (outerVar S) (S .b) i ⊕ slope (outerVar S) (S .a) i ⊗ at₀ (outerVar S) (S .b) i) (slope (outerVar S) (S .c) i)
       ∙ ap₂ sum (element-⊕ (at₀ (outerVar S) (S .a) i ⊗ slope (outerVar S) (S .b) i) (slope (outerVar S) (S .a) i ⊗ at₀ (outerVar S) (S .b) i)
-          ∙ ap₂ sum (element-⊗ (at₀ (outerVar S) (S .a) i) (slope (outerVar S) (S .b) i) ∙ ap₂ product (element-at₀ (S .a) i) (element-slope (S .b) i))
-                    (element-⊗ (slope (outerVar S) (S .a) i) (at₀ (outerVar S) (S .b) i) ∙ ap₂ product (element-slope (S .a) i) (element-at₀ (S .b) i)))
-          (element-slope (S .c) i)
+      ∙ ap₂ sum (element-⊗ (at₀ (outerVar S) (S .a) i) (slope (outerVar S) (S .b) i) ∙ ap₂ product (element-at₀ (S .a) i) (element-slope (S .b) i))
+      (element-⊗ (slope (outerVar S) (S .a) i) (at₀ (outerVar S) (S .b) i) ∙ ap₂ product (element-slope (S .a) i) (element-at₀ (S .b) i)))
+      (element-slope (S .c) i)
 
   element-third : (i : ℕ) → element (coefficient₂ (outerVar S) (S .a) (S .b) i) ≡ product (sum (lo (S .a) i) (hi (S .a) i)) (sum (lo (S .b) i) (hi (S .b) i))
   unfolding coefficient₂
   element-third i = element-⊗ (slope (outerVar S) (S .a) i) (slope (outerVar S) (S .b) i) ∙ ap₂ product (element-slope (S .a) i) (element-slope (S .b) i)
 
   element-weighted : (f : ℕ → ℕ) (g : ℕ → Element) → ((i : ℕ) → element (f i) ≡ g i)
-    → element (weighted (dropVar (outerVar S) (S .e)) f (length (dropVar (outerVar S) (S .e)))) ≡ sumF gf128 (λ i. product (rest i) (g i)) (2 ^ n)
+      → element (weighted (dropVar (outerVar S) (S .e)) f (length (dropVar (outerVar S) (S .e)))) ≡ sumF gf128 (λ i. product (rest i) (g i)) (2 ^ n)
   unfolding weighted
   element-weighted f g h = ap (λ (m : ℕ). element (sumTo (λ i. getD (dropVar (outerVar S) (S .e)) i 0 ⊗ f i) m)) length-dropped
       ∙ element-sum (λ i. getD (dropVar (outerVar S) (S .e)) i 0 ⊗ f i) (λ i. product (rest i) (g i)) (2 ^ n)
-          (λ i k. element-⊗ (getD (dropVar (outerVar S) (S .e)) i 0) (f i) ∙ ap₂ product (dropped i k) (h i))
+      (λ i k. element-⊗ (getD (dropVar (outerVar S) (S .e)) i 0) (f i) ∙ ap₂ product (dropped i k) (h i))
 
   element-timesEq : (k t x y z : ℕ) → els (timesEq k t x y z) ≡ timesEqF gf128 (element k) (element t) (element x) (element y) (element z)
   unfolding timesEq
@@ -263,10 +266,13 @@ module _ (S : Outer) (T : State gf128 (outerCells gf128)) (C : Stands S T) (n : 
     where
       line₁ : (x y : ℕ) → element ((1 ⊕ t) ⊗ x ⊕ y) ≡ sum (product (sum (element 1) (element t)) (element x)) (element y)
       line₁ x y = element-⊕ ((1 ⊕ t) ⊗ x) y ∙ ap (λ (w : Element). sum w (element y)) (element-⊗ (1 ⊕ t) x ∙ ap (λ (w : Element). product w (element x)) (element-⊕ 1 t))
+
       p₀ : element (k ⊗ ((1 ⊕ t) ⊗ x)) ≡ product (element k) (product (sum (element 1) (element t)) (element x))
       p₀ = element-⊗ k ((1 ⊕ t) ⊗ x) ∙ ap (product (element k)) (element-⊗ (1 ⊕ t) x ∙ ap (λ (w : Element). product w (element x)) (element-⊕ 1 t))
+
       p₁ : element (k ⊗ ((1 ⊕ t) ⊗ y ⊕ x)) ≡ product (element k) (sum (product (sum (element 1) (element t)) (element y)) (element x))
       p₁ = element-⊗ k ((1 ⊕ t) ⊗ y ⊕ x) ∙ ap (product (element k)) (line₁ y x)
+
       p₂ : element (k ⊗ ((1 ⊕ t) ⊗ z ⊕ y)) ≡ product (element k) (sum (product (sum (element 1) (element t)) (element z)) (element y))
       p₂ = element-⊗ k ((1 ⊕ t) ⊗ z ⊕ y) ∙ ap (product (element k)) (line₁ z y)
 
@@ -278,15 +284,15 @@ module _ (S : Outer) (T : State gf128 (outerCells gf128)) (C : Stands S T) (n : 
   unfolding outerNext outerMessage
   next-is = element-timesEq (S .k) (outerTau S) _ _ _
       ∙ (λ i. timesEqF gf128 (element (S .k)) (element-tau i)
-          (element-weighted (coefficient₀ (outerVar S) (S .a) (S .b) (S .c)) _ element-first i)
-          (element-weighted (coefficient₁ (outerVar S) (S .a) (S .b) (S .c)) _ element-second i)
-          (element-weighted (coefficient₂ (outerVar S) (S .a) (S .b)) _ element-third i))
+      (element-weighted (coefficient₀ (outerVar S) (S .a) (S .b) (S .c)) _ element-first i)
+      (element-weighted (coefficient₁ (outerVar S) (S .a) (S .b) (S .c)) _ element-second i)
+      (element-weighted (coefficient₂ (outerVar S) (S .a) (S .b)) _ element-third i))
       ∙ sym (ap (polyAll gf128 (outerCells gf128)) pairs-of ∙ poly (positive .0) (2 ^ n) (positive .1))
     where
       poly : (m k : ℕ) → k ≡ suc m → polyAll gf128 (outerCells gf128) (tabulate pairOf k)
-        ≡ timesEqF gf128 (element (S .k)) tau (sumF gf128 (q₀ gf128 (element (S .k)) tau rest (lo (S .a)) (hi (S .a)) (lo (S .b)) (hi (S .b)) (lo (S .c)) (hi (S .c))) k)
-            (sumF gf128 (q₁ gf128 (element (S .k)) tau rest (lo (S .a)) (hi (S .a)) (lo (S .b)) (hi (S .b)) (lo (S .c)) (hi (S .c))) k)
-            (sumF gf128 (q₂ gf128 (element (S .k)) tau rest (lo (S .a)) (hi (S .a)) (lo (S .b)) (hi (S .b)) (lo (S .c)) (hi (S .c))) k)
+          ≡ timesEqF gf128 (element (S .k)) tau (sumF gf128 (q₀ gf128 (element (S .k)) tau rest (lo (S .a)) (hi (S .a)) (lo (S .b)) (hi (S .b)) (lo (S .c)) (hi (S .c))) k)
+          (sumF gf128 (q₁ gf128 (element (S .k)) tau rest (lo (S .a)) (hi (S .a)) (lo (S .b)) (hi (S .b)) (lo (S .c)) (hi (S .c))) k)
+          (sumF gf128 (q₂ gf128 (element (S .k)) tau rest (lo (S .a)) (hi (S .a)) (lo (S .b)) (hi (S .b)) (lo (S .c)) (hi (S .c))) k)
       poly m k e = rw e (outer-poly gf128 gf128Laws m (element (S .k)) tau rest (lo (S .a)) (hi (S .a)) (lo (S .b)) (hi (S .b)) (lo (S .c)) (hi (S .c)))
 
   -- ---- the fold
@@ -295,12 +301,13 @@ module _ (S : Outer) (T : State gf128 (outerCells gf128)) (C : Stands S T) (n : 
   length-bound r t h = tabulate-length _ (length t / 2) ∙ half t (h ∙ ap (λ (m : ℕ). 2 ^ m) left)
 
   element-bound : (r : ℕ) (t : List ℕ) (i : ℕ) → length t ≡ 2 ^ length (S .tau) → i < 2 ^ n
-    → getD (els (bindVar (outerVar S) r t)) i (element 0) ≡ lineAt gf128 (element r) (lo t i) (hi t i)
+      → getD (els (bindVar (outerVar S) r t)) i (element 0) ≡ lineAt gf128 (element r) (lo t i) (hi t i)
   element-bound r t i h k = getD-map element (bindVar (outerVar S) r t) i 0 ∙ ap element at-i ∙ element-line r (at₀ (outerVar S) t i) (at₁ (outerVar S) t i)
       ∙ ap₂ (lineAt gf128 (element r)) (element-at₀ t i) (element-at₁ t i)
     where
       small : i < length t / 2
       small = rw (half t (h ∙ ap (λ (m : ℕ). 2 ^ m) left)) k
+
       at-i : getD (bindVar (outerVar S) r t) i 0 ≡ line r (at₀ (outerVar S) t i) (at₁ (outerVar S) t i)
       at-i = unfold bindVar at₀ at₁ in tabulate-get (λ i. line r (getD t (insertZero (outerVar S) i) 0) (getD t (insertZero (outerVar S) i + 2 ^ outerVar S) 0)) (length t / 2) i 0 small
 
@@ -354,44 +361,50 @@ module _ (S : Outer) (T : State gf128 (outerCells gf128)) (C : Stands S T) (n : 
   unfolding zip-after
   cells-after r = ap (mixAll gf128 (outerCells gf128) (element r)) pairs-of ∙ mixed (element r) pairOf (2 ^ n)
       ∙ ext-getD (outerCells gf128 .none) (tabulate cell (2 ^ n)) (zip-after r) (tabulate-length cell (2 ^ n) ∙ sym zip-size)
-          (λ i h. tabulate-get cell (2 ^ n) i (outerCells gf128 .none) (rw (tabulate-length cell (2 ^ n)) at h) ∙ same i (rw (tabulate-length cell (2 ^ n)) at h) ∙ sym (entry i))
+      (λ i h. tabulate-get cell (2 ^ n) i (outerCells gf128 .none) (rw (tabulate-length cell (2 ^ n)) at h) ∙ same i (rw (tabulate-length cell (2 ^ n)) at h) ∙ sym (entry i))
     where
       cell : ℕ → OuterCell gf128
       cell i = outerCells gf128 .mix (element r) (pairOf i .0) (pairOf i .1)
+
       lb : length (els (bindVar (outerVar S) r (S .b))) ≡ length (els (bindVar (outerVar S) r (S .a)))
       lb = size-bound r (S .b) (C .size-b) ∙ sym (size-bound r (S .a) (C .size-a))
+
       lc : length (els (bindVar (outerVar S) r (S .c))) ≡ length (els (bindVar (outerVar S) r (S .a)))
       lc = size-bound r (S .c) (C .size-c) ∙ sym (size-bound r (S .a) (C .size-a))
+
       le : length (weights-after r) ≡ length (els (bindVar (outerVar S) r (S .a)))
       le = size-after r ∙ sym (size-bound r (S .a) (C .size-a))
+
       zip-size : length (zip-after r) ≡ 2 ^ n
       zip-size = length-zip (els (bindVar (outerVar S) r (S .a))) (els (bindVar (outerVar S) r (S .b))) (els (bindVar (outerVar S) r (S .c))) (weights-after r) lb lc le ∙ size-bound r (S .a) (C .size-a)
+
       entry : (i : ℕ) → getD (zip-after r) i (outerCells gf128 .none)
-        ≡ record { a = getD (els (bindVar (outerVar S) r (S .a))) i (element 0); b = getD (els (bindVar (outerVar S) r (S .b))) i (element 0); c = getD (els (bindVar (outerVar S) r (S .c))) i (element 0); e = getD (weights-after r) i (element 0) }
+          ≡ record { a = getD (els (bindVar (outerVar S) r (S .a))) i (element 0); b = getD (els (bindVar (outerVar S) r (S .b))) i (element 0); c = getD (els (bindVar (outerVar S) r (S .c))) i (element 0); e = getD (weights-after r) i (element 0) }
       entry i = getD-zip (els (bindVar (outerVar S) r (S .a))) (els (bindVar (outerVar S) r (S .b))) (els (bindVar (outerVar S) r (S .c))) (weights-after r) i lb lc le
+
       same : (i : ℕ) → i < 2 ^ n → cell i
-        ≡ record { a = getD (els (bindVar (outerVar S) r (S .a))) i (element 0); b = getD (els (bindVar (outerVar S) r (S .b))) i (element 0); c = getD (els (bindVar (outerVar S) r (S .c))) i (element 0); e = getD (weights-after r) i (element 0) }
-      same i h = λ j. record
-        { a = sym (element-bound r (S .a) i (C .size-a) h) j
-        ; b = sym (element-bound r (S .b) i (C .size-b) h) j
-        ; c = sym (element-bound r (S .c) i (C .size-c) h) j
-        ; e = (weight-line gf128 gf128Laws (element (S .k)) tau (rest i) (element r) ∙ sym (weight-after r i)) j
-        }
+          ≡ record { a = getD (els (bindVar (outerVar S) r (S .a))) i (element 0); b = getD (els (bindVar (outerVar S) r (S .b))) i (element 0); c = getD (els (bindVar (outerVar S) r (S .c))) i (element 0); e = getD (weights-after r) i (element 0) }
+      same i h = λ j. record {
+        a = sym (element-bound r (S .a) i (C .size-a) h) j;
+        b = sym (element-bound r (S .b) i (C .size-b) h) j;
+        c = sym (element-bound r (S .c) i (C .size-c) h) j;
+        e = (weight-line gf128 gf128Laws (element (S .k)) tau (rest i) (element r) ∙ sym (weight-after r i)) j;
+      }
 
   pub fold-stands : (r : ℕ) → Stands (outerFold r S) (tableRounds gf128 (outerCells gf128) .bind (element r) T)
   unfolding outerFold
-  fold-stands r = record
-    { tops = ap less (C .tops) ∙ less-fewer (S .high)
-    ; rows = subst (Left (fewer (S .high)) (T .rows)) (sym length-rest) (left-less (S .high) (T .rows) n (subst (Left (S .high) (T .rows)) left (C .rows)))
-    ; cells = cells-after r ∙ after r
-    ; eq = eq-rest ∙ ap (eqTableE gf128) (sym tau-rest)
-    ; size-a = length-bound r (S .a) (C .size-a) ∙ ap (λ (m : ℕ). 2 ^ m) (sym length-rest)
-    ; size-b = length-bound r (S .b) (C .size-b) ∙ ap (λ (m : ℕ). 2 ^ m) (sym length-rest)
-    ; size-c = length-bound r (S .c) (C .size-c) ∙ ap (λ (m : ℕ). 2 ^ m) (sym length-rest)
-    }
+  fold-stands r = record {
+    tops = ap less (C .tops) ∙ less-fewer (S .high);
+    rows = subst (Left (fewer (S .high)) (T .rows)) (sym length-rest) (left-less (S .high) (T .rows) n (subst (Left (S .high) (T .rows)) left (C .rows)));
+    cells = cells-after r ∙ after r;
+    eq = eq-rest ∙ ap (eqTableE gf128) (sym tau-rest);
+    size-a = length-bound r (S .a) (C .size-a) ∙ ap (λ (m : ℕ). 2 ^ m) (sym length-rest);
+    size-b = length-bound r (S .b) (C .size-b) ∙ ap (λ (m : ℕ). 2 ^ m) (sym length-rest);
+    size-c = length-bound r (S .c) (C .size-c) ∙ ap (λ (m : ℕ). 2 ^ m) (sym length-rest);
+  }
     where
       after : (r : ℕ) → zip-after r ≡ zipOuter gf128 (els (bindVar (outerVar S) r (S .a))) (els (bindVar (outerVar S) r (S .b))) (els (bindVar (outerVar S) r (S .c)))
-        (scale gf128 (element (S .k ⊗ (1 ⊕ outerTau S ⊕ r))) (eqTableE gf128 (els (without (outerVar S) (S .tau)))))
+          (scale gf128 (element (S .k ⊗ (1 ⊕ outerTau S ⊕ r))) (eqTableE gf128 (els (without (outerVar S) (S .tau)))))
       after r = unfold zip-after weights-after in ap (λ (t : List Element). zipOuter gf128 (els (bindVar (outerVar S) r (S .a))) (els (bindVar (outerVar S) r (S .b))) (els (bindVar (outerVar S) r (S .c)))
           (scale gf128 (element (S .k ⊗ (1 ⊕ outerTau S ⊕ r))) (eqTableE gf128 t))) (sym tau-rest)
 
@@ -406,7 +419,7 @@ unfolding outerMessages
 messages-are [] S T C h = refl
 messages-are (r ∷ rs) S T C h = ap₂ _∷_ (next-is S T C (length (S .tau) - 1) (omega arith))
     (messages-are rs (outerFold r S) (tableRounds gf128 (outerCells gf128) .bind (element r) T) (fold-stands S T C (length (S .tau) - 1) (omega arith) r)
-      (omega (arith, fold-left S T C (length (S .tau) - 1) (omega arith) r)))
+    (omega (arith, fold-left S T C (length (S .tau) - 1) (omega arith) r)))
 
 -- at the start
 one-scale : (t : List Element) → scale gf128 (element 1) t ≡ t
@@ -416,15 +429,15 @@ one-scale (x ∷ t) = ap₂ _∷_ (one-mul gf128 (gf128Laws .laws) x) (one-scale
 pub start-stands : (s b : ℕ) (tau ta tb tc : List ℕ) → length tau ≡ s + b → length ta ≡ 2 ^ length tau → length tb ≡ 2 ^ length tau → length tc ≡ 2 ^ length tau
     → Stands (outerStart s tau ta tb tc) (start gf128 (els ta) (els tb) (els tc) (els tau) s b)
 unfolding outerStart
-start-stands s b tau ta tb tc l h k m = record
-  { tops = refl
-  ; rows = whole s l
-  ; cells = ap (zipOuter gf128 (els ta) (els tb) (els tc)) (sym (one-scale (eqTableE gf128 (els tau))))
-  ; eq = element-eqTable tau
-  ; size-a = h
-  ; size-b = k
-  ; size-c = m
-  }
+start-stands s b tau ta tb tc l h k m = record {
+  tops = refl;
+  rows = whole s l;
+  cells = ap (zipOuter gf128 (els ta) (els tb) (els tc)) (sym (one-scale (eqTableE gf128 (els tau))));
+  eq = element-eqTable tau;
+  size-a = h;
+  size-b = k;
+  size-c = m;
+}
   where
     whole : (s : ℕ) → length tau ≡ s + b → Left s b (length tau)
     whole zero l = tt

@@ -90,7 +90,7 @@ module _ (F : Field) (X : Cells F) where
 
   -- the pairs of the next variable, of suc n that are left
   pub pairs-are : (s b n : ℕ) (t : List C) → Left s b (suc n) → length t ≡ 2 ^ suc n
-    → pairs F X s b t ≡ tabulate (pairAt none (λ (x y : C). (x, y)) (nextVar s (suc n)) t) (2 ^ n)
+      → pairs F X s b t ≡ tabulate (pairAt none (λ (x y : C). (x, y)) (nextVar s (suc n)) t) (2 ^ n)
   unfolding nextVar
   pairs-are zero b n t e l = low-pairs t (2 ^ n) (l ∙ two-pow-succ n) ∙ sym (by-low none (λ (x y : C). (x, y)) t (2 ^ n))
   pairs-are (suc s) b n t e l =

@@ -30,6 +30,7 @@ low-is i v b e = rw e (go i (2 ^ v))
   where
     twice : (q p : ℕ) → q * (2 * p) ≡ q * p + q * p
     twice q p = omega arith
+
     go : (i p : ℕ) → i + i / p * p ≡ i / p * (2 * p) + i % p
     go i p = omega (arith, div-add-mod' i p, twice (i / p) p)
 

@@ -40,3 +40,7 @@ dropRefusal t v = refuse 11 (not (isTable v t)) 0
 
 abbrev pub dropOut : List ℕ → ℕ → List ℕ
 dropOut t v = unlessRefused (dropRefusal (length t) v) (words (dropVar v (elements t)) ++ drop (length t / 2) t) t
+
+-- ---- `eq_points`: tau, challenges (by their words), high variables s
+unfoldable pub pointsRefusal : ℕ → ℕ → ℕ → ℕ
+pointsRefusal tau cs s = refuse 11 (not (eqb (tau % 2) 0)) (refuse 11 (not (eqb cs tau)) (refuse 11 (ltb (tau / 2) s) 0))

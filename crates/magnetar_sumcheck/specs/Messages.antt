@@ -34,15 +34,15 @@ outerNext S = outerMessage (outerVar S) (S .k) (outerTau S) (dropVar (outerVar S
 
 -- what the prover holds after a round with the challenge r
 unfoldable pub outerFold : ℕ → Outer → Outer
-outerFold r S = record
-  { high = fewer (S .high)
-  ; tau = take (outerVar S) (S .tau) ++ drop (suc (outerVar S)) (S .tau)
-  ; k = S .k ⊗ (1 ⊕ outerTau S ⊕ r)
-  ; e = dropVar (outerVar S) (S .e)
-  ; a = bindVar (outerVar S) r (S .a)
-  ; b = bindVar (outerVar S) r (S .b)
-  ; c = bindVar (outerVar S) r (S .c)
-  }
+outerFold r S = record {
+  high = fewer (S .high);
+  tau = take (outerVar S) (S .tau) ++ drop (suc (outerVar S)) (S .tau);
+  k = S .k ⊗ (1 ⊕ outerTau S ⊕ r);
+  e = dropVar (outerVar S) (S .e);
+  a = bindVar (outerVar S) r (S .a);
+  b = bindVar (outerVar S) r (S .b);
+  c = bindVar (outerVar S) r (S .c);
+}
 
 -- at the start
 unfoldable pub outerStart : ℕ → List ℕ → List ℕ → List ℕ → List ℕ → Outer

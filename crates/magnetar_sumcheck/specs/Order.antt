@@ -1,8 +1,10 @@
 -- In which order the variables are bound. `BindOrder::HighBitsFirst { high: s }`: the highest s variables, the highest of them
 -- first, and then the others, the lowest first. `BindOrder::Increasing` is the same with s = 0.
 -- Assumes nothing.
+use mathlib.Core.Bool.{cond}
 use mathlib.Core.List.{List, [], _∷_, _++_, reverse}
 use Prim.Native.Nat.{ℕ, zero, suc, _+_, _-_, _^_}
+use lib.Dec.{ltb}
 use lib.ListN.{getD, take, drop}
 use Rattle.magnetar_field.specs.Gf128.{_⊕_, _⊗_}
 use Rattle.magnetar_field.specs.Multilinear.{insertZero}
@@ -20,6 +22,10 @@ fewer (suc s) = s
 -- the point that the challenges make, variable 0 first (`point`)
 unfoldable pub point : ℕ → List ℕ → List ℕ
 point s cs = drop s cs ++ reverse (take s cs)
+
+-- in which round variable j of n is bound
+unfoldable pub placeOf : ℕ → ℕ → ℕ → ℕ
+placeOf s n j = cond (ltb j (n - s)) (s + j) (n - 1 - j)
 
 -- eq of two points: the product over j of 1 + p_j + q_j
 unfoldable pub eqPoints : List ℕ → List ℕ → ℕ

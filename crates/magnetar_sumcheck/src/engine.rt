@@ -40,7 +40,7 @@ fn block(v: usize) -> usize
 }
 
 // The index of the entry of pair i where the variable v is 0.
-fn low(i: usize, v: usize) -> usize
+pub(crate) fn low(i: usize, v: usize) -> usize
     requires { ⌜ (v < 62) × (i < 2 ^ 62) ⌝ }
     ensures { λ r. ⌜ (r ≡ insertZero v i) × (r ≤ 2 * i) ⌝ }
 {
@@ -48,7 +48,7 @@ fn low(i: usize, v: usize) -> usize
 }
 
 // The index of the entry of pair i where the variable v is 1.
-fn high(i: usize, v: usize) -> usize
+pub(crate) fn high(i: usize, v: usize) -> usize
     requires { ⌜ (v < 62) × (i < 2 ^ 62) ⌝ }
     ensures { λ r. ⌜ r ≡ insertZero v i + 2 ^ v ⌝ }
 {
@@ -56,7 +56,7 @@ fn high(i: usize, v: usize) -> usize
 }
 
 // Whether so many words are a table that has a variable v.
-fn is_table(words: usize, v: usize) -> bool
+pub(crate) fn is_table(words: usize, v: usize) -> bool
     ensures { λ r. ⌜ r ≡ isTable v words ⌝ }
 {
     if words % 2 != 0 {
@@ -78,7 +78,7 @@ fn weigh(acc: Gf128, e: Gf128, a: Gf128, b: Gf128, c: Gf128) -> Gf128
 }
 
 // The slope of the line through two entries.
-fn slope(t: &[u64], lo: usize, hi: usize) -> Gf128
+pub(crate) fn slope(t: &[u64], lo: usize, hi: usize) -> Gf128
     ensures { λ r. ⌜ value r ≡ getD (elements (now (t .entry))) lo 0 ⊕ getD (elements (now (t .entry))) hi 0 ⌝ }
 {
     gf128::add(words::get(t, lo), words::get(t, hi))
@@ -88,18 +88,39 @@ fn slope(t: &[u64], lo: usize, hi: usize) -> Gf128
 fn outer_at(acc: Gf128, e: &[u64], a: &[u64], b: &[u64], c: &[u64], i: usize, k: usize) -> Gf128
     ensures { λ r. ⌜ value r ≡ value acc ⊕ getD (elements (now (e .entry))) i 0 ⊗ (getD (elements (now (a .entry))) k 0 ⊗ getD (elements (now (b .entry))) k 0 ⊕ getD (elements (now (c .entry))) k 0) ⌝ }
 {
-    weigh(acc, words::get(e, i), words::get(a, k), words::get(b, k), words::get(c, k))
+    weigh(
+        acc,
+        words::get(e, i),
+        words::get(a, k),
+        words::get(b, k),
+        words::get(c, k),
+    )
 }
 
 // acc + e_i a' b', with the slopes between the entries at lo and hi. Two products.
 fn outer_top(acc: Gf128, e: &[u64], a: &[u64], b: &[u64], i: usize, lo: usize, hi: usize) -> Gf128
     ensures { λ r. ⌜ value r ≡ value acc ⊕ getD (elements (now (e .entry))) i 0 ⊗ ((getD (elements (now (a .entry))) lo 0 ⊕ getD (elements (now (a .entry))) hi 0) ⊗ (getD (elements (now (b .entry))) lo 0 ⊕ getD (elements (now (b .entry))) hi 0)) ⌝ }
 {
-    gf128::add(acc, gf128::mul(words::get(e, i), gf128::mul(slope(a, lo, hi), slope(b, lo, hi))))
+    gf128::add(
+        acc,
+        gf128::mul(
+            words::get(e, i),
+            gf128::mul(slope(a, lo, hi), slope(b, lo, hi)),
+        ),
+    )
 }
 
 // The sums with those of pair i, whose entries stand at lo and hi. Six products.
-fn outer_pair(s: Sums, e: &[u64], a: &[u64], b: &[u64], c: &[u64], i: usize, lo: usize, hi: usize) -> Sums
+fn outer_pair(
+    s: Sums,
+    e: &[u64],
+    a: &[u64],
+    b: &[u64],
+    c: &[u64],
+    i: usize,
+    lo: usize,
+    hi: usize,
+) -> Sums
     ensures zero { λ r. ⌜ value (r .zero) ≡ value (s .zero) ⊕ getD (elements (now (e .entry))) i 0 ⊗ (getD (elements (now (a .entry))) lo 0 ⊗ getD (elements (now (b .entry))) lo 0 ⊕ getD (elements (now (c .entry))) lo 0) ⌝ }
     ensures one { λ r. ⌜ value (r .one) ≡ value (s .one) ⊕ getD (elements (now (e .entry))) i 0 ⊗ (getD (elements (now (a .entry))) hi 0 ⊗ getD (elements (now (b .entry))) hi 0 ⊕ getD (elements (now (c .entry))) hi 0) ⌝ }
     ensures top { λ r. ⌜ value (r .top) ≡ value (s .top) ⊕ getD (elements (now (e .entry))) i 0 ⊗ ((getD (elements (now (a .entry))) lo 0 ⊕ getD (elements (now (a .entry))) hi 0) ⊗ (getD (elements (now (b .entry))) lo 0 ⊕ getD (elements (now (b .entry))) hi 0)) ⌝ }
@@ -219,7 +240,16 @@ fn outer_refusal(out: usize, e: usize, a: usize, b: usize, c: usize, v: usize) -
 // The message of a round of the outer sum-check that binds variable v of the tables a, b, c: 4 coefficients at the front of out.
 // e is the eq table over the variables that stay, k the product of eq(tau_j, r_j) over those that are bound, t the tau of v.
 // 11: no tables of one size with a variable v, or e not half their size; 15: out shorter than 8 words.
-pub fn outer_message(out: &mut [u64], e: &[u64], a: &[u64], b: &[u64], c: &[u64], v: usize, k: Gf128, t: Gf128) -> u32
+pub fn outer_message(
+    out: &mut [u64],
+    e: &[u64],
+    a: &[u64],
+    b: &[u64],
+    c: &[u64],
+    v: usize,
+    k: Gf128,
+    t: Gf128,
+) -> u32
     ensures refusal { λ r. ⌜ r ≡ outerRefusal (length (now (out .entry))) (length (now (e .entry))) (length (now (a .entry))) (length (now (b .entry))) (length (now (c .entry))) v ⌝ }
     ensures message { λ _. ⌜ now (out .exit) ≡ outerOut (now (out .entry)) (now (e .entry)) (now (a .entry)) (now (b .entry)) (now (c .entry)) v (value k) (value t) ⌝ }
 {

@@ -6,14 +6,10 @@ use lib.Pow.{pow-lt}
 use borrow.Author.Needs.{needs}
 use Rattle.magnetar_sumcheck.proofs.engine.block.Statement.{statement}
 use Rattle.magnetar_sumcheck.proofs.engine.block.Tie as tie
-use Rattle.magnetar_sumcheck.proofs.engine.block.Reads as reads
-use Rattle.magnetar_sumcheck.proofs.engine.block.Lts as lts
 
--- src/engine.rt:39:5
 shl-result : tie.Need-shl-result
 shl-result c = search needs
 
--- src/engine.rt:35:1
 returns : tie.Need-returns
 returns c = rw one-mul (mod-eq-of-lt (pow-lt {i = c .args .v} {j = 64} (omega arith)))
 

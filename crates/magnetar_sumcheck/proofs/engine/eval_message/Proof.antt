@@ -11,10 +11,6 @@ use Rattle.magnetar_sumcheck.proofs.Horner.{Evaluated, evaluated-start,
 use borrow.Author.Needs.{needs}
 use Rattle.magnetar_sumcheck.proofs.engine.eval_message.Statement.{statement}
 use Rattle.magnetar_sumcheck.proofs.engine.eval_message.Tie as tie
-use Rattle.magnetar_sumcheck.proofs.engine.eval_message.Reads as reads
-use Rattle.magnetar_sumcheck.proofs.engine.eval_message.Lts as lts
-use Rattle.magnetar_field.proofs.words.get.Reads as get-reads
-use Rattle.magnetar_sumcheck.proofs.engine.multiply_add.Reads as multiply-add-reads
 
 abbrev Inv-loop : tie.InvT-loop
 Inv-loop msg r acc₀ i₀ acc i = Evaluated (elements msg) (value r) i (value acc)
@@ -22,31 +18,24 @@ Inv-loop msg r acc₀ i₀ acc i = Evaluated (elements msg) (value r) i (value a
 abbrev μ-loop : tie.MeasureT-loop
 μ-loop msg r acc₀ i₀ acc i = i
 
--- src/engine.rt:368:5
 loop-holds : tie.Need-loop-holds Inv-loop μ-loop
 loop-holds c = let x = c .before .args in evaluated-start (elements (now (x .msg))) (value (x .r)) _ (sym (elements-length (now (x .msg))))
 
--- src/engine.rt:369:9
 sub-i : tie.Need-sub-i Inv-loop μ-loop
 sub-i c = search needs
 
--- src/engine.rt:370:28
 get-requires : tie.Need-get-requires Inv-loop μ-loop
 get-requires c κs = search needs
 
--- src/engine.rt:370:9
 multiply-add-requires : tie.Need-multiply-add-requires Inv-loop μ-loop
 multiply-add-requires c κs = search needs
 
--- src/engine.rt:368:5
 loop-less : tie.Need-loop-less Inv-loop μ-loop
 loop-less c = search needs
 
--- src/engine.rt:368:5
 loop-again : tie.Need-loop-again Inv-loop μ-loop
 loop-again c = let x = c .before .before .before .before .before .args in evaluated-more (elements (now (x .msg))) (value (x .r)) (c .before .before .before .loop .i) (value (c .before .before .before .loop .acc)) (value (c .before .get .result)) (value (c .multiply-add .result)) (c .before .before .before .loop .inv) (c .before .before .loop-test .taken) (c .before .get .ensures) (c .multiply-add .ensures)
 
--- src/engine.rt:363:1
 returns : tie.Need-returns Inv-loop μ-loop
 returns c = let x = c .before .before .before .args in evaluated-end (elements (now (x .msg))) (value (x .r)) (c .before .loop .i) (value (c .before .loop .acc)) (c .before .loop .inv) (c .loop-test .left)
 

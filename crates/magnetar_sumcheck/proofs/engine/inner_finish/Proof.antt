@@ -4,20 +4,13 @@ use Rattle.magnetar_sumcheck.specs.Inner.{innerEnd}
 use borrow.Author.Needs.{needs}
 use Rattle.magnetar_sumcheck.proofs.engine.inner_finish.Statement.{statement}
 use Rattle.magnetar_sumcheck.proofs.engine.inner_finish.Tie as tie
-use Rattle.magnetar_sumcheck.proofs.engine.inner_finish.Reads as reads
-use Rattle.magnetar_sumcheck.proofs.engine.inner_finish.Lts as lts
-use Rattle.magnetar_field.proofs.gf128.mul.Reads as mul-reads
-use Rattle.magnetar_sumcheck.proofs.engine.same.Reads as same-reads
 
--- src/engine.rt:404:10
 mul-requires : tie.Need-mul-requires
 mul-requires c κs = search needs
 
--- src/engine.rt:404:5
 same-requires : tie.Need-same-requires
 same-requires c κs = search needs
 
--- src/engine.rt:401:1
 returns : tie.Need-returns
 unfolding innerEnd
 returns c = rw (c .same .ensures, c .before .mul .ensures)

@@ -5,25 +5,17 @@ use Rattle.magnetar_sumcheck.specs.Round.{nextClaim}
 use borrow.Author.Needs.{needs}
 use Rattle.magnetar_sumcheck.proofs.engine.round_external.Statement.{statement}
 use Rattle.magnetar_sumcheck.proofs.engine.round_external.Tie as tie
-use Rattle.magnetar_sumcheck.proofs.engine.round_external.Reads as reads
-use Rattle.magnetar_sumcheck.proofs.engine.round_external.Lts as lts
-use Rattle.magnetar_sumcheck.proofs.engine.eval_message.Reads as eval-message-reads
-use Rattle.magnetar_sumcheck.proofs.engine.sum_holds.Reads as sum-holds-reads
 
--- src/engine.rt:380:8
 sum-holds-requires : tie.Need-sum-holds-requires
 sum-holds-requires c κs = search needs
 
--- src/engine.rt:381:13
 eval-message-requires : tie.Need-eval-message-requires
 eval-message-requires c κs = search needs
 
--- src/engine.rt:382:9
 returns : tie.Need-returns
 unfolding nextClaim
 returns c = let h = sym (c .before .before .sum-holds .ensures) ∙ c .before .if1 .taken in (sym h, rw (h, c .eval-message .ensures))
 
--- src/engine.rt:376:1
 returns-2 : tie.Need-returns-2
 unfolding nextClaim
 returns-2 c = let h = sym (c .before .sum-holds .ensures) ∙ c .if1 .left in (sym h, rw h)

@@ -6,14 +6,10 @@ use native.Mathlib.Omega.{arith}
 use Rattle.magnetar_sumcheck.proofs.Horner.{differ, compared}
 use Rattle.magnetar_sumcheck.proofs.engine.same.Statement.{statement}
 use Rattle.magnetar_sumcheck.proofs.engine.same.Tie as tie
-use Rattle.magnetar_sumcheck.proofs.engine.same.Reads as reads
-use Rattle.magnetar_sumcheck.proofs.engine.same.Lts as lts
 
--- src/engine.rt:337:9
 returns : tie.Need-returns
 returns c = let x = c .before .before .before .args in let h : x .a .lo < 2 ^ 64 = omega arith in let k : x .b .lo < 2 ^ 64 = omega arith in sym (differ (x .a .lo) (x .a .hi) (x .b .lo) (x .b .hi) h k (c .if1 .taken))
 
--- src/engine.rt:333:1
 returns-2 : tie.Need-returns-2
 returns-2 c = let x = c .before .before .before .before .before .args in sym (compared (x .a .lo) (x .a .hi) (x .b .lo) (x .b .hi) (c .before .before .if1 .left))
 

@@ -4,20 +4,13 @@ use Rattle.magnetar_sumcheck.specs.Round.{holds}
 use borrow.Author.Needs.{needs}
 use Rattle.magnetar_sumcheck.proofs.engine.sum_holds.Statement.{statement}
 use Rattle.magnetar_sumcheck.proofs.engine.sum_holds.Tie as tie
-use Rattle.magnetar_sumcheck.proofs.engine.sum_holds.Reads as reads
-use Rattle.magnetar_sumcheck.proofs.engine.sum_holds.Lts as lts
-use Rattle.magnetar_sumcheck.proofs.engine.check_sum.Reads as check-sum-reads
-use Rattle.magnetar_sumcheck.proofs.engine.same.Reads as same-reads
 
--- src/engine.rt:359:10
 check-sum-requires : tie.Need-check-sum-requires
 check-sum-requires c κs = search needs
 
--- src/engine.rt:359:5
 same-requires : tie.Need-same-requires
 same-requires c κs = search needs
 
--- src/engine.rt:356:1
 returns : tie.Need-returns
 unfolding holds
 returns c = rw (c .same .ensures, c .before .check-sum .ensures)
