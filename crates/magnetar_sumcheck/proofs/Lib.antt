@@ -11,3 +11,4 @@ pub mod Message
 pub mod Refusals
 pub mod Horner
 pub mod EqFactor
+pub mod Protocol

@@ -7,7 +7,7 @@ use Rattle.magnetar_field.specs.Gf128.{_⊕_, _⊗_}
 use Rattle.magnetar_field.specs.EqTable.{eqTable}
 use Rattle.magnetar_field.specs.Multilinear.{bindVar}
 use Rattle.magnetar_sumcheck.specs.Order.{nextVar, fewer}
-use Rattle.magnetar_sumcheck.specs.Outer.{outerMessage, dropVar}
+use Rattle.magnetar_sumcheck.specs.Outer.{weighted, outerMessage, dropVar}
 use Rattle.magnetar_sumcheck.specs.Inner.{innerMessage}
 
 -- what the prover of the outer sum-check holds: how many high variables are left, the tau of the variables that are left, the
@@ -20,6 +20,10 @@ pub record Outer : Type 0 where
   pub a : List ℕ
   pub b : List ℕ
   pub c : List ℕ
+
+-- the sum that is claimed: over x of k e(x) (a(x) b(x) + c(x))
+unfoldable pub outerValue : Outer → ℕ
+outerValue S = S .k ⊗ weighted (S .e) (λ i. getD (S .a) i 0 ⊗ getD (S .b) i 0 ⊕ getD (S .c) i 0) (length (S .e))
 
 -- the variable of the next round, and its tau
 abbrev pub outerVar : Outer → ℕ
