@@ -12,3 +12,4 @@ pub mod Refusals
 pub mod Horner
 pub mod EqFactor
 pub mod Protocol
+pub mod Values

@@ -47,13 +47,13 @@ abbrev els : List ℕ → List Element
 els t = map element t
 
 -- ---- values as elements
-element-dot : (s t : List ℕ) → element (dot s t) ≡ dotE gf128 (els s) (els t)
+pub element-dot : (s t : List ℕ) → element (dot s t) ≡ dotE gf128 (els s) (els t)
 unfolding dot
 element-dot [] t = refl
 element-dot (x ∷ s) [] = refl
 element-dot (x ∷ s) (y ∷ t) = element-⊕ (x ⊗ y) (dot s t) ∙ ap₂ sum (element-⊗ x y) (element-dot s t)
 
-dot-lt : (s t : List ℕ) → dot s t < 2 ^ 128
+pub dot-lt : (s t : List ℕ) → dot s t < 2 ^ 128
 unfolding dot
 dot-lt [] t = pow-pos 128
 dot-lt (x ∷ s) [] = pow-pos 128
@@ -91,7 +91,7 @@ timesEq-below : (k t x y z : ℕ) → AllBelow (2 ^ 128) (timesEq k t x y z)
 unfolding timesEq
 timesEq-below k t x y z = (⊗-lt k ((1 ⊕ t) ⊗ x), (⊗-lt k ((1 ⊕ t) ⊗ y ⊕ x), (⊗-lt k ((1 ⊕ t) ⊗ z ⊕ y), (⊗-lt k z, tt))))
 
-outerNext-below : (S : Outer) → AllBelow (2 ^ 128) (outerNext S)
+pub outerNext-below : (S : Outer) → AllBelow (2 ^ 128) (outerNext S)
 unfolding outerNext outerMessage
 outerNext-below S = timesEq-below _ _ _ _ _
 
@@ -105,7 +105,7 @@ unfolding sumTo
 sum-lt f zero h = pow-pos 128
 sum-lt f (suc n) h = ⊕-lt 128 (sumTo f n) (f n) (sum-lt f n h) (h n)
 
-innerMessage-below : (v : ℕ) (t z : List ℕ) → AllBelow (2 ^ 128) (innerMessage v t z)
+pub innerMessage-below : (v : ℕ) (t z : List ℕ) → AllBelow (2 ^ 128) (innerMessage v t z)
 unfolding innerMessage innerSums
 innerMessage-below v t z =
     (sum-lt _ (length t / 2) (λ i. ⊗-lt _ _), (sum-lt _ (length t / 2) (λ i. ⊕-lt 128 _ _ (⊗-lt _ _) (⊗-lt _ _)), (sum-lt _ (length t / 2) (λ i. ⊗-lt _ _), tt)))

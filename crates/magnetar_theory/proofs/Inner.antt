@@ -40,7 +40,7 @@ module _ (F : Field) where
     length-zip (x ∷ t) [] = omega arith
     length-zip (x ∷ t) (y ∷ z) = omega (arith, length-zip t z)
 
-    sum-dot : (t z : List K) → sumTerms F (innerCells F) (zipInner F t z) ≡ dot F t z
+    pub sum-dot : (t z : List K) → sumTerms F (innerCells F) (zipInner F t z) ≡ dot F t z
     sum-dot [] z = refl
     sum-dot (x ∷ t) [] = refl
     sum-dot (x ∷ t) (y ∷ z) = ap (λ (v : K). x ⊗ y ⊕ v) (sum-dot t z)

@@ -49,7 +49,7 @@ module _ (F : Field) where
     length-zip (x ∷ a) (y ∷ b) (z ∷ c) [] = omega arith
     length-zip (x ∷ a) (y ∷ b) (z ∷ c) (w ∷ e) = omega (arith, length-zip a b c e)
 
-    sum-rows : (a b c e : List K) → sumTerms F (outerCells F) (zipOuter F a b c e) ≡ dot F e (rowValues F a b c)
+    pub sum-rows : (a b c e : List K) → sumTerms F (outerCells F) (zipOuter F a b c e) ≡ dot F e (rowValues F a b c)
     sum-rows [] b c e = sym (dot-nil F e)
     sum-rows (x ∷ a) [] c e = sym (dot-nil F e)
     sum-rows (x ∷ a) (y ∷ b) [] e = sym (dot-nil F e)
