@@ -1,6 +1,7 @@
 -- Only 0 and 1 are their own squares.
 -- The 128 conjugates of x, which repeated squaring makes, differ by invertible elements. An element that is its own square
 -- is the value at each of them of the polynomial that its digits are; so less the element itself that polynomial is 0.
+-- Assumes nothing.
 use mathlib.Core.Path.{_≡_, refl, sym, ap, ap₂, _∙_, subst}
 use mathlib.Core.List.{List, [], _∷_}
 use Prim.Native.Nat.{ℕ, zero, suc, _+_, _*_, _/_, _%_, _^_, _≤_, _<_}

@@ -1,4 +1,5 @@
 -- a^(2^n - 1), the product of the first n of a, a², a⁴, ..
+-- Assumes nothing.
 use mathlib.Core.Path.{_≡_, refl, sym, ap, _∙_}
 use Prim.Native.Nat.{ℕ, zero, suc, _^_, _<_}
 use Rattle.magnetar_field.specs.Gf128.{_⊗_}

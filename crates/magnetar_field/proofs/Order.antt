@@ -1,4 +1,5 @@
 -- x^(2^128) is x, by computation; so 128 squarings give every element back.
+-- Assumes nothing.
 use mathlib.Core.Path.{_≡_, refl, sym, ap, ap₂, _∙_}
 use Prim.Native.Nat.{ℕ, zero, suc, _^_, _<_}
 use native.Mathlib.Nat.{le-of-suc-le, mod-eq-of-lt}

@@ -1,4 +1,5 @@
 -- Polynomials over K, as lists of coefficients, that of 1 first. One that is not 0 has fewer roots than coefficients.
+-- Assumes nothing.
 use mathlib.Core.Path.{_≡_, refl, sym, ap, ap₂, _∙_}
 use mathlib.Core.List.{List, [], _∷_}
 use Prim.Native.Nat.{ℕ, suc, _^_, _≤_, _<_}

@@ -1,0 +1,5 @@
+pub mod Bytes
+pub mod Sha3
+pub mod Sponge
+pub mod Parts
+pub mod Transcript

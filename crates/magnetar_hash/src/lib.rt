@@ -1,0 +1,4 @@
+// The hash layer of magnetar: SHA3-256 and the transcript.
+pub mod sha3;
+mod sponge;
+pub mod transcript;

@@ -1,0 +1,5 @@
+pub mod Lanes
+pub mod Written
+pub mod Rotate
+pub mod Planes
+pub mod Xor

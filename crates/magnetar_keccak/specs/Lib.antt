@@ -1,0 +1,5 @@
+pub mod State
+pub mod Offsets
+pub mod Rounds
+pub mod Keccak
+pub mod Planes

@@ -1,0 +1,2 @@
+// Keccak-f[1600] of FIPS 202.
+pub mod keccak;

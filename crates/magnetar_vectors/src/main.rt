@@ -1,0 +1,75 @@
+// Answers the queries of standard input, a line for each: the recorded answers of the Rust are `stdout`
+// (docs/VECTORS.md says what each query asks and where its answer comes from). A line that begins with # is copied.
+mod field;
+mod hash;
+mod text;
+
+// The words of a line, as numbers and as bytes, are lent to every query, and so are words to write to.
+fn answer(
+    line: &[u8],
+    nums: &mut [u64],
+    bytes: &mut [u8],
+    lens: &mut [usize],
+    out: &mut [u64],
+    sizes: &mut [usize],
+) {
+    if text::byte(line, 0) == b'#' {
+        text::print(line);
+        text::print(b"\n");
+        return;
+    }
+    let op = text::name(line);
+    let n = text::numbers(line, nums);
+    if field::answered(op, text::first(nums, n), out) {
+        return;
+    }
+    let k = text::bytes(line, bytes, lens);
+    if hash::answered(
+        op,
+        text::first(nums, n),
+        bytes,
+        text::sizes(lens, 0, k),
+        out,
+        sizes,
+    ) {
+        return;
+    }
+    text::print(b"? unknown query\n");
+}
+
+fn answer_all(
+    input: &[u8],
+    nums: &mut [u64],
+    bytes: &mut [u8],
+    lens: &mut [usize],
+    out: &mut [u64],
+    sizes: &mut [usize],
+) {
+    let mut from = 0;
+    while from < input.len() {
+        let to = text::find(input, from, b'\n');
+        answer(&input[from..to], nums, bytes, lens, out, sizes);
+        if to == input.len() {
+            return;
+        }
+        from = to + 1;
+    }
+}
+
+fn main() {
+    let mut input = [0u8; 262144];
+    let mut nums = [0u64; 4096];
+    let mut bytes = [0u8; 8192];
+    let mut lens = [0usize; 256];
+    let mut out = [0u64; 4096];
+    let mut sizes = [0usize; 256];
+    let n = io::read_full(libc::STDIN_FILENO, &mut input);
+    answer_all(
+        &input[..n],
+        &mut nums,
+        &mut bytes,
+        &mut lens,
+        &mut out,
+        &mut sizes,
+    );
+}
