@@ -1,5 +1,6 @@
 pub mod Sum
 pub mod Round
+pub mod Capture
 pub mod Order
 pub mod Outer
 pub mod Inner

@@ -7,6 +7,8 @@ use magnetar_field::gf128;
 use magnetar_field::gf128::Gf128;
 use magnetar_field::sizes;
 use magnetar_field::words;
+use magnetar_hash::transcript;
+use magnetar_hash::transcript::Transcript;
 ghost use mathlib.Core.Path.{_≡_};
 ghost use mathlib.Core.List.{List, [], _∷_, _++_};
 ghost use Prim.Native.Nat.{ℕ, _+_, _*_, _/_, _^_, _<_, _≤_};
@@ -17,6 +19,7 @@ ghost use Rattle.magnetar_field.specs.Polynomial.{eval};
 ghost use Rattle.magnetar_field.specs.Words.{elements, words};
 ghost use Rattle.magnetar_field.specs.Multilinear.{insertZero};
 ghost use Rattle.magnetar_sumcheck.specs.Round.{checkSum, holds, nextClaim};
+ghost use Rattle.magnetar_sumcheck.specs.Capture.{nextTranscript, nextChallenge};
 ghost use Rattle.magnetar_sumcheck.specs.Outer.{timesEq, outerEnd};
 ghost use Rattle.magnetar_sumcheck.specs.Inner.{innerEnd};
 ghost use Rattle.magnetar_sumcheck.specs.Sums.{sums, outerSums, innerSumsAt};
@@ -432,4 +435,41 @@ pub fn inner_finish(running: Gf128, t: Gf128, z: Gf128) -> bool
     ensures { λ r. ⌜ r ≡ eqb (innerEnd (value t) (value z)) (value running) ⌝ }
 {
     same(gf128::mul(t, z), running)
+}
+
+// What a round leaves that draws for itself: whether the message was right, the running claim, the challenge (0 where the message
+// was wrong), and the transcript.
+pub struct Captured {
+    pub holds: bool,
+    pub claim: Gf128,
+    pub challenge: Gf128,
+    pub transcript: Transcript,
+}
+
+// A round that draws its challenge: the check first; then the message is absorbed and the challenge drawn, both under the label. A
+// wrong message leaves the claim and the transcript.
+pub fn round_capturing(msg: &[u64], claim: Gf128, t: Transcript, label: &[u8]) -> Captured
+    ensures holds { λ o. ⌜ o .holds ≡ holds (elements (now (msg .entry))) (value claim) ⌝ }
+    ensures transcript { λ o. ⌜ o .transcript ≡ nextTranscript t (now (label .entry)) (now (msg .entry)) (value claim) ⌝ }
+    ensures challenge { λ o. ⌜ o .challenge ≡ nextChallenge t (now (label .entry)) (now (msg .entry)) (value claim) ⌝ }
+    ensures claim { λ o. ⌜ value (o .claim) ≡ nextClaim (value claim) (elements (now (msg .entry))) (value (o .challenge)) ⌝ }
+{
+    if sum_holds(msg, claim) {
+        let heard = transcript::absorb_words(t, label, msg);
+        let next = transcript::draw(heard, label);
+        let r = transcript::element(next);
+        let value = eval_message(msg, r);
+        return Captured {
+            holds: true,
+            claim: value,
+            challenge: r,
+            transcript: next,
+        };
+    }
+    Captured {
+        holds: false,
+        claim: claim,
+        challenge: Gf128 { lo: 0, hi: 0 },
+        transcript: t,
+    }
 }
