@@ -52,42 +52,50 @@ module _ (F : Field) (L : Laws F) where
   top-zero : (ps : List K) (p : K) (i : ℕ) → i < 2 ^ length ps → getD (eqTable F (ps ++ (p ∷ []))) i 𝟎 ≡ (𝟏 ⊕ p) ⊗ getD (eqTable F ps) i 𝟎
   top-zero ps p i h =
       ap (λ (t : List K). getD t i 𝟎) (eqTable-snoc F L ps p)
-      ∙ List·getD-append (scale F (𝟏 ⊕ p) (eqTable F ps)) (scale F p (eqTable F ps)) 𝟎 i (rw (length-scale F L (𝟏 ⊕ p) (eqTable F ps), length-eqTable F L ps) h)
+      ∙ List·getD-append (scale F (𝟏 ⊕ p) (eqTable F ps)) (scale F p (eqTable F ps)) 𝟎 i
+      (rw (length-scale F L (𝟏 ⊕ p) (eqTable F ps), length-eqTable F L ps) h)
       ∙ getD-scale (𝟏 ⊕ p) (eqTable F ps) i
 
   top-one : (ps : List K) (p : K) (i : ℕ) → getD (eqTable F (ps ++ (p ∷ []))) (2 ^ length ps + i) 𝟎 ≡ p ⊗ getD (eqTable F ps) i 𝟎
   top-one ps p i =
-      ap₂ (λ (t : List K) (j : ℕ). getD t (j + i) 𝟎) (eqTable-snoc F L ps p) (sym (length-scale F L (𝟏 ⊕ p) (eqTable F ps) ∙ length-eqTable F L ps))
+      ap₂ (λ (t : List K) (j : ℕ). getD t (j + i) 𝟎) (eqTable-snoc F L ps p)
+      (sym (length-scale F L (𝟏 ⊕ p) (eqTable F ps) ∙ length-eqTable F L ps))
       ∙ getD-append-add (scale F (𝟏 ⊕ p) (eqTable F ps)) (scale F p (eqTable F ps)) i 𝟎 ∙ getD-scale p (eqTable F ps) i
 
   -- a list by its last entry
   last-split : (t : List K) (n : ℕ) → length t ≡ suc n → t ≡ take n t ++ (getD t n 𝟎 ∷ [])
   last-split t n l =
-      sym (take-append-drop n t) ∙ ap (λ (r : List K). take n t ++ r) (drop-cons t n 𝟎 (omega arith) ∙ ap (λ (r : List K). getD t n 𝟎 ∷ r) (nil (drop (suc n) t) (omega (arith, length-drop (suc n) t))))
+      sym (take-append-drop n t) ∙ ap (λ (r : List K). take n t ++ r) (drop-cons t n 𝟎 (omega arith)
+      ∙ ap (λ (r : List K). getD t n 𝟎 ∷ r) (nil (drop (suc n) t) (omega (arith, length-drop (suc n) t))))
     where
       nil : (t : List K) → length t ≡ 0 → t ≡ []
       nil [] h = refl
       nil (x ∷ t) h = absurd (omega arith)
 
   without-last : (t : List K) (n : ℕ) → length t ≡ suc n → without n t ≡ take n t
-  without-last t n l = ap (λ (r : List K). take n t ++ r) (nil (drop (suc n) t) (omega (arith, length-drop (suc n) t))) ∙ append-nil (take n t)
+  without-last t n l = ap (λ (r : List K). take n t ++ r) (nil (drop (suc n) t) (omega (arith, length-drop (suc n) t)))
+      ∙ append-nil (take n t)
     where
       nil : (t : List K) → length t ≡ 0 → t ≡ []
       nil [] h = refl
       nil (x ∷ t) h = absurd (omega arith)
 
   pub eq-pair₀ : (s n : ℕ) (p : List K) (i : ℕ) → length p ≡ suc n → i < 2 ^ n
-      → getD (eqTable F p) (insertZero (nextVar s (suc n)) i) 𝟎 ≡ (𝟏 ⊕ getD p (nextVar s (suc n)) 𝟎) ⊗ getD (eqTable F (without (nextVar s (suc n)) p)) i 𝟎
+      → getD (eqTable F p) (insertZero (nextVar s (suc n)) i) 𝟎
+      ≡ (𝟏 ⊕ getD p (nextVar s (suc n)) 𝟎) ⊗ getD (eqTable F (without (nextVar s (suc n)) p)) i 𝟎
   unfolding nextVar
   eq-pair₀ zero n [] i l h = absurd (omega arith)
   eq-pair₀ zero n (x ∷ p) i l h = ap (λ (j : ℕ). getD (eqTable F (x ∷ p)) j 𝟎) (insert-low i) ∙ spread-even x (eqTable F p) i
   eq-pair₀ (suc s) n p i l h = rw (next-high s n, insert-top n i h, without-last p n l)
-      (ap (λ (t : List K). getD (eqTable F t) i 𝟎) (last-split p n l) ∙ top-zero (take n p) (getD p n 𝟎) i (rw (length-take-le n p (omega arith)) h))
+      (ap (λ (t : List K). getD (eqTable F t) i 𝟎) (last-split p n l)
+      ∙ top-zero (take n p) (getD p n 𝟎) i (rw (length-take-le n p (omega arith)) h))
 
   pub eq-pair₁ : (s n : ℕ) (p : List K) (i : ℕ) → length p ≡ suc n → i < 2 ^ n
-      → getD (eqTable F p) (insertZero (nextVar s (suc n)) i + 2 ^ nextVar s (suc n)) 𝟎 ≡ getD p (nextVar s (suc n)) 𝟎 ⊗ getD (eqTable F (without (nextVar s (suc n)) p)) i 𝟎
+      → getD (eqTable F p) (insertZero (nextVar s (suc n)) i + 2 ^ nextVar s (suc n)) 𝟎
+      ≡ getD p (nextVar s (suc n)) 𝟎 ⊗ getD (eqTable F (without (nextVar s (suc n)) p)) i 𝟎
   unfolding nextVar
   eq-pair₁ zero n [] i l h = absurd (omega arith)
   eq-pair₁ zero n (x ∷ p) i l h = ap (λ (j : ℕ). getD (eqTable F (x ∷ p)) j 𝟎) (next-low i) ∙ spread-odd x (eqTable F p) i
   eq-pair₁ (suc s) n p i l h = rw (next-high s n, next-top n i h, without-last p n l)
-      (ap₂ (λ (t : List K) (m : ℕ). getD (eqTable F t) (2 ^ m + i) 𝟎) (last-split p n l) (sym (length-take-le n p (omega arith))) ∙ top-one (take n p) (getD p n 𝟎) i)
+      (ap₂ (λ (t : List K) (m : ℕ). getD (eqTable F t) (2 ^ m + i) 𝟎) (last-split p n l) (sym (length-take-le n p (omega arith)))
+      ∙ top-one (take n p) (getD p n 𝟎) i)

@@ -46,7 +46,8 @@ unfolding total
 summed-more m i acc x y s h p q = record {
   within = omega (arith, s .within);
   above = omega (arith, s .within);
-  is = q ∙ ap₂ _⊕_ p (s .is) ∙ sym (ap total (drop-cons m (i - 1) 0 (omega (arith, s .within)) ∙ ap (λ (k : ℕ). getD m (i - 1) 0 ∷ drop k m) back));
+  is = q ∙ ap₂ _⊕_ p (s .is) ∙ sym (ap total (drop-cons m (i - 1) 0 (omega (arith, s .within))
+      ∙ ap (λ (k : ℕ). getD m (i - 1) 0 ∷ drop k m) back));
 }
   where
     back : suc (i - 1) ≡ i
@@ -67,13 +68,20 @@ pub record Evaluated (m : List ℕ) (r i acc : ℕ) : Type 0 where
 
 pub evaluated-start : (m : List ℕ) (r n : ℕ) → n ≡ length m → Evaluated m r n 0
 unfolding eval
-evaluated-start m r n e = record { within = omega arith; is = ap (λ (l : List ℕ). eval l r) (sym (drop-of-length-le m {i = n} (omega arith))) }
+evaluated-start m r n e = record {
+  within = omega arith;
+  is = ap (λ (l : List ℕ). eval l r)
+      (sym (drop-of-length-le m {i = n} (omega arith)));
+}
 
-pub evaluated-more : (m : List ℕ) (r i acc x y : ℕ) → Evaluated m r i acc → 0 < i → x ≡ getD m (i - 1) 0 → y ≡ x ⊕ r ⊗ acc → Evaluated m r (i - 1) y
+pub evaluated-more : (m : List ℕ) (r i acc x y : ℕ) → Evaluated m r i acc → 0 < i → x ≡ getD m (i - 1) 0 → y ≡ x ⊕ r ⊗ acc
+    → Evaluated m r (i - 1) y
 unfolding eval
 evaluated-more m r i acc x y s h p q = record {
   within = omega (arith, s .within);
-  is = q ∙ ap₂ (λ (a b : ℕ). a ⊕ r ⊗ b) p (s .is) ∙ sym (ap (λ (l : List ℕ). eval l r) (drop-cons m (i - 1) 0 (omega (arith, s .within)) ∙ ap (λ (k : ℕ). getD m (i - 1) 0 ∷ drop k m) back));
+  is = q ∙ ap₂ (λ (a b : ℕ). a ⊕ r ⊗ b) p (s .is)
+      ∙ sym (ap (λ (l : List ℕ). eval l r) (drop-cons m (i - 1) 0 (omega (arith, s .within))
+      ∙ ap (λ (k : ℕ). getD m (i - 1) 0 ∷ drop k m) back));
 }
   where
     back : suc (i - 1) ≡ i

@@ -39,10 +39,13 @@ outer-middle v n e a b c = sum-three _ _ _ _ n one
     spread e x y z = simp (⊗-⊕)
 
     middle : (i : ℕ) → coefficient₁ v a b c i ≡ coefficient₀ v a b c i ⊕ atOne v a b c i ⊕ coefficient₂ v a b i
-    middle i = unfold coefficient₀ coefficient₁ coefficient₂ atOne slope in karatsuba (at₀ v a i) (at₁ v a i) (at₀ v b i) (at₁ v b i) (at₀ v c i) (at₁ v c i)
+    middle i = unfold coefficient₀ coefficient₁ coefficient₂ atOne slope in karatsuba (at₀ v a i) (at₁ v a i) (at₀ v b i) (at₁ v b i)
+        (at₀ v c i) (at₁ v c i)
 
-    one : (i : ℕ) → getD e i 0 ⊗ coefficient₁ v a b c i ≡ getD e i 0 ⊗ coefficient₀ v a b c i ⊕ getD e i 0 ⊗ atOne v a b c i ⊕ getD e i 0 ⊗ coefficient₂ v a b i
-    one i = ap (λ (x : ℕ). getD e i 0 ⊗ x) (middle i) ∙ spread (getD e i 0) (coefficient₀ v a b c i) (atOne v a b c i) (coefficient₂ v a b i)
+    one : (i : ℕ) → getD e i 0 ⊗ coefficient₁ v a b c i
+        ≡ getD e i 0 ⊗ coefficient₀ v a b c i ⊕ getD e i 0 ⊗ atOne v a b c i ⊕ getD e i 0 ⊗ coefficient₂ v a b i
+    one i = ap (λ (x : ℕ). getD e i 0 ⊗ x) (middle i)
+        ∙ spread (getD e i 0) (coefficient₀ v a b c i) (atOne v a b c i) (coefficient₂ v a b i)
 
 pub outer-message-is : (v k t n : ℕ) (e a b c : List ℕ) (s : Sums) → n ≡ length e → sums s ≡ outerSums v e a b c n
     → timesEq k t (value (s .zero)) (value (s .zero) ⊕ value (s .one) ⊕ value (s .top)) (value (s .top)) ≡ outerMessage v k t e a b c
@@ -62,7 +65,8 @@ outer-message-is v k t n e a b c s l h = go
     q₁ = (λ i. q₀ i ⊕ at-one i ⊕ q₂ i) ∙ sym (outer-middle v (length e) e a b c)
 
     go : timesEq k t (value (s .zero)) (value (s .zero) ⊕ value (s .one) ⊕ value (s .top)) (value (s .top))
-        ≡ timesEq k t (weighted e (coefficient₀ v a b c) (length e)) (weighted e (coefficient₁ v a b c) (length e)) (weighted e (coefficient₂ v a b) (length e))
+        ≡ timesEq k t (weighted e (coefficient₀ v a b c) (length e)) (weighted e (coefficient₁ v a b c) (length e))
+        (weighted e (coefficient₂ v a b) (length e))
     go = λ i. timesEq k t (q₀ i) (q₁ i) (q₂ i)
 
 inner-middle : (t₀ t₁ z₀ z₁ : ℕ) → t₀ ⊗ (z₀ ⊕ z₁) ⊕ (t₀ ⊕ t₁) ⊗ z₀ ≡ t₀ ⊗ z₀ ⊕ t₁ ⊗ z₁ ⊕ (t₀ ⊕ t₁) ⊗ (z₀ ⊕ z₁)
@@ -82,13 +86,15 @@ inner-message-is v n t z s l h = go (length t / 2) l
     q₂ : value (s .top) ≡ sumTo (λ i. slope v t i ⊗ slope v z i) n
     q₂ = ap (λ (m : List ℕ). getD m 2 0) h
 
-    middle : (i : ℕ) → at₀ v t i ⊗ slope v z i ⊕ slope v t i ⊗ at₀ v z i ≡ at₀ v t i ⊗ at₀ v z i ⊕ at₁ v t i ⊗ at₁ v z i ⊕ slope v t i ⊗ slope v z i
+    middle : (i : ℕ) → at₀ v t i ⊗ slope v z i ⊕ slope v t i ⊗ at₀ v z i
+        ≡ at₀ v t i ⊗ at₀ v z i ⊕ at₁ v t i ⊗ at₁ v z i ⊕ slope v t i ⊗ slope v z i
     middle i = unfold slope in inner-middle (at₀ v t i) (at₁ v t i) (at₀ v z i) (at₁ v z i)
 
     q₁ : value (s .zero) ⊕ value (s .one) ⊕ value (s .top) ≡ sumTo (λ i. at₀ v t i ⊗ slope v z i ⊕ slope v t i ⊗ at₀ v z i) n
     q₁ = (λ i. q₀ i ⊕ at-one i ⊕ q₂ i) ∙ sym (sum-three _ _ _ _ n middle)
 
-    go : (m : ℕ) → n ≡ m → _≡_ {A = List ℕ} (value (s .zero) ∷ (value (s .zero) ⊕ value (s .one) ⊕ value (s .top)) ∷ value (s .top) ∷ []) (innerSums v t z m)
+    go : (m : ℕ) → n ≡ m → _≡_ {A = List ℕ} (value (s .zero) ∷ (value (s .zero) ⊕ value (s .one) ⊕ value (s .top)) ∷ value
+        (s .top) ∷ []) (innerSums v t z m)
     go m e = (λ i. q₀ i ∷ q₁ i ∷ q₂ i ∷ []) ∙ ap (innerSums v t z) e
 
 -- ---- the eq factor
@@ -113,7 +119,8 @@ pub stored-next : (n : ℕ) (xs out s : List ℕ) (v : ℕ) → length xs ≡ n 
     → stored s n v ≡ words (xs ++ (v ∷ [])) ++ drop (2 * n + 2) out
 unfolding stored
 stored-next n xs out s v l h e = rw e (rw (lt-ltb n (length (words xs ++ drop (2 * n) out) / 2) room)
-    (ap (λ (r : List ℕ). set (set (words xs ++ r) (2 * n) (v % 2 ^ 64)) (2 * n + 1) (v / 2 ^ 64)) two ∙ places ∙ words-snoc xs v (drop (2 * n + 2) out)))
+    (ap (λ (r : List ℕ). set (set (words xs ++ r) (2 * n) (v % 2 ^ 64)) (2 * n + 1) (v / 2 ^ 64)) two ∙ places
+    ∙ words-snoc xs v (drop (2 * n + 2) out)))
   where
     count : length (words xs) ≡ 2 * n
     count = words-length xs ∙ ap (λ (k : ℕ). 2 * k) l
@@ -128,31 +135,42 @@ stored-next n xs out s v l h e = rw e (rw (lt-ltb n (length (words xs ++ drop (2
     next = omega arith
 
     two : drop (2 * n) out ≡ getD out (2 * n) 0 ∷ getD out (suc (2 * n)) 0 ∷ drop (2 * n + 2) out
-    two = drop-cons out (2 * n) 0 (omega arith) ∙ ap (λ (r : List ℕ). getD out (2 * n) 0 ∷ r) (drop-cons out (suc (2 * n)) 0 (omega arith) ∙ ap (λ (k : ℕ). getD out (suc (2 * n)) 0 ∷ drop k out) after)
+    two = drop-cons out (2 * n) 0 (omega arith) ∙ ap (λ (r : List ℕ). getD out (2 * n) 0 ∷ r) (drop-cons out (suc (2 * n)) 0 (omega arith)
+        ∙ ap (λ (k : ℕ). getD out (suc (2 * n)) 0 ∷ drop k out) after)
 
-    places : set (set (words xs ++ (getD out (2 * n) 0 ∷ getD out (suc (2 * n)) 0 ∷ drop (2 * n + 2) out)) (2 * n) (v % 2 ^ 64)) (2 * n + 1) (v / 2 ^ 64)
+    places : set (set (words xs ++ (getD out (2 * n) 0 ∷ getD out (suc (2 * n)) 0 ∷ drop (2 * n + 2) out)) (2 * n) (v % 2 ^ 64))
+        (2 * n + 1) (v / 2 ^ 64)
         ≡ words xs ++ (v % 2 ^ 64 ∷ v / 2 ^ 64 ∷ drop (2 * n + 2) out)
-    places = rw (← next, ← count) (set-pair (words xs) (getD out (length (words xs)) 0) (getD out (suc (length (words xs))) 0) (drop (length (words xs) + 2) out) (v % 2 ^ 64) (v / 2 ^ 64))
+    places = rw (← next, ← count) (set-pair (words xs) (getD out (length (words xs)) 0) (getD out (suc (length (words xs))) 0)
+        (drop (length (words xs) + 2) out) (v % 2 ^ 64) (v / 2 ^ 64))
 
-pub put-four : (out : List ℕ) (a b c d : ℕ) → 8 ≤ length out → stored (stored (stored (stored out 0 a) 1 b) 2 c) 3 d ≡ words (a ∷ b ∷ c ∷ d ∷ []) ++ drop 8 out
+pub put-four : (out : List ℕ) (a b c d : ℕ) → 8 ≤ length out → stored (stored (stored (stored out 0 a) 1 b) 2 c) 3 d
+    ≡ words (a ∷ b ∷ c ∷ d ∷ []) ++ drop 8 out
 put-four out a b c d h = stored-next 3 (a ∷ b ∷ c ∷ []) out (stored (stored (stored out 0 a) 1 b) 2 c) d refl (omega arith)
-    (stored-next 2 (a ∷ b ∷ []) out (stored (stored out 0 a) 1 b) c refl (omega arith) (stored-next 1 (a ∷ []) out (stored out 0 a) b refl (omega arith) (stored-next 0 [] out out a refl (omega arith) (unfold words in refl))))
+    (stored-next 2 (a ∷ b ∷ []) out (stored (stored out 0 a) 1 b) c refl (omega arith)
+    (stored-next 1 (a ∷ []) out (stored out 0 a) b refl (omega arith)
+    (stored-next 0 [] out out a refl (omega arith) (unfold words in refl))))
 
-pub put-three : (out : List ℕ) (a b c : ℕ) → 6 ≤ length out → stored (stored (stored out 0 a) 1 b) 2 c ≡ words (a ∷ b ∷ c ∷ []) ++ drop 6 out
+pub put-three : (out : List ℕ) (a b c : ℕ) → 6 ≤ length out → stored (stored (stored out 0 a) 1 b) 2 c
+    ≡ words (a ∷ b ∷ c ∷ []) ++ drop 6 out
 put-three out a b c h =
-    stored-next 2 (a ∷ b ∷ []) out (stored (stored out 0 a) 1 b) c refl (omega arith) (stored-next 1 (a ∷ []) out (stored out 0 a) b refl (omega arith) (stored-next 0 [] out out a refl (omega arith) (unfold words in refl)))
+    stored-next 2 (a ∷ b ∷ []) out (stored (stored out 0 a) 1 b) c refl (omega arith)
+    (stored-next 1 (a ∷ []) out (stored out 0 a) b refl (omega arith)
+    (stored-next 0 [] out out a refl (omega arith) (unfold words in refl)))
 
 -- ---- the whole outcome where no refusal applies
 pub inner-out : (out t z last : List ℕ) (v : ℕ) (s : Sums) → innerRefusal (length out) (length t) (length z) v ≡ 0
     → sums s ≡ innerSumsAt v (elements t) (elements z) (length t / 4)
     → last ≡ words (value (s .zero) ∷ (value (s .zero) ⊕ value (s .one) ⊕ value (s .top)) ∷ value (s .top) ∷ []) ++ drop 6 out
     → last ≡ innerOut out t z v
-inner-out out t z last v s e h p = rw e (p ∙ ap (λ (m : List ℕ). words m ++ drop 6 out) (inner-message-is v (length t / 4) (elements t) (elements z) s pairs h))
+inner-out out t z last v s e h p = rw e (p ∙ ap (λ (m : List ℕ). words m ++ drop 6 out) (inner-message-is v (length t / 4) (elements t)
+    (elements z) s pairs h))
   where
     pairs : length t / 4 ≡ length (elements t) / 2
     pairs = omega (arith, elements-length t)
 
-pub outer-out : (out e a b c last : List ℕ) (v k t : ℕ) (s : Sums) → outerRefusal (length out) (length e) (length a) (length b) (length c) v ≡ 0
+pub outer-out : (out e a b c last : List ℕ) (v k t : ℕ) (s : Sums)
+    → outerRefusal (length out) (length e) (length a) (length b) (length c) v ≡ 0
     → sums s ≡ outerSums v (elements e) (elements a) (elements b) (elements c) (length e / 2)
     → last ≡ words (timesEq k t (value (s .zero)) (value (s .zero) ⊕ value (s .one) ⊕ value (s .top)) (value (s .top))) ++ drop 8 out
     → last ≡ outerOut out e a b c v k t

@@ -101,11 +101,14 @@ module _ (F : Field) where
     -- the polynomial of the round, over one pair at least
     pub outer-poly : (n : ℕ) (k t : K) (e a₀ a₁ b₀ b₁ c₀ c₁ : ℕ → K)
         → polyAll F (outerCells F) (tabulate (outerPair k t e a₀ a₁ b₀ b₁ c₀ c₁) (suc n))
-        ≡ timesEqF k t (sumF (q₀ k t e a₀ a₁ b₀ b₁ c₀ c₁) (suc n)) (sumF (q₁ k t e a₀ a₁ b₀ b₁ c₀ c₁) (suc n)) (sumF (q₂ k t e a₀ a₁ b₀ b₁ c₀ c₁) (suc n))
+        ≡ timesEqF k t (sumF (q₀ k t e a₀ a₁ b₀ b₁ c₀ c₁) (suc n)) (sumF (q₁ k t e a₀ a₁ b₀ b₁ c₀ c₁) (suc n))
+        (sumF (q₂ k t e a₀ a₁ b₀ b₁ c₀ c₁) (suc n))
     unfolding tabulate
     outer-poly zero k t e a₀ a₁ b₀ b₁ c₀ c₁ = pair-poly k t (e 0) (a₀ 0) (a₁ 0) (b₀ 0) (b₁ 0) (c₀ 0) (c₁ 0)
-        ∙ (λ i. timesEqF k t (one-sum (q₀ k t e a₀ a₁ b₀ b₁ c₀ c₁ 0) i) (one-sum (q₁ k t e a₀ a₁ b₀ b₁ c₀ c₁ 0) i) (one-sum (q₂ k t e a₀ a₁ b₀ b₁ c₀ c₁ 0) i))
+        ∙ (λ i. timesEqF k t (one-sum (q₀ k t e a₀ a₁ b₀ b₁ c₀ c₁ 0) i) (one-sum (q₁ k t e a₀ a₁ b₀ b₁ c₀ c₁ 0) i)
+        (one-sum (q₂ k t e a₀ a₁ b₀ b₁ c₀ c₁ 0) i))
     outer-poly (suc n) k t e a₀ a₁ b₀ b₁ c₀ c₁ =
         ap₂ (addPoly F) (pair-poly k t (e 0) (a₀ 0) (a₁ 0) (b₀ 0) (b₁ 0) (c₀ 0) (c₁ 0))
-        (outer-poly n k t (λ i. e (suc i)) (λ i. a₀ (suc i)) (λ i. a₁ (suc i)) (λ i. b₀ (suc i)) (λ i. b₁ (suc i)) (λ i. c₀ (suc i)) (λ i. c₁ (suc i)))
+        (outer-poly n k t (λ i. e (suc i)) (λ i. a₀ (suc i)) (λ i. a₁ (suc i)) (λ i. b₀ (suc i)) (λ i. b₁ (suc i)) (λ i. c₀ (suc i))
+        (λ i. c₁ (suc i)))
         ∙ timesEq-add k t _ _ _ _ _ _

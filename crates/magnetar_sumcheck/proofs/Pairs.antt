@@ -54,9 +54,11 @@ module _ {A B : Type 0} (d : A) (f : A → A → B) where
   abbrev pub byTwo : List A → List A → ℕ → B
   byTwo s t i = f (getD s i d) (getD t i d)
 
-  pub by-top : (t : List A) (n : ℕ) → length t ≡ 2 ^ suc n → tabulate (pairAt n t) (2 ^ n) ≡ tabulate (byTwo (take (2 ^ n) t) (drop (2 ^ n) t)) (2 ^ n)
+  pub by-top : (t : List A) (n : ℕ) → length t ≡ 2 ^ suc n → tabulate (pairAt n t) (2 ^ n)
+      ≡ tabulate (byTwo (take (2 ^ n) t) (drop (2 ^ n) t)) (2 ^ n)
   by-top t n l = tabulate-ext (pairAt n t) (byTwo (take (2 ^ n) t) (drop (2 ^ n) t)) (2 ^ n)
-      (λ i h. ap₂ f (ap (λ (j : ℕ). getD t j d) (insert-top n i h) ∙ sym (getD-take (2 ^ n) t i d h)) (ap (λ (j : ℕ). getD t j d) (next-top n i h) ∙ sym (getD-drop (2 ^ n) t i d)))
+      (λ i h. ap₂ f (ap (λ (j : ℕ). getD t j d) (insert-top n i h) ∙ sym (getD-take (2 ^ n) t i d h))
+      (ap (λ (j : ℕ). getD t j d) (next-top n i h) ∙ sym (getD-drop (2 ^ n) t i d)))
 
 module _ {A : Type 0} where
   half-take : (t : List A) (n : ℕ) → length t ≡ 2 ^ suc n → length (take (2 ^ n) t) ≡ 2 ^ n
@@ -75,7 +77,8 @@ module _ (F : Field) (X : Cells F) where
   low-pairs (x ∷ []) zero l = absurd (omega arith)
   low-pairs (x ∷ []) (suc n) l = absurd (omega arith)
   low-pairs (x ∷ y ∷ t) zero l = absurd (omega arith)
-  low-pairs (x ∷ y ∷ t) (suc n) l = ap (λ (r : List (C × C)). (x, y) ∷ r) (low-pairs t n (omega arith)) ∙ sym (low-cons none (λ (x y : C). (x, y)) x y t n)
+  low-pairs (x ∷ y ∷ t) (suc n) l = ap (λ (r : List (C × C)). (x, y) ∷ r) (low-pairs t n (omega arith))
+      ∙ sym (low-cons none (λ (x y : C). (x, y)) x y t n)
 
   up-pairs : (s t : List C) (n : ℕ) → length s ≡ n → length t ≡ n → pairUp F X s t ≡ tabulate (byTwo none (λ (x y : C). (x, y)) s t) n
   unfolding tabulate
@@ -96,7 +99,8 @@ module _ (F : Field) (X : Cells F) where
   pairs-are (suc s) b n t e l =
       ap (λ (k : ℕ). pairUp F X (take (2 ^ k) t) (drop (2 ^ k) t)) same
       ∙ up-pairs (take (2 ^ n) t) (drop (2 ^ n) t) (2 ^ n) (half-take t n l) (half-drop t n l)
-      ∙ sym (by-top none (λ (x y : C). (x, y)) t n l) ∙ ap (λ (v : ℕ). tabulate (pairAt none (λ (x y : C). (x, y)) v t) (2 ^ n)) (sym (next-high s n))
+      ∙ sym (by-top none (λ (x y : C). (x, y)) t n l)
+      ∙ ap (λ (v : ℕ). tabulate (pairAt none (λ (x y : C). (x, y)) v t) (2 ^ n)) (sym (next-high s n))
     where
       same : s + b ≡ n
       same = omega arith

@@ -61,14 +61,16 @@ dot-lt (x ∷ s) (y ∷ t) = ⊕-lt 128 (x ⊗ y) (dot s t) (⊗-lt x y) (dot-lt
 
 pub element-mle : (t p : List ℕ) → element (mle t p) ≡ dotE gf128 (eqTableE gf128 (els p)) (els t)
 unfolding mle
-element-mle t p = element-dot t (eqTable p) ∙ ap (dotE gf128 (els t)) (element-eqTable p) ∙ dot-comm gf128 gf128Laws (els t) (eqTableE gf128 (els p))
+element-mle t p = element-dot t (eqTable p) ∙ ap (dotE gf128 (els t)) (element-eqTable p)
+    ∙ dot-comm gf128 gf128Laws (els t) (eqTableE gf128 (els p))
 
 pub element-eqPoints : (ps qs : List ℕ) → element (eqPoints ps qs) ≡ eqProduct gf128 (els ps) (els qs)
 unfolding eqPoints
 element-eqPoints [] qs = refl
 element-eqPoints (p ∷ ps) [] = refl
 element-eqPoints (p ∷ ps) (q ∷ qs) =
-    element-⊗ (1 ⊕ p ⊕ q) (eqPoints ps qs) ∙ ap₂ product (element-⊕ (1 ⊕ p) q ∙ ap (λ (x : Element). sum x (element q)) (element-⊕ 1 p)) (element-eqPoints ps qs)
+    element-⊗ (1 ⊕ p ⊕ q) (eqPoints ps qs) ∙ ap₂ product (element-⊕ (1 ⊕ p) q
+    ∙ ap (λ (x : Element). sum x (element q)) (element-⊕ 1 p)) (element-eqPoints ps qs)
 
 els-append : (s t : List ℕ) → els (s ++ t) ≡ els s ++ els t
 els-append [] t = refl
@@ -76,7 +78,8 @@ els-append (x ∷ s) t = ap (λ (l : List Element). element x ∷ l) (els-append
 
 els-reverse : (s : List ℕ) → els (reverse s) ≡ reverse (els s)
 els-reverse [] = refl
-els-reverse (x ∷ s) = ap els (reverse-cons x s) ∙ els-append (reverse s) (x ∷ []) ∙ ap (λ (l : List Element). l ++ (element x ∷ [])) (els-reverse s) ∙ sym (reverse-cons (element x) (els s))
+els-reverse (x ∷ s) = ap els (reverse-cons x s) ∙ els-append (reverse s) (x ∷ [])
+    ∙ ap (λ (l : List Element). l ++ (element x ∷ [])) (els-reverse s) ∙ sym (reverse-cons (element x) (els s))
 
 -- the point of high challenges rs and low ones cs
 pub point-is : (rs cs : List ℕ) → point (length rs) (rs ++ cs) ≡ cs ++ reverse rs
@@ -107,8 +110,13 @@ sum-lt f (suc n) h = ⊕-lt 128 (sumTo f n) (f n) (sum-lt f n h) (h n)
 
 pub innerMessage-below : (v : ℕ) (t z : List ℕ) → AllBelow (2 ^ 128) (innerMessage v t z)
 unfolding innerMessage innerSums
-innerMessage-below v t z =
-    (sum-lt _ (length t / 2) (λ i. ⊗-lt _ _), (sum-lt _ (length t / 2) (λ i. ⊕-lt 128 _ _ (⊗-lt _ _) (⊗-lt _ _)), (sum-lt _ (length t / 2) (λ i. ⊗-lt _ _), tt)))
+innerMessage-below v t z = (
+  sum-lt _ (length t / 2) (λ i. ⊗-lt _ _),
+  (
+    sum-lt _ (length t / 2) (λ i. ⊕-lt 128 _ _ (⊗-lt _ _) (⊗-lt _ _)),
+    (sum-lt _ (length t / 2) (λ i. ⊗-lt _ _), tt),
+  ),
+)
 
 pub inner-below : (t z rs : List ℕ) → MessagesBelow (innerMessages t z rs)
 unfolding innerMessages
@@ -132,7 +140,8 @@ pub record OuterSizes (tau a b c rs cs : List ℕ) : Type 0 where
 -- the value at the end: eq(tau, p) (a(p) b(p) + c(p)), where p is the point of the challenges
 abbrev pub trueEnd : (tau a b c rs cs : List ℕ) → ℕ
 trueEnd tau a b c rs cs =
-    outerEnd (eqPoints tau (point (length rs) (rs ++ cs))) (mle a (point (length rs) (rs ++ cs))) (mle b (point (length rs) (rs ++ cs))) (mle c (point (length rs) (rs ++ cs)))
+    outerEnd (eqPoints tau (point (length rs) (rs ++ cs))) (mle a (point (length rs) (rs ++ cs))) (mle b (point (length rs) (rs ++ cs)))
+    (mle c (point (length rs) (rs ++ cs)))
 
 -- every row holds: a b + c is zero everywhere
 abbrev pub Rows : (a b c : List ℕ) → Type 0
@@ -146,15 +155,18 @@ module _ (tau a b c rs cs : List ℕ) (Z : OuterSizes tau a b c rs cs) where
   tau-length = length-map tau element ∙ Z .size-tau ∙ ap₂ _+_ (sym (length-map rs element)) (sym (length-map cs element))
 
   end-is : element (trueEnd tau a b c rs cs)
-    ≡ product (eqProduct gf128 (els tau) (els cs ++ reverse (els rs)))
-        (sum (product (dotE gf128 (eqTableE gf128 (els cs ++ reverse (els rs))) (els a)) (dotE gf128 (eqTableE gf128 (els cs ++ reverse (els rs))) (els b))) (dotE gf128 (eqTableE gf128 (els cs ++ reverse (els rs))) (els c)))
+      ≡ product (eqProduct gf128 (els tau) (els cs ++ reverse (els rs)))
+      (sum (product (dotE gf128 (eqTableE gf128 (els cs ++ reverse (els rs))) (els a))
+      (dotE gf128 (eqTableE gf128 (els cs ++ reverse (els rs))) (els b)))
+      (dotE gf128 (eqTableE gf128 (els cs ++ reverse (els rs))) (els c)))
   unfolding outerEnd
   end-is = element-⊗ (eqPoints tau p) (mle a p ⊗ mle b p ⊕ mle c p)
       ∙ ap₂ product (element-eqPoints tau p ∙ ap (eqProduct gf128 (els tau)) (els-point rs cs))
-          (element-⊕ (mle a p ⊗ mle b p) (mle c p) ∙ ap₂ sum (element-⊗ (mle a p) (mle b p) ∙ ap₂ product (at a) (at b)) (at c))
+      (element-⊕ (mle a p ⊗ mle b p) (mle c p) ∙ ap₂ sum (element-⊗ (mle a p) (mle b p) ∙ ap₂ product (at a) (at b)) (at c))
     where
       p : List ℕ
       p = point (length rs) (rs ++ cs)
+
       at : (t : List ℕ) → element (mle t p) ≡ dotE gf128 (eqTableE gf128 (els cs ++ reverse (els rs))) (els t)
       at t = element-mle t p ∙ ap (λ (q : List Element). dotE gf128 (eqTableE gf128 q) (els t)) (els-point rs cs)
 
@@ -164,8 +176,11 @@ module _ (tau a b c rs cs : List ℕ) (Z : OuterSizes tau a b c rs cs) where
 
   -- if all checks pass and the end is true, every row holds, or an element of tau or a challenge is in its list
   pub outer-accepted : (ms : List (List ℕ)) → passes 0 ms (rs ++ cs) ≡ true → running 0 ms (rs ++ cs) ≡ trueEnd tau a b c rs cs
-    → Rows a b c ⊎ (TauCaught gf128 (rowValues gf128 (els a) (els b) (els c)) (els tau) ⊎ Caught gf128 (tableRounds gf128 (outerCells gf128)) begin (map els ms) (els rs ++ els cs))
-  outer-accepted ms h e = outer-sound gf128 gf128Laws (els a) (els b) (els c) (els tau) (els rs) (els cs) (els-length a (Z .size-a)) (els-length b (Z .size-b) ∙ sym (els-length a (Z .size-a))) (els-length c (Z .size-c) ∙ sym (els-length a (Z .size-a))) tau-length (map els ms)
+      → Rows a b c ⊎ (TauCaught gf128 (rowValues gf128 (els a) (els b) (els c)) (els tau)
+      ⊎ Caught gf128 (tableRounds gf128 (outerCells gf128)) begin (map els ms) (els rs ++ els cs))
+  outer-accepted ms h e = outer-sound gf128 gf128Laws (els a) (els b) (els c) (els tau) (els rs) (els cs) (els-length a (Z .size-a))
+      (els-length b (Z .size-b) ∙ sym (els-length a (Z .size-a))) (els-length c (Z .size-c) ∙ sym (els-length a (Z .size-a))) tau-length
+      (map els ms)
       (subst (Checks gf128 (element 0) (map els ms)) (els-append rs cs) (passes-checks 0 ms (rs ++ cs) h))
       (ap (runningE gf128 (element 0) (map els ms)) (sym (els-append rs cs)) ∙ sym (running-is 0 ms (rs ++ cs)) ∙ ap element e ∙ end-is)
 
@@ -174,30 +189,44 @@ module _ (tau a b c rs cs : List ℕ) (Z : OuterSizes tau a b c rs cs) where
   honestOuter = outerMessages (outerStart (length rs) tau a b c) (rs ++ cs)
 
   honest-is : map els honestOuter ≡ honest gf128 (tableRounds gf128 (outerCells gf128)) begin (els rs ++ els cs)
-  honest-is = O.messages-are (rs ++ cs) (outerStart (length rs) tau a b c) (start gf128 (els a) (els b) (els c) (els tau) (length rs) (length cs))
-        (start-stands (length rs) (length cs) tau a b c (Z .size-tau) (Z .size-a ∙ whole) (Z .size-b ∙ whole) (Z .size-c ∙ whole)) (fits (outerStart (length rs) tau a b c) started)
-      ∙ ap₂ (λ (m n : ℕ). honest gf128 (tableRounds gf128 (outerCells gf128)) (start gf128 (els a) (els b) (els c) (els tau) m n) (els (rs ++ cs))) (sym (length-map rs element)) (sym (length-map cs element))
+  honest-is = O.messages-are (rs ++ cs) (outerStart (length rs) tau a b c)
+      (start gf128 (els a) (els b) (els c) (els tau) (length rs) (length cs))
+      (start-stands (length rs) (length cs) tau a b c (Z .size-tau) (Z .size-a ∙ whole) (Z .size-b ∙ whole) (Z .size-c ∙ whole))
+      (fits (outerStart (length rs) tau a b c) started)
+      ∙ ap₂ (λ (m n : ℕ). honest gf128 (tableRounds gf128 (outerCells gf128)) (start gf128 (els a) (els b) (els c) (els tau) m n)
+      (els (rs ++ cs))) (sym (length-map rs element)) (sym (length-map cs element))
       ∙ ap (honest gf128 (tableRounds gf128 (outerCells gf128)) begin) (els-append rs cs)
     where
       whole : 2 ^ (length rs + length cs) ≡ 2 ^ length tau
       whole = ap (λ (n : ℕ). 2 ^ n) (sym (Z .size-tau))
+
       started : (outerStart (length rs) tau a b c) .tau ≡ tau
       started = unfold outerStart in refl
+
       fits : (S : Outer) → S .tau ≡ tau → length (rs ++ cs) ≤ length (S .tau)
       fits S e = rw e (omega (arith, length-append rs cs, Z .size-tau))
 
   -- if every row holds, the honest messages pass every check, and the end is true
   pub outer-honest : Rows a b c → (passes 0 honestOuter (rs ++ cs) ≡ true) × (running 0 honestOuter (rs ++ cs) ≡ trueEnd tau a b c rs cs)
-  outer-honest z =
-      ( checks-passes 0 honestOuter (rs ++ cs) (pow-pos 128) (outer-below (outerStart (length rs) tau a b c) (rs ++ cs)) (subst (λ (l : List Element). Checks gf128 (element 0) (map els honestOuter) l) (sym (els-append rs cs)) (subst (λ (m : List (List Element)). Checks gf128 (element 0) m (els rs ++ els cs)) (sym honest-is) (done .0)))
-      , element-inj (running 0 honestOuter (rs ++ cs)) (trueEnd tau a b c rs cs) (running-lt 0 honestOuter (rs ++ cs) (pow-pos 128) (outer-below (outerStart (length rs) tau a b c) (rs ++ cs))) (end-lt)
-          (running-is 0 honestOuter (rs ++ cs) ∙ ap₂ (runningE gf128 (element 0)) honest-is (els-append rs cs) ∙ done .1 ∙ sym end-is) )
+  outer-honest z = (
+    checks-passes 0 honestOuter (rs ++ cs) (pow-pos 128) (outer-below (outerStart (length rs) tau a b c) (rs ++ cs))
+        (subst (λ (l : List Element). Checks gf128 (element 0) (map els honestOuter) l) (sym (els-append rs cs))
+        (subst (λ (m : List (List Element)). Checks gf128 (element 0) m (els rs ++ els cs)) (sym honest-is) (done .0))),
+    element-inj (running 0 honestOuter (rs ++ cs)) (trueEnd tau a b c rs cs)
+        (running-lt 0 honestOuter (rs ++ cs) (pow-pos 128) (outer-below (outerStart (length rs) tau a b c) (rs ++ cs))) (end-lt)
+        (running-is 0 honestOuter (rs ++ cs) ∙ ap₂ (runningE gf128 (element 0)) honest-is (els-append rs cs) ∙ done .1 ∙ sym end-is),
+  )
     where
       done : Checks gf128 (element 0) (honest gf128 (tableRounds gf128 (outerCells gf128)) begin (els rs ++ els cs)) (els rs ++ els cs)
-        × (runningE gf128 (element 0) (honest gf128 (tableRounds gf128 (outerCells gf128)) begin (els rs ++ els cs)) (els rs ++ els cs)
+          × (runningE gf128 (element 0) (honest gf128 (tableRounds gf128 (outerCells gf128)) begin (els rs ++ els cs)) (els rs ++ els cs)
           ≡ product (eqProduct gf128 (els tau) (els cs ++ reverse (els rs)))
-              (sum (product (dotE gf128 (eqTableE gf128 (els cs ++ reverse (els rs))) (els a)) (dotE gf128 (eqTableE gf128 (els cs ++ reverse (els rs))) (els b))) (dotE gf128 (eqTableE gf128 (els cs ++ reverse (els rs))) (els c))))
-      done = outer-complete gf128 gf128Laws (els a) (els b) (els c) (els tau) (els rs) (els cs) (els-length a (Z .size-a)) (els-length b (Z .size-b) ∙ sym (els-length a (Z .size-a))) (els-length c (Z .size-c) ∙ sym (els-length a (Z .size-a))) tau-length z
+          (sum (product (dotE gf128 (eqTableE gf128 (els cs ++ reverse (els rs))) (els a))
+          (dotE gf128 (eqTableE gf128 (els cs ++ reverse (els rs))) (els b)))
+          (dotE gf128 (eqTableE gf128 (els cs ++ reverse (els rs))) (els c))))
+      done = outer-complete gf128 gf128Laws (els a) (els b) (els c) (els tau) (els rs) (els cs) (els-length a (Z .size-a))
+          (els-length b (Z .size-b) ∙ sym (els-length a (Z .size-a)))
+          (els-length c (Z .size-c) ∙ sym (els-length a (Z .size-a))) tau-length z
+
       end-lt : trueEnd tau a b c rs cs < 2 ^ 128
       end-lt = unfold outerEnd in ⊗-lt _ _
 
@@ -209,7 +238,8 @@ module _ (t z rs : List ℕ) (lt : length t ≡ 2 ^ length rs) (lz : length z �
   inner-same : length (els z) ≡ length (els t)
   inner-same = length-map z element ∙ lz ∙ sym lt ∙ sym (length-map t element)
 
-  inner-end : element (innerEnd (mle t rs) (mle z rs)) ≡ product (dotE gf128 (eqTableE gf128 (els rs)) (els t)) (dotE gf128 (eqTableE gf128 (els rs)) (els z))
+  inner-end : element (innerEnd (mle t rs) (mle z rs))
+      ≡ product (dotE gf128 (eqTableE gf128 (els rs)) (els t)) (dotE gf128 (eqTableE gf128 (els rs)) (els z))
   unfolding innerEnd
   inner-end = element-⊗ (mle t rs) (mle z rs) ∙ ap₂ product (element-mle t rs) (element-mle z rs)
 
@@ -218,10 +248,12 @@ module _ (t z rs : List ℕ) (lt : length t ≡ 2 ^ length rs) (lz : length z �
 
   -- if all checks pass and the end is true, the claim is the sum, or a challenge is in its list
   pub inner-accepted : (v : ℕ) (ms : List (List ℕ)) → passes v ms rs ≡ true → running v ms rs ≡ innerEnd (mle t rs) (mle z rs)
-    → (element v ≡ element (dot t z)) ⊎ Caught gf128 (tableRounds gf128 (innerCells gf128)) innerBegin (map els ms) (els rs)
-  inner-accepted v ms h e = go (inner-sound gf128 gf128Laws (els t) (els z) (els rs) inner-length inner-same (element v) (map els ms) (passes-checks v ms rs h) (sym (running-is v ms rs) ∙ ap element e ∙ inner-end))
+      → (element v ≡ element (dot t z)) ⊎ Caught gf128 (tableRounds gf128 (innerCells gf128)) innerBegin (map els ms) (els rs)
+  inner-accepted v ms h e = go (inner-sound gf128 gf128Laws (els t) (els z) (els rs) inner-length inner-same (element v) (map els ms)
+      (passes-checks v ms rs h) (sym (running-is v ms rs) ∙ ap element e ∙ inner-end))
     where
-      go : (element v ≡ dotE gf128 (els t) (els z)) ⊎ Caught gf128 (tableRounds gf128 (innerCells gf128)) innerBegin (map els ms) (els rs) → (element v ≡ element (dot t z)) ⊎ Caught gf128 (tableRounds gf128 (innerCells gf128)) innerBegin (map els ms) (els rs)
+      go : (element v ≡ dotE gf128 (els t) (els z)) ⊎ Caught gf128 (tableRounds gf128 (innerCells gf128)) innerBegin (map els ms) (els rs)
+          → (element v ≡ element (dot t z)) ⊎ Caught gf128 (tableRounds gf128 (innerCells gf128)) innerBegin (map els ms) (els rs)
       go (inl p) = inl (p ∙ sym (element-dot t z))
       go (inr m) = inr m
 
@@ -233,11 +265,15 @@ module _ (t z rs : List ℕ) (lt : length t ≡ 2 ^ length rs) (lz : length z �
 
   -- the honest messages pass every check from the true sum, and the end is true
   pub inner-honest : (passes (dot t z) honestInner rs ≡ true) × (running (dot t z) honestInner rs ≡ innerEnd (mle t rs) (mle z rs))
-  inner-honest =
-      ( checks-passes (dot t z) honestInner rs (dot-lt t z) (inner-below t z rs) (rw (element-dot t z, inner-honest-is) (done .0))
-      , element-inj (running (dot t z) honestInner rs) (innerEnd (mle t rs) (mle z rs)) (running-lt (dot t z) honestInner rs (dot-lt t z) (inner-below t z rs)) (unfold innerEnd in ⊗-lt _ _)
-          (running-is (dot t z) honestInner rs ∙ ap₂ (λ (v : Element) (m : List (List Element)). runningE gf128 v m (els rs)) (element-dot t z) inner-honest-is ∙ done .1 ∙ sym inner-end) )
+  inner-honest = (
+    checks-passes (dot t z) honestInner rs (dot-lt t z) (inner-below t z rs) (rw (element-dot t z, inner-honest-is) (done .0)),
+    element-inj (running (dot t z) honestInner rs) (innerEnd (mle t rs) (mle z rs))
+        (running-lt (dot t z) honestInner rs (dot-lt t z) (inner-below t z rs)) (unfold innerEnd in ⊗-lt _ _)
+        (running-is (dot t z) honestInner rs ∙ ap₂ (λ (v : Element) (m : List (List Element)). runningE gf128 v m
+        (els rs)) (element-dot t z) inner-honest-is ∙ done .1 ∙ sym inner-end),
+  )
     where
       done : Checks gf128 (dotE gf128 (els t) (els z)) (honest gf128 (tableRounds gf128 (innerCells gf128)) innerBegin (els rs)) (els rs)
-        × (runningE gf128 (dotE gf128 (els t) (els z)) (honest gf128 (tableRounds gf128 (innerCells gf128)) innerBegin (els rs)) (els rs) ≡ product (dotE gf128 (eqTableE gf128 (els rs)) (els t)) (dotE gf128 (eqTableE gf128 (els rs)) (els z)))
+          × (runningE gf128 (dotE gf128 (els t) (els z)) (honest gf128 (tableRounds gf128 (innerCells gf128)) innerBegin (els rs)) (els rs)
+          ≡ product (dotE gf128 (eqTableE gf128 (els rs)) (els t)) (dotE gf128 (eqTableE gf128 (els rs)) (els z)))
       done = inner-complete gf128 gf128Laws (els t) (els z) (els rs) inner-length inner-same

@@ -27,7 +27,12 @@ pub record InnerFits (out t z v : ℕ) : Type 0 where
 
 pub inner-fits : (out t z v : ℕ) → innerRefusal out t z v ≡ 0 → InnerFits out t z v
 unfolding innerRefusal
-inner-fits out t z v e = record { table = not-not (isTable v t) (a .0); same = eqb-true z t (not-not (eqb z t) (b .0)); room = ltb-false out 6 (d .0) }
+inner-fits out t z v e = record {
+  table = not-not (isTable v t) (a .0);
+  same = eqb-true z t
+      (not-not (eqb z t) (b .0));
+  room = ltb-false out 6 (d .0);
+}
   where
     a : (not (isTable v t) ≡ false) × (_≡_ {A = ℕ} (cond (not (eqb z t)) 11 (cond (ltb out 6) 15 0)) 0)
     a = unrefused 10 (not (isTable v t)) _ e
@@ -55,7 +60,8 @@ outer-fits out e a b c v h = record {
   room = ltb-false out 8 ((unrefused 14 (ltb out 8) 0 (s .1)) .0);
 }
   where
-    p : (not (isTable v a) ≡ false) × (_≡_ {A = ℕ} (cond (not (eqb b a)) 11 (cond (not (eqb c a)) 11 (cond (not (eqb e (a / 2))) 11 (cond (ltb out 8) 15 0)))) 0)
+    p : (not (isTable v a) ≡ false) × (_≡_ {A = ℕ} (cond (not (eqb b a)) 11
+        (cond (not (eqb c a)) 11 (cond (not (eqb e (a / 2))) 11 (cond (ltb out 8) 15 0)))) 0)
     p = unrefused 10 (not (isTable v a)) _ h
 
     q : (not (eqb b a) ≡ false) × (_≡_ {A = ℕ} (cond (not (eqb c a)) 11 (cond (not (eqb e (a / 2))) 11 (cond (ltb out 8) 15 0))) 0)
@@ -75,7 +81,8 @@ pub record Table (v w n : ℕ) : Type 0 where
 
 pub table-of : (v w : ℕ) → w < 2 ^ 64 → isTable v w ≡ true → Table v w (log₂ (w / 2) - 1)
 unfolding isTable
-table-of v w h e = go (log₂ (w / 2)) (eqb-true (w % 2) 0 (p .0)) (eqb-true (w / 2) (2 ^ log₂ (w / 2)) (q .0)) (ltb-true v (log₂ (w / 2)) (q .1))
+table-of v w h e = go (log₂ (w / 2)) (eqb-true (w % 2) 0 (p .0)) (eqb-true (w / 2) (2 ^ log₂ (w / 2)) (q .0))
+    (ltb-true v (log₂ (w / 2)) (q .1))
   where
     p : (eqb (w % 2) 0 ≡ true) × ((powerOfTwo (w / 2) && ltb v (log₂ (w / 2))) ≡ true)
     p = and-eq-true-iff (eqb (w % 2) 0) (powerOfTwo (w / 2) && ltb v (log₂ (w / 2))) .0 e

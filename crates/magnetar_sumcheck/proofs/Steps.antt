@@ -62,11 +62,13 @@ triple p q r = λ i. p i ∷ q i ∷ r i ∷ []
 one-more : (f : ℕ → ℕ) (n : ℕ) {x y : ℕ} → x ≡ sumTo f n → y ≡ x ⊕ f n → y ≡ sumTo f (n + 1)
 one-more f n p q = q ∙ ap (λ (z : ℕ). z ⊕ f n) p ∙ sym (sum-more f n)
 
-pub outer-start : (v : ℕ) (e a b c : List ℕ) (s : Sums) → value (s .zero) ≡ 0 → value (s .one) ≡ 0 → value (s .top) ≡ 0 → sums s ≡ outerSums v e a b c 0
+pub outer-start : (v : ℕ) (e a b c : List ℕ) (s : Sums) → value (s .zero) ≡ 0 → value (s .one) ≡ 0 → value (s .top) ≡ 0 → sums s
+    ≡ outerSums v e a b c 0
 unfolding sums outerSums weighted sumTo
 outer-start v e a b c s p q r = triple p q r
 
-pub outer-more : (v i lo hi : ℕ) (e a b c : List ℕ) (s t : Sums) → sums s ≡ outerSums v e a b c i → lo ≡ insertZero v i → hi ≡ insertZero v i + 2 ^ v
+pub outer-more : (v i lo hi : ℕ) (e a b c : List ℕ) (s t : Sums) → sums s ≡ outerSums v e a b c i → lo ≡ insertZero v i → hi
+    ≡ insertZero v i + 2 ^ v
     → value (t .zero) ≡ value (s .zero) ⊕ getD e i 0 ⊗ (getD a lo 0 ⊗ getD b lo 0 ⊕ getD c lo 0)
     → value (t .one) ≡ value (s .one) ⊕ getD e i 0 ⊗ (getD a hi 0 ⊗ getD b hi 0 ⊕ getD c hi 0)
     → value (t .top) ≡ value (s .top) ⊕ getD e i 0 ⊗ ((getD a lo 0 ⊕ getD a hi 0) ⊗ (getD b lo 0 ⊕ getD b hi 0))
@@ -77,11 +79,13 @@ outer-more v i lo hi e a b c s t h l k p q r = triple
     (one-more (λ j. getD e j 0 ⊗ atOne v a b c j) i (ap (λ (m : List ℕ). getD m 1 0) h) (rw k at q))
     (one-more (λ j. getD e j 0 ⊗ coefficient₂ v a b j) i (ap (λ (m : List ℕ). getD m 2 0) h) (rw (l, k) at r))
 
-pub inner-start : (v : ℕ) (t z : List ℕ) (s : Sums) → value (s .zero) ≡ 0 → value (s .one) ≡ 0 → value (s .top) ≡ 0 → sums s ≡ innerSumsAt v t z 0
+pub inner-start : (v : ℕ) (t z : List ℕ) (s : Sums) → value (s .zero) ≡ 0 → value (s .one) ≡ 0 → value (s .top) ≡ 0 → sums s
+    ≡ innerSumsAt v t z 0
 unfolding sums innerSumsAt sumTo
 inner-start v t z s p q r = triple p q r
 
-pub inner-more : (v i lo hi : ℕ) (t z : List ℕ) (s u : Sums) → sums s ≡ innerSumsAt v t z i → lo ≡ insertZero v i → hi ≡ insertZero v i + 2 ^ v
+pub inner-more : (v i lo hi : ℕ) (t z : List ℕ) (s u : Sums) → sums s ≡ innerSumsAt v t z i → lo ≡ insertZero v i → hi
+    ≡ insertZero v i + 2 ^ v
     → value (u .zero) ≡ value (s .zero) ⊕ getD t lo 0 ⊗ getD z lo 0
     → value (u .one) ≡ value (s .one) ⊕ getD t hi 0 ⊗ getD z hi 0
     → value (u .top) ≡ value (s .top) ⊕ (getD t lo 0 ⊕ getD t hi 0) ⊗ (getD z lo 0 ⊕ getD z hi 0)

@@ -10,7 +10,7 @@ use Rattle.magnetar_field.proofs.Polynomial.{AllBelow, eval-lt}
 use Rattle.magnetar_theory.specs.SumCheck.{Checks, checkSum as checkSumE, running as runningE}
 use Rattle.magnetar_theory.specs.Gf128.{Element, element, gf128}
 use Rattle.magnetar_theory.proofs.Gf128.{element-inj}
-use Rattle.magnetar_sumcheck.specs.Round.{checkSum, holds, passes, running}
+use Rattle.magnetar_sumcheck.specs.Round.{checkSum, holds, nextClaim, passes, running}
 use Rattle.magnetar_sumcheck.proofs.Hom.{element-checkSum, element-eval, checkSum-lt}
 
 -- every coefficient is an element
@@ -26,7 +26,8 @@ pub is-holds : (m : List ℕ) (c : ℕ) → AllBelow (2 ^ 128) m → c < 2 ^ 128
 unfolding holds
 is-holds m c h k e = eq-eqb (checkSum m) c (element-inj (checkSum m) c (checkSum-lt m h) k (element-checkSum m ∙ e))
 
-pub passes-checks : (c : ℕ) (ms : List (List ℕ)) (rs : List ℕ) → passes c ms rs ≡ true → Checks gf128 (element c) (map (map element) ms) (map element rs)
+pub passes-checks : (c : ℕ) (ms : List (List ℕ)) (rs : List ℕ) → passes c ms rs ≡ true
+    → Checks gf128 (element c) (map (map element) ms) (map element rs)
 unfolding passes
 passes-checks c [] [] h = tt
 passes-checks c [] (r ∷ rs) h = absurd (false≢true h)
@@ -47,8 +48,27 @@ checks-passes c (m ∷ ms) (r ∷ rs) k b h =
     and-eq-true-iff (holds m c) (passes (eval m r) ms rs) .1
     (is-holds m c (b .0) k (h .0), checks-passes (eval m r) ms rs (eval-lt m r (b .0)) (b .1) (rw (← element-eval m r) at (h .1)))
 
-pub running-is : (c : ℕ) (ms : List (List ℕ)) (rs : List ℕ) → element (running c ms rs) ≡ runningE gf128 (element c) (map (map element) ms) (map element rs)
+pub running-is : (c : ℕ) (ms : List (List ℕ)) (rs : List ℕ) → element (running c ms rs)
+    ≡ runningE gf128 (element c) (map (map element) ms) (map element rs)
 unfolding running
 running-is c [] rs = refl
 running-is c (m ∷ ms) [] = refl
-running-is c (m ∷ ms) (r ∷ rs) = running-is (eval m r) ms rs ∙ ap (λ (v : Element). runningE gf128 v (map (map element) ms) (map element rs)) (element-eval m r)
+running-is c (m ∷ ms) (r ∷ rs) = running-is (eval m r) ms rs
+    ∙ ap (λ (v : Element). runningE gf128 v (map (map element) ms) (map element rs)) (element-eval m r)
+
+-- one round at a time: a right message leaves the rest of the rounds to the next claim
+pub passes-step : (c : ℕ) (m : List ℕ) (ms : List (List ℕ)) (r : ℕ) (rs : List ℕ) → holds m c ≡ true
+    → passes c (m ∷ ms) (r ∷ rs) ≡ passes (nextClaim c m r) ms rs
+unfolding passes nextClaim
+passes-step c m ms r rs h = rw h
+
+pub running-step : (c : ℕ) (m : List ℕ) (ms : List (List ℕ)) (r : ℕ) (rs : List ℕ) → holds m c ≡ true
+    → running c (m ∷ ms) (r ∷ rs) ≡ running (nextClaim c m r) ms rs
+unfolding running nextClaim
+running-step c m ms r rs h = rw h
+
+-- a wrong message: the rounds fail, and the claim stays
+pub passes-stop : (c : ℕ) (m : List ℕ) (ms : List (List ℕ)) (r : ℕ) (rs : List ℕ) → holds m c ≡ false
+    → (passes c (m ∷ ms) (r ∷ rs) ≡ false) × (nextClaim c m r ≡ c)
+unfolding passes nextClaim
+passes-stop c m ms r rs h = (rw h, rw h)

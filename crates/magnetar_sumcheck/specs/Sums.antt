@@ -1,5 +1,5 @@
 -- What the one pass over the tables adds up, over the first n pairs: the constant coefficient, the value at 1, and the highest
--- coefficient. The middle one is the sum of all three.
+-- coefficient. The middle one is the sum of all three. Only the contracts of private functions speak of this.
 -- Assumes nothing.
 use mathlib.Core.List.{List, [], _∷_}
 use Prim.Native.Nat.{ℕ}

@@ -80,12 +80,14 @@ module _ (F : Field) where
     dot-diffs (a ∷ al) [] [] l = simp (ring, L .laws)
     dot-diffs (a ∷ al) [] (t ∷ ts) l = absurd (omega arith)
     dot-diffs (a ∷ al) (v ∷ vs) [] l = absurd (omega arith)
-    dot-diffs (a ∷ al) (v ∷ vs) (t ∷ ts) l = ap (λ (w : K). a ⊗ (v ⊕ t) ⊕ w) (dot-diffs al vs ts (omega arith)) ∙ terms a v t (dot F al vs) (dot F al ts)
+    dot-diffs (a ∷ al) (v ∷ vs) (t ∷ ts) l = ap (λ (w : K). a ⊗ (v ⊕ t) ⊕ w) (dot-diffs al vs ts (omega arith))
+        ∙ terms a v t (dot F al vs) (dot F al ts)
       where
         terms : (a v t p q : K) → a ⊗ (v ⊕ t) ⊕ (p ⊕ q) ≡ (a ⊗ v ⊕ p) ⊕ (a ⊗ t ⊕ q)
         terms a v t p q = simp (ring, L .laws)
 
-    pub alpha-sound : (al vs ts : List K) → length al ≡ length vs → length vs ≡ length ts → dot F al vs ≡ dot F al ts → (vs ≡ ts) ⊎ AlphaCaught F vs ts al
+    pub alpha-sound : (al vs ts : List K) → length al ≡ length vs → length vs ≡ length ts → dot F al vs ≡ dot F al ts → (vs ≡ ts)
+        ⊎ AlphaCaught F vs ts al
     alpha-sound al vs ts l k e = go (search-last al (diffs F vs ts) 𝟎 (l ∙ sym (length-diffs vs ts k)) zero-dot)
       where
         double : (x : K) → 𝟎 ⊕ (x ⊕ x) ≡ 𝟎

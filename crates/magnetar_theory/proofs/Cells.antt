@@ -17,7 +17,8 @@ module _ (F : Field) where
     pub mix-one : (x y : K) → lineAt F 𝟏 x y ≡ y
     mix-one x y = simp (ring, L .laws, lineAt)
 
-    cubic-is : (e e′ a a′ b b′ c c′ r : K) → eval F (cubic F e e′ a a′ b b′ c c′) r ≡ (e ⊕ r ⊗ e′) ⊗ ((a ⊕ r ⊗ a′) ⊗ (b ⊕ r ⊗ b′) ⊕ (c ⊕ r ⊗ c′))
+    cubic-is : (e e′ a a′ b b′ c c′ r : K) → eval F (cubic F e e′ a a′ b b′ c c′) r
+        ≡ (e ⊕ r ⊗ e′) ⊗ ((a ⊕ r ⊗ a′) ⊗ (b ⊕ r ⊗ b′) ⊕ (c ⊕ r ⊗ c′))
     cubic-is e e′ a a′ b b′ c c′ r = simp (ring, L .laws, eval)
 
     quadratic-is : (t t′ z z′ r : K) → eval F (quadratic F t t′ z z′) r ≡ (t ⊕ r ⊗ t′) ⊗ (z ⊕ r ⊗ z′)
@@ -27,8 +28,20 @@ module _ (F : Field) where
     outerCellLaws = record {
       none-zero = simp (ring, L .laws);
       line-term = λ x y r. cubic-is (x .e) (x .e ⊕ y .e) (x .a) (x .a ⊕ y .a) (x .b) (x .b ⊕ y .b) (x .c) (x .c ⊕ y .c) r;
-      mix-zero = λ x y i. record { a = mix-zero (x .a) (y .a) i; b = mix-zero (x .b) (y .b) i; c = mix-zero (x .c) (y .c) i; e = mix-zero (x .e) (y .e) i };
-      mix-one = λ x y i. record { a = mix-one (x .a) (y .a) i; b = mix-one (x .b) (y .b) i; c = mix-one (x .c) (y .c) i; e = mix-one (x .e) (y .e) i };
+      mix-zero = λ x y i. record {
+        a = mix-zero (x .a) (y .a) i;
+        b = mix-zero (x .b) (y .b) i;
+        c = mix-zero (x .c) (y .c) i;
+        e = mix-zero
+            (x .e) (y .e) i;
+      };
+      mix-one = λ x y i. record {
+        a = mix-one (x .a) (y .a) i;
+        b = mix-one (x .b) (y .b) i;
+        c = mix-one (x .c) (y .c) i;
+        e = mix-one (x .e)
+            (y .e) i;
+      };
     }
 
     pub innerCellLaws : CellLaws F (innerCells F)

@@ -64,23 +64,30 @@ module _ (F : Field) where
   unfolding section
   section-none n g r = rw (lt-ltb 0 (suc n) (omega arith))
 
-  section-next : (n : ℕ) (g : List K → List K) (r : List K → List K → List K) (a : K) (p : List K) → section F (suc n) g r (a ∷ p) ≡ section F n (λ e. g (a ∷ e)) (λ t. r (a ∷ t)) p
+  section-next : (n : ℕ) (g : List K → List K) (r : List K → List K → List K) (a : K) (p : List K) → section F (suc n) g r (a ∷ p)
+      ≡ section F n (λ e. g (a ∷ e)) (λ t. r (a ∷ t)) p
   unfolding section
   section-next n g r a p = rw (ltb-suc (length p) n)
 
-  met-section : (n : ℕ) (g : List K → List K) (r : List K → List K → List K) (d : List K) → met (section F n g r) d ≡ met g (take n d) + met (r (take n d)) (drop n d)
+  met-section : (n : ℕ) (g : List K → List K) (r : List K → List K → List K) (d : List K) → met (section F n g r) d
+      ≡ met g (take n d) + met (r (take n d)) (drop n d)
   met-section zero g r d = met-same (section F 0 g r) (r []) d (section-zero g r) ∙ sym (zero-add (met (r []) d))
   met-section (suc n) g r [] = refl
-  met-section (suc n) g r (a ∷ d) = ap₂ (λ (x y : ℕ). x + y) (ap length (section-none n g r)) (met-same (λ p. section F (suc n) g r (a ∷ p)) (section F n (λ e. g (a ∷ e)) (λ t. r (a ∷ t))) d (section-next n g r a) ∙ met-section n (λ e. g (a ∷ e)) (λ t. r (a ∷ t)) d)
+  met-section (suc n) g r (a ∷ d) = ap₂ (λ (x y : ℕ). x + y) (ap length (section-none n g r))
+      (met-same (λ p. section F (suc n) g r (a ∷ p)) (section F n (λ e. g (a ∷ e)) (λ t. r (a ∷ t))) d (section-next n g r a)
+      ∙ met-section n (λ e. g (a ∷ e)) (λ t. r (a ∷ t)) d)
       ∙ group (length (g [])) (met (λ e. g (a ∷ e)) (take n d)) (met (r (a ∷ take n d)) (drop n d))
     where
       group : (x y z : ℕ) → x + (y + z) ≡ x + y + z
       group x y z = omega arith
 
-  met-within : (n m B C : ℕ) (g : List K → List K) (r : List K → List K → List K) (d : List K) → length d ≤ n + m → ((e : List K) → met g (take n e) ≤ B) → ((t e : List K) → length e ≤ m → met (r t) e ≤ C) → met (section F n g r) d ≤ B + C
+  met-within : (n m B C : ℕ) (g : List K → List K) (r : List K → List K → List K) (d : List K) → length d ≤ n + m
+      → ((e : List K) → met g (take n e) ≤ B) → ((t e : List K) → length e ≤ m → met (r t) e ≤ C) → met (section F n g r) d ≤ B + C
   met-within n m B C g r d l h k = omega (arith, met-section n g r d, h d, k (take n d) (drop n d) (omega (arith, length-drop n d)))
 
-  section-most : (n c : ℕ) (f : ℕ → ℕ) (g : List K → List K) (r : List K → List K → List K) (p : List K) → ((e : List K) → length (g e) ≤ c) → ((t e : List K) → length (r t e) ≤ f (length e)) → length (section F n g r p) ≤ stage n c f (length p)
+  section-most : (n c : ℕ) (f : ℕ → ℕ) (g : List K → List K) (r : List K → List K → List K) (p : List K)
+      → ((e : List K) → length (g e) ≤ c) → ((t e : List K) → length (r t e) ≤ f (length e))
+      → length (section F n g r p) ≤ stage n c f (length p)
   unfolding section stage
   section-most n c f g r p h k = go (ltb (length p) n)
     where
@@ -102,7 +109,12 @@ module _ (F : Field) where
     last-none c [] [] z = omega arith
     last-none c [] (a ∷ al) z = omega (arith, last-none c [] al z)
     last-none c (d ∷ ds) [] z = omega arith
-    last-none c (d ∷ ds) (a ∷ al) z = omega (arith, none (allZero F ds) (same d 𝟎) (same-zero F L d (z .0)), last-none (c ⊕ a ⊗ d) ds al (z .1))
+    last-none c (d ∷ ds) (a ∷ al) z = omega (
+      arith,
+      none (allZero F ds) (same d 𝟎) (same-zero F L d (z .0)),
+      last-none (c ⊕ a ⊗ d) ds al
+          (z .1),
+    )
       where
         none : (b t : Bool) → t ≡ true → length (cond b (cond t [] (roots (c ∷ d ∷ []))) []) ≤ 0
         none b true e = both-most b [] [] 0 (omega arith) (omega arith)
@@ -115,7 +127,8 @@ module _ (F : Field) where
     last-met c (d ∷ ds) [] = omega arith
     last-met c (d ∷ ds) (a ∷ al) = go (allZero F ds) refl (last-met (c ⊕ a ⊗ d) ds al)
       where
-        go : (b : Bool) → allZero F ds ≡ b → met (lastRoots F (c ⊕ a ⊗ d) ds) al ≤ 1 → length (cond b (slopeRoots F c d) []) + met (lastRoots F (c ⊕ a ⊗ d) ds) al ≤ 1
+        go : (b : Bool) → allZero F ds ≡ b → met (lastRoots F (c ⊕ a ⊗ d) ds) al ≤ 1
+            → length (cond b (slopeRoots F c d) []) + met (lastRoots F (c ⊕ a ⊗ d) ds) al ≤ 1
         go true e h = omega (arith, slope-few F L c d, last-none (c ⊕ a ⊗ d) ds al (zeros F L ds e))
         go false e h = omega arith
 
@@ -133,40 +146,56 @@ module _ (F : Field) where
       round Y taus e i = outer-few F L s R x ws w Y taus (Y .logRows) e i
 
       abbrev innerOf : (sh rb rf al e : List K) → List K
-      innerOf sh rb rf al e = badChallenges F (tableRounds F (innerCells F)) (record { tops = 0; rows = suc (R .logHalf); cells = zipInner F (combo F R rb rf al) (folded F R x ws sh) }) e
+      innerOf sh rb rf al e = badChallenges F (tableRounds F (innerCells F))
+          (record { tops = 0; rows = suc (R .logHalf); cells = zipInner F (combo F R rb rf al) (folded F R x ws sh) }) e
           (words F (8 * s + 4 * R .bin .logRows + 4 * R .fld .logRows + 6 + 3 * length e) 3 w)
 
       inner-two : (sh rb rf al e : List K) → length (innerOf sh rb rf al e) ≤ 2
-      inner-two sh rb rf al e = bad-few F L s R x ws w (innerCells F) 2 (λ a b. omega arith) (record { tops = 0; rows = suc (R .logHalf); cells = zipInner F (combo F R rb rf al) (folded F R x ws sh) }) e (words F (8 * s + 4 * R .bin .logRows + 4 * R .fld .logRows + 6 + 3 * length e) 3 w) (words-few F L s R x ws w (8 * s + 4 * R .bin .logRows + 4 * R .fld .logRows + 6 + 3 * length e) 3)
+      inner-two sh rb rf al e = bad-few F L s R x ws w (innerCells F) 2 (λ a b. omega arith)
+          (record { tops = 0; rows = suc (R .logHalf); cells = zipInner F (combo F R rb rf al) (folded F R x ws sh) }) e
+          (words F (8 * s + 4 * R .bin .logRows + 4 * R .fld .logRows + 6 + 3 * length e) 3 w)
+          (words-few F L s R x ws w (8 * s + 4 * R .bin .logRows + 4 * R .fld .logRows + 6 + 3 * length e) 3)
 
       -- tau and alpha one, a round of the outer sum-check three, of the inner two
       pub few-at : (p : List K) → length (lists F s R x ws w p) ≤ most (binGood F R x ws) s (R .bin .logRows) (R .fld .logRows) (length p)
       unfolding listsOf
       few-at p = section-most _ _ _ _ _ p (λ e. cond-most (binGood F R x ws) _ _ 0 1 (omega arith) (tau-one (R .bin) e))
           λ tb p. section-most _ _ _ _ _ p (λ e. cond-most (binGood F R x ws) _ _ 1 0 (tau-one (R .fld) e) (omega arith))
-          λ tf p. section-most _ _ _ _ _ p (λ e. both-most (binGood F R x ws) _ _ 3 (round (R .fld) tf e (8 * length e + 4)) (round (R .bin) tb e (8 * length e)))
-          λ sh p. section-most _ _ _ _ _ p (λ e. cond-most (binGood F R x ws) _ _ 0 3 (omega arith) (round (R .bin) tb (sh ++ e) (8 * s + 4 * length e)))
-          λ rb p. section-most _ _ _ _ _ p (λ e. cond-most (binGood F R x ws) _ _ 3 0 (round (R .fld) tf (sh ++ e) (8 * s + 4 * R .bin .logRows + 4 * length e)) (omega arith))
-          λ rf p. section-most _ _ _ _ _ p (λ e. alpha-few F L (sixAt F (8 * s + 4 * R .bin .logRows + 4 * R .fld .logRows) w) (trueTerminals F R x ws sh rb rf) e)
+          λ tf p. section-most _ _ _ _ _ p (λ e. both-most (binGood F R x ws) _ _ 3 (round (R .fld) tf e (8 * length e + 4))
+          (round (R .bin) tb e (8 * length e)))
+          λ sh p. section-most _ _ _ _ _ p (λ e. cond-most (binGood F R x ws) _ _ 0 3 (omega arith)
+          (round (R .bin) tb (sh ++ e) (8 * s + 4 * length e)))
+          λ rb p. section-most _ _ _ _ _ p (λ e. cond-most (binGood F R x ws) _ _ 3 0
+          (round (R .fld) tf (sh ++ e) (8 * s + 4 * R .bin .logRows + 4 * length e)) (omega arith))
+          λ rf p. section-most _ _ _ _ _ p (λ e. alpha-few F L (sixAt F (8 * s + 4 * R .bin .logRows + 4 * R .fld .logRows) w)
+          (trueTerminals F R x ws sh rb rf) e)
           λ al e. inner-two sh rb rf al e
 
       -- all lists met along one run, by the system followed
       met-by : (good : Bool) (d : List K) → length d ≤ draws s (R .bin .logRows) (R .fld .logRows) (R .logHalf)
-          → met (listsOf F s R x ws w good) d ≤ (R .bin .logRows + s) * cond good 0 1 + ((R .fld .logRows + s) * cond good 1 0 + (s * 3 + (R .bin .logRows * cond good 0 3 + (R .fld .logRows * cond good 3 0 + (1 + suc (R .logHalf) * 2)))))
+          → met (listsOf F s R x ws w good) d ≤ (R .bin .logRows + s) * cond good 0 1 +
+          ((R .fld .logRows + s) * cond good 1 0 + (s * 3 +
+          (R .bin .logRows * cond good 0 3 + (R .fld .logRows * cond good 3 0 + (1 + suc (R .logHalf) * 2)))))
       unfolding listsOf
       met-by good d h = met-within _ _ _ _ _ _ d h (λ d. met-part _ _ _ d λ e. cond-most good _ _ 0 1 (omega arith) (tau-one (R .bin) e))
           λ tb d h. met-within _ _ _ _ _ _ d h (λ d. met-part _ _ _ d λ e. cond-most good _ _ 1 0 (tau-one (R .fld) e) (omega arith))
-          λ tf d h. met-within _ _ _ _ _ _ d h (λ d. met-part _ _ _ d λ e. both-most good _ _ 3 (round (R .fld) tf e (8 * length e + 4)) (round (R .bin) tb e (8 * length e)))
-          λ sh d h. met-within _ _ _ _ _ _ d h (λ d. met-part _ _ _ d λ e. cond-most good _ _ 0 3 (omega arith) (round (R .bin) tb (sh ++ e) (8 * s + 4 * length e)))
-          λ rb d h. met-within _ _ _ _ _ _ d h (λ d. met-part _ _ _ d λ e. cond-most good _ _ 3 0 (round (R .fld) tf (sh ++ e) (8 * s + 4 * R .bin .logRows + 4 * length e)) (omega arith))
-          λ rf d h. met-within _ _ _ _ _ _ d h (λ d. alpha-met (sixAt F (8 * s + 4 * R .bin .logRows + 4 * R .fld .logRows) w) (trueTerminals F R x ws sh rb rf) (take 6 d))
+          λ tf d h. met-within _ _ _ _ _ _ d h (λ d. met-part _ _ _ d λ e. both-most good _ _ 3 (round (R .fld) tf e (8 * length e + 4))
+          (round (R .bin) tb e (8 * length e)))
+          λ sh d h. met-within _ _ _ _ _ _ d h (λ d. met-part _ _ _ d λ e. cond-most good _ _ 0 3 (omega arith)
+          (round (R .bin) tb (sh ++ e) (8 * s + 4 * length e)))
+          λ rb d h. met-within _ _ _ _ _ _ d h (λ d. met-part _ _ _ d λ e. cond-most good _ _ 3 0
+          (round (R .fld) tf (sh ++ e) (8 * s + 4 * R .bin .logRows + 4 * length e)) (omega arith))
+          λ rf d h. met-within _ _ _ _ _ _ d h (λ d. alpha-met (sixAt F (8 * s + 4 * R .bin .logRows + 4 * R .fld .logRows) w)
+          (trueTerminals F R x ws sh rb rf) (take 6 d))
           λ al d h. omega (arith, h, met-few 2 (innerOf sh rb rf al) d (inner-two sh rb rf al))
 
       -- all lists met along one run: 4 J + 1 + 2 log m, where 2 ^ J is the logins times the rows of the larger system and m is the columns
       pub met-lists : (d : List K) → length d ≤ draws s (R .bin .logRows) (R .fld .logRows) (R .logHalf)
           → met (lists F s R x ws w) d ≤ 4 * (s + max (R .bin .logRows) (R .fld .logRows)) + 1 + 2 * suc (R .logHalf)
-      met-lists d h = go (binGood F R x ws) (met (lists F s R x ws w) d) (R .bin .logRows) (R .fld .logRows) (R .logHalf) (met-by (binGood F R x ws) d h)
+      met-lists d h = go (binGood F R x ws) (met (lists F s R x ws w) d) (R .bin .logRows) (R .fld .logRows) (R .logHalf)
+          (met-by (binGood F R x ws) d h)
         where
-          go : (good : Bool) (k b f m : ℕ) → k ≤ (b + s) * cond good 0 1 + ((f + s) * cond good 1 0 + (s * 3 + (b * cond good 0 3 + (f * cond good 3 0 + (1 + suc m * 2))))) → k ≤ 4 * (s + max b f) + 1 + 2 * suc m
+          go : (good : Bool) (k b f m : ℕ) → k ≤ (b + s) * cond good 0 1 + ((f + s) * cond good 1 0 +
+              (s * 3 + (b * cond good 0 3 + (f * cond good 3 0 + (1 + suc m * 2))))) → k ≤ 4 * (s + max b f) + 1 + 2 * suc m
           go true k b f m h = omega (arith, le-max-right b f)
           go false k b f m h = omega (arith, le-max-left b f)

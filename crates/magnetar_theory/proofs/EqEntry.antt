@@ -42,4 +42,5 @@ module _ (F : Field) where
     pub eq-index : (ps : List K) (i : ℕ) → i < 2 ^ length ps → getD (eqTable F ps) i 𝟎 ≡ eqAt ps i
     eq-index [] zero h = refl
     eq-index [] (suc i) h = absurd (omega arith)
-    eq-index (p ∷ ps) i h = at-spread p (eqTable F ps) i ∙ ap (λ (w : K). factor p (i % 2) ⊗ w) (eq-index ps (i / 2) (omega (arith, two-pow-succ (length ps))))
+    eq-index (p ∷ ps) i h = at-spread p (eqTable F ps) i
+        ∙ ap (λ (w : K). factor p (i % 2) ⊗ w) (eq-index ps (i / 2) (omega (arith, two-pow-succ (length ps))))

@@ -30,7 +30,8 @@ module _ (F : Field) where
     dot-spread p [] t = refl
     dot-spread p (e ∷ es) [] = refl
     dot-spread p (e ∷ es) (x ∷ []) = one-term p e x ∙ ap (λ (w : K). e ⊗ lineAt F p x 𝟎 ⊕ w) (sym (dot-nil es))
-    dot-spread p (e ∷ es) (x ∷ y ∷ t) = two-terms p e x y (dot F (spread F p es) t) ∙ ap (λ (w : K). e ⊗ lineAt F p x y ⊕ w) (dot-spread p es t)
+    dot-spread p (e ∷ es) (x ∷ y ∷ t) = two-terms p e x y (dot F (spread F p es) t)
+        ∙ ap (λ (w : K). e ⊗ lineAt F p x y ⊕ w) (dot-spread p es t)
 
     first-is : (t : List K) → first F t ≡ dot F (𝟏 ∷ []) t
     first-is [] = refl
@@ -52,7 +53,9 @@ module _ (F : Field) where
     -- one more element at the end: the table once with 1 + r and once with r
     pub eqTable-snoc : (ps : List K) (r : K) → eqTable F (ps ++ (r ∷ [])) ≡ scale F (𝟏 ⊕ r) (eqTable F ps) ++ scale F r (eqTable F ps)
     eqTable-snoc [] r = refl
-    eqTable-snoc (p ∷ ps) r = ap (spread F p) (eqTable-snoc ps r) ∙ spread-append p (scale F (𝟏 ⊕ r) (eqTable F ps)) (scale F r (eqTable F ps)) ∙ ap₂ _++_ (spread-scale p (𝟏 ⊕ r) (eqTable F ps)) (spread-scale p r (eqTable F ps))
+    eqTable-snoc (p ∷ ps) r = ap (spread F p) (eqTable-snoc ps r)
+        ∙ spread-append p (scale F (𝟏 ⊕ r) (eqTable F ps)) (scale F r (eqTable F ps))
+        ∙ ap₂ _++_ (spread-scale p (𝟏 ⊕ r) (eqTable F ps)) (spread-scale p r (eqTable F ps))
 
     pub length-scale : (k : K) (t : List K) → length (scale F k t) ≡ length t
     length-scale k [] = refl
@@ -72,7 +75,8 @@ module _ (F : Field) where
     pub dot-append : (e f t : List K) → dot F (e ++ f) t ≡ dot F e (take (length e) t) ⊕ dot F f (drop (length e) t)
     dot-append [] f t = add-zero-left (dot F f t)
     dot-append (e ∷ es) f [] = add-zero-left 𝟎 ∙ ap (λ (w : K). 𝟎 ⊕ w) (sym (dot-nil f))
-    dot-append (e ∷ es) f (x ∷ t) = ap (λ (w : K). e ⊗ x ⊕ w) (dot-append es f t) ∙ sym (L .laws .add-assoc (e ⊗ x) (dot F es (take (length es) t)) (dot F f (drop (length es) t)))
+    dot-append (e ∷ es) f (x ∷ t) = ap (λ (w : K). e ⊗ x ⊕ w) (dot-append es f t)
+        ∙ sym (L .laws .add-assoc (e ⊗ x) (dot F es (take (length es) t)) (dot F f (drop (length es) t)))
 
     mix-terms : (r e x y c d : K) → ((𝟏 ⊕ r) ⊗ e ⊗ x ⊕ c) ⊕ (r ⊗ e ⊗ y ⊕ d) ≡ e ⊗ lineAt F r x y ⊕ (c ⊕ d)
     mix-terms r e x y c d = simp (ring, L .laws, lineAt)
@@ -83,22 +87,37 @@ module _ (F : Field) where
     dot-scales : (r : K) (e xs ys : List K) → dot F (scale F (𝟏 ⊕ r) e) xs ⊕ dot F (scale F r e) ys ≡ dot F e (mixLists F r xs ys)
     dot-scales r [] xs ys = L .laws .add-zero 𝟎
     dot-scales r (e ∷ es) [] [] = L .laws .add-zero 𝟎
-    dot-scales r (e ∷ es) [] (y ∷ ys) = ap (λ (w : K). w ⊕ (r ⊗ e ⊗ y ⊕ dot F (scale F r es) ys)) (dot-zero (𝟏 ⊕ r) e 𝟎) ∙ mix-terms r e 𝟎 y 𝟎 (dot F (scale F r es) ys)
-        ∙ ap (λ (w : K). e ⊗ lineAt F r 𝟎 y ⊕ (w ⊕ dot F (scale F r es) ys)) (sym (dot-nil (scale F (𝟏 ⊕ r) es))) ∙ ap (λ (w : K). e ⊗ lineAt F r 𝟎 y ⊕ w) (dot-scales r es [] ys)
-    dot-scales r (e ∷ es) (x ∷ xs) [] = ap (λ (w : K). ((𝟏 ⊕ r) ⊗ e ⊗ x ⊕ dot F (scale F (𝟏 ⊕ r) es) xs) ⊕ w) (dot-zero r e 𝟎) ∙ mix-terms r e x 𝟎 (dot F (scale F (𝟏 ⊕ r) es) xs) 𝟎
-        ∙ ap (λ (w : K). e ⊗ lineAt F r x 𝟎 ⊕ (dot F (scale F (𝟏 ⊕ r) es) xs ⊕ w)) (sym (dot-nil (scale F r es))) ∙ ap (λ (w : K). e ⊗ lineAt F r x 𝟎 ⊕ w) (dot-scales r es xs [])
-    dot-scales r (e ∷ es) (x ∷ xs) (y ∷ ys) = mix-terms r e x y (dot F (scale F (𝟏 ⊕ r) es) xs) (dot F (scale F r es) ys) ∙ ap (λ (w : K). e ⊗ lineAt F r x y ⊕ w) (dot-scales r es xs ys)
+    dot-scales r (e ∷ es) [] (y ∷ ys) = ap (λ (w : K). w ⊕ (r ⊗ e ⊗ y ⊕ dot F (scale F r es) ys)) (dot-zero (𝟏 ⊕ r) e 𝟎)
+        ∙ mix-terms r e 𝟎 y 𝟎 (dot F (scale F r es) ys)
+        ∙ ap (λ (w : K). e ⊗ lineAt F r 𝟎 y ⊕ (w ⊕ dot F (scale F r es) ys)) (sym (dot-nil (scale F (𝟏 ⊕ r) es)))
+        ∙ ap (λ (w : K). e ⊗ lineAt F r 𝟎 y ⊕ w) (dot-scales r es [] ys)
+    dot-scales r (e ∷ es) (x ∷ xs) [] = ap (λ (w : K). ((𝟏 ⊕ r) ⊗ e ⊗ x ⊕ dot F (scale F (𝟏 ⊕ r) es) xs) ⊕ w) (dot-zero r e 𝟎)
+        ∙ mix-terms r e x 𝟎 (dot F (scale F (𝟏 ⊕ r) es) xs) 𝟎
+        ∙ ap (λ (w : K). e ⊗ lineAt F r x 𝟎 ⊕ (dot F (scale F (𝟏 ⊕ r) es) xs ⊕ w)) (sym (dot-nil (scale F r es)))
+        ∙ ap (λ (w : K). e ⊗ lineAt F r x 𝟎 ⊕ w) (dot-scales r es xs [])
+    dot-scales r (e ∷ es) (x ∷ xs) (y ∷ ys) = mix-terms r e x y (dot F (scale F (𝟏 ⊕ r) es) xs) (dot F (scale F r es) ys)
+        ∙ ap (λ (w : K). e ⊗ lineAt F r x y ⊕ w) (dot-scales r es xs ys)
 
     -- the last element of the point binds the highest variable
-    pub dot-snoc : (ps : List K) (r : K) (t : List K) → dot F (eqTable F (ps ++ (r ∷ []))) t ≡ dot F (eqTable F ps) (bindTop F (2 ^ length ps) r t)
-    dot-snoc ps r t = rw (eqTable-snoc ps r, dot-append (scale F (𝟏 ⊕ r) (eqTable F ps)) (scale F r (eqTable F ps)) t, length-scale (𝟏 ⊕ r) (eqTable F ps), length-eqTable ps)
+    pub dot-snoc : (ps : List K) (r : K) (t : List K) → dot F (eqTable F (ps ++ (r ∷ []))) t
+        ≡ dot F (eqTable F ps) (bindTop F (2 ^ length ps) r t)
+    dot-snoc ps r t = rw (
+      eqTable-snoc ps r,
+      dot-append (scale F (𝟏 ⊕ r) (eqTable F ps)) (scale F r (eqTable F ps)) t,
+      length-scale (𝟏 ⊕ r)
+          (eqTable F ps),
+      length-eqTable ps,
+    )
         (dot-scales r (eqTable F ps) (take (2 ^ length ps) t) (drop (2 ^ length ps) t))
 
     -- the high variables first, highest first, and then the low ones, lowest first
-    pub bind-run : (rs cs : List K) (t : List K) → first F (bindRun F (length rs) (length cs) (rs ++ cs) t) ≡ dot F (eqTable F (cs ++ reverse rs)) t
+    pub bind-run : (rs cs : List K) (t : List K) → first F (bindRun F (length rs) (length cs) (rs ++ cs) t)
+        ≡ dot F (eqTable F (cs ++ reverse rs)) t
     bind-run [] cs t = bind-low (length cs) cs t ∙ ap (λ (w : List K). dot F (eqTable F w) t) (sym (append-nil cs))
-    bind-run (r ∷ rs) cs t = bind-run rs cs (bindTop F (2 ^ (length rs + length cs)) r t) ∙ ap (λ (n : ℕ). dot F (eqTable F (cs ++ reverse rs)) (bindTop F (2 ^ n) r t)) size
-        ∙ sym (dot-snoc (cs ++ reverse rs) r t) ∙ ap (λ (w : List K). dot F (eqTable F w) t) (append-assoc cs (reverse rs) (r ∷ []) ∙ ap (λ (w : List K). cs ++ w) (sym (reverse-cons r rs)))
+    bind-run (r ∷ rs) cs t = bind-run rs cs (bindTop F (2 ^ (length rs + length cs)) r t)
+        ∙ ap (λ (n : ℕ). dot F (eqTable F (cs ++ reverse rs)) (bindTop F (2 ^ n) r t)) size
+        ∙ sym (dot-snoc (cs ++ reverse rs) r t) ∙ ap (λ (w : List K). dot F (eqTable F w) t) (append-assoc cs (reverse rs) (r ∷ [])
+        ∙ ap (λ (w : List K). cs ++ w) (sym (reverse-cons r rs)))
       where
         size : length rs + length cs ≡ length (cs ++ reverse rs)
         size = simp (length-append, length-reverse) (omega arith)
@@ -123,5 +142,6 @@ module _ (F : Field) where
     eq-eq [] [] h = simp (ring, L .laws, dot)
     eq-eq [] (r ∷ rs) h = absurd (omega arith)
     eq-eq (p ∷ ps) [] h = absurd (omega arith)
-    eq-eq (p ∷ ps) (r ∷ rs) h = dot-spread r (eqTable F rs) (spread F p (eqTable F ps)) ∙ ap (dot F (eqTable F rs)) (bind-spread r p (eqTable F ps)) ∙ dot-scale (𝟏 ⊕ p ⊕ r) (eqTable F rs) (eqTable F ps)
+    eq-eq (p ∷ ps) (r ∷ rs) h = dot-spread r (eqTable F rs) (spread F p (eqTable F ps))
+        ∙ ap (dot F (eqTable F rs)) (bind-spread r p (eqTable F ps)) ∙ dot-scale (𝟏 ⊕ p ⊕ r) (eqTable F rs) (eqTable F ps)
         ∙ ap (λ (w : K). (𝟏 ⊕ p ⊕ r) ⊗ w) (eq-eq ps rs (omega arith))

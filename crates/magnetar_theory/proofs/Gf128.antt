@@ -64,12 +64,14 @@ number-one = refl
 pub element-⊕ : (a b : ℕ) → element (a ⊕ b) ≡ sum (element a) (element b)
 element-⊕ a b =
     same-number (element (a ⊕ b)) (sum (element a) (element b))
-    (number-element (a ⊕ b) ∙ ⊕-mod a b 128 ∙ sym (ap₂ _⊕_ (number-element a) (number-element b)) ∙ sym (number-sum (element a) (element b)))
+    (number-element (a ⊕ b) ∙ ⊕-mod a b 128 ∙ sym (ap₂ _⊕_ (number-element a) (number-element b))
+    ∙ sym (number-sum (element a) (element b)))
 
 pub element-⊗ : (a b : ℕ) → element (a ⊗ b) ≡ product (element a) (element b)
 element-⊗ a b =
     same-number (element (a ⊗ b)) (product (element a) (element b))
-    (number-of (a ⊗ b) (⊗-lt a b) ∙ sym (⊗-mod a b) ∙ ⊗-comm a (b % 2 ^ 128) ∙ sym (⊗-mod (b % 2 ^ 128) a) ∙ ⊗-comm (b % 2 ^ 128) (a % 2 ^ 128)
+    (number-of (a ⊗ b) (⊗-lt a b) ∙ sym (⊗-mod a b) ∙ ⊗-comm a (b % 2 ^ 128) ∙ sym (⊗-mod (b % 2 ^ 128) a)
+    ∙ ⊗-comm (b % 2 ^ 128) (a % 2 ^ 128)
     ∙ sym (ap₂ _⊗_ (number-element a) (number-element b)) ∙ sym (number-product (element a) (element b)))
 
 -- ---- the laws
@@ -97,7 +99,8 @@ number-eval : (p : List Element) (r : Element) → number (eval gf128 p r) ≡ e
 unfolding evalN
 number-eval [] r = number-zero
 number-eval (c ∷ p) r =
-    number-sum c (product r (eval gf128 p r)) ∙ ap (λ (n : ℕ). number c ⊕ n) (number-product r (eval gf128 p r) ∙ ap (λ (n : ℕ). number r ⊗ n) (number-eval p r))
+    number-sum c (product r (eval gf128 p r)) ∙ ap (λ (n : ℕ). number c ⊕ n) (number-product r (eval gf128 p r)
+    ∙ ap (λ (n : ℕ). number r ⊗ n) (number-eval p r))
 
 element-mem : {l : List ℕ} (n : ℕ) → List·Memᴰ n l → List·Memᴰ (element n) (map element l)
 element-mem n (List·Memᴰ·head q) = List·Memᴰ·head (ap element q)
@@ -112,15 +115,18 @@ pub gf128Laws : Laws gf128
 unfolding rootsOf
 gf128Laws = record {
   laws = gf128Ring;
-  no-zero-divisors = λ x y e. parts x y (zero-product (number x) (number y) (number-lt x) (number-lt y) (sym (number-product x y) ∙ ap number e ∙ number-zero));
+  no-zero-divisors = λ x y e. parts x y (zero-product (number x) (number y) (number-lt x) (number-lt y)
+      (sym (number-product x y) ∙ ap number e ∙ number-zero));
   root-listed = λ p r h e. subst (λ (x : Element). List·Memᴰ x (map element (roots (map number p)))) (element-number r)
       (element-mem (number r) (root-in (map number p) (number r) (number-lt r) (sym (number-eval p r) ∙ ap number e ∙ number-zero)));
-  roots-few = λ c p h. few c p (roots-few (number c ∷ map number p) (numbers-below (c ∷ p)) (λ z. true≢false (sym (all-zero (c ∷ p) z) ∙ h)));
+  roots-few = λ c p h. few c p (roots-few (number c ∷ map number p) (numbers-below (c ∷ p))
+      (λ z. true≢false (sym (all-zero (c ∷ p) z) ∙ h)));
 }
   where
     parts : (x y : Element) → (number x ≡ 0) ⊎ (number y ≡ 0) → (x ≡ element 0) ⊎ (y ≡ element 0)
     parts x y (inl e) = inl (same-number x (element 0) (e ∙ sym number-zero))
     parts x y (inr e) = inr (same-number y (element 0) (e ∙ sym number-zero))
 
-    few : (c : Element) (p : List Element) → length (roots (number c ∷ map number p)) < suc (length (map number p)) → length (map element (roots (number c ∷ map number p))) ≤ length p
+    few : (c : Element) (p : List Element) → length (roots (number c ∷ map number p)) < suc (length (map number p))
+        → length (map element (roots (number c ∷ map number p))) ≤ length p
     few c p h = omega (arith, length-map (roots (number c ∷ map number p)) element, length-map p number)

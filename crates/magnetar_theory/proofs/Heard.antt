@@ -73,7 +73,8 @@ module _ (F : Field) where
   words-take (suc i) n (suc m) (x ∷ w) h = words-take i n m w (omega arith)
 
   six-take : (i m : ℕ) (w : List K) → i + 6 ≤ m → sixAt F i (take m w) ≡ sixAt F i w
-  six-take i m w h = λ j. getD-take m w i 𝟎 a0 j ∷ getD-take m w (i + 1) 𝟎 a1 j ∷ getD-take m w (i + 2) 𝟎 a2 j ∷ getD-take m w (i + 3) 𝟎 a3 j ∷ getD-take m w (i + 4) 𝟎 a4 j ∷ getD-take m w (i + 5) 𝟎 a5 j ∷ []
+  six-take i m w h = λ j. getD-take m w i 𝟎 a0 j ∷ getD-take m w (i + 1) 𝟎 a1 j ∷ getD-take m w (i + 2) 𝟎 a2 j ∷ getD-take m w
+      (i + 3) 𝟎 a3 j ∷ getD-take m w (i + 4) 𝟎 a4 j ∷ getD-take m w (i + 5) 𝟎 a5 j ∷ []
     where
       a0 : i < m
       a0 = omega arith
@@ -93,7 +94,8 @@ module _ (F : Field) where
       a5 : i + 5 < m
       a5 = omega arith
 
-  section-same : (n : ℕ) (g g′ : List K → List K) (r r′ : List K → List K → List K) (p : List K) → (length p < n → g p ≡ g′ p) → (n ≤ length p → r (take n p) (drop n p) ≡ r′ (take n p) (drop n p)) → section F n g r p ≡ section F n g′ r′ p
+  section-same : (n : ℕ) (g g′ : List K → List K) (r r′ : List K → List K → List K) (p : List K) → (length p < n → g p ≡ g′ p)
+      → (n ≤ length p → r (take n p) (drop n p) ≡ r′ (take n p) (drop n p)) → section F n g r p ≡ section F n g′ r′ p
   unfolding section
   section-same n g g′ r r′ p h k = go (ltb (length p) n) refl
     where
@@ -132,28 +134,52 @@ module _ (F : Field) where
       after = suc (length p) - (R .bin .logRows + s + (R .fld .logRows + s))
 
       after-tau : R .bin .logRows + s ≤ length p → R .fld .logRows + s ≤ length p₁ → after ≡ suc (length p₂)
-      after-tau h₁ h₂ = count (R .bin .logRows + s) (R .fld .logRows + s) (length p) (length p₁) (length p₂) (left (R .bin .logRows + s) p h₁) (left (R .fld .logRows + s) p₁ h₂)
+      after-tau h₁ h₂ = count (R .bin .logRows + s) (R .fld .logRows + s) (length p) (length p₁) (length p₂)
+          (left (R .bin .logRows + s) p h₁) (left (R .fld .logRows + s) p₁ h₂)
         where
           count : (a b n n₁ n₂ : ℕ) → n ≡ a + n₁ → n₁ ≡ b + n₂ → suc n - (a + b) ≡ suc n₂
           count a b n n₁ n₂ h k = omega arith
 
     -- the list of a draw uses no word that was not absorbed before it
-    pub heard-lists : (p : List K) → lists F s R x ws (take (heard s (R .bin .logRows) (R .fld .logRows) (length p)) w) p ≡ lists F s R x ws w p
+    pub heard-lists : (p : List K) → lists F s R x ws (take (heard s (R .bin .logRows) (R .fld .logRows) (length p)) w) p
+        ≡ lists F s R x ws w p
     unfolding listsOf outer
     heard-lists p = section-same _ _ _ _ _ p (λ _. refl)
         λ h₁. section-same _ _ _ _ _ (p₁ p) (λ _. refl)
-        λ h₂. section-same _ _ _ _ _ (p₂ p) (λ q. ap₂ (λ (m₁ m₂ : List K). cond (binGood F R x ws) (outer F s R x ws w (R .fld) (take (R .fld .logRows + s) (p₁ p)) (R .fld .logRows) (p₂ p) m₁) (outer F s R x ws w (R .bin) (take (R .bin .logRows + s) p) (R .bin .logRows) (p₂ p) m₂))
-        (words-heard (8 * length (p₂ p) + 4) 4 (8 * length (p₂ p) + 8) H w (omega arith) (at-shared s g (after p) (length (p₂ p)) q (after-tau p h₁ h₂)))
-        (words-heard (8 * length (p₂ p)) 4 (8 * length (p₂ p) + 8) H w (omega arith) (at-shared s g (after p) (length (p₂ p)) q (after-tau p h₁ h₂))))
-        λ h₃. section-same _ _ _ _ _ (p₃ p) (λ q. ap (λ (m : List K). cond (binGood F R x ws) [] (outer F s R x ws w (R .bin) (take (R .bin .logRows + s) p) (R .bin .logRows) (take s (p₂ p) ++ p₃ p) m))
-        (words-heard (8 * s + 4 * length (p₃ p)) 4 (8 * s + 4 * length (p₃ p) + 4) H w (omega arith) (at-row s g (after p) (length (p₃ p)) (omega arith) (after-tau p h₁ h₂ ∙ omega (arith, left s (p₂ p) h₃)))))
-        λ h₄. section-same _ _ _ _ _ (p₄ p) (λ q. ap (λ (m : List K). cond (binGood F R x ws) (outer F s R x ws w (R .fld) (take (R .fld .logRows + s) (p₁ p)) (R .fld .logRows) (take s (p₂ p) ++ p₄ p) m) [])
-        (words-heard (8 * s + 4 * R .bin .logRows + 4 * length (p₄ p)) 4 (8 * s + 4 * (R .bin .logRows + length (p₄ p)) + 4) H w (omega arith) (at-row s g (after p) (R .bin .logRows + length (p₄ p)) (omega arith) (after-tau p h₁ h₂ ∙ omega (arith, left s (p₂ p) h₃, left (R .bin .logRows) (p₃ p) h₄)))))
-        λ h₅. section-same _ _ _ _ _ (p₅ p) (λ q. ap (λ (t : List K). alphaList F t (trueTerminals F R x ws (take s (p₂ p)) (take (R .bin .logRows) (p₃ p)) (take (R .fld .logRows) (p₄ p))) (p₅ p))
-        (six-take (8 * s + 4 * R .bin .logRows + 4 * R .fld .logRows) H w (at-most (at-alpha s g (after p) (more (after p) (length (p₂ p)) (length (p₃ p)) (length (p₄ p)) (length (p₅ p)) (after-tau p h₁ h₂) (left s (p₂ p) h₃) (left (R .bin .logRows) (p₃ p) h₄) (left (R .fld .logRows) (p₄ p) h₅))))))
-        λ h₆. ap (badChallenges F (tableRounds F (innerCells F)) (record { tops = 0; rows = suc (R .logHalf); cells = zipInner F (combo F R (take (R .bin .logRows) (p₃ p)) (take (R .fld .logRows) (p₄ p)) (take 6 (p₅ p))) (folded F R x ws (take s (p₂ p))) }) (p₆ p))
-        (words-heard (8 * s + 4 * R .bin .logRows + 4 * R .fld .logRows + 6 + 3 * length (p₆ p)) 3 (8 * s + 4 * (R .bin .logRows + R .fld .logRows) + 6 + 3 * length (p₆ p) + 3) H w (omega arith)
-        (at-inner s g (after p) (length (p₆ p)) (last (after p) (length (p₂ p)) (length (p₃ p)) (length (p₄ p)) (length (p₅ p)) (length (p₆ p)) (after-tau p h₁ h₂) (left s (p₂ p) h₃) (left (R .bin .logRows) (p₃ p) h₄) (left (R .fld .logRows) (p₄ p) h₅) (left 6 (p₅ p) h₆))))
+        λ h₂. section-same _ _ _ _ _ (p₂ p) (λ q. ap₂
+        (λ (m₁ m₂ : List K). cond (binGood F R x ws) (outer F s R x ws w (R .fld) (take (R .fld .logRows + s) (p₁ p)) (R .fld .logRows)
+        (p₂ p) m₁) (outer F s R x ws w (R .bin) (take (R .bin .logRows + s) p) (R .bin .logRows) (p₂ p) m₂))
+        (words-heard (8 * length (p₂ p) + 4) 4 (8 * length (p₂ p) + 8) H w (omega arith)
+        (at-shared s g (after p) (length (p₂ p)) q (after-tau p h₁ h₂)))
+        (words-heard (8 * length (p₂ p)) 4 (8 * length (p₂ p) + 8) H w (omega arith)
+        (at-shared s g (after p) (length (p₂ p)) q (after-tau p h₁ h₂))))
+        λ h₃. section-same _ _ _ _ _ (p₃ p) (λ q. ap (λ (m : List K). cond (binGood F R x ws) []
+        (outer F s R x ws w (R .bin) (take (R .bin .logRows + s) p) (R .bin .logRows) (take s (p₂ p) ++ p₃ p) m))
+        (words-heard (8 * s + 4 * length (p₃ p)) 4 (8 * s + 4 * length (p₃ p) + 4) H w (omega arith)
+        (at-row s g (after p) (length (p₃ p)) (omega arith) (after-tau p h₁ h₂ ∙ omega (arith, left s (p₂ p) h₃)))))
+        λ h₄. section-same _ _ _ _ _ (p₄ p) (λ q. ap (λ (m : List K). cond (binGood F R x ws)
+        (outer F s R x ws w (R .fld) (take (R .fld .logRows + s) (p₁ p)) (R .fld .logRows) (take s (p₂ p) ++ p₄ p) m) [])
+        (words-heard (8 * s + 4 * R .bin .logRows + 4 * length (p₄ p)) 4 (8 * s + 4 * (R .bin .logRows + length (p₄ p)) + 4) H w
+        (omega arith) (at-row s g (after p) (R .bin .logRows + length (p₄ p)) (omega arith)
+        (after-tau p h₁ h₂ ∙ omega (arith, left s (p₂ p) h₃, left (R .bin .logRows) (p₃ p) h₄)))))
+        λ h₅. section-same _ _ _ _ _ (p₅ p) (λ q. ap (λ (t : List K). alphaList F t
+        (trueTerminals F R x ws (take s (p₂ p)) (take (R .bin .logRows) (p₃ p)) (take (R .fld .logRows) (p₄ p))) (p₅ p))
+        (six-take (8 * s + 4 * R .bin .logRows + 4 * R .fld .logRows) H w
+        (at-most (at-alpha s g (after p) (more (after p) (length (p₂ p)) (length (p₃ p)) (length (p₄ p)) (length (p₅ p))
+        (after-tau p h₁ h₂) (left s (p₂ p) h₃) (left (R .bin .logRows) (p₃ p) h₄) (left (R .fld .logRows) (p₄ p) h₅))))))
+        λ h₆. ap (badChallenges F (tableRounds F (innerCells F))
+        (record {
+          tops = 0;
+          rows = suc (R .logHalf);
+          cells = zipInner F
+              (combo F R (take (R .bin .logRows) (p₃ p)) (take (R .fld .logRows) (p₄ p)) (take 6 (p₅ p)))
+              (folded F R x ws (take s (p₂ p)));
+        }) (p₆ p))
+        (words-heard (8 * s + 4 * R .bin .logRows + 4 * R .fld .logRows + 6 + 3 * length (p₆ p)) 3
+        (8 * s + 4 * (R .bin .logRows + R .fld .logRows) + 6 + 3 * length (p₆ p) + 3) H w (omega arith)
+        (at-inner s g (after p) (length (p₆ p)) (last (after p) (length (p₂ p)) (length (p₃ p)) (length (p₄ p)) (length (p₅ p))
+        (length (p₆ p)) (after-tau p h₁ h₂) (left s (p₂ p) h₃) (left (R .bin .logRows) (p₃ p) h₄) (left (R .fld .logRows) (p₄ p) h₅)
+        (left 6 (p₅ p) h₆))))
       where
         g : ℕ
         g = R .bin .logRows + R .fld .logRows
@@ -164,11 +190,14 @@ module _ (F : Field) where
         at-most : 8 * s + 4 * (R .bin .logRows + R .fld .logRows) + 6 ≤ H → 8 * s + 4 * R .bin .logRows + 4 * R .fld .logRows + 6 ≤ H
         at-most h = same H h
           where
-            same : (m : ℕ) → 8 * s + 4 * (R .bin .logRows + R .fld .logRows) + 6 ≤ m → 8 * s + 4 * R .bin .logRows + 4 * R .fld .logRows + 6 ≤ m
+            same : (m : ℕ) → 8 * s + 4 * (R .bin .logRows + R .fld .logRows) + 6 ≤ m
+                → 8 * s + 4 * R .bin .logRows + 4 * R .fld .logRows + 6 ≤ m
             same m h = omega arith
 
-        more : (a n₂ n₃ n₄ n₅ : ℕ) → a ≡ suc n₂ → n₂ ≡ s + n₃ → n₃ ≡ R .bin .logRows + n₄ → n₄ ≡ R .fld .logRows + n₅ → s + (R .bin .logRows + R .fld .logRows) < a
+        more : (a n₂ n₃ n₄ n₅ : ℕ) → a ≡ suc n₂ → n₂ ≡ s + n₃ → n₃ ≡ R .bin .logRows + n₄ → n₄ ≡ R .fld .logRows + n₅
+            → s + (R .bin .logRows + R .fld .logRows) < a
         more a n₂ n₃ n₄ n₅ h₁ h₂ h₃ h₄ = omega arith
 
-        last : (a n₂ n₃ n₄ n₅ n₆ : ℕ) → a ≡ suc n₂ → n₂ ≡ s + n₃ → n₃ ≡ R .bin .logRows + n₄ → n₄ ≡ R .fld .logRows + n₅ → n₅ ≡ 6 + n₆ → a ≡ s + (R .bin .logRows + R .fld .logRows) + 6 + suc n₆
+        last : (a n₂ n₃ n₄ n₅ n₆ : ℕ) → a ≡ suc n₂ → n₂ ≡ s + n₃ → n₃ ≡ R .bin .logRows + n₄ → n₄ ≡ R .fld .logRows + n₅ → n₅ ≡ 6 + n₆ → a
+            ≡ s + (R .bin .logRows + R .fld .logRows) + 6 + suc n₆
         last a n₂ n₃ n₄ n₅ n₆ h₁ h₂ h₃ h₄ h₅ = omega arith

@@ -27,12 +27,15 @@ module _ (F : Field) where
     nil [] h = refl
     nil (x ∷ t) h = absurd (omega arith)
 
-    zipped : (t z : List K) → length z ≡ length t → (map (λ (x : InnerCell F). x .t) (zipInner F t z) ≡ t) × (map (λ (x : InnerCell F). x .z) (zipInner F t z) ≡ z)
+    zipped : (t z : List K) → length z ≡ length t → (map (λ (x : InnerCell F). x .t) (zipInner F t z) ≡ t)
+        × (map (λ (x : InnerCell F). x .z) (zipInner F t z) ≡ z)
     zipped [] z h = (refl, nil z h)
     zipped (x ∷ t) [] h = absurd (omega arith)
     zipped (x ∷ t) (y ∷ z) h = go (zipped t z (omega arith))
       where
-        go : (map (λ (x : InnerCell F). x .t) (zipInner F t z) ≡ t) × (map (λ (x : InnerCell F). x .z) (zipInner F t z) ≡ z) → (x ∷ map (λ (x : InnerCell F). x .t) (zipInner F t z) ≡ x ∷ t) × (y ∷ map (λ (x : InnerCell F). x .z) (zipInner F t z) ≡ y ∷ z)
+        go : (map (λ (x : InnerCell F). x .t) (zipInner F t z) ≡ t) × (map (λ (x : InnerCell F). x .z) (zipInner F t z) ≡ z)
+            → (x ∷ map (λ (x : InnerCell F). x .t) (zipInner F t z) ≡ x ∷ t)
+            × (y ∷ map (λ (x : InnerCell F). x .z) (zipInner F t z) ≡ y ∷ z)
         go e = (ap (λ (l : List K). x ∷ l) (e .0), ap (λ (l : List K). y ∷ l) (e .1))
 
     length-zip : (t z : List K) → length (zipInner F t z) ≤ length t
@@ -55,23 +58,35 @@ module _ (F : Field) where
       abbrev pub begin : State F (innerCells F)
       begin = record { tops = 0; rows = length rs; cells = zipInner F t z }
 
-      end-value : (tableRounds F (innerCells F) .value) (bindAll F (tableRounds F (innerCells F)) rs begin) ≡ dot F (eqTable F rs) t ⊗ dot F (eqTable F rs) z
-      end-value = last-value F (innerCells F) L (innerCellLaws F L) ((bindAll F (tableRounds F (innerCells F)) rs begin) .cells) (run-end F (innerCells F) [] rs (begin .cells) (rw zero-add (omega (arith, length-zip t z))))
-          ∙ ap₂ _⊗_ (column-end F (innerCells F) L (innerCellLaws F L) (λ x. x .t) colT [] rs (begin .cells) ∙ ap₂ (λ (p l : List K). dot F (eqTable F p) l) (append-nil rs) ((zipped t z lz) .0))
-          (column-end F (innerCells F) L (innerCellLaws F L) (λ x. x .z) colZ [] rs (begin .cells) ∙ ap₂ (λ (p l : List K). dot F (eqTable F p) l) (append-nil rs) ((zipped t z lz) .1))
+      end-value : (tableRounds F (innerCells F) .value) (bindAll F (tableRounds F (innerCells F)) rs begin)
+          ≡ dot F (eqTable F rs) t ⊗ dot F (eqTable F rs) z
+      end-value = last-value F (innerCells F) L (innerCellLaws F L) ((bindAll F (tableRounds F (innerCells F)) rs begin) .cells)
+          (run-end F (innerCells F) [] rs (begin .cells) (rw zero-add (omega (arith, length-zip t z))))
+          ∙ ap₂ _⊗_ (column-end F (innerCells F) L (innerCellLaws F L) (λ x. x .t) colT [] rs (begin .cells)
+          ∙ ap₂ (λ (p l : List K). dot F (eqTable F p) l) (append-nil rs) ((zipped t z lz) .0))
+          (column-end F (innerCells F) L (innerCellLaws F L) (λ x. x .z) colZ [] rs (begin .cells)
+          ∙ ap₂ (λ (p l : List K). dot F (eqTable F p) l) (append-nil rs) ((zipped t z lz) .1))
 
-      pub inner-sound : (v : K) (ms : List (List K)) → Checks F v ms rs → running F v ms rs ≡ dot F (eqTable F rs) t ⊗ dot F (eqTable F rs) z
+      pub inner-sound : (v : K) (ms : List (List K)) → Checks F v ms rs → running F v ms rs
+          ≡ dot F (eqTable F rs) t ⊗ dot F (eqTable F rs) z
           → (v ≡ dot F t z) ⊎ Caught F (tableRounds F (innerCells F)) begin ms rs
-      inner-sound v ms h e = go (sound F L (tableRounds F (innerCells F)) (tableLaws F (innerCells F) L (innerCellLaws F L)) ms rs v begin h (e ∙ sym end-value))
+      inner-sound v ms h e = go (sound F L (tableRounds F (innerCells F))
+          (tableLaws F (innerCells F) L (innerCellLaws F L)) ms rs v begin h (e ∙ sym end-value))
         where
-          go : (v ≡ sumTerms F (innerCells F) (zipInner F t z)) ⊎ Caught F (tableRounds F (innerCells F)) begin ms rs → (v ≡ dot F t z) ⊎ Caught F (tableRounds F (innerCells F)) begin ms rs
+          go : (v ≡ sumTerms F (innerCells F) (zipInner F t z)) ⊎ Caught F (tableRounds F (innerCells F)) begin ms rs → (v ≡ dot F t z)
+              ⊎ Caught F (tableRounds F (innerCells F)) begin ms rs
           go (inl p) = inl (p ∙ sum-dot t z)
           go (inr m) = inr m
 
       pub inner-complete : Checks F (dot F t z) (honest F (tableRounds F (innerCells F)) begin rs) rs
           × (running F (dot F t z) (honest F (tableRounds F (innerCells F)) begin rs) rs ≡ dot F (eqTable F rs) t ⊗ dot F (eqTable F rs) z)
-      inner-complete = go (sumTerms F (innerCells F) (zipInner F t z)) (sum-dot t z) (complete F L (tableRounds F (innerCells F)) (tableLaws F (innerCells F) L (innerCellLaws F L)) rs begin)
+      inner-complete = go (sumTerms F (innerCells F) (zipInner F t z)) (sum-dot t z)
+          (complete F L (tableRounds F (innerCells F)) (tableLaws F (innerCells F) L (innerCellLaws F L)) rs begin)
         where
-          go : (v : K) → v ≡ dot F t z → Checks F v (honest F (tableRounds F (innerCells F)) begin rs) rs × (running F v (honest F (tableRounds F (innerCells F)) begin rs) rs ≡ (tableRounds F (innerCells F) .value) (bindAll F (tableRounds F (innerCells F)) rs begin))
-              → Checks F (dot F t z) (honest F (tableRounds F (innerCells F)) begin rs) rs × (running F (dot F t z) (honest F (tableRounds F (innerCells F)) begin rs) rs ≡ dot F (eqTable F rs) t ⊗ dot F (eqTable F rs) z)
+          go : (v : K) → v ≡ dot F t z → Checks F v (honest F (tableRounds F (innerCells F)) begin rs) rs
+              × (running F v (honest F (tableRounds F (innerCells F)) begin rs) rs
+              ≡ (tableRounds F (innerCells F) .value) (bindAll F (tableRounds F (innerCells F)) rs begin))
+              → Checks F (dot F t z) (honest F (tableRounds F (innerCells F)) begin rs) rs
+              × (running F (dot F t z) (honest F (tableRounds F (innerCells F)) begin rs) rs
+              ≡ dot F (eqTable F rs) t ⊗ dot F (eqTable F rs) z)
           go v p h = (rw p at (h .0), rw p at (h .1) ∙ end-value)

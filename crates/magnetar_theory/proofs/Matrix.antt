@@ -39,7 +39,8 @@ module _ (F : Field) where
       where
         here : (x y v d : K) → x ⊗ (y ⊕ v) ⊕ d ≡ x ⊗ v ⊕ (x ⊗ y ⊕ d)
         here x y v d = simp (ring, L .laws)
-    dot-addAt (x ∷ e) (y ∷ t) (suc i) v l = ap (λ (w : K). x ⊗ y ⊕ w) (dot-addAt e t i v (omega arith)) ∙ there (x ⊗ y) (getD e i 𝟎 ⊗ v) (dot F e t)
+    dot-addAt (x ∷ e) (y ∷ t) (suc i) v l = ap (λ (w : K). x ⊗ y ⊕ w) (dot-addAt e t i v (omega arith))
+        ∙ there (x ⊗ y) (getD e i 𝟎 ⊗ v) (dot F e t)
       where
         there : (a b d : K) → a ⊕ (b ⊕ d) ≡ b ⊕ (a ⊕ d)
         there a b d = simp (ring, L .laws)
@@ -58,7 +59,8 @@ module _ (F : Field) where
     length-columns n (m ∷ M) e = length-addAt (columns F n M e) (m .col) (m .val ⊗ getD e (m .row) 𝟎) ∙ length-columns n M e
 
     -- the weighted sum of the rows of M z is the columns' sums against z
-    pub transpose : (R n : ℕ) (M : List (Entry F)) (e z : List K) → length e ≡ R → length z ≡ n → dot F e (apply F R M z) ≡ dot F z (columns F n M e)
+    pub transpose : (R n : ℕ) (M : List (Entry F)) (e z : List K) → length e ≡ R → length z ≡ n → dot F e (apply F R M z)
+        ≡ dot F z (columns F n M e)
     transpose R n [] e z h k = dot-replicate R e ∙ sym (dot-replicate n z)
     transpose R n (m ∷ M) e z h k = dot-addAt e (apply F R M z) (m .row) (m .val ⊗ getD z (m .col) 𝟎) (h ∙ sym (length-apply R M z))
         ∙ ap₂ _⊕_ (swap (getD e (m .row) 𝟎) (m .val) (getD z (m .col) 𝟎)) (transpose R n M e z h k)
@@ -88,11 +90,14 @@ module _ (F : Field) where
     dot-scale-left k e t = dot-comm (scale F k e) t ∙ dot-scale F L k t e ∙ ap (λ (w : K). k ⊗ w) (dot-comm t e)
 
     -- block by block
-    dot-blocks : (us e : List K) (R : ℕ) (M : List (Entry F)) (zs : List (List K)) → length e ≡ R → dot F (blocks us e) (applyAll F R M zs) ≡ dot F us (map (λ (z : List K). dot F e (apply F R M z)) zs)
+    dot-blocks : (us e : List K) (R : ℕ) (M : List (Entry F)) (zs : List (List K)) → length e ≡ R → dot F (blocks us e) (applyAll F R M zs)
+        ≡ dot F us (map (λ (z : List K). dot F e (apply F R M z)) zs)
     dot-blocks [] e R M zs h = refl
     dot-blocks (u ∷ us) e R M [] h = dot-nil F (blocks (u ∷ us) e)
     dot-blocks (u ∷ us) e R M (z ∷ zs) h = dot-append F L (scale F u e) (blocks us e) (apply F R M z ++ applyAll F R M zs)
-        ∙ ap₂ (λ (a b : List K). dot F (scale F u e) a ⊕ dot F (blocks us e) b) (take-at (apply F R M z) (applyAll F R M zs) (length (scale F u e)) size) (drop-at (apply F R M z) (applyAll F R M zs) (length (scale F u e)) size)
+        ∙ ap₂ (λ (a b : List K). dot F (scale F u e) a ⊕ dot F (blocks us e) b)
+        (take-at (apply F R M z) (applyAll F R M zs) (length (scale F u e)) size)
+        (drop-at (apply F R M z) (applyAll F R M zs) (length (scale F u e)) size)
         ∙ ap₂ _⊕_ (dot-scale-left u e (apply F R M z)) (dot-blocks us e R M zs h)
       where
         size : length (apply F R M z) ≡ length (scale F u e)
@@ -110,7 +115,8 @@ module _ (F : Field) where
     pub dot-fold : (n : ℕ) (t es : List K) (zs : List (List K)) → dot F t (fold F n es zs) ≡ dot F es (map (λ (z : List K). dot F z t) zs)
     dot-fold n t [] zs = dot-replicate n t
     dot-fold n t (e ∷ es) [] = dot-replicate n t
-    dot-fold n t (e ∷ es) (z ∷ zs) = dot-add t (scale F e z) (fold F n es zs) ∙ ap₂ _⊕_ (dot-scale F L e t z ∙ ap (λ (w : K). e ⊗ w) (dot-comm t z)) (dot-fold n t es zs)
+    dot-fold n t (e ∷ es) (z ∷ zs) = dot-add t (scale F e z) (fold F n es zs)
+        ∙ ap₂ _⊕_ (dot-scale F L e t z ∙ ap (λ (w : K). e ⊗ w) (dot-comm t z)) (dot-fold n t es zs)
 
     length-add : (n : ℕ) (s t : List K) → length s ≡ n → length t ≡ n → length (addPoly F s t) ≡ n
     length-add n [] t h k = k
@@ -121,7 +127,8 @@ module _ (F : Field) where
     pub length-fold : (n : ℕ) (es : List K) (zs : List (List K)) → AllLength F n zs → length (fold F n es zs) ≡ n
     length-fold n [] zs h = length-replicate n 𝟎
     length-fold n (e ∷ es) [] h = length-replicate n 𝟎
-    length-fold n (e ∷ es) (z ∷ zs) h = length-add n (scale F e z) (fold F n es zs) (length-scale F L e z ∙ h .0) (length-fold n es zs (h .1))
+    length-fold n (e ∷ es) (z ∷ zs) h = length-add n (scale F e z) (fold F n es zs) (length-scale F L e z ∙ h .0)
+        (length-fold n es zs (h .1))
 
     each : (R n : ℕ) (M : List (Entry F)) (e es : List K) (zs : List (List K)) → length e ≡ R → AllLength F n zs
         → dot F es (map (λ (z : List K). dot F e (apply F R M z)) zs) ≡ dot F es (map (λ (z : List K). dot F z (columns F n M e)) zs)
@@ -130,7 +137,8 @@ module _ (F : Field) where
     each R n M e (u ∷ us) (z ∷ zs) h k = ap₂ (λ (a b : K). u ⊗ a ⊕ b) (transpose R n M e z h (k .0)) (each R n M e us zs h (k .1))
 
     pub matrix : (n : ℕ) (M : List (Entry F)) (rows inst : List K) (zs : List (List K)) → AllLength F n zs
-        → dot F (eqTable F (rows ++ inst)) (applyAll F (2 ^ length rows) M zs) ≡ dot F (columns F n M (eqTable F rows)) (fold F n (eqTable F inst) zs)
+        → dot F (eqTable F (rows ++ inst)) (applyAll F (2 ^ length rows) M zs)
+        ≡ dot F (columns F n M (eqTable F rows)) (fold F n (eqTable F inst) zs)
     matrix n M rows inst zs h = ap (λ (w : List K). dot F w (applyAll F (2 ^ length rows) M zs)) (eqTable-append rows inst)
         ∙ dot-blocks (eqTable F inst) (eqTable F rows) (2 ^ length rows) M zs (length-eqTable F L rows)
         ∙ each (2 ^ length rows) n M (eqTable F rows) (eqTable F inst) zs (length-eqTable F L rows) h

@@ -48,7 +48,8 @@ module _ (F : Field) where
     distrib-right x y z = rw (mul-comm (x ⊕ y) z, mul-comm x z, mul-comm y z) (distrib z x y)
 
     pub mul-zero : (x : K) → x ⊗ 𝟎 ≡ 𝟎
-    mul-zero x = sym (add-self-left (x ⊗ 𝟎) (x ⊗ 𝟎)) ∙ ap (λ (w : K). x ⊗ 𝟎 ⊕ w) (sym (distrib x 𝟎 𝟎) ∙ ap (λ (w : K). x ⊗ w) (add-zero 𝟎)) ∙ add-self (x ⊗ 𝟎)
+    mul-zero x = sym (add-self-left (x ⊗ 𝟎) (x ⊗ 𝟎)) ∙ ap (λ (w : K). x ⊗ 𝟎 ⊕ w) (sym (distrib x 𝟎 𝟎) ∙ ap (λ (w : K). x ⊗ w) (add-zero 𝟎))
+        ∙ add-self (x ⊗ 𝟎)
 
     pub zero-mul : (x : K) → 𝟎 ⊗ x ≡ 𝟎
     zero-mul x = mul-comm 𝟎 x ∙ mul-zero x

@@ -32,7 +32,8 @@ module _ (F : Field) where
   -- the sum over the segments of eq(high part of r, number) times the segment's own sum
   abbrev pub bySegments : List Segment → List K → List K → K
   bySegments [] r w = 𝟎
-  bySegments (g ∷ gs) r w = getD (eqTable F (drop (g .logLen) r)) (g .number) 𝟎 ⊗ dot F (eqTable F (take (g .logLen) r)) (slice F g w) ⊕ bySegments gs r w
+  bySegments (g ∷ gs) r w = getD (eqTable F (drop (g .logLen) r)) (g .number) 𝟎 ⊗ dot F (eqTable F (take (g .logLen) r))
+      (slice F g w) ⊕ bySegments gs r w
 
   module _ (L : Laws F) where
     dot-split : (n : ℕ) (e t : List K) → dot F e t ≡ dot F (take n e) (take n t) ⊕ dot F (drop n e) (drop n t)
@@ -42,7 +43,8 @@ module _ (F : Field) where
         start x = simp (ring, L .laws)
     dot-split (suc n) [] t = sym (L .laws .add-zero 𝟎)
     dot-split (suc n) (x ∷ e) [] = sym (ap (λ (w : K). 𝟎 ⊕ w) (dot-nil F (drop n e)) ∙ L .laws .add-zero 𝟎)
-    dot-split (suc n) (x ∷ e) (y ∷ t) = ap (λ (w : K). x ⊗ y ⊕ w) (dot-split n e t) ∙ sym (L .laws .add-assoc (x ⊗ y) (dot F (take n e) (take n t)) (dot F (drop n e) (drop n t)))
+    dot-split (suc n) (x ∷ e) (y ∷ t) = ap (λ (w : K). x ⊗ y ⊕ w) (dot-split n e t)
+        ∙ sym (L .laws .add-assoc (x ⊗ y) (dot F (take n e) (take n t)) (dot F (drop n e) (drop n t)))
 
     block : (us e : List K) (b : ℕ) → b < length us → take (length e) (drop (b * length e) (blocks F L us e)) ≡ scale F (getD us b 𝟎) e
     block [] e b h = absurd (omega arith)
@@ -70,11 +72,13 @@ module _ (F : Field) where
         many = rw (length-eqTable F L (drop v r), length-drop v r) k
 
     segment-dot : (g : Segment) (r w : List K) → g .logLen ≤ length r → g .number < 2 ^ (length r - g .logLen)
-        → dot F (slice F g (eqTable F r)) (slice F g w) ≡ getD (eqTable F (drop (g .logLen) r)) (g .number) 𝟎 ⊗ dot F (eqTable F (take (g .logLen) r)) (slice F g w)
+        → dot F (slice F g (eqTable F r)) (slice F g w)
+        ≡ getD (eqTable F (drop (g .logLen) r)) (g .number) 𝟎 ⊗ dot F (eqTable F (take (g .logLen) r)) (slice F g w)
     segment-dot g r w h k = ap (λ (e : List K). dot F e (slice F g w)) (segment-eq g r h k)
         ∙ dot-scale-left F L (getD (eqTable F (drop (g .logLen) r)) (g .number) 𝟎) (eqTable F (take (g .logLen) r)) (slice F g w)
 
-    pub segments : (gs : List Segment) (c : ℕ) (r w : List K) → Laid F c (2 ^ length r) gs w → dot F (drop c (eqTable F r)) (drop c w) ≡ bySegments gs r w
+    pub segments : (gs : List Segment) (c : ℕ) (r w : List K) → Laid F c (2 ^ length r) gs w → dot F (drop c (eqTable F r)) (drop c w)
+        ≡ bySegments gs r w
     segments [] c r w z = dot-zeros F L (drop c (eqTable F r)) (drop c w) z
     segments (g ∷ gs) c r w (p, q, z, l) = step gap here (segments gs (after g) r w l)
       where
@@ -88,10 +92,14 @@ module _ (F : Field) where
         to t = drop-drop (offset g - c) c t ∙ ap (λ (n : ℕ). drop n t) far
 
         gap : dot F (drop c E) (drop c w) ≡ 𝟎 ⊕ dot F (drop (offset g) E) (drop (offset g) w)
-        gap = dot-split (offset g - c) (drop c E) (drop c w) ∙ ap₂ _⊕_ (dot-zeros F L (take (offset g - c) (drop c E)) (take (offset g - c) (drop c w)) z) (ap₂ (dot F) (to E) (to w))
+        gap = dot-split (offset g - c) (drop c E) (drop c w)
+            ∙ ap₂ _⊕_ (dot-zeros F L (take (offset g - c) (drop c E)) (take (offset g - c) (drop c w)) z) (ap₂ (dot F) (to E) (to w))
 
-        here : dot F (drop (offset g) E) (drop (offset g) w) ≡ dot F (slice F g E) (slice F g w) ⊕ dot F (drop (after g) E) (drop (after g) w)
-        here = dot-split (2 ^ g .logLen) (drop (offset g) E) (drop (offset g) w) ∙ ap (λ (x : K). dot F (slice F g E) (slice F g w) ⊕ x) (ap₂ (dot F) (drop-drop (2 ^ g .logLen) (offset g) E) (drop-drop (2 ^ g .logLen) (offset g) w))
+        here : dot F (drop (offset g) E) (drop (offset g) w)
+            ≡ dot F (slice F g E) (slice F g w) ⊕ dot F (drop (after g) E) (drop (after g) w)
+        here = dot-split (2 ^ g .logLen) (drop (offset g) E) (drop (offset g) w)
+            ∙ ap (λ (x : K). dot F (slice F g E) (slice F g w) ⊕ x)
+            (ap₂ (dot F) (drop-drop (2 ^ g .logLen) (offset g) E) (drop-drop (2 ^ g .logLen) (offset g) w))
 
         ok : (g .logLen ≤ length r) × (g .number < 2 ^ (length r - g .logLen))
         ok = fits (g .logLen) (g .number) (length r) q
@@ -99,15 +107,21 @@ module _ (F : Field) where
         clean : (x : K) → 𝟎 ⊕ x ≡ x
         clean x = simp (ring, L .laws)
 
-        step : dot F (drop c E) (drop c w) ≡ 𝟎 ⊕ dot F (drop (offset g) E) (drop (offset g) w) → dot F (drop (offset g) E) (drop (offset g) w) ≡ dot F (slice F g E) (slice F g w) ⊕ dot F (drop (after g) E) (drop (after g) w)
+        step : dot F (drop c E) (drop c w) ≡ 𝟎 ⊕ dot F (drop (offset g) E) (drop (offset g) w)
+            → dot F (drop (offset g) E) (drop (offset g) w)
+            ≡ dot F (slice F g E) (slice F g w) ⊕ dot F (drop (after g) E) (drop (after g) w)
             → dot F (drop (after g) E) (drop (after g) w) ≡ bySegments gs r w → dot F (drop c E) (drop c w) ≡ bySegments (g ∷ gs) r w
         step a b d = a ∙ clean (dot F (drop (offset g) E) (drop (offset g) w)) ∙ b ∙ ap₂ _⊕_ (segment-dot g r w (ok .0) (ok .1)) d
 
     -- the whole vector: the half of the segments and the half after it, by the last element of the point
-    pub halves : (r : List K) (m : K) (w x : List K) → length w ≡ 2 ^ length r → dot F (eqTable F (r ++ (m ∷ []))) (w ++ x) ≡ (𝟏 ⊕ m) ⊗ dot F (eqTable F r) w ⊕ m ⊗ dot F (eqTable F r) x
-    halves r m w x h = ap (λ (e : List K). dot F e (w ++ x)) (eqTable-snoc F L r m) ∙ dot-append F L (scale F (𝟏 ⊕ m) (eqTable F r)) (scale F m (eqTable F r)) (w ++ x)
-        ∙ ap₂ _⊕_ (ap (dot F (scale F (𝟏 ⊕ m) (eqTable F r))) (take-at w x (length (scale F (𝟏 ⊕ m) (eqTable F r))) size) ∙ dot-scale-left F L (𝟏 ⊕ m) (eqTable F r) w)
-        (ap (dot F (scale F m (eqTable F r))) (drop-at w x (length (scale F (𝟏 ⊕ m) (eqTable F r))) size) ∙ dot-scale-left F L m (eqTable F r) x)
+    pub halves : (r : List K) (m : K) (w x : List K) → length w ≡ 2 ^ length r → dot F (eqTable F (r ++ (m ∷ []))) (w ++ x)
+        ≡ (𝟏 ⊕ m) ⊗ dot F (eqTable F r) w ⊕ m ⊗ dot F (eqTable F r) x
+    halves r m w x h = ap (λ (e : List K). dot F e (w ++ x)) (eqTable-snoc F L r m)
+        ∙ dot-append F L (scale F (𝟏 ⊕ m) (eqTable F r)) (scale F m (eqTable F r)) (w ++ x)
+        ∙ ap₂ _⊕_ (ap (dot F (scale F (𝟏 ⊕ m) (eqTable F r))) (take-at w x (length (scale F (𝟏 ⊕ m) (eqTable F r))) size)
+        ∙ dot-scale-left F L (𝟏 ⊕ m) (eqTable F r) w)
+        (ap (dot F (scale F m (eqTable F r))) (drop-at w x (length (scale F (𝟏 ⊕ m) (eqTable F r))) size)
+        ∙ dot-scale-left F L m (eqTable F r) x)
       where
         size : length w ≡ length (scale F (𝟏 ⊕ m) (eqTable F r))
         size = h ∙ sym (length-eqTable F L r) ∙ sym (length-scale F L (𝟏 ⊕ m) (eqTable F r))

@@ -60,7 +60,8 @@ module _ (F : Field) (L : Laws F) where
   pub agree : (p q : List K) → ((x : K) → eval F p x ≡ eval F q x) ⊎ ((r : K) → eval F p r ≡ eval F q r → List·Memᴰ r (rootsOfDiff F p q))
   agree p q = go (allZero F (addPoly F p q)) refl
     where
-      go : (b : Bool) → allZero F (addPoly F p q) ≡ b → ((x : K) → eval F p x ≡ eval F q x) ⊎ ((r : K) → eval F p r ≡ eval F q r → List·Memᴰ r (cond b [] (roots (addPoly F p q))))
+      go : (b : Bool) → allZero F (addPoly F p q) ≡ b → ((x : K) → eval F p x ≡ eval F q x)
+          ⊎ ((r : K) → eval F p r ≡ eval F q r → List·Memᴰ r (cond b [] (roots (addPoly F p q))))
       go true e = inl (λ x. eq-of-sum-zero _ _ (sym (eval-addPoly p q x) ∙ eval-allZero (addPoly F p q) x e))
       go false e = inr (λ r h. L .root-listed (addPoly F p q) r e (eval-addPoly p q r ∙ rw h (L .laws .add-self (eval F q r))))
 
@@ -85,19 +86,25 @@ module _ (F : Field) (L : Laws F) where
   module _ (G : Rounds F) (GL : RoundLaws F G) where
     open Rounds G using (St, value, bind, poly)
 
-    pub sound : (ms : List (List K)) (rs : List K) (c : K) (S : St) → Checks F c ms rs → running F c ms rs ≡ value (bindAll F G rs S) → (c ≡ value S) ⊎ Caught F G S ms rs
+    pub sound : (ms : List (List K)) (rs : List K) (c : K) (S : St) → Checks F c ms rs → running F c ms rs ≡ value (bindAll F G rs S)
+        → (c ≡ value S) ⊎ Caught F G S ms rs
     sound [] [] c S h e = inl e
     sound (m ∷ ms) (r ∷ rs) c S h e = go (sound ms rs (eval F m r) (bind r S) (h .1) e) (agree m (poly S))
       where
-        go : (eval F m r ≡ value (bind r S)) ⊎ Caught F G (bind r S) ms rs → ((x : K) → eval F m x ≡ eval F (poly S) x) ⊎ ((r : K) → eval F m r ≡ eval F (poly S) r → List·Memᴰ r (rootsOfDiff F m (poly S))) → (c ≡ value S) ⊎ Caught F G S (m ∷ ms) (r ∷ rs)
+        go : (eval F m r ≡ value (bind r S)) ⊎ Caught F G (bind r S) ms rs → ((x : K) → eval F m x ≡ eval F (poly S) x)
+            ⊎ ((r : K) → eval F m r ≡ eval F (poly S) r → List·Memᴰ r (rootsOfDiff F m (poly S))) → (c ≡ value S)
+            ⊎ Caught F G S (m ∷ ms) (r ∷ rs)
         go (inr (i, k, l)) a = inr (suc i, omega arith, l)
         go (inl v) (inl a) = inl (sym (h .0) ∙ checkSum-is m ∙ rw (a 𝟎, a 𝟏) (GL .poly-sum S))
         go (inl v) (inr a) = inr (zero, omega arith, a r (v ∙ sym (GL .poly-value S r)))
 
-    pub complete : (rs : List K) (S : St) → Checks F (value S) (honest F G S rs) rs × (running F (value S) (honest F G S rs) rs ≡ value (bindAll F G rs S))
+    pub complete : (rs : List K) (S : St) → Checks F (value S) (honest F G S rs) rs
+        × (running F (value S) (honest F G S rs) rs ≡ value (bindAll F G rs S))
     complete [] S = (tt, refl)
     complete (r ∷ rs) S = go (eval F (poly S) r) (sym (GL .poly-value S r)) (complete rs (bind r S))
       where
-        go : (v : K) → value (bind r S) ≡ v → Checks F (value (bind r S)) (honest F G (bind r S) rs) rs × (running F (value (bind r S)) (honest F G (bind r S) rs) rs ≡ value (bindAll F G rs (bind r S)))
-            → ((checkSum F (poly S) ≡ value S) × Checks F v (honest F G (bind r S) rs) rs) × (running F v (honest F G (bind r S) rs) rs ≡ value (bindAll F G rs (bind r S)))
+        go : (v : K) → value (bind r S) ≡ v → Checks F (value (bind r S)) (honest F G (bind r S) rs) rs
+            × (running F (value (bind r S)) (honest F G (bind r S) rs) rs ≡ value (bindAll F G rs (bind r S)))
+            → ((checkSum F (poly S) ≡ value S) × Checks F v (honest F G (bind r S) rs) rs)
+            × (running F v (honest F G (bind r S) rs) rs ≡ value (bindAll F G rs (bind r S)))
         go v e ih = ((checkSum-is (poly S) ∙ GL .poly-sum S, rw e at (ih .0)), rw e at (ih .1))

@@ -24,7 +24,13 @@ module _ (F : Field) (X : Cells F) where
   module _ (L : Laws F) (XL : CellLaws) where
     polyAll-value : (ps : List (C × C)) (r : K) → eval F (polyAll F X ps) r ≡ sumTerms F X (mixAll F X r ps)
     polyAll-value [] r = refl
-    polyAll-value (p ∷ ps) r = rw (polyAll, eval-addPoly F L (line (p .0) (p .1)) (polyAll F X ps) r, polyAll-value ps r, XL .line-term (p .0) (p .1) r) refl
+    polyAll-value (p ∷ ps) r = rw (
+      polyAll,
+      eval-addPoly F L (line (p .0) (p .1)) (polyAll F X ps) r,
+      polyAll-value ps r,
+      XL .line-term
+          (p .0) (p .1) r,
+    ) refl
 
     -- the sum over pairs
     abbrev sumPairs : List (C × C) → K
@@ -33,7 +39,8 @@ module _ (F : Field) (X : Cells F) where
 
     mixed-sum : (ps : List (C × C)) → sumTerms F X (mixAll F X 𝟎 ps) ⊕ sumTerms F X (mixAll F X 𝟏 ps) ≡ sumPairs ps
     mixed-sum [] = simp (ring, L .laws)
-    mixed-sum (p ∷ ps) = rw (sumTerms, sumPairs, ← mixed-sum ps, XL .mix-zero (p .0) (p .1), XL .mix-one (p .0) (p .1)) (simp (ring, L .laws))
+    mixed-sum (p ∷ ps) = rw (sumTerms, sumPairs, ← mixed-sum ps, XL .mix-zero (p .0) (p .1), XL .mix-one (p .0) (p .1))
+        (simp (ring, L .laws))
 
     low-sum : (t : List C) → sumPairs (lowPairs F X t) ≡ sumTerms F X t
     low-sum [] = refl
@@ -58,5 +65,10 @@ module _ (F : Field) (X : Cells F) where
     pub tableLaws : RoundLaws F (tableRounds F X)
     tableLaws = record {
       poly-value = λ S r. polyAll-value (pairs F X (S .tops) (S .rows) (S .cells)) r;
-      poly-sum = λ S. rw (polyAll-value (pairs F X (S .tops) (S .rows) (S .cells)) 𝟎, polyAll-value (pairs F X (S .tops) (S .rows) (S .cells)) 𝟏) (mixed-sum (pairs F X (S .tops) (S .rows) (S .cells)) ∙ pairs-sum (S .tops) (S .rows) (S .cells));
+      poly-sum = λ S. rw (
+        polyAll-value (pairs F X (S .tops) (S .rows) (S .cells)) 𝟎,
+        polyAll-value
+            (pairs F X (S .tops) (S .rows) (S .cells)) 𝟏,
+      )
+          (mixed-sum (pairs F X (S .tops) (S .rows) (S .cells)) ∙ pairs-sum (S .tops) (S .rows) (S .cells));
     }

@@ -63,7 +63,8 @@ module _ (F : Field) where
         go (inr m) = inr m
     step (x ∷ y ∷ t) r z = go (allZero F (x ∷ (x ⊕ y) ∷ [])) refl (step t r (z .1))
       where
-        go : (b : Bool) → allZero F (x ∷ (x ⊕ y) ∷ []) ≡ b → Zeros F t ⊎ List·Memᴰ r (firstRoots F t) → Zeros F (x ∷ y ∷ t) ⊎ List·Memᴰ r (cond b (firstRoots F t) (roots (x ∷ (x ⊕ y) ∷ [])))
+        go : (b : Bool) → allZero F (x ∷ (x ⊕ y) ∷ []) ≡ b → Zeros F t ⊎ List·Memᴰ r (firstRoots F t) → Zeros F (x ∷ y ∷ t)
+            ⊎ List·Memᴰ r (cond b (firstRoots F t) (roots (x ∷ (x ⊕ y) ∷ [])))
         go true e (inr m) = inr m
         go true e (inl h) = let k : Zeros F (x ∷ (x ⊕ y) ∷ []) = zeros (x ∷ (x ⊕ y) ∷ []) e in inl (k .0, (second x y (k .0) (k .1 .0), h))
         go false e h = inr (L .root-listed (x ∷ (x ⊕ y) ∷ []) r e (eval-line x (x ⊕ y) r ∙ z .0))
@@ -81,7 +82,8 @@ module _ (F : Field) where
         one : (x : K) → x ≡ 𝟏 ⊗ x ⊕ 𝟎
         one x = simp (ring, L .laws)
     tau-sound [] (x ∷ y ∷ t) h e = absurd (omega arith)
-    tau-sound (p ∷ taus) t h e = go (tau-sound taus (bindLow F p t) (length-bindLow p t (2 ^ length taus) (omega (arith, two-pow-succ (length taus)))) (sym (dot-spread F L p (eqTable F taus) t) ∙ e))
+    tau-sound (p ∷ taus) t h e = go (tau-sound taus (bindLow F p t)
+        (length-bindLow p t (2 ^ length taus) (omega (arith, two-pow-succ (length taus)))) (sym (dot-spread F L p (eqTable F taus) t) ∙ e))
       where
         go : Zeros F (bindLow F p t) ⊎ TauCaught F (bindLow F p t) taus → Zeros F t ⊎ TauCaught F t (p ∷ taus)
         go (inr (j, k, m)) = inr (suc j, omega arith, m)
@@ -103,7 +105,8 @@ module _ (F : Field) where
     first-few (x ∷ []) = line-few x (x ⊕ 𝟎)
     first-few (x ∷ y ∷ t) = go (allZero F (x ∷ (x ⊕ y) ∷ [])) refl (first-few t)
       where
-        go : (b : Bool) → allZero F (x ∷ (x ⊕ y) ∷ []) ≡ b → length (firstRoots F t) ≤ 1 → length (cond b (firstRoots F t) (roots (x ∷ (x ⊕ y) ∷ []))) ≤ 1
+        go : (b : Bool) → allZero F (x ∷ (x ⊕ y) ∷ []) ≡ b → length (firstRoots F t) ≤ 1
+            → length (cond b (firstRoots F t) (roots (x ∷ (x ⊕ y) ∷ []))) ≤ 1
         go true e h = h
         go false e h = L .roots-few x ((x ⊕ y) ∷ []) e
 

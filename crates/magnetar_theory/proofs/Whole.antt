@@ -21,7 +21,8 @@ module _ (R : Relation gf128) (x : List E) (ws : List (List E)) where
   list-sizes s w p = few-lists gf128 gf128Laws s R x ws w p
 
   -- tau and alpha one, a round of the outer sum-check three, of the inner two; none for the system that is not followed
-  pub list-sizes-at : (s : ℕ) (w p : List E) → length (lists gf128 s R x ws w p) ≤ most (binGood gf128 R x ws) s (R .bin .logRows) (R .fld .logRows) (length p)
+  pub list-sizes-at : (s : ℕ) (w p : List E)
+      → length (lists gf128 s R x ws w p) ≤ most (binGood gf128 R x ws) s (R .bin .logRows) (R .fld .logRows) (length p)
   list-sizes-at s w p = few-at gf128 gf128Laws s R x ws w p
 
   pub sound : (w : List E) (D : Draws gf128) → Sizes gf128 R x ws D → Accepted gf128 R x D (wordsOf gf128 (length (D .shared)) R w)
@@ -29,17 +30,26 @@ module _ (R : Relation gf128) (x : List E) (ws : List (List E)) where
       → Good R x ws ⊎ Hit gf128 (listOf R x ws (length (D .shared)) w) (drawn gf128 D)
   sound w D S H T = go (flat-sound gf128 gf128Laws R x ws w D S H T)
     where
-      go : Good R x ws ⊎ Hit gf128 (lists gf128 (length (D .shared)) R x ws w) (drawn gf128 D) → Good R x ws ⊎ Hit gf128 (listOf R x ws (length (D .shared)) w) (drawn gf128 D)
+      go : Good R x ws ⊎ Hit gf128 (lists gf128 (length (D .shared)) R x ws w) (drawn gf128 D) → Good R x ws
+          ⊎ Hit gf128 (listOf R x ws (length (D .shared)) w) (drawn gf128 D)
       go (inl g) = inl g
-      go (inr h) = inr (hit-map gf128 (lists gf128 (length (D .shared)) R x ws w) (listOf R x ws (length (D .shared)) w) (drawn gf128 D) (λ p q. sym (heard-lists gf128 (length (D .shared)) R x ws w p)) h)
+      go (inr h) = inr (hit-map gf128 (lists gf128 (length (D .shared)) R x ws w) (listOf R x ws (length (D .shared)) w) (drawn gf128 D)
+          (λ p q. sym (heard-lists gf128 (length (D .shared)) R x ws w p)) h)
 
-  run-length : (D : Draws gf128) → Sizes gf128 R x ws D → length (drawn gf128 D) ≡ draws (length (D .shared)) (R .bin .logRows) (R .fld .logRows) (R .logHalf)
+  run-length : (D : Draws gf128) → Sizes gf128 R x ws D → length (drawn gf128 D)
+      ≡ draws (length (D .shared)) (R .bin .logRows) (R .fld .logRows) (R .logHalf)
   run-length D S = simp length-append (omega (arith, S .taus-bin, S .taus-fld, S .rows-bin, S .rows-fld, S .six-alphas, S .low-size))
 
   -- all lists met along one run together
   pub run-sizes : (w : List E) (D : Draws gf128) → Sizes gf128 R x ws D
-      → sumTo (length (drawn gf128 D)) (λ k. length (listOf R x ws (length (D .shared)) w (take k (drawn gf128 D)))) ≤ 4 * (length (D .shared) + max (R .bin .logRows) (R .fld .logRows)) + 1 + 2 * suc (R .logHalf)
-  run-sizes w D S = rw (sym (met-sum gf128 (listOf R x ws (length (D .shared)) w) (drawn gf128 D)), met-same gf128 (listOf R x ws (length (D .shared)) w) (lists gf128 (length (D .shared)) R x ws w) (drawn gf128 D) (heard-lists gf128 (length (D .shared)) R x ws w))
+      → sumTo (length (drawn gf128 D)) (λ k. length (listOf R x ws (length (D .shared)) w (take k (drawn gf128 D)))) ≤ 4 *
+      (length (D .shared) + max (R .bin .logRows) (R .fld .logRows)) + 1 + 2 * suc (R .logHalf)
+  run-sizes w D S = rw (
+    sym (met-sum gf128 (listOf R x ws (length (D .shared)) w) (drawn gf128 D)),
+    met-same gf128
+        (listOf R x ws (length (D .shared)) w) (lists gf128 (length (D .shared)) R x ws w) (drawn gf128 D)
+        (heard-lists gf128 (length (D .shared)) R x ws w),
+  )
       (met-lists gf128 gf128Laws (length (D .shared)) R x ws w (drawn gf128 D) (omega (arith, run-length D S)))
 
   pub complete : (D : Draws gf128) (S : Sizes gf128 R x ws D) → Good R x ws → Accepted gf128 R x D (honestWords gf128 R x ws D)

@@ -32,7 +32,13 @@ module _ (F : Field) where
   outerCells = record {
     C = OuterCell;
     none = record { a = 𝟎; b = 𝟎; c = 𝟎; e = 𝟎 };
-    mix = λ r x y. record { a = lineAt r (x .a) (y .a); b = lineAt r (x .b) (y .b); c = lineAt r (x .c) (y .c); e = lineAt r (x .e) (y .e) };
+    mix = λ r x y. record {
+      a = lineAt r (x .a) (y .a);
+      b = lineAt r (x .b) (y .b);
+      c = lineAt r (x .c) (y .c);
+      e = lineAt r (x .e)
+          (y .e);
+    };
     term = λ x. x .e ⊗ (x .a ⊗ x .b ⊕ x .c);
     line = λ x y. cubic (x .e) (x .e ⊕ y .e) (x .a) (x .a ⊕ y .a) (x .b) (x .b ⊕ y .b) (x .c) (x .c ⊕ y .c);
   }

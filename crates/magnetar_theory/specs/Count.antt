@@ -10,7 +10,8 @@ stage n c rest k = cond (ltb k n) c (rest (k - n))
 
 -- at most so many elements in the list of draw k: s shared rounds, b and f row rounds, by the system followed
 abbrev pub most : Bool → ℕ → ℕ → ℕ → ℕ → ℕ
-most good s b f = stage (b + s) (cond good 0 1) (stage (f + s) (cond good 1 0) (stage s 3 (stage b (cond good 0 3) (stage f (cond good 3 0) (stage 6 1 (λ _. 2))))))
+most good s b f = stage (b + s) (cond good 0 1)
+    (stage (f + s) (cond good 1 0) (stage s 3 (stage b (cond good 0 3) (stage f (cond good 3 0) (stage 6 1 (λ _. 2))))))
 
 -- the draws of a run
 abbrev pub draws : ℕ → ℕ → ℕ → ℕ → ℕ

@@ -42,11 +42,15 @@ module _ (F : Field) where
     listsOf good =
         section (R .bin .logRows + s) (λ e. cond good [] (tauList F (residues F (R .bin) (vectors F ws x)) e))
         λ tb. section (R .fld .logRows + s) (λ e. cond good (tauList F (residues F (R .fld) (vectors F ws x)) e) [])
-        λ tf. section s (λ e. cond good (outer (R .fld) tf (R .fld .logRows) e (words (8 * length e + 4) 4 w)) (outer (R .bin) tb (R .bin .logRows) e (words (8 * length e) 4 w)))
-        λ sh. section (R .bin .logRows) (λ e. cond good [] (outer (R .bin) tb (R .bin .logRows) (sh ++ e) (words (8 * s + 4 * length e) 4 w)))
-        λ rb. section (R .fld .logRows) (λ e. cond good (outer (R .fld) tf (R .fld .logRows) (sh ++ e) (words (8 * s + 4 * R .bin .logRows + 4 * length e) 4 w)) [])
+        λ tf. section s (λ e. cond good (outer (R .fld) tf (R .fld .logRows) e (words (8 * length e + 4) 4 w))
+        (outer (R .bin) tb (R .bin .logRows) e (words (8 * length e) 4 w)))
+        λ sh. section (R .bin .logRows) (λ e. cond good []
+        (outer (R .bin) tb (R .bin .logRows) (sh ++ e) (words (8 * s + 4 * length e) 4 w)))
+        λ rb. section (R .fld .logRows) (λ e. cond good
+        (outer (R .fld) tf (R .fld .logRows) (sh ++ e) (words (8 * s + 4 * R .bin .logRows + 4 * length e) 4 w)) [])
         λ rf. section 6 (alphaList F (sixAt (8 * s + 4 * R .bin .logRows + 4 * R .fld .logRows) w) (trueTerminals F R x ws sh rb rf))
-        λ al e. badChallenges F (tableRounds F (innerCells F)) (record { tops = 0; rows = suc (R .logHalf); cells = zipInner F (combo F R rb rf al) (folded F R x ws sh) }) e
+        λ al e. badChallenges F (tableRounds F (innerCells F))
+        (record { tops = 0; rows = suc (R .logHalf); cells = zipInner F (combo F R rb rf al) (folded F R x ws sh) }) e
         (words (8 * s + 4 * R .bin .logRows + 4 * R .fld .logRows + 6 + 3 * length e) 3 w)
 
     abbrev pub lists : List K → List K

@@ -80,7 +80,8 @@ module _ (F : Field) where
 
   -- the six tables of column sums
   abbrev pub six : Relation → (rowBin rowFld : List K) → List (List K)
-  six R rb rf = cols (R .bin .A) rb ∷ cols (R .bin .B) rb ∷ cols (R .bin .C) rb ∷ cols (R .fld .A) rf ∷ cols (R .fld .B) rf ∷ cols (R .fld .C) rf ∷ []
+  six R rb rf = cols (R .bin .A) rb ∷ cols (R .bin .B) rb ∷ cols (R .bin .C) rb ∷ cols (R .fld .A) rf ∷ cols (R .fld .B) rf ∷ cols
+      (R .fld .C) rf ∷ []
     where
       cols : List (Entry F) → List K → List K
       cols M r = columns F (2 ^ suc (R .logHalf)) M (eqTable F r)
@@ -95,15 +96,19 @@ module _ (F : Field) where
   pub record Accepted (R : Relation) (x : List K) (D : Draws) (W : Words) : Type 0 where
     pub bin-rounds : Checks F 𝟎 (W .binMs) (D .shared ++ D .rowBin)
     pub fld-rounds : Checks F 𝟎 (W .fldMs) (D .shared ++ D .rowFld)
-    pub bin-terminal : running F 𝟎 (W .binMs) (D .shared ++ D .rowBin) ≡ eqProduct F (D .tauBin) (D .rowBin ++ reverse (D .shared)) ⊗ (W .ab ⊗ W .bb ⊕ W .cb)
-    pub fld-terminal : running F 𝟎 (W .fldMs) (D .shared ++ D .rowFld) ≡ eqProduct F (D .tauFld) (D .rowFld ++ reverse (D .shared)) ⊗ (W .af ⊗ W .bf ⊕ W .cf)
+    pub bin-terminal : running F 𝟎 (W .binMs) (D .shared ++ D .rowBin)
+        ≡ eqProduct F (D .tauBin) (D .rowBin ++ reverse (D .shared)) ⊗ (W .ab ⊗ W .bb ⊕ W .cb)
+    pub fld-terminal : running F 𝟎 (W .fldMs) (D .shared ++ D .rowFld)
+        ≡ eqProduct F (D .tauFld) (D .rowFld ++ reverse (D .shared)) ⊗ (W .af ⊗ W .bf ⊕ W .cf)
     pub inner-rounds : Checks F (dot F (D .alpha) (terminals W)) (W .innerMs) (inner D)
-    pub inner-terminal : running F (dot F (D .alpha) (terminals W)) (W .innerMs) (inner D) ≡ dot F (eqTable F (inner D)) (fold F (2 ^ suc (R .logHalf)) (D .alpha) (six R (D .rowBin) (D .rowFld))) ⊗ W .vz
+    pub inner-terminal : running F (dot F (D .alpha) (terminals W)) (W .innerMs) (inner D)
+        ≡ dot F (eqTable F (inner D)) (fold F (2 ^ suc (R .logHalf)) (D .alpha) (six R (D .rowBin) (D .rowFld))) ⊗ W .vz
     pub identity : W .vz ≡ (𝟏 ⊕ D .last) ⊗ segSum (R .segs) (D .low) (W .values) ⊕ D .last ⊗ dot F (eqTable F (D .low)) x
 
   -- the value that a segment's claim is about
   abbrev pub trueValue : Draws → List (List K) → Segment → K
-  trueValue D ws g = dot F (eqTable F (reverse (D .shared))) (map (λ (w : List K). dot F (eqTable F (take (g .logLen) (D .low))) (slice F g w)) ws)
+  trueValue D ws g = dot F (eqTable F (reverse (D .shared)))
+      (map (λ (w : List K). dot F (eqTable F (take (g .logLen) (D .low))) (slice F g w)) ws)
 
   -- every vector is zero outside the segments
   abbrev pub AllLaid : ℕ → List Segment → List (List K) → Type 0
@@ -125,7 +130,8 @@ module _ (F : Field) where
 
   -- the true terminal values
   abbrev pub trueTerminals : Relation → List K → List (List K) → (shared rowBin rowFld : List K) → List K
-  trueTerminals R x ws sh rb rf = at (R .bin) (R .bin .A) rb ∷ at (R .bin) (R .bin .B) rb ∷ at (R .bin) (R .bin .C) rb ∷ at (R .fld) (R .fld .A) rf ∷ at (R .fld) (R .fld .B) rf ∷ at (R .fld) (R .fld .C) rf ∷ []
+  trueTerminals R x ws sh rb rf = at (R .bin) (R .bin .A) rb ∷ at (R .bin) (R .bin .B) rb ∷ at (R .bin) (R .bin .C) rb ∷ at (R .fld)
+      (R .fld .A) rf ∷ at (R .fld) (R .fld .B) rf ∷ at (R .fld) (R .fld .C) rf ∷ []
     where
       at : System → List (Entry F) → List K → K
       at Y M r = dot F (eqTable F (r ++ reverse sh)) (table Y M (vectors ws x))
@@ -144,15 +150,23 @@ module _ (F : Field) where
     -- the honest prover's words
     abbrev pub honestWords : Words
     honestWords = record {
-      binMs = honest F (tableRounds F (outerCells F)) (begin (R .bin) (D .tauBin) (vectors ws x) (length (D .shared)) (length (D .rowBin))) (D .shared ++ D .rowBin);
-      fldMs = honest F (tableRounds F (outerCells F)) (begin (R .fld) (D .tauFld) (vectors ws x) (length (D .shared)) (length (D .rowFld))) (D .shared ++ D .rowFld);
+      binMs = honest F (tableRounds F (outerCells F)) (begin (R .bin) (D .tauBin) (vectors ws x) (length (D .shared)) (length (D .rowBin)))
+          (D .shared ++ D .rowBin);
+      fldMs = honest F (tableRounds F (outerCells F)) (begin (R .fld) (D .tauFld) (vectors ws x) (length (D .shared)) (length (D .rowFld)))
+          (D .shared ++ D .rowFld);
       ab = getD (trueTerminals R x ws (D .shared) (D .rowBin) (D .rowFld)) 0 𝟎;
       bb = getD (trueTerminals R x ws (D .shared) (D .rowBin) (D .rowFld)) 1 𝟎;
       cb = getD (trueTerminals R x ws (D .shared) (D .rowBin) (D .rowFld)) 2 𝟎;
       af = getD (trueTerminals R x ws (D .shared) (D .rowBin) (D .rowFld)) 3 𝟎;
       bf = getD (trueTerminals R x ws (D .shared) (D .rowBin) (D .rowFld)) 4 𝟎;
       cf = getD (trueTerminals R x ws (D .shared) (D .rowBin) (D .rowFld)) 5 𝟎;
-      innerMs = honest F (tableRounds F (innerCells F)) (record { tops = 0; rows = length (inner D); cells = zipInner F (combo R (D .rowBin) (D .rowFld) (D .alpha)) (folded R x ws (D .shared)) }) (inner D);
+      innerMs = honest F (tableRounds F (innerCells F))
+          (record {
+            tops = 0;
+            rows = length (inner D);
+            cells = zipInner F (combo R (D .rowBin) (D .rowFld) (D .alpha))
+                (folded R x ws (D .shared));
+          }) (inner D);
       vz = dot F (eqTable F (inner D)) (folded R x ws (D .shared));
       values = map (trueValue D ws) (R .segs);
     }

@@ -34,10 +34,13 @@ loop-less : tie.Need-loop-less Inv-loop μ-loop
 loop-less c = search needs
 
 loop-again : tie.Need-loop-again Inv-loop μ-loop
-loop-again c = summed-more (elements (now (c .before .before .before .before .before .args .msg))) (c .before .before .before .loop .i) (value (c .before .before .before .loop .acc)) (value (c .before .get .result)) (value (c .add .result)) (c .before .before .before .loop .inv) (omega arith) (c .before .get .ensures) (c .add .ensures)
+loop-again c = summed-more (elements (now (c .before .before .before .before .before .args .msg))) (c .before .before .before .loop .i)
+    (value (c .before .before .before .loop .acc)) (value (c .before .get .result)) (value (c .add .result))
+    (c .before .before .before .loop .inv) (omega arith) (c .before .get .ensures) (c .add .ensures)
 
 returns : tie.Need-returns Inv-loop μ-loop
-returns c = summed-end (elements (now (c .before .before .before .args .msg))) (c .before .loop .i) (value (c .before .loop .acc)) (c .before .loop .inv) (omega arith)
+returns c = summed-end (elements (now (c .before .before .before .args .msg))) (c .before .loop .i) (value (c .before .loop .acc))
+    (c .before .loop .inv) (omega arith)
 
 pub check-sum-spec : {M : Type 1} → statement M
 check-sum-spec =

@@ -34,10 +34,14 @@ loop-less : tie.Need-loop-less Inv-loop μ-loop
 loop-less c = search needs
 
 loop-again : tie.Need-loop-again Inv-loop μ-loop
-loop-again c = let x = c .before .before .before .before .before .args in evaluated-more (elements (now (x .msg))) (value (x .r)) (c .before .before .before .loop .i) (value (c .before .before .before .loop .acc)) (value (c .before .get .result)) (value (c .multiply-add .result)) (c .before .before .before .loop .inv) (omega arith) (c .before .get .ensures) (c .multiply-add .ensures)
+loop-again c = let x = c .before .before .before .before .before .args in evaluated-more (elements (now (x .msg))) (value (x .r))
+    (c .before .before .before .loop .i) (value (c .before .before .before .loop .acc)) (value (c .before .get .result))
+    (value (c .multiply-add .result)) (c .before .before .before .loop .inv) (omega arith) (c .before .get .ensures)
+    (c .multiply-add .ensures)
 
 returns : tie.Need-returns Inv-loop μ-loop
-returns c = let x = c .before .before .before .args in evaluated-end (elements (now (x .msg))) (value (x .r)) (c .before .loop .i) (value (c .before .loop .acc)) (c .before .loop .inv) (omega arith)
+returns c = let x = c .before .before .before .args in evaluated-end (elements (now (x .msg))) (value (x .r)) (c .before .loop .i)
+    (value (c .before .loop .acc)) (c .before .loop .inv) (omega arith)
 
 pub eval-message-spec : {M : Type 1} → statement M
 eval-message-spec =

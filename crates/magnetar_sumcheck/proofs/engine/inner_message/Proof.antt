@@ -22,18 +22,31 @@ returns : tie.Need-returns
 returns c = (c .before .inner-refusal .ensures, rw (← c .before .inner-refusal .ensures, ne-eqb _ _ (c .if1 .taken)))
 
 inner-sums-requires : tie.Need-inner-sums-requires
-inner-sums-requires c κs = let x = c .before .before .before .before .before .args in let h : length (now (x .t)) < 2 ^ 64 = omega arith in
-    inner-small (length (now (x .out))) (length (now (x .t))) (length (now (x .z))) (x .v) (sym (c .before .inner-refusal .ensures) ∙ c .if1 .left) h
+inner-sums-requires c κs =
+    let r = c .before in
+    let x = r .before .before .before .before .args in
+    let h : length (now (x .t)) < 2 ^ 64 = omega arith in
+    inner-small (length (now (x .out))) (length (now (x .t))) (length (now (x .z))) (x .v) (sym (r .inner-refusal .ensures) ∙ c .if1 .left) h
 
 put-inner-requires : tie.Need-put-inner-requires
-put-inner-requires c κs = let x = c .before .before .before .before .before .before .before .args in (inner-fits (length (now (x .out))) (length (now (x .t))) (length (now (x .z))) (x .v) (sym (c .before .before .before .inner-refusal .ensures) ∙ c .before .before .if1 .left)) .room
+put-inner-requires c κs =
+    let i = c .before .before in
+    let r = i .before in
+    let x = r .before .before .before .before .args in
+    (inner-fits (length (now (x .out))) (length (now (x .t))) (length (now (x .z))) (x .v) (sym (r .inner-refusal .ensures) ∙ i .if1 .left)) .room
 
 same-length : tie.Need-same-length
 same-length c = search needs
 
 returns-2 : tie.Need-returns-2
-returns-2 c = let x = c .before .before .before .before .before .before .before .before .before .before .args in let e = sym (c .before .before .before .before .before .before .inner-refusal .ensures) ∙ c .before .before .before .before .before .if1 .left in
-    (sym e, inner-out (now (x .out)) (now (x .t)) (now (x .z)) (c .before .before .put-inner .last .0) (x .v) (c .before .before .before .before .inner-sums .result) e (c .before .before .before .before .inner-sums .ensures) (c .before .before .put-inner .ensures))
+returns-2 c =
+    let p = c .before .before in
+    let s = p .before .before in
+    let i = s .before in
+    let r = i .before in
+    let x = r .before .before .before .before .args in
+    let e = sym (r .inner-refusal .ensures) ∙ i .if1 .left in
+    (sym e, inner-out (now (x .out)) (now (x .t)) (now (x .z)) (p .put-inner .last .0) (x .v) (s .inner-sums .result) e (s .inner-sums .ensures) (p .put-inner .ensures))
 
 pub inner-message-spec : {M : Type 1} → statement M
 inner-message-spec =

@@ -32,7 +32,18 @@ multiply-add-requires-3 : tie.Need-multiply-add-requires-3
 multiply-add-requires-3 c κs = search needs
 
 returns : tie.Need-returns
-returns c = (rw (c .before .before .before .before .before .before .multiply-add .ensures, c .before .before .before .before .before .before .before .get2 .ensures, c .before .before .before .before .before .before .before .before .get .ensures), (rw (c .before .before .before .multiply-add2 .ensures, c .before .before .before .before .get4 .ensures, c .before .before .before .before .before .get3 .ensures), rw (c .multiply-add3 .ensures, c .before .slope2 .ensures, c .before .before .slope .ensures)))
+returns c =
+    let s2 = c .before in
+    let s1 = s2 .before in
+    let m2 = s1 .before in
+    let g4 = m2 .before in
+    let g3 = g4 .before in
+    let m1 = g3 .before in
+    let g2 = m1 .before in
+    let g1 = g2 .before in (
+      rw (m1 .multiply-add .ensures, g2 .get2 .ensures, g1 .get .ensures),
+      (rw (m2 .multiply-add2 .ensures, g4 .get4 .ensures, g3 .get3 .ensures), rw (c .multiply-add3 .ensures, s2 .slope2 .ensures, s1 .slope .ensures)),
+    )
 
 pub inner-pair-spec : {M : Type 1} → statement M
 inner-pair-spec =

@@ -19,11 +19,23 @@ returns-2 c = rw (← c .before .before .is-table .ensures, c .before .if1 .left
 
 returns-3 : tie.Need-returns-3
 unfolding innerRefusal
-returns-3 c = rw (← c .before .before .before .is-table .ensures, c .before .before .if1 .left, eq-eqb _ _ (c .before .if2 .left), lt-ltb _ _ (c .if3 .taken))
+returns-3 c = rw (
+  ← c .before .before .before .is-table .ensures,
+  c .before .before .if1 .left,
+  eq-eqb _ _
+      (c .before .if2 .left),
+  lt-ltb _ _ (c .if3 .taken),
+)
 
 returns-4 : tie.Need-returns-4
 unfolding innerRefusal
-returns-4 c = rw (← c .before .before .before .is-table .ensures, c .before .before .if1 .left, eq-eqb _ _ (c .before .if2 .left), le-ltb _ _ (c .if3 .left))
+returns-4 c = rw (
+  ← c .before .before .before .is-table .ensures,
+  c .before .before .if1 .left,
+  eq-eqb _ _
+      (c .before .if2 .left),
+  le-ltb _ _ (c .if3 .left),
+)
 
 pub inner-refusal-spec : {M : Type 1} → statement M
 inner-refusal-spec = tie.close (tie.spec is-table-requires returns returns-2 returns-3 returns-4)

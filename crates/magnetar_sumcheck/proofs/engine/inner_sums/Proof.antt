@@ -35,7 +35,8 @@ loop-again : tie.Need-loop-again Inv-loop μ-loop
 loop-again c = search needs
 
 returns : tie.Need-returns Inv-loop μ-loop
-returns c = let x = c .before .before .before .before .args in at-end (innerSumsAt (x .v) (elements (now (x .t))) (elements (now (x .z)))) (sums (c .before .loop .s)) (c .before .loop .i) (x .n) (omega arith) (omega arith) (c .before .loop .inv .1)
+returns c = let x = c .before .before .before .before .args in at-end (innerSumsAt (x .v) (elements (now (x .t))) (elements (now (x .z))))
+    (sums (c .before .loop .s)) (c .before .loop .i) (x .n) (omega arith) (omega arith) (c .before .loop .inv .1)
 
 pub inner-sums-spec : {M : Type 1} → statement M
 inner-sums-spec =

@@ -20,14 +20,26 @@ is-power-of-two-requires c κs = search needs
 
 returns-2 : tie.Need-returns-2
 unfolding isTable
-returns-2 c = let x = c .before .before .before .args in rw (eq-eqb (x .words % 2) 0 (c .before .before .if1 .left), ← c .before .is-power-of-two .ensures, not-true (c .before .is-power-of-two .result) (c .if2 .taken))
+returns-2 c = let x = c .before .before .before .args in rw (
+  eq-eqb (x .words % 2) 0 (c .before .before .if1 .left),
+  ← c .before .is-power-of-two .ensures,
+  not-true
+      (c .before .is-power-of-two .result) (c .if2 .taken),
+)
 
 log2-requires : tie.Need-log2-requires
 log2-requires c κs = search needs
 
 returns-3 : tie.Need-returns-3
 unfolding isTable
-returns-3 c = let x = c .before .before .before .before .args in rw (eq-eqb (x .words % 2) 0 (c .before .before .before .if1 .left), ← c .before .before .is-power-of-two .ensures, c .log2 .ensures, not-false (c .before .before .is-power-of-two .result) (c .before .if2 .left))
+returns-3 c = let x = c .before .before .before .before .args in rw (
+  eq-eqb (x .words % 2) 0
+      (c .before .before .before .if1 .left),
+  ← c .before .before .is-power-of-two .ensures,
+  c .log2 .ensures,
+  not-false
+      (c .before .before .is-power-of-two .result) (c .before .if2 .left),
+)
 
 pub is-table-spec : {M : Type 1} → statement M
 is-table-spec =

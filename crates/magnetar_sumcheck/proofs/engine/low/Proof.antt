@@ -19,7 +19,11 @@ add-result : tie.Need-add-result
 add-result c = let x = c .before .args in omega (arith, shifted-le (x .i) (x .v) (c .block .result) (c .block .ensures))
 
 returns : tie.Need-returns
-returns c = let x = c .before .args in (low-is (x .i) (x .v) (c .block .result) (c .block .ensures), omega (arith, shifted-le (x .i) (x .v) (c .block .result) (c .block .ensures)))
+returns c = let x = c .before .args in (
+  low-is (x .i) (x .v) (c .block .result) (c .block .ensures),
+  omega
+      (arith, shifted-le (x .i) (x .v) (c .block .result) (c .block .ensures)),
+)
 
 pub low-spec : {M : Type 1} → statement M
 low-spec = tie.close (tie.spec shr-result block-requires mul-result add-result returns)

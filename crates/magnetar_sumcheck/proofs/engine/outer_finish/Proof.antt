@@ -18,7 +18,13 @@ same-requires c κs = search needs
 
 returns : tie.Need-returns
 unfolding outerEnd
-returns c = let x = c .before .before .before .args in rw (c .same .ensures, c .before .mul .ensures, c .before .before .multiply-add .ensures, ⊕-comm (value (x .c)) (value (x .a) ⊗ value (x .b)))
+returns c = let x = c .before .before .before .args in rw (
+  c .same .ensures,
+  c .before .mul .ensures,
+  c .before .before .multiply-add .ensures,
+  ⊕-comm (value (x .c))
+      (value (x .a) ⊗ value (x .b)),
+)
 
 pub outer-finish-spec : {M : Type 1} → statement M
 outer-finish-spec = tie.close (tie.spec multiply-add-requires mul-requires same-requires returns)

@@ -18,7 +18,8 @@ outer-pair-requires c κs = search needs
 
 returns : tie.Need-returns
 returns c = let d = c .before .before .before .before .before .before .before in let x = d .args in
-    outer-more (x .v) (x .i) (c .before .before .low .result) (c .before .high .result) (elements (now (x .e))) (elements (now (x .a))) (elements (now (x .b))) (elements (now (x .c)))
+    outer-more (x .v) (x .i) (c .before .before .low .result) (c .before .high .result) (elements (now (x .e))) (elements (now (x .a)))
+    (elements (now (x .b))) (elements (now (x .c)))
     (x .s) (c .outer-pair .result) (d .pre .1) (c .before .before .low .ensures .0) (c .before .high .ensures)
     (c .outer-pair .ensures .0) (c .outer-pair .ensures .1 .0) (c .outer-pair .ensures .1 .1)
 

@@ -37,7 +37,9 @@ loop-again : tie.Need-loop-again Inv-loop μ-loop
 loop-again c = search needs
 
 returns : tie.Need-returns Inv-loop μ-loop
-returns c = let x = c .before .before .before .before .before .before .args in at-end (outerSums (x .v) (elements (now (x .e))) (elements (now (x .a))) (elements (now (x .b))) (elements (now (x .c)))) (sums (c .before .loop .s)) (c .before .loop .i) (x .n) (omega arith) (omega arith) (c .before .loop .inv .1)
+returns c = let x = c .before .before .before .before .before .before .args in at-end
+    (outerSums (x .v) (elements (now (x .e))) (elements (now (x .a))) (elements (now (x .b))) (elements (now (x .c))))
+    (sums (c .before .loop .s)) (c .before .loop .i) (x .n) (omega arith) (omega arith) (c .before .loop .inv .1)
 
 pub outer-sums-spec : {M : Type 1} → statement M
 outer-sums-spec =

@@ -33,7 +33,15 @@ same-length c = search needs
 
 returns : tie.Need-returns
 unfolding timesEq
-returns c = let x = c .before .before .before .before .before .before .before .before .before .before .before .args in rw (c .before .before .put-four .ensures, c .before .before .before .before .mul2 .ensures, c .before .before .before .before .before .fused2 .ensures, c .before .before .before .before .before .before .fused .ensures, c .before .before .before .before .before .before .before .mul .ensures, c .before .before .before .before .before .before .before .before .eq-zero .ensures, c .before .before .before .before .before .before .before .before .before .middle .ensures, timesEq-first, timesEq-next, timesEq-next)
+returns c =
+    let p = c .before .before in
+    let m2 = p .before .before in
+    let f2 = m2 .before in
+    let f1 = f2 .before in
+    let m1 = f1 .before in
+    let z = m1 .before in
+    let q = z .before in
+    rw (p .put-four .ensures, m2 .mul2 .ensures, f2 .fused2 .ensures, f1 .fused .ensures, m1 .mul .ensures, z .eq-zero .ensures, q .middle .ensures, timesEq-first, timesEq-next, timesEq-next)
 
 pub put-outer-spec : {M : Type 1} → statement M
 put-outer-spec =

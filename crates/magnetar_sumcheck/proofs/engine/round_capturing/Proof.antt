@@ -24,8 +24,17 @@ eval-message-requires c κs = search needs
 
 returns : tie.Need-returns
 unfolding nextTranscript nextChallenge nextClaim
-returns c = let h = sym (c .before .before .before .before .before .sum-holds .ensures) ∙ c .before .before .before .before .if1 .taken in
-    (sym h, (rw (h, c .before .before .draw .ensures, c .before .before .before .absorb-words .ensures), (rw (h, c .before .element .ensures, c .before .before .draw .ensures, c .before .before .before .absorb-words .ensures), rw (h, c .eval-message .ensures))))
+returns c = let h = sym (c .before .before .before .before .before .sum-holds .ensures) ∙ c .before .before .before .before .if1 .taken in (
+  sym h,
+  (
+    rw (h, c .before .before .draw .ensures, c .before .before .before .absorb-words .ensures),
+    (
+      rw (h, c .before .element .ensures, c .before .before .draw .ensures, c .before .before .before .absorb-words .ensures),
+      rw
+          (h, c .eval-message .ensures),
+    ),
+  ),
+)
 
 returns-2 : tie.Need-returns-2
 unfolding nextTranscript nextChallenge nextClaim

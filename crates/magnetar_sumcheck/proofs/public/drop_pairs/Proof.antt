@@ -42,14 +42,27 @@ loop-less : tie.Need-loop-less Inv-loop μ-loop
 loop-less c = search needs
 
 loop-again : tie.Need-loop-again Inv-loop μ-loop
-loop-again c = let l = c .before .before .before .before .before .before .before .loop in let s = c .before .before .before .before .before .before .before .before .before in
-    (search needs, search needs, rw (c .before .before .drop-entry .ensures) (dropped-more (s .args .v) (l .i) (c .before .before .before .before .low .result) (c .before .before .before .high .result) (elements (now (s .args .t))) (elements (l .t)) (l .inv .2) (rw elements-length (omega arith)) (c .before .before .before .before .low .ensures .0) (c .before .before .before .high .ensures)))
+loop-again c =
+    let d = c .before .before in
+    let h = d .before in
+    let l = h .before in
+    let i = l .before .before .before .loop in
+    let x = l .before .before .before .before .before .args in (
+      search needs,
+      search needs,
+      rw (d .drop-entry .ensures)
+          (dropped-more (x .v) (i .i) (l .low .result) (h .high .result) (elements (now (x .t))) (elements (i .t)) (i .inv .2) (rw elements-length (omega arith))
+          (l .low .ensures .0) (h .high .ensures)),
+    )
 
 same-length : tie.Need-same-length Inv-loop μ-loop
 same-length c = search needs
 
 returns : tie.Need-returns Inv-loop μ-loop
-returns c = let x = c .before .before .before .args in let l = c .before .loop in at-end (λ (i : ℕ). tabulate (slope (x .v) (elements (now (x .t)))) i ++ drop i (elements (now (x .t)))) _ (l .i) (x .n) (omega arith) (omega arith) (l .inv .2 .list)
+returns c =
+    let x = c .before .before .before .args in
+    let l = c .before .loop in
+    at-end (λ (i : ℕ). tabulate (slope (x .v) (elements (now (x .t)))) i ++ drop i (elements (now (x .t)))) _ (l .i) (x .n) (omega arith) (omega arith) (l .inv .2 .list)
 
 pub drop-pairs-spec : {M : Type 1} → statement M
 drop-pairs-spec =

@@ -23,17 +23,25 @@ returns c = let e = sym (c .before .is-table .ensures) ∙ not-true (c .before .
 
 drop-pairs-requires : tie.Need-drop-pairs-requires
 drop-pairs-requires c κs = let x = c .before .before .before .before .args in let h : length (now (x .table)) < 2 ^ 64 = omega arith in
-    let s = table-small (x .v) (length (now (x .table))) h (sym (c .before .before .is-table .ensures) ∙ not-false (c .before .before .is-table .result) (c .before .if1 .left)) in (s .0, omega (arith, s .1))
+    let s = table-small (x .v) (length (now (x .table))) h
+    (sym (c .before .before .is-table .ensures) ∙ not-false (c .before .before .is-table .result) (c .before .if1 .left)) in
+    (s .0, omega (arith, s .1))
 
 same-length : tie.Need-same-length
 same-length c = search needs
 
 returns-2 : tie.Need-returns-2
 unfolding dropRefusal
-returns-2 c = let x = c .before .before .before .before .before .before .before .args in let h : length (now (x .table)) < 2 ^ 64 = omega arith in
-    let e = sym (c .before .before .before .before .before .is-table .ensures) ∙ not-false (c .before .before .before .before .before .is-table .result) (c .before .before .before .before .if1 .left) in
-    let s = table-small (x .v) (length (now (x .table))) h e in
-    (rw e, drop-out (x .v) (now (x .table)) (c .before .before .drop-pairs .last .0) (s .1) e (c .before .before .drop-pairs .kept .0) (λ i. omega (arith, c .before .before .before .before .before .before .slice-known .given i)) (λ i. omega (arith, c .slice-known2 .given i)) (c .before .before .drop-pairs .ensures))
+returns-2 c = let x = c .before .before .before .before .before .before .before .args in let h : length
+    (now (x .table)) < 2 ^ 64 = omega arith in
+    let e = sym (c .before .before .before .before .before .is-table .ensures)
+    ∙ not-false (c .before .before .before .before .before .is-table .result) (c .before .before .before .before .if1 .left) in
+    let s = table-small (x .v) (length (now (x .table))) h e in (
+      rw e,
+      drop-out (x .v) (now (x .table)) (c .before .before .drop-pairs .last .0) (s .1) e (c .before .before .drop-pairs .kept .0)
+          (λ i. omega (arith, c .before .before .before .before .before .before .slice-known .given i))
+          (λ i. omega (arith, c .slice-known2 .given i)) (c .before .before .drop-pairs .ensures),
+    )
 
 pub drop-var-spec : {M : Type 1} → statement M
 drop-var-spec =

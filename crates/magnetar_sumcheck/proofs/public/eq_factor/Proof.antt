@@ -20,7 +20,12 @@ mul-requires : tie.Need-mul-requires
 mul-requires c κs = search needs
 
 returns : tie.Need-returns
-returns c = rw (c .mul .ensures, c .before .add2 .ensures, c .before .before .get2 .ensures, c .before .before .before .add .ensures, c .before .before .before .before .get .ensures)
+returns c =
+    let a2 = c .before in
+    let g2 = a2 .before in
+    let a1 = g2 .before in
+    let g1 = a1 .before in
+    rw (c .mul .ensures, a2 .add2 .ensures, g2 .get2 .ensures, a1 .add .ensures, g1 .get .ensures)
 
 pub eq-factor-spec : {M : Type 1} → statement M
 eq-factor-spec =

@@ -17,7 +17,8 @@ returns : tie.Need-returns
 returns c = rw (← c .before .points-refusal .ensures, ne-eqb _ _ (c .if1 .taken))
 
 eq-product-requires : tie.Need-eq-product-requires
-eq-product-requires c κs = let x = c .before .before .before .before .args in let f = points-fit (length (now (x .tau))) (length (now (x .challenges))) (x .high) (sym (c .before .points-refusal .ensures) ∙ c .if1 .left) in
+eq-product-requires c κs = let x = c .before .before .before .before .args in let f = points-fit (length (now (x .tau)))
+    (length (now (x .challenges))) (x .high) (sym (c .before .points-refusal .ensures) ∙ c .if1 .left) in
     (f .high, omega (arith, f .even), omega (arith, f .even, f .same))
 
 returns-2 : tie.Need-returns-2

@@ -21,7 +21,11 @@ abbrev μ-loop : tie.MeasureT-loop
 μ-loop tau challenges high n acc₀ j₀ acc j = j
 
 loop-holds : tie.Need-loop-holds Inv-loop μ-loop
-loop-holds c = let x = c .before .before .args in (search needs, multiplied-start (elements (now (x .tau))) (point (x .high) (elements (now (x .challenges)))) (x .n) (omega (arith, elements-length (now (x .tau)))))
+loop-holds c = let x = c .before .before .args in (
+  search needs,
+  multiplied-start (elements (now (x .tau))) (point (x .high) (elements (now (x .challenges)))) (x .n)
+      (omega (arith, elements-length (now (x .tau)))),
+)
 
 sub-j : tie.Need-sub-j Inv-loop μ-loop
 sub-j c = search needs
@@ -38,14 +42,25 @@ loop-less c = search needs
 loop-again : tie.Need-loop-again Inv-loop μ-loop
 loop-again c = let s = c .before .before .before .before .before .before in let x = s .args in let l = c .before .before .before .loop in (
   search needs,
-  multiplied-more (elements (now (x .tau))) (point (x .high) (elements (now (x .challenges)))) (l .j) (value (l .acc)) (getD (elements (now (x .tau))) (l .j - 1) 0) (getD (elements (now (x .challenges))) (c .before .place .result) 0) (value (c .eq-factor .result)) (l .inv .1)
-      (omega (arith, length-point (x .high) (elements (now (x .challenges))), elements-length (now (x .challenges)), elements-length (now (x .tau)))) (c .before .before .loop-test .taken) refl
-      (ap (λ (k : ℕ). getD (elements (now (x .challenges))) k 0) (c .before .place .ensures) ∙ sym (point-at (x .high) (x .n) (l .j - 1) (elements (now (x .challenges))) (omega (arith, elements-length (now (x .challenges)))) (omega arith) (omega arith)))
+  multiplied-more (elements (now (x .tau))) (point (x .high) (elements (now (x .challenges)))) (l .j) (value (l .acc))
+      (getD (elements (now (x .tau))) (l .j - 1) 0) (getD (elements (now (x .challenges))) (c .before .place .result) 0)
+      (value (c .eq-factor .result)) (l .inv .1)
+      (omega (
+        arith,
+        length-point (x .high) (elements (now (x .challenges))),
+        elements-length (now (x .challenges)),
+        elements-length
+            (now (x .tau)),
+      )) (c .before .before .loop-test .taken) refl
+      (ap (λ (k : ℕ). getD (elements (now (x .challenges))) k 0) (c .before .place .ensures)
+      ∙ sym (point-at (x .high) (x .n) (l .j - 1) (elements (now (x .challenges)))
+      (omega (arith, elements-length (now (x .challenges)))) (omega arith) (omega arith)))
       (c .eq-factor .ensures),
 )
 
 returns : tie.Need-returns Inv-loop μ-loop
-returns c = let x = c .before .before .before .before .args in let l = c .before .loop in multiplied-end (elements (now (x .tau))) (point (x .high) (elements (now (x .challenges)))) (l .j) (value (l .acc)) (l .inv .1) (omega arith)
+returns c = let x = c .before .before .before .before .args in let l = c .before .loop in multiplied-end (elements (now (x .tau)))
+    (point (x .high) (elements (now (x .challenges)))) (l .j) (value (l .acc)) (l .inv .1) (omega arith)
 
 pub eq-product-spec : {M : Type 1} → statement M
 eq-product-spec =
