@@ -15,7 +15,7 @@ use Rattle.magnetar_field.specs.EqTable.{eqTable}
 use Rattle.magnetar_field.specs.Multilinear.{dot, mle}
 use Rattle.magnetar_field.proofs.Polynomial.{AllBelow, eval-lt}
 use Rattle.magnetar_field.proofs.Product.{⊗-lt}
-use Rattle.magnetar_field.proofs.Xor.{⊕-lt}
+use Rattle.magnetar_field.proofs.Xor.{⊕-lt, ⊕-self, eq-of-⊕}
 use Rattle.magnetar_theory.specs.SumCheck.{Checks, running as runningE, Caught, honest}
 use Rattle.magnetar_theory.specs.Table.{State, tableRounds, sumTerms}
 use Rattle.magnetar_theory.specs.Cells.{OuterCell, outerCells, InnerCell, innerCells}
@@ -146,6 +146,29 @@ trueEnd tau a b c rs cs =
 -- every row holds: a b + c is zero everywhere
 abbrev pub Rows : (a b c : List ℕ) → Type 0
 Rows a b c = Zeros gf128 (rowValues gf128 (els a) (els b) (els c))
+
+-- the rows hold as numbers where they hold as elements
+row-is : (x y z : ℕ) → sum (product (element x) (element y)) (element z) ≡ element (x ⊗ y ⊕ z)
+row-is x y z = sym (element-⊕ (x ⊗ y) z ∙ ap (λ (w : Element). sum w (element z)) (element-⊗ x y))
+
+pub rows-of : (a b c : List ℕ) → length b ≡ length a → length c ≡ length a
+    → ((i : ℕ) → i < length a → getD a i 0 ⊗ getD b i 0 ≡ getD c i 0) → Rows a b c
+rows-of [] b c h k e = tt
+rows-of (x ∷ a) [] c h k e = tt
+rows-of (x ∷ a) (y ∷ b) [] h k e = tt
+rows-of (x ∷ a) (y ∷ b) (z ∷ c) h k e = (
+  row-is x y z ∙ ap (λ (w : ℕ). element (w ⊕ z)) (e 0 (omega arith)) ∙ ap element (⊕-self z),
+  rows-of a b c (omega arith) (omega arith) (λ i l. e (suc i) (omega arith)),
+)
+
+pub of-rows : (a b c : List ℕ) → length b ≡ length a → length c ≡ length a → AllBelow (2 ^ 128) c → Rows a b c
+    → (i : ℕ) → i < length a → getD a i 0 ⊗ getD b i 0 ≡ getD c i 0
+of-rows [] b c h k l z i q = absurd (omega arith)
+of-rows (x ∷ a) [] c h k l z i q = absurd (omega arith)
+of-rows (x ∷ a) (y ∷ b) [] h k l z i q = absurd (omega arith)
+of-rows (x ∷ a) (y ∷ b) (w ∷ c) h k l z zero q =
+    eq-of-⊕ (element-inj (x ⊗ y ⊕ w) 0 (⊕-lt 128 (x ⊗ y) w (⊗-lt x y) (l .0)) (pow-pos 128) (sym (row-is x y w) ∙ z .0))
+of-rows (x ∷ a) (y ∷ b) (w ∷ c) h k l z (suc i) q = of-rows a b c (omega arith) (omega arith) (l .1) (z .1) i (omega arith)
 
 module _ (tau a b c rs cs : List ℕ) (Z : OuterSizes tau a b c rs cs) where
   els-length : (t : List ℕ) → length t ≡ 2 ^ (length rs + length cs) → length (els t) ≡ 2 ^ (length (els rs) + length (els cs))

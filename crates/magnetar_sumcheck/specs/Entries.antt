@@ -21,6 +21,7 @@ outerRefusal out e a b c v =
     refuse 11 (not (isTable v a)) (refuse 11 (not (eqb b a)) (refuse 11 (not (eqb c a)) (refuse 11 (not (eqb e (a / 2)))
     (refuse 15 (ltb out 8) 0))))
 
+-- what out holds at exit, with the product k and the tau t of variable v
 abbrev pub outerOut : List ℕ → List ℕ → List ℕ → List ℕ → List ℕ → ℕ → ℕ → ℕ → List ℕ
 outerOut out e a b c v k t =
     unlessRefused (outerRefusal (length out) (length e) (length a) (length b) (length c) v)
@@ -30,6 +31,7 @@ outerOut out e a b c v k t =
 unfoldable pub innerRefusal : ℕ → ℕ → ℕ → ℕ → ℕ
 innerRefusal out t z v = refuse 11 (not (isTable v t)) (refuse 11 (not (eqb z t)) (refuse 15 (ltb out 6) 0))
 
+-- what out holds at exit
 abbrev pub innerOut : List ℕ → List ℕ → List ℕ → ℕ → List ℕ
 innerOut out t z v =
     unlessRefused (innerRefusal (length out) (length t) (length z) v) (words (innerMessage v (elements t) (elements z)) ++ drop 6 out) out
@@ -38,6 +40,7 @@ innerOut out t z v =
 unfoldable pub dropRefusal : ℕ → ℕ → ℕ
 dropRefusal t v = refuse 11 (not (isTable v t)) 0
 
+-- what the table holds at exit: the new one in its first half
 abbrev pub dropOut : List ℕ → ℕ → List ℕ
 dropOut t v = unlessRefused (dropRefusal (length t) v) (words (dropVar v (elements t)) ++ drop (length t / 2) t) t
 

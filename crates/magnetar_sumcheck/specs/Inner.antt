@@ -15,6 +15,7 @@ innerSums v t z n =
     ∷ sumTo (λ i. slope v t i ⊗ slope v z i) n
     ∷ []
 
+-- the message: 3 coefficients, that of 1 first
 unfoldable pub innerMessage : ℕ → List ℕ → List ℕ → List ℕ
 innerMessage v t z = innerSums v t z (length t / 2)
 

@@ -29,6 +29,7 @@ outerValue S = S .k ⊗ weighted (S .e) (λ i. getD (S .a) i 0 ⊗ getD (S .b) i
 abbrev pub outerVar : Outer → ℕ
 outerVar S = nextVar (S .high) (length (S .tau))
 
+-- its tau
 abbrev pub outerTau : Outer → ℕ
 outerTau S = getD (S .tau) (outerVar S) 0
 
@@ -52,6 +53,7 @@ outerFold r S = record {
 unfoldable pub outerStart : ℕ → List ℕ → List ℕ → List ℕ → List ℕ → Outer
 outerStart s tau a b c = record { high = s; tau = tau; k = 1; e = eqTable tau; a = a; b = b; c = c }
 
+-- the messages of as many rounds as there are challenges
 unfoldable pub outerMessages : Outer → List ℕ → List (List ℕ)
 outerMessages S [] = []
 outerMessages S (r ∷ rs) = outerNext S ∷ outerMessages (outerFold r S) rs

@@ -38,6 +38,7 @@ eqPoints (p ∷ ps) (q ∷ qs) = (1 ⊕ p ⊕ q) ⊗ eqPoints ps qs
 unfoldable pub at₀ : ℕ → List ℕ → ℕ → ℕ
 at₀ v t i = getD t (insertZero v i) 0
 
+-- and where it is 1
 unfoldable pub at₁ : ℕ → List ℕ → ℕ → ℕ
 at₁ v t i = getD t (insertZero v i + 2 ^ v) 0
 

@@ -17,9 +17,11 @@ use Rattle.magnetar_sumcheck.specs.Order.{at₀, at₁, slope}
 unfoldable pub coefficient₀ : ℕ → List ℕ → List ℕ → List ℕ → ℕ → ℕ
 coefficient₀ v a b c i = at₀ v a i ⊗ at₀ v b i ⊕ at₀ v c i
 
+-- that of X
 unfoldable pub coefficient₁ : ℕ → List ℕ → List ℕ → List ℕ → ℕ → ℕ
 coefficient₁ v a b c i = at₀ v a i ⊗ slope v b i ⊕ slope v a i ⊗ at₀ v b i ⊕ slope v c i
 
+-- that of X²
 unfoldable pub coefficient₂ : ℕ → List ℕ → List ℕ → ℕ → ℕ
 coefficient₂ v a b i = slope v a i ⊗ slope v b i
 
@@ -40,6 +42,7 @@ timesEq k t q₀ q₁ q₂ =
     ∷ (k ⊗ q₂)
     ∷ []
 
+-- the message: 4 coefficients, that of 1 first
 unfoldable pub outerMessage : ℕ → ℕ → ℕ → List ℕ → List ℕ → List ℕ → List ℕ → List ℕ
 outerMessage v k t e a b c =
     timesEq k t (weighted e (coefficient₀ v a b c) (length e)) (weighted e (coefficient₁ v a b c) (length e))

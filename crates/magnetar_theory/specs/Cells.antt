@@ -14,6 +14,7 @@ module _ (F : Field) where
   abbrev pub lineAt : K → K → K → K
   lineAt r x y = x ⊕ r ⊗ (x ⊕ y)
 
+  -- an entry of the tables a, b, c and of the eq table e
   pub record OuterCell : Type 0 where
     pub a : K
     pub b : K
@@ -28,6 +29,7 @@ module _ (F : Field) where
       ∷ (e ⊗ (a′ ⊗ b′) ⊕ e′ ⊗ (a ⊗ b′ ⊕ a′ ⊗ b ⊕ c′))
       ∷ e′ ⊗ (a′ ⊗ b′) ∷ []
 
+  -- the cells of the outer sum-check: a summand e (a b + c)
   abbrev pub outerCells : Cells F
   outerCells = record {
     C = OuterCell;
@@ -43,6 +45,7 @@ module _ (F : Field) where
     line = λ x y. cubic (x .e) (x .e ⊕ y .e) (x .a) (x .a ⊕ y .a) (x .b) (x .b ⊕ y .b) (x .c) (x .c ⊕ y .c);
   }
 
+  -- an entry of the tables t and z
   pub record InnerCell : Type 0 where
     pub t : K
     pub z : K
@@ -51,6 +54,7 @@ module _ (F : Field) where
   abbrev pub quadratic : K → K → K → K → List K
   quadratic t t′ z z′ = t ⊗ z ∷ (t ⊗ z′ ⊕ t′ ⊗ z) ∷ t′ ⊗ z′ ∷ []
 
+  -- the cells of the inner sum-check: a summand t z
   abbrev pub innerCells : Cells F
   innerCells = record {
     C = InnerCell;

@@ -22,6 +22,7 @@ module _ (F : Field) where
   eqTable [] = 𝟏 ∷ []
   eqTable (p ∷ ps) = spread p (eqTable ps)
 
+  -- the sum of the products of two lists, entry by entry
   abbrev pub dot : List K → List K → K
   dot [] t = 𝟎
   dot (e ∷ es) [] = 𝟎
@@ -33,6 +34,7 @@ module _ (F : Field) where
   bindLow r (x ∷ []) = lineAt F r x 𝟎 ∷ []
   bindLow r (x ∷ y ∷ t) = lineAt F r x y ∷ bindLow r t
 
+  -- the lines through the entries of two lists at r (a missing entry is zero)
   abbrev pub mixLists : K → List K → List K → List K
   mixLists r [] [] = []
   mixLists r [] (y ∷ ys) = lineAt F r 𝟎 y ∷ mixLists r [] ys
@@ -48,10 +50,12 @@ module _ (F : Field) where
   bindNext zero b r t = bindLow r t
   bindNext (suc s) b r t = bindTop (2 ^ (s + b)) r t
 
+  -- all variables that the challenges reach, one after the other
   abbrev pub bindRun : ℕ → ℕ → List K → List K → List K
   bindRun s b [] t = t
   bindRun s b (r ∷ rs) t = bindRun (less s) b rs (bindNext s b r t)
 
+  -- the first entry, or zero
   abbrev pub first : List K → K
   first [] = 𝟎
   first (x ∷ t) = x
@@ -62,6 +66,7 @@ module _ (F : Field) where
   eqProduct (p ∷ ps) [] = 𝟏
   eqProduct (p ∷ ps) (r ∷ rs) = (𝟏 ⊕ p ⊕ r) ⊗ eqProduct ps rs
 
+  -- every entry times k
   abbrev pub scale : K → List K → List K
   scale k [] = []
   scale k (x ∷ t) = k ⊗ x ∷ scale k t

@@ -28,10 +28,12 @@ module _ (F : Field) where
   eval [] x = 𝟎
   eval (c ∷ p) x = c ⊕ x ⊗ eval p x
 
+  -- every coefficient is zero
   abbrev pub allZero : List K → Bool
   allZero [] = true
   allZero (c ∷ p) = same c 𝟎 && allZero p
 
+  -- a commutative ring with one, of characteristic two, with a true test for equality
   pub record Ring : Type 0 where
     pub add-assoc : (x y z : K) → (x ⊕ y) ⊕ z ≡ x ⊕ (y ⊕ z)
     pub add-comm : (x y : K) → x ⊕ y ≡ y ⊕ x
@@ -44,6 +46,7 @@ module _ (F : Field) where
     pub same-true : (x y : K) → same x y ≡ true → x ≡ y
     pub same-false : (x y : K) → same x y ≡ false → ¬ (x ≡ y)
 
+  -- a field as the theory needs it: no zero divisors, and the roots of a polynomial that is not zero listed, fewer than its coefficients
   pub record Laws : Type 0 where
     pub laws : Ring
     pub no-zero-divisors : (x y : K) → x ⊗ y ≡ 𝟎 → (x ≡ 𝟎) ⊎ (y ≡ 𝟎)

@@ -9,6 +9,7 @@ module _ (F : Field) where
 
   infixl 60 _⊕_
   infixl 70 _⊗_
+  -- two tables as one of cells
   abbrev pub zipInner : List K → List K → List (InnerCell F)
   zipInner [] z = []
   zipInner (x ∷ t) [] = []

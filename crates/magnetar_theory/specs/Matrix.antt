@@ -13,6 +13,7 @@ module _ (F : Field) where
 
   infixl 60 _⊕_
   infixl 70 _⊗_
+  -- an entry of a sparse matrix
   pub record Entry : Type 0 where
     pub row : ℕ
     pub col : ℕ
@@ -45,6 +46,7 @@ module _ (F : Field) where
   fold n (e ∷ es) [] = replicate n 𝟎
   fold n (e ∷ es) (z ∷ zs) = addPoly F (scale F e z) (fold n es zs)
 
+  -- every vector has n entries
   abbrev pub AllLength : ℕ → List (List K) → Type 0
   AllLength n [] = Unit {0}
   AllLength n (z ∷ zs) = (length z ≡ n) × AllLength n zs

@@ -12,6 +12,7 @@ module _ (F : Field) where
 
   infixl 60 _⊕_
   infixl 70 _⊗_
+  -- four tables as one of cells
   abbrev pub zipOuter : List K → List K → List K → List K → List (OuterCell F)
   zipOuter [] b c e = []
   zipOuter (x ∷ a) [] c e = []

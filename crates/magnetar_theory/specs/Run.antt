@@ -39,6 +39,7 @@ module _ (F : Field) where
   abbrev pub vectors : List (List K) → List K → List (List K)
   vectors ws x = map (λ (w : List K). w ++ x) ws
 
+  -- the products of a matrix with all vectors, one after the other
   abbrev pub table : System → List (Entry F) → List (List K) → List K
   table Y M zs = applyAll F (2 ^ Y .logRows) M zs
 
@@ -46,9 +47,11 @@ module _ (F : Field) where
   abbrev pub residues : System → List (List K) → List K
   residues Y zs = rowValues F (table Y (Y .A) zs) (table Y (Y .B) zs) (table Y (Y .C) zs)
 
+  -- the outer sum-check of a system at its start, with s login variables and b row variables
   abbrev pub begin : System → List K → List (List K) → ℕ → ℕ → State F (outerCells F)
   begin Y taus zs s b = start F (table Y (Y .A) zs) (table Y (Y .B) zs) (table Y (Y .C) zs) taus s b
 
+  -- what the verifier draws, in the order of the run
   pub record Draws : Type 0 where
     pub tauBin : List K
     pub tauFld : List K
@@ -59,6 +62,8 @@ module _ (F : Field) where
     pub low : List K
     pub last : K
 
+  -- the words of a proof: the messages of both outer sum-checks, the terminals of both systems, the inner messages, v_z, the segment
+  -- values
   pub record Words : Type 0 where
     pub binMs : List (List K)
     pub fldMs : List (List K)
@@ -72,16 +77,19 @@ module _ (F : Field) where
     pub vz : K
     pub values : List K
 
+  -- the challenges of the inner sum-check
   abbrev pub inner : Draws → List K
   inner D = D .low ++ (D .last ∷ [])
 
+  -- the six claimed terminal values
   abbrev pub terminals : Words → List K
   terminals W = W .ab ∷ W .bb ∷ W .cb ∷ W .af ∷ W .bf ∷ W .cf ∷ []
 
   -- the six tables of column sums
   abbrev pub six : Relation → (rowBin rowFld : List K) → List (List K)
-  six R rb rf = cols (R .bin .A) rb ∷ cols (R .bin .B) rb ∷ cols (R .bin .C) rb ∷ cols (R .fld .A) rf ∷ cols (R .fld .B) rf ∷ cols
-      (R .fld .C) rf ∷ []
+  six R rb rf =
+      cols (R .bin .A) rb ∷ cols (R .bin .B) rb ∷ cols (R .bin .C) rb
+      ∷ cols (R .fld .A) rf ∷ cols (R .fld .B) rf ∷ cols (R .fld .C) rf ∷ []
     where
       cols : List (Entry F) → List K → List K
       cols M r = columns F (2 ^ suc (R .logHalf)) M (eqTable F r)
@@ -130,15 +138,18 @@ module _ (F : Field) where
 
   -- the true terminal values
   abbrev pub trueTerminals : Relation → List K → List (List K) → (shared rowBin rowFld : List K) → List K
-  trueTerminals R x ws sh rb rf = at (R .bin) (R .bin .A) rb ∷ at (R .bin) (R .bin .B) rb ∷ at (R .bin) (R .bin .C) rb ∷ at (R .fld)
-      (R .fld .A) rf ∷ at (R .fld) (R .fld .B) rf ∷ at (R .fld) (R .fld .C) rf ∷ []
+  trueTerminals R x ws sh rb rf =
+      at (R .bin) (R .bin .A) rb ∷ at (R .bin) (R .bin .B) rb ∷ at (R .bin) (R .bin .C) rb
+      ∷ at (R .fld) (R .fld .A) rf ∷ at (R .fld) (R .fld .B) rf ∷ at (R .fld) (R .fld .C) rf ∷ []
     where
       at : System → List (Entry F) → List K → K
       at Y M r = dot F (eqTable F (r ++ reverse sh)) (table Y M (vectors ws x))
 
+  -- the six tables of column sums, weighted by alpha
   abbrev pub combo : Relation → (rowBin rowFld alpha : List K) → List K
   combo R rb rf al = fold F (2 ^ suc (R .logHalf)) al (six R rb rf)
 
+  -- the vectors of all logins, weighted by eq(r_inst, u)
   abbrev pub folded : Relation → List K → List (List K) → (shared : List K) → List K
   folded R x ws sh = fold F (2 ^ suc (R .logHalf)) (eqTable F (reverse sh)) (vectors ws x)
 

@@ -11,9 +11,11 @@ pub record Segment : Type 0 where
   pub logLen : ℕ
   pub number : ℕ
 
+-- where a segment starts
 abbrev pub offset : Segment → ℕ
 offset g = g .number * 2 ^ g .logLen
 
+-- where it ends
 abbrev pub after : Segment → ℕ
 after g = offset g + 2 ^ g .logLen
 
@@ -27,5 +29,6 @@ module _ (F : Field) where
   Laid c n [] w = Zeros F (drop c w)
   Laid c n (g ∷ gs) w = (c ≤ offset g) × (after g ≤ n) × Zeros F (take (offset g - c) (drop c w)) × Laid (after g) n gs w
 
+  -- the entries of a segment
   abbrev pub slice : Segment → List K → List K
   slice g w = take (2 ^ g .logLen) (drop (offset g) w)

@@ -20,6 +20,7 @@ module _ (F : Field) where
 
   infixl 60 _⊕_
   infixl 70 _⊗_
+  -- the sum of the coefficients
   abbrev pub total : List K → K
   total [] = 𝟎
   total (c ∷ p) = c ⊕ total p
@@ -42,6 +43,7 @@ module _ (F : Field) where
   running c (m ∷ ms) [] = c
   running c (m ∷ ms) (r ∷ rs) = running (eval F m r) ms rs
 
+  -- the sum of two polynomials
   abbrev pub addPoly : List K → List K → List K
   addPoly [] q = q
   addPoly (c ∷ p) [] = c ∷ p
@@ -54,6 +56,7 @@ module _ (F : Field) where
   module _ (G : Rounds F) where
     open Rounds G using (St, value, bind, poly)
 
+    -- the state after the challenges
     abbrev pub bindAll : List K → St → St
     bindAll [] S = S
     bindAll (r ∷ rs) S = bindAll rs (bind r S)
@@ -66,6 +69,7 @@ module _ (F : Field) where
     abbrev pub Caught : St → List (List K) → List K → Type 0
     Caught S ms rs = (i : ℕ) × (i < length rs) × List·Memᴰ (getD rs i 𝟎) (badChallenges S (take i rs) (getD ms i []))
 
+    -- the honest prover's messages: each is the state's own polynomial
     abbrev pub honest : St → List K → List (List K)
     honest S [] = []
     honest S (r ∷ rs) = poly S ∷ honest (bind r S) rs

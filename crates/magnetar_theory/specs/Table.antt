@@ -15,6 +15,7 @@ pub record Cells (F : Field) : Type 1 where
   pub term : C → F .K
   pub line : C → C → List (F .K)
 
+-- one fewer
 abbrev pub less : ℕ → ℕ
 less zero = zero
 less (suc s) = s
@@ -31,6 +32,7 @@ module _ (F : Field) (X : Cells F) where
   lowPairs (x ∷ []) = (x, none) ∷ []
   lowPairs (x ∷ y ∷ t) = (x, y) ∷ lowPairs t
 
+  -- the pairs of two lists (a missing cell is the zero)
   abbrev pub pairUp : List C → List C → List (C × C)
   pairUp [] [] = []
   pairUp [] (y ∷ ys) = (none, y) ∷ pairUp [] ys
@@ -46,23 +48,28 @@ module _ (F : Field) (X : Cells F) where
   pairs zero b t = lowPairs t
   pairs (suc s) b t = topPairs (2 ^ (s + b)) t
 
+  -- each pair at r
   abbrev pub mixAll : K → List (C × C) → List C
   mixAll r [] = []
   mixAll r (p ∷ ps) = mix r (p .0) (p .1) ∷ mixAll r ps
 
+  -- the sum of the pairs' polynomials
   abbrev pub polyAll : List (C × C) → List K
   polyAll [] = []
   polyAll (p ∷ ps) = addPoly F (line (p .0) (p .1)) (polyAll ps)
 
+  -- the sum of the cells' terms
   abbrev pub sumTerms : List C → K
   sumTerms [] = 𝟎
   sumTerms (x ∷ t) = term x ⊕ sumTerms t
 
+  -- the high variables that are left, the low ones at the start, and the table
   pub record State : Type 0 where
     pub tops : ℕ
     pub rows : ℕ
     pub cells : List C
 
+  -- the sum-check over tables
   abbrev pub tableRounds : Rounds F
   tableRounds = record {
     St = State;

@@ -13,6 +13,7 @@ module _ (F : Field) where
 
   infixl 60 _⊕_
   infixl 70 _⊗_
+  -- every entry is zero
   abbrev pub Zeros : List K → Type 0
   Zeros [] = Unit {0}
   Zeros (x ∷ t) = (x ≡ 𝟎) × Zeros t
@@ -27,6 +28,7 @@ module _ (F : Field) where
   firstRoots (x ∷ []) = lineRoots x (x ⊕ 𝟎)
   firstRoots (x ∷ y ∷ t) = cond (allZero F (x ∷ (x ⊕ y) ∷ [])) (firstRoots t) (roots (x ∷ (x ⊕ y) ∷ []))
 
+  -- the lowest variables bound, one after the other
   abbrev pub bindLows : List K → List K → List K
   bindLows [] t = t
   bindLows (r ∷ rs) t = bindLows rs (bindLow F r t)
@@ -35,5 +37,6 @@ module _ (F : Field) where
   abbrev pub tauList : List K → List K → List K
   tauList t earlier = firstRoots (bindLows earlier t)
 
+  -- some tau_j is in its list
   abbrev pub TauCaught : List K → List K → Type 0
   TauCaught t taus = (j : ℕ) × (j < length taus) × List·Memᴰ (getD taus j 𝟎) (tauList t (take j taus))

@@ -9,6 +9,7 @@ use Rattle.magnetar_theory.specs.Lists.{lists}
 use Rattle.magnetar_theory.specs.Heard.{heard}
 use Rattle.magnetar_theory.specs.Gf128.{gf128}
 
+-- the elements
 abbrev pub E : Type 0
 E = gf128 .K
 
