@@ -1,20 +1,19 @@
 -- The eq factor's table over the variables that stay, made in place; and its value at the point that the challenges make.
 use mathlib.Core.Path.{_≡_, refl, sym, ap, ap₂, _∙_}
-use mathlib.Core.Bool.{Bool, true, false, not, cond, false≢true}
+use mathlib.Core.Bool.{Bool, true, false, cond}
 use mathlib.Core.List.{List, [], _∷_, _++_, reverse, reverse-cons}
-use Prim.Native.Nat.{ℕ, zero, suc, _+_, _-_, _*_, _/_, _%_, _^_, _≤_, _<_}
-use native.Mathlib.Numerals.{add-one}
+use Prim.Native.Nat.{ℕ, zero, suc, _+_, _-_, _*_, _/_, _^_, _≤_, _<_}
 use native.Mathlib.Omega.{arith}
-use lib.Dec.{eqb, ltb}
+use lib.Dec.{ltb}
 use lib.ListN.{length, getD, set, take, drop, length-append, length-reverse, length-take, length-drop, drop-of-length-le, List·getD-append}
 use lib.Seq.{drop-cons, getD-append-add, getD-take, getD-drop, length-take-le}
-use borrow.Author.Tests.{eqb-true, ltb-true, ltb-false}
+use borrow.Author.Tests.{ltb-true, ltb-false}
 use Rattle.magnetar_field.specs.Gf128.{_⊕_, _⊗_}
 use Rattle.magnetar_field.specs.Tabulate.{tabulate}
 use Rattle.magnetar_field.specs.Multilinear.{insertZero}
 use Rattle.magnetar_field.specs.Words.{elements, words}
 use Rattle.magnetar_field.proofs.Elements.{elements-length, rejoin}
-use Rattle.magnetar_field.proofs.Making.{Made, made-none, made-get, made-more}
+use Rattle.magnetar_field.proofs.Making.{Made, made-get, made-more}
 use Rattle.magnetar_field.proofs.Bound.{place-ge}
 use Rattle.magnetar_sumcheck.specs.Order.{at₀, at₁, slope, point, placeOf, eqPoints}
 use Rattle.magnetar_sumcheck.specs.Outer.{dropVar}

@@ -1,7 +1,7 @@
 -- The elements of numbers carry the sums, products and polynomials of magnetar_field over to the field of the theory.
-use mathlib.Core.Path.{_≡_, refl, sym, ap, ap₂, _∙_}
+use mathlib.Core.Path.{_≡_, refl, ap, _∙_}
 use mathlib.Core.List.{List, [], _∷_, map}
-use Prim.Native.Nat.{ℕ, zero, suc, _^_, _<_}
+use Prim.Native.Nat.{ℕ, _^_, _<_}
 use lib.Pow.{pow-pos}
 use Rattle.magnetar_field.specs.Gf128.{_⊕_, _⊗_}
 use Rattle.magnetar_field.specs.Polynomial.{eval}
@@ -11,7 +11,7 @@ use Rattle.magnetar_field.proofs.Xor.{⊕-lt}
 use Rattle.magnetar_theory.specs.Field.{eval as evalE}
 use Rattle.magnetar_theory.specs.SumCheck.{total as totalE, checkSum as checkSumE}
 use Rattle.magnetar_theory.specs.Cells.{lineAt}
-use Rattle.magnetar_theory.specs.Gf128.{Element, element, sum, product, gf128}
+use Rattle.magnetar_theory.specs.Gf128.{element, sum, product, gf128}
 use Rattle.magnetar_theory.proofs.Gf128.{element-⊕, element-⊗}
 use Rattle.magnetar_sumcheck.specs.Sum.{total}
 use Rattle.magnetar_sumcheck.specs.Round.{checkSum}

@@ -13,7 +13,7 @@ use Rattle.magnetar_field.specs.Tabulate.{tabulate}
 use Rattle.magnetar_field.specs.Multilinear.{line, insertZero, bindVar}
 use Rattle.magnetar_theory.specs.Field.{Field, Laws}
 use Rattle.magnetar_theory.specs.SumCheck.{addPoly, honest}
-use Rattle.magnetar_theory.specs.Table.{State, tableRounds, pairs, polyAll, mixAll}
+use Rattle.magnetar_theory.specs.Table.{tableRounds, pairs, polyAll, mixAll}
 use Rattle.magnetar_theory.specs.Cells.{lineAt, InnerCell, innerCells}
 use Rattle.magnetar_theory.specs.Inner.{zipInner}
 use Rattle.magnetar_theory.specs.Gf128.{Element, element, sum, product, gf128}

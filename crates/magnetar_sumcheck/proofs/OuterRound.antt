@@ -1,16 +1,12 @@
 -- The polynomial of an outer round, with the eq factor kept apart, over any field: the sum over pairs, coefficient by coefficient.
-use mathlib.Core.Path.{_≡_, refl, sym, ap, ap₂, _∙_}
-use mathlib.Core.List.{List, [], _∷_, map}
-use Prim.Native.Nat.{ℕ, zero, suc, _+_, _^_, _<_}
-use native.Mathlib.Omega.{arith}
-use lib.ListN.{length, getD}
+use mathlib.Core.Path.{_≡_, ap₂, _∙_}
+use mathlib.Core.List.{List, [], _∷_}
+use Prim.Native.Nat.{ℕ, zero, suc}
 use Rattle.magnetar_field.specs.Tabulate.{tabulate}
 use Rattle.magnetar_theory.specs.Field.{Field, Laws}
 use Rattle.magnetar_theory.specs.SumCheck.{addPoly}
-use Rattle.magnetar_theory.specs.Table.{Cells, polyAll, mixAll}
-use Rattle.magnetar_theory.specs.Cells.{lineAt, OuterCell, outerCells, InnerCell, innerCells}
-use Rattle.magnetar_theory.specs.Outer.{zipOuter}
-use Rattle.magnetar_theory.specs.Inner.{zipInner}
+use Rattle.magnetar_theory.specs.Table.{polyAll}
+use Rattle.magnetar_theory.specs.Cells.{lineAt, OuterCell, outerCells}
 use Rattle.magnetar_theory.proofs.Ring.{ring}
 
 module _ (F : Field) where

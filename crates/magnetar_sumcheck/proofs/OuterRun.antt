@@ -1,21 +1,19 @@
 -- The outer prover over numbers follows the theory: what it holds stands for a state of the theory's sum-check, its message is that
 -- state's polynomial, and its fold binds that state's next variable. So its messages are the honest ones.
 use mathlib.Core.Path.{_≡_, refl, sym, ap, ap₂, _∙_, subst}
-use mathlib.Core.List.{List, [], _∷_, _++_, map}
-use mathlib.Core.Bool.{Bool, true, false}
-use Prim.Native.Nat.{ℕ, zero, suc, _+_, _-_, _*_, _/_, _%_, _^_, _≤_, _<_}
-use native.Mathlib.Nat.{two-pow-succ, zero-add}
+use mathlib.Core.List.{List, [], _∷_, map}
+use Prim.Native.Nat.{ℕ, zero, suc, _+_, _-_, _/_, _%_, _^_, _≤_, _<_}
+use native.Mathlib.Nat.{two-pow-succ}
 use native.Mathlib.Omega.{arith}
 use lib.Dec.{eqb}
 use lib.Seq.{ext-getD}
-use lib.ListN.{length, getD, take, drop, length-map}
+use lib.ListN.{length, getD, length-map}
 use lib.Pow.{pow-pos}
 use Rattle.magnetar_field.proofs.Tabulation.{tabulate-ext, tabulate-length, tabulate-get}
 use Rattle.magnetar_field.specs.Gf128.{_⊕_, _⊗_}
 use Rattle.magnetar_field.specs.Tabulate.{tabulate}
 use Rattle.magnetar_field.specs.EqTable.{eqFactor, odd, eqAt, eqTable}
 use Rattle.magnetar_field.specs.Multilinear.{line, insertZero, bindVar}
-use Rattle.magnetar_theory.specs.Field.{Field}
 use Rattle.magnetar_theory.specs.SumCheck.{honest}
 use Rattle.magnetar_theory.specs.Table.{State, tableRounds, less, pairs, polyAll, mixAll}
 use Rattle.magnetar_theory.specs.Cells.{lineAt, OuterCell, outerCells}
@@ -32,7 +30,7 @@ use Rattle.magnetar_sumcheck.specs.Outer.{coefficient₀, coefficient₁
 use Rattle.magnetar_sumcheck.specs.Messages.{Outer, outerVar, outerTau, outerNext, outerFold, outerStart, outerMessages}
 use Rattle.magnetar_sumcheck.proofs.Hom.{element-line}
 use Rattle.magnetar_sumcheck.proofs.Tables.{getD-map}
-use Rattle.magnetar_sumcheck.proofs.Pairs.{Left, pairAt, pairs-are}
+use Rattle.magnetar_sumcheck.proofs.Pairs.{Left, pairs-are}
 use Rattle.magnetar_sumcheck.proofs.EqPairs.{without, getD-scale, eq-pair₀, eq-pair₁, length-without}
 use Rattle.magnetar_sumcheck.proofs.OuterRound.{sumF, timesEqF, outerPair, q₀, q₁, q₂, outer-poly, weight-line}
 

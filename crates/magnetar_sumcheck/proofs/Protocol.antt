@@ -1,12 +1,12 @@
 -- The laws of both sum-checks over numbers: the message's value at the challenge is the sum that is left, its values at 0 and at 1 add up
 -- to the sum before; honest messages pass, and checks that pass with a true end leave a true claim or a challenge in its list.
 use mathlib.Core.Path.{_≡_, refl, sym, ap, ap₂, _∙_, subst}
-use mathlib.Core.Bool.{Bool, true, false}
+use mathlib.Core.Bool.{true}
 use mathlib.Core.List.{List, [], _∷_, _++_, map, reverse, reverse-cons}
 use mathlib.Core.Logic.{_⊎_, inl, inr}
-use Prim.Native.Nat.{ℕ, zero, suc, _+_, _-_, _*_, _/_, _%_, _^_, _≤_, _<_}
+use Prim.Native.Nat.{ℕ, zero, suc, _+_, _/_, _^_, _≤_, _<_}
 use native.Mathlib.Omega.{arith}
-use lib.ListN.{length, getD, take, drop, length-map, length-append}
+use lib.ListN.{length, getD, length-map, length-append}
 use lib.Seq.{take-at, drop-at}
 use lib.Pow.{pow-pos}
 use Rattle.magnetar_field.specs.Gf128.{_⊕_, _⊗_}
@@ -17,30 +17,26 @@ use Rattle.magnetar_field.proofs.Polynomial.{AllBelow, eval-lt}
 use Rattle.magnetar_field.proofs.Product.{⊗-lt}
 use Rattle.magnetar_field.proofs.Xor.{⊕-lt, ⊕-self, eq-of-⊕}
 use Rattle.magnetar_theory.specs.SumCheck.{Checks, running as runningE, Caught, honest}
-use Rattle.magnetar_theory.specs.Table.{State, tableRounds, sumTerms}
-use Rattle.magnetar_theory.specs.Cells.{OuterCell, outerCells, InnerCell, innerCells}
-use Rattle.magnetar_theory.specs.EqTable.{scale, eqTable as eqTableE, dot as dotE, eqProduct}
-use Rattle.magnetar_theory.specs.Outer.{zipOuter, rowValues, start}
+use Rattle.magnetar_theory.specs.Table.{State, tableRounds}
+use Rattle.magnetar_theory.specs.Cells.{outerCells, innerCells}
+use Rattle.magnetar_theory.specs.EqTable.{eqTable as eqTableE, dot as dotE, eqProduct}
+use Rattle.magnetar_theory.specs.Outer.{rowValues, start}
 use Rattle.magnetar_theory.specs.Inner.{zipInner}
 use Rattle.magnetar_theory.specs.Tau.{Zeros, TauCaught}
 use Rattle.magnetar_theory.specs.Gf128.{Element, element, sum, product, gf128}
-use Rattle.magnetar_theory.proofs.SumCheck.{checkSum-is}
-use Rattle.magnetar_theory.proofs.Table.{tableLaws}
-use Rattle.magnetar_theory.proofs.Cells.{outerCellLaws, innerCellLaws}
 use Rattle.magnetar_theory.proofs.Matrix.{dot-comm}
 use Rattle.magnetar_theory.proofs.Outer.{outer-sound, outer-complete}
 use Rattle.magnetar_theory.proofs.Inner.{inner-sound, inner-complete}
 use Rattle.magnetar_theory.proofs.Gf128.{element-⊕, element-⊗, element-inj, gf128Laws}
 use Rattle.magnetar_sumcheck.specs.Sum.{sumTo}
-use Rattle.magnetar_sumcheck.specs.Round.{checkSum, passes, running}
+use Rattle.magnetar_sumcheck.specs.Round.{passes, running}
 use Rattle.magnetar_sumcheck.specs.Order.{point, eqPoints}
-use Rattle.magnetar_sumcheck.specs.Outer.{weighted, timesEq, outerMessage, outerEnd}
+use Rattle.magnetar_sumcheck.specs.Outer.{timesEq, outerMessage, outerEnd}
 use Rattle.magnetar_sumcheck.specs.Inner.{innerSums, innerMessage, innerEnd}
-use Rattle.magnetar_sumcheck.specs.Messages.{Outer, outerValue, outerNext, outerFold, outerStart, outerMessages, innerMessages}
-use Rattle.magnetar_sumcheck.proofs.Hom.{element-eval, element-checkSum, checkSum-lt}
+use Rattle.magnetar_sumcheck.specs.Messages.{Outer, outerNext, outerFold, outerStart, outerMessages, innerMessages}
 use Rattle.magnetar_sumcheck.proofs.Verifier.{MessagesBelow, passes-checks, checks-passes, running-is}
 use Rattle.magnetar_sumcheck.proofs.OuterRun as O
-use Rattle.magnetar_sumcheck.proofs.OuterRun.{Stands, element-eqTable, start-stands}
+use Rattle.magnetar_sumcheck.proofs.OuterRun.{element-eqTable, start-stands}
 use Rattle.magnetar_sumcheck.proofs.InnerRun as I
 
 abbrev els : List ℕ → List Element

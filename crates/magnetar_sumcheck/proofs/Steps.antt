@@ -1,20 +1,18 @@
 -- The pass over the pairs: where the entries of a pair stand, and the sums with one more pair.
 use mathlib.Core.Path.{_≡_, refl, sym, ap, ap₂, _∙_}
 use mathlib.Core.List.{List, [], _∷_}
-use Prim.Native.Nat.{ℕ, zero, suc, _+_, _*_, _/_, _%_, _^_, _≤_, _<_}
-use native.Mathlib.Nat.{div-add-mod', mul-assoc}
+use Prim.Native.Nat.{ℕ, zero, suc, _+_, _*_, _/_, _%_, _^_, _≤_}
+use native.Mathlib.Nat.{div-add-mod'}
 use native.Mathlib.Numerals.{add-one}
 use native.Mathlib.Omega.{arith}
 use lib.ListN.{getD}
 use Rattle.magnetar_field.specs.Gf128.{value, _⊕_, _⊗_}
 use Rattle.magnetar_field.specs.Multilinear.{insertZero}
-use Rattle.magnetar_field.proofs.Xor.{xor, ⊕-assoc, ⊕-comm, ⊕-left-comm}
-use Rattle.magnetar_field.proofs.Product.{⊗-⊕, ⊕-⊗, ⊗-comm, ⊗-assoc, ⊗-left-comm}
+use Rattle.magnetar_field.proofs.Xor.{xor}
 use Rattle.magnetar_sumcheck.specs.declared.engine.Sums.{Sums}
 use Rattle.magnetar_sumcheck.specs.Sum.{sumTo}
 use Rattle.magnetar_sumcheck.specs.Order.{at₀, at₁, slope}
-use Rattle.magnetar_sumcheck.specs.Outer.{coefficient₀, coefficient₁, coefficient₂, atOne, weighted, timesEq, outerMessage}
-use Rattle.magnetar_sumcheck.specs.Inner.{innerSums, innerMessage}
+use Rattle.magnetar_sumcheck.specs.Outer.{coefficient₀, coefficient₂, atOne, weighted}
 use Rattle.magnetar_sumcheck.specs.Sums.{sums, outerSums, innerSumsAt}
 
 -- ---- places

@@ -1,11 +1,10 @@
 -- Entries of tables, and where the entries of a pair stand for the lowest and for the highest variable.
-use mathlib.Core.Path.{_≡_, refl, sym, ap, ap₂, _∙_}
-use mathlib.Core.List.{List, [], _∷_, _++_, map}
-use Prim.Native.Nat.{ℕ, zero, suc, _+_, _-_, _*_, _/_, _%_, _^_, _≤_, _<_}
-use native.Mathlib.Nat.{two-pow-succ, div-eq-of-lt, mod-eq-of-lt, zero-mul, zero-add, pow-zero}
+use mathlib.Core.Path.{_≡_, refl}
+use mathlib.Core.List.{List, [], _∷_, map}
+use Prim.Native.Nat.{ℕ, zero, suc, _+_, _^_, _<_}
+use native.Mathlib.Nat.{div-eq-of-lt, mod-eq-of-lt, zero-mul, zero-add, pow-zero}
 use native.Mathlib.Omega.{arith}
-use lib.ListN.{length, getD, take, drop}
-use lib.Pow.{pow-pos}
+use lib.ListN.{getD}
 use Rattle.magnetar_field.specs.Multilinear.{insertZero}
 
 -- ---- entries

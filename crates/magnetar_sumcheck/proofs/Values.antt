@@ -1,8 +1,8 @@
 -- The two laws of a round over numbers: the message's value at r is the sum over the bound tables, and its values at 0 and at 1 add
 -- up to the sum over the tables.
-use mathlib.Core.Path.{_≡_, refl, sym, ap, ap₂, _∙_}
+use mathlib.Core.Path.{_≡_, refl, sym, ap, _∙_}
 use mathlib.Core.List.{List, [], _∷_, map}
-use Prim.Native.Nat.{ℕ, zero, suc, _+_, _^_, _<_}
+use Prim.Native.Nat.{ℕ, zero, suc, _^_, _<_}
 use native.Mathlib.Omega.{arith}
 use lib.ListN.{length, getD, length-map}
 use Rattle.magnetar_field.specs.Gf128.{_⊕_, _⊗_}
@@ -13,12 +13,11 @@ use Rattle.magnetar_field.proofs.Product.{⊗-lt}
 use Rattle.magnetar_theory.specs.Field.{eval as evalE}
 use Rattle.magnetar_theory.specs.SumCheck.{checkSum as checkSumE}
 use Rattle.magnetar_theory.specs.Table.{State, tableRounds, sumTerms}
-use Rattle.magnetar_theory.specs.Cells.{outerCells, InnerCell, innerCells}
+use Rattle.magnetar_theory.specs.Cells.{outerCells, innerCells}
 use Rattle.magnetar_theory.specs.EqTable.{scale, eqTable as eqTableE, dot as dotE}
-use Rattle.magnetar_theory.specs.Outer.{zipOuter, rowValues}
+use Rattle.magnetar_theory.specs.Outer.{rowValues}
 use Rattle.magnetar_theory.specs.Inner.{zipInner}
 use Rattle.magnetar_theory.specs.Gf128.{Element, element, sum, product, gf128}
-use Rattle.magnetar_theory.proofs.Ring.{mul-zero, add-zero}
 use Rattle.magnetar_theory.proofs.SumCheck.{checkSum-is}
 use Rattle.magnetar_theory.proofs.Table.{tableLaws}
 use Rattle.magnetar_theory.proofs.Cells.{outerCellLaws, innerCellLaws}

@@ -1,9 +1,8 @@
 -- The verifier's rounds over numbers are those of the theory: the checks pass for the numbers where they hold for their elements.
 use mathlib.Core.Path.{_≡_, refl, sym, ap, _∙_}
-use mathlib.Core.Bool.{Bool, true, false, _&&_, false≢true, and-eq-true-iff}
+use mathlib.Core.Bool.{true, false, false≢true, and-eq-true-iff}
 use mathlib.Core.List.{List, [], _∷_, map}
 use Prim.Native.Nat.{ℕ, _^_, _<_}
-use lib.Dec.{eqb}
 use borrow.Author.Tests.{eqb-true, eq-eqb}
 use Rattle.magnetar_field.specs.Polynomial.{eval}
 use Rattle.magnetar_field.proofs.Polynomial.{AllBelow, eval-lt}

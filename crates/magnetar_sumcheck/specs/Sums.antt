@@ -3,7 +3,7 @@
 -- Assumes nothing.
 use mathlib.Core.List.{List, [], _∷_}
 use Prim.Native.Nat.{ℕ}
-use Rattle.magnetar_field.specs.Gf128.{value, _⊕_, _⊗_}
+use Rattle.magnetar_field.specs.Gf128.{value, _⊗_}
 use Rattle.magnetar_sumcheck.specs.declared.engine.Sums.{Sums}
 use Rattle.magnetar_sumcheck.specs.Sum.{sumTo}
 use Rattle.magnetar_sumcheck.specs.Order.{at₀, at₁, slope}

@@ -1,16 +1,14 @@
 -- GF(2^128) meets the laws of a field, and taking the element of a number is a homomorphism.
 use mathlib.Core.Path.{_≡_, refl, sym, ap, ap₂, _∙_, subst}
-use mathlib.Core.Bool.{Bool, true, false, _&&_, false≢true, true≢false}
+use mathlib.Core.Bool.{true, _&&_, true≢false}
 use mathlib.Core.List.{List, [], _∷_, map, List·Memᴰ, List·Memᴰ·head, List·Memᴰ·tail}
 use mathlib.Core.Logic.{_⊎_, inl, inr}
 use mathlib.Core.HLevel.{Σ-prop-path}
 use Prim.Native.Nat.{ℕ, suc, _%_, _^_, _≤_, _<_}
-use native.Mathlib.Nat.{mod-lt, mod-eq-of-lt}
+use native.Mathlib.Nat.{mod-eq-of-lt}
 use native.Mathlib.Omega.{arith}
 use native.Mathlib.Bridge.{le-prop}
-use lib.Dec.{eqb, lit<}
 use lib.ListN.{length, length-map}
-use lib.Pow.{pow-pos}
 use borrow.Author.Tests.{eqb-true, eqb-false, eq-eqb}
 use Rattle.magnetar_field.specs.Gf128.{_⊕_, _⊗_}
 use Rattle.magnetar_field.specs.Polynomial.{roots, AllZero, eval as evalN}
@@ -19,7 +17,7 @@ use Rattle.magnetar_field.proofs.Product.{⊗-assoc, ⊗-comm, ⊗-⊕, ⊗-one
 use Rattle.magnetar_field.proofs.Inverse.{zero-product}
 use Rattle.magnetar_field.proofs.Polynomial.{AllBelow}
 use Rattle.magnetar_field.proofs.Roots.{root-in, roots-few}
-use Rattle.magnetar_theory.specs.Field.{Field, Ring, Laws, eval, allZero}
+use Rattle.magnetar_theory.specs.Field.{Ring, Laws, eval, allZero}
 use Rattle.magnetar_theory.specs.Gf128.{Element, number, element, sum, product, same, rootsOf, gf128}
 
 -- ---- numbers and elements

@@ -1,7 +1,6 @@
 -- How many of the proof's words have been absorbed when a draw is made.
 -- Assumes nothing.
 use Prim.Native.Nat.{ℕ, suc, _+_, _-_, _*_, min}
-use Rattle.magnetar_theory.specs.Lists.{words}
 
 -- the words absorbed when the k-th draw after tau is made: k counts it; s shared rounds, g row rounds
 abbrev pub heardAfter : ℕ → ℕ → ℕ → ℕ

@@ -1,7 +1,7 @@
 -- The outer sum-check of one system: the sum over logins and rows of eq(tau, x) (a(x) b(x) + c(x)).
 -- Assumes nothing.
 use mathlib.Core.List.{List, [], _∷_}
-use Prim.Native.Nat.{ℕ, _+_}
+use Prim.Native.Nat.{ℕ}
 use Rattle.magnetar_theory.specs.Field.{Field}
 use Rattle.magnetar_theory.specs.Table.{State}
 use Rattle.magnetar_theory.specs.Cells.{OuterCell, outerCells}

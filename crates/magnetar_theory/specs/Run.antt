@@ -2,9 +2,9 @@
 -- tests, the true value of each claim, and the honest prover's words. Nothing here mentions a hash or a transcript.
 -- Assumes nothing.
 use mathlib.Core.Path.{_≡_}
-use mathlib.Core.Bool.{Bool, true}
+use mathlib.Core.Bool.{Bool}
 use mathlib.Core.List.{List, [], _∷_, _++_, map, reverse}
-use Prim.Native.Nat.{ℕ, zero, suc, _+_, _*_, _^_}
+use Prim.Native.Nat.{ℕ, suc, _+_, _^_}
 use lib.ListN.{length, take, drop, getD}
 use Rattle.magnetar_theory.specs.Field.{Field, allZero}
 use Rattle.magnetar_theory.specs.SumCheck.{Checks, running, honest}

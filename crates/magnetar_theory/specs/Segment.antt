@@ -1,7 +1,7 @@
 -- Aligned segments of a vector that is zero outside them.
 -- Assumes nothing.
 use mathlib.Core.List.{List, [], _∷_}
-use Prim.Native.Nat.{ℕ, zero, _+_, _-_, _*_, _^_, _≤_}
+use Prim.Native.Nat.{ℕ, _+_, _-_, _*_, _^_, _≤_}
 use lib.ListN.{take, drop}
 use Rattle.magnetar_theory.specs.Field.{Field}
 use Rattle.magnetar_theory.specs.Tau.{Zeros}

@@ -1,8 +1,7 @@
 -- `magnetar_sumcheck::engine::check_sum` meets its contract.
 -- Assumes nothing.
 use denote.Ref.{now}
-use Prim.Native.Nat.{_≤_, _<_, _-_}
-use mathlib.Core.Path.{_≡_, refl, sym}
+use mathlib.Core.Path.{sym}
 use native.Mathlib.Omega.{arith}
 use Rattle.magnetar_field.specs.Gf128.{value}
 use Rattle.magnetar_field.specs.Words.{elements}

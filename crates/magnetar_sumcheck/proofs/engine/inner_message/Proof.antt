@@ -2,13 +2,10 @@
 -- Assumes nothing.
 use denote.Ref.{now}
 use Prim.Native.Nat.{_^_, _<_}
-use mathlib.Core.Path.{_≡_, refl, sym, ap, _∙_}
+use mathlib.Core.Path.{sym, _∙_}
 use native.Mathlib.Omega.{arith}
 use lib.ListN.{length}
 use borrow.Author.Tests.{ne-eqb}
-use Rattle.magnetar_field.specs.Words.{elements}
-use Rattle.magnetar_field.proofs.Elements.{elements-length}
-use Rattle.magnetar_sumcheck.specs.Entries.{innerRefusal, innerOut}
 use Rattle.magnetar_sumcheck.proofs.Message.{inner-out}
 use Rattle.magnetar_sumcheck.proofs.Refusals.{inner-fits, inner-small}
 use borrow.Author.Needs.{needs}

@@ -1,7 +1,7 @@
 -- `magnetar_sumcheck::engine::inner_refusal` meets its contract.
 -- Assumes nothing.
 use Rattle.magnetar_sumcheck.specs.Entries.{innerRefusal}
-use borrow.Author.Tests.{ne-eqb, eq-eqb, lt-ltb, le-ltb, not-true, not-false}
+use borrow.Author.Tests.{ne-eqb, eq-eqb, lt-ltb, le-ltb}
 use borrow.Author.Needs.{needs}
 use Rattle.magnetar_sumcheck.proofs.engine.inner_refusal.Statement.{statement}
 use Rattle.magnetar_sumcheck.proofs.engine.inner_refusal.Tie as tie

@@ -1,7 +1,7 @@
 -- `magnetar_sumcheck::engine::inner_sums` meets its contract.
 -- Assumes nothing.
 use denote.Ref.{now}
-use mathlib.Core.Path.{_≡_, refl}
+use mathlib.Core.Path.{_≡_}
 use Prim.Native.Nat.{_≤_, _-_}
 use native.Mathlib.Omega.{arith}
 use Rattle.magnetar_field.specs.Words.{elements}

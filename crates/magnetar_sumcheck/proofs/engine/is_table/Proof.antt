@@ -1,10 +1,7 @@
 -- `magnetar_sumcheck::engine::is_table` meets its contract.
 -- Assumes nothing.
 use borrow.Author.Tests.{not-true, not-false}
-use Prim.Native.Nat.{_%_, _/_}
-use mathlib.Core.Bool.{Bool, true, false, not, _&&_}
-use mathlib.Core.Path.{_≡_, refl, sym, ap, _∙_}
-use native.Mathlib.Omega.{arith}
+use Prim.Native.Nat.{_%_}
 use Rattle.magnetar_sumcheck.specs.Entries.{isTable}
 use borrow.Author.Tests.{ne-eqb, eq-eqb}
 use borrow.Author.Needs.{needs}

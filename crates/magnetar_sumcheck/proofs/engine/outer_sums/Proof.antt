@@ -4,12 +4,11 @@ use denote.Ref.{now}
 use Rattle.magnetar_sumcheck.specs.Sum as Sum
 use Rattle.magnetar_sumcheck.specs.Outer as Outer
 use Rattle.magnetar_sumcheck.proofs.Steps.{at-end}
-use mathlib.Core.Path.{_≡_, refl}
+use mathlib.Core.Path.{_≡_}
 use Prim.Native.Nat.{_≤_, _-_}
 use native.Mathlib.Omega.{arith}
 use Rattle.magnetar_field.specs.Words.{elements}
 use Rattle.magnetar_sumcheck.specs.Sums.{sums, outerSums}
-use Rattle.magnetar_sumcheck.proofs.Steps.{outer-start}
 use borrow.Author.Needs.{needs}
 use Rattle.magnetar_sumcheck.proofs.engine.outer_sums.Statement.{statement}
 use Rattle.magnetar_sumcheck.proofs.engine.outer_sums.Tie as tie

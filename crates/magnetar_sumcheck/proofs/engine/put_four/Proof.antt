@@ -1,7 +1,6 @@
 -- `magnetar_sumcheck::engine::put_four` meets its contract.
 -- Assumes nothing.
 use denote.Ref.{now}
-use native.Mathlib.Omega.{arith}
 use Rattle.magnetar_field.specs.Gf128.{value}
 use Rattle.magnetar_sumcheck.proofs.Message.{put-four}
 use borrow.Author.Needs.{needs}

@@ -1,6 +1,5 @@
 -- `magnetar_sumcheck::engine::put_outer` meets its contract.
 -- Assumes nothing.
-use Rattle.magnetar_field.specs.Gf128.{value}
 use Rattle.magnetar_sumcheck.specs.Outer.{timesEq}
 use Rattle.magnetar_sumcheck.proofs.Message.{timesEq-first, timesEq-next}
 use borrow.Author.Needs.{needs}

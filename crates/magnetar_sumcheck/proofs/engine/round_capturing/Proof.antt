@@ -1,6 +1,6 @@
 -- `magnetar_sumcheck::engine::round_capturing` meets its contract.
 -- Assumes nothing.
-use mathlib.Core.Path.{_≡_, refl, sym, ap, _∙_}
+use mathlib.Core.Path.{sym, _∙_}
 use Rattle.magnetar_sumcheck.specs.Round.{nextClaim}
 use Rattle.magnetar_sumcheck.specs.Capture.{nextTranscript, nextChallenge}
 use borrow.Author.Needs.{needs}

@@ -1,7 +1,7 @@
 -- `magnetar_sumcheck::engine::same` meets its contract.
 -- Assumes nothing.
 use Prim.Native.Nat.{_<_, _^_}
-use mathlib.Core.Path.{_≡_, sym}
+use mathlib.Core.Path.{sym}
 use native.Mathlib.Omega.{arith}
 use Rattle.magnetar_sumcheck.proofs.Horner.{differ, compared}
 use Rattle.magnetar_sumcheck.proofs.engine.same.Statement.{statement}

@@ -1,13 +1,12 @@
 -- `magnetar_sumcheck::public::drop_var` meets its contract.
 -- Assumes nothing.
 use denote.Ref.{now}
-use mathlib.Core.Path.{_≡_, refl, sym, ap, _∙_}
-use mathlib.Core.Bool.{Bool, true, false}
-use Prim.Native.Nat.{_<_, _^_, _*_, _/_}
+use mathlib.Core.Path.{sym, _∙_}
+use Prim.Native.Nat.{_<_, _^_}
 use native.Mathlib.Omega.{arith}
 use lib.ListN.{length}
 use borrow.Author.Tests.{not-true, not-false}
-use Rattle.magnetar_sumcheck.specs.Entries.{isTable, dropRefusal}
+use Rattle.magnetar_sumcheck.specs.Entries.{dropRefusal}
 use Rattle.magnetar_sumcheck.proofs.Refusals.{table-small}
 use Rattle.magnetar_sumcheck.proofs.EqFactor.{drop-out}
 use borrow.Author.Needs.{needs}

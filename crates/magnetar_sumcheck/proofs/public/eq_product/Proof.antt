@@ -1,14 +1,14 @@
 -- `magnetar_sumcheck::public::eq_product` meets its contract.
 -- Assumes nothing.
 use denote.Ref.{now}
-use mathlib.Core.Path.{_≡_, refl, sym, ap, _∙_}
-use Prim.Native.Nat.{_≤_, _-_, _*_, ℕ}
+use mathlib.Core.Path.{refl, sym, ap, _∙_}
+use Prim.Native.Nat.{_≤_, _-_, ℕ}
 use native.Mathlib.Omega.{arith}
-use lib.ListN.{length, getD}
+use lib.ListN.{getD}
 use Rattle.magnetar_field.specs.Gf128.{value}
 use Rattle.magnetar_field.specs.Words.{elements}
 use Rattle.magnetar_field.proofs.Elements.{elements-length}
-use Rattle.magnetar_sumcheck.specs.Order.{point, placeOf}
+use Rattle.magnetar_sumcheck.specs.Order.{point}
 use Rattle.magnetar_sumcheck.proofs.EqFactor.{Multiplied, multiplied-start, multiplied-more, multiplied-end, point-at, length-point}
 use borrow.Author.Needs.{needs}
 use Rattle.magnetar_sumcheck.proofs.public.eq_product.Statement.{statement}
