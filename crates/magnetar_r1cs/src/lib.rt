@@ -1,0 +1,2 @@
+// The lower half of the batch layer: sparse matrices, segment layouts, folds of a packed batch, and the plain row check.
+pub mod tests;
