@@ -1,1 +1,3 @@
+pub mod Noted
+pub mod EveryLaws
 pub mod MarkedRows

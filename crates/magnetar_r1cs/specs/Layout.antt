@@ -1,10 +1,10 @@
 -- The layout of the segments over the witness columns: each segment starts at the next multiple of its length.
 -- Assumes nothing.
-use mathlib.Core.Bool.{Bool, true, false, cond, not, _||_, _&&_}
+use mathlib.Core.Bool.{Bool, false, not, _||_, _&&_}
 use mathlib.Core.List.{List, [], _∷_}
-use Prim.Native.Nat.{ℕ, zero, suc, _+_, _-_, _*_, _/_}
-use lib.Dec.{eqb, ltb, leb}
-use lib.ListN.{length, getD, take, drop}
+use Prim.Native.Nat.{ℕ, _+_, _-_, _*_, _/_}
+use lib.Dec.{ltb, leb}
+use lib.ListN.{getD}
 use Rattle.magnetar_field.specs.Sizes.{log₂, powerOfTwo}
 
 -- the least multiple of n that is not below c
@@ -27,13 +27,9 @@ offsets ns = offsetsFrom 0 ns
 unfoldable pub layoutEnd : List ℕ → ℕ
 layoutEnd ns = endFrom 0 ns
 
--- no segment of w columns has the length n: zero, no power of two, or over w
-unfoldable pub badLength : ℕ → ℕ → Bool
-badLength w n = eqb n 0 || (ltb w n || not (powerOfTwo n))
-
-unfoldable pub someBadLength : ℕ → List ℕ → Bool
-someBadLength w [] = false
-someBadLength w (n ∷ ns) = badLength w n || someBadLength w ns
+-- a segment of w columns may have the length n: not zero, a power of two, and at most w
+unfoldable pub isLength : ℕ → ℕ → Bool
+isLength w n = ltb 0 n && (leb n w && powerOfTwo n)
 
 -- ---- the readings of segment i
 abbrev pub offset : List ℕ → ℕ → ℕ

@@ -1,4 +1,5 @@
 pub mod Sum
+pub mod Every
 pub mod Matrix
 pub mod Batch
 pub mod Packed

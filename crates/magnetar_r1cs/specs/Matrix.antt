@@ -1,7 +1,7 @@
 -- Sparse matrices over GF(2^128) as lists of entries (Spartan, 2: the matrices A, B, C of an R1CS instance, and their
 -- multilinear extensions). Entries at one place add up. Rows and columns are counted from 0.
 -- Assumes nothing.
-use mathlib.Core.Bool.{Bool, true, cond, _&&_}
+use mathlib.Core.Bool.{Bool, cond, _&&_}
 use mathlib.Core.List.{List, [], _∷_, map}
 use Prim.Native.Nat.{ℕ}
 use lib.Dec.{eqb, ltb, leb}
@@ -9,6 +9,7 @@ use lib.ListN.{getD}
 use Rattle.magnetar_field.specs.Gf128.{_⊕_, _⊗_}
 use Rattle.magnetar_field.specs.Tabulate.{tabulate}
 use Rattle.magnetar_field.specs.EqTable.{eqAt, eqTable}
+use Rattle.magnetar_r1cs.specs.Every.{every}
 
 pub record Entry : Type 0 where
   pub row : ℕ
@@ -59,15 +60,10 @@ mleAt m r c = sumOver (λ e. e .value ⊗ (eqAt r (e .row) ⊗ eqAt c (e .col)))
 unfoldable pub mleTable : Matrix → List ℕ → List ℕ
 mleTable m r = times (transpose m) (eqTable r)
 
--- p holds of each entry
-unfoldable pub everyEntry : (Entry → Bool) → List Entry → Bool
-everyEntry p [] = true
-everyEntry p (e ∷ es) = p e && everyEntry p es
-
 -- each value is 0 or 1
 unfoldable pub binary : Matrix → Bool
-binary m = everyEntry (λ e. ltb (e .value) 2) (m .entries)
+binary m = every (λ e. ltb (e .value) 2) (m .entries)
 
 -- each value is 0 or 1 and no column exceeds w, so that M z is 0 or 1 in each row where z is (bits, 1, ..) with w bits
 unfoldable pub bitValued : ℕ → Matrix → Bool
-bitValued w m = everyEntry (λ e. ltb (e .value) 2 && leb (e .col) w) (m .entries)
+bitValued w m = every (λ e. ltb (e .value) 2 && leb (e .col) w) (m .entries)

@@ -1,13 +1,14 @@
 -- The refusals 1 to 15 of document 01 as tests, each with its number. The first bad test gives the number of the refusal.
 -- Assumes nothing.
-use mathlib.Core.Bool.{Bool, true, not, cond, _&&_, _||_}
+use mathlib.Core.Bool.{Bool, not, cond, _&&_}
 use mathlib.Core.List.{List, [], _∷_, _++_}
 use Prim.Native.Nat.{ℕ, _*_, _-_}
-use lib.Dec.{eqb, ltb}
+use lib.Dec.{eqb, ltb, leb}
 use lib.ListN.{length}
 use Rattle.magnetar_field.specs.Sizes.{powerOfTwo}
+use Rattle.magnetar_r1cs.specs.Every.{every}
 use Rattle.magnetar_r1cs.specs.Lent.{Lent}
-use Rattle.magnetar_r1cs.specs.Layout.{someBadLength, layoutEnd}
+use Rattle.magnetar_r1cs.specs.Layout.{isLength, layoutEnd}
 use Rattle.magnetar_r1cs.specs.Packed.{loginWords}
 
 -- the number of a refusal, and whether it applies
@@ -23,21 +24,20 @@ abbrev pub noted : ℕ → Tests → ℕ
 noted a [] = a
 noted a (t ∷ l) = noted (note (t .0) (t .1) a) l
 
--- n is no power of two from least to most
-unfoldable pub badSize : ℕ → ℕ → ℕ → Bool
-badSize least most n = ltb n least || (ltb most n || not (powerOfTwo n))
+-- n is a power of two from least to most
+unfoldable pub isSize : ℕ → ℕ → ℕ → Bool
+isSize least most n = leb least n && (leb n most && powerOfTwo n)
 
 -- each number is below n
-unfoldable pub allBelow : ℕ → List ℕ → Bool
-allBelow n [] = true
-allBelow n (x ∷ xs) = ltb x n && allBelow n xs
+abbrev pub allBelow : ℕ → List ℕ → Bool
+allBelow n s = every (λ x. ltb x n) s
 
 -- 1: the columns m, and the logins q
 abbrev pub columnTests : ℕ → Tests
-columnTests m = (1, badSize 2 65536 m) ∷ []
+columnTests m = (1, not (isSize 2 65536 m)) ∷ []
 
 abbrev pub sizeTests : ℕ → ℕ → Tests
-sizeTests m q = (1, badSize 2 65536 m) ∷ (1, badSize 1 4096 q) ∷ []
+sizeTests m q = (1, not (isSize 2 65536 m)) ∷ (1, not (isSize 1 4096 q)) ∷ []
 
 -- 2: the packed words of q logins with w columns
 abbrev pub packedTests : ℕ → ℕ → List ℕ → Tests
@@ -49,10 +49,10 @@ publicTests m x = (3, not (eqb (length x) (m - 2))) ∷ []
 
 -- 4: the rows of a matrix, alone and for q logins
 abbrev pub rowTests : ℕ → Tests
-rowTests n = (4, badSize 1 65536 n) ∷ []
+rowTests n = (4, not (isSize 1 65536 n)) ∷ []
 
 abbrev pub rowsTests : ℕ → ℕ → Tests
-rowsTests q n = (4, badSize 1 65536 n) ∷ (4, ltb 1048576 (q * n)) ∷ []
+rowsTests q n = (4, not (isSize 1 65536 n)) ∷ (4, ltb 1048576 (q * n)) ∷ []
 
 -- 5: the columns of a matrix
 abbrev pub colsTests : ℕ → ℕ → Tests
@@ -75,7 +75,7 @@ placed a = placeTests (a .rows) (a .cols) (a .row) (a .col)
 
 -- 8, 9, 10: the layout over w columns
 abbrev pub layoutTests : ℕ → List ℕ → Tests
-layoutTests w ns = (8, someBadLength w ns) ∷ (9, ltb w (layoutEnd ns)) ∷ (10, ltb 64 (length ns)) ∷ []
+layoutTests w ns = (8, not (every (isLength w) ns)) ∷ (9, ltb w (layoutEnd ns)) ∷ (10, ltb 64 (length ns)) ∷ []
 
 -- 11: words that are not as many as wanted
 abbrev pub lengthTest : ℕ → List ℕ → Tests
