@@ -1,7 +1,7 @@
 -- The loop that tests each member of a list, the first one first.
 -- Assumes nothing.
 use mathlib.Core.Path.{_≡_, refl, _∙_}
-use mathlib.Core.Bool.{Bool, true, false, _&&_}
+use mathlib.Core.Bool.{Bool, true, false, _&&_, false≢true}
 use mathlib.Core.List.{List, [], _∷_}
 use Prim.Native.Nat.{ℕ, zero, suc, _+_, _≤_, _<_}
 use native.Mathlib.Nat.{le-of-suc-le-suc}
@@ -37,20 +37,23 @@ module _ {A : Type 0} (p : A → Bool) (d : A) (s : List A) (i : ℕ) where
       step : true ≡ every p (drop i s)
       step = rw (drop-of-length-le s h)
 
--- each member passes
-pub every-at : {A : Type 0} (p : A → Bool) (d : A) (s : List A) (i : ℕ) → i < length s → every p s ≡ true → p (getD s i d) ≡ true
-unfolding every
-every-at p d [] i h e = absurd (omega arith)
-every-at p d (x ∷ s) zero h e = first (p x) (every p s) e
-  where
-    first : (a b : Bool) → (a && b) ≡ true → a ≡ true
-    first true b e = refl
-    first false b e = e
-every-at p d (x ∷ s) (suc i) h e = every-at p d s i (le-of-suc-le-suc h) (second (p x) (every p s) e)
-  where
-    second : (a b : Bool) → (a && b) ≡ true → b ≡ true
-    second true b e = e
-    second false b e = absurd (no e)
-      where
-        no : false ≡ true → ⊥
-        no e = let z : _≡_ {A = ℕ} 0 1 = cc in omega arith
+-- ---- what a passed list says of its members
+both : (a b : Bool) → (a && b) ≡ true → (a ≡ true) × (b ≡ true)
+both true b e = (refl, e)
+both false b e = absurd (false≢true e)
+
+module _ {A : Type 0} (p : A → Bool) where
+  pub every-tail : (x : A) (s : List A) → every p (x ∷ s) ≡ true → every p s ≡ true
+  unfolding every
+  every-tail x s e = both (p x) (every p s) e .1
+
+  pub every-drop : (i : ℕ) (s : List A) → every p s ≡ true → every p (drop i s) ≡ true
+  every-drop zero s e = e
+  every-drop (suc i) [] e = e
+  every-drop (suc i) (x ∷ s) e = every-drop i s (every-tail x s e)
+
+  pub every-at : (d : A) (s : List A) (i : ℕ) → i < length s → every p s ≡ true → p (getD s i d) ≡ true
+  unfolding every
+  every-at d [] i h e = absurd (omega arith)
+  every-at d (x ∷ s) zero h e = both (p x) (every p s) e .0
+  every-at d (x ∷ s) (suc i) h e = every-at d s i (le-of-suc-le-suc h) (both (p x) (every p s) e .1)

@@ -1,3 +1,5 @@
 pub mod Noted
 pub mod EveryLaws
+pub mod SizeLaws
+pub mod Laid
 pub mod MarkedRows

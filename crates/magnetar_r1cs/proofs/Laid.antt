@@ -1,0 +1,123 @@
+-- The walk that lays the segments out: where it stands, and that it never goes back.
+-- Assumes nothing.
+use mathlib.Core.Path.{_≡_, refl, sym, ap, _∙_}
+use mathlib.Core.Bool.{Bool, true, false, _&&_}
+use mathlib.Core.List.{List, [], _∷_, _++_}
+use Prim.Native.Nat.{ℕ, zero, suc, _+_, _-_, _*_, _/_, _%_, _≤_, _<_}
+use native.Mathlib.Nat.{div-add-mod', mod-lt, le-refl, le-trans}
+use native.Mathlib.Numerals.{add-one}
+use native.Mathlib.Omega.{arith}
+use borrow.Author.Tests.{ltb-true, leb-true}
+use lib.Dec.{ltb, leb}
+use lib.ListN.{length, getD, take, drop, set, drop-of-length-le, length-append, length-take}
+use lib.Seq.{drop-cons, take-suc, set-at, append-snoc}
+use mathlib.Core.List.{append-assoc}
+use Rattle.magnetar_r1cs.specs.Every.{every}
+use Rattle.magnetar_r1cs.specs.Layout.{nextMultiple, offsetsFrom, endFrom, offsets, layoutEnd, isLength}
+use Rattle.magnetar_r1cs.proofs.EveryLaws.{every-at, every-tail, every-drop}
+
+-- ---- the next multiple
+module _ (c n : ℕ) (pos : 0 < n) where
+  pub next-least : c ≤ nextMultiple c n
+  unfolding nextMultiple
+  next-least = omega (arith, div-add-mod' (c + (n - 1)) n, mod-lt (c + (n - 1)) pos)
+
+  pub next-most : nextMultiple c n < c + n
+  unfolding nextMultiple
+  next-most = omega (arith, div-add-mod' (c + (n - 1)) n)
+
+-- ---- a length
+pub length-pos : (w n : ℕ) → isLength w n ≡ true → 0 < n
+unfolding isLength
+length-pos w n e = ltb-true 0 n (first (ltb 0 n) _ e)
+  where
+    first : (a b : Bool) → (a && b) ≡ true → a ≡ true
+    first true b e = refl
+    first false b e = e
+
+pub length-most : (w n : ℕ) → isLength w n ≡ true → n ≤ w
+unfolding isLength
+length-most w n e = leb-true n w (middle (ltb 0 n) (leb n w) _ e)
+  where
+    middle : (a b d : Bool) → (a && (b && d)) ≡ true → b ≡ true
+    middle true true d e = refl
+    middle true false d e = e
+    middle false true d e = refl
+    middle false false d e = e
+
+-- each length of a layout of w columns
+pub record Size (w n : ℕ) : Type 0 where
+  pub least : 0 < n
+  pub most : n ≤ w
+
+pub each-size : (w : ℕ) (ns : List ℕ) (i : ℕ) → every (isLength w) ns ≡ true → i < length ns → Size w (getD ns i 0)
+each-size w ns i e h =
+    let t = every-at (isLength w) 0 ns i h e in
+    record { least = length-pos w (getD ns i 0) t; most = length-most w (getD ns i 0) t }
+
+-- ---- the walk
+-- the end lies at c or later
+pub end-least : (w c : ℕ) (ns : List ℕ) → every (isLength w) ns ≡ true → c ≤ endFrom c ns
+unfolding endFrom
+end-least w c [] e = le-refl c
+end-least w c (n ∷ ns) e =
+    let p : 0 < n = length-pos w n (every-at (isLength w) 0 (n ∷ ns) 0 (omega arith) e) in
+    let l : c ≤ nextMultiple c n = next-least c n p in
+    let m : nextMultiple c n + n ≤ endFrom (nextMultiple c n + n) ns = end-least w (nextMultiple c n + n) ns (every-tail (isLength w) n ns e) in
+    omega (arith, l, m)
+
+-- after i segments the walk stands at c
+pub record Laid (ns : List ℕ) (c i : ℕ) : Type 0 where
+  pub ends : endFrom c (drop i ns) ≡ layoutEnd ns
+  pub places : offsetsFrom c (drop i ns) ≡ drop i (offsets ns)
+
+pub laid-start : (ns : List ℕ) → Laid ns 0 0
+unfolding layoutEnd offsets
+laid-start ns = record { ends = refl; places = refl }
+
+module _ (ns : List ℕ) (c i : ℕ) (l : Laid ns c i) (h : i < length ns) where
+  abbrev n : ℕ
+  n = getD ns i 0
+
+  unrolled : nextMultiple c n ∷ offsetsFrom (nextMultiple c n + n) (drop (suc i) ns) ≡ drop i (offsets ns)
+  unfolding offsetsFrom
+  unrolled = rw (drop-cons ns i 0) at (l .places)
+
+  pub laid-more : Laid ns (nextMultiple c n + n) (i + 1)
+  unfolding endFrom
+  laid-more = record {
+    ends = rw add-one (rw (drop-cons ns i 0) at (l .ends));
+    places = rw add-one (tail-of i (offsets ns) unrolled);
+  }
+    where
+      tail-of : {x : ℕ} {xs : List ℕ} (i : ℕ) (s : List ℕ) → x ∷ xs ≡ drop i s → xs ≡ drop (suc i) s
+      tail-of zero [] e = absurd (let z : _≡_ {A = ℕ} 0 1 = cc in omega arith)
+      tail-of zero (y ∷ s) e = cc
+      tail-of (suc i) [] e = absurd (let z : _≡_ {A = ℕ} 0 1 = cc in omega arith)
+      tail-of (suc i) (y ∷ s) e = tail-of i s e
+
+  pub laid-offset : nextMultiple c n ≡ getD (offsets ns) i 0
+  laid-offset = head-of i (offsets ns) unrolled
+    where
+      head-of : {x : ℕ} {xs : List ℕ} (i : ℕ) (s : List ℕ) → x ∷ xs ≡ drop i s → x ≡ getD s i 0
+      head-of zero [] e = absurd (let z : _≡_ {A = ℕ} 0 1 = cc in omega arith)
+      head-of zero (y ∷ s) e = cc
+      head-of (suc i) [] e = absurd (let z : _≡_ {A = ℕ} 0 1 = cc in omega arith)
+      head-of (suc i) (y ∷ s) e = head-of i s e
+
+offsets-from-length : (c : ℕ) (ns : List ℕ) → length (offsetsFrom c ns) ≡ length ns
+unfolding offsetsFrom
+offsets-from-length c [] = refl
+offsets-from-length c (n ∷ ns) = ap suc (offsets-from-length (nextMultiple c n + n) ns)
+
+pub offsets-length : (ns : List ℕ) → length (offsets ns) ≡ length ns
+unfolding offsets
+offsets-length ns = offsets-from-length 0 ns
+
+pub laid-end : (ns : List ℕ) (c i : ℕ) → Laid ns c i → length ns ≤ i → c ≡ layoutEnd ns
+unfolding endFrom
+laid-end ns c i l h = rw (drop-of-length-le ns h) at (l .ends)
+
+-- the walk never stands past the end
+pub laid-within : (w : ℕ) (ns : List ℕ) (c i : ℕ) → Laid ns c i → every (isLength w) ns ≡ true → c ≤ layoutEnd ns
+laid-within w ns c i l e = rw (l .ends) at (end-least w c (drop i ns) (every-drop (isLength w) i ns e))
