@@ -38,7 +38,7 @@ module _ {A : Type 0} (p : A → Bool) (d : A) (s : List A) (i : ℕ) where
       step = rw (drop-of-length-le s h)
 
 -- ---- what a passed list says of its members
-both : (a b : Bool) → (a && b) ≡ true → (a ≡ true) × (b ≡ true)
+pub both : (a b : Bool) → (a && b) ≡ true → (a ≡ true) × (b ≡ true)
 both true b e = (refl, e)
 both false b e = absurd (false≢true e)
 

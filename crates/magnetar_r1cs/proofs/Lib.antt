@@ -2,4 +2,5 @@ pub mod Noted
 pub mod EveryLaws
 pub mod SizeLaws
 pub mod Laid
+pub mod Readings
 pub mod MarkedRows

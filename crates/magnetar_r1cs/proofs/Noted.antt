@@ -8,6 +8,8 @@ use Prim.Native.Nat.{ℕ, zero, suc, _<_, _≤_, _*_}
 use native.Mathlib.Omega.{arith}
 use borrow.Author.Tests.{ne-eqb, ltb-true}
 use lib.Dec.{ltb}
+use Rattle.magnetar_field.specs.Refusal.{unlessRefused}
+use Rattle.magnetar_r1cs.proofs.EveryLaws.{both}
 use Rattle.magnetar_r1cs.specs.Tests.{Tests, note, noted}
 
 pub note-kept : (n : ℕ) (b : Bool) (z : ℕ) → (z ≡ 0 → ⊥) → note n b z ≡ z
@@ -40,12 +42,7 @@ abbrev pub numbered : Tests → Bool
 numbered [] = true
 numbered (t ∷ l) = ltb 0 (t .0) && numbered l
 
-both : (a b : Bool) → (a && b) ≡ true → (a ≡ true) × (b ≡ true)
-both true true e = (refl, refl)
-both true false e = (refl, e)
-both false b e = absurd (false≢true e)
-
-note-clear : (n : ℕ) (b : Bool) (z : ℕ) → ltb 0 n ≡ true → note n b z ≡ 0 → (z ≡ 0) × (b ≡ false)
+pub note-clear : (n : ℕ) (b : Bool) (z : ℕ) → ltb 0 n ≡ true → note n b z ≡ 0 → (z ≡ 0) × (b ≡ false)
 unfolding note
 note-clear n false zero p e = (refl, refl)
 note-clear n true zero p e = absurd (omega (arith, ltb-true 0 n p))
@@ -58,3 +55,11 @@ noted-clear z (t ∷ l) p e =
     let r = noted-clear (note (t .0) (t .1) z) l (q .1) e in
     let s = note-clear (t .0) (t .1) z (q .0) (r .0) in
     (s .0, (s .1, r .1))
+
+-- ---- what a call leaves
+module _ {A : Type 0} (n : ℕ) (new old : A) where
+  pub left-old : (n ≡ 0 → ⊥) → unlessRefused n new old ≡ old
+  left-old h = rw (ne-eqb n 0 h)
+
+  pub made-new : n ≡ 0 → unlessRefused n new old ≡ new
+  made-new h = rw h

@@ -6,16 +6,13 @@ use Prim.Native.Nat.{ℕ, _^_, _≤_}
 use lib.Dec.{leb}
 use borrow.Author.Tests.{leb-true, eqb-true, not-false}
 use Rattle.magnetar_field.specs.Sizes.{log₂, powerOfTwo}
+use Rattle.magnetar_r1cs.proofs.EveryLaws.{both}
 use Rattle.magnetar_r1cs.specs.Tests.{isSize}
 
 pub record Sized (least most n : ℕ) : Type 0 where
   pub low : least ≤ n
   pub high : n ≤ most
   pub power : n ≡ 2 ^ log₂ n
-
-both : (a b : Bool) → (a && b) ≡ true → (a ≡ true) × (b ≡ true)
-both true b e = (refl, e)
-both false b e = absurd (false≢true e)
 
 pub sized : (least most n : ℕ) → isSize least most n ≡ true → Sized least most n
 unfolding isSize

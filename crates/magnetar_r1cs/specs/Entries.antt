@@ -1,21 +1,23 @@
 -- The outcomes of the entries: which refusal applies, in rising order, and what each lent slice holds at exit.
 -- Assumes nothing.
-use mathlib.Core.Bool.{Bool, true, false, cond}
+use mathlib.Core.Bool.{Bool, true, false, cond, _&&_}
 use mathlib.Core.List.{List, [], _∷_, _++_}
 use Prim.Native.Nat.{ℕ, _+_, _*_, _-_, _^_}
 use lib.ListN.{length, take, drop, replicate, getD}
-use lib.Dec.{ltb}
+use lib.Dec.{eqb, ltb}
 use Rattle.magnetar_field.specs.Refusal.{unlessRefused}
 use Rattle.magnetar_field.specs.Sizes.{log₂}
 use Rattle.magnetar_field.specs.Words.{elements, words}
 use Rattle.magnetar_field.specs.Entries.{Answer, answered}
+use Rattle.magnetar_r1cs.specs.declared.layout.Reading.{Reading}
+use Rattle.magnetar_r1cs.specs.declared.layout.Reading.the-variants.{Number, NoSegment, Refused}
 use Rattle.magnetar_r1cs.specs.Sum.{blocks}
 use Rattle.magnetar_r1cs.specs.Matrix.{Matrix, times, mleTable, mleAt, binary, bitValued}
 use Rattle.magnetar_r1cs.specs.Batch.{assignment, folded}
 use Rattle.magnetar_r1cs.specs.Packed.{unpacked}
 use Rattle.magnetar_r1cs.specs.Layout.{offsets, offset}
 use Rattle.magnetar_r1cs.specs.Lent.{Lent, matrixOf}
-use Rattle.magnetar_r1cs.specs.Tests.{noted, columnTests, sizeTests, packedTests, publicTests, rowsTests, colsTests, counted, placed, layoutTests, lengthTest, roomTest, loneTests}
+use Rattle.magnetar_r1cs.specs.Tests.{noted, isSize, columnTests, sizeTests, packedTests, publicTests, rowsTests, colsTests, counted, placed, layoutTests, lengthTest, roomTest, loneTests}
 
 -- ---- `apply`: the matrix a, the vector z, the output out
 unfoldable pub applyRefusal : Lent → List ℕ → List ℕ → ℕ
@@ -89,6 +91,35 @@ buildRefusal w ns out = noted 0 (columnTests (2 * w) ++ layoutTests w ns ++ room
 
 abbrev pub buildOut : ℕ → List ℕ → List ℕ → List ℕ
 buildOut w ns out = unlessRefused (buildRefusal w ns out) (offsets ns ++ drop (length ns) out) out
+
+-- ---- the readings of a layout
+-- an answer as the number of its refusal (0: none), whether there is such a segment, and what was read of it
+pub record Read : Type 0 where
+  pub refusal : ℕ
+  pub present : Bool
+  pub number : ℕ
+
+abbrev pub read : Reading → Read
+read (Number n) = record { refusal = 0; present = true; number = n }
+read NoSegment = record { refusal = 0; present = false; number = 0 }
+read (Refused k) = record { refusal = k; present = false; number = 0 }
+
+-- there is a segment i, and the layout is not refused
+unfoldable pub isSegment : ℕ → List ℕ → ℕ → Bool
+isSegment w ns i = eqb (layoutRefusal w ns) 0 && ltb i (length ns)
+
+-- the number v, where there is a segment i
+abbrev pub readOf : ℕ → List ℕ → ℕ → ℕ → Read
+readOf w ns i v = record { refusal = layoutRefusal w ns; present = isSegment w ns i; number = cond (isSegment w ns i) v 0 }
+
+-- `witness_vars`
+unfoldable pub varsOf : ℕ → Read
+varsOf w =
+    record {
+      refusal = noted 0 (columnTests (2 * w));
+      present = isSize 2 65536 (2 * w);
+      number = cond (isSize 2 65536 (2 * w)) (log₂ w) 0;
+    }
 
 -- ---- `segment`: the part of the folded words v that segment i has, or an empty part
 unfoldable pub segmentRefusal : ℕ → List ℕ → List ℕ → ℕ

@@ -1,11 +1,13 @@
 -- The layout of the segments over the witness columns: each segment starts at the next multiple of its length.
 -- Assumes nothing.
-use mathlib.Core.Bool.{Bool, false, not, _||_, _&&_}
+use mathlib.Core.Path.{_≡_}
+use mathlib.Core.Bool.{Bool, true, false, not, _||_, _&&_}
 use mathlib.Core.List.{List, [], _∷_}
-use Prim.Native.Nat.{ℕ, _+_, _-_, _*_, _/_}
+use Prim.Native.Nat.{ℕ, _+_, _-_, _*_, _/_, _^_, _≤_}
 use lib.Dec.{ltb, leb}
 use lib.ListN.{getD}
 use Rattle.magnetar_field.specs.Sizes.{log₂, powerOfTwo}
+use Rattle.magnetar_r1cs.specs.Every.{every}
 
 -- the least multiple of n that is not below c
 unfoldable pub nextMultiple : ℕ → ℕ → ℕ
@@ -30,6 +32,13 @@ layoutEnd ns = endFrom 0 ns
 -- a segment of w columns may have the length n: not zero, a power of two, and at most w
 unfoldable pub isLength : ℕ → ℕ → Bool
 isLength w n = ltb 0 n && (leb n w && powerOfTwo n)
+
+-- the lengths of a layout in w columns, as the checks leave them
+pub record Sound (w : ℕ) (ns : List ℕ) : Type 0 where
+  pub small : w ≤ 32768
+  pub power : w ≡ 2 ^ log₂ w
+  pub lengths : every (isLength w) ns ≡ true
+  pub ends : layoutEnd ns ≤ w
 
 -- ---- the readings of segment i
 abbrev pub offset : List ℕ → ℕ → ℕ

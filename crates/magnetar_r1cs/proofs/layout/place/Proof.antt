@@ -37,7 +37,7 @@ shared-slice-read-n c = search needs
 next-multiple-requires : tie.Need-next-multiple-requires Inv-loop μ-loop
 next-multiple-requires c κs =
     let s = c .before .before .before .before in
-    let z = each-size _ _ (c .before .before .loop .i) (s .pre .1 .0) (omega arith) in
+    let z = each-size _ _ (c .before .before .loop .i) (s .pre .0 .lengths) (omega arith) in
     (z .least, omega arith, omega (arith, z .most))
 
 -- src/layout.rt:66:13
@@ -45,7 +45,7 @@ add-c : tie.Need-add-c Inv-loop μ-loop
 add-c c =
     let s = c .before .before .before .before .before in
     let l = c .before .before .before .loop in
-    let z = each-size _ _ (l .i) (s .pre .1 .0) (omega arith) in
+    let z = each-size _ _ (l .i) (s .pre .0 .lengths) (omega arith) in
     omega (arith, z .most, next-most (l .c) _ (z .least))
 
 -- src/layout.rt:67:9
@@ -62,7 +62,7 @@ loop-again c =
     let l = c .before .before .before .loop in
     let s = c .before .before .before .before .before in
     let next = rw (← c .next-multiple .ensures) at (laid-more _ _ _ (l .inv .2) (omega arith)) in
-    (omega arith, omega (arith, laid-within _ _ _ _ next (s .pre .1 .0)), next)
+    (omega arith, omega (arith, laid-within _ _ _ _ next (s .pre .0 .lengths)), next)
 
 -- src/layout.rt:69:22
 mul-next-multiple : tie.Need-mul-next-multiple Inv-loop μ-loop
@@ -76,7 +76,7 @@ shared-slice-read-next-multiple c = search needs
 next-multiple-requires-2 : tie.Need-next-multiple-requires-2 Inv-loop μ-loop
 next-multiple-requires-2 c κs =
     let s = c .before .before .before .before in
-    let z = each-size _ _ (s .args .k) (s .pre .1 .0) (omega arith) in
+    let z = each-size _ _ (s .args .k) (s .pre .0 .lengths) (omega arith) in
     (z .least, omega arith, omega (arith, z .most))
 
 -- src/layout.rt:55:1
