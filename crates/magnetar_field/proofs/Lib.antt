@@ -1,5 +1,8 @@
 pub mod Xor
 pub mod Product
+pub mod Reduction
+pub mod Shift
+pub mod Comb
 pub mod Square
 pub mod Order
 pub mod Norm

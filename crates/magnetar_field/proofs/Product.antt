@@ -29,7 +29,7 @@ sumTimes-⊕-l (suc n) b a a′ =
     ap₂ _⊕_ (digit-⊕ (b % 2) a a′ (mod-lt b two-pos)) (ap (λ (x : ℕ). sumTimes n x (b / 2)) (timesX-⊕ a a′) ∙ sumTimes-⊕-l n (b / 2) (timesX a) (timesX a′))
     ∙ ⊕-four _ _ _ _
 
-sumTimes-⊕-r : (n a : ℕ) → Additive (sumTimes n a)
+pub sumTimes-⊕-r : (n a : ℕ) → Additive (sumTimes n a)
 unfolding sumTimes
 sumTimes-⊕-r zero a b b′ = sym (⊕-self 0)
 sumTimes-⊕-r (suc n) a b b′ =

@@ -1,5 +1,6 @@
 pub mod Gf128
 pub mod Polynomial
+pub mod Residue
 pub mod Refusal
 pub mod Sizes
 pub mod Tabulate
