@@ -3,4 +3,6 @@ pub mod EveryLaws
 pub mod SizeLaws
 pub mod Laid
 pub mod Readings
+pub mod TableLaws
+pub mod Walk
 pub mod MarkedRows

@@ -10,7 +10,7 @@ use Rattle.magnetar_field.specs.Tabulate.{tabulate}
 use Rattle.magnetar_field.specs.Sizes.{log₂, halvings}
 use Rattle.magnetar_r1cs.specs.Sum.{sumBelow, blocks}
 use Rattle.magnetar_r1cs.specs.Every.{every}
-use Rattle.magnetar_r1cs.specs.Matrix.{Entry, Matrix, sumOver, timesAt, times, transpose, mleTable, bitValued}
+use Rattle.magnetar_r1cs.specs.Matrix.{Entry, Matrix, sumOver, rowTotal, share, timesAt, times, transpose, mleTable, bitValued}
 use Rattle.magnetar_r1cs.specs.Batch.{assignment, bitOf, foldedAt, folded}
 use Rattle.magnetar_r1cs.specs.Packed.{loginWords, packedBit, loginPart, unpacked}
 use Rattle.magnetar_r1cs.specs.Layout.{nextMultiple, offsetsFrom, endFrom, offsets, layoutEnd, isLength}
@@ -56,5 +56,5 @@ table =
 
 -- each case has the table's result
 pub marked : map (λ r. r .case) table ≡ map (λ r. r .result) table
-unfolding matrix table row _⊕_ _⊗_ timesX sumTimes eqTable eqAt eqFactor tabulate log₂ halvings sumBelow blocks sumOver timesAt times transpose mleTable every bitValued assignment bitOf foldedAt folded loginWords packedBit loginPart unpacked nextMultiple offsetsFrom endFrom offsets layoutEnd isLength note isSize packedTable layoutRefusal
+unfolding matrix table row _⊕_ _⊗_ timesX sumTimes eqTable eqAt eqFactor tabulate log₂ halvings sumBelow blocks sumOver rowTotal share timesAt times transpose mleTable every bitValued assignment bitOf foldedAt folded loginWords packedBit loginPart unpacked nextMultiple offsetsFrom endFrom offsets layoutEnd isLength note isSize packedTable layoutRefusal
 marked = refl

@@ -6,5 +6,6 @@ pub mod Packed
 pub mod Layout
 pub mod RowCheck
 pub mod Lent
+pub mod Table
 pub mod Tests
 pub mod Entries

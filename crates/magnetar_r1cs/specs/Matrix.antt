@@ -36,9 +36,17 @@ sumOver f (e ∷ es) = f e ⊕ sumOver f es
 unfoldable pub cell : Matrix → ℕ → ℕ → ℕ
 cell m i j = sumOver (λ e. cond (eqb (e .row) i && eqb (e .col) j) (e .value) 0) (m .entries)
 
--- row i of the product M z: the sum, over the entries of row i, of the value times z at the entry's column
+-- the sum of f over the entries of row i
+unfoldable pub rowTotal : (Entry → ℕ) → List Entry → ℕ → ℕ
+rowTotal f es i = sumOver (λ e. cond (eqb (e .row) i) (f e) 0) es
+
+-- an entry's share of the product with z: its value times z at its column
+unfoldable pub share : List ℕ → Entry → ℕ
+share z e = e .value ⊗ getD z (e .col) 0
+
+-- row i of the product M z: the sum of the shares of the entries of row i
 unfoldable pub timesAt : Matrix → List ℕ → ℕ → ℕ
-timesAt m z i = sumOver (λ e. cond (eqb (e .row) i) (e .value ⊗ getD z (e .col) 0) 0) (m .entries)
+timesAt m z i = rowTotal (share z) (m .entries) i
 
 -- the product M z
 unfoldable pub times : Matrix → List ℕ → List ℕ
