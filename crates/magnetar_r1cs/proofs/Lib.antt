@@ -3,6 +3,7 @@ pub mod EveryLaws
 pub mod SizeLaws
 pub mod Laid
 pub mod Readings
+pub mod Digits
 pub mod TableLaws
-pub mod Walk
+pub mod Walked
 pub mod MarkedRows

@@ -3,8 +3,9 @@
 use mathlib.Core.Path.{_≡_, refl, sym, ap, _∙_}
 use mathlib.Core.Bool.{Bool, true, false, cond}
 use mathlib.Core.List.{List, [], _∷_, _++_}
-use Prim.Native.Nat.{ℕ, zero, suc, _+_, _*_, _/_, _%_, _^_, _≤_, _<_}
+use Prim.Native.Nat.{ℕ, zero, suc, _+_, _-_, _*_, _/_, _%_, _^_, _≤_, _<_}
 use native.Mathlib.Nat.{le-of-suc-le-suc}
+use native.Mathlib.Numerals.{sub-one}
 use native.Mathlib.Omega.{arith}
 use lib.Dec.{eqb, ltb}
 use borrow.Author.Tests.{eqb-true, eqb-false, lt-ltb, le-ltb, ltb-true, ltb-false}
@@ -16,7 +17,10 @@ use Rattle.magnetar_field.specs.Tabulate.{tabulate}
 use Rattle.magnetar_field.specs.Words.{elements, words, stored}
 use Rattle.magnetar_field.proofs.Xor.{⊕-zero, zero-⊕, ⊕-assoc, ⊕-comm, ⊕-left-comm}
 use Rattle.magnetar_field.proofs.Elements.{elements-length, stored-out}
-use Rattle.magnetar_r1cs.specs.Table.{addedAt, raised}
+use Rattle.magnetar_field.proofs.Product.{⊗-one}
+use Rattle.magnetar_r1cs.specs.Packed.{packedBit}
+use Rattle.magnetar_r1cs.specs.Lent.{entry}
+use Rattle.magnetar_r1cs.specs.Table.{addedAt, raised, publicShare, bitShare}
 
 -- ---- the list of a function's values
 pub tabulate-length : {A : Type 0} (f : ℕ → A) (n : ℕ) → length (tabulate f n) ≡ n
@@ -127,3 +131,29 @@ pub raised-twice : (f g : ℕ → ℕ) (t : List ℕ) → raised g (raised f t) 
 raised-twice f g t =
     raised-is (λ i. f i ⊕ g i) t (raised g (raised f t)) (raised-length g (raised f t) ∙ raised-length f t)
     (λ i h. raised-get g (raised f t) i (rw raised-length h) ∙ rw (raised-get f t i h) (⊕-assoc (getD t i 0) (f i) (g i)))
+
+-- ---- the share of an entry, by its column
+module _ (w : ℕ) (x : List ℕ) (r c l h : ℕ) where
+  pub public-one : c ≡ w → h * 2 ^ 64 + l < 2 ^ 128 → h * 2 ^ 64 + l ≡ publicShare w x (entry r c l h)
+  unfolding publicShare
+  public-one e b =
+      let z : c - w ≡ 0 = omega arith in
+      rw (le-ltb c w (omega arith), z) (sym (⊗-one (h * 2 ^ 64 + l) b))
+
+  pub public-x : w < c → (h * 2 ^ 64 + l) ⊗ getD x (c - w - 1) 0 ≡ publicShare w x (entry r c l h)
+  unfolding publicShare
+  public-x b =
+      let z : c - w ≡ suc (c - w - 1) = omega arith in
+      rw (le-ltb c w (omega arith), z, sub-one)
+
+  pub public-none : c < w → 0 ≡ publicShare w x (entry r c l h)
+  unfolding publicShare
+  public-none b = rw (lt-ltb c w b)
+
+  pub bit-some : c < w → (h * 2 ^ 64 + l) ⊗ packedBit x c ≡ bitShare w x (entry r c l h)
+  unfolding bitShare
+  bit-some b = rw (lt-ltb c w b)
+
+  pub bit-none : w ≤ c → 0 ≡ bitShare w x (entry r c l h)
+  unfolding bitShare
+  bit-none b = rw (le-ltb c w b)

@@ -68,10 +68,14 @@ mleAt m r c = sumOver (λ e. e .value ⊗ (eqAt r (e .row) ⊗ eqAt c (e .col)))
 unfoldable pub mleTable : Matrix → List ℕ → List ℕ
 mleTable m r = times (transpose m) (eqTable r)
 
+-- the value is 0 or 1
+abbrev pub isBit : Entry → Bool
+isBit e = ltb (e .value) 2
+
 -- each value is 0 or 1
 unfoldable pub binary : Matrix → Bool
-binary m = every (λ e. ltb (e .value) 2) (m .entries)
+binary m = every isBit (m .entries)
 
 -- each value is 0 or 1 and no column exceeds w, so that M z is 0 or 1 in each row where z is (bits, 1, ..) with w bits
 unfoldable pub bitValued : ℕ → Matrix → Bool
-bitValued w m = every (λ e. ltb (e .value) 2 && leb (e .col) w) (m .entries)
+bitValued w m = every (λ e. isBit e && leb (e .col) w) (m .entries)

@@ -2,7 +2,7 @@
 -- Assumes nothing.
 use mathlib.Core.Bool.{cond}
 use mathlib.Core.List.{List, [], _∷_}
-use Prim.Native.Nat.{ℕ, _-_}
+use Prim.Native.Nat.{ℕ, _+_, _-_}
 use lib.Dec.{ltb}
 use lib.ListN.{length, getD, set}
 use mathlib.Core.Path.{_≡_}
@@ -26,6 +26,10 @@ publicShare w x e = cond (ltb (e .col) w) 0 (e .value ⊗ getD (1 ∷ x) (e .col
 -- its share that comes from the bits of a login's words ws
 unfoldable pub bitShare : ℕ → List ℕ → Entry → ℕ
 bitShare w ws e = cond (ltb (e .col) w) (e .value ⊗ packedBit ws (e .col)) 0
+
+-- an entry's value times the factors at its row, and at its column behind the n row factors
+unfoldable pub cross : List ℕ → ℕ → Entry → ℕ
+cross f n e = e .value ⊗ (getD f (e .row) 0 ⊗ getD f (n + e .col) 0)
 
 -- the four slices of a matrix's entries are equally long
 pub record Equal (r c l h : List ℕ) : Type 0 where

@@ -14,6 +14,8 @@ use lib.Seq.{drop-cons, drop-nil}
 use Rattle.magnetar_field.specs.Gf128.{_⊕_, _⊗_}
 use Rattle.magnetar_field.proofs.Xor.{⊕-zero, zero-⊕, ⊕-assoc, ⊕-four}
 use Rattle.magnetar_r1cs.specs.Matrix.{Entry, sumOver, rowTotal}
+use Rattle.magnetar_r1cs.specs.Every.{every}
+use Rattle.magnetar_r1cs.proofs.EveryLaws.{Left}
 use Rattle.magnetar_r1cs.specs.Lent.{entry, entriesOf}
 use Rattle.magnetar_r1cs.specs.Table.{addedAt, raised, Equal}
 use Rattle.magnetar_r1cs.proofs.TableLaws.{added-length, added-here, added-there, raised-is}
@@ -79,3 +81,34 @@ module _ (f : Entry → ℕ) (es : List Entry) (t₀ t : List ℕ) (i : ℕ) (k 
         where
           none : (a y : ℕ) → a ≡ a ⊕ rowTotal f [] y
           none a y = unfold rowTotal sumOver in sym (⊕-zero a)
+
+-- ---- the walk that sums
+-- what is left of the entries, added to the sum so far, gives the sum over all of them
+abbrev pub Summed : (Entry → ℕ) → List Entry → ℕ → ℕ → Type 0
+Summed f es sum i = sum ⊕ sumOver f (drop i es) ≡ sumOver f es
+
+pub summed-start : (f : Entry → ℕ) (es : List Entry) → Summed f es 0 0
+summed-start f es = zero-⊕ (sumOver f es)
+
+module _ (f : Entry → ℕ) (es : List Entry) (sum i : ℕ) (k : Summed f es sum i) where
+  pub summed-more : (e : Entry) → drop i es ≡ e ∷ drop (i + 1) es → Summed f es (sum ⊕ f e) (i + 1)
+  unfolding sumOver
+  summed-more e d = ⊕-assoc sum (f e) (sumOver f (drop (i + 1) es)) ∙ (rw d at k)
+
+  pub summed-end : drop i es ≡ [] → sum ≡ sumOver f es
+  unfolding sumOver
+  summed-end d = sym (⊕-zero sum) ∙ (rw d at k)
+
+-- ---- the walk that tests
+module _ (p : Entry → Bool) (es : List Entry) (i : ℕ) (k : Left p es i) where
+  pub tested-more : (e : Entry) → drop i es ≡ e ∷ drop (i + 1) es → p e ≡ true → Left p es (i + 1)
+  unfolding every
+  tested-more e d t = rw (d, t) at k
+
+  pub tested-not : (e : Entry) → drop i es ≡ e ∷ drop (i + 1) es → p e ≡ false → false ≡ every p es
+  unfolding every
+  tested-not e d t = rw (d, t) at k
+
+  pub tested-end : drop i es ≡ [] → true ≡ every p es
+  unfolding every
+  tested-end d = rw d at k
