@@ -8,10 +8,11 @@ use native.Mathlib.Nat.{le-of-suc-le-suc}
 use native.Mathlib.Numerals.{add-one}
 use native.Mathlib.Omega.{arith}
 use lib.Dec.{ltb, leb}
-use borrow.Author.Tests.{lt-ltb, le-ltb, leb-true, leb-false}
+use borrow.Author.Tests.{lt-ltb, le-ltb, leb-true, leb-false, ltb-true, ltb-false}
 use lib.ListN.{length, getD, set, take, drop, replicate, length-set, drop-of-length-le, List·getD-eq-default}
 use lib.Seq.{take-all, set-out}
-use lib.Pow.{low, high}
+use lib.Arith.{digits-lt}
+use lib.Pow.{low, high, split, pow-pos}
 use Rattle.magnetar_field.specs.Words.{elements, words, stored, overlaid}
 
 two-suc : (i : ℕ) → 2 * suc i ≡ suc (suc (2 * i))
@@ -98,3 +99,28 @@ copy-all i s d d′ h e = e ∙ go (leb (length s) (length d)) refl
 
 pub fill-all : (i n : ℕ) (d d′ : List ℕ) → d′ ≡ replicate i 0 ++ drop i d → length d ≡ i → n ≡ i → d′ ≡ replicate n 0
 fill-all i n d d′ e hd hn = rw (e, hn, drop-of-length-le d {i = i} (omega arith), append-nil)
+
+-- ---- elements of stored words
+pub elements-stored : (s : List ℕ) (i v : ℕ) → elements (stored s i v) ≡ set (elements s) i v
+unfolding stored
+elements-stored s i v = go (ltb i (length s / 2)) refl
+  where
+    go : (b : Bool) → ltb i (length s / 2) ≡ b → elements (cond b (set (set s (2 * i) (v % 2 ^ 64)) (2 * i + 1) (v / 2 ^ 64)) s) ≡ set (elements s) i v
+    go true e = elements-set s i (v % 2 ^ 64) (v / 2 ^ 64) (ltb-true _ _ e) ∙ ap (set (elements s) i) (split v 64)
+    go false e = sym (set-out (elements s) i v (rw elements-length (ltb-false i (length s / 2) e)))
+
+-- an element is below 2^128
+pub elements-below : (s : List ℕ) → ((i : ℕ) → getD s i 0 < 2 ^ 64) → (i : ℕ) → getD (elements s) i 0 < 2 ^ 128
+unfolding elements
+elements-below [] fit i = pow-pos 128
+elements-below (x ∷ []) fit i = pow-pos 128
+elements-below (x ∷ (y ∷ s)) fit zero = digits-lt (fit 1) (fit 0)
+elements-below (x ∷ (y ∷ s)) fit (suc i) = elements-below s (λ j. fit (suc (suc j))) i
+
+-- an even number of words, the front of a list of words, are those of their elements
+pub words-elements : (s t : List ℕ) → length s % 2 ≡ 0 → ((i : ℕ) → getD (s ++ t) i 0 < 2 ^ 64) → words (elements s) ≡ s
+unfolding words elements
+words-elements [] t even fit = refl
+words-elements (x ∷ []) t even fit = absurd (omega arith)
+words-elements (x ∷ (y ∷ s)) t even fit =
+    rw (low y 64 (fit 0), high y 64 (fit 0), words-elements s t (omega arith) (λ i. fit (suc (suc i))))

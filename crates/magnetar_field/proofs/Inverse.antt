@@ -1,24 +1,30 @@
--- Each element but 0 has an inverse, a^(2^128 - 2).
-use mathlib.Core.Path.{_≡_, refl, sym, ap, _∙_}
+-- Each element but 0 has an inverse, a^(2^128 - 2); so a product is 0 only where a factor is.
+-- Assumes nothing.
+use mathlib.Core.Path.{_≡_, refl, sym, ap, ap₂, _∙_}
 use mathlib.Core.Logic.{_≢_, _⊎_, inl, inr}
-use Prim.Native.Nat.{ℕ, _%_, _^_, _<_}
-use native.Mathlib.Nat.{mod-lt}
+use Prim.Native.Nat.{ℕ, zero, suc, _+_, _-_, _*_, _%_, _^_, _<_}
+use native.Mathlib.Nat.{mod-lt, pow-suc}
+use native.Mathlib.Omega.{arith}
+use lib.Dec.{lit<}
+use lib.Pow.{pow-pos}
 use native.Mathlib.Decide.{ℕ-discrete}
-use Rattle.magnetar_field.specs.Gf128.{_⊗_}
+use Rattle.magnetar_field.specs.Gf128.{_⊗_, power, inverse}
 use Rattle.magnetar_field.proofs.Xor.{bit-cases, two-pos}
 use Rattle.magnetar_field.proofs.Product.{⊗-comm, ⊗-assoc, ⊗-lt, ⊗-zero}
-use Rattle.magnetar_field.proofs.Square.{sq, sqs}
+use Rattle.magnetar_field.proofs.Square.{sq, sqs, sqs-suc}
+use Rattle.magnetar_field.proofs.Power.{power-lt, power-one, power-add, power-double}
 use Rattle.magnetar_field.proofs.Norm.{norm, ⊗-norm}
 use Rattle.magnetar_field.proofs.Polynomial.{Invertible, cancel-zero}
 use Rattle.magnetar_field.proofs.Order.{sqs-id}
 use Rattle.magnetar_field.proofs.Fixed.{sq-fixed}
 
-unfoldable pub inv : ℕ → ℕ
-inv a = sq (norm 127 a)
+-- a^(2^128 - 2), as the square of a^(2^127 - 1)
+fermat : ℕ → ℕ
+fermat a = sq (norm 127 a)
 
-⊗-inv : (a : ℕ) → a < 2 ^ 128 → a ⊗ inv a ≡ norm 128 a
-unfolding inv sq
-⊗-inv a h =
+⊗-fermat : (a : ℕ) → a < 2 ^ 128 → a ⊗ fermat a ≡ norm 128 a
+unfolding fermat sq
+⊗-fermat a h =
     sym (⊗-assoc a (norm 127 a) (norm 127 a)) ∙ ap (λ (x : ℕ). x ⊗ norm 127 a) (⊗-norm 127 a h) ∙ ⊗-comm (sqs 127 a) (norm 127 a)
     ∙ last
   where
@@ -32,24 +38,60 @@ norm-unit a h = ⊗-norm 128 a h ∙ sqs-id a h
 norm-sq : (a : ℕ) → a < 2 ^ 128 → sq (norm 128 a) ≡ norm 128 a
 unfolding sq
 norm-sq a h =
-    ap (λ (x : ℕ). x ⊗ norm 128 a) (sym (⊗-inv a h) ∙ ⊗-comm a (inv a)) ∙ ⊗-assoc (inv a) a (norm 128 a)
-    ∙ ap (λ (x : ℕ). inv a ⊗ x) (norm-unit a h) ∙ ⊗-comm (inv a) a ∙ ⊗-inv a h
+    ap (λ (x : ℕ). x ⊗ norm 128 a) (sym (⊗-fermat a h) ∙ ⊗-comm a (fermat a)) ∙ ⊗-assoc (fermat a) a (norm 128 a)
+    ∙ ap (λ (x : ℕ). fermat a ⊗ x) (norm-unit a h) ∙ ⊗-comm (fermat a) a ∙ ⊗-fermat a h
 
 norm-lt : (a : ℕ) → a < 2 ^ 128 → norm 128 a < 2 ^ 128
-norm-lt a h = rw (← ⊗-inv a h) (⊗-lt a (inv a))
+norm-lt a h = rw (← ⊗-fermat a h) (⊗-lt a (fermat a))
 
-pub inv-right : (a : ℕ) → a < 2 ^ 128 → a ≢ 0 → a ⊗ inv a ≡ 1
-inv-right a h n =
-    ⊗-inv a h ∙ bit-cases (λ (x : ℕ). norm 128 a ≡ x → norm 128 a ≡ 1)
+fermat-right : (a : ℕ) → a < 2 ^ 128 → a ≢ 0 → a ⊗ fermat a ≡ 1
+fermat-right a h n =
+    ⊗-fermat a h ∙ bit-cases (λ (x : ℕ). norm 128 a ≡ x → norm 128 a ≡ 1)
     (λ e. absurd (n (sym (norm-unit a h) ∙ ap (λ (x : ℕ). a ⊗ x) e ∙ ⊗-zero a))) (λ e. e)
     (norm 128 a % 2) (mod-lt (norm 128 a) two-pos) (sq-fixed (norm 128 a) (norm-lt a h) (norm-sq a h))
 
-pub inv-lt : (a : ℕ) → inv a < 2 ^ 128
-unfolding inv sq
-inv-lt a = ⊗-lt (norm 127 a) (norm 127 a)
+-- ---- as powers
+sqs-power : (n a : ℕ) → a < 2 ^ 128 → sqs n a ≡ power a (2 ^ n)
+unfolding sqs
+sqs-power zero a h = sym (power-one a h)
+sqs-power (suc n) a h =
+    let twice : 2 * 2 ^ n ≡ 2 ^ suc n = omega (arith, pow-suc 2 n) in
+    sqs-suc n a ∙ sq-power (sqs n a) (2 ^ n) (sqs-power n a h) ∙ ap (power a) twice
+  where
+    sq-power : (x k : ℕ) → x ≡ power a k → sq x ≡ power a (2 * k)
+    sq-power x k e = unfold sq in ap₂ _⊗_ e e ∙ sym (power-double a k)
 
+norm-power : (n a : ℕ) → a < 2 ^ 128 → norm n a ≡ power a (2 ^ n - 1)
+unfolding norm power
+norm-power zero a h = refl
+norm-power (suc n) a h =
+    let sum : 2 ^ n - 1 + 2 ^ n ≡ 2 ^ suc n - 1 = omega (arith, pow-suc 2 n, pow-pos n) in
+    ap₂ _⊗_ (norm-power n a h) (sqs-power n a h) ∙ sym (power-add a (2 ^ n - 1) (2 ^ n)) ∙ ap (power a) sum
+
+inverse-is : (a : ℕ) → a < 2 ^ 128 → inverse a ≡ fermat a
+unfolding inverse fermat sq
+inverse-is a h = power-double a (2 ^ 127 - 1) ∙ sym (ap₂ _⊗_ (norm-power 127 a h) (norm-power 127 a h))
+
+-- each element but 0 times its inverse is 1
+pub inverse-right : (a : ℕ) → a < 2 ^ 128 → a ≢ 0 → a ⊗ inverse a ≡ 1
+inverse-right a h n = ap (λ (x : ℕ). a ⊗ x) (inverse-is a h) ∙ fermat-right a h n
+
+pub inverse-lt : (a : ℕ) → inverse a < 2 ^ 128
+unfolding inverse
+inverse-lt a = power-lt a (2 ^ 128 - 2)
+
+-- and the inverse of 0 is 0
+pub inverse-zero : inverse 0 ≡ 0
+unfolding inverse
+inverse-zero = zero-power (2 ^ 128 - 2) (lit< tt)
+  where
+    zero-power : (k : ℕ) → 0 < k → power 0 k ≡ 0
+    zero-power zero h = absurd (omega arith)
+    zero-power (suc k) h = unfold power in ⊗-zero (power 0 k)
+
+-- ---- no zero divisors
 pub invertible : (a : ℕ) → a < 2 ^ 128 → a ≢ 0 → Invertible a
-invertible a h n = (inv a, ⊗-comm (inv a) a ∙ inv-right a h n)
+invertible a h n = (inverse a, ⊗-comm (inverse a) a ∙ inverse-right a h n)
 
 pub zero-product : (a b : ℕ) → a < 2 ^ 128 → b < 2 ^ 128 → a ⊗ b ≡ 0 → (a ≡ 0) ⊎ (b ≡ 0)
 zero-product a b ha hb e = go (ℕ-discrete a 0)

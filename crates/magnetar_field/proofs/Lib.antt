@@ -9,9 +9,15 @@ pub mod Norm
 pub mod Polynomial
 pub mod Bits
 pub mod Fixed
+pub mod Power
 pub mod Inverse
 pub mod Roots
 pub mod Collide
 pub mod Log2
 pub mod Mask
 pub mod Elements
+pub mod Tabulation
+pub mod EqTables
+pub mod Doublings
+pub mod Filling
+pub mod Refusals

@@ -9,6 +9,7 @@ use Rattle.magnetar_field.specs.declared.gf128.Evaluated.{Evaluated}
 use Rattle.magnetar_field.specs.declared.gf128.Evaluated.the-variants.{Value, Refused}
 use Rattle.magnetar_field.specs.Gf128.{value}
 use Rattle.magnetar_field.specs.Refusal.{refuse, unlessRefused}
+use Rattle.magnetar_field.specs.Sizes.{log₂}
 use Rattle.magnetar_field.specs.Words.{elements, words}
 use Rattle.magnetar_field.specs.EqTable.{eqBits, eqTable}
 use Rattle.magnetar_field.specs.Multilinear.{mle, bindVar}
@@ -55,9 +56,10 @@ abbrev pub mleScratch : List ℕ → List ℕ → List ℕ → List ℕ
 mleScratch t p s = unlessRefused (mleRefusal t p s) (replicate (length t) 0 ++ drop (length t) s) s
 
 -- ---- `bind_var`, `fold_pairs`: table t, variable v, element r
--- the table is no table of 2^n elements with a variable v
+-- the words are no table of 2^n elements, or v is none of its n variables
 unfoldable pub bindRefusal : List ℕ → ℕ → ℕ
-bindRefusal t v = 0
+bindRefusal t v =
+    refuse 11 (not (eqb (length t) (2 * 2 ^ log₂ (length t / 2))) || not (ltb v (log₂ (length t / 2)))) 0
 
 abbrev pub bindOut : List ℕ → ℕ → ℕ → List ℕ
 bindOut t v r = unlessRefused (bindRefusal t v) (words (bindVar v r (elements t)) ++ drop (length t / 2) t) t

@@ -6,5 +6,6 @@ pub mod Sizes
 pub mod Tabulate
 pub mod Words
 pub mod EqTable
+pub mod Doubling
 pub mod Multilinear
 pub mod Entries

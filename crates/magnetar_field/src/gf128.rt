@@ -60,6 +60,77 @@ pub fn mul(a: Gf128, b: Gf128) -> Gf128
     reduce256(clmul128(a, b))
 }
 
+pub fn square(a: Gf128) -> Gf128
+    ensures { λ r. ⌜ value r ≡ value a ⊗ value a ⌝ }
+{
+    mul(a, a)
+}
+
+// The inverse, a to the power 2^128 - 2; that of 0 is 0.
+pub fn inv(a: Gf128) -> Gf128
+    ensures { λ r. ⌜ value r ≡ inverse (value a) ⌝ }
+{
+    pow(a, 0xffff_ffff_ffff_fffe, 0xffff_ffff_ffff_ffff)
+}
+
+// a to the power k, of which the words are k_lo and k_hi.
+pub fn pow(a: Gf128, k_lo: u64, k_hi: u64) -> Gf128
+    ensures { λ r. ⌜ value r ≡ power (value a) («k_hi» * 2 ^ 64 + «k_lo») ⌝ }
+{
+    let start = Powers {
+        result: ONE,
+        base: a,
+    };
+    let low = pow_word(start, k_lo);
+    let high = pow_word(low, k_hi);
+    high.result
+}
+
+// ---- The power's parts.
+
+// A power so far, and the base of the powers to come.
+struct Powers {
+    result: Gf128,
+    base: Gf128,
+}
+
+// One bit of an exponent.
+fn pow_bit(p: Powers, bit: u64) -> Powers
+    requires { ⌜ (bit < 2) × (value (p .result) < 2 ^ 128) × (value (p .base) < 2 ^ 128) ⌝ }
+    ensures result { λ r. ⌜ value (r .result) ≡ value (p .result) ⊗ power (value (p .base)) bit ⌝ }
+    ensures base { λ r. ⌜ value (r .base) ≡ value (p .base) ⊗ value (p .base) ⌝ }
+{
+    let base = p.base;
+    let result = p.result;
+    let next = square(base);
+    if bit == 0 {
+        Powers { result, base: next }
+    } else {
+        let more = mul(result, base);
+        Powers {
+            result: more,
+            base: next,
+        }
+    }
+}
+
+// The 64 bits of a word of an exponent, the lowest first.
+fn pow_word(p: Powers, k: u64) -> Powers
+    requires { ⌜ (value (p .result) < 2 ^ 128) × (value (p .base) < 2 ^ 128) ⌝ }
+    ensures result { λ r. ⌜ value (r .result) ≡ value (p .result) ⊗ power (value (p .base)) k ⌝ }
+    ensures base { λ r. ⌜ value (r .base) ≡ power (value (p .base)) (2 ^ 64) ⌝ }
+{
+    let mut q = p;
+    let mut rest = k;
+    let mut i: u32 = 0;
+    while i < 64 {
+        q = pow_bit(q, rest % 2);
+        rest = rest / 2;
+        i += 1;
+    }
+    q
+}
+
 // ---- The product's parts.
 
 // A polynomial of degree below 256, as four words, the lowest first.

@@ -1,0 +1,21 @@
+-- `magnetar_field::eq::table_words` meets its contract.
+-- Assumes nothing.
+use native.Mathlib.Nat.{mod-eq-of-lt}
+use native.Mathlib.Omega.{arith}
+use lib.Pow.{pow-mono}
+use borrow.Author.Needs.{needs}
+use Rattle.magnetar_field.proofs.eq.table_words.Statement.{statement}
+use Rattle.magnetar_field.proofs.eq.table_words.Tie as tie
+use Rattle.magnetar_field.proofs.eq.table_words.Reads as reads
+use Rattle.magnetar_field.proofs.eq.table_words.Lts as lts
+
+-- src/eq.rt:75:5
+shl-result : tie.Need-shl-result
+shl-result c = search needs
+
+-- src/eq.rt:71:1
+returns : tie.Need-returns
+returns c = mod-eq-of-lt (omega (arith, pow-mono {i = c .args .n} {j = 62} (omega arith)))
+
+pub table-words-spec : {M : Type 1} → statement M
+table-words-spec = tie.close (tie.spec shl-result returns)
