@@ -5,5 +5,6 @@ pub mod Laid
 pub mod Readings
 pub mod Digits
 pub mod TableLaws
+pub mod Lone
 pub mod Walked
 pub mod MarkedRows

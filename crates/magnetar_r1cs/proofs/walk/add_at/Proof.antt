@@ -2,7 +2,7 @@
 -- Assumes nothing.
 use Rattle.magnetar_field.specs.Words.{elements}
 use Rattle.magnetar_r1cs.specs.Table.{addedAt}
-use Rattle.magnetar_r1cs.proofs.TableLaws.{elements-stored}
+use Rattle.magnetar_field.proofs.Elements.{elements-stored}
 use borrow.Author.Needs.{needs}
 use Rattle.magnetar_r1cs.proofs.walk.add_at.Statement.{statement}
 use Rattle.magnetar_r1cs.proofs.walk.add_at.Tie as tie
