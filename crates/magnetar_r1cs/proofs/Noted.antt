@@ -56,10 +56,14 @@ noted-clear z (t ∷ l) p e =
     let s = note-clear (t .0) (t .1) z (q .0) (r .0) in
     (s .0, (s .1, r .1))
 
--- ---- what a call leaves
-module _ {A : Type 0} (n : ℕ) (new old : A) where
-  pub left-old : (n ≡ 0 → ⊥) → unlessRefused n new old ≡ old
-  left-old h = rw (ne-eqb n 0 h)
+-- where the front gave none, the rest decides
+pub noted-late : (l k : Tests) (z y : ℕ) → z ≡ noted 0 l → z ≡ 0 → y ≡ noted 0 k → y ≡ noted 0 (l ++ k)
+noted-late l k z y e h f = f ∙ sym (noted-rest l k z e h)
 
-  pub made-new : n ≡ 0 → unlessRefused n new old ≡ new
-  made-new h = rw h
+-- ---- what a call leaves
+module _ {A : Type 0} {n m : ℕ} (new old : A) (e : n ≡ m) where
+  pub turned : (n ≡ 0 → ⊥) → old ≡ unlessRefused m new old
+  turned h = rw (← e, ne-eqb n 0 h)
+
+  pub done : n ≡ 0 → new ≡ unlessRefused m new old
+  done h = rw (← e, h)

@@ -2,7 +2,7 @@
 -- Assumes nothing.
 use mathlib.Core.Path.{_≡_, refl, sym, ap, _∙_}
 use mathlib.Core.Bool.{Bool, true, false, cond}
-use mathlib.Core.List.{List, [], _∷_, _++_}
+use mathlib.Core.List.{List, [], _∷_, _++_, append-nil}
 use Prim.Native.Nat.{ℕ, zero, suc, _+_, _-_, _*_, _/_, _%_, _^_, _≤_, _<_}
 use native.Mathlib.Nat.{le-of-suc-le-suc}
 use native.Mathlib.Numerals.{sub-one}
@@ -10,12 +10,13 @@ use native.Mathlib.Omega.{arith}
 use lib.Dec.{eqb, ltb}
 use borrow.Author.Tests.{eqb-true, eqb-false, lt-ltb, le-ltb, ltb-true, ltb-false}
 use lib.ListN.{length, getD, set, take, drop, replicate, length-set, length-append, length-replicate, getD-replicate}
-use lib.Seq.{set-out, set-getD, getD-set-same, getD-set-other, ext-getD}
+use lib.Seq.{set-out, set-getD, getD-set-same, getD-set-other, length-take-le}
 use lib.Pow.{split}
 use Rattle.magnetar_field.specs.Gf128.{_⊕_, _⊗_}
 use Rattle.magnetar_field.specs.Tabulate.{tabulate}
 use Rattle.magnetar_field.specs.Words.{elements, words}
 use Rattle.magnetar_field.proofs.Xor.{⊕-zero, zero-⊕, ⊕-assoc, ⊕-comm, ⊕-left-comm}
+use Rattle.magnetar_field.proofs.Elements.{words-elements}
 use Rattle.magnetar_field.proofs.Tabulation.{tabulate-length, tabulate-get, tabulate-of}
 use Rattle.magnetar_field.proofs.Product.{⊗-one}
 use Rattle.magnetar_r1cs.specs.Packed.{packedBit}
@@ -75,6 +76,22 @@ pub raised-zeros : (f : ℕ → ℕ) (n : ℕ) → raised f (replicate n 0) ≡ 
 raised-zeros f n =
     tabulate-of (raised f (replicate n 0)) f n 0 (raised-length f (replicate n 0) ∙ length-replicate n 0)
     (λ i h. raised-get f (replicate n 0) i (rw length-replicate h) ∙ rw (getD-replicate {A = ℕ} n i 0 0 h) (zero-⊕ (f i)))
+
+-- words that were cleared, and to which f was then added
+pub cleared-raised : (f : ℕ → ℕ) (s₀ s t : List ℕ) → length s₀ % 2 ≡ 0 → length t ≡ length s₀ → s ≡ replicate (length s₀) 0
+    → elements t ≡ raised f (elements s) → ((i : ℕ) → getD t i 0 < 2 ^ 64) → t ≡ words (tabulate f (length s₀ / 2))
+cleared-raised f s₀ s t even same cleared sum fit =
+    let n : length s₀ ≡ 2 * (length s₀ / 2) = omega arith in
+    let z : elements s ≡ replicate (length s₀ / 2) 0 = ap elements cleared ∙ (ap (λ (k : ℕ). elements (replicate k 0)) n ∙ elements-zero (length s₀ / 2)) in
+    sym (words-elements t [] (omega arith) (rw append-nil fit)) ∙ ap words (sum ∙ rw z (raised-zeros f (length s₀ / 2)))
+
+-- a table in front of the rest of what was lent
+pub in-front : (f : ℕ → ℕ) (n : ℕ) (out t : List ℕ) → 2 * n ≤ length out → t ≡ words (tabulate f (length (take (2 * n) out) / 2))
+    → t ++ drop (2 * n) out ≡ words (tabulate f n) ++ drop (2 * n) out
+in-front f n out t h e =
+    let l : length (take (2 * n) out) ≡ 2 * n = length-take-le (2 * n) out h in
+    let k : length (take (2 * n) out) / 2 ≡ n = omega arith in
+    rw (e, k)
 
 -- one after the other
 pub raised-twice : (f g : ℕ → ℕ) (t : List ℕ) → raised g (raised f t) ≡ raised (λ i. f i ⊕ g i) t

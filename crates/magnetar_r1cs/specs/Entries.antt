@@ -10,7 +10,11 @@ use Rattle.magnetar_field.specs.Sizes.{log₂}
 use Rattle.magnetar_field.specs.Words.{elements, words}
 use Rattle.magnetar_field.specs.Entries.{Answer, answered}
 use Rattle.magnetar_r1cs.specs.declared.layout.Reading.{Reading}
-use Rattle.magnetar_r1cs.specs.declared.layout.Reading.the-variants.{Number, NoSegment, Refused}
+use Rattle.magnetar_r1cs.specs.declared.layout.Reading.the-variants.{Number, NoSegment}
+use Rattle.magnetar_r1cs.specs.declared.layout.Reading.the-variants as reading
+use Rattle.magnetar_r1cs.specs.declared.r1cs.Flag.{Flag}
+use Rattle.magnetar_r1cs.specs.declared.r1cs.Flag.the-variants.{Yes, No}
+use Rattle.magnetar_r1cs.specs.declared.r1cs.Flag.the-variants as flag
 use Rattle.magnetar_r1cs.specs.Sum.{blocks}
 use Rattle.magnetar_r1cs.specs.Matrix.{Matrix, times, mleTable, mleAt, binary, bitValued}
 use Rattle.magnetar_r1cs.specs.Batch.{assignment, folded}
@@ -53,6 +57,19 @@ atAnswer a r c s = answered (atRefusal a r c s) (mleAt (matrixOf a) (elements r)
 abbrev pub atScratch : Lent → List ℕ → List ℕ → List ℕ → List ℕ
 atScratch a r c s =
     unlessRefused (atRefusal a r c s) (replicate (2 * (a .rows + a .cols)) 0 ++ drop (2 * (a .rows + a .cols)) s) s
+
+-- ---- an answer that is yes or no, as the number of its refusal (0: none) and the flag (no where it is refused)
+pub record Flagged : Type 0 where
+  pub refusal : ℕ
+  pub flag : Bool
+
+abbrev pub flagged : Flag → Flagged
+flagged Yes = record { refusal = 0; flag = true }
+flagged No = record { refusal = 0; flag = false }
+flagged (flag.Refused n) = record { refusal = n; flag = false }
+
+abbrev pub flaggedOf : ℕ → Bool → Flagged
+flaggedOf n b = record { refusal = n; flag = unlessRefused n b false }
 
 -- ---- `is_binary`: the matrix a
 unfoldable pub binaryRefusal : Lent → ℕ
@@ -102,7 +119,7 @@ pub record Read : Type 0 where
 abbrev pub read : Reading → Read
 read (Number n) = record { refusal = 0; present = true; number = n }
 read NoSegment = record { refusal = 0; present = false; number = 0 }
-read (Refused k) = record { refusal = k; present = false; number = 0 }
+read (reading.Refused k) = record { refusal = k; present = false; number = 0 }
 
 -- there is a segment i, and the layout is not refused
 unfoldable pub isSegment : ℕ → List ℕ → ℕ → Bool

@@ -10,7 +10,7 @@ use native.Mathlib.Omega.{arith}
 use borrow.Author.Tests.{ltb-false}
 use Rattle.magnetar_r1cs.specs.Tests.{note}
 use Rattle.magnetar_r1cs.specs.Entries.{buildRefusal, layoutRefusal}
-use Rattle.magnetar_r1cs.proofs.Noted.{note-clear, left-old, made-new}
+use Rattle.magnetar_r1cs.proofs.Noted.{note-clear, turned, done}
 use Rattle.magnetar_r1cs.proofs.Laid.{sound}
 use borrow.Author.Needs.{needs}
 use Rattle.magnetar_r1cs.proofs.layout.build.Statement.{statement}
@@ -33,7 +33,7 @@ note-requires c κs = search needs
 returns : tie.Need-returns
 returns c =
     let e = build-is _ _ _ _ _ (c .before .before .refusal .ensures) (c .before .note .ensures) in
-    (e, sym (left-old _ _ _ (λ h. c .if1 .taken (e ∙ h))))
+    (e, turned _ _ e (c .if1 .taken))
 
 -- src/layout.rt:99:5
 fill-requires : tie.Need-fill-requires
@@ -52,7 +52,7 @@ returns-2 c =
     let k = c .before .before .before .before in
     let x = k .before .before .before .before .before .args in
     let e : _≡_ {A = ℕ} 0 (buildRefusal (x .w) (now (x .lens)) (now (x .offsets))) = sym (c .before .before .before .before .if1 .left) ∙ build-is _ _ _ _ _ (k .before .before .refusal .ensures) (k .before .note .ensures) in
-    (e, c .before .before .fill .ensures ∙ sym (made-new _ _ _ (sym e)))
+    (e, c .before .before .fill .ensures ∙ done _ _ e refl)
 
 pub build-spec : {M : Type 1} → statement M
 build-spec =
