@@ -6,5 +6,6 @@ pub mod Readings
 pub mod Digits
 pub mod TableLaws
 pub mod Lone
+pub mod Points
 pub mod Walked
 pub mod MarkedRows

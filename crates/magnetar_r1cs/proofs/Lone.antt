@@ -71,3 +71,7 @@ sum-ext p f g [] t h = refl
 sum-ext p f g (e ∷ es) t h =
     let k = both (p e) (every p es) t in
     rw (h e (k .0), sum-ext p f g es (k .1) h)
+
+-- with rows and columns exchanged
+pub flipped : {r c l h : List ℕ} → Equal r c l h → Equal c r l h
+flipped e = record { col = sym (e .col); lo = e .lo ∙ sym (e .col); hi = e .hi ∙ sym (e .col) }

@@ -2,7 +2,7 @@
 -- Assumes nothing.
 use mathlib.Core.Path.{_≡_, refl, sym, ap, _∙_}
 use mathlib.Core.Bool.{Bool, true, false, cond}
-use mathlib.Core.List.{List, [], _∷_, _++_}
+use mathlib.Core.List.{List, [], _∷_, map}
 use Prim.Native.Nat.{ℕ, zero, suc, _+_, _*_, _^_, _≤_, _<_, suc-le-suc}
 use native.Mathlib.Nat.{le-of-suc-le-suc, le-trans, suc-inj}
 use native.Mathlib.Numerals.{add-one}
@@ -13,7 +13,7 @@ use lib.ListN.{length, getD, drop, drop-of-length-le}
 use lib.Seq.{drop-cons, drop-nil}
 use Rattle.magnetar_field.specs.Gf128.{_⊕_, _⊗_}
 use Rattle.magnetar_field.proofs.Xor.{⊕-zero, zero-⊕, ⊕-assoc, ⊕-four}
-use Rattle.magnetar_r1cs.specs.Matrix.{Entry, sumOver, rowTotal}
+use Rattle.magnetar_r1cs.specs.Matrix.{Entry, swapped, sumOver, rowTotal}
 use Rattle.magnetar_r1cs.specs.Every.{every}
 use Rattle.magnetar_r1cs.proofs.EveryLaws.{Left}
 use Rattle.magnetar_r1cs.specs.Lent.{entry, entriesOf}
@@ -46,6 +46,16 @@ entries-short (x ∷ r) (y ∷ c) (z ∷ l) (u ∷ h) = suc-le-suc (entries-shor
 
 pub entries-end : (r c l h : List ℕ) (i : ℕ) → length r ≤ i → drop i (entriesOf r c l h) ≡ []
 entries-end r c l h i b = drop-of-length-le (entriesOf r c l h) (le-trans (entries-short r c l h) b)
+
+-- with rows and columns exchanged
+pub entries-swapped : (r c l h : List ℕ) → entriesOf c r l h ≡ map swapped (entriesOf r c l h)
+unfolding entriesOf
+entries-swapped [] [] l h = refl
+entries-swapped [] (y ∷ c) l h = refl
+entries-swapped (x ∷ r) [] l h = refl
+entries-swapped (x ∷ r) (y ∷ c) [] h = refl
+entries-swapped (x ∷ r) (y ∷ c) (z ∷ l) [] = refl
+entries-swapped (x ∷ r) (y ∷ c) (z ∷ l) (u ∷ h) = ap (λ (es : List Entry). entry y x z u ∷ es) (entries-swapped r c l h)
 
 -- ---- the walk
 -- what is left of the entries, added to t, gives what all of them, added to t₀, give

@@ -2,12 +2,13 @@
 -- Assumes nothing.
 use mathlib.Core.Bool.{cond}
 use mathlib.Core.List.{List, [], _∷_}
-use Prim.Native.Nat.{ℕ, _+_, _-_}
+use Prim.Native.Nat.{ℕ, _+_, _-_, _%_, _≤_}
 use lib.Dec.{ltb}
 use lib.ListN.{length, getD, set}
 use mathlib.Core.Path.{_≡_}
 use Rattle.magnetar_field.specs.Gf128.{_⊕_, _⊗_}
 use Rattle.magnetar_field.specs.Tabulate.{tabulate}
+use Rattle.magnetar_field.specs.Entries.{tableWords}
 use Rattle.magnetar_r1cs.specs.Matrix.{Entry}
 use Rattle.magnetar_r1cs.specs.Packed.{packedBit}
 
@@ -36,3 +37,9 @@ pub record Equal (r c l h : List ℕ) : Type 0 where
   pub col : length c ≡ length r
   pub lo : length l ≡ length r
   pub hi : length h ≡ length r
+
+-- the words p are a point, and the words s have room for its eq table and no more
+pub record Point (p s : List ℕ) : Type 0 where
+  pub even : length p % 2 ≡ 0
+  pub short : length p ≤ 40
+  pub room : length s ≡ tableWords p
