@@ -9,8 +9,8 @@ use native.Mathlib.Numerals.{add-one}
 use native.Mathlib.Omega.{arith}
 use lib.Dec.{ltb, leb}
 use borrow.Author.Tests.{lt-ltb, le-ltb, leb-true, leb-false, ltb-true, ltb-false}
-use lib.ListN.{length, getD, set, take, drop, replicate, length-set, drop-of-length-le, List·getD-eq-default}
-use lib.Seq.{take-all, set-out}
+use lib.ListN.{length, getD, set, take, drop, replicate, length-set, length-drop, drop-of-length-le, List·getD-eq-default}
+use lib.Seq.{take-all, set-out, drop-nil, getD-drop}
 use lib.Arith.{digits-lt}
 use lib.Pow.{low, high, split, pow-pos}
 use Rattle.magnetar_field.specs.Words.{elements, words, stored, overlaid}
@@ -124,3 +124,31 @@ words-elements [] t even fit = refl
 words-elements (x ∷ []) t even fit = absurd (omega arith)
 words-elements (x ∷ (y ∷ s)) t even fit =
     rw (low y 64 (fit 0), high y 64 (fit 0), words-elements s t (omega arith) (λ i. fit (suc (suc i))))
+
+pub words-append : (us vs : List ℕ) → words (us ++ vs) ≡ words us ++ words vs
+unfolding words
+words-append [] vs = refl
+words-append (u ∷ us) vs = ap (λ (l : List ℕ). (u % 2 ^ 64) ∷ ((u / 2 ^ 64) ∷ l)) (words-append us vs)
+
+pub elements-drop : (k : ℕ) (s : List ℕ) → drop k (elements s) ≡ elements (drop (2 * k) s)
+unfolding elements
+elements-drop zero s = refl
+elements-drop (suc k) [] = rw two-suc
+elements-drop (suc k) (x ∷ []) = rw two-suc (ap elements (sym (drop-nil {A = ℕ} (suc (2 * k)))))
+elements-drop (suc k) (x ∷ (y ∷ s)) = rw two-suc (elements-drop k s)
+
+drop-fits : (k : ℕ) (s : List ℕ) → ((i : ℕ) → getD s i 0 < 2 ^ 64) → (i : ℕ) → getD (drop k s ++ []) i 0 < 2 ^ 64
+drop-fits k s fit i = rw (append-nil, getD-drop k s i 0) (fit (k + i))
+
+-- words whose elements are new ones and then, from element k on, those of s
+pub rejoin : (s last front : List ℕ) (k : ℕ) → length s % 2 ≡ 0 → length last ≡ length s → ((i : ℕ) → getD s i 0 < 2 ^ 64) → ((i : ℕ) → getD last i 0 < 2 ^ 64)
+    → elements last ≡ front ++ drop k (elements s) → last ≡ words front ++ drop (2 * k) s
+rejoin s last front k even same fit fit′ e =
+    let rest : words (elements (drop (2 * k) s)) ≡ drop (2 * k) s = words-elements (drop (2 * k) s) [] (rw length-drop (omega arith)) (drop-fits (2 * k) s fit) in
+    sym (words-elements last [] (omega arith) (drop-fits 0 last fit′)) ∙ ap words e ∙ words-append front (drop k (elements s))
+    ∙ ap (λ (l : List ℕ). words front ++ l) (ap words (elements-drop k s) ∙ rest)
+
+-- as many words as there are
+pub overlaid-same : (s d : List ℕ) → length d ≡ length s → overlaid s d ≡ s
+unfolding overlaid
+overlaid-same s d e = rw (take-all (length d) s (omega arith), drop-of-length-le d {i = length s} (omega arith), append-nil)

@@ -21,3 +21,7 @@ pub mod EqTables
 pub mod Doublings
 pub mod Filling
 pub mod Refusals
+pub mod Making
+pub mod Extension
+pub mod Bound
+pub mod Evaluating

@@ -82,3 +82,11 @@ log₂-lt (suc n) h = small (log₂ (suc n)) (log₂-is (suc n) (omega arith) h 
   where
     small : (k : ℕ) → 2 ^ k ≤ suc n → k < 64
     small k l = lt-of-not-le (λ b. omega (arith, pow-mono {i = 64} {j = k} b, h))
+
+-- the number of variables of a table that half n words hold
+pub log₂-half : (n : ℕ) → n < 2 ^ 64 → log₂ (n / 2) < 63
+log₂-half n h = go (n / 2) (omega arith)
+  where
+    go : (m : ℕ) → m < 2 ^ 63 → log₂ m < 63
+    go zero l = let e : log₂ 0 ≡ 0 = unfold log₂ in halvings-end 64 0 (omega arith) in omega (arith, e)
+    go (suc m) l = lt-of-not-le (λ b. omega (arith, pow-mono {i = 63} {j = log₂ (suc m)} b, log₂-is (suc m) (omega arith) (omega arith) .least))

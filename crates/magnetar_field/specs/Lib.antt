@@ -8,4 +8,5 @@ pub mod Words
 pub mod EqTable
 pub mod Doubling
 pub mod Multilinear
+pub mod Binding
 pub mod Entries

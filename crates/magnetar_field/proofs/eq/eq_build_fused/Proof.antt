@@ -11,53 +11,40 @@ use Rattle.magnetar_field.proofs.Refusals.{eq-odd, eq-long, eq-short, e
 use borrow.Author.Needs.{needs}
 use Rattle.magnetar_field.proofs.eq.eq_build_fused.Statement.{statement}
 use Rattle.magnetar_field.proofs.eq.eq_build_fused.Tie as tie
-use Rattle.magnetar_field.proofs.eq.eq_build_fused.Reads as reads
-use Rattle.magnetar_field.proofs.eq.eq_build_fused.Lts as lts
-use Rattle.magnetar_field.proofs.eq.fill.Reads as fill-reads
-use Rattle.magnetar_field.proofs.eq.table_words.Reads as table-words-reads
 
--- src/eq.rt:56:9
 returns : tie.Need-returns
 returns c =
     let x = c .before .before .before .args in
     let e = eq-odd (now (x .point)) (now (x .out)) (omega arith) in
     (rw e, rw e)
 
--- src/eq.rt:59:9
 returns-2 : tie.Need-returns-2
 returns-2 c =
     let x = c .before .before .before .before .args in
     let e = eq-long (now (x .point)) (now (x .out)) (omega arith) (omega arith) in
     (rw e, rw e)
 
--- src/eq.rt:62:9
 table-words-requires : tie.Need-table-words-requires
 table-words-requires c κs = search needs
 
--- src/eq.rt:64:9
 returns-3 : tie.Need-returns-3
 returns-3 c =
     let x = c .before .before .before .before .before .before .args in
     let e = eq-short (now (x .point)) (now (x .out)) (omega arith) (omega arith) (omega arith) in
     (rw e, rw e)
 
--- src/eq.rt:66:17
 slice-relend-prefix-fill : tie.Need-slice-relend-prefix-fill
 slice-relend-prefix-fill c = search needs
 
--- src/eq.rt:66:17
 slice-aggregate-fill : tie.Need-slice-aggregate-fill
 slice-aggregate-fill c = rw length-take (omega arith)
 
--- src/eq.rt:66:5
 fill-requires : tie.Need-fill-requires
 fill-requires c κs = (omega arith, omega arith, rw length-take (omega arith))
 
--- src/eq.rt:51:1
 same-length : tie.Need-same-length
 same-length c = search needs
 
--- src/eq.rt:51:1
 returns-4 : tie.Need-returns-4
 returns-4 c =
     let x = c .before .before .before .before .before .before .before .before .before .before .args in

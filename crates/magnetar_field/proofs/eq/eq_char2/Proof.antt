@@ -5,20 +5,14 @@ use Rattle.magnetar_field.specs.EqTable.{eqFactor}
 use borrow.Author.Needs.{needs}
 use Rattle.magnetar_field.proofs.eq.eq_char2.Statement.{statement}
 use Rattle.magnetar_field.proofs.eq.eq_char2.Tie as tie
-use Rattle.magnetar_field.proofs.eq.eq_char2.Reads as reads
-use Rattle.magnetar_field.proofs.eq.eq_char2.Lts as lts
-use Rattle.magnetar_field.proofs.gf128.add.Reads as add-reads
 
--- src/eq.rt:19:23
 add-requires : tie.Need-add-requires
 add-requires c κs = search needs
 
--- src/eq.rt:16:1
 returns : tie.Need-returns
 unfolding eqFactor
 returns c = rw (c .if1 .taken)
 
--- src/eq.rt:16:1
 returns-2 : tie.Need-returns-2
 unfolding eqFactor
 returns-2 c = c .add .ensures ∙ rw (c .before .if1 .left)

@@ -13,11 +13,6 @@ use Rattle.magnetar_field.proofs.EqTables.{eqBits-none, eqBits-more}
 use borrow.Author.Needs.{needs}
 use Rattle.magnetar_field.proofs.eq.eq_product.Statement.{statement}
 use Rattle.magnetar_field.proofs.eq.eq_product.Tie as tie
-use Rattle.magnetar_field.proofs.eq.eq_product.Reads as reads
-use Rattle.magnetar_field.proofs.eq.eq_product.Lts as lts
-use Rattle.magnetar_field.proofs.eq.eq_char2.Reads as eq-char2-reads
-use Rattle.magnetar_field.proofs.gf128.mul.Reads as mul-reads
-use Rattle.magnetar_field.proofs.words.get.Reads as get-reads
 
 abbrev Inv-loop : tie.InvT-loop
 Inv-loop point bits n acc₀ j₀ acc j = (j ≤ n) × (value acc ≡ eqBits (drop j (elements point)) (drop j bits))
@@ -25,35 +20,27 @@ Inv-loop point bits n acc₀ j₀ acc j = (j ≤ n) × (value acc ≡ eqBits (dr
 abbrev μ-loop : tie.MeasureT-loop
 μ-loop point bits n acc₀ j₀ acc j = j
 
--- src/eq.rt:85:5
 loop-holds : tie.Need-loop-holds Inv-loop μ-loop
 loop-holds c = (search needs, sym (eqBits-none _ _ _ (rw elements-length (omega arith)) (c .before .before .pre .1)))
 
--- src/eq.rt:86:9
 sub-j : tie.Need-sub-j Inv-loop μ-loop
 sub-j c = search needs
 
--- src/eq.rt:87:35
 get-requires : tie.Need-get-requires Inv-loop μ-loop
 get-requires c κs = search needs
 
--- src/eq.rt:87:57
 shared-slice-read-eq-char2 : tie.Need-shared-slice-read-eq-char2 Inv-loop μ-loop
 shared-slice-read-eq-char2 c = search needs
 
--- src/eq.rt:87:26
 eq-char2-requires : tie.Need-eq-char2-requires Inv-loop μ-loop
 eq-char2-requires c κs = search needs
 
--- src/eq.rt:87:9
 mul-requires : tie.Need-mul-requires Inv-loop μ-loop
 mul-requires c κs = search needs
 
--- src/eq.rt:85:5
 loop-less : tie.Need-loop-less Inv-loop μ-loop
 loop-less c = search needs
 
--- src/eq.rt:85:5
 loop-again : tie.Need-loop-again Inv-loop μ-loop
 loop-again c =
     let l = c .before .before .before .before .before .loop in
@@ -61,7 +48,6 @@ loop-again c =
     let g = eqBits-more (elements (now (x .args .point))) (now (x .args .bits)) (l .j) (value (l .acc)) (omega arith) (rw elements-length (omega arith)) (omega arith) (l .inv .1) in
     (search needs, rw (c .mul .ensures, c .before .eq-char2 .ensures, c .before .before .before .get .ensures) g)
 
--- src/eq.rt:79:1
 returns : tie.Need-returns Inv-loop μ-loop
 returns c =
     let l = c .before .loop in

@@ -6,27 +6,20 @@ use Rattle.magnetar_field.proofs.Refusals.{bits-other, bits-none}
 use borrow.Author.Needs.{needs}
 use Rattle.magnetar_field.proofs.eq.eq_table.Statement.{statement}
 use Rattle.magnetar_field.proofs.eq.eq_table.Tie as tie
-use Rattle.magnetar_field.proofs.eq.eq_table.Reads as reads
-use Rattle.magnetar_field.proofs.eq.eq_table.Lts as lts
-use Rattle.magnetar_field.proofs.eq.eq_product.Reads as eq-product-reads
 
--- src/eq.rt:28:9
 returns : tie.Need-returns
 returns c =
     let x = c .before .before .before .args in
     rw (bits-other (now (x .point)) (now (x .bits)) (λ e. omega arith))
 
--- src/eq.rt:32:9
 returns-2 : tie.Need-returns-2
 returns-2 c =
     let x = c .before .before .before .before .args in
     rw (bits-other (now (x .point)) (now (x .bits)) (λ e. omega arith))
 
--- src/eq.rt:34:22
 eq-product-requires : tie.Need-eq-product-requires
 eq-product-requires c κs = search needs
 
--- src/eq.rt:24:1
 returns-3 : tie.Need-returns-3
 returns-3 c =
     let x = c .before .before .before .before .before .args in

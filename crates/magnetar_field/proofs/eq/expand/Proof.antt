@@ -12,9 +12,6 @@ use Rattle.magnetar_field.proofs.Doublings.{Split, split-none, split-mo
 use borrow.Author.Needs.{needs}
 use Rattle.magnetar_field.proofs.eq.expand.Statement.{statement}
 use Rattle.magnetar_field.proofs.eq.expand.Tie as tie
-use Rattle.magnetar_field.proofs.eq.expand.Reads as reads
-use Rattle.magnetar_field.proofs.eq.expand.Lts as lts
-use Rattle.magnetar_field.proofs.eq.split_entry.Reads as split-entry-reads
 
 abbrev Inv-loop : tie.InvT-loop
 Inv-loop out₀ m r i₀ out i = (i ≤ m) × (length out ≡ length out₀) × Split m (value r) (elements out₀) (elements out) i
@@ -22,23 +19,18 @@ Inv-loop out₀ m r i₀ out i = (i ≤ m) × (length out ≡ length out₀) × 
 abbrev μ-loop : tie.MeasureT-loop
 μ-loop out₀ m r i₀ out i = i
 
--- src/eq.rt:109:5
 loop-holds : tie.Need-loop-holds Inv-loop μ-loop
 loop-holds c = (search needs, refl, split-none _ _ _)
 
--- src/eq.rt:110:9
 sub-i : tie.Need-sub-i Inv-loop μ-loop
 sub-i c = search needs
 
--- src/eq.rt:111:9
 split-entry-requires : tie.Need-split-entry-requires Inv-loop μ-loop
 split-entry-requires c κs = search needs
 
--- src/eq.rt:109:5
 loop-less : tie.Need-loop-less Inv-loop μ-loop
 loop-less c = search needs
 
--- src/eq.rt:109:5
 loop-again : tie.Need-loop-again Inv-loop μ-loop
 loop-again c =
     let l = c .before .before .before .before .before .loop in
@@ -47,11 +39,9 @@ loop-again c =
     let same : length (elements (l .out)) ≡ length (elements (now (s .args .out))) = rw (elements-length, elements-length) (ap (λ (n : ℕ). n / 2) (l .inv .1)) in
     (search needs, search needs, rw (c .before .before .split-entry .ensures) (split-more _ _ _ _ _ (omega arith) (omega arith) room same (l .inv .2)))
 
--- src/eq.rt:104:1
 same-length : tie.Need-same-length Inv-loop μ-loop
 same-length c = search needs
 
--- src/eq.rt:104:1
 returns : tie.Need-returns Inv-loop μ-loop
 returns c = split-all _ _ _ _ _ (c .loop-test .left) (c .before .loop .inv .2)
 

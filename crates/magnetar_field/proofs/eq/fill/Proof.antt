@@ -12,11 +12,6 @@ use Rattle.magnetar_field.proofs.Filling.{Filled, room, filled-start, f
 use borrow.Author.Needs.{needs}
 use Rattle.magnetar_field.proofs.eq.fill.Statement.{statement}
 use Rattle.magnetar_field.proofs.eq.fill.Tie as tie
-use Rattle.magnetar_field.proofs.eq.fill.Reads as reads
-use Rattle.magnetar_field.proofs.eq.fill.Lts as lts
-use Rattle.magnetar_field.proofs.eq.expand.Reads as expand-reads
-use Rattle.magnetar_field.proofs.words.get.Reads as get-reads
-use Rattle.magnetar_field.proofs.words.put.Reads as put-reads
 
 abbrev Inv-loop : tie.InvT-loop
 Inv-loop point out₀ n j₀ m₀ out j m = (j ≤ n) × (length out ≡ 2 * 2 ^ n) × Filled n (elements point) (elements out) m j
@@ -28,37 +23,29 @@ enough : (c : tie.In-loop Inv-loop μ-loop)
     → 2 * c .before .loop .m ≤ 2 ^ c .before .before .before .before .before .before .before .before .args .n
 enough c = let l = c .before .loop in room _ (l .m) (l .j) (c .loop-test .taken) (l .inv .0) (l .inv .2 .size)
 
--- src/eq.rt:120:5
 put-requires : tie.Need-put-requires Inv-loop μ-loop
 put-requires c κs = search needs
 
--- src/eq.rt:123:5
 loop-holds : tie.Need-loop-holds Inv-loop μ-loop
 loop-holds c =
     let x = c .before .before .before .before .before .before .args in
     (search needs, search needs, filled-start _ _ (elements (now (x .out))) _ (ap elements (c .before .before .put .ensures) ∙ elements-stored _ _ _) (rw elements-length (omega arith)) (rw elements-length (omega (arith, pow-pos (x .n)))))
 
--- src/eq.rt:124:9
 sub-j : tie.Need-sub-j Inv-loop μ-loop
 sub-j c = search needs
 
--- src/eq.rt:125:24
 get-requires : tie.Need-get-requires Inv-loop μ-loop
 get-requires c κs = search needs
 
--- src/eq.rt:125:9
 expand-requires : tie.Need-expand-requires Inv-loop μ-loop
 expand-requires c κs = omega (arith, enough (c .before .before))
 
--- src/eq.rt:126:13
 mul-m : tie.Need-mul-m Inv-loop μ-loop
 mul-m c = omega (arith, enough (c .before .before .before .before .before))
 
--- src/eq.rt:123:5
 loop-less : tie.Need-loop-less Inv-loop μ-loop
 loop-less c = search needs
 
--- src/eq.rt:123:5
 loop-again : tie.Need-loop-again Inv-loop μ-loop
 loop-again c = (
   search needs,
@@ -66,11 +53,9 @@ loop-again c = (
   filled-more _ _ _ _ _ _ (rw elements-length (omega arith)) (omega arith) (omega arith) (c .before .before .before .before .before .before .loop .inv .2) (cc),
 )
 
--- src/eq.rt:116:1
 same-length : tie.Need-same-length Inv-loop μ-loop
 same-length c = search needs
 
--- src/eq.rt:116:1
 returns : tie.Need-returns Inv-loop μ-loop
 returns c = filled-end _ _ _ _ _ (rw elements-length (omega arith)) (c .loop-test .left) (c .before .loop .inv .2)
 

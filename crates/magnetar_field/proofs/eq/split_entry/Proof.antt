@@ -4,50 +4,34 @@ use Rattle.magnetar_field.proofs.Elements.{elements-stored}
 use borrow.Author.Needs.{needs}
 use Rattle.magnetar_field.proofs.eq.split_entry.Statement.{statement}
 use Rattle.magnetar_field.proofs.eq.split_entry.Tie as tie
-use Rattle.magnetar_field.proofs.eq.split_entry.Reads as reads
-use Rattle.magnetar_field.proofs.eq.split_entry.Lts as lts
-use Rattle.magnetar_field.proofs.gf128.add.Reads as add-reads
-use Rattle.magnetar_field.proofs.gf128.mul.Reads as mul-reads
-use Rattle.magnetar_field.proofs.words.get.Reads as get-reads
-use Rattle.magnetar_field.proofs.words.put.Reads as put-reads
 
--- src/eq.rt:97:9
 get-requires : tie.Need-get-requires
 get-requires c κs = search needs
 
--- src/eq.rt:98:9
 mul-requires : tie.Need-mul-requires
 mul-requires c κs = search needs
 
--- src/eq.rt:99:21
 mul-put : tie.Need-mul-put
 mul-put c = search needs
 
--- src/eq.rt:99:28
 add-requires : tie.Need-add-requires
 add-requires c κs = search needs
 
--- src/eq.rt:99:5
 put-requires : tie.Need-put-requires
 put-requires c κs = search needs
 
--- src/eq.rt:100:21
 mul-put-2 : tie.Need-mul-put-2
 mul-put-2 c = search needs
 
--- src/eq.rt:100:21
 add-put : tie.Need-add-put
 add-put c = search needs
 
--- src/eq.rt:100:5
 put-requires-2 : tie.Need-put-requires-2
 put-requires-2 c κs = search needs
 
--- src/eq.rt:93:1
 same-length : tie.Need-same-length
 same-length c = search needs
 
--- src/eq.rt:93:1
 returns : tie.Need-returns
 returns c =
     let p2 = c .before .before in

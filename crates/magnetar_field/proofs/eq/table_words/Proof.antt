@@ -6,14 +6,10 @@ use lib.Pow.{pow-mono}
 use borrow.Author.Needs.{needs}
 use Rattle.magnetar_field.proofs.eq.table_words.Statement.{statement}
 use Rattle.magnetar_field.proofs.eq.table_words.Tie as tie
-use Rattle.magnetar_field.proofs.eq.table_words.Reads as reads
-use Rattle.magnetar_field.proofs.eq.table_words.Lts as lts
 
--- src/eq.rt:75:5
 shl-result : tie.Need-shl-result
 shl-result c = search needs
 
--- src/eq.rt:71:1
 returns : tie.Need-returns
 returns c = mod-eq-of-lt (omega (arith, pow-mono {i = c .args .n} {j = 62} (omega arith)))
 

@@ -8,11 +8,6 @@ use Rattle.magnetar_field.proofs.Comb.{append-word, wide-lt, multiples-
 use borrow.Author.Needs.{needs}
 use Rattle.magnetar_field.proofs.gf128.clmul128.Statement.{statement}
 use Rattle.magnetar_field.proofs.gf128.clmul128.Tie as tie
-use Rattle.magnetar_field.proofs.gf128.clmul128.Reads as reads
-use Rattle.magnetar_field.proofs.gf128.clmul128.Lts as lts
-use Rattle.magnetar_field.proofs.gf128.comb.Reads as comb-reads
-use Rattle.magnetar_field.proofs.gf128.multiples_of.Reads as multiples-of-reads
-use Rattle.magnetar_field.proofs.gf128.nibble.Reads as nibble-reads
 
 abbrev Inv-loop : tie.InvT-loop
 Inv-loop b lo hi acc₀ i₀ acc i = (i ≤ 16) × Multiples (entry lo hi 1) lo hi 16 × (acc .w0 < 2 ^ 64) × (acc .w1 < 2 ^ 64) × (acc .w2 < 2 ^ 64) × Combed (entry lo hi 1) (b .lo) (b .hi) (wide acc) (acc .w3) i
@@ -20,11 +15,9 @@ Inv-loop b lo hi acc₀ i₀ acc i = (i ≤ 16) × Multiples (entry lo hi 1) lo 
 abbrev μ-loop : tie.MeasureT-loop
 μ-loop b lo hi acc₀ i₀ acc i = i
 
--- src/gf128.rt:154:5
 multiples-of-requires : tie.Need-multiples-of-requires Inv-loop μ-loop
 multiples-of-requires c κs = search needs
 
--- src/gf128.rt:162:5
 loop-holds : tie.Need-loop-holds Inv-loop μ-loop
 loop-holds c =
     let x = c .before .before .before .args in
@@ -32,59 +25,45 @@ loop-holds c =
     let e = multiples-self _ _ _ (append-word 64 (x .a .hi) (x .a .lo) (search needs) (search needs)) m in
     (search needs, rw e m, search needs, search needs, search needs, combed-start _ (x .b .lo) (x .b .hi) (search needs) (search needs))
 
--- src/gf128.rt:163:9
 sub-i : tie.Need-sub-i Inv-loop μ-loop
 sub-i c = search needs
 
--- src/gf128.rt:164:13
 nibble-requires : tie.Need-nibble-requires Inv-loop μ-loop
 nibble-requires c κs = search needs
 
--- src/gf128.rt:165:13
 nibble-requires-2 : tie.Need-nibble-requires-2 Inv-loop μ-loop
 nibble-requires-2 c κs = search needs
 
--- src/gf128.rt:167:17
 mul-t15 : tie.Need-mul-t15 Inv-loop μ-loop
 mul-t15 c = search needs
 
--- src/gf128.rt:167:17
 array-read-t18 : tie.Need-array-read-t18 Inv-loop μ-loop
 array-read-t18 c = search needs
 
--- src/gf128.rt:168:17
 mul-t19 : tie.Need-mul-t19 Inv-loop μ-loop
 mul-t19 c = search needs
 
--- src/gf128.rt:168:17
 array-read-t22 : tie.Need-array-read-t22 Inv-loop μ-loop
 array-read-t22 c = search needs
 
--- src/gf128.rt:171:17
 mul-t15-2 : tie.Need-mul-t15-2 Inv-loop μ-loop
 mul-t15-2 c = search needs
 
--- src/gf128.rt:171:17
 array-read-t22-2 : tie.Need-array-read-t22-2 Inv-loop μ-loop
 array-read-t22-2 c = search needs
 
--- src/gf128.rt:172:17
 mul-t19-2 : tie.Need-mul-t19-2 Inv-loop μ-loop
 mul-t19-2 c = search needs
 
--- src/gf128.rt:172:17
 array-read-t18-2 : tie.Need-array-read-t18-2 Inv-loop μ-loop
 array-read-t18-2 c = search needs
 
--- src/gf128.rt:174:9
 comb-requires : tie.Need-comb-requires Inv-loop μ-loop
 comb-requires c κs = combed-room _ _ _ _ _ _ (c .before .before .loop-test .taken) (c .before .before .before .loop .inv .5)
 
--- src/gf128.rt:162:5
 loop-less : tie.Need-loop-less Inv-loop μ-loop
 loop-less c = search needs
 
--- src/gf128.rt:162:5
 loop-again : tie.Need-loop-again Inv-loop μ-loop
 loop-again c =
     let l = c .before .before .before .before .loop in
@@ -105,7 +84,6 @@ loop-again c =
           (m .multiple (j .result) (omega arith) ∙ rw (j .ensures)) (m .multiple (k .result) (omega arith) ∙ rw (k .ensures)),
     )
 
--- src/gf128.rt:149:1
 returns : tie.Need-returns Inv-loop μ-loop
 returns c =
     let x = c .before .before .before .before .before .args in

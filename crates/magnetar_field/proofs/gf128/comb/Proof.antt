@@ -6,10 +6,7 @@ use Rattle.magnetar_field.specs.Gf128.{_⊕_}
 use Rattle.magnetar_field.proofs.Comb.{comb-words, comb-top, comb-fits}
 use Rattle.magnetar_field.proofs.gf128.comb.Statement.{statement}
 use Rattle.magnetar_field.proofs.gf128.comb.Tie as tie
-use Rattle.magnetar_field.proofs.gf128.comb.Reads as reads
-use Rattle.magnetar_field.proofs.gf128.comb.Lts as lts
 
--- src/gf128.rt:136:1
 returns : tie.Need-returns
 unfolding _⊕_
 returns c =

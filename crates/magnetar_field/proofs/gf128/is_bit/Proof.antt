@@ -7,14 +7,10 @@ use native.Mathlib.Omega.{arith}
 use borrow.Author.Tests.{le-ltb}
 use Rattle.magnetar_field.proofs.gf128.is_bit.Statement.{statement}
 use Rattle.magnetar_field.proofs.gf128.is_bit.Tie as tie
-use Rattle.magnetar_field.proofs.gf128.is_bit.Reads as reads
-use Rattle.magnetar_field.proofs.gf128.is_bit.Lts as lts
 
--- src/gf128.rt:47:1
 returns : tie.Need-returns
 returns c = rw (c .before .if1 .taken, zero-mul, zero-add)
 
--- src/gf128.rt:47:1
 returns-2 : tie.Need-returns-2
 returns-2 c = let x = c .before .before .args .a in let big : 2 ≤ x .hi * 2 ^ 64 + x .lo = omega arith in rw (le-ltb _ _ big)
 

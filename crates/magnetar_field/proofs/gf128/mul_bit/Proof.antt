@@ -8,15 +8,10 @@ use Rattle.magnetar_field.specs.Gf128.{value}
 use borrow.Author.Needs.{needs}
 use Rattle.magnetar_field.proofs.gf128.mul_bit.Statement.{statement}
 use Rattle.magnetar_field.proofs.gf128.mul_bit.Tie as tie
-use Rattle.magnetar_field.proofs.gf128.mul_bit.Reads as reads
-use Rattle.magnetar_field.proofs.gf128.mul_bit.Lts as lts
-use Rattle.std.proofs.num.wrapping_sub_u64.Reads as wrapping-sub-u64-reads
 
--- src/gf128.rt:39:9
 wrapping-sub-u64-requires : tie.Need-wrapping-sub-u64-requires
 wrapping-sub-u64-requires c κs = search needs
 
--- src/gf128.rt:36:1
 returns : tie.Need-returns
 returns c =
     let x = c .before .before .before .before .args in

@@ -10,9 +10,6 @@ use Rattle.magnetar_field.proofs.Comb.{append-word, multiples-start}
 use borrow.Author.Needs.{needs}
 use Rattle.magnetar_field.proofs.gf128.multiples_of.Statement.{statement}
 use Rattle.magnetar_field.proofs.gf128.multiples_of.Tie as tie
-use Rattle.magnetar_field.proofs.gf128.multiples_of.Reads as reads
-use Rattle.magnetar_field.proofs.gf128.multiples_of.Lts as lts
-use Rattle.magnetar_field.proofs.gf128.multiples_step.Reads as multiples-step-reads
 
 abbrev Inv-loop : tie.InvT-loop
 Inv-loop lo₀ hi₀ a k₀ lo hi k = (0 < k) × (k ≤ 8) × Multiples (value a) lo hi (2 * k)
@@ -20,45 +17,35 @@ Inv-loop lo₀ hi₀ a k₀ lo hi k = (0 < k) × (k ≤ 8) × Multiples (value a
 abbrev μ-loop : tie.MeasureT-loop
 μ-loop lo₀ hi₀ a k₀ lo hi k = 8 - k
 
--- src/gf128.rt:114:5
 element-write-lo : tie.Need-element-write-lo Inv-loop μ-loop
 element-write-lo c = search needs
 
--- src/gf128.rt:115:5
 element-write-hi : tie.Need-element-write-hi Inv-loop μ-loop
 element-write-hi c = search needs
 
--- src/gf128.rt:116:5
 element-write-lo-2 : tie.Need-element-write-lo-2 Inv-loop μ-loop
 element-write-lo-2 c = search needs
 
--- src/gf128.rt:117:5
 element-write-hi-2 : tie.Need-element-write-hi-2 Inv-loop μ-loop
 element-write-hi-2 c = search needs
 
--- src/gf128.rt:119:5
 loop-holds : tie.Need-loop-holds Inv-loop μ-loop
 loop-holds c =
     let x = c .args in
     (search needs, search needs, multiples-start _ (x .a .lo) (x .a .hi) (now (x .lo)) (now (x .hi)) (append-word 64 (x .a .hi) (x .a .lo) (search needs) (search needs)) refl (c .pre .0) (c .pre .1))
 
--- src/gf128.rt:120:9
 multiples-step-requires : tie.Need-multiples-step-requires Inv-loop μ-loop
 multiples-step-requires c κs = (omega arith, omega arith, c .before .before .before .loop .inv .2)
 
--- src/gf128.rt:121:9
 add-k : tie.Need-add-k Inv-loop μ-loop
 add-k c = search needs
 
--- src/gf128.rt:119:5
 loop-less : tie.Need-loop-less Inv-loop μ-loop
 loop-less c = search needs
 
--- src/gf128.rt:119:5
 loop-again : tie.Need-loop-again Inv-loop μ-loop
 loop-again c = (search needs, search needs, c .multiples-step .ensures)
 
--- src/gf128.rt:111:1
 returns : tie.Need-returns Inv-loop μ-loop
 returns c =
     let l = c .before .loop in

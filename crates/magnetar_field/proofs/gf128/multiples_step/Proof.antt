@@ -6,92 +6,67 @@ use Rattle.magnetar_field.proofs.Comb.{append-word, multiples-more}
 use borrow.Author.Needs.{needs}
 use Rattle.magnetar_field.proofs.gf128.multiples_step.Statement.{statement}
 use Rattle.magnetar_field.proofs.gf128.multiples_step.Tie as tie
-use Rattle.magnetar_field.proofs.gf128.multiples_step.Reads as reads
-use Rattle.magnetar_field.proofs.gf128.multiples_step.Lts as lts
-use Rattle.magnetar_field.proofs.gf128.add.Reads as add-reads
-use Rattle.magnetar_field.proofs.gf128.times_x.Reads as times-x-reads
 
--- src/gf128.rt:100:13
 mul-t7 : tie.Need-mul-t7
 mul-t7 c = search needs
 
--- src/gf128.rt:100:13
 element-copy-out-t10 : tie.Need-element-copy-out-t10
 element-copy-out-t10 c = search needs
 
--- src/gf128.rt:101:13
 mul-t11 : tie.Need-mul-t11
 mul-t11 c = search needs
 
--- src/gf128.rt:101:13
 element-copy-out-t14 : tie.Need-element-copy-out-t14
 element-copy-out-t14 c = search needs
 
--- src/gf128.rt:99:9
 times-x-requires : tie.Need-times-x-requires
 times-x-requires c κs = search needs
 
--- src/gf128.rt:103:9
 add-requires : tie.Need-add-requires
 add-requires c κs = search needs
 
--- src/gf128.rt:104:8
 mul-lo : tie.Need-mul-lo
 mul-lo c = search needs
 
--- src/gf128.rt:104:5
 mul-lo-2 : tie.Need-mul-lo-2
 mul-lo-2 c = search needs
 
--- src/gf128.rt:104:5
 element-write-lo : tie.Need-element-write-lo
 element-write-lo c = search needs
 
--- src/gf128.rt:105:8
 mul-hi : tie.Need-mul-hi
 mul-hi c = search needs
 
--- src/gf128.rt:105:5
 mul-hi-2 : tie.Need-mul-hi-2
 mul-hi-2 c = search needs
 
--- src/gf128.rt:105:5
 element-write-hi : tie.Need-element-write-hi
 element-write-hi c = search needs
 
--- src/gf128.rt:106:8
 mul-lo-3 : tie.Need-mul-lo-3
 mul-lo-3 c = search needs
 
--- src/gf128.rt:106:8
 add-lo : tie.Need-add-lo
 add-lo c = search needs
 
--- src/gf128.rt:106:5
 mul-lo-4 : tie.Need-mul-lo-4
 mul-lo-4 c = search needs
 
--- src/gf128.rt:106:5
 element-write-lo-2 : tie.Need-element-write-lo-2
 element-write-lo-2 c = search needs
 
--- src/gf128.rt:107:8
 mul-hi-3 : tie.Need-mul-hi-3
 mul-hi-3 c = search needs
 
--- src/gf128.rt:107:8
 add-hi : tie.Need-add-hi
 add-hi c = search needs
 
--- src/gf128.rt:107:5
 mul-hi-4 : tie.Need-mul-hi-4
 mul-hi-4 c = search needs
 
--- src/gf128.rt:107:5
 element-write-hi-2 : tie.Need-element-write-hi-2
 element-write-hi-2 c = search needs
 
--- src/gf128.rt:95:1
 returns : tie.Need-returns
 returns c =
     let s = c .before .before .before .before in

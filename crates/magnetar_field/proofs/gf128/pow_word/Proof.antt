@@ -9,9 +9,6 @@ use Rattle.magnetar_field.proofs.Power.{Powering, powering-start, power
 use borrow.Author.Needs.{needs}
 use Rattle.magnetar_field.proofs.gf128.pow_word.Statement.{statement}
 use Rattle.magnetar_field.proofs.gf128.pow_word.Tie as tie
-use Rattle.magnetar_field.proofs.gf128.pow_word.Reads as reads
-use Rattle.magnetar_field.proofs.gf128.pow_word.Lts as lts
-use Rattle.magnetar_field.proofs.gf128.pow_bit.Reads as pow-bit-reads
 
 abbrev Inv-loop : tie.InvT-loop
 Inv-loop k q₀ rest₀ i₀ q rest i = (i ≤ 64) × (value (q .result) < 2 ^ 128) × (value (q .base) < 2 ^ 128) × Powering (value (q₀ .result)) (value (q₀ .base)) k (value (q .result)) (value (q .base)) rest i
@@ -19,30 +16,24 @@ Inv-loop k q₀ rest₀ i₀ q rest i = (i ≤ 64) × (value (q .result) < 2 ^ 1
 abbrev μ-loop : tie.MeasureT-loop
 μ-loop k q₀ rest₀ i₀ q rest i = 64 - i
 
--- src/gf128.rt:128:5
 loop-holds : tie.Need-loop-holds Inv-loop μ-loop
 loop-holds c = (search needs, c .pre .0, c .pre .1, powering-start _ _ _ (c .pre .1) (search needs))
 
--- src/gf128.rt:129:9
 pow-bit-requires : tie.Need-pow-bit-requires Inv-loop μ-loop
 pow-bit-requires c κs = (omega arith, c .before .loop .inv .1, c .before .loop .inv .2)
 
--- src/gf128.rt:131:9
 add-i : tie.Need-add-i Inv-loop μ-loop
 add-i c = search needs
 
--- src/gf128.rt:128:5
 loop-less : tie.Need-loop-less Inv-loop μ-loop
 loop-less c = search needs
 
--- src/gf128.rt:128:5
 loop-again : tie.Need-loop-again Inv-loop μ-loop
 loop-again c =
     let l = c .before .before .loop in
     let e = c .pow-bit .ensures in
     (search needs, rw (e .0) (⊗-lt _ _), rw (e .1) (⊗-lt _ _), rw (e .0, e .1) (powering-more _ _ _ _ _ _ _ (l .inv .3) (omega arith) (l .inv .2)))
 
--- src/gf128.rt:121:1
 returns : tie.Need-returns Inv-loop μ-loop
 returns c =
     let l = c .before .loop in

@@ -7,44 +7,31 @@ use Rattle.magnetar_field.proofs.Reduction.{reduced-words}
 use borrow.Author.Needs.{needs}
 use Rattle.magnetar_field.proofs.gf128.reduce256.Statement.{statement}
 use Rattle.magnetar_field.proofs.gf128.reduce256.Tie as tie
-use Rattle.magnetar_field.proofs.gf128.reduce256.Reads as reads
-use Rattle.magnetar_field.proofs.gf128.reduce256.Lts as lts
-use Rattle.magnetar_field.proofs.gf128.add.Reads as add-reads
-use Rattle.magnetar_field.proofs.gf128.shl.Reads as shl-reads
 
--- src/gf128.rt:179:26
 shl-requires : tie.Need-shl-requires
 shl-requires c κs = search needs
 
--- src/gf128.rt:179:37
 shl-requires-2 : tie.Need-shl-requires-2
 shl-requires-2 c κs = search needs
 
--- src/gf128.rt:179:22
 add-requires : tie.Need-add-requires
 add-requires c κs = search needs
 
--- src/gf128.rt:179:53
 shl-requires-3 : tie.Need-shl-requires-3
 shl-requires-3 c κs = search needs
 
--- src/gf128.rt:179:49
 add-requires-2 : tie.Need-add-requires-2
 add-requires-2 c κs = search needs
 
--- src/gf128.rt:179:9
 add-requires-3 : tie.Need-add-requires-3
 add-requires-3 c κs = search needs
 
--- src/gf128.rt:185:14
 add-requires-4 : tie.Need-add-requires-4
 add-requires-4 c κs = search needs
 
--- src/gf128.rt:185:5
 add-requires-5 : tie.Need-add-requires-5
 add-requires-5 c κs = search needs
 
--- src/gf128.rt:168:1
 returns : tie.Need-returns
 unfolding _⊕_
 returns c =

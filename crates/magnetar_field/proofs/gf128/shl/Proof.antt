@@ -6,30 +6,22 @@ use Prim.Native.Nat.{_-_}
 use borrow.Author.Needs.{needs}
 use Rattle.magnetar_field.proofs.gf128.shl.Statement.{statement}
 use Rattle.magnetar_field.proofs.gf128.shl.Tie as tie
-use Rattle.magnetar_field.proofs.gf128.shl.Reads as reads
-use Rattle.magnetar_field.proofs.gf128.shl.Lts as lts
 
--- src/gf128.rt:78:13
 shl-t4 : tie.Need-shl-t4
 shl-t4 c = search needs
 
--- src/gf128.rt:79:14
 shl-t6 : tie.Need-shl-t6
 shl-t6 c = search needs
 
--- src/gf128.rt:79:37
 sub-t7 : tie.Need-sub-t7
 sub-t7 c = search needs
 
--- src/gf128.rt:79:37
 cast-t8 : tie.Need-cast-t8
 cast-t8 c = search needs
 
--- src/gf128.rt:79:28
 shr-t9 : tie.Need-shr-t9
 shr-t9 c = search needs
 
--- src/gf128.rt:73:1
 returns : tie.Need-returns
 returns c =
     let x = c .before .before .before .args in

@@ -6,14 +6,10 @@ use lib.Pow.{pow-lt}
 use borrow.Author.Needs.{needs}
 use Rattle.magnetar_field.proofs.sizes.power_of_two.Statement.{statement}
 use Rattle.magnetar_field.proofs.sizes.power_of_two.Tie as tie
-use Rattle.magnetar_field.proofs.sizes.power_of_two.Reads as reads
-use Rattle.magnetar_field.proofs.sizes.power_of_two.Lts as lts
 
--- src/sizes.rt:30:5
 shl-result : tie.Need-shl-result
 shl-result c = search needs
 
--- src/sizes.rt:26:1
 returns : tie.Need-returns
 returns c = rw one-mul (mod-eq-of-lt (pow-lt (c .pre)))
 

@@ -9,9 +9,6 @@ use Rattle.magnetar_field.proofs.Elements.{copy-more, copy-all}
 use borrow.Author.Needs.{needs}
 use Rattle.magnetar_field.proofs.words.copy.Statement.{statement}
 use Rattle.magnetar_field.proofs.words.copy.Tie as tie
-use Rattle.magnetar_field.proofs.words.copy.Reads as reads
-use Rattle.magnetar_field.proofs.words.copy.Lts as lts
-use Rattle.magnetar_field.proofs.words.shorter.Reads as shorter-reads
 
 abbrev Inv-loop : tie.InvT-loop
 Inv-loop src dst₀ n i₀ dst i = (i ≤ n) × (n ≡ min (length src) (length dst₀)) × (length dst ≡ length dst₀) × (dst ≡ take i src ++ drop i dst₀)
@@ -19,47 +16,36 @@ Inv-loop src dst₀ n i₀ dst i = (i ≤ n) × (n ≡ min (length src) (length 
 abbrev μ-loop : tie.MeasureT-loop
 μ-loop src dst₀ n i₀ dst i = n - i
 
--- src/words.rt:50:9
 shorter-requires : tie.Need-shorter-requires Inv-loop μ-loop
 shorter-requires c κs = search needs
 
--- src/words.rt:52:5
 loop-holds : tie.Need-loop-holds Inv-loop μ-loop
 loop-holds c = (search needs, search needs, refl, refl)
 
--- src/words.rt:53:18
 mul-dst : tie.Need-mul-dst Inv-loop μ-loop
 mul-dst c = search needs
 
--- src/words.rt:53:18
 shared-slice-read-dst : tie.Need-shared-slice-read-dst Inv-loop μ-loop
 shared-slice-read-dst c = search needs
 
--- src/words.rt:53:9
 mul-dst-2 : tie.Need-mul-dst-2 Inv-loop μ-loop
 mul-dst-2 c = search needs
 
--- src/words.rt:53:9
 slice-write-dst : tie.Need-slice-write-dst Inv-loop μ-loop
 slice-write-dst c = search needs
 
--- src/words.rt:54:9
 add-i : tie.Need-add-i Inv-loop μ-loop
 add-i c = search needs
 
--- src/words.rt:52:5
 loop-less : tie.Need-loop-less Inv-loop μ-loop
 loop-less c = search needs
 
--- src/words.rt:52:5
 loop-again : tie.Need-loop-again Inv-loop μ-loop
 loop-again c = (search needs, search needs, search needs, copy-more _ _ _ _ (c .before .before .loop .inv .3) (omega arith) (omega arith))
 
--- src/words.rt:47:1
 same-length : tie.Need-same-length Inv-loop μ-loop
 same-length c = search needs
 
--- src/words.rt:47:1
 returns : tie.Need-returns Inv-loop μ-loop
 returns c =
     let l = c .before .loop in

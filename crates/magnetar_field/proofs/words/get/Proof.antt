@@ -7,38 +7,28 @@ use Rattle.magnetar_field.proofs.Elements.{elements-get, elements-out}
 use borrow.Author.Needs.{needs}
 use Rattle.magnetar_field.proofs.words.get.Statement.{statement}
 use Rattle.magnetar_field.proofs.words.get.Tie as tie
-use Rattle.magnetar_field.proofs.words.get.Reads as reads
-use Rattle.magnetar_field.proofs.words.get.Lts as lts
 
--- src/words.rt:13:17
 mul-k : tie.Need-mul-k
 mul-k c = search needs
 
--- src/words.rt:15:17
 mul-t8 : tie.Need-mul-t8
 mul-t8 c = search needs
 
--- src/words.rt:15:17
 shared-slice-read-t10 : tie.Need-shared-slice-read-t10
 shared-slice-read-t10 c = search needs
 
--- src/words.rt:16:19
 add-t11 : tie.Need-add-t11
 add-t11 c = search needs
 
--- src/words.rt:16:17
 mul-t12 : tie.Need-mul-t12
 mul-t12 c = search needs
 
--- src/words.rt:16:17
 shared-slice-read-t14 : tie.Need-shared-slice-read-t14
 shared-slice-read-t14 c = search needs
 
--- src/words.rt:9:1
 returns : tie.Need-returns
 returns c = let x = c .before .before .before .args in sym (elements-get (now (x .s)) (x .i) (omega arith))
 
--- src/words.rt:9:1
 returns-2 : tie.Need-returns-2
 returns-2 c = let x = c .before .args in sym (elements-out (now (x .s)) (x .i) (omega arith))
 

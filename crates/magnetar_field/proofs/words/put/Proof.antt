@@ -8,42 +8,31 @@ use Rattle.magnetar_field.proofs.Elements.{stored-in, stored-out}
 use borrow.Author.Needs.{needs}
 use Rattle.magnetar_field.proofs.words.put.Statement.{statement}
 use Rattle.magnetar_field.proofs.words.put.Tie as tie
-use Rattle.magnetar_field.proofs.words.put.Reads as reads
-use Rattle.magnetar_field.proofs.words.put.Lts as lts
 
--- src/words.rt:28:17
 mul-k : tie.Need-mul-k
 mul-k c = search needs
 
--- src/words.rt:29:9
 mul-s : tie.Need-mul-s
 mul-s c = search needs
 
--- src/words.rt:29:9
 slice-write-s : tie.Need-slice-write-s
 slice-write-s c = search needs
 
--- src/words.rt:30:11
 add-s : tie.Need-add-s
 add-s c = search needs
 
--- src/words.rt:30:9
 mul-s-2 : tie.Need-mul-s-2
 mul-s-2 c = search needs
 
--- src/words.rt:30:9
 slice-write-s-2 : tie.Need-slice-write-s-2
 slice-write-s-2 c = rw length-set (omega arith)
 
--- src/words.rt:24:1
 same-length : tie.Need-same-length
 same-length c = search needs
 
--- src/words.rt:24:1
 returns : tie.Need-returns
 returns c = let x = c .before .args in sym (stored-in (now (x .s)) (x .i) (x .e .lo) (x .e .hi) (omega arith) (search needs))
 
--- src/words.rt:24:1
 returns-2 : tie.Need-returns-2
 returns-2 c = let x = c .before .args in sym (stored-out (now (x .s)) (x .i) _ (omega arith))
 
