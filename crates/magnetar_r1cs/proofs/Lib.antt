@@ -7,5 +7,6 @@ pub mod Digits
 pub mod TableLaws
 pub mod Lone
 pub mod Points
+pub mod Parts
 pub mod Walked
 pub mod MarkedRows

@@ -75,3 +75,10 @@ sum-ext p f g (e ∷ es) t h =
 -- with rows and columns exchanged
 pub flipped : {r c l h : List ℕ} → Equal r c l h → Equal c r l h
 flipped e = record { col = sym (e .col); lo = e .lo ∙ sym (e .col); hi = e .hi ∙ sym (e .col) }
+
+pub below-wider : (m n : ℕ) (s : List ℕ) → m ≤ n → allBelow m s ≡ true → allBelow n s ≡ true
+unfolding every
+below-wider m n [] h e = refl
+below-wider m n (x ∷ s) h e =
+    let k = both (ltb x m) (allBelow m s) e in
+    and-true (lt-ltb x n (omega (arith, ltb-true x m (k .0)))) (below-wider m n s h (k .1))

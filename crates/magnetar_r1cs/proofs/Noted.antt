@@ -9,6 +9,10 @@ use native.Mathlib.Omega.{arith}
 use borrow.Author.Tests.{ne-eqb, ltb-true}
 use lib.Dec.{ltb}
 use Rattle.magnetar_field.specs.Refusal.{unlessRefused}
+use Rattle.magnetar_field.specs.declared.gf128.Gf128.{Gf128}
+use Rattle.magnetar_field.specs.declared.gf128.Evaluated.the-variants.{Value, Refused}
+use Rattle.magnetar_field.specs.Gf128.{value}
+use Rattle.magnetar_field.specs.Entries.{answer, answered}
 use Rattle.magnetar_r1cs.proofs.EveryLaws.{both}
 use Rattle.magnetar_r1cs.specs.Tests.{Tests, note, noted}
 
@@ -67,3 +71,10 @@ module _ {A : Type 0} {n m : ℕ} (new old : A) (e : n ≡ m) where
 
   pub done : n ≡ 0 → new ≡ unlessRefused m new old
   done h = rw (← e, h)
+
+-- an answer that is an element
+pub refused : {n m : ℕ} (v : ℕ) → n ≡ m → (n ≡ 0 → ⊥) → answer (Refused n) ≡ answered m v
+refused {n} v e h = rw (← e, ne-eqb n 0 h)
+
+pub found : {m : ℕ} (r : Gf128) (v : ℕ) → 0 ≡ m → value r ≡ v → answer (Value r) ≡ answered m v
+found r v e f = rw (← e, f)

@@ -120,6 +120,26 @@ fn sum_in(row: &[usize], col: &[usize], lo: &[u64], hi: &[u64], r: &[u64], c: &[
     v
 }
 
+// The extension at the row point and the column point. 1, 4, 6, 7 as for `apply`; 11: a point is not of the wanted length;
+// 15: too little room.
+pub fn eval_mle_at(rows: usize, cols: usize, row: &[usize], col: &[usize], lo: &[u64], hi: &[u64], r: &[u64], c: &[u64], scratch: &mut [u64]) -> Evaluated
+    ensures value { λ v. ⌜ answer v ≡ atAnswer (lent rows cols (now (row .entry)) (now (col .entry)) (now (lo .entry)) (now (hi .entry))) (now (r .entry)) (now (c .entry)) (now (scratch .entry)) ⌝ }
+    ensures cleared { λ _. ⌜ now (scratch .exit) ≡ atScratch (lent rows cols (now (row .entry)) (now (col .entry)) (now (lo .entry)) (now (hi .entry))) (now (r .entry)) (now (c .entry)) (now (scratch .entry)) ⌝ }
+{
+    let n = tests::lone(rows, cols, row, col, lo, hi);
+    if n != 0 {
+        return Evaluated::Refused(n);
+    }
+    let n = tests::note(0, 11, r.len() != 2 * sizes::log2(rows));
+    let n = tests::note(n, 11, c.len() != 2 * sizes::log2(cols));
+    let n = tests::note(n, 15, scratch.len() < 2 * (rows + cols));
+    if n != 0 {
+        return Evaluated::Refused(n);
+    }
+    let room = 2 * (rows + cols);
+    Evaluated::Value(sum_in(row, col, lo, hi, r, c, rows, &mut scratch[..room]))
+}
+
 // Every value is 0 or 1. Refused with 1, 4, 6 and 7 as `apply` is.
 pub fn is_binary(rows: usize, cols: usize, row: &[usize], col: &[usize], lo: &[u64], hi: &[u64]) -> Flag
     ensures { λ r. ⌜ flagged r ≡ flaggedOf (binaryRefusal (lent rows cols (now (row .entry)) (now (col .entry)) (now (lo .entry)) (now (hi .entry)))) (binary (matrixOf (lent rows cols (now (row .entry)) (now (col .entry)) (now (lo .entry)) (now (hi .entry))))) ⌝ }

@@ -1,5 +1,11 @@
 -- `magnetar_r1cs::r1cs::sum_in` meets its contract.
 -- Assumes nothing.
+use Rattle.magnetar_r1cs.proofs.Parts.{both-length}
+use Rattle.magnetar_r1cs.proofs.Parts.{behind, both-parts}
+use Rattle.magnetar_r1cs.proofs.TableLaws.{elements-append}
+use denote.Ref.{now}
+use lib.ListN.{length, replicate}
+use Prim.Native.Nat.{ℕ, _*_}
 use lib.Seq.{length-take-le}
 use mathlib.Core.Path.{_≡_, refl, sym, ap, _∙_}
 use borrow.Author.Needs.{needs}
@@ -45,7 +51,9 @@ part-eq-in-end c = search needs
 
 -- src/r1cs.rt:117:5
 eq-in-requires-2 : tie.Need-eq-in-requires-2
-eq-in-requires-2 c κs = ?
+eq-in-requires-2 c κs =
+    let s = c .before .before .before .before .before .before .before .before .before .before .before .before in
+    rw (behind (c .before .before .before .eq-in .last .1 .0) (now (s .args .s)) (2 * s .args .n) (s .pre .1 .0 .2) (c .before .before .before .eq-in .kept .1 .0 ∙ length-take-le _ _ (s .pre .1 .0 .2))) (s .pre .1 .1 .1)
 
 -- src/r1cs.rt:118:9
 sum-products-requires : tie.Need-sum-products-requires
@@ -61,7 +69,11 @@ same-length c = search needs
 
 -- src/r1cs.rt:107:1
 returns : tie.Need-returns
-returns c = (rw (c .before .before .before .before .sum-products .ensures) ?, ?)
+returns c =
+    let s = c .before .before .before .before .before .before .before .before .before .before .before .before .before .before .before .before .before .before .before .before .before in
+    let front = c .before .before .before .before .before .before .before .before .before .before .before .before .eq-in .kept .1 .0 ∙ length-take-le _ _ (s .pre .1 .0 .2) in
+    let p = both-parts (c .before .before .before .before .before .before .before .before .before .before .before .before .eq-in .last .1 .0) (now (s .args .s)) (2 * s .args .n) (s .pre .1 .0 .2) front (c .before .before .before .before .before .before .before .before .eq-in2 .last .1 .0) in
+    (rw (c .before .before .before .before .sum-products .ensures, p, c .before .before .before .before .before .before .before .before .before .before .before .before .eq-in .ensures, c .before .before .before .before .before .before .before .before .eq-in2 .ensures, elements-append), rw (c .before .before .clear .ensures, both-length (c .before .before .before .before .before .before .before .before .before .before .before .before .eq-in .last .1 .0) (now (s .args .s)) (2 * s .args .n) (s .pre .1 .0 .2) front (c .before .before .before .before .before .before .before .before .eq-in2 .last .1 .0) (c .before .before .before .before .before .before .before .before .eq-in2 .kept .1 .0)))
 
 pub sum-in-spec : {M : Type 1} → statement M
 sum-in-spec =
