@@ -23,6 +23,9 @@ digit-⊗ x a h b = bit-cases (λ (u : ℕ). u % 2 * a ≡ u ⊗ a) (zero-mul a 
 pub ⊗-digit : (x a : ℕ) → x < 2 → a < 2 ^ 128 → x % 2 * a ≡ a ⊗ x
 ⊗-digit x a h b = bit-cases (λ (u : ℕ). u % 2 * a ≡ a ⊗ u) (zero-mul a ∙ sym (⊗-zero a)) (one-mul a ∙ sym (⊗-one a b)) x h
 
+pub ⊗-bit : (x a : ℕ) → x < 2 → a < 2 ^ 128 → x * a ≡ a ⊗ x
+⊗-bit x a h b = bit-cases (λ (u : ℕ). u * a ≡ a ⊗ u) (zero-mul a ∙ sym (⊗-zero a)) (one-mul a ∙ sym (⊗-one a b)) x h
+
 -- words that a login does not have count as 0
 pub bit-missing : (ws : List ℕ) (y : ℕ) → length ws ≤ y / 64 → 0 ≡ packedBit ws y
 unfolding packedBit

@@ -8,5 +8,8 @@ pub mod TableLaws
 pub mod Lone
 pub mod Points
 pub mod Parts
+pub mod SetBits
+pub mod Selected
+pub mod Folds
 pub mod Walked
 pub mod MarkedRows

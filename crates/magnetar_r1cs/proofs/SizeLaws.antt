@@ -3,6 +3,7 @@
 use mathlib.Core.Path.{_≡_, refl}
 use mathlib.Core.Bool.{Bool, true, false, not, _&&_, false≢true}
 use Prim.Native.Nat.{ℕ, _^_, _≤_}
+use native.Mathlib.Nat.{le-trans}
 use lib.Dec.{leb}
 use borrow.Author.Tests.{leb-true, eqb-true, not-false}
 use Rattle.magnetar_field.specs.Sizes.{log₂, powerOfTwo}
@@ -24,3 +25,7 @@ sized least most n e =
 -- a test that is not bad
 pub not-bad : {least most n : ℕ} → not (isSize least most n) ≡ false → Sized least most n
 not-bad {least} {most} {n} e = sized least most n (not-false (isSize least most n) e)
+
+-- within wider bounds
+pub sized-wider : {least most n : ℕ} (m : ℕ) → most ≤ m → Sized least most n → Sized least m n
+sized-wider m h z = record { low = z .low; high = le-trans (z .high) h; power = z .power }

@@ -71,6 +71,9 @@ pub raised-is : (f : ℕ → ℕ) (t u : List ℕ) → length u ≡ length t →
 unfolding raised
 raised-is f t u l h = tabulate-of u (λ i. getD t i 0 ⊕ f i) (length t) 0 l h
 
+pub raised-ext : (f g : ℕ → ℕ) (t : List ℕ) → ((i : ℕ) → f i ≡ g i) → raised f t ≡ raised g t
+raised-ext f g t h = raised-is g t (raised f t) (raised-length f t) (λ i b. raised-get f t i b ∙ rw (h i))
+
 -- from 0 on
 pub raised-zeros : (f : ℕ → ℕ) (n : ℕ) → raised f (replicate n 0) ≡ tabulate f n
 raised-zeros f n =
