@@ -11,5 +11,8 @@ pub mod Parts
 pub mod SetBits
 pub mod Selected
 pub mod Folds
+pub mod Blocks
+pub mod Split
+pub mod Room
 pub mod Walked
 pub mod MarkedRows

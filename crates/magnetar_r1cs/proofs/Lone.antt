@@ -12,8 +12,9 @@ use Rattle.magnetar_field.specs.Gf128.{_⊕_}
 use Rattle.magnetar_r1cs.specs.Every.{every}
 use Rattle.magnetar_r1cs.specs.Matrix.{Entry, sumOver}
 use Rattle.magnetar_r1cs.specs.Lent.{Lent, entry, entriesOf}
+use Rattle.magnetar_r1cs.specs.Packed.{loginWords}
 use Rattle.magnetar_r1cs.specs.Table.{Equal}
-use Rattle.magnetar_r1cs.specs.Tests.{Tests, noted, allBelow, counted, placed, loneTests}
+use Rattle.magnetar_r1cs.specs.Tests.{Tests, noted, allBelow, counted, placed, loneTests, batchTests}
 use Rattle.magnetar_r1cs.proofs.EveryLaws.{both}
 use Rattle.magnetar_r1cs.proofs.Noted.{Clear, noted-clear}
 use Rattle.magnetar_r1cs.proofs.SizeLaws.{Sized, not-bad}
@@ -82,3 +83,23 @@ below-wider m n [] h e = refl
 below-wider m n (x ∷ s) h e =
     let k = both (ltb x m) (allBelow m s) e in
     and-true (lt-ltb x n (omega (arith, ltb-true x m (k .0)))) (below-wider m n s h (k .1))
+
+-- ---- a matrix for a batch
+pub record Batched (a : Lent) (ws x : List ℕ) (q w : ℕ) : Type 0 where
+  pub half : w ≤ 32768
+  pub logins : Sized 1 4096 q
+  pub packed : length ws ≡ q * loginWords w
+  pub rows-size : Sized 1 65536 (a .rows)
+  pub entries : Placed a
+
+pub batched : (a : Lent) (ws x : List ℕ) (q w : ℕ) → noted 0 (batchTests a ws x q w) ≡ 0 → Batched a ws x q w
+batched a ws x q w e =
+    let k = noted-clear 0 (batchTests a ws x q w) refl e .1 in
+    let z = not-bad (k .0) in
+    record {
+      half = omega (arith, z .high);
+      logins = not-bad (k .1 .0);
+      packed = eqb-true _ _ (not-false _ (k .1 .1 .0));
+      rows-size = not-bad (k .1 .1 .1 .1 .0);
+      entries = placed-of a (k .1 .1 .1 .1 .1 .1 .1);
+    }

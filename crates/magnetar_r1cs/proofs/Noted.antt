@@ -13,6 +13,8 @@ use Rattle.magnetar_field.specs.declared.gf128.Gf128.{Gf128}
 use Rattle.magnetar_field.specs.declared.gf128.Evaluated.the-variants.{Value, Refused}
 use Rattle.magnetar_field.specs.Gf128.{value}
 use Rattle.magnetar_field.specs.Entries.{answer, answered}
+use Rattle.magnetar_r1cs.specs.declared.r1cs.Flag.the-variants as flag
+use Rattle.magnetar_r1cs.specs.Entries.{flagged, flaggedOf}
 use Rattle.magnetar_r1cs.proofs.EveryLaws.{both}
 use Rattle.magnetar_r1cs.specs.Tests.{Tests, note, noted}
 
@@ -78,3 +80,13 @@ refused {n} v e h = rw (← e, ne-eqb n 0 h)
 
 pub found : {m : ℕ} (r : Gf128) (v : ℕ) → 0 ≡ m → value r ≡ v → answer (Value r) ≡ answered m v
 found r v e f = rw (← e, f)
+
+-- an answer that is yes or no
+pub flag-refused : {n m : ℕ} (b : Bool) → n ≡ m → (n ≡ 0 → ⊥) → flagged (flag.Refused n) ≡ flaggedOf m b
+flag-refused {n} b e h = rw (← e, ne-eqb n 0 h)
+
+pub flag-yes : {m : ℕ} (b : Bool) → 0 ≡ m → b ≡ true → flagged flag.Yes ≡ flaggedOf m b
+flag-yes b e h = rw (← e, h)
+
+pub flag-no : {m : ℕ} (b : Bool) → 0 ≡ m → b ≡ false → flagged flag.No ≡ flaggedOf m b
+flag-no b e h = rw (← e, h)

@@ -80,6 +80,12 @@ raised-zeros f n =
     tabulate-of (raised f (replicate n 0)) f n 0 (raised-length f (replicate n 0) ∙ length-replicate n 0)
     (λ i h. raised-get f (replicate n 0) i (rw length-replicate h) ∙ rw (getD-replicate {A = ℕ} n i 0 0 h) (zero-⊕ (f i)))
 
+-- one after the other
+pub raised-twice : (f g : ℕ → ℕ) (t : List ℕ) → raised g (raised f t) ≡ raised (λ i. f i ⊕ g i) t
+raised-twice f g t =
+    raised-is (λ i. f i ⊕ g i) t (raised g (raised f t)) (raised-length g (raised f t) ∙ raised-length f t)
+    (λ i h. raised-get g (raised f t) i (rw raised-length h) ∙ rw (raised-get f t i h) (⊕-assoc (getD t i 0) (f i) (g i)))
+
 -- words that were cleared, and to which f was then added
 pub cleared-raised : (f : ℕ → ℕ) (s₀ s t : List ℕ) → length s₀ % 2 ≡ 0 → length t ≡ length s₀ → s ≡ replicate (length s₀) 0
     → elements t ≡ raised f (elements s) → ((i : ℕ) → getD t i 0 < 2 ^ 64) → t ≡ words (tabulate f (length s₀ / 2))
@@ -88,6 +94,13 @@ cleared-raised f s₀ s t even same cleared sum fit =
     let z : elements s ≡ replicate (length s₀ / 2) 0 = ap elements cleared ∙ (ap (λ (k : ℕ). elements (replicate k 0)) n ∙ elements-zero (length s₀ / 2)) in
     sym (words-elements t [] (omega arith) (rw append-nil fit)) ∙ ap words (sum ∙ rw z (raised-zeros f (length s₀ / 2)))
 
+-- and then g
+pub cleared-raised-twice : (f g : ℕ → ℕ) (s₀ s t u : List ℕ) → length s₀ % 2 ≡ 0 → length u ≡ length s₀ → s ≡ replicate (length s₀) 0
+    → elements t ≡ raised f (elements s) → elements u ≡ raised g (elements t) → ((i : ℕ) → getD u i 0 < 2 ^ 64)
+    → u ≡ words (tabulate (λ i. f i ⊕ g i) (length s₀ / 2))
+cleared-raised-twice f g s₀ s t u even same cleared sum more fit =
+    cleared-raised (λ i. f i ⊕ g i) s₀ s u even same cleared (more ∙ rw sum (raised-twice f g (elements s))) fit
+
 -- a table in front of the rest of what was lent
 pub in-front : (f : ℕ → ℕ) (n : ℕ) (out t : List ℕ) → 2 * n ≤ length out → t ≡ words (tabulate f (length (take (2 * n) out) / 2))
     → t ++ drop (2 * n) out ≡ words (tabulate f n) ++ drop (2 * n) out
@@ -95,12 +108,6 @@ in-front f n out t h e =
     let l : length (take (2 * n) out) ≡ 2 * n = length-take-le (2 * n) out h in
     let k : length (take (2 * n) out) / 2 ≡ n = omega arith in
     rw (e, k)
-
--- one after the other
-pub raised-twice : (f g : ℕ → ℕ) (t : List ℕ) → raised g (raised f t) ≡ raised (λ i. f i ⊕ g i) t
-raised-twice f g t =
-    raised-is (λ i. f i ⊕ g i) t (raised g (raised f t)) (raised-length g (raised f t) ∙ raised-length f t)
-    (λ i h. raised-get g (raised f t) i (rw raised-length h) ∙ rw (raised-get f t i h) (⊕-assoc (getD t i 0) (f i) (g i)))
 
 -- ---- the share of an entry, by its column
 module _ (w : ℕ) (x : List ℕ) (r c l h : ℕ) where

@@ -21,7 +21,7 @@ use Rattle.magnetar_r1cs.specs.Batch.{assignment, folded}
 use Rattle.magnetar_r1cs.specs.Packed.{unpacked}
 use Rattle.magnetar_r1cs.specs.Layout.{offsets, offset}
 use Rattle.magnetar_r1cs.specs.Lent.{Lent, matrixOf}
-use Rattle.magnetar_r1cs.specs.Tests.{noted, isSize, columnTests, sizeTests, packedTests, publicTests, rowsTests, colsTests, counted, placed, layoutTests, lengthTest, roomTest, loneTests}
+use Rattle.magnetar_r1cs.specs.Tests.{noted, isSize, columnTests, sizeTests, packedTests, batchTests, layoutTests, lengthTest, roomTest, loneTests}
 
 -- ---- `apply`: the matrix a, the vector z, the output out
 unfoldable pub applyRefusal : Lent → List ℕ → List ℕ → ℕ
@@ -77,14 +77,16 @@ binaryRefusal a = noted 0 (loneTests a)
 
 -- ---- `apply_simd_packed`: the matrix a, the packed words ws of q logins with w columns, the public words x, the output out
 unfoldable pub packedRefusal : Lent → List ℕ → List ℕ → ℕ → ℕ → List ℕ → ℕ
-packedRefusal a ws x q w out =
-    noted 0
-    (sizeTests (2 * w) q ++ packedTests w q ws ++ publicTests (2 * w) x ++ rowsTests q (a .rows)
-    ++ colsTests (2 * w) (a .cols) ++ counted a ++ placed a ++ roomTest (2 * (q * a .rows)) out)
+packedRefusal a ws x q w out = noted 0 (batchTests a ws x q w ++ roomTest (q * (2 * a .rows)) out)
 
 -- the products of each login, one behind the other
 unfoldable pub packedTable : Matrix → List ℕ → List ℕ → ℕ → ℕ → List ℕ
 packedTable m ws x q w = blocks (λ u. times m (assignment (unpacked q w ws) x u)) q
+
+abbrev pub packedOut : Lent → List ℕ → List ℕ → ℕ → ℕ → List ℕ → List ℕ
+packedOut a ws x q w out =
+    unlessRefused (packedRefusal a ws x q w out)
+    (words (packedTable (matrixOf a) ws (elements x) q w) ++ drop (q * (2 * a .rows)) out) out
 
 -- ---- `fold_packed_w`: the packed words ws of q logins with w columns, the point p, the output out, the scratch s
 unfoldable pub foldRefusal : List ℕ → ℕ → ℕ → List ℕ → List ℕ → List ℕ → ℕ

@@ -9,8 +9,8 @@ use mathlib.Core.Path.{_≡_}
 use Rattle.magnetar_field.specs.Gf128.{_⊕_, _⊗_}
 use Rattle.magnetar_field.specs.Tabulate.{tabulate}
 use Rattle.magnetar_field.specs.Entries.{tableWords}
-use Rattle.magnetar_r1cs.specs.Matrix.{Entry}
-use Rattle.magnetar_r1cs.specs.Packed.{packedBit}
+use Rattle.magnetar_r1cs.specs.Matrix.{Entry, rowTotal}
+use Rattle.magnetar_r1cs.specs.Packed.{packedBit, loginPart}
 
 -- t with v added at index k; unchanged where it has no such index
 unfoldable pub addedAt : List ℕ → ℕ → ℕ → List ℕ
@@ -27,6 +27,14 @@ publicShare w x e = cond (ltb (e .col) w) 0 (e .value ⊗ getD (1 ∷ x) (e .col
 -- its share that comes from the bits of a login's words ws
 unfoldable pub bitShare : ℕ → List ℕ → Entry → ℕ
 bitShare w ws e = cond (ltb (e .col) w) (e .value ⊗ packedBit ws (e .col)) 0
+
+-- row i of a login's product: the shares of its entries from the public columns and from the bits
+unfoldable pub loginTotal : ℕ → List ℕ → List ℕ → List Entry → ℕ → ℕ
+loginTotal w x ws es i = rowTotal (publicShare w x) es i ⊕ rowTotal (bitShare w ws) es i
+
+-- the product of login u of the packed words ws, n rows
+unfoldable pub loginBlock : ℕ → List ℕ → List ℕ → List Entry → ℕ → ℕ → List ℕ
+loginBlock w x ws es n u = tabulate (loginTotal w x (loginPart w ws u) es) n
 
 -- an entry's value times the factors at its row, and at its column behind the n row factors
 unfoldable pub cross : List ℕ → ℕ → Entry → ℕ

@@ -88,3 +88,9 @@ roomTest n s = (15, ltb (length s) n) ∷ []
 -- a matrix alone: m is its columns
 abbrev pub loneTests : Lent → Tests
 loneTests a = columnTests (a .cols) ++ rowTests (a .rows) ++ counted a ++ placed a
+
+-- a matrix for the packed words ws of q logins with w columns and the public words x
+abbrev pub batchTests : Lent → List ℕ → List ℕ → ℕ → ℕ → Tests
+batchTests a ws x q w =
+    sizeTests (2 * w) q ++ packedTests w q ws ++ publicTests (2 * w) x ++ rowsTests q (a .rows) ++ colsTests (2 * w) (a .cols)
+    ++ counted a ++ placed a

@@ -1,4 +1,5 @@
 // Sparse matrices, lent as four number slices: row, column, low word and high word of each entry.
+use crate::fold;
 use crate::tests;
 use crate::walk;
 use magnetar_field::eq::EqBits;
@@ -7,7 +8,9 @@ use magnetar_field::gf128::Gf128;
 use magnetar_field::sizes;
 use magnetar_field::words;
 ghost use mathlib.Core.Path.{_≡_};
-ghost use mathlib.Core.Bool.{true};
+ghost use mathlib.Core.Bool.{true, _&&_};
+ghost use lib.Dec.{leb};
+ghost use Rattle.magnetar_r1cs.specs.Every.{every};
 ghost use Prim.Native.Nat.{ℕ, _+_, _*_, _/_, _%_, _^_, _<_, _≤_};
 ghost use mathlib.Core.List.{_++_};
 ghost use lib.ListN.{length, take, drop, replicate};
@@ -16,11 +19,13 @@ ghost use Rattle.magnetar_field.specs.Tabulate.{tabulate};
 ghost use Rattle.magnetar_field.specs.Words.{elements, words};
 ghost use Rattle.magnetar_field.specs.EqTable.{eqTable};
 ghost use Rattle.magnetar_field.specs.Entries.{answer};
-ghost use Rattle.magnetar_r1cs.specs.Matrix.{sumOver, rowTotal, share, binary};
+ghost use Rattle.magnetar_r1cs.specs.Matrix.{sumOver, rowTotal, share, isBit, binary, bitValued};
 ghost use Rattle.magnetar_r1cs.specs.Lent.{lent, entriesOf, matrixOf};
-ghost use Rattle.magnetar_r1cs.specs.Table.{cross, Equal, Point};
-ghost use Rattle.magnetar_r1cs.specs.Tests.{allBelow};
-ghost use Rattle.magnetar_r1cs.specs.Entries.{applyRefusal, applyOut, tableRefusal, tableOut, tableScratch, atAnswer, atScratch, flagged, flaggedOf, binaryRefusal};
+ghost use Rattle.magnetar_r1cs.specs.Table.{cross, loginTotal, loginBlock, Equal, Point};
+ghost use Rattle.magnetar_r1cs.specs.Sum.{blocks};
+ghost use Rattle.magnetar_r1cs.specs.Packed.{loginWords};
+ghost use Rattle.magnetar_r1cs.specs.Tests.{allBelow, noted, batchTests};
+ghost use Rattle.magnetar_r1cs.specs.Entries.{applyRefusal, applyOut, tableRefusal, tableOut, tableScratch, atAnswer, atScratch, flagged, flaggedOf, binaryRefusal, packedRefusal, packedOut};
 
 // An answer: yes, no, or the number of a refusal.
 pub enum Flag {
@@ -149,6 +154,91 @@ pub fn is_binary(rows: usize, cols: usize, row: &[usize], col: &[usize], lo: &[u
         return Flag::Refused(n);
     }
     if walk::all_bits(row, col, lo, hi) {
+        return Flag::Yes;
+    }
+    Flag::No
+}
+
+// One login's product: the public part, and the part of its bits.
+fn login_product(row: &[usize], col: &[usize], lo: &[u64], hi: &[u64], w: usize, x: &[u64], login: &[u64], out: &mut [u64])
+    requires { ⌜ Equal (now row) (now col) (now lo) (now hi) ⌝ }
+    requires { ⌜ length (now out) % 2 ≡ 0 ⌝ }
+    ensures { λ _. ⌜ now (out .exit) ≡ words (tabulate (loginTotal w (elements (now (x .entry))) (now (login .entry)) (entriesOf (now (row .entry)) (now (col .entry)) (now (lo .entry)) (now (hi .entry)))) (length (now (out .entry)) / 2)) ⌝ }
+{
+    words::clear(out);
+    walk::add_public(row, col, lo, hi, w, x, out);
+    walk::add_bits(row, col, lo, hi, w, login, out);
+}
+
+// The products of the q logins, one behind the other, n rows each.
+fn products(row: &[usize], col: &[usize], lo: &[u64], hi: &[u64], packed: &[u64], x: &[u64], q: usize, w: usize, n: usize, out: &mut [u64])
+    requires { ⌜ Equal (now row) (now col) (now lo) (now hi) ⌝ }
+    requires { ⌜ (w ≤ 32768) × (q ≤ 4096) × (n ≤ 65536) × (length (now packed) ≡ q * loginWords w) × (length (now out) ≡ q * (2 * n)) ⌝ }
+    ensures { λ _. ⌜ now (out .exit) ≡ words (blocks (loginBlock w (elements (now (x .entry))) (now (packed .entry)) (entriesOf (now (row .entry)) (now (col .entry)) (now (lo .entry)) (now (hi .entry))) n) q) ⌝ }
+{
+    let k = fold::login_words(w);
+    let m = 2 * n;
+    let mut u = 0;
+    while u < q {
+        let a = u * k;
+        let b = a + k;
+        let c = u * m;
+        let d = c + m;
+        login_product(row, col, lo, hi, w, x, &packed[a..b], &mut out[c..d]);
+        u += 1;
+    }
+}
+
+// Every value is 0 or 1 and no column exceeds w.
+fn bit_valued(row: &[usize], col: &[usize], lo: &[u64], hi: &[u64], w: usize) -> bool
+    requires { ⌜ Equal (now row) (now col) (now lo) (now hi) ⌝ }
+    requires { ⌜ w ≤ 32768 ⌝ }
+    ensures { λ r. ⌜ r ≡ every (λ e. isBit e && leb (e .col) w) (entriesOf (now (row .entry)) (now (col .entry)) (now (lo .entry)) (now (hi .entry))) ⌝ }
+{
+    if walk::all_bits(row, col, lo, hi) {
+        return tests::all_below(col, w + 1);
+    }
+    false
+}
+
+// 1, 2, 3, 4, 5, 6 and 7 of a matrix for q logins of w columns.
+pub(crate) fn batch_refusal(rows: usize, cols: usize, row: &[usize], col: &[usize], lo: &[u64], hi: &[u64], packed: &[u64], x: &[u64], q: usize, w: usize) -> u32
+    ensures { λ r. ⌜ r ≡ noted 0 (batchTests (lent rows cols (now (row .entry)) (now (col .entry)) (now (lo .entry)) (now (hi .entry))) (now (packed .entry)) (now (x .entry)) q w) ⌝ }
+{
+    let n = tests::note(0, 1, !tests::is_half(w));
+    let n = tests::note(n, 1, !tests::is_size(1, 4096, q));
+    if n != 0 {
+        return n;
+    }
+    let n = tests::note(0, 2, packed.len() != q * fold::login_words(w));
+    let n = tests::note(n, 3, x.len() != 2 * w - 2);
+    let n = tests::note(n, 4, !tests::is_size(1, 65536, rows));
+    if n != 0 {
+        return n;
+    }
+    let n = tests::note(0, 4, q * rows > 1048576);
+    let n = tests::note(n, 5, cols != 2 * w);
+    let n = tests::counts(n, row.len(), col.len(), lo.len(), hi.len());
+    tests::places(n, rows, cols, row, col)
+}
+
+// The products of a batch's logins, one behind the other; yes where all of them are 0 or 1 because every value is and no
+// column exceeds w. 1: no such columns or logins; 2: not as many packed words; 3: not as many public words; 4: no such rows;
+// 5: other columns; 6, 7 as for `apply`; 15: too little room.
+pub fn apply_simd_packed(rows: usize, cols: usize, row: &[usize], col: &[usize], lo: &[u64], hi: &[u64], packed: &[u64], x: &[u64], q: usize, w: usize, out: &mut [u64]) -> Flag
+    ensures flag { λ r. ⌜ flagged r ≡ flaggedOf (packedRefusal (lent rows cols (now (row .entry)) (now (col .entry)) (now (lo .entry)) (now (hi .entry))) (now (packed .entry)) (now (x .entry)) q w (now (out .entry))) (bitValued w (matrixOf (lent rows cols (now (row .entry)) (now (col .entry)) (now (lo .entry)) (now (hi .entry))))) ⌝ }
+    ensures products { λ _. ⌜ now (out .exit) ≡ packedOut (lent rows cols (now (row .entry)) (now (col .entry)) (now (lo .entry)) (now (hi .entry))) (now (packed .entry)) (now (x .entry)) q w (now (out .entry)) ⌝ }
+{
+    let n = batch_refusal(rows, cols, row, col, lo, hi, packed, x, q, w);
+    if n != 0 {
+        return Flag::Refused(n);
+    }
+    let end = q * (2 * rows);
+    if out.len() < end {
+        return Flag::Refused(15);
+    }
+    products(row, col, lo, hi, packed, x, q, w, rows, &mut out[..end]);
+    if bit_valued(row, col, lo, hi, w) {
         return Flag::Yes;
     }
     Flag::No
