@@ -79,3 +79,11 @@ fold-is q w ws p e =
     one u y h g =
         row-in (loginPart w ws u) w (getD (eqTable p) u 0) y g
         ∙ rw (eqTable-get p u (rw e at h), bit-unpacked q w ws u y h g) (⊗-bit (packedBit (loginPart w ws u) y) (eqAt p u) (bit-lt (loginPart w ws u) y) (eqAt-lt p u))
+
+-- ---- unused bits never matter: words whose bits agree below w hold the same batch
+pub unused-bits : (q w : ℕ) (ws vs : List ℕ)
+    → ((u y : ℕ) → u < q → y < w → packedBit (loginPart w ws u) y ≡ packedBit (loginPart w vs u) y) → unpacked q w ws ≡ unpacked q w vs
+unfolding unpacked
+unused-bits q w ws vs h =
+    tabulate-ext (λ u. tabulate (packedBit (loginPart w ws u)) w) (λ u. tabulate (packedBit (loginPart w vs u)) w) q
+    (λ u a. tabulate-ext (packedBit (loginPart w ws u)) (packedBit (loginPart w vs u)) w (λ y b. h u y a b))

@@ -44,8 +44,13 @@ point-of least n p s z l r =
 pub eq-built : (p s : List ℕ) → Point p s → eqOut p s ≡ words (eqTable (elements p))
 unfolding eqRefusal
 eq-built p s h =
-    rw (eq-eqb (length p % 2) 0 (h .even), le-ltb 40 (length p) (h .short), le-ltb (length s) (tableWords p) (omega (arith, h .room)),
-    drop-of-length-le s {i = tableWords p} (omega (arith, h .room)), append-nil)
+    rw (
+      eq-eqb (length p % 2) 0 (h .even),
+      le-ltb 40 (length p) (h .short),
+      le-ltb (length s) (tableWords p) (omega (arith, h .room)),
+      drop-of-length-le s {i = tableWords p} (omega (arith, h .room)),
+      append-nil,
+    )
 
 -- a point's elements are as many as the logarithm says
 pub point-size : (least n : ℕ) (p : List ℕ) → Sized least 65536 n → length p ≡ 2 * log₂ n → n ≡ 2 ^ length (elements p)

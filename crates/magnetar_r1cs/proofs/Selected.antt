@@ -87,9 +87,11 @@ module _ (word base e : ℕ) (t₀ t : List ℕ) (left : ℕ) (s : Selected word
             where
               bit-zero-of : (i : ℕ) → bitAt 0 i ≡ 0
               bit-zero-of i = rw zero-div
+
           go : (t : Bool) → leb base y ≡ t → selectAt 0 base e y ≡ 0
           go true t = select-in 0 base e y (leb-true base y t) ∙ rw (zero-bit (y - base)) (zero-mul e)
           go false t = select-before 0 base e y (leb-false base y t)
+
       last : (y : ℕ) → getD t y 0 ≡ getD t y 0 ⊕ selectAt left base e y
       last y = rw (z, none y) (sym (⊕-zero (getD t y 0)))
 
@@ -207,6 +209,7 @@ columns-end ws w e base t₀ t h a = a ∙ raised-ext (upTo ws w e base) (rowSel
         go : (c : Bool) → ltb y w ≡ c → rowSelect ws w e y ≡ 0
         go true c = row-in ws w e y (ltb-true y w c) ∙ rw (← bit-missing ws y (omega arith)) (zero-mul e)
         go false c = row-out ws w e y (ltb-false y w c)
+
     all : (y : ℕ) (c : Bool) → ltb y base ≡ c → upTo ws w e base y ≡ rowSelect ws w e y
     all y true c = upTo-in ws w e base y (ltb-true y base c)
     all y false c = let l : base ≤ y = ltb-false y base c in upTo-out ws w e base y l ∙ sym (rest y l h)

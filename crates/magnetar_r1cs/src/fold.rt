@@ -110,7 +110,14 @@ fn fold_in(packed: &[u64], q: usize, w: usize, point: &[u64], out: &mut [u64], s
 
 // The batch folded at the point: column y is the sum over the logins of eq times the bit. 1: no such columns or logins; 2: not
 // as many packed words; 11: the point is not of the logins' length; 15: too little room.
-pub fn fold_packed_w(packed: &[u64], q: usize, w: usize, point: &[u64], out: &mut [u64], scratch: &mut [u64]) -> u32
+pub fn fold_packed_w(
+    packed: &[u64],
+    q: usize,
+    w: usize,
+    point: &[u64],
+    out: &mut [u64],
+    scratch: &mut [u64],
+) -> u32
     ensures answer { λ r. ⌜ r ≡ foldRefusal (now (packed .entry)) q w (now (point .entry)) (now (out .entry)) (now (scratch .entry)) ⌝ }
     ensures folded { λ _. ⌜ now (out .exit) ≡ foldOut (now (packed .entry)) q w (now (point .entry)) (now (out .entry)) (now (scratch .entry)) ⌝ }
     ensures cleared { λ _. ⌜ now (scratch .exit) ≡ foldScratch (now (packed .entry)) q w (now (point .entry)) (now (out .entry)) (now (scratch .entry)) ⌝ }

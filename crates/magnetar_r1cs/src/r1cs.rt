@@ -35,7 +35,14 @@ pub enum Flag {
 }
 
 // Sets out to the product of the entries with the factors.
-pub(crate) fn product(row: &[usize], col: &[usize], lo: &[u64], hi: &[u64], factors: &[u64], out: &mut [u64])
+pub(crate) fn product(
+    row: &[usize],
+    col: &[usize],
+    lo: &[u64],
+    hi: &[u64],
+    factors: &[u64],
+    out: &mut [u64],
+)
     requires { ⌜ Equal (now row) (now col) (now lo) (now hi) ⌝ }
     requires { ⌜ length (now out) % 2 ≡ 0 ⌝ }
     ensures { λ _. ⌜ now (out .exit) ≡ words (tabulate (rowTotal (share (elements (now (factors .entry)))) (entriesOf (now (row .entry)) (now (col .entry)) (now (lo .entry)) (now (hi .entry)))) (length (now (out .entry)) / 2)) ⌝ }
@@ -46,7 +53,16 @@ pub(crate) fn product(row: &[usize], col: &[usize], lo: &[u64], hi: &[u64], fact
 
 // The product with the vector z. 1: no such columns; 4: no such rows; 6: no such entries; 7: an entry outside; 11: z is not
 // of the columns' length; 15: too little room.
-pub fn apply(rows: usize, cols: usize, row: &[usize], col: &[usize], lo: &[u64], hi: &[u64], z: &[u64], out: &mut [u64]) -> u32
+pub fn apply(
+    rows: usize,
+    cols: usize,
+    row: &[usize],
+    col: &[usize],
+    lo: &[u64],
+    hi: &[u64],
+    z: &[u64],
+    out: &mut [u64],
+) -> u32
     ensures answer { λ r. ⌜ r ≡ applyRefusal (lent rows cols (now (row .entry)) (now (col .entry)) (now (lo .entry)) (now (hi .entry))) (now (z .entry)) (now (out .entry)) ⌝ }
     ensures product { λ _. ⌜ now (out .exit) ≡ applyOut (lent rows cols (now (row .entry)) (now (col .entry)) (now (lo .entry)) (now (hi .entry))) (now (z .entry)) (now (out .entry)) ⌝ }
 {
@@ -73,7 +89,15 @@ pub(crate) fn eq_in(point: &[u64], s: &mut [u64])
 }
 
 // The table of the extension at the row point; s is room for the eq table, and is left 0.
-fn table_in(row: &[usize], col: &[usize], lo: &[u64], hi: &[u64], point: &[u64], out: &mut [u64], s: &mut [u64])
+fn table_in(
+    row: &[usize],
+    col: &[usize],
+    lo: &[u64],
+    hi: &[u64],
+    point: &[u64],
+    out: &mut [u64],
+    s: &mut [u64],
+)
     requires { ⌜ Equal (now col) (now row) (now lo) (now hi) ⌝ }
     requires { ⌜ length (now out) % 2 ≡ 0 ⌝ }
     requires { ⌜ Point (now point) (now s) ⌝ }
@@ -87,7 +111,17 @@ fn table_in(row: &[usize], col: &[usize], lo: &[u64], hi: &[u64], point: &[u64],
 
 // The extension at the row point and every column. 1, 4, 6, 7 as for `apply`; 11: the point is not of the rows' length;
 // 15: too little room.
-pub fn eval_mle_table(rows: usize, cols: usize, row: &[usize], col: &[usize], lo: &[u64], hi: &[u64], point: &[u64], out: &mut [u64], scratch: &mut [u64]) -> u32
+pub fn eval_mle_table(
+    rows: usize,
+    cols: usize,
+    row: &[usize],
+    col: &[usize],
+    lo: &[u64],
+    hi: &[u64],
+    point: &[u64],
+    out: &mut [u64],
+    scratch: &mut [u64],
+) -> u32
     ensures answer { λ r. ⌜ r ≡ tableRefusal (lent rows cols (now (row .entry)) (now (col .entry)) (now (lo .entry)) (now (hi .entry))) (now (point .entry)) (now (out .entry)) (now (scratch .entry)) ⌝ }
     ensures table { λ _. ⌜ now (out .exit) ≡ tableOut (lent rows cols (now (row .entry)) (now (col .entry)) (now (lo .entry)) (now (hi .entry))) (now (point .entry)) (now (out .entry)) (now (scratch .entry)) ⌝ }
     ensures cleared { λ _. ⌜ now (scratch .exit) ≡ tableScratch (lent rows cols (now (row .entry)) (now (col .entry)) (now (lo .entry)) (now (hi .entry))) (now (point .entry)) (now (out .entry)) (now (scratch .entry)) ⌝ }
@@ -104,12 +138,29 @@ pub fn eval_mle_table(rows: usize, cols: usize, row: &[usize], col: &[usize], lo
     }
     let end = 2 * cols;
     let room = 2 * rows;
-    table_in(row, col, lo, hi, point, &mut out[..end], &mut scratch[..room]);
+    table_in(
+        row,
+        col,
+        lo,
+        hi,
+        point,
+        &mut out[..end],
+        &mut scratch[..room],
+    );
     0
 }
 
 // The sum over the entries at both points; s is room for the two eq tables, the first of n elements, and is left 0.
-fn sum_in(row: &[usize], col: &[usize], lo: &[u64], hi: &[u64], r: &[u64], c: &[u64], n: usize, s: &mut [u64]) -> Gf128
+fn sum_in(
+    row: &[usize],
+    col: &[usize],
+    lo: &[u64],
+    hi: &[u64],
+    r: &[u64],
+    c: &[u64],
+    n: usize,
+    s: &mut [u64],
+) -> Gf128
     requires { ⌜ Equal (now row) (now col) (now lo) (now hi) ⌝ }
     requires { ⌜ (n ≤ 65536) × (allBelow 65536 (now col) ≡ true) × (2 * n ≤ length (now s)) ⌝ }
     requires { ⌜ Point (now r) (take (2 * n) (now s)) ⌝ }
@@ -127,7 +178,17 @@ fn sum_in(row: &[usize], col: &[usize], lo: &[u64], hi: &[u64], r: &[u64], c: &[
 
 // The extension at the row point and the column point. 1, 4, 6, 7 as for `apply`; 11: a point is not of the wanted length;
 // 15: too little room.
-pub fn eval_mle_at(rows: usize, cols: usize, row: &[usize], col: &[usize], lo: &[u64], hi: &[u64], r: &[u64], c: &[u64], scratch: &mut [u64]) -> Evaluated
+pub fn eval_mle_at(
+    rows: usize,
+    cols: usize,
+    row: &[usize],
+    col: &[usize],
+    lo: &[u64],
+    hi: &[u64],
+    r: &[u64],
+    c: &[u64],
+    scratch: &mut [u64],
+) -> Evaluated
     ensures value { λ v. ⌜ answer v ≡ atAnswer (lent rows cols (now (row .entry)) (now (col .entry)) (now (lo .entry)) (now (hi .entry))) (now (r .entry)) (now (c .entry)) (now (scratch .entry)) ⌝ }
     ensures cleared { λ _. ⌜ now (scratch .exit) ≡ atScratch (lent rows cols (now (row .entry)) (now (col .entry)) (now (lo .entry)) (now (hi .entry))) (now (r .entry)) (now (c .entry)) (now (scratch .entry)) ⌝ }
 {
@@ -146,7 +207,14 @@ pub fn eval_mle_at(rows: usize, cols: usize, row: &[usize], col: &[usize], lo: &
 }
 
 // Every value is 0 or 1. Refused with 1, 4, 6 and 7 as `apply` is.
-pub fn is_binary(rows: usize, cols: usize, row: &[usize], col: &[usize], lo: &[u64], hi: &[u64]) -> Flag
+pub fn is_binary(
+    rows: usize,
+    cols: usize,
+    row: &[usize],
+    col: &[usize],
+    lo: &[u64],
+    hi: &[u64],
+) -> Flag
     ensures { λ r. ⌜ flagged r ≡ flaggedOf (binaryRefusal (lent rows cols (now (row .entry)) (now (col .entry)) (now (lo .entry)) (now (hi .entry)))) (binary (matrixOf (lent rows cols (now (row .entry)) (now (col .entry)) (now (lo .entry)) (now (hi .entry))))) ⌝ }
 {
     let n = tests::lone(rows, cols, row, col, lo, hi);
@@ -160,7 +228,16 @@ pub fn is_binary(rows: usize, cols: usize, row: &[usize], col: &[usize], lo: &[u
 }
 
 // One login's product: the public part, and the part of its bits.
-fn login_product(row: &[usize], col: &[usize], lo: &[u64], hi: &[u64], w: usize, x: &[u64], login: &[u64], out: &mut [u64])
+fn login_product(
+    row: &[usize],
+    col: &[usize],
+    lo: &[u64],
+    hi: &[u64],
+    w: usize,
+    x: &[u64],
+    login: &[u64],
+    out: &mut [u64],
+)
     requires { ⌜ Equal (now row) (now col) (now lo) (now hi) ⌝ }
     requires { ⌜ length (now out) % 2 ≡ 0 ⌝ }
     ensures { λ _. ⌜ now (out .exit) ≡ words (tabulate (loginTotal w (elements (now (x .entry))) (now (login .entry)) (entriesOf (now (row .entry)) (now (col .entry)) (now (lo .entry)) (now (hi .entry)))) (length (now (out .entry)) / 2)) ⌝ }
@@ -171,7 +248,18 @@ fn login_product(row: &[usize], col: &[usize], lo: &[u64], hi: &[u64], w: usize,
 }
 
 // The products of the q logins, one behind the other, n rows each.
-fn products(row: &[usize], col: &[usize], lo: &[u64], hi: &[u64], packed: &[u64], x: &[u64], q: usize, w: usize, n: usize, out: &mut [u64])
+fn products(
+    row: &[usize],
+    col: &[usize],
+    lo: &[u64],
+    hi: &[u64],
+    packed: &[u64],
+    x: &[u64],
+    q: usize,
+    w: usize,
+    n: usize,
+    out: &mut [u64],
+)
     requires { ⌜ Equal (now row) (now col) (now lo) (now hi) ⌝ }
     requires { ⌜ (w ≤ 32768) × (q ≤ 4096) × (n ≤ 65536) × (length (now packed) ≡ q * loginWords w) × (length (now out) ≡ q * (2 * n)) ⌝ }
     ensures { λ _. ⌜ now (out .exit) ≡ words (blocks (loginBlock w (elements (now (x .entry))) (now (packed .entry)) (entriesOf (now (row .entry)) (now (col .entry)) (now (lo .entry)) (now (hi .entry))) n) q) ⌝ }
@@ -202,7 +290,18 @@ fn bit_valued(row: &[usize], col: &[usize], lo: &[u64], hi: &[u64], w: usize) ->
 }
 
 // 1, 2, 3, 4, 5, 6 and 7 of a matrix for q logins of w columns.
-pub(crate) fn batch_refusal(rows: usize, cols: usize, row: &[usize], col: &[usize], lo: &[u64], hi: &[u64], packed: &[u64], x: &[u64], q: usize, w: usize) -> u32
+pub(crate) fn batch_refusal(
+    rows: usize,
+    cols: usize,
+    row: &[usize],
+    col: &[usize],
+    lo: &[u64],
+    hi: &[u64],
+    packed: &[u64],
+    x: &[u64],
+    q: usize,
+    w: usize,
+) -> u32
     ensures { λ r. ⌜ r ≡ noted 0 (batchTests (lent rows cols (now (row .entry)) (now (col .entry)) (now (lo .entry)) (now (hi .entry))) (now (packed .entry)) (now (x .entry)) q w) ⌝ }
 {
     let n = tests::note(0, 1, !tests::is_half(w));
@@ -225,7 +324,19 @@ pub(crate) fn batch_refusal(rows: usize, cols: usize, row: &[usize], col: &[usiz
 // The products of a batch's logins, one behind the other; yes where all of them are 0 or 1 because every value is and no
 // column exceeds w. 1: no such columns or logins; 2: not as many packed words; 3: not as many public words; 4: no such rows;
 // 5: other columns; 6, 7 as for `apply`; 15: too little room.
-pub fn apply_simd_packed(rows: usize, cols: usize, row: &[usize], col: &[usize], lo: &[u64], hi: &[u64], packed: &[u64], x: &[u64], q: usize, w: usize, out: &mut [u64]) -> Flag
+pub fn apply_simd_packed(
+    rows: usize,
+    cols: usize,
+    row: &[usize],
+    col: &[usize],
+    lo: &[u64],
+    hi: &[u64],
+    packed: &[u64],
+    x: &[u64],
+    q: usize,
+    w: usize,
+    out: &mut [u64],
+) -> Flag
     ensures flag { λ r. ⌜ flagged r ≡ flaggedOf (packedRefusal (lent rows cols (now (row .entry)) (now (col .entry)) (now (lo .entry)) (now (hi .entry))) (now (packed .entry)) (now (x .entry)) q w (now (out .entry))) (bitValued w (matrixOf (lent rows cols (now (row .entry)) (now (col .entry)) (now (lo .entry)) (now (hi .entry))))) ⌝ }
     ensures products { λ _. ⌜ now (out .exit) ≡ packedOut (lent rows cols (now (row .entry)) (now (col .entry)) (now (lo .entry)) (now (hi .entry))) (now (packed .entry)) (now (x .entry)) q w (now (out .entry)) ⌝ }
 {

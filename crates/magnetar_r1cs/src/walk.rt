@@ -61,13 +61,23 @@ fn add_share(out: &mut [u64], r: usize, c: usize, v: Gf128, factors: &[u64])
 }
 
 // Adds the product of the entries with the factors.
-pub(crate) fn add_product(row: &[usize], col: &[usize], lo: &[u64], hi: &[u64], factors: &[u64], out: &mut [u64])
+pub(crate) fn add_product(
+    row: &[usize],
+    col: &[usize],
+    lo: &[u64],
+    hi: &[u64],
+    factors: &[u64],
+    out: &mut [u64],
+)
     requires { ⌜ Equal (now row) (now col) (now lo) (now hi) ⌝ }
     ensures { λ _. ⌜ elements (now (out .exit)) ≡ raised (rowTotal (share (elements (now (factors .entry)))) (entriesOf (now (row .entry)) (now (col .entry)) (now (lo .entry)) (now (hi .entry)))) (elements (now (out .entry))) ⌝ }
 {
     let mut i = 0;
     while i < row.len() {
-        let v = Gf128 { lo: lo[i], hi: hi[i] };
+        let v = Gf128 {
+            lo: lo[i],
+            hi: hi[i],
+        };
         add_share(out, row[i], col[i], v, factors);
         i += 1;
     }
@@ -88,13 +98,24 @@ fn add_public_share(out: &mut [u64], r: usize, c: usize, v: Gf128, w: usize, x: 
 }
 
 // Adds the part of the product that comes from the public columns.
-pub(crate) fn add_public(row: &[usize], col: &[usize], lo: &[u64], hi: &[u64], w: usize, x: &[u64], out: &mut [u64])
+pub(crate) fn add_public(
+    row: &[usize],
+    col: &[usize],
+    lo: &[u64],
+    hi: &[u64],
+    w: usize,
+    x: &[u64],
+    out: &mut [u64],
+)
     requires { ⌜ Equal (now row) (now col) (now lo) (now hi) ⌝ }
     ensures { λ _. ⌜ elements (now (out .exit)) ≡ raised (rowTotal (publicShare w (elements (now (x .entry)))) (entriesOf (now (row .entry)) (now (col .entry)) (now (lo .entry)) (now (hi .entry)))) (elements (now (out .entry))) ⌝ }
 {
     let mut i = 0;
     while i < row.len() {
-        let v = Gf128 { lo: lo[i], hi: hi[i] };
+        let v = Gf128 {
+            lo: lo[i],
+            hi: hi[i],
+        };
         add_public_share(out, row[i], col[i], v, w, x);
         i += 1;
     }
@@ -110,20 +131,38 @@ fn add_bit_share(out: &mut [u64], r: usize, c: usize, v: Gf128, w: usize, login:
 }
 
 // Adds the part of the product that comes from a login's bits.
-pub(crate) fn add_bits(row: &[usize], col: &[usize], lo: &[u64], hi: &[u64], w: usize, login: &[u64], out: &mut [u64])
+pub(crate) fn add_bits(
+    row: &[usize],
+    col: &[usize],
+    lo: &[u64],
+    hi: &[u64],
+    w: usize,
+    login: &[u64],
+    out: &mut [u64],
+)
     requires { ⌜ Equal (now row) (now col) (now lo) (now hi) ⌝ }
     ensures { λ _. ⌜ elements (now (out .exit)) ≡ raised (rowTotal (bitShare w (now (login .entry))) (entriesOf (now (row .entry)) (now (col .entry)) (now (lo .entry)) (now (hi .entry)))) (elements (now (out .entry))) ⌝ }
 {
     let mut i = 0;
     while i < row.len() {
-        let v = Gf128 { lo: lo[i], hi: hi[i] };
+        let v = Gf128 {
+            lo: lo[i],
+            hi: hi[i],
+        };
         add_bit_share(out, row[i], col[i], v, w, login);
         i += 1;
     }
 }
 
 // The sum over the entries of the value times the factors at the row, and at the column behind the n row factors.
-pub(crate) fn sum_products(row: &[usize], col: &[usize], lo: &[u64], hi: &[u64], factors: &[u64], n: usize) -> Gf128
+pub(crate) fn sum_products(
+    row: &[usize],
+    col: &[usize],
+    lo: &[u64],
+    hi: &[u64],
+    factors: &[u64],
+    n: usize,
+) -> Gf128
     requires { ⌜ Equal (now row) (now col) (now lo) (now hi) ⌝ }
     requires { ⌜ (n ≤ 65536) × (allBelow 65536 (now col) ≡ true) ⌝ }
     ensures { λ r. ⌜ value r ≡ sumOver (cross (elements (now (factors .entry))) n) (entriesOf (now (row .entry)) (now (col .entry)) (now (lo .entry)) (now (hi .entry))) ⌝ }
@@ -131,9 +170,18 @@ pub(crate) fn sum_products(row: &[usize], col: &[usize], lo: &[u64], hi: &[u64],
     let mut sum = Gf128 { lo: 0, hi: 0 };
     let mut i = 0;
     while i < row.len() {
-        let v = Gf128 { lo: lo[i], hi: hi[i] };
+        let v = Gf128 {
+            lo: lo[i],
+            hi: hi[i],
+        };
         let at = n + col[i];
-        sum = gf128::add(sum, scale(v, gf128::mul(words::get(factors, row[i]), words::get(factors, at))));
+        sum = gf128::add(
+            sum,
+            scale(
+                v,
+                gf128::mul(words::get(factors, row[i]), words::get(factors, at)),
+            ),
+        );
         i += 1;
     }
     sum
@@ -146,7 +194,10 @@ pub(crate) fn all_bits(row: &[usize], col: &[usize], lo: &[u64], hi: &[u64]) -> 
 {
     let mut i = 0;
     while i < row.len() {
-        if !gf128::is_bit(Gf128 { lo: lo[i], hi: hi[i] }) {
+        if !gf128::is_bit(Gf128 {
+            lo: lo[i],
+            hi: hi[i],
+        }) {
             return false;
         }
         i += 1;

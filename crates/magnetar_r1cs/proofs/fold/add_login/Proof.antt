@@ -12,10 +12,6 @@ use Rattle.magnetar_r1cs.proofs.Selected.{upTo, columns-start, columns-
 use borrow.Author.Needs.{needs}
 use Rattle.magnetar_r1cs.proofs.fold.add_login.Statement.{statement}
 use Rattle.magnetar_r1cs.proofs.fold.add_login.Tie as tie
-use Rattle.magnetar_r1cs.proofs.fold.add_login.Reads as reads
-use Rattle.magnetar_r1cs.proofs.fold.add_login.Lts as lts
-use Rattle.magnetar_r1cs.proofs.fold.add_word.Reads as add-word-reads
-use Rattle.magnetar_r1cs.proofs.fold.kept.Reads as kept-reads
 
 abbrev Inv-loop : tie.InvT-loop
 Inv-loop login w e out₀ k₀ base₀ out k base = (length out ≡ length out₀) × (base ≡ 64 * k) × (base ≤ 65536) × (elements out ≡ raised (upTo login w (value e) base) (elements out₀))
@@ -23,64 +19,53 @@ Inv-loop login w e out₀ k₀ base₀ out k base = (length out ≡ length out�
 abbrev μ-loop : tie.MeasureT-loop
 μ-loop login w e out₀ k₀ base₀ out k base = length login - k
 
--- src/fold.rt:59:5
 loop-holds : tie.Need-loop-holds Inv-loop μ-loop
 loop-holds c = (refl, refl, search needs, columns-start _ _ _ _)
 
--- src/fold.rt:61:13
 same-length : tie.Need-same-length Inv-loop μ-loop
 same-length c = c .before .before .loop .inv .0
 
--- src/fold.rt:61:13
 returns : tie.Need-returns Inv-loop μ-loop
 returns c = columns-end _ _ _ _ _ _ (inl (c .if1 .taken)) (c .before .before .loop .inv .3)
 
--- src/fold.rt:63:23
 mul-kept : tie.Need-mul-kept Inv-loop μ-loop
 mul-kept c = search needs
 
--- src/fold.rt:63:23
 shared-slice-read-kept : tie.Need-shared-slice-read-kept Inv-loop μ-loop
 shared-slice-read-kept c = search needs
 
--- src/fold.rt:63:33
 sub-kept : tie.Need-sub-kept Inv-loop μ-loop
 sub-kept c = search needs
 
--- src/fold.rt:63:18
 kept-requires : tie.Need-kept-requires Inv-loop μ-loop
 kept-requires c κs = search needs
 
--- src/fold.rt:63:9
 add-word-requires : tie.Need-add-word-requires Inv-loop μ-loop
 add-word-requires c κs = search needs
 
--- src/fold.rt:64:9
 add-k : tie.Need-add-k Inv-loop μ-loop
 add-k c = search needs
 
--- src/fold.rt:65:9
 add-base : tie.Need-add-base Inv-loop μ-loop
 add-base c = search needs
 
--- src/fold.rt:59:5
 loop-less : tie.Need-loop-less Inv-loop μ-loop
 loop-less c = omega arith
 
--- src/fold.rt:59:5
 loop-again : tie.Need-loop-again Inv-loop μ-loop
 loop-again c =
     let l = c .before .before .before .before .before .before .before .before .loop in
     let s = c .before .before .before .before .before .before .before .before .before .before .before in
-    let b = l .inv .1 in
-    (search needs, omega arith, omega arith,
-    rw b (columns-more _ _ _ (l .k) _ _ _ (omega (arith, c .before .before .before .before .before .shared-slice-known2 .given (l .k))) (omega arith) (rw b at (l .inv .3)) (rw (c .before .before .before .before .kept .ensures, b) at (c .before .before .add-word .ensures))))
+    let b = l .inv .1 in (
+      search needs,
+      omega arith,
+      omega arith,
+      rw b (columns-more _ _ _ (l .k) _ _ _ (omega (arith, c .before .before .before .before .before .shared-slice-known2 .given (l .k))) (omega arith) (rw b at (l .inv .3)) (rw (c .before .before .before .before .kept .ensures, b) at (c .before .before .add-word .ensures))),
+    )
 
--- src/fold.rt:53:1
 same-length-2 : tie.Need-same-length-2 Inv-loop μ-loop
 same-length-2 c = c .before .loop .inv .0
 
--- src/fold.rt:53:1
 returns-2 : tie.Need-returns-2 Inv-loop μ-loop
 returns-2 c = columns-end _ _ _ _ _ _ (inr (omega arith)) (c .before .loop .inv .3)
 

@@ -13,12 +13,6 @@ use Rattle.magnetar_r1cs.proofs.Folds.{Part, part-of, part-is, logins-s
 use borrow.Author.Needs.{needs}
 use Rattle.magnetar_r1cs.proofs.fold.add_logins.Statement.{statement}
 use Rattle.magnetar_r1cs.proofs.fold.add_logins.Tie as tie
-use Rattle.magnetar_r1cs.proofs.fold.add_logins.Reads as reads
-use Rattle.magnetar_r1cs.proofs.fold.add_logins.Lts as lts
-use Rattle.magnetar_field.proofs.words.get.Reads as get-reads
-use Rattle.magnetar_r1cs.proofs.fold.add_login.Reads as add-login-reads
-use Rattle.magnetar_r1cs.proofs.fold.login_words.Reads as login-words-reads
-
 
 abbrev Inv-loop : tie.InvT-loop
 Inv-loop packed q w factors out₀ k u₀ out u = (length out ≡ length out₀) × (u ≤ q) × (k ≡ loginWords w) × (k ≤ 512) × (elements out ≡ raised (foldSum w packed (elements factors) u) (elements out₀))
@@ -26,68 +20,57 @@ Inv-loop packed q w factors out₀ k u₀ out u = (length out ≡ length out₀)
 abbrev μ-loop : tie.MeasureT-loop
 μ-loop packed q w factors out₀ k u₀ out u = q - u
 
--- src/fold.rt:87:9
 login-words-requires : tie.Need-login-words-requires Inv-loop μ-loop
 login-words-requires c κs = search needs
 
--- src/fold.rt:89:5
 loop-holds : tie.Need-loop-holds Inv-loop μ-loop
 loop-holds c = (refl, search needs, c .login-words .ensures .0, c .login-words .ensures .1, logins-start _ _ _ _)
 
--- src/fold.rt:90:17
 mul-a : tie.Need-mul-a Inv-loop μ-loop
 mul-a c = let s = c .before .before .before .before .before .before in let l = c .before .loop in let p = part-of (s .args .w) _ _ (l .u) _ (s .pre .1) (l .inv .3) (l .inv .2) (s .pre .2) (c .loop-test .taken) in omega (arith, p .ends, p .small)
 
--- src/fold.rt:91:17
 add-b : tie.Need-add-b Inv-loop μ-loop
 add-b c = let s = c .before .before .before .before .before .before in let l = c .before .loop in let p = part-of (s .args .w) _ _ (l .u) _ (s .pre .1) (l .inv .3) (l .inv .2) (s .pre .2) (c .loop-test .taken) in omega (arith, p .ends, p .small)
 
--- src/fold.rt:92:19
 mul-add-login : tie.Need-mul-add-login Inv-loop μ-loop
 mul-add-login c = let s = c .before .before .before .before .before .before in let l = c .before .loop in let p = part-of (s .args .w) _ _ (l .u) _ (s .pre .1) (l .inv .3) (l .inv .2) (s .pre .2) (c .loop-test .taken) in omega (arith, p .ends, p .small)
 
--- src/fold.rt:92:19
 sub-add-login : tie.Need-sub-add-login Inv-loop μ-loop
 sub-add-login c = search needs
 
--- src/fold.rt:92:19
 part-add-login-start : tie.Need-part-add-login-start Inv-loop μ-loop
 part-add-login-start c = search needs
 
--- src/fold.rt:92:19
 part-add-login-end : tie.Need-part-add-login-end Inv-loop μ-loop
 part-add-login-end c = let s = c .before .before .before .before .before .before in let l = c .before .loop in let p = part-of (s .args .w) _ _ (l .u) _ (s .pre .1) (l .inv .3) (l .inv .2) (s .pre .2) (c .loop-test .taken) in omega (arith, p .ends, p .small)
 
--- src/fold.rt:92:37
 get-requires : tie.Need-get-requires Inv-loop μ-loop
 get-requires c κs = search needs
 
--- src/fold.rt:92:9
 add-login-requires : tie.Need-add-login-requires Inv-loop μ-loop
 add-login-requires c κs = search needs
 
--- src/fold.rt:93:9
 add-u : tie.Need-add-u Inv-loop μ-loop
 add-u c = search needs
 
--- src/fold.rt:89:5
 loop-less : tie.Need-loop-less Inv-loop μ-loop
 loop-less c = omega arith
 
--- src/fold.rt:89:5
 loop-again : tie.Need-loop-again Inv-loop μ-loop
 loop-again c =
     let s = c .before .before .before .before .before .before .before .before .before .before .before .before in
-    let l = c .before .before .before .before .before .before .before .loop in
-    (search needs, omega arith, l .inv .2, l .inv .3,
-    logins-more (s .args .w) _ _ (l .u) _ _ _ (l .inv .4)
-    (rw (part-is (s .args .w) (s .args .packed .now) (l .u) _ (l .inv .2), c .before .before .before .before .get .ensures) at (c .before .before .add-login .ensures)))
+    let l = c .before .before .before .before .before .before .before .loop in (
+      search needs,
+      omega arith,
+      l .inv .2,
+      l .inv .3,
+      logins-more (s .args .w) _ _ (l .u) _ _ _ (l .inv .4)
+          (rw (part-is (s .args .w) (s .args .packed .now) (l .u) _ (l .inv .2), c .before .before .before .before .get .ensures) at (c .before .before .add-login .ensures)),
+    )
 
--- src/fold.rt:83:1
 same-length : tie.Need-same-length Inv-loop μ-loop
 same-length c = c .before .loop .inv .0
 
--- src/fold.rt:83:1
 returns : tie.Need-returns Inv-loop μ-loop
 returns c =
     let l = c .before .loop in

@@ -13,9 +13,6 @@ use Rattle.magnetar_r1cs.proofs.Selected.{Selected, selected-start, sel
 use borrow.Author.Needs.{needs}
 use Rattle.magnetar_r1cs.proofs.fold.add_word.Statement.{statement}
 use Rattle.magnetar_r1cs.proofs.fold.add_word.Tie as tie
-use Rattle.magnetar_r1cs.proofs.fold.add_word.Reads as reads
-use Rattle.magnetar_r1cs.proofs.fold.add_word.Lts as lts
-use Rattle.magnetar_r1cs.proofs.walk.add_at.Reads as add-at-reads
 
 abbrev Inv-loop : tie.InvT-loop
 Inv-loop word base e out₀ left₀ out left = (length out ≡ length out₀) × (left < 2 ^ 64) × Selected word base (value e) (elements out₀) (elements out) left
@@ -23,42 +20,33 @@ Inv-loop word base e out₀ left₀ out left = (length out ≡ length out₀) ×
 abbrev μ-loop : tie.MeasureT-loop
 μ-loop word base e out₀ left₀ out left = left
 
--- src/fold.rt:45:5
 loop-holds : tie.Need-loop-holds Inv-loop μ-loop
 loop-holds c = (refl, search needs, selected-start _ _ _ _)
 
--- src/fold.rt:46:17
 cast-b : tie.Need-cast-b Inv-loop μ-loop
 cast-b c = omega (arith, trailing-le 64 (c .before .loop .left))
 
--- src/fold.rt:47:27
 add-add-at : tie.Need-add-add-at Inv-loop μ-loop
 add-add-at c = omega (arith, trailing-le 64 (c .before .before .loop .left))
 
--- src/fold.rt:47:9
 add-at-requires : tie.Need-add-at-requires Inv-loop μ-loop
 add-at-requires c κs = search needs
 
--- src/fold.rt:48:24
 sub-left : tie.Need-sub-left Inv-loop μ-loop
 sub-left c = search needs
 
--- src/fold.rt:45:5
 loop-less : tie.Need-loop-less Inv-loop μ-loop
 loop-less c = cleared-less (c .before .before .before .before .before .loop .left) (omega arith)
 
--- src/fold.rt:45:5
 loop-again : tie.Need-loop-again Inv-loop μ-loop
 loop-again c =
     let l = c .before .before .before .before .before .loop in
     let p : 0 < l .left = omega arith in
     (search needs, omega (arith, cleared-less (l .left) p), rw (c .before .before .add-at .ensures) (selected-more _ _ _ _ _ _ (l .inv .2) _ (lowest 64 (l .left) p (l .inv .1))))
 
--- src/fold.rt:40:1
 same-length : tie.Need-same-length Inv-loop μ-loop
 same-length c = c .before .loop .inv .0
 
--- src/fold.rt:40:1
 returns : tie.Need-returns Inv-loop μ-loop
 returns c = selected-end _ _ _ _ _ _ (c .before .loop .inv .2) (c .loop-test .left)
 

@@ -9,43 +9,32 @@ use Rattle.magnetar_r1cs.proofs.TableLaws.{cleared-raised, elements-wor
 use borrow.Author.Needs.{needs}
 use Rattle.magnetar_r1cs.proofs.fold.fold_in.Statement.{statement}
 use Rattle.magnetar_r1cs.proofs.fold.fold_in.Tie as tie
-use Rattle.magnetar_r1cs.proofs.fold.fold_in.Reads as reads
-use Rattle.magnetar_r1cs.proofs.fold.fold_in.Lts as lts
-use Rattle.magnetar_field.proofs.words.clear.Reads as clear-reads
-use Rattle.magnetar_r1cs.proofs.fold.add_logins.Reads as add-logins-reads
-use Rattle.magnetar_r1cs.proofs.r1cs.eq_in.Reads as eq-in-reads
 
--- src/fold.rt:105:5
 eq-in-requires : tie.Need-eq-in-requires
 eq-in-requires c κs = search needs
 
--- src/fold.rt:106:5
 clear-requires : tie.Need-clear-requires
 clear-requires c κs = search needs
 
--- src/fold.rt:107:5
 add-logins-requires : tie.Need-add-logins-requires
 add-logins-requires c κs = search needs
 
--- src/fold.rt:108:5
 clear-requires-2 : tie.Need-clear-requires-2
 clear-requires-2 c κs = search needs
 
--- src/fold.rt:98:1
 same-length : tie.Need-same-length
 same-length c = search needs
 
--- src/fold.rt:98:1
 same-length-2 : tie.Need-same-length-2
 same-length-2 c = search needs
 
--- src/fold.rt:98:1
 returns : tie.Need-returns
 returns c =
     let s = c .before .before .before .before .before .before .before .before .before .before .before .before .before .before .before .before .before .before .before .before .before in
-    let same : length (c .before .before .before .before .before .before .before .before .before .before .before .before .before .before .before .eq-in .last .1 .0) ≡ length (now (s .args .s)) = search needs in
-    (cleared-raised _ (now (s .args .out)) _ _ (s .pre .1 .0) (search needs) (c .before .before .before .before .before .before .before .before .before .before .before .clear .ensures) (rw (c .before .before .before .before .before .before .before .before .before .before .before .before .before .before .before .eq-in .ensures, elements-words) at (c .before .before .before .before .before .before .add-logins .ensures)) (λ i. omega (arith, c .before .before .before .before .slice-known5 .given i)),
-    c .before .before .clear2 .ensures ∙ ap (λ (n : ℕ). replicate n 0) same)
+    let same : length (c .before .before .before .before .before .before .before .before .before .before .before .before .before .before .before .eq-in .last .1 .0) ≡ length (now (s .args .s)) = search needs in (
+      cleared-raised _ (now (s .args .out)) _ _ (s .pre .1 .0) (search needs) (c .before .before .before .before .before .before .before .before .before .before .before .clear .ensures) (rw (c .before .before .before .before .before .before .before .before .before .before .before .before .before .before .before .eq-in .ensures, elements-words) at (c .before .before .before .before .before .before .add-logins .ensures)) (λ i. omega (arith, c .before .before .before .before .slice-known5 .given i)),
+      c .before .before .clear2 .ensures ∙ ap (λ (n : ℕ). replicate n 0) same,
+    )
 
 pub fold-in-spec : {M : Type 1} → statement M
 fold-in-spec =

@@ -26,14 +26,6 @@ use lib.Dec.{lit≤}
 use borrow.Author.Needs.{needs}
 use Rattle.magnetar_r1cs.proofs.fold.fold_packed_w.Statement.{statement}
 use Rattle.magnetar_r1cs.proofs.fold.fold_packed_w.Tie as tie
-use Rattle.magnetar_r1cs.proofs.fold.fold_packed_w.Reads as reads
-use Rattle.magnetar_r1cs.proofs.fold.fold_packed_w.Lts as lts
-use Rattle.magnetar_field.proofs.sizes.log2.Reads as log2-reads
-use Rattle.magnetar_r1cs.proofs.fold.fold_in.Reads as fold-in-reads
-use Rattle.magnetar_r1cs.proofs.fold.login_words.Reads as login-words-reads
-use Rattle.magnetar_r1cs.proofs.tests.is_half.Reads as is-half-reads
-use Rattle.magnetar_r1cs.proofs.tests.is_size.Reads as is-size-reads
-use Rattle.magnetar_r1cs.proofs.tests.note.Reads as note-reads
 
 -- the tests of the sizes, and those after them
 abbrev first : tie.Start → Tests
@@ -70,118 +62,92 @@ fits c =
     let k = noted-clear 0 (rest (c .before .before .before .before .before .before .before .before .before .before .before .before .before .before .before .before)) refl (sym (late (c .before)) ∙ c .if2 .left) .1 in
     record { packed = eqb-true _ _ (not-false _ (k .0)); point = eqb-true _ _ (not-false _ (k .1 .0)); out = ltb-false _ _ (k .1 .1 .0); scratch = ltb-false _ _ (k .1 .1 .1 .0) }
 
--- src/fold.rt:118:32
 is-half-requires : tie.Need-is-half-requires
 is-half-requires c κs = search needs
 
--- src/fold.rt:118:9
 note-requires : tie.Need-note-requires
 note-requires c κs = search needs
 
--- src/fold.rt:119:32
 is-size-requires : tie.Need-is-size-requires
 is-size-requires c κs = search needs
 
--- src/fold.rt:119:9
 note-requires-2 : tie.Need-note-requires-2
 note-requires-2 c κs = search needs
 
--- src/fold.rt:121:9
 returns : tie.Need-returns
 unfolding foldRefusal
 returns c =
     let e = noted-front (first (c .before .before .before .before .before .before .before .before .before)) (rest (c .before .before .before .before .before .before .before .before .before)) _ (early (c .before)) (c .if1 .taken) in
     (e, (turned _ _ e (c .if1 .taken), turned _ _ e (c .if1 .taken)))
 
--- src/fold.rt:123:51
 login-words-requires : tie.Need-login-words-requires
 login-words-requires c κs = small c .half
 
--- src/fold.rt:123:47
 mul-note : tie.Need-mul-note
 mul-note c = let z = small (c .before) .logins in omega (arith, product-most (c .before .before .before .before .before .before .before .before .before .before .args .q) (c .login-words .result) (z .high) (c .login-words .ensures .1))
 
--- src/fold.rt:123:9
 note-requires-3 : tie.Need-note-requires-3
 note-requires-3 c κs = search needs
 
--- src/fold.rt:124:51
 log2-requires : tie.Need-log2-requires
 log2-requires c κs = search needs
 
--- src/fold.rt:124:47
 mul-note-2 : tie.Need-mul-note-2
 mul-note-2 c =
     let z = sized-wider 65536 (lit≤ tt) (small (c .before .before .before) .logins) in
     omega (arith, c .log2 .ensures, log-most _ (z .high) (z .power))
 
--- src/fold.rt:124:9
 note-requires-4 : tie.Need-note-requires-4
 note-requires-4 c κs = search needs
 
--- src/fold.rt:125:44
 mul-note-3 : tie.Need-mul-note-3
 mul-note-3 c = omega (arith, small (c .before .before .before .before) .half)
 
--- src/fold.rt:125:9
 note-requires-5 : tie.Need-note-requires-5
 note-requires-5 c κs = search needs
 
--- src/fold.rt:126:48
 mul-note-4 : tie.Need-mul-note-4
 mul-note-4 c = omega (arith, small (c .before .before .before .before .before) .logins .high)
 
--- src/fold.rt:126:9
 note-requires-6 : tie.Need-note-requires-6
 note-requires-6 c κs = search needs
 
--- src/fold.rt:128:9
 returns-2 : tie.Need-returns-2
 unfolding foldRefusal
 returns-2 c =
     let e = noted-late (first (c .before .before .before .before .before .before .before .before .before .before .before .before .before .before .before .before)) (rest (c .before .before .before .before .before .before .before .before .before .before .before .before .before .before .before .before)) _ _ (early (c .before .before .before .before .before .before .before .before)) (c .before .before .before .before .before .before .before .if1 .left) (late (c .before)) in
     (e, (turned _ _ e (c .if2 .taken), turned _ _ e (c .if2 .taken)))
 
--- src/fold.rt:130:15
 mul-end : tie.Need-mul-end
 mul-end c = omega (arith, small (c .before .before .before .before .before .before .before) .half)
 
--- src/fold.rt:131:16
 mul-room : tie.Need-mul-room
 mul-room c = omega (arith, small (c .before .before .before .before .before .before .before) .logins .high)
 
--- src/fold.rt:132:34
 slice-relend-prefix-fold-in : tie.Need-slice-relend-prefix-fold-in
 slice-relend-prefix-fold-in c = fits c .out
 
--- src/fold.rt:132:34
 slice-aggregate-fold-in : tie.Need-slice-aggregate-fold-in
 slice-aggregate-fold-in c = sym (length-take-le _ _ (fits (c .before) .out))
 
--- src/fold.rt:132:51
 slice-relend-prefix-fold-in-2 : tie.Need-slice-relend-prefix-fold-in-2
 slice-relend-prefix-fold-in-2 c = fits (c .before) .scratch
 
--- src/fold.rt:132:51
 slice-aggregate-fold-in-2 : tie.Need-slice-aggregate-fold-in-2
 slice-aggregate-fold-in-2 c = sym (length-take-le _ _ (fits (c .before .before) .scratch))
 
--- src/fold.rt:132:5
 fold-in-requires : tie.Need-fold-in-requires
 fold-in-requires c κs =
     let f = fits (c .before .before) in
     let m = small (c .before .before .before .before .before .before .before .before .before) in
     ((m .half, m .logins .high, f .packed), (rw (length-take-le _ _ (f .out)) (omega arith), point-of _ _ _ _ (sized-wider 65536 (lit≤ tt) (m .logins)) (f .point) (length-take-le _ _ (f .scratch))))
 
--- src/fold.rt:113:1
 same-length : tie.Need-same-length
 same-length c = search needs
 
--- src/fold.rt:113:1
 same-length-2 : tie.Need-same-length-2
 same-length-2 c = search needs
 
--- src/fold.rt:113:1
 returns-3 : tie.Need-returns-3
 unfolding foldRefusal
 returns-3 c =
@@ -190,9 +156,13 @@ returns-3 c =
     let k = c .before .before .before .before .before .before .before in
     let e = sym (k .if2 .left) ∙ noted-late (first s) (rest s) _ _ (early (k .before .before .before .before .before .before .before .before)) (k .before .before .before .before .before .before .before .if1 .left) (late (k .before)) in
     let f = fits k in
-    let z = sized-wider 65536 (lit≤ tt) (small (k .before .before .before .before .before .before .before) .logins) in
-    (e, (in-front _ _ _ _ (f .out) (c .before .before .before .before .fold-in .ensures .0) ∙ rw (fold-is (x .q) (x .w) (now (x .packed)) _ (point-size _ _ _ z (f .point))) (done _ _ e refl),
-        rw (c .before .before .before .before .fold-in .ensures .1, length-take-le (2 * x .q) (now (x .scratch)) (f .scratch)) (done _ _ e refl)))
+    let z = sized-wider 65536 (lit≤ tt) (small (k .before .before .before .before .before .before .before) .logins) in (
+      e,
+      (
+        in-front _ _ _ _ (f .out) (c .before .before .before .before .fold-in .ensures .0) ∙ rw (fold-is (x .q) (x .w) (now (x .packed)) _ (point-size _ _ _ z (f .point))) (done _ _ e refl),
+        rw (c .before .before .before .before .fold-in .ensures .1, length-take-le (2 * x .q) (now (x .scratch)) (f .scratch)) (done _ _ e refl),
+      ),
+    )
 
 pub fold-packed-w-spec : {M : Type 1} → statement M
 fold-packed-w-spec =

@@ -10,21 +10,16 @@ use Rattle.magnetar_r1cs.specs.Fold.{wordSelect}
 use borrow.Author.Needs.{needs}
 use Rattle.magnetar_r1cs.proofs.fold.kept.Statement.{statement}
 use Rattle.magnetar_r1cs.proofs.fold.kept.Tie as tie
-use Rattle.magnetar_r1cs.proofs.fold.kept.Reads as reads
-use Rattle.magnetar_r1cs.proofs.fold.kept.Lts as lts
 
--- src/fold.rt:34:24
 shl-result : tie.Need-shl-result
 shl-result c = search needs
 
--- src/fold.rt:34:16
 rem-result : tie.Need-rem-result
 rem-result c =
     let n = c .before .args .n in
     let e : 1 * 2 ^ n % 2 ^ 64 ≡ 1 * 2 ^ n = shl-exact 1 n 64 (lit< tt) (omega arith) in
     rw e (omega (arith, pow-pos n))
 
--- src/fold.rt:34:9
 returns : tie.Need-returns
 unfolding wordSelect
 returns c =
@@ -33,7 +28,6 @@ returns c =
     let o : 1 * 2 ^ n ≡ 2 ^ n = omega arith in
     rw (e, o, lt-ltb n 64 (omega arith))
 
--- src/fold.rt:30:1
 returns-2 : tie.Need-returns-2
 unfolding wordSelect
 returns-2 c = rw (le-ltb (c .before .args .n) 64 (omega arith))

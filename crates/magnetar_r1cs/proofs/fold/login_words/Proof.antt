@@ -6,18 +6,13 @@ use Rattle.magnetar_r1cs.specs.Packed.{loginWords}
 use borrow.Author.Needs.{needs}
 use Rattle.magnetar_r1cs.proofs.fold.login_words.Statement.{statement}
 use Rattle.magnetar_r1cs.proofs.fold.login_words.Tie as tie
-use Rattle.magnetar_r1cs.proofs.fold.login_words.Reads as reads
-use Rattle.magnetar_r1cs.proofs.fold.login_words.Lts as lts
 
--- src/fold.rt:79:11
 add-result : tie.Need-add-result
 add-result c = search needs
 
--- src/fold.rt:79:5
 mul-result : tie.Need-mul-result
 mul-result c = search needs
 
--- src/fold.rt:74:1
 returns : tie.Need-returns
 unfolding loginWords
 returns c = (refl, omega arith)

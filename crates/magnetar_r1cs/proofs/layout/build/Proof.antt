@@ -15,38 +15,27 @@ use Rattle.magnetar_r1cs.proofs.Laid.{sound}
 use borrow.Author.Needs.{needs}
 use Rattle.magnetar_r1cs.proofs.layout.build.Statement.{statement}
 use Rattle.magnetar_r1cs.proofs.layout.build.Tie as tie
-use Rattle.magnetar_r1cs.proofs.layout.build.Reads as reads
-use Rattle.magnetar_r1cs.proofs.layout.build.Lts as lts
-use Rattle.magnetar_r1cs.proofs.layout.fill.Reads as fill-reads
-use Rattle.magnetar_r1cs.proofs.layout.refusal.Reads as refusal-reads
-use Rattle.magnetar_r1cs.proofs.tests.note.Reads as note-reads
 
--- src/layout.rt:94:9
 refusal-requires : tie.Need-refusal-requires
 refusal-requires c κs = search needs
 
--- src/layout.rt:95:9
 note-requires : tie.Need-note-requires
 note-requires c κs = search needs
 
--- src/layout.rt:97:9
 returns : tie.Need-returns
 returns c =
     let e = build-is _ _ _ _ _ (c .before .before .refusal .ensures) (c .before .note .ensures) in
     (e, turned _ _ e (c .if1 .taken))
 
--- src/layout.rt:99:5
 fill-requires : tie.Need-fill-requires
 fill-requires c κs =
     let x = c .before .before .before .before .before .before .args in
     let n = note-clear 15 (ltb (length (now (x .offsets))) (length (now (x .lens)))) _ refl (sym (c .before .before .note .ensures) ∙ c .before .if1 .left) in
     (sound _ _ (sym (c .before .before .before .refusal .ensures) ∙ n .0), ltb-false _ _ (n .1))
 
--- src/layout.rt:90:1
 same-length : tie.Need-same-length
 same-length c = search needs
 
--- src/layout.rt:90:1
 returns-2 : tie.Need-returns-2
 returns-2 c =
     let k = c .before .before .before .before in

@@ -11,9 +11,6 @@ use Rattle.magnetar_r1cs.proofs.Laid.{Laid, laid-start, laid-more, laid
 use borrow.Author.Needs.{needs}
 use Rattle.magnetar_r1cs.proofs.layout.place.Statement.{statement}
 use Rattle.magnetar_r1cs.proofs.layout.place.Tie as tie
-use Rattle.magnetar_r1cs.proofs.layout.place.Reads as reads
-use Rattle.magnetar_r1cs.proofs.layout.place.Lts as lts
-use Rattle.magnetar_r1cs.proofs.layout.next_multiple.Reads as next-multiple-reads
 
 abbrev Inv-loop : tie.InvT-loop
 Inv-loop w lens k c₀ i₀ c i = (i ≤ k) × (c ≤ w) × Laid lens c i
@@ -21,26 +18,21 @@ Inv-loop w lens k c₀ i₀ c i = (i ≤ k) × (c ≤ w) × Laid lens c i
 abbrev μ-loop : tie.MeasureT-loop
 μ-loop w lens k c₀ i₀ c i = k - i
 
--- src/layout.rt:64:5
 loop-holds : tie.Need-loop-holds Inv-loop μ-loop
 loop-holds c = (search needs, search needs, laid-start _)
 
--- src/layout.rt:65:17
 mul-n : tie.Need-mul-n Inv-loop μ-loop
 mul-n c = search needs
 
--- src/layout.rt:65:17
 shared-slice-read-n : tie.Need-shared-slice-read-n Inv-loop μ-loop
 shared-slice-read-n c = search needs
 
--- src/layout.rt:66:13
 next-multiple-requires : tie.Need-next-multiple-requires Inv-loop μ-loop
 next-multiple-requires c κs =
     let s = c .before .before .before .before in
     let z = each-size _ _ (c .before .before .loop .i) (s .pre .0 .lengths) (omega arith) in
     (z .least, omega arith, omega (arith, z .most))
 
--- src/layout.rt:66:13
 add-c : tie.Need-add-c Inv-loop μ-loop
 add-c c =
     let s = c .before .before .before .before .before in
@@ -48,15 +40,12 @@ add-c c =
     let z = each-size _ _ (l .i) (s .pre .0 .lengths) (omega arith) in
     omega (arith, z .most, next-most (l .c) _ (z .least))
 
--- src/layout.rt:67:9
 add-i : tie.Need-add-i Inv-loop μ-loop
 add-i c = search needs
 
--- src/layout.rt:64:5
 loop-less : tie.Need-loop-less Inv-loop μ-loop
 loop-less c = search needs
 
--- src/layout.rt:64:5
 loop-again : tie.Need-loop-again Inv-loop μ-loop
 loop-again c =
     let l = c .before .before .before .loop in
@@ -64,22 +53,18 @@ loop-again c =
     let next = rw (← c .next-multiple .ensures) at (laid-more _ _ _ (l .inv .2) (omega arith)) in
     (omega arith, omega (arith, laid-within _ _ _ _ next (s .pre .0 .lengths)), next)
 
--- src/layout.rt:69:22
 mul-next-multiple : tie.Need-mul-next-multiple Inv-loop μ-loop
 mul-next-multiple c = search needs
 
--- src/layout.rt:69:22
 shared-slice-read-next-multiple : tie.Need-shared-slice-read-next-multiple Inv-loop μ-loop
 shared-slice-read-next-multiple c = search needs
 
--- src/layout.rt:69:5
 next-multiple-requires-2 : tie.Need-next-multiple-requires-2 Inv-loop μ-loop
 next-multiple-requires-2 c κs =
     let s = c .before .before .before .before in
     let z = each-size _ _ (s .args .k) (s .pre .0 .lengths) (omega arith) in
     (z .least, omega arith, omega (arith, z .most))
 
--- src/layout.rt:55:1
 returns : tie.Need-returns Inv-loop μ-loop
 returns c =
     let l = c .before .before .before .loop in

@@ -30,11 +30,6 @@ use Rattle.magnetar_r1cs.proofs.Room.{room-short, room-enough}
 use borrow.Author.Needs.{needs}
 use Rattle.magnetar_r1cs.proofs.r1cs.apply_simd_packed.Statement.{statement}
 use Rattle.magnetar_r1cs.proofs.r1cs.apply_simd_packed.Tie as tie
-use Rattle.magnetar_r1cs.proofs.r1cs.apply_simd_packed.Reads as reads
-use Rattle.magnetar_r1cs.proofs.r1cs.apply_simd_packed.Lts as lts
-use Rattle.magnetar_r1cs.proofs.r1cs.batch_refusal.Reads as batch-refusal-reads
-use Rattle.magnetar_r1cs.proofs.r1cs.bit_valued.Reads as bit-valued-reads
-use Rattle.magnetar_r1cs.proofs.r1cs.products.Reads as products-reads
 
 abbrev mat : tie.Start → Lent
 mat s = let x = s .args in lent (x .rows) (x .cols) (now (x .row)) (now (x .col)) (now (x .lo)) (now (x .hi))
@@ -52,26 +47,21 @@ none : (c : tie.Else2) → let s = c .before .before .before .before .before .be
 unfolding packedRefusal
 none c = noted-late (tests (c .before .before .before .before .before .before .before .before .before .before)) (roomTest (size (c .before .before .before .before .before .before .before .before .before .before)) (now (c .before .before .before .before .before .before .before .before .before .before .args .out))) _ _ (c .before .before .batch-refusal .ensures) (c .before .if1 .left) (room-enough (size (c .before .before .before .before .before .before .before .before .before .before)) (now (c .before .before .before .before .before .before .before .before .before .before .args .out)) (omega arith))
 
--- src/r1cs.rt:232:9
 batch-refusal-requires : tie.Need-batch-refusal-requires
 batch-refusal-requires c κs = search needs
 
--- src/r1cs.rt:234:9
 returns : tie.Need-returns
 unfolding packedRefusal
 returns c =
     let e = noted-front (tests (c .before .before .before .before .before .before .before .before .before)) (roomTest (size (c .before .before .before .before .before .before .before .before .before)) (now (c .before .before .before .before .before .before .before .before .before .args .out))) _ (c .before .batch-refusal .ensures) (c .if1 .taken) in
     (flag-refused _ e (c .if1 .taken), turned _ _ e (c .if1 .taken))
 
--- src/r1cs.rt:236:20
 mul-end : tie.Need-mul-end
 mul-end c = omega (arith, ok c .rows-size .high)
 
--- src/r1cs.rt:236:15
 mul-end-2 : tie.Need-mul-end-2
 mul-end-2 c = omega (arith, product-fits (c .before .before .before .before .before .before .before .before .before .args .q) (2 * c .before .before .before .before .before .before .before .before .before .args .rows) (ok c .logins .high) (omega (arith, ok c .rows-size .high)))
 
--- src/r1cs.rt:238:9
 returns-2 : tie.Need-returns-2
 unfolding packedRefusal
 returns-2 c =
@@ -79,51 +69,45 @@ returns-2 c =
     let e : _≡_ {A = ℕ} 15 (noted 0 (tests s ++ roomTest (size s) (now (s .args .out)))) = noted-late (tests s) (roomTest (size s) (now (s .args .out))) _ _ (c .before .before .batch-refusal .ensures) (c .before .if1 .left) (room-short (size s) (now (s .args .out)) (c .if2 .taken)) in
     (flag-refused {n = 15} _ e (λ h. omega (arith, h)), turned {n = 15} _ _ e (λ h. omega (arith, h)))
 
--- src/r1cs.rt:240:55
 slice-relend-prefix-products : tie.Need-slice-relend-prefix-products
 slice-relend-prefix-products c = search needs
 
--- src/r1cs.rt:240:55
 slice-aggregate-products : tie.Need-slice-aggregate-products
 slice-aggregate-products c = sym (length-take-le _ _ (omega arith))
 
--- src/r1cs.rt:240:5
 products-requires : tie.Need-products-requires
 products-requires c κs =
     let o = ok (c .before .before) in
     (o .entries .equal, (o .half, o .logins .high, o .rows-size .high, o .packed, length-take-le _ _ (omega arith)))
 
--- src/r1cs.rt:241:8
 bit-valued-requires : tie.Need-bit-valued-requires
 bit-valued-requires c κs = let o = ok (c .before .before .before .before .before) in (o .entries .equal, o .half)
 
--- src/r1cs.rt:242:9
 same-length : tie.Need-same-length
 same-length c = search needs
 
--- src/r1cs.rt:242:9
 returns-3 : tie.Need-returns-3
 unfolding bitValued matrixOf
 returns-3 c =
     let s = c .before .before .before .before .before .before .before .before .before .before .before .before .before .before .before .before in
     let x = s .args in
-    let e = none (c .before .before .before .before .before .before) in
-    (flag-yes _ e (sym (c .before .bit-valued .ensures) ∙ c .if3 .taken),
-    rw (c .before .before .before .before .products .ensures, packed-is (mat s) (now (x .packed)) (elements (now (x .x))) (x .q) (x .w)) (done _ _ e refl))
+    let e = none (c .before .before .before .before .before .before) in (
+      flag-yes _ e (sym (c .before .bit-valued .ensures) ∙ c .if3 .taken),
+      rw (c .before .before .before .before .products .ensures, packed-is (mat s) (now (x .packed)) (elements (now (x .x))) (x .q) (x .w)) (done _ _ e refl),
+    )
 
--- src/r1cs.rt:228:1
 same-length-2 : tie.Need-same-length-2
 same-length-2 c = search needs
 
--- src/r1cs.rt:228:1
 returns-4 : tie.Need-returns-4
 unfolding bitValued matrixOf
 returns-4 c =
     let s = c .before .before .before .before .before .before .before .before .before .before .before .before .before .before .before .before in
     let x = s .args in
-    let e = none (c .before .before .before .before .before .before) in
-    (flag-no _ e (sym (c .before .bit-valued .ensures) ∙ c .if3 .left),
-    rw (c .before .before .before .before .products .ensures, packed-is (mat s) (now (x .packed)) (elements (now (x .x))) (x .q) (x .w)) (done _ _ e refl))
+    let e = none (c .before .before .before .before .before .before) in (
+      flag-no _ e (sym (c .before .bit-valued .ensures) ∙ c .if3 .left),
+      rw (c .before .before .before .before .products .ensures, packed-is (mat s) (now (x .packed)) (elements (now (x .x))) (x .q) (x .w)) (done _ _ e refl),
+    )
 
 pub apply-simd-packed-spec : {M : Type 1} → statement M
 apply-simd-packed-spec =

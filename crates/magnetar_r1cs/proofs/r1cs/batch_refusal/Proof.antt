@@ -23,14 +23,6 @@ use Rattle.magnetar_r1cs.proofs.Blocks.{product-fits}
 use borrow.Author.Needs.{needs}
 use Rattle.magnetar_r1cs.proofs.r1cs.batch_refusal.Statement.{statement}
 use Rattle.magnetar_r1cs.proofs.r1cs.batch_refusal.Tie as tie
-use Rattle.magnetar_r1cs.proofs.r1cs.batch_refusal.Reads as reads
-use Rattle.magnetar_r1cs.proofs.r1cs.batch_refusal.Lts as lts
-use Rattle.magnetar_r1cs.proofs.fold.login_words.Reads as login-words-reads
-use Rattle.magnetar_r1cs.proofs.tests.counts.Reads as counts-reads
-use Rattle.magnetar_r1cs.proofs.tests.is_half.Reads as is-half-reads
-use Rattle.magnetar_r1cs.proofs.tests.is_size.Reads as is-size-reads
-use Rattle.magnetar_r1cs.proofs.tests.note.Reads as note-reads
-use Rattle.magnetar_r1cs.proofs.tests.places.Reads as places-reads
 
 abbrev mat : tie.Start → Lent
 mat s = let x = s .args in lent (x .rows) (x .cols) (now (x .row)) (now (x .col)) (now (x .lo)) (now (x .hi))
@@ -68,87 +60,66 @@ small c =
 rows-most : (c : tie.Else2) → c .before .before .before .before .before .before .before .before .before .before .before .before .before .before .before .before .before .args .rows ≤ 65536
 rows-most c = not-bad (noted-clear 0 (second (c .before .before .before .before .before .before .before .before .before .before .before .before .before .before .before .before .before)) refl (sym (middle (c .before)) ∙ c .if2 .left) .1 .1 .1 .0) .high
 
--- src/r1cs.rt:208:32
 is-half-requires : tie.Need-is-half-requires
 is-half-requires c κs = search needs
 
--- src/r1cs.rt:208:9
 note-requires : tie.Need-note-requires
 note-requires c κs = search needs
 
--- src/r1cs.rt:209:32
 is-size-requires : tie.Need-is-size-requires
 is-size-requires c κs = search needs
 
--- src/r1cs.rt:209:9
 note-requires-2 : tie.Need-note-requires-2
 note-requires-2 c κs = search needs
 
--- src/r1cs.rt:211:9
 returns : tie.Need-returns
 returns c = noted-front (first (c .before .before .before .before .before .before .before .before .before .before .before)) (second (c .before .before .before .before .before .before .before .before .before .before .before) ++ third (c .before .before .before .before .before .before .before .before .before .before .before)) _ (early (c .before)) (c .if1 .taken)
 
--- src/r1cs.rt:213:51
 login-words-requires : tie.Need-login-words-requires
 login-words-requires c κs = small c .half
 
--- src/r1cs.rt:213:47
 mul-note : tie.Need-mul-note
 mul-note c = omega (arith, product-most (c .before .before .before .before .before .before .before .before .before .before .before .before .args .q) (c .login-words .result) (small (c .before) .logins) (c .login-words .ensures .1))
 
--- src/r1cs.rt:213:9
 note-requires-3 : tie.Need-note-requires-3
 note-requires-3 c κs = search needs
 
--- src/r1cs.rt:214:42
 mul-note-2 : tie.Need-mul-note-2
 mul-note-2 c = omega (arith, small (c .before .before) .half)
 
--- src/r1cs.rt:214:42
 sub-note : tie.Need-sub-note
 sub-note c = omega (arith, small (c .before .before) .least)
 
--- src/r1cs.rt:214:9
 note-requires-4 : tie.Need-note-requires-4
 note-requires-4 c κs = search needs
 
--- src/r1cs.rt:215:32
 is-size-requires-2 : tie.Need-is-size-requires-2
 is-size-requires-2 c κs = search needs
 
--- src/r1cs.rt:215:9
 note-requires-5 : tie.Need-note-requires-5
 note-requires-5 c κs = search needs
 
--- src/r1cs.rt:217:9
 returns-2 : tie.Need-returns-2
 returns-2 c = noted-late (first (c .before .before .before .before .before .before .before .before .before .before .before .before .before .before .before .before .before)) (second (c .before .before .before .before .before .before .before .before .before .before .before .before .before .before .before .before .before) ++ third (c .before .before .before .before .before .before .before .before .before .before .before .before .before .before .before .before .before)) _ _ (early (c .before .before .before .before .before .before .before)) (c .before .before .before .before .before .before .if1 .left) (noted-front (second (c .before .before .before .before .before .before .before .before .before .before .before .before .before .before .before .before .before)) (third (c .before .before .before .before .before .before .before .before .before .before .before .before .before .before .before .before .before)) _ (middle (c .before)) (c .if2 .taken))
 
--- src/r1cs.rt:219:31
 mul-note-3 : tie.Need-mul-note-3
 mul-note-3 c = omega (arith, product-fits (c .before .before .before .before .before .before .before .before .before .before .before .before .before .before .before .before .before .args .q) (c .before .before .before .before .before .before .before .before .before .before .before .before .before .before .before .before .before .args .rows) (small (c .before .before .before .before .before .before) .logins) (omega (arith, rows-most c)))
 
--- src/r1cs.rt:219:9
 note-requires-6 : tie.Need-note-requires-6
 note-requires-6 c κs = search needs
 
--- src/r1cs.rt:220:39
 mul-note-4 : tie.Need-mul-note-4
 mul-note-4 c = omega (arith, small (c .before .before .before .before .before .before .before) .half)
 
--- src/r1cs.rt:220:9
 note-requires-7 : tie.Need-note-requires-7
 note-requires-7 c κs = search needs
 
--- src/r1cs.rt:221:9
 counts-requires : tie.Need-counts-requires
 counts-requires c κs = search needs
 
--- src/r1cs.rt:222:5
 places-requires : tie.Need-places-requires
 places-requires c κs = search needs
 
--- src/r1cs.rt:205:1
 returns-3 : tie.Need-returns-3
 returns-3 c =
     noted-late (first (c .before .before .before .before .before .before .before .before .before .before .before .before .before .before .before .before .before .before .before .before .before)) (second (c .before .before .before .before .before .before .before .before .before .before .before .before .before .before .before .before .before .before .before .before .before) ++ third (c .before .before .before .before .before .before .before .before .before .before .before .before .before .before .before .before .before .before .before .before .before)) _ _ (early (c .before .before .before .before .before .before .before .before .before .before .before)) (c .before .before .before .before .before .before .before .before .before .before .if1 .left)

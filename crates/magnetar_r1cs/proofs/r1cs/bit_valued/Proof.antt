@@ -6,31 +6,22 @@ use Rattle.magnetar_r1cs.proofs.Split.{flag-is}
 use borrow.Author.Needs.{needs}
 use Rattle.magnetar_r1cs.proofs.r1cs.bit_valued.Statement.{statement}
 use Rattle.magnetar_r1cs.proofs.r1cs.bit_valued.Tie as tie
-use Rattle.magnetar_r1cs.proofs.r1cs.bit_valued.Reads as reads
-use Rattle.magnetar_r1cs.proofs.r1cs.bit_valued.Lts as lts
-use Rattle.magnetar_r1cs.proofs.tests.all_below.Reads as all-below-reads
-use Rattle.magnetar_r1cs.proofs.walk.all_bits.Reads as all-bits-reads
 
--- src/r1cs.rt:198:8
 all-bits-requires : tie.Need-all-bits-requires
 all-bits-requires c κs = search needs
 
--- src/r1cs.rt:199:38
 add-all-below : tie.Need-add-all-below
 add-all-below c = search needs
 
--- src/r1cs.rt:199:9
 all-below-requires : tie.Need-all-below-requires
 all-below-requires c κs = search needs
 
--- src/r1cs.rt:199:9
 returns : tie.Need-returns
 returns c =
     let s = c .before .before .before .before .before .before .before in
     let x = s .args in
     rw (← flag-is (x .w) (now (x .row)) (now (x .col)) (now (x .lo)) (now (x .hi)) (s .pre .0), ← c .before .before .all-bits .ensures, c .before .if1 .taken) (c .all-below .ensures)
 
--- src/r1cs.rt:193:1
 returns-2 : tie.Need-returns-2
 returns-2 c =
     let s = c .before .before .before .before .before .before in

@@ -27,12 +27,6 @@ use Rattle.magnetar_field.specs.Entries.{answered}
 use borrow.Author.Needs.{needs}
 use Rattle.magnetar_r1cs.proofs.r1cs.eval_mle_at.Statement.{statement}
 use Rattle.magnetar_r1cs.proofs.r1cs.eval_mle_at.Tie as tie
-use Rattle.magnetar_r1cs.proofs.r1cs.eval_mle_at.Reads as reads
-use Rattle.magnetar_r1cs.proofs.r1cs.eval_mle_at.Lts as lts
-use Rattle.magnetar_field.proofs.sizes.log2.Reads as log2-reads
-use Rattle.magnetar_r1cs.proofs.r1cs.sum_in.Reads as sum-in-reads
-use Rattle.magnetar_r1cs.proofs.tests.lone.Reads as lone-reads
-use Rattle.magnetar_r1cs.proofs.tests.note.Reads as note-reads
 
 -- the matrix that is lent
 abbrev mat : tie.Start → Lent
@@ -60,101 +54,87 @@ fits c =
     let k = noted-clear 0 (rest (c .before .before .before .before .before .before .before .before .before .before .before .before .before .before .before)) refl (sym (late (c .before)) ∙ c .if2 .left) .1 in
     record { row-point = eqb-true _ _ (not-false _ (k .0)); col-point = eqb-true _ _ (not-false _ (k .1 .0)); scratch = ltb-false _ _ (k .1 .1 .0) }
 
--- src/r1cs.rt:129:9
 lone-requires : tie.Need-lone-requires
 lone-requires c κs = search needs
 
--- src/r1cs.rt:131:9
 returns : tie.Need-returns
 unfolding atRefusal
 returns c =
     let e = noted-front (loneTests (mat (c .before .before .before .before .before .before .before .before .before))) (rest (c .before .before .before .before .before .before .before .before .before)) _ (c .before .lone .ensures) (c .if1 .taken) in
     (refused _ e (c .if1 .taken), turned _ _ e (c .if1 .taken))
 
--- src/r1cs.rt:133:47
 log2-requires : tie.Need-log2-requires
 log2-requires c κs = search needs
 
--- src/r1cs.rt:133:43
 mul-note : tie.Need-mul-note
 mul-note c =
     let z = lone (mat (c .before .before .before .before .before .before .before .before .before .before)) (sym (c .before .before .lone .ensures) ∙ c .before .if1 .left) .rows-size in
     omega (arith, c .log2 .ensures, log-most _ (z .high) (z .power))
 
--- src/r1cs.rt:133:9
 note-requires : tie.Need-note-requires
 note-requires c κs = search needs
 
--- src/r1cs.rt:134:47
 log2-requires-2 : tie.Need-log2-requires-2
 log2-requires-2 c κs = search needs
 
--- src/r1cs.rt:134:43
 mul-note-2 : tie.Need-mul-note-2
 mul-note-2 c =
     let z = lone (mat (c .before .before .before .before .before .before .before .before .before .before .before .before)) (sym (c .before .before .before .before .lone .ensures) ∙ c .before .before .before .if1 .left) .cols-size in
     omega (arith, c .log22 .ensures, log-most _ (z .high) (z .power))
 
--- src/r1cs.rt:134:9
 note-requires-2 : tie.Need-note-requires-2
 note-requires-2 c κs = search needs
 
--- src/r1cs.rt:135:53
 add-note : tie.Need-add-note
 add-note c =
     let m = lone (mat (c .before .before .before .before .before .before .before .before .before .before .before .before .before)) (sym (c .before .before .before .before .before .lone .ensures) ∙ c .before .before .before .before .if1 .left) in
     omega (arith, m .rows-size .high, m .cols-size .high)
 
--- src/r1cs.rt:135:48
 mul-note-3 : tie.Need-mul-note-3
 mul-note-3 c =
     let m = lone (mat (c .before .before .before .before .before .before .before .before .before .before .before .before .before)) (sym (c .before .before .before .before .before .lone .ensures) ∙ c .before .before .before .before .if1 .left) in
     omega (arith, m .rows-size .high, m .cols-size .high)
 
--- src/r1cs.rt:135:9
 note-requires-3 : tie.Need-note-requires-3
 note-requires-3 c κs = search needs
 
--- src/r1cs.rt:137:9
 returns-2 : tie.Need-returns-2
 unfolding atRefusal
 returns-2 c =
     let e = noted-late (loneTests (mat (c .before .before .before .before .before .before .before .before .before .before .before .before .before .before .before))) (rest (c .before .before .before .before .before .before .before .before .before .before .before .before .before .before .before)) _ _ (c .before .before .before .before .before .before .before .lone .ensures) (c .before .before .before .before .before .before .if1 .left) (late (c .before)) in
     (refused _ e (c .if2 .taken), turned _ _ e (c .if2 .taken))
 
--- src/r1cs.rt:139:21
 add-room : tie.Need-add-room
 add-room c = let m = matrix-fits c in omega (arith, m .rows-size .high, m .cols-size .high)
 
--- src/r1cs.rt:139:16
 mul-room : tie.Need-mul-room
 mul-room c = let m = matrix-fits c in omega (arith, m .rows-size .high, m .cols-size .high)
 
--- src/r1cs.rt:140:59
 slice-relend-prefix-sum-in : tie.Need-slice-relend-prefix-sum-in
 slice-relend-prefix-sum-in c = fits c .scratch
 
--- src/r1cs.rt:140:59
 slice-aggregate-sum-in : tie.Need-slice-aggregate-sum-in
 slice-aggregate-sum-in c = sym (length-take-le _ _ (fits (c .before) .scratch))
 
--- src/r1cs.rt:140:22
 sum-in-requires : tie.Need-sum-in-requires
 sum-in-requires c κs =
     let m = matrix-fits (c .before) in
     let f = fits (c .before) in
     let x = c .before .before .before .before .before .before .before .before .before .before .before .before .before .before .before .before .args in
-    let l = length-take-le (2 * (x .rows + x .cols)) (now (x .scratch)) (f .scratch) in
-    (m .entries .equal,
-    ((m .rows-size .high, below-wider _ _ _ (m .cols-size .high) (m .entries .cols-in), omega (arith, l)),
-    (point-of _ _ _ _ (m .rows-size) (f .row-point) (length-take-le _ _ (omega (arith, l))),
-    point-of _ _ _ _ (m .cols-size) (f .col-point) (rw (length-drop, l) (omega arith)))))
+    let l = length-take-le (2 * (x .rows + x .cols)) (now (x .scratch)) (f .scratch) in (
+      m .entries .equal,
+      (
+        (m .rows-size .high, below-wider _ _ _ (m .cols-size .high) (m .entries .cols-in), omega (arith, l)),
+        (
+          point-of _ _ _ _ (m .rows-size) (f .row-point) (length-take-le _ _ (omega (arith, l))),
+          point-of _ _ _ _ (m .cols-size) (f .col-point) (rw (length-drop, l) (omega arith)),
+        ),
+      ),
+    )
 
--- src/r1cs.rt:125:1
 same-length : tie.Need-same-length
 same-length c = search needs
 
--- src/r1cs.rt:125:1
 returns-3 : tie.Need-returns-3
 unfolding atRefusal mleAt matrixOf
 returns-3 c =

@@ -8,29 +8,19 @@ use Rattle.magnetar_r1cs.proofs.TableLaws.{cleared-raised-twice}
 use borrow.Author.Needs.{needs}
 use Rattle.magnetar_r1cs.proofs.r1cs.login_product.Statement.{statement}
 use Rattle.magnetar_r1cs.proofs.r1cs.login_product.Tie as tie
-use Rattle.magnetar_r1cs.proofs.r1cs.login_product.Reads as reads
-use Rattle.magnetar_r1cs.proofs.r1cs.login_product.Lts as lts
-use Rattle.magnetar_field.proofs.words.clear.Reads as clear-reads
-use Rattle.magnetar_r1cs.proofs.walk.add_bits.Reads as add-bits-reads
-use Rattle.magnetar_r1cs.proofs.walk.add_public.Reads as add-public-reads
 
--- src/r1cs.rt:166:5
 clear-requires : tie.Need-clear-requires
 clear-requires c κs = search needs
 
--- src/r1cs.rt:167:5
 add-public-requires : tie.Need-add-public-requires
 add-public-requires c κs = search needs
 
--- src/r1cs.rt:168:5
 add-bits-requires : tie.Need-add-bits-requires
 add-bits-requires c κs = search needs
 
--- src/r1cs.rt:161:1
 same-length : tie.Need-same-length
 same-length c = search needs
 
--- src/r1cs.rt:161:1
 returns : tie.Need-returns
 unfolding loginTotal
 returns c =

@@ -11,24 +11,16 @@ use Rattle.magnetar_r1cs.proofs.TableLaws.{cleared-raised}
 use borrow.Author.Needs.{needs}
 use Rattle.magnetar_r1cs.proofs.r1cs.product.Statement.{statement}
 use Rattle.magnetar_r1cs.proofs.r1cs.product.Tie as tie
-use Rattle.magnetar_r1cs.proofs.r1cs.product.Reads as reads
-use Rattle.magnetar_r1cs.proofs.r1cs.product.Lts as lts
-use Rattle.magnetar_field.proofs.words.clear.Reads as clear-reads
-use Rattle.magnetar_r1cs.proofs.walk.add_product.Reads as add-product-reads
 
--- src/r1cs.rt:34:5
 clear-requires : tie.Need-clear-requires
 clear-requires c κs = search needs
 
--- src/r1cs.rt:35:5
 add-product-requires : tie.Need-add-product-requires
 add-product-requires c κs = search needs
 
--- src/r1cs.rt:29:1
 same-length : tie.Need-same-length
 same-length c = search needs
 
--- src/r1cs.rt:29:1
 returns : tie.Need-returns
 returns c =
     let s = c .before .before .before .before .before .before .before .before .before .before .before .before .before .before in

@@ -21,10 +21,6 @@ use Rattle.magnetar_r1cs.proofs.Blocks.{blocks-start, blocks-more, bloc
 use borrow.Author.Needs.{needs}
 use Rattle.magnetar_r1cs.proofs.r1cs.products.Statement.{statement}
 use Rattle.magnetar_r1cs.proofs.r1cs.products.Tie as tie
-use Rattle.magnetar_r1cs.proofs.r1cs.products.Reads as reads
-use Rattle.magnetar_r1cs.proofs.r1cs.products.Lts as lts
-use Rattle.magnetar_r1cs.proofs.fold.login_words.Reads as login-words-reads
-use Rattle.magnetar_r1cs.proofs.r1cs.login_product.Reads as login-product-reads
 
 abbrev Inv-loop : tie.InvT-loop
 Inv-loop row col lo hi packed x q w n out₀ k m u₀ out u =
@@ -41,79 +37,60 @@ words-of c = let s = c .before .before .before .before .before .before .before .
 block : (c : tie.In-loop Inv-loop μ-loop) → let x = c .before .before .before .before .before .before .before .before .before .before .args in Block (length (c .before .loop .out)) (c .before .loop .u) (2 * x .n)
 block c = let s = c .before .before .before .before .before .before .before .before .before .before in let l = c .before .loop in block-of _ (s .args .q) (2 * s .args .n) (l .u) (l .inv .0 ∙ s .pre .1 .4) (s .pre .1 .1) (omega (arith, s .pre .1 .2)) (c .loop-test .taken)
 
--- src/r1cs.rt:177:9
 login-words-requires : tie.Need-login-words-requires Inv-loop μ-loop
 login-words-requires c κs = search needs
 
--- src/r1cs.rt:178:13
 mul-m : tie.Need-mul-m Inv-loop μ-loop
 mul-m c = search needs
 
--- src/r1cs.rt:180:5
 loop-holds : tie.Need-loop-holds Inv-loop μ-loop
 loop-holds c = (refl, search needs, c .login-words .ensures .0, c .login-words .ensures .1, refl, blocks-start _ (c .before .before .before .before .before .before .before .before .args .out .now) (2 * c .before .before .before .before .before .before .before .before .args .n))
 
--- src/r1cs.rt:181:17
 mul-a : tie.Need-mul-a Inv-loop μ-loop
 mul-a c = let p = words-of c in omega (arith, p .ends, p .small)
 
--- src/r1cs.rt:182:17
 add-b : tie.Need-add-b Inv-loop μ-loop
 add-b c = let p = words-of c in omega (arith, p .ends, p .small)
 
--- src/r1cs.rt:183:17
 mul-c : tie.Need-mul-c Inv-loop μ-loop
 mul-c c = let p = block c in omega (arith, p .ends, p .small)
 
--- src/r1cs.rt:184:17
 add-d : tie.Need-add-d Inv-loop μ-loop
 add-d c = let p = block c in omega (arith, p .ends, p .small)
 
--- src/r1cs.rt:185:47
 mul-login-product : tie.Need-mul-login-product Inv-loop μ-loop
 mul-login-product c = let p = words-of c in omega (arith, p .ends, p .small)
 
--- src/r1cs.rt:185:47
 sub-login-product : tie.Need-sub-login-product Inv-loop μ-loop
 sub-login-product c = search needs
 
--- src/r1cs.rt:185:47
 part-login-product-start : tie.Need-part-login-product-start Inv-loop μ-loop
 part-login-product-start c = search needs
 
--- src/r1cs.rt:185:47
 part-login-product-end : tie.Need-part-login-product-end Inv-loop μ-loop
 part-login-product-end c = let p = words-of c in omega (arith, p .ends, p .small)
 
--- src/r1cs.rt:185:62
 mul-login-product-2 : tie.Need-mul-login-product-2 Inv-loop μ-loop
 mul-login-product-2 c = let p = block (c .before) in omega (arith, p .ends, p .small)
 
--- src/r1cs.rt:185:62
 sub-login-product-2 : tie.Need-sub-login-product-2 Inv-loop μ-loop
 sub-login-product-2 c = search needs
 
--- src/r1cs.rt:185:62
 part-login-product-start-2 : tie.Need-part-login-product-start-2 Inv-loop μ-loop
 part-login-product-start-2 c = search needs
 
--- src/r1cs.rt:185:62
 part-login-product-end-2 : tie.Need-part-login-product-end-2 Inv-loop μ-loop
 part-login-product-end-2 c = let p = block (c .before) in omega (arith, p .ends, p .small)
 
--- src/r1cs.rt:185:9
 login-product-requires : tie.Need-login-product-requires Inv-loop μ-loop
 login-product-requires c κs = search needs
 
--- src/r1cs.rt:186:9
 add-u : tie.Need-add-u Inv-loop μ-loop
 add-u c = search needs
 
--- src/r1cs.rt:180:5
 loop-less : tie.Need-loop-less Inv-loop μ-loop
 loop-less c = omega arith
 
--- src/r1cs.rt:180:5
 loop-again : tie.Need-loop-again Inv-loop μ-loop
 loop-again c =
     let s = c .before .before .before .before .before .before .before .before .before .before .before .before .before .before .before in
@@ -122,16 +99,19 @@ loop-again c =
     let p = block (c .before .before .before .before .before) in
     let r = c .before .before .login-product in
     let t = r .last .1 .1 .1 .1 .1 .1 .1 .0 in
-    let k = r .kept .1 .1 .1 .1 .1 .1 .1 .0 in
-    (same-len-mid (l .u * (2 * x .n)) (l .u * (2 * x .n) + 2 * x .n - l .u * (2 * x .n)) (l .out) t k ∙ l .inv .0, omega arith, l .inv .2, l .inv .3, refl,
-    blocks-more (loginBlock (x .w) (elements (now (x .x))) (now (x .packed)) (entriesOf (now (x .row)) (now (x .col)) (now (x .lo)) (now (x .hi))) (x .n)) (l .out) t (l .u) (2 * x .n) (p .ends) (l .inv .5) (mid-length (l .out) t (l .u * (2 * x .n)) (2 * x .n) (p .ends) k)
-    (block-is (x .w) (x .n) (c .before .before .before .before .before .before .before .login-words .result) (l .u) (elements (now (x .x))) (now (x .packed)) (l .out) t (entriesOf (now (x .row)) (now (x .col)) (now (x .lo)) (now (x .hi))) (l .inv .2) (p .ends) (r .ensures)))
+    let k = r .kept .1 .1 .1 .1 .1 .1 .1 .0 in (
+      same-len-mid (l .u * (2 * x .n)) (l .u * (2 * x .n) + 2 * x .n - l .u * (2 * x .n)) (l .out) t k ∙ l .inv .0,
+      omega arith,
+      l .inv .2,
+      l .inv .3,
+      refl,
+      blocks-more (loginBlock (x .w) (elements (now (x .x))) (now (x .packed)) (entriesOf (now (x .row)) (now (x .col)) (now (x .lo)) (now (x .hi))) (x .n)) (l .out) t (l .u) (2 * x .n) (p .ends) (l .inv .5) (mid-length (l .out) t (l .u * (2 * x .n)) (2 * x .n) (p .ends) k)
+          (block-is (x .w) (x .n) (c .before .before .before .before .before .before .before .login-words .result) (l .u) (elements (now (x .x))) (now (x .packed)) (l .out) t (entriesOf (now (x .row)) (now (x .col)) (now (x .lo)) (now (x .hi))) (l .inv .2) (p .ends) (r .ensures)),
+    )
 
--- src/r1cs.rt:172:1
 same-length : tie.Need-same-length Inv-loop μ-loop
 same-length c = c .before .loop .inv .0
 
--- src/r1cs.rt:172:1
 returns : tie.Need-returns Inv-loop μ-loop
 returns c =
     let s = c .before .before .before .before .before .before .before .before .before .before in

@@ -7,35 +7,24 @@ use Rattle.magnetar_r1cs.proofs.TableLaws.{added-zero, bit-some, bit-no
 use borrow.Author.Needs.{needs}
 use Rattle.magnetar_r1cs.proofs.walk.add_bit_share.Statement.{statement}
 use Rattle.magnetar_r1cs.proofs.walk.add_bit_share.Tie as tie
-use Rattle.magnetar_r1cs.proofs.walk.add_bit_share.Reads as reads
-use Rattle.magnetar_r1cs.proofs.walk.add_bit_share.Lts as lts
-use Rattle.magnetar_r1cs.proofs.walk.add_at.Reads as add-at-reads
-use Rattle.magnetar_r1cs.proofs.walk.bit_at.Reads as bit-at-reads
-use Rattle.magnetar_r1cs.proofs.walk.select.Reads as select-reads
 
--- src/walk.rt:108:34
 bit-at-requires : tie.Need-bit-at-requires
 bit-at-requires c κs = search needs
 
--- src/walk.rt:108:24
 select-requires : tie.Need-select-requires
 select-requires c κs = search needs
 
--- src/walk.rt:108:9
 add-at-requires : tie.Need-add-at-requires
 add-at-requires c κs = search needs
 
--- src/walk.rt:104:1
 same-length : tie.Need-same-length
 same-length c = search needs
 
--- src/walk.rt:104:1
 returns : tie.Need-returns
 returns c =
     let x = c .before .before .before .before .before .before .before .before .before .args in
     rw (c .before .before .add-at .ensures, c .before .before .before .select .ensures, c .before .before .before .before .bit-at .ensures .0, bit-some (x .w) (now (x .login)) (x .r) (x .c) (x .v .lo) (x .v .hi) (omega arith))
 
--- src/walk.rt:104:1
 returns-2 : tie.Need-returns-2
 returns-2 c =
     let x = c .before .before .before .args in

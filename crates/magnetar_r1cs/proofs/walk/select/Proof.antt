@@ -7,15 +7,10 @@ use Rattle.magnetar_r1cs.proofs.Digits.{value-lt, ⊗-digit}
 use borrow.Author.Needs.{needs}
 use Rattle.magnetar_r1cs.proofs.walk.select.Statement.{statement}
 use Rattle.magnetar_r1cs.proofs.walk.select.Tie as tie
-use Rattle.magnetar_r1cs.proofs.walk.select.Reads as reads
-use Rattle.magnetar_r1cs.proofs.walk.select.Lts as lts
-use Rattle.magnetar_field.proofs.gf128.mul_bit.Reads as mul-bit-reads
 
--- src/walk.rt:38:5
 mul-bit-requires : tie.Need-mul-bit-requires
 mul-bit-requires c κs = search needs
 
--- src/walk.rt:34:1
 returns : tie.Need-returns
 returns c =
     let x = c .before .args in
