@@ -14,5 +14,6 @@ pub mod Folds
 pub mod Blocks
 pub mod Split
 pub mod Room
+pub mod Verdicts
 pub mod Walked
 pub mod MarkedRows
