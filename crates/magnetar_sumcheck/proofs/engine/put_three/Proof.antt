@@ -1,0 +1,36 @@
+-- `magnetar_sumcheck::engine::put_three` meets its contract.
+-- Assumes nothing.
+use denote.Ref.{now}
+use native.Mathlib.Omega.{arith}
+use Rattle.magnetar_field.specs.Gf128.{value}
+use Rattle.magnetar_sumcheck.proofs.Message.{put-three}
+use borrow.Author.Needs.{needs}
+use Rattle.magnetar_sumcheck.proofs.engine.put_three.Statement.{statement}
+use Rattle.magnetar_sumcheck.proofs.engine.put_three.Tie as tie
+use Rattle.magnetar_sumcheck.proofs.engine.put_three.Reads as reads
+use Rattle.magnetar_sumcheck.proofs.engine.put_three.Lts as lts
+use Rattle.magnetar_field.proofs.words.put.Reads as put-reads
+
+-- src/engine.rt:164:5
+put-requires : tie.Need-put-requires
+put-requires c κs = search needs
+
+-- src/engine.rt:165:5
+put-requires-2 : tie.Need-put-requires-2
+put-requires-2 c κs = search needs
+
+-- src/engine.rt:166:5
+put-requires-3 : tie.Need-put-requires-3
+put-requires-3 c κs = search needs
+
+-- src/engine.rt:160:1
+same-length : tie.Need-same-length
+same-length c = search needs
+
+-- src/engine.rt:160:1
+returns : tie.Need-returns
+returns c = let x = c .before .before .before .before .before .before .before .before .before .before .before .before .before .args in rw (c .before .before .put3 .ensures, c .before .before .before .before .before .before .put2 .ensures, c .before .before .before .before .before .before .before .before .before .before .put .ensures) (put-three (now (x .out)) (value (x .a)) (value (x .b)) (value (x .c)) (c .before .before .before .before .before .before .before .before .before .before .before .before .before .pre))
+
+pub put-three-spec : {M : Type 1} → statement M
+put-three-spec =
+    tie.close (tie.spec put-requires put-requires-2 put-requires-3 same-length returns)
