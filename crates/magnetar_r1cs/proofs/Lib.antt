@@ -1,0 +1,11 @@
+pub mod Noted
+pub mod EveryLaws
+pub mod SizeLaws
+pub mod Laid
+pub mod Readings
+pub mod Digits
+pub mod TableLaws
+pub mod Lone
+pub mod Points
+pub mod Walked
+pub mod MarkedRows

@@ -1,0 +1,36 @@
+-- `magnetar_r1cs::layout::offset` meets its contract.
+-- Assumes nothing.
+use Rattle.magnetar_r1cs.proofs.Laid.{sound}
+use mathlib.Core.Path.{_≡_, refl, sym, _∙_}
+use native.Mathlib.Omega.{arith}
+use Rattle.magnetar_r1cs.proofs.Readings.{read-refused, read-some, read-none}
+use borrow.Author.Needs.{needs}
+use Rattle.magnetar_r1cs.proofs.layout.offset.Statement.{statement}
+use Rattle.magnetar_r1cs.proofs.layout.offset.Tie as tie
+use Rattle.magnetar_r1cs.proofs.layout.offset.Reads as reads
+use Rattle.magnetar_r1cs.proofs.layout.offset.Lts as lts
+use Rattle.magnetar_r1cs.proofs.layout.place.Reads as place-reads
+use Rattle.magnetar_r1cs.proofs.layout.refusal.Reads as refusal-reads
+
+-- src/layout.rt:114:9
+refusal-requires : tie.Need-refusal-requires
+refusal-requires c κs = search needs
+
+-- src/layout.rt:116:9
+returns : tie.Need-returns
+returns c = read-refused _ _ _ _ _ (c .before .refusal .ensures) (c .if1 .taken)
+
+-- src/layout.rt:119:32
+place-requires : tie.Need-place-requires
+place-requires c κs = (sound _ _ (sym (c .before .before .refusal .ensures) ∙ c .before .if1 .left), c .if2 .taken)
+
+-- src/layout.rt:119:9
+returns-2 : tie.Need-returns-2
+returns-2 c = read-some _ _ _ _ _ (c .before .before .before .refusal .ensures) (c .before .before .if1 .left) _ (c .before .if2 .taken) (c .place .ensures)
+
+-- src/layout.rt:111:1
+returns-3 : tie.Need-returns-3
+returns-3 c = read-none _ _ _ _ _ (c .before .before .refusal .ensures) (c .before .if1 .left) (omega arith)
+
+pub offset-spec : {M : Type 1} → statement M
+offset-spec = tie.close (tie.spec refusal-requires returns place-requires returns-2 returns-3)

@@ -1,0 +1,33 @@
+-- `magnetar_r1cs::layout::witness_vars` meets its contract.
+-- Assumes nothing.
+use mathlib.Core.Path.{_≡_, refl, sym, _∙_}
+use Rattle.magnetar_r1cs.specs.Tests.{note}
+use Rattle.magnetar_r1cs.specs.Entries.{varsOf}
+use borrow.Author.Needs.{needs}
+use Rattle.magnetar_r1cs.proofs.layout.witness_vars.Statement.{statement}
+use Rattle.magnetar_r1cs.proofs.layout.witness_vars.Tie as tie
+use Rattle.magnetar_r1cs.proofs.layout.witness_vars.Reads as reads
+use Rattle.magnetar_r1cs.proofs.layout.witness_vars.Lts as lts
+use Rattle.magnetar_field.proofs.sizes.log2.Reads as log2-reads
+use Rattle.magnetar_r1cs.proofs.tests.is_half.Reads as is-half-reads
+
+-- src/layout.rt:170:8
+is-half-requires : tie.Need-is-half-requires
+is-half-requires c κs = search needs
+
+-- src/layout.rt:171:32
+log2-requires : tie.Need-log2-requires
+log2-requires c κs = search needs
+
+-- src/layout.rt:171:9
+returns : tie.Need-returns
+unfolding varsOf note
+returns c = rw (sym (c .before .before .is-half .ensures) ∙ c .before .if1 .taken, c .log2 .ensures)
+
+-- src/layout.rt:167:1
+returns-2 : tie.Need-returns-2
+unfolding varsOf note
+returns-2 c = rw (sym (c .before .is-half .ensures) ∙ c .if1 .left)
+
+pub witness-vars-spec : {M : Type 1} → statement M
+witness-vars-spec = tie.close (tie.spec is-half-requires log2-requires returns returns-2)

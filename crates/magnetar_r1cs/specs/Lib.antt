@@ -1,0 +1,11 @@
+pub mod Sum
+pub mod Every
+pub mod Matrix
+pub mod Batch
+pub mod Packed
+pub mod Layout
+pub mod RowCheck
+pub mod Lent
+pub mod Table
+pub mod Tests
+pub mod Entries
