@@ -1,0 +1,5 @@
+pub mod Shape
+pub mod Proof
+pub mod Draws
+pub mod Checks
+pub mod Run
