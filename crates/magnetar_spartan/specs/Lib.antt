@@ -3,3 +3,5 @@ pub mod Proof
 pub mod Draws
 pub mod Checks
 pub mod Run
+pub mod Theory
+pub mod Soundness
