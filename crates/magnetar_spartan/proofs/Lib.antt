@@ -6,3 +6,7 @@ pub mod LayoutLaws
 pub mod ClaimValues
 pub mod LaidOut
 pub mod Pieces
+pub mod SizeFacts
+pub mod Verdict
+pub mod Combined
+pub mod SegmentSums

@@ -36,7 +36,7 @@ added-elsewhere zero (suc i) v (x ∷ t) n = refl
 added-elsewhere (suc k) zero v (x ∷ t) n = refl
 added-elsewhere (suc k) (suc i) v (x ∷ t) n = added-elsewhere k i v t (λ e. n (ap suc e))
 
-zero-sum : (y : Element) → y ≡ sum (element 0) y
+pub zero-sum : (y : Element) → y ≡ sum (element 0) y
 zero-sum y = sym (gf128Laws .laws .add-zero y) ∙ gf128Laws .laws .add-comm y (element 0)
 
 added : (k i : ℕ) (v : Element) (t : List Element) → i < length t
@@ -76,14 +76,14 @@ pub columns-swapped : (n : ℕ) (es : List Entry) (e : List Element) → columns
 columns-swapped n [] e = refl
 columns-swapped n (x ∷ es) e = ap (addAt gf128 (x .col) (product (element (x .value)) (getD e (x .row) (element 0)))) (columns-swapped n es e)
 
--- entry y of the table of the matrix at the row point p
-pub table-at : (m : Matrix) (p : List ℕ) (y : ℕ) → y < m .cols
-    → getD (columns gf128 (m .cols) (entriesE m) (eqTableE gf128 (els p))) y (element 0) ≡ element (getD (mleTable m p) y 0)
+-- entry y of the table of the matrix at the row point p, of n columns
+pub table-at : (n : ℕ) (m : Matrix) (p : List ℕ) (y : ℕ) → m .cols ≡ n → y < n
+    → getD (columns gf128 n (entriesE m) (eqTableE gf128 (els p))) y (element 0) ≡ element (getD (mleTable m p) y 0)
 unfolding mleTable times transpose timesAt
-table-at m p y h =
-    ap (λ (t : List Element). getD t y (element 0)) (ap (columns gf128 (m .cols) (entriesE m)) (sym (element-eqTable p)) ∙ columns-swapped (m .cols) (m .entries) (els (eqTable p)))
-    ∙ apply-at (m .cols) (map swapped (m .entries)) (eqTable p) y h
-    ∙ ap element (sym (tabulate-get (timesAt (transpose m) (eqTable p)) (m .cols) y 0 h))
+table-at n m p y e h =
+    ap (λ (t : List Element). getD t y (element 0)) (ap (columns gf128 n (entriesE m)) (sym (element-eqTable p)) ∙ columns-swapped n (m .entries) (els (eqTable p)))
+    ∙ apply-at n (map swapped (m .entries)) (eqTable p) y h
+    ∙ ap element (sym (tabulate-get (timesAt (transpose m) (eqTable p)) (m .cols) y 0 (omega arith)))
 
 -- ---- bounds
 sumOver-lt : (f : Entry → ℕ) → ((e : Entry) → f e < 2 ^ 128) → (es : List Entry) → sumOver f es < 2 ^ 128

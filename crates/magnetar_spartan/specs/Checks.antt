@@ -31,21 +31,20 @@ unfoldable pub roundHolds : ℕ → List (List ℕ) → List ℕ → ℕ → Boo
 roundHolds c ms rs i = holds (getD ms i []) (running c (take i ms) (take i rs))
 
 module _ (r : Relation) (x w : List ℕ) (d : Draws) where
-  binRound : ℕ → Bool
+  -- round i of the outer sum-check of each system
+  abbrev pub binRound : ℕ → Bool
   binRound i = roundHolds 0 (binMessages r w) (d .shared ++ d .rowBin) i
 
-  fldRound : ℕ → Bool
+  abbrev pub fldRound : ℕ → Bool
   fldRound i = roundHolds 0 (fldMessages r w) (d .shared ++ d .rowFld) i
 
   -- the shared rounds, bin before fld in each
   unfoldable pub sharedChecks : ℕ → ℕ → List Check
-  unfolding binRound fldRound
   sharedChecks i zero = []
   sharedChecks i (suc n) =
       record { refusal = 21; passes = binRound i } ∷ record { refusal = 22; passes = fldRound i } ∷ sharedChecks (suc i) n
 
   unfoldable pub rowChecks : List Check
-  unfolding binRound fldRound
   rowChecks =
       tabulate (λ i. record { refusal = 23; passes = binRound (logLogins r + i) }) (logBin r)
       ++ tabulate (λ i. record { refusal = 24; passes = fldRound (logLogins r + i) }) (logFld r)
