@@ -10,3 +10,4 @@ pub mod SizeFacts
 pub mod Verdict
 pub mod Combined
 pub mod SegmentSums
+pub mod AcceptedRun
