@@ -11,3 +11,5 @@ pub mod Verdict
 pub mod Combined
 pub mod SegmentSums
 pub mod AcceptedRun
+pub mod TrueClaims
+pub mod Soundness
