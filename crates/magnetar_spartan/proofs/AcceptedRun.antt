@@ -27,7 +27,7 @@ use Rattle.magnetar_spartan.specs.Proof.{binMessages, fldMessages, termi
 use Rattle.magnetar_spartan.specs.Draws.{Draws, loginPoint, lowPoint, topElement}
 use Rattle.magnetar_spartan.specs.Checks.{innerClaim, combined, segmentSum}
 use Rattle.magnetar_spartan.specs.Theory.{els, logHalf, relationE, publicE, drawsE, wordsE}
-use Rattle.magnetar_spartan.specs.Soundness.{SizedRelation}
+use Rattle.magnetar_spartan.specs.RunSizes.{SizedRelation}
 use Rattle.magnetar_spartan.proofs.Elements.{map-append, map-reverse, els-at, element-dot}
 use Rattle.magnetar_spartan.proofs.Pieces.{bin-are, fld-are, inner-are, vz-is, values-of, terminal-is}
 use Rattle.magnetar_spartan.proofs.SizeFacts.{cols-suc, Cut, inner-is}
@@ -73,7 +73,7 @@ module _ (r : Relation) (x w : List ℕ) (D : Draws) (R : SizedRelation r) (C : 
   ab-is : getD (els w) (beforeTerminals r) (element 0) ≡ element (terminal r w 0)
   ab-is = els-at w (beforeTerminals r) ∙ ap (λ (k : ℕ). element (getD w k 0)) (sym (add-zero (beforeTerminals r)))
 
-  pub claim-is : element (innerClaim r x w D) ≡ dotE gf128 (els (D .alphas)) (terminalsE gf128 (wordsE r w))
+  pub claim-is : element (innerClaim r w D) ≡ dotE gf128 (els (D .alphas)) (terminalsE gf128 (wordsE r w))
   unfolding innerClaim
   claim-is =
       element-dot (D .alphas) (terminals r w)
@@ -92,23 +92,23 @@ module _ (r : Relation) (x w : List ℕ) (D : Draws) (R : SizedRelation r) (C : 
   fld-end-is = end-is (D .tauFld) (D .rowFld) (D .shared) (terminal r w 3) (terminal r w 4) (terminal r w 5)
       ∙ (λ i. product (eqProduct gf128 (els (D .tauFld)) (els (D .rowFld) ++ reverse (els (D .shared)))) (sum (product (sym (terminal-is r w 3) i) (sym (terminal-is r w 4) i)) (sym (terminal-is r w 5) i)))
 
-  pub inner-end-is : element (innerEnd (mle (combined r x w D) (D .inner)) (valueZ r w))
+  pub inner-end-is : element (innerEnd (mle (combined r D) (D .inner)) (valueZ r w))
       ≡ product (dotE gf128 (eqTableE gf128 (inner gf128 (drawsE r D))) (combo gf128 (relationE r) (els (D .rowBin)) (els (D .rowFld)) (els (D .alphas)))) ((wordsE r w) .vz)
   unfolding innerEnd
-  inner-end-is = element-⊗ (mle (combined r x w D) (D .inner)) (valueZ r w)
-      ∙ ap₂ product (element-mle (combined r x w D) (D .inner) ∙ ap₂ (λ (p t : List Element). dotE gf128 (eqTableE gf128 p) t) (sym (inner-is r R D C)) (combined-is r x w D R)) (sym (vz-is r w cols))
+  inner-end-is = element-⊗ (mle (combined r D) (D .inner)) (valueZ r w)
+      ∙ ap₂ product (element-mle (combined r D) (D .inner) ∙ ap₂ (λ (p t : List Element). dotE gf128 (eqTableE gf128 p) t) (sym (inner-is r R D C)) (combined-is r D R)) (sym (vz-is r w cols))
 
   values-length : length (segmentValues r w) ≡ length (r .lengths)
   unfolding segmentValues
   values-length = length-drop (beforeEnd r + 1) w ∙ omega arith
 
-  pub identity-is : element ((1 ⊕ topElement r D) ⊗ segmentSum r x w D 0 (segmentValues r w) ⊕ topElement r D ⊗ mle (1 ∷ x) (lowPoint r D))
+  pub identity-is : element ((1 ⊕ topElement r D) ⊗ segmentSum r D 0 (segmentValues r w) ⊕ topElement r D ⊗ mle (1 ∷ x) (lowPoint r D))
       ≡ sum (product (sum (element 1) (element (topElement r D))) (segSum gf128 ((relationE r) .segs) (els (lowPoint r D)) ((wordsE r w) .values)))
       (product (element (topElement r D)) (dotE gf128 (eqTableE gf128 (els (lowPoint r D))) (publicE x)))
   identity-is =
       element-⊕ _ _ ∙ ap₂ sum
-      (element-⊗ (1 ⊕ topElement r D) (segmentSum r x w D 0 (segmentValues r w)) ∙ ap₂ product (element-⊕ 1 (topElement r D))
-      (sym (ap (segSum gf128 ((relationE r) .segs) (els (lowPoint r D))) (values-of r w cols) ∙ segments-sum r x w D R C (segmentValues r w) values-length)))
+      (element-⊗ (1 ⊕ topElement r D) (segmentSum r D 0 (segmentValues r w)) ∙ ap₂ product (element-⊕ 1 (topElement r D))
+      (sym (ap (segSum gf128 ((relationE r) .segs) (els (lowPoint r D))) (values-of r w cols) ∙ segments-sum r D R C (segmentValues r w) values-length)))
       (element-⊗ (topElement r D) (mle (1 ∷ x) (lowPoint r D)) ∙ ap (product (element (topElement r D))) (element-mle (1 ∷ x) (lowPoint r D)))
 
   pub accepted : Holds r x w D → Accepted gf128 (relationE r) (publicE x) (drawsE r D) (wordsE r w)
@@ -118,7 +118,7 @@ module _ (r : Relation) (x w : List ℕ) (D : Draws) (R : SizedRelation r) (C : 
     bin-terminal = ap₂ (runningE gf128 (element 0)) (bin-are r w) (sym (map-append element (D .shared) (D .rowBin))) ∙ sym (running-is 0 (binMessages r w) (D .shared ++ D .rowBin)) ∙ ap element (H .bin-end) ∙ bin-end-is;
     fld-terminal = ap₂ (runningE gf128 (element 0)) (fld-are r w) (sym (map-append element (D .shared) (D .rowFld))) ∙ sym (running-is 0 (fldMessages r w) (D .shared ++ D .rowFld)) ∙ ap element (H .fld-end) ∙ fld-end-is;
     inner-rounds = subst₂ (λ (c : Element) (rs : List Element). Checks gf128 c ((wordsE r w) .innerMs) rs) claim-is (sym (inner-is r R D C))
-        (subst (λ (ms : List (List Element)). Checks gf128 (element (innerClaim r x w D)) ms (els (D .inner))) (sym (inner-are r w cols)) (passes-checks (innerClaim r x w D) (innerRounds r w) (D .inner) (H .inner)));
-    inner-terminal = (λ i. runningE gf128 (sym claim-is i) (inner-are r w cols i) (inner-is r R D C i)) ∙ sym (running-is (innerClaim r x w D) (innerRounds r w) (D .inner)) ∙ ap element (H .inner-end) ∙ inner-end-is;
+        (subst (λ (ms : List (List Element)). Checks gf128 (element (innerClaim r w D)) ms (els (D .inner))) (sym (inner-are r w cols)) (passes-checks (innerClaim r w D) (innerRounds r w) (D .inner) (H .inner)));
+    inner-terminal = (λ i. runningE gf128 (sym claim-is i) (inner-are r w cols i) (inner-is r R D C i)) ∙ sym (running-is (innerClaim r w D) (innerRounds r w) (D .inner)) ∙ ap element (H .inner-end) ∙ inner-end-is;
     identity = vz-is r w cols ∙ ap element (sym (H .identity)) ∙ identity-is;
   }

@@ -20,7 +20,7 @@ use Rattle.magnetar_sumcheck.proofs.EqPairs.{getD-scale}
 use Rattle.magnetar_spartan.specs.Theory.{els, logHalf, entriesE, relationE}
 use Rattle.magnetar_spartan.specs.Draws.{Draws}
 use Rattle.magnetar_spartan.specs.Checks.{combined}
-use Rattle.magnetar_spartan.specs.Soundness.{SizedRelation}
+use Rattle.magnetar_spartan.specs.RunSizes.{SizedRelation}
 use Rattle.magnetar_spartan.proofs.Elements.{els-at, element-dot}
 use Rattle.magnetar_spartan.proofs.Products.{table-at, zero-sum}
 use Rattle.magnetar_spartan.proofs.SizeFacts.{cols-pow}
@@ -44,7 +44,7 @@ fold-at n (e ∷ es) [] i = getD-zeros n i
 fold-at n (e ∷ es) (z ∷ zs) i =
     getD-add (scale gf128 e z) (fold gf128 n es zs) i ∙ ap₂ sum (getD-scale gf128 gf128Laws e z i) (fold-at n es zs i)
 
-module _ (r : Relation) (x w : List ℕ) (D : Draws) (R : SizedRelation r) where
+module _ (r : Relation) (D : Draws) (R : SizedRelation r) where
   abbrev n : ℕ
   n = 2 ^ suc (logHalf r)
 
@@ -54,18 +54,18 @@ module _ (r : Relation) (x w : List ℕ) (D : Draws) (R : SizedRelation r) where
   at : (m : Matrix) (p : List ℕ) (y : ℕ) → m .cols ≡ r .m → y < n → getD (columns gf128 n (entriesE m) (eqTableE gf128 (els p))) y (element 0) ≡ element (getD (mleTable m p) y 0)
   at m p y e h = table-at n m p y (e ∙ cols-pow r R) h
 
-  pub combined-length : length (combined r x w D) ≡ n
+  pub combined-length : length (combined r D) ≡ n
   unfolding combined
   combined-length = tabulate-length _ (r .m) ∙ cols-pow r R
 
-  pub combined-is : els (combined r x w D) ≡ combo gf128 (relationE r) (els (D .rowBin)) (els (D .rowFld)) (els (D .alphas))
-  combined-is = ext-getD (element 0) (els (combined r x w D)) (fold gf128 n (els (D .alphas)) tables) (long ∙ sym all) each
+  pub combined-is : els (combined r D) ≡ combo gf128 (relationE r) (els (D .rowBin)) (els (D .rowFld)) (els (D .alphas))
+  combined-is = ext-getD (element 0) (els (combined r D)) (fold gf128 n (els (D .alphas)) tables) (long ∙ sym all) each
     where
       tables : List (List Element)
       tables = six gf128 (relationE r) (els (D .rowBin)) (els (D .rowFld))
 
-      long : length (els (combined r x w D)) ≡ n
-      long = length-map (combined r x w D) element ∙ combined-length
+      long : length (els (combined r D)) ≡ n
+      long = length-map (combined r D) element ∙ combined-length
 
       all : length (fold gf128 n (els (D .alphas)) tables) ≡ n
       all = length-fold gf128 gf128Laws n (els (D .alphas)) tables
@@ -76,13 +76,13 @@ module _ (r : Relation) (x w : List ℕ) (D : Draws) (R : SizedRelation r) where
           ∷ getD (mleTable (r .bin .c) (D .rowBin)) y 0 ∷ getD (mleTable (r .fld .a) (D .rowFld)) y 0
           ∷ getD (mleTable (r .fld .b) (D .rowFld)) y 0 ∷ getD (mleTable (r .fld .c) (D .rowFld)) y 0 ∷ []
 
-      value : (y : ℕ) → y < r .m → getD (combined r x w D) y 0 ≡ dot (D .alphas) (entries y)
+      value : (y : ℕ) → y < r .m → getD (combined r D) y 0 ≡ dot (D .alphas) (entries y)
       value y h = unfold combined in tabulate-get (λ y. dot (D .alphas) (entries y)) (r .m) y 0 h
 
-      each : (y : ℕ) → y < length (els (combined r x w D)) → getD (els (combined r x w D)) y (element 0) ≡ getD (fold gf128 n (els (D .alphas)) tables) y (element 0)
+      each : (y : ℕ) → y < length (els (combined r D)) → getD (els (combined r D)) y (element 0) ≡ getD (fold gf128 n (els (D .alphas)) tables) y (element 0)
       each y h =
           let k : y < n = rw long at h in
-          els-at (combined r x w D) y ∙ ap element (value y (rw (cols-pow r R) k)) ∙ element-dot (D .alphas) (entries y)
+          els-at (combined r D) y ∙ ap element (value y (rw (cols-pow r R) k)) ∙ element-dot (D .alphas) (entries y)
           ∙ sym (fold-at n (els (D .alphas)) tables y
           ∙ (λ i. dotE gf128 (els (D .alphas)) (at (r .bin .a) (D .rowBin) y (R .bin .a .cols) k i ∷ at (r .bin .b) (D .rowBin) y (R .bin .b .cols) k i
           ∷ at (r .bin .c) (D .rowBin) y (R .bin .c .cols) k i ∷ at (r .fld .a) (D .rowFld) y (R .fld .a .cols) k i

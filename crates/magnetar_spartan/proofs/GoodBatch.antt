@@ -20,7 +20,7 @@ use Rattle.magnetar_theory.specs.Gf128.{Element, element, sum, product, gf128}
 use Rattle.magnetar_theory.proofs.Gf128.{element-⊕, element-⊗, element-inj, gf128Laws}
 use Rattle.magnetar_theory.proofs.Matrix.{length-apply}
 use Rattle.magnetar_spartan.specs.Theory.{els, entriesE, systemE, relationE, publicE, batchE}
-use Rattle.magnetar_spartan.specs.Soundness.{SizedRelation, SizedBatch}
+use Rattle.magnetar_spartan.specs.RunSizes.{SizedRelation, SizedBatch}
 use Rattle.magnetar_spartan.proofs.Elements.{map-append}
 use Rattle.magnetar_spartan.proofs.Products.{times-at, timesAt-lt}
 

@@ -17,7 +17,8 @@ use Rattle.magnetar_theory.specs.Segment.{Segment, offset, Laid}
 use Rattle.magnetar_theory.specs.Run.{AllLaid}
 use Rattle.magnetar_theory.specs.Gf128.{Element, element, gf128}
 use Rattle.magnetar_spartan.specs.Theory.{els, batchE, segmentsE}
-use Rattle.magnetar_spartan.specs.Soundness.{NoStray, SizedRelation, SizedBatch}
+use Rattle.magnetar_spartan.specs.RunSizes.{SizedRelation, SizedBatch}
+use Rattle.magnetar_spartan.specs.Soundness.{NoStray}
 use Rattle.magnetar_spartan.proofs.Elements.{els-at}
 use Rattle.magnetar_spartan.proofs.LayoutLaws.{first-length, next-least, next-aligned, end-least, none-below}
 

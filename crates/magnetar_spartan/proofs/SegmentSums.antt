@@ -21,7 +21,7 @@ use Rattle.magnetar_sumcheck.proofs.OuterRun.{element-eqTable}
 use Rattle.magnetar_spartan.specs.Theory.{els, logHalf, segmentsE}
 use Rattle.magnetar_spartan.specs.Draws.{Draws, lowPoint}
 use Rattle.magnetar_spartan.specs.Checks.{segmentSum}
-use Rattle.magnetar_spartan.specs.Soundness.{SizedRelation}
+use Rattle.magnetar_spartan.specs.RunSizes.{SizedRelation}
 use Rattle.magnetar_spartan.proofs.Elements.{els-at, map-drop}
 use Rattle.magnetar_spartan.proofs.LayoutLaws.{Placed, placed, offsets-length}
 use Rattle.magnetar_spartan.proofs.SizeFacts.{half-pow, Cut, low-size}
@@ -53,9 +53,9 @@ place-at low k o n h l e f p =
     small : o / n < 2 ^ (h - k)
     small = div-lt-iff-lt-mul {k = n} {x = o} {y = 2 ^ (h - k)} p .1 (omega (arith, whole))
 
-module _ (r : Relation) (x w : List ℕ) (D : Draws) (R : SizedRelation r) (C : Cut r D) where
+module _ (r : Relation) (D : Draws) (R : SizedRelation r) (C : Cut r D) where
   sum-from : (i : ℕ) (vs : List ℕ) → i + length vs ≡ length (r .lengths)
-      → segSum gf128 (segmentsE (drop i (offsets (r .lengths))) (drop i (r .lengths))) (els (lowPoint r D)) (els vs) ≡ element (segmentSum r x w D i vs)
+      → segSum gf128 (segmentsE (drop i (offsets (r .lengths))) (drop i (r .lengths))) (els (lowPoint r D)) (els vs) ≡ element (segmentSum r D i vs)
   unfolding segmentSum
   sum-from i [] h = nothing i (omega arith)
     where
@@ -65,7 +65,7 @@ module _ (r : Relation) (x w : List ℕ) (D : Draws) (R : SizedRelation r) (C : 
       ap₂ (λ (os ns : List ℕ). segSum gf128 (segmentsE os ns) (els (lowPoint r D)) (element v ∷ els vs))
       (drop-cons (offsets (r .lengths)) i 0 (many (omega arith))) (drop-cons (r .lengths) i 0 (omega arith))
       ∙ ap₂ sum (ap (λ (e : Element). product e (element v)) (first i (omega arith)) ∙ sym (element-⊗ _ v)) (sum-from (suc i) vs (omega arith))
-      ∙ sym (element-⊕ _ (segmentSum r x w D (suc i) vs))
+      ∙ sym (element-⊕ _ (segmentSum r D (suc i) vs))
     where
       many : i < length (r .lengths) → i < length (offsets (r .lengths))
       many k = unfold offsets in rw (offsets-length 0 (r .lengths)) k
@@ -78,5 +78,5 @@ module _ (r : Relation) (x w : List ℕ) (D : Draws) (R : SizedRelation r) (C : 
           (omega (arith, p .ends, half-pow r R)) (p .size .least)
 
   pub segments-sum : (vs : List ℕ) → length vs ≡ length (r .lengths)
-      → segSum gf128 (segmentsE (offsets (r .lengths)) (r .lengths)) (els (lowPoint r D)) (els vs) ≡ element (segmentSum r x w D 0 vs)
+      → segSum gf128 (segmentsE (offsets (r .lengths)) (r .lengths)) (els (lowPoint r D)) (els vs) ≡ element (segmentSum r D 0 vs)
   segments-sum vs h = sum-from 0 vs (omega arith)

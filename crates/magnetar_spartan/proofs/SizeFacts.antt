@@ -13,7 +13,7 @@ use Rattle.magnetar_theory.specs.Gf128.{Element, element, gf128}
 use Rattle.magnetar_spartan.specs.Shape.{logLogins, logBin, logFld, logCols}
 use Rattle.magnetar_spartan.specs.Draws.{Draws, drawCount, drawsOf, lowPoint, topElement}
 use Rattle.magnetar_spartan.specs.Theory.{els, logHalf, drawsE}
-use Rattle.magnetar_spartan.specs.Soundness.{Power, SizedRelation}
+use Rattle.magnetar_spartan.specs.RunSizes.{Power, SizedRelation}
 use Rattle.magnetar_spartan.proofs.Elements.{map-append}
 
 -- ---- columns

@@ -17,7 +17,8 @@ use Rattle.magnetar_spartan.specs.Shape.{logLogins, logBin, logFld}
 use Rattle.magnetar_spartan.specs.Draws.{Draws, drawsOf}
 use Rattle.magnetar_spartan.specs.Run.{verdict, ClaimsTrue}
 use Rattle.magnetar_spartan.specs.Theory.{els, relationE, publicE, batchE, drawsE}
-use Rattle.magnetar_spartan.specs.Soundness.{Sized, NoStray, badDraws, absorbedBefore, BadDraw}
+use Rattle.magnetar_spartan.specs.RunSizes.{Sized}
+use Rattle.magnetar_spartan.specs.Soundness.{NoStray, badDraws, absorbedBefore, BadDraw}
 use Rattle.magnetar_spartan.proofs.Elements.{map-take, els-at}
 use Rattle.magnetar_spartan.proofs.SizeFacts.{Cut, cut, flat}
 use Rattle.magnetar_spartan.proofs.Verdict.{holds-of}
@@ -65,18 +66,18 @@ soundness r b x w d S v stray true = go found
     D = drawsOf r d
 
     C : Cut r (drawsOf r d)
-    C = cut r d (S .draws)
+    C = cut r d (S .run .draws)
 
     count : length (els ((drawsOf r d) .shared)) ≡ logLogins r
     count = length-map ((drawsOf r d) .shared) element ∙ C .shared
 
     found : GoodE (relationE r) (publicE x) (batchE b) ⊎ Hit gf128 (listOf (relationE r) (publicE x) (batchE b) (length (els ((drawsOf r d) .shared))) (els w)) (drawn gf128 (drawsE r (drawsOf r d)))
-    found = sound (relationE r) (publicE x) (batchE b) (els w) (drawsE r (drawsOf r d)) (sizes r b (drawsOf r d) (S .relation) (S .batch) C x (S .public) stray)
-        (subst (λ (s : ℕ). Accepted gf128 (relationE r) (publicE x) (drawsE r (drawsOf r d)) (wordsOf gf128 s (relationE r) (els w))) (sym count) (accepted r x w (drawsOf r d) (S .relation) C (S .words) (holds-of r x w (drawsOf r d) C v)))
-        (subst (λ (s : ℕ). (wordsOf gf128 s (relationE r) (els w)) .values ≡ map (trueValueE gf128 (drawsE r (drawsOf r d)) (batchE b)) ((relationE r) .segs)) (sym count) (true-claims r b (drawsOf r d) (S .relation) (S .batch) C w (S .words) true))
+    found = sound (relationE r) (publicE x) (batchE b) (els w) (drawsE r (drawsOf r d)) (sizes r b (drawsOf r d) (S .run .relation) (S .run .batch) C x (S .run .public) stray)
+        (subst (λ (s : ℕ). Accepted gf128 (relationE r) (publicE x) (drawsE r (drawsOf r d)) (wordsOf gf128 s (relationE r) (els w))) (sym count) (accepted r x w (drawsOf r d) (S .run .relation) C (S .words) (holds-of r x w (drawsOf r d) C v)))
+        (subst (λ (s : ℕ). (wordsOf gf128 s (relationE r) (els w)) .values ≡ map (trueValueE gf128 (drawsE r (drawsOf r d)) (batchE b)) ((relationE r) .segs)) (sym count) (true-claims r b (drawsOf r d) (S .run .relation) (S .run .batch) C w (S .words) true))
 
     go : GoodE (relationE r) (publicE x) (batchE b) ⊎ Hit gf128 (listOf (relationE r) (publicE x) (batchE b) (length (els ((drawsOf r d) .shared))) (els w)) (drawn gf128 (drawsE r (drawsOf r d)))
         → Good r b x ⊎ BadDraw r b x w d
-    go (inl g) = inl (good r b x (S .relation) (S .batch) g)
-    go (inr h) = inr (as-numbers r b x w d (S .elements-d)
-        (subst₂ (λ (s : ℕ) (l : List Element). Hit gf128 (listOf (relationE r) (publicE x) (batchE b) s (els w)) l) count (flat r d (S .relation) (S .draws)) h))
+    go (inl g) = inl (good r b x (S .run .relation) (S .run .batch) g)
+    go (inr h) = inr (as-numbers r b x w d (S .run .elements-d)
+        (subst₂ (λ (s : ℕ) (l : List Element). Hit gf128 (listOf (relationE r) (publicE x) (batchE b) s (els w)) l) count (flat r d (S .run .relation) (S .run .draws)) h))

@@ -18,7 +18,8 @@ use Rattle.magnetar_spartan.specs.Proof.{segmentValues}
 use Rattle.magnetar_spartan.specs.Draws.{Draws, drawCount, drawsOf, loginPoint, lowPoint}
 use Rattle.magnetar_spartan.specs.Run.{trueValue, ClaimsTrue}
 use Rattle.magnetar_spartan.specs.Theory.{els, logHalf, segmentsE, relationE, publicE, batchE, drawsE, wordsE}
-use Rattle.magnetar_spartan.specs.Soundness.{SizedRelation, SizedBatch, NoStray}
+use Rattle.magnetar_spartan.specs.RunSizes.{SizedRelation, SizedBatch}
+use Rattle.magnetar_spartan.specs.Soundness.{NoStray}
 use Rattle.magnetar_spartan.proofs.Elements.{map-take, map-reverse}
 use Rattle.magnetar_spartan.proofs.LayoutLaws.{Placed, placed, offsets-length}
 use Rattle.magnetar_spartan.proofs.ClaimValues.{claim-is, values-are}

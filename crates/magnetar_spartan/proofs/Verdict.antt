@@ -33,9 +33,9 @@ pub record Holds (r : Relation) (x w : List ℕ) (D : Draws) : Type 0 where
       ≡ outerEnd (eqPoints (D .tauBin) (D .rowBin ++ loginPoint D)) (terminal r w 0) (terminal r w 1) (terminal r w 2)
   pub fld-end : running 0 (fldMessages r w) (D .shared ++ D .rowFld)
       ≡ outerEnd (eqPoints (D .tauFld) (D .rowFld ++ loginPoint D)) (terminal r w 3) (terminal r w 4) (terminal r w 5)
-  pub inner : passes (innerClaim r x w D) (innerRounds r w) (D .inner) ≡ true
-  pub inner-end : running (innerClaim r x w D) (innerRounds r w) (D .inner) ≡ innerEnd (mle (combined r x w D) (D .inner)) (valueZ r w)
-  pub identity : (1 ⊕ topElement r D) ⊗ segmentSum r x w D 0 (segmentValues r w) ⊕ topElement r D ⊗ mle (1 ∷ x) (lowPoint r D) ≡ valueZ r w
+  pub inner : passes (innerClaim r w D) (innerRounds r w) (D .inner) ≡ true
+  pub inner-end : running (innerClaim r w D) (innerRounds r w) (D .inner) ≡ innerEnd (mle (combined r D) (D .inner)) (valueZ r w)
+  pub identity : (1 ⊕ topElement r D) ⊗ segmentSum r D 0 (segmentValues r w) ⊕ topElement r D ⊗ mle (1 ∷ x) (lowPoint r D) ≡ valueZ r w
 
 module _ (r : Relation) (x w : List ℕ) (D : Draws) where
   -- ---- the shared rounds
@@ -81,7 +81,7 @@ module _ (r : Relation) (x w : List ℕ) (D : Draws) where
   tab k f n = tabulate (λ i. record { refusal = k; passes = f i }) n
 
   abbrev innerRound : ℕ → Bool
-  innerRound i = roundHolds (innerClaim r x w D) (innerRounds r w) (D .inner) i
+  innerRound i = roundHolds (innerClaim r w D) (innerRounds r w) (D .inner) i
 
   binEnd : Bool
   binEnd = eqb (running 0 (binMessages r w) (D .shared ++ D .rowBin))
@@ -92,10 +92,10 @@ module _ (r : Relation) (x w : List ℕ) (D : Draws) where
       (outerEnd (eqPoints (D .tauFld) (D .rowFld ++ loginPoint D)) (terminal r w 3) (terminal r w 4) (terminal r w 5))
 
   innerLast : Bool
-  innerLast = eqb (running (innerClaim r x w D) (innerRounds r w) (D .inner)) (innerEnd (mle (combined r x w D) (D .inner)) (valueZ r w))
+  innerLast = eqb (running (innerClaim r w D) (innerRounds r w) (D .inner)) (innerEnd (mle (combined r D) (D .inner)) (valueZ r w))
 
   identical : Bool
-  identical = eqb ((1 ⊕ topElement r D) ⊗ segmentSum r x w D 0 (segmentValues r w) ⊕ topElement r D ⊗ mle (1 ∷ x) (lowPoint r D)) (valueZ r w)
+  identical = eqb ((1 ⊕ topElement r D) ⊗ segmentSum r D 0 (segmentValues r w) ⊕ topElement r D ⊗ mle (1 ∷ x) (lowPoint r D)) (valueZ r w)
 
   abbrev fromInner : List Check
   fromInner = tab 27 innerRound (logCols r) ++ (record { refusal = 28; passes = innerLast } ∷ record { refusal = 29; passes = identical } ∷ [])
@@ -161,7 +161,7 @@ module _ (r : Relation) (x w : List ℕ) (D : Draws) where
               (λ i h. either (fldRound r x w D) (logLogins r) (logFld r) (λ j k. subst (λ (n : ℕ). fldRound r x w D n ≡ true) (zero-add j) (a .0 j k .1)) (c .0) i (rw fld-count at h));
           bin-end = eqb-true _ _ (p .0);
           fld-end = eqb-true _ _ (q .0);
-          inner = rounds-pass (innerClaim r x w D) (innerRounds r w) (D .inner) (inner-length ∙ sym (C .inner)) (λ i h. g .0 i (rw (C .inner) at h));
+          inner = rounds-pass (innerClaim r w D) (innerRounds r w) (D .inner) (inner-length ∙ sym (C .inner)) (λ i h. g .0 i (rw (C .inner) at h));
           inner-end = eqb-true _ _ (t .0);
           identity = eqb-true _ _ (z .0);
         }
@@ -176,7 +176,7 @@ module _ (r : Relation) (x w : List ℕ) (D : Draws) where
         (pass-all 23 (λ i. fldRound r x w D (logLogins r + i)) (logFld r) fromEnds (λ j k. fld-at (logLogins r + j) (omega arith))
         (passes-one 24 binEnd (record { refusal = 26; passes = fldEnd } ∷ fromInner) (eq-eqb _ _ (H .bin-end))
         (passes-one 25 fldEnd fromInner (eq-eqb _ _ (H .fld-end))
-        (pass-all 26 innerRound (logCols r) (record { refusal = 28; passes = innerLast } ∷ record { refusal = 29; passes = identical } ∷ []) (λ j k. pass-rounds (innerClaim r x w D) (innerRounds r w) (D .inner) (H .inner) j (rw (C .inner) k))
+        (pass-all 26 innerRound (logCols r) (record { refusal = 28; passes = innerLast } ∷ record { refusal = 29; passes = identical } ∷ []) (λ j k. pass-rounds (innerClaim r w D) (innerRounds r w) (D .inner) (H .inner) j (rw (C .inner) k))
         (passes-one 27 innerLast (record { refusal = 29; passes = identical } ∷ []) (eq-eqb _ _ (H .inner-end))
         (passes-one 28 identical [] (eq-eqb _ _ (H .identity)) nothing))))))))
       where

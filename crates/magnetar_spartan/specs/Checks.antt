@@ -30,6 +30,23 @@ pub record Check : Type 0 where
 unfoldable pub roundHolds : ℕ → List (List ℕ) → List ℕ → ℕ → Bool
 roundHolds c ms rs i = holds (getD ms i []) (running c (take i ms) (take i rs))
 
+-- the claim of the inner sum-check: the terminals, each times its alpha
+unfoldable pub innerClaim : Relation → List ℕ → Draws → ℕ
+innerClaim r w d = dot (d .alphas) (terminals r w)
+
+-- the six matrices at the row points, combined by the alphas: an element for each column (`build_m_combo`)
+unfoldable pub combined : Relation → Draws → List ℕ
+combined r d =
+    tabulate (λ y. dot (d .alphas) (getD (mleTable (r .bin .a) (d .rowBin)) y 0 ∷ getD (mleTable (r .bin .b) (d .rowBin)) y 0
+    ∷ getD (mleTable (r .bin .c) (d .rowBin)) y 0 ∷ getD (mleTable (r .fld .a) (d .rowFld)) y 0
+    ∷ getD (mleTable (r .fld .b) (d .rowFld)) y 0 ∷ getD (mleTable (r .fld .c) (d .rowFld)) y 0 ∷ [])) (r .m)
+
+-- the segment values, each times eq(high part of the column point, number of the segment's place)
+unfoldable pub segmentSum : Relation → Draws → ℕ → List ℕ → ℕ
+segmentSum r d i [] = 0
+segmentSum r d i (v ∷ vs) =
+    eqAt (drop (localVars (r .lengths) i) (lowPoint r d)) (suffix (r .lengths) i) ⊗ v ⊕ segmentSum r d (suc i) vs
+
 module _ (r : Relation) (x w : List ℕ) (d : Draws) where
   -- round i of the outer sum-check of each system
   abbrev pub binRound : ℕ → Bool
@@ -64,38 +81,21 @@ module _ (r : Relation) (x w : List ℕ) (d : Draws) where
       }
       ∷ []
 
-  -- the claim of the inner sum-check: the terminals, each times its alpha
-  unfoldable pub innerClaim : ℕ
-  innerClaim = dot (d .alphas) (terminals r w)
-
-  -- the six matrices at the row points, combined by the alphas: an element for each column (`build_m_combo`)
-  unfoldable pub combined : List ℕ
-  combined =
-      tabulate (λ y. dot (d .alphas) (getD (mleTable (r .bin .a) (d .rowBin)) y 0 ∷ getD (mleTable (r .bin .b) (d .rowBin)) y 0
-      ∷ getD (mleTable (r .bin .c) (d .rowBin)) y 0 ∷ getD (mleTable (r .fld .a) (d .rowFld)) y 0
-      ∷ getD (mleTable (r .fld .b) (d .rowFld)) y 0 ∷ getD (mleTable (r .fld .c) (d .rowFld)) y 0 ∷ [])) (r .m)
-
   unfoldable pub innerChecks : List Check
   innerChecks =
-      tabulate (λ i. record { refusal = 27; passes = roundHolds innerClaim (innerRounds r w) (d .inner) i }) (logCols r)
+      tabulate (λ i. record { refusal = 27; passes = roundHolds (innerClaim r w d) (innerRounds r w) (d .inner) i }) (logCols r)
       ++ record {
         refusal = 28;
-        passes = eqb (running innerClaim (innerRounds r w) (d .inner)) (innerEnd (mle combined (d .inner)) (valueZ r w));
+        passes = eqb (running (innerClaim r w d) (innerRounds r w) (d .inner)) (innerEnd (mle (combined r d) (d .inner)) (valueZ r w));
       }
       ∷ []
-
-  -- the segment values, each times eq(high part of the column point, number of the segment's place)
-  unfoldable pub segmentSum : ℕ → List ℕ → ℕ
-  segmentSum i [] = 0
-  segmentSum i (v ∷ vs) =
-      eqAt (drop (localVars (r .lengths) i) (lowPoint r d)) (suffix (r .lengths) i) ⊗ v ⊕ segmentSum (suc i) vs
 
   -- v_z is (1 + top) times the segment sum plus top times the public half (1, x) at the low point
   unfoldable pub identityCheck : List Check
   identityCheck =
       record {
         refusal = 29;
-        passes = eqb ((1 ⊕ topElement r d) ⊗ segmentSum 0 (segmentValues r w) ⊕ topElement r d ⊗ mle (1 ∷ x) (lowPoint r d)) (valueZ r w);
+        passes = eqb ((1 ⊕ topElement r d) ⊗ segmentSum r d 0 (segmentValues r w) ⊕ topElement r d ⊗ mle (1 ∷ x) (lowPoint r d)) (valueZ r w);
       }
       ∷ []
 

@@ -3,5 +3,7 @@ pub mod Proof
 pub mod Draws
 pub mod Checks
 pub mod Run
+pub mod RunSizes
 pub mod Theory
 pub mod Soundness
+pub mod Prover
