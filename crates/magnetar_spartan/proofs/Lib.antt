@@ -13,3 +13,7 @@ pub mod SegmentSums
 pub mod AcceptedRun
 pub mod TrueClaims
 pub mod Soundness
+pub mod Chunks
+pub mod HonestParts
+pub mod HonestTables
+pub mod AcceptedHolds
