@@ -70,7 +70,7 @@ module _ (r : Relation) (x w : List ℕ) (D : Draws) (R : SizedRelation r) (C : 
   cols = cols-suc r R
 
   -- the first terminal
-  ab-is : getD (els w) (beforeTerminals r) (element 0) ≡ element (terminal r w 0)
+  pub ab-is : getD (els w) (beforeTerminals r) (element 0) ≡ element (terminal r w 0)
   ab-is = els-at w (beforeTerminals r) ∙ ap (λ (k : ℕ). element (getD w k 0)) (sym (add-zero (beforeTerminals r)))
 
   pub claim-is : element (innerClaim r w D) ≡ dotE gf128 (els (D .alphas)) (terminalsE gf128 (wordsE r w))

@@ -17,3 +17,6 @@ pub mod Chunks
 pub mod HonestParts
 pub mod HonestTables
 pub mod AcceptedHolds
+pub mod HonestBelow
+pub mod HonestRun
+pub mod Completeness

@@ -29,7 +29,7 @@ use Rattle.magnetar_spartan.proofs.SegmentSums.{pow-le}
 use Rattle.magnetar_spartan.proofs.SizeFacts.{cols-suc, half-pow, Cut, low-size}
 
 -- ---- sizes
-all-length : (n : ℕ) (b : Batch) → ((u : ℕ) → u < length b → length (getD b u []) ≡ n) → AllLength gf128 n (batchE b)
+pub all-length : (n : ℕ) (b : Batch) → ((u : ℕ) → u < length b → length (getD b u []) ≡ n) → AllLength gf128 n (batchE b)
 all-length n [] h = tt
 all-length n (w ∷ b) h = (length-map w element ∙ h 0 (omega arith), all-length n b (λ u k. h (suc u) (omega arith)))
 
