@@ -22,6 +22,7 @@ use Rattle.magnetar_spartan.proofs.TrueClaims.{sizes}
 use Rattle.magnetar_spartan.proofs.HonestParts.{segment-part, honest-length}
 use Rattle.magnetar_spartan.proofs.HonestBelow.{honest-elements}
 use Rattle.magnetar_spartan.proofs.HonestRun.{words-are}
+use Rattle.magnetar_spartan.proofs.ClaimParts.{values-true}
 
 module _ (r : Relation) (b : Batch) (x d : List ℕ) (S : SizedRun r b x d) where
   -- the words are as many as document 01 says, and elements
@@ -35,11 +36,10 @@ module _ (r : Relation) (b : Batch) (x d : List ℕ) (S : SizedRun r b x d) wher
   same-claims = ap (λ (l : List ℕ). loginPoint (drawsOf r d) ++ (lowPoint r (drawsOf r d) ++ l)) (segment-part r b x (drawsOf r d) (cut r d (S .draws)))
 
   -- and all of them are true
-  pub true-claims : ClaimsTrue r b (proverWords r b x d) d
-  unfolding proverWords trueValues
-  true-claims i h =
-      ap (λ (l : List ℕ). getD l i 0) (segment-part r b x (drawsOf r d) (cut r d (S .draws)))
-      ∙ tabulate-get (trueValue r b (drawsOf r d)) (length (r .lengths)) i 0 h
+  pub true-claims : ClaimsTrue r b (proverClaims r b d)
+  unfolding proverClaims trueValues
+  true-claims = values-true r (S .relation) (drawsOf r d) (cut r d (S .draws)) (trueValues r b (drawsOf r d)) b
+      (λ i h. tabulate-get (trueValue r b (drawsOf r d)) (length (r .lengths)) i 0 h)
 
   -- Demand 3, second half: of a good batch with no bit outside, the honest words are accepted.
   pub completeness : Good r b x → NoStray r b → verdict r x (proverWords r b x d) d ≡ 0

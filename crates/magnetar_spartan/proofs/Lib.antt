@@ -12,6 +12,7 @@ pub mod Combined
 pub mod SegmentSums
 pub mod AcceptedRun
 pub mod TrueClaims
+pub mod ClaimParts
 pub mod Soundness
 pub mod Chunks
 pub mod HonestParts

@@ -14,8 +14,9 @@ use Rattle.magnetar_theory.specs.Gf128.{Element, element, number, gf128}
 use Rattle.magnetar_theory.proofs.Gf128.{number-of}
 use Rattle.magnetar_theory.proofs.Whole.{list-sizes, sound}
 use Rattle.magnetar_spartan.specs.Shape.{logLogins, logBin, logFld}
+use Rattle.magnetar_spartan.specs.Proof.{segmentValues}
 use Rattle.magnetar_spartan.specs.Draws.{Draws, drawsOf}
-use Rattle.magnetar_spartan.specs.Run.{verdict, ClaimsTrue}
+use Rattle.magnetar_spartan.specs.Run.{verdict, claims, ClaimsTrue}
 use Rattle.magnetar_spartan.specs.Theory.{els, relationE, publicE, batchE, drawsE}
 use Rattle.magnetar_spartan.specs.RunSizes.{Sized}
 use Rattle.magnetar_spartan.specs.Soundness.{NoStray, badDraws, absorbedBefore, BadDraw}
@@ -25,6 +26,7 @@ use Rattle.magnetar_spartan.proofs.Verdict.{holds-of}
 use Rattle.magnetar_spartan.proofs.AcceptedRun.{accepted}
 use Rattle.magnetar_spartan.proofs.GoodBatch.{good}
 use Rattle.magnetar_spartan.proofs.TrueClaims.{sizes, true-claims}
+use Rattle.magnetar_spartan.proofs.ClaimParts.{true-values}
 
 -- no list has more than three elements, whatever has been absorbed and drawn
 pub at-most-three : (r : Relation) (b : Batch) (x absorbed drawn : List ℕ) → length (badDraws r b x absorbed drawn) ≤ 3
@@ -57,9 +59,9 @@ as-numbers r b x w d below (k, h, m) = (
 
 -- Demand 3, first half: where the verifier accepts, no bit is set outside the segments and every claim is true of the batch, the
 -- batch is good, or some draw lies in its list.
-pub soundness : (r : Relation) (b : Batch) (x w d : List ℕ) → Sized r b x w d → verdict r x w d ≡ 0 → NoStray r b → ClaimsTrue r b w d
+pub soundness : (r : Relation) (b : Batch) (x w d : List ℕ) → Sized r b x w d → verdict r x w d ≡ 0 → NoStray r b → ClaimsTrue r b (claims r w d)
     → Good r b x ⊎ BadDraw r b x w d
-unfolding verdict
+unfolding verdict claims
 soundness r b x w d S v stray true = go found
   where
     D : Draws
@@ -74,7 +76,7 @@ soundness r b x w d S v stray true = go found
     found : GoodE (relationE r) (publicE x) (batchE b) ⊎ Hit gf128 (listOf (relationE r) (publicE x) (batchE b) (length (els ((drawsOf r d) .shared))) (els w)) (drawn gf128 (drawsE r (drawsOf r d)))
     found = sound (relationE r) (publicE x) (batchE b) (els w) (drawsE r (drawsOf r d)) (sizes r b (drawsOf r d) (S .run .relation) (S .run .batch) C x (S .run .public) stray)
         (subst (λ (s : ℕ). Accepted gf128 (relationE r) (publicE x) (drawsE r (drawsOf r d)) (wordsOf gf128 s (relationE r) (els w))) (sym count) (accepted r x w (drawsOf r d) (S .run .relation) C (S .words) (holds-of r x w (drawsOf r d) C v)))
-        (subst (λ (s : ℕ). (wordsOf gf128 s (relationE r) (els w)) .values ≡ map (trueValueE gf128 (drawsE r (drawsOf r d)) (batchE b)) ((relationE r) .segs)) (sym count) (true-claims r b (drawsOf r d) (S .run .relation) (S .run .batch) C w (S .words) true))
+        (subst (λ (s : ℕ). (wordsOf gf128 s (relationE r) (els w)) .values ≡ map (trueValueE gf128 (drawsE r (drawsOf r d)) (batchE b)) ((relationE r) .segs)) (sym count) (true-claims r b (drawsOf r d) (S .run .relation) (S .run .batch) C w (S .words) (true-values r (S .run .relation) (drawsOf r d) C (segmentValues r w) b true)))
 
     go : GoodE (relationE r) (publicE x) (batchE b) ⊎ Hit gf128 (listOf (relationE r) (publicE x) (batchE b) (length (els ((drawsOf r d) .shared))) (els w)) (drawn gf128 (drawsE r (drawsOf r d)))
         → Good r b x ⊎ BadDraw r b x w d

@@ -16,7 +16,7 @@ use Rattle.magnetar_theory.specs.Gf128.{Element, element, gf128}
 use Rattle.magnetar_spartan.specs.Shape.{logLogins, logCols, beforeEnd, proofElements}
 use Rattle.magnetar_spartan.specs.Proof.{segmentValues}
 use Rattle.magnetar_spartan.specs.Draws.{Draws, drawCount, drawsOf, loginPoint, lowPoint}
-use Rattle.magnetar_spartan.specs.Run.{trueValue, ClaimsTrue}
+use Rattle.magnetar_spartan.specs.Run.{trueValue}
 use Rattle.magnetar_spartan.specs.Theory.{els, logHalf, segmentsE, relationE, publicE, batchE, drawsE, wordsE}
 use Rattle.magnetar_spartan.specs.RunSizes.{SizedRelation, SizedBatch}
 use Rattle.magnetar_spartan.specs.Soundness.{NoStray}
