@@ -13,7 +13,7 @@ use Rattle.magnetar_spartan.specs.Run.{verdict, claims, trueValue, Claim
 use Rattle.magnetar_spartan.specs.RunSizes.{SizedRun, Sized}
 use Rattle.magnetar_spartan.specs.Theory.{relationE, publicE, batchE, drawsE, wordsE}
 use Rattle.magnetar_spartan.specs.Soundness.{NoStray}
-use Rattle.magnetar_spartan.specs.Prover.{trueValues, honestWords, proverWords, proverClaims}
+use Rattle.magnetar_spartan.specs.Prover.{trueValues, honestWords, proverWords, proverClaims, Convinces}
 use Rattle.magnetar_spartan.proofs.SizeFacts.{Cut, cut}
 use Rattle.magnetar_spartan.proofs.Verdict.{of-holds}
 use Rattle.magnetar_spartan.proofs.AcceptedHolds.{holds}
@@ -30,21 +30,20 @@ module _ (r : Relation) (b : Batch) (x d : List ℕ) (S : SizedRun r b x d) wher
   unfolding proverWords
   prover-sized = record { run = S; words = honest-length r b x (drawsOf r d) (cut r d (S .draws)); elements-w = honest-elements r b x (drawsOf r d) }
 
-  -- both ends return the same claims
-  pub same-claims : claims r (proverWords r b x d) d ≡ proverClaims r b d
+  -- the claims that the verifier reads from the words are the prover's
+  same-claims : claims r (proverWords r b x d) d ≡ proverClaims r b d
   unfolding claims proverClaims proverWords
   same-claims = ap (λ (l : List ℕ). loginPoint (drawsOf r d) ++ (lowPoint r (drawsOf r d) ++ l)) (segment-part r b x (drawsOf r d) (cut r d (S .draws)))
 
-  -- and all of them are true
-  pub true-claims : ClaimsTrue r b (proverClaims r b d)
+  -- they are true
+  true-claims : ClaimsTrue r b (proverClaims r b d)
   unfolding proverClaims trueValues
   true-claims = values-true r (S .relation) (drawsOf r d) (cut r d (S .draws)) (trueValues r b (drawsOf r d)) b
       (λ i h. tabulate-get (trueValue r b (drawsOf r d)) (length (r .lengths)) i 0 h)
 
-  -- Demand 3, second half: of a good batch with no bit outside, the honest words are accepted.
-  pub completeness : Good r b x → NoStray r b → verdict r x (proverWords r b x d) d ≡ 0
+  honest-accepted : Good r b x → NoStray r b → verdict r x (proverWords r b x d) d ≡ 0
   unfolding verdict proverWords
-  completeness g stray =
+  honest-accepted g stray =
       of-holds r x (honestWords r b x D) D C
       (holds r x (honestWords r b x D) D (S .relation) C (honest-length r b x D C) (honest-elements r b x D)
       (subst (λ (W : Words gf128). Accepted gf128 (relationE r) (publicE x) (drawsE r D) W) (sym (words-are r b x D (S .relation) (S .batch) C (S .public)))
@@ -55,3 +54,8 @@ module _ (r : Relation) (b : Batch) (x d : List ℕ) (S : SizedRun r b x d) wher
 
       C : Cut r (drawsOf r d)
       C = cut r d (S .draws)
+
+  -- Demand 3, second half: of a good batch with no bit outside, the honest words are accepted, both ends return the same claims,
+  -- and all of them are true.
+  pub completeness : Good r b x → NoStray r b → Convinces r b x d
+  completeness g stray = record { accepted = honest-accepted g stray; same-claims = same-claims; true-claims = true-claims }

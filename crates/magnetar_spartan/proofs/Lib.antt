@@ -21,3 +21,4 @@ pub mod AcceptedHolds
 pub mod HonestBelow
 pub mod HonestRun
 pub mod Completeness
+pub mod Examples

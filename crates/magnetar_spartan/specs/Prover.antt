@@ -1,6 +1,7 @@
 -- The honest prover's words and claims, with the draws as plain elements: each message is the exact polynomial of its round, and
 -- so uses only the draws before it.
 -- Assumes nothing.
+use mathlib.Core.Path.{_≡_}
 use mathlib.Core.List.{List, [], _∷_, _++_}
 use Prim.Native.Nat.{ℕ, _/_}
 use lib.ListN.{length, take, drop}
@@ -13,7 +14,7 @@ use Rattle.magnetar_r1cs.specs.Batch.{Relation, Batch, assignment, folded}
 use Rattle.magnetar_spartan.specs.Shape.{logLogins}
 use Rattle.magnetar_spartan.specs.Draws.{Draws, drawsOf, loginPoint, lowPoint}
 use Rattle.magnetar_spartan.specs.Checks.{combined}
-use Rattle.magnetar_spartan.specs.Run.{trueValue}
+use Rattle.magnetar_spartan.specs.Run.{verdict, claims, trueValue, ClaimsTrue}
 
 -- messages one behind the other
 unfoldable pub joined : List (List ℕ) → List ℕ
@@ -78,3 +79,9 @@ proverWords r b x d = honestWords r b x (drawsOf r d)
 -- the claims: r_inst, r_low, then the true segment values
 unfoldable pub proverClaims : Relation → Batch → List ℕ → List ℕ
 proverClaims r b d = loginPoint (drawsOf r d) ++ (lowPoint r (drawsOf r d) ++ trueValues r b (drawsOf r d))
+
+-- the honest words are accepted, both ends return the same claims, and all of them are true
+pub record Convinces (r : Relation) (b : Batch) (x d : List ℕ) : Type 0 where
+  pub accepted : verdict r x (proverWords r b x d) d ≡ 0
+  pub same-claims : claims r (proverWords r b x d) d ≡ proverClaims r b d
+  pub true-claims : ClaimsTrue r b (proverClaims r b d)
