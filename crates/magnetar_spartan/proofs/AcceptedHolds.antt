@@ -1,20 +1,16 @@
 -- And the other way: where the theory accepts words that are elements, the checks hold.
-use mathlib.Core.Path.{_≡_, refl, sym, ap, ap₂, _∙_, subst, subst₂}
-use mathlib.Core.Bool.{true}
-use mathlib.Core.List.{List, [], _∷_, _++_, map}
+use mathlib.Core.Path.{_≡_, sym, ap₂, _∙_, subst, subst₂}
+use mathlib.Core.List.{List, [], _∷_, _++_}
 use Prim.Native.Nat.{ℕ, zero, suc, _+_, _*_, _^_, _<_}
-use native.Mathlib.Omega.{arith}
-use lib.ListN.{length, getD, take, drop}
+use lib.ListN.{length, take, drop}
 use lib.Pow.{pow-pos}
 use Rattle.magnetar_field.specs.Gf128.{_⊕_, _⊗_}
 use Rattle.magnetar_field.specs.Polynomial.{eval}
 use Rattle.magnetar_field.specs.Tabulate.{tabulate}
-use Rattle.magnetar_field.specs.Multilinear.{mle}
 use Rattle.magnetar_field.proofs.Polynomial.{AllBelow, eval-lt}
 use Rattle.magnetar_field.proofs.Product.{⊗-lt}
 use Rattle.magnetar_field.proofs.Xor.{⊕-lt}
-use Rattle.magnetar_sumcheck.specs.Round.{passes, running}
-use Rattle.magnetar_sumcheck.specs.Order.{eqPoints}
+use Rattle.magnetar_sumcheck.specs.Round.{running}
 use Rattle.magnetar_sumcheck.specs.Outer.{outerEnd}
 use Rattle.magnetar_sumcheck.specs.Inner.{innerEnd}
 use Rattle.magnetar_sumcheck.proofs.Verifier.{MessagesBelow, checks-passes, running-is}
@@ -24,9 +20,9 @@ use Rattle.magnetar_theory.specs.Run.{Accepted}
 use Rattle.magnetar_theory.specs.Gf128.{Element, element, gf128}
 use Rattle.magnetar_theory.proofs.Gf128.{element-inj}
 use Rattle.magnetar_spartan.specs.Shape.{logLogins, logBin, logFld, logCols, beforeInner, beforeEnd, proofElements}
-use Rattle.magnetar_spartan.specs.Proof.{part, binMessages, fldMessages, terminal, innerRounds, valueZ, segmentValues}
-use Rattle.magnetar_spartan.specs.Draws.{Draws, loginPoint, lowPoint, topElement}
-use Rattle.magnetar_spartan.specs.Checks.{innerClaim, combined, segmentSum}
+use Rattle.magnetar_spartan.specs.Proof.{part, binMessages, fldMessages, innerRounds, valueZ}
+use Rattle.magnetar_spartan.specs.Draws.{Draws}
+use Rattle.magnetar_spartan.specs.Checks.{innerClaim}
 use Rattle.magnetar_spartan.specs.Theory.{els, relationE, publicE, drawsE, wordsE}
 use Rattle.magnetar_spartan.specs.RunSizes.{SizedRelation, Elements}
 use Rattle.magnetar_spartan.proofs.Elements.{map-append, dot-lt}

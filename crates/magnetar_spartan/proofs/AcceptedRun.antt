@@ -1,28 +1,25 @@
 -- A run whose checks hold is accepted in the theory.
 use mathlib.Core.Path.{_≡_, refl, sym, ap, ap₂, _∙_, subst, subst₂}
-use mathlib.Core.Bool.{true}
-use mathlib.Core.List.{List, [], _∷_, _++_, map, reverse}
-use Prim.Native.Nat.{ℕ, zero, suc, _+_, _-_, _*_, _/_, _^_, _≤_, _<_}
+use mathlib.Core.List.{List, [], _∷_, _++_, reverse}
+use Prim.Native.Nat.{ℕ, suc, _+_, _-_, _≤_}
 use native.Mathlib.Nat.{add-zero}
 use native.Mathlib.Omega.{arith}
 use lib.ListN.{length, getD, take, drop, length-drop}
 use lib.Seq.{getD-drop}
 use Rattle.magnetar_field.specs.Gf128.{_⊕_, _⊗_}
-use Rattle.magnetar_field.specs.Multilinear.{dot, mle}
-use Rattle.magnetar_sumcheck.specs.Round.{passes, running}
+use Rattle.magnetar_field.specs.Multilinear.{mle}
 use Rattle.magnetar_sumcheck.specs.Order.{eqPoints}
 use Rattle.magnetar_sumcheck.specs.Outer.{outerEnd}
 use Rattle.magnetar_sumcheck.specs.Inner.{innerEnd}
 use Rattle.magnetar_sumcheck.proofs.Verifier.{passes-checks, running-is}
 use Rattle.magnetar_sumcheck.proofs.Protocol.{element-mle, element-eqPoints}
 use Rattle.magnetar_r1cs.specs.Batch.{Relation}
-use Rattle.magnetar_r1cs.specs.Layout.{offsets}
 use Rattle.magnetar_theory.specs.SumCheck.{Checks, running as runningE}
 use Rattle.magnetar_theory.specs.EqTable.{eqTable as eqTableE, dot as dotE, eqProduct}
 use Rattle.magnetar_theory.specs.Run.{Accepted, terminals as terminalsE, segSum, combo, inner}
 use Rattle.magnetar_theory.specs.Gf128.{Element, element, sum, product, gf128}
 use Rattle.magnetar_theory.proofs.Gf128.{element-⊕, element-⊗}
-use Rattle.magnetar_spartan.specs.Shape.{logLogins, logBin, logFld, logCols, beforeTerminals, beforeInner, beforeEnd, proofElements}
+use Rattle.magnetar_spartan.specs.Shape.{logCols, beforeTerminals, beforeEnd, proofElements}
 use Rattle.magnetar_spartan.specs.Proof.{binMessages, fldMessages, terminals, terminal, innerRounds, valueZ, segmentValues}
 use Rattle.magnetar_spartan.specs.Draws.{Draws, loginPoint, lowPoint, topElement}
 use Rattle.magnetar_spartan.specs.Checks.{innerClaim, combined, segmentSum}

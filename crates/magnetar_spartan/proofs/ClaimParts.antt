@@ -1,17 +1,16 @@
 -- The parts of the returned claims: they are true exactly where each segment value is the true value at the points of the draws.
 use mathlib.Core.Path.{_≡_, sym, ap, _∙_}
-use mathlib.Core.List.{List, _++_, reverse}
+use mathlib.Core.List.{List, _++_}
 use Prim.Native.Nat.{ℕ, _+_, _-_, _<_}
 use lib.ListN.{length, getD, take, drop, length-reverse}
 use lib.Seq.{take-at, drop-at, drop-drop}
 use Rattle.magnetar_r1cs.specs.Batch.{Relation, Batch, claimValue}
 use Rattle.magnetar_r1cs.specs.Layout.{offset, localVars}
 use Rattle.magnetar_spartan.specs.Shape.{logLogins, logCols}
-use Rattle.magnetar_spartan.specs.Proof.{segmentValues}
-use Rattle.magnetar_spartan.specs.Draws.{Draws, drawCount, drawsOf, loginPoint, lowPoint}
+use Rattle.magnetar_spartan.specs.Draws.{Draws, loginPoint, lowPoint}
 use Rattle.magnetar_spartan.specs.RunSizes.{SizedRelation}
-use Rattle.magnetar_spartan.specs.Run.{claims, trueValue, instOf, lowOf, valuesOf, ClaimsTrue}
-use Rattle.magnetar_spartan.proofs.SizeFacts.{Cut, cut, low-size}
+use Rattle.magnetar_spartan.specs.Run.{trueValue, instOf, lowOf, valuesOf, ClaimsTrue}
+use Rattle.magnetar_spartan.proofs.SizeFacts.{Cut, low-size}
 
 -- three lists one behind the other
 module _ (a l v : List ℕ) (s h : ℕ) (la : length a ≡ s) (ll : length l ≡ h) where

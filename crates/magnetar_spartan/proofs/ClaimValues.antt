@@ -1,9 +1,9 @@
 -- The value that a claim is about is the theory's: a sum over logins and positions, as a dot product of dot products.
-use mathlib.Core.Path.{_≡_, refl, sym, ap, ap₂, _∙_, subst}
-use mathlib.Core.List.{List, [], _∷_, _++_, map}
-use Prim.Native.Nat.{ℕ, zero, suc, _+_, _-_, _*_, _/_, _^_, _≤_, _<_}
+use mathlib.Core.Path.{_≡_, refl, sym, ap, ap₂, _∙_}
+use mathlib.Core.List.{List, [], _∷_, map}
+use Prim.Native.Nat.{ℕ, zero, suc, _+_, _-_, _/_, _^_, _≤_, _<_}
 use native.Mathlib.Omega.{arith}
-use lib.ListN.{length, getD, take, drop, length-map, length-take, length-drop}
+use lib.ListN.{length, getD, take, drop, length-map, length-drop}
 use lib.Seq.{getD-take, getD-drop, length-take-le}
 use Rattle.magnetar_field.specs.Gf128.{_⊕_, _⊗_}
 use Rattle.magnetar_field.specs.Sizes.{log₂}
@@ -15,7 +15,7 @@ use Rattle.magnetar_r1cs.specs.Batch.{Batch, bitOf, claimValue}
 use Rattle.magnetar_theory.specs.EqTable.{eqTable as eqTableE, dot as dotE}
 use Rattle.magnetar_theory.specs.Segment.{Segment}
 use Rattle.magnetar_theory.specs.Gf128.{Element, element, sum, product, gf128}
-use Rattle.magnetar_theory.proofs.Gf128.{element-⊕, element-⊗, gf128Laws}
+use Rattle.magnetar_theory.proofs.Gf128.{element-⊗}
 use Rattle.magnetar_sumcheck.specs.Sum.{sumTo}
 use Rattle.magnetar_sumcheck.proofs.OuterRound.{sumF}
 use Rattle.magnetar_sumcheck.proofs.OuterRun.{element-eqTable, element-sum}

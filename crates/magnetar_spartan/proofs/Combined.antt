@@ -1,8 +1,7 @@
 -- The column table that the verifier combines is the theory's: a weighted sum of the six tables.
 use mathlib.Core.Path.{_≡_, refl, sym, ap, ap₂, _∙_}
-use mathlib.Core.List.{List, [], _∷_, _++_, map}
+use mathlib.Core.List.{List, [], _∷_, map}
 use Prim.Native.Nat.{ℕ, zero, suc, _^_, _<_}
-use native.Mathlib.Omega.{arith}
 use lib.ListN.{length, getD, replicate, length-map}
 use lib.Seq.{ext-getD}
 use Rattle.magnetar_field.specs.Multilinear.{dot}
@@ -13,7 +12,7 @@ use Rattle.magnetar_theory.specs.SumCheck.{addPoly}
 use Rattle.magnetar_theory.specs.EqTable.{eqTable as eqTableE, dot as dotE, scale}
 use Rattle.magnetar_theory.specs.Matrix.{fold, columns}
 use Rattle.magnetar_theory.specs.Run.{six, combo}
-use Rattle.magnetar_theory.specs.Gf128.{Element, element, sum, product, gf128}
+use Rattle.magnetar_theory.specs.Gf128.{Element, element, sum, gf128}
 use Rattle.magnetar_theory.proofs.Gf128.{gf128Laws}
 use Rattle.magnetar_theory.proofs.Matrix.{length-fold, length-columns}
 use Rattle.magnetar_sumcheck.proofs.EqPairs.{getD-scale}

@@ -1,8 +1,8 @@
 -- The theorem on the honest prover.
-use mathlib.Core.Path.{_≡_, refl, sym, ap, _∙_, subst}
-use mathlib.Core.List.{List, [], _∷_, _++_}
-use Prim.Native.Nat.{ℕ, _<_}
-use lib.ListN.{length, getD}
+use mathlib.Core.Path.{_≡_, sym, ap, subst}
+use mathlib.Core.List.{List, _++_}
+use Prim.Native.Nat.{ℕ}
+use lib.ListN.{length}
 use Rattle.magnetar_field.proofs.Tabulation.{tabulate-get}
 use Rattle.magnetar_r1cs.specs.Batch.{Relation, Batch, Good}
 use Rattle.magnetar_theory.specs.Run.{Accepted, Words}
@@ -11,7 +11,7 @@ use Rattle.magnetar_theory.proofs.Whole.{complete}
 use Rattle.magnetar_spartan.specs.Draws.{Draws, drawsOf, loginPoint, lowPoint}
 use Rattle.magnetar_spartan.specs.Run.{verdict, claims, trueValue, ClaimsTrue}
 use Rattle.magnetar_spartan.specs.RunSizes.{SizedRun, Sized}
-use Rattle.magnetar_spartan.specs.Theory.{relationE, publicE, batchE, drawsE, wordsE}
+use Rattle.magnetar_spartan.specs.Theory.{relationE, publicE, batchE, drawsE}
 use Rattle.magnetar_spartan.specs.Soundness.{NoStray}
 use Rattle.magnetar_spartan.specs.Prover.{trueValues, honestWords, proverWords, proverClaims, Convinces}
 use Rattle.magnetar_spartan.proofs.SizeFacts.{Cut, cut}

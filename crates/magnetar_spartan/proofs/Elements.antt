@@ -2,14 +2,14 @@
 use mathlib.Core.Path.{_≡_, refl, sym, ap, ap₂, _∙_}
 use mathlib.Core.List.{List, [], _∷_, _++_, map, reverse, reverse-cons}
 use Prim.Native.Nat.{ℕ, zero, suc, _^_, _<_}
-use lib.ListN.{length, getD, take, drop, List·getD-map}
+use lib.ListN.{getD, take, drop, List·getD-map}
 use lib.Pow.{pow-pos}
 use Rattle.magnetar_field.specs.Gf128.{_⊕_, _⊗_}
 use Rattle.magnetar_field.specs.Multilinear.{dot}
 use Rattle.magnetar_field.proofs.Product.{⊗-lt}
 use Rattle.magnetar_field.proofs.Xor.{⊕-lt}
 use Rattle.magnetar_theory.specs.EqTable.{dot as dotE}
-use Rattle.magnetar_theory.specs.Gf128.{Element, element, sum, gf128}
+use Rattle.magnetar_theory.specs.Gf128.{element, sum, gf128}
 use Rattle.magnetar_theory.proofs.Gf128.{element-⊕, element-⊗}
 use Rattle.magnetar_spartan.specs.Theory.{els}
 

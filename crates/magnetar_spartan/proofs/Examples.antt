@@ -1,7 +1,8 @@
 -- Small runs, computed from the definitions.
 use mathlib.Core.Path.{_≡_, refl}
-use mathlib.Core.List.{List, [], _∷_}
+use mathlib.Core.List.{List, [], _∷_, map}
 use Prim.Native.Nat.{ℕ}
+use lib.ListN.{getD, set}
 use Rattle.magnetar_field.specs.Gf128.{_⊕_, _⊗_, sumTimes, timesX}
 use Rattle.magnetar_field.specs.Sizes.{log₂, halvings}
 use Rattle.magnetar_field.specs.Tabulate.{tabulate}
@@ -20,10 +21,10 @@ use Rattle.magnetar_r1cs.specs.Batch.{Relation, bitOf, assignment, foldedAt, fo
 use Rattle.magnetar_r1cs.specs.Layout.{nextMultiple, offsetsFrom, offsets}
 use Rattle.magnetar_spartan.specs.Shape.{proofElements}
 use Rattle.magnetar_spartan.specs.Proof.{binMessages, fldMessages, terminals, innerRounds, valueZ, segmentValues}
-use Rattle.magnetar_spartan.specs.Draws.{drawCount, drawsOf, loginPoint, lowPoint, topElement}
+use Rattle.magnetar_spartan.specs.Draws.{drawsOf, loginPoint, lowPoint, topElement}
 use Rattle.magnetar_spartan.specs.Checks.{roundHolds, innerClaim, combined, segmentSum, sharedChecks, rowChecks, terminalChecks, innerChecks, identityCheck, checks, firstRefusal}
-use Rattle.magnetar_spartan.specs.Run.{verdict, claims, trueValue}
-use Rattle.magnetar_spartan.specs.Prover.{joined, inTurn, trueValues, productTable, outerRounds, terminalValues, foldedZ, honestWords, proverWords, proverClaims}
+use Rattle.magnetar_spartan.specs.Run.{verdict, trueValue}
+use Rattle.magnetar_spartan.specs.Prover.{joined, inTurn, trueValues, productTable, outerRounds, terminalValues, foldedZ, honestWords, proverWords}
 
 -- ---- m = 2, q = 1, one empty row in each matrix, no segment
 abbrev empty : Matrix
@@ -55,3 +56,34 @@ least-accepted = refl
 pub least-refused : verdict least [] (0 ∷ 0 ∷ 0 ∷ 0 ∷ 0 ∷ 0 ∷ 0 ∷ 0 ∷ 0 ∷ 6 ∷ []) draws ≡ 29
 unfolding log₂ halvings _⊕_ _⊗_ sumTimes timesX tabulate eval eqFactor eqAt eqTable dot mle total checkSum holds running eqPoints outerEnd innerEnd sumOver rowTotal share timesAt times transpose mleTable nextMultiple offsetsFrom offsets binMessages fldMessages terminals innerRounds valueZ segmentValues drawsOf loginPoint lowPoint topElement roundHolds innerClaim combined segmentSum sharedChecks rowChecks terminalChecks innerChecks identityCheck checks firstRefusal verdict
 least-refused = refl
+
+-- ---- m = 4, q = 2: two rows that say that each bit is a bit, a row 1 x = x, and a segment of both bits
+abbrev diagonal : Matrix
+diagonal = record { rows = 2; cols = 4; entries = record { row = 0; col = 0; value = 1 } ∷ record { row = 1; col = 1; value = 1 } ∷ [] }
+
+abbrev column : ℕ → Matrix
+column k = record { rows = 1; cols = 4; entries = record { row = 0; col = k; value = 1 } ∷ [] }
+
+abbrev small : Relation
+small = record {
+  m = 4;
+  q = 2;
+  bin = record { a = diagonal; b = diagonal; c = diagonal };
+  fld = record { a = column 2; b = column 3; c = column 3 };
+  lengths = 2 ∷ [];
+}
+
+abbrev smallDraws : List ℕ
+smallDraws = 17 ∷ 35 ∷ 70 ∷ 5 ∷ 6 ∷ 7 ∷ 8 ∷ 9 ∷ 10 ∷ 11 ∷ 12 ∷ 13 ∷ 14 ∷ []
+
+-- the honest words, with 1 added to element j
+abbrev flipped : ℕ → List ℕ
+flipped j = set (proverWords small ((1 ∷ 0 ∷ []) ∷ (1 ∷ 1 ∷ []) ∷ []) (5 ∷ []) smallDraws) j (getD (proverWords small ((1 ∷ 0 ∷ []) ∷ (1 ∷ 1 ∷ []) ∷ []) (5 ∷ []) smallDraws) j 0 ⊕ 1)
+
+abbrev answer : ℕ → ℕ
+answer j = verdict small (5 ∷ []) (flipped j) smallDraws
+
+-- one element of the honest words changed: each of 21 to 29 is met
+pub changed : map answer (0 ∷ 1 ∷ 4 ∷ 5 ∷ 8 ∷ 9 ∷ 14 ∷ 17 ∷ 18 ∷ 19 ∷ 21 ∷ 24 ∷ 25 ∷ []) ≡ 23 ∷ 21 ∷ 26 ∷ 22 ∷ 25 ∷ 23 ∷ 25 ∷ 26 ∷ 27 ∷ 27 ∷ 28 ∷ 28 ∷ 29 ∷ []
+unfolding log₂ halvings _⊕_ _⊗_ sumTimes timesX tabulate eval eqFactor eqAt eqTable dot mle line insertZero bindVar sumTo total checkSum holds running eqPoints at₀ at₁ slope outerEnd innerEnd innerSums innerMessage nextVar coefficient₀ coefficient₁ coefficient₂ weighted timesEq outerMessage dropVar outerNext outerFold outerStart outerMessages innerMessages sumBelow blocks sumOver rowTotal share timesAt times transpose mleTable bitOf assignment foldedAt folded claimValue nextMultiple offsetsFrom offsets binMessages fldMessages terminals innerRounds valueZ segmentValues drawsOf loginPoint lowPoint topElement roundHolds innerClaim combined segmentSum sharedChecks rowChecks terminalChecks innerChecks identityCheck checks firstRefusal verdict trueValue joined inTurn trueValues productTable outerRounds terminalValues foldedZ honestWords proverWords
+changed = refl

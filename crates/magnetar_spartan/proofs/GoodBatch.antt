@@ -1,6 +1,6 @@
 -- A batch is good where it is good in the theory: (Az)(Bz) + Cz is zero in each row of each login.
 use mathlib.Core.Path.{_≡_, refl, sym, ap, ap₂, _∙_, subst}
-use mathlib.Core.List.{List, [], _∷_, _++_, map}
+use mathlib.Core.List.{List, [], _∷_, _++_}
 use Prim.Native.Nat.{ℕ, zero, suc, _^_, _<_}
 use native.Mathlib.Omega.{arith}
 use lib.ListN.{length, getD}
@@ -14,12 +14,12 @@ use Rattle.magnetar_r1cs.specs.Batch.{Relation, Batch, assignment, Satisfied, G
 use Rattle.magnetar_theory.specs.Tau.{Zeros}
 use Rattle.magnetar_theory.specs.Matrix.{apply, applyAll}
 use Rattle.magnetar_theory.specs.Outer.{rowValues}
-use Rattle.magnetar_theory.specs.Run.{residues, vectors}
+use Rattle.magnetar_theory.specs.Run.{vectors}
 use Rattle.magnetar_theory.specs.Whole.{Good as GoodE}
 use Rattle.magnetar_theory.specs.Gf128.{Element, element, sum, product, gf128}
 use Rattle.magnetar_theory.proofs.Gf128.{element-⊕, element-⊗, element-inj, gf128Laws}
 use Rattle.magnetar_theory.proofs.Matrix.{length-apply}
-use Rattle.magnetar_spartan.specs.Theory.{els, entriesE, systemE, relationE, publicE, batchE}
+use Rattle.magnetar_spartan.specs.Theory.{els, entriesE, relationE, publicE, batchE}
 use Rattle.magnetar_spartan.specs.RunSizes.{SizedRelation, SizedBatch}
 use Rattle.magnetar_spartan.proofs.Elements.{map-append}
 use Rattle.magnetar_spartan.proofs.Products.{times-at, timesAt-lt}

@@ -1,11 +1,11 @@
 -- The parts of the honest words are the honest messages and values.
-use mathlib.Core.Path.{_≡_, refl, sym, ap, ap₂, _∙_, subst}
+use mathlib.Core.Path.{_≡_, refl, sym, ap, ap₂, _∙_}
 use mathlib.Core.List.{List, [], _∷_, _++_}
-use Prim.Native.Nat.{ℕ, zero, suc, _+_, _-_, _*_, _≤_, _<_}
+use Prim.Native.Nat.{ℕ, suc, _+_, _-_, _*_, _<_}
 use native.Mathlib.Nat.{zero-add, add-zero}
 use native.Mathlib.Omega.{arith}
 use lib.ListN.{length, getD, take, drop, length-append, length-drop, take-append-drop, List·getD-append}
-use lib.Seq.{drop-drop, drop-at, take-at, getD-drop, length-take-le}
+use lib.Seq.{drop-at, getD-drop, length-take-le}
 use Rattle.magnetar_field.specs.Tabulate.{tabulate}
 use Rattle.magnetar_field.specs.Multilinear.{mle}
 use Rattle.magnetar_field.proofs.Tabulation.{tabulate-length}
@@ -15,12 +15,12 @@ use Rattle.magnetar_sumcheck.specs.Messages.{Outer, outerNext, outerFold, outer
 use Rattle.magnetar_field.specs.Multilinear.{bindVar}
 use Rattle.magnetar_r1cs.specs.Batch.{Relation, Batch}
 use Rattle.magnetar_spartan.specs.Shape.{logLogins, logBin, logFld, logCols, beforeTerminals, beforeInner, beforeEnd, proofElements}
-use Rattle.magnetar_spartan.specs.Proof.{part, binMessages, fldMessages, terminals, terminal, innerRounds, valueZ, segmentValues}
+use Rattle.magnetar_spartan.specs.Proof.{part, binMessages, fldMessages, terminal, innerRounds, valueZ, segmentValues}
 use Rattle.magnetar_spartan.specs.Draws.{Draws}
 use Rattle.magnetar_spartan.specs.Checks.{combined}
 use Rattle.magnetar_spartan.specs.Prover.{joined, inTurn, outerRounds, binRounds, fldRounds, terminalValues, foldedZ, trueValues, honestWords}
 use Rattle.magnetar_spartan.proofs.SizeFacts.{Cut}
-use Rattle.magnetar_spartan.proofs.Chunks.{Each, each-take, each-drop, joined-length, inTurn-length, past, front, chunks, first-turns, second-turns}
+use Rattle.magnetar_spartan.proofs.Chunks.{Each, each-take, each-drop, joined-length, inTurn-length, past, chunks, first-turns, second-turns}
 
 -- ---- sizes of messages
 outer-each : (S : Outer) (rs : List ℕ) → Each 4 (outerMessages S rs)

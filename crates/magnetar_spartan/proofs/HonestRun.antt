@@ -1,7 +1,7 @@
 -- The honest words are those of the theory.
-use mathlib.Core.Path.{_≡_, refl, sym, ap, ap₂, _∙_, subst}
-use mathlib.Core.List.{List, [], _∷_, _++_, map, reverse}
-use Prim.Native.Nat.{ℕ, zero, suc, _+_, _-_, _*_, _/_, _^_, _≤_, _<_}
+use mathlib.Core.Path.{_≡_, refl, sym, ap, ap₂, _∙_}
+use mathlib.Core.List.{List, _++_, map, reverse}
+use Prim.Native.Nat.{ℕ, suc, _+_, _-_, _*_, _/_, _^_, _≤_, _<_}
 use native.Mathlib.Omega.{arith}
 use lib.ListN.{length, getD, length-append, length-map}
 use lib.Dec.{lit<}
@@ -9,7 +9,7 @@ use lib.Pow.{pow-add}
 use Rattle.magnetar_field.specs.Sizes.{log₂}
 use Rattle.magnetar_field.specs.Multilinear.{mle}
 use Rattle.magnetar_field.proofs.Tabulation.{tabulate-get}
-use Rattle.magnetar_sumcheck.specs.Messages.{Outer, outerStart, outerMessages, innerMessages}
+use Rattle.magnetar_sumcheck.specs.Messages.{Outer, outerStart, innerMessages}
 use Rattle.magnetar_sumcheck.proofs.OuterRun as O
 use Rattle.magnetar_sumcheck.proofs.OuterRun.{start-stands}
 use Rattle.magnetar_sumcheck.proofs.InnerRun as I
@@ -32,7 +32,7 @@ use Rattle.magnetar_spartan.specs.Checks.{combined}
 use Rattle.magnetar_spartan.specs.Run.{trueValue}
 use Rattle.magnetar_spartan.specs.RunSizes.{SizedSystem, SizedRelation, SizedBatch}
 use Rattle.magnetar_spartan.specs.Theory.{els, logHalf, entriesE, systemE, relationE, publicE, batchE, drawsE, wordsE}
-use Rattle.magnetar_spartan.specs.Prover.{productTable, outerRounds, binRounds, fldRounds, terminalValues, foldedZ, trueValues, honestWords}
+use Rattle.magnetar_spartan.specs.Prover.{productTable, outerRounds, terminalValues, foldedZ, trueValues, honestWords}
 use Rattle.magnetar_spartan.proofs.Elements.{map-append, map-reverse}
 use Rattle.magnetar_spartan.proofs.Pieces.{bin-are, fld-are, inner-are, vz-is, terminal-is}
 use Rattle.magnetar_spartan.proofs.SizeFacts.{cols-suc, Cut, inner-is}

@@ -7,11 +7,8 @@ use native.Mathlib.Nat.{zero-mul, suc-mul, two-pow-succ}
 use native.Mathlib.Omega.{arith}
 use borrow.Author.Tests.{ltb-true, ltb-false}
 use lib.Dec.{ltb}
-use lib.ListN.{length, getD, take, drop, length-append, length-map, length-reverse, List·getD-append}
+use lib.ListN.{length, getD, length-append, length-map, length-reverse, List·getD-append}
 use lib.Seq.{ext-getD, getD-append-add}
-use lib.Pow.{pow-add}
-use Rattle.magnetar_field.specs.Sizes.{log₂}
-use Rattle.magnetar_field.specs.EqTable.{eqAt}
 use Rattle.magnetar_field.proofs.Tabulation.{tabulate-length, tabulate-get}
 use Rattle.magnetar_r1cs.specs.Sum.{blocks}
 use Rattle.magnetar_r1cs.specs.Matrix.{Matrix, times, timesAt}
@@ -35,7 +32,7 @@ use Rattle.magnetar_spartan.proofs.Elements.{map-append, map-reverse, e
 use Rattle.magnetar_spartan.proofs.Products.{times-at}
 use Rattle.magnetar_spartan.proofs.ClaimValues.{map-at, eq-dot}
 use Rattle.magnetar_spartan.proofs.Combined.{fold-at}
-use Rattle.magnetar_spartan.proofs.SizeFacts.{cols-pow, half-pow, Cut}
+use Rattle.magnetar_spartan.proofs.SizeFacts.{half-pow, Cut}
 use Rattle.magnetar_spartan.proofs.TrueClaims.{all-length}
 
 -- ---- products

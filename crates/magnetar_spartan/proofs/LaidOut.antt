@@ -1,17 +1,17 @@
 -- A batch with no bit outside the segments is laid out as the theory wants it.
-use mathlib.Core.Path.{_≡_, refl, sym, ap, ap₂, _∙_, subst₂}
+use mathlib.Core.Path.{_≡_, refl, sym, ap, _∙_, subst₂}
 use mathlib.Core.Bool.{Bool, true, false, not, _&&_, _||_}
-use mathlib.Core.List.{List, [], _∷_, map}
-use Prim.Native.Nat.{ℕ, zero, suc, _+_, _-_, _*_, _/_, _^_, _≤_, _<_}
+use mathlib.Core.List.{List, [], _∷_}
+use Prim.Native.Nat.{ℕ, suc, _+_, _-_, _*_, _/_, _^_, _≤_, _<_}
 use native.Mathlib.Omega.{arith}
-use borrow.Author.Tests.{lt-leb, le-ltb, le-leb, lt-ltb}
+use borrow.Author.Tests.{lt-leb, le-ltb, le-leb}
 use lib.Dec.{ltb, leb}
 use lib.ListN.{length, getD, take, drop, length-map, length-take, length-drop}
 use lib.Seq.{getD-take, getD-drop}
 use Rattle.magnetar_field.specs.Sizes.{log₂}
 use Rattle.magnetar_r1cs.specs.Every.{every}
 use Rattle.magnetar_r1cs.specs.Batch.{Relation, Batch, bitOf}
-use Rattle.magnetar_r1cs.specs.Layout.{nextMultiple, offsetsFrom, endFrom, offsets, layoutEnd, isLength, Sound, within, outside}
+use Rattle.magnetar_r1cs.specs.Layout.{nextMultiple, offsetsFrom, endFrom, offsets, layoutEnd, isLength, within, outside}
 use Rattle.magnetar_theory.specs.Tau.{Zeros}
 use Rattle.magnetar_theory.specs.Segment.{Segment, offset, Laid}
 use Rattle.magnetar_theory.specs.Run.{AllLaid}

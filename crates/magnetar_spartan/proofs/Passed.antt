@@ -1,21 +1,14 @@
 -- An answer of 0 means that every check passes, and so that every round of each sum-check does.
-use mathlib.Core.Path.{_≡_, refl, sym, ap, _∙_, subst}
-use mathlib.Core.Bool.{Bool, true, false, cond, _&&_, and-eq-true-iff}
+use mathlib.Core.Path.{_≡_, refl}
+use mathlib.Core.Bool.{Bool, true, false, and-eq-true-iff}
 use mathlib.Core.List.{List, [], _∷_, _++_}
-use Prim.Native.Nat.{ℕ, zero, suc, _+_, _-_, _≤_, _<_}
+use Prim.Native.Nat.{ℕ, zero, suc, _+_, _-_, _<_}
 use native.Mathlib.Omega.{arith}
-use lib.Dec.{ltb}
-use lib.ListN.{length, getD, take}
-use borrow.Author.Tests.{ltb-true, ltb-false, eqb-true, eq-eqb}
-use mathlib.Core.List.{append-assoc}
+use lib.ListN.{length}
 use Rattle.magnetar_field.specs.Polynomial.{eval}
 use Rattle.magnetar_field.specs.Tabulate.{tabulate}
 use Rattle.magnetar_sumcheck.specs.Round.{holds, passes, running}
-use Rattle.magnetar_r1cs.specs.Batch.{Relation}
-use Rattle.magnetar_spartan.specs.Shape.{logLogins, logBin, logFld, logCols}
-use Rattle.magnetar_spartan.specs.Proof.{binMessages, fldMessages, innerRounds}
-use Rattle.magnetar_spartan.specs.Draws.{Draws}
-use Rattle.magnetar_spartan.specs.Checks.{Check, roundHolds, firstRefusal, checks, sharedChecks, rowChecks, terminalChecks, innerChecks, identityCheck, innerClaim}
+use Rattle.magnetar_spartan.specs.Checks.{Check, roundHolds, firstRefusal}
 
 -- ---- all rounds of one sum-check
 pub rounds-pass : (c : ℕ) (ms : List (List ℕ)) (rs : List ℕ) → length ms ≡ length rs

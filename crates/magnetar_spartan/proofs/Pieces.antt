@@ -1,18 +1,17 @@
 -- The parts of the proof's elements are those that the theory takes.
 use mathlib.Core.Path.{_≡_, refl, sym, ap, ap₂, _∙_}
-use mathlib.Core.List.{List, [], _∷_, _++_, map}
-use Prim.Native.Nat.{ℕ, zero, suc, _+_, _-_, _*_, _<_}
+use mathlib.Core.List.{List, _∷_, _++_, map}
+use Prim.Native.Nat.{ℕ, zero, suc, _+_, _-_, _*_}
 use native.Mathlib.Nat.{mul-suc}
 use native.Mathlib.Omega.{arith}
-use lib.ListN.{length, getD, take, drop}
+use lib.ListN.{getD, take, drop}
 use lib.Seq.{drop-drop}
 use Rattle.magnetar_field.specs.Tabulate.{tabulate}
-use Rattle.magnetar_field.proofs.Tabulation.{tabulate-ext}
 use Rattle.magnetar_r1cs.specs.Batch.{Relation}
 use Rattle.magnetar_theory.specs.Lists.{rounds}
-use Rattle.magnetar_theory.specs.Gf128.{Element, element, gf128}
+use Rattle.magnetar_theory.specs.Gf128.{element, gf128}
 use Rattle.magnetar_spartan.specs.Shape.{logLogins, logBin, logFld, logCols, beforeTerminals, beforeInner, beforeEnd}
-use Rattle.magnetar_spartan.specs.Proof.{binMessages, fldMessages, terminals, terminal, innerRounds, valueZ, segmentValues}
+use Rattle.magnetar_spartan.specs.Proof.{binMessages, fldMessages, terminal, innerRounds, valueZ, segmentValues}
 use Rattle.magnetar_spartan.specs.Theory.{els, logHalf, wordsE}
 use Rattle.magnetar_spartan.proofs.Elements.{map-append, map-take, map-drop, els-at}
 

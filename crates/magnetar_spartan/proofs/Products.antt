@@ -1,13 +1,13 @@
 -- The products of matrices and vectors over numbers are those of the theory, row by row, and so are the column sums.
 use mathlib.Core.Path.{_≡_, refl, sym, ap, ap₂, _∙_, subst}
 use mathlib.Core.Bool.{Bool, true, false, cond}
-use mathlib.Core.List.{List, [], _∷_, _++_, map}
+use mathlib.Core.List.{List, [], _∷_, map}
 use Prim.Native.Nat.{ℕ, zero, suc, _^_, _<_}
 use native.Mathlib.Omega.{arith}
 use lib.Dec.{eqb}
-use lib.ListN.{length, getD, replicate, getD-replicate, length-replicate}
+use lib.ListN.{length, getD, getD-replicate}
 use lib.Pow.{pow-pos}
-use borrow.Author.Tests.{eqb-true, eqb-false, eq-eqb, ne-eqb}
+use borrow.Author.Tests.{eqb-true, eqb-false}
 use Rattle.magnetar_field.specs.Gf128.{_⊕_, _⊗_}
 use Rattle.magnetar_field.specs.EqTable.{eqTable}
 use Rattle.magnetar_field.proofs.Xor.{⊕-lt}
@@ -15,7 +15,7 @@ use Rattle.magnetar_field.proofs.Product.{⊗-lt}
 use Rattle.magnetar_field.proofs.Tabulation.{tabulate-get}
 use Rattle.magnetar_r1cs.specs.Matrix.{Entry, Matrix, sumOver, rowTotal, share, timesAt, times, swapped, transpose, mleTable}
 use Rattle.magnetar_theory.specs.EqTable.{eqTable as eqTableE}
-use Rattle.magnetar_theory.specs.Matrix.{Entry as EntryE, addAt, apply, columns}
+use Rattle.magnetar_theory.specs.Matrix.{addAt, apply, columns}
 use Rattle.magnetar_theory.specs.Gf128.{Element, element, sum, product, gf128}
 use Rattle.magnetar_theory.proofs.Gf128.{element-⊕, element-⊗, gf128Laws}
 use Rattle.magnetar_theory.proofs.Matrix.{length-apply}

@@ -1,10 +1,10 @@
 -- The sum over the segments, each value times eq of its place, is the theory's.
-use mathlib.Core.Path.{_≡_, refl, sym, ap, ap₂, _∙_}
-use mathlib.Core.List.{List, [], _∷_, _++_, map}
-use Prim.Native.Nat.{ℕ, zero, suc, _+_, _-_, _*_, _/_, _^_, _≤_, _<_}
+use mathlib.Core.Path.{_≡_, sym, ap, ap₂, _∙_}
+use mathlib.Core.List.{List, [], _∷_}
+use Prim.Native.Nat.{ℕ, suc, _+_, _-_, _*_, _/_, _^_, _≤_, _<_}
 use native.Mathlib.Nat.{two-pow-succ, div-lt-iff-lt-mul, lt-of-not-le}
 use native.Mathlib.Omega.{arith}
-use lib.ListN.{length, getD, take, drop, drop-of-length-le, length-drop}
+use lib.ListN.{length, getD, drop, drop-of-length-le, length-drop}
 use lib.Seq.{drop-cons}
 use lib.Pow.{pow-pos, pow-mono, pow-add}
 use Rattle.magnetar_field.specs.Gf128.{_⊕_, _⊗_}
@@ -23,7 +23,7 @@ use Rattle.magnetar_spartan.specs.Draws.{Draws, lowPoint}
 use Rattle.magnetar_spartan.specs.Checks.{segmentSum}
 use Rattle.magnetar_spartan.specs.RunSizes.{SizedRelation}
 use Rattle.magnetar_spartan.proofs.Elements.{els-at, map-drop}
-use Rattle.magnetar_spartan.proofs.LayoutLaws.{Placed, placed, offsets-length}
+use Rattle.magnetar_spartan.proofs.LayoutLaws.{placed, offsets-length}
 use Rattle.magnetar_spartan.proofs.SizeFacts.{half-pow, Cut, low-size}
 
 -- 2 ^ k at most 2 ^ h

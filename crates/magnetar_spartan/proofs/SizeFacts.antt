@@ -1,7 +1,7 @@
 -- Sizes of a run: the halves of the columns, and the draws taken apart and put together again.
-use mathlib.Core.Path.{_≡_, refl, sym, ap, ap₂, _∙_}
-use mathlib.Core.List.{List, [], _∷_, _++_, map}
-use Prim.Native.Nat.{ℕ, zero, suc, _+_, _-_, _*_, _/_, _^_, _≤_, _<_}
+use mathlib.Core.Path.{_≡_, sym, ap, _∙_}
+use mathlib.Core.List.{List, [], _∷_, _++_}
+use Prim.Native.Nat.{ℕ, zero, suc, _+_, _-_, _/_, _^_, _≤_}
 use native.Mathlib.Nat.{two-pow-succ}
 use native.Mathlib.Omega.{arith}
 use lib.ListN.{length, getD, take, drop, length-drop, take-append-drop}
@@ -9,11 +9,11 @@ use lib.Seq.{length-take-le, drop-drop, take-all, take-suc}
 use Rattle.magnetar_field.specs.Sizes.{log₂}
 use Rattle.magnetar_r1cs.specs.Batch.{Relation}
 use Rattle.magnetar_theory.specs.Lists.{drawn}
-use Rattle.magnetar_theory.specs.Gf128.{Element, element, gf128}
+use Rattle.magnetar_theory.specs.Gf128.{element, gf128}
 use Rattle.magnetar_spartan.specs.Shape.{logLogins, logBin, logFld, logCols}
 use Rattle.magnetar_spartan.specs.Draws.{Draws, drawCount, drawsOf, lowPoint, topElement}
 use Rattle.magnetar_spartan.specs.Theory.{els, logHalf, drawsE}
-use Rattle.magnetar_spartan.specs.RunSizes.{Power, SizedRelation}
+use Rattle.magnetar_spartan.specs.RunSizes.{SizedRelation}
 use Rattle.magnetar_spartan.proofs.Elements.{map-append}
 
 -- ---- columns

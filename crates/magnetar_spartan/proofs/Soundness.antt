@@ -1,8 +1,8 @@
 -- The theorem on an accepted run, and the sizes of the lists.
-use mathlib.Core.Path.{_≡_, refl, sym, ap, ap₂, _∙_, subst, subst₂}
-use mathlib.Core.List.{List, [], _∷_, _++_, map, List·Memᴰ, List·Memᴰ·head, List·Memᴰ·tail}
+use mathlib.Core.Path.{_≡_, sym, ap, ap₂, _∙_, subst, subst₂}
+use mathlib.Core.List.{List, map, List·Memᴰ, List·Memᴰ·head, List·Memᴰ·tail}
 use mathlib.Core.Logic.{_⊎_, inl, inr}
-use Prim.Native.Nat.{ℕ, zero, suc, _+_, _*_, _^_, _≤_, _<_}
+use Prim.Native.Nat.{ℕ, _^_, _≤_, _<_}
 use native.Mathlib.Omega.{arith}
 use lib.ListN.{length, getD, take, length-map}
 use lib.Seq.{length-take-le}
@@ -13,7 +13,7 @@ use Rattle.magnetar_theory.specs.Whole.{Good as GoodE, listOf}
 use Rattle.magnetar_theory.specs.Gf128.{Element, element, number, gf128}
 use Rattle.magnetar_theory.proofs.Gf128.{number-of}
 use Rattle.magnetar_theory.proofs.Whole.{list-sizes, sound}
-use Rattle.magnetar_spartan.specs.Shape.{logLogins, logBin, logFld}
+use Rattle.magnetar_spartan.specs.Shape.{logLogins}
 use Rattle.magnetar_spartan.specs.Proof.{segmentValues}
 use Rattle.magnetar_spartan.specs.Draws.{Draws, drawsOf}
 use Rattle.magnetar_spartan.specs.Run.{verdict, claims, ClaimsTrue}

@@ -1,21 +1,20 @@
 -- True claims are true in the theory, and the sizes of a run are those that the theory wants.
-use mathlib.Core.Path.{_≡_, refl, sym, ap, ap₂, _∙_, subst}
-use mathlib.Core.List.{List, [], _∷_, _++_, map, reverse}
-use Prim.Native.Nat.{ℕ, zero, suc, _+_, _-_, _*_, _/_, _^_, _≤_, _<_}
+use mathlib.Core.Path.{_≡_, sym, ap, ap₂, _∙_, subst}
+use mathlib.Core.List.{List, [], _∷_, map, reverse}
+use Prim.Native.Nat.{ℕ, suc, _+_, _-_, _*_, _/_, _^_, _≤_, _<_}
 use native.Mathlib.Omega.{arith}
-use lib.ListN.{length, getD, take, drop, length-map, length-drop, length-reverse, length-take}
+use lib.ListN.{length, getD, take, drop, length-map, length-drop, length-reverse}
 use lib.Seq.{length-take-le}
 use Rattle.magnetar_field.specs.Sizes.{log₂}
-use Rattle.magnetar_r1cs.specs.Batch.{Relation, Batch, claimValue}
-use Rattle.magnetar_r1cs.specs.Layout.{offsets, offset, localVars}
+use Rattle.magnetar_r1cs.specs.Batch.{Relation, Batch}
+use Rattle.magnetar_r1cs.specs.Layout.{offsets, offset}
 use Rattle.magnetar_theory.specs.EqTable.{eqTable as eqTableE, dot as dotE}
 use Rattle.magnetar_theory.specs.Matrix.{AllLength}
-use Rattle.magnetar_theory.specs.Segment.{Segment, slice}
 use Rattle.magnetar_theory.specs.Run.{Sizes, AllLaid, trueValue as trueValueE}
 use Rattle.magnetar_theory.specs.Gf128.{Element, element, gf128}
-use Rattle.magnetar_spartan.specs.Shape.{logLogins, logCols, beforeEnd, proofElements}
+use Rattle.magnetar_spartan.specs.Shape.{beforeEnd, proofElements}
 use Rattle.magnetar_spartan.specs.Proof.{segmentValues}
-use Rattle.magnetar_spartan.specs.Draws.{Draws, drawCount, drawsOf, loginPoint, lowPoint}
+use Rattle.magnetar_spartan.specs.Draws.{Draws, loginPoint, lowPoint}
 use Rattle.magnetar_spartan.specs.Run.{trueValue}
 use Rattle.magnetar_spartan.specs.Theory.{els, logHalf, segmentsE, relationE, publicE, batchE, drawsE, wordsE}
 use Rattle.magnetar_spartan.specs.RunSizes.{SizedRelation, SizedBatch}

@@ -1,20 +1,19 @@
 -- What the verifier checks, in its order, with the draws as plain elements. Each check has the number of its refusal.
 -- Assumes nothing.
 use mathlib.Core.Bool.{Bool, cond}
-use mathlib.Core.List.{List, [], _∷_, _++_, reverse}
-use Prim.Native.Nat.{ℕ, zero, suc, _+_, _-_, _*_, _/_}
+use mathlib.Core.List.{List, [], _∷_, _++_}
+use Prim.Native.Nat.{ℕ, zero, suc, _+_}
 use lib.Dec.{eqb}
 use lib.ListN.{getD, take, drop}
 use Rattle.magnetar_field.specs.Gf128.{_⊕_, _⊗_}
-use Rattle.magnetar_field.specs.Sizes.{log₂}
 use Rattle.magnetar_field.specs.Tabulate.{tabulate}
-use Rattle.magnetar_field.specs.EqTable.{eqAt, eqTable}
+use Rattle.magnetar_field.specs.EqTable.{eqAt}
 use Rattle.magnetar_field.specs.Multilinear.{dot, mle}
 use Rattle.magnetar_sumcheck.specs.Round.{holds, running}
 use Rattle.magnetar_sumcheck.specs.Order.{eqPoints}
 use Rattle.magnetar_sumcheck.specs.Outer.{outerEnd}
 use Rattle.magnetar_sumcheck.specs.Inner.{innerEnd}
-use Rattle.magnetar_r1cs.specs.Matrix.{Matrix, mleTable}
+use Rattle.magnetar_r1cs.specs.Matrix.{mleTable}
 use Rattle.magnetar_r1cs.specs.Batch.{Relation}
 use Rattle.magnetar_r1cs.specs.Layout.{localVars, suffix}
 use Rattle.magnetar_spartan.specs.Shape.{logLogins, logBin, logFld, logCols}
