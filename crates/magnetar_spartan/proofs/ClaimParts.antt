@@ -2,7 +2,8 @@
 use mathlib.Core.Path.{_≡_, sym, ap, _∙_}
 use mathlib.Core.List.{List, _++_}
 use Prim.Native.Nat.{ℕ, _+_, _-_, _<_}
-use lib.ListN.{length, getD, take, drop, length-reverse}
+use native.Mathlib.Omega.{arith}
+use lib.ListN.{length, getD, take, drop, length-append, length-reverse}
 use lib.Seq.{take-at, drop-at, drop-drop}
 use Rattle.magnetar_r1cs.specs.Batch.{Relation, Batch, claimValue}
 use Rattle.magnetar_r1cs.specs.Layout.{offset, localVars}
@@ -50,3 +51,9 @@ module _ (r : Relation) (R : SizedRelation r) (D : Draws) (C : Cut r D) where
 
     pub values-true : (b : Batch) → ((i : ℕ) → i < length (r .lengths) → getD v i 0 ≡ trueValue r b D i) → ClaimsTrue r b (loginPoint D ++ (lowPoint r D ++ v))
     values-true b t i h = ap (λ (l : List ℕ). getD l i 0) values-is ∙ t i h ∙ sym (sum-is b i)
+
+    pub claims-length : length (loginPoint D ++ (lowPoint r D ++ v)) ≡ logLogins r + (logCols r - 1) + length v
+    claims-length = length-append (loginPoint D) (lowPoint r D ++ v) ∙ sums (length-append (lowPoint r D) v) inst-size (low-size r R D C)
+      where
+        sums : {t a l s h : ℕ} → t ≡ l + length v → a ≡ s → l ≡ h → a + t ≡ s + h + length v
+        sums e f g = omega arith
