@@ -1,0 +1,1 @@
+// Virtual Spartan: the run of prover and verifier. Its definitions and theorems are in specs/ and proofs/.
