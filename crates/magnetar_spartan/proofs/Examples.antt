@@ -78,12 +78,14 @@ smallDraws = 17 ∷ 35 ∷ 70 ∷ 5 ∷ 6 ∷ 7 ∷ 8 ∷ 9 ∷ 10 ∷ 11 ∷ 12
 
 -- the honest words, with 1 added to element j
 abbrev flipped : ℕ → List ℕ
-flipped j = set (proverWords small ((1 ∷ 0 ∷ []) ∷ (1 ∷ 1 ∷ []) ∷ []) (5 ∷ []) smallDraws) j (getD (proverWords small ((1 ∷ 0 ∷ []) ∷ (1 ∷ 1 ∷ []) ∷ []) (5 ∷ []) smallDraws) j 0 ⊕ 1)
+flipped j = set (proverWords small ((1 ∷ 0 ∷ []) ∷ (1 ∷ 1 ∷ []) ∷ []) (5 ∷ []) smallDraws) j
+    (getD (proverWords small ((1 ∷ 0 ∷ []) ∷ (1 ∷ 1 ∷ []) ∷ []) (5 ∷ []) smallDraws) j 0 ⊕ 1)
 
 abbrev answer : ℕ → ℕ
 answer j = verdict small (5 ∷ []) (flipped j) smallDraws
 
 -- one element of the honest words changed: each of 21 to 29 is met
-pub changed : map answer (0 ∷ 1 ∷ 4 ∷ 5 ∷ 8 ∷ 9 ∷ 14 ∷ 17 ∷ 18 ∷ 19 ∷ 21 ∷ 24 ∷ 25 ∷ []) ≡ 23 ∷ 21 ∷ 26 ∷ 22 ∷ 25 ∷ 23 ∷ 25 ∷ 26 ∷ 27 ∷ 27 ∷ 28 ∷ 28 ∷ 29 ∷ []
+pub changed : map answer (0 ∷ 1 ∷ 4 ∷ 5 ∷ 8 ∷ 9 ∷ 14 ∷ 17 ∷ 18 ∷ 19 ∷ 21 ∷ 24 ∷ 25 ∷ []) ≡ 23 ∷ 21 ∷ 26 ∷ 22 ∷ 25 ∷ 23 ∷ 25 ∷ 26 ∷ 27 ∷ 27
+    ∷ 28 ∷ 28 ∷ 29 ∷ []
 unfolding log₂ halvings _⊕_ _⊗_ sumTimes timesX tabulate eval eqFactor eqAt eqTable dot mle line insertZero bindVar sumTo total checkSum holds running eqPoints at₀ at₁ slope outerEnd innerEnd innerSums innerMessage nextVar coefficient₀ coefficient₁ coefficient₂ weighted timesEq outerMessage dropVar outerNext outerFold outerStart outerMessages innerMessages sumBelow blocks sumOver rowTotal share timesAt times transpose mleTable bitOf assignment foldedAt folded claimValue nextMultiple offsetsFrom offsets binMessages fldMessages terminals innerRounds valueZ segmentValues drawsOf loginPoint lowPoint topElement roundHolds innerClaim combined segmentSum sharedChecks rowChecks terminalChecks innerChecks identityCheck checks firstRefusal verdict trueValue joined inTurn trueValues productTable outerRounds terminalValues foldedZ honestWords proverWords
 changed = refl
