@@ -45,16 +45,29 @@ unfolding log₂ halvings
 ten = refl
 
 pub least-words : proverWords least ((0 ∷ []) ∷ []) [] draws ≡ 0 ∷ 0 ∷ 0 ∷ 0 ∷ 0 ∷ 0 ∷ 0 ∷ 0 ∷ 0 ∷ 7 ∷ []
-unfolding log₂ halvings _⊕_ _⊗_ sumTimes timesX tabulate eqFactor eqAt eqTable dot mle line insertZero bindVar sumTo at₀ at₁ slope innerSums innerMessage nextVar coefficient₀ coefficient₁ coefficient₂ weighted timesEq outerMessage dropVar outerNext outerFold outerStart outerMessages innerMessages sumBelow blocks sumOver rowTotal share timesAt times transpose mleTable bitOf assignment foldedAt folded claimValue nextMultiple offsetsFrom offsets drawsOf loginPoint lowPoint topElement combined trueValue joined inTurn trueValues productTable outerRounds terminalValues foldedZ honestWords proverWords
+unfolding log₂ halvings _⊕_ _⊗_ sumTimes timesX tabulate eqFactor eqAt eqTable dot mle line insertZero bindVar sumTo at₀ at₁
+    slope innerSums innerMessage nextVar coefficient₀ coefficient₁ coefficient₂ weighted timesEq outerMessage dropVar
+    outerNext outerFold outerStart outerMessages innerMessages sumBelow blocks sumOver rowTotal share timesAt times transpose
+    mleTable bitOf assignment foldedAt folded claimValue nextMultiple offsetsFrom offsets drawsOf loginPoint lowPoint
+    topElement combined trueValue joined inTurn trueValues productTable outerRounds terminalValues foldedZ honestWords
+    proverWords
 least-words = refl
 
 -- accepted; and with one bit of v_z flipped refused with 29
 pub least-accepted : verdict least [] (0 ∷ 0 ∷ 0 ∷ 0 ∷ 0 ∷ 0 ∷ 0 ∷ 0 ∷ 0 ∷ 7 ∷ []) draws ≡ 0
-unfolding log₂ halvings _⊕_ _⊗_ sumTimes timesX tabulate eval eqFactor eqAt eqTable dot mle total checkSum holds running eqPoints outerEnd innerEnd sumOver rowTotal share timesAt times transpose mleTable nextMultiple offsetsFrom offsets binMessages fldMessages terminals innerRounds valueZ segmentValues drawsOf loginPoint lowPoint topElement roundHolds innerClaim combined segmentSum sharedChecks rowChecks terminalChecks innerChecks identityCheck checks firstRefusal verdict
+unfolding log₂ halvings _⊕_ _⊗_ sumTimes timesX tabulate eval eqFactor eqAt eqTable dot mle total checkSum holds running
+    eqPoints outerEnd innerEnd sumOver rowTotal share timesAt times transpose mleTable nextMultiple offsetsFrom offsets
+    binMessages fldMessages terminals innerRounds valueZ segmentValues drawsOf loginPoint lowPoint topElement roundHolds
+    innerClaim combined segmentSum sharedChecks rowChecks terminalChecks innerChecks identityCheck checks firstRefusal
+    verdict
 least-accepted = refl
 
 pub least-refused : verdict least [] (0 ∷ 0 ∷ 0 ∷ 0 ∷ 0 ∷ 0 ∷ 0 ∷ 0 ∷ 0 ∷ 6 ∷ []) draws ≡ 29
-unfolding log₂ halvings _⊕_ _⊗_ sumTimes timesX tabulate eval eqFactor eqAt eqTable dot mle total checkSum holds running eqPoints outerEnd innerEnd sumOver rowTotal share timesAt times transpose mleTable nextMultiple offsetsFrom offsets binMessages fldMessages terminals innerRounds valueZ segmentValues drawsOf loginPoint lowPoint topElement roundHolds innerClaim combined segmentSum sharedChecks rowChecks terminalChecks innerChecks identityCheck checks firstRefusal verdict
+unfolding log₂ halvings _⊕_ _⊗_ sumTimes timesX tabulate eval eqFactor eqAt eqTable dot mle total checkSum holds running
+    eqPoints outerEnd innerEnd sumOver rowTotal share timesAt times transpose mleTable nextMultiple offsetsFrom offsets
+    binMessages fldMessages terminals innerRounds valueZ segmentValues drawsOf loginPoint lowPoint topElement roundHolds
+    innerClaim combined segmentSum sharedChecks rowChecks terminalChecks innerChecks identityCheck checks firstRefusal
+    verdict
 least-refused = refl
 
 -- ---- m = 4, q = 2: two rows that say that each bit is a bit, a row 1 x = x, and a segment of both bits
@@ -87,5 +100,12 @@ answer j = verdict small (5 ∷ []) (flipped j) smallDraws
 -- one element of the honest words changed: each of 21 to 29 is met
 pub changed : map answer (0 ∷ 1 ∷ 4 ∷ 5 ∷ 8 ∷ 9 ∷ 14 ∷ 17 ∷ 18 ∷ 19 ∷ 21 ∷ 24 ∷ 25 ∷ []) ≡ 23 ∷ 21 ∷ 26 ∷ 22 ∷ 25 ∷ 23 ∷ 25 ∷ 26 ∷ 27 ∷ 27
     ∷ 28 ∷ 28 ∷ 29 ∷ []
-unfolding log₂ halvings _⊕_ _⊗_ sumTimes timesX tabulate eval eqFactor eqAt eqTable dot mle line insertZero bindVar sumTo total checkSum holds running eqPoints at₀ at₁ slope outerEnd innerEnd innerSums innerMessage nextVar coefficient₀ coefficient₁ coefficient₂ weighted timesEq outerMessage dropVar outerNext outerFold outerStart outerMessages innerMessages sumBelow blocks sumOver rowTotal share timesAt times transpose mleTable bitOf assignment foldedAt folded claimValue nextMultiple offsetsFrom offsets binMessages fldMessages terminals innerRounds valueZ segmentValues drawsOf loginPoint lowPoint topElement roundHolds innerClaim combined segmentSum sharedChecks rowChecks terminalChecks innerChecks identityCheck checks firstRefusal verdict trueValue joined inTurn trueValues productTable outerRounds terminalValues foldedZ honestWords proverWords
+unfolding log₂ halvings _⊕_ _⊗_ sumTimes timesX tabulate eval eqFactor eqAt eqTable dot mle line insertZero bindVar sumTo
+    total checkSum holds running eqPoints at₀ at₁ slope outerEnd innerEnd innerSums innerMessage nextVar coefficient₀
+    coefficient₁ coefficient₂ weighted timesEq outerMessage dropVar outerNext outerFold outerStart outerMessages
+    innerMessages sumBelow blocks sumOver rowTotal share timesAt times transpose mleTable bitOf assignment foldedAt folded
+    claimValue nextMultiple offsetsFrom offsets binMessages fldMessages terminals innerRounds valueZ segmentValues drawsOf
+    loginPoint lowPoint topElement roundHolds innerClaim combined segmentSum sharedChecks rowChecks terminalChecks
+    innerChecks identityCheck checks firstRefusal verdict trueValue joined inTurn trueValues productTable outerRounds
+    terminalValues foldedZ honestWords proverWords
 changed = refl
