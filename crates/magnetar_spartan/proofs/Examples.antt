@@ -77,7 +77,7 @@ diagonal = record { rows = 2; cols = 4; entries = record { row = 0; col = 0; val
 abbrev column : ℕ → Matrix
 column k = record { rows = 1; cols = 4; entries = record { row = 0; col = k; value = 1 } ∷ [] }
 
-abbrev small : Relation
+abbrev pub small : Relation
 small = record {
   m = 4;
   q = 2;
@@ -86,13 +86,16 @@ small = record {
   lengths = 2 ∷ [];
 }
 
-abbrev smallDraws : List ℕ
+abbrev pub smallDraws : List ℕ
 smallDraws = 17 ∷ 35 ∷ 70 ∷ 5 ∷ 6 ∷ 7 ∷ 8 ∷ 9 ∷ 10 ∷ 11 ∷ 12 ∷ 13 ∷ 14 ∷ []
+
+abbrev pub smallBatch : List (List ℕ)
+smallBatch = (1 ∷ 0 ∷ []) ∷ (1 ∷ 1 ∷ []) ∷ []
 
 -- the honest words, with 1 added to element j
 abbrev flipped : ℕ → List ℕ
-flipped j = set (proverWords small ((1 ∷ 0 ∷ []) ∷ (1 ∷ 1 ∷ []) ∷ []) (5 ∷ []) smallDraws) j
-    (getD (proverWords small ((1 ∷ 0 ∷ []) ∷ (1 ∷ 1 ∷ []) ∷ []) (5 ∷ []) smallDraws) j 0 ⊕ 1)
+flipped j =
+    set (proverWords small smallBatch (5 ∷ []) smallDraws) j (getD (proverWords small smallBatch (5 ∷ []) smallDraws) j 0 ⊕ 1)
 
 abbrev answer : ℕ → ℕ
 answer j = verdict small (5 ∷ []) (flipped j) smallDraws

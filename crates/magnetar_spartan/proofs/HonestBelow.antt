@@ -23,7 +23,7 @@ use Rattle.magnetar_spartan.specs.Prover.{joined, inTurn, outerRounds, b
 use Rattle.magnetar_spartan.proofs.Elements.{dot-lt}
 
 -- ---- lists
-elements-of : (l : List ℕ) → AllBelow (2 ^ 128) l → Elements l
+pub elements-of : (l : List ℕ) → AllBelow (2 ^ 128) l → Elements l
 elements-of [] h i = pow-pos 128
 elements-of (x ∷ l) h zero = h .0
 elements-of (x ∷ l) h (suc i) = elements-of l (h .1) i

@@ -22,3 +22,4 @@ pub mod HonestBelow
 pub mod HonestRun
 pub mod Completeness
 pub mod Examples
+pub mod ExampleRun
