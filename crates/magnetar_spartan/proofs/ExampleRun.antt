@@ -1,7 +1,7 @@
 -- The sizes, goodness and layout of the second example: what the two theorems ask for can be had.
 use mathlib.Core.Path.{_≡_, refl}
 use mathlib.Core.Bool.{true, false, false≢true}
-use mathlib.Core.List.{List, [], _∷_}
+use mathlib.Core.List.{[], _∷_}
 use Prim.Native.Nat.{ℕ, zero, suc, _<_}
 use native.Mathlib.Omega.{arith}
 use lib.Dec.{lit<, lit≤}
@@ -9,10 +9,10 @@ use lib.ListN.{length, getD}
 use Rattle.magnetar_field.specs.Gf128.{_⊕_, _⊗_, sumTimes, timesX}
 use Rattle.magnetar_field.specs.Sizes.{log₂, halvings}
 use Rattle.magnetar_r1cs.specs.Every.{every}
-use Rattle.magnetar_r1cs.specs.Matrix.{Matrix, System, sumOver, rowTotal, share, timesAt}
-use Rattle.magnetar_r1cs.specs.Batch.{Batch, bitOf, assignment, Satisfied, Good}
-use Rattle.magnetar_r1cs.specs.Layout.{nextMultiple, offsetsFrom, offsets, endFrom, layoutEnd, isLength, Sound, within, outside}
-use Rattle.magnetar_spartan.specs.RunSizes.{Power, SizedMatrix, SizedSystem, SizedRelation, SizedBatch, SizedRun}
+use Rattle.magnetar_r1cs.specs.Matrix.{sumOver, rowTotal, share, timesAt}
+use Rattle.magnetar_r1cs.specs.Batch.{bitOf, assignment, Satisfied, Good}
+use Rattle.magnetar_r1cs.specs.Layout.{nextMultiple, offsetsFrom, offsets, endFrom, layoutEnd, isLength, within, outside}
+use Rattle.magnetar_spartan.specs.RunSizes.{SizedRelation, SizedBatch, SizedRun}
 use Rattle.magnetar_spartan.specs.Soundness.{NoStray}
 use Rattle.magnetar_spartan.specs.Prover.{Convinces}
 use Rattle.magnetar_spartan.proofs.HonestBelow.{elements-of}

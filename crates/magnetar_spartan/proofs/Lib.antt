@@ -8,6 +8,7 @@ pub mod LaidOut
 pub mod Pieces
 pub mod SizeFacts
 pub mod Verdict
+pub mod Phases
 pub mod Combined
 pub mod SegmentSums
 pub mod AcceptedRun
