@@ -61,7 +61,8 @@ running-lt c [] rs h b = h
 running-lt c (m ∷ ms) [] h b = h
 running-lt c (m ∷ ms) (r ∷ rs) h b = running-lt (eval m r) ms rs (eval-lt m r (b .0)) (b .1)
 
-module _ (r : Relation) (x w : List ℕ) (D : Draws) (R : SizedRelation r) (C : Cut r D) (long : length w ≡ proofElements r) (E : Elements w) where
+module _ (r : Relation) (x w : List ℕ) (D : Draws) (R : SizedRelation r) (C : Cut r D) (long : length w ≡ proofElements r)
+    (E : Elements w) where
   parts-below : (n o : ℕ) → AllBelow (2 ^ 128) (part o n w)
   parts-below n o = take-below n (drop o w) (drop-below o w (all-below w E))
 
@@ -75,9 +76,11 @@ module _ (r : Relation) (x w : List ℕ) (D : Draws) (R : SizedRelation r) (C : 
   fld-below : MessagesBelow (fldMessages r w)
   unfolding fldMessages
   fld-below =
-      both-below (tabulate (λ i. part (8 * i + 4) 4 w) (logLogins r)) (tabulate (λ i. part (8 * logLogins r + 4 * logBin r + 4 * i) 4 w) (logFld r))
+      both-below (tabulate (λ i. part (8 * i + 4) 4 w) (logLogins r))
+      (tabulate (λ i. part (8 * logLogins r + 4 * logBin r + 4 * i) 4 w) (logFld r))
       (messages-below (λ i. part (8 * i + 4) 4 w) (logLogins r) (λ i. parts-below 4 (8 * i + 4)))
-      (messages-below (λ i. part (8 * logLogins r + 4 * logBin r + 4 * i) 4 w) (logFld r) (λ i. parts-below 4 (8 * logLogins r + 4 * logBin r + 4 * i)))
+      (messages-below (λ i. part (8 * logLogins r + 4 * logBin r + 4 * i) 4 w) (logFld r)
+      (λ i. parts-below 4 (8 * logLogins r + 4 * logBin r + 4 * i)))
 
   inner-below : MessagesBelow (innerRounds r w)
   unfolding innerRounds
@@ -93,16 +96,29 @@ module _ (r : Relation) (x w : List ℕ) (D : Draws) (R : SizedRelation r) (C : 
 
   pub holds : Accepted gf128 (relationE r) (publicE x) (drawsE r D) (wordsE r w) → Holds r x w D
   holds A = record {
-    bin = checks-passes 0 (binMessages r w) (D .shared ++ D .rowBin) (pow-pos 128) bin-below (subst₂ (Checks gf128 (element 0)) (bin-are r w) (sym (map-append element (D .shared) (D .rowBin))) (A .bin-rounds));
-    fld = checks-passes 0 (fldMessages r w) (D .shared ++ D .rowFld) (pow-pos 128) fld-below (subst₂ (Checks gf128 (element 0)) (fld-are r w) (sym (map-append element (D .shared) (D .rowFld))) (A .fld-rounds));
-    bin-end = element-inj _ _ (running-lt 0 (binMessages r w) (D .shared ++ D .rowBin) (pow-pos 128) bin-below) (unfold outerEnd in ⊗-lt _ _)
-        (running-is 0 (binMessages r w) (D .shared ++ D .rowBin) ∙ ap₂ (runningE gf128 (element 0)) (sym (bin-are r w)) (map-append element (D .shared) (D .rowBin)) ∙ A .bin-terminal ∙ sym (bin-end-is r x w D R C long));
-    fld-end = element-inj _ _ (running-lt 0 (fldMessages r w) (D .shared ++ D .rowFld) (pow-pos 128) fld-below) (unfold outerEnd in ⊗-lt _ _)
-        (running-is 0 (fldMessages r w) (D .shared ++ D .rowFld) ∙ ap₂ (runningE gf128 (element 0)) (sym (fld-are r w)) (map-append element (D .shared) (D .rowFld)) ∙ A .fld-terminal ∙ sym (fld-end-is r x w D R C long));
+    bin = checks-passes 0 (binMessages r w) (D .shared ++ D .rowBin) (pow-pos 128) bin-below
+        (subst₂ (Checks gf128 (element 0)) (bin-are r w) (sym (map-append element (D .shared) (D .rowBin))) (A .bin-rounds));
+    fld = checks-passes 0 (fldMessages r w) (D .shared ++ D .rowFld) (pow-pos 128) fld-below
+        (subst₂ (Checks gf128 (element 0)) (fld-are r w) (sym (map-append element (D .shared) (D .rowFld))) (A .fld-rounds));
+    bin-end = element-inj _ _ (running-lt 0 (binMessages r w) (D .shared ++ D .rowBin) (pow-pos 128) bin-below)
+        (unfold outerEnd in ⊗-lt _ _)
+        (running-is 0 (binMessages r w) (D .shared ++ D .rowBin)
+        ∙ ap₂ (runningE gf128 (element 0)) (sym (bin-are r w)) (map-append element (D .shared) (D .rowBin)) ∙ A .bin-terminal
+        ∙ sym (bin-end-is r x w D R C long));
+    fld-end = element-inj _ _ (running-lt 0 (fldMessages r w) (D .shared ++ D .rowFld) (pow-pos 128) fld-below)
+        (unfold outerEnd in ⊗-lt _ _)
+        (running-is 0 (fldMessages r w) (D .shared ++ D .rowFld)
+        ∙ ap₂ (runningE gf128 (element 0)) (sym (fld-are r w)) (map-append element (D .shared) (D .rowFld)) ∙ A .fld-terminal
+        ∙ sym (fld-end-is r x w D R C long));
     inner = checks-passes (innerClaim r w D) (innerRounds r w) (D .inner) claim-lt inner-below
         (subst (λ (ms : List (List Element)). Checks gf128 (element (innerClaim r w D)) ms (els (D .inner))) (inner-are r w (cols-suc r R))
-        (subst₂ (λ (c : Element) (rs : List Element). Checks gf128 c ((wordsE r w) .innerMs) rs) (sym (claim-is r x w D R C long)) (inner-is r R D C) (A .inner-rounds)));
-    inner-end = element-inj _ _ (running-lt (innerClaim r w D) (innerRounds r w) (D .inner) claim-lt inner-below) (unfold innerEnd in ⊗-lt _ _)
-        (running-is (innerClaim r w D) (innerRounds r w) (D .inner) ∙ (λ i. runningE gf128 (claim-is r x w D R C long i) (sym (inner-are r w (cols-suc r R)) i) (sym (inner-is r R D C) i)) ∙ A .inner-terminal ∙ sym (inner-end-is r x w D R C long));
-    identity = element-inj _ _ (⊕-lt 128 _ _ (⊗-lt _ _) (⊗-lt _ _)) value-lt (identity-is r x w D R C long ∙ sym (A .identity) ∙ vz-is r w (cols-suc r R));
+        (subst₂ (λ (c : Element) (rs : List Element). Checks gf128 c ((wordsE r w) .innerMs) rs) (sym (claim-is r x w D R C long))
+        (inner-is r R D C) (A .inner-rounds)));
+    inner-end = element-inj _ _ (running-lt (innerClaim r w D) (innerRounds r w) (D .inner) claim-lt inner-below)
+        (unfold innerEnd in ⊗-lt _ _)
+        (running-is (innerClaim r w D) (innerRounds r w) (D .inner)
+        ∙ (λ i. runningE gf128 (claim-is r x w D R C long i) (sym (inner-are r w (cols-suc r R)) i) (sym (inner-is r R D C) i))
+        ∙ A .inner-terminal ∙ sym (inner-end-is r x w D R C long));
+    identity = element-inj _ _ (⊕-lt 128 _ _ (⊗-lt _ _) (⊗-lt _ _)) value-lt
+        (identity-is r x w D R C long ∙ sym (A .identity) ∙ vz-is r w (cols-suc r R));
   }

@@ -34,7 +34,8 @@ unfolding inTurn
 inTurn-length [] ns e f h = refl
 inTurn-length (m ∷ ms) [] e f h = absurd (omega arith)
 inTurn-length (m ∷ ms) (n ∷ ns) e f h =
-    length-append m (n ++ inTurn ms ns) ∙ ap₂ _+_ (e .0) (length-append n (inTurn ms ns) ∙ ap₂ _+_ (f .0) (inTurn-length ms ns (e .1) (f .1) (omega arith))) ∙ omega arith
+    length-append m (n ++ inTurn ms ns) ∙ ap₂ _+_ (e .0)
+    (length-append n (inTurn ms ns) ∙ ap₂ _+_ (f .0) (inTurn-length ms ns (e .1) (f .1) (omega arith))) ∙ omega arith
 
 -- what stands behind a
 pub past : (o k : ℕ) (w a post : List ℕ) → drop o w ≡ a ++ post → length a ≡ k → drop (o + k) w ≡ post
@@ -48,8 +49,10 @@ pub chunks : (n o : ℕ) (w : List ℕ) (g : ℕ → ℕ) (ms : List (List ℕ))
 unfolding tabulate joined
 chunks n o w g [] post e h p = refl
 chunks n o w g (m ∷ ms) post e h p =
-    ap₂ _∷_ (ap (λ (k : ℕ). take n (drop k w)) (p 0 ∙ first n o) ∙ front o n w m (joined ms ++ post) (h ∙ append-assoc m (joined ms) post) (e .0))
-    (chunks n (o + n) w (λ i. g (suc i)) ms post (e .1) (past o n w m (joined ms ++ post) (h ∙ append-assoc m (joined ms) post) (e .0)) (λ i. p (suc i) ∙ next n o i))
+    ap₂ _∷_ (ap (λ (k : ℕ). take n (drop k w)) (p 0 ∙ first n o)
+    ∙ front o n w m (joined ms ++ post) (h ∙ append-assoc m (joined ms) post) (e .0))
+    (chunks n (o + n) w (λ i. g (suc i)) ms post (e .1) (past o n w m (joined ms ++ post) (h ∙ append-assoc m (joined ms) post) (e .0))
+    (λ i. p (suc i) ∙ next n o i))
   where
     first : (n o : ℕ) → o + n * 0 ≡ o
     first n o = rw mul-zero (add-zero o)
@@ -70,7 +73,8 @@ first-turns o w g (m ∷ ms) (n ∷ ns) post e f l h p =
     let h₁ = h ∙ unturned m n (inTurn ms ns) post in
     let h₂ = past o 4 w m (n ++ (inTurn ms ns ++ post)) h₁ (e .0) in
     ap₂ _∷_ (ap (λ (k : ℕ). take 4 (drop k w)) (p 0 ∙ first o) ∙ front o 4 w m (n ++ (inTurn ms ns ++ post)) h₁ (e .0))
-    (first-turns (o + 4 + 4) w (λ i. g (suc i)) ms ns post (e .1) (f .1) (omega arith) (past (o + 4) 4 w n (inTurn ms ns ++ post) h₂ (f .0)) (λ i. p (suc i) ∙ next o i))
+    (first-turns (o + 4 + 4) w (λ i. g (suc i)) ms ns post (e .1) (f .1) (omega arith) (past (o + 4) 4 w n (inTurn ms ns ++ post) h₂ (f .0))
+    (λ i. p (suc i) ∙ next o i))
   where
     first : (o : ℕ) → o + 8 * 0 ≡ o
     first o = omega arith
@@ -88,7 +92,8 @@ second-turns o w g (m ∷ ms) (n ∷ ns) post e f l h p =
     let h₁ = h ∙ unturned m n (inTurn ms ns) post in
     let h₂ = past o 4 w m (n ++ (inTurn ms ns ++ post)) h₁ (e .0) in
     ap₂ _∷_ (ap (λ (k : ℕ). take 4 (drop k w)) (p 0 ∙ first o) ∙ front (o + 4) 4 w n (inTurn ms ns ++ post) h₂ (f .0))
-    (second-turns (o + 4 + 4) w (λ i. g (suc i)) ms ns post (e .1) (f .1) (omega arith) (past (o + 4) 4 w n (inTurn ms ns ++ post) h₂ (f .0)) (λ i. p (suc i) ∙ next o i))
+    (second-turns (o + 4 + 4) w (λ i. g (suc i)) ms ns post (e .1) (f .1) (omega arith)
+    (past (o + 4) 4 w n (inTurn ms ns ++ post) h₂ (f .0)) (λ i. p (suc i) ∙ next o i))
   where
     first : (o : ℕ) → o + 4 + 8 * 0 ≡ o + 4
     first o = omega arith

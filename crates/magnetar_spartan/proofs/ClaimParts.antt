@@ -41,15 +41,19 @@ module _ (r : Relation) (R : SizedRelation r) (D : Draws) (C : Cut r D) where
 
     -- the sum that claim i is about
     sum-is : (b : Batch) (i : ℕ)
-        → claimValue (r .q) b (instOf r (loginPoint D ++ (lowPoint r D ++ v))) (take (localVars (r .lengths) i) (lowOf r (loginPoint D ++ (lowPoint r D ++ v)))) (offset (r .lengths) i) (getD (r .lengths) i 0)
+        → claimValue (r .q) b (instOf r (loginPoint D ++ (lowPoint r D ++ v)))
+        (take (localVars (r .lengths) i) (lowOf r (loginPoint D ++ (lowPoint r D ++ v)))) (offset (r .lengths) i) (getD (r .lengths) i 0)
         ≡ trueValue r b D i
     unfolding trueValue
-    sum-is b i = λ j. claimValue (r .q) b (inst-is j) (take (localVars (r .lengths) i) (low-is j)) (offset (r .lengths) i) (getD (r .lengths) i 0)
+    sum-is b i = λ j. claimValue (r .q) b (inst-is j) (take (localVars (r .lengths) i) (low-is j)) (offset (r .lengths) i)
+        (getD (r .lengths) i 0)
 
-    pub true-values : (b : Batch) → ClaimsTrue r b (loginPoint D ++ (lowPoint r D ++ v)) → (i : ℕ) → i < length (r .lengths) → getD v i 0 ≡ trueValue r b D i
+    pub true-values : (b : Batch) → ClaimsTrue r b (loginPoint D ++ (lowPoint r D ++ v)) → (i : ℕ) → i < length (r .lengths)
+        → getD v i 0 ≡ trueValue r b D i
     true-values b t i h = ap (λ (l : List ℕ). getD l i 0) (sym values-is) ∙ t i h ∙ sum-is b i
 
-    pub values-true : (b : Batch) → ((i : ℕ) → i < length (r .lengths) → getD v i 0 ≡ trueValue r b D i) → ClaimsTrue r b (loginPoint D ++ (lowPoint r D ++ v))
+    pub values-true : (b : Batch) → ((i : ℕ) → i < length (r .lengths) → getD v i 0 ≡ trueValue r b D i)
+        → ClaimsTrue r b (loginPoint D ++ (lowPoint r D ++ v))
     values-true b t i h = ap (λ (l : List ℕ). getD l i 0) values-is ∙ t i h ∙ sym (sum-is b i)
 
     pub claims-length : length (loginPoint D ++ (lowPoint r D ++ v)) ≡ logLogins r + (logCols r - 1) + length v

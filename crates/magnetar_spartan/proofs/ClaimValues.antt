@@ -41,7 +41,8 @@ unfolding sumBelow
 sum-ext zero f g h = refl
 sum-ext (suc m) f g h = ap₂ _⊕_ (sum-ext m f g h) (h m)
 
-dot-sum : (e t : List Element) (n : ℕ) → length e ≡ n → length t ≡ n → dotE gf128 e t ≡ sumF gf128 (λ i. product (getD e i (element 0)) (getD t i (element 0))) n
+dot-sum : (e t : List Element) (n : ℕ) → length e ≡ n → length t ≡ n
+    → dotE gf128 e t ≡ sumF gf128 (λ i. product (getD e i (element 0)) (getD t i (element 0))) n
 dot-sum [] t zero h k = refl
 dot-sum [] t (suc n) h k = absurd (omega arith)
 dot-sum (x ∷ e) [] zero h k = absurd (omega arith)
@@ -57,11 +58,14 @@ map-at f (x ∷ l) (suc i) d e h = map-at f l i d e (omega arith)
 
 -- ---- a dot product with an eq table
 pub eq-dot : (p : List ℕ) (t : List Element) (n : ℕ) (f : ℕ → ℕ) → n ≡ 2 ^ length p → length t ≡ n
-    → ((i : ℕ) → i < n → getD t i (element 0) ≡ element (f i)) → dotE gf128 (eqTableE gf128 (els p)) t ≡ element (sumBelow n (λ i. eqAt p i ⊗ f i))
+    → ((i : ℕ) → i < n → getD t i (element 0) ≡ element (f i))
+    → dotE gf128 (eqTableE gf128 (els p)) t ≡ element (sumBelow n (λ i. eqAt p i ⊗ f i))
 eq-dot p t n f h k e =
-    ap (λ (l : List Element). dotE gf128 l t) (sym (element-eqTable p)) ∙ dot-sum (els (eqTable p)) t n (length-map (eqTable p) element ∙ eqTable-length p ∙ sym h) k
+    ap (λ (l : List Element). dotE gf128 l t) (sym (element-eqTable p))
+    ∙ dot-sum (els (eqTable p)) t n (length-map (eqTable p) element ∙ eqTable-length p ∙ sym h) k
     ∙ sym (sumBelow-is n (λ i. eqAt p i ⊗ f i) (λ i. product (getD (els (eqTable p)) i (element 0)) (getD t i (element 0)))
-    (λ i l. element-⊗ (eqAt p i) (f i) ∙ ap₂ product (ap element (sym (eqTable-get p i (rw h at l))) ∙ sym (els-at (eqTable p) i)) (sym (e i l))))
+    (λ i l. element-⊗ (eqAt p i) (f i) ∙ ap₂ product (ap element (sym (eqTable-get p i (rw h at l))) ∙ sym (els-at (eqTable p) i))
+    (sym (e i l))))
 
 -- the claim on the n columns from o on
 pub claim-is : (q : ℕ) (b : Batch) (p l : List ℕ) (o n : ℕ) → q ≡ 2 ^ length p → length b ≡ q → n ≡ 2 ^ length l
@@ -77,16 +81,20 @@ claim-is q b p l o n hq hb hn fits =
     at-login : List Element → Element
     at-login w = dotE gf128 (eqTableE gf128 (els l)) (take n (drop o w))
 
-    sums : (m : ℕ) → sumBelow m (λ u. sumBelow n (λ k. eqAt p u ⊗ (eqAt l k ⊗ bitOf b u (o + k)))) ≡ sumBelow m (λ u. eqAt p u ⊗ sumBelow n (λ k. eqAt l k ⊗ bitOf b u (o + k)))
-    sums m = sum-ext m (λ u. sumBelow n (λ k. eqAt p u ⊗ (eqAt l k ⊗ bitOf b u (o + k)))) (λ u. eqAt p u ⊗ sumBelow n (λ k. eqAt l k ⊗ bitOf b u (o + k))) (λ u. sum-times n (eqAt p u) (λ k. eqAt l k ⊗ bitOf b u (o + k)))
+    sums : (m : ℕ) → sumBelow m (λ u. sumBelow n (λ k. eqAt p u ⊗ (eqAt l k ⊗ bitOf b u (o + k))))
+        ≡ sumBelow m (λ u. eqAt p u ⊗ sumBelow n (λ k. eqAt l k ⊗ bitOf b u (o + k)))
+    sums m = sum-ext m (λ u. sumBelow n (λ k. eqAt p u ⊗ (eqAt l k ⊗ bitOf b u (o + k))))
+        (λ u. eqAt p u ⊗ sumBelow n (λ k. eqAt l k ⊗ bitOf b u (o + k))) (λ u. sum-times n (eqAt p u) (λ k. eqAt l k ⊗ bitOf b u (o + k)))
 
     each : (u : ℕ) → u < q → getD (map at-login (batchE b)) u (element 0) ≡ element (sumBelow n (λ k. eqAt l k ⊗ bitOf b u (o + k)))
     each u h =
         map-at at-login (batchE b) u (element 0) (els []) (rw (length-map b els) (omega arith))
         ∙ ap at-login (map-at els b u (els []) [] (omega arith))
         ∙ eq-dot l (take n (drop o (els (getD b u [])))) n (λ k. bitOf b u (o + k)) hn
-        (length-take-le n (drop o (els (getD b u []))) (rw (length-drop o (els (getD b u [])), length-map (getD b u []) element) (omega (arith, fits u h))))
-        (λ k i. getD-take n (drop o (els (getD b u []))) k (element 0) i ∙ getD-drop o (els (getD b u [])) k (element 0) ∙ els-at (getD b u []) (o + k) ∙ unfold bitOf in refl)
+        (length-take-le n (drop o (els (getD b u []))) (rw (length-drop o (els (getD b u [])), length-map (getD b u []) element)
+        (omega (arith, fits u h))))
+        (λ k i. getD-take n (drop o (els (getD b u []))) k (element 0) i ∙ getD-drop o (els (getD b u [])) k (element 0)
+        ∙ els-at (getD b u []) (o + k) ∙ unfold bitOf in refl)
 
 -- ---- all claims
 pub values-are : (f : Segment → Element) (os ns vs : List ℕ) → length os ≡ length ns → length vs ≡ length ns
@@ -97,4 +105,5 @@ values-are f [] [] (v ∷ vs) h k e = absurd (omega arith)
 values-are f [] (n ∷ ns) vs h k e = absurd (omega arith)
 values-are f (o ∷ os) [] vs h k e = absurd (omega arith)
 values-are f (o ∷ os) (n ∷ ns) [] h k e = absurd (omega arith)
-values-are f (o ∷ os) (n ∷ ns) (v ∷ vs) h k e = ap₂ _∷_ (e 0 (omega arith)) (values-are f os ns vs (omega arith) (omega arith) (λ i l. e (suc i) (omega arith)))
+values-are f (o ∷ os) (n ∷ ns) (v ∷ vs) h k e = ap₂ _∷_ (e 0 (omega arith))
+    (values-are f os ns vs (omega arith) (omega arith) (λ i l. e (suc i) (omega arith)))

@@ -50,7 +50,8 @@ module _ (r : Relation) (D : Draws) (R : SizedRelation r) where
   size : (m : Matrix) (p : List ℕ) → length (columns gf128 n (entriesE m) (eqTableE gf128 (els p))) ≡ n
   size m p = length-columns gf128 gf128Laws n (entriesE m) (eqTableE gf128 (els p))
 
-  at : (m : Matrix) (p : List ℕ) (y : ℕ) → m .cols ≡ r .m → y < n → getD (columns gf128 n (entriesE m) (eqTableE gf128 (els p))) y (element 0) ≡ element (getD (mleTable m p) y 0)
+  at : (m : Matrix) (p : List ℕ) (y : ℕ) → m .cols ≡ r .m → y < n
+      → getD (columns gf128 n (entriesE m) (eqTableE gf128 (els p))) y (element 0) ≡ element (getD (mleTable m p) y 0)
   at m p y e h = table-at n m p y (e ∙ cols-pow r R) h
 
   pub combined-length : length (combined r D) ≡ n
@@ -67,8 +68,19 @@ module _ (r : Relation) (D : Draws) (R : SizedRelation r) where
       long = length-map (combined r D) element ∙ combined-length
 
       all : length (fold gf128 n (els (D .alphas)) tables) ≡ n
-      all = length-fold gf128 gf128Laws n (els (D .alphas)) tables
-          (size (r .bin .a) (D .rowBin), (size (r .bin .b) (D .rowBin), (size (r .bin .c) (D .rowBin), (size (r .fld .a) (D .rowFld), (size (r .fld .b) (D .rowFld), (size (r .fld .c) (D .rowFld), tt))))))
+      all = length-fold gf128 gf128Laws n (els (D .alphas)) tables (
+        size (r .bin .a) (D .rowBin),
+        (
+          size (r .bin .b) (D .rowBin),
+          (
+            size (r .bin .c) (D .rowBin),
+            (
+              size (r .fld .a) (D .rowFld),
+              (size (r .fld .b) (D .rowFld), (size (r .fld .c) (D .rowFld), tt)),
+            ),
+          ),
+        ),
+      )
 
       entries : ℕ → List ℕ
       entries y = getD (mleTable (r .bin .a) (D .rowBin)) y 0 ∷ getD (mleTable (r .bin .b) (D .rowBin)) y 0
@@ -78,11 +90,13 @@ module _ (r : Relation) (D : Draws) (R : SizedRelation r) where
       value : (y : ℕ) → y < r .m → getD (combined r D) y 0 ≡ dot (D .alphas) (entries y)
       value y h = unfold combined in tabulate-get (λ y. dot (D .alphas) (entries y)) (r .m) y 0 h
 
-      each : (y : ℕ) → y < length (els (combined r D)) → getD (els (combined r D)) y (element 0) ≡ getD (fold gf128 n (els (D .alphas)) tables) y (element 0)
+      each : (y : ℕ) → y < length (els (combined r D)) → getD (els (combined r D)) y (element 0)
+          ≡ getD (fold gf128 n (els (D .alphas)) tables) y (element 0)
       each y h =
           let k : y < n = rw long at h in
           els-at (combined r D) y ∙ ap element (value y (rw (cols-pow r R) k)) ∙ element-dot (D .alphas) (entries y)
           ∙ sym (fold-at n (els (D .alphas)) tables y
-          ∙ (λ i. dotE gf128 (els (D .alphas)) (at (r .bin .a) (D .rowBin) y (R .bin .a .cols) k i ∷ at (r .bin .b) (D .rowBin) y (R .bin .b .cols) k i
+          ∙ (λ i. dotE gf128 (els (D .alphas)) (at (r .bin .a) (D .rowBin) y (R .bin .a .cols) k i
+          ∷ at (r .bin .b) (D .rowBin) y (R .bin .b .cols) k i
           ∷ at (r .bin .c) (D .rowBin) y (R .bin .c .cols) k i ∷ at (r .fld .a) (D .rowFld) y (R .fld .a .cols) k i
           ∷ at (r .fld .b) (D .rowFld) y (R .fld .b .cols) k i ∷ at (r .fld .c) (D .rowFld) y (R .fld .c .cols) k i ∷ [])))

@@ -28,12 +28,18 @@ module _ (r : Relation) (b : Batch) (x d : List ℕ) (S : SizedRun r b x d) wher
   -- the words are as many as document 01 says, and elements
   pub prover-sized : Sized r b x (proverWords r b x d) d
   unfolding proverWords
-  prover-sized = record { run = S; words = honest-length r b x (drawsOf r d) (cut r d (S .draws)); elements-w = honest-elements r b x (drawsOf r d) }
+  prover-sized = record {
+    run = S;
+    words = honest-length r b x (drawsOf r d) (cut r d (S .draws));
+    elements-w = honest-elements r b x
+        (drawsOf r d);
+  }
 
   -- the claims that the verifier reads from the words are the prover's
   same-claims : claims r (proverWords r b x d) d ≡ proverClaims r b d
   unfolding claims proverClaims proverWords
-  same-claims = ap (λ (l : List ℕ). loginPoint (drawsOf r d) ++ (lowPoint r (drawsOf r d) ++ l)) (segment-part r b x (drawsOf r d) (cut r d (S .draws)))
+  same-claims = ap (λ (l : List ℕ). loginPoint (drawsOf r d) ++ (lowPoint r (drawsOf r d) ++ l))
+      (segment-part r b x (drawsOf r d) (cut r d (S .draws)))
 
   -- they are true
   true-claims : ClaimsTrue r b (proverClaims r b d)
@@ -46,8 +52,10 @@ module _ (r : Relation) (b : Batch) (x d : List ℕ) (S : SizedRun r b x d) wher
   honest-accepted g stray =
       of-holds r x (honestWords r b x D) D C
       (holds r x (honestWords r b x D) D (S .relation) C (honest-length r b x D C) (honest-elements r b x D)
-      (subst (λ (W : Words gf128). Accepted gf128 (relationE r) (publicE x) (drawsE r D) W) (sym (words-are r b x D (S .relation) (S .batch) C (S .public)))
-      (complete (relationE r) (publicE x) (batchE b) (drawsE r D) (sizes r b D (S .relation) (S .batch) C x (S .public) stray) (good-theory r b x (S .relation) (S .batch) g))))
+      (subst (λ (W : Words gf128). Accepted gf128 (relationE r) (publicE x) (drawsE r D) W)
+      (sym (words-are r b x D (S .relation) (S .batch) C (S .public)))
+      (complete (relationE r) (publicE x) (batchE b) (drawsE r D) (sizes r b D (S .relation) (S .batch) C x (S .public) stray)
+      (good-theory r b x (S .relation) (S .batch) g))))
     where
       D : Draws
       D = drawsOf r d

@@ -45,16 +45,29 @@ unfolding log₂ halvings
 ten = refl
 
 pub least-words : proverWords least ((0 ∷ []) ∷ []) [] draws ≡ 0 ∷ 0 ∷ 0 ∷ 0 ∷ 0 ∷ 0 ∷ 0 ∷ 0 ∷ 0 ∷ 7 ∷ []
-unfolding log₂ halvings _⊕_ _⊗_ sumTimes timesX tabulate eqFactor eqAt eqTable dot mle line insertZero bindVar sumTo at₀ at₁ slope innerSums innerMessage nextVar coefficient₀ coefficient₁ coefficient₂ weighted timesEq outerMessage dropVar outerNext outerFold outerStart outerMessages innerMessages sumBelow blocks sumOver rowTotal share timesAt times transpose mleTable bitOf assignment foldedAt folded claimValue nextMultiple offsetsFrom offsets drawsOf loginPoint lowPoint topElement combined trueValue joined inTurn trueValues productTable outerRounds terminalValues foldedZ honestWords proverWords
+unfolding log₂ halvings _⊕_ _⊗_ sumTimes timesX tabulate eqFactor eqAt eqTable dot mle line insertZero bindVar sumTo at₀ at₁
+    slope innerSums innerMessage nextVar coefficient₀ coefficient₁ coefficient₂ weighted timesEq outerMessage dropVar
+    outerNext outerFold outerStart outerMessages innerMessages sumBelow blocks sumOver rowTotal share timesAt times transpose
+    mleTable bitOf assignment foldedAt folded claimValue nextMultiple offsetsFrom offsets drawsOf loginPoint lowPoint
+    topElement combined trueValue joined inTurn trueValues productTable outerRounds terminalValues foldedZ honestWords
+    proverWords
 least-words = refl
 
 -- accepted; and with one bit of v_z flipped refused with 29
 pub least-accepted : verdict least [] (0 ∷ 0 ∷ 0 ∷ 0 ∷ 0 ∷ 0 ∷ 0 ∷ 0 ∷ 0 ∷ 7 ∷ []) draws ≡ 0
-unfolding log₂ halvings _⊕_ _⊗_ sumTimes timesX tabulate eval eqFactor eqAt eqTable dot mle total checkSum holds running eqPoints outerEnd innerEnd sumOver rowTotal share timesAt times transpose mleTable nextMultiple offsetsFrom offsets binMessages fldMessages terminals innerRounds valueZ segmentValues drawsOf loginPoint lowPoint topElement roundHolds innerClaim combined segmentSum sharedChecks rowChecks terminalChecks innerChecks identityCheck checks firstRefusal verdict
+unfolding log₂ halvings _⊕_ _⊗_ sumTimes timesX tabulate eval eqFactor eqAt eqTable dot mle total checkSum holds running
+    eqPoints outerEnd innerEnd sumOver rowTotal share timesAt times transpose mleTable nextMultiple offsetsFrom offsets
+    binMessages fldMessages terminals innerRounds valueZ segmentValues drawsOf loginPoint lowPoint topElement roundHolds
+    innerClaim combined segmentSum sharedChecks rowChecks terminalChecks innerChecks identityCheck checks firstRefusal
+    verdict
 least-accepted = refl
 
 pub least-refused : verdict least [] (0 ∷ 0 ∷ 0 ∷ 0 ∷ 0 ∷ 0 ∷ 0 ∷ 0 ∷ 0 ∷ 6 ∷ []) draws ≡ 29
-unfolding log₂ halvings _⊕_ _⊗_ sumTimes timesX tabulate eval eqFactor eqAt eqTable dot mle total checkSum holds running eqPoints outerEnd innerEnd sumOver rowTotal share timesAt times transpose mleTable nextMultiple offsetsFrom offsets binMessages fldMessages terminals innerRounds valueZ segmentValues drawsOf loginPoint lowPoint topElement roundHolds innerClaim combined segmentSum sharedChecks rowChecks terminalChecks innerChecks identityCheck checks firstRefusal verdict
+unfolding log₂ halvings _⊕_ _⊗_ sumTimes timesX tabulate eval eqFactor eqAt eqTable dot mle total checkSum holds running
+    eqPoints outerEnd innerEnd sumOver rowTotal share timesAt times transpose mleTable nextMultiple offsetsFrom offsets
+    binMessages fldMessages terminals innerRounds valueZ segmentValues drawsOf loginPoint lowPoint topElement roundHolds
+    innerClaim combined segmentSum sharedChecks rowChecks terminalChecks innerChecks identityCheck checks firstRefusal
+    verdict
 least-refused = refl
 
 -- ---- m = 4, q = 2: two rows that say that each bit is a bit, a row 1 x = x, and a segment of both bits
@@ -64,7 +77,7 @@ diagonal = record { rows = 2; cols = 4; entries = record { row = 0; col = 0; val
 abbrev column : ℕ → Matrix
 column k = record { rows = 1; cols = 4; entries = record { row = 0; col = k; value = 1 } ∷ [] }
 
-abbrev small : Relation
+abbrev pub small : Relation
 small = record {
   m = 4;
   q = 2;
@@ -73,17 +86,29 @@ small = record {
   lengths = 2 ∷ [];
 }
 
-abbrev smallDraws : List ℕ
+abbrev pub smallDraws : List ℕ
 smallDraws = 17 ∷ 35 ∷ 70 ∷ 5 ∷ 6 ∷ 7 ∷ 8 ∷ 9 ∷ 10 ∷ 11 ∷ 12 ∷ 13 ∷ 14 ∷ []
+
+abbrev pub smallBatch : List (List ℕ)
+smallBatch = (1 ∷ 0 ∷ []) ∷ (1 ∷ 1 ∷ []) ∷ []
 
 -- the honest words, with 1 added to element j
 abbrev flipped : ℕ → List ℕ
-flipped j = set (proverWords small ((1 ∷ 0 ∷ []) ∷ (1 ∷ 1 ∷ []) ∷ []) (5 ∷ []) smallDraws) j (getD (proverWords small ((1 ∷ 0 ∷ []) ∷ (1 ∷ 1 ∷ []) ∷ []) (5 ∷ []) smallDraws) j 0 ⊕ 1)
+flipped j =
+    set (proverWords small smallBatch (5 ∷ []) smallDraws) j (getD (proverWords small smallBatch (5 ∷ []) smallDraws) j 0 ⊕ 1)
 
 abbrev answer : ℕ → ℕ
 answer j = verdict small (5 ∷ []) (flipped j) smallDraws
 
 -- one element of the honest words changed: each of 21 to 29 is met
-pub changed : map answer (0 ∷ 1 ∷ 4 ∷ 5 ∷ 8 ∷ 9 ∷ 14 ∷ 17 ∷ 18 ∷ 19 ∷ 21 ∷ 24 ∷ 25 ∷ []) ≡ 23 ∷ 21 ∷ 26 ∷ 22 ∷ 25 ∷ 23 ∷ 25 ∷ 26 ∷ 27 ∷ 27 ∷ 28 ∷ 28 ∷ 29 ∷ []
-unfolding log₂ halvings _⊕_ _⊗_ sumTimes timesX tabulate eval eqFactor eqAt eqTable dot mle line insertZero bindVar sumTo total checkSum holds running eqPoints at₀ at₁ slope outerEnd innerEnd innerSums innerMessage nextVar coefficient₀ coefficient₁ coefficient₂ weighted timesEq outerMessage dropVar outerNext outerFold outerStart outerMessages innerMessages sumBelow blocks sumOver rowTotal share timesAt times transpose mleTable bitOf assignment foldedAt folded claimValue nextMultiple offsetsFrom offsets binMessages fldMessages terminals innerRounds valueZ segmentValues drawsOf loginPoint lowPoint topElement roundHolds innerClaim combined segmentSum sharedChecks rowChecks terminalChecks innerChecks identityCheck checks firstRefusal verdict trueValue joined inTurn trueValues productTable outerRounds terminalValues foldedZ honestWords proverWords
+pub changed : map answer (0 ∷ 1 ∷ 4 ∷ 5 ∷ 8 ∷ 9 ∷ 14 ∷ 17 ∷ 18 ∷ 19 ∷ 21 ∷ 24 ∷ 25 ∷ []) ≡ 23 ∷ 21 ∷ 26 ∷ 22 ∷ 25 ∷ 23 ∷ 25 ∷ 26 ∷ 27 ∷ 27
+    ∷ 28 ∷ 28 ∷ 29 ∷ []
+unfolding log₂ halvings _⊕_ _⊗_ sumTimes timesX tabulate eval eqFactor eqAt eqTable dot mle line insertZero bindVar sumTo
+    total checkSum holds running eqPoints at₀ at₁ slope outerEnd innerEnd innerSums innerMessage nextVar coefficient₀
+    coefficient₁ coefficient₂ weighted timesEq outerMessage dropVar outerNext outerFold outerStart outerMessages
+    innerMessages sumBelow blocks sumOver rowTotal share timesAt times transpose mleTable bitOf assignment foldedAt folded
+    claimValue nextMultiple offsetsFrom offsets binMessages fldMessages terminals innerRounds valueZ segmentValues drawsOf
+    loginPoint lowPoint topElement roundHolds innerClaim combined segmentSum sharedChecks rowChecks terminalChecks
+    innerChecks identityCheck checks firstRefusal verdict trueValue joined inTurn trueValues productTable outerRounds
+    terminalValues foldedZ honestWords proverWords
 changed = refl

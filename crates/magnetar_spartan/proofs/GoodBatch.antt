@@ -65,10 +65,12 @@ zero-rows (x ∷ a) (y ∷ b) (w ∷ c) h k z = (z 0 (omega arith), zero-rows a 
 module _ (s : System) (n : ℕ) where
   -- row i of (Az)(Bz) + Cz
   row-is : (z : List ℕ) (i : ℕ) → i < n
-      → rowAt (apply gf128 n (entriesE (s .a)) (els z)) (apply gf128 n (entriesE (s .b)) (els z)) (apply gf128 n (entriesE (s .c)) (els z)) i
+      → rowAt (apply gf128 n (entriesE (s .a)) (els z)) (apply gf128 n (entriesE (s .b)) (els z))
+      (apply gf128 n (entriesE (s .c)) (els z)) i
       ≡ element (timesAt (s .a) z i ⊗ timesAt (s .b) z i ⊕ timesAt (s .c) z i)
   row-is z i h =
-      ap₂ sum (ap₂ product (times-at n (s .a) z i h) (times-at n (s .b) z i h) ∙ sym (element-⊗ (timesAt (s .a) z i) (timesAt (s .b) z i))) (times-at n (s .c) z i h)
+      ap₂ sum (ap₂ product (times-at n (s .a) z i h) (times-at n (s .b) z i h) ∙ sym (element-⊗ (timesAt (s .a) z i) (timesAt (s .b) z i)))
+      (times-at n (s .c) z i h)
       ∙ sym (element-⊕ (timesAt (s .a) z i ⊗ timesAt (s .b) z i) (timesAt (s .c) z i))
 
   abbrev Row : List ℕ → ℕ → Type 0
@@ -100,30 +102,36 @@ module _ (s : System) (n : ℕ) where
   unfolding one-login
   login-holds z h i l =
       eq-of-⊕ (element-inj (timesAt (s .a) z i ⊗ timesAt (s .b) z i ⊕ timesAt (s .c) z i) 0
-      (⊕-lt 128 (timesAt (s .a) z i ⊗ timesAt (s .b) z i) (timesAt (s .c) z i) (⊗-lt (timesAt (s .a) z i) (timesAt (s .b) z i)) (timesAt-lt (s .c) z i)) (pow-pos 128)
+      (⊕-lt 128 (timesAt (s .a) z i ⊗ timesAt (s .b) z i) (timesAt (s .c) z i) (⊗-lt (timesAt (s .a) z i) (timesAt (s .b) z i))
+      (timesAt-lt (s .c) z i)) (pow-pos 128)
       (sym (row-is z i l) ∙ rows-zero (az (els z)) (bz (els z)) (cz (els z)) (b-size (els z)) (c-size (els z)) h i (rw (a-size (els z)) l)))
 
   holds-login : (z : List ℕ) → ((i : ℕ) → i < n → Row z i) → Zeros gf128 (one-login (els z))
   unfolding one-login
   holds-login z h =
       zero-rows (az (els z)) (bz (els z)) (cz (els z)) (b-size (els z)) (c-size (els z))
-      (λ i l. let k : i < n = rw (a-size (els z)) at l in row-is z i k ∙ ap element (ap (λ (v : ℕ). v ⊕ timesAt (s .c) z i) (h i k) ∙ ⊕-self (timesAt (s .c) z i)))
+      (λ i l. let k : i < n = rw (a-size (els z)) at l in row-is z i k
+      ∙ ap element (ap (λ (v : ℕ). v ⊕ timesAt (s .c) z i) (h i k) ∙ ⊕-self (timesAt (s .c) z i)))
 
   abbrev tableRows : List (List Element) → List Element
-  tableRows zs = rowValues gf128 (applyAll gf128 n (entriesE (s .a)) zs) (applyAll gf128 n (entriesE (s .b)) zs) (applyAll gf128 n (entriesE (s .c)) zs)
+  tableRows zs = rowValues gf128 (applyAll gf128 n (entriesE (s .a)) zs) (applyAll gf128 n (entriesE (s .b)) zs)
+      (applyAll gf128 n (entriesE (s .c)) zs)
 
   next-login : (z : List Element) (zs : List (List Element)) → tableRows (z ∷ zs) ≡ one-login z ++ tableRows zs
   unfolding one-login
-  next-login z zs = join-rows (az z) (bz z) (cz z) (applyAll gf128 n (entriesE (s .a)) zs) (applyAll gf128 n (entriesE (s .b)) zs) (applyAll gf128 n (entriesE (s .c)) zs) (b-size z) (c-size z)
+  next-login z zs = join-rows (az z) (bz z) (cz z) (applyAll gf128 n (entriesE (s .a)) zs) (applyAll gf128 n (entriesE (s .b)) zs)
+      (applyAll gf128 n (entriesE (s .c)) zs) (b-size z) (c-size z)
 
   parts : (x w : List ℕ) (b : Batch) → Zeros gf128 (tableRows (vectors gf128 (batchE (w ∷ b)) (publicE x)))
       → Zeros gf128 (one-login (els w ++ publicE x)) × Zeros gf128 (tableRows (vectors gf128 (batchE b) (publicE x)))
-  parts x w b h = zeros-split (one-login (els w ++ publicE x)) (tableRows (vectors gf128 (batchE b) (publicE x))) (subst (Zeros gf128) (next-login (els w ++ publicE x) (vectors gf128 (batchE b) (publicE x))) h)
+  parts x w b h = zeros-split (one-login (els w ++ publicE x)) (tableRows (vectors gf128 (batchE b) (publicE x)))
+      (subst (Zeros gf128) (next-login (els w ++ publicE x) (vectors gf128 (batchE b) (publicE x))) h)
 
   logins-hold : (x : List ℕ) (b : Batch) → Zeros gf128 (tableRows (vectors gf128 (batchE b) (publicE x)))
       → (u i : ℕ) → u < length b → i < n → Row (getD b u [] ++ (1 ∷ x)) i
   logins-hold x [] h u i k l = absurd (omega arith)
-  logins-hold x (w ∷ b) h zero i k l = login-holds (w ++ (1 ∷ x)) (subst (λ (z : List Element). Zeros gf128 (one-login z)) (sym (map-append element w (1 ∷ x))) (parts x w b h .0)) i l
+  logins-hold x (w ∷ b) h zero i k l = login-holds (w ++ (1 ∷ x))
+      (subst (λ (z : List Element). Zeros gf128 (one-login z)) (sym (map-append element w (1 ∷ x))) (parts x w b h .0)) i l
   logins-hold x (w ∷ b) h (suc u) i k l = logins-hold x b (parts x w b h .1) u i (omega arith) l
 
   hold-logins : (x : List ℕ) (b : Batch) → ((u i : ℕ) → u < length b → i < n → Row (getD b u [] ++ (1 ∷ x)) i)
@@ -132,7 +140,8 @@ module _ (s : System) (n : ℕ) where
   hold-logins x (w ∷ b) h =
       subst (Zeros gf128) (sym (next-login (els w ++ publicE x) (vectors gf128 (batchE b) (publicE x))))
       (zeros-join (one-login (els w ++ publicE x)) (tableRows (vectors gf128 (batchE b) (publicE x)))
-      (subst (λ (z : List Element). Zeros gf128 (one-login z)) (map-append element w (1 ∷ x)) (holds-login (w ++ (1 ∷ x)) (λ i l. h 0 i (omega arith) l)))
+      (subst (λ (z : List Element). Zeros gf128 (one-login z)) (map-append element w (1 ∷ x))
+      (holds-login (w ++ (1 ∷ x)) (λ i l. h 0 i (omega arith) l)))
       (hold-logins x b (λ u i k l. h (suc u) i (omega arith) l)))
 
 -- ---- both systems
@@ -140,13 +149,17 @@ module _ (r : Relation) (b : Batch) (x : List ℕ) (R : SizedRelation r) (B : Si
   pub good : GoodE (relationE r) (publicE x) (batchE b) → Good r b x
   unfolding Satisfied assignment
   good g = record {
-    bin = λ u i k l. logins-hold (r .bin) (2 ^ log₂ (r .bin .a .rows)) x b (g .0) u i (omega (arith, B .logins)) (omega (arith, R .bin .rows .power));
-    fld = λ u i k l. logins-hold (r .fld) (2 ^ log₂ (r .fld .a .rows)) x b (g .1) u i (omega (arith, B .logins)) (omega (arith, R .fld .rows .power));
+    bin = λ u i k l. logins-hold (r .bin) (2 ^ log₂ (r .bin .a .rows)) x b (g .0) u i (omega (arith, B .logins))
+        (omega (arith, R .bin .rows .power));
+    fld = λ u i k l. logins-hold (r .fld) (2 ^ log₂ (r .fld .a .rows)) x b (g .1) u i (omega (arith, B .logins))
+        (omega (arith, R .fld .rows .power));
   }
 
   pub good-theory : Good r b x → GoodE (relationE r) (publicE x) (batchE b)
   unfolding Satisfied assignment
   good-theory g = (
-    hold-logins (r .bin) (2 ^ log₂ (r .bin .a .rows)) x b (λ u i k l. g .bin u i (omega (arith, B .logins)) (omega (arith, R .bin .rows .power))),
-    hold-logins (r .fld) (2 ^ log₂ (r .fld .a .rows)) x b (λ u i k l. g .fld u i (omega (arith, B .logins)) (omega (arith, R .fld .rows .power))),
+    hold-logins (r .bin) (2 ^ log₂ (r .bin .a .rows)) x b
+        (λ u i k l. g .bin u i (omega (arith, B .logins)) (omega (arith, R .bin .rows .power))),
+    hold-logins (r .fld) (2 ^ log₂ (r .fld .a .rows)) x b
+        (λ u i k l. g .fld u i (omega (arith, B .logins)) (omega (arith, R .fld .rows .power))),
   )

@@ -23,7 +23,7 @@ use Rattle.magnetar_spartan.specs.Prover.{joined, inTurn, outerRounds, b
 use Rattle.magnetar_spartan.proofs.Elements.{dot-lt}
 
 -- ---- lists
-elements-of : (l : List ℕ) → AllBelow (2 ^ 128) l → Elements l
+pub elements-of : (l : List ℕ) → AllBelow (2 ^ 128) l → Elements l
 elements-of [] h i = pow-pos 128
 elements-of (x ∷ l) h zero = h .0
 elements-of (x ∷ l) h (suc i) = elements-of l (h .1) i
@@ -92,26 +92,35 @@ module _ (r : Relation) (b : Batch) (x : List ℕ) (D : Draws) where
   unfolding trueValues
   end-below = (mle-lt (foldedZ r b x D) (D .inner), tabulate-below (trueValue r b D) (length (r .lengths)) (true-lt r b D))
 
-  inner-on : AllBelow (2 ^ 128) (joined (innerMessages (combined r D) (foldedZ r b x D) (D .inner)) ++ (mle (foldedZ r b x D) (D .inner) ∷ trueValues r b D))
+  inner-on : AllBelow (2 ^ 128) (joined (innerMessages (combined r D) (foldedZ r b x D) (D .inner))
+      ++ (mle (foldedZ r b x D) (D .inner) ∷ trueValues r b D))
   inner-on =
       both (joined (innerMessages (combined r D) (foldedZ r b x D) (D .inner))) (mle (foldedZ r b x D) (D .inner) ∷ trueValues r b D)
-      (joined-below (innerMessages (combined r D) (foldedZ r b x D) (D .inner)) (inner-below (combined r D) (foldedZ r b x D) (D .inner))) end-below
+      (joined-below (innerMessages (combined r D) (foldedZ r b x D) (D .inner))
+      (inner-below (combined r D) (foldedZ r b x D) (D .inner))) end-below
 
   terminals-below : AllBelow (2 ^ 128) (terminalValues r b x D)
   unfolding terminalValues
   terminals-below = (mle-lt _ _, (mle-lt _ _, (mle-lt _ _, (mle-lt _ _, (mle-lt _ _, (mle-lt _ _, tt))))))
 
-  terminals-on : AllBelow (2 ^ 128) (terminalValues r b x D ++ (joined (innerMessages (combined r D) (foldedZ r b x D) (D .inner)) ++ (mle (foldedZ r b x D) (D .inner) ∷ trueValues r b D)))
-  terminals-on = both (terminalValues r b x D) (joined (innerMessages (combined r D) (foldedZ r b x D) (D .inner)) ++ (mle (foldedZ r b x D) (D .inner) ∷ trueValues r b D)) terminals-below inner-on
+  terminals-on : AllBelow (2 ^ 128) (terminalValues r b x D
+      ++ (joined (innerMessages (combined r D) (foldedZ r b x D) (D .inner)) ++ (mle (foldedZ r b x D) (D .inner) ∷ trueValues r b D)))
+  terminals-on = both (terminalValues r b x D) (joined (innerMessages (combined r D) (foldedZ r b x D) (D .inner))
+      ++ (mle (foldedZ r b x D) (D .inner) ∷ trueValues r b D)) terminals-below inner-on
 
   pub honest-elements : Elements (honestWords r b x D)
   unfolding honestWords
   honest-elements =
       elements-of (honestWords r b x D)
-      (both (inTurn (take (logLogins r) bin) (take (logLogins r) fld)) (joined (drop (logLogins r) bin) ++ (joined (drop (logLogins r) fld) ++ later))
-      (inTurn-below (take (logLogins r) bin) (take (logLogins r) fld) (take-below (logLogins r) bin bin-below) (take-below (logLogins r) fld fld-below))
-      (both (joined (drop (logLogins r) bin)) (joined (drop (logLogins r) fld) ++ later) (joined-below (drop (logLogins r) bin) (drop-below (logLogins r) bin bin-below))
-      (both (joined (drop (logLogins r) fld)) later (joined-below (drop (logLogins r) fld) (drop-below (logLogins r) fld fld-below)) terminals-on)))
+      (both (inTurn (take (logLogins r) bin) (take (logLogins r) fld))
+      (joined (drop (logLogins r) bin) ++ (joined (drop (logLogins r) fld) ++ later))
+      (inTurn-below (take (logLogins r) bin) (take (logLogins r) fld) (take-below (logLogins r) bin bin-below)
+      (take-below (logLogins r) fld fld-below))
+      (both (joined (drop (logLogins r) bin)) (joined (drop (logLogins r) fld) ++ later)
+      (joined-below (drop (logLogins r) bin) (drop-below (logLogins r) bin bin-below))
+      (both (joined (drop (logLogins r) fld)) later (joined-below (drop (logLogins r) fld)
+      (drop-below (logLogins r) fld fld-below)) terminals-on)))
     where
       later : List ℕ
-      later = terminalValues r b x D ++ (joined (innerMessages (combined r D) (foldedZ r b x D) (D .inner)) ++ (mle (foldedZ r b x D) (D .inner) ∷ trueValues r b D))
+      later = terminalValues r b x D ++ (joined (innerMessages (combined r D) (foldedZ r b x D) (D .inner))
+          ++ (mle (foldedZ r b x D) (D .inner) ∷ trueValues r b D))

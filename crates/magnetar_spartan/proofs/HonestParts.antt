@@ -112,50 +112,63 @@ module _ (r : Relation) (b : Batch) (x : List ℕ) (D : Draws) (C : Cut r D) whe
 
   at₁ : drop (8 * s) W ≡ end₁
   at₁ = ap (drop (8 * s)) whole ∙ drop-at (inTurn (take s bin) (take s fld)) end₁ (8 * s)
-      (inTurn-length (take s bin) (take s fld) (each-take 4 s bin bin-each) (each-take 4 s fld fld-each) (fld₀ ∙ sym bin₀) ∙ ap (λ (k : ℕ). 8 * k) bin₀)
+      (inTurn-length (take s bin) (take s fld) (each-take 4 s bin bin-each) (each-take 4 s fld fld-each) (fld₀ ∙ sym bin₀)
+      ∙ ap (λ (k : ℕ). 8 * k) bin₀)
 
   at₂ : drop (8 * s + 4 * logBin r) W ≡ end₂
-  at₂ = past (8 * s) (4 * logBin r) W (joined (drop s bin)) end₂ at₁ (joined-length 4 (drop s bin) (each-drop 4 s bin bin-each) ∙ ap (λ (k : ℕ). 4 * k) bin₁)
+  at₂ = past (8 * s) (4 * logBin r) W (joined (drop s bin)) end₂ at₁
+      (joined-length 4 (drop s bin) (each-drop 4 s bin bin-each) ∙ ap (λ (k : ℕ). 4 * k) bin₁)
 
   at₃ : drop (beforeTerminals r) W ≡ end₃
-  at₃ = past (8 * s + 4 * logBin r) (4 * logFld r) W (joined (drop s fld)) end₃ at₂ (joined-length 4 (drop s fld) (each-drop 4 s fld fld-each) ∙ ap (λ (k : ℕ). 4 * k) fld₁)
+  at₃ = past (8 * s + 4 * logBin r) (4 * logFld r) W (joined (drop s fld)) end₃ at₂
+      (joined-length 4 (drop s fld) (each-drop 4 s fld fld-each) ∙ ap (λ (k : ℕ). 4 * k) fld₁)
 
   at₄ : drop (beforeInner r) W ≡ end₄
   unfolding terminalValues
   at₄ = past (beforeTerminals r) 6 W (terminalValues r b x D) end₄ at₃ refl
 
   at₅ : drop (beforeEnd r) W ≡ end₅
-  at₅ = past (beforeInner r) (3 * logCols r) W (joined inn) end₅ at₄ (joined-length 3 inn (inner-each (combined r D) (foldedZ r b x D) (D .inner)) ∙ ap (λ (k : ℕ). 3 * k) inn-count)
+  at₅ = past (beforeInner r) (3 * logCols r) W (joined inn) end₅ at₄
+      (joined-length 3 inn (inner-each (combined r D) (foldedZ r b x D) (D .inner)) ∙ ap (λ (k : ℕ). 3 * k) inn-count)
 
   -- ---- the parts
   pub bin-part : binMessages r W ≡ bin
   unfolding binMessages
   bin-part =
       ap₂ _++_
-      (ap (tabulate (λ i. part (8 * i) 4 W)) (sym bin₀) ∙ first-turns 0 W (λ i. 8 * i) (take s bin) (take s fld) end₁ (each-take 4 s bin bin-each) (each-take 4 s fld fld-each) (fld₀ ∙ sym bin₀) whole (λ i. sym (zero-add (8 * i))))
-      (ap (tabulate (λ i. part (8 * s + 4 * i) 4 W)) (sym bin₁) ∙ chunks 4 (8 * s) W (λ i. 8 * s + 4 * i) (drop s bin) end₂ (each-drop 4 s bin bin-each) at₁ (λ i. refl))
+      (ap (tabulate (λ i. part (8 * i) 4 W)) (sym bin₀) ∙ first-turns 0 W (λ i. 8 * i) (take s bin) (take s fld) end₁
+      (each-take 4 s bin bin-each) (each-take 4 s fld fld-each) (fld₀ ∙ sym bin₀) whole (λ i. sym (zero-add (8 * i))))
+      (ap (tabulate (λ i. part (8 * s + 4 * i) 4 W)) (sym bin₁)
+      ∙ chunks 4 (8 * s) W (λ i. 8 * s + 4 * i) (drop s bin) end₂ (each-drop 4 s bin bin-each) at₁ (λ i. refl))
       ∙ take-append-drop s bin
 
   pub fld-part : fldMessages r W ≡ fld
   unfolding fldMessages
   fld-part =
       ap₂ _++_
-      (ap (tabulate (λ i. part (8 * i + 4) 4 W)) (sym fld₀) ∙ second-turns 0 W (λ i. 8 * i + 4) (take s bin) (take s fld) end₁ (each-take 4 s bin bin-each) (each-take 4 s fld fld-each) (fld₀ ∙ sym bin₀) whole (λ i. omega arith))
-      (ap (tabulate (λ i. part (8 * s + 4 * logBin r + 4 * i) 4 W)) (sym fld₁) ∙ chunks 4 (8 * s + 4 * logBin r) W (λ i. 8 * s + 4 * logBin r + 4 * i) (drop s fld) end₃ (each-drop 4 s fld fld-each) at₂ (λ i. refl))
+      (ap (tabulate (λ i. part (8 * i + 4) 4 W)) (sym fld₀)
+      ∙ second-turns 0 W (λ i. 8 * i + 4) (take s bin) (take s fld) end₁ (each-take 4 s bin bin-each) (each-take 4 s fld fld-each)
+      (fld₀ ∙ sym bin₀) whole (λ i. omega arith))
+      (ap (tabulate (λ i. part (8 * s + 4 * logBin r + 4 * i) 4 W)) (sym fld₁)
+      ∙ chunks 4 (8 * s + 4 * logBin r) W (λ i. 8 * s + 4 * logBin r + 4 * i) (drop s fld) end₃ (each-drop 4 s fld fld-each) at₂
+      (λ i. refl))
       ∙ take-append-drop s fld
 
   pub inner-part : innerRounds r W ≡ inn
   unfolding innerRounds
   inner-part = ap (tabulate (λ i. part (beforeInner r + 3 * i) 3 W)) (sym inn-count)
-      ∙ chunks 3 (beforeInner r) W (λ i. beforeInner r + 3 * i) inn end₅ (inner-each (combined r D) (foldedZ r b x D) (D .inner)) at₄ (λ i. refl)
+      ∙ chunks 3 (beforeInner r) W (λ i. beforeInner r + 3 * i) inn end₅ (inner-each (combined r D) (foldedZ r b x D) (D .inner)) at₄
+      (λ i. refl)
 
   pub terminal-part : (i : ℕ) → i < 6 → terminal r W i ≡ getD (terminalValues r b x D) i 0
   unfolding terminalValues
-  terminal-part i h = sym (getD-drop (beforeTerminals r) W i 0) ∙ ap (λ (l : List ℕ). getD l i 0) at₃ ∙ List·getD-append (terminalValues r b x D) end₄ 0 i h
+  terminal-part i h = sym (getD-drop (beforeTerminals r) W i 0) ∙ ap (λ (l : List ℕ). getD l i 0) at₃
+      ∙ List·getD-append (terminalValues r b x D) end₄ 0 i h
 
   pub value-part : valueZ r W ≡ mle (foldedZ r b x D) (D .inner)
   unfolding valueZ
-  value-part = ap (λ (k : ℕ). getD W k 0) (sym (add-zero (beforeEnd r))) ∙ sym (getD-drop (beforeEnd r) W 0 0) ∙ ap (λ (l : List ℕ). getD l 0 0) at₅
+  value-part = ap (λ (k : ℕ). getD W k 0) (sym (add-zero (beforeEnd r))) ∙ sym (getD-drop (beforeEnd r) W 0 0)
+      ∙ ap (λ (l : List ℕ). getD l 0 0) at₅
 
   pub segment-part : segmentValues r W ≡ trueValues r b D
   unfolding segmentValues
@@ -163,7 +176,8 @@ module _ (r : Relation) (b : Batch) (x : List ℕ) (D : Draws) (C : Cut r D) whe
 
   -- as many as document 01 says
   pub honest-length : length W ≡ proofElements r
-  honest-length = sums (length W) (beforeEnd r) (length (trueValues r b D)) (length (r .lengths)) (sym (length-drop (beforeEnd r) W) ∙ ap length at₅) count
+  honest-length = sums (length W) (beforeEnd r) (length (trueValues r b D)) (length (r .lengths))
+      (sym (length-drop (beforeEnd r) W) ∙ ap length at₅) count
     where
       count : length (trueValues r b D) ≡ length (r .lengths)
       count = unfold trueValues in tabulate-length _ (length (r .lengths))

@@ -38,7 +38,8 @@ use Rattle.magnetar_spartan.proofs.TrueClaims.{all-length}
 -- ---- products
 times-is : (n : ℕ) (m : Matrix) (z : List ℕ) → m .rows ≡ n → els (times m z) ≡ apply gf128 n (entriesE m) (els z)
 times-is n m z e =
-    ext-getD (element 0) (els (times m z)) (apply gf128 n (entriesE m) (els z)) (long ∙ sym (length-apply gf128 gf128Laws n (entriesE m) (els z)))
+    ext-getD (element 0) (els (times m z)) (apply gf128 n (entriesE m) (els z))
+    (long ∙ sym (length-apply gf128 gf128Laws n (entriesE m) (els z)))
     (λ i h. let k : i < n = rw long at h in els-at (times m z) i ∙ ap element (value i (rw e k)) ∙ sym (times-at n m z i k))
   where
     long : length (els (times m z)) ≡ n
@@ -66,7 +67,8 @@ blocks-length f zero k h = sym (zero-mul k)
 blocks-length f (suc n) k h = length-append (blocks f n) (f n) ∙ ap₂ _+_ (blocks-length f n k h) (h n) ∙ omega (arith, suc-mul n k)
 
 module _ (r : Relation) (b : Batch) (x : List ℕ) (R : SizedRelation r) (B : SizedBatch r b) where
-  pub product-is : (n : ℕ) (m : Matrix) → m .rows ≡ n → els (productTable r b x m) ≡ applyAll gf128 n (entriesE m) (vectors gf128 (batchE b) (publicE x))
+  pub product-is : (n : ℕ) (m : Matrix) → m .rows ≡ n
+      → els (productTable r b x m) ≡ applyAll gf128 n (entriesE m) (vectors gf128 (batchE b) (publicE x))
   unfolding productTable assignment
   product-is n m e = ap (λ (q : ℕ). els (blocks (λ u. times m (getD b u [] ++ (1 ∷ x))) q)) (sym (B .logins)) ∙ blocks-are n m b x e
 
@@ -91,7 +93,8 @@ module _ (F : Field) (L : Laws F) where
 
 -- the weighted sum of what all logins share, behind their n bits
 shared-half : (n j : ℕ) (X es : List Element) (ws : List (List Element)) → AllLength gf128 n ws → length ws ≡ length es
-    → dotE gf128 es (map (λ (z : List Element). getD z (n + j) (element 0)) (vectors gf128 ws X)) ≡ product (total gf128 es) (getD X j (element 0))
+    → dotE gf128 es (map (λ (z : List Element). getD z (n + j) (element 0)) (vectors gf128 ws X))
+    ≡ product (total gf128 es) (getD X j (element 0))
 shared-half n j X [] ws a h = none gf128 gf128Laws (getD X j (element 0))
 shared-half n j X (e ∷ es) [] a h = absurd (omega arith)
 shared-half n j X (e ∷ es) (w ∷ ws) a h =
@@ -101,11 +104,13 @@ shared-half n j X (e ∷ es) (w ∷ ws) a h =
     behind : (n j : ℕ) (w X : List Element) → length w ≡ n → getD (w ++ X) (n + j) (element 0) ≡ getD X j (element 0)
     behind n j w X h = ap (λ (k : ℕ). getD (w ++ X) (k + j) (element 0)) (sym h) ∙ getD-append-add w X j (element 0)
 
-all-vectors : (n k : ℕ) (X : List Element) (ws : List (List Element)) → AllLength gf128 n ws → n + length X ≡ k → AllLength gf128 k (vectors gf128 ws X)
+all-vectors : (n k : ℕ) (X : List Element) (ws : List (List Element)) → AllLength gf128 n ws → n + length X ≡ k
+    → AllLength gf128 k (vectors gf128 ws X)
 all-vectors n k X [] a h = tt
 all-vectors n k X (w ∷ ws) a h = (length-append w X ∙ omega (arith, a .0), all-vectors n k X ws (a .1) h)
 
-module _ (r : Relation) (b : Batch) (x : List ℕ) (D : Draws) (R : SizedRelation r) (B : SizedBatch r b) (C : Cut r D) (px : suc (length x) ≡ r .m / 2) where
+module _ (r : Relation) (b : Batch) (x : List ℕ) (D : Draws) (R : SizedRelation r) (B : SizedBatch r b) (C : Cut r D)
+    (px : suc (length x) ≡ r .m / 2) where
   half : ℕ
   half = r .m / 2
 
@@ -140,44 +145,58 @@ module _ (r : Relation) (b : Batch) (x : List ℕ) (D : Draws) (R : SizedRelatio
   foldedZ-length = length-append (folded (r .q) half b point) (1 ∷ x) ∙ ap₂ _+_ bits-length px ∙ two-halves
 
   -- column y of a login
-  column : (y u : ℕ) → u < r .q → getD (map (λ (z : List Element). getD z y (element 0)) zs) u (element 0) ≡ getD (els (getD b u []) ++ publicE x) y (element 0)
+  column : (y u : ℕ) → u < r .q → getD (map (λ (z : List Element). getD z y (element 0)) zs) u (element 0)
+      ≡ getD (els (getD b u []) ++ publicE x) y (element 0)
   column y u h =
-      map-at (λ (z : List Element). getD z y (element 0)) zs u (element 0) [] (rw (length-map (batchE b) (λ (w : List Element). w ++ publicE x), length-map b els) (omega (arith, B .logins)))
-      ∙ ap (λ (z : List Element). getD z y (element 0)) (map-at (λ (w : List Element). w ++ publicE x) (batchE b) u [] [] (rw (length-map b els) (omega (arith, B .logins)))
+      map-at (λ (z : List Element). getD z y (element 0)) zs u (element 0) []
+      (rw (length-map (batchE b) (λ (w : List Element). w ++ publicE x), length-map b els) (omega (arith, B .logins)))
+      ∙ ap (λ (z : List Element). getD z y (element 0)) (map-at (λ (w : List Element). w ++ publicE x) (batchE b) u [] []
+      (rw (length-map b els) (omega (arith, B .logins)))
       ∙ ap (λ (w : List Element). w ++ publicE x) (map-at els b u [] [] (omega (arith, B .logins))))
 
-  low-column : (y : ℕ) → y < half → getD (fold gf128 (2 ^ suc (logHalf r)) (eqTableE gf128 (els point)) zs) y (element 0) ≡ element (foldedAt (r .q) b point y)
+  low-column : (y : ℕ) → y < half → getD (fold gf128 (2 ^ suc (logHalf r)) (eqTableE gf128 (els point)) zs) y (element 0)
+      ≡ element (foldedAt (r .q) b point y)
   unfolding foldedAt half
   low-column y h =
       fold-at (2 ^ suc (logHalf r)) (eqTableE gf128 (els point)) zs y
       ∙ eq-dot point (map (λ (z : List Element). getD z y (element 0)) zs) (r .q) (λ u. bitOf b u y) logins-pow
-      (length-map zs (λ (z : List Element). getD z y (element 0)) ∙ length-map (batchE b) (λ (w : List Element). w ++ publicE x) ∙ length-map b els ∙ B .logins)
-      (λ u k. column y u k ∙ List·getD-append (els (getD b u [])) (publicE x) (element 0) y (rw (length-map (getD b u []) element, B .columns u k) h) ∙ els-at (getD b u []) y ∙ unfold bitOf in refl)
+      (length-map zs (λ (z : List Element). getD z y (element 0)) ∙ length-map (batchE b) (λ (w : List Element). w ++ publicE x)
+      ∙ length-map b els ∙ B .logins)
+      (λ u k. column y u k ∙ List·getD-append (els (getD b u [])) (publicE x) (element 0) y
+      (rw (length-map (getD b u []) element, B .columns u k) h) ∙ els-at (getD b u []) y ∙ unfold bitOf in refl)
 
-  high-column : (j : ℕ) → getD (fold gf128 (2 ^ suc (logHalf r)) (eqTableE gf128 (els point)) zs) (half + j) (element 0) ≡ element (getD (1 ∷ x) j 0)
+  high-column : (j : ℕ) → getD (fold gf128 (2 ^ suc (logHalf r)) (eqTableE gf128 (els point)) zs) (half + j) (element 0)
+      ≡ element (getD (1 ∷ x) j 0)
   high-column j =
       fold-at (2 ^ suc (logHalf r)) (eqTableE gf128 (els point)) zs (half + j)
       ∙ shared-half half j (publicE x) (eqTableE gf128 (els point)) (batchE b) bits
-      (length-map b els ∙ B .logins ∙ logins-pow ∙ ap (λ (k : ℕ). 2 ^ k) (sym (length-map point element)) ∙ sym (length-eqTable gf128 gf128Laws (els point)))
-      ∙ ap (λ (e : Element). product e (getD (publicE x) j (element 0))) (eq-total gf128 gf128Laws (els point)) ∙ one gf128 gf128Laws (getD (publicE x) j (element 0)) ∙ els-at (1 ∷ x) j
+      (length-map b els ∙ B .logins ∙ logins-pow ∙ ap (λ (k : ℕ). 2 ^ k) (sym (length-map point element))
+      ∙ sym (length-eqTable gf128 gf128Laws (els point)))
+      ∙ ap (λ (e : Element). product e (getD (publicE x) j (element 0))) (eq-total gf128 gf128Laws (els point))
+      ∙ one gf128 gf128Laws (getD (publicE x) j (element 0)) ∙ els-at (1 ∷ x) j
 
   pub folded-is : els (foldedZ r b x D) ≡ foldedE gf128 (relationE r) (publicE x) (batchE b) (els (D .shared))
   unfolding foldedZ loginPoint point half
   folded-is =
       ext-getD (element 0) (els (folded (r .q) half b point ++ (1 ∷ x))) (fold gf128 (2 ^ suc (logHalf r)) (eqTableE gf128 (els point)) zs)
       (length-map (folded (r .q) half b point ++ (1 ∷ x)) element ∙ foldedZ-length
-      ∙ sym (length-fold gf128 gf128Laws (2 ^ suc (logHalf r)) (eqTableE gf128 (els point)) zs (all-vectors half (2 ^ suc (logHalf r)) (publicE x) (batchE b) bits (ap (λ (k : ℕ). half + k) (length-map (1 ∷ x) element ∙ px) ∙ two-halves))))
+      ∙ sym (length-fold gf128 gf128Laws (2 ^ suc (logHalf r)) (eqTableE gf128 (els point)) zs
+      (all-vectors half (2 ^ suc (logHalf r)) (publicE x) (batchE b) bits
+      (ap (λ (k : ℕ). half + k) (length-map (1 ∷ x) element ∙ px) ∙ two-halves))))
       (λ y h. els-at (folded (r .q) half b point ++ (1 ∷ x)) y ∙ each y (ltb y half) refl)
       ∙ ap (λ (p : List Element). fold gf128 (2 ^ suc (logHalf r)) (eqTableE gf128 p) zs) (map-reverse element (D .shared))
     where
-      each : (y : ℕ) (t : Bool) → ltb y half ≡ t → element (getD (folded (r .q) half b point ++ (1 ∷ x)) y 0) ≡ getD (fold gf128 (2 ^ suc (logHalf r)) (eqTableE gf128 (els point)) zs) y (element 0)
+      each : (y : ℕ) (t : Bool) → ltb y half ≡ t → element (getD (folded (r .q) half b point ++ (1 ∷ x)) y 0)
+          ≡ getD (fold gf128 (2 ^ suc (logHalf r)) (eqTableE gf128 (els point)) zs) y (element 0)
       each y true e =
           let h : y < half = ltb-true y half e in
           ap element (List·getD-append (folded (r .q) half b point) (1 ∷ x) 0 y (rw bits-length h) ∙ bit-at y h) ∙ sym (low-column y h)
       each y false e =
           let h : half ≤ y = ltb-false y half e in
-          subst (λ (k : ℕ). element (getD (folded (r .q) half b point ++ (1 ∷ x)) k 0) ≡ getD (fold gf128 (2 ^ suc (logHalf r)) (eqTableE gf128 (els point)) zs) k (element 0)) (back half y h)
-          (ap element (ap (λ (k : ℕ). getD (folded (r .q) half b point ++ (1 ∷ x)) (k + (y - half)) 0) (sym bits-length) ∙ getD-append-add (folded (r .q) half b point) (1 ∷ x) (y - half) 0) ∙ sym (high-column (y - half)))
+          subst (λ (k : ℕ). element (getD (folded (r .q) half b point ++ (1 ∷ x)) k 0)
+          ≡ getD (fold gf128 (2 ^ suc (logHalf r)) (eqTableE gf128 (els point)) zs) k (element 0)) (back half y h)
+          (ap element (ap (λ (k : ℕ). getD (folded (r .q) half b point ++ (1 ∷ x)) (k + (y - half)) 0) (sym bits-length)
+          ∙ getD-append-add (folded (r .q) half b point) (1 ∷ x) (y - half) 0) ∙ sym (high-column (y - half)))
         where
           back : (h y : ℕ) → h ≤ y → h + (y - h) ≡ y
           back h y l = omega arith

@@ -48,7 +48,8 @@ gap : (c o : ℕ) (w : List ℕ) → ((y : ℕ) → c ≤ y → y < o → getD w
 gap c o w z =
     zeros-of (take (o - c) (drop c (els w))) (λ i h.
     let s : i < o - c = omega (arith, length-take (o - c) (drop c (els w))) in
-    getD-take (o - c) (drop c (els w)) i (element 0) s ∙ getD-drop c (els w) i (element 0) ∙ els-at w (c + i) ∙ ap element (z (c + i) (omega arith) (omega arith)))
+    getD-take (o - c) (drop c (els w)) i (element 0) s ∙ getD-drop c (els w) i (element 0) ∙ els-at w (c + i)
+    ∙ ap element (z (c + i) (omega arith) (omega arith)))
 
 -- the login's bits w: zero from c on at every column that no segment from c on holds
 laid-from : (v n c : ℕ) (ns w : List ℕ) → every (isLength v) ns ≡ true → endFrom c ns ≤ n → length w ≤ n
@@ -65,8 +66,10 @@ laid-from v n c (k ∷ ns) w e f l z =
     let ends : o + k ≤ endFrom (o + k) ns = end-least v (o + k) ns (p .1) in
     lay (record { logLen = log₂ k; number = o / k }) (segmentsE (offsetsFrom (o + k) ns) ns) c n o k (els w)
     (ap (λ (s : ℕ). o / k * s) (sym (p .0 .power)) ∙ next-aligned c k (p .0 .least)) (sym (p .0 .power)) least (omega (arith, ends))
-    (gap c o w (λ y h₁ h₂. z y h₁ (omega (arith, ends)) (before o k y (within (offsetsFrom (o + k) ns) ns y) h₂ (none-below v (o + k) ns y (p .1) (omega arith)))))
-    (laid-from v n (o + k) ns w (p .1) f l (λ y h₁ h₂ h₃. z y (omega (arith, least)) h₂ (behind o k y (within (offsetsFrom (o + k) ns) ns y) h₁ h₃)))
+    (gap c o w (λ y h₁ h₂. z y h₁ (omega (arith, ends))
+    (before o k y (within (offsetsFrom (o + k) ns) ns y) h₂ (none-below v (o + k) ns y (p .1) (omega arith)))))
+    (laid-from v n (o + k) ns w (p .1) f l (λ y h₁ h₂ h₃. z y (omega (arith, least)) h₂
+    (behind o k y (within (offsetsFrom (o + k) ns) ns y) h₁ h₃)))
 
 -- ---- every login
 logins-laid : (v n : ℕ) (ns : List ℕ) (b : Batch) → every (isLength v) ns ≡ true → endFrom 0 ns ≤ n
@@ -79,7 +82,8 @@ logins-laid v n ns (w ∷ b) e f l z = (
   logins-laid v n ns b e f (λ u h. l (suc u) (omega arith)) (λ u y h₁ h₂ h₃. z (suc u) y (omega arith) h₂ h₃),
 )
 
-pub laid-out : (r : Relation) (b : Batch) → SizedRelation r → SizedBatch r b → NoStray r b → AllLaid gf128 (r .m / 2) (segmentsE (offsets (r .lengths)) (r .lengths)) (batchE b)
+pub laid-out : (r : Relation) (b : Batch) → SizedRelation r → SizedBatch r b → NoStray r b
+    → AllLaid gf128 (r .m / 2) (segmentsE (offsets (r .lengths)) (r .lengths)) (batchE b)
 unfolding offsets layoutEnd outside bitOf
 laid-out r b R B z =
     logins-laid (r .m / 2) (r .m / 2) (r .lengths) b (R .layout .lengths) (R .layout .ends)

@@ -8,6 +8,7 @@ pub mod LaidOut
 pub mod Pieces
 pub mod SizeFacts
 pub mod Verdict
+pub mod Phases
 pub mod Combined
 pub mod SegmentSums
 pub mod AcceptedRun
@@ -22,3 +23,4 @@ pub mod HonestBelow
 pub mod HonestRun
 pub mod Completeness
 pub mod Examples
+pub mod ExampleRun

@@ -34,14 +34,18 @@ module _ (r : Relation) (w : List ℕ) where
   pub bin-are : (wordsE r w) .binMs ≡ map els (binMessages r w)
   unfolding binMessages
   bin-are =
-      ap₂ _++_ (rounds-are (logLogins r) 8 4 0 w (λ i. 8 * i) (λ i. omega arith)) (rounds-are (logBin r) 4 4 (8 * logLogins r) w (λ i. 8 * logLogins r + 4 * i) (λ i. refl))
-      ∙ sym (map-append els (tabulate (λ i. take 4 (drop (8 * i) w)) (logLogins r)) (tabulate (λ i. take 4 (drop (8 * logLogins r + 4 * i) w)) (logBin r)))
+      ap₂ _++_ (rounds-are (logLogins r) 8 4 0 w (λ i. 8 * i) (λ i. omega arith))
+      (rounds-are (logBin r) 4 4 (8 * logLogins r) w (λ i. 8 * logLogins r + 4 * i) (λ i. refl))
+      ∙ sym (map-append els (tabulate (λ i. take 4 (drop (8 * i) w)) (logLogins r))
+      (tabulate (λ i. take 4 (drop (8 * logLogins r + 4 * i) w)) (logBin r)))
 
   pub fld-are : (wordsE r w) .fldMs ≡ map els (fldMessages r w)
   unfolding fldMessages
   fld-are =
-      ap₂ _++_ (rounds-are (logLogins r) 8 4 4 w (λ i. 8 * i + 4) (λ i. omega arith)) (rounds-are (logFld r) 4 4 (8 * logLogins r + 4 * logBin r) w (λ i. 8 * logLogins r + 4 * logBin r + 4 * i) (λ i. refl))
-      ∙ sym (map-append els (tabulate (λ i. take 4 (drop (8 * i + 4) w)) (logLogins r)) (tabulate (λ i. take 4 (drop (8 * logLogins r + 4 * logBin r + 4 * i) w)) (logFld r)))
+      ap₂ _++_ (rounds-are (logLogins r) 8 4 4 w (λ i. 8 * i + 4) (λ i. omega arith))
+      (rounds-are (logFld r) 4 4 (8 * logLogins r + 4 * logBin r) w (λ i. 8 * logLogins r + 4 * logBin r + 4 * i) (λ i. refl))
+      ∙ sym (map-append els (tabulate (λ i. take 4 (drop (8 * i + 4) w)) (logLogins r))
+      (tabulate (λ i. take 4 (drop (8 * logLogins r + 4 * logBin r + 4 * i) w)) (logFld r)))
 
   module _ (cols : logCols r ≡ suc (logHalf r)) where
     pub inner-are : (wordsE r w) .innerMs ≡ map els (innerRounds r w)

@@ -44,7 +44,8 @@ added : (k i : ℕ) (v : Element) (t : List Element) → i < length t
 added k i v t h = go (eqb k i) refl
   where
     go : (p : Bool) → eqb k i ≡ p → getD (addAt gf128 k v t) i (element 0) ≡ sum (cond p v (element 0)) (getD t i (element 0))
-    go true e = subst (λ (j : ℕ). getD (addAt gf128 k v t) j (element 0) ≡ sum v (getD t j (element 0))) (eqb-true k i e) (added-here k v t (omega (arith, eqb-true k i e)))
+    go true e = subst (λ (j : ℕ). getD (addAt gf128 k v t) j (element 0) ≡ sum v (getD t j (element 0))) (eqb-true k i e)
+        (added-here k v t (omega (arith, eqb-true k i e)))
     go false e = added-elsewhere k i v t (eqb-false k i e) ∙ zero-sum (getD t i (element 0))
 
 element-cond : (p : Bool) (n : ℕ) → element (cond p n 0) ≡ cond p (element n) (element 0)
@@ -58,7 +59,8 @@ unfolding rowTotal sumOver share
 apply-at n [] z i h = getD-replicate n i (element 0) (element 0) h
 apply-at n (e ∷ es) z i h =
     added (e .row) i (product (element (e .value)) (getD (els z) (e .col) (element 0))) (apply gf128 n (map entryE es) (els z)) small
-    ∙ ap₂ sum (sym (element-cond (eqb (e .row) i) (e .value ⊗ getD z (e .col) 0) ∙ ap (λ (v : Element). cond (eqb (e .row) i) v (element 0)) value)) (apply-at n es z i h)
+    ∙ ap₂ sum (sym (element-cond (eqb (e .row) i) (e .value ⊗ getD z (e .col) 0)
+    ∙ ap (λ (v : Element). cond (eqb (e .row) i) v (element 0)) value)) (apply-at n es z i h)
     ∙ sym (element-⊕ (cond (eqb (e .row) i) (e .value ⊗ getD z (e .col) 0) 0) (rowTotal (share z) es i))
   where
     small : i < length (apply gf128 n (map entryE es) (els z))
@@ -67,21 +69,25 @@ apply-at n (e ∷ es) z i h =
     value : element (e .value ⊗ getD z (e .col) 0) ≡ product (element (e .value)) (getD (els z) (e .col) (element 0))
     value = element-⊗ (e .value) (getD z (e .col) 0) ∙ ap (product (element (e .value))) (sym (els-at z (e .col)))
 
-pub times-at : (n : ℕ) (m : Matrix) (z : List ℕ) (i : ℕ) → i < n → getD (apply gf128 n (entriesE m) (els z)) i (element 0) ≡ element (timesAt m z i)
+pub times-at : (n : ℕ) (m : Matrix) (z : List ℕ) (i : ℕ) → i < n
+    → getD (apply gf128 n (entriesE m) (els z)) i (element 0) ≡ element (timesAt m z i)
 unfolding timesAt
 times-at n m z i h = apply-at n (m .entries) z i h
 
 -- the column sums are the product with the transpose
-pub columns-swapped : (n : ℕ) (es : List Entry) (e : List Element) → columns gf128 n (map entryE es) e ≡ apply gf128 n (map entryE (map swapped es)) e
+pub columns-swapped : (n : ℕ) (es : List Entry) (e : List Element)
+    → columns gf128 n (map entryE es) e ≡ apply gf128 n (map entryE (map swapped es)) e
 columns-swapped n [] e = refl
-columns-swapped n (x ∷ es) e = ap (addAt gf128 (x .col) (product (element (x .value)) (getD e (x .row) (element 0)))) (columns-swapped n es e)
+columns-swapped n (x ∷ es) e = ap (addAt gf128 (x .col) (product (element (x .value)) (getD e (x .row) (element 0))))
+    (columns-swapped n es e)
 
 -- entry y of the table of the matrix at the row point p, of n columns
 pub table-at : (n : ℕ) (m : Matrix) (p : List ℕ) (y : ℕ) → m .cols ≡ n → y < n
     → getD (columns gf128 n (entriesE m) (eqTableE gf128 (els p))) y (element 0) ≡ element (getD (mleTable m p) y 0)
 unfolding mleTable times transpose timesAt
 table-at n m p y e h =
-    ap (λ (t : List Element). getD t y (element 0)) (ap (columns gf128 n (entriesE m)) (sym (element-eqTable p)) ∙ columns-swapped n (m .entries) (els (eqTable p)))
+    ap (λ (t : List Element). getD t y (element 0)) (ap (columns gf128 n (entriesE m)) (sym (element-eqTable p))
+    ∙ columns-swapped n (m .entries) (els (eqTable p)))
     ∙ apply-at n (map swapped (m .entries)) (eqTable p) y h
     ∙ ap element (sym (tabulate-get (timesAt (transpose m) (eqTable p)) (m .cols) y 0 (omega arith)))
 
@@ -97,4 +103,5 @@ cond-lt false n h = pow-pos 128
 
 pub timesAt-lt : (m : Matrix) (z : List ℕ) (i : ℕ) → timesAt m z i < 2 ^ 128
 unfolding timesAt rowTotal share
-timesAt-lt m z i = sumOver-lt _ (λ e. cond-lt (eqb (e .row) i) (e .value ⊗ getD z (e .col) 0) (⊗-lt (e .value) (getD z (e .col) 0))) (m .entries)
+timesAt-lt m z i = sumOver-lt _ (λ e. cond-lt (eqb (e .row) i) (e .value ⊗ getD z (e .col) 0) (⊗-lt (e .value) (getD z (e .col) 0)))
+    (m .entries)

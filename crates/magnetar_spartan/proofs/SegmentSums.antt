@@ -55,26 +55,31 @@ place-at low k o n h l e f p =
 
 module _ (r : Relation) (D : Draws) (R : SizedRelation r) (C : Cut r D) where
   sum-from : (i : ℕ) (vs : List ℕ) → i + length vs ≡ length (r .lengths)
-      → segSum gf128 (segmentsE (drop i (offsets (r .lengths))) (drop i (r .lengths))) (els (lowPoint r D)) (els vs) ≡ element (segmentSum r D i vs)
+      → segSum gf128 (segmentsE (drop i (offsets (r .lengths))) (drop i (r .lengths))) (els (lowPoint r D)) (els vs)
+      ≡ element (segmentSum r D i vs)
   unfolding segmentSum
   sum-from i [] h = nothing i (omega arith)
     where
-      nothing : (i : ℕ) → length (r .lengths) ≤ i → segSum gf128 (segmentsE (drop i (offsets (r .lengths))) (drop i (r .lengths))) (els (lowPoint r D)) [] ≡ element 0
+      nothing : (i : ℕ) → length (r .lengths) ≤ i → segSum gf128 (segmentsE (drop i (offsets (r .lengths))) (drop i (r .lengths)))
+          (els (lowPoint r D)) [] ≡ element 0
       nothing i k = rw (drop-of-length-le (offsets (r .lengths)) {i = i} (unfold offsets in rw (offsets-length 0 (r .lengths)) k))
   sum-from i (v ∷ vs) h =
       ap₂ (λ (os ns : List ℕ). segSum gf128 (segmentsE os ns) (els (lowPoint r D)) (element v ∷ els vs))
       (drop-cons (offsets (r .lengths)) i 0 (many (omega arith))) (drop-cons (r .lengths) i 0 (omega arith))
-      ∙ ap₂ sum (ap (λ (e : Element). product e (element v)) (first i (omega arith)) ∙ sym (element-⊗ _ v)) (sum-from (suc i) vs (omega arith))
+      ∙ ap₂ sum (ap (λ (e : Element). product e (element v)) (first i (omega arith)) ∙ sym (element-⊗ _ v))
+      (sum-from (suc i) vs (omega arith))
       ∙ sym (element-⊕ _ (segmentSum r D (suc i) vs))
     where
       many : i < length (r .lengths) → i < length (offsets (r .lengths))
       many k = unfold offsets in rw (offsets-length 0 (r .lengths)) k
 
-      first : (i : ℕ) → i < length (r .lengths) → getD (eqTableE gf128 (drop (log₂ (getD (r .lengths) i 0)) (els (lowPoint r D)))) (offset (r .lengths) i / getD (r .lengths) i 0) (element 0)
+      first : (i : ℕ) → i < length (r .lengths) → getD (eqTableE gf128 (drop (log₂ (getD (r .lengths) i 0)) (els (lowPoint r D))))
+          (offset (r .lengths) i / getD (r .lengths) i 0) (element 0)
           ≡ element (eqAt (drop (localVars (r .lengths) i) (lowPoint r D)) (suffix (r .lengths) i))
       first i k =
           let p = placed (r .m / 2) (r .lengths) i (R .layout) k in
-          place-at (lowPoint r D) (log₂ (getD (r .lengths) i 0)) (offset (r .lengths) i) (getD (r .lengths) i 0) (logHalf r) (low-size r R D C) (p .size .power)
+          place-at (lowPoint r D) (log₂ (getD (r .lengths) i 0)) (offset (r .lengths) i) (getD (r .lengths) i 0) (logHalf r)
+          (low-size r R D C) (p .size .power)
           (omega (arith, p .ends, half-pow r R)) (p .size .least)
 
   pub segments-sum : (vs : List ℕ) → length vs ≡ length (r .lengths)

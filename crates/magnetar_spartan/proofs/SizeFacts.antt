@@ -52,7 +52,8 @@ cut r d h = record {
   rowBin = part-length d (logLogins r + logBin r + (logLogins r + logFld r) + logLogins r) (logBin r) (omega arith);
   rowFld = part-length d (logLogins r + logBin r + (logLogins r + logFld r) + logLogins r + logBin r) (logFld r) (omega arith);
   alphas = part-length d (logLogins r + logBin r + (logLogins r + logFld r) + logLogins r + logBin r + logFld r) 6 (omega arith);
-  inner = part-length d (logLogins r + logBin r + (logLogins r + logFld r) + logLogins r + logBin r + logFld r + 6) (logCols r) (omega arith);
+  inner = part-length d (logLogins r + logBin r + (logLogins r + logFld r) + logLogins r + logBin r + logFld r + 6) (logCols r)
+      (omega arith);
 }
 
 -- n elements from a on, and the rest
@@ -68,9 +69,19 @@ join r d h = go (logLogins r) (logBin r) (logFld r) (logCols r) h
   where
     go : (s b f c : ℕ) → length d ≡ (s + b) + ((s + f) + (s + (b + (f + (6 + c)))))
         → take (s + b) d ++ (take (s + f) (drop (s + b) d) ++ (take s (drop (s + b + (s + f)) d) ++ (take b (drop (s + b + (s + f) + s) d)
-        ++ (take f (drop (s + b + (s + f) + s + b) d) ++ (take 6 (drop (s + b + (s + f) + s + b + f) d) ++ take c (drop (s + b + (s + f) + s + b + f + 6) d)))))) ≡ d
+        ++ (take f (drop (s + b + (s + f) + s + b) d) ++ (take 6 (drop (s + b + (s + f) + s + b + f) d)
+        ++ take c (drop (s + b + (s + f) + s + b + f + 6) d)))))) ≡ d
     go s b f c h =
-        rw (take-all c (drop (s + b + (s + f) + s + b + f + 6) d) (rw length-drop (omega arith)), split d (s + b + (s + f) + s + b + f) 6, split d (s + b + (s + f) + s + b) f, split d (s + b + (s + f) + s) b, split d (s + b + (s + f)) s, split d (s + b) (s + f))
+        rw (
+          take-all c (drop (s + b + (s + f) + s + b + f + 6) d) (rw length-drop (omega arith)),
+          split d
+              (s + b + (s + f) + s + b + f) 6,
+          split d (s + b + (s + f) + s + b) f,
+          split d (s + b + (s + f) + s) b,
+          split d
+              (s + b + (s + f)) s,
+          split d (s + b) (s + f),
+        )
         (take-append-drop (s + b) d)
 
 module _ (r : Relation) (R : SizedRelation r) (D : Draws) (C : Cut r D) where
@@ -79,7 +90,8 @@ module _ (r : Relation) (R : SizedRelation r) (D : Draws) (C : Cut r D) where
   unfolding lowPoint topElement
   inner-is =
       sym (map-append element (take (logHalf r) (D .inner)) (getD (D .inner) (logHalf r) 0 ∷ []))
-      ∙ ap els (sym (take-suc (D .inner) (logHalf r) 0 (omega (arith, C .inner, cols-suc r R))) ∙ take-all (suc (logHalf r)) (D .inner) (omega (arith, C .inner, cols-suc r R)))
+      ∙ ap els (sym (take-suc (D .inner) (logHalf r) 0 (omega (arith, C .inner, cols-suc r R)))
+      ∙ take-all (suc (logHalf r)) (D .inner) (omega (arith, C .inner, cols-suc r R)))
 
   pub low-size : length (lowPoint r D) ≡ logHalf r
   unfolding lowPoint
@@ -90,4 +102,13 @@ pub flat : (r : Relation) (d : List ℕ) → SizedRelation r → length d ≡ dr
 flat r d R h = parts (drawsOf r d) (inner-is r R (drawsOf r d) (cut r d h)) ∙ ap els (join r d h)
   where
     parts : (D : Draws) → els (lowPoint r D) ++ (element (topElement r D) ∷ []) ≡ els (D .inner) → drawn gf128 (drawsE r D) ≡ els (joined D)
-    parts D e = rw (e, map-append element (D .tauBin), map-append element (D .tauFld), map-append element (D .shared), map-append element (D .rowBin), map-append element (D .rowFld), map-append element (D .alphas))
+    parts D e = rw (
+      e,
+      map-append element (D .tauBin),
+      map-append element (D .tauFld),
+      map-append element (D .shared),
+      map-append element
+          (D .rowBin),
+      map-append element (D .rowFld),
+      map-append element (D .alphas),
+    )

@@ -61,7 +61,8 @@ module _ (r : Relation) (b : Batch) (x w d : List ℕ) where
   as-numbers below (k, h, m) = (
     k,
     small,
-    subst₂ (λ (a : ℕ) (l : List ℕ). List·Memᴰ a l) (ap number (els-at d k) ∙ number-of (getD d k 0) (below k)) (list-is k (omega (arith, small))) (number-mem m),
+    subst₂ (λ (a : ℕ) (l : List ℕ). List·Memᴰ a l) (ap number (els-at d k) ∙ number-of (getD d k 0) (below k))
+        (list-is k (omega (arith, small))) (number-mem m),
   )
     where
       small : k < length d
@@ -72,8 +73,10 @@ module _ (r : Relation) (b : Batch) (x w d : List ℕ) where
       → sumTo (length d) (λ k. length (badDraws r b x (take (absorbedBefore r k) w) (take k d)))
       ≤ 4 * (logLogins r + max (logBin r) (logFld r)) + 1 + 2 * logCols r
   all-lists R h =
-      total-at-most (met gf128 whole (els d)) (sums (length d) (λ k. length (badDraws r b x (take (absorbedBefore r k) w) (take k d))) (λ k. length (listE (take k (els d)))) each ∙ same)
-      (met-lists gf128 gf128Laws (logLogins r) (relationE r) (publicE x) (batchE b) (els w) (els d) (omega (arith, length-map d element, cols-suc r R)))
+      total-at-most (met gf128 whole (els d)) (sums (length d) (λ k. length (badDraws r b x (take (absorbedBefore r k) w) (take k d)))
+      (λ k. length (listE (take k (els d)))) each ∙ same)
+      (met-lists gf128 gf128Laws (logLogins r) (relationE r) (publicE x) (batchE b) (els w) (els d)
+      (omega (arith, length-map d element, cols-suc r R)))
     where
       whole : List Element → List Element
       whole = lists gf128 (logLogins r) (relationE r) (publicE x) (batchE b) (els w)
@@ -127,7 +130,8 @@ module _ (r : Relation) (b : Batch) (x w d : List ℕ) where
           (sound (relationE r) (publicE x) (batchE b) (els w) E (sizes r b D R (S .run .batch) C x (S .run .public) stray)
           (subst (λ (s : ℕ). Accepted gf128 (relationE r) (publicE x) E (wordsOf gf128 s (relationE r) (els w))) (sym count)
           (accepted r x w D R C (S .words) (holds-of r x w D C v)))
-          (subst (λ (s : ℕ). (wordsOf gf128 s (relationE r) (els w)) .values ≡ map (trueValueE gf128 E (batchE b)) ((relationE r) .segs)) (sym count)
+          (subst (λ (s : ℕ). (wordsOf gf128 s (relationE r) (els w)) .values ≡ map (trueValueE gf128 E (batchE b)) ((relationE r) .segs))
+          (sym count)
           (true-claims r b D R (S .run .batch) C w (S .words) (true-values r R D C (segmentValues r w) b true))))
 
       go : Found (logLogins r) (els d) → Good r b x ⊎ BadDraw r b x w d

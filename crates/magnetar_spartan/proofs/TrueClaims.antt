@@ -40,12 +40,15 @@ module _ (r : Relation) (b : Batch) (D : Draws) (R : SizedRelation r) (B : Sized
   sizes x px stray = record {
     logins = length-map b els ∙ B .logins ∙ logins-pow ∙ ap (λ (k : ℕ). 2 ^ k) (sym (length-map (D .shared) element));
     bits = all-length (2 ^ logHalf r) b (λ u k. B .columns u (omega (arith, B .logins)) ∙ half-pow r R);
-    laid = subst (λ (n : ℕ). AllLaid gf128 n (segmentsE (offsets (r .lengths)) (r .lengths)) (batchE b)) (half-pow r R) (laid-out r b R B stray);
+    laid = subst (λ (n : ℕ). AllLaid gf128 n (segmentsE (offsets (r .lengths)) (r .lengths)) (batchE b)) (half-pow r R)
+        (laid-out r b R B stray);
     public = length-map (1 ∷ x) element ∙ px ∙ half-pow r R;
     rows-bin = length-map (D .rowBin) element ∙ C .rowBin;
     rows-fld = length-map (D .rowFld) element ∙ C .rowFld;
-    taus-bin = length-map (D .tauBin) element ∙ C .tauBin ∙ ap₂ _+_ (sym (C .shared) ∙ sym (length-map (D .shared) element)) (sym (C .rowBin) ∙ sym (length-map (D .rowBin) element));
-    taus-fld = length-map (D .tauFld) element ∙ C .tauFld ∙ ap₂ _+_ (sym (C .shared) ∙ sym (length-map (D .shared) element)) (sym (C .rowFld) ∙ sym (length-map (D .rowFld) element));
+    taus-bin = length-map (D .tauBin) element ∙ C .tauBin
+        ∙ ap₂ _+_ (sym (C .shared) ∙ sym (length-map (D .shared) element)) (sym (C .rowBin) ∙ sym (length-map (D .rowBin) element));
+    taus-fld = length-map (D .tauFld) element ∙ C .tauFld
+        ∙ ap₂ _+_ (sym (C .shared) ∙ sym (length-map (D .shared) element)) (sym (C .rowFld) ∙ sym (length-map (D .rowFld) element));
     six-alphas = length-map (D .alphas) element ∙ C .alphas;
     low-size = length-map (lowPoint r D) element ∙ low-size r R D C;
   }
@@ -53,14 +56,20 @@ module _ (r : Relation) (b : Batch) (D : Draws) (R : SizedRelation r) (B : Sized
   -- ---- claims
   -- the true value of segment i
   pub true-is : (i : ℕ) → i < length (r .lengths)
-      → element (trueValue r b D i) ≡ trueValueE gf128 (drawsE r D) (batchE b) (record { logLen = log₂ (getD (r .lengths) i 0); number = offset (r .lengths) i / getD (r .lengths) i 0 })
+      → element (trueValue r b D i) ≡ trueValueE gf128 (drawsE r D) (batchE b) (record {
+        logLen = log₂
+            (getD (r .lengths) i 0);
+        number = offset (r .lengths) i / getD (r .lengths) i 0;
+      })
   unfolding trueValue loginPoint
   true-is i h =
       claim-is (r .q) b (reverse (D .shared)) (take (log₂ n) (lowPoint r D)) o n
       (logins-pow ∙ ap (λ (k : ℕ). 2 ^ k) (sym (length-reverse (D .shared)))) (B .logins)
       (p .size .power ∙ ap (λ (k : ℕ). 2 ^ k) (sym short))
       (λ u k. omega (arith, p .ends, B .columns u k))
-      ∙ (λ j. dotE gf128 (eqTableE gf128 (map-reverse element (D .shared) j)) (map (λ (w : List Element). dotE gf128 (eqTableE gf128 (map-take element (log₂ n) (lowPoint r D) j)) (take (p .size .power j) (drop (place j) w))) (batchE b)))
+      ∙ (λ j. dotE gf128 (eqTableE gf128 (map-reverse element (D .shared) j))
+      (map (λ (w : List Element). dotE gf128 (eqTableE gf128 (map-take element (log₂ n) (lowPoint r D) j))
+      (take (p .size .power j) (drop (place j) w))) (batchE b)))
     where
       n : ℕ
       n = getD (r .lengths) i 0

@@ -61,15 +61,19 @@ module _ (r : Relation) (x w : List ℕ) (D : Draws) where
           suc-right : (i j : ℕ) → i + suc j ≡ suc i + j
           suc-right i j = omega arith
 
-  pass-shared : (i n : ℕ) (rest : List Check) → ((j : ℕ) → j < n → (binRound r x w D (i + j) ≡ true) × (fldRound r x w D (i + j) ≡ true)) → firstRefusal rest ≡ 0
+  pass-shared : (i n : ℕ) (rest : List Check) → ((j : ℕ) → j < n → (binRound r x w D (i + j) ≡ true) × (fldRound r x w D (i + j) ≡ true))
+      → firstRefusal rest ≡ 0
       → firstRefusal (sharedChecks r x w D i n ++ rest) ≡ 0
   unfolding sharedChecks
   pass-shared i zero rest h e = e
   pass-shared i (suc n) rest h e =
-      passes-one 20 (binRound r x w D i) (record { refusal = 22; passes = fldRound r x w D i } ∷ (sharedChecks r x w D (suc i) n ++ rest)) (here i n h .0)
-      (passes-one 21 (fldRound r x w D i) (sharedChecks r x w D (suc i) n ++ rest) (here i n h .1) (pass-shared (suc i) n rest (later i n h) e))
+      passes-one 20 (binRound r x w D i) (record { refusal = 22; passes = fldRound r x w D i } ∷ (sharedChecks r x w D (suc i) n ++ rest))
+      (here i n h .0)
+      (passes-one 21 (fldRound r x w D i) (sharedChecks r x w D (suc i) n ++ rest) (here i n h .1)
+      (pass-shared (suc i) n rest (later i n h) e))
     where
-      here : (i n : ℕ) → ((j : ℕ) → j < suc n → (binRound r x w D (i + j) ≡ true) × (fldRound r x w D (i + j) ≡ true)) → (binRound r x w D i ≡ true) × (fldRound r x w D i ≡ true)
+      here : (i n : ℕ) → ((j : ℕ) → j < suc n → (binRound r x w D (i + j) ≡ true) × (fldRound r x w D (i + j) ≡ true))
+          → (binRound r x w D i ≡ true) × (fldRound r x w D i ≡ true)
       here i n h = subst (λ (k : ℕ). (binRound r x w D k ≡ true) × (fldRound r x w D k ≡ true)) (omega arith) (h 0 (omega arith))
 
       later : (i n : ℕ) → ((j : ℕ) → j < suc n → (binRound r x w D (i + j) ≡ true) × (fldRound r x w D (i + j) ≡ true))
@@ -98,35 +102,44 @@ module _ (r : Relation) (x w : List ℕ) (D : Draws) where
   identical = eqb ((1 ⊕ topElement r D) ⊗ segmentSum r D 0 (segmentValues r w) ⊕ topElement r D ⊗ mle (1 ∷ x) (lowPoint r D)) (valueZ r w)
 
   abbrev fromInner : List Check
-  fromInner = tab 27 innerRound (logCols r) ++ (record { refusal = 28; passes = innerLast } ∷ record { refusal = 29; passes = identical } ∷ [])
+  fromInner = tab 27 innerRound (logCols r) ++ (record { refusal = 28; passes = innerLast } ∷ record { refusal = 29; passes = identical }
+      ∷ [])
 
   abbrev fromEnds : List Check
   fromEnds = record { refusal = 25; passes = binEnd } ∷ record { refusal = 26; passes = fldEnd } ∷ fromInner
 
   abbrev fromRows : List Check
-  fromRows = tab 23 (λ i. binRound r x w D (logLogins r + i)) (logBin r) ++ (tab 24 (λ i. fldRound r x w D (logLogins r + i)) (logFld r) ++ fromEnds)
+  fromRows = tab 23 (λ i. binRound r x w D (logLogins r + i)) (logBin r)
+      ++ (tab 24 (λ i. fldRound r x w D (logLogins r + i)) (logFld r) ++ fromEnds)
 
   opened : checks r x w D ≡ sharedChecks r x w D 0 (logLogins r) ++ fromRows
   unfolding checks rowChecks terminalChecks innerChecks identityCheck binEnd fldEnd innerLast identical
   opened = ap (λ (l : List Check). sharedChecks r x w D 0 (logLogins r) ++ l)
-      (ap (λ (l : List Check). tab 23 (λ i. binRound r x w D (logLogins r + i)) (logBin r) ++ tab 24 (λ i. fldRound r x w D (logLogins r + i)) (logFld r) ++ (record { refusal = 25; passes = binEnd } ∷ record { refusal = 26; passes = fldEnd } ∷ l))
-      (append-assoc (tab 27 innerRound (logCols r)) (record { refusal = 28; passes = innerLast } ∷ []) (record { refusal = 29; passes = identical } ∷ []))
-      ∙ append-assoc (tab 23 (λ i. binRound r x w D (logLogins r + i)) (logBin r)) (tab 24 (λ i. fldRound r x w D (logLogins r + i)) (logFld r)) fromEnds)
+      (ap (λ (l : List Check). tab 23 (λ i. binRound r x w D (logLogins r + i)) (logBin r)
+      ++ tab 24 (λ i. fldRound r x w D (logLogins r + i)) (logFld r) ++ (record { refusal = 25; passes = binEnd }
+      ∷ record { refusal = 26; passes = fldEnd } ∷ l))
+      (append-assoc (tab 27 innerRound (logCols r)) (record { refusal = 28; passes = innerLast } ∷ [])
+      (record { refusal = 29; passes = identical } ∷ []))
+      ∙ append-assoc (tab 23 (λ i. binRound r x w D (logLogins r + i)) (logBin r))
+      (tab 24 (λ i. fldRound r x w D (logLogins r + i)) (logFld r)) fromEnds)
 
   -- ---- sizes
   bin-length : length (binMessages r w) ≡ logLogins r + logBin r
   unfolding binMessages
-  bin-length = length-append (tabulate (λ i. part (8 * i) 4 w) (logLogins r)) _ ∙ ap₂ _+_ (tabulate-length _ (logLogins r)) (tabulate-length _ (logBin r))
+  bin-length = length-append (tabulate (λ i. part (8 * i) 4 w) (logLogins r)) _
+      ∙ ap₂ _+_ (tabulate-length _ (logLogins r)) (tabulate-length _ (logBin r))
 
   fld-length : length (fldMessages r w) ≡ logLogins r + logFld r
   unfolding fldMessages
-  fld-length = length-append (tabulate (λ i. part (8 * i + 4) 4 w) (logLogins r)) _ ∙ ap₂ _+_ (tabulate-length _ (logLogins r)) (tabulate-length _ (logFld r))
+  fld-length = length-append (tabulate (λ i. part (8 * i + 4) 4 w) (logLogins r)) _
+      ∙ ap₂ _+_ (tabulate-length _ (logLogins r)) (tabulate-length _ (logFld r))
 
   inner-length : length (innerRounds r w) ≡ logCols r
   unfolding innerRounds
   inner-length = tabulate-length _ (logCols r)
 
-  either : (f : ℕ → Bool) (s b : ℕ) → ((j : ℕ) → j < s → f j ≡ true) → ((j : ℕ) → j < b → f (s + j) ≡ true) → (i : ℕ) → i < s + b → f i ≡ true
+  either : (f : ℕ → Bool) (s b : ℕ) → ((j : ℕ) → j < s → f j ≡ true) → ((j : ℕ) → j < b → f (s + j) ≡ true) → (i : ℕ) → i < s + b
+      → f i ≡ true
   either f s b h k i l = go (ltb i s) refl
     where
       go : (t : Bool) → ltb i s ≡ t → f i ≡ true
@@ -147,21 +160,26 @@ module _ (r : Relation) (x w : List ℕ) (D : Draws) where
     unfolding binEnd fldEnd innerLast identical
     holds-of e =
         let a = shared-pass 0 (logLogins r) fromRows (subst (λ (l : List Check). firstRefusal l ≡ 0) opened e) in
-        let b = all-pass 22 (λ i. binRound r x w D (logLogins r + i)) (logBin r) (tab 24 (λ i. fldRound r x w D (logLogins r + i)) (logFld r) ++ fromEnds) (a .1) in
+        let b = all-pass 22 (λ i. binRound r x w D (logLogins r + i)) (logBin r)
+        (tab 24 (λ i. fldRound r x w D (logLogins r + i)) (logFld r) ++ fromEnds) (a .1) in
         let c = all-pass 23 (λ i. fldRound r x w D (logLogins r + i)) (logFld r) fromEnds (b .1) in
         let p = one-passes 24 binEnd (record { refusal = 26; passes = fldEnd } ∷ fromInner) (c .1) in
         let q = one-passes 25 fldEnd fromInner (p .1) in
-        let g = all-pass 26 innerRound (logCols r) (record { refusal = 28; passes = innerLast } ∷ record { refusal = 29; passes = identical } ∷ []) (q .1) in
+        let g = all-pass 26 innerRound (logCols r) (record { refusal = 28; passes = innerLast }
+        ∷ record { refusal = 29; passes = identical } ∷ []) (q .1) in
         let t = one-passes 27 innerLast (record { refusal = 29; passes = identical } ∷ []) (g .1) in
         let z = one-passes 28 identical [] (t .1) in
         record {
           bin = rounds-pass 0 (binMessages r w) (D .shared ++ D .rowBin) (bin-length ∙ sym bin-count)
-              (λ i h. either (binRound r x w D) (logLogins r) (logBin r) (λ j k. subst (λ (n : ℕ). binRound r x w D n ≡ true) (zero-add j) (a .0 j k .0)) (b .0) i (rw bin-count at h));
+              (λ i h. either (binRound r x w D) (logLogins r) (logBin r)
+              (λ j k. subst (λ (n : ℕ). binRound r x w D n ≡ true) (zero-add j) (a .0 j k .0)) (b .0) i (rw bin-count at h));
           fld = rounds-pass 0 (fldMessages r w) (D .shared ++ D .rowFld) (fld-length ∙ sym fld-count)
-              (λ i h. either (fldRound r x w D) (logLogins r) (logFld r) (λ j k. subst (λ (n : ℕ). fldRound r x w D n ≡ true) (zero-add j) (a .0 j k .1)) (c .0) i (rw fld-count at h));
+              (λ i h. either (fldRound r x w D) (logLogins r) (logFld r)
+              (λ j k. subst (λ (n : ℕ). fldRound r x w D n ≡ true) (zero-add j) (a .0 j k .1)) (c .0) i (rw fld-count at h));
           bin-end = eqb-true _ _ (p .0);
           fld-end = eqb-true _ _ (q .0);
-          inner = rounds-pass (innerClaim r w D) (innerRounds r w) (D .inner) (inner-length ∙ sym (C .inner)) (λ i h. g .0 i (rw (C .inner) at h));
+          inner = rounds-pass (innerClaim r w D) (innerRounds r w) (D .inner) (inner-length ∙ sym (C .inner))
+              (λ i h. g .0 i (rw (C .inner) at h));
           inner-end = eqb-true _ _ (t .0);
           identity = eqb-true _ _ (z .0);
         }
@@ -171,12 +189,18 @@ module _ (r : Relation) (x w : List ℕ) (D : Draws) where
     of-holds H =
         subst (λ (l : List Check). firstRefusal l ≡ 0) (sym opened)
         (pass-shared 0 (logLogins r) fromRows
-        (λ j k. (subst (λ (n : ℕ). binRound r x w D n ≡ true) (sym (zero-add j)) (bin-at j (omega arith)), subst (λ (n : ℕ). fldRound r x w D n ≡ true) (sym (zero-add j)) (fld-at j (omega arith))))
-        (pass-all 22 (λ i. binRound r x w D (logLogins r + i)) (logBin r) (tab 24 (λ i. fldRound r x w D (logLogins r + i)) (logFld r) ++ fromEnds) (λ j k. bin-at (logLogins r + j) (omega arith))
+        (λ j k. (
+          subst (λ (n : ℕ). binRound r x w D n ≡ true) (sym (zero-add j)) (bin-at j (omega arith)),
+          subst
+              (λ (n : ℕ). fldRound r x w D n ≡ true) (sym (zero-add j)) (fld-at j (omega arith)),
+        ))
+        (pass-all 22 (λ i. binRound r x w D (logLogins r + i)) (logBin r)
+        (tab 24 (λ i. fldRound r x w D (logLogins r + i)) (logFld r) ++ fromEnds) (λ j k. bin-at (logLogins r + j) (omega arith))
         (pass-all 23 (λ i. fldRound r x w D (logLogins r + i)) (logFld r) fromEnds (λ j k. fld-at (logLogins r + j) (omega arith))
         (passes-one 24 binEnd (record { refusal = 26; passes = fldEnd } ∷ fromInner) (eq-eqb _ _ (H .bin-end))
         (passes-one 25 fldEnd fromInner (eq-eqb _ _ (H .fld-end))
-        (pass-all 26 innerRound (logCols r) (record { refusal = 28; passes = innerLast } ∷ record { refusal = 29; passes = identical } ∷ []) (λ j k. pass-rounds (innerClaim r w D) (innerRounds r w) (D .inner) (H .inner) j (rw (C .inner) k))
+        (pass-all 26 innerRound (logCols r) (record { refusal = 28; passes = innerLast } ∷ record { refusal = 29; passes = identical } ∷ [])
+        (λ j k. pass-rounds (innerClaim r w D) (innerRounds r w) (D .inner) (H .inner) j (rw (C .inner) k))
         (passes-one 27 innerLast (record { refusal = 29; passes = identical } ∷ []) (eq-eqb _ _ (H .inner-end))
         (passes-one 28 identical [] (eq-eqb _ _ (H .identity)) nothing))))))))
       where

@@ -94,7 +94,8 @@ module _ (r : Relation) (x w : List ℕ) (d : Draws) where
   identityCheck =
       record {
         refusal = 29;
-        passes = eqb ((1 ⊕ topElement r d) ⊗ segmentSum r d 0 (segmentValues r w) ⊕ topElement r d ⊗ mle (1 ∷ x) (lowPoint r d)) (valueZ r w);
+        passes = eqb ((1 ⊕ topElement r d) ⊗ segmentSum r d 0 (segmentValues r w) ⊕ topElement r d ⊗ mle (1 ∷ x) (lowPoint r d))
+            (valueZ r w);
       }
       ∷ []
 
