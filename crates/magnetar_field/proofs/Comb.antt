@@ -15,7 +15,7 @@ use lib.ListN.{length, getD, set, length-set}
 use lib.Pow.{pow-pos, pow-mono, pow-add, shl-lt, shr-lt, shr-shr, shr-le, split}
 use lib.Seq.{getD-set-same, getD-set-other}
 use Rattle.magnetar_field.specs.Gf128.{_⊕_, _⊗_, timesX}
-use Rattle.magnetar_field.specs.Residue.{residue, entry, Multiples}
+use Rattle.magnetar_field.specs.Residue.{residue, pairAt, Multiples}
 use Rattle.magnetar_field.proofs.Xor.{xor, ⊕-zero, zero-⊕, ⊕-self, ⊕-lt, ⊕-assoc, ⊕-comm, ⊕-four, add-digit, additive-zero}
 use Rattle.magnetar_field.proofs.Product.{xpow, xpow-comm, ⊗-⊕, ⊗-zero, ⊗-one, ⊗-lt}
 use Rattle.magnetar_field.proofs.Reduction.{widen, residue-⊕, residue-small, residue-shift, xpow-⊕, xpow-small, ⊗-shift}
@@ -99,17 +99,17 @@ pub ⊗-odd : (a k : ℕ) → a < 2 ^ 128 → a ⊗ (2 * k + 1) ≡ a ⊗ (2 * k
     let e : 2 * k + 1 ≡ 2 * k ⊕ 1 = ap (λ (x : ℕ). x + 1) (mul-comm 2 k) ∙ sym (add-digit k 1 (lit< tt)) ∙ ap (λ (x : ℕ). x ⊕ 1) (mul-comm k 2) in
     ap (λ (x : ℕ). a ⊗ x) e ∙ ⊗-⊕ a (2 * k) 1 ∙ ap (λ (x : ℕ). a ⊗ (2 * k) ⊕ x) (⊗-one a h)
 
-entry-same : (lo hi : List ℕ) (i l h : ℕ) → i < length lo → i < length hi → entry (set lo i l) (set hi i h) i ≡ h * 2 ^ 64 + l
+entry-same : (lo hi : List ℕ) (i l h : ℕ) → i < length lo → i < length hi → pairAt (set lo i l) (set hi i h) i ≡ h * 2 ^ 64 + l
 entry-same lo hi i l h p q = rw (getD-set-same lo i l 0, getD-set-same hi i h 0)
 
-entry-other : (lo hi : List ℕ) (i k l h : ℕ) → (k ≡ i → ⊥) → entry (set lo i l) (set hi i h) k ≡ entry lo hi k
+entry-other : (lo hi : List ℕ) (i k l h : ℕ) → (k ≡ i → ⊥) → pairAt (set lo i l) (set hi i h) k ≡ pairAt lo hi k
 entry-other lo hi i k l h n = rw (getD-set-other lo i k l 0, getD-set-other hi i k h 0)
 
 pub multiples-start : (a l h : ℕ) (lo hi : List ℕ) → a < 2 ^ 128 → h * 2 ^ 64 + l ≡ a → length lo ≡ 16 → length hi ≡ 16
     → Multiples a (set (set lo 0 0) 1 l) (set (set hi 0 0) 1 h) (2 * 1)
 multiples-start a l h lo hi b e p q = record { low-size = simp length-set p; high-size = simp length-set q; multiple = at }
   where
-    at : (k : ℕ) → k < 2 → entry (set (set lo 0 0) 1 l) (set (set hi 0 0) 1 h) k ≡ a ⊗ k
+    at : (k : ℕ) → k < 2 → pairAt (set (set lo 0 0) 1 l) (set (set hi 0 0) 1 h) k ≡ a ⊗ k
     at zero _ =
         entry-other (set lo 0 0) (set hi 0 0) 1 0 l h (λ z. omega arith) ∙ entry-same lo hi 0 0 0 (omega arith) (omega arith) ∙ sym (⊗-zero a)
     at (suc zero) _ =
@@ -117,7 +117,7 @@ multiples-start a l h lo hi b e p q = record { low-size = simp length-set p; hig
     at (suc (suc k)) x = absurd (omega arith)
 
 module _ (a k : ℕ) (lo hi : List ℕ) (tl th ml mh : ℕ) (b : a < 2 ^ 128) (m : Multiples a lo hi (2 * k)) (pos : 0 < k) (lt : k < 8)
-    (twice : th * 2 ^ 64 + tl ≡ timesX (entry lo hi k)) (more : mh * 2 ^ 64 + ml ≡ th * 2 ^ 64 + tl ⊕ a) where
+    (twice : th * 2 ^ 64 + tl ≡ timesX (pairAt lo hi k)) (more : mh * 2 ^ 64 + ml ≡ th * 2 ^ 64 + tl ⊕ a) where
   nl : length lo ≡ 16
   nl = m .low-size
 
@@ -133,25 +133,25 @@ module _ (a k : ℕ) (lo hi : List ℕ) (tl th ml mh : ℕ) (b : a < 2 ^ 128) (m
   his : List ℕ
   his = set (set hi (2 * k) th) (2 * k + 1) mh
 
-  at-odd : entry los his (2 * k + 1) ≡ a ⊗ (2 * k + 1)
+  at-odd : pairAt los his (2 * k + 1) ≡ a ⊗ (2 * k + 1)
   unfolding los his
   at-odd =
       entry-same (set lo (2 * k) tl) (set hi (2 * k) th) (2 * k + 1) ml mh (rw length-set (omega (arith, nl))) (rw length-set (omega (arith, nh)))
       ∙ more ∙ ap (λ (x : ℕ). x ⊕ a) even ∙ sym (⊗-odd a k b)
 
-  at-even : entry los his (2 * k) ≡ a ⊗ (2 * k)
+  at-even : pairAt los his (2 * k) ≡ a ⊗ (2 * k)
   unfolding los his
   at-even =
       entry-other (set lo (2 * k) tl) (set hi (2 * k) th) (2 * k + 1) (2 * k) ml mh (λ z. omega arith)
       ∙ entry-same lo hi (2 * k) tl th (omega (arith, nl)) (omega (arith, nh)) ∙ even
 
-  at-old : (j : ℕ) → j < 2 * k → entry los his j ≡ a ⊗ j
+  at-old : (j : ℕ) → j < 2 * k → pairAt los his j ≡ a ⊗ j
   unfolding los his
   at-old j h =
       entry-other (set lo (2 * k) tl) (set hi (2 * k) th) (2 * k + 1) j ml mh (λ z. omega arith)
       ∙ entry-other lo hi (2 * k) j tl th (λ z. omega arith) ∙ m .multiple j h
 
-  at-any : (j : ℕ) → j < 2 * (k + 1) → (x y : Bool) → eqb j (2 * k + 1) ≡ x → eqb j (2 * k) ≡ y → entry los his j ≡ a ⊗ j
+  at-any : (j : ℕ) → j < 2 * (k + 1) → (x y : Bool) → eqb j (2 * k + 1) ≡ x → eqb j (2 * k) ≡ y → pairAt los his j ≡ a ⊗ j
   at-any j h true y e f = rw (eqb-true j (2 * k + 1) e) at-odd
   at-any j h false true e f = rw (eqb-true j (2 * k) f) at-even
   at-any j h false false e f = at-old j (omega (arith, eqb-false j (2 * k + 1) e, eqb-false j (2 * k) f))
@@ -161,7 +161,7 @@ module _ (a k : ℕ) (lo hi : List ℕ) (tl th ml mh : ℕ) (b : a < 2 ^ 128) (m
   multiples-more = record { low-size = simp length-set nl; high-size = simp length-set nh; multiple = λ j h. at-any j h (eqb j (2 * k + 1)) (eqb j (2 * k)) refl refl }
 
 -- the element itself is the multiple 1
-pub multiples-self : (a : ℕ) (lo hi : List ℕ) → a < 2 ^ 128 → Multiples a lo hi 16 → entry lo hi 1 ≡ a
+pub multiples-self : (a : ℕ) (lo hi : List ℕ) → a < 2 ^ 128 → Multiples a lo hi 16 → pairAt lo hi 1 ≡ a
 multiples-self a lo hi b m = m .multiple 1 (lit< tt) ∙ ⊗-one a b
 
 -- ---- the loop: the bits of both words from 4i on are done

@@ -8,7 +8,7 @@ use native.Mathlib.Numerals.{add-one, sub-one}
 use native.Mathlib.Omega.{arith}
 use lib.ListN.{length, getD, set, take, drop, length-take, length-drop, drop-of-length-le}
 use lib.Seq.{take-take, take-set-le, take-set-lt, getD-take, drop-cons}
-use Rattle.magnetar_field.specs.Doubling.{doubled, split}
+use Rattle.magnetar_field.specs.Doubling.{doubled, splitEntry}
 
 drop-two : (l : List ℕ) (j a b : ℕ) → suc j < length l
     → drop j (set (set l j a) (suc j) b) ≡ a ∷ (b ∷ drop (suc (suc j)) l)
@@ -52,18 +52,18 @@ module _ (m r : ℕ) (t₀ t : List ℕ) (k : ℕ) (lt : k < m) (room : 2 * m �
       let e : suc (suc (2 * k)) ≡ 2 * suc k = omega arith in
       rw (take-set-lt (2 * m) (set t (2 * k) x) (2 * k + 1) y (omega arith), take-set-lt (2 * m) t (2 * k) x (omega arith), add-one, drop-two (take (2 * m) t) (2 * k), e, s .right)
 
-  right-more : drop (2 * k) (take (2 * m) (split t k r)) ≡ doubled r (drop k (take m t₀))
+  right-more : drop (2 * k) (take (2 * m) (splitEntry t k r)) ≡ doubled r (drop k (take m t₀))
   unfolding doubled
   right-more =
       let h : k < length (take m t₀) = rw length-take (omega arith) in
       rw (drop-cons (take m t₀) k 0, getD-take m t₀ k 0, value-kept) (two-more _ _)
 
-  split-suc : Split m r t₀ (split t k r) k
+  split-suc : Split m r t₀ (splitEntry t k r) k
   split-suc = record { left = left-more _ _; right = right-more }
 
 -- one turn of the loop, at i - 1
 pub split-more : (m r : ℕ) (t₀ t : List ℕ) (i : ℕ) → zero < i → i ≤ m → 2 * m ≤ length t → length t ≡ length t₀
-    → Split m r t₀ t i → Split m r t₀ (split t (i - 1) r) (i - 1)
+    → Split m r t₀ t i → Split m r t₀ (splitEntry t (i - 1) r) (i - 1)
 split-more m r t₀ t zero pos le room same s = absurd (omega arith)
 split-more m r t₀ t (suc k) pos le room same s = rw sub-one (split-suc m r t₀ t k le room same s)
 

@@ -1,3 +1,4 @@
+pub mod MarkedRows
 pub mod Xor
 pub mod Product
 pub mod Reduction

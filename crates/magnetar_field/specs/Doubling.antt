@@ -11,5 +11,5 @@ doubled r [] = []
 doubled r (v ∷ vs) = (v ⊕ v ⊗ r) ∷ (v ⊗ r ∷ doubled r vs)
 
 -- entry k split in place into the entries 2k and 2k + 1
-abbrev pub split : List ℕ → ℕ → ℕ → List ℕ
-split t k r = set (set t (2 * k) (getD t k 0 ⊕ getD t k 0 ⊗ r)) (2 * k + 1) (getD t k 0 ⊗ r)
+abbrev pub splitEntry : List ℕ → ℕ → ℕ → List ℕ
+splitEntry t k r = set (set t (2 * k) (getD t k 0 ⊕ getD t k 0 ⊗ r)) (2 * k + 1) (getD t k 0 ⊗ r)

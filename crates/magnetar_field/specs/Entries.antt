@@ -1,6 +1,6 @@
 -- The outcomes of the entries over tables: which refusal applies, in rising order, and what each lent slice holds at exit.
 -- Assumes nothing.
-use mathlib.Core.Bool.{Bool, cond, not, _||_}
+use mathlib.Core.Bool.{Bool, not, _||_}
 use mathlib.Core.List.{List, _++_}
 use Prim.Native.Nat.{ℕ, _*_, _/_, _%_, _^_}
 use lib.Dec.{eqb, ltb}
@@ -11,21 +11,21 @@ use Rattle.magnetar_field.specs.Gf128.{value}
 use Rattle.magnetar_field.specs.Refusal.{refuse, unlessRefused}
 use Rattle.magnetar_field.specs.Sizes.{log₂}
 use Rattle.magnetar_field.specs.Words.{elements, words}
-use Rattle.magnetar_field.specs.EqTable.{eqBits, eqTable}
-use Rattle.magnetar_field.specs.Multilinear.{mle, bindVar}
+use Rattle.magnetar_field.specs.EqTable.{eqTable}
+use Rattle.magnetar_field.specs.Multilinear.{bindVar}
 
--- an answer that is an element, as its refusal number (0: none) and its value (0 where it is refused)
-pub record Answer : Type 0 where
-  pub refusal : ℕ
-  pub element : ℕ
+-- an answer: an element, or the number of a refusal
+pub data Answer : Type 0 where
+  element : ℕ → Answer
+  refusal : ℕ → Answer
 
 abbrev pub answer : Evaluated → Answer
-answer (Value e) = record { refusal = 0; element = value e }
-answer (Refused n) = record { refusal = n; element = 0 }
+answer (Value e) = element (value e)
+answer (Refused n) = refusal n
 
 -- the element v, unless n is a refusal
 abbrev pub answered : ℕ → ℕ → Answer
-answered n v = record { refusal = n; element = unlessRefused n v 0 }
+answered n v = unlessRefused n (element v) (refusal n)
 
 -- the words are no point of a free eq table: an odd number of them, or more than 20 elements
 abbrev pub noPoint : List ℕ → Bool

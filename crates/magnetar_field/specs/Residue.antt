@@ -17,14 +17,14 @@ unfoldable pub residue : ℕ → ℕ
 residue u = sumTimes 256 1 u
 
 -- the element whose words are the entries k of two tables
-abbrev pub entry : List ℕ → List ℕ → ℕ → ℕ
-entry lo hi k = getD hi k 0 * 2 ^ 64 + getD lo k 0
+abbrev pub pairAt : List ℕ → List ℕ → ℕ → ℕ
+pairAt lo hi k = getD hi k 0 * 2 ^ 64 + getD lo k 0
 
--- two tables of 16 words, of which entry k is a times the polynomial k, for each k below n
+-- two tables of 16 words, of which the pair k is a times the polynomial k, for each k below n
 pub record Multiples (a : ℕ) (lo hi : List ℕ) (n : ℕ) : Type 0 where
   pub low-size : length lo ≡ 16
   pub high-size : length hi ≡ 16
-  pub multiple : (k : ℕ) → k < n → entry lo hi k ≡ a ⊗ k
+  pub multiple : (k : ℕ) → k < n → pairAt lo hi k ≡ a ⊗ k
 
 -- one step: acc times x^4, plus x, plus y times x^64; the highest word has at most four bits more
 pub record Combined (acc : Wide) (x y : ℕ) (r : Wide) : Type 0 where

@@ -13,5 +13,6 @@ halvings (suc k) n = cond (ltb n 2) 0 (suc (halvings k (n / 2)))
 unfoldable pub log₂ : ℕ → ℕ
 log₂ n = halvings 64 n
 
+-- n is 2^k for some k
 abbrev pub powerOfTwo : ℕ → Bool
 powerOfTwo n = eqb n (2 ^ log₂ n)

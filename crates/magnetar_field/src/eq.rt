@@ -5,13 +5,12 @@ use crate::gf128::Gf128;
 use crate::gf128::ONE;
 use crate::words;
 ghost use mathlib.Core.Path.{_≡_};
-ghost use mathlib.Core.List.{_++_};
 ghost use Prim.Native.Nat.{_+_, _*_, _^_, _≤_, _<_};
-ghost use lib.ListN.{length, take, drop};
-ghost use Rattle.magnetar_field.specs.Gf128.{value, _⊕_};
+ghost use lib.ListN.{length, take};
+ghost use Rattle.magnetar_field.specs.Gf128.{value};
 ghost use Rattle.magnetar_field.specs.Words.{elements};
 ghost use Rattle.magnetar_field.specs.EqTable.{eqFactor, eqBits, eqTable};
-ghost use Rattle.magnetar_field.specs.Doubling.{split, doubled};
+ghost use Rattle.magnetar_field.specs.Doubling.{splitEntry, doubled};
 ghost use Rattle.magnetar_field.specs.Entries.{answer, answered, eqRefusal, eqOut, eqBitsRefusal};
 
 // The factor of one variable.
@@ -94,7 +93,7 @@ fn eq_product(point: &[u64], bits: &[bool], n: usize) -> Gf128
 // Splits entry k into the entries 2k and 2k + 1.
 fn split_entry(out: &mut [u64], k: usize, r: Gf128)
     requires { ⌜ 4 * k + 3 < length (now out) ⌝ }
-    ensures { λ _. ⌜ elements (now (out .exit)) ≡ split (elements (now (out .entry))) k (value r) ⌝ }
+    ensures { λ _. ⌜ elements (now (out .exit)) ≡ splitEntry (elements (now (out .entry))) k (value r) ⌝ }
 {
     let v = words::get(out, k);
     let t = gf128::mul(v, r);

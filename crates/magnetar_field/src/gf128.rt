@@ -4,7 +4,7 @@
 // The product takes four bits of each word of one factor at a time through the sixteen multiples of the other
 // factor, and reduces once, at the end.
 ghost use mathlib.Core.Path.{_≡_};
-ghost use Prim.Native.Nat.{ℕ, _+_, _*_, _/_, _%_, _^_, _<_};
+ghost use Prim.Native.Nat.{_+_, _*_, _/_, _%_, _^_, _<_};
 ghost use lib.Dec.{ltb};
 ghost use lib.ListN.{length};
 ghost use Rattle.magnetar_field.specs.Gf128.{value, _⊕_, _⊗_, timesX, power, inverse};
@@ -60,6 +60,7 @@ pub fn mul(a: Gf128, b: Gf128) -> Gf128
     reduce256(clmul128(a, b))
 }
 
+// The square.
 pub fn square(a: Gf128) -> Gf128
     ensures { λ r. ⌜ value r ≡ value a ⊗ value a ⌝ }
 {

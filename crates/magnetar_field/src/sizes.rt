@@ -1,6 +1,6 @@
 // Powers of two.
 ghost use mathlib.Core.Path.{_≡_};
-ghost use Prim.Native.Nat.{_^_, _*_, _<_};
+ghost use Prim.Native.Nat.{_^_, _<_};
 ghost use Rattle.magnetar_field.specs.Sizes.{log₂, powerOfTwo};
 
 // The logarithm to the base 2, rounded down; that of 0 is 0.
@@ -16,6 +16,7 @@ pub fn log2(n: usize) -> usize
     k
 }
 
+// Whether n is a power of two.
 pub fn is_power_of_two(n: usize) -> bool
     ensures { λ r. ⌜ r ≡ powerOfTwo n ⌝ }
 {

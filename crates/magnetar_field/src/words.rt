@@ -1,5 +1,5 @@
 // Slices of words that hold elements: word 2i is the low half of element i, and word 2i + 1 its high half.
-use crate::gf128::Gf128;
+use crate::gf128::{Gf128, ZERO};
 ghost use mathlib.Core.Path.{_≡_};
 ghost use Prim.Native.Nat.{min};
 ghost use lib.ListN.{length, getD, replicate};
@@ -17,7 +17,7 @@ pub fn get(s: &[u64], i: usize) -> Gf128
             hi: s[k + 1],
         }
     } else {
-        Gf128 { lo: 0, hi: 0 }
+        ZERO
     }
 }
 

@@ -13,7 +13,7 @@ use Rattle.magnetar_field.specs.Gf128.{value}
 use Rattle.magnetar_hash.specs.declared.transcript.Transcript.{Transcript}
 use Rattle.magnetar_hash.specs.Transcript.{element}
 use Rattle.magnetar_hash.proofs.Bytes.{length-le, le-append, le-mod, get-le}
-use Rattle.magnetar_hash.proofs.Word.{number-append}
+use Rattle.magnetar_hash.proofs.Number.{number-append}
 
 -- the low word's bytes, then the high word's
 le-halves : (lo hi : ℕ) → lo < 2 ^ 64 → leBytes 16 (hi * 2 ^ 64 + lo) ≡ leBytes 8 lo ++ leBytes 8 hi

@@ -1,10 +1,13 @@
 pub mod Bytes
+pub mod Number
+pub mod Element
 pub mod Stream
 pub mod Lane
-pub mod Squeeze
 pub mod Word
-pub mod Left
+pub mod Squeeze
 pub mod Pad
+pub mod Left
+pub mod Lengths
 pub mod Parts
 pub mod Draws
-pub mod Element
+pub mod Counter

@@ -17,7 +17,8 @@ pub struct Transcript {
     pub squeeze_ctr: u64,
 }
 
-// The number of the refusal, 0 for none; the transcript, as it was where the call is refused.
+// The number of the refusal, 0 for none; the transcript, as it was where the call is refused (`new`, which was given none, hands
+// back 32 bytes 0).
 pub struct TranscriptAnswer {
     pub code: u32,
     pub transcript: Transcript,

@@ -3,14 +3,14 @@
 use mathlib.Core.Path.{_≡_, refl, sym, ap, _∙_}
 use Prim.Native.Nat.{_≤_, _<_, _^_}
 use native.Mathlib.Omega.{arith}
-use Rattle.magnetar_field.specs.Residue.{wide, entry, Multiples}
+use Rattle.magnetar_field.specs.Residue.{wide, pairAt, Multiples}
 use Rattle.magnetar_field.proofs.Comb.{append-word, wide-lt, multiples-self, Combed, combed-start, combed-room, combed-more, combed-end}
 use borrow.Author.Needs.{needs}
 use Rattle.magnetar_field.proofs.gf128.clmul128.Statement.{statement}
 use Rattle.magnetar_field.proofs.gf128.clmul128.Tie as tie
 
 abbrev Inv-loop : tie.InvT-loop
-Inv-loop b lo hi acc₀ i₀ acc i = (i ≤ 16) × Multiples (entry lo hi 1) lo hi 16 × (acc .w0 < 2 ^ 64) × (acc .w1 < 2 ^ 64) × (acc .w2 < 2 ^ 64) × Combed (entry lo hi 1) (b .lo) (b .hi) (wide acc) (acc .w3) i
+Inv-loop b lo hi acc₀ i₀ acc i = (i ≤ 16) × Multiples (pairAt lo hi 1) lo hi 16 × (acc .w0 < 2 ^ 64) × (acc .w1 < 2 ^ 64) × (acc .w2 < 2 ^ 64) × Combed (pairAt lo hi 1) (b .lo) (b .hi) (wide acc) (acc .w3) i
 
 abbrev μ-loop : tie.MeasureT-loop
 μ-loop b lo hi acc₀ i₀ acc i = i

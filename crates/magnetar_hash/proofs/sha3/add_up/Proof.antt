@@ -2,7 +2,7 @@
 -- Assumes nothing.
 use Prim.Native.Nat.{_≤_, _-_}
 use lib.ListN.{length}
-use Rattle.magnetar_hash.proofs.Parts.{Used, used-none, used-more, used-over, used-all}
+use Rattle.magnetar_hash.proofs.Lengths.{Used, used-none, used-more, used-over, used-all}
 use borrow.Author.Needs.{needs}
 use Rattle.magnetar_hash.proofs.sha3.add_up.Statement.{statement}
 use Rattle.magnetar_hash.proofs.sha3.add_up.Tie as tie

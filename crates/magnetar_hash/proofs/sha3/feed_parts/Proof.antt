@@ -5,7 +5,8 @@ use Prim.Native.Nat.{_-_}
 use lib.ListN.{length, drop}
 use Rattle.magnetar_hash.specs.Parts.{framed, parts}
 use Rattle.magnetar_hash.proofs.Left.{Left, left-all}
-use Rattle.magnetar_hash.proofs.Parts.{Rest, rest-all, rest-fits, rest-more, left-part, left-parts-end}
+use Rattle.magnetar_hash.proofs.Lengths.{Rest, rest-all, rest-fits, rest-more}
+use Rattle.magnetar_hash.proofs.Parts.{left-part, left-parts-end}
 use borrow.Author.Needs.{needs}
 use Rattle.magnetar_hash.proofs.sha3.feed_parts.Statement.{statement}
 use Rattle.magnetar_hash.proofs.sha3.feed_parts.Tie as tie

@@ -1,7 +1,7 @@
 -- `magnetar_hash::sponge::half_at` meets its contract.
 -- Assumes nothing.
 use native.Mathlib.Omega.{arith}
-use Rattle.magnetar_hash.proofs.Word.{four}
+use Rattle.magnetar_hash.proofs.Number.{four}
 use borrow.Author.Needs.{needs}
 use Rattle.magnetar_hash.proofs.sponge.half_at.Statement.{statement}
 use Rattle.magnetar_hash.proofs.sponge.half_at.Tie as tie

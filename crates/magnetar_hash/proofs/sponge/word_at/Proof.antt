@@ -1,6 +1,6 @@
 -- `magnetar_hash::sponge::word_at` meets its contract.
 -- Assumes nothing.
-use Rattle.magnetar_hash.proofs.Word.{eight}
+use Rattle.magnetar_hash.proofs.Number.{eight}
 use borrow.Author.Needs.{needs}
 use Rattle.magnetar_hash.proofs.sponge.word_at.Statement.{statement}
 use Rattle.magnetar_hash.proofs.sponge.word_at.Tie as tie
