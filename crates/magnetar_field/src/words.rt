@@ -1,5 +1,6 @@
 // Slices of words that hold elements: word 2i is the low half of element i, and word 2i + 1 its high half.
-use crate::gf128::{Gf128, ZERO};
+use crate::gf128::Gf128;
+use crate::gf128::ZERO;
 ghost use mathlib.Core.Path.{_≡_};
 ghost use Prim.Native.Nat.{min};
 ghost use lib.ListN.{length, getD, replicate};
