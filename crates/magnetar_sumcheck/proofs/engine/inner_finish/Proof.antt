@@ -1,0 +1,19 @@
+-- `magnetar_sumcheck::engine::inner_finish` meets its contract.
+-- Assumes nothing.
+use Rattle.magnetar_sumcheck.specs.Inner.{innerEnd}
+use borrow.Author.Needs.{needs}
+use Rattle.magnetar_sumcheck.proofs.engine.inner_finish.Statement.{statement}
+use Rattle.magnetar_sumcheck.proofs.engine.inner_finish.Tie as tie
+
+mul-requires : tie.Need-mul-requires
+mul-requires c κs = search needs
+
+same-requires : tie.Need-same-requires
+same-requires c κs = search needs
+
+returns : tie.Need-returns
+unfolding innerEnd
+returns c = rw (c .same .ensures, c .before .mul .ensures)
+
+pub inner-finish-spec : {M : Type 1} → statement M
+inner-finish-spec = tie.close (tie.spec mul-requires same-requires returns)

@@ -1,0 +1,17 @@
+-- `magnetar_sumcheck::engine::middle` meets its contract.
+-- Assumes nothing.
+use borrow.Author.Needs.{needs}
+use Rattle.magnetar_sumcheck.proofs.engine.middle.Statement.{statement}
+use Rattle.magnetar_sumcheck.proofs.engine.middle.Tie as tie
+
+add-requires : tie.Need-add-requires
+add-requires c κs = search needs
+
+add-requires-2 : tie.Need-add-requires-2
+add-requires-2 c κs = search needs
+
+returns : tie.Need-returns
+returns c = cc
+
+pub middle-spec : {M : Type 1} → statement M
+middle-spec = tie.close (tie.spec add-requires add-requires-2 returns)

@@ -1,0 +1,17 @@
+-- `magnetar_sumcheck::engine::multiply_add` meets its contract.
+-- Assumes nothing.
+use borrow.Author.Needs.{needs}
+use Rattle.magnetar_sumcheck.proofs.engine.multiply_add.Statement.{statement}
+use Rattle.magnetar_sumcheck.proofs.engine.multiply_add.Tie as tie
+
+mul-requires : tie.Need-mul-requires
+mul-requires c κs = search needs
+
+add-requires : tie.Need-add-requires
+add-requires c κs = search needs
+
+returns : tie.Need-returns
+returns c = cc
+
+pub multiply-add-spec : {M : Type 1} → statement M
+multiply-add-spec = tie.close (tie.spec mul-requires add-requires returns)

@@ -1,0 +1,28 @@
+-- `magnetar_sumcheck::engine::outer_at` meets its contract.
+-- Assumes nothing.
+use borrow.Author.Needs.{needs}
+use Rattle.magnetar_sumcheck.proofs.engine.outer_at.Statement.{statement}
+use Rattle.magnetar_sumcheck.proofs.engine.outer_at.Tie as tie
+
+get-requires : tie.Need-get-requires
+get-requires c κs = search needs
+
+get-requires-2 : tie.Need-get-requires-2
+get-requires-2 c κs = search needs
+
+get-requires-3 : tie.Need-get-requires-3
+get-requires-3 c κs = search needs
+
+get-requires-4 : tie.Need-get-requires-4
+get-requires-4 c κs = search needs
+
+weigh-requires : tie.Need-weigh-requires
+weigh-requires c κs = search needs
+
+returns : tie.Need-returns
+returns c = cc
+
+pub outer-at-spec : {M : Type 1} → statement M
+outer-at-spec =
+    tie.close
+    (tie.spec get-requires get-requires-2 get-requires-3 get-requires-4 weigh-requires returns)

@@ -1,0 +1,24 @@
+-- `magnetar_sumcheck::engine::outer_finish` meets its contract.
+-- Assumes nothing.
+use Rattle.magnetar_field.specs.Gf128.{value, _⊗_}
+use Rattle.magnetar_field.proofs.Xor.{⊕-comm}
+use Rattle.magnetar_sumcheck.specs.Outer.{outerEnd}
+use borrow.Author.Needs.{needs}
+use Rattle.magnetar_sumcheck.proofs.engine.outer_finish.Statement.{statement}
+use Rattle.magnetar_sumcheck.proofs.engine.outer_finish.Tie as tie
+
+multiply-add-requires : tie.Need-multiply-add-requires
+multiply-add-requires c κs = search needs
+
+mul-requires : tie.Need-mul-requires
+mul-requires c κs = search needs
+
+same-requires : tie.Need-same-requires
+same-requires c κs = search needs
+
+returns : tie.Need-returns
+unfolding outerEnd
+returns c = let x = c .before .before .before .args in rw (c .same .ensures, c .before .mul .ensures, c .before .before .multiply-add .ensures, ⊕-comm (value (x .c)) (value (x .a) ⊗ value (x .b)))
+
+pub outer-finish-spec : {M : Type 1} → statement M
+outer-finish-spec = tie.close (tie.spec multiply-add-requires mul-requires same-requires returns)

@@ -1,0 +1,50 @@
+-- `magnetar_sumcheck::engine::put_outer` meets its contract.
+-- Assumes nothing.
+use Rattle.magnetar_field.specs.Gf128.{value}
+use Rattle.magnetar_sumcheck.specs.Outer.{timesEq}
+use Rattle.magnetar_sumcheck.proofs.Message.{timesEq-first, timesEq-next}
+use borrow.Author.Needs.{needs}
+use Rattle.magnetar_sumcheck.proofs.engine.put_outer.Statement.{statement}
+use Rattle.magnetar_sumcheck.proofs.engine.put_outer.Tie as tie
+
+middle-requires : tie.Need-middle-requires
+middle-requires c κs = search needs
+
+eq-zero-requires : tie.Need-eq-zero-requires
+eq-zero-requires c κs = search needs
+
+mul-requires : tie.Need-mul-requires
+mul-requires c κs = search needs
+
+fused-requires : tie.Need-fused-requires
+fused-requires c κs = search needs
+
+fused-requires-2 : tie.Need-fused-requires-2
+fused-requires-2 c κs = search needs
+
+mul-requires-2 : tie.Need-mul-requires-2
+mul-requires-2 c κs = search needs
+
+put-four-requires : tie.Need-put-four-requires
+put-four-requires c κs = search needs
+
+same-length : tie.Need-same-length
+same-length c = search needs
+
+returns : tie.Need-returns
+unfolding timesEq
+returns c = let x = c .before .before .before .before .before .before .before .before .before .before .before .args in rw (c .before .before .put-four .ensures, c .before .before .before .before .mul2 .ensures, c .before .before .before .before .before .fused2 .ensures, c .before .before .before .before .before .before .fused .ensures, c .before .before .before .before .before .before .before .mul .ensures, c .before .before .before .before .before .before .before .before .eq-zero .ensures, c .before .before .before .before .before .before .before .before .before .middle .ensures, timesEq-first, timesEq-next, timesEq-next)
+
+pub put-outer-spec : {M : Type 1} → statement M
+put-outer-spec =
+    tie.close
+    (tie.spec
+    middle-requires
+    eq-zero-requires
+    mul-requires
+    fused-requires
+    fused-requires-2
+    mul-requires-2
+    put-four-requires
+    same-length
+    returns)

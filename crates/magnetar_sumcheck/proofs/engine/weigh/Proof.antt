@@ -1,0 +1,23 @@
+-- `magnetar_sumcheck::engine::weigh` meets its contract.
+-- Assumes nothing.
+use borrow.Author.Needs.{needs}
+use Rattle.magnetar_sumcheck.proofs.engine.weigh.Statement.{statement}
+use Rattle.magnetar_sumcheck.proofs.engine.weigh.Tie as tie
+
+mul-requires : tie.Need-mul-requires
+mul-requires c κs = search needs
+
+add-requires : tie.Need-add-requires
+add-requires c κs = search needs
+
+mul-requires-2 : tie.Need-mul-requires-2
+mul-requires-2 c κs = search needs
+
+add-requires-2 : tie.Need-add-requires-2
+add-requires-2 c κs = search needs
+
+returns : tie.Need-returns
+returns c = cc
+
+pub weigh-spec : {M : Type 1} → statement M
+weigh-spec = tie.close (tie.spec mul-requires add-requires mul-requires-2 add-requires-2 returns)

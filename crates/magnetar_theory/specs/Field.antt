@@ -1,0 +1,51 @@
+-- A field of characteristic two, as a record of its operations and a record of its laws, and the polynomials over it. The
+-- theory holds over every such field; Gf128 is the one that it is used at.
+-- Assumes nothing.
+use mathlib.Core.Path.{_≡_}
+use mathlib.Core.Bool.{Bool, true, false, _&&_}
+use mathlib.Core.List.{List, [], _∷_, List·Memᴰ}
+use mathlib.Core.Logic.{_⊎_}
+use Prim.Native.Nat.{_≤_}
+use lib.ListN.{length}
+
+-- elements, zero, one, sum, product, the test for equality, the roots of a polynomial (coefficients, lowest first)
+pub record Field : Type 1 where
+  pub K : Type 0
+  pub 𝟎 : K
+  pub 𝟏 : K
+  pub _⊕_ : K → K → K
+  pub _⊗_ : K → K → K
+  pub same : K → K → Bool
+  pub roots : List K → List K
+
+module _ (F : Field) where
+  open Field F using (K, 𝟎, 𝟏, _⊕_, _⊗_, same, roots)
+
+  infixl 60 _⊕_
+  infixl 70 _⊗_
+  -- the value of a polynomial at x
+  abbrev pub eval : List K → K → K
+  eval [] x = 𝟎
+  eval (c ∷ p) x = c ⊕ x ⊗ eval p x
+
+  abbrev pub allZero : List K → Bool
+  allZero [] = true
+  allZero (c ∷ p) = same c 𝟎 && allZero p
+
+  pub record Ring : Type 0 where
+    pub add-assoc : (x y z : K) → (x ⊕ y) ⊕ z ≡ x ⊕ (y ⊕ z)
+    pub add-comm : (x y : K) → x ⊕ y ≡ y ⊕ x
+    pub add-zero : (x : K) → x ⊕ 𝟎 ≡ x
+    pub add-self : (x : K) → x ⊕ x ≡ 𝟎
+    pub mul-assoc : (x y z : K) → (x ⊗ y) ⊗ z ≡ x ⊗ (y ⊗ z)
+    pub mul-comm : (x y : K) → x ⊗ y ≡ y ⊗ x
+    pub mul-one : (x : K) → x ⊗ 𝟏 ≡ x
+    pub distrib : (x y z : K) → x ⊗ (y ⊕ z) ≡ x ⊗ y ⊕ x ⊗ z
+    pub same-true : (x y : K) → same x y ≡ true → x ≡ y
+    pub same-false : (x y : K) → same x y ≡ false → ¬ (x ≡ y)
+
+  pub record Laws : Type 0 where
+    pub laws : Ring
+    pub no-zero-divisors : (x y : K) → x ⊗ y ≡ 𝟎 → (x ≡ 𝟎) ⊎ (y ≡ 𝟎)
+    pub root-listed : (p : List K) (r : K) → allZero p ≡ false → eval p r ≡ 𝟎 → List·Memᴰ r (roots p)
+    pub roots-few : (c : K) (p : List K) → allZero (c ∷ p) ≡ false → length (roots (c ∷ p)) ≤ length p

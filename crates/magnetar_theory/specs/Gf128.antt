@@ -1,0 +1,37 @@
+-- GF(2^128) as a field: the numbers below 2^128 with the sum and the product of magnetar_field; and the element that a number
+-- stands for, by which lists of numbers become lists of elements.
+-- Assumes nothing.
+use mathlib.Core.Bool.{Bool}
+use mathlib.Core.List.{List, map}
+use Prim.Native.Nat.{ℕ, _%_, _^_, _<_}
+use native.Mathlib.Nat.{mod-lt}
+use lib.Dec.{eqb}
+use lib.Pow.{pow-pos}
+use Rattle.magnetar_field.specs.Gf128.{_⊕_, _⊗_}
+use Rattle.magnetar_field.specs.Polynomial.{roots}
+use Rattle.magnetar_theory.specs.Field.{Field}
+
+abbrev pub Element : Type 0
+Element = (n : ℕ) × (n < 2 ^ 128)
+
+unfoldable pub number : Element → ℕ
+number x = x .0
+
+-- the element of the 128 lowest coefficients
+unfoldable pub element : ℕ → Element
+element n = (n % 2 ^ 128, mod-lt n (pow-pos 128))
+
+unfoldable pub sum : Element → Element → Element
+sum x y = element (number x ⊕ number y)
+
+unfoldable pub product : Element → Element → Element
+product x y = element (number x ⊗ number y)
+
+unfoldable pub same : Element → Element → Bool
+same x y = eqb (number x) (number y)
+
+unfoldable pub rootsOf : List Element → List Element
+rootsOf p = map element (roots (map number p))
+
+abbrev pub gf128 : Field
+gf128 = record { K = Element; 𝟎 = element 0; 𝟏 = element 1; _⊕_ = sum; _⊗_ = product; same = same; roots = rootsOf }

@@ -1,0 +1,17 @@
+pub mod Field
+pub mod SumCheck
+pub mod Table
+pub mod Cells
+pub mod EqTable
+pub mod Tau
+pub mod Alpha
+pub mod Matrix
+pub mod Outer
+pub mod Inner
+pub mod Segment
+pub mod Run
+pub mod Lists
+pub mod Heard
+pub mod Count
+pub mod Gf128
+pub mod Whole

@@ -1,0 +1,22 @@
+-- What the two theorems on a whole run say, over GF(2^128).
+-- Assumes nothing.
+use mathlib.Core.List.{List}
+use Prim.Native.Nat.{ℕ}
+use lib.ListN.{length, take}
+use Rattle.magnetar_theory.specs.Tau.{Zeros}
+use Rattle.magnetar_theory.specs.Run.{Relation, residues, vectors}
+use Rattle.magnetar_theory.specs.Lists.{lists}
+use Rattle.magnetar_theory.specs.Heard.{heard}
+use Rattle.magnetar_theory.specs.Gf128.{gf128}
+
+abbrev pub E : Type 0
+E = gf128 .K
+
+module _ (R : Relation gf128) (x : List E) (ws : List (List E)) where
+  -- every row of both systems holds for every login
+  abbrev pub Good : Type 0
+  Good = Zeros gf128 (residues gf128 (R .bin) (vectors gf128 ws x)) × Zeros gf128 (residues gf128 (R .fld) (vectors gf128 ws x))
+
+  -- the list of a draw, from the words absorbed before it and the draws before it
+  abbrev pub listOf : ℕ → List E → List E → List E
+  listOf s w earlier = lists gf128 s R x ws (take (heard s (R .bin .logRows) (R .fld .logRows) (length earlier)) w) earlier

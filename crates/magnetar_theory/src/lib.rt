@@ -1,0 +1,1 @@
+// Definitions and laws only: specs/ and proofs/. There is no code here.
