@@ -1,10 +1,11 @@
 #!/usr/bin/env python3
 """Writes the queries of the test program and their recorded answers (docs/VECTORS.md).
 
-    make.py ORACLE FIELDOPS
+    make.py ORACLE FIELDOPS SUMOPS
 
-ORACLE and FIELDOPS are commands that answer queries, a line for each, by the published Rust: ORACLE `mul`, `eq` and
-`evalmle` and those on parts and transcripts, FIELDOPS the rest of the field. Hashes of bytes are Python's hashlib's.
+ORACLE, FIELDOPS and SUMOPS are commands that answer queries by the published Rust: ORACLE `mul`, `eq` and `evalmle` and
+those on parts and transcripts, FIELDOPS the rest of the field, SUMOPS the sum-check. Hashes of bytes are Python's
+hashlib's.
 What the Rust does not answer (refusals, and the words of a lent slice that a call leaves alone) is put together here
 from document 01 and from the Rust's answers to the same inputs.
 """
@@ -29,6 +30,11 @@ def listed(elements):
     return " ".join([str(2 * len(elements))] + words(elements))
 
 
+def brief(elements):
+    """The same, as short as a query may have it."""
+    return " ".join([str(2 * len(elements))] + [str(int(w, 0)) if int(w, 0) < 1000 else w for w in words(elements)])
+
+
 def some(n):
     return [DICE.getrandbits(128) for _ in range(n)]
 
@@ -39,19 +45,22 @@ class Rust:
     def __init__(self, *command):
         self.run = subprocess.Popen(command, stdin=subprocess.PIPE, stdout=subprocess.PIPE, text=True, bufsize=1)
 
-    def ask(self, query):
+    def asks(self, query, lines):
         self.run.stdin.write(query + "\n")
         self.run.stdin.flush()
-        answer = self.run.stdout.readline().rstrip("\n")
-        assert answer.startswith("= "), (query, answer)
-        return answer
+        answers = [self.run.stdout.readline().rstrip("\n") for _ in range(lines)]
+        assert all(answer.startswith("= ") for answer in answers), (query, answers)
+        return answers
+
+    def ask(self, query):
+        return self.asks(query, 1)[0]
 
 
 class Sheet:
     """Lines of queries with their answers."""
 
-    def __init__(self, oracle, fieldops):
-        self.commands = {"oracle": Rust(oracle, "ops"), "fieldops": Rust(fieldops)}
+    def __init__(self, oracle, fieldops, sumops):
+        self.commands = {"oracle": Rust(oracle, "ops"), "fieldops": Rust(fieldops), "sumops": Rust(sumops)}
         self.queries, self.answers = [], []
 
     def said(self, query, *answers):
@@ -368,16 +377,185 @@ def transcripts(sheet):
             sheet.said(f"rawdrawvec {state} {first} {label} {lent}", f"= {shown} {after} {end}")
 
 
+def element(found):
+    """The element that two words spell."""
+    low, high = found
+    return int(low, 0) + (int(high, 0) << 64)
+
+
+def orders(n):
+    """How many of n variables are bound from the highest down before the others from the lowest up."""
+    return sorted({0, 1, n // 2, n} & set(range(n + 1)))
+
+
+def sumchecks(sheet):
+    rust = sheet.commands["sumops"]
+
+    def outer(high, tau, a, b, c, r, wrong=0):
+        """A whole outer sum-check, its claim the sum and `wrong` more; the claim and the answers."""
+        claim = element(sheet.now("sumops", f"sum {brief(tau)} {brief(a)} {brief(b)} {brief(c)}")) ^ wrong
+        query = f"outer {high} {brief([claim])} {brief(tau)} {brief(a)} {brief(b)} {brief(c)} {brief(r)}"
+        answers = rust.asks(query, 4 * len(r) + 1)
+        sheet.said(query, *answers)
+        return claim, answers
+
+    def inner(high, t, z, r, wrong=0):
+        claim = element(sheet.now("sumops", f"dot {brief(t)} {brief(z)}")) ^ wrong
+        query = f"inner {high} {brief([claim])} {brief(t)} {brief(z)} {brief(r)}"
+        sheet.said(query, *rust.asks(query, 3 * len(r) + 1))
+
+    def bits(n):
+        return [DICE.getrandbits(1) for _ in range(n)]
+
+    def table(n):
+        """2^n elements, most of them small where they are many."""
+        return [DICE.getrandbits(128 if i % 32 == 5 or n < 3 else 9) for i in range(2**n)]
+
+    def special(n):
+        """0, 1, and an element that comes again."""
+        again = some(1)[0]
+        return [DICE.choice([0, 1, again, again]) for _ in range(n)]
+
+    sheet.note("whole outer sum-checks of 0 to 6 variables, in every kind of order, and with a claim that is no sum")
+    for n in range(7):
+        for high in orders(n):
+            outer(high, some(n), table(n), table(n), table(n), some(n))
+        if n < 4:
+            outer(high, some(n), table(n), table(n), table(n), some(n), 1)
+    sheet.note("with tables of bits, and challenges and taus that are 0, 1 or the same again; tau all 1, all 0")
+    for n in range(1, 7):
+        for high in orders(n):
+            outer(high, special(n), bits(2**n), bits(2**n), bits(2**n), special(n))
+        for ends in ([0] * n, [1] * n):
+            outer(n // 2, ends, bits(2**n), bits(2**n), bits(2**n), some(n))
+            outer(n // 2, some(n), bits(2**n), bits(2**n), bits(2**n), ends)
+    sheet.note("whole batches that are good: c is a b, and the claim is 0")
+    for n in [1, 3, 5]:
+        a, b = bits(2**n), bits(2**n)
+        c = [x & y for x, y in zip(a, b)]
+        claim, _ = outer(n // 2, some(n), a, b, c, some(n))
+        assert claim == 0
+        outer(n // 2, some(n), a, b, c, some(n), 1 << 127)
+    sheet.note("whole inner sum-checks")
+    for n in range(7):
+        for high in orders(n):
+            inner(high, table(n), table(n), some(n))
+            inner(high, bits(2**n), bits(2**n), special(n))
+        inner(0, table(n), bits(2**n), some(n), 1 << 64)
+    sheet.note("one message: the true one, and damaged in each coefficient; the first one is seen in the next claim alone")
+    for n in range(1, 4):
+        claim, answers = outer(1, some(n), some(2**n), some(2**n), some(2**n), some(n))
+        found = answers[0].split()[2:10]
+        message = [element(found[i : i + 2]) for i in range(0, 8, 2)]
+        for spoiled in [message] + [[c ^ (DICE.getrandbits(128) if i == k else 0) for i, c in enumerate(message)] for k in range(4)]:
+            sheet.rust("sumops", f"round {listed(spoiled)} {listed([claim] + some(1))}")
+        for r in [0, 1]:
+            sheet.rust("sumops", f"round {listed(message)} {listed([claim, r])}")
+        sheet.rust("sumops", f"round {listed(message)} {listed([claim ^ 1] + some(1))}")
+    for degree in range(6):
+        message = some(degree + 1)
+        claim = 0
+        for c in message[1:]:
+            claim ^= c
+        for wrong in [0, 1 << 64]:
+            sheet.rust("sumops", f"round {listed(message)} {listed([claim ^ wrong] + some(1))}")
+    sheet.note("terminal values: true ones, and damaged in each; a factor of 0")
+    product = lambda x, y: element(sheet.now("oracle", f"mul {listed([x, y])}"))
+    for e, a, b, c in [some(4), some(4), [0] + some(3), some(1) + [0] + some(2), some(3) + [0]]:
+        values = [product(e, product(a, b) ^ c), e, a, b, c]
+        sheet.rust("sumops", f"outerend {listed(values)}")
+        for k in range(5):
+            sheet.rust("sumops", f"outerend {listed([v ^ (i == k) for i, v in enumerate(values)])}")
+    for t, z in [some(2), some(2), [0] + some(1)]:
+        values = [product(t, z), t, z]
+        sheet.rust("sumops", f"innerend {listed(values)}")
+        for k in range(3):
+            sheet.rust("sumops", f"innerend {listed([v ^ ((i == k) << 127) for i, v in enumerate(values)])}")
+    sheet.note("eq of two points, the second in the order of the rounds; it is refused with 11 where the two do not go together")
+    for n in range(7):
+        for high in orders(n):
+            sheet.rust("sumops", f"eqpoints {high} {listed(some(n))} {listed(some(n))}")
+        same = special(n)
+        sheet.rust("sumops", f"eqpoints 0 {listed(same)} {listed(same)}")
+        for high, tau, r in [(0, n, n + 1), (0, n + 1, n), (n + 1, n, n), (2**64 - 1, n, n)]:
+            sheet.said(f"eqpoints {high} {brief([3] * tau)} {brief([5] * r)}", "! 11")
+    sheet.said("eqpoints 0 3 1 2 3 3 1 2 3", "! 11")
+    for k, t, r in [some(3), [1] + some(2), some(1) + [1, 0], some(1) + [1, 1], [0] + some(2)]:
+        sheet.said(f"eqnext {listed([k, t, r])}", f"= {listed([product(k, 1 ^ t ^ r)])}")
+    lent_rounds(sheet)
+
+
+def lent_rounds(sheet):
+    def marked(code, found, lent):
+        return " ".join(["=", str(code), str(lent)] + found + [MARK] * (lent - len(found)))
+
+    def eq(point):
+        return sheet.now("oracle", f"eq {brief(point)}")
+
+    def small(n):
+        return [DICE.getrandbits(9) for _ in range(n)]
+
+    sheet.note("an eq table without a variable: that of the other ones; the second half stays")
+    for n in range(1, 6):
+        for v in range(n):
+            tau = some(n)
+            table, rest = eq(tau), eq(tau[:v] + tau[v + 1 :])
+            after = rest + table[len(rest) :]
+            sheet.said(f"dropvar {v} {' '.join([str(len(table))] + table)}", " ".join(["= 0", str(len(after))] + after))
+        for v in [n, n + 1, 63, 64, 2**64 - 1]:
+            table = small(2**n)
+            sheet.said(f"dropvar {v} {brief(table)}", f"= 11 {listed(table)}")
+    for count in [0, 1, 2, 3, 5, 6, 7, 12]:
+        table = " ".join([str(count)] + words(some(6))[:count])
+        sheet.said(f"dropvar 0 {table}", f"= 11 {table}")
+    sheet.note("messages: the words past them stay; too few words are refused with 15, tables that do not go together with 11, and before")
+    for n, v in [(1, 0), (2, 0), (2, 1), (3, 0), (3, 2)]:
+        tau, a, b, c, r = some(n), small(2**n), small(2**n), small(2**n), some(n)
+        tables = f"{brief(a)} {brief(b)} {brief(c)}"
+        run = f"outer {int(v > 0)} {brief([0])} {brief(tau)} {tables} {brief(r)}"
+        found = sheet.commands["sumops"].asks(run, 4 * n + 1)[0].split()[2:10]
+        e = eq(tau[:v] + tau[v + 1 :])
+        e = " ".join([str(len(e))] + e)
+        factors = brief([1, tau[v]])
+        for lent in [0, 7, 8, 9, 13]:
+            answer = marked(15, [], lent) if lent < 8 else marked(0, found, lent)
+            sheet.said(f"outermsg {lent} {v} {e} {tables} {factors}", answer)
+        half = brief(a[: 2 ** (n - 1)])
+        for bad in [
+            f"{n} {e} {tables}",
+            f"{2**64 - 1} {e} {tables}",
+            f"{v} {brief(a)} {tables}",
+            f"{v} 0 {tables}",
+            f"{v} {e} {brief(a)} {half} {brief(c)}",
+            f"{v} {e} {brief(a)} {brief(b)} {half}",
+            f"{v} {e} {half} {brief(b)} {brief(c)}",
+        ]:
+            sheet.said(f"outermsg 7 {bad} {factors}", marked(11, [], 7))
+        run = f"inner {int(v > 0)} {brief([0])} {brief(a)} {brief(b)} {brief(r)}"
+        found = sheet.commands["sumops"].asks(run, 3 * n + 1)[0].split()[2:8]
+        for lent in [0, 5, 6, 7, 12]:
+            answer = marked(15, [], lent) if lent < 6 else marked(0, found, lent)
+            sheet.said(f"innermsg {lent} {v} {brief(a)} {brief(b)}", answer)
+        for bad in [f"{n} {brief(a)} {brief(b)}", f"{v} {brief(a)} {half}", f"{v} {half} {brief(b)}"]:
+            sheet.said(f"innermsg 5 {bad}", marked(11, [], 5))
+    for count in [0, 1, 2, 3, 6, 12]:
+        table = " ".join([str(count)] + words(some(6))[:count])
+        sheet.said(f"innermsg 6 0 {table} {table}", marked(11, [], 6))
+        half = " ".join([str(count // 2)] + words(some(6))[: count // 2])
+        sheet.said(f"outermsg 8 0 {half} {table} {table} {table} {brief([1, 1])}", marked(11, [], 8))
+
+
 def main():
-    if len(sys.argv) != 3:
+    if len(sys.argv) != 4:
         sys.exit(__doc__)
-    sheet = Sheet(sys.argv[1], sys.argv[2])
+    sheet = Sheet(*sys.argv[1:])
     rows(sheet)
     elements(sheet)
     tables(sheet)
     edges(sheet)
     hashes(sheet)
     transcripts(sheet)
+    sumchecks(sheet)
     sheet.write("magnetar_vectors")
 
 

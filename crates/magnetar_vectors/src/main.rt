@@ -2,7 +2,16 @@
 // (docs/VECTORS.md says what each query asks and where its answer comes from). A line that begins with # is copied.
 mod field;
 mod hash;
+mod sumcheck;
 mod text;
+
+// Answers a query that has no byte strings, or says that it is none.
+fn of_numbers(op: u64, nums: &[u64], out: &mut [u64]) -> bool {
+    if field::answered(op, nums, out) {
+        return true;
+    }
+    sumcheck::answered(op, nums, out)
+}
 
 // The words of a line, as numbers and as bytes, are lent to every query, and so are words to write to.
 fn answer(
@@ -20,7 +29,7 @@ fn answer(
     }
     let op = text::name(line);
     let n = text::numbers(line, nums);
-    if field::answered(op, text::first(nums, n), out) {
+    if of_numbers(op, text::first(nums, n), out) {
         return;
     }
     let k = text::bytes(line, bytes, lens);

@@ -306,6 +306,22 @@ pub(crate) fn list(nums: &[u64], i: usize) -> &[u64] {
     &nums[0..0]
 }
 
+// Where the list that is k lists after index i begins.
+pub(crate) fn skip(nums: &[u64], i: usize, k: usize) -> usize {
+    let mut at = i;
+    let mut j = 0;
+    while j < k {
+        at = plus(at, plus(1, list(nums, at).len()));
+        j += 1;
+    }
+    at
+}
+
+// The list that is k lists after index i.
+pub(crate) fn nth(nums: &[u64], i: usize, k: usize) -> &[u64] {
+    list(nums, skip(nums, i, k))
+}
+
 pub(crate) fn print(s: &[u8]) {
     io::write_all(STDOUT_FILENO, s);
 }
@@ -341,4 +357,39 @@ pub(crate) fn print_words(s: &[u64]) {
         print_word(s[i]);
         i += 1;
     }
+}
+
+pub(crate) fn print_line(s: &[u64]) {
+    print(b"= ");
+    print_words(s);
+    print(b"\n");
+}
+
+pub(crate) fn print_truth(b: bool) {
+    if b {
+        print(b"true");
+    } else {
+        print(b"false");
+    }
+}
+
+pub(crate) fn print_bool(b: bool) {
+    print(b"= ");
+    print_truth(b);
+    print(b"\n");
+}
+
+pub(crate) fn print_refusal(code: u32) {
+    print(b"! ");
+    print_number(wide(code));
+    print(b"\n");
+}
+
+// What a call answered, and the lent words after it.
+pub(crate) fn print_code(code: u32, s: &[u64]) {
+    print(b"= ");
+    print_number(wide(code));
+    print(b" ");
+    print_words(s);
+    print(b"\n");
 }
