@@ -1,0 +1,173 @@
+-- `magnetar_r1cs::r1cs::eval_mle_at` meets its contract.
+-- Assumes nothing.
+use lib.ListN.{take, drop, length-drop, replicate}
+use Rattle.magnetar_r1cs.proofs.Lone.{below-wider, inside, all-inside, sum-ext}
+use Rattle.magnetar_r1cs.proofs.Points.{point-size, cross-is}
+use mathlib.Core.Path.{_≡_, refl, sym, ap, _∙_}
+use mathlib.Core.Bool.{not}
+use mathlib.Core.List.{List, _++_}
+use Prim.Native.Nat.{ℕ, _+_, _*_, _≤_, _/_}
+use native.Mathlib.Omega.{arith}
+use lib.Dec.{eqb, ltb}
+use lib.ListN.{length, length-take}
+use lib.Seq.{length-take-le}
+use borrow.Author.Tests.{ltb-false, eqb-true, not-false}
+use denote.Ref.{now}
+use Rattle.magnetar_field.specs.Sizes.{log₂}
+use Rattle.magnetar_r1cs.specs.Lent.{Lent, lent, entriesOf, matrixOf}
+use Rattle.magnetar_r1cs.specs.Tests.{Tests, noted, loneTests, lengthTest, roomTest}
+use Rattle.magnetar_r1cs.proofs.Noted.{noted-front, noted-late, noted-clear, turned, done, refused, found}
+use Rattle.magnetar_r1cs.proofs.SizeLaws.{Sized}
+use Rattle.magnetar_r1cs.proofs.Lone.{Lone, lone}
+use Rattle.magnetar_r1cs.proofs.TableLaws.{in-front}
+use Rattle.magnetar_r1cs.proofs.Points.{point-of, log-most}
+use Rattle.magnetar_r1cs.specs.Matrix.{mleAt}
+use Rattle.magnetar_r1cs.specs.Entries.{atRefusal}
+use Rattle.magnetar_field.specs.Entries.{answered}
+use borrow.Author.Needs.{needs}
+use Rattle.magnetar_r1cs.proofs.r1cs.eval_mle_at.Statement.{statement}
+use Rattle.magnetar_r1cs.proofs.r1cs.eval_mle_at.Tie as tie
+
+-- the matrix that is lent
+abbrev mat : tie.Start → Lent
+mat s = let x = s .args in lent (x .rows) (x .cols) (now (x .row)) (now (x .col)) (now (x .lo)) (now (x .hi))
+
+-- the tests after those of the matrix
+abbrev rest : tie.Start → Tests
+rest s = let x = s .args in lengthTest (2 * log₂ (x .rows)) (now (x .r)) ++ lengthTest (2 * log₂ (x .cols)) (now (x .c)) ++ roomTest (2 * (x .rows + x .cols)) (now (x .scratch))
+
+-- what they give
+late : (c : tie.After-note3) → c .note3 .result ≡ noted 0 (rest (c .before .before .before .before .before .before .before .before .before .before .before .before .before .before))
+late c = cc
+
+-- what is known once nothing is refused
+matrix-fits : (c : tie.Else2) → Lone (mat (c .before .before .before .before .before .before .before .before .before .before .before .before .before .before .before))
+matrix-fits c = lone _ (sym (c .before .before .before .before .before .before .before .lone .ensures) ∙ c .before .before .before .before .before .before .if1 .left)
+
+record Fits (s : tie.Start) : Type 0 where
+  row-point : length (now (s .args .r)) ≡ 2 * log₂ (s .args .rows)
+  col-point : length (now (s .args .c)) ≡ 2 * log₂ (s .args .cols)
+  scratch : 2 * (s .args .rows + s .args .cols) ≤ length (now (s .args .scratch))
+
+fits : (c : tie.Else2) → Fits (c .before .before .before .before .before .before .before .before .before .before .before .before .before .before .before)
+fits c =
+    let k = noted-clear 0 (rest (c .before .before .before .before .before .before .before .before .before .before .before .before .before .before .before)) refl (sym (late (c .before)) ∙ c .if2 .left) .1 in
+    record { row-point = eqb-true _ _ (not-false _ (k .0)); col-point = eqb-true _ _ (not-false _ (k .1 .0)); scratch = ltb-false _ _ (k .1 .1 .0) }
+
+lone-requires : tie.Need-lone-requires
+lone-requires c κs = search needs
+
+returns : tie.Need-returns
+unfolding atRefusal
+returns c =
+    let e = noted-front (loneTests (mat (c .before .before .before .before .before .before .before .before .before))) (rest (c .before .before .before .before .before .before .before .before .before)) _ (c .before .lone .ensures) (c .if1 .taken) in
+    (refused _ e (c .if1 .taken), turned _ _ e (c .if1 .taken))
+
+log2-requires : tie.Need-log2-requires
+log2-requires c κs = search needs
+
+mul-note : tie.Need-mul-note
+mul-note c =
+    let z = lone (mat (c .before .before .before .before .before .before .before .before .before .before)) (sym (c .before .before .lone .ensures) ∙ c .before .if1 .left) .rows-size in
+    omega (arith, c .log2 .ensures, log-most _ (z .high) (z .power))
+
+note-requires : tie.Need-note-requires
+note-requires c κs = search needs
+
+log2-requires-2 : tie.Need-log2-requires-2
+log2-requires-2 c κs = search needs
+
+mul-note-2 : tie.Need-mul-note-2
+mul-note-2 c =
+    let z = lone (mat (c .before .before .before .before .before .before .before .before .before .before .before .before)) (sym (c .before .before .before .before .lone .ensures) ∙ c .before .before .before .if1 .left) .cols-size in
+    omega (arith, c .log22 .ensures, log-most _ (z .high) (z .power))
+
+note-requires-2 : tie.Need-note-requires-2
+note-requires-2 c κs = search needs
+
+add-note : tie.Need-add-note
+add-note c =
+    let m = lone (mat (c .before .before .before .before .before .before .before .before .before .before .before .before .before)) (sym (c .before .before .before .before .before .lone .ensures) ∙ c .before .before .before .before .if1 .left) in
+    omega (arith, m .rows-size .high, m .cols-size .high)
+
+mul-note-3 : tie.Need-mul-note-3
+mul-note-3 c =
+    let m = lone (mat (c .before .before .before .before .before .before .before .before .before .before .before .before .before)) (sym (c .before .before .before .before .before .lone .ensures) ∙ c .before .before .before .before .if1 .left) in
+    omega (arith, m .rows-size .high, m .cols-size .high)
+
+note-requires-3 : tie.Need-note-requires-3
+note-requires-3 c κs = search needs
+
+returns-2 : tie.Need-returns-2
+unfolding atRefusal
+returns-2 c =
+    let e = noted-late (loneTests (mat (c .before .before .before .before .before .before .before .before .before .before .before .before .before .before .before))) (rest (c .before .before .before .before .before .before .before .before .before .before .before .before .before .before .before)) _ _ (c .before .before .before .before .before .before .before .lone .ensures) (c .before .before .before .before .before .before .if1 .left) (late (c .before)) in
+    (refused _ e (c .if2 .taken), turned _ _ e (c .if2 .taken))
+
+add-room : tie.Need-add-room
+add-room c = let m = matrix-fits c in omega (arith, m .rows-size .high, m .cols-size .high)
+
+mul-room : tie.Need-mul-room
+mul-room c = let m = matrix-fits c in omega (arith, m .rows-size .high, m .cols-size .high)
+
+slice-relend-prefix-sum-in : tie.Need-slice-relend-prefix-sum-in
+slice-relend-prefix-sum-in c = fits c .scratch
+
+slice-aggregate-sum-in : tie.Need-slice-aggregate-sum-in
+slice-aggregate-sum-in c = sym (length-take-le _ _ (fits (c .before) .scratch))
+
+sum-in-requires : tie.Need-sum-in-requires
+sum-in-requires c κs =
+    let m = matrix-fits (c .before) in
+    let f = fits (c .before) in
+    let x = c .before .before .before .before .before .before .before .before .before .before .before .before .before .before .before .before .args in
+    let l = length-take-le (2 * (x .rows + x .cols)) (now (x .scratch)) (f .scratch) in (
+      m .entries .equal,
+      (
+        (m .rows-size .high, below-wider _ _ _ (m .cols-size .high) (m .entries .cols-in), omega (arith, l)),
+        (
+          point-of _ _ _ _ (m .rows-size) (f .row-point) (length-take-le _ _ (omega (arith, l))),
+          point-of _ _ _ _ (m .cols-size) (f .col-point) (rw (length-drop, l) (omega arith)),
+        ),
+      ),
+    )
+
+same-length : tie.Need-same-length
+same-length c = search needs
+
+returns-3 : tie.Need-returns-3
+unfolding atRefusal mleAt matrixOf
+returns-3 c =
+    let s = c .before .before .before .before .before .before .before .before .before .before .before .before .before .before .before .before .before .before .before in
+    let x = s .args in
+    let k = c .before .before .before .before in
+    let m = matrix-fits k in
+    let f = fits k in
+    let e = sym (k .if2 .left) ∙ noted-late (loneTests (mat s)) (rest s) _ _ (k .before .before .before .before .before .before .before .lone .ensures) (k .before .before .before .before .before .before .if1 .left) (late (k .before)) in
+    let at = cross-is _ _ _ _ (point-size _ _ _ (m .rows-size) (f .row-point)) (point-size _ _ _ (m .cols-size) (f .col-point)) in
+    let v = c .before .before .sum-in .ensures .0 ∙ sum-ext (inside (x .rows) (x .cols)) _ _ _ (all-inside _ _ _ _ _ _ (m .entries .rows-in) (m .entries .cols-in)) at in
+    (found _ _ e v, rw (c .before .before .sum-in .ensures .1, length-take-le (2 * (x .rows + x .cols)) (now (x .scratch)) (f .scratch)) (done _ _ e refl))
+
+pub eval-mle-at-spec : {M : Type 1} → statement M
+eval-mle-at-spec =
+    tie.close
+    (tie.spec
+    lone-requires
+    returns
+    log2-requires
+    mul-note
+    note-requires
+    log2-requires-2
+    mul-note-2
+    note-requires-2
+    add-note
+    mul-note-3
+    note-requires-3
+    returns-2
+    add-room
+    mul-room
+    slice-relend-prefix-sum-in
+    slice-aggregate-sum-in
+    sum-in-requires
+    same-length
+    returns-3)

@@ -1,0 +1,161 @@
+-- `magnetar_r1cs::r1cs::eval_mle_table` meets its contract.
+-- Assumes nothing.
+use Rattle.magnetar_r1cs.proofs.Lone.{flipped}
+use lib.ListN.{replicate}
+use mathlib.Core.Path.{_≡_, refl, sym, ap, _∙_}
+use mathlib.Core.Bool.{not}
+use mathlib.Core.List.{List, _++_}
+use Prim.Native.Nat.{ℕ, _+_, _*_, _≤_, _/_}
+use native.Mathlib.Omega.{arith}
+use lib.Dec.{eqb, ltb}
+use lib.ListN.{length, length-take}
+use lib.Seq.{length-take-le}
+use borrow.Author.Tests.{ltb-false, eqb-true, not-false}
+use denote.Ref.{now}
+use Rattle.magnetar_field.specs.Sizes.{log₂}
+use Rattle.magnetar_r1cs.specs.Lent.{Lent, lent, entriesOf, matrixOf}
+use Rattle.magnetar_r1cs.specs.Tests.{Tests, noted, loneTests, lengthTest, roomTest}
+use Rattle.magnetar_r1cs.proofs.Noted.{noted-front, noted-late, noted-clear, turned, done}
+use Rattle.magnetar_r1cs.proofs.SizeLaws.{Sized}
+use Rattle.magnetar_r1cs.proofs.Lone.{Lone, lone}
+use Rattle.magnetar_r1cs.proofs.TableLaws.{in-front}
+use Rattle.magnetar_r1cs.proofs.Points.{point-of, log-most}
+use Rattle.magnetar_r1cs.specs.Matrix.{times, timesAt, transpose, mleTable}
+use Rattle.magnetar_r1cs.specs.Entries.{tableRefusal}
+use Rattle.magnetar_r1cs.proofs.Walked.{entries-swapped}
+use borrow.Author.Needs.{needs}
+use Rattle.magnetar_r1cs.proofs.r1cs.eval_mle_table.Statement.{statement}
+use Rattle.magnetar_r1cs.proofs.r1cs.eval_mle_table.Tie as tie
+
+-- the matrix that is lent
+abbrev mat : tie.Start → Lent
+mat s = let x = s .args in lent (x .rows) (x .cols) (now (x .row)) (now (x .col)) (now (x .lo)) (now (x .hi))
+
+-- the tests after those of the matrix
+abbrev rest : tie.Start → Tests
+rest s = let x = s .args in lengthTest (2 * log₂ (x .rows)) (now (x .point)) ++ roomTest (2 * x .cols) (now (x .out)) ++ roomTest (2 * x .rows) (now (x .scratch))
+
+-- what they give
+late : (c : tie.After-note3) → c .note3 .result ≡ noted 0 (rest (c .before .before .before .before .before .before .before .before .before .before .before .before .before))
+late c = cc
+
+-- what is known once nothing is refused
+matrix-fits : (c : tie.Else2) → Lone (mat (c .before .before .before .before .before .before .before .before .before .before .before .before .before .before))
+matrix-fits c = lone _ (sym (c .before .before .before .before .before .before .lone .ensures) ∙ c .before .before .before .before .before .if1 .left)
+
+record Fits (s : tie.Start) : Type 0 where
+  point : length (now (s .args .point)) ≡ 2 * log₂ (s .args .rows)
+  out : 2 * s .args .cols ≤ length (now (s .args .out))
+  scratch : 2 * s .args .rows ≤ length (now (s .args .scratch))
+
+fits : (c : tie.Else2) → Fits (c .before .before .before .before .before .before .before .before .before .before .before .before .before .before)
+fits c =
+    let k = noted-clear 0 (rest (c .before .before .before .before .before .before .before .before .before .before .before .before .before .before)) refl (sym (late (c .before)) ∙ c .if2 .left) .1 in
+    record { point = eqb-true _ _ (not-false _ (k .0)); out = ltb-false _ _ (k .1 .0); scratch = ltb-false _ _ (k .1 .1 .0) }
+
+lone-requires : tie.Need-lone-requires
+lone-requires c κs = search needs
+
+returns : tie.Need-returns
+unfolding tableRefusal
+returns c =
+    let e = noted-front (loneTests (mat (c .before .before .before .before .before .before .before .before .before))) (rest (c .before .before .before .before .before .before .before .before .before)) _ (c .before .lone .ensures) (c .if1 .taken) in
+    (e, (turned _ _ e (c .if1 .taken), turned _ _ e (c .if1 .taken)))
+
+log2-requires : tie.Need-log2-requires
+log2-requires c κs = search needs
+
+mul-note : tie.Need-mul-note
+mul-note c =
+    let z = lone (mat (c .before .before .before .before .before .before .before .before .before .before)) (sym (c .before .before .lone .ensures) ∙ c .before .if1 .left) .rows-size in
+    omega (arith, c .log2 .ensures, log-most _ (z .high) (z .power))
+
+note-requires : tie.Need-note-requires
+note-requires c κs = search needs
+
+mul-note-2 : tie.Need-mul-note-2
+mul-note-2 c = omega (arith, lone (mat (c .before .before .before .before .before .before .before .before .before .before .before)) (sym (c .before .before .before .lone .ensures) ∙ c .before .before .if1 .left) .cols-size .high)
+
+note-requires-2 : tie.Need-note-requires-2
+note-requires-2 c κs = search needs
+
+mul-note-3 : tie.Need-mul-note-3
+mul-note-3 c = omega (arith, lone (mat (c .before .before .before .before .before .before .before .before .before .before .before .before)) (sym (c .before .before .before .before .lone .ensures) ∙ c .before .before .before .if1 .left) .rows-size .high)
+
+note-requires-3 : tie.Need-note-requires-3
+note-requires-3 c κs = search needs
+
+returns-2 : tie.Need-returns-2
+unfolding tableRefusal
+returns-2 c =
+    let e = noted-late (loneTests (mat (c .before .before .before .before .before .before .before .before .before .before .before .before .before .before))) (rest (c .before .before .before .before .before .before .before .before .before .before .before .before .before .before)) _ _ (c .before .before .before .before .before .before .lone .ensures) (c .before .before .before .before .before .if1 .left) (late (c .before)) in
+    (e, (turned _ _ e (c .if2 .taken), turned _ _ e (c .if2 .taken)))
+
+mul-end : tie.Need-mul-end
+mul-end c = omega (arith, matrix-fits c .cols-size .high)
+
+mul-room : tie.Need-mul-room
+mul-room c = omega (arith, matrix-fits c .rows-size .high)
+
+slice-relend-prefix-table-in : tie.Need-slice-relend-prefix-table-in
+slice-relend-prefix-table-in c = fits c .out
+
+slice-aggregate-table-in : tie.Need-slice-aggregate-table-in
+slice-aggregate-table-in c = sym (length-take-le _ _ (fits (c .before) .out))
+
+slice-relend-prefix-table-in-2 : tie.Need-slice-relend-prefix-table-in-2
+slice-relend-prefix-table-in-2 c = fits (c .before) .scratch
+
+slice-aggregate-table-in-2 : tie.Need-slice-aggregate-table-in-2
+slice-aggregate-table-in-2 c = sym (length-take-le _ _ (fits (c .before .before) .scratch))
+
+table-in-requires : tie.Need-table-in-requires
+table-in-requires c κs =
+    let m = matrix-fits (c .before .before) in
+    let f = fits (c .before .before) in
+    (flipped (m .entries .equal), (rw (length-take-le _ _ (f .out)) (omega arith), point-of _ _ _ _ (m .rows-size) (f .point) (length-take-le _ _ (f .scratch))))
+
+same-length : tie.Need-same-length
+same-length c = search needs
+
+same-length-2 : tie.Need-same-length-2
+same-length-2 c = search needs
+
+returns-3 : tie.Need-returns-3
+unfolding tableRefusal mleTable times timesAt transpose matrixOf
+returns-3 c =
+    let s = c .before .before .before .before .before .before .before .before .before .before .before .before .before .before .before .before .before .before .before .before .before in
+    let k = c .before .before .before .before .before .before .before in
+    let e = sym (k .if2 .left) ∙ noted-late (loneTests (mat s)) (rest s) _ _ (k .before .before .before .before .before .before .lone .ensures) (k .before .before .before .before .before .if1 .left) (late (k .before)) in
+    let f = fits k in (
+      e,
+      (
+        in-front _ _ _ _ (f .out) (c .before .before .before .before .table-in .ensures .0) ∙ rw entries-swapped (done _ _ e refl),
+        rw (c .before .before .before .before .table-in .ensures .1, length-take-le (2 * s .args .rows) (now (s .args .scratch)) (f .scratch)) (done _ _ e refl),
+      ),
+    )
+
+pub eval-mle-table-spec : {M : Type 1} → statement M
+eval-mle-table-spec =
+    tie.close
+    (tie.spec
+    lone-requires
+    returns
+    log2-requires
+    mul-note
+    note-requires
+    mul-note-2
+    note-requires-2
+    mul-note-3
+    note-requires-3
+    returns-2
+    mul-end
+    mul-room
+    slice-relend-prefix-table-in
+    slice-aggregate-table-in
+    slice-relend-prefix-table-in-2
+    slice-aggregate-table-in-2
+    table-in-requires
+    same-length
+    same-length-2
+    returns-3)

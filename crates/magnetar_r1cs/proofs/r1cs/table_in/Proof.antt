@@ -1,0 +1,36 @@
+-- `magnetar_r1cs::r1cs::table_in` meets its contract.
+-- Assumes nothing.
+use Prim.Native.Nat.{ℕ}
+use lib.ListN.{replicate}
+use mathlib.Core.Path.{_≡_, refl, sym, ap, _∙_}
+use lib.ListN.{length}
+use denote.Ref.{now}
+use Rattle.magnetar_r1cs.proofs.TableLaws.{elements-words}
+use borrow.Author.Needs.{needs}
+use Rattle.magnetar_r1cs.proofs.r1cs.table_in.Statement.{statement}
+use Rattle.magnetar_r1cs.proofs.r1cs.table_in.Tie as tie
+
+eq-in-requires : tie.Need-eq-in-requires
+eq-in-requires c κs = search needs
+
+product-requires : tie.Need-product-requires
+product-requires c κs = search needs
+
+clear-requires : tie.Need-clear-requires
+clear-requires c κs = search needs
+
+same-length : tie.Need-same-length
+same-length c = search needs
+
+same-length-2 : tie.Need-same-length-2
+same-length-2 c = search needs
+
+returns : tie.Need-returns
+returns c =
+    let same : length (c .before .before .before .before .before .before .before .before .before .before .before .eq-in .last .1 .0) ≡ length (now (c .before .before .before .before .before .before .before .before .before .before .before .before .before .before .before .before .before .before .before .before .args .s)) = search needs in
+    (c .before .before .before .before .before .before .product .ensures ∙ rw (c .before .before .before .before .before .before .before .before .before .before .before .eq-in .ensures, elements-words), c .before .before .clear .ensures ∙ ap (λ (n : ℕ). replicate n 0) same)
+
+pub table-in-spec : {M : Type 1} → statement M
+table-in-spec =
+    tie.close
+    (tie.spec eq-in-requires product-requires clear-requires same-length same-length-2 returns)

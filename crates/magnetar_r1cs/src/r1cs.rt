@@ -1,0 +1,356 @@
+// Sparse matrices, lent as four number slices: row, column, low word and high word of each entry.
+use crate::fold;
+use crate::tests;
+use crate::walk;
+use magnetar_field::eq::EqBits;
+use magnetar_field::gf128::Evaluated;
+use magnetar_field::gf128::Gf128;
+use magnetar_field::sizes;
+use magnetar_field::words;
+ghost use mathlib.Core.Path.{_≡_};
+ghost use mathlib.Core.Bool.{true, _&&_};
+ghost use lib.Dec.{leb};
+ghost use Rattle.magnetar_r1cs.specs.Every.{every};
+ghost use Prim.Native.Nat.{ℕ, _+_, _*_, _/_, _%_, _^_, _<_, _≤_};
+ghost use mathlib.Core.List.{_++_};
+ghost use lib.ListN.{length, take, drop, replicate};
+ghost use Rattle.magnetar_field.specs.Gf128.{value};
+ghost use Rattle.magnetar_field.specs.Tabulate.{tabulate};
+ghost use Rattle.magnetar_field.specs.Words.{elements, words};
+ghost use Rattle.magnetar_field.specs.EqTable.{eqTable};
+ghost use Rattle.magnetar_field.specs.Entries.{answer};
+ghost use Rattle.magnetar_r1cs.specs.Matrix.{sumOver, rowTotal, share, isBit, binary, bitValued};
+ghost use Rattle.magnetar_r1cs.specs.Lent.{lent, entriesOf, matrixOf};
+ghost use Rattle.magnetar_r1cs.specs.Table.{cross, loginTotal, loginBlock, Equal, Point};
+ghost use Rattle.magnetar_r1cs.specs.Sum.{blocks};
+ghost use Rattle.magnetar_r1cs.specs.Packed.{loginWords};
+ghost use Rattle.magnetar_r1cs.specs.Tests.{allBelow, noted, batchTests};
+ghost use Rattle.magnetar_r1cs.specs.Entries.{applyRefusal, applyOut, tableRefusal, tableOut, tableScratch, atAnswer, atScratch, flagged, flaggedOf, binaryRefusal, packedRefusal, packedOut};
+
+// An answer: yes, no, or the number of a refusal.
+pub enum Flag {
+    Yes,
+    No,
+    Refused(u32),
+}
+
+// Sets out to the product of the entries with the factors.
+pub(crate) fn product(
+    row: &[usize],
+    col: &[usize],
+    lo: &[u64],
+    hi: &[u64],
+    factors: &[u64],
+    out: &mut [u64],
+)
+    requires { ⌜ Equal (now row) (now col) (now lo) (now hi) ⌝ }
+    requires { ⌜ length (now out) % 2 ≡ 0 ⌝ }
+    ensures { λ _. ⌜ now (out .exit) ≡ words (tabulate (rowTotal (share (elements (now (factors .entry)))) (entriesOf (now (row .entry)) (now (col .entry)) (now (lo .entry)) (now (hi .entry)))) (length (now (out .entry)) / 2)) ⌝ }
+{
+    words::clear(out);
+    walk::add_product(row, col, lo, hi, factors, out);
+}
+
+// The product with the vector z. 1: no such columns; 4: no such rows; 6: no such entries; 7: an entry outside; 11: z is not
+// of the columns' length; 15: too little room.
+pub fn apply(
+    rows: usize,
+    cols: usize,
+    row: &[usize],
+    col: &[usize],
+    lo: &[u64],
+    hi: &[u64],
+    z: &[u64],
+    out: &mut [u64],
+) -> u32
+    ensures answer { λ r. ⌜ r ≡ applyRefusal (lent rows cols (now (row .entry)) (now (col .entry)) (now (lo .entry)) (now (hi .entry))) (now (z .entry)) (now (out .entry)) ⌝ }
+    ensures product { λ _. ⌜ now (out .exit) ≡ applyOut (lent rows cols (now (row .entry)) (now (col .entry)) (now (lo .entry)) (now (hi .entry))) (now (z .entry)) (now (out .entry)) ⌝ }
+{
+    let n = tests::lone(rows, cols, row, col, lo, hi);
+    if n != 0 {
+        return n;
+    }
+    let n = tests::note(0, 11, z.len() != 2 * cols);
+    let n = tests::note(n, 15, out.len() < 2 * rows);
+    if n != 0 {
+        return n;
+    }
+    let end = 2 * rows;
+    product(row, col, lo, hi, z, &mut out[..end]);
+    0
+}
+
+// Sets s to the eq table of the point.
+pub(crate) fn eq_in(point: &[u64], s: &mut [u64])
+    requires { ⌜ Point (now point) (now s) ⌝ }
+    ensures { λ _. ⌜ now (s .exit) ≡ words (eqTable (elements (now (point .entry)))) ⌝ }
+{
+    let _done = EqBits::build(point, s);
+}
+
+// The table of the extension at the row point; s is room for the eq table, and is left 0.
+fn table_in(
+    row: &[usize],
+    col: &[usize],
+    lo: &[u64],
+    hi: &[u64],
+    point: &[u64],
+    out: &mut [u64],
+    s: &mut [u64],
+)
+    requires { ⌜ Equal (now col) (now row) (now lo) (now hi) ⌝ }
+    requires { ⌜ length (now out) % 2 ≡ 0 ⌝ }
+    requires { ⌜ Point (now point) (now s) ⌝ }
+    ensures { λ _. ⌜ now (out .exit) ≡ words (tabulate (rowTotal (share (eqTable (elements (now (point .entry))))) (entriesOf (now (col .entry)) (now (row .entry)) (now (lo .entry)) (now (hi .entry)))) (length (now (out .entry)) / 2)) ⌝ }
+    ensures { λ _. ⌜ now (s .exit) ≡ replicate (length (now (s .entry))) 0 ⌝ }
+{
+    eq_in(point, s);
+    product(col, row, lo, hi, s, out);
+    words::clear(s);
+}
+
+// The extension at the row point and every column. 1, 4, 6, 7 as for `apply`; 11: the point is not of the rows' length;
+// 15: too little room.
+pub fn eval_mle_table(
+    rows: usize,
+    cols: usize,
+    row: &[usize],
+    col: &[usize],
+    lo: &[u64],
+    hi: &[u64],
+    point: &[u64],
+    out: &mut [u64],
+    scratch: &mut [u64],
+) -> u32
+    ensures answer { λ r. ⌜ r ≡ tableRefusal (lent rows cols (now (row .entry)) (now (col .entry)) (now (lo .entry)) (now (hi .entry))) (now (point .entry)) (now (out .entry)) (now (scratch .entry)) ⌝ }
+    ensures table { λ _. ⌜ now (out .exit) ≡ tableOut (lent rows cols (now (row .entry)) (now (col .entry)) (now (lo .entry)) (now (hi .entry))) (now (point .entry)) (now (out .entry)) (now (scratch .entry)) ⌝ }
+    ensures cleared { λ _. ⌜ now (scratch .exit) ≡ tableScratch (lent rows cols (now (row .entry)) (now (col .entry)) (now (lo .entry)) (now (hi .entry))) (now (point .entry)) (now (out .entry)) (now (scratch .entry)) ⌝ }
+{
+    let n = tests::lone(rows, cols, row, col, lo, hi);
+    if n != 0 {
+        return n;
+    }
+    let n = tests::note(0, 11, point.len() != 2 * sizes::log2(rows));
+    let n = tests::note(n, 15, out.len() < 2 * cols);
+    let n = tests::note(n, 15, scratch.len() < 2 * rows);
+    if n != 0 {
+        return n;
+    }
+    let end = 2 * cols;
+    let room = 2 * rows;
+    table_in(
+        row,
+        col,
+        lo,
+        hi,
+        point,
+        &mut out[..end],
+        &mut scratch[..room],
+    );
+    0
+}
+
+// The sum over the entries at both points; s is room for the two eq tables, the first of n elements, and is left 0.
+fn sum_in(
+    row: &[usize],
+    col: &[usize],
+    lo: &[u64],
+    hi: &[u64],
+    r: &[u64],
+    c: &[u64],
+    n: usize,
+    s: &mut [u64],
+) -> Gf128
+    requires { ⌜ Equal (now row) (now col) (now lo) (now hi) ⌝ }
+    requires { ⌜ (n ≤ 65536) × (allBelow 65536 (now col) ≡ true) × (2 * n ≤ length (now s)) ⌝ }
+    requires { ⌜ Point (now r) (take (2 * n) (now s)) ⌝ }
+    requires { ⌜ Point (now c) (drop (2 * n) (now s)) ⌝ }
+    ensures { λ v. ⌜ value v ≡ sumOver (cross (eqTable (elements (now (r .entry))) ++ eqTable (elements (now (c .entry)))) n) (entriesOf (now (row .entry)) (now (col .entry)) (now (lo .entry)) (now (hi .entry))) ⌝ }
+    ensures { λ _. ⌜ now (s .exit) ≡ replicate (length (now (s .entry))) 0 ⌝ }
+{
+    let k = 2 * n;
+    eq_in(r, &mut s[..k]);
+    eq_in(c, &mut s[k..]);
+    let v = walk::sum_products(row, col, lo, hi, s, n);
+    words::clear(s);
+    v
+}
+
+// The extension at the row point and the column point. 1, 4, 6, 7 as for `apply`; 11: a point is not of the wanted length;
+// 15: too little room.
+pub fn eval_mle_at(
+    rows: usize,
+    cols: usize,
+    row: &[usize],
+    col: &[usize],
+    lo: &[u64],
+    hi: &[u64],
+    r: &[u64],
+    c: &[u64],
+    scratch: &mut [u64],
+) -> Evaluated
+    ensures value { λ v. ⌜ answer v ≡ atAnswer (lent rows cols (now (row .entry)) (now (col .entry)) (now (lo .entry)) (now (hi .entry))) (now (r .entry)) (now (c .entry)) (now (scratch .entry)) ⌝ }
+    ensures cleared { λ _. ⌜ now (scratch .exit) ≡ atScratch (lent rows cols (now (row .entry)) (now (col .entry)) (now (lo .entry)) (now (hi .entry))) (now (r .entry)) (now (c .entry)) (now (scratch .entry)) ⌝ }
+{
+    let n = tests::lone(rows, cols, row, col, lo, hi);
+    if n != 0 {
+        return Evaluated::Refused(n);
+    }
+    let n = tests::note(0, 11, r.len() != 2 * sizes::log2(rows));
+    let n = tests::note(n, 11, c.len() != 2 * sizes::log2(cols));
+    let n = tests::note(n, 15, scratch.len() < 2 * (rows + cols));
+    if n != 0 {
+        return Evaluated::Refused(n);
+    }
+    let room = 2 * (rows + cols);
+    Evaluated::Value(sum_in(row, col, lo, hi, r, c, rows, &mut scratch[..room]))
+}
+
+// Every value is 0 or 1. Refused with 1, 4, 6 and 7 as `apply` is.
+pub fn is_binary(
+    rows: usize,
+    cols: usize,
+    row: &[usize],
+    col: &[usize],
+    lo: &[u64],
+    hi: &[u64],
+) -> Flag
+    ensures { λ r. ⌜ flagged r ≡ flaggedOf (binaryRefusal (lent rows cols (now (row .entry)) (now (col .entry)) (now (lo .entry)) (now (hi .entry)))) (binary (matrixOf (lent rows cols (now (row .entry)) (now (col .entry)) (now (lo .entry)) (now (hi .entry))))) ⌝ }
+{
+    let n = tests::lone(rows, cols, row, col, lo, hi);
+    if n != 0 {
+        return Flag::Refused(n);
+    }
+    if walk::all_bits(row, col, lo, hi) {
+        return Flag::Yes;
+    }
+    Flag::No
+}
+
+// One login's product: the public part, and the part of its bits.
+fn login_product(
+    row: &[usize],
+    col: &[usize],
+    lo: &[u64],
+    hi: &[u64],
+    w: usize,
+    x: &[u64],
+    login: &[u64],
+    out: &mut [u64],
+)
+    requires { ⌜ Equal (now row) (now col) (now lo) (now hi) ⌝ }
+    requires { ⌜ length (now out) % 2 ≡ 0 ⌝ }
+    ensures { λ _. ⌜ now (out .exit) ≡ words (tabulate (loginTotal w (elements (now (x .entry))) (now (login .entry)) (entriesOf (now (row .entry)) (now (col .entry)) (now (lo .entry)) (now (hi .entry)))) (length (now (out .entry)) / 2)) ⌝ }
+{
+    words::clear(out);
+    walk::add_public(row, col, lo, hi, w, x, out);
+    walk::add_bits(row, col, lo, hi, w, login, out);
+}
+
+// The products of the q logins, one behind the other, n rows each.
+fn products(
+    row: &[usize],
+    col: &[usize],
+    lo: &[u64],
+    hi: &[u64],
+    packed: &[u64],
+    x: &[u64],
+    q: usize,
+    w: usize,
+    n: usize,
+    out: &mut [u64],
+)
+    requires { ⌜ Equal (now row) (now col) (now lo) (now hi) ⌝ }
+    requires { ⌜ (w ≤ 32768) × (q ≤ 4096) × (n ≤ 65536) × (length (now packed) ≡ q * loginWords w) × (length (now out) ≡ q * (2 * n)) ⌝ }
+    ensures { λ _. ⌜ now (out .exit) ≡ words (blocks (loginBlock w (elements (now (x .entry))) (now (packed .entry)) (entriesOf (now (row .entry)) (now (col .entry)) (now (lo .entry)) (now (hi .entry))) n) q) ⌝ }
+{
+    let k = fold::login_words(w);
+    let m = 2 * n;
+    let mut u = 0;
+    while u < q {
+        let a = u * k;
+        let b = a + k;
+        let c = u * m;
+        let d = c + m;
+        login_product(row, col, lo, hi, w, x, &packed[a..b], &mut out[c..d]);
+        u += 1;
+    }
+}
+
+// Every value is 0 or 1 and no column exceeds w.
+fn bit_valued(row: &[usize], col: &[usize], lo: &[u64], hi: &[u64], w: usize) -> bool
+    requires { ⌜ Equal (now row) (now col) (now lo) (now hi) ⌝ }
+    requires { ⌜ w ≤ 32768 ⌝ }
+    ensures { λ r. ⌜ r ≡ every (λ e. isBit e && leb (e .col) w) (entriesOf (now (row .entry)) (now (col .entry)) (now (lo .entry)) (now (hi .entry))) ⌝ }
+{
+    if walk::all_bits(row, col, lo, hi) {
+        return tests::all_below(col, w + 1);
+    }
+    false
+}
+
+// 1, 2, 3, 4, 5, 6 and 7 of a matrix for q logins of w columns.
+pub(crate) fn batch_refusal(
+    rows: usize,
+    cols: usize,
+    row: &[usize],
+    col: &[usize],
+    lo: &[u64],
+    hi: &[u64],
+    packed: &[u64],
+    x: &[u64],
+    q: usize,
+    w: usize,
+) -> u32
+    ensures { λ r. ⌜ r ≡ noted 0 (batchTests (lent rows cols (now (row .entry)) (now (col .entry)) (now (lo .entry)) (now (hi .entry))) (now (packed .entry)) (now (x .entry)) q w) ⌝ }
+{
+    let n = tests::note(0, 1, !tests::is_half(w));
+    let n = tests::note(n, 1, !tests::is_size(1, 4096, q));
+    if n != 0 {
+        return n;
+    }
+    let n = tests::note(0, 2, packed.len() != q * fold::login_words(w));
+    let n = tests::note(n, 3, x.len() != 2 * w - 2);
+    let n = tests::note(n, 4, !tests::is_size(1, 65536, rows));
+    if n != 0 {
+        return n;
+    }
+    let n = tests::note(0, 4, q * rows > 1048576);
+    let n = tests::note(n, 5, cols != 2 * w);
+    let n = tests::counts(n, row.len(), col.len(), lo.len(), hi.len());
+    tests::places(n, rows, cols, row, col)
+}
+
+// The products of a batch's logins, one behind the other; yes where all of them are 0 or 1 because every value is and no
+// column exceeds w. 1: no such columns or logins; 2: not as many packed words; 3: not as many public words; 4: no such rows;
+// 5: other columns; 6, 7 as for `apply`; 15: too little room.
+pub fn apply_simd_packed(
+    rows: usize,
+    cols: usize,
+    row: &[usize],
+    col: &[usize],
+    lo: &[u64],
+    hi: &[u64],
+    packed: &[u64],
+    x: &[u64],
+    q: usize,
+    w: usize,
+    out: &mut [u64],
+) -> Flag
+    ensures flag { λ r. ⌜ flagged r ≡ flaggedOf (packedRefusal (lent rows cols (now (row .entry)) (now (col .entry)) (now (lo .entry)) (now (hi .entry))) (now (packed .entry)) (now (x .entry)) q w (now (out .entry))) (bitValued w (matrixOf (lent rows cols (now (row .entry)) (now (col .entry)) (now (lo .entry)) (now (hi .entry))))) ⌝ }
+    ensures products { λ _. ⌜ now (out .exit) ≡ packedOut (lent rows cols (now (row .entry)) (now (col .entry)) (now (lo .entry)) (now (hi .entry))) (now (packed .entry)) (now (x .entry)) q w (now (out .entry)) ⌝ }
+{
+    let n = batch_refusal(rows, cols, row, col, lo, hi, packed, x, q, w);
+    if n != 0 {
+        return Flag::Refused(n);
+    }
+    let end = q * (2 * rows);
+    if out.len() < end {
+        return Flag::Refused(15);
+    }
+    products(row, col, lo, hi, packed, x, q, w, rows, &mut out[..end]);
+    if bit_valued(row, col, lo, hi, w) {
+        return Flag::Yes;
+    }
+    Flag::No
+}
