@@ -250,8 +250,24 @@ pub(crate) fn first(s: &[u64], n: usize) -> &[u64] {
     s
 }
 
+// The same of bytes.
+pub(crate) fn first_bytes(s: &[u8], n: usize) -> &[u8] {
+    if n < s.len() {
+        return &s[0..n];
+    }
+    s
+}
+
 // The same of words that are written to.
 pub(crate) fn front(s: &mut [u64], n: usize) -> &mut [u64] {
+    if n < s.len() {
+        return &mut s[0..n];
+    }
+    s
+}
+
+// The same of sizes.
+pub(crate) fn front_sizes(s: &mut [usize], n: usize) -> &mut [usize] {
     if n < s.len() {
         return &mut s[0..n];
     }
@@ -285,6 +301,11 @@ pub(crate) fn bools(nums: &[u64], out: &mut [bool]) {
 // How many words a table over n variables has.
 pub(crate) fn table_words(n: usize) -> usize {
     if n < 20 { 2 << n } else { 0 }
+}
+
+// Room for a mebibyte.
+pub(crate) fn mebibyte() -> [u8; 1048576] {
+    [0; 1048576]
 }
 
 // Sets every byte to b.
@@ -357,6 +378,20 @@ pub(crate) fn print_words(s: &[u64]) {
         print_word(s[i]);
         i += 1;
     }
+}
+
+// The same of sizes.
+pub(crate) fn print_sizes(s: &[usize]) {
+    print_count(s.len());
+    let mut i = 0;
+    while i < s.len() {
+        print_size(s[i]);
+        i += 1;
+    }
+}
+
+fn print_size(n: usize) {
+    print_word(n as u64);
 }
 
 pub(crate) fn print_line(s: &[u64]) {
