@@ -1,10 +1,11 @@
 #!/usr/bin/env python3
 """Writes the queries of the test program and their recorded answers (docs/VECTORS.md).
 
-    make.py ORACLE FIELDOPS
+    make.py ORACLE FIELDOPS SUMOPS
 
-ORACLE and FIELDOPS are commands that answer queries, a line for each, by the published Rust: ORACLE `mul`, `eq` and
-`evalmle` and those on parts and transcripts, FIELDOPS the rest of the field. Hashes of bytes are Python's hashlib's.
+ORACLE, FIELDOPS and SUMOPS are commands that answer queries by the published Rust: ORACLE `mul`, `eq` and `evalmle` and
+those on parts, transcripts, matrices, folds and layouts, FIELDOPS the rest of the field, SUMOPS the sum-check. Hashes of
+bytes are Python's hashlib's.
 What the Rust does not answer (refusals, and the words of a lent slice that a call leaves alone) is put together here
 from document 01 and from the Rust's answers to the same inputs.
 """
@@ -29,6 +30,11 @@ def listed(elements):
     return " ".join([str(2 * len(elements))] + words(elements))
 
 
+def brief(elements):
+    """The same, as short as a query may have it."""
+    return " ".join([str(2 * len(elements))] + [str(int(w, 0)) if int(w, 0) < 1000 else w for w in words(elements)])
+
+
 def some(n):
     return [DICE.getrandbits(128) for _ in range(n)]
 
@@ -39,19 +45,22 @@ class Rust:
     def __init__(self, *command):
         self.run = subprocess.Popen(command, stdin=subprocess.PIPE, stdout=subprocess.PIPE, text=True, bufsize=1)
 
-    def ask(self, query):
+    def asks(self, query, lines):
         self.run.stdin.write(query + "\n")
         self.run.stdin.flush()
-        answer = self.run.stdout.readline().rstrip("\n")
-        assert answer.startswith("= "), (query, answer)
-        return answer
+        answers = [self.run.stdout.readline().rstrip("\n") for _ in range(lines)]
+        assert all(answer.startswith("= ") for answer in answers), (query, answers)
+        return answers
+
+    def ask(self, query):
+        return self.asks(query, 1)[0]
 
 
 class Sheet:
     """Lines of queries with their answers."""
 
-    def __init__(self, oracle, fieldops):
-        self.commands = {"oracle": Rust(oracle, "ops"), "fieldops": Rust(fieldops)}
+    def __init__(self, oracle, fieldops, sumops):
+        self.commands = {"oracle": Rust(oracle, "ops"), "fieldops": Rust(fieldops), "sumops": Rust(sumops)}
         self.queries, self.answers = [], []
 
     def said(self, query, *answers):
@@ -368,16 +377,387 @@ def transcripts(sheet):
             sheet.said(f"rawdrawvec {state} {first} {label} {lent}", f"= {shown} {after} {end}")
 
 
+def element(found):
+    """The element that two words spell."""
+    low, high = found
+    return int(low, 0) + (int(high, 0) << 64)
+
+
+def orders(n):
+    """How many of n variables are bound from the highest down before the others from the lowest up."""
+    return sorted({0, 1, n // 2, n} & set(range(n + 1)))
+
+
+def sumchecks(sheet):
+    rust = sheet.commands["sumops"]
+
+    def outer(high, tau, a, b, c, r, wrong=0):
+        """A whole outer sum-check, its claim the sum and `wrong` more; the claim and the answers."""
+        claim = element(sheet.now("sumops", f"sum {brief(tau)} {brief(a)} {brief(b)} {brief(c)}")) ^ wrong
+        query = f"outer {high} {brief([claim])} {brief(tau)} {brief(a)} {brief(b)} {brief(c)} {brief(r)}"
+        answers = rust.asks(query, 4 * len(r) + 1)
+        sheet.said(query, *answers)
+        return claim, answers
+
+    def inner(high, t, z, r, wrong=0):
+        claim = element(sheet.now("sumops", f"dot {brief(t)} {brief(z)}")) ^ wrong
+        query = f"inner {high} {brief([claim])} {brief(t)} {brief(z)} {brief(r)}"
+        sheet.said(query, *rust.asks(query, 3 * len(r) + 1))
+
+    def bits(n):
+        return [DICE.getrandbits(1) for _ in range(n)]
+
+    def table(n):
+        """2^n elements, most of them small where they are many."""
+        return [DICE.getrandbits(128 if i % 32 == 5 or n < 3 else 9) for i in range(2**n)]
+
+    def special(n):
+        """0, 1, and an element that comes again."""
+        again = some(1)[0]
+        return [DICE.choice([0, 1, again, again]) for _ in range(n)]
+
+    sheet.note("whole outer sum-checks of 0 to 6 variables, in every kind of order, and with a claim that is no sum")
+    for n in range(7):
+        for high in orders(n):
+            outer(high, some(n), table(n), table(n), table(n), some(n))
+        if n < 4:
+            outer(high, some(n), table(n), table(n), table(n), some(n), 1)
+    sheet.note("with tables of bits, and challenges and taus that are 0, 1 or the same again; tau all 1, all 0")
+    for n in range(1, 7):
+        for high in orders(n):
+            outer(high, special(n), bits(2**n), bits(2**n), bits(2**n), special(n))
+        for ends in ([0] * n, [1] * n):
+            outer(n // 2, ends, bits(2**n), bits(2**n), bits(2**n), some(n))
+            outer(n // 2, some(n), bits(2**n), bits(2**n), bits(2**n), ends)
+    sheet.note("whole batches that are good: c is a b, and the claim is 0")
+    for n in [1, 3, 5]:
+        a, b = bits(2**n), bits(2**n)
+        c = [x & y for x, y in zip(a, b)]
+        claim, _ = outer(n // 2, some(n), a, b, c, some(n))
+        assert claim == 0
+        outer(n // 2, some(n), a, b, c, some(n), 1 << 127)
+    sheet.note("whole inner sum-checks")
+    for n in range(7):
+        for high in orders(n):
+            inner(high, table(n), table(n), some(n))
+            inner(high, bits(2**n), bits(2**n), special(n))
+        inner(0, table(n), bits(2**n), some(n), 1 << 64)
+    sheet.note("one message: the true one, and damaged in each coefficient; the first one is seen in the next claim alone")
+    for n in range(1, 4):
+        claim, answers = outer(1, some(n), some(2**n), some(2**n), some(2**n), some(n))
+        found = answers[0].split()[2:10]
+        message = [element(found[i : i + 2]) for i in range(0, 8, 2)]
+        for spoiled in [message] + [[c ^ (DICE.getrandbits(128) if i == k else 0) for i, c in enumerate(message)] for k in range(4)]:
+            sheet.rust("sumops", f"round {listed(spoiled)} {listed([claim] + some(1))}")
+        for r in [0, 1]:
+            sheet.rust("sumops", f"round {listed(message)} {listed([claim, r])}")
+        sheet.rust("sumops", f"round {listed(message)} {listed([claim ^ 1] + some(1))}")
+    for degree in range(6):
+        message = some(degree + 1)
+        claim = 0
+        for c in message[1:]:
+            claim ^= c
+        for wrong in [0, 1 << 64]:
+            sheet.rust("sumops", f"round {listed(message)} {listed([claim ^ wrong] + some(1))}")
+    sheet.note("terminal values: true ones, and damaged in each; a factor of 0")
+    product = lambda x, y: element(sheet.now("oracle", f"mul {listed([x, y])}"))
+    for e, a, b, c in [some(4), some(4), [0] + some(3), some(1) + [0] + some(2), some(3) + [0]]:
+        values = [product(e, product(a, b) ^ c), e, a, b, c]
+        sheet.rust("sumops", f"outerend {listed(values)}")
+        for k in range(5):
+            sheet.rust("sumops", f"outerend {listed([v ^ (i == k) for i, v in enumerate(values)])}")
+    for t, z in [some(2), some(2), [0] + some(1)]:
+        values = [product(t, z), t, z]
+        sheet.rust("sumops", f"innerend {listed(values)}")
+        for k in range(3):
+            sheet.rust("sumops", f"innerend {listed([v ^ ((i == k) << 127) for i, v in enumerate(values)])}")
+    sheet.note("eq of two points, the second in the order of the rounds; it is refused with 11 where the two do not go together")
+    for n in range(7):
+        for high in orders(n):
+            sheet.rust("sumops", f"eqpoints {high} {listed(some(n))} {listed(some(n))}")
+        same = special(n)
+        sheet.rust("sumops", f"eqpoints 0 {listed(same)} {listed(same)}")
+        for high, tau, r in [(0, n, n + 1), (0, n + 1, n), (n + 1, n, n), (2**64 - 1, n, n)]:
+            sheet.said(f"eqpoints {high} {brief([3] * tau)} {brief([5] * r)}", "! 11")
+    sheet.said("eqpoints 0 3 1 2 3 3 1 2 3", "! 11")
+    for k, t, r in [some(3), [1] + some(2), some(1) + [1, 0], some(1) + [1, 1], [0] + some(2)]:
+        sheet.said(f"eqnext {listed([k, t, r])}", f"= {listed([product(k, 1 ^ t ^ r)])}")
+    lent_rounds(sheet)
+
+
+def lent_rounds(sheet):
+    def marked(code, found, lent):
+        return " ".join(["=", str(code), str(lent)] + found + [MARK] * (lent - len(found)))
+
+    def eq(point):
+        return sheet.now("oracle", f"eq {brief(point)}")
+
+    def small(n):
+        return [DICE.getrandbits(9) for _ in range(n)]
+
+    sheet.note("an eq table without a variable: that of the other ones; the second half stays")
+    for n in range(1, 6):
+        for v in range(n):
+            tau = some(n)
+            table, rest = eq(tau), eq(tau[:v] + tau[v + 1 :])
+            after = rest + table[len(rest) :]
+            sheet.said(f"dropvar {v} {' '.join([str(len(table))] + table)}", " ".join(["= 0", str(len(after))] + after))
+        for v in [n, n + 1, 63, 64, 2**64 - 1]:
+            table = small(2**n)
+            sheet.said(f"dropvar {v} {brief(table)}", f"= 11 {listed(table)}")
+    for count in [0, 1, 2, 3, 5, 6, 7, 12]:
+        table = " ".join([str(count)] + words(some(6))[:count])
+        sheet.said(f"dropvar 0 {table}", f"= 11 {table}")
+    sheet.note("messages: the words past them stay; too few words are refused with 15, tables that do not go together with 11, and before")
+    for n, v in [(1, 0), (2, 0), (2, 1), (3, 0), (3, 2)]:
+        tau, a, b, c, r = some(n), small(2**n), small(2**n), small(2**n), some(n)
+        tables = f"{brief(a)} {brief(b)} {brief(c)}"
+        run = f"outer {int(v > 0)} {brief([0])} {brief(tau)} {tables} {brief(r)}"
+        found = sheet.commands["sumops"].asks(run, 4 * n + 1)[0].split()[2:10]
+        e = eq(tau[:v] + tau[v + 1 :])
+        e = " ".join([str(len(e))] + e)
+        factors = brief([1, tau[v]])
+        for lent in [0, 7, 8, 9, 13]:
+            answer = marked(15, [], lent) if lent < 8 else marked(0, found, lent)
+            sheet.said(f"outermsg {lent} {v} {e} {tables} {factors}", answer)
+        half = brief(a[: 2 ** (n - 1)])
+        for bad in [
+            f"{n} {e} {tables}",
+            f"{2**64 - 1} {e} {tables}",
+            f"{v} {brief(a)} {tables}",
+            f"{v} 0 {tables}",
+            f"{v} {e} {brief(a)} {half} {brief(c)}",
+            f"{v} {e} {brief(a)} {brief(b)} {half}",
+            f"{v} {e} {half} {brief(b)} {brief(c)}",
+        ]:
+            sheet.said(f"outermsg 7 {bad} {factors}", marked(11, [], 7))
+        run = f"inner {int(v > 0)} {brief([0])} {brief(a)} {brief(b)} {brief(r)}"
+        found = sheet.commands["sumops"].asks(run, 3 * n + 1)[0].split()[2:8]
+        for lent in [0, 5, 6, 7, 12]:
+            answer = marked(15, [], lent) if lent < 6 else marked(0, found, lent)
+            sheet.said(f"innermsg {lent} {v} {brief(a)} {brief(b)}", answer)
+        for bad in [f"{n} {brief(a)} {brief(b)}", f"{v} {brief(a)} {half}", f"{v} {half} {brief(b)}"]:
+            sheet.said(f"innermsg 5 {bad}", marked(11, [], 5))
+    for count in [0, 1, 2, 3, 6, 12]:
+        table = " ".join([str(count)] + words(some(6))[:count])
+        sheet.said(f"innermsg 6 0 {table} {table}", marked(11, [], 6))
+        half = " ".join([str(count // 2)] + words(some(6))[: count // 2])
+        sheet.said(f"outermsg 8 0 {half} {table} {table} {table} {brief([1, 1])}", marked(11, [], 8))
+
+
+class Matrix:
+    """A matrix, in the words of the test program and in those of ORACLE."""
+
+    def __init__(self, rows, cols, entries):
+        self.rows, self.cols, self.entries = rows, cols, entries
+
+    def text(self):
+        row, col = [e[0] for e in self.entries], [e[1] for e in self.entries]
+        low, high = [e[2] % 2**64 for e in self.entries], [e[2] >> 64 for e in self.entries]
+        return " ".join([str(self.rows), str(self.cols)] + [counted(numbers) for numbers in (row, col, low, high)])
+
+    def told(self, sheet):
+        """Tells ORACLE, which then answers queries on this matrix."""
+        pipe = sheet.commands["oracle"].run.stdin
+        pipe.write(f"matrix {self.rows} {self.cols} {len(self.entries)}\n")
+        for row, col, value in self.entries:
+            pipe.write(f"{row} {col} {value % 2**64} {value >> 64}\n")
+
+
+def any_matrix(rows, cols, count, values):
+    """Entries at random, then one of them twice more, another with a pair that cancels, and a zero."""
+    place = lambda: (DICE.randrange(rows), DICE.randrange(cols))
+    entries = [place() + (values(),) for _ in range(count)]
+    if entries:
+        entries += [entries[0]] * 2 + [place() + (0,)]
+        pair = place() + (values(),)
+        entries += [pair, pair]
+    DICE.shuffle(entries)
+    return Matrix(rows, cols, entries)
+
+
+def lent(found, extra, code=0):
+    """Lent words after a call: a result, and `extra` words that stay."""
+    return " ".join(["=", str(code), str(len(found) + extra)] + found + [MARK] * extra)
+
+
+def scratch(need, extra):
+    """Scratch after a finished run: zero as far as it was wanted."""
+    return " ".join(["=", str(need + extra)] + ["0x0"] * need + [MARK] * extra)
+
+
+def untouched(n, code=None):
+    return " ".join(["="] + ([] if code is None else [str(code)]) + [str(n)] + [MARK] * n)
+
+
+def matrices(sheet):
+    sheet.note("document 01, rows 7 and 8")
+    m = Matrix(2, 4, [(0, 0, 1), (0, 2, 3), (1, 1, 7), (1, 3, 2), (1, 1, 7)])
+    sheet.said(f"packed 4 0 {m.text()} {brief([3])} {brief([5])} 2 1 2", "= false", f"= {listed([2, 10])}")
+    sheet.said(f"table 8 4 {m.text()} {brief([2])}", lent(words([3, 0, 5, 4]), 0), scratch(4, 0))
+    sheet.note("matrices of 1 to 16 rows and 2 to 16 columns: entries that come twice, that cancel, and zeros")
+    element_ = lambda: DICE.choice([0, 1, 2, DICE.getrandbits(9), DICE.getrandbits(128)])
+    for rows, cols, count in [(1, 2, 0), (1, 2, 1), (1, 16, 6), (2, 4, 5), (4, 4, 8), (8, 2, 6), (16, 8, 12), (4, 16, 20)]:
+        for values in [element_, lambda: DICE.getrandbits(1)]:
+            m = any_matrix(rows, cols, count, values)
+            m.told(sheet)
+            r, c = rows.bit_length() - 1, cols.bit_length() - 1
+            z, p, x = brief(some(cols)), brief(some(r)), brief(some(c))
+            found = sheet.now("oracle", f"apply {z}")
+            sheet.said(f"apply {2 * rows} 0 {m.text()} {z}", lent(found, 0))
+            sheet.said(f"apply {2 * rows + 3} 0 {m.text()} {z}", lent(found, 3))
+            sheet.said(f"apply {2 * rows - 1} 0 {m.text()} {z}", untouched(2 * rows - 1, 15))
+            found = sheet.now("oracle", f"table {p}")
+            sheet.said(f"table {2 * cols} {2 * rows} {m.text()} {p}", lent(found, 0), scratch(2 * rows, 0))
+            sheet.said(f"table {2 * cols + 1} {2 * rows + 2} {m.text()} {p}", lent(found, 1), scratch(2 * rows, 2))
+            for short in [(2 * cols - 1, 2 * rows), (2 * cols, 2 * rows - 1)]:
+                sheet.said(f"table {short[0]} {short[1]} {m.text()} {p}", untouched(short[0], 15), untouched(short[1]))
+            value = " ".join(sheet.now("oracle", f"at {p} {x}"))
+            need = 2 * (rows + cols)
+            sheet.said(f"at 0 {need} {m.text()} {p} {x}", f"= 2 {value}", scratch(need, 0))
+            sheet.said(f"at 0 {need + 1} {m.text()} {p} {x}", f"= 2 {value}", scratch(need, 1))
+            sheet.said(f"at 0 {need - 1} {m.text()} {p} {x}", "! 15", untouched(need - 1))
+            sheet.said(f"isbinary 0 0 {m.text()}", sheet.commands["oracle"].ask("isbinary"))
+    sheet.note("vectors and points of another length are refused with 11, before 15")
+    m = any_matrix(4, 8, 5, element_)
+    for n in [0, 7, 9]:
+        sheet.said(f"apply 7 0 {m.text()} {brief([1] * n)}", untouched(7, 11))
+    sheet.said(f"apply 8 0 {m.text()} 15 {' '.join(['1'] * 15)}", untouched(8, 11))
+    for n in [0, 1, 3]:
+        sheet.said(f"table 3 2 {m.text()} {brief([1] * n)}", untouched(3, 11), untouched(2))
+        sheet.said(f"at 0 2 {m.text()} {brief([1] * n)} {brief([1] * 3)}", "! 11", untouched(2))
+        sheet.said(f"at 0 2 {m.text()} {brief([1] * 2)} {brief([1] * (n + (n == 3)))}", "! 11", untouched(2))
+    sheet.note("what is no matrix: 1, 4, 6 and 7, the lowest one first, and both sides of each limit")
+    for rows, cols, lists, code in [
+        (4, 1, "0 0 0 0", 1), (4, 2, "0 0 0 0", None), (4, 3, "0 0 0 0", 1), (4, 0, "0 0 0 0", 1),
+        (4, 65536, "0 0 0 0", None), (4, 131072, "0 0 0 0", 1),
+        (0, 4, "0 0 0 0", 4), (1, 4, "0 0 0 0", None), (3, 4, "0 0 0 0", 4), (65536, 4, "0 0 0 0", None), (131072, 4, "0 0 0 0", 4),
+        (0, 3, "0 0 0 0", 1), (3, 4, "1 0 0 0 0", 4),
+        (2, 4, "1 0 0 0 0", 6), (2, 4, "1 0 1 0 0 0", 6), (2, 4, "1 0 1 0 1 1 0", 6), (2, 4, "1 0 1 0 1 1 1 0", None),
+        (2, 4, "1 9 0 0 0", 6),
+        (2, 4, "1 1 1 3 1 1 1 0", None), (2, 4, "1 2 1 3 1 1 1 0", 7), (2, 4, "1 1 1 4 1 1 1 0", 7),
+        (2, 4, "2 1 0 2 3 9 2 1 1 2 0 0", 7),
+    ]:
+        sheet.said(f"isbinary 0 0 {rows} {cols} {lists}", "= true" if code is None else f"! {code}")
+        sheet.said(f"apply 0 0 {rows} {cols} {lists} 0", untouched(0, 11 if code is None else code))
+        sheet.said(f"table 0 0 {rows} {cols} {lists} 1 1", untouched(0, 11 if code is None else code), untouched(0))
+        sheet.said(f"at 0 0 {rows} {cols} {lists} 1 1 0", f"! {11 if code is None else code}", untouched(0))
+    batches(sheet)
+    layouts(sheet)
+
+
+def packed_words(q, w):
+    """Rows of w bits, and bits that are not used set."""
+    return [DICE.getrandbits(128) for _ in range(q * -(-w // 128))]
+
+
+def batches(sheet):
+    sheet.note("packed batches of 1 to 8 logins and 1 to 256 bits: the 1 column, public columns, unused bits set")
+    values = [lambda: DICE.getrandbits(1), lambda: DICE.choice([0, 1, 3, DICE.getrandbits(128)])]
+    for w, q, rows in [(1, 1, 1), (1, 4, 2), (2, 2, 4), (32, 2, 2), (64, 1, 4), (64, 2, 2), (128, 2, 2), (256, 2, 2), (2, 8, 1)]:
+        for k, value in enumerate(values):
+            m = any_matrix(rows, 2 * w, 8, value)
+            m.entries += [(DICE.randrange(rows), w, 1)]
+            if w > 1 and k == 1:
+                m.entries += [(DICE.randrange(rows), DICE.randrange(w + 1, 2 * w), 5)]
+            m.told(sheet)
+            pk, x = brief(packed_words(q, w)), brief([DICE.getrandbits(9) for _ in range(w - 1)])
+            flag, _, *found = sheet.commands["oracle"].ask(f"packed {q} {w} {pk} {x}").split()[1:]
+            for extra in [0, 3]:
+                after = " ".join(["=", str(len(found) + extra)] + found + [MARK] * extra)
+                sheet.said(f"packed {len(found) + extra} 0 {m.text()} {pk} {x} 2 {q} {w}", f"= {flag}", after)
+            sheet.said(f"packed {len(found) - 1} 0 {m.text()} {pk} {x} 2 {q} {w}", "! 15", untouched(len(found) - 1))
+    sheet.note("packed batches that are refused: 1, 2, 3, 4, 5, 11 and 15")
+    m = Matrix(2, 4, [(0, 0, 1)])
+    for q, w, pk, x, text, code in [
+        (1, 2, 1, 1, m.text(), 15), (0, 2, 0, 1, m.text(), 1), (3, 2, 3, 1, m.text(), 1), (8192, 2, 1, 1, m.text(), 1),
+        (4096, 2, 1, 1, m.text(), 2), (1, 3, 1, 1, m.text(), 1), (1, 65536, 1, 1, m.text(), 1), (1, 32768, 1, 1, m.text(), 2),
+        (1, 2, 0, 0, m.text(), 2), (1, 2, 2, 1, m.text(), 2), (1, 2, 1, 0, m.text(), 3), (1, 2, 1, 2, m.text(), 3),
+        (1, 4, 1, 3, m.text(), 5), (1, 1, 1, 0, m.text(), 5), (1, 2, 1, 1, "3 4 0 0 0 0", 4), (1, 2, 1, 1, "2 4 1 2 1 0 1 1 1 0", 7),
+        (64, 2, 64, 1, "16384 4 0 0 0 0", 15), (64, 2, 64, 1, "32768 4 0 0 0 0", 4),
+    ]:
+        sheet.said(f"packed 0 0 {text} {brief([3] * pk)} {brief([5] * x)} 2 {q} {w}", f"! {code}", untouched(0))
+    sheet.note("document 01, row 9; folds of 1 to 8 logins of 1 to 256 bits, unused bits set")
+    sheet.said(f"foldw 4 4 2 2 {brief([1, 3])} {brief([2])}", lent(words([1, 2]), 0), scratch(4, 0))
+    for w, q in [(1, 1), (1, 2), (2, 4), (32, 2), (64, 2), (64, 8), (128, 2), (256, 1), (256, 4)]:
+        pk, p = brief(packed_words(q, w)), brief(some(q.bit_length() - 1))
+        found = sheet.now("oracle", f"foldw {q} {w} {pk} {p}")
+        sheet.said(f"foldw {2 * w} {2 * q} {q} {w} {pk} {p}", lent(found, 0), scratch(2 * q, 0))
+        sheet.said(f"foldw {2 * w + 3} {2 * q + 1} {q} {w} {pk} {p}", lent(found, 3), scratch(2 * q, 1))
+        for short in [(2 * w - 1, 2 * q), (2 * w, 2 * q - 1)]:
+            sheet.said(f"foldw {short[0]} {short[1]} {q} {w} {pk} {p}", untouched(short[0], 15), untouched(short[1]))
+    for q, w, pk, p, code in [
+        (0, 2, 0, 0, 1), (3, 2, 3, 1, 1), (4096, 1, 1, 0, 2), (8192, 1, 1, 0, 1), (1, 0, 0, 0, 1), (1, 3, 1, 0, 1),
+        (1, 32768, 1, 0, 2), (1, 65536, 1, 0, 1), (2, 2, 1, 1, 2), (2, 2, 3, 1, 2), (2, 2, 2, 0, 11), (2, 2, 2, 2, 11), (2, 2, 2, 1, 15),
+    ]:
+        sheet.said(f"foldw 3 3 {q} {w} {brief([3] * pk)} {brief([5] * p)}", untouched(3, code), untouched(3))
+    sheet.note("folds of a vector over logins")
+    for n in range(6):
+        v, p = brief(some(2**n)), brief(some(n))
+        value = " ".join(sheet.now("oracle", f"foldinst {v} {p}"))
+        need = 2 << n
+        sheet.said(f"foldinst 0 {need} {v} {p}", f"= 2 {value}", scratch(need, 0))
+        sheet.said(f"foldinst 0 {need + 1} {v} {p}", f"= 2 {value}", scratch(need, 1))
+        sheet.said(f"foldinst 0 {need - 1} {v} {p}", "! 15", untouched(need - 1))
+        for bad in [brief([1] * (n + 1)), "1 1"]:
+            sheet.said(f"foldinst 0 1 {v} {bad}", "! 11", untouched(1))
+    sheet.said("foldinst 0 1 0 0", "! 11", untouched(1))
+
+
+def layouts(sheet):
+    sheet.note("document 01, rows 10 to 12")
+    sized = lambda offsets, extra: " ".join(["= 0", str(len(offsets) + extra)] + [f"{o:#x}" for o in offsets] + [MARK] * extra)
+    sheet.said("layout 3 16 3 4 1 8", sized([0, 4, 8], 0))
+    sheet.said("layout 3 16 3 1 8 8", untouched(3, 9))
+    sheet.said("layout 1 16 1 3", untouched(1, 8))
+    sheet.note("layouts: offsets, and all that is read of a segment; words past the offsets stay")
+    good = [(1, []), (1, [1]), (2, [1, 1]), (16, [4, 1, 8]), (16, [8, 1, 4]), (16, [1, 2, 4, 1]), (64, [1] * 64), (256, [2, 16, 1, 64, 128]),
+            (32768, [1, 4096, 16384]), (32768, [32768])]
+    for w, lens in good:
+        answer = sheet.commands["oracle"].ask(" ".join(["layout", str(w)] + [str(n) for n in lens]))
+        offsets = [int(n) for n in answer[3:-1].split(", ") if n]
+        sheet.said(f"layout {len(lens)} {w} {counted(lens)}", sized(offsets, 0))
+        sheet.said(f"layout {len(lens) + 2} {w} {counted(lens)}", sized(offsets, 2))
+        if lens:
+            sheet.said(f"layout {len(lens) - 1} {w} {counted(lens)}", untouched(len(lens) - 1, 15))
+        log = w.bit_length() - 1
+        for i in sorted({0, 1, len(lens) // 2, len(lens) - 1} & set(range(len(lens)))):
+            k = lens[i].bit_length() - 1
+            read = [offsets[i], k, log - k, offsets[i] // lens[i], log]
+            sheet.said(f"reading {i} {w} {counted(lens)}", *[f"= {n}" for n in read])
+        for i in [len(lens), len(lens) + 1, 2**64 - 1]:
+            sheet.said(f"reading {i} {w} {counted(lens)}", *["= none"] * 4, f"= {log}")
+    sheet.note("layouts that are refused: 1, 8, 9 and 10, the lowest first")
+    for w, lens, code in [
+        (0, [], 1), (3, [1], 1), (65536, [1], 1), (65536, [3], 1), (16, [0], 8), (16, [32], 8), (16, [2, 3], 8), (16, [16, 1], 9),
+        (16, [8, 8, 1], 9), (16, [1, 16], 9), (256, [1] * 64, None), (256, [1] * 65, 10), (64, [1] * 65, 9), (256, [1] * 64 + [3], 8),
+    ]:
+        if code is None:
+            sheet.said(f"layout {len(lens)} {w} {counted(lens)}", sized(list(range(len(lens))), 0))
+        else:
+            sheet.said(f"layout {len(lens)} {w} {counted(lens)}", untouched(len(lens), code))
+            sheet.said(f"reading 0 {w} {counted(lens)}", *[f"! {code}"] * 4, "! 1" if code == 1 else f"= {w.bit_length() - 1}")
+            sheet.said(f"segment 0 {w} {counted(lens)} {brief([1] * min(w, 8))}", "= 0")
+    sheet.note("a segment is a part of the folded vector; it is empty where the vector has another length or there is no such segment")
+    folded = some(16)
+    for i, (at, length) in enumerate([(0, 4), (4, 1), (8, 8)]):
+        sheet.said(f"segment {i} 16 3 4 1 8 {listed(folded)}", f"= {listed(folded[at : at + length])}")
+    for i, vector in [(3, folded), (2**64 - 1, folded), (0, folded[:15]), (0, [])]:
+        sheet.said(f"segment {i} 16 3 4 1 8 {brief(vector)}", "= 0")
+
+
 def main():
-    if len(sys.argv) != 3:
+    if len(sys.argv) != 4:
         sys.exit(__doc__)
-    sheet = Sheet(sys.argv[1], sys.argv[2])
+    sheet = Sheet(*sys.argv[1:])
     rows(sheet)
     elements(sheet)
     tables(sheet)
     edges(sheet)
     hashes(sheet)
     transcripts(sheet)
+    sumchecks(sheet)
+    matrices(sheet)
     sheet.write("magnetar_vectors")
 
 

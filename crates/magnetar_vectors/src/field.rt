@@ -3,6 +3,10 @@ use crate::text::at;
 use crate::text::list;
 use crate::text::plus;
 use crate::text::print;
+use crate::text::print_bool;
+use crate::text::print_code;
+use crate::text::print_line;
+use crate::text::print_refusal;
 use crate::text::{self};
 use magnetar_field::eq::EqBits;
 use magnetar_field::eq::{self};
@@ -57,47 +61,18 @@ const EQROOM: u64 = 0x6571726f6f6d;
 
 const MLEROOM: u64 = 0x6d6c65726f6f6d;
 
-fn print_line(s: &[u64]) {
-    print(b"= ");
-    text::print_words(s);
-    print(b"\n");
-}
-
-fn print_element(e: Gf128) {
+pub(crate) fn print_element(e: Gf128) {
     let mut w = [0u64; 2];
     w[0] = e.lo;
     w[1] = e.hi;
     print_line(&w);
 }
 
-fn print_bool(b: bool) {
-    if b {
-        print(b"= true\n");
-    } else {
-        print(b"= false\n");
-    }
-}
-
-fn print_refusal(code: u32) {
-    print(b"! ");
-    text::print_number(text::wide(code));
-    print(b"\n");
-}
-
-fn print_evaluated(v: Evaluated) {
+pub(crate) fn print_evaluated(v: Evaluated) {
     match v {
         Evaluated::Value(e) => print_element(e),
         Evaluated::Refused(code) => print_refusal(code),
     }
-}
-
-// What a call answered, and the lent words after it.
-fn print_code(code: u32, s: &[u64]) {
-    print(b"= ");
-    text::print_number(text::wide(code));
-    print(b" ");
-    text::print_words(s);
-    print(b"\n");
 }
 
 // eq P, fused P: the table.

@@ -89,7 +89,7 @@ fn print_drawn(e: Gf128, t: Transcript) {
 
 // sha3rep N B: the hash of N times the byte B, of which there are at most a million and some.
 fn sha3rep(n: usize, b: u8) {
-    let mut room = mebibyte();
+    let mut room = text::mebibyte();
     repeated(&mut room, n, b);
 }
 
@@ -99,10 +99,6 @@ fn repeated(m: &mut [u8], n: usize, b: u8) {
         let d = sha3::sha3_256(&m[0..n]);
         print_digest(&d);
     }
-}
-
-fn mebibyte() -> [u8; 1048576] {
-    [0; 1048576]
 }
 
 // draws S C L N: the last one of N draws.

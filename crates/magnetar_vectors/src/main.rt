@@ -2,7 +2,20 @@
 // (docs/VECTORS.md says what each query asks and where its answer comes from). A line that begins with # is copied.
 mod field;
 mod hash;
+mod matrix;
+mod sumcheck;
 mod text;
+
+// Answers a query that has no byte strings, or says that it is none.
+fn of_numbers(op: u64, nums: &[u64], out: &mut [u64]) -> bool {
+    if field::answered(op, nums, out) {
+        return true;
+    }
+    if sumcheck::answered(op, nums, out) {
+        return true;
+    }
+    matrix::answered(op, nums, out)
+}
 
 // The words of a line, as numbers and as bytes, are lent to every query, and so are words to write to.
 fn answer(
@@ -20,7 +33,7 @@ fn answer(
     }
     let op = text::name(line);
     let n = text::numbers(line, nums);
-    if field::answered(op, text::first(nums, n), out) {
+    if of_numbers(op, text::first(nums, n), out) {
         return;
     }
     let k = text::bytes(line, bytes, lens);
@@ -56,16 +69,28 @@ fn answer_all(
     }
 }
 
+// Answers all that is read.
+fn run(
+    input: &mut [u8],
+    nums: &mut [u64],
+    bytes: &mut [u8],
+    lens: &mut [usize],
+    out: &mut [u64],
+    sizes: &mut [usize],
+) {
+    let n = io::read_full(libc::STDIN_FILENO, input);
+    answer_all(text::first_bytes(input, n), nums, bytes, lens, out, sizes);
+}
+
 fn main() {
-    let mut input = [0u8; 262144];
+    let mut input = text::mebibyte();
     let mut nums = [0u64; 4096];
     let mut bytes = [0u8; 8192];
     let mut lens = [0usize; 256];
     let mut out = [0u64; 4096];
     let mut sizes = [0usize; 256];
-    let n = io::read_full(libc::STDIN_FILENO, &mut input);
-    answer_all(
-        &input[..n],
+    run(
+        &mut input,
         &mut nums,
         &mut bytes,
         &mut lens,

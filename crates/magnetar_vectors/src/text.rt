@@ -250,8 +250,24 @@ pub(crate) fn first(s: &[u64], n: usize) -> &[u64] {
     s
 }
 
+// The same of bytes.
+pub(crate) fn first_bytes(s: &[u8], n: usize) -> &[u8] {
+    if n < s.len() {
+        return &s[0..n];
+    }
+    s
+}
+
 // The same of words that are written to.
 pub(crate) fn front(s: &mut [u64], n: usize) -> &mut [u64] {
+    if n < s.len() {
+        return &mut s[0..n];
+    }
+    s
+}
+
+// The same of sizes.
+pub(crate) fn front_sizes(s: &mut [usize], n: usize) -> &mut [usize] {
     if n < s.len() {
         return &mut s[0..n];
     }
@@ -287,6 +303,11 @@ pub(crate) fn table_words(n: usize) -> usize {
     if n < 20 { 2 << n } else { 0 }
 }
 
+// Room for a mebibyte.
+pub(crate) fn mebibyte() -> [u8; 1048576] {
+    [0; 1048576]
+}
+
 // Sets every byte to b.
 pub(crate) fn fill_bytes(s: &mut [u8], b: u8) {
     let mut i = 0;
@@ -304,6 +325,22 @@ pub(crate) fn list(nums: &[u64], i: usize) -> &[u64] {
         return first(rest, n);
     }
     &nums[0..0]
+}
+
+// Where the list that is k lists after index i begins.
+pub(crate) fn skip(nums: &[u64], i: usize, k: usize) -> usize {
+    let mut at = i;
+    let mut j = 0;
+    while j < k {
+        at = plus(at, plus(1, list(nums, at).len()));
+        j += 1;
+    }
+    at
+}
+
+// The list that is k lists after index i.
+pub(crate) fn nth(nums: &[u64], i: usize, k: usize) -> &[u64] {
+    list(nums, skip(nums, i, k))
 }
 
 pub(crate) fn print(s: &[u8]) {
@@ -341,4 +378,53 @@ pub(crate) fn print_words(s: &[u64]) {
         print_word(s[i]);
         i += 1;
     }
+}
+
+// The same of sizes.
+pub(crate) fn print_sizes(s: &[usize]) {
+    print_count(s.len());
+    let mut i = 0;
+    while i < s.len() {
+        print_size(s[i]);
+        i += 1;
+    }
+}
+
+fn print_size(n: usize) {
+    print_word(n as u64);
+}
+
+pub(crate) fn print_line(s: &[u64]) {
+    print(b"= ");
+    print_words(s);
+    print(b"\n");
+}
+
+pub(crate) fn print_truth(b: bool) {
+    if b {
+        print(b"true");
+    } else {
+        print(b"false");
+    }
+}
+
+pub(crate) fn print_bool(b: bool) {
+    print(b"= ");
+    print_truth(b);
+    print(b"\n");
+}
+
+pub(crate) fn print_refusal(code: u32) {
+    print(b"! ");
+    print_number(wide(code));
+    print(b"\n");
+}
+
+// What a call answered, and the lent words after it.
+pub(crate) fn print_code(code: u32, s: &[u64]) {
+    print(b"= ");
+    print_number(wide(code));
+    print(b" ");
+    print_words(s);
+    print(b"\n");
 }

@@ -1,0 +1,275 @@
+// Queries on matrices, folds and layouts. A matrix is its numbers of rows and columns and four lists: the rows, the columns,
+// the low words and the high words of its entries.
+use crate::field::print_evaluated;
+use crate::text::at;
+use crate::text::nth;
+use crate::text::print;
+use crate::text::print_bool;
+use crate::text::print_code;
+use crate::text::print_line;
+use crate::text::print_refusal;
+use crate::text::{self};
+use magnetar_r1cs::fold;
+use magnetar_r1cs::layout::Reading;
+use magnetar_r1cs::layout::{self};
+use magnetar_r1cs::r1cs::Flag;
+use magnetar_r1cs::r1cs::{self};
+
+// The queries by name: its last eight letters, the last one lowest.
+const APPLY: u64 = 0x6170706c79;
+
+const TABLE: u64 = 0x7461626c65;
+
+const AT: u64 = 0x6174;
+
+const ISBINARY: u64 = 0x697362696e617279;
+
+const PACKED: u64 = 0x7061636b6564;
+
+const FOLDINST: u64 = 0x666f6c64696e7374;
+
+const FOLDW: u64 = 0x666f6c6477;
+
+const LAYOUT: u64 = 0x6c61796f7574;
+
+const READING: u64 = 0x72656164696e67;
+
+const SEGMENT: u64 = 0x7365676d656e74;
+
+fn print_flag(f: Flag) {
+    match f {
+        Flag::Yes => print_bool(true),
+        Flag::No => print_bool(false),
+        Flag::Refused(code) => print_refusal(code),
+    }
+}
+
+// A number, "none" where there is no such segment, or a refusal.
+fn print_reading(r: Reading) {
+    match r {
+        Reading::Number(n) => {
+            print(b"= ");
+            text::print_count(n);
+            print(b"\n");
+        }
+        Reading::NoSegment => print(b"= none\n"),
+        Reading::Refused(code) => print_refusal(code),
+    }
+}
+
+// The queries on a matrix: OP LENT SCRATCH ROWS COLS ROW COL LO HI X Y, with as many words lent as LENT and SCRATCH say.
+
+// isbinary, apply, packed: X a vector, or a batch; Y the public part, and then 2 Q W.
+fn products(op: u64, nums: &[u64], row: &[usize], col: &[usize], out: &mut [u64]) -> bool {
+    let rows = text::size(at(nums, 2));
+    let cols = text::size(at(nums, 3));
+    let lo = nth(nums, 4, 2);
+    let hi = nth(nums, 4, 3);
+    let x = nth(nums, 4, 4);
+    if op == ISBINARY {
+        print_flag(r1cs::is_binary(rows, cols, row, col, lo, hi));
+        return true;
+    }
+    if op == APPLY {
+        print_code(r1cs::apply(rows, cols, row, col, lo, hi, x, out), out);
+        return true;
+    }
+    if op == PACKED {
+        let p = nth(nums, 4, 6);
+        let q = text::size(at(p, 0));
+        let w = text::size(at(p, 1));
+        print_flag(r1cs::apply_simd_packed(
+            rows,
+            cols,
+            row,
+            col,
+            lo,
+            hi,
+            x,
+            nth(nums, 4, 5),
+            q,
+            w,
+            out,
+        ));
+        print_line(out);
+        return true;
+    }
+    false
+}
+
+// table, at: X the point of the rows, Y that of the columns.
+fn evaluations(
+    op: u64,
+    nums: &[u64],
+    row: &[usize],
+    col: &[usize],
+    out: &mut [u64],
+    scratch: &mut [u64],
+) -> bool {
+    let rows = text::size(at(nums, 2));
+    let cols = text::size(at(nums, 3));
+    let lo = nth(nums, 4, 2);
+    let hi = nth(nums, 4, 3);
+    let x = nth(nums, 4, 4);
+    if op == TABLE {
+        print_code(
+            r1cs::eval_mle_table(rows, cols, row, col, lo, hi, x, out, scratch),
+            out,
+        );
+        print_line(scratch);
+        return true;
+    }
+    if op == AT {
+        print_evaluated(r1cs::eval_mle_at(
+            rows,
+            cols,
+            row,
+            col,
+            lo,
+            hi,
+            x,
+            nth(nums, 4, 5),
+            scratch,
+        ));
+        print_line(scratch);
+        return true;
+    }
+    false
+}
+
+// foldinst LENT SCRATCH V P, foldw LENT SCRATCH Q W PACKED P
+fn folds(op: u64, nums: &[u64], out: &mut [u64], scratch: &mut [u64]) -> bool {
+    if op == FOLDINST {
+        print_evaluated(fold::fold_instances(nth(nums, 2, 0), nth(nums, 2, 1), scratch));
+        print_line(scratch);
+        return true;
+    }
+    if op == FOLDW {
+        let code = fold::fold_packed_w(
+            nth(nums, 4, 0),
+            text::size(at(nums, 2)),
+            text::size(at(nums, 3)),
+            nth(nums, 4, 1),
+            out,
+            scratch,
+        );
+        print_code(code, out);
+        print_line(scratch);
+        return true;
+    }
+    false
+}
+
+// layout LENT W LENS: the outcome where LENT sizes are lent for the offsets.
+fn offsets(n: usize, w: usize, lens: &[usize], out: &mut [u64]) {
+    let mut room = [0usize; 128];
+    text::fill(out, text::MARK);
+    text::as_sizes(text::first(out, 128), &mut room);
+    built(n, w, lens, &mut room);
+}
+
+fn built(n: usize, w: usize, lens: &[usize], room: &mut [usize]) {
+    let room = text::front_sizes(room, n);
+    let code = layout::build(w, lens, room);
+    print_offsets(code, room);
+}
+
+fn print_offsets(code: u32, s: &[usize]) {
+    print(b"= ");
+    text::print_number(text::wide(code));
+    print(b" ");
+    text::print_sizes(s);
+    print(b"\n");
+}
+
+// reading I W LENS: all that there is to read of segment I.
+fn reading(i: usize, w: usize, lens: &[usize]) {
+    print_reading(layout::offset(w, lens, i));
+    print_reading(layout::local_vars(w, lens, i));
+    print_reading(layout::suffix_bits(w, lens, i));
+    print_reading(layout::b_i(w, lens, i));
+    print_reading(layout::witness_vars(w));
+}
+
+// The queries on a layout: LENT or a segment's number, W, the lengths, and for segment the folded vector.
+fn layouts(op: u64, nums: &[u64], lens: &[usize], out: &mut [u64]) -> bool {
+    let n = text::size(at(nums, 0));
+    let w = text::size(at(nums, 1));
+    if op == LAYOUT {
+        offsets(n, w, lens, out);
+        return true;
+    }
+    if op == READING {
+        reading(n, w, lens);
+        return true;
+    }
+    if op == SEGMENT {
+        print_line(layout::segment(nth(nums, 2, 1), w, lens, n));
+        return true;
+    }
+    false
+}
+
+// Answers a query with words lent, or says that it is none.
+fn with_room(
+    op: u64,
+    nums: &[u64],
+    row: &[usize],
+    col: &[usize],
+    out: &mut [u64],
+    scratch: &mut [u64],
+) -> bool {
+    if products(op, nums, row, col, out) {
+        return true;
+    }
+    if evaluations(op, nums, row, col, out, scratch) {
+        return true;
+    }
+    folds(op, nums, out, scratch)
+}
+
+// The same, with as many words as the query says.
+fn lent(
+    op: u64,
+    nums: &[u64],
+    row: &[usize],
+    col: &[usize],
+    out: &mut [u64],
+    scratch: &mut [u64],
+) -> bool {
+    let room = text::front(out, text::size(at(nums, 0)));
+    let part = text::front(scratch, text::size(at(nums, 1)));
+    text::fill(room, text::MARK);
+    text::fill(part, text::MARK);
+    with_room(op, nums, row, col, room, part)
+}
+
+fn of_matrices(op: u64, nums: &[u64], out: &mut [u64]) -> bool {
+    let mut row = [0usize; 128];
+    let mut col = [0usize; 128];
+    let mut scratch = [0u64; 1024];
+    let n = text::as_sizes(nth(nums, 4, 0), &mut row);
+    let k = text::as_sizes(nth(nums, 4, 1), &mut col);
+    lent(
+        op,
+        nums,
+        text::sizes(&row, 0, n),
+        text::sizes(&col, 0, k),
+        out,
+        &mut scratch,
+    )
+}
+
+fn of_layouts(op: u64, nums: &[u64], out: &mut [u64]) -> bool {
+    let mut lens = [0usize; 128];
+    let k = text::as_sizes(nth(nums, 2, 0), &mut lens);
+    layouts(op, nums, text::sizes(&lens, 0, k), out)
+}
+
+// Answers a query on matrices, folds and layouts, or says that it is none.
+pub(crate) fn answered(op: u64, nums: &[u64], out: &mut [u64]) -> bool {
+    if of_layouts(op, nums, out) {
+        return true;
+    }
+    of_matrices(op, nums, out)
+}
