@@ -1,0 +1,69 @@
+-- The theorem on the honest prover.
+use mathlib.Core.Path.{_≡_, sym, ap, subst}
+use mathlib.Core.List.{List, _++_}
+use Prim.Native.Nat.{ℕ}
+use lib.ListN.{length}
+use Rattle.magnetar_field.proofs.Tabulation.{tabulate-get}
+use Rattle.magnetar_r1cs.specs.Batch.{Relation, Batch, Good}
+use Rattle.magnetar_theory.specs.Run.{Accepted, Words}
+use Rattle.magnetar_theory.specs.Gf128.{gf128}
+use Rattle.magnetar_theory.proofs.Whole.{complete}
+use Rattle.magnetar_protocol.specs.Draws.{Draws, drawsOf, loginPoint, lowPoint}
+use Rattle.magnetar_protocol.specs.Run.{verdict, claims, trueValue, ClaimsTrue}
+use Rattle.magnetar_protocol.specs.RunSizes.{SizedRun, Sized}
+use Rattle.magnetar_protocol.specs.Theory.{relationE, publicE, batchE, drawsE}
+use Rattle.magnetar_protocol.specs.Soundness.{NoStray}
+use Rattle.magnetar_protocol.specs.Prover.{trueValues, honestWords, proverWords, proverClaims, Convinces}
+use Rattle.magnetar_protocol.proofs.SizeFacts.{Cut, cut}
+use Rattle.magnetar_protocol.proofs.Verdict.{of-holds}
+use Rattle.magnetar_protocol.proofs.AcceptedHolds.{holds}
+use Rattle.magnetar_protocol.proofs.GoodBatch.{good-theory}
+use Rattle.magnetar_protocol.proofs.TrueClaims.{sizes}
+use Rattle.magnetar_protocol.proofs.HonestParts.{segment-part, honest-length}
+use Rattle.magnetar_protocol.proofs.HonestBelow.{honest-elements}
+use Rattle.magnetar_protocol.proofs.HonestRun.{words-are}
+use Rattle.magnetar_protocol.proofs.ClaimParts.{values-true}
+
+module _ (r : Relation) (b : Batch) (x d : List ℕ) (S : SizedRun r b x d) where
+  -- the words are as many as document 01 says, and elements
+  pub prover-sized : Sized r b x (proverWords r b x d) d
+  unfolding proverWords
+  prover-sized = record {
+    run = S;
+    words = honest-length r b x (drawsOf r d) (cut r d (S .draws));
+    elements-w = honest-elements r b x
+        (drawsOf r d);
+  }
+
+  -- the claims that the verifier reads from the words are the prover's
+  same-claims : claims r (proverWords r b x d) d ≡ proverClaims r b d
+  unfolding claims proverClaims proverWords
+  same-claims = ap (λ (l : List ℕ). loginPoint (drawsOf r d) ++ (lowPoint r (drawsOf r d) ++ l))
+      (segment-part r b x (drawsOf r d) (cut r d (S .draws)))
+
+  -- they are true
+  true-claims : ClaimsTrue r b (proverClaims r b d)
+  unfolding proverClaims trueValues
+  true-claims = values-true r (S .relation) (drawsOf r d) (cut r d (S .draws)) (trueValues r b (drawsOf r d)) b
+      (λ i h. tabulate-get (trueValue r b (drawsOf r d)) (length (r .lengths)) i 0 h)
+
+  honest-accepted : Good r b x → NoStray r b → verdict r x (proverWords r b x d) d ≡ 0
+  unfolding verdict proverWords
+  honest-accepted g stray =
+      of-holds r x (honestWords r b x D) D C
+      (holds r x (honestWords r b x D) D (S .relation) C (honest-length r b x D C) (honest-elements r b x D)
+      (subst (λ (W : Words gf128). Accepted gf128 (relationE r) (publicE x) (drawsE r D) W)
+      (sym (words-are r b x D (S .relation) (S .batch) C (S .public)))
+      (complete (relationE r) (publicE x) (batchE b) (drawsE r D) (sizes r b D (S .relation) (S .batch) C x (S .public) stray)
+      (good-theory r b x (S .relation) (S .batch) g))))
+    where
+      D : Draws
+      D = drawsOf r d
+
+      C : Cut r (drawsOf r d)
+      C = cut r d (S .draws)
+
+  -- Demand 3, second half: of a good batch with no bit outside, the honest words are accepted, both ends return the same claims,
+  -- and all of them are true.
+  pub completeness : Good r b x → NoStray r b → Convinces r b x d
+  completeness g stray = record { accepted = honest-accepted g stray; same-claims = same-claims; true-claims = true-claims }

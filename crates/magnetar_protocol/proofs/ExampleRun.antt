@@ -1,0 +1,112 @@
+-- The sizes, goodness and layout of the second example: what the two theorems ask for can be had.
+use mathlib.Core.Path.{_≡_, refl}
+use mathlib.Core.Bool.{true, false, false≢true}
+use mathlib.Core.List.{[], _∷_}
+use Prim.Native.Nat.{ℕ, zero, suc, _<_}
+use native.Mathlib.Omega.{arith}
+use lib.Dec.{lit<, lit≤}
+use lib.ListN.{length, getD}
+use Rattle.magnetar_field.specs.Gf128.{_⊕_, _⊗_, sumTimes, timesX}
+use Rattle.magnetar_field.specs.Sizes.{log₂, halvings}
+use Rattle.magnetar_r1cs.specs.Every.{every}
+use Rattle.magnetar_r1cs.specs.Matrix.{sumOver, rowTotal, share, timesAt}
+use Rattle.magnetar_r1cs.specs.Batch.{bitOf, assignment, Satisfied, Good}
+use Rattle.magnetar_r1cs.specs.Layout.{nextMultiple, offsetsFrom, offsets, endFrom, layoutEnd, isLength, within, outside}
+use Rattle.magnetar_protocol.specs.RunSizes.{SizedRelation, SizedBatch, SizedRun}
+use Rattle.magnetar_protocol.specs.Soundness.{NoStray}
+use Rattle.magnetar_protocol.specs.Prover.{Convinces}
+use Rattle.magnetar_protocol.proofs.HonestBelow.{elements-of}
+use Rattle.magnetar_protocol.proofs.Completeness.{completeness}
+use Rattle.magnetar_protocol.proofs.Examples.{small, smallBatch, smallDraws}
+
+-- ---- sizes
+relation : SizedRelation small
+unfolding log₂ halvings every isLength layoutEnd endFrom nextMultiple
+relation = record {
+  columns = record { low = lit≤ tt; high = lit≤ tt; power = refl };
+  logins = record { low = lit≤ tt; high = lit≤ tt; power = refl };
+  bin = record {
+    rows = record { low = lit≤ tt; high = lit≤ tt; power = refl };
+    total = lit≤ tt;
+    a = record { rows = refl; cols = refl; few = lit≤ tt; inside = refl };
+    b = record { rows = refl; cols = refl; few = lit≤ tt; inside = refl };
+    c = record { rows = refl; cols = refl; few = lit≤ tt; inside = refl };
+  };
+  fld = record {
+    rows = record { low = lit≤ tt; high = lit≤ tt; power = refl };
+    total = lit≤ tt;
+    a = record { rows = refl; cols = refl; few = lit≤ tt; inside = refl };
+    b = record { rows = refl; cols = refl; few = lit≤ tt; inside = refl };
+    c = record { rows = refl; cols = refl; few = lit≤ tt; inside = refl };
+  };
+  layout = record { small = lit≤ tt; power = refl; lengths = refl; ends = lit≤ tt };
+  segments = lit≤ tt;
+}
+
+batch : SizedBatch small smallBatch
+batch = record { logins = refl; columns = columns; bits = bits }
+  where
+    columns : (u : ℕ) → u < 2 → length (getD smallBatch u []) ≡ 2
+    columns zero h = refl
+    columns (suc zero) h = refl
+    columns (suc (suc u)) h = absurd (omega arith)
+
+    bits : (u y : ℕ) → bitOf smallBatch u y < 2
+    bits u y = unfold bitOf in at u y
+      where
+        at : (u y : ℕ) → getD (getD smallBatch u []) y 0 < 2
+        at zero zero = lit< tt
+        at zero (suc zero) = lit< tt
+        at zero (suc (suc y)) = lit< tt
+        at (suc zero) zero = lit< tt
+        at (suc zero) (suc zero) = lit< tt
+        at (suc zero) (suc (suc y)) = lit< tt
+        at (suc (suc u)) y = lit< tt
+
+pub small-sized : SizedRun small smallBatch (5 ∷ []) smallDraws
+unfolding log₂ halvings
+small-sized = record {
+  relation = relation;
+  batch = batch;
+  public = refl;
+  draws = refl;
+  elements-x = elements-of (5 ∷ []) (lit< tt, tt);
+  elements-d = elements-of smallDraws (
+    lit< tt,
+    (
+      lit< tt,
+      (lit< tt, (lit< tt, (lit< tt, (lit< tt, (lit< tt, (lit< tt, (lit< tt, (lit< tt, (lit< tt, (lit< tt, (lit< tt, tt))))))))))),
+    ),
+  );
+}
+
+-- ---- the batch
+pub small-good : Good small smallBatch (5 ∷ [])
+unfolding Satisfied assignment timesAt rowTotal sumOver share _⊗_ _⊕_ sumTimes timesX
+small-good = record { bin = bin; fld = fld }
+  where
+    bin : Satisfied (small .bin) 2 smallBatch (5 ∷ [])
+    bin zero zero h k = refl
+    bin zero (suc zero) h k = refl
+    bin zero (suc (suc i)) h k = absurd (omega arith)
+    bin (suc zero) zero h k = refl
+    bin (suc zero) (suc zero) h k = refl
+    bin (suc zero) (suc (suc i)) h k = absurd (omega arith)
+    bin (suc (suc u)) i h k = absurd (omega arith)
+
+    fld : Satisfied (small .fld) 2 smallBatch (5 ∷ [])
+    fld zero zero h k = refl
+    fld zero (suc i) h k = absurd (omega arith)
+    fld (suc zero) zero h k = refl
+    fld (suc zero) (suc i) h k = absurd (omega arith)
+    fld (suc (suc u)) i h k = absurd (omega arith)
+
+pub small-laid : NoStray small smallBatch
+unfolding outside within offsets offsetsFrom nextMultiple
+small-laid u zero h k o = absurd (false≢true o)
+small-laid u (suc zero) h k o = absurd (false≢true o)
+small-laid u (suc (suc y)) h k o = absurd (omega arith)
+
+-- so the honest words of this batch are accepted, and the claims are true
+pub small-convinces : Convinces small smallBatch (5 ∷ []) smallDraws
+small-convinces = completeness small smallBatch (5 ∷ []) smallDraws small-sized small-good small-laid

@@ -1,0 +1,114 @@
+-- Small runs, computed from the definitions.
+use mathlib.Core.Path.{_≡_, refl}
+use mathlib.Core.List.{List, [], _∷_, map}
+use Prim.Native.Nat.{ℕ}
+use lib.ListN.{getD, set}
+use Rattle.magnetar_field.specs.Gf128.{_⊕_, _⊗_, sumTimes, timesX}
+use Rattle.magnetar_field.specs.Sizes.{log₂, halvings}
+use Rattle.magnetar_field.specs.Tabulate.{tabulate}
+use Rattle.magnetar_field.specs.Polynomial.{eval}
+use Rattle.magnetar_field.specs.EqTable.{eqFactor, eqAt, eqTable}
+use Rattle.magnetar_field.specs.Multilinear.{dot, mle, line, insertZero, bindVar}
+use Rattle.magnetar_sumcheck.specs.Sum.{sumTo, total}
+use Rattle.magnetar_sumcheck.specs.Round.{checkSum, holds, running}
+use Rattle.magnetar_sumcheck.specs.Order.{eqPoints, nextVar, at₀, at₁, slope}
+use Rattle.magnetar_sumcheck.specs.Outer.{outerEnd, coefficient₀, coefficient₁, coefficient₂, weighted, timesEq, outerMessage, dropVar}
+use Rattle.magnetar_sumcheck.specs.Inner.{innerEnd, innerSums, innerMessage}
+use Rattle.magnetar_sumcheck.specs.Messages.{outerNext, outerFold, outerStart, outerMessages, innerMessages}
+use Rattle.magnetar_r1cs.specs.Sum.{sumBelow, blocks}
+use Rattle.magnetar_r1cs.specs.Matrix.{Matrix, System, sumOver, rowTotal, share, timesAt, times, transpose, mleTable}
+use Rattle.magnetar_r1cs.specs.Batch.{Relation, bitOf, assignment, foldedAt, folded, claimValue}
+use Rattle.magnetar_r1cs.specs.Layout.{nextMultiple, offsetsFrom, offsets}
+use Rattle.magnetar_protocol.specs.Shape.{proofElements}
+use Rattle.magnetar_protocol.specs.Proof.{binMessages, fldMessages, terminals, innerRounds, valueZ, segmentValues}
+use Rattle.magnetar_protocol.specs.Draws.{drawsOf, loginPoint, lowPoint, topElement}
+use Rattle.magnetar_protocol.specs.Checks.{roundHolds, innerClaim, combined, segmentSum, sharedChecks, rowChecks, terminalChecks, innerChecks, identityCheck, checks, firstRefusal}
+use Rattle.magnetar_protocol.specs.Run.{verdict, trueValue}
+use Rattle.magnetar_protocol.specs.Prover.{joined, inTurn, trueValues, productTable, outerRounds, terminalValues, foldedZ, honestWords, proverWords}
+
+-- ---- m = 2, q = 1, one empty row in each matrix, no segment
+abbrev empty : Matrix
+empty = record { rows = 1; cols = 2; entries = [] }
+
+abbrev empties : System
+empties = record { a = empty; b = empty; c = empty }
+
+abbrev least : Relation
+least = record { m = 2; q = 1; bin = empties; fld = empties; lengths = [] }
+
+abbrev draws : List ℕ
+draws = 1 ∷ 2 ∷ 3 ∷ 4 ∷ 5 ∷ 6 ∷ 7 ∷ []
+
+-- a proof has 10 elements; the last is v_z
+pub ten : proofElements least ≡ 10
+unfolding log₂ halvings
+ten = refl
+
+pub least-words : proverWords least ((0 ∷ []) ∷ []) [] draws ≡ 0 ∷ 0 ∷ 0 ∷ 0 ∷ 0 ∷ 0 ∷ 0 ∷ 0 ∷ 0 ∷ 7 ∷ []
+unfolding log₂ halvings _⊕_ _⊗_ sumTimes timesX tabulate eqFactor eqAt eqTable dot mle line insertZero bindVar sumTo at₀ at₁
+    slope innerSums innerMessage nextVar coefficient₀ coefficient₁ coefficient₂ weighted timesEq outerMessage dropVar
+    outerNext outerFold outerStart outerMessages innerMessages sumBelow blocks sumOver rowTotal share timesAt times transpose
+    mleTable bitOf assignment foldedAt folded claimValue nextMultiple offsetsFrom offsets drawsOf loginPoint lowPoint
+    topElement combined trueValue joined inTurn trueValues productTable outerRounds terminalValues foldedZ honestWords
+    proverWords
+least-words = refl
+
+-- accepted; and with one bit of v_z flipped refused with 29
+pub least-accepted : verdict least [] (0 ∷ 0 ∷ 0 ∷ 0 ∷ 0 ∷ 0 ∷ 0 ∷ 0 ∷ 0 ∷ 7 ∷ []) draws ≡ 0
+unfolding log₂ halvings _⊕_ _⊗_ sumTimes timesX tabulate eval eqFactor eqAt eqTable dot mle total checkSum holds running
+    eqPoints outerEnd innerEnd sumOver rowTotal share timesAt times transpose mleTable nextMultiple offsetsFrom offsets
+    binMessages fldMessages terminals innerRounds valueZ segmentValues drawsOf loginPoint lowPoint topElement roundHolds
+    innerClaim combined segmentSum sharedChecks rowChecks terminalChecks innerChecks identityCheck checks firstRefusal
+    verdict
+least-accepted = refl
+
+pub least-refused : verdict least [] (0 ∷ 0 ∷ 0 ∷ 0 ∷ 0 ∷ 0 ∷ 0 ∷ 0 ∷ 0 ∷ 6 ∷ []) draws ≡ 29
+unfolding log₂ halvings _⊕_ _⊗_ sumTimes timesX tabulate eval eqFactor eqAt eqTable dot mle total checkSum holds running
+    eqPoints outerEnd innerEnd sumOver rowTotal share timesAt times transpose mleTable nextMultiple offsetsFrom offsets
+    binMessages fldMessages terminals innerRounds valueZ segmentValues drawsOf loginPoint lowPoint topElement roundHolds
+    innerClaim combined segmentSum sharedChecks rowChecks terminalChecks innerChecks identityCheck checks firstRefusal
+    verdict
+least-refused = refl
+
+-- ---- m = 4, q = 2: two rows that say that each bit is a bit, a row 1 x = x, and a segment of both bits
+abbrev diagonal : Matrix
+diagonal = record { rows = 2; cols = 4; entries = record { row = 0; col = 0; value = 1 } ∷ record { row = 1; col = 1; value = 1 } ∷ [] }
+
+abbrev column : ℕ → Matrix
+column k = record { rows = 1; cols = 4; entries = record { row = 0; col = k; value = 1 } ∷ [] }
+
+abbrev pub small : Relation
+small = record {
+  m = 4;
+  q = 2;
+  bin = record { a = diagonal; b = diagonal; c = diagonal };
+  fld = record { a = column 2; b = column 3; c = column 3 };
+  lengths = 2 ∷ [];
+}
+
+abbrev pub smallDraws : List ℕ
+smallDraws = 17 ∷ 35 ∷ 70 ∷ 5 ∷ 6 ∷ 7 ∷ 8 ∷ 9 ∷ 10 ∷ 11 ∷ 12 ∷ 13 ∷ 14 ∷ []
+
+abbrev pub smallBatch : List (List ℕ)
+smallBatch = (1 ∷ 0 ∷ []) ∷ (1 ∷ 1 ∷ []) ∷ []
+
+-- the honest words, with 1 added to element j
+abbrev flipped : ℕ → List ℕ
+flipped j =
+    set (proverWords small smallBatch (5 ∷ []) smallDraws) j (getD (proverWords small smallBatch (5 ∷ []) smallDraws) j 0 ⊕ 1)
+
+abbrev answer : ℕ → ℕ
+answer j = verdict small (5 ∷ []) (flipped j) smallDraws
+
+-- one element of the honest words changed: each of 21 to 29 is met
+pub changed : map answer (0 ∷ 1 ∷ 4 ∷ 5 ∷ 8 ∷ 9 ∷ 14 ∷ 17 ∷ 18 ∷ 19 ∷ 21 ∷ 24 ∷ 25 ∷ []) ≡ 23 ∷ 21 ∷ 26 ∷ 22 ∷ 25 ∷ 23 ∷ 25 ∷ 26 ∷ 27 ∷ 27
+    ∷ 28 ∷ 28 ∷ 29 ∷ []
+unfolding log₂ halvings _⊕_ _⊗_ sumTimes timesX tabulate eval eqFactor eqAt eqTable dot mle line insertZero bindVar sumTo
+    total checkSum holds running eqPoints at₀ at₁ slope outerEnd innerEnd innerSums innerMessage nextVar coefficient₀
+    coefficient₁ coefficient₂ weighted timesEq outerMessage dropVar outerNext outerFold outerStart outerMessages
+    innerMessages sumBelow blocks sumOver rowTotal share timesAt times transpose mleTable bitOf assignment foldedAt folded
+    claimValue nextMultiple offsetsFrom offsets binMessages fldMessages terminals innerRounds valueZ segmentValues drawsOf
+    loginPoint lowPoint topElement roundHolds innerClaim combined segmentSum sharedChecks rowChecks terminalChecks
+    innerChecks identityCheck checks firstRefusal verdict trueValue joined inTurn trueValues productTable outerRounds
+    terminalValues foldedZ honestWords proverWords
+changed = refl

@@ -1,0 +1,92 @@
+-- The verifier's answer phase by phase: a later phase decides where the earlier ones find nothing.
+use mathlib.Core.Path.{_≡_, refl, ap, _∙_}
+use mathlib.Core.Bool.{Bool, true, false, cond}
+use mathlib.Core.List.{List, [], _∷_, _++_}
+use Prim.Native.Nat.{ℕ, zero, suc, _+_, _*_, _<_}
+use native.Mathlib.Omega.{arith}
+use lib.Dec.{eqb, lit<}
+use borrow.Author.Tests.{ne-eqb}
+use Rattle.magnetar_field.specs.Tabulate.{tabulate}
+use Rattle.magnetar_field.specs.Multilinear.{mle}
+use Rattle.magnetar_sumcheck.specs.Round.{running}
+use Rattle.magnetar_sumcheck.specs.Inner.{innerEnd}
+use Rattle.magnetar_r1cs.specs.Batch.{Relation}
+use Rattle.magnetar_protocol.specs.Shape.{logLogins, logBin, logFld, logCols}
+use Rattle.magnetar_protocol.specs.Draws.{Draws}
+use Rattle.magnetar_protocol.specs.Schedule.{afterTaus, afterShared, afterBin, afterAlphas, afterInner}
+use Rattle.magnetar_protocol.specs.Proof.{innerRounds, valueZ}
+use Rattle.magnetar_protocol.specs.Checks.{Check, roundHolds, innerClaim, combined, binRound, fldRound, firstRefusal, checks, sharedChecks, rowChecks, terminalChecks, innerChecks, identityCheck}
+
+-- each refusal has a number
+abbrev pub Numbered : List Check → Type 0
+Numbered [] = Unit {0}
+Numbered (c ∷ cs) = (0 < c .refusal) × Numbered cs
+
+pub numbered-append : (cs ds : List Check) → Numbered cs → Numbered ds → Numbered (cs ++ ds)
+numbered-append [] ds h k = k
+numbered-append (c ∷ cs) ds h k = (h .0, numbered-append cs ds (h .1) k)
+
+pub numbered-tabulate : (k : ℕ) (f : ℕ → Bool) (g : ℕ → ℕ) (n : ℕ)
+    → Numbered (tabulate (λ i. record { refusal = suc k; passes = f i; events = g i }) n)
+unfolding tabulate
+numbered-tabulate k f g zero = tt
+numbered-tabulate k f g (suc n) = (omega arith, numbered-tabulate k (λ i. f (suc i)) (λ i. g (suc i)) n)
+
+-- a, or b where a is 0
+abbrev pub orElse : ℕ → ℕ → ℕ
+orElse a b = cond (eqb a 0) b a
+
+pub first-append : (cs ds : List Check) → Numbered cs → firstRefusal (cs ++ ds) ≡ orElse (firstRefusal cs) (firstRefusal ds)
+unfolding firstRefusal
+first-append [] ds h = refl
+first-append (c ∷ cs) ds h = step (c .passes) (c .refusal) (firstRefusal (cs ++ ds)) (firstRefusal cs) (firstRefusal ds) (h .0)
+    (first-append cs ds (h .1))
+  where
+    step : (p : Bool) (n both a b : ℕ) → 0 < n → both ≡ orElse a b → cond p both n ≡ orElse (cond p a n) b
+    step true n both a b l e = e
+    step false n both a b l e = rw (ne-eqb n 0 (λ z. omega arith))
+
+module _ (r : Relation) (x w : List ℕ) (D : Draws) where
+  shared-numbered : (i n : ℕ) → Numbered (sharedChecks r x w D i n)
+  unfolding sharedChecks
+  shared-numbered i zero = tt
+  shared-numbered i (suc n) = (lit< tt, (lit< tt, shared-numbered (suc i) n))
+
+  rows-numbered : Numbered (rowChecks r x w D)
+  unfolding rowChecks
+  rows-numbered =
+      numbered-append (tabulate (λ i. record { refusal = 23; passes = binRound r x w D (logLogins r + i); events = afterShared r + 2 * suc i }) (logBin r))
+      (tabulate (λ i. record { refusal = 24; passes = fldRound r x w D (logLogins r + i); events = afterBin r + 2 * suc i }) (logFld r))
+      (numbered-tabulate 22 (λ i. binRound r x w D (logLogins r + i)) (λ i. afterShared r + 2 * suc i) (logBin r))
+      (numbered-tabulate 23 (λ i. fldRound r x w D (logLogins r + i)) (λ i. afterBin r + 2 * suc i) (logFld r))
+
+  terminals-numbered : Numbered (terminalChecks r x w D)
+  unfolding terminalChecks
+  terminals-numbered = (lit< tt, (lit< tt, tt))
+
+  inner-numbered : Numbered (innerChecks r x w D)
+  unfolding innerChecks
+  inner-numbered =
+      numbered-append (tabulate (λ i. record { refusal = 27; passes = innerRound i; events = afterAlphas r + 2 * i }) (logCols r))
+      (record { refusal = 28; passes = innerLast; events = afterInner r } ∷ [])
+      (numbered-tabulate 26 innerRound (λ i. afterAlphas r + 2 * i) (logCols r)) (lit< tt, tt)
+    where
+      innerRound : ℕ → Bool
+      innerRound i = roundHolds (innerClaim r w D) (innerRounds r w) (D .inner) i
+
+      innerLast : Bool
+      innerLast = eqb (running (innerClaim r w D) (innerRounds r w) (D .inner)) (innerEnd (mle (combined r D) (D .inner)) (valueZ r w))
+
+  pub phases : firstRefusal (checks r x w D)
+      ≡ orElse (firstRefusal (sharedChecks r x w D 0 (logLogins r)))
+      (orElse (firstRefusal (rowChecks r x w D))
+      (orElse (firstRefusal (terminalChecks r x w D)) (orElse (firstRefusal (innerChecks r x w D)) (firstRefusal (identityCheck r x w D)))))
+  unfolding checks
+  phases =
+      first-append (sharedChecks r x w D 0 (logLogins r))
+      (rowChecks r x w D ++ (terminalChecks r x w D ++ (innerChecks r x w D ++ identityCheck r x w D))) (shared-numbered 0 (logLogins r))
+      ∙ ap (orElse (firstRefusal (sharedChecks r x w D 0 (logLogins r))))
+      (first-append (rowChecks r x w D) (terminalChecks r x w D ++ (innerChecks r x w D ++ identityCheck r x w D)) rows-numbered
+      ∙ ap (orElse (firstRefusal (rowChecks r x w D)))
+      (first-append (terminalChecks r x w D) (innerChecks r x w D ++ identityCheck r x w D) terminals-numbered
+      ∙ ap (orElse (firstRefusal (terminalChecks r x w D))) (first-append (innerChecks r x w D) (identityCheck r x w D) inner-numbered)))

@@ -1,0 +1,126 @@
+-- What the verifier checks, in its order, with the draws as plain elements. Each check has the number of its refusal.
+-- Assumes nothing.
+use mathlib.Core.Bool.{Bool, cond}
+use mathlib.Core.List.{List, [], _∷_, _++_}
+use Prim.Native.Nat.{ℕ, zero, suc, _+_, _*_}
+use lib.Dec.{eqb}
+use lib.ListN.{getD, take, drop}
+use Rattle.magnetar_field.specs.Gf128.{_⊕_, _⊗_}
+use Rattle.magnetar_field.specs.Tabulate.{tabulate}
+use Rattle.magnetar_field.specs.EqTable.{eqAt}
+use Rattle.magnetar_field.specs.Multilinear.{dot, mle}
+use Rattle.magnetar_sumcheck.specs.Round.{holds, running}
+use Rattle.magnetar_sumcheck.specs.Order.{eqPoints}
+use Rattle.magnetar_sumcheck.specs.Outer.{outerEnd}
+use Rattle.magnetar_sumcheck.specs.Inner.{innerEnd}
+use Rattle.magnetar_r1cs.specs.Matrix.{mleTable}
+use Rattle.magnetar_r1cs.specs.Batch.{Relation}
+use Rattle.magnetar_r1cs.specs.Layout.{localVars, suffix}
+use Rattle.magnetar_protocol.specs.Shape.{logLogins, logBin, logFld, logCols}
+use Rattle.magnetar_protocol.specs.Proof.{binMessages, fldMessages, terminals, terminal, innerRounds, valueZ, segmentValues}
+use Rattle.magnetar_protocol.specs.Draws.{Draws, loginPoint, lowPoint, topElement}
+use Rattle.magnetar_protocol.specs.Schedule.{afterTaus, afterShared, afterBin, afterOuter, afterAlphas, afterInner}
+
+-- a check that passes or gives a refusal, and how many events of the schedule come before it
+pub record Check : Type 0 where
+  pub refusal : ℕ
+  pub passes : Bool
+  pub events : ℕ
+
+-- round i of a sum-check with the first claim c: its message adds up to the claim that the rounds before it leave
+unfoldable pub roundHolds : ℕ → List (List ℕ) → List ℕ → ℕ → Bool
+roundHolds c ms rs i = holds (getD ms i []) (running c (take i ms) (take i rs))
+
+-- the claim of the inner sum-check: the terminals, each times its alpha
+unfoldable pub innerClaim : Relation → List ℕ → Draws → ℕ
+innerClaim r w d = dot (d .alphas) (terminals r w)
+
+-- the six matrices at the row points, combined by the alphas: an element for each column (`build_m_combo`)
+unfoldable pub combined : Relation → Draws → List ℕ
+combined r d =
+    tabulate (λ y. dot (d .alphas) (getD (mleTable (r .bin .a) (d .rowBin)) y 0 ∷ getD (mleTable (r .bin .b) (d .rowBin)) y 0
+    ∷ getD (mleTable (r .bin .c) (d .rowBin)) y 0 ∷ getD (mleTable (r .fld .a) (d .rowFld)) y 0
+    ∷ getD (mleTable (r .fld .b) (d .rowFld)) y 0 ∷ getD (mleTable (r .fld .c) (d .rowFld)) y 0 ∷ [])) (r .m)
+
+-- the segment values, each times eq(high part of the column point, number of the segment's place)
+unfoldable pub segmentSum : Relation → Draws → ℕ → List ℕ → ℕ
+segmentSum r d i [] = 0
+segmentSum r d i (v ∷ vs) =
+    eqAt (drop (localVars (r .lengths) i) (lowPoint r d)) (suffix (r .lengths) i) ⊗ v ⊕ segmentSum r d (suc i) vs
+
+module _ (r : Relation) (x w : List ℕ) (d : Draws) where
+  -- round i of the outer sum-check of each system
+  abbrev pub binRound : ℕ → Bool
+  binRound i = roundHolds 0 (binMessages r w) (d .shared ++ d .rowBin) i
+
+  abbrev pub fldRound : ℕ → Bool
+  fldRound i = roundHolds 0 (fldMessages r w) (d .shared ++ d .rowFld) i
+
+  -- the shared rounds, bin before fld in each
+  unfoldable pub sharedChecks : ℕ → ℕ → List Check
+  sharedChecks i zero = []
+  sharedChecks i (suc n) =
+      record { refusal = 21; passes = binRound i; events = afterTaus r + 2 * suc i }
+      ∷ record { refusal = 22; passes = fldRound i; events = afterTaus r + 2 * suc i }
+      ∷ sharedChecks (suc i) n
+
+  unfoldable pub rowChecks : List Check
+  rowChecks =
+      tabulate (λ i. record { refusal = 23; passes = binRound (logLogins r + i); events = afterShared r + 2 * suc i }) (logBin r)
+      ++ tabulate (λ i. record { refusal = 24; passes = fldRound (logLogins r + i); events = afterBin r + 2 * suc i }) (logFld r)
+
+  -- the running claim at the end is eq(tau, point) (va vb + vc): the point is the row challenges, then the shared ones reversed
+  unfoldable pub terminalChecks : List Check
+  terminalChecks =
+      record {
+        refusal = 25;
+        passes = eqb (running 0 (binMessages r w) (d .shared ++ d .rowBin))
+            (outerEnd (eqPoints (d .tauBin) (d .rowBin ++ loginPoint d)) (terminal r w 0) (terminal r w 1) (terminal r w 2));
+        events = afterOuter r;
+      }
+      ∷ record {
+        refusal = 26;
+        passes = eqb (running 0 (fldMessages r w) (d .shared ++ d .rowFld))
+            (outerEnd (eqPoints (d .tauFld) (d .rowFld ++ loginPoint d)) (terminal r w 3) (terminal r w 4) (terminal r w 5));
+        events = afterOuter r;
+      }
+      ∷ []
+
+  unfoldable pub innerChecks : List Check
+  innerChecks =
+      tabulate (λ i. record {
+        refusal = 27;
+        passes = roundHolds (innerClaim r w d) (innerRounds r w) (d .inner) i;
+        events = afterAlphas r + 2 * i;
+      }) (logCols r)
+      ++ record {
+        refusal = 28;
+        passes = eqb (running (innerClaim r w d) (innerRounds r w) (d .inner)) (innerEnd (mle (combined r d) (d .inner)) (valueZ r w));
+        events = afterInner r;
+      }
+      ∷ []
+
+  -- v_z is (1 + top) times the segment sum plus top times the public half (1, x) at the low point
+  unfoldable pub identityCheck : List Check
+  identityCheck =
+      record {
+        refusal = 29;
+        passes = eqb ((1 ⊕ topElement r d) ⊗ segmentSum r d 0 (segmentValues r w) ⊕ topElement r d ⊗ mle (1 ∷ x) (lowPoint r d))
+            (valueZ r w);
+        events = afterInner r + 1;
+      }
+      ∷ []
+
+  -- all of them
+  unfoldable pub checks : List Check
+  checks = sharedChecks 0 (logLogins r) ++ (rowChecks ++ (terminalChecks ++ (innerChecks ++ identityCheck)))
+
+-- the number of the first check that does not pass, or 0
+unfoldable pub firstRefusal : List Check → ℕ
+firstRefusal [] = 0
+firstRefusal (c ∷ cs) = cond (c .passes) (firstRefusal cs) (c .refusal)
+
+-- how many events come before it, or n where every check passes
+unfoldable pub firstStop : List Check → ℕ → ℕ
+firstStop [] n = n
+firstStop (c ∷ cs) n = cond (c .passes) (firstStop cs n) (c .events)

@@ -1,0 +1,13 @@
+pub mod Shape
+pub mod Proof
+pub mod Draws
+pub mod Schedule
+pub mod Play
+pub mod Checks
+pub mod Run
+pub mod RunSizes
+pub mod Theory
+pub mod Soundness
+pub mod Prover
+pub mod RealRun
+pub mod Stepwise

@@ -1,0 +1,41 @@
+-- A schedule played on a transcript: what it absorbs is taken from the proof's elements, and the elements it draws are written down.
+-- Assumes nothing.
+use mathlib.Core.List.{List, [], _∷_, _++_}
+use Prim.Native.Nat.{ℕ}
+use Rattle.magnetar_field.specs.Gf128.{value}
+use Rattle.magnetar_field.specs.Words.{words}
+use Rattle.magnetar_hash.specs.Bytes.{wordBytes}
+use Rattle.magnetar_hash.specs.declared.transcript.Transcript.{Transcript}
+use Rattle.magnetar_hash.specs.Transcript as transcript
+use Rattle.magnetar_protocol.specs.Proof.{part}
+use Rattle.magnetar_protocol.specs.Schedule.{Event, absorb, draw}
+
+-- the transcript, and the draws so far
+pub record Played : Type 0 where
+  pub transcript : Transcript
+  pub draws : List ℕ
+
+-- nothing drawn so far
+abbrev pub start : Transcript → Played
+start t = record { transcript = t; draws = [] }
+
+-- elements are absorbed under a label
+abbrev pub absorbing : List ℕ → List ℕ → Played → Played
+absorbing label v p = record { transcript = transcript.absorbed (p .transcript) label (wordBytes (words v)); draws = p .draws }
+
+-- an element is drawn under a label
+abbrev pub drawing : List ℕ → Played → Played
+drawing label p = record {
+  transcript = transcript.drawn (p .transcript) label;
+  draws = p .draws ++ (value (transcript.element (transcript.drawn (p .transcript) label)) ∷ []);
+}
+
+-- the events one after the other, with the proof's elements w, which may depend on the draws so far
+unfoldable pub play : (List ℕ → List ℕ) → List Event → Played → Played
+play w [] p = p
+play w (absorb label i n ∷ es) p = play w es (absorbing label (part i n (w (p .draws))) p)
+play w (draw label ∷ es) p = play w es (drawing label p)
+
+-- the same with fixed elements
+abbrev pub heard : List ℕ → List Event → Transcript → Played
+heard w es t = play (λ _. w) es (start t)

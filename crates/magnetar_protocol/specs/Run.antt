@@ -1,0 +1,43 @@
+-- A verifying run with the draws as plain elements: its answer and its claims; and what its claims say.
+-- Assumes nothing.
+use mathlib.Core.Path.{_≡_}
+use mathlib.Core.List.{List, _++_}
+use Prim.Native.Nat.{ℕ, _+_, _-_, _<_}
+use lib.ListN.{length, getD, take, drop}
+use Rattle.magnetar_r1cs.specs.Batch.{Relation, Batch, claimValue}
+use Rattle.magnetar_r1cs.specs.Layout.{offset, localVars}
+use Rattle.magnetar_protocol.specs.Shape.{logLogins, logCols}
+use Rattle.magnetar_protocol.specs.Proof.{segmentValues}
+use Rattle.magnetar_protocol.specs.Draws.{Draws, drawsOf, loginPoint, lowPoint}
+use Rattle.magnetar_protocol.specs.Checks.{checks, firstRefusal}
+
+-- the answer of the verifier: 0, or the first of 21 to 29 that applies
+unfoldable pub verdict : Relation → List ℕ → List ℕ → List ℕ → ℕ
+verdict r x w d = firstRefusal (checks r x w (drawsOf r d))
+
+-- the claims: r_inst, r_low, then the segment values
+unfoldable pub claims : Relation → List ℕ → List ℕ → List ℕ
+claims r w d = loginPoint (drawsOf r d) ++ (lowPoint r (drawsOf r d) ++ segmentValues r w)
+
+-- the value that the claim on segment i is about, at the points of the draws
+unfoldable pub trueValue : Relation → Batch → Draws → ℕ → ℕ
+trueValue r b d i =
+    claimValue (r .q) b (loginPoint d) (take (localVars (r .lengths) i) (lowPoint r d)) (offset (r .lengths) i) (getD (r .lengths) i 0)
+
+-- ---- what a list of claims says
+-- its parts: r_inst, r_low, and the segment values
+abbrev pub instOf : Relation → List ℕ → List ℕ
+instOf r c = take (logLogins r) c
+
+abbrev pub lowOf : Relation → List ℕ → List ℕ
+lowOf r c = take (logCols r - 1) (drop (logLogins r) c)
+
+abbrev pub valuesOf : Relation → List ℕ → List ℕ
+valuesOf r c = drop (logLogins r + (logCols r - 1)) c
+
+-- every claim of the list is true of the batch: value i is the claim's sum over the logins and the positions of segment i
+abbrev pub ClaimsTrue : Relation → Batch → List ℕ → Type 0
+ClaimsTrue r b c =
+    (i : ℕ) → i < length (r .lengths)
+    → getD (valuesOf r c) i 0
+    ≡ claimValue (r .q) b (instOf r c) (take (localVars (r .lengths) i) (lowOf r c)) (offset (r .lengths) i) (getD (r .lengths) i 0)

@@ -1,0 +1,87 @@
+-- What a run absorbs and draws, in its order: elements of the proof under their labels, and the challenges. It depends on the sizes of
+-- the relation alone.
+-- Assumes nothing.
+use mathlib.Core.Bool.{cond}
+use mathlib.Core.List.{List, [], _∷_, _++_}
+use Prim.Native.Nat.{ℕ, zero, suc, _+_, _*_, _/_, _%_}
+use Prim.Native.String.{String}
+use lib.Dec.{ltb}
+use lib.ListN.{length, replicate}
+use Rattle.magnetar_hash.specs.Bytes.{ascii}
+use Rattle.magnetar_r1cs.specs.Matrix.{Matrix, System}
+use Rattle.magnetar_r1cs.specs.Batch.{Relation}
+use Rattle.magnetar_protocol.specs.Shape.{logLogins, logBin, logFld, logCols, beforeTerminals, beforeInner, beforeEnd}
+
+-- n elements of the proof, from place i on, are absorbed under a label; or an element is drawn under a label
+pub data Event : Type 0 where
+  absorb : List ℕ → ℕ → ℕ → Event
+  draw : List ℕ → Event
+
+-- the decimal digits of a number below 10^k, in ASCII
+unfoldable pub digits : ℕ → ℕ → List ℕ
+digits zero n = []
+digits (suc k) n = cond (ltb n 10) ((48 + n) ∷ []) (digits k (n / 10) ++ ((48 + n % 10) ∷ []))
+
+-- a label with a number behind it
+unfoldable pub numbered : String → ℕ → List ℕ
+numbered label i = ascii label ++ digits 20 i
+
+-- n rounds from round i on: each absorbs its message of so many elements, the first message being at `first`, and draws its
+-- challenge, both under its label
+unfoldable pub rounds : (ℕ → List ℕ) → (first size i n : ℕ) → List Event
+rounds label first size i zero = []
+rounds label first size i (suc n) =
+    absorb (label i) (first + size * i) size ∷ draw (label i) ∷ rounds label first size (suc i) n
+
+-- n elements from `first` + i on, each absorbed under its label
+unfoldable pub singles : (ℕ → List ℕ) → (first i n : ℕ) → List Event
+singles label first i zero = []
+singles label first i (suc n) = absorb (label i) (first + i) 1 ∷ singles label first (suc i) n
+
+-- all events of a run
+unfoldable pub schedule : Relation → List Event
+schedule r =
+    replicate (logLogins r + logBin r) (draw (ascii "vs-tau-bin"))
+    ++ (replicate (logLogins r + logFld r) (draw (ascii "vs-tau-fld"))
+    ++ (rounds (numbered "vs-out-shared-") 0 8 0 (logLogins r)
+    ++ (rounds (numbered "vs-out-rowbin-") (8 * logLogins r) 4 0 (logBin r)
+    ++ (rounds (numbered "vs-out-rowfld-") (8 * logLogins r + 4 * logBin r) 4 0 (logFld r)
+    ++ (singles (numbered "vs-terminal-") (beforeTerminals r) 0 6
+    ++ (replicate 6 (draw (ascii "vs-alpha"))
+    ++ (rounds (λ _. ascii "vs-inner") (beforeInner r) 3 0 (logCols r)
+    ++ (absorb (ascii "vs-vz") (beforeEnd r) 1
+    ∷ singles (numbered "vs-seg-") (beforeEnd r + 1) 0 (length (r .lengths))))))))))
+
+-- how many events there are up to and with the draws of tau, the shared rounds, the bin row rounds, the fld row rounds, the draws of
+-- the alphas, and the inner rounds
+abbrev pub afterTaus : Relation → ℕ
+afterTaus r = logLogins r + logBin r + (logLogins r + logFld r)
+
+abbrev pub afterShared : Relation → ℕ
+afterShared r = afterTaus r + 2 * logLogins r
+
+abbrev pub afterBin : Relation → ℕ
+afterBin r = afterShared r + 2 * logBin r
+
+abbrev pub afterOuter : Relation → ℕ
+afterOuter r = afterBin r + 2 * logFld r
+
+abbrev pub afterAlphas : Relation → ℕ
+afterAlphas r = afterOuter r + 12
+
+abbrev pub afterInner : Relation → ℕ
+afterInner r = afterAlphas r + 2 * logCols r
+
+-- a relation with these sizes and segments, and no entries: the schedule, the proof's parts and the rounds depend on no more
+abbrev pub blank : ℕ → ℕ → Matrix
+blank n m = record { rows = n; cols = m; entries = [] }
+
+abbrev pub outline : (m q rowsBin rowsFld : ℕ) → List ℕ → Relation
+outline m q b f ns =
+    record {
+      m = m;
+      q = q;
+      bin = record { a = blank b m; b = blank b m; c = blank b m };
+      fld = record { a = blank f m; b = blank f m; c = blank f m };
+      lengths = ns;
+    }

@@ -1,0 +1,34 @@
+-- What the theorem on an accepted run speaks of: bits outside the segments, and the lists of bad draws, one definition for every
+-- draw of a run. Nothing here mentions a hash or a transcript.
+-- Assumes nothing.
+use mathlib.Core.Path.{_≡_}
+use mathlib.Core.Bool.{true}
+use mathlib.Core.List.{List, map, List·Memᴰ}
+use Prim.Native.Nat.{ℕ, _/_, _<_}
+use lib.ListN.{length, getD, take}
+use Rattle.magnetar_r1cs.specs.Batch.{Relation, Batch, bitOf}
+use Rattle.magnetar_r1cs.specs.Layout.{outside}
+use Rattle.magnetar_theory.specs.Lists.{lists}
+use Rattle.magnetar_theory.specs.Heard.{heard}
+use Rattle.magnetar_theory.specs.Gf128.{number, gf128}
+use Rattle.magnetar_protocol.specs.Shape.{logLogins, logBin, logFld}
+use Rattle.magnetar_protocol.specs.Theory.{els, relationE, publicE, batchE}
+
+-- no bit is set at a column that lies in no segment
+abbrev pub NoStray : Relation → Batch → Type 0
+NoStray r b = (u y : ℕ) → u < r .q → y < r .m / 2 → outside (r .lengths) y ≡ true → bitOf b u y ≡ 0
+
+-- the list of the next draw, from the relation, the batch, the public columns, the proof's elements absorbed so far, and the
+-- draws so far
+unfoldable pub badDraws : Relation → Batch → List ℕ → (absorbed drawn : List ℕ) → List ℕ
+badDraws r b x absorbed drawn =
+    map number (lists gf128 (logLogins r) (relationE r) (publicE x) (batchE b) (els absorbed) (els drawn))
+
+-- how many of the proof's elements are absorbed before draw k
+unfoldable pub absorbedBefore : Relation → ℕ → ℕ
+absorbedBefore r k = heard (logLogins r) (logBin r) (logFld r) k
+
+-- some draw is in its list
+abbrev pub BadDraw : Relation → Batch → List ℕ → (words draws : List ℕ) → Type 0
+BadDraw r b x w d =
+    (k : ℕ) × (k < length d) × List·Memᴰ (getD d k 0) (badDraws r b x (take (absorbedBefore r k) w) (take k d))

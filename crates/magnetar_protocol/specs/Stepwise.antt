@@ -1,0 +1,180 @@
+-- The prover's run step by step, as its functions make it: what it says is absorbed and added to the proof, and what it asks for is
+-- drawn. `proofs/Stepwise` shows that this is the run of specs/RealRun.
+-- Assumes nothing.
+use mathlib.Core.List.{List, [], _∷_, _++_, reverse}
+use Prim.Native.Nat.{ℕ, zero, suc, _+_, _-_}
+use Prim.Native.String.{String}
+use lib.ListN.{length, getD, take, drop}
+use Rattle.magnetar_field.specs.Gf128.{value}
+use Rattle.magnetar_field.specs.Tabulate.{tabulate}
+use Rattle.magnetar_field.specs.Multilinear.{mle, bindVar}
+use Rattle.magnetar_hash.specs.Bytes.{ascii}
+use Rattle.magnetar_hash.specs.declared.transcript.Transcript.{Transcript}
+use Rattle.magnetar_hash.specs.Transcript as transcript
+use Rattle.magnetar_sumcheck.specs.Inner.{innerMessage}
+use Rattle.magnetar_sumcheck.specs.Messages.{Outer, outerStart, outerNext, outerFold}
+use Rattle.magnetar_r1cs.specs.Batch.{Relation}
+use Rattle.magnetar_r1cs.specs.Layout.{offset, localVars}
+use Rattle.magnetar_protocol.specs.Shape.{logLogins, logBin, logFld, logCols}
+use Rattle.magnetar_protocol.specs.Schedule.{numbered}
+use Rattle.magnetar_protocol.specs.Play.{Played, start, absorbing, drawing}
+
+-- the run so far: the transcript with the draws, and the proof's elements
+pub record Steps : Type 0 where
+  pub played : Played
+  pub said : List ℕ
+
+abbrev pub begin : Transcript → Steps
+begin t = record { played = start t; said = [] }
+
+-- elements are said: absorbed under a label, and added to the proof
+abbrev pub say : List ℕ → List ℕ → Steps → Steps
+say label v p = record { played = absorbing label v (p .played); said = p .said ++ v }
+
+-- an element is asked for
+abbrev pub ask : List ℕ → Steps → Steps
+ask label p = record { played = drawing label (p .played); said = p .said }
+
+-- the element that was drawn last
+abbrev pub answerOf : Steps → ℕ
+answerOf p = value (transcript.element (p .played .transcript))
+
+-- n elements are asked for
+unfoldable pub askTimes : ℕ → List ℕ → Steps → Steps
+askTimes zero label p = p
+askTimes (suc n) label p = askTimes n label (ask label p)
+
+-- elements are said one at a time, from number i on
+unfoldable pub sayEach : String → ℕ → List ℕ → Steps → Steps
+sayEach label i [] p = p
+sayEach label i (v ∷ vs) p = sayEach label (suc i) vs (say (numbered label i) (v ∷ []) p)
+
+-- ---- the outer rounds
+-- the run, and what the prover of each system holds
+pub record OuterSteps : Type 0 where
+  pub steps : Steps
+  pub bin : Outer
+  pub fld : Outer
+
+-- both are folded by the element drawn last
+abbrev pub foldedBoth : Steps → OuterSteps → OuterSteps
+foldedBoth s p = record { steps = s; bin = outerFold (answerOf s) (p .bin); fld = outerFold (answerOf s) (p .fld) }
+
+-- shared round i: both messages are said at once
+unfoldable pub sharedStep : ℕ → OuterSteps → OuterSteps
+sharedStep i p =
+    foldedBoth (ask (numbered "vs-out-shared-" i) (say (numbered "vs-out-shared-" i) (outerNext (p .bin) ++ outerNext (p .fld)) (p .steps))) p
+
+-- n shared rounds from round i on
+unfoldable pub sharedSteps : (i n : ℕ) → OuterSteps → OuterSteps
+sharedSteps i zero p = p
+sharedSteps i (suc n) p = sharedSteps (suc i) n (sharedStep i p)
+
+-- the run, and what the prover of one system holds
+pub record RowSteps : Type 0 where
+  pub steps : Steps
+  pub held : Outer
+
+abbrev pub foldedOne : Steps → RowSteps → RowSteps
+foldedOne s p = record { steps = s; held = outerFold (answerOf s) (p .held) }
+
+-- row round i of one system
+unfoldable pub rowStep : String → ℕ → RowSteps → RowSteps
+rowStep label i p = foldedOne (ask (numbered label i) (say (numbered label i) (outerNext (p .held)) (p .steps))) p
+
+-- n row rounds from round i on
+unfoldable pub rowSteps : String → (i n : ℕ) → RowSteps → RowSteps
+rowSteps label i zero p = p
+rowSteps label i (suc n) p = rowSteps label (suc i) n (rowStep label i p)
+
+-- ---- the inner rounds
+-- the run, the combined table and the folded z
+pub record InnerSteps : Type 0 where
+  pub steps : Steps
+  pub table : List ℕ
+  pub z : List ℕ
+
+abbrev pub bound : Steps → InnerSteps → InnerSteps
+bound s p = record { steps = s; table = bindVar 0 (answerOf s) (p .table); z = bindVar 0 (answerOf s) (p .z) }
+
+-- an inner round, which binds the lowest variable
+unfoldable pub innerStep : InnerSteps → InnerSteps
+innerStep p = bound (ask (ascii "vs-inner") (say (ascii "vs-inner") (innerMessage 0 (p .table) (p .z)) (p .steps))) p
+
+unfoldable pub innerSteps : ℕ → InnerSteps → InnerSteps
+innerSteps zero p = p
+innerSteps (suc n) p = innerSteps n (innerStep p)
+
+-- ---- all of them
+-- the products of the six matrices and the z of every login: bin a, b, c, fld a, b, c
+pub record Tables : Type 0 where
+  pub bin-a : List ℕ
+  pub bin-b : List ℕ
+  pub bin-c : List ℕ
+  pub fld-a : List ℕ
+  pub fld-b : List ℕ
+  pub fld-c : List ℕ
+
+module _ (r : Relation) where
+  -- the two taus
+  unfoldable pub tauSteps : Transcript → Steps
+  tauSteps t = askTimes (logLogins r + logFld r) (ascii "vs-tau-fld") (askTimes (logLogins r + logBin r) (ascii "vs-tau-bin") (begin t))
+
+  -- the outer rounds, the terminals and the alphas
+  module _ (T : Tables) where
+    -- after the taus, which are the draws d
+    unfoldable pub outerBegin : Steps → OuterSteps
+    outerBegin p = record {
+      steps = p;
+      bin = outerStart (logLogins r) (take (logLogins r + logBin r) (p .played .draws)) (T .bin-a) (T .bin-b) (T .bin-c);
+      fld = outerStart (logLogins r) (drop (logLogins r + logBin r) (p .played .draws)) (T .fld-a) (T .fld-b) (T .fld-c);
+    }
+
+    -- the row rounds of bin, and of fld
+    unfoldable pub binRows : OuterSteps → OuterSteps
+    binRows q = record {
+      steps = rowSteps "vs-out-rowbin-" 0 (logBin r) (record { steps = q .steps; held = q .bin }) .steps;
+      bin = rowSteps "vs-out-rowbin-" 0 (logBin r) (record { steps = q .steps; held = q .bin }) .held;
+      fld = q .fld;
+    }
+
+    unfoldable pub fldRows : OuterSteps → OuterSteps
+    fldRows q = record {
+      steps = rowSteps "vs-out-rowfld-" 0 (logFld r) (record { steps = q .steps; held = q .fld }) .steps;
+      bin = q .bin;
+      fld = rowSteps "vs-out-rowfld-" 0 (logFld r) (record { steps = q .steps; held = q .fld }) .held;
+    }
+
+    -- all outer rounds
+    unfoldable pub outerRounds : Steps → OuterSteps
+    outerRounds p = fldRows (binRows (sharedSteps 0 (logLogins r) (outerBegin p)))
+
+    -- the first entry of each table that is left
+    unfoldable pub terminalsLeft : OuterSteps → List ℕ
+    terminalsLeft q =
+        getD (q .bin .a) 0 0 ∷ getD (q .bin .b) 0 0 ∷ getD (q .bin .c) 0 0 ∷ getD (q .fld .a) 0 0 ∷ getD (q .fld .b) 0 0
+        ∷ getD (q .fld .c) 0 0 ∷ []
+
+    unfoldable pub outerAll : Steps → Steps
+    outerAll p = askTimes 6 (ascii "vs-alpha") (sayEach "vs-terminal-" 0 (terminalsLeft (outerRounds p)) (outerRounds p .steps))
+
+  -- the inner rounds, v_z and the segment values, with the combined table t, the folded witness columns f and the public columns x
+  module _ (t f x : List ℕ) where
+    unfoldable pub innerRun : Steps → InnerSteps
+    innerRun p = innerSteps (logCols r) (record { steps = p; table = t; z = f ++ (1 ∷ x) })
+
+    -- the value of segment i at the low point of the draws
+    unfoldable pub segmentValue : List ℕ → ℕ → ℕ
+    segmentValue low i = mle (take (getD (r .lengths) i 0) (drop (offset (r .lengths) i) f)) (take (localVars (r .lengths) i) low)
+
+    -- the challenges of the inner rounds but the last one, n draws having been made before
+    unfoldable pub lowDraws : ℕ → Steps → List ℕ
+    lowDraws n p = take (logCols r - 1) (drop n (p .played .draws))
+
+    -- v_z and the segment values are said
+    unfoldable pub ended : List ℕ → InnerSteps → Steps
+    ended low q =
+        sayEach "vs-seg-" 0 (tabulate (segmentValue low) (length (r .lengths))) (say (ascii "vs-vz") (getD (q .z) 0 0 ∷ []) (q .steps))
+
+    unfoldable pub innerAll : Steps → Steps
+    innerAll p = ended (lowDraws (length (p .played .draws)) (innerRun p .steps)) (innerRun p)

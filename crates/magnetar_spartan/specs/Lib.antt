@@ -1,9 +1,0 @@
-pub mod Shape
-pub mod Proof
-pub mod Draws
-pub mod Checks
-pub mod Run
-pub mod RunSizes
-pub mod Theory
-pub mod Soundness
-pub mod Prover
