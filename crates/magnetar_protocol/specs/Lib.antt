@@ -9,5 +9,5 @@ pub mod RunSizes
 pub mod Theory
 pub mod Soundness
 pub mod Prover
-pub mod RealRun
 pub mod Stepwise
+pub mod RealRun

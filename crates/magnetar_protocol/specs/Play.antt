@@ -30,12 +30,12 @@ drawing label p = record {
   draws = p .draws ++ (value (transcript.element (transcript.drawn (p .transcript) label)) ∷ []);
 }
 
--- the events one after the other, with the proof's elements w, which may depend on the draws so far
-unfoldable pub play : (List ℕ → List ℕ) → List Event → Played → Played
+-- the events one after the other, with the proof's elements w
+unfoldable pub play : List ℕ → List Event → Played → Played
 play w [] p = p
-play w (absorb label i n ∷ es) p = play w es (absorbing label (part i n (w (p .draws))) p)
+play w (absorb label i n ∷ es) p = play w es (absorbing label (part i n w) p)
 play w (draw label ∷ es) p = play w es (drawing label p)
 
--- the same with fixed elements
+-- from the start
 abbrev pub heard : List ℕ → List Event → Transcript → Played
-heard w es t = play (λ _. w) es (start t)
+heard w es t = play w es (start t)

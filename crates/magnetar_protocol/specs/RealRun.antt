@@ -1,15 +1,16 @@
 -- The runs of both ends with their transcript: the draws are those that the transcript gives along the schedule.
 -- Assumes nothing.
-use mathlib.Core.List.{List, _++_}
-use Prim.Native.Nat.{ℕ}
-use lib.ListN.{length, take, replicate}
+use mathlib.Core.List.{List}
+use Prim.Native.Nat.{ℕ, _/_}
+use lib.ListN.{length, take}
 use Rattle.magnetar_hash.specs.declared.transcript.Transcript.{Transcript}
-use Rattle.magnetar_r1cs.specs.Batch.{Relation, Batch}
-use Rattle.magnetar_protocol.specs.Draws.{drawsOf, drawCount}
+use Rattle.magnetar_r1cs.specs.Batch.{Relation, Batch, folded}
+use Rattle.magnetar_protocol.specs.Draws.{Draws, drawsOf, loginPoint}
 use Rattle.magnetar_protocol.specs.Schedule.{schedule}
-use Rattle.magnetar_protocol.specs.Play.{Played, start, play, heard}
-use Rattle.magnetar_protocol.specs.Checks.{checks, firstStop}
-use Rattle.magnetar_protocol.specs.Prover.{proverWords}
+use Rattle.magnetar_protocol.specs.Play.{heard}
+use Rattle.magnetar_protocol.specs.Checks.{checks, firstStop, combined}
+use Rattle.magnetar_protocol.specs.Prover.{productTable}
+use Rattle.magnetar_protocol.specs.Stepwise.{Steps, Tables, tauSteps, outerAll, innerAll}
 
 -- ---- the verifier, given the public columns x, the proof's elements w and the transcript t
 -- the elements that it draws
@@ -25,10 +26,33 @@ unfoldable pub verifierTranscript : Relation → (x w : List ℕ) → Transcript
 verifierTranscript r x w t = heard w (take (stop r x w (verifierDraws r w t)) (schedule r)) t .transcript
 
 -- ---- the prover, given the batch b, the public columns x and the transcript t
--- draws that are not made yet stand as 0: no word that is absorbed before a draw depends on it
-abbrev pub padded : Relation → List ℕ → List ℕ
-padded r d = take (drawCount r) (d ++ replicate (drawCount r) 0)
+-- the products of the six matrices and the z of every login
+abbrev pub productTables : Relation → Batch → List ℕ → Tables
+productTables r b x = record {
+  bin-a = productTable r b x (r .bin .a);
+  bin-b = productTable r b x (r .bin .b);
+  bin-c = productTable r b x (r .bin .c);
+  fld-a = productTable r b x (r .fld .a);
+  fld-b = productTable r b x (r .fld .b);
+  fld-c = productTable r b x (r .fld .c);
+}
 
--- the run: at each event the words are those of the draws so far
-unfoldable pub proving : Relation → Batch → List ℕ → Transcript → Played
-proving r b x t = play (λ d. proverWords r b x (padded r d)) (schedule r) (start t)
+-- the run up to the alphas
+unfoldable pub outerProving : Relation → Batch → List ℕ → Transcript → Steps
+outerProving r b x t = outerAll r (productTables r b x) (tauSteps r t)
+
+-- the draws up to the alphas, taken apart
+abbrev pub outerDraws : Relation → Batch → List ℕ → Transcript → Draws
+outerDraws r b x t = drawsOf r (outerProving r b x t .played .draws)
+
+-- the whole run
+unfoldable pub proving : Relation → Batch → List ℕ → Transcript → Steps
+proving r b x t =
+    innerAll r (combined r (outerDraws r b x t)) (folded (r .q) (r .m / 2) b (loginPoint (outerDraws r b x t))) x (outerProving r b x t)
+
+-- the elements that it draws, and its transcript at the end; its words are `proverWords` at these draws (proofs/Stepwise)
+unfoldable pub proverDraws : Relation → Batch → List ℕ → Transcript → List ℕ
+proverDraws r b x t = proving r b x t .played .draws
+
+unfoldable pub proverTranscript : Relation → Batch → List ℕ → Transcript → Transcript
+proverTranscript r b x t = proving r b x t .played .transcript
