@@ -1,0 +1,76 @@
+-- The refusals 1 to 16 of both ends as tests, each with its number. The first bad test gives the number of the refusal.
+-- Assumes nothing.
+use mathlib.Core.Bool.{not}
+use mathlib.Core.List.{List, [], _∷_, _++_}
+use Prim.Native.Nat.{ℕ, _+_, _-_, _*_, _/_, _^_, max}
+use lib.Dec.{eqb, ltb}
+use lib.ListN.{length}
+use Rattle.magnetar_field.specs.Sizes.{log₂}
+use Rattle.magnetar_r1cs.specs.Tests.{Tests, isSize, sizeTests, packedTests, publicTests, colsTests, counted, placed, layoutTests, roomTest}
+use Rattle.magnetar_protocol.specs.Shape.{proofElements}
+use Rattle.magnetar_protocol.specs.Schedule.{outline}
+use Rattle.magnetar_spartan.specs.Rules.{Three, Rules}
+
+-- 4: the rows of the three matrices of a system, for q logins
+abbrev pub systemRows : (q a b c : ℕ) → Tests
+systemRows q a b c =
+    (4, not (isSize 1 65536 a)) ∷ (4, not (eqb b a)) ∷ (4, not (eqb c a)) ∷ (4, ltb 1048576 (q * a)) ∷ []
+
+abbrev pub rowsOf : ℕ → Three → Tests
+rowsOf q s = systemRows q (s .a .rows) (s .b .rows) (s .c .rows)
+
+-- 5: the columns
+abbrev pub colsOf : ℕ → Three → Tests
+colsOf m s = colsTests m (s .a .cols) ++ colsTests m (s .b .cols) ++ colsTests m (s .c .cols)
+
+-- 6: how many entries there are
+abbrev pub countsOf : Three → Tests
+countsOf s = counted (s .a) ++ counted (s .b) ++ counted (s .c)
+
+-- 7: every entry lies inside its matrix
+abbrev pub placesOf : Three → Tests
+placesOf s = placed (s .a) ++ placed (s .b) ++ placed (s .c)
+
+-- 4 to 10: the rules
+abbrev pub ruleTests : Rules → Tests
+ruleTests R =
+    rowsOf (R .q) (R .bin) ++ rowsOf (R .q) (R .fld) ++ colsOf (R .m) (R .bin) ++ colsOf (R .m) (R .fld) ++ countsOf (R .bin)
+    ++ countsOf (R .fld) ++ placesOf (R .bin) ++ placesOf (R .fld) ++ layoutTests (R .m / 2) (R .lengths)
+
+-- 14: the transcript's counter
+abbrev pub counterTests : ℕ → Tests
+counterTests n = (14, not (ltb n (2 ^ 32))) ∷ []
+
+-- 16: the words of the proof
+abbrev pub wordTests : ℕ → List ℕ → Tests
+wordTests n w = (16, not (eqb (length w) n)) ∷ []
+
+-- ---- how many words are wanted, R being the larger row count
+-- the proof
+unfoldable pub proofWords : Rules → ℕ
+proofWords R = 2 * proofElements (outline (R .m) (R .q) (R .bin .a .rows) (R .fld .a .rows) (R .lengths))
+
+-- the claims
+unfoldable pub claimWords : Rules → ℕ
+claimWords R = 2 * (log₂ (R .q) + (log₂ (R .m) - 1) + length (R .lengths))
+
+-- the verifier's scratch: 4m + 4R
+unfoldable pub verifierRoom : Rules → ℕ
+verifierRoom R = 4 * R .m + 4 * max (R .bin .a .rows) (R .fld .a .rows)
+
+-- the prover's scratch: 8q(Rb + Rf) + 8m + 4R + 4q
+unfoldable pub proverRoom : Rules → ℕ
+proverRoom R =
+    8 * (R .q * (R .bin .a .rows + R .fld .a .rows)) + 8 * R .m + 4 * max (R .bin .a .rows) (R .fld .a .rows) + 4 * R .q
+
+-- ---- the verifier: public words x, proof words w, transcript's counter n, claims c, scratch s
+abbrev pub verifyTests : Rules → (x w : List ℕ) → ℕ → (c s : List ℕ) → Tests
+verifyTests R x w n c s =
+    sizeTests (R .m) (R .q) ++ publicTests (R .m) x ++ ruleTests R ++ counterTests n ++ roomTest (claimWords R) c
+    ++ roomTest (verifierRoom R) s ++ wordTests (proofWords R) w
+
+-- ---- the prover: packed words ws, public words x, transcript's counter n, proof w, claims c, scratch s
+abbrev pub proveTests : Rules → (ws x : List ℕ) → ℕ → (w c s : List ℕ) → Tests
+proveTests R ws x n w c s =
+    sizeTests (R .m) (R .q) ++ packedTests (R .m / 2) (R .q) ws ++ publicTests (R .m) x ++ ruleTests R ++ counterTests n
+    ++ roomTest (proofWords R) w ++ roomTest (claimWords R) c ++ roomTest (proverRoom R) s
