@@ -17,7 +17,7 @@ use Rattle.magnetar_field.specs.Sizes.{log₂}
 use Rattle.magnetar_field.proofs.Log2.{log₂-pow}
 use Rattle.magnetar_r1cs.specs.Every.{every}
 use Rattle.magnetar_r1cs.specs.Tests.{columnTests, layoutTests}
-use Rattle.magnetar_r1cs.specs.Entries.{layoutRefusal}
+use Rattle.magnetar_r1cs.specs.LayoutEntries.{layoutRefusal}
 use Rattle.magnetar_r1cs.proofs.Noted.{noted-clear}
 use Rattle.magnetar_r1cs.proofs.SizeLaws.{Sized, not-bad}
 use Rattle.magnetar_r1cs.specs.Layout.{nextMultiple, offsetsFrom, endFrom, offsets, layoutEnd, isLength, Sound}

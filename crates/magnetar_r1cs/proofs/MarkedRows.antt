@@ -15,7 +15,8 @@ use Rattle.magnetar_r1cs.specs.Batch.{assignment, bitOf, foldedAt, folde
 use Rattle.magnetar_r1cs.specs.Packed.{loginWords, packedBit, loginPart, unpacked}
 use Rattle.magnetar_r1cs.specs.Layout.{nextMultiple, offsetsFrom, endFrom, offsets, layoutEnd, isLength}
 use Rattle.magnetar_r1cs.specs.Tests.{note, isSize}
-use Rattle.magnetar_r1cs.specs.Entries.{packedTable, layoutRefusal}
+use Rattle.magnetar_r1cs.specs.Entries.{packedTable}
+use Rattle.magnetar_r1cs.specs.LayoutEntries.{layoutRefusal}
 
 -- what a row of the table says: an element, a list of elements or offsets, a packed output with its flag, or a refusal
 pub data Result : Type 0 where

@@ -15,11 +15,10 @@ use Rattle.magnetar_r1cs.specs.Layout.{offset}
 use Rattle.magnetar_r1cs.specs.Tests.{note}
 use Rattle.magnetar_r1cs.proofs.Noted.{note-kept}
 use Rattle.magnetar_r1cs.specs.declared.layout.Reading.the-variants.{Number, NoSegment, Refused}
-use Rattle.magnetar_r1cs.specs.Entries.{layoutRefusal, read, readOf, isSegment, segmentRefusal, segmentPart, buildRefusal}
+use Rattle.magnetar_r1cs.specs.LayoutEntries.{layoutRefusal, read, readOf, segmentRefusal, segmentPart, buildRefusal}
 
 module _ (w : ℕ) (ns : List ℕ) (i v z : ℕ) (e : z ≡ layoutRefusal w ns) where
   pub read-refused : (z ≡ 0 → ⊥) → read (Refused z) ≡ readOf w ns i v
-  unfolding isSegment
   read-refused h = rw (← e, ne-eqb z 0 h)
 
   module _ (zero : z ≡ 0) where
@@ -27,11 +26,9 @@ module _ (w : ℕ) (ns : List ℕ) (i v z : ℕ) (e : z ≡ layoutRefusal w ns) 
     none = sym e ∙ zero
 
     pub read-some : (n : ℕ) → i < length ns → n ≡ v → read (Number n) ≡ readOf w ns i v
-    unfolding isSegment
     read-some n h f = rw (none, lt-ltb i (length ns) h, f)
 
     pub read-none : length ns ≤ i → read NoSegment ≡ readOf w ns i v
-    unfolding isSegment
     read-none h = rw (none, le-ltb i (length ns) h)
 
 -- ---- the logarithm of a length is at most that of the columns

@@ -9,4 +9,5 @@ pub mod Lent
 pub mod Table
 pub mod Fold
 pub mod Tests
+pub mod LayoutEntries
 pub mod Entries

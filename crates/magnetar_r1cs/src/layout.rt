@@ -10,7 +10,7 @@ ghost use lib.Dec.{ltb};
 ghost use lib.ListN.{length, drop};
 ghost use Rattle.magnetar_r1cs.specs.Every.{every};
 ghost use Rattle.magnetar_r1cs.specs.Layout.{nextMultiple, isLength, layoutEnd, offsets, offset, localVars, suffixBits, suffix, Sound};
-ghost use Rattle.magnetar_r1cs.specs.Entries.{layoutRefusal, buildRefusal, buildOut, read, readOf, varsOf, segmentPart};
+ghost use Rattle.magnetar_r1cs.specs.LayoutEntries.{layoutRefusal, buildRefusal, buildOut, read, readOf, varsOf, segmentPart};
 
 // The least multiple of n that is not below c.
 fn next_multiple(c: usize, n: usize) -> usize

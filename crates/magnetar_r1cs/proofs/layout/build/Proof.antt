@@ -9,7 +9,7 @@ use mathlib.Core.Path.{_≡_, refl, sym, _∙_}
 use native.Mathlib.Omega.{arith}
 use borrow.Author.Tests.{ltb-false}
 use Rattle.magnetar_r1cs.specs.Tests.{note}
-use Rattle.magnetar_r1cs.specs.Entries.{buildRefusal, layoutRefusal}
+use Rattle.magnetar_r1cs.specs.LayoutEntries.{buildRefusal, layoutRefusal}
 use Rattle.magnetar_r1cs.proofs.Noted.{note-clear, turned, done}
 use Rattle.magnetar_r1cs.proofs.Laid.{sound}
 use borrow.Author.Needs.{needs}

@@ -11,7 +11,7 @@ use borrow.Author.Tests.{not-false}
 use Rattle.magnetar_r1cs.specs.Every.{every}
 use Rattle.magnetar_r1cs.specs.Layout.{isLength, layoutEnd}
 use Rattle.magnetar_r1cs.specs.Tests.{Tests, noted, isSize, columnTests, layoutTests}
-use Rattle.magnetar_r1cs.specs.Entries.{layoutRefusal}
+use Rattle.magnetar_r1cs.specs.LayoutEntries.{layoutRefusal}
 use Rattle.magnetar_r1cs.proofs.Noted.{noted-front, noted-clear}
 use Rattle.magnetar_r1cs.proofs.SizeLaws.{Sized, not-bad}
 use borrow.Author.Needs.{needs}

@@ -2,7 +2,7 @@
 -- Assumes nothing.
 use mathlib.Core.Path.{_≡_, refl, sym, _∙_}
 use Rattle.magnetar_r1cs.specs.Tests.{note}
-use Rattle.magnetar_r1cs.specs.Entries.{varsOf}
+use Rattle.magnetar_r1cs.specs.LayoutEntries.{varsRefusal}
 use borrow.Author.Needs.{needs}
 use Rattle.magnetar_r1cs.proofs.layout.witness_vars.Statement.{statement}
 use Rattle.magnetar_r1cs.proofs.layout.witness_vars.Tie as tie
@@ -14,11 +14,11 @@ log2-requires : tie.Need-log2-requires
 log2-requires c κs = search needs
 
 returns : tie.Need-returns
-unfolding varsOf note
+unfolding varsRefusal note
 returns c = rw (sym (c .before .before .is-half .ensures) ∙ c .before .if1 .taken, c .log2 .ensures)
 
 returns-2 : tie.Need-returns-2
-unfolding varsOf note
+unfolding varsRefusal note
 returns-2 c = rw (sym (c .before .is-half .ensures) ∙ c .if1 .left)
 
 pub witness-vars-spec : {M : Type 1} → statement M
