@@ -15,7 +15,7 @@ use Rattle.magnetar_r1cs.specs.Matrix.{Matrix, times, mleTable, mleAt, b
 use Rattle.magnetar_r1cs.specs.Batch.{assignment, folded}
 use Rattle.magnetar_r1cs.specs.Packed.{unpacked}
 use Rattle.magnetar_r1cs.specs.Lent.{Lent, matrixOf}
-use Rattle.magnetar_r1cs.specs.Tests.{noted, sizeTests, packedTests, batchTests, lengthTest, roomTest, loneTests}
+use Rattle.magnetar_layout.specs.Tests.{noted, sizeTests, packedTests, batchTests, lengthTest, roomTest, loneTests}
 
 -- ---- `apply`: the matrix a, the vector z, the output out
 unfoldable pub applyRefusal : Lent → List ℕ → List ℕ → ℕ
