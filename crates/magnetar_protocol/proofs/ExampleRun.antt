@@ -8,10 +8,10 @@ use lib.Dec.{lit<, lit≤}
 use lib.ListN.{length, getD}
 use Rattle.magnetar_field.specs.Gf128.{_⊕_, _⊗_, sumTimes, timesX}
 use Rattle.magnetar_field.specs.Sizes.{log₂, halvings}
-use Rattle.magnetar_r1cs.specs.Every.{every}
+use Rattle.magnetar_layout.specs.Every.{every}
 use Rattle.magnetar_r1cs.specs.Matrix.{sumOver, rowTotal, share, timesAt}
 use Rattle.magnetar_r1cs.specs.Batch.{bitOf, assignment, Satisfied, Good}
-use Rattle.magnetar_r1cs.specs.Layout.{nextMultiple, offsetsFrom, offsets, endFrom, layoutEnd, isLength, within, outside}
+use Rattle.magnetar_layout.specs.Layout.{nextMultiple, offsetsFrom, offsets, endFrom, layoutEnd, isLength, within, outside}
 use Rattle.magnetar_protocol.specs.RunSizes.{SizedRelation, SizedBatch, SizedRun}
 use Rattle.magnetar_protocol.specs.Soundness.{NoStray}
 use Rattle.magnetar_protocol.specs.Prover.{Convinces}

@@ -18,7 +18,7 @@ use Rattle.magnetar_sumcheck.specs.Messages.{outerNext, outerFold, outerStart, 
 use Rattle.magnetar_r1cs.specs.Sum.{sumBelow, blocks}
 use Rattle.magnetar_r1cs.specs.Matrix.{Matrix, System, sumOver, rowTotal, share, timesAt, times, transpose, mleTable}
 use Rattle.magnetar_r1cs.specs.Batch.{Relation, bitOf, assignment, foldedAt, folded, claimValue}
-use Rattle.magnetar_r1cs.specs.Layout.{nextMultiple, offsetsFrom, offsets}
+use Rattle.magnetar_layout.specs.Layout.{nextMultiple, offsetsFrom, offsets}
 use Rattle.magnetar_protocol.specs.Shape.{proofElements}
 use Rattle.magnetar_protocol.specs.Proof.{binMessages, fldMessages, terminals, innerRounds, valueZ, segmentValues}
 use Rattle.magnetar_protocol.specs.Draws.{drawsOf, loginPoint, lowPoint, topElement}

@@ -10,8 +10,8 @@ use borrow.Author.Tests.{ltb-true, leb-true, eqb-true, lt-leb}
 use lib.Dec.{ltb, leb}
 use lib.ListN.{length, getD}
 use Rattle.magnetar_field.specs.Sizes.{log₂, powerOfTwo}
-use Rattle.magnetar_r1cs.specs.Every.{every}
-use Rattle.magnetar_r1cs.specs.Layout.{nextMultiple, offsetsFrom, endFrom, offsets, layoutEnd, isLength, Sound, within}
+use Rattle.magnetar_layout.specs.Every.{every}
+use Rattle.magnetar_layout.specs.Layout.{nextMultiple, offsetsFrom, endFrom, offsets, layoutEnd, isLength, Sound, within}
 
 -- ---- one length, one place
 pub record Length (w n : ℕ) : Type 0 where

@@ -12,7 +12,7 @@ use Rattle.magnetar_field.specs.Sizes.{log₂}
 use Rattle.magnetar_field.specs.EqTable.{eqAt, eqTable}
 use Rattle.magnetar_field.proofs.EqTables.{eqTable-get}
 use Rattle.magnetar_r1cs.specs.Batch.{Relation}
-use Rattle.magnetar_r1cs.specs.Layout.{offsets, offset, localVars, suffix}
+use Rattle.magnetar_layout.specs.Layout.{offsets, offset, localVars, suffix}
 use Rattle.magnetar_theory.specs.EqTable.{eqTable as eqTableE}
 use Rattle.magnetar_theory.specs.Run.{segSum}
 use Rattle.magnetar_theory.specs.Gf128.{Element, element, sum, product, gf128}

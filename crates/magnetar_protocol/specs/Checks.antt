@@ -15,7 +15,7 @@ use Rattle.magnetar_sumcheck.specs.Outer.{outerEnd}
 use Rattle.magnetar_sumcheck.specs.Inner.{innerEnd}
 use Rattle.magnetar_r1cs.specs.Matrix.{mleTable}
 use Rattle.magnetar_r1cs.specs.Batch.{Relation}
-use Rattle.magnetar_r1cs.specs.Layout.{localVars, suffix}
+use Rattle.magnetar_layout.specs.Layout.{localVars, suffix}
 use Rattle.magnetar_protocol.specs.Shape.{logLogins, logBin, logFld, logCols}
 use Rattle.magnetar_protocol.specs.Proof.{binMessages, fldMessages, terminals, terminal, innerRounds, valueZ, segmentValues}
 use Rattle.magnetar_protocol.specs.Draws.{Draws, loginPoint, lowPoint, topElement}

@@ -7,10 +7,10 @@ use Prim.Native.Nat.{ℕ, suc, _*_, _/_, _^_, _≤_, _<_}
 use lib.Dec.{ltb}
 use lib.ListN.{length, getD}
 use Rattle.magnetar_field.specs.Sizes.{log₂}
-use Rattle.magnetar_r1cs.specs.Every.{every}
+use Rattle.magnetar_layout.specs.Every.{every}
 use Rattle.magnetar_r1cs.specs.Matrix.{Matrix, System}
 use Rattle.magnetar_r1cs.specs.Batch.{Relation, Batch, bitOf}
-use Rattle.magnetar_r1cs.specs.Layout.{Sound}
+use Rattle.magnetar_layout.specs.Layout.{Sound}
 use Rattle.magnetar_protocol.specs.Shape.{proofElements}
 use Rattle.magnetar_protocol.specs.Draws.{drawCount}
 

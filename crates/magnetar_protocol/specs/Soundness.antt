@@ -7,7 +7,7 @@ use mathlib.Core.List.{List, map, List·Memᴰ}
 use Prim.Native.Nat.{ℕ, _/_, _<_}
 use lib.ListN.{length, getD, take}
 use Rattle.magnetar_r1cs.specs.Batch.{Relation, Batch, bitOf}
-use Rattle.magnetar_r1cs.specs.Layout.{outside}
+use Rattle.magnetar_layout.specs.Layout.{outside}
 use Rattle.magnetar_theory.specs.Lists.{lists}
 use Rattle.magnetar_theory.specs.Heard.{heard}
 use Rattle.magnetar_theory.specs.Gf128.{number, gf128}

@@ -14,7 +14,7 @@ use Rattle.magnetar_hash.specs.Transcript as transcript
 use Rattle.magnetar_sumcheck.specs.Inner.{innerMessage}
 use Rattle.magnetar_sumcheck.specs.Messages.{Outer, outerStart, outerNext, outerFold}
 use Rattle.magnetar_r1cs.specs.Batch.{Relation}
-use Rattle.magnetar_r1cs.specs.Layout.{offset, localVars}
+use Rattle.magnetar_layout.specs.Layout.{offset, localVars}
 use Rattle.magnetar_protocol.specs.Shape.{logLogins, logBin, logFld, logCols}
 use Rattle.magnetar_protocol.specs.Schedule.{numbered}
 use Rattle.magnetar_protocol.specs.Play.{Played, start, absorbing, drawing}

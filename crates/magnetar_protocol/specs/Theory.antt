@@ -6,7 +6,7 @@ use Prim.Native.Nat.{ℕ, _-_, _/_}
 use Rattle.magnetar_field.specs.Sizes.{log₂}
 use Rattle.magnetar_r1cs.specs.Matrix.{Entry, Matrix, System}
 use Rattle.magnetar_r1cs.specs.Batch.{Relation, Batch}
-use Rattle.magnetar_r1cs.specs.Layout.{offsets}
+use Rattle.magnetar_layout.specs.Layout.{offsets}
 use Rattle.magnetar_theory.specs.Matrix.{Entry as EntryE}
 use Rattle.magnetar_theory.specs.Segment.{Segment}
 use Rattle.magnetar_theory.specs.Run.{System as SystemE, Relation as RelationE, Draws as DrawsE, Words as WordsE}

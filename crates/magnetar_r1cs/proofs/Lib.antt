@@ -1,8 +1,4 @@
-pub mod Noted
-pub mod EveryLaws
-pub mod SizeLaws
-pub mod Laid
-pub mod Readings
+pub mod Flags
 pub mod Digits
 pub mod TableLaws
 pub mod Lone
@@ -13,7 +9,6 @@ pub mod Selected
 pub mod Folds
 pub mod Blocks
 pub mod Split
-pub mod Room
 pub mod Verdicts
 pub mod Walked
 pub mod MarkedRows

@@ -9,15 +9,15 @@ use lib.Dec.{eqb, ltb}
 use lib.ListN.{length}
 use borrow.Author.Tests.{not-false, eqb-true, ltb-true, ltb-false, lt-ltb}
 use Rattle.magnetar_field.specs.Gf128.{_⊕_}
-use Rattle.magnetar_r1cs.specs.Every.{every}
+use Rattle.magnetar_layout.specs.Every.{every}
 use Rattle.magnetar_r1cs.specs.Matrix.{Entry, sumOver}
 use Rattle.magnetar_r1cs.specs.Lent.{Lent, entry, entriesOf}
 use Rattle.magnetar_r1cs.specs.Packed.{loginWords}
 use Rattle.magnetar_r1cs.specs.Table.{Equal}
-use Rattle.magnetar_r1cs.specs.Tests.{Tests, noted, allBelow, counted, placed, loneTests, batchTests}
-use Rattle.magnetar_r1cs.proofs.EveryLaws.{both}
-use Rattle.magnetar_r1cs.proofs.Noted.{Clear, noted-clear}
-use Rattle.magnetar_r1cs.proofs.SizeLaws.{Sized, not-bad}
+use Rattle.magnetar_layout.specs.Tests.{Tests, noted, allBelow, counted, placed, loneTests, batchTests}
+use Rattle.magnetar_layout.proofs.EveryLaws.{both}
+use Rattle.magnetar_layout.proofs.Noted.{Clear, noted-clear}
+use Rattle.magnetar_layout.proofs.SizeLaws.{Sized, not-bad}
 
 -- the entries are counted, and lie inside
 pub record Placed (a : Lent) : Type 0 where

@@ -9,13 +9,14 @@ use Rattle.magnetar_field.specs.EqTable.{eqTable, eqAt, eqFactor}
 use Rattle.magnetar_field.specs.Tabulate.{tabulate}
 use Rattle.magnetar_field.specs.Sizes.{log₂, halvings}
 use Rattle.magnetar_r1cs.specs.Sum.{sumBelow, blocks}
-use Rattle.magnetar_r1cs.specs.Every.{every}
+use Rattle.magnetar_layout.specs.Every.{every}
 use Rattle.magnetar_r1cs.specs.Matrix.{Entry, Matrix, sumOver, rowTotal, share, timesAt, times, transpose, mleTable, bitValued}
 use Rattle.magnetar_r1cs.specs.Batch.{assignment, bitOf, foldedAt, folded}
 use Rattle.magnetar_r1cs.specs.Packed.{loginWords, packedBit, loginPart, unpacked}
-use Rattle.magnetar_r1cs.specs.Layout.{nextMultiple, offsetsFrom, endFrom, offsets, layoutEnd, isLength}
-use Rattle.magnetar_r1cs.specs.Tests.{note, isSize}
-use Rattle.magnetar_r1cs.specs.Entries.{packedTable, layoutRefusal}
+use Rattle.magnetar_layout.specs.Layout.{nextMultiple, offsetsFrom, endFrom, offsets, layoutEnd, isLength}
+use Rattle.magnetar_layout.specs.Tests.{note, isSize}
+use Rattle.magnetar_r1cs.specs.Entries.{packedTable}
+use Rattle.magnetar_layout.specs.Entries.{layoutRefusal}
 
 -- what a row of the table says: an element, a list of elements or offsets, a packed output with its flag, or a refusal
 pub data Result : Type 0 where

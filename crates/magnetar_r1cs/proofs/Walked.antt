@@ -14,8 +14,8 @@ use lib.Seq.{drop-cons, drop-nil}
 use Rattle.magnetar_field.specs.Gf128.{_⊕_, _⊗_}
 use Rattle.magnetar_field.proofs.Xor.{⊕-zero, zero-⊕, ⊕-assoc, ⊕-four}
 use Rattle.magnetar_r1cs.specs.Matrix.{Entry, swapped, sumOver, rowTotal}
-use Rattle.magnetar_r1cs.specs.Every.{every}
-use Rattle.magnetar_r1cs.proofs.EveryLaws.{Left}
+use Rattle.magnetar_layout.specs.Every.{every}
+use Rattle.magnetar_layout.proofs.EveryLaws.{Left}
 use Rattle.magnetar_r1cs.specs.Lent.{entry, entriesOf}
 use Rattle.magnetar_r1cs.specs.Table.{addedAt, raised, Equal}
 use Rattle.magnetar_r1cs.proofs.TableLaws.{added-length, added-here, added-there, raised-is}

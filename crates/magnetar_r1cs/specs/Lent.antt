@@ -1,19 +1,9 @@
--- A matrix as it is lent: four number slices, entry k being row k, column k and the value with the words lo k and hi k.
+-- The matrix that is lent as four number slices, entry k being row k, column k and the value with the words lo k and hi k.
 -- Assumes nothing.
 use mathlib.Core.List.{List, [], _∷_}
 use Prim.Native.Nat.{ℕ, _+_, _*_, _^_}
+pub use Rattle.magnetar_layout.specs.Lent.{Lent, lent}
 use Rattle.magnetar_r1cs.specs.Matrix.{Entry, Matrix}
-
-pub record Lent : Type 0 where
-  pub rows : ℕ
-  pub cols : ℕ
-  pub row : List ℕ
-  pub col : List ℕ
-  pub lo : List ℕ
-  pub hi : List ℕ
-
-abbrev pub lent : ℕ → ℕ → List ℕ → List ℕ → List ℕ → List ℕ → Lent
-lent n m r c l h = record { rows = n; cols = m; row = r; col = c; lo = l; hi = h }
 
 abbrev pub entry : ℕ → ℕ → ℕ → ℕ → Entry
 entry r c l h = record { row = r; col = c; value = h * 2 ^ 64 + l }

@@ -1,12 +1,9 @@
 pub mod Sum
-pub mod Every
 pub mod Matrix
 pub mod Batch
 pub mod Packed
-pub mod Layout
 pub mod RowCheck
 pub mod Lent
 pub mod Table
 pub mod Fold
-pub mod Tests
 pub mod Entries

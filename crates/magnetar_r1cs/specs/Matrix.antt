@@ -9,7 +9,7 @@ use lib.ListN.{getD}
 use Rattle.magnetar_field.specs.Gf128.{_⊕_, _⊗_}
 use Rattle.magnetar_field.specs.Tabulate.{tabulate}
 use Rattle.magnetar_field.specs.EqTable.{eqAt, eqTable}
-use Rattle.magnetar_r1cs.specs.Every.{every}
+use Rattle.magnetar_layout.specs.Every.{every}
 
 pub record Entry : Type 0 where
   pub row : ℕ

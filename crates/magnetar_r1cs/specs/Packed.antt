@@ -5,11 +5,8 @@ use mathlib.Core.List.{List}
 use Prim.Native.Nat.{ℕ, _+_, _*_, _/_, _%_, _^_}
 use lib.ListN.{getD, take, drop}
 use Rattle.magnetar_field.specs.Tabulate.{tabulate}
+unfoldable pub use Rattle.magnetar_layout.specs.Login.{loginWords}
 use Rattle.magnetar_r1cs.specs.Batch.{Batch}
-
--- how many words a login of w columns has
-unfoldable pub loginWords : ℕ → ℕ
-loginWords w = 2 * ((w + 127) / 128)
 
 -- the bit at column y of a login's words: bit y mod 64 of word y / 64
 unfoldable pub packedBit : List ℕ → ℕ → ℕ

@@ -1,12 +1,12 @@
 // Folds at a point over the logins.
 use crate::r1cs;
-use crate::tests;
 use crate::walk;
 use magnetar_field::gf128::Evaluated;
 use magnetar_field::gf128::Gf128;
 use magnetar_field::multilinear;
 use magnetar_field::sizes;
 use magnetar_field::words;
+use magnetar_layout::tests;
 ghost use mathlib.Core.Path.{_≡_};
 ghost use Prim.Native.Nat.{ℕ, _+_, _*_, _/_, _%_, _^_, _<_, _≤_};
 ghost use lib.ListN.{length, getD, replicate};

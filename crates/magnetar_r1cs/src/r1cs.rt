@@ -1,16 +1,16 @@
 // Sparse matrices, lent as four number slices: row, column, low word and high word of each entry.
 use crate::fold;
-use crate::tests;
 use crate::walk;
 use magnetar_field::eq::EqBits;
 use magnetar_field::gf128::Evaluated;
 use magnetar_field::gf128::Gf128;
 use magnetar_field::sizes;
 use magnetar_field::words;
+use magnetar_layout::tests;
 ghost use mathlib.Core.Path.{_≡_};
 ghost use mathlib.Core.Bool.{true, _&&_};
 ghost use lib.Dec.{leb};
-ghost use Rattle.magnetar_r1cs.specs.Every.{every};
+ghost use Rattle.magnetar_layout.specs.Every.{every};
 ghost use Prim.Native.Nat.{ℕ, _+_, _*_, _/_, _%_, _^_, _<_, _≤_};
 ghost use mathlib.Core.List.{_++_};
 ghost use lib.ListN.{length, take, drop, replicate};
@@ -24,7 +24,7 @@ ghost use Rattle.magnetar_r1cs.specs.Lent.{lent, entriesOf, matrixOf};
 ghost use Rattle.magnetar_r1cs.specs.Table.{cross, loginTotal, loginBlock, Equal, Point};
 ghost use Rattle.magnetar_r1cs.specs.Sum.{blocks};
 ghost use Rattle.magnetar_r1cs.specs.Packed.{loginWords};
-ghost use Rattle.magnetar_r1cs.specs.Tests.{allBelow, noted, batchTests};
+ghost use Rattle.magnetar_layout.specs.Tests.{allBelow, noted, batchTests};
 ghost use Rattle.magnetar_r1cs.specs.Entries.{applyRefusal, applyOut, tableRefusal, tableOut, tableScratch, atAnswer, atScratch, flagged, flaggedOf, binaryRefusal, packedRefusal, packedOut};
 
 // An answer: yes, no, or the number of a refusal.

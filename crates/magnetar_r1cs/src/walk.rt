@@ -8,12 +8,12 @@ ghost use lib.ListN.{length, getD};
 ghost use Rattle.magnetar_field.specs.Gf128.{value, _⊕_, _⊗_};
 ghost use Rattle.magnetar_field.specs.Words.{elements};
 ghost use mathlib.Core.Bool.{true};
-ghost use Rattle.magnetar_r1cs.specs.Every.{every};
+ghost use Rattle.magnetar_layout.specs.Every.{every};
 ghost use Rattle.magnetar_r1cs.specs.Matrix.{sumOver, rowTotal, share, isBit};
 ghost use Rattle.magnetar_r1cs.specs.Packed.{packedBit};
 ghost use Rattle.magnetar_r1cs.specs.Lent.{entry, entriesOf};
 ghost use Rattle.magnetar_r1cs.specs.Table.{addedAt, raised, publicShare, bitShare, cross, Equal};
-ghost use Rattle.magnetar_r1cs.specs.Tests.{allBelow};
+ghost use Rattle.magnetar_layout.specs.Tests.{allBelow};
 
 // Adds e to the element at index k, where there is one.
 pub(crate) fn add_at(out: &mut [u64], k: usize, e: Gf128)

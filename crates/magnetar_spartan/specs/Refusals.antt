@@ -6,7 +6,7 @@ use Prim.Native.Nat.{ℕ, _+_, _-_, _*_, _/_, _^_, max}
 use lib.Dec.{eqb, ltb}
 use lib.ListN.{length}
 use Rattle.magnetar_field.specs.Sizes.{log₂}
-use Rattle.magnetar_r1cs.specs.Tests.{Tests, isSize, sizeTests, packedTests, publicTests, colsTests, counted, placed, layoutTests, roomTest}
+use Rattle.magnetar_layout.specs.Tests.{Tests, isSize, sizeTests, packedTests, publicTests, colsTests, counted, placed, layoutTests, roomTest}
 use Rattle.magnetar_protocol.specs.Shape.{proofElements}
 use Rattle.magnetar_protocol.specs.Schedule.{outline}
 use Rattle.magnetar_spartan.specs.Rules.{Three, Rules}

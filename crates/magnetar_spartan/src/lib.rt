@@ -1,1 +1,2 @@
-// Virtual Spartan.
+// Virtual Spartan: the prover and the verifier of a batch.
+pub mod refusal;

@@ -11,14 +11,14 @@ use lib.Seq.{length-take-le}
 use borrow.Author.Tests.{ltb-false, eqb-true, not-false}
 use denote.Ref.{now}
 use Rattle.magnetar_field.specs.Sizes.{log₂}
-use Rattle.magnetar_r1cs.specs.Tests.{Tests, noted, loneTests, lengthTest, roomTest}
-use Rattle.magnetar_r1cs.proofs.SizeLaws.{Sized}
+use Rattle.magnetar_layout.specs.Tests.{Tests, noted, loneTests, lengthTest, roomTest}
+use Rattle.magnetar_layout.proofs.SizeLaws.{Sized}
 use Rattle.magnetar_r1cs.proofs.Points.{point-of, log-most}
 use Rattle.magnetar_r1cs.specs.Packed.{loginWords}
-use Rattle.magnetar_r1cs.specs.Tests.{sizeTests, packedTests}
+use Rattle.magnetar_layout.specs.Tests.{sizeTests, packedTests}
 use Rattle.magnetar_r1cs.specs.Entries.{foldRefusal}
-use Rattle.magnetar_r1cs.proofs.Noted.{noted-front, noted-late, noted-clear, turned, done}
-use Rattle.magnetar_r1cs.proofs.SizeLaws.{not-bad, sized-wider}
+use Rattle.magnetar_layout.proofs.Noted.{noted-front, noted-late, noted-clear, turned, done}
+use Rattle.magnetar_layout.proofs.SizeLaws.{not-bad, sized-wider}
 use Rattle.magnetar_r1cs.proofs.TableLaws.{in-front}
 use Rattle.magnetar_r1cs.proofs.Folds.{product-most, fold-is}
 use Rattle.magnetar_r1cs.proofs.Points.{point-size}

@@ -12,21 +12,22 @@ use borrow.Author.Tests.{ltb-false, eqb-true, not-false}
 use denote.Ref.{now}
 use Rattle.magnetar_field.specs.Sizes.{log₂}
 use Rattle.magnetar_r1cs.specs.Lent.{Lent, lent, entriesOf, matrixOf}
-use Rattle.magnetar_r1cs.specs.Tests.{Tests, noted, loneTests, lengthTest, roomTest}
-use Rattle.magnetar_r1cs.proofs.SizeLaws.{Sized}
+use Rattle.magnetar_layout.specs.Tests.{Tests, noted, loneTests, lengthTest, roomTest}
+use Rattle.magnetar_layout.proofs.SizeLaws.{Sized}
 use Rattle.magnetar_r1cs.proofs.Lone.{Lone, lone}
 use lib.ListN.{drop}
 use mathlib.Core.Bool.{true, false}
 use borrow.Author.Tests.{ne-eqb, lt-ltb, le-ltb}
 use Rattle.magnetar_field.specs.Words.{words, elements}
 use Rattle.magnetar_r1cs.specs.Matrix.{bitValued}
-use Rattle.magnetar_r1cs.specs.Tests.{batchTests}
+use Rattle.magnetar_layout.specs.Tests.{batchTests}
 use Rattle.magnetar_r1cs.specs.Entries.{packedRefusal}
-use Rattle.magnetar_r1cs.proofs.Noted.{noted-front, noted-late, turned, done, flag-refused, flag-yes, flag-no}
+use Rattle.magnetar_layout.proofs.Noted.{noted-front, noted-late, turned, done}
+use Rattle.magnetar_r1cs.proofs.Flags.{flag-refused, flag-yes, flag-no}
 use Rattle.magnetar_r1cs.proofs.Lone.{Batched, batched}
 use Rattle.magnetar_r1cs.proofs.Blocks.{product-fits}
 use Rattle.magnetar_r1cs.proofs.Split.{packed-is}
-use Rattle.magnetar_r1cs.proofs.Room.{room-short, room-enough}
+use Rattle.magnetar_layout.proofs.Room.{room-short, room-enough}
 use borrow.Author.Needs.{needs}
 use Rattle.magnetar_r1cs.proofs.r1cs.apply_simd_packed.Statement.{statement}
 use Rattle.magnetar_r1cs.proofs.r1cs.apply_simd_packed.Tie as tie

@@ -12,12 +12,12 @@ use borrow.Author.Tests.{ltb-false, eqb-true, not-false}
 use denote.Ref.{now}
 use Rattle.magnetar_field.specs.Sizes.{log₂}
 use Rattle.magnetar_r1cs.specs.Lent.{Lent, lent, entriesOf, matrixOf}
-use Rattle.magnetar_r1cs.specs.Tests.{Tests, noted, loneTests, lengthTest, roomTest}
-use Rattle.magnetar_r1cs.proofs.Noted.{noted-front, noted-late, noted-clear, turned, done}
-use Rattle.magnetar_r1cs.proofs.SizeLaws.{Sized}
+use Rattle.magnetar_layout.specs.Tests.{Tests, noted, loneTests, lengthTest, roomTest}
+use Rattle.magnetar_layout.proofs.Noted.{noted-front, noted-late, noted-clear, turned, done}
+use Rattle.magnetar_layout.proofs.SizeLaws.{Sized}
 use lib.ListN.{drop}
-use Rattle.magnetar_r1cs.specs.Tests.{sizeTests, packedTests, publicTests, rowTests, rowsTests, colsTests, counted, placed}
-use Rattle.magnetar_r1cs.proofs.SizeLaws.{not-bad}
+use Rattle.magnetar_layout.specs.Tests.{sizeTests, packedTests, publicTests, rowTests, rowsTests, colsTests, counted, placed}
+use Rattle.magnetar_layout.proofs.SizeLaws.{not-bad}
 use Rattle.magnetar_r1cs.proofs.Folds.{product-most}
 use Rattle.magnetar_r1cs.proofs.Blocks.{product-fits}
 use borrow.Author.Needs.{needs}

@@ -2,7 +2,7 @@
 -- Assumes nothing.
 use lib.Dec.{ltb}
 use borrow.Author.Tests.{ltb-true}
-use Rattle.magnetar_r1cs.proofs.EveryLaws.{every-at}
+use Rattle.magnetar_layout.proofs.EveryLaws.{every-at}
 use mathlib.Core.Path.{_≡_, refl, sym, _∙_}
 use Prim.Native.Nat.{_-_, _<_}
 use native.Mathlib.Omega.{arith}

@@ -1,0 +1,169 @@
+-- The walk that lays the segments out: where it stands, and that it never goes back.
+-- Assumes nothing.
+use mathlib.Core.Path.{_≡_, refl, sym, ap, _∙_}
+use mathlib.Core.Bool.{Bool, true, false, _&&_}
+use mathlib.Core.List.{List, [], _∷_, _++_}
+use Prim.Native.Nat.{ℕ, zero, suc, _+_, _-_, _*_, _/_, _%_, _^_, _≤_, _<_}
+use native.Mathlib.Nat.{div-add-mod', mod-lt, le-refl, le-trans, lt-of-not-le, pow-suc}
+use native.Mathlib.Numerals.{add-one}
+use native.Mathlib.Omega.{arith}
+use borrow.Author.Tests.{ltb-true, leb-true, ltb-false, eqb-true, not-false}
+use lib.Dec.{ltb, leb}
+use lib.ListN.{length, getD, take, drop, set, drop-of-length-le, length-append, length-take}
+use lib.Seq.{drop-cons, take-suc, set-at, append-snoc}
+use mathlib.Core.List.{append-assoc}
+use lib.Pow.{pow-mono}
+use Rattle.magnetar_field.specs.Sizes.{log₂}
+use Rattle.magnetar_field.proofs.Log2.{log₂-pow}
+use Rattle.magnetar_layout.specs.Every.{every}
+use Rattle.magnetar_layout.specs.Tests.{columnTests, layoutTests}
+use Rattle.magnetar_layout.specs.Entries.{layoutRefusal}
+use Rattle.magnetar_layout.proofs.Noted.{noted-clear}
+use Rattle.magnetar_layout.proofs.SizeLaws.{Sized, not-bad}
+use Rattle.magnetar_layout.specs.Layout.{nextMultiple, offsetsFrom, endFrom, offsets, layoutEnd, isLength, Sound}
+use Rattle.magnetar_layout.proofs.EveryLaws.{both, every-at, every-tail, every-drop}
+
+-- ---- half of a power of two
+half-power : (w : ℕ) → 1 ≤ w → w ≤ 32768 → 2 * w ≡ 2 ^ log₂ (2 * w) → w ≡ 2 ^ log₂ w
+half-power w l h e = go (log₂ (2 * w)) e
+  where
+    go : (k : ℕ) → 2 * w ≡ 2 ^ k → w ≡ 2 ^ log₂ w
+    go zero e = absurd (omega arith)
+    go (suc k) e =
+        let p : w ≡ 2 ^ k = omega (arith, pow-suc 2 k) in
+        let b : k < 64 = lt-of-not-le (λ b. omega (arith, pow-mono {i = 64} {j = k} b)) in
+        p ∙ sym (rw (p, log₂-pow k b))
+
+-- ---- the next multiple
+module _ (c n : ℕ) (pos : 0 < n) where
+  pub next-least : c ≤ nextMultiple c n
+  unfolding nextMultiple
+  next-least = omega (arith, div-add-mod' (c + (n - 1)) n, mod-lt (c + (n - 1)) pos)
+
+  pub next-most : nextMultiple c n < c + n
+  unfolding nextMultiple
+  next-most = omega (arith, div-add-mod' (c + (n - 1)) n)
+
+-- ---- a length
+module _ (w n : ℕ) (e : isLength w n ≡ true) where
+  pub length-pos : 0 < n
+  unfolding isLength
+  length-pos = ltb-true 0 n (both (ltb 0 n) _ e .0)
+
+  pub length-most : n ≤ w
+  unfolding isLength
+  length-most = leb-true n w (both (leb n w) _ (both (ltb 0 n) _ e .1) .0)
+
+  pub length-power : n ≡ 2 ^ log₂ n
+  unfolding isLength
+  length-power = eqb-true n (2 ^ log₂ n) (both (leb n w) _ (both (ltb 0 n) _ e .1) .1)
+
+-- each length of a layout of w columns
+pub record Size (w n : ℕ) : Type 0 where
+  pub least : 0 < n
+  pub most : n ≤ w
+  pub power : n ≡ 2 ^ log₂ n
+
+-- n columns from o on, among w
+pub record Inside (o n w : ℕ) : Type 0 where
+  pub small : w ≤ 32768
+  pub ends : o + n ≤ w
+
+pub each-size : (w : ℕ) (ns : List ℕ) (i : ℕ) → every (isLength w) ns ≡ true → i < length ns → Size w (getD ns i 0)
+each-size w ns i e h =
+    let t = every-at (isLength w) 0 ns i h e in
+    let n = getD ns i 0 in
+    record { least = length-pos w n t; most = length-most w n t; power = length-power w n t }
+
+-- ---- the walk
+-- the end lies at c or later
+pub end-least : (w c : ℕ) (ns : List ℕ) → every (isLength w) ns ≡ true → c ≤ endFrom c ns
+unfolding endFrom
+end-least w c [] e = le-refl c
+end-least w c (n ∷ ns) e =
+    let p : 0 < n = length-pos w n (every-at (isLength w) 0 (n ∷ ns) 0 (omega arith) e) in
+    let l : c ≤ nextMultiple c n = next-least c n p in
+    let m : nextMultiple c n + n ≤ endFrom (nextMultiple c n + n) ns = end-least w (nextMultiple c n + n) ns (every-tail (isLength w) n ns e) in
+    omega (arith, l, m)
+
+-- after i segments the walk stands at c
+pub record Laid (ns : List ℕ) (c i : ℕ) : Type 0 where
+  pub ends : endFrom c (drop i ns) ≡ layoutEnd ns
+  pub places : offsetsFrom c (drop i ns) ≡ drop i (offsets ns)
+
+pub laid-start : (ns : List ℕ) → Laid ns 0 0
+unfolding layoutEnd offsets
+laid-start ns = record { ends = refl; places = refl }
+
+module _ (ns : List ℕ) (c i : ℕ) (l : Laid ns c i) (h : i < length ns) where
+  abbrev n : ℕ
+  n = getD ns i 0
+
+  unrolled : nextMultiple c n ∷ offsetsFrom (nextMultiple c n + n) (drop (suc i) ns) ≡ drop i (offsets ns)
+  unfolding offsetsFrom
+  unrolled = rw (drop-cons ns i 0) at (l .places)
+
+  pub laid-more : Laid ns (nextMultiple c n + n) (i + 1)
+  unfolding endFrom
+  laid-more = record {
+    ends = rw add-one (rw (drop-cons ns i 0) at (l .ends));
+    places = rw add-one (tail-of i (offsets ns) unrolled);
+  }
+    where
+      tail-of : {x : ℕ} {xs : List ℕ} (i : ℕ) (s : List ℕ) → x ∷ xs ≡ drop i s → xs ≡ drop (suc i) s
+      tail-of zero [] e = absurd (let z : _≡_ {A = ℕ} 0 1 = cc in omega arith)
+      tail-of zero (y ∷ s) e = cc
+      tail-of (suc i) [] e = absurd (let z : _≡_ {A = ℕ} 0 1 = cc in omega arith)
+      tail-of (suc i) (y ∷ s) e = tail-of i s e
+
+  pub laid-offset : nextMultiple c n ≡ getD (offsets ns) i 0
+  laid-offset = head-of i (offsets ns) unrolled
+    where
+      head-of : {x : ℕ} {xs : List ℕ} (i : ℕ) (s : List ℕ) → x ∷ xs ≡ drop i s → x ≡ getD s i 0
+      head-of zero [] e = absurd (let z : _≡_ {A = ℕ} 0 1 = cc in omega arith)
+      head-of zero (y ∷ s) e = cc
+      head-of (suc i) [] e = absurd (let z : _≡_ {A = ℕ} 0 1 = cc in omega arith)
+      head-of (suc i) (y ∷ s) e = head-of i s e
+
+offsets-from-length : (c : ℕ) (ns : List ℕ) → length (offsetsFrom c ns) ≡ length ns
+unfolding offsetsFrom
+offsets-from-length c [] = refl
+offsets-from-length c (n ∷ ns) = ap suc (offsets-from-length (nextMultiple c n + n) ns)
+
+pub offsets-length : (ns : List ℕ) → length (offsets ns) ≡ length ns
+unfolding offsets
+offsets-length ns = offsets-from-length 0 ns
+
+pub laid-end : (ns : List ℕ) (c i : ℕ) → Laid ns c i → length ns ≤ i → c ≡ layoutEnd ns
+unfolding endFrom
+laid-end ns c i l h = rw (drop-of-length-le ns h) at (l .ends)
+
+-- the walk never stands past the end
+pub laid-within : (w : ℕ) (ns : List ℕ) (c i : ℕ) → Laid ns c i → every (isLength w) ns ≡ true → c ≤ layoutEnd ns
+laid-within w ns c i l e = rw (l .ends) at (end-least w c (drop i ns) (every-drop (isLength w) i ns e))
+
+-- ---- a segment lies within the layout
+offset-from-within : (w c : ℕ) (ns : List ℕ) (i : ℕ) → every (isLength w) ns ≡ true → i < length ns
+    → getD (offsetsFrom c ns) i 0 + getD ns i 0 ≤ endFrom c ns
+unfolding offsetsFrom endFrom
+offset-from-within w c [] i e h = absurd (omega arith)
+offset-from-within w c (n ∷ ns) zero e h = end-least w (nextMultiple c n + n) ns (every-tail (isLength w) n ns e)
+offset-from-within w c (n ∷ ns) (suc i) e h =
+    offset-from-within w (nextMultiple c n + n) ns i (every-tail (isLength w) n ns e) (omega arith)
+
+pub offset-within : (w : ℕ) (ns : List ℕ) (i : ℕ) → Sound w ns → i < length ns → getD (offsets ns) i 0 + getD ns i 0 ≤ w
+unfolding offsets layoutEnd
+offset-within w ns i s h = le-trans (offset-from-within w 0 ns i (s .lengths) h) (s .ends)
+
+-- ---- a layout that is not refused
+pub sound : (w : ℕ) (ns : List ℕ) → layoutRefusal w ns ≡ 0 → Sound w ns
+unfolding layoutRefusal
+sound w ns e =
+    let k = noted-clear 0 (columnTests (2 * w) ++ layoutTests w ns) refl e .1 in
+    let z = not-bad (k .0) in
+    record {
+      small = omega (arith, z .high);
+      power = half-power w (omega (arith, z .low)) (omega (arith, z .high)) (z .power);
+      lengths = not-false _ (k .1 .0);
+      ends = ltb-false _ _ (k .1 .1 .0);
+    }

@@ -1,0 +1,6 @@
+pub mod Noted
+pub mod EveryLaws
+pub mod SizeLaws
+pub mod Laid
+pub mod Readings
+pub mod Room

@@ -1,0 +1,71 @@
+-- `magnetar_layout::layout::refusal` meets its contract.
+-- Assumes nothing.
+use mathlib.Core.Path.{_≡_, refl, sym, _∙_}
+use mathlib.Core.Bool.{not}
+use mathlib.Core.List.{[], _∷_}
+use Prim.Native.Nat.{ℕ, _*_}
+use native.Mathlib.Omega.{arith}
+use denote.Ref.{now}
+use lib.ListN.{drop}
+use borrow.Author.Tests.{not-false}
+use Rattle.magnetar_layout.specs.Every.{every}
+use Rattle.magnetar_layout.specs.Layout.{isLength, layoutEnd}
+use Rattle.magnetar_layout.specs.Tests.{Tests, noted, isSize, columnTests, layoutTests}
+use Rattle.magnetar_layout.specs.Entries.{layoutRefusal}
+use Rattle.magnetar_layout.proofs.Noted.{noted-front, noted-clear}
+use Rattle.magnetar_layout.proofs.SizeLaws.{Sized, not-bad}
+use borrow.Author.Needs.{needs}
+use Rattle.magnetar_layout.proofs.layout.refusal.Statement.{statement}
+use Rattle.magnetar_layout.proofs.layout.refusal.Tie as tie
+
+-- the tests before the first return
+abbrev front : tie.Start → Tests
+front s = (1, not (isSize 2 65536 (2 * s .args .w))) ∷ (8, not (every (isLength (s .args .w)) (now (s .args .lens)))) ∷ []
+
+is-half-requires : tie.Need-is-half-requires
+is-half-requires c κs = search needs
+
+note-requires : tie.Need-note-requires
+note-requires c κs = search needs
+
+all-lengths-requires : tie.Need-all-lengths-requires
+all-lengths-requires c κs = search needs
+
+note-requires-2 : tie.Need-note-requires-2
+note-requires-2 c κs = search needs
+
+returns : tie.Need-returns
+unfolding layoutRefusal
+returns c = let s = c .before .before .before .before .before .before in noted-front (front s) (drop 1 (layoutTests (s .args .w) (now (s .args .lens)))) _ (cc) (c .if1 .taken)
+
+ends-past-requires : tie.Need-ends-past-requires
+ends-past-requires c κs =
+    let s = c .before .before .before .before .before .before in
+    let e : noted 0 (front s) ≡ 0 = cc in
+    let k = noted-clear 0 (front s) refl e in
+    let z = not-bad (k .1 .0) in
+    (omega (arith, z .high), not-false _ (k .1 .1 .0))
+
+note-requires-3 : tie.Need-note-requires-3
+note-requires-3 c κs = search needs
+
+note-requires-4 : tie.Need-note-requires-4
+note-requires-4 c κs = search needs
+
+returns-2 : tie.Need-returns-2
+unfolding layoutRefusal
+returns-2 c = cc
+
+pub refusal-spec : {M : Type 1} → statement M
+refusal-spec =
+    tie.close
+    (tie.spec
+    is-half-requires
+    note-requires
+    all-lengths-requires
+    note-requires-2
+    returns
+    ends-past-requires
+    note-requires-3
+    note-requires-4
+    returns-2)

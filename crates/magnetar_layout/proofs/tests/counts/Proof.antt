@@ -1,0 +1,24 @@
+-- `magnetar_layout::tests::counts` meets its contract.
+-- Assumes nothing.
+use borrow.Author.Needs.{needs}
+use Rattle.magnetar_layout.proofs.tests.counts.Statement.{statement}
+use Rattle.magnetar_layout.proofs.tests.counts.Tie as tie
+
+note-requires : tie.Need-note-requires
+note-requires c κs = search needs
+
+note-requires-2 : tie.Need-note-requires-2
+note-requires-2 c κs = search needs
+
+note-requires-3 : tie.Need-note-requires-3
+note-requires-3 c κs = search needs
+
+note-requires-4 : tie.Need-note-requires-4
+note-requires-4 c κs = search needs
+
+returns : tie.Need-returns
+returns c = cc
+
+pub counts-spec : {M : Type 1} → statement M
+counts-spec =
+    tie.close (tie.spec note-requires note-requires-2 note-requires-3 note-requires-4 returns)

@@ -1,0 +1,36 @@
+-- `magnetar_layout::tests::places` meets its contract.
+-- Assumes nothing.
+use mathlib.Core.Path.{sym}
+use Rattle.magnetar_layout.proofs.Noted.{note-kept}
+use borrow.Author.Needs.{needs}
+use Rattle.magnetar_layout.proofs.tests.places.Statement.{statement}
+use Rattle.magnetar_layout.proofs.tests.places.Tie as tie
+
+returns : tie.Need-returns
+returns c = let h = c .if1 .taken in sym (simp note-kept)
+
+all-below-requires : tie.Need-all-below-requires
+all-below-requires c κs = search needs
+
+note-requires : tie.Need-note-requires
+note-requires c κs = search needs
+
+all-below-requires-2 : tie.Need-all-below-requires-2
+all-below-requires-2 c κs = search needs
+
+note-requires-2 : tie.Need-note-requires-2
+note-requires-2 c κs = search needs
+
+returns-2 : tie.Need-returns-2
+returns-2 c = cc
+
+pub places-spec : {M : Type 1} → statement M
+places-spec =
+    tie.close
+    (tie.spec
+    returns
+    all-below-requires
+    note-requires
+    all-below-requires-2
+    note-requires-2
+    returns-2)

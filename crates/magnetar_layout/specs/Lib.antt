@@ -1,0 +1,6 @@
+pub mod Every
+pub mod Lent
+pub mod Login
+pub mod Layout
+pub mod Tests
+pub mod Entries
