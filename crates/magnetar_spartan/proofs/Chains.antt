@@ -4,7 +4,7 @@ use mathlib.Core.Bool.{Bool, not, false}
 use mathlib.Core.List.{List, [], _∷_, _++_}
 use Prim.Native.Nat.{ℕ, _*_, _≤_, _<_, _^_, _/_, zero, suc}
 use lib.ListN.{length}
-use native.Mathlib.Nat.{two-pow-succ}
+use native.Mathlib.Nat.{two-pow-succ, le-trans, mul-le-mul-left, mul-le-mul-right}
 use borrow.Author.Tests.{le-leb, eq-eqb}
 use Rattle.magnetar_field.specs.Sizes.{log₂}
 use native.Mathlib.Omega.{arith}
@@ -64,3 +64,15 @@ size-passes n z = rw (le-leb 2 n (z .low), le-leb n 65536 (z .high), eq-eqb n (2
 pub layout-tests : (m : ℕ) (ns : List ℕ) → Sized 2 65536 m → layoutRefusal (m / 2) ns ≡ noted 0 (layoutTests (m / 2) ns)
 unfolding layoutRefusal
 layout-tests m ns z = ap (λ (n : ℕ). noted n (layoutTests (m / 2) ns)) (size-passes (2 * (m / 2)) (subst (Sized 2 65536) (sym (halves m z)) z))
+
+-- so many columns have a variable
+pub log-least : (m : ℕ) → Sized 2 65536 m → 1 ≤ log₂ m
+log-least m z = go (log₂ m) (z .power)
+  where
+    go : (k : ℕ) → m ≡ 2 ^ k → 1 ≤ k
+    go zero e = absurd (omega (arith, z .low))
+    go (suc k) e = omega arith
+
+-- the packed words of q logins
+pub product-most : (q k : ℕ) → q ≤ 4096 → k ≤ 512 → q * k ≤ 2097152
+product-most q k h l = le-trans (mul-le-mul-left q l) (mul-le-mul-right 512 h)

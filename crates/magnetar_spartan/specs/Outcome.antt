@@ -2,7 +2,7 @@
 -- Assumes nothing.
 use mathlib.Core.List.{List, _++_}
 use Prim.Native.Nat.{ℕ, _/_}
-use lib.ListN.{drop, replicate}
+use lib.ListN.{length, drop, replicate}
 use Rattle.magnetar_field.specs.Refusal.{unlessRefused}
 use Rattle.magnetar_field.specs.Words.{elements, words}
 use Rattle.magnetar_hash.specs.declared.transcript.Transcript.{Transcript}
@@ -28,7 +28,7 @@ verified a c s = record { code = a .code; transcript = a .transcript; claims = c
 
 -- the number of its refusal among 1 to 16, or 0
 unfoldable pub verifyRefusal : Rules → (x w : List ℕ) → Transcript → (c s : List ℕ) → ℕ
-verifyRefusal R x w t c s = noted 0 (verifyTests R x w (t .«squeeze_ctr») c s)
+verifyRefusal R x w t c s = noted 0 (verifyTests R x w (t .«squeeze_ctr») (length c) (length s))
 
 -- the number among 21 to 29, or 0: the verdict at the draws of the transcript
 unfoldable pub verifyVerdict : Rules → (x w : List ℕ) → Transcript → ℕ
@@ -73,7 +73,7 @@ proveDraws R ws x t = proverDraws (relationOf R) (batchOf R ws) (elements x) t
 
 -- the number of its refusal among 1 to 15, or 0
 unfoldable pub proveRefusal : Rules → (ws x : List ℕ) → Transcript → (w c s : List ℕ) → ℕ
-proveRefusal R ws x t w c s = noted 0 (proveTests R ws x (t .«squeeze_ctr») w c s)
+proveRefusal R ws x t w c s = noted 0 (proveTests R ws x (t .«squeeze_ctr») (length w) (length c) (length s))
 
 -- the outcome of `prove_virtual_spartan`: packed words ws, public words x, transcript t, proof w, claims c, scratch s
 unfoldable pub proveOutcome : Rules → (ws x : List ℕ) → Transcript → (w c s : List ℕ) → Proved

@@ -6,7 +6,7 @@ use Prim.Native.Nat.{ℕ, _+_, _-_, _*_, _/_, _^_, max}
 use lib.Dec.{eqb, ltb}
 use lib.ListN.{length}
 use Rattle.magnetar_field.specs.Sizes.{log₂}
-use Rattle.magnetar_layout.specs.Tests.{Tests, isSize, sizeTests, packedTests, publicTests, colsTests, counted, placed, layoutTests, roomTest}
+use Rattle.magnetar_layout.specs.Tests.{Tests, isSize, sizeTests, packedTests, publicTests, colsTests, counted, placed, layoutTests}
 use Rattle.magnetar_protocol.specs.Shape.{proofElements}
 use Rattle.magnetar_protocol.specs.Schedule.{outline}
 use Rattle.magnetar_spartan.specs.Rules.{Three, Rules}
@@ -41,36 +41,40 @@ ruleTests R =
 abbrev pub counterTests : ℕ → Tests
 counterTests n = (14, not (ltb n (2 ^ 32))) ∷ []
 
+-- 15: so many words lent, where n are wanted
+abbrev pub roomOf : (n words : ℕ) → Tests
+roomOf n words = (15, ltb words n) ∷ []
+
 -- 16: the words of the proof
 abbrev pub wordTests : ℕ → List ℕ → Tests
 wordTests n w = (16, not (eqb (length w) n)) ∷ []
 
 -- ---- how many words are wanted, R being the larger row count
 -- the proof
-unfoldable pub proofWords : Rules → ℕ
+abbrev pub proofWords : Rules → ℕ
 proofWords R = 2 * proofElements (outline (R .m) (R .q) (R .bin .a .rows) (R .fld .a .rows) (R .lengths))
 
 -- the claims
-unfoldable pub claimWords : Rules → ℕ
+abbrev pub claimWords : Rules → ℕ
 claimWords R = 2 * (log₂ (R .q) + (log₂ (R .m) - 1) + length (R .lengths))
 
 -- the verifier's scratch: 4m + 4R
-unfoldable pub verifierRoom : Rules → ℕ
+abbrev pub verifierRoom : Rules → ℕ
 verifierRoom R = 4 * R .m + 4 * max (R .bin .a .rows) (R .fld .a .rows)
 
 -- the prover's scratch: 8q(Rb + Rf) + 8m + 4R + 4q
-unfoldable pub proverRoom : Rules → ℕ
+abbrev pub proverRoom : Rules → ℕ
 proverRoom R =
     8 * (R .q * (R .bin .a .rows + R .fld .a .rows)) + 8 * R .m + 4 * max (R .bin .a .rows) (R .fld .a .rows) + 4 * R .q
 
--- ---- the verifier: public words x, proof words w, transcript's counter n, claims c, scratch s
-abbrev pub verifyTests : Rules → (x w : List ℕ) → ℕ → (c s : List ℕ) → Tests
+-- ---- the verifier: public words x, proof words w, transcript's counter n, and how many words of claims and of scratch are lent
+abbrev pub verifyTests : Rules → (x w : List ℕ) → (n claims scratch : ℕ) → Tests
 verifyTests R x w n c s =
-    sizeTests (R .m) (R .q) ++ publicTests (R .m) x ++ ruleTests R ++ counterTests n ++ roomTest (claimWords R) c
-    ++ roomTest (verifierRoom R) s ++ wordTests (proofWords R) w
+    sizeTests (R .m) (R .q) ++ (publicTests (R .m) x ++ (ruleTests R ++ (counterTests n ++ (roomOf (claimWords R) c
+    ++ (roomOf (verifierRoom R) s ++ wordTests (proofWords R) w)))))
 
--- ---- the prover: packed words ws, public words x, transcript's counter n, proof w, claims c, scratch s
-abbrev pub proveTests : Rules → (ws x : List ℕ) → ℕ → (w c s : List ℕ) → Tests
+-- ---- the prover: packed words ws, public words x, transcript's counter n, and how many words of proof, claims and scratch are lent
+abbrev pub proveTests : Rules → (ws x : List ℕ) → (n proof claims scratch : ℕ) → Tests
 proveTests R ws x n w c s =
-    sizeTests (R .m) (R .q) ++ packedTests (R .m / 2) (R .q) ws ++ publicTests (R .m) x ++ ruleTests R ++ counterTests n
-    ++ roomTest (proofWords R) w ++ roomTest (claimWords R) c ++ roomTest (proverRoom R) s
+    sizeTests (R .m) (R .q) ++ (packedTests (R .m / 2) (R .q) ws ++ (publicTests (R .m) x ++ (ruleTests R ++ (counterTests n
+    ++ (roomOf (proofWords R) w ++ (roomOf (claimWords R) c ++ roomOf (proverRoom R) s))))))

@@ -3,23 +3,16 @@
 use borrow.Author.Needs.{needs}
 use Rattle.magnetar_spartan.proofs.refusal.system_places.Statement.{statement}
 use Rattle.magnetar_spartan.proofs.refusal.system_places.Tie as tie
-use Rattle.magnetar_spartan.proofs.refusal.system_places.Reads as reads
-use Rattle.magnetar_spartan.proofs.refusal.system_places.Lts as lts
-use Rattle.magnetar_layout.proofs.tests.places.Reads as places-reads
 
--- src/refusal.rt:90:9
 places-requires : tie.Need-places-requires
 places-requires c κs = search needs
 
--- src/refusal.rt:91:9
 places-requires-2 : tie.Need-places-requires-2
 places-requires-2 c κs = search needs
 
--- src/refusal.rt:92:5
 places-requires-3 : tie.Need-places-requires-3
 places-requires-3 c κs = search needs
 
--- src/refusal.rt:73:1
 returns : tie.Need-returns
 returns c = cc
 
