@@ -8,6 +8,7 @@ pub mod SetBits
 pub mod Selected
 pub mod Folds
 pub mod Blocks
+pub mod Carried
 pub mod Split
 pub mod Verdicts
 pub mod Walked
