@@ -129,7 +129,7 @@ pub filling-end : (f : ℕ → List ℕ) (p : List ℕ) (q m : ℕ) (s : List �
 filling-end f p q m s u k e l = sym (take-all (q * m) s (omega arith)) ∙ (rw e at (k .done))
 
 -- ---- a login's block: its bits' part added to the public part
-raised-tabulate : (f g : ℕ → ℕ) (n : ℕ) → raised f (tabulate g n) ≡ tabulate (λ i. g i ⊕ f i) n
+pub raised-tabulate : (f g : ℕ → ℕ) (n : ℕ) → raised f (tabulate g n) ≡ tabulate (λ i. g i ⊕ f i) n
 raised-tabulate f g n =
     tabulate-of (raised f (tabulate g n)) (λ i. g i ⊕ f i) n 0 (raised-length f (tabulate g n) ∙ tabulate-length g n)
     (λ i h. raised-get f (tabulate g n) i (rw tabulate-length h) ∙ rw (tabulate-get g n i 0 h))

@@ -10,6 +10,8 @@ pub mod Folds
 pub mod Blocks
 pub mod Carried
 pub mod Split
+pub mod Flipped
 pub mod Verdicts
 pub mod Walked
 pub mod MarkedRows
+pub mod MaskExamples

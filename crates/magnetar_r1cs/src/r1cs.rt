@@ -1,5 +1,6 @@
 // Sparse matrices, lent as four number slices: row, column, low word and high word of each entry.
 use crate::fold;
+use crate::masks;
 use crate::walk;
 use magnetar_field::eq::EqBits;
 use magnetar_field::gf128::Evaluated;
@@ -25,7 +26,7 @@ ghost use Rattle.magnetar_r1cs.specs.Table.{raised, publicShare, bitShar
 ghost use Rattle.magnetar_r1cs.specs.Sum.{blocks};
 ghost use Rattle.magnetar_r1cs.specs.Packed.{loginWords};
 ghost use Rattle.magnetar_layout.specs.Tests.{allBelow, noted, batchTests};
-ghost use Rattle.magnetar_r1cs.specs.Entries.{applyRefusal, applyOut, tableRefusal, tableOut, tableScratch, atAnswer, atScratch, flagged, flaggedOf, binaryRefusal, packedRefusal, packedOut};
+ghost use Rattle.magnetar_r1cs.specs.Entries.{applyRefusal, applyOut, tableRefusal, tableOut, tableScratch, atAnswer, atScratch, flagged, flaggedOf, binaryRefusal, packedRefusal, packedOut, matrixTests, masksRefusal, masksOut};
 
 // An answer: yes, no, or the number of a refusal.
 pub enum Flag {
@@ -404,4 +405,74 @@ pub fn apply_simd_packed(
         return Flag::Yes;
     }
     Flag::No
+}
+
+// 1, 2, 4, 5, 6 and 7 of a matrix for q logins of w columns.
+fn matrix_refusal(
+    rows: usize,
+    cols: usize,
+    row: &[usize],
+    col: &[usize],
+    lo: &[u64],
+    hi: &[u64],
+    packed: &[u64],
+    q: usize,
+    w: usize,
+) -> u32
+    ensures { λ r. ⌜ r ≡ noted 0 (matrixTests (lent rows cols (now (row .entry)) (now (col .entry)) (now (lo .entry)) (now (hi .entry))) (now (packed .entry)) q w) ⌝ }
+{
+    let n = tests::note(0, 1, !tests::is_half(w));
+    let n = tests::note(n, 1, !tests::is_size(1, 4096, q));
+    if n != 0 {
+        return n;
+    }
+    let n = tests::note(0, 2, packed.len() != q * fold::login_words(w));
+    let n = tests::note(n, 4, !tests::is_size(1, 65536, rows));
+    if n != 0 {
+        return n;
+    }
+    let n = tests::note(0, 4, q * rows > 1048576);
+    let n = tests::note(n, 5, cols != 2 * w);
+    let n = tests::counts(n, row.len(), col.len(), lo.len(), hi.len());
+    tests::places(n, rows, cols, row, col)
+}
+
+// The products of a batch's logins where all of them are 0 or 1, as masks: bit t of word low * rows + r is that of login
+// t * 2^(s - v) + low at row r, q being 2^s. 1, 2, 4, 5, 6, 7 as for `apply_simd_packed`; 12: a value exceeds 1 or a column
+// exceeds w; 13: v is over s or over 6; 15: too little room.
+pub fn apply_simd_bit_masks(
+    rows: usize,
+    cols: usize,
+    row: &[usize],
+    col: &[usize],
+    lo: &[u64],
+    hi: &[u64],
+    packed: &[u64],
+    q: usize,
+    w: usize,
+    v: usize,
+    out: &mut [u64],
+) -> u32
+    ensures answer { λ r. ⌜ r ≡ masksRefusal (lent rows cols (now (row .entry)) (now (col .entry)) (now (lo .entry)) (now (hi .entry))) (now (packed .entry)) q w v (now (out .entry)) ⌝ }
+    ensures written { λ _. ⌜ now (out .exit) ≡ masksOut (lent rows cols (now (row .entry)) (now (col .entry)) (now (lo .entry)) (now (hi .entry))) (now (packed .entry)) q w v (now (out .entry)) ⌝ }
+{
+    let n = matrix_refusal(rows, cols, row, col, lo, hi, packed, q, w);
+    if n != 0 {
+        return n;
+    }
+    let s = sizes::log2(q);
+    let n = tests::note(0, 12, !bit_valued(row, col, lo, hi, w));
+    let n = tests::note(n, 13, v > s);
+    let n = tests::note(n, 13, v > 6);
+    if n != 0 {
+        return n;
+    }
+    let d = masks::power(s - v);
+    let c = masks::power(v);
+    let end = d * rows;
+    if out.len() < end {
+        return 15;
+    }
+    masks::mask_all(row, col, lo, hi, packed, q, w, d, c, rows, &mut out[..end]);
+    0
 }
