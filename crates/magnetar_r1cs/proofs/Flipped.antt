@@ -148,7 +148,7 @@ row-place f g t p (e ∷ es) r q h i =
     (sym (⊕-digit (cond (eqb (e .row) r) (g e) 0) (rowTotal g es r) (2 ^ t) (cond-lt (eqb (e .row) r) (g e) (h e (k .0))) (row-lt g p es r (k .1) h)))
 
 -- ---- bits at their places do not meet
-bits-lt : (f : ℕ → ℕ) (n : ℕ) → ((t : ℕ) → t < n → f t < 2) → bitsBelow f n < 2 ^ n
+pub bits-lt : (f : ℕ → ℕ) (n : ℕ) → ((t : ℕ) → t < n → f t < 2) → bitsBelow f n < 2 ^ n
 unfolding bitsBelow
 bits-lt f zero h = pow-pos 0
 bits-lt f (suc n) h =
@@ -178,7 +178,7 @@ module _ (a : Lent) (ws : List ℕ) (q w d n : ℕ) (bits : bitValued w (matrixO
   unfolding timesAt matrixOf
   output-is u r h = rw (assigned q w ws [] u h)
 
-  output-lt : (u r : ℕ) → u < q → timesAt (matrixOf a) (assignment (unpacked q w ws) [] u) r < 2
+  pub output-lt : (u r : ℕ) → u < q → timesAt (matrixOf a) (assignment (unpacked q w ws) [] u) r < 2
   output-lt u r h = rw (output-is u r h) (row-lt (share (z w (loginPart w ws u))) (λ e. isBit e && leb (e .col) w) es r every-bit (share-lt w (loginPart w ws u)))
 
   flips-are : (u t r : ℕ) → u < q → rowTotal (flip w (loginPart w ws u) t) es r ≡ timesAt (matrixOf a) (assignment (unpacked q w ws) [] u) r * 2 ^ t

@@ -11,6 +11,7 @@ pub mod Blocks
 pub mod Carried
 pub mod Split
 pub mod Flipped
+pub mod MaskBits
 pub mod Verdicts
 pub mod Walked
 pub mod MarkedRows
