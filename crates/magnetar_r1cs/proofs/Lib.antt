@@ -8,7 +8,11 @@ pub mod SetBits
 pub mod Selected
 pub mod Folds
 pub mod Blocks
+pub mod Carried
 pub mod Split
+pub mod Flipped
+pub mod MaskBits
 pub mod Verdicts
 pub mod Walked
 pub mod MarkedRows
+pub mod MaskExamples

@@ -5,5 +5,7 @@ pub mod Packed
 pub mod RowCheck
 pub mod Lent
 pub mod Table
+pub mod Masks
+pub mod Flips
 pub mod Fold
 pub mod Entries
