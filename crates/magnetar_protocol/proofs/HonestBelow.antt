@@ -28,7 +28,7 @@ elements-of [] h i = pow-pos 128
 elements-of (x ∷ l) h zero = h .0
 elements-of (x ∷ l) h (suc i) = elements-of l (h .1) i
 
-both : (s t : List ℕ) → AllBelow (2 ^ 128) s → AllBelow (2 ^ 128) t → AllBelow (2 ^ 128) (s ++ t)
+pub both : (s t : List ℕ) → AllBelow (2 ^ 128) s → AllBelow (2 ^ 128) t → AllBelow (2 ^ 128) (s ++ t)
 both [] t h k = k
 both (x ∷ s) t h k = (h .0, both s t (h .1) k)
 

@@ -24,3 +24,4 @@ pub mod HonestRun
 pub mod Completeness
 pub mod Examples
 pub mod ExampleRun
+pub mod Counts
