@@ -25,3 +25,4 @@ pub mod Completeness
 pub mod Examples
 pub mod ExampleRun
 pub mod Counts
+pub mod Blocks
