@@ -26,3 +26,4 @@ pub mod Examples
 pub mod ExampleRun
 pub mod Counts
 pub mod Blocks
+pub mod StepLaws
