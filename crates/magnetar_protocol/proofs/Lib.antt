@@ -27,3 +27,4 @@ pub mod ExampleRun
 pub mod Counts
 pub mod Blocks
 pub mod StepLaws
+pub mod Bindings
