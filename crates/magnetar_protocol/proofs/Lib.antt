@@ -28,3 +28,4 @@ pub mod Counts
 pub mod Blocks
 pub mod StepLaws
 pub mod Bindings
+pub mod Stepwise
