@@ -1,12 +1,13 @@
 -- The prover's run step by step goes along the schedule: what it says, what it draws, and that a verifier who is given its words hears
 -- the same.
-use mathlib.Core.Path.{_≡_, refl, sym, ap, ap₂, _∙_, subst}
-use mathlib.Core.List.{List, [], _∷_, _++_}
+use mathlib.Core.Path.{_≡_, refl, sym, ap, ap₂, _∙_, subst, subst₂}
+use mathlib.Core.List.{List, [], _∷_, _++_, append-nil}
 use Prim.Native.Nat.{ℕ, zero, suc, _+_, _-_, _*_, _/_}
 use native.Mathlib.Nat.{zero-add, add-zero}
 use native.Mathlib.Omega.{arith}
 use lib.ListN.{length, getD, take, drop, replicate, length-append}
-use lib.Seq.{take-at, drop-at}
+use lib.Pow.{pow-pos}
+use lib.Seq.{take-at, drop-at, drop-append-seam, take-nil, take-all}
 use Rattle.magnetar_field.specs.Tabulate.{tabulate}
 use Rattle.magnetar_field.proofs.Tabulation.{tabulate-length}
 use Rattle.magnetar_hash.specs.Bytes.{ascii}
@@ -16,14 +17,26 @@ use Rattle.magnetar_r1cs.specs.Batch.{Relation, Batch, folded}
 use Rattle.magnetar_protocol.specs.Shape.{logLogins, logBin, logFld, logCols, beforeTerminals, beforeInner, beforeEnd, proofElements}
 use Rattle.magnetar_protocol.specs.Draws.{Draws, drawCount, drawsOf, loginPoint}
 use Rattle.magnetar_protocol.specs.Schedule.{Event, absorb, draw, numbered, rounds, singles, schedule}
-use Rattle.magnetar_protocol.specs.Play.{heard}
+use Rattle.magnetar_protocol.specs.Play.{Played, heard}
 use Rattle.magnetar_protocol.specs.Checks.{combined}
 use Rattle.magnetar_protocol.specs.Prover.{joined, inTurn}
 use Rattle.magnetar_protocol.specs.Stepwise.{Steps, begin, say, askTimes, sayEach, OuterSteps, sharedSteps, RowSteps, rowSteps, InnerSteps, innerSteps, Tables, tauSteps, outerBegin, binRows, fldRows, outerRounds, terminalsLeft, outerAll, innerRun, segmentValue, lowDraws, ended, innerAll}
+use Rattle.magnetar_protocol.specs.RunSizes.{Elements}
 use Rattle.magnetar_protocol.specs.RealRun.{productTables, outerProving, outerDraws, proving, proverDraws}
+use Rattle.magnetar_protocol.proofs.Counts.{heard-count, heard-elements}
 use Rattle.magnetar_protocol.proofs.Chunks.{joined-length, inTurn-length, past}
 use Rattle.magnetar_protocol.proofs.HonestParts.{outer-each, outer-count, inner-each, inner-count}
-use Rattle.magnetar_protocol.proofs.StepLaws.{Goes, goes-none, goes-then, goes-say, goes-each, Asks, asks, folds, SharedRounds, shared-rounds, RowRounds, row-rounds, InnerRounds, inner-rounds}
+use Rattle.magnetar_protocol.proofs.StepLaws.{Goes, goes-none, goes-then, goes-say, goes-each, Asks, asks, folds, SharedRounds, shared-rounds, RowRounds, row-rounds, InnerRounds, inner-rounds, binds, behind, inner-all-after}
+
+-- the first of two lists of elements
+pub elements-front : (s t : List ℕ) → Elements (s ++ t) → Elements s
+elements-front [] t h i = pow-pos 128
+elements-front (x ∷ s) t h zero = h 0
+elements-front (x ∷ s) t h (suc i) = elements-front s t (λ k. h (suc k)) i
+
+pub elements-back : (s t : List ℕ) → Elements (s ++ t) → Elements t
+elements-back [] t h = h
+elements-back (x ∷ s) t h = elements-back s t (λ k. h (suc k))
 
 -- where steps that start at n elements end
 ends : {es : List Event} {p q : Steps} {rs v : List ℕ} (n k : ℕ) → Goes es p q rs v → length (p .said) ≡ n → length v ≡ k
@@ -324,3 +337,187 @@ module _ (r : Relation) (T : Tables) (t : Transcript) where
 
       at₆ : drop (logLogins r + logBin r + (logLogins r + logFld r) + logLogins r + logBin r + logFld r + 6) (outerDrawn ds) ≡ ds
       at₆ = past (logLogins r + logBin r + (logLogins r + logFld r) + logLogins r + logBin r + logFld r) 6 (outerDrawn ds) alpha ds at₅ alpha-length
+
+-- ---- the inner rounds, v_z and the segment values, behind steps that said n elements
+module _ (r : Relation) (c f x : List ℕ) (p : Steps) (n : ℕ) (h : length (p .said) ≡ n) where
+  abbrev I₀ : InnerSteps
+  I₀ = record { steps = p; table = c; z = f ++ (1 ∷ x) }
+
+  abbrev I₁ : InnerSteps
+  I₁ = innerRun r c f x p
+
+  inners : InnerRounds (rounds (λ _. ascii "vs-inner") n 3 0 (logCols r)) I₀ I₁ (logCols r)
+  unfolding innerRun
+  inners = inner-rounds n 0 (logCols r) I₀ (h ∙ first n)
+    where
+      first : (n : ℕ) → n ≡ n + 3 * 0
+      first n = omega arith
+
+  pub inner-drawn : List ℕ
+  inner-drawn = inners .rs
+
+  pub inner-drawn-length : length inner-drawn ≡ logCols r
+  unfolding inner-drawn
+  inner-drawn-length = inners .count
+
+  rounds-said : length (I₁ .steps .said) ≡ n + 3 * logCols r
+  rounds-said = ends n (3 * logCols r) (inners .goes) h
+      (joined-length 3 (innerMessages c (f ++ (1 ∷ x)) (inners .rs)) (inner-each c (f ++ (1 ∷ x)) (inners .rs))
+      ∙ ap (λ (k : ℕ). 3 * k) (inner-count c (f ++ (1 ∷ x)) (inners .rs) ∙ inners .count))
+
+  abbrev low : List ℕ
+  low = lowDraws r c f x (length (p .played .draws)) (I₁ .steps)
+
+  abbrev P₆ : Steps
+  P₆ = say (ascii "vs-vz") (getD (I₁ .z) 0 0 ∷ []) (I₁ .steps)
+
+  abbrev segs : List ℕ
+  segs = tabulate (segmentValue r c f x low) (length (r .lengths))
+
+  vz : Goes (absorb (ascii "vs-vz") (n + 3 * logCols r) 1 ∷ []) (I₁ .steps) P₆ [] (getD (I₁ .z) 0 0 ∷ [])
+  vz = goes-say (ascii "vs-vz") (getD (I₁ .z) 0 0 ∷ []) (n + 3 * logCols r) 1 (I₁ .steps) rounds-said refl
+
+  each : Goes (singles (numbered "vs-seg-") (n + 3 * logCols r + 1) 0 (length (r .lengths))) P₆ (innerAll r c f x p) [] segs
+  unfolding innerAll ended
+  each = subst (λ (k : ℕ). Goes (singles (numbered "vs-seg-") (n + 3 * logCols r + 1) 0 k) P₆ (sayEach "vs-seg-" 0 segs P₆) [] segs)
+      (tabulate-length (segmentValue r c f x low) (length (r .lengths)))
+      (goes-each "vs-seg-" (n + 3 * logCols r + 1) 0 segs P₆ (ends (n + 3 * logCols r) 1 vz rounds-said refl ∙ sym (add-zero (n + 3 * logCols r + 1))))
+
+  pub low-is : low ≡ take (logCols r - 1) inner-drawn
+  unfolding lowDraws inner-drawn
+  low-is = ap (take (logCols r - 1)) (ap (drop (length (p .played .draws))) (inners .goes .draws)
+      ∙ drop-append-seam (p .played .draws) (inners .rs))
+
+  abbrev pub innerEvents : List Event
+  innerEvents = rounds (λ _. ascii "vs-inner") n 3 0 (logCols r)
+      ++ (absorb (ascii "vs-vz") (n + 3 * logCols r) 1 ∷ singles (numbered "vs-seg-") (n + 3 * logCols r + 1) 0 (length (r .lengths)))
+
+  -- what is said, from the draws
+  abbrev pub innerSaid : List ℕ
+  innerSaid =
+      joined (innerMessages c (f ++ (1 ∷ x)) inner-drawn)
+      ++ (getD (binds inner-drawn (f ++ (1 ∷ x))) 0 0 ∷ tabulate (segmentValue r c f x (take (logCols r - 1) inner-drawn)) (length (r .lengths)))
+
+  pub goes-inner : Goes innerEvents p (innerAll r c f x p) inner-drawn innerSaid
+  unfolding inner-drawn
+  goes-inner =
+      subst₂ (λ (ds v : List ℕ). Goes innerEvents p (innerAll r c f x p) ds v) (append-nil (inners .rs))
+      (λ j. joined (innerMessages c (f ++ (1 ∷ x)) (inners .rs))
+      ++ (getD (inners .z j) 0 0 ∷ tabulate (segmentValue r c f x (low-is j)) (length (r .lengths))))
+      (goes-then (inners .goes) (goes-then vz each))
+
+  pub inner-said-length : length innerSaid ≡ 3 * logCols r + 1 + length (r .lengths)
+  unfolding inner-drawn
+  inner-said-length =
+      length-append (joined (innerMessages c (f ++ (1 ∷ x)) (inners .rs))) _
+      ∙ ap₂ _+_ (joined-length 3 (innerMessages c (f ++ (1 ∷ x)) (inners .rs)) (inner-each c (f ++ (1 ∷ x)) (inners .rs))
+      ∙ ap (λ (k : ℕ). 3 * k) (inner-count c (f ++ (1 ∷ x)) (inners .rs) ∙ inners .count))
+      (ap suc (tabulate-length (segmentValue r c f x (take (logCols r - 1) (inners .rs))) (length (r .lengths))))
+      ∙ more (3 * logCols r) (length (r .lengths))
+    where
+      more : (a l : ℕ) → a + suc l ≡ a + 1 + l
+      more a l = omega arith
+
+-- ---- the whole run
+module _ (r : Relation) (b : Batch) (x : List ℕ) (t : Transcript) where
+  abbrev T : Tables
+  T = productTables r b x
+
+  abbrev c : List ℕ
+  c = combined r (outerDraws r b x t)
+
+  abbrev f : List ℕ
+  f = folded (r .q) (r .m / 2) b (loginPoint (outerDraws r b x t))
+
+  outer-proving-length : length (outerProving r b x t .said) ≡ beforeInner r
+  unfolding outerProving
+  outer-proving-length = outer-said-length r T t
+
+  pub inner-of : List ℕ
+  inner-of = inner-drawn r c f x (outerProving r b x t) (beforeInner r) outer-proving-length
+
+  pub inner-of-length : length inner-of ≡ logCols r
+  unfolding inner-of
+  inner-of-length = inner-drawn-length r c f x (outerProving r b x t) (beforeInner r) outer-proving-length
+
+  -- v_z and the segment values, from the draws of the inner rounds
+  abbrev pub lastSaid : List ℕ → List ℕ
+  lastSaid ds =
+      joined (innerMessages c (f ++ (1 ∷ x)) ds)
+      ++ (getD (binds ds (f ++ (1 ∷ x))) 0 0 ∷ tabulate (segmentValue r c f x (take (logCols r - 1) ds)) (length (r .lengths)))
+
+  goes-proving : Goes (schedule r) (begin t) (proving r b x t) (outerDrawn r T t inner-of) (outerSaid r T t (lastSaid inner-of))
+  unfolding schedule proving outerProving inner-of outerAll outerRounds tauSteps
+  goes-proving = goes-outer r T t (goes-inner r c f x (outerProving r b x t) (beforeInner r) outer-proving-length)
+
+  -- all draws, and all words
+  pub proving-draws : proving r b x t .played .draws ≡ outerDrawn r T t inner-of
+  proving-draws = goes-proving .draws
+
+  pub proving-said : proving r b x t .said ≡ outerSaid r T t (lastSaid inner-of)
+  proving-said = goes-proving .said
+
+  -- the verifier that is given the words hears the same
+  pub hears-the-same : heard (proving r b x t .said) (schedule r) t ≡ proving r b x t .played
+  hears-the-same = goes-proving .hears (proving r b x t .said) [] (sym (append-nil (proving r b x t .said)))
+
+  -- the words are as many as document 01 says, the draws as many as the schedule says
+  pub proving-length : length (proving r b x t .said) ≡ proofElements r
+  unfolding proving
+  proving-length =
+      ends (beforeInner r) (3 * logCols r + 1 + length (r .lengths))
+      (goes-inner r c f x (outerProving r b x t) (beforeInner r) outer-proving-length) outer-proving-length
+      (inner-said-length r c f x (outerProving r b x t) (beforeInner r) outer-proving-length)
+      ∙ omega arith
+
+  pub proving-count : length (proving r b x t .played .draws) ≡ drawCount r
+  proving-count = ap (λ (p : Played). length (p .draws)) (sym hears-the-same) ∙ heard-count r (proving r b x t .said) t
+
+  pub proving-elements : Elements (proving r b x t .played .draws)
+  proving-elements = subst (λ (p : Played). Elements (p .draws)) hears-the-same (heard-elements (proving r b x t .said) (schedule r) t)
+
+  -- the run up to the alphas comes first
+  pub proving-after : proving r b x t ≡ behind (outerProving r b x t) (innerAll r c f x (begin (outerProving r b x t .played .transcript)))
+  unfolding proving
+  proving-after = inner-all-after r c f x (outerProving r b x t)
+
+  pub outer-proving-said : length (outerProving r b x t .said) ≡ beforeInner r
+  outer-proving-said = outer-proving-length
+
+  pub outer-proving-count : length (outerProving r b x t .played .draws) ≡ drawCount r - logCols r
+  unfolding outerProving
+  outer-proving-count = outer-draws-length r T t
+
+  pub outer-proving-elements : Elements (outerProving r b x t .played .draws)
+  outer-proving-elements = elements-front (outerProving r b x t .played .draws) _
+      (subst (λ (p : Steps). Elements (p .played .draws)) proving-after proving-elements)
+
+  -- the parts of the draws, up to the alphas and in all
+  pub outer-parts : outerDraws r b x t
+      ≡ record { tauBin = tau-bin r T t; tauFld = tau-fld r T t; shared = shared r T t; rowBin = row-bin r T t; rowFld = row-fld r T t;
+        alphas = alpha r T t; inner = [] }
+  unfolding outerProving
+  outer-parts = ap (drawsOf r) (outer-draws r T t) ∙ draws-are r T t [] ∙ λ j. record {
+    tauBin = tau-bin r T t;
+    tauFld = tau-fld r T t;
+    shared = shared r T t;
+    rowBin = row-bin r T t;
+    rowFld = row-fld r T t;
+    alphas = alpha r T t;
+    inner = take-nil (logCols r) j;
+  }
+
+  abbrev pub parts : Draws
+  parts = record { tauBin = tau-bin r T t; tauFld = tau-fld r T t; shared = shared r T t; rowBin = row-bin r T t; rowFld = row-fld r T t;
+      alphas = alpha r T t; inner = inner-of }
+
+  pub parts-are : drawsOf r (proving r b x t .played .draws) ≡ parts
+  parts-are = ap (drawsOf r) proving-draws ∙ draws-are r T t inner-of ∙ λ j. record {
+    tauBin = tau-bin r T t;
+    tauFld = tau-fld r T t;
+    shared = shared r T t;
+    rowBin = row-bin r T t;
+    rowFld = row-fld r T t;
+    alphas = alpha r T t;
+    inner = (take-all (logCols r) inner-of (rw inner-of-length (omega arith))) j;
+  }
