@@ -29,3 +29,4 @@ pub mod Blocks
 pub mod StepLaws
 pub mod Bindings
 pub mod Stepwise
+pub mod ProverRun
