@@ -30,3 +30,4 @@ pub mod StepLaws
 pub mod Bindings
 pub mod Stepwise
 pub mod ProverRun
+pub mod RealRuns
