@@ -1,3 +1,4 @@
+pub mod Rooms
 pub mod SetBits
 pub mod Selected
 pub mod Folds
