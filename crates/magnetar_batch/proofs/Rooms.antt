@@ -85,11 +85,17 @@ take-raised f n t h =
     (λ i b. getD-take n (raised f t) i 0 (omega arith) ∙ rw (getD-take n t i 0 (omega arith)) (raised-get f t i (omega arith)))
 
 -- ---- the end: the table in words, and zeros behind it
+pub finished-with : (n l : ℕ) (s t : List ℕ) {v : List ℕ} → length s ≡ l → 2 * n ≤ l → ((i : ℕ) → getD t i 0 < 2 ^ 64)
+    → take n (elements s) ≡ v → t ≡ take (2 * n) s ++ replicate (length s - 2 * n) 0
+    → t ≡ words v ++ replicate (l - 2 * n) 0
+finished-with n l s t h b fit e a =
+    let k : length (take (2 * n) s) ≡ 2 * n = length-take-le (2 * n) s (omega arith) in
+    let w : words (elements (take (2 * n) s)) ≡ take (2 * n) s = words-elements (take (2 * n) s) (replicate (length s - 2 * n) 0) (omega arith) (rw a at fit) in
+    a ∙ rw (h, ← w, ← elements-take n s, e)
+
 pub finished : (f : ℕ → ℕ) (n r : ℕ) (s t : List ℕ) → length s ≡ 2 * n + 2 * r → ((i : ℕ) → getD t i 0 < 2 ^ 64)
     → take n (elements s) ≡ tabulate f n → t ≡ take (2 * n) s ++ replicate (length s - 2 * n) 0
     → t ≡ words (tabulate f n) ++ replicate (2 * r) 0
 finished f n r s t l fit e a =
-    let d : length s - 2 * n ≡ 2 * r = omega arith in
-    let k : length (take (2 * n) s) ≡ 2 * n = length-take-le (2 * n) s (omega arith) in
-    let w : words (elements (take (2 * n) s)) ≡ take (2 * n) s = words-elements (take (2 * n) s) (replicate (length s - 2 * n) 0) (omega arith) (rw a at fit) in
-    a ∙ rw (d, ← w, ← elements-take n s, e)
+    let d : 2 * n + 2 * r - 2 * n ≡ 2 * r = omega arith in
+    finished-with n (2 * n + 2 * r) s t l (omega arith) fit e a ∙ rw d
