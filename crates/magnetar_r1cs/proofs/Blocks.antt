@@ -10,7 +10,7 @@ use lib.ListN.{length, take, drop, length-drop}
 use lib.Seq.{take-at, take-append-add, take-all, length-take-le}
 use borrow.Rule.Slice.PartMut.{putMid}
 use Rattle.magnetar_r1cs.specs.Sum.{blocks}
-use Rattle.magnetar_r1cs.proofs.Folds.{part-ends}
+use Rattle.magnetar_r1cs.proofs.LoginParts.{part-ends}
 
 -- the front of s, up to the end of block u, is that of the blocks
 pub blocks-start : (f : ℕ → List ℕ) (s : List ℕ) (m : ℕ) → take (0 * m) s ≡ blocks f 0

@@ -23,7 +23,7 @@ use Rattle.magnetar_r1cs.specs.Packed.{loginWords, loginPart}
 use Rattle.magnetar_r1cs.specs.Sum.{blocks}
 use Rattle.magnetar_r1cs.specs.Table.{raised, publicShare, bitShare, loginTotal, loginBlock}
 use Rattle.magnetar_r1cs.proofs.TableLaws.{elements-words, raised-length, raised-get}
-use Rattle.magnetar_r1cs.proofs.Folds.{part-ends, part-is}
+use Rattle.magnetar_r1cs.proofs.LoginParts.{part-ends, part-is}
 
 -- ---- the copy
 -- s with its first i words over those from m on

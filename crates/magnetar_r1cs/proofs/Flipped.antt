@@ -30,7 +30,7 @@ use Rattle.magnetar_r1cs.specs.Table.{raised}
 use Rattle.magnetar_r1cs.specs.Masks.{bitsBelow, maskAt, masks}
 use Rattle.magnetar_r1cs.specs.Flips.{flipAt, flip, flipTotal, flipBlock}
 use Rattle.magnetar_r1cs.proofs.Digits.{bit-lt, ⊗-bit}
-use Rattle.magnetar_r1cs.proofs.Folds.{part-is, sum-ext}
+use Rattle.magnetar_r1cs.proofs.LoginParts.{part-is, sum-ext}
 use Rattle.magnetar_r1cs.proofs.Split.{z-bit, z-public, assigned, blocks-ext}
 use Rattle.magnetar_r1cs.proofs.Carried.{raised-tabulate}
 

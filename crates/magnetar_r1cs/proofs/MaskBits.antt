@@ -19,7 +19,7 @@ use Rattle.magnetar_r1cs.specs.Batch.{assignment}
 use Rattle.magnetar_r1cs.specs.Packed.{unpacked}
 use Rattle.magnetar_r1cs.specs.Lent.{Lent, matrixOf}
 use Rattle.magnetar_r1cs.specs.Masks.{bitsBelow, maskAt, masks}
-use Rattle.magnetar_r1cs.proofs.Folds.{part-ends}
+use Rattle.magnetar_r1cs.proofs.LoginParts.{part-ends}
 use Rattle.magnetar_r1cs.proofs.Flipped.{bits-lt, output-lt, login-below}
 
 -- ---- a number by its bits

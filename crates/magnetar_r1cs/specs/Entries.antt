@@ -13,7 +13,7 @@ use Rattle.magnetar_r1cs.specs.declared.r1cs.Flag.{Flag}
 use Rattle.magnetar_r1cs.specs.declared.r1cs.Flag.the-variants.{Yes, No, Refused}
 use Rattle.magnetar_r1cs.specs.Sum.{blocks}
 use Rattle.magnetar_r1cs.specs.Matrix.{Matrix, times, mleTable, mleAt, binary, bitValued}
-use Rattle.magnetar_r1cs.specs.Batch.{assignment, folded}
+use Rattle.magnetar_r1cs.specs.Batch.{assignment}
 use Rattle.magnetar_r1cs.specs.Masks.{masks}
 use Rattle.magnetar_r1cs.specs.Packed.{unpacked}
 use Rattle.magnetar_r1cs.specs.Lent.{Lent, matrixOf}
@@ -107,15 +107,3 @@ masksOut a ws q w v out =
     unlessRefused (masksRefusal a ws q w v out)
     (masks (matrixOf a) (unpacked q w ws) (2 ^ (log₂ q - v)) (2 ^ v) ++ drop (maskCount a q v) out) out
 
--- ---- `fold_packed_w`: the packed words ws of q logins with w columns, the point p, the output out, the scratch s
-unfoldable pub foldRefusal : List ℕ → ℕ → ℕ → List ℕ → List ℕ → List ℕ → ℕ
-foldRefusal ws q w p out s =
-    noted 0
-    (sizeTests (2 * w) q ++ packedTests w q ws ++ lengthTest (2 * log₂ q) p ++ roomTest (2 * w) out ++ roomTest (2 * q) s)
-
-abbrev pub foldOut : List ℕ → ℕ → ℕ → List ℕ → List ℕ → List ℕ → List ℕ
-foldOut ws q w p out s =
-    unlessRefused (foldRefusal ws q w p out s) (words (folded q w (unpacked q w ws) (elements p)) ++ drop (2 * w) out) out
-
-abbrev pub foldScratch : List ℕ → ℕ → ℕ → List ℕ → List ℕ → List ℕ → List ℕ
-foldScratch ws q w p out s = unlessRefused (foldRefusal ws q w p out s) (replicate (2 * q) 0 ++ drop (2 * q) s) s

@@ -7,5 +7,4 @@ pub mod Lent
 pub mod Table
 pub mod Masks
 pub mod Flips
-pub mod Fold
 pub mod Entries

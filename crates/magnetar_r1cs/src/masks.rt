@@ -1,5 +1,5 @@
 // The walk that gathers the outputs of several logins, 0 or 1 each, as the bits of one word for each row.
-use crate::fold;
+use crate::r1cs;
 use crate::walk;
 use magnetar_field::words;
 ghost use mathlib.Core.Path.{_≡_};
@@ -92,7 +92,7 @@ fn mask_rows(
     requires { ⌜ (w ≤ 32768) × (q ≤ 4096) × (n ≤ 64) × (n * d ≡ q) × (low < d) × (length (now packed) ≡ q * loginWords w) ⌝ }
     ensures { λ _. ⌜ now (out .exit) ≡ flipBlock w (now (packed .entry)) (entriesOf (now (row .entry)) (now (col .entry)) (now (lo .entry)) (now (hi .entry))) d n (length (now (out .entry))) low ⌝ }
 {
-    let k = fold::login_words(w);
+    let k = r1cs::login_words(w);
     words::clear(out);
     let mut t = 0;
     while t < n {

@@ -9,7 +9,7 @@ use Rattle.magnetar_field.specs.Tabulate.{tabulate}
 use Rattle.magnetar_r1cs.specs.Packed.{loginWords}
 use Rattle.magnetar_r1cs.specs.Lent.{entriesOf}
 use Rattle.magnetar_r1cs.specs.Flips.{flipTotal, flipBlock}
-use Rattle.magnetar_r1cs.proofs.Folds.{Part, part-of}
+use Rattle.magnetar_r1cs.proofs.LoginParts.{Part, part-of, words-most}
 use Rattle.magnetar_r1cs.proofs.Flipped.{rows-start, rows-more, login-below}
 use borrow.Author.Needs.{needs}
 use Rattle.magnetar_r1cs.proofs.masks.mask_rows.Statement.{statement}
@@ -41,7 +41,7 @@ loop-holds c =
     let s = c .before .before .before .before .before .before .before .before .before .before .before in
     let r = c .before .before .clear in
     let e = r .ensures ∙ ap (λ (n : ℕ). replicate n 0) (sym (r .kept .0)) in
-    (refl, search needs, c .before .before .before .before .login-words .ensures .0, c .before .before .before .before .login-words .ensures .1, e ∙ rows-start _ _ _ _ _ (length (r .last .0)))
+    (refl, search needs, c .before .before .before .before .login-words .ensures, rw (c .before .before .before .before .login-words .ensures) (words-most _ (s .pre .1 .0)), e ∙ rows-start _ _ _ _ _ (length (r .last .0)))
 
 mul-u : tie.Need-mul-u Inv-loop μ-loop
 mul-u c = omega (arith, below c, c .before .before .before .before .before .before .before .before .before .before .before .before .before .pre .1 .1)

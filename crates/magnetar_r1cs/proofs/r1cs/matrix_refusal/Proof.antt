@@ -10,7 +10,7 @@ use Rattle.magnetar_layout.specs.Tests.{Tests, noted, sizeTests, packedTests, r
 use Rattle.magnetar_layout.proofs.Noted.{noted-front, noted-late, noted-clear}
 use Rattle.magnetar_layout.proofs.SizeLaws.{Sized, not-bad}
 use Rattle.magnetar_r1cs.specs.Lent.{Lent, lent}
-use Rattle.magnetar_r1cs.proofs.Folds.{product-most}
+use Rattle.magnetar_r1cs.proofs.LoginParts.{product-most, words-most}
 use Rattle.magnetar_r1cs.proofs.Blocks.{product-fits}
 use borrow.Author.Needs.{needs}
 use Rattle.magnetar_r1cs.proofs.r1cs.matrix_refusal.Statement.{statement}
@@ -67,10 +67,10 @@ returns : tie.Need-returns
 returns c = let s = c .before .before .before .before .before .before .before .before .before .before in noted-front (first s) (second s ++ third s) _ (early (c .before)) (c .if1 .taken)
 
 login-words-requires : tie.Need-login-words-requires
-login-words-requires c κs = small c .half
+login-words-requires c κs = search needs
 
 mul-note : tie.Need-mul-note
-mul-note c = omega (arith, product-most (c .before .before .before .before .before .before .before .before .before .before .before .args .q) (c .login-words .result) (small (c .before) .logins) (c .login-words .ensures .1))
+mul-note c = omega (arith, product-most (c .before .before .before .before .before .before .before .before .before .before .before .args .q) (c .login-words .result) (small (c .before) .logins) (rw (c .login-words .ensures) (words-most _ (small (c .before) .half))))
 
 note-requires-3 : tie.Need-note-requires-3
 note-requires-3 c κs = search needs

@@ -12,7 +12,7 @@ use Rattle.magnetar_field.specs.Words.{elements, words}
 use Rattle.magnetar_r1cs.specs.Packed.{loginWords}
 use Rattle.magnetar_r1cs.specs.Lent.{entriesOf}
 use Rattle.magnetar_r1cs.specs.Table.{loginBlock}
-use Rattle.magnetar_r1cs.proofs.Folds.{Part, part-of, part-ends}
+use Rattle.magnetar_r1cs.proofs.LoginParts.{Part, part-of, part-ends, words-most}
 use Rattle.magnetar_r1cs.proofs.Blocks.{Block, block-of}
 use Rattle.magnetar_r1cs.proofs.Carried.{Filling, publicRows, public-is, filling-start, filling-end, rest-long, next-login}
 use borrow.Author.Needs.{needs}
@@ -65,8 +65,8 @@ loop-holds c =
     let k = r .kept .1 .1 .1 .1 .1 .1 .0 in (
       length-front (now (x .out)) t (2 * x .n) k ∙ s .pre .1 .5,
       search needs,
-      c .before .before .before .before .login-words .ensures .0,
-      c .before .before .before .before .login-words .ensures .1,
+      c .before .before .before .before .login-words .ensures,
+      rw (c .before .before .before .before .login-words .ensures) (words-most _ (s .pre .1 .0)),
       refl,
       filling-start _ _ (x .q) (2 * x .n) (now (x .out)) t (k ∙ l) (public-is _ (x .n) (now (x .out)) t l (r .ensures)),
     )
