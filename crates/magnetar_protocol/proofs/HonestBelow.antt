@@ -28,7 +28,7 @@ elements-of [] h i = pow-pos 128
 elements-of (x ∷ l) h zero = h .0
 elements-of (x ∷ l) h (suc i) = elements-of l (h .1) i
 
-both : (s t : List ℕ) → AllBelow (2 ^ 128) s → AllBelow (2 ^ 128) t → AllBelow (2 ^ 128) (s ++ t)
+pub both : (s t : List ℕ) → AllBelow (2 ^ 128) s → AllBelow (2 ^ 128) t → AllBelow (2 ^ 128) (s ++ t)
 both [] t h k = k
 both (x ∷ s) t h k = (h .0, both s t (h .1) k)
 
@@ -42,28 +42,28 @@ drop-below zero ms h = h
 drop-below (suc n) [] h = tt
 drop-below (suc n) (m ∷ ms) h = drop-below n ms (h .1)
 
-joined-below : (ms : List (List ℕ)) → MessagesBelow ms → AllBelow (2 ^ 128) (joined ms)
+pub joined-below : (ms : List (List ℕ)) → MessagesBelow ms → AllBelow (2 ^ 128) (joined ms)
 unfolding joined
 joined-below [] h = tt
 joined-below (m ∷ ms) h = both m (joined ms) (h .0) (joined-below ms (h .1))
 
-inTurn-below : (ms ns : List (List ℕ)) → MessagesBelow ms → MessagesBelow ns → AllBelow (2 ^ 128) (inTurn ms ns)
+pub inTurn-below : (ms ns : List (List ℕ)) → MessagesBelow ms → MessagesBelow ns → AllBelow (2 ^ 128) (inTurn ms ns)
 unfolding inTurn
 inTurn-below [] ns h k = tt
 inTurn-below (m ∷ ms) [] h k = tt
 inTurn-below (m ∷ ms) (n ∷ ns) h k = both m (n ++ inTurn ms ns) (h .0) (both n (inTurn ms ns) (k .0) (inTurn-below ms ns (h .1) (k .1)))
 
-tabulate-below : (f : ℕ → ℕ) (n : ℕ) → ((i : ℕ) → f i < 2 ^ 128) → AllBelow (2 ^ 128) (tabulate f n)
+pub tabulate-below : (f : ℕ → ℕ) (n : ℕ) → ((i : ℕ) → f i < 2 ^ 128) → AllBelow (2 ^ 128) (tabulate f n)
 unfolding tabulate
 tabulate-below f zero h = tt
 tabulate-below f (suc n) h = (h 0, tabulate-below (λ i. f (suc i)) n (λ i. h (suc i)))
 
 -- ---- values
-mle-lt : (t p : List ℕ) → mle t p < 2 ^ 128
+pub mle-lt : (t p : List ℕ) → mle t p < 2 ^ 128
 unfolding mle
 mle-lt t p = dot-lt t _
 
-sum-lt : (n : ℕ) (f : ℕ → ℕ) → ((i : ℕ) → f i < 2 ^ 128) → sumBelow n f < 2 ^ 128
+pub sum-lt : (n : ℕ) (f : ℕ → ℕ) → ((i : ℕ) → f i < 2 ^ 128) → sumBelow n f < 2 ^ 128
 unfolding sumBelow
 sum-lt zero f h = pow-pos 128
 sum-lt (suc n) f h = ⊕-lt 128 (sumBelow n f) (f n) (sum-lt n f h) (h n)

@@ -23,22 +23,22 @@ use Rattle.magnetar_protocol.proofs.SizeFacts.{Cut}
 use Rattle.magnetar_protocol.proofs.Chunks.{Each, each-take, each-drop, joined-length, inTurn-length, past, chunks, first-turns, second-turns}
 
 -- ---- sizes of messages
-outer-each : (S : Outer) (rs : List ℕ) → Each 4 (outerMessages S rs)
+pub outer-each : (S : Outer) (rs : List ℕ) → Each 4 (outerMessages S rs)
 unfolding outerMessages outerNext outerMessage timesEq
 outer-each S [] = tt
 outer-each S (r ∷ rs) = (refl, outer-each (outerFold r S) rs)
 
-outer-count : (S : Outer) (rs : List ℕ) → length (outerMessages S rs) ≡ length rs
+pub outer-count : (S : Outer) (rs : List ℕ) → length (outerMessages S rs) ≡ length rs
 unfolding outerMessages
 outer-count S [] = refl
 outer-count S (r ∷ rs) = ap suc (outer-count (outerFold r S) rs)
 
-inner-each : (t z rs : List ℕ) → Each 3 (innerMessages t z rs)
+pub inner-each : (t z rs : List ℕ) → Each 3 (innerMessages t z rs)
 unfolding innerMessages innerMessage innerSums
 inner-each t z [] = tt
 inner-each t z (r ∷ rs) = (refl, inner-each (bindVar 0 r t) (bindVar 0 r z) rs)
 
-inner-count : (t z rs : List ℕ) → length (innerMessages t z rs) ≡ length rs
+pub inner-count : (t z rs : List ℕ) → length (innerMessages t z rs) ≡ length rs
 unfolding innerMessages
 inner-count t z [] = refl
 inner-count t z (r ∷ rs) = ap suc (inner-count (bindVar 0 r t) (bindVar 0 r z) rs)

@@ -24,3 +24,10 @@ pub mod HonestRun
 pub mod Completeness
 pub mod Examples
 pub mod ExampleRun
+pub mod Counts
+pub mod Blocks
+pub mod StepLaws
+pub mod Bindings
+pub mod Stepwise
+pub mod ProverRun
+pub mod RealRuns

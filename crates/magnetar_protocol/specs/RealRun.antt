@@ -1,5 +1,6 @@
 -- The runs of both ends with their transcript: the draws are those that the transcript gives along the schedule.
 -- Assumes nothing.
+use mathlib.Core.Path.{_≡_}
 use mathlib.Core.List.{List}
 use Prim.Native.Nat.{ℕ, _/_}
 use lib.ListN.{length, take}
@@ -9,7 +10,8 @@ use Rattle.magnetar_protocol.specs.Draws.{Draws, drawsOf, loginPoint}
 use Rattle.magnetar_protocol.specs.Schedule.{schedule}
 use Rattle.magnetar_protocol.specs.Play.{heard}
 use Rattle.magnetar_protocol.specs.Checks.{checks, firstStop, combined}
-use Rattle.magnetar_protocol.specs.Prover.{productTable}
+use Rattle.magnetar_protocol.specs.Run.{verdict, claims, ClaimsTrue}
+use Rattle.magnetar_protocol.specs.Prover.{productTable, proverWords, proverClaims}
 use Rattle.magnetar_protocol.specs.Stepwise.{Steps, Tables, tauSteps, outerAll, innerAll}
 
 -- ---- the verifier, given the public columns x, the proof's elements w and the transcript t
@@ -50,9 +52,22 @@ unfoldable pub proving : Relation → Batch → List ℕ → Transcript → Step
 proving r b x t =
     innerAll r (combined r (outerDraws r b x t)) (folded (r .q) (r .m / 2) b (loginPoint (outerDraws r b x t))) x (outerProving r b x t)
 
--- the elements that it draws, and its transcript at the end; its words are `proverWords` at these draws (proofs/Stepwise)
+-- the elements that it draws, and its transcript at the end; its words are `proverWords` at these draws (proofs/ProverRun)
 unfoldable pub proverDraws : Relation → Batch → List ℕ → Transcript → List ℕ
 proverDraws r b x t = proving r b x t .played .draws
 
 unfoldable pub proverTranscript : Relation → Batch → List ℕ → Transcript → Transcript
 proverTranscript r b x t = proving r b x t .played .transcript
+
+-- the words that it says
+unfoldable pub saidWords : Relation → Batch → List ℕ → Transcript → List ℕ
+saidWords r b x t = proverWords r b x (proverDraws r b x t)
+
+-- ---- a verifier who is given these words, and the same transcript, draws what the prover drew, accepts, returns the same claims, all of
+-- them true, and ends with the same transcript
+pub record Agrees (r : Relation) (b : Batch) (x : List ℕ) (t : Transcript) : Type 0 where
+  pub same-draws : verifierDraws r (saidWords r b x t) t ≡ proverDraws r b x t
+  pub accepted : verdict r x (saidWords r b x t) (verifierDraws r (saidWords r b x t) t) ≡ 0
+  pub same-claims : claims r (saidWords r b x t) (verifierDraws r (saidWords r b x t) t) ≡ proverClaims r b (proverDraws r b x t)
+  pub true-claims : ClaimsTrue r b (claims r (saidWords r b x t) (verifierDraws r (saidWords r b x t) t))
+  pub same-transcript : verifierTranscript r x (saidWords r b x t) t ≡ proverTranscript r b x t

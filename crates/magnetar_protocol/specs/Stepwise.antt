@@ -1,5 +1,5 @@
 -- The prover's run step by step, as its functions make it: what it says is absorbed and added to the proof, and what it asks for is
--- drawn. `proofs/Stepwise` shows that this is the run of specs/RealRun.
+-- drawn. `proofs/Stepwise` and `proofs/ProverRun` show that this is the run of specs/RealRun.
 -- Assumes nothing.
 use mathlib.Core.List.{List, [], _∷_, _++_, reverse}
 use Prim.Native.Nat.{ℕ, zero, suc, _+_, _-_}

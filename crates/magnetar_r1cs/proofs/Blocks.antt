@@ -1,4 +1,4 @@
--- Vectors one behind the other, in words.
+-- Vectors one behind the other.
 -- Assumes nothing.
 use mathlib.Core.Path.{_≡_, refl, sym, ap, _∙_}
 use mathlib.Core.List.{List, [], _∷_, _++_, append-assoc, append-nil}
@@ -9,40 +9,30 @@ use native.Mathlib.Omega.{arith}
 use lib.ListN.{length, take, drop, length-drop}
 use lib.Seq.{take-at, take-append-add, take-all, length-take-le}
 use borrow.Rule.Slice.PartMut.{putMid}
-use Rattle.magnetar_field.specs.Words.{words}
-use Rattle.magnetar_field.specs.Tabulate.{tabulate}
-use Rattle.magnetar_r1cs.specs.Matrix.{Entry}
-use Rattle.magnetar_r1cs.specs.Packed.{loginWords}
-use Rattle.magnetar_r1cs.specs.Table.{loginTotal, loginBlock}
 use Rattle.magnetar_r1cs.specs.Sum.{blocks}
-use Rattle.magnetar_r1cs.proofs.Folds.{part-ends, part-is}
-
-pub words-append : (xs ys : List ℕ) → words (xs ++ ys) ≡ words xs ++ words ys
-unfolding words
-words-append [] ys = refl
-words-append (x ∷ xs) ys = rw (words-append xs ys)
+use Rattle.magnetar_r1cs.proofs.LoginParts.{part-ends}
 
 -- the front of s, up to the end of block u, is that of the blocks
-pub blocks-start : (f : ℕ → List ℕ) (s : List ℕ) (m : ℕ) → take (0 * m) s ≡ words (blocks f 0)
-unfolding blocks words
+pub blocks-start : (f : ℕ → List ℕ) (s : List ℕ) (m : ℕ) → take (0 * m) s ≡ blocks f 0
+unfolding blocks
 blocks-start f s m = rw zero-mul
 
-pub blocks-more : (f : ℕ → List ℕ) (s t : List ℕ) (u m : ℕ) → u * m + m ≤ length s → take (u * m) s ≡ words (blocks f u)
-    → length t ≡ m → t ≡ words (f u) → take ((u + 1) * m) (putMid (u * m) (u * m + m - u * m) s t) ≡ words (blocks f (u + 1))
+pub blocks-more : (f : ℕ → List ℕ) (s t : List ℕ) (u m : ℕ) → u * m + m ≤ length s → take (u * m) s ≡ blocks f u
+    → length t ≡ m → t ≡ f u → take ((u + 1) * m) (putMid (u * m) (u * m + m - u * m) s t) ≡ blocks f (u + 1)
 unfolding blocks
 blocks-more f s t u m h a l b =
     let e : (u + 1) * m ≡ u * m + m = rw add-one (suc-mul u m) in
     let d : u * m + m - u * m ≡ m = omega arith in
     let k : length (take (u * m) s) ≡ u * m = length-take-le (u * m) s (omega arith) in
     let g : take (u * m + m) (take (u * m) s ++ (t ++ drop m (drop (u * m) s))) ≡ take (u * m) s ++ t = front k in
-    rw (e, d, g, a, b, add-one, words-append)
+    rw (e, d, g, a, b, add-one)
   where
     front : length (take (u * m) s) ≡ u * m → take (u * m + m) (take (u * m) s ++ (t ++ drop m (drop (u * m) s))) ≡ take (u * m) s ++ t
     front k =
         ap (λ (n : ℕ). take (n + m) (take (u * m) s ++ (t ++ drop m (drop (u * m) s)))) (sym k)
         ∙ (take-append-add (take (u * m) s) (t ++ drop m (drop (u * m) s)) m ∙ ap (λ (r : List ℕ). take (u * m) s ++ r) (take-at t (drop m (drop (u * m) s)) m l))
 
-pub blocks-end : (f : ℕ → List ℕ) (s : List ℕ) (u q m : ℕ) → u ≡ q → length s ≡ q * m → take (u * m) s ≡ words (blocks f u) → s ≡ words (blocks f q)
+pub blocks-end : (f : ℕ → List ℕ) (s : List ℕ) (u q m : ℕ) → u ≡ q → length s ≡ q * m → take (u * m) s ≡ blocks f u → s ≡ blocks f q
 blocks-end f s u q m e l a =
     sym (take-all (q * m) s (omega arith)) ∙ (rw e at a)
 
@@ -62,18 +52,3 @@ pub mid-length : (s t : List ℕ) (a m : ℕ) → a + m ≤ length s → length 
 mid-length s t a m h e =
     let d : a + m - a ≡ m = omega arith in
     e ∙ rw d (length-take-le m (drop a s) (rw length-drop (omega arith)))
-
-pub mid-even : (s : List ℕ) (a n : ℕ) → a + 2 * n ≤ length s → length (take (a + 2 * n - a) (drop a s)) ≡ 2 * n
-mid-even s a n h =
-    let d : a + 2 * n - a ≡ 2 * n = omega arith in
-    rw d (length-take-le (2 * n) (drop a s) (rw length-drop (omega arith)))
-
--- the product of login u, in the block that was lent for it
-pub block-is : (w n k u : ℕ) (x ws s t : List ℕ) (es : List Entry) → k ≡ loginWords w → u * (2 * n) + 2 * n ≤ length s
-    → t ≡ words (tabulate (loginTotal w x (take (u * k + k - u * k) (drop (u * k) ws)) es) (length (take (u * (2 * n) + 2 * n - u * (2 * n)) (drop (u * (2 * n)) s)) / 2))
-    → t ≡ words (loginBlock w x ws es n u)
-unfolding loginBlock
-block-is w n k u x ws s t es e h b =
-    let l : length (take (u * (2 * n) + 2 * n - u * (2 * n)) (drop (u * (2 * n)) s)) ≡ 2 * n = mid-even s (u * (2 * n)) n h in
-    let d : length (take (u * (2 * n) + 2 * n - u * (2 * n)) (drop (u * (2 * n)) s)) / 2 ≡ n = omega arith in
-    b ∙ rw (d, part-is w ws u k e)

@@ -4,11 +4,13 @@ pub mod TableLaws
 pub mod Lone
 pub mod Points
 pub mod Parts
-pub mod SetBits
-pub mod Selected
-pub mod Folds
+pub mod LoginParts
 pub mod Blocks
+pub mod Carried
 pub mod Split
+pub mod Flipped
+pub mod MaskBits
 pub mod Verdicts
 pub mod Walked
 pub mod MarkedRows
+pub mod MaskExamples

@@ -14,6 +14,7 @@ use Rattle.magnetar_r1cs.specs.Matrix.{Entry, sumOver}
 use Rattle.magnetar_r1cs.specs.Lent.{Lent, entry, entriesOf}
 use Rattle.magnetar_r1cs.specs.Packed.{loginWords}
 use Rattle.magnetar_r1cs.specs.Table.{Equal}
+use Rattle.magnetar_r1cs.specs.Entries.{matrixTests}
 use Rattle.magnetar_layout.specs.Tests.{Tests, noted, allBelow, counted, placed, loneTests, batchTests}
 use Rattle.magnetar_layout.proofs.EveryLaws.{both}
 use Rattle.magnetar_layout.proofs.Noted.{Clear, noted-clear}
@@ -102,4 +103,17 @@ batched a ws x q w e =
       packed = eqb-true _ _ (not-false _ (k .1 .1 .0));
       rows-size = not-bad (k .1 .1 .1 .1 .0);
       entries = placed-of a (k .1 .1 .1 .1 .1 .1 .1);
+    }
+
+-- the same of the tests without that of the public words
+pub masked : (a : Lent) (ws : List ℕ) (q w : ℕ) → noted 0 (matrixTests a ws q w) ≡ 0 → Batched a ws [] q w
+masked a ws q w e =
+    let k = noted-clear 0 (matrixTests a ws q w) refl e .1 in
+    let z = not-bad (k .0) in
+    record {
+      half = omega (arith, z .high);
+      logins = not-bad (k .1 .0);
+      packed = eqb-true _ _ (not-false _ (k .1 .1 .0));
+      rows-size = not-bad (k .1 .1 .1 .0);
+      entries = placed-of a (k .1 .1 .1 .1 .1 .1);
     }

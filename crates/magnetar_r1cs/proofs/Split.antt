@@ -48,11 +48,11 @@ module _ (w : ℕ) (x ws : List ℕ) where
   abbrev z : List ℕ
   z = tabulate (packedBit ws) w ++ (1 ∷ x)
 
-  z-bit : (c : ℕ) → c < w → getD z c 0 ≡ packedBit ws c
+  pub z-bit : (c : ℕ) → c < w → getD z c 0 ≡ packedBit ws c
   z-bit c h =
       List·getD-append (tabulate (packedBit ws) w) (1 ∷ x) 0 c (rw tabulate-length h) ∙ tabulate-get (packedBit ws) w c 0 h
 
-  z-public : (c : ℕ) → w ≤ c → getD z c 0 ≡ getD (1 ∷ x) (c - w) 0
+  pub z-public : (c : ℕ) → w ≤ c → getD z c 0 ≡ getD (1 ∷ x) (c - w) 0
   z-public c h =
       let l : length (tabulate (packedBit ws) w) ≡ w = tabulate-length (packedBit ws) w in
       let e : length (tabulate (packedBit ws) w) + (c - w) ≡ c = omega arith in
@@ -83,12 +83,12 @@ total-⊕ f g h (e ∷ es) i q =
     ∙ rw (cond-⊕ (eqb (e .row) i) (f e) (g e), q e, total-⊕ f g h es i q)
 
 -- ---- all logins
-blocks-ext : (f g : ℕ → List ℕ) (q : ℕ) → ((u : ℕ) → u < q → f u ≡ g u) → blocks f q ≡ blocks g q
+pub blocks-ext : (f g : ℕ → List ℕ) (q : ℕ) → ((u : ℕ) → u < q → f u ≡ g u) → blocks f q ≡ blocks g q
 unfolding blocks
 blocks-ext f g zero h = refl
 blocks-ext f g (suc q) h = rw (blocks-ext f g q (λ u l. h u (omega arith)), h q (omega arith))
 
-assigned : (q w : ℕ) (ws x : List ℕ) (u : ℕ) → u < q → assignment (unpacked q w ws) x u ≡ tabulate (packedBit (loginPart w ws u)) w ++ (1 ∷ x)
+pub assigned : (q w : ℕ) (ws x : List ℕ) (u : ℕ) → u < q → assignment (unpacked q w ws) x u ≡ tabulate (packedBit (loginPart w ws u)) w ++ (1 ∷ x)
 unfolding assignment unpacked
 assigned q w ws x u h = rw (tabulate-get (λ v. tabulate (packedBit (loginPart w ws v)) w) q u [] h)
 

@@ -94,13 +94,6 @@ cleared-raised f s₀ s t even same cleared sum fit =
     let z : elements s ≡ replicate (length s₀ / 2) 0 = ap elements cleared ∙ (ap (λ (k : ℕ). elements (replicate k 0)) n ∙ elements-zero (length s₀ / 2)) in
     sym (words-elements t [] (omega arith) (rw append-nil fit)) ∙ ap words (sum ∙ rw z (raised-zeros f (length s₀ / 2)))
 
--- and then g
-pub cleared-raised-twice : (f g : ℕ → ℕ) (s₀ s t u : List ℕ) → length s₀ % 2 ≡ 0 → length u ≡ length s₀ → s ≡ replicate (length s₀) 0
-    → elements t ≡ raised f (elements s) → elements u ≡ raised g (elements t) → ((i : ℕ) → getD u i 0 < 2 ^ 64)
-    → u ≡ words (tabulate (λ i. f i ⊕ g i) (length s₀ / 2))
-cleared-raised-twice f g s₀ s t u even same cleared sum more fit =
-    cleared-raised (λ i. f i ⊕ g i) s₀ s u even same cleared (more ∙ rw sum (raised-twice f g (elements s))) fit
-
 -- a table in front of the rest of what was lent
 pub in-front : (f : ℕ → ℕ) (n : ℕ) (out t : List ℕ) → 2 * n ≤ length out → t ≡ words (tabulate f (length (take (2 * n) out) / 2))
     → t ++ drop (2 * n) out ≡ words (tabulate f n) ++ drop (2 * n) out

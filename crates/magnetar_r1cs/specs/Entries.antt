@@ -1,8 +1,9 @@
 -- The outcomes of the entries: which refusal applies, in rising order, and what each lent slice holds at exit.
 -- Assumes nothing.
-use mathlib.Core.Bool.{Bool, true, false}
-use mathlib.Core.List.{List, _++_}
-use Prim.Native.Nat.{ℕ, _+_, _*_}
+use mathlib.Core.Bool.{Bool, true, false, not}
+use mathlib.Core.List.{List, [], _∷_, _++_}
+use Prim.Native.Nat.{ℕ, _+_, _-_, _*_, _^_}
+use lib.Dec.{ltb}
 use lib.ListN.{drop, replicate}
 use Rattle.magnetar_field.specs.Refusal.{unlessRefused}
 use Rattle.magnetar_field.specs.Sizes.{log₂}
@@ -12,10 +13,11 @@ use Rattle.magnetar_r1cs.specs.declared.r1cs.Flag.{Flag}
 use Rattle.magnetar_r1cs.specs.declared.r1cs.Flag.the-variants.{Yes, No, Refused}
 use Rattle.magnetar_r1cs.specs.Sum.{blocks}
 use Rattle.magnetar_r1cs.specs.Matrix.{Matrix, times, mleTable, mleAt, binary, bitValued}
-use Rattle.magnetar_r1cs.specs.Batch.{assignment, folded}
+use Rattle.magnetar_r1cs.specs.Batch.{assignment}
+use Rattle.magnetar_r1cs.specs.Masks.{masks}
 use Rattle.magnetar_r1cs.specs.Packed.{unpacked}
 use Rattle.magnetar_r1cs.specs.Lent.{Lent, matrixOf}
-use Rattle.magnetar_layout.specs.Tests.{noted, sizeTests, packedTests, batchTests, lengthTest, roomTest, loneTests}
+use Rattle.magnetar_layout.specs.Tests.{Tests, noted, sizeTests, packedTests, rowsTests, colsTests, counted, placed, batchTests, lengthTest, roomTest, loneTests}
 
 -- ---- `apply`: the matrix a, the vector z, the output out
 unfoldable pub applyRefusal : Lent → List ℕ → List ℕ → ℕ
@@ -83,15 +85,25 @@ packedOut a ws x q w out =
     unlessRefused (packedRefusal a ws x q w out)
     (words (packedTable (matrixOf a) ws (elements x) q w) ++ drop (q * (2 * a .rows)) out) out
 
--- ---- `fold_packed_w`: the packed words ws of q logins with w columns, the point p, the output out, the scratch s
-unfoldable pub foldRefusal : List ℕ → ℕ → ℕ → List ℕ → List ℕ → List ℕ → ℕ
-foldRefusal ws q w p out s =
-    noted 0
-    (sizeTests (2 * w) q ++ packedTests w q ws ++ lengthTest (2 * log₂ q) p ++ roomTest (2 * w) out ++ roomTest (2 * q) s)
+-- ---- `apply_simd_bit_masks`: the matrix a, the packed words ws of q logins with w columns, the number v, the output out
+-- the tests of `apply_simd_packed` but those of the public words and the room
+abbrev pub matrixTests : Lent → List ℕ → ℕ → ℕ → Tests
+matrixTests a ws q w =
+    sizeTests (2 * w) q ++ packedTests w q ws ++ rowsTests q (a .rows) ++ colsTests (2 * w) (a .cols) ++ counted a ++ placed a
 
-abbrev pub foldOut : List ℕ → ℕ → ℕ → List ℕ → List ℕ → List ℕ → List ℕ
-foldOut ws q w p out s =
-    unlessRefused (foldRefusal ws q w p out s) (words (folded q w (unpacked q w ws) (elements p)) ++ drop (2 * w) out) out
+-- 12: some output may be neither 0 nor 1; 13: v is over log2 q, or over 6
+abbrev pub maskTests : Lent → ℕ → ℕ → ℕ → Tests
+maskTests a q w v = (12, not (bitValued w (matrixOf a))) ∷ (13, ltb (log₂ q) v) ∷ (13, ltb 6 v) ∷ []
 
-abbrev pub foldScratch : List ℕ → ℕ → ℕ → List ℕ → List ℕ → List ℕ → List ℕ
-foldScratch ws q w p out s = unlessRefused (foldRefusal ws q w p out s) (replicate (2 * q) 0 ++ drop (2 * q) s) s
+-- how many masks there are
+abbrev pub maskCount : Lent → ℕ → ℕ → ℕ
+maskCount a q v = 2 ^ (log₂ q - v) * a .rows
+
+unfoldable pub masksRefusal : Lent → List ℕ → ℕ → ℕ → ℕ → List ℕ → ℕ
+masksRefusal a ws q w v out = noted 0 (matrixTests a ws q w ++ maskTests a q w v ++ roomTest (maskCount a q v) out)
+
+abbrev pub masksOut : Lent → List ℕ → ℕ → ℕ → ℕ → List ℕ → List ℕ
+masksOut a ws q w v out =
+    unlessRefused (masksRefusal a ws q w v out)
+    (masks (matrixOf a) (unpacked q w ws) (2 ^ (log₂ q - v)) (2 ^ v) ++ drop (maskCount a q v) out) out
+

@@ -5,5 +5,6 @@ pub mod Packed
 pub mod RowCheck
 pub mod Lent
 pub mod Table
-pub mod Fold
+pub mod Masks
+pub mod Flips
 pub mod Entries

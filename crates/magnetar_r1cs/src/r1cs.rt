@@ -1,5 +1,5 @@
 // Sparse matrices, lent as four number slices: row, column, low word and high word of each entry.
-use crate::fold;
+use crate::masks;
 use crate::walk;
 use magnetar_field::eq::EqBits;
 use magnetar_field::gf128::Evaluated;
@@ -16,16 +16,16 @@ ghost use mathlib.Core.List.{_++_};
 ghost use lib.ListN.{length, take, drop, replicate};
 ghost use Rattle.magnetar_field.specs.Gf128.{value};
 ghost use Rattle.magnetar_field.specs.Tabulate.{tabulate};
-ghost use Rattle.magnetar_field.specs.Words.{elements, words};
+ghost use Rattle.magnetar_field.specs.Words.{elements, words, overlaid};
 ghost use Rattle.magnetar_field.specs.EqTable.{eqTable};
 ghost use Rattle.magnetar_field.specs.Entries.{answer};
 ghost use Rattle.magnetar_r1cs.specs.Matrix.{sumOver, rowTotal, share, isBit, binary, bitValued};
 ghost use Rattle.magnetar_r1cs.specs.Lent.{lent, entriesOf, matrixOf};
-ghost use Rattle.magnetar_r1cs.specs.Table.{cross, loginTotal, loginBlock, Equal, Point};
+ghost use Rattle.magnetar_r1cs.specs.Table.{raised, publicShare, bitShare, cross, loginBlock, Equal, Point};
 ghost use Rattle.magnetar_r1cs.specs.Sum.{blocks};
 ghost use Rattle.magnetar_r1cs.specs.Packed.{loginWords};
 ghost use Rattle.magnetar_layout.specs.Tests.{allBelow, noted, batchTests};
-ghost use Rattle.magnetar_r1cs.specs.Entries.{applyRefusal, applyOut, tableRefusal, tableOut, tableScratch, atAnswer, atScratch, flagged, flaggedOf, binaryRefusal, packedRefusal, packedOut};
+ghost use Rattle.magnetar_r1cs.specs.Entries.{applyRefusal, applyOut, tableRefusal, tableOut, tableScratch, atAnswer, atScratch, flagged, flaggedOf, binaryRefusal, packedRefusal, packedOut, matrixTests, masksRefusal, masksOut};
 
 // An answer: yes, no, or the number of a refusal.
 pub enum Flag {
@@ -227,24 +227,82 @@ pub fn is_binary(
     Flag::No
 }
 
-// One login's product: the public part, and the part of its bits.
-fn login_product(
+// The part of the product that is the same for all logins: that of the public columns.
+fn public_part(
     row: &[usize],
     col: &[usize],
     lo: &[u64],
     hi: &[u64],
     w: usize,
     x: &[u64],
+    out: &mut [u64],
+)
+    requires { ⌜ Equal (now row) (now col) (now lo) (now hi) ⌝ }
+    requires { ⌜ length (now out) % 2 ≡ 0 ⌝ }
+    ensures { λ _. ⌜ now (out .exit) ≡ words (tabulate (rowTotal (publicShare w (elements (now (x .entry)))) (entriesOf (now (row .entry)) (now (col .entry)) (now (lo .entry)) (now (hi .entry)))) (length (now (out .entry)) / 2)) ⌝ }
+{
+    words::clear(out);
+    walk::add_public(row, col, lo, hi, w, x, out);
+}
+
+// Copies the first m words over the words behind them, as many as there are.
+fn carry(s: &mut [u64], m: usize)
+    requires { ⌜ (m ≤ length (now s)) × (m ≤ 131072) ⌝ }
+    ensures { λ _. ⌜ now (s .exit) ≡ take m (now (s .entry)) ++ overlaid (take m (now (s .entry))) (drop m (now (s .entry))) ⌝ }
+{
+    let mut i = 0;
+    while i < m {
+        let k = m + i;
+        if k >= s.len() {
+            return;
+        }
+        s[k] = s[i];
+        i += 1;
+    }
+}
+
+// Adds the part of the product that comes from a login's bits.
+fn bit_part(
+    row: &[usize],
+    col: &[usize],
+    lo: &[u64],
+    hi: &[u64],
+    w: usize,
     login: &[u64],
     out: &mut [u64],
 )
     requires { ⌜ Equal (now row) (now col) (now lo) (now hi) ⌝ }
     requires { ⌜ length (now out) % 2 ≡ 0 ⌝ }
-    ensures { λ _. ⌜ now (out .exit) ≡ words (tabulate (loginTotal w (elements (now (x .entry))) (now (login .entry)) (entriesOf (now (row .entry)) (now (col .entry)) (now (lo .entry)) (now (hi .entry)))) (length (now (out .entry)) / 2)) ⌝ }
+    ensures { λ _. ⌜ now (out .exit) ≡ words (raised (rowTotal (bitShare w (now (login .entry))) (entriesOf (now (row .entry)) (now (col .entry)) (now (lo .entry)) (now (hi .entry)))) (elements (now (out .entry)))) ⌝ }
 {
-    words::clear(out);
-    walk::add_public(row, col, lo, hi, w, x, out);
     walk::add_bits(row, col, lo, hi, w, login, out);
+}
+
+// One login's product, of m words: the first m words hold the public part, which is carried on to the next login's, where
+// there is one, before the part of the login's bits is added.
+fn login_product(
+    row: &[usize],
+    col: &[usize],
+    lo: &[u64],
+    hi: &[u64],
+    w: usize,
+    login: &[u64],
+    m: usize,
+    out: &mut [u64],
+)
+    requires { ⌜ Equal (now row) (now col) (now lo) (now hi) ⌝ }
+    requires { ⌜ (m % 2 ≡ 0) × (m ≤ length (now out)) × (m ≤ 131072) ⌝ }
+    ensures { λ _. ⌜ now (out .exit) ≡ words (raised (rowTotal (bitShare w (now (login .entry))) (entriesOf (now (row .entry)) (now (col .entry)) (now (lo .entry)) (now (hi .entry)))) (elements (take m (now (out .entry))))) ++ overlaid (take m (now (out .entry))) (drop m (now (out .entry))) ⌝ }
+{
+    carry(out, m);
+    bit_part(row, col, lo, hi, w, login, &mut out[..m]);
+}
+
+// How many words a login of w columns has.
+pub fn login_words(w: usize) -> usize
+    ensures { λ r. ⌜ r ≡ loginWords w ⌝ }
+{
+    2 * (w / 128 + (w % 128 + 127) / 128)
 }
 
 // The products of the q logins, one behind the other, n rows each.
@@ -261,18 +319,18 @@ fn products(
     out: &mut [u64],
 )
     requires { ⌜ Equal (now row) (now col) (now lo) (now hi) ⌝ }
-    requires { ⌜ (w ≤ 32768) × (q ≤ 4096) × (n ≤ 65536) × (length (now packed) ≡ q * loginWords w) × (length (now out) ≡ q * (2 * n)) ⌝ }
+    requires { ⌜ (w ≤ 32768) × (1 ≤ q) × (q ≤ 4096) × (n ≤ 65536) × (length (now packed) ≡ q * loginWords w) × (length (now out) ≡ q * (2 * n)) ⌝ }
     ensures { λ _. ⌜ now (out .exit) ≡ words (blocks (loginBlock w (elements (now (x .entry))) (now (packed .entry)) (entriesOf (now (row .entry)) (now (col .entry)) (now (lo .entry)) (now (hi .entry))) n) q) ⌝ }
 {
-    let k = fold::login_words(w);
+    let k = login_words(w);
     let m = 2 * n;
+    public_part(row, col, lo, hi, w, x, &mut out[..m]);
     let mut u = 0;
     while u < q {
         let a = u * k;
         let b = a + k;
         let c = u * m;
-        let d = c + m;
-        login_product(row, col, lo, hi, w, x, &packed[a..b], &mut out[c..d]);
+        login_product(row, col, lo, hi, w, &packed[a..b], m, &mut out[c..]);
         u += 1;
     }
 }
@@ -309,7 +367,7 @@ pub(crate) fn batch_refusal(
     if n != 0 {
         return n;
     }
-    let n = tests::note(0, 2, packed.len() != q * fold::login_words(w));
+    let n = tests::note(0, 2, packed.len() != q * login_words(w));
     let n = tests::note(n, 3, x.len() != 2 * w - 2);
     let n = tests::note(n, 4, !tests::is_size(1, 65536, rows));
     if n != 0 {
@@ -353,4 +411,74 @@ pub fn apply_simd_packed(
         return Flag::Yes;
     }
     Flag::No
+}
+
+// 1, 2, 4, 5, 6 and 7 of a matrix for q logins of w columns.
+fn matrix_refusal(
+    rows: usize,
+    cols: usize,
+    row: &[usize],
+    col: &[usize],
+    lo: &[u64],
+    hi: &[u64],
+    packed: &[u64],
+    q: usize,
+    w: usize,
+) -> u32
+    ensures { λ r. ⌜ r ≡ noted 0 (matrixTests (lent rows cols (now (row .entry)) (now (col .entry)) (now (lo .entry)) (now (hi .entry))) (now (packed .entry)) q w) ⌝ }
+{
+    let n = tests::note(0, 1, !tests::is_half(w));
+    let n = tests::note(n, 1, !tests::is_size(1, 4096, q));
+    if n != 0 {
+        return n;
+    }
+    let n = tests::note(0, 2, packed.len() != q * login_words(w));
+    let n = tests::note(n, 4, !tests::is_size(1, 65536, rows));
+    if n != 0 {
+        return n;
+    }
+    let n = tests::note(0, 4, q * rows > 1048576);
+    let n = tests::note(n, 5, cols != 2 * w);
+    let n = tests::counts(n, row.len(), col.len(), lo.len(), hi.len());
+    tests::places(n, rows, cols, row, col)
+}
+
+// The products of a batch's logins where all of them are 0 or 1, as masks: bit t of word low * rows + r is that of login
+// t * 2^(s - v) + low at row r, q being 2^s. 1, 2, 4, 5, 6, 7 as for `apply_simd_packed`; 12: a value exceeds 1 or a column
+// exceeds w; 13: v is over s or over 6; 15: too little room.
+pub fn apply_simd_bit_masks(
+    rows: usize,
+    cols: usize,
+    row: &[usize],
+    col: &[usize],
+    lo: &[u64],
+    hi: &[u64],
+    packed: &[u64],
+    q: usize,
+    w: usize,
+    v: usize,
+    out: &mut [u64],
+) -> u32
+    ensures answer { λ r. ⌜ r ≡ masksRefusal (lent rows cols (now (row .entry)) (now (col .entry)) (now (lo .entry)) (now (hi .entry))) (now (packed .entry)) q w v (now (out .entry)) ⌝ }
+    ensures written { λ _. ⌜ now (out .exit) ≡ masksOut (lent rows cols (now (row .entry)) (now (col .entry)) (now (lo .entry)) (now (hi .entry))) (now (packed .entry)) q w v (now (out .entry)) ⌝ }
+{
+    let n = matrix_refusal(rows, cols, row, col, lo, hi, packed, q, w);
+    if n != 0 {
+        return n;
+    }
+    let s = sizes::log2(q);
+    let n = tests::note(0, 12, !bit_valued(row, col, lo, hi, w));
+    let n = tests::note(n, 13, v > s);
+    let n = tests::note(n, 13, v > 6);
+    if n != 0 {
+        return n;
+    }
+    let d = masks::power(s - v);
+    let c = masks::power(v);
+    let end = d * rows;
+    if out.len() < end {
+        return 15;
+    }
+    masks::mask_all(row, col, lo, hi, packed, q, w, d, c, rows, &mut out[..end]);
+    0
 }

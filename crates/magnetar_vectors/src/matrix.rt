@@ -9,9 +9,9 @@ use crate::text::print_code;
 use crate::text::print_line;
 use crate::text::print_refusal;
 use crate::text::{self};
+use magnetar_batch::fold;
 use magnetar_layout::layout::Reading;
 use magnetar_layout::layout::{self};
-use magnetar_r1cs::fold;
 use magnetar_r1cs::r1cs::Flag;
 use magnetar_r1cs::r1cs::{self};
 

@@ -79,7 +79,7 @@ slice-aggregate-products c = sym (length-take-le _ _ (omega arith))
 products-requires : tie.Need-products-requires
 products-requires c κs =
     let o = ok (c .before .before) in
-    (o .entries .equal, (o .half, o .logins .high, o .rows-size .high, o .packed, length-take-le _ _ (omega arith)))
+    (o .entries .equal, (o .half, o .logins .low, o .logins .high, o .rows-size .high, o .packed, length-take-le _ _ (omega arith)))
 
 bit-valued-requires : tie.Need-bit-valued-requires
 bit-valued-requires c κs = let o = ok (c .before .before .before .before .before) in (o .entries .equal, o .half)

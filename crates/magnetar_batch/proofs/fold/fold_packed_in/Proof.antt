@@ -1,0 +1,171 @@
+-- `magnetar_batch::fold::fold_packed_in` meets its contract.
+-- Assumes nothing.
+use mathlib.Core.Path.{_≡_, refl, sym, ap, _∙_}
+use mathlib.Core.List.{List, _++_, append-assoc}
+use Prim.Native.Nat.{ℕ, _+_, _*_, _≤_}
+use native.Mathlib.Omega.{arith}
+use lib.Dec.{lit≤}
+use lib.ListN.{length, drop, replicate, length-drop}
+use lib.Seq.{length-take-le}
+use borrow.Author.Tests.{ltb-false, eqb-true, not-false}
+use denote.Ref.{now}
+use Rattle.magnetar_field.specs.Sizes.{log₂}
+use Rattle.magnetar_field.specs.Words.{elements, words}
+use Rattle.magnetar_layout.specs.Tests.{Tests, noted, sizeTests, packedTests, lengthTest, roomTest}
+use Rattle.magnetar_r1cs.specs.Packed.{loginWords, unpacked}
+use Rattle.magnetar_r1cs.specs.Batch.{folded}
+use Rattle.magnetar_layout.proofs.SizeLaws.{Sized, not-bad, sized-wider}
+use Rattle.magnetar_r1cs.proofs.Points.{point-of, point-size, log-most}
+use Rattle.magnetar_layout.proofs.Noted.{noted-front, noted-late, noted-clear, turned, done}
+use Rattle.magnetar_r1cs.proofs.LoginParts.{product-most, words-most}
+use Rattle.magnetar_batch.specs.Entries.{foldInRefusal}
+use Rattle.magnetar_batch.proofs.Folds.{fold-is}
+use borrow.Author.Needs.{needs}
+use Rattle.magnetar_batch.proofs.fold.fold_packed_in.Statement.{statement}
+use Rattle.magnetar_batch.proofs.fold.fold_packed_in.Tie as tie
+
+-- the tests of the sizes, and those after them
+abbrev first : tie.Start → Tests
+first s = sizeTests (2 * s .args .w) (s .args .q)
+
+abbrev rest : tie.Start → Tests
+rest s = let x = s .args in packedTests (x .w) (x .q) (now (x .packed)) ++ lengthTest (2 * log₂ (x .q)) (now (x .point)) ++ roomTest (2 * x .w + 2 * x .q) (now (x .s))
+
+early : (c : tie.After-note2) → c .note2 .result ≡ noted 0 (first (c .before .before .before .before .before .before .before))
+early c = cc
+
+late : (c : tie.After-note5) → c .note5 .result ≡ noted 0 (rest (c .before .before .before .before .before .before .before .before .before .before .before .before .before))
+late c = cc
+
+-- what is known of the sizes, and once nothing is refused
+record Small (s : tie.Start) : Type 0 where
+  half : s .args .w ≤ 32768
+  logins : Sized 1 4096 (s .args .q)
+
+small : (c : tie.Else1) → Small (c .before .before .before .before .before .before .before .before)
+small c =
+    let k = noted-clear 0 (first (c .before .before .before .before .before .before .before .before)) refl (sym (early (c .before)) ∙ c .if1 .left) .1 in
+    let z = not-bad (k .0) in
+    record { half = omega (arith, z .high); logins = not-bad (k .1 .0) }
+
+record Fits (s : tie.Start) : Type 0 where
+  packed : length (now (s .args .packed)) ≡ s .args .q * loginWords (s .args .w)
+  point : length (now (s .args .point)) ≡ 2 * log₂ (s .args .q)
+  room : 2 * s .args .w + 2 * s .args .q ≤ length (now (s .args .s))
+
+fits : (c : tie.Else2) → Fits (c .before .before .before .before .before .before .before .before .before .before .before .before .before .before)
+fits c =
+    let k = noted-clear 0 (rest (c .before .before .before .before .before .before .before .before .before .before .before .before .before .before)) refl (sym (late (c .before)) ∙ c .if2 .left) .1 in
+    record { packed = eqb-true _ _ (not-false _ (k .0)); point = eqb-true _ _ (not-false _ (k .1 .0)); room = ltb-false _ _ (k .1 .1 .0) }
+
+is-half-requires : tie.Need-is-half-requires
+is-half-requires c κs = search needs
+
+note-requires : tie.Need-note-requires
+note-requires c κs = search needs
+
+is-size-requires : tie.Need-is-size-requires
+is-size-requires c κs = search needs
+
+note-requires-2 : tie.Need-note-requires-2
+note-requires-2 c κs = search needs
+
+returns : tie.Need-returns
+unfolding foldInRefusal
+returns c =
+    let s = c .before .before .before .before .before .before .before .before in
+    let e = noted-front (first s) (rest s) _ (early (c .before)) (c .if1 .taken) in
+    (e, turned _ _ e (c .if1 .taken))
+
+mul-end : tie.Need-mul-end
+mul-end c = omega (arith, small c .half)
+
+mul-end-2 : tie.Need-mul-end-2
+mul-end-2 c = omega (arith, small c .logins .high)
+
+add-end : tie.Need-add-end
+add-end c = let m = small c in omega (arith, m .half, m .logins .high)
+
+login-words-requires : tie.Need-login-words-requires
+login-words-requires c κs = search needs
+
+mul-note : tie.Need-mul-note
+mul-note c = let z = small (c .before) in omega (arith, product-most (c .before .before .before .before .before .before .before .before .before .args .q) (c .login-words .result) (z .logins .high) (rw (c .login-words .ensures) (words-most _ (z .half))))
+
+note-requires-3 : tie.Need-note-requires-3
+note-requires-3 c κs = search needs
+
+log2-requires : tie.Need-log2-requires
+log2-requires c κs = search needs
+
+mul-note-2 : tie.Need-mul-note-2
+mul-note-2 c =
+    let z = sized-wider 65536 (lit≤ tt) (small (c .before .before .before) .logins) in
+    omega (arith, c .log2 .ensures, log-most _ (z .high) (z .power))
+
+note-requires-4 : tie.Need-note-requires-4
+note-requires-4 c κs = search needs
+
+note-requires-5 : tie.Need-note-requires-5
+note-requires-5 c κs = search needs
+
+returns-2 : tie.Need-returns-2
+unfolding foldInRefusal
+returns-2 c =
+    let s = c .before .before .before .before .before .before .before .before .before .before .before .before .before .before in
+    let e = noted-late (first s) (rest s) _ _ (early (c .before .before .before .before .before .before .before)) (c .before .before .before .before .before .before .if1 .left) (late (c .before)) in
+    (e, turned _ _ e (c .if2 .taken))
+
+slice-relend-prefix-fold-one : tie.Need-slice-relend-prefix-fold-one
+slice-relend-prefix-fold-one c = fits c .room
+
+slice-aggregate-fold-one : tie.Need-slice-aggregate-fold-one
+slice-aggregate-fold-one c = sym (length-take-le _ _ (fits (c .before) .room))
+
+fold-one-requires : tie.Need-fold-one-requires
+fold-one-requires c κs =
+    let x = (c .before .before .before .before .before .before .before .before .before .before .before .before .before .before .before .args) in
+    let f = fits (c .before) in
+    let m = small (c .before .before .before .before .before .before .before) in
+    let l = length-take-le (2 * x .w + 2 * x .q) (now (x .s)) (f .room) in
+    ((m .half, m .logins .high, f .packed), (l, point-of 1 (x .q) _ _ (sized-wider 65536 (lit≤ tt) (m .logins)) (f .point) (rw length-drop (omega arith))))
+
+same-length : tie.Need-same-length
+same-length c = search needs
+
+returns-3 : tie.Need-returns-3
+unfolding foldInRefusal
+returns-3 c =
+    let k = c .before .before .before .before in
+    let s = k .before .before .before .before .before .before .before .before .before .before .before .before .before .before in
+    let x = s .args in
+    let e = sym (k .if2 .left) ∙ noted-late (first s) (rest s) _ _ (early (k .before .before .before .before .before .before .before)) (k .before .before .before .before .before .before .if1 .left) (late (k .before)) in
+    let f = fits k in
+    let z = sized-wider 65536 (lit≤ tt) (small (k .before .before .before .before .before .before) .logins) in
+    (e, rw (c .before .before .fold-one .ensures, fold-is (x .q) (x .w) (now (x .packed)) (elements (now (x .point))) (point-size _ _ _ z (f .point)), append-assoc (words (folded (x .q) (x .w) (unpacked (x .q) (x .w) (now (x .packed))) (elements (now (x .point))))) (replicate (2 * x .q) 0) (drop (2 * x .w + 2 * x .q) (now (x .s)))) (done _ _ e refl))
+
+pub fold-packed-in-spec : {M : Type 1} → statement M
+fold-packed-in-spec =
+    tie.close
+    (tie.spec
+    is-half-requires
+    note-requires
+    is-size-requires
+    note-requires-2
+    returns
+    mul-end
+    mul-end-2
+    add-end
+    login-words-requires
+    mul-note
+    note-requires-3
+    log2-requires
+    mul-note-2
+    note-requires-4
+    note-requires-5
+    returns-2
+    slice-relend-prefix-fold-one
+    slice-aggregate-fold-one
+    fold-one-requires
+    same-length
+    returns-3)

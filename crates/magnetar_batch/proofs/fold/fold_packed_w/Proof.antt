@@ -1,0 +1,197 @@
+-- `magnetar_batch::fold::fold_packed_w` meets its contract.
+-- Assumes nothing.
+use mathlib.Core.Path.{_≡_, refl, sym, ap, _∙_}
+use mathlib.Core.Bool.{not}
+use mathlib.Core.List.{List, _++_}
+use Prim.Native.Nat.{ℕ, _+_, _*_, _≤_, _/_}
+use native.Mathlib.Omega.{arith}
+use lib.Dec.{eqb, ltb}
+use lib.ListN.{length, length-take}
+use lib.Seq.{length-take-le}
+use borrow.Author.Tests.{ltb-false, eqb-true, not-false}
+use denote.Ref.{now}
+use Rattle.magnetar_field.specs.Sizes.{log₂}
+use Rattle.magnetar_layout.specs.Tests.{Tests, noted, loneTests, lengthTest, roomTest}
+use Rattle.magnetar_layout.proofs.SizeLaws.{Sized}
+use Rattle.magnetar_r1cs.proofs.Points.{point-of, log-most}
+use Rattle.magnetar_r1cs.specs.Packed.{loginWords}
+use Rattle.magnetar_layout.specs.Tests.{sizeTests, packedTests}
+use Rattle.magnetar_batch.specs.Entries.{foldRefusal}
+use Rattle.magnetar_layout.proofs.Noted.{noted-front, noted-late, noted-clear, turned, done}
+use Rattle.magnetar_layout.proofs.SizeLaws.{not-bad, sized-wider}
+use Rattle.magnetar_r1cs.proofs.TableLaws.{in-front}
+use Rattle.magnetar_r1cs.proofs.LoginParts.{product-most, words-most}
+use Rattle.magnetar_batch.proofs.Folds.{fold-is}
+use Rattle.magnetar_r1cs.proofs.Points.{point-size}
+use lib.Dec.{lit≤}
+use borrow.Author.Needs.{needs}
+use Rattle.magnetar_batch.proofs.fold.fold_packed_w.Statement.{statement}
+use Rattle.magnetar_batch.proofs.fold.fold_packed_w.Tie as tie
+
+-- the tests of the sizes, and those after them
+abbrev first : tie.Start → Tests
+first s = sizeTests (2 * s .args .w) (s .args .q)
+
+abbrev rest : tie.Start → Tests
+rest s = let x = s .args in packedTests (x .w) (x .q) (now (x .packed)) ++ lengthTest (2 * log₂ (x .q)) (now (x .point)) ++ roomTest (2 * x .w) (now (x .out)) ++ roomTest (2 * x .q) (now (x .scratch))
+
+early : (c : tie.After-note2) → c .note2 .result ≡ noted 0 (first (c .before .before .before .before .before .before .before .before))
+early c = cc
+
+late : (c : tie.After-note6) → c .note6 .result ≡ noted 0 (rest (c .before .before .before .before .before .before .before .before .before .before .before .before .before .before .before))
+late c = cc
+
+-- what is known of the sizes, and once nothing is refused
+record Small (s : tie.Start) : Type 0 where
+  half : s .args .w ≤ 32768
+  logins : Sized 1 4096 (s .args .q)
+
+small : (c : tie.Else1) → Small (c .before .before .before .before .before .before .before .before .before)
+small c =
+    let k = noted-clear 0 (first (c .before .before .before .before .before .before .before .before .before)) refl (sym (early (c .before)) ∙ c .if1 .left) .1 in
+    let z = not-bad (k .0) in
+    record { half = omega (arith, z .high); logins = not-bad (k .1 .0) }
+
+record Fits (s : tie.Start) : Type 0 where
+  packed : length (now (s .args .packed)) ≡ s .args .q * loginWords (s .args .w)
+  point : length (now (s .args .point)) ≡ 2 * log₂ (s .args .q)
+  out : 2 * s .args .w ≤ length (now (s .args .out))
+  scratch : 2 * s .args .q ≤ length (now (s .args .scratch))
+
+fits : (c : tie.Else2) → Fits (c .before .before .before .before .before .before .before .before .before .before .before .before .before .before .before .before)
+fits c =
+    let k = noted-clear 0 (rest (c .before .before .before .before .before .before .before .before .before .before .before .before .before .before .before .before)) refl (sym (late (c .before)) ∙ c .if2 .left) .1 in
+    record { packed = eqb-true _ _ (not-false _ (k .0)); point = eqb-true _ _ (not-false _ (k .1 .0)); out = ltb-false _ _ (k .1 .1 .0); scratch = ltb-false _ _ (k .1 .1 .1 .0) }
+
+is-half-requires : tie.Need-is-half-requires
+is-half-requires c κs = search needs
+
+note-requires : tie.Need-note-requires
+note-requires c κs = search needs
+
+is-size-requires : tie.Need-is-size-requires
+is-size-requires c κs = search needs
+
+note-requires-2 : tie.Need-note-requires-2
+note-requires-2 c κs = search needs
+
+returns : tie.Need-returns
+unfolding foldRefusal
+returns c =
+    let e = noted-front (first (c .before .before .before .before .before .before .before .before .before)) (rest (c .before .before .before .before .before .before .before .before .before)) _ (early (c .before)) (c .if1 .taken) in
+    (e, (turned _ _ e (c .if1 .taken), turned _ _ e (c .if1 .taken)))
+
+login-words-requires : tie.Need-login-words-requires
+login-words-requires c κs = search needs
+
+mul-note : tie.Need-mul-note
+mul-note c = let z = small (c .before) .logins in omega (arith, product-most (c .before .before .before .before .before .before .before .before .before .before .args .q) (c .login-words .result) (z .high) (rw (c .login-words .ensures) (words-most _ (small (c .before) .half))))
+
+note-requires-3 : tie.Need-note-requires-3
+note-requires-3 c κs = search needs
+
+log2-requires : tie.Need-log2-requires
+log2-requires c κs = search needs
+
+mul-note-2 : tie.Need-mul-note-2
+mul-note-2 c =
+    let z = sized-wider 65536 (lit≤ tt) (small (c .before .before .before) .logins) in
+    omega (arith, c .log2 .ensures, log-most _ (z .high) (z .power))
+
+note-requires-4 : tie.Need-note-requires-4
+note-requires-4 c κs = search needs
+
+mul-note-3 : tie.Need-mul-note-3
+mul-note-3 c = omega (arith, small (c .before .before .before .before) .half)
+
+note-requires-5 : tie.Need-note-requires-5
+note-requires-5 c κs = search needs
+
+mul-note-4 : tie.Need-mul-note-4
+mul-note-4 c = omega (arith, small (c .before .before .before .before .before) .logins .high)
+
+note-requires-6 : tie.Need-note-requires-6
+note-requires-6 c κs = search needs
+
+returns-2 : tie.Need-returns-2
+unfolding foldRefusal
+returns-2 c =
+    let e = noted-late (first (c .before .before .before .before .before .before .before .before .before .before .before .before .before .before .before .before)) (rest (c .before .before .before .before .before .before .before .before .before .before .before .before .before .before .before .before)) _ _ (early (c .before .before .before .before .before .before .before .before)) (c .before .before .before .before .before .before .before .if1 .left) (late (c .before)) in
+    (e, (turned _ _ e (c .if2 .taken), turned _ _ e (c .if2 .taken)))
+
+mul-end : tie.Need-mul-end
+mul-end c = omega (arith, small (c .before .before .before .before .before .before .before) .half)
+
+mul-room : tie.Need-mul-room
+mul-room c = omega (arith, small (c .before .before .before .before .before .before .before) .logins .high)
+
+slice-relend-prefix-fold-in : tie.Need-slice-relend-prefix-fold-in
+slice-relend-prefix-fold-in c = fits c .out
+
+slice-aggregate-fold-in : tie.Need-slice-aggregate-fold-in
+slice-aggregate-fold-in c = sym (length-take-le _ _ (fits (c .before) .out))
+
+slice-relend-prefix-fold-in-2 : tie.Need-slice-relend-prefix-fold-in-2
+slice-relend-prefix-fold-in-2 c = fits (c .before) .scratch
+
+slice-aggregate-fold-in-2 : tie.Need-slice-aggregate-fold-in-2
+slice-aggregate-fold-in-2 c = sym (length-take-le _ _ (fits (c .before .before) .scratch))
+
+fold-in-requires : tie.Need-fold-in-requires
+fold-in-requires c κs =
+    let f = fits (c .before .before) in
+    let m = small (c .before .before .before .before .before .before .before .before .before) in
+    ((m .half, m .logins .high, f .packed), (rw (length-take-le _ _ (f .out)) (omega arith), point-of _ _ _ _ (sized-wider 65536 (lit≤ tt) (m .logins)) (f .point) (length-take-le _ _ (f .scratch))))
+
+same-length : tie.Need-same-length
+same-length c = search needs
+
+same-length-2 : tie.Need-same-length-2
+same-length-2 c = search needs
+
+returns-3 : tie.Need-returns-3
+unfolding foldRefusal
+returns-3 c =
+    let s = c .before .before .before .before .before .before .before .before .before .before .before .before .before .before .before .before .before .before .before .before .before .before .before in
+    let x = s .args in
+    let k = c .before .before .before .before .before .before .before in
+    let e = sym (k .if2 .left) ∙ noted-late (first s) (rest s) _ _ (early (k .before .before .before .before .before .before .before .before)) (k .before .before .before .before .before .before .before .if1 .left) (late (k .before)) in
+    let f = fits k in
+    let z = sized-wider 65536 (lit≤ tt) (small (k .before .before .before .before .before .before .before) .logins) in (
+      e,
+      (
+        in-front _ _ _ _ (f .out) (c .before .before .before .before .fold-in .ensures .0) ∙ rw (fold-is (x .q) (x .w) (now (x .packed)) _ (point-size _ _ _ z (f .point))) (done _ _ e refl),
+        rw (c .before .before .before .before .fold-in .ensures .1, length-take-le (2 * x .q) (now (x .scratch)) (f .scratch)) (done _ _ e refl),
+      ),
+    )
+
+pub fold-packed-w-spec : {M : Type 1} → statement M
+fold-packed-w-spec =
+    tie.close
+    (tie.spec
+    is-half-requires
+    note-requires
+    is-size-requires
+    note-requires-2
+    returns
+    login-words-requires
+    mul-note
+    note-requires-3
+    log2-requires
+    mul-note-2
+    note-requires-4
+    mul-note-3
+    note-requires-5
+    mul-note-4
+    note-requires-6
+    returns-2
+    mul-end
+    mul-room
+    slice-relend-prefix-fold-in
+    slice-aggregate-fold-in
+    slice-relend-prefix-fold-in-2
+    slice-aggregate-fold-in-2
+    fold-in-requires
+    same-length
+    same-length-2
+    returns-3)

@@ -1,0 +1,4 @@
+pub mod Fold
+pub mod Systems
+pub mod Columns
+pub mod Entries

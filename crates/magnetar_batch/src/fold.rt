@@ -1,0 +1,196 @@
+// Folds at a point over the logins.
+use crate::room;
+use magnetar_field::eq::EqBits;
+use magnetar_field::gf128::Evaluated;
+use magnetar_field::gf128::Gf128;
+use magnetar_field::gf128::ONE;
+use magnetar_field::multilinear;
+use magnetar_field::sizes;
+use magnetar_field::words;
+use magnetar_r1cs::r1cs;
+use magnetar_layout::tests;
+use magnetar_r1cs::walk;
+ghost use mathlib.Core.Path.{_≡_};
+ghost use Prim.Native.Nat.{ℕ, _+_, _*_, _/_, _%_, _^_, _<_, _≤_};
+ghost use mathlib.Core.List.{_++_};
+ghost use lib.ListN.{length, getD, drop, replicate};
+ghost use Rattle.magnetar_field.specs.Gf128.{value};
+ghost use Rattle.magnetar_field.specs.Words.{elements, words};
+ghost use Rattle.magnetar_field.specs.Multilinear.{mle};
+ghost use Rattle.magnetar_field.specs.Entries.{answer, answered, mleRefusal, mleScratch};
+ghost use Rattle.magnetar_field.specs.Tabulate.{tabulate};
+ghost use Rattle.magnetar_field.specs.EqTable.{eqTable};
+ghost use Rattle.magnetar_r1cs.specs.Packed.{loginWords};
+ghost use Rattle.magnetar_r1cs.specs.Table.{raised, Point};
+ghost use Rattle.magnetar_batch.specs.Fold.{selectAt, wordSelect, rowSelect, foldSum};
+ghost use Rattle.magnetar_batch.specs.Entries.{foldRefusal, foldOut, foldScratch, foldInRefusal, foldInOut};
+
+// The fold of a vector with an element for each login. 11: the point is no point, or the vector is not of its length; 15:
+// too little room.
+pub fn fold_instances(vector: &[u64], point: &[u64], scratch: &mut [u64]) -> Evaluated
+    ensures value { λ r. ⌜ answer r ≡ answered (mleRefusal (now (vector .entry)) (now (point .entry)) (now (scratch .entry))) (mle (elements (now (vector .entry))) (elements (now (point .entry)))) ⌝ }
+    ensures cleared { λ _. ⌜ now (scratch .exit) ≡ mleScratch (now (vector .entry)) (now (point .entry)) (now (scratch .entry)) ⌝ }
+{
+    multilinear::eval_mle(vector, point, scratch)
+}
+
+// The word without its bits from n on.
+fn kept(word: u64, n: usize) -> u64
+    ensures { λ r. ⌜ r ≡ wordSelect word n ⌝ }
+{
+    if n < 64 {
+        return word % (1 << n);
+    }
+    word
+}
+
+// Adds e to out at base + i, for each set bit i of the word, the lowest first.
+fn add_word(word: u64, base: usize, e: Gf128, out: &mut [u64])
+    requires { ⌜ base ≤ 65536 ⌝ }
+    ensures { λ _. ⌜ elements (now (out .exit)) ≡ raised (selectAt word base (value e)) (elements (now (out .entry))) ⌝ }
+{
+    let mut left = word;
+    while left != 0 {
+        let b = u64::trailing_zeros(left) as usize;
+        walk::add_at(out, base + b, e);
+        left = left & (left - 1);
+    }
+}
+
+// Adds e to out at each column below w whose bit is set in the login's words.
+fn add_login(login: &[u64], w: usize, e: Gf128, out: &mut [u64])
+    requires { ⌜ w ≤ 32768 ⌝ }
+    ensures { λ _. ⌜ elements (now (out .exit)) ≡ raised (rowSelect (now (login .entry)) w (value e)) (elements (now (out .entry))) ⌝ }
+{
+    let mut k = 0;
+    let mut base = 0;
+    while k < login.len() {
+        if base >= w {
+            return;
+        }
+        add_word(kept(login[k], w - base), base, e, out);
+        k += 1;
+        base += 64;
+    }
+}
+
+// Adds each login's element, login u's being that at index u of the factors, at its set columns.
+fn add_logins(packed: &[u64], q: usize, w: usize, factors: &[u64], out: &mut [u64])
+    requires { ⌜ (w ≤ 32768) × (q ≤ 4096) × (length (now packed) ≡ q * loginWords w) ⌝ }
+    ensures { λ _. ⌜ elements (now (out .exit)) ≡ raised (foldSum w (now (packed .entry)) (elements (now (factors .entry))) q) (elements (now (out .entry))) ⌝ }
+{
+    let k = r1cs::login_words(w);
+    let mut u = 0;
+    while u < q {
+        let a = u * k;
+        let b = a + k;
+        add_login(&packed[a..b], w, words::get(factors, u), out);
+        u += 1;
+    }
+}
+
+// Sets s to the eq table of the point.
+fn eq_in(point: &[u64], s: &mut [u64])
+    requires { ⌜ Point (now point) (now s) ⌝ }
+    ensures { λ _. ⌜ now (s .exit) ≡ words (eqTable (elements (now (point .entry)))) ⌝ }
+{
+    let _done = EqBits::build(point, s);
+}
+
+// The folded vector of w columns; s is room for the eq table of q elements, and is left 0.
+fn fold_in(packed: &[u64], q: usize, w: usize, point: &[u64], out: &mut [u64], s: &mut [u64])
+    requires { ⌜ (w ≤ 32768) × (q ≤ 4096) × (length (now packed) ≡ q * loginWords w) ⌝ }
+    requires { ⌜ length (now out) % 2 ≡ 0 ⌝ }
+    requires { ⌜ Point (now point) (now s) ⌝ }
+    ensures { λ _. ⌜ now (out .exit) ≡ words (tabulate (foldSum w (now (packed .entry)) (eqTable (elements (now (point .entry)))) q) (length (now (out .entry)) / 2)) ⌝ }
+    ensures { λ _. ⌜ now (s .exit) ≡ replicate (length (now (s .entry))) 0 ⌝ }
+{
+    eq_in(point, s);
+    words::clear(out);
+    add_logins(packed, q, w, s, out);
+    words::clear(s);
+}
+
+// The batch folded at the point: column y is the sum over the logins of eq times the bit. 1: no such columns or logins; 2: not
+// as many packed words; 11: the point is not of the logins' length; 15: too little room.
+pub fn fold_packed_w(
+    packed: &[u64],
+    q: usize,
+    w: usize,
+    point: &[u64],
+    out: &mut [u64],
+    scratch: &mut [u64],
+) -> u32
+    ensures answer { λ r. ⌜ r ≡ foldRefusal (now (packed .entry)) q w (now (point .entry)) (now (out .entry)) (now (scratch .entry)) ⌝ }
+    ensures folded { λ _. ⌜ now (out .exit) ≡ foldOut (now (packed .entry)) q w (now (point .entry)) (now (out .entry)) (now (scratch .entry)) ⌝ }
+    ensures cleared { λ _. ⌜ now (scratch .exit) ≡ foldScratch (now (packed .entry)) q w (now (point .entry)) (now (out .entry)) (now (scratch .entry)) ⌝ }
+{
+    let n = tests::note(0, 1, !tests::is_half(w));
+    let n = tests::note(n, 1, !tests::is_size(1, 4096, q));
+    if n != 0 {
+        return n;
+    }
+    let n = tests::note(0, 2, packed.len() != q * r1cs::login_words(w));
+    let n = tests::note(n, 11, point.len() != 2 * sizes::log2(q));
+    let n = tests::note(n, 15, out.len() < 2 * w);
+    let n = tests::note(n, 15, scratch.len() < 2 * q);
+    if n != 0 {
+        return n;
+    }
+    let end = 2 * w;
+    let room = 2 * q;
+    fold_in(packed, q, w, point, &mut out[..end], &mut scratch[..room]);
+    0
+}
+
+// Adds each login's element, login u's being that at index w + u, at its set columns below w.
+fn add_logins_in(packed: &[u64], q: usize, w: usize, s: &mut [u64])
+    requires { ⌜ (w ≤ 32768) × (q ≤ 4096) × (length (now packed) ≡ q * loginWords w) ⌝ }
+    ensures { λ _. ⌜ elements (now (s .exit)) ≡ raised (foldSum w (now (packed .entry)) (drop w (elements (now (s .entry)))) q) (elements (now (s .entry))) ⌝ }
+{
+    let k = r1cs::login_words(w);
+    let mut u = 0;
+    while u < q {
+        let a = u * k;
+        let b = a + k;
+        let at = w + u;
+        let e = words::get(s, at);
+        add_login(&packed[a..b], w, e, s);
+        u += 1;
+    }
+}
+
+// The folded vector of w columns, and q elements 0 behind it.
+fn fold_one(packed: &[u64], q: usize, w: usize, point: &[u64], s: &mut [u64])
+    requires { ⌜ (w ≤ 32768) × (q ≤ 4096) × (length (now packed) ≡ q * loginWords w) ⌝ }
+    requires { ⌜ length (now s) ≡ 2 * w + 2 * q ⌝ }
+    requires { ⌜ Point (now point) (drop (2 * w) (now s)) ⌝ }
+    ensures { λ _. ⌜ now (s .exit) ≡ words (tabulate (foldSum w (now (packed .entry)) (eqTable (elements (now (point .entry)))) q) w) ++ replicate (2 * q) 0 ⌝ }
+{
+    let k = 2 * w;
+    words::clear(s);
+    room::eq_behind(s, k, point, ONE);
+    add_logins_in(packed, q, w, s);
+    room::clear_behind(s, k);
+}
+
+// The same fold within one slice: the folded vector in its first 2w words, and the next 2q words 0. 15: s is shorter.
+pub fn fold_packed_in(packed: &[u64], q: usize, w: usize, point: &[u64], s: &mut [u64]) -> u32
+    ensures answer { λ r. ⌜ r ≡ foldInRefusal (now (packed .entry)) q w (now (point .entry)) (now (s .entry)) ⌝ }
+    ensures folded { λ _. ⌜ now (s .exit) ≡ foldInOut (now (packed .entry)) q w (now (point .entry)) (now (s .entry)) ⌝ }
+{
+    let n = tests::note(0, 1, !tests::is_half(w));
+    let n = tests::note(n, 1, !tests::is_size(1, 4096, q));
+    if n != 0 {
+        return n;
+    }
+    let end = 2 * w + 2 * q;
+    let n = tests::note(0, 2, packed.len() != q * r1cs::login_words(w));
+    let n = tests::note(n, 11, point.len() != 2 * sizes::log2(q));
+    let n = tests::note(n, 15, s.len() < end);
+    if n != 0 {
+        return n;
+    }
+    fold_one(packed, q, w, point, &mut s[..end]);
+    0
+}

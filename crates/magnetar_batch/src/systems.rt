@@ -1,0 +1,72 @@
+// The tests of a system's three matrices, each as a number: an earlier number stays.
+use magnetar_layout::tests;
+ghost use mathlib.Core.Path.{_≡_};
+ghost use mathlib.Core.List.{_++_};
+ghost use Rattle.magnetar_layout.specs.Tests.{noted, countTests, placeTests};
+ghost use Rattle.magnetar_batch.specs.Systems.{rowTests3, colTests3};
+
+// 4: the rows, alone and against each other.
+pub fn rows3(z: u32, a: usize, b: usize, c: usize) -> u32
+    ensures { λ r. ⌜ r ≡ noted z (rowTests3 a b c) ⌝ }
+{
+    let z = tests::note(z, 4, !tests::is_size(1, 65536, a));
+    let z = tests::note(z, 4, !tests::is_size(1, 65536, b));
+    let z = tests::note(z, 4, !tests::is_size(1, 65536, c));
+    let z = tests::note(z, 4, b != a);
+    tests::note(z, 4, c != a)
+}
+
+// 5: the columns.
+pub fn cols3(z: u32, m: usize, a: usize, b: usize, c: usize) -> u32
+    ensures { λ r. ⌜ r ≡ noted z (colTests3 m a b c) ⌝ }
+{
+    let z = tests::note(z, 5, a != m);
+    let z = tests::note(z, 5, b != m);
+    tests::note(z, 5, c != m)
+}
+
+// 6: how many entries there are.
+pub fn counts3(
+    z: u32,
+    arow: usize,
+    acol: usize,
+    alo: usize,
+    ahi: usize,
+    brow: usize,
+    bcol: usize,
+    blo: usize,
+    bhi: usize,
+    crow: usize,
+    ccol: usize,
+    clo: usize,
+    chi: usize,
+) -> u32
+    ensures { λ r. ⌜ r ≡ noted z (countTests arow acol alo ahi ++ (countTests brow bcol blo bhi ++ countTests crow ccol clo chi)) ⌝ }
+{
+    let z = tests::counts(z, arow, acol, alo, ahi);
+    let z = tests::counts(z, brow, bcol, blo, bhi);
+    tests::counts(z, crow, ccol, clo, chi)
+}
+
+// 7: the entries lie inside their matrices.
+pub fn places3(
+    z: u32,
+    arows: usize,
+    acols: usize,
+    arow: &[usize],
+    acol: &[usize],
+    brows: usize,
+    bcols: usize,
+    brow: &[usize],
+    bcol: &[usize],
+    crows: usize,
+    ccols: usize,
+    crow: &[usize],
+    ccol: &[usize],
+) -> u32
+    ensures { λ r. ⌜ r ≡ noted z (placeTests arows acols (now (arow .entry)) (now (acol .entry)) ++ (placeTests brows bcols (now (brow .entry)) (now (bcol .entry)) ++ placeTests crows ccols (now (crow .entry)) (now (ccol .entry)))) ⌝ }
+{
+    let z = tests::places(z, arows, acols, arow, acol);
+    let z = tests::places(z, brows, bcols, brow, bcol);
+    tests::places(z, crows, ccols, crow, ccol)
+}

@@ -1,0 +1,182 @@
+-- The verifier's answer and its stop in two blocks, before and after the alphas; and what depends on the sizes of a relation alone is
+-- the same at its outline.
+use mathlib.Core.Path.{_≡_, refl, sym, ap, ap₂, _∙_}
+use mathlib.Core.Bool.{Bool, true, false, cond}
+use mathlib.Core.List.{List, [], _∷_, _++_, append-assoc}
+use Prim.Native.Nat.{ℕ, zero, suc, _+_, _*_, _<_}
+use native.Mathlib.Omega.{arith}
+use lib.Dec.{eqb, lit<}
+use lib.ListN.{length, drop}
+use borrow.Author.Tests.{ne-eqb}
+use Rattle.magnetar_field.specs.Gf128.{_⊕_, _⊗_}
+use Rattle.magnetar_field.specs.EqTable.{eqAt}
+use Rattle.magnetar_field.specs.Multilinear.{mle}
+use Rattle.magnetar_hash.specs.declared.transcript.Transcript.{Transcript}
+use Rattle.magnetar_r1cs.specs.Batch.{Relation}
+use Rattle.magnetar_r1cs.specs.Layout.{localVars, suffix}
+use Rattle.magnetar_protocol.specs.Shape.{logLogins, proofElements}
+use Rattle.magnetar_protocol.specs.Proof.{binMessages, fldMessages, terminals, innerRounds, valueZ, segmentValues}
+use Rattle.magnetar_protocol.specs.Draws.{Draws, drawCount, drawsOf, loginPoint, lowPoint, topElement}
+use Rattle.magnetar_protocol.specs.Schedule.{outline, schedule, afterTaus, afterInner}
+use Rattle.magnetar_protocol.specs.Checks.{Check, binRound, fldRound, innerClaim, segmentSum, firstRefusal, firstStop, checks, sharedChecks, rowChecks, terminalChecks, innerChecks, identityCheck}
+use Rattle.magnetar_protocol.specs.Run.{verdict, claims}
+use Rattle.magnetar_protocol.specs.RealRun.{stop}
+use Rattle.magnetar_protocol.specs.Stepwise.{Steps, Tables, InnerSteps, tauSteps, outerBegin, binRows, fldRows, outerRounds, terminalsLeft, outerAll, innerRun, segmentValue, lowDraws, ended, innerAll}
+use Rattle.magnetar_protocol.proofs.Phases.{Numbered, numbered-append, orElse, first-append, shared-numbered, rows-numbered, terminals-numbered, inner-numbered}
+
+-- ---- the stop of two lists of checks
+pub stop-append : (cs ds : List Check) (n k : ℕ) → Numbered cs
+    → firstStop (cs ++ ds) n ≡ cond (eqb (firstRefusal cs) 0) (firstStop ds n) (firstStop cs k)
+unfolding firstStop firstRefusal
+stop-append [] ds n k h = refl
+stop-append (c ∷ cs) ds n k h =
+    step (c .passes) (c .refusal) (c .events) (firstStop (cs ++ ds) n) (firstRefusal cs) (firstStop ds n) (firstStop cs k) (h .0)
+    (stop-append cs ds n k (h .1))
+  where
+    step : (p : Bool) (m e both a b s : ℕ) → 0 < m → both ≡ cond (eqb a 0) b s → cond p both e ≡ cond (eqb (cond p a m) 0) b (cond p s e)
+    step true m e both a b s l q = q
+    step false m e both a b s l q = rw (ne-eqb m 0 (λ z. omega arith))
+
+-- where every check passes, nothing stops
+pub stop-none : (cs : List Check) (n : ℕ) → Numbered cs → firstRefusal cs ≡ 0 → firstStop cs n ≡ n
+unfolding firstStop firstRefusal
+stop-none [] n h e = refl
+stop-none (c ∷ cs) n h e = step (c .passes) (c .refusal) (c .events) (firstRefusal cs) (firstStop cs n) n (h .0) e (stop-none cs n (h .1))
+  where
+    step : (p : Bool) (m e a s n : ℕ) → 0 < m → cond p a m ≡ 0 → (a ≡ 0 → s ≡ n) → cond p s e ≡ n
+    step true m e a s n l z q = q z
+    step false m e a s n l z q = absurd (omega arith)
+
+-- ---- the two blocks
+module _ (r : Relation) (x w : List ℕ) (D : Draws) where
+  -- the outer rounds and the terminals
+  abbrev pub outerChecks : List Check
+  outerChecks = sharedChecks r x w D 0 (logLogins r) ++ (rowChecks r x w D ++ terminalChecks r x w D)
+
+  -- the inner rounds and the identity of the segments
+  abbrev pub laterChecks : List Check
+  laterChecks = innerChecks r x w D ++ identityCheck r x w D
+
+  pub checks-are : checks r x w D ≡ outerChecks ++ laterChecks
+  unfolding checks
+  checks-are =
+      ap (λ (l : List Check). sharedChecks r x w D 0 (logLogins r) ++ l)
+      (sym (append-assoc (rowChecks r x w D) (terminalChecks r x w D) laterChecks))
+      ∙ sym (append-assoc (sharedChecks r x w D 0 (logLogins r)) (rowChecks r x w D ++ terminalChecks r x w D) laterChecks)
+
+  pub outer-numbered : Numbered outerChecks
+  outer-numbered =
+      numbered-append (sharedChecks r x w D 0 (logLogins r)) (rowChecks r x w D ++ terminalChecks r x w D)
+      (shared-numbered r x w D 0 (logLogins r))
+      (numbered-append (rowChecks r x w D) (terminalChecks r x w D) (rows-numbered r x w D) (terminals-numbered r x w D))
+
+  pub later-numbered : Numbered laterChecks
+  later-numbered = numbered-append (innerChecks r x w D) (identityCheck r x w D) (inner-numbered r x w D) (unfold identityCheck in (lit< tt, tt))
+
+  pub refusal-blocks : firstRefusal (checks r x w D) ≡ orElse (firstRefusal outerChecks) (firstRefusal laterChecks)
+  refusal-blocks = ap firstRefusal checks-are ∙ first-append outerChecks laterChecks outer-numbered
+
+  pub stop-blocks : (n k : ℕ)
+      → firstStop (checks r x w D) n ≡ cond (eqb (firstRefusal outerChecks) 0) (firstStop laterChecks n) (firstStop outerChecks k)
+  stop-blocks n k = ap (λ (l : List Check). firstStop l n) checks-are ∙ stop-append outerChecks laterChecks n k outer-numbered
+
+  pub checks-numbered : Numbered (checks r x w D)
+  checks-numbered = rw checks-are (numbered-append outerChecks laterChecks outer-numbered later-numbered)
+
+-- the same of the answer and the stop of a run
+module _ (r : Relation) (x w d : List ℕ) where
+  pub verdict-blocks : verdict r x w d ≡ orElse (firstRefusal (outerChecks r x w (drawsOf r d))) (firstRefusal (laterChecks r x w (drawsOf r d)))
+  unfolding verdict
+  verdict-blocks = refusal-blocks r x w (drawsOf r d)
+
+  pub run-stop-blocks : (k : ℕ)
+      → stop r x w d
+      ≡ cond (eqb (firstRefusal (outerChecks r x w (drawsOf r d))) 0) (firstStop (laterChecks r x w (drawsOf r d)) (length (schedule r)))
+      (firstStop (outerChecks r x w (drawsOf r d)) k)
+  unfolding stop
+  run-stop-blocks k = stop-blocks r x w (drawsOf r d) (length (schedule r)) k
+
+  -- an accepted run plays the whole schedule
+  pub stop-accepted : verdict r x w d ≡ 0 → stop r x w d ≡ length (schedule r)
+  unfolding verdict stop
+  stop-accepted e = stop-none (checks r x w (drawsOf r d)) (length (schedule r)) (checks-numbered r x w (drawsOf r d)) e
+
+-- ---- the outline
+abbrev pub outlined : Relation → Relation
+outlined r = outline (r .m) (r .q) (r .bin .a .rows) (r .fld .a .rows) (r .lengths)
+
+module _ (r : Relation) where
+  pub schedule-outlined : schedule r ≡ schedule (outlined r)
+  unfolding schedule
+  schedule-outlined = refl
+
+  pub draws-outlined : (d : List ℕ) → drawsOf r d ≡ drawsOf (outlined r) d
+  unfolding drawsOf
+  draws-outlined d = refl
+
+  pub count-outlined : drawCount r ≡ drawCount (outlined r)
+  count-outlined = refl
+
+  pub elements-outlined : proofElements r ≡ proofElements (outlined r)
+  elements-outlined = refl
+
+  pub claims-outlined : (w d : List ℕ) → claims r w d ≡ claims (outlined r) w d
+  unfolding claims drawsOf lowPoint segmentValues
+  claims-outlined w d = refl
+
+  module _ (x w : List ℕ) (D : Draws) where
+    pub shared-outlined : (i n : ℕ) → sharedChecks r x w D i n ≡ sharedChecks (outlined r) x w D i n
+    unfolding sharedChecks binMessages fldMessages
+    shared-outlined i zero = refl
+    shared-outlined i (suc n) = λ j.
+      record { refusal = 21; passes = binRound r x w D i; events = afterTaus r + 2 * suc i }
+      ∷ record { refusal = 22; passes = fldRound r x w D i; events = afterTaus r + 2 * suc i }
+      ∷ shared-outlined (suc i) n j
+
+    pub rows-outlined : rowChecks r x w D ≡ rowChecks (outlined r) x w D
+    unfolding rowChecks binMessages fldMessages
+    rows-outlined = refl
+
+    pub terminals-outlined : terminalChecks r x w D ≡ terminalChecks (outlined r) x w D
+    unfolding terminalChecks binMessages fldMessages
+    terminals-outlined = refl
+
+    pub sum-outlined : (i : ℕ) (vs : List ℕ) → segmentSum r D i vs ≡ segmentSum (outlined r) D i vs
+    unfolding segmentSum lowPoint
+    sum-outlined i [] = refl
+    sum-outlined i (v ∷ vs) = ap (λ (s : ℕ). eqAt (drop (localVars (r .lengths) i) (lowPoint r D)) (suffix (r .lengths) i) ⊗ v ⊕ s)
+        (sum-outlined (suc i) vs)
+
+    pub identity-outlined : identityCheck r x w D ≡ identityCheck (outlined r) x w D
+    unfolding identityCheck lowPoint topElement valueZ segmentValues
+    identity-outlined = ap (λ (s : ℕ). record {
+      refusal = 29;
+      passes = eqb ((1 ⊕ topElement r D) ⊗ s ⊕ topElement r D ⊗ mle (1 ∷ x) (lowPoint r D)) (valueZ r w);
+      events = afterInner r + 1;
+    } ∷ []) (sum-outlined 0 (segmentValues r w))
+
+    -- what the inner checks take from the words and the draws
+    pub claim-outlined : innerClaim r w D ≡ innerClaim (outlined r) w D
+    unfolding innerClaim terminals
+    claim-outlined = refl
+
+    pub rounds-outlined : innerRounds r w ≡ innerRounds (outlined r) w
+    unfolding innerRounds
+    rounds-outlined = refl
+
+    pub value-outlined : valueZ r w ≡ valueZ (outlined r) w
+    unfolding valueZ
+    value-outlined = refl
+
+  -- the steps
+  pub tau-outlined : (t : Transcript) → tauSteps r t ≡ tauSteps (outlined r) t
+  unfolding tauSteps
+  tau-outlined t = refl
+
+  pub outer-outlined : (T : Tables) (p : Steps) → outerAll r T p ≡ outerAll (outlined r) T p
+  unfolding outerAll outerRounds terminalsLeft outerBegin binRows fldRows
+  outer-outlined T p = refl
+
+  pub inner-outlined : (t f x : List ℕ) (p : Steps) → innerAll r t f x p ≡ innerAll (outlined r) t f x p
+  unfolding innerAll innerRun segmentValue lowDraws ended
+  inner-outlined t f x p = refl

@@ -1,0 +1,259 @@
+-- The words of the prover's run are the honest words at its draws.
+use mathlib.Core.Path.{_≡_, refl, sym, ap, ap₂, _∙_, subst}
+use mathlib.Core.List.{List, [], _∷_, _++_, reverse}
+use Prim.Native.Nat.{ℕ, zero, suc, _+_, _-_, _*_, _/_, _^_, _≤_, _<_}
+use native.Mathlib.Omega.{arith}
+use mathlib.Core.Bool.{Bool, true, false, cond}
+use lib.Dec.{eqb, lit<}
+use lib.ListN.{length, getD, take, drop}
+use lib.Pow.{pow-pos, pow-add, pow-lt}
+use lib.Seq.{take-at, drop-at, length-take-le}
+use Rattle.magnetar_field.specs.Gf128.{_⊗_}
+use Rattle.magnetar_field.specs.Sizes.{log₂}
+use Rattle.magnetar_field.specs.Tabulate.{tabulate}
+use Rattle.magnetar_field.specs.Multilinear.{mle}
+use Rattle.magnetar_field.proofs.Tabulation.{tabulate-ext}
+use Rattle.magnetar_field.proofs.Polynomial.{AllBelow}
+use Rattle.magnetar_field.proofs.Product.{⊗-lt}
+use Rattle.magnetar_field.proofs.Xor.{⊕-lt}
+use Rattle.magnetar_hash.specs.declared.transcript.Transcript.{Transcript}
+use Rattle.magnetar_sumcheck.specs.Messages.{Outer, outerStart, outerMessages, innerMessages}
+use Rattle.magnetar_r1cs.specs.Sum.{blocks}
+use Rattle.magnetar_r1cs.specs.Matrix.{Entry, Matrix, System, sumOver, rowTotal, share, timesAt, times}
+use Rattle.magnetar_r1cs.specs.Batch.{Relation, Batch, folded}
+use Rattle.magnetar_r1cs.specs.Layout.{offset, localVars}
+use Rattle.magnetar_protocol.specs.Shape.{logLogins, logBin, logFld, logCols}
+use Rattle.magnetar_protocol.specs.Draws.{Draws, drawCount, drawsOf, loginPoint, lowPoint}
+use Rattle.magnetar_protocol.specs.Checks.{combined}
+use Rattle.magnetar_protocol.specs.Run.{trueValue, claims}
+use Rattle.magnetar_protocol.specs.RunSizes.{SizedSystem, SizedRelation, SizedBatch, Elements}
+use Rattle.magnetar_protocol.specs.Theory.{logHalf}
+use Rattle.magnetar_protocol.specs.Prover.{joined, inTurn, productTable, outerRounds, binRounds, fldRounds, terminalValues, foldedZ, trueValues, honestWords, proverWords, proverClaims}
+use Rattle.magnetar_protocol.specs.Stepwise.{Steps, segmentValue}
+use Rattle.magnetar_protocol.specs.RealRun.{productTables, outerDraws, outerProving, proving, proverDraws}
+use Rattle.magnetar_protocol.proofs.LayoutLaws.{Placed, placed}
+use Rattle.magnetar_protocol.proofs.SegmentSums.{pow-le}
+use Rattle.magnetar_protocol.proofs.SizeFacts.{cols-suc, half-pow, Cut, cut, low-size}
+use Rattle.magnetar_protocol.proofs.HonestTables.{product-length, foldedZ-length}
+use Rattle.magnetar_protocol.proofs.HonestParts.{outer-count, segment-part}
+use Rattle.magnetar_protocol.proofs.HonestBelow.{elements-of, both, tabulate-below, honest-elements}
+use Rattle.magnetar_protocol.proofs.StepLaws.{folds, messages-append, binds}
+use Rattle.magnetar_protocol.proofs.Bindings.{binds-left, left-a, left-b, left-c, segment-is, folded-elements}
+use Rattle.magnetar_protocol.proofs.Stepwise.{elements-front, tau-bin, tau-fld, shared, row-bin, row-fld, alpha, tau-bin-length, tau-fld-length, shared-length, row-bin-length, row-fld-length, alpha-length, leftOf, binAtStart, fldAtStart, ends-bin, ends-fld, outerSaid, inner-of, inner-of-length, lastSaid, proving-said, proving-count, proving-elements, proving-after, outer-parts, parts, parts-are}
+
+-- ---- the products are elements
+sum-over-lt : (f : Entry → ℕ) (es : List Entry) → ((e : Entry) → f e < 2 ^ 128) → sumOver f es < 2 ^ 128
+unfolding sumOver
+sum-over-lt f [] h = pow-pos 128
+sum-over-lt f (e ∷ es) h = ⊕-lt 128 (f e) (sumOver f es) (h e) (sum-over-lt f es h)
+
+times-lt : (m : Matrix) (z : List ℕ) (i : ℕ) → timesAt m z i < 2 ^ 128
+unfolding timesAt rowTotal share
+times-lt m z i = sum-over-lt _ (m .entries) (λ e. either (eqb (e .row) i) (e .value ⊗ getD z (e .col) 0) (⊗-lt (e .value) (getD z (e .col) 0)))
+  where
+    either : (t : Bool) (v : ℕ) → v < 2 ^ 128 → cond t v 0 < 2 ^ 128
+    either true v h = h
+    either false v h = pow-pos 128
+
+blocks-below : (f : ℕ → List ℕ) (n : ℕ) → ((u : ℕ) → AllBelow (2 ^ 128) (f u)) → AllBelow (2 ^ 128) (blocks f n)
+unfolding blocks
+blocks-below f zero h = tt
+blocks-below f (suc n) h = both (blocks f n) (f n) (blocks-below f n h) (h n)
+
+product-elements : (r : Relation) (b : Batch) (x : List ℕ) (m : Matrix) → Elements (productTable r b x m)
+unfolding productTable times
+product-elements r b x m =
+    elements-of (productTable r b x m) (blocks-below _ (r .q) (λ u. tabulate-below _ (m .rows) (times-lt m _)))
+
+elements-both : (s t : List ℕ) → Elements s → Elements t → Elements (s ++ t)
+elements-both [] t h k i = k i
+elements-both (v ∷ s) t h k zero = h 0
+elements-both (v ∷ s) t h k (suc i) = elements-both s t (λ j. h (suc j)) k i
+
+one-more : (x : List ℕ) → Elements x → Elements (1 ∷ x)
+one-more x h zero = pow-lt {i = 0} {j = 128} (lit< tt)
+one-more x h (suc i) = h i
+
+module _ (r : Relation) (b : Batch) (x : List ℕ) (t : Transcript) where
+  abbrev D : Draws
+  D = parts r b x t
+
+  pub parts-cut : Cut r (parts r b x t)
+  parts-cut = record {
+    tauBin = tau-bin-length r (productTables r b x) t;
+    tauFld = tau-fld-length r (productTables r b x) t;
+    shared = shared-length r (productTables r b x) t;
+    rowBin = row-bin-length r (productTables r b x) t;
+    rowFld = row-fld-length r (productTables r b x) t;
+    alphas = alpha-length r (productTables r b x) t;
+    inner = inner-of-length r b x t;
+  }
+
+  -- ---- the rounds
+  bin-first : take (logLogins r) (binRounds r b x D) ≡ outerMessages (binAtStart r (productTables r b x) t) (D .shared)
+  unfolding outerRounds
+  bin-first =
+      ap (take (logLogins r)) (messages-append (D .shared) (D .rowBin) (binAtStart r (productTables r b x) t))
+      ∙ take-at _ _ (logLogins r) (outer-count (binAtStart r (productTables r b x) t) (D .shared) ∙ parts-cut .shared)
+
+  bin-later : drop (logLogins r) (binRounds r b x D) ≡ outerMessages (folds (D .shared) (binAtStart r (productTables r b x) t)) (D .rowBin)
+  unfolding outerRounds
+  bin-later =
+      ap (drop (logLogins r)) (messages-append (D .shared) (D .rowBin) (binAtStart r (productTables r b x) t))
+      ∙ drop-at (outerMessages (binAtStart r (productTables r b x) t) (D .shared)) _ (logLogins r)
+      (outer-count (binAtStart r (productTables r b x) t) (D .shared) ∙ parts-cut .shared)
+
+  fld-first : take (logLogins r) (fldRounds r b x D) ≡ outerMessages (fldAtStart r (productTables r b x) t) (D .shared)
+  unfolding outerRounds
+  fld-first =
+      ap (take (logLogins r)) (messages-append (D .shared) (D .rowFld) (fldAtStart r (productTables r b x) t))
+      ∙ take-at _ _ (logLogins r) (outer-count (fldAtStart r (productTables r b x) t) (D .shared) ∙ parts-cut .shared)
+
+  fld-later : drop (logLogins r) (fldRounds r b x D) ≡ outerMessages (folds (D .shared) (fldAtStart r (productTables r b x) t)) (D .rowFld)
+  unfolding outerRounds
+  fld-later =
+      ap (drop (logLogins r)) (messages-append (D .shared) (D .rowFld) (fldAtStart r (productTables r b x) t))
+      ∙ drop-at (outerMessages (fldAtStart r (productTables r b x) t) (D .shared)) _ (logLogins r)
+      (outer-count (fldAtStart r (productTables r b x) t) (D .shared) ∙ parts-cut .shared)
+
+  -- ---- the combined table and the folded bits, which the draws up to the alphas decide
+  combined-same : combined r (outerDraws r b x t) ≡ combined r D
+  unfolding combined
+  combined-same = ap (combined r) (outer-parts r b x t)
+
+  point-same : loginPoint (outerDraws r b x t) ≡ loginPoint D
+  unfolding loginPoint
+  point-same = ap loginPoint (outer-parts r b x t)
+
+  module _ (R : SizedRelation r) (B : SizedBatch r b) (px : suc (length x) ≡ r .m / 2) (ex : Elements x) where
+    -- ---- the terminals
+    table-size : (s : System) (tau : List ℕ) → SizedSystem (r .m) (r .q) s → length tau ≡ logLogins r + log₂ (s .a .rows)
+        → (m : Matrix) → m .rows ≡ s .a .rows → length (productTable r b x m) ≡ 2 ^ length tau
+    table-size s tau Z ht m e =
+        product-length r b x R B m ∙ ap₂ _*_ (R .logins .power) (e ∙ Z .rows .power)
+        ∙ sym (pow-add 2 (logLogins r) (log₂ (s .a .rows)))
+        ∙ ap (λ (k : ℕ). 2 ^ k) (sym ht)
+
+    module _ (s : System) (Z : SizedSystem (r .m) (r .q) s) (tau rows : List ℕ) (ht : length tau ≡ logLogins r + log₂ (s .a .rows))
+        (hr : length rows ≡ log₂ (s .a .rows)) where
+      abbrev atEnd : Outer
+      atEnd = folds rows (folds (D .shared) (outerStart (logLogins r) tau (productTable r b x (s .a)) (productTable r b x (s .b))
+          (productTable r b x (s .c))))
+
+      long : length tau ≡ length (D .shared) + length rows
+      long = ht ∙ ap₂ _+_ (sym (parts-cut .shared)) (sym hr)
+
+      end-a : getD (atEnd .a) 0 0 ≡ mle (productTable r b x (s .a)) (rows ++ loginPoint D)
+      unfolding loginPoint
+      end-a = left-a (D .shared) rows tau (productTable r b x (s .a)) (productTable r b x (s .b)) (productTable r b x (s .c)) (logLogins r)
+          (parts-cut .shared) long (table-size s tau Z ht (s .a) refl) (product-elements r b x (s .a))
+
+      end-b : getD (atEnd .b) 0 0 ≡ mle (productTable r b x (s .b)) (rows ++ loginPoint D)
+      unfolding loginPoint
+      end-b = left-b (D .shared) rows tau (productTable r b x (s .a)) (productTable r b x (s .b)) (productTable r b x (s .c)) (logLogins r)
+          (parts-cut .shared) long (table-size s tau Z ht (s .b) (Z .b .rows)) (product-elements r b x (s .b))
+
+      end-c : getD (atEnd .c) 0 0 ≡ mle (productTable r b x (s .c)) (rows ++ loginPoint D)
+      unfolding loginPoint
+      end-c = left-c (D .shared) rows tau (productTable r b x (s .a)) (productTable r b x (s .b)) (productTable r b x (s .c)) (logLogins r)
+          (parts-cut .shared) long (table-size s tau Z ht (s .c) (Z .c .rows)) (product-elements r b x (s .c))
+
+    left-same : leftOf r (productTables r b x) t (ends-bin r (productTables r b x) t) (ends-fld r (productTables r b x) t) ≡ terminalValues r b x D
+    unfolding terminalValues
+    left-same = λ j.
+      end-a (r .bin) (R .bin) (D .tauBin) (D .rowBin) (parts-cut .tauBin) (parts-cut .rowBin) j
+      ∷ end-b (r .bin) (R .bin) (D .tauBin) (D .rowBin) (parts-cut .tauBin) (parts-cut .rowBin) j
+      ∷ end-c (r .bin) (R .bin) (D .tauBin) (D .rowBin) (parts-cut .tauBin) (parts-cut .rowBin) j
+      ∷ end-a (r .fld) (R .fld) (D .tauFld) (D .rowFld) (parts-cut .tauFld) (parts-cut .rowFld) j
+      ∷ end-b (r .fld) (R .fld) (D .tauFld) (D .rowFld) (parts-cut .tauFld) (parts-cut .rowFld) j
+      ∷ end-c (r .fld) (R .fld) (D .tauFld) (D .rowFld) (parts-cut .tauFld) (parts-cut .rowFld) j
+      ∷ []
+
+    -- ---- v_z and the segment values
+    z-elements : Elements (foldedZ r b x D)
+    unfolding foldedZ
+    z-elements = elements-both (folded (r .q) (r .m / 2) b (loginPoint D)) (1 ∷ x)
+        (elements-of (folded (r .q) (r .m / 2) b (loginPoint D)) (folded-elements (r .q) (r .m / 2) b (loginPoint D))) (one-more x ex)
+
+    z-is : getD (binds (D .inner) (foldedZ r b x D)) 0 0 ≡ mle (foldedZ r b x D) (D .inner)
+    z-is = binds-left (D .inner) (foldedZ r b x D)
+        (foldedZ-length r b x D R B parts-cut px ∙ ap (λ (k : ℕ). 2 ^ k) (sym (cols-suc r R) ∙ sym (parts-cut .inner))) z-elements
+
+    value-is : (i : ℕ) → i < length (r .lengths)
+        → segmentValue r (combined r D) (folded (r .q) (r .m / 2) b (loginPoint D)) x (lowPoint r D) i ≡ trueValue r b D i
+    unfolding segmentValue trueValue
+    value-is i h =
+        segment-is (r .q) (r .m / 2) b (loginPoint D) (take (log₂ n) (lowPoint r D)) (offset (r .lengths) i) n
+        (p .size .power ∙ ap (λ (k : ℕ). 2 ^ k) (sym short)) (p .ends)
+      where
+        n : ℕ
+        n = getD (r .lengths) i 0
+
+        p : Placed (r .m / 2) (offset (r .lengths) i) (getD (r .lengths) i 0) (r .m / 2)
+        p = placed (r .m / 2) (r .lengths) i (R .layout) h
+
+        fits : log₂ n ≤ logHalf r
+        fits = pow-le (log₂ n) (logHalf r) (small (half-pow r R) (p .size .power) (p .size .most))
+          where
+            small : {k a c d : ℕ} → a ≡ c → k ≡ d → k ≤ a → d ≤ c
+            small e f l = omega arith
+
+        short : length (take (log₂ n) (lowPoint r D)) ≡ log₂ n
+        short = length-take-le (log₂ n) (lowPoint r D) (below (low-size r R D parts-cut) fits)
+          where
+            below : {k a c : ℕ} → a ≡ c → k ≤ c → k ≤ a
+            below e l = omega arith
+
+    values-are : tabulate (segmentValue r (combined r D) (folded (r .q) (r .m / 2) b (loginPoint D)) x (lowPoint r D)) (length (r .lengths))
+        ≡ trueValues r b D
+    unfolding trueValues
+    values-are = tabulate-ext _ (trueValue r b D) (length (r .lengths)) value-is
+
+    -- ---- all words
+    last-same : lastSaid r b x t (D .inner)
+        ≡ joined (innerMessages (combined r D) (foldedZ r b x D) (D .inner)) ++ (mle (foldedZ r b x D) (D .inner) ∷ trueValues r b D)
+    unfolding foldedZ lowPoint
+    last-same =
+        (λ j. said (combined-same j) (point-same j))
+        ∙ ap₂ (λ (v : ℕ) (l : List ℕ). joined (innerMessages (combined r D) (foldedZ r b x D) (D .inner)) ++ (v ∷ l)) z-is values-are
+      where
+        said : List ℕ → List ℕ → List ℕ
+        said c p =
+            joined (innerMessages c (folded (r .q) (r .m / 2) b p ++ (1 ∷ x)) (D .inner))
+            ++ (getD (binds (D .inner) (folded (r .q) (r .m / 2) b p ++ (1 ∷ x))) 0 0
+            ∷ tabulate (segmentValue r c (folded (r .q) (r .m / 2) b p) x (take (logCols r - 1) (D .inner))) (length (r .lengths)))
+
+    words-same : outerSaid r (productTables r b x) t (lastSaid r b x t (inner-of r b x t)) ≡ honestWords r b x D
+    unfolding honestWords
+    words-same = λ j.
+      inTurn (sym bin-first j) (sym fld-first j)
+      ++ (joined (sym bin-later j) ++ (joined (sym fld-later j) ++ (left-same j ++ last-same j)))
+
+    -- the words of the run are the honest words at its draws
+    pub proving-words : proving r b x t .said ≡ proverWords r b x (proverDraws r b x t)
+    unfolding proverWords proverDraws
+    proving-words = proving-said r b x t ∙ words-same ∙ ap (honestWords r b x) (sym (parts-are r b x t))
+
+    -- and elements
+    pub proving-words-elements : Elements (proving r b x t .said)
+    proving-words-elements = subst Elements (sym proving-words)
+        (unfold proverWords in honest-elements r b x (drawsOf r (proverDraws r b x t)))
+
+    pub outer-words-elements : Elements (outerProving r b x t .said)
+    outer-words-elements = elements-front (outerProving r b x t .said) _
+        (subst (λ (p : Steps). Elements (p .said)) (proving-after r b x t) proving-words-elements)
+
+  -- ---- the draws
+  pub prover-count : length (proverDraws r b x t) ≡ drawCount r
+  unfolding proverDraws
+  prover-count = proving-count r b x t
+
+  pub prover-elements : Elements (proverDraws r b x t)
+  unfolding proverDraws
+  prover-elements = proving-elements r b x t
+
+  -- the claims that are read from the honest words are the prover's, whatever the batch is
+  pub prover-claims : claims r (proverWords r b x (proverDraws r b x t)) (proverDraws r b x t) ≡ proverClaims r b (proverDraws r b x t)
+  unfolding claims proverClaims proverWords
+  prover-claims = ap (λ (l : List ℕ). loginPoint (drawsOf r (proverDraws r b x t)) ++ (lowPoint r (drawsOf r (proverDraws r b x t)) ++ l))
+      (segment-part r b x (drawsOf r (proverDraws r b x t)) (cut r (proverDraws r b x t) prover-count))
