@@ -19,7 +19,8 @@ use Rattle.magnetar_r1cs.specs.Lent.{entriesOf, matrixOf}
 use Rattle.magnetar_r1cs.proofs.Lone.{all-inside}
 use Rattle.magnetar_r1cs.proofs.Walked.{entries-end}
 use Rattle.magnetar_protocol.specs.RunSizes.{Power, SizedMatrix, SizedSystem, SizedRelation}
-use Rattle.magnetar_spartan.specs.Rules.{Three, Rules, systemOf, relationOf}
+use Rattle.magnetar_spartan.specs.Rules.{Rules, relationOf}
+use Rattle.magnetar_batch.specs.Systems.{Lent3, systemOf}
 use Rattle.magnetar_spartan.proofs.Fine.{FineMatrix, FineSystem, Fine}
 
 -- as many entries as the slices have, at most
@@ -40,8 +41,8 @@ sized-matrix n m a f = record {
   inside = rw (← f .rows, ← f .cols) (all-inside (a .rows) (a .cols) (a .row) (a .col) (a .lo) (a .hi) (f .rows-inside) (f .cols-inside));
 }
 
-sized-system : (m q : ℕ) (s : Three) → FineSystem m q s → SizedSystem m q (systemOf s)
-unfolding matrixOf
+sized-system : (m q : ℕ) (s : Lent3) → FineSystem m q s → SizedSystem m q (systemOf s)
+unfolding matrixOf systemOf
 sized-system m q s f = record {
   rows = power-of (f .rows);
   total = f .total;

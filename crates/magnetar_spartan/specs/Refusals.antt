@@ -6,36 +6,25 @@ use Prim.Native.Nat.{ℕ, _+_, _-_, _*_, _/_, _^_, max}
 use lib.Dec.{eqb, ltb}
 use lib.ListN.{length}
 use Rattle.magnetar_field.specs.Sizes.{log₂}
-use Rattle.magnetar_layout.specs.Tests.{Tests, isSize, sizeTests, packedTests, publicTests, colsTests, counted, placed, layoutTests}
+use Rattle.magnetar_layout.specs.Tests.{Tests, isSize, sizeTests, packedTests, publicTests, layoutTests}
+use Rattle.magnetar_batch.specs.Systems.{Lent3, cols3, counted3, placed3}
 use Rattle.magnetar_protocol.specs.Shape.{proofElements}
 use Rattle.magnetar_protocol.specs.Schedule.{outline}
-use Rattle.magnetar_spartan.specs.Rules.{Three, Rules}
+use Rattle.magnetar_spartan.specs.Rules.{Rules}
 
 -- 4: the rows of the three matrices of a system, for q logins
 abbrev pub systemRows : (q a b c : ℕ) → Tests
 systemRows q a b c =
     (4, not (isSize 1 65536 a)) ∷ (4, not (eqb b a)) ∷ (4, not (eqb c a)) ∷ (4, ltb 1048576 (q * a)) ∷ []
 
-abbrev pub rowsOf : ℕ → Three → Tests
+abbrev pub rowsOf : ℕ → Lent3 → Tests
 rowsOf q s = systemRows q (s .a .rows) (s .b .rows) (s .c .rows)
-
--- 5: the columns
-abbrev pub colsOf : ℕ → Three → Tests
-colsOf m s = colsTests m (s .a .cols) ++ colsTests m (s .b .cols) ++ colsTests m (s .c .cols)
-
--- 6: how many entries there are
-abbrev pub countsOf : Three → Tests
-countsOf s = counted (s .a) ++ counted (s .b) ++ counted (s .c)
-
--- 7: every entry lies inside its matrix
-abbrev pub placesOf : Three → Tests
-placesOf s = placed (s .a) ++ placed (s .b) ++ placed (s .c)
 
 -- 4 to 10: the rules
 abbrev pub ruleTests : Rules → Tests
 ruleTests R =
-    rowsOf (R .q) (R .bin) ++ rowsOf (R .q) (R .fld) ++ colsOf (R .m) (R .bin) ++ colsOf (R .m) (R .fld) ++ countsOf (R .bin)
-    ++ countsOf (R .fld) ++ placesOf (R .bin) ++ placesOf (R .fld) ++ layoutTests (R .m / 2) (R .lengths)
+    rowsOf (R .q) (R .bin) ++ rowsOf (R .q) (R .fld) ++ cols3 (R .m) (R .bin) ++ cols3 (R .m) (R .fld) ++ counted3 (R .bin)
+    ++ counted3 (R .fld) ++ placed3 (R .bin) ++ placed3 (R .fld) ++ layoutTests (R .m / 2) (R .lengths)
 
 -- 14: the transcript's counter
 abbrev pub counterTests : ℕ → Tests
