@@ -1,9 +1,9 @@
 -- The walk for the masks: the words that it leaves are the masks of the outputs.
 -- Assumes nothing.
-use mathlib.Core.Path.{_≡_, refl, sym, ap, _∙_}
+use mathlib.Core.Path.{_≡_, refl, sym, _∙_}
 use mathlib.Core.Bool.{Bool, true, false, cond, _&&_}
 use mathlib.Core.List.{List, [], _∷_, _++_}
-use Prim.Native.Nat.{ℕ, zero, suc, _+_, _-_, _*_, _/_, _%_, _^_, _≤_, _<_}
+use Prim.Native.Nat.{ℕ, zero, suc, _+_, _-_, _*_, _%_, _^_, _≤_, _<_}
 use native.Mathlib.Nat.{mod-eq-of-lt, one-mul, mul-one, zero-mul, mul-zero, mul-le-mul-right, suc-mul, pow-suc, le-trans}
 use native.Mathlib.Numerals.{add-one}
 use native.Mathlib.Omega.{arith}
@@ -12,9 +12,9 @@ use lib.Pow.{pow-lt, pow-pos, pow-mono, pow-add, low, high}
 use borrow.Author.Tests.{lt-ltb, le-ltb, ltb-true, ltb-false, leb-true}
 use lib.ListN.{length, getD, take, drop, replicate, length-drop, length-replicate, getD-replicate}
 use lib.Seq.{length-take-le}
-use Rattle.magnetar_field.specs.Gf128.{_⊕_, _⊗_}
+use Rattle.magnetar_field.specs.Gf128.{_⊕_}
 use Rattle.magnetar_field.specs.Tabulate.{tabulate}
-use Rattle.magnetar_field.proofs.Xor.{bit-cases, ⊕-lt, ⊕-comm, ⊕-digit, zero-⊕, top}
+use Rattle.magnetar_field.proofs.Xor.{bit-cases, ⊕-lt, ⊕-comm, ⊕-digit, top}
 use Rattle.magnetar_field.proofs.Tabulation.{tabulate-of, tabulate-ext}
 use Rattle.magnetar_layout.specs.Every.{every}
 use Rattle.magnetar_layout.proofs.EveryLaws.{both}

@@ -3,7 +3,7 @@
 use mathlib.Core.Path.{_≡_, refl, sym, ap, _∙_}
 use mathlib.Core.Bool.{Bool, true, false}
 use mathlib.Core.List.{List, [], _++_}
-use Prim.Native.Nat.{ℕ, zero, suc, _+_, _-_, _*_, _/_, _%_, _^_, _≤_, _<_}
+use Prim.Native.Nat.{ℕ, zero, suc, _+_, _-_, _*_, _/_, _%_, _^_, _<_}
 use native.Mathlib.Nat.{mod-eq-of-lt, suc-mul}
 use native.Mathlib.Omega.{arith}
 use lib.Dec.{ltb}
@@ -76,12 +76,12 @@ blocks-get f m (suc d) u i h hu hi = blocks-step f (blocks f d) m d u i (blocks-
 -- ---- the bits of the masks
 pub mask-bit : (a : Lent) (ws : List ℕ) (q w d n : ℕ) → bitValued w (matrixOf a) ≡ true → n * d ≡ q → (low r t : ℕ) → low < d → r < a .rows → t < n
     → getD (masks (matrixOf a) (unpacked q w ws) d n) (low * a .rows + r) 0 / 2 ^ t % 2
-      ≡ timesAt (matrixOf a) (assignment (unpacked q w ws) [] (t * d + low)) r
+    ≡ timesAt (matrixOf a) (assignment (unpacked q w ws) [] (t * d + low)) r
 unfolding masks maskAt matrixOf
 mask-bit a ws q w d n bits all l r t hl hr ht =
     let e : getD (masks (matrixOf a) (unpacked q w ws) d n) (l * a .rows + r) 0 ≡ maskAt (matrixOf a) (unpacked q w ws) d n l r =
-        blocks-get (λ v. tabulate (maskAt (matrixOf a) (unpacked q w ws) d n v) (a .rows)) (a .rows) d l r (λ v. tabulate-length (maskAt (matrixOf a) (unpacked q w ws) d n v) (a .rows)) hl hr
-        ∙ tabulate-get (maskAt (matrixOf a) (unpacked q w ws) d n l) (a .rows) r 0 hr in
+    blocks-get (λ v. tabulate (maskAt (matrixOf a) (unpacked q w ws) d n v) (a .rows)) (a .rows) d l r (λ v. tabulate-length (maskAt (matrixOf a) (unpacked q w ws) d n v) (a .rows)) hl hr
+    ∙ tabulate-get (maskAt (matrixOf a) (unpacked q w ws) d n l) (a .rows) r 0 hr in
     ap (λ (m : ℕ). m / 2 ^ t % 2) e
     ∙ bit-of (λ i. timesAt (matrixOf a) (assignment (unpacked q w ws) [] (i * d + l)) r) n t
     (λ i b. output-lt a ws q w d n bits all (i * d + l) r (login-below i d l n q b hl all)) ht

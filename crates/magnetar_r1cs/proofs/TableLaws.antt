@@ -1,21 +1,18 @@
 -- Tables as lists of values, tables in words, and sums that are added to them.
 -- Assumes nothing.
 use mathlib.Core.Path.{_≡_, refl, sym, ap, _∙_}
-use mathlib.Core.Bool.{Bool, true, false, cond}
 use mathlib.Core.List.{List, [], _∷_, _++_, append-nil}
 use Prim.Native.Nat.{ℕ, zero, suc, _+_, _-_, _*_, _/_, _%_, _^_, _≤_, _<_}
-use native.Mathlib.Nat.{le-of-suc-le-suc}
 use native.Mathlib.Numerals.{sub-one}
 use native.Mathlib.Omega.{arith}
-use lib.Dec.{eqb, ltb}
-use borrow.Author.Tests.{eqb-true, eqb-false, lt-ltb, le-ltb, ltb-true, ltb-false}
-use lib.ListN.{length, getD, set, take, drop, replicate, length-set, length-append, length-replicate, getD-replicate}
-use lib.Seq.{set-out, set-getD, getD-set-same, getD-set-other, length-take-le}
+use borrow.Author.Tests.{lt-ltb, le-ltb}
+use lib.ListN.{length, getD, take, drop, replicate, length-set, length-replicate, getD-replicate}
+use lib.Seq.{set-getD, getD-set-same, getD-set-other, length-take-le}
 use lib.Pow.{split}
 use Rattle.magnetar_field.specs.Gf128.{_⊕_, _⊗_}
 use Rattle.magnetar_field.specs.Tabulate.{tabulate}
 use Rattle.magnetar_field.specs.Words.{elements, words}
-use Rattle.magnetar_field.proofs.Xor.{⊕-zero, zero-⊕, ⊕-assoc, ⊕-comm, ⊕-left-comm}
+use Rattle.magnetar_field.proofs.Xor.{⊕-zero, zero-⊕, ⊕-assoc}
 use Rattle.magnetar_field.proofs.Elements.{words-elements}
 use Rattle.magnetar_field.proofs.Tabulation.{tabulate-length, tabulate-get, tabulate-of}
 use Rattle.magnetar_field.proofs.Product.{⊗-one}

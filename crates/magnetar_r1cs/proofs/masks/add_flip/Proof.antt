@@ -1,6 +1,6 @@
 -- `magnetar_r1cs::masks::add_flip` meets its contract.
 -- Assumes nothing.
-use mathlib.Core.Path.{_≡_, refl, sym, _∙_}
+use mathlib.Core.Path.{sym}
 use native.Mathlib.Omega.{arith}
 use denote.Ref.{now}
 use Rattle.magnetar_r1cs.proofs.TableLaws.{added-zero}

@@ -2,20 +2,19 @@
 -- Assumes nothing.
 use mathlib.Core.Path.{_≡_, refl, sym, ap, _∙_}
 use mathlib.Core.Bool.{true}
-use mathlib.Core.List.{List, [], _++_}
-use Prim.Native.Nat.{ℕ, _+_, _-_, _*_, _^_, _≤_, _<_}
+use mathlib.Core.List.{[], _++_}
+use Prim.Native.Nat.{ℕ, _-_, _*_, _^_, _≤_, _<_}
 use native.Mathlib.Omega.{arith}
-use lib.ListN.{length, drop}
+use lib.ListN.{length}
 use lib.Seq.{length-take-le}
 use borrow.Author.Tests.{ltb-false, not-false}
 use denote.Ref.{now}
 use Rattle.magnetar_field.specs.Sizes.{log₂}
 use Rattle.magnetar_layout.specs.Tests.{Tests, noted, roomTest}
 use Rattle.magnetar_layout.proofs.Noted.{noted-front, noted-late, noted-clear, turned, done}
-use Rattle.magnetar_layout.proofs.SizeLaws.{Sized}
 use Rattle.magnetar_layout.proofs.Room.{room-short, room-enough}
 use Rattle.magnetar_r1cs.specs.Matrix.{bitValued}
-use Rattle.magnetar_r1cs.specs.Lent.{Lent, lent, entriesOf, matrixOf}
+use Rattle.magnetar_r1cs.specs.Lent.{Lent, lent, matrixOf}
 use Rattle.magnetar_r1cs.specs.Entries.{matrixTests, maskTests, maskCount, masksRefusal}
 use Rattle.magnetar_r1cs.proofs.Lone.{Batched, masked}
 use Rattle.magnetar_r1cs.proofs.Blocks.{product-fits}

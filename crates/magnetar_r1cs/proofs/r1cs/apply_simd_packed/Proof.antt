@@ -1,26 +1,15 @@
 -- `magnetar_r1cs::r1cs::apply_simd_packed` meets its contract.
 -- Assumes nothing.
-use mathlib.Core.Path.{_≡_, refl, sym, ap, _∙_}
-use mathlib.Core.Bool.{not}
-use mathlib.Core.List.{List, _++_}
-use Prim.Native.Nat.{ℕ, _+_, _*_, _≤_, _/_}
+use mathlib.Core.Path.{_≡_, refl, sym, _∙_}
+use mathlib.Core.List.{_++_}
+use Prim.Native.Nat.{ℕ, _*_}
 use native.Mathlib.Omega.{arith}
-use lib.Dec.{eqb, ltb}
-use lib.ListN.{length, length-take}
 use lib.Seq.{length-take-le}
-use borrow.Author.Tests.{ltb-false, eqb-true, not-false}
 use denote.Ref.{now}
-use Rattle.magnetar_field.specs.Sizes.{log₂}
-use Rattle.magnetar_r1cs.specs.Lent.{Lent, lent, entriesOf, matrixOf}
-use Rattle.magnetar_layout.specs.Tests.{Tests, noted, loneTests, lengthTest, roomTest}
-use Rattle.magnetar_layout.proofs.SizeLaws.{Sized}
-use Rattle.magnetar_r1cs.proofs.Lone.{Lone, lone}
-use lib.ListN.{drop}
-use mathlib.Core.Bool.{true, false}
-use borrow.Author.Tests.{ne-eqb, lt-ltb, le-ltb}
-use Rattle.magnetar_field.specs.Words.{words, elements}
+use Rattle.magnetar_r1cs.specs.Lent.{Lent, lent, matrixOf}
+use Rattle.magnetar_layout.specs.Tests.{Tests, noted, roomTest, batchTests}
+use Rattle.magnetar_field.specs.Words.{elements}
 use Rattle.magnetar_r1cs.specs.Matrix.{bitValued}
-use Rattle.magnetar_layout.specs.Tests.{batchTests}
 use Rattle.magnetar_r1cs.specs.Entries.{packedRefusal}
 use Rattle.magnetar_layout.proofs.Noted.{noted-front, noted-late, turned, done}
 use Rattle.magnetar_r1cs.proofs.Flags.{flag-refused, flag-yes, flag-no}

@@ -1,10 +1,7 @@
 -- `magnetar_r1cs::r1cs::bit_part` meets its contract.
 -- Assumes nothing.
-use mathlib.Core.Path.{_≡_, refl, sym, ap, _∙_}
-use mathlib.Core.List.{[], append-nil}
 use native.Mathlib.Omega.{arith}
 use denote.Ref.{now}
-use Rattle.magnetar_field.specs.Words.{words}
 use Rattle.magnetar_r1cs.proofs.Carried.{kept-words}
 use borrow.Author.Needs.{needs}
 use Rattle.magnetar_r1cs.proofs.r1cs.bit_part.Statement.{statement}

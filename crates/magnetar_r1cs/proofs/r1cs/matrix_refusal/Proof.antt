@@ -1,14 +1,14 @@
 -- `magnetar_r1cs::r1cs::matrix_refusal` meets its contract.
 -- Assumes nothing.
-use mathlib.Core.Path.{_≡_, refl, sym, ap, _∙_}
-use mathlib.Core.List.{List, _++_}
-use Prim.Native.Nat.{ℕ, _+_, _*_, _≤_}
+use mathlib.Core.Path.{_≡_, refl, sym, _∙_}
+use mathlib.Core.List.{_++_}
+use Prim.Native.Nat.{_*_, _≤_}
 use native.Mathlib.Omega.{arith}
 use lib.ListN.{drop}
 use denote.Ref.{now}
 use Rattle.magnetar_layout.specs.Tests.{Tests, noted, sizeTests, packedTests, rowTests, rowsTests, colsTests, counted, placed}
 use Rattle.magnetar_layout.proofs.Noted.{noted-front, noted-late, noted-clear}
-use Rattle.magnetar_layout.proofs.SizeLaws.{Sized, not-bad}
+use Rattle.magnetar_layout.proofs.SizeLaws.{not-bad}
 use Rattle.magnetar_r1cs.specs.Lent.{Lent, lent}
 use Rattle.magnetar_r1cs.proofs.LoginParts.{product-most, words-most}
 use Rattle.magnetar_r1cs.proofs.Blocks.{product-fits}

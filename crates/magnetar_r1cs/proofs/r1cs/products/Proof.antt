@@ -1,14 +1,14 @@
 -- `magnetar_r1cs::r1cs::products` meets its contract.
 -- Assumes nothing.
 use borrow.Rule.Slice.PartMut.{same-len-mid}
-use mathlib.Core.Path.{_≡_, refl, sym, ap, _∙_}
-use Prim.Native.Nat.{ℕ, _+_, _*_, _≤_, _<_, _-_}
+use mathlib.Core.Path.{_≡_, refl, sym, _∙_}
+use Prim.Native.Nat.{ℕ, _*_, _≤_, _-_}
 use native.Mathlib.Nat.{zero-mul, zero-add}
 use native.Mathlib.Omega.{arith}
-use lib.ListN.{length, take}
+use lib.ListN.{length}
 use lib.Seq.{length-take-le, length-front}
 use denote.Ref.{now}
-use Rattle.magnetar_field.specs.Words.{elements, words}
+use Rattle.magnetar_field.specs.Words.{elements}
 use Rattle.magnetar_r1cs.specs.Packed.{loginWords}
 use Rattle.magnetar_r1cs.specs.Lent.{entriesOf}
 use Rattle.magnetar_r1cs.specs.Table.{loginBlock}
