@@ -15,7 +15,8 @@ use Rattle.magnetar_layout.specs.Lent.{Lent}
 use Rattle.magnetar_layout.specs.Tests.{noted, isSize, allBelow}
 use Rattle.magnetar_layout.proofs.Noted.{noted-clear}
 use Rattle.magnetar_layout.proofs.SizeLaws.{Sized, not-bad}
-use Rattle.magnetar_spartan.specs.Rules.{Three, Rules}
+use Rattle.magnetar_spartan.specs.Rules.{Rules}
+use Rattle.magnetar_batch.specs.Systems.{Lent3}
 use Rattle.magnetar_spartan.specs.Refusals.{ruleTests}
 
 -- a matrix of n rows and m columns
@@ -29,7 +30,7 @@ pub record FineMatrix (n m : ℕ) (a : Lent) : Type 0 where
   pub rows-inside : allBelow (a .rows) (a .row) ≡ true
   pub cols-inside : allBelow (a .cols) (a .col) ≡ true
 
-pub record FineSystem (m q : ℕ) (s : Three) : Type 0 where
+pub record FineSystem (m q : ℕ) (s : Lent3) : Type 0 where
   pub rows : Sized 1 65536 (s .a .rows)
   pub total : q * s .a .rows ≤ 1048576
   pub a : FineMatrix (s .a .rows) m (s .a)

@@ -1,5 +1,5 @@
 // The refusals 1 to 16 of both ends, each as a number: an earlier number stays. The matrices A, B, C of bin are ab, bb, cb, those of
-// fld af, bf, cf; n is a matrix's rows, m its columns.
+// fld af, bf, cf.
 use magnetar_field::sizes;
 use magnetar_layout::layout;
 use magnetar_layout::tests;
@@ -14,9 +14,10 @@ ghost use Rattle.magnetar_layout.specs.Tests.{noted, sizeTests, colsTests, coun
 ghost use Rattle.magnetar_layout.proofs.SizeLaws.{Sized};
 ghost use Rattle.magnetar_field.specs.Sizes.{log₂};
 ghost use Rattle.magnetar_layout.specs.Login.{loginWords};
+ghost use Rattle.magnetar_batch.specs.Systems.{system};
 ghost use Rattle.magnetar_protocol.specs.Shape.{proofElements};
 ghost use Rattle.magnetar_protocol.specs.Schedule.{outline};
-ghost use Rattle.magnetar_spartan.specs.Rules.{rules, three};
+ghost use Rattle.magnetar_spartan.specs.Rules.{rules};
 ghost use Rattle.magnetar_spartan.specs.Refusals.{systemRows, ruleTests, counterTests, verifyTests, proveTests};
 
 // 1: the columns and the logins.
@@ -76,24 +77,24 @@ fn system_counts(
 // 7: the entries of a system lie inside their matrices.
 fn system_places(
     z: u32,
-    an: usize,
-    am: usize,
+    arows: usize,
+    acols: usize,
     arow: &[usize],
     acol: &[usize],
-    bn: usize,
-    bm: usize,
+    brows: usize,
+    bcols: usize,
     brow: &[usize],
     bcol: &[usize],
-    cn: usize,
-    cm: usize,
+    crows: usize,
+    ccols: usize,
     crow: &[usize],
     ccol: &[usize],
 ) -> u32
-    ensures { λ r. ⌜ r ≡ noted z (placeTests an am (now (arow .entry)) (now (acol .entry)) ++ placeTests bn bm (now (brow .entry)) (now (bcol .entry)) ++ placeTests cn cm (now (crow .entry)) (now (ccol .entry))) ⌝ }
+    ensures { λ r. ⌜ r ≡ noted z (placeTests arows acols (now (arow .entry)) (now (acol .entry)) ++ placeTests brows bcols (now (brow .entry)) (now (bcol .entry)) ++ placeTests crows ccols (now (crow .entry)) (now (ccol .entry))) ⌝ }
 {
-    let z = tests::places(z, an, am, arow, acol);
-    let z = tests::places(z, bn, bm, brow, bcol);
-    tests::places(z, cn, cm, crow, ccol)
+    let z = tests::places(z, arows, acols, arow, acol);
+    let z = tests::places(z, brows, bcols, brow, bcol);
+    tests::places(z, crows, ccols, crow, ccol)
 }
 
 // 4 to 10: the rules.
@@ -101,38 +102,38 @@ pub(crate) fn rules(
     m: usize,
     q: usize,
     lens: &[usize],
-    abn: usize,
-    abm: usize,
+    abrows: usize,
+    abcols: usize,
     abrow: &[usize],
     abcol: &[usize],
     ablo: &[u64],
     abhi: &[u64],
-    bbn: usize,
-    bbm: usize,
+    bbrows: usize,
+    bbcols: usize,
     bbrow: &[usize],
     bbcol: &[usize],
     bblo: &[u64],
     bbhi: &[u64],
-    cbn: usize,
-    cbm: usize,
+    cbrows: usize,
+    cbcols: usize,
     cbrow: &[usize],
     cbcol: &[usize],
     cblo: &[u64],
     cbhi: &[u64],
-    afn: usize,
-    afm: usize,
+    afrows: usize,
+    afcols: usize,
     afrow: &[usize],
     afcol: &[usize],
     aflo: &[u64],
     afhi: &[u64],
-    bfn: usize,
-    bfm: usize,
+    bfrows: usize,
+    bfcols: usize,
     bfrow: &[usize],
     bfcol: &[usize],
     bflo: &[u64],
     bfhi: &[u64],
-    cfn: usize,
-    cfm: usize,
+    cfrows: usize,
+    cfcols: usize,
     cfrow: &[usize],
     cfcol: &[usize],
     cflo: &[u64],
@@ -140,17 +141,17 @@ pub(crate) fn rules(
 ) -> u32
     requires { ⌜ (Sized 2 65536 m) × (q ≤ 4096) ⌝ }
     ensures { λ r. ⌜ r ≡ noted 0 (ruleTests (rules m q (now (lens .entry))
-            (three (lent abn abm (now (abrow .entry)) (now (abcol .entry)) (now (ablo .entry)) (now (abhi .entry))) (lent bbn bbm (now (bbrow .entry)) (now (bbcol .entry)) (now (bblo .entry)) (now (bbhi .entry))) (lent cbn cbm (now (cbrow .entry)) (now (cbcol .entry)) (now (cblo .entry)) (now (cbhi .entry))))
-            (three (lent afn afm (now (afrow .entry)) (now (afcol .entry)) (now (aflo .entry)) (now (afhi .entry))) (lent bfn bfm (now (bfrow .entry)) (now (bfcol .entry)) (now (bflo .entry)) (now (bfhi .entry))) (lent cfn cfm (now (cfrow .entry)) (now (cfcol .entry)) (now (cflo .entry)) (now (cfhi .entry)))))) ⌝ }
+            (system (lent abrows abcols (now (abrow .entry)) (now (abcol .entry)) (now (ablo .entry)) (now (abhi .entry))) (lent bbrows bbcols (now (bbrow .entry)) (now (bbcol .entry)) (now (bblo .entry)) (now (bbhi .entry))) (lent cbrows cbcols (now (cbrow .entry)) (now (cbcol .entry)) (now (cblo .entry)) (now (cbhi .entry))))
+            (system (lent afrows afcols (now (afrow .entry)) (now (afcol .entry)) (now (aflo .entry)) (now (afhi .entry))) (lent bfrows bfcols (now (bfrow .entry)) (now (bfcol .entry)) (now (bflo .entry)) (now (bfhi .entry))) (lent cfrows cfcols (now (cfrow .entry)) (now (cfcol .entry)) (now (cflo .entry)) (now (cfhi .entry)))))) ⌝ }
 {
-    let z = system_rows(0, q, abn, bbn, cbn);
-    let z = system_rows(z, q, afn, bfn, cfn);
-    let z = system_cols(z, m, abm, bbm, cbm);
-    let z = system_cols(z, m, afm, bfm, cfm);
+    let z = system_rows(0, q, abrows, bbrows, cbrows);
+    let z = system_rows(z, q, afrows, bfrows, cfrows);
+    let z = system_cols(z, m, abcols, bbcols, cbcols);
+    let z = system_cols(z, m, afcols, bfcols, cfcols);
     let z = system_counts(z, abrow.len(), abcol.len(), ablo.len(), abhi.len(), bbrow.len(), bbcol.len(), bblo.len(), bbhi.len(), cbrow.len(), cbcol.len(), cblo.len(), cbhi.len());
     let z = system_counts(z, afrow.len(), afcol.len(), aflo.len(), afhi.len(), bfrow.len(), bfcol.len(), bflo.len(), bfhi.len(), cfrow.len(), cfcol.len(), cflo.len(), cfhi.len());
-    let z = system_places(z, abn, abm, abrow, abcol, bbn, bbm, bbrow, bbcol, cbn, cbm, cbrow, cbcol);
-    let z = system_places(z, afn, afm, afrow, afcol, bfn, bfm, bfrow, bfcol, cfn, cfm, cfrow, cfcol);
+    let z = system_places(z, abrows, abcols, abrow, abcol, bbrows, bbcols, bbrow, bbcol, cbrows, cbcols, cbrow, cbcol);
+    let z = system_places(z, afrows, afcols, afrow, afcol, bfrows, bfcols, bfrow, bfcol, cfrows, cfcols, cfrow, cfcol);
     if z != 0 {
         return z;
     }
@@ -277,38 +278,38 @@ pub(crate) fn verify(
     m: usize,
     q: usize,
     lens: &[usize],
-    abn: usize,
-    abm: usize,
+    abrows: usize,
+    abcols: usize,
     abrow: &[usize],
     abcol: &[usize],
     ablo: &[u64],
     abhi: &[u64],
-    bbn: usize,
-    bbm: usize,
+    bbrows: usize,
+    bbcols: usize,
     bbrow: &[usize],
     bbcol: &[usize],
     bblo: &[u64],
     bbhi: &[u64],
-    cbn: usize,
-    cbm: usize,
+    cbrows: usize,
+    cbcols: usize,
     cbrow: &[usize],
     cbcol: &[usize],
     cblo: &[u64],
     cbhi: &[u64],
-    afn: usize,
-    afm: usize,
+    afrows: usize,
+    afcols: usize,
     afrow: &[usize],
     afcol: &[usize],
     aflo: &[u64],
     afhi: &[u64],
-    bfn: usize,
-    bfm: usize,
+    bfrows: usize,
+    bfcols: usize,
     bfrow: &[usize],
     bfcol: &[usize],
     bflo: &[u64],
     bfhi: &[u64],
-    cfn: usize,
-    cfm: usize,
+    cfrows: usize,
+    cfcols: usize,
     cfrow: &[usize],
     cfcol: &[usize],
     cflo: &[u64],
@@ -320,8 +321,8 @@ pub(crate) fn verify(
     scratch: usize,
 ) -> u32
     ensures { λ r. ⌜ r ≡ noted 0 (verifyTests (rules m q (now (lens .entry))
-            (three (lent abn abm (now (abrow .entry)) (now (abcol .entry)) (now (ablo .entry)) (now (abhi .entry))) (lent bbn bbm (now (bbrow .entry)) (now (bbcol .entry)) (now (bblo .entry)) (now (bbhi .entry))) (lent cbn cbm (now (cbrow .entry)) (now (cbcol .entry)) (now (cblo .entry)) (now (cbhi .entry))))
-            (three (lent afn afm (now (afrow .entry)) (now (afcol .entry)) (now (aflo .entry)) (now (afhi .entry))) (lent bfn bfm (now (bfrow .entry)) (now (bfcol .entry)) (now (bflo .entry)) (now (bfhi .entry))) (lent cfn cfm (now (cfrow .entry)) (now (cfcol .entry)) (now (cflo .entry)) (now (cfhi .entry)))))
+            (system (lent abrows abcols (now (abrow .entry)) (now (abcol .entry)) (now (ablo .entry)) (now (abhi .entry))) (lent bbrows bbcols (now (bbrow .entry)) (now (bbcol .entry)) (now (bblo .entry)) (now (bbhi .entry))) (lent cbrows cbcols (now (cbrow .entry)) (now (cbcol .entry)) (now (cblo .entry)) (now (cbhi .entry))))
+            (system (lent afrows afcols (now (afrow .entry)) (now (afcol .entry)) (now (aflo .entry)) (now (afhi .entry))) (lent bfrows bfcols (now (bfrow .entry)) (now (bfcol .entry)) (now (bflo .entry)) (now (bfhi .entry))) (lent cfrows cfcols (now (cfrow .entry)) (now (cfcol .entry)) (now (cflo .entry)) (now (cfhi .entry)))))
             (now (x .entry)) (now (proof .entry)) n claims scratch) ⌝ }
 {
     let z = sizes(m, q);
@@ -332,11 +333,11 @@ pub(crate) fn verify(
     if z != 0 {
         return z;
     }
-    let z = rules(m, q, lens, abn, abm, abrow, abcol, ablo, abhi, bbn, bbm, bbrow, bbcol, bblo, bbhi, cbn, cbm, cbrow, cbcol, cblo, cbhi, afn, afm, afrow, afcol, aflo, afhi, bfn, bfm, bfrow, bfcol, bflo, bfhi, cfn, cfm, cfrow, cfcol, cflo, cfhi);
+    let z = rules(m, q, lens, abrows, abcols, abrow, abcol, ablo, abhi, bbrows, bbcols, bbrow, bbcol, bblo, bbhi, cbrows, cbcols, cbrow, cbcol, cblo, cbhi, afrows, afcols, afrow, afcol, aflo, afhi, bfrows, bfcols, bfrow, bfcol, bflo, bfhi, cfrows, cfcols, cfrow, cfcol, cflo, cfhi);
     if z != 0 {
         return z;
     }
-    verify_rooms(m, q, abn, afn, lens.len(), n, claims, scratch, proof.len())
+    verify_rooms(m, q, abrows, afrows, lens.len(), n, claims, scratch, proof.len())
 }
 
 // Every refusal of the prover; words, claims and scratch are numbers of words, n is the transcript's counter.
@@ -344,38 +345,38 @@ pub(crate) fn prove(
     m: usize,
     q: usize,
     lens: &[usize],
-    abn: usize,
-    abm: usize,
+    abrows: usize,
+    abcols: usize,
     abrow: &[usize],
     abcol: &[usize],
     ablo: &[u64],
     abhi: &[u64],
-    bbn: usize,
-    bbm: usize,
+    bbrows: usize,
+    bbcols: usize,
     bbrow: &[usize],
     bbcol: &[usize],
     bblo: &[u64],
     bbhi: &[u64],
-    cbn: usize,
-    cbm: usize,
+    cbrows: usize,
+    cbcols: usize,
     cbrow: &[usize],
     cbcol: &[usize],
     cblo: &[u64],
     cbhi: &[u64],
-    afn: usize,
-    afm: usize,
+    afrows: usize,
+    afcols: usize,
     afrow: &[usize],
     afcol: &[usize],
     aflo: &[u64],
     afhi: &[u64],
-    bfn: usize,
-    bfm: usize,
+    bfrows: usize,
+    bfcols: usize,
     bfrow: &[usize],
     bfcol: &[usize],
     bflo: &[u64],
     bfhi: &[u64],
-    cfn: usize,
-    cfm: usize,
+    cfrows: usize,
+    cfcols: usize,
     cfrow: &[usize],
     cfcol: &[usize],
     cflo: &[u64],
@@ -388,8 +389,8 @@ pub(crate) fn prove(
     scratch: usize,
 ) -> u32
     ensures { λ r. ⌜ r ≡ noted 0 (proveTests (rules m q (now (lens .entry))
-            (three (lent abn abm (now (abrow .entry)) (now (abcol .entry)) (now (ablo .entry)) (now (abhi .entry))) (lent bbn bbm (now (bbrow .entry)) (now (bbcol .entry)) (now (bblo .entry)) (now (bbhi .entry))) (lent cbn cbm (now (cbrow .entry)) (now (cbcol .entry)) (now (cblo .entry)) (now (cbhi .entry))))
-            (three (lent afn afm (now (afrow .entry)) (now (afcol .entry)) (now (aflo .entry)) (now (afhi .entry))) (lent bfn bfm (now (bfrow .entry)) (now (bfcol .entry)) (now (bflo .entry)) (now (bfhi .entry))) (lent cfn cfm (now (cfrow .entry)) (now (cfcol .entry)) (now (cflo .entry)) (now (cfhi .entry)))))
+            (system (lent abrows abcols (now (abrow .entry)) (now (abcol .entry)) (now (ablo .entry)) (now (abhi .entry))) (lent bbrows bbcols (now (bbrow .entry)) (now (bbcol .entry)) (now (bblo .entry)) (now (bbhi .entry))) (lent cbrows cbcols (now (cbrow .entry)) (now (cbcol .entry)) (now (cblo .entry)) (now (cbhi .entry))))
+            (system (lent afrows afcols (now (afrow .entry)) (now (afcol .entry)) (now (aflo .entry)) (now (afhi .entry))) (lent bfrows bfcols (now (bfrow .entry)) (now (bfcol .entry)) (now (bflo .entry)) (now (bfhi .entry))) (lent cfrows cfcols (now (cfrow .entry)) (now (cfcol .entry)) (now (cflo .entry)) (now (cfhi .entry)))))
             (now (packed .entry)) (now (x .entry)) n words claims scratch) ⌝ }
 {
     let z = sizes(m, q);
@@ -401,11 +402,11 @@ pub(crate) fn prove(
     if z != 0 {
         return z;
     }
-    let z = rules(m, q, lens, abn, abm, abrow, abcol, ablo, abhi, bbn, bbm, bbrow, bbcol, bblo, bbhi, cbn, cbm, cbrow, cbcol, cblo, cbhi, afn, afm, afrow, afcol, aflo, afhi, bfn, bfm, bfrow, bfcol, bflo, bfhi, cfn, cfm, cfrow, cfcol, cflo, cfhi);
+    let z = rules(m, q, lens, abrows, abcols, abrow, abcol, ablo, abhi, bbrows, bbcols, bbrow, bbcol, bblo, bbhi, cbrows, cbcols, cbrow, cbcol, cblo, cbhi, afrows, afcols, afrow, afcol, aflo, afhi, bfrows, bfcols, bfrow, bfcol, bflo, bfhi, cfrows, cfcols, cfrow, cfcol, cflo, cfhi);
     if z != 0 {
         return z;
     }
-    prove_rooms(m, q, abn, afn, lens.len(), n, words, claims, scratch)
+    prove_rooms(m, q, abrows, afrows, lens.len(), n, words, claims, scratch)
 }
 
 // How many words a login of w columns has.

@@ -8,8 +8,10 @@ use lib.ListN.{length}
 use denote.Ref.{now}
 use Rattle.magnetar_layout.specs.Lent.{lent}
 use Rattle.magnetar_layout.specs.Tests.{Tests, noted, layoutTests}
-use Rattle.magnetar_spartan.specs.Rules.{Rules, rules, three}
-use Rattle.magnetar_spartan.specs.Refusals.{rowsOf, colsOf, countsOf, placesOf, ruleTests}
+use Rattle.magnetar_spartan.specs.Rules.{Rules, rules}
+use Rattle.magnetar_batch.specs.Systems.{system}
+use Rattle.magnetar_spartan.specs.Refusals.{rowsOf, ruleTests}
+use Rattle.magnetar_batch.specs.Systems.{cols3, counted3, placed3}
 use Rattle.magnetar_spartan.proofs.Chains.{numbers-stay, none-before-all, eight, layout-tests}
 use borrow.Author.Needs.{needs}
 use Rattle.magnetar_spartan.proofs.refusal.rules.Statement.{statement}
@@ -22,21 +24,21 @@ abbrev rel : tie.Start → Rules
 rel s =
     let x = s .args in
     rules (x .m) (x .q) (now (x .lens))
-    (three (lent (x .abn) (x .abm) (now (x .abrow)) (now (x .abcol)) (now (x .ablo)) (now (x .abhi)))
-    (lent (x .bbn) (x .bbm) (now (x .bbrow)) (now (x .bbcol)) (now (x .bblo)) (now (x .bbhi)))
-    (lent (x .cbn) (x .cbm) (now (x .cbrow)) (now (x .cbcol)) (now (x .cblo)) (now (x .cbhi))))
-    (three (lent (x .afn) (x .afm) (now (x .afrow)) (now (x .afcol)) (now (x .aflo)) (now (x .afhi)))
-    (lent (x .bfn) (x .bfm) (now (x .bfrow)) (now (x .bfcol)) (now (x .bflo)) (now (x .bfhi)))
-    (lent (x .cfn) (x .cfm) (now (x .cfrow)) (now (x .cfcol)) (now (x .cflo)) (now (x .cfhi))))
+    (system (lent (x .abrows) (x .abcols) (now (x .abrow)) (now (x .abcol)) (now (x .ablo)) (now (x .abhi)))
+    (lent (x .bbrows) (x .bbcols) (now (x .bbrow)) (now (x .bbcol)) (now (x .bblo)) (now (x .bbhi)))
+    (lent (x .cbrows) (x .cbcols) (now (x .cbrow)) (now (x .cbcol)) (now (x .cblo)) (now (x .cbhi))))
+    (system (lent (x .afrows) (x .afcols) (now (x .afrow)) (now (x .afcol)) (now (x .aflo)) (now (x .afhi)))
+    (lent (x .bfrows) (x .bfcols) (now (x .bfrow)) (now (x .bfcol)) (now (x .bflo)) (now (x .bfhi)))
+    (lent (x .cfrows) (x .cfcols) (now (x .cfrow)) (now (x .cfcol)) (now (x .cflo)) (now (x .cfhi))))
 
 -- what the eight calls have tested
 tested : (c : tie.After-system-places2) → let R = rel (start c) in (k : Tests)
-    → noted 0 (rowsOf (R .q) (R .bin) ++ rowsOf (R .q) (R .fld) ++ colsOf (R .m) (R .bin) ++ colsOf (R .m) (R .fld) ++ countsOf (R .bin)
-    ++ countsOf (R .fld) ++ placesOf (R .bin) ++ placesOf (R .fld) ++ k) ≡ noted (c .system-places2 .result) k
+    → noted 0 (rowsOf (R .q) (R .bin) ++ rowsOf (R .q) (R .fld) ++ cols3 (R .m) (R .bin) ++ cols3 (R .m) (R .fld) ++ counted3 (R .bin)
+    ++ counted3 (R .fld) ++ placed3 (R .bin) ++ placed3 (R .fld) ++ k) ≡ noted (c .system-places2 .result) k
 tested c k =
     let R = rel (start c) in
-    eight (rowsOf (R .q) (R .bin)) (rowsOf (R .q) (R .fld)) (colsOf (R .m) (R .bin)) (colsOf (R .m) (R .fld)) (countsOf (R .bin))
-    (countsOf (R .fld)) (placesOf (R .bin)) (placesOf (R .fld)) k (c .before .before .before .before .before .before .before .system-rows .ensures) (c .before .before .before .before .before .before .system-rows2 .ensures)
+    eight (rowsOf (R .q) (R .bin)) (rowsOf (R .q) (R .fld)) (cols3 (R .m) (R .bin)) (cols3 (R .m) (R .fld)) (counted3 (R .bin))
+    (counted3 (R .fld)) (placed3 (R .bin)) (placed3 (R .fld)) k (c .before .before .before .before .before .before .before .system-rows .ensures) (c .before .before .before .before .before .before .system-rows2 .ensures)
     (c .before .before .before .before .before .system-cols .ensures) (c .before .before .before .before .system-cols2 .ensures) (c .before .before .before .system-counts .ensures) (c .before .before .system-counts2 .ensures)
     (c .before .system-places .ensures) (c .system-places2 .ensures)
 

@@ -13,7 +13,8 @@ use Rattle.magnetar_layout.specs.Lent.{lent}
 use Rattle.magnetar_layout.specs.Tests.{Tests, noted, sizeTests, packedTests, publicTests}
 use Rattle.magnetar_layout.proofs.Noted.{noted-front, noted-late, noted-clear}
 use Rattle.magnetar_layout.proofs.SizeLaws.{Sized, not-bad}
-use Rattle.magnetar_spartan.specs.Rules.{Rules, rules, three}
+use Rattle.magnetar_spartan.specs.Rules.{Rules, rules}
+use Rattle.magnetar_batch.specs.Systems.{system}
 use Rattle.magnetar_spartan.specs.Refusals.{ruleTests, counterTests, roomOf, wordTests, proofWords, claimWords, verifierRoom, proverRoom}
 use Rattle.magnetar_spartan.proofs.Chains.{log-least}
 use Rattle.magnetar_spartan.proofs.Fine.{Fine, fine}
@@ -28,12 +29,12 @@ abbrev rel : tie.Start → Rules
 rel s =
     let x = s .args in
     rules (x .m) (x .q) (now (x .lens))
-    (three (lent (x .abn) (x .abm) (now (x .abrow)) (now (x .abcol)) (now (x .ablo)) (now (x .abhi)))
-    (lent (x .bbn) (x .bbm) (now (x .bbrow)) (now (x .bbcol)) (now (x .bblo)) (now (x .bbhi)))
-    (lent (x .cbn) (x .cbm) (now (x .cbrow)) (now (x .cbcol)) (now (x .cblo)) (now (x .cbhi))))
-    (three (lent (x .afn) (x .afm) (now (x .afrow)) (now (x .afcol)) (now (x .aflo)) (now (x .afhi)))
-    (lent (x .bfn) (x .bfm) (now (x .bfrow)) (now (x .bfcol)) (now (x .bflo)) (now (x .bfhi)))
-    (lent (x .cfn) (x .cfm) (now (x .cfrow)) (now (x .cfcol)) (now (x .cflo)) (now (x .cfhi))))
+    (system (lent (x .abrows) (x .abcols) (now (x .abrow)) (now (x .abcol)) (now (x .ablo)) (now (x .abhi)))
+    (lent (x .bbrows) (x .bbcols) (now (x .bbrow)) (now (x .bbcol)) (now (x .bblo)) (now (x .bbhi)))
+    (lent (x .cbrows) (x .cbcols) (now (x .cbrow)) (now (x .cbcol)) (now (x .cblo)) (now (x .cbhi))))
+    (system (lent (x .afrows) (x .afcols) (now (x .afrow)) (now (x .afcol)) (now (x .aflo)) (now (x .afhi)))
+    (lent (x .bfrows) (x .bfcols) (now (x .bfrow)) (now (x .bfcol)) (now (x .bflo)) (now (x .bfhi)))
+    (lent (x .cfrows) (x .cfcols) (now (x .cfrow)) (now (x .cfcol)) (now (x .cflo)) (now (x .cfhi))))
 
 -- the tests in four groups
 abbrev first : tie.Start → Tests
