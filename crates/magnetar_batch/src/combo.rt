@@ -21,6 +21,7 @@ ghost use Rattle.magnetar_r1cs.specs.Table.{raised};
 ghost use Rattle.magnetar_batch.specs.Systems.{system, systemsTests, pointTests};
 ghost use Rattle.magnetar_r1cs.specs.Tests.{noted};
 ghost use Rattle.magnetar_batch.specs.Columns.{Placed, Fit, column, sixTable};
+ghost use Rattle.magnetar_batch.specs.Entries.{comboRefusal, comboIn};
 
 // Adds at each entry's column its value times the element at index m + row.
 fn add_columns(s: &mut [u64], m: usize, n: usize, row: &[usize], col: &[usize], lo: &[u64], hi: &[u64])
@@ -298,4 +299,135 @@ fn points_refusal(m: usize, nb: usize, nf: usize, alphas: &[u64], pb: &[u64], pf
     let z = tests::note(z, 11, pb.len() != 2 * sizes::log2(nb));
     let z = tests::note(z, 11, pf.len() != 2 * sizes::log2(nf));
     tests::note(z, 15, room < 2 * m + 2 * larger(nb, nf))
+}
+
+// The combined table within one slice, in its first 2m words; the next 2R words, R being the larger row count, are 0 at exit. 1, 4
+// to 7; 11: not twelve words of alphas, or a point that is not of its rows' length; 15: s is shorter.
+pub fn combine_in(
+    s: &mut [u64],
+    m: usize,
+    abrows: usize,
+    abcols: usize,
+    abrow: &[usize],
+    abcol: &[usize],
+    ablo: &[u64],
+    abhi: &[u64],
+    bbrows: usize,
+    bbcols: usize,
+    bbrow: &[usize],
+    bbcol: &[usize],
+    bblo: &[u64],
+    bbhi: &[u64],
+    cbrows: usize,
+    cbcols: usize,
+    cbrow: &[usize],
+    cbcol: &[usize],
+    cblo: &[u64],
+    cbhi: &[u64],
+    afrows: usize,
+    afcols: usize,
+    afrow: &[usize],
+    afcol: &[usize],
+    aflo: &[u64],
+    afhi: &[u64],
+    bfrows: usize,
+    bfcols: usize,
+    bfrow: &[usize],
+    bfcol: &[usize],
+    bflo: &[u64],
+    bfhi: &[u64],
+    cfrows: usize,
+    cfcols: usize,
+    cfrow: &[usize],
+    cfcol: &[usize],
+    cflo: &[u64],
+    cfhi: &[u64],
+    alphas: &[u64],
+    pb: &[u64],
+    pf: &[u64],
+) -> u32
+    ensures answer { λ r. ⌜ r ≡ comboRefusal m (system (lent abrows abcols (now (abrow .entry)) (now (abcol .entry)) (now (ablo .entry)) (now (abhi .entry))) (lent bbrows bbcols (now (bbrow .entry)) (now (bbcol .entry)) (now (bblo .entry)) (now (bbhi .entry))) (lent cbrows cbcols (now (cbrow .entry)) (now (cbcol .entry)) (now (cblo .entry)) (now (cbhi .entry)))) (system (lent afrows afcols (now (afrow .entry)) (now (afcol .entry)) (now (aflo .entry)) (now (afhi .entry))) (lent bfrows bfcols (now (bfrow .entry)) (now (bfcol .entry)) (now (bflo .entry)) (now (bfhi .entry))) (lent cfrows cfcols (now (cfrow .entry)) (now (cfcol .entry)) (now (cflo .entry)) (now (cfhi .entry)))) (now (alphas .entry)) (now (pb .entry)) (now (pf .entry)) (length (now (s .entry))) ⌝ }
+    ensures table { λ _. ⌜ now (s .exit) ≡ comboIn m (system (lent abrows abcols (now (abrow .entry)) (now (abcol .entry)) (now (ablo .entry)) (now (abhi .entry))) (lent bbrows bbcols (now (bbrow .entry)) (now (bbcol .entry)) (now (bblo .entry)) (now (bbhi .entry))) (lent cbrows cbcols (now (cbrow .entry)) (now (cbcol .entry)) (now (cblo .entry)) (now (cbhi .entry)))) (system (lent afrows afcols (now (afrow .entry)) (now (afcol .entry)) (now (aflo .entry)) (now (afhi .entry))) (lent bfrows bfcols (now (bfrow .entry)) (now (bfcol .entry)) (now (bflo .entry)) (now (bfhi .entry))) (lent cfrows cfcols (now (cfrow .entry)) (now (cfcol .entry)) (now (cflo .entry)) (now (cfhi .entry)))) (now (alphas .entry)) (now (pb .entry)) (now (pf .entry)) (now (s .entry)) ⌝ }
+{
+    let n = systems_refusal(
+        m,
+        abrows,
+        abcols,
+        abrow,
+        abcol,
+        ablo,
+        abhi,
+        bbrows,
+        bbcols,
+        bbrow,
+        bbcol,
+        bblo,
+        bbhi,
+        cbrows,
+        cbcols,
+        cbrow,
+        cbcol,
+        cblo,
+        cbhi,
+        afrows,
+        afcols,
+        afrow,
+        afcol,
+        aflo,
+        afhi,
+        bfrows,
+        bfcols,
+        bfrow,
+        bfcol,
+        bflo,
+        bfhi,
+        cfrows,
+        cfcols,
+        cfrow,
+        cfcol,
+        cflo,
+        cfhi,
+    );
+    if n != 0 {
+        return n;
+    }
+    let n = points_refusal(m, abrows, afrows, alphas, pb, pf, s.len());
+    if n != 0 {
+        return n;
+    }
+    let end = 2 * m + 2 * larger(abrows, afrows);
+    combine(
+        &mut s[..end],
+        m,
+        abrows,
+        afrows,
+        abrow,
+        abcol,
+        ablo,
+        abhi,
+        bbrow,
+        bbcol,
+        bblo,
+        bbhi,
+        cbrow,
+        cbcol,
+        cblo,
+        cbhi,
+        afrow,
+        afcol,
+        aflo,
+        afhi,
+        bfrow,
+        bfcol,
+        bflo,
+        bfhi,
+        cfrow,
+        cfcol,
+        cflo,
+        cfhi,
+        alphas,
+        pb,
+        pf,
+    );
+    0
 }
