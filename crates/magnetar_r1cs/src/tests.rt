@@ -79,14 +79,7 @@ pub fn places(z: u32, rows: usize, cols: usize, row: &[usize], col: &[usize]) ->
 }
 
 // 1, 4, 6 and 7 of a matrix alone.
-pub fn lone(
-    rows: usize,
-    cols: usize,
-    row: &[usize],
-    col: &[usize],
-    lo: &[u64],
-    hi: &[u64],
-) -> u32
+pub fn lone(rows: usize, cols: usize, row: &[usize], col: &[usize], lo: &[u64], hi: &[u64]) -> u32
     ensures { λ r. ⌜ r ≡ noted 0 (loneTests (lent rows cols (now (row .entry)) (now (col .entry)) (now (lo .entry)) (now (hi .entry)))) ⌝ }
 {
     let z = note(0, 1, !is_size(2, 65536, cols));

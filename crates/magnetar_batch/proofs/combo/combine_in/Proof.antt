@@ -84,11 +84,14 @@ combine-requires c κs =
     let x = start .args in
     let k = known (c .before .before .before .before) in
     let q = placed (c .before .before) in
-    let l : length (take (2 * x .m + 2 * c .before .larger .result) (now (x .s))) ≡ 2 * x .m + 2 * max (x .abrows) (x .afrows) = length-take-le (2 * x .m + 2 * c .before .larger .result) (now (x .s)) (rw (c .before .larger .ensures) (q .enough)) ∙ rw (c .before .larger .ensures) in
-    ((k .columns .high,
-      fit-of (x .m) (x .abrows) (max (x .abrows) (x .afrows)) (now (x .pb)) _ (k .first .size) (q .first) (le-max-left (x .abrows) (x .afrows)) (le-of-eq (sym l)),
-      fit-of (x .m) (x .afrows) (max (x .abrows) (x .afrows)) (now (x .pf)) _ (k .second .size) (q .second) (le-max-right (x .abrows) (x .afrows)) (le-of-eq (sym l))),
-     (k .first .a, (k .first .b, (k .first .c, (k .second .a, (k .second .b, k .second .c))))))
+    let l : length (take (2 * x .m + 2 * c .before .larger .result) (now (x .s))) ≡ 2 * x .m + 2 * max (x .abrows) (x .afrows) = length-take-le (2 * x .m + 2 * c .before .larger .result) (now (x .s)) (rw (c .before .larger .ensures) (q .enough)) ∙ rw (c .before .larger .ensures) in (
+      (
+        k .columns .high,
+        fit-of (x .m) (x .abrows) (max (x .abrows) (x .afrows)) (now (x .pb)) _ (k .first .size) (q .first) (le-max-left (x .abrows) (x .afrows)) (le-of-eq (sym l)),
+        fit-of (x .m) (x .afrows) (max (x .abrows) (x .afrows)) (now (x .pf)) _ (k .second .size) (q .second) (le-max-right (x .abrows) (x .afrows)) (le-of-eq (sym l)),
+      ),
+      (k .first .a, (k .first .b, (k .first .c, (k .second .a, (k .second .b, k .second .c))))),
+    )
 
 same-length : tie.Need-same-length
 same-length c = search needs
