@@ -4,3 +4,4 @@ pub mod Selected
 pub mod Folds
 pub mod ColumnLaws
 pub mod SystemLaws
+pub mod Combos
