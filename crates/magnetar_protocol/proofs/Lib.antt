@@ -32,3 +32,4 @@ pub mod Stepwise
 pub mod ProverRun
 pub mod RealRuns
 pub mod Splits
+pub mod Absorbed
