@@ -13,7 +13,7 @@ use Rattle.magnetar_field.specs.EqTable.{eqAt}
 use Rattle.magnetar_field.specs.Multilinear.{mle}
 use Rattle.magnetar_hash.specs.declared.transcript.Transcript.{Transcript}
 use Rattle.magnetar_r1cs.specs.Batch.{Relation}
-use Rattle.magnetar_r1cs.specs.Layout.{localVars, suffix}
+use Rattle.magnetar_layout.specs.Layout.{localVars, suffix}
 use Rattle.magnetar_protocol.specs.Shape.{logLogins, proofElements}
 use Rattle.magnetar_protocol.specs.Proof.{binMessages, fldMessages, terminals, innerRounds, valueZ, segmentValues}
 use Rattle.magnetar_protocol.specs.Draws.{Draws, drawCount, drawsOf, lowPoint, topElement}

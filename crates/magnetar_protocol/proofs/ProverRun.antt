@@ -21,7 +21,7 @@ use Rattle.magnetar_sumcheck.specs.Messages.{Outer, outerStart, outerMessages, 
 use Rattle.magnetar_r1cs.specs.Sum.{blocks}
 use Rattle.magnetar_r1cs.specs.Matrix.{Entry, Matrix, System, sumOver, rowTotal, share, timesAt, times}
 use Rattle.magnetar_r1cs.specs.Batch.{Relation, Batch, folded}
-use Rattle.magnetar_r1cs.specs.Layout.{offset}
+use Rattle.magnetar_layout.specs.Layout.{offset}
 use Rattle.magnetar_protocol.specs.Shape.{logLogins, logCols}
 use Rattle.magnetar_protocol.specs.Draws.{Draws, drawCount, drawsOf, loginPoint, lowPoint}
 use Rattle.magnetar_protocol.specs.Checks.{combined}

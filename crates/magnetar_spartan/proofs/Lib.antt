@@ -1,3 +1,4 @@
 pub mod Chains
 pub mod Fine
 pub mod SizedRules
+pub mod Verifying
