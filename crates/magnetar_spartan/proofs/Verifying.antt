@@ -75,8 +75,14 @@ module _ (R : Rules) (x w : List ℕ) (D : Draws) where
       ∙ sym (ap₂ _++_ (shared-outlined (relationOf R) [] w D 0 (logLogins (relationOf R)))
       (ap₂ _++_ (rows-outlined (relationOf R) [] w D) (terminals-outlined (relationOf R) [] w D)))
       ∙ ap₂ _++_ (shared-free (relationOf R) [] x w D 0 (logLogins (relationOf R)))
-      (ap₂ _++_ (unfold rowChecks in refl) (unfold terminalChecks in refl))
+      (ap₂ _++_ rows-free terminals-free)
     where
+      rows-free : rowChecks (relationOf R) [] w D ≡ rowChecks (relationOf R) x w D
+      rows-free = unfold rowChecks in refl
+
+      terminals-free : terminalChecks (relationOf R) [] w D ≡ terminalChecks (relationOf R) x w D
+      terminals-free = unfold terminalChecks in refl
+
       outlines : (f : Relation → List Check) → f (sizesOf R) ≡ f (outlined (relationOf R))
       outlines f = ap f (sym (sizes-are R))
 
