@@ -40,7 +40,7 @@ fn ends_past(w: usize, lens: &[usize]) -> bool
 }
 
 // 1, 8, 9 and 10 of a layout.
-pub(crate) fn refusal(w: usize, lens: &[usize]) -> u32
+pub fn refusal(w: usize, lens: &[usize]) -> u32
     ensures { λ r. ⌜ r ≡ layoutRefusal w (now (lens .entry)) ⌝ }
 {
     let z = tests::note(0, 1, !tests::is_half(w));
