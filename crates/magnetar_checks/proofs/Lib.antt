@@ -1,0 +1,6 @@
+pub mod Pieces
+pub mod Finding
+pub mod RoundLaws
+pub mod Answers
+pub mod EqParts
+pub mod OuterPhases
