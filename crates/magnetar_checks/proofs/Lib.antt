@@ -4,3 +4,5 @@ pub mod RoundLaws
 pub mod Answers
 pub mod EqParts
 pub mod OuterPhases
+pub mod Guards
+pub mod OuterAnswer

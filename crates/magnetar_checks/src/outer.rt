@@ -136,23 +136,23 @@ fn outer_phases(proof: &[u64], draws: &[u64], s: usize, b: usize, f: usize) -> F
     terminals(fld.found, bin.claim, fld.claim, proof, draws, s, b, f)
 }
 
-// The checks 21 to 26 of a run over q logins, of which each has m columns and rows of bin and of fld, with these segment lengths; the
+// The checks 21 to 26 of a run over q logins with m columns, rb rows of bin and rf rows of fld, and these segment lengths: the
 // first that does not pass, in the order of the run.
 // 10: over 64 segments; 11: fewer words of draws than a run draws; 16: not the words of a proof. These stop it before any event.
 pub fn outer_checks(
     m: usize,
     q: usize,
-    rows_bin: usize,
-    rows_fld: usize,
+    rb: usize,
+    rf: usize,
     lens: &[usize],
     proof: &[u64],
     draws: &[u64],
 ) -> Found
-    ensures { λ r. ⌜ r ≡ outerFound m q rows_bin rows_fld (now (lens .entry)) (now (proof .entry)) (now (draws .entry)) ⌝ }
+    ensures { λ r. ⌜ r ≡ outerFound m q rb rf (now (lens .entry)) (now (proof .entry)) (now (draws .entry)) ⌝ }
 {
     let s = sizes::log2(q);
-    let b = sizes::log2(rows_bin);
-    let f = sizes::log2(rows_fld);
+    let b = sizes::log2(rb);
+    let f = sizes::log2(rf);
     let c = sizes::log2(m);
     let z = outer_refusal(s, b, f, c, lens.len(), proof.len(), draws.len());
     if z != 0 {
