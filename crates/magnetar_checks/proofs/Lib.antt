@@ -4,5 +4,7 @@ pub mod RoundLaws
 pub mod Answers
 pub mod EqParts
 pub mod OuterPhases
+pub mod EqNumbers
+pub mod EndValues
 pub mod Guards
 pub mod OuterAnswer
