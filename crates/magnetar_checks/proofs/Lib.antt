@@ -6,5 +6,7 @@ pub mod EqParts
 pub mod OuterPhases
 pub mod EqNumbers
 pub mod EndValues
+pub mod EndPhases
+pub mod EndGuard
 pub mod Guards
 pub mod OuterAnswer

@@ -1,20 +1,23 @@
 -- The checks 27 to 29 as they are made, with the logarithms s, b, f, c of the logins, the rows of bin and fld, and the columns. Only the
 -- contracts of private functions speak of this.
 -- Assumes nothing.
+use mathlib.Core.Path.{_≡_}
 use mathlib.Core.Bool.{Bool, not}
 use mathlib.Core.List.{List, [], _∷_, _++_}
-use Prim.Native.Nat.{ℕ, suc, _+_, _-_, _*_, _/_}
+use Prim.Native.Nat.{ℕ, suc, _+_, _-_, _*_, _/_, _≤_, _<_}
 use lib.Dec.{eqb, ltb}
 use lib.ListN.{length, getD, drop}
 use Rattle.magnetar_field.specs.Gf128.{_⊕_, _⊗_}
+use Rattle.magnetar_field.specs.Sizes.{log₂}
 use Rattle.magnetar_field.specs.EqTable.{eqAt}
 use Rattle.magnetar_field.specs.Multilinear.{dot, mle}
 use Rattle.magnetar_sumcheck.specs.Round.{running}
 use Rattle.magnetar_sumcheck.specs.Inner.{innerEnd}
-use Rattle.magnetar_r1cs.specs.Layout.{localVars, suffix}
+use Rattle.magnetar_r1cs.specs.Layout.{localVars, suffix, Sound}
 use Rattle.magnetar_r1cs.specs.Tests as tests
 use Rattle.magnetar_protocol.specs.Proof.{part}
 use Rattle.magnetar_protocol.specs.Checks.{Check}
+use Rattle.magnetar_protocol.specs.RunSizes.{Power}
 use Rattle.magnetar_checks.specs.Steps.{check, messages, roundChecks, drawsFor, proofFor}
 
 -- the values vs of the segments from segment i on, each times eq(high part of the low point, number of the segment's place)
@@ -65,6 +68,19 @@ module _ (s b f c : ℕ) (ns x w d table : List ℕ) where
       (segmentsAt ns lowDraws 0 (part (terminalsAt + 6 + 3 * c + 1) (length ns) w)) (mle (1 ∷ x) lowDraws) vz)
       (eventsBefore + 2 * c + 1)
       ∷ [])
+
+-- what the guard leaves
+pub record EndFits (m s b f c : ℕ) (ns : List ℕ) (x proof draws : ℕ) : Type 0 where
+  pub columns : Power 2 65536 m
+  pub logins : s < 64
+  pub bin : b < 64
+  pub fld : f < 64
+  pub cols : c ≡ log₂ m
+  pub layout : Sound (m / 2) ns
+  pub few : length ns ≤ 64
+  pub public : x ≡ m - 2
+  pub drawn : 2 * drawsFor s b f c ≤ draws
+  pub exact : proof ≡ 2 * proofFor s b f c (length ns)
 
 -- the guard, by the numbers of words
 unfoldable pub endRefusalOf : (m s b f c : ℕ) → List ℕ → (x proof draws room : ℕ) → ℕ
