@@ -15,7 +15,7 @@ use Rattle.magnetar_sumcheck.specs.Round.{holds, running}
 use Rattle.magnetar_protocol.specs.Checks.{Check, roundHolds}
 use Rattle.magnetar_protocol.specs.Proof.{part}
 use Rattle.magnetar_checks.specs.declared.found.Found.{Found}
-use Rattle.magnetar_checks.specs.Steps.{check, noted, after, messages, roundChecks, sharedBin, sharedFld, bothChecks}
+use Rattle.magnetar_checks.specs.Steps.{check, nothing, noted, after, messages, roundChecks, sharedBin, sharedFld, bothChecks}
 use Rattle.magnetar_checks.proofs.Finding.{after-none, after-cons}
 
 -- the claim after a round is the message's value at the challenge
@@ -87,11 +87,11 @@ pub record Sharing (events s : ℕ) (ms ns : List (List ℕ)) (rs : List ℕ) (s
   pub now-fld : fld ≡ running 0 (take i ns) (take i rs)
   pub now-both : after start (bothChecks events ms ns rs 0 s) ≡ after found (bothChecks events ms ns rs i (s - i))
 
-pub sharing-start : (events s : ℕ) (ms ns : List (List ℕ)) (rs : List ℕ) (f : Found) → Sharing events s ms ns rs f f 0 0 0
-sharing-start events s ms ns rs f = record {
+pub sharing-start : (events s : ℕ) (ms ns : List (List ℕ)) (rs : List ℕ) (f : Found) → f ≡ nothing → Sharing events s ms ns rs nothing f 0 0 0
+sharing-start events s ms ns rs f h = record {
   now-bin = sym (running-none 0 ms rs);
   now-fld = sym (running-none 0 ns rs);
-  now-both = let e : s - 0 ≡ s = omega arith in rw e;
+  now-both = let e : s - 0 ≡ s = omega arith in rw (e, h);
 }
 
 module _ (events s : ℕ) (ms ns : List (List ℕ)) (rs : List ℕ) (lm : length ms ≡ s) (ln : length ns ≡ s) (lr : length rs ≡ s) where

@@ -13,7 +13,7 @@ returns-2 : tie.Need-returns-2
 returns-2 c = let x = c .before .before .before .args in sym (noted-pass (x .f) (x .code) (x .events) (x .passes) (c .before .if1 .left) (c .if2 .taken))
 
 returns-3 : tie.Need-returns-3
-returns-3 c = let x = c .before .before .before .args in sym (noted-fail (x .f) (x .code) (x .events) (x .passes) (c .before .if1 .left) (c .if2 .left))
+returns-3 c = let x = c .before .before .before .args in rw (noted-fail (x .f) (x .code) (x .events) (x .passes) (c .before .if1 .left) (c .if2 .left))
 
 pub note-spec : {M : Type 1} → statement M
 note-spec = tie.close (tie.spec returns returns-2 returns-3)

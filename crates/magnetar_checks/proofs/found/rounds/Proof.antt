@@ -2,7 +2,7 @@
 -- Assumes nothing.
 use denote.Ref.{now}
 use mathlib.Core.Path.{sym, _∙_}
-use Prim.Native.Nat.{_-_, _+_, _*_, _≤_}
+use Prim.Native.Nat.{_-_, _+_, _*_, _≤_, _<_}
 use native.Mathlib.Omega.{arith}
 use Rattle.magnetar_field.specs.Gf128.{value}
 use Rattle.magnetar_field.specs.Words.{elements}
@@ -25,7 +25,10 @@ abbrev μ-loop : tie.MeasureT-loop
 
 within : (c : tie.In-loop Inv-loop μ-loop)
     → let x = c .before .before .before .before .args in x .i + x .width * c .before .loop .j + x .width ≤ x .i + x .width * x .n
-within c = let x = c .before .before .before .before .args in message-within (x .i) (x .width) (x .n) (c .before .loop .j) (c .loop-test .taken)
+within c =
+    let x = c .before .before .before .before .args in
+    let h : c .before .loop .j < x .n = omega arith in
+    message-within (x .i) (x .width) (x .n) (c .before .loop .j) h
 
 loop-holds : tie.Need-loop-holds Inv-loop μ-loop
 loop-holds c = going-start _ _ _ _ _
@@ -63,16 +66,16 @@ loop-less c = search needs
 loop-again : tie.Need-loop-again Inv-loop μ-loop
 loop-again c =
     let l = c .before .before .before .before .loop in
-    let t = c .before .before .before .loop-test in
     let x = c .before .before .before .before .before .before .before .args in
+    let h : l .j < x .n = omega arith in
     let p = elements (now (x .proof)) in
     let d = elements (now (x .draws)) in
     going-more (x .code) (x .events) (value (x .claim)) (messages (x .i) (x .width) (x .n) p) (part (x .k) (x .n) d) (x .n)
     (messages-length (x .i) (x .width) (x .n) p) (part-length (x .k) (x .n) (now (x .draws)) (search needs))
     (x .f) (l .run .found) (c .round .result .found) (value (l .run .claim)) (value (c .round .result .claim)) (l .j)
-    (elements (now (c .before .before .piece .result))) (value (c .before .get .result)) (l .inv) (t .taken)
-    (c .before .before .piece .ensures .0 ∙ sym (messages-get (x .i) (x .width) (x .n) p (l .j) (t .taken)))
-    (c .before .get .ensures ∙ sym (part-get (x .k) (x .n) (l .j) d (t .taken))) (c .round .ensures .0) (c .round .ensures .1)
+    (elements (now (c .before .before .piece .result))) (value (c .before .get .result)) (l .inv) h
+    (c .before .before .piece .ensures .0 ∙ sym (messages-get (x .i) (x .width) (x .n) p (l .j) h))
+    (c .before .get .ensures ∙ sym (part-get (x .k) (x .n) (l .j) d h)) (c .round .ensures .0) (c .round .ensures .1)
 
 returns : tie.Need-returns Inv-loop μ-loop
 returns c =

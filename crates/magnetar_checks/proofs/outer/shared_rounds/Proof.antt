@@ -1,7 +1,7 @@
 -- `magnetar_checks::outer::shared_rounds` meets its contract.
 -- Assumes nothing.
 use denote.Ref.{now}
-use mathlib.Core.Path.{sym}
+use mathlib.Core.Path.{refl, sym}
 use Prim.Native.Nat.{_+_, _-_, _*_}
 use native.Mathlib.Omega.{arith}
 use lib.ListN.{getD}
@@ -24,7 +24,7 @@ abbrev μ-loop : tie.MeasureT-loop
 μ-loop proof draws k s both₀ j₀ both j = s - j
 
 loop-holds : tie.Need-loop-holds Inv-loop μ-loop
-loop-holds c = sharing-start _ _ _ _ _ _
+loop-holds c = sharing-start _ _ _ _ _ _ (refl)
 
 shared-round-requires : tie.Need-shared-round-requires Inv-loop μ-loop
 shared-round-requires c κs = search needs
