@@ -18,7 +18,7 @@ use Rattle.magnetar_batch.specs.Systems.{systemOf}
 use Rattle.magnetar_protocol.specs.Shape.{logLogins}
 use Rattle.magnetar_protocol.specs.Draws.{Draws, drawsOf, drawCount}
 use Rattle.magnetar_protocol.specs.Schedule.{Event, schedule, outline}
-use Rattle.magnetar_protocol.specs.Play.{heard}
+use Rattle.magnetar_protocol.specs.Play.{Played, heard}
 use Rattle.magnetar_protocol.specs.Checks.{Check, firstRefusal, firstStop, sharedChecks, rowChecks, terminalChecks, combined}
 use Rattle.magnetar_protocol.specs.Run.{verdict}
 use Rattle.magnetar_protocol.specs.RealRun.{verifierDraws, verifierTranscript, stop}
@@ -91,3 +91,59 @@ module _ (R : Rules) (x w : List ℕ) (D : Draws) where
 stop-any : (cs : List Check) (n k : ℕ) → Numbered cs → (firstRefusal cs ≡ 0 → ⊥) → firstStop cs n ≡ firstStop cs k
 stop-any cs n k m h =
     ap (λ (l : List Check). firstStop l n) (sym (append-nil cs)) ∙ stop-append cs [] n k m ∙ rw (ne-eqb (firstRefusal cs) 0 h)
+
+module _ (R : Rules) (x w : List ℕ) (t : Transcript) where
+  abbrev rel : Relation
+  rel = relationOf R
+
+  abbrev drawn : List ℕ
+  drawn = verifierDraws rel (elements w) t
+
+  abbrev pub outerOf : List Check
+  outerOf = outerChecks rel (elements x) (elements w) (drawsOf rel drawn)
+
+  abbrev pub laterOf : List Check
+  laterOf = laterChecks rel (elements x) (elements w) (drawsOf rel drawn)
+
+  -- the transcript after n events
+  abbrev pub after : ℕ → Transcript
+  after n = heard (elements w) (take n (schedule (sizesOf R))) t .transcript
+
+  -- what the run answers
+  abbrev pub Answers : ℕ → Transcript → Type 0
+  Answers c u = (c ≡ verifyVerdict R x w t) × (u ≡ verifierTranscript rel (elements x) (elements w) t)
+
+  stopped : (n : ℕ) → n ≡ stop rel (elements x) (elements w) drawn → after n ≡ verifierTranscript rel (elements x) (elements w) t
+  unfolding verifierTranscript
+  stopped n e = ap₂ (λ (es : List Event) (k : ℕ). heard (elements w) (take k es) t .transcript) (sym (schedule-is R)) e
+
+  -- some outer check does not pass
+  pub answer-outer : (c n : ℕ) → c ≡ firstRefusal outerOf → n ≡ firstStop outerOf 0 → (c ≡ 0 → ⊥) → Answers c (after n)
+  unfolding verifyVerdict
+  answer-outer c n e f h =
+      let a : c ≡ verdict rel (elements x) (elements w) drawn =
+          sym (verdict-blocks rel (elements x) (elements w) drawn ∙ rw (← e, ne-eqb c 0 h)) in
+      let b : n ≡ stop rel (elements x) (elements w) drawn =
+          f ∙ sym (run-stop-blocks rel (elements x) (elements w) drawn 0 ∙ rw (← e, ne-eqb c 0 h)) in
+      (a, stopped n b)
+
+  -- the outer checks pass, and some later one does not
+  pub answer-later : (c n : ℕ) → firstRefusal outerOf ≡ 0 → c ≡ firstRefusal laterOf → n ≡ firstStop laterOf 0 → (c ≡ 0 → ⊥)
+      → Answers c (after n)
+  unfolding verifyVerdict
+  answer-later c n z e f h =
+      let a : c ≡ verdict rel (elements x) (elements w) drawn =
+          sym (verdict-blocks rel (elements x) (elements w) drawn ∙ rw (z, ← e)) in
+      let g = stop-any laterOf (length (schedule rel)) 0 (later-numbered rel (elements x) (elements w) (drawsOf rel drawn)) (λ k. h (e ∙ k)) in
+      let b : n ≡ stop rel (elements x) (elements w) drawn =
+          f ∙ sym (run-stop-blocks rel (elements x) (elements w) drawn 0 ∙ rw z g) in
+      (a, stopped n b)
+
+  -- every check passes
+  pub answer-none : (k : ℕ) → firstRefusal outerOf ≡ 0 → firstRefusal laterOf ≡ 0 → length (schedule (sizesOf R)) ≤ k → Answers 0 (after k)
+  unfolding verifyVerdict verifierTranscript
+  answer-none k z e h =
+      let a : verdict rel (elements x) (elements w) drawn ≡ 0 = verdict-blocks rel (elements x) (elements w) drawn ∙ rw (z, e) in
+      let b = stop-accepted rel (elements x) (elements w) drawn a in
+      let g : after k ≡ heard (elements w) (schedule rel) t .transcript = ap (λ (p : Played). p .transcript) (heard-all R (elements w) t k h) in
+      (sym a, g ∙ sym (rw b (ap (λ (es : List Event). heard (elements w) es t .transcript) (take-all (length (schedule rel)) (schedule rel) (omega arith)))))

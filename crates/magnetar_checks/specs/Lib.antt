@@ -1,0 +1,5 @@
+pub mod Found
+pub mod Steps
+pub mod Outer
+pub mod EndSteps
+pub mod End
