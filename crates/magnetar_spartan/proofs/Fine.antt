@@ -18,31 +18,7 @@ use Rattle.magnetar_layout.proofs.SizeLaws.{Sized, not-bad}
 use Rattle.magnetar_spartan.specs.Rules.{Rules}
 use Rattle.magnetar_batch.specs.Systems.{Lent3}
 use Rattle.magnetar_spartan.specs.Refusals.{ruleTests}
-
--- a matrix of n rows and m columns
-pub record FineMatrix (n m : ℕ) (a : Lent) : Type 0 where
-  pub rows : a .rows ≡ n
-  pub cols : a .cols ≡ m
-  pub few : length (a .row) ≤ 1048576
-  pub col : length (a .col) ≡ length (a .row)
-  pub lo : length (a .lo) ≡ length (a .row)
-  pub hi : length (a .hi) ≡ length (a .row)
-  pub rows-inside : allBelow (a .rows) (a .row) ≡ true
-  pub cols-inside : allBelow (a .cols) (a .col) ≡ true
-
-pub record FineSystem (m q : ℕ) (s : Lent3) : Type 0 where
-  pub rows : Sized 1 65536 (s .a .rows)
-  pub total : q * s .a .rows ≤ 1048576
-  pub a : FineMatrix (s .a .rows) m (s .a)
-  pub b : FineMatrix (s .a .rows) m (s .b)
-  pub c : FineMatrix (s .a .rows) m (s .c)
-
-pub record Fine (R : Rules) : Type 0 where
-  pub bin : FineSystem (R .m) (R .q) (R .bin)
-  pub fld : FineSystem (R .m) (R .q) (R .fld)
-  pub lengths : every (isLength (R .m / 2)) (R .lengths) ≡ true
-  pub ends : layoutEnd (R .lengths) ≤ R .m / 2
-  pub segments : length (R .lengths) ≤ 64
+use Rattle.magnetar_spartan.specs.Ready.{FineMatrix, FineSystem, Fine}
 
 same : (a b : ℕ) → not (eqb a b) ≡ Bool.false → a ≡ b
 same a b e = eqb-true a b (not-false (eqb a b) e)

@@ -2,3 +2,4 @@ pub mod Chains
 pub mod Fine
 pub mod SizedRules
 pub mod Verifying
+pub mod Combining

@@ -21,7 +21,7 @@ use Rattle.magnetar_r1cs.proofs.Walked.{entries-end}
 use Rattle.magnetar_protocol.specs.RunSizes.{Power, SizedMatrix, SizedSystem, SizedRelation}
 use Rattle.magnetar_spartan.specs.Rules.{Rules, relationOf}
 use Rattle.magnetar_batch.specs.Systems.{Lent3, systemOf}
-use Rattle.magnetar_spartan.proofs.Fine.{FineMatrix, FineSystem, Fine}
+use Rattle.magnetar_spartan.specs.Ready.{FineMatrix, FineSystem, Fine}
 
 -- as many entries as the slices have, at most
 entries-few : (r c l h : List ℕ) → length (entriesOf r c l h) ≤ length r

@@ -15,16 +15,23 @@ use Rattle.magnetar_hash.specs.declared.transcript.Transcript.{Transcript}
 use Rattle.magnetar_r1cs.specs.Batch.{Relation}
 use Rattle.magnetar_r1cs.specs.Lent.{matrixOf}
 use Rattle.magnetar_batch.specs.Systems.{systemOf}
-use Rattle.magnetar_protocol.specs.Shape.{logLogins}
+use Rattle.magnetar_field.specs.Tabulate.{tabulate}
+use Rattle.magnetar_field.specs.Multilinear.{mle}
+use Rattle.magnetar_sumcheck.specs.Round.{running}
+use Rattle.magnetar_sumcheck.specs.Inner.{innerEnd}
+use Rattle.magnetar_protocol.specs.Shape.{logLogins, logCols}
+use Rattle.magnetar_protocol.specs.Proof.{innerRounds, valueZ, terminals}
 use Rattle.magnetar_protocol.specs.Draws.{Draws, drawsOf, drawCount}
-use Rattle.magnetar_protocol.specs.Schedule.{Event, schedule, outline}
+use Rattle.magnetar_protocol.specs.Schedule.{Event, schedule, outline, afterAlphas, afterInner}
 use Rattle.magnetar_protocol.specs.Play.{Played, heard}
-use Rattle.magnetar_protocol.specs.Checks.{Check, firstRefusal, firstStop, sharedChecks, rowChecks, terminalChecks, combined}
+use Rattle.magnetar_protocol.specs.Checks.{Check, roundHolds, firstRefusal, firstStop, sharedChecks, rowChecks, terminalChecks, innerClaim, innerChecks, identityCheck, combined}
 use Rattle.magnetar_protocol.specs.Run.{verdict}
 use Rattle.magnetar_protocol.specs.RealRun.{verifierDraws, verifierTranscript, stop}
 use Rattle.magnetar_protocol.proofs.Phases.{Numbered, orElse}
 use Rattle.magnetar_protocol.proofs.Counts.{heard-count}
-use Rattle.magnetar_protocol.proofs.Blocks.{outerChecks, laterChecks, outer-numbered, later-numbered, verdict-blocks, run-stop-blocks, stop-append, stop-accepted, outlined, schedule-outlined, draws-outlined, shared-outlined, rows-outlined, terminals-outlined}
+use Rattle.magnetar_protocol.proofs.Blocks.{outerChecks, laterChecks, outer-numbered, later-numbered, verdict-blocks, run-stop-blocks, stop-append, stop-accepted, outlined, schedule-outlined, draws-outlined, shared-outlined, rows-outlined, terminals-outlined, identity-outlined}
+use Rattle.magnetar_checks.specs.End.{endChecks}
+use Rattle.magnetar_checks.proofs.EndPhases.{end-combined}
 use Rattle.magnetar_spartan.specs.Rules.{Rules, relationOf}
 use Rattle.magnetar_spartan.specs.Outcome.{verifyVerdict}
 
@@ -141,9 +148,23 @@ module _ (R : Rules) (x w : List ℕ) (t : Transcript) where
 
   -- every check passes
   pub answer-none : (k : ℕ) → firstRefusal outerOf ≡ 0 → firstRefusal laterOf ≡ 0 → length (schedule (sizesOf R)) ≤ k → Answers 0 (after k)
-  unfolding verifyVerdict verifierTranscript
+  unfolding verifyVerdict
   answer-none k z e h =
       let a : verdict rel (elements x) (elements w) drawn ≡ 0 = verdict-blocks rel (elements x) (elements w) drawn ∙ rw (z, e) in
-      let b = stop-accepted rel (elements x) (elements w) drawn a in
-      let g : after k ≡ heard (elements w) (schedule rel) t .transcript = ap (λ (p : Played). p .transcript) (heard-all R (elements w) t k h) in
-      (sym a, g ∙ sym (rw b (ap (λ (es : List Event). heard (elements w) es t .transcript) (take-all (length (schedule rel)) (schedule rel) (omega arith)))))
+      let l : length (schedule (sizesOf R)) ≤ length (schedule rel) = rw (schedule-is R) (omega arith) in
+      (sym a, whole k h ∙ sym (whole (length (schedule rel)) l)
+      ∙ stopped (length (schedule rel)) (sym (stop-accepted rel (elements x) (elements w) drawn a)))
+    where
+      whole : (k : ℕ) → length (schedule (sizesOf R)) ≤ k → after k ≡ heard (elements w) (schedule rel) t .transcript
+      whole k h = ap (λ (p : Played). p .transcript) (heard-all R (elements w) t k h)
+
+-- ---- the later checks, over a table that is the combined one
+end-outlined : (r : Relation) (x w : List ℕ) (D : Draws) (T : List ℕ) → endChecks r x w D T ≡ endChecks (outlined r) x w D T
+unfolding endChecks innerClaim innerRounds valueZ terminals
+end-outlined r x w D T = rw (identity-outlined r x w D)
+
+pub later-is : (R : Rules) (x w : List ℕ) (D : Draws) (T : List ℕ) → T ≡ combined (relationOf R) D
+    → endChecks (sizesOf R) x w D T ≡ laterChecks (relationOf R) x w D
+later-is R x w D T e =
+    ap (λ (r : Relation). endChecks r x w D T) (sym (sizes-are R)) ∙ sym (end-outlined (relationOf R) x w D T)
+    ∙ ap (endChecks (relationOf R) x w D) e ∙ end-combined (relationOf R) x w D

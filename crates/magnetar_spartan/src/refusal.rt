@@ -168,7 +168,7 @@ fn larger(a: usize, b: usize) -> usize
 }
 
 // The logarithm to the base 2.
-fn log(n: usize) -> usize
+pub(crate) fn log(n: usize) -> usize
     ensures { λ r. ⌜ r ≡ log₂ n ⌝ }
     ensures { λ r. ⌜ r ≤ 63 ⌝ }
 {

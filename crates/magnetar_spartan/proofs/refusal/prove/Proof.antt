@@ -17,7 +17,8 @@ use Rattle.magnetar_spartan.specs.Rules.{Rules, rules}
 use Rattle.magnetar_batch.specs.Systems.{system}
 use Rattle.magnetar_spartan.specs.Refusals.{ruleTests, counterTests, roomOf, wordTests, proofWords, claimWords, verifierRoom, proverRoom}
 use Rattle.magnetar_spartan.proofs.Chains.{log-least}
-use Rattle.magnetar_spartan.proofs.Fine.{Fine, fine}
+use Rattle.magnetar_spartan.specs.Ready.{Fine}
+use Rattle.magnetar_spartan.proofs.Fine.{fine}
 use Rattle.magnetar_spartan.proofs.Chains.{product-most}
 use borrow.Author.Needs.{needs}
 use Rattle.magnetar_spartan.proofs.refusal.prove.Statement.{statement}
