@@ -8,5 +8,6 @@ pub mod EqNumbers
 pub mod EndValues
 pub mod EndPhases
 pub mod EndGuard
+pub mod ClaimLaws
 pub mod Guards
 pub mod OuterAnswer

@@ -52,8 +52,8 @@ module _ (code events c : ℕ) (ms : List (List ℕ)) (rs : List ℕ) (n : ℕ) 
 
   pub going-more : (start f f′ : Found) (claim claim′ i : ℕ) (m : List ℕ) (r : ℕ) → Going c ms rs (roundChecks code events c ms rs n) start f claim i
       → i < n → m ≡ getD ms i [] → r ≡ getD rs i 0 → f′ ≡ noted f (check code (holds m claim) (events + 2 * i)) → claim′ ≡ eval m r
-      → Going c ms rs (roundChecks code events c ms rs n) start f′ claim′ (i + 1)
-  going-more start f f′ claim claim′ i m r g h em er ef ec = rw (add-one i) (record {
+      → (i′ : ℕ) → i′ ≡ i + 1 → Going c ms rs (roundChecks code events c ms rs n) start f′ claim′ i′
+  going-more start f f′ claim claim′ i m r g h em er ef ec i′ next = rw (next, add-one i) (record {
     now-claim = ec ∙ ap₂ eval em er ∙ sym (running-at i c ms rs (rw lm h) (rw lr h));
     now-found =
         g .now-found ∙ ap (after f) (next-check i h)

@@ -75,7 +75,7 @@ loop-again c =
     (x .f) (l .run .found) (c .round .result .found) (value (l .run .claim)) (value (c .round .result .claim)) (l .j)
     (elements (now (c .before .before .piece .result))) (value (c .before .get .result)) (l .inv) h
     (c .before .before .piece .ensures .0 ∙ sym (messages-get (x .i) (x .width) (x .n) p (l .j) h))
-    (c .before .get .ensures ∙ sym (part-get (x .k) (x .n) (l .j) d h)) (c .round .ensures .0) (c .round .ensures .1)
+    (c .before .get .ensures ∙ sym (part-get (x .k) (x .n) (l .j) d h)) (c .round .ensures .0) (c .round .ensures .1) _ (omega arith)
 
 returns : tie.Need-returns Inv-loop μ-loop
 returns c =
