@@ -17,8 +17,8 @@ use Rattle.magnetar_field.proofs.Tabulation.{tabulate-of}
 use Rattle.magnetar_sumcheck.specs.Order.{point, placeOf}
 use Rattle.magnetar_sumcheck.proofs.EqFactor.{point-at, length-point}
 use Rattle.magnetar_r1cs.specs.Batch.{Relation}
-use Rattle.magnetar_r1cs.specs.Tests.{note, noted}
-use Rattle.magnetar_r1cs.proofs.Noted.{noted-clear}
+use Rattle.magnetar_layout.specs.Tests.{note, noted}
+use Rattle.magnetar_layout.proofs.Noted.{noted-clear}
 use Rattle.magnetar_protocol.specs.Shape.{logLogins, logBin, logFld, logCols, beforeEnd, proofElements}
 use Rattle.magnetar_protocol.specs.Proof.{part, segmentValues}
 use Rattle.magnetar_protocol.specs.Draws.{Draws, drawCount, drawsOf, loginPoint, lowPoint}

@@ -12,13 +12,13 @@ use borrow.Author.Tests.{ne-eqb, eq-eqb, eqb-true, ltb-false, not-false}
 use Rattle.magnetar_field.specs.Sizes.{log₂}
 use Rattle.magnetar_field.specs.Words.{elements}
 use Rattle.magnetar_field.proofs.Elements.{elements-length}
-use Rattle.magnetar_r1cs.specs.Layout.{Sound, isLength, layoutEnd}
-use Rattle.magnetar_r1cs.specs.Every.{every}
-use Rattle.magnetar_r1cs.specs.Tests.{Tests, note, noted, isSize, columnTests, layoutTests}
-use Rattle.magnetar_r1cs.specs.Entries.{layoutRefusal}
-use Rattle.magnetar_r1cs.proofs.Noted.{noted-clear, noted-front, noted-late}
-use Rattle.magnetar_r1cs.proofs.SizeLaws.{Sized, sized}
-use Rattle.magnetar_r1cs.proofs.Laid.{sound}
+use Rattle.magnetar_layout.specs.Layout.{Sound, isLength, layoutEnd}
+use Rattle.magnetar_layout.specs.Every.{every}
+use Rattle.magnetar_layout.specs.Tests.{Tests, note, noted, isSize, columnTests, layoutTests}
+use Rattle.magnetar_layout.specs.Entries.{layoutRefusal}
+use Rattle.magnetar_layout.proofs.Noted.{noted-clear, noted-front, noted-late}
+use Rattle.magnetar_layout.proofs.SizeLaws.{Sized, sized}
+use Rattle.magnetar_layout.proofs.Laid.{sound}
 use Rattle.magnetar_protocol.specs.RunSizes.{Power}
 use Rattle.magnetar_protocol.specs.Schedule.{outline}
 use Rattle.magnetar_checks.specs.declared.found.Found.{Found}

@@ -18,7 +18,7 @@ use Rattle.magnetar_field.proofs.Log2.{log₂-pow}
 use Rattle.magnetar_sumcheck.specs.Round.{running}
 use Rattle.magnetar_sumcheck.specs.Inner.{innerEnd}
 use Rattle.magnetar_r1cs.specs.Batch.{Relation}
-use Rattle.magnetar_r1cs.specs.Layout.{localVars, suffix}
+use Rattle.magnetar_layout.specs.Layout.{localVars, suffix}
 use Rattle.magnetar_r1cs.proofs.Points.{log-most}
 use Rattle.magnetar_protocol.specs.Shape.{logLogins, logBin, logFld, logCols, beforeEnd, proofElements}
 use Rattle.magnetar_protocol.specs.Proof.{part, terminals, innerRounds, valueZ, segmentValues}

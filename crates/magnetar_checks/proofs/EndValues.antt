@@ -18,7 +18,7 @@ use Rattle.magnetar_field.proofs.Elements.{elements-length, words-length, eleme
 use Rattle.magnetar_field.proofs.EqTables.{eqTable-length, eqTable-get, eqAt-lt}
 use Rattle.magnetar_field.proofs.Product.{one-⊗}
 use Rattle.magnetar_r1cs.specs.Table.{Point}
-use Rattle.magnetar_r1cs.proofs.SizeLaws.{Sized}
+use Rattle.magnetar_layout.proofs.SizeLaws.{Sized}
 use Rattle.magnetar_r1cs.proofs.Points.{log-most, point-of, eq-built}
 use Rattle.magnetar_r1cs.proofs.TableLaws.{elements-words}
 use Rattle.magnetar_protocol.specs.RunSizes.{Power}

@@ -18,8 +18,8 @@ use Rattle.magnetar_field.proofs.Elements.{elements-drop}
 use Rattle.magnetar_field.proofs.Xor.{⊕-assoc, ⊕-zero, zero-⊕}
 use Rattle.magnetar_field.proofs.Product.{⊗-lt, ⊗-one, one-⊗, ⊗-assoc}
 use Rattle.magnetar_field.proofs.EqTables.{eqAt-lt, eqAt-cons}
-use Rattle.magnetar_r1cs.specs.Layout.{Sound, nextMultiple, localVars, suffix, offsets}
-use Rattle.magnetar_r1cs.proofs.Laid.{Laid, laid-start, laid-more, laid-offset, laid-within, offset-within, Size, each-size}
+use Rattle.magnetar_layout.specs.Layout.{Sound, nextMultiple, localVars, suffix, offsets}
+use Rattle.magnetar_layout.proofs.Laid.{Laid, laid-start, laid-more, laid-offset, laid-within, offset-within, Size, each-size}
 use Rattle.magnetar_checks.specs.EndSteps.{segmentsAt}
 
 -- ---- the factors of the first j elements are in acc, and the number halved j times is left

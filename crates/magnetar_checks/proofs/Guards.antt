@@ -9,8 +9,8 @@ use lib.ListN.{length}
 use borrow.Author.Tests.{ltb-false, lt-ltb, le-ltb, eqb-true, not-false}
 use Rattle.magnetar_field.specs.Sizes.{log₂}
 use Rattle.magnetar_field.proofs.Log2.{log₂-lt}
-use Rattle.magnetar_r1cs.specs.Tests.{note, noted}
-use Rattle.magnetar_r1cs.proofs.Noted.{noted-clear}
+use Rattle.magnetar_layout.specs.Tests.{note, noted}
+use Rattle.magnetar_layout.proofs.Noted.{noted-clear}
 use Rattle.magnetar_checks.specs.Steps.{drawsFor, proofFor, refusalOf}
 
 pub log-small : (n k : ℕ) → k ≡ log₂ n → n < 2 ^ 64 → k < 64

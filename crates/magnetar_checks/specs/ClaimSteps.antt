@@ -5,7 +5,7 @@ use mathlib.Core.List.{List, [], _∷_}
 use Prim.Native.Nat.{ℕ, _+_, _-_, _*_}
 use lib.Dec.{eqb, ltb}
 use lib.ListN.{getD}
-use Rattle.magnetar_r1cs.specs.Tests as tests
+use Rattle.magnetar_layout.specs.Tests as tests
 use Rattle.magnetar_checks.specs.Steps.{drawsFor, proofFor}
 
 -- claim i: of s shared challenges from place k of the draws on, the last one first; then the n low ones from place j on; then the

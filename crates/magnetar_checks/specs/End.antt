@@ -12,7 +12,7 @@ use Rattle.magnetar_field.specs.Multilinear.{mle}
 use Rattle.magnetar_sumcheck.specs.Round.{running}
 use Rattle.magnetar_sumcheck.specs.Inner.{innerEnd}
 use Rattle.magnetar_r1cs.specs.Batch.{Relation}
-use Rattle.magnetar_r1cs.specs.Tests.{Tests, noted, columnTests, publicTests, layoutTests, roomTest}
+use Rattle.magnetar_layout.specs.Tests.{Tests, noted, columnTests, publicTests, layoutTests, roomTest}
 use Rattle.magnetar_protocol.specs.Shape.{logCols}
 use Rattle.magnetar_protocol.specs.Proof.{innerRounds, valueZ}
 use Rattle.magnetar_protocol.specs.Draws.{Draws, drawsOf}

@@ -13,8 +13,8 @@ use Rattle.magnetar_field.specs.EqTable.{eqAt}
 use Rattle.magnetar_field.specs.Multilinear.{dot, mle}
 use Rattle.magnetar_sumcheck.specs.Round.{running}
 use Rattle.magnetar_sumcheck.specs.Inner.{innerEnd}
-use Rattle.magnetar_r1cs.specs.Layout.{localVars, suffix, Sound}
-use Rattle.magnetar_r1cs.specs.Tests as tests
+use Rattle.magnetar_layout.specs.Layout.{localVars, suffix, Sound}
+use Rattle.magnetar_layout.specs.Tests as tests
 use Rattle.magnetar_protocol.specs.Proof.{part}
 use Rattle.magnetar_protocol.specs.Checks.{Check}
 use Rattle.magnetar_protocol.specs.RunSizes.{Power}

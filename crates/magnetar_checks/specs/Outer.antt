@@ -7,7 +7,7 @@ use lib.Dec.{eqb, ltb}
 use lib.ListN.{length}
 use Rattle.magnetar_field.specs.Words.{elements}
 use Rattle.magnetar_r1cs.specs.Batch.{Relation}
-use Rattle.magnetar_r1cs.specs.Tests.{Tests, noted}
+use Rattle.magnetar_layout.specs.Tests.{Tests, noted}
 use Rattle.magnetar_protocol.specs.Shape.{logLogins, proofElements}
 use Rattle.magnetar_protocol.specs.Draws.{Draws, drawCount, drawsOf}
 use Rattle.magnetar_protocol.specs.Schedule.{outline}

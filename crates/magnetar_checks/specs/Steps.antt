@@ -10,7 +10,7 @@ use Rattle.magnetar_field.specs.Tabulate.{tabulate}
 use Rattle.magnetar_sumcheck.specs.Round.{running}
 use Rattle.magnetar_sumcheck.specs.Order.{eqPoints}
 use Rattle.magnetar_sumcheck.specs.Outer.{outerEnd}
-use Rattle.magnetar_r1cs.specs.Tests as tests
+use Rattle.magnetar_layout.specs.Tests as tests
 use Rattle.magnetar_protocol.specs.Proof.{part}
 use Rattle.magnetar_protocol.specs.Checks.{Check, roundHolds}
 use Rattle.magnetar_checks.specs.declared.found.Found.{Found}

@@ -3,7 +3,7 @@ use crate::found;
 use magnetar_field::gf128::Gf128;
 use magnetar_field::sizes;
 use magnetar_field::words;
-use magnetar_r1cs::tests;
+use magnetar_layout::tests;
 ghost use mathlib.Core.Path.{_≡_};
 ghost use Prim.Native.Nat.{ℕ, _+_, _-_, _*_, _<_, _≤_};
 ghost use lib.ListN.{length};

@@ -6,7 +6,7 @@ use magnetar_field::gf128::Evaluated;
 use magnetar_field::gf128::Gf128;
 use magnetar_field::sizes;
 use magnetar_field::words;
-use magnetar_r1cs::tests;
+use magnetar_layout::tests;
 use magnetar_sumcheck::engine;
 use magnetar_sumcheck::public;
 ghost use mathlib.Core.Path.{_≡_};

@@ -3,3 +3,4 @@ pub mod Fine
 pub mod SizedRules
 pub mod Verifying
 pub mod Combining
+pub mod VerifyRun

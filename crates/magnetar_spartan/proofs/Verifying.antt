@@ -28,11 +28,13 @@ use Rattle.magnetar_protocol.specs.Checks.{Check, roundHolds, firstRefusal, fir
 use Rattle.magnetar_protocol.specs.Run.{verdict}
 use Rattle.magnetar_protocol.specs.RealRun.{verifierDraws, verifierTranscript, stop}
 use Rattle.magnetar_protocol.proofs.Phases.{Numbered, orElse}
-use Rattle.magnetar_protocol.proofs.Counts.{heard-count}
+use Rattle.magnetar_protocol.proofs.Counts.{heard-count, schedule-length}
 use Rattle.magnetar_protocol.proofs.Blocks.{outerChecks, laterChecks, outer-numbered, later-numbered, verdict-blocks, run-stop-blocks, stop-append, stop-accepted, outlined, schedule-outlined, draws-outlined, shared-outlined, rows-outlined, terminals-outlined, identity-outlined}
 use Rattle.magnetar_checks.specs.End.{endChecks}
 use Rattle.magnetar_checks.proofs.EndPhases.{end-combined}
 use Rattle.magnetar_spartan.specs.Rules.{Rules, relationOf}
+use Rattle.magnetar_field.proofs.Log2.{log₂-lt}
+use Rattle.magnetar_spartan.specs.Ready.{Ready}
 use Rattle.magnetar_spartan.specs.Outcome.{verifyVerdict}
 
 -- the sizes of the rules
@@ -168,3 +170,12 @@ pub later-is : (R : Rules) (x w : List ℕ) (D : Draws) (T : List ℕ) → T ≡
 later-is R x w D T e =
     ap (λ (r : Relation). endChecks r x w D T) (sym (sizes-are R)) ∙ sym (end-outlined (relationOf R) x w D T)
     ∙ ap (endChecks (relationOf R) x w D) e ∙ end-combined (relationOf R) x w D
+
+-- ---- a schedule is short
+pub schedule-small : (R : Rules) → Ready R → length (schedule (sizesOf R)) ≤ 65536
+schedule-small R P =
+    let q = log₂-lt (R .q) (omega (arith, P .logins .high)) in
+    let m = log₂-lt (R .m) (omega (arith, P .columns .high)) in
+    let b = log₂-lt (R .bin .a .rows) (omega (arith, P .fine .bin .rows .high)) in
+    let f = log₂-lt (R .fld .a .rows) (omega (arith, P .fine .fld .rows .high)) in
+    rw (schedule-length (sizesOf R)) (omega (arith, q, m, b, f, P .fine .segments))

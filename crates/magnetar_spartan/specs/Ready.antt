@@ -3,7 +3,7 @@
 use mathlib.Core.Path.{_≡_}
 use mathlib.Core.Bool.{true}
 use mathlib.Core.List.{List}
-use Prim.Native.Nat.{ℕ, _*_, _/_, _^_, _≤_}
+use Prim.Native.Nat.{ℕ, _-_, _*_, _/_, _^_, _≤_}
 use lib.ListN.{length}
 use Rattle.magnetar_field.specs.Sizes.{log₂}
 use Rattle.magnetar_layout.specs.Every.{every}
@@ -12,7 +12,10 @@ use Rattle.magnetar_layout.specs.Lent.{Lent}
 use Rattle.magnetar_layout.specs.Tests.{allBelow}
 use Rattle.magnetar_layout.proofs.SizeLaws.{Sized}
 use Rattle.magnetar_batch.specs.Systems.{Lent3}
+use Rattle.magnetar_protocol.specs.Draws.{drawCount}
+use Rattle.magnetar_protocol.specs.Schedule.{outline}
 use Rattle.magnetar_spartan.specs.Rules.{Rules}
+use Rattle.magnetar_spartan.specs.Refusals.{proofWords, claimWords, verifierRoom}
 
 -- a matrix of n rows and m columns
 pub record FineMatrix (n m : ℕ) (a : Lent) : Type 0 where
@@ -43,3 +46,11 @@ pub record Ready (R : Rules) : Type 0 where
   pub columns : Sized 2 65536 (R .m)
   pub logins : Sized 1 4096 (R .q)
   pub fine : Fine R
+
+-- the words that the verifier is lent: public words x, proof words w, claims c, scratch s and draws d
+pub record VerifyReady (R : Rules) (x w c s d : ℕ) : Type 0 where
+  pub public : x ≡ R .m - 2
+  pub proof : w ≡ proofWords R
+  pub claims : c ≡ claimWords R
+  pub scratch : s ≡ verifierRoom R
+  pub draws : d ≡ 2 * drawCount (outline (R .m) (R .q) (R .bin .a .rows) (R .fld .a .rows) (R .lengths))

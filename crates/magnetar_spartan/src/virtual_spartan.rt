@@ -1,6 +1,7 @@
 // Virtual Spartan: the prover and the verifier of a batch. The matrices A, B, C of bin are ab, bb, cb, those of fld af, bf, cf.
 use crate::refusal;
 use magnetar_batch::combo;
+use magnetar_checks::claims;
 use magnetar_checks::end;
 use magnetar_checks::found::Found;
 use magnetar_checks::outer;
@@ -21,7 +22,7 @@ ghost use Rattle.magnetar_protocol.specs.Schedule.{outline, schedule};
 ghost use Rattle.magnetar_protocol.specs.Play.{heard};
 ghost use Rattle.magnetar_protocol.specs.Checks.{combined};
 ghost use Rattle.magnetar_spartan.specs.Rules.{rules, relationOf};
-ghost use Rattle.magnetar_spartan.specs.Ready.{Ready};
+ghost use Rattle.magnetar_spartan.specs.Ready.{Ready, VerifyReady};
 ghost use Rattle.magnetar_spartan.specs.Outcome.{verified, verifyOutcome, verifyVerdict, verifyClaims};
 ghost use Rattle.magnetar_protocol.specs.RealRun.{verifierTranscript};
 
@@ -110,4 +111,97 @@ fn combine(
     let pb = part(draws, i, 2 * b);
     let pf = part(draws, j, 2 * f);
     combo::combine_in(s, m, abrows, abcols, abrow, abcol, ablo, abhi, bbrows, bbcols, bbrow, bbcol, bblo, bbhi, cbrows, cbcols, cbrow, cbcol, cblo, cbhi, afrows, afcols, afrow, afcol, aflo, afhi, bfrows, bfcols, bfrow, bfcol, bflo, bfhi, cfrows, cfcols, cfrow, cfcol, cflo, cfhi, alphas, pb, pf)
+}
+
+// The answer of a run that a check stops: its transcript has played the events before that check.
+fn stopped(m: usize, q: usize, rb: usize, rf: usize, lens: &[usize], proof: &[u64], t: Transcript, found: Found) -> TranscriptAnswer
+    ensures { λ r. ⌜ (r .code ≡ found .code) × (r .transcript ≡ heard (elements (now (proof .entry))) (take (found .events) (schedule (outline m q rb rf (now (lens .entry))))) t .transcript) ⌝ }
+{
+    let mut none = [0u64; 2];
+    let u = play::play(m, q, rb, rf, lens, proof, &mut none, t, found.events);
+    TranscriptAnswer {
+        code: found.code,
+        transcript: u,
+    }
+}
+
+// The verifier, where nothing refuses it before its checks.
+fn verify_in(
+    claims: &mut [u64],
+    s: &mut [u64],
+    draws: &mut [u64],
+    m: usize,
+    q: usize,
+    lens: &[usize],
+    abrows: usize,
+    abcols: usize,
+    abrow: &[usize],
+    abcol: &[usize],
+    ablo: &[u64],
+    abhi: &[u64],
+    bbrows: usize,
+    bbcols: usize,
+    bbrow: &[usize],
+    bbcol: &[usize],
+    bblo: &[u64],
+    bbhi: &[u64],
+    cbrows: usize,
+    cbcols: usize,
+    cbrow: &[usize],
+    cbcol: &[usize],
+    cblo: &[u64],
+    cbhi: &[u64],
+    afrows: usize,
+    afcols: usize,
+    afrow: &[usize],
+    afcol: &[usize],
+    aflo: &[u64],
+    afhi: &[u64],
+    bfrows: usize,
+    bfcols: usize,
+    bfrow: &[usize],
+    bfcol: &[usize],
+    bflo: &[u64],
+    bfhi: &[u64],
+    cfrows: usize,
+    cfcols: usize,
+    cfrow: &[usize],
+    cfcol: &[usize],
+    cflo: &[u64],
+    cfhi: &[u64],
+    x: &[u64],
+    proof: &[u64],
+    t: Transcript,
+) -> TranscriptAnswer
+    requires { ⌜ Ready (rules m q (now lens)
+            (system (lent abrows abcols (now abrow) (now abcol) (now ablo) (now abhi)) (lent bbrows bbcols (now bbrow) (now bbcol) (now bblo) (now bbhi)) (lent cbrows cbcols (now cbrow) (now cbcol) (now cblo) (now cbhi)))
+            (system (lent afrows afcols (now afrow) (now afcol) (now aflo) (now afhi)) (lent bfrows bfcols (now bfrow) (now bfcol) (now bflo) (now bfhi)) (lent cfrows cfcols (now cfrow) (now cfcol) (now cflo) (now cfhi)))) ⌝ }
+    requires { ⌜ VerifyReady (rules m q (now lens)
+            (system (lent abrows abcols (now abrow) (now abcol) (now ablo) (now abhi)) (lent bbrows bbcols (now bbrow) (now bbcol) (now bblo) (now bbhi)) (lent cbrows cbcols (now cbrow) (now cbcol) (now cblo) (now cbhi)))
+            (system (lent afrows afcols (now afrow) (now afcol) (now aflo) (now afhi)) (lent bfrows bfcols (now bfrow) (now bfcol) (now bflo) (now bfhi)) (lent cfrows cfcols (now cfrow) (now cfcol) (now cflo) (now cfhi)))) (length (now x)) (length (now proof)) (length (now claims)) (length (now s)) (length (now draws)) ⌝ }
+    ensures { λ r. ⌜ (r .code ≡ verifyVerdict (rules m q (now (lens .entry))
+            (system (lent abrows abcols (now (abrow .entry)) (now (abcol .entry)) (now (ablo .entry)) (now (abhi .entry))) (lent bbrows bbcols (now (bbrow .entry)) (now (bbcol .entry)) (now (bblo .entry)) (now (bbhi .entry))) (lent cbrows cbcols (now (cbrow .entry)) (now (cbcol .entry)) (now (cblo .entry)) (now (cbhi .entry))))
+            (system (lent afrows afcols (now (afrow .entry)) (now (afcol .entry)) (now (aflo .entry)) (now (afhi .entry))) (lent bfrows bfcols (now (bfrow .entry)) (now (bfcol .entry)) (now (bflo .entry)) (now (bfhi .entry))) (lent cfrows cfcols (now (cfrow .entry)) (now (cfcol .entry)) (now (cflo .entry)) (now (cfhi .entry))))) (now (x .entry)) (now (proof .entry)) t)
+            × (r .transcript ≡ verifierTranscript (relationOf (rules m q (now (lens .entry))
+            (system (lent abrows abcols (now (abrow .entry)) (now (abcol .entry)) (now (ablo .entry)) (now (abhi .entry))) (lent bbrows bbcols (now (bbrow .entry)) (now (bbcol .entry)) (now (bblo .entry)) (now (bbhi .entry))) (lent cbrows cbcols (now (cbrow .entry)) (now (cbcol .entry)) (now (cblo .entry)) (now (cbhi .entry))))
+            (system (lent afrows afcols (now (afrow .entry)) (now (afcol .entry)) (now (aflo .entry)) (now (afhi .entry))) (lent bfrows bfcols (now (bfrow .entry)) (now (bfcol .entry)) (now (bflo .entry)) (now (bfhi .entry))) (lent cfrows cfcols (now (cfrow .entry)) (now (cfcol .entry)) (now (cflo .entry)) (now (cfhi .entry)))))) (elements (now (x .entry))) (elements (now (proof .entry))) t)
+            × (now (claims .exit) ≡ verifyClaims (rules m q (now (lens .entry))
+            (system (lent abrows abcols (now (abrow .entry)) (now (abcol .entry)) (now (ablo .entry)) (now (abhi .entry))) (lent bbrows bbcols (now (bbrow .entry)) (now (bbcol .entry)) (now (bblo .entry)) (now (bbhi .entry))) (lent cbrows cbcols (now (cbrow .entry)) (now (cbcol .entry)) (now (cblo .entry)) (now (cbhi .entry))))
+            (system (lent afrows afcols (now (afrow .entry)) (now (afcol .entry)) (now (aflo .entry)) (now (afhi .entry))) (lent bfrows bfcols (now (bfrow .entry)) (now (bfcol .entry)) (now (bflo .entry)) (now (bfhi .entry))) (lent cfrows cfcols (now (cfrow .entry)) (now (cfcol .entry)) (now (cflo .entry)) (now (cfhi .entry))))) (now (x .entry)) (now (proof .entry)) t (now (claims .entry))) ⌝ }
+{
+    let end = play::play(m, q, abrows, afrows, lens, proof, draws, t, 65536);
+    let first = outer::outer_checks(m, q, abrows, afrows, lens, proof, draws);
+    if first.code != 0 {
+        return stopped(m, q, abrows, afrows, lens, proof, t, first);
+    }
+    combine(s, draws, m, q, lens, abrows, abcols, abrow, abcol, ablo, abhi, bbrows, bbcols, bbrow, bbcol, bblo, bbhi, cbrows, cbcols, cbrow, cbcol, cblo, cbhi, afrows, afcols, afrow, afcol, aflo, afhi, bfrows, bfcols, bfrow, bfcol, bflo, bfhi, cfrows, cfcols, cfrow, cfcol, cflo, cfhi);
+    let last = end::end_checks(m, q, abrows, afrows, lens, x, proof, draws, s);
+    if last.code != 0 {
+        return stopped(m, q, abrows, afrows, lens, proof, t, last);
+    }
+    claims::write_claims(m, q, abrows, afrows, lens, proof, draws, claims);
+    TranscriptAnswer {
+        code: 0,
+        transcript: end,
+    }
 }

@@ -5,7 +5,7 @@ use mathlib.Core.Path.{_≡_, sym, _∙_}
 use mathlib.Core.Bool.{true}
 use native.Mathlib.Omega.{arith}
 use borrow.Author.Tests.{not-true, not-false}
-use Rattle.magnetar_r1cs.specs.Tests.{isSize}
+use Rattle.magnetar_layout.specs.Tests.{isSize}
 use Rattle.magnetar_protocol.specs.RunSizes.{Power}
 use Rattle.magnetar_checks.proofs.EndGuard.{power-of, few-of, end-size, end-public, end-layout, end-words}
 use borrow.Author.Needs.{needs}
