@@ -4,3 +4,4 @@ pub mod SizedRules
 pub mod Verifying
 pub mod Combining
 pub mod VerifyRun
+pub mod Ended

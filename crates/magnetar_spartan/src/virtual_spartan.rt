@@ -205,3 +205,73 @@ fn verify_in(
         transcript: end,
     }
 }
+
+// The verifier: 0 where it accepts the proof for these rules, public words and transcript; its transcript; and the claims r_inst, r_low
+// and segment values at the front of `claims`. 1 to 10: the sizes and the rules; 14: the transcript's counter; 15: too little room; 16:
+// not as many words as a proof has; 21 to 29: the first check that does not pass.
+pub fn verify_virtual_spartan(
+    claims: &mut [u64],
+    scratch: &mut [u64],
+    m: usize,
+    q: usize,
+    lens: &[usize],
+    abrows: usize,
+    abcols: usize,
+    abrow: &[usize],
+    abcol: &[usize],
+    ablo: &[u64],
+    abhi: &[u64],
+    bbrows: usize,
+    bbcols: usize,
+    bbrow: &[usize],
+    bbcol: &[usize],
+    bblo: &[u64],
+    bbhi: &[u64],
+    cbrows: usize,
+    cbcols: usize,
+    cbrow: &[usize],
+    cbcol: &[usize],
+    cblo: &[u64],
+    cbhi: &[u64],
+    afrows: usize,
+    afcols: usize,
+    afrow: &[usize],
+    afcol: &[usize],
+    aflo: &[u64],
+    afhi: &[u64],
+    bfrows: usize,
+    bfcols: usize,
+    bfrow: &[usize],
+    bfcol: &[usize],
+    bflo: &[u64],
+    bfhi: &[u64],
+    cfrows: usize,
+    cfcols: usize,
+    cfrow: &[usize],
+    cfcol: &[usize],
+    cflo: &[u64],
+    cfhi: &[u64],
+    x: &[u64],
+    proof: &[u64],
+    t: Transcript,
+) -> TranscriptAnswer
+    ensures { λ r. ⌜ verified r (now (claims .exit)) (now (scratch .exit)) ≡ verifyOutcome (rules m q (now (lens .entry))
+            (system (lent abrows abcols (now (abrow .entry)) (now (abcol .entry)) (now (ablo .entry)) (now (abhi .entry))) (lent bbrows bbcols (now (bbrow .entry)) (now (bbcol .entry)) (now (bblo .entry)) (now (bbhi .entry))) (lent cbrows cbcols (now (cbrow .entry)) (now (cbcol .entry)) (now (cblo .entry)) (now (cbhi .entry))))
+            (system (lent afrows afcols (now (afrow .entry)) (now (afcol .entry)) (now (aflo .entry)) (now (afhi .entry))) (lent bfrows bfcols (now (bfrow .entry)) (now (bfcol .entry)) (now (bflo .entry)) (now (bfhi .entry))) (lent cfrows cfcols (now (cfrow .entry)) (now (cfcol .entry)) (now (cflo .entry)) (now (cfhi .entry)))))
+            (now (x .entry)) (now (proof .entry)) t (now (claims .entry)) (now (scratch .entry)) ⌝ }
+{
+    let z = refusal::verify(m, q, lens, abrows, abcols, abrow, abcol, ablo, abhi, bbrows, bbcols, bbrow, bbcol, bblo, bbhi, cbrows, cbcols, cbrow, cbcol, cblo, cbhi, afrows, afcols, afrow, afcol, aflo, afhi, bfrows, bfcols, bfrow, bfcol, bflo, bfhi, cfrows, cfcols, cfrow, cfcol, cflo, cfhi, x, proof, t.squeeze_ctr, claims.len(), scratch.len());
+    if z != 0 {
+        return TranscriptAnswer {
+            code: z,
+            transcript: t,
+        };
+    }
+    let k = refusal::claim_words(m, q, lens.len());
+    let n = refusal::verifier_room(m, abrows, afrows);
+    let d = draw_words(m, q, abrows, afrows);
+    let mut draws = [0u64; 256];
+    let a = verify_in(&mut claims[..k], &mut scratch[..n], &mut draws[..d], m, q, lens, abrows, abcols, abrow, abcol, ablo, abhi, bbrows, bbcols, bbrow, bbcol, bblo, bbhi, cbrows, cbcols, cbrow, cbcol, cblo, cbhi, afrows, afcols, afrow, afcol, aflo, afhi, bfrows, bfcols, bfrow, bfcol, bflo, bfhi, cfrows, cfcols, cfrow, cfcol, cflo, cfhi, x, proof, t);
+    words::clear(&mut scratch[..n]);
+    a
+}
