@@ -5,3 +5,5 @@ pub mod Folds
 pub mod ColumnLaws
 pub mod SystemLaws
 pub mod Combos
+pub mod RowLaws
+pub mod CheckLaws
