@@ -1,5 +1,6 @@
 // Replays queries on a whole relation: reads the relation with its batch, calls the function that a line names and writes all
 // that the call hands back (docs/VECTORS.md). A line that begins with # is copied.
+mod rowcheck;
 mod tables;
 mod text;
 
@@ -17,7 +18,10 @@ fn answered(
     out: &mut [u64],
     scratch: &mut [u64],
 ) -> bool {
-    tables::answered(op, nums, given, sizes, out, scratch)
+    if tables::answered(op, nums, given, sizes, out, scratch) {
+        return true;
+    }
+    rowcheck::answered(op, nums, given, sizes, scratch)
 }
 
 // One line: the numbers of the last relation are in `given` and, as sizes, in `sizes`.
