@@ -1,6 +1,7 @@
 // Replays queries on a whole relation: reads the relation with its batch, calls the function that a line names and writes all
 // that the call hands back (docs/VECTORS.md). A line that begins with # is copied.
 mod rowcheck;
+mod runs;
 mod tables;
 mod text;
 
@@ -11,17 +12,31 @@ const CASE: u64 = 0x63617365;
 
 // Answers a query on the last relation, or says that it is none.
 fn answered(
-    op: u64,
+    line: &[u8],
     nums: &[u64],
     given: &[u64],
     sizes: &[usize],
     out: &mut [u64],
+    claims: &mut [u64],
     scratch: &mut [u64],
 ) -> bool {
+    let op = text::name(line);
     if tables::answered(op, nums, given, sizes, out, scratch) {
         return true;
     }
-    rowcheck::answered(op, nums, given, sizes, scratch)
+    if rowcheck::answered(op, nums, given, sizes, scratch) {
+        return true;
+    }
+    runs::answered(
+        op,
+        runs::state(line),
+        nums,
+        given,
+        sizes,
+        out,
+        claims,
+        scratch,
+    )
 }
 
 // One line: the numbers of the last relation are in `given` and, as sizes, in `sizes`.
@@ -31,6 +46,7 @@ fn answer(
     given: &mut [u64],
     sizes: &mut [usize],
     out: &mut [u64],
+    claims: &mut [u64],
     scratch: &mut [u64],
 ) {
     if text::byte(line, 0) == b'#' {
@@ -38,15 +54,22 @@ fn answer(
         print(b"\n");
         return;
     }
-    let op = text::name(line);
-    if op == CASE {
+    if text::name(line) == CASE {
         text::fill(given, 0);
         text::numbers(line, given);
         text::as_sizes(given, sizes);
         return;
     }
     let n = text::numbers(line, nums);
-    if answered(op, text::first(nums, n), given, sizes, out, scratch) {
+    if answered(
+        line,
+        text::first(nums, n),
+        given,
+        sizes,
+        out,
+        claims,
+        scratch,
+    ) {
         return;
     }
     print(b"? unknown query\n");
@@ -58,12 +81,13 @@ fn answer_all(
     given: &mut [u64],
     sizes: &mut [usize],
     out: &mut [u64],
+    claims: &mut [u64],
     scratch: &mut [u64],
 ) {
     let mut from = 0;
     while from < input.len() {
         let to = text::find(input, from, b'\n');
-        answer(&input[from..to], nums, given, sizes, out, scratch);
+        answer(&input[from..to], nums, given, sizes, out, claims, scratch);
         if to == input.len() {
             return;
         }
@@ -78,6 +102,7 @@ fn run(
     given: &mut [u64],
     sizes: &mut [usize],
     out: &mut [u64],
+    claims: &mut [u64],
     scratch: &mut [u64],
 ) {
     let n = io::read_full(libc::STDIN_FILENO, input);
@@ -87,6 +112,7 @@ fn run(
         given,
         sizes,
         out,
+        claims,
         scratch,
     );
 }
@@ -97,6 +123,7 @@ fn main() {
     let mut given = [0u64; 4096];
     let mut sizes = [0usize; 4096];
     let mut out = [0u64; 2048];
+    let mut claims = [0u64; 256];
     let mut scratch = text::room();
     run(
         &mut input,
@@ -104,6 +131,7 @@ fn main() {
         &mut given,
         &mut sizes,
         &mut out,
+        &mut claims,
         &mut scratch,
     );
 }

@@ -8,10 +8,10 @@ use Rattle.magnetar_cases.proofs.answer_all.Statement.{statement}
 use Rattle.magnetar_cases.proofs.answer_all.Tie as tie
 
 abbrev Inv-loop : tie.InvT-loop
-Inv-loop input nums₀ given₀ sizes₀ out₀ scratch₀ from₀ nums given sizes out scratch from = (length nums ≡ length nums₀) × (length given ≡ length given₀) × (length sizes ≡ length sizes₀) × (length out ≡ length out₀) × (length scratch ≡ length scratch₀) × (from ≤ length input)
+Inv-loop input nums₀ given₀ sizes₀ out₀ claims₀ scratch₀ from₀ nums given sizes out claims scratch from = (length nums ≡ length nums₀) × (length given ≡ length given₀) × (length sizes ≡ length sizes₀) × (length out ≡ length out₀) × (length claims ≡ length claims₀) × (length scratch ≡ length scratch₀) × (from ≤ length input)
 
 abbrev μ-loop : tie.MeasureT-loop
-μ-loop input nums₀ given₀ sizes₀ out₀ scratch₀ from₀ nums given sizes out scratch from = length input - from
+μ-loop input nums₀ given₀ sizes₀ out₀ claims₀ scratch₀ from₀ nums given sizes out claims scratch from = length input - from
 
 loop-holds : tie.Need-loop-holds Inv-loop μ-loop
 loop-holds c = search needs
@@ -46,6 +46,9 @@ same-length-4 c = search needs
 same-length-5 : tie.Need-same-length-5 Inv-loop μ-loop
 same-length-5 c = search needs
 
+same-length-6 : tie.Need-same-length-6 Inv-loop μ-loop
+same-length-6 c = search needs
+
 returns : tie.Need-returns Inv-loop μ-loop
 returns c = search needs
 
@@ -58,9 +61,6 @@ loop-less c = search needs
 loop-again : tie.Need-loop-again Inv-loop μ-loop
 loop-again c = search needs
 
-same-length-6 : tie.Need-same-length-6 Inv-loop μ-loop
-same-length-6 c = search needs
-
 same-length-7 : tie.Need-same-length-7 Inv-loop μ-loop
 same-length-7 c = search needs
 
@@ -72,6 +72,12 @@ same-length-9 c = search needs
 
 same-length-10 : tie.Need-same-length-10 Inv-loop μ-loop
 same-length-10 c = search needs
+
+same-length-11 : tie.Need-same-length-11 Inv-loop μ-loop
+same-length-11 c = search needs
+
+same-length-12 : tie.Need-same-length-12 Inv-loop μ-loop
+same-length-12 c = search needs
 
 returns-2 : tie.Need-returns-2 Inv-loop μ-loop
 returns-2 c = search needs
@@ -93,13 +99,15 @@ answer-all-spec =
     same-length-3
     same-length-4
     same-length-5
+    same-length-6
     returns
     add-from
     loop-less
     loop-again
-    same-length-6
     same-length-7
     same-length-8
     same-length-9
     same-length-10
+    same-length-11
+    same-length-12
     returns-2)
