@@ -33,7 +33,6 @@ fn answered(
         nums,
         given,
         sizes,
-        out,
         claims,
         scratch,
     )
