@@ -1,0 +1,2 @@
+// Thin functions above the core: the transcript changed in place, and matrices lent as slices of entry records.
+pub mod transcript;
