@@ -66,6 +66,8 @@ def info(t):            # of a type by value
     if t[0] == 'tyInt': return dict(row=f'u{t[1]}', den='ℕ', makes=f'(uint-makes 𝓤 H A W w{t[1]})', typed=f'uint-lawful 𝓤 H A W w{t[1]} .typed', vals=f'(uint-vals w{t[1]})', tells=f'(uint-tells w{t[1]})', lawful=f'(uint-lawful 𝓤 H A W w{t[1]})', copy=f'(uint-copy 𝓤 H A W w{t[1]})', val=f'(vint w{t[1]})', mir=f'(tyInt w{t[1]})')
     if t[0] == 'tyNamed':
         n = sname(t)
+        if f'(pair {t[1][1]} (variants' in ' '.join(mir.split()):        # an enum: handed back, and passed on by value
+            return dict(row=f'm{n}.the-row', den=n, makes=f'(EL.makes m{n}.the-type l{n}.the-plain 𝓤 H A)', typed=f'EL.lawful m{n}.the-type l{n}.the-laws 𝓤 H A W tt .typed', mir=f'l{n}.mir')
         return dict(row=f'm{n}.the-row', den=n, makes=f'(LL.makes m{n}.the-type l{n}.the-plain 𝓤 H A)', typed=f'LL.lawful m{n}.the-type l{n}.the-laws 𝓤 H A W .typed', vals=f'(LL.vals m{n}.the-type l{n}.the-laws)', tells=f'(LL.tells m{n}.the-type l{n}.the-laws)', val=f'LL.val m{n}.the-type l{n}.the-laws', copy=f'(LL.copy m{n}.the-type l{n}.the-copy 𝓤 H A W)', lawful=f'(LL.lawful m{n}.the-type l{n}.the-laws 𝓤 H A W)', mir=f'l{n}.mir')
     if t[0] == 'tyArray':
         e = info(t[1]); n = t[2][1]
@@ -233,6 +235,11 @@ def one(s, last):
                 assert K(P_) == 'R' and not w2; e = env[Q]; assert e[0] == 'val'; opened(P_)
                 k(f'{asg} ! (of-opd ! {rd(Q)}) (from ! (hop ! (look ! {k.p(f"c{P_}")} refl) (stop !))) (store-raw ! {k.p(f"cell{P_}")} refl ({e[4]["typed"]} {e[1]} _ {e[3]} .0)) $ {NL}')
                 cur[P_] = (e[1], e[2], e[3], True)
+            elif w2 and w2[0][0] == 'field':     # local = s.len()
+                assert w2 == [['field', '1']] and K(Q) in 'SM'
+                n_, f_ = (f'(length (s{Q} .now))', f'(w{Q} .0 .1 .0)') if K(Q) == 'S' else (f'(length ys{Q})', f'(room{Q} .0)')
+                k(f'{asg} ! (of-opd ! (load ! (from ! (fld ! refl (stop !))) (look-in ! {k.p(f"c{Q}")} (sub ! 1 refl (whole !))))) {wr(P_, f"(tt, record {{ fits = {f_} }})")} $ {NL}')
+                env[P_] = ('val', n_, f'(vint w64 {n_})', f'(refl, {f_})', info(['tyInt', '64']))
             elif w2:                             # local = *p
                 assert w2[0][0] == 'deref' and len(w2) == 1 and K(Q) in 'RP'; opened(Q)
                 h, u, w, _ = cur[Q]
@@ -431,6 +438,7 @@ use denote.Memory.{{pointee}}
 use denote.Slice.{{sliceTy, sliceVal, MutSlice, ShrSlice, Room, finally, slice-vals, mut-slice-tells, shr-slice-tells, shr-slice-lawful, shr-slice-copy}}
 use denote.Steps.{{only, opens, closes, looks, shuts, owned, peeks, heard, nothing}}
 use denote.Struct.Laws as LL
+use denote.Enum.Laws as EL
 use denote.Struct.Steps.{{spelt}}
 use denote.Triple.Statement.{{Contract, Triple}}
 use denote.Triple.Call.{{calls-at, calls-at-last}}

@@ -1,1 +1,6 @@
 pub mod Again
+pub mod RecordLaws
+pub mod RecordEnds
+pub mod EachNNbool
+pub mod Eachbool
+pub mod EachNSM
