@@ -16,7 +16,9 @@ use Rattle.magnetar_layout.specs.Every.{every}
 use Rattle.magnetar_layout.specs.Tests.{Tests, note, noted, allBelow, loneTests}
 use Rattle.magnetar_layout.proofs.Noted.{note-kept}
 use Rattle.magnetar_r1cs.specs.Matrix as matrix
-use Rattle.magnetar_r1cs.specs.Matrix.{rowTotal, Matrix}
+use Rattle.magnetar_r1cs.specs.Matrix.{rowTotal, sumOver, Matrix}
+use Rattle.magnetar_field.specs.Gf128.{_⊕_}
+use Rattle.magnetar_field.proofs.Xor.{⊕-zero, ⊕-assoc}
 use Rattle.magnetar_r1cs.specs.Lent.{entry, entriesOf, matrixOf}
 use Rattle.magnetar_r1cs.specs.Table.{addedAt, raised}
 use Rattle.magnetar_r1cs.proofs.TableLaws.{elements-words, added-length, raised-length, raised-get, raised-is, raised-zeros}
@@ -102,7 +104,7 @@ pub added-end : (n : ℕ) (f : matrix.Entry → ℕ) (out : List ℕ) → out �
 unfolding addedAll
 added-end n f out = refl
 
-words-length : (t : List ℕ) → length (words t) ≡ 2 * length t
+pub words-length : (t : List ℕ) → length (words t) ≡ 2 * length t
 unfolding words
 words-length [] = refl
 words-length (v ∷ t) = let e = words-length t in omega (arith, e)
@@ -124,6 +126,20 @@ added-words n k v out t h same e fit =
     let l : length (take (2 * n) out) ≡ 2 * n = length-take-le (2 * n) out h in
     let w : words (elements t) ≡ t = words-elements t (drop (2 * n) out) (omega arith) fit in
     rw (le-leb _ _ h, ← e, w)
+
+-- a table in front of other words is cleared
+pub front-cleared : (n : ℕ) (t r : List ℕ) → length t ≡ n → clearedTo n (words t ++ r) ≡ replicate (2 * n) 0 ++ r
+unfolding clearedTo
+front-cleared n t r l =
+    let w : length (words t) ≡ 2 * n = words-length t ∙ ap (λ (i : ℕ). 2 * i) l in
+    let b : 2 * n ≤ length (words t ++ r) = rw length-append (omega (arith, w)) in
+    rw (le-leb _ _ b, drop-at (words t) r (2 * n) w)
+
+-- and read
+pub front-read : (n : ℕ) (t r : List ℕ) → length t ≡ n → elements (take (2 * n) (words t ++ r)) ≡ t
+front-read n t r l =
+    let w : length (words t) ≡ 2 * n = words-length t ∙ ap (λ (i : ℕ). 2 * i) l in
+    rw (take-at (words t) r (2 * n) w, elements-words t)
 
 -- one entry, on a table in front of other words
 one-added : (n k v : ℕ) (t r : List ℕ) → length t ≡ n → addedTo n k v (words t ++ r) ≡ words (addedAt t k v) ++ r
@@ -159,3 +175,13 @@ pub cleared-added : (n : ℕ) (f : matrix.Entry → ℕ) (es : List matrix.Entry
 unfolding clearedTo
 cleared-added n f es out h =
     rw (le-leb _ _ h, ← words-zero n, added-all n f es (replicate n 0) (drop (2 * n) out) (length-replicate n 0), raised-zeros (rowTotal f es) n)
+
+-- ---- the walk that sums
+module _ (f : matrix.Entry → ℕ) where
+  pub summed-more : (e : matrix.Entry) (es : List matrix.Entry) (a b s : ℕ) → b ≡ a ⊕ f e → a ⊕ sumOver f (e ∷ es) ≡ s → b ⊕ sumOver f es ≡ s
+  unfolding sumOver
+  summed-more e es a b s q h = rw q (⊕-assoc a (f e) (sumOver f es) ∙ h)
+
+  pub summed-end : (a s : ℕ) → a ⊕ sumOver f [] ≡ s → a ≡ s
+  unfolding sumOver
+  summed-end a s h = sym (⊕-zero a) ∙ h
