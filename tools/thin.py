@@ -1,8 +1,9 @@
 #!/usr/bin/env python3
-# Writes proofs/F/Proof.antt for a function of calls in a row, from its MIR:  thin.py CRATE F [--final TERM] [--requires] [--ask N=TERM].. [--use LINE]..
+# Writes proofs/F/Proof.antt for a function of calls in a row, from its MIR:  thin.py CRATE F [--final TERM] [--requires] [--ask N=TERM].. [--use LINE]..   (F: MODULE::NAME)
+# Nobody has to trust it: the checker checks what it writes. tools/walks.sh has the calls that this repository makes.
 #   parameters: &[T], &mut [number], &STRUCT and &mut STRUCT (read and stored whole, `*t`, and passed on), and numbers, bools, arrays and structs by value.  T: a number or a struct of plain data; for STRUCT also an array
-#   body: calls of functions whose contracts each have one `ensures` fact (and --ask for each call N whose callee requires one fact); results by value are kept in locals, passed on and returned
-#   one kind of branch: `if B { .. } else { .. }` on a bool of a local, not within another; each way through has its own --final, in order, and knows b1: B ≡ true, or ≡ false
+#   body: calls of functions whose contracts each have one `ensures` fact (and --ask for each call N whose callee requires one fact); results by value are kept in locals, passed on and returned; `s.len()` of a slice; an enum only as the result of the last call, and not beside a branch, which is too dear for the checker
+#   one kind of branch: `if B { .. } else { .. }` on a bool of a local, not within another, each way ending with a value and not with a call that is lent a &mut slice; each way through has its own --final, in order, and knows b1: B ≡ true, or ≡ false
 #   TERM may cite e1, e2, ..: what call 1, 2, .. ensures (numbered as they stand; what follows a branch is numbered once for each way); r1, r2, .. the results; `pre`, with --requires TYPE
 #   and the parameters: s1 (a &[T], `s1 .now`), ys1 (what a &mut [T] holds on entry), h1 (behind a &mut STRUCT), n1 (by value); ws1 .1 .0 for what call 1's argument 1 holds after it
 import sys, subprocess, re
