@@ -4,3 +4,6 @@ pub mod Selected
 pub mod Folds
 pub mod ColumnLaws
 pub mod SystemLaws
+pub mod Combos
+pub mod RowLaws
+pub mod CheckLaws

@@ -1,13 +1,15 @@
 -- The outcomes of the entries: which refusal applies, in rising order, and what each lent slice holds at exit.
 -- Assumes nothing.
 use mathlib.Core.List.{List, [], _∷_, _++_}
-use Prim.Native.Nat.{ℕ, _+_, _*_}
+use Prim.Native.Nat.{ℕ, _+_, _*_, max}
+use lib.Dec.{ltb}
 use lib.ListN.{length, drop, replicate}
 use Rattle.magnetar_field.specs.Refusal.{unlessRefused}
 use Rattle.magnetar_field.specs.Sizes.{log₂}
 use Rattle.magnetar_field.specs.Words.{elements, words}
 use Rattle.magnetar_r1cs.specs.Batch.{folded}
 use Rattle.magnetar_r1cs.specs.Packed.{unpacked}
+use Rattle.magnetar_batch.specs.Systems.{Lent3, systemOf, combinedTable, systemsTests, pointTests}
 use Rattle.magnetar_layout.specs.Tests.{noted, sizeTests, packedTests, lengthTest, roomTest}
 
 -- ---- `fold_packed_w`: the packed words ws of q logins with w columns, the point p, the output out, the scratch s
@@ -32,3 +34,35 @@ abbrev pub foldInOut : List ℕ → ℕ → ℕ → List ℕ → List ℕ → Li
 foldInOut ws q w p s =
     unlessRefused (foldInRefusal ws q w p s)
     (words (folded q w (unpacked q w ws) (elements p)) ++ (replicate (2 * q) 0 ++ drop (2 * w + 2 * q) s)) s
+
+-- ---- `combine_in`: m columns, the systems s and t, the alphas al, the row points p and r, and how many words are lent
+unfoldable pub comboRefusal : ℕ → Lent3 → Lent3 → List ℕ → List ℕ → List ℕ → ℕ → ℕ
+comboRefusal m s t al p r room = noted 0 (systemsTests m s t ++ pointTests m (s .a .rows) (t .a .rows) al p r room)
+
+-- the words of the combined table
+unfoldable pub comboWords : ℕ → Lent3 → Lent3 → List ℕ → List ℕ → List ℕ → List ℕ
+comboWords m s t al p r = words (combinedTable m (systemOf s) (systemOf t) (elements al) (elements p) (elements r))
+
+-- as many words as the larger eq table has
+abbrev pub behindWords : Lent3 → Lent3 → ℕ
+behindWords s t = 2 * max (s .a .rows) (t .a .rows)
+
+-- the lent words w at exit: the table, zeros in the place of the eq table, the rest
+unfoldable pub comboIn : ℕ → Lent3 → Lent3 → List ℕ → List ℕ → List ℕ → List ℕ → List ℕ
+comboIn m s t al p r w =
+    unlessRefused (comboRefusal m s t al p r (length w))
+    (comboWords m s t al p r ++ (replicate (behindWords s t) 0 ++ drop (2 * m + behindWords s t) w)) w
+
+-- ---- `build_m_combo`: the same, with how many words the output and the scratch have
+unfoldable pub mComboRefusal : ℕ → Lent3 → Lent3 → List ℕ → List ℕ → List ℕ → ℕ → ℕ → ℕ
+mComboRefusal m s t al p r out scratch =
+    noted 0 (systemsTests m s t ++ (pointTests m (s .a .rows) (t .a .rows) al p r scratch ++ ((15, ltb out (2 * m)) ∷ [])))
+
+unfoldable pub mComboOut : ℕ → Lent3 → Lent3 → List ℕ → List ℕ → List ℕ → List ℕ → ℕ → List ℕ
+mComboOut m s t al p r out scratch =
+    unlessRefused (mComboRefusal m s t al p r (length out) scratch) (comboWords m s t al p r ++ drop (2 * m) out) out
+
+unfoldable pub mComboScratch : ℕ → Lent3 → Lent3 → List ℕ → List ℕ → List ℕ → ℕ → List ℕ → List ℕ
+mComboScratch m s t al p r out scratch =
+    unlessRefused (mComboRefusal m s t al p r out (length scratch))
+    (replicate (2 * m + behindWords s t) 0 ++ drop (2 * m + behindWords s t) scratch) scratch

@@ -21,9 +21,18 @@ ghost use Rattle.magnetar_r1cs.specs.Table.{raised};
 ghost use Rattle.magnetar_batch.specs.Systems.{system, systemsTests, pointTests};
 ghost use Rattle.magnetar_layout.specs.Tests.{noted};
 ghost use Rattle.magnetar_batch.specs.Columns.{Placed, Fit, column, sixTable};
+ghost use Rattle.magnetar_batch.specs.Entries.{comboRefusal, comboIn, mComboRefusal, mComboOut, mComboScratch};
 
 // Adds at each entry's column its value times the element at index m + row.
-fn add_columns(s: &mut [u64], m: usize, n: usize, row: &[usize], col: &[usize], lo: &[u64], hi: &[u64])
+fn add_columns(
+    s: &mut [u64],
+    m: usize,
+    n: usize,
+    row: &[usize],
+    col: &[usize],
+    lo: &[u64],
+    hi: &[u64],
+)
     requires { ⌜ 2 * m + 2 * n ≤ length (now s) ⌝ }
     requires { ⌜ Placed m n (now row) (now col) (now lo) (now hi) ⌝ }
     ensures { λ _. ⌜ elements (now (s .exit)) ≡ raised (rowTotal (share (drop m (elements (now (s .entry))))) (entriesOf (now (col .entry)) (now (row .entry)) (now (lo .entry)) (now (hi .entry)))) (elements (now (s .entry))) ⌝ }
@@ -42,7 +51,17 @@ fn add_columns(s: &mut [u64], m: usize, n: usize, row: &[usize], col: &[usize], 
 }
 
 // Adds c times a matrix's table at the point, n rows, to the first m elements.
-fn add_matrix(s: &mut [u64], m: usize, n: usize, row: &[usize], col: &[usize], lo: &[u64], hi: &[u64], point: &[u64], c: Gf128)
+fn add_matrix(
+    s: &mut [u64],
+    m: usize,
+    n: usize,
+    row: &[usize],
+    col: &[usize],
+    lo: &[u64],
+    hi: &[u64],
+    point: &[u64],
+    c: Gf128,
+)
     requires { ⌜ Fit m n (now point) (now s) ⌝ }
     requires { ⌜ Placed m n (now row) (now col) (now lo) (now hi) ⌝ }
     ensures { λ _. ⌜ take m (elements (now (s .exit))) ≡ raised (column (value c) (elements (now (point .entry))) (now (row .entry)) (now (col .entry)) (now (lo .entry)) (now (hi .entry))) (take m (elements (now (s .entry)))) ⌝ }
@@ -174,7 +193,7 @@ fn combine(
 }
 
 // The larger of two numbers.
-fn larger(a: usize, b: usize) -> usize
+pub(crate) fn larger(a: usize, b: usize) -> usize
     ensures { λ r. ⌜ r ≡ max a b ⌝ }
 {
     if a < b { b } else { a }
@@ -290,7 +309,15 @@ pub fn systems_refusal(
 }
 
 // 11 and 15: the alphas, the row points of nb and nf rows, and how many words are lent.
-fn points_refusal(m: usize, nb: usize, nf: usize, alphas: &[u64], pb: &[u64], pf: &[u64], room: usize) -> u32
+fn points_refusal(
+    m: usize,
+    nb: usize,
+    nf: usize,
+    alphas: &[u64],
+    pb: &[u64],
+    pf: &[u64],
+    room: usize,
+) -> u32
     requires { ⌜ (m ≤ 65536) × (nb ≤ 65536) × (nf ≤ 65536) ⌝ }
     ensures { λ r. ⌜ r ≡ noted 0 (pointTests m nb nf (now (alphas .entry)) (now (pb .entry)) (now (pf .entry)) room) ⌝ }
 {
@@ -298,4 +325,272 @@ fn points_refusal(m: usize, nb: usize, nf: usize, alphas: &[u64], pb: &[u64], pf
     let z = tests::note(z, 11, pb.len() != 2 * sizes::log2(nb));
     let z = tests::note(z, 11, pf.len() != 2 * sizes::log2(nf));
     tests::note(z, 15, room < 2 * m + 2 * larger(nb, nf))
+}
+
+// The combined table within one slice, in its first 2m words; the next 2R words, R being the larger row count, are 0 at exit. 1, 4
+// to 7; 11: not twelve words of alphas, or a point that is not of its rows' length; 15: s is shorter.
+pub fn combine_in(
+    s: &mut [u64],
+    m: usize,
+    abrows: usize,
+    abcols: usize,
+    abrow: &[usize],
+    abcol: &[usize],
+    ablo: &[u64],
+    abhi: &[u64],
+    bbrows: usize,
+    bbcols: usize,
+    bbrow: &[usize],
+    bbcol: &[usize],
+    bblo: &[u64],
+    bbhi: &[u64],
+    cbrows: usize,
+    cbcols: usize,
+    cbrow: &[usize],
+    cbcol: &[usize],
+    cblo: &[u64],
+    cbhi: &[u64],
+    afrows: usize,
+    afcols: usize,
+    afrow: &[usize],
+    afcol: &[usize],
+    aflo: &[u64],
+    afhi: &[u64],
+    bfrows: usize,
+    bfcols: usize,
+    bfrow: &[usize],
+    bfcol: &[usize],
+    bflo: &[u64],
+    bfhi: &[u64],
+    cfrows: usize,
+    cfcols: usize,
+    cfrow: &[usize],
+    cfcol: &[usize],
+    cflo: &[u64],
+    cfhi: &[u64],
+    alphas: &[u64],
+    pb: &[u64],
+    pf: &[u64],
+) -> u32
+    ensures answer { λ r. ⌜ r ≡ comboRefusal m (system (lent abrows abcols (now (abrow .entry)) (now (abcol .entry)) (now (ablo .entry)) (now (abhi .entry))) (lent bbrows bbcols (now (bbrow .entry)) (now (bbcol .entry)) (now (bblo .entry)) (now (bbhi .entry))) (lent cbrows cbcols (now (cbrow .entry)) (now (cbcol .entry)) (now (cblo .entry)) (now (cbhi .entry)))) (system (lent afrows afcols (now (afrow .entry)) (now (afcol .entry)) (now (aflo .entry)) (now (afhi .entry))) (lent bfrows bfcols (now (bfrow .entry)) (now (bfcol .entry)) (now (bflo .entry)) (now (bfhi .entry))) (lent cfrows cfcols (now (cfrow .entry)) (now (cfcol .entry)) (now (cflo .entry)) (now (cfhi .entry)))) (now (alphas .entry)) (now (pb .entry)) (now (pf .entry)) (length (now (s .entry))) ⌝ }
+    ensures table { λ _. ⌜ now (s .exit) ≡ comboIn m (system (lent abrows abcols (now (abrow .entry)) (now (abcol .entry)) (now (ablo .entry)) (now (abhi .entry))) (lent bbrows bbcols (now (bbrow .entry)) (now (bbcol .entry)) (now (bblo .entry)) (now (bbhi .entry))) (lent cbrows cbcols (now (cbrow .entry)) (now (cbcol .entry)) (now (cblo .entry)) (now (cbhi .entry)))) (system (lent afrows afcols (now (afrow .entry)) (now (afcol .entry)) (now (aflo .entry)) (now (afhi .entry))) (lent bfrows bfcols (now (bfrow .entry)) (now (bfcol .entry)) (now (bflo .entry)) (now (bfhi .entry))) (lent cfrows cfcols (now (cfrow .entry)) (now (cfcol .entry)) (now (cflo .entry)) (now (cfhi .entry)))) (now (alphas .entry)) (now (pb .entry)) (now (pf .entry)) (now (s .entry)) ⌝ }
+{
+    let n = systems_refusal(
+        m,
+        abrows,
+        abcols,
+        abrow,
+        abcol,
+        ablo,
+        abhi,
+        bbrows,
+        bbcols,
+        bbrow,
+        bbcol,
+        bblo,
+        bbhi,
+        cbrows,
+        cbcols,
+        cbrow,
+        cbcol,
+        cblo,
+        cbhi,
+        afrows,
+        afcols,
+        afrow,
+        afcol,
+        aflo,
+        afhi,
+        bfrows,
+        bfcols,
+        bfrow,
+        bfcol,
+        bflo,
+        bfhi,
+        cfrows,
+        cfcols,
+        cfrow,
+        cfcol,
+        cflo,
+        cfhi,
+    );
+    if n != 0 {
+        return n;
+    }
+    let n = points_refusal(m, abrows, afrows, alphas, pb, pf, s.len());
+    if n != 0 {
+        return n;
+    }
+    let end = 2 * m + 2 * larger(abrows, afrows);
+    combine(
+        &mut s[..end],
+        m,
+        abrows,
+        afrows,
+        abrow,
+        abcol,
+        ablo,
+        abhi,
+        bbrow,
+        bbcol,
+        bblo,
+        bbhi,
+        cbrow,
+        cbcol,
+        cblo,
+        cbhi,
+        afrow,
+        afcol,
+        aflo,
+        afhi,
+        bfrow,
+        bfcol,
+        bflo,
+        bfhi,
+        cfrow,
+        cfcol,
+        cflo,
+        cfhi,
+        alphas,
+        pb,
+        pf,
+    );
+    0
+}
+
+// The same with the table in out, its other words stay; the scratch words are 0 at exit. 15: out is below 2m words, or the scratch
+// below 2m + 2R.
+pub fn build_m_combo(
+    m: usize,
+    abrows: usize,
+    abcols: usize,
+    abrow: &[usize],
+    abcol: &[usize],
+    ablo: &[u64],
+    abhi: &[u64],
+    bbrows: usize,
+    bbcols: usize,
+    bbrow: &[usize],
+    bbcol: &[usize],
+    bblo: &[u64],
+    bbhi: &[u64],
+    cbrows: usize,
+    cbcols: usize,
+    cbrow: &[usize],
+    cbcol: &[usize],
+    cblo: &[u64],
+    cbhi: &[u64],
+    afrows: usize,
+    afcols: usize,
+    afrow: &[usize],
+    afcol: &[usize],
+    aflo: &[u64],
+    afhi: &[u64],
+    bfrows: usize,
+    bfcols: usize,
+    bfrow: &[usize],
+    bfcol: &[usize],
+    bflo: &[u64],
+    bfhi: &[u64],
+    cfrows: usize,
+    cfcols: usize,
+    cfrow: &[usize],
+    cfcol: &[usize],
+    cflo: &[u64],
+    cfhi: &[u64],
+    alphas: &[u64],
+    pb: &[u64],
+    pf: &[u64],
+    out: &mut [u64],
+    scratch: &mut [u64],
+) -> u32
+    ensures answer { λ r. ⌜ r ≡ mComboRefusal m (system (lent abrows abcols (now (abrow .entry)) (now (abcol .entry)) (now (ablo .entry)) (now (abhi .entry))) (lent bbrows bbcols (now (bbrow .entry)) (now (bbcol .entry)) (now (bblo .entry)) (now (bbhi .entry))) (lent cbrows cbcols (now (cbrow .entry)) (now (cbcol .entry)) (now (cblo .entry)) (now (cbhi .entry)))) (system (lent afrows afcols (now (afrow .entry)) (now (afcol .entry)) (now (aflo .entry)) (now (afhi .entry))) (lent bfrows bfcols (now (bfrow .entry)) (now (bfcol .entry)) (now (bflo .entry)) (now (bfhi .entry))) (lent cfrows cfcols (now (cfrow .entry)) (now (cfcol .entry)) (now (cflo .entry)) (now (cfhi .entry)))) (now (alphas .entry)) (now (pb .entry)) (now (pf .entry)) (length (now (out .entry))) (length (now (scratch .entry))) ⌝ }
+    ensures table { λ _. ⌜ now (out .exit) ≡ mComboOut m (system (lent abrows abcols (now (abrow .entry)) (now (abcol .entry)) (now (ablo .entry)) (now (abhi .entry))) (lent bbrows bbcols (now (bbrow .entry)) (now (bbcol .entry)) (now (bblo .entry)) (now (bbhi .entry))) (lent cbrows cbcols (now (cbrow .entry)) (now (cbcol .entry)) (now (cblo .entry)) (now (cbhi .entry)))) (system (lent afrows afcols (now (afrow .entry)) (now (afcol .entry)) (now (aflo .entry)) (now (afhi .entry))) (lent bfrows bfcols (now (bfrow .entry)) (now (bfcol .entry)) (now (bflo .entry)) (now (bfhi .entry))) (lent cfrows cfcols (now (cfrow .entry)) (now (cfcol .entry)) (now (cflo .entry)) (now (cfhi .entry)))) (now (alphas .entry)) (now (pb .entry)) (now (pf .entry)) (now (out .entry)) (length (now (scratch .entry))) ⌝ }
+    ensures cleared { λ _. ⌜ now (scratch .exit) ≡ mComboScratch m (system (lent abrows abcols (now (abrow .entry)) (now (abcol .entry)) (now (ablo .entry)) (now (abhi .entry))) (lent bbrows bbcols (now (bbrow .entry)) (now (bbcol .entry)) (now (bblo .entry)) (now (bbhi .entry))) (lent cbrows cbcols (now (cbrow .entry)) (now (cbcol .entry)) (now (cblo .entry)) (now (cbhi .entry)))) (system (lent afrows afcols (now (afrow .entry)) (now (afcol .entry)) (now (aflo .entry)) (now (afhi .entry))) (lent bfrows bfcols (now (bfrow .entry)) (now (bfcol .entry)) (now (bflo .entry)) (now (bfhi .entry))) (lent cfrows cfcols (now (cfrow .entry)) (now (cfcol .entry)) (now (cflo .entry)) (now (cfhi .entry)))) (now (alphas .entry)) (now (pb .entry)) (now (pf .entry)) (length (now (out .entry))) (now (scratch .entry)) ⌝ }
+{
+    let n = systems_refusal(
+        m,
+        abrows,
+        abcols,
+        abrow,
+        abcol,
+        ablo,
+        abhi,
+        bbrows,
+        bbcols,
+        bbrow,
+        bbcol,
+        bblo,
+        bbhi,
+        cbrows,
+        cbcols,
+        cbrow,
+        cbcol,
+        cblo,
+        cbhi,
+        afrows,
+        afcols,
+        afrow,
+        afcol,
+        aflo,
+        afhi,
+        bfrows,
+        bfcols,
+        bfrow,
+        bfcol,
+        bflo,
+        bfhi,
+        cfrows,
+        cfcols,
+        cfrow,
+        cfcol,
+        cflo,
+        cfhi,
+    );
+    if n != 0 {
+        return n;
+    }
+    let n = points_refusal(m, abrows, afrows, alphas, pb, pf, scratch.len());
+    let n = tests::note(n, 15, out.len() < 2 * m);
+    if n != 0 {
+        return n;
+    }
+    let end = 2 * m + 2 * larger(abrows, afrows);
+    let k = 2 * m;
+    combine(
+        &mut scratch[..end],
+        m,
+        abrows,
+        afrows,
+        abrow,
+        abcol,
+        ablo,
+        abhi,
+        bbrow,
+        bbcol,
+        bblo,
+        bbhi,
+        cbrow,
+        cbcol,
+        cblo,
+        cbhi,
+        afrow,
+        afcol,
+        aflo,
+        afhi,
+        bfrow,
+        bfcol,
+        bflo,
+        bfhi,
+        cfrow,
+        cfcol,
+        cflo,
+        cfhi,
+        alphas,
+        pb,
+        pf,
+    );
+    words::copy(&scratch[..k], out);
+    words::clear(&mut scratch[..k]);
+    0
 }

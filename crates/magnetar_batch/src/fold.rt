@@ -149,14 +149,14 @@ fn add_logins_in(packed: &[u64], q: usize, w: usize, s: &mut [u64])
     ensures { λ _. ⌜ elements (now (s .exit)) ≡ raised (foldSum w (now (packed .entry)) (drop w (elements (now (s .entry)))) q) (elements (now (s .entry))) ⌝ }
 {
     let k = r1cs::login_words(w);
-    let mut u = 0;
-    while u < q {
-        let a = u * k;
+    let mut v = 0;
+    while v < q {
+        let a = v * k;
         let b = a + k;
-        let at = w + u;
+        let at = w + v;
         let e = words::get(s, at);
         add_login(&packed[a..b], w, e, s);
-        u += 1;
+        v += 1;
     }
 }
 

@@ -1,4 +1,5 @@
-// Folds of a packed batch over its logins, and the six matrices combined.
+// Folds of a packed batch over its logins, the six matrices combined, and the plain row check.
+pub mod check;
 pub mod combo;
 pub mod fold;
 mod room;

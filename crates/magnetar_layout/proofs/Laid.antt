@@ -24,7 +24,7 @@ use Rattle.magnetar_layout.specs.Layout.{nextMultiple, offsetsFrom, endF
 use Rattle.magnetar_layout.proofs.EveryLaws.{both, every-at, every-tail, every-drop}
 
 -- ---- half of a power of two
-half-power : (w : ℕ) → 1 ≤ w → w ≤ 32768 → 2 * w ≡ 2 ^ log₂ (2 * w) → w ≡ 2 ^ log₂ w
+pub half-power : (w : ℕ) → 1 ≤ w → w ≤ 32768 → 2 * w ≡ 2 ^ log₂ (2 * w) → w ≡ 2 ^ log₂ w
 half-power w l h e = go (log₂ (2 * w)) e
   where
     go : (k : ℕ) → 2 * w ≡ 2 ^ k → w ≡ 2 ^ log₂ w

@@ -1,10 +1,10 @@
 -- What is left of a table when all its variables are bound is its value at the point; and the value of a segment of the folded bits is
 -- the sum that its claim is about.
-use mathlib.Core.Path.{_≡_, refl, sym, ap, ap₂, _∙_, subst}
+use mathlib.Core.Path.{_≡_, refl, sym, ap, ap₂, _∙_}
 use mathlib.Core.Bool.{Bool, true, false}
 use mathlib.Core.List.{List, [], _∷_, _++_, reverse, reverse-cons, append-nil, append-assoc}
 use mathlib.Core.Logic.{_⊎_, inl, inr}
-use Prim.Native.Nat.{ℕ, zero, suc, _+_, _-_, _*_, _/_, _%_, _^_, _≤_, _<_}
+use Prim.Native.Nat.{ℕ, zero, suc, _+_, _-_, _*_, _/_, _^_, _≤_, _<_}
 use native.Mathlib.Nat.{zero-add, two-pow-succ}
 use native.Mathlib.Omega.{arith}
 use borrow.Author.Tests.{ltb-true, ltb-false}
@@ -15,14 +15,14 @@ use lib.Seq.{length-take-le, getD-take, getD-drop}
 use Rattle.magnetar_field.specs.Gf128.{_⊕_, _⊗_}
 use Rattle.magnetar_field.specs.Tabulate.{tabulate}
 use Rattle.magnetar_field.specs.Doubling.{doubled}
-use Rattle.magnetar_field.specs.EqTable.{eqFactor, odd, eqAt, eqTable}
+use Rattle.magnetar_field.specs.EqTable.{eqAt, eqTable}
 use Rattle.magnetar_field.specs.Multilinear.{dot, mle, line, insertZero, bindVar}
 use Rattle.magnetar_field.proofs.Xor.{xor, ⊕-lt, ⊕-four, ⊕-zero, ⊕-comm, ⊕-assoc}
-use Rattle.magnetar_field.proofs.Product.{⊗-comm, ⊗-assoc, ⊗-left-comm, ⊗-⊕, ⊕-⊗, ⊗-lt, ⊗-zero, one-⊗}
+use Rattle.magnetar_field.proofs.Product.{⊗-comm, ⊗-left-comm, ⊗-⊕, ⊗-lt}
 use Rattle.magnetar_field.proofs.Tabulation.{tabulate-length, tabulate-get, tabulate-out, tabulate-ext}
-use Rattle.magnetar_field.proofs.Extension.{mle-snoc, mle-nil, line-sum, dot-nil}
+use Rattle.magnetar_field.proofs.Extension.{mle-snoc, mle-nil, dot-nil}
 use Rattle.magnetar_field.proofs.Polynomial.{AllBelow}
-use Rattle.magnetar_field.proofs.EqTables.{eqTable-length, eqTable-get, eqTable-cons}
+use Rattle.magnetar_field.proofs.EqTables.{eqTable-length, eqTable-get, scaled-one, scaled-cons}
 use Rattle.magnetar_field.proofs.Evaluating.{bindVar-length}
 use Rattle.magnetar_sumcheck.specs.Order.{nextVar, fewer}
 use Rattle.magnetar_sumcheck.specs.Messages.{Outer, outerStart, outerVar, outerFold}
@@ -71,6 +71,9 @@ dot-doubled r (v ∷ e) (a ∷ b ∷ t) h =
   where
     pair : (r v a b s : ℕ) → a ⊗ (v ⊕ v ⊗ r) ⊕ (b ⊗ (v ⊗ r) ⊕ s) ≡ line r a b ⊗ v ⊕ s
     pair r v a b s = unfold line in simp (xor, ⊗-comm, ⊗-left-comm, ⊗-⊕)
+
+eqTable-cons : (r : ℕ) (p : List ℕ) → eqTable (r ∷ p) ≡ doubled r (eqTable p)
+eqTable-cons r p = sym (scaled-one (r ∷ p)) ∙ scaled-cons 1 r p ∙ ap (doubled r) (scaled-one p)
 
 pub mle-cons : (t p : List ℕ) (r : ℕ) → length t ≡ 2 * 2 ^ length p → mle t (r ∷ p) ≡ mle (bindVar 0 r t) p
 unfolding mle
@@ -167,9 +170,6 @@ fold-c (r ∷ rs) S = fold-c rs (outerFold r S) ∙ ap (λ (n : ℕ). bindAll (f
 
 -- what is left of them at the end
 module _ (sh rows tau a b c : List ℕ) (s : ℕ) (hs : length sh ≡ s) (ht : length tau ≡ length sh + length rows) where
-  begin : Outer
-  begin = outerStart s tau a b c
-
   left : (t : List ℕ) → length t ≡ 2 ^ length tau → Elements t
       → getD (bindAll s (length tau) (sh ++ rows) t) 0 0 ≡ mle t (rows ++ reverse sh)
   left t h e =

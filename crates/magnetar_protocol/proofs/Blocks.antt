@@ -1,6 +1,6 @@
 -- The verifier's answer and its stop in two blocks, before and after the alphas; and what depends on the sizes of a relation alone is
 -- the same at its outline.
-use mathlib.Core.Path.{_≡_, refl, sym, ap, ap₂, _∙_}
+use mathlib.Core.Path.{_≡_, refl, sym, ap, _∙_}
 use mathlib.Core.Bool.{Bool, true, false, cond}
 use mathlib.Core.List.{List, [], _∷_, _++_, append-assoc}
 use Prim.Native.Nat.{ℕ, zero, suc, _+_, _*_, _<_}
@@ -13,15 +13,15 @@ use Rattle.magnetar_field.specs.EqTable.{eqAt}
 use Rattle.magnetar_field.specs.Multilinear.{mle}
 use Rattle.magnetar_hash.specs.declared.transcript.Transcript.{Transcript}
 use Rattle.magnetar_r1cs.specs.Batch.{Relation}
-use Rattle.magnetar_r1cs.specs.Layout.{localVars, suffix}
+use Rattle.magnetar_layout.specs.Layout.{localVars, suffix}
 use Rattle.magnetar_protocol.specs.Shape.{logLogins, proofElements}
 use Rattle.magnetar_protocol.specs.Proof.{binMessages, fldMessages, terminals, innerRounds, valueZ, segmentValues}
-use Rattle.magnetar_protocol.specs.Draws.{Draws, drawCount, drawsOf, loginPoint, lowPoint, topElement}
+use Rattle.magnetar_protocol.specs.Draws.{Draws, drawCount, drawsOf, lowPoint, topElement}
 use Rattle.magnetar_protocol.specs.Schedule.{outline, schedule, afterTaus, afterInner}
 use Rattle.magnetar_protocol.specs.Checks.{Check, binRound, fldRound, innerClaim, segmentSum, firstRefusal, firstStop, checks, sharedChecks, rowChecks, terminalChecks, innerChecks, identityCheck}
 use Rattle.magnetar_protocol.specs.Run.{verdict, claims}
 use Rattle.magnetar_protocol.specs.RealRun.{stop}
-use Rattle.magnetar_protocol.specs.Stepwise.{Steps, Tables, InnerSteps, tauSteps, outerBegin, binRows, fldRows, outerRounds, terminalsLeft, outerAll, innerRun, segmentValue, lowDraws, ended, innerAll}
+use Rattle.magnetar_protocol.specs.Stepwise.{Steps, Tables, tauSteps, outerBegin, binRows, fldRows, outerRounds, terminalsLeft, outerAll, innerRun, segmentValue, lowDraws, ended, innerAll}
 use Rattle.magnetar_protocol.proofs.Phases.{Numbered, numbered-append, orElse, first-append, shared-numbered, rows-numbered, terminals-numbered, inner-numbered}
 
 -- ---- the stop of two lists of checks
@@ -129,9 +129,9 @@ module _ (r : Relation) where
     unfolding sharedChecks binMessages fldMessages
     shared-outlined i zero = refl
     shared-outlined i (suc n) = λ j.
-      record { refusal = 21; passes = binRound r x w D i; events = afterTaus r + 2 * suc i }
-      ∷ record { refusal = 22; passes = fldRound r x w D i; events = afterTaus r + 2 * suc i }
-      ∷ shared-outlined (suc i) n j
+        record { refusal = 21; passes = binRound r x w D i; events = afterTaus r + 2 * suc i }
+        ∷ record { refusal = 22; passes = fldRound r x w D i; events = afterTaus r + 2 * suc i }
+        ∷ shared-outlined (suc i) n j
 
     pub rows-outlined : rowChecks r x w D ≡ rowChecks (outlined r) x w D
     unfolding rowChecks binMessages fldMessages

@@ -1,16 +1,16 @@
 -- A schedule played: part after part, how many events and draws there are, and that every draw is an element.
-use mathlib.Core.Path.{_≡_, refl, sym, ap, ap₂, _∙_, subst}
+use mathlib.Core.Path.{_≡_, refl, sym, ap, _∙_, subst}
 use mathlib.Core.List.{List, [], _∷_, _++_, append-nil, append-assoc}
-use Prim.Native.Nat.{ℕ, zero, suc, _+_, _*_, _/_, _%_, _^_, _≤_, _<_}
+use Prim.Native.Nat.{ℕ, zero, suc, _+_, _*_, _^_, _≤_, _<_}
 use native.Mathlib.Nat.{mod-lt, add-zero}
 use native.Mathlib.Omega.{arith}
 use lib.Dec.{lit<, lit≤}
 use lib.ListN.{length, getD, take, drop, replicate, length-append, length-replicate, length-drop}
-use lib.Pow.{pow-pos, pow-add}
+use lib.Pow.{pow-add}
 use lib.Seq.{length-take-le, getD-take, getD-drop}
 use Rattle.magnetar_field.specs.Gf128.{value}
 use Rattle.magnetar_field.proofs.Polynomial.{AllBelow}
-use Rattle.magnetar_hash.specs.Bytes.{number, ascii}
+use Rattle.magnetar_hash.specs.Bytes.{number}
 use Rattle.magnetar_hash.specs.Sha3.{squeezed, sha3}
 use Rattle.magnetar_hash.specs.Parts.{sha3Domain}
 use Rattle.magnetar_hash.specs.declared.transcript.Transcript.{Transcript}
@@ -18,10 +18,9 @@ use Rattle.magnetar_hash.specs.Transcript.{element, drawn}
 use Rattle.magnetar_hash.proofs.Squeeze.{length-squeezed, get-squeezed}
 use Rattle.magnetar_r1cs.specs.Batch.{Relation}
 use Rattle.magnetar_r1cs.proofs.Digits.{value-lt}
-use Rattle.magnetar_protocol.specs.Shape.{logLogins, logBin, logFld, logCols, beforeTerminals, beforeInner, beforeEnd}
 use Rattle.magnetar_protocol.specs.Proof.{part}
 use Rattle.magnetar_protocol.specs.Draws.{drawCount}
-use Rattle.magnetar_protocol.specs.Schedule.{Event, absorb, draw, numbered, rounds, singles, schedule, afterInner}
+use Rattle.magnetar_protocol.specs.Schedule.{Event, absorb, draw, rounds, singles, schedule, afterInner}
 use Rattle.magnetar_protocol.specs.Play.{Played, start, absorbing, drawing, play, heard}
 use Rattle.magnetar_protocol.specs.RunSizes.{Elements}
 use Rattle.magnetar_protocol.specs.RealRun.{verifierDraws}
@@ -46,6 +45,11 @@ unfolding play
 play-onto w [] d p = refl
 play-onto w (absorb l i n ∷ es) d p = play-onto w es d (absorbing l (part i n w) p)
 play-onto w (draw l ∷ es) d p = ap (play w es) (drawing-onto d l p) ∙ play-onto w es d (drawing l p)
+
+pub play-after : (w : List ℕ) (es : List Event) (p : Played) → play w es p ≡ onto (p .draws) (play w es (start (p .transcript)))
+play-after w es p =
+    ap (λ (d : List ℕ). play w es (record { transcript = p .transcript; draws = d })) (sym (append-nil (p .draws)))
+    ∙ play-onto w es (p .draws) (start (p .transcript))
 
 -- ---- counts
 pub rounds-length : (label : ℕ → List ℕ) (first size i n : ℕ) → length (rounds label first size i n) ≡ 2 * n

@@ -31,3 +31,5 @@ pub mod Bindings
 pub mod Stepwise
 pub mod ProverRun
 pub mod RealRuns
+pub mod Splits
+pub mod Absorbed

@@ -1,6 +1,6 @@
 -- The words of the prover's run are the honest words at its draws.
 use mathlib.Core.Path.{_≡_, refl, sym, ap, ap₂, _∙_, subst}
-use mathlib.Core.List.{List, [], _∷_, _++_, reverse}
+use mathlib.Core.List.{List, [], _∷_, _++_}
 use Prim.Native.Nat.{ℕ, zero, suc, _+_, _-_, _*_, _/_, _^_, _≤_, _<_}
 use native.Mathlib.Omega.{arith}
 use mathlib.Core.Bool.{Bool, true, false, cond}
@@ -21,8 +21,8 @@ use Rattle.magnetar_sumcheck.specs.Messages.{Outer, outerStart, outerMessages, 
 use Rattle.magnetar_r1cs.specs.Sum.{blocks}
 use Rattle.magnetar_r1cs.specs.Matrix.{Entry, Matrix, System, sumOver, rowTotal, share, timesAt, times}
 use Rattle.magnetar_r1cs.specs.Batch.{Relation, Batch, folded}
-use Rattle.magnetar_r1cs.specs.Layout.{offset, localVars}
-use Rattle.magnetar_protocol.specs.Shape.{logLogins, logBin, logFld, logCols}
+use Rattle.magnetar_layout.specs.Layout.{offset}
+use Rattle.magnetar_protocol.specs.Shape.{logLogins, logCols}
 use Rattle.magnetar_protocol.specs.Draws.{Draws, drawCount, drawsOf, loginPoint, lowPoint}
 use Rattle.magnetar_protocol.specs.Checks.{combined}
 use Rattle.magnetar_protocol.specs.Run.{trueValue, claims}
@@ -39,7 +39,7 @@ use Rattle.magnetar_protocol.proofs.HonestParts.{outer-count, segment-p
 use Rattle.magnetar_protocol.proofs.HonestBelow.{elements-of, both, tabulate-below, honest-elements}
 use Rattle.magnetar_protocol.proofs.StepLaws.{folds, messages-append, binds}
 use Rattle.magnetar_protocol.proofs.Bindings.{binds-left, left-a, left-b, left-c, segment-is, folded-elements}
-use Rattle.magnetar_protocol.proofs.Stepwise.{elements-front, tau-bin, tau-fld, shared, row-bin, row-fld, alpha, tau-bin-length, tau-fld-length, shared-length, row-bin-length, row-fld-length, alpha-length, leftOf, binAtStart, fldAtStart, ends-bin, ends-fld, outerSaid, inner-of, inner-of-length, lastSaid, proving-said, proving-count, proving-elements, proving-after, outer-parts, parts, parts-are}
+use Rattle.magnetar_protocol.proofs.Stepwise.{elements-front, shared, tau-bin-length, tau-fld-length, shared-length, row-bin-length, row-fld-length, alpha-length, leftOf, binAtStart, fldAtStart, ends-bin, ends-fld, outerSaid, inner-of, inner-of-length, lastSaid, proving-said, proving-count, proving-elements, proving-after, outer-parts, parts, parts-are}
 
 -- ---- the products are elements
 sum-over-lt : (f : Entry → ℕ) (es : List Entry) → ((e : Entry) → f e < 2 ^ 128) → sumOver f es < 2 ^ 128
@@ -161,13 +161,13 @@ module _ (r : Relation) (b : Batch) (x : List ℕ) (t : Transcript) where
     left-same : leftOf r (productTables r b x) t (ends-bin r (productTables r b x) t) (ends-fld r (productTables r b x) t) ≡ terminalValues r b x D
     unfolding terminalValues
     left-same = λ j.
-      end-a (r .bin) (R .bin) (D .tauBin) (D .rowBin) (parts-cut .tauBin) (parts-cut .rowBin) j
-      ∷ end-b (r .bin) (R .bin) (D .tauBin) (D .rowBin) (parts-cut .tauBin) (parts-cut .rowBin) j
-      ∷ end-c (r .bin) (R .bin) (D .tauBin) (D .rowBin) (parts-cut .tauBin) (parts-cut .rowBin) j
-      ∷ end-a (r .fld) (R .fld) (D .tauFld) (D .rowFld) (parts-cut .tauFld) (parts-cut .rowFld) j
-      ∷ end-b (r .fld) (R .fld) (D .tauFld) (D .rowFld) (parts-cut .tauFld) (parts-cut .rowFld) j
-      ∷ end-c (r .fld) (R .fld) (D .tauFld) (D .rowFld) (parts-cut .tauFld) (parts-cut .rowFld) j
-      ∷ []
+        end-a (r .bin) (R .bin) (D .tauBin) (D .rowBin) (parts-cut .tauBin) (parts-cut .rowBin) j
+        ∷ end-b (r .bin) (R .bin) (D .tauBin) (D .rowBin) (parts-cut .tauBin) (parts-cut .rowBin) j
+        ∷ end-c (r .bin) (R .bin) (D .tauBin) (D .rowBin) (parts-cut .tauBin) (parts-cut .rowBin) j
+        ∷ end-a (r .fld) (R .fld) (D .tauFld) (D .rowFld) (parts-cut .tauFld) (parts-cut .rowFld) j
+        ∷ end-b (r .fld) (R .fld) (D .tauFld) (D .rowFld) (parts-cut .tauFld) (parts-cut .rowFld) j
+        ∷ end-c (r .fld) (R .fld) (D .tauFld) (D .rowFld) (parts-cut .tauFld) (parts-cut .rowFld) j
+        ∷ []
 
     -- ---- v_z and the segment values
     z-elements : Elements (foldedZ r b x D)
@@ -226,8 +226,8 @@ module _ (r : Relation) (b : Batch) (x : List ℕ) (t : Transcript) where
     words-same : outerSaid r (productTables r b x) t (lastSaid r b x t (inner-of r b x t)) ≡ honestWords r b x D
     unfolding honestWords
     words-same = λ j.
-      inTurn (sym bin-first j) (sym fld-first j)
-      ++ (joined (sym bin-later j) ++ (joined (sym fld-later j) ++ (left-same j ++ last-same j)))
+        inTurn (sym bin-first j) (sym fld-first j)
+        ++ (joined (sym bin-later j) ++ (joined (sym fld-later j) ++ (left-same j ++ last-same j)))
 
     -- the words of the run are the honest words at its draws
     pub proving-words : proving r b x t .said ≡ proverWords r b x (proverDraws r b x t)
@@ -257,3 +257,10 @@ module _ (r : Relation) (b : Batch) (x : List ℕ) (t : Transcript) where
   unfolding claims proverClaims proverWords
   prover-claims = ap (λ (l : List ℕ). loginPoint (drawsOf r (proverDraws r b x t)) ++ (lowPoint r (drawsOf r (proverDraws r b x t)) ++ l))
       (segment-part r b x (drawsOf r (proverDraws r b x t)) (cut r (proverDraws r b x t) prover-count))
+
+  -- and so are those that are read from the words and draws of the run
+  pub proving-claims : SizedRelation r → SizedBatch r b → suc (length x) ≡ r .m / 2 → Elements x
+      → claims r (proving r b x t .said) (proving r b x t .played .draws) ≡ proverClaims r b (proverDraws r b x t)
+  proving-claims R B px ex =
+      let e : proving r b x t .played .draws ≡ proverDraws r b x t = unfold proverDraws in refl in
+      ap₂ (claims r) (proving-words R B px ex) e ∙ prover-claims

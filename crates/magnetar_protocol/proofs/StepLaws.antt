@@ -9,7 +9,6 @@ use native.Mathlib.Nat.{mul-suc}
 use lib.ListN.{length, getD, take, drop, replicate, length-append}
 use lib.Seq.{take-at, drop-at, drop-append-add}
 use Rattle.magnetar_hash.specs.Bytes.{ascii}
-use Rattle.magnetar_hash.specs.declared.transcript.Transcript.{Transcript}
 use Rattle.magnetar_sumcheck.specs.Outer.{outerMessage, timesEq}
 use Rattle.magnetar_sumcheck.specs.Inner.{innerMessage, innerSums}
 use Rattle.magnetar_sumcheck.specs.Messages.{Outer, outerNext, outerFold, outerMessages, innerMessages}
@@ -19,7 +18,7 @@ use Rattle.magnetar_r1cs.specs.Batch.{Relation}
 use Rattle.magnetar_protocol.specs.Shape.{logCols}
 use Rattle.magnetar_protocol.specs.Proof.{part}
 use Rattle.magnetar_protocol.specs.Schedule.{Event, absorb, draw, numbered, rounds, singles}
-use Rattle.magnetar_protocol.specs.Play.{Played, play, absorbing, drawing}
+use Rattle.magnetar_protocol.specs.Play.{play, absorbing}
 use Rattle.magnetar_protocol.specs.Prover.{joined, inTurn}
 use Rattle.magnetar_protocol.specs.Stepwise.{Steps, begin, say, ask, answerOf, askTimes, sayEach, OuterSteps, sharedStep, sharedSteps, RowSteps, rowStep, rowSteps, InnerSteps, innerStep, innerSteps, innerRun, segmentValue, lowDraws, ended, innerAll}
 use Rattle.magnetar_protocol.proofs.Counts.{play-append, onto}

@@ -3,7 +3,7 @@
 use mathlib.Core.Path.{_≡_, refl, sym, ap, ap₂, _∙_, subst, subst₂}
 use mathlib.Core.List.{List, [], _∷_, _++_, append-nil}
 use Prim.Native.Nat.{ℕ, zero, suc, _+_, _-_, _*_, _/_}
-use native.Mathlib.Nat.{zero-add, add-zero}
+use native.Mathlib.Nat.{add-zero}
 use native.Mathlib.Omega.{arith}
 use lib.ListN.{length, getD, take, drop, replicate, length-append}
 use lib.Pow.{pow-pos}
@@ -14,15 +14,15 @@ use Rattle.magnetar_hash.specs.Bytes.{ascii}
 use Rattle.magnetar_hash.specs.declared.transcript.Transcript.{Transcript}
 use Rattle.magnetar_sumcheck.specs.Messages.{Outer, outerStart, outerMessages, innerMessages}
 use Rattle.magnetar_r1cs.specs.Batch.{Relation, Batch, folded}
-use Rattle.magnetar_protocol.specs.Shape.{logLogins, logBin, logFld, logCols, beforeTerminals, beforeInner, beforeEnd, proofElements}
+use Rattle.magnetar_protocol.specs.Shape.{logLogins, logBin, logFld, logCols, beforeTerminals, beforeInner, proofElements}
 use Rattle.magnetar_protocol.specs.Draws.{Draws, drawCount, drawsOf, loginPoint}
 use Rattle.magnetar_protocol.specs.Schedule.{Event, absorb, draw, numbered, rounds, singles, schedule}
 use Rattle.magnetar_protocol.specs.Play.{Played, heard}
 use Rattle.magnetar_protocol.specs.Checks.{combined}
 use Rattle.magnetar_protocol.specs.Prover.{joined, inTurn}
-use Rattle.magnetar_protocol.specs.Stepwise.{Steps, begin, say, askTimes, sayEach, OuterSteps, sharedSteps, RowSteps, rowSteps, InnerSteps, innerSteps, Tables, tauSteps, outerBegin, binRows, fldRows, outerRounds, terminalsLeft, outerAll, innerRun, segmentValue, lowDraws, ended, innerAll}
+use Rattle.magnetar_protocol.specs.Stepwise.{Steps, begin, say, askTimes, sayEach, OuterSteps, sharedSteps, RowSteps, rowSteps, InnerSteps, Tables, tauSteps, outerBegin, binRows, fldRows, outerRounds, terminalsLeft, outerAll, innerRun, segmentValue, lowDraws, ended, innerAll}
 use Rattle.magnetar_protocol.specs.RunSizes.{Elements}
-use Rattle.magnetar_protocol.specs.RealRun.{productTables, outerProving, outerDraws, proving, proverDraws}
+use Rattle.magnetar_protocol.specs.RealRun.{productTables, outerProving, outerDraws, proving}
 use Rattle.magnetar_protocol.proofs.Counts.{heard-count, heard-elements}
 use Rattle.magnetar_protocol.proofs.Chunks.{joined-length, inTurn-length, past}
 use Rattle.magnetar_protocol.proofs.HonestParts.{outer-each, outer-count, inner-each, inner-count}
@@ -494,8 +494,15 @@ module _ (r : Relation) (b : Batch) (x : List ℕ) (t : Transcript) where
 
   -- the parts of the draws, up to the alphas and in all
   pub outer-parts : outerDraws r b x t
-      ≡ record { tauBin = tau-bin r T t; tauFld = tau-fld r T t; shared = shared r T t; rowBin = row-bin r T t; rowFld = row-fld r T t;
-        alphas = alpha r T t; inner = [] }
+      ≡ record {
+        tauBin = tau-bin r T t;
+        tauFld = tau-fld r T t;
+        shared = shared r T t;
+        rowBin = row-bin r T t;
+        rowFld = row-fld r T t;
+        alphas = alpha r T t;
+        inner = [];
+      }
   unfolding outerProving
   outer-parts = ap (drawsOf r) (outer-draws r T t) ∙ draws-are r T t [] ∙ λ j. record {
     tauBin = tau-bin r T t;
@@ -508,8 +515,15 @@ module _ (r : Relation) (b : Batch) (x : List ℕ) (t : Transcript) where
   }
 
   abbrev pub parts : Draws
-  parts = record { tauBin = tau-bin r T t; tauFld = tau-fld r T t; shared = shared r T t; rowBin = row-bin r T t; rowFld = row-fld r T t;
-      alphas = alpha r T t; inner = inner-of }
+  parts = record {
+    tauBin = tau-bin r T t;
+    tauFld = tau-fld r T t;
+    shared = shared r T t;
+    rowBin = row-bin r T t;
+    rowFld = row-fld r T t;
+    alphas = alpha r T t;
+    inner = inner-of;
+  }
 
   pub parts-are : drawsOf r (proving r b x t .played .draws) ≡ parts
   parts-are = ap (drawsOf r) proving-draws ∙ draws-are r T t inner-of ∙ λ j. record {

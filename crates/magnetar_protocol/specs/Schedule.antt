@@ -1,6 +1,7 @@
 -- What a run absorbs and draws, in its order: elements of the proof under their labels, and the challenges. It depends on the sizes of
 -- the relation alone.
 -- Assumes nothing.
+use mathlib.Core.Path.{_≡_}
 use mathlib.Core.Bool.{cond}
 use mathlib.Core.List.{List, [], _∷_, _++_}
 use Prim.Native.Nat.{ℕ, zero, suc, _+_, _*_, _/_, _%_}
@@ -85,3 +86,16 @@ outline m q b f ns =
       fld = record { a = blank f m; b = blank f m; c = blank f m };
       lengths = ns;
     }
+
+-- how many elements of the proof are absorbed before draw k of the events
+unfoldable pub absorbedUntil : List Event → ℕ → ℕ
+absorbedUntil [] k = 0
+absorbedUntil (absorb label i n ∷ es) k = n + absorbedUntil es k
+absorbedUntil (draw label ∷ es) zero = 0
+absorbedUntil (draw label ∷ es) (suc k) = absorbedUntil es k
+
+-- where n elements have been absorbed, each of the events absorbs those that come next
+unfoldable pub InOrder : ℕ → List Event → Type 0
+InOrder n [] = Unit {0}
+InOrder n (absorb label i k ∷ es) = (i ≡ n) × InOrder (n + k) es
+InOrder n (draw label ∷ es) = InOrder n es

@@ -78,8 +78,7 @@ loop-again c =
     let l = (c .before .before .before .before .before .before .before .before .before .before .before .before .loop) in
     let p = c .before .before .before .before .before .before .before .before .before .before .before .before .before .before .before .before .before .before .pre .1 in
     let b : getD (now (x .col)) (l .i) 0 < x .m = below-at (x .m) (now (x .col)) (l .i) (omega arith) (p .cols) in
-    let f = factor-at (x .m) (elements (now (x .s))) (elements (l .s)) (getD (now (x .row)) (l .i) 0) (l .inv .1) in
-    (
+    let f = factor-at (x .m) (elements (now (x .s))) (elements (l .s)) (getD (now (x .row)) (l .i) 0) (l .inv .1) in (
       search needs,
       rw (c .before .before .add-at .ensures) (behind-stays (x .m) (elements (now (x .s))) (elements (l .s)) _ _ b (l .inv .1)),
       rw (c .before .before .add-at .ensures, c .before .before .before .scale .ensures, c .before .before .before .before .before .before .get .ensures, f) (walked-more _ _ _ _ _ (l .inv .2) _ (entry-at (now (x .col)) (now (x .row)) (now (x .lo)) (now (x .hi)) (l .i) (p .equal) (omega arith))),

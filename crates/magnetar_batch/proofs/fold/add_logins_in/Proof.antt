@@ -16,10 +16,10 @@ use Rattle.magnetar_batch.proofs.fold.add_logins_in.Statement.{statemen
 use Rattle.magnetar_batch.proofs.fold.add_logins_in.Tie as tie
 
 abbrev Inv-loop : tie.InvT-loop
-Inv-loop packed q w s₀ k u₀ s u = (length s ≡ length s₀) × (u ≤ q) × (k ≡ loginWords w) × (k ≤ 512) × (elements s ≡ raised (foldSum w packed (drop w (elements s₀)) u) (elements s₀))
+Inv-loop packed q w s₀ k v₀ s v = (length s ≡ length s₀) × (v ≤ q) × (k ≡ loginWords w) × (k ≤ 512) × (elements s ≡ raised (foldSum w packed (drop w (elements s₀)) v) (elements s₀))
 
 abbrev μ-loop : tie.MeasureT-loop
-μ-loop packed q w s₀ k u₀ s u = q - u
+μ-loop packed q w s₀ k v₀ s v = q - v
 
 login-words-requires : tie.Need-login-words-requires Inv-loop μ-loop
 login-words-requires c κs = search needs
@@ -28,10 +28,10 @@ loop-holds : tie.Need-loop-holds Inv-loop μ-loop
 loop-holds c = (refl, search needs, c .login-words .ensures, rw (c .login-words .ensures) (words-most _ (c .before .before .before .pre .0)), logins-start _ _ _ _)
 
 mul-a : tie.Need-mul-a Inv-loop μ-loop
-mul-a c = let p = part-of (c .before .before .before .before .before .args .w) _ _ (c .before .loop .u) _ (c .before .before .before .before .before .pre .1) (c .before .loop .inv .3) (c .before .loop .inv .2) (c .before .before .before .before .before .pre .2) (c .loop-test .taken) in omega (arith, p .ends, p .small)
+mul-a c = let p = part-of (c .before .before .before .before .before .args .w) _ _ (c .before .loop .v) _ (c .before .before .before .before .before .pre .1) (c .before .loop .inv .3) (c .before .loop .inv .2) (c .before .before .before .before .before .pre .2) (c .loop-test .taken) in omega (arith, p .ends, p .small)
 
 add-b : tie.Need-add-b Inv-loop μ-loop
-add-b c = let p = part-of (c .before .before .before .before .before .args .w) _ _ (c .before .loop .u) _ (c .before .before .before .before .before .pre .1) (c .before .loop .inv .3) (c .before .loop .inv .2) (c .before .before .before .before .before .pre .2) (c .loop-test .taken) in omega (arith, p .ends, p .small)
+add-b c = let p = part-of (c .before .before .before .before .before .args .w) _ _ (c .before .loop .v) _ (c .before .before .before .before .before .pre .1) (c .before .loop .inv .3) (c .before .loop .inv .2) (c .before .before .before .before .before .pre .2) (c .loop-test .taken) in omega (arith, p .ends, p .small)
 
 add-at : tie.Need-add-at Inv-loop μ-loop
 add-at c = search needs
@@ -40,7 +40,7 @@ get-requires : tie.Need-get-requires Inv-loop μ-loop
 get-requires c κs = search needs
 
 mul-add-login : tie.Need-mul-add-login Inv-loop μ-loop
-mul-add-login c = let p = part-of (c .before .before .before .before .before .before .before .args .w) _ _ (c .before .before .before .loop .u) _ (c .before .before .before .before .before .before .before .pre .1) (c .before .before .before .loop .inv .3) (c .before .before .before .loop .inv .2) (c .before .before .before .before .before .before .before .pre .2) (c .before .before .loop-test .taken) in omega (arith, p .ends, p .small)
+mul-add-login c = let p = part-of (c .before .before .before .before .before .before .before .args .w) _ _ (c .before .before .before .loop .v) _ (c .before .before .before .before .before .before .before .pre .1) (c .before .before .before .loop .inv .3) (c .before .before .before .loop .inv .2) (c .before .before .before .before .before .before .before .pre .2) (c .before .before .loop-test .taken) in omega (arith, p .ends, p .small)
 
 sub-add-login : tie.Need-sub-add-login Inv-loop μ-loop
 sub-add-login c = search needs
@@ -49,13 +49,13 @@ part-add-login-start : tie.Need-part-add-login-start Inv-loop μ-loop
 part-add-login-start c = search needs
 
 part-add-login-end : tie.Need-part-add-login-end Inv-loop μ-loop
-part-add-login-end c = let p = part-of (c .before .before .before .before .before .before .before .args .w) _ _ (c .before .before .before .loop .u) _ (c .before .before .before .before .before .before .before .pre .1) (c .before .before .before .loop .inv .3) (c .before .before .before .loop .inv .2) (c .before .before .before .before .before .before .before .pre .2) (c .before .before .loop-test .taken) in omega (arith, p .ends, p .small)
+part-add-login-end c = let p = part-of (c .before .before .before .before .before .before .before .args .w) _ _ (c .before .before .before .loop .v) _ (c .before .before .before .before .before .before .before .pre .1) (c .before .before .before .loop .inv .3) (c .before .before .before .loop .inv .2) (c .before .before .before .before .before .before .before .pre .2) (c .before .before .loop-test .taken) in omega (arith, p .ends, p .small)
 
 add-login-requires : tie.Need-add-login-requires Inv-loop μ-loop
 add-login-requires c κs = search needs
 
-add-u : tie.Need-add-u Inv-loop μ-loop
-add-u c = search needs
+add-v : tie.Need-add-v Inv-loop μ-loop
+add-v c = search needs
 
 loop-less : tie.Need-loop-less Inv-loop μ-loop
 loop-less c = omega arith
@@ -68,8 +68,8 @@ loop-again c =
       omega arith,
       l .inv .2,
       l .inv .3,
-      logins-more (x .w) _ _ (l .u) _ _ _ (l .inv .4)
-          (rw (part-is (x .w) (x .packed .now) (l .u) _ (l .inv .2), c .before .before .before .before .before .get .ensures, factor-kept (x .w) (x .packed .now) (l .u) (l .u) (elements (now (x .s))) (elements (l .s)) (l .inv .4)) at (c .before .before .add-login .ensures)),
+      logins-more (x .w) _ _ (l .v) _ _ _ (l .inv .4)
+          (rw (part-is (x .w) (x .packed .now) (l .v) _ (l .inv .2), c .before .before .before .before .before .get .ensures, factor-kept (x .w) (x .packed .now) (l .v) (l .v) (elements (now (x .s))) (elements (l .s)) (l .inv .4)) at (c .before .before .add-login .ensures)),
     )
 
 same-length : tie.Need-same-length Inv-loop μ-loop
@@ -78,7 +78,7 @@ same-length c = c .before .loop .inv .0
 returns : tie.Need-returns Inv-loop μ-loop
 returns c =
     let l = (c .before .loop) in
-    let e : l .u ≡ c .before .before .before .before .before .args .q = omega arith in
+    let e : l .v ≡ c .before .before .before .before .before .args .q = omega arith in
     rw e at (l .inv .4)
 
 pub add-logins-in-spec : {M : Type 1} → statement M
@@ -98,7 +98,7 @@ add-logins-in-spec =
     part-add-login-start
     part-add-login-end
     add-login-requires
-    add-u
+    add-v
     loop-less
     loop-again
     same-length

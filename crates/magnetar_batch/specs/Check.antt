@@ -1,0 +1,52 @@
+-- The answer of the plain row check.
+-- Assumes nothing.
+use mathlib.Core.Bool.{not}
+use mathlib.Core.List.{List, [], _∷_, _++_}
+use Prim.Native.Nat.{ℕ, _+_, _*_, _/_, max}
+use lib.Dec.{ltb}
+use lib.ListN.{length, drop, replicate}
+use Rattle.magnetar_field.specs.Refusal.{unlessRefused}
+use Rattle.magnetar_field.specs.Words.{elements}
+use Rattle.magnetar_r1cs.specs.Batch.{Relation}
+use Rattle.magnetar_r1cs.specs.Packed.{unpacked}
+use Rattle.magnetar_r1cs.specs.RowCheck.{Verdict, verdict}
+use Rattle.magnetar_r1cs.specs.RowCheck.Verdict.{good, bin, fld}
+use Rattle.magnetar_layout.specs.Tests.{Tests, noted, sizeTests, packedTests, publicTests}
+use Rattle.magnetar_batch.specs.declared.check.RowCheck.{RowCheck}
+use Rattle.magnetar_batch.specs.declared.check.RowCheck.the-variants as found
+use Rattle.magnetar_batch.specs.Systems.{Lent3, systemOf, systemsTests}
+
+-- a verdict, or the number of a refusal
+pub data Outcome : Type 0 where
+  judged : Verdict → Outcome
+  refused : ℕ → Outcome
+
+abbrev pub outcome : RowCheck → Outcome
+outcome found.Good = judged good
+outcome (found.Bin u i) = judged (bin u i)
+outcome (found.Fld u i) = judged (fld u i)
+outcome (found.Refused n) = refused n
+
+-- the relation of m columns and q logins; the row check has no layout
+abbrev pub relation : ℕ → ℕ → Lent3 → Lent3 → Relation
+relation m q s t = record { m = m; q = q; bin = systemOf s; fld = systemOf t; lengths = [] }
+
+-- 1 to 3, and 4 for q logins of n and k rows
+abbrev pub batchSizes : ℕ → ℕ → ℕ → ℕ → List ℕ → List ℕ → Tests
+batchSizes m q n k ws x =
+    sizeTests m q ++ (packedTests (m / 2) q ws ++ (publicTests m x ++ ((4, ltb 1048576 (q * n)) ∷ (4, ltb 1048576 (q * k)) ∷ [])))
+
+-- ---- `row_check`: m columns, q logins, the systems s and t, the packed words ws, the public words x, and how many words are lent
+unfoldable pub checkRefusal : ℕ → ℕ → Lent3 → Lent3 → List ℕ → List ℕ → ℕ → ℕ
+checkRefusal m q s t ws x room =
+    noted 0 (batchSizes m q (s .a .rows) (t .a .rows) ws x ++ (systemsTests m s t ++ ((15, ltb room (6 * max (s .a .rows) (t .a .rows))) ∷ [])))
+
+abbrev pub checkAnswer : ℕ → ℕ → Lent3 → Lent3 → List ℕ → List ℕ → ℕ → Outcome
+checkAnswer m q s t ws x room =
+    unlessRefused (checkRefusal m q s t ws x room) (judged (verdict (relation m q s t) (unpacked q (m / 2) ws) (elements x)))
+    (refused (checkRefusal m q s t ws x room))
+
+abbrev pub checkScratch : ℕ → ℕ → Lent3 → Lent3 → List ℕ → List ℕ → List ℕ → List ℕ
+checkScratch m q s t ws x w =
+    unlessRefused (checkRefusal m q s t ws x (length w))
+    (replicate (6 * max (s .a .rows) (t .a .rows)) 0 ++ drop (6 * max (s .a .rows) (t .a .rows)) w) w

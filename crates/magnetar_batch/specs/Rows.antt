@@ -1,0 +1,32 @@
+-- What the row check computes for a login. Only the contracts of private functions speak of this.
+-- Assumes nothing.
+use mathlib.Core.Bool.{Bool, cond}
+use mathlib.Core.List.{List, _∷_, _++_}
+use Prim.Native.Nat.{ℕ, _+_, _*_}
+use lib.Dec.{eqb, ltb}
+use lib.ListN.{getD}
+use Rattle.magnetar_field.specs.Gf128.{_⊗_}
+use Rattle.magnetar_field.specs.Tabulate.{tabulate}
+use Rattle.magnetar_r1cs.specs.Matrix.{Entry, rowTotal, share}
+use Rattle.magnetar_r1cs.specs.Packed.{packedBit, loginPart}
+use Rattle.magnetar_r1cs.specs.RowCheck.{firstNot}
+
+-- z = (bits, 1, x) of a login with the words ws and w columns
+unfoldable pub zOf : ℕ → List ℕ → List ℕ → List ℕ
+zOf w ws x = tabulate (packedBit ws) w ++ (1 ∷ x)
+
+-- the products of three matrices with z, one behind the other, n rows each: row i holds
+unfoldable pub holdsAt : List ℕ → ℕ → ℕ → Bool
+holdsAt t n i = eqb (getD t i 0 ⊗ getD t (n + i) 0) (getD t (2 * n + i) 0)
+
+-- the first of n rows that does not hold for z, or n
+unfoldable pub rowOf : List Entry → List Entry → List Entry → ℕ → List ℕ → ℕ
+rowOf a b c n z = firstNot (λ i. eqb (rowTotal (share z) a i ⊗ rowTotal (share z) b i) (rowTotal (share z) c i)) n
+
+-- the same for login u of the packed words ws
+abbrev pub loginRow : List Entry → List Entry → List Entry → ℕ → ℕ → List ℕ → List ℕ → ℕ → ℕ
+loginRow a b c n w ws x u = rowOf a b c n (zOf w (loginPart w ws u) x)
+
+-- the first of q logins with a row that does not hold, or q
+unfoldable pub loginOf : List Entry → List Entry → List Entry → ℕ → ℕ → List ℕ → List ℕ → ℕ → ℕ
+loginOf a b c n w ws x q = firstNot (λ u. eqb (loginRow a b c n w ws x u) n) q

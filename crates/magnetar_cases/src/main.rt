@@ -1,0 +1,136 @@
+// Replays queries on a whole relation: reads the relation with its batch, calls the function that a line names and writes all
+// that the call hands back (docs/VECTORS.md). A line that begins with # is copied.
+mod rowcheck;
+mod runs;
+mod tables;
+mod text;
+
+use crate::text::print;
+
+// The line that tells a relation, by name: its letters, the last one lowest.
+const CASE: u64 = 0x63617365;
+
+// Answers a query on the last relation, or says that it is none.
+fn answered(
+    line: &[u8],
+    nums: &[u64],
+    given: &[u64],
+    sizes: &[usize],
+    out: &mut [u64],
+    claims: &mut [u64],
+    scratch: &mut [u64],
+) -> bool {
+    let op = text::name(line);
+    if tables::answered(op, nums, given, sizes, out, scratch) {
+        return true;
+    }
+    if rowcheck::answered(op, nums, given, sizes, scratch) {
+        return true;
+    }
+    runs::answered(
+        op,
+        runs::state(line),
+        nums,
+        given,
+        sizes,
+        claims,
+        scratch,
+    )
+}
+
+// One line: the numbers of the last relation are in `given` and, as sizes, in `sizes`.
+fn answer(
+    line: &[u8],
+    nums: &mut [u64],
+    given: &mut [u64],
+    sizes: &mut [usize],
+    out: &mut [u64],
+    claims: &mut [u64],
+    scratch: &mut [u64],
+) {
+    if text::byte(line, 0) == b'#' {
+        print(line);
+        print(b"\n");
+        return;
+    }
+    if text::name(line) == CASE {
+        text::fill(given, 0);
+        text::numbers(line, given);
+        text::as_sizes(given, sizes);
+        return;
+    }
+    let n = text::numbers(line, nums);
+    if answered(
+        line,
+        text::first(nums, n),
+        given,
+        sizes,
+        out,
+        claims,
+        scratch,
+    ) {
+        return;
+    }
+    print(b"? unknown query\n");
+}
+
+fn answer_all(
+    input: &[u8],
+    nums: &mut [u64],
+    given: &mut [u64],
+    sizes: &mut [usize],
+    out: &mut [u64],
+    claims: &mut [u64],
+    scratch: &mut [u64],
+) {
+    let mut from = 0;
+    while from < input.len() {
+        let to = text::find(input, from, b'\n');
+        answer(&input[from..to], nums, given, sizes, out, claims, scratch);
+        if to == input.len() {
+            return;
+        }
+        from = to + 1;
+    }
+}
+
+// Answers all that is read.
+fn run(
+    input: &mut [u8],
+    nums: &mut [u64],
+    given: &mut [u64],
+    sizes: &mut [usize],
+    out: &mut [u64],
+    claims: &mut [u64],
+    scratch: &mut [u64],
+) {
+    let n = io::read_full(libc::STDIN_FILENO, input);
+    answer_all(
+        text::first_bytes(input, n),
+        nums,
+        given,
+        sizes,
+        out,
+        claims,
+        scratch,
+    );
+}
+
+fn main() {
+    let mut input = text::mebibyte();
+    let mut nums = [0u64; 1024];
+    let mut given = [0u64; 4096];
+    let mut sizes = [0usize; 4096];
+    let mut out = [0u64; 2048];
+    let mut claims = [0u64; 256];
+    let mut scratch = text::room();
+    run(
+        &mut input,
+        &mut nums,
+        &mut given,
+        &mut sizes,
+        &mut out,
+        &mut claims,
+        &mut scratch,
+    );
+}

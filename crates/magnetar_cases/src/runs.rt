@@ -1,0 +1,166 @@
+// Whole runs: the verifier on a relation.
+use crate::text::at;
+use crate::text::nth;
+use crate::text::nth_sizes;
+use crate::text::number;
+use crate::text::print;
+use crate::text::{self};
+use libc::STDOUT_FILENO;
+use magnetar_hash::transcript::Transcript;
+use magnetar_hash::transcript::TranscriptAnswer;
+use magnetar_spartan::virtual_spartan;
+
+// The queries by name: its letters, the last one lowest.
+
+const VERIFY: u64 = 0x766572696679;
+
+// The 32 bytes that the line's second word spells in hexadecimal.
+pub(crate) fn state(line: &[u8]) -> [u8; 32] {
+    let from = text::plus(text::find(line, 0, b' '), 1);
+    let mut d = [0u8; 32];
+    let mut i = 0;
+    while i < 32 {
+        d[i] = pair(line, text::plus(from, 2 * i));
+        i += 1;
+    }
+    d
+}
+
+// The byte that the two letters from index i on spell.
+fn pair(line: &[u8], i: usize) -> u8 {
+    (text::digit(text::byte(line, i)) << 4) | text::digit(text::byte(line, text::plus(i, 1)))
+}
+
+// Two digits for each byte.
+fn print_bytes(s: &[u8]) {
+    let mut i = 0;
+    while i < s.len() {
+        io::print_hex(STDOUT_FILENO, text::wide_byte(s[i]), 2);
+        i += 1;
+    }
+}
+
+fn print_line(s: &[u64]) {
+    print(b"= ");
+    text::print_words(s);
+    print(b"\n");
+}
+
+fn print_state(t: Transcript) {
+    let s = t.state;
+    print_bytes(&s);
+    print(b" ");
+    text::print_number(t.squeeze_ctr);
+    print(b"\n");
+}
+
+// The transcript after a call, after the number of the refusal where there is one.
+fn print_answer(r: TranscriptAnswer) {
+    if r.code == 0 {
+        print(b"= ");
+    } else {
+        print(b"! ");
+        text::print_number(text::wide(r.code));
+        print(b" ");
+    }
+    print_state(r.transcript);
+}
+
+fn verified(
+    given: &[u64],
+    sizes: &[usize],
+    t: Transcript,
+    claims: &mut [u64],
+    scratch: &mut [u64],
+    proof: &[u64],
+) -> TranscriptAnswer {
+    virtual_spartan::verify_virtual_spartan(
+        claims,
+        scratch,
+        number(sizes, 0, 0),
+        number(sizes, 0, 1),
+        nth_sizes(sizes, 1),
+        number(sizes, 4, 0),
+        number(sizes, 4, 1),
+        nth_sizes(sizes, 5),
+        nth_sizes(sizes, 6),
+        nth(given, 7),
+        nth(given, 8),
+        number(sizes, 9, 0),
+        number(sizes, 9, 1),
+        nth_sizes(sizes, 10),
+        nth_sizes(sizes, 11),
+        nth(given, 12),
+        nth(given, 13),
+        number(sizes, 14, 0),
+        number(sizes, 14, 1),
+        nth_sizes(sizes, 15),
+        nth_sizes(sizes, 16),
+        nth(given, 17),
+        nth(given, 18),
+        number(sizes, 19, 0),
+        number(sizes, 19, 1),
+        nth_sizes(sizes, 20),
+        nth_sizes(sizes, 21),
+        nth(given, 22),
+        nth(given, 23),
+        number(sizes, 24, 0),
+        number(sizes, 24, 1),
+        nth_sizes(sizes, 25),
+        nth_sizes(sizes, 26),
+        nth(given, 27),
+        nth(given, 28),
+        number(sizes, 29, 0),
+        number(sizes, 29, 1),
+        nth_sizes(sizes, 30),
+        nth_sizes(sizes, 31),
+        nth(given, 32),
+        nth(given, 33),
+        nth(given, 2),
+        proof,
+        t,
+    )
+}
+
+// verify STATE CTR C S PROOF: the verifier with C words lent for the claims and S as scratch.
+fn verify(
+    given: &[u64],
+    sizes: &[usize],
+    t: Transcript,
+    claims: &mut [u64],
+    scratch: &mut [u64],
+    proof: &[u64],
+) {
+    let r = verified(given, sizes, t, claims, scratch, proof);
+    print_answer(r);
+    print_line(claims);
+    text::print_cleared(scratch);
+}
+
+// Runs one end on a relation, or says that it is no such query.
+pub(crate) fn answered(
+    op: u64,
+    state: [u8; 32],
+    nums: &[u64],
+    given: &[u64],
+    sizes: &[usize],
+    claims: &mut [u64],
+    scratch: &mut [u64],
+) -> bool {
+    let t = Transcript {
+        state: state,
+        squeeze_ctr: at(nums, 1),
+    };
+    if op == VERIFY {
+        verify(
+            given,
+            sizes,
+            t,
+            text::marked(claims, at(nums, 2)),
+            text::marked(scratch, at(nums, 3)),
+            text::list(nums, 4),
+        );
+        return true;
+    }
+    false
+}

@@ -1,0 +1,44 @@
+-- The tests on the sizes: which of them refuses, and what they leave.
+-- Assumes nothing.
+use mathlib.Core.Path.{_≡_, refl, sym, ap, _∙_}
+use mathlib.Core.Bool.{Bool, true, false, not}
+use mathlib.Core.List.{List, [], _∷_, _++_}
+use Prim.Native.Nat.{ℕ, _+_, _*_, _^_, _≤_, _<_}
+use lib.Dec.{eqb, ltb}
+use lib.ListN.{length}
+use borrow.Author.Tests.{ltb-false, lt-ltb, le-ltb, eqb-true, not-false}
+use Rattle.magnetar_field.specs.Sizes.{log₂}
+use Rattle.magnetar_field.proofs.Log2.{log₂-lt}
+use Rattle.magnetar_layout.specs.Tests.{note, noted}
+use Rattle.magnetar_layout.proofs.Noted.{noted-clear}
+use Rattle.magnetar_checks.specs.Steps.{drawsFor, proofFor, refusalOf}
+
+pub log-small : (n k : ℕ) → k ≡ log₂ n → n < 2 ^ 64 → k < 64
+log-small n k e h = rw e (log₂-lt n h)
+
+-- ---- 10, 11 and 16
+module _ (s b f c l proof draws : ℕ) where
+  pub refused-segments : 64 < l → refusalOf s b f c l proof draws ≡ 10
+  unfolding refusalOf note
+  refused-segments h = rw (lt-ltb 64 l h)
+
+  pub refused-words : (y z dw pw : ℕ) → l ≤ 64 → dw ≡ 2 * drawsFor s b f c → pw ≡ 2 * proofFor s b f c l → y ≡ note 11 (ltb draws dw) 0
+      → z ≡ note 16 (not (eqb proof pw)) y → z ≡ refusalOf s b f c l proof draws
+  unfolding refusalOf note
+  refused-words y z dw pw h ed ep ey ez = rw (ez, ey, ed, ep, le-ltb 64 l h)
+
+pub record Given (s b f c l proof draws : ℕ) : Type 0 where
+  pub few : l ≤ 64
+  pub drawn : 2 * drawsFor s b f c ≤ draws
+  pub exact : proof ≡ 2 * proofFor s b f c l
+
+pub given : (s b f c l proof draws z : ℕ) → z ≡ refusalOf s b f c l proof draws → z ≡ 0 → Given s b f c l proof draws
+unfolding refusalOf
+given s b f c l proof draws z e h =
+    let k = noted-clear 0 ((10, ltb 64 l) ∷ (11, ltb draws (2 * drawsFor s b f c)) ∷ (16, not (eqb proof (2 * proofFor s b f c l))) ∷ []) refl
+        (sym e ∙ h) .1 in
+    record {
+      few = ltb-false 64 l (k .0);
+      drawn = ltb-false draws (2 * drawsFor s b f c) (k .1 .0);
+      exact = eqb-true proof (2 * proofFor s b f c l) (not-false (eqb proof (2 * proofFor s b f c l)) (k .1 .1 .0));
+    }

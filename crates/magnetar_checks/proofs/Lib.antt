@@ -1,0 +1,13 @@
+pub mod Pieces
+pub mod Finding
+pub mod RoundLaws
+pub mod Answers
+pub mod EqParts
+pub mod OuterPhases
+pub mod EqNumbers
+pub mod EndValues
+pub mod EndPhases
+pub mod EndGuard
+pub mod ClaimLaws
+pub mod Guards
+pub mod OuterAnswer

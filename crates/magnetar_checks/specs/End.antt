@@ -1,0 +1,56 @@
+-- The outcome of `end_checks`: the checks 27, 28 and 29, with a table in place of the six matrices combined at the row points.
+-- Assumes nothing.
+use mathlib.Core.Bool.{Bool, not}
+use mathlib.Core.List.{List, [], _∷_, _++_}
+use Prim.Native.Nat.{ℕ, _+_, _*_, _/_}
+use lib.Dec.{eqb}
+use lib.ListN.{take, drop, replicate}
+use Rattle.magnetar_field.specs.Refusal.{unlessRefused}
+use Rattle.magnetar_field.specs.Tabulate.{tabulate}
+use Rattle.magnetar_field.specs.Words.{elements}
+use Rattle.magnetar_field.specs.Multilinear.{mle}
+use Rattle.magnetar_sumcheck.specs.Round.{running}
+use Rattle.magnetar_sumcheck.specs.Inner.{innerEnd}
+use Rattle.magnetar_r1cs.specs.Batch.{Relation}
+use Rattle.magnetar_layout.specs.Tests.{Tests, noted, columnTests, publicTests, layoutTests, roomTest}
+use Rattle.magnetar_protocol.specs.Shape.{logCols}
+use Rattle.magnetar_protocol.specs.Proof.{innerRounds, valueZ}
+use Rattle.magnetar_protocol.specs.Draws.{Draws, drawsOf}
+use Rattle.magnetar_protocol.specs.Schedule.{outline, afterAlphas, afterInner}
+use Rattle.magnetar_protocol.specs.Checks.{Check, roundHolds, innerClaim, identityCheck}
+use Rattle.magnetar_checks.specs.declared.found.Found.{Found}
+use Rattle.magnetar_checks.specs.Found.{firstFound, unlessBad}
+use Rattle.magnetar_checks.specs.Outer.{drawTests, proofTests}
+
+-- the checks of the inner rounds, of the claim that they leave, and of v_z
+unfoldable pub endChecks : Relation → (x w : List ℕ) → Draws → (table : List ℕ) → List Check
+endChecks r x w d table =
+    tabulate (λ i. record {
+      refusal = 27;
+      passes = roundHolds (innerClaim r w d) (innerRounds r w) (d .inner) i;
+      events = afterAlphas r + 2 * i;
+    }) (logCols r)
+    ++ record {
+      refusal = 28;
+      passes = eqb (running (innerClaim r w d) (innerRounds r w) (d .inner)) (innerEnd (mle table (d .inner)) (valueZ r w));
+      events = afterInner r;
+    }
+    ∷ identityCheck r x w d
+
+-- ---- `end_checks`: a relation by its sizes; the public words x, the words of a proof and of draws, and the room s
+unfoldable pub endRefusal : Relation → (x proof draws s : List ℕ) → ℕ
+endRefusal r x proof draws s =
+    noted 0
+    (columnTests (r .m) ++ (publicTests (r .m) x ++ (layoutTests (r .m / 2) (r .lengths)
+    ++ (drawTests r draws ++ (roomTest (4 * r .m) s ++ proofTests r proof)))))
+
+-- the table is the m elements at the front of the room
+unfoldable pub endFound : (m q rowsBin rowsFld : ℕ) → (ns x proof draws s : List ℕ) → Found
+endFound m q b f ns x proof draws s =
+    unlessBad (endRefusal (outline m q b f ns) x proof draws s)
+    (firstFound (endChecks (outline m q b f ns) (elements x) (elements proof) (drawsOf (outline m q b f ns) (elements draws)) (take m (elements s))))
+
+-- the room at exit
+unfoldable pub endRoom : (m q rowsBin rowsFld : ℕ) → (ns x proof draws s : List ℕ) → List ℕ
+endRoom m q b f ns x proof draws s =
+    unlessRefused (endRefusal (outline m q b f ns) x proof draws s) (replicate (4 * m) 0 ++ drop (4 * m) s) s

@@ -1,0 +1,7 @@
+pub mod Found
+pub mod Steps
+pub mod Outer
+pub mod EndSteps
+pub mod End
+pub mod ClaimSteps
+pub mod Claims

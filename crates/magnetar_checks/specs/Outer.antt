@@ -1,0 +1,39 @@
+-- The outcome of `outer_checks`: the checks 21 to 26.
+-- Assumes nothing.
+use mathlib.Core.Bool.{not}
+use mathlib.Core.List.{List, [], _∷_, _++_}
+use Prim.Native.Nat.{ℕ, _*_}
+use lib.Dec.{eqb, ltb}
+use lib.ListN.{length}
+use Rattle.magnetar_field.specs.Words.{elements}
+use Rattle.magnetar_r1cs.specs.Batch.{Relation}
+use Rattle.magnetar_layout.specs.Tests.{Tests, noted}
+use Rattle.magnetar_protocol.specs.Shape.{logLogins, proofElements}
+use Rattle.magnetar_protocol.specs.Draws.{Draws, drawCount, drawsOf}
+use Rattle.magnetar_protocol.specs.Schedule.{outline}
+use Rattle.magnetar_protocol.specs.Checks.{Check, sharedChecks, rowChecks, terminalChecks}
+use Rattle.magnetar_checks.specs.declared.found.Found.{Found}
+use Rattle.magnetar_checks.specs.Found.{firstFound, unlessBad}
+
+-- 10: over 64 segments; 11: fewer words of draws than a run draws; 16: not the words of a proof
+abbrev pub segmentTests : List ℕ → Tests
+segmentTests ns = (10, ltb 64 (length ns)) ∷ []
+
+abbrev pub drawTests : Relation → List ℕ → Tests
+drawTests r draws = (11, ltb (length draws) (2 * drawCount r)) ∷ []
+
+abbrev pub proofTests : Relation → List ℕ → Tests
+proofTests r proof = (16, not (eqb (length proof) (2 * proofElements r))) ∷ []
+
+-- the checks 21 to 26
+unfoldable pub outerChecks : Relation → List ℕ → Draws → List Check
+outerChecks r w D = sharedChecks r [] w D 0 (logLogins r) ++ (rowChecks r [] w D ++ terminalChecks r [] w D)
+
+-- ---- `outer_checks`: a relation r by its sizes, the words of a proof and of draws
+unfoldable pub outerRefusal : Relation → List ℕ → List ℕ → ℕ
+outerRefusal r proof draws = noted 0 (segmentTests (r .lengths) ++ drawTests r draws ++ proofTests r proof)
+
+unfoldable pub outerFound : (m q rowsBin rowsFld : ℕ) → List ℕ → List ℕ → List ℕ → Found
+outerFound m q b f ns proof draws =
+    unlessBad (outerRefusal (outline m q b f ns) proof draws)
+    (firstFound (outerChecks (outline m q b f ns) (elements proof) (drawsOf (outline m q b f ns) (elements draws))))

@@ -1,0 +1,4 @@
+pub mod Spelling
+pub mod Staging
+pub mod Turns
+pub mod Whole

@@ -1,0 +1,3 @@
+// What a run absorbs and draws, on the transcript by value.
+pub mod events;
+pub mod play;

@@ -1,0 +1,140 @@
+-- What the verifier leaves: stopped by an outer check, by a later one, or by none.
+-- Assumes nothing.
+use mathlib.Core.Path.{_≡_, refl, sym, ap, ap₂, _∙_, subst}
+use mathlib.Core.List.{List, [], _∷_, _++_}
+use Prim.Native.Nat.{ℕ, _+_, _-_, _*_, _/_, _≤_, max}
+use native.Mathlib.Omega.{arith}
+use lib.ListN.{length, take, drop}
+use borrow.Author.Tests.{ne-eqb}
+use Rattle.magnetar_field.specs.Sizes.{log₂}
+use Rattle.magnetar_field.specs.Words.{elements, words, overlaid}
+use Rattle.magnetar_r1cs.proofs.TableLaws.{elements-words}
+use Rattle.magnetar_hash.specs.declared.transcript.Transcript.{Transcript}
+use Rattle.magnetar_hash.specs.declared.transcript.TranscriptAnswer.{TranscriptAnswer}
+use Rattle.magnetar_layout.specs.Tests.{columnTests, publicTests, layoutTests, roomTest}
+use Rattle.magnetar_r1cs.specs.Batch.{Relation}
+use Rattle.magnetar_batch.specs.Systems.{systemOf}
+use Rattle.magnetar_r1cs.specs.Lent.{matrixOf}
+use Rattle.magnetar_protocol.specs.Shape.{logLogins, logCols, proofElements}
+use Rattle.magnetar_protocol.specs.Draws.{Draws, drawsOf, drawCount}
+use Rattle.magnetar_protocol.specs.Schedule.{schedule}
+use Rattle.magnetar_protocol.specs.Checks.{Check, firstRefusal, firstStop, combined}
+use Rattle.magnetar_protocol.specs.Run.{claims}
+use Rattle.magnetar_protocol.specs.RealRun.{verifierDraws, verifierTranscript}
+use Rattle.magnetar_protocol.proofs.Blocks.{claims-outlined, outlined}
+use Rattle.magnetar_checks.specs.declared.found.Found.{Found}
+use Rattle.magnetar_checks.specs.Found.{firstFound}
+use Rattle.magnetar_checks.specs.Outer.{outerRefusal, outerFound, segmentTests, drawTests, proofTests}
+use Rattle.magnetar_checks.specs.Outer as checked
+use Rattle.magnetar_checks.specs.End.{endRefusal, endFound, endChecks}
+use Rattle.magnetar_checks.specs.Claims.{claimsRefusal, claimsOut, claimCount}
+use Rattle.magnetar_spartan.specs.Rules.{Rules, relationOf}
+use Rattle.magnetar_spartan.specs.Refusals.{proofWords, claimWords, verifierRoom}
+use Rattle.magnetar_spartan.specs.Ready.{Ready, VerifyReady}
+use Rattle.magnetar_spartan.specs.Outcome.{verifyVerdict, verifyClaims}
+use Rattle.magnetar_spartan.proofs.Combining.{noted-none, size-fine, same-fine, most-fine, true-fine}
+use Rattle.magnetar_spartan.proofs.Verifying.{sizesOf, sizes-are, draws-is, outer-is, later-is, outerOf, laterOf, after, Answers, answer-outer, answer-later, answer-none}
+
+-- the answer a, and claims c that have become c′
+abbrev pub Left : Rules → (x w : List ℕ) → Transcript → TranscriptAnswer → (c c′ : List ℕ) → Type 0
+Left R x w t a c c′ =
+    (a .code ≡ verifyVerdict R x w t) × (a .transcript ≡ verifierTranscript (relationOf R) (elements x) (elements w) t)
+    × (c′ ≡ verifyClaims R x w t c)
+
+module _ (R : Rules) (P : Ready R) (x w d : List ℕ) (t : Transcript) (claim room : ℕ)
+    (L : VerifyReady R (length x) (length w) claim room (length d)) (drawn : d ≡ words (verifierDraws (relationOf R) (elements w) t)) where
+  abbrev o : Relation
+  o = sizesOf R
+
+  abbrev D : List ℕ
+  D = verifierDraws (relationOf R) (elements w) t
+
+  els : elements d ≡ D
+  els = ap elements drawn ∙ elements-words D
+
+  parts : drawsOf o (elements d) ≡ drawsOf (relationOf R) D
+  parts = ap (drawsOf o) els ∙ sym (draws-is R D)
+
+  draws-fit : 2 * drawCount o ≤ length d
+  draws-fit = omega (arith, L .draws)
+
+  proof-fits : length w ≡ 2 * proofElements o
+  proof-fits = L .proof
+
+  -- ---- the outer checks
+  outer-none : outerRefusal o w d ≡ 0
+  unfolding outerRefusal
+  outer-none = noted-none (segmentTests (R .lengths) ++ drawTests o d ++ proofTests o w)
+      (most-fine 64 (length (R .lengths)) (P .fine .segments), (most-fine (length d) (2 * drawCount o) draws-fit, (same-fine (length w) (2 * proofElements o) proof-fits, tt)))
+
+  outer-checks-are : checked.outerChecks o (elements w) (drawsOf o (elements d)) ≡ outerOf R x w t
+  unfolding checked.outerChecks
+  outer-checks-are = rw parts (outer-is R (elements x) (elements w) (drawsOf (relationOf R) D))
+
+  first-is : (f : Found) → f ≡ outerFound (R .m) (R .q) (R .bin .a .rows) (R .fld .a .rows) (R .lengths) w d → f ≡ firstFound (outerOf R x w t)
+  unfolding outerFound
+  first-is f e = e ∙ rw (outer-none, outer-checks-are)
+
+  -- ---- the later checks
+  end-none : (s : List ℕ) → 4 * R .m ≤ length s → endRefusal o x w d s ≡ 0
+  unfolding endRefusal
+  end-none s h =
+      noted-none (columnTests (R .m) ++ (publicTests (R .m) x ++ (layoutTests (R .m / 2) (R .lengths) ++ (drawTests o d ++ (roomTest (4 * R .m) s ++ proofTests o w)))))
+      (size-fine 2 65536 (R .m) (P .columns), (same-fine (length x) (R .m - 2) (L .public), (true-fine _ (P .fine .lengths), (most-fine _ _ (P .fine .ends),
+      (most-fine 64 (length (R .lengths)) (P .fine .segments), (most-fine (length d) (2 * drawCount o) draws-fit, (most-fine (length s) (4 * R .m) h,
+      (same-fine (length w) (2 * proofElements o) proof-fits, tt))))))))
+
+  last-is : (f : Found) (s : List ℕ) → f ≡ endFound (R .m) (R .q) (R .bin .a .rows) (R .fld .a .rows) (R .lengths) x w d s → 4 * R .m ≤ length s
+      → take (R .m) (elements s) ≡ combined (relationOf R) (drawsOf (relationOf R) (elements d)) → f ≡ firstFound (laterOf R x w t)
+  unfolding endFound
+  last-is f s e h c =
+      e ∙ rw (end-none s h, parts, later-is R (elements x) (elements w) (drawsOf (relationOf R) D) (take (R .m) (elements s)) (c ∙ ap (λ (l : List ℕ). combined (relationOf R) (drawsOf (relationOf R) l)) els))
+
+  -- ---- what is left
+  kept : (n : ℕ) (c : List ℕ) → n ≡ verifyVerdict R x w t → (n ≡ 0 → ⊥) → c ≡ verifyClaims R x w t c
+  unfolding verifyClaims
+  kept n c e h = rw (← e, ne-eqb n 0 h)
+
+  pub out-outer : (f : Found) (a : TranscriptAnswer) (c : List ℕ)
+      → f ≡ outerFound (R .m) (R .q) (R .bin .a .rows) (R .fld .a .rows) (R .lengths) w d → (f .code ≡ 0 → ⊥)
+      → (a .code ≡ f .code) × (a .transcript ≡ after R x w t (f .events)) → Left R x w t a c c
+  unfolding firstFound
+  out-outer f a c e h g =
+      let q = first-is f e in
+      let b = answer-outer R x w t (f .code) (f .events) (ap (λ (k : Found). k .code) q) (ap (λ (k : Found). k .events) q) h in
+      (g .0 ∙ b .0, g .1 ∙ b .1, kept (f .code) c (b .0) h)
+
+  pub out-later : (f l : Found) (a : TranscriptAnswer) (c s : List ℕ)
+      → f ≡ outerFound (R .m) (R .q) (R .bin .a .rows) (R .fld .a .rows) (R .lengths) w d → f .code ≡ 0
+      → l ≡ endFound (R .m) (R .q) (R .bin .a .rows) (R .fld .a .rows) (R .lengths) x w d s → 4 * R .m ≤ length s
+      → take (R .m) (elements s) ≡ combined (relationOf R) (drawsOf (relationOf R) (elements d)) → (l .code ≡ 0 → ⊥)
+      → (a .code ≡ l .code) × (a .transcript ≡ after R x w t (l .events)) → Left R x w t a c c
+  unfolding firstFound
+  out-later f l a c s e z k hs hc h g =
+      let q = first-is f e in
+      let p = last-is l s k hs hc in
+      let b = answer-later R x w t (l .code) (l .events) (sym (ap (λ (i : Found). i .code) q) ∙ z) (ap (λ (i : Found). i .code) p) (ap (λ (i : Found). i .events) p) h in
+      (g .0 ∙ b .0, g .1 ∙ b .1, kept (l .code) c (b .0) h)
+
+  claims-none : (c : List ℕ) → length c ≡ claimWords R → claimsRefusal (R .m) (R .q) (R .bin .a .rows) (R .fld .a .rows) (R .lengths) w d c ≡ 0
+  unfolding claimsRefusal
+  claims-none c h =
+      noted-none (segmentTests (R .lengths) ++ (drawTests o d ++ (roomTest (2 * claimCount o) c ++ proofTests o w)))
+      (most-fine 64 (length (R .lengths)) (P .fine .segments), (most-fine (length d) (2 * drawCount o) draws-fit,
+      (most-fine (length c) (2 * claimCount o) (omega (arith, h)), (same-fine (length w) (2 * proofElements o) proof-fits, tt))))
+
+  claims-is : claims o (elements w) (elements d) ≡ claims (relationOf R) (elements w) D
+  claims-is = ap (claims o (elements w)) els ∙ ap (λ (r : Relation). claims r (elements w) D) (sym (sizes-are R)) ∙ sym (claims-outlined (relationOf R) (elements w) D)
+
+  pub out-none : (f l : Found) (c c′ s : List ℕ) (u : Transcript) (k : ℕ)
+      → f ≡ outerFound (R .m) (R .q) (R .bin .a .rows) (R .fld .a .rows) (R .lengths) w d → f .code ≡ 0
+      → l ≡ endFound (R .m) (R .q) (R .bin .a .rows) (R .fld .a .rows) (R .lengths) x w d s → 4 * R .m ≤ length s
+      → take (R .m) (elements s) ≡ combined (relationOf R) (drawsOf (relationOf R) (elements d)) → l .code ≡ 0
+      → length c ≡ claimWords R → c′ ≡ claimsOut (R .m) (R .q) (R .bin .a .rows) (R .fld .a .rows) (R .lengths) w d c
+      → length (schedule o) ≤ k → u ≡ after R x w t k → Left R x w t (record { code = 0; transcript = u }) c c′
+  unfolding firstFound verifyClaims claimsOut
+  out-none f l c c′ s u k e z m hs hc y lc g hk hu =
+      let q = first-is f e in
+      let p = last-is l s m hs hc in
+      let b = answer-none R x w t k (sym (ap (λ (i : Found). i .code) q) ∙ z) (sym (ap (λ (i : Found). i .code) p) ∙ y) hk in
+      (b .0, hu ∙ b .1, g ∙ rw (claims-none c lc, ← b .0, claims-is))

@@ -1,0 +1,181 @@
+-- The verifier's answer and transcript from what its two groups of checks find.
+-- Assumes nothing.
+use mathlib.Core.Path.{_≡_, refl, sym, ap, ap₂, _∙_, subst}
+use mathlib.Core.Bool.{Bool, true, false, cond}
+use mathlib.Core.List.{List, [], _∷_, _++_, append-assoc, append-nil}
+use Prim.Native.Nat.{ℕ, zero, suc, _+_, _-_, _*_, _≤_, _<_}
+use native.Mathlib.Omega.{arith}
+use lib.Dec.{eqb}
+use lib.ListN.{length, take}
+use lib.Seq.{take-all}
+use borrow.Author.Tests.{ne-eqb}
+use Rattle.magnetar_field.specs.Words.{elements, words, overlaid}
+use Rattle.magnetar_field.proofs.Elements.{words-length, overlaid-same}
+use Rattle.magnetar_hash.specs.declared.transcript.Transcript.{Transcript}
+use Rattle.magnetar_r1cs.specs.Batch.{Relation}
+use Rattle.magnetar_r1cs.specs.Lent.{matrixOf}
+use Rattle.magnetar_batch.specs.Systems.{systemOf}
+use Rattle.magnetar_field.specs.Tabulate.{tabulate}
+use Rattle.magnetar_field.specs.Multilinear.{mle}
+use Rattle.magnetar_sumcheck.specs.Round.{running}
+use Rattle.magnetar_sumcheck.specs.Inner.{innerEnd}
+use Rattle.magnetar_protocol.specs.Shape.{logLogins, logCols}
+use Rattle.magnetar_protocol.specs.Proof.{innerRounds, valueZ, terminals}
+use Rattle.magnetar_protocol.specs.Draws.{Draws, drawsOf, drawCount}
+use Rattle.magnetar_protocol.specs.Schedule.{Event, schedule, outline, afterAlphas, afterInner}
+use Rattle.magnetar_protocol.specs.Play.{Played, heard}
+use Rattle.magnetar_protocol.specs.Checks.{Check, roundHolds, firstRefusal, firstStop, sharedChecks, rowChecks, terminalChecks, innerClaim, innerChecks, identityCheck, combined}
+use Rattle.magnetar_protocol.specs.Run.{verdict}
+use Rattle.magnetar_protocol.specs.RealRun.{verifierDraws, verifierTranscript, stop}
+use Rattle.magnetar_protocol.proofs.Phases.{Numbered, orElse}
+use Rattle.magnetar_protocol.proofs.Counts.{heard-count, schedule-length}
+use Rattle.magnetar_protocol.proofs.Blocks.{outerChecks, laterChecks, outer-numbered, later-numbered, verdict-blocks, run-stop-blocks, stop-append, stop-accepted, outlined, schedule-outlined, draws-outlined, shared-outlined, rows-outlined, terminals-outlined, identity-outlined}
+use Rattle.magnetar_checks.specs.End.{endChecks}
+use Rattle.magnetar_checks.proofs.EndPhases.{end-combined}
+use Rattle.magnetar_spartan.specs.Rules.{Rules, relationOf}
+use Rattle.magnetar_field.proofs.Log2.{log₂-lt}
+use Rattle.magnetar_spartan.specs.Ready.{Ready}
+use Rattle.magnetar_spartan.specs.Outcome.{verifyVerdict}
+
+-- the sizes of the rules
+abbrev pub sizesOf : Rules → Relation
+sizesOf R = outline (R .m) (R .q) (R .bin .a .rows) (R .fld .a .rows) (R .lengths)
+
+pub sizes-are : (R : Rules) → outlined (relationOf R) ≡ sizesOf R
+unfolding systemOf matrixOf
+sizes-are R = refl
+
+pub schedule-is : (R : Rules) → schedule (relationOf R) ≡ schedule (sizesOf R)
+schedule-is R = schedule-outlined (relationOf R) ∙ ap schedule (sizes-are R)
+
+pub draws-is : (R : Rules) (d : List ℕ) → drawsOf (relationOf R) d ≡ drawsOf (sizesOf R) d
+draws-is R d = draws-outlined (relationOf R) d ∙ ap (λ (r : Relation). drawsOf r d) (sizes-are R)
+
+-- ---- the draws
+module _ (R : Rules) (w : List ℕ) (t : Transcript) where
+  -- the whole schedule
+  pub heard-all : (k : ℕ) → length (schedule (sizesOf R)) ≤ k
+      → heard w (take k (schedule (sizesOf R))) t ≡ heard w (schedule (relationOf R)) t
+  heard-all k h = ap (λ (es : List Event). heard w es t) (take-all k (schedule (sizesOf R)) h ∙ sym (schedule-is R))
+
+  pub drawn-words : (k : ℕ) (d d′ : List ℕ) → length (schedule (sizesOf R)) ≤ k → length d ≡ 2 * drawCount (sizesOf R)
+      → d′ ≡ overlaid (words (heard w (take k (schedule (sizesOf R))) t .draws)) d → d′ ≡ words (verifierDraws (relationOf R) w t)
+  unfolding verifierDraws
+  drawn-words k d d′ h l e =
+      let c : length (words (heard w (schedule (relationOf R)) t .draws)) ≡ length d =
+          words-length (heard w (schedule (relationOf R)) t .draws)
+          ∙ ap (λ (n : ℕ). 2 * n) (heard-count (relationOf R) w t ∙ count) ∙ sym l in
+      e ∙ rw (heard-all k h) (overlaid-same (words (heard w (schedule (relationOf R)) t .draws)) d (sym c))
+    where
+      count : drawCount (relationOf R) ≡ drawCount (sizesOf R)
+      count = unfold systemOf matrixOf in refl
+
+-- ---- the checks of the rounds read no public column
+shared-free : (r : Relation) (x y w : List ℕ) (D : Draws) (i n : ℕ) → sharedChecks r x w D i n ≡ sharedChecks r y w D i n
+unfolding sharedChecks
+shared-free r x y w D i zero = refl
+shared-free r x y w D i (suc n) = rw (shared-free r x y w D (suc i) n)
+
+module _ (R : Rules) (x w : List ℕ) (D : Draws) where
+  pub outer-is : sharedChecks (sizesOf R) [] w D 0 (logLogins (sizesOf R)) ++ (rowChecks (sizesOf R) [] w D ++ terminalChecks (sizesOf R) [] w D)
+      ≡ outerChecks (relationOf R) x w D
+  outer-is =
+      outlines (λ (r : Relation). sharedChecks r [] w D 0 (logLogins r) ++ (rowChecks r [] w D ++ terminalChecks r [] w D))
+      ∙ sym (ap₂ _++_ (shared-outlined (relationOf R) [] w D 0 (logLogins (relationOf R)))
+      (ap₂ _++_ (rows-outlined (relationOf R) [] w D) (terminals-outlined (relationOf R) [] w D)))
+      ∙ ap₂ _++_ (shared-free (relationOf R) [] x w D 0 (logLogins (relationOf R)))
+      (ap₂ _++_ rows-free terminals-free)
+    where
+      rows-free : rowChecks (relationOf R) [] w D ≡ rowChecks (relationOf R) x w D
+      rows-free = unfold rowChecks in refl
+
+      terminals-free : terminalChecks (relationOf R) [] w D ≡ terminalChecks (relationOf R) x w D
+      terminals-free = unfold terminalChecks in refl
+
+      outlines : (f : Relation → List Check) → f (sizesOf R) ≡ f (outlined (relationOf R))
+      outlines f = ap f (sym (sizes-are R))
+
+-- ---- the answer
+-- where a check does not pass, what comes behind does not matter
+stop-any : (cs : List Check) (n k : ℕ) → Numbered cs → (firstRefusal cs ≡ 0 → ⊥) → firstStop cs n ≡ firstStop cs k
+stop-any cs n k m h =
+    ap (λ (l : List Check). firstStop l n) (sym (append-nil cs)) ∙ stop-append cs [] n k m ∙ rw (ne-eqb (firstRefusal cs) 0 h)
+
+module _ (R : Rules) (x w : List ℕ) (t : Transcript) where
+  abbrev rel : Relation
+  rel = relationOf R
+
+  abbrev drawn : List ℕ
+  drawn = verifierDraws rel (elements w) t
+
+  abbrev pub outerOf : List Check
+  outerOf = outerChecks rel (elements x) (elements w) (drawsOf rel drawn)
+
+  abbrev pub laterOf : List Check
+  laterOf = laterChecks rel (elements x) (elements w) (drawsOf rel drawn)
+
+  -- the transcript after n events
+  abbrev pub after : ℕ → Transcript
+  after n = heard (elements w) (take n (schedule (sizesOf R))) t .transcript
+
+  -- what the run answers
+  abbrev pub Answers : ℕ → Transcript → Type 0
+  Answers c u = (c ≡ verifyVerdict R x w t) × (u ≡ verifierTranscript rel (elements x) (elements w) t)
+
+  stopped : (n : ℕ) → n ≡ stop rel (elements x) (elements w) drawn → after n ≡ verifierTranscript rel (elements x) (elements w) t
+  unfolding verifierTranscript
+  stopped n e = ap₂ (λ (es : List Event) (k : ℕ). heard (elements w) (take k es) t .transcript) (sym (schedule-is R)) e
+
+  -- some outer check does not pass
+  pub answer-outer : (c n : ℕ) → c ≡ firstRefusal outerOf → n ≡ firstStop outerOf 0 → (c ≡ 0 → ⊥) → Answers c (after n)
+  unfolding verifyVerdict
+  answer-outer c n e f h =
+      let a : c ≡ verdict rel (elements x) (elements w) drawn =
+          sym (verdict-blocks rel (elements x) (elements w) drawn ∙ rw (← e, ne-eqb c 0 h)) in
+      let b : n ≡ stop rel (elements x) (elements w) drawn =
+          f ∙ sym (run-stop-blocks rel (elements x) (elements w) drawn 0 ∙ rw (← e, ne-eqb c 0 h)) in
+      (a, stopped n b)
+
+  -- the outer checks pass, and some later one does not
+  pub answer-later : (c n : ℕ) → firstRefusal outerOf ≡ 0 → c ≡ firstRefusal laterOf → n ≡ firstStop laterOf 0 → (c ≡ 0 → ⊥)
+      → Answers c (after n)
+  unfolding verifyVerdict
+  answer-later c n z e f h =
+      let a : c ≡ verdict rel (elements x) (elements w) drawn =
+          sym (verdict-blocks rel (elements x) (elements w) drawn ∙ rw (z, ← e)) in
+      let g = stop-any laterOf (length (schedule rel)) 0 (later-numbered rel (elements x) (elements w) (drawsOf rel drawn)) (λ k. h (e ∙ k)) in
+      let b : n ≡ stop rel (elements x) (elements w) drawn =
+          f ∙ sym (run-stop-blocks rel (elements x) (elements w) drawn 0 ∙ rw z g) in
+      (a, stopped n b)
+
+  -- every check passes
+  pub answer-none : (k : ℕ) → firstRefusal outerOf ≡ 0 → firstRefusal laterOf ≡ 0 → length (schedule (sizesOf R)) ≤ k → Answers 0 (after k)
+  unfolding verifyVerdict
+  answer-none k z e h =
+      let a : verdict rel (elements x) (elements w) drawn ≡ 0 = verdict-blocks rel (elements x) (elements w) drawn ∙ rw (z, e) in
+      let l : length (schedule (sizesOf R)) ≤ length (schedule rel) = rw (schedule-is R) (omega arith) in
+      (sym a, whole k h ∙ sym (whole (length (schedule rel)) l)
+      ∙ stopped (length (schedule rel)) (sym (stop-accepted rel (elements x) (elements w) drawn a)))
+    where
+      whole : (k : ℕ) → length (schedule (sizesOf R)) ≤ k → after k ≡ heard (elements w) (schedule rel) t .transcript
+      whole k h = ap (λ (p : Played). p .transcript) (heard-all R (elements w) t k h)
+
+-- ---- the later checks, over a table that is the combined one
+end-outlined : (r : Relation) (x w : List ℕ) (D : Draws) (T : List ℕ) → endChecks r x w D T ≡ endChecks (outlined r) x w D T
+unfolding endChecks innerClaim innerRounds valueZ terminals
+end-outlined r x w D T = rw (identity-outlined r x w D)
+
+pub later-is : (R : Rules) (x w : List ℕ) (D : Draws) (T : List ℕ) → T ≡ combined (relationOf R) D
+    → endChecks (sizesOf R) x w D T ≡ laterChecks (relationOf R) x w D
+later-is R x w D T e =
+    ap (λ (r : Relation). endChecks r x w D T) (sym (sizes-are R)) ∙ sym (end-outlined (relationOf R) x w D T)
+    ∙ ap (endChecks (relationOf R) x w D) e ∙ end-combined (relationOf R) x w D
+
+-- ---- a schedule is short
+pub schedule-small : (R : Rules) → Ready R → length (schedule (sizesOf R)) ≤ 65536
+schedule-small R P =
+    let q = log₂-lt (R .q) (omega (arith, P .logins .high)) in
+    let m = log₂-lt (R .m) (omega (arith, P .columns .high)) in
+    let b = log₂-lt (R .bin .a .rows) (omega (arith, P .fine .bin .rows .high)) in
+    let f = log₂-lt (R .fld .a .rows) (omega (arith, P .fine .fld .rows .high)) in
+    rw (schedule-length (sizesOf R)) (omega (arith, q, m, b, f, P .fine .segments))

@@ -1,0 +1,32 @@
+-- `magnetar_spartan::refusal::claim_words` meets its contract.
+-- Assumes nothing.
+use native.Mathlib.Omega.{arith}
+use borrow.Author.Needs.{needs}
+use Rattle.magnetar_spartan.proofs.refusal.claim_words.Statement.{statement}
+use Rattle.magnetar_spartan.proofs.refusal.claim_words.Tie as tie
+
+log-requires : tie.Need-log-requires
+log-requires c κs = search needs
+
+log-requires-2 : tie.Need-log-requires-2
+log-requires-2 c κs = search needs
+
+sub-result : tie.Need-sub-result
+sub-result c = omega arith
+
+add-result : tie.Need-add-result
+add-result c = search needs
+
+add-result-2 : tie.Need-add-result-2
+add-result-2 c = search needs
+
+mul-result : tie.Need-mul-result
+mul-result c = search needs
+
+returns : tie.Need-returns
+returns c = search needs
+
+pub claim-words-spec : {M : Type 1} → statement M
+claim-words-spec =
+    tie.close
+    (tie.spec log-requires log-requires-2 sub-result add-result add-result-2 mul-result returns)

@@ -1,0 +1,24 @@
+-- `magnetar_spartan::refusal::sizes` meets its contract.
+-- Assumes nothing.
+use borrow.Author.Needs.{needs}
+use Rattle.magnetar_spartan.proofs.refusal.sizes.Statement.{statement}
+use Rattle.magnetar_spartan.proofs.refusal.sizes.Tie as tie
+
+is-size-requires : tie.Need-is-size-requires
+is-size-requires c κs = search needs
+
+note-requires : tie.Need-note-requires
+note-requires c κs = search needs
+
+is-size-requires-2 : tie.Need-is-size-requires-2
+is-size-requires-2 c κs = search needs
+
+note-requires-2 : tie.Need-note-requires-2
+note-requires-2 c κs = search needs
+
+returns : tie.Need-returns
+returns c = cc
+
+pub sizes-spec : {M : Type 1} → statement M
+sizes-spec =
+    tie.close (tie.spec is-size-requires note-requires is-size-requires-2 note-requires-2 returns)

@@ -1,0 +1,108 @@
+-- `magnetar_spartan::refusal::verify` meets its contract.
+-- Assumes nothing.
+use mathlib.Core.Path.{_≡_, refl, sym, ap, _∙_}
+use mathlib.Core.Bool.{not}
+use mathlib.Core.List.{List, [], _∷_, _++_}
+use Prim.Native.Nat.{ℕ, _+_, _-_, _*_, _/_, _^_, _≤_, _<_, max}
+use native.Mathlib.Omega.{arith}
+use lib.Dec.{eqb, ltb}
+use lib.ListN.{length}
+use denote.Ref.{now}
+use Rattle.magnetar_field.specs.Sizes.{log₂}
+use Rattle.magnetar_layout.specs.Lent.{lent}
+use Rattle.magnetar_layout.specs.Tests.{Tests, noted, sizeTests, packedTests, publicTests}
+use Rattle.magnetar_layout.proofs.Noted.{noted-front, noted-late, noted-clear}
+use Rattle.magnetar_layout.proofs.SizeLaws.{Sized, not-bad}
+use Rattle.magnetar_spartan.specs.Rules.{Rules, rules}
+use Rattle.magnetar_batch.specs.Systems.{system}
+use Rattle.magnetar_spartan.specs.Refusals.{ruleTests, counterTests, roomOf, wordTests, proofWords, claimWords, verifierRoom, proverRoom}
+use Rattle.magnetar_spartan.proofs.Chains.{log-least}
+use Rattle.magnetar_spartan.specs.Ready.{Fine}
+use Rattle.magnetar_spartan.proofs.Fine.{fine}
+use borrow.Author.Needs.{needs}
+use Rattle.magnetar_spartan.proofs.refusal.verify.Statement.{statement}
+use Rattle.magnetar_spartan.proofs.refusal.verify.Tie as tie
+
+abbrev start : tie.After-sizes → tie.Start
+start c = c .before .before .before .before .before .before .before .before .before .before .before .before .before .before .before .before .before .before .before .before .before .before .before .before .before .before .before .before
+
+abbrev rel : tie.Start → Rules
+rel s =
+    let x = s .args in
+    rules (x .m) (x .q) (now (x .lens))
+    (system (lent (x .abrows) (x .abcols) (now (x .abrow)) (now (x .abcol)) (now (x .ablo)) (now (x .abhi)))
+    (lent (x .bbrows) (x .bbcols) (now (x .bbrow)) (now (x .bbcol)) (now (x .bblo)) (now (x .bbhi)))
+    (lent (x .cbrows) (x .cbcols) (now (x .cbrow)) (now (x .cbcol)) (now (x .cblo)) (now (x .cbhi))))
+    (system (lent (x .afrows) (x .afcols) (now (x .afrow)) (now (x .afcol)) (now (x .aflo)) (now (x .afhi)))
+    (lent (x .bfrows) (x .bfcols) (now (x .bfrow)) (now (x .bfcol)) (now (x .bflo)) (now (x .bfhi)))
+    (lent (x .cfrows) (x .cfcols) (now (x .cfrow)) (now (x .cfcol)) (now (x .cflo)) (now (x .cfhi))))
+
+-- the tests in four groups
+abbrev first : tie.Start → Tests
+first s = sizeTests (s .args .m) (s .args .q)
+
+abbrev second : tie.Start → Tests
+second s = publicTests (s .args .m) (now (s .args .x))
+
+abbrev third : tie.Start → Tests
+third s = ruleTests (rel s)
+
+abbrev fourth : tie.Start → Tests
+fourth s = counterTests (s .args .n) ++ (roomOf (claimWords (rel s)) (s .args .claims) ++ (roomOf (verifierRoom (rel s)) (s .args .scratch) ++ wordTests (proofWords (rel s)) (now (s .args .proof))))
+
+record Sizes (s : tie.Start) : Type 0 where
+  columns : Sized 2 65536 (s .args .m)
+  logins : Sized 1 4096 (s .args .q)
+
+sizes : (c : tie.Else1) → Sizes (start (c .before))
+sizes c =
+    let k = noted-clear 0 (first (start (c .before))) refl (sym (c .before .sizes .ensures) ∙ c .if1 .left) .1 in
+    record { columns = not-bad (k .0); logins = not-bad (k .1 .0) }
+
+sizes-requires : tie.Need-sizes-requires
+sizes-requires c κs = search needs
+
+returns : tie.Need-returns
+returns c = let s = start (c .before) in noted-front (first s) (second s ++ (third s ++ fourth s)) _ (c .before .sizes .ensures) (c .if1 .taken)
+
+sub-note : tie.Need-sub-note
+sub-note c = sizes c .columns .low
+
+note-requires : tie.Need-note-requires
+note-requires c κs = search needs
+
+returns-2 : tie.Need-returns-2
+returns-2 c =
+    let s = start (c .before .before .before) in
+    noted-late (first s) (second s ++ (third s ++ fourth s)) _ _ (c .before .before .before .sizes .ensures) (c .before .before .if1 .left)
+    (noted-front (second s) (third s ++ fourth s) _ (c .before .note .ensures) (c .if2 .taken))
+
+rules-requires : tie.Need-rules-requires
+rules-requires c κs = let z = sizes (c .before .before) in (z .columns, z .logins .high)
+
+ok : (c : tie.Else3) → Fine (rel (start (c .before .before .before .before .before)))
+ok c = let s = start (c .before .before .before .before .before) in fine (rel s) (sym (c .before .rules .ensures) ∙ c .if3 .left)
+
+returns-3 : tie.Need-returns-3
+returns-3 c =
+    let s = start (c .before .before .before .before .before) in
+    noted-late (first s) (second s ++ (third s ++ fourth s)) _ _ (c .before .before .before .before .before .sizes .ensures) (c .before .before .before .before .if1 .left)
+    (noted-late (second s) (third s ++ fourth s) _ _ (c .before .before .before .note .ensures) (c .before .before .if2 .left)
+    (noted-front (third s) (fourth s) _ (c .before .rules .ensures) (c .if3 .taken)))
+
+verify-rooms-requires : tie.Need-verify-rooms-requires
+verify-rooms-requires c κs =
+    let z = sizes (c .before .before .before .before) in
+    let p = ok c in
+    (z .columns .high, p .bin .rows .high, p .fld .rows .high, log-least _ (z .columns), p .segments)
+
+returns-4 : tie.Need-returns-4
+returns-4 c =
+    let s = start (c .before .before .before .before .before .before) in
+    noted-late (first s) (second s ++ (third s ++ fourth s)) _ _ (c .before .before .before .before .before .before .sizes .ensures) (c .before .before .before .before .before .if1 .left)
+    (noted-late (second s) (third s ++ fourth s) _ _ (c .before .before .before .before .note .ensures) (c .before .before .before .if2 .left)
+    (noted-late (third s) (fourth s) _ _ (c .before .before .rules .ensures) (c .before .if3 .left) (c .verify-rooms .ensures)))
+
+pub verify-spec : {M : Type 1} → statement M
+verify-spec =
+    tie.close (tie.spec sizes-requires returns sub-note note-requires returns-2 rules-requires returns-3 verify-rooms-requires returns-4)

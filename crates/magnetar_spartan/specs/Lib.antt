@@ -1,0 +1,4 @@
+pub mod Rules
+pub mod Refusals
+pub mod Ready
+pub mod Outcome

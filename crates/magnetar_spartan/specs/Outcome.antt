@@ -1,0 +1,89 @@
+-- What both ends leave, refused or not: the number, the transcript and every lent word.
+-- Assumes nothing.
+use mathlib.Core.List.{List, _++_}
+use Prim.Native.Nat.{ℕ, _/_}
+use lib.ListN.{length, drop, replicate}
+use Rattle.magnetar_field.specs.Refusal.{unlessRefused}
+use Rattle.magnetar_field.specs.Words.{elements, words}
+use Rattle.magnetar_hash.specs.declared.transcript.Transcript.{Transcript}
+use Rattle.magnetar_hash.specs.declared.transcript.TranscriptAnswer.{TranscriptAnswer}
+use Rattle.magnetar_layout.specs.Tests.{noted}
+use Rattle.magnetar_r1cs.specs.Batch.{Batch}
+use Rattle.magnetar_r1cs.specs.Packed.{unpacked}
+use Rattle.magnetar_protocol.specs.Run.{verdict, claims}
+use Rattle.magnetar_protocol.specs.Prover.{proverWords, proverClaims}
+use Rattle.magnetar_protocol.specs.RealRun.{verifierDraws, verifierTranscript, proverDraws, proverTranscript}
+use Rattle.magnetar_spartan.specs.Rules.{Rules, relationOf}
+use Rattle.magnetar_spartan.specs.Refusals.{verifyTests, proveTests, proofWords, claimWords, verifierRoom, proverRoom}
+
+-- ---- the verifier
+pub record Verified : Type 0 where
+  pub code : ℕ
+  pub transcript : Transcript
+  pub claims : List ℕ
+  pub scratch : List ℕ
+
+abbrev pub verified : TranscriptAnswer → List ℕ → List ℕ → Verified
+verified a c s = record { code = a .code; transcript = a .transcript; claims = c; scratch = s }
+
+-- the number of its refusal among 1 to 16, or 0
+unfoldable pub verifyRefusal : Rules → (x w : List ℕ) → Transcript → (c s : List ℕ) → ℕ
+verifyRefusal R x w t c s = noted 0 (verifyTests R x w (t .«squeeze_ctr») (length c) (length s))
+
+-- the number among 21 to 29, or 0: the verdict at the draws of the transcript
+unfoldable pub verifyVerdict : Rules → (x w : List ℕ) → Transcript → ℕ
+verifyVerdict R x w t = verdict (relationOf R) (elements x) (elements w) (verifierDraws (relationOf R) (elements w) t)
+
+-- the claims buffer: the claims in front where the proof is accepted
+unfoldable pub verifyClaims : Rules → (x w : List ℕ) → Transcript → List ℕ → List ℕ
+verifyClaims R x w t c =
+    unlessRefused (verifyVerdict R x w t)
+    (words (claims (relationOf R) (elements w) (verifierDraws (relationOf R) (elements w) t)) ++ drop (claimWords R) c) c
+
+-- the outcome of `verify_virtual_spartan`: public words x, proof words w, transcript t, claims c, scratch s
+unfoldable pub verifyOutcome : Rules → (x w : List ℕ) → Transcript → (c s : List ℕ) → Verified
+verifyOutcome R x w t c s =
+    unlessRefused (verifyRefusal R x w t c s)
+    (record {
+      code = verifyVerdict R x w t;
+      transcript = verifierTranscript (relationOf R) (elements x) (elements w) t;
+      claims = verifyClaims R x w t c;
+      scratch = replicate (verifierRoom R) 0 ++ drop (verifierRoom R) s;
+    })
+    (record { code = verifyRefusal R x w t c s; transcript = t; claims = c; scratch = s })
+
+-- ---- the prover
+pub record Proved : Type 0 where
+  pub code : ℕ
+  pub transcript : Transcript
+  pub proof : List ℕ
+  pub claims : List ℕ
+  pub scratch : List ℕ
+
+abbrev pub proved : TranscriptAnswer → List ℕ → List ℕ → List ℕ → Proved
+proved a w c s = record { code = a .code; transcript = a .transcript; proof = w; claims = c; scratch = s }
+
+-- the batch that the packed words hold
+abbrev pub batchOf : Rules → List ℕ → Batch
+batchOf R ws = unpacked (R .q) (R .m / 2) ws
+
+-- the draws of its run
+unfoldable pub proveDraws : Rules → (ws x : List ℕ) → Transcript → List ℕ
+proveDraws R ws x t = proverDraws (relationOf R) (batchOf R ws) (elements x) t
+
+-- the number of its refusal among 1 to 15, or 0
+unfoldable pub proveRefusal : Rules → (ws x : List ℕ) → Transcript → (w c s : List ℕ) → ℕ
+proveRefusal R ws x t w c s = noted 0 (proveTests R ws x (t .«squeeze_ctr») (length w) (length c) (length s))
+
+-- the outcome of `prove_virtual_spartan`: packed words ws, public words x, transcript t, proof w, claims c, scratch s
+unfoldable pub proveOutcome : Rules → (ws x : List ℕ) → Transcript → (w c s : List ℕ) → Proved
+proveOutcome R ws x t w c s =
+    unlessRefused (proveRefusal R ws x t w c s)
+    (record {
+      code = 0;
+      transcript = proverTranscript (relationOf R) (batchOf R ws) (elements x) t;
+      proof = words (proverWords (relationOf R) (batchOf R ws) (elements x) (proveDraws R ws x t)) ++ drop (proofWords R) w;
+      claims = words (proverClaims (relationOf R) (batchOf R ws) (proveDraws R ws x t)) ++ drop (claimWords R) c;
+      scratch = replicate (proverRoom R) 0 ++ drop (proverRoom R) s;
+    })
+    (record { code = proveRefusal R ws x t w c s; transcript = t; proof = w; claims = c; scratch = s })

@@ -1,0 +1,56 @@
+-- What the refusals leave of the rules, and of the words lent. Only the contracts of private functions speak of this.
+-- Assumes nothing.
+use mathlib.Core.Path.{_≡_}
+use mathlib.Core.Bool.{true}
+use mathlib.Core.List.{List}
+use Prim.Native.Nat.{ℕ, _-_, _*_, _/_, _^_, _≤_}
+use lib.ListN.{length}
+use Rattle.magnetar_field.specs.Sizes.{log₂}
+use Rattle.magnetar_layout.specs.Every.{every}
+use Rattle.magnetar_layout.specs.Layout.{isLength, layoutEnd}
+use Rattle.magnetar_layout.specs.Lent.{Lent}
+use Rattle.magnetar_layout.specs.Tests.{allBelow}
+use Rattle.magnetar_layout.proofs.SizeLaws.{Sized}
+use Rattle.magnetar_batch.specs.Systems.{Lent3}
+use Rattle.magnetar_protocol.specs.Draws.{drawCount}
+use Rattle.magnetar_protocol.specs.Schedule.{outline}
+use Rattle.magnetar_spartan.specs.Rules.{Rules}
+use Rattle.magnetar_spartan.specs.Refusals.{proofWords, claimWords, verifierRoom}
+
+-- a matrix of n rows and m columns
+pub record FineMatrix (n m : ℕ) (a : Lent) : Type 0 where
+  pub rows : a .rows ≡ n
+  pub cols : a .cols ≡ m
+  pub few : length (a .row) ≤ 1048576
+  pub col : length (a .col) ≡ length (a .row)
+  pub lo : length (a .lo) ≡ length (a .row)
+  pub hi : length (a .hi) ≡ length (a .row)
+  pub rows-inside : allBelow (a .rows) (a .row) ≡ true
+  pub cols-inside : allBelow (a .cols) (a .col) ≡ true
+
+pub record FineSystem (m q : ℕ) (s : Lent3) : Type 0 where
+  pub rows : Sized 1 65536 (s .a .rows)
+  pub total : q * s .a .rows ≤ 1048576
+  pub a : FineMatrix (s .a .rows) m (s .a)
+  pub b : FineMatrix (s .a .rows) m (s .b)
+  pub c : FineMatrix (s .a .rows) m (s .c)
+
+pub record Fine (R : Rules) : Type 0 where
+  pub bin : FineSystem (R .m) (R .q) (R .bin)
+  pub fld : FineSystem (R .m) (R .q) (R .fld)
+  pub lengths : every (isLength (R .m / 2)) (R .lengths) ≡ true
+  pub ends : layoutEnd (R .lengths) ≤ R .m / 2
+  pub segments : length (R .lengths) ≤ 64
+
+pub record Ready (R : Rules) : Type 0 where
+  pub columns : Sized 2 65536 (R .m)
+  pub logins : Sized 1 4096 (R .q)
+  pub fine : Fine R
+
+-- the words that the verifier is lent: public words x, proof words w, claims c, scratch s and draws d
+pub record VerifyReady (R : Rules) (x w c s d : ℕ) : Type 0 where
+  pub public : x ≡ R .m - 2
+  pub proof : w ≡ proofWords R
+  pub claims : c ≡ claimWords R
+  pub scratch : s ≡ verifierRoom R
+  pub draws : d ≡ 2 * drawCount (outline (R .m) (R .q) (R .bin .a .rows) (R .fld .a .rows) (R .lengths))
