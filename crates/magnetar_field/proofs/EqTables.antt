@@ -14,10 +14,10 @@ use lib.Seq.{drop-cons}
 use lib.Pow.{pow-pos}
 use Rattle.magnetar_field.specs.Gf128.{_⊕_, _⊗_}
 use Rattle.magnetar_field.specs.Tabulate.{tabulate}
-use Rattle.magnetar_field.specs.EqTable.{eqFactor, odd, eqAt, eqBits, eqTable}
+use Rattle.magnetar_field.specs.EqTable.{eqFactor, odd, eqAt, eqBits, eqTable, scaledTable}
 use Rattle.magnetar_field.specs.Doubling.{doubled}
-use Rattle.magnetar_field.proofs.Product.{⊗-comm, ⊗-⊕, ⊗-one, ⊗-lt}
-use Rattle.magnetar_field.proofs.Tabulation.{tabulate-length, tabulate-get, tabulate-of}
+use Rattle.magnetar_field.proofs.Product.{⊗-comm, ⊗-left-comm, ⊗-⊕, ⊗-one, one-⊗, ⊗-lt}
+use Rattle.magnetar_field.proofs.Tabulation.{tabulate-length, tabulate-get, tabulate-out, tabulate-of, tabulate-ext}
 
 pub eqTable-length : (p : List ℕ) → length (eqTable p) ≡ 2 ^ length p
 unfolding eqTable
@@ -62,27 +62,45 @@ doubled-get r (v ∷ t) (suc (suc i)) b h =
     let m : suc (suc i) % 2 ≡ i % 2 = omega arith in
     rw (e, m) (doubled-get r t i (λ k. b (suc k)) (omega arith))
 
-table-below : (p : List ℕ) (k : ℕ) → getD (eqTable p) k 0 < 2 ^ 128
-table-below p k = go (ltb k (2 ^ length p)) refl
+-- ---- the table times c
+pub scaled-length : (c : ℕ) (p : List ℕ) → length (scaledTable c p) ≡ 2 ^ length p
+unfolding scaledTable
+scaled-length c p = tabulate-length (λ i. c ⊗ eqAt p i) (2 ^ length p)
+
+pub scaled-get : (c : ℕ) (p : List ℕ) (i : ℕ) → i < 2 ^ length p → getD (scaledTable c p) i 0 ≡ c ⊗ eqAt p i
+unfolding scaledTable
+scaled-get c p i h = tabulate-get (λ i. c ⊗ eqAt p i) (2 ^ length p) i 0 h
+
+scaled-below : (c : ℕ) (p : List ℕ) (k : ℕ) → getD (scaledTable c p) k 0 < 2 ^ 128
+scaled-below c p k = go (ltb k (2 ^ length p)) refl
   where
-    go : (b : Bool) → ltb k (2 ^ length p) ≡ b → getD (eqTable p) k 0 < 2 ^ 128
-    go true e = rw (eqTable-get p k (ltb-true _ _ e)) (eqAt-lt p k)
-    go false e = rw (List·getD-eq-default (eqTable p) 0 {n = k} (rw eqTable-length (ltb-false k (2 ^ length p) e))) (pow-pos 128)
+    go : (b : Bool) → ltb k (2 ^ length p) ≡ b → getD (scaledTable c p) k 0 < 2 ^ 128
+    go true e = rw (scaled-get c p k (ltb-true _ _ e)) (⊗-lt c (eqAt p k))
+    go false e = rw (List·getD-eq-default (scaledTable c p) 0 {n = k} (rw scaled-length (ltb-false k (2 ^ length p) e))) (pow-pos 128)
+
+pub scaled-nil : (c : ℕ) → c < 2 ^ 128 → scaledTable c [] ≡ c ∷ []
+unfolding scaledTable tabulate eqAt
+scaled-nil c h = rw (⊗-one c h)
+
+pub scaled-cons : (c r : ℕ) (p : List ℕ) → scaledTable c (r ∷ p) ≡ doubled r (scaledTable c p)
+unfolding scaledTable
+scaled-cons c r p =
+    sym (tabulate-of (doubled r (scaledTable c p)) (λ i. c ⊗ eqAt (r ∷ p) i) (2 ^ suc (length p)) 0
+    (doubled-length r (scaledTable c p) ∙ omega (arith, scaled-length c p, pow-suc 2 (length p))) at)
+  where
+    at : (i : ℕ) → i < 2 ^ suc (length p) → getD (doubled r (scaledTable c p)) i 0 ≡ c ⊗ eqAt (r ∷ p) i
+    at i h =
+        doubled-get r (scaledTable c p) i (scaled-below c p) (omega (arith, scaled-length c p, pow-suc 2 (length p)))
+        ∙ ap (λ (x : ℕ). eqFactor r (odd i) ⊗ x) (scaled-get c p (i / 2) (omega (arith, pow-suc 2 (length p))))
+        ∙ ⊗-left-comm (eqFactor r (odd i)) c (eqAt p (i / 2)) ∙ ap (λ (x : ℕ). c ⊗ x) (sym (eqAt-cons r p i))
+
+pub scaled-one : (p : List ℕ) → scaledTable 1 p ≡ eqTable p
+unfolding scaledTable eqTable
+scaled-one p = tabulate-ext (λ i. 1 ⊗ eqAt p i) (eqAt p) (2 ^ length p) (λ i h. one-⊗ (eqAt p i) (eqAt-lt p i))
 
 pub eqTable-nil : eqTable [] ≡ 1 ∷ []
 unfolding eqTable tabulate eqAt
 eqTable-nil = refl
-
-pub eqTable-cons : (r : ℕ) (p : List ℕ) → eqTable (r ∷ p) ≡ doubled r (eqTable p)
-unfolding eqTable
-eqTable-cons r p =
-    sym (tabulate-of (doubled r (eqTable p)) (eqAt (r ∷ p)) (2 ^ suc (length p)) 0
-    (doubled-length r (eqTable p) ∙ omega (arith, eqTable-length p, pow-suc 2 (length p))) at)
-  where
-    at : (i : ℕ) → i < 2 ^ suc (length p) → getD (doubled r (eqTable p)) i 0 ≡ eqAt (r ∷ p) i
-    at i h =
-        doubled-get r (eqTable p) i (table-below p) (omega (arith, eqTable-length p, pow-suc 2 (length p)))
-        ∙ ap (λ (x : ℕ). eqFactor r (odd i) ⊗ x) (eqTable-get p (i / 2) (omega (arith, pow-suc 2 (length p)))) ∙ sym (eqAt-cons r p i)
 
 -- ---- eq at bits, the last variable first
 pub eqBits-none : (p : List ℕ) (bs : List Bool) (n : ℕ) → length p ≡ n → length bs ≡ n → eqBits (drop n p) (drop n bs) ≡ 1

@@ -24,5 +24,6 @@ pub mod Filling
 pub mod Refusals
 pub mod Making
 pub mod Extension
+pub mod Dots
 pub mod Bound
 pub mod Evaluating

@@ -11,7 +11,7 @@ use Rattle.magnetar_field.specs.Gf128.{value}
 use Rattle.magnetar_field.specs.Refusal.{refuse, unlessRefused}
 use Rattle.magnetar_field.specs.Sizes.{log₂}
 use Rattle.magnetar_field.specs.Words.{elements, words}
-use Rattle.magnetar_field.specs.EqTable.{eqTable}
+use Rattle.magnetar_field.specs.EqTable.{eqTable, scaledTable}
 use Rattle.magnetar_field.specs.Multilinear.{bindVar}
 
 -- an answer: an element, or the number of a refusal
@@ -41,6 +41,10 @@ eqRefusal p out = refuse 11 (noPoint p) (refuse 15 (ltb (length out) (tableWords
 
 abbrev pub eqOut : List ℕ → List ℕ → List ℕ
 eqOut p out = unlessRefused (eqRefusal p out) (words (eqTable (elements p)) ++ drop (tableWords p) out) out
+
+-- `eq_build_scaled`: the table times c
+abbrev pub scaledOut : List ℕ → ℕ → List ℕ → List ℕ
+scaledOut p c out = unlessRefused (eqRefusal p out) (words (scaledTable c (elements p)) ++ drop (tableWords p) out) out
 
 -- ---- `eq_table`: point p, bits b
 unfoldable pub eqBitsRefusal : List ℕ → List Bool → ℕ

@@ -31,3 +31,7 @@ eqBits (r ∷ p) (b ∷ bs) = eqFactor r b ⊗ eqBits p bs
 -- eq(p, 0), eq(p, 1), .., an entry for each number of as many bits as p has elements
 unfoldable pub eqTable : List ℕ → List ℕ
 eqTable p = tabulate (eqAt p) (2 ^ length p)
+
+-- the same, each entry times c
+unfoldable pub scaledTable : ℕ → List ℕ → List ℕ
+scaledTable c p = tabulate (λ i. c ⊗ eqAt p i) (2 ^ length p)

@@ -9,9 +9,9 @@ ghost use Prim.Native.Nat.{_+_, _*_, _^_, _≤_, _<_};
 ghost use lib.ListN.{length, take};
 ghost use Rattle.magnetar_field.specs.Gf128.{value};
 ghost use Rattle.magnetar_field.specs.Words.{elements};
-ghost use Rattle.magnetar_field.specs.EqTable.{eqFactor, eqBits, eqTable};
+ghost use Rattle.magnetar_field.specs.EqTable.{eqFactor, eqBits, scaledTable};
 ghost use Rattle.magnetar_field.specs.Doubling.{splitEntry, doubled};
-ghost use Rattle.magnetar_field.specs.Entries.{answer, answered, eqRefusal, eqOut, eqBitsRefusal};
+ghost use Rattle.magnetar_field.specs.Entries.{answer, answered, eqRefusal, eqOut, scaledOut, eqBitsRefusal};
 
 // The factor of one variable.
 pub fn eq_char2(x: Gf128, b: bool) -> Gf128
@@ -53,6 +53,14 @@ pub fn eq_build_fused(point: &[u64], out: &mut [u64]) -> u32
     ensures refusal { λ r. ⌜ r ≡ eqRefusal (now (point .entry)) (now (out .entry)) ⌝ }
     ensures table { λ _. ⌜ now (out .exit) ≡ eqOut (now (point .entry)) (now (out .entry)) ⌝ }
 {
+    eq_build_scaled(point, ONE, out)
+}
+
+// The table with each entry times c, at no more products: the first entry is c in the place of 1.
+pub fn eq_build_scaled(point: &[u64], c: Gf128, out: &mut [u64]) -> u32
+    ensures refusal { λ r. ⌜ r ≡ eqRefusal (now (point .entry)) (now (out .entry)) ⌝ }
+    ensures table { λ _. ⌜ now (out .exit) ≡ scaledOut (now (point .entry)) (value c) (now (out .entry)) ⌝ }
+{
     if point.len() % 2 != 0 {
         return 11;
     }
@@ -64,7 +72,7 @@ pub fn eq_build_fused(point: &[u64], out: &mut [u64]) -> u32
     if out.len() < need {
         return 15;
     }
-    fill(point, &mut out[..need], n);
+    fill(point, &mut out[..need], n, c);
     0
 }
 
@@ -113,12 +121,12 @@ fn expand(out: &mut [u64], m: usize, r: Gf128)
     }
 }
 
-// Fills out with the table of eq at the point's n elements, the last element first.
-fn fill(point: &[u64], out: &mut [u64], n: usize)
+// Fills out with c times the table of eq at the point's n elements, the last element first.
+fn fill(point: &[u64], out: &mut [u64], n: usize, c: Gf128)
     requires { ⌜ (n ≤ 20) × (length (now point) ≡ 2 * n) × (length (now out) ≡ 2 * 2 ^ n) ⌝ }
-    ensures { λ _. ⌜ elements (now (out .exit)) ≡ eqTable (elements (now (point .entry))) ⌝ }
+    ensures { λ _. ⌜ elements (now (out .exit)) ≡ scaledTable (value c) (elements (now (point .entry))) ⌝ }
 {
-    words::put(out, 0, ONE);
+    words::put(out, 0, c);
     let mut j = n;
     let mut m = 1;
     while j > 0 {

@@ -3,6 +3,7 @@ use crate::eq;
 use crate::gf128;
 use crate::gf128::Evaluated;
 use crate::gf128::Gf128;
+use crate::gf128::ZERO;
 use crate::sizes;
 use crate::words;
 ghost use mathlib.Core.Path.{_≡_};
@@ -11,7 +12,7 @@ ghost use Prim.Native.Nat.{_+_, _*_, _/_, _%_, _^_, _≤_, _<_};
 ghost use lib.ListN.{length, getD, set, take, drop, replicate};
 ghost use Rattle.magnetar_field.specs.Gf128.{value};
 ghost use Rattle.magnetar_field.specs.Words.{elements};
-ghost use Rattle.magnetar_field.specs.Multilinear.{mle, line, bindVar};
+ghost use Rattle.magnetar_field.specs.Multilinear.{dot, mle, line, bindVar};
 ghost use Rattle.magnetar_field.specs.Binding.{BindFits};
 ghost use Rattle.magnetar_field.specs.Entries.{answer, answered, mleRefusal, mleScratch, bindRefusal, bindOut};
 
@@ -63,6 +64,19 @@ pub fn eval_mle(values: &[u64], point: &[u64], scratch: &mut [u64]) -> Evaluated
     }
     let e = eval_in(values, point, &mut scratch[..need], n);
     Evaluated::Value(e)
+}
+
+// The sum of the products of the elements of two slices, index by index, as many as both have.
+pub fn dot(xs: &[u64], ys: &[u64]) -> Gf128
+    ensures { λ r. ⌜ value r ≡ dot (elements (now (xs .entry))) (elements (now (ys .entry))) ⌝ }
+{
+    let mut acc = ZERO;
+    let mut j = words::shorter(xs.len(), ys.len()) / 2;
+    while j > 0 {
+        j -= 1;
+        acc = gf128::add(gf128::mul(words::get(xs, j), words::get(ys, j)), acc);
+    }
+    acc
 }
 
 // Entry i becomes the line at r through the entries k and k + block.

@@ -56,7 +56,7 @@ pub fn copy(src: &[u64], dst: &mut [u64])
     }
 }
 
-fn shorter(a: usize, b: usize) -> usize
+pub(crate) fn shorter(a: usize, b: usize) -> usize
     ensures { λ r. ⌜ r ≡ min a b ⌝ }
 {
     if a < b { a } else { b }

@@ -15,7 +15,7 @@ use Rattle.magnetar_r1cs.specs.Matrix.{Entry}
 use Rattle.magnetar_r1cs.specs.Packed.{loginWords}
 use Rattle.magnetar_r1cs.specs.Table.{loginTotal, loginBlock}
 use Rattle.magnetar_r1cs.specs.Sum.{blocks}
-use Rattle.magnetar_r1cs.proofs.Folds.{part-ends, part-is}
+use Rattle.magnetar_r1cs.proofs.LoginParts.{part-ends, part-is}
 
 pub words-append : (xs ys : List ℕ) → words (xs ++ ys) ≡ words xs ++ words ys
 unfolding words

@@ -8,9 +8,7 @@ pub mod TableLaws
 pub mod Lone
 pub mod Points
 pub mod Parts
-pub mod SetBits
-pub mod Selected
-pub mod Folds
+pub mod LoginParts
 pub mod Blocks
 pub mod Split
 pub mod Room

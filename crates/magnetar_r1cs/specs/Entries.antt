@@ -17,11 +17,11 @@ use Rattle.magnetar_r1cs.specs.declared.r1cs.Flag.the-variants.{Yes, No}
 use Rattle.magnetar_r1cs.specs.declared.r1cs.Flag.the-variants as flag
 use Rattle.magnetar_r1cs.specs.Sum.{blocks}
 use Rattle.magnetar_r1cs.specs.Matrix.{Matrix, times, mleTable, mleAt, binary, bitValued}
-use Rattle.magnetar_r1cs.specs.Batch.{assignment, folded}
+use Rattle.magnetar_r1cs.specs.Batch.{assignment}
 use Rattle.magnetar_r1cs.specs.Packed.{unpacked}
 use Rattle.magnetar_r1cs.specs.Layout.{offsets, offset}
 use Rattle.magnetar_r1cs.specs.Lent.{Lent, matrixOf}
-use Rattle.magnetar_r1cs.specs.Tests.{noted, isSize, columnTests, sizeTests, packedTests, batchTests, layoutTests, lengthTest, roomTest, loneTests}
+use Rattle.magnetar_r1cs.specs.Tests.{noted, isSize, columnTests, batchTests, layoutTests, lengthTest, roomTest, loneTests}
 
 -- ---- `apply`: the matrix a, the vector z, the output out
 unfoldable pub applyRefusal : Lent → List ℕ → List ℕ → ℕ
@@ -87,19 +87,6 @@ abbrev pub packedOut : Lent → List ℕ → List ℕ → ℕ → ℕ → List �
 packedOut a ws x q w out =
     unlessRefused (packedRefusal a ws x q w out)
     (words (packedTable (matrixOf a) ws (elements x) q w) ++ drop (q * (2 * a .rows)) out) out
-
--- ---- `fold_packed_w`: the packed words ws of q logins with w columns, the point p, the output out, the scratch s
-unfoldable pub foldRefusal : List ℕ → ℕ → ℕ → List ℕ → List ℕ → List ℕ → ℕ
-foldRefusal ws q w p out s =
-    noted 0
-    (sizeTests (2 * w) q ++ packedTests w q ws ++ lengthTest (2 * log₂ q) p ++ roomTest (2 * w) out ++ roomTest (2 * q) s)
-
-abbrev pub foldOut : List ℕ → ℕ → ℕ → List ℕ → List ℕ → List ℕ → List ℕ
-foldOut ws q w p out s =
-    unlessRefused (foldRefusal ws q w p out s) (words (folded q w (unpacked q w ws) (elements p)) ++ drop (2 * w) out) out
-
-abbrev pub foldScratch : List ℕ → ℕ → ℕ → List ℕ → List ℕ → List ℕ → List ℕ
-foldScratch ws q w p out s = unlessRefused (foldRefusal ws q w p out s) (replicate (2 * q) 0 ++ drop (2 * q) s) s
 
 -- ---- `SegmentLayout::build`: segments of the lengths ns in w columns
 unfoldable pub layoutRefusal : ℕ → List ℕ → ℕ

@@ -7,6 +7,5 @@ pub mod Layout
 pub mod RowCheck
 pub mod Lent
 pub mod Table
-pub mod Fold
 pub mod Tests
 pub mod Entries

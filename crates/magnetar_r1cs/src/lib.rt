@@ -1,5 +1,4 @@
-// The lower half of the batch layer: sparse matrices, segment layouts, folds of a packed batch, and the plain row check.
-pub mod fold;
+// The lower half of the batch layer: sparse matrices, segment layouts, and the plain row check.
 pub mod layout;
 pub mod r1cs;
 pub mod tests;

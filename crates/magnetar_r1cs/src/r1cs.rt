@@ -1,5 +1,4 @@
 // Sparse matrices, lent as four number slices: row, column, low word and high word of each entry.
-use crate::fold;
 use crate::tests;
 use crate::walk;
 use magnetar_field::eq::EqBits;
@@ -247,6 +246,13 @@ fn login_product(
     walk::add_bits(row, col, lo, hi, w, login, out);
 }
 
+// How many words a login of w columns has.
+pub fn login_words(w: usize) -> usize
+    ensures { λ r. ⌜ r ≡ loginWords w ⌝ }
+{
+    2 * (w / 128 + (w % 128 + 127) / 128)
+}
+
 // The products of the q logins, one behind the other, n rows each.
 fn products(
     row: &[usize],
@@ -264,7 +270,7 @@ fn products(
     requires { ⌜ (w ≤ 32768) × (q ≤ 4096) × (n ≤ 65536) × (length (now packed) ≡ q * loginWords w) × (length (now out) ≡ q * (2 * n)) ⌝ }
     ensures { λ _. ⌜ now (out .exit) ≡ words (blocks (loginBlock w (elements (now (x .entry))) (now (packed .entry)) (entriesOf (now (row .entry)) (now (col .entry)) (now (lo .entry)) (now (hi .entry))) n) q) ⌝ }
 {
-    let k = fold::login_words(w);
+    let k = login_words(w);
     let m = 2 * n;
     let mut u = 0;
     while u < q {
@@ -309,7 +315,7 @@ pub(crate) fn batch_refusal(
     if n != 0 {
         return n;
     }
-    let n = tests::note(0, 2, packed.len() != q * fold::login_words(w));
+    let n = tests::note(0, 2, packed.len() != q * login_words(w));
     let n = tests::note(n, 3, x.len() != 2 * w - 2);
     let n = tests::note(n, 4, !tests::is_size(1, 65536, rows));
     if n != 0 {

@@ -8,7 +8,7 @@ ghost use Rattle.magnetar_r1cs.specs.Lent.{lent};
 ghost use Rattle.magnetar_r1cs.specs.Tests.{note, noted, isSize, allBelow, countTests, placeTests, loneTests};
 
 // z if it is a refusal already, else n where the test is bad.
-pub(crate) fn note(z: u32, n: u32, bad: bool) -> u32
+pub fn note(z: u32, n: u32, bad: bool) -> u32
     ensures { λ r. ⌜ r ≡ note n bad z ⌝ }
 {
     if z != 0 {
@@ -21,7 +21,7 @@ pub(crate) fn note(z: u32, n: u32, bad: bool) -> u32
 }
 
 // n is a power of two from least to most.
-pub(crate) fn is_size(least: usize, most: usize, n: usize) -> bool
+pub fn is_size(least: usize, most: usize, n: usize) -> bool
     ensures { λ r. ⌜ r ≡ isSize least most n ⌝ }
 {
     if n < least {
@@ -34,7 +34,7 @@ pub(crate) fn is_size(least: usize, most: usize, n: usize) -> bool
 }
 
 // Twice w is a column count.
-pub(crate) fn is_half(w: usize) -> bool
+pub fn is_half(w: usize) -> bool
     ensures { λ r. ⌜ r ≡ isSize 2 65536 (2 * w) ⌝ }
 {
     if w > 32768 {
@@ -44,7 +44,7 @@ pub(crate) fn is_half(w: usize) -> bool
 }
 
 // Each number of s is below n.
-pub(crate) fn all_below(s: &[usize], n: usize) -> bool
+pub fn all_below(s: &[usize], n: usize) -> bool
     ensures { λ r. ⌜ r ≡ allBelow n (now (s .entry)) ⌝ }
 {
     let mut i = 0;
@@ -58,7 +58,7 @@ pub(crate) fn all_below(s: &[usize], n: usize) -> bool
 }
 
 // 6: how many entries there are.
-pub(crate) fn counts(z: u32, row: usize, col: usize, lo: usize, hi: usize) -> u32
+pub fn counts(z: u32, row: usize, col: usize, lo: usize, hi: usize) -> u32
     ensures { λ r. ⌜ r ≡ noted z (countTests row col lo hi) ⌝ }
 {
     let z = note(z, 6, row > 1048576);
@@ -68,7 +68,7 @@ pub(crate) fn counts(z: u32, row: usize, col: usize, lo: usize, hi: usize) -> u3
 }
 
 // 7: the entries lie inside their matrix.
-pub(crate) fn places(z: u32, rows: usize, cols: usize, row: &[usize], col: &[usize]) -> u32
+pub fn places(z: u32, rows: usize, cols: usize, row: &[usize], col: &[usize]) -> u32
     ensures { λ r. ⌜ r ≡ noted z (placeTests rows cols (now (row .entry)) (now (col .entry))) ⌝ }
 {
     if z != 0 {
@@ -79,7 +79,7 @@ pub(crate) fn places(z: u32, rows: usize, cols: usize, row: &[usize], col: &[usi
 }
 
 // 1, 4, 6 and 7 of a matrix alone.
-pub(crate) fn lone(
+pub fn lone(
     rows: usize,
     cols: usize,
     row: &[usize],
@@ -96,7 +96,7 @@ pub(crate) fn lone(
 }
 
 // A segment of w columns may have the length n.
-pub(crate) fn is_length(w: usize, n: usize) -> bool
+pub fn is_length(w: usize, n: usize) -> bool
     ensures { λ r. ⌜ r ≡ isLength w n ⌝ }
 {
     if n == 0 {
@@ -109,7 +109,7 @@ pub(crate) fn is_length(w: usize, n: usize) -> bool
 }
 
 // 8: each segment may have its length.
-pub(crate) fn all_lengths(w: usize, lens: &[usize]) -> bool
+pub fn all_lengths(w: usize, lens: &[usize]) -> bool
     ensures { λ r. ⌜ r ≡ every (isLength w) (now (lens .entry)) ⌝ }
 {
     let mut i = 0;

@@ -16,7 +16,7 @@ ghost use Rattle.magnetar_r1cs.specs.Table.{addedAt, raised, publicShare
 ghost use Rattle.magnetar_r1cs.specs.Tests.{allBelow};
 
 // Adds e to the element at index k, where there is one.
-pub(crate) fn add_at(out: &mut [u64], k: usize, e: Gf128)
+pub fn add_at(out: &mut [u64], k: usize, e: Gf128)
     ensures { λ _. ⌜ elements (now (out .exit)) ≡ addedAt (elements (now (out .entry))) k (value e) ⌝ }
 {
     let v = words::get(out, k);
@@ -24,7 +24,7 @@ pub(crate) fn add_at(out: &mut [u64], k: usize, e: Gf128)
 }
 
 // v times e, by a mask where v is 0 or 1.
-pub(crate) fn scale(v: Gf128, e: Gf128) -> Gf128
+pub fn scale(v: Gf128, e: Gf128) -> Gf128
     ensures { λ r. ⌜ value r ≡ value v ⊗ value e ⌝ }
 {
     if gf128::is_bit(v) {

@@ -9,7 +9,7 @@ use crate::text::print_code;
 use crate::text::print_line;
 use crate::text::print_refusal;
 use crate::text::{self};
-use magnetar_r1cs::fold;
+use magnetar_batch::fold;
 use magnetar_r1cs::layout::Reading;
 use magnetar_r1cs::layout::{self};
 use magnetar_r1cs::r1cs::Flag;

@@ -18,7 +18,7 @@ use Rattle.magnetar_r1cs.proofs.SizeLaws.{Sized}
 use lib.ListN.{drop}
 use Rattle.magnetar_r1cs.specs.Tests.{sizeTests, packedTests, publicTests, rowTests, rowsTests, colsTests, counted, placed}
 use Rattle.magnetar_r1cs.proofs.SizeLaws.{not-bad}
-use Rattle.magnetar_r1cs.proofs.Folds.{product-most}
+use Rattle.magnetar_r1cs.proofs.LoginParts.{product-most, words-most}
 use Rattle.magnetar_r1cs.proofs.Blocks.{product-fits}
 use borrow.Author.Needs.{needs}
 use Rattle.magnetar_r1cs.proofs.r1cs.batch_refusal.Statement.{statement}
@@ -76,10 +76,10 @@ returns : tie.Need-returns
 returns c = noted-front (first (c .before .before .before .before .before .before .before .before .before .before .before)) (second (c .before .before .before .before .before .before .before .before .before .before .before) ++ third (c .before .before .before .before .before .before .before .before .before .before .before)) _ (early (c .before)) (c .if1 .taken)
 
 login-words-requires : tie.Need-login-words-requires
-login-words-requires c κs = small c .half
+login-words-requires c κs = search needs
 
 mul-note : tie.Need-mul-note
-mul-note c = omega (arith, product-most (c .before .before .before .before .before .before .before .before .before .before .before .before .args .q) (c .login-words .result) (small (c .before) .logins) (c .login-words .ensures .1))
+mul-note c = omega (arith, product-most (c .before .before .before .before .before .before .before .before .before .before .before .before .args .q) (c .login-words .result) (small (c .before) .logins) (rw (c .login-words .ensures) (words-most _ (small (c .before) .half))))
 
 note-requires-3 : tie.Need-note-requires-3
 note-requires-3 c κs = search needs

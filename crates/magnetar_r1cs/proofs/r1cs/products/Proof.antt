@@ -16,7 +16,7 @@ use Rattle.magnetar_r1cs.specs.Sum.{blocks}
 use Rattle.magnetar_r1cs.specs.Packed.{loginWords, loginPart}
 use Rattle.magnetar_r1cs.specs.Lent.{entriesOf}
 use Rattle.magnetar_r1cs.specs.Table.{loginTotal}
-use Rattle.magnetar_r1cs.proofs.Folds.{Part, part-of, part-ends, part-is}
+use Rattle.magnetar_r1cs.proofs.LoginParts.{Part, part-of, part-ends, part-is, words-most}
 use Rattle.magnetar_r1cs.proofs.Blocks.{blocks-start, blocks-more, blocks-end, product-fits}
 use borrow.Author.Needs.{needs}
 use Rattle.magnetar_r1cs.proofs.r1cs.products.Statement.{statement}
@@ -44,7 +44,7 @@ mul-m : tie.Need-mul-m Inv-loop μ-loop
 mul-m c = search needs
 
 loop-holds : tie.Need-loop-holds Inv-loop μ-loop
-loop-holds c = (refl, search needs, c .login-words .ensures .0, c .login-words .ensures .1, refl, blocks-start _ (c .before .before .before .before .before .before .before .before .args .out .now) (2 * c .before .before .before .before .before .before .before .before .args .n))
+loop-holds c = (refl, search needs, c .login-words .ensures, rw (c .login-words .ensures) (words-most _ (c .before .before .before .before .before .before .before .before .pre .1 .0)), refl, blocks-start _ (c .before .before .before .before .before .before .before .before .args .out .now) (2 * c .before .before .before .before .before .before .before .before .args .n))
 
 mul-a : tie.Need-mul-a Inv-loop μ-loop
 mul-a c = let p = words-of c in omega (arith, p .ends, p .small)

@@ -1,4 +1,4 @@
--- `magnetar_r1cs::fold::fold_packed_w` meets its contract.
+-- `magnetar_batch::fold::fold_packed_w` meets its contract.
 -- Assumes nothing.
 use mathlib.Core.Path.{_≡_, refl, sym, ap, _∙_}
 use mathlib.Core.Bool.{not}
@@ -11,21 +11,22 @@ use lib.Seq.{length-take-le}
 use borrow.Author.Tests.{ltb-false, eqb-true, not-false}
 use denote.Ref.{now}
 use Rattle.magnetar_field.specs.Sizes.{log₂}
 use Rattle.magnetar_r1cs.specs.Tests.{Tests, noted, loneTests, lengthTest, roomTest}
 use Rattle.magnetar_r1cs.proofs.SizeLaws.{Sized}
 use Rattle.magnetar_r1cs.proofs.Points.{point-of, log-most}
 use Rattle.magnetar_r1cs.specs.Packed.{loginWords}
 use Rattle.magnetar_r1cs.specs.Tests.{sizeTests, packedTests}
-use Rattle.magnetar_r1cs.specs.Entries.{foldRefusal}
+use Rattle.magnetar_batch.specs.Entries.{foldRefusal}
 use Rattle.magnetar_r1cs.proofs.Noted.{noted-front, noted-late, noted-clear, turned, done}
 use Rattle.magnetar_r1cs.proofs.SizeLaws.{not-bad, sized-wider}
 use Rattle.magnetar_r1cs.proofs.TableLaws.{in-front}
-use Rattle.magnetar_r1cs.proofs.Folds.{product-most, fold-is}
+use Rattle.magnetar_r1cs.proofs.LoginParts.{product-most, words-most}
+use Rattle.magnetar_batch.proofs.Folds.{fold-is}
 use Rattle.magnetar_r1cs.proofs.Points.{point-size}
 use lib.Dec.{lit≤}
 use borrow.Author.Needs.{needs}
-use Rattle.magnetar_r1cs.proofs.fold.fold_packed_w.Statement.{statement}
-use Rattle.magnetar_r1cs.proofs.fold.fold_packed_w.Tie as tie
+use Rattle.magnetar_batch.proofs.fold.fold_packed_w.Statement.{statement}
+use Rattle.magnetar_batch.proofs.fold.fold_packed_w.Tie as tie
 
 -- the tests of the sizes, and those after them
 abbrev first : tie.Start → Tests
@@ -81,10 +82,10 @@ returns c =
     (e, (turned _ _ e (c .if1 .taken), turned _ _ e (c .if1 .taken)))
 
 login-words-requires : tie.Need-login-words-requires
-login-words-requires c κs = small c .half
+login-words-requires c κs = search needs
 
 mul-note : tie.Need-mul-note
-mul-note c = let z = small (c .before) .logins in omega (arith, product-most (c .before .before .before .before .before .before .before .before .before .before .args .q) (c .login-words .result) (z .high) (c .login-words .ensures .1))
+mul-note c = let z = small (c .before) .logins in omega (arith, product-most (c .before .before .before .before .before .before .before .before .before .before .args .q) (c .login-words .result) (z .high) (rw (c .login-words .ensures) (words-most _ (small (c .before) .half))))
 
 note-requires-3 : tie.Need-note-requires-3
 note-requires-3 c κs = search needs

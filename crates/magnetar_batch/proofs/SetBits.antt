@@ -7,7 +7,7 @@ use native.Mathlib.Omega.{arith}
 use lib.Count.{trailingZeros, under}
 use lib.Bits.{bitAnd, and-step, and-self, and-le-r}
 use lib.Pow.{shr-shr, shr-lt, pow-mono, pow-pos, field, mod-mod-pow}
-use Rattle.magnetar_r1cs.specs.Fold.{bitAt}
+use Rattle.magnetar_batch.specs.Fold.{bitAt}
 
 -- bit t of n is the lowest that is set; n & (n - 1) is n without it
 pub record Lowest (n t : ℕ) : Type 0 where

@@ -1,4 +1,4 @@
--- `magnetar_r1cs::fold::kept` meets its contract.
+-- `magnetar_batch::fold::kept` meets its contract.
 -- Assumes nothing.
 use mathlib.Core.Path.{_≡_, refl, sym, _∙_}
 use Prim.Native.Nat.{_*_, _^_, _%_}
@@ -6,10 +6,10 @@ use native.Mathlib.Omega.{arith}
 use lib.Dec.{lit<}
 use lib.Pow.{shl-exact, pow-pos}
 use borrow.Author.Tests.{lt-ltb, le-ltb}
-use Rattle.magnetar_r1cs.specs.Fold.{wordSelect}
+use Rattle.magnetar_batch.specs.Fold.{wordSelect}
 use borrow.Author.Needs.{needs}
-use Rattle.magnetar_r1cs.proofs.fold.kept.Statement.{statement}
-use Rattle.magnetar_r1cs.proofs.fold.kept.Tie as tie
+use Rattle.magnetar_batch.proofs.fold.kept.Statement.{statement}
+use Rattle.magnetar_batch.proofs.fold.kept.Tie as tie
 
 shl-result : tie.Need-shl-result
 shl-result c = search needs

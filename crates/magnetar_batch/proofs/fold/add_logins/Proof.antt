@@ -1,4 +1,4 @@
--- `magnetar_r1cs::fold::add_logins` meets its contract.
+-- `magnetar_batch::fold::add_logins` meets its contract.
 -- Assumes nothing.
 use mathlib.Core.Path.{_≡_, refl, sym, ap, _∙_}
 use Prim.Native.Nat.{_+_, _*_, _≤_, _<_, _-_}
@@ -6,13 +6,14 @@ use native.Mathlib.Omega.{arith}
 use lib.ListN.{length}
 use denote.Ref.{now}
 use Rattle.magnetar_field.specs.Words.{elements}
 use Rattle.magnetar_r1cs.specs.Packed.{loginWords}
 use Rattle.magnetar_r1cs.specs.Table.{raised}
-use Rattle.magnetar_r1cs.specs.Fold.{foldSum}
-use Rattle.magnetar_r1cs.proofs.Folds.{Part, part-of, part-is, logins-start, logins-more}
+use Rattle.magnetar_batch.specs.Fold.{foldSum}
+use Rattle.magnetar_r1cs.proofs.LoginParts.{Part, part-of, part-is, words-most}
+use Rattle.magnetar_batch.proofs.Folds.{logins-start, logins-more}
 use borrow.Author.Needs.{needs}
-use Rattle.magnetar_r1cs.proofs.fold.add_logins.Statement.{statement}
-use Rattle.magnetar_r1cs.proofs.fold.add_logins.Tie as tie
+use Rattle.magnetar_batch.proofs.fold.add_logins.Statement.{statement}
+use Rattle.magnetar_batch.proofs.fold.add_logins.Tie as tie
 
 abbrev Inv-loop : tie.InvT-loop
 Inv-loop packed q w factors out₀ k u₀ out u = (length out ≡ length out₀) × (u ≤ q) × (k ≡ loginWords w) × (k ≤ 512) × (elements out ≡ raised (foldSum w packed (elements factors) u) (elements out₀))
@@ -24,7 +25,7 @@ login-words-requires : tie.Need-login-words-requires Inv-loop μ-loop
 login-words-requires c κs = search needs
 
 loop-holds : tie.Need-loop-holds Inv-loop μ-loop
-loop-holds c = (refl, search needs, c .login-words .ensures .0, c .login-words .ensures .1, logins-start _ _ _ _)
+loop-holds c = (refl, search needs, c .login-words .ensures, rw (c .login-words .ensures) (words-most _ (c .before .before .before .before .pre .0)), logins-start _ _ _ _)
 
 mul-a : tie.Need-mul-a Inv-loop μ-loop
 mul-a c = let s = c .before .before .before .before .before .before in let l = c .before .loop in let p = part-of (s .args .w) _ _ (l .u) _ (s .pre .1) (l .inv .3) (l .inv .2) (s .pre .2) (c .loop-test .taken) in omega (arith, p .ends, p .small)

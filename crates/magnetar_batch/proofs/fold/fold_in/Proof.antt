@@ -1,14 +1,14 @@
--- `magnetar_r1cs::fold::fold_in` meets its contract.
+-- `magnetar_batch::fold::fold_in` meets its contract.
 -- Assumes nothing.
 use mathlib.Core.Path.{_≡_, refl, sym, ap, _∙_}
 use Prim.Native.Nat.{ℕ}
 use native.Mathlib.Omega.{arith}
 use lib.ListN.{length, replicate}
 use denote.Ref.{now}
 use Rattle.magnetar_r1cs.proofs.TableLaws.{cleared-raised, elements-words}
 use borrow.Author.Needs.{needs}
-use Rattle.magnetar_r1cs.proofs.fold.fold_in.Statement.{statement}
-use Rattle.magnetar_r1cs.proofs.fold.fold_in.Tie as tie
+use Rattle.magnetar_batch.proofs.fold.fold_in.Statement.{statement}
+use Rattle.magnetar_batch.proofs.fold.fold_in.Tie as tie
 
 eq-in-requires : tie.Need-eq-in-requires
 eq-in-requires c κs = search needs

@@ -1,4 +1,4 @@
--- `magnetar_r1cs::fold::add_login` meets its contract.
+-- `magnetar_batch::fold::add_login` meets its contract.
 -- Assumes nothing.
 use mathlib.Core.Path.{_≡_, refl, sym, ap, _∙_}
 use mathlib.Core.Logic.{inl, inr}
@@ -7,11 +7,11 @@ use native.Mathlib.Omega.{arith}
 use lib.ListN.{length}
 use Rattle.magnetar_field.specs.Gf128.{value}
 use Rattle.magnetar_field.specs.Words.{elements}
 use Rattle.magnetar_r1cs.specs.Table.{raised}
-use Rattle.magnetar_r1cs.proofs.Selected.{upTo, columns-start, columns-more, columns-end}
+use Rattle.magnetar_batch.proofs.Selected.{upTo, columns-start, columns-more, columns-end}
 use borrow.Author.Needs.{needs}
-use Rattle.magnetar_r1cs.proofs.fold.add_login.Statement.{statement}
-use Rattle.magnetar_r1cs.proofs.fold.add_login.Tie as tie
+use Rattle.magnetar_batch.proofs.fold.add_login.Statement.{statement}
+use Rattle.magnetar_batch.proofs.fold.add_login.Tie as tie
 
 abbrev Inv-loop : tie.InvT-loop
 Inv-loop login w e out₀ k₀ base₀ out k base = (length out ≡ length out₀) × (base ≡ 64 * k) × (base ≤ 65536) × (elements out ≡ raised (upTo login w (value e) base) (elements out₀))

@@ -1,12 +1,12 @@
 // Folds at a point over the logins.
-use crate::r1cs;
-use crate::tests;
-use crate::walk;
 use magnetar_field::gf128::Evaluated;
 use magnetar_field::gf128::Gf128;
 use magnetar_field::multilinear;
 use magnetar_field::sizes;
 use magnetar_field::words;
+use magnetar_r1cs::r1cs;
+use magnetar_r1cs::tests;
+use magnetar_r1cs::walk;
 ghost use mathlib.Core.Path.{_≡_};
 ghost use Prim.Native.Nat.{ℕ, _+_, _*_, _/_, _%_, _^_, _<_, _≤_};
 ghost use lib.ListN.{length, getD, replicate};
@@ -16,10 +16,10 @@ ghost use Rattle.magnetar_field.specs.Multilinear.{mle};
 ghost use Rattle.magnetar_field.specs.Entries.{answer, answered, mleRefusal, mleScratch};
 ghost use Rattle.magnetar_field.specs.Tabulate.{tabulate};
 ghost use Rattle.magnetar_field.specs.EqTable.{eqTable};
 ghost use Rattle.magnetar_r1cs.specs.Packed.{loginWords};
 ghost use Rattle.magnetar_r1cs.specs.Table.{raised, Point};
-ghost use Rattle.magnetar_r1cs.specs.Fold.{selectAt, wordSelect, rowSelect, foldSum};
-ghost use Rattle.magnetar_r1cs.specs.Entries.{foldRefusal, foldOut, foldScratch};
+ghost use Rattle.magnetar_batch.specs.Fold.{selectAt, wordSelect, rowSelect, foldSum};
+ghost use Rattle.magnetar_batch.specs.Entries.{foldRefusal, foldOut, foldScratch};
 
 // The fold of a vector with an element for each login. 11: the point is no point, or the vector is not of its length; 15:
 // too little room.
@@ -70,21 +70,12 @@ fn add_login(login: &[u64], w: usize, e: Gf128, out: &mut [u64])
     }
 }
 
-// How many words a login of w columns has.
-pub(crate) fn login_words(w: usize) -> usize
-    requires { ⌜ w ≤ 32768 ⌝ }
-    ensures { λ r. ⌜ r ≡ loginWords w ⌝ }
-    ensures { λ r. ⌜ r ≤ 512 ⌝ }
-{
-    2 * ((w + 127) / 128)
-}
-
 // Adds each login's element, login u's being that at index u of the factors, at its set columns.
 fn add_logins(packed: &[u64], q: usize, w: usize, factors: &[u64], out: &mut [u64])
     requires { ⌜ (w ≤ 32768) × (q ≤ 4096) × (length (now packed) ≡ q * loginWords w) ⌝ }
     ensures { λ _. ⌜ elements (now (out .exit)) ≡ raised (foldSum w (now (packed .entry)) (elements (now (factors .entry))) q) (elements (now (out .entry))) ⌝ }
 {
-    let k = login_words(w);
+    let k = r1cs::login_words(w);
     let mut u = 0;
     while u < q {
         let a = u * k;
@@ -127,7 +118,7 @@ pub fn fold_packed_w(
     if n != 0 {
         return n;
     }
-    let n = tests::note(0, 2, packed.len() != q * login_words(w));
+    let n = tests::note(0, 2, packed.len() != q * r1cs::login_words(w));
     let n = tests::note(n, 11, point.len() != 2 * sizes::log2(q));
     let n = tests::note(n, 15, out.len() < 2 * w);
     let n = tests::note(n, 15, scratch.len() < 2 * q);

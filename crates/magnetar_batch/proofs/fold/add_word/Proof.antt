@@ -1,4 +1,4 @@
--- `magnetar_r1cs::fold::add_word` meets its contract.
+-- `magnetar_batch::fold::add_word` meets its contract.
 -- Assumes nothing.
 use native.Mathlib.Nat.{le-trans}
 use mathlib.Core.Path.{_≡_, refl, sym, _∙_}
@@ -8,11 +8,11 @@ use lib.ListN.{length}
 use lib.Count.{trailing-le}
 use Rattle.magnetar_field.specs.Gf128.{value}
 use Rattle.magnetar_field.specs.Words.{elements}
-use Rattle.magnetar_r1cs.proofs.SetBits.{lowest, cleared-less}
-use Rattle.magnetar_r1cs.proofs.Selected.{Selected, selected-start, selected-more, selected-end}
+use Rattle.magnetar_batch.proofs.SetBits.{lowest, cleared-less}
+use Rattle.magnetar_batch.proofs.Selected.{Selected, selected-start, selected-more, selected-end}
 use borrow.Author.Needs.{needs}
-use Rattle.magnetar_r1cs.proofs.fold.add_word.Statement.{statement}
-use Rattle.magnetar_r1cs.proofs.fold.add_word.Tie as tie
+use Rattle.magnetar_batch.proofs.fold.add_word.Statement.{statement}
+use Rattle.magnetar_batch.proofs.fold.add_word.Tie as tie
 
 abbrev Inv-loop : tie.InvT-loop
 Inv-loop word base e out₀ left₀ out left = (length out ≡ length out₀) × (left < 2 ^ 64) × Selected word base (value e) (elements out₀) (elements out) left

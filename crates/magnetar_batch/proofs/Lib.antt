@@ -1,0 +1,3 @@
+pub mod SetBits
+pub mod Selected
+pub mod Folds
