@@ -1,0 +1,2 @@
+// The rounds of the prover, within one lent scratch slice.
+mod inner;
