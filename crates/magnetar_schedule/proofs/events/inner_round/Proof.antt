@@ -1,0 +1,32 @@
+-- `magnetar_schedule::events::inner_round` meets its contract.
+-- Assumes nothing.
+use Rattle.magnetar_hash.specs.Bytes.{ascii}
+use borrow.Author.Needs.{needs}
+use Rattle.magnetar_schedule.proofs.events.inner_round.Statement.{statement}
+use Rattle.magnetar_schedule.proofs.events.inner_round.Tie as tie
+
+slice-aggregate-absorb-words : tie.Need-slice-aggregate-absorb-words
+slice-aggregate-absorb-words c = search needs
+
+absorb-words-requires : tie.Need-absorb-words-requires
+absorb-words-requires c κs = search needs
+
+slice-aggregate-draw : tie.Need-slice-aggregate-draw
+slice-aggregate-draw c = search needs
+
+draw-requires : tie.Need-draw-requires
+draw-requires c κs = search needs
+
+returns : tie.Need-returns
+unfolding ascii
+returns c = rw (c .before .before .absorb-words .ensures) at (c .draw .ensures)
+
+pub inner-round-spec : {M : Type 1} → statement M
+inner-round-spec =
+    tie.close
+    (tie.spec
+    slice-aggregate-absorb-words
+    absorb-words-requires
+    slice-aggregate-draw
+    draw-requires
+    returns)

@@ -1,0 +1,2 @@
+// What a run absorbs and draws, on the transcript by value.
+pub mod events;
