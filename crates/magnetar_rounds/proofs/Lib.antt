@@ -1,3 +1,5 @@
 pub mod Slots
 pub mod Whole
 pub mod Bound
+pub mod Said
+pub mod InnerSteps
