@@ -3,3 +3,4 @@ pub mod Whole
 pub mod Bound
 pub mod Said
 pub mod InnerSteps
+pub mod LaidOut

@@ -2,15 +2,17 @@
 -- Assumes nothing.
 use mathlib.Core.Path.{_≡_, refl, sym, ap, ap₂, _∙_}
 use mathlib.Core.List.{List, [], _∷_, _++_}
-use Prim.Native.Nat.{ℕ, zero, suc, _+_, _-_, _*_, _/_, _^_, _≤_, _<_}
+use Prim.Native.Nat.{ℕ, zero, suc, _+_, _-_, _*_, _/_, _%_, _^_, _≤_, _<_}
+use native.Mathlib.Nat.{add-zero}
 use native.Mathlib.Numerals.{add-one}
 use native.Mathlib.Omega.{arith}
-use lib.ListN.{length, getD, set, take, drop, length-append}
-use lib.Seq.{length-take-le, take-suc-set}
+use lib.ListN.{length, getD, set, take, drop, length-append, length-drop}
+use lib.Seq.{length-take-le, take-suc-set, drop-set-add, getD-drop}
+use borrow.Author.Tests.{lt-ltb}
 use borrow.Rule.Slice.PartMut.{putMid}
 use Rattle.magnetar_field.specs.Gf128.{value}
 use Rattle.magnetar_field.specs.Words.{elements, words, stored}
-use Rattle.magnetar_field.proofs.Elements.{elements-length, elements-stored, words-length}
+use Rattle.magnetar_field.proofs.Elements.{elements-length, elements-stored, elements-drop, words-length}
 use Rattle.magnetar_hash.specs.Bytes.{wordBytes}
 use Rattle.magnetar_hash.specs.declared.transcript.Transcript.{Transcript}
 use Rattle.magnetar_hash.specs.Transcript as transcript
@@ -79,3 +81,52 @@ pub round-said : (label : List ℕ) (t u : Transcript) (proof p′ draws d′ ms
     → stepsIn (k + n) (d + 1) u p′ d′ ≡ ask label (say label msg (stepsIn k d t proof draws))
 round-said label t u proof p′ draws d′ msg k n d c e f g h =
     steps-eq e (h ∙ ap (λ (x : ℕ). take d (elements draws) ++ (x ∷ [])) (g ∙ ap (λ (x : Transcript). value (transcript.element x)) e)) f
+
+-- ---- one element said
+pub elements-join : (k : ℕ) (s t : List ℕ) → length s ≡ 2 * k → elements (s ++ t) ≡ elements s ++ elements t
+unfolding elements
+elements-join zero [] t e = refl
+elements-join zero (x ∷ s) t e = absurd (omega arith)
+elements-join (suc k) [] t e = absurd (omega arith)
+elements-join (suc k) (x ∷ []) t e = absurd (omega arith)
+elements-join (suc k) (x ∷ (y ∷ s)) t e = ap (λ (l : List ℕ). (y * 2 ^ 64 + x) ∷ l) (elements-join k s t (omega arith))
+
+two-set : (l : List ℕ) (a b : ℕ) → 2 ≤ length l → take 2 (set (set l 0 a) 1 b) ≡ a ∷ b ∷ []
+two-set [] a b h = absurd (omega arith)
+two-set (x ∷ []) a b h = absurd (omega arith)
+two-set (x ∷ (y ∷ l)) a b h = refl
+
+-- the words of the element stored at k
+pub stored-there : (s : List ℕ) (k v : ℕ) → 2 * k + 2 ≤ length s → take 2 (drop (2 * k) (stored s k v)) ≡ words (v ∷ [])
+unfolding stored words
+stored-there s k v h =
+    rw (lt-ltb k (length s / 2) (omega arith))
+    (ap (take 2) (drop-set-add (2 * k) (set s (2 * k) (v % 2 ^ 64)) 1 (v / 2 ^ 64))
+    ∙ (ap (λ (l : List ℕ). take 2 (set l 1 (v / 2 ^ 64))) here
+    ∙ two-set (drop (2 * k) s) (v % 2 ^ 64) (v / 2 ^ 64) (rw length-drop (omega arith))))
+  where
+    here : drop (2 * k) (set s (2 * k) (v % 2 ^ 64)) ≡ set (drop (2 * k) s) 0 (v % 2 ^ 64)
+    here = ap (λ (i : ℕ). drop (2 * k) (set s i (v % 2 ^ 64))) (sym (add-zero (2 * k))) ∙ drop-set-add (2 * k) s 0 (v % 2 ^ 64)
+
+pub one-said : (label : List ℕ) (t u : Transcript) (proof p′ draws : List ℕ) (k d v : ℕ)
+    → p′ ≡ stored proof k v → 2 * k + 2 ≤ length proof
+    → u ≡ transcript.absorbed t label (wordBytes (take (2 * k + 2 - 2 * k) (drop (2 * k) p′)))
+    → stepsIn (k + 1) d u p′ draws ≡ say label (v ∷ []) (stepsIn k d t proof draws)
+one-said label t u proof p′ draws k d v e h f =
+    steps-eq (f ∙ ap (λ (x : List ℕ). transcript.absorbed t label (wordBytes x)) (part-is p′ (2 * k) 2 ∙ (ap (λ (x : List ℕ). take 2 (drop (2 * k) x)) e ∙ stored-there proof k v h)))
+    refl (drawn-more proof p′ k v e h)
+
+-- the first element of a table
+pub table-first : (s : List ℕ) (i k n : ℕ) → i ≡ 2 * k → 2 ≤ n → getD (elements (take n (drop i s))) 0 0 ≡ getD (elements s) k 0
+table-first s i k n e h =
+    ap (λ (j : ℕ). getD (elements (take n (drop j s))) 0 0) e
+    ∙ (first n (drop (2 * k) s) h
+    ∙ (ap (λ (l : List ℕ). getD l 0 0) (sym (elements-drop k s))
+    ∙ (getD-drop k (elements s) 0 0 ∙ ap (λ (j : ℕ). getD (elements s) j 0) (add-zero k))))
+  where
+    first : (n : ℕ) (l : List ℕ) → 2 ≤ n → getD (elements (take n l)) 0 0 ≡ getD (elements l) 0 0
+    first zero l h = absurd (omega arith)
+    first (suc zero) l h = absurd (omega arith)
+    first (suc (suc n)) [] h = refl
+    first (suc (suc n)) (x ∷ []) h = unfold elements in refl
+    first (suc (suc n)) (x ∷ (y ∷ l)) h = unfold elements in refl

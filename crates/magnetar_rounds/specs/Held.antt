@@ -1,11 +1,14 @@
 -- The state of a run, read off the slices that hold it. Only the contracts of private functions speak of this.
 -- Assumes nothing.
 use mathlib.Core.Path.{_≡_}
-use mathlib.Core.List.{List}
-use Prim.Native.Nat.{ℕ, _*_, _^_, _≤_, _<_}
-use lib.ListN.{take, drop}
+use mathlib.Core.List.{List, _++_}
+use Prim.Native.Nat.{ℕ, _+_, _*_, _^_, _≤_, _<_}
+use lib.ListN.{getD, take, drop}
+use Rattle.magnetar_field.specs.Sizes.{log₂}
 use Rattle.magnetar_field.specs.Words.{elements}
 use Rattle.magnetar_hash.specs.declared.transcript.Transcript.{Transcript}
+use Rattle.magnetar_field.specs.Multilinear.{mle}
+use Rattle.magnetar_r1cs.specs.Layout.{offset, localVars}
 use Rattle.magnetar_protocol.specs.Stepwise.{Steps, InnerSteps}
 
 -- the table of n words at word i
@@ -33,3 +36,18 @@ pub record Table (v n : ℕ) : Type 0 where
   pub var : v < vars
   pub few : vars < 62
   pub size : n ≡ 2 * 2 ^ vars
+
+-- s with its first n words at word a
+abbrev pub pasted : ℕ → ℕ → List ℕ → List ℕ
+pasted a n s = take a s ++ take n s ++ drop (a + n) s
+
+-- the value of segment i of the folded columns f, the elements d having been drawn
+abbrev pub segmentIn : List ℕ → List ℕ → List ℕ → ℕ → ℕ
+segmentIn ns f d i = mle (take (getD ns i 0) (drop (offset ns i) f)) (take (localVars ns i) d)
+
+-- a segment of n columns among w, with a local point in so many words of draws
+pub record Local (w n words : ℕ) : Type 0 where
+  pub most : n ≤ w
+  pub power : n ≡ 2 ^ log₂ n
+  pub few : log₂ n ≤ 16
+  pub drawn : 2 * log₂ n ≤ words

@@ -1,20 +1,31 @@
 // The inner sum-check.
+use magnetar_field::eq::EqBits;
 use magnetar_field::gf128::Gf128;
+use magnetar_field::gf128::ONE;
 use magnetar_field::multilinear;
+use magnetar_field::sizes;
 use magnetar_field::words;
 use magnetar_hash::transcript;
 use magnetar_hash::transcript::Transcript;
+use magnetar_r1cs::layout;
 use magnetar_schedule::events;
 use magnetar_sumcheck::engine;
 ghost use mathlib.Core.Path.{_≡_};
-ghost use Prim.Native.Nat.{ℕ, _+_, _*_, _/_, _^_, _<_, _≤_};
-ghost use lib.ListN.{length, take, drop};
+ghost use mathlib.Core.List.{[], _∷_, _++_};
+ghost use Prim.Native.Nat.{ℕ, _+_, _*_, _-_, _/_, _^_, _<_, _≤_};
+ghost use lib.ListN.{length, getD, take, drop, replicate};
 ghost use Rattle.magnetar_field.specs.Gf128.{value};
 ghost use Rattle.magnetar_field.specs.Words.{elements, words};
-ghost use Rattle.magnetar_field.specs.Multilinear.{bindVar};
+ghost use Rattle.magnetar_field.specs.Multilinear.{dot, bindVar};
+ghost use Rattle.magnetar_field.specs.EqTable.{eqTable};
+ghost use Rattle.magnetar_r1cs.specs.Table.{Point};
+ghost use Rattle.magnetar_hash.specs.Bytes.{ascii};
+ghost use Rattle.magnetar_r1cs.specs.Layout.{offset};
+ghost use Rattle.magnetar_r1cs.specs.Entries.{layoutRefusal};
+ghost use Rattle.magnetar_protocol.specs.Schedule.{numbered};
 ghost use Rattle.magnetar_sumcheck.specs.Inner.{innerMessage};
-ghost use Rattle.magnetar_protocol.specs.Stepwise.{innerStep};
-ghost use Rattle.magnetar_rounds.specs.Held.{tableAt, innerIn, Table};
+ghost use Rattle.magnetar_protocol.specs.Stepwise.{say, sayEach, innerStep, innerSteps};
+ghost use Rattle.magnetar_rounds.specs.Held.{tableAt, stepsIn, innerIn, Table, Local, segmentIn, pasted};
 
 // The message of a round, from the tables of n words at the front of s and at word 2m.
 fn message(out: &mut [u64], s: &[u64], m: usize, n: usize)
@@ -64,4 +75,114 @@ fn round(
     words::put(draws, i, r);
     bind(s, m, n, r);
     u
+}
+
+// All k inner rounds over m = 2^k columns.
+fn rounds(
+    k: usize,
+    m: usize,
+    proof: &mut [u64],
+    draws: &mut [u64],
+    s: &mut [u64],
+    t: Transcript,
+) -> Transcript
+    requires { ⌜ (length (now s) ≡ 4 * m) × (m ≤ 65536) × (k < 60) × (6 * k ≤ length (now proof)) × (2 * k ≤ length (now draws)) ⌝ }
+    requires { ⌜ m ≡ 2 ^ k ⌝ }
+    ensures { λ r. ⌜ innerIn m 2 (3 * k) k r (now (proof .exit)) (now (draws .exit)) (now (s .exit)) ≡ innerSteps k (innerIn m (2 * m) 0 0 t (now (proof .entry)) (now (draws .entry)) (now (s .entry))) ⌝ }
+{
+    let mut i = 0;
+    let mut n = 2 * m;
+    let mut u = t;
+    while i < k {
+        let v = round(i, m, n, proof, draws, s, u);
+        u = v;
+        n = n / 2;
+        i += 1;
+    }
+    u
+}
+
+// Copies the first n words to word 2n.
+fn copy_down(n: usize, s: &mut [u64])
+    requires { ⌜ (n ≤ 65536) × (3 * n ≤ length (now s)) ⌝ }
+    ensures { λ _. ⌜ now (s .exit) ≡ pasted (2 * n) n (now (s .entry)) ⌝ }
+{
+    let mut i = 0;
+    while i < n {
+        let v = s[i];
+        s[2 * n + i] = v;
+        i += 1;
+    }
+}
+
+// 1 and the public columns.
+fn put_public(x: &[u64], s: &mut [u64])
+    requires { ⌜ length (now s) ≡ length (now x) + 2 ⌝ }
+    ensures { λ _. ⌜ elements (now (s .exit)) ≡ 1 ∷ elements (now (x .entry)) ⌝ }
+{
+    words::put(s, 0, ONE);
+    words::copy(x, &mut s[2..]);
+}
+
+// The tables of the 2w columns: behind the combined table z, which is the w folded columns that stand there, 1 and the public
+// columns; and a copy of the folded columns behind it.
+fn lay_out(w: usize, x: &[u64], s: &mut [u64])
+    requires { ⌜ (length (now s) ≡ 12 * w) × (0 < w) × (w ≤ 32768) × (length (now x) + 2 ≡ 2 * w) ⌝ }
+    ensures table { λ _. ⌜ tableAt 0 (4 * w) (now (s .exit)) ≡ tableAt 0 (4 * w) (now (s .entry)) ⌝ }
+    ensures z { λ _. ⌜ tableAt (4 * w) (4 * w) (now (s .exit)) ≡ tableAt (4 * w) (2 * w) (now (s .entry)) ++ (1 ∷ elements (now (x .entry))) ⌝ }
+    ensures copy { λ _. ⌜ tableAt (8 * w) (2 * w) (now (s .exit)) ≡ tableAt (4 * w) (2 * w) (now (s .entry)) ⌝ }
+{
+    let n = 2 * w;
+    let a = 4 * w;
+    let b = 6 * w;
+    let e = 10 * w;
+    let c = 8 * w;
+    copy_down(n, &mut s[a..e]);
+    put_public(x, &mut s[b..c]);
+}
+
+// v_z, which is element 2w of s, is said behind k elements.
+fn say_z(k: usize, w: usize, proof: &mut [u64], s: &[u64], t: Transcript, d: usize, draws: &[u64]) -> Transcript
+    requires { ⌜ (k < 1024) × (2 * k + 2 ≤ length (now proof)) × (w ≤ 32768) × (4 * w + 2 ≤ length (now s)) ⌝ }
+    ensures { λ r. ⌜ stepsIn (k + 1) d r (now (proof .exit)) (now (draws .entry)) ≡ say (ascii "vs-vz") (getD (tableAt (4 * w) 2 (now (s .entry))) 0 0 ∷ []) (stepsIn k d t (now (proof .entry)) (now (draws .entry))) ⌝ }
+{
+    let z = words::get(s, 2 * w);
+    words::put(proof, k, z);
+    let a = 2 * k;
+    let e = a + 2;
+    events::value_z(t, &proof[a..e])
+}
+
+// Sets s to the eq table of the point.
+fn eq_in(point: &[u64], s: &mut [u64])
+    requires { ⌜ Point (now point) (now s) ⌝ }
+    ensures { λ _. ⌜ now (s .exit) ≡ words (eqTable (elements (now (point .entry)))) ⌝ }
+{
+    let _done = EqBits::build(point, s);
+}
+
+// The sum of products of segment i of the w folded columns at the front of s with the n elements behind them.
+fn segment_dot(w: usize, lens: &[usize], i: usize, n: usize, s: &[u64]) -> Gf128
+    requires { ⌜ (w ≤ 32768) × (layoutRefusal w (now lens) ≡ 0) × (i < length (now lens)) × (n ≤ w) × (length (now s) ≡ 4 * w) ⌝ }
+    ensures { λ r. ⌜ value r ≡ dot (take (getD (now (lens .entry)) i 0) (drop (offset (now (lens .entry)) i) (tableAt 0 (2 * w) (now (s .entry))))) (tableAt (2 * w) (2 * n) (now (s .entry))) ⌝ }
+{
+    let a = 2 * w;
+    let e = a + 2 * n;
+    let part = layout::segment(&s[..a], w, lens, i);
+    multilinear::dot(part, &s[a..e])
+}
+
+// The value of segment i at the local point of the draws; s has the w folded columns, and as much room for the eq table.
+fn segment_value(w: usize, lens: &[usize], i: usize, draws: &[u64], s: &mut [u64]) -> Gf128
+    requires { ⌜ (w ≤ 32768) × (layoutRefusal w (now lens) ≡ 0) × (i < length (now lens)) × (length (now s) ≡ 4 * w) ⌝ }
+    requires { ⌜ Local w (getD (now lens) i 0) (length (now draws)) ⌝ }
+    ensures value { λ r. ⌜ value r ≡ segmentIn (now (lens .entry)) (tableAt 0 (2 * w) (now (s .entry))) (elements (now (draws .entry))) i ⌝ }
+    ensures kept { λ _. ⌜ tableAt 0 (2 * w) (now (s .exit)) ≡ tableAt 0 (2 * w) (now (s .entry)) ⌝ }
+{
+    let n = lens[i];
+    let k = 2 * sizes::log2(n);
+    let a = 2 * w;
+    let e = a + 2 * n;
+    eq_in(&draws[..k], &mut s[a..e]);
+    segment_dot(w, lens, i, n, s)
 }
