@@ -4,3 +4,4 @@ pub mod Bound
 pub mod Said
 pub mod InnerSteps
 pub mod LaidOut
+pub mod Segments

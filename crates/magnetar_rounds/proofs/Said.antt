@@ -18,7 +18,7 @@ use Rattle.magnetar_hash.specs.declared.transcript.Transcript.{Transcript}
 use Rattle.magnetar_hash.specs.Transcript as transcript
 use Rattle.magnetar_protocol.specs.Stepwise.{Steps, say, ask}
 use Rattle.magnetar_r1cs.proofs.TableLaws.{elements-words}
-use Rattle.magnetar_rounds.specs.Held.{stepsIn}
+use Rattle.magnetar_rounds.specs.Held.{stepsIn, heardOne}
 use Rattle.magnetar_rounds.proofs.Slots.{mid-upto, mid-at, part-is}
 
 two-suc : (i : ℕ) → 2 * suc i ≡ suc (suc (2 * i))
@@ -108,13 +108,10 @@ stored-there s k v h =
     here : drop (2 * k) (set s (2 * k) (v % 2 ^ 64)) ≡ set (drop (2 * k) s) 0 (v % 2 ^ 64)
     here = ap (λ (i : ℕ). drop (2 * k) (set s i (v % 2 ^ 64))) (sym (add-zero (2 * k))) ∙ drop-set-add (2 * k) s 0 (v % 2 ^ 64)
 
-pub one-said : (label : List ℕ) (t u : Transcript) (proof p′ draws : List ℕ) (k d v : ℕ)
-    → p′ ≡ stored proof k v → 2 * k + 2 ≤ length proof
-    → u ≡ transcript.absorbed t label (wordBytes (take (2 * k + 2 - 2 * k) (drop (2 * k) p′)))
-    → stepsIn (k + 1) d u p′ draws ≡ say label (v ∷ []) (stepsIn k d t proof draws)
-one-said label t u proof p′ draws k d v e h f =
-    steps-eq (f ∙ ap (λ (x : List ℕ). transcript.absorbed t label (wordBytes x)) (part-is p′ (2 * k) 2 ∙ (ap (λ (x : List ℕ). take 2 (drop (2 * k) x)) e ∙ stored-there proof k v h)))
-    refl (drawn-more proof p′ k v e h)
+pub one-heard : (label : List ℕ) (t u : Transcript) (proof p′ : List ℕ) (k v : ℕ) → p′ ≡ stored proof k v → 2 * k + 2 ≤ length proof
+    → u ≡ transcript.absorbed t label (wordBytes (take (2 * k + 2 - 2 * k) (drop (2 * k) p′))) → u ≡ heardOne t label v
+one-heard label t u proof p′ k v e h f =
+    f ∙ ap (λ (x : List ℕ). transcript.absorbed t label (wordBytes x)) (part-is p′ (2 * k) 2 ∙ (ap (λ (x : List ℕ). take 2 (drop (2 * k) x)) e ∙ stored-there proof k v h))
 
 -- the first element of a table
 pub table-first : (s : List ℕ) (i k n : ℕ) → i ≡ 2 * k → 2 ≤ n → getD (elements (take n (drop i s))) 0 0 ≡ getD (elements s) k 0

@@ -1,15 +1,20 @@
 -- The state of a run, read off the slices that hold it. Only the contracts of private functions speak of this.
 -- Assumes nothing.
 use mathlib.Core.Path.{_≡_}
-use mathlib.Core.List.{List, _++_}
-use Prim.Native.Nat.{ℕ, _+_, _*_, _^_, _≤_, _<_}
-use lib.ListN.{getD, take, drop}
+use mathlib.Core.List.{List, [], _∷_, _++_}
+use Prim.Native.Nat.{ℕ, suc, _+_, _-_, _*_, _^_, _≤_, _<_}
+use Prim.Native.String.{String}
+use lib.ListN.{length, getD, take, drop}
 use Rattle.magnetar_field.specs.Sizes.{log₂}
-use Rattle.magnetar_field.specs.Words.{elements}
+use Rattle.magnetar_field.specs.Tabulate.{tabulate}
+use Rattle.magnetar_field.specs.Words.{elements, words}
 use Rattle.magnetar_hash.specs.declared.transcript.Transcript.{Transcript}
 use Rattle.magnetar_field.specs.Multilinear.{mle}
 use Rattle.magnetar_r1cs.specs.Layout.{offset, localVars}
-use Rattle.magnetar_protocol.specs.Stepwise.{Steps, InnerSteps}
+use Rattle.magnetar_hash.specs.Bytes.{wordBytes, ascii}
+use Rattle.magnetar_hash.specs.Transcript.{absorbed}
+use Rattle.magnetar_protocol.specs.Schedule.{numbered}
+use Rattle.magnetar_protocol.specs.Stepwise.{Steps, InnerSteps, begin, say, sayEach, innerSteps}
 
 -- the table of n words at word i
 abbrev pub tableAt : ℕ → ℕ → List ℕ → List ℕ
@@ -51,3 +56,32 @@ pub record Local (w n words : ℕ) : Type 0 where
   pub power : n ≡ 2 ^ log₂ n
   pub few : log₂ n ≤ 16
   pub drawn : 2 * log₂ n ≤ words
+
+-- and so for each segment
+pub record Locals (w : ℕ) (ns : List ℕ) (words : ℕ) : Type 0 where
+  pub each : (i : ℕ) → i < length ns → Local w (getD ns i 0) words
+
+-- one element is absorbed
+abbrev pub heardOne : Transcript → List ℕ → ℕ → Transcript
+heardOne t label v = absorbed t label (wordBytes (words (v ∷ [])))
+
+-- the transcript, and what is said
+pub record Said : Type 0 where
+  pub transcript : Transcript
+  pub said : List ℕ
+
+abbrev pub saidIn : ℕ → Transcript → List ℕ → Said
+saidIn a t proof = record { transcript = t; said = take a (elements proof) }
+
+-- elements are said one at a time, from number i on
+unfoldable pub saidEach : String → ℕ → List ℕ → Said → Said
+saidEach label i [] p = p
+saidEach label i (v ∷ vs) p = saidEach label (suc i) vs (record { transcript = heardOne (p .transcript) (numbered label i) v; said = p .said ++ (v ∷ []) })
+
+-- the inner rounds, v_z and the segment values
+unfoldable pub innerEnded : List ℕ → List ℕ → InnerSteps → Steps
+innerEnded ns f q =
+    sayEach "vs-seg-" 0 (tabulate (segmentIn ns f (q .steps .played .draws)) (length ns)) (say (ascii "vs-vz") (getD (q .z) 0 0 ∷ []) (q .steps))
+
+unfoldable pub innerWhole : ℕ → (ns t f x : List ℕ) → Transcript → Steps
+innerWhole k ns t f x u = innerEnded ns f (innerSteps k (record { steps = begin u; table = t; z = f ++ (1 ∷ x) }))

@@ -18,14 +18,15 @@ ghost use Rattle.magnetar_field.specs.Gf128.{value};
 ghost use Rattle.magnetar_field.specs.Words.{elements, words};
 ghost use Rattle.magnetar_field.specs.Multilinear.{dot, bindVar};
 ghost use Rattle.magnetar_field.specs.EqTable.{eqTable};
+ghost use Rattle.magnetar_field.specs.Tabulate.{tabulate};
 ghost use Rattle.magnetar_r1cs.specs.Table.{Point};
 ghost use Rattle.magnetar_hash.specs.Bytes.{ascii};
 ghost use Rattle.magnetar_r1cs.specs.Layout.{offset};
 ghost use Rattle.magnetar_r1cs.specs.Entries.{layoutRefusal};
 ghost use Rattle.magnetar_protocol.specs.Schedule.{numbered};
 ghost use Rattle.magnetar_sumcheck.specs.Inner.{innerMessage};
-ghost use Rattle.magnetar_protocol.specs.Stepwise.{say, sayEach, innerStep, innerSteps};
-ghost use Rattle.magnetar_rounds.specs.Held.{tableAt, stepsIn, innerIn, Table, Local, segmentIn, pasted};
+ghost use Rattle.magnetar_protocol.specs.Stepwise.{innerStep, innerSteps};
+ghost use Rattle.magnetar_rounds.specs.Held.{tableAt, stepsIn, innerIn, Table, Local, Locals, segmentIn, pasted, heardOne, saidIn, saidEach, innerWhole};
 
 // The message of a round, from the tables of n words at the front of s and at word 2m.
 fn message(out: &mut [u64], s: &[u64], m: usize, n: usize)
@@ -142,9 +143,10 @@ fn lay_out(w: usize, x: &[u64], s: &mut [u64])
 }
 
 // v_z, which is element 2w of s, is said behind k elements.
-fn say_z(k: usize, w: usize, proof: &mut [u64], s: &[u64], t: Transcript, d: usize, draws: &[u64]) -> Transcript
+fn say_z(k: usize, w: usize, proof: &mut [u64], s: &[u64], t: Transcript) -> Transcript
     requires { ⌜ (k < 1024) × (2 * k + 2 ≤ length (now proof)) × (w ≤ 32768) × (4 * w + 2 ≤ length (now s)) ⌝ }
-    ensures { λ r. ⌜ stepsIn (k + 1) d r (now (proof .exit)) (now (draws .entry)) ≡ say (ascii "vs-vz") (getD (tableAt (4 * w) 2 (now (s .entry))) 0 0 ∷ []) (stepsIn k d t (now (proof .entry)) (now (draws .entry))) ⌝ }
+    ensures heard { λ r. ⌜ r ≡ heardOne t (ascii "vs-vz") (getD (tableAt (4 * w) 2 (now (s .entry))) 0 0) ⌝ }
+    ensures said { λ _. ⌜ take (k + 1) (elements (now (proof .exit))) ≡ take k (elements (now (proof .entry))) ++ (getD (tableAt (4 * w) 2 (now (s .entry))) 0 0 ∷ []) ⌝ }
 {
     let z = words::get(s, 2 * w);
     words::put(proof, k, z);
@@ -185,4 +187,82 @@ fn segment_value(w: usize, lens: &[usize], i: usize, draws: &[u64], s: &mut [u64
     let e = a + 2 * n;
     eq_in(&draws[..k], &mut s[a..e]);
     segment_dot(w, lens, i, n, s)
+}
+
+// The value of segment i is said behind p elements.
+fn say_segment(
+    p: usize,
+    w: usize,
+    lens: &[usize],
+    i: usize,
+    proof: &mut [u64],
+    draws: &[u64],
+    s: &mut [u64],
+    t: Transcript,
+) -> Transcript
+    requires { ⌜ (p < 1024) × (2 * p + 2 ≤ length (now proof)) × (w ≤ 32768) × (layoutRefusal w (now lens) ≡ 0) × (i < length (now lens)) × (length (now s) ≡ 4 * w) ⌝ }
+    requires { ⌜ Local w (getD (now lens) i 0) (length (now draws)) ⌝ }
+    ensures heard { λ r. ⌜ r ≡ heardOne t (numbered "vs-seg-" i) (segmentIn (now (lens .entry)) (tableAt 0 (2 * w) (now (s .entry))) (elements (now (draws .entry))) i) ⌝ }
+    ensures said { λ _. ⌜ take (p + 1) (elements (now (proof .exit))) ≡ take p (elements (now (proof .entry))) ++ (segmentIn (now (lens .entry)) (tableAt 0 (2 * w) (now (s .entry))) (elements (now (draws .entry))) i ∷ []) ⌝ }
+    ensures kept { λ _. ⌜ tableAt 0 (2 * w) (now (s .exit)) ≡ tableAt 0 (2 * w) (now (s .entry)) ⌝ }
+{
+    let v = segment_value(w, lens, i, draws, s);
+    words::put(proof, p, v);
+    let a = 2 * p;
+    let e = a + 2;
+    events::segment(t, i, &proof[a..e])
+}
+
+// The values of all segments are said behind k elements.
+fn say_segments(
+    k: usize,
+    w: usize,
+    lens: &[usize],
+    proof: &mut [u64],
+    draws: &[u64],
+    s: &mut [u64],
+    t: Transcript,
+) -> Transcript
+    requires { ⌜ (k < 512) × (length (now lens) ≤ 64) × (2 * (k + length (now lens)) ≤ length (now proof)) × (w ≤ 32768) × (layoutRefusal w (now lens) ≡ 0) × (length (now s) ≡ 4 * w) ⌝ }
+    requires { ⌜ Locals w (now lens) (length (now draws)) ⌝ }
+    ensures { λ r. ⌜ saidIn (k + length (now (lens .entry))) r (now (proof .exit)) ≡ saidEach "vs-seg-" 0 (tabulate (segmentIn (now (lens .entry)) (tableAt 0 (2 * w) (now (s .entry))) (elements (now (draws .entry)))) (length (now (lens .entry)))) (saidIn k t (now (proof .entry))) ⌝ }
+{
+    let mut i = 0;
+    let mut u = t;
+    while i < lens.len() {
+        let p = k + i;
+        let v = say_segment(p, w, lens, i, proof, draws, s, u);
+        u = v;
+        i += 1;
+    }
+    u
+}
+
+// The inner rounds over 2w = 2^k columns, v_z and the segment values. At entry s has the combined table and the folded columns; it
+// is left zero.
+fn run(
+    k: usize,
+    w: usize,
+    lens: &[usize],
+    x: &[u64],
+    proof: &mut [u64],
+    draws: &mut [u64],
+    s: &mut [u64],
+    t: Transcript,
+) -> Transcript
+    requires { ⌜ (length (now s) ≡ 12 * w) × (0 < w) × (w ≤ 32768) × (length (now x) + 2 ≡ 2 * w) × (0 < k) × (k < 18) ⌝ }
+    requires { ⌜ (length (now draws) ≡ 2 * k) × (length (now lens) ≤ 64) × (length (now proof) ≡ 2 * (3 * k + 1 + length (now lens))) × (layoutRefusal w (now lens) ≡ 0) ⌝ }
+    requires { ⌜ (2 * w ≡ 2 ^ k) × Locals w (now lens) (2 * k - 2) ⌝ }
+    ensures run { λ r. ⌜ stepsIn (3 * k + 1 + length (now (lens .entry))) k r (now (proof .exit)) (now (draws .exit)) ≡ innerWhole k (now (lens .entry)) (tableAt 0 (4 * w) (now (s .entry))) (tableAt (4 * w) (2 * w) (now (s .entry))) (elements (now (x .entry))) t ⌝ }
+    ensures cleared { λ _. ⌜ now (s .exit) ≡ replicate (length (now (s .entry))) 0 ⌝ }
+{
+    lay_out(w, x, s);
+    let m = 2 * w;
+    let a = 4 * m;
+    let p = 3 * k;
+    let u = rounds(k, m, proof, draws, &mut s[..a], t);
+    let v = say_z(p, w, proof, s, u);
+    let r = say_segments(p + 1, w, lens, proof, draws, &mut s[a..], v);
+    words::clear(s);
+    r
 }

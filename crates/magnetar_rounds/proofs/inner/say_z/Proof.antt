@@ -2,13 +2,14 @@
 -- Assumes nothing.
 use Prim.Native.Nat.{_*_, ℕ}
 use Rattle.magnetar_field.specs.Gf128.{value}
+use Rattle.magnetar_field.specs.Words.{elements}
 use Rattle.magnetar_hash.specs.Bytes.{ascii}
-use Rattle.magnetar_protocol.specs.Stepwise.{say}
-use Rattle.magnetar_rounds.proofs.Said.{one-said, table-first}
-use Rattle.magnetar_rounds.specs.Held.{stepsIn}
+use Rattle.magnetar_rounds.proofs.Said.{drawn-more, one-heard, table-first}
+use Rattle.magnetar_rounds.specs.Held.{heardOne}
 use borrow.Author.Needs.{needs}
 use denote.Ref.{now}
-use mathlib.Core.List.{[], _∷_}
+use lib.ListN.{take}
+use mathlib.Core.List.{[], _++_, _∷_}
 use mathlib.Core.Path.{_∙_, ap, sym}
 use native.Mathlib.Omega.{arith}
 use Rattle.magnetar_rounds.proofs.inner.say_z.Statement.{statement}
@@ -48,11 +49,12 @@ same-length : tie.Need-same-length
 same-length c = search needs
 
 returns : tie.Need-returns
-returns c = let s = c .before .before .before .before .before .before .before .before .before .before .before in
-    let x = s .args in
+returns c = let x = c .before .before .before .before .before .before .before .before .before .before .args in
     let v = c .before .before .before .before .before .before .before .get .ensures ∙ sym (table-first (now (x .s)) (4 * x .w) (2 * x .w) 2 (omega arith) (omega arith)) in
-    one-said (ascii "vs-vz") (x .t) (c .value-z .result) (now (x .proof)) (c .before .before .before .before .before .put .last .0) (now (x .draws)) (x .k) (x .d) (value (c .before .before .before .before .before .before .before .get .result)) (c .before .before .before .before .before .put .ensures) (omega arith) (c .value-z .ensures)
-    ∙ ap (λ (e : ℕ). say (ascii "vs-vz") (e ∷ []) (stepsIn (x .k) (x .d) (x .t) (now (x .proof)) (now (x .draws)))) v
+    (
+      one-heard (ascii "vs-vz") (x .t) (c .value-z .result) (now (x .proof)) (c .before .before .before .before .before .put .last .0) (x .k) (value (c .before .before .before .before .before .before .before .get .result)) (c .before .before .before .before .before .put .ensures) (omega arith) (c .value-z .ensures) ∙ ap (heardOne (x .t) (ascii "vs-vz")) v,
+      drawn-more (now (x .proof)) (c .before .before .before .before .before .put .last .0) (x .k) (value (c .before .before .before .before .before .before .before .get .result)) (c .before .before .before .before .before .put .ensures) (omega arith) ∙ ap (λ (e : ℕ). take (x .k) (elements (now (x .proof))) ++ (e ∷ [])) v,
+    )
 
 pub say-z-spec : {M : Type 1} → statement M
 say-z-spec =

@@ -1,56 +1,52 @@
 -- `magnetar_rounds::inner::segment_dot` meets its contract.
 -- Assumes nothing.
+use Prim.Native.Nat.{_*_, _≤_}
+use Rattle.magnetar_rounds.proofs.Segments.{segment-is}
+use Rattle.magnetar_rounds.proofs.Slots.{part-is}
 use borrow.Author.Needs.{needs}
+use denote.Ref.{now}
+use lib.ListN.{length}
+use lib.Seq.{length-take-le}
+use mathlib.Core.Path.{sym}
+use native.Mathlib.Omega.{arith}
 use Rattle.magnetar_rounds.proofs.inner.segment_dot.Statement.{statement}
 use Rattle.magnetar_rounds.proofs.inner.segment_dot.Tie as tie
-use Rattle.magnetar_rounds.proofs.inner.segment_dot.Reads as reads
-use Rattle.magnetar_rounds.proofs.inner.segment_dot.Lts as lts
-use Rattle.magnetar_field.proofs.multilinear.dot.Reads as dot-reads
-use Rattle.magnetar_r1cs.proofs.layout.segment.Reads as segment-reads
 
--- src/inner.rt:169:13
 mul-a : tie.Need-mul-a
 mul-a c = search needs
 
--- src/inner.rt:170:17
 mul-e : tie.Need-mul-e
 mul-e c = search needs
 
--- src/inner.rt:170:13
 add-e : tie.Need-add-e
 add-e c = search needs
 
--- src/inner.rt:171:32
 slice-aggregate-segment : tie.Need-slice-aggregate-segment
-slice-aggregate-segment c = ?
+slice-aggregate-segment c = sym (length-take-le _ _ (omega arith))
 
--- src/inner.rt:171:9
 segment-requires : tie.Need-segment-requires
 segment-requires c κs = search needs
 
--- src/inner.rt:172:28
 mul-dot : tie.Need-mul-dot
 mul-dot c = search needs
 
--- src/inner.rt:172:28
 sub-dot : tie.Need-sub-dot
 sub-dot c = search needs
 
--- src/inner.rt:172:28
 part-dot-start : tie.Need-part-dot-start
 part-dot-start c = search needs
 
--- src/inner.rt:172:28
 part-dot-end : tie.Need-part-dot-end
 part-dot-end c = search needs
 
--- src/inner.rt:172:5
 dot-requires : tie.Need-dot-requires
 dot-requires c κs = search needs
 
--- src/inner.rt:165:1
 returns : tie.Need-returns
-returns c = ?
+returns c = let x = c .before .before .before .before .before .before .args in
+    let p = c .before .before .before .before .before .before .pre in
+    let h : 2 * x .w ≤ length (now (x .s)) = omega arith in
+    rw (c .dot .ensures, c .before .before .segment .ensures, segment-is (x .w) (now (x .lens)) (x .i) (now (x .s)) (p .1) (p .2) h, part-is (now (x .s)) (2 * x .w) (2 * x .n))
 
 pub segment-dot-spec : {M : Type 1} → statement M
 segment-dot-spec =

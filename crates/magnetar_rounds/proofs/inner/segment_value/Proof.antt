@@ -1,77 +1,68 @@
 -- `magnetar_rounds::inner::segment_value` meets its contract.
 -- Assumes nothing.
+use Prim.Native.Nat.{_*_, _+_, _≤_}
+use Rattle.magnetar_rounds.proofs.Segments.{columns-kept, local-point, segment-sum}
 use borrow.Author.Needs.{needs}
+use denote.Ref.{now}
+use lib.ListN.{getD, length}
+use lib.Seq.{length-take-le}
+use mathlib.Core.Path.{_∙_, refl, sym}
+use native.Mathlib.Omega.{arith}
 use Rattle.magnetar_rounds.proofs.inner.segment_value.Statement.{statement}
 use Rattle.magnetar_rounds.proofs.inner.segment_value.Tie as tie
-use Rattle.magnetar_rounds.proofs.inner.segment_value.Reads as reads
-use Rattle.magnetar_rounds.proofs.inner.segment_value.Lts as lts
-use Rattle.magnetar_field.proofs.sizes.log2.Reads as log2-reads
-use Rattle.magnetar_rounds.proofs.inner.eq_in.Reads as eq-in-reads
-use Rattle.magnetar_rounds.proofs.inner.segment_dot.Reads as segment-dot-reads
 
--- src/inner.rt:182:13
 mul-n : tie.Need-mul-n
 mul-n c = search needs
 
--- src/inner.rt:182:13
 shared-slice-read-n : tie.Need-shared-slice-read-n
 shared-slice-read-n c = search needs
 
--- src/inner.rt:183:17
 log2-requires : tie.Need-log2-requires
 log2-requires c κs = search needs
 
--- src/inner.rt:183:13
 mul-k : tie.Need-mul-k
-mul-k c = search needs
+mul-k c = let l = c .before .before .before .before .before .pre .1 in omega (arith, c .log2 .ensures, l .few)
 
--- src/inner.rt:184:13
 mul-a : tie.Need-mul-a
 mul-a c = search needs
 
--- src/inner.rt:185:17
 mul-e : tie.Need-mul-e
-mul-e c = search needs
+mul-e c = let l = c .before .before .before .before .before .pre .1 in omega (arith, l .most)
 
--- src/inner.rt:185:13
 add-e : tie.Need-add-e
-add-e c = search needs
+add-e c = let l = c .before .before .before .before .before .pre .1 in omega (arith, l .most)
 
--- src/inner.rt:186:11
 slice-aggregate-eq-in : tie.Need-slice-aggregate-eq-in
-slice-aggregate-eq-in c = ?
+slice-aggregate-eq-in c = let l = c .before .before .before .before .before .before .pre .1 in sym (length-take-le _ _ (omega (arith, c .before .log2 .ensures, l .drawn)))
 
--- src/inner.rt:186:24
 mul-eq-in : tie.Need-mul-eq-in
 mul-eq-in c = search needs
 
--- src/inner.rt:186:24
 sub-eq-in : tie.Need-sub-eq-in
 sub-eq-in c = search needs
 
--- src/inner.rt:186:24
 part-eq-in-start : tie.Need-part-eq-in-start
 part-eq-in-start c = search needs
 
--- src/inner.rt:186:24
 part-eq-in-end : tie.Need-part-eq-in-end
-part-eq-in-end c = search needs
+part-eq-in-end c = let l = c .before .before .before .before .before .before .pre .1 in omega (arith, l .most)
 
--- src/inner.rt:186:5
 eq-in-requires : tie.Need-eq-in-requires
-eq-in-requires c κs = ?
+eq-in-requires c κs = let x = c .before .before .before .before .before .before .before .args in local-point (x .w) (getD (now (x .lens)) (x .i) 0) (c .before .before .log2 .result) (now (x .draws)) (now (x .s)) (c .before .before .log2 .ensures) (c .before .before .before .before .before .before .before .pre .1) (omega (arith, c .before .before .before .before .before .before .before .pre .1 .most))
 
--- src/inner.rt:187:5
 segment-dot-requires : tie.Need-segment-dot-requires
-segment-dot-requires c κs = search needs
+segment-dot-requires c κs = let l = c .before .before .before .before .before .before .before .before .before .before .before .pre .1 in (omega arith, c .before .before .before .before .before .before .before .before .before .before .before .pre .0 .1, c .before .before .before .before .before .before .before .before .before .before .before .pre .0 .2, l .most, omega arith)
 
--- src/inner.rt:176:1
 same-length : tie.Need-same-length
 same-length c = search needs
 
--- src/inner.rt:176:1
 returns : tie.Need-returns
-returns c = ?
+returns c = let x = c .before .before .before .before .before .before .before .before .before .before .before .before .args in
+    let h : 2 * x .w + 2 * getD (now (x .lens)) (x .i) 0 ≤ length (now (x .s)) = omega (arith, c .before .before .before .before .before .before .before .before .before .before .before .before .pre .1 .most) in
+    (
+      c .segment-dot .ensures ∙ segment-sum (x .w) (getD (now (x .lens)) (x .i) 0) (c .before .before .before .before .before .before .before .log2 .result) (x .i) (now (x .lens)) (now (x .draws)) (now (x .s)) (c .before .before .before .before .eq-in .last .1 .0) (c .before .before .before .before .before .before .before .log2 .ensures) refl (c .before .before .before .before .before .before .before .before .before .before .before .before .pre .1) h (c .before .before .before .before .eq-in .ensures),
+      columns-kept (x .w) (getD (now (x .lens)) (x .i) 0) (c .before .before .before .before .before .before .before .log2 .result) (x .i) (now (x .lens)) (now (x .draws)) (now (x .s)) (c .before .before .before .before .eq-in .last .1 .0) (c .before .before .before .before .before .before .before .log2 .ensures) refl (c .before .before .before .before .before .before .before .before .before .before .before .before .pre .1) h (c .before .before .before .before .eq-in .ensures),
+    )
 
 pub segment-value-spec : {M : Type 1} → statement M
 segment-value-spec =
