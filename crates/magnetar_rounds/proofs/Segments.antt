@@ -4,6 +4,7 @@ use mathlib.Core.Path.{_≡_, refl, sym, ap, ap₂, _∙_}
 use mathlib.Core.List.{List, [], _∷_, _++_}
 use Prim.Native.Nat.{ℕ, zero, suc, _+_, _-_, _*_, _/_, _%_, _^_, _≤_, _<_}
 use Prim.Native.String.{String}
+use native.Mathlib.Nat.{add-zero}
 use native.Mathlib.Numerals.{add-one}
 use native.Mathlib.Omega.{arith}
 use lib.ListN.{length, getD, take, drop, drop-of-length-le}
@@ -108,3 +109,11 @@ each-more label f n i k start t u proof p′ r h e g = record {
 pub each-end : (label : String) (f : ℕ → ℕ) (n i : ℕ) (start at : Said) → Each label (tabulate f n) start i at → i ≡ n → at ≡ saidEach label 0 (tabulate f n) start
 unfolding saidEach
 each-end label f n i start at r e = (rw (drop-of-length-le (tabulate f n) {i = i} (rw tabulate-length (omega arith))) at (r .left))
+
+pub each-start-at : (label : String) (vs : List ℕ) (k : ℕ) (t : Transcript) (proof : List ℕ) → Each label vs (saidIn k t proof) 0 (saidIn (k + 0) t proof)
+each-start-at label vs k t proof = record { left = ap (λ (j : ℕ). saidEach label 0 vs (saidIn j t proof)) (add-zero k) }
+
+pub each-done : (label : String) (f : ℕ → ℕ) (n i k : ℕ) (start : Said) (t : Transcript) (proof : List ℕ) → Each label (tabulate f n) start i (saidIn (k + i) t proof)
+    → i ≡ n → saidIn (k + n) t proof ≡ saidEach label 0 (tabulate f n) start
+each-done label f n i k start t proof r e =
+    ap (λ (j : ℕ). saidIn (k + j) t proof) (sym e) ∙ each-end label f n i start (saidIn (k + i) t proof) r e

@@ -258,11 +258,13 @@ fn run(
 {
     lay_out(w, x, s);
     let m = 2 * w;
-    let a = 4 * m;
+    let a = 8 * w;
+    let e = 12 * w;
     let p = 3 * k;
+    let q = p + 1;
     let u = rounds(k, m, proof, draws, &mut s[..a], t);
     let v = say_z(p, w, proof, s, u);
-    let r = say_segments(p + 1, w, lens, proof, draws, &mut s[a..], v);
+    let r = say_segments(q, w, lens, proof, draws, &mut s[a..e], v);
     words::clear(s);
     r
 }
