@@ -5,3 +5,4 @@ pub mod Said
 pub mod InnerSteps
 pub mod LaidOut
 pub mod Segments
+pub mod InnerWhole
