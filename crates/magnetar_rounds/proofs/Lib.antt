@@ -6,3 +6,4 @@ pub mod InnerSteps
 pub mod LaidOut
 pub mod Segments
 pub mod InnerWhole
+pub mod Guarded

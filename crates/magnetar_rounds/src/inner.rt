@@ -1,4 +1,6 @@
 // The inner sum-check.
+use crate::answer::RoundsAnswer;
+use crate::guard;
 use magnetar_field::eq::EqBits;
 use magnetar_field::gf128::Gf128;
 use magnetar_field::gf128::ONE;
@@ -23,9 +25,10 @@ ghost use Rattle.magnetar_r1cs.specs.Table.{Point};
 ghost use Rattle.magnetar_hash.specs.Bytes.{ascii};
 ghost use Rattle.magnetar_r1cs.specs.Layout.{offset};
 ghost use Rattle.magnetar_r1cs.specs.Entries.{layoutRefusal};
-ghost use Rattle.magnetar_protocol.specs.Schedule.{numbered};
+ghost use Rattle.magnetar_protocol.specs.Schedule.{numbered, outline};
 ghost use Rattle.magnetar_sumcheck.specs.Inner.{innerMessage};
 ghost use Rattle.magnetar_protocol.specs.Stepwise.{innerStep, innerSteps};
+ghost use Rattle.magnetar_rounds.specs.Entries.{answerFor, proofFor, drawsFor, scratchFor, innerRefusal, innerPlayed};
 ghost use Rattle.magnetar_rounds.specs.Held.{tableAt, stepsIn, innerIn, Table, Local, Locals, segmentIn, pasted, heardOne, saidIn, saidEach, innerWhole};
 
 // The message of a round, from the tables of n words at the front of s and at word 2m.
@@ -267,4 +270,44 @@ fn run(
     let r = say_segments(q, w, lens, proof, draws, &mut s[a..e], v);
     words::clear(s);
     r
+}
+
+// The inner rounds over m columns, v_z and the segment values: their messages and values are the first elements of proof, their
+// challenges those of draws. s has the combined table in its first 2m words and the folded witness columns in the m words behind;
+// its first 6m words are left zero.
+// 1: no such columns; 3: x is not of m - 2 words; 8, 9, 10: no such layout; 15: draws, proof or s too short.
+pub fn inner_rounds(
+    m: usize,
+    q: usize,
+    rb: usize,
+    rf: usize,
+    lens: &[usize],
+    x: &[u64],
+    proof: &mut [u64],
+    draws: &mut [u64],
+    s: &mut [u64],
+    t: Transcript,
+) -> RoundsAnswer
+    ensures answer { λ r. ⌜ r ≡ answerFor (innerRefusal m (now (lens .entry)) (now (x .entry)) (now (proof .entry)) (now (draws .entry)) (now (s .entry))) (innerPlayed (outline m q rb rf (now (lens .entry))) (now (x .entry)) (now (s .entry)) t) t ⌝ }
+    ensures proof { λ _. ⌜ now (proof .exit) ≡ proofFor (innerRefusal m (now (lens .entry)) (now (x .entry)) (now (proof .entry)) (now (draws .entry)) (now (s .entry))) (innerPlayed (outline m q rb rf (now (lens .entry))) (now (x .entry)) (now (s .entry)) t) (now (proof .entry)) ⌝ }
+    ensures draws { λ _. ⌜ now (draws .exit) ≡ drawsFor (innerRefusal m (now (lens .entry)) (now (x .entry)) (now (proof .entry)) (now (draws .entry)) (now (s .entry))) (innerPlayed (outline m q rb rf (now (lens .entry))) (now (x .entry)) (now (s .entry)) t) (now (draws .entry)) ⌝ }
+    ensures scratch { λ _. ⌜ now (s .exit) ≡ scratchFor (innerRefusal m (now (lens .entry)) (now (x .entry)) (now (proof .entry)) (now (draws .entry)) (now (s .entry))) (6 * m) (now (s .entry)) ⌝ }
+{
+    let z = guard::of_inner(m, lens, x, proof, draws, s);
+    if z != 0 {
+        return RoundsAnswer {
+            code: z,
+            transcript: t,
+        };
+    }
+    let k = sizes::log2(m);
+    let w = m / 2;
+    let a = 2 * (3 * k + 1 + lens.len());
+    let d = 2 * k;
+    let e = 6 * m;
+    let u = run(k, w, lens, x, &mut proof[..a], &mut draws[..d], &mut s[..e], t);
+    RoundsAnswer {
+        code: 0,
+        transcript: u,
+    }
 }

@@ -1,2 +1,4 @@
 // The rounds of the prover, within one lent scratch slice.
-mod inner;
+pub mod answer;
+mod guard;
+pub mod inner;
