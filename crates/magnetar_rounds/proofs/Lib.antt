@@ -7,3 +7,4 @@ pub mod LaidOut
 pub mod Segments
 pub mod InnerWhole
 pub mod Guarded
+pub mod Entered
