@@ -93,3 +93,9 @@ pub inner-told : (out t z : List ℕ) (n : ℕ) → length out ≡ 6 → length 
 unfolding innerRefusal
 inner-told out t z n l size same some few =
     rw (is-table 0 (length t) n size some few, eq-eqb (length z) (length t) same, le-ltb (length out) 6 (omega arith), nothing-left out 6 l, append-nil)
+
+pub outer-told : (out e a b c : List ℕ) (v k t n : ℕ) → length out ≡ 8 → length a ≡ 2 * 2 ^ n → length b ≡ length a → length c ≡ length a
+    → length e ≡ length a / 2 → v < n → n < 62 → outerOut out e a b c v k t ≡ words (outerMessage v k t (elements e) (elements a) (elements b) (elements c))
+unfolding outerRefusal
+outer-told out e a b c v k t n l size sb sc se var few =
+    rw (is-table v (length a) n size var few, eq-eqb (length b) (length a) sb, eq-eqb (length c) (length a) sc, eq-eqb (length e) (length a / 2) se, le-ltb (length out) 8 (omega arith), nothing-left out 8 l, append-nil)

@@ -2,3 +2,4 @@
 pub mod answer;
 mod guard;
 pub mod inner;
+mod outer;

@@ -1,11 +1,14 @@
 -- `magnetar_rounds::inner::message` meets its contract.
 -- Assumes nothing.
-use mathlib.Core.Path.{_≡_, sym, _∙_}
+use mathlib.Core.Path.{_≡_, sym, ap, _∙_}
+use mathlib.Core.List.{List}
 use Prim.Native.Nat.{ℕ, _+_, _-_, _*_}
 use native.Mathlib.Omega.{arith}
 use lib.ListN.{length, take, drop}
 use lib.Seq.{length-take-le}
 use denote.Ref.{now}
+use Rattle.magnetar_field.specs.Words.{elements, words}
+use Rattle.magnetar_sumcheck.specs.Inner.{innerMessage}
 use Rattle.magnetar_rounds.proofs.Slots.{part-is, part-size}
 use Rattle.magnetar_rounds.proofs.Whole.{inner-told}
 use borrow.Author.Needs.{needs}
@@ -47,7 +50,9 @@ returns c =
     let w = p .1 .0 in
     let l = length-take-le (x .n) (now (x .s)) (omega arith) in
     let k = part-size (now (x .s)) (2 * x .m) (x .n) (omega arith) in
-    rw (c .before .before .inner-message .ensures .1, inner-told (now (x .out)) (take (x .n) (now (x .s))) (take (2 * x .m + x .n - 2 * x .m) (drop (2 * x .m) (now (x .s)))) (w .vars) (p .1 .1) (l ∙ w .size) (k ∙ sym l) (w .var) (w .few), part-is (now (x .s)) (2 * x .m) (x .n))
+    c .before .before .inner-message .ensures .1
+    ∙ (inner-told (now (x .out)) (take (x .n) (now (x .s))) (take (2 * x .m + x .n - 2 * x .m) (drop (2 * x .m) (now (x .s)))) (w .vars) (p .1 .1) (l ∙ w .size) (k ∙ sym l) (w .var) (w .few)
+    ∙ ap (λ (z : List ℕ). words (innerMessage 0 (elements (take (x .n) (now (x .s)))) (elements z))) (part-is (now (x .s)) (2 * x .m) (x .n)))
 
 pub message-spec : {M : Type 1} → statement M
 message-spec =
