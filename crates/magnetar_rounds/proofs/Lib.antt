@@ -8,3 +8,4 @@ pub mod Segments
 pub mod InnerWhole
 pub mod Guarded
 pub mod Entered
+pub mod RowSteps

@@ -2,7 +2,7 @@
 -- Assumes nothing.
 use mathlib.Core.Path.{_≡_}
 use mathlib.Core.List.{List, [], _∷_, _++_}
-use Prim.Native.Nat.{ℕ, suc, _+_, _-_, _*_, _^_, _≤_, _<_}
+use Prim.Native.Nat.{ℕ, suc, _+_, _-_, _*_, _/_, _^_, _≤_, _<_}
 use Prim.Native.String.{String}
 use lib.ListN.{length, getD, take, drop}
 use Rattle.magnetar_field.specs.Sizes.{log₂}
@@ -10,11 +10,12 @@ use Rattle.magnetar_field.specs.Tabulate.{tabulate}
 use Rattle.magnetar_field.specs.Words.{elements, words}
 use Rattle.magnetar_hash.specs.declared.transcript.Transcript.{Transcript}
 use Rattle.magnetar_field.specs.Multilinear.{mle}
+use Rattle.magnetar_sumcheck.specs.Messages.{Outer}
 use Rattle.magnetar_r1cs.specs.Layout.{offset, localVars}
 use Rattle.magnetar_hash.specs.Bytes.{wordBytes, ascii}
 use Rattle.magnetar_hash.specs.Transcript.{absorbed}
 use Rattle.magnetar_protocol.specs.Schedule.{numbered}
-use Rattle.magnetar_protocol.specs.Stepwise.{Steps, InnerSteps, begin, say, sayEach, innerSteps}
+use Rattle.magnetar_protocol.specs.Stepwise.{Steps, InnerSteps, RowSteps, begin, say, sayEach, innerSteps}
 
 -- the table of n words at word i
 abbrev pub tableAt : ℕ → ℕ → List ℕ → List ℕ
@@ -85,3 +86,29 @@ innerEnded ns f q =
 
 unfoldable pub innerWhole : ℕ → (ns t f x : List ℕ) → Transcript → Steps
 innerWhole k ns t f x u = innerEnded ns f (innerSteps k (record { steps = begin u; table = t; z = f ++ (1 ∷ x) }))
+
+-- ---- the outer rounds
+-- what the prover of a system holds in a block of tables of n words, w words apart, with so many high variables and the tau of the
+-- variables that are left
+abbrev pub outerIn : (high : ℕ) → List ℕ → (k w n : ℕ) → List ℕ → Outer
+outerIn high tau k w n s = record {
+  high = high;
+  tau = tau;
+  k = k;
+  e = tableAt 0 n s;
+  a = tableAt w n s;
+  b = tableAt (2 * w) n s;
+  c = tableAt (3 * w) n s;
+}
+
+-- a row round: the tau of the variables that are left stand from element o of the draws on
+abbrev pub rowIn : (a d o k w n : ℕ) → Transcript → (proof draws s : List ℕ) → RowSteps
+rowIn a d o k w n t proof draws s = record {
+  steps = stepsIn a d t proof draws;
+  held = outerIn 0 (take (log₂ (n / 2)) (drop o (elements draws))) k w n s;
+}
+
+-- tables of n words with a variable left, whose tau stand from element o of the draws on, in front of element d
+pub record Rows (n o d : ℕ) : Type 0 where
+  pub table : Table 0 n
+  pub before : o + log₂ (n / 2) ≤ d
