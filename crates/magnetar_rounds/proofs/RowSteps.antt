@@ -5,6 +5,7 @@ use mathlib.Core.List.{List, [], _∷_, _++_}
 use Prim.Native.Nat.{ℕ, zero, suc, _+_, _-_, _*_, _/_, _^_, _≤_, _<_}
 use Prim.Native.String.{String}
 use native.Mathlib.Nat.{add-zero, two-pow-succ}
+use native.Mathlib.Numerals.{add-one}
 use native.Mathlib.Omega.{arith}
 use lib.ListN.{length, getD, take, drop}
 use lib.Seq.{length-take-le, take-take, take-append-le, drop-drop, getD-take, getD-drop, take-nil}
@@ -20,7 +21,7 @@ use Rattle.magnetar_sumcheck.specs.Order.{nextVar}
 use Rattle.magnetar_sumcheck.specs.Outer.{outerMessage, timesEq, dropVar}
 use Rattle.magnetar_sumcheck.specs.Messages.{Outer, outerNext, outerFold}
 use Rattle.magnetar_protocol.specs.Schedule.{numbered}
-use Rattle.magnetar_protocol.specs.Stepwise.{Steps, RowSteps, rowStep}
+use Rattle.magnetar_protocol.specs.Stepwise.{Steps, RowSteps, rowStep, rowSteps}
 use Rattle.magnetar_rounds.specs.Held.{tableAt, stepsIn, outerIn, rowIn, Table, Rows}
 use Rattle.magnetar_rounds.proofs.Slots.{take-of-drop}
 use Rattle.magnetar_rounds.proofs.Said.{round-said}
@@ -132,3 +133,64 @@ row-done label i p d o k k′ τ w n t u proof p′ draws d′ s s₁ s′ r fit
         row-stepped label i y p d o k k′ τ w n t u proof p′ draws d′ s s′ z f (omega (arith, r .before, v)) long tau heard said drawn next
         (ap elements (front-same w (n / 2) s′ s₁ (omega arith) front) ∙ e)
         (a ∙ at w (omega arith)) (b ∙ at (2 * w) (omega arith)) (c ∙ at (3 * w) (omega arith))
+
+-- ---- the loop
+pub record Rowing (label : String) (x : ℕ) (start : RowSteps) (i n : ℕ) (at : RowSteps) : Type 0 where
+  pub size : n ≡ 2 * 2 ^ (x - i)
+  pub left : rowSteps label i (x - i) at ≡ rowSteps label 0 x start
+
+steps-more : (label : String) (i j : ℕ) (q : RowSteps) → rowSteps label i (suc j) q ≡ rowSteps label (suc i) j (rowStep label i q)
+unfolding rowSteps
+steps-more label i j q = refl
+
+steps-none : (label : String) (i : ℕ) (q : RowSteps) → rowSteps label i 0 q ≡ q
+unfolding rowSteps
+steps-none label i q = refl
+
+pub rowing-start : (label : String) (x n p d o k w : ℕ) (t : Transcript) (proof draws s : List ℕ) → n ≡ 2 * 2 ^ x
+    → Rowing label x (rowIn p d o k w n t proof draws s) 0 n (rowIn (p + 4 * 0) (d + 0) (o + 0) k w n t proof draws s)
+rowing-start label x n p d o k w t proof draws s e =
+    let z : x - 0 ≡ x = omega arith in
+    let a : p + 4 * 0 ≡ p = omega arith in
+    record { size = rw z e; left = rw (z, a, add-zero d, add-zero o) }
+
+pub rowing-rows : {label : String} {x i n : ℕ} {p q : RowSteps} (o d : ℕ) → Rowing label x p i n q → i < x → x < 62 → o + x ≤ d → Rows n (o + i) (d + i)
+rowing-rows {label} {x} {i} {n} o d r h l f = record {
+  table = record { vars = x - i; var = omega arith; few = omega arith; size = r .size };
+  before = let v : log₂ (n / 2) ≡ x - i = vars-of n (x - i) (r .size) (omega arith) in omega (arith, v);
+}
+
+pub rowing-next : {label : String} {x i n : ℕ} {p q : RowSteps} (a d o k w : ℕ) (t : Transcript) (proof draws s : List ℕ) → Rowing label x p i n q → i < x
+    → rowIn (a + 4 * i + 4) (d + i + 1) (o + i + 1) k w (n / 2) t proof draws s ≡ rowStep label i q
+    → Rowing label x p (i + 1) (n / 2) (rowIn (a + 4 * (i + 1)) (d + (i + 1)) (o + (i + 1)) k w (n / 2) t proof draws s)
+rowing-next {label} {x} {i} {n} {p} {q} a d o k w t proof draws s r h e = go (x - (i + 1)) refl
+  where
+    u : a + 4 * (i + 1) ≡ a + 4 * i + 4
+    u = omega arith
+
+    v : d + (i + 1) ≡ d + i + 1
+    v = omega arith
+
+    y : o + (i + 1) ≡ o + i + 1
+    y = omega arith
+
+    half : (j : ℕ) → n ≡ 2 * 2 ^ suc j → n / 2 ≡ 2 * 2 ^ j
+    half j z = omega (arith, two-pow-succ j)
+
+    go : (j : ℕ) → x - (i + 1) ≡ j → Rowing label x p (i + 1) (n / 2) (rowIn (a + 4 * (i + 1)) (d + (i + 1)) (o + (i + 1)) k w (n / 2) t proof draws s)
+    go j f =
+        let z : x - i ≡ suc j = omega arith in
+        record {
+          size = rw f (half j (rw z at (r .size)));
+          left = rw (f, u, v, y, e, add-one) (sym (steps-more label i j q) ∙ rw z at (r .left));
+        }
+
+pub rowing-end : (label : String) (x i n a d o k w : ℕ) (p : RowSteps) (t : Transcript) (proof draws s : List ℕ)
+    → Rowing label x p i n (rowIn (a + 4 * i) (d + i) (o + i) k w n t proof draws s) → i ≡ x
+    → rowIn (a + 4 * x) (d + x) (o + x) k w 2 t proof draws s ≡ rowSteps label 0 x p
+rowing-end label x i n a d o k w p t proof draws s r e =
+    let z : x - i ≡ 0 = omega arith in
+    let m : n ≡ 2 = (rw z at (r .size)) in
+    ap (λ (j : ℕ). rowIn (a + 4 * j) (d + j) (o + j) k w 2 t proof draws s) (sym e)
+    ∙ (ap (λ (j : ℕ). rowIn (a + 4 * i) (d + i) (o + i) k w j t proof draws s) (sym m)
+    ∙ (sym (steps-none label i (rowIn (a + 4 * i) (d + i) (o + i) k w n t proof draws s)) ∙ rw z at (r .left)))
