@@ -195,3 +195,38 @@ fn rows_bin(
         k: y,
     }
 }
+
+// All x row rounds of fld, from tables of n = 2 2^x words on.
+fn rows_fld(
+    x: usize,
+    o: usize,
+    p: usize,
+    d: usize,
+    w: usize,
+    n: usize,
+    k: Gf128,
+    proof: &mut [u64],
+    draws: &mut [u64],
+    s: &mut [u64],
+    t: Transcript,
+) -> Round
+    requires { ⌜ (length (now s) ≡ 4 * w) × (w ≤ 2097152) × (n ≤ w) × (x < 62) × (p < 512) × (d < 512) × (o + x ≤ d) × (2 * (p + 4 * x) ≤ length (now proof)) × (2 * (d + x) ≤ length (now draws)) ⌝ }
+    requires { ⌜ n ≡ 2 * 2 ^ x ⌝ }
+    ensures { λ r. ⌜ rowIn (p + 4 * x) (d + x) (o + x) (value (r .k)) w 2 (r .transcript) (now (proof .exit)) (now (draws .exit)) (now (s .exit)) ≡ rowSteps "vs-out-rowfld-" 0 x (rowIn p d o (value k) w n t (now (proof .entry)) (now (draws .entry)) (now (s .entry))) ⌝ }
+{
+    let mut i = 0;
+    let mut m = n;
+    let mut y = k;
+    let mut u = t;
+    while i < x {
+        let r = row_fld(i, o + i, p + 4 * i, d + i, w, m, y, proof, draws, s, u);
+        u = r.transcript;
+        y = r.k;
+        m = m / 2;
+        i += 1;
+    }
+    Round {
+        transcript: u,
+        k: y,
+    }
+}
