@@ -1,0 +1,72 @@
+//! The functions of libmagnetar_c.a as they are exported. A slice is a pointer and a length; the pointer is not null,
+//! aligned, and good for so many elements, and what is lent for writing overlaps nothing else.
+
+/// An element of the field: bit i of the low word is the coefficient of x^i, bit i of the high one that of x^(64+i).
+#[repr(C)]
+#[derive(Clone, Copy, Debug, Default, PartialEq, Eq)]
+pub struct Element {
+    pub lo: u64,
+    pub hi: u64,
+}
+
+#[repr(C)]
+#[derive(Clone, Copy, Debug, PartialEq, Eq)]
+pub struct Transcript {
+    pub state: [u8; 32],
+    pub squeeze_ctr: u64,
+}
+
+#[repr(C)]
+#[derive(Clone, Copy, Debug, PartialEq, Eq)]
+pub struct Answer {
+    pub code: u32,
+    pub transcript: Transcript,
+}
+
+#[repr(C)]
+#[derive(Clone, Copy, Debug, PartialEq, Eq)]
+pub struct Draw {
+    pub code: u32,
+    pub element: Element,
+    pub transcript: Transcript,
+}
+
+#[link(name = "magnetar_c", kind = "static")]
+extern "C" {
+    pub fn magnetar_mul(a: Element, b: Element) -> Element;
+    pub fn magnetar_eq_build_fused(point: *const u64, point_len: usize, out: *mut u64, out_len: usize) -> u32;
+    pub fn magnetar_bind_var(table: *mut u64, table_len: usize, var: usize, r: Element) -> u32;
+    pub fn magnetar_drop_var(table: *mut u64, table_len: usize, v: usize) -> u32;
+    pub fn magnetar_outer_message(
+        out: *mut u64, out_len: usize,
+        e: *const u64, e_len: usize,
+        a: *const u64, a_len: usize,
+        b: *const u64, b_len: usize,
+        c: *const u64, c_len: usize,
+        v: usize,
+        k: Element,
+        t: Element,
+    ) -> u32;
+    pub fn magnetar_inner_message(
+        out: *mut u64, out_len: usize,
+        t: *const u64, t_len: usize,
+        z: *const u64, z_len: usize,
+        v: usize,
+    ) -> u32;
+    pub fn magnetar_transcript_new(
+        protocol: *const u8, protocol_len: usize,
+        public: *const u8, public_len: usize,
+        lens: *const usize, lens_len: usize,
+    ) -> Answer;
+    pub fn magnetar_absorb_bytes(
+        t: Transcript,
+        label: *const u8, label_len: usize,
+        bytes: *const u8, bytes_len: usize,
+    ) -> Transcript;
+    pub fn magnetar_absorb_field(
+        t: Transcript,
+        label: *const u8, label_len: usize,
+        words: *const u64, words_len: usize,
+    ) -> Answer;
+    pub fn magnetar_challenge_field(t: Transcript, label: *const u8, label_len: usize) -> Draw;
+}

@@ -1,0 +1,214 @@
+// The entries for C and Rust: each is the function of the same name below, under the name magnetar_NAME and by the C calling
+// convention, with the same outcome. A slice is a pointer and a length; a struct goes by value.
+use magnetar_field::eq;
+use magnetar_field::gf128;
+use magnetar_field::gf128::Gf128;
+use magnetar_field::multilinear;
+use magnetar_hash::transcript;
+use magnetar_hash::transcript::DrawAnswer;
+use magnetar_hash::transcript::Transcript;
+use magnetar_hash::transcript::TranscriptAnswer;
+use magnetar_sumcheck::engine;
+use magnetar_sumcheck::public;
+ghost use mathlib.Core.Path.{_≡_};
+ghost use lib.ListN.{length};
+ghost use Rattle.magnetar_field.specs.Gf128.{value, _⊗_};
+ghost use Rattle.magnetar_field.specs.Entries.{eqRefusal, eqOut, bindRefusal, bindOut};
+ghost use Rattle.magnetar_hash.specs.Transcript as spec;
+ghost use Rattle.magnetar_sumcheck.specs.Entries.{outerRefusal, outerOut, innerRefusal, innerOut, dropRefusal, dropOut};
+ghost use Rattle.magnetar_c.specs.Across as across;
+
+// An element: the low word first.
+#[repr(C)]
+pub struct MagnetarElement {
+    pub lo: u64,
+    pub hi: u64,
+}
+
+#[repr(C)]
+pub struct MagnetarTranscript {
+    pub state: [u8; 32],
+    pub squeeze_ctr: u64,
+}
+
+// The number of the refusal, 0 for none, and the transcript.
+#[repr(C)]
+pub struct MagnetarAnswer {
+    pub code: u32,
+    pub transcript: MagnetarTranscript,
+}
+
+// The same with the element drawn.
+#[repr(C)]
+pub struct MagnetarDraw {
+    pub code: u32,
+    pub element: MagnetarElement,
+    pub transcript: MagnetarTranscript,
+}
+
+// ---- From C's structs and back.
+
+fn element_in(e: MagnetarElement) -> Gf128
+    ensures { λ r. ⌜ r ≡ across.element e ⌝ }
+{
+    Gf128 { lo: e.lo, hi: e.hi }
+}
+
+fn element_out(e: Gf128) -> MagnetarElement
+    ensures { λ r. ⌜ across.element r ≡ e ⌝ }
+{
+    MagnetarElement { lo: e.lo, hi: e.hi }
+}
+
+fn transcript_in(t: MagnetarTranscript) -> Transcript
+    ensures { λ r. ⌜ r ≡ across.transcript t ⌝ }
+{
+    let state = t.state;
+    Transcript {
+        state,
+        squeeze_ctr: t.squeeze_ctr,
+    }
+}
+
+fn transcript_out(t: Transcript) -> MagnetarTranscript
+    ensures { λ r. ⌜ across.transcript r ≡ t ⌝ }
+{
+    let state = t.state;
+    MagnetarTranscript {
+        state,
+        squeeze_ctr: t.squeeze_ctr,
+    }
+}
+
+fn answer_out(a: TranscriptAnswer) -> MagnetarAnswer
+    ensures { λ r. ⌜ across.answer r ≡ a ⌝ }
+{
+    let t = a.transcript;
+    let transcript = transcript_out(t);
+    MagnetarAnswer {
+        code: a.code,
+        transcript,
+    }
+}
+
+fn draw_out(d: DrawAnswer) -> MagnetarDraw
+    ensures { λ r. ⌜ across.drawn r ≡ d ⌝ }
+{
+    let e = d.element;
+    let t = d.transcript;
+    let element = element_out(e);
+    let transcript = transcript_out(t);
+    MagnetarDraw {
+        code: d.code,
+        element,
+        transcript,
+    }
+}
+
+// ---- The entries.
+
+// The product of two elements.
+#[no_mangle]
+pub extern "C" fn magnetar_mul(a: MagnetarElement, b: MagnetarElement) -> MagnetarElement
+    ensures { λ r. ⌜ value (across.element r) ≡ value (across.element a) ⊗ value (across.element b) ⌝ }
+{
+    element_out(gf128::mul(element_in(a), element_in(b)))
+}
+
+// The table of eq at the point.
+#[no_mangle]
+pub extern "C" fn magnetar_eq_build_fused(point: &[u64], out: &mut [u64]) -> u32
+    ensures refusal { λ r. ⌜ r ≡ eqRefusal (now (point .entry)) (now (out .entry)) ⌝ }
+    ensures table { λ _. ⌜ now (out .exit) ≡ eqOut (now (point .entry)) (now (out .entry)) ⌝ }
+{
+    eq::eq_build_fused(point, out)
+}
+
+// Variable var of the table is bound to r.
+#[no_mangle]
+pub extern "C" fn magnetar_bind_var(table: &mut [u64], var: usize, r: MagnetarElement) -> u32
+    ensures refusal { λ n. ⌜ n ≡ bindRefusal (now (table .entry)) var ⌝ }
+    ensures bound { λ _. ⌜ now (table .exit) ≡ bindOut (now (table .entry)) var (value (across.element r)) ⌝ }
+{
+    multilinear::bind_var(table, var, element_in(r))
+}
+
+// The eq table without variable v.
+#[no_mangle]
+pub extern "C" fn magnetar_drop_var(table: &mut [u64], v: usize) -> u32
+    ensures refusal { λ r. ⌜ r ≡ dropRefusal (length (now (table .entry))) v ⌝ }
+    ensures dropped { λ _. ⌜ now (table .exit) ≡ dropOut (now (table .entry)) v ⌝ }
+{
+    public::drop_var(table, v)
+}
+
+// The message of a round of the outer sum-check.
+#[no_mangle]
+pub extern "C" fn magnetar_outer_message(
+    out: &mut [u64],
+    e: &[u64],
+    a: &[u64],
+    b: &[u64],
+    c: &[u64],
+    v: usize,
+    k: MagnetarElement,
+    t: MagnetarElement,
+) -> u32
+    ensures refusal { λ r. ⌜ r ≡ outerRefusal (length (now (out .entry))) (length (now (e .entry))) (length (now (a .entry))) (length (now (b .entry))) (length (now (c .entry))) v ⌝ }
+    ensures message { λ _. ⌜ now (out .exit) ≡ outerOut (now (out .entry)) (now (e .entry)) (now (a .entry)) (now (b .entry)) (now (c .entry)) v (value (across.element k)) (value (across.element t)) ⌝ }
+{
+    engine::outer_message(out, e, a, b, c, v, element_in(k), element_in(t))
+}
+
+// The message of a round of the inner sum-check.
+#[no_mangle]
+pub extern "C" fn magnetar_inner_message(out: &mut [u64], t: &[u64], z: &[u64], v: usize) -> u32
+    ensures refusal { λ r. ⌜ r ≡ innerRefusal (length (now (out .entry))) (length (now (t .entry))) (length (now (z .entry))) v ⌝ }
+    ensures message { λ _. ⌜ now (out .exit) ≡ innerOut (now (out .entry)) (now (t .entry)) (now (z .entry)) v ⌝ }
+{
+    engine::inner_message(out, t, z, v)
+}
+
+// A transcript bound to a protocol and its public parts.
+#[no_mangle]
+pub extern "C" fn magnetar_transcript_new(
+    protocol: &[u8],
+    public: &[u8],
+    lens: &[usize],
+) -> MagnetarAnswer
+    ensures { λ r. ⌜ across.answer r ≡ spec.newAnswer (now (protocol .entry)) (now (public .entry)) (now (lens .entry)) ⌝ }
+{
+    answer_out(transcript::new(protocol, public, lens))
+}
+
+// Bytes are absorbed under a label.
+#[no_mangle]
+pub extern "C" fn magnetar_absorb_bytes(
+    t: MagnetarTranscript,
+    label: &[u8],
+    bytes: &[u8],
+) -> MagnetarTranscript
+    ensures { λ r. ⌜ across.transcript r ≡ spec.absorbed (across.transcript t) (now (label .entry)) (now (bytes .entry)) ⌝ }
+{
+    transcript_out(transcript::absorb_bytes(transcript_in(t), label, bytes))
+}
+
+// Elements are absorbed under a label.
+#[no_mangle]
+pub extern "C" fn magnetar_absorb_field(
+    t: MagnetarTranscript,
+    label: &[u8],
+    words: &[u64],
+) -> MagnetarAnswer
+    ensures { λ r. ⌜ across.answer r ≡ spec.fieldAnswer (across.transcript t) (now (label .entry)) (now (words .entry)) ⌝ }
+{
+    answer_out(transcript::absorb_field(transcript_in(t), label, words))
+}
+
+// An element is drawn under a label.
+#[no_mangle]
+pub extern "C" fn magnetar_challenge_field(t: MagnetarTranscript, label: &[u8]) -> MagnetarDraw
+    ensures { λ r. ⌜ across.drawn r ≡ spec.drawAnswer (across.transcript t) (now (label .entry)) ⌝ }
+{
+    draw_out(transcript::challenge_field(transcript_in(t), label))
+}

@@ -1,0 +1,9 @@
+pub mod Again
+pub mod StepLaws
+pub mod RecordLaws
+pub mod RecordEnds
+pub mod EachNNbool
+pub mod Eachbool
+pub mod EachNSM
+pub mod EachNNMM
+pub mod EachNNMGf128

@@ -1,0 +1,4 @@
+// Thin functions above the core: the transcript changed in place, and matrices lent as slices of entry records.
+pub mod records;
+mod steps;
+pub mod transcript;

@@ -1,0 +1,198 @@
+// Matrices lent as slices of entry records. Each function is that of `magnetar_r1cs::r1cs` with its name; it calls, for one
+// record after the other, a function on that record's numbers.
+ghost use mathlib.Core.Path.{_≡_};
+ghost use mathlib.Core.Bool.{true, cond};
+ghost use mathlib.Core.List.{map};
+ghost use Prim.Native.Nat.{_+_, _*_};
+ghost use lib.ListN.{take};
+ghost use Rattle.magnetar_field.specs.Gf128.{value};
+ghost use Rattle.magnetar_field.specs.Entries.{answer, eqOut};
+ghost use Rattle.magnetar_field.specs.Words.{elements};
+ghost use Rattle.magnetar_layout.specs.Every.{every};
+ghost use Rattle.magnetar_r1cs.specs.Matrix.{share, isBit, binary, swapped, sumOver};
+ghost use Rattle.magnetar_r1cs.specs.Lent.{matrixOf};
+ghost use Rattle.magnetar_r1cs.specs.Entries.{applyRefusal, applyOut, binaryRefusal, flagged, flaggedOf, tableRefusal, tableOut, tableScratch, atAnswer, atScratch};
+ghost use Rattle.magnetar_inplace.specs.Records.{entriesOfRecords, lentOf};
+ghost use Rattle.magnetar_inplace.specs.Steps.{liesIn, addedAll, pairShare, builtBehind, clearedTo};
+use crate::steps;
+use magnetar_field::gf128::Evaluated;
+use magnetar_field::gf128::Gf128;
+use magnetar_r1cs::r1cs::Flag;
+
+// An entry of a matrix: its place, and the low and high word of its value.
+pub struct Entry {
+    pub row: usize,
+    pub col: usize,
+    pub lo: u64,
+    pub hi: u64,
+}
+
+// Every record lies inside.
+fn all_inside(es: &[Entry], rows: usize, cols: usize) -> bool
+    ensures { λ r. ⌜ r ≡ every (liesIn rows cols) (entriesOfRecords (now (es .entry))) ⌝ }
+{
+    let mut acc = true;
+    let mut i = 0;
+    while i < es.len() {
+        acc = steps::lies_in(acc, rows, cols, es[i]);
+        i += 1;
+    }
+    acc
+}
+
+// Every value is 0 or 1.
+fn all_bits(es: &[Entry]) -> bool
+    ensures { λ r. ⌜ r ≡ every isBit (entriesOfRecords (now (es .entry))) ⌝ }
+{
+    let mut acc = true;
+    let mut i = 0;
+    while i < es.len() {
+        acc = steps::has_bit(acc, es[i]);
+        i += 1;
+    }
+    acc
+}
+
+// Adds the product of the records with the vector z to the first n elements of out.
+fn add_product(es: &[Entry], n: usize, z: &[u64], out: &mut [u64])
+    ensures { λ _. ⌜ now (out .exit) ≡ addedAll n (share (elements (now (z .entry)))) (entriesOfRecords (now (es .entry))) (now (out .entry)) ⌝ }
+{
+    let mut i = 0;
+    while i < es.len() {
+        steps::add_share(n, z, out, es[i]);
+        i += 1;
+    }
+}
+
+// Whether every value is 0 or 1. Refuses 1, 4, 6, 7.
+pub fn is_binary(rows: usize, cols: usize, es: &[Entry]) -> Flag
+    ensures { λ r. ⌜ flagged r ≡ flaggedOf (binaryRefusal (lentOf rows cols (now (es .entry)))) (binary (matrixOf (lentOf rows cols (now (es .entry))))) ⌝ }
+{
+    let inside = all_inside(es, rows, cols);
+    let n = steps::lone(rows, cols, es.len(), inside);
+    let bits = all_bits(es);
+    steps::flag_unless(n, bits)
+}
+
+// The product with the vector z. Refuses 1, 4, 6, 7; 11: z is not of the columns' length; 15: too little room.
+pub fn apply(rows: usize, cols: usize, es: &[Entry], z: &[u64], out: &mut [u64]) -> u32
+    ensures { λ r. ⌜ (r ≡ applyRefusal (lentOf rows cols (now (es .entry))) (now (z .entry)) (now (out .entry)))
+        × (now (out .exit) ≡ applyOut (lentOf rows cols (now (es .entry))) (now (z .entry)) (now (out .entry))) ⌝ }
+{
+    let inside = all_inside(es, rows, cols);
+    let n = steps::apply_refusal(rows, cols, es.len(), inside, z.len(), out.len());
+    let go = steps::is_none(n);
+    if go {
+        steps::clear_front(rows, out);
+        add_product(es, rows, z, out);
+        n
+    } else {
+        n
+    }
+}
+
+// Adds the transpose's product of the records with the first n elements of s to the first m elements of out.
+fn add_columns(es: &[Entry], m: usize, n: usize, s: &mut [u64], out: &mut [u64])
+    ensures { λ _. ⌜ (now (s .exit) ≡ now (s .entry))
+        × (now (out .exit) ≡ addedAll m (share (elements (take (2 * n) (now (s .entry))))) (map swapped (entriesOfRecords (now (es .entry)))) (now (out .entry))) ⌝ }
+{
+    let mut i = 0;
+    while i < es.len() {
+        steps::add_column(m, n, s, out, es[i]);
+        i += 1;
+    }
+}
+
+// The extension at the row point and every column. Refuses 1, 4, 6, 7; 11: the point is not of the rows' length; 15: too
+// little room.
+pub fn eval_mle_table(
+    rows: usize,
+    cols: usize,
+    es: &[Entry],
+    point: &[u64],
+    out: &mut [u64],
+    scratch: &mut [u64],
+) -> u32
+    ensures { λ r. ⌜ (r ≡ tableRefusal (lentOf rows cols (now (es .entry))) (now (point .entry)) (now (out .entry)) (now (scratch .entry)))
+        × (now (out .exit) ≡ tableOut (lentOf rows cols (now (es .entry))) (now (point .entry)) (now (out .entry)) (now (scratch .entry)))
+        × (now (scratch .exit) ≡ tableScratch (lentOf rows cols (now (es .entry))) (now (point .entry)) (now (out .entry)) (now (scratch .entry))) ⌝ }
+{
+    let inside = all_inside(es, rows, cols);
+    let n = steps::table_refusal(
+        rows,
+        cols,
+        es.len(),
+        inside,
+        point.len(),
+        out.len(),
+        scratch.len(),
+    );
+    let go = steps::is_none(n);
+    if go {
+        steps::eq_front(point, scratch);
+        steps::clear_front(cols, out);
+        add_columns(es, cols, rows, scratch, out);
+        steps::clear_front(rows, scratch);
+        n
+    } else {
+        n
+    }
+}
+
+// The sum over the records of the value times the factors at the row and at the column: s holds n row factors and m column
+// factors.
+fn sum_pairs(es: &[Entry], n: usize, m: usize, s: &mut [u64]) -> Gf128
+    ensures { λ r. ⌜ (value r ≡ sumOver (pairShare n m (now (s .entry))) (entriesOfRecords (now (es .entry)))) × (now (s .exit) ≡ now (s .entry)) ⌝ }
+{
+    let mut acc = Gf128 { lo: 0, hi: 0 };
+    let mut i = 0;
+    while i < es.len() {
+        acc = steps::add_pair(acc, n, m, s, es[i]);
+        i += 1;
+    }
+    acc
+}
+
+// The same with the eq tables of the points r and c for factors, which are made in s and cleared; 0 where it is not to go.
+fn sum_at(go: bool, es: &[Entry], n: usize, m: usize, r: &[u64], c: &[u64], s: &mut [u64]) -> Gf128
+    ensures { λ v. ⌜ (value v ≡ cond go (sumOver (pairShare n m (builtBehind n (now (c .entry)) (eqOut (now (r .entry)) (now (s .entry))))) (entriesOfRecords (now (es .entry)))) 0)
+        × (now (s .exit) ≡ cond go (clearedTo (n + m) (builtBehind n (now (c .entry)) (eqOut (now (r .entry)) (now (s .entry))))) (now (s .entry))) ⌝ }
+{
+    if go {
+        steps::eq_front(r, s);
+        steps::eq_behind(n, c, s);
+        let v = sum_pairs(es, n, m, s);
+        steps::clear_both(n, m, s);
+        v
+    } else {
+        steps::zero()
+    }
+}
+
+// The extension at the row point and the column point. Refuses 1, 4, 6, 7; 11: a point is not of the wanted length; 15: too
+// little room.
+pub fn eval_mle_at(
+    rows: usize,
+    cols: usize,
+    es: &[Entry],
+    r: &[u64],
+    c: &[u64],
+    scratch: &mut [u64],
+) -> Evaluated
+    ensures { λ v. ⌜ (answer v ≡ atAnswer (lentOf rows cols (now (es .entry))) (now (r .entry)) (now (c .entry)) (now (scratch .entry)))
+        × (now (scratch .exit) ≡ atScratch (lentOf rows cols (now (es .entry))) (now (r .entry)) (now (c .entry)) (now (scratch .entry))) ⌝ }
+{
+    let inside = all_inside(es, rows, cols);
+    let n = steps::at_refusal(
+        rows,
+        cols,
+        es.len(),
+        inside,
+        r.len(),
+        c.len(),
+        scratch.len(),
+    );
+    let go = steps::is_none(n);
+    let v = sum_at(go, es, rows, cols, r, c, scratch);
+    steps::value_unless(n, v)
+}

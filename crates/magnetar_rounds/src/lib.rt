@@ -1,0 +1,5 @@
+// The rounds of the prover, within one lent scratch slice.
+pub mod answer;
+mod guard;
+pub mod inner;
+mod outer;

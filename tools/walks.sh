@@ -1,0 +1,39 @@
+#!/bin/sh
+# Writes anew the proofs of magnetar_inplace that tools/thin.py and tools/each.py write. Run it in the repository's root after a
+# change of a walked function's code or contract, then `rt fmt` and `rt check magnetar_inplace`. Nobody has to trust the tools:
+# the checker checks what they write.
+set -e
+c=magnetar_inplace
+p=crates/$c/proofs
+each() { out=$1; shift; python3 tools/each.py $c $c::records::Entry 32 row,col,lo,hi "$@" > $p/$out.new && mv $p/$out.new $p/$out.antt; }
+thin() { f=$1; shift; d=$p/$(echo $f | sed 's/::/\//'); mkdir -p $d; python3 tools/thin.py $c $f "$@" > $d/new && mv $d/new $d/Proof.antt; }
+ends=Rattle.$c.proofs.RecordEnds
+value='Rattle.magnetar_field.specs.Gf128.{value}'
+
+# the laws for loops over records, by shape
+each EachNNbool NN bool
+each Eachbool "" bool
+each EachNSM NSM
+each EachNNMM NNMM
+each EachNNMGf128 NNM magnetar_field::gf128::Gf128:lo,hi
+
+# calls in a row
+thin transcript::absorb_bytes
+thin transcript::absorb_u64
+thin transcript::absorb_digest
+thin transcript::absorb_field --final '(cc, cc)'
+thin transcript::challenge_field --final '(cc, cc)'
+thin transcript::challenge_field_vec --final '(cc, cc, cc)'
+thin records::is_binary --use "$ends.{binary-ends}" --use 'Rattle.magnetar_r1cs.specs.Entries.{flagged}' \
+  --final 'binary-ends n1 n2 (s3 .now) r1 r3 r2 (flagged r4) e1 e2 e3 e4'
+thin records::apply --use "$ends.{apply-done, apply-back}" \
+  --final 'apply-done n1 n2 (s3 .now) (s4 .now) ys5 r1 r3 r2 e1 e2 e3 (ws4 .1 .0) (ws5 .1 .1 .1 .0) b1 e4 e5' \
+  --final 'apply-back n1 n2 (s3 .now) (s4 .now) ys5 r1 r3 r2 e1 e2 e3 b1'
+thin records::eval_mle_table --use "$ends.{table-done, table-back}" \
+  --final 'table-done n1 n2 (s3 .now) (s4 .now) ys5 ys6 r1 r3 r2 e1 e2 e3 (ws4 .1 .0) (ws5 .1 .0) (ws6 .1 .1 .1 .0) (ws6 .1 .1 .1 .1 .0) (ws7 .1 .0) b1 e4 e5 (e6 .0) (e6 .1) e7' \
+  --final 'table-back n1 n2 (s3 .now) (s4 .now) ys5 ys6 r1 r3 r2 e1 e2 e3 b1'
+thin records::sum_at --use "$ends.{sum-some, sum-none}" --use "$value" \
+  --final 'sum-some n3 n4 (value r3) (s2 .now) (s5 .now) (s6 .now) ys7 n1 (ws1 .1 .0) (ws2 .1 .1 .0) (ws3 .1 .1 .1 .0) (ws4 .1 .1 .0) b1 e1 e2 e3 e4' \
+  --final 'sum-none n3 n4 (value r5) (s2 .now) (s5 .now) (s6 .now) ys7 n1 b1 e5'
+thin records::eval_mle_at --use "$ends.{at-ends}" --use "$value" --use 'Rattle.magnetar_field.specs.Entries.{answer}' \
+  --final 'at-ends n1 n2 (s3 .now) (s4 .now) (s5 .now) ys6 r1 r3 r2 e1 e2 e3 (ws4 .1 .1 .1 .1 .1 .1 .0) (value r4) (answer r5) e4 e5'
