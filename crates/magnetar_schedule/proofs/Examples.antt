@@ -1,9 +1,8 @@
 -- Labels and schedules, computed from the definitions.
 -- Assumes nothing.
 use mathlib.Core.Path.{_≡_, refl}
-use mathlib.Core.List.{List, [], _∷_, _++_}
-use Prim.Native.Nat.{ℕ}
-use lib.ListN.{length, getD, take, drop}
+use mathlib.Core.List.{List, [], _∷_}
+use lib.ListN.{length, take, drop}
 use Rattle.magnetar_field.specs.Sizes.{log₂, halvings}
 use Rattle.magnetar_hash.specs.Bytes.{ascii}
 use Rattle.magnetar_protocol.specs.Schedule.{Event, absorb, draw, digits, numbered, rounds, singles, schedule, outline}
