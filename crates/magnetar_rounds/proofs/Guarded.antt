@@ -1,4 +1,4 @@
--- What the guards' refusals leave, and which refusal of a layout a reading gives.
+-- What the guards' refusals leave.
 -- Assumes nothing.
 use mathlib.Core.Path.{_≡_, refl, sym, ap, _∙_}
 use mathlib.Core.Bool.{Bool, true, false, not}
@@ -11,9 +11,7 @@ use lib.Pow.{pow-mono, pow-pos}
 use borrow.Author.Tests.{ltb-false, eqb-true, not-false}
 use Rattle.magnetar_field.specs.Sizes.{log₂}
 use Rattle.magnetar_field.proofs.Log2.{log₂-pow}
-use Rattle.magnetar_r1cs.specs.declared.layout.Reading.{Reading}
-use Rattle.magnetar_r1cs.specs.declared.layout.Reading.the-variants.{Number, NoSegment, Refused}
-use Rattle.magnetar_layout.specs.Entries.{layoutRefusal, read, readOf}
+use Rattle.magnetar_layout.specs.Entries.{layoutRefusal}
 use Rattle.magnetar_layout.specs.Tests.{Tests, note, noted, isSize, columnTests, publicTests, layoutTests, roomTest}
 use Rattle.magnetar_layout.proofs.Noted.{noted-rest, noted-clear}
 use Rattle.magnetar_layout.proofs.SizeLaws.{Sized, not-bad}
@@ -22,16 +20,6 @@ use Rattle.magnetar_r1cs.proofs.Points.{log-most}
 use Rattle.magnetar_layout.proofs.Readings.{log-le}
 use Rattle.magnetar_rounds.specs.Held.{Local, Locals}
 use Rattle.magnetar_rounds.specs.Entries.{innerRefusal}
-
-module _ (w : ℕ) (ns : List ℕ) (i v : ℕ) (r : Reading) (e : read r ≡ readOf w ns i v) where
-  pub refused-is : (z : ℕ) → r ≡ Refused z → z ≡ layoutRefusal w ns
-  refused-is z f = ap (λ x. x .refusal) (ap read (sym f)) ∙ ap (λ x. x .refusal) e
-
-  pub number-is : (z : ℕ) → r ≡ Number z → _≡_ {A = ℕ} 0 (layoutRefusal w ns)
-  number-is z f = ap (λ x. x .refusal) (ap read (sym f)) ∙ ap (λ x. x .refusal) e
-
-  pub none-is : r ≡ NoSegment → _≡_ {A = ℕ} 0 (layoutRefusal w ns)
-  none-is f = ap (λ x. x .refusal) (ap read (sym f)) ∙ ap (λ x. x .refusal) e
 
 -- a size that is a power of two of at least two is even
 pub even-size : (m : ℕ) → Sized 2 65536 m → 2 * (m / 2) ≡ m

@@ -1,25 +1,12 @@
 // Which refusal applies, in rising order.
 use magnetar_field::sizes;
 use magnetar_layout::layout;
-use magnetar_layout::layout::Reading;
 use magnetar_layout::tests;
 ghost use mathlib.Core.Path.{_≡_};
 ghost use mathlib.Core.List.{_++_};
 ghost use Prim.Native.Nat.{ℕ, _/_};
 ghost use Rattle.magnetar_layout.specs.Tests.{noted, columnTests, publicTests, layoutTests};
-ghost use Rattle.magnetar_layout.specs.Entries.{layoutRefusal};
 ghost use Rattle.magnetar_rounds.specs.Entries.{innerRefusal};
-
-// 1, 8, 9 and 10 of a layout.
-fn of_layout(w: usize, lens: &[usize]) -> u32
-    ensures { λ r. ⌜ r ≡ layoutRefusal w (now (lens .entry)) ⌝ }
-{
-    match layout::offset(w, lens, 0) {
-        Reading::Refused(z) => z,
-        Reading::Number(_) => 0,
-        Reading::NoSegment => 0,
-    }
-}
 
 // 1, 3, 8, 9 and 10.
 fn of_sizes(m: usize, lens: &[usize], x: &[u64]) -> u32
@@ -33,7 +20,7 @@ fn of_sizes(m: usize, lens: &[usize], x: &[u64]) -> u32
     if y != 0 {
         return y;
     }
-    of_layout(m / 2, lens)
+    layout::refusal(m / 2, lens)
 }
 
 // The refusals of the inner rounds.

@@ -2,3 +2,4 @@ pub mod Spelling
 pub mod Staging
 pub mod Turns
 pub mod Whole
+pub mod Examples

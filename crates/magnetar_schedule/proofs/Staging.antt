@@ -2,14 +2,14 @@
 -- Assumes nothing.
 use mathlib.Core.Path.{_≡_, refl, sym, ap, ap₂, _∙_, subst}
 use mathlib.Core.Bool.{Bool, true, false}
-use mathlib.Core.List.{List, [], _∷_, _++_, append-assoc, append-nil}
-use Prim.Native.Nat.{ℕ, zero, suc, _+_, _*_, _/_, _%_, _-_, _^_, _<_, _≤_, min}
+use mathlib.Core.List.{List, [], _∷_, _++_, append-assoc}
+use Prim.Native.Nat.{ℕ, zero, suc, _+_, _*_, _/_, _-_, _^_, _<_, _≤_, min}
 use native.Mathlib.Omega.{arith}
 use native.Mathlib.Numerals.{add-one}
 use lib.Dec.{leb}
 use lib.Pow.{low, high}
 use lib.ListN.{length, getD, set, take, drop, length-append, length-drop, length-take, drop-of-length-le}
-use lib.Seq.{take-nil, take-all, drop-cons, drop-drop, set-at, take-append-le, take-append-add, getD-drop, length-take-le}
+use lib.Seq.{take-nil, take-all, drop-cons, drop-drop, set-at, take-append-le, getD-drop}
 use borrow.Author.Tests.{leb-true, leb-false}
 use Rattle.magnetar_field.specs.declared.gf128.Gf128.{Gf128}
 use Rattle.magnetar_field.specs.Gf128.{value}
@@ -22,7 +22,7 @@ use Rattle.magnetar_protocol.specs.Proof.{part}
 use Rattle.magnetar_protocol.specs.Schedule.{Event, absorb, draw}
 use Rattle.magnetar_protocol.specs.Play.{Played, play, heard, start, absorbing, drawing}
 use Rattle.magnetar_schedule.specs.declared.play.Stage.{Stage}
-use Rattle.magnetar_schedule.specs.Stages.{Written, Adds, Going, Plays}
+use Rattle.magnetar_schedule.specs.Stages.{Written, Adds, Going}
 
 -- ---- words written
 

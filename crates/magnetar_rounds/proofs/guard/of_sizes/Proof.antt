@@ -30,11 +30,11 @@ note-requires-2 c κs = search needs
 returns-2 : tie.Need-returns-2
 returns-2 c = let x = c .before .before .before .before .before .before .before .args in let e : noted 0 (columnTests (x .m)) ≡ 0 = sym (c .before .before .before .note .ensures ∙ rw (c .before .before .before .before .is-size .ensures)) ∙ c .before .before .if1 .left in noted-late (columnTests (x .m)) ((publicTests (x .m) (now (x .x))) ++ (layoutTests (x .m / 2) (now (x .lens)))) 0 _ (sym e) refl (noted-front (publicTests (x .m) (now (x .x))) (layoutTests (x .m / 2) (now (x .lens))) _ (c .before .note2 .ensures) (c .if2 .taken))
 
-of-layout-requires : tie.Need-of-layout-requires
-of-layout-requires c κs = search needs
+refusal-requires : tie.Need-refusal-requires
+refusal-requires c κs = search needs
 
 returns-3 : tie.Need-returns-3
-returns-3 c = let x = c .before .before .before .before .before .before .before .before .args in let e : noted 0 (columnTests (x .m)) ≡ 0 = sym (c .before .before .before .before .note .ensures ∙ rw (c .before .before .before .before .before .is-size .ensures)) ∙ c .before .before .before .if1 .left in let f : noted 0 (publicTests (x .m) (now (x .x))) ≡ 0 = sym (c .before .before .note2 .ensures) ∙ c .before .if2 .left in layout-rest (x .m) (now (x .lens)) (now (x .x)) 0 _ e f (c .of-layout .ensures)
+returns-3 c = let x = c .before .before .before .before .before .before .before .before .args in let e : noted 0 (columnTests (x .m)) ≡ 0 = sym (c .before .before .before .before .note .ensures ∙ rw (c .before .before .before .before .before .is-size .ensures)) ∙ c .before .before .before .if1 .left in let f : noted 0 (publicTests (x .m) (now (x .x))) ≡ 0 = sym (c .before .before .note2 .ensures) ∙ c .before .if2 .left in layout-rest (x .m) (now (x .lens)) (now (x .x)) 0 _ e f (c .refusal .ensures)
 
 pub of-sizes-spec : {M : Type 1} → statement M
 of-sizes-spec =
@@ -46,5 +46,5 @@ of-sizes-spec =
     sub-note
     note-requires-2
     returns-2
-    of-layout-requires
+    refusal-requires
     returns-3)

@@ -1,6 +1,9 @@
 -- `magnetar_schedule::events::inner_round` meets its contract.
 -- Assumes nothing.
+use mathlib.Core.Path.{ap, _∙_}
 use Rattle.magnetar_hash.specs.Bytes.{ascii}
+use Rattle.magnetar_hash.specs.declared.transcript.Transcript.{Transcript}
+use Rattle.magnetar_hash.specs.Transcript.{drawn}
 use borrow.Author.Needs.{needs}
 use Rattle.magnetar_schedule.proofs.events.inner_round.Statement.{statement}
 use Rattle.magnetar_schedule.proofs.events.inner_round.Tie as tie
@@ -19,7 +22,7 @@ draw-requires c κs = search needs
 
 returns : tie.Need-returns
 unfolding ascii
-returns c = rw (c .before .before .absorb-words .ensures) at (c .draw .ensures)
+returns c = c .draw .ensures ∙ ap (λ (u : Transcript). drawn u (ascii "vs-inner")) (c .before .before .absorb-words .ensures)
 
 pub inner-round-spec : {M : Type 1} → statement M
 inner-round-spec =
