@@ -21,16 +21,40 @@ extern "C" {
 /* Refusals, in the order in which they are looked for. */
 enum {
     MAGNETAR_OK = 0,
-    MAGNETAR_LENGTH = 11,  /* a point, vector or table is not of the wanted length, or has no such variable */
-    MAGNETAR_COUNTER = 14, /* the transcript's counter is 2^32 or more */
-    MAGNETAR_ROOM = 15,    /* an output or the scratch is too short */
-    MAGNETAR_PARTS = 17    /* the lengths of the parts don't add up to the bytes */
+    MAGNETAR_SIZES = 1,           /* m is no power of two from 2 to 65,536, or q none from 1 to 4,096 */
+    MAGNETAR_PUBLIC = 3,          /* the public words are not m - 2 */
+    MAGNETAR_ROWS = 4,            /* rows no power of two from 1 to 65,536, unequal within a system, or q times rows over 2^20 */
+    MAGNETAR_COLUMNS = 5,         /* a matrix whose columns are not m */
+    MAGNETAR_ENTRIES = 6,         /* over 1,048,576 entries in a matrix, or its number slices are of unequal length */
+    MAGNETAR_OUTSIDE = 7,         /* an entry outside its matrix */
+    MAGNETAR_SEGMENT = 8,         /* a segment's length is zero, no power of two, or over m / 2 */
+    MAGNETAR_LAYOUT = 9,          /* the layout ends past m / 2 */
+    MAGNETAR_SEGMENTS = 10,       /* over 64 segments */
+    MAGNETAR_LENGTH = 11,         /* a point, vector or table is not of the wanted length, or has no such variable */
+    MAGNETAR_COUNTER = 14,        /* the transcript's counter is 2^32 or more */
+    MAGNETAR_ROOM = 15,           /* an output or the scratch is too short */
+    MAGNETAR_PROOF_LENGTH = 16,   /* the proof has a wrong number of words */
+    MAGNETAR_PARTS = 17,          /* the lengths of the parts don't add up to the bytes */
+    MAGNETAR_SHARED_BIN = 21,     /* a shared round of bin does not add up */
+    MAGNETAR_SHARED_FLD = 22,     /* a shared round of fld does not add up */
+    MAGNETAR_ROW_BIN = 23,        /* a row round of bin does not add up */
+    MAGNETAR_ROW_FLD = 24,        /* a row round of fld does not add up */
+    MAGNETAR_END_BIN = 25,        /* the end of bin's outer sum-check does not hold */
+    MAGNETAR_END_FLD = 26,        /* the end of fld's outer sum-check does not hold */
+    MAGNETAR_INNER_ROUND = 27,    /* an inner round does not add up */
+    MAGNETAR_INNER_END = 28,      /* the end of the inner sum-check does not hold */
+    MAGNETAR_SEGMENT_VALUES = 29  /* the segment values do not add up to v_z */
 };
 
 /* Sizes, in words. */
 #define MAGNETAR_TABLE_WORDS(n) ((size_t)2 << (n)) /* a table over n variables */
 #define MAGNETAR_OUTER_WORDS 8                     /* a message of the outer sum-check: four coefficients, that of 1 first */
 #define MAGNETAR_INNER_WORDS 6                     /* a message of the inner sum-check: three */
+
+/* Of a run with m columns, q logins, rb rows of bin and rf of fld, and so many segments; s, b, f, n are the logs of q, rb, rf, m. */
+#define MAGNETAR_PROOF_WORDS(s, b, f, n, segments) (2 * (8 * (size_t)(s) + 4 * (b) + 4 * (f) + 7 + 3 * (n) + (segments)))
+#define MAGNETAR_CLAIM_WORDS(s, n, segments) (2 * ((size_t)(s) + (n)-1 + (segments)))
+#define MAGNETAR_VERIFIER_SCRATCH(m, rb, rf) (4 * (size_t)(m) + 4 * (size_t)((rb) > (rf) ? (rb) : (rf)))
 
 typedef struct {
     uint64_t lo; /* bit i: the coefficient of x^i */
@@ -96,6 +120,56 @@ magnetar_answer magnetar_absorb_field(magnetar_transcript t, const uint8_t *labe
 
 /* An element is drawn under a label. 14: the counter is 2^32 or more. */
 magnetar_draw magnetar_challenge_field(magnetar_transcript t, const uint8_t *label, size_t label_len);
+
+/* The verdict on a proof for a batch of q logins: 0 where it is accepted, and the claims: the shared challenges, those of the columns
+ * but the last, and a value for each segment. The matrices A, B, C of bin are ab, bb, cb, those of fld af, bf, cf: entry i has the row
+ * row[i], the column col[i] and the value of the words lo[i] and hi[i], and entries at one place add up. x holds the words of the
+ * public elements. Refuses 1, 3 to 10 and 14 to 16, and 21 to 29, after which the scratch is cleared and the transcript has gone on. */
+magnetar_answer magnetar_verify_virtual_spartan(
+    uint64_t *claims, size_t claims_len, uint64_t *scratch, size_t scratch_len,
+    size_t m, size_t q, const size_t *lens, size_t lens_len,
+    size_t abrows, size_t abcols, const size_t *abrow, size_t abrow_len, const size_t *abcol, size_t abcol_len,
+    const uint64_t *ablo, size_t ablo_len, const uint64_t *abhi, size_t abhi_len,
+    size_t bbrows, size_t bbcols, const size_t *bbrow, size_t bbrow_len, const size_t *bbcol, size_t bbcol_len,
+    const uint64_t *bblo, size_t bblo_len, const uint64_t *bbhi, size_t bbhi_len,
+    size_t cbrows, size_t cbcols, const size_t *cbrow, size_t cbrow_len, const size_t *cbcol, size_t cbcol_len,
+    const uint64_t *cblo, size_t cblo_len, const uint64_t *cbhi, size_t cbhi_len,
+    size_t afrows, size_t afcols, const size_t *afrow, size_t afrow_len, const size_t *afcol, size_t afcol_len,
+    const uint64_t *aflo, size_t aflo_len, const uint64_t *afhi, size_t afhi_len,
+    size_t bfrows, size_t bfcols, const size_t *bfrow, size_t bfrow_len, const size_t *bfcol, size_t bfcol_len,
+    const uint64_t *bflo, size_t bflo_len, const uint64_t *bfhi, size_t bfhi_len,
+    size_t cfrows, size_t cfcols, const size_t *cfrow, size_t cfrow_len, const size_t *cfcol, size_t cfcol_len,
+    const uint64_t *cflo, size_t cflo_len, const uint64_t *cfhi, size_t cfhi_len,
+    const uint64_t *x, size_t x_len, const uint64_t *proof, size_t proof_len, magnetar_transcript t);
+
+/* The same with the rules in a struct. */
+typedef struct {
+    size_t rows, cols, entries;
+    const size_t *row, *col;
+    const uint64_t *lo, *hi;
+} magnetar_matrix;
+
+typedef struct {
+    size_t m, q;
+    const size_t *lens; /* of the segments */
+    size_t segments;
+    magnetar_matrix matrix[6]; /* A, B, C of bin, then of fld */
+} magnetar_relation;
+
+static inline magnetar_answer magnetar_verify(const magnetar_relation *r, const uint64_t *x, size_t x_len, const uint64_t *proof,
+                                              size_t proof_len, magnetar_transcript t, uint64_t *claims, size_t claims_len,
+                                              uint64_t *scratch, size_t scratch_len)
+{
+    return magnetar_verify_virtual_spartan(
+        claims, claims_len, scratch, scratch_len, r->m, r->q, r->lens, r->segments,
+        r->matrix[0].rows, r->matrix[0].cols, r->matrix[0].row, r->matrix[0].entries, r->matrix[0].col, r->matrix[0].entries, r->matrix[0].lo, r->matrix[0].entries, r->matrix[0].hi, r->matrix[0].entries,
+        r->matrix[1].rows, r->matrix[1].cols, r->matrix[1].row, r->matrix[1].entries, r->matrix[1].col, r->matrix[1].entries, r->matrix[1].lo, r->matrix[1].entries, r->matrix[1].hi, r->matrix[1].entries,
+        r->matrix[2].rows, r->matrix[2].cols, r->matrix[2].row, r->matrix[2].entries, r->matrix[2].col, r->matrix[2].entries, r->matrix[2].lo, r->matrix[2].entries, r->matrix[2].hi, r->matrix[2].entries,
+        r->matrix[3].rows, r->matrix[3].cols, r->matrix[3].row, r->matrix[3].entries, r->matrix[3].col, r->matrix[3].entries, r->matrix[3].lo, r->matrix[3].entries, r->matrix[3].hi, r->matrix[3].entries,
+        r->matrix[4].rows, r->matrix[4].cols, r->matrix[4].row, r->matrix[4].entries, r->matrix[4].col, r->matrix[4].entries, r->matrix[4].lo, r->matrix[4].entries, r->matrix[4].hi, r->matrix[4].entries,
+        r->matrix[5].rows, r->matrix[5].cols, r->matrix[5].row, r->matrix[5].entries, r->matrix[5].col, r->matrix[5].entries, r->matrix[5].lo, r->matrix[5].entries, r->matrix[5].hi, r->matrix[5].entries,
+        x, x_len, proof, proof_len, t);
+}
 
 #ifdef __cplusplus
 }

@@ -8,6 +8,7 @@ use magnetar_hash::transcript;
 use magnetar_hash::transcript::DrawAnswer;
 use magnetar_hash::transcript::Transcript;
 use magnetar_hash::transcript::TranscriptAnswer;
+use magnetar_spartan::virtual_spartan;
 use magnetar_sumcheck::engine;
 use magnetar_sumcheck::public;
 ghost use mathlib.Core.Path.{_≡_};
@@ -15,6 +16,10 @@ ghost use lib.ListN.{length};
 ghost use Rattle.magnetar_field.specs.Gf128.{value, _⊗_};
 ghost use Rattle.magnetar_field.specs.Entries.{eqRefusal, eqOut, bindRefusal, bindOut};
 ghost use Rattle.magnetar_hash.specs.Transcript as spec;
+ghost use Rattle.magnetar_layout.specs.Lent.{lent};
+ghost use Rattle.magnetar_batch.specs.Systems.{system};
+ghost use Rattle.magnetar_spartan.specs.Rules.{rules};
+ghost use Rattle.magnetar_spartan.specs.Outcome.{verified, verifyOutcome};
 ghost use Rattle.magnetar_sumcheck.specs.Entries.{outerRefusal, outerOut, innerRefusal, innerOut, dropRefusal, dropOut};
 ghost use Rattle.magnetar_c.specs.Across as across;
 
@@ -211,4 +216,105 @@ pub extern "C" fn magnetar_challenge_field(t: MagnetarTranscript, label: &[u8]) 
     ensures { λ r. ⌜ across.drawn r ≡ spec.drawAnswer (across.transcript t) (now (label .entry)) ⌝ }
 {
     draw_out(transcript::challenge_field(transcript_in(t), label))
+}
+
+// The verdict on a proof, and the claims of one that is accepted.
+#[no_mangle]
+pub extern "C" fn magnetar_verify_virtual_spartan(
+    claims: &mut [u64],
+    scratch: &mut [u64],
+    m: usize,
+    q: usize,
+    lens: &[usize],
+    abrows: usize,
+    abcols: usize,
+    abrow: &[usize],
+    abcol: &[usize],
+    ablo: &[u64],
+    abhi: &[u64],
+    bbrows: usize,
+    bbcols: usize,
+    bbrow: &[usize],
+    bbcol: &[usize],
+    bblo: &[u64],
+    bbhi: &[u64],
+    cbrows: usize,
+    cbcols: usize,
+    cbrow: &[usize],
+    cbcol: &[usize],
+    cblo: &[u64],
+    cbhi: &[u64],
+    afrows: usize,
+    afcols: usize,
+    afrow: &[usize],
+    afcol: &[usize],
+    aflo: &[u64],
+    afhi: &[u64],
+    bfrows: usize,
+    bfcols: usize,
+    bfrow: &[usize],
+    bfcol: &[usize],
+    bflo: &[u64],
+    bfhi: &[u64],
+    cfrows: usize,
+    cfcols: usize,
+    cfrow: &[usize],
+    cfcol: &[usize],
+    cflo: &[u64],
+    cfhi: &[u64],
+    x: &[u64],
+    proof: &[u64],
+    t: MagnetarTranscript,
+) -> MagnetarAnswer
+    ensures { λ r. ⌜ verified (across.answer r) (now (claims .exit)) (now (scratch .exit)) ≡ verifyOutcome (rules m q (now (lens .entry))
+        (system (lent abrows abcols (now (abrow .entry)) (now (abcol .entry)) (now (ablo .entry)) (now (abhi .entry))) (lent bbrows bbcols (now (bbrow .entry)) (now (bbcol .entry)) (now (bblo .entry)) (now (bbhi .entry))) (lent cbrows cbcols (now (cbrow .entry)) (now (cbcol .entry)) (now (cblo .entry)) (now (cbhi .entry))))
+        (system (lent afrows afcols (now (afrow .entry)) (now (afcol .entry)) (now (aflo .entry)) (now (afhi .entry))) (lent bfrows bfcols (now (bfrow .entry)) (now (bfcol .entry)) (now (bflo .entry)) (now (bfhi .entry))) (lent cfrows cfcols (now (cfrow .entry)) (now (cfcol .entry)) (now (cflo .entry)) (now (cfhi .entry)))))
+        (now (x .entry)) (now (proof .entry)) (across.transcript t) (now (claims .entry)) (now (scratch .entry)) ⌝ }
+{
+    answer_out(virtual_spartan::verify_virtual_spartan(
+        claims,
+        scratch,
+        m,
+        q,
+        lens,
+        abrows,
+        abcols,
+        abrow,
+        abcol,
+        ablo,
+        abhi,
+        bbrows,
+        bbcols,
+        bbrow,
+        bbcol,
+        bblo,
+        bbhi,
+        cbrows,
+        cbcols,
+        cbrow,
+        cbcol,
+        cblo,
+        cbhi,
+        afrows,
+        afcols,
+        afrow,
+        afcol,
+        aflo,
+        afhi,
+        bfrows,
+        bfcols,
+        bfrow,
+        bfcol,
+        bflo,
+        bfhi,
+        cfrows,
+        cfcols,
+        cfrow,
+        cfcol,
+        cflo,
+        cfhi,
+        x,
+        proof,
+        transcript_in(t),
+    ))
 }

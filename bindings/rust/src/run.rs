@@ -1,0 +1,114 @@
+//! The verifier of a batch.
+use crate::sys::{self, Element, Transcript};
+use crate::Refusal;
+
+/// A sparse matrix: entry i has the row `row[i]`, the column `col[i]` and the value of the words `lo[i]` and `hi[i]`. Entries at one
+/// place add up.
+#[derive(Clone, Debug, Default)]
+pub struct Matrix {
+    pub rows: usize,
+    pub cols: usize,
+    pub row: Vec<usize>,
+    pub col: Vec<usize>,
+    pub lo: Vec<u64>,
+    pub hi: Vec<u64>,
+}
+
+impl Matrix {
+    pub fn new(rows: usize, cols: usize, entries: &[(usize, usize, Element)]) -> Matrix {
+        Matrix {
+            rows,
+            cols,
+            row: entries.iter().map(|e| e.0).collect(),
+            col: entries.iter().map(|e| e.1).collect(),
+            lo: entries.iter().map(|e| e.2.lo).collect(),
+            hi: entries.iter().map(|e| e.2.hi).collect(),
+        }
+    }
+}
+
+/// What both ends know: m columns, q logins, the lengths of the segments of the witness, and A, B, C of both systems.
+#[derive(Clone, Debug, Default)]
+pub struct Relation {
+    pub m: usize,
+    pub q: usize,
+    pub segments: Vec<usize>,
+    pub bin: [Matrix; 3],
+    pub fld: [Matrix; 3],
+}
+
+/// The words of elements: the shared challenges, those of the columns, and a value for each segment.
+#[derive(Clone, Debug, PartialEq, Eq)]
+pub struct Claims {
+    pub r_inst: Vec<u64>,
+    pub r_low: Vec<u64>,
+    pub values: Vec<u64>,
+}
+
+/// Past every limit: the library refuses such sizes before it looks at what it is lent.
+const MOST: usize = 1 << 25;
+
+fn room(words: Option<usize>) -> Vec<u64> {
+    vec![0; words.filter(|&n| n <= MOST).unwrap_or(0)]
+}
+
+fn log(n: usize) -> usize {
+    n.checked_ilog2().unwrap_or(0) as usize
+}
+
+impl Relation {
+    /// The words of a proof.
+    pub fn proof_words(&self) -> usize {
+        let outer = 8 * log(self.q) + 4 * log(self.bin[0].rows) + 4 * log(self.fld[0].rows);
+        2 * (outer + 7 + 3 * log(self.m) + self.segments.len())
+    }
+
+    /// The words of the claims.
+    pub fn claim_words(&self) -> usize {
+        2 * (log(self.q) + log(self.m).saturating_sub(1) + self.segments.len())
+    }
+
+    fn most_rows(&self) -> usize {
+        self.bin[0].rows.max(self.fld[0].rows)
+    }
+
+    /// The words of the verifier's scratch, where they can be counted: 4 m + 4 max(Rb, Rf).
+    pub fn verifier_scratch(&self) -> Option<usize> {
+        self.m.checked_add(self.most_rows())?.checked_mul(4)
+    }
+
+    fn claims(&self, words: Vec<u64>) -> Claims {
+        let (r_inst, rest) = words.split_at(2 * log(self.q));
+        let (r_low, values) = rest.split_at(2 * (log(self.m) - 1));
+        Claims { r_inst: r_inst.to_vec(), r_low: r_low.to_vec(), values: values.to_vec() }
+    }
+}
+
+/// The claims of a proof that is accepted; `x` holds the words of the public elements.
+pub fn verify(r: &Relation, x: &[u64], proof: &[u64], t: &mut Transcript) -> Result<Claims, Refusal> {
+    let mut claims = room(Some(r.claim_words()));
+    let mut scratch = room(r.verifier_scratch());
+    // SAFETY: each pointer and length are of one slice, and what is written is borrowed as `&mut`.
+    let answer = unsafe {
+        sys::magnetar_verify_virtual_spartan(
+            claims.as_mut_ptr(), claims.len(), scratch.as_mut_ptr(), scratch.len(),
+            r.m, r.q, r.segments.as_ptr(), r.segments.len(),
+            r.bin[0].rows, r.bin[0].cols, r.bin[0].row.as_ptr(), r.bin[0].row.len(), r.bin[0].col.as_ptr(), r.bin[0].col.len(),
+            r.bin[0].lo.as_ptr(), r.bin[0].lo.len(), r.bin[0].hi.as_ptr(), r.bin[0].hi.len(),
+            r.bin[1].rows, r.bin[1].cols, r.bin[1].row.as_ptr(), r.bin[1].row.len(), r.bin[1].col.as_ptr(), r.bin[1].col.len(),
+            r.bin[1].lo.as_ptr(), r.bin[1].lo.len(), r.bin[1].hi.as_ptr(), r.bin[1].hi.len(),
+            r.bin[2].rows, r.bin[2].cols, r.bin[2].row.as_ptr(), r.bin[2].row.len(), r.bin[2].col.as_ptr(), r.bin[2].col.len(),
+            r.bin[2].lo.as_ptr(), r.bin[2].lo.len(), r.bin[2].hi.as_ptr(), r.bin[2].hi.len(),
+            r.fld[0].rows, r.fld[0].cols, r.fld[0].row.as_ptr(), r.fld[0].row.len(), r.fld[0].col.as_ptr(), r.fld[0].col.len(),
+            r.fld[0].lo.as_ptr(), r.fld[0].lo.len(), r.fld[0].hi.as_ptr(), r.fld[0].hi.len(),
+            r.fld[1].rows, r.fld[1].cols, r.fld[1].row.as_ptr(), r.fld[1].row.len(), r.fld[1].col.as_ptr(), r.fld[1].col.len(),
+            r.fld[1].lo.as_ptr(), r.fld[1].lo.len(), r.fld[1].hi.as_ptr(), r.fld[1].hi.len(),
+            r.fld[2].rows, r.fld[2].cols, r.fld[2].row.as_ptr(), r.fld[2].row.len(), r.fld[2].col.as_ptr(), r.fld[2].col.len(),
+            r.fld[2].lo.as_ptr(), r.fld[2].lo.len(), r.fld[2].hi.as_ptr(), r.fld[2].hi.len(),
+            x.as_ptr(), x.len(), proof.as_ptr(), proof.len(), *t,
+        )
+    };
+    *t = answer.transcript;
+    Refusal::check(answer.code)?;
+    Ok(r.claims(claims))
+}
