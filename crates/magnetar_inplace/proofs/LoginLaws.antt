@@ -1,17 +1,17 @@
 -- Laws on the walk over entry records for a batch of logins.
 -- Assumes nothing.
 use mathlib.Core.Path.{_≡_, refl, sym, ap, _∙_}
-use mathlib.Core.Bool.{Bool, true, false, cond, _&&_}
+use mathlib.Core.Bool.{Bool, true, false, cond}
 use mathlib.Core.List.{List, [], _∷_, _++_}
 use Prim.Native.Nat.{ℕ, zero, suc, _+_, _-_, _*_, _/_, _%_, _^_, _≤_, _<_}
 use native.Mathlib.Nat.{suc-mul, zero-div, zero-mul}
-use native.Mathlib.Numerals.{add-one, sub-one}
+use native.Mathlib.Numerals.{add-one}
 use native.Mathlib.Omega.{arith}
 use lib.Dec.{eqb, ltb, leb}
 use lib.ListN.{length, getD, take, drop, replicate, take-append-drop, length-drop, length-replicate, getD-replicate, List·getD-eq-default}
 use lib.Seq.{getD-take, getD-drop, length-take-le}
 use borrow.Author.Tests.{eqb-true, eqb-false, ne-eqb, ltb-true, ltb-false, leb-true, lt-ltb, le-leb}
-use Rattle.magnetar_field.specs.Gf128.{_⊕_, _⊗_}
+use Rattle.magnetar_field.specs.Gf128.{_⊕_}
 use Rattle.magnetar_field.specs.Tabulate.{tabulate}
 use Rattle.magnetar_field.specs.Words.{words}
 use Rattle.magnetar_field.proofs.Xor.{⊕-zero, zero-⊕, ⊕-assoc}
@@ -24,7 +24,7 @@ use Rattle.magnetar_r1cs.specs.Table.{addedAt}
 use Rattle.magnetar_r1cs.proofs.LoginParts.{part-ends}
 use Rattle.magnetar_r1cs.proofs.Split.{z-bit, z-public}
 use Rattle.magnetar_r1cs.proofs.TableLaws.{added-length, added-here, added-there}
-use Rattle.magnetar_inplace.specs.Steps.{clearedTo, addedTo}
+use Rattle.magnetar_inplace.specs.Steps.{addedTo}
 use Rattle.magnetar_inplace.specs.LoginSteps.{zOf, inReach, clearedBlocks, addedBlocks, addedLogins, addedPacked}
 use Rattle.magnetar_inplace.proofs.RecordLaws.{one-added, zeros-cleared}
 

@@ -2,22 +2,19 @@
 -- Assumes nothing.
 use mathlib.Core.Path.{_≡_, refl, sym, ap, _∙_}
 use mathlib.Core.Bool.{Bool, true, false, cond}
-use mathlib.Core.List.{List, [], _∷_, _++_}
-use Prim.Native.Nat.{ℕ, _+_, _*_, _≤_, _<_}
+use mathlib.Core.List.{List, _++_}
+use Prim.Native.Nat.{ℕ, _+_, _*_, _≤_}
 use native.Mathlib.Omega.{arith}
-use lib.Dec.{eqb, ltb}
+use lib.Dec.{eqb}
 use lib.ListN.{length, drop}
 use borrow.Author.Tests.{eqb-true, ltb-false}
 use Rattle.magnetar_field.specs.Words.{elements, words}
 use Rattle.magnetar_field.specs.Tabulate.{tabulate}
-use Rattle.magnetar_field.proofs.Tabulation.{tabulate-ext}
 use Rattle.magnetar_layout.specs.Every.{every}
-use Rattle.magnetar_layout.specs.Tests.{Tests, noted, batchTests}
+use Rattle.magnetar_layout.specs.Tests.{noted}
 use Rattle.magnetar_layout.proofs.Noted.{noted-clear}
 use Rattle.magnetar_layout.proofs.SizeLaws.{Sized, not-bad}
-use Rattle.magnetar_r1cs.specs.Matrix.{Matrix, rowTotal, share, times, timesAt, bitValued}
-use Rattle.magnetar_r1cs.specs.Batch.{assignment}
-use Rattle.magnetar_r1cs.specs.Packed.{unpacked}
+use Rattle.magnetar_r1cs.specs.Matrix.{rowTotal, share, times, timesAt, bitValued}
 use Rattle.magnetar_r1cs.specs.Sum.{blocks}
 use Rattle.magnetar_r1cs.specs.Lent.{matrixOf}
 use Rattle.magnetar_r1cs.specs.Entries.{Flagged, flaggedOf, packedRefusal, packedTable, packedOut}

@@ -1,11 +1,11 @@
 -- Laws on walks over entry records.
 -- Assumes nothing.
 use mathlib.Core.Path.{_≡_, refl, sym, ap, _∙_}
-use mathlib.Core.Bool.{Bool, true, false, not, cond, _&&_}
+use mathlib.Core.Bool.{Bool, true, false, not, _&&_}
 use mathlib.Core.List.{List, [], _∷_, _++_, map}
 use Prim.Native.Nat.{ℕ, zero, suc, _+_, _*_, _^_, _<_, _≤_}
 use native.Mathlib.Omega.{arith}
-use lib.Dec.{eqb, ltb, leb}
+use lib.Dec.{ltb}
 use lib.ListN.{length, getD, take, drop, replicate, length-append, length-replicate}
 use lib.Seq.{take-at, drop-at, length-take-le}
 use borrow.Author.Tests.{le-leb}
@@ -16,13 +16,13 @@ use Rattle.magnetar_layout.specs.Every.{every}
 use Rattle.magnetar_layout.specs.Tests.{Tests, note, noted, allBelow, loneTests, batchTests}
 use Rattle.magnetar_layout.proofs.Noted.{note-kept}
 use Rattle.magnetar_r1cs.specs.Matrix as matrix
-use Rattle.magnetar_r1cs.specs.Matrix.{rowTotal, sumOver, Matrix}
+use Rattle.magnetar_r1cs.specs.Matrix.{rowTotal, sumOver}
 use Rattle.magnetar_field.specs.Gf128.{_⊕_}
 use Rattle.magnetar_field.proofs.Xor.{⊕-zero, ⊕-assoc}
-use Rattle.magnetar_r1cs.specs.Lent.{entry, entriesOf, matrixOf}
+use Rattle.magnetar_r1cs.specs.Lent.{entriesOf, matrixOf}
 use Rattle.magnetar_r1cs.specs.Table.{addedAt, raised}
 use Rattle.magnetar_r1cs.proofs.TableLaws.{elements-words, added-length, raised-length, raised-get, raised-is, raised-zeros}
-use Rattle.magnetar_r1cs.proofs.Walked.{Walked, walked-start, walked-more, walked-end}
+use Rattle.magnetar_r1cs.proofs.Walked.{walked-start, walked-more, walked-end}
 use Rattle.magnetar_inplace.specs.declared.records.Entry.{Entry}
 use Rattle.magnetar_inplace.specs.Records.{entryOf, entriesOfRecords, lentOf}
 use Rattle.magnetar_inplace.specs.LoginSteps.{batchOf}

@@ -1,8 +1,6 @@
 -- `magnetar_inplace::logins::add_login` meets its contract.
 -- Assumes nothing.
-use mathlib.Core.Path.{_≡_, refl, sym, ap, _∙_}
 use native.Mathlib.Omega.{arith}
-use denote.Ref.{now}
 use Prim.Native.Nat.{_*_, _≤_}
 use Rattle.magnetar_r1cs.specs.Matrix.{share}
 use Rattle.magnetar_r1cs.proofs.Blocks.{product-fits}

@@ -1,6 +1,6 @@
 -- `magnetar_inplace::logins::add_logins` meets its contract.
 -- Assumes nothing.
-use mathlib.Core.Path.{_≡_, sym, _∙_}
+use mathlib.Core.Path.{sym, _∙_}
 use Rattle.magnetar_inplace.specs.LoginSteps.{addedLogins}
 use Rattle.magnetar_inplace.proofs.LoginLaws.{reach}
 use borrow.Author.Needs.{needs}

@@ -1,11 +1,9 @@
 -- `magnetar_inplace::logins::clear_blocks` meets its contract.
 -- Assumes nothing.
-use mathlib.Core.Path.{_≡_, refl, sym, ap, _∙_}
+use mathlib.Core.Path.{sym, _∙_}
 use native.Mathlib.Omega.{arith}
-use denote.Ref.{now}
-use Prim.Native.Nat.{_*_}
 use Rattle.magnetar_inplace.specs.LoginSteps.{clearedBlocks}
-use Rattle.magnetar_inplace.proofs.LoginLaws.{Reach, reach}
+use Rattle.magnetar_inplace.proofs.LoginLaws.{reach}
 use Rattle.magnetar_r1cs.proofs.Blocks.{product-fits}
 use borrow.Author.Needs.{needs}
 use Rattle.magnetar_inplace.proofs.logins.clear_blocks.Statement.{statement}

@@ -1,6 +1,5 @@
 -- `magnetar_inplace::logins::has_bit_upto` meets its contract.
 -- Assumes nothing.
-use mathlib.Core.Path.{_≡_, refl, sym, ap, _∙_}
 use borrow.Author.Needs.{needs}
 use Rattle.magnetar_inplace.proofs.logins.has_bit_upto.Statement.{statement}
 use Rattle.magnetar_inplace.proofs.logins.has_bit_upto.Tie as tie

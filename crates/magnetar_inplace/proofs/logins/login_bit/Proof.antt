@@ -1,6 +1,5 @@
 -- `magnetar_inplace::logins::login_bit` meets its contract.
 -- Assumes nothing.
-use mathlib.Core.Path.{_≡_, refl, sym, ap, _∙_}
 use native.Mathlib.Omega.{arith}
 use denote.Ref.{now}
 use Prim.Native.Nat.{_*_, _≤_}

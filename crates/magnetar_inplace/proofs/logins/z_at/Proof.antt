@@ -1,6 +1,6 @@
 -- `magnetar_inplace::logins::z_at` meets its contract.
 -- Assumes nothing.
-use mathlib.Core.Path.{_≡_, refl, sym, ap, _∙_}
+use mathlib.Core.Path.{_∙_}
 use native.Mathlib.Omega.{arith}
 use denote.Ref.{now}
 use Rattle.magnetar_inplace.proofs.LoginLaws.{low-word, z-is-bit, z-is-one, z-is-public}
