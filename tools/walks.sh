@@ -8,6 +8,7 @@ p=crates/$c/proofs
 each() { out=$1; shift; python3 tools/each.py $c $c::records::Entry 32 row,col,lo,hi "$@" > $p/$out.new && mv $p/$out.new $p/$out.antt; }
 thin() { f=$1; shift; d=$p/$(echo $f | sed 's/::/\//'); mkdir -p $d; python3 tools/thin.py $c $f "$@" > $d/new && mv $d/new $d/Proof.antt; }
 ends=Rattle.$c.proofs.RecordEnds
+packed=Rattle.$c.proofs.PackedEnds
 value='Rattle.magnetar_field.specs.Gf128.{value}'
 
 # the laws for loops over records, by shape
@@ -15,6 +16,8 @@ each EachNNbool NN bool
 each Eachbool "" bool
 each EachNSM NSM
 each EachNNMM NNMM
+each EachNbool N bool
+each EachSSNNNM SSNNNM
 each EachNNMGf128 NNM magnetar_field::gf128::Gf128:lo,hi
 
 # calls in a row
@@ -37,3 +40,8 @@ thin records::sum_at --use "$ends.{sum-some, sum-none}" --use "$value" \
   --final 'sum-none n3 n4 (value r5) (s2 .now) (s5 .now) (s6 .now) ys7 n1 b1 e5'
 thin records::eval_mle_at --use "$ends.{at-ends}" --use "$value" --use 'Rattle.magnetar_field.specs.Entries.{answer}' \
   --final 'at-ends n1 n2 (s3 .now) (s4 .now) (s5 .now) ys6 r1 r3 r2 e1 e2 e3 (ws4 .1 .1 .1 .1 .1 .1 .0) (value r4) (answer r5) e4 e5'
+thin records::write_packed --use "$packed.{write-some, write-none}" \
+  --final 'write-some (s2 .now) (s3 .now) (s4 .now) ys8 n5 n6 n7 n1 r3 (ws1 .1 .1 .1 .0) (ws2 .1 .1 .1 .1 .1 .1 .0) b1 e1 e2 e3' \
+  --final 'write-none (s2 .now) (s3 .now) (s4 .now) ys8 n5 n6 n7 n1 false b1 refl'
+thin records::apply_simd_packed --use "$packed.{packed-ends}" --use 'Rattle.magnetar_r1cs.specs.Entries.{flagged}' \
+  --final 'packed-ends n1 n2 (s3 .now) (s4 .now) (s5 .now) ys8 n6 n7 r1 r3 r2 e1 e2 e3 (ws4 .1 .1 .1 .1 .1 .1 .1 .0) r4 (flagged r5) e4 e5'

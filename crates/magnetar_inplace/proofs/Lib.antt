@@ -2,8 +2,12 @@ pub mod Again
 pub mod StepLaws
 pub mod RecordLaws
 pub mod RecordEnds
+pub mod LoginLaws
+pub mod PackedEnds
 pub mod EachNNbool
 pub mod Eachbool
 pub mod EachNSM
 pub mod EachNNMM
 pub mod EachNNMGf128
+pub mod EachNbool
+pub mod EachSSNNNM

@@ -1,11 +1,11 @@
 -- Laws on walks over entry records.
 -- Assumes nothing.
 use mathlib.Core.Path.{_≡_, refl, sym, ap, _∙_}
-use mathlib.Core.Bool.{Bool, true, false, not, cond, _&&_}
+use mathlib.Core.Bool.{Bool, true, false, not, _&&_}
 use mathlib.Core.List.{List, [], _∷_, _++_, map}
 use Prim.Native.Nat.{ℕ, zero, suc, _+_, _*_, _^_, _<_, _≤_}
 use native.Mathlib.Omega.{arith}
-use lib.Dec.{eqb, ltb, leb}
+use lib.Dec.{ltb}
 use lib.ListN.{length, getD, take, drop, replicate, length-append, length-replicate}
 use lib.Seq.{take-at, drop-at, length-take-le}
 use borrow.Author.Tests.{le-leb}
@@ -13,18 +13,19 @@ use Rattle.magnetar_field.specs.Words.{elements, words}
 use Rattle.magnetar_field.specs.Tabulate.{tabulate}
 use Rattle.magnetar_field.proofs.Elements.{words-elements}
 use Rattle.magnetar_layout.specs.Every.{every}
-use Rattle.magnetar_layout.specs.Tests.{Tests, note, noted, allBelow, loneTests}
+use Rattle.magnetar_layout.specs.Tests.{Tests, note, noted, allBelow, loneTests, batchTests}
 use Rattle.magnetar_layout.proofs.Noted.{note-kept}
 use Rattle.magnetar_r1cs.specs.Matrix as matrix
-use Rattle.magnetar_r1cs.specs.Matrix.{rowTotal, sumOver, Matrix}
+use Rattle.magnetar_r1cs.specs.Matrix.{rowTotal, sumOver}
 use Rattle.magnetar_field.specs.Gf128.{_⊕_}
 use Rattle.magnetar_field.proofs.Xor.{⊕-zero, ⊕-assoc}
-use Rattle.magnetar_r1cs.specs.Lent.{entry, entriesOf, matrixOf}
+use Rattle.magnetar_r1cs.specs.Lent.{entriesOf, matrixOf}
 use Rattle.magnetar_r1cs.specs.Table.{addedAt, raised}
 use Rattle.magnetar_r1cs.proofs.TableLaws.{elements-words, added-length, raised-length, raised-get, raised-is, raised-zeros}
-use Rattle.magnetar_r1cs.proofs.Walked.{Walked, walked-start, walked-more, walked-end}
+use Rattle.magnetar_r1cs.proofs.Walked.{walked-start, walked-more, walked-end}
 use Rattle.magnetar_inplace.specs.declared.records.Entry.{Entry}
 use Rattle.magnetar_inplace.specs.Records.{entryOf, entriesOfRecords, lentOf}
+use Rattle.magnetar_inplace.specs.LoginSteps.{batchOf}
 use Rattle.magnetar_inplace.specs.Steps.{liesIn, loneOf, clearedTo, addedTo, addedAll}
 
 -- ---- a flag that is carried round
@@ -94,6 +95,12 @@ unfolding lentOf
 lone-same n m es k =
     rw (map-length (λ e. e .row) es, map-length (λ e. e .col) es, map-length (λ e. e .lo) es, map-length (λ e. e .hi) es, inside-both n m es, note-both)
 
+pub batch-same : (n m : ℕ) (es : List Entry) (ws x : List ℕ) (q w : ℕ) (k : Tests)
+    → noted 0 (batchOf n m (length es) (every (liesIn n m) (entriesOfRecords es)) (length ws) (length x) q w ++ k) ≡ noted 0 (batchTests (lentOf n m es) ws x q w ++ k)
+unfolding lentOf
+batch-same n m es ws x q w k =
+    rw (map-length (λ e. e .row) es, map-length (λ e. e .col) es, map-length (λ e. e .lo) es, map-length (λ e. e .hi) es, inside-both n m es, note-both)
+
 -- ---- the walk that adds
 pub added-more : (n : ℕ) (f : matrix.Entry → ℕ) (e : matrix.Entry) (es : List matrix.Entry) (out out′ : List ℕ) → out′ ≡ addedTo n (e .row) (f e) out
     → addedAll n f es out′ ≡ addedAll n f (e ∷ es) out
@@ -142,7 +149,7 @@ front-read n t r l =
     rw (take-at (words t) r (2 * n) w, elements-words t)
 
 -- one entry, on a table in front of other words
-one-added : (n k v : ℕ) (t r : List ℕ) → length t ≡ n → addedTo n k v (words t ++ r) ≡ words (addedAt t k v) ++ r
+pub one-added : (n k v : ℕ) (t r : List ℕ) → length t ≡ n → addedTo n k v (words t ++ r) ≡ words (addedAt t k v) ++ r
 unfolding addedTo
 one-added n k v t r l =
     let w : length (words t) ≡ 2 * n = words-length t ∙ ap (λ (i : ℕ). 2 * i) l in
@@ -168,6 +175,11 @@ added-all n f (e ∷ es) t r l =
     ap (addedAll n f es) (one-added n (e .row) (f e) t r l)
     ∙ (added-all n f es (addedAt t (e .row) (f e)) r (added-length t (e .row) (f e) ∙ l)
     ∙ ap (λ (u : List ℕ). words u ++ r) (raised-more f e es t))
+
+-- cleared words are a table of zeros
+pub zeros-cleared : (n : ℕ) (out : List ℕ) → 2 * n ≤ length out → clearedTo n out ≡ words (replicate n 0) ++ drop (2 * n) out
+unfolding clearedTo
+zeros-cleared n out h = rw (le-leb _ _ h, words-zero n)
 
 -- all of them, on cleared words
 pub cleared-added : (n : ℕ) (f : matrix.Entry → ℕ) (es : List matrix.Entry) (out : List ℕ) → 2 * n ≤ length out

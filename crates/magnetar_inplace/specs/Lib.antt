@@ -1,3 +1,4 @@
 pub mod Drawn
 pub mod Records
 pub mod Steps
+pub mod LoginSteps

@@ -1,7 +1,7 @@
 // Matrices lent as slices of entry records. Each function is that of `magnetar_r1cs::r1cs` with its name; it calls, for one
 // record after the other, a function on that record's numbers.
 ghost use mathlib.Core.Path.{_≡_};
-ghost use mathlib.Core.Bool.{true, cond};
+ghost use mathlib.Core.Bool.{true, false, cond};
 ghost use mathlib.Core.List.{map};
 ghost use Prim.Native.Nat.{_+_, _*_};
 ghost use lib.ListN.{take};
@@ -9,11 +9,13 @@ ghost use Rattle.magnetar_field.specs.Gf128.{value};
 ghost use Rattle.magnetar_field.specs.Entries.{answer, eqOut};
 ghost use Rattle.magnetar_field.specs.Words.{elements};
 ghost use Rattle.magnetar_layout.specs.Every.{every};
-ghost use Rattle.magnetar_r1cs.specs.Matrix.{share, isBit, binary, swapped, sumOver};
+ghost use Rattle.magnetar_r1cs.specs.Matrix.{share, isBit, binary, bitValued, swapped, sumOver};
 ghost use Rattle.magnetar_r1cs.specs.Lent.{matrixOf};
-ghost use Rattle.magnetar_r1cs.specs.Entries.{applyRefusal, applyOut, binaryRefusal, flagged, flaggedOf, tableRefusal, tableOut, tableScratch, atAnswer, atScratch};
+ghost use Rattle.magnetar_r1cs.specs.Entries.{applyRefusal, applyOut, binaryRefusal, flagged, flaggedOf, tableRefusal, tableOut, tableScratch, atAnswer, atScratch, packedRefusal, packedOut};
 ghost use Rattle.magnetar_inplace.specs.Records.{entriesOfRecords, lentOf};
 ghost use Rattle.magnetar_inplace.specs.Steps.{liesIn, addedAll, pairShare, builtBehind, clearedTo};
+ghost use Rattle.magnetar_inplace.specs.LoginSteps.{zOf, bitUpTo, clearedBlocks, addedPacked};
+use crate::logins;
 use crate::steps;
 use magnetar_field::gf128::Evaluated;
 use magnetar_field::gf128::Gf128;
@@ -195,4 +197,92 @@ pub fn eval_mle_at(
     let go = steps::is_none(n);
     let v = sum_at(go, es, rows, cols, r, c, scratch);
     steps::value_unless(n, v)
+}
+
+// Every value is 0 or 1 and no column exceeds w.
+fn all_bits_upto(es: &[Entry], w: usize) -> bool
+    ensures { λ r. ⌜ r ≡ every (bitUpTo w) (entriesOfRecords (now (es .entry))) ⌝ }
+{
+    let mut acc = true;
+    let mut i = 0;
+    while i < es.len() {
+        acc = logins::has_bit_upto(acc, w, es[i]);
+        i += 1;
+    }
+    acc
+}
+
+// Adds the products of q logins of w columns, n rows each, to the blocks of out.
+fn add_packed(
+    es: &[Entry],
+    packed: &[u64],
+    x: &[u64],
+    q: usize,
+    w: usize,
+    n: usize,
+    out: &mut [u64],
+)
+    ensures { λ _. ⌜ now (out .exit) ≡ addedPacked q w n (λ u. share (zOf w (now (packed .entry)) (elements (now (x .entry))) u)) (entriesOfRecords (now (es .entry))) (now (out .entry)) ⌝ }
+{
+    let mut i = 0;
+    while i < es.len() {
+        logins::add_logins(packed, x, q, w, n, out, es[i]);
+        i += 1;
+    }
+}
+
+// Sets the blocks to the products, and says whether all of them are 0 or 1; nothing where it is not to go.
+fn write_packed(
+    go: bool,
+    es: &[Entry],
+    packed: &[u64],
+    x: &[u64],
+    q: usize,
+    w: usize,
+    n: usize,
+    out: &mut [u64],
+) -> bool
+    ensures { λ b. ⌜ (b ≡ cond go (every (bitUpTo w) (entriesOfRecords (now (es .entry)))) false)
+        × (now (out .exit) ≡ cond go (addedPacked q w n (λ u. share (zOf w (now (packed .entry)) (elements (now (x .entry))) u)) (entriesOfRecords (now (es .entry))) (clearedBlocks q w n (now (out .entry)))) (now (out .entry))) ⌝ }
+{
+    if go {
+        logins::clear_blocks(q, w, n, out);
+        add_packed(es, packed, x, q, w, n, out);
+        let b = all_bits_upto(es, w);
+        b
+    } else {
+        false
+    }
+}
+
+// The products of a batch's logins, one behind the other; yes where all of them are 0 or 1 because every value is and no
+// column exceeds w. Refuses 1 to 7; 15: too little room.
+pub fn apply_simd_packed(
+    rows: usize,
+    cols: usize,
+    es: &[Entry],
+    packed: &[u64],
+    x: &[u64],
+    q: usize,
+    w: usize,
+    out: &mut [u64],
+) -> Flag
+    ensures { λ r. ⌜ (flagged r ≡ flaggedOf (packedRefusal (lentOf rows cols (now (es .entry))) (now (packed .entry)) (now (x .entry)) q w (now (out .entry))) (bitValued w (matrixOf (lentOf rows cols (now (es .entry))))))
+        × (now (out .exit) ≡ packedOut (lentOf rows cols (now (es .entry))) (now (packed .entry)) (now (x .entry)) q w (now (out .entry))) ⌝ }
+{
+    let inside = all_inside(es, rows, cols);
+    let n = logins::packed_refusal(
+        rows,
+        cols,
+        es.len(),
+        inside,
+        packed.len(),
+        x.len(),
+        q,
+        w,
+        out.len(),
+    );
+    let go = steps::is_none(n);
+    let b = write_packed(go, es, packed, x, q, w, rows, out);
+    steps::flag_unless(n, b)
 }

@@ -1,6 +1,6 @@
 -- `magnetar_inplace::steps::add_column` meets its contract.
 -- Assumes nothing.
-use mathlib.Core.Path.{_≡_, refl, sym, ap, _∙_}
+use mathlib.Core.Path.{refl}
 use Rattle.magnetar_r1cs.specs.Matrix.{share}
 use Rattle.magnetar_inplace.specs.Steps.{front}
 use borrow.Author.Needs.{needs}

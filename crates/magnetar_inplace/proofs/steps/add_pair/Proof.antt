@@ -1,6 +1,6 @@
 -- `magnetar_inplace::steps::add_pair` meets its contract.
 -- Assumes nothing.
-use mathlib.Core.Path.{_≡_, refl, sym, ap, _∙_}
+use mathlib.Core.Path.{refl}
 use Rattle.magnetar_inplace.specs.Steps.{pairShare}
 use borrow.Author.Needs.{needs}
 use Rattle.magnetar_inplace.proofs.steps.add_pair.Statement.{statement}

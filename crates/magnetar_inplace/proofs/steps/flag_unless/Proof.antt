@@ -1,6 +1,6 @@
 -- `magnetar_inplace::steps::flag_unless` meets its contract.
 -- Assumes nothing.
-use borrow.Author.Tests.{lt-ltb, le-ltb, le-leb, lt-leb, ne-eqb}
+use borrow.Author.Tests.{ne-eqb}
 use Rattle.magnetar_inplace.proofs.steps.flag_unless.Statement.{statement}
 use Rattle.magnetar_inplace.proofs.steps.flag_unless.Tie as tie
 

@@ -1,6 +1,6 @@
 -- `magnetar_inplace::steps::get_between` meets its contract.
 -- Assumes nothing.
-use mathlib.Core.Path.{_≡_, refl, sym, ap, _∙_}
+use mathlib.Core.Path.{_∙_}
 use native.Mathlib.Omega.{arith}
 use denote.Ref.{now}
 use Rattle.magnetar_inplace.proofs.StepLaws.{between-some, between-none}

@@ -1,6 +1,6 @@
 -- `magnetar_inplace::steps::table_refusal` meets its contract.
 -- Assumes nothing.
-use mathlib.Core.Path.{_≡_, refl, sym, ap, _∙_}
+use mathlib.Core.Path.{refl, sym, _∙_}
 use native.Mathlib.Omega.{arith}
 use Rattle.magnetar_layout.proofs.Noted.{noted-front, noted-late, noted-clear}
 use Rattle.magnetar_layout.proofs.SizeLaws.{not-bad}

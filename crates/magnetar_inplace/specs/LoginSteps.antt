@@ -1,0 +1,51 @@
+-- What the walk over entry records does for a batch of logins, record by record. Only private contracts cite these definitions.
+-- Assumes nothing.
+use mathlib.Core.Bool.{Bool, not, cond, _&&_}
+use mathlib.Core.List.{List, [], _∷_, _++_}
+use Prim.Native.Nat.{ℕ, zero, suc, _+_, _-_, _*_}
+use lib.Dec.{eqb, ltb, leb}
+use Rattle.magnetar_field.specs.Tabulate.{tabulate}
+use Rattle.magnetar_layout.specs.Tests.{Tests, sizeTests, rowsTests, colsTests, countTests}
+use Rattle.magnetar_r1cs.specs.Matrix.{Entry, isBit}
+use Rattle.magnetar_r1cs.specs.Packed.{packedBit, loginPart, loginWords}
+use Rattle.magnetar_inplace.specs.Steps.{clearedTo, addedTo}
+
+-- z = (w, 1, x) of login u of the packed words ws
+unfoldable pub zOf : ℕ → List ℕ → List ℕ → ℕ → List ℕ
+zOf w ws x u = tabulate (packedBit (loginPart w ws u)) w ++ (1 ∷ x)
+
+-- the value is 0 or 1 and the column does not exceed w
+abbrev pub bitUpTo : ℕ → Entry → Bool
+bitUpTo w e = isBit e && leb (e .col) w
+
+-- q logins of w columns and n rows, and row r, are within the limits
+abbrev pub inReach : ℕ → ℕ → ℕ → ℕ → Bool
+inReach q w n r = leb q 4096 && (leb w 32768 && (leb n 65536 && ltb r n))
+
+-- the refusals of n rows and m columns with k records for q logins of w columns, with p packed and x public words
+abbrev pub batchOf : ℕ → ℕ → ℕ → Bool → ℕ → ℕ → ℕ → ℕ → Tests
+batchOf n m k inside p x q w =
+    sizeTests (2 * w) q ++ ((2, not (eqb p (q * loginWords w))) ∷ (3, not (eqb x (2 * w - 2))) ∷ []) ++ rowsTests q n
+    ++ colsTests (2 * w) m ++ countTests k k k k ++ (7, not inside) ∷ []
+
+-- 15 of q logins with n rows, for room of out words
+abbrev pub roomOf : ℕ → ℕ → ℕ → Tests
+roomOf q n out = (15, ltb out (q * (2 * n))) ∷ []
+
+-- the first q * n elements are 0
+unfoldable pub clearedBlocks : ℕ → ℕ → ℕ → List ℕ → List ℕ
+clearedBlocks q w n out = cond (inReach q w n 0) (clearedTo (q * n) out) out
+
+-- f u e added at e's row to block u of n elements, for the first logins u; k elements in all
+unfoldable pub addedBlocks : ℕ → ℕ → (ℕ → Entry → ℕ) → Entry → ℕ → List ℕ → List ℕ
+addedBlocks k n f e zero out = out
+addedBlocks k n f e (suc u) out = addedTo k (u * n + e .row) (f u e) (addedBlocks k n f e u out)
+
+-- for q logins of w columns, within the limits
+unfoldable pub addedLogins : ℕ → ℕ → ℕ → (ℕ → Entry → ℕ) → Entry → List ℕ → List ℕ
+addedLogins q w n f e out = cond (inReach q w n (e .row)) (addedBlocks (q * n) n f e q out) out
+
+-- one entry after the other
+unfoldable pub addedPacked : ℕ → ℕ → ℕ → (ℕ → Entry → ℕ) → List Entry → List ℕ → List ℕ
+addedPacked q w n f [] out = out
+addedPacked q w n f (e ∷ es) out = addedPacked q w n f es (addedLogins q w n f e out)
