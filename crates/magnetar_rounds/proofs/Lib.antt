@@ -9,3 +9,8 @@ pub mod InnerWhole
 pub mod Guarded
 pub mod Entered
 pub mod RowSteps
+pub mod Drawn
+pub mod Begun
+pub mod OuterEnds
+pub mod Blocks
+pub mod SharedSteps

@@ -54,7 +54,7 @@ tau-left y o d c E F h l e =
 first-tau : (y o : ℕ) (E : List ℕ) → getD (take (suc y) (drop o E)) 0 0 ≡ getD E o 0
 first-tau y o E = getD-take (suc y) (drop o E) 0 0 (omega arith) ∙ (getD-drop o E 0 0 ∙ ap (λ (j : ℕ). getD E j 0) (add-zero o))
 
-outer-eq : {h : ℕ} {tau tau′ : List ℕ} {k k′ : ℕ} {e e′ a a′ b b′ c c′ : List ℕ} → tau ≡ tau′ → k ≡ k′ → e ≡ e′ → a ≡ a′ → b ≡ b′ → c ≡ c′
+pub outer-eq : {h : ℕ} {tau tau′ : List ℕ} {k k′ : ℕ} {e e′ a a′ b b′ c c′ : List ℕ} → tau ≡ tau′ → k ≡ k′ → e ≡ e′ → a ≡ a′ → b ≡ b′ → c ≡ c′
     → _≡_ {A = Outer} (record { high = h; tau = tau; k = k; e = e; a = a; b = b; c = c }) (record { high = h; tau = tau′; k = k′; e = e′; a = a′; b = b′; c = c′ })
 outer-eq p q r s t u = rw (p, q, r, s, t, u)
 
@@ -99,10 +99,10 @@ row-stepped label i y p d o k k′ τ w n t u proof p′ draws d′ s s′ size 
       (heard ∙ ap (λ (l : List ℕ). transcript.drawn (transcript.absorbed t (numbered label i) (wordBytes (words l))) (numbered label i)) (sym m))))
 
 -- ---- what stays in a block
-front-same : (w m : ℕ) (x y : List ℕ) → m ≤ w → take w x ≡ take w y → take m x ≡ take m y
+pub front-same : (w m : ℕ) (x y : List ℕ) → m ≤ w → take w x ≡ take w y → take m x ≡ take m y
 front-same w m x y h e = sym (take-take m w x h) ∙ (ap (take m) e ∙ take-take m w y h)
 
-back-same : (w b : ℕ) (x y : List ℕ) → w ≤ b → drop w x ≡ drop w y → drop b x ≡ drop b y
+pub back-same : (w b : ℕ) (x y : List ℕ) → w ≤ b → drop w x ≡ drop w y → drop b x ≡ drop b y
 back-same w b x y h e = from x ∙ (ap (drop (b - w)) e ∙ sym (from y))
   where
     from : (z : List ℕ) → drop b z ≡ drop (b - w) (drop w z)

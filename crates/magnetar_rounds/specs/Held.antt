@@ -10,12 +10,13 @@ use Rattle.magnetar_field.specs.Tabulate.{tabulate}
 use Rattle.magnetar_field.specs.Words.{elements, words}
 use Rattle.magnetar_hash.specs.declared.transcript.Transcript.{Transcript}
 use Rattle.magnetar_field.specs.Multilinear.{mle}
+use Rattle.magnetar_field.specs.EqTable.{eqTable}
 use Rattle.magnetar_sumcheck.specs.Messages.{Outer}
 use Rattle.magnetar_layout.specs.Layout.{offset, localVars}
 use Rattle.magnetar_hash.specs.Bytes.{wordBytes, ascii}
 use Rattle.magnetar_hash.specs.Transcript.{absorbed}
 use Rattle.magnetar_protocol.specs.Schedule.{numbered}
-use Rattle.magnetar_protocol.specs.Stepwise.{Steps, InnerSteps, RowSteps, begin, say, sayEach, innerSteps}
+use Rattle.magnetar_protocol.specs.Stepwise.{Steps, InnerSteps, RowSteps, Tables, begin, say, sayEach, innerSteps}
 
 -- the table of n words at word i
 abbrev pub tableAt : ℕ → ℕ → List ℕ → List ℕ
@@ -79,6 +80,15 @@ unfoldable pub saidEach : String → ℕ → List ℕ → Said → Said
 saidEach label i [] p = p
 saidEach label i (v ∷ vs) p = saidEach label (suc i) vs (record { transcript = heardOne (p .transcript) (numbered label i) v; said = p .said ++ (v ∷ []) })
 
+-- the first entries of the tables a, b, c of a block whose tables are w words apart
+abbrev pub threeIn : ℕ → List ℕ → List ℕ
+threeIn w s = getD (tableAt w 2 s) 0 0 ∷ getD (tableAt (2 * w) 2 s) 0 0 ∷ getD (tableAt (3 * w) 2 s) 0 0 ∷ []
+
+-- the block s is s₀ with the eq table of tau in its first w words
+pub record Begun (w : ℕ) (tau s₀ s : List ℕ) : Type 0 where
+  pub table : tableAt 0 w s ≡ eqTable tau
+  pub rest : drop w s ≡ drop w s₀
+
 -- the inner rounds, v_z and the segment values
 unfoldable pub innerEnded : List ℕ → List ℕ → InnerSteps → Steps
 innerEnded ns f q =
@@ -99,6 +109,17 @@ outerIn high tau k w n s = record {
   a = tableAt w n s;
   b = tableAt (2 * w) n s;
   c = tableAt (3 * w) n s;
+}
+
+-- the tables a, b, c of both blocks, at the start
+abbrev pub tablesIn : (b f : ℕ) → (bin fld : List ℕ) → Tables
+tablesIn b f bin fld = record {
+  bin-a = tableAt b b bin;
+  bin-b = tableAt (2 * b) b bin;
+  bin-c = tableAt (3 * b) b bin;
+  fld-a = tableAt f f fld;
+  fld-b = tableAt (2 * f) f fld;
+  fld-c = tableAt (3 * f) f fld;
 }
 
 -- a row round: the tau of the variables that are left stand from element o of the draws on

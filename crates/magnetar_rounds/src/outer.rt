@@ -36,7 +36,7 @@ fn tell(out: &mut [u64], s: &[u64], w: usize, n: usize, v: usize, k: Gf128, t: G
 }
 
 // Drops variable v from e, and makes the message.
-fn message(out: &mut [u64], s: &mut [u64], w: usize, n: usize, v: usize, k: Gf128, t: Gf128)
+pub(crate) fn message(out: &mut [u64], s: &mut [u64], w: usize, n: usize, v: usize, k: Gf128, t: Gf128)
     requires { ⌜ (length (now s) ≡ 4 * w) × (w ≤ 2097152) × (n ≤ w) × (length (now out) ≡ 8) ⌝ }
     requires { ⌜ Table v n ⌝ }
     ensures told { λ _. ⌜ now (out .exit) ≡ words (outerMessage v (value k) (value t) (dropVar v (tableAt 0 n (now (s .entry)))) (tableAt w n (now (s .entry))) (tableAt (2 * w) n (now (s .entry))) (tableAt (3 * w) n (now (s .entry)))) ⌝ }
@@ -48,7 +48,7 @@ fn message(out: &mut [u64], s: &mut [u64], w: usize, n: usize, v: usize, k: Gf12
 }
 
 // Binds variable v of a, b and c.
-fn fold(s: &mut [u64], w: usize, n: usize, v: usize, r: Gf128)
+pub(crate) fn fold(s: &mut [u64], w: usize, n: usize, v: usize, r: Gf128)
     requires { ⌜ (length (now s) ≡ 4 * w) × (w ≤ 2097152) × (n ≤ w) ⌝ }
     requires { ⌜ Table v n ⌝ }
     ensures a { λ _. ⌜ tableAt w (n / 2) (now (s .exit)) ≡ bindVar v (value r) (tableAt w n (now (s .entry))) ⌝ }
