@@ -5,8 +5,8 @@
  *
  * A slice is a pointer and a number of elements. The pointer is not NULL, even for no elements, is aligned, and is good for so many
  * elements; what is written overlaps nothing else that is lent. Every function ends on all other inputs, allocates nothing, keeps
- * nothing between calls, and may run in many threads at once. A function that returns a number returns 0 or a refusal, and a refused
- * call writes nothing.
+ * nothing between calls, and may run in many threads at once. A function that returns a number returns 0 or a refusal, and a call
+ * refused with 1 to 17 writes nothing. One refused with 21 to 29 writes no claim, and leaves its scratch 0.
  */
 #ifndef MAGNETAR_H
 #define MAGNETAR_H
@@ -66,7 +66,8 @@ typedef struct {
     uint64_t squeeze_ctr; /* draws since the last absorption */
 } magnetar_transcript;
 
-/* A refusal or 0, and the transcript, as it was where the call is refused. */
+/* A refusal or 0, and the transcript: as it was where the call is refused with 1 to 16; 32 bytes 0 where a new one is refused with 17;
+ * after the words and draws up to the failing check where a proof is refused with 21 to 29. */
 typedef struct {
     uint32_t code;
     magnetar_transcript transcript;
