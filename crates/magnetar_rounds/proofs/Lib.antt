@@ -14,3 +14,4 @@ pub mod Begun
 pub mod OuterEnds
 pub mod Blocks
 pub mod SharedSteps
+pub mod Joined

@@ -26,7 +26,7 @@ unfolding tauSteps
 taus-drawn r b f t u draws x y h =
     h ∙ ap₂ (λ (i j : ℕ). askTimes i (ascii "vs-tau-fld") (askTimes j (ascii "vs-tau-bin") (begin t))) y x
 
-drop-of-take : (b f : ℕ) (l : List ℕ) → drop b (take (b + f) l) ≡ take f (drop b l)
+pub drop-of-take : (b f : ℕ) (l : List ℕ) → drop b (take (b + f) l) ≡ take f (drop b l)
 drop-of-take zero f l = let e : zero + f ≡ f = omega arith in ap (λ (n : ℕ). take n l) e
 drop-of-take (suc b) f [] = let e : suc b + f ≡ suc (b + f) = omega arith in ap (λ (n : ℕ). drop (suc b) (take {A = ℕ} n [])) e ∙ none f
   where

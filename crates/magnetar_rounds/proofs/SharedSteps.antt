@@ -2,7 +2,7 @@
 -- Assumes nothing.
 use mathlib.Core.Path.{_≡_, refl, sym, ap, ap₂, _∙_}
 use mathlib.Core.List.{List, [], _∷_, _++_, append-nil}
-use Prim.Native.Nat.{ℕ, zero, suc, _+_, _-_, _*_, _/_, _^_, _≤_, _<_}
+use Prim.Native.Nat.{ℕ, suc, _+_, _-_, _*_, _/_, _^_, _≤_, _<_}
 use native.Mathlib.Nat.{add-zero, two-pow-succ}
 use native.Mathlib.Numerals.{add-one}
 use native.Mathlib.Omega.{arith}
@@ -102,7 +102,7 @@ both-stepped i p d t u proof p′ draws d′ m S T S′ T′ e heard said drawn 
     let k = heard ∙ ap (λ (l : List ℕ). transcript.drawn (transcript.absorbed t (numbered "vs-out-shared-" i) (wordBytes (words l))) (numbered "vs-out-shared-" i)) (sym e) in
     steps-eq
     (round-said (numbered "vs-out-shared-" i) t u proof p′ draws d′ (outerNext S ++ outerNext T) p 8 d (value (transcript.element u)) k
-      (said ∙ ap (λ (l : List ℕ). take p (elements proof) ++ l) (sym e)) refl drawn)
+    (said ∙ ap (λ (l : List ℕ). take p (elements proof) ++ l) (sym e)) refl drawn)
     (f ∙ ap (λ (v : Transcript). outerFold (value (transcript.element v)) S) k)
     (g ∙ ap (λ (v : Transcript). outerFold (value (transcript.element v)) T) k)
 
@@ -140,8 +140,8 @@ shared-done i h b f o q p d kb kb′ kf kf′ ub uf wb nb wf nf t u proof p′ d
         (outerIn y (take v (drop o (elements d′))) kb′ wb (nb / 2) (take (4 * wb) s′))
         (outerIn y (take w (drop q (elements d′))) kf′ wf (nf / 2) (drop (4 * wb) s′))
         (ap₂ (λ (x y : List ℕ). x ++ y)
-          (high-next y v o d kb kb′ ub wb nb (value (transcript.element u)) (elements draws) (elements d′) (take (4 * wb) s) (take (4 * wb) s₁) (take (4 * wb) s′) rb long fb tb drawn nextb Db Gb)
-          (high-next y w q d kf kf′ uf wf nf (value (transcript.element u)) (elements draws) (elements d′) (drop (4 * wb) s) (drop (4 * wb) s₁) (drop (4 * wb) s′) rf long ff tf drawn nextf Df Gf))
+        (high-next y v o d kb kb′ ub wb nb (value (transcript.element u)) (elements draws) (elements d′) (take (4 * wb) s) (take (4 * wb) s₁) (take (4 * wb) s′) rb long fb tb drawn nextb Db Gb)
+        (high-next y w q d kf kf′ uf wf nf (value (transcript.element u)) (elements draws) (elements d′) (drop (4 * wb) s) (drop (4 * wb) s₁) (drop (4 * wb) s′) rf long ff tf drawn nextf Df Gf))
         heard said drawn
         (high-fold y v o d kb kb′ ub wb nb (value (transcript.element u)) (elements draws) (elements d′) (take (4 * wb) s) (take (4 * wb) s₁) (take (4 * wb) s′) rb long fb tb drawn nextb Db Gb)
         (high-fold y w q d kf kf′ uf wf nf (value (transcript.element u)) (elements draws) (elements d′) (drop (4 * wb) s) (drop (4 * wb) s₁) (drop (4 * wb) s′) rf long ff tf drawn nextf Df Gf))

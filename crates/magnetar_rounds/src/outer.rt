@@ -67,9 +67,9 @@ pub(crate) fn fold(s: &mut [u64], w: usize, n: usize, v: usize, r: Gf128)
 }
 
 // What a round of one system leaves: the transcript after its draw, and the product over the bound variables.
-struct Round {
-    transcript: Transcript,
-    k: Gf128,
+pub(crate) struct Round {
+    pub transcript: Transcript,
+    pub k: Gf128,
 }
 
 // The challenge of a round is written down at element d, the tables are folded by it, and it is multiplied into the product.
@@ -162,7 +162,7 @@ fn row_fld(
 }
 
 // All x row rounds of bin, from tables of n = 2 2^x words on.
-fn rows_bin(
+pub(crate) fn rows_bin(
     x: usize,
     o: usize,
     p: usize,
@@ -197,7 +197,7 @@ fn rows_bin(
 }
 
 // All x row rounds of fld, from tables of n = 2 2^x words on.
-fn rows_fld(
+pub(crate) fn rows_fld(
     x: usize,
     o: usize,
     p: usize,

@@ -73,9 +73,9 @@ fn fold_both(
 
 // What a shared round leaves: the transcript after its draw, and the product over the bound variables of each system.
 pub(crate) struct Both {
-    transcript: Transcript,
-    kb: Gf128,
-    kf: Gf128,
+    pub transcript: Transcript,
+    pub kb: Gf128,
+    pub kf: Gf128,
 }
 
 // The challenge of a round is written down at element d, both systems are folded by it, and it is multiplied into their products.
@@ -185,7 +185,26 @@ pub(crate) fn shared_rounds(
     let mut z = kf;
     let mut u = t;
     while i < x {
-        let r = shared_round(i, x - i, b, f, o, q, p + 8 * i, d + i, wb, m, y, wf, n, z, proof, draws, s, u);
+        let r = shared_round(
+            i,
+            x - i,
+            b,
+            f,
+            o,
+            q,
+            p + 8 * i,
+            d + i,
+            wb,
+            m,
+            y,
+            wf,
+            n,
+            z,
+            proof,
+            draws,
+            s,
+            u,
+        );
         u = r.transcript;
         y = r.kb;
         z = r.kf;

@@ -5,3 +5,5 @@ pub mod Verifying
 pub mod Combining
 pub mod VerifyRun
 pub mod Ended
+pub mod Sound
+pub mod Complete

@@ -33,8 +33,7 @@ same-length-2 c = search needs
 returns : tie.Need-returns
 returns c = let x = c .before .before .before .before .before .before .before .before .before .before .before .before .before .args in
     let e = c .before .before .before .before .before .before .before .before .before .before .element .ensures in
-    let f = c .before .before .before .before .fold-both .ensures in
-    (
+    let f = c .before .before .before .before .fold-both .ensures in (
       refl,
       (
         c .before .eq-next .ensures ∙ rw e,

@@ -56,8 +56,7 @@ returns c = let x = c .before .before .before .before .before .before .before .b
     let one : length (c .before .before .before .before .before .before .fold .last .0) ≡ 4 * x .wb = c .before .before .before .before .before .before .fold .kept .0 ∙ length-take-le _ _ (omega arith) in
     let two : length (c .before .before .fold2 .last .0) ≡ 4 * x .wf = c .before .before .fold2 .kept .0 ∙ (ap length (lent-behind (now (x .s)) (c .before .before .before .before .before .before .fold .last .0) (4 * x .wb) (4 * x .wf) (p .0 .0) one) ∙ rest-length (now (x .s)) (c .before .before .before .before .before .before .fold .last .0) (4 * x .wb) (4 * x .wf) (p .0 .0) one) in
     let f = c .before .before .before .before .before .before .fold .ensures in
-    let g = c .before .before .fold2 .ensures in
-    (
+    let g = c .before .before .fold2 .ensures in (
       front-folded (now (x .s)) (c .before .before .before .before .before .before .fold .last .0) (c .before .before .fold2 .last .0) (4 * x .wb) (4 * x .wf) (p .0 .0) one two (record { a = f .0; b = f .1 .0; c = f .1 .1 .0; e = f .1 .1 .1 }),
       behind-folded (now (x .s)) (c .before .before .before .before .before .before .fold .last .0) (c .before .before .fold2 .last .0) (4 * x .wb) (4 * x .wf) (p .0 .0) one two (record { a = g .0; b = g .1 .0; c = g .1 .1 .0; e = g .1 .1 .1 }),
     )

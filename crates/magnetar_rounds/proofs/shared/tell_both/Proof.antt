@@ -104,8 +104,7 @@ returns c = let x = c .before .before .before .before .before .before .before .b
     let g = c .before .before .before .before .message2 .ensures in
     let v = messageIn (x .vb) (value (x .kb)) (value (x .ub)) (x .wb) (x .nb) (take (4 * x .wb) (now (x .s))) in
     let w = messageIn (x .vf) (value (x .kf)) (value (x .uf)) (x .wf) (x .nf) (drop (4 * x .wb) (now (x .s))) in
-    let so : c .before .before .before .before .message2 .last .0 ≡ words w = g .0 ∙ ap (λ (l : List ℕ). words (messageIn (x .vf) (value (x .kf)) (value (x .uf)) (x .wf) (x .nf) l)) lent in
-    (
+    let so : c .before .before .before .before .message2 .last .0 ≡ words w = g .0 ∙ ap (λ (l : List ℕ). words (messageIn (x .vf) (value (x .kf)) (value (x .uf)) (x .wf) (x .nf) l)) lent in (
       both-said (now (x .proof)) (c .before .before .before .before .before .before .before .before .before .before .before .message .last .0) (c .before .before .before .before .message2 .last .0) v w (x .p) (p .0 .6) (outer-four (x .vb) _ _ _ _ _ _) (outer-four (x .vf) _ _ _ _ _ _) (f .0) so,
       (
         both-there (now (x .proof)) (c .before .before .before .before .before .before .before .before .before .before .before .message .last .0) (c .before .before .before .before .message2 .last .0) v w (x .p) (p .0 .6) (outer-four (x .vb) _ _ _ _ _ _) (outer-four (x .vf) _ _ _ _ _ _) (f .0) so,

@@ -1,0 +1,157 @@
+-- What the two ends leave of a good batch: the theorem on a good batch, of the outcomes of both functions.
+-- Assumes nothing.
+use mathlib.Core.Path.{_≡_, refl, sym, ap, ap₂, _∙_, subst}
+use mathlib.Core.Bool.{Bool, true, false}
+use mathlib.Core.List.{List, [], _++_}
+use Prim.Native.Nat.{ℕ, suc, _+_, _-_, _*_, _/_, _%_, _^_, _<_, _≤_}
+use native.Mathlib.Nat.{mod-lt}
+use native.Mathlib.Omega.{arith}
+use lib.Dec.{eqb, ltb}
+use lib.ListN.{length, getD, take, drop}
+use lib.Seq.{take-at}
+use borrow.Author.Tests.{ltb-true, ltb-false}
+use Rattle.magnetar_field.specs.Words.{elements, words}
+use Rattle.magnetar_field.proofs.Elements.{elements-length, elements-below, words-length}
+use Rattle.magnetar_field.proofs.Tabulation.{tabulate-length, tabulate-get, tabulate-out}
+use Rattle.magnetar_hash.specs.declared.transcript.Transcript.{Transcript}
+use Rattle.magnetar_r1cs.specs.Batch.{Relation, Batch, Good, bitOf}
+use Rattle.magnetar_r1cs.specs.Packed.{packedBit, loginPart, unpacked}
+use Rattle.magnetar_r1cs.specs.Lent.{matrixOf}
+use Rattle.magnetar_r1cs.proofs.TableLaws.{elements-words}
+use Rattle.magnetar_r1cs.proofs.LoginParts.{bit-unpacked}
+use Rattle.magnetar_batch.specs.Systems.{systemOf}
+use Rattle.magnetar_protocol.specs.Shape.{proofElements}
+use Rattle.magnetar_protocol.specs.Run.{claims, verdict, ClaimsTrue}
+use Rattle.magnetar_protocol.specs.RunSizes.{SizedRelation, SizedBatch}
+use Rattle.magnetar_protocol.specs.Soundness.{NoStray}
+use Rattle.magnetar_protocol.specs.Prover.{proverWords, proverClaims}
+use Rattle.magnetar_protocol.specs.RealRun.{verifierDraws, verifierTranscript, proverDraws, proverTranscript, saidWords, Agrees}
+use Rattle.magnetar_protocol.proofs.Stepwise.{proving-length}
+use Rattle.magnetar_protocol.proofs.ProverRun.{proving-words}
+use Rattle.magnetar_protocol.proofs.RealRuns.{completeness-run}
+use Rattle.magnetar_spartan.specs.Rules.{Rules, relationOf}
+use Rattle.magnetar_spartan.specs.Refusals.{claimWords, proofWords}
+use Rattle.magnetar_spartan.specs.Outcome.{batchOf, verifyRefusal, verifyVerdict, verifyClaims, verifyOutcome, proveRefusal, proveDraws, proveOutcome}
+use Rattle.magnetar_spartan.proofs.SizedRules.{sized-relation}
+use Rattle.magnetar_spartan.proofs.Ended.{Verifiable, verifiable}
+use Rattle.magnetar_spartan.proofs.Sound.{AreWords, front, claims-size, returned-words, returned}
+
+-- ---- packed words hold a batch of the relation's sizes
+packed-bit : (ws : List ℕ) (y : ℕ) → packedBit ws y < 2
+unfolding packedBit
+packed-bit ws y = omega arith
+
+module _ (q w : ℕ) (ws : List ℕ) where
+  many : length (unpacked q w ws) ≡ q
+  unfolding unpacked
+  many = tabulate-length _ q
+
+  wide : (u : ℕ) → u < q → length (getD (unpacked q w ws) u []) ≡ w
+  unfolding unpacked
+  wide u h = ap length (tabulate-get _ q u [] h) ∙ tabulate-length _ w
+
+  no-login : (u y : ℕ) → q ≤ u → bitOf (unpacked q w ws) u y ≡ 0
+  unfolding unpacked bitOf
+  no-login u y h = ap (λ (l : List ℕ). getD l y 0) (tabulate-out _ q u [] h)
+
+  no-column : (u y : ℕ) → u < q → w ≤ y → bitOf (unpacked q w ws) u y ≡ 0
+  unfolding unpacked bitOf
+  no-column u y h k = ap (λ (l : List ℕ). getD l y 0) (tabulate-get _ q u [] h) ∙ tabulate-out _ w y 0 k
+
+  bits-below : (u y : ℕ) → bitOf (unpacked q w ws) u y < 2
+  bits-below u y = go (ltb u q) (ltb y w) refl refl
+    where
+      go : (a b : Bool) → ltb u q ≡ a → ltb y w ≡ b → bitOf (unpacked q w ws) u y < 2
+      go true true h k = rw (bit-unpacked q w ws u y (ltb-true u q h) (ltb-true y w k)) (packed-bit (loginPart w ws u) y)
+      go true false h k = rw (no-column u y (ltb-true u q h) (ltb-false y w k)) (omega arith)
+      go false b h k = rw (no-login u y (ltb-false u q h)) (omega arith)
+
+pub sized-batch : (R : Rules) (ws : List ℕ) → SizedBatch (relationOf R) (batchOf R ws)
+sized-batch R ws = record { logins = many (R .q) (R .m / 2) ws; columns = wide (R .q) (R .m / 2) ws; bits = bits-below (R .q) (R .m / 2) ws }
+
+module _ (R : Rules) (ws x : List ℕ) (t : Transcript) (w c s : List ℕ) where
+  -- the proof that the prover hands over: the front of its buffer
+  abbrev pub handed : List ℕ
+  handed = take (proofWords R) (proveOutcome R ws x t w c s .proof)
+
+  abbrev said : List ℕ
+  said = saidWords (relationOf R) (batchOf R ws) (elements x) t
+
+  handed-is : proveRefusal R ws x t w c s ≡ 0 → proofWords R ≡ 2 * length said → handed ≡ words said
+  unfolding proveOutcome proveDraws saidWords
+  handed-is hp h =
+      rw hp (front (proverWords (relationOf R) (batchOf R ws) (elements x) (proverDraws (relationOf R) (batchOf R ws) (elements x) t)) (drop (proofWords R) w) (proofWords R) h)
+
+  accepted-of : (p c′ s′ : List ℕ) → verifyRefusal R x p t c′ s′ ≡ 0 → elements p ≡ said
+      → verdict (relationOf R) (elements x) said (verifierDraws (relationOf R) said t) ≡ 0 → verifyOutcome R x p t c′ s′ .code ≡ 0
+  unfolding verifyOutcome verifyVerdict
+  accepted-of p c′ s′ hv e a = rw (hv, e) a
+
+  transcripts : (p c′ s′ : List ℕ) → verifyRefusal R x p t c′ s′ ≡ 0 → elements p ≡ said → proveRefusal R ws x t w c s ≡ 0
+      → verifierTranscript (relationOf R) (elements x) said t ≡ proverTranscript (relationOf R) (batchOf R ws) (elements x) t
+      → verifyOutcome R x p t c′ s′ .transcript ≡ proveOutcome R ws x t w c s .transcript
+  unfolding verifyOutcome proveOutcome
+  transcripts p c′ s′ hv e hp a = rw (hv, hp, e) a
+
+  claims-handed : proveRefusal R ws x t w c s ≡ 0
+      → claimWords R ≡ 2 * length (proverClaims (relationOf R) (batchOf R ws) (proverDraws (relationOf R) (batchOf R ws) (elements x) t))
+      → take (claimWords R) (proveOutcome R ws x t w c s .claims) ≡ words (proverClaims (relationOf R) (batchOf R ws) (proverDraws (relationOf R) (batchOf R ws) (elements x) t))
+  unfolding proveOutcome proveDraws
+  claims-handed hp h =
+      rw hp (front (proverClaims (relationOf R) (batchOf R ws) (proverDraws (relationOf R) (batchOf R ws) (elements x) t)) (drop (claimWords R) c) (claimWords R) h)
+
+  -- the verifier, given these words in buffers c′ and s′ of its own, accepts; both have written the same claims, all of them true of the
+  -- batch; and both end with the same transcript
+  pub record Convinced (c′ s′ : List ℕ) : Type 0 where
+    pub accepted : verifyOutcome R x handed t c′ s′ .code ≡ 0
+    pub same-claims : take (claimWords R) (verifyOutcome R x handed t c′ s′ .claims) ≡ take (claimWords R) (proveOutcome R ws x t w c s .claims)
+    pub true-claims : ClaimsTrue (relationOf R) (batchOf R ws) (elements (take (claimWords R) (verifyOutcome R x handed t c′ s′ .claims)))
+    pub same-transcript : verifyOutcome R x handed t c′ s′ .transcript ≡ proveOutcome R ws x t w c s .transcript
+
+  -- Wherever neither end is refused by 1 to 16: of a good batch with no bit outside the segments the verifier is convinced.
+  pub verify-complete : (c′ s′ : List ℕ) → AreWords x → proveRefusal R ws x t w c s ≡ 0 → verifyRefusal R x handed t c′ s′ ≡ 0
+      → Good (relationOf R) (batchOf R ws) (elements x) → NoStray (relationOf R) (batchOf R ws) → Convinced c′ s′
+  verify-complete c′ s′ wx hp hv good stray =
+      record { accepted = accepted; same-claims = same; true-claims = subst (ClaimsTrue r b) (sym (returned R x handed t c′ s′ accepted ∙ told)) (agrees .true-claims); same-transcript = ends }
+    where
+      r : Relation
+      r = relationOf R
+
+      b : Batch
+      b = batchOf R ws
+
+      fits : Verifiable R x handed (length c′) (length s′)
+      fits = verifiable R x handed (t .«squeeze_ctr») (length c′) (length s′) (unfold verifyRefusal in hv)
+
+      relation : SizedRelation r
+      relation = sized-relation R (fits .ready .columns) (fits .ready .logins) (fits .ready .fine)
+
+      public : suc (length (elements x)) ≡ R .m / 2
+      public = omega (arith, elements-length x, fits .public, fits .ready .columns .low)
+
+      agrees : Agrees r b (elements x) t
+      agrees = completeness-run r b (elements x) t relation (sized-batch R ws) public (elements-below x wx) good stray
+
+      size : proofWords R ≡ 2 * length said
+      size = unfold saidWords systemOf matrixOf in ap (λ (n : ℕ). 2 * n)
+          (sym (proving-length r b (elements x) t) ∙ ap length (proving-words r b (elements x) t relation (sized-batch R ws) public (elements-below x wx)))
+
+      given : elements handed ≡ said
+      given = ap elements (handed-is hp size) ∙ elements-words said
+
+      accepted : verifyOutcome R x handed t c′ s′ .code ≡ 0
+      accepted = accepted-of handed c′ s′ hv given (agrees .accepted)
+
+      told : claims r (elements handed) (verifierDraws r (elements handed) t) ≡ claims r said (verifierDraws r said t)
+      told = ap (λ (l : List ℕ). claims r l (verifierDraws r l t)) given
+
+      heard-claims : claims r (elements handed) (verifierDraws r (elements handed) t) ≡ proverClaims r b (proverDraws r b (elements x) t)
+      heard-claims = told ∙ agrees .same-claims
+
+      same : take (claimWords R) (verifyOutcome R x handed t c′ s′ .claims) ≡ take (claimWords R) (proveOutcome R ws x t w c s .claims)
+      same =
+          returned-words R x handed t c′ s′ accepted ∙ ap words heard-claims
+          ∙ sym (claims-handed hp (claims-size R x handed t c′ s′ accepted ∙ ap (λ (l : List ℕ). 2 * length l) heard-claims))
+
+      ends : verifyOutcome R x handed t c′ s′ .transcript ≡ proveOutcome R ws x t w c s .transcript
+      ends = transcripts handed c′ s′ hv given hp (agrees .same-transcript)
