@@ -116,7 +116,7 @@ module _ (s b f c l proof draws out : ℕ) where
   unfolding claimsRefusalOf
   claims-given e =
       let k = noted-clear 0 ((10, ltb 64 l) ∷ (11, ltb draws (2 * drawsFor s b f c)) ∷ (15, ltb out (2 * (s + (c - 1) + l)))
-          ∷ (16, not (eqb proof (2 * proofFor s b f c l))) ∷ []) refl e .1 in
+      ∷ (16, not (eqb proof (2 * proofFor s b f c l))) ∷ []) refl e .1 in
       record {
         few = ltb-false 64 l (k .0);
         drawn = ltb-false draws (2 * drawsFor s b f c) (k .1 .0);
@@ -153,5 +153,5 @@ module _ (m q rb rf : ℕ) (ns p d out : List ℕ) (s b f c n z : ℕ) (es : s �
       let drawn : 2 * drawsFor (log₂ q) (log₂ rb) (log₂ rf) (log₂ m) ≤ length d = rw (es, eb, ef, ec) at (g .drawn) in
       let exact : length p ≡ 2 * proofFor (log₂ q) (log₂ rb) (log₂ rf) (log₂ m) (length ns) = rw (es, eb, ef, ec) at (g .exact) in
       let t = claims-tabled (outline m q rb rf ns) (elements p) (elements d) (omega (arith, drawn, elements-length d))
-          (omega (arith, exact, elements-length p)) in
+      (omega (arith, exact, elements-length p)) in
       (sym h ∙ same-refusal, rw (← same-refusal, h, t, ← es, ← eb, ← ef, ← ec, ← en) (ap (λ (l : List ℕ). l ++ drop (2 * (s + n + length ns)) out) (sym ew ∙ ap words e)))

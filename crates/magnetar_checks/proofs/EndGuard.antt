@@ -142,14 +142,13 @@ module _ (m q rb rf : ℕ) (ns x p d room : List ℕ) (s b f c z : ℕ) (es : s 
       let k = cols m c (power-of m (g .size)) ec in
       let n : 4 * m ≡ 2 * (2 * m) = omega arith in
       let t : take m (elements (take (4 * m) room)) ≡ take m (elements room) =
-        rw (n, elements-take (2 * m) room) (take-take m (2 * m) (elements room) (omega arith)) in
+      rw (n, elements-take (2 * m) room) (take-take m (2 * m) (elements room) (omega arith)) in
       let exact : length (elements p) ≡ proofFor (log₂ q) (log₂ rb) (log₂ rf) (log₂ m) (length ns) =
-        elements-length p ∙ rw (es, eb, ef, ec) at (half (length p) (proofFor s b f c (length ns)) (g .exact)) in
-      (
+      elements-length p ∙ rw (es, eb, ef, ec) at (half (length p) (proofFor s b f c (length ns)) (g .exact)) in (
         rw (← same-refusal, h) (e ∙ rw (t, es, eb, ef, ec)
-        (end-finds (log₂ q) (log₂ rb) (log₂ rf) (log₂ m) ns (elements x) (elements p) (elements d) (take m (elements room))
-        ∙ ap firstFound (sym (end-is (outline m q rb rf ns) (elements x) (elements p) (elements d) (take m (elements room)) exact
-        (rw ec at (k .pos)))))),
+            (end-finds (log₂ q) (log₂ rb) (log₂ rf) (log₂ m) ns (elements x) (elements p) (elements d) (take m (elements room))
+            ∙ ap firstFound (sym (end-is (outline m q rb rf ns) (elements x) (elements p) (elements d) (take m (elements room)) exact
+            (rw ec at (k .pos)))))),
         rw (← same-refusal, h, o),
       )
     where

@@ -36,7 +36,7 @@ pub given : (s b f c l proof draws z : ℕ) → z ≡ refusalOf s b f c l proof 
 unfolding refusalOf
 given s b f c l proof draws z e h =
     let k = noted-clear 0 ((10, ltb 64 l) ∷ (11, ltb draws (2 * drawsFor s b f c)) ∷ (16, not (eqb proof (2 * proofFor s b f c l))) ∷ []) refl
-        (sym e ∙ h) .1 in
+    (sym e ∙ h) .1 in
     record {
       few = ltb-false 64 l (k .0);
       drawn = ltb-false draws (2 * drawsFor s b f c) (k .1 .0);

@@ -105,11 +105,11 @@ module _ (r : Relation) (w d : List ℕ) (long : drawCount r ≤ length d) where
   shared-is i (suc n) h =
       let j : i < s = omega arith in
       let p : binRound r [] w D i ≡ roundHolds 0 (sharedBin s w) (sharedDraws s b f w d) i =
-        ap₂ (λ (x : List (List ℕ)) (y : List ℕ). roundHolds 0 x y i) bin-ms bin-rs
-        ∙ round-front 0 (sharedBin s w) (messages (8 * s) 4 b w) (sharedDraws s b f w d) (binDraws s b f w d) i (rw (bin-length s w) j) (rw shared-length (omega arith)) in
+      ap₂ (λ (x : List (List ℕ)) (y : List ℕ). roundHolds 0 x y i) bin-ms bin-rs
+      ∙ round-front 0 (sharedBin s w) (messages (8 * s) 4 b w) (sharedDraws s b f w d) (binDraws s b f w d) i (rw (bin-length s w) j) (rw shared-length (omega arith)) in
       let q : fldRound r [] w D i ≡ roundHolds 0 (sharedFld s w) (sharedDraws s b f w d) i =
-        ap₂ (λ (x : List (List ℕ)) (y : List ℕ). roundHolds 0 x y i) fld-ms fld-rs
-        ∙ round-front 0 (sharedFld s w) (messages (8 * s + 4 * b) 4 f w) (sharedDraws s b f w d) (fldDraws s b f w d) i (rw (fld-length s w) j) (rw shared-length (omega arith)) in
+      ap₂ (λ (x : List (List ℕ)) (y : List ℕ). roundHolds 0 x y i) fld-ms fld-rs
+      ∙ round-front 0 (sharedFld s w) (messages (8 * s + 4 * b) 4 f w) (sharedDraws s b f w d) (fldDraws s b f w d) i (rw (fld-length s w) j) (rw shared-length (omega arith)) in
       ap₂ (λ (x : Bool) (l : List Check). check 21 x (afterTaus r + 2 * suc i) ∷ l) p
       (ap₂ (λ (x : Bool) (l : List Check). check 22 x (afterTaus r + 2 * suc i) ∷ l) q (shared-is (suc i) n (omega arith)))
 

@@ -126,8 +126,7 @@ module _ (events s : ℕ) (ms ns : List (List ℕ)) (rs : List ℕ) (lm : length
       → (f ≡ after start (bothChecks events ms ns rs 0 s)) × (a ≡ running 0 ms rs) × (b ≡ running 0 ns rs)
   unfolding bothChecks after
   sharing-end start f a b i g h =
-      let z : s - i ≡ 0 = omega arith in
-      (
+      let z : s - i ≡ 0 = omega arith in (
         sym (rw z at (g .now-both)),
         g .now-bin ∙ ap₂ (running 0) (take-all i ms (omega arith)) (take-all i rs (omega arith)),
         g .now-fld ∙ ap₂ (running 0) (take-all i ns (omega arith)) (take-all i rs (omega arith)),

@@ -15,7 +15,16 @@ ghost use Rattle.magnetar_checks.specs.Claims.{claimsRefusal, claimsOut}
 
 // Claim i: of s shared challenges from place k of the draws on, the last one first; then the n low ones from place j on; then the
 // segment values from place v of the proof on.
-fn claim(s: usize, n: usize, k: usize, j: usize, v: usize, proof: &[u64], draws: &[u64], i: usize) -> Gf128
+fn claim(
+    s: usize,
+    n: usize,
+    k: usize,
+    j: usize,
+    v: usize,
+    proof: &[u64],
+    draws: &[u64],
+    i: usize,
+) -> Gf128
     requires { ⌜ (s < 64) × (n < 64) × (k ≤ 4096) × (j ≤ 4096) × (v ≤ 4096) × (i ≤ 4096) ⌝ }
     ensures { λ r. ⌜ value r ≡ claimAt s n k j v (elements (now (proof .entry))) (elements (now (draws .entry))) i ⌝ }
 {
@@ -29,7 +38,17 @@ fn claim(s: usize, n: usize, k: usize, j: usize, v: usize, proof: &[u64], draws:
 }
 
 // Fills out with its claims.
-fn fill(out: &mut [u64], s: usize, n: usize, k: usize, j: usize, v: usize, proof: &[u64], draws: &[u64], count: usize)
+fn fill(
+    out: &mut [u64],
+    s: usize,
+    n: usize,
+    k: usize,
+    j: usize,
+    v: usize,
+    proof: &[u64],
+    draws: &[u64],
+    count: usize,
+)
     requires { ⌜ (s < 64) × (n < 64) × (k ≤ 4096) × (j ≤ 4096) × (v ≤ 4096) × (count ≤ 4096) × (length (now out) ≡ 2 * count) ⌝ }
     ensures { λ _. ⌜ elements (now (out .exit)) ≡ tabulate (claimAt s n k j v (elements (now (proof .entry))) (elements (now (draws .entry)))) count ⌝ }
 {
@@ -41,7 +60,17 @@ fn fill(out: &mut [u64], s: usize, n: usize, k: usize, j: usize, v: usize, proof
 }
 
 // 10, 11, 15 and 16, by the numbers of words, with the logarithms s, b, f, c.
-fn claims_refusal(s: usize, b: usize, f: usize, c: usize, low: usize, l: usize, proof: usize, draws: usize, out: usize) -> u32
+fn claims_refusal(
+    s: usize,
+    b: usize,
+    f: usize,
+    c: usize,
+    low: usize,
+    l: usize,
+    proof: usize,
+    draws: usize,
+    out: usize,
+) -> u32
     requires { ⌜ (s < 64) × (b < 64) × (f < 64) × (c < 64) × (low ≡ c - 1) ⌝ }
     ensures { λ r. ⌜ r ≡ claimsRefusalOf s b f c l proof draws out ⌝ }
 {
@@ -62,7 +91,17 @@ fn claim_words(s: usize, n: usize, l: usize) -> usize
 }
 
 // Writes all claims, with the logarithms s, b, f, c, and n low ones.
-fn write_in(out: &mut [u64], proof: &[u64], draws: &[u64], s: usize, b: usize, f: usize, c: usize, n: usize, l: usize)
+fn write_in(
+    out: &mut [u64],
+    proof: &[u64],
+    draws: &[u64],
+    s: usize,
+    b: usize,
+    f: usize,
+    c: usize,
+    n: usize,
+    l: usize,
+)
     requires { ⌜ (s < 64) × (b < 64) × (f < 64) × (c < 64) × (n < 64) × (l ≤ 64) × (length (now out) ≡ 2 * (s + n + l)) ⌝ }
     ensures { λ _. ⌜ elements (now (out .exit)) ≡ tabulate (claimAt s n (s + b + (s + f)) (s + b + (s + f) + s + b + f + 6) (8 * s + 4 * b + 4 * f + 6 + 3 * c + 1) (elements (now (proof .entry))) (elements (now (draws .entry)))) (s + n + l) ⌝ }
 {
@@ -105,7 +144,17 @@ pub fn write_claims(
     let f = sizes::log2(rf);
     let c = sizes::log2(m);
     let n = less_one(c);
-    let z = claims_refusal(s, b, f, c, n, lens.len(), proof.len(), draws.len(), claims.len());
+    let z = claims_refusal(
+        s,
+        b,
+        f,
+        c,
+        n,
+        lens.len(),
+        proof.len(),
+        draws.len(),
+        claims.len(),
+    );
     if z != 0 {
         return z;
     }

@@ -131,22 +131,34 @@ fn inner_rounds(proof: &[u64], draws: &[u64], s: usize, b: usize, f: usize, c: u
     let i = 8 * s + 4 * b + 4 * f;
     let events = s + b + (s + f) + 2 * s + 2 * b + 2 * f + 12;
     let claim = multilinear::dot(found::piece(draws, k, 6), found::piece(proof, i, 6));
-    let none = Found {
-        code: 0,
-        events: 0,
-    };
+    let none = Found { code: 0, events: 0 };
     found::rounds(none, claim, proof, draws, i + 6, 3, k + 6, c, 27, events)
 }
 
 // v_z is (1 + top) times the segment sum plus top times p, the value of the public half.
-fn identity_holds(m: usize, lens: &[usize], p: Gf128, proof: &[u64], draws: &[u64], s: usize, b: usize, f: usize, c: usize) -> bool
+fn identity_holds(
+    m: usize,
+    lens: &[usize],
+    p: Gf128,
+    proof: &[u64],
+    draws: &[u64],
+    s: usize,
+    b: usize,
+    f: usize,
+    c: usize,
+) -> bool
     requires { ⌜ EndFits m s b f c (now lens) (m - 2) (length (now proof)) (length (now draws)) ⌝ }
     ensures { λ r. ⌜ r ≡ identical (getD (elements (now (draws .entry))) (alphasAt s b f c [] [] [] [] [] + 6 + (c - 1)) 0) (segmentsAt (now (lens .entry)) (lowDraws s b f c [] [] [] (elements (now (draws .entry))) []) 0 (part (terminalsAt s b f c [] [] [] [] [] + 6 + 3 * c + 1) (length (now (lens .entry))) (elements (now (proof .entry))))) (value p) (vz s b f c [] [] (elements (now (proof .entry))) [] []) ⌝ }
 {
     let k = s + b + (s + f) + s + b + f + 6;
     let i = 8 * s + 4 * b + 4 * f + 6 + 3 * c;
     let n = c - 1;
-    let a = segment_sum(m / 2, lens, found::piece(draws, k, n), found::piece(proof, i + 1, lens.len()));
+    let a = segment_sum(
+        m / 2,
+        lens,
+        found::piece(draws, k, n),
+        found::piece(proof, i + 1, lens.len()),
+    );
     is_identical(words::get(draws, k + n), a, p, words::get(proof, i))
 }
 
@@ -236,12 +248,20 @@ pub fn end_checks(
     let b = sizes::log2(rb);
     let f = sizes::log2(rf);
     let c = sizes::log2(m);
-    let z = end_refusal(m, a, b, f, c, lens, x.len(), proof.len(), draws.len(), s.len());
+    let z = end_refusal(
+        m,
+        a,
+        b,
+        f,
+        c,
+        lens,
+        x.len(),
+        proof.len(),
+        draws.len(),
+        s.len(),
+    );
     if z != 0 {
-        return Found {
-            code: z,
-            events: 0,
-        };
+        return Found { code: z, events: 0 };
     }
     let n = 4 * m;
     end_phases(m, lens, x, proof, draws, &mut s[..n], a, b, f, c)

@@ -104,7 +104,14 @@ pub(crate) fn rounds(
     let mut j = 0;
     while j < n {
         let msg = piece(proof, i + width * j, width);
-        run = round(run.found, run.claim, msg, words::get(draws, k + j), code, events + 2 * j);
+        run = round(
+            run.found,
+            run.claim,
+            msg,
+            words::get(draws, k + j),
+            code,
+            events + 2 * j,
+        );
         j += 1;
     }
     run

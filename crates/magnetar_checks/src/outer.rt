@@ -38,8 +38,22 @@ fn shared_round(both: Both, proof: &[u64], draws: &[u64], k: usize, j: usize) ->
 {
     let r = words::get(draws, k + j);
     let events = k + 2 * (j + 1);
-    let bin = found::round(both.found, both.bin, found::piece(proof, 8 * j, 4), r, 21, events);
-    let fld = found::round(bin.found, both.fld, found::piece(proof, 8 * j + 4, 4), r, 22, events);
+    let bin = found::round(
+        both.found,
+        both.bin,
+        found::piece(proof, 8 * j, 4),
+        r,
+        21,
+        events,
+    );
+    let fld = found::round(
+        bin.found,
+        both.fld,
+        found::piece(proof, 8 * j + 4, 4),
+        r,
+        22,
+        events,
+    );
     let f = fld.found;
     let a = bin.claim;
     let b = fld.claim;
@@ -58,10 +72,7 @@ fn shared_rounds(proof: &[u64], draws: &[u64], k: usize, s: usize) -> Both
     ensures fld { λ o. ⌜ value (o .fld) ≡ running 0 (sharedFld s (elements (now (proof .entry)))) (part k s (elements (now (draws .entry)))) ⌝ }
 {
     let mut both = Both {
-        found: Found {
-            code: 0,
-            events: 0,
-        },
+        found: Found { code: 0, events: 0 },
         bin: gf128::ZERO,
         fld: gf128::ZERO,
     };
@@ -97,7 +108,14 @@ fn eq_of(tau: &[u64], rows: &[u64], shared: &[u64]) -> Gf128
 }
 
 // The running claim is eq of tau and the point times (a b + c), with the three elements of the proof from place i on.
-fn terminal_holds(claim: Gf128, tau: &[u64], rows: &[u64], shared: &[u64], proof: &[u64], i: usize) -> bool
+fn terminal_holds(
+    claim: Gf128,
+    tau: &[u64],
+    rows: &[u64],
+    shared: &[u64],
+    proof: &[u64],
+    i: usize,
+) -> bool
     requires { ⌜ (i ≤ 4096) × (length (now rows) % 2 ≡ 0) × (length (now shared) % 2 ≡ 0) × (length (now tau) ≡ length (now rows) + length (now shared)) ⌝ }
     ensures { λ r. ⌜ r ≡ terminalHolds (value claim) (elements (now (tau .entry))) (elements (now (rows .entry))) (elements (now (shared .entry))) (elements (now (proof .entry))) i ⌝ }
 {
@@ -109,7 +127,16 @@ fn terminal_holds(claim: Gf128, tau: &[u64], rows: &[u64], shared: &[u64], proof
 }
 
 // Both terminals: the claims of bin and of fld, with the logarithms s, b, f.
-fn terminals(f0: Found, bin: Gf128, fld: Gf128, proof: &[u64], draws: &[u64], s: usize, b: usize, f: usize) -> Found
+fn terminals(
+    f0: Found,
+    bin: Gf128,
+    fld: Gf128,
+    proof: &[u64],
+    draws: &[u64],
+    s: usize,
+    b: usize,
+    f: usize,
+) -> Found
     requires { ⌜ (s ≤ 64) × (b ≤ 64) × (f ≤ 64) × (2 * (s + b + (s + f) + s + b + f) ≤ length (now draws)) ⌝ }
     ensures { λ r. ⌜ r ≡ noted (noted f0 (check 25 (terminalHolds (value bin) (part 0 (s + b) (elements (now (draws .entry)))) (part (s + b + (s + f) + s) b (elements (now (draws .entry)))) (part (s + b + (s + f)) s (elements (now (draws .entry)))) (elements (now (proof .entry))) (8 * s + 4 * b + 4 * f)) (s + b + (s + f) + 2 * s + 2 * b + 2 * f))) (check 26 (terminalHolds (value fld) (part (s + b) (s + f) (elements (now (draws .entry)))) (part (s + b + (s + f) + s + b) f (elements (now (draws .entry)))) (part (s + b + (s + f)) s (elements (now (draws .entry)))) (elements (now (proof .entry))) (8 * s + 4 * b + 4 * f + 3)) (s + b + (s + f) + 2 * s + 2 * b + 2 * f)) ⌝ }
 {
@@ -117,8 +144,22 @@ fn terminals(f0: Found, bin: Gf128, fld: Gf128, proof: &[u64], draws: &[u64], s:
     let i = 8 * s + 4 * b + 4 * f;
     let events = k + 2 * s + 2 * b + 2 * f;
     let shared = found::piece(draws, k, s);
-    let x = terminal_holds(bin, found::piece(draws, 0, s + b), found::piece(draws, k + s, b), shared, proof, i);
-    let y = terminal_holds(fld, found::piece(draws, s + b, s + f), found::piece(draws, k + s + b, f), shared, proof, i + 3);
+    let x = terminal_holds(
+        bin,
+        found::piece(draws, 0, s + b),
+        found::piece(draws, k + s, b),
+        shared,
+        proof,
+        i,
+    );
+    let y = terminal_holds(
+        fld,
+        found::piece(draws, s + b, s + f),
+        found::piece(draws, k + s + b, f),
+        shared,
+        proof,
+        i + 3,
+    );
     let f1 = found::note(f0, 25, x, events);
     found::note(f1, 26, y, events)
 }
@@ -131,8 +172,30 @@ fn outer_phases(proof: &[u64], draws: &[u64], s: usize, b: usize, f: usize) -> F
     let k = s + b + (s + f);
     let e = k + 2 * s;
     let both = shared_rounds(proof, draws, k, s);
-    let bin = found::rounds(both.found, both.bin, proof, draws, 8 * s, 4, k + s, b, 23, e + 2);
-    let fld = found::rounds(bin.found, both.fld, proof, draws, 8 * s + 4 * b, 4, k + s + b, f, 24, e + 2 * b + 2);
+    let bin = found::rounds(
+        both.found,
+        both.bin,
+        proof,
+        draws,
+        8 * s,
+        4,
+        k + s,
+        b,
+        23,
+        e + 2,
+    );
+    let fld = found::rounds(
+        bin.found,
+        both.fld,
+        proof,
+        draws,
+        8 * s + 4 * b,
+        4,
+        k + s + b,
+        f,
+        24,
+        e + 2 * b + 2,
+    );
     terminals(fld.found, bin.claim, fld.claim, proof, draws, s, b, f)
 }
 
@@ -156,16 +219,21 @@ pub fn outer_checks(
     let c = sizes::log2(m);
     let z = outer_refusal(s, b, f, c, lens.len(), proof.len(), draws.len());
     if z != 0 {
-        return Found {
-            code: z,
-            events: 0,
-        };
+        return Found { code: z, events: 0 };
     }
     outer_phases(proof, draws, s, b, f)
 }
 
 // 10, 11 and 16, with the logarithms s, b, f, c.
-fn outer_refusal(s: usize, b: usize, f: usize, c: usize, l: usize, proof: usize, draws: usize) -> u32
+fn outer_refusal(
+    s: usize,
+    b: usize,
+    f: usize,
+    c: usize,
+    l: usize,
+    proof: usize,
+    draws: usize,
+) -> u32
     requires { ⌜ (s < 64) × (b < 64) × (f < 64) × (c < 64) ⌝ }
     ensures { λ r. ⌜ r ≡ refusalOf s b f c l proof draws ⌝ }
 {

@@ -106,4 +106,3 @@ abbrev pub masksOut : Lent → List ℕ → ℕ → ℕ → ℕ → List ℕ →
 masksOut a ws q w v out =
     unlessRefused (masksRefusal a ws q w v out)
     (masks (matrixOf a) (unpacked q w ws) (2 ^ (log₂ q - v)) (2 ^ v) ++ drop (maskCount a q v) out) out
-

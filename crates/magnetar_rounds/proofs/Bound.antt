@@ -76,8 +76,7 @@ pub two-bound : (s : List ℕ) (a n r : ℕ) (w : Table 0 n) (h : a + n ≤ leng
     × (tableAt a (n / 2) (putMid a (a + n - a) (t ++ drop n s) u) ≡ bindVar 0 r (tableAt a n s))
 two-bound s a n r w h g t u e f =
     let k : n ≤ length s = omega arith in
-    let l : a + n ≤ length (t ++ drop n s) = rw (front-whole s n 0 r w k t e) h in
-    (
+    let l : a + n ≤ length (t ++ drop n s) = rw (front-whole s n 0 r w k t e) h in (
       at-before (t ++ drop n s) a n 0 r w l u f 0 (n / 2) (omega arith) ∙ front-bound s n 0 r w k t e,
       at-bound (t ++ drop n s) a n 0 r w l u f ∙ ap (bindVar 0 r) (front-behind s n 0 r w k t e a n g),
     )

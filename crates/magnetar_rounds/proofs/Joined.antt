@@ -126,11 +126,11 @@ module _ (l b f wb wf : ℕ) (lb : l + b < 62) (lf : l + f < 62) where
   fld-rows a1 e1 a2 e2 a3 e3 o2 o3 kb kf k3 k4 t2 t3 t4 p2 d2 s2 p3 d3 bin3 p4 d4 fld4 he h12 hs h3 h4 =
       let r0 : RowSteps = rowIn a1 e1 0 kb wb (2 * 2 ^ b) t2 p2 d2 (take (4 * wb) s2) in
       let same : take e1 (elements d3) ≡ take e1 (elements d2) =
-          sym (take-take e1 e2 (elements d3) h12) ∙ ap (λ (R : RowSteps). take e1 (R .steps .played .draws)) h3
-          ∙ rows-keep "vs-out-rowbin-" b e1 r0 (sym (length-take-le e1 (elements d2) he)) in
+      sym (take-take e1 e2 (elements d3) h12) ∙ ap (λ (R : RowSteps). take e1 (R .steps .played .draws)) h3
+      ∙ rows-keep "vs-out-rowbin-" b e1 r0 (sym (length-take-le e1 (elements d2) he)) in
       let k : log₂ (2 * 2 ^ f / 2) ≡ 0 + f = half-log (2 * 2 ^ f) f (omega arith) refl ∙ omega arith in
       let g : take (log₂ (2 * 2 ^ f / 2)) (drop (l + b) (elements d3)) ≡ take (0 + f) (drop (l + b) (elements d2)) =
-          ap (λ (n : ℕ). take n (drop (l + b) (elements d3))) k ∙ tau-same (0 + f) (l + b) e1 d3 d2 (omega arith) same in
+      ap (λ (n : ℕ). take n (drop (l + b) (elements d3))) k ∙ tau-same (0 + f) (l + b) e1 d3 d2 (omega arith) same in
       let e = h4 ∙ ap (rowSteps "vs-out-rowfld-" 0 f) (row-eq (tau-eq 0 kf wf (2 * 2 ^ f) (drop (4 * wb) s2) g)) in
       ap (λ (R : RowSteps). record { steps = R .steps; bin = rowIn a2 e2 o2 k3 wb 2 t3 p3 d3 bin3 .held; fld = R .held }) e
 

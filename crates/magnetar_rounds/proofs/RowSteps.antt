@@ -91,12 +91,12 @@ row-stepped label i y p d o k k′ τ w n t u proof p′ draws d′ s s′ size 
     let m = next-is k τ w n (take (suc y) (drop o (elements draws))) s g in
     rw (x, z) (row-eq
     (round-said (numbered label i) t u proof p′ draws d′ (outerNext (outerIn 0 (take (suc y) (drop o (elements draws))) k w n s)) p 4 d (value (transcript.element u))
-      (heard ∙ ap (λ (l : List ℕ). transcript.drawn (transcript.absorbed t (numbered label i) (wordBytes (words l))) (numbered label i)) (sym m))
-      (said ∙ ap (λ (l : List ℕ). take p (elements proof) ++ l) (sym m)) refl drawn)
+    (heard ∙ ap (λ (l : List ℕ). transcript.drawn (transcript.absorbed t (numbered label i) (wordBytes (words l))) (numbered label i)) (sym m))
+    (said ∙ ap (λ (l : List ℕ). take p (elements proof) ++ l) (sym m)) refl drawn)
     (fold-is k k′ (value (transcript.element u)) τ w n (take (suc y) (drop o (elements draws))) (take y (drop (o + 1) (elements d′))) s s′ g
-      (tau-left y o d (value (transcript.element u)) (elements draws) (elements d′) room long drawn) next e a b c
+    (tau-left y o d (value (transcript.element u)) (elements draws) (elements d′) room long drawn) next e a b c
     ∙ ap (λ (v : Transcript). outerFold (value (transcript.element v)) (outerIn 0 (take (suc y) (drop o (elements draws))) k w n s))
-      (heard ∙ ap (λ (l : List ℕ). transcript.drawn (transcript.absorbed t (numbered label i) (wordBytes (words l))) (numbered label i)) (sym m))))
+    (heard ∙ ap (λ (l : List ℕ). transcript.drawn (transcript.absorbed t (numbered label i) (wordBytes (words l))) (numbered label i)) (sym m))))
 
 -- ---- what stays in a block
 pub front-same : (w m : ℕ) (x y : List ℕ) → m ≤ w → take w x ≡ take w y → take m x ≡ take m y

@@ -36,7 +36,15 @@ fn tell(out: &mut [u64], s: &[u64], w: usize, n: usize, v: usize, k: Gf128, t: G
 }
 
 // Drops variable v from e, and makes the message.
-pub(crate) fn message(out: &mut [u64], s: &mut [u64], w: usize, n: usize, v: usize, k: Gf128, t: Gf128)
+pub(crate) fn message(
+    out: &mut [u64],
+    s: &mut [u64],
+    w: usize,
+    n: usize,
+    v: usize,
+    k: Gf128,
+    t: Gf128,
+)
     requires { ⌜ (length (now s) ≡ 4 * w) × (w ≤ 2097152) × (n ≤ w) × (length (now out) ≡ 8) ⌝ }
     requires { ⌜ Table v n ⌝ }
     ensures told { λ _. ⌜ now (out .exit) ≡ words (outerMessage v (value k) (value t) (dropVar v (tableAt 0 n (now (s .entry)))) (tableAt w n (now (s .entry))) (tableAt (2 * w) n (now (s .entry))) (tableAt (3 * w) n (now (s .entry)))) ⌝ }

@@ -61,64 +61,175 @@ module _ (R : Rules) (P : Ready R) where
       → comboRefusal (R .m) (R .bin) (R .fld) al pb pf n ≡ 0
   unfolding comboRefusal systemsTests
   combo-none al pb pf n ha hb hf hn =
-      noted-none (systemsTests (R .m) (R .bin) (R .fld) ++ pointTests (R .m) (R .bin .a .rows) (R .fld .a .rows) al pb pf n)
-      (size-fine 2 65536 (R .m) (P .columns),
-      (size-fine 1 65536 (R .bin .a .rows) (P .fine .bin .rows),
-      (size-of (R .bin .b .rows) (R .bin .a .rows) (P .fine .bin .b .rows) (P .fine .bin .rows),
-      (size-of (R .bin .c .rows) (R .bin .a .rows) (P .fine .bin .c .rows) (P .fine .bin .rows),
-      (same-fine (R .bin .b .rows) (R .bin .a .rows) (P .fine .bin .b .rows),
-      (same-fine (R .bin .c .rows) (R .bin .a .rows) (P .fine .bin .c .rows),
-      (size-fine 1 65536 (R .fld .a .rows) (P .fine .fld .rows),
-      (size-of (R .fld .b .rows) (R .fld .a .rows) (P .fine .fld .b .rows) (P .fine .fld .rows),
-      (size-of (R .fld .c .rows) (R .fld .a .rows) (P .fine .fld .c .rows) (P .fine .fld .rows),
-      (same-fine (R .fld .b .rows) (R .fld .a .rows) (P .fine .fld .b .rows),
-      (same-fine (R .fld .c .rows) (R .fld .a .rows) (P .fine .fld .c .rows),
-      (same-fine (R .bin .a .cols) (R .m) (P .fine .bin .a .cols),
-      (same-fine (R .bin .b .cols) (R .m) (P .fine .bin .b .cols),
-      (same-fine (R .bin .c .cols) (R .m) (P .fine .bin .c .cols),
-      (same-fine (R .fld .a .cols) (R .m) (P .fine .fld .a .cols),
-      (same-fine (R .fld .b .cols) (R .m) (P .fine .fld .b .cols),
-      (same-fine (R .fld .c .cols) (R .m) (P .fine .fld .c .cols),
-      (most-fine 1048576 (length (R .bin .a .row)) (P .fine .bin .a .few),
-      (same-fine (length (R .bin .a .col)) (length (R .bin .a .row)) (P .fine .bin .a .col),
-      (same-fine (length (R .bin .a .lo)) (length (R .bin .a .row)) (P .fine .bin .a .lo),
-      (same-fine (length (R .bin .a .hi)) (length (R .bin .a .row)) (P .fine .bin .a .hi),
-      (most-fine 1048576 (length (R .bin .b .row)) (P .fine .bin .b .few),
-      (same-fine (length (R .bin .b .col)) (length (R .bin .b .row)) (P .fine .bin .b .col),
-      (same-fine (length (R .bin .b .lo)) (length (R .bin .b .row)) (P .fine .bin .b .lo),
-      (same-fine (length (R .bin .b .hi)) (length (R .bin .b .row)) (P .fine .bin .b .hi),
-      (most-fine 1048576 (length (R .bin .c .row)) (P .fine .bin .c .few),
-      (same-fine (length (R .bin .c .col)) (length (R .bin .c .row)) (P .fine .bin .c .col),
-      (same-fine (length (R .bin .c .lo)) (length (R .bin .c .row)) (P .fine .bin .c .lo),
-      (same-fine (length (R .bin .c .hi)) (length (R .bin .c .row)) (P .fine .bin .c .hi),
-      (most-fine 1048576 (length (R .fld .a .row)) (P .fine .fld .a .few),
-      (same-fine (length (R .fld .a .col)) (length (R .fld .a .row)) (P .fine .fld .a .col),
-      (same-fine (length (R .fld .a .lo)) (length (R .fld .a .row)) (P .fine .fld .a .lo),
-      (same-fine (length (R .fld .a .hi)) (length (R .fld .a .row)) (P .fine .fld .a .hi),
-      (most-fine 1048576 (length (R .fld .b .row)) (P .fine .fld .b .few),
-      (same-fine (length (R .fld .b .col)) (length (R .fld .b .row)) (P .fine .fld .b .col),
-      (same-fine (length (R .fld .b .lo)) (length (R .fld .b .row)) (P .fine .fld .b .lo),
-      (same-fine (length (R .fld .b .hi)) (length (R .fld .b .row)) (P .fine .fld .b .hi),
-      (most-fine 1048576 (length (R .fld .c .row)) (P .fine .fld .c .few),
-      (same-fine (length (R .fld .c .col)) (length (R .fld .c .row)) (P .fine .fld .c .col),
-      (same-fine (length (R .fld .c .lo)) (length (R .fld .c .row)) (P .fine .fld .c .lo),
-      (same-fine (length (R .fld .c .hi)) (length (R .fld .c .row)) (P .fine .fld .c .hi),
-      (true-fine _ (P .fine .bin .a .rows-inside),
-      (true-fine _ (P .fine .bin .a .cols-inside),
-      (true-fine _ (P .fine .bin .b .rows-inside),
-      (true-fine _ (P .fine .bin .b .cols-inside),
-      (true-fine _ (P .fine .bin .c .rows-inside),
-      (true-fine _ (P .fine .bin .c .cols-inside),
-      (true-fine _ (P .fine .fld .a .rows-inside),
-      (true-fine _ (P .fine .fld .a .cols-inside),
-      (true-fine _ (P .fine .fld .b .rows-inside),
-      (true-fine _ (P .fine .fld .b .cols-inside),
-      (true-fine _ (P .fine .fld .c .rows-inside),
-      (true-fine _ (P .fine .fld .c .cols-inside),
-      (same-fine (length al) 12 ha,
-      (same-fine (length pb) (2 * log₂ (R .bin .a .rows)) hb,
-      (same-fine (length pf) (2 * log₂ (R .fld .a .rows)) hf,
-      (most-fine n (2 * R .m + 2 * max (R .bin .a .rows) (R .fld .a .rows)) hn, tt)))))))))))))))))))))))))))))))))))))))))))))))))))))))))
+      noted-none (systemsTests (R .m) (R .bin) (R .fld) ++ pointTests (R .m) (R .bin .a .rows) (R .fld .a .rows) al pb pf n) (
+        size-fine 2 65536 (R .m) (P .columns),
+        (
+          size-fine 1 65536 (R .bin .a .rows) (P .fine .bin .rows),
+          (
+            size-of (R .bin .b .rows) (R .bin .a .rows) (P .fine .bin .b .rows) (P .fine .bin .rows),
+            (
+              size-of (R .bin .c .rows) (R .bin .a .rows) (P .fine .bin .c .rows) (P .fine .bin .rows),
+              (
+                same-fine (R .bin .b .rows) (R .bin .a .rows) (P .fine .bin .b .rows),
+                (
+                  same-fine (R .bin .c .rows) (R .bin .a .rows) (P .fine .bin .c .rows),
+                  (
+                    size-fine 1 65536 (R .fld .a .rows) (P .fine .fld .rows),
+                    (
+                      size-of (R .fld .b .rows) (R .fld .a .rows) (P .fine .fld .b .rows) (P .fine .fld .rows),
+                      (
+                        size-of (R .fld .c .rows) (R .fld .a .rows) (P .fine .fld .c .rows) (P .fine .fld .rows),
+                        (
+                          same-fine (R .fld .b .rows) (R .fld .a .rows) (P .fine .fld .b .rows),
+                          (
+                            same-fine (R .fld .c .rows) (R .fld .a .rows) (P .fine .fld .c .rows),
+                            (
+                              same-fine (R .bin .a .cols) (R .m) (P .fine .bin .a .cols),
+                              (
+                                same-fine (R .bin .b .cols) (R .m) (P .fine .bin .b .cols),
+                                (
+                                  same-fine (R .bin .c .cols) (R .m) (P .fine .bin .c .cols),
+                                  (
+                                    same-fine (R .fld .a .cols) (R .m) (P .fine .fld .a .cols),
+                                    (
+                                      same-fine (R .fld .b .cols) (R .m) (P .fine .fld .b .cols),
+                                      (
+                                        same-fine (R .fld .c .cols) (R .m) (P .fine .fld .c .cols),
+                                        (
+                                          most-fine 1048576 (length (R .bin .a .row)) (P .fine .bin .a .few),
+                                          (
+                                            same-fine (length (R .bin .a .col)) (length (R .bin .a .row)) (P .fine .bin .a .col),
+                                            (
+                                              same-fine (length (R .bin .a .lo)) (length (R .bin .a .row)) (P .fine .bin .a .lo),
+                                              (
+                                                same-fine (length (R .bin .a .hi)) (length (R .bin .a .row)) (P .fine .bin .a .hi),
+                                                (
+                                                  most-fine 1048576 (length (R .bin .b .row)) (P .fine .bin .b .few),
+                                                  (
+                                                    same-fine (length (R .bin .b .col)) (length (R .bin .b .row)) (P .fine .bin .b .col),
+                                                    (
+                                                      same-fine (length (R .bin .b .lo)) (length (R .bin .b .row)) (P .fine .bin .b .lo),
+                                                      (
+                                                        same-fine (length (R .bin .b .hi)) (length (R .bin .b .row)) (P .fine .bin .b .hi),
+                                                        (
+                                                          most-fine 1048576 (length (R .bin .c .row)) (P .fine .bin .c .few),
+                                                          (
+                                                            same-fine (length (R .bin .c .col)) (length (R .bin .c .row)) (P .fine .bin .c .col),
+                                                            (
+                                                              same-fine (length (R .bin .c .lo)) (length (R .bin .c .row)) (P .fine .bin .c .lo),
+                                                              (
+                                                                same-fine (length (R .bin .c .hi)) (length (R .bin .c .row)) (P .fine .bin .c .hi),
+                                                                (
+                                                                  most-fine 1048576 (length (R .fld .a .row)) (P .fine .fld .a .few),
+                                                                  (
+                                                                    same-fine (length (R .fld .a .col)) (length (R .fld .a .row)) (P .fine .fld .a .col),
+                                                                    (
+                                                                      same-fine (length (R .fld .a .lo)) (length (R .fld .a .row)) (P .fine .fld .a .lo),
+                                                                      (
+                                                                        same-fine (length (R .fld .a .hi)) (length (R .fld .a .row)) (P .fine .fld .a .hi),
+                                                                        (
+                                                                          most-fine 1048576 (length (R .fld .b .row)) (P .fine .fld .b .few),
+                                                                          (
+                                                                            same-fine (length (R .fld .b .col)) (length (R .fld .b .row)) (P .fine .fld .b .col),
+                                                                            (
+                                                                              same-fine (length (R .fld .b .lo)) (length (R .fld .b .row)) (P .fine .fld .b .lo),
+                                                                              (
+                                                                                same-fine (length (R .fld .b .hi)) (length (R .fld .b .row)) (P .fine .fld .b .hi),
+                                                                                (
+                                                                                  most-fine 1048576 (length (R .fld .c .row)) (P .fine .fld .c .few),
+                                                                                  (
+                                                                                    same-fine (length (R .fld .c .col)) (length (R .fld .c .row)) (P .fine .fld .c .col),
+                                                                                    (
+                                                                                      same-fine (length (R .fld .c .lo)) (length (R .fld .c .row)) (P .fine .fld .c .lo),
+                                                                                      (
+                                                                                        same-fine (length (R .fld .c .hi)) (length (R .fld .c .row)) (P .fine .fld .c .hi),
+                                                                                        (
+                                                                                          true-fine _ (P .fine .bin .a .rows-inside),
+                                                                                          (
+                                                                                            true-fine _ (P .fine .bin .a .cols-inside),
+                                                                                            (
+                                                                                              true-fine _ (P .fine .bin .b .rows-inside),
+                                                                                              (
+                                                                                                true-fine _ (P .fine .bin .b .cols-inside),
+                                                                                                (
+                                                                                                  true-fine _ (P .fine .bin .c .rows-inside),
+                                                                                                  (
+                                                                                                    true-fine _ (P .fine .bin .c .cols-inside),
+                                                                                                    (
+                                                                                                      true-fine _ (P .fine .fld .a .rows-inside),
+                                                                                                      (
+                                                                                                        true-fine _ (P .fine .fld .a .cols-inside),
+                                                                                                        (
+                                                                                                          true-fine _ (P .fine .fld .b .rows-inside),
+                                                                                                          (
+                                                                                                            true-fine _ (P .fine .fld .b .cols-inside),
+                                                                                                            (
+                                                                                                              true-fine _ (P .fine .fld .c .rows-inside),
+                                                                                                              (
+                                                                                                                true-fine _ (P .fine .fld .c .cols-inside),
+                                                                                                                (
+                                                                                                                  same-fine (length al) 12 ha,
+                                                                                                                  (
+                                                                                                                    same-fine (length pb) (2 * log₂ (R .bin .a .rows)) hb,
+                                                                                                                    (
+                                                                                                                      same-fine (length pf) (2 * log₂ (R .fld .a .rows)) hf,
+                                                                                                                      (most-fine n (2 * R .m + 2 * max (R .bin .a .rows) (R .fld .a .rows)) hn, tt),
+                                                                                                                    ),
+                                                                                                                  ),
+                                                                                                                ),
+                                                                                                              ),
+                                                                                                            ),
+                                                                                                          ),
+                                                                                                        ),
+                                                                                                      ),
+                                                                                                    ),
+                                                                                                  ),
+                                                                                                ),
+                                                                                              ),
+                                                                                            ),
+                                                                                          ),
+                                                                                        ),
+                                                                                      ),
+                                                                                    ),
+                                                                                  ),
+                                                                                ),
+                                                                              ),
+                                                                            ),
+                                                                          ),
+                                                                        ),
+                                                                      ),
+                                                                    ),
+                                                                  ),
+                                                                ),
+                                                              ),
+                                                            ),
+                                                          ),
+                                                        ),
+                                                      ),
+                                                    ),
+                                                  ),
+                                                ),
+                                              ),
+                                            ),
+                                          ),
+                                        ),
+                                      ),
+                                    ),
+                                  ),
+                                ),
+                              ),
+                            ),
+                          ),
+                        ),
+                      ),
+                    ),
+                  ),
+                ),
+              ),
+            ),
+          ),
+        ),
+      )
 
   -- the table at the front of the words
   pub combined-front : (al pb pf s s′ : List ℕ) → comboRefusal (R .m) (R .bin) (R .fld) al pb pf (length s) ≡ 0
@@ -156,9 +267,9 @@ combined-is R d al pb pf l b f i j k hl hb hf hi hj hk ha hp hq =
     let r = log₂ (R .bin .a .rows) in
     let t = log₂ (R .fld .a .rows) in
     let A : elements al ≡ D .alphas =
-        unfold drawsOf in (ap elements ha ∙ part-elements (s + r + (s + t) + s + r + t) 6 k 12 d (omega arith) refl) in
+    unfold drawsOf in (ap elements ha ∙ part-elements (s + r + (s + t) + s + r + t) 6 k 12 d (omega arith) refl) in
     let P : elements pb ≡ D .rowBin =
-        unfold drawsOf in (ap elements hp ∙ part-elements (s + r + (s + t) + s) r i (2 * b) d (omega arith) (omega arith)) in
+    unfold drawsOf in (ap elements hp ∙ part-elements (s + r + (s + t) + s) r i (2 * b) d (omega arith) (omega arith)) in
     let Q : elements pf ≡ D .rowFld =
-        unfold drawsOf in (ap elements hq ∙ part-elements (s + r + (s + t) + s + r) t j (2 * f) d (omega arith) (omega arith)) in
+    unfold drawsOf in (ap elements hq ∙ part-elements (s + r + (s + t) + s + r) t j (2 * f) d (omega arith) (omega arith)) in
     rw (A, P, Q) (combined-open (relationOf R) D ∙ ap (combined (relationOf R)) (sym (draws-is R (elements d))))

@@ -69,10 +69,14 @@ module _ (R : Rules) (x w : List ℕ) (t : Transcript) (c s : List ℕ) (e : ver
   -- the claims at the front of the claims buffer
   pub claims-size : claimWords R ≡ 2 * length (claims (relationOf R) (elements w) (verifierDraws (relationOf R) (elements w) t))
   unfolding claims segmentValues
-  claims-size = omega (arith,
-      claims-length (relationOf R) relation (drawsOf (relationOf R) (verifierDraws (relationOf R) (elements w) t))
-      (cut (relationOf R) (verifierDraws (relationOf R) (elements w) t) (verifier-count (relationOf R) (elements w) t))
-      (drop (beforeEnd (relationOf R) + 1) (elements w)), length-drop (beforeEnd (relationOf R) + 1) (elements w), as-many)
+  claims-size = omega (
+    arith,
+    claims-length (relationOf R) relation (drawsOf (relationOf R) (verifierDraws (relationOf R) (elements w) t))
+        (cut (relationOf R) (verifierDraws (relationOf R) (elements w) t) (verifier-count (relationOf R) (elements w) t))
+        (drop (beforeEnd (relationOf R) + 1) (elements w)),
+    length-drop (beforeEnd (relationOf R) + 1) (elements w),
+    as-many,
+  )
 
   pub returned-words : take (claimWords R) (verifyOutcome R x w t c s .claims)
       ≡ words (claims (relationOf R) (elements w) (verifierDraws (relationOf R) (elements w) t))

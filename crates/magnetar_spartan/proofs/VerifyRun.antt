@@ -79,10 +79,28 @@ module _ (R : Rules) (P : Ready R) (x w d : List ℕ) (t : Transcript) (claim ro
   end-none : (s : List ℕ) → 4 * R .m ≤ length s → endRefusal o x w d s ≡ 0
   unfolding endRefusal
   end-none s h =
-      noted-none (columnTests (R .m) ++ (publicTests (R .m) x ++ (layoutTests (R .m / 2) (R .lengths) ++ (drawTests o d ++ (roomTest (4 * R .m) s ++ proofTests o w)))))
-      (size-fine 2 65536 (R .m) (P .columns), (same-fine (length x) (R .m - 2) (L .public), (true-fine _ (P .fine .lengths), (most-fine _ _ (P .fine .ends),
-      (most-fine 64 (length (R .lengths)) (P .fine .segments), (most-fine (length d) (2 * drawCount o) draws-fit, (most-fine (length s) (4 * R .m) h,
-      (same-fine (length w) (2 * proofElements o) proof-fits, tt))))))))
+      noted-none (columnTests (R .m) ++ (publicTests (R .m) x ++ (layoutTests (R .m / 2) (R .lengths) ++ (drawTests o d ++ (roomTest (4 * R .m) s ++ proofTests o w))))) (
+        size-fine 2 65536 (R .m) (P .columns),
+        (
+          same-fine (length x) (R .m - 2) (L .public),
+          (
+            true-fine _ (P .fine .lengths),
+            (
+              most-fine _ _ (P .fine .ends),
+              (
+                most-fine 64 (length (R .lengths)) (P .fine .segments),
+                (
+                  most-fine (length d) (2 * drawCount o) draws-fit,
+                  (
+                    most-fine (length s) (4 * R .m) h,
+                    (same-fine (length w) (2 * proofElements o) proof-fits, tt),
+                  ),
+                ),
+              ),
+            ),
+          ),
+        ),
+      )
 
   last-is : (f : Found) (s : List ℕ) → f ≡ endFound (R .m) (R .q) (R .bin .a .rows) (R .fld .a .rows) (R .lengths) x w d s → 4 * R .m ≤ length s
       → take (R .m) (elements s) ≡ combined (relationOf R) (drawsOf (relationOf R) (elements d)) → f ≡ firstFound (laterOf R x w t)
@@ -119,9 +137,13 @@ module _ (R : Rules) (P : Ready R) (x w d : List ℕ) (t : Transcript) (claim ro
   claims-none : (c : List ℕ) → length c ≡ claimWords R → claimsRefusal (R .m) (R .q) (R .bin .a .rows) (R .fld .a .rows) (R .lengths) w d c ≡ 0
   unfolding claimsRefusal
   claims-none c h =
-      noted-none (segmentTests (R .lengths) ++ (drawTests o d ++ (roomTest (2 * claimCount o) c ++ proofTests o w)))
-      (most-fine 64 (length (R .lengths)) (P .fine .segments), (most-fine (length d) (2 * drawCount o) draws-fit,
-      (most-fine (length c) (2 * claimCount o) (omega (arith, h)), (same-fine (length w) (2 * proofElements o) proof-fits, tt))))
+      noted-none (segmentTests (R .lengths) ++ (drawTests o d ++ (roomTest (2 * claimCount o) c ++ proofTests o w))) (
+        most-fine 64 (length (R .lengths)) (P .fine .segments),
+        (
+          most-fine (length d) (2 * drawCount o) draws-fit,
+          (most-fine (length c) (2 * claimCount o) (omega (arith, h)), (same-fine (length w) (2 * proofElements o) proof-fits, tt)),
+        ),
+      )
 
   claims-is : claims o (elements w) (elements d) ≡ claims (relationOf R) (elements w) D
   claims-is = ap (claims o (elements w)) els ∙ ap (λ (r : Relation). claims r (elements w) D) (sym (sizes-are R)) ∙ sym (claims-outlined (relationOf R) (elements w) D)

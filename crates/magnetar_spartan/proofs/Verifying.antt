@@ -63,8 +63,8 @@ module _ (R : Rules) (w : List ℕ) (t : Transcript) where
   unfolding verifierDraws
   drawn-words k d d′ h l e =
       let c : length (words (heard w (schedule (relationOf R)) t .draws)) ≡ length d =
-          words-length (heard w (schedule (relationOf R)) t .draws)
-          ∙ ap (λ (n : ℕ). 2 * n) (heard-count (relationOf R) w t ∙ count) ∙ sym l in
+      words-length (heard w (schedule (relationOf R)) t .draws)
+      ∙ ap (λ (n : ℕ). 2 * n) (heard-count (relationOf R) w t ∙ count) ∙ sym l in
       e ∙ rw (heard-all k h) (overlaid-same (words (heard w (schedule (relationOf R)) t .draws)) d (sym c))
     where
       count : drawCount (relationOf R) ≡ drawCount (sizesOf R)
@@ -131,9 +131,9 @@ module _ (R : Rules) (x w : List ℕ) (t : Transcript) where
   unfolding verifyVerdict
   answer-outer c n e f h =
       let a : c ≡ verdict rel (elements x) (elements w) drawn =
-          sym (verdict-blocks rel (elements x) (elements w) drawn ∙ rw (← e, ne-eqb c 0 h)) in
+      sym (verdict-blocks rel (elements x) (elements w) drawn ∙ rw (← e, ne-eqb c 0 h)) in
       let b : n ≡ stop rel (elements x) (elements w) drawn =
-          f ∙ sym (run-stop-blocks rel (elements x) (elements w) drawn 0 ∙ rw (← e, ne-eqb c 0 h)) in
+      f ∙ sym (run-stop-blocks rel (elements x) (elements w) drawn 0 ∙ rw (← e, ne-eqb c 0 h)) in
       (a, stopped n b)
 
   -- the outer checks pass, and some later one does not
@@ -142,10 +142,10 @@ module _ (R : Rules) (x w : List ℕ) (t : Transcript) where
   unfolding verifyVerdict
   answer-later c n z e f h =
       let a : c ≡ verdict rel (elements x) (elements w) drawn =
-          sym (verdict-blocks rel (elements x) (elements w) drawn ∙ rw (z, ← e)) in
+      sym (verdict-blocks rel (elements x) (elements w) drawn ∙ rw (z, ← e)) in
       let g = stop-any laterOf (length (schedule rel)) 0 (later-numbered rel (elements x) (elements w) (drawsOf rel drawn)) (λ k. h (e ∙ k)) in
       let b : n ≡ stop rel (elements x) (elements w) drawn =
-          f ∙ sym (run-stop-blocks rel (elements x) (elements w) drawn 0 ∙ rw z g) in
+      f ∙ sym (run-stop-blocks rel (elements x) (elements w) drawn 0 ∙ rw z g) in
       (a, stopped n b)
 
   -- every check passes
@@ -153,9 +153,11 @@ module _ (R : Rules) (x w : List ℕ) (t : Transcript) where
   unfolding verifyVerdict
   answer-none k z e h =
       let a : verdict rel (elements x) (elements w) drawn ≡ 0 = verdict-blocks rel (elements x) (elements w) drawn ∙ rw (z, e) in
-      let l : length (schedule (sizesOf R)) ≤ length (schedule rel) = rw (schedule-is R) (omega arith) in
-      (sym a, whole k h ∙ sym (whole (length (schedule rel)) l)
-      ∙ stopped (length (schedule rel)) (sym (stop-accepted rel (elements x) (elements w) drawn a)))
+      let l : length (schedule (sizesOf R)) ≤ length (schedule rel) = rw (schedule-is R) (omega arith) in (
+        sym a,
+        whole k h ∙ sym (whole (length (schedule rel)) l)
+            ∙ stopped (length (schedule rel)) (sym (stop-accepted rel (elements x) (elements w) drawn a)),
+      )
     where
       whole : (k : ℕ) → length (schedule (sizesOf R)) ≤ k → after k ≡ heard (elements w) (schedule rel) t .transcript
       whole k h = ap (λ (p : Played). p .transcript) (heard-all R (elements w) t k h)

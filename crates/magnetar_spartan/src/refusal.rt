@@ -141,17 +141,73 @@ pub(crate) fn rules(
 ) -> u32
     requires { ⌜ (Sized 2 65536 m) × (q ≤ 4096) ⌝ }
     ensures { λ r. ⌜ r ≡ noted 0 (ruleTests (rules m q (now (lens .entry))
-            (system (lent abrows abcols (now (abrow .entry)) (now (abcol .entry)) (now (ablo .entry)) (now (abhi .entry))) (lent bbrows bbcols (now (bbrow .entry)) (now (bbcol .entry)) (now (bblo .entry)) (now (bbhi .entry))) (lent cbrows cbcols (now (cbrow .entry)) (now (cbcol .entry)) (now (cblo .entry)) (now (cbhi .entry))))
-            (system (lent afrows afcols (now (afrow .entry)) (now (afcol .entry)) (now (aflo .entry)) (now (afhi .entry))) (lent bfrows bfcols (now (bfrow .entry)) (now (bfcol .entry)) (now (bflo .entry)) (now (bfhi .entry))) (lent cfrows cfcols (now (cfrow .entry)) (now (cfcol .entry)) (now (cflo .entry)) (now (cfhi .entry)))))) ⌝ }
+        (system (lent abrows abcols (now (abrow .entry)) (now (abcol .entry)) (now (ablo .entry)) (now (abhi .entry))) (lent bbrows bbcols (now (bbrow .entry)) (now (bbcol .entry)) (now (bblo .entry)) (now (bbhi .entry))) (lent cbrows cbcols (now (cbrow .entry)) (now (cbcol .entry)) (now (cblo .entry)) (now (cbhi .entry))))
+        (system (lent afrows afcols (now (afrow .entry)) (now (afcol .entry)) (now (aflo .entry)) (now (afhi .entry))) (lent bfrows bfcols (now (bfrow .entry)) (now (bfcol .entry)) (now (bflo .entry)) (now (bfhi .entry))) (lent cfrows cfcols (now (cfrow .entry)) (now (cfcol .entry)) (now (cflo .entry)) (now (cfhi .entry)))))) ⌝ }
 {
     let z = system_rows(0, q, abrows, bbrows, cbrows);
     let z = system_rows(z, q, afrows, bfrows, cfrows);
     let z = system_cols(z, m, abcols, bbcols, cbcols);
     let z = system_cols(z, m, afcols, bfcols, cfcols);
-    let z = system_counts(z, abrow.len(), abcol.len(), ablo.len(), abhi.len(), bbrow.len(), bbcol.len(), bblo.len(), bbhi.len(), cbrow.len(), cbcol.len(), cblo.len(), cbhi.len());
-    let z = system_counts(z, afrow.len(), afcol.len(), aflo.len(), afhi.len(), bfrow.len(), bfcol.len(), bflo.len(), bfhi.len(), cfrow.len(), cfcol.len(), cflo.len(), cfhi.len());
-    let z = system_places(z, abrows, abcols, abrow, abcol, bbrows, bbcols, bbrow, bbcol, cbrows, cbcols, cbrow, cbcol);
-    let z = system_places(z, afrows, afcols, afrow, afcol, bfrows, bfcols, bfrow, bfcol, cfrows, cfcols, cfrow, cfcol);
+    let z = system_counts(
+        z,
+        abrow.len(),
+        abcol.len(),
+        ablo.len(),
+        abhi.len(),
+        bbrow.len(),
+        bbcol.len(),
+        bblo.len(),
+        bbhi.len(),
+        cbrow.len(),
+        cbcol.len(),
+        cblo.len(),
+        cbhi.len(),
+    );
+    let z = system_counts(
+        z,
+        afrow.len(),
+        afcol.len(),
+        aflo.len(),
+        afhi.len(),
+        bfrow.len(),
+        bfcol.len(),
+        bflo.len(),
+        bfhi.len(),
+        cfrow.len(),
+        cfcol.len(),
+        cflo.len(),
+        cfhi.len(),
+    );
+    let z = system_places(
+        z,
+        abrows,
+        abcols,
+        abrow,
+        abcol,
+        bbrows,
+        bbcols,
+        bbrow,
+        bbcol,
+        cbrows,
+        cbcols,
+        cbrow,
+        cbcol,
+    );
+    let z = system_places(
+        z,
+        afrows,
+        afcols,
+        afrow,
+        afcol,
+        bfrows,
+        bfcols,
+        bfrow,
+        bfcol,
+        cfrows,
+        cfcols,
+        cfrow,
+        cfcol,
+    );
     if z != 0 {
         return z;
     }
@@ -321,9 +377,9 @@ pub(crate) fn verify(
     scratch: usize,
 ) -> u32
     ensures { λ r. ⌜ r ≡ noted 0 (verifyTests (rules m q (now (lens .entry))
-            (system (lent abrows abcols (now (abrow .entry)) (now (abcol .entry)) (now (ablo .entry)) (now (abhi .entry))) (lent bbrows bbcols (now (bbrow .entry)) (now (bbcol .entry)) (now (bblo .entry)) (now (bbhi .entry))) (lent cbrows cbcols (now (cbrow .entry)) (now (cbcol .entry)) (now (cblo .entry)) (now (cbhi .entry))))
-            (system (lent afrows afcols (now (afrow .entry)) (now (afcol .entry)) (now (aflo .entry)) (now (afhi .entry))) (lent bfrows bfcols (now (bfrow .entry)) (now (bfcol .entry)) (now (bflo .entry)) (now (bfhi .entry))) (lent cfrows cfcols (now (cfrow .entry)) (now (cfcol .entry)) (now (cflo .entry)) (now (cfhi .entry)))))
-            (now (x .entry)) (now (proof .entry)) n claims scratch) ⌝ }
+        (system (lent abrows abcols (now (abrow .entry)) (now (abcol .entry)) (now (ablo .entry)) (now (abhi .entry))) (lent bbrows bbcols (now (bbrow .entry)) (now (bbcol .entry)) (now (bblo .entry)) (now (bbhi .entry))) (lent cbrows cbcols (now (cbrow .entry)) (now (cbcol .entry)) (now (cblo .entry)) (now (cbhi .entry))))
+        (system (lent afrows afcols (now (afrow .entry)) (now (afcol .entry)) (now (aflo .entry)) (now (afhi .entry))) (lent bfrows bfcols (now (bfrow .entry)) (now (bfcol .entry)) (now (bflo .entry)) (now (bfhi .entry))) (lent cfrows cfcols (now (cfrow .entry)) (now (cfcol .entry)) (now (cflo .entry)) (now (cfhi .entry)))))
+        (now (x .entry)) (now (proof .entry)) n claims scratch) ⌝ }
 {
     let z = sizes(m, q);
     if z != 0 {
@@ -333,11 +389,61 @@ pub(crate) fn verify(
     if z != 0 {
         return z;
     }
-    let z = rules(m, q, lens, abrows, abcols, abrow, abcol, ablo, abhi, bbrows, bbcols, bbrow, bbcol, bblo, bbhi, cbrows, cbcols, cbrow, cbcol, cblo, cbhi, afrows, afcols, afrow, afcol, aflo, afhi, bfrows, bfcols, bfrow, bfcol, bflo, bfhi, cfrows, cfcols, cfrow, cfcol, cflo, cfhi);
+    let z = rules(
+        m,
+        q,
+        lens,
+        abrows,
+        abcols,
+        abrow,
+        abcol,
+        ablo,
+        abhi,
+        bbrows,
+        bbcols,
+        bbrow,
+        bbcol,
+        bblo,
+        bbhi,
+        cbrows,
+        cbcols,
+        cbrow,
+        cbcol,
+        cblo,
+        cbhi,
+        afrows,
+        afcols,
+        afrow,
+        afcol,
+        aflo,
+        afhi,
+        bfrows,
+        bfcols,
+        bfrow,
+        bfcol,
+        bflo,
+        bfhi,
+        cfrows,
+        cfcols,
+        cfrow,
+        cfcol,
+        cflo,
+        cfhi,
+    );
     if z != 0 {
         return z;
     }
-    verify_rooms(m, q, abrows, afrows, lens.len(), n, claims, scratch, proof.len())
+    verify_rooms(
+        m,
+        q,
+        abrows,
+        afrows,
+        lens.len(),
+        n,
+        claims,
+        scratch,
+        proof.len(),
+    )
 }
 
 // Every refusal of the prover; words, claims and scratch are numbers of words, n is the transcript's counter.
@@ -389,9 +495,9 @@ pub(crate) fn prove(
     scratch: usize,
 ) -> u32
     ensures { λ r. ⌜ r ≡ noted 0 (proveTests (rules m q (now (lens .entry))
-            (system (lent abrows abcols (now (abrow .entry)) (now (abcol .entry)) (now (ablo .entry)) (now (abhi .entry))) (lent bbrows bbcols (now (bbrow .entry)) (now (bbcol .entry)) (now (bblo .entry)) (now (bbhi .entry))) (lent cbrows cbcols (now (cbrow .entry)) (now (cbcol .entry)) (now (cblo .entry)) (now (cbhi .entry))))
-            (system (lent afrows afcols (now (afrow .entry)) (now (afcol .entry)) (now (aflo .entry)) (now (afhi .entry))) (lent bfrows bfcols (now (bfrow .entry)) (now (bfcol .entry)) (now (bflo .entry)) (now (bfhi .entry))) (lent cfrows cfcols (now (cfrow .entry)) (now (cfcol .entry)) (now (cflo .entry)) (now (cfhi .entry)))))
-            (now (packed .entry)) (now (x .entry)) n words claims scratch) ⌝ }
+        (system (lent abrows abcols (now (abrow .entry)) (now (abcol .entry)) (now (ablo .entry)) (now (abhi .entry))) (lent bbrows bbcols (now (bbrow .entry)) (now (bbcol .entry)) (now (bblo .entry)) (now (bbhi .entry))) (lent cbrows cbcols (now (cbrow .entry)) (now (cbcol .entry)) (now (cblo .entry)) (now (cbhi .entry))))
+        (system (lent afrows afcols (now (afrow .entry)) (now (afcol .entry)) (now (aflo .entry)) (now (afhi .entry))) (lent bfrows bfcols (now (bfrow .entry)) (now (bfcol .entry)) (now (bflo .entry)) (now (bfhi .entry))) (lent cfrows cfcols (now (cfrow .entry)) (now (cfcol .entry)) (now (cflo .entry)) (now (cfhi .entry)))))
+        (now (packed .entry)) (now (x .entry)) n words claims scratch) ⌝ }
 {
     let z = sizes(m, q);
     if z != 0 {
@@ -402,7 +508,47 @@ pub(crate) fn prove(
     if z != 0 {
         return z;
     }
-    let z = rules(m, q, lens, abrows, abcols, abrow, abcol, ablo, abhi, bbrows, bbcols, bbrow, bbcol, bblo, bbhi, cbrows, cbcols, cbrow, cbcol, cblo, cbhi, afrows, afcols, afrow, afcol, aflo, afhi, bfrows, bfcols, bfrow, bfcol, bflo, bfhi, cfrows, cfcols, cfrow, cfcol, cflo, cfhi);
+    let z = rules(
+        m,
+        q,
+        lens,
+        abrows,
+        abcols,
+        abrow,
+        abcol,
+        ablo,
+        abhi,
+        bbrows,
+        bbcols,
+        bbrow,
+        bbcol,
+        bblo,
+        bbhi,
+        cbrows,
+        cbcols,
+        cbrow,
+        cbcol,
+        cblo,
+        cbhi,
+        afrows,
+        afcols,
+        afrow,
+        afcol,
+        aflo,
+        afhi,
+        bfrows,
+        bfcols,
+        bfrow,
+        bfcol,
+        bflo,
+        bfhi,
+        cfrows,
+        cfcols,
+        cfrow,
+        cfcol,
+        cflo,
+        cfhi,
+    );
     if z != 0 {
         return z;
     }

@@ -91,15 +91,15 @@ fn combine(
     cfhi: &[u64],
 ) -> u32
     requires { ⌜ Ready (rules m q (now lens)
-            (system (lent abrows abcols (now abrow) (now abcol) (now ablo) (now abhi)) (lent bbrows bbcols (now bbrow) (now bbcol) (now bblo) (now bbhi)) (lent cbrows cbcols (now cbrow) (now cbcol) (now cblo) (now cbhi)))
-            (system (lent afrows afcols (now afrow) (now afcol) (now aflo) (now afhi)) (lent bfrows bfcols (now bfrow) (now bfcol) (now bflo) (now bfhi)) (lent cfrows cfcols (now cfrow) (now cfcol) (now cflo) (now cfhi)))) ⌝ }
+        (system (lent abrows abcols (now abrow) (now abcol) (now ablo) (now abhi)) (lent bbrows bbcols (now bbrow) (now bbcol) (now bblo) (now bbhi)) (lent cbrows cbcols (now cbrow) (now cbcol) (now cblo) (now cbhi)))
+        (system (lent afrows afcols (now afrow) (now afcol) (now aflo) (now afhi)) (lent bfrows bfcols (now bfrow) (now bfcol) (now bflo) (now bfhi)) (lent cfrows cfcols (now cfrow) (now cfcol) (now cflo) (now cfhi)))) ⌝ }
     requires { ⌜ (length (now draws) ≡ 2 * drawCount (outline m q abrows afrows (now lens))) × (2 * m + 2 * max abrows afrows ≤ length (now s)) ⌝ }
     ensures { λ _. ⌜ take m (elements (now (s .exit))) ≡ combined (relationOf (rules m q (now (lens .entry))
-            (system (lent abrows abcols (now (abrow .entry)) (now (abcol .entry)) (now (ablo .entry)) (now (abhi .entry))) (lent bbrows bbcols (now (bbrow .entry)) (now (bbcol .entry)) (now (bblo .entry)) (now (bbhi .entry))) (lent cbrows cbcols (now (cbrow .entry)) (now (cbcol .entry)) (now (cblo .entry)) (now (cbhi .entry))))
-            (system (lent afrows afcols (now (afrow .entry)) (now (afcol .entry)) (now (aflo .entry)) (now (afhi .entry))) (lent bfrows bfcols (now (bfrow .entry)) (now (bfcol .entry)) (now (bflo .entry)) (now (bfhi .entry))) (lent cfrows cfcols (now (cfrow .entry)) (now (cfcol .entry)) (now (cflo .entry)) (now (cfhi .entry))))))
-            (drawsOf (relationOf (rules m q (now (lens .entry))
-            (system (lent abrows abcols (now (abrow .entry)) (now (abcol .entry)) (now (ablo .entry)) (now (abhi .entry))) (lent bbrows bbcols (now (bbrow .entry)) (now (bbcol .entry)) (now (bblo .entry)) (now (bbhi .entry))) (lent cbrows cbcols (now (cbrow .entry)) (now (cbcol .entry)) (now (cblo .entry)) (now (cbhi .entry))))
-            (system (lent afrows afcols (now (afrow .entry)) (now (afcol .entry)) (now (aflo .entry)) (now (afhi .entry))) (lent bfrows bfcols (now (bfrow .entry)) (now (bfcol .entry)) (now (bflo .entry)) (now (bfhi .entry))) (lent cfrows cfcols (now (cfrow .entry)) (now (cfcol .entry)) (now (cflo .entry)) (now (cfhi .entry)))))) (elements (now (draws .entry)))) ⌝ }
+        (system (lent abrows abcols (now (abrow .entry)) (now (abcol .entry)) (now (ablo .entry)) (now (abhi .entry))) (lent bbrows bbcols (now (bbrow .entry)) (now (bbcol .entry)) (now (bblo .entry)) (now (bbhi .entry))) (lent cbrows cbcols (now (cbrow .entry)) (now (cbcol .entry)) (now (cblo .entry)) (now (cbhi .entry))))
+        (system (lent afrows afcols (now (afrow .entry)) (now (afcol .entry)) (now (aflo .entry)) (now (afhi .entry))) (lent bfrows bfcols (now (bfrow .entry)) (now (bfcol .entry)) (now (bflo .entry)) (now (bfhi .entry))) (lent cfrows cfcols (now (cfrow .entry)) (now (cfcol .entry)) (now (cflo .entry)) (now (cfhi .entry))))))
+        (drawsOf (relationOf (rules m q (now (lens .entry))
+        (system (lent abrows abcols (now (abrow .entry)) (now (abcol .entry)) (now (ablo .entry)) (now (abhi .entry))) (lent bbrows bbcols (now (bbrow .entry)) (now (bbcol .entry)) (now (bblo .entry)) (now (bbhi .entry))) (lent cbrows cbcols (now (cbrow .entry)) (now (cbcol .entry)) (now (cblo .entry)) (now (cbhi .entry))))
+        (system (lent afrows afcols (now (afrow .entry)) (now (afcol .entry)) (now (aflo .entry)) (now (afhi .entry))) (lent bfrows bfcols (now (bfrow .entry)) (now (bfcol .entry)) (now (bflo .entry)) (now (bfhi .entry))) (lent cfrows cfcols (now (cfrow .entry)) (now (cfcol .entry)) (now (cflo .entry)) (now (cfhi .entry)))))) (elements (now (draws .entry)))) ⌝ }
 {
     let l = refusal::log(q);
     let b = refusal::log(abrows);
@@ -110,11 +110,62 @@ fn combine(
     let alphas = part(draws, k, 12);
     let pb = part(draws, i, 2 * b);
     let pf = part(draws, j, 2 * f);
-    combo::combine_in(s, m, abrows, abcols, abrow, abcol, ablo, abhi, bbrows, bbcols, bbrow, bbcol, bblo, bbhi, cbrows, cbcols, cbrow, cbcol, cblo, cbhi, afrows, afcols, afrow, afcol, aflo, afhi, bfrows, bfcols, bfrow, bfcol, bflo, bfhi, cfrows, cfcols, cfrow, cfcol, cflo, cfhi, alphas, pb, pf)
+    combo::combine_in(
+        s,
+        m,
+        abrows,
+        abcols,
+        abrow,
+        abcol,
+        ablo,
+        abhi,
+        bbrows,
+        bbcols,
+        bbrow,
+        bbcol,
+        bblo,
+        bbhi,
+        cbrows,
+        cbcols,
+        cbrow,
+        cbcol,
+        cblo,
+        cbhi,
+        afrows,
+        afcols,
+        afrow,
+        afcol,
+        aflo,
+        afhi,
+        bfrows,
+        bfcols,
+        bfrow,
+        bfcol,
+        bflo,
+        bfhi,
+        cfrows,
+        cfcols,
+        cfrow,
+        cfcol,
+        cflo,
+        cfhi,
+        alphas,
+        pb,
+        pf,
+    )
 }
 
 // The answer of a run that a check stops: its transcript has played the events before that check.
-fn stopped(m: usize, q: usize, rb: usize, rf: usize, lens: &[usize], proof: &[u64], t: Transcript, found: Found) -> TranscriptAnswer
+fn stopped(
+    m: usize,
+    q: usize,
+    rb: usize,
+    rf: usize,
+    lens: &[usize],
+    proof: &[u64],
+    t: Transcript,
+    found: Found,
+) -> TranscriptAnswer
     ensures { λ r. ⌜ (r .code ≡ found .code) × (r .transcript ≡ heard (elements (now (proof .entry))) (take (found .events) (schedule (outline m q rb rf (now (lens .entry))))) t .transcript) ⌝ }
 {
     let mut none = [0u64; 2];
@@ -174,27 +225,69 @@ fn verify_in(
     t: Transcript,
 ) -> TranscriptAnswer
     requires { ⌜ Ready (rules m q (now lens)
-            (system (lent abrows abcols (now abrow) (now abcol) (now ablo) (now abhi)) (lent bbrows bbcols (now bbrow) (now bbcol) (now bblo) (now bbhi)) (lent cbrows cbcols (now cbrow) (now cbcol) (now cblo) (now cbhi)))
-            (system (lent afrows afcols (now afrow) (now afcol) (now aflo) (now afhi)) (lent bfrows bfcols (now bfrow) (now bfcol) (now bflo) (now bfhi)) (lent cfrows cfcols (now cfrow) (now cfcol) (now cflo) (now cfhi)))) ⌝ }
+        (system (lent abrows abcols (now abrow) (now abcol) (now ablo) (now abhi)) (lent bbrows bbcols (now bbrow) (now bbcol) (now bblo) (now bbhi)) (lent cbrows cbcols (now cbrow) (now cbcol) (now cblo) (now cbhi)))
+        (system (lent afrows afcols (now afrow) (now afcol) (now aflo) (now afhi)) (lent bfrows bfcols (now bfrow) (now bfcol) (now bflo) (now bfhi)) (lent cfrows cfcols (now cfrow) (now cfcol) (now cflo) (now cfhi)))) ⌝ }
     requires { ⌜ VerifyReady (rules m q (now lens)
-            (system (lent abrows abcols (now abrow) (now abcol) (now ablo) (now abhi)) (lent bbrows bbcols (now bbrow) (now bbcol) (now bblo) (now bbhi)) (lent cbrows cbcols (now cbrow) (now cbcol) (now cblo) (now cbhi)))
-            (system (lent afrows afcols (now afrow) (now afcol) (now aflo) (now afhi)) (lent bfrows bfcols (now bfrow) (now bfcol) (now bflo) (now bfhi)) (lent cfrows cfcols (now cfrow) (now cfcol) (now cflo) (now cfhi)))) (length (now x)) (length (now proof)) (length (now claims)) (length (now s)) (length (now draws)) ⌝ }
+        (system (lent abrows abcols (now abrow) (now abcol) (now ablo) (now abhi)) (lent bbrows bbcols (now bbrow) (now bbcol) (now bblo) (now bbhi)) (lent cbrows cbcols (now cbrow) (now cbcol) (now cblo) (now cbhi)))
+        (system (lent afrows afcols (now afrow) (now afcol) (now aflo) (now afhi)) (lent bfrows bfcols (now bfrow) (now bfcol) (now bflo) (now bfhi)) (lent cfrows cfcols (now cfrow) (now cfcol) (now cflo) (now cfhi)))) (length (now x)) (length (now proof)) (length (now claims)) (length (now s)) (length (now draws)) ⌝ }
     ensures { λ r. ⌜ (r .code ≡ verifyVerdict (rules m q (now (lens .entry))
-            (system (lent abrows abcols (now (abrow .entry)) (now (abcol .entry)) (now (ablo .entry)) (now (abhi .entry))) (lent bbrows bbcols (now (bbrow .entry)) (now (bbcol .entry)) (now (bblo .entry)) (now (bbhi .entry))) (lent cbrows cbcols (now (cbrow .entry)) (now (cbcol .entry)) (now (cblo .entry)) (now (cbhi .entry))))
-            (system (lent afrows afcols (now (afrow .entry)) (now (afcol .entry)) (now (aflo .entry)) (now (afhi .entry))) (lent bfrows bfcols (now (bfrow .entry)) (now (bfcol .entry)) (now (bflo .entry)) (now (bfhi .entry))) (lent cfrows cfcols (now (cfrow .entry)) (now (cfcol .entry)) (now (cflo .entry)) (now (cfhi .entry))))) (now (x .entry)) (now (proof .entry)) t)
-            × (r .transcript ≡ verifierTranscript (relationOf (rules m q (now (lens .entry))
-            (system (lent abrows abcols (now (abrow .entry)) (now (abcol .entry)) (now (ablo .entry)) (now (abhi .entry))) (lent bbrows bbcols (now (bbrow .entry)) (now (bbcol .entry)) (now (bblo .entry)) (now (bbhi .entry))) (lent cbrows cbcols (now (cbrow .entry)) (now (cbcol .entry)) (now (cblo .entry)) (now (cbhi .entry))))
-            (system (lent afrows afcols (now (afrow .entry)) (now (afcol .entry)) (now (aflo .entry)) (now (afhi .entry))) (lent bfrows bfcols (now (bfrow .entry)) (now (bfcol .entry)) (now (bflo .entry)) (now (bfhi .entry))) (lent cfrows cfcols (now (cfrow .entry)) (now (cfcol .entry)) (now (cflo .entry)) (now (cfhi .entry)))))) (elements (now (x .entry))) (elements (now (proof .entry))) t)
-            × (now (claims .exit) ≡ verifyClaims (rules m q (now (lens .entry))
-            (system (lent abrows abcols (now (abrow .entry)) (now (abcol .entry)) (now (ablo .entry)) (now (abhi .entry))) (lent bbrows bbcols (now (bbrow .entry)) (now (bbcol .entry)) (now (bblo .entry)) (now (bbhi .entry))) (lent cbrows cbcols (now (cbrow .entry)) (now (cbcol .entry)) (now (cblo .entry)) (now (cbhi .entry))))
-            (system (lent afrows afcols (now (afrow .entry)) (now (afcol .entry)) (now (aflo .entry)) (now (afhi .entry))) (lent bfrows bfcols (now (bfrow .entry)) (now (bfcol .entry)) (now (bflo .entry)) (now (bfhi .entry))) (lent cfrows cfcols (now (cfrow .entry)) (now (cfcol .entry)) (now (cflo .entry)) (now (cfhi .entry))))) (now (x .entry)) (now (proof .entry)) t (now (claims .entry))) ⌝ }
+        (system (lent abrows abcols (now (abrow .entry)) (now (abcol .entry)) (now (ablo .entry)) (now (abhi .entry))) (lent bbrows bbcols (now (bbrow .entry)) (now (bbcol .entry)) (now (bblo .entry)) (now (bbhi .entry))) (lent cbrows cbcols (now (cbrow .entry)) (now (cbcol .entry)) (now (cblo .entry)) (now (cbhi .entry))))
+        (system (lent afrows afcols (now (afrow .entry)) (now (afcol .entry)) (now (aflo .entry)) (now (afhi .entry))) (lent bfrows bfcols (now (bfrow .entry)) (now (bfcol .entry)) (now (bflo .entry)) (now (bfhi .entry))) (lent cfrows cfcols (now (cfrow .entry)) (now (cfcol .entry)) (now (cflo .entry)) (now (cfhi .entry))))) (now (x .entry)) (now (proof .entry)) t)
+        × (r .transcript ≡ verifierTranscript (relationOf (rules m q (now (lens .entry))
+        (system (lent abrows abcols (now (abrow .entry)) (now (abcol .entry)) (now (ablo .entry)) (now (abhi .entry))) (lent bbrows bbcols (now (bbrow .entry)) (now (bbcol .entry)) (now (bblo .entry)) (now (bbhi .entry))) (lent cbrows cbcols (now (cbrow .entry)) (now (cbcol .entry)) (now (cblo .entry)) (now (cbhi .entry))))
+        (system (lent afrows afcols (now (afrow .entry)) (now (afcol .entry)) (now (aflo .entry)) (now (afhi .entry))) (lent bfrows bfcols (now (bfrow .entry)) (now (bfcol .entry)) (now (bflo .entry)) (now (bfhi .entry))) (lent cfrows cfcols (now (cfrow .entry)) (now (cfcol .entry)) (now (cflo .entry)) (now (cfhi .entry)))))) (elements (now (x .entry))) (elements (now (proof .entry))) t)
+        × (now (claims .exit) ≡ verifyClaims (rules m q (now (lens .entry))
+        (system (lent abrows abcols (now (abrow .entry)) (now (abcol .entry)) (now (ablo .entry)) (now (abhi .entry))) (lent bbrows bbcols (now (bbrow .entry)) (now (bbcol .entry)) (now (bblo .entry)) (now (bbhi .entry))) (lent cbrows cbcols (now (cbrow .entry)) (now (cbcol .entry)) (now (cblo .entry)) (now (cbhi .entry))))
+        (system (lent afrows afcols (now (afrow .entry)) (now (afcol .entry)) (now (aflo .entry)) (now (afhi .entry))) (lent bfrows bfcols (now (bfrow .entry)) (now (bfcol .entry)) (now (bflo .entry)) (now (bfhi .entry))) (lent cfrows cfcols (now (cfrow .entry)) (now (cfcol .entry)) (now (cflo .entry)) (now (cfhi .entry))))) (now (x .entry)) (now (proof .entry)) t (now (claims .entry))) ⌝ }
 {
     let end = play::play(m, q, abrows, afrows, lens, proof, draws, t, 65536);
     let first = outer::outer_checks(m, q, abrows, afrows, lens, proof, draws);
     if first.code != 0 {
         return stopped(m, q, abrows, afrows, lens, proof, t, first);
     }
-    combine(s, draws, m, q, lens, abrows, abcols, abrow, abcol, ablo, abhi, bbrows, bbcols, bbrow, bbcol, bblo, bbhi, cbrows, cbcols, cbrow, cbcol, cblo, cbhi, afrows, afcols, afrow, afcol, aflo, afhi, bfrows, bfcols, bfrow, bfcol, bflo, bfhi, cfrows, cfcols, cfrow, cfcol, cflo, cfhi);
+    combine(
+        s,
+        draws,
+        m,
+        q,
+        lens,
+        abrows,
+        abcols,
+        abrow,
+        abcol,
+        ablo,
+        abhi,
+        bbrows,
+        bbcols,
+        bbrow,
+        bbcol,
+        bblo,
+        bbhi,
+        cbrows,
+        cbcols,
+        cbrow,
+        cbcol,
+        cblo,
+        cbhi,
+        afrows,
+        afcols,
+        afrow,
+        afcol,
+        aflo,
+        afhi,
+        bfrows,
+        bfcols,
+        bfrow,
+        bfcol,
+        bflo,
+        bfhi,
+        cfrows,
+        cfcols,
+        cfrow,
+        cfcol,
+        cflo,
+        cfhi,
+    );
     let last = end::end_checks(m, q, abrows, afrows, lens, x, proof, draws, s);
     if last.code != 0 {
         return stopped(m, q, abrows, afrows, lens, proof, t, last);
@@ -256,11 +349,56 @@ pub fn verify_virtual_spartan(
     t: Transcript,
 ) -> TranscriptAnswer
     ensures { λ r. ⌜ verified r (now (claims .exit)) (now (scratch .exit)) ≡ verifyOutcome (rules m q (now (lens .entry))
-            (system (lent abrows abcols (now (abrow .entry)) (now (abcol .entry)) (now (ablo .entry)) (now (abhi .entry))) (lent bbrows bbcols (now (bbrow .entry)) (now (bbcol .entry)) (now (bblo .entry)) (now (bbhi .entry))) (lent cbrows cbcols (now (cbrow .entry)) (now (cbcol .entry)) (now (cblo .entry)) (now (cbhi .entry))))
-            (system (lent afrows afcols (now (afrow .entry)) (now (afcol .entry)) (now (aflo .entry)) (now (afhi .entry))) (lent bfrows bfcols (now (bfrow .entry)) (now (bfcol .entry)) (now (bflo .entry)) (now (bfhi .entry))) (lent cfrows cfcols (now (cfrow .entry)) (now (cfcol .entry)) (now (cflo .entry)) (now (cfhi .entry)))))
-            (now (x .entry)) (now (proof .entry)) t (now (claims .entry)) (now (scratch .entry)) ⌝ }
+        (system (lent abrows abcols (now (abrow .entry)) (now (abcol .entry)) (now (ablo .entry)) (now (abhi .entry))) (lent bbrows bbcols (now (bbrow .entry)) (now (bbcol .entry)) (now (bblo .entry)) (now (bbhi .entry))) (lent cbrows cbcols (now (cbrow .entry)) (now (cbcol .entry)) (now (cblo .entry)) (now (cbhi .entry))))
+        (system (lent afrows afcols (now (afrow .entry)) (now (afcol .entry)) (now (aflo .entry)) (now (afhi .entry))) (lent bfrows bfcols (now (bfrow .entry)) (now (bfcol .entry)) (now (bflo .entry)) (now (bfhi .entry))) (lent cfrows cfcols (now (cfrow .entry)) (now (cfcol .entry)) (now (cflo .entry)) (now (cfhi .entry)))))
+        (now (x .entry)) (now (proof .entry)) t (now (claims .entry)) (now (scratch .entry)) ⌝ }
 {
-    let z = refusal::verify(m, q, lens, abrows, abcols, abrow, abcol, ablo, abhi, bbrows, bbcols, bbrow, bbcol, bblo, bbhi, cbrows, cbcols, cbrow, cbcol, cblo, cbhi, afrows, afcols, afrow, afcol, aflo, afhi, bfrows, bfcols, bfrow, bfcol, bflo, bfhi, cfrows, cfcols, cfrow, cfcol, cflo, cfhi, x, proof, t.squeeze_ctr, claims.len(), scratch.len());
+    let z = refusal::verify(
+        m,
+        q,
+        lens,
+        abrows,
+        abcols,
+        abrow,
+        abcol,
+        ablo,
+        abhi,
+        bbrows,
+        bbcols,
+        bbrow,
+        bbcol,
+        bblo,
+        bbhi,
+        cbrows,
+        cbcols,
+        cbrow,
+        cbcol,
+        cblo,
+        cbhi,
+        afrows,
+        afcols,
+        afrow,
+        afcol,
+        aflo,
+        afhi,
+        bfrows,
+        bfcols,
+        bfrow,
+        bfcol,
+        bflo,
+        bfhi,
+        cfrows,
+        cfcols,
+        cfrow,
+        cfcol,
+        cflo,
+        cfhi,
+        x,
+        proof,
+        t.squeeze_ctr,
+        claims.len(),
+        scratch.len(),
+    );
     if z != 0 {
         return TranscriptAnswer {
             code: z,
@@ -271,7 +409,53 @@ pub fn verify_virtual_spartan(
     let n = refusal::verifier_room(m, abrows, afrows);
     let d = draw_words(m, q, abrows, afrows);
     let mut draws = [0u64; 256];
-    let a = verify_in(&mut claims[..k], &mut scratch[..n], &mut draws[..d], m, q, lens, abrows, abcols, abrow, abcol, ablo, abhi, bbrows, bbcols, bbrow, bbcol, bblo, bbhi, cbrows, cbcols, cbrow, cbcol, cblo, cbhi, afrows, afcols, afrow, afcol, aflo, afhi, bfrows, bfcols, bfrow, bfcol, bflo, bfhi, cfrows, cfcols, cfrow, cfcol, cflo, cfhi, x, proof, t);
+    let a = verify_in(
+        &mut claims[..k],
+        &mut scratch[..n],
+        &mut draws[..d],
+        m,
+        q,
+        lens,
+        abrows,
+        abcols,
+        abrow,
+        abcol,
+        ablo,
+        abhi,
+        bbrows,
+        bbcols,
+        bbrow,
+        bbcol,
+        bblo,
+        bbhi,
+        cbrows,
+        cbcols,
+        cbrow,
+        cbcol,
+        cblo,
+        cbhi,
+        afrows,
+        afcols,
+        afrow,
+        afcol,
+        aflo,
+        afhi,
+        bfrows,
+        bfcols,
+        bfrow,
+        bfcol,
+        bflo,
+        bfhi,
+        cfrows,
+        cfcols,
+        cfrow,
+        cfcol,
+        cflo,
+        cfhi,
+        x,
+        proof,
+        t,
+    );
     words::clear(&mut scratch[..n]);
     a
 }

@@ -41,8 +41,7 @@ loop-again : tie.Need-loop-again Inv-loop μ-loop
 loop-again c =
     let p = c .before .before in
     let l = p .before .before .before .before .loop in
-    let x = p .before .before .before .before .before .before .before .before .args in
-    (
+    let x = p .before .before .before .before .before .before .before .before .args in (
       search needs,
       search needs,
       rw (ap elements (p .put .ensures) ∙ elements-stored (l .out) (l .i) (value (p .before .claim .result)))

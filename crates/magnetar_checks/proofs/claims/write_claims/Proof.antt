@@ -30,13 +30,12 @@ less-one-requires : tie.Need-less-one-requires
 less-one-requires c κs = search needs
 
 claims-refusal-requires : tie.Need-claims-refusal-requires
-claims-refusal-requires c κs = 
+claims-refusal-requires c κs =
     let k = c .before in
     let f = k .before in
     let b = f .before in
     let a = b .before in
-    let x = a .before .before .before .before .before .args in
-    (
+    let x = a .before .before .before .before .before .args in (
       log-small (x .q) (a .log2 .result) (a .log2 .ensures) (search needs),
       log-small (x .rb) (b .log22 .result) (b .log22 .ensures) (search needs),
       log-small (x .rf) (f .log23 .result) (f .log23 .ensures) (search needs),
@@ -75,7 +74,7 @@ given c =
     (f .log23 .ensures) (k .log24 .ensures) (n .less-one .ensures) (z .claims-refusal .ensures) (c .if1 .left)
 
 claim-words-requires : tie.Need-claim-words-requires
-claim-words-requires c κs = 
+claim-words-requires c κs =
     let n = c .before .before in
     let r = claims-refusal-requires n tt in
     (r .0, omega (arith, r .3, r .4), given c .few)
@@ -87,11 +86,10 @@ slice-aggregate-write-in : tie.Need-slice-aggregate-write-in
 slice-aggregate-write-in c = rw length-take (omega (arith, given (c .before .before) .room, c .before .claim-words .ensures, c .before .before .before .before .less-one .ensures))
 
 write-in-requires : tie.Need-write-in-requires
-write-in-requires c κs = 
+write-in-requires c κs =
     let e = c .before .before in
     let n = e .before .before in
-    let r = claims-refusal-requires n tt in
-    (
+    let r = claims-refusal-requires n tt in (
       r .0,
       r .1,
       r .2,
@@ -119,9 +117,9 @@ returns-2 c =
     let need = w .claim-words .result in
     let front = t .write-in .last .0 in
     let size : length front ≡ need = t .write-in .kept .0
-        ∙ length-take-le need (now (x .claims)) (omega (arith, given e .room, w .claim-words .ensures, n .less-one .ensures)) in
+    ∙ length-take-le need (now (x .claims)) (omega (arith, given e .room, w .claim-words .ensures, n .less-one .ensures)) in
     let whole : words (elements front) ≡ front = words-elements front (drop need (now (x .claims))) (omega (arith, size, w .claim-words .ensures))
-        (λ i. omega (arith, c .slice-known2 .given i)) in
+    (λ i. omega (arith, c .slice-known2 .given i)) in
     let r = claims-written (x .m) (x .q) (x .rb) (x .rf) (now (x .lens)) (now (x .proof)) (now (x .draws)) (now (x .claims)) (a .log2 .result) (b .log22 .result)
     (f .log23 .result) (k .log24 .result) (n .less-one .result) (z .claims-refusal .result) (a .log2 .ensures) (b .log22 .ensures)
     (f .log23 .ensures) (k .log24 .ensures) (n .less-one .ensures) (z .claims-refusal .ensures) (e .if1 .left) front whole (t .write-in .ensures) in

@@ -24,12 +24,11 @@ log2-requires-4 : tie.Need-log2-requires-4
 log2-requires-4 c κs = search needs
 
 end-refusal-requires : tie.Need-end-refusal-requires
-end-refusal-requires c κs = 
+end-refusal-requires c κs =
     let f = c .before in
     let b = f .before in
     let a = b .before in
-    let x = a .before .before .before .before .before .before .args in
-    (
+    let x = a .before .before .before .before .before .before .args in (
       log-small (x .q) (a .log2 .result) (a .log2 .ensures) (search needs),
       log-small (x .rb) (b .log22 .result) (b .log22 .ensures) (search needs),
       log-small (x .rf) (f .log23 .result) (f .log23 .ensures) (search needs),
@@ -71,17 +70,19 @@ slice-aggregate-end-phases : tie.Need-slice-aggregate-end-phases
 slice-aggregate-end-phases c = rw length-take (omega (arith, enough (c .before)))
 
 end-phases-requires : tie.Need-end-phases-requires
-end-phases-requires c κs = 
+end-phases-requires c κs =
     let z = c .before .before in
     let k = z .before in
     let f = k .before in
     let b = f .before in
     let a = b .before in
     let x = a .before .before .before .before .before .before .args in
-    let r = end-refusal-requires k (κs .0, tt) in
-    (end-fits (x .m) (x .q) (x .rb) (x .rf) (now (x .lens)) (now (x .x)) (now (x .proof)) (now (x .draws)) (now (x .s)) (a .log2 .result) (b .log22 .result)
-    (f .log23 .result) (k .log24 .result) (z .end-refusal .result) (a .log2 .ensures) (b .log22 .ensures) (f .log23 .ensures) (k .log24 .ensures)
-    (z .end-refusal .ensures) (c .before .if1 .left) (r .0) (r .1) (r .2), rw length-take (omega (arith, enough (c .before))))
+    let r = end-refusal-requires k (κs .0, tt) in (
+      end-fits (x .m) (x .q) (x .rb) (x .rf) (now (x .lens)) (now (x .x)) (now (x .proof)) (now (x .draws)) (now (x .s)) (a .log2 .result) (b .log22 .result)
+          (f .log23 .result) (k .log24 .result) (z .end-refusal .result) (a .log2 .ensures) (b .log22 .ensures) (f .log23 .ensures) (k .log24 .ensures)
+          (z .end-refusal .ensures) (c .before .if1 .left) (r .0) (r .1) (r .2),
+      rw length-take (omega (arith, enough (c .before))),
+    )
 
 same-length : tie.Need-same-length
 same-length c = search needs

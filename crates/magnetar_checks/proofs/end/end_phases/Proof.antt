@@ -99,7 +99,7 @@ add-events-8 : tie.Need-add-events-8
 add-events-8 c = search needs
 
 inner-rounds-requires : tie.Need-inner-rounds-requires
-inner-rounds-requires c κs = 
+inner-rounds-requires c κs =
     let b = c .before .before .before .before .before in
     let g = b .pre .0 in
     let k = sizes b in
@@ -109,7 +109,7 @@ piece-requires : tie.Need-piece-requires
 piece-requires c κs = search needs
 
 table-value-requires : tie.Need-table-value-requires
-table-value-requires c κs = 
+table-value-requires c κs =
     let b = c .before .before .before .before .before .before .before .before in
     let g = b .pre .0 in
     (g .columns, (b .pre .1, c .piece .ensures .1 ∙ rw (g .cols)))
@@ -121,7 +121,7 @@ piece-requires-2 : tie.Need-piece-requires-2
 piece-requires-2 c κs = search needs
 
 public-value-requires : tie.Need-public-value-requires
-public-value-requires c κs = 
+public-value-requires c κs =
     let b = c .before .before .before .before .before .before .before .before .before .before .before .before .before in
     let g = b .pre .0 in
     (g .columns, (omega arith, g .public, c .piece2 .ensures .1 ∙ rw (g .cols)))
@@ -139,7 +139,7 @@ note-requires : tie.Need-note-requires
 note-requires c κs = search needs
 
 identity-holds-requires : tie.Need-identity-holds-requires
-identity-holds-requires c κs = 
+identity-holds-requires c κs =
     let g = c .before .before .before .before .before .before .before .before .before .before .before .before .before .before .before .before .before .before .before .before .before .before .before .pre .0 in
     record {
       columns = g .columns;
@@ -175,17 +175,16 @@ returns c =
     let t = p .before .before .before .before .before in
     let r = t .before .before .before in
     let x = r .before .before .before .before .before .before .args in
-    let q = r .inner-rounds .ensures in
-    (
+    let q = r .inner-rounds .ensures in (
       end-done (x .s) (x .b) (x .f) (x .c) (now (x .lens)) (elements (now (x .x))) (elements (now (x .proof))) (elements (now (x .draws)))
-      (take (x .m) (elements (now (x .room)))) (r .inner-rounds .result .found) (n .note .result) (c .note2 .result)
-      (value (r .inner-rounds .result .claim)) (value (t .table-value .result)) (value (p .public-value .result)) (y .inner-finish .result)
-      (c .before .identity-holds .result) (q .0) (q .1) (t .table-value .ensures ∙ rw (t .before .piece .ensures .0))
-      (p .public-value .ensures ∙ rw (p .before .piece2 .ensures .0)) (y .inner-finish .ensures ∙ rw (y .before .get .ensures))
-      (c .before .identity-holds .ensures) (n .note .ensures) (c .note2 .ensures),
+          (take (x .m) (elements (now (x .room)))) (r .inner-rounds .result .found) (n .note .result) (c .note2 .result)
+          (value (r .inner-rounds .result .claim)) (value (t .table-value .result)) (value (p .public-value .result)) (y .inner-finish .result)
+          (c .before .identity-holds .result) (q .0) (q .1) (t .table-value .ensures ∙ rw (t .before .piece .ensures .0))
+          (p .public-value .ensures ∙ rw (p .before .piece2 .ensures .0)) (y .inner-finish .ensures ∙ rw (y .before .get .ensures))
+          (c .before .identity-holds .ensures) (n .note .ensures) (c .note2 .ensures),
       v .clear .ensures
-      ∙ ap (λ (k : ℕ). replicate k 0)
-      (p .public-value .kept .0 ∙ t .table-value .kept .0 ∙ r .before .before .before .before .before .before .pre .1),
+          ∙ ap (λ (k : ℕ). replicate k 0)
+          (p .public-value .kept .0 ∙ t .table-value .kept .0 ∙ r .before .before .before .before .before .before .pre .1),
     )
 
 pub end-phases-spec : {M : Type 1} → statement M

@@ -54,7 +54,7 @@ note-requires-2 : tie.Need-note-requires-2
 note-requires-2 c κs = search needs
 
 proof-words-requires : tie.Need-proof-words-requires
-proof-words-requires c κs = 
+proof-words-requires c κs =
     let e = c .before .before .before in
     let x = e .before .before .before .before .before .before .args in
     let p = e .before .before .before .before .before .before .pre in

@@ -72,7 +72,7 @@ piece-requires-2 : tie.Need-piece-requires-2
 piece-requires-2 c κs = search needs
 
 segment-sum-requires : tie.Need-segment-sum-requires
-segment-sum-requires c κs = 
+segment-sum-requires c κs =
     let b = c .before .before .before .before .before in
     (b .pre .layout, (c .before .piece .ensures .1 ∙ rw (sizes b .half), c .piece2 .ensures .1))
 

@@ -26,8 +26,7 @@ outer-refusal-requires c κs =
     let f = c .before in
     let b = f .before in
     let s = b .before in
-    let x = s .before .before .before .before .args in
-    (
+    let x = s .before .before .before .before .args in (
       log-small (x .q) (s .log2 .result) (s .log2 .ensures) (search needs),
       log-small (x .rb) (b .log22 .result) (b .log22 .ensures) (search needs),
       log-small (x .rf) (f .log23 .result) (f .log23 .ensures) (search needs),
@@ -55,7 +54,7 @@ outer-phases-requires c κs =
     let s = b .before in
     let x = s .before .before .before .before .args in
     let g = given (s .log2 .result) (b .log22 .result) (f .log23 .result) (k .log24 .result) (length (now (x .lens))) (length (now (x .proof)))
-        (length (now (x .draws))) (z .outer-refusal .result) (z .outer-refusal .ensures) (c .if1 .left) in
+    (length (now (x .draws))) (z .outer-refusal .result) (z .outer-refusal .ensures) (c .if1 .left) in
     let r = outer-refusal-requires k tt in
     (omega (arith, r .0), omega (arith, r .1), omega (arith, r .2), omega (arith, g .exact), omega (arith, g .drawn))
 

@@ -48,8 +48,7 @@ returns c =
     let one = two .before .before in
     let x = one .before .before .before .before .before .args in
     let p = one .before .piece .ensures .0 in
-    let q = two .before .piece2 .ensures .0 in
-    (
+    let q = two .before .piece2 .ensures .0 in (
       two .round2 .ensures .0 ∙ rw (one .round .ensures .0, p, q, add-one (x .j)),
       (one .round .ensures .1 ∙ rw (p, one .before .before .get .ensures), two .round2 .ensures .1 ∙ rw (q, one .before .before .get .ensures)),
     )

@@ -92,8 +92,7 @@ returns-2 c = let x = c .before .before .before .before .before .before .before 
     let q = c .before .before .before .before .before .before .run .ensures .0 ∙ entered (x .m) (x .m / 2) (x .q) (x .rb) (x .rf) (c .before .before .before .before .before .before .before .before .before .before .log2 .result) (now (x .lens)) (now (x .x)) (now (x .s)) (x .t) k refl (r .double) (r .locals) in
     let a : length (c .before .before .before .before .before .before .run .last .1 .1 .1 .1 .0) ≡ (2 * (3 * c .before .before .before .before .before .before .before .before .before .before .log2 .result + 1 + length (now (x .lens)))) = c .before .before .before .before .before .before .run .kept .1 .1 .1 .1 .0 ∙ length-take-le _ _ (omega (arith, k, f .said)) in
     let d : length (c .before .before .before .before .before .before .run .last .1 .1 .1 .1 .1 .0) ≡ 2 * c .before .before .before .before .before .before .before .before .before .before .log2 .result = c .before .before .before .before .before .before .run .kept .1 .1 .1 .1 .1 .0 ∙ length-take-le _ _ (omega (arith, k, f .drawn)) in
-    let l : length (take (6 * x .m) (now (x .s))) ≡ 6 * x .m = length-take-le _ _ (f .scratch) in
-    (
+    let l : length (take (6 * x .m) (now (x .s))) ≡ 6 * x .m = length-take-le _ _ (f .scratch) in (
       ap₂ (λ (n : ℕ) (u : Transcript). record { code = n; transcript = u }) e (ap (λ (p : Steps). p .played .transcript) q ∙ done _ (x .t) e refl),
       (
         laid-over (c .before .before .before .before .before .before .run .last .1 .1 .1 .1 .0) (now (x .proof)) (2 * (3 * c .before .before .before .before .before .before .before .before .before .before .log2 .result + 1 + length (now (x .lens)))) (3 * c .before .before .before .before .before .before .before .before .before .before .log2 .result + 1 + length (now (x .lens))) refl a (omega (arith, k, f .said)) (λ i. omega (arith, c .before .before .before .before .slice-known4 .given i)) ∙ (ap (λ (p : Steps). overlaid (words (p .said)) (now (x .proof))) q ∙ done _ (now (x .proof)) e refl),

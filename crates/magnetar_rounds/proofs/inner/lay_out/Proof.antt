@@ -67,8 +67,7 @@ returns c = let s = c .before .before .before .before .before .before .before .b
     let l : length (now (x .x)) + 2 ≡ 2 * x .w = s .pre .3 in
     let e = c .before .before .before .before .before .before .copy-down .ensures in
     let f = c .before .before .put-public .ensures in
-    let k : length (c .before .before .put-public .last .1 .0) ≡ 2 * x .w = c .before .before .put-public .kept .1 .0 ∙ part-length _ (6 * x .w) (8 * x .w) (omega arith) ∙ omega arith in
-    (
+    let k : length (c .before .before .put-public .last .1 .0) ≡ 2 * x .w = c .before .before .put-public .kept .1 .0 ∙ part-length _ (6 * x .w) (8 * x .w) (omega arith) ∙ omega arith in (
       laid-table (x .w) (now (x .s)) (c .before .before .before .before .before .before .copy-down .last .1 .0) (c .before .before .put-public .last .1 .0) (elements (now (x .x))) h e k f,
       (
         laid-z (x .w) (now (x .s)) (c .before .before .before .before .before .before .copy-down .last .1 .0) (c .before .before .put-public .last .1 .0) (elements (now (x .x))) h e k f,

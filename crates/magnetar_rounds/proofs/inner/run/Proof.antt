@@ -104,10 +104,9 @@ returns c = let x = c .before .before .before .before .before .before .before .b
     let k : length (c .before .before .before .before .before .before .before .before .say-segments .last .1 .1 .1 .1 .1 .0) ≡ 12 * x .w - 8 * x .w = c .before .before .before .before .before .before .before .before .say-segments .kept .1 .1 .1 .1 .1 .0 ∙ part-length _ (8 * x .w) (12 * x .w) (omega (arith, g)) in
     let e = put-length (c .before .before .before .before .before .before .before .before .before .before .before .before .before .before .before .before .before .before .before .before .before .before .before .rounds .last .1 .1 .1 .1 .0 ++ drop (8 * x .w) (c .before .before .before .before .before .before .before .before .before .before .before .before .before .before .before .before .before .before .before .before .before .before .before .before .before .before .before .before .before .lay-out .last .1 .1 .0)) (c .before .before .before .before .before .before .before .before .say-segments .last .1 .1 .1 .1 .1 .0) (8 * x .w) (12 * x .w) (omega arith) (omega (arith, g)) k ∙ (g ∙ sym (p .0 .0)) in
     let a = c .before .before .before .before .before .before .before .before .before .before .before .before .before .before .before .before .before .before .before .before .before .before .before .before .before .before .before .before .before .lay-out in
-    let b = c .before .before .before .before .before .before .before .before .before .before .before .before .before .before .before .before .before .before .before .before .before .before .before .rounds in
-    (
+    let b = c .before .before .before .before .before .before .before .before .before .before .before .before .before .before .before .before .before .before .before .before .before .before .before .rounds in (
       whole-is (x .k) (x .w) (now (x .lens)) (elements (now (x .x))) (now (x .s)) (a .last .1 .1 .0) (b .last .1 .1 .1 .1 .0) (now (x .proof)) (b .last .1 .1 .0) (c .before .before .before .before .before .before .before .before .before .before .before .before .before .before .say-z .last .1 .1 .0) (c .before .before .before .before .before .before .before .before .say-segments .last .1 .1 .1 .0) (now (x .draws)) (b .last .1 .1 .1 .0) (x .t) (b .result) (c .before .before .before .before .before .before .before .before .before .before .before .before .before .before .say-z .result) (c .before .before .before .before .before .before .before .before .say-segments .result) l (p .0 .1) f d
-      (a .ensures .0) (a .ensures .1 .0) (a .ensures .1 .1) (b .ensures) (c .before .before .before .before .before .before .before .before .before .before .before .before .before .before .say-z .ensures .0) (c .before .before .before .before .before .before .before .before .before .before .before .before .before .before .say-z .ensures .1) (c .before .before .before .before .before .before .before .before .say-segments .ensures),
+          (a .ensures .0) (a .ensures .1 .0) (a .ensures .1 .1) (b .ensures) (c .before .before .before .before .before .before .before .before .before .before .before .before .before .before .say-z .ensures .0) (c .before .before .before .before .before .before .before .before .before .before .before .before .before .before .say-z .ensures .1) (c .before .before .before .before .before .before .before .before .say-segments .ensures),
       c .before .before .clear .ensures ∙ ap (λ (n : ℕ). replicate n 0) e,
     )
 

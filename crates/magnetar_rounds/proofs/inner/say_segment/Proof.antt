@@ -50,8 +50,7 @@ same-length-2 c = search needs
 
 returns : tie.Need-returns
 returns c = let x = c .before .before .before .before .before .before .before .before .before .before .before .before .before .before .before .args in
-    let v = c .before .before .before .before .before .before .before .before .before .segment-value .ensures .0 in
-    (
+    let v = c .before .before .before .before .before .before .before .before .before .segment-value .ensures .0 in (
       one-heard (numbered "vs-seg-" (x .i)) (x .t) (c .segment .result) (now (x .proof)) (c .before .before .before .before .before .put .last .0) (x .p) (value (c .before .before .before .before .before .before .before .before .before .segment-value .result)) (c .before .before .before .before .before .put .ensures) (omega arith) (c .segment .ensures) ∙ ap (heardOne (x .t) (numbered "vs-seg-" (x .i))) v,
       (
         drawn-more (now (x .proof)) (c .before .before .before .before .before .put .last .0) (x .p) (value (c .before .before .before .before .before .before .before .before .before .segment-value .result)) (c .before .before .before .before .before .put .ensures) (omega arith) ∙ ap (λ (e : ℕ). take (x .p) (elements (now (x .proof))) ++ (e ∷ [])) v,

@@ -40,15 +40,14 @@ loop-again : tie.Need-loop-again Inv-loop μ-loop
 loop-again c = let l = c .before .before .before .before .before .before .before .before .loop in
     let x = c .before .before .before .before .before .before .before .before .before .before .before .before .before .args in
     let e = c .before .before .before .before .say-segment .ensures in
-    let f = ap (λ (g : List ℕ). segmentIn (now (x .lens)) g (elements (now (x .draws))) (l .i)) (l .inv .3) in
-    (
+    let f = ap (λ (g : List ℕ). segmentIn (now (x .lens)) g (elements (now (x .draws))) (l .i)) (l .inv .3) in (
       search needs,
       search needs,
       search needs,
       e .1 .1 ∙ l .inv .3,
       each-more "vs-seg-" (segmentIn (now (x .lens)) (tableAt 0 (2 * x .w) (now (x .s))) (elements (now (x .draws)))) (length (now (x .lens))) (l .i) (x .k) (saidIn (x .k) (x .t) (now (x .proof))) (l .u) (c .before .before .before .before .say-segment .result) (l .proof) (c .before .before .before .before .say-segment .last .1 .1 .1 .1 .0) (l .inv .4) (omega arith)
-      (e .0 ∙ ap (heardOne (l .u) (numbered "vs-seg-" (l .i))) f)
-      (e .1 .0 ∙ ap (λ (v : ℕ). take (x .k + l .i) (elements (l .proof)) ++ (v ∷ [])) f),
+          (e .0 ∙ ap (heardOne (l .u) (numbered "vs-seg-" (l .i))) f)
+          (e .1 .0 ∙ ap (λ (v : ℕ). take (x .k + l .i) (elements (l .proof)) ++ (v ∷ [])) f),
     )
 
 same-length : tie.Need-same-length Inv-loop μ-loop

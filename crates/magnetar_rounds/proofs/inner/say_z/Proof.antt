@@ -50,8 +50,7 @@ same-length c = search needs
 
 returns : tie.Need-returns
 returns c = let x = c .before .before .before .before .before .before .before .before .before .before .args in
-    let v = c .before .before .before .before .before .before .before .get .ensures ∙ sym (table-first (now (x .s)) (4 * x .w) (2 * x .w) 2 (omega arith) (omega arith)) in
-    (
+    let v = c .before .before .before .before .before .before .before .get .ensures ∙ sym (table-first (now (x .s)) (4 * x .w) (2 * x .w) 2 (omega arith) (omega arith)) in (
       one-heard (ascii "vs-vz") (x .t) (c .value-z .result) (now (x .proof)) (c .before .before .before .before .before .put .last .0) (x .k) (value (c .before .before .before .before .before .before .before .get .result)) (c .before .before .before .before .before .put .ensures) (omega arith) (c .value-z .ensures) ∙ ap (heardOne (x .t) (ascii "vs-vz")) v,
       drawn-more (now (x .proof)) (c .before .before .before .before .before .put .last .0) (x .k) (value (c .before .before .before .before .before .before .before .get .result)) (c .before .before .before .before .before .put .ensures) (omega arith) ∙ ap (λ (e : ℕ). take (x .k) (elements (now (x .proof))) ++ (e ∷ [])) v,
     )

@@ -58,8 +58,7 @@ same-length c = search needs
 
 returns : tie.Need-returns
 returns c = let x = c .before .before .before .before .before .before .before .before .before .before .before .before .args in
-    let h : 2 * x .w + 2 * getD (now (x .lens)) (x .i) 0 ≤ length (now (x .s)) = omega (arith, c .before .before .before .before .before .before .before .before .before .before .before .before .pre .1 .most) in
-    (
+    let h : 2 * x .w + 2 * getD (now (x .lens)) (x .i) 0 ≤ length (now (x .s)) = omega (arith, c .before .before .before .before .before .before .before .before .before .before .before .before .pre .1 .most) in (
       c .segment-dot .ensures ∙ segment-sum (x .w) (getD (now (x .lens)) (x .i) 0) (c .before .before .before .before .before .before .before .log2 .result) (x .i) (now (x .lens)) (now (x .draws)) (now (x .s)) (c .before .before .before .before .eq-in .last .1 .0) (c .before .before .before .before .before .before .before .log2 .ensures) refl (c .before .before .before .before .before .before .before .before .before .before .before .before .pre .1) h (c .before .before .before .before .eq-in .ensures),
       columns-kept (x .w) (getD (now (x .lens)) (x .i) 0) (c .before .before .before .before .before .before .before .log2 .result) (x .i) (now (x .lens)) (now (x .draws)) (now (x .s)) (c .before .before .before .before .eq-in .last .1 .0) (c .before .before .before .before .before .before .before .log2 .ensures) refl (c .before .before .before .before .before .before .before .before .before .before .before .before .pre .1) h (c .before .before .before .before .eq-in .ensures),
     )

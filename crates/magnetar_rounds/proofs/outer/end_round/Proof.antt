@@ -30,8 +30,7 @@ same-length-2 c = search needs
 returns : tie.Need-returns
 returns c = let x = c .before .before .before .before .before .before .before .before .before .before .before .before .args in
     let r = ap value (c .before .before .before .before .before .before .before .before .before .element .ensures) in
-    let f = c .before .before .before .fold .ensures in
-    (
+    let f = c .before .before .before .fold .ensures in (
       c .eq-next .ensures ∙ rw (c .before .before .before .before .before .before .before .before .before .element .ensures),
       (
         drawn-more (now (x .draws)) (c .before .before .before .before .before .before .before .put .last .0) (x .d) (value (c .before .before .before .before .before .before .before .before .before .element .result)) (c .before .before .before .before .before .before .before .put .ensures) (omega arith) ∙ rw (c .before .before .before .before .before .before .before .before .before .element .ensures),

@@ -34,8 +34,7 @@ returns c = let x = c .before .before .before .before .before .before .before .b
     let p = c .before .before .before .before .before .before .before .before .before .before .before .pre in
     let h : x .n ≤ length (now (x .s)) = omega arith in
     let f = eq-behind (now (x .s)) (x .n) (x .v) (p .1) h (c .before .before .before .before .before .before .before .drop-var .last .0) (c .before .before .before .before .before .before .before .drop-var .ensures .1) in
-    let g = eq-dropped (now (x .s)) (x .n) (x .v) (p .1) h (c .before .before .before .before .before .before .before .drop-var .last .0) (c .before .before .before .before .before .before .before .drop-var .ensures .1) in
-    (
+    let g = eq-dropped (now (x .s)) (x .n) (x .v) (p .1) h (c .before .before .before .before .before .before .before .drop-var .last .0) (c .before .before .before .before .before .before .before .drop-var .ensures .1) in (
       c .before .before .tell .ensures ∙ rw (g, f (x .w) (x .n) (omega arith), f (2 * x .w) (x .n) (omega arith), f (3 * x .w) (x .n) (omega arith)),
       (g, eq-rest (now (x .s)) (x .n) (x .v) (p .1) h (c .before .before .before .before .before .before .before .drop-var .last .0) (c .before .before .before .before .before .before .before .drop-var .ensures .1) (x .w) (omega arith)),
     )

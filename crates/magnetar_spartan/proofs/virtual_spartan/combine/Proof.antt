@@ -119,10 +119,10 @@ returns c =
     let eb = c .before .before .before .before .before .part2 .ensures in
     let ef = c .before .before .before .before .part3 .ensures in
     let none = combo-none (rel s) (s .pre .0) (now (c .before .before .before .before .before .before .part .result)) (now (c .before .before .before .before .before .part2 .result)) (now (c .before .before .before .before .part3 .result)) (length (now (x .s)))
-        (part-length (i + 2 * b + 2 * f) 12 d (now (c .before .before .before .before .before .before .part .result)) ea (omega (arith, z .l, z .b, z .f, s .pre .1 .0)))
-        (part-length i (2 * b) d (now (c .before .before .before .before .before .part2 .result)) eb (omega (arith, z .l, z .b, z .f, s .pre .1 .0)) ∙ omega (arith, z .b))
-        (part-length (i + 2 * b) (2 * f) d (now (c .before .before .before .before .part3 .result)) ef (omega (arith, z .l, z .b, z .f, s .pre .1 .0)) ∙ omega (arith, z .f))
-        (s .pre .1 .1) in
+    (part-length (i + 2 * b + 2 * f) 12 d (now (c .before .before .before .before .before .before .part .result)) ea (omega (arith, z .l, z .b, z .f, s .pre .1 .0)))
+    (part-length i (2 * b) d (now (c .before .before .before .before .before .part2 .result)) eb (omega (arith, z .l, z .b, z .f, s .pre .1 .0)) ∙ omega (arith, z .b))
+    (part-length (i + 2 * b) (2 * f) d (now (c .before .before .before .before .part3 .result)) ef (omega (arith, z .l, z .b, z .f, s .pre .1 .0)) ∙ omega (arith, z .f))
+    (s .pre .1 .1) in
     combined-front (rel s) (s .pre .0) _ _ _ (now (x .s)) _ none (c .before .before .combine-in .ensures .1)
     ∙ combined-is (rel s) d (now (c .before .before .before .before .before .before .part .result)) (now (c .before .before .before .before .before .part2 .result)) (now (c .before .before .before .before .part3 .result)) l b f i (i + 2 * b) (i + 2 * b + 2 * f) (z .l) (z .b) (z .f) refl refl refl ea eb ef
 

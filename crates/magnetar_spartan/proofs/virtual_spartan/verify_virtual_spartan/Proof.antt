@@ -97,14 +97,16 @@ slice-aggregate-verify-in-3 c = sym (length-take-le _ _ (draws-fit (c .before .b
 
 verify-in-requires : tie.Need-verify-in-requires
 verify-in-requires c κs =
-    let k = ok (c .before .before .before .before .before .before) in
-    (k .ready, record {
-      public = k .public;
-      proof = k .proof;
-      claims = length-take-le _ _ (claims-fit (c .before .before .before .before .before)) ∙ c .before .before .before .before .before .claim-words .ensures;
-      scratch = length-take-le _ _ (scratch-fits (c .before .before .before .before)) ∙ c .before .before .before .before .verifier-room .ensures;
-      draws = length-take-le _ _ (draws-fit (c .before .before .before)) ∙ c .before .before .before .draw-words .ensures;
-    })
+    let k = ok (c .before .before .before .before .before .before) in (
+      k .ready,
+      record {
+        public = k .public;
+        proof = k .proof;
+        claims = length-take-le _ _ (claims-fit (c .before .before .before .before .before)) ∙ c .before .before .before .before .before .claim-words .ensures;
+        scratch = length-take-le _ _ (scratch-fits (c .before .before .before .before)) ∙ c .before .before .before .before .verifier-room .ensures;
+        draws = length-take-le _ _ (draws-fit (c .before .before .before)) ∙ c .before .before .before .draw-words .ensures;
+      },
+    )
 
 slice-relend-prefix-clear : tie.Need-slice-relend-prefix-clear
 slice-relend-prefix-clear c = let p = c .before .before .before .before .before in front _ (lent-words p) (rest p) (kept p)
