@@ -22,6 +22,7 @@ extern "C" {
 enum {
     MAGNETAR_OK = 0,
     MAGNETAR_SIZES = 1,           /* m is no power of two from 2 to 65,536, or q none from 1 to 4,096 */
+    MAGNETAR_PACKED = 2,          /* the packed words are not 2 q ceil(m / 256) */
     MAGNETAR_PUBLIC = 3,          /* the public words are not m - 2 */
     MAGNETAR_ROWS = 4,            /* rows no power of two from 1 to 65,536, unequal within a system, or q times rows over 2^20 */
     MAGNETAR_COLUMNS = 5,         /* a matrix whose columns are not m */
@@ -54,6 +55,8 @@ enum {
 /* Of a run with m columns, q logins, rb rows of bin and rf of fld, and so many segments; s, b, f, n are the logs of q, rb, rf, m. */
 #define MAGNETAR_PROOF_WORDS(s, b, f, n, segments) (2 * (8 * (size_t)(s) + 4 * (b) + 4 * (f) + 7 + 3 * (n) + (segments)))
 #define MAGNETAR_CLAIM_WORDS(s, n, segments) (2 * ((size_t)(s) + (n)-1 + (segments)))
+#define MAGNETAR_PACKED_WORDS(m, q) (2 * (size_t)(q) * (((size_t)(m) / 2 + 127) / 128))
+#define MAGNETAR_CHECK_SCRATCH(rb, rf) (6 * (size_t)((rb) > (rf) ? (rb) : (rf)))
 #define MAGNETAR_VERIFIER_SCRATCH(m, rb, rf) (4 * (size_t)(m) + 4 * (size_t)((rb) > (rf) ? (rb) : (rf)))
 
 typedef struct {
@@ -142,6 +145,32 @@ magnetar_answer magnetar_verify_virtual_spartan(
     size_t cfrows, size_t cfcols, const size_t *cfrow, size_t cfrow_len, const size_t *cfcol, size_t cfcol_len,
     const uint64_t *cflo, size_t cflo_len, const uint64_t *cfhi, size_t cfhi_len,
     const uint64_t *x, size_t x_len, const uint64_t *proof, size_t proof_len, magnetar_transcript t);
+
+/* Whether a batch keeps the rules, in plain: for each login z is its bits, a 1 and the public elements, and a row holds where the
+ * product of A z and B z is C z. Words of a login are two for each 128 columns, the lowest bit that of column 0; bits past the columns
+ * are not read. Refuses 1 to 7 and 15; the scratch is cleared unless the call is refused. */
+typedef struct {
+    uint32_t code;   /* a refusal or 0 */
+    uint32_t system; /* 0: every row holds; 1: a row of bin fails, 2: none of bin but one of fld; 3: the call is refused */
+    size_t login;    /* the lowest login with such a row, and its lowest row; 0 where there is none */
+    size_t row;
+} magnetar_row_verdict;
+
+magnetar_row_verdict magnetar_row_check(
+    uint64_t *scratch, size_t scratch_len, size_t m, size_t q,
+    size_t abrows, size_t abcols, const size_t *abrow, size_t abrow_len, const size_t *abcol, size_t abcol_len,
+    const uint64_t *ablo, size_t ablo_len, const uint64_t *abhi, size_t abhi_len,
+    size_t bbrows, size_t bbcols, const size_t *bbrow, size_t bbrow_len, const size_t *bbcol, size_t bbcol_len,
+    const uint64_t *bblo, size_t bblo_len, const uint64_t *bbhi, size_t bbhi_len,
+    size_t cbrows, size_t cbcols, const size_t *cbrow, size_t cbrow_len, const size_t *cbcol, size_t cbcol_len,
+    const uint64_t *cblo, size_t cblo_len, const uint64_t *cbhi, size_t cbhi_len,
+    size_t afrows, size_t afcols, const size_t *afrow, size_t afrow_len, const size_t *afcol, size_t afcol_len,
+    const uint64_t *aflo, size_t aflo_len, const uint64_t *afhi, size_t afhi_len,
+    size_t bfrows, size_t bfcols, const size_t *bfrow, size_t bfrow_len, const size_t *bfcol, size_t bfcol_len,
+    const uint64_t *bflo, size_t bflo_len, const uint64_t *bfhi, size_t bfhi_len,
+    size_t cfrows, size_t cfcols, const size_t *cfrow, size_t cfrow_len, const size_t *cfcol, size_t cfcol_len,
+    const uint64_t *cflo, size_t cflo_len, const uint64_t *cfhi, size_t cfhi_len,
+    const uint64_t *packed, size_t packed_len, const uint64_t *x, size_t x_len);
 
 /* The same with the rules in a struct. */
 typedef struct {

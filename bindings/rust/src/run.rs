@@ -1,4 +1,4 @@
-//! The verifier of a batch.
+//! The verifier of a batch, and the plain check of its rows.
 use crate::sys::{self, Element, Transcript};
 use crate::Refusal;
 
@@ -84,31 +84,60 @@ impl Relation {
     }
 }
 
+/// A call with the six matrices between other arguments.
+macro_rules! with_matrices {
+    ($function:path, $r:expr, ($($before:expr),*), ($($after:expr),*)) => {{
+        let ([a, b, c], [d, e, f]) = (&$r.bin, &$r.fld);
+        $function(
+            $($before,)*
+            a.rows, a.cols, a.row.as_ptr(), a.row.len(), a.col.as_ptr(), a.col.len(), a.lo.as_ptr(), a.lo.len(), a.hi.as_ptr(), a.hi.len(),
+            b.rows, b.cols, b.row.as_ptr(), b.row.len(), b.col.as_ptr(), b.col.len(), b.lo.as_ptr(), b.lo.len(), b.hi.as_ptr(), b.hi.len(),
+            c.rows, c.cols, c.row.as_ptr(), c.row.len(), c.col.as_ptr(), c.col.len(), c.lo.as_ptr(), c.lo.len(), c.hi.as_ptr(), c.hi.len(),
+            d.rows, d.cols, d.row.as_ptr(), d.row.len(), d.col.as_ptr(), d.col.len(), d.lo.as_ptr(), d.lo.len(), d.hi.as_ptr(), d.hi.len(),
+            e.rows, e.cols, e.row.as_ptr(), e.row.len(), e.col.as_ptr(), e.col.len(), e.lo.as_ptr(), e.lo.len(), e.hi.as_ptr(), e.hi.len(),
+            f.rows, f.cols, f.row.as_ptr(), f.row.len(), f.col.as_ptr(), f.col.len(), f.lo.as_ptr(), f.lo.len(), f.hi.as_ptr(), f.hi.len(),
+            $($after),*
+        )
+    }};
+}
+
 /// The claims of a proof that is accepted; `x` holds the words of the public elements.
 pub fn verify(r: &Relation, x: &[u64], proof: &[u64], t: &mut Transcript) -> Result<Claims, Refusal> {
     let mut claims = room(Some(r.claim_words()));
     let mut scratch = room(r.verifier_scratch());
-    // SAFETY: each pointer and length are of one slice, and what is written is borrowed as `&mut`.
+    // SAFETY: here and below each pointer and length are of one slice, and what is written is borrowed as `&mut`.
     let answer = unsafe {
-        sys::magnetar_verify_virtual_spartan(
-            claims.as_mut_ptr(), claims.len(), scratch.as_mut_ptr(), scratch.len(),
-            r.m, r.q, r.segments.as_ptr(), r.segments.len(),
-            r.bin[0].rows, r.bin[0].cols, r.bin[0].row.as_ptr(), r.bin[0].row.len(), r.bin[0].col.as_ptr(), r.bin[0].col.len(),
-            r.bin[0].lo.as_ptr(), r.bin[0].lo.len(), r.bin[0].hi.as_ptr(), r.bin[0].hi.len(),
-            r.bin[1].rows, r.bin[1].cols, r.bin[1].row.as_ptr(), r.bin[1].row.len(), r.bin[1].col.as_ptr(), r.bin[1].col.len(),
-            r.bin[1].lo.as_ptr(), r.bin[1].lo.len(), r.bin[1].hi.as_ptr(), r.bin[1].hi.len(),
-            r.bin[2].rows, r.bin[2].cols, r.bin[2].row.as_ptr(), r.bin[2].row.len(), r.bin[2].col.as_ptr(), r.bin[2].col.len(),
-            r.bin[2].lo.as_ptr(), r.bin[2].lo.len(), r.bin[2].hi.as_ptr(), r.bin[2].hi.len(),
-            r.fld[0].rows, r.fld[0].cols, r.fld[0].row.as_ptr(), r.fld[0].row.len(), r.fld[0].col.as_ptr(), r.fld[0].col.len(),
-            r.fld[0].lo.as_ptr(), r.fld[0].lo.len(), r.fld[0].hi.as_ptr(), r.fld[0].hi.len(),
-            r.fld[1].rows, r.fld[1].cols, r.fld[1].row.as_ptr(), r.fld[1].row.len(), r.fld[1].col.as_ptr(), r.fld[1].col.len(),
-            r.fld[1].lo.as_ptr(), r.fld[1].lo.len(), r.fld[1].hi.as_ptr(), r.fld[1].hi.len(),
-            r.fld[2].rows, r.fld[2].cols, r.fld[2].row.as_ptr(), r.fld[2].row.len(), r.fld[2].col.as_ptr(), r.fld[2].col.len(),
-            r.fld[2].lo.as_ptr(), r.fld[2].lo.len(), r.fld[2].hi.as_ptr(), r.fld[2].hi.len(),
-            x.as_ptr(), x.len(), proof.as_ptr(), proof.len(), *t,
+        with_matrices!(
+            sys::magnetar_verify_virtual_spartan,
+            r,
+            (claims.as_mut_ptr(), claims.len(), scratch.as_mut_ptr(), scratch.len(), r.m, r.q, r.segments.as_ptr(), r.segments.len()),
+            (x.as_ptr(), x.len(), proof.as_ptr(), proof.len(), *t)
         )
     };
     *t = answer.transcript;
     Refusal::check(answer.code)?;
     Ok(r.claims(claims))
+}
+
+/// A row that does not hold: the lowest row of the lowest login, bin before fld.
+#[derive(Clone, Copy, Debug, PartialEq, Eq)]
+pub struct Failing {
+    pub fld: bool,
+    pub login: usize,
+    pub row: usize,
+}
+
+/// The first row that does not hold, or none; `packed` holds the bits of the logins, `x` the words of the public elements.
+pub fn row_check(r: &Relation, packed: &[u64], x: &[u64]) -> Result<Option<Failing>, Refusal> {
+    let mut scratch = room(r.most_rows().checked_mul(6));
+    let found = unsafe {
+        with_matrices!(
+            sys::magnetar_row_check,
+            r,
+            (scratch.as_mut_ptr(), scratch.len(), r.m, r.q),
+            (packed.as_ptr(), packed.len(), x.as_ptr(), x.len())
+        )
+    };
+    Refusal::check(found.code)?;
+    Ok((found.system != 0).then_some(Failing { fld: found.system == 2, login: found.login, row: found.row }))
 }

@@ -31,6 +31,16 @@ pub struct Draw {
     pub transcript: Transcript,
 }
 
+/// `system` is 0 where every row holds, 1 for a row of bin, 2 for one of fld, 3 where the call is refused.
+#[repr(C)]
+#[derive(Clone, Copy, Debug, PartialEq, Eq)]
+pub struct RowVerdict {
+    pub code: u32,
+    pub system: u32,
+    pub login: usize,
+    pub row: usize,
+}
+
 #[link(name = "magnetar_c", kind = "static")]
 extern "C" {
     pub fn magnetar_mul(a: Element, b: Element) -> Element;
@@ -97,4 +107,28 @@ extern "C" {
         proof: *const u64, proof_len: usize,
         t: Transcript,
     ) -> Answer;
+    pub fn magnetar_row_check(
+        scratch: *mut u64, scratch_len: usize,
+        m: usize, q: usize,
+        abrows: usize, abcols: usize,
+        abrow: *const usize, abrow_len: usize, abcol: *const usize, abcol_len: usize,
+        ablo: *const u64, ablo_len: usize, abhi: *const u64, abhi_len: usize,
+        bbrows: usize, bbcols: usize,
+        bbrow: *const usize, bbrow_len: usize, bbcol: *const usize, bbcol_len: usize,
+        bblo: *const u64, bblo_len: usize, bbhi: *const u64, bbhi_len: usize,
+        cbrows: usize, cbcols: usize,
+        cbrow: *const usize, cbrow_len: usize, cbcol: *const usize, cbcol_len: usize,
+        cblo: *const u64, cblo_len: usize, cbhi: *const u64, cbhi_len: usize,
+        afrows: usize, afcols: usize,
+        afrow: *const usize, afrow_len: usize, afcol: *const usize, afcol_len: usize,
+        aflo: *const u64, aflo_len: usize, afhi: *const u64, afhi_len: usize,
+        bfrows: usize, bfcols: usize,
+        bfrow: *const usize, bfrow_len: usize, bfcol: *const usize, bfcol_len: usize,
+        bflo: *const u64, bflo_len: usize, bfhi: *const u64, bfhi_len: usize,
+        cfrows: usize, cfcols: usize,
+        cfrow: *const usize, cfrow_len: usize, cfcol: *const usize, cfcol_len: usize,
+        cflo: *const u64, cflo_len: usize, cfhi: *const u64, cfhi_len: usize,
+        packed: *const u64, packed_len: usize,
+        x: *const u64, x_len: usize,
+    ) -> RowVerdict;
 }
