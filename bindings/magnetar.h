@@ -186,19 +186,24 @@ typedef struct {
     magnetar_matrix matrix[6]; /* A, B, C of bin, then of fld */
 } magnetar_relation;
 
+#define MAGNETAR_MATRIX_(x) \
+    (x).rows, (x).cols, (x).row, (x).entries, (x).col, (x).entries, (x).lo, (x).entries, (x).hi, (x).entries
+#define MAGNETAR_MATRICES_(r)                                                                            \
+    MAGNETAR_MATRIX_((r)->matrix[0]), MAGNETAR_MATRIX_((r)->matrix[1]), MAGNETAR_MATRIX_((r)->matrix[2]), \
+        MAGNETAR_MATRIX_((r)->matrix[3]), MAGNETAR_MATRIX_((r)->matrix[4]), MAGNETAR_MATRIX_((r)->matrix[5])
+
 static inline magnetar_answer magnetar_verify(const magnetar_relation *r, const uint64_t *x, size_t x_len, const uint64_t *proof,
                                               size_t proof_len, magnetar_transcript t, uint64_t *claims, size_t claims_len,
                                               uint64_t *scratch, size_t scratch_len)
 {
-    return magnetar_verify_virtual_spartan(
-        claims, claims_len, scratch, scratch_len, r->m, r->q, r->lens, r->segments,
-        r->matrix[0].rows, r->matrix[0].cols, r->matrix[0].row, r->matrix[0].entries, r->matrix[0].col, r->matrix[0].entries, r->matrix[0].lo, r->matrix[0].entries, r->matrix[0].hi, r->matrix[0].entries,
-        r->matrix[1].rows, r->matrix[1].cols, r->matrix[1].row, r->matrix[1].entries, r->matrix[1].col, r->matrix[1].entries, r->matrix[1].lo, r->matrix[1].entries, r->matrix[1].hi, r->matrix[1].entries,
-        r->matrix[2].rows, r->matrix[2].cols, r->matrix[2].row, r->matrix[2].entries, r->matrix[2].col, r->matrix[2].entries, r->matrix[2].lo, r->matrix[2].entries, r->matrix[2].hi, r->matrix[2].entries,
-        r->matrix[3].rows, r->matrix[3].cols, r->matrix[3].row, r->matrix[3].entries, r->matrix[3].col, r->matrix[3].entries, r->matrix[3].lo, r->matrix[3].entries, r->matrix[3].hi, r->matrix[3].entries,
-        r->matrix[4].rows, r->matrix[4].cols, r->matrix[4].row, r->matrix[4].entries, r->matrix[4].col, r->matrix[4].entries, r->matrix[4].lo, r->matrix[4].entries, r->matrix[4].hi, r->matrix[4].entries,
-        r->matrix[5].rows, r->matrix[5].cols, r->matrix[5].row, r->matrix[5].entries, r->matrix[5].col, r->matrix[5].entries, r->matrix[5].lo, r->matrix[5].entries, r->matrix[5].hi, r->matrix[5].entries,
-        x, x_len, proof, proof_len, t);
+    return magnetar_verify_virtual_spartan(claims, claims_len, scratch, scratch_len, r->m, r->q, r->lens, r->segments,
+                                           MAGNETAR_MATRICES_(r), x, x_len, proof, proof_len, t);
+}
+
+static inline magnetar_row_verdict magnetar_check(const magnetar_relation *r, const uint64_t *packed, size_t packed_len,
+                                                  const uint64_t *x, size_t x_len, uint64_t *scratch, size_t scratch_len)
+{
+    return magnetar_row_check(scratch, scratch_len, r->m, r->q, MAGNETAR_MATRICES_(r), packed, packed_len, x, x_len);
 }
 
 #ifdef __cplusplus

@@ -1,4 +1,4 @@
-/* A recorded proof of two logins is accepted, and refused with a word changed. */
+/* A recorded proof of two logins is accepted, and refused with a word changed; the rows of two batches are checked. */
 #include "magnetar.h"
 
 #include <stdio.h>
@@ -40,6 +40,15 @@ int main(void)
     }
     printf("\nrefused: %u", magnetar_verify(&r, x, 2, proof, PROOF - 2, t, claims, CLAIMS, scratch, SCRATCH).code);
     r.q = 3;
-    printf(" %u\n", magnetar_verify(&r, x, 2, proof, PROOF, t, claims, CLAIMS, scratch, SCRATCH).code);
+    printf(" %u", magnetar_verify(&r, x, 2, proof, PROOF, t, claims, CLAIMS, scratch, SCRATCH).code);
+    r.q = Q;
+
+    /* every row holds; then fld says w0 * 1 = 1, which fails for login 1 */
+    uint64_t packed[MAGNETAR_PACKED_WORDS(M, Q)] = {3, 0, 2, 0}, rows[MAGNETAR_CHECK_SCRATCH(ROWS, ROWS)];
+    size_t n = sizeof packed / sizeof *packed, k = sizeof rows / sizeof *rows;
+    printf(" %u\nrows: %u", magnetar_check(&r, packed, n - 1, x, 2, rows, k).code, magnetar_check(&r, packed, n, x, 2, rows, k).system);
+    r.matrix[5] = constant;
+    magnetar_row_verdict v = magnetar_check(&r, packed, n, x, 2, rows, k);
+    printf(", then %u %zu %zu\n", v.system, v.login, v.row);
     return 0;
 }

@@ -1,4 +1,5 @@
 //! Queries on whole relations: the combined table, the masks, the row check.
+use crate::forms::open;
 use crate::matrix;
 use crate::model;
 use crate::random::Random;
@@ -31,19 +32,13 @@ fn combo(sheet: &mut Sheet, rel: &Relation, alphas: &[u64], pb: &[u64], pf: &[u6
         n => n,
     };
     let answer = if n == 0 {
-        let r = rel.rust_relation();
-        let found = open_build_m_combo(&open(r), &rust::elements(alphas), &rust::elements(pb), &rust::elements(pf));
+        let found = open_build_m_combo(&open::relation(rel), &rust::elements(alphas), &rust::elements(pb), &rust::elements(pf));
         vec![code(0, &marked(&words(&found), lent)), counted(2 * rel.m + 2 * rb.max(rf), scratch)]
     } else {
         vec![code(n, &marked(&[], lent)), counted(0, scratch)]
     };
     let query = format!("combo {lent} {scratch} {} {} {}", list(alphas), list(pb), list(pf));
     sheet.ask_on("combo::build_m_combo", by(n), &rel.text(), query, answer);
-}
-
-/// The Rust's relation once more, of the crate that opens its private functions.
-fn open(r: magnetar_spartan::DualRelation) -> open_spartan::DualRelation {
-    open_spartan::DualRelation { m: r.m, a_bin: r.a_bin, b_bin: r.b_bin, c_bin: r.c_bin, a_fld: r.a_fld, b_fld: r.b_fld, c_fld: r.c_fld }
 }
 
 fn masks(sheet: &mut Sheet, m: &Matrix, packed: &[u64], q: usize, w: usize, v: usize, lent: usize) {

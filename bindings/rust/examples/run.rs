@@ -1,5 +1,5 @@
 //! What ../../run.c does, through the safe functions: the two write the same.
-use magnetar::{verify, Element, Matrix, Relation, Transcript};
+use magnetar::{row_check, verify, Element, Matrix, Relation, Transcript};
 
 fn show(what: &str, words: &[u64]) {
     let elements: String = words.chunks(2).map(|e| format!(" {:016x}{:016x}", e[1], e[0])).collect();
@@ -29,5 +29,14 @@ fn main() {
     let short = verify(&r, &x, &proof[2..], &mut start.clone()).unwrap_err();
     r.q = 3;
     let sizes = verify(&r, &x, &proof, &mut start.clone()).unwrap_err();
-    println!("\nrefused: {} {}", short.number(), sizes.number());
+    print!("\nrefused: {} {}", short.number(), sizes.number());
+    r.q = 2;
+
+    // every row holds; then fld says w0 * 1 = 1, which fails for login 1
+    let packed = [3, 0, 2, 0];
+    println!(" {}", row_check(&r, &packed[1..], &x).unwrap_err().number());
+    print!("rows: {}", row_check(&r, &packed, &x).unwrap().map_or(0, |f| 1 + f.fld as u32));
+    r.fld[2] = constant();
+    let f = row_check(&r, &packed, &x).unwrap().expect("login 1 fails");
+    println!(", then {} {} {}", 1 + f.fld as u32, f.login, f.row);
 }

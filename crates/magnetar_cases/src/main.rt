@@ -1,5 +1,6 @@
 // Replays queries on a whole relation: reads the relation with its batch, calls the function that a line names and writes all
 // that the call hands back (docs/VECTORS.md). A line that begins with # is copied.
+mod checks;
 mod rowcheck;
 mod runs;
 mod tables;
@@ -25,6 +26,9 @@ fn answered(
         return true;
     }
     if rowcheck::answered(op, nums, given, sizes, scratch) {
+        return true;
+    }
+    if checks::answered(op, nums, given, sizes, claims, scratch) {
         return true;
     }
     runs::answered(op, runs::state(line), nums, given, sizes, claims, scratch)
