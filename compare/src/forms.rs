@@ -7,6 +7,7 @@ use magnetar_field::Gf128;
 
 macro_rules! forms {
     ($name:ident, $spartan:ident) => {
+        #[allow(dead_code)]
         pub mod $name {
             use super::*;
             use $spartan::{DualRelation, SegmentLayout, SegmentSpec, SparseMatrix, VirtualSpartanProof};

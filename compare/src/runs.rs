@@ -84,18 +84,22 @@ fn shown(o: &Outcome) -> String {
     format!("{code} {}\n{proof}= {}\nscratch: {} words, {scratch} of them zero first", state(&o.transcript), list(&o.claims), o.scratch.len())
 }
 
+/// What the verifier has to leave, and who says so.
+pub fn to_verify(r: &Relation, start: &State, proof: &[u64], claims: usize, scratch: usize) -> (By, Outcome) {
+    let refusal = model::verify(r, Lent { proof: proof.len(), claims, scratch, counter: start.1 });
+    if refusal != 0 {
+        let stay = |n: usize| marked(&[], n);
+        return (By::Document, Outcome { code: refusal, transcript: *start, proof: vec![], claims: stay(claims), scratch: stay(scratch) });
+    }
+    let (code, found, transcript) = rust_verify(r, start, proof);
+    let scratch = marked(&vec![0; model::room(r).verifier], scratch);
+    (By::Rust, Outcome { code, transcript, proof: vec![], claims: marked(&found, claims), scratch })
+}
+
 /// Compares the verifier on words of a proof; the number that was expected.
 pub fn verify(tally: &mut Tally, r: &Relation, start: &State, proof: &[u64], claims: usize, scratch: usize) -> u32 {
-    let refusal = model::verify(r, Lent { proof: proof.len(), claims, scratch, counter: start.1 });
-    let expected = if refusal != 0 {
-        Outcome { code: refusal, transcript: *start, proof: vec![], claims: marked(&[], claims), scratch: marked(&[], scratch) }
-    } else {
-        let (code, found, transcript) = rust_verify(r, start, proof);
-        let scratch = marked(&vec![0; model::room(r).verifier], scratch);
-        Outcome { code, transcript, proof: vec![], claims: marked(&found, claims), scratch }
-    };
+    let (by, expected) = to_verify(r, start, proof, claims, scratch);
     let found = library::verify(r, start, proof, claims, scratch);
-    let by = if refusal == 0 { By::Rust } else { By::Document };
     tally.verdict("verify", expected.code);
     tally.compared("verify_virtual_spartan", by, found == expected, || {
         let query = format!("verify {} {claims} {scratch} {}", state(start), list(proof));
@@ -143,7 +147,7 @@ pub fn check(tally: &mut Tally, r: &Relation, scratch: usize) {
     });
 }
 
-fn start(r: &mut Random) -> State {
+pub fn start(r: &mut Random) -> State {
     let counter = match r.below(8) {
         0 => (1 << 32) - 1 - r.below(3) as u64,
         1 => r.word() >> 33,
