@@ -1,3 +1,4 @@
 // Virtual Spartan: the refusals of both ends, and the verifier of a batch.
+mod combine;
 pub mod refusal;
 pub mod virtual_spartan;
