@@ -5,5 +5,7 @@ pub mod Verifying
 pub mod Combining
 pub mod VerifyRun
 pub mod Ended
+pub mod LaterRun
+pub mod Joining
 pub mod Sound
 pub mod Complete
