@@ -9,6 +9,7 @@ use Rattle.magnetar_field.specs.Sizes.{log₂}
 use Rattle.magnetar_layout.specs.Every.{every}
 use Rattle.magnetar_layout.specs.Layout.{isLength, layoutEnd}
 use Rattle.magnetar_layout.specs.Lent.{Lent}
+use Rattle.magnetar_layout.specs.Login.{loginWords}
 use Rattle.magnetar_layout.specs.Tests.{allBelow}
 use Rattle.magnetar_layout.proofs.SizeLaws.{Sized}
 use Rattle.magnetar_batch.specs.Systems.{Lent3}
@@ -46,6 +47,13 @@ pub record Ready (R : Rules) : Type 0 where
   pub columns : Sized 2 65536 (R .m)
   pub logins : Sized 1 4096 (R .q)
   pub fine : Fine R
+
+-- q logins of m columns with so many packed words ws and public words x
+pub record BatchReady (m q ws x : ℕ) : Type 0 where
+  pub columns : Sized 2 65536 m
+  pub logins : Sized 1 4096 q
+  pub packed : ws ≡ q * loginWords (m / 2)
+  pub public : x ≡ m - 2
 
 -- the words that the verifier is lent: public words x, proof words w, claims c, scratch s and draws d
 pub record VerifyReady (R : Rules) (x w c s d : ℕ) : Type 0 where
