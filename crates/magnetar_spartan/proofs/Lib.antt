@@ -3,6 +3,7 @@ pub mod Fine
 pub mod SizedRules
 pub mod Verifying
 pub mod Combining
+pub mod ProductTables
 pub mod VerifyRun
 pub mod Ended
 pub mod LaterRun

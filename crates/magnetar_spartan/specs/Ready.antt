@@ -48,6 +48,13 @@ pub record Ready (R : Rules) : Type 0 where
   pub logins : Sized 1 4096 (R .q)
   pub fine : Fine R
 
+-- q logins of m columns with so many packed words ws and public words x
+pub record BatchReady (m q ws x : ℕ) : Type 0 where
+  pub columns : Sized 2 65536 m
+  pub logins : Sized 1 4096 q
+  pub packed : ws ≡ q * loginWords (m / 2)
+  pub public : x ≡ m - 2
+
 -- the words that the verifier is lent: public words x, proof words w, claims c, scratch s and draws d
 pub record VerifyReady (R : Rules) (x w c s d : ℕ) : Type 0 where
   pub public : x ≡ R .m - 2

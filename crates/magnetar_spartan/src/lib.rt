@@ -1,5 +1,6 @@
-// Virtual Spartan: the refusals of both ends, and the verifier of a batch.
+// Virtual Spartan: the refusals of both ends, the prover and the verifier of a batch.
 mod combine;
 mod inner;
+mod products;
 pub mod refusal;
 pub mod virtual_spartan;
