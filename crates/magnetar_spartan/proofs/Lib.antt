@@ -5,8 +5,9 @@ pub mod Verifying
 pub mod Combining
 pub mod ProductTables
 pub mod VerifyRun
-pub mod Ended
 pub mod LaterRun
 pub mod Joining
+pub mod ProveRun
+pub mod Ended
 pub mod Sound
 pub mod Complete

@@ -1,6 +1,7 @@
 -- The second part of a proving run, behind the alphas: the inner rounds over the combined table and the batch folded over the logins,
 -- v_z and the segment values. Only the contracts of private functions speak of this.
 -- Assumes nothing.
+use mathlib.Core.Path.{_≡_}
 use mathlib.Core.List.{List, _++_}
 use Prim.Native.Nat.{ℕ, _-_, _*_, _/_}
 use lib.ListN.{take}
@@ -12,6 +13,7 @@ use Rattle.magnetar_protocol.specs.Draws.{drawCount, drawsOf, loginPoint}
 use Rattle.magnetar_protocol.specs.Schedule.{outline}
 use Rattle.magnetar_protocol.specs.Checks.{combined}
 use Rattle.magnetar_protocol.specs.Stepwise.{Steps, begin, innerAll}
+use Rattle.magnetar_protocol.specs.RealRun.{outerProving}
 use Rattle.magnetar_spartan.specs.Rules.{Rules, relationOf}
 use Rattle.magnetar_spartan.specs.Outcome.{batchOf}
 
@@ -41,3 +43,10 @@ laterProof R ws x d t w = take (proofBefore R) w ++ words (laterSteps R ws x (el
 
 abbrev pub laterDraws : Rules → (ws x d : List ℕ) → Transcript → List ℕ
 laterDraws R ws x d t = take (drawsBefore R) d ++ words (laterSteps R ws x (elements (take (drawsBefore R) d)) t .played .draws)
+
+-- what the first part has left: the transcript u, and the words of what was said and drawn at the front of the proof w and of the draws d
+unfoldable pub OuterLeft : Rules → (ws x : List ℕ) → Transcript → Transcript → (w d : List ℕ) → Type 0
+OuterLeft R ws x t u w d =
+    (u ≡ outerProving (relationOf R) (batchOf R ws) (elements x) t .played .transcript)
+    × (take (proofBefore R) w ≡ words (outerProving (relationOf R) (batchOf R ws) (elements x) t .said))
+    × (take (drawsBefore R) d ≡ words (outerProving (relationOf R) (batchOf R ws) (elements x) t .played .draws))

@@ -2,5 +2,6 @@
 mod combine;
 mod inner;
 mod products;
+mod proving;
 pub mod refusal;
 pub mod virtual_spartan;

@@ -1,5 +1,6 @@
 // Virtual Spartan: the prover and the verifier of a batch. The matrices A, B, C of bin are ab, bb, cb, those of fld af, bf, cf.
 use crate::combine;
+use crate::proving;
 use crate::refusal;
 use magnetar_checks::claims;
 use magnetar_checks::end;
@@ -18,7 +19,7 @@ ghost use Rattle.magnetar_protocol.specs.Schedule.{outline, schedule};
 ghost use Rattle.magnetar_protocol.specs.Play.{heard};
 ghost use Rattle.magnetar_spartan.specs.Rules.{rules, relationOf};
 ghost use Rattle.magnetar_spartan.specs.Ready.{Ready, VerifyReady};
-ghost use Rattle.magnetar_spartan.specs.Outcome.{verified, verifyOutcome, verifyVerdict, verifyClaims};
+ghost use Rattle.magnetar_spartan.specs.Outcome.{proved, proveOutcome, verified, verifyOutcome, verifyVerdict, verifyClaims};
 ghost use Rattle.magnetar_protocol.specs.RealRun.{verifierTranscript};
 
 // The answer of a run that a check stops: its transcript has played the events before that check.
@@ -324,4 +325,171 @@ pub fn verify_virtual_spartan(
     );
     words::clear(&mut scratch[..n]);
     a
+}
+
+// The prover: 0, and its transcript, the proof's words, the claims r_inst, r_low and segment values at the front of what is lent, whatever
+// the batch is. 1 to 10: the sizes, the packed and public words and the rules; 14: the transcript's counter; 15: too little room.
+pub fn prove_virtual_spartan(
+    proof: &mut [u64],
+    claims: &mut [u64],
+    scratch: &mut [u64],
+    m: usize,
+    q: usize,
+    lens: &[usize],
+    abrows: usize,
+    abcols: usize,
+    abrow: &[usize],
+    abcol: &[usize],
+    ablo: &[u64],
+    abhi: &[u64],
+    bbrows: usize,
+    bbcols: usize,
+    bbrow: &[usize],
+    bbcol: &[usize],
+    bblo: &[u64],
+    bbhi: &[u64],
+    cbrows: usize,
+    cbcols: usize,
+    cbrow: &[usize],
+    cbcol: &[usize],
+    cblo: &[u64],
+    cbhi: &[u64],
+    afrows: usize,
+    afcols: usize,
+    afrow: &[usize],
+    afcol: &[usize],
+    aflo: &[u64],
+    afhi: &[u64],
+    bfrows: usize,
+    bfcols: usize,
+    bfrow: &[usize],
+    bfcol: &[usize],
+    bflo: &[u64],
+    bfhi: &[u64],
+    cfrows: usize,
+    cfcols: usize,
+    cfrow: &[usize],
+    cfcol: &[usize],
+    cflo: &[u64],
+    cfhi: &[u64],
+    packed: &[u64],
+    x: &[u64],
+    t: Transcript,
+) -> TranscriptAnswer
+    ensures { λ r. ⌜ proved r (now (proof .exit)) (now (claims .exit)) (now (scratch .exit)) ≡ proveOutcome (rules m q (now (lens .entry))
+        (system (lent abrows abcols (now (abrow .entry)) (now (abcol .entry)) (now (ablo .entry)) (now (abhi .entry))) (lent bbrows bbcols (now (bbrow .entry)) (now (bbcol .entry)) (now (bblo .entry)) (now (bbhi .entry))) (lent cbrows cbcols (now (cbrow .entry)) (now (cbcol .entry)) (now (cblo .entry)) (now (cbhi .entry))))
+        (system (lent afrows afcols (now (afrow .entry)) (now (afcol .entry)) (now (aflo .entry)) (now (afhi .entry))) (lent bfrows bfcols (now (bfrow .entry)) (now (bfcol .entry)) (now (bflo .entry)) (now (bfhi .entry))) (lent cfrows cfcols (now (cfrow .entry)) (now (cfcol .entry)) (now (cflo .entry)) (now (cfhi .entry)))))
+        (now (packed .entry)) (now (x .entry)) t (now (proof .entry)) (now (claims .entry)) (now (scratch .entry)) ⌝ }
+{
+    let z = refusal::prove(
+        m,
+        q,
+        lens,
+        abrows,
+        abcols,
+        abrow,
+        abcol,
+        ablo,
+        abhi,
+        bbrows,
+        bbcols,
+        bbrow,
+        bbcol,
+        bblo,
+        bbhi,
+        cbrows,
+        cbcols,
+        cbrow,
+        cbcol,
+        cblo,
+        cbhi,
+        afrows,
+        afcols,
+        afrow,
+        afcol,
+        aflo,
+        afhi,
+        bfrows,
+        bfcols,
+        bfrow,
+        bfcol,
+        bflo,
+        bfhi,
+        cfrows,
+        cfcols,
+        cfrow,
+        cfcol,
+        cflo,
+        cfhi,
+        packed,
+        x,
+        t.squeeze_ctr,
+        proof.len(),
+        claims.len(),
+        scratch.len(),
+    );
+    if z != 0 {
+        return TranscriptAnswer {
+            code: z,
+            transcript: t,
+        };
+    }
+    let w = refusal::proof_words(m, q, abrows, afrows, lens.len());
+    let k = refusal::claim_words(m, q, lens.len());
+    let n = refusal::prover_room(m, q, abrows, afrows);
+    let d = combine::draw_words(m, q, abrows, afrows);
+    let mut draws = [0u64; 256];
+    let u = proving::prove_in(
+        &mut proof[..w],
+        &mut claims[..k],
+        &mut scratch[..n],
+        &mut draws[..d],
+        m,
+        q,
+        lens,
+        abrows,
+        abcols,
+        abrow,
+        abcol,
+        ablo,
+        abhi,
+        bbrows,
+        bbcols,
+        bbrow,
+        bbcol,
+        bblo,
+        bbhi,
+        cbrows,
+        cbcols,
+        cbrow,
+        cbcol,
+        cblo,
+        cbhi,
+        afrows,
+        afcols,
+        afrow,
+        afcol,
+        aflo,
+        afhi,
+        bfrows,
+        bfcols,
+        bfrow,
+        bfcol,
+        bflo,
+        bfhi,
+        cfrows,
+        cfcols,
+        cfrow,
+        cfcol,
+        cflo,
+        cfhi,
+        packed,
+        x,
+        t,
+    );
+    words::clear(&mut scratch[..n]);
+    TranscriptAnswer {
+        code: 0,
+        transcript: u,
+    }
 }
