@@ -27,7 +27,16 @@ fn answered(
     if rowcheck::answered(op, nums, given, sizes, scratch) {
         return true;
     }
-    runs::answered(op, runs::state(line), nums, given, sizes, claims, scratch)
+    runs::answered(
+        op,
+        runs::state(line),
+        nums,
+        given,
+        sizes,
+        out,
+        claims,
+        scratch,
+    )
 }
 
 // One line: the numbers of the last relation are in `given` and, as sizes, in `sizes`.
