@@ -31,7 +31,16 @@ fn answered(
     if checks::answered(op, nums, given, sizes, claims, scratch) {
         return true;
     }
-    runs::answered(op, runs::state(line), nums, given, sizes, claims, scratch)
+    runs::answered(
+        op,
+        runs::state(line),
+        nums,
+        given,
+        sizes,
+        out,
+        claims,
+        scratch,
+    )
 }
 
 // One line: the numbers of the last relation are in `given` and, as sizes, in `sizes`.
