@@ -57,6 +57,8 @@ enum {
 #define MAGNETAR_CLAIM_WORDS(s, n, segments) (2 * ((size_t)(s) + (n)-1 + (segments)))
 #define MAGNETAR_PACKED_WORDS(m, q) (2 * (size_t)(q) * (((size_t)(m) / 2 + 127) / 128))
 #define MAGNETAR_CHECK_SCRATCH(rb, rf) (6 * (size_t)((rb) > (rf) ? (rb) : (rf)))
+#define MAGNETAR_PROVER_SCRATCH(m, q, rb, rf) \
+    (8 * (size_t)(q) * ((size_t)(rb) + (rf)) + 8 * (size_t)(m) + 4 * (size_t)((rb) > (rf) ? (rb) : (rf)) + 4 * (size_t)(q))
 #define MAGNETAR_VERIFIER_SCRATCH(m, rb, rf) (4 * (size_t)(m) + 4 * (size_t)((rb) > (rf) ? (rb) : (rf)))
 
 typedef struct {
@@ -124,6 +126,26 @@ magnetar_answer magnetar_absorb_field(magnetar_transcript t, const uint8_t *labe
 
 /* An element is drawn under a label. 14: the counter is 2^32 or more. */
 magnetar_draw magnetar_challenge_field(magnetar_transcript t, const uint8_t *label, size_t label_len);
+
+/* The proof that a batch of q logins keeps the rules, and its claims. Words of a login are two for each 128 columns, the lowest bit
+ * that of column 0; bits past the columns are not read. Whether the batch is good is not tested: a bad one gives a proof that is turned
+ * back. The transcript goes on with all that is said and drawn. Refuses 1 to 10, 14 and 15; the scratch is cleared otherwise. */
+magnetar_answer magnetar_prove_virtual_spartan(
+    uint64_t *proof, size_t proof_len, uint64_t *claims, size_t claims_len, uint64_t *scratch, size_t scratch_len,
+    size_t m, size_t q, const size_t *lens, size_t lens_len,
+    size_t abrows, size_t abcols, const size_t *abrow, size_t abrow_len, const size_t *abcol, size_t abcol_len,
+    const uint64_t *ablo, size_t ablo_len, const uint64_t *abhi, size_t abhi_len,
+    size_t bbrows, size_t bbcols, const size_t *bbrow, size_t bbrow_len, const size_t *bbcol, size_t bbcol_len,
+    const uint64_t *bblo, size_t bblo_len, const uint64_t *bbhi, size_t bbhi_len,
+    size_t cbrows, size_t cbcols, const size_t *cbrow, size_t cbrow_len, const size_t *cbcol, size_t cbcol_len,
+    const uint64_t *cblo, size_t cblo_len, const uint64_t *cbhi, size_t cbhi_len,
+    size_t afrows, size_t afcols, const size_t *afrow, size_t afrow_len, const size_t *afcol, size_t afcol_len,
+    const uint64_t *aflo, size_t aflo_len, const uint64_t *afhi, size_t afhi_len,
+    size_t bfrows, size_t bfcols, const size_t *bfrow, size_t bfrow_len, const size_t *bfcol, size_t bfcol_len,
+    const uint64_t *bflo, size_t bflo_len, const uint64_t *bfhi, size_t bfhi_len,
+    size_t cfrows, size_t cfcols, const size_t *cfrow, size_t cfrow_len, const size_t *cfcol, size_t cfcol_len,
+    const uint64_t *cflo, size_t cflo_len, const uint64_t *cfhi, size_t cfhi_len,
+    const uint64_t *packed, size_t packed_len, const uint64_t *x, size_t x_len, magnetar_transcript t);
 
 /* The verdict on a proof for a batch of q logins: 0 where it is accepted, and the claims: the shared challenges, those of the columns
  * but the last, and a value for each segment. The matrices A, B, C of bin are ab, bb, cb, those of fld af, bf, cf: entry i has the row

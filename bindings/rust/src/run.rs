@@ -1,4 +1,4 @@
-//! The verifier of a batch, and the plain check of its rows.
+//! Prover and verifier of a batch, and the plain check of its rows.
 use crate::sys::{self, Element, Transcript};
 use crate::Refusal;
 
@@ -77,6 +77,13 @@ impl Relation {
         self.m.checked_add(self.most_rows())?.checked_mul(4)
     }
 
+    /// The words of the prover's scratch: 8 q (Rb + Rf) + 8 m + 4 max(Rb, Rf) + 4 q.
+    pub fn prover_scratch(&self) -> Option<usize> {
+        let rows = self.bin[0].rows.checked_add(self.fld[0].rows)?;
+        let logins = self.q.checked_mul(8)?.checked_mul(rows)?.checked_add(self.q.checked_mul(4)?)?;
+        logins.checked_add(self.m.checked_mul(4)?)?.checked_add(self.verifier_scratch()?)
+    }
+
     fn claims(&self, words: Vec<u64>) -> Claims {
         let (r_inst, rest) = words.split_at(2 * log(self.q));
         let (r_low, values) = rest.split_at(2 * (log(self.m) - 1));
@@ -101,11 +108,33 @@ macro_rules! with_matrices {
     }};
 }
 
+/// The proof's words and the claims of a batch; `packed` holds the bits of the logins, `x` the words of the public elements. Whether
+/// the batch is good is not tested: `row_check` does that.
+pub fn prove(r: &Relation, packed: &[u64], x: &[u64], t: &mut Transcript) -> Result<(Vec<u64>, Claims), Refusal> {
+    let mut proof = room(Some(r.proof_words()));
+    let mut claims = room(Some(r.claim_words()));
+    let mut scratch = room(r.prover_scratch());
+    // SAFETY: here and below each pointer and length are of one slice, and what is written is borrowed as `&mut`.
+    let answer = unsafe {
+        with_matrices!(
+            sys::magnetar_prove_virtual_spartan,
+            r,
+            (
+                proof.as_mut_ptr(), proof.len(), claims.as_mut_ptr(), claims.len(), scratch.as_mut_ptr(), scratch.len(),
+                r.m, r.q, r.segments.as_ptr(), r.segments.len()
+            ),
+            (packed.as_ptr(), packed.len(), x.as_ptr(), x.len(), *t)
+        )
+    };
+    *t = answer.transcript;
+    Refusal::check(answer.code)?;
+    Ok((proof, r.claims(claims)))
+}
+
 /// The claims of a proof that is accepted; `x` holds the words of the public elements.
 pub fn verify(r: &Relation, x: &[u64], proof: &[u64], t: &mut Transcript) -> Result<Claims, Refusal> {
     let mut claims = room(Some(r.claim_words()));
     let mut scratch = room(r.verifier_scratch());
-    // SAFETY: here and below each pointer and length are of one slice, and what is written is borrowed as `&mut`.
     let answer = unsafe {
         with_matrices!(
             sys::magnetar_verify_virtual_spartan,
