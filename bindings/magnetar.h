@@ -7,6 +7,7 @@
  * elements; what is written overlaps nothing else that is lent. Every function ends on all other inputs, allocates nothing, keeps
  * nothing between calls, and may run in many threads at once. A function that returns a number returns 0 or a refusal, and a call
  * refused with 1 to 17 writes nothing. One refused with 21 to 29 writes no claim, and leaves its scratch 0.
+ * prove, verify and check below take the rules in a struct.
  */
 #ifndef MAGNETAR_H
 #define MAGNETAR_H
@@ -194,7 +195,7 @@ magnetar_row_verdict magnetar_row_check(
     const uint64_t *cflo, size_t cflo_len, const uint64_t *cfhi, size_t cfhi_len,
     const uint64_t *packed, size_t packed_len, const uint64_t *x, size_t x_len);
 
-/* The same with the rules in a struct. */
+/* The rules in a struct. */
 typedef struct {
     size_t rows, cols, entries;
     const size_t *row, *col;
@@ -213,6 +214,14 @@ typedef struct {
 #define MAGNETAR_MATRICES_(r)                                                                            \
     MAGNETAR_MATRIX_((r)->matrix[0]), MAGNETAR_MATRIX_((r)->matrix[1]), MAGNETAR_MATRIX_((r)->matrix[2]), \
         MAGNETAR_MATRIX_((r)->matrix[3]), MAGNETAR_MATRIX_((r)->matrix[4]), MAGNETAR_MATRIX_((r)->matrix[5])
+
+static inline magnetar_answer magnetar_prove(const magnetar_relation *r, const uint64_t *packed, size_t packed_len, const uint64_t *x,
+                                             size_t x_len, magnetar_transcript t, uint64_t *proof, size_t proof_len,
+                                             uint64_t *claims, size_t claims_len, uint64_t *scratch, size_t scratch_len)
+{
+    return magnetar_prove_virtual_spartan(proof, proof_len, claims, claims_len, scratch, scratch_len, r->m, r->q, r->lens, r->segments,
+                                          MAGNETAR_MATRICES_(r), packed, packed_len, x, x_len, t);
+}
 
 static inline magnetar_answer magnetar_verify(const magnetar_relation *r, const uint64_t *x, size_t x_len, const uint64_t *proof,
                                               size_t proof_len, magnetar_transcript t, uint64_t *claims, size_t claims_len,

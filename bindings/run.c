@@ -1,4 +1,4 @@
-/* A recorded proof of two logins is accepted, and refused with a word changed; the rows of two batches are checked. */
+/* A recorded proof of two logins is accepted, and refused with a word changed; a batch is checked and proved, and a bad one turned back. */
 #include "magnetar.h"
 
 #include <stdio.h>
@@ -50,5 +50,17 @@ int main(void)
     r.matrix[5] = constant;
     magnetar_row_verdict v = magnetar_check(&r, packed, n, x, 2, rows, k);
     printf(", then %u %zu %zu\n", v.system, v.login, v.row);
+
+    /* the prover does not look whether a batch is good; the verifier turns the bad one back */
+    uint64_t again[CLAIMS], room[MAGNETAR_PROVER_SCRATCH(M, Q, ROWS, ROWS)];
+    size_t words = sizeof room / sizeof *room;
+    for (int bad = 1; bad >= 0; bad--) {
+        r.matrix[5] = bad ? constant : w0;
+        magnetar_answer p = magnetar_prove(&r, packed, n, x, 2, t, proof, PROOF, claims, CLAIMS, room, words);
+        magnetar_answer a = magnetar_verify(&r, x, 2, proof, PROOF, t, again, CLAIMS, scratch, SCRATCH);
+        printf("prove: %u, verify: %u\n", p.code, a.code);
+    }
+    show("claims:", claims, CLAIMS);
+    show("claims:", again, CLAIMS);
     return 0;
 }

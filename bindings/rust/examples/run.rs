@@ -1,5 +1,5 @@
 //! What ../../run.c does, through the safe functions: the two write the same.
-use magnetar::{row_check, verify, Element, Matrix, Relation, Transcript};
+use magnetar::{prove, row_check, verify, Element, Matrix, Relation, Transcript};
 
 fn show(what: &str, words: &[u64]) {
     let elements: String = words.chunks(2).map(|e| format!(" {:016x}{:016x}", e[1], e[0])).collect();
@@ -39,4 +39,19 @@ fn main() {
     r.fld[2] = constant();
     let f = row_check(&r, &packed, &x).unwrap().expect("login 1 fails");
     println!(", then {} {} {}", 1 + f.fld as u32, f.login, f.row);
+
+    // the prover does not look whether a batch is good; the verifier turns the bad one back
+    let all = |c: magnetar::Claims| [c.r_inst, c.r_low, c.values].concat();
+    for last in [constant(), w0()] {
+        r.fld[2] = last;
+        let (proof, claims) = prove(&r, &packed, &x, &mut start.clone()).unwrap();
+        match verify(&r, &x, &proof, &mut start.clone()) {
+            Err(e) => println!("prove: 0, verify: {}", e.number()),
+            Ok(again) => {
+                println!("prove: 0, verify: 0");
+                show("claims:", &all(claims));
+                show("claims:", &all(again));
+            }
+        }
+    }
 }
