@@ -270,6 +270,20 @@ fn boundaries(tally: &mut Tally) {
             }
         }
     }
+    // 64 segments are taken and 65 are not; a length is looked at first, and where the layout ends
+    let wide = Relation::empty(256, 1, [1, 1], vec![1; 64]);
+    let (most, (long, _, _)) = (model::room(&wide), rust_prove(&wide, &t));
+    for n in 60..=70 {
+        for last in [1, 2, 3, 64, 128, 256] {
+            for counter in [0, 1 << 32] {
+                let mut r = wide.clone();
+                r.lens = vec![1; n];
+                r.lens.push(last);
+                verify(tally, &r, &(t.0, counter), &long, most.claims, most.verifier);
+                prove(tally, &r, &(t.0, counter), most.proof + 8, most.claims + 8, most.prover);
+            }
+        }
+    }
     for counter in [0, 1, (1 << 32) - 1, 1 << 32, (1 << 32) + 1, u64::MAX] {
         let t = ([9; 32], counter);
         verify(tally, &base, &t, &proof, room.claims, room.verifier);
@@ -358,6 +372,7 @@ pub fn random(tally: &mut Tally, r: &mut Random) {
     verify(tally, &rel, &t, &proof, room.claims, room.verifier - less);
     prove(tally, &rel, &t, room.proof - less, room.claims, room.prover);
     prove(tally, &rel, &t, room.proof, room.claims, room.prover - less);
+    prove(tally, &rel, &(t.0, t.1 + (1 << 32)), room.proof, room.claims, room.prover - r.below(2));
     for _ in 0..3 {
         let mut bad = rel.clone();
         for _ in 0..1 + r.below(2) {
