@@ -7,7 +7,7 @@ mod run;
 pub mod sys;
 
 pub use refusal::Refusal;
-pub use run::{verify, Claims, Matrix, Relation};
+pub use run::{prove, row_check, verify, Claims, Matrix, Relation, Rows};
 pub use sys::{Element, Transcript};
 
 /// The product.

@@ -37,6 +37,7 @@ macro_rules! refusals {
 
 refusals! {
     Sizes = 1, "m is no power of two from 2 to 65,536, or q none from 1 to 4,096";
+    Packed = 2, "the packed words are not 2 q ceil(m / 256)";
     Public = 3, "the public words are not m - 2";
     Rows = 4, "rows no power of two from 1 to 65,536, unequal within a system, or q times rows over 1,048,576";
     Columns = 5, "a matrix whose columns are not m";
@@ -46,6 +47,8 @@ refusals! {
     Layout = 9, "the layout ends past m / 2";
     Segments = 10, "over 64 segments";
     Length = 11, "a point, vector or table is not of the wanted length, or has no such variable";
+    Masks = 12, "masks of values that are no bits";
+    V = 13, "masks for v over log2 q or over 6";
     Counter = 14, "the transcript's counter is 2^32 or more";
     Room = 15, "an output or the scratch is too short";
     ProofWords = 16, "the proof has a wrong number of words";

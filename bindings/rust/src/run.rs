@@ -1,4 +1,4 @@
-//! The verifier of a batch.
+//! The row check, the prover and the verifier of a batch.
 use crate::sys::{self, Element, Transcript};
 use crate::Refusal;
 
@@ -72,7 +72,24 @@ impl Relation {
         self.bin[0].rows.max(self.fld[0].rows)
     }
 
-    /// The words of the verifier's scratch, where they can be counted: 4 m + 4 max(Rb, Rf).
+    /// The words of a batch: 2 q ceil(m / 256).
+    pub fn packed_words(&self) -> Option<usize> {
+        self.m.div_ceil(256).checked_mul(self.q)?.checked_mul(2)
+    }
+
+    /// The words of the row check's scratch, where they can be counted: 6 max(Rb, Rf).
+    pub fn check_scratch(&self) -> Option<usize> {
+        self.most_rows().checked_mul(6)
+    }
+
+    /// The words of the prover's scratch: 8 q (Rb + Rf) + 8 m + 4 max(Rb, Rf) + 4 q.
+    pub fn prover_scratch(&self) -> Option<usize> {
+        let rows = self.bin[0].rows.checked_add(self.fld[0].rows)?;
+        let tables = self.q.checked_mul(rows)?.checked_add(self.m)?.checked_mul(8)?;
+        self.most_rows().checked_add(self.q)?.checked_mul(4)?.checked_add(tables)
+    }
+
+    /// The words of the verifier's scratch: 4 m + 4 max(Rb, Rf).
     pub fn verifier_scratch(&self) -> Option<usize> {
         self.m.checked_add(self.most_rows())?.checked_mul(4)
     }
@@ -84,30 +101,73 @@ impl Relation {
     }
 }
 
-/// The claims of a proof that is accepted; `x` holds the words of the public elements.
+/// Calls a function of the library with the six matrices of a relation between its other arguments.
+macro_rules! lend {
+    ($f:path, $r:expr; $($before:expr),*; $($after:expr),*) => {
+        // SAFETY: each pointer and length are of one slice, and what is written is borrowed as `&mut`.
+        unsafe { $f(
+            $($before,)*
+            $r.bin[0].rows, $r.bin[0].cols, $r.bin[0].row.as_ptr(), $r.bin[0].row.len(), $r.bin[0].col.as_ptr(), $r.bin[0].col.len(),
+            $r.bin[0].lo.as_ptr(), $r.bin[0].lo.len(), $r.bin[0].hi.as_ptr(), $r.bin[0].hi.len(),
+            $r.bin[1].rows, $r.bin[1].cols, $r.bin[1].row.as_ptr(), $r.bin[1].row.len(), $r.bin[1].col.as_ptr(), $r.bin[1].col.len(),
+            $r.bin[1].lo.as_ptr(), $r.bin[1].lo.len(), $r.bin[1].hi.as_ptr(), $r.bin[1].hi.len(),
+            $r.bin[2].rows, $r.bin[2].cols, $r.bin[2].row.as_ptr(), $r.bin[2].row.len(), $r.bin[2].col.as_ptr(), $r.bin[2].col.len(),
+            $r.bin[2].lo.as_ptr(), $r.bin[2].lo.len(), $r.bin[2].hi.as_ptr(), $r.bin[2].hi.len(),
+            $r.fld[0].rows, $r.fld[0].cols, $r.fld[0].row.as_ptr(), $r.fld[0].row.len(), $r.fld[0].col.as_ptr(), $r.fld[0].col.len(),
+            $r.fld[0].lo.as_ptr(), $r.fld[0].lo.len(), $r.fld[0].hi.as_ptr(), $r.fld[0].hi.len(),
+            $r.fld[1].rows, $r.fld[1].cols, $r.fld[1].row.as_ptr(), $r.fld[1].row.len(), $r.fld[1].col.as_ptr(), $r.fld[1].col.len(),
+            $r.fld[1].lo.as_ptr(), $r.fld[1].lo.len(), $r.fld[1].hi.as_ptr(), $r.fld[1].hi.len(),
+            $r.fld[2].rows, $r.fld[2].cols, $r.fld[2].row.as_ptr(), $r.fld[2].row.len(), $r.fld[2].col.as_ptr(), $r.fld[2].col.len(),
+            $r.fld[2].lo.as_ptr(), $r.fld[2].lo.len(), $r.fld[2].hi.as_ptr(), $r.fld[2].hi.len(),
+            $($after,)*
+        ) }
+    };
+}
+
+/// What the row check says of a batch: the first row that fails is that of the lowest login, then the lowest row, bin before fld.
+#[derive(Clone, Copy, Debug, PartialEq, Eq)]
+pub enum Rows {
+    Good,
+    Bin { login: usize, row: usize },
+    Fld { login: usize, row: usize },
+}
+
+/// Whether every row of both systems holds for every login; `packed` holds the logins' bits, `x` the words of the public elements.
+pub fn row_check(r: &Relation, packed: &[u64], x: &[u64]) -> Result<Rows, Refusal> {
+    let mut scratch = room(r.check_scratch());
+    let answer = lend!(sys::magnetar_row_check, r;
+        scratch.as_mut_ptr(), scratch.len(), r.m, r.q;
+        packed.as_ptr(), packed.len(), x.as_ptr(), x.len());
+    Refusal::check(answer.code)?;
+    Ok(match answer.kind {
+        0 => Rows::Good,
+        1 => Rows::Bin { login: answer.login, row: answer.row },
+        _ => Rows::Fld { login: answer.login, row: answer.row },
+    })
+}
+
+/// A proof of a batch, whether it is good or not, and the claims.
+pub fn prove(r: &Relation, packed: &[u64], x: &[u64], t: &mut Transcript) -> Result<(Vec<u64>, Claims), Refusal> {
+    let mut proof = room(Some(r.proof_words()));
+    let mut claims = room(Some(r.claim_words()));
+    let mut scratch = room(r.prover_scratch());
+    let answer = lend!(sys::magnetar_prove_virtual_spartan, r;
+        proof.as_mut_ptr(), proof.len(), claims.as_mut_ptr(), claims.len(), scratch.as_mut_ptr(), scratch.len(),
+        r.m, r.q, r.segments.as_ptr(), r.segments.len();
+        packed.as_ptr(), packed.len(), x.as_ptr(), x.len(), *t);
+    *t = answer.transcript;
+    Refusal::check(answer.code)?;
+    Ok((proof, r.claims(claims)))
+}
+
+/// The claims of a proof that is accepted.
 pub fn verify(r: &Relation, x: &[u64], proof: &[u64], t: &mut Transcript) -> Result<Claims, Refusal> {
     let mut claims = room(Some(r.claim_words()));
     let mut scratch = room(r.verifier_scratch());
-    // SAFETY: each pointer and length are of one slice, and what is written is borrowed as `&mut`.
-    let answer = unsafe {
-        sys::magnetar_verify_virtual_spartan(
-            claims.as_mut_ptr(), claims.len(), scratch.as_mut_ptr(), scratch.len(),
-            r.m, r.q, r.segments.as_ptr(), r.segments.len(),
-            r.bin[0].rows, r.bin[0].cols, r.bin[0].row.as_ptr(), r.bin[0].row.len(), r.bin[0].col.as_ptr(), r.bin[0].col.len(),
-            r.bin[0].lo.as_ptr(), r.bin[0].lo.len(), r.bin[0].hi.as_ptr(), r.bin[0].hi.len(),
-            r.bin[1].rows, r.bin[1].cols, r.bin[1].row.as_ptr(), r.bin[1].row.len(), r.bin[1].col.as_ptr(), r.bin[1].col.len(),
-            r.bin[1].lo.as_ptr(), r.bin[1].lo.len(), r.bin[1].hi.as_ptr(), r.bin[1].hi.len(),
-            r.bin[2].rows, r.bin[2].cols, r.bin[2].row.as_ptr(), r.bin[2].row.len(), r.bin[2].col.as_ptr(), r.bin[2].col.len(),
-            r.bin[2].lo.as_ptr(), r.bin[2].lo.len(), r.bin[2].hi.as_ptr(), r.bin[2].hi.len(),
-            r.fld[0].rows, r.fld[0].cols, r.fld[0].row.as_ptr(), r.fld[0].row.len(), r.fld[0].col.as_ptr(), r.fld[0].col.len(),
-            r.fld[0].lo.as_ptr(), r.fld[0].lo.len(), r.fld[0].hi.as_ptr(), r.fld[0].hi.len(),
-            r.fld[1].rows, r.fld[1].cols, r.fld[1].row.as_ptr(), r.fld[1].row.len(), r.fld[1].col.as_ptr(), r.fld[1].col.len(),
-            r.fld[1].lo.as_ptr(), r.fld[1].lo.len(), r.fld[1].hi.as_ptr(), r.fld[1].hi.len(),
-            r.fld[2].rows, r.fld[2].cols, r.fld[2].row.as_ptr(), r.fld[2].row.len(), r.fld[2].col.as_ptr(), r.fld[2].col.len(),
-            r.fld[2].lo.as_ptr(), r.fld[2].lo.len(), r.fld[2].hi.as_ptr(), r.fld[2].hi.len(),
-            x.as_ptr(), x.len(), proof.as_ptr(), proof.len(), *t,
-        )
-    };
+    let answer = lend!(sys::magnetar_verify_virtual_spartan, r;
+        claims.as_mut_ptr(), claims.len(), scratch.as_mut_ptr(), scratch.len(),
+        r.m, r.q, r.segments.as_ptr(), r.segments.len();
+        x.as_ptr(), x.len(), proof.as_ptr(), proof.len(), *t);
     *t = answer.transcript;
     Refusal::check(answer.code)?;
     Ok(r.claims(claims))
