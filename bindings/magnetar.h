@@ -88,14 +88,6 @@ typedef struct {
     magnetar_transcript transcript;
 } magnetar_draw;
 
-/* What the row check says: whether every row holds, which of bin or fld has the first that does not, or that the call is refused. */
-typedef struct {
-    uint32_t kind; /* 0 good, 1 bin, 2 fld, 3 refused */
-    uint32_t code; /* the refusal, or 0 */
-    size_t login;
-    size_t row;
-} magnetar_row_check_answer;
-
 /* The product. */
 magnetar_element magnetar_mul(magnetar_element a, magnetar_element b);
 
@@ -148,8 +140,17 @@ magnetar_draw magnetar_challenge_field(magnetar_transcript t, const uint8_t *lab
 #define MAGNETAR_MATRICES_ \
     MAGNETAR_MATRIX_(ab), MAGNETAR_MATRIX_(bb), MAGNETAR_MATRIX_(cb), MAGNETAR_MATRIX_(af), MAGNETAR_MATRIX_(bf), MAGNETAR_MATRIX_(cf)
 
-/* The first row that does not hold, bin before fld, then the lowest login, then the lowest row. Refuses 1 to 7 and 15. */
-magnetar_row_check_answer magnetar_row_check(
+/* Whether a batch keeps the rules, in plain: for each login z is its bits, a 1 and the public elements, and a row holds where the
+ * product of A z and B z is C z. Words of a login are two for each 128 columns, the lowest bit that of column 0; bits past the columns
+ * are not read. Refuses 1 to 7 and 15; the scratch is cleared unless the call is refused. */
+typedef struct {
+    uint32_t code;   /* a refusal or 0 */
+    uint32_t system; /* 0: every row holds; 1: a row of bin fails, 2: none of bin but one of fld; 3: the call is refused */
+    size_t login;    /* the lowest login with such a row, and its lowest row; 0 where there is none */
+    size_t row;
+} magnetar_row_verdict;
+
+magnetar_row_verdict magnetar_row_check(
     uint64_t *scratch, size_t scratch_len, size_t m, size_t q, MAGNETAR_MATRICES_, const uint64_t *packed, size_t packed_len,
     const uint64_t *x, size_t x_len);
 
@@ -187,8 +188,8 @@ typedef struct {
     MAGNETAR_LEND_((r)->matrix[0]), MAGNETAR_LEND_((r)->matrix[1]), MAGNETAR_LEND_((r)->matrix[2]), \
         MAGNETAR_LEND_((r)->matrix[3]), MAGNETAR_LEND_((r)->matrix[4]), MAGNETAR_LEND_((r)->matrix[5])
 
-static inline magnetar_row_check_answer magnetar_check(const magnetar_relation *r, const uint64_t *packed, size_t packed_len,
-                                                       const uint64_t *x, size_t x_len, uint64_t *scratch, size_t scratch_len)
+static inline magnetar_row_verdict magnetar_check(const magnetar_relation *r, const uint64_t *packed, size_t packed_len,
+                                                  const uint64_t *x, size_t x_len, uint64_t *scratch, size_t scratch_len)
 {
     return magnetar_row_check(scratch, scratch_len, r->m, r->q, MAGNETAR_LEND_ALL_(r), packed, packed_len, x, x_len);
 }

@@ -65,10 +65,10 @@ static void show(const char *what, const uint64_t *words, size_t n)
     printf("\n");
 }
 
-static void show_rows(const char *what, magnetar_row_check_answer a)
+static void show_rows(const char *what, magnetar_row_verdict a)
 {
     static const char *const names[] = {"good", "bin", "fld", "refused"};
-    printf("%s row check: %s %zu %zu %u\n", what, names[a.kind], a.login, a.row, a.code);
+    printf("%s row check: %s %zu %zu %u\n", what, names[a.system], a.login, a.row, a.code);
 }
 
 int main(int argc, char **argv)

@@ -1,5 +1,5 @@
 //! What ../../vault.c does, through the safe functions: the two write the same, and each verifies what the other proved.
-use magnetar::{mul, prove, row_check, verify, words, Element, Matrix, Refusal, Relation, Rows, Transcript};
+use magnetar::{mul, prove, row_check, verify, words, Element, Failing, Matrix, Refusal, Relation, Transcript};
 
 const EDITION: u64 = 2;
 
@@ -36,11 +36,10 @@ fn show(what: &str, words: &[u64]) {
     println!("{what}{elements}");
 }
 
-fn show_rows(what: &str, answer: Result<Rows, Refusal>) {
+fn show_rows(what: &str, answer: Result<Option<Failing>, Refusal>) {
     let (name, login, row, code) = match answer {
-        Ok(Rows::Good) => ("good", 0, 0, 0),
-        Ok(Rows::Bin { login, row }) => ("bin", login, row, 0),
-        Ok(Rows::Fld { login, row }) => ("fld", login, row, 0),
+        Ok(None) => ("good", 0, 0, 0),
+        Ok(Some(f)) => (if f.fld { "fld" } else { "bin" }, f.login, f.row, 0),
         Err(e) => ("refused", 0, 0, e.number()),
     };
     println!("{what} row check: {name} {login} {row} {code}");

@@ -7,7 +7,7 @@ mod run;
 pub mod sys;
 
 pub use refusal::Refusal;
-pub use run::{prove, row_check, verify, Claims, Matrix, Relation, Rows};
+pub use run::{prove, row_check, verify, Claims, Failing, Matrix, Relation};
 pub use sys::{Element, Transcript};
 
 /// The product.

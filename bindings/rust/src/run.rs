@@ -101,49 +101,45 @@ impl Relation {
     }
 }
 
-/// Calls a function of the library with the six matrices of a relation between its other arguments.
-macro_rules! lend {
-    ($f:path, $r:expr; $($before:expr),*; $($after:expr),*) => {
-        // SAFETY: each pointer and length are of one slice, and what is written is borrowed as `&mut`.
-        unsafe { $f(
+/// A call with the six matrices between other arguments.
+macro_rules! with_matrices {
+    ($function:path, $r:expr, ($($before:expr),*), ($($after:expr),*)) => {{
+        let ([a, b, c], [d, e, f]) = (&$r.bin, &$r.fld);
+        $function(
             $($before,)*
-            $r.bin[0].rows, $r.bin[0].cols, $r.bin[0].row.as_ptr(), $r.bin[0].row.len(), $r.bin[0].col.as_ptr(), $r.bin[0].col.len(),
-            $r.bin[0].lo.as_ptr(), $r.bin[0].lo.len(), $r.bin[0].hi.as_ptr(), $r.bin[0].hi.len(),
-            $r.bin[1].rows, $r.bin[1].cols, $r.bin[1].row.as_ptr(), $r.bin[1].row.len(), $r.bin[1].col.as_ptr(), $r.bin[1].col.len(),
-            $r.bin[1].lo.as_ptr(), $r.bin[1].lo.len(), $r.bin[1].hi.as_ptr(), $r.bin[1].hi.len(),
-            $r.bin[2].rows, $r.bin[2].cols, $r.bin[2].row.as_ptr(), $r.bin[2].row.len(), $r.bin[2].col.as_ptr(), $r.bin[2].col.len(),
-            $r.bin[2].lo.as_ptr(), $r.bin[2].lo.len(), $r.bin[2].hi.as_ptr(), $r.bin[2].hi.len(),
-            $r.fld[0].rows, $r.fld[0].cols, $r.fld[0].row.as_ptr(), $r.fld[0].row.len(), $r.fld[0].col.as_ptr(), $r.fld[0].col.len(),
-            $r.fld[0].lo.as_ptr(), $r.fld[0].lo.len(), $r.fld[0].hi.as_ptr(), $r.fld[0].hi.len(),
-            $r.fld[1].rows, $r.fld[1].cols, $r.fld[1].row.as_ptr(), $r.fld[1].row.len(), $r.fld[1].col.as_ptr(), $r.fld[1].col.len(),
-            $r.fld[1].lo.as_ptr(), $r.fld[1].lo.len(), $r.fld[1].hi.as_ptr(), $r.fld[1].hi.len(),
-            $r.fld[2].rows, $r.fld[2].cols, $r.fld[2].row.as_ptr(), $r.fld[2].row.len(), $r.fld[2].col.as_ptr(), $r.fld[2].col.len(),
-            $r.fld[2].lo.as_ptr(), $r.fld[2].lo.len(), $r.fld[2].hi.as_ptr(), $r.fld[2].hi.len(),
-            $($after,)*
-        ) }
-    };
+            a.rows, a.cols, a.row.as_ptr(), a.row.len(), a.col.as_ptr(), a.col.len(), a.lo.as_ptr(), a.lo.len(), a.hi.as_ptr(), a.hi.len(),
+            b.rows, b.cols, b.row.as_ptr(), b.row.len(), b.col.as_ptr(), b.col.len(), b.lo.as_ptr(), b.lo.len(), b.hi.as_ptr(), b.hi.len(),
+            c.rows, c.cols, c.row.as_ptr(), c.row.len(), c.col.as_ptr(), c.col.len(), c.lo.as_ptr(), c.lo.len(), c.hi.as_ptr(), c.hi.len(),
+            d.rows, d.cols, d.row.as_ptr(), d.row.len(), d.col.as_ptr(), d.col.len(), d.lo.as_ptr(), d.lo.len(), d.hi.as_ptr(), d.hi.len(),
+            e.rows, e.cols, e.row.as_ptr(), e.row.len(), e.col.as_ptr(), e.col.len(), e.lo.as_ptr(), e.lo.len(), e.hi.as_ptr(), e.hi.len(),
+            f.rows, f.cols, f.row.as_ptr(), f.row.len(), f.col.as_ptr(), f.col.len(), f.lo.as_ptr(), f.lo.len(), f.hi.as_ptr(), f.hi.len(),
+            $($after),*
+        )
+    }};
 }
 
-/// What the row check says of a batch: the first row that fails is that of the lowest login, then the lowest row, bin before fld.
+/// A row that does not hold: the lowest row of the lowest login, bin before fld.
 #[derive(Clone, Copy, Debug, PartialEq, Eq)]
-pub enum Rows {
-    Good,
-    Bin { login: usize, row: usize },
-    Fld { login: usize, row: usize },
+pub struct Failing {
+    pub fld: bool,
+    pub login: usize,
+    pub row: usize,
 }
 
-/// Whether every row of both systems holds for every login; `packed` holds the logins' bits, `x` the words of the public elements.
-pub fn row_check(r: &Relation, packed: &[u64], x: &[u64]) -> Result<Rows, Refusal> {
+/// The first row that does not hold, or none; `packed` holds the bits of the logins, `x` the words of the public elements.
+pub fn row_check(r: &Relation, packed: &[u64], x: &[u64]) -> Result<Option<Failing>, Refusal> {
     let mut scratch = room(r.check_scratch());
-    let answer = lend!(sys::magnetar_row_check, r;
-        scratch.as_mut_ptr(), scratch.len(), r.m, r.q;
-        packed.as_ptr(), packed.len(), x.as_ptr(), x.len());
-    Refusal::check(answer.code)?;
-    Ok(match answer.kind {
-        0 => Rows::Good,
-        1 => Rows::Bin { login: answer.login, row: answer.row },
-        _ => Rows::Fld { login: answer.login, row: answer.row },
-    })
+    // SAFETY: here and below each pointer and length are of one slice, and what is written is borrowed as `&mut`.
+    let found = unsafe {
+        with_matrices!(
+            sys::magnetar_row_check,
+            r,
+            (scratch.as_mut_ptr(), scratch.len(), r.m, r.q),
+            (packed.as_ptr(), packed.len(), x.as_ptr(), x.len())
+        )
+    };
+    Refusal::check(found.code)?;
+    Ok((found.system != 0).then_some(Failing { fld: found.system == 2, login: found.login, row: found.row }))
 }
 
 /// A proof of a batch, whether it is good or not, and the claims.
@@ -151,10 +147,17 @@ pub fn prove(r: &Relation, packed: &[u64], x: &[u64], t: &mut Transcript) -> Res
     let mut proof = room(Some(r.proof_words()));
     let mut claims = room(Some(r.claim_words()));
     let mut scratch = room(r.prover_scratch());
-    let answer = lend!(sys::magnetar_prove_virtual_spartan, r;
-        proof.as_mut_ptr(), proof.len(), claims.as_mut_ptr(), claims.len(), scratch.as_mut_ptr(), scratch.len(),
-        r.m, r.q, r.segments.as_ptr(), r.segments.len();
-        packed.as_ptr(), packed.len(), x.as_ptr(), x.len(), *t);
+    let answer = unsafe {
+        with_matrices!(
+            sys::magnetar_prove_virtual_spartan,
+            r,
+            (
+                proof.as_mut_ptr(), proof.len(), claims.as_mut_ptr(), claims.len(), scratch.as_mut_ptr(), scratch.len(),
+                r.m, r.q, r.segments.as_ptr(), r.segments.len()
+            ),
+            (packed.as_ptr(), packed.len(), x.as_ptr(), x.len(), *t)
+        )
+    };
     *t = answer.transcript;
     Refusal::check(answer.code)?;
     Ok((proof, r.claims(claims)))
@@ -164,10 +167,14 @@ pub fn prove(r: &Relation, packed: &[u64], x: &[u64], t: &mut Transcript) -> Res
 pub fn verify(r: &Relation, x: &[u64], proof: &[u64], t: &mut Transcript) -> Result<Claims, Refusal> {
     let mut claims = room(Some(r.claim_words()));
     let mut scratch = room(r.verifier_scratch());
-    let answer = lend!(sys::magnetar_verify_virtual_spartan, r;
-        claims.as_mut_ptr(), claims.len(), scratch.as_mut_ptr(), scratch.len(),
-        r.m, r.q, r.segments.as_ptr(), r.segments.len();
-        x.as_ptr(), x.len(), proof.as_ptr(), proof.len(), *t);
+    let answer = unsafe {
+        with_matrices!(
+            sys::magnetar_verify_virtual_spartan,
+            r,
+            (claims.as_mut_ptr(), claims.len(), scratch.as_mut_ptr(), scratch.len(), r.m, r.q, r.segments.as_ptr(), r.segments.len()),
+            (x.as_ptr(), x.len(), proof.as_ptr(), proof.len(), *t)
+        )
+    };
     *t = answer.transcript;
     Refusal::check(answer.code)?;
     Ok(r.claims(claims))

@@ -31,12 +31,12 @@ pub struct Draw {
     pub transcript: Transcript,
 }
 
-/// 0 good, 1 bin, 2 fld, 3 refused.
+/// `system` is 0 where every row holds, 1 for a row of bin, 2 for one of fld, 3 where the call is refused.
 #[repr(C)]
 #[derive(Clone, Copy, Debug, PartialEq, Eq)]
-pub struct RowCheck {
-    pub kind: u32,
+pub struct RowVerdict {
     pub code: u32,
+    pub system: u32,
     pub login: usize,
     pub row: usize,
 }
@@ -116,7 +116,7 @@ over_matrices! {
     fn magnetar_row_check(
         scratch: *mut u64, scratch_len: usize, m: usize, q: usize;
         packed: *const u64, packed_len: usize, x: *const u64, x_len: usize
-    ) -> RowCheck
+    ) -> RowVerdict
 }
 
 over_matrices! {

@@ -1,5 +1,7 @@
 // The entries for C and Rust: each is the function of the same name below, under the name magnetar_NAME and by the C calling
 // convention, with the same outcome. A slice is a pointer and a length; a struct goes by value.
+use magnetar_batch::check;
+use magnetar_batch::check::RowCheck;
 use magnetar_field::eq;
 use magnetar_field::gf128;
 use magnetar_field::gf128::Gf128;
@@ -18,6 +20,7 @@ ghost use Rattle.magnetar_field.specs.Entries.{eqRefusal, eqOut, bindRefusal, b
 ghost use Rattle.magnetar_hash.specs.Transcript as spec;
 ghost use Rattle.magnetar_layout.specs.Lent.{lent};
 ghost use Rattle.magnetar_batch.specs.Systems.{system};
+ghost use Rattle.magnetar_batch.specs.Check.{outcome, checkAnswer, checkScratch};
 ghost use Rattle.magnetar_spartan.specs.Rules.{rules};
 ghost use Rattle.magnetar_spartan.specs.Outcome.{verified, verifyOutcome};
 ghost use Rattle.magnetar_sumcheck.specs.Entries.{outerRefusal, outerOut, innerRefusal, innerOut, dropRefusal, dropOut};
@@ -49,6 +52,16 @@ pub struct MagnetarDraw {
     pub code: u32,
     pub element: MagnetarElement,
     pub transcript: MagnetarTranscript,
+}
+
+// The answer of the row check: a refusal or 0; then where the first failing row is, the system 0 of a good batch, 1 of bin, 2 of fld,
+// and 3 of a call that is refused.
+#[repr(C)]
+pub struct MagnetarRowCheck {
+    pub code: u32,
+    pub system: u32,
+    pub login: usize,
+    pub row: usize,
 }
 
 // ---- From C's structs and back.
@@ -107,6 +120,37 @@ fn draw_out(d: DrawAnswer) -> MagnetarDraw
         code: d.code,
         element,
         transcript,
+    }
+}
+
+fn check_out(c: RowCheck) -> MagnetarRowCheck
+    ensures { λ r. ⌜ across.checked r ≡ outcome c ⌝ }
+{
+    match c {
+        RowCheck::Good => MagnetarRowCheck {
+            code: 0,
+            system: 0,
+            login: 0,
+            row: 0,
+        },
+        RowCheck::Bin(u, i) => MagnetarRowCheck {
+            code: 0,
+            system: 1,
+            login: u,
+            row: i,
+        },
+        RowCheck::Fld(u, i) => MagnetarRowCheck {
+            code: 0,
+            system: 2,
+            login: u,
+            row: i,
+        },
+        RowCheck::Refused(n) => MagnetarRowCheck {
+            code: n,
+            system: 3,
+            login: 0,
+            row: 0,
+        },
     }
 }
 
@@ -316,5 +360,98 @@ pub extern "C" fn magnetar_verify_virtual_spartan(
         x,
         proof,
         transcript_in(t),
+    ))
+}
+
+// The first row that fails: bin before fld, then the lowest login, then the lowest row.
+#[no_mangle]
+pub extern "C" fn magnetar_row_check(
+    scratch: &mut [u64],
+    m: usize,
+    q: usize,
+    abrows: usize,
+    abcols: usize,
+    abrow: &[usize],
+    abcol: &[usize],
+    ablo: &[u64],
+    abhi: &[u64],
+    bbrows: usize,
+    bbcols: usize,
+    bbrow: &[usize],
+    bbcol: &[usize],
+    bblo: &[u64],
+    bbhi: &[u64],
+    cbrows: usize,
+    cbcols: usize,
+    cbrow: &[usize],
+    cbcol: &[usize],
+    cblo: &[u64],
+    cbhi: &[u64],
+    afrows: usize,
+    afcols: usize,
+    afrow: &[usize],
+    afcol: &[usize],
+    aflo: &[u64],
+    afhi: &[u64],
+    bfrows: usize,
+    bfcols: usize,
+    bfrow: &[usize],
+    bfcol: &[usize],
+    bflo: &[u64],
+    bfhi: &[u64],
+    cfrows: usize,
+    cfcols: usize,
+    cfrow: &[usize],
+    cfcol: &[usize],
+    cflo: &[u64],
+    cfhi: &[u64],
+    packed: &[u64],
+    x: &[u64],
+) -> MagnetarRowCheck
+    ensures answer { λ r. ⌜ across.checked r ≡ checkAnswer m q (system (lent abrows abcols (now (abrow .entry)) (now (abcol .entry)) (now (ablo .entry)) (now (abhi .entry))) (lent bbrows bbcols (now (bbrow .entry)) (now (bbcol .entry)) (now (bblo .entry)) (now (bbhi .entry))) (lent cbrows cbcols (now (cbrow .entry)) (now (cbcol .entry)) (now (cblo .entry)) (now (cbhi .entry)))) (system (lent afrows afcols (now (afrow .entry)) (now (afcol .entry)) (now (aflo .entry)) (now (afhi .entry))) (lent bfrows bfcols (now (bfrow .entry)) (now (bfcol .entry)) (now (bflo .entry)) (now (bfhi .entry))) (lent cfrows cfcols (now (cfrow .entry)) (now (cfcol .entry)) (now (cflo .entry)) (now (cfhi .entry)))) (now (packed .entry)) (now (x .entry)) (length (now (scratch .entry))) ⌝ }
+    ensures cleared { λ _. ⌜ now (scratch .exit) ≡ checkScratch m q (system (lent abrows abcols (now (abrow .entry)) (now (abcol .entry)) (now (ablo .entry)) (now (abhi .entry))) (lent bbrows bbcols (now (bbrow .entry)) (now (bbcol .entry)) (now (bblo .entry)) (now (bbhi .entry))) (lent cbrows cbcols (now (cbrow .entry)) (now (cbcol .entry)) (now (cblo .entry)) (now (cbhi .entry)))) (system (lent afrows afcols (now (afrow .entry)) (now (afcol .entry)) (now (aflo .entry)) (now (afhi .entry))) (lent bfrows bfcols (now (bfrow .entry)) (now (bfcol .entry)) (now (bflo .entry)) (now (bfhi .entry))) (lent cfrows cfcols (now (cfrow .entry)) (now (cfcol .entry)) (now (cflo .entry)) (now (cfhi .entry)))) (now (packed .entry)) (now (x .entry)) (now (scratch .entry)) ⌝ }
+{
+    check_out(check::row_check(
+        scratch,
+        m,
+        q,
+        abrows,
+        abcols,
+        abrow,
+        abcol,
+        ablo,
+        abhi,
+        bbrows,
+        bbcols,
+        bbrow,
+        bbcol,
+        bblo,
+        bbhi,
+        cbrows,
+        cbcols,
+        cbrow,
+        cbcol,
+        cblo,
+        cbhi,
+        afrows,
+        afcols,
+        afrow,
+        afcol,
+        aflo,
+        afhi,
+        bfrows,
+        bfcols,
+        bfrow,
+        bfcol,
+        bflo,
+        bfhi,
+        cfrows,
+        cfcols,
+        cfrow,
+        cfcol,
+        cflo,
+        cfhi,
+        packed,
+        x,
     ))
 }

@@ -1,0 +1,114 @@
+//! The exported library, with as many words lent as the caller says. Every lent word is marked before a call, so that one that
+//! was not written to is seen.
+use crate::relation::Relation;
+use crate::rust::State;
+use crate::text::MARK;
+use magnetar::sys;
+
+/// A call with the six matrices between other arguments.
+macro_rules! with_matrices {
+    ($function:path, $r:expr, ($($before:expr),*), ($($after:expr),*)) => {{
+        let [a, b, c, d, e, f] = &$r.matrices;
+        $function(
+            $($before,)*
+            a.rows, a.cols, a.row.as_ptr(), a.row.len(), a.col.as_ptr(), a.col.len(), a.lo.as_ptr(), a.lo.len(), a.hi.as_ptr(), a.hi.len(),
+            b.rows, b.cols, b.row.as_ptr(), b.row.len(), b.col.as_ptr(), b.col.len(), b.lo.as_ptr(), b.lo.len(), b.hi.as_ptr(), b.hi.len(),
+            c.rows, c.cols, c.row.as_ptr(), c.row.len(), c.col.as_ptr(), c.col.len(), c.lo.as_ptr(), c.lo.len(), c.hi.as_ptr(), c.hi.len(),
+            d.rows, d.cols, d.row.as_ptr(), d.row.len(), d.col.as_ptr(), d.col.len(), d.lo.as_ptr(), d.lo.len(), d.hi.as_ptr(), d.hi.len(),
+            e.rows, e.cols, e.row.as_ptr(), e.row.len(), e.col.as_ptr(), e.col.len(), e.lo.as_ptr(), e.lo.len(), e.hi.as_ptr(), e.hi.len(),
+            f.rows, f.cols, f.row.as_ptr(), f.row.len(), f.col.as_ptr(), f.col.len(), f.lo.as_ptr(), f.lo.len(), f.hi.as_ptr(), f.hi.len(),
+            $($after),*
+        )
+    }};
+}
+
+fn sent(t: &State) -> sys::Transcript {
+    sys::Transcript { state: t.0, squeeze_ctr: t.1 }
+}
+
+fn back(t: sys::Transcript) -> State {
+    (t.state, t.squeeze_ctr)
+}
+
+/// What a run leaves: its number, the transcript and every lent word.
+#[derive(PartialEq, Debug)]
+pub struct Outcome {
+    pub code: u32,
+    pub transcript: State,
+    pub proof: Vec<u64>,
+    pub claims: Vec<u64>,
+    pub scratch: Vec<u64>,
+}
+
+pub fn verify(r: &Relation, t: &State, proof: &[u64], claims: usize, scratch: usize) -> Outcome {
+    let (mut claims, mut scratch) = (vec![MARK; claims], vec![MARK; scratch]);
+    // SAFETY: here and below each pointer and length are of one slice, and what is written is borrowed as `&mut`.
+    let a = unsafe {
+        with_matrices!(
+            sys::magnetar_verify_virtual_spartan,
+            r,
+            (claims.as_mut_ptr(), claims.len(), scratch.as_mut_ptr(), scratch.len(), r.m, r.q, r.lens.as_ptr(), r.lens.len()),
+            (r.x.as_ptr(), r.x.len(), proof.as_ptr(), proof.len(), sent(t))
+        )
+    };
+    Outcome { code: a.code, transcript: back(a.transcript), proof: vec![], claims, scratch }
+}
+
+/// The row check: its number, the system (0 for none, 1 bin, 2 fld, 3 where it is refused), login and row; and the scratch.
+pub fn row_check(r: &Relation, scratch: usize) -> ((u32, u32, usize, usize), Vec<u64>) {
+    let mut scratch = vec![MARK; scratch];
+    let a = unsafe {
+        with_matrices!(
+            sys::magnetar_row_check,
+            r,
+            (scratch.as_mut_ptr(), scratch.len(), r.m, r.q),
+            (r.packed.as_ptr(), r.packed.len(), r.x.as_ptr(), r.x.len())
+        )
+    };
+    ((a.code, a.system, a.login, a.row), scratch)
+}
+
+#[cfg(prover)]
+pub fn prove(r: &Relation, t: &State, proof: usize, claims: usize, scratch: usize) -> Outcome {
+    let (mut proof, mut claims, mut scratch) = (vec![MARK; proof], vec![MARK; claims], vec![MARK; scratch]);
+    let a = unsafe {
+        with_matrices!(
+            sys::magnetar_prove_virtual_spartan,
+            r,
+            (
+                proof.as_mut_ptr(), proof.len(), claims.as_mut_ptr(), claims.len(), scratch.as_mut_ptr(), scratch.len(),
+                r.m, r.q, r.lens.as_ptr(), r.lens.len()
+            ),
+            (r.packed.as_ptr(), r.packed.len(), r.x.as_ptr(), r.x.len(), sent(t))
+        )
+    };
+    Outcome { code: a.code, transcript: back(a.transcript), proof, claims, scratch }
+}
+
+pub fn eq_table(point: &[u64], lent: usize) -> (u32, Vec<u64>) {
+    let mut out = vec![MARK; lent];
+    let code = unsafe { sys::magnetar_eq_build_fused(point.as_ptr(), point.len(), out.as_mut_ptr(), out.len()) };
+    (code, out)
+}
+
+pub fn bind_var(table: &mut [u64], var: usize, r: [u64; 2]) -> u32 {
+    unsafe { sys::magnetar_bind_var(table.as_mut_ptr(), table.len(), var, sys::Element { lo: r[0], hi: r[1] }) }
+}
+
+pub fn outer_message(e: &[u64], abc: [&[u64]; 3], v: usize, k: [u64; 2], t: [u64; 2]) -> (u32, Vec<u64>) {
+    let mut out = vec![MARK; 9];
+    let [a, b, c] = abc;
+    let code = unsafe {
+        sys::magnetar_outer_message(
+            out.as_mut_ptr(), out.len(), e.as_ptr(), e.len(), a.as_ptr(), a.len(), b.as_ptr(), b.len(), c.as_ptr(), c.len(), v,
+            sys::Element { lo: k[0], hi: k[1] }, sys::Element { lo: t[0], hi: t[1] },
+        )
+    };
+    (code, out)
+}
+
+pub fn inner_message(t: &[u64], z: &[u64], v: usize) -> (u32, Vec<u64>) {
+    let mut out = vec![MARK; 7];
+    let code = unsafe { sys::magnetar_inner_message(out.as_mut_ptr(), out.len(), t.as_ptr(), t.len(), z.as_ptr(), z.len(), v) };
+    (code, out)
+}

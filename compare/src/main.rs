@@ -1,0 +1,216 @@
+//! Feeds the published Rust and the library the same inputs and compares every result (docs/COMPARISON.md).
+//!
+//!     compare PROGRAMS                the full run: fixed seeds, a fixed number of inputs
+//!     compare PROGRAMS SECONDS SEED   random inputs from the seed for so many seconds
+//!
+//! PROGRAMS is the folder with the test programs. Ends with 1 where anything differs that is not on the list.
+mod field;
+mod hash;
+mod library;
+mod limits;
+mod listed;
+mod matrix;
+mod model;
+mod random;
+mod relation;
+mod runs;
+mod rust;
+mod sheet;
+mod sumcheck;
+mod tally;
+mod text;
+mod whole;
+
+use random::Random;
+use sheet::Sheet;
+use std::path::{Path, PathBuf};
+use std::sync::atomic::{AtomicBool, AtomicUsize, Ordering};
+use std::sync::Mutex;
+use std::time::{Duration, Instant};
+use tally::Tally;
+
+/// One piece of work: what is asked, and from which seed.
+#[derive(Clone, Copy)]
+enum Job {
+    Listed,
+    Field,
+    Hash,
+    Sumcheck,
+    Matrix,
+    Whole,
+    Runs(usize),
+    Tables,
+    Limit(usize),
+    Random(u64),
+    Wide(u64),
+}
+
+const THREADS: usize = 2;
+/// The parts of the exhaustive runs of prover and verifier.
+const PARTS: usize = 8;
+/// Seeds of the full run, and how many of them are of wide batches.
+const SEEDS: u64 = 2600;
+const WIDE: u64 = 24;
+
+fn full() -> Vec<Job> {
+    let mut jobs = vec![Job::Limit(0), Job::Limit(1), Job::Listed, Job::Field, Job::Hash, Job::Sumcheck, Job::Matrix, Job::Whole];
+    jobs.extend((0..PARTS).map(Job::Runs));
+    jobs.extend([Job::Tables, Job::Limit(2)]);
+    jobs.extend((1..=SEEDS).map(Job::Random));
+    jobs.extend((1..=WIDE).map(Job::Wide));
+    jobs
+}
+
+struct Worker {
+    vectors: Sheet,
+    cases: Sheet,
+    runs: Tally,
+}
+
+impl Worker {
+    fn new(programs: &Path) -> Worker {
+        let sheet = |name: &str| Sheet::new(programs.join(name));
+        Worker { vectors: sheet("magnetar_vectors"), cases: sheet("magnetar_cases"), runs: Tally::default() }
+    }
+
+    fn work(&mut self, job: Job) {
+        match job {
+            Job::Listed => {
+                listed::small(&mut self.vectors);
+                listed::masks(&mut self.cases);
+                listed::run(&mut self.runs);
+            }
+            Job::Field => field::exhaustive(&mut self.vectors),
+            Job::Hash => hash::exhaustive(&mut self.vectors),
+            Job::Sumcheck => sumcheck::exhaustive(&mut self.vectors),
+            Job::Matrix => matrix::exhaustive(&mut self.vectors),
+            Job::Whole => whole::exhaustive(&mut self.cases),
+            Job::Runs(part) => runs::exhaustive(&mut self.runs, part, PARTS),
+            Job::Tables => limits::tables(&mut self.runs),
+            Job::Limit(which) => limits::runs(&mut self.runs, which),
+            Job::Random(seed) => {
+                let r = &mut Random(seed.wrapping_mul(0xD1342543DE82EF95));
+                for _ in 0..2 {
+                    field::random(&mut self.vectors, r);
+                    hash::random(&mut self.vectors, r);
+                    sumcheck::random(&mut self.vectors, r);
+                    matrix::random(&mut self.vectors, r);
+                    whole::random(&mut self.cases, r);
+                }
+                runs::random(&mut self.runs, r);
+            }
+            Job::Wide(seed) => limits::wide(&mut self.runs, seed),
+        }
+    }
+
+    fn flush(&mut self) {
+        self.vectors.flush();
+        self.cases.flush();
+    }
+
+    /// What was counted since the last time.
+    fn counted(&mut self) -> Tally {
+        let mut all = std::mem::take(&mut self.runs);
+        all.add(&std::mem::take(&mut self.vectors.tally));
+        all.add(&std::mem::take(&mut self.cases.tally));
+        all
+    }
+}
+
+fn main() {
+    let given: Vec<String> = std::env::args().skip(1).collect();
+    let (programs, soak) = match &given[..] {
+        [programs] => (PathBuf::from(programs), None),
+        [programs, seconds, seed] => {
+            let number = |s: &String| s.parse::<u64>().expect("a number");
+            (PathBuf::from(programs), Some((Duration::from_secs(number(seconds)), number(seed))))
+        }
+        _ => panic!("compare PROGRAMS [SECONDS SEED]"),
+    };
+    // the Rust's panics are answers here
+    std::panic::set_hook(Box::new(|info| {
+        if info.location().is_some_and(|l| l.file().starts_with("compare")) {
+            eprintln!("{info}");
+        }
+    }));
+    let start = Instant::now();
+    let jobs = full();
+    let (next, done, working) = (AtomicUsize::new(0), AtomicUsize::new(0), AtomicUsize::new(THREADS));
+    let total = Mutex::new(Tally::default());
+    let failed = AtomicBool::new(false);
+    std::thread::scope(|scope| {
+        for _ in 0..THREADS {
+            scope.spawn(|| {
+                let mut worker = Worker::new(&programs);
+                loop {
+                    let n = next.fetch_add(1, Ordering::Relaxed);
+                    let job = match soak {
+                        Some((budget, _)) if start.elapsed() >= budget => break,
+                        Some((_, seed)) => Job::Random(seed.wrapping_mul(1_000_003).wrapping_add(n as u64)),
+                        None if n < jobs.len() => jobs[n],
+                        None => break,
+                    };
+                    if rust::caught(|| worker.work(job)).is_none() {
+                        failed.store(true, Ordering::Relaxed);
+                        break;
+                    }
+                    // the first answers soon, then some thousands at a time
+                    if n < 20 {
+                        worker.flush();
+                    }
+                    done.fetch_add(1, Ordering::Relaxed);
+                    total.lock().unwrap().add(&worker.counted());
+                }
+                worker.flush();
+                total.lock().unwrap().add(&worker.counted());
+                working.fetch_sub(1, Ordering::Relaxed);
+            });
+        }
+        let mut shown = Instant::now();
+        while working.load(Ordering::Relaxed) > 0 {
+            std::thread::sleep(Duration::from_millis(100));
+            if shown.elapsed() >= Duration::from_secs(5) {
+                shown = Instant::now();
+                let t = total.lock().unwrap();
+                let of = if soak.is_some() { String::new() } else { format!(" of {}", jobs.len()) };
+                let seconds = start.elapsed().as_secs();
+                eprintln!("{seconds:4} s: {}{of} jobs, {} runs, {} differ", done.load(Ordering::Relaxed), t.runs(), t.differing());
+            }
+        }
+    });
+    let total = total.into_inner().unwrap();
+    report(&total, start.elapsed());
+    if total.differing() > 0 || failed.load(Ordering::Relaxed) {
+        std::process::exit(1);
+    }
+}
+
+fn report(t: &Tally, took: Duration) {
+    println!("| function | equal to the Rust | equal to document 01 | different |");
+    println!("|---|---|---|---|");
+    let (mut rust, mut document) = (0, 0);
+    for (name, c) in &t.functions {
+        println!("| `{name}` | {} | {} | {} |", c.rust, c.document, c.differing);
+        rust += c.rust;
+        document += c.document;
+    }
+    println!("| all | {rust} | {document} | {} |", t.differing());
+    println!();
+    for end in ["prove", "verify"] {
+        let counts: Vec<String> = t.verdicts.iter().filter(|((e, _), _)| *e == end).map(|((_, n), k)| format!("{n}: {k}")).collect();
+        if !counts.is_empty() {
+            println!("{end}, runs by answer (0 is none): {}", counts.join(", "));
+        }
+    }
+    println!();
+    println!("intended differences that were shown:");
+    for (name, n) in &t.listed {
+        println!("  {n:7} {name}");
+    }
+    for (name, c) in &t.functions {
+        if let Some(text) = &c.smallest {
+            println!("\nDIFFERENT: {name}, {} times; the smallest input:\n{text}", c.differing);
+        }
+    }
+    println!("\n{} runs, {} differences, {} s", t.runs(), t.differing(), took.as_secs());
+}

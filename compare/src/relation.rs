@@ -1,0 +1,323 @@
+//! Relations with a batch, in the form in which they are lent, and how they are made.
+use crate::random::Random;
+use crate::rust;
+use crate::text;
+use magnetar_field::{mul, Gf128};
+use magnetar_spartan::{DualRelation, SegmentLayout, SegmentSpec, SparseMatrix};
+
+/// A matrix as it is lent: four lists that may be of unequal length.
+#[derive(Clone, Debug, Default)]
+pub struct Matrix {
+    pub rows: usize,
+    pub cols: usize,
+    pub row: Vec<usize>,
+    pub col: Vec<usize>,
+    pub lo: Vec<u64>,
+    pub hi: Vec<u64>,
+}
+
+impl Matrix {
+    pub fn empty(rows: usize, cols: usize) -> Matrix {
+        Matrix { rows, cols, ..Matrix::default() }
+    }
+
+    pub fn put(&mut self, row: usize, col: usize, value: Gf128) {
+        self.row.push(row);
+        self.col.push(col);
+        self.lo.push(value.0 as u64);
+        self.hi.push((value.0 >> 64) as u64);
+    }
+
+    pub fn entries(&self) -> Vec<(usize, usize, Gf128)> {
+        (0..self.row.len()).map(|i| (self.row[i], self.col[i], Gf128(self.lo[i] as u128 | (self.hi[i] as u128) << 64))).collect()
+    }
+
+    pub fn rust(&self) -> SparseMatrix {
+        SparseMatrix { rows: self.rows, cols: self.cols, entries: self.entries() }
+    }
+
+    /// In the words of the test programs.
+    pub fn text(&self) -> String {
+        format!("{:#x} {:#x} {} {} {} {}", self.rows, self.cols, text::sizes(&self.row), text::sizes(&self.col), text::list(&self.lo), text::list(&self.hi))
+    }
+
+    fn shuffle(&mut self, r: &mut Random) {
+        for i in (1..self.row.len()).rev() {
+            let j = r.below(i + 1);
+            self.row.swap(i, j);
+            self.col.swap(i, j);
+            self.lo.swap(i, j);
+            self.hi.swap(i, j);
+        }
+    }
+}
+
+/// Rules and batch: everything that prover, verifier and row check are lent but buffers, proof and transcript.
+#[derive(Clone, Debug)]
+pub struct Relation {
+    pub m: usize,
+    pub q: usize,
+    pub lens: Vec<usize>,
+    /// A, B, C of bin, then of fld
+    pub matrices: [Matrix; 6],
+    pub packed: Vec<u64>,
+    pub x: Vec<u64>,
+}
+
+impl Relation {
+    pub fn empty(m: usize, q: usize, rows: [usize; 2], lens: Vec<usize>) -> Relation {
+        Relation {
+            m,
+            q,
+            lens,
+            matrices: std::array::from_fn(|k| Matrix::empty(rows[k / 3], m)),
+            packed: vec![0; 2 * q * (m / 2).div_ceil(128)],
+            x: vec![0; m - 2],
+        }
+    }
+
+    pub fn rows(&self) -> [usize; 2] {
+        [self.matrices[0].rows, self.matrices[3].rows]
+    }
+
+    /// Words of a login.
+    fn row_words(&self) -> usize {
+        2 * (self.m / 2).div_ceil(128)
+    }
+
+    pub fn bit(&self, login: usize, col: usize) -> bool {
+        self.packed[login * self.row_words() + col / 64] >> (col % 64) & 1 == 1
+    }
+
+    pub fn set_bit(&mut self, login: usize, col: usize, bit: bool) {
+        let at = login * self.row_words() + col / 64;
+        self.packed[at] = self.packed[at] & !(1 << (col % 64)) | (bit as u64) << (col % 64);
+    }
+
+    // ---- The Rust's forms.
+
+    pub fn rust_packed(&self) -> Vec<u128> {
+        self.packed.chunks(2).map(|w| w[0] as u128 | (w[1] as u128) << 64).collect()
+    }
+
+    pub fn rust_x(&self) -> Vec<Gf128> {
+        rust::elements(&self.x)
+    }
+
+    pub fn rust_relation(&self) -> DualRelation {
+        let [a, b, c, d, e, f] = &self.matrices;
+        DualRelation { m: self.m, a_bin: a.rust(), b_bin: b.rust(), c_bin: c.rust(), a_fld: d.rust(), b_fld: e.rust(), c_fld: f.rust() }
+    }
+
+    pub fn rust_layout(&self) -> SegmentLayout {
+        layout(self.m / 2, &self.lens)
+    }
+
+    /// In the words of the test programs.
+    pub fn text(&self) -> String {
+        let mut out = format!(
+            "case 2 {:#x} {:#x} {} {} {}",
+            self.m, self.q, text::sizes(&self.lens), text::list(&self.x), text::list(&self.packed),
+        );
+        for m in &self.matrices {
+            out.push_str(&format!(" 2 {}", m.text()));
+        }
+        out
+    }
+
+    /// How many numbers that text has.
+    pub fn numbers(&self) -> usize {
+        let matrices: usize = self.matrices.iter().map(|m| 7 + 4 * m.row.len()).sum();
+        6 + self.lens.len() + self.x.len() + self.packed.len() + matrices
+    }
+}
+
+pub fn layout(w: usize, lens: &[usize]) -> SegmentLayout {
+    let spec = |(i, &len)| SegmentSpec { name: format!("s{i}"), len, direct: true };
+    SegmentLayout::build(w, lens.iter().enumerate().map(spec).collect())
+}
+
+/// What a batch is to be.
+#[derive(Clone, Copy, PartialEq, Debug)]
+pub enum Kind {
+    /// every row holds, and no bit is set outside the segments
+    Good,
+    /// every row holds, bits outside the segments at random
+    Stray,
+    /// good but for a bit that is flipped
+    Bad,
+    /// rules and bits at random
+    Wild,
+}
+
+pub const KINDS: [Kind; 4] = [Kind::Good, Kind::Stray, Kind::Bad, Kind::Wild];
+
+/// Lengths of segments that fit into w columns; sometimes they leave no gap.
+pub fn lengths(r: &mut Random, w: usize, most: usize) -> Vec<usize> {
+    let log = w.trailing_zeros() as usize;
+    let (mut lens, mut end) = (vec![], 0usize);
+    let tight = r.one_in(3);
+    for _ in 0..if tight { 64 } else { r.below(most + 1) } {
+        let len = if tight {
+            if end == w {
+                break;
+            }
+            1 << r.below(if end == 0 { log + 1 } else { end.trailing_zeros() as usize + 1 })
+        } else {
+            1 << r.below(log + 1)
+        };
+        let next = end.div_ceil(len) * len + len;
+        if next <= w {
+            lens.push(len);
+            end = next;
+        }
+    }
+    lens
+}
+
+fn inside(w: usize, lens: &[usize]) -> Vec<bool> {
+    let l = layout(w, lens);
+    let mut out = vec![false; w];
+    for (o, n) in l.offsets.iter().zip(lens) {
+        out[*o..o + n].fill(true);
+    }
+    out
+}
+
+/// A row of a system that holds for every batch and these public words.
+fn good_row(r: &mut Random, rel: &mut Relation, system: usize, row: usize, binary: bool) {
+    let w = rel.m / 2;
+    let x = rel.rust_x();
+    let [a, b, c] = &mut rel.matrices[3 * system..3 * system + 3] else { unreachable!() };
+    let value = |r: &mut Random| if binary { Gf128(1) } else { r.element() };
+    match r.below(if binary { 5 } else { 7 }) {
+        0 => {}
+        1 => {
+            // B a constant k, C is k times A
+            let k = value(r);
+            b.put(row, w, k);
+            for _ in 0..1 + r.below(4) {
+                let (col, v) = (if binary { r.below(w + 1) } else { r.below(rel.m) }, value(r));
+                a.put(row, col, v);
+                c.put(row, col, mul(k, v));
+            }
+        }
+        2 => {
+            // A and C cancel
+            let (col, v) = (r.below(w + 1), value(r));
+            a.put(row, col, v);
+            a.put(row, col, v);
+            let (other, u) = (r.below(w + 1), value(r));
+            b.put(row, other, u);
+            c.put(row, col, v);
+            c.put(row, col, v);
+        }
+        3 => {
+            // a bit times itself is the bit
+            let col = r.below(w);
+            for m in [&mut *a, &mut *b, &mut *c] {
+                m.put(row, col, Gf128(1));
+            }
+            b.put(row, col, Gf128(0));
+        }
+        4 => {
+            // a bit times its opposite is 0
+            let col = r.below(w);
+            a.put(row, col, Gf128(1));
+            b.put(row, col, Gf128(1));
+            b.put(row, w, Gf128(1));
+        }
+        5 => {
+            // (f w + g)(h w + k) = (f h + f k + g h) w + g k
+            let (col, v) = (r.below(w), r.elements(4));
+            a.put(row, col, v[0]);
+            a.put(row, w, v[1]);
+            b.put(row, col, v[2]);
+            b.put(row, w, v[3]);
+            c.put(row, col, mul(v[0], v[2]) + mul(v[0], v[3]) + mul(v[1], v[2]));
+            c.put(row, w, mul(v[1], v[3]));
+        }
+        _ if x.is_empty() => {}
+        _ => {
+            // a public column times anything linear
+            let (j, col, v) = (r.below(x.len()), r.below(w), r.elements(3));
+            let f = mul(v[0], x[j]);
+            a.put(row, w + 1 + j, v[0]);
+            b.put(row, col, v[1]);
+            b.put(row, w, v[2]);
+            c.put(row, col, mul(f, v[1]));
+            c.put(row, w, mul(f, v[2]));
+        }
+    }
+}
+
+/// A row that says that bit `to` is the product of two lower ones; the batch is made so.
+fn gate(r: &mut Random, rel: &mut Relation, system: usize, row: usize, to: usize) {
+    let (from, other) = (r.below(to), r.below(to));
+    for (k, col) in [from, other, to].into_iter().enumerate() {
+        rel.matrices[3 * system + k].put(row, col, Gf128(1));
+    }
+    for login in 0..rel.q {
+        let bit = rel.bit(login, from) && rel.bit(login, other);
+        rel.set_bit(login, to, bit);
+    }
+}
+
+pub fn random(r: &mut Random, m: usize, q: usize, rows: [usize; 2], segments: usize, kind: Kind) -> Relation {
+    let w = m / 2;
+    let lens = lengths(r, w, segments);
+    let mut rel = Relation::empty(m, q, rows, lens);
+    for word in rel.packed.iter_mut() {
+        *word = if r.one_in(8) { 0 } else { r.word() };
+    }
+    rel.x = text::words(&r.elements(w - 1));
+    if kind == Kind::Wild {
+        for k in 0..6 {
+            let binary = r.one_in(2);
+            for _ in 0..r.below(3 * rel.matrices[k].rows.min(64) + 2) {
+                let row = r.below(rel.matrices[k].rows);
+                let col = if binary { r.below(w + 1) } else { r.below(m) };
+                let v = if binary { Gf128(1) } else { r.element() };
+                rel.matrices[k].put(row, col, v);
+                if r.one_in(5) {
+                    rel.matrices[k].put(row, col, v);
+                }
+            }
+        }
+        return rel;
+    }
+    let inside = inside(w, &rel.lens);
+    if kind != Kind::Stray {
+        for login in 0..q {
+            for col in 0..w {
+                if !inside[col] {
+                    rel.set_bit(login, col, false);
+                }
+            }
+        }
+    }
+    let binary = !r.one_in(3);
+    // gates go up the columns, so that a bit that one of them reads is not changed by a later one
+    let mut next = 1 + r.below(w);
+    for system in 0..2 {
+        for row in 0..rows[system] {
+            if next < w && r.one_in(3) {
+                if inside[next] {
+                    gate(r, &mut rel, system, row, next);
+                }
+                next += 1;
+            } else {
+                good_row(r, &mut rel, system, row, system == 0 && binary);
+            }
+        }
+        for k in 0..3 {
+            rel.matrices[3 * system + k].shuffle(r);
+        }
+    }
+    if kind == Kind::Bad {
+        let (login, col) = (r.below(q), r.below(w));
+        let bit = rel.bit(login, col);
+        rel.set_bit(login, col, !bit);
+    }
+    rel
+}

@@ -1,0 +1,414 @@
+//! Whole runs: prover and verifier of both sides, the proofs whole and damaged.
+use crate::library::{self, Outcome};
+use crate::model::{self, Lent};
+use crate::random::Random;
+use crate::relation::{self, Kind, Matrix, Relation, KINDS};
+use crate::rust::{self, State};
+use crate::tally::{By, Tally};
+use crate::text::*;
+use crate::whole::{damage, first_failing};
+use magnetar_field::Gf128;
+use magnetar_spartan::{prove_virtual_spartan, verify_virtual_spartan, VirtualSpartanProof};
+
+fn log2(n: usize) -> usize {
+    n.trailing_zeros() as usize
+}
+
+/// The Rust's proof as document 01 orders its words.
+pub fn flat(p: &VirtualSpartanProof) -> Vec<u64> {
+    let mut all: Vec<Gf128> = vec![];
+    for (bin, fld) in &p.outer_shared {
+        all.extend(bin);
+        all.extend(fld);
+    }
+    all.extend(p.outer_bin.iter().flatten());
+    all.extend(p.outer_fld.iter().flatten());
+    all.extend(&p.terminals);
+    all.extend(p.inner.iter().flatten());
+    all.push(p.v_z);
+    all.extend(&p.segment_values);
+    words(&all)
+}
+
+/// Words as the Rust's proof, split as document 01 says.
+fn split(r: &Relation, proof: &[u64]) -> VirtualSpartanProof {
+    let all = rust::elements(proof);
+    let mut at = 0;
+    let mut take = |n: usize| {
+        at += n;
+        all[at - n..at].to_vec()
+    };
+    let [rb, rf] = r.rows();
+    VirtualSpartanProof {
+        outer_shared: (0..log2(r.q)).map(|_| (take(4), take(4))).collect(),
+        outer_bin: (0..log2(rb)).map(|_| take(4)).collect(),
+        outer_fld: (0..log2(rf)).map(|_| take(4)).collect(),
+        terminals: take(6).try_into().unwrap(),
+        inner: (0..log2(r.m)).map(|_| take(3)).collect(),
+        v_z: take(1)[0],
+        segment_values: take(r.lens.len()),
+    }
+}
+
+/// The challenges r_inst and r_low, drawn from the Rust's transcript: its claims hold them only as far as its segments go.
+fn challenges(r: &Relation, start: &State, proof: &[u64]) -> (Vec<Gf128>, Vec<Gf128>) {
+    let p = split(r, proof);
+    let mut t = rust::transcript(start);
+    let [rb, rf] = r.rows();
+    t.challenge_field_vec("vs-tau-bin", log2(r.q) + log2(rb));
+    t.challenge_field_vec("vs-tau-fld", log2(r.q) + log2(rf));
+    let mut inst = vec![];
+    for (i, (bin, fld)) in p.outer_shared.iter().enumerate() {
+        let label = format!("vs-out-shared-{i}");
+        t.absorb_field(&label, &[&bin[..], fld].concat());
+        inst.insert(0, t.challenge_field(&label));
+    }
+    for (name, rounds) in [("rowbin", &p.outer_bin), ("rowfld", &p.outer_fld)] {
+        for (i, message) in rounds.iter().enumerate() {
+            let label = format!("vs-out-{name}-{i}");
+            t.absorb_field(&label, message);
+            t.challenge_field(&label);
+        }
+    }
+    for (i, v) in p.terminals.iter().enumerate() {
+        t.absorb_field(&format!("vs-terminal-{i}"), &[*v]);
+    }
+    t.challenge_field_vec("vs-alpha", 6);
+    let mut low = vec![];
+    for message in &p.inner {
+        t.absorb_field("vs-inner", message);
+        low.push(t.challenge_field("vs-inner"));
+    }
+    low.pop();
+    (inst, low)
+}
+
+fn number(error: &str) -> u32 {
+    match error {
+        "vs: shared bin round check failed" => 21,
+        "vs: shared fld round check failed" => 22,
+        "vs: row bin round failed" => 23,
+        "vs: row fld round failed" => 24,
+        "vs: bin terminal identity failed" => 25,
+        "vs: fld terminal identity failed" => 26,
+        "vs: inner round failed" => 27,
+        "vs: inner terminal failed" => 28,
+        "vs: equation (1) segment identity failed" => 29,
+        _ => panic!("an error without a number: {error}"),
+    }
+}
+
+/// The claims as document 01 orders their words; the Rust's own are compared with them.
+fn claims(r: &Relation, start: &State, proof: &[u64], theirs: &[magnetar_spartan::SegmentClaim]) -> Vec<u64> {
+    let (inst, low) = challenges(r, start, proof);
+    let values = rust::elements(&proof[proof.len() - 2 * r.lens.len()..]);
+    assert_eq!(theirs.len(), values.len());
+    for (i, c) in theirs.iter().enumerate() {
+        assert!(c.segment == i && c.r_inst == inst && c.r_local == low[..c.r_local.len()] && c.value == values[i]);
+    }
+    words(&[inst, low, values].concat())
+}
+
+/// The Rust's prover: proof, claims and transcript.
+pub fn rust_prove(r: &Relation, start: &State) -> (Vec<u64>, Vec<u64>, State) {
+    let mut t = rust::transcript(start);
+    let (proof, theirs) = prove_virtual_spartan(&r.rust_relation(), &r.rust_layout(), &r.rust_packed(), &r.rust_x(), r.q, &mut t);
+    let proof = flat(&proof);
+    let claims = claims(r, start, &proof, &theirs);
+    (proof, claims, rust::state(&t))
+}
+
+/// The Rust's verifier: number, claims and transcript.
+fn rust_verify(r: &Relation, start: &State, proof: &[u64]) -> (u32, Vec<u64>, State) {
+    let mut t = rust::transcript(start);
+    match verify_virtual_spartan(&r.rust_relation(), &r.rust_layout(), r.q, &r.rust_x(), &split(r, proof), &mut t) {
+        Ok(theirs) => (0, claims(r, start, proof, &theirs), rust::state(&t)),
+        Err(e) => (number(e), vec![], rust::state(&t)),
+    }
+}
+
+fn shown(o: &Outcome) -> String {
+    let scratch = o.scratch.iter().take_while(|&&w| w == 0).count();
+    let code = if o.code == 0 { "=".to_string() } else { format!("! {}", o.code) };
+    let proof = if o.proof.is_empty() { String::new() } else { format!("= {}\n", list(&o.proof)) };
+    format!("{code} {}\n{proof}= {}\nscratch: {} words, {scratch} of them zero first", state(&o.transcript), list(&o.claims), o.scratch.len())
+}
+
+/// Compares the verifier on words of a proof; the number that was expected.
+pub fn verify(tally: &mut Tally, r: &Relation, start: &State, proof: &[u64], claims: usize, scratch: usize) -> u32 {
+    let refusal = model::verify(r, Lent { proof: proof.len(), claims, scratch, counter: start.1 });
+    let expected = if refusal != 0 {
+        Outcome { code: refusal, transcript: *start, proof: vec![], claims: marked(&[], claims), scratch: marked(&[], scratch) }
+    } else {
+        let (code, found, transcript) = rust_verify(r, start, proof);
+        let scratch = marked(&vec![0; model::room(r).verifier], scratch);
+        Outcome { code, transcript, proof: vec![], claims: marked(&found, claims), scratch }
+    };
+    let found = library::verify(r, start, proof, claims, scratch);
+    let by = if refusal == 0 { By::Rust } else { By::Document };
+    tally.verdict("verify", expected.code);
+    tally.compared("verify_virtual_spartan", by, found == expected, || {
+        let query = format!("verify {} {claims} {scratch} {}", state(start), list(proof));
+        format!("{}\n{query}\nexpected:\n{}\nhere:\n{}", r.text(), shown(&expected), shown(&found))
+    });
+    expected.code
+}
+
+/// Compares the prover; its proof is the Rust's either way.
+#[cfg(prover)]
+pub fn prove(tally: &mut Tally, r: &Relation, start: &State, proof: usize, claims: usize, scratch: usize) {
+    let refusal = model::prove(r, Lent { proof, claims, scratch, counter: start.1 });
+    let expected = if refusal != 0 {
+        Outcome { code: refusal, transcript: *start, proof: marked(&[], proof), claims: marked(&[], claims), scratch: marked(&[], scratch) }
+    } else {
+        let (words, found, transcript) = rust_prove(r, start);
+        let scratch = marked(&vec![0; model::room(r).prover], scratch);
+        Outcome { code: 0, transcript, proof: marked(&words, proof), claims: marked(&found, claims), scratch }
+    };
+    let found = library::prove(r, start, proof, claims, scratch);
+    let by = if refusal == 0 { By::Rust } else { By::Document };
+    tally.verdict("prove", expected.code);
+    tally.compared("prove_virtual_spartan", by, found == expected, || {
+        let query = format!("prove {} {proof} {claims} {scratch}", state(start));
+        format!("{}\n{query}\nexpected:\n{}\nhere:\n{}", r.text(), shown(&expected), shown(&found))
+    });
+}
+
+#[cfg(not(prover))]
+pub fn prove(_: &mut Tally, _: &Relation, _: &State, _: usize, _: usize, _: usize) {}
+
+/// Compares the row check through the library.
+pub fn check(tally: &mut Tally, r: &Relation, scratch: usize) {
+    let refusal = model::check(r, scratch);
+    let expected = if refusal != 0 {
+        ((refusal, 3, 0, 0), marked(&[], scratch))
+    } else {
+        let place = first_failing(r).map_or((0, 0, 0, 0), |(system, login, row)| (0, 1 + system as u32, login, row));
+        (place, marked(&vec![0; model::room(r).check], scratch))
+    };
+    let found = library::row_check(r, scratch);
+    let by = if refusal == 0 { By::Rust } else { By::Document };
+    tally.compared("check::row_check", by, found == expected, || {
+        format!("{}\ncheck {scratch}\nexpected {:?}, here {:?}", r.text(), expected.0, found.0)
+    });
+}
+
+fn start(r: &mut Random) -> State {
+    let counter = match r.below(8) {
+        0 => (1 << 32) - 1 - r.below(3) as u64,
+        1 => r.word() >> 33,
+        _ => 0,
+    };
+    (r.bytes(32).try_into().unwrap(), counter)
+}
+
+/// A relation's honest run on both sides; the proof.
+pub fn honest(tally: &mut Tally, r: &Relation, t: &State, slack: usize) -> (Vec<u64>, u32) {
+    let room = model::room(r);
+    prove(tally, r, t, room.proof + slack, room.claims + slack, room.prover + slack);
+    let (proof, _, _) = rust_prove(r, t);
+    let code = verify(tally, r, t, &proof, room.claims + slack, room.verifier + slack);
+    check(tally, r, room.check + slack);
+    (proof, code)
+}
+
+/// Every rule of one row over two columns and every bit of two logins, in both systems at once; every bit of every word of some
+/// proofs; every number of words.
+pub fn exhaustive(tally: &mut Tally, part: usize, parts: usize) {
+    let t: State = ([7; 32], 0);
+    for rules in (0..4096usize).filter(|n| n % parts == part) {
+        for bits in 0..4u64 {
+            let mut rel = Relation::empty(2, 2, [1, 1], if rules & 1 == 0 { vec![1] } else { vec![] });
+            rel.packed = vec![bits & 1, 0, bits >> 1, 0];
+            for k in 0..12 {
+                if rules >> k & 1 == 1 {
+                    rel.matrices[k / 2].put(0, k % 2, Gf128(1));
+                }
+            }
+            honest(tally, &rel, &t, 0);
+        }
+    }
+    let r = &mut Random(14);
+    for (i, (m, q, rows, segments)) in [(2, 1, [1, 1], 0), (2, 2, [1, 2], 1), (4, 2, [2, 1], 2), (8, 4, [2, 4], 3)].into_iter().enumerate() {
+        let rel = relation::random(r, m, q, rows, segments, Kind::Good);
+        if i % parts != part {
+            continue;
+        }
+        let room = model::room(&rel);
+        let (proof, code) = honest(tally, &rel, &t, 1);
+        assert_eq!(code, 0, "a good batch is accepted");
+        for word in 0..proof.len() {
+            for bit in 0..64 {
+                let mut damaged = proof.clone();
+                damaged[word] ^= 1 << bit;
+                verify(tally, &rel, &t, &damaged, room.claims, room.verifier);
+            }
+        }
+        for n in 0..proof.len() + 9 {
+            let mut other = proof.clone();
+            other.resize(n, 0);
+            verify(tally, &rel, &t, &other, room.claims, room.verifier);
+        }
+        for lent in 0..room.claims + 3 {
+            verify(tally, &rel, &t, &proof, lent, room.verifier);
+            prove(tally, &rel, &t, room.proof, lent, room.prover);
+        }
+        for lent in 0..room.verifier + 3 {
+            verify(tally, &rel, &t, &proof, room.claims, lent);
+        }
+        for lent in 0..room.check + 3 {
+            check(tally, &rel, lent);
+        }
+        for lent in 0..room.proof + 3 {
+            prove(tally, &rel, &t, lent, room.claims, room.prover);
+        }
+        for lent in room.prover - 9..room.prover + 3 {
+            prove(tally, &rel, &t, room.proof, room.claims, lent);
+        }
+    }
+    if part == 0 {
+        boundaries(tally);
+    }
+}
+
+/// The limits of sizes, on both sides: what is refused before anything of the size is looked at.
+fn boundaries(tally: &mut Tally) {
+    let t: State = ([9; 32], 0);
+    let base = Relation::empty(4, 2, [1, 2], vec![1]);
+    let room = model::room(&base);
+    let (proof, _, _) = rust_prove(&base, &t);
+    let mut each = |edit: &dyn Fn(&mut Relation)| {
+        let mut r = base.clone();
+        edit(&mut r);
+        verify(tally, &r, &t, &proof, room.claims, room.verifier);
+        prove(tally, &r, &t, room.proof, room.claims, room.prover);
+        check(tally, &r, room.check);
+    };
+    for n in (0..20).chain([65535, 65536, 65537, 131072, usize::MAX]) {
+        each(&|r| r.m = n);
+        each(&|r| r.x = vec![0; n.min(70000)]);
+        for k in 0..6 {
+            each(&|r| r.matrices[k].rows = n);
+            each(&|r| r.matrices[k].cols = n);
+        }
+        each(&|r| r.matrices[..3].iter_mut().for_each(|m| m.rows = n));
+        each(&|r| r.lens = vec![n]);
+        each(&|r| r.lens = vec![1; n.min(70)]);
+    }
+    for n in (0..20).chain([4095, 4096, 4097, 8192, usize::MAX]) {
+        each(&|r| r.q = n);
+        each(&|r| r.packed = vec![0; n.min(9000)]);
+    }
+    for k in 0..6 {
+        for part in 0..4 {
+            each(&|r| match part {
+                0 => r.matrices[k].row.push(0),
+                1 => r.matrices[k].col.push(0),
+                2 => r.matrices[k].lo.push(0),
+                _ => r.matrices[k].hi.push(0),
+            });
+        }
+        for row in 0..4 {
+            for col in 0..6 {
+                each(&|r| r.matrices[k].put(row, col, Gf128(1)));
+            }
+        }
+    }
+    for counter in [0, 1, (1 << 32) - 1, 1 << 32, (1 << 32) + 1, u64::MAX] {
+        let t = ([9; 32], counter);
+        verify(tally, &base, &t, &proof, room.claims, room.verifier);
+        prove(tally, &base, &t, room.proof, room.claims, room.prover);
+    }
+}
+
+/// The proof damaged in other ways, or brought to another verifier.
+fn damaged(tally: &mut Tally, r: &mut Random, rel: &Relation, t: &State, proof: &[u64]) {
+    let room = model::room(rel);
+    let ask = |tally: &mut Tally, rel: &Relation, t: &State, proof: &[u64]| verify(tally, rel, t, proof, room.claims, room.verifier);
+    // a bit of each element
+    for i in 0..proof.len() / 2 {
+        let mut p = proof.to_vec();
+        p[2 * i + r.below(2)] ^= 1 << r.below(64);
+        ask(tally, rel, t, &p);
+    }
+    // special elements, several at once, two exchanged
+    for _ in 0..3 {
+        let mut p = proof.to_vec();
+        for _ in 0..1 + r.below(3) {
+            let i = r.below(p.len() / 2);
+            let e = words(&[r.element()]);
+            p[2 * i..2 * i + 2].copy_from_slice(&e);
+        }
+        ask(tally, rel, t, &p);
+        let (i, j) = (r.below(proof.len() / 2), r.below(proof.len() / 2));
+        let mut p = proof.to_vec();
+        for k in 0..2 {
+            p.swap(2 * i + k, 2 * j + k);
+        }
+        ask(tally, rel, t, &p);
+    }
+    ask(tally, rel, t, &vec![0; proof.len()]);
+    // another number of words
+    let n = r.below(proof.len());
+    ask(tally, rel, t, &proof[..n]);
+    ask(tally, rel, t, &proof[..proof.len() - 2]);
+    let extra = 1 + r.below(4);
+    let longer = [proof, &r.words(extra)].concat();
+    ask(tally, rel, t, &longer);
+    // another transcript, another counter, other public words, other rules
+    let mut u = *t;
+    u.0[r.below(32)] ^= 1 << r.below(8);
+    ask(tally, rel, &u, proof);
+    ask(tally, rel, &(t.0, t.1 ^ 1), proof);
+    ask(tally, rel, &(t.0, t.1 + (1 << 32)), proof);
+    let mut other = rel.clone();
+    if !other.x.is_empty() {
+        let i = r.below(other.x.len());
+        other.x[i] ^= 1 << r.below(64);
+        ask(tally, &other, t, proof);
+    }
+    let mut other = rel.clone();
+    let k = r.below(6);
+    let m: &mut Matrix = &mut other.matrices[k];
+    let (row, col, v) = (r.below(m.rows), r.below(m.cols), r.element());
+    m.put(row, col, v);
+    ask(tally, &other, t, proof);
+    other.matrices[k].put(row, col, v);
+    ask(tally, &other, t, proof);
+    if !rel.lens.is_empty() {
+        let mut other = rel.clone();
+        let i = r.below(other.lens.len());
+        other.lens[i] = 1 << r.below(log2(rel.m));
+        ask(tally, &other, t, proof);
+    }
+}
+
+pub fn random(tally: &mut Tally, r: &mut Random) {
+    let (m, q) = (2 << r.below(7), 1 << r.below(5));
+    let rows = [1 << r.below(4), 1 << r.below(4)];
+    let kind = r.pick(&KINDS);
+    let rel = relation::random(r, m, q, rows, 6, kind);
+    let t = start(r);
+    let slack = r.below(4);
+    let (proof, code) = honest(tally, &rel, &t, slack);
+    if kind == Kind::Good && code != 0 {
+        panic!("the Rust turns a good batch back with {code}: {}", rel.text());
+    }
+    damaged(tally, r, &rel, &t, &proof);
+    // words lent too few, and refusals of the relation
+    let room = model::room(&rel);
+    let less = 1 + r.below(3);
+    verify(tally, &rel, &t, &proof, room.claims.saturating_sub(less), room.verifier);
+    verify(tally, &rel, &t, &proof, room.claims, room.verifier - less);
+    prove(tally, &rel, &t, room.proof - less, room.claims, room.prover);
+    prove(tally, &rel, &t, room.proof, room.claims, room.prover - less);
+    for _ in 0..3 {
+        let mut bad = rel.clone();
+        for _ in 0..1 + r.below(2) {
+            damage(r, &mut bad);
+        }
+        verify(tally, &bad, &t, &proof, room.claims, room.verifier);
+        prove(tally, &bad, &t, room.proof, room.claims, room.prover);
+        check(tally, &bad, room.check);
+    }
+}

@@ -1,0 +1,246 @@
+//! Queries on the sum-check: whole ones, single rounds, terminal identities, and the functions on lent tables.
+use crate::random::Random;
+use crate::sheet::Sheet;
+use crate::tally::By::{Document, Rust};
+use crate::text::*;
+use magnetar_field::{eq_build_fused, is_bit, mul, Gf128, ONE, ZERO};
+use magnetar_sumcheck::{BindOrder, EqFactor, PublicFactor, RoundMsg, SumcheckProver, SumcheckSpec, SumcheckVerifier};
+use magnetar_sumcheck::{TableFactor, Term};
+
+type Public = Vec<Box<dyn PublicFactor + Send + Sync>>;
+
+fn order(high: usize) -> BindOrder {
+    if high == 0 { BindOrder::Increasing } else { BindOrder::HighBitsFirst { high } }
+}
+
+/// eq (A B + C)
+fn outer_terms() -> Vec<Term> {
+    vec![
+        Term { coeff: ONE, dense: vec![0, 1], public: vec![0] },
+        Term { coeff: ONE, dense: vec![2], public: vec![0] },
+    ]
+}
+
+/// T Z
+fn inner_terms() -> Vec<Term> {
+    vec![Term { coeff: ONE, dense: vec![0], public: vec![0] }]
+}
+
+/// A whole sum-check of the Rust's: in each round the message, the verdict on it, the claim after it and the folded tables.
+fn whole(claim: Gf128, dense: &[Vec<Gf128>], public: &dyn Fn() -> Public, terms: Vec<Term>, high: usize, r: &[Gf128], shown: bool) -> (Vec<String>, Vec<Vec<Gf128>>) {
+    let order = order(high);
+    let spec = SumcheckSpec { num_vars: r.len(), dense: dense.to_vec(), public: public(), terms: terms.clone(), claim };
+    let bits = dense.iter().map(|d| d.iter().all(|x| is_bit(*x))).collect();
+    let mut prover = SumcheckProver::with_dense_bits(&spec, order, bits);
+    let factors = public();
+    let mut verifier = SumcheckVerifier::new(r.len(), claim, &factors, terms, order);
+    let (mut good, mut running, mut lines, mut messages) = (true, claim, vec![], vec![]);
+    for &x in r {
+        let message = prover.message();
+        let holds = verifier.round_external(&message, x).is_ok();
+        prover.fold(x);
+        good &= holds;
+        if holds {
+            running = prover.running();
+        }
+        lines.push(format!("= {} {holds} {}", elements(&message.0), elements(&[running])));
+        if shown {
+            lines.push(format!("= {}", elements(&prover.debug_public_state().0[0])));
+        }
+        lines.extend(prover.dense_tables().iter().map(|t| format!("= {}", elements(t))));
+        messages.push(message.0);
+    }
+    let (claims, _) = prover.finish();
+    let mut end = vec![factors[0].eval_at(&order.point(r.len(), r))];
+    end.extend(&claims);
+    lines.push(format!("= {} {}", elements(&end), good && verifier.finish(&claims).is_ok()));
+    (lines, messages)
+}
+
+fn outer(sheet: &mut Sheet, high: usize, tau: &[Gf128], abc: &[Vec<Gf128>; 3], r: &[Gf128], wrong: Gf128) -> (Gf128, Vec<Vec<Gf128>>) {
+    let e = eq_build_fused(tau);
+    let claim = (0..e.len()).fold(wrong, |s, i| s + mul(e[i], mul(abc[0][i], abc[1][i]) + abc[2][i]));
+    let public = || -> Public { vec![Box::new(EqFactor::new(tau.to_vec()))] };
+    let (lines, messages) = whole(claim, abc, &public, outer_terms(), high, r, false);
+    let tables: Vec<String> = abc.iter().map(|t| elements(t)).collect();
+    let query = format!("outer {high} {} {} {} {}", elements(&[claim]), elements(tau), tables.join(" "), elements(r));
+    sheet.ask("outer sum-check", Rust, query, lines);
+    (claim, messages)
+}
+
+fn inner(sheet: &mut Sheet, high: usize, t: &[Gf128], z: &[Gf128], r: &[Gf128], wrong: Gf128) {
+    let claim = t.iter().zip(z).fold(wrong, |s, (&a, &b)| s + mul(a, b));
+    let public = || -> Public { vec![Box::new(TableFactor::new(t.to_vec()))] };
+    let (lines, _) = whole(claim, &[z.to_vec()], &public, inner_terms(), high, r, true);
+    let query = format!("inner {high} {} {} {} {}", elements(&[claim]), elements(t), elements(z), elements(r));
+    sheet.ask("inner sum-check", Rust, query, lines);
+}
+
+/// One message of any degree. The Rust's verifier hands out no claim; it confirms the message's value.
+fn round(sheet: &mut Sheet, message: &[Gf128], claim: Gf128, r: Gf128) {
+    let terms = vec![Term { coeff: ONE, dense: vec![0; message.len() - 1], public: vec![] }];
+    let mut verifier = SumcheckVerifier::new(1, claim, &[], terms, BindOrder::Increasing);
+    let holds = verifier.round_external(&RoundMsg(message.to_vec()), r).is_ok();
+    let next = message.iter().rev().fold(ZERO, |acc, c| mul(acc, r) + *c);
+    if holds && message.len() > 1 {
+        assert!(verifier.finish_offset(&[ZERO], next).is_ok());
+    }
+    let query = format!("round {} {}", elements(message), elements(&[claim, r]));
+    sheet.ask("engine::round_external", Rust, query, vec![format!("= {holds} {}", elements(&[if holds { next } else { claim }]))]);
+}
+
+fn end(sheet: &mut Sheet, outer: bool, values: &[Gf128]) {
+    let factors: Public = vec![Box::new(TableFactor::new(vec![values[1]]))];
+    let terms = if outer { outer_terms() } else { inner_terms() };
+    let holds = SumcheckVerifier::new(0, values[0], &factors, terms, BindOrder::Increasing).finish(&values[2..]).is_ok();
+    let (name, op) = if outer { ("engine::outer_finish", "outerend") } else { ("engine::inner_finish", "innerend") };
+    sheet.ask(name, Rust, format!("{op} {}", elements(values)), vec![truth(holds)]);
+}
+
+fn ends(sheet: &mut Sheet, r: &mut Random) {
+    let v = r.elements(4);
+    let mut values = vec![mul(v[0], mul(v[1], v[2]) + v[3])];
+    values.extend(&v);
+    end(sheet, true, &values);
+    let k = r.below(5);
+    values[k] = values[k] + Gf128(1 << r.below(128));
+    end(sheet, true, &values);
+    let v = r.elements(2);
+    let mut values = vec![mul(v[0], v[1]), v[0], v[1]];
+    end(sheet, false, &values);
+    let k = r.below(3);
+    values[k] = values[k] + Gf128(1 << r.below(128));
+    end(sheet, false, &values);
+}
+
+fn points(sheet: &mut Sheet, high: usize, tau: &[Gf128], r: &[Gf128]) {
+    let query = format!("eqpoints {high:#x} {} {}", elements(tau), elements(r));
+    if tau.len() != r.len() || high > r.len() {
+        sheet.ask("public::eq_points", Document, query, vec![refused(11)]);
+    } else {
+        let value = EqFactor::new(tau.to_vec()).eval_at(&order(high).point(r.len(), r));
+        sheet.ask("public::eq_points", Rust, query, vec![format!("= {}", elements(&[value]))]);
+    }
+}
+
+/// The functions on lent tables: messages of the first round, and the table without a variable.
+fn lent(sheet: &mut Sheet, tau: &[Gf128], abc: &[Vec<Gf128>; 3], v: usize, room: usize) {
+    let n = tau.len();
+    let high = if v == 0 { 0 } else { 1 };
+    let r = vec![ONE; n];
+    let rest: Vec<Gf128> = tau.iter().enumerate().filter(|(i, _)| *i != v).map(|(_, t)| *t).collect();
+    let e = eq_build_fused(&rest);
+    let public = || -> Public { vec![Box::new(EqFactor::new(tau.to_vec()))] };
+    let (_, messages) = whole(ZERO, abc, &public, outer_terms(), high, &r, false);
+    let tables: Vec<String> = abc.iter().map(|t| elements(t)).collect();
+    let query = format!("outermsg {room} {v} {} {} {}", elements(&e), tables.join(" "), elements(&[ONE, tau[v]]));
+    let short = room < 8;
+    let found = if short { code(15, &marked(&[], room)) } else { code(0, &marked(&words(&messages[0]), room)) };
+    sheet.ask("engine::outer_message", if short { Document } else { Rust }, query, vec![found]);
+    let public = || -> Public { vec![Box::new(TableFactor::new(abc[0].clone()))] };
+    let (_, messages) = whole(ZERO, &abc[1..2], &public, inner_terms(), high, &r, true);
+    let query = format!("innermsg {room} {v} {} {}", tables[0], tables[1]);
+    let short = room < 6;
+    let found = if short { code(15, &marked(&[], room)) } else { code(0, &marked(&words(&messages[0]), room)) };
+    sheet.ask("engine::inner_message", if short { Document } else { Rust }, query, vec![found]);
+    let whole_table = words(&eq_build_fused(tau));
+    let mut after = whole_table.clone();
+    after[..2 * e.len()].copy_from_slice(&words(&e));
+    sheet.ask("public::drop_var", Rust, format!("dropvar {v} {}", list(&whole_table)), vec![code(0, &after)]);
+}
+
+/// Tables that do not go together: 11, before 15.
+fn mismatched(sheet: &mut Sheet, lens: [usize; 4], v: usize, room: usize) {
+    let table = |n: usize| list(&vec![3; n]);
+    let is_table = |n: usize| n % 2 == 0 && (n / 2).is_power_of_two() && v < (n / 2).trailing_zeros() as usize;
+    let answer = vec![code(11, &marked(&[], room))];
+    let [e, a, b, c] = lens;
+    if !(is_table(a) && b == a && c == a && 2 * e == a) {
+        let query = format!("outermsg {room} {v:#x} {} {} {} {} 4 1 0 1 0", table(e), table(a), table(b), table(c));
+        sheet.ask("engine::outer_message", Document, query, answer.clone());
+    }
+    if !(is_table(a) && b == a) {
+        sheet.ask("engine::inner_message", Document, format!("innermsg {room} {v:#x} {} {}", table(a), table(b)), answer);
+    }
+    if !is_table(a) {
+        sheet.ask("public::drop_var", Document, format!("dropvar {v:#x} {}", table(a)), vec![code(11, &vec![3; a])]);
+    }
+}
+
+/// Every order of up to three variables with tables of bits and challenges among 0, 1 and another; every size of a table.
+pub fn exhaustive(sheet: &mut Sheet) {
+    let special = [ZERO, ONE, Gf128(1 << 127)];
+    for n in 0..=2usize {
+        let cells = 1usize << n;
+        for bits in 0..1usize << (3 * cells).min(9) {
+            let table = |k: usize| (0..cells).map(|i| Gf128((bits >> ((k * cells + i) % 9) & 1) as u128)).collect::<Vec<_>>();
+            let abc = [table(0), table(1), table(2)];
+            for k in 0..3usize.pow(n as u32) {
+                let tau: Vec<_> = (0..n).map(|j| special[(k / 3usize.pow(j as u32) + j) % 3]).collect();
+                let r: Vec<_> = (0..n).map(|j| special[k / 3usize.pow(j as u32) % 3]).collect();
+                let high = (bits + k) % (n + 1);
+                outer(sheet, high, &tau, &abc, &r, ZERO);
+                inner(sheet, high, &abc[0], &abc[1], &r, ZERO);
+                points(sheet, high, &tau, &r);
+            }
+        }
+    }
+    for e in 0..5 {
+        for a in 0..10 {
+            for b in [0, 2, 4, 8, a] {
+                for c in [a, 4] {
+                    for v in [0, 1, 2, 64, usize::MAX] {
+                        mismatched(sheet, [e, a, b, c], v, 7);
+                    }
+                }
+            }
+        }
+    }
+    let r = &mut Random(12);
+    for n in 1..=4 {
+        for v in 0..n {
+            for room in 0..12 {
+                let abc = [r.elements(1 << n), r.elements(1 << n), r.elements(1 << n)];
+                let tau = r.elements(n);
+                lent(sheet, &tau, &abc, v, room);
+            }
+        }
+        for (high, tau, other) in [(0, n, n + 1), (0, n + 1, n), (n + 1, n, n), (usize::MAX, n, n), (0, n, 0)] {
+            points(sheet, high, &vec![Gf128(3); tau], &vec![Gf128(5); other]);
+        }
+    }
+}
+
+pub fn random(sheet: &mut Sheet, r: &mut Random) {
+    let n = r.below(6);
+    let high = r.below(n + 1);
+    let abc = [r.elements(1 << n), r.elements(1 << n), r.elements(1 << n)];
+    let (tau, point) = (r.elements(n), r.elements(n));
+    let wrong = if r.one_in(4) { Gf128(1 << r.below(128)) } else { ZERO };
+    let (claim, messages) = outer(sheet, high, &tau, &abc, &point, wrong);
+    inner(sheet, high, &abc[0], &abc[1], &point, wrong);
+    points(sheet, high, &tau, &point);
+    points(sheet, high, &point, &point);
+    ends(sheet, r);
+    if let Some(message) = messages.first() {
+        let x = r.element();
+        round(sheet, message, claim, x);
+        let mut damaged = message.clone();
+        let k = r.below(4);
+        damaged[k] = damaged[k] + Gf128(1 << r.below(128));
+        round(sheet, &damaged, claim, x);
+        let v = r.pick(&[0, n - 1]);
+        let room = r.below(12);
+        lent(sheet, &tau, &abc, v, room);
+        lent(sheet, &tau, &abc, v, 8);
+    }
+    let degree = r.below(6);
+    let message = r.elements(degree + 1);
+    let claim = message[1..].iter().fold(ZERO, |s, &c| s + c);
+    let x = r.element();
+    round(sheet, &message, claim, x);
+    round(sheet, &message, claim + Gf128(1 << r.below(128)), x);
+    let (k, t) = (r.element(), r.element());
+    let next = mul(k, ONE + t + x);
+    sheet.ask("public::eq_next", Rust, format!("eqnext {}", elements(&[k, t, x])), vec![format!("= {}", elements(&[next]))]);
+}

@@ -1,0 +1,206 @@
+//! Queries on whole relations: the combined table, the masks, the row check.
+use crate::matrix;
+use crate::model;
+use crate::random::Random;
+use crate::relation::{self, Matrix, Relation, KINDS};
+use crate::rust;
+use crate::sheet::Sheet;
+use crate::tally::By::{self, Document, Rust};
+use crate::text::*;
+use magnetar_field::{mul, Gf128};
+use open_spartan::virtual_spartan::open_build_m_combo;
+
+/// What the program has room for.
+const NUMBERS: usize = 4000;
+
+fn log2(n: usize) -> usize {
+    n.trailing_zeros() as usize
+}
+
+fn by(n: u32) -> By {
+    if n == 0 { Rust } else { Document }
+}
+
+fn combo(sheet: &mut Sheet, rel: &Relation, alphas: &[u64], pb: &[u64], pf: &[u64], lent: usize, scratch: usize) {
+    let [rb, rf] = rel.rows();
+    let n = match model::relation(rel, false, false, false) {
+        0 => model::first(&[
+            (11, alphas.len() != 12 || pb.len() != 2 * log2(rb) || pf.len() != 2 * log2(rf)),
+            (15, lent < 2 * rel.m || scratch < 2 * rel.m + 2 * rb.max(rf)),
+        ]),
+        n => n,
+    };
+    let answer = if n == 0 {
+        let r = rel.rust_relation();
+        let found = open_build_m_combo(&open(r), &rust::elements(alphas), &rust::elements(pb), &rust::elements(pf));
+        vec![code(0, &marked(&words(&found), lent)), counted(2 * rel.m + 2 * rb.max(rf), scratch)]
+    } else {
+        vec![code(n, &marked(&[], lent)), counted(0, scratch)]
+    };
+    let query = format!("combo {lent} {scratch} {} {} {}", list(alphas), list(pb), list(pf));
+    sheet.ask_on("combo::build_m_combo", by(n), &rel.text(), query, answer);
+}
+
+/// The Rust's relation once more, of the crate that opens its private functions.
+fn open(r: magnetar_spartan::DualRelation) -> open_spartan::DualRelation {
+    open_spartan::DualRelation { m: r.m, a_bin: r.a_bin, b_bin: r.b_bin, c_bin: r.c_bin, a_fld: r.a_fld, b_fld: r.b_fld, c_fld: r.c_fld }
+}
+
+fn masks(sheet: &mut Sheet, m: &Matrix, packed: &[u64], q: usize, w: usize, v: usize, lent: usize) {
+    let n = match model::batch(m, q, w, packed.len(), None) {
+        0 => {
+            let s = log2(q);
+            let bits = m.rust().is_binary() && m.col.iter().all(|&c| c <= w);
+            model::first(&[(12, !bits), (13, v > s || v > 6), (15, v <= s && lent < m.rows << (s - v))])
+        }
+        n => n,
+    };
+    let answer = if n == 0 || n == 12 {
+        let wide: Vec<u128> = packed.chunks(2).map(|w| w[0] as u128 | (w[1] as u128) << 64).collect();
+        match m.rust().apply_simd_bit_masks(&wide, q, w, log2(q), v) {
+            Some(found) => code(0, &marked(&found, lent)),
+            None => code(12, &marked(&[], lent)),
+        }
+    } else {
+        code(n, &marked(&[], lent))
+    };
+    let mut rel = Relation::empty(2, 1, [1, 1], vec![]);
+    rel.matrices[0] = m.clone();
+    rel.packed = packed.to_vec();
+    let by = if n == 0 || n == 12 { Rust } else { Document };
+    sheet.ask_on("r1cs::apply_simd_bit_masks", by, &rel.text(), format!("masks {lent} {q:#x} {w:#x} {v:#x}"), vec![answer]);
+}
+
+/// The first failing row: the Rust's products, compared row by row in document 01's order.
+pub fn first_failing(rel: &Relation) -> Option<(usize, usize, usize)> {
+    let (packed, x, rows) = (rel.rust_packed(), rel.rust_x(), rel.rows());
+    for system in 0..2 {
+        let [a, b, c] = [0, 1, 2].map(|k| rel.matrices[3 * system + k].rust().apply_simd_packed(&packed, &x, rel.q, rel.m / 2).0);
+        for i in 0..a.len() {
+            if mul(a[i], b[i]) != c[i] {
+                return Some((system, i / rows[system], i % rows[system]));
+            }
+        }
+    }
+    None
+}
+
+fn check(sheet: &mut Sheet, rel: &Relation, scratch: usize) {
+    let n = model::check(rel, scratch);
+    let answer = if n == 0 {
+        let verdict = match first_failing(rel) {
+            None => "= good".to_string(),
+            Some((system, login, row)) => format!("= {} {login} {row}", ["bin", "fld"][system]),
+        };
+        vec![verdict, counted(model::room(rel).check, scratch)]
+    } else {
+        vec![refused(n), counted(0, scratch)]
+    };
+    sheet.ask_on("check::row_check", by(n), &rel.text(), format!("check {scratch}"), answer);
+}
+
+/// Something that is refused with 1 to 10, or nearly.
+pub fn damage(r: &mut Random, rel: &mut Relation) {
+    let k = r.below(6);
+    let [rb, rf] = rel.rows();
+    let far = r.pick(&[0, 1, 2, 3, 131072, 1 << 40, usize::MAX]);
+    match r.below(16) {
+        0 => rel.m = far,
+        1 => rel.q = far,
+        2 => rel.packed.truncate(r.below(rel.packed.len().max(1))),
+        3 => rel.packed.push(0),
+        4 => rel.x.push(0),
+        5 => rel.x.truncate(rel.x.len().saturating_sub(1 + r.below(3))),
+        6 => rel.matrices[k].rows = r.pick(&[0, 3, rel.matrices[k].rows.wrapping_mul(2), 131072, usize::MAX]),
+        7 => rel.matrices[k].cols = r.pick(&[0, rel.m / 2, rel.m.wrapping_sub(1), rel.m.wrapping_mul(2), usize::MAX]),
+        8 => rel.matrices[k].row.push(0),
+        9 => rel.matrices[k].col.push(0),
+        10 => rel.matrices[k].lo.push(0),
+        11 => rel.matrices[k].hi.push(0),
+        12 => rel.matrices[k].put(if k < 3 { rb } else { rf }, 0, Gf128(0)),
+        13 => rel.matrices[k].put(0, rel.m, Gf128(0)),
+        14 => rel.lens.push(r.pick(&[0, 3, rel.m, rel.m / 2, usize::MAX])),
+        _ => rel.lens.extend(vec![1; 66]),
+    }
+}
+
+/// All rules of one row over two columns and all bits of two logins, with the row check; every v for the masks.
+pub fn exhaustive(sheet: &mut Sheet) {
+    for rules in 0..64usize {
+        for system in 0..2 {
+            for bits in 0..4u64 {
+                let mut rel = Relation::empty(2, 2, [1, 1], vec![1]);
+                rel.packed = vec![bits & 1, 0, bits >> 1, 0];
+                for k in 0..6 {
+                    if rules >> k & 1 == 1 {
+                        rel.matrices[3 * system + k / 2].put(0, k % 2, Gf128(1));
+                    }
+                }
+                check(sheet, &rel, 6);
+            }
+        }
+    }
+    for scratch in 0..10 {
+        check(sheet, &Relation::empty(2, 1, [1, 1], vec![]), scratch);
+    }
+    let r = &mut Random(13);
+    for s in 0..=7 {
+        for v in 0..=8 {
+            for w in [1, 2, 64, 128] {
+                let q = 1usize << s;
+                let mut m = Matrix::empty(2, 2 * w);
+                m.put(0, r.below(w + 1), Gf128(1));
+                m.put(1, r.below(w), Gf128(1));
+                let packed = r.words(model::packed_words(q, w));
+                let need = if v <= s { 2usize << (s - v) } else { 2 };
+                for lent in [need - 1, need, need + 1] {
+                    masks(sheet, &m, &packed, q, w, v, lent);
+                }
+            }
+        }
+    }
+}
+
+pub fn random(sheet: &mut Sheet, r: &mut Random) {
+    let (m, q) = (2 << r.below(8), 1 << r.below(5));
+    let rows = [1 << r.below(4), 1 << r.below(4)];
+    let kind = r.pick(&KINDS);
+    let rel = relation::random(r, m, q, rows, 5, kind);
+    if rel.numbers() > NUMBERS {
+        return;
+    }
+    let room = model::room(&rel);
+    let slack = r.below(4);
+    check(sheet, &rel, room.check + slack);
+    check(sheet, &rel, (room.check - 1).saturating_sub(slack));
+    let (alphas, pb, pf) = (words(&r.elements(6)), words(&r.elements(log2(rows[0]))), words(&r.elements(log2(rows[1]))));
+    let need = 2 * m + 2 * rows[0].max(rows[1]);
+    combo(sheet, &rel, &alphas, &pb, &pf, 2 * m + slack, need + slack);
+    combo(sheet, &rel, &alphas, &pb, &pf, (2 * m + slack).saturating_sub(1), need.saturating_sub(r.below(2)));
+    let short = r.below(13);
+    combo(sheet, &rel, &alphas[..short.min(12)], &pb, &pf, 2 * m, need);
+    let (w, q) = (1 << r.below(8), 1 << r.below(8));
+    let rows = 1 << r.below(4);
+    let mut one = matrix::any(r, rows, 2 * w, 20);
+    if r.one_in(2) {
+        // bits only
+        for i in 0..one.row.len() {
+            (one.col[i], one.lo[i], one.hi[i]) = (one.col[i].min(w), one.lo[i] & 1, 0);
+        }
+    }
+    let packed = r.words(model::packed_words(q, w));
+    let s = log2(q);
+    let v = r.below(s + 2);
+    let need = if v <= s { rows << (s - v) } else { rows };
+    if packed.len() + 4 * one.row.len() < NUMBERS - 100 && need + slack < 2000 {
+        masks(sheet, &one, &packed, q, w, v, (need + slack).saturating_sub(1));
+        masks(sheet, &one, &packed, q, w, v, need);
+    }
+    let mut bad = rel.clone();
+    damage(r, &mut bad);
+    if r.one_in(3) {
+        damage(r, &mut bad);
+    }
+    check(sheet, &bad, room.check);
+    combo(sheet, &bad, &alphas, &pb, &pf, 2 * m, need.max(2 * m));
+}

@@ -1,0 +1,35 @@
+-- `magnetar_c::check_out` meets its contract.
+-- Assumes nothing.
+use mathlib.Core.Path.{ap, sym}
+use Rattle.magnetar_batch.specs.Check.{outcome}
+use borrow.Author.Needs.{needs}
+use Rattle.magnetar_c.proofs.check_out.Statement.{statement}
+use Rattle.magnetar_c.proofs.check_out.Tie as tie
+
+enum-told : tie.Need-enum-told
+enum-told c = search needs
+
+enum-known-c : tie.Need-enum-known-c
+enum-known-c c = search needs
+
+enum-known-c-2 : tie.Need-enum-known-c-2
+enum-known-c-2 c = search needs
+
+enum-known-c-3 : tie.Need-enum-known-c-3
+enum-known-c-3 c = search needs
+
+returns : tie.Need-returns
+returns c = search needs
+
+returns-2 : tie.Need-returns-2
+returns-2 c = sym (ap outcome (c .before .c .given .1))
+
+returns-3 : tie.Need-returns-3
+returns-3 c = sym (ap outcome (c .before .c2 .given .1))
+
+returns-4 : tie.Need-returns-4
+returns-4 c = sym (ap outcome (c .before .c3 .given .1))
+
+pub check-out-spec : {M : Type 1} → statement M
+check-out-spec =
+    tie.close (tie.spec enum-told enum-known-c enum-known-c-2 enum-known-c-3 returns returns-2 returns-3 returns-4)

@@ -1,0 +1,24 @@
+-- `magnetar_c::magnetar_row_check` meets its contract.
+-- Assumes nothing.
+use mathlib.Core.Path.{_∙_}
+use borrow.Author.Needs.{needs}
+use Rattle.magnetar_c.proofs.magnetar_row_check.Statement.{statement}
+use Rattle.magnetar_c.proofs.magnetar_row_check.Tie as tie
+
+row-check-requires : tie.Need-row-check-requires
+row-check-requires c κs = search needs
+
+check-out-requires : tie.Need-check-out-requires
+check-out-requires c κs = search needs
+
+same-length : tie.Need-same-length
+same-length c = search needs
+
+returns : tie.Need-returns
+returns c =
+    let d = c .before .before .before in
+    (c .check-out .ensures ∙ d .row-check .ensures .0, d .row-check .ensures .1)
+
+pub magnetar-row-check-spec : {M : Type 1} → statement M
+magnetar-row-check-spec =
+    tie.close (tie.spec row-check-requires check-out-requires same-length returns)
