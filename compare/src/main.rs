@@ -4,7 +4,9 @@
 //!     compare PROGRAMS SECONDS SEED   random inputs from the seed for so many seconds
 //!
 //! PROGRAMS is the folder with the test programs. Ends with 1 where anything differs that is not on the list.
+mod draws;
 mod field;
+mod forms;
 mod hash;
 mod library;
 mod limits;
@@ -96,6 +98,7 @@ impl Worker {
                     sumcheck::random(&mut self.vectors, r);
                     matrix::random(&mut self.vectors, r);
                     whole::random(&mut self.cases, r);
+                    draws::random(&mut self.cases, r);
                 }
                 runs::random(&mut self.runs, r);
             }
@@ -138,6 +141,14 @@ fn main() {
     let (next, done, working) = (AtomicUsize::new(0), AtomicUsize::new(0), AtomicUsize::new(THREADS));
     let total = Mutex::new(Tally::default());
     let failed = AtomicBool::new(false);
+    let first = Mutex::new(None);
+    let count = |worker: &mut Worker| {
+        let new = worker.counted();
+        if new.differing() > 0 {
+            first.lock().unwrap().get_or_insert(start.elapsed());
+        }
+        total.lock().unwrap().add(&new);
+    };
     std::thread::scope(|scope| {
         for _ in 0..THREADS {
             scope.spawn(|| {
@@ -145,7 +156,8 @@ fn main() {
                 loop {
                     let n = next.fetch_add(1, Ordering::Relaxed);
                     let job = match soak {
-                        Some((budget, _)) if start.elapsed() >= budget => break,
+                        // a soak ends with its time, or with the first difference
+                        Some((budget, _)) if start.elapsed() >= budget || first.lock().unwrap().is_some() => break,
                         Some((_, seed)) => Job::Random(seed.wrapping_mul(1_000_003).wrapping_add(n as u64)),
                         None if n < jobs.len() => jobs[n],
                         None => break,
@@ -159,10 +171,10 @@ fn main() {
                         worker.flush();
                     }
                     done.fetch_add(1, Ordering::Relaxed);
-                    total.lock().unwrap().add(&worker.counted());
+                    count(&mut worker);
                 }
                 worker.flush();
-                total.lock().unwrap().add(&worker.counted());
+                count(&mut worker);
                 working.fetch_sub(1, Ordering::Relaxed);
             });
         }
@@ -179,13 +191,13 @@ fn main() {
         }
     });
     let total = total.into_inner().unwrap();
-    report(&total, start.elapsed());
+    report(&total, start.elapsed(), first.into_inner().unwrap());
     if total.differing() > 0 || failed.load(Ordering::Relaxed) {
         std::process::exit(1);
     }
 }
 
-fn report(t: &Tally, took: Duration) {
+fn report(t: &Tally, took: Duration, first: Option<Duration>) {
     println!("| function | equal to the Rust | equal to document 01 | different |");
     println!("|---|---|---|---|");
     let (mut rust, mut document) = (0, 0);
@@ -212,5 +224,6 @@ fn report(t: &Tally, took: Duration) {
             println!("\nDIFFERENT: {name}, {} times; the smallest input:\n{text}", c.differing);
         }
     }
-    println!("\n{} runs, {} differences, {} s", t.runs(), t.differing(), took.as_secs());
+    let when = first.map_or(String::new(), |d| format!(", the first one after {:.1} s", d.as_secs_f64()));
+    println!("\n{} runs, {} differences{when}; {} s", t.runs(), t.differing(), took.as_secs());
 }

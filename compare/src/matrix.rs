@@ -1,4 +1,5 @@
 //! Queries on matrices, folds and layouts.
+use crate::forms::plain;
 use crate::model;
 use crate::random::Random;
 use crate::relation::{self, Matrix};
@@ -130,7 +131,7 @@ fn build(sheet: &mut Sheet, w: usize, lens: &[usize], lent: usize) {
         n => n,
     };
     let answer = if n == 0 {
-        let offsets: Vec<u64> = relation::layout(w, lens).offsets.iter().map(|&o| o as u64).collect();
+        let offsets: Vec<u64> = plain::layout(w, lens).offsets.iter().map(|&o| o as u64).collect();
         code(0, &marked(&offsets, lent))
     } else {
         untouched(n, lent)
@@ -154,7 +155,7 @@ fn reading(sheet: &mut Sheet, w: usize, lens: &[usize], i: usize) {
         lines.push(format!("= {}", log2(w)));
         lines
     } else {
-        let l = relation::layout(w, lens);
+        let l = plain::layout(w, lens);
         [l.offsets[i], l.local_vars(i), l.suffix_bits(i), l.b_i(i), l.witness_vars()].iter().map(|n| format!("= {n}")).collect()
     };
     let by = if n == 0 && i < lens.len() { Rust } else { Document };
@@ -164,7 +165,7 @@ fn reading(sheet: &mut Sheet, w: usize, lens: &[usize], i: usize) {
 fn segment(sheet: &mut Sheet, w: usize, lens: &[usize], i: usize, folded: &[u64]) {
     let good = layout_refusal(w, lens) == 0 && folded.len() == 2 * w && i < lens.len();
     let part = if good {
-        let at = relation::layout(w, lens).offsets[i];
+        let at = plain::layout(w, lens).offsets[i];
         &folded[2 * at..2 * (at + lens[i])]
     } else {
         &[]

@@ -1,9 +1,10 @@
 //! Relations with a batch, in the form in which they are lent, and how they are made.
+use crate::forms::plain;
 use crate::random::Random;
 use crate::rust;
 use crate::text;
 use magnetar_field::{mul, Gf128};
-use magnetar_spartan::{DualRelation, SegmentLayout, SegmentSpec, SparseMatrix};
+use magnetar_spartan::{DualRelation, SegmentLayout, SparseMatrix};
 
 /// A matrix as it is lent: four lists that may be of unequal length.
 #[derive(Clone, Debug, Default)]
@@ -33,7 +34,7 @@ impl Matrix {
     }
 
     pub fn rust(&self) -> SparseMatrix {
-        SparseMatrix { rows: self.rows, cols: self.cols, entries: self.entries() }
+        plain::matrix(self)
     }
 
     /// In the words of the test programs.
@@ -105,12 +106,11 @@ impl Relation {
     }
 
     pub fn rust_relation(&self) -> DualRelation {
-        let [a, b, c, d, e, f] = &self.matrices;
-        DualRelation { m: self.m, a_bin: a.rust(), b_bin: b.rust(), c_bin: c.rust(), a_fld: d.rust(), b_fld: e.rust(), c_fld: f.rust() }
+        plain::relation(self)
     }
 
     pub fn rust_layout(&self) -> SegmentLayout {
-        layout(self.m / 2, &self.lens)
+        plain::layout(self.m / 2, &self.lens)
     }
 
     /// In the words of the test programs.
@@ -130,11 +130,6 @@ impl Relation {
         let matrices: usize = self.matrices.iter().map(|m| 7 + 4 * m.row.len()).sum();
         6 + self.lens.len() + self.x.len() + self.packed.len() + matrices
     }
-}
-
-pub fn layout(w: usize, lens: &[usize]) -> SegmentLayout {
-    let spec = |(i, &len)| SegmentSpec { name: format!("s{i}"), len, direct: true };
-    SegmentLayout::build(w, lens.iter().enumerate().map(spec).collect())
 }
 
 /// What a batch is to be.
@@ -176,7 +171,7 @@ pub fn lengths(r: &mut Random, w: usize, most: usize) -> Vec<usize> {
 }
 
 fn inside(w: usize, lens: &[usize]) -> Vec<bool> {
-    let l = layout(w, lens);
+    let l = plain::layout(w, lens);
     let mut out = vec![false; w];
     for (o, n) in l.offsets.iter().zip(lens) {
         out[*o..o + n].fill(true);

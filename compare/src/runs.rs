@@ -1,4 +1,5 @@
 //! Whole runs: prover and verifier of both sides, the proofs whole and damaged.
+use crate::forms::{number, plain};
 use crate::library::{self, Outcome};
 use crate::model::{self, Lent};
 use crate::random::Random;
@@ -8,51 +9,15 @@ use crate::tally::{By, Tally};
 use crate::text::*;
 use crate::whole::{damage, first_failing};
 use magnetar_field::Gf128;
-use magnetar_spartan::{prove_virtual_spartan, verify_virtual_spartan, VirtualSpartanProof};
+use magnetar_spartan::{prove_virtual_spartan, verify_virtual_spartan};
 
 fn log2(n: usize) -> usize {
     n.trailing_zeros() as usize
 }
 
-/// The Rust's proof as document 01 orders its words.
-pub fn flat(p: &VirtualSpartanProof) -> Vec<u64> {
-    let mut all: Vec<Gf128> = vec![];
-    for (bin, fld) in &p.outer_shared {
-        all.extend(bin);
-        all.extend(fld);
-    }
-    all.extend(p.outer_bin.iter().flatten());
-    all.extend(p.outer_fld.iter().flatten());
-    all.extend(&p.terminals);
-    all.extend(p.inner.iter().flatten());
-    all.push(p.v_z);
-    all.extend(&p.segment_values);
-    words(&all)
-}
-
-/// Words as the Rust's proof, split as document 01 says.
-fn split(r: &Relation, proof: &[u64]) -> VirtualSpartanProof {
-    let all = rust::elements(proof);
-    let mut at = 0;
-    let mut take = |n: usize| {
-        at += n;
-        all[at - n..at].to_vec()
-    };
-    let [rb, rf] = r.rows();
-    VirtualSpartanProof {
-        outer_shared: (0..log2(r.q)).map(|_| (take(4), take(4))).collect(),
-        outer_bin: (0..log2(rb)).map(|_| take(4)).collect(),
-        outer_fld: (0..log2(rf)).map(|_| take(4)).collect(),
-        terminals: take(6).try_into().unwrap(),
-        inner: (0..log2(r.m)).map(|_| take(3)).collect(),
-        v_z: take(1)[0],
-        segment_values: take(r.lens.len()),
-    }
-}
-
 /// The challenges r_inst and r_low, drawn from the Rust's transcript: its claims hold them only as far as its segments go.
 fn challenges(r: &Relation, start: &State, proof: &[u64]) -> (Vec<Gf128>, Vec<Gf128>) {
-    let p = split(r, proof);
+    let p = plain::split(r, proof);
     let mut t = rust::transcript(start);
     let [rb, rf] = r.rows();
     t.challenge_field_vec("vs-tau-bin", log2(r.q) + log2(rb));
@@ -83,21 +48,6 @@ fn challenges(r: &Relation, start: &State, proof: &[u64]) -> (Vec<Gf128>, Vec<Gf
     (inst, low)
 }
 
-fn number(error: &str) -> u32 {
-    match error {
-        "vs: shared bin round check failed" => 21,
-        "vs: shared fld round check failed" => 22,
-        "vs: row bin round failed" => 23,
-        "vs: row fld round failed" => 24,
-        "vs: bin terminal identity failed" => 25,
-        "vs: fld terminal identity failed" => 26,
-        "vs: inner round failed" => 27,
-        "vs: inner terminal failed" => 28,
-        "vs: equation (1) segment identity failed" => 29,
-        _ => panic!("an error without a number: {error}"),
-    }
-}
-
 /// The claims as document 01 orders their words; the Rust's own are compared with them.
 fn claims(r: &Relation, start: &State, proof: &[u64], theirs: &[magnetar_spartan::SegmentClaim]) -> Vec<u64> {
     let (inst, low) = challenges(r, start, proof);
@@ -113,7 +63,7 @@ fn claims(r: &Relation, start: &State, proof: &[u64], theirs: &[magnetar_spartan
 pub fn rust_prove(r: &Relation, start: &State) -> (Vec<u64>, Vec<u64>, State) {
     let mut t = rust::transcript(start);
     let (proof, theirs) = prove_virtual_spartan(&r.rust_relation(), &r.rust_layout(), &r.rust_packed(), &r.rust_x(), r.q, &mut t);
-    let proof = flat(&proof);
+    let proof = plain::flat(&proof);
     let claims = claims(r, start, &proof, &theirs);
     (proof, claims, rust::state(&t))
 }
@@ -121,7 +71,7 @@ pub fn rust_prove(r: &Relation, start: &State) -> (Vec<u64>, Vec<u64>, State) {
 /// The Rust's verifier: number, claims and transcript.
 fn rust_verify(r: &Relation, start: &State, proof: &[u64]) -> (u32, Vec<u64>, State) {
     let mut t = rust::transcript(start);
-    match verify_virtual_spartan(&r.rust_relation(), &r.rust_layout(), r.q, &r.rust_x(), &split(r, proof), &mut t) {
+    match verify_virtual_spartan(&r.rust_relation(), &r.rust_layout(), r.q, &r.rust_x(), &plain::split(r, proof), &mut t) {
         Ok(theirs) => (0, claims(r, start, proof, &theirs), rust::state(&t)),
         Err(e) => (number(e), vec![], rust::state(&t)),
     }
@@ -134,18 +84,22 @@ fn shown(o: &Outcome) -> String {
     format!("{code} {}\n{proof}= {}\nscratch: {} words, {scratch} of them zero first", state(&o.transcript), list(&o.claims), o.scratch.len())
 }
 
+/// What the verifier has to leave, and who says so.
+pub fn to_verify(r: &Relation, start: &State, proof: &[u64], claims: usize, scratch: usize) -> (By, Outcome) {
+    let refusal = model::verify(r, Lent { proof: proof.len(), claims, scratch, counter: start.1 });
+    if refusal != 0 {
+        let stay = |n: usize| marked(&[], n);
+        return (By::Document, Outcome { code: refusal, transcript: *start, proof: vec![], claims: stay(claims), scratch: stay(scratch) });
+    }
+    let (code, found, transcript) = rust_verify(r, start, proof);
+    let scratch = marked(&vec![0; model::room(r).verifier], scratch);
+    (By::Rust, Outcome { code, transcript, proof: vec![], claims: marked(&found, claims), scratch })
+}
+
 /// Compares the verifier on words of a proof; the number that was expected.
 pub fn verify(tally: &mut Tally, r: &Relation, start: &State, proof: &[u64], claims: usize, scratch: usize) -> u32 {
-    let refusal = model::verify(r, Lent { proof: proof.len(), claims, scratch, counter: start.1 });
-    let expected = if refusal != 0 {
-        Outcome { code: refusal, transcript: *start, proof: vec![], claims: marked(&[], claims), scratch: marked(&[], scratch) }
-    } else {
-        let (code, found, transcript) = rust_verify(r, start, proof);
-        let scratch = marked(&vec![0; model::room(r).verifier], scratch);
-        Outcome { code, transcript, proof: vec![], claims: marked(&found, claims), scratch }
-    };
+    let (by, expected) = to_verify(r, start, proof, claims, scratch);
     let found = library::verify(r, start, proof, claims, scratch);
-    let by = if refusal == 0 { By::Rust } else { By::Document };
     tally.verdict("verify", expected.code);
     tally.compared("verify_virtual_spartan", by, found == expected, || {
         let query = format!("verify {} {claims} {scratch} {}", state(start), list(proof));
@@ -193,7 +147,7 @@ pub fn check(tally: &mut Tally, r: &Relation, scratch: usize) {
     });
 }
 
-fn start(r: &mut Random) -> State {
+pub fn start(r: &mut Random) -> State {
     let counter = match r.below(8) {
         0 => (1 << 32) - 1 - r.below(3) as u64,
         1 => r.word() >> 33,

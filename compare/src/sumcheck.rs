@@ -123,22 +123,30 @@ fn points(sheet: &mut Sheet, high: usize, tau: &[Gf128], r: &[Gf128]) {
     }
 }
 
-/// The functions on lent tables: messages of the first round, and the table without a variable.
+/// The table with variables 0 and v exchanged.
+fn exchanged(table: &[Gf128], v: usize) -> Vec<Gf128> {
+    let place = |i: usize| if i & 1 == i >> v & 1 { i } else { i ^ 1 ^ 1 << v };
+    (0..table.len()).map(|i| table[place(i)]).collect()
+}
+
+/// The functions on lent tables: the message that binds variable v, and the table without it. The Rust's first round binds variable 0
+/// of the tables with 0 and v exchanged.
 fn lent(sheet: &mut Sheet, tau: &[Gf128], abc: &[Vec<Gf128>; 3], v: usize, room: usize) {
-    let n = tau.len();
-    let high = if v == 0 { 0 } else { 1 };
-    let r = vec![ONE; n];
+    let r = vec![ONE; tau.len()];
+    let mut turned = tau.to_vec();
+    turned.swap(0, v);
+    let other: Vec<Vec<Gf128>> = abc.iter().map(|t| exchanged(t, v)).collect();
     let rest: Vec<Gf128> = tau.iter().enumerate().filter(|(i, _)| *i != v).map(|(_, t)| *t).collect();
     let e = eq_build_fused(&rest);
-    let public = || -> Public { vec![Box::new(EqFactor::new(tau.to_vec()))] };
-    let (_, messages) = whole(ZERO, abc, &public, outer_terms(), high, &r, false);
+    let public = || -> Public { vec![Box::new(EqFactor::new(turned.clone()))] };
+    let (_, messages) = whole(ZERO, &other, &public, outer_terms(), 0, &r, false);
     let tables: Vec<String> = abc.iter().map(|t| elements(t)).collect();
     let query = format!("outermsg {room} {v} {} {} {}", elements(&e), tables.join(" "), elements(&[ONE, tau[v]]));
     let short = room < 8;
     let found = if short { code(15, &marked(&[], room)) } else { code(0, &marked(&words(&messages[0]), room)) };
     sheet.ask("engine::outer_message", if short { Document } else { Rust }, query, vec![found]);
-    let public = || -> Public { vec![Box::new(TableFactor::new(abc[0].clone()))] };
-    let (_, messages) = whole(ZERO, &abc[1..2], &public, inner_terms(), high, &r, true);
+    let public = || -> Public { vec![Box::new(TableFactor::new(other[0].clone()))] };
+    let (_, messages) = whole(ZERO, &other[1..2], &public, inner_terms(), 0, &r, true);
     let query = format!("innermsg {room} {v} {} {}", tables[0], tables[1]);
     let short = room < 6;
     let found = if short { code(15, &marked(&[], room)) } else { code(0, &marked(&words(&messages[0]), room)) };
@@ -229,7 +237,7 @@ pub fn random(sheet: &mut Sheet, r: &mut Random) {
         let k = r.below(4);
         damaged[k] = damaged[k] + Gf128(1 << r.below(128));
         round(sheet, &damaged, claim, x);
-        let v = r.pick(&[0, n - 1]);
+        let v = r.below(n);
         let room = r.below(12);
         lent(sheet, &tau, &abc, v, room);
         lent(sheet, &tau, &abc, v, 8);

@@ -1,8 +1,10 @@
 //! Queries on whole relations: the combined table, the masks, the row check.
+use crate::forms::open;
 use crate::matrix;
 use crate::model;
 use crate::random::Random;
 use crate::relation::{self, Matrix, Relation, KINDS};
+use crate::runs;
 use crate::rust;
 use crate::sheet::Sheet;
 use crate::tally::By::{self, Document, Rust};
@@ -31,19 +33,13 @@ fn combo(sheet: &mut Sheet, rel: &Relation, alphas: &[u64], pb: &[u64], pf: &[u6
         n => n,
     };
     let answer = if n == 0 {
-        let r = rel.rust_relation();
-        let found = open_build_m_combo(&open(r), &rust::elements(alphas), &rust::elements(pb), &rust::elements(pf));
+        let found = open_build_m_combo(&open::relation(rel), &rust::elements(alphas), &rust::elements(pb), &rust::elements(pf));
         vec![code(0, &marked(&words(&found), lent)), counted(2 * rel.m + 2 * rb.max(rf), scratch)]
     } else {
         vec![code(n, &marked(&[], lent)), counted(0, scratch)]
     };
     let query = format!("combo {lent} {scratch} {} {} {}", list(alphas), list(pb), list(pf));
     sheet.ask_on("combo::build_m_combo", by(n), &rel.text(), query, answer);
-}
-
-/// The Rust's relation once more, of the crate that opens its private functions.
-fn open(r: magnetar_spartan::DualRelation) -> open_spartan::DualRelation {
-    open_spartan::DualRelation { m: r.m, a_bin: r.a_bin, b_bin: r.b_bin, c_bin: r.c_bin, a_fld: r.a_fld, b_fld: r.b_fld, c_fld: r.c_fld }
 }
 
 fn masks(sheet: &mut Sheet, m: &Matrix, packed: &[u64], q: usize, w: usize, v: usize, lent: usize) {
@@ -97,6 +93,33 @@ fn check(sheet: &mut Sheet, rel: &Relation, scratch: usize) {
         vec![refused(n), counted(0, scratch)]
     };
     sheet.ask_on("check::row_check", by(n), &rel.text(), format!("check {scratch}"), answer);
+}
+
+/// The verifier once more, by the program: the library's runs are many more.
+fn verify(sheet: &mut Sheet, rel: &Relation, start: &rust::State, proof: &[u64], claims: usize, scratch: usize) {
+    let (by, o) = runs::to_verify(rel, start, proof, claims, scratch);
+    let number = if o.code == 0 { "=".to_string() } else { format!("! {}", o.code) };
+    let zeros = o.scratch.iter().filter(|&&w| w == 0).count();
+    let answer = vec![format!("{number} {}", state(&o.transcript)), format!("= {}", list(&o.claims)), counted(zeros, scratch)];
+    let query = format!("verify {} {claims} {scratch} {}", state(start), list(proof));
+    sheet.ask_on("verify_virtual_spartan, by query", by, &rel.text(), query, answer);
+}
+
+fn verified(sheet: &mut Sheet, r: &mut Random, rel: &Relation) {
+    let (room, start) = (model::room(rel), runs::start(r));
+    if room.proof > 900 || room.claims > 250 || room.verifier > 20000 {
+        return;
+    }
+    let (proof, _, _) = runs::rust_prove(rel, &start);
+    verify(sheet, rel, &start, &proof, room.claims, room.verifier);
+    for _ in 0..6 {
+        let mut p = proof.clone();
+        let i = r.below(p.len());
+        p[i] ^= 1 << r.below(64);
+        verify(sheet, rel, &start, &p, room.claims, room.verifier);
+    }
+    verify(sheet, rel, &(start.0, 1 << 32), &proof, room.claims, room.verifier);
+    verify(sheet, rel, &start, &proof[..proof.len() - 1], room.claims, room.verifier);
 }
 
 /// Something that is refused with 1 to 10, or nearly.
@@ -169,6 +192,7 @@ pub fn random(sheet: &mut Sheet, r: &mut Random) {
     if rel.numbers() > NUMBERS {
         return;
     }
+    verified(sheet, r, &rel);
     let room = model::room(&rel);
     let slack = r.below(4);
     check(sheet, &rel, room.check + slack);

@@ -1,5 +1,6 @@
 // Replays queries on a whole relation: reads the relation with its batch, calls the function that a line names and writes all
 // that the call hands back (docs/VECTORS.md). A line that begins with # is copied.
+mod checks;
 mod rowcheck;
 mod runs;
 mod tables;
@@ -27,7 +28,19 @@ fn answered(
     if rowcheck::answered(op, nums, given, sizes, scratch) {
         return true;
     }
-    runs::answered(op, runs::state(line), nums, given, sizes, claims, scratch)
+    if checks::answered(op, nums, given, sizes, claims, scratch) {
+        return true;
+    }
+    runs::answered(
+        op,
+        runs::state(line),
+        nums,
+        given,
+        sizes,
+        out,
+        claims,
+        scratch,
+    )
 }
 
 // One line: the numbers of the last relation are in `given` and, as sizes, in `sizes`.

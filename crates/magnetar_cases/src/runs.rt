@@ -1,4 +1,4 @@
-// Whole runs: the verifier on a relation.
+// Whole runs: the prover and the verifier on a relation and its batch.
 use crate::text::at;
 use crate::text::nth;
 use crate::text::nth_sizes;
@@ -11,6 +11,7 @@ use magnetar_hash::transcript::TranscriptAnswer;
 use magnetar_spartan::virtual_spartan;
 
 // The queries by name: its letters, the last one lowest.
+const PROVE: u64 = 0x70726f7665;
 
 const VERIFY: u64 = 0x766572696679;
 
@@ -64,6 +65,63 @@ fn print_answer(r: TranscriptAnswer) {
         print(b" ");
     }
     print_state(r.transcript);
+}
+
+fn proved(
+    given: &[u64],
+    sizes: &[usize],
+    t: Transcript,
+    proof: &mut [u64],
+    claims: &mut [u64],
+    scratch: &mut [u64],
+) -> TranscriptAnswer {
+    virtual_spartan::prove_virtual_spartan(
+        proof,
+        claims,
+        scratch,
+        number(sizes, 0, 0),
+        number(sizes, 0, 1),
+        nth_sizes(sizes, 1),
+        number(sizes, 4, 0),
+        number(sizes, 4, 1),
+        nth_sizes(sizes, 5),
+        nth_sizes(sizes, 6),
+        nth(given, 7),
+        nth(given, 8),
+        number(sizes, 9, 0),
+        number(sizes, 9, 1),
+        nth_sizes(sizes, 10),
+        nth_sizes(sizes, 11),
+        nth(given, 12),
+        nth(given, 13),
+        number(sizes, 14, 0),
+        number(sizes, 14, 1),
+        nth_sizes(sizes, 15),
+        nth_sizes(sizes, 16),
+        nth(given, 17),
+        nth(given, 18),
+        number(sizes, 19, 0),
+        number(sizes, 19, 1),
+        nth_sizes(sizes, 20),
+        nth_sizes(sizes, 21),
+        nth(given, 22),
+        nth(given, 23),
+        number(sizes, 24, 0),
+        number(sizes, 24, 1),
+        nth_sizes(sizes, 25),
+        nth_sizes(sizes, 26),
+        nth(given, 27),
+        nth(given, 28),
+        number(sizes, 29, 0),
+        number(sizes, 29, 1),
+        nth_sizes(sizes, 30),
+        nth_sizes(sizes, 31),
+        nth(given, 32),
+        nth(given, 33),
+        nth(given, 3),
+        nth(given, 2),
+        t,
+    )
 }
 
 fn verified(
@@ -122,6 +180,22 @@ fn verified(
     )
 }
 
+// prove STATE CTR P C S: the prover with P words lent for the proof, C for the claims and S as scratch.
+fn prove(
+    given: &[u64],
+    sizes: &[usize],
+    t: Transcript,
+    proof: &mut [u64],
+    claims: &mut [u64],
+    scratch: &mut [u64],
+) {
+    let r = proved(given, sizes, t, proof, claims, scratch);
+    print_answer(r);
+    print_line(proof);
+    print_line(claims);
+    text::print_cleared(scratch);
+}
+
 // verify STATE CTR C S PROOF: the verifier with C words lent for the claims and S as scratch.
 fn verify(
     given: &[u64],
@@ -144,6 +218,7 @@ pub(crate) fn answered(
     nums: &[u64],
     given: &[u64],
     sizes: &[usize],
+    proof: &mut [u64],
     claims: &mut [u64],
     scratch: &mut [u64],
 ) -> bool {
@@ -151,6 +226,17 @@ pub(crate) fn answered(
         state: state,
         squeeze_ctr: at(nums, 1),
     };
+    if op == PROVE {
+        prove(
+            given,
+            sizes,
+            t,
+            text::marked(proof, at(nums, 2)),
+            text::marked(claims, at(nums, 3)),
+            text::marked(scratch, at(nums, 4)),
+        );
+        return true;
+    }
     if op == VERIFY {
         verify(
             given,

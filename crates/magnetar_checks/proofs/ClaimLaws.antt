@@ -47,13 +47,13 @@ three a b e s n i la lb = go (ltb i s) refl (ltb i (s + n)) refl
         rw (p, q) (ap (λ (k : ℕ). getD (a ++ (b ++ e)) k 0) h ∙ getD-append-add a (b ++ e) (length b + (i - (s + n))) 0
         ∙ getD-append-add b e (i - (s + n)) 0)
 
-reverse-get : (l : List ℕ) (n i : ℕ) → length l ≡ n → i < n → getD (reverse l) i 0 ≡ getD l (n - 1 - i) 0
+pub reverse-get : (l : List ℕ) (n i : ℕ) → length l ≡ n → i < n → getD (reverse l) i 0 ≡ getD l (n - 1 - i) 0
 unfolding placeOf
 reverse-get l n i e h =
     ap (λ (k : List ℕ). getD k i 0) (sym (point-falling l n e)) ∙ point-at n n i l e (omega arith) h
     ∙ rw (le-ltb i (n - n) (omega arith))
 
-reverse-size : (l : List ℕ) (n : ℕ) → length l ≡ n → length (reverse l) ≡ n
+pub reverse-size : (l : List ℕ) (n : ℕ) → length l ≡ n → length (reverse l) ≡ n
 reverse-size l n e = ap length (sym (point-falling l n e)) ∙ length-point n l ∙ e
 
 module _ (r : Relation) (w d : List ℕ) (long : drawCount r ≤ length d) (exact : length w ≡ proofElements r) where

@@ -57,7 +57,7 @@ row-eq : {p : Steps} {a b : Outer} → a ≡ b → _≡_ {A = RowSteps} (record 
 row-eq {p} e = ap (λ (x : Outer). record { steps = p; held = x }) e
 
 -- what is held, with another list of tau
-tau-eq : (high k w n : ℕ) (s : List ℕ) {tau sigma : List ℕ} → tau ≡ sigma → outerIn high tau k w n s ≡ outerIn high sigma k w n s
+pub tau-eq : (high k w n : ℕ) (s : List ℕ) {tau sigma : List ℕ} → tau ≡ sigma → outerIn high tau k w n s ≡ outerIn high sigma k w n s
 tau-eq high k w n s e = ap (λ (l : List ℕ). outerIn high l k w n s) e
 
 module _ (l b f wb wf : ℕ) (lb : l + b < 62) (lf : l + f < 62) where
@@ -93,7 +93,7 @@ module _ (l b f wb wf : ℕ) (lb : l + b < 62) (lf : l + f < 62) where
       behind s h = take-all (4 * wf) (drop (4 * wb) s) (rw (length-drop (4 * wb) s) (omega arith))
 
   -- ---- the row rounds of bin
-  bin-rows : (a1 e1 a2 e2 o2 kb kf k3 : ℕ) (t2 t3 : Transcript) (p2 d2 s2 p3 d3 bin3 : List ℕ)
+  pub bin-rows : (a1 e1 a2 e2 o2 kb kf k3 : ℕ) (t2 t3 : Transcript) (p2 d2 s2 p3 d3 bin3 : List ℕ)
       → rowIn a2 e2 o2 k3 wb 2 t3 p3 d3 bin3 ≡ rowSteps "vs-out-rowbin-" 0 b (rowIn a1 e1 0 kb wb (2 * 2 ^ b) t2 p2 d2 (take (4 * wb) s2))
       → record {
         steps = stepsIn a2 e2 t3 p3 d3;
@@ -110,7 +110,7 @@ module _ (l b f wb wf : ℕ) (lb : l + b < 62) (lf : l + f < 62) where
       }) e
 
   -- ---- the row rounds of fld
-  fld-rows : (a1 e1 a2 e2 a3 e3 o2 o3 kb kf k3 k4 : ℕ) (t2 t3 t4 : Transcript) (p2 d2 s2 p3 d3 bin3 p4 d4 fld4 : List ℕ)
+  pub fld-rows : (a1 e1 a2 e2 a3 e3 o2 o3 kb kf k3 k4 : ℕ) (t2 t3 t4 : Transcript) (p2 d2 s2 p3 d3 bin3 p4 d4 fld4 : List ℕ)
       → e1 ≤ length (elements d2) → e1 ≤ e2 → l + b + f ≤ e1
       → rowIn a2 e2 o2 k3 wb 2 t3 p3 d3 bin3 ≡ rowSteps "vs-out-rowbin-" 0 b (rowIn a1 e1 0 kb wb (2 * 2 ^ b) t2 p2 d2 (take (4 * wb) s2))
       → rowIn a3 e3 o3 k4 wf 2 t4 p4 d4 fld4 ≡ rowSteps "vs-out-rowfld-" 0 f (rowIn a2 e2 (l + b) kf wf (2 * 2 ^ f) t3 p3 d3 (drop (4 * wb) s2))

@@ -15,3 +15,5 @@ pub mod OuterEnds
 pub mod Blocks
 pub mod SharedSteps
 pub mod Joined
+mod OuterParts
+mod OuterGuard

@@ -1,16 +1,19 @@
 -- The outcomes of the entries: which refusal applies, in rising order, the answer, and what each lent slice holds at exit.
 -- Assumes nothing.
-use mathlib.Core.List.{List, _++_}
+use mathlib.Core.Bool.{not}
+use mathlib.Core.List.{List, [], _∷_, _++_}
 use Prim.Native.Nat.{ℕ, _+_, _*_, _/_}
+use lib.Dec.{ltb}
 use lib.ListN.{length, take, drop, replicate}
 use Rattle.magnetar_field.specs.Refusal.{unlessRefused}
 use Rattle.magnetar_field.specs.Sizes.{log₂}
 use Rattle.magnetar_field.specs.Words.{elements, words, overlaid}
 use Rattle.magnetar_hash.specs.declared.transcript.Transcript.{Transcript}
 use Rattle.magnetar_protocol.specs.Schedule.{outline}
-use Rattle.magnetar_protocol.specs.Stepwise.{Steps, begin, innerAll}
+use Rattle.magnetar_protocol.specs.Stepwise.{Steps, Tables, begin, tauSteps, outerAll, innerAll}
 use Rattle.magnetar_r1cs.specs.Batch.{Relation}
-use Rattle.magnetar_layout.specs.Tests.{Tests, noted, columnTests, publicTests, layoutTests, roomTest}
+use Rattle.magnetar_layout.specs.Tests.{Tests, noted, isSize, columnTests, publicTests, layoutTests, roomTest}
+use Rattle.magnetar_rounds.specs.Held.{tablesIn}
 use Rattle.magnetar_rounds.specs.declared.answer.RoundsAnswer.{RoundsAnswer}
 
 -- what a run leaves, unless it is refused with z: the answer, the proof's words, the words of the draws, and the scratch of so many
@@ -37,3 +40,38 @@ innerRefusal m ns x proof draws s =
 -- the run: the combined table is in the first 2m words of s, the folded columns in the m words behind
 unfoldable pub innerPlayed : Relation → (x s : List ℕ) → Transcript → Steps
 innerPlayed r x s t = innerAll r (elements (take (2 * r .m) s)) (elements (take (r .m) (drop (2 * r .m) s))) (elements x) (begin t)
+
+-- ---- `outer_rounds`: q logins, rb rows of bin and rf rows of fld
+-- 1: the logins; 4: the rows, alone and for all logins
+abbrev pub countTests : (q rb rf : ℕ) → Tests
+countTests q rb rf = (1, not (isSize 1 4096 q)) ∷ (4, not (isSize 1 65536 rb)) ∷ (4, not (isSize 1 65536 rf)) ∷ []
+
+abbrev pub totalTests : (q rb rf : ℕ) → Tests
+totalTests q rb rf = (4, ltb 1048576 (q * rb)) ∷ (4, ltb 1048576 (q * rf)) ∷ []
+
+-- the elements that are drawn, and those that are said
+abbrev pub outerDrawn : (l b f : ℕ) → ℕ
+outerDrawn l b f = l + b + (l + f) + l + b + f + 6
+
+abbrev pub outerSaid : (l b f : ℕ) → ℕ
+outerSaid l b f = 8 * l + 4 * b + 4 * f + 6
+
+-- the words of both blocks
+abbrev pub blockWords : (q rb rf : ℕ) → ℕ
+blockWords q rb rf = 8 * (q * rb) + 8 * (q * rf)
+
+unfoldable pub outerRefusal : (q rb rf : ℕ) → (proof draws s : List ℕ) → ℕ
+outerRefusal q rb rf proof draws s =
+    noted 0
+    (countTests q rb rf ++ totalTests q rb rf
+    ++ (roomTest (2 * outerDrawn (log₂ q) (log₂ rb) (log₂ rf)) draws ++ roomTest (2 * outerSaid (log₂ q) (log₂ rb) (log₂ rf)) proof
+    ++ roomTest (blockWords q rb rf) s))
+
+-- the tables of both systems: four of 2 q rb words, then four of 2 q rf words; the first table of each four is not read
+abbrev pub tablesOf : (q rb rf : ℕ) → List ℕ → Tables
+tablesOf q rb rf s =
+    tablesIn (2 * (q * rb)) (2 * (q * rf)) (take (4 * (2 * (q * rb))) (take (blockWords q rb rf) s)) (drop (4 * (2 * (q * rb))) (take (blockWords q rb rf) s))
+
+-- the run
+unfoldable pub outerPlayed : (q rb rf : ℕ) → List ℕ → Transcript → Steps
+outerPlayed q rb rf s t = outerAll (outline 2 q rb rf []) (tablesOf q rb rf s) (tauSteps (outline 2 q rb rf []) t)

@@ -278,9 +278,6 @@ fn run(
 // 1: no such columns; 3: x is not of m - 2 words; 8, 9, 10: no such layout; 15: draws, proof or s too short.
 pub fn inner_rounds(
     m: usize,
-    q: usize,
-    rb: usize,
-    rf: usize,
     lens: &[usize],
     x: &[u64],
     proof: &mut [u64],
@@ -288,9 +285,9 @@ pub fn inner_rounds(
     s: &mut [u64],
     t: Transcript,
 ) -> RoundsAnswer
-    ensures answer { λ r. ⌜ r ≡ answerFor (innerRefusal m (now (lens .entry)) (now (x .entry)) (now (proof .entry)) (now (draws .entry)) (now (s .entry))) (innerPlayed (outline m q rb rf (now (lens .entry))) (now (x .entry)) (now (s .entry)) t) t ⌝ }
-    ensures proof { λ _. ⌜ now (proof .exit) ≡ proofFor (innerRefusal m (now (lens .entry)) (now (x .entry)) (now (proof .entry)) (now (draws .entry)) (now (s .entry))) (innerPlayed (outline m q rb rf (now (lens .entry))) (now (x .entry)) (now (s .entry)) t) (now (proof .entry)) ⌝ }
-    ensures draws { λ _. ⌜ now (draws .exit) ≡ drawsFor (innerRefusal m (now (lens .entry)) (now (x .entry)) (now (proof .entry)) (now (draws .entry)) (now (s .entry))) (innerPlayed (outline m q rb rf (now (lens .entry))) (now (x .entry)) (now (s .entry)) t) (now (draws .entry)) ⌝ }
+    ensures answer { λ r. ⌜ r ≡ answerFor (innerRefusal m (now (lens .entry)) (now (x .entry)) (now (proof .entry)) (now (draws .entry)) (now (s .entry))) (innerPlayed (outline m 1 1 1 (now (lens .entry))) (now (x .entry)) (now (s .entry)) t) t ⌝ }
+    ensures proof { λ _. ⌜ now (proof .exit) ≡ proofFor (innerRefusal m (now (lens .entry)) (now (x .entry)) (now (proof .entry)) (now (draws .entry)) (now (s .entry))) (innerPlayed (outline m 1 1 1 (now (lens .entry))) (now (x .entry)) (now (s .entry)) t) (now (proof .entry)) ⌝ }
+    ensures draws { λ _. ⌜ now (draws .exit) ≡ drawsFor (innerRefusal m (now (lens .entry)) (now (x .entry)) (now (proof .entry)) (now (draws .entry)) (now (s .entry))) (innerPlayed (outline m 1 1 1 (now (lens .entry))) (now (x .entry)) (now (s .entry)) t) (now (draws .entry)) ⌝ }
     ensures scratch { λ _. ⌜ now (s .exit) ≡ scratchFor (innerRefusal m (now (lens .entry)) (now (x .entry)) (now (proof .entry)) (now (draws .entry)) (now (s .entry))) (6 * m) (now (s .entry)) ⌝ }
 {
     let z = guard::of_inner(m, lens, x, proof, draws, s);

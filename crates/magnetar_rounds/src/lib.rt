@@ -4,4 +4,5 @@ mod ends;
 mod guard;
 pub mod inner;
 mod outer;
+pub mod rounds;
 mod shared;

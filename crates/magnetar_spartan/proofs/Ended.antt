@@ -15,6 +15,7 @@ use Rattle.magnetar_field.specs.Sizes.{log₂}
 use Rattle.magnetar_field.specs.Words.{elements, words}
 use Rattle.magnetar_hash.specs.declared.transcript.Transcript.{Transcript}
 use Rattle.magnetar_hash.specs.declared.transcript.TranscriptAnswer.{TranscriptAnswer}
+use Rattle.magnetar_layout.specs.Login.{loginWords}
 use Rattle.magnetar_layout.specs.Tests.{Tests, noted, sizeTests, packedTests, publicTests}
 use Rattle.magnetar_layout.proofs.Noted.{Clear, noted-clear}
 use Rattle.magnetar_layout.proofs.SizeLaws.{Sized, not-bad, sized-wider}
@@ -23,13 +24,14 @@ use Rattle.magnetar_protocol.specs.Draws.{drawCount}
 use Rattle.magnetar_protocol.specs.Run.{claims}
 use Rattle.magnetar_protocol.specs.RealRun.{verifierDraws, verifierTranscript}
 use Rattle.magnetar_spartan.specs.Rules.{Rules, relationOf}
-use Rattle.magnetar_spartan.specs.Refusals.{ruleTests, counterTests, roomOf, wordTests, proofWords, claimWords, verifierRoom, verifyTests}
+use Rattle.magnetar_spartan.specs.Refusals.{ruleTests, counterTests, roomOf, wordTests, proofWords, claimWords, verifierRoom, proverRoom, verifyTests, proveTests}
 use Rattle.magnetar_spartan.specs.Ready.{Ready, VerifyReady}
-use Rattle.magnetar_spartan.specs.Outcome.{Verified, verified, verifyRefusal, verifyVerdict, verifyClaims, verifyOutcome}
+use Rattle.magnetar_spartan.specs.Outcome.{Verified, verified, Proved, proved, proveRefusal, proveOutcome, verifyRefusal, verifyVerdict, verifyClaims, verifyOutcome}
 use Rattle.magnetar_spartan.proofs.Fine.{fine}
 use Rattle.magnetar_spartan.proofs.Combining.{noted-none}
 use Rattle.magnetar_spartan.proofs.Verifying.{sizesOf}
 use Rattle.magnetar_spartan.proofs.VerifyRun.{Left}
+use Rattle.magnetar_spartan.proofs.ProveRun.{ProveLeft}
 
 -- ---- what is left where no test is bad
 pub clear-front : (a b : Tests) → Clear (a ++ b) → Clear a
@@ -119,3 +121,44 @@ module _ (R : Rules) (x w : List ℕ) (t : Transcript) (c s : List ℕ) where
       let front-words = words (claims (relationOf R) (elements w) (verifierDraws (relationOf R) (elements w) t)) in
       let f : c′ ++ drop k c ≡ cond v (front-words ++ drop (claimWords R) c) c = rw (l .2, ← hk) (part v k front-words c) in
       rw (y, l .0, l .1, f, hs, hr, hn)
+
+-- ---- the prover
+pub record Provable (R : Rules) (ws x : List ℕ) (w c s : ℕ) : Type 0 where
+  pub ready : Ready R
+  pub packed : length ws ≡ R .q * loginWords (R .m / 2)
+  pub public : length x ≡ R .m - 2
+  pub proof : proofWords R ≤ w
+  pub claims : claimWords R ≤ c
+  pub scratch : proverRoom R ≤ s
+
+pub provable : (R : Rules) (ws x : List ℕ) (n w c s : ℕ) → noted 0 (proveTests R ws x n w c s) ≡ 0 → Provable R ws x w c s
+provable R ws x n w c s e =
+    let k = noted-clear 0 (proveTests R ws x n w c s) refl e .1 in
+    let rest : Tests = counterTests n ++ (roomOf (proofWords R) w ++ (roomOf (claimWords R) c ++ roomOf (proverRoom R) s)) in
+    let b = clear-back (ruleTests R) rest (k .1 .1 .1 .1) in
+    record {
+      ready = record {
+        columns = not-bad (k .0);
+        logins = not-bad (k .1 .0);
+        fine = fine R (noted-none (ruleTests R) (clear-front (ruleTests R) rest (k .1 .1 .1 .1)));
+      };
+      packed = eqb-true (length ws) (R .q * loginWords (R .m / 2)) (not-false _ (k .1 .1 .0));
+      public = eqb-true (length x) (R .m - 2) (not-false _ (k .1 .1 .1 .0));
+      proof = ltb-false w (proofWords R) (b .1 .0);
+      claims = ltb-false c (claimWords R) (b .1 .1 .0);
+      scratch = ltb-false s (proverRoom R) (b .1 .1 .1 .0);
+    }
+
+module _ (R : Rules) (ws x : List ℕ) (t : Transcript) (w c s : List ℕ) where
+  pub prove-turned : (z : ℕ) → z ≡ proveRefusal R ws x t w c s → (z ≡ 0 → ⊥)
+      → proved (record { code = z; transcript = t }) w c s ≡ proveOutcome R ws x t w c s
+  unfolding proveOutcome
+  prove-turned z e h = rw (← e, ne-eqb z 0 h)
+
+  pub prove-through : (z : ℕ) → z ≡ proveRefusal R ws x t w c s → z ≡ 0 → (u : Transcript) (w′ c′ : List ℕ) (i k n : ℕ)
+      → i ≡ proofWords R → k ≡ claimWords R → n ≡ proverRoom R → ProveLeft R ws x t u w′ c′ → (s′ r : List ℕ) → s′ ≡ replicate n 0 → r ≡ drop n s
+      → proved (record { code = 0; transcript = u }) (w′ ++ drop i w) (c′ ++ drop k c) (s′ ++ r) ≡ proveOutcome R ws x t w c s
+  unfolding proveOutcome
+  prove-through z e h u w′ c′ i k n hi hk hn l s′ r hs hr =
+      let y : eqb (proveRefusal R ws x t w c s) 0 ≡ true = rw (← e) (eq-eqb z 0 h) in
+      rw (y, l .0, l .1, l .2, hs, hr, hn, hi, hk)

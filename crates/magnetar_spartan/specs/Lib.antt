@@ -2,3 +2,4 @@ pub mod Rules
 pub mod Refusals
 pub mod Ready
 pub mod Outcome
+pub mod Later

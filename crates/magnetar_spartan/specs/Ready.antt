@@ -3,19 +3,20 @@
 use mathlib.Core.Path.{_≡_}
 use mathlib.Core.Bool.{true}
 use mathlib.Core.List.{List}
-use Prim.Native.Nat.{ℕ, _-_, _*_, _/_, _^_, _≤_}
+use Prim.Native.Nat.{ℕ, _+_, _-_, _*_, _/_, _≤_}
 use lib.ListN.{length}
 use Rattle.magnetar_field.specs.Sizes.{log₂}
 use Rattle.magnetar_layout.specs.Every.{every}
 use Rattle.magnetar_layout.specs.Layout.{isLength, layoutEnd}
 use Rattle.magnetar_layout.specs.Lent.{Lent}
+use Rattle.magnetar_layout.specs.Login.{loginWords}
 use Rattle.magnetar_layout.specs.Tests.{allBelow}
 use Rattle.magnetar_layout.proofs.SizeLaws.{Sized}
 use Rattle.magnetar_batch.specs.Systems.{Lent3}
 use Rattle.magnetar_protocol.specs.Draws.{drawCount}
 use Rattle.magnetar_protocol.specs.Schedule.{outline}
 use Rattle.magnetar_spartan.specs.Rules.{Rules}
-use Rattle.magnetar_spartan.specs.Refusals.{proofWords, claimWords, verifierRoom}
+use Rattle.magnetar_spartan.specs.Refusals.{proofWords, claimWords, verifierRoom, proverRoom}
 
 -- a matrix of n rows and m columns
 pub record FineMatrix (n m : ℕ) (a : Lent) : Type 0 where
@@ -47,6 +48,13 @@ pub record Ready (R : Rules) : Type 0 where
   pub logins : Sized 1 4096 (R .q)
   pub fine : Fine R
 
+-- q logins of m columns with so many packed words ws and public words x
+pub record BatchReady (m q ws x : ℕ) : Type 0 where
+  pub columns : Sized 2 65536 m
+  pub logins : Sized 1 4096 q
+  pub packed : ws ≡ q * loginWords (m / 2)
+  pub public : x ≡ m - 2
+
 -- the words that the verifier is lent: public words x, proof words w, claims c, scratch s and draws d
 pub record VerifyReady (R : Rules) (x w c s d : ℕ) : Type 0 where
   pub public : x ≡ R .m - 2
@@ -54,3 +62,31 @@ pub record VerifyReady (R : Rules) (x w c s d : ℕ) : Type 0 where
   pub claims : c ≡ claimWords R
   pub scratch : s ≡ verifierRoom R
   pub draws : d ≡ 2 * drawCount (outline (R .m) (R .q) (R .bin .a .rows) (R .fld .a .rows) (R .lengths))
+
+-- the words that the prover is lent: packed words ws, public words x, proof w, claims c, scratch s and draws d
+pub record ProveReady (R : Rules) (ws x w c s d : ℕ) : Type 0 where
+  pub packed : ws ≡ R .q * loginWords (R .m / 2)
+  pub public : x ≡ R .m - 2
+  pub proof : w ≡ proofWords R
+  pub claims : c ≡ claimWords R
+  pub scratch : s ≡ proverRoom R
+  pub draws : d ≡ 2 * drawCount (outline (R .m) (R .q) (R .bin .a .rows) (R .fld .a .rows) (R .lengths))
+
+-- a fold of packed words ws of q logins with w columns at a point of n draws from place k of the d words of draws on, within s words
+-- that have 4w words in front
+pub record FoldReady (q w n k ws d s : ℕ) : Type 0 where
+  pub columns : Sized 2 65536 (2 * w)
+  pub logins : Sized 1 4096 q
+  pub packed : ws ≡ q * loginWords w
+  pub point : n ≡ log₂ q
+  pub place : k ≤ 4096
+  pub drawn : 2 * k + 2 * n ≤ d
+  pub room : 6 * w + 2 * q ≤ s
+
+-- the inner rounds over m columns, with n public words
+pub record InnerReady (m : ℕ) (ns : List ℕ) (x : ℕ) : Type 0 where
+  pub columns : Sized 2 65536 m
+  pub lengths : every (isLength (m / 2)) ns ≡ true
+  pub ends : layoutEnd ns ≤ m / 2
+  pub segments : length ns ≤ 64
+  pub public : x ≡ m - 2

@@ -1,159 +1,26 @@
 // Virtual Spartan: the prover and the verifier of a batch. The matrices A, B, C of bin are ab, bb, cb, those of fld af, bf, cf.
+use crate::combine;
+use crate::proving;
 use crate::refusal;
-use magnetar_batch::combo;
 use magnetar_checks::claims;
 use magnetar_checks::end;
 use magnetar_checks::found::Found;
 use magnetar_checks::outer;
-use magnetar_field::sizes;
 use magnetar_field::words;
 use magnetar_hash::transcript::Transcript;
 use magnetar_hash::transcript::TranscriptAnswer;
 use magnetar_schedule::play;
 ghost use mathlib.Core.Path.{_≡_};
-ghost use Prim.Native.Nat.{ℕ, _+_, _*_, _≤_, max};
-ghost use mathlib.Core.List.{[]};
-ghost use lib.ListN.{length, take, drop};
-ghost use Rattle.magnetar_field.specs.Words.{elements, words};
+ghost use lib.ListN.{length, take};
+ghost use Rattle.magnetar_field.specs.Words.{elements};
 ghost use Rattle.magnetar_layout.specs.Lent.{lent};
 ghost use Rattle.magnetar_batch.specs.Systems.{system};
-ghost use Rattle.magnetar_protocol.specs.Draws.{drawCount, drawsOf};
 ghost use Rattle.magnetar_protocol.specs.Schedule.{outline, schedule};
 ghost use Rattle.magnetar_protocol.specs.Play.{heard};
-ghost use Rattle.magnetar_protocol.specs.Checks.{combined};
 ghost use Rattle.magnetar_spartan.specs.Rules.{rules, relationOf};
 ghost use Rattle.magnetar_spartan.specs.Ready.{Ready, VerifyReady};
-ghost use Rattle.magnetar_spartan.specs.Outcome.{verified, verifyOutcome, verifyVerdict, verifyClaims};
+ghost use Rattle.magnetar_spartan.specs.Outcome.{proved, proveOutcome, verified, verifyOutcome, verifyVerdict, verifyClaims};
 ghost use Rattle.magnetar_protocol.specs.RealRun.{verifierTranscript};
-
-// How many words the draws of a run have.
-fn draw_words(m: usize, q: usize, rb: usize, rf: usize) -> usize
-    ensures { λ r. ⌜ r ≡ 2 * drawCount (outline m q rb rf []) ⌝ }
-{
-    let s = refusal::log(q);
-    let b = refusal::log(rb);
-    let f = refusal::log(rf);
-    let n = refusal::log(m);
-    2 * (s + b + (s + f + (s + (b + (f + (6 + n))))))
-}
-
-// n words of s from word a on.
-fn part<'a>(s: &'a [u64], a: usize, n: usize) -> &'a [u64]
-    requires { ⌜ (a + n ≤ length (now s)) × (a + n ≤ 65536) ⌝ }
-    ensures { λ r. ⌜ now r ≡ take n (drop a (now (s .entry))) ⌝ }
-{
-    let e = a + n;
-    &s[a..e]
-}
-
-// The six matrices at the row points of the draws, combined by the alphas: at the front of s.
-fn combine(
-    s: &mut [u64],
-    draws: &[u64],
-    m: usize,
-    q: usize,
-    lens: &[usize],
-    abrows: usize,
-    abcols: usize,
-    abrow: &[usize],
-    abcol: &[usize],
-    ablo: &[u64],
-    abhi: &[u64],
-    bbrows: usize,
-    bbcols: usize,
-    bbrow: &[usize],
-    bbcol: &[usize],
-    bblo: &[u64],
-    bbhi: &[u64],
-    cbrows: usize,
-    cbcols: usize,
-    cbrow: &[usize],
-    cbcol: &[usize],
-    cblo: &[u64],
-    cbhi: &[u64],
-    afrows: usize,
-    afcols: usize,
-    afrow: &[usize],
-    afcol: &[usize],
-    aflo: &[u64],
-    afhi: &[u64],
-    bfrows: usize,
-    bfcols: usize,
-    bfrow: &[usize],
-    bfcol: &[usize],
-    bflo: &[u64],
-    bfhi: &[u64],
-    cfrows: usize,
-    cfcols: usize,
-    cfrow: &[usize],
-    cfcol: &[usize],
-    cflo: &[u64],
-    cfhi: &[u64],
-) -> u32
-    requires { ⌜ Ready (rules m q (now lens)
-        (system (lent abrows abcols (now abrow) (now abcol) (now ablo) (now abhi)) (lent bbrows bbcols (now bbrow) (now bbcol) (now bblo) (now bbhi)) (lent cbrows cbcols (now cbrow) (now cbcol) (now cblo) (now cbhi)))
-        (system (lent afrows afcols (now afrow) (now afcol) (now aflo) (now afhi)) (lent bfrows bfcols (now bfrow) (now bfcol) (now bflo) (now bfhi)) (lent cfrows cfcols (now cfrow) (now cfcol) (now cflo) (now cfhi)))) ⌝ }
-    requires { ⌜ (length (now draws) ≡ 2 * drawCount (outline m q abrows afrows (now lens))) × (2 * m + 2 * max abrows afrows ≤ length (now s)) ⌝ }
-    ensures { λ _. ⌜ take m (elements (now (s .exit))) ≡ combined (relationOf (rules m q (now (lens .entry))
-        (system (lent abrows abcols (now (abrow .entry)) (now (abcol .entry)) (now (ablo .entry)) (now (abhi .entry))) (lent bbrows bbcols (now (bbrow .entry)) (now (bbcol .entry)) (now (bblo .entry)) (now (bbhi .entry))) (lent cbrows cbcols (now (cbrow .entry)) (now (cbcol .entry)) (now (cblo .entry)) (now (cbhi .entry))))
-        (system (lent afrows afcols (now (afrow .entry)) (now (afcol .entry)) (now (aflo .entry)) (now (afhi .entry))) (lent bfrows bfcols (now (bfrow .entry)) (now (bfcol .entry)) (now (bflo .entry)) (now (bfhi .entry))) (lent cfrows cfcols (now (cfrow .entry)) (now (cfcol .entry)) (now (cflo .entry)) (now (cfhi .entry))))))
-        (drawsOf (relationOf (rules m q (now (lens .entry))
-        (system (lent abrows abcols (now (abrow .entry)) (now (abcol .entry)) (now (ablo .entry)) (now (abhi .entry))) (lent bbrows bbcols (now (bbrow .entry)) (now (bbcol .entry)) (now (bblo .entry)) (now (bbhi .entry))) (lent cbrows cbcols (now (cbrow .entry)) (now (cbcol .entry)) (now (cblo .entry)) (now (cbhi .entry))))
-        (system (lent afrows afcols (now (afrow .entry)) (now (afcol .entry)) (now (aflo .entry)) (now (afhi .entry))) (lent bfrows bfcols (now (bfrow .entry)) (now (bfcol .entry)) (now (bflo .entry)) (now (bfhi .entry))) (lent cfrows cfcols (now (cfrow .entry)) (now (cfcol .entry)) (now (cflo .entry)) (now (cfhi .entry)))))) (elements (now (draws .entry)))) ⌝ }
-{
-    let l = refusal::log(q);
-    let b = refusal::log(abrows);
-    let f = refusal::log(afrows);
-    let i = 2 * (l + b + (l + f) + l);
-    let j = i + 2 * b;
-    let k = j + 2 * f;
-    let alphas = part(draws, k, 12);
-    let pb = part(draws, i, 2 * b);
-    let pf = part(draws, j, 2 * f);
-    combo::combine_in(
-        s,
-        m,
-        abrows,
-        abcols,
-        abrow,
-        abcol,
-        ablo,
-        abhi,
-        bbrows,
-        bbcols,
-        bbrow,
-        bbcol,
-        bblo,
-        bbhi,
-        cbrows,
-        cbcols,
-        cbrow,
-        cbcol,
-        cblo,
-        cbhi,
-        afrows,
-        afcols,
-        afrow,
-        afcol,
-        aflo,
-        afhi,
-        bfrows,
-        bfcols,
-        bfrow,
-        bfcol,
-        bflo,
-        bfhi,
-        cfrows,
-        cfcols,
-        cfrow,
-        cfcol,
-        cflo,
-        cfhi,
-        alphas,
-        pb,
-        pf,
-    )
-}
 
 // The answer of a run that a check stops: its transcript has played the events before that check.
 fn stopped(
@@ -245,7 +112,7 @@ fn verify_in(
     if first.code != 0 {
         return stopped(m, q, abrows, afrows, lens, proof, t, first);
     }
-    combine(
+    combine::combine(
         s,
         draws,
         m,
@@ -407,7 +274,7 @@ pub fn verify_virtual_spartan(
     }
     let k = refusal::claim_words(m, q, lens.len());
     let n = refusal::verifier_room(m, abrows, afrows);
-    let d = draw_words(m, q, abrows, afrows);
+    let d = combine::draw_words(m, q, abrows, afrows);
     let mut draws = [0u64; 256];
     let a = verify_in(
         &mut claims[..k],
@@ -458,4 +325,171 @@ pub fn verify_virtual_spartan(
     );
     words::clear(&mut scratch[..n]);
     a
+}
+
+// The prover: 0, and its transcript, the proof's words, the claims r_inst, r_low and segment values at the front of what is lent, whatever
+// the batch is. 1 to 10: the sizes, the packed and public words and the rules; 14: the transcript's counter; 15: too little room.
+pub fn prove_virtual_spartan(
+    proof: &mut [u64],
+    claims: &mut [u64],
+    scratch: &mut [u64],
+    m: usize,
+    q: usize,
+    lens: &[usize],
+    abrows: usize,
+    abcols: usize,
+    abrow: &[usize],
+    abcol: &[usize],
+    ablo: &[u64],
+    abhi: &[u64],
+    bbrows: usize,
+    bbcols: usize,
+    bbrow: &[usize],
+    bbcol: &[usize],
+    bblo: &[u64],
+    bbhi: &[u64],
+    cbrows: usize,
+    cbcols: usize,
+    cbrow: &[usize],
+    cbcol: &[usize],
+    cblo: &[u64],
+    cbhi: &[u64],
+    afrows: usize,
+    afcols: usize,
+    afrow: &[usize],
+    afcol: &[usize],
+    aflo: &[u64],
+    afhi: &[u64],
+    bfrows: usize,
+    bfcols: usize,
+    bfrow: &[usize],
+    bfcol: &[usize],
+    bflo: &[u64],
+    bfhi: &[u64],
+    cfrows: usize,
+    cfcols: usize,
+    cfrow: &[usize],
+    cfcol: &[usize],
+    cflo: &[u64],
+    cfhi: &[u64],
+    packed: &[u64],
+    x: &[u64],
+    t: Transcript,
+) -> TranscriptAnswer
+    ensures { λ r. ⌜ proved r (now (proof .exit)) (now (claims .exit)) (now (scratch .exit)) ≡ proveOutcome (rules m q (now (lens .entry))
+        (system (lent abrows abcols (now (abrow .entry)) (now (abcol .entry)) (now (ablo .entry)) (now (abhi .entry))) (lent bbrows bbcols (now (bbrow .entry)) (now (bbcol .entry)) (now (bblo .entry)) (now (bbhi .entry))) (lent cbrows cbcols (now (cbrow .entry)) (now (cbcol .entry)) (now (cblo .entry)) (now (cbhi .entry))))
+        (system (lent afrows afcols (now (afrow .entry)) (now (afcol .entry)) (now (aflo .entry)) (now (afhi .entry))) (lent bfrows bfcols (now (bfrow .entry)) (now (bfcol .entry)) (now (bflo .entry)) (now (bfhi .entry))) (lent cfrows cfcols (now (cfrow .entry)) (now (cfcol .entry)) (now (cflo .entry)) (now (cfhi .entry)))))
+        (now (packed .entry)) (now (x .entry)) t (now (proof .entry)) (now (claims .entry)) (now (scratch .entry)) ⌝ }
+{
+    let z = refusal::prove(
+        m,
+        q,
+        lens,
+        abrows,
+        abcols,
+        abrow,
+        abcol,
+        ablo,
+        abhi,
+        bbrows,
+        bbcols,
+        bbrow,
+        bbcol,
+        bblo,
+        bbhi,
+        cbrows,
+        cbcols,
+        cbrow,
+        cbcol,
+        cblo,
+        cbhi,
+        afrows,
+        afcols,
+        afrow,
+        afcol,
+        aflo,
+        afhi,
+        bfrows,
+        bfcols,
+        bfrow,
+        bfcol,
+        bflo,
+        bfhi,
+        cfrows,
+        cfcols,
+        cfrow,
+        cfcol,
+        cflo,
+        cfhi,
+        packed,
+        x,
+        t.squeeze_ctr,
+        proof.len(),
+        claims.len(),
+        scratch.len(),
+    );
+    if z != 0 {
+        return TranscriptAnswer {
+            code: z,
+            transcript: t,
+        };
+    }
+    let w = refusal::proof_words(m, q, abrows, afrows, lens.len());
+    let k = refusal::claim_words(m, q, lens.len());
+    let n = refusal::prover_room(m, q, abrows, afrows);
+    let d = combine::draw_words(m, q, abrows, afrows);
+    let mut draws = [0u64; 256];
+    let u = proving::prove_in(
+        &mut proof[..w],
+        &mut claims[..k],
+        &mut scratch[..n],
+        &mut draws[..d],
+        m,
+        q,
+        lens,
+        abrows,
+        abcols,
+        abrow,
+        abcol,
+        ablo,
+        abhi,
+        bbrows,
+        bbcols,
+        bbrow,
+        bbcol,
+        bblo,
+        bbhi,
+        cbrows,
+        cbcols,
+        cbrow,
+        cbcol,
+        cblo,
+        cbhi,
+        afrows,
+        afcols,
+        afrow,
+        afcol,
+        aflo,
+        afhi,
+        bfrows,
+        bfcols,
+        bfrow,
+        bfcol,
+        bflo,
+        bfhi,
+        cfrows,
+        cfcols,
+        cfrow,
+        cfcol,
+        cflo,
+        cfhi,
+        packed,
+        x,
+        t,
+    );
+    words::clear(&mut scratch[..n]);
+    TranscriptAnswer {
+        code: 0,
+        transcript: u,
+    }
 }

@@ -89,7 +89,7 @@ same-length-6 c = search needs
 returns-2 : tie.Need-returns-2
 returns-2 c = let x = c .before .before .before .before .before .before .before .before .before .before .before .before .before .before .before .before .before .before .before .before .before .args in let f = inner-fits (x .m) (now (x .lens)) (now (x .x)) (now (x .proof)) (now (x .draws)) (now (x .s)) (sym (c .before .before .before .before .before .before .before .before .before .before .before .before .of-inner .ensures) ∙ c .before .before .before .before .before .before .before .before .before .before .before .if1 .left) in let z = f .sizes in let k = c .before .before .before .before .before .before .before .before .before .before .log2 .ensures in let r = ready (x .m) (now (x .lens)) (now (x .x)) (c .before .before .before .before .before .before .before .before .before .before .log2 .result) k z in
     let e : _≡_ {A = ℕ} 0 (innerRefusal (x .m) (now (x .lens)) (now (x .x)) (now (x .proof)) (now (x .draws)) (now (x .s))) = sym (sym (c .before .before .before .before .before .before .before .before .before .before .before .before .of-inner .ensures) ∙ c .before .before .before .before .before .before .before .before .before .before .before .if1 .left) in
-    let q = c .before .before .before .before .before .before .run .ensures .0 ∙ entered (x .m) (x .m / 2) (x .q) (x .rb) (x .rf) (c .before .before .before .before .before .before .before .before .before .before .log2 .result) (now (x .lens)) (now (x .x)) (now (x .s)) (x .t) k refl (r .double) (r .locals) in
+    let q = c .before .before .before .before .before .before .run .ensures .0 ∙ entered (x .m) (x .m / 2) 1 1 1 (c .before .before .before .before .before .before .before .before .before .before .log2 .result) (now (x .lens)) (now (x .x)) (now (x .s)) (x .t) k refl (r .double) (r .locals) in
     let a : length (c .before .before .before .before .before .before .run .last .1 .1 .1 .1 .0) ≡ (2 * (3 * c .before .before .before .before .before .before .before .before .before .before .log2 .result + 1 + length (now (x .lens)))) = c .before .before .before .before .before .before .run .kept .1 .1 .1 .1 .0 ∙ length-take-le _ _ (omega (arith, k, f .said)) in
     let d : length (c .before .before .before .before .before .before .run .last .1 .1 .1 .1 .1 .0) ≡ 2 * c .before .before .before .before .before .before .before .before .before .before .log2 .result = c .before .before .before .before .before .before .run .kept .1 .1 .1 .1 .1 .0 ∙ length-take-le _ _ (omega (arith, k, f .drawn)) in
     let l : length (take (6 * x .m) (now (x .s))) ≡ 6 * x .m = length-take-le _ _ (f .scratch) in (

@@ -1,11 +1,9 @@
--- `magnetar_spartan::virtual_spartan::combine` meets its contract.
+-- `magnetar_spartan::combine::combine` meets its contract.
 -- Assumes nothing.
-use mathlib.Core.Path.{_≡_, refl, sym, _∙_}
-use mathlib.Core.List.{List}
-use Prim.Native.Nat.{ℕ, _+_, _*_, _≤_}
+use mathlib.Core.Path.{_≡_, refl, _∙_}
+use Prim.Native.Nat.{_+_, _*_, _≤_}
 use native.Mathlib.Omega.{arith}
-use lib.ListN.{length, take, drop}
-use lib.Seq.{length-take-le}
+use lib.ListN.{length}
 use denote.Ref.{now}
 use Rattle.magnetar_field.specs.Sizes.{log₂}
 use Rattle.magnetar_layout.specs.Lent.{lent}
@@ -13,8 +11,8 @@ use Rattle.magnetar_batch.specs.Systems.{system}
 use Rattle.magnetar_spartan.specs.Rules.{Rules, rules}
 use Rattle.magnetar_spartan.proofs.Combining.{combo-none, combined-front, combined-is, part-length}
 use borrow.Author.Needs.{needs}
-use Rattle.magnetar_spartan.proofs.virtual_spartan.combine.Statement.{statement}
-use Rattle.magnetar_spartan.proofs.virtual_spartan.combine.Tie as tie
+use Rattle.magnetar_spartan.proofs.combine.combine.Statement.{statement}
+use Rattle.magnetar_spartan.proofs.combine.combine.Tie as tie
 
 abbrev start : tie.After-log3 → tie.Start
 start c = c .before .before .before .before .before .before .before .before .before .before .before .before .before .before .before .before .before .before .before .before .before .before .before .before .before .before .before .before .before .before

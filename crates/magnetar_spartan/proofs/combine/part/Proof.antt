@@ -1,11 +1,11 @@
--- `magnetar_spartan::virtual_spartan::part` meets its contract.
+-- `magnetar_spartan::combine::part` meets its contract.
 -- Assumes nothing.
 use mathlib.Core.Path.{_≡_}
 use Prim.Native.Nat.{_+_, _-_}
 use native.Mathlib.Omega.{arith}
 use borrow.Author.Needs.{needs}
-use Rattle.magnetar_spartan.proofs.virtual_spartan.part.Statement.{statement}
-use Rattle.magnetar_spartan.proofs.virtual_spartan.part.Tie as tie
+use Rattle.magnetar_spartan.proofs.combine.part.Statement.{statement}
+use Rattle.magnetar_spartan.proofs.combine.part.Tie as tie
 
 add-e : tie.Need-add-e
 add-e c = search needs

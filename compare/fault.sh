@@ -1,0 +1,97 @@
+#!/usr/bin/env bash
+# Shows that the comparison finds faults: each one is put into a copy of the sources, and has to be found within a minute.
+#   compare/fault.sh ORACLE [NAME..]      all faults, or the named ones
+# The prover refuses such a source, and only what is proved is built. So the test programs are compiled from the faulty copy without
+# proof, as `rt try` does it: by the kit's rattle-cases, with a compiler that also keeps the optimized object. The comparison then runs
+# with these programs. Needs what compare/run.sh needs and has built, and python3.
+set -euo pipefail
+oracle=$(cd "${1:?usage: fault.sh ORACLE [NAME..]}" && pwd)
+shift
+wanted=("$@")
+cd "$(dirname "$0")/.."
+[ -f target/staticlib/libmagnetar_c.a ] || rt staticlib magnetar_c >/dev/null
+compare/build.sh "$oracle" target/staticlib target/compare
+kit=${RATTLE_HOME:-$(dirname "$(dirname "$(readlink -f "$(command -v rt)")")")}
+own=$kit/on/$(uname -m)
+copy=$(mktemp -d)
+trap 'rm -rf "$copy"' EXIT
+mkdir "$copy/bin"
+: >"$copy/nothing"
+
+# the toolchain with a compiler that keeps the object of -O3
+cp -rs "$own/toolchain" "$copy/toolchain"
+rm "$copy/toolchain/bin/clang"
+cat >"$copy/toolchain/bin/clang" <<C
+#!/usr/bin/env bash
+"$own/toolchain/bin/clang" "\$@" || exit
+case " \$* " in *" -O3 "*) cp module.o "$copy/module.o" ;; esac
+C
+chmod +x "$copy/toolchain/bin/clang"
+
+# compiled PROGRAM: from the sources of the copy
+compiled() {
+    local words=() crate
+    for crate in "$copy"/crates/*/; do
+        crate=$(basename "$crate")
+        if [ -f "$copy/crates/$crate/src/lib.rt" ]; then words+=(--lib "$crate=$copy/crates/$crate/src/lib.rt"); fi
+    done
+    for crate in std io libc; do words+=(--lib "$crate=$kit/libs/$crate/src/lib.rt"); done
+    "$own/bin/rattle-cases" --toolchain "$copy/toolchain" --stdin "$copy/nothing" --stdout "$copy/nothing" \
+        "$copy/crates/$1/src/main.rt" --crate-name "$1" "${words[@]}" >"$copy/said" 2>&1 || { cat "$copy/said"; exit 1; }
+    "$own/bin/rattle-link" --target x86_64-unknown-linux-gnu --toolchain "$own/toolchain" -o "$copy/bin/$1" "$copy/module.o" 2>/dev/null
+}
+
+compared() {
+    compiled magnetar_vectors
+    compiled magnetar_cases
+    RAYON_NUM_THREADS=1 target/compare/compare "$copy/bin" "$@" >"$copy/said" 2>/dev/null
+}
+
+fresh() {
+    rm -rf "$copy/crates"
+    cp -R crates "$copy/crates"
+}
+
+# fault NAME FILE OLD NEW: one line of a copy changed
+fault() {
+    if [ ${#wanted[@]} -gt 0 ] && [[ " ${wanted[*]} " != *" $1 "* ]]; then return; fi
+    fresh
+    python3 - "$copy/crates/$2" "$3" "$4" <<'P'
+import sys
+path, old, new = sys.argv[1:]
+text = open(path).read()
+assert text.count(old) == 1, (path, old, text.count(old))
+open(path, "w").write(text.replace(old, new))
+P
+    if compared 60 1; then
+        echo "$1: NOT FOUND"
+        missed=1
+    else
+        echo "$1: $(tail -n 1 "$copy/said")"
+        grep '^DIFFERENT' "$copy/said" | sed 's/^DIFFERENT: /    /; s/; the smallest input:$//' || true
+    fi
+}
+
+missed=0
+fresh
+if [ ${#wanted[@]} -eq 0 ]; then
+    compared 10 1 || { cat "$copy/said"; echo "programs of the sources as they are differ"; exit 1; }
+    echo "no fault: $(tail -n 1 "$copy/said")"
+fi
+# round one is checked, row rounds and inner rounds are waved on
+fault later-rounds magnetar_checks/src/found.rt 'engine::sum_holds(msg, claim)' 'true'
+# the last identity compares low words only
+fault high-words magnetar_checks/src/end.rt 'if a.hi != b.hi {' 'if a.hi != a.hi {'
+# a modulus that is wrong where the top bits of a product are set
+fault modulus magnetar_field/src/gf128.rt '(t.w3 >> 62)' '(t.w3 >> 61)'
+# a counter of 2^32 is let through
+fault counter magnetar_spartan/src/refusal.rt '!(n < 0x100000000)' '!(n < 0x100000001)'
+# a later equal entry replaces an earlier one
+fault later-entry magnetar_r1cs/src/walk.rt 'words::put(out, k, gf128::add(v, e));' 'words::put(out, k, e);'
+# bits past the columns of a login are read
+fault upper-bits magnetar_batch/src/fold.rt 'return word % (1 << n);' 'return word;'
+# one round constant of the permutation
+fault round-constant magnetar_keccak/src/keccak.rt 0x8000000080008081 0x8000000080008080
+# a label
+fault label magnetar_schedule/src/events.rt 'b"vs-vz"' 'b"vs-vx"'
+exit $missed

@@ -1,0 +1,121 @@
+-- `magnetar_rounds::rounds::rows` meets its contract.
+-- Assumes nothing.
+use mathlib.Core.Path.{_≡_, sym, ap, _∙_}
+use Prim.Native.Nat.{_+_, _*_}
+use native.Mathlib.Omega.{arith}
+use lib.ListN.{length}
+use lib.Seq.{length-take-le}
+use lib.Pow.{pow-mono}
+use denote.Ref.{now}
+use Rattle.magnetar_field.specs.Gf128.{value}
+use Rattle.magnetar_field.proofs.Elements.{elements-length}
+use Rattle.magnetar_rounds.proofs.Blocks.{lent-behind, rest-length}
+use Rattle.magnetar_rounds.proofs.OuterParts.{rows-left}
+use borrow.Author.Needs.{needs}
+use Rattle.magnetar_rounds.proofs.rounds.rows.Statement.{statement}
+use Rattle.magnetar_rounds.proofs.rounds.rows.Tie as tie
+
+add-m : tie.Need-add-m
+add-m c = search needs
+
+mul-p : tie.Need-mul-p
+mul-p c = search needs
+
+add-d : tie.Need-add-d
+add-d c = search needs
+
+add-d-2 : tie.Need-add-d-2
+add-d-2 c = search needs
+
+add-d-3 : tie.Need-add-d-3
+add-d-3 c = search needs
+
+mul-c : tie.Need-mul-c
+mul-c c = search needs
+
+mul-z : tie.Need-mul-z
+mul-z c = search needs
+
+add-z : tie.Need-add-z
+add-z c = search needs
+
+power-words-requires : tie.Need-power-words-requires
+power-words-requires c κs = search needs
+
+power-words-requires-2 : tie.Need-power-words-requires-2
+power-words-requires-2 c κs = search needs
+
+slice-relend-prefix-rows-bin : tie.Need-slice-relend-prefix-rows-bin
+slice-relend-prefix-rows-bin c = search needs
+
+slice-aggregate-rows-bin : tie.Need-slice-aggregate-rows-bin
+slice-aggregate-rows-bin c = sym (length-take-le _ _ (omega (arith, c .before .before .before .before .before .before .before .before .pre .blocks)))
+
+rows-bin-requires : tie.Need-rows-bin-requires
+rows-bin-requires c κs = let p = c .before .before .before .before .before .before .before .before .pre in ((length-take-le _ _ (omega (arith, p .blocks)), p .bin-most, omega (arith, c .before .before .before .before .power-words .ensures, p .bin-words, pow-mono {i = c .before .before .before .before .before .before .before .before .args .b} {j = c .before .before .before .before .before .before .before .before .args .l + c .before .before .before .before .before .before .before .before .args .b} (omega arith)), omega (arith, p .bin-few), omega (arith, p .bin-few), omega (arith, p .bin-few, p .fld-few), omega arith, omega (arith, p .proof), omega (arith, p .draws)), c .before .before .before .before .power-words .ensures)
+
+mul-rows-fld : tie.Need-mul-rows-fld
+mul-rows-fld c = search needs
+
+add-rows-fld : tie.Need-add-rows-fld
+add-rows-fld c = search needs
+
+add-rows-fld-2 : tie.Need-add-rows-fld-2
+add-rows-fld-2 c = search needs
+
+mul-rows-fld-2 : tie.Need-mul-rows-fld-2
+mul-rows-fld-2 c = search needs
+
+sub-rows-fld : tie.Need-sub-rows-fld
+sub-rows-fld c = search needs
+
+part-rows-fld-start : tie.Need-part-rows-fld-start
+part-rows-fld-start c = search needs
+
+part-rows-fld-end : tie.Need-part-rows-fld-end
+part-rows-fld-end c = search needs
+
+rows-fld-requires : tie.Need-rows-fld-requires
+rows-fld-requires c κs = let p = c .before .before .before .before .before .before .before .before .before .before .before .before .before .before .before .before .before .before .before .pre in let one : length (c .before .before .before .before .before .before .before .before .before .before .rows-bin .last .1 .1 .1 .1 .1 .1 .1 .1 .1 .0) ≡ 4 * c .before .before .before .before .before .before .before .before .before .before .before .before .before .before .before .before .before .before .before .args .wb = c .before .before .before .before .before .before .before .before .before .before .rows-bin .kept .1 .1 .1 .1 .1 .1 .1 .1 .1 .0 ∙ length-take-le _ _ (omega (arith, c .before .before .before .before .before .before .before .before .before .before .before .before .before .before .before .before .before .before .before .pre .blocks)) in ((ap length (lent-behind (now (c .before .before .before .before .before .before .before .before .before .before .before .before .before .before .before .before .before .before .before .args .s)) (c .before .before .before .before .before .before .before .before .before .before .rows-bin .last .1 .1 .1 .1 .1 .1 .1 .1 .1 .0) (4 * c .before .before .before .before .before .before .before .before .before .before .before .before .before .before .before .before .before .before .before .args .wb) (4 * c .before .before .before .before .before .before .before .before .before .before .before .before .before .before .before .before .before .before .before .args .wf) (p .blocks) one) ∙ rest-length (now (c .before .before .before .before .before .before .before .before .before .before .before .before .before .before .before .before .before .before .before .args .s)) (c .before .before .before .before .before .before .before .before .before .before .rows-bin .last .1 .1 .1 .1 .1 .1 .1 .1 .1 .0) (4 * c .before .before .before .before .before .before .before .before .before .before .before .before .before .before .before .before .before .before .before .args .wb) (4 * c .before .before .before .before .before .before .before .before .before .before .before .before .before .before .before .before .before .before .before .args .wf) (p .blocks) one, p .fld-most, omega (arith, c .before .before .before .before .before .before .before .before .before .before .before .before .before .before .power-words2 .ensures, p .fld-words, pow-mono {i = c .before .before .before .before .before .before .before .before .before .before .before .before .before .before .before .before .before .before .before .args .f} {j = c .before .before .before .before .before .before .before .before .before .before .before .before .before .before .before .before .before .before .before .args .l + c .before .before .before .before .before .before .before .before .before .before .before .before .before .before .before .before .before .before .before .args .f} (omega arith)), omega (arith, p .fld-few), omega (arith, p .bin-few), omega (arith, p .bin-few, p .fld-few), omega arith, omega (arith, p .proof, c .before .before .before .before .before .before .before .before .before .before .rows-bin .kept .1 .1 .1 .1 .1 .1 .1 .0), omega (arith, p .draws, c .before .before .before .before .before .before .before .before .before .before .rows-bin .kept .1 .1 .1 .1 .1 .1 .1 .1 .0)), c .before .before .before .before .before .before .before .before .before .before .before .before .before .before .power-words2 .ensures)
+
+same-length : tie.Need-same-length
+same-length c = search needs
+
+same-length-2 : tie.Need-same-length-2
+same-length-2 c = search needs
+
+same-length-3 : tie.Need-same-length-3
+same-length-3 c = search needs
+
+returns : tie.Need-returns
+returns c = let p = c .before .before .before .before .before .before .before .before .before .before .before .before .before .before .before .before .before .before .before .before .before .before .before .before .before .before .before .before .before .pre in let one : length (c .before .before .before .before .before .before .before .before .before .before .before .before .before .before .before .before .before .before .before .before .rows-bin .last .1 .1 .1 .1 .1 .1 .1 .1 .1 .0) ≡ 4 * c .before .before .before .before .before .before .before .before .before .before .before .before .before .before .before .before .before .before .before .before .before .before .before .before .before .before .before .before .before .args .wb = c .before .before .before .before .before .before .before .before .before .before .before .before .before .before .before .before .before .before .before .before .rows-bin .kept .1 .1 .1 .1 .1 .1 .1 .1 .1 .0 ∙ length-take-le _ _ (omega (arith, c .before .before .before .before .before .before .before .before .before .before .before .before .before .before .before .before .before .before .before .before .before .before .before .before .before .before .before .before .before .pre .blocks)) in let two : length (c .before .before .before .before .before .before .before .before .before .rows-fld .last .1 .1 .1 .1 .1 .1 .1 .1 .1 .0) ≡ 4 * c .before .before .before .before .before .before .before .before .before .before .before .before .before .before .before .before .before .before .before .before .before .before .before .before .before .before .before .before .before .args .wf = c .before .before .before .before .before .before .before .before .before .rows-fld .kept .1 .1 .1 .1 .1 .1 .1 .1 .1 .0 ∙ (ap length (lent-behind (now (c .before .before .before .before .before .before .before .before .before .before .before .before .before .before .before .before .before .before .before .before .before .before .before .before .before .before .before .before .before .args .s)) (c .before .before .before .before .before .before .before .before .before .before .before .before .before .before .before .before .before .before .before .before .rows-bin .last .1 .1 .1 .1 .1 .1 .1 .1 .1 .0) (4 * c .before .before .before .before .before .before .before .before .before .before .before .before .before .before .before .before .before .before .before .before .before .before .before .before .before .before .before .before .before .args .wb) (4 * c .before .before .before .before .before .before .before .before .before .before .before .before .before .before .before .before .before .before .before .before .before .before .before .before .before .before .before .before .before .args .wf) (p .blocks) one) ∙ rest-length (now (c .before .before .before .before .before .before .before .before .before .before .before .before .before .before .before .before .before .before .before .before .before .before .before .before .before .before .before .before .before .args .s)) (c .before .before .before .before .before .before .before .before .before .before .before .before .before .before .before .before .before .before .before .before .rows-bin .last .1 .1 .1 .1 .1 .1 .1 .1 .1 .0) (4 * c .before .before .before .before .before .before .before .before .before .before .before .before .before .before .before .before .before .before .before .before .before .before .before .before .before .before .before .before .before .args .wb) (4 * c .before .before .before .before .before .before .before .before .before .before .before .before .before .before .before .before .before .before .before .before .before .before .before .before .before .before .before .before .before .args .wf) (p .blocks) one) in rows-left (c .before .before .before .before .before .before .before .before .before .before .before .before .before .before .before .before .before .before .before .before .before .before .before .before .before .before .before .before .before .args .l) (c .before .before .before .before .before .before .before .before .before .before .before .before .before .before .before .before .before .before .before .before .before .before .before .before .before .before .before .before .before .args .b) (c .before .before .before .before .before .before .before .before .before .before .before .before .before .before .before .before .before .before .before .before .before .before .before .before .before .before .before .before .before .args .f) (c .before .before .before .before .before .before .before .before .before .before .before .before .before .before .before .before .before .before .before .before .before .before .before .before .before .before .before .before .before .args .wb) (c .before .before .before .before .before .before .before .before .before .before .before .before .before .before .before .before .before .before .before .before .before .before .before .before .before .before .before .before .before .args .wf) (omega (arith, c .before .before .before .before .before .before .before .before .before .before .before .before .before .before .before .before .before .before .before .before .before .before .before .before .before .before .before .before .before .pre .bin-few)) (omega (arith, c .before .before .before .before .before .before .before .before .before .before .before .before .before .before .before .before .before .before .before .before .before .before .before .before .before .before .before .before .before .pre .fld-few)) _ _ (value (c .before .before .before .before .before .before .before .before .before .before .before .before .before .before .before .before .before .before .before .before .before .before .before .before .before .before .before .before .before .args .kb)) (value (c .before .before .before .before .before .before .before .before .before .before .before .before .before .before .before .before .before .before .before .before .before .before .before .before .before .before .before .before .before .args .kf)) _ _ (c .before .before .before .before .before .before .before .before .before .before .before .before .before .before .before .before .before .before .before .before .before .before .before .before .before .before .before .before .before .args .t) (c .before .before .before .before .before .before .before .before .before .before .before .before .before .before .before .before .before .before .before .before .rows-bin .result .transcript) (c .before .before .before .before .before .before .before .before .before .rows-fld .result .transcript) (now (c .before .before .before .before .before .before .before .before .before .before .before .before .before .before .before .before .before .before .before .before .before .before .before .before .before .before .before .before .before .args .proof)) (now (c .before .before .before .before .before .before .before .before .before .before .before .before .before .before .before .before .before .before .before .before .before .before .before .before .before .before .before .before .before .args .draws)) (now (c .before .before .before .before .before .before .before .before .before .before .before .before .before .before .before .before .before .before .before .before .before .before .before .before .before .before .before .before .before .args .s)) (c .before .before .before .before .before .before .before .before .before .before .before .before .before .before .before .before .before .before .before .before .rows-bin .last .1 .1 .1 .1 .1 .1 .1 .0) (c .before .before .before .before .before .before .before .before .before .before .before .before .before .before .before .before .before .before .before .before .rows-bin .last .1 .1 .1 .1 .1 .1 .1 .1 .0) (c .before .before .before .before .before .before .before .before .before .before .before .before .before .before .before .before .before .before .before .before .rows-bin .last .1 .1 .1 .1 .1 .1 .1 .1 .1 .0) (c .before .before .before .before .before .before .before .before .before .rows-fld .last .1 .1 .1 .1 .1 .1 .1 .0) (c .before .before .before .before .before .before .before .before .before .rows-fld .last .1 .1 .1 .1 .1 .1 .1 .1 .0) (c .before .before .before .before .before .before .before .before .before .rows-fld .last .1 .1 .1 .1 .1 .1 .1 .1 .1 .0) (c .before .before .before .before .before .before .before .before .before .before .before .before .before .before .before .before .before .before .before .before .before .before .before .before .before .power-words .ensures) (c .before .before .before .before .before .before .before .before .before .before .before .before .before .before .before .before .before .before .before .before .before .before .before .before .power-words2 .ensures) (p .blocks) one two (rw elements-length (omega (arith, p .draws))) (c .before .before .before .before .before .before .before .before .before .before .before .before .before .before .before .before .before .before .before .before .rows-bin .ensures) (c .before .before .before .before .before .before .before .before .before .rows-fld .ensures)
+
+pub rows-spec : {M : Type 1} → statement M
+rows-spec =
+    tie.close
+    (tie.spec
+    add-m
+    mul-p
+    add-d
+    add-d-2
+    add-d-3
+    mul-c
+    mul-z
+    add-z
+    power-words-requires
+    power-words-requires-2
+    slice-relend-prefix-rows-bin
+    slice-aggregate-rows-bin
+    rows-bin-requires
+    mul-rows-fld
+    add-rows-fld
+    add-rows-fld-2
+    mul-rows-fld-2
+    sub-rows-fld
+    part-rows-fld-start
+    part-rows-fld-end
+    rows-fld-requires
+    same-length
+    same-length-2
+    same-length-3
+    returns)
