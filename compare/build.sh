@@ -1,15 +1,12 @@
 #!/usr/bin/env bash
 # Links the comparison: build.sh ORACLE ARCHIVE OUT, with the library of the folder ARCHIVE, to the folder OUT.
-# The prover is compared where the library has it.
 set -euo pipefail
 release=$1/target/release archive=$2 out=$3
 here=$(cd "$(dirname "$0")" && pwd)
 mkdir -p "$out"
-prover=()
-if nm --defined-only "$archive/libmagnetar_c.a" 2>/dev/null | grep -q ' magnetar_prove_virtual_spartan$'; then prover=(--cfg prover); fi
 rustc --edition 2021 -C opt-level=3 --crate-type rlib --crate-name magnetar -o "$out/libmagnetar.rlib" "$here/../bindings/rust/src/lib.rs" \
     -L native="$archive"
-rustc --edition 2021 -C opt-level=3 -C target-feature=+pclmulqdq,+sse4.1 --check-cfg 'cfg(prover)' "${prover[@]}" -o "$out/compare" \
+rustc --edition 2021 -C opt-level=3 -C target-feature=+pclmulqdq,+sse4.1 -o "$out/compare" \
     "$here/src/main.rs" --extern magnetar="$out/libmagnetar.rlib" --extern magnetar_field="$release/libmagnetar_field.rlib" \
     --extern magnetar_hash="$release/libmagnetar_hash.rlib" --extern magnetar_sumcheck="$release/libmagnetar_sumcheck.rlib" \
     --extern magnetar_spartan="$release/libmagnetar_spartan.rlib" --extern open_spartan="$release/libopen_spartan.rlib" \

@@ -68,7 +68,6 @@ pub fn row_check(r: &Relation, scratch: usize) -> ((u32, u32, usize, usize), Vec
     ((a.code, a.system, a.login, a.row), scratch)
 }
 
-#[cfg(prover)]
 pub fn prove(r: &Relation, t: &State, proof: usize, claims: usize, scratch: usize) -> Outcome {
     let (mut proof, mut claims, mut scratch) = (vec![MARK; proof], vec![MARK; claims], vec![MARK; scratch]);
     let a = unsafe {

@@ -131,7 +131,6 @@ pub fn verify(r: &Relation, lent: Lent) -> u32 {
     }
 }
 
-#[cfg_attr(not(prover), allow(dead_code))]
 pub fn prove(r: &Relation, lent: Lent) -> u32 {
     match run(r, true) {
         0 => {

@@ -108,28 +108,30 @@ pub fn verify(tally: &mut Tally, r: &Relation, start: &State, proof: &[u64], cla
     expected.code
 }
 
-/// Compares the prover; its proof is the Rust's either way.
-#[cfg(prover)]
-pub fn prove(tally: &mut Tally, r: &Relation, start: &State, proof: usize, claims: usize, scratch: usize) {
+/// What the prover has to leave, and who says so.
+pub fn to_prove(r: &Relation, start: &State, proof: usize, claims: usize, scratch: usize) -> (By, Outcome) {
     let refusal = model::prove(r, Lent { proof, claims, scratch, counter: start.1 });
-    let expected = if refusal != 0 {
-        Outcome { code: refusal, transcript: *start, proof: marked(&[], proof), claims: marked(&[], claims), scratch: marked(&[], scratch) }
-    } else {
-        let (words, found, transcript) = rust_prove(r, start);
-        let scratch = marked(&vec![0; model::room(r).prover], scratch);
-        Outcome { code: 0, transcript, proof: marked(&words, proof), claims: marked(&found, claims), scratch }
-    };
+    if refusal != 0 {
+        let stay = |n: usize| marked(&[], n);
+        let o = Outcome { code: refusal, transcript: *start, proof: stay(proof), claims: stay(claims), scratch: stay(scratch) };
+        return (By::Document, o);
+    }
+    let (words, found, transcript) = rust_prove(r, start);
+    let scratch = marked(&vec![0; model::room(r).prover], scratch);
+    (By::Rust, Outcome { code: 0, transcript, proof: marked(&words, proof), claims: marked(&found, claims), scratch })
+}
+
+/// Compares the prover; the proof that was expected.
+pub fn prove(tally: &mut Tally, r: &Relation, start: &State, proof: usize, claims: usize, scratch: usize) -> Vec<u64> {
+    let (by, expected) = to_prove(r, start, proof, claims, scratch);
     let found = library::prove(r, start, proof, claims, scratch);
-    let by = if refusal == 0 { By::Rust } else { By::Document };
     tally.verdict("prove", expected.code);
     tally.compared("prove_virtual_spartan", by, found == expected, || {
         let query = format!("prove {} {proof} {claims} {scratch}", state(start));
         format!("{}\n{query}\nexpected:\n{}\nhere:\n{}", r.text(), shown(&expected), shown(&found))
     });
+    expected.proof
 }
-
-#[cfg(not(prover))]
-pub fn prove(_: &mut Tally, _: &Relation, _: &State, _: usize, _: usize, _: usize) {}
 
 /// Compares the row check through the library.
 pub fn check(tally: &mut Tally, r: &Relation, scratch: usize) {
@@ -159,8 +161,8 @@ pub fn start(r: &mut Random) -> State {
 /// A relation's honest run on both sides; the proof.
 pub fn honest(tally: &mut Tally, r: &Relation, t: &State, slack: usize) -> (Vec<u64>, u32) {
     let room = model::room(r);
-    prove(tally, r, t, room.proof + slack, room.claims + slack, room.prover + slack);
-    let (proof, _, _) = rust_prove(r, t);
+    let mut proof = prove(tally, r, t, room.proof + slack, room.claims + slack, room.prover + slack);
+    proof.truncate(room.proof);
     let code = verify(tally, r, t, &proof, room.claims + slack, room.verifier + slack);
     check(tally, r, room.check + slack);
     (proof, code)

@@ -1,5 +1,6 @@
 //! Queries on whole relations: the combined table, the masks, the row check.
 use crate::forms::open;
+use crate::library::Outcome;
 use crate::matrix;
 use crate::model;
 use crate::random::Random;
@@ -95,22 +96,41 @@ fn check(sheet: &mut Sheet, rel: &Relation, scratch: usize) {
     sheet.ask_on("check::row_check", by(n), &rel.text(), format!("check {scratch}"), answer);
 }
 
-/// The verifier once more, by the program: the library's runs are many more.
-fn verify(sheet: &mut Sheet, rel: &Relation, start: &rust::State, proof: &[u64], claims: usize, scratch: usize) {
-    let (by, o) = runs::to_verify(rel, start, proof, claims, scratch);
+/// How the program tells of a run: number and transcript, proof, claims, scratch.
+fn told(o: &Outcome) -> Vec<String> {
     let number = if o.code == 0 { "=".to_string() } else { format!("! {}", o.code) };
     let zeros = o.scratch.iter().filter(|&&w| w == 0).count();
-    let answer = vec![format!("{number} {}", state(&o.transcript)), format!("= {}", list(&o.claims)), counted(zeros, scratch)];
+    let mut lines = vec![format!("{number} {}", state(&o.transcript))];
+    if !o.proof.is_empty() {
+        lines.push(format!("= {}", list(&o.proof)));
+    }
+    lines.extend([format!("= {}", list(&o.claims)), counted(zeros, o.scratch.len())]);
+    lines
+}
+
+/// Prover and verifier once more, by the program: the library's runs are many more.
+fn prove(sheet: &mut Sheet, rel: &Relation, start: &rust::State, proof: usize, claims: usize, scratch: usize) -> Vec<u64> {
+    let (by, o) = runs::to_prove(rel, start, proof, claims, scratch);
+    let query = format!("prove {} {proof} {claims} {scratch}", state(start));
+    sheet.ask_on("prove_virtual_spartan, by query", by, &rel.text(), query, told(&o));
+    o.proof
+}
+
+fn verify(sheet: &mut Sheet, rel: &Relation, start: &rust::State, proof: &[u64], claims: usize, scratch: usize) {
+    let (by, o) = runs::to_verify(rel, start, proof, claims, scratch);
     let query = format!("verify {} {claims} {scratch} {}", state(start), list(proof));
-    sheet.ask_on("verify_virtual_spartan, by query", by, &rel.text(), query, answer);
+    sheet.ask_on("verify_virtual_spartan, by query", by, &rel.text(), query, told(&o));
 }
 
 fn verified(sheet: &mut Sheet, r: &mut Random, rel: &Relation) {
     let (room, start) = (model::room(rel), runs::start(r));
-    if room.proof > 900 || room.claims > 250 || room.verifier > 20000 {
+    if room.proof > 900 || room.claims > 250 || room.prover > 20000 {
         return;
     }
-    let (proof, _, _) = runs::rust_prove(rel, &start);
+    let slack = r.below(3);
+    let mut proof = prove(sheet, rel, &start, room.proof + slack, room.claims + slack, room.prover + slack);
+    proof.truncate(room.proof);
+    prove(sheet, rel, &start, room.proof, room.claims, room.prover - 1);
     verify(sheet, rel, &start, &proof, room.claims, room.verifier);
     for _ in 0..6 {
         let mut p = proof.clone();

@@ -22,7 +22,7 @@ ghost use Rattle.magnetar_layout.specs.Lent.{lent};
 ghost use Rattle.magnetar_batch.specs.Systems.{system};
 ghost use Rattle.magnetar_batch.specs.Check.{outcome, checkAnswer, checkScratch};
 ghost use Rattle.magnetar_spartan.specs.Rules.{rules};
-ghost use Rattle.magnetar_spartan.specs.Outcome.{verified, verifyOutcome};
+ghost use Rattle.magnetar_spartan.specs.Outcome.{verified, verifyOutcome, proved, proveOutcome};
 ghost use Rattle.magnetar_sumcheck.specs.Entries.{outerRefusal, outerOut, innerRefusal, innerOut, dropRefusal, dropOut};
 ghost use Rattle.magnetar_c.specs.Across as across;
 
@@ -359,6 +359,109 @@ pub extern "C" fn magnetar_verify_virtual_spartan(
         cfhi,
         x,
         proof,
+        transcript_in(t),
+    ))
+}
+
+// The proof and the claims of a batch.
+#[no_mangle]
+pub extern "C" fn magnetar_prove_virtual_spartan(
+    proof: &mut [u64],
+    claims: &mut [u64],
+    scratch: &mut [u64],
+    m: usize,
+    q: usize,
+    lens: &[usize],
+    abrows: usize,
+    abcols: usize,
+    abrow: &[usize],
+    abcol: &[usize],
+    ablo: &[u64],
+    abhi: &[u64],
+    bbrows: usize,
+    bbcols: usize,
+    bbrow: &[usize],
+    bbcol: &[usize],
+    bblo: &[u64],
+    bbhi: &[u64],
+    cbrows: usize,
+    cbcols: usize,
+    cbrow: &[usize],
+    cbcol: &[usize],
+    cblo: &[u64],
+    cbhi: &[u64],
+    afrows: usize,
+    afcols: usize,
+    afrow: &[usize],
+    afcol: &[usize],
+    aflo: &[u64],
+    afhi: &[u64],
+    bfrows: usize,
+    bfcols: usize,
+    bfrow: &[usize],
+    bfcol: &[usize],
+    bflo: &[u64],
+    bfhi: &[u64],
+    cfrows: usize,
+    cfcols: usize,
+    cfrow: &[usize],
+    cfcol: &[usize],
+    cflo: &[u64],
+    cfhi: &[u64],
+    packed: &[u64],
+    x: &[u64],
+    t: MagnetarTranscript,
+) -> MagnetarAnswer
+    ensures { λ r. ⌜ proved (across.answer r) (now (proof .exit)) (now (claims .exit)) (now (scratch .exit)) ≡ proveOutcome (rules m q (now (lens .entry))
+        (system (lent abrows abcols (now (abrow .entry)) (now (abcol .entry)) (now (ablo .entry)) (now (abhi .entry))) (lent bbrows bbcols (now (bbrow .entry)) (now (bbcol .entry)) (now (bblo .entry)) (now (bbhi .entry))) (lent cbrows cbcols (now (cbrow .entry)) (now (cbcol .entry)) (now (cblo .entry)) (now (cbhi .entry))))
+        (system (lent afrows afcols (now (afrow .entry)) (now (afcol .entry)) (now (aflo .entry)) (now (afhi .entry))) (lent bfrows bfcols (now (bfrow .entry)) (now (bfcol .entry)) (now (bflo .entry)) (now (bfhi .entry))) (lent cfrows cfcols (now (cfrow .entry)) (now (cfcol .entry)) (now (cflo .entry)) (now (cfhi .entry)))))
+        (now (packed .entry)) (now (x .entry)) (across.transcript t) (now (proof .entry)) (now (claims .entry)) (now (scratch .entry)) ⌝ }
+{
+    answer_out(virtual_spartan::prove_virtual_spartan(
+        proof,
+        claims,
+        scratch,
+        m,
+        q,
+        lens,
+        abrows,
+        abcols,
+        abrow,
+        abcol,
+        ablo,
+        abhi,
+        bbrows,
+        bbcols,
+        bbrow,
+        bbcol,
+        bblo,
+        bbhi,
+        cbrows,
+        cbcols,
+        cbrow,
+        cbcol,
+        cblo,
+        cbhi,
+        afrows,
+        afcols,
+        afrow,
+        afcol,
+        aflo,
+        afhi,
+        bfrows,
+        bfcols,
+        bfrow,
+        bfcol,
+        bflo,
+        bfhi,
+        cfrows,
+        cfcols,
+        cfrow,
+        cfcol,
+        cflo,
+        cfhi,
+        packed,
+        x,
         transcript_in(t),
     ))
 }
