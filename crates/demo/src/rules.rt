@@ -14,7 +14,7 @@ use magnetar_hash::transcript::Transcript;
 use magnetar_hash::transcript::TranscriptAnswer;
 use magnetar_spartan::virtual_spartan;
 
-pub(crate) const M: usize = 64;
+const M: usize = 64;
 
 const BIN: usize = 16;
 
@@ -22,10 +22,30 @@ const FLD: usize = 2;
 
 const SEGMENTS: [usize; 3] = [8, 4, 8];
 
-// The values of bin's entries and those of C of fld: the one.
-const ONES: [u64; 21] = [1; 21];
+// The values: ones in bin and in C of fld.
+const AB_LO: [u64; 21] = [1; 21];
 
-const ZEROS: [u64; 21] = [0; 21];
+const AB_HI: [u64; 21] = [0; 21];
+
+const BB_LO: [u64; 13] = [1; 13];
+
+const BB_HI: [u64; 13] = [0; 13];
+
+const CB_LO: [u64; 7] = [1; 7];
+
+const CB_HI: [u64; 7] = [0; 7];
+
+const AF_LO: [u64; 4] = [1, 1, 1, 2];
+
+const AF_HI: [u64; 4] = [0; 4];
+
+const BF_LO: [u64; 9] = [1, 2, 4, 8, 16, 32, 64, 128, 1];
+
+const BF_HI: [u64; 9] = [0; 9];
+
+const CF_LO: [u64; 1] = [1];
+
+const CF_HI: [u64; 1] = [0];
 
 const AB_ROW: [usize; 21] = [
     0,
@@ -87,13 +107,9 @@ const AF_ROW: [usize; 4] = [0, 0, 1, 1];
 
 const AF_COL: [usize; 4] = [8, 32, 10, 11];
 
-const AF_LO: [u64; 4] = [1, 1, 1, 2];
-
 const BF_ROW: [usize; 9] = [0, 0, 0, 0, 0, 0, 0, 0, 1];
 
 const BF_COL: [usize; 9] = [0, 1, 2, 3, 4, 5, 6, 7, 33];
-
-const BF_LO: [u64; 9] = [1, 2, 4, 8, 16, 32, 64, 128, 1];
 
 const CF_ROW: [usize; 1] = [1];
 
@@ -109,38 +125,38 @@ pub(crate) fn row_check(scratch: &mut [u64], q: usize, packed: &[u64], x: &[u64]
         M,
         &AB_ROW,
         &AB_COL,
-        &ONES,
-        &ZEROS,
+        &AB_LO,
+        &AB_HI,
         BIN,
         M,
         &BB_ROW,
         &BB_COL,
-        &ONES[0..13],
-        &ZEROS[0..13],
+        &BB_LO,
+        &BB_HI,
         BIN,
         M,
         &CB_ROW,
         &CB_COL,
-        &ONES[0..7],
-        &ZEROS[0..7],
+        &CB_LO,
+        &CB_HI,
         FLD,
         M,
         &AF_ROW,
         &AF_COL,
         &AF_LO,
-        &ZEROS[0..4],
+        &AF_HI,
         FLD,
         M,
         &BF_ROW,
         &BF_COL,
         &BF_LO,
-        &ZEROS[0..9],
+        &BF_HI,
         FLD,
         M,
         &CF_ROW,
         &CF_COL,
-        &ONES[0..1],
-        &ZEROS[0..1],
+        &CF_LO,
+        &CF_HI,
         packed,
         x,
     )
@@ -167,38 +183,38 @@ pub(crate) fn prove(
         M,
         &AB_ROW,
         &AB_COL,
-        &ONES,
-        &ZEROS,
+        &AB_LO,
+        &AB_HI,
         BIN,
         M,
         &BB_ROW,
         &BB_COL,
-        &ONES[0..13],
-        &ZEROS[0..13],
+        &BB_LO,
+        &BB_HI,
         BIN,
         M,
         &CB_ROW,
         &CB_COL,
-        &ONES[0..7],
-        &ZEROS[0..7],
+        &CB_LO,
+        &CB_HI,
         FLD,
         M,
         &AF_ROW,
         &AF_COL,
         &AF_LO,
-        &ZEROS[0..4],
+        &AF_HI,
         FLD,
         M,
         &BF_ROW,
         &BF_COL,
         &BF_LO,
-        &ZEROS[0..9],
+        &BF_HI,
         FLD,
         M,
         &CF_ROW,
         &CF_COL,
-        &ONES[0..1],
-        &ZEROS[0..1],
+        &CF_LO,
+        &CF_HI,
         packed,
         x,
         t,
@@ -224,38 +240,38 @@ pub(crate) fn verify(
         M,
         &AB_ROW,
         &AB_COL,
-        &ONES,
-        &ZEROS,
+        &AB_LO,
+        &AB_HI,
         BIN,
         M,
         &BB_ROW,
         &BB_COL,
-        &ONES[0..13],
-        &ZEROS[0..13],
+        &BB_LO,
+        &BB_HI,
         BIN,
         M,
         &CB_ROW,
         &CB_COL,
-        &ONES[0..7],
-        &ZEROS[0..7],
+        &CB_LO,
+        &CB_HI,
         FLD,
         M,
         &AF_ROW,
         &AF_COL,
         &AF_LO,
-        &ZEROS[0..4],
+        &AF_HI,
         FLD,
         M,
         &BF_ROW,
         &BF_COL,
         &BF_LO,
-        &ZEROS[0..9],
+        &BF_HI,
         FLD,
         M,
         &CF_ROW,
         &CF_COL,
-        &ONES[0..1],
-        &ZEROS[0..1],
+        &CF_LO,
+        &CF_HI,
         x,
         proof,
         t,

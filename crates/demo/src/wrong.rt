@@ -36,9 +36,9 @@ pub(crate) fn check(packed: &[u64], x: &[u64]) {
     print_verdict(rules::row_check(&mut scratch, 4, packed, x));
 }
 
-// What the laptop says about a proof of q logins.
+// What the laptop says about a proof of q logins; there is room for the claims of 8.
 fn verified(q: usize, x: &[u64], proof: &[u64]) {
-    let mut claims = [0u64; 20];
+    let mut claims = [0u64; 22];
     let mut scratch = [0u64; 320];
     let r = rules::verify(&mut claims, &mut scratch, q, x, proof, vault::start());
     refusal::line(r.code);
