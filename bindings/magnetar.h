@@ -7,7 +7,6 @@
  * elements; what is written overlaps nothing else that is lent. Every function ends on all other inputs, allocates nothing, keeps
  * nothing between calls, and may run in many threads at once. A function that returns a number returns 0 or a refusal, and a call
  * refused with 1 to 17 writes nothing. One refused with 21 to 29 writes no claim, and leaves its scratch 0.
- * prove, verify and check below take the rules in a struct.
  */
 #ifndef MAGNETAR_H
 #define MAGNETAR_H
@@ -33,6 +32,8 @@ enum {
     MAGNETAR_LAYOUT = 9,          /* the layout ends past m / 2 */
     MAGNETAR_SEGMENTS = 10,       /* over 64 segments */
     MAGNETAR_LENGTH = 11,         /* a point, vector or table is not of the wanted length, or has no such variable */
+    MAGNETAR_MASKS = 12,          /* masks of values that are no bits (no function here gives it) */
+    MAGNETAR_V = 13,              /* masks for v over log2 q or over 6 (no function here gives it) */
     MAGNETAR_COUNTER = 14,        /* the transcript's counter is 2^32 or more */
     MAGNETAR_ROOM = 15,           /* an output or the scratch is too short */
     MAGNETAR_PROOF_LENGTH = 16,   /* the proof has a wrong number of words */
@@ -56,11 +57,12 @@ enum {
 /* Of a run with m columns, q logins, rb rows of bin and rf of fld, and so many segments; s, b, f, n are the logs of q, rb, rf, m. */
 #define MAGNETAR_PROOF_WORDS(s, b, f, n, segments) (2 * (8 * (size_t)(s) + 4 * (b) + 4 * (f) + 7 + 3 * (n) + (segments)))
 #define MAGNETAR_CLAIM_WORDS(s, n, segments) (2 * ((size_t)(s) + (n)-1 + (segments)))
-#define MAGNETAR_PACKED_WORDS(m, q) (2 * (size_t)(q) * (((size_t)(m) / 2 + 127) / 128))
-#define MAGNETAR_CHECK_SCRATCH(rb, rf) (6 * (size_t)((rb) > (rf) ? (rb) : (rf)))
+#define MAGNETAR_PACKED_WORDS(m, q) (2 * (size_t)(q) * (((size_t)(m) + 255) / 256)) /* a login: m / 2 bits, from bit 0 of a word on */
+#define MAGNETAR_MOST_ROWS(rb, rf) ((size_t)((rb) > (rf) ? (rb) : (rf)))
+#define MAGNETAR_CHECK_SCRATCH(rb, rf) (6 * MAGNETAR_MOST_ROWS(rb, rf))
+#define MAGNETAR_VERIFIER_SCRATCH(m, rb, rf) (4 * (size_t)(m) + 4 * MAGNETAR_MOST_ROWS(rb, rf))
 #define MAGNETAR_PROVER_SCRATCH(m, q, rb, rf) \
-    (8 * (size_t)(q) * ((size_t)(rb) + (rf)) + 8 * (size_t)(m) + 4 * (size_t)((rb) > (rf) ? (rb) : (rf)) + 4 * (size_t)(q))
-#define MAGNETAR_VERIFIER_SCRATCH(m, rb, rf) (4 * (size_t)(m) + 4 * (size_t)((rb) > (rf) ? (rb) : (rf)))
+    (8 * (size_t)(q) * ((size_t)(rb) + (rf)) + 8 * (size_t)(m) + 4 * MAGNETAR_MOST_ROWS(rb, rf) + 4 * (size_t)(q))
 
 typedef struct {
     uint64_t lo; /* bit i: the coefficient of x^i */
@@ -128,46 +130,15 @@ magnetar_answer magnetar_absorb_field(magnetar_transcript t, const uint8_t *labe
 /* An element is drawn under a label. 14: the counter is 2^32 or more. */
 magnetar_draw magnetar_challenge_field(magnetar_transcript t, const uint8_t *label, size_t label_len);
 
-/* The proof that a batch of q logins keeps the rules, and its claims. Words of a login are two for each 128 columns, the lowest bit
- * that of column 0; bits past the columns are not read. Whether the batch is good is not tested: a bad one gives a proof that is turned
- * back. The transcript goes on with all that is said and drawn. Refuses 1 to 10, 14 and 15; the scratch is cleared otherwise. */
-magnetar_answer magnetar_prove_virtual_spartan(
-    uint64_t *proof, size_t proof_len, uint64_t *claims, size_t claims_len, uint64_t *scratch, size_t scratch_len,
-    size_t m, size_t q, const size_t *lens, size_t lens_len,
-    size_t abrows, size_t abcols, const size_t *abrow, size_t abrow_len, const size_t *abcol, size_t abcol_len,
-    const uint64_t *ablo, size_t ablo_len, const uint64_t *abhi, size_t abhi_len,
-    size_t bbrows, size_t bbcols, const size_t *bbrow, size_t bbrow_len, const size_t *bbcol, size_t bbcol_len,
-    const uint64_t *bblo, size_t bblo_len, const uint64_t *bbhi, size_t bbhi_len,
-    size_t cbrows, size_t cbcols, const size_t *cbrow, size_t cbrow_len, const size_t *cbcol, size_t cbcol_len,
-    const uint64_t *cblo, size_t cblo_len, const uint64_t *cbhi, size_t cbhi_len,
-    size_t afrows, size_t afcols, const size_t *afrow, size_t afrow_len, const size_t *afcol, size_t afcol_len,
-    const uint64_t *aflo, size_t aflo_len, const uint64_t *afhi, size_t afhi_len,
-    size_t bfrows, size_t bfcols, const size_t *bfrow, size_t bfrow_len, const size_t *bfcol, size_t bfcol_len,
-    const uint64_t *bflo, size_t bflo_len, const uint64_t *bfhi, size_t bfhi_len,
-    size_t cfrows, size_t cfcols, const size_t *cfrow, size_t cfrow_len, const size_t *cfcol, size_t cfcol_len,
-    const uint64_t *cflo, size_t cflo_len, const uint64_t *cfhi, size_t cfhi_len,
-    const uint64_t *packed, size_t packed_len, const uint64_t *x, size_t x_len, magnetar_transcript t);
+/* ---- A batch of q logins under the rules of two systems, bin and fld. The rules are six matrices: A, B, C of bin are ab, bb, cb, those
+ * of fld af, bf, cf. Entry i of a matrix has the row row[i], the column col[i] and the value of the words lo[i] and hi[i]; entries at one
+ * place add up. x holds the words of the public elements. */
 
-/* The verdict on a proof for a batch of q logins: 0 where it is accepted, and the claims: the shared challenges, those of the columns
- * but the last, and a value for each segment. The matrices A, B, C of bin are ab, bb, cb, those of fld af, bf, cf: entry i has the row
- * row[i], the column col[i] and the value of the words lo[i] and hi[i], and entries at one place add up. x holds the words of the
- * public elements. Refuses 1, 3 to 10 and 14 to 16, and 21 to 29, after which the scratch is cleared and the transcript has gone on. */
-magnetar_answer magnetar_verify_virtual_spartan(
-    uint64_t *claims, size_t claims_len, uint64_t *scratch, size_t scratch_len,
-    size_t m, size_t q, const size_t *lens, size_t lens_len,
-    size_t abrows, size_t abcols, const size_t *abrow, size_t abrow_len, const size_t *abcol, size_t abcol_len,
-    const uint64_t *ablo, size_t ablo_len, const uint64_t *abhi, size_t abhi_len,
-    size_t bbrows, size_t bbcols, const size_t *bbrow, size_t bbrow_len, const size_t *bbcol, size_t bbcol_len,
-    const uint64_t *bblo, size_t bblo_len, const uint64_t *bbhi, size_t bbhi_len,
-    size_t cbrows, size_t cbcols, const size_t *cbrow, size_t cbrow_len, const size_t *cbcol, size_t cbcol_len,
-    const uint64_t *cblo, size_t cblo_len, const uint64_t *cbhi, size_t cbhi_len,
-    size_t afrows, size_t afcols, const size_t *afrow, size_t afrow_len, const size_t *afcol, size_t afcol_len,
-    const uint64_t *aflo, size_t aflo_len, const uint64_t *afhi, size_t afhi_len,
-    size_t bfrows, size_t bfcols, const size_t *bfrow, size_t bfrow_len, const size_t *bfcol, size_t bfcol_len,
-    const uint64_t *bflo, size_t bflo_len, const uint64_t *bfhi, size_t bfhi_len,
-    size_t cfrows, size_t cfcols, const size_t *cfrow, size_t cfrow_len, const size_t *cfcol, size_t cfcol_len,
-    const uint64_t *cflo, size_t cflo_len, const uint64_t *cfhi, size_t cfhi_len,
-    const uint64_t *x, size_t x_len, const uint64_t *proof, size_t proof_len, magnetar_transcript t);
+#define MAGNETAR_MATRIX_(p) \
+    size_t p##rows, size_t p##cols, const size_t *p##row, size_t p##row_len, const size_t *p##col, size_t p##col_len, \
+        const uint64_t *p##lo, size_t p##lo_len, const uint64_t *p##hi, size_t p##hi_len
+#define MAGNETAR_MATRICES_ \
+    MAGNETAR_MATRIX_(ab), MAGNETAR_MATRIX_(bb), MAGNETAR_MATRIX_(cb), MAGNETAR_MATRIX_(af), MAGNETAR_MATRIX_(bf), MAGNETAR_MATRIX_(cf)
 
 /* Whether a batch keeps the rules, in plain: for each login z is its bits, a 1 and the public elements, and a row holds where the
  * product of A z and B z is C z. Words of a login are two for each 128 columns, the lowest bit that of column 0; bits past the columns
@@ -180,22 +151,24 @@ typedef struct {
 } magnetar_row_verdict;
 
 magnetar_row_verdict magnetar_row_check(
-    uint64_t *scratch, size_t scratch_len, size_t m, size_t q,
-    size_t abrows, size_t abcols, const size_t *abrow, size_t abrow_len, const size_t *abcol, size_t abcol_len,
-    const uint64_t *ablo, size_t ablo_len, const uint64_t *abhi, size_t abhi_len,
-    size_t bbrows, size_t bbcols, const size_t *bbrow, size_t bbrow_len, const size_t *bbcol, size_t bbcol_len,
-    const uint64_t *bblo, size_t bblo_len, const uint64_t *bbhi, size_t bbhi_len,
-    size_t cbrows, size_t cbcols, const size_t *cbrow, size_t cbrow_len, const size_t *cbcol, size_t cbcol_len,
-    const uint64_t *cblo, size_t cblo_len, const uint64_t *cbhi, size_t cbhi_len,
-    size_t afrows, size_t afcols, const size_t *afrow, size_t afrow_len, const size_t *afcol, size_t afcol_len,
-    const uint64_t *aflo, size_t aflo_len, const uint64_t *afhi, size_t afhi_len,
-    size_t bfrows, size_t bfcols, const size_t *bfrow, size_t bfrow_len, const size_t *bfcol, size_t bfcol_len,
-    const uint64_t *bflo, size_t bflo_len, const uint64_t *bfhi, size_t bfhi_len,
-    size_t cfrows, size_t cfcols, const size_t *cfrow, size_t cfrow_len, const size_t *cfcol, size_t cfcol_len,
-    const uint64_t *cflo, size_t cflo_len, const uint64_t *cfhi, size_t cfhi_len,
-    const uint64_t *packed, size_t packed_len, const uint64_t *x, size_t x_len);
+    uint64_t *scratch, size_t scratch_len, size_t m, size_t q, MAGNETAR_MATRICES_, const uint64_t *packed, size_t packed_len,
+    const uint64_t *x, size_t x_len);
 
-/* The rules in a struct. */
+/* Proves a batch, whether it is good or not, and gives the claims: the shared challenges, those of the columns but the last, and a value
+ * for each segment. Refuses 1 to 10, 14 and 15. */
+magnetar_answer magnetar_prove_virtual_spartan(
+    uint64_t *proof, size_t proof_len, uint64_t *claims, size_t claims_len, uint64_t *scratch, size_t scratch_len,
+    size_t m, size_t q, const size_t *lens, size_t lens_len, MAGNETAR_MATRICES_, const uint64_t *packed, size_t packed_len,
+    const uint64_t *x, size_t x_len, magnetar_transcript t);
+
+/* The verdict on a proof, 0 where it is accepted, and then the same claims. Refuses 1, 3 to 10 and 14 to 16, and 21 to 29, after which
+ * the scratch is cleared and the transcript has gone on. */
+magnetar_answer magnetar_verify_virtual_spartan(
+    uint64_t *claims, size_t claims_len, uint64_t *scratch, size_t scratch_len,
+    size_t m, size_t q, const size_t *lens, size_t lens_len, MAGNETAR_MATRICES_, const uint64_t *x, size_t x_len,
+    const uint64_t *proof, size_t proof_len, magnetar_transcript t);
+
+/* The same three with the rules in a struct. */
 typedef struct {
     size_t rows, cols, entries;
     const size_t *row, *col;
@@ -209,18 +182,24 @@ typedef struct {
     magnetar_matrix matrix[6]; /* A, B, C of bin, then of fld */
 } magnetar_relation;
 
-#define MAGNETAR_MATRIX_(x) \
-    (x).rows, (x).cols, (x).row, (x).entries, (x).col, (x).entries, (x).lo, (x).entries, (x).hi, (x).entries
-#define MAGNETAR_MATRICES_(r)                                                                            \
-    MAGNETAR_MATRIX_((r)->matrix[0]), MAGNETAR_MATRIX_((r)->matrix[1]), MAGNETAR_MATRIX_((r)->matrix[2]), \
-        MAGNETAR_MATRIX_((r)->matrix[3]), MAGNETAR_MATRIX_((r)->matrix[4]), MAGNETAR_MATRIX_((r)->matrix[5])
+#define MAGNETAR_LEND_(a) \
+    (a).rows, (a).cols, (a).row, (a).entries, (a).col, (a).entries, (a).lo, (a).entries, (a).hi, (a).entries
+#define MAGNETAR_LEND_ALL_(r) \
+    MAGNETAR_LEND_((r)->matrix[0]), MAGNETAR_LEND_((r)->matrix[1]), MAGNETAR_LEND_((r)->matrix[2]), \
+        MAGNETAR_LEND_((r)->matrix[3]), MAGNETAR_LEND_((r)->matrix[4]), MAGNETAR_LEND_((r)->matrix[5])
+
+static inline magnetar_row_verdict magnetar_check(const magnetar_relation *r, const uint64_t *packed, size_t packed_len,
+                                                  const uint64_t *x, size_t x_len, uint64_t *scratch, size_t scratch_len)
+{
+    return magnetar_row_check(scratch, scratch_len, r->m, r->q, MAGNETAR_LEND_ALL_(r), packed, packed_len, x, x_len);
+}
 
 static inline magnetar_answer magnetar_prove(const magnetar_relation *r, const uint64_t *packed, size_t packed_len, const uint64_t *x,
-                                             size_t x_len, magnetar_transcript t, uint64_t *proof, size_t proof_len,
-                                             uint64_t *claims, size_t claims_len, uint64_t *scratch, size_t scratch_len)
+                                             size_t x_len, magnetar_transcript t, uint64_t *proof, size_t proof_len, uint64_t *claims,
+                                             size_t claims_len, uint64_t *scratch, size_t scratch_len)
 {
     return magnetar_prove_virtual_spartan(proof, proof_len, claims, claims_len, scratch, scratch_len, r->m, r->q, r->lens, r->segments,
-                                          MAGNETAR_MATRICES_(r), packed, packed_len, x, x_len, t);
+                                          MAGNETAR_LEND_ALL_(r), packed, packed_len, x, x_len, t);
 }
 
 static inline magnetar_answer magnetar_verify(const magnetar_relation *r, const uint64_t *x, size_t x_len, const uint64_t *proof,
@@ -228,13 +207,7 @@ static inline magnetar_answer magnetar_verify(const magnetar_relation *r, const 
                                               uint64_t *scratch, size_t scratch_len)
 {
     return magnetar_verify_virtual_spartan(claims, claims_len, scratch, scratch_len, r->m, r->q, r->lens, r->segments,
-                                           MAGNETAR_MATRICES_(r), x, x_len, proof, proof_len, t);
-}
-
-static inline magnetar_row_verdict magnetar_check(const magnetar_relation *r, const uint64_t *packed, size_t packed_len,
-                                                  const uint64_t *x, size_t x_len, uint64_t *scratch, size_t scratch_len)
-{
-    return magnetar_row_check(scratch, scratch_len, r->m, r->q, MAGNETAR_MATRICES_(r), packed, packed_len, x, x_len);
+                                           MAGNETAR_LEND_ALL_(r), x, x_len, proof, proof_len, t);
 }
 
 #ifdef __cplusplus

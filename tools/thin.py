@@ -1,19 +1,21 @@
 #!/usr/bin/env python3
-# Writes proofs/F/Proof.antt for a function of calls in a row, from its MIR:  thin.py CRATE F [--final TERM] [--requires] [--ask N=TERM].. [--use LINE]..   (F: MODULE::NAME)
+# Writes proofs/F/Proof.antt for a function of calls in a row, from its MIR:  thin.py CRATE F [--final TERM] [--requires TYPE] [--part TERM] [--ask N=TERM].. [--use LINE]..   (F: MODULE::NAME)
 # Nobody has to trust it: the checker checks what it writes. tools/walks.sh has the calls that this repository makes.
 #   parameters: &[T], &mut [number], &STRUCT and &mut STRUCT (read and stored whole, `*t`, and passed on), and numbers, bools, arrays and structs by value.  T: a number or a struct of plain data; for STRUCT also an array
 #   body: calls of functions whose contracts each have one `ensures` fact (and --ask for each call N whose callee requires one fact); results by value are kept in locals, passed on and returned; `s.len()` of a slice; an enum only as the result of the last call, and not beside a branch, which is too dear for the checker
+#   a local that is lent to a call: `&mut u` of a struct, `&es` of an array of structs, and `&es[..n]` with --part TERM, a proof of n ≤ its length (`pre`)
 #   one kind of branch: `if B { .. } else { .. }` on a bool of a local, not within another, each way ending with a value and not with a call that is lent a &mut slice; each way through has its own --final, in order, and knows b1: B ≡ true, or ≡ false
 #   TERM may cite e1, e2, ..: what call 1, 2, .. ensures (numbered as they stand; what follows a branch is numbered once for each way); r1, r2, .. the results; `pre`, with --requires TYPE
 #   and the parameters: s1 (a &[T], `s1 .now`), ys1 (what a &mut [T] holds on entry), h1 (behind a &mut STRUCT), n1 (by value); ws1 .1 .0 for what call 1's argument 1 holds after it
 import sys, subprocess, re
 argv = sys.argv[1:]
 crate, fname = argv[0], argv[1]
-finals = []; requires = ''; asks = {}; uses = []; defs = []
+finals = []; requires = ''; part = ''; asks = {}; uses = []; defs = []
 i = 2
 while i < len(argv):
     if argv[i] == '--final': finals.append(argv[i+1]); i += 2
     elif argv[i] == '--requires': requires = argv[i+1]; i += 2
+    elif argv[i] == '--part': part = argv[i+1]; i += 2
     elif argv[i] == '--def': defs.append(argv[i+1]); i += 2
     elif argv[i] == '--ask': n, t = argv[i+1].split('=', 1); asks[int(n)] = t; i += 2
     elif argv[i] == '--use': uses.append(argv[i+1]); i += 2
@@ -124,7 +126,7 @@ def tyT(t):
     if t[0] == 'tyNamed': return f'l{sname(t)}.mir'
     if t[0] == 'tyRef':
         lf = 'erased' if t[1] == 'erased' else f'(named {t[1][1]})'
-        return f'tyRef {lf} {t[2]} ' + (f'(pointee (m{sname(t[3])}.the-row .written))' if t[3][0] == 'tyNamed' else f'({tyT(t[3])})')
+        return f'tyRef {lf} {t[2]} ' + (f'(pointee ({info(t[3])["row"]} .written))' if 'tyNamed' in (t[3][0], t[3][1][0]) else f'({tyT(t[3])})')
     if t[0] == 'tyStruct' and t[1] == '"&[]"': return f'sliceTy ({tyT(cons(t[2])[0])})'
     raise Exception(t)
 callees = []
@@ -214,13 +216,24 @@ def one(s, last):
         P_, way = place(s[1]); rv = s[2]
         if rv[0] == 'addrOf':
             Q, w2 = place(rv[1])
+            if not w2:                           # a local is lent
+                k(f'{asg} ! (addr ! (from ! (stop !))) {wr(P_, "(tt, tt)")} $ {NL}'); env[P_] = ('lend', Q); return
             if K(Q) == 'R':
                 assert len(w2) == 1
                 k(f'{asg} ! (addr ! (from ! (hop ! (look ! {k.p(f"c{Q}")} refl) (stop !)))) {wr(P_, "(tt, tt)")} $ {NL}'); env[P_] = ('againR', Q); return
             assert K(Q) == 'M' and len(w2) == 2
             k(f'{asg} ! (addr ! (from ! (fld ! refl (hop ! (look-in ! {k.p(f"c{Q}")} (sub ! 0 refl (whole !))) (stop !))))) {wr(P_, "(tt, tt)")} $ {NL}')
         elif rv[0] == 'aggregate':
-            ops = cons(rv[1]); L1, _ = place(ops[0][1]); Q, w2 = place(ops[1][1]); assert w2 and K(Q) == 'M'
+            ops = cons(rv[1]); L1, _ = place(ops[0][1])
+            if ops[1][0] == 'int':               # all of a local array
+                Q = env[L1][1]
+                k(f'{asg} ! (agg ! (and-then ! {rd(L1)} (and-then ! (lit ! tt) (no-more !)))) {wr(P_, "(tt, (tt, (record { fits = lit< tt }, tt)))")} $ {NL}'); env[P_] = ('lendS', Q, ops[1][2], locs[Q][1]); return
+            Q, w2 = place(ops[1][1])
+            if not w2:                           # the front of a local array
+                _, h_, u_, w_, I = env[Q]
+                k(f"rewrite ! {k.p(f'c{Q}')} (λ (w : Val). ‵ (fat fullShare ({tyT(locs[Q])}) l{sub(Q)} 0 w)) (ap only ({w_} .0)) refl $ "); env[Q] = ('val', h_, f'({I["val"]} {h_})', f'(refl, {w_} .1)', I)
+                k(f'{asg} ! (agg ! (and-then ! {rd(L1)} (and-then ! {rd(Q)} (no-more !)))) {wr(P_, f"(tt, (tt, (record {{ fits = {w_} .1 }}, tt)))")} $ {NL}'); Q_ = env[L1][1]; env[P_] = ('lendS', Q_, locs[Q_][2][1], locs[Q_][1], h_); return
+            assert K(Q) == 'M'
             k(f'{asg} ! (agg ! (and-then ! {rd(L1)} (and-then ! (load ! (from ! (fld ! refl (stop !))) (look-in ! {k.p(f"c{Q}")} (sub ! 1 refl (whole !)))) (no-more !)))) {wr(P_, f"(tt, (tt, (record {{ fits = room{Q} .0 }}, tt)))")} $ {NL}')
             env[P_] = ('again', Q)
         elif rv[0] == 'rvOpd' and rv[1] == 'unit':
@@ -292,6 +305,31 @@ def one(s, last):
             klist.append(f'({ν} ∷ [])'); qlist.append('fullShare')
             own = f'MutSlice (named {n}) ({ν} ∷ []) {IN(j)["row"]} .own (ref{j} {δ} ({l_})) (v{j} ∷ [])'
             items.append((f'G{t}', own, ν)); dens.append(f'ref{j} {δ} ({l_})'); vals_.append(f'v{j} ∷ []'); build.append((f'G{t}', None)); ws.append(('M', (j, ν, δ, t, n)))
+        elif e[0] in ('lend', 'lendS'):
+            Q_ = e[1]; _, h_, u_, w_, I = env[Q_]; n = len(klist); ν = f'ν{c_}{"abcdefgh"[t]}'; δ = f'δ{c_}{"abcdefgh"[t]}'; at_ = f'l{sub(Q_)} 0'
+            k(f'{NL}lft-new ! tt (λ {ν}. '); k.close += 1; k.c.insert(0, ν)
+            k(f'owned ! {I["row"]} (Is {I["row"]}) {I["makes"]} ({h_}) _ {w_} $ '); k.c.insert(0, 'own'); k.mv(f'c{Q_}', 'own')
+            k(f'use1 W (‵ (cellAt fullShare ({I["row"]} .mir) ({u_} ∷ []) {at_})) (W .laws .at-raw fullShare ({tyT(locs[Q_])}) {at_} ({u_})) $ into ! {I["row"]} fullShare ({h_}) ({u_} ∷ []) {at_} $ {NL}')
+            klist.append(f'({ν} ∷ [])'); qlist.append('fullShare')
+            if e[0] == 'lend':
+                own = lambda δ: f'MutRef (named {n}) ({ν} ∷ []) {I["row"]} .own (record {{ ptr = (l{sub(Q_)}, 0); name = {δ}; now = {h_} }}) (vptr {at_} ∷ [])'
+                k(f'use1 W (later (some (λ (δ : GName). ‵ ({own("δ")}) ⊛ ‵ (flent ({ν} ∷ []) (Body (mem {I["row"]}) {at_} δ))))) (lends-ref 𝓤 H A W {I["row"]} (named {n}) ({ν} ∷ []) ({h_}) {at_}) $ await ! tt $ pick ! (λ {δ}. split ! $ {NL}'); k.close += 1
+                vals_.append(f'vptr {at_} ∷ []'); ws.append(('L', (Q_, ν, δ, t, n)))
+            else:
+                el = info(e[3]); ln = f'ln{c_}{"abcdefgh"[t]}'; cut_ = e[4:]; xs = f'(take {cut_[0]} ({h_}))' if cut_ else f'({h_})'; m_ = cut_[0] if cut_ else e[2]
+                own0 = lambda δ, m: f'ShrSlice (named {n}) ({ν} ∷ []) {el["row"]} .own (record {{ ptr = (l{sub(Q_)}, 0); name = {δ}; now = {xs} }}) (sliceVal (l{sub(Q_)}, 0) {m} ∷ [])'
+                own = lambda δ: own0(δ, m_)
+                k(f'use1 W (‵ (arr-parts (shares {el["row"]}) {e[2]} .part fullShare ({h_}) {at_})) (array-apart 𝓤 H A W {el["row"]} fullShare tt {e[2]} ({h_}) {at_}) $ fsplit ! $ feqL ! (λ {ln}. {NL}'); k.close += 1
+                if cut_:
+                    k(f'use1 W (‵ (parts (mem {el["row"]}) (shares {el["row"]}) fullShare {xs} {at_}) ⊛ ‵ (rest {el["row"]} fullShare {m_} ({h_}) {at_})) (cut 𝓤 H A {el["row"]} fullShare {m_} ({h_}) {at_}) $ split ! $ '); k.c.insert(1, f'rest{c_}{t}')
+                le = f'length-take-le {m_} ({h_}) (subst (λ (m : ℕ). {m_} ≤ m) (sym {ln}) ({part}))' if cut_ else ln
+                room = f'room-of {el["row"]} {m_} {e[2]} ({part}) (lit< tt, lit< tt)' if cut_ else '(lit< tt, lit< tt)'
+                k(f'feqI ! ℕ (length {xs}) (length {xs}) refl $ fjoin ! $ {NL}')
+                k(f'use1 W (later (some (λ (δ : GName). ‵ ({own0("δ", f"(length {xs})")}) ⊛ ‵ (flent ({ν} ∷ []) (arr-parts (shares {el["row"]}) (length {xs}) .part fullShare {xs} {at_}))))) (lends-shr-slice 𝓤 H A W {el["row"]} (named {n}) ({ν} ∷ []) fullShare {xs} {at_} (subst (Room {el["row"]}) (sym ({le})) ({room}))) $ await ! tt $ pick ! (λ {δ}. split ! $ rewrite ! 0 (λ (m : ℕ). ‵ ({own0(δ, "m")})) ({le}) refl $ {NL}'); k.close += 1
+                vals_.append(f'sliceVal (l{sub(Q_)}, 0) {m_} ∷ []'); ws.append(('A', (Q_, ν, δ, t, el, e[2], ln, cut_)))
+            if e[0] == 'lend': xs = h_
+            k.c = [f'G{t}', f'L{t}'] + [x for x in k.c[1:] if x != 'own']
+            items.append((f'G{t}', own(δ), ν)); dens.append(f'record {{ ptr = (l{sub(Q_)}, 0); name = {δ}; now = {xs} }}'); build.append((f'G{t}', None))
         else:
             assert e[0] == 'val'; dens.append(e[1]); vals_.append(f'{e[2]} ∷ []'); I = e[4]
             build.append((f'V{t}', f'owned ! {I["row"]} (Is {I["row"]}) {I["makes"]} ({e[1]}) _ {e[3]}')); ws.append(('tt', None))
@@ -322,7 +360,7 @@ def one(s, last):
     k(f'use1 W (later (some (λ ({r_} : {ri["den"]}). ({calive} ⊛ ‵ ({ri["row"]} .own {r_} ({u_} ∷ []))) ⊛ some (λ (ws : Lasts {g}.ended {ck} {X}). ‵ (lasts {g}.ended {ck} {X} ws) ⊛ raw ({g}.clauses 𝓤 H A at-mem run {ck} {X} .ensures tt {r_} (atExit {g}.ended {ck} {X} ws)))))) (id⊢ 𝓤 _) $ await ! tt $ pick ! (λ {r_}. split ! $ move ! (1 ∷ []) $ pick ! (λ ws{c_}. split ! $ move ! (1 ∷ []) $ heard ! _ (λ e{c_}. {NL}'); k.close += 4
     k.c = ['lasts', 'back'] + k.c[1:]
     for t, (kind, w_) in enumerate(ws):
-        k.mv('lasts'); k('fsplit ! $ '); k.c = [f'fin{t}' if kind == 'R' else f'last{c_}{t}', 'lasts'] + k.c[1:]
+        k.mv('lasts'); k('fsplit ! $ '); k.c = [f'fin{t}' if kind in 'RL' else f'last{c_}{t}', 'lasts'] + k.c[1:]
         if kind == 'M':
             k('fsplit ! $ '); k.c = [f'fin{t}', f'eq{t}'] + k.c[1:]; k.mv(f'eq{t}'); k(f'feqL ! (λ same{c_}{"abcdefgh"[t]}. '); k.close += 1; k.c = k.c[1:]
     i_l = k.c.index('lasts'); k.c[i_l] = f'lasts{c_}'
@@ -343,6 +381,20 @@ def one(s, last):
             k(f'use3 W (later (‵ (O{j} ({nl})) ⊛ ‵ (flft {κ(LF(j))} {q(LF(j))}))) (backsR 𝓤 H A W {r0} (named {LF(j)}) {κ(LF(j))} ({ν} ∷ []) {q(LF(j))} γ{j} b{j} o{j} {δ} ({l_}) ({nl})) $ await ! tt $ split ! $ {NL}')
             k.c = [f'O{j}', f'tok{LF(j)}'] + k.c[3:]
             cur[j] = (nl, None, None, False)
+        if kind in ('L', 'A'):
+            Q_, ν, δ, _, *more = w_; _, h_, u_, w0, I = env[Q_]; at_ = f'l{sub(Q_)} 0'; wn = f'w{c_}{"abcdefgh"[t]}'
+            k.mv(ν); k('lft-end ! tt $ ')
+            if kind == 'L':
+                nl = f'(ws{c_} {nest(t)})'; k.mv(ν, f'L{t}', f'fin{t}')
+                k(f'use3 W (later (‵ (partAt {I["row"]} fullShare ({nl}) {at_}))) (ref-back 𝓤 H A W {I["row"]} ({ν} ∷ []) {δ} ({nl}) {at_}) $ await ! tt $ {NL}'); k.c = [f'c{Q_}'] + k.c[3:]
+            else:
+                el, n_, ln, cut_ = more; nl = h_; k.mv(ν, f'L{t}')
+                k('lent-back ! tt $ fsplit ! $ drop ! $ '); k.c = [f'c{Q_}'] + k.c[2:]
+                if cut_:
+                    k.mv(f'c{Q_}', f'rest{c_}{t}'); k(f'use2 W (‵ (parts (mem {el["row"]}) (shares {el["row"]}) fullShare ({h_}) {at_})) (mend 𝓤 H A {el["row"]} fullShare {cut_[0]} ({h_}) {at_}) $ '); k.c.pop(1)
+                k(f'feqI ! ℕ (length ({h_})) {n_} {ln} $ fjoin ! $ use1 W (‵ (partAt {I["row"]} fullShare ({nl}) {at_})) (array-whole 𝓤 H A W {el["row"]} fullShare {n_} ({h_}) {at_}) $ {NL}')
+            k(f'out ! {I["row"]} fullShare ({nl}) {at_} (λ vs. spelt ! {I["row"]} (Is {I["row"]}) (shows 𝓤 H A {I["row"]}) {I["vals"]} {I["tells"]} fullShare ({nl}) vs {at_} $ move ! (1 ∷ []) $ peeks ! {I["row"]} (Is {I["row"]}) (shows 𝓤 H A {I["row"]}) ({nl}) ({I["val"]} ({nl}) ∷ []) (λ {wn}. drop ! $ use1 W (‵ (fat fullShare ({tyT(locs[Q_])}) {at_} ({I["val"]} ({nl})))) (W .laws .raw-at fullShare ({tyT(locs[Q_])}) {at_} ({I["val"]} ({nl}))) $ {NL}'); k.close += 2
+            env[Q_] = ('val', nl, f'({I["val"]} ({nl}))', wn, I)
         if kind == 'M':
             j, ν, δ, _, n = w_; l_, ln = cur[j]; nl = f'ws{c_} {nest(t)}'; same = f'same{c_}{"abcdefgh"[t]}'
             k.mv(ν); k('lft-end ! tt $ '); k.mv(ν, f'L{t}', f'fin{t}')
@@ -455,6 +507,7 @@ for c, way, n in structs:
     hs, hp = (f'Rattle.{c}.specs', f'Rattle.{c}.proofs') if c == crate else (f'Rattle.{c}.specs', f'Rattle.{c}.proofs')
     w(f'use {hs}.declared.{d}.{{{n}}}\nuse {hp}.{d} as m{n}\nuse {hp}.{d}.Laws as l{n}')
 Msl = [j for j in idx if K(j) == 'M']
+if 'into !' in walk: w(f'use types.SemTy.{{Body}}\nuse types.Share.{{parts, arr-parts}}\nuse lib.ListN.{{take}}\nuse lib.Seq.{{length-take-le}}\nuse Prim.Native.Nat.{{_≤_}}\nuse types.Tokens.{{lent-back}}\nuse base.Fml.{{flent}}\nuse denote.Memory.{{cellAt, partAt, mem, shares}}\nuse denote.ArrayMemory.{{array-apart, array-whole}}\nuse denote.Lend.{{lends-ref, ref-back, lends-shr-slice}}\nuse Rattle.{crate}.proofs.Local.{{into, out, rest, cut, mend, room-of}}')
 if Msl: w(f'use Rattle.{crate}.proofs.Again.{{LentAgain, lends-again, comes-back}}')
 for g in callees:
     c_, f_ = gm(g); base = f'Rattle.{c_}.proofs.{f_}' if c_ == crate else f'Rattle.{c_}.proofs.{f_}'

@@ -1,6 +1,6 @@
 #!/bin/sh
-# Writes anew the proofs of magnetar_inplace that tools/thin.py and tools/each.py write. Run it in the repository's root after a
-# change of a walked function's code or contract, then `rt fmt` and `rt check magnetar_inplace`. Nobody has to trust the tools:
+# Writes anew the proofs of magnetar_inplace and magnetar_forms that tools/thin.py and tools/each.py write. Run it in the repository's
+# root after a change of a walked function's code or contract, then `rt fmt` and `rt check` of the crate. Nobody has to trust the tools:
 # the checker checks what they write.
 set -e
 c=magnetar_inplace
@@ -45,3 +45,18 @@ thin records::write_packed --use "$packed.{write-some, write-none}" \
   --final 'write-none (s2 .now) (s3 .now) (s4 .now) ys8 n5 n6 n7 n1 false b1 refl'
 thin records::apply_simd_packed --use "$packed.{packed-ends}" --use 'Rattle.magnetar_r1cs.specs.Entries.{flagged}' \
   --final 'packed-ends n1 n2 (s3 .now) (s4 .now) (s5 .now) ys8 n6 n7 r1 r3 r2 e1 e2 e3 (ws4 .1 .1 .1 .1 .1 .1 .1 .0) r4 (flagged r5) e4 e5'
+
+# magnetar_forms: locals lent to the thin functions
+c=magnetar_forms
+p=crates/$c/proofs
+thin lent::absorb_bytes
+thin lent::absorb_u64
+thin lent::absorb_digest
+thin lent::absorb_field --final '(cc, cc)'
+thin lent::challenge_field --final '(cc, cc, cc)'
+thin lent::challenge_field_vec --final '(cc, cc, cc)'
+thin lent::is_binary --requires 'n4 ≤ 32' --part pre
+thin lent::apply --requires 'n4 ≤ 32' --part pre --final e1
+thin lent::eval_mle_table --requires 'n4 ≤ 32' --part pre --final e1
+thin lent::eval_mle_at --requires 'n4 ≤ 32' --part pre --final e1
+thin lent::apply_simd_packed --requires 'n4 ≤ 32' --part pre --final e1

@@ -1,11 +1,11 @@
-//! Times the verifier beside the Rust's, on the same proofs in one run, and compares claims, verdicts and transcripts.
+//! Times prover and verifier beside the Rust's, on the same batch in one run, and compares proofs, claims, verdicts and transcripts.
 //!
-//!     proofs M Q ROWS_BIN ROWS_FLD ENTRIES SEGMENTS TURNS
+//!     proofs M Q ROWS_BIN ROWS_FLD ENTRIES SEGMENTS PROOFS TURNS
 //!
-//! prints a line of the table: the shortest time of each side over so many turns, the ratio, and the memory that each side
-//! took at most beside its inputs. Claims and scratch are allocated within the time that is measured. The proofs are the
-//! Rust's. One thread.
-use magnetar::{verify, Claims, Element, Matrix, Relation, Transcript};
+//! prints a line of the table: the shortest time of each side over so many proofs and so many turns of the verifiers, the
+//! ratio, and the memory that each side took at most beside its inputs. Proof, claims and scratch are allocated within the time
+//! that is measured. One thread.
+use magnetar::{prove, verify, Claims, Element, Matrix, Relation, Transcript};
 use magnetar_field::{mul, Gf128};
 use magnetar_spartan::{DualRelation, SegmentClaim, SegmentLayout, SegmentSpec, SparseMatrix, VirtualSpartanProof};
 use std::time::{Duration, Instant};
@@ -189,15 +189,30 @@ fn mb(c: Cost) -> f64 {
 
 fn main() {
     let given: Vec<usize> = std::env::args().skip(1).map(|w| w.parse().expect("a number")).collect();
-    let [m, q, rb, rf, entries, segments, turns] = given[..] else { panic!("proofs M Q ROWS_BIN ROWS_FLD ENTRIES SEGMENTS TURNS") };
+    let [m, q, rb, rf, entries, segments, proofs, turns] = given[..] else {
+        panic!("proofs M Q ROWS_BIN ROWS_FLD ENTRIES SEGMENTS PROOFS TURNS")
+    };
     let c = case(m, q, [rb, rf], entries, segments);
     let r = relation(&c);
     let x = words(&c.x);
     let start = Transcript::new(b"bench", &[b"case"]);
     let (theirs, layout) = (their_relation(&c), their_layout(&c));
     let their_start = magnetar_hash::Transcript::new("bench", &[b"case"]);
-    let (their_proof, _) = magnetar_spartan::prove_virtual_spartan(&theirs, &layout, &c.packed, &c.x, q, &mut their_start.clone());
-    let proof = flat(&their_proof);
+    let packed: Vec<u64> = c.packed.iter().flat_map(|v| [*v as u64, (*v >> 64) as u64]).collect();
+    let mut proving = [NONE; 2];
+    let mut made = None;
+    for _ in 0..proofs {
+        let mut t = start;
+        let (proof, claims) = measured(&mut proving[0], || prove(&r, &packed, &x, &mut t)).expect("proved");
+        let mut u = their_start.clone();
+        let (their_proof, their_claims) = measured(&mut proving[1], || {
+            magnetar_spartan::prove_virtual_spartan(&theirs, &layout, &c.packed, &c.x, q, &mut u)
+        });
+        assert!(proof == flat(&their_proof), "the proofs differ");
+        assert!(same(&claims, &their_claims) && agree(&t, &u), "the provers' claims or transcripts differ");
+        made = Some((proof, their_proof));
+    }
+    let (proof, their_proof) = made.expect("at least one proof");
     let mut cost = [NONE; 2];
     for _ in 0..turns {
         let mut t = start;
@@ -212,7 +227,8 @@ fn main() {
     assert!(verify(&r, &x, &bad, &mut start.clone()).is_err(), "a wrong proof is accepted");
     let rows = if rb == rf { format!("{rb}") } else { format!("{rb}, {rf}") };
     println!(
-        "| {m} | {q} | {rows} | {entries} | {:.2} ms | {:.2} ms | {:.2} | {:.1} MB | {:.1} MB |",
+        "| {m} | {q} | {rows} | {entries} | {:.2} ms | {:.2} ms | {:.2} | {:.1} MB | {:.1} MB | {:.2} ms | {:.2} ms | {:.2} | {:.1} MB | {:.1} MB |",
+        ms(proving[0]), ms(proving[1]), ms(proving[0]) / ms(proving[1]), mb(proving[0]), mb(proving[1]),
         ms(cost[0]), ms(cost[1]), ms(cost[0]) / ms(cost[1]), mb(cost[0]), mb(cost[1]),
     );
 }

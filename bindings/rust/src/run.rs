@@ -1,4 +1,4 @@
-//! Prover and verifier of a batch, and the plain check of its rows.
+//! The row check, the prover and the verifier of a batch.
 use crate::sys::{self, Element, Transcript};
 use crate::Refusal;
 
@@ -72,16 +72,26 @@ impl Relation {
         self.bin[0].rows.max(self.fld[0].rows)
     }
 
-    /// The words of the verifier's scratch, where they can be counted: 4 m + 4 max(Rb, Rf).
-    pub fn verifier_scratch(&self) -> Option<usize> {
-        self.m.checked_add(self.most_rows())?.checked_mul(4)
+    /// The words of a batch: 2 q ceil(m / 256).
+    pub fn packed_words(&self) -> Option<usize> {
+        self.m.div_ceil(256).checked_mul(self.q)?.checked_mul(2)
+    }
+
+    /// The words of the row check's scratch, where they can be counted: 6 max(Rb, Rf).
+    pub fn check_scratch(&self) -> Option<usize> {
+        self.most_rows().checked_mul(6)
     }
 
     /// The words of the prover's scratch: 8 q (Rb + Rf) + 8 m + 4 max(Rb, Rf) + 4 q.
     pub fn prover_scratch(&self) -> Option<usize> {
         let rows = self.bin[0].rows.checked_add(self.fld[0].rows)?;
-        let logins = self.q.checked_mul(8)?.checked_mul(rows)?.checked_add(self.q.checked_mul(4)?)?;
-        logins.checked_add(self.m.checked_mul(4)?)?.checked_add(self.verifier_scratch()?)
+        let tables = self.q.checked_mul(rows)?.checked_add(self.m)?.checked_mul(8)?;
+        self.most_rows().checked_add(self.q)?.checked_mul(4)?.checked_add(tables)
+    }
+
+    /// The words of the verifier's scratch: 4 m + 4 max(Rb, Rf).
+    pub fn verifier_scratch(&self) -> Option<usize> {
+        self.m.checked_add(self.most_rows())?.checked_mul(4)
     }
 
     fn claims(&self, words: Vec<u64>) -> Claims {
@@ -108,13 +118,35 @@ macro_rules! with_matrices {
     }};
 }
 
-/// The proof's words and the claims of a batch; `packed` holds the bits of the logins, `x` the words of the public elements. Whether
-/// the batch is good is not tested: `row_check` does that.
+/// A row that does not hold: the lowest row of the lowest login, bin before fld.
+#[derive(Clone, Copy, Debug, PartialEq, Eq)]
+pub struct Failing {
+    pub fld: bool,
+    pub login: usize,
+    pub row: usize,
+}
+
+/// The first row that does not hold, or none; `packed` holds the bits of the logins, `x` the words of the public elements.
+pub fn row_check(r: &Relation, packed: &[u64], x: &[u64]) -> Result<Option<Failing>, Refusal> {
+    let mut scratch = room(r.check_scratch());
+    // SAFETY: here and below each pointer and length are of one slice, and what is written is borrowed as `&mut`.
+    let found = unsafe {
+        with_matrices!(
+            sys::magnetar_row_check,
+            r,
+            (scratch.as_mut_ptr(), scratch.len(), r.m, r.q),
+            (packed.as_ptr(), packed.len(), x.as_ptr(), x.len())
+        )
+    };
+    Refusal::check(found.code)?;
+    Ok((found.system != 0).then_some(Failing { fld: found.system == 2, login: found.login, row: found.row }))
+}
+
+/// A proof of a batch, whether it is good or not, and the claims.
 pub fn prove(r: &Relation, packed: &[u64], x: &[u64], t: &mut Transcript) -> Result<(Vec<u64>, Claims), Refusal> {
     let mut proof = room(Some(r.proof_words()));
     let mut claims = room(Some(r.claim_words()));
     let mut scratch = room(r.prover_scratch());
-    // SAFETY: here and below each pointer and length are of one slice, and what is written is borrowed as `&mut`.
     let answer = unsafe {
         with_matrices!(
             sys::magnetar_prove_virtual_spartan,
@@ -131,7 +163,7 @@ pub fn prove(r: &Relation, packed: &[u64], x: &[u64], t: &mut Transcript) -> Res
     Ok((proof, r.claims(claims)))
 }
 
-/// The claims of a proof that is accepted; `x` holds the words of the public elements.
+/// The claims of a proof that is accepted.
 pub fn verify(r: &Relation, x: &[u64], proof: &[u64], t: &mut Transcript) -> Result<Claims, Refusal> {
     let mut claims = room(Some(r.claim_words()));
     let mut scratch = room(r.verifier_scratch());
@@ -146,27 +178,4 @@ pub fn verify(r: &Relation, x: &[u64], proof: &[u64], t: &mut Transcript) -> Res
     *t = answer.transcript;
     Refusal::check(answer.code)?;
     Ok(r.claims(claims))
-}
-
-/// A row that does not hold: the lowest row of the lowest login, bin before fld.
-#[derive(Clone, Copy, Debug, PartialEq, Eq)]
-pub struct Failing {
-    pub fld: bool,
-    pub login: usize,
-    pub row: usize,
-}
-
-/// The first row that does not hold, or none; `packed` holds the bits of the logins, `x` the words of the public elements.
-pub fn row_check(r: &Relation, packed: &[u64], x: &[u64]) -> Result<Option<Failing>, Refusal> {
-    let mut scratch = room(r.most_rows().checked_mul(6));
-    let found = unsafe {
-        with_matrices!(
-            sys::magnetar_row_check,
-            r,
-            (scratch.as_mut_ptr(), scratch.len(), r.m, r.q),
-            (packed.as_ptr(), packed.len(), x.as_ptr(), x.len())
-        )
-    };
-    Refusal::check(found.code)?;
-    Ok((found.system != 0).then_some(Failing { fld: found.system == 2, login: found.login, row: found.row }))
 }

@@ -116,21 +116,33 @@ fn draws(t: Transcript, label: &[u8], n: u64) {
 }
 
 // drawvec S C L N K: the outcome of N draws where K words are lent for them.
-fn drawvec(t: Transcript, label: &[u8], n: usize, k: usize, out: &mut [u64]) {
-    let room = text::front(out, k);
+fn drawvec(t: Transcript, label: &[u8], n: usize, k: usize) {
+    let mut out = [0u64; 4096];
+    drawn_to(t, label, n, text::front(&mut out, k));
+}
+
+fn drawn_to(t: Transcript, label: &[u8], n: usize, room: &mut [u64]) {
     text::fill(room, text::MARK);
     let r = transcript::challenge_field_vec(t, label, n, room);
     print(b"= ");
     text::print_words(room);
+    print_code(r.code, r.transcript);
+}
+
+fn print_code(code: u32, t: Transcript) {
     print(b" ");
-    text::print_number(text::wide(r.code));
+    text::print_number(text::wide(code));
     print(b" ");
-    print_state(r.transcript);
+    print_state(t);
 }
 
 // rawdrawvec S C L K: as many draws as K lent words have room for.
-fn rawdrawvec(t: Transcript, label: &[u8], k: usize, out: &mut [u64]) {
-    let room = text::front(out, k);
+fn rawdrawvec(t: Transcript, label: &[u8], k: usize) {
+    let mut out = [0u64; 4096];
+    raw_drawn_to(t, label, text::front(&mut out, k));
+}
+
+fn raw_drawn_to(t: Transcript, label: &[u8], room: &mut [u64]) {
     text::fill(room, text::MARK);
     let u = transcript::draw_vec(t, label, room);
     print(b"= ");
@@ -238,7 +250,7 @@ fn draw(t: Transcript, label: &[u8]) {
 }
 
 // Answers a query that draws, or says that it is none.
-fn drawn(op: u64, t: Transcript, label: &[u8], nums: &[u64], out: &mut [u64]) -> bool {
+fn drawn(op: u64, t: Transcript, label: &[u8], nums: &[u64]) -> bool {
     if op == DRAW {
         draw(t, label);
         return true;
@@ -253,17 +265,11 @@ fn drawn(op: u64, t: Transcript, label: &[u8], nums: &[u64], out: &mut [u64]) ->
         return true;
     }
     if op == DRAWVEC {
-        drawvec(
-            t,
-            label,
-            text::size(at(nums, 3)),
-            text::size(at(nums, 4)),
-            out,
-        );
+        drawvec(t, label, text::size(at(nums, 3)), text::size(at(nums, 4)));
         return true;
     }
     if op == RAWDRAWVEC {
-        rawdrawvec(t, label, text::size(at(nums, 3)), out);
+        rawdrawvec(t, label, text::size(at(nums, 3)));
         return true;
     }
     false
@@ -291,37 +297,50 @@ fn lens_at(op: u64) -> usize {
     if op == NEWLENS { 2 } else { 1 }
 }
 
-// Answers a query on the hash or the transcript, or says that it is none.
-pub(crate) fn answered(
-    op: u64,
-    nums: &[u64],
-    bytes: &[u8],
-    lens: &[usize],
-    out: &mut [u64],
-    sizes: &mut [usize],
-) -> bool {
-    let n = text::as_sizes(list(nums, lens_at(op)), sizes);
-    if hashes(op, nums, bytes, lens, text::sizes(sizes, 0, n)) {
+// Answers a query on the hash or the transcript, or says that it is none. The words of its line are read as bytes.
+pub(crate) fn answered(op: u64, nums: &[u64], line: &[u8]) -> bool {
+    let mut bytes = [0u8; 8192];
+    let mut lens = [0usize; 256];
+    let k = text::bytes(line, &mut bytes, &mut lens);
+    of_parts(op, nums, &bytes, text::sizes(&lens, 0, k))
+}
+
+fn of_parts(op: u64, nums: &[u64], bytes: &[u8], lens: &[usize]) -> bool {
+    if of_lengths(op, nums, bytes, lens) {
         return true;
     }
-    if begun(op, bytes, lens, text::sizes(sizes, 0, n)) {
+    transcripts(op, nums, bytes, lens)
+}
+
+// Answers a query in which lengths of parts may stand, or says that it is none.
+fn of_lengths(op: u64, nums: &[u64], bytes: &[u8], lens: &[usize]) -> bool {
+    let mut sizes = [0usize; 256];
+    let n = text::as_sizes(list(nums, lens_at(op)), &mut sizes);
+    with_lengths(op, nums, bytes, lens, text::sizes(&sizes, 0, n))
+}
+
+fn with_lengths(op: u64, nums: &[u64], bytes: &[u8], lens: &[usize], sizes: &[usize]) -> bool {
+    if hashes(op, nums, bytes, lens, sizes) {
         return true;
     }
-    transcripts(op, nums, bytes, lens, out)
+    begun(op, bytes, lens, sizes)
 }
 
 // Answers a query that begins with a transcript, or says that it is none.
-fn transcripts(op: u64, nums: &[u64], bytes: &[u8], lens: &[usize], out: &mut [u64]) -> bool {
+fn transcripts(op: u64, nums: &[u64], bytes: &[u8], lens: &[usize]) -> bool {
     let state = text::digest(part(bytes, lens, 0));
     let t = Transcript {
         state,
         squeeze_ctr: at(nums, 1),
     };
-    let label = part(bytes, lens, 2);
-    if absorbs(op, t, label, nums, part(bytes, lens, 3)) {
+    of_transcript(op, t, part(bytes, lens, 2), nums, part(bytes, lens, 3))
+}
+
+fn of_transcript(op: u64, t: Transcript, label: &[u8], nums: &[u64], data: &[u8]) -> bool {
+    if absorbs(op, t, label, nums, data) {
         return true;
     }
-    if drawn(op, t, label, nums, out) {
+    if drawn(op, t, label, nums) {
         return true;
     }
     shown(op, t, nums)

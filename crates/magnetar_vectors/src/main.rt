@@ -6,8 +6,8 @@ mod matrix;
 mod sumcheck;
 mod text;
 
-// Answers a query that has no byte strings, or says that it is none.
-fn of_numbers(op: u64, nums: &[u64], out: &mut [u64]) -> bool {
+// Answers a query that has no byte strings, with words to write to, or says that it is none.
+fn of_words(op: u64, nums: &[u64], out: &mut [u64]) -> bool {
     if field::answered(op, nums, out) {
         return true;
     }
@@ -17,51 +17,42 @@ fn of_numbers(op: u64, nums: &[u64], out: &mut [u64]) -> bool {
     matrix::answered(op, nums, out)
 }
 
-// The words of a line, as numbers and as bytes, are lent to every query, and so are words to write to.
-fn answer(
-    line: &[u8],
-    nums: &mut [u64],
-    bytes: &mut [u8],
-    lens: &mut [usize],
-    out: &mut [u64],
-    sizes: &mut [usize],
-) {
+fn of_numbers(op: u64, nums: &[u64]) -> bool {
+    let mut out = [0u64; 4096];
+    of_words(op, nums, &mut out)
+}
+
+// Answers a query by the numbers of its line, or says that it is none.
+fn asked(op: u64, line: &[u8], nums: &[u64]) -> bool {
+    if of_numbers(op, nums) {
+        return true;
+    }
+    hash::answered(op, nums, line)
+}
+
+fn answered(line: &[u8]) -> bool {
+    let mut nums = [0u64; 4096];
+    let n = text::numbers(line, &mut nums);
+    asked(text::name(line), line, text::first(&nums, n))
+}
+
+fn answer(line: &[u8]) {
     if text::byte(line, 0) == b'#' {
         text::print(line);
         text::print(b"\n");
         return;
     }
-    let op = text::name(line);
-    let n = text::numbers(line, nums);
-    if of_numbers(op, text::first(nums, n), out) {
-        return;
-    }
-    let k = text::bytes(line, bytes, lens);
-    if hash::answered(
-        op,
-        text::first(nums, n),
-        bytes,
-        text::sizes(lens, 0, k),
-        out,
-        sizes,
-    ) {
+    if answered(line) {
         return;
     }
     text::print(b"? unknown query\n");
 }
 
-fn answer_all(
-    input: &[u8],
-    nums: &mut [u64],
-    bytes: &mut [u8],
-    lens: &mut [usize],
-    out: &mut [u64],
-    sizes: &mut [usize],
-) {
+fn answer_all(input: &[u8]) {
     let mut from = 0;
     while from < input.len() {
         let to = text::find(input, from, b'\n');
-        answer(&input[from..to], nums, bytes, lens, out, sizes);
+        answer(&input[from..to]);
         if to == input.len() {
             return;
         }
@@ -70,31 +61,12 @@ fn answer_all(
 }
 
 // Answers all that is read.
-fn run(
-    input: &mut [u8],
-    nums: &mut [u64],
-    bytes: &mut [u8],
-    lens: &mut [usize],
-    out: &mut [u64],
-    sizes: &mut [usize],
-) {
+fn run(input: &mut [u8]) {
     let n = io::read_full(libc::STDIN_FILENO, input);
-    answer_all(text::first_bytes(input, n), nums, bytes, lens, out, sizes);
+    answer_all(text::first_bytes(input, n));
 }
 
 fn main() {
     let mut input = text::mebibyte();
-    let mut nums = [0u64; 4096];
-    let mut bytes = [0u8; 8192];
-    let mut lens = [0usize; 256];
-    let mut out = [0u64; 4096];
-    let mut sizes = [0usize; 256];
-    run(
-        &mut input,
-        &mut nums,
-        &mut bytes,
-        &mut lens,
-        &mut out,
-        &mut sizes,
-    );
+    run(&mut input);
 }

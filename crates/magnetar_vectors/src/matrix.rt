@@ -1,7 +1,6 @@
 // Queries on matrices, folds and layouts. A matrix is its numbers of rows and columns and four lists: the rows, the columns,
 // the low words and the high words of its entries.
 use crate::field::print_evaluated;
-use crate::text::at;
 use crate::text::nth;
 use crate::text::print;
 use crate::text::print_bool;
@@ -59,102 +58,175 @@ fn print_reading(r: Reading) {
 
 // The queries on a matrix: OP LENT SCRATCH ROWS COLS ROW COL LO HI X Y, with as many words lent as LENT and SCRATCH say.
 
-// isbinary, apply, packed: X a vector, or a batch; Y the public part, and then 2 Q W.
-fn products(op: u64, nums: &[u64], row: &[usize], col: &[usize], out: &mut [u64]) -> bool {
-    let rows = text::size(at(nums, 2));
-    let cols = text::size(at(nums, 3));
-    let lo = nth(nums, 4, 2);
-    let hi = nth(nums, 4, 3);
-    let x = nth(nums, 4, 4);
+// isbinary
+fn binary(nums: &[u64], row: &[usize], col: &[usize]) {
+    print_flag(r1cs::is_binary(
+        text::count(nums, 2),
+        text::count(nums, 3),
+        row,
+        col,
+        nth(nums, 4, 2),
+        nth(nums, 4, 3),
+    ));
+}
+
+// apply: X a vector.
+fn apply(nums: &[u64], row: &[usize], col: &[usize], room: &mut [u64]) {
+    let code = r1cs::apply(
+        text::count(nums, 2),
+        text::count(nums, 3),
+        row,
+        col,
+        nth(nums, 4, 2),
+        nth(nums, 4, 3),
+        nth(nums, 4, 4),
+        room,
+    );
+    print_code(code, room);
+}
+
+// packed: X a batch, Y the public part, and then 2 Q W.
+fn packed(nums: &[u64], row: &[usize], col: &[usize], room: &mut [u64]) {
+    let p = nth(nums, 4, 6);
+    print_flag(r1cs::apply_simd_packed(
+        text::count(nums, 2),
+        text::count(nums, 3),
+        row,
+        col,
+        nth(nums, 4, 2),
+        nth(nums, 4, 3),
+        nth(nums, 4, 4),
+        nth(nums, 4, 5),
+        text::count(p, 0),
+        text::count(p, 1),
+        room,
+    ));
+    print_line(room);
+}
+
+fn products(op: u64, nums: &[u64], row: &[usize], col: &[usize], room: &mut [u64]) -> bool {
     if op == ISBINARY {
-        print_flag(r1cs::is_binary(rows, cols, row, col, lo, hi));
+        binary(nums, row, col);
         return true;
     }
     if op == APPLY {
-        print_code(r1cs::apply(rows, cols, row, col, lo, hi, x, out), out);
+        apply(nums, row, col, room);
         return true;
     }
     if op == PACKED {
-        let p = nth(nums, 4, 6);
-        let q = text::size(at(p, 0));
-        let w = text::size(at(p, 1));
-        print_flag(r1cs::apply_simd_packed(
-            rows,
-            cols,
-            row,
-            col,
-            lo,
-            hi,
-            x,
-            nth(nums, 4, 5),
-            q,
-            w,
-            out,
-        ));
-        print_line(out);
+        packed(nums, row, col, room);
         return true;
     }
     false
 }
 
-// table, at: X the point of the rows, Y that of the columns.
-fn evaluations(
-    op: u64,
-    nums: &[u64],
-    row: &[usize],
-    col: &[usize],
-    out: &mut [u64],
-    scratch: &mut [u64],
-) -> bool {
-    let rows = text::size(at(nums, 2));
-    let cols = text::size(at(nums, 3));
-    let lo = nth(nums, 4, 2);
-    let hi = nth(nums, 4, 3);
-    let x = nth(nums, 4, 4);
+// table: X the point of the rows.
+fn table_in(nums: &[u64], row: &[usize], col: &[usize], room: &mut [u64], scratch: &mut [u64]) {
+    text::fill(scratch, text::MARK);
+    let code = r1cs::eval_mle_table(
+        text::count(nums, 2),
+        text::count(nums, 3),
+        row,
+        col,
+        nth(nums, 4, 2),
+        nth(nums, 4, 3),
+        nth(nums, 4, 4),
+        room,
+        scratch,
+    );
+    print_code(code, room);
+    print_line(scratch);
+}
+
+fn table(nums: &[u64], row: &[usize], col: &[usize], room: &mut [u64]) {
+    let mut scratch = [0u64; 1024];
+    table_in(
+        nums,
+        row,
+        col,
+        room,
+        text::front(&mut scratch, text::count(nums, 1)),
+    );
+}
+
+// at: X the point of the rows, Y that of the columns.
+fn value_in(nums: &[u64], row: &[usize], col: &[usize], scratch: &mut [u64]) {
+    text::fill(scratch, text::MARK);
+    print_evaluated(r1cs::eval_mle_at(
+        text::count(nums, 2),
+        text::count(nums, 3),
+        row,
+        col,
+        nth(nums, 4, 2),
+        nth(nums, 4, 3),
+        nth(nums, 4, 4),
+        nth(nums, 4, 5),
+        scratch,
+    ));
+    print_line(scratch);
+}
+
+fn value(nums: &[u64], row: &[usize], col: &[usize]) {
+    let mut scratch = [0u64; 1024];
+    value_in(
+        nums,
+        row,
+        col,
+        text::front(&mut scratch, text::count(nums, 1)),
+    );
+}
+
+fn evaluations(op: u64, nums: &[u64], row: &[usize], col: &[usize], room: &mut [u64]) -> bool {
     if op == TABLE {
-        print_code(
-            r1cs::eval_mle_table(rows, cols, row, col, lo, hi, x, out, scratch),
-            out,
-        );
-        print_line(scratch);
+        table(nums, row, col, room);
         return true;
     }
     if op == AT {
-        print_evaluated(r1cs::eval_mle_at(
-            rows,
-            cols,
-            row,
-            col,
-            lo,
-            hi,
-            x,
-            nth(nums, 4, 5),
-            scratch,
-        ));
-        print_line(scratch);
+        value(nums, row, col);
         return true;
     }
     false
 }
 
-// foldinst LENT SCRATCH V P, foldw LENT SCRATCH Q W PACKED P
-fn folds(op: u64, nums: &[u64], out: &mut [u64], scratch: &mut [u64]) -> bool {
+// foldinst LENT SCRATCH V P
+fn instances_in(nums: &[u64], scratch: &mut [u64]) {
+    text::fill(scratch, text::MARK);
+    print_evaluated(fold::fold_instances(nth(nums, 2, 0), nth(nums, 2, 1), scratch));
+    print_line(scratch);
+}
+
+fn instances(nums: &[u64]) {
+    let mut scratch = [0u64; 1024];
+    instances_in(nums, text::front(&mut scratch, text::count(nums, 1)));
+}
+
+// foldw LENT SCRATCH Q W PACKED P
+fn witness_in(nums: &[u64], room: &mut [u64], scratch: &mut [u64]) {
+    text::fill(scratch, text::MARK);
+    let code = fold::fold_packed_w(
+        nth(nums, 4, 0),
+        text::count(nums, 2),
+        text::count(nums, 3),
+        nth(nums, 4, 1),
+        room,
+        scratch,
+    );
+    print_code(code, room);
+    print_line(scratch);
+}
+
+fn witness(nums: &[u64], room: &mut [u64]) {
+    let mut scratch = [0u64; 1024];
+    witness_in(nums, room, text::front(&mut scratch, text::count(nums, 1)));
+}
+
+fn folds(op: u64, nums: &[u64], room: &mut [u64]) -> bool {
     if op == FOLDINST {
-        print_evaluated(fold::fold_instances(nth(nums, 2, 0), nth(nums, 2, 1), scratch));
-        print_line(scratch);
+        instances(nums);
         return true;
     }
     if op == FOLDW {
-        let code = fold::fold_packed_w(
-            nth(nums, 4, 0),
-            text::size(at(nums, 2)),
-            text::size(at(nums, 3)),
-            nth(nums, 4, 1),
-            out,
-            scratch,
-        );
-        print_code(code, out);
-        print_line(scratch);
+        witness(nums, room);
         return true;
     }
     false
@@ -193,8 +265,8 @@ fn reading(i: usize, w: usize, lens: &[usize]) {
 
 // The queries on a layout: LENT or a segment's number, W, the lengths, and for segment the folded vector.
 fn layouts(op: u64, nums: &[u64], lens: &[usize], out: &mut [u64]) -> bool {
-    let n = text::size(at(nums, 0));
-    let w = text::size(at(nums, 1));
+    let n = text::count(nums, 0);
+    let w = text::count(nums, 1);
     if op == LAYOUT {
         offsets(n, w, lens, out);
         return true;
@@ -210,54 +282,35 @@ fn layouts(op: u64, nums: &[u64], lens: &[usize], out: &mut [u64]) -> bool {
     false
 }
 
-// Answers a query with words lent, or says that it is none.
-fn with_room(
-    op: u64,
-    nums: &[u64],
-    row: &[usize],
-    col: &[usize],
-    out: &mut [u64],
-    scratch: &mut [u64],
-) -> bool {
-    if products(op, nums, row, col, out) {
+// Answers a query on a matrix, or says that it is none.
+fn with_entries(op: u64, nums: &[u64], row: &[usize], col: &[usize], room: &mut [u64]) -> bool {
+    if products(op, nums, row, col, room) {
         return true;
     }
-    if evaluations(op, nums, row, col, out, scratch) {
-        return true;
-    }
-    folds(op, nums, out, scratch)
+    evaluations(op, nums, row, col, room)
 }
 
-// The same, with as many words as the query says.
-fn lent(
-    op: u64,
-    nums: &[u64],
-    row: &[usize],
-    col: &[usize],
-    out: &mut [u64],
-    scratch: &mut [u64],
-) -> bool {
-    let room = text::front(out, text::size(at(nums, 0)));
-    let part = text::front(scratch, text::size(at(nums, 1)));
-    text::fill(room, text::MARK);
-    text::fill(part, text::MARK);
-    with_room(op, nums, row, col, room, part)
-}
-
-fn of_matrices(op: u64, nums: &[u64], out: &mut [u64]) -> bool {
+fn of_matrices(op: u64, nums: &[u64], room: &mut [u64]) -> bool {
     let mut row = [0usize; 128];
     let mut col = [0usize; 128];
-    let mut scratch = [0u64; 1024];
     let n = text::as_sizes(nth(nums, 4, 0), &mut row);
     let k = text::as_sizes(nth(nums, 4, 1), &mut col);
-    lent(
+    with_entries(
         op,
         nums,
         text::sizes(&row, 0, n),
         text::sizes(&col, 0, k),
-        out,
-        &mut scratch,
+        room,
     )
+}
+
+// Answers a query with words lent, or says that it is none.
+fn lent(op: u64, nums: &[u64], room: &mut [u64]) -> bool {
+    text::fill(room, text::MARK);
+    if folds(op, nums, room) {
+        return true;
+    }
+    of_matrices(op, nums, room)
 }
 
 fn of_layouts(op: u64, nums: &[u64], out: &mut [u64]) -> bool {
@@ -271,5 +324,5 @@ pub(crate) fn answered(op: u64, nums: &[u64], out: &mut [u64]) -> bool {
     if of_layouts(op, nums, out) {
         return true;
     }
-    of_matrices(op, nums, out)
+    lent(op, nums, text::front(out, text::count(nums, 0)))
 }

@@ -2,8 +2,8 @@
 // message, whether it is right for the running claim, and the next claim; then the folded tables, a line each; and at the end
 // the terminal values and whether all was right.
 use crate::field::print_evaluated;
-use crate::text::at;
 use crate::text::nth;
+use crate::text::plus;
 use crate::text::print;
 use crate::text::print_bool;
 use crate::text::print_code;
@@ -101,9 +101,8 @@ fn left(n: usize, i: usize) -> usize {
     if i < n { text::table_words(n - i) } else { 2 }
 }
 
-// The table of the first n words folded, and written down.
-fn fold(table: &mut [u64], n: usize, v: usize, r: Gf128) {
-    let table = text::front(table, n);
+// A table folded, and written down.
+fn fold(table: &mut [u64], v: usize, r: Gf128) {
     let code = multilinear::bind_var(table, v, r);
     print_folded(code, table);
 }
@@ -115,10 +114,11 @@ fn print_folded(code: u32, table: &[u64]) {
     print_line(text::first(table, table.len() / 2));
 }
 
-fn fold_three(a: &mut [u64], b: &mut [u64], c: &mut [u64], n: usize, v: usize, r: Gf128) {
-    fold(a, n, v, r);
-    fold(b, n, v, r);
-    fold(c, n, v, r);
+// The four tables of an outer sum-check stand in one slice: eq from word 0 on, A from 128, B from 256 and C from 384.
+fn fold_three(w: &mut [u64], n: usize, v: usize, r: Gf128) {
+    fold(text::span(w, 128, plus(128, n)), v, r);
+    fold(text::span(w, 256, plus(256, n)), v, r);
+    fold(text::span(w, 384, plus(384, n)), v, r);
 }
 
 // The eq table of the first n words without variable v.
@@ -137,65 +137,36 @@ fn carried(s: Run, o: Round, k: Gf128, fine: bool) -> Run {
     }
 }
 
-// The message of a round that binds variable v, and what it leaves of the claim.
-fn outer_message(
-    s: Run,
-    e: &[u64],
-    a: &[u64],
-    b: &[u64],
-    c: &[u64],
-    v: usize,
-    t: Gf128,
-    r: Gf128,
-) -> Run {
+// The message of a round that binds variable v, of the tables' first n words.
+fn message(msg: &mut [u64], w: &[u64], n: usize, v: usize, k: Gf128, t: Gf128) -> u32 {
+    engine::outer_message(
+        msg,
+        text::first(w, n / 2),
+        text::between(w, 128, plus(128, n)),
+        text::between(w, 256, plus(256, n)),
+        text::between(w, 384, plus(384, n)),
+        v,
+        k,
+        t,
+    )
+}
+
+// The same written down, and what it leaves of the claim.
+fn outer_message(s: Run, w: &[u64], n: usize, v: usize, t: Gf128, r: Gf128) -> Run {
     let mut msg = [0u64; 8];
     let k = s.k;
     let claim = s.claim;
-    let code = engine::outer_message(&mut msg, e, a, b, c, v, k, t);
+    let code = message(&mut msg, w, n, v, k, t);
     let o = engine::round_external(&msg, claim, r);
     print_message(&msg, o);
     carried(s, o, public::eq_next(k, t, r), code == 0)
 }
 
-// The same on the tables' first n words.
-fn outer_part(
-    s: Run,
-    e: &[u64],
-    a: &[u64],
-    b: &[u64],
-    c: &[u64],
-    n: usize,
-    v: usize,
-    t: Gf128,
-    r: Gf128,
-) -> Run {
-    outer_message(
-        s,
-        text::first(e, n / 2),
-        text::first(a, n),
-        text::first(b, n),
-        text::first(c, n),
-        v,
-        t,
-        r,
-    )
-}
-
 // A round on the tables' first n words.
-fn outer_round(
-    s: Run,
-    e: &mut [u64],
-    a: &mut [u64],
-    b: &mut [u64],
-    c: &mut [u64],
-    n: usize,
-    v: usize,
-    t: Gf128,
-    r: Gf128,
-) -> Run {
-    if dropped(e, n, v) {
-        let o = outer_part(s, e, a, b, c, n, v, t, r);
-        fold_three(a, b, c, n, v, r);
+fn outer_round(s: Run, w: &mut [u64], n: usize, v: usize, t: Gf128, r: Gf128) -> Run {
+    if dropped(w, n, v) {
+        let o = outer_message(s, w, n, v, t, r);
+        fold_three(w, n, v, r);
         return o;
     }
     s
@@ -204,10 +175,7 @@ fn outer_round(
 // Round i of n.
 fn outer_turn(
     s: Run,
-    e: &mut [u64],
-    a: &mut [u64],
-    b: &mut [u64],
-    c: &mut [u64],
+    w: &mut [u64],
     high: usize,
     tau: &[u64],
     r: &[u64],
@@ -215,35 +183,15 @@ fn outer_turn(
     i: usize,
 ) -> Run {
     let t = words::get(tau, variable(high, n, i));
-    outer_round(
-        s,
-        e,
-        a,
-        b,
-        c,
-        left(n, i),
-        bit(high, n, i),
-        t,
-        words::get(r, i),
-    )
+    outer_round(s, w, left(n, i), bit(high, n, i), t, words::get(r, i))
 }
 
 // All n rounds.
-fn outer_rounds(
-    claim: Gf128,
-    e: &mut [u64],
-    a: &mut [u64],
-    b: &mut [u64],
-    c: &mut [u64],
-    high: usize,
-    tau: &[u64],
-    r: &[u64],
-    n: usize,
-) -> Run {
+fn outer_rounds(claim: Gf128, w: &mut [u64], high: usize, tau: &[u64], r: &[u64], n: usize) -> Run {
     let mut s = start(claim);
     let mut i = 0;
     while i < n {
-        s = outer_turn(s, e, a, b, c, high, tau, r, n, i);
+        s = outer_turn(s, w, high, tau, r, n, i);
         i += 1;
     }
     s
@@ -264,41 +212,50 @@ fn outer_end(s: Run, e: Gf128, a: Gf128, b: Gf128, c: Gf128) {
     print_element(a);
     print_element(b);
     print_element(c);
+    print_good(s.good, engine::outer_finish(claim, e, a, b, c));
+}
+
+fn print_good(a: bool, b: bool) {
     print(b" ");
-    text::print_truth(both(s.good, engine::outer_finish(claim, e, a, b, c)));
+    text::print_truth(both(a, b));
     print(b"\n");
+}
+
+// Stores the tables A, B and C.
+fn store(nums: &[u64], w: &mut [u64]) {
+    words::copy(nth(nums, 1, 2), text::span(w, 128, 256));
+    words::copy(nth(nums, 1, 3), text::span(w, 256, 384));
+    words::copy(nth(nums, 1, 4), text::span(w, 384, 512));
+}
+
+// The tables of a query, and whether the table of eq was refused.
+fn prepared(nums: &[u64], w: &mut [u64]) -> u32 {
+    store(nums, w);
+    EqBits::build(nth(nums, 1, 1), text::front(w, 128))
+}
+
+// The rounds, and the end.
+fn outer_of(w: &mut [u64], high: usize, claim: Gf128, tau: &[u64], r: &[u64]) {
+    let s = outer_rounds(claim, w, high, tau, r, r.len() / 2);
+    outer_end(
+        s,
+        value_of(public::eq_points(tau, r, high)),
+        words::get(w, 64),
+        words::get(w, 128),
+        words::get(w, 192),
+    );
 }
 
 // outer HIGH 2 CLAIM TAU A B C R
 fn outer(nums: &[u64]) {
-    let mut e = [0u64; 128];
-    let mut a = [0u64; 128];
-    let mut b = [0u64; 128];
-    let mut c = [0u64; 128];
-    let high = text::size(at(nums, 0));
-    let tau = nth(nums, 1, 1);
-    let r = nth(nums, 1, 5);
-    let code = EqBits::build(tau, &mut e);
-    words::copy(nth(nums, 1, 2), &mut a);
-    words::copy(nth(nums, 1, 3), &mut b);
-    words::copy(nth(nums, 1, 4), &mut c);
-    let s = outer_rounds(
+    let mut w = [0u64; 512];
+    let code = prepared(nums, &mut w);
+    outer_of(
+        &mut w,
+        text::count(nums, 0),
         words::get(nth(nums, 1, 0), 0),
-        &mut e,
-        &mut a,
-        &mut b,
-        &mut c,
-        high,
-        tau,
-        r,
-        r.len() / 2,
-    );
-    outer_end(
-        s,
-        value_of(public::eq_points(tau, r, high)),
-        words::get(&a, 0),
-        words::get(&b, 0),
-        words::get(&c, 0),
+        nth(nums, 1, 1),
+        nth(nums, 1, 5),
     );
     if code != 0 {
         text::print_refusal(code);
@@ -319,8 +276,8 @@ fn inner_message(s: Run, t: &[u64], z: &[u64], v: usize, r: Gf128) -> Run {
 // A round on the tables' first n words.
 fn inner_round(s: Run, t: &mut [u64], z: &mut [u64], n: usize, v: usize, r: Gf128) -> Run {
     let o = inner_message(s, text::first(t, n), text::first(z, n), v, r);
-    fold(t, n, v, r);
-    fold(z, n, v, r);
+    fold(text::front(t, n), v, r);
+    fold(text::front(z, n), v, r);
     o
 }
 
@@ -360,16 +317,14 @@ fn inner_end(s: Run, t: Gf128, z: Gf128) {
     print(b"= 4");
     print_element(t);
     print_element(z);
-    print(b" ");
-    text::print_truth(both(s.good, engine::inner_finish(claim, t, z)));
-    print(b"\n");
+    print_good(s.good, engine::inner_finish(claim, t, z));
 }
 
 // inner HIGH 2 CLAIM T Z R
 fn inner(nums: &[u64]) {
     let mut t = [0u64; 128];
     let mut z = [0u64; 128];
-    let high = text::size(at(nums, 0));
+    let high = text::count(nums, 0);
     let r = nth(nums, 1, 3);
     words::copy(nth(nums, 1, 1), &mut t);
     words::copy(nth(nums, 1, 2), &mut z);
@@ -406,7 +361,7 @@ fn outermsg(nums: &[u64], room: &mut [u64]) {
         nth(nums, 2, 1),
         nth(nums, 2, 2),
         nth(nums, 2, 3),
-        text::size(at(nums, 1)),
+        text::count(nums, 1),
         words::get(p, 0),
         words::get(p, 1),
     );
@@ -422,7 +377,7 @@ fn dropvar(v: usize, table: &[u64], out: &mut [u64]) {
 
 // Answers a query on lent words, or says that it is none.
 fn lent(op: u64, nums: &[u64], out: &mut [u64]) -> bool {
-    let n = text::size(at(nums, 0));
+    let n = text::count(nums, 0);
     if op == DROPVAR {
         dropvar(n, nth(nums, 1, 0), out);
         return true;
@@ -436,12 +391,7 @@ fn lent(op: u64, nums: &[u64], out: &mut [u64]) -> bool {
     if op == INNERMSG {
         text::fill(room, text::MARK);
         print_code(
-            engine::inner_message(
-                room,
-                nth(nums, 2, 0),
-                nth(nums, 2, 1),
-                text::size(at(nums, 1)),
-            ),
+            engine::inner_message(room, nth(nums, 2, 0), nth(nums, 2, 1), text::count(nums, 1)),
             room,
         );
         return true;
@@ -478,11 +428,7 @@ fn checks(op: u64, nums: &[u64]) -> bool {
 // Answers a query on the eq factor, or says that it is none.
 fn factors(op: u64, nums: &[u64]) -> bool {
     if op == EQPOINTS {
-        print_evaluated(public::eq_points(
-            nth(nums, 1, 0),
-            nth(nums, 1, 1),
-            text::size(at(nums, 0)),
-        ));
+        print_evaluated(public::eq_points(nth(nums, 1, 0), nth(nums, 1, 1), text::count(nums, 0)));
         return true;
     }
     if op == EQNEXT {

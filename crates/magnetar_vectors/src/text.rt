@@ -33,6 +33,11 @@ pub(crate) fn size(n: u64) -> usize {
     n as usize
 }
 
+// The number at index i as a length.
+pub(crate) fn count(s: &[u64], i: usize) -> usize {
+    size(at(s, i))
+}
+
 // The first index from `from` on where the byte b stands, or the length.
 pub(crate) fn find(s: &[u8], from: usize, b: u8) -> usize
     requires { ⌜ from ≤ length (now s) ⌝ }
@@ -266,7 +271,27 @@ pub(crate) fn front(s: &mut [u64], n: usize) -> &mut [u64] {
     s
 }
 
-// The same of sizes.
+// The numbers from i to k - 1.
+pub(crate) fn between(s: &[u64], i: usize, k: usize) -> &[u64] {
+    if i <= k {
+        if k <= s.len() {
+            return &s[i..k];
+        }
+    }
+    &s[0..0]
+}
+
+// The same of words that are written to.
+pub(crate) fn span(s: &mut [u64], i: usize, k: usize) -> &mut [u64] {
+    if i <= k {
+        if k <= s.len() {
+            return &mut s[i..k];
+        }
+    }
+    &mut s[0..0]
+}
+
+// The first n sizes, to be written to, or all of them where there are fewer.
 pub(crate) fn front_sizes(s: &mut [usize], n: usize) -> &mut [usize] {
     if n < s.len() {
         return &mut s[0..n];

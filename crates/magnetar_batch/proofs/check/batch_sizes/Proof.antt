@@ -23,7 +23,7 @@ abbrev rest : tie.Start → Tests
 rest s = let x = s .args in packedTests (x .m / 2) (x .q) (now (x .packed)) ++ (publicTests (x .m) (now (x .x)) ++ ((4, ltb 1048576 (x .q * x .n)) ∷ (4, ltb 1048576 (x .q * x .k)) ∷ []))
 
 early : (c : tie.After-note2) → c .note2 .result ≡ noted 0 (first (c .before .before .before .before .before .before))
-early c = cc
+early c = rw (c .note2 .ensures, c .before .is-size2 .ensures, c .before .before .note .ensures, c .before .before .before .is-size .ensures)
 
 record Small (s : tie.Start) : Type 0 where
   columns : Sized 2 65536 (s .args .m)

@@ -36,10 +36,10 @@ abbrev rest : tie.Start → Tests
 rest s = let x = s .args in packedTests (x .w) (x .q) (now (x .packed)) ++ lengthTest (2 * log₂ (x .q)) (now (x .point)) ++ roomTest (2 * x .w) (now (x .out)) ++ roomTest (2 * x .q) (now (x .scratch))
 
 early : (c : tie.After-note2) → c .note2 .result ≡ noted 0 (first (c .before .before .before .before .before .before .before .before))
-early c = cc
+early c = rw (c .note2 .ensures, c .before .is-size .ensures, c .before .before .note .ensures, c .before .before .before .is-half .ensures)
 
 late : (c : tie.After-note6) → c .note6 .result ≡ noted 0 (rest (c .before .before .before .before .before .before .before .before .before .before .before .before .before .before .before))
-late c = cc
+late c = rw (c .note6 .ensures, c .before .note5 .ensures, c .before .before .note4 .ensures, c .before .before .before .log2 .ensures, c .before .before .before .before .note3 .ensures, c .before .before .before .before .before .login-words .ensures)
 
 -- what is known of the sizes, and once nothing is refused
 record Small (s : tie.Start) : Type 0 where

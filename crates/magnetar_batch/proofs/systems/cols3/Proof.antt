@@ -14,7 +14,7 @@ note-requires-3 : tie.Need-note-requires-3
 note-requires-3 c κs = search needs
 
 returns : tie.Need-returns
-returns c = cc
+returns c = rw (c .note3 .ensures, c .before .note2 .ensures, c .before .before .note .ensures)
 
 pub cols3-spec : {M : Type 1} → statement M
 cols3-spec = tie.close (tie.spec note-requires note-requires-2 note-requires-3 returns)

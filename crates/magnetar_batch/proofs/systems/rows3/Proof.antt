@@ -29,7 +29,7 @@ note-requires-5 : tie.Need-note-requires-5
 note-requires-5 c κs = search needs
 
 returns : tie.Need-returns
-returns c = cc
+returns c = rw (c .note5 .ensures, c .before .note4 .ensures, c .before .before .note3 .ensures, c .before .before .before .is-size3 .ensures, c .before .before .before .before .note2 .ensures, c .before .before .before .before .before .is-size2 .ensures, c .before .before .before .before .before .before .note .ensures, c .before .before .before .before .before .before .before .is-size .ensures)
 
 pub rows3-spec : {M : Type 1} → statement M
 rows3-spec =

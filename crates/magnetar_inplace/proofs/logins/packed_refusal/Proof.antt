@@ -32,10 +32,10 @@ third s =
     (4, ltb 1048576 (x .q * x .rows)) ∷ (colsTests (2 * x .w) (x .cols) ++ countTests (x .n) (x .n) (x .n) (x .n) ++ (7, not (x .inside)) ∷ [] ++ roomOf (x .q) (x .rows) (x .out))
 
 early : (c : tie.After-note2) → c .note2 .result ≡ noted 0 (first (c .before .before .before .before))
-early c = cc
+early c = rw (c .note2 .ensures, c .before .is-size .ensures, c .before .before .note .ensures, c .before .before .before .is-half .ensures)
 
 middle : (c : tie.After-note5) → c .note5 .result ≡ noted 0 (second (c .before .before .before .before .before .before .before .before .before .before))
-middle c = cc
+middle c = rw (c .note5 .ensures, c .before .is-size2 .ensures, c .before .before .note4 .ensures, c .before .before .before .note3 .ensures, c .before .before .before .before .login-words .ensures)
 
 late : (c : tie.After-note9) → c .note9 .result ≡ noted 0 (third (c .before .before .before .before .before .before .before .before .before .before .before .before .before .before .before .before))
 late c = c .note9 .ensures ∙ rw (c .before .note8 .ensures, c .before .before .counts .ensures, c .before .before .before .note7 .ensures, c .before .before .before .before .note6 .ensures)

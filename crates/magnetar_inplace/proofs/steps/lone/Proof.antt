@@ -23,7 +23,7 @@ note-requires-3 : tie.Need-note-requires-3
 note-requires-3 c κs = search needs
 
 returns : tie.Need-returns
-returns c = cc
+returns c = rw (c .note3 .ensures, c .before .counts .ensures, c .before .before .note2 .ensures, c .before .before .before .is-size2 .ensures, c .before .before .before .before .note .ensures, c .before .before .before .before .before .is-size .ensures)
 
 pub lone-spec : {M : Type 1} → statement M
 lone-spec =

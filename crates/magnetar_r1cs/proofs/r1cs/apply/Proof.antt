@@ -33,7 +33,7 @@ rest s = lengthTest (2 * s .args .cols) (now (s .args .z)) ++ roomTest (2 * s .a
 
 -- the later tests, at the second return
 late : (c : tie.After-note2) → c .note2 .result ≡ noted 0 (rest (c .before .before .before .before .before .before .before .before .before .before))
-late c = cc
+late c = rw (c .note2 .ensures, c .before .note .ensures)
 
 -- what is known once nothing is refused
 matrix-fits : (c : tie.Else2) → Lone (mat (c .before .before .before .before .before .before .before .before .before .before .before))

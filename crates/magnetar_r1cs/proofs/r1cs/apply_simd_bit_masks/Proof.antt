@@ -38,7 +38,7 @@ third s = let x = s .args in roomTest (maskCount (mat s) (x .q) (x .v)) (now (x 
 
 late : (c : tie.After-note3) → c .note3 .result ≡ noted 0 (second (c .before .before .before .before .before .before .before .before .before .before .before .before .before))
 unfolding bitValued matrixOf
-late c = cc
+late c = rw (c .note3 .ensures, c .before .note2 .ensures, c .before .before .note .ensures, c .before .before .before .bit-valued .ensures, c .before .before .before .before .log2 .ensures)
 
 -- what is known once the tests have passed
 ok : (c : tie.Else1) → let s = c .before .before .before .before .before .before .before .before in Batched (mat s) (now (s .args .packed)) [] (s .args .q) (s .args .w)

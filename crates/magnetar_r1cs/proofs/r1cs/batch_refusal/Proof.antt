@@ -38,10 +38,10 @@ abbrev third : tie.Start → Tests
 third s = drop 1 (rowsTests (s .args .q) (s .args .rows)) ++ colsTests (2 * s .args .w) (s .args .cols) ++ counted (mat s) ++ placed (mat s)
 
 early : (c : tie.After-note2) → c .note2 .result ≡ noted 0 (first (c .before .before .before .before .before .before .before .before .before .before))
-early c = cc
+early c = rw (c .note2 .ensures, c .before .is-size .ensures, c .before .before .note .ensures, c .before .before .before .is-half .ensures)
 
 middle : (c : tie.After-note5) → c .note5 .result ≡ noted 0 (second (c .before .before .before .before .before .before .before .before .before .before .before .before .before .before .before .before))
-middle c = cc
+middle c = rw (c .note5 .ensures, c .before .is-size2 .ensures, c .before .before .note4 .ensures, c .before .before .before .note3 .ensures, c .before .before .before .before .login-words .ensures)
 
 late : (c : tie.After-places) → c .places .result ≡ noted 0 (third (c .before .before .before .before .before .before .before .before .before .before .before .before .before .before .before .before .before .before .before .before .before))
 late c = c .places .ensures ∙ rw (c .before .counts .ensures, c .before .before .note7 .ensures, c .before .before .before .note6 .ensures)

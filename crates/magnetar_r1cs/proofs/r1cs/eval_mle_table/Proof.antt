@@ -37,7 +37,7 @@ rest s = let x = s .args in lengthTest (2 * log₂ (x .rows)) (now (x .point)) +
 
 -- what they give
 late : (c : tie.After-note3) → c .note3 .result ≡ noted 0 (rest (c .before .before .before .before .before .before .before .before .before .before .before .before .before))
-late c = cc
+late c = rw (c .note3 .ensures, c .before .note2 .ensures, c .before .before .note .ensures, c .before .before .before .log2 .ensures)
 
 -- what is known once nothing is refused
 matrix-fits : (c : tie.Else2) → Lone (mat (c .before .before .before .before .before .before .before .before .before .before .before .before .before .before))

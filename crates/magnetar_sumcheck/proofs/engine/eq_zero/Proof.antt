@@ -1,5 +1,6 @@
 -- `magnetar_sumcheck::engine::eq_zero` meets its contract.
 -- Assumes nothing.
+use mathlib.Core.Path.{_∙_}
 use borrow.Author.Needs.{needs}
 use Rattle.magnetar_sumcheck.proofs.engine.eq_zero.Statement.{statement}
 use Rattle.magnetar_sumcheck.proofs.engine.eq_zero.Tie as tie
@@ -11,7 +12,7 @@ mul-requires : tie.Need-mul-requires
 mul-requires c κs = search needs
 
 returns : tie.Need-returns
-returns c = cc
+returns c = c .mul .ensures ∙ rw (c .before .add .ensures)
 
 pub eq-zero-spec : {M : Type 1} → statement M
 eq-zero-spec = tie.close (tie.spec add-requires mul-requires returns)

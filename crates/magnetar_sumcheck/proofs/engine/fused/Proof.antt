@@ -1,5 +1,6 @@
 -- `magnetar_sumcheck::engine::fused` meets its contract.
 -- Assumes nothing.
+use mathlib.Core.Path.{_∙_}
 use borrow.Author.Needs.{needs}
 use Rattle.magnetar_sumcheck.proofs.engine.fused.Statement.{statement}
 use Rattle.magnetar_sumcheck.proofs.engine.fused.Tie as tie
@@ -14,7 +15,7 @@ add-requires : tie.Need-add-requires
 add-requires c κs = search needs
 
 returns : tie.Need-returns
-returns c = cc
+returns c = c .add .ensures ∙ rw (c .before .mul2 .ensures, c .before .before .mul .ensures)
 
 pub fused-spec : {M : Type 1} → statement M
 fused-spec = tie.close (tie.spec mul-requires mul-requires-2 add-requires returns)

@@ -1,5 +1,6 @@
 -- `magnetar_sumcheck::engine::multiply_add` meets its contract.
 -- Assumes nothing.
+use mathlib.Core.Path.{_∙_}
 use borrow.Author.Needs.{needs}
 use Rattle.magnetar_sumcheck.proofs.engine.multiply_add.Statement.{statement}
 use Rattle.magnetar_sumcheck.proofs.engine.multiply_add.Tie as tie
@@ -11,7 +12,7 @@ add-requires : tie.Need-add-requires
 add-requires c κs = search needs
 
 returns : tie.Need-returns
-returns c = cc
+returns c = c .add .ensures ∙ rw (c .before .mul .ensures)
 
 pub multiply-add-spec : {M : Type 1} → statement M
 multiply-add-spec = tie.close (tie.spec mul-requires add-requires returns)

@@ -1,5 +1,6 @@
 -- `magnetar_sumcheck::engine::outer_at` meets its contract.
 -- Assumes nothing.
+use mathlib.Core.Path.{_∙_}
 use borrow.Author.Needs.{needs}
 use Rattle.magnetar_sumcheck.proofs.engine.outer_at.Statement.{statement}
 use Rattle.magnetar_sumcheck.proofs.engine.outer_at.Tie as tie
@@ -20,7 +21,7 @@ weigh-requires : tie.Need-weigh-requires
 weigh-requires c κs = search needs
 
 returns : tie.Need-returns
-returns c = cc
+returns c = c .weigh .ensures ∙ rw (c .before .get4 .ensures, c .before .before .get3 .ensures, c .before .before .before .get2 .ensures, c .before .before .before .before .get .ensures)
 
 pub outer-at-spec : {M : Type 1} → statement M
 outer-at-spec =

@@ -1,5 +1,6 @@
 -- `magnetar_sumcheck::engine::outer_top` meets its contract.
 -- Assumes nothing.
+use mathlib.Core.Path.{_∙_}
 use borrow.Author.Needs.{needs}
 use Rattle.magnetar_sumcheck.proofs.engine.outer_top.Statement.{statement}
 use Rattle.magnetar_sumcheck.proofs.engine.outer_top.Tie as tie
@@ -23,7 +24,7 @@ add-requires : tie.Need-add-requires
 add-requires c κs = search needs
 
 returns : tie.Need-returns
-returns c = cc
+returns c = c .add .ensures ∙ rw (c .before .mul2 .ensures, c .before .before .mul .ensures, c .before .before .before .slope2 .ensures, c .before .before .before .before .slope .ensures, c .before .before .before .before .before .get .ensures)
 
 pub outer-top-spec : {M : Type 1} → statement M
 outer-top-spec =

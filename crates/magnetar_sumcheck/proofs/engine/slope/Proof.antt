@@ -1,5 +1,6 @@
 -- `magnetar_sumcheck::engine::slope` meets its contract.
 -- Assumes nothing.
+use mathlib.Core.Path.{_∙_}
 use borrow.Author.Needs.{needs}
 use Rattle.magnetar_sumcheck.proofs.engine.slope.Statement.{statement}
 use Rattle.magnetar_sumcheck.proofs.engine.slope.Tie as tie
@@ -14,7 +15,7 @@ add-requires : tie.Need-add-requires
 add-requires c κs = search needs
 
 returns : tie.Need-returns
-returns c = cc
+returns c = c .add .ensures ∙ rw (c .before .get2 .ensures, c .before .before .get .ensures)
 
 pub slope-spec : {M : Type 1} → statement M
 slope-spec = tie.close (tie.spec get-requires get-requires-2 add-requires returns)

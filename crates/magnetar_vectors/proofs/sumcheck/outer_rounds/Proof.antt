@@ -1,4 +1,4 @@
--- `magnetar_vectors::sumcheck::outer_rounds` is safe and ends. The loop keeps this: the tables keep their lengths, no round passes the last one, and their number fits a word.
+-- `magnetar_vectors::sumcheck::outer_rounds` is safe and ends. The loop keeps this: the tables keep their length, no round passes the last one, and their number fits a word.
 -- Assumes nothing.
 use Prim.Native.Nat.{_≤_, _<_, _-_, _^_}
 use mathlib.Core.Path.{_≡_}
@@ -8,10 +8,10 @@ use Rattle.magnetar_vectors.proofs.sumcheck.outer_rounds.Statement.{sta
 use Rattle.magnetar_vectors.proofs.sumcheck.outer_rounds.Tie as tie
 
 abbrev Inv-loop : tie.InvT-loop
-Inv-loop e₀ a₀ b₀ c₀ high tau r n s₀ i₀ e a b c s i = (length e ≡ length e₀) × (length a ≡ length a₀) × (length b ≡ length b₀) × (length c ≡ length c₀) × (i ≤ n) × (n < 2 ^ 64)
+Inv-loop w₀ high tau r n s₀ i₀ w s i = (length w ≡ length w₀) × (i ≤ n) × (n < 2 ^ 64)
 
 abbrev μ-loop : tie.MeasureT-loop
-μ-loop e₀ a₀ b₀ c₀ high tau r n s₀ i₀ e a b c s i = n - i
+μ-loop w₀ high tau r n s₀ i₀ w s i = n - i
 
 start-requires : tie.Need-start-requires Inv-loop μ-loop
 start-requires c κs = search needs
@@ -34,15 +34,6 @@ loop-again c = search needs
 same-length : tie.Need-same-length Inv-loop μ-loop
 same-length c = search needs
 
-same-length-2 : tie.Need-same-length-2 Inv-loop μ-loop
-same-length-2 c = search needs
-
-same-length-3 : tie.Need-same-length-3 Inv-loop μ-loop
-same-length-3 c = search needs
-
-same-length-4 : tie.Need-same-length-4 Inv-loop μ-loop
-same-length-4 c = search needs
-
 returns : tie.Need-returns Inv-loop μ-loop
 returns c = search needs
 
@@ -59,7 +50,4 @@ outer-rounds-spec =
     loop-less
     loop-again
     same-length
-    same-length-2
-    same-length-3
-    same-length-4
     returns)

@@ -1,0 +1,99 @@
+//! What ../../vault.c does, through the safe functions: the two write the same, and each verifies what the other proved.
+use magnetar::{mul, prove, row_check, verify, words, Element, Failing, Matrix, Refusal, Relation, Transcript};
+
+const EDITION: u64 = 2;
+
+fn small(lo: u64) -> Element {
+    Element { lo, hi: 0 }
+}
+
+fn relation() -> Relation {
+    let lines = include_str!("../../vault.rules").lines().filter(|l| !l.starts_with("//"));
+    let numbers: Vec<usize> = lines.flat_map(|l| l.split(',')).filter_map(|n| n.trim().parse().ok()).collect();
+    let matrix = |k, rows| {
+        let entries: Vec<_> = numbers.chunks(4).filter(|e| e[0] == k).map(|e| (e[1], e[2], small(e[3] as u64))).collect();
+        Matrix::new(rows, 64, &entries)
+    };
+    let bin = [matrix(0, 16), matrix(1, 16), matrix(2, 16)];
+    let fld = [matrix(3, 2), matrix(4, 2), matrix(5, 2)];
+    Relation { m: 64, q: 4, segments: vec![8, 4, 8], bin, fld }
+}
+
+/// Whether n bits of the secret, from bit `from` on, are all 0.
+fn none(secret: u64, from: u64, n: u64) -> u64 {
+    (secret >> from & ((1 << n) - 1) == 0) as u64
+}
+
+fn login(secret: u64, saved: u64, edition: u64) -> u64 {
+    let parity = (secret.count_ones() % 2) as u64;
+    let pairs = (0..4).fold(0, |all, i| all | none(secret, 2 * i, 2) << i);
+    let helpers = pairs | none(secret, 0, 4) << 4 | none(secret, 4, 4) << 5 | none(secret, 0, 8) << 6;
+    secret | saved << 8 | parity << 9 | edition << 10 | helpers << 16
+}
+
+fn show(what: &str, words: &[u64]) {
+    let elements: String = words.chunks(2).map(|e| format!(" {:016x}{:016x}", e[1], e[0])).collect();
+    println!("{what}{elements}");
+}
+
+fn show_rows(what: &str, answer: Result<Option<Failing>, Refusal>) {
+    let (name, login, row, code) = match answer {
+        Ok(None) => ("good", 0, 0, 0),
+        Ok(Some(f)) => (if f.fld { "fld" } else { "bin" }, f.login, f.row, 0),
+        Err(e) => ("refused", 0, 0, e.number()),
+    };
+    println!("{what} row check: {name} {login} {row} {code}");
+}
+
+fn code<T>(r: Result<T, Refusal>) -> u32 {
+    r.map_or_else(|e| e.number(), |_| 0)
+}
+
+fn main() {
+    let mut r = relation();
+    let good = [login(0x4b, 1, EDITION), 0, login(0xa7, 1, EDITION), 0, login(0, 0, EDITION), 0, login(0x80, 1, EDITION), 0];
+    let key = Element { lo: 0x0123456789abcdef, hi: 0xfedcba9876543210 };
+    let mut x = words(&[key, mul(key, small(EDITION))]);
+    x.resize(62, 0);
+    let start = Transcript::new(b"vault", &[b"monday"]);
+
+    if std::env::args().nth(1).as_deref() == Some("prove") {
+        let (proof, _) = prove(&r, &good, &x, &mut start.clone()).unwrap();
+        proof.iter().for_each(|w| println!("{w:016x}"));
+        return;
+    }
+    let given = std::io::read_to_string(std::io::stdin()).unwrap();
+    let mut proof: Vec<u64> = given.split_whitespace().map(|w| u64::from_str_radix(w, 16).unwrap()).collect();
+
+    let verdict = verify(&r, &x, &proof, &mut start.clone());
+    show_rows("four logins,", row_check(&r, &good, &x));
+    println!("verify: {}", code(verdict.clone()));
+    let claims = verdict.unwrap();
+    show("claims:", &[claims.r_inst, claims.r_low, claims.values].concat());
+
+    print!("with a bit of an element changed:");
+    for i in (0..proof.len()).step_by(2) {
+        proof[i] ^= 1;
+        print!(" {}", code(verify(&r, &x, &proof, &mut start.clone())));
+        proof[i] ^= 1;
+    }
+    println!();
+
+    for (what, u, bits) in [
+        ("saved without a secret,", 2, login(0, 1, EDITION)),
+        ("of edition 3,", 1, login(0xa7, 1, 3)),
+        ("with a stray bit,", 3, login(0x80, 1, EDITION) | 0x2000),
+    ] {
+        let mut bad = good;
+        bad[2 * u] = bits;
+        show_rows(what, row_check(&r, &bad, &x));
+        let (words, _) = prove(&r, &bad, &x, &mut start.clone()).unwrap();
+        println!("prove: 0 verify: {}", code(verify(&r, &x, &words, &mut start.clone())));
+    }
+
+    print!("wrong sizes: {}", code(verify(&r, &x, &proof[2..], &mut start.clone())));
+    print!(" {}", code(verify(&r, &x[2..], &proof, &mut start.clone())));
+    print!(" {}", code(prove(&r, &good[2..], &x, &mut start.clone())));
+    r.q = 3;
+    println!(" {}", code(prove(&r, &good, &x, &mut start.clone())));
+}

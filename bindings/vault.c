@@ -1,0 +1,129 @@
+/* The vault of crates/demo from C: `vault prove` writes a proof of four logins, `vault verify` reads one and judges it, then shows what
+ * is said about wrong words, batches and sizes. */
+#include "magnetar.h"
+
+#include <stdio.h>
+#include <string.h>
+
+enum { M = 64, Q = 4, BIN = 16, FLD = 2, SEGMENTS = 3, EDITION = 2, PUBLIC = M - 2 };
+
+#define PROOF MAGNETAR_PROOF_WORDS(2, 4, 1, 6, SEGMENTS)
+#define CLAIMS MAGNETAR_CLAIM_WORDS(2, 6, SEGMENTS)
+#define PACKED MAGNETAR_PACKED_WORDS(M, Q)
+#define SCRATCH MAGNETAR_PROVER_SCRATCH(M, Q, BIN, FLD) /* the longest of the three */
+
+static const size_t rules[] = {
+#include "vault.rules"
+};
+
+enum { RULES = sizeof rules / sizeof rules[0] };
+
+static size_t row[6][RULES], col[6][RULES], lens[SEGMENTS] = {8, 4, 8};
+static uint64_t lo[6][RULES], hi[6][RULES], scratch[SCRATCH];
+
+static magnetar_relation relation(void)
+{
+    magnetar_relation r = {M, Q, lens, SEGMENTS, {{0, 0, 0, 0, 0, 0, 0}}};
+    for (size_t k = 0; k < 6; k++)
+        r.matrix[k] = (magnetar_matrix){k < 3 ? BIN : FLD, M, 0, row[k], col[k], lo[k], hi[k]};
+    for (size_t i = 0; i < RULES; i += 4) {
+        size_t k = rules[i], n = r.matrix[k].entries++;
+        row[k][n] = rules[i + 1];
+        col[k][n] = rules[i + 2];
+        lo[k][n] = rules[i + 3];
+    }
+    return r;
+}
+
+/* Whether n bits of the secret, from bit `from` on, are all 0. */
+static uint64_t none(uint64_t secret, int from, int n)
+{
+    return (secret >> from & ((1u << n) - 1)) == 0;
+}
+
+static uint64_t login(uint64_t secret, uint64_t saved, uint64_t edition)
+{
+    uint64_t parity = 0;
+    for (int i = 0; i < 8; i++)
+        parity ^= secret >> i & 1;
+    return secret | saved << 8 | parity << 9 | edition << 10 | none(secret, 0, 2) << 16 | none(secret, 2, 2) << 17
+           | none(secret, 4, 2) << 18 | none(secret, 6, 2) << 19 | none(secret, 0, 4) << 20 | none(secret, 4, 4) << 21
+           | none(secret, 0, 8) << 22;
+}
+
+static magnetar_transcript start(void)
+{
+    size_t parts[] = {6};
+    return magnetar_transcript_new((const uint8_t *)"vault", 5, (const uint8_t *)"monday", 6, parts, 1).transcript;
+}
+
+static void show(const char *what, const uint64_t *words, size_t n)
+{
+    printf("%s", what);
+    for (size_t i = 0; i < n; i += 2)
+        printf(" %016llx%016llx", (unsigned long long)words[i + 1], (unsigned long long)words[i]);
+    printf("\n");
+}
+
+static void show_rows(const char *what, magnetar_row_verdict a)
+{
+    static const char *const names[] = {"good", "bin", "fld", "refused"};
+    printf("%s row check: %s %zu %zu %u\n", what, names[a.system], a.login, a.row, a.code);
+}
+
+int main(int argc, char **argv)
+{
+    magnetar_relation r = relation();
+    uint64_t good[PACKED] = {login(0x4b, 1, EDITION), 0, login(0xa7, 1, EDITION), 0, login(0, 0, EDITION), 0, login(0x80, 1, EDITION), 0};
+    magnetar_element key = {0x0123456789abcdef, 0xfedcba9876543210}, edition = {EDITION, 0}, stamp = magnetar_mul(key, edition);
+    uint64_t x[PUBLIC] = {key.lo, key.hi, stamp.lo, stamp.hi};
+    uint64_t proof[PROOF], claims[CLAIMS];
+    magnetar_transcript t = start();
+
+    if (argc == 2 && strcmp(argv[1], "prove") == 0) {
+        if (magnetar_prove(&r, good, PACKED, x, PUBLIC, t, proof, PROOF, claims, CLAIMS, scratch, SCRATCH).code != MAGNETAR_OK)
+            return 1;
+        for (size_t i = 0; i < PROOF; i++)
+            printf("%016llx\n", (unsigned long long)proof[i]);
+        return 0;
+    }
+    for (size_t i = 0; i < PROOF; i++)
+        if (scanf("%llx", (unsigned long long *)&proof[i]) != 1)
+            return 1;
+
+    magnetar_answer a = magnetar_verify(&r, x, PUBLIC, proof, PROOF, t, claims, CLAIMS, scratch, SCRATCH);
+    show_rows("four logins,", magnetar_check(&r, good, PACKED, x, PUBLIC, scratch, SCRATCH));
+    printf("verify: %u\n", a.code);
+    show("claims:", claims, CLAIMS);
+
+    printf("with a bit of an element changed:");
+    for (size_t i = 0; i < PROOF; i += 2) {
+        proof[i] ^= 1;
+        printf(" %u", magnetar_verify(&r, x, PUBLIC, proof, PROOF, t, claims, CLAIMS, scratch, SCRATCH).code);
+        proof[i] ^= 1;
+    }
+
+    const struct {
+        const char *what;
+        size_t login;
+        uint64_t bits;
+    } wrong[] = {{"saved without a secret,", 2, login(0, 1, EDITION)},
+                 {"of edition 3,", 1, login(0xa7, 1, 3)},
+                 {"with a stray bit,", 3, login(0x80, 1, EDITION) | 0x2000}};
+    printf("\n");
+    for (size_t i = 0; i < 3; i++) {
+        uint64_t bad[PACKED], words[PROOF];
+        memcpy(bad, good, sizeof good);
+        bad[2 * wrong[i].login] = wrong[i].bits;
+        show_rows(wrong[i].what, magnetar_check(&r, bad, PACKED, x, PUBLIC, scratch, SCRATCH));
+        printf("prove: %u", magnetar_prove(&r, bad, PACKED, x, PUBLIC, t, words, PROOF, claims, CLAIMS, scratch, SCRATCH).code);
+        printf(" verify: %u\n", magnetar_verify(&r, x, PUBLIC, words, PROOF, t, claims, CLAIMS, scratch, SCRATCH).code);
+    }
+
+    printf("wrong sizes: %u", magnetar_verify(&r, x, PUBLIC, proof, PROOF - 2, t, claims, CLAIMS, scratch, SCRATCH).code);
+    printf(" %u", magnetar_verify(&r, x, PUBLIC - 2, proof, PROOF, t, claims, CLAIMS, scratch, SCRATCH).code);
+    printf(" %u", magnetar_prove(&r, good, PACKED - 2, x, PUBLIC, t, proof, PROOF, claims, CLAIMS, scratch, SCRATCH).code);
+    r.q = 3;
+    printf(" %u\n", magnetar_prove(&r, good, PACKED, x, PUBLIC, t, proof, PROOF, claims, CLAIMS, scratch, SCRATCH).code);
+    return 0;
+}

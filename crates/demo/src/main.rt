@@ -1,0 +1,123 @@
+// A vault of four logins: packed, checked row by row, proved and verified; then what goes wrong, and what is said about it. All that
+// is written stands in the file `stdout`.
+mod refusal;
+mod rules;
+mod text;
+mod vault;
+mod wrong;
+
+use crate::text::print;
+use magnetar_hash::transcript;
+use magnetar_hash::transcript::Transcript;
+
+fn print_vault(packed: &[u64]) {
+    print(b"A vault of 4 logins: packed into bits, checked row by row, proved, verified.\n\n");
+    print(b"login   secret   saved   checksum   edition   packed\n");
+    vault::print_login(packed, 0);
+    vault::print_login(packed, 1);
+    vault::print_login(packed, 2);
+    vault::print_login(packed, 3);
+    print(b"columns: 0-7 secret, 8 saved, 9 checksum, 10-11 edition, 16-22 help the first rule;\n");
+    print(b"32 the one, 33 the office's key, 34 its stamp; segments: 0-7, 8-11, 16-23\n\n");
+}
+
+fn print_rules() {
+    print(b"rule                                 as rows of (A z)(B z) = C z              where\n");
+    print(
+        b"a saved login has a secret           saved * (none of the secret's bits) = 0  bin, rows 0-7\n",
+    );
+    print(
+        b"the checksum is the secret's parity  (secret's bits + checksum) * 1 = 0       bin, row 8\n",
+    );
+    print(
+        b"what is not saved has no secret      (1 + saved) * secret = 0                 fld, row 0\n",
+    );
+    print(
+        b"the edition is the office's          edition * key = stamp                    fld, row 1\n\n",
+    );
+}
+
+// Whether two slices hold the same words.
+fn same(a: &[u64], b: &[u64]) -> bool {
+    if a.len() != b.len() {
+        return false;
+    }
+    let mut i = 0;
+    while i < a.len() {
+        if a[i] != b[i] {
+            return false;
+        }
+        i += 1;
+    }
+    true
+}
+
+fn print_same(a: &[u64], b: &[u64]) {
+    if same(a, b) {
+        print(b", the same claims");
+    } else {
+        print(b", other claims");
+    }
+}
+
+// The front of the transcript's state.
+fn print_transcript(t: Transcript) {
+    let e = transcript::element(t);
+    print(b", transcript ");
+    text::hex(e.lo, 16);
+    print(b"\n");
+}
+
+fn print_sizes(proof: &[u64], claims: &[u64]) {
+    text::count(proof.len());
+    print(b" proof words, ");
+    text::count(claims.len());
+    print(b" claim words");
+}
+
+// The laptop's end, with the claims that the office has.
+fn verify(x: &[u64], proof: &[u64], office: &[u64]) {
+    let mut claims = [0u64; 20];
+    let mut scratch = [0u64; 320];
+    let r = rules::verify(&mut claims, &mut scratch, 4, x, proof, vault::start());
+    print(b"verify     ");
+    refusal::say(r.code, b"accepted");
+    print_same(&claims, office);
+    print_transcript(r.transcript);
+    print(b"\n");
+}
+
+// The office's end, then the laptop's, then what goes wrong.
+fn prove(packed: &[u64], x: &[u64]) {
+    let mut proof = [0u64; 128];
+    let mut claims = [0u64; 20];
+    let mut scratch = [0u64; 1168];
+    let r = rules::prove(
+        &mut proof,
+        &mut claims,
+        &mut scratch,
+        4,
+        packed,
+        x,
+        vault::start(),
+    );
+    print(b"prove      ");
+    refusal::say(r.code, b"done");
+    print(b", ");
+    print_sizes(&proof, &claims);
+    print_transcript(r.transcript);
+    verify(x, &proof, &claims);
+    wrong::proofs(x, &proof);
+    wrong::batches(packed, x);
+    wrong::sizes(packed, x, &proof);
+}
+
+fn main() {
+    let packed = vault::logins();
+    let x = vault::public();
+    print_vault(&packed);
+    print_rules();
+    print(b"row check  ");
+    wrong::check(&packed, &x);
+    prove(&packed, &x);
+}

@@ -1,0 +1,111 @@
+// A login as bits. Columns 0 to 7 are the secret, 8 says that it is saved, 9 is the checksum, 10 and 11 are the edition. Columns 16 to
+// 22 help the rule on empty secrets: 16 to 19 say that two of the secret's bits are both 0, 20 and 21 that four are, 22 that all are.
+use crate::text;
+use crate::text::print;
+use magnetar_field::gf128;
+use magnetar_field::gf128::Gf128;
+use magnetar_field::words;
+use magnetar_hash::transcript;
+use magnetar_hash::transcript::Transcript;
+
+pub(crate) const EDITION: u64 = 2;
+
+const KEY: Gf128 = Gf128 {
+    lo: 0x0123456789abcdef,
+    hi: 0xfedcba9876543210,
+};
+
+// Whether bits 0 and 1 are both 0.
+fn none2(s: u64) -> u64 {
+    ((s | (s >> 1)) & 1) ^ 1
+}
+
+// Whether bits 0 to 3 are all 0.
+fn none4(s: u64) -> u64 {
+    none2(s) & none2(s >> 2)
+}
+
+// The columns 16 to 19, as bits 0 to 3.
+fn none_pairs(s: u64) -> u64 {
+    none2(s) | (none2(s >> 2) << 1) | (none2(s >> 4) << 2) | (none2(s >> 6) << 3)
+}
+
+// The columns 16 to 22, as bits 0 to 6.
+fn helpers(s: u64) -> u64 {
+    let low = none4(s);
+    let high = none4(s >> 4);
+    none_pairs(s) | (low << 4) | (high << 5) | ((low & high) << 6)
+}
+
+// The sum of bits 0 to 7.
+fn parity(s: u64) -> u64 {
+    let four = s ^ (s >> 4);
+    let two = four ^ (four >> 2);
+    (two ^ (two >> 1)) & 1
+}
+
+// The word of a login with a secret of 8 bits and an edition of 2.
+pub(crate) fn login(secret: u64, saved: u64, edition: u64) -> u64 {
+    secret | (saved << 8) | (parity(secret) << 9) | (edition << 10) | (helpers(secret) << 16)
+}
+
+// Sets the bits of login u: a login is two words, and its 32 bits are in the first.
+pub(crate) fn put(packed: &mut [u64], u: usize, w: u64) {
+    if u < 4 {
+        if 2 * u < packed.len() {
+            packed[2 * u] = w;
+        }
+    }
+}
+
+fn get(packed: &[u64], u: usize) -> u64 {
+    if u < 4 {
+        if 2 * u < packed.len() {
+            return packed[2 * u];
+        }
+    }
+    0
+}
+
+// The four logins that the office has saved.
+pub(crate) fn logins() -> [u64; 8] {
+    let mut packed = [0u64; 8];
+    put(&mut packed, 0, login(0x4b, 1, EDITION));
+    put(&mut packed, 1, login(0xa7, 1, EDITION));
+    put(&mut packed, 2, login(0, 0, EDITION));
+    put(&mut packed, 3, login(0x80, 1, EDITION));
+    packed
+}
+
+// The public words: the key, the stamp, which is the key times the edition, and zeros.
+pub(crate) fn public() -> [u64; 62] {
+    let edition = Gf128 { lo: EDITION, hi: 0 };
+    let mut x = [0u64; 62];
+    words::put(&mut x, 0, KEY);
+    words::put(&mut x, 1, gf128::mul(KEY, edition));
+    x
+}
+
+// The transcript that both ends start with.
+pub(crate) fn start() -> Transcript {
+    let r = transcript::new(b"vault", b"monday", &[6]);
+    r.transcript
+}
+
+// A login's line.
+pub(crate) fn print_login(packed: &[u64], u: usize) {
+    let w = get(packed, u);
+    print(b"    ");
+    text::count(u);
+    print(b"   0x");
+    text::hex(w & 255, 2);
+    print(b"         ");
+    text::number((w >> 8) & 1);
+    print(b"          ");
+    text::number((w >> 9) & 1);
+    print(b"         ");
+    text::number((w >> 10) & 3);
+    print(b"   0x");
+    text::hex(w, 8);
+    print(b"\n");
+}

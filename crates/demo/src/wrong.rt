@@ -1,0 +1,158 @@
+// What goes wrong: a word of the proof, a login, a bit outside the segments, a size.
+use crate::refusal;
+use crate::rules;
+use crate::text;
+use crate::text::print;
+use crate::vault;
+use magnetar_batch::check::RowCheck;
+use magnetar_field::words;
+
+fn print_place(u: usize, i: usize) {
+    print(b"login ");
+    text::count(u);
+    print(b", row ");
+    text::count(i);
+    print(b" does not hold\n");
+}
+
+fn print_verdict(r: RowCheck) {
+    match r {
+        RowCheck::Good => print(b"good: every row of both systems holds for every login\n"),
+        RowCheck::Bin(u, i) => {
+            print(b"bin, ");
+            print_place(u, i);
+        }
+        RowCheck::Fld(u, i) => {
+            print(b"fld, ");
+            print_place(u, i);
+        }
+        RowCheck::Refused(code) => refusal::line(code),
+    }
+}
+
+// What the row check says.
+pub(crate) fn check(packed: &[u64], x: &[u64]) {
+    let mut scratch = [0u64; 96];
+    print_verdict(rules::row_check(&mut scratch, 4, packed, x));
+}
+
+// What the laptop says about a proof of q logins; there is room for the claims of 8.
+fn verified(q: usize, x: &[u64], proof: &[u64]) {
+    let mut claims = [0u64; 22];
+    let mut scratch = [0u64; 320];
+    let r = rules::verify(&mut claims, &mut scratch, q, x, proof, vault::start());
+    refusal::line(r.code);
+}
+
+// What it says about the proof of a batch.
+fn proved(packed: &[u64], x: &[u64]) {
+    let mut proof = [0u64; 128];
+    let mut claims = [0u64; 20];
+    let mut scratch = [0u64; 1168];
+    rules::prove(
+        &mut proof,
+        &mut claims,
+        &mut scratch,
+        4,
+        packed,
+        x,
+        vault::start(),
+    );
+    verified(4, x, &proof);
+}
+
+// ---- A word of the proof.
+
+// Bit 0 of word i is changed on the way.
+fn word(what: &[u8], i: usize, x: &[u64], proof: &[u64]) {
+    let mut sent = [0u64; 128];
+    words::copy(proof, &mut sent);
+    flip(&mut sent, i);
+    print(what);
+    verified(4, x, &sent);
+}
+
+fn flip(s: &mut [u64], i: usize) {
+    if i < s.len() {
+        s[i] = s[i] ^ 1;
+    }
+}
+
+pub(crate) fn proofs(x: &[u64], proof: &[u64]) {
+    print(b"a bit of the proof is changed, in         verify says\n");
+    word(b"  a shared round's polynomial of bin      ", 2, x, proof);
+    word(b"  a shared round's polynomial of fld      ", 10, x, proof);
+    word(b"  a row round's polynomial of bin         ", 34, x, proof);
+    word(b"  the row round's polynomial of fld       ", 66, x, proof);
+    word(b"  a value of bin after these rounds       ", 72, x, proof);
+    word(b"  a value of fld after these rounds       ", 78, x, proof);
+    word(b"  an inner round's polynomial             ", 86, x, proof);
+    word(b"  v_z, the logins' value at its end       ", 120, x, proof);
+    word(b"  a segment's value                       ", 122, x, proof);
+}
+
+// ---- A login.
+
+// Login u is w: what the row check says, and what the laptop says about a proof.
+fn login(what: &[u8], u: usize, w: u64, packed: &[u64], x: &[u64]) {
+    let mut bad = [0u64; 8];
+    words::copy(packed, &mut bad);
+    vault::put(&mut bad, u, w);
+    print(what);
+    print(b"\n  row check  ");
+    check(&bad, x);
+    print(b"  verify     ");
+    proved(&bad, x);
+}
+
+pub(crate) fn batches(packed: &[u64], x: &[u64]) {
+    login(
+        b"login 2 is saved without a secret",
+        2,
+        vault::login(0, 1, vault::EDITION),
+        packed,
+        x,
+    );
+    login(
+        b"login 1 is of edition 3",
+        1,
+        vault::login(0xa7, 1, 3),
+        packed,
+        x,
+    );
+    login(
+        b"login 3 has a stray bit at column 13, which no rule reads and no segment has",
+        3,
+        vault::login(0x80, 1, vault::EDITION) | 0x2000,
+        packed,
+        x,
+    );
+}
+
+// ---- A size.
+
+// The office proves q logins.
+fn prove_size(q: usize, packed: &[u64], x: &[u64]) {
+    let mut proof = [0u64; 128];
+    let mut claims = [0u64; 20];
+    let mut scratch = [0u64; 1168];
+    let r = rules::prove(
+        &mut proof,
+        &mut claims,
+        &mut scratch,
+        q,
+        packed,
+        x,
+        vault::start(),
+    );
+    refusal::line(r.code);
+}
+
+pub(crate) fn sizes(packed: &[u64], x: &[u64], proof: &[u64]) {
+    print(b"wrong sizes\n  prove 3 logins                          ");
+    prove_size(3, packed, x);
+    print(b"  prove 8 logins, but 4 are packed        ");
+    prove_size(8, packed, x);
+    print(b"  verify 8 logins by a proof of 4         ");
+    verified(8, x, proof);
+}
