@@ -43,6 +43,7 @@ compiled() {
 
 compared() {
     compiled magnetar_vectors
+    compiled magnetar_forms
     compiled magnetar_cases
     RAYON_NUM_THREADS=1 target/compare/compare "$copy/bin" "$@" >"$copy/said" 2>/dev/null
 }
