@@ -1,7 +1,6 @@
--- The structs that cross to C and the structs of the crates below: the same fields under the same names.
+-- The structs that cross to C and what they carry: structs of the crates below with the same fields under the same names, and the
+-- answer of the row check.
 -- Assumes nothing.
-use mathlib.Core.Bool.{cond}
-use lib.Dec.{eqb}
 use Rattle.magnetar_r1cs.specs.RowCheck.Verdict.{good, bin, fld}
 use Rattle.magnetar_batch.specs.Check.{Outcome}
 use Rattle.magnetar_batch.specs.Check.Outcome.{judged, refused}
@@ -31,9 +30,9 @@ answer a = record { code = a .code; transcript = transcript (a .transcript) }
 abbrev pub drawn : MagnetarDraw → DrawAnswer
 drawn d = record { code = d .code; element = element (d .element); transcript = transcript (d .transcript) }
 
--- the answer of the row check
-abbrev pub checked : MagnetarRowCheck → Outcome
-checked r =
-    cond (eqb (r .system) 0) (judged good)
-    (cond (eqb (r .system) 1) (judged (bin (r .login) (r .row)))
-    (cond (eqb (r .system) 2) (judged (fld (r .login) (r .row))) (refused (r .code))))
+-- the answer of the row check: system 0 where every row holds, 1 and 2 with the row of bin and fld that does not, 3 with a refusal's number
+unfoldable pub crossed : Outcome → MagnetarRowCheck
+crossed (judged good) = record { code = 0; system = 0; login = 0; row = 0 }
+crossed (judged (bin u i)) = record { code = 0; system = 1; login = u; row = i }
+crossed (judged (fld u i)) = record { code = 0; system = 2; login = u; row = i }
+crossed (refused n) = record { code = n; system = 3; login = 0; row = 0 }

@@ -124,7 +124,7 @@ fn draw_out(d: DrawAnswer) -> MagnetarDraw
 }
 
 fn check_out(c: RowCheck) -> MagnetarRowCheck
-    ensures { λ r. ⌜ across.checked r ≡ outcome c ⌝ }
+    ensures { λ r. ⌜ r ≡ across.crossed (outcome c) ⌝ }
 {
     match c {
         RowCheck::Good => MagnetarRowCheck {
@@ -511,7 +511,7 @@ pub extern "C" fn magnetar_row_check(
     packed: &[u64],
     x: &[u64],
 ) -> MagnetarRowCheck
-    ensures answer { λ r. ⌜ across.checked r ≡ checkAnswer m q (system (lent abrows abcols (now (abrow .entry)) (now (abcol .entry)) (now (ablo .entry)) (now (abhi .entry))) (lent bbrows bbcols (now (bbrow .entry)) (now (bbcol .entry)) (now (bblo .entry)) (now (bbhi .entry))) (lent cbrows cbcols (now (cbrow .entry)) (now (cbcol .entry)) (now (cblo .entry)) (now (cbhi .entry)))) (system (lent afrows afcols (now (afrow .entry)) (now (afcol .entry)) (now (aflo .entry)) (now (afhi .entry))) (lent bfrows bfcols (now (bfrow .entry)) (now (bfcol .entry)) (now (bflo .entry)) (now (bfhi .entry))) (lent cfrows cfcols (now (cfrow .entry)) (now (cfcol .entry)) (now (cflo .entry)) (now (cfhi .entry)))) (now (packed .entry)) (now (x .entry)) (length (now (scratch .entry))) ⌝ }
+    ensures answer { λ r. ⌜ r ≡ across.crossed (checkAnswer m q (system (lent abrows abcols (now (abrow .entry)) (now (abcol .entry)) (now (ablo .entry)) (now (abhi .entry))) (lent bbrows bbcols (now (bbrow .entry)) (now (bbcol .entry)) (now (bblo .entry)) (now (bbhi .entry))) (lent cbrows cbcols (now (cbrow .entry)) (now (cbcol .entry)) (now (cblo .entry)) (now (cbhi .entry)))) (system (lent afrows afcols (now (afrow .entry)) (now (afcol .entry)) (now (aflo .entry)) (now (afhi .entry))) (lent bfrows bfcols (now (bfrow .entry)) (now (bfcol .entry)) (now (bflo .entry)) (now (bfhi .entry))) (lent cfrows cfcols (now (cfrow .entry)) (now (cfcol .entry)) (now (cflo .entry)) (now (cfhi .entry)))) (now (packed .entry)) (now (x .entry)) (length (now (scratch .entry)))) ⌝ }
     ensures cleared { λ _. ⌜ now (scratch .exit) ≡ checkScratch m q (system (lent abrows abcols (now (abrow .entry)) (now (abcol .entry)) (now (ablo .entry)) (now (abhi .entry))) (lent bbrows bbcols (now (bbrow .entry)) (now (bbcol .entry)) (now (bblo .entry)) (now (bbhi .entry))) (lent cbrows cbcols (now (cbrow .entry)) (now (cbcol .entry)) (now (cblo .entry)) (now (cbhi .entry)))) (system (lent afrows afcols (now (afrow .entry)) (now (afcol .entry)) (now (aflo .entry)) (now (afhi .entry))) (lent bfrows bfcols (now (bfrow .entry)) (now (bfcol .entry)) (now (bflo .entry)) (now (bfhi .entry))) (lent cfrows cfcols (now (cfrow .entry)) (now (cfcol .entry)) (now (cflo .entry)) (now (cfhi .entry)))) (now (packed .entry)) (now (x .entry)) (now (scratch .entry)) ⌝ }
 {
     check_out(check::row_check(

@@ -1,6 +1,7 @@
 -- `magnetar_c::magnetar_row_check` meets its contract.
 -- Assumes nothing.
-use mathlib.Core.Path.{_∙_}
+use mathlib.Core.Path.{ap, _∙_}
+use Rattle.magnetar_c.specs.Across.{crossed}
 use borrow.Author.Needs.{needs}
 use Rattle.magnetar_c.proofs.magnetar_row_check.Statement.{statement}
 use Rattle.magnetar_c.proofs.magnetar_row_check.Tie as tie
@@ -17,7 +18,7 @@ same-length c = search needs
 returns : tie.Need-returns
 returns c =
     let d = c .before .before .before in
-    (c .check-out .ensures ∙ d .row-check .ensures .0, d .row-check .ensures .1)
+    (c .check-out .ensures ∙ ap crossed (d .row-check .ensures .0), d .row-check .ensures .1)
 
 pub magnetar-row-check-spec : {M : Type 1} → statement M
 magnetar-row-check-spec =
