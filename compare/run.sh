@@ -8,7 +8,7 @@ set -euo pipefail
 oracle=$(cd "${1:?usage: run.sh ORACLE [SECONDS SEED]}" && pwd)
 shift
 cd "$(dirname "$0")/.."
-rt check magnetar_vectors magnetar_cases >/dev/null
+rt check magnetar_vectors magnetar_forms magnetar_cases >/dev/null
 rt staticlib magnetar_c >/dev/null
 compare/build.sh "$oracle" target/staticlib target/compare
 RAYON_NUM_THREADS=1 target/compare/compare target/bin "$@"

@@ -71,8 +71,8 @@ struct Worker {
 
 impl Worker {
     fn new(programs: &Path) -> Worker {
-        let sheet = |name: &str| Sheet::new(programs.join(name));
-        Worker { vectors: sheet("magnetar_vectors"), cases: sheet("magnetar_cases"), runs: Tally::default() }
+        let vectors = Sheet::with_forms(programs.join("magnetar_vectors"), programs.join("magnetar_forms"));
+        Worker { vectors, cases: Sheet::new(programs.join("magnetar_cases")), runs: Tally::default() }
     }
 
     fn work(&mut self, job: Job) {

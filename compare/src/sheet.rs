@@ -19,17 +19,50 @@ struct Asked {
 
 pub struct Sheet {
     program: PathBuf,
+    /// a program that is asked the queries on the thin functions too
+    forms: Option<Box<Sheet>>,
     asked: Vec<Asked>,
     bytes: usize,
     pub tally: Tally,
 }
 
+/// The thin functions that answer a query as the core does: the transcript in place, matrices as records. Lists of unequal length are
+/// no records, and the program holds 32 of them.
+fn form(query: &str) -> Option<&'static str> {
+    let mut words = query.split(' ');
+    let name = match words.next()? {
+        "absorb" => return Some("in place: absorb_bytes"),
+        "absorbfield" => return Some("in place: absorb_field"),
+        "absorbu64" => return Some("in place: absorb_u64"),
+        "absorbdigest" => return Some("in place: absorb_digest"),
+        "draw" => return Some("in place: challenge_field"),
+        "drawvec" => return Some("in place: challenge_field_vec"),
+        "isbinary" => "over records: is_binary",
+        "apply" => "over records: apply",
+        "packed" => "over records: apply_simd_packed",
+        "table" => "over records: eval_mle_table",
+        "at" => "over records: eval_mle_at",
+        _ => return None,
+    };
+    let mut words = words.skip(4);
+    let first = words.next()?.parse::<usize>().ok()?;
+    let same = (1..4).all(|_| words.nth(first).is_some_and(|n| n.parse() == Ok(first)));
+    (same && first <= 32).then_some(name)
+}
+
 impl Sheet {
     pub fn new(program: PathBuf) -> Sheet {
-        Sheet { program, asked: vec![], bytes: 0, tally: Tally::default() }
+        Sheet { program, forms: None, asked: vec![], bytes: 0, tally: Tally::default() }
+    }
+
+    pub fn with_forms(program: PathBuf, forms: PathBuf) -> Sheet {
+        Sheet { forms: Some(Box::new(Sheet::new(forms))), ..Sheet::new(program) }
     }
 
     pub fn ask(&mut self, function: &'static str, by: By, query: String, answer: Vec<String>) {
+        if let (Some(forms), Some(name)) = (&mut self.forms, form(&query)) {
+            forms.ask_on(name, by, "", query.clone(), answer.clone());
+        }
         self.ask_on(function, by, "", query, answer)
     }
 
@@ -44,6 +77,10 @@ impl Sheet {
 
     /// Asks all and compares each answer. A program copies lines that begin with #, so that each answer is found again.
     pub fn flush(&mut self) {
+        if let Some(forms) = &mut self.forms {
+            forms.flush();
+            self.tally.add(&std::mem::take(&mut forms.tally));
+        }
         if self.asked.is_empty() {
             return;
         }
