@@ -9,6 +9,7 @@ each() { out=$1; shift; python3 tools/each.py $c $c::records::Entry 32 row,col,l
 thin() { f=$1; shift; d=$p/$(echo $f | sed 's/::/\//'); mkdir -p $d; python3 tools/thin.py $c $f "$@" > $d/new && mv $d/new $d/Proof.antt; }
 ends=Rattle.$c.proofs.RecordEnds
 packed=Rattle.$c.proofs.PackedEnds
+masks=Rattle.$c.proofs.MaskEnds
 value='Rattle.magnetar_field.specs.Gf128.{value}'
 
 # the laws for loops over records, by shape
@@ -18,6 +19,7 @@ each EachNSM NSM
 each EachNNMM NNMM
 each EachNbool N bool
 each EachSSNNNM SSNNNM
+each EachSNNNNM SNNNNM
 each EachNNMGf128 NNM magnetar_field::gf128::Gf128:lo,hi
 
 # calls in a row
@@ -45,6 +47,9 @@ thin records::write_packed --use "$packed.{write-some, write-none}" \
   --final 'write-none (s2 .now) (s3 .now) (s4 .now) ys8 n5 n6 n7 n1 false b1 refl'
 thin records::apply_simd_packed --use "$packed.{packed-ends}" --use 'Rattle.magnetar_r1cs.specs.Entries.{flagged}' \
   --final 'packed-ends n1 n2 (s3 .now) (s4 .now) (s5 .now) ys8 n6 n7 r1 r3 r2 e1 e2 e3 (ws4 .1 .1 .1 .1 .1 .1 .1 .0) r4 (flagged r5) e4 e5'
+thin records::apply_simd_bit_masks --use "$masks.{masks-done, masks-back}" \
+  --final 'masks-done n1 n2 (s3 .now) (s4 .now) ys8 n5 n6 n7 r1 r2 r4 r3 r5 r6 e1 e2 e3 e4 e5 e6 (ws7 .1 .1 .1 .0) (ws8 .1 .1 .1 .1 .1 .1 .0) b1 e7 e8' \
+  --final 'masks-back n1 n2 (s3 .now) (s4 .now) ys8 n5 n6 n7 r1 r2 r4 r3 r5 r6 e1 e2 e3 e4 e5 e6 b1'
 
 # magnetar_forms: locals lent to the thin functions
 c=magnetar_forms

@@ -4,6 +4,8 @@ pub mod RecordLaws
 pub mod RecordEnds
 pub mod LoginLaws
 pub mod PackedEnds
+pub mod MaskLaws
+pub mod MaskEnds
 pub mod EachNNbool
 pub mod Eachbool
 pub mod EachNSM
@@ -11,3 +13,4 @@ pub mod EachNNMM
 pub mod EachNNMGf128
 pub mod EachNbool
 pub mod EachSSNNNM
+pub mod EachSNNNNM

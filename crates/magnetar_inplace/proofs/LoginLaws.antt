@@ -88,12 +88,12 @@ before u q h d = omega (arith, h, d)
 
 -- ---- one entry, on the table of all logins
 -- the table with f u e added at the entry's row of the first q blocks
-abbrev blocked : ℕ → (ℕ → Entry → ℕ) → Entry → ℕ → List ℕ → List ℕ
+abbrev pub blocked : ℕ → (ℕ → Entry → ℕ) → Entry → ℕ → List ℕ → List ℕ
 blocked n f e zero t = t
 blocked n f e (suc u) t = addedAt (blocked n f e u t) (u * n + e .row) (f u e)
 
 module _ (n : ℕ) (f : ℕ → Entry → ℕ) (e : Entry) where
-  blocked-length : (q : ℕ) (t : List ℕ) → length (blocked n f e q t) ≡ length t
+  pub blocked-length : (q : ℕ) (t : List ℕ) → length (blocked n f e q t) ≡ length t
   blocked-length zero t = refl
   blocked-length (suc q) t = added-length (blocked n f e q t) (q * n + e .row) (f q e) ∙ blocked-length q t
 
@@ -150,11 +150,11 @@ blocks-one k k′ n f e u out out₀ h a = rw (h, a, add-one)
 
 -- ---- all entries, on the table of all logins
 module _ (q w n : ℕ) (f : ℕ → Entry → ℕ) where
-  abbrev spread : List Entry → List ℕ → List ℕ
+  abbrev pub spread : List Entry → List ℕ → List ℕ
   spread [] t = t
   spread (e ∷ es) t = spread es (cond (inReach q w n (e .row)) (blocked n f e q t) t)
 
-  one-length : (e : Entry) (b : Bool) (t : List ℕ) → length (cond b (blocked n f e q t) t) ≡ length t
+  pub one-length : (e : Entry) (b : Bool) (t : List ℕ) → length (cond b (blocked n f e q t) t) ≡ length t
   one-length e true t = blocked-length n f e q t
   one-length e false t = refl
 
@@ -210,15 +210,20 @@ blocks-of g n (suc q) t l h =
     let y : drop (q * n) t ≡ tabulate (g q) n = tabulate-of (drop (q * n) t) (g q) n 0 d (λ i hi. getD-drop (q * n) t i 0 ∙ h q i (omega arith) hi) in
     sym (take-append-drop (q * n) t) ∙ rw (x, y)
 
--- ---- the whole walk, on cleared words
+-- ---- the whole walk, on a table of zeros and on cleared words
+pub spread-zeros : (q w n : ℕ) (f : ℕ → Entry → ℕ) (es : List Entry) → q ≤ 4096 → w ≤ 32768 → n ≤ 65536
+    → spread q w n f es (replicate (q * n) 0) ≡ blocks (λ u. tabulate (rowTotal (f u) es) n) q
+spread-zeros q w n f es hq hw hn =
+    let z : List ℕ = replicate (q * n) 0 in
+    let lz : length z ≡ q * n = length-replicate (q * n) 0 in
+    blocks-of (λ u. rowTotal (f u) es) n q (spread q w n f es z) (spread-length q w n f es z ∙ lz) (λ u i hu hi. let e : u * n + n ≤ q * n = part-ends n q u hu in let k : u * n + i < q * n = omega (arith, e, hi) in spread-at q w n f hq hw hn u i hu hi es z (rw lz k) ∙ rw (getD-replicate {A = ℕ} (q * n) (u * n + i) 0 0 k) (zero-⊕ (rowTotal (f u) es i)))
+
 pub packed-added : (q w n : ℕ) (f : ℕ → Entry → ℕ) (es : List Entry) (out : List ℕ) → q ≤ 4096 → w ≤ 32768 → n ≤ 65536 → 0 < n → 2 * (q * n) ≤ length out
     → addedPacked q w n f es (clearedBlocks q w n out) ≡ words (blocks (λ u. tabulate (rowTotal (f u) es) n) q) ++ drop (2 * (q * n)) out
 unfolding clearedBlocks
 packed-added q w n f es out hq hw hn h0 h =
     let z : List ℕ = replicate (q * n) 0 in
-    let lz : length z ≡ q * n = length-replicate (q * n) 0 in
-    let b : spread q w n f es z ≡ blocks (λ u. tabulate (rowTotal (f u) es) n) q = blocks-of (λ u. rowTotal (f u) es) n q (spread q w n f es z) (spread-length q w n f es z ∙ lz) (λ u i hu hi. let e : u * n + n ≤ q * n = part-ends n q u hu in let k : u * n + i < q * n = omega (arith, e, hi) in spread-at q w n f hq hw hn u i hu hi es z (rw lz k) ∙ rw (getD-replicate {A = ℕ} (q * n) (u * n + i) 0 0 k) (zero-⊕ (rowTotal (f u) es i))) in
-    rw (reached q w n 0 hq hw hn h0, zeros-cleared (q * n) out h, spread-words q w n f es z (drop (2 * (q * n)) out) lz, b)
+    rw (reached q w n 0 hq hw hn h0, zeros-cleared (q * n) out h, spread-words q w n f es z (drop (2 * (q * n)) out) (length-replicate (q * n) 0), spread-zeros q w n f es hq hw hn)
 
 pub twice-in : (q n : ℕ) → q * (2 * n) ≡ 2 * (q * n)
 twice-in zero n = zero-mul (2 * n) ∙ sym (ap (λ (k : ℕ). 2 * k) (zero-mul n))

@@ -27,7 +27,7 @@ use Rattle.magnetar_inplace.proofs.RecordLaws.{matrix-of, batch-same}
 use Rattle.magnetar_inplace.proofs.RecordEnds.{turned-back, went-on}
 use Rattle.magnetar_inplace.proofs.LoginLaws.{packed-added, twice-in}
 
-flag-is : (n m w : ℕ) (es : List Entry) → every (bitUpTo w) (entriesOfRecords es) ≡ bitValued w (matrixOf (lentOf n m es))
+pub flag-is : (n m w : ℕ) (es : List Entry) → every (bitUpTo w) (entriesOfRecords es) ≡ bitValued w (matrixOf (lentOf n m es))
 unfolding bitValued
 flag-is n m w es = rw (matrix-of n m es)
 

@@ -2,3 +2,4 @@ pub mod Drawn
 pub mod Records
 pub mod Steps
 pub mod LoginSteps
+pub mod MaskSteps

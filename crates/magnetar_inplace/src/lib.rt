@@ -1,5 +1,6 @@
 // Thin functions above the core: the transcript changed in place, and matrices lent as slices of entry records.
 mod logins;
+mod masks;
 pub mod records;
 mod steps;
 pub mod transcript;

@@ -11,11 +11,13 @@ ghost use Rattle.magnetar_field.specs.Words.{elements};
 ghost use Rattle.magnetar_layout.specs.Every.{every};
 ghost use Rattle.magnetar_r1cs.specs.Matrix.{share, isBit, binary, bitValued, swapped, sumOver};
 ghost use Rattle.magnetar_r1cs.specs.Lent.{matrixOf};
-ghost use Rattle.magnetar_r1cs.specs.Entries.{applyRefusal, applyOut, binaryRefusal, flagged, flaggedOf, tableRefusal, tableOut, tableScratch, atAnswer, atScratch, packedRefusal, packedOut};
+ghost use Rattle.magnetar_r1cs.specs.Entries.{applyRefusal, applyOut, binaryRefusal, flagged, flaggedOf, tableRefusal, tableOut, tableScratch, atAnswer, atScratch, packedRefusal, packedOut, masksRefusal, masksOut};
 ghost use Rattle.magnetar_inplace.specs.Records.{entriesOfRecords, lentOf};
 ghost use Rattle.magnetar_inplace.specs.Steps.{liesIn, addedAll, pairShare, builtBehind, clearedTo};
 ghost use Rattle.magnetar_inplace.specs.LoginSteps.{zOf, bitUpTo, clearedBlocks, addedPacked};
+ghost use Rattle.magnetar_inplace.specs.MaskSteps.{flips, flippedAll};
 use crate::logins;
+use crate::masks;
 use crate::steps;
 use magnetar_field::gf128::Evaluated;
 use magnetar_field::gf128::Gf128;
@@ -285,4 +287,57 @@ pub fn apply_simd_packed(
     let go = steps::is_none(n);
     let b = write_packed(go, es, packed, x, q, w, rows, out);
     steps::flag_unless(n, b)
+}
+
+// Flips the bits of all records in the d blocks of n words, c bits in each.
+fn add_flips(es: &[Entry], packed: &[u64], w: usize, d: usize, c: usize, n: usize, out: &mut [u64])
+    ensures { λ _. ⌜ now (out .exit) ≡ flippedAll d w n (flips w (now (packed .entry)) d c) (entriesOfRecords (now (es .entry))) (now (out .entry)) ⌝ }
+{
+    let mut i = 0;
+    while i < es.len() {
+        masks::flip_record(packed, w, d, c, n, out, es[i]);
+        i += 1;
+    }
+}
+
+// The products of a batch's logins where all of them are 0 or 1, as masks: bit t of word low * rows + r is that of login
+// t * 2^(s - v) + low at row r, q being 2^s. Refuses 1, 2, 4 to 7; 12: a value exceeds 1 or a column exceeds w; 13: v is over s or
+// over 6; 15: too little room.
+pub fn apply_simd_bit_masks(
+    rows: usize,
+    cols: usize,
+    es: &[Entry],
+    packed: &[u64],
+    q: usize,
+    w: usize,
+    v: usize,
+    out: &mut [u64],
+) -> u32
+    ensures { λ r. ⌜ (r ≡ masksRefusal (lentOf rows cols (now (es .entry))) (now (packed .entry)) q w v (now (out .entry)))
+        × (now (out .exit) ≡ masksOut (lentOf rows cols (now (es .entry))) (now (packed .entry)) q w v (now (out .entry))) ⌝ }
+{
+    let inside = all_inside(es, rows, cols);
+    let bits = all_bits_upto(es, w);
+    let n = masks::masks_refusal(
+        rows,
+        cols,
+        es.len(),
+        inside,
+        bits,
+        packed.len(),
+        q,
+        w,
+        v,
+        out.len(),
+    );
+    let go = steps::is_none(n);
+    let d = masks::lows(q, v);
+    let c = masks::places_of(v);
+    if go {
+        masks::clear_masks(d, w, rows, out);
+        add_flips(es, packed, w, d, c, rows, out);
+        n
+    } else {
+        n
+    }
 }

@@ -1,0 +1,22 @@
+-- `magnetar_inplace::masks::places_of` meets its contract.
+-- Assumes nothing.
+use native.Mathlib.Omega.{arith}
+use borrow.Author.Tests.{le-leb, lt-leb}
+use Rattle.magnetar_inplace.specs.MaskSteps.{places}
+use borrow.Author.Needs.{needs}
+use Rattle.magnetar_inplace.proofs.masks.places_of.Statement.{statement}
+use Rattle.magnetar_inplace.proofs.masks.places_of.Tie as tie
+
+power-requires : tie.Need-power-requires
+power-requires c κs = search needs
+
+returns : tie.Need-returns
+unfolding places
+returns c = rw (le-leb (c .before .before .args .v) 6 (omega arith), c .power .ensures)
+
+returns-2 : tie.Need-returns-2
+unfolding places
+returns-2 c = rw (lt-leb (c .before .args .v) 6 (omega arith))
+
+pub places-of-spec : {M : Type 1} → statement M
+places-of-spec = tie.close (tie.spec power-requires returns returns-2)

@@ -1,0 +1,16 @@
+-- `magnetar_inplace::masks::power` meets its contract.
+-- Assumes nothing.
+use native.Mathlib.Nat.{mod-eq-of-lt, one-mul}
+use lib.Pow.{pow-lt}
+use borrow.Author.Needs.{needs}
+use Rattle.magnetar_inplace.proofs.masks.power.Statement.{statement}
+use Rattle.magnetar_inplace.proofs.masks.power.Tie as tie
+
+shl-result : tie.Need-shl-result
+shl-result c = search needs
+
+returns : tie.Need-returns
+returns c = rw one-mul (mod-eq-of-lt (pow-lt (c .pre)))
+
+pub power-spec : {M : Type 1} → statement M
+power-spec = tie.close (tie.spec shl-result returns)
