@@ -92,7 +92,7 @@ fault later-entry magnetar_r1cs/src/walk.rt 'words::put(out, k, gf128::add(v, e)
 # bits past the columns of a login are read
 fault upper-bits magnetar_batch/src/fold.rt 'return word % (1 << n);' 'return word;'
 # one round constant of the permutation
-fault round-constant magnetar_keccak/src/keccak.rt 0x8000000080008081 0x8000000080008080
+fault round-constant magnetar_keccak/src/keccak.rt 0x8000000080008000 0x8000000080008001
 # a label
 fault label magnetar_schedule/src/events.rt 'b"vs-vz"' 'b"vs-vx"'
 exit $missed
