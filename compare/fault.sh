@@ -79,7 +79,7 @@ if [ ${#wanted[@]} -eq 0 ]; then
     compared 10 1 || { cat "$copy/said"; echo "programs of the sources as they are differ"; exit 1; }
     echo "no fault: $(tail -n 1 "$copy/said")"
 fi
-# round one is checked, row rounds and inner rounds are waved on
+# round one is checked, row rounds and inner rounds are not checked
 fault later-rounds magnetar_checks/src/found.rt 'engine::sum_holds(msg, claim)' 'true'
 # the last identity compares low words only
 fault high-words magnetar_checks/src/end.rt 'if a.hi != b.hi {' 'if a.hi != a.hi {'
