@@ -47,7 +47,7 @@ module _ (p : matrix.Entry → Bool) (b : Bool) where
   carried-end r h = sym (and-true r) ∙ h
 
 -- ---- the matrix of the records
-entries-are : (es : List Entry)
+pub entries-are : (es : List Entry)
     → entriesOf (map (λ e. e .row) es) (map (λ e. e .col) es) (map (λ e. e .lo) es) (map (λ e. e .hi) es) ≡ entriesOfRecords es
 unfolding entriesOf
 entries-are [] = refl
@@ -57,7 +57,7 @@ pub matrix-of : (n m : ℕ) (es : List Entry) → matrixOf (lentOf n m es) ≡ r
 unfolding matrixOf lentOf
 matrix-of n m es = ap (λ (l : List matrix.Entry). record { rows = n; cols = m; entries = l }) (entries-are es)
 
-map-length : (f : Entry → ℕ) (es : List Entry) → length (map f es) ≡ length es
+pub map-length : (f : Entry → ℕ) (es : List Entry) → length (map f es) ≡ length es
 map-length f [] = refl
 map-length f (e ∷ es) = ap suc (map-length f es)
 
@@ -68,7 +68,7 @@ and-swap true false true d = refl
 and-swap true false false d = refl
 and-swap false b c d = refl
 
-inside-both : (n m : ℕ) (es : List Entry)
+pub inside-both : (n m : ℕ) (es : List Entry)
     → every (liesIn n m) (entriesOfRecords es) ≡ (allBelow n (map (λ e. e .row) es) && allBelow m (map (λ e. e .col) es))
 unfolding every
 inside-both n m [] = refl
@@ -81,7 +81,7 @@ note-late a b c z =
     let h : suc z ≡ 0 → ⊥ = λ e. omega (arith, e) in
     rw (note-kept 7 a (suc z) h, note-kept 7 b (suc z) h, note-kept 7 c (suc z) h)
 
-note-both : (a b : Bool) (z : ℕ) → note 7 (not (a && b)) z ≡ note 7 (not b) (note 7 (not a) z)
+pub note-both : (a b : Bool) (z : ℕ) → note 7 (not (a && b)) z ≡ note 7 (not b) (note 7 (not a) z)
 unfolding note
 note-both true b zero = refl
 note-both true b (suc z) = note-late (not b) false (not b) z
@@ -156,10 +156,10 @@ one-added n k v t r l =
     let b : 2 * n ≤ length (words t ++ r) = rw length-append (omega (arith, w)) in
     rw (le-leb _ _ b, take-at (words t) r (2 * n) w, drop-at (words t) r (2 * n) w, elements-words t)
 
-raised-none : (f : matrix.Entry → ℕ) (t : List ℕ) → t ≡ raised (rowTotal f []) t
+pub raised-none : (f : matrix.Entry → ℕ) (t : List ℕ) → t ≡ raised (rowTotal f []) t
 raised-none f t = walked-end f [] t t 0 (walked-start f [] t) refl
 
-raised-more : (f : matrix.Entry → ℕ) (e : matrix.Entry) (es : List matrix.Entry) (t : List ℕ)
+pub raised-more : (f : matrix.Entry → ℕ) (e : matrix.Entry) (es : List matrix.Entry) (t : List ℕ)
     → raised (rowTotal f es) (addedAt t (e .row) (f e)) ≡ raised (rowTotal f (e ∷ es)) t
 raised-more f e es t =
     let k = walked-more f (e ∷ es) t t 0 (walked-start f (e ∷ es) t) e refl in
