@@ -4,7 +4,7 @@
 #   parameters: &[T], &mut [number], &STRUCT and &mut STRUCT (read and stored whole, `*t`, and passed on), and numbers, bools, arrays and structs by value.  T: a number or a struct of plain data; for STRUCT also an array
 #   body: calls of functions whose contracts each have one `ensures` fact (and --ask for each call N whose callee requires one fact); results by value are kept in locals, passed on and returned; `s.len()` of a slice; an enum only as the result of the last call, and not beside a branch, which is too dear for the checker
 #   a local that is lent to a call: `&mut u` of a struct, `&es` of an array of structs, and `&es[..n]` with --part TERM, a proof of n ≤ its length (`pre`)
-#   one kind of branch: `if B { .. } else { .. }` on a bool of a local, not within another, each way ending with a value and not with a call that is lent a &mut slice; each way through has its own --final, in order, and knows b1: B ≡ true, or ≡ false
+#   one kind of branch: `if B { .. } else { .. }` on a bool of a local, not within another, each way ending with a value and not with a call that is lent a &mut slice; each way through has its own --final, in order, and knows b1: B ≡ true, or ≡ false (way1, where parameter 1 is lent to be changed)
 #   TERM may cite e1, e2, ..: what call 1, 2, .. ensures (numbered as they stand; what follows a branch is numbered once for each way); r1, r2, .. the results; `pre`, with --requires TYPE
 #   and the parameters: s1 (a &[T], `s1 .now`), ys1 (what a &mut [T] holds on entry), h1 (behind a &mut STRUCT), n1 (by value); ws1 .1 .0 for what call 1's argument 1 holds after it
 import sys, subprocess, re
@@ -442,7 +442,8 @@ def run(ss, top, isarm):
         save = (k.c, env, filled, cur, k.close)
         for arm, word in ((s[2], 'yes'), (s[3], 'no')):
             k.c = list(save[0]); env = dict(save[1]); filled = set(save[2]); cur = dict(save[3]); k.close = 0
-            k(f"(λ y{c_}. let b{c_} : {e[1]} ≡ {'true' if word == 'yes' else 'false'} = is-{word} ({e[1]}) y{c_} in ")
+            fact = f'way{c_}' if c_ <= m and K(c_) in 'MRP' else f'b{c_}'        # b1 is also where parameter 1 points
+            k(f"(λ y{c_}. let {fact} : {e[1]} ≡ {'true' if word == 'yes' else 'false'} = is-{word} ({e[1]}) y{c_} in ")
             run(flat(arm), 0, True)
             k(f'exec ! C Λ ({En}) Mir.t-{top + n + 1} (atRet ({En}) Post) $ {NL}')
             run(rest, top + n + 1, False)
@@ -508,7 +509,8 @@ for c, way, n in structs:
     w(f'use {hs}.declared.{d}.{{{n}}}\nuse {hp}.{d} as m{n}\nuse {hp}.{d}.Laws as l{n}')
 Msl = [j for j in idx if K(j) == 'M']
 if 'into !' in walk: w(f'use types.SemTy.{{Body}}\nuse types.Share.{{parts, arr-parts}}\nuse lib.ListN.{{take}}\nuse lib.Seq.{{length-take-le}}\nuse Prim.Native.Nat.{{_≤_}}\nuse types.Tokens.{{lent-back}}\nuse base.Fml.{{flent}}\nuse denote.Memory.{{cellAt, partAt, mem, shares}}\nuse denote.ArrayMemory.{{array-apart, array-whole}}\nuse denote.Lend.{{lends-ref, ref-back, lends-shr-slice}}\nuse Rattle.{crate}.proofs.Local.{{into, out, rest, cut, mend, room-of}}')
-if Msl: w(f'use Rattle.{crate}.proofs.Again.{{LentAgain, lends-again, comes-back}}')
+again = 'Rattle.magnetar_inplace.proofs' if crate == 'magnetar_inplace' else 'Rattle.magnetar_inplace.proofs'
+if Msl: w(f'use {again}.Again.{{LentAgain, lends-again, comes-back}}')
 for g in callees:
     c_, f_ = gm(g); base = f'Rattle.{c_}.proofs.{f_}' if c_ == crate else f'Rattle.{c_}.proofs.{f_}'
     w(f'use {base} as {gn[g]}\nuse {base}.Symbol as {gn[g]}-def\nuse {base}.Symbol.{{name as #{gn[g]}}}\nuse {base}.Met as {gn[g]}-thm')

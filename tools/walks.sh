@@ -1,11 +1,11 @@
 #!/bin/sh
-# Writes anew the proofs of magnetar_inplace and magnetar_forms that tools/thin.py and tools/each.py write. Run it in the repository's
-# root after a change of a walked function's code or contract, then `rt fmt` and `rt check` of the crate. Nobody has to trust the tools:
+# Writes anew the proofs of magnetar_inplace, magnetar_forms and magnetar_records that tools/thin.py and tools/each.py write. Run it in the
+# repository's root after a change of a walked function's code or contract, then `rt fmt` and `rt check` of the crate. Nobody has to trust the tools:
 # the checker checks what they write.
 set -e
 c=magnetar_inplace
 p=crates/$c/proofs
-each() { out=$1; shift; python3 tools/each.py $c $c::records::Entry 32 row,col,lo,hi "$@" > $p/$out.new && mv $p/$out.new $p/$out.antt; }
+each() { out=$1; shift; python3 tools/each.py $c magnetar_inplace::records::Entry 32 row,col,lo,hi "$@" > $p/$out.new && mv $p/$out.new $p/$out.antt; }
 thin() { f=$1; shift; d=$p/$(echo $f | sed 's/::/\//'); mkdir -p $d; python3 tools/thin.py $c $f "$@" > $d/new && mv $d/new $d/Proof.antt; }
 ends=Rattle.$c.proofs.RecordEnds
 packed=Rattle.$c.proofs.PackedEnds
@@ -65,3 +65,28 @@ thin lent::apply --requires 'n4 ≤ 32' --part pre --final e1
 thin lent::eval_mle_table --requires 'n4 ≤ 32' --part pre --final e1
 thin lent::eval_mle_at --requires 'n4 ≤ 32' --part pre --final e1
 thin lent::apply_simd_packed --requires 'n4 ≤ 32' --part pre --final e1
+
+# magnetar_records: the combined table and the verifier
+c=magnetar_records
+p=crates/$c/proofs
+ends=Rattle.$c.proofs
+six2='n2 n3 (s4 .now) n5 n6 (s7 .now) n8 n9 (s10 .now) n11 n12 (s13 .now) n14 n15 (s16 .now) n17 n18 (s19 .now)'
+six4='n4 n5 (s6 .now) n7 n8 (s9 .now) n10 n11 (s12 .now) n13 n14 (s15 .now) n16 n17 (s18 .now) n19 n20 (s21 .now)'
+six7='n7 n8 (s9 .now) n10 n11 (s12 .now) n13 n14 (s15 .now) n16 n17 (s18 .now) n19 n20 (s21 .now) n22 n23 (s24 .now)'
+each EachNNM NNM
+thin combo::add_matrix
+thin combo::combine
+thin combo::all_six
+thin combo::fill --final '(cc, cc)'
+thin combo::fill_unless --final '(refl, rw (← e1, b1) (e2 .0), rw (← e1, b1) (e2 .1))' --final '(refl, rw (← e1, b1) refl, rw (← e1, b1) refl)'
+thin combo::refused --use "$ends.ComboEnds.{combo-refused}" --final "combo-refused $six2 n1 (s20 .now) (s21 .now) (s22 .now) n23 n24 r1 r2 e1 e2"
+thin combo::build_m_combo --use "$ends.ComboEnds.{combo-ends}" \
+  --final "combo-ends $six4 n3 (s22 .now) (s23 .now) (s24 .now) ys1 ys2 r1 e1 r2 (ws2 .1 .0) (ws2 .1 .1 .0) e2"
+thin virtual_spartan::combine
+thin virtual_spartan::verify_in --use "$ends.StageLaws.{run-left}" \
+  --final 'run-left n4 n5 n7 n8 (s6 .now) (s15 .now) (s16 .now) h1 ys2 _ (ws1 .0) r2 (ws2 .0) (ws2 .1 .0) r3 r4 e1 e2 e3 e4'
+thin virtual_spartan::verify_unless --final 'rw (← e1, b1) e2' --final 'rw (← e1, b1) refl'
+thin virtual_spartan::refused --use "$ends.RunEnds.{verify-refused}" \
+  --final "verify-refused $six4 n1 n2 (s3 .now) (s22 .now) (s23 .now) n24 n25 n26 r1 r2 e1 e2"
+thin virtual_spartan::verify_virtual_spartan --use "$ends.RunEnds.{verify-ends}" \
+  --final "verify-ends $six7 n4 n5 (s6 .now) (s25 .now) (s26 .now) h1 ys2 ys3 r2 r1 e1 e2 r3 (ws3 .1 .0) (ws3 .1 .1 .0) (ws3 .1 .1 .1 .0) e3"

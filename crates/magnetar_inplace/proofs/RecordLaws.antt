@@ -156,10 +156,10 @@ one-added n k v t r l =
     let b : 2 * n ≤ length (words t ++ r) = rw length-append (omega (arith, w)) in
     rw (le-leb _ _ b, take-at (words t) r (2 * n) w, drop-at (words t) r (2 * n) w, elements-words t)
 
-raised-none : (f : matrix.Entry → ℕ) (t : List ℕ) → t ≡ raised (rowTotal f []) t
+pub raised-none : (f : matrix.Entry → ℕ) (t : List ℕ) → t ≡ raised (rowTotal f []) t
 raised-none f t = walked-end f [] t t 0 (walked-start f [] t) refl
 
-raised-more : (f : matrix.Entry → ℕ) (e : matrix.Entry) (es : List matrix.Entry) (t : List ℕ)
+pub raised-more : (f : matrix.Entry → ℕ) (e : matrix.Entry) (es : List matrix.Entry) (t : List ℕ)
     → raised (rowTotal f es) (addedAt t (e .row) (f e)) ≡ raised (rowTotal f (e ∷ es)) t
 raised-more f e es t =
     let k = walked-more f (e ∷ es) t t 0 (walked-start f (e ∷ es) t) e refl in

@@ -13,10 +13,10 @@ use Rattle.magnetar_field.specs.Entries.{eqOut}
 use Rattle.magnetar_inplace.specs.Steps.{front, between, builtBehind, clearedTo}
 
 -- what lies from k on
-rest-is : (k : ℕ) (s : List ℕ) → take (length s - k) (drop k s) ≡ drop k s
+pub rest-is : (k : ℕ) (s : List ℕ) → take (length s - k) (drop k s) ≡ drop k s
 rest-is k s = take-all (length s - k) (drop k s) (rw length-drop (omega arith))
 
-behind-is : (k : ℕ) (s t : List ℕ) → putMid k (length s - k) s t ≡ take k s ++ t
+pub behind-is : (k : ℕ) (s t : List ℕ) → putMid k (length s - k) s t ≡ take k s ++ t
 behind-is k s t =
     let e : drop (length s - k) (drop k s) ≡ [] = drop-of-length-le (drop k s) {i = length s - k} (rw length-drop (omega arith)) in
     rw (e, append-nil)

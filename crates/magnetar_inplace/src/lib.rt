@@ -2,5 +2,5 @@
 mod logins;
 mod masks;
 pub mod records;
-mod steps;
+pub mod steps;
 pub mod transcript;

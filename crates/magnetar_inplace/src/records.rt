@@ -32,7 +32,7 @@ pub struct Entry {
 }
 
 // Every record lies inside.
-fn all_inside(es: &[Entry], rows: usize, cols: usize) -> bool
+pub fn all_inside(es: &[Entry], rows: usize, cols: usize) -> bool
     ensures { λ r. ⌜ r ≡ every (liesIn rows cols) (entriesOfRecords (now (es .entry))) ⌝ }
 {
     let mut acc = true;

@@ -58,7 +58,7 @@ pub(crate) fn lone(rows: usize, cols: usize, n: usize, inside: bool) -> u32
 }
 
 // Nothing is refused.
-pub(crate) fn is_none(n: u32) -> bool
+pub fn is_none(n: u32) -> bool
     ensures { λ r. ⌜ r ≡ eqb n 0 ⌝ }
 {
     n == 0
@@ -97,7 +97,7 @@ pub(crate) fn apply_refusal(
 }
 
 // Clears the first n elements, where there are as many.
-pub(crate) fn clear_front(n: usize, out: &mut [u64])
+pub fn clear_front(n: usize, out: &mut [u64])
     ensures { λ _. ⌜ now (out .exit) ≡ clearedTo n (now (out .entry)) ⌝ }
 {
     if n <= out.len() / 2 {
@@ -107,7 +107,7 @@ pub(crate) fn clear_front(n: usize, out: &mut [u64])
 }
 
 // Adds v to element k of the first n, where there are as many.
-pub(crate) fn add_to(n: usize, k: usize, v: Gf128, out: &mut [u64])
+pub fn add_to(n: usize, k: usize, v: Gf128, out: &mut [u64])
     ensures { λ _. ⌜ now (out .exit) ≡ addedTo n k (value v) (now (out .entry)) ⌝ }
 {
     if n <= out.len() / 2 {
@@ -195,7 +195,7 @@ pub(crate) fn get_front(n: usize, s: &[u64], k: usize) -> Gf128
 }
 
 // Element k of the m behind the first n; 0 past their end.
-pub(crate) fn get_between(n: usize, m: usize, s: &[u64], k: usize) -> Gf128
+pub fn get_between(n: usize, m: usize, s: &[u64], k: usize) -> Gf128
     ensures { λ r. ⌜ value r ≡ between n m (now (s .entry)) k ⌝ }
 {
     if n <= s.len() / 2 {

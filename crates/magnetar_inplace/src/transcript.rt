@@ -39,14 +39,14 @@ pub fn absorb_digest(t: &mut Transcript, label: &[u8], d: &[u8; 32])
 }
 
 // The transcript of an answer.
-fn after(a: TranscriptAnswer) -> Transcript
+pub fn after(a: TranscriptAnswer) -> Transcript
     ensures { λ r. ⌜ r ≡ a .transcript ⌝ }
 {
     a.transcript
 }
 
 // The number of an answer.
-fn number(a: TranscriptAnswer) -> u32
+pub fn number(a: TranscriptAnswer) -> u32
     ensures { λ r. ⌜ r ≡ a .code ⌝ }
 {
     a.code

@@ -134,7 +134,7 @@ module _ (R : Rules) (P : Ready R) (x w d : List ℕ) (t : Transcript) (claim ro
       let b = answer-later R x w t (l .code) (l .events) (sym (ap (λ (i : Found). i .code) q) ∙ z) (ap (λ (i : Found). i .code) p) (ap (λ (i : Found). i .events) p) h in
       (g .0 ∙ b .0, g .1 ∙ b .1, kept (l .code) c (b .0) h)
 
-  claims-none : (c : List ℕ) → length c ≡ claimWords R → claimsRefusal (R .m) (R .q) (R .bin .a .rows) (R .fld .a .rows) (R .lengths) w d c ≡ 0
+  claims-none : (c : List ℕ) → claimWords R ≤ length c → claimsRefusal (R .m) (R .q) (R .bin .a .rows) (R .fld .a .rows) (R .lengths) w d c ≡ 0
   unfolding claimsRefusal
   claims-none c h =
       noted-none (segmentTests (R .lengths) ++ (drawTests o d ++ (roomTest (2 * claimCount o) c ++ proofTests o w))) (
@@ -152,7 +152,7 @@ module _ (R : Rules) (P : Ready R) (x w d : List ℕ) (t : Transcript) (claim ro
       → f ≡ outerFound (R .m) (R .q) (R .bin .a .rows) (R .fld .a .rows) (R .lengths) w d → f .code ≡ 0
       → l ≡ endFound (R .m) (R .q) (R .bin .a .rows) (R .fld .a .rows) (R .lengths) x w d s → 4 * R .m ≤ length s
       → take (R .m) (elements s) ≡ combined (relationOf R) (drawsOf (relationOf R) (elements d)) → l .code ≡ 0
-      → length c ≡ claimWords R → c′ ≡ claimsOut (R .m) (R .q) (R .bin .a .rows) (R .fld .a .rows) (R .lengths) w d c
+      → claimWords R ≤ length c → c′ ≡ claimsOut (R .m) (R .q) (R .bin .a .rows) (R .fld .a .rows) (R .lengths) w d c
       → length (schedule o) ≤ k → u ≡ after R x w t k → Left R x w t (record { code = 0; transcript = u }) c c′
   unfolding firstFound verifyClaims claimsOut
   out-none f l c c′ s u k e z m hs hc y lc g hk hu =

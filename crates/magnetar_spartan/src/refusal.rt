@@ -330,7 +330,7 @@ fn prove_rooms(
 }
 
 // Every refusal of the verifier but those of its checks; claims and scratch are numbers of words, n is the transcript's counter.
-pub(crate) fn verify(
+pub fn verify(
     m: usize,
     q: usize,
     lens: &[usize],
@@ -447,7 +447,7 @@ pub(crate) fn verify(
 }
 
 // Every refusal of the prover; words, claims and scratch are numbers of words, n is the transcript's counter.
-pub(crate) fn prove(
+pub fn prove(
     m: usize,
     q: usize,
     lens: &[usize],

@@ -23,7 +23,7 @@ ghost use Rattle.magnetar_spartan.specs.Outcome.{proved, proveOutcome, v
 ghost use Rattle.magnetar_protocol.specs.RealRun.{verifierTranscript};
 
 // The answer of a run that a check stops: its transcript has played the events before that check.
-fn stopped(
+pub fn stopped(
     m: usize,
     q: usize,
     rb: usize,

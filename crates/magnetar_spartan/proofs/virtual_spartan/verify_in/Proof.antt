@@ -119,7 +119,7 @@ returns-3 c =
     out-none (rel s) (s .pre .0) (now (x .x)) (now (x .proof)) (draws p) (x .t) _ _ (ready p) (drawn p)
     (c .before .before .before .before .before .before .before .before .before .before .before .before .before .before .before .before .before .before .before .outer-checks .result) (c .before .before .before .before .before .before .before .before .before .end-checks .result) (now (x .claims)) (c .before .before .write-claims .last .1 .1 .1 .1 .1 .1 .1 .0) (k .combine .last .0) (p .play .result) 65536
     (c .before .before .before .before .before .before .before .before .before .before .before .before .before .before .before .before .before .before .before .outer-checks .ensures) (c .before .before .before .before .before .before .before .before .before .before .before .before .before .before .before .before .before .if1 .left) (c .before .before .before .before .before .before .before .before .before .end-checks .ensures .0) (room k) (k .combine .ensures) (c .before .before .before .before .before .if2 .left)
-    (s .pre .1 .claims) (c .before .before .write-claims .ensures .1) (schedule-small (rel s) (s .pre .0)) (p .play .ensures .0)
+    (omega (arith, s .pre .1 .claims)) (c .before .before .write-claims .ensures .1) (schedule-small (rel s) (s .pre .0)) (p .play .ensures .0)
 
 pub verify-in-spec : {M : Type 1} → statement M
 verify-in-spec =

@@ -1,0 +1,6 @@
+pub mod TableWalk
+pub mod NumberLaws
+pub mod StageLaws
+pub mod ComboEnds
+pub mod RunEnds
+pub mod EachNNM

@@ -1,0 +1,399 @@
+-- How the verifier over records ends: what its stages gave is the core's outcome for the matrices that are lent.
+-- Assumes nothing.
+use mathlib.Core.Path.{_≡_, refl, sym, ap, ap₂, _∙_, subst}
+use mathlib.Core.Bool.{Bool, true, false, cond, false≢true}
+use mathlib.Core.List.{List, [], _++_, append-assoc}
+use Prim.Native.Nat.{ℕ, zero, suc, _+_, _-_, _*_, _/_, _^_, _≤_, _<_, min, max}
+use lib.Pow.{pow-mono}
+use native.Mathlib.Nat.{lt-of-not-le}
+use native.Mathlib.Omega.{arith}
+use lib.Dec.{eqb}
+use lib.ListN.{length, take, drop, replicate, length-append, length-take, length-drop, length-replicate}
+use lib.Seq.{take-all, take-take, take-append-le, drop-append-le, drop-append-add, drop-drop, length-take-le}
+use borrow.Author.Tests.{eqb-true, ne-eqb, eq-eqb, le-leb}
+use Rattle.magnetar_field.specs.Sizes.{log₂}
+use Rattle.magnetar_field.specs.Words.{elements, words, overlaid}
+use Rattle.magnetar_field.proofs.Elements.{overlaid-same}
+use Rattle.magnetar_r1cs.proofs.Points.{log-most}
+use Rattle.magnetar_layout.specs.Every.{every}
+use Rattle.magnetar_hash.specs.declared.transcript.Transcript.{Transcript}
+use Rattle.magnetar_hash.specs.declared.transcript.TranscriptAnswer.{TranscriptAnswer}
+use Rattle.magnetar_layout.specs.Lent.{lent}
+use Rattle.magnetar_layout.proofs.SizeLaws.{Sized}
+use Rattle.magnetar_layout.specs.Tests.{Tests, noted, sizeTests, publicTests, layoutTests}
+use Rattle.magnetar_batch.specs.Systems.{Lent3, system, colTests3, counted3, placed3, systemsTests, pointTests}
+use Rattle.magnetar_batch.specs.Entries.{comboRefusal, comboIn, comboWords}
+use Rattle.magnetar_batch.proofs.SystemLaws.{Fits6, fits6}
+use Rattle.magnetar_batch.proofs.Combos.{combo-length}
+use Rattle.magnetar_protocol.specs.Draws.{drawCount, drawsOf}
+use Rattle.magnetar_protocol.specs.Schedule.{outline, schedule}
+use Rattle.magnetar_protocol.specs.Play.{Played, heard}
+use Rattle.magnetar_protocol.specs.Checks.{combined}
+use Rattle.magnetar_protocol.specs.RealRun.{verifierDraws}
+use Rattle.magnetar_checks.specs.declared.found.Found.{Found}
+use Rattle.magnetar_checks.specs.Outer.{outerFound}
+use Rattle.magnetar_checks.specs.End.{endRefusal, endFound, endRoom}
+use Rattle.magnetar_spartan.specs.Rules.{Rules, rules, relationOf}
+use Rattle.magnetar_spartan.specs.Refusals.{verifyTests, systemRows, counterTests, roomOf, wordTests, proofWords, claimWords, verifierRoom}
+use Rattle.magnetar_spartan.specs.Ready.{Ready, VerifyReady}
+use Rattle.magnetar_spartan.specs.Outcome.{verifyRefusal, verifyOutcome}
+use Rattle.magnetar_spartan.proofs.Combining.{combo-none, combined-front, combined-is, part-length}
+use Rattle.magnetar_spartan.proofs.Verifying.{sizesOf, heard-all, drawn-words, schedule-small}
+use Rattle.magnetar_spartan.proofs.VerifyRun.{Left, out-outer, out-later, out-none}
+use Rattle.magnetar_spartan.proofs.Ended.{Verifiable, verifiable, draws-small, verify-turned}
+use Rattle.magnetar_inplace.specs.declared.records.Entry.{Entry}
+use Rattle.magnetar_inplace.specs.Records.{entriesOfRecords, lentOf}
+use Rattle.magnetar_inplace.specs.Steps.{clearedTo}
+use Rattle.magnetar_records.specs.Steps.{pointIn}
+use Rattle.magnetar_records.specs.Numbers.{joined, countedOf}
+use Rattle.magnetar_records.specs.Stages.{drawnOver, playedTo, stopOf, stopAnswer, stopClaims, stopRoom, noDraws, binAt, fldAt, alphasAt, window, roomElements, runTable, leftAt, verifyLeft}
+use Rattle.magnetar_records.specs.Outcome.{inPlace}
+use Rattle.magnetar_records.proofs.NumberLaws.{binOf, fldOf, insideOf, counted-is, joined-is, skipped}
+use Rattle.magnetar_records.proofs.ComboEnds.{first, table-is}
+
+-- ---- the room
+-- words as many as s, which are those of s from word k on
+pub record Beyond (k : ℕ) (s u : List ℕ) : Type 0 where
+  pub long : length u ≡ length s
+  pub rest : drop k u ≡ drop k s
+
+cleared-room : (k n : ℕ) (s u : List ℕ) → 2 * n ≡ k → k ≤ length s → Beyond k s u → clearedTo n u ≡ replicate k 0 ++ drop k s
+unfolding clearedTo
+cleared-room k n s u e h b =
+    let d : k ≤ length u = omega (arith, h, b .long) in
+    rw (e, le-leb k (length u) d, b .rest)
+
+-- words in front, of which k or fewer are changed
+in-front : (k : ℕ) (s t r : List ℕ) → length t ≤ k → length t + length r ≡ length s → r ≡ drop (length t) s → Beyond k s (t ++ r)
+in-front k s t r h l e =
+    let j : length t + (k - length t) ≡ k = omega arith in
+    record {
+      long = length-append t r ∙ l;
+      rest = past (k - length t) (sym j) ∙ (ap (drop (k - length t)) e ∙ (drop-drop (k - length t) (length t) s ∙ ap (λ (i : ℕ). drop i s) j));
+    }
+  where
+    past : (j : ℕ) → k ≡ length t + j → drop k (t ++ r) ≡ drop j r
+    past j q = ap (λ (i : ℕ). drop i (t ++ r)) q ∙ drop-append-add t r j
+
+-- ---- what the checks leave, whatever they find
+module _ (R : Rules) (P : Ready R) (x w d : List ℕ) (t : Transcript) (c s u : List ℕ)
+    (L : VerifyReady R (length x) (length w) (claimWords R) (verifierRoom R) (length d)) (drawn : d ≡ words (verifierDraws (relationOf R) (elements w) t))
+    (hc : claimWords R ≤ length c) (hs : verifierRoom R ≤ length s) (b : Beyond (verifierRoom R) s u)
+    (table : take (R .m) (elements u) ≡ combined (relationOf R) (drawsOf (relationOf R) (elements d))) where
+  abbrev F : Found
+  F = outerFound (R .m) (R .q) (R .bin .a .rows) (R .fld .a .rows) (R .lengths) w d
+
+  abbrev G : Found
+  G = endFound (R .m) (R .q) (R .bin .a .rows) (R .fld .a .rows) (R .lengths) x w d u
+
+  room : 4 * R .m ≤ length u
+  room = omega (arith, hs, b .long)
+
+  abbrev Stopped : Found → Type 0
+  Stopped g =
+      Left R x w t (stopAnswer (R .m) (R .q) (R .bin .a .rows) (R .fld .a .rows) (R .lengths) w t g) c
+      (stopClaims (R .m) (R .q) (R .bin .a .rows) (R .fld .a .rows) (R .lengths) w d g c)
+
+  abbrev answerAt : ℕ → ℕ → TranscriptAnswer
+  answerAt n k = record { code = n; transcript = playedTo (R .m) (R .q) (R .bin .a .rows) (R .fld .a .rows) (R .lengths) w t k }
+
+  at-outer : (F .code ≡ 0 → ⊥) → Stopped F
+  at-outer h = rw (ne-eqb (F .code) 0 h) (out-outer R P x w d t _ _ L drawn F (answerAt (F .code) (F .events)) c refl h (refl, refl))
+
+  at-later : F .code ≡ 0 → (G .code ≡ 0 → ⊥) → Stopped G
+  at-later z h = rw (ne-eqb (G .code) 0 h) (out-later R P x w d t _ _ L drawn F G (answerAt (G .code) (G .events)) c u refl z refl room table h (refl, refl))
+
+  at-none : F .code ≡ 0 → G .code ≡ 0 → Stopped G
+  at-none z e =
+      rw (eq-eqb (G .code) 0 e, e) (out-none R P x w d t _ _ L drawn F G c _ u _ 65536 refl z refl room table e hc refl (schedule-small R P) refl)
+
+  abbrev found : Found
+  found = stopOf (R .m) (R .q) (R .bin .a .rows) (R .fld .a .rows) (R .lengths) x w d u
+
+  is-outer : (F .code ≡ 0 → ⊥) → F ≡ found
+  is-outer h = rw (ne-eqb (F .code) 0 h)
+
+  is-later : F .code ≡ 0 → G ≡ found
+  is-later z = rw (eq-eqb (F .code) 0 z)
+
+  stops : Stopped found
+  stops = go (F .code) (G .code) refl refl
+    where
+      go : (k j : ℕ) → F .code ≡ k → G .code ≡ j → Stopped found
+      go (suc k) j e f = let h : F .code ≡ 0 → ⊥ = λ z. omega (arith, e, z) in subst Stopped (is-outer h) (at-outer h)
+      go zero (suc j) e f = let h : G .code ≡ 0 → ⊥ = λ z. omega (arith, f, z) in subst Stopped (is-later e) (at-later e h)
+      go zero zero e f = subst Stopped (is-later e) (at-none e f)
+
+  room-after : Beyond (verifierRoom R) s (stopRoom (R .m) (R .q) (R .bin .a .rows) (R .fld .a .rows) (R .lengths) x w d u)
+  unfolding endRoom
+  room-after = go (eqb (F .code) 0) (eqb (endRefusal (sizesOf R) x w d u) 0) refl refl
+    where
+      after-end : Beyond (verifierRoom R) s (replicate (4 * R .m) 0 ++ drop (4 * R .m) u)
+      after-end =
+          let l : length (replicate {A = ℕ} (4 * R .m) 0) ≡ 4 * R .m = length-replicate (4 * R .m) 0 in
+          let f = in-front (verifierRoom R) u (replicate (4 * R .m) 0) (drop (4 * R .m) u) (omega (arith, l)) (rw (l, length-drop) (omega (arith, room))) (ap (λ (i : ℕ). drop i u) (sym l)) in
+          record { long = f .long ∙ b .long; rest = f .rest ∙ b .rest }
+
+      go : (p q : Bool) → eqb (F .code) 0 ≡ p → eqb (endRefusal (sizesOf R) x w d u) 0 ≡ q
+          → Beyond (verifierRoom R) s (stopRoom (R .m) (R .q) (R .bin .a .rows) (R .fld .a .rows) (R .lengths) x w d u)
+      go false q e f = rw e b
+      go true false e f = rw (e, f) b
+      go true true e f = rw (e, f) after-end
+
+  pub left-is : verifyRefusal R x w t c s ≡ 0
+      → leftAt (R .m) (R .q) (R .bin .a .rows) (R .fld .a .rows) (R .lengths) x w d t c u ≡ verifyOutcome R x w t c s
+  unfolding verifyOutcome
+  left-is z =
+      let l = stops in
+      let r = cleared-room (verifierRoom R) (roomElements (R .m) (R .bin .a .rows) (R .fld .a .rows)) s _ (omega arith) hs room-after in
+      rw (z, ← l .0, ← l .1, ← l .2, r)
+
+-- ---- windows of the draws, which stand in front of 256 words
+module _ (d : List ℕ) (few : length d ≤ 256) where
+  abbrev behind : List ℕ
+  behind = drop (length d) (replicate 256 0)
+
+  over : overlaid d (replicate 256 0) ≡ d ++ behind
+  unfolding overlaid
+  over = ap (λ (u : List ℕ). u ++ behind) (take-all (length (replicate {A = ℕ} 256 0)) d (omega (arith, length-replicate {A = ℕ} 256 0)))
+
+  all-words : length (d ++ behind) ≡ 256
+  all-words = rw (length-append, length-drop) (omega (arith, length-replicate {A = ℕ} 256 0))
+
+  window-part : (n k : ℕ) → k + n ≤ 256 → window n k (overlaid d (replicate 256 0)) ≡ take n (drop k (d ++ behind))
+  window-part n k h =
+      let e : min k (256 - n) ≡ k = omega arith in
+      let x : length (take n (drop k (d ++ behind))) ≡ n = length-take-le n (drop k (d ++ behind)) (rw length-drop (omega (arith, all-words))) in
+      rw (over, e) (overlaid-same (take n (drop k (d ++ behind))) (replicate n 0) (length-replicate n 0 ∙ sym x))
+
+  pub window-read : (n k l : ℕ) → l ≤ n → k + n ≤ 256 → k + l ≤ length d → take l (window n k (overlaid d (replicate 256 0))) ≡ take l (drop k d)
+  window-read n k l h f g =
+      ap (take l) (window-part n k f)
+      ∙ (take-take l n (drop k (d ++ behind)) h
+      ∙ (ap (take l) (drop-append-le k d behind (omega arith)) ∙ take-append-le l (drop k d) behind (rw length-drop (omega arith))))
+
+  pub window-whole : (n k : ℕ) → k + n ≤ 256 → k + n ≤ length d → window n k (overlaid d (replicate 256 0)) ≡ take n (drop k d)
+  window-whole n k f g =
+      window-part n k f ∙ (ap (take n) (drop-append-le k d behind (omega arith)) ∙ take-append-le n (drop k d) behind (rw length-drop (omega arith)))
+
+pub log-few : {n : ℕ} → Sized 1 4096 n → log₂ n ≤ 12
+log-few {n} z = below (log₂ n) (rw (← z .power) (z .high))
+  where
+    below : (k : ℕ) → 2 ^ k ≤ 4096 → k ≤ 12
+    below k h = let b : k < 13 = lt-of-not-le (λ l. omega (arith, h, pow-mono {i = 13} {j = k} l)) in omega arith
+
+pub overlaid-length : (a d : List ℕ) → length (overlaid a d) ≡ length d
+unfolding overlaid
+overlaid-length a d = rw (length-append, length-take, length-drop) (omega arith)
+
+-- ---- the rules that are lent as records
+module _ (n₁ m₁ : ℕ) (ab : List Entry) (n₂ m₂ : ℕ) (bb : List Entry) (n₃ m₃ : ℕ) (cb : List Entry) (n₄ m₄ : ℕ) (af : List Entry) (n₅ m₅ : ℕ) (bf : List Entry) (n₆ m₆ : ℕ) (cf : List Entry) (m q : ℕ) (ns : List ℕ) where
+  abbrev S : Lent3
+  S = binOf n₁ m₁ ab n₂ m₂ bb n₃ m₃ cb n₄ m₄ af n₅ m₅ bf n₆ m₆ cf
+
+  abbrev T : Lent3
+  T = fldOf n₁ m₁ ab n₂ m₂ bb n₃ m₃ cb n₄ m₄ af n₅ m₅ bf n₆ m₆ cf
+
+  abbrev R : Rules
+  R = rules m q ns S T
+
+  abbrev bare : Rules
+  bare = rules m q ns (system (lent n₁ m₁ [] [] [] []) (lent n₂ m₂ [] [] [] []) (lent n₃ m₃ [] [] [] [])) (system (lent n₄ m₄ [] [] [] []) (lent n₅ m₅ [] [] [] []) (lent n₆ m₆ [] [] [] []))
+
+  -- the tests before 6 and 7, and those behind
+  abbrev early : List ℕ → Tests
+  early x =
+      sizeTests m q ++ (publicTests m x ++ (systemRows q n₁ n₂ n₃ ++ (systemRows q n₄ n₅ n₆ ++ (colTests3 m m₁ m₂ m₃ ++ colTests3 m m₄ m₅ m₆))))
+
+  abbrev afterwards : List ℕ → ℕ → ℕ → ℕ → Tests
+  afterwards w n c s =
+      layoutTests (m / 2) ns ++ (counterTests n ++ (roomOf (claimWords bare) c ++ (roomOf (verifierRoom bare) s ++ wordTests (proofWords bare) w)))
+
+  abbrev placesOf : Rules → Tests
+  placesOf Q = counted3 (Q .bin) ++ (counted3 (Q .fld) ++ (placed3 (Q .bin) ++ placed3 (Q .fld)))
+
+  bare-is : (x w : List ℕ) (n c s : ℕ) → noted 0 (verifyTests bare x w n c s) ≡ noted 0 (early x ++ afterwards w n c s)
+  unfolding every
+  bare-is x w n c s = skipped (early x) (placesOf bare) (afterwards w n c s) (refl, (refl, (refl, (refl, (refl, (refl, (refl, (refl, (refl, (refl, (refl, (refl, (refl, (refl, (refl, (refl, (refl, (refl, (refl, (refl, (refl, (refl, (refl, (refl, (refl, (refl, (refl, (refl, (refl, (refl, (refl, (refl, (refl, (refl, (refl, (refl, tt))))))))))))))))))))))))))))))))))))
+
+  whole-is : (x w : List ℕ) (n c s : ℕ) → noted 0 (early x ++ (placesOf R ++ afterwards w n c s)) ≡ noted 0 (verifyTests R x w n c s)
+  unfolding lentOf
+  whole-is x w n c s = refl
+
+  pub verify-refused : (x w : List ℕ) (n c s : ℕ) (within : Bool) (k : ℕ) → within ≡ insideOf n₁ m₁ ab n₂ m₂ bb n₃ m₃ cb n₄ m₄ af n₅ m₅ bf n₆ m₆ cf
+      → k ≡ joined (noted 0 (verifyTests bare x w n c s)) (noted 0 (countedOf (length ab) (length bb) (length cb) (length af) (length bf) (length cf) within)) → k ≡ noted 0 (verifyTests R x w n c s)
+  verify-refused x w n c s within k i e =
+      e ∙ (rw (i, bare-is x w n c s, counted-is n₁ m₁ ab n₂ m₂ bb n₃ m₃ cb n₄ m₄ af n₅ m₅ bf n₆ m₆ cf)
+      (joined-is (early x) (placesOf R) (afterwards w n c s) refl refl) ∙ whole-is x w n c s)
+
+  module _ (x w : List ℕ) (t : Transcript) (c s : List ℕ) (k n : ℕ) (en : n ≡ t .«squeeze_ctr»)
+      (e : k ≡ noted 0 (verifyTests R x w n (length c) (length s))) where
+    refusal-is : k ≡ verifyRefusal R x w t c s
+    unfolding verifyRefusal
+    refusal-is = e ∙ rw en
+
+    verify-back : eqb k 0 ≡ false → inPlace k t c s ≡ verifyOutcome R x w t c s
+    verify-back b = verify-turned R x w t c s k refusal-is (λ z. some k z b)
+      where
+        some : (n : ℕ) → n ≡ 0 → eqb n 0 ≡ false → ⊥
+        some n z f = false≢true (sym f ∙ eq-eqb n 0 z)
+
+    -- ---- nothing refuses it
+    module _ (b : eqb k 0 ≡ true) where
+      none : verifyRefusal R x w t c s ≡ 0
+      none = sym refusal-is ∙ eqb-true k 0 b
+
+      ok : Verifiable R x w (length c) (length s)
+      unfolding verifyRefusal
+      ok = verifiable R x w (t .«squeeze_ctr») (length c) (length s) none
+
+      -- the draws
+      abbrev W : List ℕ
+      W = words (heard (elements w) (take 65536 (schedule (outline m q n₁ n₄ ns))) t .draws)
+
+      abbrev D : List ℕ
+      D = drawnOver m q n₁ n₄ ns w t (noDraws m q n₁ n₄)
+
+      no-draws : length (noDraws m q n₁ n₄) ≡ 2 * drawCount (outline m q n₁ n₄ ns)
+      unfolding lentOf
+      no-draws =
+          let h : 2 * drawCount (outline m q n₁ n₄ ns) ≤ 256 = draws-small R (ok .ready) in
+          length-replicate (min (2 * drawCount (outline m q n₁ n₄ [])) 256) 0 ∙ omega arith
+
+      draws-are : D ≡ words (verifierDraws (relationOf R) (elements w) t)
+      unfolding lentOf
+      draws-are = drawn-words R (elements w) t 65536 (noDraws m q n₁ n₄) D (schedule-small R (ok .ready)) no-draws refl
+
+      words-are : W ≡ words (verifierDraws (relationOf R) (elements w) t)
+      unfolding verifierDraws lentOf
+      words-are = ap (λ (p : Played). words (p .draws)) (heard-all R (elements w) t 65536 (schedule-small R (ok .ready)))
+
+      same : D ≡ W
+      same = draws-are ∙ sym words-are
+
+      long : length D ≡ 2 * drawCount (outline m q n₁ n₄ ns)
+      long = overlaid-length W (noDraws m q n₁ n₄) ∙ no-draws
+
+      W-long : length W ≡ 2 * (log₂ q + log₂ n₁ + (log₂ q + log₂ n₄ + (log₂ q + (log₂ n₁ + (log₂ n₄ + (6 + log₂ m))))))
+      W-long = sym (ap length same) ∙ long
+
+      small : length W ≤ 256
+      unfolding lentOf
+      small = let h : 2 * drawCount (outline m q n₁ n₄ ns) ≤ 256 = draws-small R (ok .ready) in omega (arith, ap length same, long)
+
+      abbrev all : List ℕ
+      all = drawnOver m q n₁ n₄ ns w t (replicate 256 0)
+
+      -- the alphas and the points
+      abbrev al : List ℕ
+      al = window 12 (alphasAt q n₁ n₄) all
+
+      abbrev pb : List ℕ
+      pb = take (2 * log₂ n₁) (drop (binAt q n₁ n₄) D)
+
+      abbrev pf : List ℕ
+      pf = take (2 * log₂ n₄) (drop (fldAt q n₁ n₄) D)
+
+      record Logs : Type 0 where
+        q-most : log₂ q ≤ 12
+        b-most : log₂ n₁ ≤ 16
+        f-most : log₂ n₄ ≤ 16
+
+      logs : Logs
+      unfolding lentOf
+      logs =
+          let r = ok .ready in record {
+            q-most = log-few (r .logins);
+            b-most = log-most n₁ (r .fine .bin .rows .high) (r .fine .bin .rows .power);
+            f-most = log-most n₄ (r .fine .fld .rows .high) (r .fine .fld .rows .power);
+          }
+
+      al-is : al ≡ take 12 (drop (alphasAt q n₁ n₄) D)
+      al-is =
+          let l = logs in
+          window-whole W small 12 (alphasAt q n₁ n₄) (omega (arith, l .q-most, l .b-most, l .f-most)) (omega (arith, W-long))
+          ∙ ap (λ (u : List ℕ). take 12 (drop (alphasAt q n₁ n₄) u)) (sym same)
+
+      pb-is : pointIn n₁ (window 32 (binAt q n₁ n₄) all) ≡ pb
+      pb-is =
+          let l = logs in
+          let e : min (2 * log₂ n₁) 32 ≡ 2 * log₂ n₁ = omega (arith, l .b-most) in
+          rw e (window-read W small 32 (binAt q n₁ n₄) (2 * log₂ n₁) (omega (arith, l .b-most)) (omega (arith, l .q-most, l .b-most, l .f-most)) (omega (arith, W-long))
+          ∙ ap (λ (u : List ℕ). take (2 * log₂ n₁) (drop (binAt q n₁ n₄) u)) (sym same))
+
+      pf-is : pointIn n₄ (window 32 (fldAt q n₁ n₄) all) ≡ pf
+      pf-is =
+          let l = logs in
+          let e : min (2 * log₂ n₄) 32 ≡ 2 * log₂ n₄ = omega (arith, l .f-most) in
+          rw e (window-read W small 32 (fldAt q n₁ n₄) (2 * log₂ n₄) (omega (arith, l .f-most)) (omega (arith, l .q-most, l .b-most, l .f-most)) (omega (arith, W-long))
+          ∙ ap (λ (u : List ℕ). take (2 * log₂ n₄) (drop (fldAt q n₁ n₄) u)) (sym same))
+
+      D-long : length D ≡ 2 * (log₂ q + log₂ n₁ + (log₂ q + log₂ n₄ + (log₂ q + (log₂ n₁ + (log₂ n₄ + (6 + log₂ m))))))
+      D-long = long
+
+      al-long : length al ≡ 12
+      al-long = part-length (alphasAt q n₁ n₄) 12 D al al-is (omega (arith, D-long))
+
+      pb-long : length pb ≡ 2 * log₂ n₁
+      pb-long = part-length (binAt q n₁ n₄) (2 * log₂ n₁) D pb refl (omega (arith, D-long))
+
+      pf-long : length pf ≡ 2 * log₂ n₄
+      pf-long = part-length (fldAt q n₁ n₄) (2 * log₂ n₄) D pf refl (omega (arith, D-long))
+
+      enough : 2 * m + 2 * max n₁ n₄ ≤ length s
+      unfolding lentOf
+      enough = omega (arith, ok .scratch)
+
+      combo-fine : comboRefusal m S T al pb pf (length s) ≡ 0
+      unfolding lentOf
+      combo-fine = combo-none R (ok .ready) al pb pf (length s) al-long pb-long pf-long enough
+
+      fits : Fits6 m S T
+      unfolding comboRefusal
+      fits = fits6 m S T (first (systemsTests m S T) (pointTests m (S .a .rows) (T .a .rows) al pb pf (length s)) combo-fine)
+
+      -- the table
+      abbrev U : List ℕ
+      U = runTable m q n₁ n₄ ns w t (entriesOfRecords ab) (entriesOfRecords bb) (entriesOfRecords cb) (entriesOfRecords af) (entriesOfRecords bf) (entriesOfRecords cf) s
+
+      table : U ≡ comboWords m S T al pb pf ++ (replicate (2 * max n₁ n₄) 0 ++ drop (2 * m + 2 * max n₁ n₄) s)
+      table = table-is n₁ m₁ ab n₂ m₂ bb n₃ m₃ cb n₄ m₄ af n₅ m₅ bf n₆ m₆ cf m al pb pf (window 32 (binAt q n₁ n₄) all) (window 32 (fldAt q n₁ n₄) all) s fits al-long pb-is pf-is pb-long pf-long enough
+
+      table-in : U ≡ comboIn m S T al pb pf s
+      unfolding comboIn lentOf
+      table-in = table ∙ rw combo-fine
+
+      combined-table : take m (elements U) ≡ combined (relationOf R) (drawsOf (relationOf R) (elements D))
+      unfolding lentOf
+      combined-table =
+          combined-front R (ok .ready) al pb pf s U combo-fine table-in
+          ∙ combined-is R D al pb pf (log₂ q) (log₂ n₁) (log₂ n₄) (binAt q n₁ n₄) (fldAt q n₁ n₄) (alphasAt q n₁ n₄) refl refl refl refl refl refl al-is refl refl
+
+      beyond : Beyond (verifierRoom R) s U
+      unfolding lentOf
+      beyond =
+          let l : length (comboWords m S T al pb pf ++ replicate (2 * max n₁ n₄) 0) ≡ 2 * m + 2 * max n₁ n₄ =
+          length-append (comboWords m S T al pb pf) (replicate (2 * max n₁ n₄) 0) ∙ ap₂ _+_ (combo-length m S T al pb pf fits) (length-replicate (2 * max n₁ n₄) 0) in
+          subst (Beyond (verifierRoom R) s) (sym (table ∙ sym (append-assoc (comboWords m S T al pb pf) (replicate (2 * max n₁ n₄) 0) (drop (2 * m + 2 * max n₁ n₄) s))))
+          (in-front (verifierRoom R) s (comboWords m S T al pb pf ++ replicate (2 * max n₁ n₄) 0) (drop (2 * m + 2 * max n₁ n₄) s) (omega (arith, l))
+          (rw (l, length-drop) (omega (arith, enough))) (ap (λ (j : ℕ). drop j s) (sym l)))
+
+      through : verifyLeft m q n₁ n₄ ns x w t c U ≡ verifyOutcome R x w t c s
+      unfolding lentOf
+      through =
+          left-is R (ok .ready) x w D t c s U (record { public = ok .public; proof = ok .proof; claims = refl; scratch = refl; draws = long }) draws-are (ok .claims) (ok .scratch) beyond combined-table none
+
+      verify-done : (r : ℕ) (u : Transcript) (c′ s′ : List ℕ) → inPlace r u c′ s′ ≡ verifyLeft m q n₁ n₄ ns x w t c U
+          → inPlace r u c′ s′ ≡ verifyOutcome R x w t c s
+      verify-done r u c′ s′ h = h ∙ through
+
+    pub verify-ends : (r : ℕ) (u : Transcript) (c′ s′ : List ℕ)
+        → inPlace r u c′ s′ ≡ cond (eqb k 0) (verifyLeft m q n₁ n₄ ns x w t c (runTable m q n₁ n₄ ns w t (entriesOfRecords ab) (entriesOfRecords bb) (entriesOfRecords cb) (entriesOfRecords af) (entriesOfRecords bf) (entriesOfRecords cf) s)) (inPlace k t c s)
+        → inPlace r u c′ s′ ≡ verifyOutcome R x w t c s
+    verify-ends r u c′ s′ h = at (eqb k 0) refl h
+      where
+        at : (b : Bool) → eqb k 0 ≡ b
+            → inPlace r u c′ s′ ≡ cond b (verifyLeft m q n₁ n₄ ns x w t c (runTable m q n₁ n₄ ns w t (entriesOfRecords ab) (entriesOfRecords bb) (entriesOfRecords cb) (entriesOfRecords af) (entriesOfRecords bf) (entriesOfRecords cf) s)) (inPlace k t c s)
+            → inPlace r u c′ s′ ≡ verifyOutcome R x w t c s
+        at true h e = verify-done h r u c′ s′ e
+        at false h e = e ∙ verify-back h
