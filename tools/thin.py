@@ -1,21 +1,21 @@
 #!/usr/bin/env python3
-# Writes proofs/F/Proof.antt for a function of calls in a row, from its MIR:  thin.py CRATE F [--final TERM] [--requires TYPE] [--part TERM] [--ask N=TERM].. [--use LINE]..   (F: MODULE::NAME)
+# Writes proofs/F/Proof.antt for a function of calls in a row, from its MIR:  thin.py CRATE F [--final TERM] [--requires TYPE] [--part TERM].. [--ask N=TERM].. [--use LINE]..   (F: MODULE::NAME)
 # Nobody has to trust it: the checker checks what it writes. tools/walks.sh has the calls that this repository makes.
 #   parameters: &[T], &mut [number], &STRUCT and &mut STRUCT (read and stored whole, `*t`, and passed on), and numbers, bools, arrays and structs by value.  T: a number or a struct of plain data; for STRUCT also an array
 #   body: calls of functions whose contracts each have one `ensures` fact (and --ask for each call N whose callee requires one fact); results by value are kept in locals, passed on and returned; `s.len()` of a slice; an enum only as the result of the last call, and not beside a branch, which is too dear for the checker
-#   a local that is lent to a call: `&mut u` of a struct, `&es` of an array of structs, and `&es[..n]` with --part TERM, a proof of n ≤ its length (`pre`)
+#   a local that is lent to a call: `&mut u` of a struct, `&es` of an array of structs, and `&es[..n]` with --part TERM, a proof of n ≤ its length (`pre`); one for all of them, or one for each in their order
 #   one kind of branch: `if B { .. } else { .. }` on a bool of a local, not within another, each way ending with a value and not with a call that is lent a &mut slice; each way through has its own --final, in order, and knows b1: B ≡ true, or ≡ false (way1, where parameter 1 is lent to be changed)
 #   TERM may cite e1, e2, ..: what call 1, 2, .. ensures (numbered as they stand; what follows a branch is numbered once for each way); r1, r2, .. the results; `pre`, with --requires TYPE
 #   and the parameters: s1 (a &[T], `s1 .now`), ys1 (what a &mut [T] holds on entry), h1 (behind a &mut STRUCT), n1 (by value); ws1 .1 .0 for what call 1's argument 1 holds after it
 import sys, subprocess, re
 argv = sys.argv[1:]
 crate, fname = argv[0], argv[1]
-finals = []; requires = ''; part = ''; asks = {}; uses = []; defs = []
+finals = []; requires = ''; parts_ = []; asks = {}; uses = []; defs = []
 i = 2
 while i < len(argv):
     if argv[i] == '--final': finals.append(argv[i+1]); i += 2
     elif argv[i] == '--requires': requires = argv[i+1]; i += 2
-    elif argv[i] == '--part': part = argv[i+1]; i += 2
+    elif argv[i] == '--part': parts_.append(argv[i+1]); i += 2
     elif argv[i] == '--def': defs.append(argv[i+1]); i += 2
     elif argv[i] == '--ask': n, t = argv[i+1].split('=', 1); asks[int(n)] = t; i += 2
     elif argv[i] == '--use': uses.append(argv[i+1]); i += 2
@@ -47,6 +47,7 @@ def all_calls(ss):
     for x in ss:
         if isinstance(x, list) and x[0] == 'call': yield x
         if isinstance(x, list) and x[0] == 'if': yield from all_calls(flat(x[2])); yield from all_calls(flat(x[3]))
+letter = lambda t: 'abcdefghijklmnopqrstuvwxyz'[t]
 sub = lambda j: ''.join('₀₁₂₃₄₅₆₇₈₉'[int(c)] for c in str(j))
 def lst(xs): return ' ∷ '.join(list(xs) + ['[]'])
 def tup(xs, end='tt'):
@@ -287,7 +288,7 @@ def one(s, last):
             k.mv(f'O{j}'); k(f'use1 W (‵ (O{j} h{j}) ⊛ ‵ (O{j} h{j})) (shr-copy 𝓤 H A W (named {LF(j)}) {κ(LF(j))} {IN(j)["row"]} .twice (ref{j} γ{j} h{j}) (v{j} ∷ [])) $ split ! $ '); k.c = [f'G{t}', f'O{j}'] + k.c[1:]
             items.append((f'G{t}', own, f'tok{LF(j)}')); dens.append(f'ref{j} γ{j} h{j}'); vals_.append(f'v{j} ∷ []'); build.append((f'G{t}', None)); ws.append(('tt', None))
         elif e[0] == 'againR':
-            j = e[1]; n = len(klist); closed(j); ν = f'ν{c_}{"abcdefgh"[t]}'; δ = f'δ{c_}{"abcdefgh"[t]}'; l_ = cur[j][0]; r0 = IN(j)['row']
+            j = e[1]; n = len(klist); closed(j); ν = f'ν{c_}{letter(t)}'; δ = f'δ{c_}{letter(t)}'; l_ = cur[j][0]; r0 = IN(j)['row']
             k(f'{NL}lft-new ! tt (λ {ν}. '); k.close += 1; k.c.insert(0, ν)
             k.mv(f'O{j}', f'tok{LF(j)}')
             k(f'use2 W (later (some (λ (δ : GName). ‵ (MutRef (named {n}) ({ν} ∷ []) {r0} .own (ref{j} δ ({l_})) (v{j} ∷ [])) ⊛ ‵ (LentR {r0} {κ(LF(j))} ({ν} ∷ []) {q(LF(j))} γ{j} b{j} o{j} δ ({l_}))))) (lendsR 𝓤 H A W {r0} (named {LF(j)}) {κ(LF(j))} ({ν} ∷ []) {q(LF(j))} γ{j} b{j} o{j} (named {n}) ({l_})) $ await ! tt $ pick ! (λ {δ}. split ! $ '); k.close += 1
@@ -296,7 +297,7 @@ def one(s, last):
             own = f'MutRef (named {n}) ({ν} ∷ []) {r0} .own (ref{j} {δ} ({l_})) (v{j} ∷ [])'
             items.append((f'G{t}', own, ν)); dens.append(f'ref{j} {δ} ({l_})'); vals_.append(f'v{j} ∷ []'); build.append((f'G{t}', None)); ws.append(('R', (j, ν, δ, t, n)))
         elif e[0] == 'again':
-            j = e[1]; n = len(klist); ν = f'ν{c_}{"abcdefgh"[t]}'; δ = f'δ{c_}{"abcdefgh"[t]}'
+            j = e[1]; n = len(klist); ν = f'ν{c_}{letter(t)}'; δ = f'δ{c_}{letter(t)}'
             l_, ln = cur[j]
             k(f'{NL}lft-new ! tt (λ {ν}. '); k.close += 1; k.c.insert(0, ν)
             k.mv(f'O{j}', f'tok{LF(j)}')
@@ -306,7 +307,7 @@ def one(s, last):
             own = f'MutSlice (named {n}) ({ν} ∷ []) {IN(j)["row"]} .own (ref{j} {δ} ({l_})) (v{j} ∷ [])'
             items.append((f'G{t}', own, ν)); dens.append(f'ref{j} {δ} ({l_})'); vals_.append(f'v{j} ∷ []'); build.append((f'G{t}', None)); ws.append(('M', (j, ν, δ, t, n)))
         elif e[0] in ('lend', 'lendS'):
-            Q_ = e[1]; _, h_, u_, w_, I = env[Q_]; n = len(klist); ν = f'ν{c_}{"abcdefgh"[t]}'; δ = f'δ{c_}{"abcdefgh"[t]}'; at_ = f'l{sub(Q_)} 0'
+            Q_ = e[1]; _, h_, u_, w_, I = env[Q_]; n = len(klist); ν = f'ν{c_}{letter(t)}'; δ = f'δ{c_}{letter(t)}'; at_ = f'l{sub(Q_)} 0'
             k(f'{NL}lft-new ! tt (λ {ν}. '); k.close += 1; k.c.insert(0, ν)
             k(f'owned ! {I["row"]} (Is {I["row"]}) {I["makes"]} ({h_}) _ {w_} $ '); k.c.insert(0, 'own'); k.mv(f'c{Q_}', 'own')
             k(f'use1 W (‵ (cellAt fullShare ({I["row"]} .mir) ({u_} ∷ []) {at_})) (W .laws .at-raw fullShare ({tyT(locs[Q_])}) {at_} ({u_})) $ into ! {I["row"]} fullShare ({h_}) ({u_} ∷ []) {at_} $ {NL}')
@@ -316,12 +317,13 @@ def one(s, last):
                 k(f'use1 W (later (some (λ (δ : GName). ‵ ({own("δ")}) ⊛ ‵ (flent ({ν} ∷ []) (Body (mem {I["row"]}) {at_} δ))))) (lends-ref 𝓤 H A W {I["row"]} (named {n}) ({ν} ∷ []) ({h_}) {at_}) $ await ! tt $ pick ! (λ {δ}. split ! $ {NL}'); k.close += 1
                 vals_.append(f'vptr {at_} ∷ []'); ws.append(('L', (Q_, ν, δ, t, n)))
             else:
-                el = info(e[3]); ln = f'ln{c_}{"abcdefgh"[t]}'; cut_ = e[4:]; xs = f'(take {cut_[0]} ({h_}))' if cut_ else f'({h_})'; m_ = cut_[0] if cut_ else e[2]
+                el = info(e[3]); ln = f'ln{c_}{letter(t)}'; cut_ = e[4:]; xs = f'(take {cut_[0]} ({h_}))' if cut_ else f'({h_})'; m_ = cut_[0] if cut_ else e[2]
                 own0 = lambda δ, m: f'ShrSlice (named {n}) ({ν} ∷ []) {el["row"]} .own (record {{ ptr = (l{sub(Q_)}, 0); name = {δ}; now = {xs} }}) (sliceVal (l{sub(Q_)}, 0) {m} ∷ [])'
                 own = lambda δ: own0(δ, m_)
                 k(f'use1 W (‵ (arr-parts (shares {el["row"]}) {e[2]} .part fullShare ({h_}) {at_})) (array-apart 𝓤 H A W {el["row"]} fullShare tt {e[2]} ({h_}) {at_}) $ fsplit ! $ feqL ! (λ {ln}. {NL}'); k.close += 1
                 if cut_:
                     k(f'use1 W (‵ (parts (mem {el["row"]}) (shares {el["row"]}) fullShare {xs} {at_}) ⊛ ‵ (rest {el["row"]} fullShare {m_} ({h_}) {at_})) (cut 𝓤 H A {el["row"]} fullShare {m_} ({h_}) {at_}) $ split ! $ '); k.c.insert(1, f'rest{c_}{t}')
+                if cut_: part = parts_.pop(0) if len(parts_) > 1 else parts_[0]
                 le = f'length-take-le {m_} ({h_}) (subst (λ (m : ℕ). {m_} ≤ m) (sym {ln}) ({part}))' if cut_ else ln
                 room = f'room-of {el["row"]} {m_} {e[2]} ({part}) (lit< tt, lit< tt)' if cut_ else '(lit< tt, lit< tt)'
                 k(f'feqI ! ℕ (length {xs}) (length {xs}) refl $ fjoin ! $ {NL}')
@@ -362,7 +364,7 @@ def one(s, last):
     for t, (kind, w_) in enumerate(ws):
         k.mv('lasts'); k('fsplit ! $ '); k.c = [f'fin{t}' if kind in 'RL' else f'last{c_}{t}', 'lasts'] + k.c[1:]
         if kind == 'M':
-            k('fsplit ! $ '); k.c = [f'fin{t}', f'eq{t}'] + k.c[1:]; k.mv(f'eq{t}'); k(f'feqL ! (λ same{c_}{"abcdefgh"[t]}. '); k.close += 1; k.c = k.c[1:]
+            k('fsplit ! $ '); k.c = [f'fin{t}', f'eq{t}'] + k.c[1:]; k.mv(f'eq{t}'); k(f'feqL ! (λ same{c_}{letter(t)}. '); k.close += 1; k.c = k.c[1:]
     i_l = k.c.index('lasts'); k.c[i_l] = f'lasts{c_}'
     k.mv('back'); k('split ! $ '); k.c = ['alive', 'res'] + k.c[1:]; k.mv('res')
     if ri.get('unit'):
@@ -382,7 +384,7 @@ def one(s, last):
             k.c = [f'O{j}', f'tok{LF(j)}'] + k.c[3:]
             cur[j] = (nl, None, None, False)
         if kind in ('L', 'A'):
-            Q_, ν, δ, _, *more = w_; _, h_, u_, w0, I = env[Q_]; at_ = f'l{sub(Q_)} 0'; wn = f'w{c_}{"abcdefgh"[t]}'
+            Q_, ν, δ, _, *more = w_; _, h_, u_, w0, I = env[Q_]; at_ = f'l{sub(Q_)} 0'; wn = f'w{c_}{letter(t)}'
             k.mv(ν); k('lft-end ! tt $ ')
             if kind == 'L':
                 nl = f'(ws{c_} {nest(t)})'; k.mv(ν, f'L{t}', f'fin{t}')
@@ -396,7 +398,7 @@ def one(s, last):
             k(f'out ! {I["row"]} fullShare ({nl}) {at_} (λ vs. spelt ! {I["row"]} (Is {I["row"]}) (shows 𝓤 H A {I["row"]}) {I["vals"]} {I["tells"]} fullShare ({nl}) vs {at_} $ move ! (1 ∷ []) $ peeks ! {I["row"]} (Is {I["row"]}) (shows 𝓤 H A {I["row"]}) ({nl}) ({I["val"]} ({nl}) ∷ []) (λ {wn}. drop ! $ use1 W (‵ (fat fullShare ({tyT(locs[Q_])}) {at_} ({I["val"]} ({nl})))) (W .laws .raw-at fullShare ({tyT(locs[Q_])}) {at_} ({I["val"]} ({nl}))) $ {NL}'); k.close += 2
             env[Q_] = ('val', nl, f'({I["val"]} ({nl}))', wn, I)
         if kind == 'M':
-            j, ν, δ, _, n = w_; l_, ln = cur[j]; nl = f'ws{c_} {nest(t)}'; same = f'same{c_}{"abcdefgh"[t]}'
+            j, ν, δ, _, n = w_; l_, ln = cur[j]; nl = f'ws{c_} {nest(t)}'; same = f'same{c_}{letter(t)}'
             k.mv(ν); k('lft-end ! tt $ '); k.mv(ν, f'L{t}', f'fin{t}')
             k(f'use3 W (later (‵ (O{j} ({nl})) ⊛ ‵ (flft {κ(LF(j))} {q(LF(j))}))) (backs{j} (named {n}) {ν} {δ} ({l_}) ({nl}) ({ln}) room{j} {same}) $ await ! tt $ split ! $ {NL}')
             k.c = [f'O{j}', f'tok{LF(j)}'] + k.c[3:]

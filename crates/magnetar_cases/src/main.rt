@@ -1,6 +1,9 @@
 // Replays queries on a whole relation: reads the relation with its batch, calls the function that a line names and writes all
-// that the call hands back (docs/VECTORS.md). A line that begins with # is copied.
+// that the call hands back (docs/VECTORS.md), after a line `differ` where the same call over records hands back something else. A line
+// that begins with # is copied.
+mod again;
 mod checks;
+mod lent;
 mod rowcheck;
 mod runs;
 mod tables;

@@ -1,4 +1,5 @@
 // Whole runs: the prover and the verifier on a relation and its batch.
+use crate::again;
 use crate::text::at;
 use crate::text::nth;
 use crate::text::nth_sizes;
@@ -206,6 +207,7 @@ fn verify(
     proof: &[u64],
 ) {
     let r = verified(given, sizes, t, claims, scratch, proof);
+    text::agreed(again::verify(given, sizes, t, proof, r, claims, scratch));
     print_answer(r);
     print_line(claims);
     text::print_cleared(scratch);

@@ -1,4 +1,5 @@
 // Queries on matrices: the combined table of six and the masks of one.
+use crate::again;
 use crate::text::at;
 use crate::text::nth;
 use crate::text::nth_sizes;
@@ -70,6 +71,7 @@ fn combo(nums: &[u64], given: &[u64], sizes: &[usize], out: &mut [u64], scratch:
     let room = text::marked(out, at(nums, 0));
     let part = text::marked(scratch, at(nums, 1));
     let code = combined(nums, given, sizes, room, part);
+    text::agreed(again::combo(nums, given, sizes, code, room, part));
     text::print_code(code, room);
     text::print_cleared(part);
 }
@@ -90,6 +92,7 @@ fn masks(nums: &[u64], given: &[u64], sizes: &[usize], out: &mut [u64]) {
         text::size(at(nums, 3)),
         room,
     );
+    text::agreed(again::masks(nums, given, sizes, code, room));
     text::print_code(code, room);
 }
 

@@ -14,7 +14,7 @@ pub(crate) fn at(s: &[u64], i: usize) -> u64 {
 }
 
 // The same of sizes.
-fn at_size(s: &[usize], i: usize) -> usize {
+pub(crate) fn at_size(s: &[usize], i: usize) -> usize {
     if i < s.len() { s[i] } else { 0 }
 }
 
@@ -201,9 +201,9 @@ pub(crate) fn mebibyte() -> [u8; 1048576] {
     [0; 1048576]
 }
 
-// Room for the scratch of the largest run.
+// Room for the scratch of the largest run, each word marked.
 pub(crate) fn room() -> [u64; 20480] {
-    [0; 20480]
+    [MARK; 20480]
 }
 
 // The numbers after the count at index i, as many as it says.
@@ -275,8 +275,45 @@ pub(crate) fn marked(s: &mut [u64], n: u64) -> &mut [u64] {
     part
 }
 
+// Whether the words are the same.
+pub(crate) fn same(s: &[u64], t: &[u64]) -> bool {
+    if s.len() != t.len() {
+        return false;
+    }
+    let mut i = 0;
+    while i < s.len() {
+        if s[i] != at(t, i) {
+            return false;
+        }
+        i += 1;
+    }
+    true
+}
+
+// The same of bytes.
+pub(crate) fn same_bytes(s: &[u8], t: &[u8]) -> bool {
+    if s.len() != t.len() {
+        return false;
+    }
+    let mut i = 0;
+    while i < s.len() {
+        if s[i] != byte(t, i) {
+            return false;
+        }
+        i += 1;
+    }
+    true
+}
+
 pub(crate) fn print(s: &[u8]) {
     io::write_all(STDOUT_FILENO, s);
+}
+
+// A line where two ways of a call do not agree.
+pub(crate) fn agreed(yes: bool) {
+    if !yes {
+        print(b"differ\n");
+    }
 }
 
 pub(crate) fn print_count(n: usize) {

@@ -1,0 +1,176 @@
+// Six arrays of records and a transcript lent to the entries over records. These functions are proved by walks (tools/thin.py).
+ghost use mathlib.Core.Path.{_≡_};
+ghost use Prim.Native.Nat.{_≤_};
+ghost use lib.ListN.{take};
+ghost use Rattle.magnetar_batch.specs.Systems.{system};
+ghost use Rattle.magnetar_r1cs.specs.Entries.{masksRefusal, masksOut};
+ghost use Rattle.magnetar_spartan.specs.Rules.{rules};
+ghost use Rattle.magnetar_spartan.specs.Outcome.{verified, verifyOutcome};
+ghost use Rattle.magnetar_inplace.specs.Records.{lentOf};
+ghost use Rattle.magnetar_records.specs.Outcome.{combinedAs, comboOutcome};
+use magnetar_hash::transcript::Transcript;
+use magnetar_hash::transcript::TranscriptAnswer;
+use magnetar_inplace::records;
+use magnetar_inplace::records::Entry;
+use magnetar_records::combo;
+use magnetar_records::virtual_spartan;
+
+// A number with a transcript.
+fn with(code: u32, t: Transcript) -> TranscriptAnswer
+    ensures { λ r. ⌜ (r .code ≡ code) × (r .transcript ≡ t) ⌝ }
+{
+    TranscriptAnswer {
+        code,
+        transcript: t,
+    }
+}
+
+pub(crate) fn masks(
+    rows: usize,
+    cols: usize,
+    es: [Entry; 64],
+    n: usize,
+    packed: &[u64],
+    q: usize,
+    w: usize,
+    v: usize,
+    out: &mut [u64],
+) -> u32
+    requires { ⌜ n ≤ 64 ⌝ }
+    ensures { λ r. ⌜ (r ≡ masksRefusal (lentOf rows cols (take n es)) (now (packed .entry)) q w v (now (out .entry)))
+        × (now (out .exit) ≡ masksOut (lentOf rows cols (take n es)) (now (packed .entry)) q w v (now (out .entry))) ⌝ }
+{
+    records::apply_simd_bit_masks(rows, cols, &es[..n], packed, q, w, v, out)
+}
+
+pub(crate) fn combined(
+    out: &mut [u64],
+    scratch: &mut [u64],
+    m: usize,
+    abrows: usize,
+    abcols: usize,
+    ab: [Entry; 64],
+    abn: usize,
+    bbrows: usize,
+    bbcols: usize,
+    bb: [Entry; 64],
+    bbn: usize,
+    cbrows: usize,
+    cbcols: usize,
+    cb: [Entry; 64],
+    cbn: usize,
+    afrows: usize,
+    afcols: usize,
+    af: [Entry; 64],
+    afn: usize,
+    bfrows: usize,
+    bfcols: usize,
+    bf: [Entry; 64],
+    bfn: usize,
+    cfrows: usize,
+    cfcols: usize,
+    cf: [Entry; 64],
+    cfn: usize,
+    alphas: &[u64],
+    pb: &[u64],
+    pf: &[u64],
+) -> u32
+    requires { ⌜ (abn ≤ 64) × (bbn ≤ 64) × (cbn ≤ 64) × (afn ≤ 64) × (bfn ≤ 64) × (cfn ≤ 64) ⌝ }
+    ensures { λ r. ⌜ combinedAs r (now (out .exit)) (now (scratch .exit)) ≡ comboOutcome m (system (lentOf abrows abcols (take abn ab)) (lentOf bbrows bbcols (take bbn bb)) (lentOf cbrows cbcols (take cbn cb))) (system (lentOf afrows afcols (take afn af)) (lentOf bfrows bfcols (take bfn bf)) (lentOf cfrows cfcols (take cfn cf))) (now (alphas .entry)) (now (pb .entry)) (now (pf .entry)) (now (out .entry)) (now (scratch .entry)) ⌝ }
+{
+    combo::build_m_combo(
+        out,
+        scratch,
+        m,
+        abrows,
+        abcols,
+        &ab[..abn],
+        bbrows,
+        bbcols,
+        &bb[..bbn],
+        cbrows,
+        cbcols,
+        &cb[..cbn],
+        afrows,
+        afcols,
+        &af[..afn],
+        bfrows,
+        bfcols,
+        &bf[..bfn],
+        cfrows,
+        cfcols,
+        &cf[..cfn],
+        alphas,
+        pb,
+        pf,
+    )
+}
+
+pub(crate) fn verified(
+    t: Transcript,
+    claims: &mut [u64],
+    scratch: &mut [u64],
+    m: usize,
+    q: usize,
+    lens: &[usize],
+    abrows: usize,
+    abcols: usize,
+    ab: [Entry; 64],
+    abn: usize,
+    bbrows: usize,
+    bbcols: usize,
+    bb: [Entry; 64],
+    bbn: usize,
+    cbrows: usize,
+    cbcols: usize,
+    cb: [Entry; 64],
+    cbn: usize,
+    afrows: usize,
+    afcols: usize,
+    af: [Entry; 64],
+    afn: usize,
+    bfrows: usize,
+    bfcols: usize,
+    bf: [Entry; 64],
+    bfn: usize,
+    cfrows: usize,
+    cfcols: usize,
+    cf: [Entry; 64],
+    cfn: usize,
+    x: &[u64],
+    proof: &[u64],
+) -> TranscriptAnswer
+    requires { ⌜ (abn ≤ 64) × (bbn ≤ 64) × (cbn ≤ 64) × (afn ≤ 64) × (bfn ≤ 64) × (cfn ≤ 64) ⌝ }
+    ensures { λ r. ⌜ verified r (now (claims .exit)) (now (scratch .exit)) ≡ verifyOutcome (rules m q (now (lens .entry)) (system (lentOf abrows abcols (take abn ab)) (lentOf bbrows bbcols (take bbn bb)) (lentOf cbrows cbcols (take cbn cb))) (system (lentOf afrows afcols (take afn af)) (lentOf bfrows bfcols (take bfn bf)) (lentOf cfrows cfcols (take cfn cf)))) (now (x .entry)) (now (proof .entry)) t (now (claims .entry)) (now (scratch .entry)) ⌝ }
+{
+    let mut u = t;
+    let code = virtual_spartan::verify_virtual_spartan(
+        &mut u,
+        claims,
+        scratch,
+        m,
+        q,
+        lens,
+        abrows,
+        abcols,
+        &ab[..abn],
+        bbrows,
+        bbcols,
+        &bb[..bbn],
+        cbrows,
+        cbcols,
+        &cb[..cbn],
+        afrows,
+        afcols,
+        &af[..afn],
+        bfrows,
+        bfcols,
+        &bf[..bfn],
+        cfrows,
+        cfcols,
+        &cf[..cfn],
+        x,
+        proof,
+    );
+    with(code, u)
+}
