@@ -47,6 +47,7 @@ def all_calls(ss):
     for x in ss:
         if isinstance(x, list) and x[0] == 'call': yield x
         if isinstance(x, list) and x[0] == 'if': yield from all_calls(flat(x[2])); yield from all_calls(flat(x[3]))
+uv = lambda j: f'u{j}' + ('′' if j in (8, 16, 32, 64) else '')      # u8, .. are types
 letter = lambda t: 'abcdefghijklmnopqrstuvwxyz'[t]
 sub = lambda j: ''.join('₀₁₂₃₄₅₆₇₈₉'[int(c)] for c in str(j))
 def lst(xs): return ' ∷ '.join(list(xs) + ['[]'])
@@ -95,7 +96,7 @@ res = info(locs[0])
 by_l = {LF(j): j for j in idx if LF(j) is not None}
 def val(j):
     k = K(j)
-    return {'S': f'sliceVal (s{j} .ptr) (length (s{j} .now))', 'M': f'sliceVal (b{j}, o{j}) (length ys{j})', 'R': f'vptr b{j} o{j}', 'P': f'vptr b{j} o{j}'}.get(k) or f'u{j}'
+    return {'S': f'sliceVal (s{j} .ptr) (length (s{j} .now))', 'M': f'sliceVal (b{j}, o{j}) (length ys{j})', 'R': f'vptr b{j} o{j}', 'P': f'vptr b{j} o{j}'}.get(k) or uv(j)
 def rowAt(j, n=None):
     n = LF(j) if n is None else n
     k = K(j); r = IN(j)['row']
@@ -108,7 +109,7 @@ for j in idx:
     if K(j) == 'S': binders.append(f'(s{j} : RefT (List {IN(j)["den"]}))'); wargs.append(f'({a})'); ev.append(f'(w{j} : Is ({rowAt(j)}) s{j} (v{j} ∷ []))'); evargs.append(f'(are {nest(j-1)})')
     if K(j) == 'M': binders.append(f'(b{j} o{j} : ℕ) (γ{j} : GName) (ys{j} : List {IN(j)["den"]})'); wargs += [f'({a} .ptr .0)', f'({a} .ptr .1)', f'({a} .name)', f'({a} .now)']; ev.append(f'(room{j} : Room {IN(j)["row"]} (length ys{j}))'); evargs.append(f'(are {nest(j-1)} .0 .1)')
     if K(j) in 'RP': binders.append(f'(b{j} o{j} : ℕ) (γ{j} : GName) (h{j} : {IN(j)["den"]})'); wargs += [f'({a} .ptr .0)', f'({a} .ptr .1)', f'({a} .name)', f'({a} .now)']
-    if K(j) == 'V': binders.append(f'(n{j} : {IN(j)["den"]}) (u{j} : Val)'); wargs += [f'({a})', f'(only ({IN(j)["vals"]} ({a})))']; ev.append(f'(w{j} : Is {IN(j)["row"]} n{j} (u{j} ∷ []))'); evargs.append(f'(are {nest(j-1)})')
+    if K(j) == 'V': binders.append(f'(n{j} : {IN(j)["den"]}) ({uv(j)} : Val)'); wargs += [f'({a})', f'(only ({IN(j)["vals"]} ({a})))']; ev.append(f'(w{j} : Is {IN(j)["row"]} n{j} ({uv(j)} ∷ []))'); evargs.append(f'(are {nest(j-1)})')
 stays = []; gos = []; spell = []; tells = []
 for j in idx:
     n = LF(j); r = IN(j)['row']; k = K(j)
@@ -158,7 +159,7 @@ for j in idx:
     wt = {'S': f'(shr-slice-lawful 𝓤 H A W (named {LF(j)}) {κ(LF(j) or 0)} {IN(j)["row"]} .typed s{j} (v{j} ∷ []) w{j} .0)', 'M': f'(tt, (tt, (record {{ fits = room{j} .0 }}, tt)))', 'R': '(tt, tt)', 'P': '(tt, tt)', 'V': f'({IN(j).get("typed")} n{j} _ w{j} .0)'}[K(j)]
     k(f'pass1 ! (init ! {k.p(f"c{j}")} refl {wt}) $ '); filled.add(j)
     if K(j) in 'SP': env[j] = (K(j), j)
-    if K(j) == 'V': env[j] = ('val', f'n{j}', f'u{j}', f'w{j}', IN(j))
+    if K(j) == 'V': env[j] = ('val', f'n{j}', uv(j), f'w{j}', IN(j))
 k(f'pass0 ! $ {NL}')
 k.mv('owns')
 for j in idx:

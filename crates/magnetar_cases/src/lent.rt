@@ -1,4 +1,5 @@
-// Six arrays of records and a transcript lent to the entries over records. These functions are proved by walks (tools/thin.py).
+// Arrays of records and a transcript lent to the entries over records. These functions are proved by walks (tools/thin.py). Six arrays
+// in one function are too many for the checker: the first three are lent by one, the last three by one that it calls.
 ghost use mathlib.Core.Path.{_≡_};
 ghost use Prim.Native.Nat.{_≤_};
 ghost use lib.ListN.{take};
@@ -43,40 +44,38 @@ pub(crate) fn masks(
     records::apply_simd_bit_masks(rows, cols, &es[..n], packed, q, w, v, out)
 }
 
-pub(crate) fn combined(
+// The combined table: the last three.
+fn combined_in(
     out: &mut [u64],
     scratch: &mut [u64],
     m: usize,
     abrows: usize,
     abcols: usize,
-    ab: [Entry; 64],
-    abn: usize,
+    ab: &[Entry],
     bbrows: usize,
     bbcols: usize,
-    bb: [Entry; 64],
-    bbn: usize,
+    bb: &[Entry],
     cbrows: usize,
     cbcols: usize,
-    cb: [Entry; 64],
-    cbn: usize,
+    cb: &[Entry],
     afrows: usize,
     afcols: usize,
     af: [Entry; 64],
-    afn: usize,
     bfrows: usize,
     bfcols: usize,
     bf: [Entry; 64],
-    bfn: usize,
     cfrows: usize,
     cfcols: usize,
     cf: [Entry; 64],
-    cfn: usize,
     alphas: &[u64],
     pb: &[u64],
     pf: &[u64],
+    afn: usize,
+    bfn: usize,
+    cfn: usize,
 ) -> u32
-    requires { ⌜ (abn ≤ 64) × (bbn ≤ 64) × (cbn ≤ 64) × (afn ≤ 64) × (bfn ≤ 64) × (cfn ≤ 64) ⌝ }
-    ensures { λ r. ⌜ combinedAs r (now (out .exit)) (now (scratch .exit)) ≡ comboOutcome m (system (lentOf abrows abcols (take abn ab)) (lentOf bbrows bbcols (take bbn bb)) (lentOf cbrows cbcols (take cbn cb))) (system (lentOf afrows afcols (take afn af)) (lentOf bfrows bfcols (take bfn bf)) (lentOf cfrows cfcols (take cfn cf))) (now (alphas .entry)) (now (pb .entry)) (now (pf .entry)) (now (out .entry)) (now (scratch .entry)) ⌝ }
+    requires { ⌜ (afn ≤ 64) × (bfn ≤ 64) × (cfn ≤ 64) ⌝ }
+    ensures { λ r. ⌜ combinedAs r (now (out .exit)) (now (scratch .exit)) ≡ comboOutcome m (system (lentOf abrows abcols (now (ab .entry))) (lentOf bbrows bbcols (now (bb .entry))) (lentOf cbrows cbcols (now (cb .entry)))) (system (lentOf afrows afcols (take afn af)) (lentOf bfrows bfcols (take bfn bf)) (lentOf cfrows cfcols (take cfn cf))) (now (alphas .entry)) (now (pb .entry)) (now (pf .entry)) (now (out .entry)) (now (scratch .entry)) ⌝ }
 {
     combo::build_m_combo(
         out,
@@ -84,13 +83,13 @@ pub(crate) fn combined(
         m,
         abrows,
         abcols,
-        &ab[..abn],
+        ab,
         bbrows,
         bbcols,
-        &bb[..bbn],
+        bb,
         cbrows,
         cbcols,
-        &cb[..cbn],
+        cb,
         afrows,
         afcols,
         &af[..afn],
@@ -106,6 +105,141 @@ pub(crate) fn combined(
     )
 }
 
+// All six.
+pub(crate) fn combined(
+    out: &mut [u64],
+    scratch: &mut [u64],
+    m: usize,
+    abrows: usize,
+    abcols: usize,
+    ab: [Entry; 64],
+    bbrows: usize,
+    bbcols: usize,
+    bb: [Entry; 64],
+    cbrows: usize,
+    cbcols: usize,
+    cb: [Entry; 64],
+    afrows: usize,
+    afcols: usize,
+    af: [Entry; 64],
+    bfrows: usize,
+    bfcols: usize,
+    bf: [Entry; 64],
+    cfrows: usize,
+    cfcols: usize,
+    cf: [Entry; 64],
+    alphas: &[u64],
+    pb: &[u64],
+    pf: &[u64],
+    abn: usize,
+    bbn: usize,
+    cbn: usize,
+    afn: usize,
+    bfn: usize,
+    cfn: usize,
+) -> u32
+    requires { ⌜ (abn ≤ 64) × (bbn ≤ 64) × (cbn ≤ 64) × (afn ≤ 64) × (bfn ≤ 64) × (cfn ≤ 64) ⌝ }
+    ensures { λ r. ⌜ combinedAs r (now (out .exit)) (now (scratch .exit)) ≡ comboOutcome m (system (lentOf abrows abcols (take abn ab)) (lentOf bbrows bbcols (take bbn bb)) (lentOf cbrows cbcols (take cbn cb))) (system (lentOf afrows afcols (take afn af)) (lentOf bfrows bfcols (take bfn bf)) (lentOf cfrows cfcols (take cfn cf))) (now (alphas .entry)) (now (pb .entry)) (now (pf .entry)) (now (out .entry)) (now (scratch .entry)) ⌝ }
+{
+    combined_in(
+        out,
+        scratch,
+        m,
+        abrows,
+        abcols,
+        &ab[..abn],
+        bbrows,
+        bbcols,
+        &bb[..bbn],
+        cbrows,
+        cbcols,
+        &cb[..cbn],
+        afrows,
+        afcols,
+        af,
+        bfrows,
+        bfcols,
+        bf,
+        cfrows,
+        cfcols,
+        cf,
+        alphas,
+        pb,
+        pf,
+        afn,
+        bfn,
+        cfn,
+    )
+}
+
+// The verifier: the last three.
+fn verified_in(
+    t: Transcript,
+    claims: &mut [u64],
+    scratch: &mut [u64],
+    m: usize,
+    q: usize,
+    lens: &[usize],
+    abrows: usize,
+    abcols: usize,
+    ab: &[Entry],
+    bbrows: usize,
+    bbcols: usize,
+    bb: &[Entry],
+    cbrows: usize,
+    cbcols: usize,
+    cb: &[Entry],
+    afrows: usize,
+    afcols: usize,
+    af: [Entry; 64],
+    bfrows: usize,
+    bfcols: usize,
+    bf: [Entry; 64],
+    cfrows: usize,
+    cfcols: usize,
+    cf: [Entry; 64],
+    x: &[u64],
+    proof: &[u64],
+    afn: usize,
+    bfn: usize,
+    cfn: usize,
+) -> TranscriptAnswer
+    requires { ⌜ (afn ≤ 64) × (bfn ≤ 64) × (cfn ≤ 64) ⌝ }
+    ensures { λ r. ⌜ verified r (now (claims .exit)) (now (scratch .exit)) ≡ verifyOutcome (rules m q (now (lens .entry)) (system (lentOf abrows abcols (now (ab .entry))) (lentOf bbrows bbcols (now (bb .entry))) (lentOf cbrows cbcols (now (cb .entry)))) (system (lentOf afrows afcols (take afn af)) (lentOf bfrows bfcols (take bfn bf)) (lentOf cfrows cfcols (take cfn cf)))) (now (x .entry)) (now (proof .entry)) t (now (claims .entry)) (now (scratch .entry)) ⌝ }
+{
+    let mut u = t;
+    let code = virtual_spartan::verify_virtual_spartan(
+        &mut u,
+        claims,
+        scratch,
+        m,
+        q,
+        lens,
+        abrows,
+        abcols,
+        ab,
+        bbrows,
+        bbcols,
+        bb,
+        cbrows,
+        cbcols,
+        cb,
+        afrows,
+        afcols,
+        &af[..afn],
+        bfrows,
+        bfcols,
+        &bf[..bfn],
+        cfrows,
+        cfcols,
+        &cf[..cfn],
+        x,
+        proof,
+    );
+    with(code, u)
+}
+
+// All six.
 pub(crate) fn verified(
     t: Transcript,
     claims: &mut [u64],
@@ -116,36 +250,35 @@ pub(crate) fn verified(
     abrows: usize,
     abcols: usize,
     ab: [Entry; 64],
-    abn: usize,
     bbrows: usize,
     bbcols: usize,
     bb: [Entry; 64],
-    bbn: usize,
     cbrows: usize,
     cbcols: usize,
     cb: [Entry; 64],
-    cbn: usize,
     afrows: usize,
     afcols: usize,
     af: [Entry; 64],
-    afn: usize,
     bfrows: usize,
     bfcols: usize,
     bf: [Entry; 64],
-    bfn: usize,
     cfrows: usize,
     cfcols: usize,
     cf: [Entry; 64],
-    cfn: usize,
     x: &[u64],
     proof: &[u64],
+    abn: usize,
+    bbn: usize,
+    cbn: usize,
+    afn: usize,
+    bfn: usize,
+    cfn: usize,
 ) -> TranscriptAnswer
     requires { ⌜ (abn ≤ 64) × (bbn ≤ 64) × (cbn ≤ 64) × (afn ≤ 64) × (bfn ≤ 64) × (cfn ≤ 64) ⌝ }
     ensures { λ r. ⌜ verified r (now (claims .exit)) (now (scratch .exit)) ≡ verifyOutcome (rules m q (now (lens .entry)) (system (lentOf abrows abcols (take abn ab)) (lentOf bbrows bbcols (take bbn bb)) (lentOf cbrows cbcols (take cbn cb))) (system (lentOf afrows afcols (take afn af)) (lentOf bfrows bfcols (take bfn bf)) (lentOf cfrows cfcols (take cfn cf)))) (now (x .entry)) (now (proof .entry)) t (now (claims .entry)) (now (scratch .entry)) ⌝ }
 {
-    let mut u = t;
-    let code = virtual_spartan::verify_virtual_spartan(
-        &mut u,
+    verified_in(
+        t,
         claims,
         scratch,
         m,
@@ -162,15 +295,17 @@ pub(crate) fn verified(
         &cb[..cbn],
         afrows,
         afcols,
-        &af[..afn],
+        af,
         bfrows,
         bfcols,
-        &bf[..bfn],
+        bf,
         cfrows,
         cfcols,
-        &cf[..cfn],
+        cf,
         x,
         proof,
-    );
-    with(code, u)
+        afn,
+        bfn,
+        cfn,
+    )
 }
