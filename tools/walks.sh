@@ -71,7 +71,7 @@ thin check::check_login --use "$ends.WalkLaws.{login-ends}" --use "$entries" --u
 thin check::judge --final '(rw (e3 .0, e2 .0, e2 .1, e1), rw (e4, e3 .1, e2 .1))'
 thin check::judge_unless --final '(rw (← e1, b1) (e3 .0), rw (← e1, b1) (e3 .1))' --final '(rw (← e1, b1) e2, rw (← e1, b1) refl)'
 thin check::all_six
-thin check::refused --use "$ends.CheckEnds.{check-refused}" --final "check-refused $six3 n1 n2 (s21 .now) (s22 .now) n23 r1 r2 e1 e2"
+thin check::refused --use "$ends.NumberLaws.{refused-is}" --final "refused-is $six3 n1 n2 (s21 .now) (s22 .now) n23 r1 r2 e1 e2"
 thin check::row_check --use "$ends.CheckEnds.{check-ends}" --use 'Rattle.magnetar_batch.specs.Check.{outcome}' \
   --final "check-ends $six4 n2 n3 (s22 .now) (s23 .now) ys1 r1 r2 r3 (ws3 .1 .0) (outcome r4) e1 e2 e3 e4"
 
