@@ -68,7 +68,11 @@ thin check::product --use "$ends.WalkLaws.{product-ends}" --use "$entries" --use
   --final 'product-ends n3 n4 (zAt n6 (s7 .now) (elements (s8 .now)) n5) (entriesOfRecords (s1 .now)) ys2 (ws1 .0) (ws2 .1 .0) e1 e2'
 thin check::check_login --use "$ends.WalkLaws.{login-ends}" --use "$entries" --use "$words" --use "$steps.{zAt}" \
   --final 'login-ends n1 n2 n3 n5 r1 (zAt n6 (s7 .now) (elements (s8 .now)) n3) (entriesOfRecords (s9 .now)) (entriesOfRecords (s10 .now)) (entriesOfRecords (s11 .now)) ys4 (ws2 .1 .0) (ws3 .1 .0) (ws4 .1 .0) (ws5 .1 .1 .1 .0) r5 e1 e2 e3 e4 e5'
-thin check::judge --final '(rw (e3 .0, e2 .0, e2 .1, e1), rw (e4, e3 .1, e2 .1))'
+thin check::login_unless --use "$ends.WalkLaws.{unless-some, unless-none}" --use "$entries" --use "$words" --use "$steps.{zAt}" \
+  --final 'unless-some n2 n5 (zAt n6 (s7 .now) (elements (s8 .now)) n3) (entriesOfRecords (s9 .now)) (entriesOfRecords (s10 .now)) (entriesOfRecords (s11 .now)) n3 n1 r2 ys4 (ws2 .1 .1 .1 .0) (sym e1 ∙ b1) e2' \
+  --final 'unless-none n2 n5 (zAt n6 (s7 .now) (elements (s8 .now)) n3) (entriesOfRecords (s9 .now)) (entriesOfRecords (s10 .now)) (entriesOfRecords (s11 .now)) n3 n1 ys4 (sym e1 ∙ b1)'
+thin check::judge --use "$ends.WalkLaws.{judge-ends}" --use "$entries" --use "$words" \
+  --final 'judge-ends n2 n3 n4 n5 (s6 .now) (elements (s7 .now)) (entriesOfRecords (s8 .now)) (entriesOfRecords (s9 .now)) (entriesOfRecords (s10 .now)) (entriesOfRecords (s11 .now)) (entriesOfRecords (s12 .now)) (entriesOfRecords (s13 .now)) ys1 (ws2 .1 .1 .0) (ws3 .1 .1 .0) (ws4 .0) r1 r2 r3 e1 e2 e3 e4'
 thin check::judge_unless --final '(rw (← e1, b1) (e3 .0), rw (← e1, b1) (e3 .1))' --final '(rw (← e1, b1) e2, rw (← e1, b1) refl)'
 thin check::all_six
 thin check::refused --use "$ends.NumberLaws.{refused-is}" --final "refused-is $six3 n1 n2 (s21 .now) (s22 .now) n23 r1 r2 e1 e2"

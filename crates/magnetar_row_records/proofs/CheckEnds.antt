@@ -31,9 +31,9 @@ use Rattle.magnetar_inplace.specs.Records.{entriesOfRecords, lentOf}
 use Rattle.magnetar_inplace.specs.Steps.{clearedTo}
 use Rattle.magnetar_inplace.proofs.RecordLaws.{entries-are}
 use Rattle.magnetar_row_records.specs.declared.steps.Seen.{Seen}
-use Rattle.magnetar_row_records.specs.Steps.{nothing, wordsAfter, seenAfter, bothWords, bothSeen, answerOf}
+use Rattle.magnetar_row_records.specs.Steps.{nothing, Walked, from, systemDone, bothWords, bothSeen, answerOf}
 use Rattle.magnetar_row_records.proofs.NumberLaws.{binOf, fldOf}
-use Rattle.magnetar_row_records.proofs.SystemWalk.{words-length-kept, words-behind, seen-kept, seen-all, seen-first}
+use Rattle.magnetar_row_records.proofs.SystemWalk.{length-kept, behind-kept, found-kept, found-none, found-first}
 
 -- ---- the first login of a system with a row that does not hold
 module _ (a b c : List matrix.Entry) (n w : ℕ) (ws x : List ℕ) (q : ℕ) where
@@ -55,19 +55,19 @@ module _ (a b c : List matrix.Entry) (n w : ℕ) (ws x : List ℕ) (q : ℕ) whe
   unfolding loginOf
   first-most = first-le test q
 
--- what is found in a system that is lent
-module _ (s : Lent3) (k w : ℕ) (ws x : List ℕ) (q : ℕ) (t : List ℕ) (hn : s .a .rows ≤ 65536) (hw : w ≤ 32768) (hq : q ≤ 4096) (room : 6 * s .a .rows ≤ length t) where
-  abbrev entries : Lent → List matrix.Entry
-  entries a = entriesOf (a .row) (a .col) (a .lo) (a .hi)
+abbrev of : Lent → List matrix.Entry
+of a = entriesOf (a .row) (a .col) (a .lo) (a .hi)
 
+-- what is found in a system that is lent
+module _ (s : Lent3) (k w : ℕ) (ws x : List ℕ) (q : ℕ) where
   abbrev where-first : ℕ
-  where-first = first (entries (s .a)) (entries (s .b)) (entries (s .c)) (s .a .rows) w ws x q
+  where-first = first (of (s .a)) (of (s .b)) (of (s .c)) (s .a .rows) w ws x q
 
   abbrev row-first : ℕ
-  row-first = loginRow (entries (s .a)) (entries (s .b)) (entries (s .c)) (s .a .rows) w ws x where-first
+  row-first = loginRow (of (s .a)) (of (s .b)) (of (s .c)) (s .a .rows) w ws x where-first
 
-  abbrev run : Seen → Seen
-  run r = seenAfter k (s .a .rows) w ws x (entries (s .a)) (entries (s .b)) (entries (s .c)) q r t
+  abbrev run : Walked → Walked
+  run p = systemDone k (s .a .rows) w ws x (of (s .a)) (of (s .b)) (of (s .c)) q p
 
   is-found : where-first < q → Found s q w ws x where-first row-first
   is-found h = record { login = refl; row = rw (lt-ltb where-first q h) }
@@ -75,90 +75,99 @@ module _ (s : Lent3) (k w : ℕ) (ws x : List ℕ) (q : ℕ) (t : List ℕ) (hn 
   is-none : q ≤ where-first → Found s q w ws x where-first (cond (ltb where-first q) row-first 0)
   is-none h = record { login = refl; row = refl }
 
-  run-kept : (r : Seen) → (r .system ≡ 0 → ⊥) → run r ≡ r
-  run-kept r h = seen-kept k (s .a .rows) w ws x (entries (s .a)) (entries (s .b)) (entries (s .c)) t hn hw room r h q
+  module _ (p : Walked) (hn : s .a .rows ≤ 65536) (hw : w ≤ 32768) (hq : q ≤ 4096) (room : 6 * s .a .rows ≤ length (p .left)) where
+    run-kept : (p .found .system ≡ 0 → ⊥) → run p .found ≡ p .found
+    run-kept h = found-kept k (s .a .rows) w ws x (of (s .a)) (of (s .b)) (of (s .c)) p hn room h q
 
-  run-found : (r : Seen) → r .system ≡ 0 → (k ≡ 0 → ⊥) → where-first < q → run r ≡ record { system = k; login = where-first; row = row-first }
-  run-found r z some h =
-      seen-first k (s .a .rows) w ws x (entries (s .a)) (entries (s .b)) (entries (s .c)) t hn hw room r z some q where-first hq h
-      (first-below (entries (s .a)) (entries (s .b)) (entries (s .c)) (s .a .rows) w ws x q) (first-fails (entries (s .a)) (entries (s .b)) (entries (s .c)) (s .a .rows) w ws x q h)
+    run-found : p .found .system ≡ 0 → (k ≡ 0 → ⊥) → where-first < q → run p .found ≡ record { system = k; login = where-first; row = row-first }
+    run-found z some h =
+        found-first k (s .a .rows) w ws x (of (s .a)) (of (s .b)) (of (s .c)) p hn room hw z some q where-first hq h
+        (first-below (of (s .a)) (of (s .b)) (of (s .c)) (s .a .rows) w ws x q) (first-fails (of (s .a)) (of (s .b)) (of (s .c)) (s .a .rows) w ws x q h)
 
-  run-none : (r : Seen) → q ≤ where-first → run r ≡ r
-  run-none r h =
-      let e : where-first ≡ q = omega (arith, h, first-most (entries (s .a)) (entries (s .b)) (entries (s .c)) (s .a .rows) w ws x q) in
-      seen-all k (s .a .rows) w ws x (entries (s .a)) (entries (s .b)) (entries (s .c)) t hn hw room r q hq
-      (rw e at (first-below (entries (s .a)) (entries (s .b)) (entries (s .c)) (s .a .rows) w ws x q))
+    run-none : p .found .system ≡ 0 → q ≤ where-first → run p .found ≡ p .found
+    run-none z h =
+        let e : where-first ≡ q = omega (arith, h, first-most (of (s .a)) (of (s .b)) (of (s .c)) (s .a .rows) w ws x q) in
+        found-none k (s .a .rows) w ws x (of (s .a)) (of (s .b)) (of (s .c)) p hn room hw z q hq
+        (rw e at (first-below (of (s .a)) (of (s .b)) (of (s .c)) (s .a .rows) w ws x q))
+
+    run-length : length (run p .left) ≡ length (p .left)
+    run-length = length-kept k (s .a .rows) w ws x (of (s .a)) (of (s .b)) (of (s .c)) p hn room q
+
+    run-behind : drop (6 * s .a .rows) (run p .left) ≡ drop (6 * s .a .rows) (p .left)
+    run-behind = behind-kept k (s .a .rows) w ws x (of (s .a)) (of (s .b)) (of (s .c)) p hn room q
+
+-- what is behind some words is behind more of them
+further : (i j : ℕ) (l k : List ℕ) → i ≤ j → drop i l ≡ drop i k → drop j l ≡ drop j k
+further i j l k h e =
+    let d : i + (j - i) ≡ j = omega arith in
+    ap (λ (v : ℕ). drop v l) (sym d) ∙ (sym (drop-drop (j - i) i l) ∙ (ap (drop (j - i)) e ∙ (drop-drop (j - i) i k ∙ ap (λ (v : ℕ). drop v k) d)))
 
 -- ---- both systems
-abbrev of : Lent → List matrix.Entry
-of a = entriesOf (a .row) (a .col) (a .lo) (a .hi)
-
 module _ (m q w : ℕ) (s t : Lent3) (ws x : List ℕ) (l : List ℕ) (hs : s .a .rows ≤ 65536) (ht : t .a .rows ≤ 65536) (hw : w ≤ 32768) (hq : q ≤ 4096)
     (room : 6 * max (s .a .rows) (t .a .rows) ≤ length l) where
-  abbrev mid : List ℕ
-  mid = wordsAfter (s .a .rows) w ws x (of (s .a)) (of (s .b)) (of (s .c)) q l
+  abbrev mid : Walked
+  mid = run s 1 w ws x q (from nothing l)
 
-  abbrev end : List ℕ
-  end = wordsAfter (t .a .rows) w ws x (of (t .a)) (of (t .b)) (of (t .c)) q mid
+  abbrev end : Walked
+  end = run t 2 w ws x q mid
 
   room-s : 6 * s .a .rows ≤ length l
   room-s = omega (arith, room)
 
-  mid-length : length mid ≡ length l
-  mid-length = words-length-kept 0 (s .a .rows) w ws x (of (s .a)) (of (s .b)) (of (s .c)) l hs hw room-s q
+  mid-length : length (mid .left) ≡ length l
+  mid-length = run-length s 1 w ws x q (from nothing l) hs hw hq room-s
 
-  room-t : 6 * t .a .rows ≤ length mid
+  room-t : 6 * t .a .rows ≤ length (mid .left)
   room-t = omega (arith, room, mid-length)
 
-  end-length : length end ≡ length l
-  end-length = words-length-kept 0 (t .a .rows) w ws x (of (t .a)) (of (t .b)) (of (t .c)) mid ht hw room-t q ∙ mid-length
-
-  -- what is behind stays behind
-  further : (i j : ℕ) (l k : List ℕ) → i ≤ j → drop i l ≡ drop i k → drop j l ≡ drop j k
-  further i j l k h e =
-      let d : i + (j - i) ≡ j = omega arith in
-      ap (λ (v : ℕ). drop v l) (sym d) ∙ (sym (drop-drop (j - i) i l) ∙ (ap (drop (j - i)) e ∙ (drop-drop (j - i) i k ∙ ap (λ (v : ℕ). drop v k) d)))
-
-  behind-end : drop (6 * max (s .a .rows) (t .a .rows)) end ≡ drop (6 * max (s .a .rows) (t .a .rows)) l
+  behind-end : drop (6 * max (s .a .rows) (t .a .rows)) (end .left) ≡ drop (6 * max (s .a .rows) (t .a .rows)) l
   behind-end =
-      further (6 * t .a .rows) (6 * max (s .a .rows) (t .a .rows)) end mid (omega arith) (words-behind 0 (t .a .rows) w ws x (of (t .a)) (of (t .b)) (of (t .c)) mid ht hw room-t q)
-      ∙ further (6 * s .a .rows) (6 * max (s .a .rows) (t .a .rows)) mid l (omega arith) (words-behind 0 (s .a .rows) w ws x (of (s .a)) (of (s .b)) (of (s .c)) l hs hw room-s q)
+      further (6 * t .a .rows) (6 * max (s .a .rows) (t .a .rows)) (end .left) (mid .left) (omega arith) (run-behind t 2 w ws x q mid ht hw hq room-t)
+      ∙ further (6 * s .a .rows) (6 * max (s .a .rows) (t .a .rows)) (mid .left) l (omega arith) (run-behind s 1 w ws x q (from nothing l) hs hw hq room-s)
 
-  cleared-is : clearedTo (3 * max (s .a .rows) (t .a .rows)) end ≡ replicate (6 * max (s .a .rows) (t .a .rows)) 0 ++ drop (6 * max (s .a .rows) (t .a .rows)) l
+  cleared-is : clearedTo (3 * max (s .a .rows) (t .a .rows)) (end .left) ≡ replicate (6 * max (s .a .rows) (t .a .rows)) 0 ++ drop (6 * max (s .a .rows) (t .a .rows)) l
   unfolding clearedTo
   cleared-is =
       let d : 2 * (3 * max (s .a .rows) (t .a .rows)) ≡ 6 * max (s .a .rows) (t .a .rows) = omega arith in
-      let h : 6 * max (s .a .rows) (t .a .rows) ≤ length end = rw end-length room in
+      let h : 6 * max (s .a .rows) (t .a .rows) ≤ length (end .left) = rw (run-length t 2 w ws x q mid ht hw hq room-t, mid-length) room in
       rw (d, le-leb _ _ h, behind-end)
 
   abbrev bin-first : ℕ
-  bin-first = where-first s 1 w ws x q l hs hw hq room-s
+  bin-first = where-first s 1 w ws x q
 
   abbrev fld-first : ℕ
-  fld-first = where-first t 2 w ws x q mid ht hw hq room-t
+  fld-first = where-first t 2 w ws x q
 
-  abbrev both : Seen
-  both = run t 2 w ws x q mid ht hw hq room-t (run s 1 w ws x q l hs hw hq room-s nothing)
-
-  answer-is : answerOf 0 both ≡ judged (verdict (relation m q s t) (unpacked q w ws) x)
+  answer-bin : bin-first < q → answerOf 0 (end .found) ≡ judged (verdict (relation m q s t) (unpacked q w ws) x)
   unfolding answerOf
+  answer-bin h =
+      let e : mid .found ≡ record { system = 1; login = bin-first; row = row-first s 1 w ws x q } = run-found s 1 w ws x q (from nothing l) hs hw hq room-s refl (λ z. omega (arith, z)) h in
+      let k : end .found ≡ record { system = 1; login = bin-first; row = row-first s 1 w ws x q } = run-kept t 2 w ws x q mid ht hw hq room-t (rw e (λ z. omega (arith, z))) ∙ e in
+      rw k (ap judged (judged-bin m q w s t ws x bin-first (row-first s 1 w ws x q) 0 0 (is-found s 1 w ws x q h) h))
+
+  module _ (h : q ≤ bin-first) where
+    mid-none : mid .found ≡ nothing
+    mid-none = run-none s 1 w ws x q (from nothing l) hs hw hq room-s refl h
+
+    answer-fld : fld-first < q → answerOf 0 (end .found) ≡ judged (verdict (relation m q s t) (unpacked q w ws) x)
+    unfolding answerOf
+    answer-fld g =
+        rw (run-found t 2 w ws x q mid ht hw hq room-t (rw mid-none) (λ z. omega (arith, z)) g)
+        (ap judged (judged-fld m q w s t ws x bin-first _ fld-first (row-first t 2 w ws x q) (is-none s 1 w ws x q h) h (is-found t 2 w ws x q g) g))
+
+    answer-good : q ≤ fld-first → answerOf 0 (end .found) ≡ judged (verdict (relation m q s t) (unpacked q w ws) x)
+    unfolding answerOf
+    answer-good g =
+        rw (run-none t 2 w ws x q mid ht hw hq room-t (rw mid-none) g, mid-none)
+        (ap judged (judged-good m q w s t ws x bin-first _ fld-first _ (is-none s 1 w ws x q h) h (is-none t 2 w ws x q g) g))
+
+  answer-is : answerOf 0 (end .found) ≡ judged (verdict (relation m q s t) (unpacked q w ws) x)
   answer-is = go (ltb bin-first q) refl (ltb fld-first q) refl
     where
-      go : (b : Bool) → ltb bin-first q ≡ b → (d : Bool) → ltb fld-first q ≡ d → answerOf 0 both ≡ judged (verdict (relation m q s t) (unpacked q w ws) x)
-      go true b d e =
-          let h : bin-first < q = ltb-true bin-first q b in
-          rw (run-found s 1 w ws x q l hs hw hq room-s nothing refl (λ z. omega (arith, z)) h, run-kept t 2 w ws x q mid ht hw hq room-t (record { system = 1; login = bin-first; row = row-first s 1 w ws x q l hs hw hq room-s }) (λ z. omega (arith, z)))
-          (ap judged (judged-bin m q w s t ws x bin-first (row-first s 1 w ws x q l hs hw hq room-s) 0 0 (is-found s 1 w ws x q l hs hw hq room-s h) h))
-      go false b true e =
-          let h : q ≤ bin-first = ltb-false bin-first q b in
-          let g : fld-first < q = ltb-true fld-first q e in
-          rw (run-none s 1 w ws x q l hs hw hq room-s nothing h, run-found t 2 w ws x q mid ht hw hq room-t nothing refl (λ z. omega (arith, z)) g)
-          (ap judged (judged-fld m q w s t ws x bin-first _ fld-first (row-first t 2 w ws x q mid ht hw hq room-t) (is-none s 1 w ws x q l hs hw hq room-s h) h (is-found t 2 w ws x q mid ht hw hq room-t g) g))
-      go false b false e =
-          let h : q ≤ bin-first = ltb-false bin-first q b in
-          let g : q ≤ fld-first = ltb-false fld-first q e in
-          rw (run-none s 1 w ws x q l hs hw hq room-s nothing h, run-none t 2 w ws x q mid ht hw hq room-t nothing g)
-          (ap judged (judged-good m q w s t ws x bin-first _ fld-first _ (is-none s 1 w ws x q l hs hw hq room-s h) h (is-none t 2 w ws x q mid ht hw hq room-t g) g))
+      go : (b : Bool) → ltb bin-first q ≡ b → (d : Bool) → ltb fld-first q ≡ d → answerOf 0 (end .found) ≡ judged (verdict (relation m q s t) (unpacked q w ws) x)
+      go true b d e = answer-bin (ltb-true bin-first q b)
+      go false b true e = answer-fld (ltb-false bin-first q b) (ltb-true fld-first q e)
+      go false b false e = answer-good (ltb-false bin-first q b) (ltb-false fld-first q e)
 
 -- ---- what is known where nothing is refused
 front-none : (l k : Tests) → noted 0 (l ++ k) ≡ 0 → noted 0 l ≡ 0

@@ -20,8 +20,8 @@ use Rattle.magnetar_batch.proofs.RowLaws.{Below, row-is, row-le}
 use Rattle.magnetar_inplace.specs.LoginSteps as login
 use Rattle.magnetar_inplace.proofs.RecordLaws.{cleared-added}
 use Rattle.magnetar_row_records.specs.declared.steps.Seen.{Seen}
-use Rattle.magnetar_row_records.specs.Steps.{behind, zAt, productIn, twiceOf, threeIn, rowIn, seenIn, wordsAfter, seenAfter}
-use Rattle.magnetar_row_records.proofs.WalkLaws.{seen-before, seen-here, seen-none}
+use Rattle.magnetar_row_records.specs.Steps.{behind, zAt, productIn, twiceOf, threeIn, rowIn, seenIn, Walked, from, loginDone, systemDone}
+use Rattle.magnetar_row_records.proofs.WalkLaws.{seen-here, seen-none, done-some, done-none}
 
 -- ---- words in front of others
 behind-at : (m : ℕ) (g : List ℕ → List ℕ) (l r : List ℕ) → length l ≡ 2 * m → behind m g (l ++ r) ≡ l ++ g r
@@ -86,10 +86,43 @@ z-is w ws x u hw hu =
     let b : min u 4095 ≡ u = omega arith in
     rw (a, b)
 
+-- ---- one login
+module _ (k n w : ℕ) (ws x : List ℕ) (a b c : List Entry) (u : ℕ) (p : Walked) (hn : n ≤ 65536) (room : 6 * n ≤ length (p .left)) where
+  abbrev next : Walked
+  next = loginDone k n (zAt w ws x u) a b c u p
+
+  next-length : length (next .left) ≡ length (p .left)
+  next-length = go (eqb (p .found .system) 0) refl
+    where
+      go : (t : Bool) → eqb (p .found .system) 0 ≡ t → length (next .left) ≡ length (p .left)
+      go true t = ap (λ (v : Walked). length (v .left)) (done-none k n (zAt w ws x u) a b c u p (eqb-true _ 0 t)) ∙ three-length n (zAt w ws x u) a b c (p .left) hn room
+      go false t = ap (λ (v : Walked). length (v .left)) (done-some k n (zAt w ws x u) a b c u p (eqb-false _ 0 t))
+
+  next-behind : drop (6 * n) (next .left) ≡ drop (6 * n) (p .left)
+  next-behind = go (eqb (p .found .system) 0) refl
+    where
+      go : (t : Bool) → eqb (p .found .system) 0 ≡ t → drop (6 * n) (next .left) ≡ drop (6 * n) (p .left)
+      go true t = ap (λ (v : Walked). drop (6 * n) (v .left)) (done-none k n (zAt w ws x u) a b c u p (eqb-true _ 0 t)) ∙ three-behind n (zAt w ws x u) a b c (p .left) hn room
+      go false t = ap (λ (v : Walked). drop (6 * n) (v .left)) (done-some k n (zAt w ws x u) a b c u p (eqb-false _ 0 t))
+
+  next-row : w ≤ 32768 → u < 4096 → rowIn n (threeIn n (zAt w ws x u) a b c (p .left)) ≡ loginRow a b c n w ws x u
+  next-row hw hu = three-row n (zAt w ws x u) a b c (p .left) hn room ∙ ap (rowOf a b c n) (z-is w ws x u hw hu)
+
+  -- a login whose rows all hold, and one with a row that does not
+  next-none : w ≤ 32768 → u < 4096 → p .found .system ≡ 0 → loginRow a b c n w ws x u ≡ n → next .found ≡ p .found
+  next-none hw hu z e =
+      ap (λ (v : Walked). v .found) (done-none k n (zAt w ws x u) a b c u p z)
+      ∙ sym (seen-none (p .found) k u n (loginRow a b c n w ws x u) (threeIn n (zAt w ws x u) a b c (p .left)) (sym (next-row hw hu)) (omega (arith, e)))
+
+  next-here : w ≤ 32768 → u < 4096 → p .found .system ≡ 0 → loginRow a b c n w ws x u < n → next .found ≡ record { system = k; login = u; row = loginRow a b c n w ws x u }
+  next-here hw hu z l =
+      ap (λ (v : Walked). v .found) (done-none k n (zAt w ws x u) a b c u p z)
+      ∙ sym (seen-here (p .found) k u n (loginRow a b c n w ws x u) (threeIn n (zAt w ws x u) a b c (p .left)) (sym (next-row hw hu)) l)
+
 -- ---- one login after the other
-module _ (k n w : ℕ) (ws x : List ℕ) (a b c : List Entry) (s : List ℕ) (hn : n ≤ 65536) (hw : w ≤ 32768) (room : 6 * n ≤ length s) where
-  abbrev after : ℕ → List ℕ
-  after u = wordsAfter n w ws x a b c u s
+module _ (k n w : ℕ) (ws x : List ℕ) (a b c : List Entry) (p : Walked) (hn : n ≤ 65536) (room : 6 * n ≤ length (p .left)) where
+  abbrev after : ℕ → Walked
+  after u = systemDone k n w ws x a b c u p
 
   abbrev row : ℕ → ℕ
   row u = loginRow a b c n w ws x u
@@ -97,44 +130,38 @@ module _ (k n w : ℕ) (ws x : List ℕ) (a b c : List Entry) (s : List ℕ) (hn
   abbrev test : ℕ → Bool
   test u = eqb (row u) n
 
-  pub words-length-kept : (u : ℕ) → length (after u) ≡ length s
-  unfolding wordsAfter
-  words-length-kept zero = refl
-  words-length-kept (suc u) = three-length n (zAt w ws x u) a b c (after u) hn (rw (words-length-kept u) room) ∙ words-length-kept u
+  pub length-kept : (u : ℕ) → length (after u .left) ≡ length (p .left)
+  unfolding systemDone
+  length-kept zero = refl
+  length-kept (suc u) = next-length k n w ws x a b c u (after u) hn (rw (length-kept u) room) ∙ length-kept u
 
-  pub words-behind : (u : ℕ) → drop (6 * n) (after u) ≡ drop (6 * n) s
-  unfolding wordsAfter
-  words-behind zero = refl
-  words-behind (suc u) = three-behind n (zAt w ws x u) a b c (after u) hn (rw (words-length-kept u) room) ∙ words-behind u
+  room-at : (u : ℕ) → 6 * n ≤ length (after u .left)
+  room-at u = rw (length-kept u) room
 
-  row-at : (u : ℕ) → u < 4096 → rowIn n (after (suc u)) ≡ row u
-  unfolding wordsAfter
-  row-at u h = three-row n (zAt w ws x u) a b c (after u) hn (rw (words-length-kept u) room) ∙ ap (rowOf a b c n) (z-is w ws x u hw h)
+  pub behind-kept : (u : ℕ) → drop (6 * n) (after u .left) ≡ drop (6 * n) (p .left)
+  unfolding systemDone
+  behind-kept zero = refl
+  behind-kept (suc u) = next-behind k n w ws x a b c u (after u) hn (room-at u) ∙ behind-kept u
 
-  row-most : (u : ℕ) → row u ≤ n
-  row-most u = row-le a b c n (zOf w (loginPart w ws u) x)
+  pub found-kept : (p .found .system ≡ 0 → ⊥) → (u : ℕ) → after u .found ≡ p .found
+  unfolding systemDone
+  found-kept h zero = refl
+  found-kept h (suc u) =
+      let e = found-kept h u in
+      ap (λ (v : Walked). v .found) (done-some k n (zAt w ws x u) a b c u (after u) (rw e h)) ∙ e
 
-  module _ (r : Seen) where
-    abbrev seen : ℕ → Seen
-    seen u = seenAfter k n w ws x a b c u r s
+  module _ (hw : w ≤ 32768) (z : p .found .system ≡ 0) where
+    pub found-none : (u : ℕ) → u ≤ 4096 → Below test u → after u .found ≡ p .found
+    unfolding systemDone
+    found-none zero h below = refl
+    found-none (suc u) h below =
+        let e = found-none u (omega arith) (λ j l. below j (omega arith)) in
+        next-none k n w ws x a b c u (after u) hn (room-at u) hw (omega arith) (rw e z) (eqb-true (row u) n (below u (omega arith))) ∙ e
 
-    pub seen-kept : (r .system ≡ 0 → ⊥) → (u : ℕ) → seen u ≡ r
-    unfolding seenAfter
-    seen-kept h zero = refl
-    seen-kept h (suc u) = ap (λ (d : Seen). seenIn d k u n (after (suc u))) (seen-kept h u) ∙ sym (seen-before r k u n (after (suc u)) h)
-
-    pub seen-all : (u : ℕ) → u ≤ 4096 → Below test u → seen u ≡ r
-    unfolding seenAfter
-    seen-all zero h below = refl
-    seen-all (suc u) h below =
-        let e : row u ≡ n = eqb-true (row u) n (below u (omega arith)) in
-        ap (λ (d : Seen). seenIn d k u n (after (suc u))) (seen-all u (omega arith) (λ j l. below j (omega arith)))
-        ∙ sym (seen-none r k u n (row u) (after (suc u)) (sym (row-at u (omega arith))) (omega (arith, e)))
-
-    pub seen-first : r .system ≡ 0 → (k ≡ 0 → ⊥) → (u v : ℕ) → u ≤ 4096 → v < u → Below test v → test v ≡ false → seen u ≡ record { system = k; login = v; row = row v }
-    unfolding seenAfter
-    seen-first z some zero v h l below t = absurd (omega arith)
-    seen-first z some (suc u) v h l below t = go (eqb v u) refl (λ l. seen-first z some u v (omega arith) l below t)
+    pub found-first : (k ≡ 0 → ⊥) → (u v : ℕ) → u ≤ 4096 → v < u → Below test v → test v ≡ false → after u .found ≡ record { system = k; login = v; row = row v }
+    unfolding systemDone
+    found-first some zero v h l below t = absurd (omega arith)
+    found-first some (suc u) v h l below t = go (eqb v u) refl (λ l. found-first some u v (omega arith) l below t)
       where
         apart : (v u : ℕ) → v < suc u → (v ≡ u → ⊥) → v < u
         apart v u h d = omega arith
@@ -142,12 +169,13 @@ module _ (k n w : ℕ) (ws x : List ℕ) (a b c : List Entry) (s : List ℕ) (hn
         under : (i n : ℕ) → i ≤ n → (i ≡ n → ⊥) → i < n
         under i n h d = omega arith
 
-        go : (q : Bool) → eqb v u ≡ q → (v < u → seen u ≡ record { system = k; login = v; row = row v }) → seenIn (seen u) k u n (after (suc u)) ≡ record { system = k; login = v; row = row v }
+        go : (q : Bool) → eqb v u ≡ q → (v < u → after u .found ≡ record { system = k; login = v; row = row v })
+            → loginDone k n (zAt w ws x u) a b c u (after u) .found ≡ record { system = k; login = v; row = row v }
         go true q again =
             let e : v ≡ u = eqb-true v u q in
-            let f : row v < n = under (row v) n (row-most v) (eqb-false (row v) n t) in
-            ap (λ (d : Seen). seenIn d k u n (after (suc u))) (seen-all u (omega arith) (rw e at below))
-            ∙ sym (rw e (seen-here r k u n (row u) (after (suc u)) z (sym (row-at u (omega arith))) (rw e at f)))
+            let f : row v < n = under (row v) n (row-le a b c n (zOf w (loginPart w ws v) x)) (eqb-false (row v) n t) in
+            let y = found-none u (omega arith) (rw e at below) in
+            rw e (next-here k n w ws x a b c u (after u) hn (room-at u) hw (omega arith) (rw y z) (rw e at f))
         go false q again =
-            ap (λ (d : Seen). seenIn d k u n (after (suc u))) (again (apart v u l (eqb-false v u q)))
-            ∙ sym (seen-before (record { system = k; login = v; row = row v }) k u n (after (suc u)) some)
+            let y = again (apart v u l (eqb-false v u q)) in
+            ap (λ (d : Walked). d .found) (done-some k n (zAt w ws x u) a b c u (after u) (rw y some)) ∙ y

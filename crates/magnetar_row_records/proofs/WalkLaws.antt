@@ -1,7 +1,7 @@
 -- Laws on the walk of the row check: what is behind other elements, a login's three products, what is found in them.
 -- Assumes nothing.
 use mathlib.Core.Path.{_≡_, refl, sym, ap, ap₂, _∙_}
-use mathlib.Core.Bool.{Bool, true, false, cond, _&&_}
+use mathlib.Core.Bool.{Bool, true, false, cond}
 use mathlib.Core.List.{List, [], _∷_, _++_}
 use Prim.Native.Nat.{ℕ, zero, suc, _+_, _-_, _*_, _≤_, _<_, min, max}
 use native.Mathlib.Numerals.{add-one}
@@ -18,7 +18,7 @@ use Rattle.magnetar_batch.specs.Rows.{holdsAt}
 use Rattle.magnetar_inplace.specs.Steps.{clearedTo, addedTo, addedAll}
 use Rattle.magnetar_inplace.proofs.StepLaws.{rest-is, behind-is}
 use Rattle.magnetar_row_records.specs.declared.steps.Seen.{Seen}
-use Rattle.magnetar_row_records.specs.Steps.{behind, zAt, productIn, twiceOf, threeIn, rowIn, seenIn, wordsAfter, seenAfter}
+use Rattle.magnetar_row_records.specs.Steps.{behind, zAt, productIn, twiceOf, threeIn, rowIn, nothing, seenIn, Walked, from, loginDone, systemDone, bothSeen, bothWords}
 
 -- ---- what is behind the first m elements
 pub behind-some : (m : ℕ) (g : List ℕ → List ℕ) (s t : List ℕ) → 2 * m ≤ length s → t ≡ g (take (length s - 2 * m) (drop (2 * m) s))
@@ -86,37 +86,62 @@ pub row-short : (n : ℕ) (s : List ℕ) → n ≤ 65536 → length s < 6 * n �
 unfolding rowIn
 row-short n s h l = rw (le-leb n 65536 h, lt-leb (6 * n) (length s) l)
 
-and-none : (b : Bool) → (b && false) ≡ false
-and-none true = refl
-and-none false = refl
-
-pub seen-before : (r : Seen) (k u n : ℕ) (s : List ℕ) → (r .system ≡ 0 → ⊥) → r ≡ seenIn r k u n s
+pub seen-here : (r : Seen) (k u n i : ℕ) (s : List ℕ) → i ≡ rowIn n s → i < n → record { system = k; login = u; row = i } ≡ seenIn r k u n s
 unfolding seenIn
-seen-before r k u n s h = rw (ne-eqb (r .system) 0 h)
-
-pub seen-here : (r : Seen) (k u n i : ℕ) (s : List ℕ) → r .system ≡ 0 → i ≡ rowIn n s → i < n → record { system = k; login = u; row = i } ≡ seenIn r k u n s
-unfolding seenIn
-seen-here r k u n i s h e l = rw (← e, h, lt-ltb i n l)
+seen-here r k u n i s e l = rw (← e, lt-ltb i n l)
 
 pub seen-none : (r : Seen) (k u n i : ℕ) (s : List ℕ) → i ≡ rowIn n s → n ≤ i → r ≡ seenIn r k u n s
 unfolding seenIn
-seen-none r k u n i s e l = rw (← e, le-ltb i n l, and-none)
+seen-none r k u n i s e l = rw (← e, le-ltb i n l)
+
+-- ---- a login, unless something was found before
+module _ (k n : ℕ) (z : List ℕ) (a b c : List Entry) (u : ℕ) where
+  pub done-some : (p : Walked) → (p .found .system ≡ 0 → ⊥) → loginDone k n z a b c u p ≡ p
+  unfolding loginDone
+  done-some p h = rw (ne-eqb (p .found .system) 0 h)
+
+  pub done-none : (p : Walked) → p .found .system ≡ 0
+      → loginDone k n z a b c u p ≡ from (seenIn (p .found) k u n (threeIn n z a b c (p .left))) (threeIn n z a b c (p .left))
+  unfolding loginDone
+  done-none p h = rw h
+
+  pub unless-some : (r f : Seen) (s t : List ℕ) → eqb (r .system) 0 ≡ true → (f ≡ seenIn r k u n (threeIn n z a b c s)) × (t ≡ threeIn n z a b c s)
+      → (f ≡ loginDone k n z a b c u (from r s) .found) × (t ≡ loginDone k n z a b c u (from r s) .left)
+  unfolding loginDone
+  unless-some r f s t h e = rw h e
+
+  pub unless-none : (r : Seen) (s : List ℕ) → eqb (r .system) 0 ≡ false
+      → (r ≡ loginDone k n z a b c u (from r s) .found) × (s ≡ loginDone k n z a b c u (from r s) .left)
+  unfolding loginDone
+  unless-none r s h = rw h (refl, refl)
 
 -- ---- one login more
-pub words-more : (n w : ℕ) (ws x : List ℕ) (a b c : List Entry) (u : ℕ) (s s₁ s₂ : List ℕ) → s₁ ≡ wordsAfter n w ws x a b c u s → s₂ ≡ threeIn n (zAt w ws x u) a b c s₁
-    → s₂ ≡ wordsAfter n w ws x a b c (u + 1) s
-unfolding wordsAfter
-words-more n w ws x a b c u s s₁ s₂ e f = f ∙ rw (add-one u, e)
+module _ (k n w : ℕ) (ws x : List ℕ) (a b c : List Entry) where
+  pub system-start : (p : Walked) → (p .found ≡ systemDone k n w ws x a b c 0 p .found) × (p .left ≡ systemDone k n w ws x a b c 0 p .left)
+  unfolding systemDone
+  system-start p = (refl, refl)
 
-pub seen-more : (k n w : ℕ) (ws x : List ℕ) (a b c : List Entry) (u : ℕ) (r r₁ r₂ : Seen) (s s₁ : List ℕ) → r₁ ≡ seenAfter k n w ws x a b c u r s
-    → s₁ ≡ wordsAfter n w ws x a b c u s → r₂ ≡ seenIn r₁ k u n (threeIn n (zAt w ws x u) a b c s₁) → r₂ ≡ seenAfter k n w ws x a b c (u + 1) r s
-unfolding seenAfter wordsAfter
-seen-more k n w ws x a b c u r r₁ r₂ s s₁ er es f = f ∙ rw (add-one u, er, es)
+  pub system-more : (u : ℕ) (p : Walked) (r r₁ : Seen) (s s₁ : List ℕ)
+      → (r ≡ systemDone k n w ws x a b c u p .found) × (s ≡ systemDone k n w ws x a b c u p .left)
+      → (r₁ ≡ loginDone k n (zAt w ws x u) a b c u (from r s) .found) × (s₁ ≡ loginDone k n (zAt w ws x u) a b c u (from r s) .left)
+      → (r₁ ≡ systemDone k n w ws x a b c (u + 1) p .found) × (s₁ ≡ systemDone k n w ws x a b c (u + 1) p .left)
+  unfolding systemDone
+  system-more u p r r₁ s s₁ inv e =
+      let h : from r s ≡ systemDone k n w ws x a b c u p = ap₂ from (inv .0) (inv .1) in
+      rw (add-one u) (
+        e .0 ∙ ap (λ (v : Walked). loginDone k n (zAt w ws x u) a b c u v .found) h,
+        e .1 ∙ ap (λ (v : Walked). loginDone k n (zAt w ws x u) a b c u v .left) h,
+      )
 
-pub words-start : (n w : ℕ) (ws x : List ℕ) (a b c : List Entry) (s : List ℕ) → s ≡ wordsAfter n w ws x a b c 0 s
-unfolding wordsAfter
-words-start n w ws x a b c s = refl
-
-pub seen-start : (k n w : ℕ) (ws x : List ℕ) (a b c : List Entry) (r : Seen) (s : List ℕ) → r ≡ seenAfter k n w ws x a b c 0 r s
-unfolding seenAfter
-seen-start k n w ws x a b c r s = refl
+-- ---- both systems
+pub judge-ends : (q w n m : ℕ) (ws x : List ℕ) (ab bb cb af bf cf : List Entry) (s s₁ s₂ s₃ : List ℕ) (r r₁ r₂ : Seen) → r ≡ nothing
+    → (r₁ ≡ systemDone 1 n w ws x ab bb cb q (from r s) .found) × (s₁ ≡ systemDone 1 n w ws x ab bb cb q (from r s) .left)
+    → (r₂ ≡ systemDone 2 m w ws x af bf cf q (from r₁ s₁) .found) × (s₂ ≡ systemDone 2 m w ws x af bf cf q (from r₁ s₁) .left)
+    → s₃ ≡ clearedTo (3 * max n m) s₂
+    → (r₂ ≡ bothSeen q w n m ws x ab bb cb af bf cf s) × (s₃ ≡ bothWords q w n m ws x ab bb cb af bf cf s)
+judge-ends q w n m ws x ab bb cb af bf cf s s₁ s₂ s₃ r r₁ r₂ e₀ e₁ e₂ e₃ =
+    let h : from r₁ s₁ ≡ systemDone 1 n w ws x ab bb cb q (from nothing s) =
+    ap₂ from (e₁ .0) (e₁ .1) ∙ ap (λ (v : Seen). systemDone 1 n w ws x ab bb cb q (from v s)) e₀ in (
+      e₂ .0 ∙ ap (λ (v : Walked). systemDone 2 m w ws x af bf cf q v .found) h,
+      e₃ ∙ ap (clearedTo (3 * max n m)) (e₂ .1 ∙ ap (λ (v : Walked). systemDone 2 m w ws x af bf cf q v .left) h),
+    )

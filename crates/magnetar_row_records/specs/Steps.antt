@@ -44,29 +44,39 @@ rowIn n s = cond (leb n 65536 && leb (6 * n) (length s)) (firstNot (holdsAt (ele
 abbrev pub nothing : Seen
 nothing = record { system = 0; login = 0; row = 0 }
 
--- what was found before, or the first row of system k that does not hold for login u
+-- the first row of system k that does not hold for login u, or r
 unfoldable pub seenIn : Seen → ℕ → ℕ → ℕ → List ℕ → Seen
-seenIn r k u n s = cond (eqb (r .system) 0 && ltb (rowIn n s) n) (record { system = k; login = u; row = rowIn n s }) r
+seenIn r k u n s = cond (ltb (rowIn n s) n) (record { system = k; login = u; row = rowIn n s }) r
 
--- the words after u logins of a system with n rows
-unfoldable pub wordsAfter : (n w : ℕ) → (ws x : List ℕ) → (a b c : List Entry) → ℕ → List ℕ → List ℕ
-wordsAfter n w ws x a b c zero s = s
-wordsAfter n w ws x a b c (suc u) s = threeIn n (zAt w ws x u) a b c (wordsAfter n w ws x a b c u s)
+-- ---- the walk over the logins
+-- what was found, and the words
+pub record Walked : Type 0 where
+  pub found : Seen
+  pub left : List ℕ
 
--- what was found in them, after what was found before
-unfoldable pub seenAfter : (k n w : ℕ) → (ws x : List ℕ) → (a b c : List Entry) → ℕ → Seen → List ℕ → Seen
-seenAfter k n w ws x a b c zero r s = r
-seenAfter k n w ws x a b c (suc u) r s =
-    seenIn (seenAfter k n w ws x a b c u r s) k u n (wordsAfter n w ws x a b c (suc u) s)
+abbrev pub from : Seen → List ℕ → Walked
+from r s = record { found = r; left = s }
 
--- ---- both systems, of n and k rows and q logins
-abbrev pub bothWords : (q w n k : ℕ) → (ws x : List ℕ) → (ab bb cb af bf cf : List Entry) → List ℕ → List ℕ
-bothWords q w n k ws x ab bb cb af bf cf s =
-    clearedTo (3 * max n k) (wordsAfter k w ws x af bf cf q (wordsAfter n w ws x ab bb cb q s))
+-- after login u of system k with n rows; as it was where something was found before
+unfoldable pub loginDone : (k n : ℕ) → (z : List ℕ) → (a b c : List Entry) → ℕ → Walked → Walked
+loginDone k n z a b c u p =
+    cond (eqb (p .found .system) 0) (from (seenIn (p .found) k u n (threeIn n z a b c (p .left))) (threeIn n z a b c (p .left))) p
+
+-- after u logins of it
+unfoldable pub systemDone : (k n w : ℕ) → (ws x : List ℕ) → (a b c : List Entry) → ℕ → Walked → Walked
+systemDone k n w ws x a b c zero p = p
+systemDone k n w ws x a b c (suc u) p = loginDone k n (zAt w ws x u) a b c u (systemDone k n w ws x a b c u p)
+
+-- after q logins of both systems, of n and k rows
+abbrev pub bothDone : (q w n k : ℕ) → (ws x : List ℕ) → (ab bb cb af bf cf : List Entry) → List ℕ → Walked
+bothDone q w n k ws x ab bb cb af bf cf s =
+    systemDone 2 k w ws x af bf cf q (systemDone 1 n w ws x ab bb cb q (from nothing s))
 
 abbrev pub bothSeen : (q w n k : ℕ) → (ws x : List ℕ) → (ab bb cb af bf cf : List Entry) → List ℕ → Seen
-bothSeen q w n k ws x ab bb cb af bf cf s =
-    seenAfter 2 k w ws x af bf cf q (seenAfter 1 n w ws x ab bb cb q nothing s) (wordsAfter n w ws x ab bb cb q s)
+bothSeen q w n k ws x ab bb cb af bf cf s = bothDone q w n k ws x ab bb cb af bf cf s .found
+
+abbrev pub bothWords : (q w n k : ℕ) → (ws x : List ℕ) → (ab bb cb af bf cf : List Entry) → List ℕ → List ℕ
+bothWords q w n k ws x ab bb cb af bf cf s = clearedTo (3 * max n k) (bothDone q w n k ws x ab bb cb af bf cf s .left)
 
 -- the answer: a refusal, or what was found
 unfoldable pub answerOf : ℕ → Seen → Outcome

@@ -11,7 +11,7 @@ ghost use Rattle.magnetar_batch.specs.Systems.{system};
 ghost use Rattle.magnetar_batch.specs.Check.{outcome, checkRefusal, checkAnswer, checkScratch};
 ghost use Rattle.magnetar_inplace.specs.Records.{entriesOfRecords, lentOf};
 ghost use Rattle.magnetar_inplace.specs.Steps.{liesIn, addedAll};
-ghost use Rattle.magnetar_row_records.specs.Steps.{behind, zAt, productIn, threeIn, nothing, seenIn, wordsAfter, seenAfter, bothWords, bothSeen};
+ghost use Rattle.magnetar_row_records.specs.Steps.{behind, zAt, productIn, threeIn, nothing, seenIn, from, loginDone, systemDone, bothWords, bothSeen};
 use crate::refusal;
 use crate::steps;
 use crate::steps::Seen;
@@ -39,7 +39,7 @@ fn product(es: &[Entry], s: &mut [u64], m: usize, n: usize, u: usize, w: usize, 
     add_product(es, s, m, n, u, w, packed, x);
 }
 
-// The first row of system k that does not hold for login u, after what was found before.
+// The first row of system k that does not hold for login u, or r.
 fn check_login(
     r: Seen,
     k: usize,
@@ -63,6 +63,31 @@ fn check_login(
     steps::first_bad(r, k, u, s, n)
 }
 
+// The same unless r is a row that was found before.
+fn login_unless(
+    r: Seen,
+    k: usize,
+    u: usize,
+    s: &mut [u64],
+    n: usize,
+    w: usize,
+    packed: &[u64],
+    x: &[u64],
+    a: &[Entry],
+    b: &[Entry],
+    c: &[Entry],
+) -> Seen
+    ensures { λ f. ⌜ (f ≡ loginDone k n (zAt w (now (packed .entry)) (elements (now (x .entry))) u) (entriesOfRecords (now (a .entry))) (entriesOfRecords (now (b .entry))) (entriesOfRecords (now (c .entry))) u (from r (now (s .entry))) .found) × (now (s .exit) ≡ loginDone k n (zAt w (now (packed .entry)) (elements (now (x .entry))) u) (entriesOfRecords (now (a .entry))) (entriesOfRecords (now (b .entry))) (entriesOfRecords (now (c .entry))) u (from r (now (s .entry))) .left) ⌝ }
+{
+    let go = steps::is_nothing(r);
+    if go {
+        let f = check_login(r, k, u, s, n, w, packed, x, a, b, c);
+        f
+    } else {
+        r
+    }
+}
+
 // The first of q logins with a row that does not hold, after what was found before.
 fn check_system(
     r: Seen,
@@ -77,12 +102,12 @@ fn check_system(
     b: &[Entry],
     c: &[Entry],
 ) -> Seen
-    ensures { λ f. ⌜ (f ≡ seenAfter k n w (now (packed .entry)) (elements (now (x .entry))) (entriesOfRecords (now (a .entry))) (entriesOfRecords (now (b .entry))) (entriesOfRecords (now (c .entry))) q r (now (s .entry))) × (now (s .exit) ≡ wordsAfter n w (now (packed .entry)) (elements (now (x .entry))) (entriesOfRecords (now (a .entry))) (entriesOfRecords (now (b .entry))) (entriesOfRecords (now (c .entry))) q (now (s .entry))) ⌝ }
+    ensures { λ f. ⌜ (f ≡ systemDone k n w (now (packed .entry)) (elements (now (x .entry))) (entriesOfRecords (now (a .entry))) (entriesOfRecords (now (b .entry))) (entriesOfRecords (now (c .entry))) q (from r (now (s .entry))) .found) × (now (s .exit) ≡ systemDone k n w (now (packed .entry)) (elements (now (x .entry))) (entriesOfRecords (now (a .entry))) (entriesOfRecords (now (b .entry))) (entriesOfRecords (now (c .entry))) q (from r (now (s .entry))) .left) ⌝ }
 {
     let mut acc = r;
     let mut u = 0;
     while u < q {
-        acc = check_login(acc, k, u, s, n, w, packed, x, a, b, c);
+        acc = login_unless(acc, k, u, s, n, w, packed, x, a, b, c);
         u += 1;
     }
     acc

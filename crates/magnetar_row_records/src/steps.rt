@@ -176,13 +176,17 @@ fn first_row(s: &[u64], n: usize) -> usize
     n
 }
 
-// What was found before, or the first row of system k that does not hold for login u.
+// Nothing was found yet.
+pub(crate) fn is_nothing(r: Seen) -> bool
+    ensures { λ b. ⌜ b ≡ eqb (r .system) 0 ⌝ }
+{
+    r.system == 0
+}
+
+// The first row of system k that does not hold for login u, or r.
 pub(crate) fn first_bad(r: Seen, k: usize, u: usize, s: &mut [u64], n: usize) -> Seen
     ensures { λ a. ⌜ (a ≡ seenIn r k u n (now (s .entry))) × (now (s .exit) ≡ now (s .entry)) ⌝ }
 {
-    if r.system != 0 {
-        return r;
-    }
     let i = first_row(s, n);
     if i < n {
         return Seen {
