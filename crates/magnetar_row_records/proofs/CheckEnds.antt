@@ -214,8 +214,7 @@ module _ (m q : ℕ) (s t : Lent3) (ws x l : List ℕ) (n w : ℕ) (e : n ≡ ch
       let hs = f .systems .first .size .high in
       let ht = f .systems .second .size .high in
       let hw : w ≤ 32768 = rw ew (f .sized .half) in
-      let a = answer-is m q w s t ws (elements x) l hs ht hw (f .sized .logins) (f .enough) in
-      (
+      let a = answer-is m q w s t ws (elements x) l hs ht hw (f .sized .logins) (f .enough) in (
         ap (λ (i : ℕ). answerOf i seen) z ∙ (a ∙ rw ew (check-done m q s t ws x l c _ refl)),
         cleared-is m q w s t ws (elements x) l hs ht hw (f .sized .logins) (f .enough) ∙ done _ l c refl,
       )

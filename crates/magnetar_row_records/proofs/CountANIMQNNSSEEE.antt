@@ -287,52 +287,52 @@ module _ {M : Type 1} (𝓤 : URA M) (H : Heap 𝓤) (A : Atoms 𝓤) (W : Given
         more : (e : ltb i n ≡ true) → (small : i < n) → i < 2 ^ 64 → i + 1 < 2 ^ 64 → Inv a i zs₃ r → ent 𝓤 (⋆ 𝓤 H A (I x)) (Wp 𝓤 H C Λ En (turn k) (afterTurn 𝓤 H (Below 𝓤 H A ≺ I x) Left))
         unfolding afterTurn
         more e small fi next inv =
-          qed W (I x) ∵ exec ! C Λ En (turn k) (anyQ (afterTurn 𝓤 H (Below 𝓤 H A ≺ I x) Left)) $
-          assigns ! (bin ! (load ! (from ! (stop !)) (look ! 25 refl)) (load ! (from ! (stop !)) (look ! 16 refl)) tt) (from ! (stop !)) (init ! 26 refl (tt, tt)) $ 
-          rewrite ! 26 (λ (t : Bool). ‵ (fat fullShare tyBool l₁₄ 0 (vbool t))) e refl $ stays ! (load ! (from ! (stop !)) (look ! 26 refl)) $ 
-          assigns ! (addr ! (from ! (fld ! refl (hop ! (look-in ! 15 (sub ! 0 refl (whole !))) (stop !))))) (from ! (stop !)) (init ! 27 refl (tt, tt)) $ 
-          assigns ! (agg ! (and-then ! (load ! (from ! (stop !)) (look ! 27 refl)) (and-then ! (load ! (from ! (fld ! refl (stop !))) (look-in ! 15 (sub ! 1 refl (whole !)))) (no-more !)))) (from ! (stop !)) (init ! 28 refl (tt, (tt, (record { fits = room₃ .0 }, tt)))) $ 
-          move ! (2 ∷ []) $ use1 W (‵ O₇ ⊛ ‵ O₇) (shr-slice-copy 𝓤 H A W (named 1) κ₇ u64 .twice s₇ (v₇ ∷ [])) $ split ! $ 
-          move ! (5 ∷ []) $ use1 W (‵ O₈ ⊛ ‵ O₈) (shr-slice-copy 𝓤 H A W (named 2) κ₈ u64 .twice s₈ (v₈ ∷ [])) $ split ! $ 
-          move ! (8 ∷ []) $ use1 W (‵ O₉ ⊛ ‵ O₉) (shr-slice-copy 𝓤 H A W (named 3) κ₉ T.the-row .twice s₉ (v₉ ∷ [])) $ split ! $ 
-          move ! (11 ∷ []) $ use1 W (‵ O₁₀ ⊛ ‵ O₁₀) (shr-slice-copy 𝓤 H A W (named 4) κ₁₀ T.the-row .twice s₁₀ (v₁₀ ∷ [])) $ split ! $ 
-          move ! (14 ∷ []) $ use1 W (‵ O₁₁ ⊛ ‵ O₁₁) (shr-slice-copy 𝓤 H A W (named 5) κ₁₁ T.the-row .twice s₁₁ (v₁₁ ∷ [])) $ split ! $ 
-          lft-new ! tt (λ ν₃. move ! (11 ∷ 12 ∷ []) $ use2 W (later (some (λ (δ : GName). ‵ (MutSlice (named 0) (ν₃ ∷ []) u64 .own (ref₃ δ zs₃) (v₃ ∷ [])) ⊛ ‵ (Lent₃ ν₃ δ zs₃)))) (lends₃ ν₃ zs₃ len₃) $ await ! tt $ pick ! (λ δ₃. split ! $ 
-          nothing ! $ move ! (18 ∷ 0 ∷ []) $ join ! $ move ! (17 ∷ 0 ∷ []) $ join ! $ move ! (16 ∷ 0 ∷ []) $ join ! $ move ! (15 ∷ 0 ∷ []) $ join ! $ move ! (14 ∷ 0 ∷ []) $ join ! $ move ! (3 ∷ 0 ∷ []) $ join ! $ move ! (5 ∷ 3 ∷ []) $ join ! $ move ! (6 ∷ 0 ∷ []) $ join ! $ move ! (7 ∷ 0 ∷ []) $ join ! $ move ! (8 ∷ 0 ∷ []) $ join ! $ move ! (2 ∷ 0 ∷ []) $ join ! $ move ! (1 ∷ 0 ∷ []) $ join ! $ use1 W (raw (tripleOf 𝓤 H A (stepped .signature) (closing 𝓤 H A stepped d) .pre (to ν₃ δ₃ zs₃ r u i))) (goes ν₃ δ₃ zs₃ r u i len₃ small inv f₂ f₄ f₅ f₆ p₁ fi isr) $ 
-          calls-at ! (fmOf 𝓤 H (W .laws) 𝓣) (tripleOf 𝓤 H A (stepped .signature) (closing 𝓤 H A stepped d)) known (to ν₃ δ₃ zs₃ r u i) (and-then ! (load ! (from ! (stop !)) (look ! 19 refl)) (and-then ! (load ! (from ! (stop !)) (look ! 9 refl)) (and-then ! (load ! (from ! (stop !)) (look ! 20 refl)) (and-then ! (load ! (from ! (stop !)) (look ! 23 refl)) (and-then ! (load ! (from ! (stop !)) (look ! 12 refl)) (and-then ! (load ! (from ! (stop !)) (look ! 13 refl)) (and-then ! (load ! (from ! (stop !)) (look ! 14 refl)) (and-then ! (load ! (from ! (stop !)) (look ! 15 refl)) (and-then ! (load ! (from ! (stop !)) (look ! 16 refl)) (and-then ! (load ! (from ! (stop !)) (look ! 17 refl)) (and-then ! (load ! (from ! (stop !)) (look ! 18 refl)) (no-more !)))))))))))) (λ u′. 
-          use1 W (later (some (λ (r′ : Seen). ((‵ (flft (ν₃ ∷ []) fullShare) ⊛ ‵ (flft κ₇ q₇) ⊛ ‵ (flft κ₈ q₈) ⊛ ‵ (flft κ₉ q₉) ⊛ ‵ (flft κ₁₀ q₁₀) ⊛ ‵ (flft κ₁₁ q₁₁) ⊛ ‵ ftrue) ⊛ ‵ (B.the-row .own r′ (u′ ∷ []))) ⊛ some (λ (ws : Lasts stepped ((ν₃ ∷ []), (κ₇, (κ₈, (κ₉, (κ₁₀, (κ₁₁, tt)))))) (to-step a δ₃ zs₃ r i)). ‵ (lasts stepped ((ν₃ ∷ []), (κ₇, (κ₈, (κ₉, (κ₁₀, (κ₁₁, tt)))))) (to-step a δ₃ zs₃ r i) ws) ⊛ raw (d ((ν₃ ∷ []), (κ₇, (κ₈, (κ₉, (κ₁₀, (κ₁₁, tt)))))) (to-step a δ₃ zs₃ r i) .ensures (hold .ghost ((ν₃ ∷ []), (κ₇, (κ₈, (κ₉, (κ₁₀, (κ₁₁, tt)))))) (to-step a δ₃ zs₃ r i)) r′ (atExit stepped ((ν₃ ∷ []), (κ₇, (κ₈, (κ₉, (κ₁₀, (κ₁₁, tt)))))) (to-step a δ₃ zs₃ r i) ws)))))) (id⊢ 𝓤 _) $ await ! tt $ pick ! (λ r′. split ! $ move ! (1 ∷ []) $ pick ! (λ ws. split ! $ move ! (1 ∷ []) $ 
-          use1 W (raw (fact 𝓤 (Inv a (i + 1) (ws .1 .1 .1 .0) r′))) (hold .tells ((ν₃ ∷ []), (κ₇, (κ₈, (κ₉, (κ₁₀, (κ₁₁, tt)))))) a δ₃ zs₃ r i len₃ small inv (ws .1 .1 .1 .0) r′) $ heard ! (Inv a (i + 1) (ws .1 .1 .1 .0) r′) (λ inv′. 
-          fsplit ! $ move ! (1 ∷ []) $ fsplit ! $ move ! (1 ∷ []) $ fsplit ! $ move ! (1 ∷ []) $ fsplit ! $ fsplit ! $ move ! (1 ∷ []) $ feqL ! (λ same₃. move ! (1 ∷ []) $ fsplit ! $ move ! (1 ∷ []) $ fsplit ! $ move ! (1 ∷ []) $ fsplit ! $ move ! (1 ∷ []) $ fsplit ! $ move ! (1 ∷ []) $ fsplit ! $ move ! (1 ∷ []) $ fsplit ! $ move ! (1 ∷ []) $ fsplit ! $ move ! (1 ∷ []) $ move ! (12 ∷ []) $ split ! $ move ! (1 ∷ []) $ peeks ! B.the-row (Is B.the-row) (shows 𝓤 H A B.the-row) r′ (u′ ∷ []) (λ isr′. drop ! $ land ! (from ! (stop !)) (store ! 31 refl (LL.lawful B.the-type B′.the-laws 𝓤 H A W .typed r′ _ isr′ .0)) $ 
-          move ! (0 ∷ []) $ split ! $ move ! (1 ∷ []) $ split ! $ move ! (1 ∷ []) $ split ! $ move ! (1 ∷ []) $ split ! $ move ! (1 ∷ []) $ split ! $ move ! (1 ∷ []) $ split ! $ move ! (1 ∷ []) $ move ! (6 ∷ []) $ lft-end ! tt $ move ! (0 ∷ 19 ∷ 15 ∷ []) $ use3 W (later (‵ (O₃ (ws .1 .1 .1 .0)) ⊛ ‵ (flft κ₃ q₃))) (backs₃ ν₃ δ₃ zs₃ (ws .1 .1 .1 .0) len₃ room₃ same₃) $ await ! tt $ split ! $ 
-          assigns-last ! (bin ! (load ! (from ! (stop !)) (look ! 37 refl)) (lit ! tt) (record { fits = next })) (from ! (stop !)) (store ! 37 refl (tt, record { fits = next })) $ 
-          forget ! 38 refl $ forget ! 39 refl $ forget ! 40 refl $ keep ! (0 ∷ 1 ∷ 23 ∷ 7 ∷ 22 ∷ 6 ∷ 21 ∷ 5 ∷ 20 ∷ 4 ∷ 19 ∷ 3 ∷ 24 ∷ 25 ∷ 26 ∷ 27 ∷ 28 ∷ 29 ∷ 30 ∷ 31 ∷ 32 ∷ 33 ∷ 34 ∷ 35 ∷ 36 ∷ 37 ∷ 38 ∷ 39 ∷ 40 ∷ 41 ∷ 42 ∷ 43 ∷ 44 ∷ 45 ∷ 46 ∷ 47 ∷ 48 ∷ 49 ∷ 50 ∷ 51 ∷ 52 ∷ 53 ∷ 54 ∷ 55 ∷ 56 ∷ 57 ∷ []) $ 
-          again ! ≺ I x (i + 1, ws .1 .1 .1 .0, r′, u′, same₃ ∙ len₃, isr′, next-most i n small, inv′) (add-one-dec n i small)))))))))
+            qed W (I x) ∵ exec ! C Λ En (turn k) (anyQ (afterTurn 𝓤 H (Below 𝓤 H A ≺ I x) Left)) $
+            assigns ! (bin ! (load ! (from ! (stop !)) (look ! 25 refl)) (load ! (from ! (stop !)) (look ! 16 refl)) tt) (from ! (stop !)) (init ! 26 refl (tt, tt)) $
+            rewrite ! 26 (λ (t : Bool). ‵ (fat fullShare tyBool l₁₄ 0 (vbool t))) e refl $ stays ! (load ! (from ! (stop !)) (look ! 26 refl)) $
+            assigns ! (addr ! (from ! (fld ! refl (hop ! (look-in ! 15 (sub ! 0 refl (whole !))) (stop !))))) (from ! (stop !)) (init ! 27 refl (tt, tt)) $
+            assigns ! (agg ! (and-then ! (load ! (from ! (stop !)) (look ! 27 refl)) (and-then ! (load ! (from ! (fld ! refl (stop !))) (look-in ! 15 (sub ! 1 refl (whole !)))) (no-more !)))) (from ! (stop !)) (init ! 28 refl (tt, (tt, (record { fits = room₃ .0 }, tt)))) $
+            move ! (2 ∷ []) $ use1 W (‵ O₇ ⊛ ‵ O₇) (shr-slice-copy 𝓤 H A W (named 1) κ₇ u64 .twice s₇ (v₇ ∷ [])) $ split ! $
+            move ! (5 ∷ []) $ use1 W (‵ O₈ ⊛ ‵ O₈) (shr-slice-copy 𝓤 H A W (named 2) κ₈ u64 .twice s₈ (v₈ ∷ [])) $ split ! $
+            move ! (8 ∷ []) $ use1 W (‵ O₉ ⊛ ‵ O₉) (shr-slice-copy 𝓤 H A W (named 3) κ₉ T.the-row .twice s₉ (v₉ ∷ [])) $ split ! $
+            move ! (11 ∷ []) $ use1 W (‵ O₁₀ ⊛ ‵ O₁₀) (shr-slice-copy 𝓤 H A W (named 4) κ₁₀ T.the-row .twice s₁₀ (v₁₀ ∷ [])) $ split ! $
+            move ! (14 ∷ []) $ use1 W (‵ O₁₁ ⊛ ‵ O₁₁) (shr-slice-copy 𝓤 H A W (named 5) κ₁₁ T.the-row .twice s₁₁ (v₁₁ ∷ [])) $ split ! $
+            lft-new ! tt (λ ν₃. move ! (11 ∷ 12 ∷ []) $ use2 W (later (some (λ (δ : GName). ‵ (MutSlice (named 0) (ν₃ ∷ []) u64 .own (ref₃ δ zs₃) (v₃ ∷ [])) ⊛ ‵ (Lent₃ ν₃ δ zs₃)))) (lends₃ ν₃ zs₃ len₃) $ await ! tt $ pick ! (λ δ₃. split ! $
+            nothing ! $ move ! (18 ∷ 0 ∷ []) $ join ! $ move ! (17 ∷ 0 ∷ []) $ join ! $ move ! (16 ∷ 0 ∷ []) $ join ! $ move ! (15 ∷ 0 ∷ []) $ join ! $ move ! (14 ∷ 0 ∷ []) $ join ! $ move ! (3 ∷ 0 ∷ []) $ join ! $ move ! (5 ∷ 3 ∷ []) $ join ! $ move ! (6 ∷ 0 ∷ []) $ join ! $ move ! (7 ∷ 0 ∷ []) $ join ! $ move ! (8 ∷ 0 ∷ []) $ join ! $ move ! (2 ∷ 0 ∷ []) $ join ! $ move ! (1 ∷ 0 ∷ []) $ join ! $ use1 W (raw (tripleOf 𝓤 H A (stepped .signature) (closing 𝓤 H A stepped d) .pre (to ν₃ δ₃ zs₃ r u i))) (goes ν₃ δ₃ zs₃ r u i len₃ small inv f₂ f₄ f₅ f₆ p₁ fi isr) $
+            calls-at ! (fmOf 𝓤 H (W .laws) 𝓣) (tripleOf 𝓤 H A (stepped .signature) (closing 𝓤 H A stepped d)) known (to ν₃ δ₃ zs₃ r u i) (and-then ! (load ! (from ! (stop !)) (look ! 19 refl)) (and-then ! (load ! (from ! (stop !)) (look ! 9 refl)) (and-then ! (load ! (from ! (stop !)) (look ! 20 refl)) (and-then ! (load ! (from ! (stop !)) (look ! 23 refl)) (and-then ! (load ! (from ! (stop !)) (look ! 12 refl)) (and-then ! (load ! (from ! (stop !)) (look ! 13 refl)) (and-then ! (load ! (from ! (stop !)) (look ! 14 refl)) (and-then ! (load ! (from ! (stop !)) (look ! 15 refl)) (and-then ! (load ! (from ! (stop !)) (look ! 16 refl)) (and-then ! (load ! (from ! (stop !)) (look ! 17 refl)) (and-then ! (load ! (from ! (stop !)) (look ! 18 refl)) (no-more !)))))))))))) (λ u′.
+            use1 W (later (some (λ (r′ : Seen). ((‵ (flft (ν₃ ∷ []) fullShare) ⊛ ‵ (flft κ₇ q₇) ⊛ ‵ (flft κ₈ q₈) ⊛ ‵ (flft κ₉ q₉) ⊛ ‵ (flft κ₁₀ q₁₀) ⊛ ‵ (flft κ₁₁ q₁₁) ⊛ ‵ ftrue) ⊛ ‵ (B.the-row .own r′ (u′ ∷ []))) ⊛ some (λ (ws : Lasts stepped ((ν₃ ∷ []), (κ₇, (κ₈, (κ₉, (κ₁₀, (κ₁₁, tt)))))) (to-step a δ₃ zs₃ r i)). ‵ (lasts stepped ((ν₃ ∷ []), (κ₇, (κ₈, (κ₉, (κ₁₀, (κ₁₁, tt)))))) (to-step a δ₃ zs₃ r i) ws) ⊛ raw (d ((ν₃ ∷ []), (κ₇, (κ₈, (κ₉, (κ₁₀, (κ₁₁, tt)))))) (to-step a δ₃ zs₃ r i) .ensures (hold .ghost ((ν₃ ∷ []), (κ₇, (κ₈, (κ₉, (κ₁₀, (κ₁₁, tt)))))) (to-step a δ₃ zs₃ r i)) r′ (atExit stepped ((ν₃ ∷ []), (κ₇, (κ₈, (κ₉, (κ₁₀, (κ₁₁, tt)))))) (to-step a δ₃ zs₃ r i) ws)))))) (id⊢ 𝓤 _) $ await ! tt $ pick ! (λ r′. split ! $ move ! (1 ∷ []) $ pick ! (λ ws. split ! $ move ! (1 ∷ []) $
+            use1 W (raw (fact 𝓤 (Inv a (i + 1) (ws .1 .1 .1 .0) r′))) (hold .tells ((ν₃ ∷ []), (κ₇, (κ₈, (κ₉, (κ₁₀, (κ₁₁, tt)))))) a δ₃ zs₃ r i len₃ small inv (ws .1 .1 .1 .0) r′) $ heard ! (Inv a (i + 1) (ws .1 .1 .1 .0) r′) (λ inv′.
+            fsplit ! $ move ! (1 ∷ []) $ fsplit ! $ move ! (1 ∷ []) $ fsplit ! $ move ! (1 ∷ []) $ fsplit ! $ fsplit ! $ move ! (1 ∷ []) $ feqL ! (λ same₃. move ! (1 ∷ []) $ fsplit ! $ move ! (1 ∷ []) $ fsplit ! $ move ! (1 ∷ []) $ fsplit ! $ move ! (1 ∷ []) $ fsplit ! $ move ! (1 ∷ []) $ fsplit ! $ move ! (1 ∷ []) $ fsplit ! $ move ! (1 ∷ []) $ fsplit ! $ move ! (1 ∷ []) $ move ! (12 ∷ []) $ split ! $ move ! (1 ∷ []) $ peeks ! B.the-row (Is B.the-row) (shows 𝓤 H A B.the-row) r′ (u′ ∷ []) (λ isr′. drop ! $ land ! (from ! (stop !)) (store ! 31 refl (LL.lawful B.the-type B′.the-laws 𝓤 H A W .typed r′ _ isr′ .0)) $
+            move ! (0 ∷ []) $ split ! $ move ! (1 ∷ []) $ split ! $ move ! (1 ∷ []) $ split ! $ move ! (1 ∷ []) $ split ! $ move ! (1 ∷ []) $ split ! $ move ! (1 ∷ []) $ split ! $ move ! (1 ∷ []) $ move ! (6 ∷ []) $ lft-end ! tt $ move ! (0 ∷ 19 ∷ 15 ∷ []) $ use3 W (later (‵ (O₃ (ws .1 .1 .1 .0)) ⊛ ‵ (flft κ₃ q₃))) (backs₃ ν₃ δ₃ zs₃ (ws .1 .1 .1 .0) len₃ room₃ same₃) $ await ! tt $ split ! $
+            assigns-last ! (bin ! (load ! (from ! (stop !)) (look ! 37 refl)) (lit ! tt) (record { fits = next })) (from ! (stop !)) (store ! 37 refl (tt, record { fits = next })) $
+            forget ! 38 refl $ forget ! 39 refl $ forget ! 40 refl $ keep ! (0 ∷ 1 ∷ 23 ∷ 7 ∷ 22 ∷ 6 ∷ 21 ∷ 5 ∷ 20 ∷ 4 ∷ 19 ∷ 3 ∷ 24 ∷ 25 ∷ 26 ∷ 27 ∷ 28 ∷ 29 ∷ 30 ∷ 31 ∷ 32 ∷ 33 ∷ 34 ∷ 35 ∷ 36 ∷ 37 ∷ 38 ∷ 39 ∷ 40 ∷ 41 ∷ 42 ∷ 43 ∷ 44 ∷ 45 ∷ 46 ∷ 47 ∷ 48 ∷ 49 ∷ 50 ∷ 51 ∷ 52 ∷ 53 ∷ 54 ∷ 55 ∷ 56 ∷ 57 ∷ []) $
+            again ! ≺ I x (i + 1, ws .1 .1 .1 .0, r′, u′, same₃ ∙ len₃, isr′, next-most i n small, inv′) (add-one-dec n i small)))))))))
 
         -- the turn that leaves the loop, and the rest of the body
         last : (e : ltb i n ≡ false) → Inv a n zs₃ r → ent 𝓤 (⋆ 𝓤 H A (I x)) (Wp 𝓤 H C Λ En (turn k) (afterTurn 𝓤 H (Below 𝓤 H A ≺ I x) Left))
         unfolding afterTurn
         last e inv =
-          qed W (I x) ∵ exec ! C Λ En (turn k) (anyQ (afterTurn 𝓤 H (Below 𝓤 H A ≺ I x) Left)) $
-          assigns ! (bin ! (load ! (from ! (stop !)) (look ! 25 refl)) (load ! (from ! (stop !)) (look ! 16 refl)) tt) (from ! (stop !)) (init ! 26 refl (tt, tt)) $ 
-          rewrite ! 26 (λ (t : Bool). ‵ (fat fullShare tyBool l₁₄ 0 (vbool t))) e refl $ leaves-loop ! (load ! (from ! (stop !)) (look ! 26 refl)) $ exec ! C Λ En rest (atRet En Post) $ 
-          assigns ! (of-opd ! (load ! (from ! (stop !)) (look ! 24 refl))) (from ! (stop !)) (init ! 12 refl (LL.lawful B.the-type B′.the-laws 𝓤 H A W .typed r _ isr .0)) $ 
-          returns ! (look ! 12 refl) $ forget ! 24 refl $ forget ! 26 refl $ forget ! 25 refl $ forget ! 12 refl $ forget ! 13 refl $ forget ! 14 refl $ forget ! 15 refl $ forget ! 16 refl $ forget ! 17 refl $ forget ! 18 refl $ forget ! 19 refl $ forget ! 20 refl $ forget ! 21 refl $ forget ! 22 refl $ forget ! 23 refl $ 
-          move ! (12 ∷ 29 ∷ []) $ free1 ! $ move ! (12 ∷ 28 ∷ []) $ free1 ! $ move ! (12 ∷ 27 ∷ []) $ free1 ! $ move ! (12 ∷ 26 ∷ []) $ free1 ! $ move ! (12 ∷ 25 ∷ []) $ free1 ! $ move ! (12 ∷ 24 ∷ []) $ free1 ! $ move ! (12 ∷ 23 ∷ []) $ free1 ! $ move ! (12 ∷ 22 ∷ []) $ free1 ! $ move ! (12 ∷ 21 ∷ []) $ free1 ! $ move ! (12 ∷ 20 ∷ []) $ free1 ! $ move ! (12 ∷ 19 ∷ []) $ free1 ! $ move ! (12 ∷ 18 ∷ []) $ free1 ! $ move ! (12 ∷ 17 ∷ []) $ free1 ! $ move ! (12 ∷ 16 ∷ []) $ free1 ! $ move ! (12 ∷ 15 ∷ []) $ free1 ! $ move ! (12 ∷ 14 ∷ []) $ free1 ! $ move ! (12 ∷ 13 ∷ []) $ free1 ! $ free0 ! $ 
-          nothing ! $ move ! (12 ∷ 0 ∷ []) $ join ! $ move ! (10 ∷ 0 ∷ []) $ join ! $ move ! (8 ∷ 0 ∷ []) $ join ! $ move ! (6 ∷ 0 ∷ []) $ join ! $ move ! (4 ∷ 0 ∷ []) $ join ! $ move ! (2 ∷ 0 ∷ []) $ join ! $ keep ! (0 ∷ 1 ∷ 2 ∷ 3 ∷ 4 ∷ 5 ∷ 6 ∷ []) $ by ! (exits zs₃ r u len₃ inv f₂ f₄ f₅ f₆ p₁ isr)
+            qed W (I x) ∵ exec ! C Λ En (turn k) (anyQ (afterTurn 𝓤 H (Below 𝓤 H A ≺ I x) Left)) $
+            assigns ! (bin ! (load ! (from ! (stop !)) (look ! 25 refl)) (load ! (from ! (stop !)) (look ! 16 refl)) tt) (from ! (stop !)) (init ! 26 refl (tt, tt)) $
+            rewrite ! 26 (λ (t : Bool). ‵ (fat fullShare tyBool l₁₄ 0 (vbool t))) e refl $ leaves-loop ! (load ! (from ! (stop !)) (look ! 26 refl)) $ exec ! C Λ En rest (atRet En Post) $
+            assigns ! (of-opd ! (load ! (from ! (stop !)) (look ! 24 refl))) (from ! (stop !)) (init ! 12 refl (LL.lawful B.the-type B′.the-laws 𝓤 H A W .typed r _ isr .0)) $
+            returns ! (look ! 12 refl) $ forget ! 24 refl $ forget ! 26 refl $ forget ! 25 refl $ forget ! 12 refl $ forget ! 13 refl $ forget ! 14 refl $ forget ! 15 refl $ forget ! 16 refl $ forget ! 17 refl $ forget ! 18 refl $ forget ! 19 refl $ forget ! 20 refl $ forget ! 21 refl $ forget ! 22 refl $ forget ! 23 refl $
+            move ! (12 ∷ 29 ∷ []) $ free1 ! $ move ! (12 ∷ 28 ∷ []) $ free1 ! $ move ! (12 ∷ 27 ∷ []) $ free1 ! $ move ! (12 ∷ 26 ∷ []) $ free1 ! $ move ! (12 ∷ 25 ∷ []) $ free1 ! $ move ! (12 ∷ 24 ∷ []) $ free1 ! $ move ! (12 ∷ 23 ∷ []) $ free1 ! $ move ! (12 ∷ 22 ∷ []) $ free1 ! $ move ! (12 ∷ 21 ∷ []) $ free1 ! $ move ! (12 ∷ 20 ∷ []) $ free1 ! $ move ! (12 ∷ 19 ∷ []) $ free1 ! $ move ! (12 ∷ 18 ∷ []) $ free1 ! $ move ! (12 ∷ 17 ∷ []) $ free1 ! $ move ! (12 ∷ 16 ∷ []) $ free1 ! $ move ! (12 ∷ 15 ∷ []) $ free1 ! $ move ! (12 ∷ 14 ∷ []) $ free1 ! $ move ! (12 ∷ 13 ∷ []) $ free1 ! $ free0 ! $
+            nothing ! $ move ! (12 ∷ 0 ∷ []) $ join ! $ move ! (10 ∷ 0 ∷ []) $ join ! $ move ! (8 ∷ 0 ∷ []) $ join ! $ move ! (6 ∷ 0 ∷ []) $ join ! $ move ! (4 ∷ 0 ∷ []) $ join ! $ move ! (2 ∷ 0 ∷ []) $ join ! $ keep ! (0 ∷ 1 ∷ 2 ∷ 3 ∷ 4 ∷ 5 ∷ 6 ∷ []) $ by ! (exits zs₃ r u len₃ inv f₂ f₄ f₅ f₆ p₁ isr)
 
         turn-by : (t : Bool) → ltb i n ≡ t → ent 𝓤 (⋆ 𝓤 H A (I x)) (Wp 𝓤 H C Λ En (turn k) (afterTurn 𝓤 H (Below 𝓤 H A ≺ I x) Left))
         turn-by true e = more e (ltb-true i n e) (this-fits i n (ltb-true i n e) f₄) (next-fits i n (ltb-true i n e) f₄) (x .7)
         turn-by false e = last e (subst (λ (t : ℕ). Inv a t zs₃ r) (at-end i n (ltb-false i n e) (x .6)) (x .7))
 
-    walk : (𝓣 : Tables 𝓤 H) → Triple 𝓤 (𝓣 .C k) (tripleOf 𝓤 H A (stepped .signature) (closing 𝓤 H A stepped d)) → Inv a 0 ys₃ n₁ → Room u64 (length ys₃) → n₂ < 2 ^ 64 → n₄ < 2 ^ 64 → n₅ < 2 ^ 64 → n₆ < 2 ^ 64 → Is B.the-row n₁ (v₁ ∷ []) → Is (ShrSlice (named 1) κ₇ u64) s₇ (v₇ ∷ []) → Is (ShrSlice (named 2) κ₈ u64) s₈ (v₈ ∷ []) → Is (ShrSlice (named 3) κ₉ T.the-row) s₉ (v₉ ∷ []) → Is (ShrSlice (named 4) κ₁₀ T.the-row) s₁₀ (v₁₀ ∷ []) → Is (ShrSlice (named 5) κ₁₁ T.the-row) s₁₁ (v₁₁ ∷ []) → 
+    walk : (𝓣 : Tables 𝓤 H) → Triple 𝓤 (𝓣 .C k) (tripleOf 𝓤 H A (stepped .signature) (closing 𝓤 H A stepped d)) → Inv a 0 ys₃ n₁ → Room u64 (length ys₃) → n₂ < 2 ^ 64 → n₄ < 2 ^ 64 → n₅ < 2 ^ 64 → n₆ < 2 ^ 64 → Is B.the-row n₁ (v₁ ∷ []) → Is (ShrSlice (named 1) κ₇ u64) s₇ (v₇ ∷ []) → Is (ShrSlice (named 2) κ₈ u64) s₈ (v₈ ∷ []) → Is (ShrSlice (named 3) κ₉ T.the-row) s₉ (v₉ ∷ []) → Is (ShrSlice (named 4) κ₁₀ T.the-row) s₁₀ (v₁₀ ∷ []) → Is (ShrSlice (named 5) κ₁₁ T.the-row) s₁₁ (v₁₁ ∷ []) →
         ent 𝓤 (onEntry 𝓤 H A (ended .signature) (κ₃, (κ₇, (κ₈, (κ₉, (κ₁₀, (κ₁₁, tt)))))) (q₃, (q₇, (q₈, (q₉, (q₁₀, (q₁₁, tt)))))) a at) (WpFn 𝓤 H (𝓣 .C) (𝓣 .Λ) (function k) (v₁ ∷ v₂ ∷ v₃ ∷ v₄ ∷ v₅ ∷ v₆ ∷ v₇ ∷ v₈ ∷ v₉ ∷ v₁₀ ∷ v₁₁ ∷ []) Post)
     walk 𝓣 known inv room₃ f₂ f₄ f₅ f₆ p₁ p₇ p₈ p₉ p₁₀ p₁₁ =
         qed W ((‵ (flft κ₃ q₃) ⊛ ‵ (flft κ₇ q₇) ⊛ ‵ (flft κ₈ q₈) ⊛ ‵ (flft κ₉ q₉) ⊛ ‵ (flft κ₁₀ q₁₀) ⊛ ‵ (flft κ₁₁ q₁₁) ⊛ ‵ ftrue) ∷ ‵ (owns (B.the-row ∷ u64 ∷ MutSlice (named 0) κ₃ u64 ∷ u64 ∷ u64 ∷ u64 ∷ ShrSlice (named 1) κ₇ u64 ∷ ShrSlice (named 2) κ₈ u64 ∷ ShrSlice (named 3) κ₉ T.the-row ∷ ShrSlice (named 4) κ₁₀ T.the-row ∷ ShrSlice (named 5) κ₁₁ T.the-row ∷ []) a at) ∷ []) ∵ enter ! (𝓣 .C) (𝓣 .Λ) (function k) (v₁ ∷ v₂ ∷ v₃ ∷ v₄ ∷ v₅ ∷ v₆ ∷ v₇ ∷ v₈ ∷ v₉ ∷ v₁₀ ∷ v₁₁ ∷ []) _ $
-        alloc1 ! (λ l₀. alloc1 ! (λ l₁. alloc1 ! (λ l₂. alloc1 ! (λ l₃. alloc1 ! (λ l₄. alloc1 ! (λ l₅. alloc1 ! (λ l₆. alloc1 ! (λ l₇. alloc1 ! (λ l₈. alloc1 ! (λ l₉. alloc1 ! (λ l₁₀. alloc1 ! (λ l₁₁. alloc1 ! (λ l₁₂. alloc1 ! (λ l₁₃. alloc1 ! (λ l₁₄. alloc1 ! (λ l₁₅. alloc1 ! (λ l₁₆. alloc0 ! $ params1 ! $ pass1 ! (init ! 30 refl (LL.lawful B.the-type B′.the-laws 𝓤 H A W .typed n₁ _ p₁ .0)) $ pass1 ! (init ! 28 refl (tt, record { fits = f₂ })) $ pass1 ! (init ! 26 refl (tt, (tt, (record { fits = room₃ .0 }, tt)))) $ pass1 ! (init ! 24 refl (tt, record { fits = f₄ })) $ pass1 ! (init ! 22 refl (tt, record { fits = f₅ })) $ pass1 ! (init ! 20 refl (tt, record { fits = f₆ })) $ pass1 ! (init ! 18 refl (shr-slice-lawful 𝓤 H A W (named 1) κ₇ u64 .typed s₇ (v₇ ∷ []) p₇ .0)) $ pass1 ! (init ! 16 refl (shr-slice-lawful 𝓤 H A W (named 2) κ₈ u64 .typed s₈ (v₈ ∷ []) p₈ .0)) $ pass1 ! (init ! 14 refl (shr-slice-lawful 𝓤 H A W (named 3) κ₉ T.the-row .typed s₉ (v₉ ∷ []) p₉ .0)) $ pass1 ! (init ! 12 refl (shr-slice-lawful 𝓤 H A W (named 4) κ₁₀ T.the-row .typed s₁₀ (v₁₀ ∷ []) p₁₀ .0)) $ pass1 ! (init ! 10 refl (shr-slice-lawful 𝓤 H A W (named 5) κ₁₁ T.the-row .typed s₁₁ (v₁₁ ∷ []) p₁₁ .0)) $ pass0 ! $ 
-          assigns ! (of-opd ! (load ! (from ! (stop !)) (look ! 30 refl))) (from ! (stop !)) (init ! 8 refl (LL.lawful B.the-type B′.the-laws 𝓤 H A W .typed n₁ _ p₁ .0)) $ 
-          assigns ! (of-opd ! (lit ! tt)) (from ! (stop !)) (init ! 6 refl (tt, record { fits = lit< tt })) $ 
-          move ! (35 ∷ []) $ fsplit ! $ move ! (1 ∷ []) $ fsplit ! $ move ! (1 ∷ []) $ fsplit ! $ move ! (1 ∷ []) $ fsplit ! $ move ! (1 ∷ []) $ fsplit ! $ move ! (1 ∷ []) $ fsplit ! $ move ! (1 ∷ []) $ fsplit ! $ move ! (1 ∷ []) $ fsplit ! $ move ! (1 ∷ []) $ fsplit ! $ move ! (1 ∷ []) $ fsplit ! $ move ! (1 ∷ []) $ fsplit ! $ move ! (1 ∷ []) $ move ! (46 ∷ []) $ split ! $ move ! (1 ∷ []) $ split ! $ move ! (1 ∷ []) $ split ! $ move ! (1 ∷ []) $ split ! $ move ! (1 ∷ []) $ split ! $ move ! (1 ∷ []) $ split ! $ move ! (1 ∷ []) $ keep ! (16 ∷ 6 ∷ 12 ∷ 5 ∷ 11 ∷ 4 ∷ 10 ∷ 3 ∷ 9 ∷ 2 ∷ 8 ∷ 1 ∷ 51 ∷ 49 ∷ 47 ∷ 45 ∷ 43 ∷ 41 ∷ 39 ∷ 37 ∷ 35 ∷ 33 ∷ 31 ∷ 29 ∷ 27 ∷ 25 ∷ 23 ∷ 21 ∷ 19 ∷ 52 ∷ 50 ∷ 48 ∷ 46 ∷ 44 ∷ 42 ∷ 40 ∷ 38 ∷ 36 ∷ 34 ∷ 32 ∷ 30 ∷ 28 ∷ 26 ∷ 24 ∷ 22 ∷ 20 ∷ []) $ first ! $ blocks ! $ 
-          loops ! 𝓣 (≺ 𝓣 known room₃ f₂ f₄ f₅ f₆ p₁ p₇ p₈ p₉ p₁₀ p₁₁ l₀ l₁ l₂ l₃ l₄ l₅ l₆ l₇ l₈ l₉ l₁₀ l₁₁ l₁₂ l₁₃ l₁₄ l₁₅ l₁₆) (by-number left) (I 𝓣 known room₃ f₂ f₄ f₅ f₆ p₁ p₇ p₈ p₉ p₁₀ p₁₁ l₀ l₁ l₂ l₃ l₄ l₅ l₆ l₇ l₈ l₉ l₁₀ l₁₁ l₁₂ l₁₃ l₁₄ l₁₅ l₁₆) (λ x. by ! (turn-by 𝓣 known room₃ f₂ f₄ f₅ f₆ p₁ p₇ p₈ p₉ p₁₀ p₁₁ l₀ l₁ l₂ l₃ l₄ l₅ l₆ l₇ l₈ l₉ l₁₀ l₁₁ l₁₂ l₁₃ l₁₄ l₁₅ l₁₆ x (ltb (x .0) n) refl)) (0, ys₃, n₁, v₁, refl, p₁, none-less n, inv))))))))))))))))))
+        alloc1 ! (λ l₀. alloc1 ! (λ l₁. alloc1 ! (λ l₂. alloc1 ! (λ l₃. alloc1 ! (λ l₄. alloc1 ! (λ l₅. alloc1 ! (λ l₆. alloc1 ! (λ l₇. alloc1 ! (λ l₈. alloc1 ! (λ l₉. alloc1 ! (λ l₁₀. alloc1 ! (λ l₁₁. alloc1 ! (λ l₁₂. alloc1 ! (λ l₁₃. alloc1 ! (λ l₁₄. alloc1 ! (λ l₁₅. alloc1 ! (λ l₁₆. alloc0 ! $ params1 ! $ pass1 ! (init ! 30 refl (LL.lawful B.the-type B′.the-laws 𝓤 H A W .typed n₁ _ p₁ .0)) $ pass1 ! (init ! 28 refl (tt, record { fits = f₂ })) $ pass1 ! (init ! 26 refl (tt, (tt, (record { fits = room₃ .0 }, tt)))) $ pass1 ! (init ! 24 refl (tt, record { fits = f₄ })) $ pass1 ! (init ! 22 refl (tt, record { fits = f₅ })) $ pass1 ! (init ! 20 refl (tt, record { fits = f₆ })) $ pass1 ! (init ! 18 refl (shr-slice-lawful 𝓤 H A W (named 1) κ₇ u64 .typed s₇ (v₇ ∷ []) p₇ .0)) $ pass1 ! (init ! 16 refl (shr-slice-lawful 𝓤 H A W (named 2) κ₈ u64 .typed s₈ (v₈ ∷ []) p₈ .0)) $ pass1 ! (init ! 14 refl (shr-slice-lawful 𝓤 H A W (named 3) κ₉ T.the-row .typed s₉ (v₉ ∷ []) p₉ .0)) $ pass1 ! (init ! 12 refl (shr-slice-lawful 𝓤 H A W (named 4) κ₁₀ T.the-row .typed s₁₀ (v₁₀ ∷ []) p₁₀ .0)) $ pass1 ! (init ! 10 refl (shr-slice-lawful 𝓤 H A W (named 5) κ₁₁ T.the-row .typed s₁₁ (v₁₁ ∷ []) p₁₁ .0)) $ pass0 ! $
+        assigns ! (of-opd ! (load ! (from ! (stop !)) (look ! 30 refl))) (from ! (stop !)) (init ! 8 refl (LL.lawful B.the-type B′.the-laws 𝓤 H A W .typed n₁ _ p₁ .0)) $
+        assigns ! (of-opd ! (lit ! tt)) (from ! (stop !)) (init ! 6 refl (tt, record { fits = lit< tt })) $
+        move ! (35 ∷ []) $ fsplit ! $ move ! (1 ∷ []) $ fsplit ! $ move ! (1 ∷ []) $ fsplit ! $ move ! (1 ∷ []) $ fsplit ! $ move ! (1 ∷ []) $ fsplit ! $ move ! (1 ∷ []) $ fsplit ! $ move ! (1 ∷ []) $ fsplit ! $ move ! (1 ∷ []) $ fsplit ! $ move ! (1 ∷ []) $ fsplit ! $ move ! (1 ∷ []) $ fsplit ! $ move ! (1 ∷ []) $ fsplit ! $ move ! (1 ∷ []) $ move ! (46 ∷ []) $ split ! $ move ! (1 ∷ []) $ split ! $ move ! (1 ∷ []) $ split ! $ move ! (1 ∷ []) $ split ! $ move ! (1 ∷ []) $ split ! $ move ! (1 ∷ []) $ split ! $ move ! (1 ∷ []) $ keep ! (16 ∷ 6 ∷ 12 ∷ 5 ∷ 11 ∷ 4 ∷ 10 ∷ 3 ∷ 9 ∷ 2 ∷ 8 ∷ 1 ∷ 51 ∷ 49 ∷ 47 ∷ 45 ∷ 43 ∷ 41 ∷ 39 ∷ 37 ∷ 35 ∷ 33 ∷ 31 ∷ 29 ∷ 27 ∷ 25 ∷ 23 ∷ 21 ∷ 19 ∷ 52 ∷ 50 ∷ 48 ∷ 46 ∷ 44 ∷ 42 ∷ 40 ∷ 38 ∷ 36 ∷ 34 ∷ 32 ∷ 30 ∷ 28 ∷ 26 ∷ 24 ∷ 22 ∷ 20 ∷ []) $ first ! $ blocks ! $
+        loops ! 𝓣 (≺ 𝓣 known room₃ f₂ f₄ f₅ f₆ p₁ p₇ p₈ p₉ p₁₀ p₁₁ l₀ l₁ l₂ l₃ l₄ l₅ l₆ l₇ l₈ l₉ l₁₀ l₁₁ l₁₂ l₁₃ l₁₄ l₁₅ l₁₆) (by-number left) (I 𝓣 known room₃ f₂ f₄ f₅ f₆ p₁ p₇ p₈ p₉ p₁₀ p₁₁ l₀ l₁ l₂ l₃ l₄ l₅ l₆ l₇ l₈ l₉ l₁₀ l₁₁ l₁₂ l₁₃ l₁₄ l₁₅ l₁₆) (λ x. by ! (turn-by 𝓣 known room₃ f₂ f₄ f₅ f₆ p₁ p₇ p₈ p₉ p₁₀ p₁₁ l₀ l₁ l₂ l₃ l₄ l₅ l₆ l₇ l₈ l₉ l₁₀ l₁₁ l₁₂ l₁₃ l₁₄ l₁₅ l₁₆ x (ltb (x .0) n) refl)) (0, ys₃, n₁, v₁, refl, p₁, none-less n, inv))))))))))))))))))
 
 module _ {M : Type 1} (𝓤 : URA M) (H : Heap 𝓤) (A : Atoms 𝓤) (W : Given 𝓤 H A) (k : Name) (c : Clauses 𝓤 ended) (d : Clauses 𝓤 stepped) (Inv : Arg → ℕ → List ℕ → Seen → Type 0) (hold : Holds 𝓤 c d Inv) (𝓣 : Tables 𝓤 H) (known : Triple 𝓤 (𝓣 .C k) (tripleOf 𝓤 H A (stepped .signature) (closing 𝓤 H A stepped d))) where
   walks : Walks 𝓤 H A ended stayed (WpFn 𝓤 H (𝓣 .C) (𝓣 .Λ) (function k)) c
@@ -341,4 +341,3 @@ module _ {M : Type 1} (𝓤 : URA M) (H : Heap 𝓤) (A : Atoms 𝓤) (W : Given
 
   pub count-meets : Meets 𝓤 H A (ended .signature) (WpFn 𝓤 H (𝓣 .C) (𝓣 .Λ) (function k)) (closing 𝓤 H A ended c)
   count-meets = walk-meets 𝓤 H A ended stayed W (goes-none 𝓤 H A W 6 (λ _. B.the-row) yes (λ κs x f. refl), (goes-none 𝓤 H A W 6 (λ _. u64) yes (λ κs x f. refl), (goes-slice 𝓤 H A W 6 0 tt (plain (λ _. u64)), (goes-none 𝓤 H A W 6 (λ _. u64) yes (λ κs x f. refl), (goes-none 𝓤 H A W 6 (λ _. u64) yes (λ κs x f. refl), (goes-none 𝓤 H A W 6 (λ _. u64) yes (λ κs x f. refl), (goes-none-slice 𝓤 H A W 6 (1 ∷ []) tt (plain (λ _. u64)) yes, (goes-none-slice 𝓤 H A W 6 (2 ∷ []) tt (plain (λ _. u64)) yes, (goes-none-slice 𝓤 H A W 6 (3 ∷ []) tt (plain (λ _. T.the-row)) yes, (goes-none-slice 𝓤 H A W 6 (4 ∷ []) tt (plain (λ _. T.the-row)) yes, (goes-none-slice 𝓤 H A W 6 (5 ∷ []) tt (plain (λ _. T.the-row)) yes, tt))))))))))) c (WpFn 𝓤 H (𝓣 .C) (𝓣 .Λ) (function k)) (WpFn-mono 𝓤 H (W .laws) 𝓣 (function k)) walks
-

@@ -128,7 +128,6 @@ this-fits i n l h = omega (arith, l, h)
 next-fits : (i n : ℕ) → i < n → n < 2 ^ 64 → i + 1 < 2 ^ 64
 next-fits i n l h = omega (arith, l, h)
 
-
 abbrev pub to-step : (a : Arg) (δ₁ : GName) (zs₁ : List ℕ) (e : Entry) → Passed
 to-step a δ₁ zs₁ e = (record { ptr = (a .1 .0) .ptr; name = δ₁; now = zs₁ }, ((a .1 .1 .0), ((a .1 .1 .1 .0), ((a .1 .1 .1 .1 .0), ((a .1 .1 .1 .1 .1 .0), ((a .1 .1 .1 .1 .1 .1 .0), ((a .1 .1 .1 .1 .1 .1 .1 .0), (e, tt))))))))
 
@@ -139,7 +138,7 @@ pub record Holds {M : Type 1} (𝓤 : URA M) (c : Clauses 𝓤 ended) (d : Claus
   pub asks : (κs : Lfts 3) (a : Arg) (δ₁ : GName) (zs₁ : List ℕ) (e : Entry) (es : List Entry) → length zs₁ ≡ length (a .1 .0 .now) → Inv a (e ∷ es) zs₁
       → ent 𝓤 (emp 𝓤) (d κs (to-step a δ₁ zs₁ e) .requires (ghost κs (to-step a δ₁ zs₁ e)))
   pub tells : (κs : Lfts 3) (a : Arg) (δ₁ : GName) (zs₁ : List ℕ) (e : Entry) (es : List Entry) → length zs₁ ≡ length (a .1 .0 .now) → Inv a (e ∷ es) zs₁
-      →  (zs′₁ : List ℕ) → ent 𝓤 (d κs (to-step a δ₁ zs₁ e) .ensures (ghost κs (to-step a δ₁ zs₁ e)) tt (atExit stepped κs (to-step a δ₁ zs₁ e) (zs′₁, (tt, (tt, (tt, (tt, (tt, (tt, (tt, tt)))))))))) (fact 𝓤 (Inv a es zs′₁))
+      → (zs′₁ : List ℕ) → ent 𝓤 (d κs (to-step a δ₁ zs₁ e) .ensures (ghost κs (to-step a δ₁ zs₁ e)) tt (atExit stepped κs (to-step a δ₁ zs₁ e) (zs′₁, (tt, (tt, (tt, (tt, (tt, (tt, (tt, tt)))))))))) (fact 𝓤 (Inv a es zs′₁))
   pub ends : (κs : Lfts 4) (a : Arg) (g : c κs a .ghost) (zs₁ : List ℕ) → length zs₁ ≡ length (a .1 .0 .now) → Inv a [] zs₁ → ent 𝓤 (emp 𝓤) (c κs a .ensures g tt (atExit ended κs a (tt, (zs₁, (tt, (tt, (tt, (tt, (tt, (tt, tt))))))))))
 
 module _ {M : Type 1} (𝓤 : URA M) (H : Heap 𝓤) (A : Atoms 𝓤) (W : Given 𝓤 H A) (k : Name) (c : Clauses 𝓤 ended) (d : Clauses 𝓤 stepped) (Inv : Arg → List Entry → List ℕ → Type 0) (hold : Holds 𝓤 c d Inv) (κ₀ κ₁ κ₆ κ₇ : Lft) (q₀ q₁ q₆ q₇ : Share) (es : RefT (List Entry)) (b₁ o₁ : ℕ) (γ₁ : GName) (ys₁ : List ℕ) (n₂ : ℕ) (n₃ : ℕ) (n₄ : ℕ) (n₅ : ℕ) (s₆ : RefT (List ℕ)) (s₇ : RefT (List ℕ)) where
@@ -235,7 +234,7 @@ module _ {M : Type 1} (𝓤 : URA M) (H : Heap 𝓤) (A : Atoms 𝓤) (W : Given
     abbrev left : At → ℕ
     left x = n - x .0
 
-    module _ (𝓣 : Tables 𝓤 H) (known : Triple 𝓤 (𝓣 .C k) (tripleOf 𝓤 H A (stepped .signature) (closing 𝓤 H A stepped d))) (room₀ : Room T.the-row n) (room₁ : Room u64 (length ys₁)) (f₂ : n₂ < 2 ^ 64) (f₃ : n₃ < 2 ^ 64) (f₄ : n₄ < 2 ^ 64) (f₅ : n₅ < 2 ^ 64)  (p₆ : Is (ShrSlice (named 2) κ₆ u64) s₆ (v₆ ∷ [])) (p₇ : Is (ShrSlice (named 3) κ₇ u64) s₇ (v₇ ∷ [])) (l₀ l₁ l₂ l₃ l₄ l₅ l₆ l₇ l₈ l₉ l₁₀ l₁₁ l₁₂ l₁₃ l₁₄ l₁₅ l₁₆ : ℕ) where
+    module _ (𝓣 : Tables 𝓤 H) (known : Triple 𝓤 (𝓣 .C k) (tripleOf 𝓤 H A (stepped .signature) (closing 𝓤 H A stepped d))) (room₀ : Room T.the-row n) (room₁ : Room u64 (length ys₁)) (f₂ : n₂ < 2 ^ 64) (f₃ : n₃ < 2 ^ 64) (f₄ : n₄ < 2 ^ 64) (f₅ : n₅ < 2 ^ 64) (p₆ : Is (ShrSlice (named 2) κ₆ u64) s₆ (v₆ ∷ [])) (p₇ : Is (ShrSlice (named 3) κ₇ u64) s₇ (v₇ ∷ [])) (l₀ l₁ l₂ l₃ l₄ l₅ l₆ l₇ l₈ l₉ l₁₀ l₁₁ l₁₂ l₁₃ l₁₄ l₁₅ l₁₆ : ℕ) where
       abbrev C : Calls 𝓤 H
       C = 𝓣 .C
 
@@ -278,60 +277,60 @@ module _ {M : Type 1} (𝓤 : URA M) (H : Heap 𝓤) (A : Atoms 𝓤) (W : Given
         more : (e : ltb i n ≡ true) → (small : i < n) → i * 32 < 2 ^ 64 → i + 1 < 2 ^ 64 → Inv a (rec ∷ rest′) zs₁ → ent 𝓤 (⋆ 𝓤 H A (I x)) (Wp 𝓤 H C Λ En (turn k) (afterTurn 𝓤 H (Below 𝓤 H A ≺ I x) Left))
         unfolding afterTurn
         more e small bytes next inv =
-          qed W (I x) ∵ exec ! C Λ En (turn k) (anyQ (afterTurn 𝓤 H (Below 𝓤 H A ≺ I x) Left)) $
-          assigns ! (of-opd ! (load ! (from ! (fld ! refl (stop !))) (look-in ! 10 (sub ! 1 refl (whole !))))) (from ! (stop !)) (init ! 19 refl (tt, record { fits = room₀ .0 })) $ 
-          assigns ! (bin ! (load ! (from ! (stop !)) (look ! 18 refl)) (load ! (from ! (stop !)) (look ! 19 refl)) tt) (from ! (stop !)) (init ! 20 refl (tt, tt)) $ 
-          rewrite ! 20 (λ (t : Bool). ‵ (fat fullShare tyBool l₁₁ 0 (vbool t))) e refl $ stays ! (load ! (from ! (stop !)) (look ! 20 refl)) $ 
-          assigns ! (addr ! (from ! (fld ! refl (hop ! (look-in ! 11 (sub ! 0 refl (whole !))) (stop !))))) (from ! (stop !)) (init ! 22 refl (tt, tt)) $ 
-          assigns ! (agg ! (and-then ! (load ! (from ! (stop !)) (look ! 22 refl)) (and-then ! (load ! (from ! (fld ! refl (stop !))) (look-in ! 11 (sub ! 1 refl (whole !)))) (no-more !)))) (from ! (stop !)) (init ! 23 refl (tt, (tt, (record { fits = room₁ .0 }, tt)))) $ 
-          assigns ! (bin ! (load ! (from ! (stop !)) (look ! 18 refl)) (lit ! tt) (record { fits = bytes })) (from ! (stop !)) (store ! 19 refl (tt, record { fits = bytes })) $ 
-          assigns ! (bin ! (load ! (from ! (fld ! refl (stop !))) (look-in ! 10 (sub ! 0 refl (whole !)))) (load ! (from ! (stop !)) (look ! 19 refl)) tt) (from ! (stop !)) (init ! 24 refl (tt, tt)) $ 
-          rewrite ! 24 (λ (p : ℕ). ‵ (fat fullShare tyPtr l₁₅ 0 (vptr (es .ptr .0) p))) (sym (place-is 32 (es .ptr .1) i)) refl $ 
-          -- the record is read
-          move ! (7 ∷ 6 ∷ []) $ looks-slice ! tt T.the-row (Is T.the-row) (shows 𝓤 H A T.the-row) (LL.vals T.the-type T′.the-laws) (LL.tells T.the-type T′.the-laws) (LL.copy T.the-type T′.the-copy 𝓤 H A W) (es .now) (es .ptr .0) (es .ptr .1) (λ q′. elem-out ! T.the-row (Is T.the-row) (shows 𝓤 H A T.the-row) (LL.vals T.the-type T′.the-laws) (LL.tells T.the-type T′.the-laws) q′ (es .now) i none (es .ptr .0) (es .ptr .1) small (λ is. 
-          assigns ! (of-opd ! (load ! (from ! (hop ! (look ! 27 refl) (stop !))) (look-raw ! 0 refl))) (from ! (stop !)) (init ! 28 refl (LL.lawful T.the-type T′.the-laws 𝓤 H A W .typed rec _ is .0)) $ 
-          elem-back ! T.the-row q′ (es .now) i none (mach rec ∷ []) (es .ptr .0) (es .ptr .1) small $ shuts-slice ! tt T.the-row q′ (es .now) (es .ptr .0) (es .ptr .1) $ 
-          move ! (4 ∷ []) $ use1 W (‵ O₆ ⊛ ‵ O₆) (shr-slice-copy 𝓤 H A W (named 2) κ₆ u64 .twice s₆ (v₆ ∷ [])) $ split ! $ 
-          move ! (7 ∷ []) $ use1 W (‵ O₇ ⊛ ‵ O₇) (shr-slice-copy 𝓤 H A W (named 3) κ₇ u64 .twice s₇ (v₇ ∷ [])) $ split ! $ 
-          lft-new ! tt (λ ν₁. move ! (7 ∷ 8 ∷ []) $ use2 W (later (some (λ (δ : GName). ‵ (MutSlice (named 0) (ν₁ ∷ []) u64 .own (ref₁ δ zs₁) (v₁ ∷ [])) ⊛ ‵ (Lent₁ ν₁ δ zs₁)))) (lends₁ ν₁ zs₁ len₁) $ await ! tt $ pick ! (λ δ₁. split ! $ 
-          nothing ! $ move ! (11 ∷ 0 ∷ []) $ join ! $ move ! (10 ∷ 0 ∷ []) $ join ! $ move ! (3 ∷ 0 ∷ []) $ join ! $ move ! (0 ∷ 1 ∷ 5 ∷ 3 ∷ []) $ move ! (2 ∷ 3 ∷ []) $ join ! $ move ! (2 ∷ 0 ∷ []) $ join ! $ move ! (1 ∷ 0 ∷ []) $ join ! $ use1 W (raw (tripleOf 𝓤 H A (stepped .signature) (closing 𝓤 H A stepped d) .pre (to ν₁ δ₁ zs₁ rec))) (goes ν₁ δ₁ zs₁ rec rest′ len₁ inv f₂ f₃ f₄ f₅ is) $ 
-          calls-at ! (fmOf 𝓤 H (W .laws) 𝓣) (tripleOf 𝓤 H A (stepped .signature) (closing 𝓤 H A stepped d)) known (to ν₁ δ₁ zs₁ rec) (and-then ! (load ! (from ! (stop !)) (look ! 21 refl)) (and-then ! (load ! (from ! (stop !)) (look ! 10 refl)) (and-then ! (load ! (from ! (stop !)) (look ! 11 refl)) (and-then ! (load ! (from ! (stop !)) (look ! 12 refl)) (and-then ! (load ! (from ! (stop !)) (look ! 13 refl)) (and-then ! (load ! (from ! (stop !)) (look ! 14 refl)) (and-then ! (load ! (from ! (stop !)) (look ! 15 refl)) (and-then ! (load ! (from ! (stop !)) (look ! 23 refl)) (no-more !))))))))) (λ u′. 
-          use1 W (later (some (λ (r′ : Unit {0}). ((‵ (flft (ν₁ ∷ []) fullShare) ⊛ ‵ (flft κ₆ q₆) ⊛ ‵ (flft κ₇ q₇) ⊛ ‵ ftrue) ⊛ ‵ (unit .own r′ (u′ ∷ []))) ⊛ some (λ (ws : Lasts stepped ((ν₁ ∷ []), (κ₆, (κ₇, tt))) (to-step a δ₁ zs₁ rec)). ‵ (lasts stepped ((ν₁ ∷ []), (κ₆, (κ₇, tt))) (to-step a δ₁ zs₁ rec) ws) ⊛ raw (d ((ν₁ ∷ []), (κ₆, (κ₇, tt))) (to-step a δ₁ zs₁ rec) .ensures (hold .ghost ((ν₁ ∷ []), (κ₆, (κ₇, tt))) (to-step a δ₁ zs₁ rec)) r′ (atExit stepped ((ν₁ ∷ []), (κ₆, (κ₇, tt))) (to-step a δ₁ zs₁ rec) ws)))))) (id⊢ 𝓤 _) $ await ! tt $ pick ! (λ r′. split ! $ move ! (1 ∷ []) $ pick ! (λ ws. split ! $ move ! (1 ∷ []) $ 
-          use1 W (raw (fact 𝓤 (Inv a rest′ (ws .0)))) (hold .tells ((ν₁ ∷ []), (κ₆, (κ₇, tt))) a δ₁ zs₁ rec rest′ len₁ inv (ws .0)) $ heard ! (Inv a rest′ (ws .0)) (λ inv′. 
-          fsplit ! $ fsplit ! $ move ! (1 ∷ []) $ feqL ! (λ same₁. move ! (1 ∷ []) $ fsplit ! $ move ! (1 ∷ []) $ fsplit ! $ move ! (1 ∷ []) $ fsplit ! $ move ! (1 ∷ []) $ fsplit ! $ move ! (1 ∷ []) $ fsplit ! $ move ! (1 ∷ []) $ fsplit ! $ move ! (1 ∷ []) $ move ! (8 ∷ []) $ split ! $ move ! (1 ∷ []) $ feqL ! (λ is-unit. land ! (from ! (stop !)) (init ! 27 refl (subst (λ (t : Val). Trueᴮ (hasTy tyUnit t) × WT t) (sym (ap only is-unit)) (tt, tt))) $ 
-          move ! (0 ∷ []) $ split ! $ move ! (1 ∷ []) $ split ! $ move ! (1 ∷ []) $ split ! $ move ! (1 ∷ []) $ move ! (3 ∷ []) $ lft-end ! tt $ move ! (0 ∷ 12 ∷ 11 ∷ []) $ use3 W (later (‵ (O₁ (ws .0)) ⊛ ‵ (flft κ₁ q₁))) (backs₁ ν₁ δ₁ zs₁ (ws .0) len₁ room₁ same₁) $ await ! tt $ split ! $ 
-          assigns-last ! (bin ! (load ! (from ! (stop !)) (look ! 26 refl)) (lit ! tt) (record { fits = next })) (from ! (stop !)) (store ! 26 refl (tt, record { fits = next })) $ 
-          forget ! 27 refl $ forget ! 28 refl $ forget ! 29 refl $ forget ! 30 refl $ forget ! 31 refl $ forget ! 32 refl $ forget ! 33 refl $ keep ! (0 ∷ 1 ∷ 13 ∷ 4 ∷ 12 ∷ 3 ∷ 14 ∷ 15 ∷ 16 ∷ 17 ∷ 18 ∷ 19 ∷ 20 ∷ 21 ∷ 22 ∷ 23 ∷ 24 ∷ 25 ∷ 26 ∷ 27 ∷ 28 ∷ 29 ∷ 30 ∷ 31 ∷ 32 ∷ 33 ∷ 34 ∷ 35 ∷ 36 ∷ 37 ∷ 38 ∷ 39 ∷ 40 ∷ 41 ∷ 42 ∷ 43 ∷ 44 ∷ 45 ∷ 46 ∷ 47 ∷ 48 ∷ 49 ∷ 50 ∷ []) $ 
-          again ! ≺ I x (i + 1, ws .0, same₁ ∙ len₁, subst (λ (t : ℕ). Inv a (dropᴸ t (es .now)) (ws .0)) (sym (add-one i)) inv′) (add-one-dec n i small)))))))))))
+            qed W (I x) ∵ exec ! C Λ En (turn k) (anyQ (afterTurn 𝓤 H (Below 𝓤 H A ≺ I x) Left)) $
+            assigns ! (of-opd ! (load ! (from ! (fld ! refl (stop !))) (look-in ! 10 (sub ! 1 refl (whole !))))) (from ! (stop !)) (init ! 19 refl (tt, record { fits = room₀ .0 })) $
+            assigns ! (bin ! (load ! (from ! (stop !)) (look ! 18 refl)) (load ! (from ! (stop !)) (look ! 19 refl)) tt) (from ! (stop !)) (init ! 20 refl (tt, tt)) $
+            rewrite ! 20 (λ (t : Bool). ‵ (fat fullShare tyBool l₁₁ 0 (vbool t))) e refl $ stays ! (load ! (from ! (stop !)) (look ! 20 refl)) $
+            assigns ! (addr ! (from ! (fld ! refl (hop ! (look-in ! 11 (sub ! 0 refl (whole !))) (stop !))))) (from ! (stop !)) (init ! 22 refl (tt, tt)) $
+            assigns ! (agg ! (and-then ! (load ! (from ! (stop !)) (look ! 22 refl)) (and-then ! (load ! (from ! (fld ! refl (stop !))) (look-in ! 11 (sub ! 1 refl (whole !)))) (no-more !)))) (from ! (stop !)) (init ! 23 refl (tt, (tt, (record { fits = room₁ .0 }, tt)))) $
+            assigns ! (bin ! (load ! (from ! (stop !)) (look ! 18 refl)) (lit ! tt) (record { fits = bytes })) (from ! (stop !)) (store ! 19 refl (tt, record { fits = bytes })) $
+            assigns ! (bin ! (load ! (from ! (fld ! refl (stop !))) (look-in ! 10 (sub ! 0 refl (whole !)))) (load ! (from ! (stop !)) (look ! 19 refl)) tt) (from ! (stop !)) (init ! 24 refl (tt, tt)) $
+            rewrite ! 24 (λ (p : ℕ). ‵ (fat fullShare tyPtr l₁₅ 0 (vptr (es .ptr .0) p))) (sym (place-is 32 (es .ptr .1) i)) refl $
+            -- the record is read
+            move ! (7 ∷ 6 ∷ []) $ looks-slice ! tt T.the-row (Is T.the-row) (shows 𝓤 H A T.the-row) (LL.vals T.the-type T′.the-laws) (LL.tells T.the-type T′.the-laws) (LL.copy T.the-type T′.the-copy 𝓤 H A W) (es .now) (es .ptr .0) (es .ptr .1) (λ q′. elem-out ! T.the-row (Is T.the-row) (shows 𝓤 H A T.the-row) (LL.vals T.the-type T′.the-laws) (LL.tells T.the-type T′.the-laws) q′ (es .now) i none (es .ptr .0) (es .ptr .1) small (λ is.
+            assigns ! (of-opd ! (load ! (from ! (hop ! (look ! 27 refl) (stop !))) (look-raw ! 0 refl))) (from ! (stop !)) (init ! 28 refl (LL.lawful T.the-type T′.the-laws 𝓤 H A W .typed rec _ is .0)) $
+            elem-back ! T.the-row q′ (es .now) i none (mach rec ∷ []) (es .ptr .0) (es .ptr .1) small $ shuts-slice ! tt T.the-row q′ (es .now) (es .ptr .0) (es .ptr .1) $
+            move ! (4 ∷ []) $ use1 W (‵ O₆ ⊛ ‵ O₆) (shr-slice-copy 𝓤 H A W (named 2) κ₆ u64 .twice s₆ (v₆ ∷ [])) $ split ! $
+            move ! (7 ∷ []) $ use1 W (‵ O₇ ⊛ ‵ O₇) (shr-slice-copy 𝓤 H A W (named 3) κ₇ u64 .twice s₇ (v₇ ∷ [])) $ split ! $
+            lft-new ! tt (λ ν₁. move ! (7 ∷ 8 ∷ []) $ use2 W (later (some (λ (δ : GName). ‵ (MutSlice (named 0) (ν₁ ∷ []) u64 .own (ref₁ δ zs₁) (v₁ ∷ [])) ⊛ ‵ (Lent₁ ν₁ δ zs₁)))) (lends₁ ν₁ zs₁ len₁) $ await ! tt $ pick ! (λ δ₁. split ! $
+            nothing ! $ move ! (11 ∷ 0 ∷ []) $ join ! $ move ! (10 ∷ 0 ∷ []) $ join ! $ move ! (3 ∷ 0 ∷ []) $ join ! $ move ! (0 ∷ 1 ∷ 5 ∷ 3 ∷ []) $ move ! (2 ∷ 3 ∷ []) $ join ! $ move ! (2 ∷ 0 ∷ []) $ join ! $ move ! (1 ∷ 0 ∷ []) $ join ! $ use1 W (raw (tripleOf 𝓤 H A (stepped .signature) (closing 𝓤 H A stepped d) .pre (to ν₁ δ₁ zs₁ rec))) (goes ν₁ δ₁ zs₁ rec rest′ len₁ inv f₂ f₃ f₄ f₅ is) $
+            calls-at ! (fmOf 𝓤 H (W .laws) 𝓣) (tripleOf 𝓤 H A (stepped .signature) (closing 𝓤 H A stepped d)) known (to ν₁ δ₁ zs₁ rec) (and-then ! (load ! (from ! (stop !)) (look ! 21 refl)) (and-then ! (load ! (from ! (stop !)) (look ! 10 refl)) (and-then ! (load ! (from ! (stop !)) (look ! 11 refl)) (and-then ! (load ! (from ! (stop !)) (look ! 12 refl)) (and-then ! (load ! (from ! (stop !)) (look ! 13 refl)) (and-then ! (load ! (from ! (stop !)) (look ! 14 refl)) (and-then ! (load ! (from ! (stop !)) (look ! 15 refl)) (and-then ! (load ! (from ! (stop !)) (look ! 23 refl)) (no-more !))))))))) (λ u′.
+            use1 W (later (some (λ (r′ : Unit {0}). ((‵ (flft (ν₁ ∷ []) fullShare) ⊛ ‵ (flft κ₆ q₆) ⊛ ‵ (flft κ₇ q₇) ⊛ ‵ ftrue) ⊛ ‵ (unit .own r′ (u′ ∷ []))) ⊛ some (λ (ws : Lasts stepped ((ν₁ ∷ []), (κ₆, (κ₇, tt))) (to-step a δ₁ zs₁ rec)). ‵ (lasts stepped ((ν₁ ∷ []), (κ₆, (κ₇, tt))) (to-step a δ₁ zs₁ rec) ws) ⊛ raw (d ((ν₁ ∷ []), (κ₆, (κ₇, tt))) (to-step a δ₁ zs₁ rec) .ensures (hold .ghost ((ν₁ ∷ []), (κ₆, (κ₇, tt))) (to-step a δ₁ zs₁ rec)) r′ (atExit stepped ((ν₁ ∷ []), (κ₆, (κ₇, tt))) (to-step a δ₁ zs₁ rec) ws)))))) (id⊢ 𝓤 _) $ await ! tt $ pick ! (λ r′. split ! $ move ! (1 ∷ []) $ pick ! (λ ws. split ! $ move ! (1 ∷ []) $
+            use1 W (raw (fact 𝓤 (Inv a rest′ (ws .0)))) (hold .tells ((ν₁ ∷ []), (κ₆, (κ₇, tt))) a δ₁ zs₁ rec rest′ len₁ inv (ws .0)) $ heard ! (Inv a rest′ (ws .0)) (λ inv′.
+            fsplit ! $ fsplit ! $ move ! (1 ∷ []) $ feqL ! (λ same₁. move ! (1 ∷ []) $ fsplit ! $ move ! (1 ∷ []) $ fsplit ! $ move ! (1 ∷ []) $ fsplit ! $ move ! (1 ∷ []) $ fsplit ! $ move ! (1 ∷ []) $ fsplit ! $ move ! (1 ∷ []) $ fsplit ! $ move ! (1 ∷ []) $ move ! (8 ∷ []) $ split ! $ move ! (1 ∷ []) $ feqL ! (λ is-unit. land ! (from ! (stop !)) (init ! 27 refl (subst (λ (t : Val). Trueᴮ (hasTy tyUnit t) × WT t) (sym (ap only is-unit)) (tt, tt))) $
+            move ! (0 ∷ []) $ split ! $ move ! (1 ∷ []) $ split ! $ move ! (1 ∷ []) $ split ! $ move ! (1 ∷ []) $ move ! (3 ∷ []) $ lft-end ! tt $ move ! (0 ∷ 12 ∷ 11 ∷ []) $ use3 W (later (‵ (O₁ (ws .0)) ⊛ ‵ (flft κ₁ q₁))) (backs₁ ν₁ δ₁ zs₁ (ws .0) len₁ room₁ same₁) $ await ! tt $ split ! $
+            assigns-last ! (bin ! (load ! (from ! (stop !)) (look ! 26 refl)) (lit ! tt) (record { fits = next })) (from ! (stop !)) (store ! 26 refl (tt, record { fits = next })) $
+            forget ! 27 refl $ forget ! 28 refl $ forget ! 29 refl $ forget ! 30 refl $ forget ! 31 refl $ forget ! 32 refl $ forget ! 33 refl $ keep ! (0 ∷ 1 ∷ 13 ∷ 4 ∷ 12 ∷ 3 ∷ 14 ∷ 15 ∷ 16 ∷ 17 ∷ 18 ∷ 19 ∷ 20 ∷ 21 ∷ 22 ∷ 23 ∷ 24 ∷ 25 ∷ 26 ∷ 27 ∷ 28 ∷ 29 ∷ 30 ∷ 31 ∷ 32 ∷ 33 ∷ 34 ∷ 35 ∷ 36 ∷ 37 ∷ 38 ∷ 39 ∷ 40 ∷ 41 ∷ 42 ∷ 43 ∷ 44 ∷ 45 ∷ 46 ∷ 47 ∷ 48 ∷ 49 ∷ 50 ∷ []) $
+            again ! ≺ I x (i + 1, ws .0, same₁ ∙ len₁, subst (λ (t : ℕ). Inv a (dropᴸ t (es .now)) (ws .0)) (sym (add-one i)) inv′) (add-one-dec n i small)))))))))))
 
         -- the turn that leaves the loop, and the rest of the body
         last : (e : ltb i n ≡ false) → Inv a [] zs₁ → ent 𝓤 (⋆ 𝓤 H A (I x)) (Wp 𝓤 H C Λ En (turn k) (afterTurn 𝓤 H (Below 𝓤 H A ≺ I x) Left))
         unfolding afterTurn
         last e inv =
-          qed W (I x) ∵ exec ! C Λ En (turn k) (anyQ (afterTurn 𝓤 H (Below 𝓤 H A ≺ I x) Left)) $
-          assigns ! (of-opd ! (load ! (from ! (fld ! refl (stop !))) (look-in ! 10 (sub ! 1 refl (whole !))))) (from ! (stop !)) (init ! 19 refl (tt, record { fits = room₀ .0 })) $ 
-          assigns ! (bin ! (load ! (from ! (stop !)) (look ! 18 refl)) (load ! (from ! (stop !)) (look ! 19 refl)) tt) (from ! (stop !)) (init ! 20 refl (tt, tt)) $ 
-          rewrite ! 20 (λ (t : Bool). ‵ (fat fullShare tyBool l₁₁ 0 (vbool t))) e refl $ leaves-loop ! (load ! (from ! (stop !)) (look ! 20 refl)) $ exec ! C Λ En rest (atRet En Post) $ 
-          assigns ! (of-opd ! (unit-lit !)) (from ! (stop !)) (init ! 9 refl (tt, tt)) $ 
-          returns ! (look ! 9 refl) $ forget ! 19 refl $ forget ! 20 refl $ forget ! 18 refl $ forget ! 9 refl $ forget ! 10 refl $ forget ! 11 refl $ forget ! 12 refl $ forget ! 13 refl $ forget ! 14 refl $ forget ! 15 refl $ forget ! 16 refl $ forget ! 17 refl $ 
-          move ! (9 ∷ 26 ∷ []) $ free1 ! $ move ! (9 ∷ 25 ∷ []) $ free1 ! $ move ! (9 ∷ 24 ∷ []) $ free1 ! $ move ! (9 ∷ 23 ∷ []) $ free1 ! $ move ! (9 ∷ 22 ∷ []) $ free1 ! $ move ! (9 ∷ 21 ∷ []) $ free1 ! $ move ! (9 ∷ 20 ∷ []) $ free1 ! $ move ! (9 ∷ 19 ∷ []) $ free1 ! $ move ! (9 ∷ 18 ∷ []) $ free1 ! $ move ! (9 ∷ 17 ∷ []) $ free1 ! $ move ! (9 ∷ 16 ∷ []) $ free1 ! $ move ! (9 ∷ 15 ∷ []) $ free1 ! $ move ! (9 ∷ 14 ∷ []) $ free1 ! $ move ! (9 ∷ 13 ∷ []) $ free1 ! $ move ! (9 ∷ 12 ∷ []) $ free1 ! $ move ! (9 ∷ 11 ∷ []) $ free1 ! $ move ! (9 ∷ 10 ∷ []) $ free1 ! $ free0 ! $ 
-          nothing ! $ move ! (6 ∷ 0 ∷ []) $ join ! $ move ! (4 ∷ 0 ∷ []) $ join ! $ move ! (2 ∷ 0 ∷ []) $ join ! $ move ! (4 ∷ 0 ∷ []) $ join ! $ keep ! (0 ∷ 5 ∷ 1 ∷ 2 ∷ 3 ∷ []) $ by ! (exits zs₁ len₁ inv f₂ f₃ f₄ f₅)
+            qed W (I x) ∵ exec ! C Λ En (turn k) (anyQ (afterTurn 𝓤 H (Below 𝓤 H A ≺ I x) Left)) $
+            assigns ! (of-opd ! (load ! (from ! (fld ! refl (stop !))) (look-in ! 10 (sub ! 1 refl (whole !))))) (from ! (stop !)) (init ! 19 refl (tt, record { fits = room₀ .0 })) $
+            assigns ! (bin ! (load ! (from ! (stop !)) (look ! 18 refl)) (load ! (from ! (stop !)) (look ! 19 refl)) tt) (from ! (stop !)) (init ! 20 refl (tt, tt)) $
+            rewrite ! 20 (λ (t : Bool). ‵ (fat fullShare tyBool l₁₁ 0 (vbool t))) e refl $ leaves-loop ! (load ! (from ! (stop !)) (look ! 20 refl)) $ exec ! C Λ En rest (atRet En Post) $
+            assigns ! (of-opd ! (unit-lit !)) (from ! (stop !)) (init ! 9 refl (tt, tt)) $
+            returns ! (look ! 9 refl) $ forget ! 19 refl $ forget ! 20 refl $ forget ! 18 refl $ forget ! 9 refl $ forget ! 10 refl $ forget ! 11 refl $ forget ! 12 refl $ forget ! 13 refl $ forget ! 14 refl $ forget ! 15 refl $ forget ! 16 refl $ forget ! 17 refl $
+            move ! (9 ∷ 26 ∷ []) $ free1 ! $ move ! (9 ∷ 25 ∷ []) $ free1 ! $ move ! (9 ∷ 24 ∷ []) $ free1 ! $ move ! (9 ∷ 23 ∷ []) $ free1 ! $ move ! (9 ∷ 22 ∷ []) $ free1 ! $ move ! (9 ∷ 21 ∷ []) $ free1 ! $ move ! (9 ∷ 20 ∷ []) $ free1 ! $ move ! (9 ∷ 19 ∷ []) $ free1 ! $ move ! (9 ∷ 18 ∷ []) $ free1 ! $ move ! (9 ∷ 17 ∷ []) $ free1 ! $ move ! (9 ∷ 16 ∷ []) $ free1 ! $ move ! (9 ∷ 15 ∷ []) $ free1 ! $ move ! (9 ∷ 14 ∷ []) $ free1 ! $ move ! (9 ∷ 13 ∷ []) $ free1 ! $ move ! (9 ∷ 12 ∷ []) $ free1 ! $ move ! (9 ∷ 11 ∷ []) $ free1 ! $ move ! (9 ∷ 10 ∷ []) $ free1 ! $ free0 ! $
+            nothing ! $ move ! (6 ∷ 0 ∷ []) $ join ! $ move ! (4 ∷ 0 ∷ []) $ join ! $ move ! (2 ∷ 0 ∷ []) $ join ! $ move ! (4 ∷ 0 ∷ []) $ join ! $ keep ! (0 ∷ 5 ∷ 1 ∷ 2 ∷ 3 ∷ []) $ by ! (exits zs₁ len₁ inv f₂ f₃ f₄ f₅)
 
         turn-by : (t : Bool) → ltb i n ≡ t → ent 𝓤 (⋆ 𝓤 H A (I x)) (Wp 𝓤 H C Λ En (turn k) (afterTurn 𝓤 H (Below 𝓤 H A ≺ I x) Left))
         turn-by true e = more e (ltb-true i n e) (in-bytes i n (ltb-true i n e) (room₀ .1)) (next-fits i n (ltb-true i n e) (room₀ .0))
             (subst (λ (t : List Entry). Inv a t zs₁) (drop-cons (es .now) i none (ltb-true i n e)) (x .3))
         turn-by false e = last e (subst (λ (t : List Entry). Inv a t zs₁) (drop-of-length-le (es .now) (ltb-false i n e)) (x .3))
 
-    walk : (𝓣 : Tables 𝓤 H) → Triple 𝓤 (𝓣 .C k) (tripleOf 𝓤 H A (stepped .signature) (closing 𝓤 H A stepped d)) → Inv a (es .now) ys₁ → Is (ShrSlice (named 0) κ₀ T.the-row) es (v₀ ∷ []) → Room u64 (length ys₁) → n₂ < 2 ^ 64 → n₃ < 2 ^ 64 → n₄ < 2 ^ 64 → n₅ < 2 ^ 64 → Is (ShrSlice (named 2) κ₆ u64) s₆ (v₆ ∷ []) → Is (ShrSlice (named 3) κ₇ u64) s₇ (v₇ ∷ []) → 
+    walk : (𝓣 : Tables 𝓤 H) → Triple 𝓤 (𝓣 .C k) (tripleOf 𝓤 H A (stepped .signature) (closing 𝓤 H A stepped d)) → Inv a (es .now) ys₁ → Is (ShrSlice (named 0) κ₀ T.the-row) es (v₀ ∷ []) → Room u64 (length ys₁) → n₂ < 2 ^ 64 → n₃ < 2 ^ 64 → n₄ < 2 ^ 64 → n₅ < 2 ^ 64 → Is (ShrSlice (named 2) κ₆ u64) s₆ (v₆ ∷ []) → Is (ShrSlice (named 3) κ₇ u64) s₇ (v₇ ∷ []) →
         ent 𝓤 (onEntry 𝓤 H A (ended .signature) (κ₀, (κ₁, (κ₆, (κ₇, tt)))) (q₀, (q₁, (q₆, (q₇, tt)))) a at) (WpFn 𝓤 H (𝓣 .C) (𝓣 .Λ) (function k) (v₀ ∷ v₁ ∷ v₂ ∷ v₃ ∷ v₄ ∷ v₅ ∷ v₆ ∷ v₇ ∷ []) Post)
     walk 𝓣 known inv p₀ room₁ f₂ f₃ f₄ f₅ p₆ p₇ =
         let room₀ : Room T.the-row n = p₀ .0 .1 in
         qed W ((‵ (flft κ₀ q₀) ⊛ ‵ (flft κ₁ q₁) ⊛ ‵ (flft κ₆ q₆) ⊛ ‵ (flft κ₇ q₇) ⊛ ‵ ftrue) ∷ ‵ (owns (ShrSlice (named 0) κ₀ T.the-row ∷ MutSlice (named 1) κ₁ u64 ∷ u64 ∷ u64 ∷ u64 ∷ u64 ∷ ShrSlice (named 2) κ₆ u64 ∷ ShrSlice (named 3) κ₇ u64 ∷ []) a at) ∷ []) ∵ enter ! (𝓣 .C) (𝓣 .Λ) (function k) (v₀ ∷ v₁ ∷ v₂ ∷ v₃ ∷ v₄ ∷ v₅ ∷ v₆ ∷ v₇ ∷ []) _ $
-        alloc1 ! (λ l₀. alloc1 ! (λ l₁. alloc1 ! (λ l₂. alloc1 ! (λ l₃. alloc1 ! (λ l₄. alloc1 ! (λ l₅. alloc1 ! (λ l₆. alloc1 ! (λ l₇. alloc1 ! (λ l₈. alloc1 ! (λ l₉. alloc1 ! (λ l₁₀. alloc1 ! (λ l₁₁. alloc1 ! (λ l₁₂. alloc1 ! (λ l₁₃. alloc1 ! (λ l₁₄. alloc1 ! (λ l₁₅. alloc1 ! (λ l₁₆. alloc0 ! $ params1 ! $ pass1 ! (init ! 30 refl (shr-slice-lawful 𝓤 H A W (named 0) κ₀ T.the-row .typed es (v₀ ∷ []) p₀ .0)) $ pass1 ! (init ! 28 refl (tt, (tt, (record { fits = room₁ .0 }, tt)))) $ pass1 ! (init ! 26 refl (tt, record { fits = f₂ })) $ pass1 ! (init ! 24 refl (tt, record { fits = f₃ })) $ pass1 ! (init ! 22 refl (tt, record { fits = f₄ })) $ pass1 ! (init ! 20 refl (tt, record { fits = f₅ })) $ pass1 ! (init ! 18 refl (shr-slice-lawful 𝓤 H A W (named 2) κ₆ u64 .typed s₆ (v₆ ∷ []) p₆ .0)) $ pass1 ! (init ! 16 refl (shr-slice-lawful 𝓤 H A W (named 3) κ₇ u64 .typed s₇ (v₇ ∷ []) p₇ .0)) $ pass0 ! $ 
-          assigns ! (of-opd ! (lit ! tt)) (from ! (stop !)) (init ! 14 refl (tt, record { fits = lit< tt })) $ 
-          move ! (35 ∷ []) $ fsplit ! $ move ! (1 ∷ []) $ fsplit ! $ move ! (1 ∷ []) $ fsplit ! $ move ! (1 ∷ []) $ fsplit ! $ move ! (1 ∷ []) $ fsplit ! $ move ! (1 ∷ []) $ fsplit ! $ move ! (1 ∷ []) $ fsplit ! $ move ! (1 ∷ []) $ fsplit ! $ move ! (1 ∷ []) $ move ! (43 ∷ []) $ split ! $ move ! (1 ∷ []) $ split ! $ move ! (1 ∷ []) $ split ! $ move ! (1 ∷ []) $ split ! $ move ! (1 ∷ []) $ move ! (13 ∷ []) $ use1 W (‵ O₀ ⊛ ‵ O₀) (shr-slice-copy 𝓤 H A W (named 0) κ₀ T.the-row .twice es (v₀ ∷ [])) $ split ! $ fsplit ! $ drop ! $ fsplit ! $ drop ! $ 
-          keep ! (14 ∷ 5 ∷ 9 ∷ 4 ∷ 8 ∷ 3 ∷ 6 ∷ 0 ∷ 1 ∷ 47 ∷ 45 ∷ 43 ∷ 41 ∷ 39 ∷ 37 ∷ 35 ∷ 33 ∷ 31 ∷ 29 ∷ 27 ∷ 25 ∷ 23 ∷ 21 ∷ 19 ∷ 17 ∷ 15 ∷ 48 ∷ 46 ∷ 44 ∷ 42 ∷ 40 ∷ 38 ∷ 36 ∷ 34 ∷ 32 ∷ 30 ∷ 28 ∷ 26 ∷ 24 ∷ 22 ∷ 20 ∷ 18 ∷ 16 ∷ []) $ first ! $ blocks ! $ 
-          loops ! 𝓣 (≺ 𝓣 known room₀ room₁ f₂ f₃ f₄ f₅ p₆ p₇ l₀ l₁ l₂ l₃ l₄ l₅ l₆ l₇ l₈ l₉ l₁₀ l₁₁ l₁₂ l₁₃ l₁₄ l₁₅ l₁₆) (by-number left) (I 𝓣 known room₀ room₁ f₂ f₃ f₄ f₅ p₆ p₇ l₀ l₁ l₂ l₃ l₄ l₅ l₆ l₇ l₈ l₉ l₁₀ l₁₁ l₁₂ l₁₃ l₁₄ l₁₅ l₁₆) (λ x. by ! (turn-by 𝓣 known room₀ room₁ f₂ f₃ f₄ f₅ p₆ p₇ l₀ l₁ l₂ l₃ l₄ l₅ l₆ l₇ l₈ l₉ l₁₀ l₁₁ l₁₂ l₁₃ l₁₄ l₁₅ l₁₆ x (ltb (x .0) n) refl)) (0, ys₁, refl, inv))))))))))))))))))
+        alloc1 ! (λ l₀. alloc1 ! (λ l₁. alloc1 ! (λ l₂. alloc1 ! (λ l₃. alloc1 ! (λ l₄. alloc1 ! (λ l₅. alloc1 ! (λ l₆. alloc1 ! (λ l₇. alloc1 ! (λ l₈. alloc1 ! (λ l₉. alloc1 ! (λ l₁₀. alloc1 ! (λ l₁₁. alloc1 ! (λ l₁₂. alloc1 ! (λ l₁₃. alloc1 ! (λ l₁₄. alloc1 ! (λ l₁₅. alloc1 ! (λ l₁₆. alloc0 ! $ params1 ! $ pass1 ! (init ! 30 refl (shr-slice-lawful 𝓤 H A W (named 0) κ₀ T.the-row .typed es (v₀ ∷ []) p₀ .0)) $ pass1 ! (init ! 28 refl (tt, (tt, (record { fits = room₁ .0 }, tt)))) $ pass1 ! (init ! 26 refl (tt, record { fits = f₂ })) $ pass1 ! (init ! 24 refl (tt, record { fits = f₃ })) $ pass1 ! (init ! 22 refl (tt, record { fits = f₄ })) $ pass1 ! (init ! 20 refl (tt, record { fits = f₅ })) $ pass1 ! (init ! 18 refl (shr-slice-lawful 𝓤 H A W (named 2) κ₆ u64 .typed s₆ (v₆ ∷ []) p₆ .0)) $ pass1 ! (init ! 16 refl (shr-slice-lawful 𝓤 H A W (named 3) κ₇ u64 .typed s₇ (v₇ ∷ []) p₇ .0)) $ pass0 ! $
+        assigns ! (of-opd ! (lit ! tt)) (from ! (stop !)) (init ! 14 refl (tt, record { fits = lit< tt })) $
+        move ! (35 ∷ []) $ fsplit ! $ move ! (1 ∷ []) $ fsplit ! $ move ! (1 ∷ []) $ fsplit ! $ move ! (1 ∷ []) $ fsplit ! $ move ! (1 ∷ []) $ fsplit ! $ move ! (1 ∷ []) $ fsplit ! $ move ! (1 ∷ []) $ fsplit ! $ move ! (1 ∷ []) $ fsplit ! $ move ! (1 ∷ []) $ move ! (43 ∷ []) $ split ! $ move ! (1 ∷ []) $ split ! $ move ! (1 ∷ []) $ split ! $ move ! (1 ∷ []) $ split ! $ move ! (1 ∷ []) $ move ! (13 ∷ []) $ use1 W (‵ O₀ ⊛ ‵ O₀) (shr-slice-copy 𝓤 H A W (named 0) κ₀ T.the-row .twice es (v₀ ∷ [])) $ split ! $ fsplit ! $ drop ! $ fsplit ! $ drop ! $
+        keep ! (14 ∷ 5 ∷ 9 ∷ 4 ∷ 8 ∷ 3 ∷ 6 ∷ 0 ∷ 1 ∷ 47 ∷ 45 ∷ 43 ∷ 41 ∷ 39 ∷ 37 ∷ 35 ∷ 33 ∷ 31 ∷ 29 ∷ 27 ∷ 25 ∷ 23 ∷ 21 ∷ 19 ∷ 17 ∷ 15 ∷ 48 ∷ 46 ∷ 44 ∷ 42 ∷ 40 ∷ 38 ∷ 36 ∷ 34 ∷ 32 ∷ 30 ∷ 28 ∷ 26 ∷ 24 ∷ 22 ∷ 20 ∷ 18 ∷ 16 ∷ []) $ first ! $ blocks ! $
+        loops ! 𝓣 (≺ 𝓣 known room₀ room₁ f₂ f₃ f₄ f₅ p₆ p₇ l₀ l₁ l₂ l₃ l₄ l₅ l₆ l₇ l₈ l₉ l₁₀ l₁₁ l₁₂ l₁₃ l₁₄ l₁₅ l₁₆) (by-number left) (I 𝓣 known room₀ room₁ f₂ f₃ f₄ f₅ p₆ p₇ l₀ l₁ l₂ l₃ l₄ l₅ l₆ l₇ l₈ l₉ l₁₀ l₁₁ l₁₂ l₁₃ l₁₄ l₁₅ l₁₆) (λ x. by ! (turn-by 𝓣 known room₀ room₁ f₂ f₃ f₄ f₅ p₆ p₇ l₀ l₁ l₂ l₃ l₄ l₅ l₆ l₇ l₈ l₉ l₁₀ l₁₁ l₁₂ l₁₃ l₁₄ l₁₅ l₁₆ x (ltb (x .0) n) refl)) (0, ys₁, refl, inv))))))))))))))))))
 
 module _ {M : Type 1} (𝓤 : URA M) (H : Heap 𝓤) (A : Atoms 𝓤) (W : Given 𝓤 H A) (k : Name) (c : Clauses 𝓤 ended) (d : Clauses 𝓤 stepped) (Inv : Arg → List Entry → List ℕ → Type 0) (hold : Holds 𝓤 c d Inv) (𝓣 : Tables 𝓤 H) (known : Triple 𝓤 (𝓣 .C k) (tripleOf 𝓤 H A (stepped .signature) (closing 𝓤 H A stepped d))) where
   walks : Walks 𝓤 H A ended stayed (WpFn 𝓤 H (𝓣 .C) (𝓣 .Λ) (function k)) c
@@ -340,4 +339,3 @@ module _ {M : Type 1} (𝓤 : URA M) (H : Heap 𝓤) (A : Atoms 𝓤) (W : Given
 
   pub each-meets : Meets 𝓤 H A (ended .signature) (WpFn 𝓤 H (𝓣 .C) (𝓣 .Λ) (function k)) (closing 𝓤 H A ended c)
   each-meets = walk-meets 𝓤 H A ended stayed W (goes-none-slice 𝓤 H A W 4 (0 ∷ []) tt (plain (λ _. T.the-row)) yes, (goes-slice 𝓤 H A W 4 1 tt (plain (λ _. u64)), (goes-none 𝓤 H A W 4 (λ _. u64) yes (λ κs x f. refl), (goes-none 𝓤 H A W 4 (λ _. u64) yes (λ κs x f. refl), (goes-none 𝓤 H A W 4 (λ _. u64) yes (λ κs x f. refl), (goes-none 𝓤 H A W 4 (λ _. u64) yes (λ κs x f. refl), (goes-none-slice 𝓤 H A W 4 (2 ∷ []) tt (plain (λ _. u64)) yes, (goes-none-slice 𝓤 H A W 4 (3 ∷ []) tt (plain (λ _. u64)) yes, tt)))))))) c (WpFn 𝓤 H (𝓣 .C) (𝓣 .Λ) (function k)) (WpFn-mono 𝓤 H (W .laws) 𝓣 (function k)) walks
-

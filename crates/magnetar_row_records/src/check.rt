@@ -21,7 +21,16 @@ use magnetar_inplace::records::Entry;
 use magnetar_inplace::steps as walks;
 
 // Adds the product of the records with login u's z to n elements behind the first m.
-fn add_product(es: &[Entry], s: &mut [u64], m: usize, n: usize, u: usize, w: usize, packed: &[u64], x: &[u64])
+fn add_product(
+    es: &[Entry],
+    s: &mut [u64],
+    m: usize,
+    n: usize,
+    u: usize,
+    w: usize,
+    packed: &[u64],
+    x: &[u64],
+)
     ensures { λ _. ⌜ now (s .exit) ≡ behind m (addedAll n (share (zAt w (now (packed .entry)) (elements (now (x .entry))) u)) (entriesOfRecords (now (es .entry)))) (now (s .entry)) ⌝ }
 {
     let mut i = 0;
@@ -32,7 +41,16 @@ fn add_product(es: &[Entry], s: &mut [u64], m: usize, n: usize, u: usize, w: usi
 }
 
 // Sets n elements behind the first m to that product.
-fn product(es: &[Entry], s: &mut [u64], m: usize, n: usize, u: usize, w: usize, packed: &[u64], x: &[u64])
+fn product(
+    es: &[Entry],
+    s: &mut [u64],
+    m: usize,
+    n: usize,
+    u: usize,
+    w: usize,
+    packed: &[u64],
+    x: &[u64],
+)
     ensures { λ _. ⌜ now (s .exit) ≡ behind m (productIn n (zAt w (now (packed .entry)) (elements (now (x .entry))) u) (entriesOfRecords (now (es .entry)))) (now (s .entry)) ⌝ }
 {
     steps::clear_behind(s, m, n);
@@ -333,6 +351,21 @@ pub fn row_check(
         scratch.len(),
     );
     let w = steps::half(m);
-    let f = judge_unless(n, scratch, q, w, abrows, afrows, packed, x, ab, bb, cb, af, bf, cf);
+    let f = judge_unless(
+        n,
+        scratch,
+        q,
+        w,
+        abrows,
+        afrows,
+        packed,
+        x,
+        ab,
+        bb,
+        cb,
+        af,
+        bf,
+        cf,
+    );
     steps::answer(n, f)
 }

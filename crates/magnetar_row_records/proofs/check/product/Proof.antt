@@ -78,7 +78,6 @@ is-no : (t : Bool) → Trueᴮ (not t) → t ≡ false
 is-no true a = absurd a
 is-no false _ = refl
 
-
 abbrev stayed : Stays (f.ended .signature .params) (f.ended .kept)
 stayed = (stay-none-slice (0 ∷ []) tt (plain (λ _. mEntry.the-row)) yes, (stay-slice (1 ∷ []) tt (plain (λ _. u64)), (stay-none (λ _. u64) yes, (stay-none (λ _. u64) yes, (stay-none (λ _. u64) yes, (stay-none (λ _. u64) yes, (stay-none-slice (2 ∷ []) tt (plain (λ _. u64)) yes, (stay-none-slice (3 ∷ []) tt (plain (λ _. u64)) yes, tt))))))))
 
@@ -157,32 +156,31 @@ module _ {M : Type 1} (𝓤 : URA M) (H : Heap 𝓤) (A : Atoms 𝓤) (W : Given
     walk : ent 𝓤 (onEntry 𝓤 H A f.signature (κ₀, (κ₁, (κ₂, (κ₃, tt)))) (q₀, (q₁, (q₂, (q₃, tt)))) a at) (WpFn 𝓤 H C Λ code.function (v1 ∷ v2 ∷ v3 ∷ v4 ∷ v5 ∷ v6 ∷ v7 ∷ v8 ∷ []) Post)
     walk =
         qed W ((‵ (flft κ₀ q₀) ⊛ ‵ (flft κ₁ q₁) ⊛ ‵ (flft κ₂ q₂) ⊛ ‵ (flft κ₃ q₃) ⊛ ‵ ftrue) ∷ ‵ (owns (ShrSlice (named 0) κ₀ mEntry.the-row ∷ MutSlice (named 1) κ₁ u64 ∷ u64 ∷ u64 ∷ u64 ∷ u64 ∷ ShrSlice (named 2) κ₂ u64 ∷ ShrSlice (named 3) κ₃ u64 ∷ []) a at) ∷ []) ∵ enter ! C Λ code.function (v1 ∷ v2 ∷ v3 ∷ v4 ∷ v5 ∷ v6 ∷ v7 ∷ v8 ∷ []) _ $
-        alloc1 ! (λ l₀. alloc1 ! (λ l₁. alloc1 ! (λ l₂. alloc1 ! (λ l₃. alloc1 ! (λ l₄. alloc1 ! (λ l₅. alloc1 ! (λ l₆. alloc1 ! (λ l₇. alloc1 ! (λ l₈. alloc1 ! (λ l₉. alloc1 ! (λ l₁₀. alloc1 ! (λ l₁₁. alloc1 ! (λ l₁₂. alloc1 ! (λ l₁₃. alloc0 ! $ params1 ! $ pass1 ! (init ! 24 refl (shr-slice-lawful 𝓤 H A W (named 0) κ₀ mEntry.the-row .typed s1 (v1 ∷ []) w1 .0)) $ pass1 ! (init ! 22 refl (tt, (tt, (record { fits = room2 .0 }, tt)))) $ pass1 ! (init ! 20 refl (uint-lawful 𝓤 H A W w64 .typed n3 _ w3 .0)) $ pass1 ! (init ! 18 refl (uint-lawful 𝓤 H A W w64 .typed n4 _ w4 .0)) $ pass1 ! (init ! 16 refl (uint-lawful 𝓤 H A W w64 .typed n5 _ w5 .0)) $ pass1 ! (init ! 14 refl (uint-lawful 𝓤 H A W w64 .typed n6 _ w6 .0)) $ pass1 ! (init ! 12 refl (shr-slice-lawful 𝓤 H A W (named 2) κ₂ u64 .typed s7 (v7 ∷ []) w7 .0)) $ pass1 ! (init ! 10 refl (shr-slice-lawful 𝓤 H A W (named 3) κ₃ u64 .typed s8 (v8 ∷ []) w8 .0)) $ pass0 ! $ 
-        move ! (29 ∷ []) $ fsplit ! $ move ! (1 ∷ []) $ fsplit ! $ move ! (1 ∷ []) $ fsplit ! $ move ! (1 ∷ []) $ fsplit ! $ move ! (1 ∷ []) $ fsplit ! $ move ! (1 ∷ []) $ fsplit ! $ move ! (1 ∷ []) $ fsplit ! $ move ! (1 ∷ []) $ fsplit ! $ move ! (1 ∷ []) $ move ! (37 ∷ []) $ split ! $ move ! (1 ∷ []) $ split ! $ move ! (1 ∷ []) $ split ! $ move ! (1 ∷ []) $ split ! $ move ! (1 ∷ []) $ 
-        assigns ! (addr ! (from ! (fld ! refl (hop ! (look-in ! 36 (sub ! 0 refl (whole !))) (stop !))))) (from ! (stop !)) (init ! 20 refl (tt, tt)) $ 
-        assigns ! (agg ! (and-then ! (load ! (from ! (stop !)) (look ! 20 refl)) (and-then ! (load ! (from ! (fld ! refl (stop !))) (look-in ! 36 (sub ! 1 refl (whole !)))) (no-more !)))) (from ! (stop !)) (init ! 18 refl (tt, (tt, (record { fits = room2 .0 }, tt)))) $ 
-        
-        lft-new ! tt (λ ν1a. move ! (13 ∷ 4 ∷ []) $ use2 W (later (some (λ (δ : GName). ‵ (MutSlice (named 0) (ν1a ∷ []) u64 .own (ref2 δ (ys2)) (v2 ∷ [])) ⊛ ‵ (Lent2 ν1a δ (ys2))))) (lends2 (named 0) ν1a (ys2) (refl)) $ await ! tt $ pick ! (λ δ1a. split ! $ nothing ! $ move ! (3 ∷ 0 ∷ []) $ join ! $ join ! $ 
+        alloc1 ! (λ l₀. alloc1 ! (λ l₁. alloc1 ! (λ l₂. alloc1 ! (λ l₃. alloc1 ! (λ l₄. alloc1 ! (λ l₅. alloc1 ! (λ l₆. alloc1 ! (λ l₇. alloc1 ! (λ l₈. alloc1 ! (λ l₉. alloc1 ! (λ l₁₀. alloc1 ! (λ l₁₁. alloc1 ! (λ l₁₂. alloc1 ! (λ l₁₃. alloc0 ! $ params1 ! $ pass1 ! (init ! 24 refl (shr-slice-lawful 𝓤 H A W (named 0) κ₀ mEntry.the-row .typed s1 (v1 ∷ []) w1 .0)) $ pass1 ! (init ! 22 refl (tt, (tt, (record { fits = room2 .0 }, tt)))) $ pass1 ! (init ! 20 refl (uint-lawful 𝓤 H A W w64 .typed n3 _ w3 .0)) $ pass1 ! (init ! 18 refl (uint-lawful 𝓤 H A W w64 .typed n4 _ w4 .0)) $ pass1 ! (init ! 16 refl (uint-lawful 𝓤 H A W w64 .typed n5 _ w5 .0)) $ pass1 ! (init ! 14 refl (uint-lawful 𝓤 H A W w64 .typed n6 _ w6 .0)) $ pass1 ! (init ! 12 refl (shr-slice-lawful 𝓤 H A W (named 2) κ₂ u64 .typed s7 (v7 ∷ []) w7 .0)) $ pass1 ! (init ! 10 refl (shr-slice-lawful 𝓤 H A W (named 3) κ₃ u64 .typed s8 (v8 ∷ []) w8 .0)) $ pass0 ! $
+        move ! (29 ∷ []) $ fsplit ! $ move ! (1 ∷ []) $ fsplit ! $ move ! (1 ∷ []) $ fsplit ! $ move ! (1 ∷ []) $ fsplit ! $ move ! (1 ∷ []) $ fsplit ! $ move ! (1 ∷ []) $ fsplit ! $ move ! (1 ∷ []) $ fsplit ! $ move ! (1 ∷ []) $ fsplit ! $ move ! (1 ∷ []) $ move ! (37 ∷ []) $ split ! $ move ! (1 ∷ []) $ split ! $ move ! (1 ∷ []) $ split ! $ move ! (1 ∷ []) $ split ! $ move ! (1 ∷ []) $
+        assigns ! (addr ! (from ! (fld ! refl (hop ! (look-in ! 36 (sub ! 0 refl (whole !))) (stop !))))) (from ! (stop !)) (init ! 20 refl (tt, tt)) $
+        assigns ! (agg ! (and-then ! (load ! (from ! (stop !)) (look ! 20 refl)) (and-then ! (load ! (from ! (fld ! refl (stop !))) (look-in ! 36 (sub ! 1 refl (whole !)))) (no-more !)))) (from ! (stop !)) (init ! 18 refl (tt, (tt, (record { fits = room2 .0 }, tt)))) $
+        lft-new ! tt (λ ν1a. move ! (13 ∷ 4 ∷ []) $ use2 W (later (some (λ (δ : GName). ‵ (MutSlice (named 0) (ν1a ∷ []) u64 .own (ref2 δ (ys2)) (v2 ∷ [])) ⊛ ‵ (Lent2 ν1a δ (ys2))))) (lends2 (named 0) ν1a (ys2) (refl)) $ await ! tt $ pick ! (λ δ1a. split ! $ nothing ! $ move ! (3 ∷ 0 ∷ []) $ join ! $ join ! $
         -- call 1
-        use1 W (raw (Callee-g1 𝓤 H A at-mem run .pre ((((ν1a ∷ []), tt), (fullShare, tt), tt, (ref2 δ1a (ys2), (n3, (n4, tt))), (v2 ∷ [], (u3 ∷ [], (u4 ∷ [], tt)))), tt))) (qed W ((‵ (flft (ν1a ∷ []) fullShare) ⊛ ‵ ftrue) ∷ ‵ (MutSlice (named 0) (ν1a ∷ []) u64 .own (ref2 δ1a (ys2)) (v2 ∷ [])) ∷ []) ∵ nothing ! $ owned ! u64 (Is u64) (uint-makes 𝓤 H A W w64) (n4) _ w4 $ fjoin ! $ owned ! u64 (Is u64) (uint-makes 𝓤 H A W w64) (n3) _ w3 $ fjoin ! $ move ! (2 ∷ 0 ∷ []) $ fjoin ! $ move ! (1 ∷ 0 ∷ []) $ join ! $ nothing ! $ move ! (1 ∷ 0 ∷ []) $ frame ! $ done !) $ 
-        calls-at ! fm (Callee-g1 𝓤 H A at-mem run) known-g1 ((((ν1a ∷ []), tt), (fullShare, tt), tt, (ref2 δ1a (ys2), (n3, (n4, tt))), (v2 ∷ [], (u3 ∷ [], (u4 ∷ [], tt)))), tt) (and-then ! (load ! (from ! (stop !)) (look ! 18 refl)) (and-then ! (load ! (from ! (stop !)) (look ! 34 refl)) (and-then ! (load ! (from ! (stop !)) (look ! 32 refl)) (no-more !)))) (λ z1. 
-        use1 W (later (some (λ (r1 : Unit {0}). ((‵ (flft (ν1a ∷ []) fullShare) ⊛ ‵ ftrue) ⊛ ‵ (unit .own r1 (z1 ∷ []))) ⊛ some (λ (ws : Lasts g1.ended ((ν1a ∷ []), tt) (ref2 δ1a (ys2), (n3, (n4, tt)))). ‵ (lasts g1.ended ((ν1a ∷ []), tt) (ref2 δ1a (ys2), (n3, (n4, tt))) ws) ⊛ raw (g1.clauses 𝓤 H A at-mem run ((ν1a ∷ []), tt) (ref2 δ1a (ys2), (n3, (n4, tt))) .ensures tt r1 (atExit g1.ended ((ν1a ∷ []), tt) (ref2 δ1a (ys2), (n3, (n4, tt))) ws)))))) (id⊢ 𝓤 _) $ await ! tt $ pick ! (λ r1. split ! $ move ! (1 ∷ []) $ pick ! (λ ws1. split ! $ move ! (1 ∷ []) $ heard ! _ (λ e1. 
-        fsplit ! $ fsplit ! $ move ! (1 ∷ []) $ feqL ! (λ same1a. move ! (1 ∷ []) $ fsplit ! $ move ! (1 ∷ []) $ fsplit ! $ move ! (4 ∷ []) $ split ! $ move ! (1 ∷ []) $ feqL ! (λ i1. land ! (from ! (stop !)) (init ! 26 refl (subst (λ (t : Val). Trueᴮ (hasTy tyUnit t) × WT t) (sym (ap only i1)) (tt, tt))) $ 
-        split ! $ move ! (1 ∷ []) $ move ! (1 ∷ []) $ lft-end ! tt $ move ! (0 ∷ 6 ∷ 5 ∷ []) $ use3 W (later (‵ (O2 (ws1 .0)) ⊛ ‵ (flft κ₁ q₁))) (backs2 (named 0) ν1a δ1a (ys2) (ws1 .0) (refl) room2 same1a) $ await ! tt $ split ! $ 
-        assigns ! (addr ! (from ! (fld ! refl (hop ! (look-in ! 40 (sub ! 0 refl (whole !))) (stop !))))) (from ! (stop !)) (init ! 20 refl (tt, tt)) $ 
-        assigns ! (agg ! (and-then ! (load ! (from ! (stop !)) (look ! 20 refl)) (and-then ! (load ! (from ! (fld ! refl (stop !))) (look-in ! 40 (sub ! 1 refl (whole !)))) (no-more !)))) (from ! (stop !)) (init ! 18 refl (tt, (tt, (record { fits = room2 .0 }, tt)))) $ 
-        move ! (17 ∷ []) $ use1 W (‵ (O1) ⊛ ‵ (O1)) (shr-slice-copy 𝓤 H A W (named 0) κ₀ mEntry.the-row .twice s1 (v1 ∷ [])) $ split ! $ 
-        lft-new ! tt (λ ν2b. move ! (3 ∷ 4 ∷ []) $ use2 W (later (some (λ (δ : GName). ‵ (MutSlice (named 1) (ν2b ∷ []) u64 .own (ref2 δ (ws1 .0)) (v2 ∷ [])) ⊛ ‵ (Lent2 ν2b δ (ws1 .0))))) (lends2 (named 1) ν2b (ws1 .0) (same1a)) $ await ! tt $ pick ! (λ δ2b. split ! $ move ! (15 ∷ []) $ use1 W (‵ (O7) ⊛ ‵ (O7)) (shr-slice-copy 𝓤 H A W (named 2) κ₂ u64 .twice s7 (v7 ∷ [])) $ split ! $ move ! (16 ∷ []) $ use1 W (‵ (O8) ⊛ ‵ (O8)) (shr-slice-copy 𝓤 H A W (named 3) κ₃ u64 .twice s8 (v8 ∷ [])) $ split ! $ nothing ! $ move ! (15 ∷ 0 ∷ []) $ join ! $ move ! (15 ∷ 0 ∷ []) $ join ! $ move ! (7 ∷ 0 ∷ []) $ join ! $ move ! (14 ∷ 0 ∷ []) $ join ! $ move ! (3 ∷ 1 ∷ []) $ join ! $ move ! (4 ∷ 0 ∷ []) $ join ! $ move ! (5 ∷ 0 ∷ []) $ join ! $ move ! (1 ∷ 0 ∷ []) $ join ! $ 
+        use1 W (raw (Callee-g1 𝓤 H A at-mem run .pre ((((ν1a ∷ []), tt), (fullShare, tt), tt, (ref2 δ1a (ys2), (n3, (n4, tt))), (v2 ∷ [], (u3 ∷ [], (u4 ∷ [], tt)))), tt))) (qed W ((‵ (flft (ν1a ∷ []) fullShare) ⊛ ‵ ftrue) ∷ ‵ (MutSlice (named 0) (ν1a ∷ []) u64 .own (ref2 δ1a (ys2)) (v2 ∷ [])) ∷ []) ∵ nothing ! $ owned ! u64 (Is u64) (uint-makes 𝓤 H A W w64) (n4) _ w4 $ fjoin ! $ owned ! u64 (Is u64) (uint-makes 𝓤 H A W w64) (n3) _ w3 $ fjoin ! $ move ! (2 ∷ 0 ∷ []) $ fjoin ! $ move ! (1 ∷ 0 ∷ []) $ join ! $ nothing ! $ move ! (1 ∷ 0 ∷ []) $ frame ! $ done !) $
+        calls-at ! fm (Callee-g1 𝓤 H A at-mem run) known-g1 ((((ν1a ∷ []), tt), (fullShare, tt), tt, (ref2 δ1a (ys2), (n3, (n4, tt))), (v2 ∷ [], (u3 ∷ [], (u4 ∷ [], tt)))), tt) (and-then ! (load ! (from ! (stop !)) (look ! 18 refl)) (and-then ! (load ! (from ! (stop !)) (look ! 34 refl)) (and-then ! (load ! (from ! (stop !)) (look ! 32 refl)) (no-more !)))) (λ z1.
+        use1 W (later (some (λ (r1 : Unit {0}). ((‵ (flft (ν1a ∷ []) fullShare) ⊛ ‵ ftrue) ⊛ ‵ (unit .own r1 (z1 ∷ []))) ⊛ some (λ (ws : Lasts g1.ended ((ν1a ∷ []), tt) (ref2 δ1a (ys2), (n3, (n4, tt)))). ‵ (lasts g1.ended ((ν1a ∷ []), tt) (ref2 δ1a (ys2), (n3, (n4, tt))) ws) ⊛ raw (g1.clauses 𝓤 H A at-mem run ((ν1a ∷ []), tt) (ref2 δ1a (ys2), (n3, (n4, tt))) .ensures tt r1 (atExit g1.ended ((ν1a ∷ []), tt) (ref2 δ1a (ys2), (n3, (n4, tt))) ws)))))) (id⊢ 𝓤 _) $ await ! tt $ pick ! (λ r1. split ! $ move ! (1 ∷ []) $ pick ! (λ ws1. split ! $ move ! (1 ∷ []) $ heard ! _ (λ e1.
+        fsplit ! $ fsplit ! $ move ! (1 ∷ []) $ feqL ! (λ same1a. move ! (1 ∷ []) $ fsplit ! $ move ! (1 ∷ []) $ fsplit ! $ move ! (4 ∷ []) $ split ! $ move ! (1 ∷ []) $ feqL ! (λ i1. land ! (from ! (stop !)) (init ! 26 refl (subst (λ (t : Val). Trueᴮ (hasTy tyUnit t) × WT t) (sym (ap only i1)) (tt, tt))) $
+        split ! $ move ! (1 ∷ []) $ move ! (1 ∷ []) $ lft-end ! tt $ move ! (0 ∷ 6 ∷ 5 ∷ []) $ use3 W (later (‵ (O2 (ws1 .0)) ⊛ ‵ (flft κ₁ q₁))) (backs2 (named 0) ν1a δ1a (ys2) (ws1 .0) (refl) room2 same1a) $ await ! tt $ split ! $
+        assigns ! (addr ! (from ! (fld ! refl (hop ! (look-in ! 40 (sub ! 0 refl (whole !))) (stop !))))) (from ! (stop !)) (init ! 20 refl (tt, tt)) $
+        assigns ! (agg ! (and-then ! (load ! (from ! (stop !)) (look ! 20 refl)) (and-then ! (load ! (from ! (fld ! refl (stop !))) (look-in ! 40 (sub ! 1 refl (whole !)))) (no-more !)))) (from ! (stop !)) (init ! 18 refl (tt, (tt, (record { fits = room2 .0 }, tt)))) $
+        move ! (17 ∷ []) $ use1 W (‵ (O1) ⊛ ‵ (O1)) (shr-slice-copy 𝓤 H A W (named 0) κ₀ mEntry.the-row .twice s1 (v1 ∷ [])) $ split ! $
+        lft-new ! tt (λ ν2b. move ! (3 ∷ 4 ∷ []) $ use2 W (later (some (λ (δ : GName). ‵ (MutSlice (named 1) (ν2b ∷ []) u64 .own (ref2 δ (ws1 .0)) (v2 ∷ [])) ⊛ ‵ (Lent2 ν2b δ (ws1 .0))))) (lends2 (named 1) ν2b (ws1 .0) (same1a)) $ await ! tt $ pick ! (λ δ2b. split ! $ move ! (15 ∷ []) $ use1 W (‵ (O7) ⊛ ‵ (O7)) (shr-slice-copy 𝓤 H A W (named 2) κ₂ u64 .twice s7 (v7 ∷ [])) $ split ! $ move ! (16 ∷ []) $ use1 W (‵ (O8) ⊛ ‵ (O8)) (shr-slice-copy 𝓤 H A W (named 3) κ₃ u64 .twice s8 (v8 ∷ [])) $ split ! $ nothing ! $ move ! (15 ∷ 0 ∷ []) $ join ! $ move ! (15 ∷ 0 ∷ []) $ join ! $ move ! (7 ∷ 0 ∷ []) $ join ! $ move ! (14 ∷ 0 ∷ []) $ join ! $ move ! (3 ∷ 1 ∷ []) $ join ! $ move ! (4 ∷ 0 ∷ []) $ join ! $ move ! (5 ∷ 0 ∷ []) $ join ! $ move ! (1 ∷ 0 ∷ []) $ join ! $
         -- call 2
-        use1 W (raw (Callee-g2 𝓤 H A at-mem run .pre (((κ₀, ((ν2b ∷ []), (κ₂, (κ₃, tt)))), (q₀, (fullShare, (q₂, (q₃, tt)))), tt, (s1, (ref2 δ2b (ws1 .0), (n3, (n4, (n5, (n6, (s7, (s8, tt)))))))), (v1 ∷ [], (v2 ∷ [], (u3 ∷ [], (u4 ∷ [], (u5 ∷ [], (u6 ∷ [], (v7 ∷ [], (v8 ∷ [], tt))))))))), tt))) (qed W ((‵ (flft κ₀ q₀) ⊛ ‵ (flft (ν2b ∷ []) fullShare) ⊛ ‵ (flft κ₂ q₂) ⊛ ‵ (flft κ₃ q₃) ⊛ ‵ ftrue) ∷ ‵ (ShrSlice (named 0) κ₀ mEntry.the-row .own s1 (v1 ∷ [])) ∷ ‵ (MutSlice (named 1) (ν2b ∷ []) u64 .own (ref2 δ2b (ws1 .0)) (v2 ∷ [])) ∷ ‵ (ShrSlice (named 2) κ₂ u64 .own s7 (v7 ∷ [])) ∷ ‵ (ShrSlice (named 3) κ₃ u64 .own s8 (v8 ∷ [])) ∷ []) ∵ nothing ! $ move ! (5 ∷ 0 ∷ []) $ fjoin ! $ move ! (4 ∷ 0 ∷ []) $ fjoin ! $ owned ! u64 (Is u64) (uint-makes 𝓤 H A W w64) (n6) _ w6 $ fjoin ! $ owned ! u64 (Is u64) (uint-makes 𝓤 H A W w64) (n5) _ w5 $ fjoin ! $ owned ! u64 (Is u64) (uint-makes 𝓤 H A W w64) (n4) _ w4 $ fjoin ! $ owned ! u64 (Is u64) (uint-makes 𝓤 H A W w64) (n3) _ w3 $ fjoin ! $ move ! (3 ∷ 0 ∷ []) $ fjoin ! $ move ! (2 ∷ 0 ∷ []) $ fjoin ! $ move ! (1 ∷ 0 ∷ []) $ join ! $ nothing ! $ move ! (1 ∷ 0 ∷ []) $ frame ! $ done !) $ 
-        calls-at ! fm (Callee-g2 𝓤 H A at-mem run) known-g2 (((κ₀, ((ν2b ∷ []), (κ₂, (κ₃, tt)))), (q₀, (fullShare, (q₂, (q₃, tt)))), tt, (s1, (ref2 δ2b (ws1 .0), (n3, (n4, (n5, (n6, (s7, (s8, tt)))))))), (v1 ∷ [], (v2 ∷ [], (u3 ∷ [], (u4 ∷ [], (u5 ∷ [], (u6 ∷ [], (v7 ∷ [], (v8 ∷ [], tt))))))))), tt) (and-then ! (load ! (from ! (stop !)) (look ! 39 refl)) (and-then ! (load ! (from ! (stop !)) (look ! 15 refl)) (and-then ! (load ! (from ! (stop !)) (look ! 35 refl)) (and-then ! (load ! (from ! (stop !)) (look ! 33 refl)) (and-then ! (load ! (from ! (stop !)) (look ! 31 refl)) (and-then ! (load ! (from ! (stop !)) (look ! 29 refl)) (and-then ! (load ! (from ! (stop !)) (look ! 27 refl)) (and-then ! (load ! (from ! (stop !)) (look ! 25 refl)) (no-more !))))))))) (λ z2. 
-        use1 W (later (some (λ (r2 : Unit {0}). ((‵ (flft κ₀ q₀) ⊛ ‵ (flft (ν2b ∷ []) fullShare) ⊛ ‵ (flft κ₂ q₂) ⊛ ‵ (flft κ₃ q₃) ⊛ ‵ ftrue) ⊛ ‵ (unit .own r2 (z2 ∷ []))) ⊛ some (λ (ws : Lasts g2.ended (κ₀, ((ν2b ∷ []), (κ₂, (κ₃, tt)))) (s1, (ref2 δ2b (ws1 .0), (n3, (n4, (n5, (n6, (s7, (s8, tt))))))))). ‵ (lasts g2.ended (κ₀, ((ν2b ∷ []), (κ₂, (κ₃, tt)))) (s1, (ref2 δ2b (ws1 .0), (n3, (n4, (n5, (n6, (s7, (s8, tt)))))))) ws) ⊛ raw (g2.clauses 𝓤 H A at-mem run (κ₀, ((ν2b ∷ []), (κ₂, (κ₃, tt)))) (s1, (ref2 δ2b (ws1 .0), (n3, (n4, (n5, (n6, (s7, (s8, tt)))))))) .ensures tt r2 (atExit g2.ended (κ₀, ((ν2b ∷ []), (κ₂, (κ₃, tt)))) (s1, (ref2 δ2b (ws1 .0), (n3, (n4, (n5, (n6, (s7, (s8, tt)))))))) ws)))))) (id⊢ 𝓤 _) $ await ! tt $ pick ! (λ r2. split ! $ move ! (1 ∷ []) $ pick ! (λ ws2. split ! $ move ! (1 ∷ []) $ heard ! _ (λ e2. 
-        fsplit ! $ move ! (1 ∷ []) $ fsplit ! $ fsplit ! $ move ! (1 ∷ []) $ feqL ! (λ same2b. move ! (1 ∷ []) $ fsplit ! $ move ! (1 ∷ []) $ fsplit ! $ move ! (1 ∷ []) $ fsplit ! $ move ! (1 ∷ []) $ fsplit ! $ move ! (1 ∷ []) $ fsplit ! $ move ! (1 ∷ []) $ fsplit ! $ move ! (9 ∷ []) $ split ! $ move ! (1 ∷ []) $ feqL ! (λ i2. land ! (from ! (stop !)) (store ! 32 refl (subst (λ (t : Val). Trueᴮ (hasTy tyUnit t) × WT t) (sym (ap only i2)) (tt, tt))) $ 
-        split ! $ move ! (1 ∷ []) $ split ! $ move ! (1 ∷ []) $ split ! $ move ! (1 ∷ []) $ split ! $ move ! (1 ∷ []) $ move ! (3 ∷ []) $ lft-end ! tt $ move ! (0 ∷ 16 ∷ 12 ∷ []) $ use3 W (later (‵ (O2 (ws2 .1 .0)) ⊛ ‵ (flft κ₁ q₁))) (backs2 (named 1) ν2b δ2b (ws1 .0) (ws2 .1 .0) (same1a) room2 same2b) $ await ! tt $ split ! $ 
-        assigns ! (of-opd ! (unit-lit !)) (from ! (stop !)) (init ! 53 refl (tt, tt)) $ 
-        returns ! (look ! 53 refl) $ forget ! 53 refl $ forget ! 51 refl $ forget ! 49 refl $ forget ! 47 refl $ forget ! 45 refl $ forget ! 43 refl $ forget ! 41 refl $ forget ! 39 refl $ forget ! 37 refl $ forget ! 35 refl $ forget ! 33 refl $ forget ! 31 refl $ forget ! 29 refl $ forget ! 27 refl $ 
-        move ! (53 ∷ 54 ∷ []) $ free1 ! $ move ! (51 ∷ 52 ∷ []) $ free1 ! $ move ! (49 ∷ 50 ∷ []) $ free1 ! $ move ! (47 ∷ 48 ∷ []) $ free1 ! $ move ! (45 ∷ 46 ∷ []) $ free1 ! $ move ! (43 ∷ 44 ∷ []) $ free1 ! $ move ! (41 ∷ 42 ∷ []) $ free1 ! $ move ! (39 ∷ 40 ∷ []) $ free1 ! $ move ! (37 ∷ 38 ∷ []) $ free1 ! $ move ! (35 ∷ 36 ∷ []) $ free1 ! $ move ! (33 ∷ 34 ∷ []) $ free1 ! $ move ! (31 ∷ 32 ∷ []) $ free1 ! $ move ! (29 ∷ 30 ∷ []) $ free1 ! $ move ! (27 ∷ 28 ∷ []) $ free1 ! $ free0 ! $ 
-        suffices ! _ (ends-at 𝓤 H A f.ended stayed (f.clauses 𝓤 H A at-mem run) W (((κ₀, (κ₁, (κ₂, (κ₃, tt)))), (q₀, (q₁, (q₂, (q₃, tt)))), tt, a, at), tt) vunit tt (tt, (ws2 .1 .0, (tt, (tt, (tt, (tt, (tt, (tt, tt)))))))) (tt, (same2b ∙ same1a, (tt, (tt, (tt, (tt, (tt, (tt, tt))))))))) $ says ! (product-ends n3 n4 (zAt n6 (s7 .now) (elements (s8 .now)) n5) (entriesOfRecords (s1 .now)) ys2 (ws1 .0) (ws2 .1 .0) e1 e2) $ 
+        use1 W (raw (Callee-g2 𝓤 H A at-mem run .pre (((κ₀, ((ν2b ∷ []), (κ₂, (κ₃, tt)))), (q₀, (fullShare, (q₂, (q₃, tt)))), tt, (s1, (ref2 δ2b (ws1 .0), (n3, (n4, (n5, (n6, (s7, (s8, tt)))))))), (v1 ∷ [], (v2 ∷ [], (u3 ∷ [], (u4 ∷ [], (u5 ∷ [], (u6 ∷ [], (v7 ∷ [], (v8 ∷ [], tt))))))))), tt))) (qed W ((‵ (flft κ₀ q₀) ⊛ ‵ (flft (ν2b ∷ []) fullShare) ⊛ ‵ (flft κ₂ q₂) ⊛ ‵ (flft κ₃ q₃) ⊛ ‵ ftrue) ∷ ‵ (ShrSlice (named 0) κ₀ mEntry.the-row .own s1 (v1 ∷ [])) ∷ ‵ (MutSlice (named 1) (ν2b ∷ []) u64 .own (ref2 δ2b (ws1 .0)) (v2 ∷ [])) ∷ ‵ (ShrSlice (named 2) κ₂ u64 .own s7 (v7 ∷ [])) ∷ ‵ (ShrSlice (named 3) κ₃ u64 .own s8 (v8 ∷ [])) ∷ []) ∵ nothing ! $ move ! (5 ∷ 0 ∷ []) $ fjoin ! $ move ! (4 ∷ 0 ∷ []) $ fjoin ! $ owned ! u64 (Is u64) (uint-makes 𝓤 H A W w64) (n6) _ w6 $ fjoin ! $ owned ! u64 (Is u64) (uint-makes 𝓤 H A W w64) (n5) _ w5 $ fjoin ! $ owned ! u64 (Is u64) (uint-makes 𝓤 H A W w64) (n4) _ w4 $ fjoin ! $ owned ! u64 (Is u64) (uint-makes 𝓤 H A W w64) (n3) _ w3 $ fjoin ! $ move ! (3 ∷ 0 ∷ []) $ fjoin ! $ move ! (2 ∷ 0 ∷ []) $ fjoin ! $ move ! (1 ∷ 0 ∷ []) $ join ! $ nothing ! $ move ! (1 ∷ 0 ∷ []) $ frame ! $ done !) $
+        calls-at ! fm (Callee-g2 𝓤 H A at-mem run) known-g2 (((κ₀, ((ν2b ∷ []), (κ₂, (κ₃, tt)))), (q₀, (fullShare, (q₂, (q₃, tt)))), tt, (s1, (ref2 δ2b (ws1 .0), (n3, (n4, (n5, (n6, (s7, (s8, tt)))))))), (v1 ∷ [], (v2 ∷ [], (u3 ∷ [], (u4 ∷ [], (u5 ∷ [], (u6 ∷ [], (v7 ∷ [], (v8 ∷ [], tt))))))))), tt) (and-then ! (load ! (from ! (stop !)) (look ! 39 refl)) (and-then ! (load ! (from ! (stop !)) (look ! 15 refl)) (and-then ! (load ! (from ! (stop !)) (look ! 35 refl)) (and-then ! (load ! (from ! (stop !)) (look ! 33 refl)) (and-then ! (load ! (from ! (stop !)) (look ! 31 refl)) (and-then ! (load ! (from ! (stop !)) (look ! 29 refl)) (and-then ! (load ! (from ! (stop !)) (look ! 27 refl)) (and-then ! (load ! (from ! (stop !)) (look ! 25 refl)) (no-more !))))))))) (λ z2.
+        use1 W (later (some (λ (r2 : Unit {0}). ((‵ (flft κ₀ q₀) ⊛ ‵ (flft (ν2b ∷ []) fullShare) ⊛ ‵ (flft κ₂ q₂) ⊛ ‵ (flft κ₃ q₃) ⊛ ‵ ftrue) ⊛ ‵ (unit .own r2 (z2 ∷ []))) ⊛ some (λ (ws : Lasts g2.ended (κ₀, ((ν2b ∷ []), (κ₂, (κ₃, tt)))) (s1, (ref2 δ2b (ws1 .0), (n3, (n4, (n5, (n6, (s7, (s8, tt))))))))). ‵ (lasts g2.ended (κ₀, ((ν2b ∷ []), (κ₂, (κ₃, tt)))) (s1, (ref2 δ2b (ws1 .0), (n3, (n4, (n5, (n6, (s7, (s8, tt)))))))) ws) ⊛ raw (g2.clauses 𝓤 H A at-mem run (κ₀, ((ν2b ∷ []), (κ₂, (κ₃, tt)))) (s1, (ref2 δ2b (ws1 .0), (n3, (n4, (n5, (n6, (s7, (s8, tt)))))))) .ensures tt r2 (atExit g2.ended (κ₀, ((ν2b ∷ []), (κ₂, (κ₃, tt)))) (s1, (ref2 δ2b (ws1 .0), (n3, (n4, (n5, (n6, (s7, (s8, tt)))))))) ws)))))) (id⊢ 𝓤 _) $ await ! tt $ pick ! (λ r2. split ! $ move ! (1 ∷ []) $ pick ! (λ ws2. split ! $ move ! (1 ∷ []) $ heard ! _ (λ e2.
+        fsplit ! $ move ! (1 ∷ []) $ fsplit ! $ fsplit ! $ move ! (1 ∷ []) $ feqL ! (λ same2b. move ! (1 ∷ []) $ fsplit ! $ move ! (1 ∷ []) $ fsplit ! $ move ! (1 ∷ []) $ fsplit ! $ move ! (1 ∷ []) $ fsplit ! $ move ! (1 ∷ []) $ fsplit ! $ move ! (1 ∷ []) $ fsplit ! $ move ! (9 ∷ []) $ split ! $ move ! (1 ∷ []) $ feqL ! (λ i2. land ! (from ! (stop !)) (store ! 32 refl (subst (λ (t : Val). Trueᴮ (hasTy tyUnit t) × WT t) (sym (ap only i2)) (tt, tt))) $
+        split ! $ move ! (1 ∷ []) $ split ! $ move ! (1 ∷ []) $ split ! $ move ! (1 ∷ []) $ split ! $ move ! (1 ∷ []) $ move ! (3 ∷ []) $ lft-end ! tt $ move ! (0 ∷ 16 ∷ 12 ∷ []) $ use3 W (later (‵ (O2 (ws2 .1 .0)) ⊛ ‵ (flft κ₁ q₁))) (backs2 (named 1) ν2b δ2b (ws1 .0) (ws2 .1 .0) (same1a) room2 same2b) $ await ! tt $ split ! $
+        assigns ! (of-opd ! (unit-lit !)) (from ! (stop !)) (init ! 53 refl (tt, tt)) $
+        returns ! (look ! 53 refl) $ forget ! 53 refl $ forget ! 51 refl $ forget ! 49 refl $ forget ! 47 refl $ forget ! 45 refl $ forget ! 43 refl $ forget ! 41 refl $ forget ! 39 refl $ forget ! 37 refl $ forget ! 35 refl $ forget ! 33 refl $ forget ! 31 refl $ forget ! 29 refl $ forget ! 27 refl $
+        move ! (53 ∷ 54 ∷ []) $ free1 ! $ move ! (51 ∷ 52 ∷ []) $ free1 ! $ move ! (49 ∷ 50 ∷ []) $ free1 ! $ move ! (47 ∷ 48 ∷ []) $ free1 ! $ move ! (45 ∷ 46 ∷ []) $ free1 ! $ move ! (43 ∷ 44 ∷ []) $ free1 ! $ move ! (41 ∷ 42 ∷ []) $ free1 ! $ move ! (39 ∷ 40 ∷ []) $ free1 ! $ move ! (37 ∷ 38 ∷ []) $ free1 ! $ move ! (35 ∷ 36 ∷ []) $ free1 ! $ move ! (33 ∷ 34 ∷ []) $ free1 ! $ move ! (31 ∷ 32 ∷ []) $ free1 ! $ move ! (29 ∷ 30 ∷ []) $ free1 ! $ move ! (27 ∷ 28 ∷ []) $ free1 ! $ free0 ! $
+        suffices ! _ (ends-at 𝓤 H A f.ended stayed (f.clauses 𝓤 H A at-mem run) W (((κ₀, (κ₁, (κ₂, (κ₃, tt)))), (q₀, (q₁, (q₂, (q₃, tt)))), tt, a, at), tt) vunit tt (tt, (ws2 .1 .0, (tt, (tt, (tt, (tt, (tt, (tt, tt)))))))) (tt, (same2b ∙ same1a, (tt, (tt, (tt, (tt, (tt, (tt, tt))))))))) $ says ! (product-ends n3 n4 (zAt n6 (s7 .now) (elements (s8 .now)) n5) (entriesOfRecords (s1 .now)) ys2 (ws1 .0) (ws2 .1 .0) e1 e2) $
         nothing ! $ move ! (4 ∷ 0 ∷ []) $ join ! $ move ! (4 ∷ 0 ∷ []) $ join ! $ move ! (2 ∷ 0 ∷ []) $ join ! $ move ! (3 ∷ 0 ∷ []) $ join ! $ nothing ! $ move ! (12 ∷ 0 ∷ []) $ fjoin ! $ move ! (12 ∷ 0 ∷ []) $ fjoin ! $ move ! (19 ∷ 0 ∷ []) $ fjoin ! $ move ! (19 ∷ 0 ∷ []) $ fjoin ! $ move ! (19 ∷ 0 ∷ []) $ fjoin ! $ move ! (19 ∷ 0 ∷ []) $ fjoin ! $ move ! (2 ∷ 0 ∷ []) $ fjoin ! $ move ! (11 ∷ 0 ∷ []) $ fjoin ! $ keep ! (1 ∷ 0 ∷ []) $ frame ! $ feqI ! (List Val) (vunit ∷ []) (vunit ∷ []) refl $ move ! (1 ∷ 0 ∷ []) $ done !))))))))))))))))))))))))))))))
 
 module _ {M : Type 1} (𝓤 : URA M) (H : Heap 𝓤) (A : Atoms 𝓤) (W : Given 𝓤 H A) (mem : Memory → SProp 𝓤) (run : Routine → Fun 𝓤) where
