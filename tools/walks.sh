@@ -1,11 +1,13 @@
 #!/bin/sh
-# Writes anew the proofs of magnetar_inplace, magnetar_forms and magnetar_records that tools/thin.py and tools/each.py write. Run it in the
+# Writes anew the proofs of magnetar_inplace, magnetar_row_records, magnetar_forms and magnetar_records that tools/thin.py, tools/each.py and
+# tools/count.py write. Run it in the
 # repository's root after a change of a walked function's code or contract, then `rt fmt` and `rt check` of the crate. Nobody has to trust the tools:
 # the checker checks what they write.
 set -e
 c=magnetar_inplace
 p=crates/$c/proofs
 each() { out=$1; shift; python3 tools/each.py $c magnetar_inplace::records::Entry 32 row,col,lo,hi "$@" > $p/$out.new && mv $p/$out.new $p/$out.antt; }
+count() { out=$1; python3 tools/count.py $c magnetar_inplace::records::Entry $3 $2 > $p/$out.new && mv $p/$out.new $p/$out.antt; }
 thin() { f=$1; shift; d=$p/$(echo $f | sed 's/::/\//'); mkdir -p $d; python3 tools/thin.py $c $f "$@" > $d/new && mv $d/new $d/Proof.antt; }
 ends=Rattle.$c.proofs.RecordEnds
 packed=Rattle.$c.proofs.PackedEnds
@@ -50,6 +52,32 @@ thin records::apply_simd_packed --use "$packed.{packed-ends}" --use 'Rattle.mag
 thin records::apply_simd_bit_masks --use "$masks.{masks-done, masks-back}" \
   --final 'masks-done n1 n2 (s3 .now) (s4 .now) ys8 n5 n6 n7 r1 r2 r4 r3 r5 r6 e1 e2 e3 e4 e5 e6 (ws7 .1 .1 .1 .0) (ws8 .1 .1 .1 .1 .1 .1 .0) b1 e7 e8' \
   --final 'masks-back n1 n2 (s3 .now) (s4 .now) ys8 n5 n6 n7 r1 r2 r4 r3 r5 r6 e1 e2 e3 e4 e5 e6 b1'
+
+# magnetar_row_records: the row check
+c=magnetar_row_records
+p=crates/$c/proofs
+ends=Rattle.$c.proofs
+six3='n3 n4 (s5 .now) n6 n7 (s8 .now) n9 n10 (s11 .now) n12 n13 (s14 .now) n15 n16 (s17 .now) n18 n19 (s20 .now)'
+six4='n4 n5 (s6 .now) n7 n8 (s9 .now) n10 n11 (s12 .now) n13 n14 (s15 .now) n16 n17 (s18 .now) n19 n20 (s21 .now)'
+entries='Rattle.magnetar_inplace.specs.Records.{entriesOfRecords}'
+words='Rattle.magnetar_field.specs.Words.{elements}'
+steps=Rattle.$c.specs.Steps
+each EachMNNNNSS MNNNNSS
+count CountANIMQNNSSEEE ANIMQNNSSEEE magnetar_row_records::steps::Seen
+thin check::product --use "$ends.WalkLaws.{product-ends}" --use "$entries" --use "$words" --use "$steps.{zAt}" \
+  --final 'product-ends n3 n4 (zAt n6 (s7 .now) (elements (s8 .now)) n5) (entriesOfRecords (s1 .now)) ys2 (ws1 .0) (ws2 .1 .0) e1 e2'
+thin check::check_login --use "$ends.WalkLaws.{login-ends}" --use "$entries" --use "$words" --use "$steps.{zAt}" \
+  --final 'login-ends n1 n2 n3 n5 r1 (zAt n6 (s7 .now) (elements (s8 .now)) n3) (entriesOfRecords (s9 .now)) (entriesOfRecords (s10 .now)) (entriesOfRecords (s11 .now)) ys4 (ws2 .1 .0) (ws3 .1 .0) (ws4 .1 .0) (ws5 .1 .1 .1 .0) r5 e1 e2 e3 e4 e5'
+thin check::login_unless --use "$ends.WalkLaws.{unless-some, unless-none}" --use "$entries" --use "$words" --use "$steps.{zAt}" \
+  --final 'unless-some n2 n5 (zAt n6 (s7 .now) (elements (s8 .now)) n3) (entriesOfRecords (s9 .now)) (entriesOfRecords (s10 .now)) (entriesOfRecords (s11 .now)) n3 n1 r2 ys4 (ws2 .1 .1 .1 .0) (sym e1 ∙ b1) e2' \
+  --final 'unless-none n2 n5 (zAt n6 (s7 .now) (elements (s8 .now)) n3) (entriesOfRecords (s9 .now)) (entriesOfRecords (s10 .now)) (entriesOfRecords (s11 .now)) n3 n1 ys4 (sym e1 ∙ b1)'
+thin check::judge --use "$ends.WalkLaws.{judge-ends}" --use "$entries" --use "$words" \
+  --final 'judge-ends n2 n3 n4 n5 (s6 .now) (elements (s7 .now)) (entriesOfRecords (s8 .now)) (entriesOfRecords (s9 .now)) (entriesOfRecords (s10 .now)) (entriesOfRecords (s11 .now)) (entriesOfRecords (s12 .now)) (entriesOfRecords (s13 .now)) ys1 (ws2 .1 .1 .0) (ws3 .1 .1 .0) (ws4 .0) r1 r2 r3 e1 e2 e3 e4'
+thin check::judge_unless --final '(rw (← e1, b1) (e3 .0), rw (← e1, b1) (e3 .1))' --final '(rw (← e1, b1) e2, rw (← e1, b1) refl)'
+thin check::all_six
+thin check::refused --use "$ends.NumberLaws.{refused-is}" --final "refused-is $six3 n1 n2 (s21 .now) (s22 .now) n23 r1 r2 e1 e2"
+thin check::row_check --use "$ends.CheckEnds.{check-ends}" --use 'Rattle.magnetar_batch.specs.Check.{outcome}' \
+  --final "check-ends $six4 n2 n3 (s22 .now) (s23 .now) ys1 r1 r2 r3 (ws3 .1 .0) (outcome r4) e1 e2 e3 e4"
 
 # magnetar_forms: locals lent to the thin functions
 c=magnetar_forms

@@ -1,0 +1,111 @@
+-- `magnetar_row_records::refusal::sizes` meets its contract.
+-- Assumes nothing.
+use mathlib.Core.Path.{_≡_, refl, sym, ap, _∙_}
+use mathlib.Core.List.{_++_, _∷_, []}
+use Prim.Native.Nat.{ℕ, _*_, _/_, _≤_, _<_}
+use native.Mathlib.Omega.{arith}
+use lib.Dec.{ltb}
+use denote.Ref.{now}
+use Rattle.magnetar_layout.specs.Tests.{Tests, noted, sizeTests, packedTests, publicTests}
+use Rattle.magnetar_layout.proofs.SizeLaws.{Sized, not-bad}
+use Rattle.magnetar_layout.proofs.Noted.{noted-front, noted-late, noted-clear}
+use Rattle.magnetar_r1cs.proofs.LoginParts.{product-most, words-most}
+use Rattle.magnetar_batch.proofs.RowLaws.{over}
+use borrow.Author.Needs.{needs}
+use Rattle.magnetar_row_records.proofs.refusal.sizes.Statement.{statement}
+use Rattle.magnetar_row_records.proofs.refusal.sizes.Tie as tie
+
+-- the tests of the sizes, and those after them
+abbrev first : tie.Start → Tests
+first s = sizeTests (s .args .m) (s .args .q)
+
+abbrev rest : tie.Start → Tests
+rest s = let x = s .args in packedTests (x .m / 2) (x .q) (now (x .packed)) ++ (publicTests (x .m) (now (x .x)) ++ ((4, ltb 1048576 (x .q * x .n)) ∷ (4, ltb 1048576 (x .q * x .k)) ∷ []))
+
+early : (c : tie.After-note2) → c .note2 .result ≡ noted 0 (first (c .before .before .before .before .before .before))
+early c = rw (c .note2 .ensures, c .before .is-size2 .ensures, c .before .before .note .ensures, c .before .before .before .is-size .ensures)
+
+record Small (s : tie.Start) : Type 0 where
+  columns : Sized 2 65536 (s .args .m)
+  half : s .args .m / 2 ≤ 32768
+  logins : Sized 1 4096 (s .args .q)
+
+small : (c : tie.Else1) → Small (c .before .before .before .before .before .before .before)
+small c =
+    let k = noted-clear 0 (first (c .before .before .before .before .before .before .before)) refl (sym (early (c .before)) ∙ c .if1 .left) .1 in
+    let z = not-bad (k .0) in
+    record { columns = z; half = omega (arith, z .high); logins = not-bad (k .1 .0) }
+
+is-size-requires : tie.Need-is-size-requires
+is-size-requires c κs = search needs
+
+note-requires : tie.Need-note-requires
+note-requires c κs = search needs
+
+is-size-requires-2 : tie.Need-is-size-requires-2
+is-size-requires-2 c κs = search needs
+
+note-requires-2 : tie.Need-note-requires-2
+note-requires-2 c κs = search needs
+
+returns : tie.Need-returns
+returns c =
+    let s = c .before .before .before .before .before .before .before in
+    noted-front (first s) (rest s) _ (early (c .before)) (c .if1 .taken)
+
+login-words-requires : tie.Need-login-words-requires
+login-words-requires c κs = search needs
+
+mul-note : tie.Need-mul-note
+mul-note c =
+    let z = small (c .before) in
+    omega (arith, product-most (c .before .before .before .before .before .before .before .before .args .q) (c .login-words .result) (z .logins .high) (rw (c .login-words .ensures) (words-most _ (z .half))))
+
+note-requires-3 : tie.Need-note-requires-3
+note-requires-3 c κs = search needs
+
+sub-note : tie.Need-sub-note
+sub-note c = small (c .before .before) .columns .low
+
+note-requires-4 : tie.Need-note-requires-4
+note-requires-4 c κs = search needs
+
+div-note : tie.Need-div-note
+div-note c = small (c .before .before .before) .logins .low
+
+note-requires-5 : tie.Need-note-requires-5
+note-requires-5 c κs = search needs
+
+div-note-2 : tie.Need-div-note-2
+div-note-2 c = small (c .before .before .before .before) .logins .low
+
+note-requires-6 : tie.Need-note-requires-6
+note-requires-6 c κs = search needs
+
+returns-2 : tie.Need-returns-2
+returns-2 c =
+    let s = c .before .before .before .before .before .before .before .before .before .before .before .before in
+    let z = small (c .before .before .before .before .before) in
+    let x = s .args in
+    noted-late (first s) (rest s) _ _ (early (c .before .before .before .before .before .before)) (c .before .before .before .before .before .if1 .left)
+    (rw (c .note6 .ensures, c .before .note5 .ensures, c .before .before .note4 .ensures, c .before .before .before .note3 .ensures, c .before .before .before .before .login-words .ensures, over (x .q) (x .n) 1048576 (z .logins .low), over (x .q) (x .k) 1048576 (z .logins .low)))
+
+pub sizes-spec : {M : Type 1} → statement M
+sizes-spec =
+    tie.close
+    (tie.spec
+    is-size-requires
+    note-requires
+    is-size-requires-2
+    note-requires-2
+    returns
+    login-words-requires
+    mul-note
+    note-requires-3
+    sub-note
+    note-requires-4
+    div-note
+    note-requires-5
+    div-note-2
+    note-requires-6
+    returns-2)

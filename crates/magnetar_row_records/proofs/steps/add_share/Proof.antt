@@ -1,0 +1,42 @@
+-- `magnetar_row_records::steps::add_share` meets its contract.
+-- Assumes nothing.
+use Rattle.magnetar_r1cs.specs.Matrix.{share}
+use Rattle.magnetar_field.proofs.Product.{⊗-comm}
+use native.Mathlib.Omega.{arith}
+use borrow.Author.Needs.{needs}
+use Rattle.magnetar_row_records.proofs.steps.add_share.Statement.{statement}
+use Rattle.magnetar_row_records.proofs.steps.add_share.Tie as tie
+
+least-requires : tie.Need-least-requires
+least-requires c κs = search needs
+
+least-requires-2 : tie.Need-least-requires-2
+least-requires-2 c κs = search needs
+
+z-at-requires : tie.Need-z-at-requires
+z-at-requires c κs = (omega (arith, c .least2 .ensures .1), c .before .least .ensures .1)
+
+scale-requires : tie.Need-scale-requires
+scale-requires c κs = search needs
+
+add-to-requires : tie.Need-add-to-requires
+add-to-requires c κs = search needs
+
+same-length : tie.Need-same-length
+same-length c = search needs
+
+returns : tie.Need-returns
+unfolding share
+returns c = rw (c .before .before .add-to .ensures, c .before .before .before .before .scale .ensures, c .before .before .before .before .before .z-at .ensures, c .before .before .before .before .before .before .least2 .ensures .0, c .before .before .before .before .before .before .before .least .ensures .0, ⊗-comm)
+
+pub add-share-spec : {M : Type 1} → statement M
+add-share-spec =
+    tie.close
+    (tie.spec
+    least-requires
+    least-requires-2
+    z-at-requires
+    scale-requires
+    add-to-requires
+    same-length
+    returns)
