@@ -8,6 +8,7 @@ use crate::text::nth_sizes;
 use crate::text::number;
 use crate::text::plus;
 use crate::text::{self};
+use magnetar_batch::check::RowCheck;
 use magnetar_hash::transcript::Transcript;
 use magnetar_hash::transcript::TranscriptAnswer;
 use magnetar_inplace::records::Entry;
@@ -250,6 +251,94 @@ pub(crate) fn verify(
         if text::same(c, claims) {
             return text::same(s, scratch);
         }
+    }
+    false
+}
+
+// What a row check says, as numbers.
+struct Said {
+    kind: usize,
+    login: usize,
+    row: usize,
+}
+
+fn place(r: RowCheck) -> Said {
+    match r {
+        RowCheck::Good => Said {
+            kind: 0,
+            login: 0,
+            row: 0,
+        },
+        RowCheck::Bin(u, i) => Said {
+            kind: 1,
+            login: u,
+            row: i,
+        },
+        RowCheck::Fld(u, i) => Said {
+            kind: 2,
+            login: u,
+            row: i,
+        },
+        RowCheck::Refused(code) => Said {
+            kind: 3,
+            login: code as usize,
+            row: 0,
+        },
+    }
+}
+
+fn same_said(a: Said, b: Said) -> bool {
+    if a.kind == b.kind {
+        if a.login == b.login {
+            return a.row == b.row;
+        }
+    }
+    false
+}
+
+fn checked(given: &[u64], sizes: &[usize], scratch: &mut [u64]) -> RowCheck {
+    lent::checked(
+        scratch,
+        number(sizes, 0, 0),
+        number(sizes, 0, 1),
+        number(sizes, 4, 0),
+        number(sizes, 4, 1),
+        matrix(given, sizes, 5),
+        number(sizes, 9, 0),
+        number(sizes, 9, 1),
+        matrix(given, sizes, 10),
+        number(sizes, 14, 0),
+        number(sizes, 14, 1),
+        matrix(given, sizes, 15),
+        number(sizes, 19, 0),
+        number(sizes, 19, 1),
+        matrix(given, sizes, 20),
+        number(sizes, 24, 0),
+        number(sizes, 24, 1),
+        matrix(given, sizes, 25),
+        number(sizes, 29, 0),
+        number(sizes, 29, 1),
+        matrix(given, sizes, 30),
+        nth(given, 3),
+        nth(given, 2),
+        count(sizes, 5),
+        count(sizes, 10),
+        count(sizes, 15),
+        count(sizes, 20),
+        count(sizes, 25),
+        count(sizes, 30),
+    )
+}
+
+// The row check.
+pub(crate) fn check(given: &[u64], sizes: &[usize], r: RowCheck, scratch: &[u64]) -> bool {
+    if !all_fit(sizes) {
+        return true;
+    }
+    let mut words = text::room();
+    let s = text::front(&mut words, scratch.len());
+    if same_said(place(checked(given, sizes, s)), place(r)) {
+        return text::same(s, scratch);
     }
     false
 }

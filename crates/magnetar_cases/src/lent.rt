@@ -2,19 +2,22 @@
 // in one function are too many for the checker: the first three are lent by one, the last three by one that it calls.
 ghost use mathlib.Core.Path.{_≡_};
 ghost use Prim.Native.Nat.{_≤_};
-ghost use lib.ListN.{take};
+ghost use lib.ListN.{length, take};
 ghost use Rattle.magnetar_batch.specs.Systems.{system};
+ghost use Rattle.magnetar_batch.specs.Check.{outcome, checkAnswer, checkScratch};
 ghost use Rattle.magnetar_r1cs.specs.Entries.{masksRefusal, masksOut};
 ghost use Rattle.magnetar_spartan.specs.Rules.{rules};
 ghost use Rattle.magnetar_spartan.specs.Outcome.{verified, verifyOutcome};
 ghost use Rattle.magnetar_inplace.specs.Records.{lentOf};
 ghost use Rattle.magnetar_records.specs.Outcome.{combinedAs, comboOutcome};
+use magnetar_batch::check::RowCheck;
 use magnetar_hash::transcript::Transcript;
 use magnetar_hash::transcript::TranscriptAnswer;
 use magnetar_inplace::records;
 use magnetar_inplace::records::Entry;
 use magnetar_records::combo;
 use magnetar_records::virtual_spartan;
+use magnetar_row_records::check;
 
 // A number with a transcript.
 fn with(code: u32, t: Transcript) -> TranscriptAnswer
@@ -304,6 +307,132 @@ pub(crate) fn verified(
         cf,
         x,
         proof,
+        afn,
+        bfn,
+        cfn,
+    )
+}
+
+// The row check: the last three.
+fn checked_in(
+    scratch: &mut [u64],
+    m: usize,
+    q: usize,
+    abrows: usize,
+    abcols: usize,
+    ab: &[Entry],
+    bbrows: usize,
+    bbcols: usize,
+    bb: &[Entry],
+    cbrows: usize,
+    cbcols: usize,
+    cb: &[Entry],
+    afrows: usize,
+    afcols: usize,
+    af: [Entry; 64],
+    bfrows: usize,
+    bfcols: usize,
+    bf: [Entry; 64],
+    cfrows: usize,
+    cfcols: usize,
+    cf: [Entry; 64],
+    packed: &[u64],
+    x: &[u64],
+    afn: usize,
+    bfn: usize,
+    cfn: usize,
+) -> RowCheck
+    requires { ⌜ (afn ≤ 64) × (bfn ≤ 64) × (cfn ≤ 64) ⌝ }
+    ensures { λ r. ⌜ (outcome r ≡ checkAnswer m q (system (lentOf abrows abcols (now (ab .entry))) (lentOf bbrows bbcols (now (bb .entry))) (lentOf cbrows cbcols (now (cb .entry)))) (system (lentOf afrows afcols (take afn af)) (lentOf bfrows bfcols (take bfn bf)) (lentOf cfrows cfcols (take cfn cf))) (now (packed .entry)) (now (x .entry)) (length (now (scratch .entry))))
+        × (now (scratch .exit) ≡ checkScratch m q (system (lentOf abrows abcols (now (ab .entry))) (lentOf bbrows bbcols (now (bb .entry))) (lentOf cbrows cbcols (now (cb .entry)))) (system (lentOf afrows afcols (take afn af)) (lentOf bfrows bfcols (take bfn bf)) (lentOf cfrows cfcols (take cfn cf))) (now (packed .entry)) (now (x .entry)) (now (scratch .entry))) ⌝ }
+{
+    check::row_check(
+        scratch,
+        m,
+        q,
+        abrows,
+        abcols,
+        ab,
+        bbrows,
+        bbcols,
+        bb,
+        cbrows,
+        cbcols,
+        cb,
+        afrows,
+        afcols,
+        &af[..afn],
+        bfrows,
+        bfcols,
+        &bf[..bfn],
+        cfrows,
+        cfcols,
+        &cf[..cfn],
+        packed,
+        x,
+    )
+}
+
+// All six.
+pub(crate) fn checked(
+    scratch: &mut [u64],
+    m: usize,
+    q: usize,
+    abrows: usize,
+    abcols: usize,
+    ab: [Entry; 64],
+    bbrows: usize,
+    bbcols: usize,
+    bb: [Entry; 64],
+    cbrows: usize,
+    cbcols: usize,
+    cb: [Entry; 64],
+    afrows: usize,
+    afcols: usize,
+    af: [Entry; 64],
+    bfrows: usize,
+    bfcols: usize,
+    bf: [Entry; 64],
+    cfrows: usize,
+    cfcols: usize,
+    cf: [Entry; 64],
+    packed: &[u64],
+    x: &[u64],
+    abn: usize,
+    bbn: usize,
+    cbn: usize,
+    afn: usize,
+    bfn: usize,
+    cfn: usize,
+) -> RowCheck
+    requires { ⌜ (abn ≤ 64) × (bbn ≤ 64) × (cbn ≤ 64) × (afn ≤ 64) × (bfn ≤ 64) × (cfn ≤ 64) ⌝ }
+    ensures { λ r. ⌜ (outcome r ≡ checkAnswer m q (system (lentOf abrows abcols (take abn ab)) (lentOf bbrows bbcols (take bbn bb)) (lentOf cbrows cbcols (take cbn cb))) (system (lentOf afrows afcols (take afn af)) (lentOf bfrows bfcols (take bfn bf)) (lentOf cfrows cfcols (take cfn cf))) (now (packed .entry)) (now (x .entry)) (length (now (scratch .entry))))
+        × (now (scratch .exit) ≡ checkScratch m q (system (lentOf abrows abcols (take abn ab)) (lentOf bbrows bbcols (take bbn bb)) (lentOf cbrows cbcols (take cbn cb))) (system (lentOf afrows afcols (take afn af)) (lentOf bfrows bfcols (take bfn bf)) (lentOf cfrows cfcols (take cfn cf))) (now (packed .entry)) (now (x .entry)) (now (scratch .entry))) ⌝ }
+{
+    checked_in(
+        scratch,
+        m,
+        q,
+        abrows,
+        abcols,
+        &ab[..abn],
+        bbrows,
+        bbcols,
+        &bb[..bbn],
+        cbrows,
+        cbcols,
+        &cb[..cbn],
+        afrows,
+        afcols,
+        af,
+        bfrows,
+        bfcols,
+        bf,
+        cfrows,
+        cfcols,
+        cf,
+        packed,
+        x,
         afn,
         bfn,
         cfn,

@@ -1,4 +1,5 @@
 // The row check of a relation and its batch.
+use crate::again;
 use crate::text::at;
 use crate::text::nth;
 use crate::text::nth_sizes;
@@ -96,7 +97,9 @@ pub(crate) fn answered(
 ) -> bool {
     if op == CHECK {
         let part = text::marked(scratch, at(nums, 0));
-        print_verdict(checked(given, sizes, part));
+        let r = checked(given, sizes, part);
+        text::agreed(again::check(given, sizes, r, part));
+        print_verdict(r);
         text::print_cleared(part);
         return true;
     }
