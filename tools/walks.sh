@@ -1,5 +1,5 @@
 #!/bin/sh
-# Writes anew the proofs of magnetar_inplace, magnetar_row_records, magnetar_forms and magnetar_records that tools/thin.py, tools/each.py and
+# Writes anew the proofs of magnetar_inplace, magnetar_row_records, magnetar_forms, magnetar_records and magnetar_cases that tools/thin.py, tools/each.py and
 # tools/count.py write. Run it in the
 # repository's root after a change of a walked function's code or contract, then `rt fmt` and `rt check` of the crate. Nobody has to trust the tools:
 # the checker checks what they write.
@@ -118,3 +118,18 @@ thin virtual_spartan::refused --use "$ends.RunEnds.{verify-refused}" \
   --final "verify-refused $six4 n1 n2 (s3 .now) (s22 .now) (s23 .now) n24 n25 n26 r1 r2 e1 e2"
 thin virtual_spartan::verify_virtual_spartan --use "$ends.RunEnds.{verify-ends}" \
   --final "verify-ends $six7 n4 n5 (s6 .now) (s25 .now) (s26 .now) h1 ys2 ys3 r2 r1 e1 e2 r3 (ws3 .1 .0) (ws3 .1 .1 .0) (ws3 .1 .1 .1 .0) e3"
+
+# magnetar_cases: arrays of records lent. three N F FINAL: F lends three of six and calls F_in, which lends the others; their numbers are the
+# parameters from N on
+c=magnetar_cases
+p=crates/$c/proofs
+three() {
+  k=$1; g=$2; shift 2
+  thin ${g}_in --requires "(n$k ≤ 64) × (n$((k + 1)) ≤ 64) × (n$((k + 2)) ≤ 64)" --part 'pre .0' --part 'pre .1' --part 'pre .2' --final "$1"
+  thin $g --requires "(n$k ≤ 64) × (n$((k + 1)) ≤ 64) × (n$((k + 2)) ≤ 64) × (n$((k + 3)) ≤ 64) × (n$((k + 4)) ≤ 64) × (n$((k + 5)) ≤ 64)" \
+    --part 'pre .0' --part 'pre .1' --part 'pre .2' --ask '1=(pre .3, pre .4, pre .5)' --final e1
+}
+thin lent::masks --requires 'n4 ≤ 64' --part pre --final e1
+three 25 lent::combined e1
+three 27 lent::verified 'rw (e2 .0, e2 .1) e1'
+three 24 lent::checked e1
