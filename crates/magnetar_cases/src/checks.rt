@@ -1,4 +1,5 @@
 // The verifier's checks with given elements in the place of the draws.
+use crate::text::MARK;
 use crate::text::at;
 use crate::text::nth;
 use crate::text::nth_sizes;
@@ -126,19 +127,14 @@ fn ended(nums: &[u64], given: &[u64], sizes: &[usize], claims: &mut [u64], scrat
 }
 
 // Answers the query, or says that it is none.
-pub(crate) fn answered(
-    op: u64,
-    nums: &[u64],
-    given: &[u64],
-    sizes: &[usize],
-    claims: &mut [u64],
-    scratch: &mut [u64],
-) -> bool {
+pub(crate) fn answered(op: u64, nums: &[u64], given: &[u64], sizes: &[usize]) -> bool {
     if op != CHECKS {
         return false;
     }
-    let told_to = text::marked(claims, at(nums, 0));
-    let part = text::marked(scratch, at(nums, 1));
+    let mut room = [MARK; 256];
+    let mut words = text::room();
+    let told_to = text::front(&mut room, text::size(at(nums, 0)));
+    let part = text::front(&mut words, text::size(at(nums, 1)));
     let f = first(nums, sizes);
     print_found(f);
     if f.code == 0 {

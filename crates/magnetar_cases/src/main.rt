@@ -15,47 +15,22 @@ use crate::text::print;
 const CASE: u64 = 0x63617365;
 
 // Answers a query on the last relation, or says that it is none.
-fn answered(
-    line: &[u8],
-    nums: &[u64],
-    given: &[u64],
-    sizes: &[usize],
-    out: &mut [u64],
-    claims: &mut [u64],
-    scratch: &mut [u64],
-) -> bool {
+fn answered(line: &[u8], nums: &[u64], given: &[u64], sizes: &[usize]) -> bool {
     let op = text::name(line);
-    if tables::answered(op, nums, given, sizes, out, scratch) {
+    if tables::answered(op, nums, given, sizes) {
         return true;
     }
-    if rowcheck::answered(op, nums, given, sizes, scratch) {
+    if rowcheck::answered(op, nums, given, sizes) {
         return true;
     }
-    if checks::answered(op, nums, given, sizes, claims, scratch) {
+    if checks::answered(op, nums, given, sizes) {
         return true;
     }
-    runs::answered(
-        op,
-        runs::state(line),
-        nums,
-        given,
-        sizes,
-        out,
-        claims,
-        scratch,
-    )
+    runs::answered(op, runs::state(line), nums, given, sizes)
 }
 
 // One line: the numbers of the last relation are in `given` and, as sizes, in `sizes`.
-fn answer(
-    line: &[u8],
-    nums: &mut [u64],
-    given: &mut [u64],
-    sizes: &mut [usize],
-    out: &mut [u64],
-    claims: &mut [u64],
-    scratch: &mut [u64],
-) {
+fn answer(line: &[u8], nums: &mut [u64], given: &mut [u64], sizes: &mut [usize]) {
     if text::byte(line, 0) == b'#' {
         print(line);
         print(b"\n");
@@ -68,33 +43,17 @@ fn answer(
         return;
     }
     let n = text::numbers(line, nums);
-    if answered(
-        line,
-        text::first(nums, n),
-        given,
-        sizes,
-        out,
-        claims,
-        scratch,
-    ) {
+    if answered(line, text::first(nums, n), given, sizes) {
         return;
     }
     print(b"? unknown query\n");
 }
 
-fn answer_all(
-    input: &[u8],
-    nums: &mut [u64],
-    given: &mut [u64],
-    sizes: &mut [usize],
-    out: &mut [u64],
-    claims: &mut [u64],
-    scratch: &mut [u64],
-) {
+fn answer_all(input: &[u8], nums: &mut [u64], given: &mut [u64], sizes: &mut [usize]) {
     let mut from = 0;
     while from < input.len() {
         let to = text::find(input, from, b'\n');
-        answer(&input[from..to], nums, given, sizes, out, claims, scratch);
+        answer(&input[from..to], nums, given, sizes);
         if to == input.len() {
             return;
         }
@@ -103,25 +62,9 @@ fn answer_all(
 }
 
 // Answers all that is read.
-fn run(
-    input: &mut [u8],
-    nums: &mut [u64],
-    given: &mut [u64],
-    sizes: &mut [usize],
-    out: &mut [u64],
-    claims: &mut [u64],
-    scratch: &mut [u64],
-) {
+fn run(input: &mut [u8], nums: &mut [u64], given: &mut [u64], sizes: &mut [usize]) {
     let n = io::read_full(libc::STDIN_FILENO, input);
-    answer_all(
-        text::first_bytes(input, n),
-        nums,
-        given,
-        sizes,
-        out,
-        claims,
-        scratch,
-    );
+    answer_all(text::first_bytes(input, n), nums, given, sizes);
 }
 
 fn main() {
@@ -129,16 +72,5 @@ fn main() {
     let mut nums = [0u64; 1024];
     let mut given = [0u64; 4096];
     let mut sizes = [0usize; 4096];
-    let mut out = [0u64; 2048];
-    let mut claims = [0u64; 256];
-    let mut scratch = text::room();
-    run(
-        &mut input,
-        &mut nums,
-        &mut given,
-        &mut sizes,
-        &mut out,
-        &mut claims,
-        &mut scratch,
-    );
+    run(&mut input, &mut nums, &mut given, &mut sizes);
 }

@@ -88,15 +88,10 @@ fn print_verdict(r: RowCheck) {
 }
 
 // check S: the row check with S words lent as scratch.
-pub(crate) fn answered(
-    op: u64,
-    nums: &[u64],
-    given: &[u64],
-    sizes: &[usize],
-    scratch: &mut [u64],
-) -> bool {
+pub(crate) fn answered(op: u64, nums: &[u64], given: &[u64], sizes: &[usize]) -> bool {
     if op == CHECK {
-        let part = text::marked(scratch, at(nums, 0));
+        let mut words = text::room();
+        let part = text::front(&mut words, text::size(at(nums, 0)));
         let r = checked(given, sizes, part);
         text::agreed(again::check(given, sizes, r, part));
         print_verdict(r);

@@ -1,5 +1,6 @@
 // Whole runs: the prover and the verifier on a relation and its batch.
 use crate::again;
+use crate::text::MARK;
 use crate::text::at;
 use crate::text::nth;
 use crate::text::nth_sizes;
@@ -182,14 +183,13 @@ fn verified(
 }
 
 // prove STATE CTR P C S: the prover with P words lent for the proof, C for the claims and S as scratch.
-fn prove(
-    given: &[u64],
-    sizes: &[usize],
-    t: Transcript,
-    proof: &mut [u64],
-    claims: &mut [u64],
-    scratch: &mut [u64],
-) {
+fn prove(given: &[u64], sizes: &[usize], nums: &[u64], t: Transcript) {
+    let mut told = [MARK; 2048];
+    let mut room = [MARK; 256];
+    let mut words = text::room();
+    let proof = text::front(&mut told, text::size(at(nums, 2)));
+    let claims = text::front(&mut room, text::size(at(nums, 3)));
+    let scratch = text::front(&mut words, text::size(at(nums, 4)));
     let r = proved(given, sizes, t, proof, claims, scratch);
     print_answer(r);
     print_line(proof);
@@ -198,14 +198,12 @@ fn prove(
 }
 
 // verify STATE CTR C S PROOF: the verifier with C words lent for the claims and S as scratch.
-fn verify(
-    given: &[u64],
-    sizes: &[usize],
-    t: Transcript,
-    claims: &mut [u64],
-    scratch: &mut [u64],
-    proof: &[u64],
-) {
+fn verify(given: &[u64], sizes: &[usize], nums: &[u64], t: Transcript) {
+    let mut room = [MARK; 256];
+    let mut words = text::room();
+    let claims = text::front(&mut room, text::size(at(nums, 2)));
+    let scratch = text::front(&mut words, text::size(at(nums, 3)));
+    let proof = text::list(nums, 4);
     let r = verified(given, sizes, t, claims, scratch, proof);
     text::agreed(again::verify(given, sizes, t, proof, r, claims, scratch));
     print_answer(r);
@@ -220,34 +218,17 @@ pub(crate) fn answered(
     nums: &[u64],
     given: &[u64],
     sizes: &[usize],
-    proof: &mut [u64],
-    claims: &mut [u64],
-    scratch: &mut [u64],
 ) -> bool {
     let t = Transcript {
         state: state,
         squeeze_ctr: at(nums, 1),
     };
     if op == PROVE {
-        prove(
-            given,
-            sizes,
-            t,
-            text::marked(proof, at(nums, 2)),
-            text::marked(claims, at(nums, 3)),
-            text::marked(scratch, at(nums, 4)),
-        );
+        prove(given, sizes, nums, t);
         return true;
     }
     if op == VERIFY {
-        verify(
-            given,
-            sizes,
-            t,
-            text::marked(claims, at(nums, 2)),
-            text::marked(scratch, at(nums, 3)),
-            text::list(nums, 4),
-        );
+        verify(given, sizes, nums, t);
         return true;
     }
     false

@@ -1,5 +1,6 @@
 // Queries on matrices: the combined table of six and the masks of one.
 use crate::again;
+use crate::text::MARK;
 use crate::text::at;
 use crate::text::nth;
 use crate::text::nth_sizes;
@@ -67,9 +68,11 @@ fn combined(
 }
 
 // combo N S ALPHAS PB PF: the combined table of the relation, with N words lent for it and S as scratch.
-fn combo(nums: &[u64], given: &[u64], sizes: &[usize], out: &mut [u64], scratch: &mut [u64]) {
-    let room = text::marked(out, at(nums, 0));
-    let part = text::marked(scratch, at(nums, 1));
+fn combo(nums: &[u64], given: &[u64], sizes: &[usize]) {
+    let mut table = [MARK; 2048];
+    let mut words = text::room();
+    let room = text::front(&mut table, text::size(at(nums, 0)));
+    let part = text::front(&mut words, text::size(at(nums, 1)));
     let code = combined(nums, given, sizes, room, part);
     text::agreed(again::combo(nums, given, sizes, code, room, part));
     text::print_code(code, room);
@@ -77,8 +80,9 @@ fn combo(nums: &[u64], given: &[u64], sizes: &[usize], out: &mut [u64], scratch:
 }
 
 // masks N Q W V: the masks of the first matrix and the packed words, with N words lent for them.
-fn masks(nums: &[u64], given: &[u64], sizes: &[usize], out: &mut [u64]) {
-    let room = text::marked(out, at(nums, 0));
+fn masks(nums: &[u64], given: &[u64], sizes: &[usize]) {
+    let mut table = [MARK; 2048];
+    let room = text::front(&mut table, text::size(at(nums, 0)));
     let code = r1cs::apply_simd_bit_masks(
         number(sizes, 4, 0),
         number(sizes, 4, 1),
@@ -97,20 +101,13 @@ fn masks(nums: &[u64], given: &[u64], sizes: &[usize], out: &mut [u64]) {
 }
 
 // Answers a query on matrices, or says that it is none.
-pub(crate) fn answered(
-    op: u64,
-    nums: &[u64],
-    given: &[u64],
-    sizes: &[usize],
-    out: &mut [u64],
-    scratch: &mut [u64],
-) -> bool {
+pub(crate) fn answered(op: u64, nums: &[u64], given: &[u64], sizes: &[usize]) -> bool {
     if op == COMBO {
-        combo(nums, given, sizes, out, scratch);
+        combo(nums, given, sizes);
         return true;
     }
     if op == MASKS {
-        masks(nums, given, sizes, out);
+        masks(nums, given, sizes);
         return true;
     }
     false

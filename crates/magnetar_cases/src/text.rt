@@ -268,13 +268,6 @@ pub(crate) fn number(s: &[usize], k: usize, i: usize) -> usize {
     at_size(nth_sizes(s, k), i)
 }
 
-// The first n numbers, each marked.
-pub(crate) fn marked(s: &mut [u64], n: u64) -> &mut [u64] {
-    let part = front(s, size(n));
-    fill(part, MARK);
-    part
-}
-
 // Whether the words are the same.
 pub(crate) fn same(s: &[u64], t: &[u64]) -> bool {
     if s.len() != t.len() {

@@ -8,10 +8,10 @@ use Rattle.magnetar_cases.proofs.answer_all.Statement.{statement}
 use Rattle.magnetar_cases.proofs.answer_all.Tie as tie
 
 abbrev Inv-loop : tie.InvT-loop
-Inv-loop input nums₀ given₀ sizes₀ out₀ claims₀ scratch₀ from₀ nums given sizes out claims scratch from = (length nums ≡ length nums₀) × (length given ≡ length given₀) × (length sizes ≡ length sizes₀) × (length out ≡ length out₀) × (length claims ≡ length claims₀) × (length scratch ≡ length scratch₀) × (from ≤ length input)
+Inv-loop input nums₀ given₀ sizes₀ from₀ nums given sizes from = (length nums ≡ length nums₀) × (length given ≡ length given₀) × (length sizes ≡ length sizes₀) × (from ≤ length input)
 
 abbrev μ-loop : tie.MeasureT-loop
-μ-loop input nums₀ given₀ sizes₀ out₀ claims₀ scratch₀ from₀ nums given sizes out claims scratch from = length input - from
+μ-loop input nums₀ given₀ sizes₀ from₀ nums given sizes from = length input - from
 
 loop-holds : tie.Need-loop-holds Inv-loop μ-loop
 loop-holds c = search needs
@@ -40,15 +40,6 @@ same-length-2 c = search needs
 same-length-3 : tie.Need-same-length-3 Inv-loop μ-loop
 same-length-3 c = search needs
 
-same-length-4 : tie.Need-same-length-4 Inv-loop μ-loop
-same-length-4 c = search needs
-
-same-length-5 : tie.Need-same-length-5 Inv-loop μ-loop
-same-length-5 c = search needs
-
-same-length-6 : tie.Need-same-length-6 Inv-loop μ-loop
-same-length-6 c = search needs
-
 returns : tie.Need-returns Inv-loop μ-loop
 returns c = search needs
 
@@ -61,23 +52,14 @@ loop-less c = search needs
 loop-again : tie.Need-loop-again Inv-loop μ-loop
 loop-again c = search needs
 
-same-length-7 : tie.Need-same-length-7 Inv-loop μ-loop
-same-length-7 c = search needs
+same-length-4 : tie.Need-same-length-4 Inv-loop μ-loop
+same-length-4 c = search needs
 
-same-length-8 : tie.Need-same-length-8 Inv-loop μ-loop
-same-length-8 c = search needs
+same-length-5 : tie.Need-same-length-5 Inv-loop μ-loop
+same-length-5 c = search needs
 
-same-length-9 : tie.Need-same-length-9 Inv-loop μ-loop
-same-length-9 c = search needs
-
-same-length-10 : tie.Need-same-length-10 Inv-loop μ-loop
-same-length-10 c = search needs
-
-same-length-11 : tie.Need-same-length-11 Inv-loop μ-loop
-same-length-11 c = search needs
-
-same-length-12 : tie.Need-same-length-12 Inv-loop μ-loop
-same-length-12 c = search needs
+same-length-6 : tie.Need-same-length-6 Inv-loop μ-loop
+same-length-6 c = search needs
 
 returns-2 : tie.Need-returns-2 Inv-loop μ-loop
 returns-2 c = search needs
@@ -97,17 +79,11 @@ answer-all-spec =
     same-length
     same-length-2
     same-length-3
-    same-length-4
-    same-length-5
-    same-length-6
     returns
     add-from
     loop-less
     loop-again
-    same-length-7
-    same-length-8
-    same-length-9
-    same-length-10
-    same-length-11
-    same-length-12
+    same-length-4
+    same-length-5
+    same-length-6
     returns-2)
