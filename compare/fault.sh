@@ -95,4 +95,6 @@ fault upper-bits magnetar_batch/src/fold.rt 'return word % (1 << n);' 'return wo
 fault round-constant magnetar_keccak/src/keccak.rt 0x8000000080008000 0x8000000080008001
 # a label
 fault label magnetar_schedule/src/events.rt 'b"vs-vz"' 'b"vs-vx"'
+# over records alone, the second matrix of a system takes the third one's alpha
+fault record-alpha magnetar_records/src/combo.rt 'add_matrix(bb, s, m, nb, al, k1, pb);' 'add_matrix(bb, s, m, nb, al, k2, pb);'
 exit $missed
