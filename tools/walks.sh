@@ -82,6 +82,7 @@ thin combo::fill_unless --final '(refl, rw (← e1, b1) (e2 .0), rw (← e1, b1)
 thin combo::refused --use "$ends.ComboEnds.{combo-refused}" --final "combo-refused $six2 n1 (s20 .now) (s21 .now) (s22 .now) n23 n24 r1 r2 e1 e2"
 thin combo::build_m_combo --use "$ends.ComboEnds.{combo-ends}" \
   --final "combo-ends $six4 n3 (s22 .now) (s23 .now) (s24 .now) ys1 ys2 r1 e1 r2 (ws2 .1 .0) (ws2 .1 .1 .0) e2"
+thin virtual_spartan::combine_at
 thin virtual_spartan::combine
 thin virtual_spartan::verify_in --use "$ends.StageLaws.{run-left}" \
   --final 'run-left n4 n5 n7 n8 (s6 .now) (s15 .now) (s16 .now) h1 ys2 _ (ws1 .0) r2 (ws2 .0) (ws2 .1 .0) r3 r4 e1 e2 e3 e4'
