@@ -1,3 +1,4 @@
 pub mod PartLaws
 pub mod ProductLaws
 pub mod StageLaws
+pub mod ProveEnds

@@ -38,7 +38,7 @@ use Rattle.magnetar_records_prover.specs.Stages.{drawWordsOf, outerNumbe
 
 -- ---- words behind a front
 -- the words from k on, where the first n are others
-behind-front : (n k : ℕ) (t s : List ℕ) → length t ≡ n → n ≤ k → drop k (t ++ drop n s) ≡ drop k s
+pub behind-front : (n k : ℕ) (t s : List ℕ) → length t ≡ n → n ≤ k → drop k (t ++ drop n s) ≡ drop k s
 behind-front n k t s l h =
     let q : n + (k - n) ≡ k = omega arith in
     ap (λ (i : ℕ). drop i (t ++ drop n s)) (sym q) ∙ (past (k - n) ∙ (drop-drop (k - n) n s ∙ ap (λ (i : ℕ). drop i s) q))
@@ -160,7 +160,7 @@ module _ (m q b f i k n : ℕ) (ns w d c s : List ℕ) (p : Steps) (x : ℕ) (ei
       )
 
 -- ---- the second part
-module _ (m q b f : ℕ) (ns ws x w d c s : List ℕ) (t : Transcript) (s₁ s₂ s₃ : List ℕ)
+module _ (m q b f : ℕ) (ns ws x w d c s : List ℕ) (t : Transcript)
     (L : LaterReady m q b f ns (length ws) (length x) (length w) (length c) (length s) (length d)) where
   even : 2 * (m / 2) ≡ m
   even = halves m (L .end .inner .columns)
@@ -176,7 +176,7 @@ module _ (m q b f : ℕ) (ns ws x w d c s : List ℕ) (t : Transcript) (s₁ s�
     room = omega (arith, even, L .room, L .scratch);
   }
 
-  module _ (folds : FoldLeft q (m / 2) (log₂ q) (loginAt q b f) ws d s s₁) (same : length s₁ ≡ length s) where
+  module _ (s₁ : List ℕ) (folds : FoldLeft q (m / 2) (log₂ q) (loginAt q b f) ws d s s₁) (same : length s₁ ≡ length s) where
     front-is : take (2 * m) s₁ ≡ take (2 * m) s
     front-is =
         let e : 4 * (m / 2) ≡ 2 * m = omega (arith, even) in
@@ -201,7 +201,7 @@ module _ (m q b f : ℕ) (ns ws x w d c s : List ℕ) (t : Transcript) (s₁ s�
       draws = L .end .draws;
     }
 
-    module _ (u : Transcript) (w′ c′ : List ℕ) (ends : EndLeft m q b f ns w d c s₁ (innerPlayed (outline m 1 1 1 ns) x s₁ t) u w′ c′ s₂)
+    module _ (s₂ s₃ : List ℕ) (u : Transcript) (w′ c′ : List ℕ) (ends : EndLeft m q b f ns w d c s₁ (innerPlayed (outline m 1 1 1 ns) x s₁ t) u w′ c′ s₂)
         (cleared : s₃ ≡ replicate (min (roomOf m q b f) (length s₂)) 0 ++ drop (min (roomOf m q b f) (length s₂)) s₂) where
       s₂-long : length s₂ ≡ length s₁
       s₂-long =

@@ -1,6 +1,6 @@
 -- `magnetar_records_prover::stages::outer` meets its contract.
 -- Assumes nothing.
-use mathlib.Core.Path.{_≡_, sym, ap, _∙_}
+use mathlib.Core.Path.{_≡_, refl, ap, _∙_}
 use Prim.Native.Nat.{ℕ, _+_, _-_, _*_, _≤_, min}
 use native.Mathlib.Omega.{arith}
 use denote.Ref.{now}
@@ -53,7 +53,7 @@ returns : tie.Need-returns
 returns c = 
     let x = c .before .before .before .before .before .before .before .before .before .before .before .before .before .before .before .before .args in
     let r = c .before .before .before .before .before .before .outer-rounds in
-    outer-ends (x .m) (x .q) (x .rb) (x .rf) (x .k) (c .before .before .before .before .before .before .before .before .before .before .before .before .least .result) (c .before .before .before .before .before .before .before .before .before .before .least2 .result) (now (x .proof)) (now (x .s)) (x .t) (r .result) _ _ _ _
+    outer-ends (x .m) (x .q) (x .rb) (x .rf) (x .k) (c .before .before .before .before .before .before .before .before .before .before .before .before .least .result) (c .before .before .before .before .before .before .before .before .before .before .least2 .result) (now (x .proof)) (now (x .s)) (x .t) (r .result) (r .result .transcript) _ _ _
     (c .before .before .before .before .before .before .before .before .before .before .before .before .least .ensures .0 ∙ ap (λ (n : ℕ). min n (length (now (x .proof)))) (c .before .before .before .before .before .before .before .before .before .before .before .before .before .proof-words .ensures))
     (c .before .before .before .before .before .before .before .before .before .before .least2 .ensures .0 ∙ ap (λ (n : ℕ). min n 256) (c .before .before .before .before .before .before .before .before .before .before .before .draw-words .ensures))
     (r .ensures .0) (r .ensures .1 .0) (r .ensures .1 .1 .0) (r .ensures .1 .1 .1) refl
