@@ -2,3 +2,4 @@ pub mod PartLaws
 pub mod ProductLaws
 pub mod StageLaws
 pub mod ProveEnds
+pub mod EntryEnds

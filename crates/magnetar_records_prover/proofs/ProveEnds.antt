@@ -54,7 +54,7 @@ use Rattle.magnetar_records.proofs.NumberLaws.{insideOf, counted-is, joined-is,
 use Rattle.magnetar_records.proofs.DrawnTable.{over, overlaid-length, drawn-combined, drawn-beyond, log-few}
 use Rattle.magnetar_records_prover.specs.Parts as parts
 use Rattle.magnetar_records_prover.specs.Parts.{tableWords, proofWordsOf, claimWordsOf, sixPlaced}
-use Rattle.magnetar_records_prover.specs.Stages.{drawWordsOf, outerNumber, loginAt, saidBefore, drawnBefore, saidAll, drawnAll, EndReady, LaterReady, laterPlayed, LaterLeft}
+use Rattle.magnetar_records_prover.specs.Stages.{drawWordsOf, outerNumber, OuterDone, outerRoom, loginAt, saidBefore, drawnBefore, saidAll, drawnAll, EndReady, LaterReady, laterPlayed, LaterLeft}
 use Rattle.magnetar_records_prover.specs.Outcome.{provedInPlace}
 use Rattle.magnetar_records_prover.proofs.StageLaws.{behind-front}
 use Rattle.magnetar_records_prover.proofs.ProductLaws.{s₆, six-long, six-rest, six-are}
@@ -326,6 +326,23 @@ scratch-beyond zero n k s h g = (
 )
 scratch-beyond (suc z) n k s h g = rw (ne-eqb (suc z) 0 (λ e. omega arith)) (refl, refl)
 
+-- ---- the first part: the products, the outer rounds, the combined table
+module _ (rb rf m q k : ℕ) (ab bb cb af bf cf : List Entry) (ws x w s : List ℕ) (t : Transcript) where
+  abbrev pub table : (d y : List ℕ) → List ℕ
+  table d y = tableAt m q rb rf d (entriesOfRecords ab) (entriesOfRecords bb) (entriesOfRecords cb) (entriesOfRecords af) (entriesOfRecords bf) (entriesOfRecords cf) y
+
+  -- the products in their places
+  abbrev pub placed : List ℕ
+  placed = sixPlaced m q rb rf (lentOf rb m ab) (lentOf rb m bb) (lentOf rb m cb) (lentOf rf m af) (lentOf rf m bf) (lentOf rf m cf) ws x s
+
+  pub outer-is : (s₁ : List ℕ) (h : Transcript) (d v s₂ d′ s₃ : List ℕ) → s₁ ≡ placed
+      → OuterDone m q rb rf k s₁ w t h d v × (s₂ ≡ outerRoom m q rb rf k s₁ w) → d′ ≡ d → s₃ ≡ table d′ s₂
+      → OuterDone m q rb rf k placed w t h d v × (s₃ ≡ table d (outerRoom m q rb rf k placed w))
+  outer-is s₁ h d v s₂ d′ s₃ e₁ e₂ e₃ e₄ = (
+    subst (λ (y : List ℕ). OuterDone m q rb rf k y w t h d v) e₁ (e₂ .0),
+    e₄ ∙ ap₂ table e₃ (e₂ .1 ∙ ap (λ (y : List ℕ). outerRoom m q rb rf k y w) e₁),
+  )
+
 -- ---- the prover, where nothing refuses it
 module _ (rb rf m q : ℕ) (ns : List ℕ) (ab bb cb af bf cf : List Entry) (ws x w c s : List ℕ) (t : Transcript) where
   abbrev pub same : Rules
@@ -336,39 +353,29 @@ module _ (rb rf m q : ℕ) (ns : List ℕ) (ab bb cb af bf cf : List Entry) (ws 
       LaterReady m q rb rf ns (length ws) (length x) (length v) (length c) (length y) (length d)
       → LaterLeft m q rb rf ns v d c y (laterPlayed m q rb rf ns ws x d y h) u w′ c′ s′
 
-  abbrev table : (d y : List ℕ) → List ℕ
-  table d y = tableAt m q rb rf d (entriesOfRecords ab) (entriesOfRecords bb) (entriesOfRecords cb) (entriesOfRecords af) (entriesOfRecords bf) (entriesOfRecords cf) y
+  -- the products in their places, and the combined table over y
+  abbrev six : List ℕ
+  six = placed rb rf m q (length ns) ab bb cb af bf cf ws x w s t
 
-  abbrev pub zero-words : List ℕ
-  zero-words = replicate 256 0
+  abbrev made : (d y : List ℕ) → List ℕ
+  made d y = table rb rf m q (length ns) ab bb cb af bf cf ws x w s t d y
 
-  pub prove-in-is : (s₁ : List ℕ) (h : Transcript) (d v s₂ d′ s₃ : List ℕ) (u : Transcript) (w′ c′ s′ : List ℕ)
-      → s₁ ≡ sixPlaced m q rb rf (lentOf rb m ab) (lentOf rb m bb) (lentOf rb m cb) (lentOf rf m af) (lentOf rf m bf) (lentOf rf m cf) ws x s
-      → (h ≡ unlessRefused (outerNumber m q rb rf (length ns) w s₁) (outerPlayed q rb rf s₁ t .played .transcript) t)
-      × (d ≡ drawsFor (outerNumber m q rb rf (length ns) w s₁) (outerPlayed q rb rf s₁ t) (take (drawWordsOf m q rb rf) zero-words) ++ drop (drawWordsOf m q rb rf) zero-words)
-      × (v ≡ proofFor (outerNumber m q rb rf (length ns) w s₁) (outerPlayed q rb rf s₁ t) (take (min (proofWordsOf m q rb rf (length ns)) (length w)) w) ++ drop (min (proofWordsOf m q rb rf (length ns)) (length w)) w)
-      × (s₂ ≡ scratchFor (outerNumber m q rb rf (length ns) w s₁) (blockWords q rb rf) s₁)
-      → d′ ≡ d → s₃ ≡ table d′ s₂ → Elements (elements x) × Later h d v s₃ u w′ c′ s′
+  pub prove-in-is : (h : Transcript) (d v s₃ : List ℕ) (u : Transcript) (w′ c′ s′ : List ℕ)
+      → OuterDone m q rb rf (length ns) six w t h d v → s₃ ≡ made d (outerRoom m q rb rf (length ns) six w) → Elements (elements x) × Later h d v s₃ u w′ c′ s′
       → proveRefusal same ws x t w c s ≡ 0 → provedInPlace 0 u w′ c′ s′ ≡ proveOutcome same ws x t w c s
   unfolding lentOf proveRefusal
-  prove-in-is s₁ h d v s₂ d′ s₃ u w′ c′ s′ e₁ e₂ e₃ e₄ e₅ z =
+  prove-in-is h d v s₃ u w′ c′ s′ e₂ e₄ e₅ z =
       let ok : Provable same ws x (length w) (length c) (length s) = provable same ws x (t .«squeeze_ctr») (length w) (length c) (length s) z in
-      let E₀ : h ≡ u₁ same ws x w c s t ok = e₂ .0 ∙ ap (λ (y : List ℕ). unlessRefused (outerNumber m q rb rf (length ns) w y) (outerPlayed q rb rf y t .played .transcript) t) e₁ in
-      let E₁ : d ≡ d₂ same ws x w c s t ok =
-      e₂ .1 ∙ ap (λ (y : List ℕ). drawsFor (outerNumber m q rb rf (length ns) w y) (outerPlayed q rb rf y t) (take (drawWordsOf m q rb rf) zero-words) ++ drop (drawWordsOf m q rb rf) zero-words) e₁ in
-      let E₂ : v ≡ w₂ same ws x w c s t ok =
-      e₂ .2 ∙ ap (λ (y : List ℕ). proofFor (outerNumber m q rb rf (length ns) w y) (outerPlayed q rb rf y t) (take (min (proofWordsOf m q rb rf (length ns)) (length w)) w) ++ drop (min (proofWordsOf m q rb rf (length ns)) (length w)) w) e₁ in
       let T : List ℕ = scratchFor (Z same ws x w c s t ok) (blockWords q rb rf) (S₁ same ws x w c s t ok) in
-      let Es : s₂ ≡ T = e₂ .3 ∙ ap (λ (y : List ℕ). scratchFor (outerNumber m q rb rf (length ns) w y) (blockWords q rb rf) y) e₁ in
-      let S₂ : List ℕ = table (d₂ same ws x w c s t ok) T in
-      let E₃ : s₃ ≡ S₂ = e₄ ∙ ap₂ table (e₃ ∙ E₁) Es in
+      let S₂ : List ℕ = made (d₂ same ws x w c s t ok) T in
+      let E₃ : s₃ ≡ S₂ = e₄ ∙ ap (λ (y : List ℕ). made y T) (e₂ .1) in
       let H : Later (u₁ same ws x w c s t ok) (d₂ same ws x w c s t ok) (w₂ same ws x w c s t ok) S₂ u w′ c′ s′ =
-      subst (λ (y : Transcript). Later y (d₂ same ws x w c s t ok) (w₂ same ws x w c s t ok) S₂ u w′ c′ s′) E₀
-      (subst (λ (y : List ℕ). Later h y (w₂ same ws x w c s t ok) S₂ u w′ c′ s′) E₁
-      (subst (λ (y : List ℕ). Later h d y S₂ u w′ c′ s′) E₂ (subst (λ (y : List ℕ). Later h d v y u w′ c′ s′) E₃ (e₅ .1)))) in
+      subst (λ (y : Transcript). Later y (d₂ same ws x w c s t ok) (w₂ same ws x w c s t ok) S₂ u w′ c′ s′) (e₂ .0)
+      (subst (λ (y : List ℕ). Later h y (w₂ same ws x w c s t ok) S₂ u w′ c′ s′) (e₂ .1)
+      (subst (λ (y : List ℕ). Later h d y S₂ u w′ c′ s′) (e₂ .2) (subst (λ (y : List ℕ). Later h d v y u w′ c′ s′) E₃ (e₅ .1)))) in
       let B = scratch-beyond (Z same ws x w c s t ok) (blockWords q rb rf) (proverRoom same) (S₁ same ws x w c s t ok) (blocks-fit same {s = proverRoom same} refl) (omega (arith, S₁-long same ws x w c s t ok, blocks same ws x w c s t ok)) in
       let room : 2 * m + 2 * max rb rf ≤ length T = omega (arith, B .0, S₁-long same ws x w c s t ok, ok .scratch) in
-      let over-is : S₂ ≡ table (overlaid (d₁ same ws x w c s t ok) zero-words) T = ap (λ (y : List ℕ). table y T) (d₂-over same ws x w c s t ok) in
+      let over-is : S₂ ≡ made (overlaid (d₁ same ws x w c s t ok) (replicate 256 0)) T = ap (λ (y : List ℕ). made y T) (d₂-over same ws x w c s t ok) in
       let D = drawn-beyond rb m ab rb m bb rb m cb rf m af rf m bf rf m cf m q ns (ok .ready) (d₁ same ws x w c s t ok) T (d₁-long same ws x w c s t ok) room (proverRoom same) (omega arith) in
       run-is same ws x w c s t ok S₂
       (ap length over-is ∙ (D .long ∙ (B .0 ∙ S₁-long same ws x w c s t ok)))

@@ -26,7 +26,6 @@ use Rattle.magnetar_protocol.specs.Schedule.{outline}
 use Rattle.magnetar_protocol.specs.Stepwise.{Steps, begin, innerAll}
 use Rattle.magnetar_rounds.specs.Entries.{outerRefusal, outerPlayed, blockWords, innerRefusal, innerPlayed, answerFor, proofFor, drawsFor, scratchFor}
 use Rattle.magnetar_rounds.proofs.Slots.{take-of-drop}
-use Rattle.magnetar_field.specs.Refusal.{unlessRefused}
 use Rattle.magnetar_rounds.specs.declared.answer.RoundsAnswer.{RoundsAnswer}
 use Rattle.magnetar_checks.specs.Claims.{claimsOut}
 use Rattle.magnetar_spartan.specs.Ready.{FoldReady, InnerReady}
@@ -34,7 +33,7 @@ use Rattle.magnetar_spartan.proofs.Chains.{halves}
 use Rattle.magnetar_spartan.proofs.Combining.{noted-none, size-fine, same-fine, most-fine}
 use Rattle.magnetar_spartan.proofs.LaterRun.{point-reversed, logins-few, fold-front, fold-behind, inner-none, inner-drawn-many, inner-said-many, finish-left}
 use Rattle.magnetar_records_prover.specs.Parts.{proofWordsOf, claimWordsOf, roomOf}
-use Rattle.magnetar_records_prover.specs.Stages.{drawWordsOf, outerNumber, loginAt, FoldLeft, saidBefore, drawnBefore, saidAll, drawnAll, InnerLeft, ClaimsLeft, EndReady, EndLeft, LaterReady, laterPlayed, LaterLeft}
+use Rattle.magnetar_records_prover.specs.Stages.{drawWordsOf, OuterDone, outerRoom, loginAt, FoldLeft, saidBefore, drawnBefore, saidAll, drawnAll, InnerLeft, ClaimsLeft, EndReady, EndLeft, LaterReady, laterPlayed, LaterLeft}
 
 -- ---- words behind a front
 -- the words from k on, where the first n are others
@@ -233,10 +232,7 @@ pub outer-ends : (m q b f k i n : ℕ) (w s : List ℕ) (t : Transcript) (A : Ro
     → d′ ≡ drawsFor (outerRefusal q b f (take (i - 0) (drop 0 w)) (take (n - 0) (drop 0 (replicate 256 0))) s) (outerPlayed q b f s t) (take (n - 0) (drop 0 (replicate 256 0)))
     → s′ ≡ scratchFor (outerRefusal q b f (take (i - 0) (drop 0 w)) (take (n - 0) (drop 0 (replicate 256 0))) s) (blockWords q b f) s
     → u ≡ A .transcript
-    → (u ≡ unlessRefused (outerNumber m q b f k w s) (outerPlayed q b f s t .played .transcript) t)
-    × (putMid 0 (n - 0) (replicate 256 0) d′ ≡ drawsFor (outerNumber m q b f k w s) (outerPlayed q b f s t) (take (drawWordsOf m q b f) (replicate 256 0)) ++ drop (drawWordsOf m q b f) (replicate 256 0))
-    × (putMid 0 (i - 0) w w′ ≡ proofFor (outerNumber m q b f k w s) (outerPlayed q b f s t) (take (min (proofWordsOf m q b f k) (length w)) w) ++ drop (min (proofWordsOf m q b f k) (length w)) w)
-    × (s′ ≡ scratchFor (outerNumber m q b f k w s) (blockWords q b f) s)
+    → OuterDone m q b f k s w t u (putMid 0 (n - 0) (replicate 256 0) d′) (putMid 0 (i - 0) w w′) × (s′ ≡ outerRoom m q b f k s w)
 outer-ends m q b f k i n w s t A u w′ d′ s′ ei en eA ew ed es eu = rw (
     eu,
     eA,
@@ -249,4 +245,4 @@ outer-ends m q b f k i n w s t A u w′ d′ s′ ei en eA ew ed es eu = rw (
     front-part i w,
     ei,
     en,
-  ) (refl, refl, refl, refl)
+  ) ((refl, refl, refl), refl)

@@ -4,6 +4,7 @@ use mathlib.Core.Path.{_≡_}
 use mathlib.Core.List.{List, [], _++_, reverse}
 use Prim.Native.Nat.{ℕ, _+_, _-_, _*_, _/_, _≤_, min}
 use lib.ListN.{length, take, drop, replicate}
+use Rattle.magnetar_field.specs.Refusal.{unlessRefused}
 use Rattle.magnetar_field.specs.Sizes.{log₂}
 use Rattle.magnetar_field.specs.Words.{elements, words}
 use Rattle.magnetar_hash.specs.declared.transcript.Transcript.{Transcript}
@@ -15,7 +16,7 @@ use Rattle.magnetar_protocol.specs.Shape.{proofElements}
 use Rattle.magnetar_protocol.specs.Draws.{drawCount}
 use Rattle.magnetar_protocol.specs.Schedule.{outline}
 use Rattle.magnetar_protocol.specs.Stepwise.{Steps, begin, innerAll}
-use Rattle.magnetar_rounds.specs.Entries.{outerRefusal}
+use Rattle.magnetar_rounds.specs.Entries.{proofFor, drawsFor, scratchFor, blockWords, outerRefusal, outerPlayed}
 use Rattle.magnetar_checks.specs.Claims.{claimsOut}
 use Rattle.magnetar_spartan.specs.Ready.{InnerReady}
 use Rattle.magnetar_records_prover.specs.Parts.{proofWordsOf, claimWordsOf, roomOf}
@@ -28,6 +29,18 @@ drawWordsOf m q b f = min (2 * drawCount (outline m q b f [])) 256
 abbrev pub outerNumber : (m q b f k : ℕ) → (w s : List ℕ) → ℕ
 outerNumber m q b f k w s =
     outerRefusal q b f (take (min (proofWordsOf m q b f k) (length w)) w) (take (drawWordsOf m q b f) (replicate 256 0)) s
+
+-- what the outer rounds over the tables in front of s leave of the proof's words w, for k segments: the transcript h, the words d of the
+-- draws, and w′
+abbrev pub OuterDone : (m q b f k : ℕ) → (s w : List ℕ) → Transcript → Transcript → (d w′ : List ℕ) → Type 0
+OuterDone m q b f k s w t h d w′ =
+    (h ≡ unlessRefused (outerNumber m q b f k w s) (outerPlayed q b f s t .played .transcript) t)
+    × (d ≡ drawsFor (outerNumber m q b f k w s) (outerPlayed q b f s t) (take (drawWordsOf m q b f) (replicate 256 0)) ++ drop (drawWordsOf m q b f) (replicate 256 0))
+    × (w′ ≡ proofFor (outerNumber m q b f k w s) (outerPlayed q b f s t) (take (min (proofWordsOf m q b f k) (length w)) w) ++ drop (min (proofWordsOf m q b f k) (length w)) w)
+
+-- the scratch s when they have ended
+abbrev pub outerRoom : (m q b f k : ℕ) → (s w : List ℕ) → List ℕ
+outerRoom m q b f k s w = scratchFor (outerNumber m q b f k w s) (blockWords q b f) s
 
 -- the words of the proof and of the draws before the inner rounds, and the place of the first draw for the logins' point
 abbrev pub saidBefore : (q b f : ℕ) → ℕ

@@ -1,18 +1,15 @@
 // The parts of a proving run that see no matrix: the outer rounds, and what comes behind the combined table.
 ghost use mathlib.Core.Path.{_≡_};
-ghost use mathlib.Core.List.{[], _++_};
-ghost use Prim.Native.Nat.{_+_, _-_, _*_, _/_, _≤_, min};
-ghost use lib.ListN.{length, getD, take, drop, replicate};
-ghost use Rattle.magnetar_field.specs.Refusal.{unlessRefused};
+ghost use Prim.Native.Nat.{_+_, _-_, _*_, _/_, _≤_};
+ghost use lib.ListN.{length, getD};
 ghost use Rattle.magnetar_field.specs.Sizes.{log₂};
 ghost use Rattle.magnetar_field.specs.Tabulate.{tabulate};
 ghost use Rattle.magnetar_field.specs.Words.{elements};
 ghost use Rattle.magnetar_protocol.specs.RunSizes.{Elements};
 ghost use Rattle.magnetar_protocol.specs.Schedule.{outline};
-ghost use Rattle.magnetar_rounds.specs.Entries.{proofFor, drawsFor, scratchFor, blockWords, outerPlayed, innerPlayed};
+ghost use Rattle.magnetar_rounds.specs.Entries.{innerPlayed};
 ghost use Rattle.magnetar_spartan.specs.Ready.{InnerReady, FoldReady};
-ghost use Rattle.magnetar_records_prover.specs.Parts.{proofWordsOf};
-ghost use Rattle.magnetar_records_prover.specs.Stages.{drawWordsOf, outerNumber, loginAt, FoldLeft, InnerLeft, ClaimsLeft, EndReady, EndLeft, LaterReady, laterPlayed, LaterLeft};
+ghost use Rattle.magnetar_records_prover.specs.Stages.{OuterDone, outerRoom, loginAt, FoldLeft, InnerLeft, ClaimsLeft, EndReady, EndLeft, LaterReady, laterPlayed, LaterLeft};
 use crate::parts;
 use magnetar_batch::fold;
 use magnetar_checks::claims;
@@ -46,10 +43,7 @@ pub(crate) fn outer(
     k: usize,
     t: Transcript,
 ) -> Drawn
-    ensures { λ r. ⌜ (r .«transcript» ≡ unlessRefused (outerNumber m q rb rf k (now (proof .entry)) (now (s .entry))) (outerPlayed q rb rf (now (s .entry)) t .played .transcript) t)
-        × (r .«draws» ≡ drawsFor (outerNumber m q rb rf k (now (proof .entry)) (now (s .entry))) (outerPlayed q rb rf (now (s .entry)) t) (take (drawWordsOf m q rb rf) (replicate 256 0)) ++ drop (drawWordsOf m q rb rf) (replicate 256 0))
-        × (now (proof .exit) ≡ proofFor (outerNumber m q rb rf k (now (proof .entry)) (now (s .entry))) (outerPlayed q rb rf (now (s .entry)) t) (take (min (proofWordsOf m q rb rf k) (length (now (proof .entry)))) (now (proof .entry))) ++ drop (min (proofWordsOf m q rb rf k) (length (now (proof .entry)))) (now (proof .entry)))
-        × (now (s .exit) ≡ scratchFor (outerNumber m q rb rf k (now (proof .entry)) (now (s .entry))) (blockWords q rb rf) (now (s .entry))) ⌝ }
+    ensures { λ r. ⌜ OuterDone m q rb rf k (now (s .entry)) (now (proof .entry)) t (r .«transcript») (r .«draws») (now (proof .exit)) × (now (s .exit) ≡ outerRoom m q rb rf k (now (s .entry)) (now (proof .entry))) ⌝ }
 {
     let i = steps::least(parts::proof_words(m, q, rb, rf, k), proof.len());
     let d = steps::least(stages::draw_words(m, q, rb, rf), 256);

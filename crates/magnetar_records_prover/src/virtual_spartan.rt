@@ -5,17 +5,50 @@ ghost use Rattle.magnetar_batch.specs.Systems.{system};
 ghost use Rattle.magnetar_spartan.specs.Rules.{rules};
 ghost use Rattle.magnetar_spartan.specs.Refusals.{proveTests};
 ghost use Rattle.magnetar_spartan.specs.Outcome.{proveRefusal, proveOutcome};
-ghost use Rattle.magnetar_inplace.specs.Records.{lentOf};
+ghost use Rattle.magnetar_inplace.specs.Records.{entriesOfRecords, lentOf};
+ghost use Rattle.magnetar_records.specs.Stages.{tableAt};
+ghost use Rattle.magnetar_records_prover.specs.Parts.{sixPlaced};
+ghost use Rattle.magnetar_records_prover.specs.Stages.{OuterDone, outerRoom};
 ghost use Rattle.magnetar_records_prover.specs.Outcome.{provedInPlace};
 use crate::products;
 use crate::refusal;
 use crate::stages;
+use crate::stages::Drawn;
 use magnetar_hash::transcript::Transcript;
 use magnetar_inplace::records::Entry;
 use magnetar_inplace::steps as walks;
 use magnetar_records::combo;
 use magnetar_records::stages as shared;
 use magnetar_records::virtual_spartan as table;
+
+// The first part: the products, the outer rounds and the combined table, for a run with k segments.
+fn first(
+    proof: &mut [u64],
+    scratch: &mut [u64],
+    m: usize,
+    q: usize,
+    k: usize,
+    rb: usize,
+    rf: usize,
+    ab: &[Entry],
+    bb: &[Entry],
+    cb: &[Entry],
+    af: &[Entry],
+    bf: &[Entry],
+    cf: &[Entry],
+    packed: &[u64],
+    x: &[u64],
+    t: Transcript,
+) -> Drawn
+    ensures { λ r. ⌜ OuterDone m q rb rf k (sixPlaced m q rb rf (lentOf rb m (now (ab .entry))) (lentOf rb m (now (bb .entry))) (lentOf rb m (now (cb .entry))) (lentOf rf m (now (af .entry))) (lentOf rf m (now (bf .entry))) (lentOf rf m (now (cf .entry))) (now (packed .entry)) (now (x .entry)) (now (scratch .entry))) (now (proof .entry)) t (r .«transcript») (r .«draws») (now (proof .exit))
+        × (now (scratch .exit) ≡ tableAt m q rb rf (r .«draws») (entriesOfRecords (now (ab .entry))) (entriesOfRecords (now (bb .entry))) (entriesOfRecords (now (cb .entry))) (entriesOfRecords (now (af .entry))) (entriesOfRecords (now (bf .entry))) (entriesOfRecords (now (cf .entry))) (outerRoom m q rb rf k (sixPlaced m q rb rf (lentOf rb m (now (ab .entry))) (lentOf rb m (now (bb .entry))) (lentOf rb m (now (cb .entry))) (lentOf rf m (now (af .entry))) (lentOf rf m (now (bf .entry))) (lentOf rf m (now (cf .entry))) (now (packed .entry)) (now (x .entry)) (now (scratch .entry))) (now (proof .entry)))) ⌝ }
+{
+    products::products(scratch, m, q, rb, rf, ab, bb, cb, af, bf, cf, packed, x);
+    let o = stages::outer(proof, scratch, m, q, rb, rf, k, t);
+    let d = stages::draws_of(o);
+    table::combine_at(scratch, m, q, rb, rf, d, ab, bb, cb, af, bf, cf);
+    o
+}
 
 // The prover, where nothing refuses it: bin's matrices have rb rows, fld's rf rows, and all of them m columns.
 fn prove_in(
@@ -39,11 +72,8 @@ fn prove_in(
 )
     ensures { λ _. ⌜ (proveRefusal (rules m q (now (lens .entry)) (system (lentOf rb m (now (ab .entry))) (lentOf rb m (now (bb .entry))) (lentOf rb m (now (cb .entry)))) (system (lentOf rf m (now (af .entry))) (lentOf rf m (now (bf .entry))) (lentOf rf m (now (cf .entry))))) (now (packed .entry)) (now (x .entry)) (now (t .entry)) (now (proof .entry)) (now (claims .entry)) (now (scratch .entry)) ≡ 0 → provedInPlace 0 (now (t .exit)) (now (proof .exit)) (now (claims .exit)) (now (scratch .exit)) ≡ proveOutcome (rules m q (now (lens .entry)) (system (lentOf rb m (now (ab .entry))) (lentOf rb m (now (bb .entry))) (lentOf rb m (now (cb .entry)))) (system (lentOf rf m (now (af .entry))) (lentOf rf m (now (bf .entry))) (lentOf rf m (now (cf .entry))))) (now (packed .entry)) (now (x .entry)) (now (t .entry)) (now (proof .entry)) (now (claims .entry)) (now (scratch .entry))) ⌝ }
 {
-    products::products(scratch, m, q, rb, rf, ab, bb, cb, af, bf, cf, packed, x);
     let k = lens.len();
-    let o = stages::outer(proof, scratch, m, q, rb, rf, k, *t);
-    let d = stages::draws_of(o);
-    table::combine_at(scratch, m, q, rb, rf, d, ab, bb, cb, af, bf, cf);
+    let o = first(proof, scratch, m, q, k, rb, rf, ab, bb, cb, af, bf, cf, packed, x, *t);
     let u = stages::later(proof, claims, scratch, m, q, rb, rf, lens, packed, x, o);
     *t = u;
 }
@@ -81,7 +111,7 @@ fn prove_unless(
     }
 }
 
-// The refusals of the prover; n is the transcript's counter; words, claims and scratch are numbers of words.
+// The refusals of the prover; words, claims and scratch are numbers of words.
 fn refused(
     m: usize,
     q: usize,
@@ -106,13 +136,14 @@ fn refused(
     cf: &[Entry],
     packed: &[u64],
     x: &[u64],
-    n: u64,
+    t: Transcript,
     words: usize,
     claims: usize,
     scratch: usize,
 ) -> u32
-    ensures { λ r. ⌜ r ≡ noted 0 (proveTests (rules m q (now (lens .entry)) (system (lentOf abrows abcols (now (ab .entry))) (lentOf bbrows bbcols (now (bb .entry))) (lentOf cbrows cbcols (now (cb .entry)))) (system (lentOf afrows afcols (now (af .entry))) (lentOf bfrows bfcols (now (bf .entry))) (lentOf cfrows cfcols (now (cf .entry))))) (now (packed .entry)) (now (x .entry)) n words claims scratch) ⌝ }
+    ensures { λ r. ⌜ r ≡ noted 0 (proveTests (rules m q (now (lens .entry)) (system (lentOf abrows abcols (now (ab .entry))) (lentOf bbrows bbcols (now (bb .entry))) (lentOf cbrows cbcols (now (cb .entry)))) (system (lentOf afrows afcols (now (af .entry))) (lentOf bfrows bfcols (now (bf .entry))) (lentOf cfrows cfcols (now (cf .entry))))) (now (packed .entry)) (now (x .entry)) (t .«squeeze_ctr») words claims scratch) ⌝ }
 {
+    let n = shared::counter(t);
     let inside = combo::all_six(
         abrows,
         abcols,
@@ -199,7 +230,6 @@ pub fn prove_virtual_spartan(
 ) -> u32
     ensures { λ r. ⌜ provedInPlace r (now (t .exit)) (now (proof .exit)) (now (claims .exit)) (now (scratch .exit)) ≡ proveOutcome (rules m q (now (lens .entry)) (system (lentOf abrows abcols (now (ab .entry))) (lentOf bbrows bbcols (now (bb .entry))) (lentOf cbrows cbcols (now (cb .entry)))) (system (lentOf afrows afcols (now (af .entry))) (lentOf bfrows bfcols (now (bf .entry))) (lentOf cfrows cfcols (now (cf .entry))))) (now (packed .entry)) (now (x .entry)) (now (t .entry)) (now (proof .entry)) (now (claims .entry)) (now (scratch .entry)) ⌝ }
 {
-    let c = shared::counter(*t);
     let n = refused(
         m,
         q,
@@ -224,7 +254,7 @@ pub fn prove_virtual_spartan(
         cf,
         packed,
         x,
-        c,
+        *t,
         proof.len(),
         claims.len(),
         scratch.len(),
