@@ -97,20 +97,21 @@ c=magnetar_records_prover
 p=crates/$c/proofs
 ends=Rattle.$c.proofs
 six7s='(s8 .now) (s9 .now) (s10 .now) (s11 .now) (s12 .now) (s13 .now)'
-six8='(s10 .now) (s11 .now) (s12 .now) (s13 .now) (s14 .now) (s15 .now)'
-six9='(s11 .now) (s12 .now) (s13 .now) (s14 .now) (s15 .now) (s16 .now)'
+six8='(s9 .now) (s10 .now) (s11 .now) (s12 .now) (s13 .now) (s14 .now)'
+six9='(s10 .now) (s11 .now) (s12 .now) (s13 .now) (s14 .now) (s15 .now)'
 six4='n4 n5 (s6 .now) n7 n8 (s9 .now) n10 n11 (s12 .now) n13 n14 (s15 .now) n16 n17 (s18 .now) n19 n20 (s21 .now)'
-six8n='n8 n9 (s10 .now) n11 n12 (s13 .now) n14 n15 (s16 .now) n17 n18 (s19 .now) n20 n21 (s22 .now) n23 n24 (s25 .now)'
+six7='n7 n8 (s9 .now) n10 n11 (s12 .now) n13 n14 (s15 .now) n16 n17 (s18 .now) n19 n20 (s21 .now) n22 n23 (s24 .now)'
 thin products::product --final 'rw (e3, e2 .1, e1)'
 thin products::products
 thin virtual_spartan::first --use "$ends.ProveEnds.{outer-is}" \
   --final "outer-is n6 n7 n3 n4 n5 $six7s (s14 .now) (s15 .now) ys1 ys2 n16 (ws1 .0) (r2 .«transcript») (r2 .«draws») (ws2 .0) (ws2 .1 .0) r3 (ws4 .0) e1 e2 e3 e4"
 thin virtual_spartan::prove_in --use "$ends.ProveEnds.{prove-in-is}" \
-  --final "prove-in-is n8 n9 n5 n6 (s7 .now) $six8 (s16 .now) (s17 .now) ys2 ys3 ys4 h1 (r1 .«transcript») (r1 .«draws») (ws1 .0) (ws1 .1 .0) r2 (ws2 .0) (ws2 .1 .0) (ws2 .1 .1 .0) (e1 .0) (e1 .1) e2"
+  --final "prove-in-is n7 n8 n4 n5 (s6 .now) $six8 (s15 .now) (s16 .now) ys1 ys2 ys3 n17 (r1 .«transcript») (r1 .«draws») (ws1 .0) (ws1 .1 .0) r2 (ws2 .0) (ws2 .1 .0) (ws2 .1 .1 .0) (e1 .0) (e1 .1) e2"
 thin virtual_spartan::prove_unless --use "$ends.EntryEnds.{unless-some, unless-none}" --use "$ends.ProveEnds.{same}" \
-  --final "unless-some n1 (same n9 n10 n6 n7 (s8 .now) $six9 (s17 .now) (s18 .now) ys3 ys4 ys5 h2) (s17 .now) (s18 .now) ys3 ys4 ys5 h2 (ws2 .0) (ws2 .1 .0) (ws2 .1 .1 .0) (ws2 .1 .1 .1 .0) r1 e1 b1 e2" \
-  --final "unless-none n1 (same n9 n10 n6 n7 (s8 .now) $six9 (s17 .now) (s18 .now) ys3 ys4 ys5 h2) (s17 .now) (s18 .now) ys3 ys4 ys5 h2 r1 e1 b1"
+  --final "unless-some n1 (same n8 n9 n5 n6 (s7 .now) $six9 (s16 .now) (s17 .now) ys2 ys3 ys4 n18) (s16 .now) (s17 .now) ys2 ys3 ys4 n18 r2 (ws2 .0) (ws2 .1 .0) (ws2 .1 .1 .0) r1 e1 b1 e2" \
+  --final "unless-none n1 (same n8 n9 n5 n6 (s7 .now) $six9 (s16 .now) (s17 .now) ys2 ys3 ys4 n18) (s16 .now) (s17 .now) ys2 ys3 ys4 n18 r1 e1 b1"
 thin virtual_spartan::refused --use "$ends.EntryEnds.{prove-refused}" \
   --final "prove-refused $six4 n1 n2 (s3 .now) (s22 .now) (s23 .now) (n24 .«squeeze_ctr») r1 n25 n26 n27 r2 r3 e1 e2 e3"
-thin virtual_spartan::prove_virtual_spartan --use "$ends.EntryEnds.{prove-ends}" \
-  --final "prove-ends $six8n n5 n6 (s7 .now) (s26 .now) (s27 .now) h1 ys2 ys3 ys4 r1 e1 r2 (ws2 .1 .0) (ws2 .1 .1 .0) (ws2 .1 .1 .1 .0) (ws2 .1 .1 .1 .1 .0) e2"
+thin virtual_spartan::prove --use "$ends.EntryEnds.{prove-ends}" \
+  --final "prove-ends $six7 n4 n5 (s6 .now) (s25 .now) (s26 .now) n27 ys1 ys2 ys3 r1 e1 r2 (ws2 .1 .0) (ws2 .1 .1 .0) (ws2 .1 .1 .1 .0) r3 e2 e3"
+thin virtual_spartan::prove_virtual_spartan --final 'rw (e2, e3) e1'

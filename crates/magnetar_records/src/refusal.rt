@@ -14,7 +14,15 @@ use magnetar_layout::tests;
 use magnetar_spartan::refusal;
 
 // 6 and 7 of six slices of records, by their lengths.
-pub fn counted(ab: usize, bb: usize, cb: usize, af: usize, bf: usize, cf: usize, inside: bool) -> u32
+pub fn counted(
+    ab: usize,
+    bb: usize,
+    cb: usize,
+    af: usize,
+    bf: usize,
+    cf: usize,
+    inside: bool,
+) -> u32
     ensures { λ r. ⌜ r ≡ noted 0 (countedOf ab bb cb af bf cf inside) ⌝ }
 {
     let z = systems::counts3(0, ab, ab, ab, ab, bb, bb, bb, bb, cb, cb, cb, cb);

@@ -1,6 +1,6 @@
 -- The entry over records: its refusals are the core's for the matrices that are lent, and where nothing refuses, all rows and columns agree.
 -- Assumes nothing.
-use mathlib.Core.Path.{_≡_, refl, sym, ap, _∙_, subst}
+use mathlib.Core.Path.{_≡_, refl, sym, ap, ap₂, _∙_}
 use mathlib.Core.Bool.{Bool, true, false, false≢true}
 use mathlib.Core.List.{List, [], _++_}
 use Prim.Native.Nat.{ℕ, zero, suc, _/_}
@@ -9,6 +9,7 @@ use lib.Dec.{eqb}
 use lib.ListN.{length}
 use borrow.Author.Tests.{eqb-true, eq-eqb}
 use Rattle.magnetar_hash.specs.declared.transcript.Transcript.{Transcript}
+use Rattle.magnetar_hash.specs.declared.transcript.TranscriptAnswer.{TranscriptAnswer}
 use Rattle.magnetar_layout.specs.Every.{every}
 use Rattle.magnetar_layout.specs.Lent.{lent}
 use Rattle.magnetar_layout.specs.Tests.{Tests, noted, sizeTests, packedTests, publicTests, layoutTests}
@@ -109,6 +110,6 @@ module _ (n₁ m₁ : ℕ) (ab : List Entry) (n₂ m₂ : ℕ) (bb : List Entry)
         let a = rules-agree (provable R ws x (t .«squeeze_ctr») (length w) (length c) (length s) none .ready) in
         U .1 h (ap (λ (Q : Rules). proveRefusal Q ws x t w c s) (sym a) ∙ none) ∙ ap (λ (Q : Rules). proveOutcome Q ws x t w c s) (sym a)
 
-    pub prove-ends : (r : ℕ) (u : Transcript) (w′ c′ s′ : List ℕ) → Unless k alike ws x w c s t r u w′ c′ s′
-        → provedInPlace r u w′ c′ s′ ≡ proveOutcome R ws x t w c s
-    prove-ends = at k refl
+    pub prove-ends : (u : Transcript) (w′ c′ s′ : List ℕ) (a : TranscriptAnswer) → Unless k alike ws x w c s t k u w′ c′ s′
+        → (a .code ≡ k) × (a .transcript ≡ u) → provedInPlace (a .code) (a .transcript) w′ c′ s′ ≡ proveOutcome R ws x t w c s
+    prove-ends u w′ c′ s′ a U e = ap₂ (λ (i : ℕ) (v : Transcript). provedInPlace i v w′ c′ s′) (e .0) (e .1) ∙ at k refl k u w′ c′ s′ U

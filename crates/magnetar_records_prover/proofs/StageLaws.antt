@@ -154,7 +154,7 @@ module _ (m q b f i k n : ℕ) (ns w d c s : List ℕ) (p : Steps) (x : ℕ) (ei
         r .0,
         front-put i w w′ ∙ (ap (λ (v : List ℕ). v ++ drop i w) (r .1 ∙ sw) ∙ ap (λ (j : ℕ). saidAll q b f w p ++ drop j w) fi),
         front-put k c c′ ∙ (ap (λ (v : List ℕ). v ++ drop k c) (r .2 ∙ ap₂ (λ (v y : List ℕ). claimsOut m q b f ns v y (take k c)) sw sd)
-        ∙ ap (λ (j : ℕ). claimsOut m q b f ns (saidAll q b f w p) (drawnAll q b f d p) (take j c) ++ drop j c) fk),
+            ∙ ap (λ (j : ℕ). claimsOut m q b f ns (saidAll q b f w p) (drawnAll q b f d p) (take j c) ++ drop j c) fk),
         r .3,
       )
 
@@ -234,15 +234,15 @@ pub outer-ends : (m q b f k i n : ℕ) (w s : List ℕ) (t : Transcript) (A : Ro
     → u ≡ A .transcript
     → OuterDone m q b f k s w t u (putMid 0 (n - 0) (replicate 256 0) d′) (putMid 0 (i - 0) w w′) × (s′ ≡ outerRoom m q b f k s w)
 outer-ends m q b f k i n w s t A u w′ d′ s′ ei en eA ew ed es eu = rw (
-    eu,
-    eA,
-    ew,
-    ed,
-    es,
-    front-put n (replicate 256 0),
-    front-put i w,
-    front-part n (replicate 256 0),
-    front-part i w,
-    ei,
-    en,
-  ) ((refl, refl, refl), refl)
+  eu,
+  eA,
+  ew,
+  ed,
+  es,
+  front-put n (replicate 256 0),
+  front-put i w,
+  front-part n (replicate 256 0),
+  front-part i w,
+  ei,
+  en,
+) ((refl, refl, refl), refl)

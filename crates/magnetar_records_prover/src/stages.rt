@@ -15,6 +15,7 @@ use magnetar_batch::fold;
 use magnetar_checks::claims;
 use magnetar_field::words;
 use magnetar_hash::transcript::Transcript;
+use magnetar_hash::transcript::TranscriptAnswer;
 use magnetar_records::stages;
 use magnetar_records::steps;
 use magnetar_rounds::inner;
@@ -30,6 +31,16 @@ pub(crate) fn draws_of(o: Drawn) -> [u64; 256]
     ensures { λ r. ⌜ r ≡ o .«draws» ⌝ }
 {
     o.draws
+}
+
+// An answer of these.
+pub(crate) fn answer(n: u32, t: Transcript) -> TranscriptAnswer
+    ensures { λ r. ⌜ (r .«code» ≡ n) × (r .«transcript» ≡ t) ⌝ }
+{
+    TranscriptAnswer {
+        code: n,
+        transcript: t,
+    }
 }
 
 // The outer rounds over the products in front of s, for a run with k segments.
@@ -179,7 +190,19 @@ fn end(
     let c = steps::least(parts::claim_words(m, q, k), claims.len());
     let n = steps::least(stages::draw_words(m, q, rb, rf), 256);
     let mut draws = d;
-    end_in(&mut proof[0..i], &mut claims[0..c], s, &mut draws[0..n], m, q, rb, rf, lens, x, t)
+    end_in(
+        &mut proof[0..i],
+        &mut claims[0..c],
+        s,
+        &mut draws[0..n],
+        m,
+        q,
+        rb,
+        rf,
+        lens,
+        x,
+        t,
+    )
 }
 
 // What comes behind the combined table: the folded columns, the inner rounds and the claims; the scratch is 0 at exit.

@@ -15,8 +15,10 @@ use crate::refusal;
 use crate::stages;
 use crate::stages::Drawn;
 use magnetar_hash::transcript::Transcript;
+use magnetar_hash::transcript::TranscriptAnswer;
 use magnetar_inplace::records::Entry;
 use magnetar_inplace::steps as walks;
+use magnetar_inplace::transcript;
 use magnetar_records::combo;
 use magnetar_records::stages as shared;
 use magnetar_records::virtual_spartan as table;
@@ -52,7 +54,6 @@ fn first(
 
 // The prover, where nothing refuses it: bin's matrices have rb rows, fld's rf rows, and all of them m columns.
 fn prove_in(
-    t: &mut Transcript,
     proof: &mut [u64],
     claims: &mut [u64],
     scratch: &mut [u64],
@@ -69,19 +70,35 @@ fn prove_in(
     cf: &[Entry],
     packed: &[u64],
     x: &[u64],
-)
-    ensures { λ _. ⌜ (proveRefusal (rules m q (now (lens .entry)) (system (lentOf rb m (now (ab .entry))) (lentOf rb m (now (bb .entry))) (lentOf rb m (now (cb .entry)))) (system (lentOf rf m (now (af .entry))) (lentOf rf m (now (bf .entry))) (lentOf rf m (now (cf .entry))))) (now (packed .entry)) (now (x .entry)) (now (t .entry)) (now (proof .entry)) (now (claims .entry)) (now (scratch .entry)) ≡ 0 → provedInPlace 0 (now (t .exit)) (now (proof .exit)) (now (claims .exit)) (now (scratch .exit)) ≡ proveOutcome (rules m q (now (lens .entry)) (system (lentOf rb m (now (ab .entry))) (lentOf rb m (now (bb .entry))) (lentOf rb m (now (cb .entry)))) (system (lentOf rf m (now (af .entry))) (lentOf rf m (now (bf .entry))) (lentOf rf m (now (cf .entry))))) (now (packed .entry)) (now (x .entry)) (now (t .entry)) (now (proof .entry)) (now (claims .entry)) (now (scratch .entry))) ⌝ }
+    t: Transcript,
+) -> Transcript
+    ensures { λ r. ⌜ (proveRefusal (rules m q (now (lens .entry)) (system (lentOf rb m (now (ab .entry))) (lentOf rb m (now (bb .entry))) (lentOf rb m (now (cb .entry)))) (system (lentOf rf m (now (af .entry))) (lentOf rf m (now (bf .entry))) (lentOf rf m (now (cf .entry))))) (now (packed .entry)) (now (x .entry)) t (now (proof .entry)) (now (claims .entry)) (now (scratch .entry)) ≡ 0 → provedInPlace 0 r (now (proof .exit)) (now (claims .exit)) (now (scratch .exit)) ≡ proveOutcome (rules m q (now (lens .entry)) (system (lentOf rb m (now (ab .entry))) (lentOf rb m (now (bb .entry))) (lentOf rb m (now (cb .entry)))) (system (lentOf rf m (now (af .entry))) (lentOf rf m (now (bf .entry))) (lentOf rf m (now (cf .entry))))) (now (packed .entry)) (now (x .entry)) t (now (proof .entry)) (now (claims .entry)) (now (scratch .entry))) ⌝ }
 {
     let k = lens.len();
-    let o = first(proof, scratch, m, q, k, rb, rf, ab, bb, cb, af, bf, cf, packed, x, *t);
-    let u = stages::later(proof, claims, scratch, m, q, rb, rf, lens, packed, x, o);
-    *t = u;
+    let o = first(
+        proof,
+        scratch,
+        m,
+        q,
+        k,
+        rb,
+        rf,
+        ab,
+        bb,
+        cb,
+        af,
+        bf,
+        cf,
+        packed,
+        x,
+        t,
+    );
+    stages::later(proof, claims, scratch, m, q, rb, rf, lens, packed, x, o)
 }
 
-// The same unless n is a refusal, which comes back with nothing changed.
+// The same unless n is a refusal; then nothing changes.
 fn prove_unless(
     n: u32,
-    t: &mut Transcript,
     proof: &mut [u64],
     claims: &mut [u64],
     scratch: &mut [u64],
@@ -98,16 +115,35 @@ fn prove_unless(
     cf: &[Entry],
     packed: &[u64],
     x: &[u64],
-) -> u32
-    ensures { λ r. ⌜ ((n ≡ 0 → ⊥) → provedInPlace r (now (t .exit)) (now (proof .exit)) (now (claims .exit)) (now (scratch .exit)) ≡ provedInPlace n (now (t .entry)) (now (proof .entry)) (now (claims .entry)) (now (scratch .entry)))
-        × (n ≡ 0 → proveRefusal (rules m q (now (lens .entry)) (system (lentOf rb m (now (ab .entry))) (lentOf rb m (now (bb .entry))) (lentOf rb m (now (cb .entry)))) (system (lentOf rf m (now (af .entry))) (lentOf rf m (now (bf .entry))) (lentOf rf m (now (cf .entry))))) (now (packed .entry)) (now (x .entry)) (now (t .entry)) (now (proof .entry)) (now (claims .entry)) (now (scratch .entry)) ≡ 0 → provedInPlace r (now (t .exit)) (now (proof .exit)) (now (claims .exit)) (now (scratch .exit)) ≡ proveOutcome (rules m q (now (lens .entry)) (system (lentOf rb m (now (ab .entry))) (lentOf rb m (now (bb .entry))) (lentOf rb m (now (cb .entry)))) (system (lentOf rf m (now (af .entry))) (lentOf rf m (now (bf .entry))) (lentOf rf m (now (cf .entry))))) (now (packed .entry)) (now (x .entry)) (now (t .entry)) (now (proof .entry)) (now (claims .entry)) (now (scratch .entry))) ⌝ }
+    t: Transcript,
+) -> Transcript
+    ensures { λ r. ⌜ ((n ≡ 0 → ⊥) → provedInPlace n r (now (proof .exit)) (now (claims .exit)) (now (scratch .exit)) ≡ provedInPlace n t (now (proof .entry)) (now (claims .entry)) (now (scratch .entry)))
+        × (n ≡ 0 → proveRefusal (rules m q (now (lens .entry)) (system (lentOf rb m (now (ab .entry))) (lentOf rb m (now (bb .entry))) (lentOf rb m (now (cb .entry)))) (system (lentOf rf m (now (af .entry))) (lentOf rf m (now (bf .entry))) (lentOf rf m (now (cf .entry))))) (now (packed .entry)) (now (x .entry)) t (now (proof .entry)) (now (claims .entry)) (now (scratch .entry)) ≡ 0 → provedInPlace n r (now (proof .exit)) (now (claims .exit)) (now (scratch .exit)) ≡ proveOutcome (rules m q (now (lens .entry)) (system (lentOf rb m (now (ab .entry))) (lentOf rb m (now (bb .entry))) (lentOf rb m (now (cb .entry)))) (system (lentOf rf m (now (af .entry))) (lentOf rf m (now (bf .entry))) (lentOf rf m (now (cf .entry))))) (now (packed .entry)) (now (x .entry)) t (now (proof .entry)) (now (claims .entry)) (now (scratch .entry))) ⌝ }
 {
     let go = walks::is_none(n);
     if go {
-        prove_in(t, proof, claims, scratch, m, q, lens, rb, rf, ab, bb, cb, af, bf, cf, packed, x);
-        n
+        let u = prove_in(
+            proof,
+            claims,
+            scratch,
+            m,
+            q,
+            lens,
+            rb,
+            rf,
+            ab,
+            bb,
+            cb,
+            af,
+            bf,
+            cf,
+            packed,
+            x,
+            t,
+        );
+        u
     } else {
-        n
+        t
     }
 }
 
@@ -196,6 +232,90 @@ fn refused(
     )
 }
 
+// The prover, the transcript by value.
+fn prove(
+    proof: &mut [u64],
+    claims: &mut [u64],
+    scratch: &mut [u64],
+    m: usize,
+    q: usize,
+    lens: &[usize],
+    abrows: usize,
+    abcols: usize,
+    ab: &[Entry],
+    bbrows: usize,
+    bbcols: usize,
+    bb: &[Entry],
+    cbrows: usize,
+    cbcols: usize,
+    cb: &[Entry],
+    afrows: usize,
+    afcols: usize,
+    af: &[Entry],
+    bfrows: usize,
+    bfcols: usize,
+    bf: &[Entry],
+    cfrows: usize,
+    cfcols: usize,
+    cf: &[Entry],
+    packed: &[u64],
+    x: &[u64],
+    t: Transcript,
+) -> TranscriptAnswer
+    ensures { λ r. ⌜ provedInPlace (r .«code») (r .«transcript») (now (proof .exit)) (now (claims .exit)) (now (scratch .exit)) ≡ proveOutcome (rules m q (now (lens .entry)) (system (lentOf abrows abcols (now (ab .entry))) (lentOf bbrows bbcols (now (bb .entry))) (lentOf cbrows cbcols (now (cb .entry)))) (system (lentOf afrows afcols (now (af .entry))) (lentOf bfrows bfcols (now (bf .entry))) (lentOf cfrows cfcols (now (cf .entry))))) (now (packed .entry)) (now (x .entry)) t (now (proof .entry)) (now (claims .entry)) (now (scratch .entry)) ⌝ }
+{
+    let n = refused(
+        m,
+        q,
+        lens,
+        abrows,
+        abcols,
+        ab,
+        bbrows,
+        bbcols,
+        bb,
+        cbrows,
+        cbcols,
+        cb,
+        afrows,
+        afcols,
+        af,
+        bfrows,
+        bfcols,
+        bf,
+        cfrows,
+        cfcols,
+        cf,
+        packed,
+        x,
+        t,
+        proof.len(),
+        claims.len(),
+        scratch.len(),
+    );
+    let u = prove_unless(
+        n,
+        proof,
+        claims,
+        scratch,
+        m,
+        q,
+        lens,
+        abrows,
+        afrows,
+        ab,
+        bb,
+        cb,
+        af,
+        bf,
+        cf,
+        packed,
+        x,
+        t,
+    );
+    stages::answer(n, u)
+}
+
 // The prover: 0, the proof at the front of `proof`, the claims r_inst, r_low and segment values at the front of `claims`, and the
 // transcript moves on; the scratch is 0 at exit. 1 to 10: the sizes, the batch and the rules; 14: the transcript's counter; 15: too little
 // room for the proof, the claims or the scratch.
@@ -230,7 +350,10 @@ pub fn prove_virtual_spartan(
 ) -> u32
     ensures { λ r. ⌜ provedInPlace r (now (t .exit)) (now (proof .exit)) (now (claims .exit)) (now (scratch .exit)) ≡ proveOutcome (rules m q (now (lens .entry)) (system (lentOf abrows abcols (now (ab .entry))) (lentOf bbrows bbcols (now (bb .entry))) (lentOf cbrows cbcols (now (cb .entry)))) (system (lentOf afrows afcols (now (af .entry))) (lentOf bfrows bfcols (now (bf .entry))) (lentOf cfrows cfcols (now (cf .entry))))) (now (packed .entry)) (now (x .entry)) (now (t .entry)) (now (proof .entry)) (now (claims .entry)) (now (scratch .entry)) ⌝ }
 {
-    let n = refused(
+    let a = prove(
+        proof,
+        claims,
+        scratch,
         m,
         q,
         lens,
@@ -255,28 +378,7 @@ pub fn prove_virtual_spartan(
         packed,
         x,
         *t,
-        proof.len(),
-        claims.len(),
-        scratch.len(),
     );
-    prove_unless(
-        n,
-        t,
-        proof,
-        claims,
-        scratch,
-        m,
-        q,
-        lens,
-        abrows,
-        afrows,
-        ab,
-        bb,
-        cb,
-        af,
-        bf,
-        cf,
-        packed,
-        x,
-    )
+    *t = transcript::after(a);
+    transcript::number(a)
 }

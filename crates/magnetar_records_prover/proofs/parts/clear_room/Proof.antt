@@ -33,7 +33,7 @@ same-length : tie.Need-same-length
 same-length c = search needs
 
 returns : tie.Need-returns
-returns c = 
+returns c =
     let x = c .before .before .before .before .before .before .before .args in
     let r : ℕ = min (roomOf (x .m) (x .q) (x .rb) (x .rf)) (length (now (x .s))) in
     cleared-front r (c .before .before .before .before .least .result) (now (x .s)) _ (c .before .before .before .before .least .ensures .0 ∙ ap (λ (n : ℕ). min n (length (now (x .s)))) (c .before .before .before .before .before .room-words .ensures)) (omega arith) (c .before .before .clear .ensures)

@@ -17,7 +17,7 @@ table-words-requires-2 : tie.Need-table-words-requires-2
 table-words-requires-2 c κs = search needs
 
 mul-lift-to : tie.Need-mul-lift-to
-mul-lift-to c = 
+mul-lift-to c =
     let h : c .before .before .before .before .before .args .k ≤ 3 = omega arith in
     omega (arith, mul-le-mul-right (c .before .before .before .table-words .result) h, c .before .before .before .table-words .ensures .1)
 
@@ -34,12 +34,12 @@ sub-lift-to : tie.Need-sub-lift-to
 sub-lift-to c = search needs
 
 mul-lift-to-3 : tie.Need-mul-lift-to-3
-mul-lift-to-3 c = 
+mul-lift-to-3 c =
     let h : c .least .result - 4 ≤ 3 = omega (arith, c .least .ensures .1) in
     omega (arith, mul-le-mul-right (c .before .before .before .table-words2 .result) h, c .before .before .before .table-words2 .ensures .1)
 
 add-lift-to : tie.Need-add-lift-to
-add-lift-to c = 
+add-lift-to c =
     let h : c .least .result - 4 ≤ 3 = omega (arith, c .least .ensures .1) in
     omega (arith, mul-le-mul-right (c .before .before .before .table-words2 .result) h, c .before .before .before .table-words2 .ensures .1, c .before .before .before .before .table-words .ensures .1)
 
@@ -50,7 +50,7 @@ same-length : tie.Need-same-length
 same-length c = search needs
 
 returns : tie.Need-returns
-returns c = 
+returns c =
     let x = c .before .before .before .before .before .before .before .before .args in
     c .before .before .lift-to .ensures ∙ lifted-bin (x .k) (x .q) (x .rb) (x .rf) (c .before .before .before .before .before .before .table-words .result) (now (x .s)) (c .before .before .before .before .before .before .table-words .ensures .0) (omega arith)
 
@@ -58,7 +58,7 @@ same-length-2 : tie.Need-same-length-2
 same-length-2 c = search needs
 
 returns-2 : tie.Need-returns-2
-returns-2 c = 
+returns-2 c =
     let x = c .before .before .before .before .before .before .before .before .before .args in
     c .before .before .lift-to2 .ensures ∙ lifted-fld (x .k) (x .q) (x .rb) (x .rf) (c .before .before .before .before .before .before .before .table-words .result) (c .before .before .before .before .before .before .table-words2 .result) (c .before .before .before .least .result) (now (x .s)) (c .before .before .before .before .before .before .before .table-words .ensures .0) (c .before .before .before .before .before .before .table-words2 .ensures .0) (c .before .before .before .least .ensures .0) (omega arith)
 

@@ -81,7 +81,6 @@ is-no : (t : Bool) → Trueᴮ (not t) → t ≡ false
 is-no true a = absurd a
 is-no false _ = refl
 
-
 abbrev stayed : Stays (f.ended .signature .params) (f.ended .kept)
 stayed = (stay-slice (0 ∷ []) tt (plain (λ _. u64)), (stay-none (λ _. u64) yes, (stay-none (λ _. u64) yes, (stay-none (λ _. u64) yes, (stay-none (λ _. u64) yes, (stay-none (λ _. u64) yes, (stay-none (λ _. u64) yes, (stay-none-slice (1 ∷ []) tt (plain (λ _. mEntry.the-row)) yes, (stay-none-slice (2 ∷ []) tt (plain (λ _. u64)) yes, (stay-none-slice (3 ∷ []) tt (plain (λ _. u64)) yes, tt))))))))))
 
@@ -169,38 +168,37 @@ module _ {M : Type 1} (𝓤 : URA M) (H : Heap 𝓤) (A : Atoms 𝓤) (W : Given
     walk : ent 𝓤 (onEntry 𝓤 H A f.signature (κ₀, (κ₁, (κ₂, (κ₃, tt)))) (q₀, (q₁, (q₂, (q₃, tt)))) a at) (WpFn 𝓤 H C Λ code.function (v1 ∷ v2 ∷ v3 ∷ v4 ∷ v5 ∷ v6 ∷ v7 ∷ v8 ∷ v9 ∷ v10 ∷ []) Post)
     walk =
         qed W ((‵ (flft κ₀ q₀) ⊛ ‵ (flft κ₁ q₁) ⊛ ‵ (flft κ₂ q₂) ⊛ ‵ (flft κ₃ q₃) ⊛ ‵ ftrue) ∷ ‵ (owns (MutSlice (named 0) κ₀ u64 ∷ u64 ∷ u64 ∷ u64 ∷ u64 ∷ u64 ∷ u64 ∷ ShrSlice (named 1) κ₁ mEntry.the-row ∷ ShrSlice (named 2) κ₂ u64 ∷ ShrSlice (named 3) κ₃ u64 ∷ []) a at) ∷ []) ∵ enter ! C Λ code.function (v1 ∷ v2 ∷ v3 ∷ v4 ∷ v5 ∷ v6 ∷ v7 ∷ v8 ∷ v9 ∷ v10 ∷ []) _ $
-        alloc1 ! (λ l₀. alloc1 ! (λ l₁. alloc1 ! (λ l₂. alloc1 ! (λ l₃. alloc1 ! (λ l₄. alloc1 ! (λ l₅. alloc1 ! (λ l₆. alloc1 ! (λ l₇. alloc1 ! (λ l₈. alloc1 ! (λ l₉. alloc1 ! (λ l₁₀. alloc1 ! (λ l₁₁. alloc1 ! (λ l₁₂. alloc1 ! (λ l₁₃. alloc1 ! (λ l₁₄. alloc1 ! (λ l₁₅. alloc1 ! (λ l₁₆. alloc1 ! (λ l₁₇. alloc0 ! $ params1 ! $ pass1 ! (init ! 32 refl (tt, (tt, (record { fits = room1 .0 }, tt)))) $ pass1 ! (init ! 30 refl (uint-lawful 𝓤 H A W w64 .typed n2 _ w2 .0)) $ pass1 ! (init ! 28 refl (uint-lawful 𝓤 H A W w64 .typed n3 _ w3 .0)) $ pass1 ! (init ! 26 refl (uint-lawful 𝓤 H A W w64 .typed n4 _ w4 .0)) $ pass1 ! (init ! 24 refl (uint-lawful 𝓤 H A W w64 .typed n5 _ w5 .0)) $ pass1 ! (init ! 22 refl (uint-lawful 𝓤 H A W w64 .typed n6 _ w6 .0)) $ pass1 ! (init ! 20 refl (uint-lawful 𝓤 H A W w64 .typed n7 _ w7 .0)) $ pass1 ! (init ! 18 refl (shr-slice-lawful 𝓤 H A W (named 1) κ₁ mEntry.the-row .typed s8 (v8 ∷ []) w8 .0)) $ pass1 ! (init ! 16 refl (shr-slice-lawful 𝓤 H A W (named 2) κ₂ u64 .typed s9 (v9 ∷ []) w9 .0)) $ pass1 ! (init ! 14 refl (shr-slice-lawful 𝓤 H A W (named 3) κ₃ u64 .typed s10 (v10 ∷ []) w10 .0)) $ pass0 ! $ 
-        move ! (37 ∷ []) $ fsplit ! $ move ! (1 ∷ []) $ fsplit ! $ move ! (1 ∷ []) $ fsplit ! $ move ! (1 ∷ []) $ fsplit ! $ move ! (1 ∷ []) $ fsplit ! $ move ! (1 ∷ []) $ fsplit ! $ move ! (1 ∷ []) $ fsplit ! $ move ! (1 ∷ []) $ fsplit ! $ move ! (1 ∷ []) $ fsplit ! $ move ! (1 ∷ []) $ fsplit ! $ move ! (1 ∷ []) $ move ! (47 ∷ []) $ split ! $ move ! (1 ∷ []) $ split ! $ move ! (1 ∷ []) $ split ! $ move ! (1 ∷ []) $ split ! $ move ! (1 ∷ []) $ 
-        nothing ! $ 
+        alloc1 ! (λ l₀. alloc1 ! (λ l₁. alloc1 ! (λ l₂. alloc1 ! (λ l₃. alloc1 ! (λ l₄. alloc1 ! (λ l₅. alloc1 ! (λ l₆. alloc1 ! (λ l₇. alloc1 ! (λ l₈. alloc1 ! (λ l₉. alloc1 ! (λ l₁₀. alloc1 ! (λ l₁₁. alloc1 ! (λ l₁₂. alloc1 ! (λ l₁₃. alloc1 ! (λ l₁₄. alloc1 ! (λ l₁₅. alloc1 ! (λ l₁₆. alloc1 ! (λ l₁₇. alloc0 ! $ params1 ! $ pass1 ! (init ! 32 refl (tt, (tt, (record { fits = room1 .0 }, tt)))) $ pass1 ! (init ! 30 refl (uint-lawful 𝓤 H A W w64 .typed n2 _ w2 .0)) $ pass1 ! (init ! 28 refl (uint-lawful 𝓤 H A W w64 .typed n3 _ w3 .0)) $ pass1 ! (init ! 26 refl (uint-lawful 𝓤 H A W w64 .typed n4 _ w4 .0)) $ pass1 ! (init ! 24 refl (uint-lawful 𝓤 H A W w64 .typed n5 _ w5 .0)) $ pass1 ! (init ! 22 refl (uint-lawful 𝓤 H A W w64 .typed n6 _ w6 .0)) $ pass1 ! (init ! 20 refl (uint-lawful 𝓤 H A W w64 .typed n7 _ w7 .0)) $ pass1 ! (init ! 18 refl (shr-slice-lawful 𝓤 H A W (named 1) κ₁ mEntry.the-row .typed s8 (v8 ∷ []) w8 .0)) $ pass1 ! (init ! 16 refl (shr-slice-lawful 𝓤 H A W (named 2) κ₂ u64 .typed s9 (v9 ∷ []) w9 .0)) $ pass1 ! (init ! 14 refl (shr-slice-lawful 𝓤 H A W (named 3) κ₃ u64 .typed s10 (v10 ∷ []) w10 .0)) $ pass0 ! $
+        move ! (37 ∷ []) $ fsplit ! $ move ! (1 ∷ []) $ fsplit ! $ move ! (1 ∷ []) $ fsplit ! $ move ! (1 ∷ []) $ fsplit ! $ move ! (1 ∷ []) $ fsplit ! $ move ! (1 ∷ []) $ fsplit ! $ move ! (1 ∷ []) $ fsplit ! $ move ! (1 ∷ []) $ fsplit ! $ move ! (1 ∷ []) $ fsplit ! $ move ! (1 ∷ []) $ fsplit ! $ move ! (1 ∷ []) $ move ! (47 ∷ []) $ split ! $ move ! (1 ∷ []) $ split ! $ move ! (1 ∷ []) $ split ! $ move ! (1 ∷ []) $ split ! $ move ! (1 ∷ []) $
+        nothing ! $
         -- call 1
-        use1 W (raw (Callee-g1 𝓤 H A at-mem run .pre ((tt, tt, tt, (n4, tt), (u4 ∷ [], tt)), tt))) (qed W ((‵ ftrue) ∷ []) ∵ nothing ! $ owned ! u64 (Is u64) (uint-makes 𝓤 H A W w64) (n4) _ w4 $ fjoin ! $ move ! (1 ∷ 0 ∷ []) $ join ! $ nothing ! $ move ! (1 ∷ 0 ∷ []) $ frame ! $ done !) $ 
-        calls-at ! fm (Callee-g1 𝓤 H A at-mem run) known-g1 ((tt, tt, tt, (n4, tt), (u4 ∷ [], tt)), tt) (and-then ! (load ! (from ! (stop !)) (look ! 43 refl)) (no-more !)) (λ z1. 
-        use1 W (later (some (λ (r1 : ℕ). ((‵ ftrue) ⊛ ‵ (u64 .own r1 (z1 ∷ []))) ⊛ some (λ (ws : Lasts g1.ended tt (n4, tt)). ‵ (lasts g1.ended tt (n4, tt) ws) ⊛ raw (g1.clauses 𝓤 H A at-mem run tt (n4, tt) .ensures tt r1 (atExit g1.ended tt (n4, tt) ws)))))) (id⊢ 𝓤 _) $ await ! tt $ pick ! (λ r1. split ! $ move ! (1 ∷ []) $ pick ! (λ ws1. split ! $ move ! (1 ∷ []) $ heard ! _ (λ e1. 
-        fsplit ! $ move ! (2 ∷ []) $ split ! $ move ! (1 ∷ []) $ peeks ! u64 (Is u64) (shows 𝓤 H A u64) r1 (z1 ∷ []) (λ i1. drop ! $ land ! (from ! (stop !)) (init ! 31 refl (uint-lawful 𝓤 H A W w64 .typed r1 _ i1 .0)) $ 
-        assigns ! (addr ! (from ! (fld ! refl (hop ! (look-in ! 51 (sub ! 0 refl (whole !))) (stop !))))) (from ! (stop !)) (init ! 27 refl (tt, tt)) $ 
-        assigns ! (agg ! (and-then ! (load ! (from ! (stop !)) (look ! 27 refl)) (and-then ! (load ! (from ! (fld ! refl (stop !))) (look-in ! 51 (sub ! 1 refl (whole !)))) (no-more !)))) (from ! (stop !)) (init ! 25 refl (tt, (tt, (record { fits = room1 .0 }, tt)))) $ 
-        move ! (11 ∷ []) $ use1 W (‵ (O8) ⊛ ‵ (O8)) (shr-slice-copy 𝓤 H A W (named 1) κ₁ mEntry.the-row .twice s8 (v8 ∷ [])) $ split ! $ move ! (12 ∷ []) $ use1 W (‵ (O9) ⊛ ‵ (O9)) (shr-slice-copy 𝓤 H A W (named 2) κ₂ u64 .twice s9 (v9 ∷ [])) $ split ! $ move ! (13 ∷ []) $ use1 W (‵ (O10) ⊛ ‵ (O10)) (shr-slice-copy 𝓤 H A W (named 3) κ₃ u64 .twice s10 (v10 ∷ [])) $ split ! $ 
-        lft-new ! tt (λ ν2h. move ! (22 ∷ 14 ∷ []) $ use2 W (later (some (λ (δ : GName). ‵ (MutSlice (named 3) (ν2h ∷ []) u64 .own (ref1 δ (ys1)) (v1 ∷ [])) ⊛ ‵ (Lent1 ν2h δ (ys1))))) (lends1 (named 3) ν2h (ys1) (refl)) $ await ! tt $ pick ! (λ δ2h. split ! $ nothing ! $ move ! (3 ∷ 0 ∷ []) $ join ! $ move ! (13 ∷ 0 ∷ []) $ join ! $ move ! (13 ∷ 0 ∷ []) $ join ! $ move ! (13 ∷ 0 ∷ []) $ join ! $ move ! (3 ∷ 1 ∷ []) $ join ! $ move ! (4 ∷ 0 ∷ []) $ join ! $ move ! (5 ∷ 0 ∷ []) $ join ! $ move ! (1 ∷ 0 ∷ []) $ join ! $ 
+        use1 W (raw (Callee-g1 𝓤 H A at-mem run .pre ((tt, tt, tt, (n4, tt), (u4 ∷ [], tt)), tt))) (qed W ((‵ ftrue) ∷ []) ∵ nothing ! $ owned ! u64 (Is u64) (uint-makes 𝓤 H A W w64) (n4) _ w4 $ fjoin ! $ move ! (1 ∷ 0 ∷ []) $ join ! $ nothing ! $ move ! (1 ∷ 0 ∷ []) $ frame ! $ done !) $
+        calls-at ! fm (Callee-g1 𝓤 H A at-mem run) known-g1 ((tt, tt, tt, (n4, tt), (u4 ∷ [], tt)), tt) (and-then ! (load ! (from ! (stop !)) (look ! 43 refl)) (no-more !)) (λ z1.
+        use1 W (later (some (λ (r1 : ℕ). ((‵ ftrue) ⊛ ‵ (u64 .own r1 (z1 ∷ []))) ⊛ some (λ (ws : Lasts g1.ended tt (n4, tt)). ‵ (lasts g1.ended tt (n4, tt) ws) ⊛ raw (g1.clauses 𝓤 H A at-mem run tt (n4, tt) .ensures tt r1 (atExit g1.ended tt (n4, tt) ws)))))) (id⊢ 𝓤 _) $ await ! tt $ pick ! (λ r1. split ! $ move ! (1 ∷ []) $ pick ! (λ ws1. split ! $ move ! (1 ∷ []) $ heard ! _ (λ e1.
+        fsplit ! $ move ! (2 ∷ []) $ split ! $ move ! (1 ∷ []) $ peeks ! u64 (Is u64) (shows 𝓤 H A u64) r1 (z1 ∷ []) (λ i1. drop ! $ land ! (from ! (stop !)) (init ! 31 refl (uint-lawful 𝓤 H A W w64 .typed r1 _ i1 .0)) $
+        assigns ! (addr ! (from ! (fld ! refl (hop ! (look-in ! 51 (sub ! 0 refl (whole !))) (stop !))))) (from ! (stop !)) (init ! 27 refl (tt, tt)) $
+        assigns ! (agg ! (and-then ! (load ! (from ! (stop !)) (look ! 27 refl)) (and-then ! (load ! (from ! (fld ! refl (stop !))) (look-in ! 51 (sub ! 1 refl (whole !)))) (no-more !)))) (from ! (stop !)) (init ! 25 refl (tt, (tt, (record { fits = room1 .0 }, tt)))) $
+        move ! (11 ∷ []) $ use1 W (‵ (O8) ⊛ ‵ (O8)) (shr-slice-copy 𝓤 H A W (named 1) κ₁ mEntry.the-row .twice s8 (v8 ∷ [])) $ split ! $ move ! (12 ∷ []) $ use1 W (‵ (O9) ⊛ ‵ (O9)) (shr-slice-copy 𝓤 H A W (named 2) κ₂ u64 .twice s9 (v9 ∷ [])) $ split ! $ move ! (13 ∷ []) $ use1 W (‵ (O10) ⊛ ‵ (O10)) (shr-slice-copy 𝓤 H A W (named 3) κ₃ u64 .twice s10 (v10 ∷ [])) $ split ! $
+        lft-new ! tt (λ ν2h. move ! (22 ∷ 14 ∷ []) $ use2 W (later (some (λ (δ : GName). ‵ (MutSlice (named 3) (ν2h ∷ []) u64 .own (ref1 δ (ys1)) (v1 ∷ [])) ⊛ ‵ (Lent1 ν2h δ (ys1))))) (lends1 (named 3) ν2h (ys1) (refl)) $ await ! tt $ pick ! (λ δ2h. split ! $ nothing ! $ move ! (3 ∷ 0 ∷ []) $ join ! $ move ! (13 ∷ 0 ∷ []) $ join ! $ move ! (13 ∷ 0 ∷ []) $ join ! $ move ! (13 ∷ 0 ∷ []) $ join ! $ move ! (3 ∷ 1 ∷ []) $ join ! $ move ! (4 ∷ 0 ∷ []) $ join ! $ move ! (5 ∷ 0 ∷ []) $ join ! $ move ! (1 ∷ 0 ∷ []) $ join ! $
         -- call 2
-        use1 W (raw (Callee-g2 𝓤 H A at-mem run .pre (((κ₁, (κ₂, (κ₃, ((ν2h ∷ []), tt)))), (q₁, (q₂, (q₃, (fullShare, tt)))), tt, (n3, (n4, (s8, (s9, (s10, (n5, (r1, (ref1 δ2h (ys1), tt)))))))), (u3 ∷ [], (u4 ∷ [], (v8 ∷ [], (v9 ∷ [], (v10 ∷ [], (u5 ∷ [], (z1 ∷ [], (v1 ∷ [], tt))))))))), tt))) (qed W ((‵ (flft κ₁ q₁) ⊛ ‵ (flft κ₂ q₂) ⊛ ‵ (flft κ₃ q₃) ⊛ ‵ (flft (ν2h ∷ []) fullShare) ⊛ ‵ ftrue) ∷ ‵ (ShrSlice (named 0) κ₁ mEntry.the-row .own s8 (v8 ∷ [])) ∷ ‵ (ShrSlice (named 1) κ₂ u64 .own s9 (v9 ∷ [])) ∷ ‵ (ShrSlice (named 2) κ₃ u64 .own s10 (v10 ∷ [])) ∷ ‵ (MutSlice (named 3) (ν2h ∷ []) u64 .own (ref1 δ2h (ys1)) (v1 ∷ [])) ∷ []) ∵ nothing ! $ move ! (5 ∷ 0 ∷ []) $ fjoin ! $ owned ! u64 (Is u64) (uint-makes 𝓤 H A W w64) (r1) _ i1 $ fjoin ! $ owned ! u64 (Is u64) (uint-makes 𝓤 H A W w64) (n5) _ w5 $ fjoin ! $ move ! (4 ∷ 0 ∷ []) $ fjoin ! $ move ! (3 ∷ 0 ∷ []) $ fjoin ! $ move ! (2 ∷ 0 ∷ []) $ fjoin ! $ owned ! u64 (Is u64) (uint-makes 𝓤 H A W w64) (n4) _ w4 $ fjoin ! $ owned ! u64 (Is u64) (uint-makes 𝓤 H A W w64) (n3) _ w3 $ fjoin ! $ move ! (1 ∷ 0 ∷ []) $ join ! $ nothing ! $ move ! (1 ∷ 0 ∷ []) $ frame ! $ done !) $ 
-        calls-at ! fm (Callee-g2 𝓤 H A at-mem run) known-g2 (((κ₁, (κ₂, (κ₃, ((ν2h ∷ []), tt)))), (q₁, (q₂, (q₃, (fullShare, tt)))), tt, (n3, (n4, (s8, (s9, (s10, (n5, (r1, (ref1 δ2h (ys1), tt)))))))), (u3 ∷ [], (u4 ∷ [], (v8 ∷ [], (v9 ∷ [], (v10 ∷ [], (u5 ∷ [], (z1 ∷ [], (v1 ∷ [], tt))))))))), tt) (and-then ! (load ! (from ! (stop !)) (look ! 44 refl)) (and-then ! (load ! (from ! (stop !)) (look ! 42 refl)) (and-then ! (load ! (from ! (stop !)) (look ! 34 refl)) (and-then ! (load ! (from ! (stop !)) (look ! 32 refl)) (and-then ! (load ! (from ! (stop !)) (look ! 30 refl)) (and-then ! (load ! (from ! (stop !)) (look ! 40 refl)) (and-then ! (load ! (from ! (stop !)) (look ! 28 refl)) (and-then ! (load ! (from ! (stop !)) (look ! 22 refl)) (no-more !))))))))) (λ z2. 
-        use1 W (later (some (λ (r2 : Flag). ((‵ (flft κ₁ q₁) ⊛ ‵ (flft κ₂ q₂) ⊛ ‵ (flft κ₃ q₃) ⊛ ‵ (flft (ν2h ∷ []) fullShare) ⊛ ‵ ftrue) ⊛ ‵ (mFlag.the-row .own r2 (z2 ∷ []))) ⊛ some (λ (ws : Lasts g2.ended (κ₁, (κ₂, (κ₃, ((ν2h ∷ []), tt)))) (n3, (n4, (s8, (s9, (s10, (n5, (r1, (ref1 δ2h (ys1), tt))))))))). ‵ (lasts g2.ended (κ₁, (κ₂, (κ₃, ((ν2h ∷ []), tt)))) (n3, (n4, (s8, (s9, (s10, (n5, (r1, (ref1 δ2h (ys1), tt)))))))) ws) ⊛ raw (g2.clauses 𝓤 H A at-mem run (κ₁, (κ₂, (κ₃, ((ν2h ∷ []), tt)))) (n3, (n4, (s8, (s9, (s10, (n5, (r1, (ref1 δ2h (ys1), tt)))))))) .ensures tt r2 (atExit g2.ended (κ₁, (κ₂, (κ₃, ((ν2h ∷ []), tt)))) (n3, (n4, (s8, (s9, (s10, (n5, (r1, (ref1 δ2h (ys1), tt)))))))) ws)))))) (id⊢ 𝓤 _) $ await ! tt $ pick ! (λ r2. split ! $ move ! (1 ∷ []) $ pick ! (λ ws2. split ! $ move ! (1 ∷ []) $ heard ! _ (λ e2. 
-        fsplit ! $ move ! (1 ∷ []) $ fsplit ! $ move ! (1 ∷ []) $ fsplit ! $ move ! (1 ∷ []) $ fsplit ! $ move ! (1 ∷ []) $ fsplit ! $ move ! (1 ∷ []) $ fsplit ! $ move ! (1 ∷ []) $ fsplit ! $ move ! (1 ∷ []) $ fsplit ! $ fsplit ! $ move ! (1 ∷ []) $ feqL ! (λ same2h. move ! (9 ∷ []) $ split ! $ move ! (1 ∷ []) $ peeks ! mFlag.the-row (Is mFlag.the-row) (shows 𝓤 H A mFlag.the-row) r2 (z2 ∷ []) (λ i2. drop ! $ land ! (from ! (stop !)) (init ! 35 refl (EL.lawful mFlag.the-type lFlag.the-laws 𝓤 H A W tt .typed r2 _ i2 .0)) $ 
-        split ! $ move ! (1 ∷ []) $ split ! $ move ! (1 ∷ []) $ split ! $ move ! (1 ∷ []) $ split ! $ move ! (1 ∷ []) $ move ! (1 ∷ []) $ lft-end ! tt $ move ! (0 ∷ 14 ∷ 5 ∷ []) $ use3 W (later (‵ (O1 (ws2 .1 .1 .1 .1 .1 .1 .1 .0)) ⊛ ‵ (flft κ₀ q₀))) (backs1 (named 3) ν2h δ2h (ys1) (ws2 .1 .1 .1 .1 .1 .1 .1 .0) (refl) room1 same2h) $ await ! tt $ split ! $ 
-        assigns ! (addr ! (from ! (fld ! refl (hop ! (look-in ! 60 (sub ! 0 refl (whole !))) (stop !))))) (from ! (stop !)) (init ! 30 refl (tt, tt)) $ 
-        assigns ! (agg ! (and-then ! (load ! (from ! (stop !)) (look ! 30 refl)) (and-then ! (load ! (from ! (fld ! refl (stop !))) (look-in ! 60 (sub ! 1 refl (whole !)))) (no-more !)))) (from ! (stop !)) (init ! 28 refl (tt, (tt, (record { fits = room1 .0 }, tt)))) $ 
-        
-        lft-new ! tt (λ ν3a. move ! (1 ∷ 2 ∷ []) $ use2 W (later (some (λ (δ : GName). ‵ (MutSlice (named 0) (ν3a ∷ []) u64 .own (ref1 δ (ws2 .1 .1 .1 .1 .1 .1 .1 .0)) (v1 ∷ [])) ⊛ ‵ (Lent1 ν3a δ (ws2 .1 .1 .1 .1 .1 .1 .1 .0))))) (lends1 (named 0) ν3a (ws2 .1 .1 .1 .1 .1 .1 .1 .0) (same2h)) $ await ! tt $ pick ! (λ δ3a. split ! $ nothing ! $ move ! (3 ∷ 0 ∷ []) $ join ! $ join ! $ 
+        use1 W (raw (Callee-g2 𝓤 H A at-mem run .pre (((κ₁, (κ₂, (κ₃, ((ν2h ∷ []), tt)))), (q₁, (q₂, (q₃, (fullShare, tt)))), tt, (n3, (n4, (s8, (s9, (s10, (n5, (r1, (ref1 δ2h (ys1), tt)))))))), (u3 ∷ [], (u4 ∷ [], (v8 ∷ [], (v9 ∷ [], (v10 ∷ [], (u5 ∷ [], (z1 ∷ [], (v1 ∷ [], tt))))))))), tt))) (qed W ((‵ (flft κ₁ q₁) ⊛ ‵ (flft κ₂ q₂) ⊛ ‵ (flft κ₃ q₃) ⊛ ‵ (flft (ν2h ∷ []) fullShare) ⊛ ‵ ftrue) ∷ ‵ (ShrSlice (named 0) κ₁ mEntry.the-row .own s8 (v8 ∷ [])) ∷ ‵ (ShrSlice (named 1) κ₂ u64 .own s9 (v9 ∷ [])) ∷ ‵ (ShrSlice (named 2) κ₃ u64 .own s10 (v10 ∷ [])) ∷ ‵ (MutSlice (named 3) (ν2h ∷ []) u64 .own (ref1 δ2h (ys1)) (v1 ∷ [])) ∷ []) ∵ nothing ! $ move ! (5 ∷ 0 ∷ []) $ fjoin ! $ owned ! u64 (Is u64) (uint-makes 𝓤 H A W w64) (r1) _ i1 $ fjoin ! $ owned ! u64 (Is u64) (uint-makes 𝓤 H A W w64) (n5) _ w5 $ fjoin ! $ move ! (4 ∷ 0 ∷ []) $ fjoin ! $ move ! (3 ∷ 0 ∷ []) $ fjoin ! $ move ! (2 ∷ 0 ∷ []) $ fjoin ! $ owned ! u64 (Is u64) (uint-makes 𝓤 H A W w64) (n4) _ w4 $ fjoin ! $ owned ! u64 (Is u64) (uint-makes 𝓤 H A W w64) (n3) _ w3 $ fjoin ! $ move ! (1 ∷ 0 ∷ []) $ join ! $ nothing ! $ move ! (1 ∷ 0 ∷ []) $ frame ! $ done !) $
+        calls-at ! fm (Callee-g2 𝓤 H A at-mem run) known-g2 (((κ₁, (κ₂, (κ₃, ((ν2h ∷ []), tt)))), (q₁, (q₂, (q₃, (fullShare, tt)))), tt, (n3, (n4, (s8, (s9, (s10, (n5, (r1, (ref1 δ2h (ys1), tt)))))))), (u3 ∷ [], (u4 ∷ [], (v8 ∷ [], (v9 ∷ [], (v10 ∷ [], (u5 ∷ [], (z1 ∷ [], (v1 ∷ [], tt))))))))), tt) (and-then ! (load ! (from ! (stop !)) (look ! 44 refl)) (and-then ! (load ! (from ! (stop !)) (look ! 42 refl)) (and-then ! (load ! (from ! (stop !)) (look ! 34 refl)) (and-then ! (load ! (from ! (stop !)) (look ! 32 refl)) (and-then ! (load ! (from ! (stop !)) (look ! 30 refl)) (and-then ! (load ! (from ! (stop !)) (look ! 40 refl)) (and-then ! (load ! (from ! (stop !)) (look ! 28 refl)) (and-then ! (load ! (from ! (stop !)) (look ! 22 refl)) (no-more !))))))))) (λ z2.
+        use1 W (later (some (λ (r2 : Flag). ((‵ (flft κ₁ q₁) ⊛ ‵ (flft κ₂ q₂) ⊛ ‵ (flft κ₃ q₃) ⊛ ‵ (flft (ν2h ∷ []) fullShare) ⊛ ‵ ftrue) ⊛ ‵ (mFlag.the-row .own r2 (z2 ∷ []))) ⊛ some (λ (ws : Lasts g2.ended (κ₁, (κ₂, (κ₃, ((ν2h ∷ []), tt)))) (n3, (n4, (s8, (s9, (s10, (n5, (r1, (ref1 δ2h (ys1), tt))))))))). ‵ (lasts g2.ended (κ₁, (κ₂, (κ₃, ((ν2h ∷ []), tt)))) (n3, (n4, (s8, (s9, (s10, (n5, (r1, (ref1 δ2h (ys1), tt)))))))) ws) ⊛ raw (g2.clauses 𝓤 H A at-mem run (κ₁, (κ₂, (κ₃, ((ν2h ∷ []), tt)))) (n3, (n4, (s8, (s9, (s10, (n5, (r1, (ref1 δ2h (ys1), tt)))))))) .ensures tt r2 (atExit g2.ended (κ₁, (κ₂, (κ₃, ((ν2h ∷ []), tt)))) (n3, (n4, (s8, (s9, (s10, (n5, (r1, (ref1 δ2h (ys1), tt)))))))) ws)))))) (id⊢ 𝓤 _) $ await ! tt $ pick ! (λ r2. split ! $ move ! (1 ∷ []) $ pick ! (λ ws2. split ! $ move ! (1 ∷ []) $ heard ! _ (λ e2.
+        fsplit ! $ move ! (1 ∷ []) $ fsplit ! $ move ! (1 ∷ []) $ fsplit ! $ move ! (1 ∷ []) $ fsplit ! $ move ! (1 ∷ []) $ fsplit ! $ move ! (1 ∷ []) $ fsplit ! $ move ! (1 ∷ []) $ fsplit ! $ move ! (1 ∷ []) $ fsplit ! $ fsplit ! $ move ! (1 ∷ []) $ feqL ! (λ same2h. move ! (9 ∷ []) $ split ! $ move ! (1 ∷ []) $ peeks ! mFlag.the-row (Is mFlag.the-row) (shows 𝓤 H A mFlag.the-row) r2 (z2 ∷ []) (λ i2. drop ! $ land ! (from ! (stop !)) (init ! 35 refl (EL.lawful mFlag.the-type lFlag.the-laws 𝓤 H A W tt .typed r2 _ i2 .0)) $
+        split ! $ move ! (1 ∷ []) $ split ! $ move ! (1 ∷ []) $ split ! $ move ! (1 ∷ []) $ split ! $ move ! (1 ∷ []) $ move ! (1 ∷ []) $ lft-end ! tt $ move ! (0 ∷ 14 ∷ 5 ∷ []) $ use3 W (later (‵ (O1 (ws2 .1 .1 .1 .1 .1 .1 .1 .0)) ⊛ ‵ (flft κ₀ q₀))) (backs1 (named 3) ν2h δ2h (ys1) (ws2 .1 .1 .1 .1 .1 .1 .1 .0) (refl) room1 same2h) $ await ! tt $ split ! $
+        assigns ! (addr ! (from ! (fld ! refl (hop ! (look-in ! 60 (sub ! 0 refl (whole !))) (stop !))))) (from ! (stop !)) (init ! 30 refl (tt, tt)) $
+        assigns ! (agg ! (and-then ! (load ! (from ! (stop !)) (look ! 30 refl)) (and-then ! (load ! (from ! (fld ! refl (stop !))) (look-in ! 60 (sub ! 1 refl (whole !)))) (no-more !)))) (from ! (stop !)) (init ! 28 refl (tt, (tt, (record { fits = room1 .0 }, tt)))) $
+        lft-new ! tt (λ ν3a. move ! (1 ∷ 2 ∷ []) $ use2 W (later (some (λ (δ : GName). ‵ (MutSlice (named 0) (ν3a ∷ []) u64 .own (ref1 δ (ws2 .1 .1 .1 .1 .1 .1 .1 .0)) (v1 ∷ [])) ⊛ ‵ (Lent1 ν3a δ (ws2 .1 .1 .1 .1 .1 .1 .1 .0))))) (lends1 (named 0) ν3a (ws2 .1 .1 .1 .1 .1 .1 .1 .0) (same2h)) $ await ! tt $ pick ! (λ δ3a. split ! $ nothing ! $ move ! (3 ∷ 0 ∷ []) $ join ! $ join ! $
         -- call 3
-        use1 W (raw (Callee-g3 𝓤 H A at-mem run .pre ((((ν3a ∷ []), tt), (fullShare, tt), tt, (ref1 δ3a (ws2 .1 .1 .1 .1 .1 .1 .1 .0), (n2, (n5, (n6, (n7, tt))))), (v1 ∷ [], (u2 ∷ [], (u5 ∷ [], (u6 ∷ [], (u7 ∷ [], tt)))))), tt))) (qed W ((‵ (flft (ν3a ∷ []) fullShare) ⊛ ‵ ftrue) ∷ ‵ (MutSlice (named 0) (ν3a ∷ []) u64 .own (ref1 δ3a (ws2 .1 .1 .1 .1 .1 .1 .1 .0)) (v1 ∷ [])) ∷ []) ∵ nothing ! $ owned ! u64 (Is u64) (uint-makes 𝓤 H A W w64) (n7) _ w7 $ fjoin ! $ owned ! u64 (Is u64) (uint-makes 𝓤 H A W w64) (n6) _ w6 $ fjoin ! $ owned ! u64 (Is u64) (uint-makes 𝓤 H A W w64) (n5) _ w5 $ fjoin ! $ owned ! u64 (Is u64) (uint-makes 𝓤 H A W w64) (n2) _ w2 $ fjoin ! $ move ! (2 ∷ 0 ∷ []) $ fjoin ! $ move ! (1 ∷ 0 ∷ []) $ join ! $ nothing ! $ move ! (1 ∷ 0 ∷ []) $ frame ! $ done !) $ 
-        calls-at ! fm (Callee-g3 𝓤 H A at-mem run) known-g3 ((((ν3a ∷ []), tt), (fullShare, tt), tt, (ref1 δ3a (ws2 .1 .1 .1 .1 .1 .1 .1 .0), (n2, (n5, (n6, (n7, tt))))), (v1 ∷ [], (u2 ∷ [], (u5 ∷ [], (u6 ∷ [], (u7 ∷ [], tt)))))), tt) (and-then ! (load ! (from ! (stop !)) (look ! 28 refl)) (and-then ! (load ! (from ! (stop !)) (look ! 58 refl)) (and-then ! (load ! (from ! (stop !)) (look ! 52 refl)) (and-then ! (load ! (from ! (stop !)) (look ! 50 refl)) (and-then ! (load ! (from ! (stop !)) (look ! 48 refl)) (no-more !)))))) (λ z3. 
-        use1 W (later (some (λ (r3 : Unit {0}). ((‵ (flft (ν3a ∷ []) fullShare) ⊛ ‵ ftrue) ⊛ ‵ (unit .own r3 (z3 ∷ []))) ⊛ some (λ (ws : Lasts g3.ended ((ν3a ∷ []), tt) (ref1 δ3a (ws2 .1 .1 .1 .1 .1 .1 .1 .0), (n2, (n5, (n6, (n7, tt)))))). ‵ (lasts g3.ended ((ν3a ∷ []), tt) (ref1 δ3a (ws2 .1 .1 .1 .1 .1 .1 .1 .0), (n2, (n5, (n6, (n7, tt))))) ws) ⊛ raw (g3.clauses 𝓤 H A at-mem run ((ν3a ∷ []), tt) (ref1 δ3a (ws2 .1 .1 .1 .1 .1 .1 .1 .0), (n2, (n5, (n6, (n7, tt))))) .ensures tt r3 (atExit g3.ended ((ν3a ∷ []), tt) (ref1 δ3a (ws2 .1 .1 .1 .1 .1 .1 .1 .0), (n2, (n5, (n6, (n7, tt))))) ws)))))) (id⊢ 𝓤 _) $ await ! tt $ pick ! (λ r3. split ! $ move ! (1 ∷ []) $ pick ! (λ ws3. split ! $ move ! (1 ∷ []) $ heard ! _ (λ e3. 
-        fsplit ! $ fsplit ! $ move ! (1 ∷ []) $ feqL ! (λ same3a. move ! (1 ∷ []) $ fsplit ! $ move ! (1 ∷ []) $ fsplit ! $ move ! (1 ∷ []) $ fsplit ! $ move ! (1 ∷ []) $ fsplit ! $ move ! (6 ∷ []) $ split ! $ move ! (1 ∷ []) $ feqL ! (λ i3. land ! (from ! (stop !)) (init ! 38 refl (subst (λ (t : Val). Trueᴮ (hasTy tyUnit t) × WT t) (sym (ap only i3)) (tt, tt))) $ 
-        split ! $ move ! (1 ∷ []) $ move ! (1 ∷ []) $ lft-end ! tt $ move ! (0 ∷ 8 ∷ 7 ∷ []) $ use3 W (later (‵ (O1 (ws3 .0)) ⊛ ‵ (flft κ₀ q₀))) (backs1 (named 0) ν3a δ3a (ws2 .1 .1 .1 .1 .1 .1 .1 .0) (ws3 .0) (same2h) room1 same3a) $ await ! tt $ split ! $ 
-        assigns ! (of-opd ! (unit-lit !)) (from ! (stop !)) (init ! 68 refl (tt, tt)) $ 
-        returns ! (look ! 68 refl) $ forget ! 68 refl $ forget ! 66 refl $ forget ! 64 refl $ forget ! 62 refl $ forget ! 60 refl $ forget ! 58 refl $ forget ! 56 refl $ forget ! 54 refl $ forget ! 52 refl $ forget ! 50 refl $ forget ! 48 refl $ forget ! 46 refl $ forget ! 44 refl $ forget ! 42 refl $ forget ! 40 refl $ forget ! 38 refl $ forget ! 36 refl $ forget ! 34 refl $ 
-        move ! (68 ∷ 69 ∷ []) $ free1 ! $ move ! (66 ∷ 67 ∷ []) $ free1 ! $ move ! (64 ∷ 65 ∷ []) $ free1 ! $ move ! (62 ∷ 63 ∷ []) $ free1 ! $ move ! (60 ∷ 61 ∷ []) $ free1 ! $ move ! (58 ∷ 59 ∷ []) $ free1 ! $ move ! (56 ∷ 57 ∷ []) $ free1 ! $ move ! (54 ∷ 55 ∷ []) $ free1 ! $ move ! (52 ∷ 53 ∷ []) $ free1 ! $ move ! (50 ∷ 51 ∷ []) $ free1 ! $ move ! (48 ∷ 49 ∷ []) $ free1 ! $ move ! (46 ∷ 47 ∷ []) $ free1 ! $ move ! (44 ∷ 45 ∷ []) $ free1 ! $ move ! (42 ∷ 43 ∷ []) $ free1 ! $ move ! (40 ∷ 41 ∷ []) $ free1 ! $ move ! (38 ∷ 39 ∷ []) $ free1 ! $ move ! (36 ∷ 37 ∷ []) $ free1 ! $ move ! (34 ∷ 35 ∷ []) $ free1 ! $ free0 ! $ 
-        suffices ! _ (ends-at 𝓤 H A f.ended stayed (f.clauses 𝓤 H A at-mem run) W (((κ₀, (κ₁, (κ₂, (κ₃, tt)))), (q₀, (q₁, (q₂, (q₃, tt)))), tt, a, at), tt) vunit tt (ws3 .0, (tt, (tt, (tt, (tt, (tt, (tt, (tt, (tt, (tt, tt)))))))))) (same3a ∙ same2h, (tt, (tt, (tt, (tt, (tt, (tt, (tt, (tt, (tt, tt))))))))))) $ says ! (rw (e3, e2 .1, e1)) $ 
+        use1 W (raw (Callee-g3 𝓤 H A at-mem run .pre ((((ν3a ∷ []), tt), (fullShare, tt), tt, (ref1 δ3a (ws2 .1 .1 .1 .1 .1 .1 .1 .0), (n2, (n5, (n6, (n7, tt))))), (v1 ∷ [], (u2 ∷ [], (u5 ∷ [], (u6 ∷ [], (u7 ∷ [], tt)))))), tt))) (qed W ((‵ (flft (ν3a ∷ []) fullShare) ⊛ ‵ ftrue) ∷ ‵ (MutSlice (named 0) (ν3a ∷ []) u64 .own (ref1 δ3a (ws2 .1 .1 .1 .1 .1 .1 .1 .0)) (v1 ∷ [])) ∷ []) ∵ nothing ! $ owned ! u64 (Is u64) (uint-makes 𝓤 H A W w64) (n7) _ w7 $ fjoin ! $ owned ! u64 (Is u64) (uint-makes 𝓤 H A W w64) (n6) _ w6 $ fjoin ! $ owned ! u64 (Is u64) (uint-makes 𝓤 H A W w64) (n5) _ w5 $ fjoin ! $ owned ! u64 (Is u64) (uint-makes 𝓤 H A W w64) (n2) _ w2 $ fjoin ! $ move ! (2 ∷ 0 ∷ []) $ fjoin ! $ move ! (1 ∷ 0 ∷ []) $ join ! $ nothing ! $ move ! (1 ∷ 0 ∷ []) $ frame ! $ done !) $
+        calls-at ! fm (Callee-g3 𝓤 H A at-mem run) known-g3 ((((ν3a ∷ []), tt), (fullShare, tt), tt, (ref1 δ3a (ws2 .1 .1 .1 .1 .1 .1 .1 .0), (n2, (n5, (n6, (n7, tt))))), (v1 ∷ [], (u2 ∷ [], (u5 ∷ [], (u6 ∷ [], (u7 ∷ [], tt)))))), tt) (and-then ! (load ! (from ! (stop !)) (look ! 28 refl)) (and-then ! (load ! (from ! (stop !)) (look ! 58 refl)) (and-then ! (load ! (from ! (stop !)) (look ! 52 refl)) (and-then ! (load ! (from ! (stop !)) (look ! 50 refl)) (and-then ! (load ! (from ! (stop !)) (look ! 48 refl)) (no-more !)))))) (λ z3.
+        use1 W (later (some (λ (r3 : Unit {0}). ((‵ (flft (ν3a ∷ []) fullShare) ⊛ ‵ ftrue) ⊛ ‵ (unit .own r3 (z3 ∷ []))) ⊛ some (λ (ws : Lasts g3.ended ((ν3a ∷ []), tt) (ref1 δ3a (ws2 .1 .1 .1 .1 .1 .1 .1 .0), (n2, (n5, (n6, (n7, tt)))))). ‵ (lasts g3.ended ((ν3a ∷ []), tt) (ref1 δ3a (ws2 .1 .1 .1 .1 .1 .1 .1 .0), (n2, (n5, (n6, (n7, tt))))) ws) ⊛ raw (g3.clauses 𝓤 H A at-mem run ((ν3a ∷ []), tt) (ref1 δ3a (ws2 .1 .1 .1 .1 .1 .1 .1 .0), (n2, (n5, (n6, (n7, tt))))) .ensures tt r3 (atExit g3.ended ((ν3a ∷ []), tt) (ref1 δ3a (ws2 .1 .1 .1 .1 .1 .1 .1 .0), (n2, (n5, (n6, (n7, tt))))) ws)))))) (id⊢ 𝓤 _) $ await ! tt $ pick ! (λ r3. split ! $ move ! (1 ∷ []) $ pick ! (λ ws3. split ! $ move ! (1 ∷ []) $ heard ! _ (λ e3.
+        fsplit ! $ fsplit ! $ move ! (1 ∷ []) $ feqL ! (λ same3a. move ! (1 ∷ []) $ fsplit ! $ move ! (1 ∷ []) $ fsplit ! $ move ! (1 ∷ []) $ fsplit ! $ move ! (1 ∷ []) $ fsplit ! $ move ! (6 ∷ []) $ split ! $ move ! (1 ∷ []) $ feqL ! (λ i3. land ! (from ! (stop !)) (init ! 38 refl (subst (λ (t : Val). Trueᴮ (hasTy tyUnit t) × WT t) (sym (ap only i3)) (tt, tt))) $
+        split ! $ move ! (1 ∷ []) $ move ! (1 ∷ []) $ lft-end ! tt $ move ! (0 ∷ 8 ∷ 7 ∷ []) $ use3 W (later (‵ (O1 (ws3 .0)) ⊛ ‵ (flft κ₀ q₀))) (backs1 (named 0) ν3a δ3a (ws2 .1 .1 .1 .1 .1 .1 .1 .0) (ws3 .0) (same2h) room1 same3a) $ await ! tt $ split ! $
+        assigns ! (of-opd ! (unit-lit !)) (from ! (stop !)) (init ! 68 refl (tt, tt)) $
+        returns ! (look ! 68 refl) $ forget ! 68 refl $ forget ! 66 refl $ forget ! 64 refl $ forget ! 62 refl $ forget ! 60 refl $ forget ! 58 refl $ forget ! 56 refl $ forget ! 54 refl $ forget ! 52 refl $ forget ! 50 refl $ forget ! 48 refl $ forget ! 46 refl $ forget ! 44 refl $ forget ! 42 refl $ forget ! 40 refl $ forget ! 38 refl $ forget ! 36 refl $ forget ! 34 refl $
+        move ! (68 ∷ 69 ∷ []) $ free1 ! $ move ! (66 ∷ 67 ∷ []) $ free1 ! $ move ! (64 ∷ 65 ∷ []) $ free1 ! $ move ! (62 ∷ 63 ∷ []) $ free1 ! $ move ! (60 ∷ 61 ∷ []) $ free1 ! $ move ! (58 ∷ 59 ∷ []) $ free1 ! $ move ! (56 ∷ 57 ∷ []) $ free1 ! $ move ! (54 ∷ 55 ∷ []) $ free1 ! $ move ! (52 ∷ 53 ∷ []) $ free1 ! $ move ! (50 ∷ 51 ∷ []) $ free1 ! $ move ! (48 ∷ 49 ∷ []) $ free1 ! $ move ! (46 ∷ 47 ∷ []) $ free1 ! $ move ! (44 ∷ 45 ∷ []) $ free1 ! $ move ! (42 ∷ 43 ∷ []) $ free1 ! $ move ! (40 ∷ 41 ∷ []) $ free1 ! $ move ! (38 ∷ 39 ∷ []) $ free1 ! $ move ! (36 ∷ 37 ∷ []) $ free1 ! $ move ! (34 ∷ 35 ∷ []) $ free1 ! $ free0 ! $
+        suffices ! _ (ends-at 𝓤 H A f.ended stayed (f.clauses 𝓤 H A at-mem run) W (((κ₀, (κ₁, (κ₂, (κ₃, tt)))), (q₀, (q₁, (q₂, (q₃, tt)))), tt, a, at), tt) vunit tt (ws3 .0, (tt, (tt, (tt, (tt, (tt, (tt, (tt, (tt, (tt, tt)))))))))) (same3a ∙ same2h, (tt, (tt, (tt, (tt, (tt, (tt, (tt, (tt, (tt, tt))))))))))) $ says ! (rw (e3, e2 .1, e1)) $
         nothing ! $ move ! (10 ∷ 0 ∷ []) $ join ! $ move ! (10 ∷ 0 ∷ []) $ join ! $ move ! (10 ∷ 0 ∷ []) $ join ! $ move ! (2 ∷ 0 ∷ []) $ join ! $ nothing ! $ move ! (18 ∷ 0 ∷ []) $ fjoin ! $ move ! (18 ∷ 0 ∷ []) $ fjoin ! $ move ! (18 ∷ 0 ∷ []) $ fjoin ! $ move ! (23 ∷ 0 ∷ []) $ fjoin ! $ move ! (23 ∷ 0 ∷ []) $ fjoin ! $ move ! (23 ∷ 0 ∷ []) $ fjoin ! $ move ! (23 ∷ 0 ∷ []) $ fjoin ! $ move ! (23 ∷ 0 ∷ []) $ fjoin ! $ move ! (23 ∷ 0 ∷ []) $ fjoin ! $ move ! (2 ∷ 0 ∷ []) $ fjoin ! $ keep ! (1 ∷ 0 ∷ []) $ frame ! $ feqI ! (List Val) (vunit ∷ []) (vunit ∷ []) refl $ move ! (1 ∷ 0 ∷ []) $ done !)))))))))))))))))))))))))))))))))))))))
 
 module _ {M : Type 1} (𝓤 : URA M) (H : Heap 𝓤) (A : Atoms 𝓤) (W : Given 𝓤 H A) (mem : Memory → SProp 𝓤) (run : Routine → Fun 𝓤) where

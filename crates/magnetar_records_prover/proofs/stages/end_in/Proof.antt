@@ -28,7 +28,7 @@ same-length-4 : tie.Need-same-length-4
 same-length-4 c = search needs
 
 returns : tie.Need-returns
-returns c = 
+returns c =
     let x = c .before .before .before .before .before .before .before .before .before .before .before .before .before .before .before .before .before .before .before .before .before .before .args in
     let r = c .before .before .before .before .before .before .before .before .before .before .before .before .inner-part in
     claims-left (x .m) (x .q) (x .rb) (x .rf) (now (x .lens)) (now (x .proof)) (now (x .draws)) (now (x .claims)) (now (x .s)) _ (r .result) _ _ _ _ (length (now (x .x))) (r .ensures) (c .before .before .write-claims .ensures .1)

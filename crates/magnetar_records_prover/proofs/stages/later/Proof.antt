@@ -29,16 +29,17 @@ same-length-3 : tie.Need-same-length-3
 same-length-3 c = search needs
 
 returns : tie.Need-returns
-returns c = 
+returns c =
     let x = c .before .before .before .before .before .before .before .before .before .before .before .before .before .before .before .before .before .before .before .before .before .before .before .before .before .before .args in
     let o = x .o in
     let g = c .before .before .before .before .before .before .before .before .before .before .before .before .before .before .before .before .fold-behind in
-    let r = c .before .before .before .before .before .before .before .before .before .before .end in
-    (elements-below (now (x .x)) (λ i. omega (arith, c .before .before .before .before .before .before .before .before .before .before .before .before .before .before .before .before .before .before .before .before .shared-slice-known3 .given i)),
-     λ L.
-     let F = g .ensures (fold-sizes (x .m) (x .q) (x .rb) (x .rf) (now (x .lens)) (now (x .packed)) (now (x .x)) (now (x .proof)) (o .«draws») (now (x .claims)) (now (x .s)) (o .«transcript») L) in
-     let E = r .ensures (end-sizes (x .m) (x .q) (x .rb) (x .rf) (now (x .lens)) (now (x .packed)) (now (x .x)) (now (x .proof)) (o .«draws») (now (x .claims)) (now (x .s)) (o .«transcript») L _ F (g .kept .0)) in
-     later-ends (x .m) (x .q) (x .rb) (x .rf) (now (x .lens)) (now (x .packed)) (now (x .x)) (now (x .proof)) (o .«draws») (now (x .claims)) (now (x .s)) (o .«transcript») L _ F (g .kept .0) _ _ (r .result) _ _ E (c .before .before .clear-room .ensures))
+    let r = c .before .before .before .before .before .before .before .before .before .before .end in (
+      elements-below (now (x .x)) (λ i. omega (arith, c .before .before .before .before .before .before .before .before .before .before .before .before .before .before .before .before .before .before .before .before .shared-slice-known3 .given i)),
+      λ L.
+          let F = g .ensures (fold-sizes (x .m) (x .q) (x .rb) (x .rf) (now (x .lens)) (now (x .packed)) (now (x .x)) (now (x .proof)) (o .«draws») (now (x .claims)) (now (x .s)) (o .«transcript») L) in
+          let E = r .ensures (end-sizes (x .m) (x .q) (x .rb) (x .rf) (now (x .lens)) (now (x .packed)) (now (x .x)) (now (x .proof)) (o .«draws») (now (x .claims)) (now (x .s)) (o .«transcript») L _ F (g .kept .0)) in
+          later-ends (x .m) (x .q) (x .rb) (x .rf) (now (x .lens)) (now (x .packed)) (now (x .x)) (now (x .proof)) (o .«draws») (now (x .claims)) (now (x .s)) (o .«transcript») L _ F (g .kept .0) _ _ (r .result) _ _ E (c .before .before .clear-room .ensures),
+    )
 
 pub later-spec : {M : Type 1} → statement M
 later-spec =

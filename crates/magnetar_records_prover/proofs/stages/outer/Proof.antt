@@ -50,7 +50,7 @@ same-length-2 : tie.Need-same-length-2
 same-length-2 c = search needs
 
 returns : tie.Need-returns
-returns c = 
+returns c =
     let x = c .before .before .before .before .before .before .before .before .before .before .before .before .before .before .before .before .args in
     let r = c .before .before .before .before .before .before .outer-rounds in
     outer-ends (x .m) (x .q) (x .rb) (x .rf) (x .k) (c .before .before .before .before .before .before .before .before .before .before .before .before .least .result) (c .before .before .before .before .before .before .before .before .before .before .least2 .result) (now (x .proof)) (now (x .s)) (x .t) (r .result) (r .result .transcript) _ _ _

@@ -46,12 +46,12 @@ use denote.Triple.Walked.{says, needs, Stays, stay-ref, stay-none, stay-none-ref
 use denote.Triple.Clauses.{Lasts, lasts, atExit}
 use denote.Exit.{yes}
 use Rattle.magnetar_records_prover.proofs.ProveEnds.{prove-in-is}
-use Rattle.magnetar_hash.specs.declared.transcript.Transcript.{Transcript}
-use Rattle.magnetar_hash.proofs.transcript.Transcript as mTranscript
-use Rattle.magnetar_hash.proofs.transcript.Transcript.Laws as lTranscript
 use Rattle.magnetar_inplace.specs.declared.records.Entry.{Entry}
 use Rattle.magnetar_inplace.proofs.records.Entry as mEntry
 use Rattle.magnetar_inplace.proofs.records.Entry.Laws as lEntry
+use Rattle.magnetar_hash.specs.declared.transcript.Transcript.{Transcript}
+use Rattle.magnetar_hash.proofs.transcript.Transcript as mTranscript
+use Rattle.magnetar_hash.proofs.transcript.Transcript.Laws as lTranscript
 use Rattle.magnetar_records_prover.specs.declared.stages.Drawn.{Drawn}
 use Rattle.magnetar_records_prover.proofs.stages.Drawn as mDrawn
 use Rattle.magnetar_records_prover.proofs.stages.Drawn.Laws as lDrawn
@@ -81,9 +81,8 @@ is-no : (t : Bool) → Trueᴮ (not t) → t ≡ false
 is-no true a = absurd a
 is-no false _ = refl
 
-
 abbrev stayed : Stays (f.ended .signature .params) (f.ended .kept)
-stayed = (stay-ref (0 ∷ []) tt (plain (λ _. mTranscript.the-row)), (stay-slice (1 ∷ []) tt (plain (λ _. u64)), (stay-slice (2 ∷ []) tt (plain (λ _. u64)), (stay-slice (3 ∷ []) tt (plain (λ _. u64)), (stay-none (λ _. u64) yes, (stay-none (λ _. u64) yes, (stay-none-slice (4 ∷ []) tt (plain (λ _. u64)) yes, (stay-none (λ _. u64) yes, (stay-none (λ _. u64) yes, (stay-none-slice (5 ∷ []) tt (plain (λ _. mEntry.the-row)) yes, (stay-none-slice (6 ∷ []) tt (plain (λ _. mEntry.the-row)) yes, (stay-none-slice (7 ∷ []) tt (plain (λ _. mEntry.the-row)) yes, (stay-none-slice (8 ∷ []) tt (plain (λ _. mEntry.the-row)) yes, (stay-none-slice (9 ∷ []) tt (plain (λ _. mEntry.the-row)) yes, (stay-none-slice (10 ∷ []) tt (plain (λ _. mEntry.the-row)) yes, (stay-none-slice (11 ∷ []) tt (plain (λ _. u64)) yes, (stay-none-slice (12 ∷ []) tt (plain (λ _. u64)) yes, tt)))))))))))))))))
+stayed = (stay-slice (0 ∷ []) tt (plain (λ _. u64)), (stay-slice (1 ∷ []) tt (plain (λ _. u64)), (stay-slice (2 ∷ []) tt (plain (λ _. u64)), (stay-none (λ _. u64) yes, (stay-none (λ _. u64) yes, (stay-none-slice (3 ∷ []) tt (plain (λ _. u64)) yes, (stay-none (λ _. u64) yes, (stay-none (λ _. u64) yes, (stay-none-slice (4 ∷ []) tt (plain (λ _. mEntry.the-row)) yes, (stay-none-slice (5 ∷ []) tt (plain (λ _. mEntry.the-row)) yes, (stay-none-slice (6 ∷ []) tt (plain (λ _. mEntry.the-row)) yes, (stay-none-slice (7 ∷ []) tt (plain (λ _. mEntry.the-row)) yes, (stay-none-slice (8 ∷ []) tt (plain (λ _. mEntry.the-row)) yes, (stay-none-slice (9 ∷ []) tt (plain (λ _. mEntry.the-row)) yes, (stay-none-slice (10 ∷ []) tt (plain (λ _. u64)) yes, (stay-none-slice (11 ∷ []) tt (plain (λ _. u64)) yes, (stay-none (λ _. mTranscript.the-row) yes, tt)))))))))))))))))
 
 abbrev Callee-g1 : {M : Type 1} (𝓤 : URA M) (H : Heap 𝓤) (A : Atoms 𝓤) (mem : Memory → SProp 𝓤) (run : Routine → Fun 𝓤) → Contract 𝓤
 Callee-g1 𝓤 H A mem run = tripleOf 𝓤 H A g1.signature (g1.spec 𝓤 H A mem run)
@@ -91,15 +90,28 @@ Callee-g1 𝓤 H A mem run = tripleOf 𝓤 H A g1.signature (g1.spec 𝓤 H A me
 abbrev Callee-g2 : {M : Type 1} (𝓤 : URA M) (H : Heap 𝓤) (A : Atoms 𝓤) (mem : Memory → SProp 𝓤) (run : Routine → Fun 𝓤) → Contract 𝓤
 Callee-g2 𝓤 H A mem run = tripleOf 𝓤 H A g2.signature (g2.spec 𝓤 H A mem run)
 
-module _ {M : Type 1} (𝓤 : URA M) (H : Heap 𝓤) (A : Atoms 𝓤) (W : Given 𝓤 H A) (at-mem : Memory → SProp 𝓤) (run : Routine → Fun 𝓤) (κ₀ κ₁ κ₂ κ₃ κ₄ κ₅ κ₆ κ₇ κ₈ κ₉ κ₁₀ κ₁₁ κ₁₂ : Lft) (q₀ q₁ q₂ q₃ q₄ q₅ q₆ q₇ q₈ q₉ q₁₀ q₁₁ q₁₂ : Share) (b1 o1 : ℕ) (γ1 : GName) (h1 : Transcript) (b2 o2 : ℕ) (γ2 : GName) (ys2 : List ℕ) (b3 o3 : ℕ) (γ3 : GName) (ys3 : List ℕ) (b4 o4 : ℕ) (γ4 : GName) (ys4 : List ℕ) (n5 : ℕ) (u5 : Val) (n6 : ℕ) (u6 : Val) (s7 : RefT (List ℕ)) (n8 : ℕ) (u8 : Val) (n9 : ℕ) (u9 : Val) (s10 : RefT (List Entry)) (s11 : RefT (List Entry)) (s12 : RefT (List Entry)) (s13 : RefT (List Entry)) (s14 : RefT (List Entry)) (s15 : RefT (List Entry)) (s16 : RefT (List ℕ)) (s17 : RefT (List ℕ)) where
-  abbrev ref1 : GName → Transcript → RefT Transcript
+module _ {M : Type 1} (𝓤 : URA M) (H : Heap 𝓤) (A : Atoms 𝓤) (W : Given 𝓤 H A) (at-mem : Memory → SProp 𝓤) (run : Routine → Fun 𝓤) (κ₀ κ₁ κ₂ κ₃ κ₄ κ₅ κ₆ κ₇ κ₈ κ₉ κ₁₀ κ₁₁ : Lft) (q₀ q₁ q₂ q₃ q₄ q₅ q₆ q₇ q₈ q₉ q₁₀ q₁₁ : Share) (b1 o1 : ℕ) (γ1 : GName) (ys1 : List ℕ) (b2 o2 : ℕ) (γ2 : GName) (ys2 : List ℕ) (b3 o3 : ℕ) (γ3 : GName) (ys3 : List ℕ) (n4 : ℕ) (u4 : Val) (n5 : ℕ) (u5 : Val) (s6 : RefT (List ℕ)) (n7 : ℕ) (u7 : Val) (n8 : ℕ) (u8 : Val) (s9 : RefT (List Entry)) (s10 : RefT (List Entry)) (s11 : RefT (List Entry)) (s12 : RefT (List Entry)) (s13 : RefT (List Entry)) (s14 : RefT (List Entry)) (s15 : RefT (List ℕ)) (s16 : RefT (List ℕ)) (n17 : Transcript) (u17 : Val) where
+  abbrev ref1 : GName → List ℕ → RefT (List ℕ)
   ref1 δ l = record { ptr = (b1, o1); name = δ; now = l }
 
   abbrev v1 : Val
-  v1 = vptr b1 o1
+  v1 = sliceVal (b1, o1) (length ys1)
 
-  abbrev O1 : Transcript → Fml
-  O1 l = MutRef (named 0) κ₀ mTranscript.the-row .own (ref1 γ1 l) (v1 ∷ [])
+  abbrev O1 : List ℕ → Fml
+  O1 l = MutSlice (named 0) κ₀ u64 .own (ref1 γ1 l) (v1 ∷ [])
+
+  abbrev Lent1 : ℕ → GName → List ℕ → Fml
+  Lent1 ν δ l = LentAgain u64 κ₀ (ν ∷ []) q₀ γ1 b1 o1 δ l
+
+  lends1 : (ℓ : Lifetime) (ν : ℕ) (l : List ℕ) → length l ≡ length ys1 → ent 𝓤 (⋆ 𝓤 H A (‵ (O1 l) ∷ ‵ (flft κ₀ q₀) ∷ [])) (⋆ 𝓤 H A (later (some (λ (δ : GName). ‵ (MutSlice ℓ (ν ∷ []) u64 .own (ref1 δ l) (v1 ∷ [])) ⊛ ‵ (Lent1 ν δ l))) ∷ []))
+  lends1 ℓ ν l e = subst (λ (t : ℕ). ent 𝓤 (⋆ 𝓤 H A (‵ (MutSlice (named 0) κ₀ u64 .own (ref1 γ1 l) (sliceVal (b1, o1) t ∷ [])) ∷ ‵ (flft κ₀ q₀) ∷ []))
+      (⋆ 𝓤 H A (later (some (λ (δ : GName). ‵ (MutSlice ℓ (ν ∷ []) u64 .own (ref1 δ l) (sliceVal (b1, o1) t ∷ [])) ⊛ ‵ (Lent1 ν δ l))) ∷ []))) e (lends-again u64 κ₀ (ν ∷ []) q₀ γ1 b1 o1 𝓤 H A W (named 0) ℓ l)
+
+  backs1 : (ℓ : Lifetime) (ν : ℕ) (δ : GName) (l l′ : List ℕ) → length l ≡ length ys1 → Room u64 (length ys1) → length l′ ≡ length l
+      → ent 𝓤 (⋆ 𝓤 H A (‵ (fdead (ν ∷ [])) ∷ ‵ (Lent1 ν δ l) ∷ ‵ (finally u64 δ l′) ∷ [])) (⋆ 𝓤 H A (later (‵ (O1 l′) ⊛ ‵ (flft κ₀ q₀)) ∷ []))
+  backs1 ℓ ν δ l l′ e room e′ = subst (λ (t : ℕ). ent 𝓤 (⋆ 𝓤 H A (‵ (fdead (ν ∷ [])) ∷ ‵ (Lent1 ν δ l) ∷ ‵ (finally u64 δ l′) ∷ []))
+      (⋆ 𝓤 H A (later (‵ (MutSlice (named 0) κ₀ u64 .own (ref1 γ1 l′) (sliceVal (b1, o1) t ∷ [])) ⊛ ‵ (flft κ₀ q₀)) ∷ []))) e
+      (comes-back u64 κ₀ (ν ∷ []) q₀ γ1 b1 o1 𝓤 H A W (named 0) ℓ l δ l′ (subst (Room u64) (sym e) room) e′)
 
   abbrev ref2 : GName → List ℕ → RefT (List ℕ)
   ref2 δ l = record { ptr = (b2, o2); name = δ; now = l }
@@ -145,45 +157,29 @@ module _ {M : Type 1} (𝓤 : URA M) (H : Heap 𝓤) (A : Atoms 𝓤) (W : Given
       (⋆ 𝓤 H A (later (‵ (MutSlice (named 2) κ₂ u64 .own (ref3 γ3 l′) (sliceVal (b3, o3) t ∷ [])) ⊛ ‵ (flft κ₂ q₂)) ∷ []))) e
       (comes-back u64 κ₂ (ν ∷ []) q₂ γ3 b3 o3 𝓤 H A W (named 2) ℓ l δ l′ (subst (Room u64) (sym e) room) e′)
 
-  abbrev ref4 : GName → List ℕ → RefT (List ℕ)
-  ref4 δ l = record { ptr = (b4, o4); name = δ; now = l }
-
   abbrev v4 : Val
-  v4 = sliceVal (b4, o4) (length ys4)
-
-  abbrev O4 : List ℕ → Fml
-  O4 l = MutSlice (named 3) κ₃ u64 .own (ref4 γ4 l) (v4 ∷ [])
-
-  abbrev Lent4 : ℕ → GName → List ℕ → Fml
-  Lent4 ν δ l = LentAgain u64 κ₃ (ν ∷ []) q₃ γ4 b4 o4 δ l
-
-  lends4 : (ℓ : Lifetime) (ν : ℕ) (l : List ℕ) → length l ≡ length ys4 → ent 𝓤 (⋆ 𝓤 H A (‵ (O4 l) ∷ ‵ (flft κ₃ q₃) ∷ [])) (⋆ 𝓤 H A (later (some (λ (δ : GName). ‵ (MutSlice ℓ (ν ∷ []) u64 .own (ref4 δ l) (v4 ∷ [])) ⊛ ‵ (Lent4 ν δ l))) ∷ []))
-  lends4 ℓ ν l e = subst (λ (t : ℕ). ent 𝓤 (⋆ 𝓤 H A (‵ (MutSlice (named 3) κ₃ u64 .own (ref4 γ4 l) (sliceVal (b4, o4) t ∷ [])) ∷ ‵ (flft κ₃ q₃) ∷ []))
-      (⋆ 𝓤 H A (later (some (λ (δ : GName). ‵ (MutSlice ℓ (ν ∷ []) u64 .own (ref4 δ l) (sliceVal (b4, o4) t ∷ [])) ⊛ ‵ (Lent4 ν δ l))) ∷ []))) e (lends-again u64 κ₃ (ν ∷ []) q₃ γ4 b4 o4 𝓤 H A W (named 3) ℓ l)
-
-  backs4 : (ℓ : Lifetime) (ν : ℕ) (δ : GName) (l l′ : List ℕ) → length l ≡ length ys4 → Room u64 (length ys4) → length l′ ≡ length l
-      → ent 𝓤 (⋆ 𝓤 H A (‵ (fdead (ν ∷ [])) ∷ ‵ (Lent4 ν δ l) ∷ ‵ (finally u64 δ l′) ∷ [])) (⋆ 𝓤 H A (later (‵ (O4 l′) ⊛ ‵ (flft κ₃ q₃)) ∷ []))
-  backs4 ℓ ν δ l l′ e room e′ = subst (λ (t : ℕ). ent 𝓤 (⋆ 𝓤 H A (‵ (fdead (ν ∷ [])) ∷ ‵ (Lent4 ν δ l) ∷ ‵ (finally u64 δ l′) ∷ []))
-      (⋆ 𝓤 H A (later (‵ (MutSlice (named 3) κ₃ u64 .own (ref4 γ4 l′) (sliceVal (b4, o4) t ∷ [])) ⊛ ‵ (flft κ₃ q₃)) ∷ []))) e
-      (comes-back u64 κ₃ (ν ∷ []) q₃ γ4 b4 o4 𝓤 H A W (named 3) ℓ l δ l′ (subst (Room u64) (sym e) room) e′)
+  v4 = u4
 
   abbrev v5 : Val
   v5 = u5
 
   abbrev v6 : Val
-  v6 = u6
+  v6 = sliceVal (s6 .ptr) (length (s6 .now))
+
+  abbrev O6 : Fml
+  O6 = ShrSlice (named 3) κ₃ u64 .own s6 (v6 ∷ [])
 
   abbrev v7 : Val
-  v7 = sliceVal (s7 .ptr) (length (s7 .now))
-
-  abbrev O7 : Fml
-  O7 = ShrSlice (named 4) κ₄ u64 .own s7 (v7 ∷ [])
+  v7 = u7
 
   abbrev v8 : Val
   v8 = u8
 
   abbrev v9 : Val
-  v9 = u9
+  v9 = sliceVal (s9 .ptr) (length (s9 .now))
+
+  abbrev O9 : Fml
+  O9 = ShrSlice (named 4) κ₄ mEntry.the-row .own s9 (v9 ∷ [])
 
   abbrev v10 : Val
   v10 = sliceVal (s10 .ptr) (length (s10 .now))
@@ -219,7 +215,7 @@ module _ {M : Type 1} (𝓤 : URA M) (H : Heap 𝓤) (A : Atoms 𝓤) (W : Given
   v15 = sliceVal (s15 .ptr) (length (s15 .now))
 
   abbrev O15 : Fml
-  O15 = ShrSlice (named 10) κ₁₀ mEntry.the-row .own s15 (v15 ∷ [])
+  O15 = ShrSlice (named 10) κ₁₀ u64 .own s15 (v15 ∷ [])
 
   abbrev v16 : Val
   v16 = sliceVal (s16 .ptr) (length (s16 .now))
@@ -228,79 +224,69 @@ module _ {M : Type 1} (𝓤 : URA M) (H : Heap 𝓤) (A : Atoms 𝓤) (W : Given
   O16 = ShrSlice (named 11) κ₁₁ u64 .own s16 (v16 ∷ [])
 
   abbrev v17 : Val
-  v17 = sliceVal (s17 .ptr) (length (s17 .now))
-
-  abbrev O17 : Fml
-  O17 = ShrSlice (named 12) κ₁₂ u64 .own s17 (v17 ∷ [])
+  v17 = u17
 
   abbrev Arg : Type 0
-  Arg = (RefT Transcript × (RefT (List ℕ) × (RefT (List ℕ) × (RefT (List ℕ) × (ℕ × (ℕ × (RefT (List ℕ) × (ℕ × (ℕ × (RefT (List Entry) × (RefT (List Entry) × (RefT (List Entry) × (RefT (List Entry) × (RefT (List Entry) × (RefT (List Entry) × (RefT (List ℕ) × (RefT (List ℕ) × Unit {0})))))))))))))))))
+  Arg = (RefT (List ℕ) × (RefT (List ℕ) × (RefT (List ℕ) × (ℕ × (ℕ × (RefT (List ℕ) × (ℕ × (ℕ × (RefT (List Entry) × (RefT (List Entry) × (RefT (List Entry) × (RefT (List Entry) × (RefT (List Entry) × (RefT (List Entry) × (RefT (List ℕ) × (RefT (List ℕ) × (Transcript × Unit {0})))))))))))))))))
 
   abbrev a : Arg
-  a = (ref1 γ1 h1, (ref2 γ2 ys2, (ref3 γ3 ys3, (ref4 γ4 ys4, (n5, (n6, (s7, (n8, (n9, (s10, (s11, (s12, (s13, (s14, (s15, (s16, (s17, tt)))))))))))))))))
+  a = (ref1 γ1 ys1, (ref2 γ2 ys2, (ref3 γ3 ys3, (n4, (n5, (s6, (n7, (n8, (s9, (s10, (s11, (s12, (s13, (s14, (s15, (s16, (n17, tt)))))))))))))))))
 
   abbrev at : (List Val × (List Val × (List Val × (List Val × (List Val × (List Val × (List Val × (List Val × (List Val × (List Val × (List Val × (List Val × (List Val × (List Val × (List Val × (List Val × (List Val × Unit {0})))))))))))))))))
   at = (v1 ∷ [], (v2 ∷ [], (v3 ∷ [], (v4 ∷ [], (v5 ∷ [], (v6 ∷ [], (v7 ∷ [], (v8 ∷ [], (v9 ∷ [], (v10 ∷ [], (v11 ∷ [], (v12 ∷ [], (v13 ∷ [], (v14 ∷ [], (v15 ∷ [], (v16 ∷ [], (v17 ∷ [], tt)))))))))))))))))
 
   abbrev Post : Val → SProp 𝓤
-  Post = walkOf 𝓤 H A f.ended stayed (f.clauses 𝓤 H A at-mem run) .post (((κ₀, (κ₁, (κ₂, (κ₃, (κ₄, (κ₅, (κ₆, (κ₇, (κ₈, (κ₉, (κ₁₀, (κ₁₁, (κ₁₂, tt))))))))))))), (q₀, (q₁, (q₂, (q₃, (q₄, (q₅, (q₆, (q₇, (q₈, (q₉, (q₁₀, (q₁₁, (q₁₂, tt))))))))))))), tt, a, at), tt)
+  Post = walkOf 𝓤 H A f.ended stayed (f.clauses 𝓤 H A at-mem run) .post (((κ₀, (κ₁, (κ₂, (κ₃, (κ₄, (κ₅, (κ₆, (κ₇, (κ₈, (κ₉, (κ₁₀, (κ₁₁, tt)))))))))))), (q₀, (q₁, (q₂, (q₃, (q₄, (q₅, (q₆, (q₇, (q₈, (q₉, (q₁₀, (q₁₁, tt)))))))))))), tt, a, at), tt)
 
-  module _ (C : Calls 𝓤 H) (Λ : Loops 𝓤 H) (fm : FmC 𝓤 H (W .laws) C) (known-g1 : Triple 𝓤 (C #g1) (Callee-g1 𝓤 H A at-mem run)) (known-g2 : Triple 𝓤 (C #g2) (Callee-g2 𝓤 H A at-mem run)) (room2 : Room u64 (length ys2)) (room3 : Room u64 (length ys3)) (room4 : Room u64 (length ys4)) (w5 : Is u64 n5 (u5 ∷ [])) (w6 : Is u64 n6 (u6 ∷ [])) (w7 : Is (ShrSlice (named 4) κ₄ u64) s7 (v7 ∷ [])) (w8 : Is u64 n8 (u8 ∷ [])) (w9 : Is u64 n9 (u9 ∷ [])) (w10 : Is (ShrSlice (named 5) κ₅ mEntry.the-row) s10 (v10 ∷ [])) (w11 : Is (ShrSlice (named 6) κ₆ mEntry.the-row) s11 (v11 ∷ [])) (w12 : Is (ShrSlice (named 7) κ₇ mEntry.the-row) s12 (v12 ∷ [])) (w13 : Is (ShrSlice (named 8) κ₈ mEntry.the-row) s13 (v13 ∷ [])) (w14 : Is (ShrSlice (named 9) κ₉ mEntry.the-row) s14 (v14 ∷ [])) (w15 : Is (ShrSlice (named 10) κ₁₀ mEntry.the-row) s15 (v15 ∷ [])) (w16 : Is (ShrSlice (named 11) κ₁₁ u64) s16 (v16 ∷ [])) (w17 : Is (ShrSlice (named 12) κ₁₂ u64) s17 (v17 ∷ [])) where
-    walk : ent 𝓤 (onEntry 𝓤 H A f.signature (κ₀, (κ₁, (κ₂, (κ₃, (κ₄, (κ₅, (κ₆, (κ₇, (κ₈, (κ₉, (κ₁₀, (κ₁₁, (κ₁₂, tt))))))))))))) (q₀, (q₁, (q₂, (q₃, (q₄, (q₅, (q₆, (q₇, (q₈, (q₉, (q₁₀, (q₁₁, (q₁₂, tt))))))))))))) a at) (WpFn 𝓤 H C Λ code.function (v1 ∷ v2 ∷ v3 ∷ v4 ∷ v5 ∷ v6 ∷ v7 ∷ v8 ∷ v9 ∷ v10 ∷ v11 ∷ v12 ∷ v13 ∷ v14 ∷ v15 ∷ v16 ∷ v17 ∷ []) Post)
+  module _ (C : Calls 𝓤 H) (Λ : Loops 𝓤 H) (fm : FmC 𝓤 H (W .laws) C) (known-g1 : Triple 𝓤 (C #g1) (Callee-g1 𝓤 H A at-mem run)) (known-g2 : Triple 𝓤 (C #g2) (Callee-g2 𝓤 H A at-mem run)) (room1 : Room u64 (length ys1)) (room2 : Room u64 (length ys2)) (room3 : Room u64 (length ys3)) (w4 : Is u64 n4 (u4 ∷ [])) (w5 : Is u64 n5 (u5 ∷ [])) (w6 : Is (ShrSlice (named 3) κ₃ u64) s6 (v6 ∷ [])) (w7 : Is u64 n7 (u7 ∷ [])) (w8 : Is u64 n8 (u8 ∷ [])) (w9 : Is (ShrSlice (named 4) κ₄ mEntry.the-row) s9 (v9 ∷ [])) (w10 : Is (ShrSlice (named 5) κ₅ mEntry.the-row) s10 (v10 ∷ [])) (w11 : Is (ShrSlice (named 6) κ₆ mEntry.the-row) s11 (v11 ∷ [])) (w12 : Is (ShrSlice (named 7) κ₇ mEntry.the-row) s12 (v12 ∷ [])) (w13 : Is (ShrSlice (named 8) κ₈ mEntry.the-row) s13 (v13 ∷ [])) (w14 : Is (ShrSlice (named 9) κ₉ mEntry.the-row) s14 (v14 ∷ [])) (w15 : Is (ShrSlice (named 10) κ₁₀ u64) s15 (v15 ∷ [])) (w16 : Is (ShrSlice (named 11) κ₁₁ u64) s16 (v16 ∷ [])) (w17 : Is mTranscript.the-row n17 (u17 ∷ [])) where
+    walk : ent 𝓤 (onEntry 𝓤 H A f.signature (κ₀, (κ₁, (κ₂, (κ₃, (κ₄, (κ₅, (κ₆, (κ₇, (κ₈, (κ₉, (κ₁₀, (κ₁₁, tt)))))))))))) (q₀, (q₁, (q₂, (q₃, (q₄, (q₅, (q₆, (q₇, (q₈, (q₉, (q₁₀, (q₁₁, tt)))))))))))) a at) (WpFn 𝓤 H C Λ code.function (v1 ∷ v2 ∷ v3 ∷ v4 ∷ v5 ∷ v6 ∷ v7 ∷ v8 ∷ v9 ∷ v10 ∷ v11 ∷ v12 ∷ v13 ∷ v14 ∷ v15 ∷ v16 ∷ v17 ∷ []) Post)
     walk =
-        qed W ((‵ (flft κ₀ q₀) ⊛ ‵ (flft κ₁ q₁) ⊛ ‵ (flft κ₂ q₂) ⊛ ‵ (flft κ₃ q₃) ⊛ ‵ (flft κ₄ q₄) ⊛ ‵ (flft κ₅ q₅) ⊛ ‵ (flft κ₆ q₆) ⊛ ‵ (flft κ₇ q₇) ⊛ ‵ (flft κ₈ q₈) ⊛ ‵ (flft κ₉ q₉) ⊛ ‵ (flft κ₁₀ q₁₀) ⊛ ‵ (flft κ₁₁ q₁₁) ⊛ ‵ (flft κ₁₂ q₁₂) ⊛ ‵ ftrue) ∷ ‵ (owns (MutRef (named 0) κ₀ mTranscript.the-row ∷ MutSlice (named 1) κ₁ u64 ∷ MutSlice (named 2) κ₂ u64 ∷ MutSlice (named 3) κ₃ u64 ∷ u64 ∷ u64 ∷ ShrSlice (named 4) κ₄ u64 ∷ u64 ∷ u64 ∷ ShrSlice (named 5) κ₅ mEntry.the-row ∷ ShrSlice (named 6) κ₆ mEntry.the-row ∷ ShrSlice (named 7) κ₇ mEntry.the-row ∷ ShrSlice (named 8) κ₈ mEntry.the-row ∷ ShrSlice (named 9) κ₉ mEntry.the-row ∷ ShrSlice (named 10) κ₁₀ mEntry.the-row ∷ ShrSlice (named 11) κ₁₁ u64 ∷ ShrSlice (named 12) κ₁₂ u64 ∷ []) a at) ∷ []) ∵ enter ! C Λ code.function (v1 ∷ v2 ∷ v3 ∷ v4 ∷ v5 ∷ v6 ∷ v7 ∷ v8 ∷ v9 ∷ v10 ∷ v11 ∷ v12 ∷ v13 ∷ v14 ∷ v15 ∷ v16 ∷ v17 ∷ []) _ $
-        alloc1 ! (λ l₀. alloc1 ! (λ l₁. alloc1 ! (λ l₂. alloc1 ! (λ l₃. alloc1 ! (λ l₄. alloc1 ! (λ l₅. alloc1 ! (λ l₆. alloc1 ! (λ l₇. alloc1 ! (λ l₈. alloc1 ! (λ l₉. alloc1 ! (λ l₁₀. alloc1 ! (λ l₁₁. alloc1 ! (λ l₁₂. alloc1 ! (λ l₁₃. alloc1 ! (λ l₁₄. alloc1 ! (λ l₁₅. alloc1 ! (λ l₁₆. alloc1 ! (λ l₁₇. alloc1 ! (λ l₁₈. alloc1 ! (λ l₁₉. alloc1 ! (λ l₂₀. alloc1 ! (λ l₂₁. alloc1 ! (λ l₂₂. alloc1 ! (λ l₂₃. alloc1 ! (λ l₂₄. alloc1 ! (λ l₂₅. alloc1 ! (λ l₂₆. alloc1 ! (λ l₂₇. alloc1 ! (λ l₂₈. alloc1 ! (λ l₂₉. alloc1 ! (λ l₃₀. alloc1 ! (λ l₃₁. alloc0 ! $ params1 ! $ pass1 ! (init ! 60 refl (tt, tt)) $ pass1 ! (init ! 58 refl (tt, (tt, (record { fits = room2 .0 }, tt)))) $ pass1 ! (init ! 56 refl (tt, (tt, (record { fits = room3 .0 }, tt)))) $ pass1 ! (init ! 54 refl (tt, (tt, (record { fits = room4 .0 }, tt)))) $ pass1 ! (init ! 52 refl (uint-lawful 𝓤 H A W w64 .typed n5 _ w5 .0)) $ pass1 ! (init ! 50 refl (uint-lawful 𝓤 H A W w64 .typed n6 _ w6 .0)) $ pass1 ! (init ! 48 refl (shr-slice-lawful 𝓤 H A W (named 4) κ₄ u64 .typed s7 (v7 ∷ []) w7 .0)) $ pass1 ! (init ! 46 refl (uint-lawful 𝓤 H A W w64 .typed n8 _ w8 .0)) $ pass1 ! (init ! 44 refl (uint-lawful 𝓤 H A W w64 .typed n9 _ w9 .0)) $ pass1 ! (init ! 42 refl (shr-slice-lawful 𝓤 H A W (named 5) κ₅ mEntry.the-row .typed s10 (v10 ∷ []) w10 .0)) $ pass1 ! (init ! 40 refl (shr-slice-lawful 𝓤 H A W (named 6) κ₆ mEntry.the-row .typed s11 (v11 ∷ []) w11 .0)) $ pass1 ! (init ! 38 refl (shr-slice-lawful 𝓤 H A W (named 7) κ₇ mEntry.the-row .typed s12 (v12 ∷ []) w12 .0)) $ pass1 ! (init ! 36 refl (shr-slice-lawful 𝓤 H A W (named 8) κ₈ mEntry.the-row .typed s13 (v13 ∷ []) w13 .0)) $ pass1 ! (init ! 34 refl (shr-slice-lawful 𝓤 H A W (named 9) κ₉ mEntry.the-row .typed s14 (v14 ∷ []) w14 .0)) $ pass1 ! (init ! 32 refl (shr-slice-lawful 𝓤 H A W (named 10) κ₁₀ mEntry.the-row .typed s15 (v15 ∷ []) w15 .0)) $ pass1 ! (init ! 30 refl (shr-slice-lawful 𝓤 H A W (named 11) κ₁₁ u64 .typed s16 (v16 ∷ []) w16 .0)) $ pass1 ! (init ! 28 refl (shr-slice-lawful 𝓤 H A W (named 12) κ₁₂ u64 .typed s17 (v17 ∷ []) w17 .0)) $ pass0 ! $ 
-        move ! (65 ∷ []) $ fsplit ! $ move ! (1 ∷ []) $ fsplit ! $ move ! (1 ∷ []) $ fsplit ! $ move ! (1 ∷ []) $ fsplit ! $ move ! (1 ∷ []) $ fsplit ! $ move ! (1 ∷ []) $ fsplit ! $ move ! (1 ∷ []) $ fsplit ! $ move ! (1 ∷ []) $ fsplit ! $ move ! (1 ∷ []) $ fsplit ! $ move ! (1 ∷ []) $ fsplit ! $ move ! (1 ∷ []) $ fsplit ! $ move ! (1 ∷ []) $ fsplit ! $ move ! (1 ∷ []) $ fsplit ! $ move ! (1 ∷ []) $ fsplit ! $ move ! (1 ∷ []) $ fsplit ! $ move ! (1 ∷ []) $ fsplit ! $ move ! (1 ∷ []) $ fsplit ! $ move ! (1 ∷ []) $ move ! (82 ∷ []) $ split ! $ move ! (1 ∷ []) $ split ! $ move ! (1 ∷ []) $ split ! $ move ! (1 ∷ []) $ split ! $ move ! (1 ∷ []) $ split ! $ move ! (1 ∷ []) $ split ! $ move ! (1 ∷ []) $ split ! $ move ! (1 ∷ []) $ split ! $ move ! (1 ∷ []) $ split ! $ move ! (1 ∷ []) $ split ! $ move ! (1 ∷ []) $ split ! $ move ! (1 ∷ []) $ split ! $ move ! (1 ∷ []) $ split ! $ move ! (1 ∷ []) $ 
-        assigns ! (of-opd ! (load ! (from ! (fld ! refl (stop !))) (look-in ! 80 (sub ! 1 refl (whole !))))) (from ! (stop !)) (init ! 58 refl (tt, record { fits = (w7 .0 .1 .0) })) $ 
-        assigns ! (addr ! (from ! (fld ! refl (hop ! (look-in ! 90 (sub ! 0 refl (whole !))) (stop !))))) (from ! (stop !)) (init ! 52 refl (tt, tt)) $ 
-        assigns ! (agg ! (and-then ! (load ! (from ! (stop !)) (look ! 52 refl)) (and-then ! (load ! (from ! (fld ! refl (stop !))) (look-in ! 90 (sub ! 1 refl (whole !)))) (no-more !)))) (from ! (stop !)) (init ! 50 refl (tt, (tt, (record { fits = room2 .0 }, tt)))) $ 
-        assigns ! (addr ! (from ! (fld ! refl (hop ! (look-in ! 86 (sub ! 0 refl (whole !))) (stop !))))) (from ! (stop !)) (init ! 48 refl (tt, tt)) $ 
-        assigns ! (agg ! (and-then ! (load ! (from ! (stop !)) (look ! 48 refl)) (and-then ! (load ! (from ! (fld ! refl (stop !))) (look-in ! 86 (sub ! 1 refl (whole !)))) (no-more !)))) (from ! (stop !)) (init ! 46 refl (tt, (tt, (record { fits = room4 .0 }, tt)))) $ 
-        move ! (31 ∷ []) $ fsplit3 ! $ drop ! $ move ! (0 ∷ 1 ∷ 15 ∷ []) $ opens ! tt mTranscript.the-row {h = h1} b1 o1 (λ vs. spelt ! mTranscript.the-row (Is mTranscript.the-row) (shows 𝓤 H A mTranscript.the-row) (LL.vals mTranscript.the-type lTranscript.the-laws) (LL.tells mTranscript.the-type lTranscript.the-laws) fullShare (h1) vs b1 o1 $ move ! (1 ∷ []) $ peeks ! mTranscript.the-row (Is mTranscript.the-row) (shows 𝓤 H A mTranscript.the-row) (h1) (LL.val mTranscript.the-type lTranscript.the-laws (h1) ∷ []) (λ w1o1. drop ! $ 
-        assigns ! (of-opd ! (load ! (from ! (hop ! (look ! 94 refl) (stop !))) (look-raw ! 0 refl))) (from ! (stop !)) (init ! 46 refl (LL.lawful mTranscript.the-type lTranscript.the-laws 𝓤 H A W .typed h1 _ w1o1 .0)) $ 
-        
-        lft-new ! tt (λ ν1a. move ! (34 ∷ 17 ∷ []) $ use2 W (later (some (λ (δ : GName). ‵ (MutSlice (named 0) (ν1a ∷ []) u64 .own (ref2 δ (ys2)) (v2 ∷ [])) ⊛ ‵ (Lent2 ν1a δ (ys2))))) (lends2 (named 0) ν1a (ys2) (refl)) $ await ! tt $ pick ! (λ δ1a. split ! $ 
-        lft-new ! tt (λ ν1b. move ! (34 ∷ 18 ∷ []) $ use2 W (later (some (λ (δ : GName). ‵ (MutSlice (named 1) (ν1b ∷ []) u64 .own (ref4 δ (ys4)) (v4 ∷ [])) ⊛ ‵ (Lent4 ν1b δ (ys4))))) (lends4 (named 1) ν1b (ys4) (refl)) $ await ! tt $ pick ! (λ δ1b. split ! $ move ! (29 ∷ []) $ use1 W (‵ (O10) ⊛ ‵ (O10)) (shr-slice-copy 𝓤 H A W (named 5) κ₅ mEntry.the-row .twice s10 (v10 ∷ [])) $ split ! $ move ! (30 ∷ []) $ use1 W (‵ (O11) ⊛ ‵ (O11)) (shr-slice-copy 𝓤 H A W (named 6) κ₆ mEntry.the-row .twice s11 (v11 ∷ [])) $ split ! $ move ! (31 ∷ []) $ use1 W (‵ (O12) ⊛ ‵ (O12)) (shr-slice-copy 𝓤 H A W (named 7) κ₇ mEntry.the-row .twice s12 (v12 ∷ [])) $ split ! $ move ! (32 ∷ []) $ use1 W (‵ (O13) ⊛ ‵ (O13)) (shr-slice-copy 𝓤 H A W (named 8) κ₈ mEntry.the-row .twice s13 (v13 ∷ [])) $ split ! $ move ! (33 ∷ []) $ use1 W (‵ (O14) ⊛ ‵ (O14)) (shr-slice-copy 𝓤 H A W (named 9) κ₉ mEntry.the-row .twice s14 (v14 ∷ [])) $ split ! $ move ! (34 ∷ []) $ use1 W (‵ (O15) ⊛ ‵ (O15)) (shr-slice-copy 𝓤 H A W (named 10) κ₁₀ mEntry.the-row .twice s15 (v15 ∷ [])) $ split ! $ move ! (35 ∷ []) $ use1 W (‵ (O16) ⊛ ‵ (O16)) (shr-slice-copy 𝓤 H A W (named 11) κ₁₁ u64 .twice s16 (v16 ∷ [])) $ split ! $ move ! (36 ∷ []) $ use1 W (‵ (O17) ⊛ ‵ (O17)) (shr-slice-copy 𝓤 H A W (named 12) κ₁₂ u64 .twice s17 (v17 ∷ [])) $ split ! $ nothing ! $ move ! (28 ∷ 0 ∷ []) $ join ! $ move ! (28 ∷ 0 ∷ []) $ join ! $ move ! (28 ∷ 0 ∷ []) $ join ! $ move ! (28 ∷ 0 ∷ []) $ join ! $ move ! (28 ∷ 0 ∷ []) $ join ! $ move ! (28 ∷ 0 ∷ []) $ join ! $ move ! (28 ∷ 0 ∷ []) $ join ! $ move ! (28 ∷ 0 ∷ []) $ join ! $ move ! (19 ∷ 0 ∷ []) $ join ! $ move ! (21 ∷ 0 ∷ []) $ join ! $ move ! (3 ∷ 1 ∷ []) $ join ! $ move ! (4 ∷ 0 ∷ []) $ join ! $ move ! (5 ∷ 0 ∷ []) $ join ! $ move ! (6 ∷ 0 ∷ []) $ join ! $ move ! (7 ∷ 0 ∷ []) $ join ! $ move ! (8 ∷ 0 ∷ []) $ join ! $ move ! (9 ∷ 0 ∷ []) $ join ! $ move ! (10 ∷ 0 ∷ []) $ join ! $ move ! (11 ∷ 0 ∷ []) $ join ! $ move ! (1 ∷ 0 ∷ []) $ join ! $ 
+        qed W ((‵ (flft κ₀ q₀) ⊛ ‵ (flft κ₁ q₁) ⊛ ‵ (flft κ₂ q₂) ⊛ ‵ (flft κ₃ q₃) ⊛ ‵ (flft κ₄ q₄) ⊛ ‵ (flft κ₅ q₅) ⊛ ‵ (flft κ₆ q₆) ⊛ ‵ (flft κ₇ q₇) ⊛ ‵ (flft κ₈ q₈) ⊛ ‵ (flft κ₉ q₉) ⊛ ‵ (flft κ₁₀ q₁₀) ⊛ ‵ (flft κ₁₁ q₁₁) ⊛ ‵ ftrue) ∷ ‵ (owns (MutSlice (named 0) κ₀ u64 ∷ MutSlice (named 1) κ₁ u64 ∷ MutSlice (named 2) κ₂ u64 ∷ u64 ∷ u64 ∷ ShrSlice (named 3) κ₃ u64 ∷ u64 ∷ u64 ∷ ShrSlice (named 4) κ₄ mEntry.the-row ∷ ShrSlice (named 5) κ₅ mEntry.the-row ∷ ShrSlice (named 6) κ₆ mEntry.the-row ∷ ShrSlice (named 7) κ₇ mEntry.the-row ∷ ShrSlice (named 8) κ₈ mEntry.the-row ∷ ShrSlice (named 9) κ₉ mEntry.the-row ∷ ShrSlice (named 10) κ₁₀ u64 ∷ ShrSlice (named 11) κ₁₁ u64 ∷ mTranscript.the-row ∷ []) a at) ∷ []) ∵ enter ! C Λ code.function (v1 ∷ v2 ∷ v3 ∷ v4 ∷ v5 ∷ v6 ∷ v7 ∷ v8 ∷ v9 ∷ v10 ∷ v11 ∷ v12 ∷ v13 ∷ v14 ∷ v15 ∷ v16 ∷ v17 ∷ []) _ $
+        alloc1 ! (λ l₀. alloc1 ! (λ l₁. alloc1 ! (λ l₂. alloc1 ! (λ l₃. alloc1 ! (λ l₄. alloc1 ! (λ l₅. alloc1 ! (λ l₆. alloc1 ! (λ l₇. alloc1 ! (λ l₈. alloc1 ! (λ l₉. alloc1 ! (λ l₁₀. alloc1 ! (λ l₁₁. alloc1 ! (λ l₁₂. alloc1 ! (λ l₁₃. alloc1 ! (λ l₁₄. alloc1 ! (λ l₁₅. alloc1 ! (λ l₁₆. alloc1 ! (λ l₁₇. alloc1 ! (λ l₁₈. alloc1 ! (λ l₁₉. alloc1 ! (λ l₂₀. alloc1 ! (λ l₂₁. alloc1 ! (λ l₂₂. alloc1 ! (λ l₂₃. alloc1 ! (λ l₂₄. alloc1 ! (λ l₂₅. alloc1 ! (λ l₂₆. alloc1 ! (λ l₂₇. alloc1 ! (λ l₂₈. alloc1 ! (λ l₂₉. alloc0 ! $ params1 ! $ pass1 ! (init ! 56 refl (tt, (tt, (record { fits = room1 .0 }, tt)))) $ pass1 ! (init ! 54 refl (tt, (tt, (record { fits = room2 .0 }, tt)))) $ pass1 ! (init ! 52 refl (tt, (tt, (record { fits = room3 .0 }, tt)))) $ pass1 ! (init ! 50 refl (uint-lawful 𝓤 H A W w64 .typed n4 _ w4 .0)) $ pass1 ! (init ! 48 refl (uint-lawful 𝓤 H A W w64 .typed n5 _ w5 .0)) $ pass1 ! (init ! 46 refl (shr-slice-lawful 𝓤 H A W (named 3) κ₃ u64 .typed s6 (v6 ∷ []) w6 .0)) $ pass1 ! (init ! 44 refl (uint-lawful 𝓤 H A W w64 .typed n7 _ w7 .0)) $ pass1 ! (init ! 42 refl (uint-lawful 𝓤 H A W w64 .typed n8 _ w8 .0)) $ pass1 ! (init ! 40 refl (shr-slice-lawful 𝓤 H A W (named 4) κ₄ mEntry.the-row .typed s9 (v9 ∷ []) w9 .0)) $ pass1 ! (init ! 38 refl (shr-slice-lawful 𝓤 H A W (named 5) κ₅ mEntry.the-row .typed s10 (v10 ∷ []) w10 .0)) $ pass1 ! (init ! 36 refl (shr-slice-lawful 𝓤 H A W (named 6) κ₆ mEntry.the-row .typed s11 (v11 ∷ []) w11 .0)) $ pass1 ! (init ! 34 refl (shr-slice-lawful 𝓤 H A W (named 7) κ₇ mEntry.the-row .typed s12 (v12 ∷ []) w12 .0)) $ pass1 ! (init ! 32 refl (shr-slice-lawful 𝓤 H A W (named 8) κ₈ mEntry.the-row .typed s13 (v13 ∷ []) w13 .0)) $ pass1 ! (init ! 30 refl (shr-slice-lawful 𝓤 H A W (named 9) κ₉ mEntry.the-row .typed s14 (v14 ∷ []) w14 .0)) $ pass1 ! (init ! 28 refl (shr-slice-lawful 𝓤 H A W (named 10) κ₁₀ u64 .typed s15 (v15 ∷ []) w15 .0)) $ pass1 ! (init ! 26 refl (shr-slice-lawful 𝓤 H A W (named 11) κ₁₁ u64 .typed s16 (v16 ∷ []) w16 .0)) $ pass1 ! (init ! 24 refl (LL.lawful mTranscript.the-type lTranscript.the-laws 𝓤 H A W .typed n17 _ w17 .0)) $ pass0 ! $
+        move ! (61 ∷ []) $ fsplit ! $ move ! (1 ∷ []) $ fsplit ! $ move ! (1 ∷ []) $ fsplit ! $ move ! (1 ∷ []) $ fsplit ! $ move ! (1 ∷ []) $ fsplit ! $ move ! (1 ∷ []) $ fsplit ! $ move ! (1 ∷ []) $ fsplit ! $ move ! (1 ∷ []) $ fsplit ! $ move ! (1 ∷ []) $ fsplit ! $ move ! (1 ∷ []) $ fsplit ! $ move ! (1 ∷ []) $ fsplit ! $ move ! (1 ∷ []) $ fsplit ! $ move ! (1 ∷ []) $ fsplit ! $ move ! (1 ∷ []) $ fsplit ! $ move ! (1 ∷ []) $ fsplit ! $ move ! (1 ∷ []) $ fsplit ! $ move ! (1 ∷ []) $ fsplit ! $ move ! (1 ∷ []) $ move ! (78 ∷ []) $ split ! $ move ! (1 ∷ []) $ split ! $ move ! (1 ∷ []) $ split ! $ move ! (1 ∷ []) $ split ! $ move ! (1 ∷ []) $ split ! $ move ! (1 ∷ []) $ split ! $ move ! (1 ∷ []) $ split ! $ move ! (1 ∷ []) $ split ! $ move ! (1 ∷ []) $ split ! $ move ! (1 ∷ []) $ split ! $ move ! (1 ∷ []) $ split ! $ move ! (1 ∷ []) $ split ! $ move ! (1 ∷ []) $
+        assigns ! (of-opd ! (load ! (from ! (fld ! refl (stop !))) (look-in ! 77 (sub ! 1 refl (whole !))))) (from ! (stop !)) (init ! 53 refl (tt, record { fits = (w6 .0 .1 .0) })) $
+        assigns ! (addr ! (from ! (fld ! refl (hop ! (look-in ! 87 (sub ! 0 refl (whole !))) (stop !))))) (from ! (stop !)) (init ! 49 refl (tt, tt)) $
+        assigns ! (agg ! (and-then ! (load ! (from ! (stop !)) (look ! 49 refl)) (and-then ! (load ! (from ! (fld ! refl (stop !))) (look-in ! 87 (sub ! 1 refl (whole !)))) (no-more !)))) (from ! (stop !)) (init ! 47 refl (tt, (tt, (record { fits = room1 .0 }, tt)))) $
+        assigns ! (addr ! (from ! (fld ! refl (hop ! (look-in ! 83 (sub ! 0 refl (whole !))) (stop !))))) (from ! (stop !)) (init ! 45 refl (tt, tt)) $
+        assigns ! (agg ! (and-then ! (load ! (from ! (stop !)) (look ! 45 refl)) (and-then ! (load ! (from ! (fld ! refl (stop !))) (look-in ! 83 (sub ! 1 refl (whole !)))) (no-more !)))) (from ! (stop !)) (init ! 43 refl (tt, (tt, (record { fits = room3 .0 }, tt)))) $
+        lft-new ! tt (λ ν1a. move ! (31 ∷ 13 ∷ []) $ use2 W (later (some (λ (δ : GName). ‵ (MutSlice (named 0) (ν1a ∷ []) u64 .own (ref1 δ (ys1)) (v1 ∷ [])) ⊛ ‵ (Lent1 ν1a δ (ys1))))) (lends1 (named 0) ν1a (ys1) (refl)) $ await ! tt $ pick ! (λ δ1a. split ! $
+        lft-new ! tt (λ ν1b. move ! (31 ∷ 14 ∷ []) $ use2 W (later (some (λ (δ : GName). ‵ (MutSlice (named 1) (ν1b ∷ []) u64 .own (ref3 δ (ys3)) (v3 ∷ [])) ⊛ ‵ (Lent3 ν1b δ (ys3))))) (lends3 (named 1) ν1b (ys3) (refl)) $ await ! tt $ pick ! (λ δ1b. split ! $ move ! (26 ∷ []) $ use1 W (‵ (O9) ⊛ ‵ (O9)) (shr-slice-copy 𝓤 H A W (named 4) κ₄ mEntry.the-row .twice s9 (v9 ∷ [])) $ split ! $ move ! (27 ∷ []) $ use1 W (‵ (O10) ⊛ ‵ (O10)) (shr-slice-copy 𝓤 H A W (named 5) κ₅ mEntry.the-row .twice s10 (v10 ∷ [])) $ split ! $ move ! (28 ∷ []) $ use1 W (‵ (O11) ⊛ ‵ (O11)) (shr-slice-copy 𝓤 H A W (named 6) κ₆ mEntry.the-row .twice s11 (v11 ∷ [])) $ split ! $ move ! (29 ∷ []) $ use1 W (‵ (O12) ⊛ ‵ (O12)) (shr-slice-copy 𝓤 H A W (named 7) κ₇ mEntry.the-row .twice s12 (v12 ∷ [])) $ split ! $ move ! (30 ∷ []) $ use1 W (‵ (O13) ⊛ ‵ (O13)) (shr-slice-copy 𝓤 H A W (named 8) κ₈ mEntry.the-row .twice s13 (v13 ∷ [])) $ split ! $ move ! (31 ∷ []) $ use1 W (‵ (O14) ⊛ ‵ (O14)) (shr-slice-copy 𝓤 H A W (named 9) κ₉ mEntry.the-row .twice s14 (v14 ∷ [])) $ split ! $ move ! (32 ∷ []) $ use1 W (‵ (O15) ⊛ ‵ (O15)) (shr-slice-copy 𝓤 H A W (named 10) κ₁₀ u64 .twice s15 (v15 ∷ [])) $ split ! $ move ! (33 ∷ []) $ use1 W (‵ (O16) ⊛ ‵ (O16)) (shr-slice-copy 𝓤 H A W (named 11) κ₁₁ u64 .twice s16 (v16 ∷ [])) $ split ! $ nothing ! $ move ! (24 ∷ 0 ∷ []) $ join ! $ move ! (24 ∷ 0 ∷ []) $ join ! $ move ! (24 ∷ 0 ∷ []) $ join ! $ move ! (24 ∷ 0 ∷ []) $ join ! $ move ! (24 ∷ 0 ∷ []) $ join ! $ move ! (24 ∷ 0 ∷ []) $ join ! $ move ! (24 ∷ 0 ∷ []) $ join ! $ move ! (24 ∷ 0 ∷ []) $ join ! $ move ! (19 ∷ 0 ∷ []) $ join ! $ move ! (21 ∷ 0 ∷ []) $ join ! $ move ! (3 ∷ 1 ∷ []) $ join ! $ move ! (4 ∷ 0 ∷ []) $ join ! $ move ! (5 ∷ 0 ∷ []) $ join ! $ move ! (6 ∷ 0 ∷ []) $ join ! $ move ! (7 ∷ 0 ∷ []) $ join ! $ move ! (8 ∷ 0 ∷ []) $ join ! $ move ! (9 ∷ 0 ∷ []) $ join ! $ move ! (10 ∷ 0 ∷ []) $ join ! $ move ! (11 ∷ 0 ∷ []) $ join ! $ move ! (1 ∷ 0 ∷ []) $ join ! $
         -- call 1
-        use1 W (raw (Callee-g1 𝓤 H A at-mem run .pre ((((ν1a ∷ []), ((ν1b ∷ []), (κ₅, (κ₆, (κ₇, (κ₈, (κ₉, (κ₁₀, (κ₁₁, (κ₁₂, tt)))))))))), (fullShare, (fullShare, (q₅, (q₆, (q₇, (q₈, (q₉, (q₁₀, (q₁₁, (q₁₂, tt)))))))))), tt, (ref2 δ1a (ys2), (ref4 δ1b (ys4), (n5, (n6, ((length (s7 .now)), (n8, (n9, (s10, (s11, (s12, (s13, (s14, (s15, (s16, (s17, (h1, tt)))))))))))))))), (v2 ∷ [], (v4 ∷ [], (u5 ∷ [], (u6 ∷ [], ((vint w64 (length (s7 .now))) ∷ [], (u8 ∷ [], (u9 ∷ [], (v10 ∷ [], (v11 ∷ [], (v12 ∷ [], (v13 ∷ [], (v14 ∷ [], (v15 ∷ [], (v16 ∷ [], (v17 ∷ [], ((LL.val mTranscript.the-type lTranscript.the-laws (h1)) ∷ [], tt))))))))))))))))), tt))) (qed W ((‵ (flft (ν1a ∷ []) fullShare) ⊛ ‵ (flft (ν1b ∷ []) fullShare) ⊛ ‵ (flft κ₅ q₅) ⊛ ‵ (flft κ₆ q₆) ⊛ ‵ (flft κ₇ q₇) ⊛ ‵ (flft κ₈ q₈) ⊛ ‵ (flft κ₉ q₉) ⊛ ‵ (flft κ₁₀ q₁₀) ⊛ ‵ (flft κ₁₁ q₁₁) ⊛ ‵ (flft κ₁₂ q₁₂) ⊛ ‵ ftrue) ∷ ‵ (MutSlice (named 0) (ν1a ∷ []) u64 .own (ref2 δ1a (ys2)) (v2 ∷ [])) ∷ ‵ (MutSlice (named 1) (ν1b ∷ []) u64 .own (ref4 δ1b (ys4)) (v4 ∷ [])) ∷ ‵ (ShrSlice (named 2) κ₅ mEntry.the-row .own s10 (v10 ∷ [])) ∷ ‵ (ShrSlice (named 3) κ₆ mEntry.the-row .own s11 (v11 ∷ [])) ∷ ‵ (ShrSlice (named 4) κ₇ mEntry.the-row .own s12 (v12 ∷ [])) ∷ ‵ (ShrSlice (named 5) κ₈ mEntry.the-row .own s13 (v13 ∷ [])) ∷ ‵ (ShrSlice (named 6) κ₉ mEntry.the-row .own s14 (v14 ∷ [])) ∷ ‵ (ShrSlice (named 7) κ₁₀ mEntry.the-row .own s15 (v15 ∷ [])) ∷ ‵ (ShrSlice (named 8) κ₁₁ u64 .own s16 (v16 ∷ [])) ∷ ‵ (ShrSlice (named 9) κ₁₂ u64 .own s17 (v17 ∷ [])) ∷ []) ∵ nothing ! $ owned ! mTranscript.the-row (Is mTranscript.the-row) (LL.makes mTranscript.the-type lTranscript.the-plain 𝓤 H A) (h1) _ w1o1 $ fjoin ! $ move ! (11 ∷ 0 ∷ []) $ fjoin ! $ move ! (10 ∷ 0 ∷ []) $ fjoin ! $ move ! (9 ∷ 0 ∷ []) $ fjoin ! $ move ! (8 ∷ 0 ∷ []) $ fjoin ! $ move ! (7 ∷ 0 ∷ []) $ fjoin ! $ move ! (6 ∷ 0 ∷ []) $ fjoin ! $ move ! (5 ∷ 0 ∷ []) $ fjoin ! $ move ! (4 ∷ 0 ∷ []) $ fjoin ! $ owned ! u64 (Is u64) (uint-makes 𝓤 H A W w64) (n9) _ w9 $ fjoin ! $ owned ! u64 (Is u64) (uint-makes 𝓤 H A W w64) (n8) _ w8 $ fjoin ! $ owned ! u64 (Is u64) (uint-makes 𝓤 H A W w64) ((length (s7 .now))) _ (refl, (w7 .0 .1 .0)) $ fjoin ! $ owned ! u64 (Is u64) (uint-makes 𝓤 H A W w64) (n6) _ w6 $ fjoin ! $ owned ! u64 (Is u64) (uint-makes 𝓤 H A W w64) (n5) _ w5 $ fjoin ! $ move ! (3 ∷ 0 ∷ []) $ fjoin ! $ move ! (2 ∷ 0 ∷ []) $ fjoin ! $ move ! (1 ∷ 0 ∷ []) $ join ! $ nothing ! $ move ! (1 ∷ 0 ∷ []) $ frame ! $ done !) $ 
-        calls-at ! fm (Callee-g1 𝓤 H A at-mem run) known-g1 ((((ν1a ∷ []), ((ν1b ∷ []), (κ₅, (κ₆, (κ₇, (κ₈, (κ₉, (κ₁₀, (κ₁₁, (κ₁₂, tt)))))))))), (fullShare, (fullShare, (q₅, (q₆, (q₇, (q₈, (q₉, (q₁₀, (q₁₁, (q₁₂, tt)))))))))), tt, (ref2 δ1a (ys2), (ref4 δ1b (ys4), (n5, (n6, ((length (s7 .now)), (n8, (n9, (s10, (s11, (s12, (s13, (s14, (s15, (s16, (s17, (h1, tt)))))))))))))))), (v2 ∷ [], (v4 ∷ [], (u5 ∷ [], (u6 ∷ [], ((vint w64 (length (s7 .now))) ∷ [], (u8 ∷ [], (u9 ∷ [], (v10 ∷ [], (v11 ∷ [], (v12 ∷ [], (v13 ∷ [], (v14 ∷ [], (v15 ∷ [], (v16 ∷ [], (v17 ∷ [], ((LL.val mTranscript.the-type lTranscript.the-laws (h1)) ∷ [], tt))))))))))))))))), tt) (and-then ! (load ! (from ! (stop !)) (look ! 43 refl)) (and-then ! (load ! (from ! (stop !)) (look ! 39 refl)) (and-then ! (load ! (from ! (stop !)) (look ! 77 refl)) (and-then ! (load ! (from ! (stop !)) (look ! 75 refl)) (and-then ! (load ! (from ! (stop !)) (look ! 51 refl)) (and-then ! (load ! (from ! (stop !)) (look ! 71 refl)) (and-then ! (load ! (from ! (stop !)) (look ! 69 refl)) (and-then ! (load ! (from ! (stop !)) (look ! 67 refl)) (and-then ! (load ! (from ! (stop !)) (look ! 65 refl)) (and-then ! (load ! (from ! (stop !)) (look ! 63 refl)) (and-then ! (load ! (from ! (stop !)) (look ! 61 refl)) (and-then ! (load ! (from ! (stop !)) (look ! 59 refl)) (and-then ! (load ! (from ! (stop !)) (look ! 57 refl)) (and-then ! (load ! (from ! (stop !)) (look ! 55 refl)) (and-then ! (load ! (from ! (stop !)) (look ! 53 refl)) (and-then ! (load ! (from ! (stop !)) (look ! 37 refl)) (no-more !))))))))))))))))) (λ z1. 
-        use1 W (later (some (λ (r1 : Drawn). ((‵ (flft (ν1a ∷ []) fullShare) ⊛ ‵ (flft (ν1b ∷ []) fullShare) ⊛ ‵ (flft κ₅ q₅) ⊛ ‵ (flft κ₆ q₆) ⊛ ‵ (flft κ₇ q₇) ⊛ ‵ (flft κ₈ q₈) ⊛ ‵ (flft κ₉ q₉) ⊛ ‵ (flft κ₁₀ q₁₀) ⊛ ‵ (flft κ₁₁ q₁₁) ⊛ ‵ (flft κ₁₂ q₁₂) ⊛ ‵ ftrue) ⊛ ‵ (mDrawn.the-row .own r1 (z1 ∷ []))) ⊛ some (λ (ws : Lasts g1.ended ((ν1a ∷ []), ((ν1b ∷ []), (κ₅, (κ₆, (κ₇, (κ₈, (κ₉, (κ₁₀, (κ₁₁, (κ₁₂, tt)))))))))) (ref2 δ1a (ys2), (ref4 δ1b (ys4), (n5, (n6, ((length (s7 .now)), (n8, (n9, (s10, (s11, (s12, (s13, (s14, (s15, (s16, (s17, (h1, tt))))))))))))))))). ‵ (lasts g1.ended ((ν1a ∷ []), ((ν1b ∷ []), (κ₅, (κ₆, (κ₇, (κ₈, (κ₉, (κ₁₀, (κ₁₁, (κ₁₂, tt)))))))))) (ref2 δ1a (ys2), (ref4 δ1b (ys4), (n5, (n6, ((length (s7 .now)), (n8, (n9, (s10, (s11, (s12, (s13, (s14, (s15, (s16, (s17, (h1, tt)))))))))))))))) ws) ⊛ raw (g1.clauses 𝓤 H A at-mem run ((ν1a ∷ []), ((ν1b ∷ []), (κ₅, (κ₆, (κ₇, (κ₈, (κ₉, (κ₁₀, (κ₁₁, (κ₁₂, tt)))))))))) (ref2 δ1a (ys2), (ref4 δ1b (ys4), (n5, (n6, ((length (s7 .now)), (n8, (n9, (s10, (s11, (s12, (s13, (s14, (s15, (s16, (s17, (h1, tt)))))))))))))))) .ensures tt r1 (atExit g1.ended ((ν1a ∷ []), ((ν1b ∷ []), (κ₅, (κ₆, (κ₇, (κ₈, (κ₉, (κ₁₀, (κ₁₁, (κ₁₂, tt)))))))))) (ref2 δ1a (ys2), (ref4 δ1b (ys4), (n5, (n6, ((length (s7 .now)), (n8, (n9, (s10, (s11, (s12, (s13, (s14, (s15, (s16, (s17, (h1, tt)))))))))))))))) ws)))))) (id⊢ 𝓤 _) $ await ! tt $ pick ! (λ r1. split ! $ move ! (1 ∷ []) $ pick ! (λ ws1. split ! $ move ! (1 ∷ []) $ heard ! _ (λ e1. 
-        fsplit ! $ fsplit ! $ move ! (1 ∷ []) $ feqL ! (λ same1a. move ! (1 ∷ []) $ fsplit ! $ fsplit ! $ move ! (1 ∷ []) $ feqL ! (λ same1b. move ! (1 ∷ []) $ fsplit ! $ move ! (1 ∷ []) $ fsplit ! $ move ! (1 ∷ []) $ fsplit ! $ move ! (1 ∷ []) $ fsplit ! $ move ! (1 ∷ []) $ fsplit ! $ move ! (1 ∷ []) $ fsplit ! $ move ! (1 ∷ []) $ fsplit ! $ move ! (1 ∷ []) $ fsplit ! $ move ! (1 ∷ []) $ fsplit ! $ move ! (1 ∷ []) $ fsplit ! $ move ! (1 ∷ []) $ fsplit ! $ move ! (1 ∷ []) $ fsplit ! $ move ! (1 ∷ []) $ fsplit ! $ move ! (1 ∷ []) $ fsplit ! $ move ! (17 ∷ []) $ split ! $ move ! (1 ∷ []) $ peeks ! mDrawn.the-row (Is mDrawn.the-row) (shows 𝓤 H A mDrawn.the-row) r1 (z1 ∷ []) (λ i1. drop ! $ land ! (from ! (stop !)) (init ! 66 refl (LL.lawful mDrawn.the-type lDrawn.the-laws 𝓤 H A W .typed r1 _ i1 .0)) $ 
-        split ! $ move ! (1 ∷ []) $ split ! $ move ! (1 ∷ []) $ split ! $ move ! (1 ∷ []) $ split ! $ move ! (1 ∷ []) $ split ! $ move ! (1 ∷ []) $ split ! $ move ! (1 ∷ []) $ split ! $ move ! (1 ∷ []) $ split ! $ move ! (1 ∷ []) $ split ! $ move ! (1 ∷ []) $ split ! $ move ! (1 ∷ []) $ move ! (10 ∷ []) $ lft-end ! tt $ move ! (0 ∷ 37 ∷ 27 ∷ []) $ use3 W (later (‵ (O2 (ws1 .0)) ⊛ ‵ (flft κ₁ q₁))) (backs2 (named 0) ν1a δ1a (ys2) (ws1 .0) (refl) room2 same1a) $ await ! tt $ split ! $ 
-        move ! (11 ∷ []) $ lft-end ! tt $ move ! (0 ∷ 36 ∷ 27 ∷ []) $ use3 W (later (‵ (O4 (ws1 .1 .0)) ⊛ ‵ (flft κ₃ q₃))) (backs4 (named 1) ν1b δ1b (ys4) (ws1 .1 .0) (refl) room4 same1b) $ await ! tt $ split ! $ 
-        assigns ! (addr ! (from ! (fld ! refl (hop ! (look-in ! 108 (sub ! 0 refl (whole !))) (stop !))))) (from ! (stop !)) (init ! 60 refl (tt, tt)) $ 
-        assigns ! (agg ! (and-then ! (load ! (from ! (stop !)) (look ! 60 refl)) (and-then ! (load ! (from ! (fld ! refl (stop !))) (look-in ! 108 (sub ! 1 refl (whole !)))) (no-more !)))) (from ! (stop !)) (init ! 58 refl (tt, (tt, (record { fits = room2 .0 }, tt)))) $ 
-        assigns ! (addr ! (from ! (fld ! refl (hop ! (look-in ! 106 (sub ! 0 refl (whole !))) (stop !))))) (from ! (stop !)) (init ! 56 refl (tt, tt)) $ 
-        assigns ! (agg ! (and-then ! (load ! (from ! (stop !)) (look ! 56 refl)) (and-then ! (load ! (from ! (fld ! refl (stop !))) (look-in ! 106 (sub ! 1 refl (whole !)))) (no-more !)))) (from ! (stop !)) (init ! 54 refl (tt, (tt, (record { fits = room3 .0 }, tt)))) $ 
-        assigns ! (addr ! (from ! (fld ! refl (hop ! (look-in ! 104 (sub ! 0 refl (whole !))) (stop !))))) (from ! (stop !)) (init ! 52 refl (tt, tt)) $ 
-        assigns ! (agg ! (and-then ! (load ! (from ! (stop !)) (look ! 52 refl)) (and-then ! (load ! (from ! (fld ! refl (stop !))) (look-in ! 104 (sub ! 1 refl (whole !)))) (no-more !)))) (from ! (stop !)) (init ! 50 refl (tt, (tt, (record { fits = room4 .0 }, tt)))) $ 
-        
-        lft-new ! tt (λ ν2a. move ! (3 ∷ 4 ∷ []) $ use2 W (later (some (λ (δ : GName). ‵ (MutSlice (named 0) (ν2a ∷ []) u64 .own (ref2 δ (ws1 .0)) (v2 ∷ [])) ⊛ ‵ (Lent2 ν2a δ (ws1 .0))))) (lends2 (named 0) ν2a (ws1 .0) (same1a)) $ await ! tt $ pick ! (λ δ2a. split ! $ 
-        lft-new ! tt (λ ν2b. move ! (51 ∷ 44 ∷ []) $ use2 W (later (some (λ (δ : GName). ‵ (MutSlice (named 1) (ν2b ∷ []) u64 .own (ref3 δ (ys3)) (v3 ∷ [])) ⊛ ‵ (Lent3 ν2b δ (ys3))))) (lends3 (named 1) ν2b (ys3) (refl)) $ await ! tt $ pick ! (λ δ2b. split ! $ 
-        lft-new ! tt (λ ν2c. move ! (7 ∷ 8 ∷ []) $ use2 W (later (some (λ (δ : GName). ‵ (MutSlice (named 2) (ν2c ∷ []) u64 .own (ref4 δ (ws1 .1 .0)) (v4 ∷ [])) ⊛ ‵ (Lent4 ν2c δ (ws1 .1 .0))))) (lends4 (named 2) ν2c (ws1 .1 .0) (same1b)) $ await ! tt $ pick ! (λ δ2c. split ! $ move ! (50 ∷ []) $ use1 W (‵ (O7) ⊛ ‵ (O7)) (shr-slice-copy 𝓤 H A W (named 4) κ₄ u64 .twice s7 (v7 ∷ [])) $ split ! $ move ! (36 ∷ []) $ use1 W (‵ (O16) ⊛ ‵ (O16)) (shr-slice-copy 𝓤 H A W (named 11) κ₁₁ u64 .twice s16 (v16 ∷ [])) $ split ! $ move ! (37 ∷ []) $ use1 W (‵ (O17) ⊛ ‵ (O17)) (shr-slice-copy 𝓤 H A W (named 12) κ₁₂ u64 .twice s17 (v17 ∷ [])) $ split ! $ nothing ! $ move ! (17 ∷ 0 ∷ []) $ join ! $ move ! (17 ∷ 0 ∷ []) $ join ! $ move ! (49 ∷ 0 ∷ []) $ join ! $ move ! (9 ∷ 0 ∷ []) $ join ! $ move ! (11 ∷ 0 ∷ []) $ join ! $ move ! (13 ∷ 0 ∷ []) $ join ! $ move ! (3 ∷ 1 ∷ []) $ join ! $ move ! (4 ∷ 0 ∷ []) $ join ! $ move ! (5 ∷ 0 ∷ []) $ join ! $ move ! (6 ∷ 0 ∷ []) $ join ! $ move ! (7 ∷ 0 ∷ []) $ join ! $ move ! (1 ∷ 0 ∷ []) $ join ! $ 
+        use1 W (raw (Callee-g1 𝓤 H A at-mem run .pre ((((ν1a ∷ []), ((ν1b ∷ []), (κ₄, (κ₅, (κ₆, (κ₇, (κ₈, (κ₉, (κ₁₀, (κ₁₁, tt)))))))))), (fullShare, (fullShare, (q₄, (q₅, (q₆, (q₇, (q₈, (q₉, (q₁₀, (q₁₁, tt)))))))))), tt, (ref1 δ1a (ys1), (ref3 δ1b (ys3), (n4, (n5, ((length (s6 .now)), (n7, (n8, (s9, (s10, (s11, (s12, (s13, (s14, (s15, (s16, (n17, tt)))))))))))))))), (v1 ∷ [], (v3 ∷ [], (u4 ∷ [], (u5 ∷ [], ((vint w64 (length (s6 .now))) ∷ [], (u7 ∷ [], (u8 ∷ [], (v9 ∷ [], (v10 ∷ [], (v11 ∷ [], (v12 ∷ [], (v13 ∷ [], (v14 ∷ [], (v15 ∷ [], (v16 ∷ [], (u17 ∷ [], tt))))))))))))))))), tt))) (qed W ((‵ (flft (ν1a ∷ []) fullShare) ⊛ ‵ (flft (ν1b ∷ []) fullShare) ⊛ ‵ (flft κ₄ q₄) ⊛ ‵ (flft κ₅ q₅) ⊛ ‵ (flft κ₆ q₆) ⊛ ‵ (flft κ₇ q₇) ⊛ ‵ (flft κ₈ q₈) ⊛ ‵ (flft κ₉ q₉) ⊛ ‵ (flft κ₁₀ q₁₀) ⊛ ‵ (flft κ₁₁ q₁₁) ⊛ ‵ ftrue) ∷ ‵ (MutSlice (named 0) (ν1a ∷ []) u64 .own (ref1 δ1a (ys1)) (v1 ∷ [])) ∷ ‵ (MutSlice (named 1) (ν1b ∷ []) u64 .own (ref3 δ1b (ys3)) (v3 ∷ [])) ∷ ‵ (ShrSlice (named 2) κ₄ mEntry.the-row .own s9 (v9 ∷ [])) ∷ ‵ (ShrSlice (named 3) κ₅ mEntry.the-row .own s10 (v10 ∷ [])) ∷ ‵ (ShrSlice (named 4) κ₆ mEntry.the-row .own s11 (v11 ∷ [])) ∷ ‵ (ShrSlice (named 5) κ₇ mEntry.the-row .own s12 (v12 ∷ [])) ∷ ‵ (ShrSlice (named 6) κ₈ mEntry.the-row .own s13 (v13 ∷ [])) ∷ ‵ (ShrSlice (named 7) κ₉ mEntry.the-row .own s14 (v14 ∷ [])) ∷ ‵ (ShrSlice (named 8) κ₁₀ u64 .own s15 (v15 ∷ [])) ∷ ‵ (ShrSlice (named 9) κ₁₁ u64 .own s16 (v16 ∷ [])) ∷ []) ∵ nothing ! $ owned ! mTranscript.the-row (Is mTranscript.the-row) (LL.makes mTranscript.the-type lTranscript.the-plain 𝓤 H A) (n17) _ w17 $ fjoin ! $ move ! (11 ∷ 0 ∷ []) $ fjoin ! $ move ! (10 ∷ 0 ∷ []) $ fjoin ! $ move ! (9 ∷ 0 ∷ []) $ fjoin ! $ move ! (8 ∷ 0 ∷ []) $ fjoin ! $ move ! (7 ∷ 0 ∷ []) $ fjoin ! $ move ! (6 ∷ 0 ∷ []) $ fjoin ! $ move ! (5 ∷ 0 ∷ []) $ fjoin ! $ move ! (4 ∷ 0 ∷ []) $ fjoin ! $ owned ! u64 (Is u64) (uint-makes 𝓤 H A W w64) (n8) _ w8 $ fjoin ! $ owned ! u64 (Is u64) (uint-makes 𝓤 H A W w64) (n7) _ w7 $ fjoin ! $ owned ! u64 (Is u64) (uint-makes 𝓤 H A W w64) ((length (s6 .now))) _ (refl, (w6 .0 .1 .0)) $ fjoin ! $ owned ! u64 (Is u64) (uint-makes 𝓤 H A W w64) (n5) _ w5 $ fjoin ! $ owned ! u64 (Is u64) (uint-makes 𝓤 H A W w64) (n4) _ w4 $ fjoin ! $ move ! (3 ∷ 0 ∷ []) $ fjoin ! $ move ! (2 ∷ 0 ∷ []) $ fjoin ! $ move ! (1 ∷ 0 ∷ []) $ join ! $ nothing ! $ move ! (1 ∷ 0 ∷ []) $ frame ! $ done !) $
+        calls-at ! fm (Callee-g1 𝓤 H A at-mem run) known-g1 ((((ν1a ∷ []), ((ν1b ∷ []), (κ₄, (κ₅, (κ₆, (κ₇, (κ₈, (κ₉, (κ₁₀, (κ₁₁, tt)))))))))), (fullShare, (fullShare, (q₄, (q₅, (q₆, (q₇, (q₈, (q₉, (q₁₀, (q₁₁, tt)))))))))), tt, (ref1 δ1a (ys1), (ref3 δ1b (ys3), (n4, (n5, ((length (s6 .now)), (n7, (n8, (s9, (s10, (s11, (s12, (s13, (s14, (s15, (s16, (n17, tt)))))))))))))))), (v1 ∷ [], (v3 ∷ [], (u4 ∷ [], (u5 ∷ [], ((vint w64 (length (s6 .now))) ∷ [], (u7 ∷ [], (u8 ∷ [], (v9 ∷ [], (v10 ∷ [], (v11 ∷ [], (v12 ∷ [], (v13 ∷ [], (v14 ∷ [], (v15 ∷ [], (v16 ∷ [], (u17 ∷ [], tt))))))))))))))))), tt) (and-then ! (load ! (from ! (stop !)) (look ! 38 refl)) (and-then ! (load ! (from ! (stop !)) (look ! 34 refl)) (and-then ! (load ! (from ! (stop !)) (look ! 72 refl)) (and-then ! (load ! (from ! (stop !)) (look ! 70 refl)) (and-then ! (load ! (from ! (stop !)) (look ! 44 refl)) (and-then ! (load ! (from ! (stop !)) (look ! 66 refl)) (and-then ! (load ! (from ! (stop !)) (look ! 64 refl)) (and-then ! (load ! (from ! (stop !)) (look ! 62 refl)) (and-then ! (load ! (from ! (stop !)) (look ! 60 refl)) (and-then ! (load ! (from ! (stop !)) (look ! 58 refl)) (and-then ! (load ! (from ! (stop !)) (look ! 56 refl)) (and-then ! (load ! (from ! (stop !)) (look ! 54 refl)) (and-then ! (load ! (from ! (stop !)) (look ! 52 refl)) (and-then ! (load ! (from ! (stop !)) (look ! 50 refl)) (and-then ! (load ! (from ! (stop !)) (look ! 48 refl)) (and-then ! (load ! (from ! (stop !)) (look ! 46 refl)) (no-more !))))))))))))))))) (λ z1.
+        use1 W (later (some (λ (r1 : Drawn). ((‵ (flft (ν1a ∷ []) fullShare) ⊛ ‵ (flft (ν1b ∷ []) fullShare) ⊛ ‵ (flft κ₄ q₄) ⊛ ‵ (flft κ₅ q₅) ⊛ ‵ (flft κ₆ q₆) ⊛ ‵ (flft κ₇ q₇) ⊛ ‵ (flft κ₈ q₈) ⊛ ‵ (flft κ₉ q₉) ⊛ ‵ (flft κ₁₀ q₁₀) ⊛ ‵ (flft κ₁₁ q₁₁) ⊛ ‵ ftrue) ⊛ ‵ (mDrawn.the-row .own r1 (z1 ∷ []))) ⊛ some (λ (ws : Lasts g1.ended ((ν1a ∷ []), ((ν1b ∷ []), (κ₄, (κ₅, (κ₆, (κ₇, (κ₈, (κ₉, (κ₁₀, (κ₁₁, tt)))))))))) (ref1 δ1a (ys1), (ref3 δ1b (ys3), (n4, (n5, ((length (s6 .now)), (n7, (n8, (s9, (s10, (s11, (s12, (s13, (s14, (s15, (s16, (n17, tt))))))))))))))))). ‵ (lasts g1.ended ((ν1a ∷ []), ((ν1b ∷ []), (κ₄, (κ₅, (κ₆, (κ₇, (κ₈, (κ₉, (κ₁₀, (κ₁₁, tt)))))))))) (ref1 δ1a (ys1), (ref3 δ1b (ys3), (n4, (n5, ((length (s6 .now)), (n7, (n8, (s9, (s10, (s11, (s12, (s13, (s14, (s15, (s16, (n17, tt)))))))))))))))) ws) ⊛ raw (g1.clauses 𝓤 H A at-mem run ((ν1a ∷ []), ((ν1b ∷ []), (κ₄, (κ₅, (κ₆, (κ₇, (κ₈, (κ₉, (κ₁₀, (κ₁₁, tt)))))))))) (ref1 δ1a (ys1), (ref3 δ1b (ys3), (n4, (n5, ((length (s6 .now)), (n7, (n8, (s9, (s10, (s11, (s12, (s13, (s14, (s15, (s16, (n17, tt)))))))))))))))) .ensures tt r1 (atExit g1.ended ((ν1a ∷ []), ((ν1b ∷ []), (κ₄, (κ₅, (κ₆, (κ₇, (κ₈, (κ₉, (κ₁₀, (κ₁₁, tt)))))))))) (ref1 δ1a (ys1), (ref3 δ1b (ys3), (n4, (n5, ((length (s6 .now)), (n7, (n8, (s9, (s10, (s11, (s12, (s13, (s14, (s15, (s16, (n17, tt)))))))))))))))) ws)))))) (id⊢ 𝓤 _) $ await ! tt $ pick ! (λ r1. split ! $ move ! (1 ∷ []) $ pick ! (λ ws1. split ! $ move ! (1 ∷ []) $ heard ! _ (λ e1.
+        fsplit ! $ fsplit ! $ move ! (1 ∷ []) $ feqL ! (λ same1a. move ! (1 ∷ []) $ fsplit ! $ fsplit ! $ move ! (1 ∷ []) $ feqL ! (λ same1b. move ! (1 ∷ []) $ fsplit ! $ move ! (1 ∷ []) $ fsplit ! $ move ! (1 ∷ []) $ fsplit ! $ move ! (1 ∷ []) $ fsplit ! $ move ! (1 ∷ []) $ fsplit ! $ move ! (1 ∷ []) $ fsplit ! $ move ! (1 ∷ []) $ fsplit ! $ move ! (1 ∷ []) $ fsplit ! $ move ! (1 ∷ []) $ fsplit ! $ move ! (1 ∷ []) $ fsplit ! $ move ! (1 ∷ []) $ fsplit ! $ move ! (1 ∷ []) $ fsplit ! $ move ! (1 ∷ []) $ fsplit ! $ move ! (1 ∷ []) $ fsplit ! $ move ! (17 ∷ []) $ split ! $ move ! (1 ∷ []) $ peeks ! mDrawn.the-row (Is mDrawn.the-row) (shows 𝓤 H A mDrawn.the-row) r1 (z1 ∷ []) (λ i1. drop ! $ land ! (from ! (stop !)) (init ! 59 refl (LL.lawful mDrawn.the-type lDrawn.the-laws 𝓤 H A W .typed r1 _ i1 .0)) $
+        split ! $ move ! (1 ∷ []) $ split ! $ move ! (1 ∷ []) $ split ! $ move ! (1 ∷ []) $ split ! $ move ! (1 ∷ []) $ split ! $ move ! (1 ∷ []) $ split ! $ move ! (1 ∷ []) $ split ! $ move ! (1 ∷ []) $ split ! $ move ! (1 ∷ []) $ split ! $ move ! (1 ∷ []) $ split ! $ move ! (1 ∷ []) $ move ! (10 ∷ []) $ lft-end ! tt $ move ! (0 ∷ 37 ∷ 27 ∷ []) $ use3 W (later (‵ (O1 (ws1 .0)) ⊛ ‵ (flft κ₀ q₀))) (backs1 (named 0) ν1a δ1a (ys1) (ws1 .0) (refl) room1 same1a) $ await ! tt $ split ! $
+        move ! (11 ∷ []) $ lft-end ! tt $ move ! (0 ∷ 36 ∷ 27 ∷ []) $ use3 W (later (‵ (O3 (ws1 .1 .0)) ⊛ ‵ (flft κ₂ q₂))) (backs3 (named 1) ν1b δ1b (ys3) (ws1 .1 .0) (refl) room3 same1b) $ await ! tt $ split ! $
+        assigns ! (addr ! (from ! (fld ! refl (hop ! (look-in ! 103 (sub ! 0 refl (whole !))) (stop !))))) (from ! (stop !)) (init ! 57 refl (tt, tt)) $
+        assigns ! (agg ! (and-then ! (load ! (from ! (stop !)) (look ! 57 refl)) (and-then ! (load ! (from ! (fld ! refl (stop !))) (look-in ! 103 (sub ! 1 refl (whole !)))) (no-more !)))) (from ! (stop !)) (init ! 55 refl (tt, (tt, (record { fits = room1 .0 }, tt)))) $
+        assigns ! (addr ! (from ! (fld ! refl (hop ! (look-in ! 101 (sub ! 0 refl (whole !))) (stop !))))) (from ! (stop !)) (init ! 53 refl (tt, tt)) $
+        assigns ! (agg ! (and-then ! (load ! (from ! (stop !)) (look ! 53 refl)) (and-then ! (load ! (from ! (fld ! refl (stop !))) (look-in ! 101 (sub ! 1 refl (whole !)))) (no-more !)))) (from ! (stop !)) (init ! 51 refl (tt, (tt, (record { fits = room2 .0 }, tt)))) $
+        assigns ! (addr ! (from ! (fld ! refl (hop ! (look-in ! 99 (sub ! 0 refl (whole !))) (stop !))))) (from ! (stop !)) (init ! 49 refl (tt, tt)) $
+        assigns ! (agg ! (and-then ! (load ! (from ! (stop !)) (look ! 49 refl)) (and-then ! (load ! (from ! (fld ! refl (stop !))) (look-in ! 99 (sub ! 1 refl (whole !)))) (no-more !)))) (from ! (stop !)) (init ! 47 refl (tt, (tt, (record { fits = room3 .0 }, tt)))) $
+        lft-new ! tt (λ ν2a. move ! (3 ∷ 4 ∷ []) $ use2 W (later (some (λ (δ : GName). ‵ (MutSlice (named 0) (ν2a ∷ []) u64 .own (ref1 δ (ws1 .0)) (v1 ∷ [])) ⊛ ‵ (Lent1 ν2a δ (ws1 .0))))) (lends1 (named 0) ν2a (ws1 .0) (same1a)) $ await ! tt $ pick ! (λ δ2a. split ! $
+        lft-new ! tt (λ ν2b. move ! (48 ∷ 40 ∷ []) $ use2 W (later (some (λ (δ : GName). ‵ (MutSlice (named 1) (ν2b ∷ []) u64 .own (ref2 δ (ys2)) (v2 ∷ [])) ⊛ ‵ (Lent2 ν2b δ (ys2))))) (lends2 (named 1) ν2b (ys2) (refl)) $ await ! tt $ pick ! (λ δ2b. split ! $
+        lft-new ! tt (λ ν2c. move ! (7 ∷ 8 ∷ []) $ use2 W (later (some (λ (δ : GName). ‵ (MutSlice (named 2) (ν2c ∷ []) u64 .own (ref3 δ (ws1 .1 .0)) (v3 ∷ [])) ⊛ ‵ (Lent3 ν2c δ (ws1 .1 .0))))) (lends3 (named 2) ν2c (ws1 .1 .0) (same1b)) $ await ! tt $ pick ! (λ δ2c. split ! $ move ! (47 ∷ []) $ use1 W (‵ (O6) ⊛ ‵ (O6)) (shr-slice-copy 𝓤 H A W (named 3) κ₃ u64 .twice s6 (v6 ∷ [])) $ split ! $ move ! (36 ∷ []) $ use1 W (‵ (O15) ⊛ ‵ (O15)) (shr-slice-copy 𝓤 H A W (named 10) κ₁₀ u64 .twice s15 (v15 ∷ [])) $ split ! $ move ! (37 ∷ []) $ use1 W (‵ (O16) ⊛ ‵ (O16)) (shr-slice-copy 𝓤 H A W (named 11) κ₁₁ u64 .twice s16 (v16 ∷ [])) $ split ! $ nothing ! $ move ! (17 ∷ 0 ∷ []) $ join ! $ move ! (17 ∷ 0 ∷ []) $ join ! $ move ! (45 ∷ 0 ∷ []) $ join ! $ move ! (9 ∷ 0 ∷ []) $ join ! $ move ! (11 ∷ 0 ∷ []) $ join ! $ move ! (13 ∷ 0 ∷ []) $ join ! $ move ! (3 ∷ 1 ∷ []) $ join ! $ move ! (4 ∷ 0 ∷ []) $ join ! $ move ! (5 ∷ 0 ∷ []) $ join ! $ move ! (6 ∷ 0 ∷ []) $ join ! $ move ! (7 ∷ 0 ∷ []) $ join ! $ move ! (1 ∷ 0 ∷ []) $ join ! $
         -- call 2
-        use1 W (raw (Callee-g2 𝓤 H A at-mem run .pre ((((ν2a ∷ []), ((ν2b ∷ []), ((ν2c ∷ []), (κ₄, (κ₁₁, (κ₁₂, tt)))))), (fullShare, (fullShare, (fullShare, (q₄, (q₁₁, (q₁₂, tt)))))), tt, (ref2 δ2a (ws1 .0), (ref3 δ2b (ys3), (ref4 δ2c (ws1 .1 .0), (n5, (n6, (n8, (n9, (s7, (s16, (s17, (r1, tt))))))))))), (v2 ∷ [], (v3 ∷ [], (v4 ∷ [], (u5 ∷ [], (u6 ∷ [], (u8 ∷ [], (u9 ∷ [], (v7 ∷ [], (v16 ∷ [], (v17 ∷ [], (z1 ∷ [], tt)))))))))))), tt))) (qed W ((‵ (flft (ν2a ∷ []) fullShare) ⊛ ‵ (flft (ν2b ∷ []) fullShare) ⊛ ‵ (flft (ν2c ∷ []) fullShare) ⊛ ‵ (flft κ₄ q₄) ⊛ ‵ (flft κ₁₁ q₁₁) ⊛ ‵ (flft κ₁₂ q₁₂) ⊛ ‵ ftrue) ∷ ‵ (MutSlice (named 0) (ν2a ∷ []) u64 .own (ref2 δ2a (ws1 .0)) (v2 ∷ [])) ∷ ‵ (MutSlice (named 1) (ν2b ∷ []) u64 .own (ref3 δ2b (ys3)) (v3 ∷ [])) ∷ ‵ (MutSlice (named 2) (ν2c ∷ []) u64 .own (ref4 δ2c (ws1 .1 .0)) (v4 ∷ [])) ∷ ‵ (ShrSlice (named 3) κ₄ u64 .own s7 (v7 ∷ [])) ∷ ‵ (ShrSlice (named 4) κ₁₁ u64 .own s16 (v16 ∷ [])) ∷ ‵ (ShrSlice (named 5) κ₁₂ u64 .own s17 (v17 ∷ [])) ∷ []) ∵ nothing ! $ owned ! mDrawn.the-row (Is mDrawn.the-row) (LL.makes mDrawn.the-type lDrawn.the-plain 𝓤 H A) (r1) _ i1 $ fjoin ! $ move ! (7 ∷ 0 ∷ []) $ fjoin ! $ move ! (6 ∷ 0 ∷ []) $ fjoin ! $ move ! (5 ∷ 0 ∷ []) $ fjoin ! $ owned ! u64 (Is u64) (uint-makes 𝓤 H A W w64) (n9) _ w9 $ fjoin ! $ owned ! u64 (Is u64) (uint-makes 𝓤 H A W w64) (n8) _ w8 $ fjoin ! $ owned ! u64 (Is u64) (uint-makes 𝓤 H A W w64) (n6) _ w6 $ fjoin ! $ owned ! u64 (Is u64) (uint-makes 𝓤 H A W w64) (n5) _ w5 $ fjoin ! $ move ! (4 ∷ 0 ∷ []) $ fjoin ! $ move ! (3 ∷ 0 ∷ []) $ fjoin ! $ move ! (2 ∷ 0 ∷ []) $ fjoin ! $ move ! (1 ∷ 0 ∷ []) $ join ! $ nothing ! $ move ! (1 ∷ 0 ∷ []) $ frame ! $ done !) $ 
-        calls-at ! fm (Callee-g2 𝓤 H A at-mem run) known-g2 ((((ν2a ∷ []), ((ν2b ∷ []), ((ν2c ∷ []), (κ₄, (κ₁₁, (κ₁₂, tt)))))), (fullShare, (fullShare, (fullShare, (q₄, (q₁₁, (q₁₂, tt)))))), tt, (ref2 δ2a (ws1 .0), (ref3 δ2b (ys3), (ref4 δ2c (ws1 .1 .0), (n5, (n6, (n8, (n9, (s7, (s16, (s17, (r1, tt))))))))))), (v2 ∷ [], (v3 ∷ [], (v4 ∷ [], (u5 ∷ [], (u6 ∷ [], (u8 ∷ [], (u9 ∷ [], (v7 ∷ [], (v16 ∷ [], (v17 ∷ [], (z1 ∷ [], tt)))))))))))), tt) (and-then ! (load ! (from ! (stop !)) (look ! 53 refl)) (and-then ! (load ! (from ! (stop !)) (look ! 49 refl)) (and-then ! (load ! (from ! (stop !)) (look ! 45 refl)) (and-then ! (load ! (from ! (stop !)) (look ! 97 refl)) (and-then ! (load ! (from ! (stop !)) (look ! 95 refl)) (and-then ! (load ! (from ! (stop !)) (look ! 91 refl)) (and-then ! (load ! (from ! (stop !)) (look ! 89 refl)) (and-then ! (load ! (from ! (stop !)) (look ! 93 refl)) (and-then ! (load ! (from ! (stop !)) (look ! 75 refl)) (and-then ! (load ! (from ! (stop !)) (look ! 73 refl)) (and-then ! (load ! (from ! (stop !)) (look ! 69 refl)) (no-more !)))))))))))) (λ z2. 
-        use1 W (later (some (λ (r2 : Transcript). ((‵ (flft (ν2a ∷ []) fullShare) ⊛ ‵ (flft (ν2b ∷ []) fullShare) ⊛ ‵ (flft (ν2c ∷ []) fullShare) ⊛ ‵ (flft κ₄ q₄) ⊛ ‵ (flft κ₁₁ q₁₁) ⊛ ‵ (flft κ₁₂ q₁₂) ⊛ ‵ ftrue) ⊛ ‵ (mTranscript.the-row .own r2 (z2 ∷ []))) ⊛ some (λ (ws : Lasts g2.ended ((ν2a ∷ []), ((ν2b ∷ []), ((ν2c ∷ []), (κ₄, (κ₁₁, (κ₁₂, tt)))))) (ref2 δ2a (ws1 .0), (ref3 δ2b (ys3), (ref4 δ2c (ws1 .1 .0), (n5, (n6, (n8, (n9, (s7, (s16, (s17, (r1, tt)))))))))))). ‵ (lasts g2.ended ((ν2a ∷ []), ((ν2b ∷ []), ((ν2c ∷ []), (κ₄, (κ₁₁, (κ₁₂, tt)))))) (ref2 δ2a (ws1 .0), (ref3 δ2b (ys3), (ref4 δ2c (ws1 .1 .0), (n5, (n6, (n8, (n9, (s7, (s16, (s17, (r1, tt))))))))))) ws) ⊛ raw (g2.clauses 𝓤 H A at-mem run ((ν2a ∷ []), ((ν2b ∷ []), ((ν2c ∷ []), (κ₄, (κ₁₁, (κ₁₂, tt)))))) (ref2 δ2a (ws1 .0), (ref3 δ2b (ys3), (ref4 δ2c (ws1 .1 .0), (n5, (n6, (n8, (n9, (s7, (s16, (s17, (r1, tt))))))))))) .ensures tt r2 (atExit g2.ended ((ν2a ∷ []), ((ν2b ∷ []), ((ν2c ∷ []), (κ₄, (κ₁₁, (κ₁₂, tt)))))) (ref2 δ2a (ws1 .0), (ref3 δ2b (ys3), (ref4 δ2c (ws1 .1 .0), (n5, (n6, (n8, (n9, (s7, (s16, (s17, (r1, tt))))))))))) ws)))))) (id⊢ 𝓤 _) $ await ! tt $ pick ! (λ r2. split ! $ move ! (1 ∷ []) $ pick ! (λ ws2. split ! $ move ! (1 ∷ []) $ heard ! _ (λ e2. 
-        fsplit ! $ fsplit ! $ move ! (1 ∷ []) $ feqL ! (λ same2a. move ! (1 ∷ []) $ fsplit ! $ fsplit ! $ move ! (1 ∷ []) $ feqL ! (λ same2b. move ! (1 ∷ []) $ fsplit ! $ fsplit ! $ move ! (1 ∷ []) $ feqL ! (λ same2c. move ! (1 ∷ []) $ fsplit ! $ move ! (1 ∷ []) $ fsplit ! $ move ! (1 ∷ []) $ fsplit ! $ move ! (1 ∷ []) $ fsplit ! $ move ! (1 ∷ []) $ fsplit ! $ move ! (1 ∷ []) $ fsplit ! $ move ! (1 ∷ []) $ fsplit ! $ move ! (1 ∷ []) $ fsplit ! $ move ! (12 ∷ []) $ split ! $ move ! (1 ∷ []) $ peeks ! mTranscript.the-row (Is mTranscript.the-row) (shows 𝓤 H A mTranscript.the-row) r2 (z2 ∷ []) (λ i2. drop ! $ land ! (from ! (stop !)) (init ! 79 refl (LL.lawful mTranscript.the-type lTranscript.the-laws 𝓤 H A W .typed r2 _ i2 .0)) $ 
-        split ! $ move ! (1 ∷ []) $ split ! $ move ! (1 ∷ []) $ split ! $ move ! (1 ∷ []) $ split ! $ move ! (1 ∷ []) $ split ! $ move ! (1 ∷ []) $ split ! $ move ! (1 ∷ []) $ move ! (6 ∷ []) $ lft-end ! tt $ move ! (0 ∷ 24 ∷ 18 ∷ []) $ use3 W (later (‵ (O2 (ws2 .0)) ⊛ ‵ (flft κ₁ q₁))) (backs2 (named 0) ν2a δ2a (ws1 .0) (ws2 .0) (same1a) room2 same2a) $ await ! tt $ split ! $ 
-        move ! (7 ∷ []) $ lft-end ! tt $ move ! (0 ∷ 23 ∷ 18 ∷ []) $ use3 W (later (‵ (O3 (ws2 .1 .0)) ⊛ ‵ (flft κ₂ q₂))) (backs3 (named 1) ν2b δ2b (ys3) (ws2 .1 .0) (refl) room3 same2b) $ await ! tt $ split ! $ 
-        move ! (8 ∷ []) $ lft-end ! tt $ move ! (0 ∷ 22 ∷ 18 ∷ []) $ use3 W (later (‵ (O4 (ws2 .1 .1 .0)) ⊛ ‵ (flft κ₃ q₃))) (backs4 (named 2) ν2c δ2c (ws1 .1 .0) (ws2 .1 .1 .0) (same1b) room4 same2c) $ await ! tt $ split ! $ 
-        assigns ! (of-opd ! (load ! (from ! (stop !)) (look ! 82 refl))) (from ! (hop ! (look ! 120 refl) (stop !))) (store-raw ! 50 refl (LL.lawful mTranscript.the-type lTranscript.the-laws 𝓤 H A W .typed r2 _ i2 .0)) $ 
-        assigns ! (of-opd ! (unit-lit !)) (from ! (stop !)) (init ! 122 refl (tt, tt)) $ 
-        owned ! mTranscript.the-row (Is mTranscript.the-row) (LL.makes mTranscript.the-type lTranscript.the-plain 𝓤 H A) (r2) _ i2 $ move ! (51 ∷ 0 ∷ 52 ∷ 53 ∷ 54 ∷ []) $ closes ! tt mTranscript.the-row (r2) (z2 ∷ []) b1 o1 $ feqI ! (List Val) (vptr b1 o1 ∷ []) (vptr b1 o1 ∷ []) refl $ fjoin3 ! $ 
-        returns ! (look ! 120 refl) $ forget ! 120 refl $ forget ! 118 refl $ forget ! 116 refl $ forget ! 114 refl $ forget ! 112 refl $ forget ! 110 refl $ forget ! 108 refl $ forget ! 106 refl $ forget ! 104 refl $ forget ! 102 refl $ forget ! 100 refl $ forget ! 98 refl $ forget ! 96 refl $ forget ! 94 refl $ forget ! 92 refl $ forget ! 90 refl $ forget ! 88 refl $ forget ! 86 refl $ forget ! 84 refl $ forget ! 82 refl $ forget ! 80 refl $ forget ! 78 refl $ forget ! 76 refl $ forget ! 74 refl $ forget ! 72 refl $ forget ! 70 refl $ forget ! 68 refl $ forget ! 66 refl $ forget ! 64 refl $ forget ! 62 refl $ forget ! 60 refl $ forget ! 58 refl $ 
-        move ! (120 ∷ 121 ∷ []) $ free1 ! $ move ! (118 ∷ 119 ∷ []) $ free1 ! $ move ! (116 ∷ 117 ∷ []) $ free1 ! $ move ! (114 ∷ 115 ∷ []) $ free1 ! $ move ! (112 ∷ 113 ∷ []) $ free1 ! $ move ! (110 ∷ 111 ∷ []) $ free1 ! $ move ! (108 ∷ 109 ∷ []) $ free1 ! $ move ! (106 ∷ 107 ∷ []) $ free1 ! $ move ! (104 ∷ 105 ∷ []) $ free1 ! $ move ! (102 ∷ 103 ∷ []) $ free1 ! $ move ! (100 ∷ 101 ∷ []) $ free1 ! $ move ! (98 ∷ 99 ∷ []) $ free1 ! $ move ! (96 ∷ 97 ∷ []) $ free1 ! $ move ! (94 ∷ 95 ∷ []) $ free1 ! $ move ! (92 ∷ 93 ∷ []) $ free1 ! $ move ! (90 ∷ 91 ∷ []) $ free1 ! $ move ! (88 ∷ 89 ∷ []) $ free1 ! $ move ! (86 ∷ 87 ∷ []) $ free1 ! $ move ! (84 ∷ 85 ∷ []) $ free1 ! $ move ! (82 ∷ 83 ∷ []) $ free1 ! $ move ! (80 ∷ 81 ∷ []) $ free1 ! $ move ! (78 ∷ 79 ∷ []) $ free1 ! $ move ! (76 ∷ 77 ∷ []) $ free1 ! $ move ! (74 ∷ 75 ∷ []) $ free1 ! $ move ! (72 ∷ 73 ∷ []) $ free1 ! $ move ! (70 ∷ 71 ∷ []) $ free1 ! $ move ! (68 ∷ 69 ∷ []) $ free1 ! $ move ! (66 ∷ 67 ∷ []) $ free1 ! $ move ! (64 ∷ 65 ∷ []) $ free1 ! $ move ! (62 ∷ 63 ∷ []) $ free1 ! $ move ! (60 ∷ 61 ∷ []) $ free1 ! $ move ! (58 ∷ 59 ∷ []) $ free1 ! $ free0 ! $ 
-        suffices ! _ (ends-at 𝓤 H A f.ended stayed (f.clauses 𝓤 H A at-mem run) W (((κ₀, (κ₁, (κ₂, (κ₃, (κ₄, (κ₅, (κ₆, (κ₇, (κ₈, (κ₉, (κ₁₀, (κ₁₁, (κ₁₂, tt))))))))))))), (q₀, (q₁, (q₂, (q₃, (q₄, (q₅, (q₆, (q₇, (q₈, (q₉, (q₁₀, (q₁₁, (q₁₂, tt))))))))))))), tt, a, at), tt) vunit tt (r2, (ws2 .0, (ws2 .1 .0, (ws2 .1 .1 .0, (tt, (tt, (tt, (tt, (tt, (tt, (tt, (tt, (tt, (tt, (tt, (tt, (tt, tt))))))))))))))))) (tt, (same2a ∙ same1a, (same2b, (same2c ∙ same1b, (tt, (tt, (tt, (tt, (tt, (tt, (tt, (tt, (tt, (tt, (tt, (tt, (tt, tt)))))))))))))))))) $ says ! (prove-in-is n8 n9 n5 n6 (s7 .now) (s10 .now) (s11 .now) (s12 .now) (s13 .now) (s14 .now) (s15 .now) (s16 .now) (s17 .now) ys2 ys3 ys4 h1 (r1 .«transcript») (r1 .«draws») (ws1 .0) (ws1 .1 .0) r2 (ws2 .0) (ws2 .1 .0) (ws2 .1 .1 .0) (e1 .0) (e1 .1) e2) $ 
-        nothing ! $ move ! (10 ∷ 0 ∷ []) $ join ! $ move ! (10 ∷ 0 ∷ []) $ join ! $ move ! (24 ∷ 0 ∷ []) $ join ! $ move ! (24 ∷ 0 ∷ []) $ join ! $ move ! (24 ∷ 0 ∷ []) $ join ! $ move ! (24 ∷ 0 ∷ []) $ join ! $ move ! (24 ∷ 0 ∷ []) $ join ! $ move ! (24 ∷ 0 ∷ []) $ join ! $ move ! (10 ∷ 0 ∷ []) $ join ! $ move ! (4 ∷ 0 ∷ []) $ join ! $ move ! (5 ∷ 0 ∷ []) $ join ! $ move ! (6 ∷ 0 ∷ []) $ join ! $ move ! (2 ∷ 0 ∷ []) $ join ! $ nothing ! $ move ! (16 ∷ 0 ∷ []) $ fjoin ! $ move ! (16 ∷ 0 ∷ []) $ fjoin ! $ move ! (33 ∷ 0 ∷ []) $ fjoin ! $ move ! (33 ∷ 0 ∷ []) $ fjoin ! $ move ! (33 ∷ 0 ∷ []) $ fjoin ! $ move ! (33 ∷ 0 ∷ []) $ fjoin ! $ move ! (33 ∷ 0 ∷ []) $ fjoin ! $ move ! (33 ∷ 0 ∷ []) $ fjoin ! $ move ! (35 ∷ 0 ∷ []) $ fjoin ! $ move ! (35 ∷ 0 ∷ []) $ fjoin ! $ move ! (16 ∷ 0 ∷ []) $ fjoin ! $ move ! (34 ∷ 0 ∷ []) $ fjoin ! $ move ! (34 ∷ 0 ∷ []) $ fjoin ! $ move ! (3 ∷ 0 ∷ []) $ fjoin ! $ move ! (3 ∷ 0 ∷ []) $ fjoin ! $ move ! (3 ∷ 0 ∷ []) $ fjoin ! $ move ! (2 ∷ 0 ∷ []) $ fjoin ! $ keep ! (1 ∷ 0 ∷ []) $ frame ! $ feqI ! (List Val) (vunit ∷ []) (vunit ∷ []) refl $ move ! (1 ∷ 0 ∷ []) $ done !)))))))))))))))))))))))))))))))))))))))))))))))))))))))))))
+        use1 W (raw (Callee-g2 𝓤 H A at-mem run .pre ((((ν2a ∷ []), ((ν2b ∷ []), ((ν2c ∷ []), (κ₃, (κ₁₀, (κ₁₁, tt)))))), (fullShare, (fullShare, (fullShare, (q₃, (q₁₀, (q₁₁, tt)))))), tt, (ref1 δ2a (ws1 .0), (ref2 δ2b (ys2), (ref3 δ2c (ws1 .1 .0), (n4, (n5, (n7, (n8, (s6, (s15, (s16, (r1, tt))))))))))), (v1 ∷ [], (v2 ∷ [], (v3 ∷ [], (u4 ∷ [], (u5 ∷ [], (u7 ∷ [], (u8 ∷ [], (v6 ∷ [], (v15 ∷ [], (v16 ∷ [], (z1 ∷ [], tt)))))))))))), tt))) (qed W ((‵ (flft (ν2a ∷ []) fullShare) ⊛ ‵ (flft (ν2b ∷ []) fullShare) ⊛ ‵ (flft (ν2c ∷ []) fullShare) ⊛ ‵ (flft κ₃ q₃) ⊛ ‵ (flft κ₁₀ q₁₀) ⊛ ‵ (flft κ₁₁ q₁₁) ⊛ ‵ ftrue) ∷ ‵ (MutSlice (named 0) (ν2a ∷ []) u64 .own (ref1 δ2a (ws1 .0)) (v1 ∷ [])) ∷ ‵ (MutSlice (named 1) (ν2b ∷ []) u64 .own (ref2 δ2b (ys2)) (v2 ∷ [])) ∷ ‵ (MutSlice (named 2) (ν2c ∷ []) u64 .own (ref3 δ2c (ws1 .1 .0)) (v3 ∷ [])) ∷ ‵ (ShrSlice (named 3) κ₃ u64 .own s6 (v6 ∷ [])) ∷ ‵ (ShrSlice (named 4) κ₁₀ u64 .own s15 (v15 ∷ [])) ∷ ‵ (ShrSlice (named 5) κ₁₁ u64 .own s16 (v16 ∷ [])) ∷ []) ∵ nothing ! $ owned ! mDrawn.the-row (Is mDrawn.the-row) (LL.makes mDrawn.the-type lDrawn.the-plain 𝓤 H A) (r1) _ i1 $ fjoin ! $ move ! (7 ∷ 0 ∷ []) $ fjoin ! $ move ! (6 ∷ 0 ∷ []) $ fjoin ! $ move ! (5 ∷ 0 ∷ []) $ fjoin ! $ owned ! u64 (Is u64) (uint-makes 𝓤 H A W w64) (n8) _ w8 $ fjoin ! $ owned ! u64 (Is u64) (uint-makes 𝓤 H A W w64) (n7) _ w7 $ fjoin ! $ owned ! u64 (Is u64) (uint-makes 𝓤 H A W w64) (n5) _ w5 $ fjoin ! $ owned ! u64 (Is u64) (uint-makes 𝓤 H A W w64) (n4) _ w4 $ fjoin ! $ move ! (4 ∷ 0 ∷ []) $ fjoin ! $ move ! (3 ∷ 0 ∷ []) $ fjoin ! $ move ! (2 ∷ 0 ∷ []) $ fjoin ! $ move ! (1 ∷ 0 ∷ []) $ join ! $ nothing ! $ move ! (1 ∷ 0 ∷ []) $ frame ! $ done !) $
+        calls-at ! fm (Callee-g2 𝓤 H A at-mem run) known-g2 ((((ν2a ∷ []), ((ν2b ∷ []), ((ν2c ∷ []), (κ₃, (κ₁₀, (κ₁₁, tt)))))), (fullShare, (fullShare, (fullShare, (q₃, (q₁₀, (q₁₁, tt)))))), tt, (ref1 δ2a (ws1 .0), (ref2 δ2b (ys2), (ref3 δ2c (ws1 .1 .0), (n4, (n5, (n7, (n8, (s6, (s15, (s16, (r1, tt))))))))))), (v1 ∷ [], (v2 ∷ [], (v3 ∷ [], (u4 ∷ [], (u5 ∷ [], (u7 ∷ [], (u8 ∷ [], (v6 ∷ [], (v15 ∷ [], (v16 ∷ [], (z1 ∷ [], tt)))))))))))), tt) (and-then ! (load ! (from ! (stop !)) (look ! 50 refl)) (and-then ! (load ! (from ! (stop !)) (look ! 46 refl)) (and-then ! (load ! (from ! (stop !)) (look ! 42 refl)) (and-then ! (load ! (from ! (stop !)) (look ! 92 refl)) (and-then ! (load ! (from ! (stop !)) (look ! 90 refl)) (and-then ! (load ! (from ! (stop !)) (look ! 86 refl)) (and-then ! (load ! (from ! (stop !)) (look ! 84 refl)) (and-then ! (load ! (from ! (stop !)) (look ! 88 refl)) (and-then ! (load ! (from ! (stop !)) (look ! 70 refl)) (and-then ! (load ! (from ! (stop !)) (look ! 68 refl)) (and-then ! (load ! (from ! (stop !)) (look ! 62 refl)) (no-more !)))))))))))) (λ z2.
+        use1 W (later (some (λ (r2 : Transcript). ((‵ (flft (ν2a ∷ []) fullShare) ⊛ ‵ (flft (ν2b ∷ []) fullShare) ⊛ ‵ (flft (ν2c ∷ []) fullShare) ⊛ ‵ (flft κ₃ q₃) ⊛ ‵ (flft κ₁₀ q₁₀) ⊛ ‵ (flft κ₁₁ q₁₁) ⊛ ‵ ftrue) ⊛ ‵ (mTranscript.the-row .own r2 (z2 ∷ []))) ⊛ some (λ (ws : Lasts g2.ended ((ν2a ∷ []), ((ν2b ∷ []), ((ν2c ∷ []), (κ₃, (κ₁₀, (κ₁₁, tt)))))) (ref1 δ2a (ws1 .0), (ref2 δ2b (ys2), (ref3 δ2c (ws1 .1 .0), (n4, (n5, (n7, (n8, (s6, (s15, (s16, (r1, tt)))))))))))). ‵ (lasts g2.ended ((ν2a ∷ []), ((ν2b ∷ []), ((ν2c ∷ []), (κ₃, (κ₁₀, (κ₁₁, tt)))))) (ref1 δ2a (ws1 .0), (ref2 δ2b (ys2), (ref3 δ2c (ws1 .1 .0), (n4, (n5, (n7, (n8, (s6, (s15, (s16, (r1, tt))))))))))) ws) ⊛ raw (g2.clauses 𝓤 H A at-mem run ((ν2a ∷ []), ((ν2b ∷ []), ((ν2c ∷ []), (κ₃, (κ₁₀, (κ₁₁, tt)))))) (ref1 δ2a (ws1 .0), (ref2 δ2b (ys2), (ref3 δ2c (ws1 .1 .0), (n4, (n5, (n7, (n8, (s6, (s15, (s16, (r1, tt))))))))))) .ensures tt r2 (atExit g2.ended ((ν2a ∷ []), ((ν2b ∷ []), ((ν2c ∷ []), (κ₃, (κ₁₀, (κ₁₁, tt)))))) (ref1 δ2a (ws1 .0), (ref2 δ2b (ys2), (ref3 δ2c (ws1 .1 .0), (n4, (n5, (n7, (n8, (s6, (s15, (s16, (r1, tt))))))))))) ws)))))) (id⊢ 𝓤 _) $ await ! tt $ pick ! (λ r2. split ! $ move ! (1 ∷ []) $ pick ! (λ ws2. split ! $ move ! (1 ∷ []) $ heard ! _ (λ e2.
+        fsplit ! $ fsplit ! $ move ! (1 ∷ []) $ feqL ! (λ same2a. move ! (1 ∷ []) $ fsplit ! $ fsplit ! $ move ! (1 ∷ []) $ feqL ! (λ same2b. move ! (1 ∷ []) $ fsplit ! $ fsplit ! $ move ! (1 ∷ []) $ feqL ! (λ same2c. move ! (1 ∷ []) $ fsplit ! $ move ! (1 ∷ []) $ fsplit ! $ move ! (1 ∷ []) $ fsplit ! $ move ! (1 ∷ []) $ fsplit ! $ move ! (1 ∷ []) $ fsplit ! $ move ! (1 ∷ []) $ fsplit ! $ move ! (1 ∷ []) $ fsplit ! $ move ! (1 ∷ []) $ fsplit ! $ move ! (12 ∷ []) $ split ! $ move ! (1 ∷ []) $ peeks ! mTranscript.the-row (Is mTranscript.the-row) (shows 𝓤 H A mTranscript.the-row) r2 (z2 ∷ []) (λ i2. drop ! $ land ! (from ! (stop !)) (init ! 112 refl (LL.lawful mTranscript.the-type lTranscript.the-laws 𝓤 H A W .typed r2 _ i2 .0)) $
+        split ! $ move ! (1 ∷ []) $ split ! $ move ! (1 ∷ []) $ split ! $ move ! (1 ∷ []) $ split ! $ move ! (1 ∷ []) $ split ! $ move ! (1 ∷ []) $ split ! $ move ! (1 ∷ []) $ move ! (6 ∷ []) $ lft-end ! tt $ move ! (0 ∷ 24 ∷ 18 ∷ []) $ use3 W (later (‵ (O1 (ws2 .0)) ⊛ ‵ (flft κ₀ q₀))) (backs1 (named 0) ν2a δ2a (ws1 .0) (ws2 .0) (same1a) room1 same2a) $ await ! tt $ split ! $
+        move ! (7 ∷ []) $ lft-end ! tt $ move ! (0 ∷ 23 ∷ 18 ∷ []) $ use3 W (later (‵ (O2 (ws2 .1 .0)) ⊛ ‵ (flft κ₁ q₁))) (backs2 (named 1) ν2b δ2b (ys2) (ws2 .1 .0) (refl) room2 same2b) $ await ! tt $ split ! $
+        move ! (8 ∷ []) $ lft-end ! tt $ move ! (0 ∷ 22 ∷ 18 ∷ []) $ use3 W (later (‵ (O3 (ws2 .1 .1 .0)) ⊛ ‵ (flft κ₂ q₂))) (backs3 (named 2) ν2c δ2c (ws1 .1 .0) (ws2 .1 .1 .0) (same1b) room3 same2c) $ await ! tt $ split ! $
+        returns ! (look ! 115 refl) $ forget ! 115 refl $ forget ! 113 refl $ forget ! 111 refl $ forget ! 109 refl $ forget ! 107 refl $ forget ! 105 refl $ forget ! 103 refl $ forget ! 101 refl $ forget ! 99 refl $ forget ! 97 refl $ forget ! 95 refl $ forget ! 93 refl $ forget ! 91 refl $ forget ! 89 refl $ forget ! 87 refl $ forget ! 85 refl $ forget ! 83 refl $ forget ! 81 refl $ forget ! 79 refl $ forget ! 77 refl $ forget ! 75 refl $ forget ! 73 refl $ forget ! 71 refl $ forget ! 69 refl $ forget ! 67 refl $ forget ! 65 refl $ forget ! 63 refl $ forget ! 61 refl $ forget ! 59 refl $ forget ! 57 refl $
+        move ! (115 ∷ 116 ∷ []) $ free1 ! $ move ! (113 ∷ 114 ∷ []) $ free1 ! $ move ! (111 ∷ 112 ∷ []) $ free1 ! $ move ! (109 ∷ 110 ∷ []) $ free1 ! $ move ! (107 ∷ 108 ∷ []) $ free1 ! $ move ! (105 ∷ 106 ∷ []) $ free1 ! $ move ! (103 ∷ 104 ∷ []) $ free1 ! $ move ! (101 ∷ 102 ∷ []) $ free1 ! $ move ! (99 ∷ 100 ∷ []) $ free1 ! $ move ! (97 ∷ 98 ∷ []) $ free1 ! $ move ! (95 ∷ 96 ∷ []) $ free1 ! $ move ! (93 ∷ 94 ∷ []) $ free1 ! $ move ! (91 ∷ 92 ∷ []) $ free1 ! $ move ! (89 ∷ 90 ∷ []) $ free1 ! $ move ! (87 ∷ 88 ∷ []) $ free1 ! $ move ! (85 ∷ 86 ∷ []) $ free1 ! $ move ! (83 ∷ 84 ∷ []) $ free1 ! $ move ! (81 ∷ 82 ∷ []) $ free1 ! $ move ! (79 ∷ 80 ∷ []) $ free1 ! $ move ! (77 ∷ 78 ∷ []) $ free1 ! $ move ! (75 ∷ 76 ∷ []) $ free1 ! $ move ! (73 ∷ 74 ∷ []) $ free1 ! $ move ! (71 ∷ 72 ∷ []) $ free1 ! $ move ! (69 ∷ 70 ∷ []) $ free1 ! $ move ! (67 ∷ 68 ∷ []) $ free1 ! $ move ! (65 ∷ 66 ∷ []) $ free1 ! $ move ! (63 ∷ 64 ∷ []) $ free1 ! $ move ! (61 ∷ 62 ∷ []) $ free1 ! $ move ! (59 ∷ 60 ∷ []) $ free1 ! $ move ! (57 ∷ 58 ∷ []) $ free1 ! $ free0 ! $
+        suffices ! _ (ends-at 𝓤 H A f.ended stayed (f.clauses 𝓤 H A at-mem run) W (((κ₀, (κ₁, (κ₂, (κ₃, (κ₄, (κ₅, (κ₆, (κ₇, (κ₈, (κ₉, (κ₁₀, (κ₁₁, tt)))))))))))), (q₀, (q₁, (q₂, (q₃, (q₄, (q₅, (q₆, (q₇, (q₈, (q₉, (q₁₀, (q₁₁, tt)))))))))))), tt, a, at), tt) z2 r2 (ws2 .0, (ws2 .1 .0, (ws2 .1 .1 .0, (tt, (tt, (tt, (tt, (tt, (tt, (tt, (tt, (tt, (tt, (tt, (tt, (tt, (tt, tt))))))))))))))))) (same2a ∙ same1a, (same2b, (same2c ∙ same1b, (tt, (tt, (tt, (tt, (tt, (tt, (tt, (tt, (tt, (tt, (tt, (tt, (tt, (tt, tt)))))))))))))))))) $ says ! (prove-in-is n7 n8 n4 n5 (s6 .now) (s9 .now) (s10 .now) (s11 .now) (s12 .now) (s13 .now) (s14 .now) (s15 .now) (s16 .now) ys1 ys2 ys3 n17 (r1 .«transcript») (r1 .«draws») (ws1 .0) (ws1 .1 .0) r2 (ws2 .0) (ws2 .1 .0) (ws2 .1 .1 .0) (e1 .0) (e1 .1) e2) $
+        nothing ! $ move ! (8 ∷ 0 ∷ []) $ join ! $ move ! (8 ∷ 0 ∷ []) $ join ! $ move ! (22 ∷ 0 ∷ []) $ join ! $ move ! (22 ∷ 0 ∷ []) $ join ! $ move ! (22 ∷ 0 ∷ []) $ join ! $ move ! (22 ∷ 0 ∷ []) $ join ! $ move ! (22 ∷ 0 ∷ []) $ join ! $ move ! (22 ∷ 0 ∷ []) $ join ! $ move ! (8 ∷ 0 ∷ []) $ join ! $ move ! (2 ∷ 0 ∷ []) $ join ! $ move ! (3 ∷ 0 ∷ []) $ join ! $ move ! (4 ∷ 0 ∷ []) $ join ! $ nothing ! $ move ! (42 ∷ 0 ∷ []) $ fjoin ! $ move ! (15 ∷ 0 ∷ []) $ fjoin ! $ move ! (15 ∷ 0 ∷ []) $ fjoin ! $ move ! (32 ∷ 0 ∷ []) $ fjoin ! $ move ! (32 ∷ 0 ∷ []) $ fjoin ! $ move ! (32 ∷ 0 ∷ []) $ fjoin ! $ move ! (32 ∷ 0 ∷ []) $ fjoin ! $ move ! (32 ∷ 0 ∷ []) $ fjoin ! $ move ! (32 ∷ 0 ∷ []) $ fjoin ! $ move ! (34 ∷ 0 ∷ []) $ fjoin ! $ move ! (34 ∷ 0 ∷ []) $ fjoin ! $ move ! (15 ∷ 0 ∷ []) $ fjoin ! $ move ! (33 ∷ 0 ∷ []) $ fjoin ! $ move ! (33 ∷ 0 ∷ []) $ fjoin ! $ move ! (2 ∷ 0 ∷ []) $ fjoin ! $ move ! (2 ∷ 0 ∷ []) $ fjoin ! $ move ! (2 ∷ 0 ∷ []) $ fjoin ! $ keep ! (1 ∷ 0 ∷ []) $ frame ! $ frame ! $ owned ! mTranscript.the-row (Is mTranscript.the-row) (LL.makes mTranscript.the-type lTranscript.the-plain 𝓤 H A) r2 _ i2 $ done !)))))))))))))))))))))))))))))))))))))))))))))))))))))))
 
 module _ {M : Type 1} (𝓤 : URA M) (H : Heap 𝓤) (A : Atoms 𝓤) (W : Given 𝓤 H A) (mem : Memory → SProp 𝓤) (run : Routine → Fun 𝓤) where
   walks : (C : Calls 𝓤 H) (Λ : Loops 𝓤 H) → FmC 𝓤 H (W .laws) C → Triple 𝓤 (C #g1) (Callee-g1 𝓤 H A mem run) → Triple 𝓤 (C #g2) (Callee-g2 𝓤 H A mem run) → Walks 𝓤 H A f.ended stayed (WpFn 𝓤 H C Λ code.function) (f.clauses 𝓤 H A mem run)
-  walks C Λ fm known-g1 known-g2 = walked 𝓤 H A f.ended stayed (f.clauses 𝓤 H A mem run) (WpFn 𝓤 H C Λ code.function) (λ κs. (ptr-vals, (slice-vals, (slice-vals, (slice-vals, ((uint-vals w64), ((uint-vals w64), (slice-vals, ((uint-vals w64), ((uint-vals w64), (slice-vals, (slice-vals, (slice-vals, (slice-vals, (slice-vals, (slice-vals, (slice-vals, (slice-vals, tt)))))))))))))))))) (λ κs. (mut-tells (named 0) (κs .0) mTranscript.the-row, (mut-slice-tells (named 1) (κs .1 .0) u64, (mut-slice-tells (named 2) (κs .1 .1 .0) u64, (mut-slice-tells (named 3) (κs .1 .1 .1 .0) u64, ((uint-tells w64), ((uint-tells w64), (shr-slice-tells (named 4) (κs .1 .1 .1 .1 .0) u64, ((uint-tells w64), ((uint-tells w64), (shr-slice-tells (named 5) (κs .1 .1 .1 .1 .1 .0) mEntry.the-row, (shr-slice-tells (named 6) (κs .1 .1 .1 .1 .1 .1 .0) mEntry.the-row, (shr-slice-tells (named 7) (κs .1 .1 .1 .1 .1 .1 .1 .0) mEntry.the-row, (shr-slice-tells (named 8) (κs .1 .1 .1 .1 .1 .1 .1 .1 .0) mEntry.the-row, (shr-slice-tells (named 9) (κs .1 .1 .1 .1 .1 .1 .1 .1 .1 .0) mEntry.the-row, (shr-slice-tells (named 10) (κs .1 .1 .1 .1 .1 .1 .1 .1 .1 .1 .0) mEntry.the-row, (shr-slice-tells (named 11) (κs .1 .1 .1 .1 .1 .1 .1 .1 .1 .1 .1 .0) u64, (shr-slice-tells (named 12) (κs .1 .1 .1 .1 .1 .1 .1 .1 .1 .1 .1 .1 .0) u64, tt))))))))))))))))))
-      (λ κs qs bounds a g are. via 𝓤 _ (fst∗ 𝓤 _ (emp 𝓤)) (walk 𝓤 H A W mem run (κs .0) (κs .1 .0) (κs .1 .1 .0) (κs .1 .1 .1 .0) (κs .1 .1 .1 .1 .0) (κs .1 .1 .1 .1 .1 .0) (κs .1 .1 .1 .1 .1 .1 .0) (κs .1 .1 .1 .1 .1 .1 .1 .0) (κs .1 .1 .1 .1 .1 .1 .1 .1 .0) (κs .1 .1 .1 .1 .1 .1 .1 .1 .1 .0) (κs .1 .1 .1 .1 .1 .1 .1 .1 .1 .1 .0) (κs .1 .1 .1 .1 .1 .1 .1 .1 .1 .1 .1 .0) (κs .1 .1 .1 .1 .1 .1 .1 .1 .1 .1 .1 .1 .0) (qs .0) (qs .1 .0) (qs .1 .1 .0) (qs .1 .1 .1 .0) (qs .1 .1 .1 .1 .0) (qs .1 .1 .1 .1 .1 .0) (qs .1 .1 .1 .1 .1 .1 .0) (qs .1 .1 .1 .1 .1 .1 .1 .0) (qs .1 .1 .1 .1 .1 .1 .1 .1 .0) (qs .1 .1 .1 .1 .1 .1 .1 .1 .1 .0) (qs .1 .1 .1 .1 .1 .1 .1 .1 .1 .1 .0) (qs .1 .1 .1 .1 .1 .1 .1 .1 .1 .1 .1 .0) (qs .1 .1 .1 .1 .1 .1 .1 .1 .1 .1 .1 .1 .0) (a .0 .ptr .0) (a .0 .ptr .1) (a .0 .name) (a .0 .now) (a .1 .0 .ptr .0) (a .1 .0 .ptr .1) (a .1 .0 .name) (a .1 .0 .now) (a .1 .1 .0 .ptr .0) (a .1 .1 .0 .ptr .1) (a .1 .1 .0 .name) (a .1 .1 .0 .now) (a .1 .1 .1 .0 .ptr .0) (a .1 .1 .1 .0 .ptr .1) (a .1 .1 .1 .0 .name) (a .1 .1 .1 .0 .now) (a .1 .1 .1 .1 .0) (only ((uint-vals w64) (a .1 .1 .1 .1 .0))) (a .1 .1 .1 .1 .1 .0) (only ((uint-vals w64) (a .1 .1 .1 .1 .1 .0))) (a .1 .1 .1 .1 .1 .1 .0) (a .1 .1 .1 .1 .1 .1 .1 .0) (only ((uint-vals w64) (a .1 .1 .1 .1 .1 .1 .1 .0))) (a .1 .1 .1 .1 .1 .1 .1 .1 .0) (only ((uint-vals w64) (a .1 .1 .1 .1 .1 .1 .1 .1 .0))) (a .1 .1 .1 .1 .1 .1 .1 .1 .1 .0) (a .1 .1 .1 .1 .1 .1 .1 .1 .1 .1 .0) (a .1 .1 .1 .1 .1 .1 .1 .1 .1 .1 .1 .0) (a .1 .1 .1 .1 .1 .1 .1 .1 .1 .1 .1 .1 .0) (a .1 .1 .1 .1 .1 .1 .1 .1 .1 .1 .1 .1 .1 .0) (a .1 .1 .1 .1 .1 .1 .1 .1 .1 .1 .1 .1 .1 .1 .0) (a .1 .1 .1 .1 .1 .1 .1 .1 .1 .1 .1 .1 .1 .1 .1 .0) (a .1 .1 .1 .1 .1 .1 .1 .1 .1 .1 .1 .1 .1 .1 .1 .1 .0) C Λ fm known-g1 known-g2 (are .1 .0 .0 .1) (are .1 .1 .0 .0 .1) (are .1 .1 .1 .0 .0 .1) (are .1 .1 .1 .1 .0) (are .1 .1 .1 .1 .1 .0) (are .1 .1 .1 .1 .1 .1 .0) (are .1 .1 .1 .1 .1 .1 .1 .0) (are .1 .1 .1 .1 .1 .1 .1 .1 .0) (are .1 .1 .1 .1 .1 .1 .1 .1 .1 .0) (are .1 .1 .1 .1 .1 .1 .1 .1 .1 .1 .0) (are .1 .1 .1 .1 .1 .1 .1 .1 .1 .1 .1 .0) (are .1 .1 .1 .1 .1 .1 .1 .1 .1 .1 .1 .1 .0) (are .1 .1 .1 .1 .1 .1 .1 .1 .1 .1 .1 .1 .1 .0) (are .1 .1 .1 .1 .1 .1 .1 .1 .1 .1 .1 .1 .1 .1 .0) (are .1 .1 .1 .1 .1 .1 .1 .1 .1 .1 .1 .1 .1 .1 .1 .0) (are .1 .1 .1 .1 .1 .1 .1 .1 .1 .1 .1 .1 .1 .1 .1 .1 .0)))
+  walks C Λ fm known-g1 known-g2 = walked 𝓤 H A f.ended stayed (f.clauses 𝓤 H A mem run) (WpFn 𝓤 H C Λ code.function) (λ κs. (slice-vals, (slice-vals, (slice-vals, ((uint-vals w64), ((uint-vals w64), (slice-vals, ((uint-vals w64), ((uint-vals w64), (slice-vals, (slice-vals, (slice-vals, (slice-vals, (slice-vals, (slice-vals, (slice-vals, (slice-vals, ((LL.vals mTranscript.the-type lTranscript.the-laws), tt)))))))))))))))))) (λ κs. (mut-slice-tells (named 0) (κs .0) u64, (mut-slice-tells (named 1) (κs .1 .0) u64, (mut-slice-tells (named 2) (κs .1 .1 .0) u64, ((uint-tells w64), ((uint-tells w64), (shr-slice-tells (named 3) (κs .1 .1 .1 .0) u64, ((uint-tells w64), ((uint-tells w64), (shr-slice-tells (named 4) (κs .1 .1 .1 .1 .0) mEntry.the-row, (shr-slice-tells (named 5) (κs .1 .1 .1 .1 .1 .0) mEntry.the-row, (shr-slice-tells (named 6) (κs .1 .1 .1 .1 .1 .1 .0) mEntry.the-row, (shr-slice-tells (named 7) (κs .1 .1 .1 .1 .1 .1 .1 .0) mEntry.the-row, (shr-slice-tells (named 8) (κs .1 .1 .1 .1 .1 .1 .1 .1 .0) mEntry.the-row, (shr-slice-tells (named 9) (κs .1 .1 .1 .1 .1 .1 .1 .1 .1 .0) mEntry.the-row, (shr-slice-tells (named 10) (κs .1 .1 .1 .1 .1 .1 .1 .1 .1 .1 .0) u64, (shr-slice-tells (named 11) (κs .1 .1 .1 .1 .1 .1 .1 .1 .1 .1 .1 .0) u64, ((LL.tells mTranscript.the-type lTranscript.the-laws), tt))))))))))))))))))
+      (λ κs qs bounds a g are. via 𝓤 _ (fst∗ 𝓤 _ (emp 𝓤)) (walk 𝓤 H A W mem run (κs .0) (κs .1 .0) (κs .1 .1 .0) (κs .1 .1 .1 .0) (κs .1 .1 .1 .1 .0) (κs .1 .1 .1 .1 .1 .0) (κs .1 .1 .1 .1 .1 .1 .0) (κs .1 .1 .1 .1 .1 .1 .1 .0) (κs .1 .1 .1 .1 .1 .1 .1 .1 .0) (κs .1 .1 .1 .1 .1 .1 .1 .1 .1 .0) (κs .1 .1 .1 .1 .1 .1 .1 .1 .1 .1 .0) (κs .1 .1 .1 .1 .1 .1 .1 .1 .1 .1 .1 .0) (qs .0) (qs .1 .0) (qs .1 .1 .0) (qs .1 .1 .1 .0) (qs .1 .1 .1 .1 .0) (qs .1 .1 .1 .1 .1 .0) (qs .1 .1 .1 .1 .1 .1 .0) (qs .1 .1 .1 .1 .1 .1 .1 .0) (qs .1 .1 .1 .1 .1 .1 .1 .1 .0) (qs .1 .1 .1 .1 .1 .1 .1 .1 .1 .0) (qs .1 .1 .1 .1 .1 .1 .1 .1 .1 .1 .0) (qs .1 .1 .1 .1 .1 .1 .1 .1 .1 .1 .1 .0) (a .0 .ptr .0) (a .0 .ptr .1) (a .0 .name) (a .0 .now) (a .1 .0 .ptr .0) (a .1 .0 .ptr .1) (a .1 .0 .name) (a .1 .0 .now) (a .1 .1 .0 .ptr .0) (a .1 .1 .0 .ptr .1) (a .1 .1 .0 .name) (a .1 .1 .0 .now) (a .1 .1 .1 .0) (only ((uint-vals w64) (a .1 .1 .1 .0))) (a .1 .1 .1 .1 .0) (only ((uint-vals w64) (a .1 .1 .1 .1 .0))) (a .1 .1 .1 .1 .1 .0) (a .1 .1 .1 .1 .1 .1 .0) (only ((uint-vals w64) (a .1 .1 .1 .1 .1 .1 .0))) (a .1 .1 .1 .1 .1 .1 .1 .0) (only ((uint-vals w64) (a .1 .1 .1 .1 .1 .1 .1 .0))) (a .1 .1 .1 .1 .1 .1 .1 .1 .0) (a .1 .1 .1 .1 .1 .1 .1 .1 .1 .0) (a .1 .1 .1 .1 .1 .1 .1 .1 .1 .1 .0) (a .1 .1 .1 .1 .1 .1 .1 .1 .1 .1 .1 .0) (a .1 .1 .1 .1 .1 .1 .1 .1 .1 .1 .1 .1 .0) (a .1 .1 .1 .1 .1 .1 .1 .1 .1 .1 .1 .1 .1 .0) (a .1 .1 .1 .1 .1 .1 .1 .1 .1 .1 .1 .1 .1 .1 .0) (a .1 .1 .1 .1 .1 .1 .1 .1 .1 .1 .1 .1 .1 .1 .1 .0) (a .1 .1 .1 .1 .1 .1 .1 .1 .1 .1 .1 .1 .1 .1 .1 .1 .0) (only ((LL.vals mTranscript.the-type lTranscript.the-laws) (a .1 .1 .1 .1 .1 .1 .1 .1 .1 .1 .1 .1 .1 .1 .1 .1 .0))) C Λ fm known-g1 known-g2 (are .0 .0 .1) (are .1 .0 .0 .1) (are .1 .1 .0 .0 .1) (are .1 .1 .1 .0) (are .1 .1 .1 .1 .0) (are .1 .1 .1 .1 .1 .0) (are .1 .1 .1 .1 .1 .1 .0) (are .1 .1 .1 .1 .1 .1 .1 .0) (are .1 .1 .1 .1 .1 .1 .1 .1 .0) (are .1 .1 .1 .1 .1 .1 .1 .1 .1 .0) (are .1 .1 .1 .1 .1 .1 .1 .1 .1 .1 .0) (are .1 .1 .1 .1 .1 .1 .1 .1 .1 .1 .1 .0) (are .1 .1 .1 .1 .1 .1 .1 .1 .1 .1 .1 .1 .0) (are .1 .1 .1 .1 .1 .1 .1 .1 .1 .1 .1 .1 .1 .0) (are .1 .1 .1 .1 .1 .1 .1 .1 .1 .1 .1 .1 .1 .1 .0) (are .1 .1 .1 .1 .1 .1 .1 .1 .1 .1 .1 .1 .1 .1 .1 .0) (are .1 .1 .1 .1 .1 .1 .1 .1 .1 .1 .1 .1 .1 .1 .1 .1 .0)))
 
   meets : (𝓣 : Tables 𝓤 H) → Triple 𝓤 (𝓣 .C #g1) (Callee-g1 𝓤 H A mem run) → Triple 𝓤 (𝓣 .C #g2) (Callee-g2 𝓤 H A mem run) → Meets 𝓤 H A f.signature (WpFn 𝓤 H (𝓣 .C) (𝓣 .Λ) code.function) (f.spec 𝓤 H A mem run)
-  meets 𝓣 known-g1 known-g2 = walk-meets 𝓤 H A f.ended stayed W (goes-ref 𝓤 H A W 13 0 tt (plain (λ _. mTranscript.the-row)), (goes-slice 𝓤 H A W 13 1 tt (plain (λ _. u64)), (goes-slice 𝓤 H A W 13 2 tt (plain (λ _. u64)), (goes-slice 𝓤 H A W 13 3 tt (plain (λ _. u64)), (goes-none 𝓤 H A W 13 (λ _. u64) yes (λ κs x f. refl), (goes-none 𝓤 H A W 13 (λ _. u64) yes (λ κs x f. refl), (goes-none-slice 𝓤 H A W 13 (4 ∷ []) tt (plain (λ _. u64)) yes, (goes-none 𝓤 H A W 13 (λ _. u64) yes (λ κs x f. refl), (goes-none 𝓤 H A W 13 (λ _. u64) yes (λ κs x f. refl), (goes-none-slice 𝓤 H A W 13 (5 ∷ []) tt (plain (λ _. mEntry.the-row)) yes, (goes-none-slice 𝓤 H A W 13 (6 ∷ []) tt (plain (λ _. mEntry.the-row)) yes, (goes-none-slice 𝓤 H A W 13 (7 ∷ []) tt (plain (λ _. mEntry.the-row)) yes, (goes-none-slice 𝓤 H A W 13 (8 ∷ []) tt (plain (λ _. mEntry.the-row)) yes, (goes-none-slice 𝓤 H A W 13 (9 ∷ []) tt (plain (λ _. mEntry.the-row)) yes, (goes-none-slice 𝓤 H A W 13 (10 ∷ []) tt (plain (λ _. mEntry.the-row)) yes, (goes-none-slice 𝓤 H A W 13 (11 ∷ []) tt (plain (λ _. u64)) yes, (goes-none-slice 𝓤 H A W 13 (12 ∷ []) tt (plain (λ _. u64)) yes, tt))))))))))))))))) (f.clauses 𝓤 H A mem run)
+  meets 𝓣 known-g1 known-g2 = walk-meets 𝓤 H A f.ended stayed W (goes-slice 𝓤 H A W 12 0 tt (plain (λ _. u64)), (goes-slice 𝓤 H A W 12 1 tt (plain (λ _. u64)), (goes-slice 𝓤 H A W 12 2 tt (plain (λ _. u64)), (goes-none 𝓤 H A W 12 (λ _. u64) yes (λ κs x f. refl), (goes-none 𝓤 H A W 12 (λ _. u64) yes (λ κs x f. refl), (goes-none-slice 𝓤 H A W 12 (3 ∷ []) tt (plain (λ _. u64)) yes, (goes-none 𝓤 H A W 12 (λ _. u64) yes (λ κs x f. refl), (goes-none 𝓤 H A W 12 (λ _. u64) yes (λ κs x f. refl), (goes-none-slice 𝓤 H A W 12 (4 ∷ []) tt (plain (λ _. mEntry.the-row)) yes, (goes-none-slice 𝓤 H A W 12 (5 ∷ []) tt (plain (λ _. mEntry.the-row)) yes, (goes-none-slice 𝓤 H A W 12 (6 ∷ []) tt (plain (λ _. mEntry.the-row)) yes, (goes-none-slice 𝓤 H A W 12 (7 ∷ []) tt (plain (λ _. mEntry.the-row)) yes, (goes-none-slice 𝓤 H A W 12 (8 ∷ []) tt (plain (λ _. mEntry.the-row)) yes, (goes-none-slice 𝓤 H A W 12 (9 ∷ []) tt (plain (λ _. mEntry.the-row)) yes, (goes-none-slice 𝓤 H A W 12 (10 ∷ []) tt (plain (λ _. u64)) yes, (goes-none-slice 𝓤 H A W 12 (11 ∷ []) tt (plain (λ _. u64)) yes, (goes-none 𝓤 H A W 12 (λ _. mTranscript.the-row) yes (λ κs x f. refl), tt))))))))))))))))) (f.clauses 𝓤 H A mem run)
       (WpFn 𝓤 H (𝓣 .C) (𝓣 .Λ) code.function) (WpFn-mono 𝓤 H (W .laws) 𝓣 code.function) (walks (𝓣 .C) (𝓣 .Λ) (fmOf 𝓤 H (W .laws) 𝓣) known-g1 known-g2)
 
 pub prove-in-spec : {M : Type 1} → stated.statement M
