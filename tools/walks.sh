@@ -1,8 +1,7 @@
 #!/bin/sh
 # Writes anew the proofs of magnetar_inplace, magnetar_row_records, magnetar_forms and magnetar_records that tools/thin.py, tools/each.py and
-# tools/count.py write. Run it in the
-# repository's root after a change of a walked function's code or contract, then `rt fmt` and `rt check` of the crate. Nobody has to trust the tools:
-# the checker checks what they write.
+# tools/count.py write. Run it in the repository's root after a change of a walked function's code or contract, then `rt fmt` and `rt check` of
+# the crate. Nobody has to trust the tools: the checker checks what they write.
 set -e
 c=magnetar_inplace
 p=crates/$c/proofs
