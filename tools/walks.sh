@@ -109,6 +109,7 @@ thin combo::fill_unless --final '(refl, rw (← e1, b1) (e2 .0), rw (← e1, b1)
 thin combo::refused --use "$ends.ComboEnds.{combo-refused}" --final "combo-refused $six2 n1 (s20 .now) (s21 .now) (s22 .now) n23 n24 r1 r2 e1 e2"
 thin combo::build_m_combo --use "$ends.ComboEnds.{combo-ends}" \
   --final "combo-ends $six4 n3 (s22 .now) (s23 .now) (s24 .now) ys1 ys2 r1 e1 r2 (ws2 .1 .0) (ws2 .1 .1 .0) e2"
+thin virtual_spartan::combine_at
 thin virtual_spartan::combine
 thin virtual_spartan::verify_in --use "$ends.StageLaws.{run-left}" \
   --final 'run-left n4 n5 n7 n8 (s6 .now) (s15 .now) (s16 .now) h1 ys2 _ (ws1 .0) r2 (ws2 .0) (ws2 .1 .0) r3 r4 e1 e2 e3 e4'
@@ -117,3 +118,27 @@ thin virtual_spartan::refused --use "$ends.RunEnds.{verify-refused}" \
   --final "verify-refused $six4 n1 n2 (s3 .now) (s22 .now) (s23 .now) n24 n25 n26 r1 r2 e1 e2"
 thin virtual_spartan::verify_virtual_spartan --use "$ends.RunEnds.{verify-ends}" \
   --final "verify-ends $six7 n4 n5 (s6 .now) (s25 .now) (s26 .now) h1 ys2 ys3 r2 r1 e1 e2 r3 (ws3 .1 .0) (ws3 .1 .1 .0) (ws3 .1 .1 .1 .0) e3"
+
+# magnetar_records_prover: the prover
+c=magnetar_records_prover
+p=crates/$c/proofs
+ends=Rattle.$c.proofs
+six7s='(s8 .now) (s9 .now) (s10 .now) (s11 .now) (s12 .now) (s13 .now)'
+six8='(s9 .now) (s10 .now) (s11 .now) (s12 .now) (s13 .now) (s14 .now)'
+six9='(s10 .now) (s11 .now) (s12 .now) (s13 .now) (s14 .now) (s15 .now)'
+six4='n4 n5 (s6 .now) n7 n8 (s9 .now) n10 n11 (s12 .now) n13 n14 (s15 .now) n16 n17 (s18 .now) n19 n20 (s21 .now)'
+six7='n7 n8 (s9 .now) n10 n11 (s12 .now) n13 n14 (s15 .now) n16 n17 (s18 .now) n19 n20 (s21 .now) n22 n23 (s24 .now)'
+thin products::product --final 'rw (e3, e2 .1, e1)'
+thin products::products
+thin virtual_spartan::first --use "$ends.ProveEnds.{outer-is}" \
+  --final "outer-is n6 n7 n3 n4 n5 $six7s (s14 .now) (s15 .now) ys1 ys2 n16 (ws1 .0) (r2 .«transcript») (r2 .«draws») (ws2 .0) (ws2 .1 .0) r3 (ws4 .0) e1 e2 e3 e4"
+thin virtual_spartan::prove_in --use "$ends.ProveEnds.{prove-in-is}" \
+  --final "prove-in-is n7 n8 n4 n5 (s6 .now) $six8 (s15 .now) (s16 .now) ys1 ys2 ys3 n17 (r1 .«transcript») (r1 .«draws») (ws1 .0) (ws1 .1 .0) r2 (ws2 .0) (ws2 .1 .0) (ws2 .1 .1 .0) (e1 .0) (e1 .1) e2"
+thin virtual_spartan::prove_unless --use "$ends.EntryEnds.{unless-some, unless-none}" --use "$ends.ProveEnds.{same}" \
+  --final "unless-some n1 (same n8 n9 n5 n6 (s7 .now) $six9 (s16 .now) (s17 .now) ys2 ys3 ys4 n18) (s16 .now) (s17 .now) ys2 ys3 ys4 n18 r2 (ws2 .0) (ws2 .1 .0) (ws2 .1 .1 .0) r1 e1 b1 e2" \
+  --final "unless-none n1 (same n8 n9 n5 n6 (s7 .now) $six9 (s16 .now) (s17 .now) ys2 ys3 ys4 n18) (s16 .now) (s17 .now) ys2 ys3 ys4 n18 r1 e1 b1"
+thin virtual_spartan::refused --use "$ends.EntryEnds.{prove-refused}" \
+  --final "prove-refused $six4 n1 n2 (s3 .now) (s22 .now) (s23 .now) (n24 .«squeeze_ctr») r1 n25 n26 n27 r2 r3 e1 e2 e3"
+thin virtual_spartan::prove --use "$ends.EntryEnds.{prove-ends}" \
+  --final "prove-ends $six7 n4 n5 (s6 .now) (s25 .now) (s26 .now) n27 ys1 ys2 ys3 r1 e1 r2 (ws2 .1 .0) (ws2 .1 .1 .0) (ws2 .1 .1 .1 .0) r3 e2 e3"
+thin virtual_spartan::prove_virtual_spartan --final 'rw (e2, e3) e1'

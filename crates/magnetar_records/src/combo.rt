@@ -137,7 +137,7 @@ fn fill_unless(
 }
 
 // Every record of the six slices lies inside its matrix.
-pub(crate) fn all_six(
+pub fn all_six(
     abrows: usize,
     abcols: usize,
     ab: &[Entry],

@@ -14,7 +14,15 @@ use magnetar_layout::tests;
 use magnetar_spartan::refusal;
 
 // 6 and 7 of six slices of records, by their lengths.
-fn counted(ab: usize, bb: usize, cb: usize, af: usize, bf: usize, cf: usize, inside: bool) -> u32
+pub fn counted(
+    ab: usize,
+    bb: usize,
+    cb: usize,
+    af: usize,
+    bf: usize,
+    cf: usize,
+    inside: bool,
+) -> u32
     ensures { λ r. ⌜ r ≡ noted 0 (countedOf ab bb cb af bf cf inside) ⌝ }
 {
     let z = systems::counts3(0, ab, ab, ab, ab, bb, bb, bb, bb, cb, cb, cb, cb);
@@ -23,7 +31,7 @@ fn counted(ab: usize, bb: usize, cb: usize, af: usize, bf: usize, cf: usize, ins
 }
 
 // z where it is 1 to 5; else c where it is a refusal; else z.
-fn join(z: u32, c: u32) -> u32
+pub fn join(z: u32, c: u32) -> u32
     ensures { λ r. ⌜ r ≡ joined z c ⌝ }
 {
     if z == 0 {

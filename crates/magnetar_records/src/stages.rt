@@ -18,7 +18,7 @@ use magnetar_schedule::play;
 use magnetar_spartan::virtual_spartan;
 
 // The transcript's counter.
-pub(crate) fn counter(t: Transcript) -> u64
+pub fn counter(t: Transcript) -> u64
     ensures { λ r. ⌜ r ≡ t .«squeeze_ctr» ⌝ }
 {
     t.squeeze_ctr
@@ -134,7 +134,7 @@ fn clear_room(m: usize, rb: usize, rf: usize, s: &mut [u64])
 }
 
 // How many words the draws of a run have.
-fn draw_words(m: usize, q: usize, rb: usize, rf: usize) -> usize
+pub fn draw_words(m: usize, q: usize, rb: usize, rf: usize) -> usize
     ensures { λ r. ⌜ r ≡ 2 * drawCount (outline m q rb rf []) ⌝ }
 {
     let s = steps::log(q);

@@ -26,21 +26,21 @@ pub(crate) fn add_column(m: usize, n: usize, s: &mut [u64], e: Entry)
 }
 
 // The logarithm to the base 2.
-pub(crate) fn log(n: usize) -> usize
+pub fn log(n: usize) -> usize
     ensures { λ r. ⌜ (r ≡ log₂ n) × (r ≤ 63) ⌝ }
 {
     sizes::log2(n)
 }
 
 // The smaller of two numbers.
-pub(crate) fn least(a: usize, b: usize) -> usize
+pub fn least(a: usize, b: usize) -> usize
     ensures { λ r. ⌜ (r ≡ min a b) × (r ≤ b) ⌝ }
 {
     if a < b { a } else { b }
 }
 
 // The larger of two numbers.
-pub(crate) fn larger(a: usize, b: usize) -> usize
+pub fn larger(a: usize, b: usize) -> usize
     ensures { λ r. ⌜ r ≡ max a b ⌝ }
 {
     if a < b { b } else { a }

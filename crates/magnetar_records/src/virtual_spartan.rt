@@ -8,7 +8,7 @@ ghost use Rattle.magnetar_spartan.specs.Rules.{rules};
 ghost use Rattle.magnetar_spartan.specs.Refusals.{verifyTests};
 ghost use Rattle.magnetar_spartan.specs.Outcome.{verifyOutcome};
 ghost use Rattle.magnetar_inplace.specs.Records.{entriesOfRecords, lentOf};
-ghost use Rattle.magnetar_records.specs.Stages.{verifyLeft, runTable};
+ghost use Rattle.magnetar_records.specs.Stages.{verifyLeft, tableAt, runTable};
 ghost use Rattle.magnetar_records.specs.Outcome.{inPlace};
 use crate::combo;
 use crate::refusal;
@@ -18,7 +18,30 @@ use magnetar_inplace::records::Entry;
 use magnetar_inplace::steps as walks;
 use magnetar_inplace::transcript;
 
-// The combined table at the draws of a run, in front of s.
+// The combined table at the words d of the draws, in front of s.
+pub fn combine_at(
+    s: &mut [u64],
+    m: usize,
+    q: usize,
+    rb: usize,
+    rf: usize,
+    d: [u64; 256],
+    ab: &[Entry],
+    bb: &[Entry],
+    cb: &[Entry],
+    af: &[Entry],
+    bf: &[Entry],
+    cf: &[Entry],
+)
+    ensures { λ _. ⌜ now (s .exit) ≡ tableAt m q rb rf d (entriesOfRecords (now (ab .entry))) (entriesOfRecords (now (bb .entry))) (entriesOfRecords (now (cb .entry))) (entriesOfRecords (now (af .entry))) (entriesOfRecords (now (bf .entry))) (entriesOfRecords (now (cf .entry))) (now (s .entry)) ⌝ }
+{
+    let al = stages::run_alphas(q, rb, rf, d);
+    let pb = stages::bin_point(q, rb, rf, d);
+    let pf = stages::fld_point(q, rb, rf, d);
+    combo::combine(s, m, rb, rf, al, pb, pf, ab, bb, cb, af, bf, cf);
+}
+
+// The combined table at the draws of a verifying run, in front of s.
 fn combine(
     s: &mut [u64],
     m: usize,
@@ -38,10 +61,7 @@ fn combine(
     ensures { λ _. ⌜ now (s .exit) ≡ runTable m q rb rf (now (lens .entry)) (now (proof .entry)) t (entriesOfRecords (now (ab .entry))) (entriesOfRecords (now (bb .entry))) (entriesOfRecords (now (cb .entry))) (entriesOfRecords (now (af .entry))) (entriesOfRecords (now (bf .entry))) (entriesOfRecords (now (cf .entry))) (now (s .entry)) ⌝ }
 {
     let d = stages::drawn(m, q, rb, rf, lens, proof, t);
-    let al = stages::run_alphas(q, rb, rf, d);
-    let pb = stages::bin_point(q, rb, rf, d);
-    let pf = stages::fld_point(q, rb, rf, d);
-    combo::combine(s, m, rb, rf, al, pb, pf, ab, bb, cb, af, bf, cf);
+    combine_at(s, m, q, rb, rf, d, ab, bb, cb, af, bf, cf);
 }
 
 // The verifier, where nothing refuses it before its checks.

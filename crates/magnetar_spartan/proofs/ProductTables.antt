@@ -28,15 +28,15 @@ use Rattle.magnetar_spartan.proofs.Chains.{halves}
 use Rattle.magnetar_spartan.proofs.Combining.{noted-none, size-fine, same-fine, most-fine, true-fine}
 
 -- ---- one matrix
-room-is : (q n : ℕ) → q * (2 * n) ≡ 2 * (q * n)
+pub room-is : (q n : ℕ) → q * (2 * n) ≡ 2 * (q * n)
 room-is q n = mul-left-comm q 2 n
 
 module _ (m q : ℕ) (a : Lent) (ws x out : List ℕ) (p : BatchReady m q (length ws) (length x)) (z : Sized 1 65536 (a .rows))
-    (f : FineMatrix (a .rows) m a) (h : q * a .rows ≤ 1048576) (l : length out ≡ 2 * (q * a .rows)) where
+    (f : FineMatrix (a .rows) m a) (h : q * a .rows ≤ 1048576) (l : 2 * (q * a .rows) ≤ length out) where
   even : 2 * (m / 2) ≡ m
   even = halves m (p .columns)
 
-  product-none : packedRefusal a ws x q (m / 2) out ≡ 0
+  pub product-none : packedRefusal a ws x q (m / 2) out ≡ 0
   unfolding packedRefusal
   product-none =
       noted-none (batchTests a ws x q (m / 2) ++ roomTest (q * (2 * a .rows)) out) (
@@ -77,12 +77,16 @@ module _ (m q : ℕ) (a : Lent) (ws x out : List ℕ) (p : BatchReady m q (lengt
         ),
       )
 
-  pub product-is : (out′ : List ℕ) → out′ ≡ packedOut a ws x q (m / 2) out
+  -- the table stands in front of what is lent
+  pub product-front : packedOut a ws x q (m / 2) out ≡ words (packedTable (matrixOf a) ws (elements x) q (m / 2)) ++ drop (q * (2 * a .rows)) out
+  product-front = rw product-none
+
+  pub product-is : length out ≡ 2 * (q * a .rows) → (out′ : List ℕ) → out′ ≡ packedOut a ws x q (m / 2) out
       → elements out′ ≡ packedTable (matrixOf a) ws (elements x) q (m / 2)
-  product-is out′ e =
+  product-is g out′ e =
       let t = packedTable (matrixOf a) ws (elements x) q (m / 2) in
-      let o : out′ ≡ words t ++ drop (q * (2 * a .rows)) out = e ∙ rw product-none in
-      let r : drop (q * (2 * a .rows)) out ≡ [] = drop-of-length-le out {i = q * (2 * a .rows)} (omega (arith, room-is q (a .rows), l)) in
+      let o : out′ ≡ words t ++ drop (q * (2 * a .rows)) out = e ∙ product-front in
+      let r : drop (q * (2 * a .rows)) out ≡ [] = drop-of-length-le out {i = q * (2 * a .rows)} (omega (arith, room-is q (a .rows), g)) in
       ap elements (o ∙ (ap (λ (k : List ℕ). words t ++ k) r ∙ append-nil (words t))) ∙ elements-words t
 
 -- a matrix of a system, alone
@@ -128,7 +132,7 @@ module _ (R : Rules) (ws x : List ℕ) where
   abbrev table : Lent → List ℕ
   table a = packedTable (matrixOf a) ws x (R .q) (R .m / 2)
 
-  six-tables : (b f : ℕ) (bin fld : List ℕ) → tableAt b b bin ≡ table (R .bin .a) → tableAt (2 * b) b bin ≡ table (R .bin .b)
+  pub six-tables : (b f : ℕ) (bin fld : List ℕ) → tableAt b b bin ≡ table (R .bin .a) → tableAt (2 * b) b bin ≡ table (R .bin .b)
       → tableAt (3 * b) b bin ≡ table (R .bin .c) → tableAt f f fld ≡ table (R .fld .a) → tableAt (2 * f) f fld ≡ table (R .fld .b)
       → tableAt (3 * f) f fld ≡ table (R .fld .c) → tablesIn b f bin fld ≡ productTables (relationOf R) (batchOf R ws) x
   unfolding productTable packedTable systemOf

@@ -56,22 +56,10 @@ use Rattle.magnetar_records.proofs.stages.drawn as g1
 use Rattle.magnetar_records.proofs.stages.drawn.Symbol as g1-def
 use Rattle.magnetar_records.proofs.stages.drawn.Symbol.{name as #g1}
 use Rattle.magnetar_records.proofs.stages.drawn.Met as g1-thm
-use Rattle.magnetar_records.proofs.stages.run_alphas as g2
-use Rattle.magnetar_records.proofs.stages.run_alphas.Symbol as g2-def
-use Rattle.magnetar_records.proofs.stages.run_alphas.Symbol.{name as #g2}
-use Rattle.magnetar_records.proofs.stages.run_alphas.Met as g2-thm
-use Rattle.magnetar_records.proofs.stages.bin_point as g3
-use Rattle.magnetar_records.proofs.stages.bin_point.Symbol as g3-def
-use Rattle.magnetar_records.proofs.stages.bin_point.Symbol.{name as #g3}
-use Rattle.magnetar_records.proofs.stages.bin_point.Met as g3-thm
-use Rattle.magnetar_records.proofs.stages.fld_point as g4
-use Rattle.magnetar_records.proofs.stages.fld_point.Symbol as g4-def
-use Rattle.magnetar_records.proofs.stages.fld_point.Symbol.{name as #g4}
-use Rattle.magnetar_records.proofs.stages.fld_point.Met as g4-thm
-use Rattle.magnetar_records.proofs.combo.combine as g5
-use Rattle.magnetar_records.proofs.combo.combine.Symbol as g5-def
-use Rattle.magnetar_records.proofs.combo.combine.Symbol.{name as #g5}
-use Rattle.magnetar_records.proofs.combo.combine.Met as g5-thm
+use Rattle.magnetar_records.proofs.virtual_spartan.combine_at as g2
+use Rattle.magnetar_records.proofs.virtual_spartan.combine_at.Symbol as g2-def
+use Rattle.magnetar_records.proofs.virtual_spartan.combine_at.Symbol.{name as #g2}
+use Rattle.magnetar_records.proofs.virtual_spartan.combine_at.Met as g2-thm
 use Rattle.magnetar_records.proofs.virtual_spartan.combine.Key.{name as #f}
 use Rattle.magnetar_records.proofs.virtual_spartan.combine as f
 use Rattle.magnetar_records.proofs.virtual_spartan.combine.Statement as stated
@@ -97,15 +85,6 @@ Callee-g1 𝓤 H A mem run = tripleOf 𝓤 H A g1.signature (g1.spec 𝓤 H A me
 
 abbrev Callee-g2 : {M : Type 1} (𝓤 : URA M) (H : Heap 𝓤) (A : Atoms 𝓤) (mem : Memory → SProp 𝓤) (run : Routine → Fun 𝓤) → Contract 𝓤
 Callee-g2 𝓤 H A mem run = tripleOf 𝓤 H A g2.signature (g2.spec 𝓤 H A mem run)
-
-abbrev Callee-g3 : {M : Type 1} (𝓤 : URA M) (H : Heap 𝓤) (A : Atoms 𝓤) (mem : Memory → SProp 𝓤) (run : Routine → Fun 𝓤) → Contract 𝓤
-Callee-g3 𝓤 H A mem run = tripleOf 𝓤 H A g3.signature (g3.spec 𝓤 H A mem run)
-
-abbrev Callee-g4 : {M : Type 1} (𝓤 : URA M) (H : Heap 𝓤) (A : Atoms 𝓤) (mem : Memory → SProp 𝓤) (run : Routine → Fun 𝓤) → Contract 𝓤
-Callee-g4 𝓤 H A mem run = tripleOf 𝓤 H A g4.signature (g4.spec 𝓤 H A mem run)
-
-abbrev Callee-g5 : {M : Type 1} (𝓤 : URA M) (H : Heap 𝓤) (A : Atoms 𝓤) (mem : Memory → SProp 𝓤) (run : Routine → Fun 𝓤) → Contract 𝓤
-Callee-g5 𝓤 H A mem run = tripleOf 𝓤 H A g5.signature (g5.spec 𝓤 H A mem run)
 
 module _ {M : Type 1} (𝓤 : URA M) (H : Heap 𝓤) (A : Atoms 𝓤) (W : Given 𝓤 H A) (at-mem : Memory → SProp 𝓤) (run : Routine → Fun 𝓤) (κ₀ κ₁ κ₂ κ₃ κ₄ κ₅ κ₆ κ₇ κ₈ : Lft) (q₀ q₁ q₂ q₃ q₄ q₅ q₆ q₇ q₈ : Share) (b1 o1 : ℕ) (γ1 : GName) (ys1 : List ℕ) (n2 : ℕ) (u2 : Val) (n3 : ℕ) (u3 : Val) (s4 : RefT (List ℕ)) (n5 : ℕ) (u5 : Val) (n6 : ℕ) (u6 : Val) (s7 : RefT (List Entry)) (s8 : RefT (List Entry)) (s9 : RefT (List Entry)) (s10 : RefT (List Entry)) (s11 : RefT (List Entry)) (s12 : RefT (List Entry)) (s13 : RefT (List ℕ)) (n14 : Transcript) (u14 : Val) where
   abbrev ref1 : GName → List ℕ → RefT (List ℕ)
@@ -205,59 +184,41 @@ module _ {M : Type 1} (𝓤 : URA M) (H : Heap 𝓤) (A : Atoms 𝓤) (W : Given
   abbrev Post : Val → SProp 𝓤
   Post = walkOf 𝓤 H A f.ended stayed (f.clauses 𝓤 H A at-mem run) .post (((κ₀, (κ₁, (κ₂, (κ₃, (κ₄, (κ₅, (κ₆, (κ₇, (κ₈, tt))))))))), (q₀, (q₁, (q₂, (q₃, (q₄, (q₅, (q₆, (q₇, (q₈, tt))))))))), tt, a, at), tt)
 
-  module _ (C : Calls 𝓤 H) (Λ : Loops 𝓤 H) (fm : FmC 𝓤 H (W .laws) C) (known-g1 : Triple 𝓤 (C #g1) (Callee-g1 𝓤 H A at-mem run)) (known-g2 : Triple 𝓤 (C #g2) (Callee-g2 𝓤 H A at-mem run)) (known-g3 : Triple 𝓤 (C #g3) (Callee-g3 𝓤 H A at-mem run)) (known-g4 : Triple 𝓤 (C #g4) (Callee-g4 𝓤 H A at-mem run)) (known-g5 : Triple 𝓤 (C #g5) (Callee-g5 𝓤 H A at-mem run)) (room1 : Room u64 (length ys1)) (w2 : Is u64 n2 (u2 ∷ [])) (w3 : Is u64 n3 (u3 ∷ [])) (w4 : Is (ShrSlice (named 1) κ₁ u64) s4 (v4 ∷ [])) (w5 : Is u64 n5 (u5 ∷ [])) (w6 : Is u64 n6 (u6 ∷ [])) (w7 : Is (ShrSlice (named 2) κ₂ mEntry.the-row) s7 (v7 ∷ [])) (w8 : Is (ShrSlice (named 3) κ₃ mEntry.the-row) s8 (v8 ∷ [])) (w9 : Is (ShrSlice (named 4) κ₄ mEntry.the-row) s9 (v9 ∷ [])) (w10 : Is (ShrSlice (named 5) κ₅ mEntry.the-row) s10 (v10 ∷ [])) (w11 : Is (ShrSlice (named 6) κ₆ mEntry.the-row) s11 (v11 ∷ [])) (w12 : Is (ShrSlice (named 7) κ₇ mEntry.the-row) s12 (v12 ∷ [])) (w13 : Is (ShrSlice (named 8) κ₈ u64) s13 (v13 ∷ [])) (w14 : Is mTranscript.the-row n14 (u14 ∷ [])) where
+  module _ (C : Calls 𝓤 H) (Λ : Loops 𝓤 H) (fm : FmC 𝓤 H (W .laws) C) (known-g1 : Triple 𝓤 (C #g1) (Callee-g1 𝓤 H A at-mem run)) (known-g2 : Triple 𝓤 (C #g2) (Callee-g2 𝓤 H A at-mem run)) (room1 : Room u64 (length ys1)) (w2 : Is u64 n2 (u2 ∷ [])) (w3 : Is u64 n3 (u3 ∷ [])) (w4 : Is (ShrSlice (named 1) κ₁ u64) s4 (v4 ∷ [])) (w5 : Is u64 n5 (u5 ∷ [])) (w6 : Is u64 n6 (u6 ∷ [])) (w7 : Is (ShrSlice (named 2) κ₂ mEntry.the-row) s7 (v7 ∷ [])) (w8 : Is (ShrSlice (named 3) κ₃ mEntry.the-row) s8 (v8 ∷ [])) (w9 : Is (ShrSlice (named 4) κ₄ mEntry.the-row) s9 (v9 ∷ [])) (w10 : Is (ShrSlice (named 5) κ₅ mEntry.the-row) s10 (v10 ∷ [])) (w11 : Is (ShrSlice (named 6) κ₆ mEntry.the-row) s11 (v11 ∷ [])) (w12 : Is (ShrSlice (named 7) κ₇ mEntry.the-row) s12 (v12 ∷ [])) (w13 : Is (ShrSlice (named 8) κ₈ u64) s13 (v13 ∷ [])) (w14 : Is mTranscript.the-row n14 (u14 ∷ [])) where
     walk : ent 𝓤 (onEntry 𝓤 H A f.signature (κ₀, (κ₁, (κ₂, (κ₃, (κ₄, (κ₅, (κ₆, (κ₇, (κ₈, tt))))))))) (q₀, (q₁, (q₂, (q₃, (q₄, (q₅, (q₆, (q₇, (q₈, tt))))))))) a at) (WpFn 𝓤 H C Λ code.function (v1 ∷ v2 ∷ v3 ∷ v4 ∷ v5 ∷ v6 ∷ v7 ∷ v8 ∷ v9 ∷ v10 ∷ v11 ∷ v12 ∷ v13 ∷ v14 ∷ []) Post)
     walk =
         qed W ((‵ (flft κ₀ q₀) ⊛ ‵ (flft κ₁ q₁) ⊛ ‵ (flft κ₂ q₂) ⊛ ‵ (flft κ₃ q₃) ⊛ ‵ (flft κ₄ q₄) ⊛ ‵ (flft κ₅ q₅) ⊛ ‵ (flft κ₆ q₆) ⊛ ‵ (flft κ₇ q₇) ⊛ ‵ (flft κ₈ q₈) ⊛ ‵ ftrue) ∷ ‵ (owns (MutSlice (named 0) κ₀ u64 ∷ u64 ∷ u64 ∷ ShrSlice (named 1) κ₁ u64 ∷ u64 ∷ u64 ∷ ShrSlice (named 2) κ₂ mEntry.the-row ∷ ShrSlice (named 3) κ₃ mEntry.the-row ∷ ShrSlice (named 4) κ₄ mEntry.the-row ∷ ShrSlice (named 5) κ₅ mEntry.the-row ∷ ShrSlice (named 6) κ₆ mEntry.the-row ∷ ShrSlice (named 7) κ₇ mEntry.the-row ∷ ShrSlice (named 8) κ₈ u64 ∷ mTranscript.the-row ∷ []) a at) ∷ []) ∵ enter ! C Λ code.function (v1 ∷ v2 ∷ v3 ∷ v4 ∷ v5 ∷ v6 ∷ v7 ∷ v8 ∷ v9 ∷ v10 ∷ v11 ∷ v12 ∷ v13 ∷ v14 ∷ []) _ $
-        alloc1 ! (λ l₀. alloc1 ! (λ l₁. alloc1 ! (λ l₂. alloc1 ! (λ l₃. alloc1 ! (λ l₄. alloc1 ! (λ l₅. alloc1 ! (λ l₆. alloc1 ! (λ l₇. alloc1 ! (λ l₈. alloc1 ! (λ l₉. alloc1 ! (λ l₁₀. alloc1 ! (λ l₁₁. alloc1 ! (λ l₁₂. alloc1 ! (λ l₁₃. alloc1 ! (λ l₁₄. alloc1 ! (λ l₁₅. alloc1 ! (λ l₁₆. alloc1 ! (λ l₁₇. alloc1 ! (λ l₁₈. alloc1 ! (λ l₁₉. alloc1 ! (λ l₂₀. alloc1 ! (λ l₂₁. alloc0 ! $ params1 ! $ pass1 ! (init ! 40 refl (tt, (tt, (record { fits = room1 .0 }, tt)))) $ pass1 ! (init ! 38 refl (uint-lawful 𝓤 H A W w64 .typed n2 _ w2 .0)) $ pass1 ! (init ! 36 refl (uint-lawful 𝓤 H A W w64 .typed n3 _ w3 .0)) $ pass1 ! (init ! 34 refl (shr-slice-lawful 𝓤 H A W (named 1) κ₁ u64 .typed s4 (v4 ∷ []) w4 .0)) $ pass1 ! (init ! 32 refl (uint-lawful 𝓤 H A W w64 .typed n5 _ w5 .0)) $ pass1 ! (init ! 30 refl (uint-lawful 𝓤 H A W w64 .typed n6 _ w6 .0)) $ pass1 ! (init ! 28 refl (shr-slice-lawful 𝓤 H A W (named 2) κ₂ mEntry.the-row .typed s7 (v7 ∷ []) w7 .0)) $ pass1 ! (init ! 26 refl (shr-slice-lawful 𝓤 H A W (named 3) κ₃ mEntry.the-row .typed s8 (v8 ∷ []) w8 .0)) $ pass1 ! (init ! 24 refl (shr-slice-lawful 𝓤 H A W (named 4) κ₄ mEntry.the-row .typed s9 (v9 ∷ []) w9 .0)) $ pass1 ! (init ! 22 refl (shr-slice-lawful 𝓤 H A W (named 5) κ₅ mEntry.the-row .typed s10 (v10 ∷ []) w10 .0)) $ pass1 ! (init ! 20 refl (shr-slice-lawful 𝓤 H A W (named 6) κ₆ mEntry.the-row .typed s11 (v11 ∷ []) w11 .0)) $ pass1 ! (init ! 18 refl (shr-slice-lawful 𝓤 H A W (named 7) κ₇ mEntry.the-row .typed s12 (v12 ∷ []) w12 .0)) $ pass1 ! (init ! 16 refl (shr-slice-lawful 𝓤 H A W (named 8) κ₈ u64 .typed s13 (v13 ∷ []) w13 .0)) $ pass1 ! (init ! 14 refl (LL.lawful mTranscript.the-type lTranscript.the-laws 𝓤 H A W .typed n14 _ w14 .0)) $ pass0 ! $
-        move ! (45 ∷ []) $ fsplit ! $ move ! (1 ∷ []) $ fsplit ! $ move ! (1 ∷ []) $ fsplit ! $ move ! (1 ∷ []) $ fsplit ! $ move ! (1 ∷ []) $ fsplit ! $ move ! (1 ∷ []) $ fsplit ! $ move ! (1 ∷ []) $ fsplit ! $ move ! (1 ∷ []) $ fsplit ! $ move ! (1 ∷ []) $ fsplit ! $ move ! (1 ∷ []) $ fsplit ! $ move ! (1 ∷ []) $ fsplit ! $ move ! (1 ∷ []) $ fsplit ! $ move ! (1 ∷ []) $ fsplit ! $ move ! (1 ∷ []) $ fsplit ! $ move ! (1 ∷ []) $ move ! (59 ∷ []) $ split ! $ move ! (1 ∷ []) $ split ! $ move ! (1 ∷ []) $ split ! $ move ! (1 ∷ []) $ split ! $ move ! (1 ∷ []) $ split ! $ move ! (1 ∷ []) $ split ! $ move ! (1 ∷ []) $ split ! $ move ! (1 ∷ []) $ split ! $ move ! (1 ∷ []) $ split ! $ move ! (1 ∷ []) $
+        alloc1 ! (λ l₀. alloc1 ! (λ l₁. alloc1 ! (λ l₂. alloc1 ! (λ l₃. alloc1 ! (λ l₄. alloc1 ! (λ l₅. alloc1 ! (λ l₆. alloc1 ! (λ l₇. alloc1 ! (λ l₈. alloc1 ! (λ l₉. alloc1 ! (λ l₁₀. alloc1 ! (λ l₁₁. alloc1 ! (λ l₁₂. alloc1 ! (λ l₁₃. alloc1 ! (λ l₁₄. alloc1 ! (λ l₁₅. alloc1 ! (λ l₁₆. alloc1 ! (λ l₁₇. alloc1 ! (λ l₁₈. alloc0 ! $ params1 ! $ pass1 ! (init ! 34 refl (tt, (tt, (record { fits = room1 .0 }, tt)))) $ pass1 ! (init ! 32 refl (uint-lawful 𝓤 H A W w64 .typed n2 _ w2 .0)) $ pass1 ! (init ! 30 refl (uint-lawful 𝓤 H A W w64 .typed n3 _ w3 .0)) $ pass1 ! (init ! 28 refl (shr-slice-lawful 𝓤 H A W (named 1) κ₁ u64 .typed s4 (v4 ∷ []) w4 .0)) $ pass1 ! (init ! 26 refl (uint-lawful 𝓤 H A W w64 .typed n5 _ w5 .0)) $ pass1 ! (init ! 24 refl (uint-lawful 𝓤 H A W w64 .typed n6 _ w6 .0)) $ pass1 ! (init ! 22 refl (shr-slice-lawful 𝓤 H A W (named 2) κ₂ mEntry.the-row .typed s7 (v7 ∷ []) w7 .0)) $ pass1 ! (init ! 20 refl (shr-slice-lawful 𝓤 H A W (named 3) κ₃ mEntry.the-row .typed s8 (v8 ∷ []) w8 .0)) $ pass1 ! (init ! 18 refl (shr-slice-lawful 𝓤 H A W (named 4) κ₄ mEntry.the-row .typed s9 (v9 ∷ []) w9 .0)) $ pass1 ! (init ! 16 refl (shr-slice-lawful 𝓤 H A W (named 5) κ₅ mEntry.the-row .typed s10 (v10 ∷ []) w10 .0)) $ pass1 ! (init ! 14 refl (shr-slice-lawful 𝓤 H A W (named 6) κ₆ mEntry.the-row .typed s11 (v11 ∷ []) w11 .0)) $ pass1 ! (init ! 12 refl (shr-slice-lawful 𝓤 H A W (named 7) κ₇ mEntry.the-row .typed s12 (v12 ∷ []) w12 .0)) $ pass1 ! (init ! 10 refl (shr-slice-lawful 𝓤 H A W (named 8) κ₈ u64 .typed s13 (v13 ∷ []) w13 .0)) $ pass1 ! (init ! 8 refl (LL.lawful mTranscript.the-type lTranscript.the-laws 𝓤 H A W .typed n14 _ w14 .0)) $ pass0 ! $
+        move ! (39 ∷ []) $ fsplit ! $ move ! (1 ∷ []) $ fsplit ! $ move ! (1 ∷ []) $ fsplit ! $ move ! (1 ∷ []) $ fsplit ! $ move ! (1 ∷ []) $ fsplit ! $ move ! (1 ∷ []) $ fsplit ! $ move ! (1 ∷ []) $ fsplit ! $ move ! (1 ∷ []) $ fsplit ! $ move ! (1 ∷ []) $ fsplit ! $ move ! (1 ∷ []) $ fsplit ! $ move ! (1 ∷ []) $ fsplit ! $ move ! (1 ∷ []) $ fsplit ! $ move ! (1 ∷ []) $ fsplit ! $ move ! (1 ∷ []) $ fsplit ! $ move ! (1 ∷ []) $ move ! (53 ∷ []) $ split ! $ move ! (1 ∷ []) $ split ! $ move ! (1 ∷ []) $ split ! $ move ! (1 ∷ []) $ split ! $ move ! (1 ∷ []) $ split ! $ move ! (1 ∷ []) $ split ! $ move ! (1 ∷ []) $ split ! $ move ! (1 ∷ []) $ split ! $ move ! (1 ∷ []) $ split ! $ move ! (1 ∷ []) $
         move ! (21 ∷ []) $ use1 W (‵ (O4) ⊛ ‵ (O4)) (shr-slice-copy 𝓤 H A W (named 1) κ₁ u64 .twice s4 (v4 ∷ [])) $ split ! $ move ! (14 ∷ []) $ use1 W (‵ (O13) ⊛ ‵ (O13)) (shr-slice-copy 𝓤 H A W (named 8) κ₈ u64 .twice s13 (v13 ∷ [])) $ split ! $ nothing ! $ move ! (6 ∷ 0 ∷ []) $ join ! $ move ! (12 ∷ 0 ∷ []) $ join ! $ move ! (3 ∷ 1 ∷ []) $ join ! $ move ! (1 ∷ 0 ∷ []) $ join ! $
         -- call 1
         use1 W (raw (Callee-g1 𝓤 H A at-mem run .pre (((κ₁, (κ₈, tt)), (q₁, (q₈, tt)), tt, (n2, (n3, (n5, (n6, (s4, (s13, (n14, tt))))))), (u2 ∷ [], (u3 ∷ [], (u5 ∷ [], (u6 ∷ [], (v4 ∷ [], (v13 ∷ [], (u14 ∷ [], tt)))))))), tt))) (qed W ((‵ (flft κ₁ q₁) ⊛ ‵ (flft κ₈ q₈) ⊛ ‵ ftrue) ∷ ‵ (ShrSlice (named 0) κ₁ u64 .own s4 (v4 ∷ [])) ∷ ‵ (ShrSlice (named 1) κ₈ u64 .own s13 (v13 ∷ [])) ∷ []) ∵ nothing ! $ owned ! mTranscript.the-row (Is mTranscript.the-row) (LL.makes mTranscript.the-type lTranscript.the-plain 𝓤 H A) (n14) _ w14 $ fjoin ! $ move ! (3 ∷ 0 ∷ []) $ fjoin ! $ move ! (2 ∷ 0 ∷ []) $ fjoin ! $ owned ! u64 (Is u64) (uint-makes 𝓤 H A W w64) (n6) _ w6 $ fjoin ! $ owned ! u64 (Is u64) (uint-makes 𝓤 H A W w64) (n5) _ w5 $ fjoin ! $ owned ! u64 (Is u64) (uint-makes 𝓤 H A W w64) (n3) _ w3 $ fjoin ! $ owned ! u64 (Is u64) (uint-makes 𝓤 H A W w64) (n2) _ w2 $ fjoin ! $ move ! (1 ∷ 0 ∷ []) $ join ! $ nothing ! $ move ! (1 ∷ 0 ∷ []) $ frame ! $ done !) $
-        calls-at ! fm (Callee-g1 𝓤 H A at-mem run) known-g1 (((κ₁, (κ₈, tt)), (q₁, (q₈, tt)), tt, (n2, (n3, (n5, (n6, (s4, (s13, (n14, tt))))))), (u2 ∷ [], (u3 ∷ [], (u5 ∷ [], (u6 ∷ [], (v4 ∷ [], (v13 ∷ [], (u14 ∷ [], tt)))))))), tt) (and-then ! (load ! (from ! (stop !)) (look ! 62 refl)) (and-then ! (load ! (from ! (stop !)) (look ! 60 refl)) (and-then ! (load ! (from ! (stop !)) (look ! 56 refl)) (and-then ! (load ! (from ! (stop !)) (look ! 54 refl)) (and-then ! (load ! (from ! (stop !)) (look ! 58 refl)) (and-then ! (load ! (from ! (stop !)) (look ! 40 refl)) (and-then ! (load ! (from ! (stop !)) (look ! 38 refl)) (no-more !)))))))) (λ z1.
+        calls-at ! fm (Callee-g1 𝓤 H A at-mem run) known-g1 (((κ₁, (κ₈, tt)), (q₁, (q₈, tt)), tt, (n2, (n3, (n5, (n6, (s4, (s13, (n14, tt))))))), (u2 ∷ [], (u3 ∷ [], (u5 ∷ [], (u6 ∷ [], (v4 ∷ [], (v13 ∷ [], (u14 ∷ [], tt)))))))), tt) (and-then ! (load ! (from ! (stop !)) (look ! 56 refl)) (and-then ! (load ! (from ! (stop !)) (look ! 54 refl)) (and-then ! (load ! (from ! (stop !)) (look ! 50 refl)) (and-then ! (load ! (from ! (stop !)) (look ! 48 refl)) (and-then ! (load ! (from ! (stop !)) (look ! 52 refl)) (and-then ! (load ! (from ! (stop !)) (look ! 34 refl)) (and-then ! (load ! (from ! (stop !)) (look ! 32 refl)) (no-more !)))))))) (λ z1.
         use1 W (later (some (λ (r1 : (List ℕ)). ((‵ (flft κ₁ q₁) ⊛ ‵ (flft κ₈ q₈) ⊛ ‵ ftrue) ⊛ ‵ ((Array u64 256) .own r1 (z1 ∷ []))) ⊛ some (λ (ws : Lasts g1.ended (κ₁, (κ₈, tt)) (n2, (n3, (n5, (n6, (s4, (s13, (n14, tt)))))))). ‵ (lasts g1.ended (κ₁, (κ₈, tt)) (n2, (n3, (n5, (n6, (s4, (s13, (n14, tt))))))) ws) ⊛ raw (g1.clauses 𝓤 H A at-mem run (κ₁, (κ₈, tt)) (n2, (n3, (n5, (n6, (s4, (s13, (n14, tt))))))) .ensures tt r1 (atExit g1.ended (κ₁, (κ₈, tt)) (n2, (n3, (n5, (n6, (s4, (s13, (n14, tt))))))) ws)))))) (id⊢ 𝓤 _) $ await ! tt $ pick ! (λ r1. split ! $ move ! (1 ∷ []) $ pick ! (λ ws1. split ! $ move ! (1 ∷ []) $ heard ! _ (λ e1.
-        fsplit ! $ move ! (1 ∷ []) $ fsplit ! $ move ! (1 ∷ []) $ fsplit ! $ move ! (1 ∷ []) $ fsplit ! $ move ! (1 ∷ []) $ fsplit ! $ move ! (1 ∷ []) $ fsplit ! $ move ! (1 ∷ []) $ fsplit ! $ move ! (8 ∷ []) $ split ! $ move ! (1 ∷ []) $ peeks ! (Array u64 256) (Is (Array u64 256)) (shows 𝓤 H A (Array u64 256)) r1 (z1 ∷ []) (λ i1. drop ! $ land ! (from ! (stop !)) (init ! 44 refl (array-lawful 𝓤 H A W u64 (uint-lawful 𝓤 H A W w64) 256 .typed r1 _ i1 .0)) $
-        split ! $ move ! (1 ∷ []) $ split ! $ move ! (1 ∷ []) $ nothing ! $
+        fsplit ! $ move ! (1 ∷ []) $ fsplit ! $ move ! (1 ∷ []) $ fsplit ! $ move ! (1 ∷ []) $ fsplit ! $ move ! (1 ∷ []) $ fsplit ! $ move ! (1 ∷ []) $ fsplit ! $ move ! (1 ∷ []) $ fsplit ! $ move ! (8 ∷ []) $ split ! $ move ! (1 ∷ []) $ peeks ! (Array u64 256) (Is (Array u64 256)) (shows 𝓤 H A (Array u64 256)) r1 (z1 ∷ []) (λ i1. drop ! $ land ! (from ! (stop !)) (init ! 38 refl (array-lawful 𝓤 H A W u64 (uint-lawful 𝓤 H A W w64) 256 .typed r1 _ i1 .0)) $
+        split ! $ move ! (1 ∷ []) $ split ! $ move ! (1 ∷ []) $ assigns ! (addr ! (from ! (fld ! refl (hop ! (look-in ! 68 (sub ! 0 refl (whole !))) (stop !))))) (from ! (stop !)) (init ! 36 refl (tt, tt)) $
+        assigns ! (agg ! (and-then ! (load ! (from ! (stop !)) (look ! 36 refl)) (and-then ! (load ! (from ! (fld ! refl (stop !))) (look-in ! 68 (sub ! 1 refl (whole !)))) (no-more !)))) (from ! (stop !)) (init ! 34 refl (tt, (tt, (record { fits = room1 .0 }, tt)))) $
+        lft-new ! tt (λ ν2a. move ! (34 ∷ 21 ∷ []) $ use2 W (later (some (λ (δ : GName). ‵ (MutSlice (named 0) (ν2a ∷ []) u64 .own (ref1 δ (ys1)) (v1 ∷ [])) ⊛ ‵ (Lent1 ν2a δ (ys1))))) (lends1 (named 0) ν2a (ys1) (refl)) $ await ! tt $ pick ! (λ δ2a. split ! $ move ! (30 ∷ []) $ use1 W (‵ (O7) ⊛ ‵ (O7)) (shr-slice-copy 𝓤 H A W (named 2) κ₂ mEntry.the-row .twice s7 (v7 ∷ [])) $ split ! $ move ! (31 ∷ []) $ use1 W (‵ (O8) ⊛ ‵ (O8)) (shr-slice-copy 𝓤 H A W (named 3) κ₃ mEntry.the-row .twice s8 (v8 ∷ [])) $ split ! $ move ! (32 ∷ []) $ use1 W (‵ (O9) ⊛ ‵ (O9)) (shr-slice-copy 𝓤 H A W (named 4) κ₄ mEntry.the-row .twice s9 (v9 ∷ [])) $ split ! $ move ! (33 ∷ []) $ use1 W (‵ (O10) ⊛ ‵ (O10)) (shr-slice-copy 𝓤 H A W (named 5) κ₅ mEntry.the-row .twice s10 (v10 ∷ [])) $ split ! $ move ! (34 ∷ []) $ use1 W (‵ (O11) ⊛ ‵ (O11)) (shr-slice-copy 𝓤 H A W (named 6) κ₆ mEntry.the-row .twice s11 (v11 ∷ [])) $ split ! $ move ! (35 ∷ []) $ use1 W (‵ (O12) ⊛ ‵ (O12)) (shr-slice-copy 𝓤 H A W (named 7) κ₇ mEntry.the-row .twice s12 (v12 ∷ [])) $ split ! $ nothing ! $ move ! (30 ∷ 0 ∷ []) $ join ! $ move ! (30 ∷ 0 ∷ []) $ join ! $ move ! (30 ∷ 0 ∷ []) $ join ! $ move ! (30 ∷ 0 ∷ []) $ join ! $ move ! (30 ∷ 0 ∷ []) $ join ! $ move ! (30 ∷ 0 ∷ []) $ join ! $ move ! (15 ∷ 0 ∷ []) $ join ! $ move ! (3 ∷ 1 ∷ []) $ join ! $ move ! (4 ∷ 0 ∷ []) $ join ! $ move ! (5 ∷ 0 ∷ []) $ join ! $ move ! (6 ∷ 0 ∷ []) $ join ! $ move ! (7 ∷ 0 ∷ []) $ join ! $ move ! (8 ∷ 0 ∷ []) $ join ! $ move ! (1 ∷ 0 ∷ []) $ join ! $
         -- call 2
-        use1 W (raw (Callee-g2 𝓤 H A at-mem run .pre ((tt, tt, tt, (n3, (n5, (n6, (r1, tt)))), (u3 ∷ [], (u5 ∷ [], (u6 ∷ [], (z1 ∷ [], tt))))), tt))) (qed W ((‵ ftrue) ∷ []) ∵ nothing ! $ owned ! (Array u64 256) (Is (Array u64 256)) (array-makes 𝓤 H A W u64 (uint-makes 𝓤 H A W w64) 256) (r1) _ i1 $ fjoin ! $ owned ! u64 (Is u64) (uint-makes 𝓤 H A W w64) (n6) _ w6 $ fjoin ! $ owned ! u64 (Is u64) (uint-makes 𝓤 H A W w64) (n5) _ w5 $ fjoin ! $ owned ! u64 (Is u64) (uint-makes 𝓤 H A W w64) (n3) _ w3 $ fjoin ! $ move ! (1 ∷ 0 ∷ []) $ join ! $ nothing ! $ move ! (1 ∷ 0 ∷ []) $ frame ! $ done !) $
-        calls-at ! fm (Callee-g2 𝓤 H A at-mem run) known-g2 ((tt, tt, tt, (n3, (n5, (n6, (r1, tt)))), (u3 ∷ [], (u5 ∷ [], (u6 ∷ [], (z1 ∷ [], tt))))), tt) (and-then ! (load ! (from ! (stop !)) (look ! 71 refl)) (and-then ! (load ! (from ! (stop !)) (look ! 67 refl)) (and-then ! (load ! (from ! (stop !)) (look ! 65 refl)) (and-then ! (load ! (from ! (stop !)) (look ! 47 refl)) (no-more !))))) (λ z2.
-        use1 W (later (some (λ (r2 : (List ℕ)). ((‵ ftrue) ⊛ ‵ ((Array u64 12) .own r2 (z2 ∷ []))) ⊛ some (λ (ws : Lasts g2.ended tt (n3, (n5, (n6, (r1, tt))))). ‵ (lasts g2.ended tt (n3, (n5, (n6, (r1, tt)))) ws) ⊛ raw (g2.clauses 𝓤 H A at-mem run tt (n3, (n5, (n6, (r1, tt)))) .ensures tt r2 (atExit g2.ended tt (n3, (n5, (n6, (r1, tt)))) ws)))))) (id⊢ 𝓤 _) $ await ! tt $ pick ! (λ r2. split ! $ move ! (1 ∷ []) $ pick ! (λ ws2. split ! $ move ! (1 ∷ []) $ heard ! _ (λ e2.
-        fsplit ! $ move ! (1 ∷ []) $ fsplit ! $ move ! (1 ∷ []) $ fsplit ! $ move ! (1 ∷ []) $ fsplit ! $ move ! (5 ∷ []) $ split ! $ move ! (1 ∷ []) $ peeks ! (Array u64 12) (Is (Array u64 12)) (shows 𝓤 H A (Array u64 12)) r2 (z2 ∷ []) (λ i2. drop ! $ land ! (from ! (stop !)) (init ! 50 refl (array-lawful 𝓤 H A W u64 (uint-lawful 𝓤 H A W w64) 12 .typed r2 _ i2 .0)) $
-        nothing ! $
-        -- call 3
-        use1 W (raw (Callee-g3 𝓤 H A at-mem run .pre ((tt, tt, tt, (n3, (n5, (n6, (r1, tt)))), (u3 ∷ [], (u5 ∷ [], (u6 ∷ [], (z1 ∷ [], tt))))), tt))) (qed W ((‵ ftrue) ∷ []) ∵ nothing ! $ owned ! (Array u64 256) (Is (Array u64 256)) (array-makes 𝓤 H A W u64 (uint-makes 𝓤 H A W w64) 256) (r1) _ i1 $ fjoin ! $ owned ! u64 (Is u64) (uint-makes 𝓤 H A W w64) (n6) _ w6 $ fjoin ! $ owned ! u64 (Is u64) (uint-makes 𝓤 H A W w64) (n5) _ w5 $ fjoin ! $ owned ! u64 (Is u64) (uint-makes 𝓤 H A W w64) (n3) _ w3 $ fjoin ! $ move ! (1 ∷ 0 ∷ []) $ join ! $ nothing ! $ move ! (1 ∷ 0 ∷ []) $ frame ! $ done !) $
-        calls-at ! fm (Callee-g3 𝓤 H A at-mem run) known-g3 ((tt, tt, tt, (n3, (n5, (n6, (r1, tt)))), (u3 ∷ [], (u5 ∷ [], (u6 ∷ [], (z1 ∷ [], tt))))), tt) (and-then ! (load ! (from ! (stop !)) (look ! 77 refl)) (and-then ! (load ! (from ! (stop !)) (look ! 73 refl)) (and-then ! (load ! (from ! (stop !)) (look ! 71 refl)) (and-then ! (load ! (from ! (stop !)) (look ! 53 refl)) (no-more !))))) (λ z3.
-        use1 W (later (some (λ (r3 : (List ℕ)). ((‵ ftrue) ⊛ ‵ ((Array u64 32) .own r3 (z3 ∷ []))) ⊛ some (λ (ws : Lasts g3.ended tt (n3, (n5, (n6, (r1, tt))))). ‵ (lasts g3.ended tt (n3, (n5, (n6, (r1, tt)))) ws) ⊛ raw (g3.clauses 𝓤 H A at-mem run tt (n3, (n5, (n6, (r1, tt)))) .ensures tt r3 (atExit g3.ended tt (n3, (n5, (n6, (r1, tt)))) ws)))))) (id⊢ 𝓤 _) $ await ! tt $ pick ! (λ r3. split ! $ move ! (1 ∷ []) $ pick ! (λ ws3. split ! $ move ! (1 ∷ []) $ heard ! _ (λ e3.
-        fsplit ! $ move ! (1 ∷ []) $ fsplit ! $ move ! (1 ∷ []) $ fsplit ! $ move ! (1 ∷ []) $ fsplit ! $ move ! (5 ∷ []) $ split ! $ move ! (1 ∷ []) $ peeks ! (Array u64 32) (Is (Array u64 32)) (shows 𝓤 H A (Array u64 32)) r3 (z3 ∷ []) (λ i3. drop ! $ land ! (from ! (stop !)) (init ! 54 refl (array-lawful 𝓤 H A W u64 (uint-lawful 𝓤 H A W w64) 32 .typed r3 _ i3 .0)) $
-        nothing ! $
-        -- call 4
-        use1 W (raw (Callee-g4 𝓤 H A at-mem run .pre ((tt, tt, tt, (n3, (n5, (n6, (r1, tt)))), (u3 ∷ [], (u5 ∷ [], (u6 ∷ [], (z1 ∷ [], tt))))), tt))) (qed W ((‵ ftrue) ∷ []) ∵ nothing ! $ owned ! (Array u64 256) (Is (Array u64 256)) (array-makes 𝓤 H A W u64 (uint-makes 𝓤 H A W w64) 256) (r1) _ i1 $ fjoin ! $ owned ! u64 (Is u64) (uint-makes 𝓤 H A W w64) (n6) _ w6 $ fjoin ! $ owned ! u64 (Is u64) (uint-makes 𝓤 H A W w64) (n5) _ w5 $ fjoin ! $ owned ! u64 (Is u64) (uint-makes 𝓤 H A W w64) (n3) _ w3 $ fjoin ! $ move ! (1 ∷ 0 ∷ []) $ join ! $ nothing ! $ move ! (1 ∷ 0 ∷ []) $ frame ! $ done !) $
-        calls-at ! fm (Callee-g4 𝓤 H A at-mem run) known-g4 ((tt, tt, tt, (n3, (n5, (n6, (r1, tt)))), (u3 ∷ [], (u5 ∷ [], (u6 ∷ [], (z1 ∷ [], tt))))), tt) (and-then ! (load ! (from ! (stop !)) (look ! 83 refl)) (and-then ! (load ! (from ! (stop !)) (look ! 79 refl)) (and-then ! (load ! (from ! (stop !)) (look ! 77 refl)) (and-then ! (load ! (from ! (stop !)) (look ! 59 refl)) (no-more !))))) (λ z4.
-        use1 W (later (some (λ (r4 : (List ℕ)). ((‵ ftrue) ⊛ ‵ ((Array u64 32) .own r4 (z4 ∷ []))) ⊛ some (λ (ws : Lasts g4.ended tt (n3, (n5, (n6, (r1, tt))))). ‵ (lasts g4.ended tt (n3, (n5, (n6, (r1, tt)))) ws) ⊛ raw (g4.clauses 𝓤 H A at-mem run tt (n3, (n5, (n6, (r1, tt)))) .ensures tt r4 (atExit g4.ended tt (n3, (n5, (n6, (r1, tt)))) ws)))))) (id⊢ 𝓤 _) $ await ! tt $ pick ! (λ r4. split ! $ move ! (1 ∷ []) $ pick ! (λ ws4. split ! $ move ! (1 ∷ []) $ heard ! _ (λ e4.
-        fsplit ! $ move ! (1 ∷ []) $ fsplit ! $ move ! (1 ∷ []) $ fsplit ! $ move ! (1 ∷ []) $ fsplit ! $ move ! (5 ∷ []) $ split ! $ move ! (1 ∷ []) $ peeks ! (Array u64 32) (Is (Array u64 32)) (shows 𝓤 H A (Array u64 32)) r4 (z4 ∷ []) (λ i4. drop ! $ land ! (from ! (stop !)) (init ! 58 refl (array-lawful 𝓤 H A W u64 (uint-lawful 𝓤 H A W w64) 32 .typed r4 _ i4 .0)) $
-        assigns ! (addr ! (from ! (fld ! refl (hop ! (look-in ! 92 (sub ! 0 refl (whole !))) (stop !))))) (from ! (stop !)) (init ! 54 refl (tt, tt)) $
-        assigns ! (agg ! (and-then ! (load ! (from ! (stop !)) (look ! 54 refl)) (and-then ! (load ! (from ! (fld ! refl (stop !))) (look-in ! 92 (sub ! 1 refl (whole !)))) (no-more !)))) (from ! (stop !)) (init ! 52 refl (tt, (tt, (record { fits = room1 .0 }, tt)))) $
-        lft-new ! tt (λ ν5a. move ! (52 ∷ 39 ∷ []) $ use2 W (later (some (λ (δ : GName). ‵ (MutSlice (named 0) (ν5a ∷ []) u64 .own (ref1 δ (ys1)) (v1 ∷ [])) ⊛ ‵ (Lent1 ν5a δ (ys1))))) (lends1 (named 0) ν5a (ys1) (refl)) $ await ! tt $ pick ! (λ δ5a. split ! $ move ! (48 ∷ []) $ use1 W (‵ (O7) ⊛ ‵ (O7)) (shr-slice-copy 𝓤 H A W (named 2) κ₂ mEntry.the-row .twice s7 (v7 ∷ [])) $ split ! $ move ! (49 ∷ []) $ use1 W (‵ (O8) ⊛ ‵ (O8)) (shr-slice-copy 𝓤 H A W (named 3) κ₃ mEntry.the-row .twice s8 (v8 ∷ [])) $ split ! $ move ! (50 ∷ []) $ use1 W (‵ (O9) ⊛ ‵ (O9)) (shr-slice-copy 𝓤 H A W (named 4) κ₄ mEntry.the-row .twice s9 (v9 ∷ [])) $ split ! $ move ! (51 ∷ []) $ use1 W (‵ (O10) ⊛ ‵ (O10)) (shr-slice-copy 𝓤 H A W (named 5) κ₅ mEntry.the-row .twice s10 (v10 ∷ [])) $ split ! $ move ! (52 ∷ []) $ use1 W (‵ (O11) ⊛ ‵ (O11)) (shr-slice-copy 𝓤 H A W (named 6) κ₆ mEntry.the-row .twice s11 (v11 ∷ [])) $ split ! $ move ! (53 ∷ []) $ use1 W (‵ (O12) ⊛ ‵ (O12)) (shr-slice-copy 𝓤 H A W (named 7) κ₇ mEntry.the-row .twice s12 (v12 ∷ [])) $ split ! $ nothing ! $ move ! (48 ∷ 0 ∷ []) $ join ! $ move ! (48 ∷ 0 ∷ []) $ join ! $ move ! (48 ∷ 0 ∷ []) $ join ! $ move ! (48 ∷ 0 ∷ []) $ join ! $ move ! (48 ∷ 0 ∷ []) $ join ! $ move ! (48 ∷ 0 ∷ []) $ join ! $ move ! (15 ∷ 0 ∷ []) $ join ! $ move ! (3 ∷ 1 ∷ []) $ join ! $ move ! (4 ∷ 0 ∷ []) $ join ! $ move ! (5 ∷ 0 ∷ []) $ join ! $ move ! (6 ∷ 0 ∷ []) $ join ! $ move ! (7 ∷ 0 ∷ []) $ join ! $ move ! (8 ∷ 0 ∷ []) $ join ! $ move ! (1 ∷ 0 ∷ []) $ join ! $
-        -- call 5
-        use1 W (raw (Callee-g5 𝓤 H A at-mem run .pre ((((ν5a ∷ []), (κ₂, (κ₃, (κ₄, (κ₅, (κ₆, (κ₇, tt))))))), (fullShare, (q₂, (q₃, (q₄, (q₅, (q₆, (q₇, tt))))))), tt, (ref1 δ5a (ys1), (n2, (n5, (n6, (r2, (r3, (r4, (s7, (s8, (s9, (s10, (s11, (s12, tt))))))))))))), (v1 ∷ [], (u2 ∷ [], (u5 ∷ [], (u6 ∷ [], (z2 ∷ [], (z3 ∷ [], (z4 ∷ [], (v7 ∷ [], (v8 ∷ [], (v9 ∷ [], (v10 ∷ [], (v11 ∷ [], (v12 ∷ [], tt)))))))))))))), tt))) (qed W ((‵ (flft (ν5a ∷ []) fullShare) ⊛ ‵ (flft κ₂ q₂) ⊛ ‵ (flft κ₃ q₃) ⊛ ‵ (flft κ₄ q₄) ⊛ ‵ (flft κ₅ q₅) ⊛ ‵ (flft κ₆ q₆) ⊛ ‵ (flft κ₇ q₇) ⊛ ‵ ftrue) ∷ ‵ (MutSlice (named 0) (ν5a ∷ []) u64 .own (ref1 δ5a (ys1)) (v1 ∷ [])) ∷ ‵ (ShrSlice (named 1) κ₂ mEntry.the-row .own s7 (v7 ∷ [])) ∷ ‵ (ShrSlice (named 2) κ₃ mEntry.the-row .own s8 (v8 ∷ [])) ∷ ‵ (ShrSlice (named 3) κ₄ mEntry.the-row .own s9 (v9 ∷ [])) ∷ ‵ (ShrSlice (named 4) κ₅ mEntry.the-row .own s10 (v10 ∷ [])) ∷ ‵ (ShrSlice (named 5) κ₆ mEntry.the-row .own s11 (v11 ∷ [])) ∷ ‵ (ShrSlice (named 6) κ₇ mEntry.the-row .own s12 (v12 ∷ [])) ∷ []) ∵ nothing ! $ move ! (8 ∷ 0 ∷ []) $ fjoin ! $ move ! (7 ∷ 0 ∷ []) $ fjoin ! $ move ! (6 ∷ 0 ∷ []) $ fjoin ! $ move ! (5 ∷ 0 ∷ []) $ fjoin ! $ move ! (4 ∷ 0 ∷ []) $ fjoin ! $ move ! (3 ∷ 0 ∷ []) $ fjoin ! $ owned ! (Array u64 32) (Is (Array u64 32)) (array-makes 𝓤 H A W u64 (uint-makes 𝓤 H A W w64) 32) (r4) _ i4 $ fjoin ! $ owned ! (Array u64 32) (Is (Array u64 32)) (array-makes 𝓤 H A W u64 (uint-makes 𝓤 H A W w64) 32) (r3) _ i3 $ fjoin ! $ owned ! (Array u64 12) (Is (Array u64 12)) (array-makes 𝓤 H A W u64 (uint-makes 𝓤 H A W w64) 12) (r2) _ i2 $ fjoin ! $ owned ! u64 (Is u64) (uint-makes 𝓤 H A W w64) (n6) _ w6 $ fjoin ! $ owned ! u64 (Is u64) (uint-makes 𝓤 H A W w64) (n5) _ w5 $ fjoin ! $ owned ! u64 (Is u64) (uint-makes 𝓤 H A W w64) (n2) _ w2 $ fjoin ! $ move ! (2 ∷ 0 ∷ []) $ fjoin ! $ move ! (1 ∷ 0 ∷ []) $ join ! $ nothing ! $ move ! (1 ∷ 0 ∷ []) $ frame ! $ done !) $
-        calls-at ! fm (Callee-g5 𝓤 H A at-mem run) known-g5 ((((ν5a ∷ []), (κ₂, (κ₃, (κ₄, (κ₅, (κ₆, (κ₇, tt))))))), (fullShare, (q₂, (q₃, (q₄, (q₅, (q₆, (q₇, tt))))))), tt, (ref1 δ5a (ys1), (n2, (n5, (n6, (r2, (r3, (r4, (s7, (s8, (s9, (s10, (s11, (s12, tt))))))))))))), (v1 ∷ [], (u2 ∷ [], (u5 ∷ [], (u6 ∷ [], (z2 ∷ [], (z3 ∷ [], (z4 ∷ [], (v7 ∷ [], (v8 ∷ [], (v9 ∷ [], (v10 ∷ [], (v11 ∷ [], (v12 ∷ [], tt)))))))))))))), tt) (and-then ! (load ! (from ! (stop !)) (look ! 46 refl)) (and-then ! (load ! (from ! (stop !)) (look ! 84 refl)) (and-then ! (load ! (from ! (stop !)) (look ! 78 refl)) (and-then ! (load ! (from ! (stop !)) (look ! 76 refl)) (and-then ! (load ! (from ! (stop !)) (look ! 56 refl)) (and-then ! (load ! (from ! (stop !)) (look ! 54 refl)) (and-then ! (load ! (from ! (stop !)) (look ! 52 refl)) (and-then ! (load ! (from ! (stop !)) (look ! 74 refl)) (and-then ! (load ! (from ! (stop !)) (look ! 72 refl)) (and-then ! (load ! (from ! (stop !)) (look ! 70 refl)) (and-then ! (load ! (from ! (stop !)) (look ! 68 refl)) (and-then ! (load ! (from ! (stop !)) (look ! 66 refl)) (and-then ! (load ! (from ! (stop !)) (look ! 64 refl)) (no-more !)))))))))))))) (λ z5.
-        use1 W (later (some (λ (r5 : Unit {0}). ((‵ (flft (ν5a ∷ []) fullShare) ⊛ ‵ (flft κ₂ q₂) ⊛ ‵ (flft κ₃ q₃) ⊛ ‵ (flft κ₄ q₄) ⊛ ‵ (flft κ₅ q₅) ⊛ ‵ (flft κ₆ q₆) ⊛ ‵ (flft κ₇ q₇) ⊛ ‵ ftrue) ⊛ ‵ (unit .own r5 (z5 ∷ []))) ⊛ some (λ (ws : Lasts g5.ended ((ν5a ∷ []), (κ₂, (κ₃, (κ₄, (κ₅, (κ₆, (κ₇, tt))))))) (ref1 δ5a (ys1), (n2, (n5, (n6, (r2, (r3, (r4, (s7, (s8, (s9, (s10, (s11, (s12, tt)))))))))))))). ‵ (lasts g5.ended ((ν5a ∷ []), (κ₂, (κ₃, (κ₄, (κ₅, (κ₆, (κ₇, tt))))))) (ref1 δ5a (ys1), (n2, (n5, (n6, (r2, (r3, (r4, (s7, (s8, (s9, (s10, (s11, (s12, tt))))))))))))) ws) ⊛ raw (g5.clauses 𝓤 H A at-mem run ((ν5a ∷ []), (κ₂, (κ₃, (κ₄, (κ₅, (κ₆, (κ₇, tt))))))) (ref1 δ5a (ys1), (n2, (n5, (n6, (r2, (r3, (r4, (s7, (s8, (s9, (s10, (s11, (s12, tt))))))))))))) .ensures tt r5 (atExit g5.ended ((ν5a ∷ []), (κ₂, (κ₃, (κ₄, (κ₅, (κ₆, (κ₇, tt))))))) (ref1 δ5a (ys1), (n2, (n5, (n6, (r2, (r3, (r4, (s7, (s8, (s9, (s10, (s11, (s12, tt))))))))))))) ws)))))) (id⊢ 𝓤 _) $ await ! tt $ pick ! (λ r5. split ! $ move ! (1 ∷ []) $ pick ! (λ ws5. split ! $ move ! (1 ∷ []) $ heard ! _ (λ e5.
-        fsplit ! $ fsplit ! $ move ! (1 ∷ []) $ feqL ! (λ same5a. move ! (1 ∷ []) $ fsplit ! $ move ! (1 ∷ []) $ fsplit ! $ move ! (1 ∷ []) $ fsplit ! $ move ! (1 ∷ []) $ fsplit ! $ move ! (1 ∷ []) $ fsplit ! $ move ! (1 ∷ []) $ fsplit ! $ move ! (1 ∷ []) $ fsplit ! $ move ! (1 ∷ []) $ fsplit ! $ move ! (1 ∷ []) $ fsplit ! $ move ! (1 ∷ []) $ fsplit ! $ move ! (1 ∷ []) $ fsplit ! $ move ! (1 ∷ []) $ fsplit ! $ move ! (14 ∷ []) $ split ! $ move ! (1 ∷ []) $ feqL ! (λ i5. land ! (from ! (stop !)) (init ! 64 refl (subst (λ (t : Val). Trueᴮ (hasTy tyUnit t) × WT t) (sym (ap only i5)) (tt, tt))) $
-        split ! $ move ! (1 ∷ []) $ split ! $ move ! (1 ∷ []) $ split ! $ move ! (1 ∷ []) $ split ! $ move ! (1 ∷ []) $ split ! $ move ! (1 ∷ []) $ split ! $ move ! (1 ∷ []) $ split ! $ move ! (1 ∷ []) $ move ! (7 ∷ []) $ lft-end ! tt $ move ! (0 ∷ 28 ∷ 21 ∷ []) $ use3 W (later (‵ (O1 (ws5 .0)) ⊛ ‵ (flft κ₀ q₀))) (backs1 (named 0) ν5a δ5a (ys1) (ws5 .0) (refl) room1 same5a) $ await ! tt $ split ! $
-        assigns ! (of-opd ! (unit-lit !)) (from ! (stop !)) (init ! 108 refl (tt, tt)) $
-        returns ! (look ! 108 refl) $ forget ! 108 refl $ forget ! 106 refl $ forget ! 104 refl $ forget ! 102 refl $ forget ! 100 refl $ forget ! 98 refl $ forget ! 96 refl $ forget ! 94 refl $ forget ! 92 refl $ forget ! 90 refl $ forget ! 88 refl $ forget ! 86 refl $ forget ! 84 refl $ forget ! 82 refl $ forget ! 80 refl $ forget ! 78 refl $ forget ! 76 refl $ forget ! 74 refl $ forget ! 72 refl $ forget ! 70 refl $ forget ! 68 refl $ forget ! 66 refl $
-        move ! (108 ∷ 109 ∷ []) $ free1 ! $ move ! (106 ∷ 107 ∷ []) $ free1 ! $ move ! (104 ∷ 105 ∷ []) $ free1 ! $ move ! (102 ∷ 103 ∷ []) $ free1 ! $ move ! (100 ∷ 101 ∷ []) $ free1 ! $ move ! (98 ∷ 99 ∷ []) $ free1 ! $ move ! (96 ∷ 97 ∷ []) $ free1 ! $ move ! (94 ∷ 95 ∷ []) $ free1 ! $ move ! (92 ∷ 93 ∷ []) $ free1 ! $ move ! (90 ∷ 91 ∷ []) $ free1 ! $ move ! (88 ∷ 89 ∷ []) $ free1 ! $ move ! (86 ∷ 87 ∷ []) $ free1 ! $ move ! (84 ∷ 85 ∷ []) $ free1 ! $ move ! (82 ∷ 83 ∷ []) $ free1 ! $ move ! (80 ∷ 81 ∷ []) $ free1 ! $ move ! (78 ∷ 79 ∷ []) $ free1 ! $ move ! (76 ∷ 77 ∷ []) $ free1 ! $ move ! (74 ∷ 75 ∷ []) $ free1 ! $ move ! (72 ∷ 73 ∷ []) $ free1 ! $ move ! (70 ∷ 71 ∷ []) $ free1 ! $ move ! (68 ∷ 69 ∷ []) $ free1 ! $ move ! (66 ∷ 67 ∷ []) $ free1 ! $ free0 ! $
-        suffices ! _ (ends-at 𝓤 H A f.ended stayed (f.clauses 𝓤 H A at-mem run) W (((κ₀, (κ₁, (κ₂, (κ₃, (κ₄, (κ₅, (κ₆, (κ₇, (κ₈, tt))))))))), (q₀, (q₁, (q₂, (q₃, (q₄, (q₅, (q₆, (q₇, (q₈, tt))))))))), tt, a, at), tt) vunit tt (ws5 .0, (tt, (tt, (tt, (tt, (tt, (tt, (tt, (tt, (tt, (tt, (tt, (tt, (tt, tt)))))))))))))) (same5a, (tt, (tt, (tt, (tt, (tt, (tt, (tt, (tt, (tt, (tt, (tt, (tt, (tt, tt))))))))))))))) $ says ! (cc) $
-        nothing ! $ move ! (48 ∷ 0 ∷ []) $ join ! $ move ! (4 ∷ 0 ∷ []) $ join ! $ move ! (4 ∷ 0 ∷ []) $ join ! $ move ! (4 ∷ 0 ∷ []) $ join ! $ move ! (4 ∷ 0 ∷ []) $ join ! $ move ! (4 ∷ 0 ∷ []) $ join ! $ move ! (4 ∷ 0 ∷ []) $ join ! $ move ! (42 ∷ 0 ∷ []) $ join ! $ move ! (2 ∷ 0 ∷ []) $ join ! $ nothing ! $ move ! (54 ∷ 0 ∷ []) $ fjoin ! $ move ! (50 ∷ 0 ∷ []) $ fjoin ! $ move ! (17 ∷ 0 ∷ []) $ fjoin ! $ move ! (17 ∷ 0 ∷ []) $ fjoin ! $ move ! (17 ∷ 0 ∷ []) $ fjoin ! $ move ! (17 ∷ 0 ∷ []) $ fjoin ! $ move ! (17 ∷ 0 ∷ []) $ fjoin ! $ move ! (17 ∷ 0 ∷ []) $ fjoin ! $ move ! (47 ∷ 0 ∷ []) $ fjoin ! $ move ! (47 ∷ 0 ∷ []) $ fjoin ! $ move ! (44 ∷ 0 ∷ []) $ fjoin ! $ move ! (46 ∷ 0 ∷ []) $ fjoin ! $ move ! (46 ∷ 0 ∷ []) $ fjoin ! $ move ! (2 ∷ 0 ∷ []) $ fjoin ! $ keep ! (1 ∷ 0 ∷ []) $ frame ! $ feqI ! (List Val) (vunit ∷ []) (vunit ∷ []) refl $ move ! (1 ∷ 0 ∷ []) $ done !))))))))))))))))))))))))))))))))))))))))))))))))))
+        use1 W (raw (Callee-g2 𝓤 H A at-mem run .pre ((((ν2a ∷ []), (κ₂, (κ₃, (κ₄, (κ₅, (κ₆, (κ₇, tt))))))), (fullShare, (q₂, (q₃, (q₄, (q₅, (q₆, (q₇, tt))))))), tt, (ref1 δ2a (ys1), (n2, (n3, (n5, (n6, (r1, (s7, (s8, (s9, (s10, (s11, (s12, tt)))))))))))), (v1 ∷ [], (u2 ∷ [], (u3 ∷ [], (u5 ∷ [], (u6 ∷ [], (z1 ∷ [], (v7 ∷ [], (v8 ∷ [], (v9 ∷ [], (v10 ∷ [], (v11 ∷ [], (v12 ∷ [], tt))))))))))))), tt))) (qed W ((‵ (flft (ν2a ∷ []) fullShare) ⊛ ‵ (flft κ₂ q₂) ⊛ ‵ (flft κ₃ q₃) ⊛ ‵ (flft κ₄ q₄) ⊛ ‵ (flft κ₅ q₅) ⊛ ‵ (flft κ₆ q₆) ⊛ ‵ (flft κ₇ q₇) ⊛ ‵ ftrue) ∷ ‵ (MutSlice (named 0) (ν2a ∷ []) u64 .own (ref1 δ2a (ys1)) (v1 ∷ [])) ∷ ‵ (ShrSlice (named 1) κ₂ mEntry.the-row .own s7 (v7 ∷ [])) ∷ ‵ (ShrSlice (named 2) κ₃ mEntry.the-row .own s8 (v8 ∷ [])) ∷ ‵ (ShrSlice (named 3) κ₄ mEntry.the-row .own s9 (v9 ∷ [])) ∷ ‵ (ShrSlice (named 4) κ₅ mEntry.the-row .own s10 (v10 ∷ [])) ∷ ‵ (ShrSlice (named 5) κ₆ mEntry.the-row .own s11 (v11 ∷ [])) ∷ ‵ (ShrSlice (named 6) κ₇ mEntry.the-row .own s12 (v12 ∷ [])) ∷ []) ∵ nothing ! $ move ! (8 ∷ 0 ∷ []) $ fjoin ! $ move ! (7 ∷ 0 ∷ []) $ fjoin ! $ move ! (6 ∷ 0 ∷ []) $ fjoin ! $ move ! (5 ∷ 0 ∷ []) $ fjoin ! $ move ! (4 ∷ 0 ∷ []) $ fjoin ! $ move ! (3 ∷ 0 ∷ []) $ fjoin ! $ owned ! (Array u64 256) (Is (Array u64 256)) (array-makes 𝓤 H A W u64 (uint-makes 𝓤 H A W w64) 256) (r1) _ i1 $ fjoin ! $ owned ! u64 (Is u64) (uint-makes 𝓤 H A W w64) (n6) _ w6 $ fjoin ! $ owned ! u64 (Is u64) (uint-makes 𝓤 H A W w64) (n5) _ w5 $ fjoin ! $ owned ! u64 (Is u64) (uint-makes 𝓤 H A W w64) (n3) _ w3 $ fjoin ! $ owned ! u64 (Is u64) (uint-makes 𝓤 H A W w64) (n2) _ w2 $ fjoin ! $ move ! (2 ∷ 0 ∷ []) $ fjoin ! $ move ! (1 ∷ 0 ∷ []) $ join ! $ nothing ! $ move ! (1 ∷ 0 ∷ []) $ frame ! $ done !) $
+        calls-at ! fm (Callee-g2 𝓤 H A at-mem run) known-g2 ((((ν2a ∷ []), (κ₂, (κ₃, (κ₄, (κ₅, (κ₆, (κ₇, tt))))))), (fullShare, (q₂, (q₃, (q₄, (q₅, (q₆, (q₇, tt))))))), tt, (ref1 δ2a (ys1), (n2, (n3, (n5, (n6, (r1, (s7, (s8, (s9, (s10, (s11, (s12, tt)))))))))))), (v1 ∷ [], (u2 ∷ [], (u3 ∷ [], (u5 ∷ [], (u6 ∷ [], (z1 ∷ [], (v7 ∷ [], (v8 ∷ [], (v9 ∷ [], (v10 ∷ [], (v11 ∷ [], (v12 ∷ [], tt))))))))))))), tt) (and-then ! (load ! (from ! (stop !)) (look ! 28 refl)) (and-then ! (load ! (from ! (stop !)) (look ! 60 refl)) (and-then ! (load ! (from ! (stop !)) (look ! 58 refl)) (and-then ! (load ! (from ! (stop !)) (look ! 54 refl)) (and-then ! (load ! (from ! (stop !)) (look ! 52 refl)) (and-then ! (load ! (from ! (stop !)) (look ! 34 refl)) (and-then ! (load ! (from ! (stop !)) (look ! 50 refl)) (and-then ! (load ! (from ! (stop !)) (look ! 48 refl)) (and-then ! (load ! (from ! (stop !)) (look ! 46 refl)) (and-then ! (load ! (from ! (stop !)) (look ! 44 refl)) (and-then ! (load ! (from ! (stop !)) (look ! 42 refl)) (and-then ! (load ! (from ! (stop !)) (look ! 40 refl)) (no-more !))))))))))))) (λ z2.
+        use1 W (later (some (λ (r2 : Unit {0}). ((‵ (flft (ν2a ∷ []) fullShare) ⊛ ‵ (flft κ₂ q₂) ⊛ ‵ (flft κ₃ q₃) ⊛ ‵ (flft κ₄ q₄) ⊛ ‵ (flft κ₅ q₅) ⊛ ‵ (flft κ₆ q₆) ⊛ ‵ (flft κ₇ q₇) ⊛ ‵ ftrue) ⊛ ‵ (unit .own r2 (z2 ∷ []))) ⊛ some (λ (ws : Lasts g2.ended ((ν2a ∷ []), (κ₂, (κ₃, (κ₄, (κ₅, (κ₆, (κ₇, tt))))))) (ref1 δ2a (ys1), (n2, (n3, (n5, (n6, (r1, (s7, (s8, (s9, (s10, (s11, (s12, tt))))))))))))). ‵ (lasts g2.ended ((ν2a ∷ []), (κ₂, (κ₃, (κ₄, (κ₅, (κ₆, (κ₇, tt))))))) (ref1 δ2a (ys1), (n2, (n3, (n5, (n6, (r1, (s7, (s8, (s9, (s10, (s11, (s12, tt)))))))))))) ws) ⊛ raw (g2.clauses 𝓤 H A at-mem run ((ν2a ∷ []), (κ₂, (κ₃, (κ₄, (κ₅, (κ₆, (κ₇, tt))))))) (ref1 δ2a (ys1), (n2, (n3, (n5, (n6, (r1, (s7, (s8, (s9, (s10, (s11, (s12, tt)))))))))))) .ensures tt r2 (atExit g2.ended ((ν2a ∷ []), (κ₂, (κ₃, (κ₄, (κ₅, (κ₆, (κ₇, tt))))))) (ref1 δ2a (ys1), (n2, (n3, (n5, (n6, (r1, (s7, (s8, (s9, (s10, (s11, (s12, tt)))))))))))) ws)))))) (id⊢ 𝓤 _) $ await ! tt $ pick ! (λ r2. split ! $ move ! (1 ∷ []) $ pick ! (λ ws2. split ! $ move ! (1 ∷ []) $ heard ! _ (λ e2.
+        fsplit ! $ fsplit ! $ move ! (1 ∷ []) $ feqL ! (λ same2a. move ! (1 ∷ []) $ fsplit ! $ move ! (1 ∷ []) $ fsplit ! $ move ! (1 ∷ []) $ fsplit ! $ move ! (1 ∷ []) $ fsplit ! $ move ! (1 ∷ []) $ fsplit ! $ move ! (1 ∷ []) $ fsplit ! $ move ! (1 ∷ []) $ fsplit ! $ move ! (1 ∷ []) $ fsplit ! $ move ! (1 ∷ []) $ fsplit ! $ move ! (1 ∷ []) $ fsplit ! $ move ! (1 ∷ []) $ fsplit ! $ move ! (13 ∷ []) $ split ! $ move ! (1 ∷ []) $ feqL ! (λ i2. land ! (from ! (stop !)) (init ! 45 refl (subst (λ (t : Val). Trueᴮ (hasTy tyUnit t) × WT t) (sym (ap only i2)) (tt, tt))) $
+        split ! $ move ! (1 ∷ []) $ split ! $ move ! (1 ∷ []) $ split ! $ move ! (1 ∷ []) $ split ! $ move ! (1 ∷ []) $ split ! $ move ! (1 ∷ []) $ split ! $ move ! (1 ∷ []) $ split ! $ move ! (1 ∷ []) $ move ! (7 ∷ []) $ lft-end ! tt $ move ! (0 ∷ 27 ∷ 20 ∷ []) $ use3 W (later (‵ (O1 (ws2 .0)) ⊛ ‵ (flft κ₀ q₀))) (backs1 (named 0) ν2a δ2a (ys1) (ws2 .0) (refl) room1 same2a) $ await ! tt $ split ! $
+        assigns ! (of-opd ! (unit-lit !)) (from ! (stop !)) (init ! 83 refl (tt, tt)) $
+        returns ! (look ! 83 refl) $ forget ! 83 refl $ forget ! 81 refl $ forget ! 79 refl $ forget ! 77 refl $ forget ! 75 refl $ forget ! 73 refl $ forget ! 71 refl $ forget ! 69 refl $ forget ! 67 refl $ forget ! 65 refl $ forget ! 63 refl $ forget ! 61 refl $ forget ! 59 refl $ forget ! 57 refl $ forget ! 55 refl $ forget ! 53 refl $ forget ! 51 refl $ forget ! 49 refl $ forget ! 47 refl $
+        move ! (83 ∷ 84 ∷ []) $ free1 ! $ move ! (81 ∷ 82 ∷ []) $ free1 ! $ move ! (79 ∷ 80 ∷ []) $ free1 ! $ move ! (77 ∷ 78 ∷ []) $ free1 ! $ move ! (75 ∷ 76 ∷ []) $ free1 ! $ move ! (73 ∷ 74 ∷ []) $ free1 ! $ move ! (71 ∷ 72 ∷ []) $ free1 ! $ move ! (69 ∷ 70 ∷ []) $ free1 ! $ move ! (67 ∷ 68 ∷ []) $ free1 ! $ move ! (65 ∷ 66 ∷ []) $ free1 ! $ move ! (63 ∷ 64 ∷ []) $ free1 ! $ move ! (61 ∷ 62 ∷ []) $ free1 ! $ move ! (59 ∷ 60 ∷ []) $ free1 ! $ move ! (57 ∷ 58 ∷ []) $ free1 ! $ move ! (55 ∷ 56 ∷ []) $ free1 ! $ move ! (53 ∷ 54 ∷ []) $ free1 ! $ move ! (51 ∷ 52 ∷ []) $ free1 ! $ move ! (49 ∷ 50 ∷ []) $ free1 ! $ move ! (47 ∷ 48 ∷ []) $ free1 ! $ free0 ! $
+        suffices ! _ (ends-at 𝓤 H A f.ended stayed (f.clauses 𝓤 H A at-mem run) W (((κ₀, (κ₁, (κ₂, (κ₃, (κ₄, (κ₅, (κ₆, (κ₇, (κ₈, tt))))))))), (q₀, (q₁, (q₂, (q₃, (q₄, (q₅, (q₆, (q₇, (q₈, tt))))))))), tt, a, at), tt) vunit tt (ws2 .0, (tt, (tt, (tt, (tt, (tt, (tt, (tt, (tt, (tt, (tt, (tt, (tt, (tt, tt)))))))))))))) (same2a, (tt, (tt, (tt, (tt, (tt, (tt, (tt, (tt, (tt, (tt, (tt, (tt, (tt, tt))))))))))))))) $ says ! (cc) $
+        nothing ! $ move ! (29 ∷ 0 ∷ []) $ join ! $ move ! (4 ∷ 0 ∷ []) $ join ! $ move ! (4 ∷ 0 ∷ []) $ join ! $ move ! (4 ∷ 0 ∷ []) $ join ! $ move ! (4 ∷ 0 ∷ []) $ join ! $ move ! (4 ∷ 0 ∷ []) $ join ! $ move ! (4 ∷ 0 ∷ []) $ join ! $ move ! (23 ∷ 0 ∷ []) $ join ! $ move ! (2 ∷ 0 ∷ []) $ join ! $ nothing ! $ move ! (35 ∷ 0 ∷ []) $ fjoin ! $ move ! (31 ∷ 0 ∷ []) $ fjoin ! $ move ! (16 ∷ 0 ∷ []) $ fjoin ! $ move ! (16 ∷ 0 ∷ []) $ fjoin ! $ move ! (16 ∷ 0 ∷ []) $ fjoin ! $ move ! (16 ∷ 0 ∷ []) $ fjoin ! $ move ! (16 ∷ 0 ∷ []) $ fjoin ! $ move ! (16 ∷ 0 ∷ []) $ fjoin ! $ move ! (28 ∷ 0 ∷ []) $ fjoin ! $ move ! (28 ∷ 0 ∷ []) $ fjoin ! $ move ! (25 ∷ 0 ∷ []) $ fjoin ! $ move ! (27 ∷ 0 ∷ []) $ fjoin ! $ move ! (27 ∷ 0 ∷ []) $ fjoin ! $ move ! (2 ∷ 0 ∷ []) $ fjoin ! $ keep ! (1 ∷ 0 ∷ []) $ frame ! $ feqI ! (List Val) (vunit ∷ []) (vunit ∷ []) refl $ move ! (1 ∷ 0 ∷ []) $ done !))))))))))))))))))))))))))))))))
 
 module _ {M : Type 1} (𝓤 : URA M) (H : Heap 𝓤) (A : Atoms 𝓤) (W : Given 𝓤 H A) (mem : Memory → SProp 𝓤) (run : Routine → Fun 𝓤) where
-  walks : (C : Calls 𝓤 H) (Λ : Loops 𝓤 H) → FmC 𝓤 H (W .laws) C → Triple 𝓤 (C #g1) (Callee-g1 𝓤 H A mem run) → Triple 𝓤 (C #g2) (Callee-g2 𝓤 H A mem run) → Triple 𝓤 (C #g3) (Callee-g3 𝓤 H A mem run) → Triple 𝓤 (C #g4) (Callee-g4 𝓤 H A mem run) → Triple 𝓤 (C #g5) (Callee-g5 𝓤 H A mem run) → Walks 𝓤 H A f.ended stayed (WpFn 𝓤 H C Λ code.function) (f.clauses 𝓤 H A mem run)
-  walks C Λ fm known-g1 known-g2 known-g3 known-g4 known-g5 = walked 𝓤 H A f.ended stayed (f.clauses 𝓤 H A mem run) (WpFn 𝓤 H C Λ code.function) (λ κs. (slice-vals, ((uint-vals w64), ((uint-vals w64), (slice-vals, ((uint-vals w64), ((uint-vals w64), (slice-vals, (slice-vals, (slice-vals, (slice-vals, (slice-vals, (slice-vals, (slice-vals, ((LL.vals mTranscript.the-type lTranscript.the-laws), tt))))))))))))))) (λ κs. (mut-slice-tells (named 0) (κs .0) u64, ((uint-tells w64), ((uint-tells w64), (shr-slice-tells (named 1) (κs .1 .0) u64, ((uint-tells w64), ((uint-tells w64), (shr-slice-tells (named 2) (κs .1 .1 .0) mEntry.the-row, (shr-slice-tells (named 3) (κs .1 .1 .1 .0) mEntry.the-row, (shr-slice-tells (named 4) (κs .1 .1 .1 .1 .0) mEntry.the-row, (shr-slice-tells (named 5) (κs .1 .1 .1 .1 .1 .0) mEntry.the-row, (shr-slice-tells (named 6) (κs .1 .1 .1 .1 .1 .1 .0) mEntry.the-row, (shr-slice-tells (named 7) (κs .1 .1 .1 .1 .1 .1 .1 .0) mEntry.the-row, (shr-slice-tells (named 8) (κs .1 .1 .1 .1 .1 .1 .1 .1 .0) u64, ((LL.tells mTranscript.the-type lTranscript.the-laws), tt)))))))))))))))
-      (λ κs qs bounds a g are. via 𝓤 _ (fst∗ 𝓤 _ (emp 𝓤)) (walk 𝓤 H A W mem run (κs .0) (κs .1 .0) (κs .1 .1 .0) (κs .1 .1 .1 .0) (κs .1 .1 .1 .1 .0) (κs .1 .1 .1 .1 .1 .0) (κs .1 .1 .1 .1 .1 .1 .0) (κs .1 .1 .1 .1 .1 .1 .1 .0) (κs .1 .1 .1 .1 .1 .1 .1 .1 .0) (qs .0) (qs .1 .0) (qs .1 .1 .0) (qs .1 .1 .1 .0) (qs .1 .1 .1 .1 .0) (qs .1 .1 .1 .1 .1 .0) (qs .1 .1 .1 .1 .1 .1 .0) (qs .1 .1 .1 .1 .1 .1 .1 .0) (qs .1 .1 .1 .1 .1 .1 .1 .1 .0) (a .0 .ptr .0) (a .0 .ptr .1) (a .0 .name) (a .0 .now) (a .1 .0) (only ((uint-vals w64) (a .1 .0))) (a .1 .1 .0) (only ((uint-vals w64) (a .1 .1 .0))) (a .1 .1 .1 .0) (a .1 .1 .1 .1 .0) (only ((uint-vals w64) (a .1 .1 .1 .1 .0))) (a .1 .1 .1 .1 .1 .0) (only ((uint-vals w64) (a .1 .1 .1 .1 .1 .0))) (a .1 .1 .1 .1 .1 .1 .0) (a .1 .1 .1 .1 .1 .1 .1 .0) (a .1 .1 .1 .1 .1 .1 .1 .1 .0) (a .1 .1 .1 .1 .1 .1 .1 .1 .1 .0) (a .1 .1 .1 .1 .1 .1 .1 .1 .1 .1 .0) (a .1 .1 .1 .1 .1 .1 .1 .1 .1 .1 .1 .0) (a .1 .1 .1 .1 .1 .1 .1 .1 .1 .1 .1 .1 .0) (a .1 .1 .1 .1 .1 .1 .1 .1 .1 .1 .1 .1 .1 .0) (only ((LL.vals mTranscript.the-type lTranscript.the-laws) (a .1 .1 .1 .1 .1 .1 .1 .1 .1 .1 .1 .1 .1 .0))) C Λ fm known-g1 known-g2 known-g3 known-g4 known-g5 (are .0 .0 .1) (are .1 .0) (are .1 .1 .0) (are .1 .1 .1 .0) (are .1 .1 .1 .1 .0) (are .1 .1 .1 .1 .1 .0) (are .1 .1 .1 .1 .1 .1 .0) (are .1 .1 .1 .1 .1 .1 .1 .0) (are .1 .1 .1 .1 .1 .1 .1 .1 .0) (are .1 .1 .1 .1 .1 .1 .1 .1 .1 .0) (are .1 .1 .1 .1 .1 .1 .1 .1 .1 .1 .0) (are .1 .1 .1 .1 .1 .1 .1 .1 .1 .1 .1 .0) (are .1 .1 .1 .1 .1 .1 .1 .1 .1 .1 .1 .1 .0) (are .1 .1 .1 .1 .1 .1 .1 .1 .1 .1 .1 .1 .1 .0)))
+  walks : (C : Calls 𝓤 H) (Λ : Loops 𝓤 H) → FmC 𝓤 H (W .laws) C → Triple 𝓤 (C #g1) (Callee-g1 𝓤 H A mem run) → Triple 𝓤 (C #g2) (Callee-g2 𝓤 H A mem run) → Walks 𝓤 H A f.ended stayed (WpFn 𝓤 H C Λ code.function) (f.clauses 𝓤 H A mem run)
+  walks C Λ fm known-g1 known-g2 = walked 𝓤 H A f.ended stayed (f.clauses 𝓤 H A mem run) (WpFn 𝓤 H C Λ code.function) (λ κs. (slice-vals, ((uint-vals w64), ((uint-vals w64), (slice-vals, ((uint-vals w64), ((uint-vals w64), (slice-vals, (slice-vals, (slice-vals, (slice-vals, (slice-vals, (slice-vals, (slice-vals, ((LL.vals mTranscript.the-type lTranscript.the-laws), tt))))))))))))))) (λ κs. (mut-slice-tells (named 0) (κs .0) u64, ((uint-tells w64), ((uint-tells w64), (shr-slice-tells (named 1) (κs .1 .0) u64, ((uint-tells w64), ((uint-tells w64), (shr-slice-tells (named 2) (κs .1 .1 .0) mEntry.the-row, (shr-slice-tells (named 3) (κs .1 .1 .1 .0) mEntry.the-row, (shr-slice-tells (named 4) (κs .1 .1 .1 .1 .0) mEntry.the-row, (shr-slice-tells (named 5) (κs .1 .1 .1 .1 .1 .0) mEntry.the-row, (shr-slice-tells (named 6) (κs .1 .1 .1 .1 .1 .1 .0) mEntry.the-row, (shr-slice-tells (named 7) (κs .1 .1 .1 .1 .1 .1 .1 .0) mEntry.the-row, (shr-slice-tells (named 8) (κs .1 .1 .1 .1 .1 .1 .1 .1 .0) u64, ((LL.tells mTranscript.the-type lTranscript.the-laws), tt)))))))))))))))
+      (λ κs qs bounds a g are. via 𝓤 _ (fst∗ 𝓤 _ (emp 𝓤)) (walk 𝓤 H A W mem run (κs .0) (κs .1 .0) (κs .1 .1 .0) (κs .1 .1 .1 .0) (κs .1 .1 .1 .1 .0) (κs .1 .1 .1 .1 .1 .0) (κs .1 .1 .1 .1 .1 .1 .0) (κs .1 .1 .1 .1 .1 .1 .1 .0) (κs .1 .1 .1 .1 .1 .1 .1 .1 .0) (qs .0) (qs .1 .0) (qs .1 .1 .0) (qs .1 .1 .1 .0) (qs .1 .1 .1 .1 .0) (qs .1 .1 .1 .1 .1 .0) (qs .1 .1 .1 .1 .1 .1 .0) (qs .1 .1 .1 .1 .1 .1 .1 .0) (qs .1 .1 .1 .1 .1 .1 .1 .1 .0) (a .0 .ptr .0) (a .0 .ptr .1) (a .0 .name) (a .0 .now) (a .1 .0) (only ((uint-vals w64) (a .1 .0))) (a .1 .1 .0) (only ((uint-vals w64) (a .1 .1 .0))) (a .1 .1 .1 .0) (a .1 .1 .1 .1 .0) (only ((uint-vals w64) (a .1 .1 .1 .1 .0))) (a .1 .1 .1 .1 .1 .0) (only ((uint-vals w64) (a .1 .1 .1 .1 .1 .0))) (a .1 .1 .1 .1 .1 .1 .0) (a .1 .1 .1 .1 .1 .1 .1 .0) (a .1 .1 .1 .1 .1 .1 .1 .1 .0) (a .1 .1 .1 .1 .1 .1 .1 .1 .1 .0) (a .1 .1 .1 .1 .1 .1 .1 .1 .1 .1 .0) (a .1 .1 .1 .1 .1 .1 .1 .1 .1 .1 .1 .0) (a .1 .1 .1 .1 .1 .1 .1 .1 .1 .1 .1 .1 .0) (a .1 .1 .1 .1 .1 .1 .1 .1 .1 .1 .1 .1 .1 .0) (only ((LL.vals mTranscript.the-type lTranscript.the-laws) (a .1 .1 .1 .1 .1 .1 .1 .1 .1 .1 .1 .1 .1 .0))) C Λ fm known-g1 known-g2 (are .0 .0 .1) (are .1 .0) (are .1 .1 .0) (are .1 .1 .1 .0) (are .1 .1 .1 .1 .0) (are .1 .1 .1 .1 .1 .0) (are .1 .1 .1 .1 .1 .1 .0) (are .1 .1 .1 .1 .1 .1 .1 .0) (are .1 .1 .1 .1 .1 .1 .1 .1 .0) (are .1 .1 .1 .1 .1 .1 .1 .1 .1 .0) (are .1 .1 .1 .1 .1 .1 .1 .1 .1 .1 .0) (are .1 .1 .1 .1 .1 .1 .1 .1 .1 .1 .1 .0) (are .1 .1 .1 .1 .1 .1 .1 .1 .1 .1 .1 .1 .0) (are .1 .1 .1 .1 .1 .1 .1 .1 .1 .1 .1 .1 .1 .0)))
 
-  meets : (𝓣 : Tables 𝓤 H) → Triple 𝓤 (𝓣 .C #g1) (Callee-g1 𝓤 H A mem run) → Triple 𝓤 (𝓣 .C #g2) (Callee-g2 𝓤 H A mem run) → Triple 𝓤 (𝓣 .C #g3) (Callee-g3 𝓤 H A mem run) → Triple 𝓤 (𝓣 .C #g4) (Callee-g4 𝓤 H A mem run) → Triple 𝓤 (𝓣 .C #g5) (Callee-g5 𝓤 H A mem run) → Meets 𝓤 H A f.signature (WpFn 𝓤 H (𝓣 .C) (𝓣 .Λ) code.function) (f.spec 𝓤 H A mem run)
-  meets 𝓣 known-g1 known-g2 known-g3 known-g4 known-g5 = walk-meets 𝓤 H A f.ended stayed W (goes-slice 𝓤 H A W 9 0 tt (plain (λ _. u64)), (goes-none 𝓤 H A W 9 (λ _. u64) yes (λ κs x f. refl), (goes-none 𝓤 H A W 9 (λ _. u64) yes (λ κs x f. refl), (goes-none-slice 𝓤 H A W 9 (1 ∷ []) tt (plain (λ _. u64)) yes, (goes-none 𝓤 H A W 9 (λ _. u64) yes (λ κs x f. refl), (goes-none 𝓤 H A W 9 (λ _. u64) yes (λ κs x f. refl), (goes-none-slice 𝓤 H A W 9 (2 ∷ []) tt (plain (λ _. mEntry.the-row)) yes, (goes-none-slice 𝓤 H A W 9 (3 ∷ []) tt (plain (λ _. mEntry.the-row)) yes, (goes-none-slice 𝓤 H A W 9 (4 ∷ []) tt (plain (λ _. mEntry.the-row)) yes, (goes-none-slice 𝓤 H A W 9 (5 ∷ []) tt (plain (λ _. mEntry.the-row)) yes, (goes-none-slice 𝓤 H A W 9 (6 ∷ []) tt (plain (λ _. mEntry.the-row)) yes, (goes-none-slice 𝓤 H A W 9 (7 ∷ []) tt (plain (λ _. mEntry.the-row)) yes, (goes-none-slice 𝓤 H A W 9 (8 ∷ []) tt (plain (λ _. u64)) yes, (goes-none 𝓤 H A W 9 (λ _. mTranscript.the-row) yes (λ κs x f. refl), tt)))))))))))))) (f.clauses 𝓤 H A mem run)
-      (WpFn 𝓤 H (𝓣 .C) (𝓣 .Λ) code.function) (WpFn-mono 𝓤 H (W .laws) 𝓣 code.function) (walks (𝓣 .C) (𝓣 .Λ) (fmOf 𝓤 H (W .laws) 𝓣) known-g1 known-g2 known-g3 known-g4 known-g5)
+  meets : (𝓣 : Tables 𝓤 H) → Triple 𝓤 (𝓣 .C #g1) (Callee-g1 𝓤 H A mem run) → Triple 𝓤 (𝓣 .C #g2) (Callee-g2 𝓤 H A mem run) → Meets 𝓤 H A f.signature (WpFn 𝓤 H (𝓣 .C) (𝓣 .Λ) code.function) (f.spec 𝓤 H A mem run)
+  meets 𝓣 known-g1 known-g2 = walk-meets 𝓤 H A f.ended stayed W (goes-slice 𝓤 H A W 9 0 tt (plain (λ _. u64)), (goes-none 𝓤 H A W 9 (λ _. u64) yes (λ κs x f. refl), (goes-none 𝓤 H A W 9 (λ _. u64) yes (λ κs x f. refl), (goes-none-slice 𝓤 H A W 9 (1 ∷ []) tt (plain (λ _. u64)) yes, (goes-none 𝓤 H A W 9 (λ _. u64) yes (λ κs x f. refl), (goes-none 𝓤 H A W 9 (λ _. u64) yes (λ κs x f. refl), (goes-none-slice 𝓤 H A W 9 (2 ∷ []) tt (plain (λ _. mEntry.the-row)) yes, (goes-none-slice 𝓤 H A W 9 (3 ∷ []) tt (plain (λ _. mEntry.the-row)) yes, (goes-none-slice 𝓤 H A W 9 (4 ∷ []) tt (plain (λ _. mEntry.the-row)) yes, (goes-none-slice 𝓤 H A W 9 (5 ∷ []) tt (plain (λ _. mEntry.the-row)) yes, (goes-none-slice 𝓤 H A W 9 (6 ∷ []) tt (plain (λ _. mEntry.the-row)) yes, (goes-none-slice 𝓤 H A W 9 (7 ∷ []) tt (plain (λ _. mEntry.the-row)) yes, (goes-none-slice 𝓤 H A W 9 (8 ∷ []) tt (plain (λ _. u64)) yes, (goes-none 𝓤 H A W 9 (λ _. mTranscript.the-row) yes (λ κs x f. refl), tt)))))))))))))) (f.clauses 𝓤 H A mem run)
+      (WpFn 𝓤 H (𝓣 .C) (𝓣 .Λ) code.function) (WpFn-mono 𝓤 H (W .laws) 𝓣 code.function) (walks (𝓣 .C) (𝓣 .Λ) (fmOf 𝓤 H (W .laws) 𝓣) known-g1 known-g2)
 
 pub combine-spec : {M : Type 1} → stated.statement M
 unfolding code.routine tablesOf
@@ -266,7 +227,4 @@ combine-spec 𝓤 H 𝓜 𝓖 𝓡 =
     (tables 𝓤 H 𝓜 𝓡 code.env .C) (tables 𝓤 H 𝓜 𝓡 code.env .Λ) #f code.function (code.unfolded 𝓤 H 𝓜 𝓡)
     (meets 𝓤 H (𝓖 .A) (givenOf 𝓤 H 𝓜 𝓖) (𝓜 .mem) (𝓡 .run) (tablesOf 𝓤 H 𝓜 (tables 𝓤 H 𝓜 𝓡 code.env))
     (cited 𝓤 H (Callee-g1 𝓤 H (𝓖 .A) (𝓜 .mem) (𝓡 .run)) 𝓜 𝓡 code.env #g1 g1-def.routine code.calls-magnetar-records·stages·drawn (g1-thm.met 𝓤 H 𝓜 𝓖 𝓡))
-    (cited 𝓤 H (Callee-g2 𝓤 H (𝓖 .A) (𝓜 .mem) (𝓡 .run)) 𝓜 𝓡 code.env #g2 g2-def.routine code.calls-magnetar-records·stages·run-alphas (g2-thm.met 𝓤 H 𝓜 𝓖 𝓡))
-    (cited 𝓤 H (Callee-g3 𝓤 H (𝓖 .A) (𝓜 .mem) (𝓡 .run)) 𝓜 𝓡 code.env #g3 g3-def.routine code.calls-magnetar-records·stages·bin-point (g3-thm.met 𝓤 H 𝓜 𝓖 𝓡))
-    (cited 𝓤 H (Callee-g4 𝓤 H (𝓖 .A) (𝓜 .mem) (𝓡 .run)) 𝓜 𝓡 code.env #g4 g4-def.routine code.calls-magnetar-records·stages·fld-point (g4-thm.met 𝓤 H 𝓜 𝓖 𝓡))
-    (cited 𝓤 H (Callee-g5 𝓤 H (𝓖 .A) (𝓜 .mem) (𝓡 .run)) 𝓜 𝓡 code.env #g5 g5-def.routine code.calls-magnetar-records·combo·combine (g5-thm.met 𝓤 H 𝓜 𝓖 𝓡)))
+    (cited 𝓤 H (Callee-g2 𝓤 H (𝓖 .A) (𝓜 .mem) (𝓡 .run)) 𝓜 𝓡 code.env #g2 g2-def.routine code.calls-magnetar-records·virtual-spartan·combine-at (g2-thm.met 𝓤 H 𝓜 𝓖 𝓡)))

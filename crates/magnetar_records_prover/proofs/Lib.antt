@@ -1,0 +1,5 @@
+pub mod PartLaws
+pub mod ProductLaws
+pub mod StageLaws
+pub mod ProveEnds
+pub mod EntryEnds

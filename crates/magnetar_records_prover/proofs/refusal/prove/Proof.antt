@@ -1,0 +1,52 @@
+-- `magnetar_records_prover::refusal::prove` meets its contract.
+-- Assumes nothing.
+use mathlib.Core.Path.{ap₂, _∙_}
+use Rattle.magnetar_records.specs.Numbers.{joined}
+use borrow.Author.Needs.{needs}
+use Rattle.magnetar_records_prover.proofs.refusal.prove.Statement.{statement}
+use Rattle.magnetar_records_prover.proofs.refusal.prove.Tie as tie
+
+sub-p : tie.Need-sub-p
+sub-p c = search needs
+
+part-p-start : tie.Need-part-p-start
+part-p-start c = search needs
+
+part-p-end : tie.Need-part-p-end
+part-p-end c = search needs
+
+sub-v : tie.Need-sub-v
+sub-v c = search needs
+
+part-v-start : tie.Need-part-v-start
+part-v-start c = search needs
+
+part-v-end : tie.Need-part-v-end
+part-v-end c = search needs
+
+counted-requires : tie.Need-counted-requires
+counted-requires c κs = search needs
+
+prove-requires : tie.Need-prove-requires
+prove-requires c κs = search needs
+
+join-requires : tie.Need-join-requires
+join-requires c κs = search needs
+
+returns : tie.Need-returns
+returns c = c .join .ensures ∙ ap₂ joined (c .before .prove .ensures) (c .before .before .counted .ensures)
+
+pub prove-spec : {M : Type 1} → statement M
+prove-spec =
+    tie.close
+    (tie.spec
+    sub-p
+    part-p-start
+    part-p-end
+    sub-v
+    part-v-start
+    part-v-end
+    counted-requires
+    prove-requires
+    join-requires
+    returns)

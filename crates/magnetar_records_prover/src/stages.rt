@@ -1,0 +1,232 @@
+// The parts of a proving run that see no matrix: the outer rounds, and what comes behind the combined table.
+ghost use mathlib.Core.Path.{_≡_};
+ghost use Prim.Native.Nat.{_+_, _-_, _*_, _/_, _≤_};
+ghost use lib.ListN.{length, getD};
+ghost use Rattle.magnetar_field.specs.Sizes.{log₂};
+ghost use Rattle.magnetar_field.specs.Tabulate.{tabulate};
+ghost use Rattle.magnetar_field.specs.Words.{elements};
+ghost use Rattle.magnetar_protocol.specs.RunSizes.{Elements};
+ghost use Rattle.magnetar_protocol.specs.Schedule.{outline};
+ghost use Rattle.magnetar_rounds.specs.Entries.{innerPlayed};
+ghost use Rattle.magnetar_spartan.specs.Ready.{InnerReady, FoldReady};
+ghost use Rattle.magnetar_records_prover.specs.Stages.{OuterDone, outerRoom, loginAt, FoldLeft, InnerLeft, ClaimsLeft, EndReady, EndLeft, LaterReady, laterPlayed, LaterLeft};
+use crate::parts;
+use magnetar_batch::fold;
+use magnetar_checks::claims;
+use magnetar_field::words;
+use magnetar_hash::transcript::Transcript;
+use magnetar_hash::transcript::TranscriptAnswer;
+use magnetar_records::stages;
+use magnetar_records::steps;
+use magnetar_rounds::inner;
+use magnetar_rounds::rounds;
+
+// What the outer rounds hand on: the words of the draws, 0 behind them, and the transcript.
+pub(crate) struct Drawn {
+    pub draws: [u64; 256],
+    pub transcript: Transcript,
+}
+
+pub(crate) fn draws_of(o: Drawn) -> [u64; 256]
+    ensures { λ r. ⌜ r ≡ o .«draws» ⌝ }
+{
+    o.draws
+}
+
+// An answer of these.
+pub(crate) fn answer(n: u32, t: Transcript) -> TranscriptAnswer
+    ensures { λ r. ⌜ (r .«code» ≡ n) × (r .«transcript» ≡ t) ⌝ }
+{
+    TranscriptAnswer {
+        code: n,
+        transcript: t,
+    }
+}
+
+// The outer rounds over the products in front of s, for a run with k segments.
+pub(crate) fn outer(
+    proof: &mut [u64],
+    s: &mut [u64],
+    m: usize,
+    q: usize,
+    rb: usize,
+    rf: usize,
+    k: usize,
+    t: Transcript,
+) -> Drawn
+    ensures { λ r. ⌜ OuterDone m q rb rf k (now (s .entry)) (now (proof .entry)) t (r .«transcript») (r .«draws») (now (proof .exit)) × (now (s .exit) ≡ outerRoom m q rb rf k (now (s .entry)) (now (proof .entry))) ⌝ }
+{
+    let i = steps::least(parts::proof_words(m, q, rb, rf, k), proof.len());
+    let d = steps::least(stages::draw_words(m, q, rb, rf), 256);
+    let mut draws = [0u64; 256];
+    let a = rounds::outer_rounds(q, rb, rf, &mut proof[0..i], &mut draws[0..d], s, t);
+    let u = a.transcript;
+    Drawn {
+        draws: draws,
+        transcript: u,
+    }
+}
+
+// The n draws from place k on, the last one first.
+fn login_point(draws: &[u64], k: usize, n: usize, out: &mut [u64])
+    requires { ⌜ (k ≤ 4096) × (n ≤ 16) × (length (now out) ≡ 2 * n) ⌝ }
+    ensures { λ _. ⌜ elements (now (out .exit)) ≡ tabulate (λ i. getD (elements (now (draws .entry))) (k + (n - 1 - i)) 0) n ⌝ }
+{
+    let mut i = 0;
+    while i < n {
+        words::put(out, i, words::get(draws, k + (n - 1 - i)));
+        i += 1;
+    }
+}
+
+// The batch folded at the point of the n draws from place k on, which is put into `point`, behind the first 4w words of s.
+fn fold_at(
+    s: &mut [u64],
+    q: usize,
+    w: usize,
+    n: usize,
+    k: usize,
+    packed: &[u64],
+    draws: &[u64],
+    point: &mut [u64],
+)
+    requires { ⌜ (k ≤ 4096) × (n ≤ 16) × (length (now point) ≡ 2 * n) ⌝ }
+    ensures { λ _. ⌜ (FoldReady q w n k (length (now (packed .entry))) (length (now (draws .entry))) (length (now (s .entry))) → FoldLeft q w n k (now (packed .entry)) (now (draws .entry)) (now (s .entry)) (now (s .exit))) ⌝ }
+{
+    login_point(draws, k, n, point);
+    if w <= s.len() / 4 {
+        let a = 4 * w;
+        let _done = fold::fold_packed_in(packed, q, w, point, &mut s[a..]);
+    }
+}
+
+// The batch folded at the point of the logins, behind the combined table.
+fn fold_behind(
+    s: &mut [u64],
+    m: usize,
+    q: usize,
+    rb: usize,
+    rf: usize,
+    packed: &[u64],
+    d: [u64; 256],
+)
+    ensures { λ _. ⌜ (FoldReady q (m / 2) (log₂ q) (loginAt q rb rf) (length (now (packed .entry))) (length d) (length (now (s .entry))) → FoldLeft q (m / 2) (log₂ q) (loginAt q rb rf) (now (packed .entry)) d (now (s .entry)) (now (s .exit))) ⌝ }
+{
+    let l = steps::log(q);
+    let b = steps::log(rb);
+    let f = steps::log(rf);
+    let k = l + b + (l + f);
+    let n = steps::least(l, 16);
+    let e = 2 * n;
+    let w = m / 2;
+    let mut point = [0u64; 32];
+    fold_at(s, q, w, n, k, packed, &d, &mut point[0..e]);
+}
+
+// The inner rounds, v_z and the segment values, at their places of the proof and of the draws.
+fn inner_part(
+    proof: &mut [u64],
+    draws: &mut [u64],
+    s: &mut [u64],
+    m: usize,
+    q: usize,
+    rb: usize,
+    rf: usize,
+    lens: &[usize],
+    x: &[u64],
+    t: Transcript,
+) -> Transcript
+    ensures { λ r. ⌜ (InnerReady m (now (lens .entry)) (length (now (x .entry))) → InnerLeft m q rb rf (now (lens .entry)) (now (proof .entry)) (now (draws .entry)) (now (s .entry)) (innerPlayed (outline m 1 1 1 (now (lens .entry))) (now (x .entry)) (now (s .entry)) t) r (now (proof .exit)) (now (draws .exit)) (now (s .exit))) ⌝ }
+{
+    let l = steps::log(q);
+    let b = steps::log(rb);
+    let f = steps::log(rf);
+    let a = steps::least(2 * (8 * l + 4 * b + 4 * f + 6), proof.len());
+    let k = steps::least(2 * (l + b + (l + f) + l + b + f + 6), draws.len());
+    let r = inner::inner_rounds(m, lens, x, &mut proof[a..], &mut draws[k..], s, t);
+    r.transcript
+}
+
+// The inner rounds and the claims, on the words of a run.
+fn end_in(
+    proof: &mut [u64],
+    claims: &mut [u64],
+    s: &mut [u64],
+    draws: &mut [u64],
+    m: usize,
+    q: usize,
+    rb: usize,
+    rf: usize,
+    lens: &[usize],
+    x: &[u64],
+    t: Transcript,
+) -> Transcript
+    ensures { λ r. ⌜ (InnerReady m (now (lens .entry)) (length (now (x .entry))) → ClaimsLeft m q rb rf (now (lens .entry)) (now (proof .entry)) (now (draws .entry)) (now (claims .entry)) (now (s .entry)) (innerPlayed (outline m 1 1 1 (now (lens .entry))) (now (x .entry)) (now (s .entry)) t) r (now (proof .exit)) (now (claims .exit)) (now (s .exit))) ⌝ }
+{
+    let u = inner_part(proof, draws, s, m, q, rb, rf, lens, x, t);
+    let _done = claims::write_claims(m, q, rb, rf, lens, proof, draws, claims);
+    u
+}
+
+// The same on the front of what is lent.
+fn end(
+    proof: &mut [u64],
+    claims: &mut [u64],
+    s: &mut [u64],
+    m: usize,
+    q: usize,
+    rb: usize,
+    rf: usize,
+    lens: &[usize],
+    x: &[u64],
+    d: [u64; 256],
+    t: Transcript,
+) -> Transcript
+    ensures { λ r. ⌜ (EndReady m q rb rf (now (lens .entry)) (length (now (x .entry))) (length (now (proof .entry))) (length (now (claims .entry))) (length (now (s .entry))) (length d)
+        → EndLeft m q rb rf (now (lens .entry)) (now (proof .entry)) d (now (claims .entry)) (now (s .entry)) (innerPlayed (outline m 1 1 1 (now (lens .entry))) (now (x .entry)) (now (s .entry)) t) r (now (proof .exit)) (now (claims .exit)) (now (s .exit))) ⌝ }
+{
+    let k = lens.len();
+    let i = steps::least(parts::proof_words(m, q, rb, rf, k), proof.len());
+    let c = steps::least(parts::claim_words(m, q, k), claims.len());
+    let n = steps::least(stages::draw_words(m, q, rb, rf), 256);
+    let mut draws = d;
+    end_in(
+        &mut proof[0..i],
+        &mut claims[0..c],
+        s,
+        &mut draws[0..n],
+        m,
+        q,
+        rb,
+        rf,
+        lens,
+        x,
+        t,
+    )
+}
+
+// What comes behind the combined table: the folded columns, the inner rounds and the claims; the scratch is 0 at exit.
+pub(crate) fn later(
+    proof: &mut [u64],
+    claims: &mut [u64],
+    s: &mut [u64],
+    m: usize,
+    q: usize,
+    rb: usize,
+    rf: usize,
+    lens: &[usize],
+    packed: &[u64],
+    x: &[u64],
+    o: Drawn,
+) -> Transcript
+    ensures { λ r. ⌜ Elements (elements (now (x .entry)))
+        × (LaterReady m q rb rf (now (lens .entry)) (length (now (packed .entry))) (length (now (x .entry))) (length (now (proof .entry))) (length (now (claims .entry))) (length (now (s .entry))) (length (o .«draws»))
+        → LaterLeft m q rb rf (now (lens .entry)) (now (proof .entry)) (o .«draws») (now (claims .entry)) (now (s .entry)) (laterPlayed m q rb rf (now (lens .entry)) (now (packed .entry)) (now (x .entry)) (o .«draws») (now (s .entry)) (o .«transcript»)) r (now (proof .exit)) (now (claims .exit)) (now (s .exit))) ⌝ }
+{
+    let d = o.draws;
+    let t = o.transcript;
+    fold_behind(s, m, q, rb, rf, packed, d);
+    let u = end(proof, claims, s, m, q, rb, rf, lens, x, d, t);
+    parts::clear_room(s, m, q, rb, rf);
+    u
+}
