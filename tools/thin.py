@@ -149,10 +149,12 @@ class C:
         s.c = list(ns) + [x for x in s.c if x not in ns]
     def __call__(s, txt): s.t += txt
     def p(s, x): return s.c.index(x)
+    def tidy(s): s.t += f'tidy W ({lst("_" for _ in s.c)}) $ '
 NL = '\n        '
 k = C([])
-for x in reversed(range(len(locs))): k.c += [f'c{x}', f'd{x}']
-k.c += ['alive', 'owns']
+cells = [f'c{x}' for x in reversed(range(len(locs)))]
+k.c = ['died'] + cells + ['alive', 'owns']
+k('hide ! (λ died die. '); k.close += 1
 filled = set(); env = {}         # env: local -> ('S', j) | ('again', j) | ('val', den, u, is, info)
 k('params1 ! $ ')
 for j in idx:
@@ -164,10 +166,13 @@ k(f'pass0 ! $ {NL}')
 k.mv('owns')
 for j in idx:
     k('fsplit ! $ '); k.c = [f'O{j}', 'owns'] + k.c[1:]; k.mv('owns')
+def dropped(): k('drop ! $ '); k.c = k.c[1:]
+dropped()
 k.mv('alive')
 for n in range(L):
     k('split ! $ '); k.c = [f'tok{n}', 'alive'] + k.c[1:]; k.mv('alive')
-k.c[0] = 'alive0'
+dropped()
+k.tidy()
 k(NL)
 cur = {}                 # R: (den, u, is); M: (list, length evidence)
 for j in idx:
@@ -336,7 +341,7 @@ def one(s, last):
         else:
             assert e[0] == 'val'; dens.append(e[1]); vals_.append(f'{e[2]} ∷ []'); I = e[4]
             build.append((f'V{t}', f'owned ! {I["row"]} (Is {I["row"]}) {I["makes"]} ({e[1]}) _ {e[3]}')); ws.append(('tt', None))
-    ck = tup(klist); cq = tup(qlist)
+    k.tidy(); ck = tup(klist); cq = tup(qlist)
     calive = '(' + ' ⊛ '.join([f'‵ (flft {a} {b})' for a, b in zip(klist, qlist)] + ['‵ ftrue']) + ')'
     X = tup(dens); to = f'(({ck}, {cq}, tt, {X}, {tup(vals_)}), tt)'
     k(f'nothing ! $ '); k.c.insert(0, 'acc')
@@ -363,10 +368,12 @@ def one(s, last):
     k(f'use1 W (later (some (λ ({r_} : {ri["den"]}). ({calive} ⊛ ‵ ({ri["row"]} .own {r_} ({u_} ∷ []))) ⊛ some (λ (ws : Lasts {g}.ended {ck} {X}). ‵ (lasts {g}.ended {ck} {X} ws) ⊛ raw ({g}.clauses 𝓤 H A at-mem run {ck} {X} .ensures tt {r_} (atExit {g}.ended {ck} {X} ws)))))) (id⊢ 𝓤 _) $ await ! tt $ pick ! (λ {r_}. split ! $ move ! (1 ∷ []) $ pick ! (λ ws{c_}. split ! $ move ! (1 ∷ []) $ heard ! _ (λ e{c_}. {NL}'); k.close += 4
     k.c = ['lasts', 'back'] + k.c[1:]
     for t, (kind, w_) in enumerate(ws):
-        k.mv('lasts'); k('fsplit ! $ '); k.c = [f'fin{t}' if kind in 'RL' else f'last{c_}{t}', 'lasts'] + k.c[1:]
+        if all(x not in ('M', 'R', 'L') for x, _ in ws[t:]): break
+        k.mv('lasts'); k('fsplit ! $ '); k.c = [f'fin{t}', 'lasts'] + k.c[1:]
+        if kind not in ('M', 'R', 'L'): dropped()
         if kind == 'M':
             k('fsplit ! $ '); k.c = [f'fin{t}', f'eq{t}'] + k.c[1:]; k.mv(f'eq{t}'); k(f'feqL ! (λ same{c_}{letter(t)}. '); k.close += 1; k.c = k.c[1:]
-    i_l = k.c.index('lasts'); k.c[i_l] = f'lasts{c_}'
+    k.mv('lasts'); dropped()
     k.mv('back'); k('split ! $ '); k.c = ['alive', 'res'] + k.c[1:]; k.mv('res')
     if ri.get('unit'):
         k(f'feqL ! (λ {i_}. '); k.close += 1; k.c = k.c[1:]
@@ -374,9 +381,9 @@ def one(s, last):
     else:
         k(f'peeks ! {ri["row"]} (Is {ri["row"]}) (shows 𝓤 H A {ri["row"]}) {r_} ({u_} ∷ []) (λ {i_}. drop ! $ '); k.close += 1; k.c = k.c[1:]
         k(f'land{lst_} ! {wr(dst, "(" + ri["typed"] + f" {r_} _ {i_} .0)")} $ {NL}'); env[dst] = ('val', r_, u_, i_, ri)
-    k.mv('alive')
+    k.tidy(); k.mv('alive')
     for it in items: k('split ! $ '); k.c = [it[2], 'alive'] + k.c[1:]; k.mv('alive')
-    k.c[0] = f'alive{c_}'
+    dropped()
     for t, (kind, w_) in enumerate(ws):
         if kind == 'R':
             j, ν, δ, _, n = w_; l_ = cur[j][0]; nl = f'ws{c_} {nest(t)}'; r0 = IN(j)['row']
@@ -408,12 +415,10 @@ def one(s, last):
 def finish():
     for j in idx:
         if K(j) in 'RP': closed(j)
-    k(f'returns ! (look ! {k.p("c0")} refl) $ ')
-    for x in range(len(locs)):
-        if x in filled: k(f'forget ! {k.p(f"c{x}")} refl $ ')
-    k(NL)
-    for x in range(len(locs)): k.mv(f'c{x}', f'd{x}'); k('free1 ! $ '); k.c = k.c[2:]
-    k(f'free0 ! $ {NL}')
+    k.tidy(); k(f'returns ! (look ! {k.p("c0")} refl) $ ')
+    if k.c[-len(cells):] != cells: k.mv(*[x for x in k.c if x not in cells], *cells)
+    k.mv('died'); k(f'use1 W (dies ({En}) (‵ ftrue)) die $ '); m_ = len(k.c) - 1 - len(cells)
+    k(f"free-all ! {m_} ({En}) ({lst('kept _' if x in filled else 'bare' for x in range(len(locs)))}) refl $ {NL}"); k.c = k.c[1:m_ + 1]
     if res.get('unit'): rv_, rr, ri_ = 'vunit', 'tt', None
     else: rr, rv_, ri_ = env[0][1], env[0][2], env[0][3]
     lastv = tup([cur[j][0] if K(j) in 'MR' else 'tt' for j in idx]); fitv = tup([cur[j][1] if K(j) == 'M' else 'tt' for j in idx])
@@ -480,7 +485,7 @@ use contract.Monad.{{Fun, fact}}
 use contract.Running.{{givenOf, tables, tablesOf}}
 use types.Kit.{{Given, ‵, raw, _⊛_, ⋆, some, later, _$_, _∵_, !, qed, by, move, keep, drop, use1, use2, use3, split, join, pick, fsplit, fsplit3, fjoin, fjoin3, feqL, feqI, rewrite, atRet, suffices, frame, await, done}}
 use types.Part.{{agg, whole, sub, look-in}}
-use types.Run.{{look, look-raw, init, store, store-raw, forget, stop, hop, fld, from, load, unit-lit, of-opd, addr, and-then, no-more, lit, true-lit, false-lit, assigns, assigns-last, land, land-last, first, branches, skips, exec, returns, enter, alloc1, alloc0, params1, pass1, pass0, free1, free0}}
+use types.Run.{{look, look-raw, init, store, store-raw, stop, hop, fld, from, load, unit-lit, of-opd, addr, and-then, no-more, lit, true-lit, false-lit, assigns, assigns-last, land, land-last, first, branches, skips, exec, returns, enter, alloc0, params1, pass1, pass0}}
 use types.Tokens.{{lft-new, lft-end}}
 use sound.WpLaws.{{FmC, fmOf, WpFn-mono}}
 use denote.RattleType.{{owns}}
@@ -513,6 +518,7 @@ for c, way, n in structs:
 Msl = [j for j in idx if K(j) == 'M']
 if 'into !' in walk: w(f'use types.SemTy.{{Body}}\nuse types.Share.{{parts, arr-parts}}\nuse lib.ListN.{{take}}\nuse lib.Seq.{{length-take-le}}\nuse Prim.Native.Nat.{{_≤_}}\nuse types.Tokens.{{lent-back}}\nuse base.Fml.{{flent}}\nuse denote.Memory.{{cellAt, partAt, mem, shares}}\nuse denote.ArrayMemory.{{array-apart, array-whole}}\nuse denote.Lend.{{lends-ref, ref-back, lends-shr-slice}}\nuse Rattle.{crate}.proofs.Local.{{into, out, rest, cut, mend, room-of}}')
 again = 'Rattle.magnetar_inplace.proofs' if crate == 'magnetar_inplace' else 'Rattle.magnetar_inplace.proofs'
+w(f'use {again}.Locals.{{tidy, bare, kept, dies, alloc, hide, free-all}}')
 if Msl: w(f'use {again}.Again.{{LentAgain, lends-again, comes-back}}')
 for g in callees:
     c_, f_ = gm(g); base = f'Rattle.{c_}.proofs.{f_}' if c_ == crate else f'Rattle.{c_}.proofs.{f_}'
@@ -598,7 +604,7 @@ w(f'''  abbrev Arg : Type 0
     walk : {f'({requires}) → ' if requires else ''}ent 𝓤 (onEntry 𝓤 H A f.signature {κs} {qs} a at) (WpFn 𝓤 H C Λ code.function ({lst(f'v{j}' for j in idx)}) Post)
     walk {'pre ' if requires else ''}=
         qed W ({alive} ∷ ‵ (owns ({lst(rowAt(j) for j in idx)}) a at) ∷ []) ∵ enter ! C Λ code.function ({lst(f'v{j}' for j in idx)}) _ $
-        {' '.join(f'alloc1 ! (λ l{sub(x)}.' for x in range(len(locs)))} alloc0 ! $ {walk}
+        nothing ! $ {' '.join(f'alloc ! (λ l{sub(x)}.' for x in range(len(locs)))} alloc0 ! $ {walk}
 ''')
 kargs = ' '.join(f'(κs {nest(n)})' for n in range(L)); qargs = ' '.join(f'(qs {nest(n)})' for n in range(L))
 kn = ' → '.join(f'Triple 𝓤 (C #{gn[g]}) (Callee-{gn[g]} 𝓤 H A mem run)' for g in callees); kn2 = kn.replace('(C #', '(𝓣 .C #'); knv = ' '.join(f'known-{gn[g]}' for g in callees)

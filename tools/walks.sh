@@ -1,8 +1,7 @@
 #!/bin/sh
 # Writes anew the proofs of magnetar_inplace, magnetar_row_records, magnetar_forms, magnetar_records and magnetar_cases that tools/thin.py, tools/each.py and
-# tools/count.py write. Run it in the
-# repository's root after a change of a walked function's code or contract, then `rt fmt` and `rt check` of the crate. Nobody has to trust the tools:
-# the checker checks what they write.
+# tools/count.py write. Run it in the repository's root after a change of a walked function's code or contract, then `rt fmt` and `rt check` of
+# the crate. Nobody has to trust the tools: the checker checks what they write.
 set -e
 c=magnetar_inplace
 p=crates/$c/proofs
@@ -158,3 +157,4 @@ thin lent::masks --requires 'n4 ≤ 64' --part pre --final e1
 three 25 lent::combined e1
 three 27 lent::verified 'rw (e2 .0, e2 .1) e1'
 three 24 lent::checked e1
+three 28 lent::proved 'rw (e2 .0, e2 .1) e1'

@@ -342,3 +342,77 @@ pub(crate) fn check(given: &[u64], sizes: &[usize], r: RowCheck, scratch: &[u64]
     }
     false
 }
+
+fn proved(
+    given: &[u64],
+    sizes: &[usize],
+    t: Transcript,
+    proof: &mut [u64],
+    claims: &mut [u64],
+    scratch: &mut [u64],
+) -> TranscriptAnswer {
+    lent::proved(
+        t,
+        proof,
+        claims,
+        scratch,
+        number(sizes, 0, 0),
+        number(sizes, 0, 1),
+        nth_sizes(sizes, 1),
+        number(sizes, 4, 0),
+        number(sizes, 4, 1),
+        matrix(given, sizes, 5),
+        number(sizes, 9, 0),
+        number(sizes, 9, 1),
+        matrix(given, sizes, 10),
+        number(sizes, 14, 0),
+        number(sizes, 14, 1),
+        matrix(given, sizes, 15),
+        number(sizes, 19, 0),
+        number(sizes, 19, 1),
+        matrix(given, sizes, 20),
+        number(sizes, 24, 0),
+        number(sizes, 24, 1),
+        matrix(given, sizes, 25),
+        number(sizes, 29, 0),
+        number(sizes, 29, 1),
+        matrix(given, sizes, 30),
+        nth(given, 3),
+        nth(given, 2),
+        count(sizes, 5),
+        count(sizes, 10),
+        count(sizes, 15),
+        count(sizes, 20),
+        count(sizes, 25),
+        count(sizes, 30),
+    )
+}
+
+// The prover.
+pub(crate) fn prove(
+    given: &[u64],
+    sizes: &[usize],
+    t: Transcript,
+    r: TranscriptAnswer,
+    proof: &[u64],
+    claims: &[u64],
+    scratch: &[u64],
+) -> bool {
+    if !all_fit(sizes) {
+        return true;
+    }
+    let mut told = [MARK; 2048];
+    let mut room = [MARK; 256];
+    let mut words = text::room();
+    let p = text::front(&mut told, proof.len());
+    let c = text::front(&mut room, claims.len());
+    let s = text::front(&mut words, scratch.len());
+    if same_answer(proved(given, sizes, t, p, c, s), r) {
+        if text::same(p, proof) {
+            if text::same(c, claims) {
+                return text::same(s, scratch);
+            }
+        }
+    }
+    false
+}

@@ -7,7 +7,7 @@ ghost use Rattle.magnetar_batch.specs.Systems.{system};
 ghost use Rattle.magnetar_batch.specs.Check.{outcome, checkAnswer, checkScratch};
 ghost use Rattle.magnetar_r1cs.specs.Entries.{masksRefusal, masksOut};
 ghost use Rattle.magnetar_spartan.specs.Rules.{rules};
-ghost use Rattle.magnetar_spartan.specs.Outcome.{verified, verifyOutcome};
+ghost use Rattle.magnetar_spartan.specs.Outcome.{verified, verifyOutcome, proved, proveOutcome};
 ghost use Rattle.magnetar_inplace.specs.Records.{lentOf};
 ghost use Rattle.magnetar_records.specs.Outcome.{combinedAs, comboOutcome};
 use magnetar_batch::check::RowCheck;
@@ -17,6 +17,7 @@ use magnetar_inplace::records;
 use magnetar_inplace::records::Entry;
 use magnetar_records::combo;
 use magnetar_records::virtual_spartan;
+use magnetar_records_prover::virtual_spartan as prover;
 use magnetar_row_records::check;
 
 // A number with a transcript.
@@ -413,6 +414,148 @@ pub(crate) fn checked(
         scratch,
         m,
         q,
+        abrows,
+        abcols,
+        &ab[..abn],
+        bbrows,
+        bbcols,
+        &bb[..bbn],
+        cbrows,
+        cbcols,
+        &cb[..cbn],
+        afrows,
+        afcols,
+        af,
+        bfrows,
+        bfcols,
+        bf,
+        cfrows,
+        cfcols,
+        cf,
+        packed,
+        x,
+        afn,
+        bfn,
+        cfn,
+    )
+}
+
+// The prover: the last three.
+fn proved_in(
+    t: Transcript,
+    proof: &mut [u64],
+    claims: &mut [u64],
+    scratch: &mut [u64],
+    m: usize,
+    q: usize,
+    lens: &[usize],
+    abrows: usize,
+    abcols: usize,
+    ab: &[Entry],
+    bbrows: usize,
+    bbcols: usize,
+    bb: &[Entry],
+    cbrows: usize,
+    cbcols: usize,
+    cb: &[Entry],
+    afrows: usize,
+    afcols: usize,
+    af: [Entry; 64],
+    bfrows: usize,
+    bfcols: usize,
+    bf: [Entry; 64],
+    cfrows: usize,
+    cfcols: usize,
+    cf: [Entry; 64],
+    packed: &[u64],
+    x: &[u64],
+    afn: usize,
+    bfn: usize,
+    cfn: usize,
+) -> TranscriptAnswer
+    requires { ⌜ (afn ≤ 64) × (bfn ≤ 64) × (cfn ≤ 64) ⌝ }
+    ensures { λ r. ⌜ proved r (now (proof .exit)) (now (claims .exit)) (now (scratch .exit)) ≡ proveOutcome (rules m q (now (lens .entry)) (system (lentOf abrows abcols (now (ab .entry))) (lentOf bbrows bbcols (now (bb .entry))) (lentOf cbrows cbcols (now (cb .entry)))) (system (lentOf afrows afcols (take afn af)) (lentOf bfrows bfcols (take bfn bf)) (lentOf cfrows cfcols (take cfn cf)))) (now (packed .entry)) (now (x .entry)) t (now (proof .entry)) (now (claims .entry)) (now (scratch .entry)) ⌝ }
+{
+    let mut u = t;
+    let code = prover::prove_virtual_spartan(
+        &mut u,
+        proof,
+        claims,
+        scratch,
+        m,
+        q,
+        lens,
+        abrows,
+        abcols,
+        ab,
+        bbrows,
+        bbcols,
+        bb,
+        cbrows,
+        cbcols,
+        cb,
+        afrows,
+        afcols,
+        &af[..afn],
+        bfrows,
+        bfcols,
+        &bf[..bfn],
+        cfrows,
+        cfcols,
+        &cf[..cfn],
+        packed,
+        x,
+    );
+    with(code, u)
+}
+
+// All six.
+pub(crate) fn proved(
+    t: Transcript,
+    proof: &mut [u64],
+    claims: &mut [u64],
+    scratch: &mut [u64],
+    m: usize,
+    q: usize,
+    lens: &[usize],
+    abrows: usize,
+    abcols: usize,
+    ab: [Entry; 64],
+    bbrows: usize,
+    bbcols: usize,
+    bb: [Entry; 64],
+    cbrows: usize,
+    cbcols: usize,
+    cb: [Entry; 64],
+    afrows: usize,
+    afcols: usize,
+    af: [Entry; 64],
+    bfrows: usize,
+    bfcols: usize,
+    bf: [Entry; 64],
+    cfrows: usize,
+    cfcols: usize,
+    cf: [Entry; 64],
+    packed: &[u64],
+    x: &[u64],
+    abn: usize,
+    bbn: usize,
+    cbn: usize,
+    afn: usize,
+    bfn: usize,
+    cfn: usize,
+) -> TranscriptAnswer
+    requires { ⌜ (abn ≤ 64) × (bbn ≤ 64) × (cbn ≤ 64) × (afn ≤ 64) × (bfn ≤ 64) × (cfn ≤ 64) ⌝ }
+    ensures { λ r. ⌜ proved r (now (proof .exit)) (now (claims .exit)) (now (scratch .exit)) ≡ proveOutcome (rules m q (now (lens .entry)) (system (lentOf abrows abcols (take abn ab)) (lentOf bbrows bbcols (take bbn bb)) (lentOf cbrows cbcols (take cbn cb))) (system (lentOf afrows afcols (take afn af)) (lentOf bfrows bfcols (take bfn bf)) (lentOf cfrows cfcols (take cfn cf)))) (now (packed .entry)) (now (x .entry)) t (now (proof .entry)) (now (claims .entry)) (now (scratch .entry)) ⌝ }
+{
+    proved_in(
+        t,
+        proof,
+        claims,
+        scratch,
+        m,
+        q,
+        lens,
         abrows,
         abcols,
         &ab[..abn],

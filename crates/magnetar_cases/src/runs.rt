@@ -191,6 +191,7 @@ fn prove(given: &[u64], sizes: &[usize], nums: &[u64], t: Transcript) {
     let claims = text::front(&mut room, text::size(at(nums, 3)));
     let scratch = text::front(&mut words, text::size(at(nums, 4)));
     let r = proved(given, sizes, t, proof, claims, scratch);
+    text::agreed(again::prove(given, sizes, t, r, proof, claims, scratch));
     print_answer(r);
     print_line(proof);
     print_line(claims);

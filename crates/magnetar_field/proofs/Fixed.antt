@@ -15,18 +15,13 @@ use Rattle.magnetar_field.specs.Gf128.{_⊕_, _⊗_, timesX, sumTimes}
 use Rattle.magnetar_field.specs.Polynomial.{eval}
 use Rattle.magnetar_field.proofs.Xor.{⊕-self, ⊕-comm, ⊕-assoc, ⊕-lt, ⊕-cancel, eq-of-⊕, top, bit-cases, two-pos, half-lt-pow, additive-zero}
 use Rattle.magnetar_field.proofs.Product.{timesX-small, xpow, ⊗-comm, ⊗-assoc, ⊗-⊕, ⊗-one, ⊗-zero, ⊗-pow}
-use Rattle.magnetar_field.proofs.Square.{sq, sqN, sqs, sqNs, sqs-lt, sqs-⊕, sqs-⊗, sqs-one, sqs-sqNs}
-use Rattle.magnetar_field.proofs.Order.{sqs-id}
+use Rattle.magnetar_field.proofs.Square.{sq, sqs, sqs-lt, sqs-⊕, sqs-⊗, sqs-one}
+use Rattle.magnetar_field.proofs.Order.{sqs-add, sqs-half, sqs-id}
 use Rattle.magnetar_field.proofs.Norm.{norm, ⊗-norm}
 use Rattle.magnetar_field.proofs.Bits.{bits, length-bits, digit-lt, bits-below}
 use Rattle.magnetar_field.proofs.Polynomial.{AllRoots, Invertible, Apart, AllApart, all-zero}
 
--- ---- repeated squaring, n + m times
-sqs-add : (n m a : ℕ) → sqs (n + m) a ≡ sqs m (sqs n a)
-unfolding sqs
-sqs-add zero m a = ap (λ (k : ℕ). sqs k a) (zero-add m)
-sqs-add (suc n) m a = ap (λ (k : ℕ). sqs k a) (suc-add n m) ∙ sqs-add n m (sq a)
-
+-- ---- repeated squaring, in rounds of 128
 sqs-cycles : (t a : ℕ) → a < 2 ^ 128 → sqs (t * 128) a ≡ a
 unfolding sqs
 sqs-cycles zero a h = refl
@@ -80,17 +75,13 @@ factor-invertible : (d w e : ℕ) → d ⊗ w ≡ e → Invertible e → Inverti
 factor-invertible d w e p (v, q) =
     (v ⊗ w, ⊗-assoc v w d ∙ ap (λ (x : ℕ). v ⊗ x) (⊗-comm w d ∙ p) ∙ q)
 
-gap64 : sqNs 64 2 ≡ 0x61651fea6b5832b944e598a795a299f6
-unfolding sqNs sqN timesX _⊕_
-gap64 = refl
-
 gap64-inverse : 0x9e4af928ddbc838a41a8cafd2c95b018 ⊗ 0x61651fea6b5832b944e598a795a299f4 ≡ 1
 unfolding _⊗_ sumTimes timesX _⊕_
 gap64-inverse = refl
 
 gap64-invertible : Invertible (gap 64)
 unfolding gap _⊕_
-gap64-invertible = (0x9e4af928ddbc838a41a8cafd2c95b018, ap (λ (x : ℕ). 0x9e4af928ddbc838a41a8cafd2c95b018 ⊗ (x ⊕ 2)) (sqs-sqNs 64 2 two-lt ∙ gap64) ∙ gap64-inverse)
+gap64-invertible = (0x9e4af928ddbc838a41a8cafd2c95b018, ap (λ (x : ℕ). 0x9e4af928ddbc838a41a8cafd2c95b018 ⊗ (x ⊕ 2)) sqs-half ∙ gap64-inverse)
 
 -- the power of 2 that takes m to an odd multiple of 64
 pick : ℕ → ℕ → ℕ → ℕ

@@ -1,4 +1,5 @@
 pub mod Again
+pub mod Locals
 pub mod StepLaws
 pub mod RecordLaws
 pub mod RecordEnds

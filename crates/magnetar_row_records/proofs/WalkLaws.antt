@@ -7,14 +7,17 @@ use Prim.Native.Nat.{ℕ, zero, suc, _+_, _-_, _*_, _≤_, _<_, min, max}
 use native.Mathlib.Numerals.{add-one}
 use native.Mathlib.Omega.{arith}
 use lib.Dec.{eqb, ltb, leb}
-use lib.ListN.{length, take, drop, take-append-drop, length-append}
+use lib.ListN.{length, getD, take, drop, take-append-drop, length-append}
 use lib.Seq.{take-at, drop-at, length-take-le}
 use borrow.Author.Tests.{leb-true, le-leb, lt-leb, lt-ltb, le-ltb, ne-eqb}
 use borrow.Rule.Slice.PartMut.{putMid}
+use Rattle.magnetar_field.specs.Gf128.{_⊗_}
 use Rattle.magnetar_field.specs.Words.{elements}
+use Rattle.magnetar_field.proofs.Product.{⊗-comm}
 use Rattle.magnetar_r1cs.specs.Matrix.{Entry, share}
 use Rattle.magnetar_r1cs.specs.RowCheck.{firstNot}
 use Rattle.magnetar_batch.specs.Rows.{holdsAt}
+use Rattle.magnetar_inplace.specs.LoginSteps.{zOf}
 use Rattle.magnetar_inplace.specs.Steps.{clearedTo, addedTo, addedAll}
 use Rattle.magnetar_inplace.proofs.StepLaws.{rest-is, behind-is}
 use Rattle.magnetar_row_records.specs.declared.steps.Seen.{Seen}
@@ -50,6 +53,11 @@ behind-same true m s = sym (take-append-drop (2 * m) s)
 behind-same false m s = refl
 
 -- ---- one record, and none
+-- the share of a record with the value v, of login u's z at its column
+pub share-is : (w w′ : ℕ) (ws x : List ℕ) (u u′ col v f r : ℕ) → r ≡ f ⊗ v → f ≡ getD (zOf w′ ws x u′) col 0 → w′ ≡ min w 32768 → u′ ≡ min u 4095
+    → r ≡ v ⊗ getD (zAt w ws x u) col 0
+share-is w w′ ws x u u′ col v f r e z hw hu = e ∙ (⊗-comm f v ∙ ap (λ (y : ℕ). v ⊗ y) (z ∙ ap₂ (λ (i j : ℕ). getD (zOf i ws x j) col 0) hw hu))
+
 pub added-more : (m n : ℕ) (f : Entry → ℕ) (e : Entry) (es : List Entry) (s s′ : List ℕ) → s′ ≡ behind m (addedTo n (e .row) (f e)) s
     → behind m (addedAll n f es) s′ ≡ behind m (addedAll n f (e ∷ es)) s
 unfolding addedAll

@@ -62,7 +62,7 @@ loop-again : tie.Need-loop-again Inv-loop μ-loop
 loop-again c = (
   search needs,
   search needs,
-  filled-more _ _ _ _ _ _ _ (rw elements-length (omega arith)) (omega arith) (omega arith) (c .before .before .before .before .before .before .loop .inv .2) (cc),
+  filled-more _ _ _ _ _ _ _ (rw elements-length (omega arith)) (omega arith) (omega arith) (c .before .before .before .before .before .before .loop .inv .2) (rw (← c .before .before .before .get .ensures) (c .before .before .expand .ensures)),
 )
 
 same-length : tie.Need-same-length Inv-loop μ-loop

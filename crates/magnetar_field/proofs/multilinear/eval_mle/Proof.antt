@@ -1,9 +1,10 @@
 -- `magnetar_field::multilinear::eval_mle` meets its contract.
 -- Assumes nothing.
-use mathlib.Core.Path.{_≡_, _∙_}
+use mathlib.Core.Path.{_≡_, ap, ap₂}
+use mathlib.Core.List.{List, _++_}
+use Prim.Native.Nat.{ℕ}
 use native.Mathlib.Omega.{arith}
-use lib.ListN.{length, length-take}
-use lib.Seq.{length-take-le}
+use lib.ListN.{length, length-take, drop}
 use denote.Ref.{now}
 use Rattle.magnetar_field.proofs.Refusals.{mle-odd, mle-long, mle-other, mle-short, mle-none}
 use borrow.Author.Needs.{needs}
@@ -54,7 +55,9 @@ returns-5 c =
     let v = c .before .before in
     let x = v .before .before .before .before .before .before .before .before .before .before .args in
     let e = mle-none (now (x .values)) (now (x .point)) (now (x .scratch)) (omega arith) (omega arith) (omega arith) (omega arith) in
-    (rw (e, v .eval-in .ensures .0), rw e (cc))
+    let need = c .before .before .before .before .before .before .table-words .result in
+    let size : need ≡ length (now (x .values)) = omega arith in
+    (rw (e, v .eval-in .ensures .0), rw e (ap₂ (λ (a b : List ℕ). a ++ b) (v .eval-in .ensures .1) (ap (λ (k : ℕ). drop k (now (x .scratch))) size)))
 
 pub eval-mle-spec : {M : Type 1} → statement M
 eval-mle-spec =

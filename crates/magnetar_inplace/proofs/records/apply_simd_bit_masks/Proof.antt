@@ -20,7 +20,7 @@ use contract.Monad.{Fun, fact}
 use contract.Running.{givenOf, tables, tablesOf}
 use types.Kit.{Given, ‵, raw, _⊛_, ⋆, some, later, _$_, _∵_, !, qed, by, move, keep, drop, use1, use2, use3, split, join, pick, fsplit, fsplit3, fjoin, fjoin3, feqL, feqI, rewrite, atRet, suffices, frame, await, done}
 use types.Part.{agg, whole, sub, look-in}
-use types.Run.{look, look-raw, init, store, store-raw, forget, stop, hop, fld, from, load, unit-lit, of-opd, addr, and-then, no-more, lit, true-lit, false-lit, assigns, assigns-last, land, land-last, first, branches, skips, exec, returns, enter, alloc1, alloc0, params1, pass1, pass0, free1, free0}
+use types.Run.{look, look-raw, init, store, store-raw, stop, hop, fld, from, load, unit-lit, of-opd, addr, and-then, no-more, lit, true-lit, false-lit, assigns, assigns-last, land, land-last, first, branches, skips, exec, returns, enter, alloc0, params1, pass1, pass0}
 use types.Tokens.{lft-new, lft-end}
 use sound.WpLaws.{FmC, fmOf, WpFn-mono}
 use denote.RattleType.{owns}
@@ -49,6 +49,7 @@ use Rattle.magnetar_inplace.proofs.MaskEnds.{masks-done, masks-back}
 use Rattle.magnetar_inplace.specs.declared.records.Entry.{Entry}
 use Rattle.magnetar_inplace.proofs.records.Entry as mEntry
 use Rattle.magnetar_inplace.proofs.records.Entry.Laws as lEntry
+use Rattle.magnetar_inplace.proofs.Locals.{tidy, bare, kept, dies, alloc, hide, free-all}
 use Rattle.magnetar_inplace.proofs.Again.{LentAgain, lends-again, comes-back}
 use Rattle.magnetar_inplace.proofs.records.all_inside as g1
 use Rattle.magnetar_inplace.proofs.records.all_inside.Symbol as g1-def
@@ -192,83 +193,81 @@ module _ {M : Type 1} (𝓤 : URA M) (H : Heap 𝓤) (A : Atoms 𝓤) (W : Given
     walk : ent 𝓤 (onEntry 𝓤 H A f.signature (κ₀, (κ₁, (κ₂, tt))) (q₀, (q₁, (q₂, tt))) a at) (WpFn 𝓤 H C Λ code.function (v1 ∷ v2 ∷ v3 ∷ v4 ∷ v5 ∷ v6 ∷ v7 ∷ v8 ∷ []) Post)
     walk =
         qed W ((‵ (flft κ₀ q₀) ⊛ ‵ (flft κ₁ q₁) ⊛ ‵ (flft κ₂ q₂) ⊛ ‵ ftrue) ∷ ‵ (owns (u64 ∷ u64 ∷ ShrSlice (named 0) κ₀ mEntry.the-row ∷ ShrSlice (named 1) κ₁ u64 ∷ u64 ∷ u64 ∷ u64 ∷ MutSlice (named 2) κ₂ u64 ∷ []) a at) ∷ []) ∵ enter ! C Λ code.function (v1 ∷ v2 ∷ v3 ∷ v4 ∷ v5 ∷ v6 ∷ v7 ∷ v8 ∷ []) _ $
-        alloc1 ! (λ l₀. alloc1 ! (λ l₁. alloc1 ! (λ l₂. alloc1 ! (λ l₃. alloc1 ! (λ l₄. alloc1 ! (λ l₅. alloc1 ! (λ l₆. alloc1 ! (λ l₇. alloc1 ! (λ l₈. alloc1 ! (λ l₉. alloc1 ! (λ l₁₀. alloc1 ! (λ l₁₁. alloc1 ! (λ l₁₂. alloc1 ! (λ l₁₃. alloc1 ! (λ l₁₄. alloc1 ! (λ l₁₅. alloc1 ! (λ l₁₆. alloc1 ! (λ l₁₇. alloc1 ! (λ l₁₈. alloc1 ! (λ l₁₉. alloc1 ! (λ l₂₀. alloc1 ! (λ l₂₁. alloc1 ! (λ l₂₂. alloc1 ! (λ l₂₃. alloc1 ! (λ l₂₄. alloc0 ! $ params1 ! $ pass1 ! (init ! 46 refl (uint-lawful 𝓤 H A W w64 .typed n1 _ w1 .0)) $ pass1 ! (init ! 44 refl (uint-lawful 𝓤 H A W w64 .typed n2 _ w2 .0)) $ pass1 ! (init ! 42 refl (shr-slice-lawful 𝓤 H A W (named 0) κ₀ mEntry.the-row .typed s3 (v3 ∷ []) w3 .0)) $ pass1 ! (init ! 40 refl (shr-slice-lawful 𝓤 H A W (named 1) κ₁ u64 .typed s4 (v4 ∷ []) w4 .0)) $ pass1 ! (init ! 38 refl (uint-lawful 𝓤 H A W w64 .typed n5 _ w5 .0)) $ pass1 ! (init ! 36 refl (uint-lawful 𝓤 H A W w64 .typed n6 _ w6 .0)) $ pass1 ! (init ! 34 refl (uint-lawful 𝓤 H A W w64 .typed n7 _ w7 .0)) $ pass1 ! (init ! 32 refl (tt, (tt, (record { fits = room8 .0 }, tt)))) $ pass0 ! $
-        move ! (51 ∷ []) $ fsplit ! $ move ! (1 ∷ []) $ fsplit ! $ move ! (1 ∷ []) $ fsplit ! $ move ! (1 ∷ []) $ fsplit ! $ move ! (1 ∷ []) $ fsplit ! $ move ! (1 ∷ []) $ fsplit ! $ move ! (1 ∷ []) $ fsplit ! $ move ! (1 ∷ []) $ fsplit ! $ move ! (1 ∷ []) $ move ! (59 ∷ []) $ split ! $ move ! (1 ∷ []) $ split ! $ move ! (1 ∷ []) $ split ! $ move ! (1 ∷ []) $
-        move ! (10 ∷ []) $ use1 W (‵ (O3) ⊛ ‵ (O3)) (shr-slice-copy 𝓤 H A W (named 0) κ₀ mEntry.the-row .twice s3 (v3 ∷ [])) $ split ! $ nothing ! $ move ! (6 ∷ 0 ∷ []) $ join ! $ join ! $
+        nothing ! $ alloc ! (λ l₀. alloc ! (λ l₁. alloc ! (λ l₂. alloc ! (λ l₃. alloc ! (λ l₄. alloc ! (λ l₅. alloc ! (λ l₆. alloc ! (λ l₇. alloc ! (λ l₈. alloc ! (λ l₉. alloc ! (λ l₁₀. alloc ! (λ l₁₁. alloc ! (λ l₁₂. alloc ! (λ l₁₃. alloc ! (λ l₁₄. alloc ! (λ l₁₅. alloc ! (λ l₁₆. alloc ! (λ l₁₇. alloc ! (λ l₁₈. alloc ! (λ l₁₉. alloc ! (λ l₂₀. alloc ! (λ l₂₁. alloc ! (λ l₂₂. alloc ! (λ l₂₃. alloc ! (λ l₂₄. alloc0 ! $ hide ! (λ died die. params1 ! $ pass1 ! (init ! 24 refl (uint-lawful 𝓤 H A W w64 .typed n1 _ w1 .0)) $ pass1 ! (init ! 23 refl (uint-lawful 𝓤 H A W w64 .typed n2 _ w2 .0)) $ pass1 ! (init ! 22 refl (shr-slice-lawful 𝓤 H A W (named 0) κ₀ mEntry.the-row .typed s3 (v3 ∷ []) w3 .0)) $ pass1 ! (init ! 21 refl (shr-slice-lawful 𝓤 H A W (named 1) κ₁ u64 .typed s4 (v4 ∷ []) w4 .0)) $ pass1 ! (init ! 20 refl (uint-lawful 𝓤 H A W w64 .typed n5 _ w5 .0)) $ pass1 ! (init ! 19 refl (uint-lawful 𝓤 H A W w64 .typed n6 _ w6 .0)) $ pass1 ! (init ! 18 refl (uint-lawful 𝓤 H A W w64 .typed n7 _ w7 .0)) $ pass1 ! (init ! 17 refl (tt, (tt, (record { fits = room8 .0 }, tt)))) $ pass0 ! $
+        move ! (27 ∷ []) $ fsplit ! $ move ! (1 ∷ []) $ fsplit ! $ move ! (1 ∷ []) $ fsplit ! $ move ! (1 ∷ []) $ fsplit ! $ move ! (1 ∷ []) $ fsplit ! $ move ! (1 ∷ []) $ fsplit ! $ move ! (1 ∷ []) $ fsplit ! $ move ! (1 ∷ []) $ fsplit ! $ move ! (1 ∷ []) $ drop ! $ move ! (34 ∷ []) $ split ! $ move ! (1 ∷ []) $ split ! $ move ! (1 ∷ []) $ split ! $ move ! (1 ∷ []) $ drop ! $ tidy W (_ ∷ _ ∷ _ ∷ _ ∷ _ ∷ _ ∷ _ ∷ _ ∷ _ ∷ _ ∷ _ ∷ _ ∷ _ ∷ _ ∷ _ ∷ _ ∷ _ ∷ _ ∷ _ ∷ _ ∷ _ ∷ _ ∷ _ ∷ _ ∷ _ ∷ _ ∷ _ ∷ _ ∷ _ ∷ _ ∷ _ ∷ _ ∷ _ ∷ _ ∷ _ ∷ _ ∷ _ ∷ []) $
+        move ! (8 ∷ []) $ use1 W (‵ (O3) ⊛ ‵ (O3)) (shr-slice-copy 𝓤 H A W (named 0) κ₀ mEntry.the-row .twice s3 (v3 ∷ [])) $ split ! $ tidy W (_ ∷ _ ∷ _ ∷ _ ∷ _ ∷ _ ∷ _ ∷ _ ∷ _ ∷ _ ∷ _ ∷ _ ∷ _ ∷ _ ∷ _ ∷ _ ∷ _ ∷ _ ∷ _ ∷ _ ∷ _ ∷ _ ∷ _ ∷ _ ∷ _ ∷ _ ∷ _ ∷ _ ∷ _ ∷ _ ∷ _ ∷ _ ∷ _ ∷ _ ∷ _ ∷ _ ∷ _ ∷ _ ∷ []) $ nothing ! $ move ! (5 ∷ 0 ∷ []) $ join ! $ join ! $
         -- call 1
         use1 W (raw (Callee-g1 𝓤 H A at-mem run .pre (((κ₀, tt), (q₀, tt), tt, (s3, (n1, (n2, tt))), (v3 ∷ [], (u1 ∷ [], (u2 ∷ [], tt)))), tt))) (qed W ((‵ (flft κ₀ q₀) ⊛ ‵ ftrue) ∷ ‵ (ShrSlice (named 0) κ₀ mEntry.the-row .own s3 (v3 ∷ [])) ∷ []) ∵ nothing ! $ owned ! u64 (Is u64) (uint-makes 𝓤 H A W w64) (n2) _ w2 $ fjoin ! $ owned ! u64 (Is u64) (uint-makes 𝓤 H A W w64) (n1) _ w1 $ fjoin ! $ move ! (2 ∷ 0 ∷ []) $ fjoin ! $ move ! (1 ∷ 0 ∷ []) $ join ! $ nothing ! $ move ! (1 ∷ 0 ∷ []) $ frame ! $ done !) $
-        calls-at ! fm (Callee-g1 𝓤 H A at-mem run) known-g1 (((κ₀, tt), (q₀, tt), tt, (s3, (n1, (n2, tt))), (v3 ∷ [], (u1 ∷ [], (u2 ∷ [], tt)))), tt) (and-then ! (load ! (from ! (stop !)) (look ! 55 refl)) (and-then ! (load ! (from ! (stop !)) (look ! 59 refl)) (and-then ! (load ! (from ! (stop !)) (look ! 57 refl)) (no-more !)))) (λ z1.
+        calls-at ! fm (Callee-g1 𝓤 H A at-mem run) known-g1 (((κ₀, tt), (q₀, tt), tt, (s3, (n1, (n2, tt))), (v3 ∷ [], (u1 ∷ [], (u2 ∷ [], tt)))), tt) (and-then ! (load ! (from ! (stop !)) (look ! 33 refl)) (and-then ! (load ! (from ! (stop !)) (look ! 35 refl)) (and-then ! (load ! (from ! (stop !)) (look ! 34 refl)) (no-more !)))) (λ z1.
         use1 W (later (some (λ (r1 : Bool). ((‵ (flft κ₀ q₀) ⊛ ‵ ftrue) ⊛ ‵ (bool .own r1 (z1 ∷ []))) ⊛ some (λ (ws : Lasts g1.ended (κ₀, tt) (s3, (n1, (n2, tt)))). ‵ (lasts g1.ended (κ₀, tt) (s3, (n1, (n2, tt))) ws) ⊛ raw (g1.clauses 𝓤 H A at-mem run (κ₀, tt) (s3, (n1, (n2, tt))) .ensures tt r1 (atExit g1.ended (κ₀, tt) (s3, (n1, (n2, tt))) ws)))))) (id⊢ 𝓤 _) $ await ! tt $ pick ! (λ r1. split ! $ move ! (1 ∷ []) $ pick ! (λ ws1. split ! $ move ! (1 ∷ []) $ heard ! _ (λ e1.
-        fsplit ! $ move ! (1 ∷ []) $ fsplit ! $ move ! (1 ∷ []) $ fsplit ! $ move ! (4 ∷ []) $ split ! $ move ! (1 ∷ []) $ peeks ! bool (Is bool) (shows 𝓤 H A bool) r1 (z1 ∷ []) (λ i1. drop ! $ land ! (from ! (stop !)) (init ! 47 refl (bool-lawful 𝓤 H A W .typed r1 _ i1 .0)) $
-        split ! $ move ! (1 ∷ []) $ move ! (6 ∷ []) $ use1 W (‵ (O3) ⊛ ‵ (O3)) (shr-slice-copy 𝓤 H A W (named 0) κ₀ mEntry.the-row .twice s3 (v3 ∷ [])) $ split ! $ nothing ! $ move ! (4 ∷ 0 ∷ []) $ join ! $ join ! $
+        drop ! $ split ! $ move ! (1 ∷ []) $ peeks ! bool (Is bool) (shows 𝓤 H A bool) r1 (z1 ∷ []) (λ i1. drop ! $ land ! (from ! (stop !)) (init ! 27 refl (bool-lawful 𝓤 H A W .typed r1 _ i1 .0)) $
+        tidy W (_ ∷ _ ∷ _ ∷ _ ∷ _ ∷ _ ∷ _ ∷ _ ∷ _ ∷ _ ∷ _ ∷ _ ∷ _ ∷ _ ∷ _ ∷ _ ∷ _ ∷ _ ∷ _ ∷ _ ∷ _ ∷ _ ∷ _ ∷ _ ∷ _ ∷ _ ∷ _ ∷ _ ∷ _ ∷ _ ∷ _ ∷ _ ∷ _ ∷ _ ∷ _ ∷ _ ∷ _ ∷ []) $ split ! $ move ! (1 ∷ []) $ drop ! $ move ! (1 ∷ []) $ use1 W (‵ (O3) ⊛ ‵ (O3)) (shr-slice-copy 𝓤 H A W (named 0) κ₀ mEntry.the-row .twice s3 (v3 ∷ [])) $ split ! $ tidy W (_ ∷ _ ∷ _ ∷ _ ∷ _ ∷ _ ∷ _ ∷ _ ∷ _ ∷ _ ∷ _ ∷ _ ∷ _ ∷ _ ∷ _ ∷ _ ∷ _ ∷ _ ∷ _ ∷ _ ∷ _ ∷ _ ∷ _ ∷ _ ∷ _ ∷ _ ∷ _ ∷ _ ∷ _ ∷ _ ∷ _ ∷ _ ∷ _ ∷ _ ∷ _ ∷ _ ∷ _ ∷ _ ∷ []) $ nothing ! $ move ! (3 ∷ 0 ∷ []) $ join ! $ join ! $
         -- call 2
         use1 W (raw (Callee-g2 𝓤 H A at-mem run .pre (((κ₀, tt), (q₀, tt), tt, (s3, (n6, tt)), (v3 ∷ [], (u6 ∷ [], tt))), tt))) (qed W ((‵ (flft κ₀ q₀) ⊛ ‵ ftrue) ∷ ‵ (ShrSlice (named 0) κ₀ mEntry.the-row .own s3 (v3 ∷ [])) ∷ []) ∵ nothing ! $ owned ! u64 (Is u64) (uint-makes 𝓤 H A W w64) (n6) _ w6 $ fjoin ! $ move ! (2 ∷ 0 ∷ []) $ fjoin ! $ move ! (1 ∷ 0 ∷ []) $ join ! $ nothing ! $ move ! (1 ∷ 0 ∷ []) $ frame ! $ done !) $
-        calls-at ! fm (Callee-g2 𝓤 H A at-mem run) known-g2 (((κ₀, tt), (q₀, tt), tt, (s3, (n6, tt)), (v3 ∷ [], (u6 ∷ [], tt))), tt) (and-then ! (load ! (from ! (stop !)) (look ! 60 refl)) (and-then ! (load ! (from ! (stop !)) (look ! 54 refl)) (no-more !))) (λ z2.
+        calls-at ! fm (Callee-g2 𝓤 H A at-mem run) known-g2 (((κ₀, tt), (q₀, tt), tt, (s3, (n6, tt)), (v3 ∷ [], (u6 ∷ [], tt))), tt) (and-then ! (load ! (from ! (stop !)) (look ! 33 refl)) (and-then ! (load ! (from ! (stop !)) (look ! 30 refl)) (no-more !))) (λ z2.
         use1 W (later (some (λ (r2 : Bool). ((‵ (flft κ₀ q₀) ⊛ ‵ ftrue) ⊛ ‵ (bool .own r2 (z2 ∷ []))) ⊛ some (λ (ws : Lasts g2.ended (κ₀, tt) (s3, (n6, tt))). ‵ (lasts g2.ended (κ₀, tt) (s3, (n6, tt)) ws) ⊛ raw (g2.clauses 𝓤 H A at-mem run (κ₀, tt) (s3, (n6, tt)) .ensures tt r2 (atExit g2.ended (κ₀, tt) (s3, (n6, tt)) ws)))))) (id⊢ 𝓤 _) $ await ! tt $ pick ! (λ r2. split ! $ move ! (1 ∷ []) $ pick ! (λ ws2. split ! $ move ! (1 ∷ []) $ heard ! _ (λ e2.
-        fsplit ! $ move ! (1 ∷ []) $ fsplit ! $ move ! (3 ∷ []) $ split ! $ move ! (1 ∷ []) $ peeks ! bool (Is bool) (shows 𝓤 H A bool) r2 (z2 ∷ []) (λ i2. drop ! $ land ! (from ! (stop !)) (init ! 49 refl (bool-lawful 𝓤 H A W .typed r2 _ i2 .0)) $
-        split ! $ move ! (1 ∷ []) $ assigns ! (of-opd ! (load ! (from ! (fld ! refl (stop !))) (look-in ! 64 (sub ! 1 refl (whole !))))) (from ! (stop !)) (init ! 40 refl (tt, record { fits = (w3 .0 .1 .0) })) $
-        assigns ! (of-opd ! (load ! (from ! (fld ! refl (stop !))) (look-in ! 62 (sub ! 1 refl (whole !))))) (from ! (stop !)) (init ! 38 refl (tt, record { fits = (w4 .0 .1 .0) })) $
-        assigns ! (of-opd ! (load ! (from ! (fld ! refl (stop !))) (look-in ! 54 (sub ! 1 refl (whole !))))) (from ! (stop !)) (init ! 36 refl (tt, record { fits = (room8 .0) })) $
-        nothing ! $
+        drop ! $ split ! $ move ! (1 ∷ []) $ peeks ! bool (Is bool) (shows 𝓤 H A bool) r2 (z2 ∷ []) (λ i2. drop ! $ land ! (from ! (stop !)) (init ! 26 refl (bool-lawful 𝓤 H A W .typed r2 _ i2 .0)) $
+        tidy W (_ ∷ _ ∷ _ ∷ _ ∷ _ ∷ _ ∷ _ ∷ _ ∷ _ ∷ _ ∷ _ ∷ _ ∷ _ ∷ _ ∷ _ ∷ _ ∷ _ ∷ _ ∷ _ ∷ _ ∷ _ ∷ _ ∷ _ ∷ _ ∷ _ ∷ _ ∷ _ ∷ _ ∷ _ ∷ _ ∷ _ ∷ _ ∷ _ ∷ _ ∷ _ ∷ _ ∷ _ ∷ []) $ split ! $ move ! (1 ∷ []) $ drop ! $ assigns ! (of-opd ! (load ! (from ! (fld ! refl (stop !))) (look-in ! 33 (sub ! 1 refl (whole !))))) (from ! (stop !)) (init ! 21 refl (tt, record { fits = (w3 .0 .1 .0) })) $
+        assigns ! (of-opd ! (load ! (from ! (fld ! refl (stop !))) (look-in ! 32 (sub ! 1 refl (whole !))))) (from ! (stop !)) (init ! 20 refl (tt, record { fits = (w4 .0 .1 .0) })) $
+        assigns ! (of-opd ! (load ! (from ! (fld ! refl (stop !))) (look-in ! 28 (sub ! 1 refl (whole !))))) (from ! (stop !)) (init ! 19 refl (tt, record { fits = (room8 .0) })) $
+        tidy W (_ ∷ _ ∷ _ ∷ _ ∷ _ ∷ _ ∷ _ ∷ _ ∷ _ ∷ _ ∷ _ ∷ _ ∷ _ ∷ _ ∷ _ ∷ _ ∷ _ ∷ _ ∷ _ ∷ _ ∷ _ ∷ _ ∷ _ ∷ _ ∷ _ ∷ _ ∷ _ ∷ _ ∷ _ ∷ _ ∷ _ ∷ _ ∷ _ ∷ _ ∷ _ ∷ _ ∷ _ ∷ []) $ nothing ! $
         -- call 3
         use1 W (raw (Callee-g3 𝓤 H A at-mem run .pre ((tt, tt, tt, (n1, (n2, ((length (s3 .now)), (r1, (r2, ((length (s4 .now)), (n5, (n6, (n7, ((length ys8), tt)))))))))), (u1 ∷ [], (u2 ∷ [], ((vint w64 (length (s3 .now))) ∷ [], (z1 ∷ [], (z2 ∷ [], ((vint w64 (length (s4 .now))) ∷ [], (u5 ∷ [], (u6 ∷ [], (u7 ∷ [], ((vint w64 (length ys8)) ∷ [], tt))))))))))), tt))) (qed W ((‵ ftrue) ∷ []) ∵ nothing ! $ owned ! u64 (Is u64) (uint-makes 𝓤 H A W w64) ((length ys8)) _ (refl, (room8 .0)) $ fjoin ! $ owned ! u64 (Is u64) (uint-makes 𝓤 H A W w64) (n7) _ w7 $ fjoin ! $ owned ! u64 (Is u64) (uint-makes 𝓤 H A W w64) (n6) _ w6 $ fjoin ! $ owned ! u64 (Is u64) (uint-makes 𝓤 H A W w64) (n5) _ w5 $ fjoin ! $ owned ! u64 (Is u64) (uint-makes 𝓤 H A W w64) ((length (s4 .now))) _ (refl, (w4 .0 .1 .0)) $ fjoin ! $ owned ! bool (Is bool) (bool-makes 𝓤 H A W) (r2) _ i2 $ fjoin ! $ owned ! bool (Is bool) (bool-makes 𝓤 H A W) (r1) _ i1 $ fjoin ! $ owned ! u64 (Is u64) (uint-makes 𝓤 H A W w64) ((length (s3 .now))) _ (refl, (w3 .0 .1 .0)) $ fjoin ! $ owned ! u64 (Is u64) (uint-makes 𝓤 H A W w64) (n2) _ w2 $ fjoin ! $ owned ! u64 (Is u64) (uint-makes 𝓤 H A W w64) (n1) _ w1 $ fjoin ! $ move ! (1 ∷ 0 ∷ []) $ join ! $ nothing ! $ move ! (1 ∷ 0 ∷ []) $ frame ! $ done !) $
-        calls-at ! fm (Callee-g3 𝓤 H A at-mem run) known-g3 ((tt, tt, tt, (n1, (n2, ((length (s3 .now)), (r1, (r2, ((length (s4 .now)), (n5, (n6, (n7, ((length ys8), tt)))))))))), (u1 ∷ [], (u2 ∷ [], ((vint w64 (length (s3 .now))) ∷ [], (z1 ∷ [], (z2 ∷ [], ((vint w64 (length (s4 .now))) ∷ [], (u5 ∷ [], (u6 ∷ [], (u7 ∷ [], ((vint w64 (length ys8)) ∷ [], tt))))))))))), tt) (and-then ! (load ! (from ! (stop !)) (look ! 69 refl)) (and-then ! (load ! (from ! (stop !)) (look ! 67 refl)) (and-then ! (load ! (from ! (stop !)) (look ! 41 refl)) (and-then ! (load ! (from ! (stop !)) (look ! 53 refl)) (and-then ! (load ! (from ! (stop !)) (look ! 51 refl)) (and-then ! (load ! (from ! (stop !)) (look ! 39 refl)) (and-then ! (load ! (from ! (stop !)) (look ! 61 refl)) (and-then ! (load ! (from ! (stop !)) (look ! 59 refl)) (and-then ! (load ! (from ! (stop !)) (look ! 57 refl)) (and-then ! (load ! (from ! (stop !)) (look ! 37 refl)) (no-more !))))))))))) (λ z3.
+        calls-at ! fm (Callee-g3 𝓤 H A at-mem run) known-g3 ((tt, tt, tt, (n1, (n2, ((length (s3 .now)), (r1, (r2, ((length (s4 .now)), (n5, (n6, (n7, ((length ys8), tt)))))))))), (u1 ∷ [], (u2 ∷ [], ((vint w64 (length (s3 .now))) ∷ [], (z1 ∷ [], (z2 ∷ [], ((vint w64 (length (s4 .now))) ∷ [], (u5 ∷ [], (u6 ∷ [], (u7 ∷ [], ((vint w64 (length ys8)) ∷ [], tt))))))))))), tt) (and-then ! (load ! (from ! (stop !)) (look ! 36 refl)) (and-then ! (load ! (from ! (stop !)) (look ! 35 refl)) (and-then ! (load ! (from ! (stop !)) (look ! 22 refl)) (and-then ! (load ! (from ! (stop !)) (look ! 28 refl)) (and-then ! (load ! (from ! (stop !)) (look ! 27 refl)) (and-then ! (load ! (from ! (stop !)) (look ! 21 refl)) (and-then ! (load ! (from ! (stop !)) (look ! 32 refl)) (and-then ! (load ! (from ! (stop !)) (look ! 31 refl)) (and-then ! (load ! (from ! (stop !)) (look ! 30 refl)) (and-then ! (load ! (from ! (stop !)) (look ! 20 refl)) (no-more !))))))))))) (λ z3.
         use1 W (later (some (λ (r3 : ℕ). ((‵ ftrue) ⊛ ‵ (u32 .own r3 (z3 ∷ []))) ⊛ some (λ (ws : Lasts g3.ended tt (n1, (n2, ((length (s3 .now)), (r1, (r2, ((length (s4 .now)), (n5, (n6, (n7, ((length ys8), tt))))))))))). ‵ (lasts g3.ended tt (n1, (n2, ((length (s3 .now)), (r1, (r2, ((length (s4 .now)), (n5, (n6, (n7, ((length ys8), tt)))))))))) ws) ⊛ raw (g3.clauses 𝓤 H A at-mem run tt (n1, (n2, ((length (s3 .now)), (r1, (r2, ((length (s4 .now)), (n5, (n6, (n7, ((length ys8), tt)))))))))) .ensures tt r3 (atExit g3.ended tt (n1, (n2, ((length (s3 .now)), (r1, (r2, ((length (s4 .now)), (n5, (n6, (n7, ((length ys8), tt)))))))))) ws)))))) (id⊢ 𝓤 _) $ await ! tt $ pick ! (λ r3. split ! $ move ! (1 ∷ []) $ pick ! (λ ws3. split ! $ move ! (1 ∷ []) $ heard ! _ (λ e3.
-        fsplit ! $ move ! (1 ∷ []) $ fsplit ! $ move ! (1 ∷ []) $ fsplit ! $ move ! (1 ∷ []) $ fsplit ! $ move ! (1 ∷ []) $ fsplit ! $ move ! (1 ∷ []) $ fsplit ! $ move ! (1 ∷ []) $ fsplit ! $ move ! (1 ∷ []) $ fsplit ! $ move ! (1 ∷ []) $ fsplit ! $ move ! (1 ∷ []) $ fsplit ! $ move ! (11 ∷ []) $ split ! $ move ! (1 ∷ []) $ peeks ! u32 (Is u32) (shows 𝓤 H A u32) r3 (z3 ∷ []) (λ i3. drop ! $ land ! (from ! (stop !)) (init ! 60 refl (uint-lawful 𝓤 H A W w32 .typed r3 _ i3 .0)) $
-        nothing ! $
+        drop ! $ split ! $ move ! (1 ∷ []) $ peeks ! u32 (Is u32) (shows 𝓤 H A u32) r3 (z3 ∷ []) (λ i3. drop ! $ land ! (from ! (stop !)) (init ! 26 refl (uint-lawful 𝓤 H A W w32 .typed r3 _ i3 .0)) $
+        tidy W (_ ∷ _ ∷ _ ∷ _ ∷ _ ∷ _ ∷ _ ∷ _ ∷ _ ∷ _ ∷ _ ∷ _ ∷ _ ∷ _ ∷ _ ∷ _ ∷ _ ∷ _ ∷ _ ∷ _ ∷ _ ∷ _ ∷ _ ∷ _ ∷ _ ∷ _ ∷ _ ∷ _ ∷ _ ∷ _ ∷ _ ∷ _ ∷ _ ∷ _ ∷ _ ∷ _ ∷ _ ∷ _ ∷ []) $ drop ! $ tidy W (_ ∷ _ ∷ _ ∷ _ ∷ _ ∷ _ ∷ _ ∷ _ ∷ _ ∷ _ ∷ _ ∷ _ ∷ _ ∷ _ ∷ _ ∷ _ ∷ _ ∷ _ ∷ _ ∷ _ ∷ _ ∷ _ ∷ _ ∷ _ ∷ _ ∷ _ ∷ _ ∷ _ ∷ _ ∷ _ ∷ _ ∷ _ ∷ _ ∷ _ ∷ _ ∷ _ ∷ _ ∷ []) $ nothing ! $
         -- call 4
         use1 W (raw (Callee-g4 𝓤 H A at-mem run .pre ((tt, tt, tt, (r3, tt), (z3 ∷ [], tt)), tt))) (qed W ((‵ ftrue) ∷ []) ∵ nothing ! $ owned ! u32 (Is u32) (uint-makes 𝓤 H A W w32) (r3) _ i3 $ fjoin ! $ move ! (1 ∷ 0 ∷ []) $ join ! $ nothing ! $ move ! (1 ∷ 0 ∷ []) $ frame ! $ done !) $
-        calls-at ! fm (Callee-g4 𝓤 H A at-mem run) known-g4 ((tt, tt, tt, (r3, tt), (z3 ∷ [], tt)), tt) (and-then ! (load ! (from ! (stop !)) (look ! 61 refl)) (no-more !)) (λ z4.
+        calls-at ! fm (Callee-g4 𝓤 H A at-mem run) known-g4 ((tt, tt, tt, (r3, tt), (z3 ∷ [], tt)), tt) (and-then ! (load ! (from ! (stop !)) (look ! 26 refl)) (no-more !)) (λ z4.
         use1 W (later (some (λ (r4 : Bool). ((‵ ftrue) ⊛ ‵ (bool .own r4 (z4 ∷ []))) ⊛ some (λ (ws : Lasts g4.ended tt (r3, tt)). ‵ (lasts g4.ended tt (r3, tt) ws) ⊛ raw (g4.clauses 𝓤 H A at-mem run tt (r3, tt) .ensures tt r4 (atExit g4.ended tt (r3, tt) ws)))))) (id⊢ 𝓤 _) $ await ! tt $ pick ! (λ r4. split ! $ move ! (1 ∷ []) $ pick ! (λ ws4. split ! $ move ! (1 ∷ []) $ heard ! _ (λ e4.
-        fsplit ! $ move ! (2 ∷ []) $ split ! $ move ! (1 ∷ []) $ peeks ! bool (Is bool) (shows 𝓤 H A bool) r4 (z4 ∷ []) (λ i4. drop ! $ land ! (from ! (stop !)) (init ! 61 refl (bool-lawful 𝓤 H A W .typed r4 _ i4 .0)) $
-        nothing ! $
+        drop ! $ split ! $ move ! (1 ∷ []) $ peeks ! bool (Is bool) (shows 𝓤 H A bool) r4 (z4 ∷ []) (λ i4. drop ! $ land ! (from ! (stop !)) (init ! 25 refl (bool-lawful 𝓤 H A W .typed r4 _ i4 .0)) $
+        tidy W (_ ∷ _ ∷ _ ∷ _ ∷ _ ∷ _ ∷ _ ∷ _ ∷ _ ∷ _ ∷ _ ∷ _ ∷ _ ∷ _ ∷ _ ∷ _ ∷ _ ∷ _ ∷ _ ∷ _ ∷ _ ∷ _ ∷ _ ∷ _ ∷ _ ∷ _ ∷ _ ∷ _ ∷ _ ∷ _ ∷ _ ∷ _ ∷ _ ∷ _ ∷ _ ∷ _ ∷ _ ∷ _ ∷ []) $ drop ! $ tidy W (_ ∷ _ ∷ _ ∷ _ ∷ _ ∷ _ ∷ _ ∷ _ ∷ _ ∷ _ ∷ _ ∷ _ ∷ _ ∷ _ ∷ _ ∷ _ ∷ _ ∷ _ ∷ _ ∷ _ ∷ _ ∷ _ ∷ _ ∷ _ ∷ _ ∷ _ ∷ _ ∷ _ ∷ _ ∷ _ ∷ _ ∷ _ ∷ _ ∷ _ ∷ _ ∷ _ ∷ _ ∷ []) $ nothing ! $
         -- call 5
         use1 W (raw (Callee-g5 𝓤 H A at-mem run .pre ((tt, tt, tt, (n5, (n7, tt)), (u5 ∷ [], (u7 ∷ [], tt))), tt))) (qed W ((‵ ftrue) ∷ []) ∵ nothing ! $ owned ! u64 (Is u64) (uint-makes 𝓤 H A W w64) (n7) _ w7 $ fjoin ! $ owned ! u64 (Is u64) (uint-makes 𝓤 H A W w64) (n5) _ w5 $ fjoin ! $ move ! (1 ∷ 0 ∷ []) $ join ! $ nothing ! $ move ! (1 ∷ 0 ∷ []) $ frame ! $ done !) $
-        calls-at ! fm (Callee-g5 𝓤 H A at-mem run) known-g5 ((tt, tt, tt, (n5, (n7, tt)), (u5 ∷ [], (u7 ∷ [], tt))), tt) (and-then ! (load ! (from ! (stop !)) (look ! 76 refl)) (and-then ! (load ! (from ! (stop !)) (look ! 72 refl)) (no-more !))) (λ z5.
+        calls-at ! fm (Callee-g5 𝓤 H A at-mem run) known-g5 ((tt, tt, tt, (n5, (n7, tt)), (u5 ∷ [], (u7 ∷ [], tt))), tt) (and-then ! (load ! (from ! (stop !)) (look ! 32 refl)) (and-then ! (load ! (from ! (stop !)) (look ! 30 refl)) (no-more !))) (λ z5.
         use1 W (later (some (λ (r5 : ℕ). ((‵ ftrue) ⊛ ‵ (u64 .own r5 (z5 ∷ []))) ⊛ some (λ (ws : Lasts g5.ended tt (n5, (n7, tt))). ‵ (lasts g5.ended tt (n5, (n7, tt)) ws) ⊛ raw (g5.clauses 𝓤 H A at-mem run tt (n5, (n7, tt)) .ensures tt r5 (atExit g5.ended tt (n5, (n7, tt)) ws)))))) (id⊢ 𝓤 _) $ await ! tt $ pick ! (λ r5. split ! $ move ! (1 ∷ []) $ pick ! (λ ws5. split ! $ move ! (1 ∷ []) $ heard ! _ (λ e5.
-        fsplit ! $ move ! (1 ∷ []) $ fsplit ! $ move ! (3 ∷ []) $ split ! $ move ! (1 ∷ []) $ peeks ! u64 (Is u64) (shows 𝓤 H A u64) r5 (z5 ∷ []) (λ i5. drop ! $ land ! (from ! (stop !)) (init ! 63 refl (uint-lawful 𝓤 H A W w64 .typed r5 _ i5 .0)) $
-        nothing ! $
+        drop ! $ split ! $ move ! (1 ∷ []) $ peeks ! u64 (Is u64) (shows 𝓤 H A u64) r5 (z5 ∷ []) (λ i5. drop ! $ land ! (from ! (stop !)) (init ! 24 refl (uint-lawful 𝓤 H A W w64 .typed r5 _ i5 .0)) $
+        tidy W (_ ∷ _ ∷ _ ∷ _ ∷ _ ∷ _ ∷ _ ∷ _ ∷ _ ∷ _ ∷ _ ∷ _ ∷ _ ∷ _ ∷ _ ∷ _ ∷ _ ∷ _ ∷ _ ∷ _ ∷ _ ∷ _ ∷ _ ∷ _ ∷ _ ∷ _ ∷ _ ∷ _ ∷ _ ∷ _ ∷ _ ∷ _ ∷ _ ∷ _ ∷ _ ∷ _ ∷ _ ∷ _ ∷ []) $ drop ! $ tidy W (_ ∷ _ ∷ _ ∷ _ ∷ _ ∷ _ ∷ _ ∷ _ ∷ _ ∷ _ ∷ _ ∷ _ ∷ _ ∷ _ ∷ _ ∷ _ ∷ _ ∷ _ ∷ _ ∷ _ ∷ _ ∷ _ ∷ _ ∷ _ ∷ _ ∷ _ ∷ _ ∷ _ ∷ _ ∷ _ ∷ _ ∷ _ ∷ _ ∷ _ ∷ _ ∷ _ ∷ _ ∷ []) $ nothing ! $
         -- call 6
         use1 W (raw (Callee-g6 𝓤 H A at-mem run .pre ((tt, tt, tt, (n7, tt), (u7 ∷ [], tt)), tt))) (qed W ((‵ ftrue) ∷ []) ∵ nothing ! $ owned ! u64 (Is u64) (uint-makes 𝓤 H A W w64) (n7) _ w7 $ fjoin ! $ move ! (1 ∷ 0 ∷ []) $ join ! $ nothing ! $ move ! (1 ∷ 0 ∷ []) $ frame ! $ done !) $
-        calls-at ! fm (Callee-g6 𝓤 H A at-mem run) known-g6 ((tt, tt, tt, (n7, tt), (u7 ∷ [], tt)), tt) (and-then ! (load ! (from ! (stop !)) (look ! 76 refl)) (no-more !)) (λ z6.
+        calls-at ! fm (Callee-g6 𝓤 H A at-mem run) known-g6 ((tt, tt, tt, (n7, tt), (u7 ∷ [], tt)), tt) (and-then ! (load ! (from ! (stop !)) (look ! 30 refl)) (no-more !)) (λ z6.
         use1 W (later (some (λ (r6 : ℕ). ((‵ ftrue) ⊛ ‵ (u64 .own r6 (z6 ∷ []))) ⊛ some (λ (ws : Lasts g6.ended tt (n7, tt)). ‵ (lasts g6.ended tt (n7, tt) ws) ⊛ raw (g6.clauses 𝓤 H A at-mem run tt (n7, tt) .ensures tt r6 (atExit g6.ended tt (n7, tt) ws)))))) (id⊢ 𝓤 _) $ await ! tt $ pick ! (λ r6. split ! $ move ! (1 ∷ []) $ pick ! (λ ws6. split ! $ move ! (1 ∷ []) $ heard ! _ (λ e6.
-        fsplit ! $ move ! (2 ∷ []) $ split ! $ move ! (1 ∷ []) $ peeks ! u64 (Is u64) (shows 𝓤 H A u64) r6 (z6 ∷ []) (λ i6. drop ! $ land ! (from ! (stop !)) (init ! 64 refl (uint-lawful 𝓤 H A W w64 .typed r6 _ i6 .0)) $
-        assigns ! (of-opd ! (load ! (from ! (stop !)) (look ! 68 refl))) (from ! (stop !)) (init ! 56 refl (bool-lawful 𝓤 H A W .typed r4 _ i4 .0)) $
-        rewrite ! 56 (λ (w : Val). ‵ (fat fullShare tyBool l₁₈ 0 w)) (ap only i4) refl $ first ! $ branches ! (load ! (from ! (stop !)) (look ! 56 refl))
-        (λ y1. let b1 : r4 ≡ true = is-yes (r4) y1 in assigns ! (addr ! (from ! (fld ! refl (hop ! (look-in ! 76 (sub ! 0 refl (whole !))) (stop !))))) (from ! (stop !)) (init ! 50 refl (tt, tt)) $
-        assigns ! (agg ! (and-then ! (load ! (from ! (stop !)) (look ! 50 refl)) (and-then ! (load ! (from ! (fld ! refl (stop !))) (look-in ! 76 (sub ! 1 refl (whole !)))) (no-more !)))) (from ! (stop !)) (init ! 48 refl (tt, (tt, (record { fits = room8 .0 }, tt)))) $
-        lft-new ! tt (λ ν7d. move ! (38 ∷ 35 ∷ []) $ use2 W (later (some (λ (δ : GName). ‵ (MutSlice (named 0) (ν7d ∷ []) u64 .own (ref8 δ (ys8)) (v8 ∷ [])) ⊛ ‵ (Lent8 ν7d δ (ys8))))) (lends8 (named 0) ν7d (ys8) (refl)) $ await ! tt $ pick ! (λ δ7d. split ! $ nothing ! $ move ! (3 ∷ 0 ∷ []) $ join ! $ join ! $
+        drop ! $ split ! $ move ! (1 ∷ []) $ peeks ! u64 (Is u64) (shows 𝓤 H A u64) r6 (z6 ∷ []) (λ i6. drop ! $ land ! (from ! (stop !)) (init ! 23 refl (uint-lawful 𝓤 H A W w64 .typed r6 _ i6 .0)) $
+        tidy W (_ ∷ _ ∷ _ ∷ _ ∷ _ ∷ _ ∷ _ ∷ _ ∷ _ ∷ _ ∷ _ ∷ _ ∷ _ ∷ _ ∷ _ ∷ _ ∷ _ ∷ _ ∷ _ ∷ _ ∷ _ ∷ _ ∷ _ ∷ _ ∷ _ ∷ _ ∷ _ ∷ _ ∷ _ ∷ _ ∷ _ ∷ _ ∷ _ ∷ _ ∷ _ ∷ _ ∷ _ ∷ _ ∷ []) $ drop ! $ assigns ! (of-opd ! (load ! (from ! (stop !)) (look ! 24 refl))) (from ! (stop !)) (init ! 18 refl (bool-lawful 𝓤 H A W .typed r4 _ i4 .0)) $
+        rewrite ! 18 (λ (w : Val). ‵ (fat fullShare tyBool l₁₈ 0 w)) (ap only i4) refl $ first ! $ branches ! (load ! (from ! (stop !)) (look ! 18 refl))
+        (λ y1. let b1 : r4 ≡ true = is-yes (r4) y1 in assigns ! (addr ! (from ! (fld ! refl (hop ! (look-in ! 28 (sub ! 0 refl (whole !))) (stop !))))) (from ! (stop !)) (init ! 15 refl (tt, tt)) $
+        assigns ! (agg ! (and-then ! (load ! (from ! (stop !)) (look ! 15 refl)) (and-then ! (load ! (from ! (fld ! refl (stop !))) (look-in ! 28 (sub ! 1 refl (whole !)))) (no-more !)))) (from ! (stop !)) (init ! 14 refl (tt, (tt, (record { fits = room8 .0 }, tt)))) $
+        lft-new ! tt (λ ν7d. move ! (5 ∷ 3 ∷ []) $ use2 W (later (some (λ (δ : GName). ‵ (MutSlice (named 0) (ν7d ∷ []) u64 .own (ref8 δ (ys8)) (v8 ∷ [])) ⊛ ‵ (Lent8 ν7d δ (ys8))))) (lends8 (named 0) ν7d (ys8) (refl)) $ await ! tt $ pick ! (λ δ7d. split ! $ tidy W (_ ∷ _ ∷ _ ∷ _ ∷ _ ∷ _ ∷ _ ∷ _ ∷ _ ∷ _ ∷ _ ∷ _ ∷ _ ∷ _ ∷ _ ∷ _ ∷ _ ∷ _ ∷ _ ∷ _ ∷ _ ∷ _ ∷ _ ∷ _ ∷ _ ∷ _ ∷ _ ∷ _ ∷ _ ∷ _ ∷ _ ∷ _ ∷ _ ∷ _ ∷ _ ∷ _ ∷ _ ∷ _ ∷ []) $ nothing ! $ move ! (3 ∷ 0 ∷ []) $ join ! $ join ! $
         -- call 7
         use1 W (raw (Callee-g7 𝓤 H A at-mem run .pre ((((ν7d ∷ []), tt), (fullShare, tt), tt, (r5, (n6, (n1, (ref8 δ7d (ys8), tt)))), (z5 ∷ [], (u6 ∷ [], (u1 ∷ [], (v8 ∷ [], tt))))), tt))) (qed W ((‵ (flft (ν7d ∷ []) fullShare) ⊛ ‵ ftrue) ∷ ‵ (MutSlice (named 0) (ν7d ∷ []) u64 .own (ref8 δ7d (ys8)) (v8 ∷ [])) ∷ []) ∵ nothing ! $ move ! (2 ∷ 0 ∷ []) $ fjoin ! $ owned ! u64 (Is u64) (uint-makes 𝓤 H A W w64) (n1) _ w1 $ fjoin ! $ owned ! u64 (Is u64) (uint-makes 𝓤 H A W w64) (n6) _ w6 $ fjoin ! $ owned ! u64 (Is u64) (uint-makes 𝓤 H A W w64) (r5) _ i5 $ fjoin ! $ move ! (1 ∷ 0 ∷ []) $ join ! $ nothing ! $ move ! (1 ∷ 0 ∷ []) $ frame ! $ done !) $
-        calls-at ! fm (Callee-g7 𝓤 H A at-mem run) known-g7 ((((ν7d ∷ []), tt), (fullShare, tt), tt, (r5, (n6, (n1, (ref8 δ7d (ys8), tt)))), (z5 ∷ [], (u6 ∷ [], (u1 ∷ [], (v8 ∷ [], tt))))), tt) (and-then ! (load ! (from ! (stop !)) (look ! 66 refl)) (and-then ! (load ! (from ! (stop !)) (look ! 80 refl)) (and-then ! (load ! (from ! (stop !)) (look ! 90 refl)) (and-then ! (load ! (from ! (stop !)) (look ! 48 refl)) (no-more !))))) (λ z7.
+        calls-at ! fm (Callee-g7 𝓤 H A at-mem run) known-g7 ((((ν7d ∷ []), tt), (fullShare, tt), tt, (r5, (n6, (n1, (ref8 δ7d (ys8), tt)))), (z5 ∷ [], (u6 ∷ [], (u1 ∷ [], (v8 ∷ [], tt))))), tt) (and-then ! (load ! (from ! (stop !)) (look ! 23 refl)) (and-then ! (load ! (from ! (stop !)) (look ! 30 refl)) (and-then ! (load ! (from ! (stop !)) (look ! 35 refl)) (and-then ! (load ! (from ! (stop !)) (look ! 14 refl)) (no-more !))))) (λ z7.
         use1 W (later (some (λ (r7 : Unit {0}). ((‵ (flft (ν7d ∷ []) fullShare) ⊛ ‵ ftrue) ⊛ ‵ (unit .own r7 (z7 ∷ []))) ⊛ some (λ (ws : Lasts g7.ended ((ν7d ∷ []), tt) (r5, (n6, (n1, (ref8 δ7d (ys8), tt))))). ‵ (lasts g7.ended ((ν7d ∷ []), tt) (r5, (n6, (n1, (ref8 δ7d (ys8), tt)))) ws) ⊛ raw (g7.clauses 𝓤 H A at-mem run ((ν7d ∷ []), tt) (r5, (n6, (n1, (ref8 δ7d (ys8), tt)))) .ensures tt r7 (atExit g7.ended ((ν7d ∷ []), tt) (r5, (n6, (n1, (ref8 δ7d (ys8), tt)))) ws)))))) (id⊢ 𝓤 _) $ await ! tt $ pick ! (λ r7. split ! $ move ! (1 ∷ []) $ pick ! (λ ws7. split ! $ move ! (1 ∷ []) $ heard ! _ (λ e7.
-        fsplit ! $ move ! (1 ∷ []) $ fsplit ! $ move ! (1 ∷ []) $ fsplit ! $ move ! (1 ∷ []) $ fsplit ! $ fsplit ! $ move ! (1 ∷ []) $ feqL ! (λ same7d. move ! (5 ∷ []) $ split ! $ move ! (1 ∷ []) $ feqL ! (λ i7. land ! (from ! (stop !)) (init ! 57 refl (subst (λ (t : Val). Trueᴮ (hasTy tyUnit t) × WT t) (sym (ap only i7)) (tt, tt))) $
-        split ! $ move ! (1 ∷ []) $ move ! (1 ∷ []) $ lft-end ! tt $ move ! (0 ∷ 7 ∷ 2 ∷ []) $ use3 W (later (‵ (O8 (ws7 .1 .1 .1 .0)) ⊛ ‵ (flft κ₂ q₂))) (backs8 (named 0) ν7d δ7d (ys8) (ws7 .1 .1 .1 .0) (refl) room8 same7d) $ await ! tt $ split ! $
-        assigns ! (addr ! (from ! (fld ! refl (hop ! (look-in ! 81 (sub ! 0 refl (whole !))) (stop !))))) (from ! (stop !)) (init ! 51 refl (tt, tt)) $
-        assigns ! (agg ! (and-then ! (load ! (from ! (stop !)) (look ! 51 refl)) (and-then ! (load ! (from ! (fld ! refl (stop !))) (look-in ! 81 (sub ! 1 refl (whole !)))) (no-more !)))) (from ! (stop !)) (init ! 49 refl (tt, (tt, (record { fits = room8 .0 }, tt)))) $
-        move ! (34 ∷ []) $ use1 W (‵ (O3) ⊛ ‵ (O3)) (shr-slice-copy 𝓤 H A W (named 0) κ₀ mEntry.the-row .twice s3 (v3 ∷ [])) $ split ! $ move ! (47 ∷ []) $ use1 W (‵ (O4) ⊛ ‵ (O4)) (shr-slice-copy 𝓤 H A W (named 1) κ₁ u64 .twice s4 (v4 ∷ [])) $ split ! $
-        lft-new ! tt (λ ν8g. move ! (5 ∷ 6 ∷ []) $ use2 W (later (some (λ (δ : GName). ‵ (MutSlice (named 2) (ν8g ∷ []) u64 .own (ref8 δ (ws7 .1 .1 .1 .0)) (v8 ∷ [])) ⊛ ‵ (Lent8 ν8g δ (ws7 .1 .1 .1 .0))))) (lends8 (named 2) ν8g (ws7 .1 .1 .1 .0) (same7d)) $ await ! tt $ pick ! (λ δ8g. split ! $ nothing ! $ move ! (3 ∷ 0 ∷ []) $ join ! $ move ! (45 ∷ 0 ∷ []) $ join ! $ move ! (35 ∷ 0 ∷ []) $ join ! $ move ! (3 ∷ 1 ∷ []) $ join ! $ move ! (4 ∷ 0 ∷ []) $ join ! $ move ! (1 ∷ 0 ∷ []) $ join ! $
+        fsplit ! $ drop ! $ fsplit ! $ drop ! $ fsplit ! $ drop ! $ fsplit ! $ fsplit ! $ move ! (1 ∷ []) $ feqL ! (λ same7d. move ! (1 ∷ []) $ drop ! $ move ! (1 ∷ []) $ split ! $ move ! (1 ∷ []) $ feqL ! (λ i7. land ! (from ! (stop !)) (init ! 17 refl (subst (λ (t : Val). Trueᴮ (hasTy tyUnit t) × WT t) (sym (ap only i7)) (tt, tt))) $
+        tidy W (_ ∷ _ ∷ _ ∷ _ ∷ _ ∷ _ ∷ _ ∷ _ ∷ _ ∷ _ ∷ _ ∷ _ ∷ _ ∷ _ ∷ _ ∷ _ ∷ _ ∷ _ ∷ _ ∷ _ ∷ _ ∷ _ ∷ _ ∷ _ ∷ _ ∷ _ ∷ _ ∷ _ ∷ _ ∷ _ ∷ _ ∷ _ ∷ _ ∷ _ ∷ _ ∷ _ ∷ _ ∷ _ ∷ []) $ split ! $ move ! (1 ∷ []) $ drop ! $ lft-end ! tt $ move ! (0 ∷ 2 ∷ 1 ∷ []) $ use3 W (later (‵ (O8 (ws7 .1 .1 .1 .0)) ⊛ ‵ (flft κ₂ q₂))) (backs8 (named 0) ν7d δ7d (ys8) (ws7 .1 .1 .1 .0) (refl) room8 same7d) $ await ! tt $ split ! $
+        assigns ! (addr ! (from ! (fld ! refl (hop ! (look-in ! 28 (sub ! 0 refl (whole !))) (stop !))))) (from ! (stop !)) (init ! 13 refl (tt, tt)) $
+        assigns ! (agg ! (and-then ! (load ! (from ! (stop !)) (look ! 13 refl)) (and-then ! (load ! (from ! (fld ! refl (stop !))) (look-in ! 28 (sub ! 1 refl (whole !)))) (no-more !)))) (from ! (stop !)) (init ! 12 refl (tt, (tt, (record { fits = room8 .0 }, tt)))) $
+        move ! (3 ∷ []) $ use1 W (‵ (O3) ⊛ ‵ (O3)) (shr-slice-copy 𝓤 H A W (named 0) κ₀ mEntry.the-row .twice s3 (v3 ∷ [])) $ split ! $ move ! (9 ∷ []) $ use1 W (‵ (O4) ⊛ ‵ (O4)) (shr-slice-copy 𝓤 H A W (named 1) κ₁ u64 .twice s4 (v4 ∷ [])) $ split ! $
+        lft-new ! tt (λ ν8g. move ! (5 ∷ 6 ∷ []) $ use2 W (later (some (λ (δ : GName). ‵ (MutSlice (named 2) (ν8g ∷ []) u64 .own (ref8 δ (ws7 .1 .1 .1 .0)) (v8 ∷ [])) ⊛ ‵ (Lent8 ν8g δ (ws7 .1 .1 .1 .0))))) (lends8 (named 2) ν8g (ws7 .1 .1 .1 .0) (same7d)) $ await ! tt $ pick ! (λ δ8g. split ! $ tidy W (_ ∷ _ ∷ _ ∷ _ ∷ _ ∷ _ ∷ _ ∷ _ ∷ _ ∷ _ ∷ _ ∷ _ ∷ _ ∷ _ ∷ _ ∷ _ ∷ _ ∷ _ ∷ _ ∷ _ ∷ _ ∷ _ ∷ _ ∷ _ ∷ _ ∷ _ ∷ _ ∷ _ ∷ _ ∷ _ ∷ _ ∷ _ ∷ _ ∷ _ ∷ _ ∷ _ ∷ _ ∷ _ ∷ _ ∷ _ ∷ []) $ nothing ! $ move ! (3 ∷ 0 ∷ []) $ join ! $ move ! (8 ∷ 0 ∷ []) $ join ! $ move ! (7 ∷ 0 ∷ []) $ join ! $ move ! (3 ∷ 1 ∷ []) $ join ! $ move ! (4 ∷ 0 ∷ []) $ join ! $ move ! (1 ∷ 0 ∷ []) $ join ! $
         -- call 8
         use1 W (raw (Callee-g8 𝓤 H A at-mem run .pre (((κ₀, (κ₁, ((ν8g ∷ []), tt))), (q₀, (q₁, (fullShare, tt))), tt, (s3, (s4, (n6, (r5, (r6, (n1, (ref8 δ8g (ws7 .1 .1 .1 .0), tt))))))), (v3 ∷ [], (v4 ∷ [], (u6 ∷ [], (z5 ∷ [], (z6 ∷ [], (u1 ∷ [], (v8 ∷ [], tt)))))))), tt))) (qed W ((‵ (flft κ₀ q₀) ⊛ ‵ (flft κ₁ q₁) ⊛ ‵ (flft (ν8g ∷ []) fullShare) ⊛ ‵ ftrue) ∷ ‵ (ShrSlice (named 0) κ₀ mEntry.the-row .own s3 (v3 ∷ [])) ∷ ‵ (ShrSlice (named 1) κ₁ u64 .own s4 (v4 ∷ [])) ∷ ‵ (MutSlice (named 2) (ν8g ∷ []) u64 .own (ref8 δ8g (ws7 .1 .1 .1 .0)) (v8 ∷ [])) ∷ []) ∵ nothing ! $ move ! (4 ∷ 0 ∷ []) $ fjoin ! $ owned ! u64 (Is u64) (uint-makes 𝓤 H A W w64) (n1) _ w1 $ fjoin ! $ owned ! u64 (Is u64) (uint-makes 𝓤 H A W w64) (r6) _ i6 $ fjoin ! $ owned ! u64 (Is u64) (uint-makes 𝓤 H A W w64) (r5) _ i5 $ fjoin ! $ owned ! u64 (Is u64) (uint-makes 𝓤 H A W w64) (n6) _ w6 $ fjoin ! $ move ! (3 ∷ 0 ∷ []) $ fjoin ! $ move ! (2 ∷ 0 ∷ []) $ fjoin ! $ move ! (1 ∷ 0 ∷ []) $ join ! $ nothing ! $ move ! (1 ∷ 0 ∷ []) $ frame ! $ done !) $
-        calls-at ! fm (Callee-g8 𝓤 H A at-mem run) known-g8 (((κ₀, (κ₁, ((ν8g ∷ []), tt))), (q₀, (q₁, (fullShare, tt))), tt, (s3, (s4, (n6, (r5, (r6, (n1, (ref8 δ8g (ws7 .1 .1 .1 .0), tt))))))), (v3 ∷ [], (v4 ∷ [], (u6 ∷ [], (z5 ∷ [], (z6 ∷ [], (u1 ∷ [], (v8 ∷ [], tt)))))))), tt) (and-then ! (load ! (from ! (stop !)) (look ! 89 refl)) (and-then ! (load ! (from ! (stop !)) (look ! 87 refl)) (and-then ! (load ! (from ! (stop !)) (look ! 83 refl)) (and-then ! (load ! (from ! (stop !)) (look ! 69 refl)) (and-then ! (load ! (from ! (stop !)) (look ! 67 refl)) (and-then ! (load ! (from ! (stop !)) (look ! 93 refl)) (and-then ! (load ! (from ! (stop !)) (look ! 47 refl)) (no-more !)))))))) (λ z8.
+        calls-at ! fm (Callee-g8 𝓤 H A at-mem run) known-g8 (((κ₀, (κ₁, ((ν8g ∷ []), tt))), (q₀, (q₁, (fullShare, tt))), tt, (s3, (s4, (n6, (r5, (r6, (n1, (ref8 δ8g (ws7 .1 .1 .1 .0), tt))))))), (v3 ∷ [], (v4 ∷ [], (u6 ∷ [], (z5 ∷ [], (z6 ∷ [], (u1 ∷ [], (v8 ∷ [], tt)))))))), tt) (and-then ! (load ! (from ! (stop !)) (look ! 31 refl)) (and-then ! (load ! (from ! (stop !)) (look ! 30 refl)) (and-then ! (load ! (from ! (stop !)) (look ! 28 refl)) (and-then ! (load ! (from ! (stop !)) (look ! 21 refl)) (and-then ! (load ! (from ! (stop !)) (look ! 20 refl)) (and-then ! (load ! (from ! (stop !)) (look ! 33 refl)) (and-then ! (load ! (from ! (stop !)) (look ! 10 refl)) (no-more !)))))))) (λ z8.
         use1 W (later (some (λ (r8 : Unit {0}). ((‵ (flft κ₀ q₀) ⊛ ‵ (flft κ₁ q₁) ⊛ ‵ (flft (ν8g ∷ []) fullShare) ⊛ ‵ ftrue) ⊛ ‵ (unit .own r8 (z8 ∷ []))) ⊛ some (λ (ws : Lasts g8.ended (κ₀, (κ₁, ((ν8g ∷ []), tt))) (s3, (s4, (n6, (r5, (r6, (n1, (ref8 δ8g (ws7 .1 .1 .1 .0), tt)))))))). ‵ (lasts g8.ended (κ₀, (κ₁, ((ν8g ∷ []), tt))) (s3, (s4, (n6, (r5, (r6, (n1, (ref8 δ8g (ws7 .1 .1 .1 .0), tt))))))) ws) ⊛ raw (g8.clauses 𝓤 H A at-mem run (κ₀, (κ₁, ((ν8g ∷ []), tt))) (s3, (s4, (n6, (r5, (r6, (n1, (ref8 δ8g (ws7 .1 .1 .1 .0), tt))))))) .ensures tt r8 (atExit g8.ended (κ₀, (κ₁, ((ν8g ∷ []), tt))) (s3, (s4, (n6, (r5, (r6, (n1, (ref8 δ8g (ws7 .1 .1 .1 .0), tt))))))) ws)))))) (id⊢ 𝓤 _) $ await ! tt $ pick ! (λ r8. split ! $ move ! (1 ∷ []) $ pick ! (λ ws8. split ! $ move ! (1 ∷ []) $ heard ! _ (λ e8.
-        fsplit ! $ move ! (1 ∷ []) $ fsplit ! $ move ! (1 ∷ []) $ fsplit ! $ move ! (1 ∷ []) $ fsplit ! $ move ! (1 ∷ []) $ fsplit ! $ move ! (1 ∷ []) $ fsplit ! $ move ! (1 ∷ []) $ fsplit ! $ fsplit ! $ move ! (1 ∷ []) $ feqL ! (λ same8g. move ! (8 ∷ []) $ split ! $ move ! (1 ∷ []) $ feqL ! (λ i8. land ! (from ! (stop !)) (store ! 63 refl (subst (λ (t : Val). Trueᴮ (hasTy tyUnit t) × WT t) (sym (ap only i8)) (tt, tt))) $
-        split ! $ move ! (1 ∷ []) $ split ! $ move ! (1 ∷ []) $ split ! $ move ! (1 ∷ []) $ move ! (1 ∷ []) $ lft-end ! tt $ move ! (0 ∷ 12 ∷ 4 ∷ []) $ use3 W (later (‵ (O8 (ws8 .1 .1 .1 .1 .1 .1 .0)) ⊛ ‵ (flft κ₂ q₂))) (backs8 (named 2) ν8g δ8g (ws7 .1 .1 .1 .0) (ws8 .1 .1 .1 .1 .1 .1 .0) (same7d) room8 same8g) $ await ! tt $ split ! $
-        assigns-last ! (of-opd ! (load ! (from ! (stop !)) (look ! 83 refl))) (from ! (stop !)) (init ! 67 refl (uint-lawful 𝓤 H A W w32 .typed r3 _ i3 .0)) $
+        fsplit ! $ drop ! $ fsplit ! $ drop ! $ fsplit ! $ drop ! $ fsplit ! $ drop ! $ fsplit ! $ drop ! $ fsplit ! $ drop ! $ fsplit ! $ fsplit ! $ move ! (1 ∷ []) $ feqL ! (λ same8g. move ! (1 ∷ []) $ drop ! $ move ! (1 ∷ []) $ split ! $ move ! (1 ∷ []) $ feqL ! (λ i8. land ! (from ! (stop !)) (store ! 15 refl (subst (λ (t : Val). Trueᴮ (hasTy tyUnit t) × WT t) (sym (ap only i8)) (tt, tt))) $
+        tidy W (_ ∷ _ ∷ _ ∷ _ ∷ _ ∷ _ ∷ _ ∷ _ ∷ _ ∷ _ ∷ _ ∷ _ ∷ _ ∷ _ ∷ _ ∷ _ ∷ _ ∷ _ ∷ _ ∷ _ ∷ _ ∷ _ ∷ _ ∷ _ ∷ _ ∷ _ ∷ _ ∷ _ ∷ _ ∷ _ ∷ _ ∷ _ ∷ _ ∷ _ ∷ _ ∷ _ ∷ []) $ split ! $ move ! (1 ∷ []) $ split ! $ move ! (1 ∷ []) $ split ! $ move ! (1 ∷ []) $ drop ! $ lft-end ! tt $ move ! (0 ∷ 4 ∷ 3 ∷ []) $ use3 W (later (‵ (O8 (ws8 .1 .1 .1 .1 .1 .1 .0)) ⊛ ‵ (flft κ₂ q₂))) (backs8 (named 2) ν8g δ8g (ws7 .1 .1 .1 .0) (ws8 .1 .1 .1 .1 .1 .1 .0) (same7d) room8 same8g) $ await ! tt $ split ! $
+        assigns-last ! (of-opd ! (load ! (from ! (stop !)) (look ! 25 refl))) (from ! (stop !)) (init ! 17 refl (uint-lawful 𝓤 H A W w32 .typed r3 _ i3 .0)) $
         exec ! C Λ ((tyInt w32, l₀) ∷ (tyInt w64, l₁) ∷ (tyInt w64, l₂) ∷ (sliceTy (tyRef (named 0) imm (pointee (mEntry.the-row .written))), l₃) ∷ (sliceTy (tyRef (named 1) imm (tyInt w64)), l₄) ∷ (tyInt w64, l₅) ∷ (tyInt w64, l₆) ∷ (tyInt w64, l₇) ∷ (sliceTy (tyRef (named 2) mut (tyInt w64)), l₈) ∷ (tyBool, l₉) ∷ (tyBool, l₁₀) ∷ (tyInt w32, l₁₁) ∷ (tyBool, l₁₂) ∷ (tyInt w64, l₁₃) ∷ (tyInt w64, l₁₄) ∷ (tyInt w64, l₁₅) ∷ (tyInt w64, l₁₆) ∷ (tyInt w64, l₁₇) ∷ (tyBool, l₁₈) ∷ (tyInt w32, l₁₉) ∷ (tyUnit, l₂₀) ∷ (tyRef erased mut (tyInt w64), l₂₁) ∷ (sliceTy (tyRef erased mut (tyInt w64)), l₂₂) ∷ (tyRef erased mut (tyInt w64), l₂₃) ∷ (sliceTy (tyRef erased mut (tyInt w64)), l₂₄) ∷ []) Mir.t-12 (atRet ((tyInt w32, l₀) ∷ (tyInt w64, l₁) ∷ (tyInt w64, l₂) ∷ (sliceTy (tyRef (named 0) imm (pointee (mEntry.the-row .written))), l₃) ∷ (sliceTy (tyRef (named 1) imm (tyInt w64)), l₄) ∷ (tyInt w64, l₅) ∷ (tyInt w64, l₆) ∷ (tyInt w64, l₇) ∷ (sliceTy (tyRef (named 2) mut (tyInt w64)), l₈) ∷ (tyBool, l₉) ∷ (tyBool, l₁₀) ∷ (tyInt w32, l₁₁) ∷ (tyBool, l₁₂) ∷ (tyInt w64, l₁₃) ∷ (tyInt w64, l₁₄) ∷ (tyInt w64, l₁₅) ∷ (tyInt w64, l₁₆) ∷ (tyInt w64, l₁₇) ∷ (tyBool, l₁₈) ∷ (tyInt w32, l₁₉) ∷ (tyUnit, l₂₀) ∷ (tyRef erased mut (tyInt w64), l₂₁) ∷ (sliceTy (tyRef erased mut (tyInt w64)), l₂₂) ∷ (tyRef erased mut (tyInt w64), l₂₃) ∷ (sliceTy (tyRef erased mut (tyInt w64)), l₂₄) ∷ []) Post) $
-        assigns ! (of-opd ! (load ! (from ! (stop !)) (look ! 67 refl))) (from ! (stop !)) (init ! 105 refl (uint-lawful 𝓤 H A W w32 .typed r3 _ i3 .0)) $
-        returns ! (look ! 105 refl) $ forget ! 105 refl $ forget ! 103 refl $ forget ! 101 refl $ forget ! 99 refl $ forget ! 97 refl $ forget ! 95 refl $ forget ! 93 refl $ forget ! 91 refl $ forget ! 89 refl $ forget ! 87 refl $ forget ! 85 refl $ forget ! 83 refl $ forget ! 81 refl $ forget ! 79 refl $ forget ! 77 refl $ forget ! 75 refl $ forget ! 73 refl $ forget ! 71 refl $ forget ! 69 refl $ forget ! 67 refl $ forget ! 65 refl $ forget ! 63 refl $ forget ! 61 refl $ forget ! 59 refl $ forget ! 57 refl $
-        move ! (105 ∷ 106 ∷ []) $ free1 ! $ move ! (103 ∷ 104 ∷ []) $ free1 ! $ move ! (101 ∷ 102 ∷ []) $ free1 ! $ move ! (99 ∷ 100 ∷ []) $ free1 ! $ move ! (97 ∷ 98 ∷ []) $ free1 ! $ move ! (95 ∷ 96 ∷ []) $ free1 ! $ move ! (93 ∷ 94 ∷ []) $ free1 ! $ move ! (91 ∷ 92 ∷ []) $ free1 ! $ move ! (89 ∷ 90 ∷ []) $ free1 ! $ move ! (87 ∷ 88 ∷ []) $ free1 ! $ move ! (85 ∷ 86 ∷ []) $ free1 ! $ move ! (83 ∷ 84 ∷ []) $ free1 ! $ move ! (81 ∷ 82 ∷ []) $ free1 ! $ move ! (79 ∷ 80 ∷ []) $ free1 ! $ move ! (77 ∷ 78 ∷ []) $ free1 ! $ move ! (75 ∷ 76 ∷ []) $ free1 ! $ move ! (73 ∷ 74 ∷ []) $ free1 ! $ move ! (71 ∷ 72 ∷ []) $ free1 ! $ move ! (69 ∷ 70 ∷ []) $ free1 ! $ move ! (67 ∷ 68 ∷ []) $ free1 ! $ move ! (65 ∷ 66 ∷ []) $ free1 ! $ move ! (63 ∷ 64 ∷ []) $ free1 ! $ move ! (61 ∷ 62 ∷ []) $ free1 ! $ move ! (59 ∷ 60 ∷ []) $ free1 ! $ move ! (57 ∷ 58 ∷ []) $ free1 ! $ free0 ! $
+        assigns ! (of-opd ! (load ! (from ! (stop !)) (look ! 17 refl))) (from ! (stop !)) (init ! 36 refl (uint-lawful 𝓤 H A W w32 .typed r3 _ i3 .0)) $
+        tidy W (_ ∷ _ ∷ _ ∷ _ ∷ _ ∷ _ ∷ _ ∷ _ ∷ _ ∷ _ ∷ _ ∷ _ ∷ _ ∷ _ ∷ _ ∷ _ ∷ _ ∷ _ ∷ _ ∷ _ ∷ _ ∷ _ ∷ _ ∷ _ ∷ _ ∷ _ ∷ _ ∷ _ ∷ _ ∷ _ ∷ _ ∷ _ ∷ _ ∷ _ ∷ _ ∷ _ ∷ _ ∷ []) $ returns ! (look ! 36 refl) $ move ! (11 ∷ []) $ use1 W (dies ((tyInt w32, l₀) ∷ (tyInt w64, l₁) ∷ (tyInt w64, l₂) ∷ (sliceTy (tyRef (named 0) imm (pointee (mEntry.the-row .written))), l₃) ∷ (sliceTy (tyRef (named 1) imm (tyInt w64)), l₄) ∷ (tyInt w64, l₅) ∷ (tyInt w64, l₆) ∷ (tyInt w64, l₇) ∷ (sliceTy (tyRef (named 2) mut (tyInt w64)), l₈) ∷ (tyBool, l₉) ∷ (tyBool, l₁₀) ∷ (tyInt w32, l₁₁) ∷ (tyBool, l₁₂) ∷ (tyInt w64, l₁₃) ∷ (tyInt w64, l₁₄) ∷ (tyInt w64, l₁₅) ∷ (tyInt w64, l₁₆) ∷ (tyInt w64, l₁₇) ∷ (tyBool, l₁₈) ∷ (tyInt w32, l₁₉) ∷ (tyUnit, l₂₀) ∷ (tyRef erased mut (tyInt w64), l₂₁) ∷ (sliceTy (tyRef erased mut (tyInt w64)), l₂₂) ∷ (tyRef erased mut (tyInt w64), l₂₃) ∷ (sliceTy (tyRef erased mut (tyInt w64)), l₂₄) ∷ []) (‵ ftrue)) die $ free-all ! 11 ((tyInt w32, l₀) ∷ (tyInt w64, l₁) ∷ (tyInt w64, l₂) ∷ (sliceTy (tyRef (named 0) imm (pointee (mEntry.the-row .written))), l₃) ∷ (sliceTy (tyRef (named 1) imm (tyInt w64)), l₄) ∷ (tyInt w64, l₅) ∷ (tyInt w64, l₆) ∷ (tyInt w64, l₇) ∷ (sliceTy (tyRef (named 2) mut (tyInt w64)), l₈) ∷ (tyBool, l₉) ∷ (tyBool, l₁₀) ∷ (tyInt w32, l₁₁) ∷ (tyBool, l₁₂) ∷ (tyInt w64, l₁₃) ∷ (tyInt w64, l₁₄) ∷ (tyInt w64, l₁₅) ∷ (tyInt w64, l₁₆) ∷ (tyInt w64, l₁₇) ∷ (tyBool, l₁₈) ∷ (tyInt w32, l₁₉) ∷ (tyUnit, l₂₀) ∷ (tyRef erased mut (tyInt w64), l₂₁) ∷ (sliceTy (tyRef erased mut (tyInt w64)), l₂₂) ∷ (tyRef erased mut (tyInt w64), l₂₃) ∷ (sliceTy (tyRef erased mut (tyInt w64)), l₂₄) ∷ []) (kept _ ∷ kept _ ∷ kept _ ∷ kept _ ∷ kept _ ∷ kept _ ∷ kept _ ∷ kept _ ∷ kept _ ∷ kept _ ∷ kept _ ∷ kept _ ∷ kept _ ∷ kept _ ∷ kept _ ∷ kept _ ∷ kept _ ∷ kept _ ∷ kept _ ∷ kept _ ∷ kept _ ∷ kept _ ∷ kept _ ∷ kept _ ∷ kept _ ∷ []) refl $
         suffices ! _ (ends-at 𝓤 H A f.ended stayed (f.clauses 𝓤 H A at-mem run) W (((κ₀, (κ₁, (κ₂, tt))), (q₀, (q₁, (q₂, tt))), tt, a, at), tt) z3 r3 (tt, (tt, (tt, (tt, (tt, (tt, (tt, (ws8 .1 .1 .1 .1 .1 .1 .0, tt)))))))) (tt, (tt, (tt, (tt, (tt, (tt, (tt, (same8g ∙ same7d, tt))))))))) $ says ! (masks-done n1 n2 (s3 .now) (s4 .now) ys8 n5 n6 n7 r1 r2 r4 r3 r5 r6 e1 e2 e3 e4 e5 e6 (ws7 .1 .1 .1 .0) (ws8 .1 .1 .1 .1 .1 .1 .0) b1 e7 e8) $
-        nothing ! $ move ! (2 ∷ 0 ∷ []) $ join ! $ move ! (3 ∷ 0 ∷ []) $ join ! $ move ! (3 ∷ 0 ∷ []) $ join ! $ nothing ! $ move ! (2 ∷ 0 ∷ []) $ fjoin ! $ move ! (50 ∷ 0 ∷ []) $ fjoin ! $ move ! (50 ∷ 0 ∷ []) $ fjoin ! $ move ! (50 ∷ 0 ∷ []) $ fjoin ! $ move ! (10 ∷ 0 ∷ []) $ fjoin ! $ move ! (10 ∷ 0 ∷ []) $ fjoin ! $ move ! (48 ∷ 0 ∷ []) $ fjoin ! $ move ! (48 ∷ 0 ∷ []) $ fjoin ! $ keep ! (1 ∷ 0 ∷ []) $ frame ! $ frame ! $ owned ! u32 (Is u32) (uint-makes 𝓤 H A W w32) r3 _ i3 $ done !)))))))))))))))))
-        (λ y1. let b1 : r4 ≡ false = is-no (r4) y1 in assigns-last ! (of-opd ! (load ! (from ! (stop !)) (look ! 70 refl))) (from ! (stop !)) (init ! 54 refl (uint-lawful 𝓤 H A W w32 .typed r3 _ i3 .0)) $
+        nothing ! $ move ! (2 ∷ 0 ∷ []) $ join ! $ move ! (2 ∷ 0 ∷ []) $ join ! $ move ! (2 ∷ 0 ∷ []) $ join ! $ nothing ! $ move ! (2 ∷ 0 ∷ []) $ fjoin ! $ move ! (4 ∷ 0 ∷ []) $ fjoin ! $ move ! (4 ∷ 0 ∷ []) $ fjoin ! $ move ! (4 ∷ 0 ∷ []) $ fjoin ! $ move ! (2 ∷ 0 ∷ []) $ fjoin ! $ move ! (2 ∷ 0 ∷ []) $ fjoin ! $ move ! (2 ∷ 0 ∷ []) $ fjoin ! $ move ! (2 ∷ 0 ∷ []) $ fjoin ! $ keep ! (1 ∷ 0 ∷ []) $ frame ! $ frame ! $ owned ! u32 (Is u32) (uint-makes 𝓤 H A W w32) r3 _ i3 $ done !)))))))))))))))))
+        (λ y1. let b1 : r4 ≡ false = is-no (r4) y1 in assigns-last ! (of-opd ! (load ! (from ! (stop !)) (look ! 25 refl))) (from ! (stop !)) (init ! 17 refl (uint-lawful 𝓤 H A W w32 .typed r3 _ i3 .0)) $
         exec ! C Λ ((tyInt w32, l₀) ∷ (tyInt w64, l₁) ∷ (tyInt w64, l₂) ∷ (sliceTy (tyRef (named 0) imm (pointee (mEntry.the-row .written))), l₃) ∷ (sliceTy (tyRef (named 1) imm (tyInt w64)), l₄) ∷ (tyInt w64, l₅) ∷ (tyInt w64, l₆) ∷ (tyInt w64, l₇) ∷ (sliceTy (tyRef (named 2) mut (tyInt w64)), l₈) ∷ (tyBool, l₉) ∷ (tyBool, l₁₀) ∷ (tyInt w32, l₁₁) ∷ (tyBool, l₁₂) ∷ (tyInt w64, l₁₃) ∷ (tyInt w64, l₁₄) ∷ (tyInt w64, l₁₅) ∷ (tyInt w64, l₁₆) ∷ (tyInt w64, l₁₇) ∷ (tyBool, l₁₈) ∷ (tyInt w32, l₁₉) ∷ (tyUnit, l₂₀) ∷ (tyRef erased mut (tyInt w64), l₂₁) ∷ (sliceTy (tyRef erased mut (tyInt w64)), l₂₂) ∷ (tyRef erased mut (tyInt w64), l₂₃) ∷ (sliceTy (tyRef erased mut (tyInt w64)), l₂₄) ∷ []) Mir.t-12 (atRet ((tyInt w32, l₀) ∷ (tyInt w64, l₁) ∷ (tyInt w64, l₂) ∷ (sliceTy (tyRef (named 0) imm (pointee (mEntry.the-row .written))), l₃) ∷ (sliceTy (tyRef (named 1) imm (tyInt w64)), l₄) ∷ (tyInt w64, l₅) ∷ (tyInt w64, l₆) ∷ (tyInt w64, l₇) ∷ (sliceTy (tyRef (named 2) mut (tyInt w64)), l₈) ∷ (tyBool, l₉) ∷ (tyBool, l₁₀) ∷ (tyInt w32, l₁₁) ∷ (tyBool, l₁₂) ∷ (tyInt w64, l₁₃) ∷ (tyInt w64, l₁₄) ∷ (tyInt w64, l₁₅) ∷ (tyInt w64, l₁₆) ∷ (tyInt w64, l₁₇) ∷ (tyBool, l₁₈) ∷ (tyInt w32, l₁₉) ∷ (tyUnit, l₂₀) ∷ (tyRef erased mut (tyInt w64), l₂₁) ∷ (sliceTy (tyRef erased mut (tyInt w64)), l₂₂) ∷ (tyRef erased mut (tyInt w64), l₂₃) ∷ (sliceTy (tyRef erased mut (tyInt w64)), l₂₄) ∷ []) Post) $
-        assigns ! (of-opd ! (load ! (from ! (stop !)) (look ! 54 refl))) (from ! (stop !)) (init ! 92 refl (uint-lawful 𝓤 H A W w32 .typed r3 _ i3 .0)) $
-        returns ! (look ! 92 refl) $ forget ! 92 refl $ forget ! 90 refl $ forget ! 88 refl $ forget ! 86 refl $ forget ! 84 refl $ forget ! 82 refl $ forget ! 80 refl $ forget ! 78 refl $ forget ! 76 refl $ forget ! 74 refl $ forget ! 72 refl $ forget ! 70 refl $ forget ! 68 refl $ forget ! 66 refl $ forget ! 64 refl $ forget ! 62 refl $ forget ! 60 refl $ forget ! 58 refl $ forget ! 56 refl $ forget ! 54 refl $
-        move ! (92 ∷ 93 ∷ []) $ free1 ! $ move ! (90 ∷ 91 ∷ []) $ free1 ! $ move ! (88 ∷ 89 ∷ []) $ free1 ! $ move ! (86 ∷ 87 ∷ []) $ free1 ! $ move ! (84 ∷ 85 ∷ []) $ free1 ! $ move ! (82 ∷ 83 ∷ []) $ free1 ! $ move ! (80 ∷ 81 ∷ []) $ free1 ! $ move ! (78 ∷ 79 ∷ []) $ free1 ! $ move ! (76 ∷ 77 ∷ []) $ free1 ! $ move ! (74 ∷ 75 ∷ []) $ free1 ! $ move ! (72 ∷ 73 ∷ []) $ free1 ! $ move ! (70 ∷ 71 ∷ []) $ free1 ! $ move ! (68 ∷ 69 ∷ []) $ free1 ! $ move ! (66 ∷ 67 ∷ []) $ free1 ! $ move ! (64 ∷ 65 ∷ []) $ free1 ! $ move ! (62 ∷ 63 ∷ []) $ free1 ! $ move ! (60 ∷ 61 ∷ []) $ free1 ! $ move ! (58 ∷ 59 ∷ []) $ free1 ! $ move ! (56 ∷ 57 ∷ []) $ free1 ! $ move ! (54 ∷ 55 ∷ []) $ free1 ! $ move ! (52 ∷ 53 ∷ []) $ free1 ! $ move ! (50 ∷ 51 ∷ []) $ free1 ! $ move ! (48 ∷ 49 ∷ []) $ free1 ! $ move ! (46 ∷ 47 ∷ []) $ free1 ! $ move ! (44 ∷ 45 ∷ []) $ free1 ! $ free0 ! $
+        assigns ! (of-opd ! (load ! (from ! (stop !)) (look ! 17 refl))) (from ! (stop !)) (init ! 36 refl (uint-lawful 𝓤 H A W w32 .typed r3 _ i3 .0)) $
+        tidy W (_ ∷ _ ∷ _ ∷ _ ∷ _ ∷ _ ∷ _ ∷ _ ∷ _ ∷ _ ∷ _ ∷ _ ∷ _ ∷ _ ∷ _ ∷ _ ∷ _ ∷ _ ∷ _ ∷ _ ∷ _ ∷ _ ∷ _ ∷ _ ∷ _ ∷ _ ∷ _ ∷ _ ∷ _ ∷ _ ∷ _ ∷ _ ∷ _ ∷ _ ∷ _ ∷ _ ∷ _ ∷ []) $ returns ! (look ! 36 refl) $ move ! (11 ∷ []) $ use1 W (dies ((tyInt w32, l₀) ∷ (tyInt w64, l₁) ∷ (tyInt w64, l₂) ∷ (sliceTy (tyRef (named 0) imm (pointee (mEntry.the-row .written))), l₃) ∷ (sliceTy (tyRef (named 1) imm (tyInt w64)), l₄) ∷ (tyInt w64, l₅) ∷ (tyInt w64, l₆) ∷ (tyInt w64, l₇) ∷ (sliceTy (tyRef (named 2) mut (tyInt w64)), l₈) ∷ (tyBool, l₉) ∷ (tyBool, l₁₀) ∷ (tyInt w32, l₁₁) ∷ (tyBool, l₁₂) ∷ (tyInt w64, l₁₃) ∷ (tyInt w64, l₁₄) ∷ (tyInt w64, l₁₅) ∷ (tyInt w64, l₁₆) ∷ (tyInt w64, l₁₇) ∷ (tyBool, l₁₈) ∷ (tyInt w32, l₁₉) ∷ (tyUnit, l₂₀) ∷ (tyRef erased mut (tyInt w64), l₂₁) ∷ (sliceTy (tyRef erased mut (tyInt w64)), l₂₂) ∷ (tyRef erased mut (tyInt w64), l₂₃) ∷ (sliceTy (tyRef erased mut (tyInt w64)), l₂₄) ∷ []) (‵ ftrue)) die $ free-all ! 11 ((tyInt w32, l₀) ∷ (tyInt w64, l₁) ∷ (tyInt w64, l₂) ∷ (sliceTy (tyRef (named 0) imm (pointee (mEntry.the-row .written))), l₃) ∷ (sliceTy (tyRef (named 1) imm (tyInt w64)), l₄) ∷ (tyInt w64, l₅) ∷ (tyInt w64, l₆) ∷ (tyInt w64, l₇) ∷ (sliceTy (tyRef (named 2) mut (tyInt w64)), l₈) ∷ (tyBool, l₉) ∷ (tyBool, l₁₀) ∷ (tyInt w32, l₁₁) ∷ (tyBool, l₁₂) ∷ (tyInt w64, l₁₃) ∷ (tyInt w64, l₁₄) ∷ (tyInt w64, l₁₅) ∷ (tyInt w64, l₁₆) ∷ (tyInt w64, l₁₇) ∷ (tyBool, l₁₈) ∷ (tyInt w32, l₁₉) ∷ (tyUnit, l₂₀) ∷ (tyRef erased mut (tyInt w64), l₂₁) ∷ (sliceTy (tyRef erased mut (tyInt w64)), l₂₂) ∷ (tyRef erased mut (tyInt w64), l₂₃) ∷ (sliceTy (tyRef erased mut (tyInt w64)), l₂₄) ∷ []) (kept _ ∷ kept _ ∷ kept _ ∷ kept _ ∷ kept _ ∷ kept _ ∷ kept _ ∷ kept _ ∷ kept _ ∷ kept _ ∷ kept _ ∷ kept _ ∷ kept _ ∷ kept _ ∷ kept _ ∷ kept _ ∷ kept _ ∷ kept _ ∷ kept _ ∷ kept _ ∷ bare ∷ bare ∷ bare ∷ bare ∷ bare ∷ []) refl $
         suffices ! _ (ends-at 𝓤 H A f.ended stayed (f.clauses 𝓤 H A at-mem run) W (((κ₀, (κ₁, (κ₂, tt))), (q₀, (q₁, (q₂, tt))), tt, a, at), tt) z3 r3 (tt, (tt, (tt, (tt, (tt, (tt, (tt, (ys8, tt)))))))) (tt, (tt, (tt, (tt, (tt, (tt, (tt, (refl, tt))))))))) $ says ! (masks-back n1 n2 (s3 .now) (s4 .now) ys8 n5 n6 n7 r1 r2 r4 r3 r5 r6 e1 e2 e3 e4 e5 e6 b1) $
-        nothing ! $ move ! (35 ∷ 0 ∷ []) $ join ! $ move ! (35 ∷ 0 ∷ []) $ join ! $ move ! (24 ∷ 0 ∷ []) $ join ! $ nothing ! $ move ! (36 ∷ 0 ∷ []) $ fjoin ! $ move ! (36 ∷ 0 ∷ []) $ fjoin ! $ move ! (36 ∷ 0 ∷ []) $ fjoin ! $ move ! (36 ∷ 0 ∷ []) $ fjoin ! $ move ! (36 ∷ 0 ∷ []) $ fjoin ! $ move ! (28 ∷ 0 ∷ []) $ fjoin ! $ move ! (35 ∷ 0 ∷ []) $ fjoin ! $ move ! (35 ∷ 0 ∷ []) $ fjoin ! $ keep ! (1 ∷ 0 ∷ []) $ frame ! $ frame ! $ owned ! u32 (Is u32) (uint-makes 𝓤 H A W w32) r3 _ i3 $ done !)
-        )))))))))))))))))))))))))))))))))))))))))))))))))))))))
+        nothing ! $ move ! (3 ∷ 0 ∷ []) $ join ! $ move ! (3 ∷ 0 ∷ []) $ join ! $ move ! (1 ∷ 0 ∷ []) $ join ! $ nothing ! $ move ! (3 ∷ 0 ∷ []) $ fjoin ! $ move ! (3 ∷ 0 ∷ []) $ fjoin ! $ move ! (3 ∷ 0 ∷ []) $ fjoin ! $ move ! (3 ∷ 0 ∷ []) $ fjoin ! $ move ! (3 ∷ 0 ∷ []) $ fjoin ! $ move ! (2 ∷ 0 ∷ []) $ fjoin ! $ move ! (2 ∷ 0 ∷ []) $ fjoin ! $ move ! (2 ∷ 0 ∷ []) $ fjoin ! $ keep ! (1 ∷ 0 ∷ []) $ frame ! $ frame ! $ owned ! u32 (Is u32) (uint-makes 𝓤 H A W w32) r3 _ i3 $ done !)
+        ))))))))))))))))))))))))))))))))))))))))))))))))))))))))
 
 module _ {M : Type 1} (𝓤 : URA M) (H : Heap 𝓤) (A : Atoms 𝓤) (W : Given 𝓤 H A) (mem : Memory → SProp 𝓤) (run : Routine → Fun 𝓤) where
   walks : (C : Calls 𝓤 H) (Λ : Loops 𝓤 H) → FmC 𝓤 H (W .laws) C → Triple 𝓤 (C #g1) (Callee-g1 𝓤 H A mem run) → Triple 𝓤 (C #g2) (Callee-g2 𝓤 H A mem run) → Triple 𝓤 (C #g3) (Callee-g3 𝓤 H A mem run) → Triple 𝓤 (C #g4) (Callee-g4 𝓤 H A mem run) → Triple 𝓤 (C #g5) (Callee-g5 𝓤 H A mem run) → Triple 𝓤 (C #g6) (Callee-g6 𝓤 H A mem run) → Triple 𝓤 (C #g7) (Callee-g7 𝓤 H A mem run) → Triple 𝓤 (C #g8) (Callee-g8 𝓤 H A mem run) → Walks 𝓤 H A f.ended stayed (WpFn 𝓤 H C Λ code.function) (f.clauses 𝓤 H A mem run)

@@ -20,7 +20,7 @@ use contract.Monad.{Fun, fact}
 use contract.Running.{givenOf, tables, tablesOf}
 use types.Kit.{Given, ‵, raw, _⊛_, ⋆, some, later, _$_, _∵_, !, qed, by, move, keep, drop, use1, use2, use3, split, join, pick, fsplit, fsplit3, fjoin, fjoin3, feqL, feqI, rewrite, atRet, suffices, frame, await, done}
 use types.Part.{agg, whole, sub, look-in}
-use types.Run.{look, look-raw, init, store, store-raw, forget, stop, hop, fld, from, load, unit-lit, of-opd, addr, and-then, no-more, lit, true-lit, false-lit, assigns, assigns-last, land, land-last, first, branches, skips, exec, returns, enter, alloc1, alloc0, params1, pass1, pass0, free1, free0}
+use types.Run.{look, look-raw, init, store, store-raw, stop, hop, fld, from, load, unit-lit, of-opd, addr, and-then, no-more, lit, true-lit, false-lit, assigns, assigns-last, land, land-last, first, branches, skips, exec, returns, enter, alloc0, params1, pass1, pass0}
 use types.Tokens.{lft-new, lft-end}
 use sound.WpLaws.{FmC, fmOf, WpFn-mono}
 use denote.RattleType.{owns}
@@ -57,6 +57,7 @@ use Rattle.magnetar_field.proofs.gf128.Evaluated.Laws as lEvaluated
 use Rattle.magnetar_field.specs.declared.gf128.Gf128.{Gf128}
 use Rattle.magnetar_field.proofs.gf128.Gf128 as mGf128
 use Rattle.magnetar_field.proofs.gf128.Gf128.Laws as lGf128
+use Rattle.magnetar_inplace.proofs.Locals.{tidy, bare, kept, dies, alloc, hide, free-all}
 use Rattle.magnetar_inplace.proofs.Again.{LentAgain, lends-again, comes-back}
 use Rattle.magnetar_inplace.proofs.records.all_inside as g1
 use Rattle.magnetar_inplace.proofs.records.all_inside.Symbol as g1-def
@@ -176,50 +177,49 @@ module _ {M : Type 1} (𝓤 : URA M) (H : Heap 𝓤) (A : Atoms 𝓤) (W : Given
     walk : ent 𝓤 (onEntry 𝓤 H A f.signature (κ₀, (κ₁, (κ₂, (κ₃, tt)))) (q₀, (q₁, (q₂, (q₃, tt)))) a at) (WpFn 𝓤 H C Λ code.function (v1 ∷ v2 ∷ v3 ∷ v4 ∷ v5 ∷ v6 ∷ []) Post)
     walk =
         qed W ((‵ (flft κ₀ q₀) ⊛ ‵ (flft κ₁ q₁) ⊛ ‵ (flft κ₂ q₂) ⊛ ‵ (flft κ₃ q₃) ⊛ ‵ ftrue) ∷ ‵ (owns (u64 ∷ u64 ∷ ShrSlice (named 0) κ₀ mEntry.the-row ∷ ShrSlice (named 1) κ₁ u64 ∷ ShrSlice (named 2) κ₂ u64 ∷ MutSlice (named 3) κ₃ u64 ∷ []) a at) ∷ []) ∵ enter ! C Λ code.function (v1 ∷ v2 ∷ v3 ∷ v4 ∷ v5 ∷ v6 ∷ []) _ $
-        alloc1 ! (λ l₀. alloc1 ! (λ l₁. alloc1 ! (λ l₂. alloc1 ! (λ l₃. alloc1 ! (λ l₄. alloc1 ! (λ l₅. alloc1 ! (λ l₆. alloc1 ! (λ l₇. alloc1 ! (λ l₈. alloc1 ! (λ l₉. alloc1 ! (λ l₁₀. alloc1 ! (λ l₁₁. alloc1 ! (λ l₁₂. alloc1 ! (λ l₁₃. alloc1 ! (λ l₁₄. alloc1 ! (λ l₁₅. alloc1 ! (λ l₁₆. alloc0 ! $ params1 ! $ pass1 ! (init ! 30 refl (uint-lawful 𝓤 H A W w64 .typed n1 _ w1 .0)) $ pass1 ! (init ! 28 refl (uint-lawful 𝓤 H A W w64 .typed n2 _ w2 .0)) $ pass1 ! (init ! 26 refl (shr-slice-lawful 𝓤 H A W (named 0) κ₀ mEntry.the-row .typed s3 (v3 ∷ []) w3 .0)) $ pass1 ! (init ! 24 refl (shr-slice-lawful 𝓤 H A W (named 1) κ₁ u64 .typed s4 (v4 ∷ []) w4 .0)) $ pass1 ! (init ! 22 refl (shr-slice-lawful 𝓤 H A W (named 2) κ₂ u64 .typed s5 (v5 ∷ []) w5 .0)) $ pass1 ! (init ! 20 refl (tt, (tt, (record { fits = room6 .0 }, tt)))) $ pass0 ! $
-        move ! (35 ∷ []) $ fsplit ! $ move ! (1 ∷ []) $ fsplit ! $ move ! (1 ∷ []) $ fsplit ! $ move ! (1 ∷ []) $ fsplit ! $ move ! (1 ∷ []) $ fsplit ! $ move ! (1 ∷ []) $ fsplit ! $ move ! (1 ∷ []) $ move ! (41 ∷ []) $ split ! $ move ! (1 ∷ []) $ split ! $ move ! (1 ∷ []) $ split ! $ move ! (1 ∷ []) $ split ! $ move ! (1 ∷ []) $
-        move ! (9 ∷ []) $ use1 W (‵ (O3) ⊛ ‵ (O3)) (shr-slice-copy 𝓤 H A W (named 0) κ₀ mEntry.the-row .twice s3 (v3 ∷ [])) $ split ! $ nothing ! $ move ! (7 ∷ 0 ∷ []) $ join ! $ join ! $
+        nothing ! $ alloc ! (λ l₀. alloc ! (λ l₁. alloc ! (λ l₂. alloc ! (λ l₃. alloc ! (λ l₄. alloc ! (λ l₅. alloc ! (λ l₆. alloc ! (λ l₇. alloc ! (λ l₈. alloc ! (λ l₉. alloc ! (λ l₁₀. alloc ! (λ l₁₁. alloc ! (λ l₁₂. alloc ! (λ l₁₃. alloc ! (λ l₁₄. alloc ! (λ l₁₅. alloc ! (λ l₁₆. alloc0 ! $ hide ! (λ died die. params1 ! $ pass1 ! (init ! 16 refl (uint-lawful 𝓤 H A W w64 .typed n1 _ w1 .0)) $ pass1 ! (init ! 15 refl (uint-lawful 𝓤 H A W w64 .typed n2 _ w2 .0)) $ pass1 ! (init ! 14 refl (shr-slice-lawful 𝓤 H A W (named 0) κ₀ mEntry.the-row .typed s3 (v3 ∷ []) w3 .0)) $ pass1 ! (init ! 13 refl (shr-slice-lawful 𝓤 H A W (named 1) κ₁ u64 .typed s4 (v4 ∷ []) w4 .0)) $ pass1 ! (init ! 12 refl (shr-slice-lawful 𝓤 H A W (named 2) κ₂ u64 .typed s5 (v5 ∷ []) w5 .0)) $ pass1 ! (init ! 11 refl (tt, (tt, (record { fits = room6 .0 }, tt)))) $ pass0 ! $
+        move ! (19 ∷ []) $ fsplit ! $ move ! (1 ∷ []) $ fsplit ! $ move ! (1 ∷ []) $ fsplit ! $ move ! (1 ∷ []) $ fsplit ! $ move ! (1 ∷ []) $ fsplit ! $ move ! (1 ∷ []) $ fsplit ! $ move ! (1 ∷ []) $ drop ! $ move ! (24 ∷ []) $ split ! $ move ! (1 ∷ []) $ split ! $ move ! (1 ∷ []) $ split ! $ move ! (1 ∷ []) $ split ! $ move ! (1 ∷ []) $ drop ! $ tidy W (_ ∷ _ ∷ _ ∷ _ ∷ _ ∷ _ ∷ _ ∷ _ ∷ _ ∷ _ ∷ _ ∷ _ ∷ _ ∷ _ ∷ _ ∷ _ ∷ _ ∷ _ ∷ _ ∷ _ ∷ _ ∷ _ ∷ _ ∷ _ ∷ _ ∷ _ ∷ _ ∷ _ ∷ []) $
+        move ! (7 ∷ []) $ use1 W (‵ (O3) ⊛ ‵ (O3)) (shr-slice-copy 𝓤 H A W (named 0) κ₀ mEntry.the-row .twice s3 (v3 ∷ [])) $ split ! $ tidy W (_ ∷ _ ∷ _ ∷ _ ∷ _ ∷ _ ∷ _ ∷ _ ∷ _ ∷ _ ∷ _ ∷ _ ∷ _ ∷ _ ∷ _ ∷ _ ∷ _ ∷ _ ∷ _ ∷ _ ∷ _ ∷ _ ∷ _ ∷ _ ∷ _ ∷ _ ∷ _ ∷ _ ∷ _ ∷ []) $ nothing ! $ move ! (6 ∷ 0 ∷ []) $ join ! $ join ! $
         -- call 1
         use1 W (raw (Callee-g1 𝓤 H A at-mem run .pre (((κ₀, tt), (q₀, tt), tt, (s3, (n1, (n2, tt))), (v3 ∷ [], (u1 ∷ [], (u2 ∷ [], tt)))), tt))) (qed W ((‵ (flft κ₀ q₀) ⊛ ‵ ftrue) ∷ ‵ (ShrSlice (named 0) κ₀ mEntry.the-row .own s3 (v3 ∷ [])) ∷ []) ∵ nothing ! $ owned ! u64 (Is u64) (uint-makes 𝓤 H A W w64) (n2) _ w2 $ fjoin ! $ owned ! u64 (Is u64) (uint-makes 𝓤 H A W w64) (n1) _ w1 $ fjoin ! $ move ! (2 ∷ 0 ∷ []) $ fjoin ! $ move ! (1 ∷ 0 ∷ []) $ join ! $ nothing ! $ move ! (1 ∷ 0 ∷ []) $ frame ! $ done !) $
-        calls-at ! fm (Callee-g1 𝓤 H A at-mem run) known-g1 (((κ₀, tt), (q₀, tt), tt, (s3, (n1, (n2, tt))), (v3 ∷ [], (u1 ∷ [], (u2 ∷ [], tt)))), tt) (and-then ! (load ! (from ! (stop !)) (look ! 38 refl)) (and-then ! (load ! (from ! (stop !)) (look ! 42 refl)) (and-then ! (load ! (from ! (stop !)) (look ! 40 refl)) (no-more !)))) (λ z1.
+        calls-at ! fm (Callee-g1 𝓤 H A at-mem run) known-g1 (((κ₀, tt), (q₀, tt), tt, (s3, (n1, (n2, tt))), (v3 ∷ [], (u1 ∷ [], (u2 ∷ [], tt)))), tt) (and-then ! (load ! (from ! (stop !)) (look ! 24 refl)) (and-then ! (load ! (from ! (stop !)) (look ! 26 refl)) (and-then ! (load ! (from ! (stop !)) (look ! 25 refl)) (no-more !)))) (λ z1.
         use1 W (later (some (λ (r1 : Bool). ((‵ (flft κ₀ q₀) ⊛ ‵ ftrue) ⊛ ‵ (bool .own r1 (z1 ∷ []))) ⊛ some (λ (ws : Lasts g1.ended (κ₀, tt) (s3, (n1, (n2, tt)))). ‵ (lasts g1.ended (κ₀, tt) (s3, (n1, (n2, tt))) ws) ⊛ raw (g1.clauses 𝓤 H A at-mem run (κ₀, tt) (s3, (n1, (n2, tt))) .ensures tt r1 (atExit g1.ended (κ₀, tt) (s3, (n1, (n2, tt))) ws)))))) (id⊢ 𝓤 _) $ await ! tt $ pick ! (λ r1. split ! $ move ! (1 ∷ []) $ pick ! (λ ws1. split ! $ move ! (1 ∷ []) $ heard ! _ (λ e1.
-        fsplit ! $ move ! (1 ∷ []) $ fsplit ! $ move ! (1 ∷ []) $ fsplit ! $ move ! (4 ∷ []) $ split ! $ move ! (1 ∷ []) $ peeks ! bool (Is bool) (shows 𝓤 H A bool) r1 (z1 ∷ []) (λ i1. drop ! $ land ! (from ! (stop !)) (init ! 34 refl (bool-lawful 𝓤 H A W .typed r1 _ i1 .0)) $
-        split ! $ move ! (1 ∷ []) $ assigns ! (of-opd ! (load ! (from ! (fld ! refl (stop !))) (look-in ! 43 (sub ! 1 refl (whole !))))) (from ! (stop !)) (init ! 27 refl (tt, record { fits = (w3 .0 .1 .0) })) $
-        assigns ! (of-opd ! (load ! (from ! (fld ! refl (stop !))) (look-in ! 41 (sub ! 1 refl (whole !))))) (from ! (stop !)) (init ! 25 refl (tt, record { fits = (w4 .0 .1 .0) })) $
-        assigns ! (of-opd ! (load ! (from ! (fld ! refl (stop !))) (look-in ! 39 (sub ! 1 refl (whole !))))) (from ! (stop !)) (init ! 23 refl (tt, record { fits = (w5 .0 .1 .0) })) $
-        assigns ! (of-opd ! (load ! (from ! (fld ! refl (stop !))) (look-in ! 37 (sub ! 1 refl (whole !))))) (from ! (stop !)) (init ! 21 refl (tt, record { fits = (room6 .0) })) $
-        nothing ! $
+        drop ! $ split ! $ move ! (1 ∷ []) $ peeks ! bool (Is bool) (shows 𝓤 H A bool) r1 (z1 ∷ []) (λ i1. drop ! $ land ! (from ! (stop !)) (init ! 20 refl (bool-lawful 𝓤 H A W .typed r1 _ i1 .0)) $
+        tidy W (_ ∷ _ ∷ _ ∷ _ ∷ _ ∷ _ ∷ _ ∷ _ ∷ _ ∷ _ ∷ _ ∷ _ ∷ _ ∷ _ ∷ _ ∷ _ ∷ _ ∷ _ ∷ _ ∷ _ ∷ _ ∷ _ ∷ _ ∷ _ ∷ _ ∷ _ ∷ _ ∷ _ ∷ []) $ split ! $ move ! (1 ∷ []) $ drop ! $ assigns ! (of-opd ! (load ! (from ! (fld ! refl (stop !))) (look-in ! 24 (sub ! 1 refl (whole !))))) (from ! (stop !)) (init ! 16 refl (tt, record { fits = (w3 .0 .1 .0) })) $
+        assigns ! (of-opd ! (load ! (from ! (fld ! refl (stop !))) (look-in ! 23 (sub ! 1 refl (whole !))))) (from ! (stop !)) (init ! 15 refl (tt, record { fits = (w4 .0 .1 .0) })) $
+        assigns ! (of-opd ! (load ! (from ! (fld ! refl (stop !))) (look-in ! 22 (sub ! 1 refl (whole !))))) (from ! (stop !)) (init ! 14 refl (tt, record { fits = (w5 .0 .1 .0) })) $
+        assigns ! (of-opd ! (load ! (from ! (fld ! refl (stop !))) (look-in ! 21 (sub ! 1 refl (whole !))))) (from ! (stop !)) (init ! 13 refl (tt, record { fits = (room6 .0) })) $
+        tidy W (_ ∷ _ ∷ _ ∷ _ ∷ _ ∷ _ ∷ _ ∷ _ ∷ _ ∷ _ ∷ _ ∷ _ ∷ _ ∷ _ ∷ _ ∷ _ ∷ _ ∷ _ ∷ _ ∷ _ ∷ _ ∷ _ ∷ _ ∷ _ ∷ _ ∷ _ ∷ _ ∷ _ ∷ []) $ nothing ! $
         -- call 2
         use1 W (raw (Callee-g2 𝓤 H A at-mem run .pre ((tt, tt, tt, (n1, (n2, ((length (s3 .now)), (r1, ((length (s4 .now)), ((length (s5 .now)), ((length ys6), tt))))))), (u1 ∷ [], (u2 ∷ [], ((vint w64 (length (s3 .now))) ∷ [], (z1 ∷ [], ((vint w64 (length (s4 .now))) ∷ [], ((vint w64 (length (s5 .now))) ∷ [], ((vint w64 (length ys6)) ∷ [], tt)))))))), tt))) (qed W ((‵ ftrue) ∷ []) ∵ nothing ! $ owned ! u64 (Is u64) (uint-makes 𝓤 H A W w64) ((length ys6)) _ (refl, (room6 .0)) $ fjoin ! $ owned ! u64 (Is u64) (uint-makes 𝓤 H A W w64) ((length (s5 .now))) _ (refl, (w5 .0 .1 .0)) $ fjoin ! $ owned ! u64 (Is u64) (uint-makes 𝓤 H A W w64) ((length (s4 .now))) _ (refl, (w4 .0 .1 .0)) $ fjoin ! $ owned ! bool (Is bool) (bool-makes 𝓤 H A W) (r1) _ i1 $ fjoin ! $ owned ! u64 (Is u64) (uint-makes 𝓤 H A W w64) ((length (s3 .now))) _ (refl, (w3 .0 .1 .0)) $ fjoin ! $ owned ! u64 (Is u64) (uint-makes 𝓤 H A W w64) (n2) _ w2 $ fjoin ! $ owned ! u64 (Is u64) (uint-makes 𝓤 H A W w64) (n1) _ w1 $ fjoin ! $ move ! (1 ∷ 0 ∷ []) $ join ! $ nothing ! $ move ! (1 ∷ 0 ∷ []) $ frame ! $ done !) $
-        calls-at ! fm (Callee-g2 𝓤 H A at-mem run) known-g2 ((tt, tt, tt, (n1, (n2, ((length (s3 .now)), (r1, ((length (s4 .now)), ((length (s5 .now)), ((length ys6), tt))))))), (u1 ∷ [], (u2 ∷ [], ((vint w64 (length (s3 .now))) ∷ [], (z1 ∷ [], ((vint w64 (length (s4 .now))) ∷ [], ((vint w64 (length (s5 .now))) ∷ [], ((vint w64 (length ys6)) ∷ [], tt)))))))), tt) (and-then ! (load ! (from ! (stop !)) (look ! 48 refl)) (and-then ! (load ! (from ! (stop !)) (look ! 46 refl)) (and-then ! (load ! (from ! (stop !)) (look ! 28 refl)) (and-then ! (load ! (from ! (stop !)) (look ! 36 refl)) (and-then ! (load ! (from ! (stop !)) (look ! 26 refl)) (and-then ! (load ! (from ! (stop !)) (look ! 24 refl)) (and-then ! (load ! (from ! (stop !)) (look ! 22 refl)) (no-more !)))))))) (λ z2.
+        calls-at ! fm (Callee-g2 𝓤 H A at-mem run) known-g2 ((tt, tt, tt, (n1, (n2, ((length (s3 .now)), (r1, ((length (s4 .now)), ((length (s5 .now)), ((length ys6), tt))))))), (u1 ∷ [], (u2 ∷ [], ((vint w64 (length (s3 .now))) ∷ [], (z1 ∷ [], ((vint w64 (length (s4 .now))) ∷ [], ((vint w64 (length (s5 .now))) ∷ [], ((vint w64 (length ys6)) ∷ [], tt)))))))), tt) (and-then ! (load ! (from ! (stop !)) (look ! 27 refl)) (and-then ! (load ! (from ! (stop !)) (look ! 26 refl)) (and-then ! (load ! (from ! (stop !)) (look ! 17 refl)) (and-then ! (load ! (from ! (stop !)) (look ! 21 refl)) (and-then ! (load ! (from ! (stop !)) (look ! 16 refl)) (and-then ! (load ! (from ! (stop !)) (look ! 15 refl)) (and-then ! (load ! (from ! (stop !)) (look ! 14 refl)) (no-more !)))))))) (λ z2.
         use1 W (later (some (λ (r2 : ℕ). ((‵ ftrue) ⊛ ‵ (u32 .own r2 (z2 ∷ []))) ⊛ some (λ (ws : Lasts g2.ended tt (n1, (n2, ((length (s3 .now)), (r1, ((length (s4 .now)), ((length (s5 .now)), ((length ys6), tt)))))))). ‵ (lasts g2.ended tt (n1, (n2, ((length (s3 .now)), (r1, ((length (s4 .now)), ((length (s5 .now)), ((length ys6), tt))))))) ws) ⊛ raw (g2.clauses 𝓤 H A at-mem run tt (n1, (n2, ((length (s3 .now)), (r1, ((length (s4 .now)), ((length (s5 .now)), ((length ys6), tt))))))) .ensures tt r2 (atExit g2.ended tt (n1, (n2, ((length (s3 .now)), (r1, ((length (s4 .now)), ((length (s5 .now)), ((length ys6), tt))))))) ws)))))) (id⊢ 𝓤 _) $ await ! tt $ pick ! (λ r2. split ! $ move ! (1 ∷ []) $ pick ! (λ ws2. split ! $ move ! (1 ∷ []) $ heard ! _ (λ e2.
-        fsplit ! $ move ! (1 ∷ []) $ fsplit ! $ move ! (1 ∷ []) $ fsplit ! $ move ! (1 ∷ []) $ fsplit ! $ move ! (1 ∷ []) $ fsplit ! $ move ! (1 ∷ []) $ fsplit ! $ move ! (1 ∷ []) $ fsplit ! $ move ! (8 ∷ []) $ split ! $ move ! (1 ∷ []) $ peeks ! u32 (Is u32) (shows 𝓤 H A u32) r2 (z2 ∷ []) (λ i2. drop ! $ land ! (from ! (stop !)) (init ! 42 refl (uint-lawful 𝓤 H A W w32 .typed r2 _ i2 .0)) $
-        nothing ! $
+        drop ! $ split ! $ move ! (1 ∷ []) $ peeks ! u32 (Is u32) (shows 𝓤 H A u32) r2 (z2 ∷ []) (λ i2. drop ! $ land ! (from ! (stop !)) (init ! 20 refl (uint-lawful 𝓤 H A W w32 .typed r2 _ i2 .0)) $
+        tidy W (_ ∷ _ ∷ _ ∷ _ ∷ _ ∷ _ ∷ _ ∷ _ ∷ _ ∷ _ ∷ _ ∷ _ ∷ _ ∷ _ ∷ _ ∷ _ ∷ _ ∷ _ ∷ _ ∷ _ ∷ _ ∷ _ ∷ _ ∷ _ ∷ _ ∷ _ ∷ _ ∷ _ ∷ _ ∷ []) $ drop ! $ tidy W (_ ∷ _ ∷ _ ∷ _ ∷ _ ∷ _ ∷ _ ∷ _ ∷ _ ∷ _ ∷ _ ∷ _ ∷ _ ∷ _ ∷ _ ∷ _ ∷ _ ∷ _ ∷ _ ∷ _ ∷ _ ∷ _ ∷ _ ∷ _ ∷ _ ∷ _ ∷ _ ∷ _ ∷ []) $ nothing ! $
         -- call 3
         use1 W (raw (Callee-g3 𝓤 H A at-mem run .pre ((tt, tt, tt, (r2, tt), (z2 ∷ [], tt)), tt))) (qed W ((‵ ftrue) ∷ []) ∵ nothing ! $ owned ! u32 (Is u32) (uint-makes 𝓤 H A W w32) (r2) _ i2 $ fjoin ! $ move ! (1 ∷ 0 ∷ []) $ join ! $ nothing ! $ move ! (1 ∷ 0 ∷ []) $ frame ! $ done !) $
-        calls-at ! fm (Callee-g3 𝓤 H A at-mem run) known-g3 ((tt, tt, tt, (r2, tt), (z2 ∷ [], tt)), tt) (and-then ! (load ! (from ! (stop !)) (look ! 43 refl)) (no-more !)) (λ z3.
+        calls-at ! fm (Callee-g3 𝓤 H A at-mem run) known-g3 ((tt, tt, tt, (r2, tt), (z2 ∷ [], tt)), tt) (and-then ! (load ! (from ! (stop !)) (look ! 20 refl)) (no-more !)) (λ z3.
         use1 W (later (some (λ (r3 : Bool). ((‵ ftrue) ⊛ ‵ (bool .own r3 (z3 ∷ []))) ⊛ some (λ (ws : Lasts g3.ended tt (r2, tt)). ‵ (lasts g3.ended tt (r2, tt) ws) ⊛ raw (g3.clauses 𝓤 H A at-mem run tt (r2, tt) .ensures tt r3 (atExit g3.ended tt (r2, tt) ws)))))) (id⊢ 𝓤 _) $ await ! tt $ pick ! (λ r3. split ! $ move ! (1 ∷ []) $ pick ! (λ ws3. split ! $ move ! (1 ∷ []) $ heard ! _ (λ e3.
-        fsplit ! $ move ! (2 ∷ []) $ split ! $ move ! (1 ∷ []) $ peeks ! bool (Is bool) (shows 𝓤 H A bool) r3 (z3 ∷ []) (λ i3. drop ! $ land ! (from ! (stop !)) (init ! 43 refl (bool-lawful 𝓤 H A W .typed r3 _ i3 .0)) $
-        assigns ! (addr ! (from ! (fld ! refl (hop ! (look-in ! 49 (sub ! 0 refl (whole !))) (stop !))))) (from ! (stop !)) (init ! 31 refl (tt, tt)) $
-        assigns ! (agg ! (and-then ! (load ! (from ! (stop !)) (look ! 31 refl)) (and-then ! (load ! (from ! (fld ! refl (stop !))) (look-in ! 49 (sub ! 1 refl (whole !)))) (no-more !)))) (from ! (stop !)) (init ! 29 refl (tt, (tt, (record { fits = room6 .0 }, tt)))) $
-        move ! (18 ∷ []) $ use1 W (‵ (O3) ⊛ ‵ (O3)) (shr-slice-copy 𝓤 H A W (named 0) κ₀ mEntry.the-row .twice s3 (v3 ∷ [])) $ split ! $ move ! (27 ∷ []) $ use1 W (‵ (O4) ⊛ ‵ (O4)) (shr-slice-copy 𝓤 H A W (named 1) κ₁ u64 .twice s4 (v4 ∷ [])) $ split ! $ move ! (28 ∷ []) $ use1 W (‵ (O5) ⊛ ‵ (O5)) (shr-slice-copy 𝓤 H A W (named 2) κ₂ u64 .twice s5 (v5 ∷ [])) $ split ! $
-        lft-new ! tt (λ ν4g. move ! (30 ∷ 26 ∷ []) $ use2 W (later (some (λ (δ : GName). ‵ (MutSlice (named 3) (ν4g ∷ []) u64 .own (ref6 δ (ys6)) (v6 ∷ [])) ⊛ ‵ (Lent6 ν4g δ (ys6))))) (lends6 (named 3) ν4g (ys6) (refl)) $ await ! tt $ pick ! (λ δ4g. split ! $ nothing ! $ move ! (3 ∷ 0 ∷ []) $ join ! $ move ! (28 ∷ 0 ∷ []) $ join ! $ move ! (28 ∷ 0 ∷ []) $ join ! $ move ! (22 ∷ 0 ∷ []) $ join ! $ move ! (3 ∷ 1 ∷ []) $ join ! $ move ! (4 ∷ 0 ∷ []) $ join ! $ move ! (5 ∷ 0 ∷ []) $ join ! $ move ! (1 ∷ 0 ∷ []) $ join ! $
+        drop ! $ split ! $ move ! (1 ∷ []) $ peeks ! bool (Is bool) (shows 𝓤 H A bool) r3 (z3 ∷ []) (λ i3. drop ! $ land ! (from ! (stop !)) (init ! 19 refl (bool-lawful 𝓤 H A W .typed r3 _ i3 .0)) $
+        tidy W (_ ∷ _ ∷ _ ∷ _ ∷ _ ∷ _ ∷ _ ∷ _ ∷ _ ∷ _ ∷ _ ∷ _ ∷ _ ∷ _ ∷ _ ∷ _ ∷ _ ∷ _ ∷ _ ∷ _ ∷ _ ∷ _ ∷ _ ∷ _ ∷ _ ∷ _ ∷ _ ∷ _ ∷ _ ∷ []) $ drop ! $ assigns ! (addr ! (from ! (fld ! refl (hop ! (look-in ! 21 (sub ! 0 refl (whole !))) (stop !))))) (from ! (stop !)) (init ! 12 refl (tt, tt)) $
+        assigns ! (agg ! (and-then ! (load ! (from ! (stop !)) (look ! 12 refl)) (and-then ! (load ! (from ! (fld ! refl (stop !))) (look-in ! 21 (sub ! 1 refl (whole !)))) (no-more !)))) (from ! (stop !)) (init ! 11 refl (tt, (tt, (record { fits = room6 .0 }, tt)))) $
+        move ! (1 ∷ []) $ use1 W (‵ (O3) ⊛ ‵ (O3)) (shr-slice-copy 𝓤 H A W (named 0) κ₀ mEntry.the-row .twice s3 (v3 ∷ [])) $ split ! $ move ! (8 ∷ []) $ use1 W (‵ (O4) ⊛ ‵ (O4)) (shr-slice-copy 𝓤 H A W (named 1) κ₁ u64 .twice s4 (v4 ∷ [])) $ split ! $ move ! (9 ∷ []) $ use1 W (‵ (O5) ⊛ ‵ (O5)) (shr-slice-copy 𝓤 H A W (named 2) κ₂ u64 .twice s5 (v5 ∷ [])) $ split ! $
+        lft-new ! tt (λ ν4g. move ! (11 ∷ 8 ∷ []) $ use2 W (later (some (λ (δ : GName). ‵ (MutSlice (named 3) (ν4g ∷ []) u64 .own (ref6 δ (ys6)) (v6 ∷ [])) ⊛ ‵ (Lent6 ν4g δ (ys6))))) (lends6 (named 3) ν4g (ys6) (refl)) $ await ! tt $ pick ! (λ δ4g. split ! $ tidy W (_ ∷ _ ∷ _ ∷ _ ∷ _ ∷ _ ∷ _ ∷ _ ∷ _ ∷ _ ∷ _ ∷ _ ∷ _ ∷ _ ∷ _ ∷ _ ∷ _ ∷ _ ∷ _ ∷ _ ∷ _ ∷ _ ∷ _ ∷ _ ∷ _ ∷ _ ∷ _ ∷ _ ∷ _ ∷ _ ∷ _ ∷ _ ∷ []) $ nothing ! $ move ! (3 ∷ 0 ∷ []) $ join ! $ move ! (10 ∷ 0 ∷ []) $ join ! $ move ! (10 ∷ 0 ∷ []) $ join ! $ move ! (9 ∷ 0 ∷ []) $ join ! $ move ! (3 ∷ 1 ∷ []) $ join ! $ move ! (4 ∷ 0 ∷ []) $ join ! $ move ! (5 ∷ 0 ∷ []) $ join ! $ move ! (1 ∷ 0 ∷ []) $ join ! $
         -- call 4
         use1 W (raw (Callee-g4 𝓤 H A at-mem run .pre (((κ₀, (κ₁, (κ₂, ((ν4g ∷ []), tt)))), (q₀, (q₁, (q₂, (fullShare, tt)))), tt, (r3, (s3, (n1, (n2, (s4, (s5, (ref6 δ4g (ys6), tt))))))), (z3 ∷ [], (v3 ∷ [], (u1 ∷ [], (u2 ∷ [], (v4 ∷ [], (v5 ∷ [], (v6 ∷ [], tt)))))))), tt))) (qed W ((‵ (flft κ₀ q₀) ⊛ ‵ (flft κ₁ q₁) ⊛ ‵ (flft κ₂ q₂) ⊛ ‵ (flft (ν4g ∷ []) fullShare) ⊛ ‵ ftrue) ∷ ‵ (ShrSlice (named 0) κ₀ mEntry.the-row .own s3 (v3 ∷ [])) ∷ ‵ (ShrSlice (named 1) κ₁ u64 .own s4 (v4 ∷ [])) ∷ ‵ (ShrSlice (named 2) κ₂ u64 .own s5 (v5 ∷ [])) ∷ ‵ (MutSlice (named 3) (ν4g ∷ []) u64 .own (ref6 δ4g (ys6)) (v6 ∷ [])) ∷ []) ∵ nothing ! $ move ! (5 ∷ 0 ∷ []) $ fjoin ! $ move ! (4 ∷ 0 ∷ []) $ fjoin ! $ move ! (3 ∷ 0 ∷ []) $ fjoin ! $ owned ! u64 (Is u64) (uint-makes 𝓤 H A W w64) (n2) _ w2 $ fjoin ! $ owned ! u64 (Is u64) (uint-makes 𝓤 H A W w64) (n1) _ w1 $ fjoin ! $ move ! (2 ∷ 0 ∷ []) $ fjoin ! $ owned ! bool (Is bool) (bool-makes 𝓤 H A W) (r3) _ i3 $ fjoin ! $ move ! (1 ∷ 0 ∷ []) $ join ! $ nothing ! $ move ! (1 ∷ 0 ∷ []) $ frame ! $ done !) $
-        calls-at ! fm (Callee-g4 𝓤 H A at-mem run) known-g4 (((κ₀, (κ₁, (κ₂, ((ν4g ∷ []), tt)))), (q₀, (q₁, (q₂, (fullShare, tt)))), tt, (r3, (s3, (n1, (n2, (s4, (s5, (ref6 δ4g (ys6), tt))))))), (z3 ∷ [], (v3 ∷ [], (u1 ∷ [], (u2 ∷ [], (v4 ∷ [], (v5 ∷ [], (v6 ∷ [], tt)))))))), tt) (and-then ! (load ! (from ! (stop !)) (look ! 40 refl)) (and-then ! (load ! (from ! (stop !)) (look ! 52 refl)) (and-then ! (load ! (from ! (stop !)) (look ! 56 refl)) (and-then ! (load ! (from ! (stop !)) (look ! 54 refl)) (and-then ! (load ! (from ! (stop !)) (look ! 50 refl)) (and-then ! (load ! (from ! (stop !)) (look ! 48 refl)) (and-then ! (load ! (from ! (stop !)) (look ! 26 refl)) (no-more !)))))))) (λ z4.
+        calls-at ! fm (Callee-g4 𝓤 H A at-mem run) known-g4 (((κ₀, (κ₁, (κ₂, ((ν4g ∷ []), tt)))), (q₀, (q₁, (q₂, (fullShare, tt)))), tt, (r3, (s3, (n1, (n2, (s4, (s5, (ref6 δ4g (ys6), tt))))))), (z3 ∷ [], (v3 ∷ [], (u1 ∷ [], (u2 ∷ [], (v4 ∷ [], (v5 ∷ [], (v6 ∷ [], tt)))))))), tt) (and-then ! (load ! (from ! (stop !)) (look ! 15 refl)) (and-then ! (load ! (from ! (stop !)) (look ! 21 refl)) (and-then ! (load ! (from ! (stop !)) (look ! 23 refl)) (and-then ! (load ! (from ! (stop !)) (look ! 22 refl)) (and-then ! (load ! (from ! (stop !)) (look ! 20 refl)) (and-then ! (load ! (from ! (stop !)) (look ! 19 refl)) (and-then ! (load ! (from ! (stop !)) (look ! 8 refl)) (no-more !)))))))) (λ z4.
         use1 W (later (some (λ (r4 : Gf128). ((‵ (flft κ₀ q₀) ⊛ ‵ (flft κ₁ q₁) ⊛ ‵ (flft κ₂ q₂) ⊛ ‵ (flft (ν4g ∷ []) fullShare) ⊛ ‵ ftrue) ⊛ ‵ (mGf128.the-row .own r4 (z4 ∷ []))) ⊛ some (λ (ws : Lasts g4.ended (κ₀, (κ₁, (κ₂, ((ν4g ∷ []), tt)))) (r3, (s3, (n1, (n2, (s4, (s5, (ref6 δ4g (ys6), tt)))))))). ‵ (lasts g4.ended (κ₀, (κ₁, (κ₂, ((ν4g ∷ []), tt)))) (r3, (s3, (n1, (n2, (s4, (s5, (ref6 δ4g (ys6), tt))))))) ws) ⊛ raw (g4.clauses 𝓤 H A at-mem run (κ₀, (κ₁, (κ₂, ((ν4g ∷ []), tt)))) (r3, (s3, (n1, (n2, (s4, (s5, (ref6 δ4g (ys6), tt))))))) .ensures tt r4 (atExit g4.ended (κ₀, (κ₁, (κ₂, ((ν4g ∷ []), tt)))) (r3, (s3, (n1, (n2, (s4, (s5, (ref6 δ4g (ys6), tt))))))) ws)))))) (id⊢ 𝓤 _) $ await ! tt $ pick ! (λ r4. split ! $ move ! (1 ∷ []) $ pick ! (λ ws4. split ! $ move ! (1 ∷ []) $ heard ! _ (λ e4.
-        fsplit ! $ move ! (1 ∷ []) $ fsplit ! $ move ! (1 ∷ []) $ fsplit ! $ move ! (1 ∷ []) $ fsplit ! $ move ! (1 ∷ []) $ fsplit ! $ move ! (1 ∷ []) $ fsplit ! $ move ! (1 ∷ []) $ fsplit ! $ fsplit ! $ move ! (1 ∷ []) $ feqL ! (λ same4g. move ! (8 ∷ []) $ split ! $ move ! (1 ∷ []) $ peeks ! mGf128.the-row (Is mGf128.the-row) (shows 𝓤 H A mGf128.the-row) r4 (z4 ∷ []) (λ i4. drop ! $ land ! (from ! (stop !)) (init ! 46 refl (LL.lawful mGf128.the-type lGf128.the-laws 𝓤 H A W .typed r4 _ i4 .0)) $
-        split ! $ move ! (1 ∷ []) $ split ! $ move ! (1 ∷ []) $ split ! $ move ! (1 ∷ []) $ split ! $ move ! (1 ∷ []) $ move ! (1 ∷ []) $ lft-end ! tt $ move ! (0 ∷ 13 ∷ 5 ∷ []) $ use3 W (later (‵ (O6 (ws4 .1 .1 .1 .1 .1 .1 .0)) ⊛ ‵ (flft κ₃ q₃))) (backs6 (named 3) ν4g δ4g (ys6) (ws4 .1 .1 .1 .1 .1 .1 .0) (refl) room6 same4g) $ await ! tt $ split ! $
-        nothing ! $
+        fsplit ! $ drop ! $ fsplit ! $ drop ! $ fsplit ! $ drop ! $ fsplit ! $ drop ! $ fsplit ! $ drop ! $ fsplit ! $ drop ! $ fsplit ! $ fsplit ! $ move ! (1 ∷ []) $ feqL ! (λ same4g. move ! (1 ∷ []) $ drop ! $ move ! (1 ∷ []) $ split ! $ move ! (1 ∷ []) $ peeks ! mGf128.the-row (Is mGf128.the-row) (shows 𝓤 H A mGf128.the-row) r4 (z4 ∷ []) (λ i4. drop ! $ land ! (from ! (stop !)) (init ! 15 refl (LL.lawful mGf128.the-type lGf128.the-laws 𝓤 H A W .typed r4 _ i4 .0)) $
+        tidy W (_ ∷ _ ∷ _ ∷ _ ∷ _ ∷ _ ∷ _ ∷ _ ∷ _ ∷ _ ∷ _ ∷ _ ∷ _ ∷ _ ∷ _ ∷ _ ∷ _ ∷ _ ∷ _ ∷ _ ∷ _ ∷ _ ∷ _ ∷ _ ∷ _ ∷ _ ∷ []) $ split ! $ move ! (1 ∷ []) $ split ! $ move ! (1 ∷ []) $ split ! $ move ! (1 ∷ []) $ split ! $ move ! (1 ∷ []) $ drop ! $ lft-end ! tt $ move ! (0 ∷ 5 ∷ 4 ∷ []) $ use3 W (later (‵ (O6 (ws4 .1 .1 .1 .1 .1 .1 .0)) ⊛ ‵ (flft κ₃ q₃))) (backs6 (named 3) ν4g δ4g (ys6) (ws4 .1 .1 .1 .1 .1 .1 .0) (refl) room6 same4g) $ await ! tt $ split ! $
+        tidy W (_ ∷ _ ∷ _ ∷ _ ∷ _ ∷ _ ∷ _ ∷ _ ∷ _ ∷ _ ∷ _ ∷ _ ∷ _ ∷ _ ∷ _ ∷ _ ∷ _ ∷ _ ∷ _ ∷ _ ∷ _ ∷ _ ∷ _ ∷ _ ∷ _ ∷ _ ∷ _ ∷ _ ∷ []) $ nothing ! $
         -- call 5
         use1 W (raw (Callee-g5 𝓤 H A at-mem run .pre ((tt, tt, tt, (r2, (r4, tt)), (z2 ∷ [], (z4 ∷ [], tt))), tt))) (qed W ((‵ ftrue) ∷ []) ∵ nothing ! $ owned ! mGf128.the-row (Is mGf128.the-row) (LL.makes mGf128.the-type lGf128.the-plain 𝓤 H A) (r4) _ i4 $ fjoin ! $ owned ! u32 (Is u32) (uint-makes 𝓤 H A W w32) (r2) _ i2 $ fjoin ! $ move ! (1 ∷ 0 ∷ []) $ join ! $ nothing ! $ move ! (1 ∷ 0 ∷ []) $ frame ! $ done !) $
-        calls-at ! fm (Callee-g5 𝓤 H A at-mem run) known-g5 ((tt, tt, tt, (r2, (r4, tt)), (z2 ∷ [], (z4 ∷ [], tt))), tt) (and-then ! (load ! (from ! (stop !)) (look ! 54 refl)) (and-then ! (load ! (from ! (stop !)) (look ! 50 refl)) (no-more !))) (λ z5.
+        calls-at ! fm (Callee-g5 𝓤 H A at-mem run) known-g5 ((tt, tt, tt, (r2, (r4, tt)), (z2 ∷ [], (z4 ∷ [], tt))), tt) (and-then ! (load ! (from ! (stop !)) (look ! 20 refl)) (and-then ! (load ! (from ! (stop !)) (look ! 18 refl)) (no-more !))) (λ z5.
         use1 W (later (some (λ (r5 : Evaluated). ((‵ ftrue) ⊛ ‵ (mEvaluated.the-row .own r5 (z5 ∷ []))) ⊛ some (λ (ws : Lasts g5.ended tt (r2, (r4, tt))). ‵ (lasts g5.ended tt (r2, (r4, tt)) ws) ⊛ raw (g5.clauses 𝓤 H A at-mem run tt (r2, (r4, tt)) .ensures tt r5 (atExit g5.ended tt (r2, (r4, tt)) ws)))))) (id⊢ 𝓤 _) $ await ! tt $ pick ! (λ r5. split ! $ move ! (1 ∷ []) $ pick ! (λ ws5. split ! $ move ! (1 ∷ []) $ heard ! _ (λ e5.
-        fsplit ! $ move ! (1 ∷ []) $ fsplit ! $ move ! (3 ∷ []) $ split ! $ move ! (1 ∷ []) $ peeks ! mEvaluated.the-row (Is mEvaluated.the-row) (shows 𝓤 H A mEvaluated.the-row) r5 (z5 ∷ []) (λ i5. drop ! $ land ! (from ! (stop !)) (init ! 73 refl (EL.lawful mEvaluated.the-type lEvaluated.the-laws 𝓤 H A W tt .typed r5 _ i5 .0)) $
-        returns ! (look ! 73 refl) $ forget ! 73 refl $ forget ! 71 refl $ forget ! 69 refl $ forget ! 67 refl $ forget ! 65 refl $ forget ! 63 refl $ forget ! 61 refl $ forget ! 59 refl $ forget ! 57 refl $ forget ! 55 refl $ forget ! 53 refl $ forget ! 51 refl $ forget ! 49 refl $ forget ! 47 refl $ forget ! 45 refl $ forget ! 43 refl $ forget ! 41 refl $
-        move ! (73 ∷ 74 ∷ []) $ free1 ! $ move ! (71 ∷ 72 ∷ []) $ free1 ! $ move ! (69 ∷ 70 ∷ []) $ free1 ! $ move ! (67 ∷ 68 ∷ []) $ free1 ! $ move ! (65 ∷ 66 ∷ []) $ free1 ! $ move ! (63 ∷ 64 ∷ []) $ free1 ! $ move ! (61 ∷ 62 ∷ []) $ free1 ! $ move ! (59 ∷ 60 ∷ []) $ free1 ! $ move ! (57 ∷ 58 ∷ []) $ free1 ! $ move ! (55 ∷ 56 ∷ []) $ free1 ! $ move ! (53 ∷ 54 ∷ []) $ free1 ! $ move ! (51 ∷ 52 ∷ []) $ free1 ! $ move ! (49 ∷ 50 ∷ []) $ free1 ! $ move ! (47 ∷ 48 ∷ []) $ free1 ! $ move ! (45 ∷ 46 ∷ []) $ free1 ! $ move ! (43 ∷ 44 ∷ []) $ free1 ! $ move ! (41 ∷ 42 ∷ []) $ free1 ! $ free0 ! $
+        drop ! $ split ! $ move ! (1 ∷ []) $ peeks ! mEvaluated.the-row (Is mEvaluated.the-row) (shows 𝓤 H A mEvaluated.the-row) r5 (z5 ∷ []) (λ i5. drop ! $ land ! (from ! (stop !)) (init ! 28 refl (EL.lawful mEvaluated.the-type lEvaluated.the-laws 𝓤 H A W tt .typed r5 _ i5 .0)) $
+        tidy W (_ ∷ _ ∷ _ ∷ _ ∷ _ ∷ _ ∷ _ ∷ _ ∷ _ ∷ _ ∷ _ ∷ _ ∷ _ ∷ _ ∷ _ ∷ _ ∷ _ ∷ _ ∷ _ ∷ _ ∷ _ ∷ _ ∷ _ ∷ _ ∷ _ ∷ _ ∷ _ ∷ _ ∷ _ ∷ []) $ drop ! $ tidy W (_ ∷ _ ∷ _ ∷ _ ∷ _ ∷ _ ∷ _ ∷ _ ∷ _ ∷ _ ∷ _ ∷ _ ∷ _ ∷ _ ∷ _ ∷ _ ∷ _ ∷ _ ∷ _ ∷ _ ∷ _ ∷ _ ∷ _ ∷ _ ∷ _ ∷ _ ∷ _ ∷ _ ∷ []) $ returns ! (look ! 27 refl) $ move ! (10 ∷ []) $ use1 W (dies ((lEvaluated.mir, l₀) ∷ (tyInt w64, l₁) ∷ (tyInt w64, l₂) ∷ (sliceTy (tyRef (named 0) imm (pointee (mEntry.the-row .written))), l₃) ∷ (sliceTy (tyRef (named 1) imm (tyInt w64)), l₄) ∷ (sliceTy (tyRef (named 2) imm (tyInt w64)), l₅) ∷ (sliceTy (tyRef (named 3) mut (tyInt w64)), l₆) ∷ (tyBool, l₇) ∷ (tyInt w32, l₈) ∷ (tyBool, l₉) ∷ (lGf128.mir, l₁₀) ∷ (tyInt w64, l₁₁) ∷ (tyInt w64, l₁₂) ∷ (tyInt w64, l₁₃) ∷ (tyInt w64, l₁₄) ∷ (tyRef erased mut (tyInt w64), l₁₅) ∷ (sliceTy (tyRef erased mut (tyInt w64)), l₁₆) ∷ []) (‵ ftrue)) die $ free-all ! 10 ((lEvaluated.mir, l₀) ∷ (tyInt w64, l₁) ∷ (tyInt w64, l₂) ∷ (sliceTy (tyRef (named 0) imm (pointee (mEntry.the-row .written))), l₃) ∷ (sliceTy (tyRef (named 1) imm (tyInt w64)), l₄) ∷ (sliceTy (tyRef (named 2) imm (tyInt w64)), l₅) ∷ (sliceTy (tyRef (named 3) mut (tyInt w64)), l₆) ∷ (tyBool, l₇) ∷ (tyInt w32, l₈) ∷ (tyBool, l₉) ∷ (lGf128.mir, l₁₀) ∷ (tyInt w64, l₁₁) ∷ (tyInt w64, l₁₂) ∷ (tyInt w64, l₁₃) ∷ (tyInt w64, l₁₄) ∷ (tyRef erased mut (tyInt w64), l₁₅) ∷ (sliceTy (tyRef erased mut (tyInt w64)), l₁₆) ∷ []) (kept _ ∷ kept _ ∷ kept _ ∷ kept _ ∷ kept _ ∷ kept _ ∷ kept _ ∷ kept _ ∷ kept _ ∷ kept _ ∷ kept _ ∷ kept _ ∷ kept _ ∷ kept _ ∷ kept _ ∷ kept _ ∷ kept _ ∷ []) refl $
         suffices ! _ (ends-at 𝓤 H A f.ended stayed (f.clauses 𝓤 H A at-mem run) W (((κ₀, (κ₁, (κ₂, (κ₃, tt)))), (q₀, (q₁, (q₂, (q₃, tt)))), tt, a, at), tt) z5 r5 (tt, (tt, (tt, (tt, (tt, (ws4 .1 .1 .1 .1 .1 .1 .0, tt)))))) (tt, (tt, (tt, (tt, (tt, (same4g, tt))))))) $ says ! (at-ends n1 n2 (s3 .now) (s4 .now) (s5 .now) ys6 r1 r3 r2 e1 e2 e3 (ws4 .1 .1 .1 .1 .1 .1 .0) (value r4) (answer r5) e4 e5) $
-        nothing ! $ move ! (6 ∷ 0 ∷ []) $ join ! $ move ! (7 ∷ 0 ∷ []) $ join ! $ move ! (7 ∷ 0 ∷ []) $ join ! $ move ! (7 ∷ 0 ∷ []) $ join ! $ nothing ! $ move ! (6 ∷ 0 ∷ []) $ fjoin ! $ move ! (14 ∷ 0 ∷ []) $ fjoin ! $ move ! (14 ∷ 0 ∷ []) $ fjoin ! $ move ! (14 ∷ 0 ∷ []) $ fjoin ! $ move ! (33 ∷ 0 ∷ []) $ fjoin ! $ move ! (33 ∷ 0 ∷ []) $ fjoin ! $ keep ! (1 ∷ 0 ∷ []) $ frame ! $ frame ! $ owned ! mEvaluated.the-row (Is mEvaluated.the-row) (EL.makes mEvaluated.the-type lEvaluated.the-plain 𝓤 H A) r5 _ i5 $ done !)))))))))))))))))))))))))))))))))))))))))))))
+        nothing ! $ move ! (2 ∷ 0 ∷ []) $ join ! $ move ! (2 ∷ 0 ∷ []) $ join ! $ move ! (2 ∷ 0 ∷ []) $ join ! $ move ! (2 ∷ 0 ∷ []) $ join ! $ nothing ! $ move ! (2 ∷ 0 ∷ []) $ fjoin ! $ move ! (2 ∷ 0 ∷ []) $ fjoin ! $ move ! (2 ∷ 0 ∷ []) $ fjoin ! $ move ! (2 ∷ 0 ∷ []) $ fjoin ! $ move ! (2 ∷ 0 ∷ []) $ fjoin ! $ move ! (2 ∷ 0 ∷ []) $ fjoin ! $ keep ! (1 ∷ 0 ∷ []) $ frame ! $ frame ! $ owned ! mEvaluated.the-row (Is mEvaluated.the-row) (EL.makes mEvaluated.the-type lEvaluated.the-plain 𝓤 H A) r5 _ i5 $ done !))))))))))))))))))))))))))))))))))))))))))))))
 
 module _ {M : Type 1} (𝓤 : URA M) (H : Heap 𝓤) (A : Atoms 𝓤) (W : Given 𝓤 H A) (mem : Memory → SProp 𝓤) (run : Routine → Fun 𝓤) where
   walks : (C : Calls 𝓤 H) (Λ : Loops 𝓤 H) → FmC 𝓤 H (W .laws) C → Triple 𝓤 (C #g1) (Callee-g1 𝓤 H A mem run) → Triple 𝓤 (C #g2) (Callee-g2 𝓤 H A mem run) → Triple 𝓤 (C #g3) (Callee-g3 𝓤 H A mem run) → Triple 𝓤 (C #g4) (Callee-g4 𝓤 H A mem run) → Triple 𝓤 (C #g5) (Callee-g5 𝓤 H A mem run) → Walks 𝓤 H A f.ended stayed (WpFn 𝓤 H C Λ code.function) (f.clauses 𝓤 H A mem run)

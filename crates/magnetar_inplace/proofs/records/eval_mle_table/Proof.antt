@@ -20,7 +20,7 @@ use contract.Monad.{Fun, fact}
 use contract.Running.{givenOf, tables, tablesOf}
 use types.Kit.{Given, ‵, raw, _⊛_, ⋆, some, later, _$_, _∵_, !, qed, by, move, keep, drop, use1, use2, use3, split, join, pick, fsplit, fsplit3, fjoin, fjoin3, feqL, feqI, rewrite, atRet, suffices, frame, await, done}
 use types.Part.{agg, whole, sub, look-in}
-use types.Run.{look, look-raw, init, store, store-raw, forget, stop, hop, fld, from, load, unit-lit, of-opd, addr, and-then, no-more, lit, true-lit, false-lit, assigns, assigns-last, land, land-last, first, branches, skips, exec, returns, enter, alloc1, alloc0, params1, pass1, pass0, free1, free0}
+use types.Run.{look, look-raw, init, store, store-raw, stop, hop, fld, from, load, unit-lit, of-opd, addr, and-then, no-more, lit, true-lit, false-lit, assigns, assigns-last, land, land-last, first, branches, skips, exec, returns, enter, alloc0, params1, pass1, pass0}
 use types.Tokens.{lft-new, lft-end}
 use sound.WpLaws.{FmC, fmOf, WpFn-mono}
 use denote.RattleType.{owns}
@@ -49,6 +49,7 @@ use Rattle.magnetar_inplace.proofs.RecordEnds.{table-done, table-back}
 use Rattle.magnetar_inplace.specs.declared.records.Entry.{Entry}
 use Rattle.magnetar_inplace.proofs.records.Entry as mEntry
 use Rattle.magnetar_inplace.proofs.records.Entry.Laws as lEntry
+use Rattle.magnetar_inplace.proofs.Locals.{tidy, bare, kept, dies, alloc, hide, free-all}
 use Rattle.magnetar_inplace.proofs.Again.{LentAgain, lends-again, comes-back}
 use Rattle.magnetar_inplace.proofs.records.all_inside as g1
 use Rattle.magnetar_inplace.proofs.records.all_inside.Symbol as g1-def
@@ -191,89 +192,87 @@ module _ {M : Type 1} (𝓤 : URA M) (H : Heap 𝓤) (A : Atoms 𝓤) (W : Given
     walk : ent 𝓤 (onEntry 𝓤 H A f.signature (κ₀, (κ₁, (κ₂, (κ₃, tt)))) (q₀, (q₁, (q₂, (q₃, tt)))) a at) (WpFn 𝓤 H C Λ code.function (v1 ∷ v2 ∷ v3 ∷ v4 ∷ v5 ∷ v6 ∷ []) Post)
     walk =
         qed W ((‵ (flft κ₀ q₀) ⊛ ‵ (flft κ₁ q₁) ⊛ ‵ (flft κ₂ q₂) ⊛ ‵ (flft κ₃ q₃) ⊛ ‵ ftrue) ∷ ‵ (owns (u64 ∷ u64 ∷ ShrSlice (named 0) κ₀ mEntry.the-row ∷ ShrSlice (named 1) κ₁ u64 ∷ MutSlice (named 2) κ₂ u64 ∷ MutSlice (named 3) κ₃ u64 ∷ []) a at) ∷ []) ∵ enter ! C Λ code.function (v1 ∷ v2 ∷ v3 ∷ v4 ∷ v5 ∷ v6 ∷ []) _ $
-        alloc1 ! (λ l₀. alloc1 ! (λ l₁. alloc1 ! (λ l₂. alloc1 ! (λ l₃. alloc1 ! (λ l₄. alloc1 ! (λ l₅. alloc1 ! (λ l₆. alloc1 ! (λ l₇. alloc1 ! (λ l₈. alloc1 ! (λ l₉. alloc1 ! (λ l₁₀. alloc1 ! (λ l₁₁. alloc1 ! (λ l₁₂. alloc1 ! (λ l₁₃. alloc1 ! (λ l₁₄. alloc1 ! (λ l₁₅. alloc1 ! (λ l₁₆. alloc1 ! (λ l₁₇. alloc1 ! (λ l₁₈. alloc1 ! (λ l₁₉. alloc1 ! (λ l₂₀. alloc1 ! (λ l₂₁. alloc1 ! (λ l₂₂. alloc1 ! (λ l₂₃. alloc1 ! (λ l₂₄. alloc1 ! (λ l₂₅. alloc1 ! (λ l₂₆. alloc0 ! $ params1 ! $ pass1 ! (init ! 50 refl (uint-lawful 𝓤 H A W w64 .typed n1 _ w1 .0)) $ pass1 ! (init ! 48 refl (uint-lawful 𝓤 H A W w64 .typed n2 _ w2 .0)) $ pass1 ! (init ! 46 refl (shr-slice-lawful 𝓤 H A W (named 0) κ₀ mEntry.the-row .typed s3 (v3 ∷ []) w3 .0)) $ pass1 ! (init ! 44 refl (shr-slice-lawful 𝓤 H A W (named 1) κ₁ u64 .typed s4 (v4 ∷ []) w4 .0)) $ pass1 ! (init ! 42 refl (tt, (tt, (record { fits = room5 .0 }, tt)))) $ pass1 ! (init ! 40 refl (tt, (tt, (record { fits = room6 .0 }, tt)))) $ pass0 ! $
-        move ! (55 ∷ []) $ fsplit ! $ move ! (1 ∷ []) $ fsplit ! $ move ! (1 ∷ []) $ fsplit ! $ move ! (1 ∷ []) $ fsplit ! $ move ! (1 ∷ []) $ fsplit ! $ move ! (1 ∷ []) $ fsplit ! $ move ! (1 ∷ []) $ move ! (61 ∷ []) $ split ! $ move ! (1 ∷ []) $ split ! $ move ! (1 ∷ []) $ split ! $ move ! (1 ∷ []) $ split ! $ move ! (1 ∷ []) $
-        move ! (9 ∷ []) $ use1 W (‵ (O3) ⊛ ‵ (O3)) (shr-slice-copy 𝓤 H A W (named 0) κ₀ mEntry.the-row .twice s3 (v3 ∷ [])) $ split ! $ nothing ! $ move ! (7 ∷ 0 ∷ []) $ join ! $ join ! $
+        nothing ! $ alloc ! (λ l₀. alloc ! (λ l₁. alloc ! (λ l₂. alloc ! (λ l₃. alloc ! (λ l₄. alloc ! (λ l₅. alloc ! (λ l₆. alloc ! (λ l₇. alloc ! (λ l₈. alloc ! (λ l₉. alloc ! (λ l₁₀. alloc ! (λ l₁₁. alloc ! (λ l₁₂. alloc ! (λ l₁₃. alloc ! (λ l₁₄. alloc ! (λ l₁₅. alloc ! (λ l₁₆. alloc ! (λ l₁₇. alloc ! (λ l₁₈. alloc ! (λ l₁₉. alloc ! (λ l₂₀. alloc ! (λ l₂₁. alloc ! (λ l₂₂. alloc ! (λ l₂₃. alloc ! (λ l₂₄. alloc ! (λ l₂₅. alloc ! (λ l₂₆. alloc0 ! $ hide ! (λ died die. params1 ! $ pass1 ! (init ! 26 refl (uint-lawful 𝓤 H A W w64 .typed n1 _ w1 .0)) $ pass1 ! (init ! 25 refl (uint-lawful 𝓤 H A W w64 .typed n2 _ w2 .0)) $ pass1 ! (init ! 24 refl (shr-slice-lawful 𝓤 H A W (named 0) κ₀ mEntry.the-row .typed s3 (v3 ∷ []) w3 .0)) $ pass1 ! (init ! 23 refl (shr-slice-lawful 𝓤 H A W (named 1) κ₁ u64 .typed s4 (v4 ∷ []) w4 .0)) $ pass1 ! (init ! 22 refl (tt, (tt, (record { fits = room5 .0 }, tt)))) $ pass1 ! (init ! 21 refl (tt, (tt, (record { fits = room6 .0 }, tt)))) $ pass0 ! $
+        move ! (29 ∷ []) $ fsplit ! $ move ! (1 ∷ []) $ fsplit ! $ move ! (1 ∷ []) $ fsplit ! $ move ! (1 ∷ []) $ fsplit ! $ move ! (1 ∷ []) $ fsplit ! $ move ! (1 ∷ []) $ fsplit ! $ move ! (1 ∷ []) $ drop ! $ move ! (34 ∷ []) $ split ! $ move ! (1 ∷ []) $ split ! $ move ! (1 ∷ []) $ split ! $ move ! (1 ∷ []) $ split ! $ move ! (1 ∷ []) $ drop ! $ tidy W (_ ∷ _ ∷ _ ∷ _ ∷ _ ∷ _ ∷ _ ∷ _ ∷ _ ∷ _ ∷ _ ∷ _ ∷ _ ∷ _ ∷ _ ∷ _ ∷ _ ∷ _ ∷ _ ∷ _ ∷ _ ∷ _ ∷ _ ∷ _ ∷ _ ∷ _ ∷ _ ∷ _ ∷ _ ∷ _ ∷ _ ∷ _ ∷ _ ∷ _ ∷ _ ∷ _ ∷ _ ∷ _ ∷ []) $
+        move ! (7 ∷ []) $ use1 W (‵ (O3) ⊛ ‵ (O3)) (shr-slice-copy 𝓤 H A W (named 0) κ₀ mEntry.the-row .twice s3 (v3 ∷ [])) $ split ! $ tidy W (_ ∷ _ ∷ _ ∷ _ ∷ _ ∷ _ ∷ _ ∷ _ ∷ _ ∷ _ ∷ _ ∷ _ ∷ _ ∷ _ ∷ _ ∷ _ ∷ _ ∷ _ ∷ _ ∷ _ ∷ _ ∷ _ ∷ _ ∷ _ ∷ _ ∷ _ ∷ _ ∷ _ ∷ _ ∷ _ ∷ _ ∷ _ ∷ _ ∷ _ ∷ _ ∷ _ ∷ _ ∷ _ ∷ _ ∷ []) $ nothing ! $ move ! (6 ∷ 0 ∷ []) $ join ! $ join ! $
         -- call 1
         use1 W (raw (Callee-g1 𝓤 H A at-mem run .pre (((κ₀, tt), (q₀, tt), tt, (s3, (n1, (n2, tt))), (v3 ∷ [], (u1 ∷ [], (u2 ∷ [], tt)))), tt))) (qed W ((‵ (flft κ₀ q₀) ⊛ ‵ ftrue) ∷ ‵ (ShrSlice (named 0) κ₀ mEntry.the-row .own s3 (v3 ∷ [])) ∷ []) ∵ nothing ! $ owned ! u64 (Is u64) (uint-makes 𝓤 H A W w64) (n2) _ w2 $ fjoin ! $ owned ! u64 (Is u64) (uint-makes 𝓤 H A W w64) (n1) _ w1 $ fjoin ! $ move ! (2 ∷ 0 ∷ []) $ fjoin ! $ move ! (1 ∷ 0 ∷ []) $ join ! $ nothing ! $ move ! (1 ∷ 0 ∷ []) $ frame ! $ done !) $
-        calls-at ! fm (Callee-g1 𝓤 H A at-mem run) known-g1 (((κ₀, tt), (q₀, tt), tt, (s3, (n1, (n2, tt))), (v3 ∷ [], (u1 ∷ [], (u2 ∷ [], tt)))), tt) (and-then ! (load ! (from ! (stop !)) (look ! 58 refl)) (and-then ! (load ! (from ! (stop !)) (look ! 62 refl)) (and-then ! (load ! (from ! (stop !)) (look ! 60 refl)) (no-more !)))) (λ z1.
+        calls-at ! fm (Callee-g1 𝓤 H A at-mem run) known-g1 (((κ₀, tt), (q₀, tt), tt, (s3, (n1, (n2, tt))), (v3 ∷ [], (u1 ∷ [], (u2 ∷ [], tt)))), tt) (and-then ! (load ! (from ! (stop !)) (look ! 34 refl)) (and-then ! (load ! (from ! (stop !)) (look ! 36 refl)) (and-then ! (load ! (from ! (stop !)) (look ! 35 refl)) (no-more !)))) (λ z1.
         use1 W (later (some (λ (r1 : Bool). ((‵ (flft κ₀ q₀) ⊛ ‵ ftrue) ⊛ ‵ (bool .own r1 (z1 ∷ []))) ⊛ some (λ (ws : Lasts g1.ended (κ₀, tt) (s3, (n1, (n2, tt)))). ‵ (lasts g1.ended (κ₀, tt) (s3, (n1, (n2, tt))) ws) ⊛ raw (g1.clauses 𝓤 H A at-mem run (κ₀, tt) (s3, (n1, (n2, tt))) .ensures tt r1 (atExit g1.ended (κ₀, tt) (s3, (n1, (n2, tt))) ws)))))) (id⊢ 𝓤 _) $ await ! tt $ pick ! (λ r1. split ! $ move ! (1 ∷ []) $ pick ! (λ ws1. split ! $ move ! (1 ∷ []) $ heard ! _ (λ e1.
-        fsplit ! $ move ! (1 ∷ []) $ fsplit ! $ move ! (1 ∷ []) $ fsplit ! $ move ! (4 ∷ []) $ split ! $ move ! (1 ∷ []) $ peeks ! bool (Is bool) (shows 𝓤 H A bool) r1 (z1 ∷ []) (λ i1. drop ! $ land ! (from ! (stop !)) (init ! 54 refl (bool-lawful 𝓤 H A W .typed r1 _ i1 .0)) $
-        split ! $ move ! (1 ∷ []) $ assigns ! (of-opd ! (load ! (from ! (fld ! refl (stop !))) (look-in ! 63 (sub ! 1 refl (whole !))))) (from ! (stop !)) (init ! 49 refl (tt, record { fits = (w3 .0 .1 .0) })) $
-        assigns ! (of-opd ! (load ! (from ! (fld ! refl (stop !))) (look-in ! 61 (sub ! 1 refl (whole !))))) (from ! (stop !)) (init ! 47 refl (tt, record { fits = (w4 .0 .1 .0) })) $
-        assigns ! (of-opd ! (load ! (from ! (fld ! refl (stop !))) (look-in ! 59 (sub ! 1 refl (whole !))))) (from ! (stop !)) (init ! 45 refl (tt, record { fits = (room5 .0) })) $
-        assigns ! (of-opd ! (load ! (from ! (fld ! refl (stop !))) (look-in ! 57 (sub ! 1 refl (whole !))))) (from ! (stop !)) (init ! 43 refl (tt, record { fits = (room6 .0) })) $
-        nothing ! $
+        drop ! $ split ! $ move ! (1 ∷ []) $ peeks ! bool (Is bool) (shows 𝓤 H A bool) r1 (z1 ∷ []) (λ i1. drop ! $ land ! (from ! (stop !)) (init ! 30 refl (bool-lawful 𝓤 H A W .typed r1 _ i1 .0)) $
+        tidy W (_ ∷ _ ∷ _ ∷ _ ∷ _ ∷ _ ∷ _ ∷ _ ∷ _ ∷ _ ∷ _ ∷ _ ∷ _ ∷ _ ∷ _ ∷ _ ∷ _ ∷ _ ∷ _ ∷ _ ∷ _ ∷ _ ∷ _ ∷ _ ∷ _ ∷ _ ∷ _ ∷ _ ∷ _ ∷ _ ∷ _ ∷ _ ∷ _ ∷ _ ∷ _ ∷ _ ∷ _ ∷ _ ∷ []) $ split ! $ move ! (1 ∷ []) $ drop ! $ assigns ! (of-opd ! (load ! (from ! (fld ! refl (stop !))) (look-in ! 34 (sub ! 1 refl (whole !))))) (from ! (stop !)) (init ! 27 refl (tt, record { fits = (w3 .0 .1 .0) })) $
+        assigns ! (of-opd ! (load ! (from ! (fld ! refl (stop !))) (look-in ! 33 (sub ! 1 refl (whole !))))) (from ! (stop !)) (init ! 26 refl (tt, record { fits = (w4 .0 .1 .0) })) $
+        assigns ! (of-opd ! (load ! (from ! (fld ! refl (stop !))) (look-in ! 32 (sub ! 1 refl (whole !))))) (from ! (stop !)) (init ! 25 refl (tt, record { fits = (room5 .0) })) $
+        assigns ! (of-opd ! (load ! (from ! (fld ! refl (stop !))) (look-in ! 31 (sub ! 1 refl (whole !))))) (from ! (stop !)) (init ! 24 refl (tt, record { fits = (room6 .0) })) $
+        tidy W (_ ∷ _ ∷ _ ∷ _ ∷ _ ∷ _ ∷ _ ∷ _ ∷ _ ∷ _ ∷ _ ∷ _ ∷ _ ∷ _ ∷ _ ∷ _ ∷ _ ∷ _ ∷ _ ∷ _ ∷ _ ∷ _ ∷ _ ∷ _ ∷ _ ∷ _ ∷ _ ∷ _ ∷ _ ∷ _ ∷ _ ∷ _ ∷ _ ∷ _ ∷ _ ∷ _ ∷ _ ∷ _ ∷ []) $ nothing ! $
         -- call 2
         use1 W (raw (Callee-g2 𝓤 H A at-mem run .pre ((tt, tt, tt, (n1, (n2, ((length (s3 .now)), (r1, ((length (s4 .now)), ((length ys5), ((length ys6), tt))))))), (u1 ∷ [], (u2 ∷ [], ((vint w64 (length (s3 .now))) ∷ [], (z1 ∷ [], ((vint w64 (length (s4 .now))) ∷ [], ((vint w64 (length ys5)) ∷ [], ((vint w64 (length ys6)) ∷ [], tt)))))))), tt))) (qed W ((‵ ftrue) ∷ []) ∵ nothing ! $ owned ! u64 (Is u64) (uint-makes 𝓤 H A W w64) ((length ys6)) _ (refl, (room6 .0)) $ fjoin ! $ owned ! u64 (Is u64) (uint-makes 𝓤 H A W w64) ((length ys5)) _ (refl, (room5 .0)) $ fjoin ! $ owned ! u64 (Is u64) (uint-makes 𝓤 H A W w64) ((length (s4 .now))) _ (refl, (w4 .0 .1 .0)) $ fjoin ! $ owned ! bool (Is bool) (bool-makes 𝓤 H A W) (r1) _ i1 $ fjoin ! $ owned ! u64 (Is u64) (uint-makes 𝓤 H A W w64) ((length (s3 .now))) _ (refl, (w3 .0 .1 .0)) $ fjoin ! $ owned ! u64 (Is u64) (uint-makes 𝓤 H A W w64) (n2) _ w2 $ fjoin ! $ owned ! u64 (Is u64) (uint-makes 𝓤 H A W w64) (n1) _ w1 $ fjoin ! $ move ! (1 ∷ 0 ∷ []) $ join ! $ nothing ! $ move ! (1 ∷ 0 ∷ []) $ frame ! $ done !) $
-        calls-at ! fm (Callee-g2 𝓤 H A at-mem run) known-g2 ((tt, tt, tt, (n1, (n2, ((length (s3 .now)), (r1, ((length (s4 .now)), ((length ys5), ((length ys6), tt))))))), (u1 ∷ [], (u2 ∷ [], ((vint w64 (length (s3 .now))) ∷ [], (z1 ∷ [], ((vint w64 (length (s4 .now))) ∷ [], ((vint w64 (length ys5)) ∷ [], ((vint w64 (length ys6)) ∷ [], tt)))))))), tt) (and-then ! (load ! (from ! (stop !)) (look ! 68 refl)) (and-then ! (load ! (from ! (stop !)) (look ! 66 refl)) (and-then ! (load ! (from ! (stop !)) (look ! 50 refl)) (and-then ! (load ! (from ! (stop !)) (look ! 56 refl)) (and-then ! (load ! (from ! (stop !)) (look ! 48 refl)) (and-then ! (load ! (from ! (stop !)) (look ! 46 refl)) (and-then ! (load ! (from ! (stop !)) (look ! 44 refl)) (no-more !)))))))) (λ z2.
+        calls-at ! fm (Callee-g2 𝓤 H A at-mem run) known-g2 ((tt, tt, tt, (n1, (n2, ((length (s3 .now)), (r1, ((length (s4 .now)), ((length ys5), ((length ys6), tt))))))), (u1 ∷ [], (u2 ∷ [], ((vint w64 (length (s3 .now))) ∷ [], (z1 ∷ [], ((vint w64 (length (s4 .now))) ∷ [], ((vint w64 (length ys5)) ∷ [], ((vint w64 (length ys6)) ∷ [], tt)))))))), tt) (and-then ! (load ! (from ! (stop !)) (look ! 37 refl)) (and-then ! (load ! (from ! (stop !)) (look ! 36 refl)) (and-then ! (load ! (from ! (stop !)) (look ! 28 refl)) (and-then ! (load ! (from ! (stop !)) (look ! 31 refl)) (and-then ! (load ! (from ! (stop !)) (look ! 27 refl)) (and-then ! (load ! (from ! (stop !)) (look ! 26 refl)) (and-then ! (load ! (from ! (stop !)) (look ! 25 refl)) (no-more !)))))))) (λ z2.
         use1 W (later (some (λ (r2 : ℕ). ((‵ ftrue) ⊛ ‵ (u32 .own r2 (z2 ∷ []))) ⊛ some (λ (ws : Lasts g2.ended tt (n1, (n2, ((length (s3 .now)), (r1, ((length (s4 .now)), ((length ys5), ((length ys6), tt)))))))). ‵ (lasts g2.ended tt (n1, (n2, ((length (s3 .now)), (r1, ((length (s4 .now)), ((length ys5), ((length ys6), tt))))))) ws) ⊛ raw (g2.clauses 𝓤 H A at-mem run tt (n1, (n2, ((length (s3 .now)), (r1, ((length (s4 .now)), ((length ys5), ((length ys6), tt))))))) .ensures tt r2 (atExit g2.ended tt (n1, (n2, ((length (s3 .now)), (r1, ((length (s4 .now)), ((length ys5), ((length ys6), tt))))))) ws)))))) (id⊢ 𝓤 _) $ await ! tt $ pick ! (λ r2. split ! $ move ! (1 ∷ []) $ pick ! (λ ws2. split ! $ move ! (1 ∷ []) $ heard ! _ (λ e2.
-        fsplit ! $ move ! (1 ∷ []) $ fsplit ! $ move ! (1 ∷ []) $ fsplit ! $ move ! (1 ∷ []) $ fsplit ! $ move ! (1 ∷ []) $ fsplit ! $ move ! (1 ∷ []) $ fsplit ! $ move ! (1 ∷ []) $ fsplit ! $ move ! (8 ∷ []) $ split ! $ move ! (1 ∷ []) $ peeks ! u32 (Is u32) (shows 𝓤 H A u32) r2 (z2 ∷ []) (λ i2. drop ! $ land ! (from ! (stop !)) (init ! 62 refl (uint-lawful 𝓤 H A W w32 .typed r2 _ i2 .0)) $
-        nothing ! $
+        drop ! $ split ! $ move ! (1 ∷ []) $ peeks ! u32 (Is u32) (shows 𝓤 H A u32) r2 (z2 ∷ []) (λ i2. drop ! $ land ! (from ! (stop !)) (init ! 30 refl (uint-lawful 𝓤 H A W w32 .typed r2 _ i2 .0)) $
+        tidy W (_ ∷ _ ∷ _ ∷ _ ∷ _ ∷ _ ∷ _ ∷ _ ∷ _ ∷ _ ∷ _ ∷ _ ∷ _ ∷ _ ∷ _ ∷ _ ∷ _ ∷ _ ∷ _ ∷ _ ∷ _ ∷ _ ∷ _ ∷ _ ∷ _ ∷ _ ∷ _ ∷ _ ∷ _ ∷ _ ∷ _ ∷ _ ∷ _ ∷ _ ∷ _ ∷ _ ∷ _ ∷ _ ∷ _ ∷ []) $ drop ! $ tidy W (_ ∷ _ ∷ _ ∷ _ ∷ _ ∷ _ ∷ _ ∷ _ ∷ _ ∷ _ ∷ _ ∷ _ ∷ _ ∷ _ ∷ _ ∷ _ ∷ _ ∷ _ ∷ _ ∷ _ ∷ _ ∷ _ ∷ _ ∷ _ ∷ _ ∷ _ ∷ _ ∷ _ ∷ _ ∷ _ ∷ _ ∷ _ ∷ _ ∷ _ ∷ _ ∷ _ ∷ _ ∷ _ ∷ []) $ nothing ! $
         -- call 3
         use1 W (raw (Callee-g3 𝓤 H A at-mem run .pre ((tt, tt, tt, (r2, tt), (z2 ∷ [], tt)), tt))) (qed W ((‵ ftrue) ∷ []) ∵ nothing ! $ owned ! u32 (Is u32) (uint-makes 𝓤 H A W w32) (r2) _ i2 $ fjoin ! $ move ! (1 ∷ 0 ∷ []) $ join ! $ nothing ! $ move ! (1 ∷ 0 ∷ []) $ frame ! $ done !) $
-        calls-at ! fm (Callee-g3 𝓤 H A at-mem run) known-g3 ((tt, tt, tt, (r2, tt), (z2 ∷ [], tt)), tt) (and-then ! (load ! (from ! (stop !)) (look ! 63 refl)) (no-more !)) (λ z3.
+        calls-at ! fm (Callee-g3 𝓤 H A at-mem run) known-g3 ((tt, tt, tt, (r2, tt), (z2 ∷ [], tt)), tt) (and-then ! (load ! (from ! (stop !)) (look ! 30 refl)) (no-more !)) (λ z3.
         use1 W (later (some (λ (r3 : Bool). ((‵ ftrue) ⊛ ‵ (bool .own r3 (z3 ∷ []))) ⊛ some (λ (ws : Lasts g3.ended tt (r2, tt)). ‵ (lasts g3.ended tt (r2, tt) ws) ⊛ raw (g3.clauses 𝓤 H A at-mem run tt (r2, tt) .ensures tt r3 (atExit g3.ended tt (r2, tt) ws)))))) (id⊢ 𝓤 _) $ await ! tt $ pick ! (λ r3. split ! $ move ! (1 ∷ []) $ pick ! (λ ws3. split ! $ move ! (1 ∷ []) $ heard ! _ (λ e3.
-        fsplit ! $ move ! (2 ∷ []) $ split ! $ move ! (1 ∷ []) $ peeks ! bool (Is bool) (shows 𝓤 H A bool) r3 (z3 ∷ []) (λ i3. drop ! $ land ! (from ! (stop !)) (init ! 63 refl (bool-lawful 𝓤 H A W .typed r3 _ i3 .0)) $
-        assigns ! (of-opd ! (load ! (from ! (stop !)) (look ! 63 refl))) (from ! (stop !)) (init ! 53 refl (bool-lawful 𝓤 H A W .typed r3 _ i3 .0)) $
-        rewrite ! 53 (λ (w : Val). ‵ (fat fullShare tyBool l₁₄ 0 w)) (ap only i3) refl $ first ! $ branches ! (load ! (from ! (stop !)) (look ! 53 refl))
-        (λ y1. let b1 : r3 ≡ true = is-yes (r3) y1 in assigns ! (addr ! (from ! (fld ! refl (hop ! (look-in ! 69 (sub ! 0 refl (whole !))) (stop !))))) (from ! (stop !)) (init ! 47 refl (tt, tt)) $
-        assigns ! (agg ! (and-then ! (load ! (from ! (stop !)) (look ! 47 refl)) (and-then ! (load ! (from ! (fld ! refl (stop !))) (look-in ! 69 (sub ! 1 refl (whole !)))) (no-more !)))) (from ! (stop !)) (init ! 45 refl (tt, (tt, (record { fits = room6 .0 }, tt)))) $
-        move ! (26 ∷ []) $ use1 W (‵ (O4) ⊛ ‵ (O4)) (shr-slice-copy 𝓤 H A W (named 1) κ₁ u64 .twice s4 (v4 ∷ [])) $ split ! $
-        lft-new ! tt (λ ν4b. move ! (27 ∷ 23 ∷ []) $ use2 W (later (some (λ (δ : GName). ‵ (MutSlice (named 1) (ν4b ∷ []) u64 .own (ref6 δ (ys6)) (v6 ∷ [])) ⊛ ‵ (Lent6 ν4b δ (ys6))))) (lends6 (named 1) ν4b (ys6) (refl)) $ await ! tt $ pick ! (λ δ4b. split ! $ nothing ! $ move ! (3 ∷ 0 ∷ []) $ join ! $ move ! (26 ∷ 0 ∷ []) $ join ! $ move ! (3 ∷ 1 ∷ []) $ join ! $ move ! (1 ∷ 0 ∷ []) $ join ! $
+        drop ! $ split ! $ move ! (1 ∷ []) $ peeks ! bool (Is bool) (shows 𝓤 H A bool) r3 (z3 ∷ []) (λ i3. drop ! $ land ! (from ! (stop !)) (init ! 29 refl (bool-lawful 𝓤 H A W .typed r3 _ i3 .0)) $
+        tidy W (_ ∷ _ ∷ _ ∷ _ ∷ _ ∷ _ ∷ _ ∷ _ ∷ _ ∷ _ ∷ _ ∷ _ ∷ _ ∷ _ ∷ _ ∷ _ ∷ _ ∷ _ ∷ _ ∷ _ ∷ _ ∷ _ ∷ _ ∷ _ ∷ _ ∷ _ ∷ _ ∷ _ ∷ _ ∷ _ ∷ _ ∷ _ ∷ _ ∷ _ ∷ _ ∷ _ ∷ _ ∷ _ ∷ _ ∷ []) $ drop ! $ assigns ! (of-opd ! (load ! (from ! (stop !)) (look ! 28 refl))) (from ! (stop !)) (init ! 23 refl (bool-lawful 𝓤 H A W .typed r3 _ i3 .0)) $
+        rewrite ! 23 (λ (w : Val). ‵ (fat fullShare tyBool l₁₄ 0 w)) (ap only i3) refl $ first ! $ branches ! (load ! (from ! (stop !)) (look ! 23 refl))
+        (λ y1. let b1 : r3 ≡ true = is-yes (r3) y1 in assigns ! (addr ! (from ! (fld ! refl (hop ! (look-in ! 31 (sub ! 0 refl (whole !))) (stop !))))) (from ! (stop !)) (init ! 20 refl (tt, tt)) $
+        assigns ! (agg ! (and-then ! (load ! (from ! (stop !)) (look ! 20 refl)) (and-then ! (load ! (from ! (fld ! refl (stop !))) (look-in ! 31 (sub ! 1 refl (whole !)))) (no-more !)))) (from ! (stop !)) (init ! 19 refl (tt, (tt, (record { fits = room6 .0 }, tt)))) $
+        move ! (7 ∷ []) $ use1 W (‵ (O4) ⊛ ‵ (O4)) (shr-slice-copy 𝓤 H A W (named 1) κ₁ u64 .twice s4 (v4 ∷ [])) $ split ! $
+        lft-new ! tt (λ ν4b. move ! (8 ∷ 5 ∷ []) $ use2 W (later (some (λ (δ : GName). ‵ (MutSlice (named 1) (ν4b ∷ []) u64 .own (ref6 δ (ys6)) (v6 ∷ [])) ⊛ ‵ (Lent6 ν4b δ (ys6))))) (lends6 (named 1) ν4b (ys6) (refl)) $ await ! tt $ pick ! (λ δ4b. split ! $ tidy W (_ ∷ _ ∷ _ ∷ _ ∷ _ ∷ _ ∷ _ ∷ _ ∷ _ ∷ _ ∷ _ ∷ _ ∷ _ ∷ _ ∷ _ ∷ _ ∷ _ ∷ _ ∷ _ ∷ _ ∷ _ ∷ _ ∷ _ ∷ _ ∷ _ ∷ _ ∷ _ ∷ _ ∷ _ ∷ _ ∷ _ ∷ _ ∷ _ ∷ _ ∷ _ ∷ _ ∷ _ ∷ _ ∷ _ ∷ _ ∷ []) $ nothing ! $ move ! (3 ∷ 0 ∷ []) $ join ! $ move ! (8 ∷ 0 ∷ []) $ join ! $ move ! (3 ∷ 1 ∷ []) $ join ! $ move ! (1 ∷ 0 ∷ []) $ join ! $
         -- call 4
         use1 W (raw (Callee-g4 𝓤 H A at-mem run .pre (((κ₁, ((ν4b ∷ []), tt)), (q₁, (fullShare, tt)), tt, (s4, (ref6 δ4b (ys6), tt)), (v4 ∷ [], (v6 ∷ [], tt))), tt))) (qed W ((‵ (flft κ₁ q₁) ⊛ ‵ (flft (ν4b ∷ []) fullShare) ⊛ ‵ ftrue) ∷ ‵ (ShrSlice (named 0) κ₁ u64 .own s4 (v4 ∷ [])) ∷ ‵ (MutSlice (named 1) (ν4b ∷ []) u64 .own (ref6 δ4b (ys6)) (v6 ∷ [])) ∷ []) ∵ nothing ! $ move ! (3 ∷ 0 ∷ []) $ fjoin ! $ move ! (2 ∷ 0 ∷ []) $ fjoin ! $ move ! (1 ∷ 0 ∷ []) $ join ! $ nothing ! $ move ! (1 ∷ 0 ∷ []) $ frame ! $ done !) $
-        calls-at ! fm (Callee-g4 𝓤 H A at-mem run) known-g4 (((κ₁, ((ν4b ∷ []), tt)), (q₁, (fullShare, tt)), tt, (s4, (ref6 δ4b (ys6), tt)), (v4 ∷ [], (v6 ∷ [], tt))), tt) (and-then ! (load ! (from ! (stop !)) (look ! 72 refl)) (and-then ! (load ! (from ! (stop !)) (look ! 44 refl)) (no-more !))) (λ z4.
+        calls-at ! fm (Callee-g4 𝓤 H A at-mem run) known-g4 (((κ₁, ((ν4b ∷ []), tt)), (q₁, (fullShare, tt)), tt, (s4, (ref6 δ4b (ys6), tt)), (v4 ∷ [], (v6 ∷ [], tt))), tt) (and-then ! (load ! (from ! (stop !)) (look ! 32 refl)) (and-then ! (load ! (from ! (stop !)) (look ! 18 refl)) (no-more !))) (λ z4.
         use1 W (later (some (λ (r4 : Unit {0}). ((‵ (flft κ₁ q₁) ⊛ ‵ (flft (ν4b ∷ []) fullShare) ⊛ ‵ ftrue) ⊛ ‵ (unit .own r4 (z4 ∷ []))) ⊛ some (λ (ws : Lasts g4.ended (κ₁, ((ν4b ∷ []), tt)) (s4, (ref6 δ4b (ys6), tt))). ‵ (lasts g4.ended (κ₁, ((ν4b ∷ []), tt)) (s4, (ref6 δ4b (ys6), tt)) ws) ⊛ raw (g4.clauses 𝓤 H A at-mem run (κ₁, ((ν4b ∷ []), tt)) (s4, (ref6 δ4b (ys6), tt)) .ensures tt r4 (atExit g4.ended (κ₁, ((ν4b ∷ []), tt)) (s4, (ref6 δ4b (ys6), tt)) ws)))))) (id⊢ 𝓤 _) $ await ! tt $ pick ! (λ r4. split ! $ move ! (1 ∷ []) $ pick ! (λ ws4. split ! $ move ! (1 ∷ []) $ heard ! _ (λ e4.
-        fsplit ! $ move ! (1 ∷ []) $ fsplit ! $ fsplit ! $ move ! (1 ∷ []) $ feqL ! (λ same4b. move ! (3 ∷ []) $ split ! $ move ! (1 ∷ []) $ feqL ! (λ i4. land ! (from ! (stop !)) (init ! 51 refl (subst (λ (t : Val). Trueᴮ (hasTy tyUnit t) × WT t) (sym (ap only i4)) (tt, tt))) $
-        split ! $ move ! (1 ∷ []) $ split ! $ move ! (1 ∷ []) $ move ! (1 ∷ []) $ lft-end ! tt $ move ! (0 ∷ 6 ∷ 3 ∷ []) $ use3 W (later (‵ (O6 (ws4 .1 .0)) ⊛ ‵ (flft κ₃ q₃))) (backs6 (named 1) ν4b δ4b (ys6) (ws4 .1 .0) (refl) room6 same4b) $ await ! tt $ split ! $
-        assigns ! (addr ! (from ! (fld ! refl (hop ! (look-in ! 74 (sub ! 0 refl (whole !))) (stop !))))) (from ! (stop !)) (init ! 46 refl (tt, tt)) $
-        assigns ! (agg ! (and-then ! (load ! (from ! (stop !)) (look ! 46 refl)) (and-then ! (load ! (from ! (fld ! refl (stop !))) (look-in ! 74 (sub ! 1 refl (whole !)))) (no-more !)))) (from ! (stop !)) (init ! 44 refl (tt, (tt, (record { fits = room5 .0 }, tt)))) $
-        lft-new ! tt (λ ν5b. move ! (30 ∷ 28 ∷ []) $ use2 W (later (some (λ (δ : GName). ‵ (MutSlice (named 0) (ν5b ∷ []) u64 .own (ref5 δ (ys5)) (v5 ∷ [])) ⊛ ‵ (Lent5 ν5b δ (ys5))))) (lends5 (named 0) ν5b (ys5) (refl)) $ await ! tt $ pick ! (λ δ5b. split ! $ nothing ! $ move ! (3 ∷ 0 ∷ []) $ join ! $ join ! $
+        fsplit ! $ drop ! $ fsplit ! $ fsplit ! $ move ! (1 ∷ []) $ feqL ! (λ same4b. move ! (1 ∷ []) $ drop ! $ move ! (1 ∷ []) $ split ! $ move ! (1 ∷ []) $ feqL ! (λ i4. land ! (from ! (stop !)) (init ! 21 refl (subst (λ (t : Val). Trueᴮ (hasTy tyUnit t) × WT t) (sym (ap only i4)) (tt, tt))) $
+        tidy W (_ ∷ _ ∷ _ ∷ _ ∷ _ ∷ _ ∷ _ ∷ _ ∷ _ ∷ _ ∷ _ ∷ _ ∷ _ ∷ _ ∷ _ ∷ _ ∷ _ ∷ _ ∷ _ ∷ _ ∷ _ ∷ _ ∷ _ ∷ _ ∷ _ ∷ _ ∷ _ ∷ _ ∷ _ ∷ _ ∷ _ ∷ _ ∷ _ ∷ _ ∷ _ ∷ _ ∷ _ ∷ _ ∷ []) $ split ! $ move ! (1 ∷ []) $ split ! $ move ! (1 ∷ []) $ drop ! $ lft-end ! tt $ move ! (0 ∷ 3 ∷ 2 ∷ []) $ use3 W (later (‵ (O6 (ws4 .1 .0)) ⊛ ‵ (flft κ₃ q₃))) (backs6 (named 1) ν4b δ4b (ys6) (ws4 .1 .0) (refl) room6 same4b) $ await ! tt $ split ! $
+        assigns ! (addr ! (from ! (fld ! refl (hop ! (look-in ! 32 (sub ! 0 refl (whole !))) (stop !))))) (from ! (stop !)) (init ! 18 refl (tt, tt)) $
+        assigns ! (agg ! (and-then ! (load ! (from ! (stop !)) (look ! 18 refl)) (and-then ! (load ! (from ! (fld ! refl (stop !))) (look-in ! 32 (sub ! 1 refl (whole !)))) (no-more !)))) (from ! (stop !)) (init ! 17 refl (tt, (tt, (record { fits = room5 .0 }, tt)))) $
+        lft-new ! tt (λ ν5b. move ! (8 ∷ 7 ∷ []) $ use2 W (later (some (λ (δ : GName). ‵ (MutSlice (named 0) (ν5b ∷ []) u64 .own (ref5 δ (ys5)) (v5 ∷ [])) ⊛ ‵ (Lent5 ν5b δ (ys5))))) (lends5 (named 0) ν5b (ys5) (refl)) $ await ! tt $ pick ! (λ δ5b. split ! $ tidy W (_ ∷ _ ∷ _ ∷ _ ∷ _ ∷ _ ∷ _ ∷ _ ∷ _ ∷ _ ∷ _ ∷ _ ∷ _ ∷ _ ∷ _ ∷ _ ∷ _ ∷ _ ∷ _ ∷ _ ∷ _ ∷ _ ∷ _ ∷ _ ∷ _ ∷ _ ∷ _ ∷ _ ∷ _ ∷ _ ∷ _ ∷ _ ∷ _ ∷ _ ∷ _ ∷ _ ∷ _ ∷ _ ∷ _ ∷ []) $ nothing ! $ move ! (3 ∷ 0 ∷ []) $ join ! $ join ! $
         -- call 5
         use1 W (raw (Callee-g5 𝓤 H A at-mem run .pre ((((ν5b ∷ []), tt), (fullShare, tt), tt, (n2, (ref5 δ5b (ys5), tt)), (u2 ∷ [], (v5 ∷ [], tt))), tt))) (qed W ((‵ (flft (ν5b ∷ []) fullShare) ⊛ ‵ ftrue) ∷ ‵ (MutSlice (named 0) (ν5b ∷ []) u64 .own (ref5 δ5b (ys5)) (v5 ∷ [])) ∷ []) ∵ nothing ! $ move ! (2 ∷ 0 ∷ []) $ fjoin ! $ owned ! u64 (Is u64) (uint-makes 𝓤 H A W w64) (n2) _ w2 $ fjoin ! $ move ! (1 ∷ 0 ∷ []) $ join ! $ nothing ! $ move ! (1 ∷ 0 ∷ []) $ frame ! $ done !) $
-        calls-at ! fm (Callee-g5 𝓤 H A at-mem run) known-g5 ((((ν5b ∷ []), tt), (fullShare, tt), tt, (n2, (ref5 δ5b (ys5), tt)), (u2 ∷ [], (v5 ∷ [], tt))), tt) (and-then ! (load ! (from ! (stop !)) (look ! 80 refl)) (and-then ! (load ! (from ! (stop !)) (look ! 44 refl)) (no-more !))) (λ z5.
+        calls-at ! fm (Callee-g5 𝓤 H A at-mem run) known-g5 ((((ν5b ∷ []), tt), (fullShare, tt), tt, (n2, (ref5 δ5b (ys5), tt)), (u2 ∷ [], (v5 ∷ [], tt))), tt) (and-then ! (load ! (from ! (stop !)) (look ! 35 refl)) (and-then ! (load ! (from ! (stop !)) (look ! 17 refl)) (no-more !))) (λ z5.
         use1 W (later (some (λ (r5 : Unit {0}). ((‵ (flft (ν5b ∷ []) fullShare) ⊛ ‵ ftrue) ⊛ ‵ (unit .own r5 (z5 ∷ []))) ⊛ some (λ (ws : Lasts g5.ended ((ν5b ∷ []), tt) (n2, (ref5 δ5b (ys5), tt))). ‵ (lasts g5.ended ((ν5b ∷ []), tt) (n2, (ref5 δ5b (ys5), tt)) ws) ⊛ raw (g5.clauses 𝓤 H A at-mem run ((ν5b ∷ []), tt) (n2, (ref5 δ5b (ys5), tt)) .ensures tt r5 (atExit g5.ended ((ν5b ∷ []), tt) (n2, (ref5 δ5b (ys5), tt)) ws)))))) (id⊢ 𝓤 _) $ await ! tt $ pick ! (λ r5. split ! $ move ! (1 ∷ []) $ pick ! (λ ws5. split ! $ move ! (1 ∷ []) $ heard ! _ (λ e5.
-        fsplit ! $ move ! (1 ∷ []) $ fsplit ! $ fsplit ! $ move ! (1 ∷ []) $ feqL ! (λ same5b. move ! (3 ∷ []) $ split ! $ move ! (1 ∷ []) $ feqL ! (λ i5. land ! (from ! (stop !)) (store ! 55 refl (subst (λ (t : Val). Trueᴮ (hasTy tyUnit t) × WT t) (sym (ap only i5)) (tt, tt))) $
-        split ! $ move ! (1 ∷ []) $ move ! (1 ∷ []) $ lft-end ! tt $ move ! (0 ∷ 5 ∷ 2 ∷ []) $ use3 W (later (‵ (O5 (ws5 .1 .0)) ⊛ ‵ (flft κ₂ q₂))) (backs5 (named 0) ν5b δ5b (ys5) (ws5 .1 .0) (refl) room5 same5b) $ await ! tt $ split ! $
-        assigns ! (addr ! (from ! (fld ! refl (hop ! (look-in ! 75 (sub ! 0 refl (whole !))) (stop !))))) (from ! (stop !)) (init ! 45 refl (tt, tt)) $
-        assigns ! (agg ! (and-then ! (load ! (from ! (stop !)) (look ! 45 refl)) (and-then ! (load ! (from ! (fld ! refl (stop !))) (look-in ! 75 (sub ! 1 refl (whole !)))) (no-more !)))) (from ! (stop !)) (init ! 43 refl (tt, (tt, (record { fits = room6 .0 }, tt)))) $
-        assigns ! (addr ! (from ! (fld ! refl (hop ! (look-in ! 77 (sub ! 0 refl (whole !))) (stop !))))) (from ! (stop !)) (init ! 41 refl (tt, tt)) $
-        assigns ! (agg ! (and-then ! (load ! (from ! (stop !)) (look ! 41 refl)) (and-then ! (load ! (from ! (fld ! refl (stop !))) (look-in ! 77 (sub ! 1 refl (whole !)))) (no-more !)))) (from ! (stop !)) (init ! 39 refl (tt, (tt, (record { fits = room5 .0 }, tt)))) $
-        move ! (30 ∷ []) $ use1 W (‵ (O3) ⊛ ‵ (O3)) (shr-slice-copy 𝓤 H A W (named 0) κ₀ mEntry.the-row .twice s3 (v3 ∷ [])) $ split ! $
-        lft-new ! tt (λ ν6d. move ! (8 ∷ 9 ∷ []) $ use2 W (later (some (λ (δ : GName). ‵ (MutSlice (named 1) (ν6d ∷ []) u64 .own (ref6 δ (ws4 .1 .0)) (v6 ∷ [])) ⊛ ‵ (Lent6 ν6d δ (ws4 .1 .0))))) (lends6 (named 1) ν6d (ws4 .1 .0) (same4b)) $ await ! tt $ pick ! (λ δ6d. split ! $
-        lft-new ! tt (λ ν6e. move ! (6 ∷ 7 ∷ []) $ use2 W (later (some (λ (δ : GName). ‵ (MutSlice (named 2) (ν6e ∷ []) u64 .own (ref5 δ (ws5 .1 .0)) (v5 ∷ [])) ⊛ ‵ (Lent5 ν6e δ (ws5 .1 .0))))) (lends5 (named 2) ν6e (ws5 .1 .0) (same5b)) $ await ! tt $ pick ! (λ δ6e. split ! $ nothing ! $ move ! (3 ∷ 0 ∷ []) $ join ! $ move ! (5 ∷ 0 ∷ []) $ join ! $ move ! (28 ∷ 0 ∷ []) $ join ! $ move ! (3 ∷ 1 ∷ []) $ join ! $ move ! (4 ∷ 0 ∷ []) $ join ! $ move ! (1 ∷ 0 ∷ []) $ join ! $
+        fsplit ! $ drop ! $ fsplit ! $ fsplit ! $ move ! (1 ∷ []) $ feqL ! (λ same5b. move ! (1 ∷ []) $ drop ! $ move ! (1 ∷ []) $ split ! $ move ! (1 ∷ []) $ feqL ! (λ i5. land ! (from ! (stop !)) (store ! 22 refl (subst (λ (t : Val). Trueᴮ (hasTy tyUnit t) × WT t) (sym (ap only i5)) (tt, tt))) $
+        tidy W (_ ∷ _ ∷ _ ∷ _ ∷ _ ∷ _ ∷ _ ∷ _ ∷ _ ∷ _ ∷ _ ∷ _ ∷ _ ∷ _ ∷ _ ∷ _ ∷ _ ∷ _ ∷ _ ∷ _ ∷ _ ∷ _ ∷ _ ∷ _ ∷ _ ∷ _ ∷ _ ∷ _ ∷ _ ∷ _ ∷ _ ∷ _ ∷ _ ∷ _ ∷ _ ∷ _ ∷ _ ∷ _ ∷ _ ∷ []) $ split ! $ move ! (1 ∷ []) $ drop ! $ lft-end ! tt $ move ! (0 ∷ 2 ∷ 1 ∷ []) $ use3 W (later (‵ (O5 (ws5 .1 .0)) ⊛ ‵ (flft κ₂ q₂))) (backs5 (named 0) ν5b δ5b (ys5) (ws5 .1 .0) (refl) room5 same5b) $ await ! tt $ split ! $
+        assigns ! (addr ! (from ! (fld ! refl (hop ! (look-in ! 31 (sub ! 0 refl (whole !))) (stop !))))) (from ! (stop !)) (init ! 16 refl (tt, tt)) $
+        assigns ! (agg ! (and-then ! (load ! (from ! (stop !)) (look ! 16 refl)) (and-then ! (load ! (from ! (fld ! refl (stop !))) (look-in ! 31 (sub ! 1 refl (whole !)))) (no-more !)))) (from ! (stop !)) (init ! 15 refl (tt, (tt, (record { fits = room6 .0 }, tt)))) $
+        assigns ! (addr ! (from ! (fld ! refl (hop ! (look-in ! 32 (sub ! 0 refl (whole !))) (stop !))))) (from ! (stop !)) (init ! 14 refl (tt, tt)) $
+        assigns ! (agg ! (and-then ! (load ! (from ! (stop !)) (look ! 14 refl)) (and-then ! (load ! (from ! (fld ! refl (stop !))) (look-in ! 32 (sub ! 1 refl (whole !)))) (no-more !)))) (from ! (stop !)) (init ! 13 refl (tt, (tt, (record { fits = room5 .0 }, tt)))) $
+        move ! (7 ∷ []) $ use1 W (‵ (O3) ⊛ ‵ (O3)) (shr-slice-copy 𝓤 H A W (named 0) κ₀ mEntry.the-row .twice s3 (v3 ∷ [])) $ split ! $
+        lft-new ! tt (λ ν6d. move ! (5 ∷ 6 ∷ []) $ use2 W (later (some (λ (δ : GName). ‵ (MutSlice (named 1) (ν6d ∷ []) u64 .own (ref6 δ (ws4 .1 .0)) (v6 ∷ [])) ⊛ ‵ (Lent6 ν6d δ (ws4 .1 .0))))) (lends6 (named 1) ν6d (ws4 .1 .0) (same4b)) $ await ! tt $ pick ! (λ δ6d. split ! $
+        lft-new ! tt (λ ν6e. move ! (6 ∷ 7 ∷ []) $ use2 W (later (some (λ (δ : GName). ‵ (MutSlice (named 2) (ν6e ∷ []) u64 .own (ref5 δ (ws5 .1 .0)) (v5 ∷ [])) ⊛ ‵ (Lent5 ν6e δ (ws5 .1 .0))))) (lends5 (named 2) ν6e (ws5 .1 .0) (same5b)) $ await ! tt $ pick ! (λ δ6e. split ! $ tidy W (_ ∷ _ ∷ _ ∷ _ ∷ _ ∷ _ ∷ _ ∷ _ ∷ _ ∷ _ ∷ _ ∷ _ ∷ _ ∷ _ ∷ _ ∷ _ ∷ _ ∷ _ ∷ _ ∷ _ ∷ _ ∷ _ ∷ _ ∷ _ ∷ _ ∷ _ ∷ _ ∷ _ ∷ _ ∷ _ ∷ _ ∷ _ ∷ _ ∷ _ ∷ _ ∷ _ ∷ _ ∷ _ ∷ _ ∷ _ ∷ _ ∷ []) $ nothing ! $ move ! (3 ∷ 0 ∷ []) $ join ! $ move ! (5 ∷ 0 ∷ []) $ join ! $ move ! (9 ∷ 0 ∷ []) $ join ! $ move ! (3 ∷ 1 ∷ []) $ join ! $ move ! (4 ∷ 0 ∷ []) $ join ! $ move ! (1 ∷ 0 ∷ []) $ join ! $
         -- call 6
         use1 W (raw (Callee-g6 𝓤 H A at-mem run .pre (((κ₀, ((ν6d ∷ []), ((ν6e ∷ []), tt))), (q₀, (fullShare, (fullShare, tt))), tt, (s3, (n2, (n1, (ref6 δ6d (ws4 .1 .0), (ref5 δ6e (ws5 .1 .0), tt))))), (v3 ∷ [], (u2 ∷ [], (u1 ∷ [], (v6 ∷ [], (v5 ∷ [], tt)))))), tt))) (qed W ((‵ (flft κ₀ q₀) ⊛ ‵ (flft (ν6d ∷ []) fullShare) ⊛ ‵ (flft (ν6e ∷ []) fullShare) ⊛ ‵ ftrue) ∷ ‵ (ShrSlice (named 0) κ₀ mEntry.the-row .own s3 (v3 ∷ [])) ∷ ‵ (MutSlice (named 1) (ν6d ∷ []) u64 .own (ref6 δ6d (ws4 .1 .0)) (v6 ∷ [])) ∷ ‵ (MutSlice (named 2) (ν6e ∷ []) u64 .own (ref5 δ6e (ws5 .1 .0)) (v5 ∷ [])) ∷ []) ∵ nothing ! $ move ! (4 ∷ 0 ∷ []) $ fjoin ! $ move ! (3 ∷ 0 ∷ []) $ fjoin ! $ owned ! u64 (Is u64) (uint-makes 𝓤 H A W w64) (n1) _ w1 $ fjoin ! $ owned ! u64 (Is u64) (uint-makes 𝓤 H A W w64) (n2) _ w2 $ fjoin ! $ move ! (2 ∷ 0 ∷ []) $ fjoin ! $ move ! (1 ∷ 0 ∷ []) $ join ! $ nothing ! $ move ! (1 ∷ 0 ∷ []) $ frame ! $ done !) $
-        calls-at ! fm (Callee-g6 𝓤 H A at-mem run) known-g6 (((κ₀, ((ν6d ∷ []), ((ν6e ∷ []), tt))), (q₀, (fullShare, (fullShare, tt))), tt, (s3, (n2, (n1, (ref6 δ6d (ws4 .1 .0), (ref5 δ6e (ws5 .1 .0), tt))))), (v3 ∷ [], (u2 ∷ [], (u1 ∷ [], (v6 ∷ [], (v5 ∷ [], tt)))))), tt) (and-then ! (load ! (from ! (stop !)) (look ! 79 refl)) (and-then ! (load ! (from ! (stop !)) (look ! 81 refl)) (and-then ! (load ! (from ! (stop !)) (look ! 83 refl)) (and-then ! (load ! (from ! (stop !)) (look ! 41 refl)) (and-then ! (load ! (from ! (stop !)) (look ! 37 refl)) (no-more !)))))) (λ z6.
+        calls-at ! fm (Callee-g6 𝓤 H A at-mem run) known-g6 (((κ₀, ((ν6d ∷ []), ((ν6e ∷ []), tt))), (q₀, (fullShare, (fullShare, tt))), tt, (s3, (n2, (n1, (ref6 δ6d (ws4 .1 .0), (ref5 δ6e (ws5 .1 .0), tt))))), (v3 ∷ [], (u2 ∷ [], (u1 ∷ [], (v6 ∷ [], (v5 ∷ [], tt)))))), tt) (and-then ! (load ! (from ! (stop !)) (look ! 32 refl)) (and-then ! (load ! (from ! (stop !)) (look ! 33 refl)) (and-then ! (load ! (from ! (stop !)) (look ! 34 refl)) (and-then ! (load ! (from ! (stop !)) (look ! 13 refl)) (and-then ! (load ! (from ! (stop !)) (look ! 11 refl)) (no-more !)))))) (λ z6.
         use1 W (later (some (λ (r6 : Unit {0}). ((‵ (flft κ₀ q₀) ⊛ ‵ (flft (ν6d ∷ []) fullShare) ⊛ ‵ (flft (ν6e ∷ []) fullShare) ⊛ ‵ ftrue) ⊛ ‵ (unit .own r6 (z6 ∷ []))) ⊛ some (λ (ws : Lasts g6.ended (κ₀, ((ν6d ∷ []), ((ν6e ∷ []), tt))) (s3, (n2, (n1, (ref6 δ6d (ws4 .1 .0), (ref5 δ6e (ws5 .1 .0), tt)))))). ‵ (lasts g6.ended (κ₀, ((ν6d ∷ []), ((ν6e ∷ []), tt))) (s3, (n2, (n1, (ref6 δ6d (ws4 .1 .0), (ref5 δ6e (ws5 .1 .0), tt))))) ws) ⊛ raw (g6.clauses 𝓤 H A at-mem run (κ₀, ((ν6d ∷ []), ((ν6e ∷ []), tt))) (s3, (n2, (n1, (ref6 δ6d (ws4 .1 .0), (ref5 δ6e (ws5 .1 .0), tt))))) .ensures tt r6 (atExit g6.ended (κ₀, ((ν6d ∷ []), ((ν6e ∷ []), tt))) (s3, (n2, (n1, (ref6 δ6d (ws4 .1 .0), (ref5 δ6e (ws5 .1 .0), tt))))) ws)))))) (id⊢ 𝓤 _) $ await ! tt $ pick ! (λ r6. split ! $ move ! (1 ∷ []) $ pick ! (λ ws6. split ! $ move ! (1 ∷ []) $ heard ! _ (λ e6.
-        fsplit ! $ move ! (1 ∷ []) $ fsplit ! $ move ! (1 ∷ []) $ fsplit ! $ move ! (1 ∷ []) $ fsplit ! $ fsplit ! $ move ! (1 ∷ []) $ feqL ! (λ same6d. move ! (1 ∷ []) $ fsplit ! $ fsplit ! $ move ! (1 ∷ []) $ feqL ! (λ same6e. move ! (6 ∷ []) $ split ! $ move ! (1 ∷ []) $ feqL ! (λ i6. land ! (from ! (stop !)) (store ! 59 refl (subst (λ (t : Val). Trueᴮ (hasTy tyUnit t) × WT t) (sym (ap only i6)) (tt, tt))) $
-        split ! $ move ! (1 ∷ []) $ split ! $ move ! (1 ∷ []) $ split ! $ move ! (1 ∷ []) $ move ! (2 ∷ []) $ lft-end ! tt $ move ! (0 ∷ 11 ∷ 6 ∷ []) $ use3 W (later (‵ (O6 (ws6 .1 .1 .1 .0)) ⊛ ‵ (flft κ₃ q₃))) (backs6 (named 1) ν6d δ6d (ws4 .1 .0) (ws6 .1 .1 .1 .0) (same4b) room6 same6d) $ await ! tt $ split ! $
-        move ! (3 ∷ []) $ lft-end ! tt $ move ! (0 ∷ 10 ∷ 5 ∷ []) $ use3 W (later (‵ (O5 (ws6 .1 .1 .1 .1 .0)) ⊛ ‵ (flft κ₂ q₂))) (backs5 (named 2) ν6e δ6e (ws5 .1 .0) (ws6 .1 .1 .1 .1 .0) (same5b) room5 same6e) $ await ! tt $ split ! $
-        assigns ! (addr ! (from ! (fld ! refl (hop ! (look-in ! 80 (sub ! 0 refl (whole !))) (stop !))))) (from ! (stop !)) (init ! 42 refl (tt, tt)) $
-        assigns ! (agg ! (and-then ! (load ! (from ! (stop !)) (look ! 42 refl)) (and-then ! (load ! (from ! (fld ! refl (stop !))) (look-in ! 80 (sub ! 1 refl (whole !)))) (no-more !)))) (from ! (stop !)) (init ! 40 refl (tt, (tt, (record { fits = room6 .0 }, tt)))) $
-        lft-new ! tt (λ ν7b. move ! (3 ∷ 4 ∷ []) $ use2 W (later (some (λ (δ : GName). ‵ (MutSlice (named 0) (ν7b ∷ []) u64 .own (ref6 δ (ws6 .1 .1 .1 .0)) (v6 ∷ [])) ⊛ ‵ (Lent6 ν7b δ (ws6 .1 .1 .1 .0))))) (lends6 (named 0) ν7b (ws6 .1 .1 .1 .0) (same6d ∙ same4b)) $ await ! tt $ pick ! (λ δ7b. split ! $ nothing ! $ move ! (3 ∷ 0 ∷ []) $ join ! $ join ! $
+        fsplit ! $ drop ! $ fsplit ! $ drop ! $ fsplit ! $ drop ! $ fsplit ! $ fsplit ! $ move ! (1 ∷ []) $ feqL ! (λ same6d. move ! (1 ∷ []) $ fsplit ! $ fsplit ! $ move ! (1 ∷ []) $ feqL ! (λ same6e. move ! (1 ∷ []) $ drop ! $ move ! (2 ∷ []) $ split ! $ move ! (1 ∷ []) $ feqL ! (λ i6. land ! (from ! (stop !)) (store ! 21 refl (subst (λ (t : Val). Trueᴮ (hasTy tyUnit t) × WT t) (sym (ap only i6)) (tt, tt))) $
+        tidy W (_ ∷ _ ∷ _ ∷ _ ∷ _ ∷ _ ∷ _ ∷ _ ∷ _ ∷ _ ∷ _ ∷ _ ∷ _ ∷ _ ∷ _ ∷ _ ∷ _ ∷ _ ∷ _ ∷ _ ∷ _ ∷ _ ∷ _ ∷ _ ∷ _ ∷ _ ∷ _ ∷ _ ∷ _ ∷ _ ∷ _ ∷ _ ∷ _ ∷ _ ∷ _ ∷ _ ∷ _ ∷ _ ∷ []) $ split ! $ move ! (1 ∷ []) $ split ! $ move ! (1 ∷ []) $ split ! $ move ! (1 ∷ []) $ drop ! $ move ! (1 ∷ []) $ lft-end ! tt $ move ! (0 ∷ 6 ∷ 4 ∷ []) $ use3 W (later (‵ (O6 (ws6 .1 .1 .1 .0)) ⊛ ‵ (flft κ₃ q₃))) (backs6 (named 1) ν6d δ6d (ws4 .1 .0) (ws6 .1 .1 .1 .0) (same4b) room6 same6d) $ await ! tt $ split ! $
+        move ! (2 ∷ []) $ lft-end ! tt $ move ! (0 ∷ 5 ∷ 4 ∷ []) $ use3 W (later (‵ (O5 (ws6 .1 .1 .1 .1 .0)) ⊛ ‵ (flft κ₂ q₂))) (backs5 (named 2) ν6e δ6e (ws5 .1 .0) (ws6 .1 .1 .1 .1 .0) (same5b) room5 same6e) $ await ! tt $ split ! $
+        assigns ! (addr ! (from ! (fld ! refl (hop ! (look-in ! 31 (sub ! 0 refl (whole !))) (stop !))))) (from ! (stop !)) (init ! 12 refl (tt, tt)) $
+        assigns ! (agg ! (and-then ! (load ! (from ! (stop !)) (look ! 12 refl)) (and-then ! (load ! (from ! (fld ! refl (stop !))) (look-in ! 31 (sub ! 1 refl (whole !)))) (no-more !)))) (from ! (stop !)) (init ! 11 refl (tt, (tt, (record { fits = room6 .0 }, tt)))) $
+        lft-new ! tt (λ ν7b. move ! (3 ∷ 4 ∷ []) $ use2 W (later (some (λ (δ : GName). ‵ (MutSlice (named 0) (ν7b ∷ []) u64 .own (ref6 δ (ws6 .1 .1 .1 .0)) (v6 ∷ [])) ⊛ ‵ (Lent6 ν7b δ (ws6 .1 .1 .1 .0))))) (lends6 (named 0) ν7b (ws6 .1 .1 .1 .0) (same6d ∙ same4b)) $ await ! tt $ pick ! (λ δ7b. split ! $ tidy W (_ ∷ _ ∷ _ ∷ _ ∷ _ ∷ _ ∷ _ ∷ _ ∷ _ ∷ _ ∷ _ ∷ _ ∷ _ ∷ _ ∷ _ ∷ _ ∷ _ ∷ _ ∷ _ ∷ _ ∷ _ ∷ _ ∷ _ ∷ _ ∷ _ ∷ _ ∷ _ ∷ _ ∷ _ ∷ _ ∷ _ ∷ _ ∷ _ ∷ _ ∷ _ ∷ _ ∷ _ ∷ _ ∷ _ ∷ []) $ nothing ! $ move ! (3 ∷ 0 ∷ []) $ join ! $ join ! $
         -- call 7
         use1 W (raw (Callee-g5 𝓤 H A at-mem run .pre ((((ν7b ∷ []), tt), (fullShare, tt), tt, (n1, (ref6 δ7b (ws6 .1 .1 .1 .0), tt)), (u1 ∷ [], (v6 ∷ [], tt))), tt))) (qed W ((‵ (flft (ν7b ∷ []) fullShare) ⊛ ‵ ftrue) ∷ ‵ (MutSlice (named 0) (ν7b ∷ []) u64 .own (ref6 δ7b (ws6 .1 .1 .1 .0)) (v6 ∷ [])) ∷ []) ∵ nothing ! $ move ! (2 ∷ 0 ∷ []) $ fjoin ! $ owned ! u64 (Is u64) (uint-makes 𝓤 H A W w64) (n1) _ w1 $ fjoin ! $ move ! (1 ∷ 0 ∷ []) $ join ! $ nothing ! $ move ! (1 ∷ 0 ∷ []) $ frame ! $ done !) $
-        calls-at ! fm (Callee-g5 𝓤 H A at-mem run) known-g5 ((((ν7b ∷ []), tt), (fullShare, tt), tt, (n1, (ref6 δ7b (ws6 .1 .1 .1 .0), tt)), (u1 ∷ [], (v6 ∷ [], tt))), tt) (and-then ! (load ! (from ! (stop !)) (look ! 90 refl)) (and-then ! (load ! (from ! (stop !)) (look ! 40 refl)) (no-more !))) (λ z7.
+        calls-at ! fm (Callee-g5 𝓤 H A at-mem run) known-g5 ((((ν7b ∷ []), tt), (fullShare, tt), tt, (n1, (ref6 δ7b (ws6 .1 .1 .1 .0), tt)), (u1 ∷ [], (v6 ∷ [], tt))), tt) (and-then ! (load ! (from ! (stop !)) (look ! 36 refl)) (and-then ! (load ! (from ! (stop !)) (look ! 11 refl)) (no-more !))) (λ z7.
         use1 W (later (some (λ (r7 : Unit {0}). ((‵ (flft (ν7b ∷ []) fullShare) ⊛ ‵ ftrue) ⊛ ‵ (unit .own r7 (z7 ∷ []))) ⊛ some (λ (ws : Lasts g5.ended ((ν7b ∷ []), tt) (n1, (ref6 δ7b (ws6 .1 .1 .1 .0), tt))). ‵ (lasts g5.ended ((ν7b ∷ []), tt) (n1, (ref6 δ7b (ws6 .1 .1 .1 .0), tt)) ws) ⊛ raw (g5.clauses 𝓤 H A at-mem run ((ν7b ∷ []), tt) (n1, (ref6 δ7b (ws6 .1 .1 .1 .0), tt)) .ensures tt r7 (atExit g5.ended ((ν7b ∷ []), tt) (n1, (ref6 δ7b (ws6 .1 .1 .1 .0), tt)) ws)))))) (id⊢ 𝓤 _) $ await ! tt $ pick ! (λ r7. split ! $ move ! (1 ∷ []) $ pick ! (λ ws7. split ! $ move ! (1 ∷ []) $ heard ! _ (λ e7.
-        fsplit ! $ move ! (1 ∷ []) $ fsplit ! $ fsplit ! $ move ! (1 ∷ []) $ feqL ! (λ same7b. move ! (3 ∷ []) $ split ! $ move ! (1 ∷ []) $ feqL ! (λ i7. land ! (from ! (stop !)) (store ! 63 refl (subst (λ (t : Val). Trueᴮ (hasTy tyUnit t) × WT t) (sym (ap only i7)) (tt, tt))) $
-        split ! $ move ! (1 ∷ []) $ move ! (1 ∷ []) $ lft-end ! tt $ move ! (0 ∷ 5 ∷ 2 ∷ []) $ use3 W (later (‵ (O6 (ws7 .1 .0)) ⊛ ‵ (flft κ₃ q₃))) (backs6 (named 0) ν7b δ7b (ws6 .1 .1 .1 .0) (ws7 .1 .0) (same6d ∙ same4b) room6 same7b) $ await ! tt $ split ! $
-        assigns-last ! (of-opd ! (load ! (from ! (stop !)) (look ! 79 refl))) (from ! (stop !)) (init ! 65 refl (uint-lawful 𝓤 H A W w32 .typed r2 _ i2 .0)) $
+        fsplit ! $ drop ! $ fsplit ! $ fsplit ! $ move ! (1 ∷ []) $ feqL ! (λ same7b. move ! (1 ∷ []) $ drop ! $ move ! (1 ∷ []) $ split ! $ move ! (1 ∷ []) $ feqL ! (λ i7. land ! (from ! (stop !)) (store ! 22 refl (subst (λ (t : Val). Trueᴮ (hasTy tyUnit t) × WT t) (sym (ap only i7)) (tt, tt))) $
+        tidy W (_ ∷ _ ∷ _ ∷ _ ∷ _ ∷ _ ∷ _ ∷ _ ∷ _ ∷ _ ∷ _ ∷ _ ∷ _ ∷ _ ∷ _ ∷ _ ∷ _ ∷ _ ∷ _ ∷ _ ∷ _ ∷ _ ∷ _ ∷ _ ∷ _ ∷ _ ∷ _ ∷ _ ∷ _ ∷ _ ∷ _ ∷ _ ∷ _ ∷ _ ∷ _ ∷ _ ∷ _ ∷ _ ∷ _ ∷ []) $ split ! $ move ! (1 ∷ []) $ drop ! $ lft-end ! tt $ move ! (0 ∷ 2 ∷ 1 ∷ []) $ use3 W (later (‵ (O6 (ws7 .1 .0)) ⊛ ‵ (flft κ₃ q₃))) (backs6 (named 0) ν7b δ7b (ws6 .1 .1 .1 .0) (ws7 .1 .0) (same6d ∙ same4b) room6 same7b) $ await ! tt $ split ! $
+        assigns-last ! (of-opd ! (load ! (from ! (stop !)) (look ! 29 refl))) (from ! (stop !)) (init ! 22 refl (uint-lawful 𝓤 H A W w32 .typed r2 _ i2 .0)) $
         exec ! C Λ ((tyInt w32, l₀) ∷ (tyInt w64, l₁) ∷ (tyInt w64, l₂) ∷ (sliceTy (tyRef (named 0) imm (pointee (mEntry.the-row .written))), l₃) ∷ (sliceTy (tyRef (named 1) imm (tyInt w64)), l₄) ∷ (sliceTy (tyRef (named 2) mut (tyInt w64)), l₅) ∷ (sliceTy (tyRef (named 3) mut (tyInt w64)), l₆) ∷ (tyBool, l₇) ∷ (tyInt w32, l₈) ∷ (tyBool, l₉) ∷ (tyInt w64, l₁₀) ∷ (tyInt w64, l₁₁) ∷ (tyInt w64, l₁₂) ∷ (tyInt w64, l₁₃) ∷ (tyBool, l₁₄) ∷ (tyInt w32, l₁₅) ∷ (tyUnit, l₁₆) ∷ (tyRef erased mut (tyInt w64), l₁₇) ∷ (sliceTy (tyRef erased mut (tyInt w64)), l₁₈) ∷ (tyRef erased mut (tyInt w64), l₁₉) ∷ (sliceTy (tyRef erased mut (tyInt w64)), l₂₀) ∷ (tyRef erased mut (tyInt w64), l₂₁) ∷ (sliceTy (tyRef erased mut (tyInt w64)), l₂₂) ∷ (tyRef erased mut (tyInt w64), l₂₃) ∷ (sliceTy (tyRef erased mut (tyInt w64)), l₂₄) ∷ (tyRef erased mut (tyInt w64), l₂₅) ∷ (sliceTy (tyRef erased mut (tyInt w64)), l₂₆) ∷ []) Mir.t-10 (atRet ((tyInt w32, l₀) ∷ (tyInt w64, l₁) ∷ (tyInt w64, l₂) ∷ (sliceTy (tyRef (named 0) imm (pointee (mEntry.the-row .written))), l₃) ∷ (sliceTy (tyRef (named 1) imm (tyInt w64)), l₄) ∷ (sliceTy (tyRef (named 2) mut (tyInt w64)), l₅) ∷ (sliceTy (tyRef (named 3) mut (tyInt w64)), l₆) ∷ (tyBool, l₇) ∷ (tyInt w32, l₈) ∷ (tyBool, l₉) ∷ (tyInt w64, l₁₀) ∷ (tyInt w64, l₁₁) ∷ (tyInt w64, l₁₂) ∷ (tyInt w64, l₁₃) ∷ (tyBool, l₁₄) ∷ (tyInt w32, l₁₅) ∷ (tyUnit, l₁₆) ∷ (tyRef erased mut (tyInt w64), l₁₇) ∷ (sliceTy (tyRef erased mut (tyInt w64)), l₁₈) ∷ (tyRef erased mut (tyInt w64), l₁₉) ∷ (sliceTy (tyRef erased mut (tyInt w64)), l₂₀) ∷ (tyRef erased mut (tyInt w64), l₂₁) ∷ (sliceTy (tyRef erased mut (tyInt w64)), l₂₂) ∷ (tyRef erased mut (tyInt w64), l₂₃) ∷ (sliceTy (tyRef erased mut (tyInt w64)), l₂₄) ∷ (tyRef erased mut (tyInt w64), l₂₅) ∷ (sliceTy (tyRef erased mut (tyInt w64)), l₂₆) ∷ []) Post) $
-        assigns ! (of-opd ! (load ! (from ! (stop !)) (look ! 65 refl))) (from ! (stop !)) (init ! 95 refl (uint-lawful 𝓤 H A W w32 .typed r2 _ i2 .0)) $
-        returns ! (look ! 95 refl) $ forget ! 95 refl $ forget ! 93 refl $ forget ! 91 refl $ forget ! 89 refl $ forget ! 87 refl $ forget ! 85 refl $ forget ! 83 refl $ forget ! 81 refl $ forget ! 79 refl $ forget ! 77 refl $ forget ! 75 refl $ forget ! 73 refl $ forget ! 71 refl $ forget ! 69 refl $ forget ! 67 refl $ forget ! 65 refl $ forget ! 63 refl $ forget ! 61 refl $ forget ! 59 refl $ forget ! 57 refl $ forget ! 55 refl $ forget ! 53 refl $ forget ! 51 refl $ forget ! 49 refl $ forget ! 47 refl $ forget ! 45 refl $ forget ! 43 refl $
-        move ! (95 ∷ 96 ∷ []) $ free1 ! $ move ! (93 ∷ 94 ∷ []) $ free1 ! $ move ! (91 ∷ 92 ∷ []) $ free1 ! $ move ! (89 ∷ 90 ∷ []) $ free1 ! $ move ! (87 ∷ 88 ∷ []) $ free1 ! $ move ! (85 ∷ 86 ∷ []) $ free1 ! $ move ! (83 ∷ 84 ∷ []) $ free1 ! $ move ! (81 ∷ 82 ∷ []) $ free1 ! $ move ! (79 ∷ 80 ∷ []) $ free1 ! $ move ! (77 ∷ 78 ∷ []) $ free1 ! $ move ! (75 ∷ 76 ∷ []) $ free1 ! $ move ! (73 ∷ 74 ∷ []) $ free1 ! $ move ! (71 ∷ 72 ∷ []) $ free1 ! $ move ! (69 ∷ 70 ∷ []) $ free1 ! $ move ! (67 ∷ 68 ∷ []) $ free1 ! $ move ! (65 ∷ 66 ∷ []) $ free1 ! $ move ! (63 ∷ 64 ∷ []) $ free1 ! $ move ! (61 ∷ 62 ∷ []) $ free1 ! $ move ! (59 ∷ 60 ∷ []) $ free1 ! $ move ! (57 ∷ 58 ∷ []) $ free1 ! $ move ! (55 ∷ 56 ∷ []) $ free1 ! $ move ! (53 ∷ 54 ∷ []) $ free1 ! $ move ! (51 ∷ 52 ∷ []) $ free1 ! $ move ! (49 ∷ 50 ∷ []) $ free1 ! $ move ! (47 ∷ 48 ∷ []) $ free1 ! $ move ! (45 ∷ 46 ∷ []) $ free1 ! $ move ! (43 ∷ 44 ∷ []) $ free1 ! $ free0 ! $
+        assigns ! (of-opd ! (load ! (from ! (stop !)) (look ! 22 refl))) (from ! (stop !)) (init ! 37 refl (uint-lawful 𝓤 H A W w32 .typed r2 _ i2 .0)) $
+        tidy W (_ ∷ _ ∷ _ ∷ _ ∷ _ ∷ _ ∷ _ ∷ _ ∷ _ ∷ _ ∷ _ ∷ _ ∷ _ ∷ _ ∷ _ ∷ _ ∷ _ ∷ _ ∷ _ ∷ _ ∷ _ ∷ _ ∷ _ ∷ _ ∷ _ ∷ _ ∷ _ ∷ _ ∷ _ ∷ _ ∷ _ ∷ _ ∷ _ ∷ _ ∷ _ ∷ _ ∷ _ ∷ _ ∷ []) $ returns ! (look ! 37 refl) $ move ! (10 ∷ []) $ use1 W (dies ((tyInt w32, l₀) ∷ (tyInt w64, l₁) ∷ (tyInt w64, l₂) ∷ (sliceTy (tyRef (named 0) imm (pointee (mEntry.the-row .written))), l₃) ∷ (sliceTy (tyRef (named 1) imm (tyInt w64)), l₄) ∷ (sliceTy (tyRef (named 2) mut (tyInt w64)), l₅) ∷ (sliceTy (tyRef (named 3) mut (tyInt w64)), l₆) ∷ (tyBool, l₇) ∷ (tyInt w32, l₈) ∷ (tyBool, l₉) ∷ (tyInt w64, l₁₀) ∷ (tyInt w64, l₁₁) ∷ (tyInt w64, l₁₂) ∷ (tyInt w64, l₁₃) ∷ (tyBool, l₁₄) ∷ (tyInt w32, l₁₅) ∷ (tyUnit, l₁₆) ∷ (tyRef erased mut (tyInt w64), l₁₇) ∷ (sliceTy (tyRef erased mut (tyInt w64)), l₁₈) ∷ (tyRef erased mut (tyInt w64), l₁₉) ∷ (sliceTy (tyRef erased mut (tyInt w64)), l₂₀) ∷ (tyRef erased mut (tyInt w64), l₂₁) ∷ (sliceTy (tyRef erased mut (tyInt w64)), l₂₂) ∷ (tyRef erased mut (tyInt w64), l₂₃) ∷ (sliceTy (tyRef erased mut (tyInt w64)), l₂₄) ∷ (tyRef erased mut (tyInt w64), l₂₅) ∷ (sliceTy (tyRef erased mut (tyInt w64)), l₂₆) ∷ []) (‵ ftrue)) die $ free-all ! 10 ((tyInt w32, l₀) ∷ (tyInt w64, l₁) ∷ (tyInt w64, l₂) ∷ (sliceTy (tyRef (named 0) imm (pointee (mEntry.the-row .written))), l₃) ∷ (sliceTy (tyRef (named 1) imm (tyInt w64)), l₄) ∷ (sliceTy (tyRef (named 2) mut (tyInt w64)), l₅) ∷ (sliceTy (tyRef (named 3) mut (tyInt w64)), l₆) ∷ (tyBool, l₇) ∷ (tyInt w32, l₈) ∷ (tyBool, l₉) ∷ (tyInt w64, l₁₀) ∷ (tyInt w64, l₁₁) ∷ (tyInt w64, l₁₂) ∷ (tyInt w64, l₁₃) ∷ (tyBool, l₁₄) ∷ (tyInt w32, l₁₅) ∷ (tyUnit, l₁₆) ∷ (tyRef erased mut (tyInt w64), l₁₇) ∷ (sliceTy (tyRef erased mut (tyInt w64)), l₁₈) ∷ (tyRef erased mut (tyInt w64), l₁₉) ∷ (sliceTy (tyRef erased mut (tyInt w64)), l₂₀) ∷ (tyRef erased mut (tyInt w64), l₂₁) ∷ (sliceTy (tyRef erased mut (tyInt w64)), l₂₂) ∷ (tyRef erased mut (tyInt w64), l₂₃) ∷ (sliceTy (tyRef erased mut (tyInt w64)), l₂₄) ∷ (tyRef erased mut (tyInt w64), l₂₅) ∷ (sliceTy (tyRef erased mut (tyInt w64)), l₂₆) ∷ []) (kept _ ∷ kept _ ∷ kept _ ∷ kept _ ∷ kept _ ∷ kept _ ∷ kept _ ∷ kept _ ∷ kept _ ∷ kept _ ∷ kept _ ∷ kept _ ∷ kept _ ∷ kept _ ∷ kept _ ∷ kept _ ∷ kept _ ∷ kept _ ∷ kept _ ∷ kept _ ∷ kept _ ∷ kept _ ∷ kept _ ∷ kept _ ∷ kept _ ∷ kept _ ∷ kept _ ∷ []) refl $
         suffices ! _ (ends-at 𝓤 H A f.ended stayed (f.clauses 𝓤 H A at-mem run) W (((κ₀, (κ₁, (κ₂, (κ₃, tt)))), (q₀, (q₁, (q₂, (q₃, tt)))), tt, a, at), tt) z2 r2 (tt, (tt, (tt, (tt, (ws6 .1 .1 .1 .1 .0, (ws7 .1 .0, tt)))))) (tt, (tt, (tt, (tt, (same6e ∙ same5b, (same7b ∙ same6d ∙ same4b, tt))))))) $ says ! (table-done n1 n2 (s3 .now) (s4 .now) ys5 ys6 r1 r3 r2 e1 e2 e3 (ws4 .1 .0) (ws5 .1 .0) (ws6 .1 .1 .1 .0) (ws6 .1 .1 .1 .1 .0) (ws7 .1 .0) b1 e4 e5 (e6 .0) (e6 .1) e7) $
-        nothing ! $ move ! (2 ∷ 0 ∷ []) $ join ! $ move ! (6 ∷ 0 ∷ []) $ join ! $ move ! (17 ∷ 0 ∷ []) $ join ! $ move ! (7 ∷ 0 ∷ []) $ join ! $ nothing ! $ move ! (2 ∷ 0 ∷ []) $ fjoin ! $ move ! (5 ∷ 0 ∷ []) $ fjoin ! $ move ! (17 ∷ 0 ∷ []) $ fjoin ! $ move ! (10 ∷ 0 ∷ []) $ fjoin ! $ move ! (35 ∷ 0 ∷ []) $ fjoin ! $ move ! (35 ∷ 0 ∷ []) $ fjoin ! $ keep ! (1 ∷ 0 ∷ []) $ frame ! $ frame ! $ owned ! u32 (Is u32) (uint-makes 𝓤 H A W w32) r2 _ i2 $ done !))))))))))))))))))))))))))))))))))))
-        (λ y1. let b1 : r3 ≡ false = is-no (r3) y1 in assigns-last ! (of-opd ! (load ! (from ! (stop !)) (look ! 65 refl))) (from ! (stop !)) (init ! 51 refl (uint-lawful 𝓤 H A W w32 .typed r2 _ i2 .0)) $
+        nothing ! $ move ! (2 ∷ 0 ∷ []) $ join ! $ move ! (3 ∷ 0 ∷ []) $ join ! $ move ! (5 ∷ 0 ∷ []) $ join ! $ move ! (3 ∷ 0 ∷ []) $ join ! $ nothing ! $ move ! (2 ∷ 0 ∷ []) $ fjoin ! $ move ! (2 ∷ 0 ∷ []) $ fjoin ! $ move ! (3 ∷ 0 ∷ []) $ fjoin ! $ move ! (2 ∷ 0 ∷ []) $ fjoin ! $ move ! (2 ∷ 0 ∷ []) $ fjoin ! $ move ! (2 ∷ 0 ∷ []) $ fjoin ! $ keep ! (1 ∷ 0 ∷ []) $ frame ! $ frame ! $ owned ! u32 (Is u32) (uint-makes 𝓤 H A W w32) r2 _ i2 $ done !))))))))))))))))))))))))))))))))))))
+        (λ y1. let b1 : r3 ≡ false = is-no (r3) y1 in assigns-last ! (of-opd ! (load ! (from ! (stop !)) (look ! 29 refl))) (from ! (stop !)) (init ! 22 refl (uint-lawful 𝓤 H A W w32 .typed r2 _ i2 .0)) $
         exec ! C Λ ((tyInt w32, l₀) ∷ (tyInt w64, l₁) ∷ (tyInt w64, l₂) ∷ (sliceTy (tyRef (named 0) imm (pointee (mEntry.the-row .written))), l₃) ∷ (sliceTy (tyRef (named 1) imm (tyInt w64)), l₄) ∷ (sliceTy (tyRef (named 2) mut (tyInt w64)), l₅) ∷ (sliceTy (tyRef (named 3) mut (tyInt w64)), l₆) ∷ (tyBool, l₇) ∷ (tyInt w32, l₈) ∷ (tyBool, l₉) ∷ (tyInt w64, l₁₀) ∷ (tyInt w64, l₁₁) ∷ (tyInt w64, l₁₂) ∷ (tyInt w64, l₁₃) ∷ (tyBool, l₁₄) ∷ (tyInt w32, l₁₅) ∷ (tyUnit, l₁₆) ∷ (tyRef erased mut (tyInt w64), l₁₇) ∷ (sliceTy (tyRef erased mut (tyInt w64)), l₁₈) ∷ (tyRef erased mut (tyInt w64), l₁₉) ∷ (sliceTy (tyRef erased mut (tyInt w64)), l₂₀) ∷ (tyRef erased mut (tyInt w64), l₂₁) ∷ (sliceTy (tyRef erased mut (tyInt w64)), l₂₂) ∷ (tyRef erased mut (tyInt w64), l₂₃) ∷ (sliceTy (tyRef erased mut (tyInt w64)), l₂₄) ∷ (tyRef erased mut (tyInt w64), l₂₅) ∷ (sliceTy (tyRef erased mut (tyInt w64)), l₂₆) ∷ []) Mir.t-10 (atRet ((tyInt w32, l₀) ∷ (tyInt w64, l₁) ∷ (tyInt w64, l₂) ∷ (sliceTy (tyRef (named 0) imm (pointee (mEntry.the-row .written))), l₃) ∷ (sliceTy (tyRef (named 1) imm (tyInt w64)), l₄) ∷ (sliceTy (tyRef (named 2) mut (tyInt w64)), l₅) ∷ (sliceTy (tyRef (named 3) mut (tyInt w64)), l₆) ∷ (tyBool, l₇) ∷ (tyInt w32, l₈) ∷ (tyBool, l₉) ∷ (tyInt w64, l₁₀) ∷ (tyInt w64, l₁₁) ∷ (tyInt w64, l₁₂) ∷ (tyInt w64, l₁₃) ∷ (tyBool, l₁₄) ∷ (tyInt w32, l₁₅) ∷ (tyUnit, l₁₆) ∷ (tyRef erased mut (tyInt w64), l₁₇) ∷ (sliceTy (tyRef erased mut (tyInt w64)), l₁₈) ∷ (tyRef erased mut (tyInt w64), l₁₉) ∷ (sliceTy (tyRef erased mut (tyInt w64)), l₂₀) ∷ (tyRef erased mut (tyInt w64), l₂₁) ∷ (sliceTy (tyRef erased mut (tyInt w64)), l₂₂) ∷ (tyRef erased mut (tyInt w64), l₂₃) ∷ (sliceTy (tyRef erased mut (tyInt w64)), l₂₄) ∷ (tyRef erased mut (tyInt w64), l₂₅) ∷ (sliceTy (tyRef erased mut (tyInt w64)), l₂₆) ∷ []) Post) $
-        assigns ! (of-opd ! (load ! (from ! (stop !)) (look ! 51 refl))) (from ! (stop !)) (init ! 81 refl (uint-lawful 𝓤 H A W w32 .typed r2 _ i2 .0)) $
-        returns ! (look ! 81 refl) $ forget ! 81 refl $ forget ! 79 refl $ forget ! 77 refl $ forget ! 75 refl $ forget ! 73 refl $ forget ! 71 refl $ forget ! 69 refl $ forget ! 67 refl $ forget ! 65 refl $ forget ! 63 refl $ forget ! 61 refl $ forget ! 59 refl $ forget ! 57 refl $ forget ! 55 refl $ forget ! 53 refl $ forget ! 51 refl $
-        move ! (81 ∷ 82 ∷ []) $ free1 ! $ move ! (79 ∷ 80 ∷ []) $ free1 ! $ move ! (77 ∷ 78 ∷ []) $ free1 ! $ move ! (75 ∷ 76 ∷ []) $ free1 ! $ move ! (73 ∷ 74 ∷ []) $ free1 ! $ move ! (71 ∷ 72 ∷ []) $ free1 ! $ move ! (69 ∷ 70 ∷ []) $ free1 ! $ move ! (67 ∷ 68 ∷ []) $ free1 ! $ move ! (65 ∷ 66 ∷ []) $ free1 ! $ move ! (63 ∷ 64 ∷ []) $ free1 ! $ move ! (61 ∷ 62 ∷ []) $ free1 ! $ move ! (59 ∷ 60 ∷ []) $ free1 ! $ move ! (57 ∷ 58 ∷ []) $ free1 ! $ move ! (55 ∷ 56 ∷ []) $ free1 ! $ move ! (53 ∷ 54 ∷ []) $ free1 ! $ move ! (51 ∷ 52 ∷ []) $ free1 ! $ move ! (49 ∷ 50 ∷ []) $ free1 ! $ move ! (47 ∷ 48 ∷ []) $ free1 ! $ move ! (45 ∷ 46 ∷ []) $ free1 ! $ move ! (43 ∷ 44 ∷ []) $ free1 ! $ move ! (41 ∷ 42 ∷ []) $ free1 ! $ move ! (39 ∷ 40 ∷ []) $ free1 ! $ move ! (37 ∷ 38 ∷ []) $ free1 ! $ move ! (35 ∷ 36 ∷ []) $ free1 ! $ move ! (33 ∷ 34 ∷ []) $ free1 ! $ move ! (31 ∷ 32 ∷ []) $ free1 ! $ move ! (29 ∷ 30 ∷ []) $ free1 ! $ free0 ! $
+        assigns ! (of-opd ! (load ! (from ! (stop !)) (look ! 22 refl))) (from ! (stop !)) (init ! 37 refl (uint-lawful 𝓤 H A W w32 .typed r2 _ i2 .0)) $
+        tidy W (_ ∷ _ ∷ _ ∷ _ ∷ _ ∷ _ ∷ _ ∷ _ ∷ _ ∷ _ ∷ _ ∷ _ ∷ _ ∷ _ ∷ _ ∷ _ ∷ _ ∷ _ ∷ _ ∷ _ ∷ _ ∷ _ ∷ _ ∷ _ ∷ _ ∷ _ ∷ _ ∷ _ ∷ _ ∷ _ ∷ _ ∷ _ ∷ _ ∷ _ ∷ _ ∷ _ ∷ _ ∷ _ ∷ []) $ returns ! (look ! 37 refl) $ move ! (10 ∷ []) $ use1 W (dies ((tyInt w32, l₀) ∷ (tyInt w64, l₁) ∷ (tyInt w64, l₂) ∷ (sliceTy (tyRef (named 0) imm (pointee (mEntry.the-row .written))), l₃) ∷ (sliceTy (tyRef (named 1) imm (tyInt w64)), l₄) ∷ (sliceTy (tyRef (named 2) mut (tyInt w64)), l₅) ∷ (sliceTy (tyRef (named 3) mut (tyInt w64)), l₆) ∷ (tyBool, l₇) ∷ (tyInt w32, l₈) ∷ (tyBool, l₉) ∷ (tyInt w64, l₁₀) ∷ (tyInt w64, l₁₁) ∷ (tyInt w64, l₁₂) ∷ (tyInt w64, l₁₃) ∷ (tyBool, l₁₄) ∷ (tyInt w32, l₁₅) ∷ (tyUnit, l₁₆) ∷ (tyRef erased mut (tyInt w64), l₁₇) ∷ (sliceTy (tyRef erased mut (tyInt w64)), l₁₈) ∷ (tyRef erased mut (tyInt w64), l₁₉) ∷ (sliceTy (tyRef erased mut (tyInt w64)), l₂₀) ∷ (tyRef erased mut (tyInt w64), l₂₁) ∷ (sliceTy (tyRef erased mut (tyInt w64)), l₂₂) ∷ (tyRef erased mut (tyInt w64), l₂₃) ∷ (sliceTy (tyRef erased mut (tyInt w64)), l₂₄) ∷ (tyRef erased mut (tyInt w64), l₂₅) ∷ (sliceTy (tyRef erased mut (tyInt w64)), l₂₆) ∷ []) (‵ ftrue)) die $ free-all ! 10 ((tyInt w32, l₀) ∷ (tyInt w64, l₁) ∷ (tyInt w64, l₂) ∷ (sliceTy (tyRef (named 0) imm (pointee (mEntry.the-row .written))), l₃) ∷ (sliceTy (tyRef (named 1) imm (tyInt w64)), l₄) ∷ (sliceTy (tyRef (named 2) mut (tyInt w64)), l₅) ∷ (sliceTy (tyRef (named 3) mut (tyInt w64)), l₆) ∷ (tyBool, l₇) ∷ (tyInt w32, l₈) ∷ (tyBool, l₉) ∷ (tyInt w64, l₁₀) ∷ (tyInt w64, l₁₁) ∷ (tyInt w64, l₁₂) ∷ (tyInt w64, l₁₃) ∷ (tyBool, l₁₄) ∷ (tyInt w32, l₁₅) ∷ (tyUnit, l₁₆) ∷ (tyRef erased mut (tyInt w64), l₁₇) ∷ (sliceTy (tyRef erased mut (tyInt w64)), l₁₈) ∷ (tyRef erased mut (tyInt w64), l₁₉) ∷ (sliceTy (tyRef erased mut (tyInt w64)), l₂₀) ∷ (tyRef erased mut (tyInt w64), l₂₁) ∷ (sliceTy (tyRef erased mut (tyInt w64)), l₂₂) ∷ (tyRef erased mut (tyInt w64), l₂₃) ∷ (sliceTy (tyRef erased mut (tyInt w64)), l₂₄) ∷ (tyRef erased mut (tyInt w64), l₂₅) ∷ (sliceTy (tyRef erased mut (tyInt w64)), l₂₆) ∷ []) (kept _ ∷ kept _ ∷ kept _ ∷ kept _ ∷ kept _ ∷ kept _ ∷ kept _ ∷ kept _ ∷ kept _ ∷ kept _ ∷ kept _ ∷ kept _ ∷ kept _ ∷ kept _ ∷ kept _ ∷ kept _ ∷ bare ∷ bare ∷ bare ∷ bare ∷ bare ∷ bare ∷ bare ∷ bare ∷ bare ∷ bare ∷ bare ∷ []) refl $
         suffices ! _ (ends-at 𝓤 H A f.ended stayed (f.clauses 𝓤 H A at-mem run) W (((κ₀, (κ₁, (κ₂, (κ₃, tt)))), (q₀, (q₁, (q₂, (q₃, tt)))), tt, a, at), tt) z2 r2 (tt, (tt, (tt, (tt, (ys5, (ys6, tt)))))) (tt, (tt, (tt, (tt, (refl, (refl, tt))))))) $ says ! (table-back n1 n2 (s3 .now) (s4 .now) ys5 ys6 r1 r3 r2 e1 e2 e3 b1) $
-        nothing ! $ move ! (21 ∷ 0 ∷ []) $ join ! $ move ! (21 ∷ 0 ∷ []) $ join ! $ move ! (21 ∷ 0 ∷ []) $ join ! $ move ! (14 ∷ 0 ∷ []) $ join ! $ nothing ! $ move ! (22 ∷ 0 ∷ []) $ fjoin ! $ move ! (22 ∷ 0 ∷ []) $ fjoin ! $ move ! (22 ∷ 0 ∷ []) $ fjoin ! $ move ! (19 ∷ 0 ∷ []) $ fjoin ! $ move ! (21 ∷ 0 ∷ []) $ fjoin ! $ move ! (21 ∷ 0 ∷ []) $ fjoin ! $ keep ! (1 ∷ 0 ∷ []) $ frame ! $ frame ! $ owned ! u32 (Is u32) (uint-makes 𝓤 H A W w32) r2 _ i2 $ done !)
-        ))))))))))))))))))))))))))))))))))))))))))
+        nothing ! $ move ! (3 ∷ 0 ∷ []) $ join ! $ move ! (3 ∷ 0 ∷ []) $ join ! $ move ! (3 ∷ 0 ∷ []) $ join ! $ move ! (1 ∷ 0 ∷ []) $ join ! $ nothing ! $ move ! (3 ∷ 0 ∷ []) $ fjoin ! $ move ! (3 ∷ 0 ∷ []) $ fjoin ! $ move ! (3 ∷ 0 ∷ []) $ fjoin ! $ move ! (2 ∷ 0 ∷ []) $ fjoin ! $ move ! (2 ∷ 0 ∷ []) $ fjoin ! $ move ! (2 ∷ 0 ∷ []) $ fjoin ! $ keep ! (1 ∷ 0 ∷ []) $ frame ! $ frame ! $ owned ! u32 (Is u32) (uint-makes 𝓤 H A W w32) r2 _ i2 $ done !)
+        )))))))))))))))))))))))))))))))))))))))))))
 
 module _ {M : Type 1} (𝓤 : URA M) (H : Heap 𝓤) (A : Atoms 𝓤) (W : Given 𝓤 H A) (mem : Memory → SProp 𝓤) (run : Routine → Fun 𝓤) where
   walks : (C : Calls 𝓤 H) (Λ : Loops 𝓤 H) → FmC 𝓤 H (W .laws) C → Triple 𝓤 (C #g1) (Callee-g1 𝓤 H A mem run) → Triple 𝓤 (C #g2) (Callee-g2 𝓤 H A mem run) → Triple 𝓤 (C #g3) (Callee-g3 𝓤 H A mem run) → Triple 𝓤 (C #g4) (Callee-g4 𝓤 H A mem run) → Triple 𝓤 (C #g5) (Callee-g5 𝓤 H A mem run) → Triple 𝓤 (C #g6) (Callee-g6 𝓤 H A mem run) → Walks 𝓤 H A f.ended stayed (WpFn 𝓤 H C Λ code.function) (f.clauses 𝓤 H A mem run)

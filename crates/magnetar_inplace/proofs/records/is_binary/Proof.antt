@@ -20,7 +20,7 @@ use contract.Monad.{Fun, fact}
 use contract.Running.{givenOf, tables, tablesOf}
 use types.Kit.{Given, ‵, raw, _⊛_, ⋆, some, later, _$_, _∵_, !, qed, by, move, keep, drop, use1, use2, use3, split, join, pick, fsplit, fsplit3, fjoin, fjoin3, feqL, feqI, rewrite, atRet, suffices, frame, await, done}
 use types.Part.{agg, whole, sub, look-in}
-use types.Run.{look, look-raw, init, store, store-raw, forget, stop, hop, fld, from, load, unit-lit, of-opd, addr, and-then, no-more, lit, true-lit, false-lit, assigns, assigns-last, land, land-last, first, branches, skips, exec, returns, enter, alloc1, alloc0, params1, pass1, pass0, free1, free0}
+use types.Run.{look, look-raw, init, store, store-raw, stop, hop, fld, from, load, unit-lit, of-opd, addr, and-then, no-more, lit, true-lit, false-lit, assigns, assigns-last, land, land-last, first, branches, skips, exec, returns, enter, alloc0, params1, pass1, pass0}
 use types.Tokens.{lft-new, lft-end}
 use sound.WpLaws.{FmC, fmOf, WpFn-mono}
 use denote.RattleType.{owns}
@@ -53,6 +53,7 @@ use Rattle.magnetar_inplace.proofs.records.Entry.Laws as lEntry
 use Rattle.magnetar_r1cs.specs.declared.r1cs.Flag.{Flag}
 use Rattle.magnetar_r1cs.proofs.r1cs.Flag as mFlag
 use Rattle.magnetar_r1cs.proofs.r1cs.Flag.Laws as lFlag
+use Rattle.magnetar_inplace.proofs.Locals.{tidy, bare, kept, dies, alloc, hide, free-all}
 use Rattle.magnetar_inplace.proofs.records.all_inside as g1
 use Rattle.magnetar_inplace.proofs.records.all_inside.Symbol as g1-def
 use Rattle.magnetar_inplace.proofs.records.all_inside.Symbol.{name as #g1}
@@ -130,37 +131,36 @@ module _ {M : Type 1} (𝓤 : URA M) (H : Heap 𝓤) (A : Atoms 𝓤) (W : Given
     walk : ent 𝓤 (onEntry 𝓤 H A f.signature (κ₀, tt) (q₀, tt) a at) (WpFn 𝓤 H C Λ code.function (v1 ∷ v2 ∷ v3 ∷ []) Post)
     walk =
         qed W ((‵ (flft κ₀ q₀) ⊛ ‵ ftrue) ∷ ‵ (owns (u64 ∷ u64 ∷ ShrSlice (named 0) κ₀ mEntry.the-row ∷ []) a at) ∷ []) ∵ enter ! C Λ code.function (v1 ∷ v2 ∷ v3 ∷ []) _ $
-        alloc1 ! (λ l₀. alloc1 ! (λ l₁. alloc1 ! (λ l₂. alloc1 ! (λ l₃. alloc1 ! (λ l₄. alloc1 ! (λ l₅. alloc1 ! (λ l₆. alloc1 ! (λ l₇. alloc0 ! $ params1 ! $ pass1 ! (init ! 12 refl (uint-lawful 𝓤 H A W w64 .typed n1 _ w1 .0)) $ pass1 ! (init ! 10 refl (uint-lawful 𝓤 H A W w64 .typed n2 _ w2 .0)) $ pass1 ! (init ! 8 refl (shr-slice-lawful 𝓤 H A W (named 0) κ₀ mEntry.the-row .typed s3 (v3 ∷ []) w3 .0)) $ pass0 ! $
-        move ! (17 ∷ []) $ fsplit ! $ move ! (1 ∷ []) $ fsplit ! $ move ! (1 ∷ []) $ fsplit ! $ move ! (1 ∷ []) $ move ! (20 ∷ []) $ split ! $ move ! (1 ∷ []) $
-        move ! (3 ∷ []) $ use1 W (‵ (O3) ⊛ ‵ (O3)) (shr-slice-copy 𝓤 H A W (named 0) κ₀ mEntry.the-row .twice s3 (v3 ∷ [])) $ split ! $ nothing ! $ move ! (4 ∷ 0 ∷ []) $ join ! $ join ! $
+        nothing ! $ alloc ! (λ l₀. alloc ! (λ l₁. alloc ! (λ l₂. alloc ! (λ l₃. alloc ! (λ l₄. alloc ! (λ l₅. alloc ! (λ l₆. alloc ! (λ l₇. alloc0 ! $ hide ! (λ died die. params1 ! $ pass1 ! (init ! 7 refl (uint-lawful 𝓤 H A W w64 .typed n1 _ w1 .0)) $ pass1 ! (init ! 6 refl (uint-lawful 𝓤 H A W w64 .typed n2 _ w2 .0)) $ pass1 ! (init ! 5 refl (shr-slice-lawful 𝓤 H A W (named 0) κ₀ mEntry.the-row .typed s3 (v3 ∷ []) w3 .0)) $ pass0 ! $
+        move ! (10 ∷ []) $ fsplit ! $ move ! (1 ∷ []) $ fsplit ! $ move ! (1 ∷ []) $ fsplit ! $ move ! (1 ∷ []) $ drop ! $ move ! (12 ∷ []) $ split ! $ move ! (1 ∷ []) $ drop ! $ tidy W (_ ∷ _ ∷ _ ∷ _ ∷ _ ∷ _ ∷ _ ∷ _ ∷ _ ∷ _ ∷ _ ∷ _ ∷ _ ∷ []) $
+        move ! (1 ∷ []) $ use1 W (‵ (O3) ⊛ ‵ (O3)) (shr-slice-copy 𝓤 H A W (named 0) κ₀ mEntry.the-row .twice s3 (v3 ∷ [])) $ split ! $ tidy W (_ ∷ _ ∷ _ ∷ _ ∷ _ ∷ _ ∷ _ ∷ _ ∷ _ ∷ _ ∷ _ ∷ _ ∷ _ ∷ _ ∷ []) $ nothing ! $ move ! (3 ∷ 0 ∷ []) $ join ! $ join ! $
         -- call 1
         use1 W (raw (Callee-g1 𝓤 H A at-mem run .pre (((κ₀, tt), (q₀, tt), tt, (s3, (n1, (n2, tt))), (v3 ∷ [], (u1 ∷ [], (u2 ∷ [], tt)))), tt))) (qed W ((‵ (flft κ₀ q₀) ⊛ ‵ ftrue) ∷ ‵ (ShrSlice (named 0) κ₀ mEntry.the-row .own s3 (v3 ∷ [])) ∷ []) ∵ nothing ! $ owned ! u64 (Is u64) (uint-makes 𝓤 H A W w64) (n2) _ w2 $ fjoin ! $ owned ! u64 (Is u64) (uint-makes 𝓤 H A W w64) (n1) _ w1 $ fjoin ! $ move ! (2 ∷ 0 ∷ []) $ fjoin ! $ move ! (1 ∷ 0 ∷ []) $ join ! $ nothing ! $ move ! (1 ∷ 0 ∷ []) $ frame ! $ done !) $
-        calls-at ! fm (Callee-g1 𝓤 H A at-mem run) known-g1 (((κ₀, tt), (q₀, tt), tt, (s3, (n1, (n2, tt))), (v3 ∷ [], (u1 ∷ [], (u2 ∷ [], tt)))), tt) (and-then ! (load ! (from ! (stop !)) (look ! 14 refl)) (and-then ! (load ! (from ! (stop !)) (look ! 18 refl)) (and-then ! (load ! (from ! (stop !)) (look ! 16 refl)) (no-more !)))) (λ z1.
+        calls-at ! fm (Callee-g1 𝓤 H A at-mem run) known-g1 (((κ₀, tt), (q₀, tt), tt, (s3, (n1, (n2, tt))), (v3 ∷ [], (u1 ∷ [], (u2 ∷ [], tt)))), tt) (and-then ! (load ! (from ! (stop !)) (look ! 9 refl)) (and-then ! (load ! (from ! (stop !)) (look ! 11 refl)) (and-then ! (load ! (from ! (stop !)) (look ! 10 refl)) (no-more !)))) (λ z1.
         use1 W (later (some (λ (r1 : Bool). ((‵ (flft κ₀ q₀) ⊛ ‵ ftrue) ⊛ ‵ (bool .own r1 (z1 ∷ []))) ⊛ some (λ (ws : Lasts g1.ended (κ₀, tt) (s3, (n1, (n2, tt)))). ‵ (lasts g1.ended (κ₀, tt) (s3, (n1, (n2, tt))) ws) ⊛ raw (g1.clauses 𝓤 H A at-mem run (κ₀, tt) (s3, (n1, (n2, tt))) .ensures tt r1 (atExit g1.ended (κ₀, tt) (s3, (n1, (n2, tt))) ws)))))) (id⊢ 𝓤 _) $ await ! tt $ pick ! (λ r1. split ! $ move ! (1 ∷ []) $ pick ! (λ ws1. split ! $ move ! (1 ∷ []) $ heard ! _ (λ e1.
-        fsplit ! $ move ! (1 ∷ []) $ fsplit ! $ move ! (1 ∷ []) $ fsplit ! $ move ! (4 ∷ []) $ split ! $ move ! (1 ∷ []) $ peeks ! bool (Is bool) (shows 𝓤 H A bool) r1 (z1 ∷ []) (λ i1. drop ! $ land ! (from ! (stop !)) (init ! 16 refl (bool-lawful 𝓤 H A W .typed r1 _ i1 .0)) $
-        split ! $ move ! (1 ∷ []) $ assigns ! (of-opd ! (load ! (from ! (fld ! refl (stop !))) (look-in ! 19 (sub ! 1 refl (whole !))))) (from ! (stop !)) (init ! 11 refl (tt, record { fits = (w3 .0 .1 .0) })) $
-        nothing ! $
+        drop ! $ split ! $ move ! (1 ∷ []) $ peeks ! bool (Is bool) (shows 𝓤 H A bool) r1 (z1 ∷ []) (λ i1. drop ! $ land ! (from ! (stop !)) (init ! 8 refl (bool-lawful 𝓤 H A W .typed r1 _ i1 .0)) $
+        tidy W (_ ∷ _ ∷ _ ∷ _ ∷ _ ∷ _ ∷ _ ∷ _ ∷ _ ∷ _ ∷ _ ∷ _ ∷ _ ∷ []) $ split ! $ move ! (1 ∷ []) $ drop ! $ assigns ! (of-opd ! (load ! (from ! (fld ! refl (stop !))) (look-in ! 9 (sub ! 1 refl (whole !))))) (from ! (stop !)) (init ! 5 refl (tt, record { fits = (w3 .0 .1 .0) })) $
+        tidy W (_ ∷ _ ∷ _ ∷ _ ∷ _ ∷ _ ∷ _ ∷ _ ∷ _ ∷ _ ∷ _ ∷ _ ∷ _ ∷ []) $ nothing ! $
         -- call 2
         use1 W (raw (Callee-g2 𝓤 H A at-mem run .pre ((tt, tt, tt, (n1, (n2, ((length (s3 .now)), (r1, tt)))), (u1 ∷ [], (u2 ∷ [], ((vint w64 (length (s3 .now))) ∷ [], (z1 ∷ [], tt))))), tt))) (qed W ((‵ ftrue) ∷ []) ∵ nothing ! $ owned ! bool (Is bool) (bool-makes 𝓤 H A W) (r1) _ i1 $ fjoin ! $ owned ! u64 (Is u64) (uint-makes 𝓤 H A W w64) ((length (s3 .now))) _ (refl, (w3 .0 .1 .0)) $ fjoin ! $ owned ! u64 (Is u64) (uint-makes 𝓤 H A W w64) (n2) _ w2 $ fjoin ! $ owned ! u64 (Is u64) (uint-makes 𝓤 H A W w64) (n1) _ w1 $ fjoin ! $ move ! (1 ∷ 0 ∷ []) $ join ! $ nothing ! $ move ! (1 ∷ 0 ∷ []) $ frame ! $ done !) $
-        calls-at ! fm (Callee-g2 𝓤 H A at-mem run) known-g2 ((tt, tt, tt, (n1, (n2, ((length (s3 .now)), (r1, tt)))), (u1 ∷ [], (u2 ∷ [], ((vint w64 (length (s3 .now))) ∷ [], (z1 ∷ [], tt))))), tt) (and-then ! (load ! (from ! (stop !)) (look ! 24 refl)) (and-then ! (load ! (from ! (stop !)) (look ! 22 refl)) (and-then ! (load ! (from ! (stop !)) (look ! 12 refl)) (and-then ! (load ! (from ! (stop !)) (look ! 18 refl)) (no-more !))))) (λ z2.
+        calls-at ! fm (Callee-g2 𝓤 H A at-mem run) known-g2 ((tt, tt, tt, (n1, (n2, ((length (s3 .now)), (r1, tt)))), (u1 ∷ [], (u2 ∷ [], ((vint w64 (length (s3 .now))) ∷ [], (z1 ∷ [], tt))))), tt) (and-then ! (load ! (from ! (stop !)) (look ! 12 refl)) (and-then ! (load ! (from ! (stop !)) (look ! 11 refl)) (and-then ! (load ! (from ! (stop !)) (look ! 6 refl)) (and-then ! (load ! (from ! (stop !)) (look ! 9 refl)) (no-more !))))) (λ z2.
         use1 W (later (some (λ (r2 : ℕ). ((‵ ftrue) ⊛ ‵ (u32 .own r2 (z2 ∷ []))) ⊛ some (λ (ws : Lasts g2.ended tt (n1, (n2, ((length (s3 .now)), (r1, tt))))). ‵ (lasts g2.ended tt (n1, (n2, ((length (s3 .now)), (r1, tt)))) ws) ⊛ raw (g2.clauses 𝓤 H A at-mem run tt (n1, (n2, ((length (s3 .now)), (r1, tt)))) .ensures tt r2 (atExit g2.ended tt (n1, (n2, ((length (s3 .now)), (r1, tt)))) ws)))))) (id⊢ 𝓤 _) $ await ! tt $ pick ! (λ r2. split ! $ move ! (1 ∷ []) $ pick ! (λ ws2. split ! $ move ! (1 ∷ []) $ heard ! _ (λ e2.
-        fsplit ! $ move ! (1 ∷ []) $ fsplit ! $ move ! (1 ∷ []) $ fsplit ! $ move ! (1 ∷ []) $ fsplit ! $ move ! (5 ∷ []) $ split ! $ move ! (1 ∷ []) $ peeks ! u32 (Is u32) (shows 𝓤 H A u32) r2 (z2 ∷ []) (λ i2. drop ! $ land ! (from ! (stop !)) (init ! 21 refl (uint-lawful 𝓤 H A W w32 .typed r2 _ i2 .0)) $
-        move ! (12 ∷ []) $ use1 W (‵ (O3) ⊛ ‵ (O3)) (shr-slice-copy 𝓤 H A W (named 0) κ₀ mEntry.the-row .twice s3 (v3 ∷ [])) $ split ! $ nothing ! $ move ! (10 ∷ 0 ∷ []) $ join ! $ join ! $
+        drop ! $ split ! $ move ! (1 ∷ []) $ peeks ! u32 (Is u32) (shows 𝓤 H A u32) r2 (z2 ∷ []) (λ i2. drop ! $ land ! (from ! (stop !)) (init ! 8 refl (uint-lawful 𝓤 H A W w32 .typed r2 _ i2 .0)) $
+        tidy W (_ ∷ _ ∷ _ ∷ _ ∷ _ ∷ _ ∷ _ ∷ _ ∷ _ ∷ _ ∷ _ ∷ _ ∷ _ ∷ _ ∷ []) $ drop ! $ move ! (1 ∷ []) $ use1 W (‵ (O3) ⊛ ‵ (O3)) (shr-slice-copy 𝓤 H A W (named 0) κ₀ mEntry.the-row .twice s3 (v3 ∷ [])) $ split ! $ tidy W (_ ∷ _ ∷ _ ∷ _ ∷ _ ∷ _ ∷ _ ∷ _ ∷ _ ∷ _ ∷ _ ∷ _ ∷ _ ∷ _ ∷ []) $ nothing ! $ move ! (3 ∷ 0 ∷ []) $ join ! $ join ! $
         -- call 3
         use1 W (raw (Callee-g3 𝓤 H A at-mem run .pre (((κ₀, tt), (q₀, tt), tt, (s3, tt), (v3 ∷ [], tt)), tt))) (qed W ((‵ (flft κ₀ q₀) ⊛ ‵ ftrue) ∷ ‵ (ShrSlice (named 0) κ₀ mEntry.the-row .own s3 (v3 ∷ [])) ∷ []) ∵ nothing ! $ move ! (2 ∷ 0 ∷ []) $ fjoin ! $ move ! (1 ∷ 0 ∷ []) $ join ! $ nothing ! $ move ! (1 ∷ 0 ∷ []) $ frame ! $ done !) $
-        calls-at ! fm (Callee-g3 𝓤 H A at-mem run) known-g3 (((κ₀, tt), (q₀, tt), tt, (s3, tt), (v3 ∷ [], tt)), tt) (and-then ! (load ! (from ! (stop !)) (look ! 25 refl)) (no-more !)) (λ z3.
+        calls-at ! fm (Callee-g3 𝓤 H A at-mem run) known-g3 (((κ₀, tt), (q₀, tt), tt, (s3, tt), (v3 ∷ [], tt)), tt) (and-then ! (load ! (from ! (stop !)) (look ! 9 refl)) (no-more !)) (λ z3.
         use1 W (later (some (λ (r3 : Bool). ((‵ (flft κ₀ q₀) ⊛ ‵ ftrue) ⊛ ‵ (bool .own r3 (z3 ∷ []))) ⊛ some (λ (ws : Lasts g3.ended (κ₀, tt) (s3, tt)). ‵ (lasts g3.ended (κ₀, tt) (s3, tt) ws) ⊛ raw (g3.clauses 𝓤 H A at-mem run (κ₀, tt) (s3, tt) .ensures tt r3 (atExit g3.ended (κ₀, tt) (s3, tt) ws)))))) (id⊢ 𝓤 _) $ await ! tt $ pick ! (λ r3. split ! $ move ! (1 ∷ []) $ pick ! (λ ws3. split ! $ move ! (1 ∷ []) $ heard ! _ (λ e3.
-        fsplit ! $ move ! (2 ∷ []) $ split ! $ move ! (1 ∷ []) $ peeks ! bool (Is bool) (shows 𝓤 H A bool) r3 (z3 ∷ []) (λ i3. drop ! $ land ! (from ! (stop !)) (init ! 21 refl (bool-lawful 𝓤 H A W .typed r3 _ i3 .0)) $
-        split ! $ move ! (1 ∷ []) $ nothing ! $
+        drop ! $ split ! $ move ! (1 ∷ []) $ peeks ! bool (Is bool) (shows 𝓤 H A bool) r3 (z3 ∷ []) (λ i3. drop ! $ land ! (from ! (stop !)) (init ! 6 refl (bool-lawful 𝓤 H A W .typed r3 _ i3 .0)) $
+        tidy W (_ ∷ _ ∷ _ ∷ _ ∷ _ ∷ _ ∷ _ ∷ _ ∷ _ ∷ _ ∷ _ ∷ _ ∷ _ ∷ []) $ split ! $ move ! (1 ∷ []) $ drop ! $ tidy W (_ ∷ _ ∷ _ ∷ _ ∷ _ ∷ _ ∷ _ ∷ _ ∷ _ ∷ _ ∷ _ ∷ _ ∷ _ ∷ []) $ nothing ! $
         -- call 4
         use1 W (raw (Callee-g4 𝓤 H A at-mem run .pre ((tt, tt, tt, (r2, (r3, tt)), (z2 ∷ [], (z3 ∷ [], tt))), tt))) (qed W ((‵ ftrue) ∷ []) ∵ nothing ! $ owned ! bool (Is bool) (bool-makes 𝓤 H A W) (r3) _ i3 $ fjoin ! $ owned ! u32 (Is u32) (uint-makes 𝓤 H A W w32) (r2) _ i2 $ fjoin ! $ move ! (1 ∷ 0 ∷ []) $ join ! $ nothing ! $ move ! (1 ∷ 0 ∷ []) $ frame ! $ done !) $
-        calls-at ! fm (Callee-g4 𝓤 H A at-mem run) known-g4 ((tt, tt, tt, (r2, (r3, tt)), (z2 ∷ [], (z3 ∷ [], tt))), tt) (and-then ! (load ! (from ! (stop !)) (look ! 25 refl)) (and-then ! (load ! (from ! (stop !)) (look ! 23 refl)) (no-more !))) (λ z4.
+        calls-at ! fm (Callee-g4 𝓤 H A at-mem run) known-g4 ((tt, tt, tt, (r2, (r3, tt)), (z2 ∷ [], (z3 ∷ [], tt))), tt) (and-then ! (load ! (from ! (stop !)) (look ! 8 refl)) (and-then ! (load ! (from ! (stop !)) (look ! 7 refl)) (no-more !))) (λ z4.
         use1 W (later (some (λ (r4 : Flag). ((‵ ftrue) ⊛ ‵ (mFlag.the-row .own r4 (z4 ∷ []))) ⊛ some (λ (ws : Lasts g4.ended tt (r2, (r3, tt))). ‵ (lasts g4.ended tt (r2, (r3, tt)) ws) ⊛ raw (g4.clauses 𝓤 H A at-mem run tt (r2, (r3, tt)) .ensures tt r4 (atExit g4.ended tt (r2, (r3, tt)) ws)))))) (id⊢ 𝓤 _) $ await ! tt $ pick ! (λ r4. split ! $ move ! (1 ∷ []) $ pick ! (λ ws4. split ! $ move ! (1 ∷ []) $ heard ! _ (λ e4.
-        fsplit ! $ move ! (1 ∷ []) $ fsplit ! $ move ! (3 ∷ []) $ split ! $ move ! (1 ∷ []) $ peeks ! mFlag.the-row (Is mFlag.the-row) (shows 𝓤 H A mFlag.the-row) r4 (z4 ∷ []) (λ i4. drop ! $ land ! (from ! (stop !)) (init ! 38 refl (EL.lawful mFlag.the-type lFlag.the-laws 𝓤 H A W tt .typed r4 _ i4 .0)) $
-        returns ! (look ! 38 refl) $ forget ! 38 refl $ forget ! 36 refl $ forget ! 34 refl $ forget ! 32 refl $ forget ! 30 refl $ forget ! 28 refl $ forget ! 26 refl $ forget ! 24 refl $
-        move ! (38 ∷ 39 ∷ []) $ free1 ! $ move ! (36 ∷ 37 ∷ []) $ free1 ! $ move ! (34 ∷ 35 ∷ []) $ free1 ! $ move ! (32 ∷ 33 ∷ []) $ free1 ! $ move ! (30 ∷ 31 ∷ []) $ free1 ! $ move ! (28 ∷ 29 ∷ []) $ free1 ! $ move ! (26 ∷ 27 ∷ []) $ free1 ! $ move ! (24 ∷ 25 ∷ []) $ free1 ! $ free0 ! $
+        drop ! $ split ! $ move ! (1 ∷ []) $ peeks ! mFlag.the-row (Is mFlag.the-row) (shows 𝓤 H A mFlag.the-row) r4 (z4 ∷ []) (λ i4. drop ! $ land ! (from ! (stop !)) (init ! 13 refl (EL.lawful mFlag.the-type lFlag.the-laws 𝓤 H A W tt .typed r4 _ i4 .0)) $
+        tidy W (_ ∷ _ ∷ _ ∷ _ ∷ _ ∷ _ ∷ _ ∷ _ ∷ _ ∷ _ ∷ _ ∷ _ ∷ _ ∷ _ ∷ []) $ drop ! $ tidy W (_ ∷ _ ∷ _ ∷ _ ∷ _ ∷ _ ∷ _ ∷ _ ∷ _ ∷ _ ∷ _ ∷ _ ∷ _ ∷ []) $ returns ! (look ! 12 refl) $ move ! (4 ∷ []) $ use1 W (dies ((lFlag.mir, l₀) ∷ (tyInt w64, l₁) ∷ (tyInt w64, l₂) ∷ (sliceTy (tyRef (named 0) imm (pointee (mEntry.the-row .written))), l₃) ∷ (tyBool, l₄) ∷ (tyInt w32, l₅) ∷ (tyBool, l₆) ∷ (tyInt w64, l₇) ∷ []) (‵ ftrue)) die $ free-all ! 4 ((lFlag.mir, l₀) ∷ (tyInt w64, l₁) ∷ (tyInt w64, l₂) ∷ (sliceTy (tyRef (named 0) imm (pointee (mEntry.the-row .written))), l₃) ∷ (tyBool, l₄) ∷ (tyInt w32, l₅) ∷ (tyBool, l₆) ∷ (tyInt w64, l₇) ∷ []) (kept _ ∷ kept _ ∷ kept _ ∷ kept _ ∷ kept _ ∷ kept _ ∷ kept _ ∷ kept _ ∷ []) refl $
         suffices ! _ (ends-at 𝓤 H A f.ended stayed (f.clauses 𝓤 H A at-mem run) W (((κ₀, tt), (q₀, tt), tt, a, at), tt) z4 r4 (tt, (tt, (tt, tt))) (tt, (tt, (tt, tt)))) $ says ! (binary-ends n1 n2 (s3 .now) r1 r3 r2 (flagged r4) e1 e2 e3 e4) $
-        nothing ! $ move ! (6 ∷ 0 ∷ []) $ join ! $ nothing ! $ move ! (9 ∷ 0 ∷ []) $ fjoin ! $ move ! (22 ∷ 0 ∷ []) $ fjoin ! $ move ! (22 ∷ 0 ∷ []) $ fjoin ! $ keep ! (1 ∷ 0 ∷ []) $ frame ! $ frame ! $ owned ! mFlag.the-row (Is mFlag.the-row) (EL.makes mFlag.the-type lFlag.the-plain 𝓤 H A) r4 _ i4 $ done !))))))))))))))))))))))))))))
+        nothing ! $ move ! (1 ∷ 0 ∷ []) $ join ! $ nothing ! $ move ! (2 ∷ 0 ∷ []) $ fjoin ! $ move ! (2 ∷ 0 ∷ []) $ fjoin ! $ move ! (2 ∷ 0 ∷ []) $ fjoin ! $ keep ! (1 ∷ 0 ∷ []) $ frame ! $ frame ! $ owned ! mFlag.the-row (Is mFlag.the-row) (EL.makes mFlag.the-type lFlag.the-plain 𝓤 H A) r4 _ i4 $ done !)))))))))))))))))))))))))))))
 
 module _ {M : Type 1} (𝓤 : URA M) (H : Heap 𝓤) (A : Atoms 𝓤) (W : Given 𝓤 H A) (mem : Memory → SProp 𝓤) (run : Routine → Fun 𝓤) where
   walks : (C : Calls 𝓤 H) (Λ : Loops 𝓤 H) → FmC 𝓤 H (W .laws) C → Triple 𝓤 (C #g1) (Callee-g1 𝓤 H A mem run) → Triple 𝓤 (C #g2) (Callee-g2 𝓤 H A mem run) → Triple 𝓤 (C #g3) (Callee-g3 𝓤 H A mem run) → Triple 𝓤 (C #g4) (Callee-g4 𝓤 H A mem run) → Walks 𝓤 H A f.ended stayed (WpFn 𝓤 H C Λ code.function) (f.clauses 𝓤 H A mem run)

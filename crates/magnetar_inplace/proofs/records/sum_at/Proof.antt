@@ -20,7 +20,7 @@ use contract.Monad.{Fun, fact}
 use contract.Running.{givenOf, tables, tablesOf}
 use types.Kit.{Given, ‵, raw, _⊛_, ⋆, some, later, _$_, _∵_, !, qed, by, move, keep, drop, use1, use2, use3, split, join, pick, fsplit, fsplit3, fjoin, fjoin3, feqL, feqI, rewrite, atRet, suffices, frame, await, done}
 use types.Part.{agg, whole, sub, look-in}
-use types.Run.{look, look-raw, init, store, store-raw, forget, stop, hop, fld, from, load, unit-lit, of-opd, addr, and-then, no-more, lit, true-lit, false-lit, assigns, assigns-last, land, land-last, first, branches, skips, exec, returns, enter, alloc1, alloc0, params1, pass1, pass0, free1, free0}
+use types.Run.{look, look-raw, init, store, store-raw, stop, hop, fld, from, load, unit-lit, of-opd, addr, and-then, no-more, lit, true-lit, false-lit, assigns, assigns-last, land, land-last, first, branches, skips, exec, returns, enter, alloc0, params1, pass1, pass0}
 use types.Tokens.{lft-new, lft-end}
 use sound.WpLaws.{FmC, fmOf, WpFn-mono}
 use denote.RattleType.{owns}
@@ -53,6 +53,7 @@ use Rattle.magnetar_inplace.proofs.records.Entry.Laws as lEntry
 use Rattle.magnetar_field.specs.declared.gf128.Gf128.{Gf128}
 use Rattle.magnetar_field.proofs.gf128.Gf128 as mGf128
 use Rattle.magnetar_field.proofs.gf128.Gf128.Laws as lGf128
+use Rattle.magnetar_inplace.proofs.Locals.{tidy, bare, kept, dies, alloc, hide, free-all}
 use Rattle.magnetar_inplace.proofs.Again.{LentAgain, lends-again, comes-back}
 use Rattle.magnetar_inplace.proofs.steps.eq_front as g1
 use Rattle.magnetar_inplace.proofs.steps.eq_front.Symbol as g1-def
@@ -175,69 +176,67 @@ module _ {M : Type 1} (𝓤 : URA M) (H : Heap 𝓤) (A : Atoms 𝓤) (W : Given
     walk : ent 𝓤 (onEntry 𝓤 H A f.signature (κ₀, (κ₁, (κ₂, (κ₃, tt)))) (q₀, (q₁, (q₂, (q₃, tt)))) a at) (WpFn 𝓤 H C Λ code.function (v1 ∷ v2 ∷ v3 ∷ v4 ∷ v5 ∷ v6 ∷ v7 ∷ []) Post)
     walk =
         qed W ((‵ (flft κ₀ q₀) ⊛ ‵ (flft κ₁ q₁) ⊛ ‵ (flft κ₂ q₂) ⊛ ‵ (flft κ₃ q₃) ⊛ ‵ ftrue) ∷ ‵ (owns (bool ∷ ShrSlice (named 0) κ₀ mEntry.the-row ∷ u64 ∷ u64 ∷ ShrSlice (named 1) κ₁ u64 ∷ ShrSlice (named 2) κ₂ u64 ∷ MutSlice (named 3) κ₃ u64 ∷ []) a at) ∷ []) ∵ enter ! C Λ code.function (v1 ∷ v2 ∷ v3 ∷ v4 ∷ v5 ∷ v6 ∷ v7 ∷ []) _ $
-        alloc1 ! (λ l₀. alloc1 ! (λ l₁. alloc1 ! (λ l₂. alloc1 ! (λ l₃. alloc1 ! (λ l₄. alloc1 ! (λ l₅. alloc1 ! (λ l₆. alloc1 ! (λ l₇. alloc1 ! (λ l₈. alloc1 ! (λ l₉. alloc1 ! (λ l₁₀. alloc1 ! (λ l₁₁. alloc1 ! (λ l₁₂. alloc1 ! (λ l₁₃. alloc1 ! (λ l₁₄. alloc1 ! (λ l₁₅. alloc1 ! (λ l₁₆. alloc1 ! (λ l₁₇. alloc1 ! (λ l₁₈. alloc1 ! (λ l₁₉. alloc0 ! $ params1 ! $ pass1 ! (init ! 36 refl (bool-lawful 𝓤 H A W .typed n1 _ w1 .0)) $ pass1 ! (init ! 34 refl (shr-slice-lawful 𝓤 H A W (named 0) κ₀ mEntry.the-row .typed s2 (v2 ∷ []) w2 .0)) $ pass1 ! (init ! 32 refl (uint-lawful 𝓤 H A W w64 .typed n3 _ w3 .0)) $ pass1 ! (init ! 30 refl (uint-lawful 𝓤 H A W w64 .typed n4 _ w4 .0)) $ pass1 ! (init ! 28 refl (shr-slice-lawful 𝓤 H A W (named 1) κ₁ u64 .typed s5 (v5 ∷ []) w5 .0)) $ pass1 ! (init ! 26 refl (shr-slice-lawful 𝓤 H A W (named 2) κ₂ u64 .typed s6 (v6 ∷ []) w6 .0)) $ pass1 ! (init ! 24 refl (tt, (tt, (record { fits = room7 .0 }, tt)))) $ pass0 ! $
-        move ! (41 ∷ []) $ fsplit ! $ move ! (1 ∷ []) $ fsplit ! $ move ! (1 ∷ []) $ fsplit ! $ move ! (1 ∷ []) $ fsplit ! $ move ! (1 ∷ []) $ fsplit ! $ move ! (1 ∷ []) $ fsplit ! $ move ! (1 ∷ []) $ fsplit ! $ move ! (1 ∷ []) $ move ! (48 ∷ []) $ split ! $ move ! (1 ∷ []) $ split ! $ move ! (1 ∷ []) $ split ! $ move ! (1 ∷ []) $ split ! $ move ! (1 ∷ []) $
-        assigns ! (of-opd ! (load ! (from ! (stop !)) (look ! 49 refl))) (from ! (stop !)) (init ! 33 refl (bool-lawful 𝓤 H A W .typed n1 _ w1 .0)) $
-        rewrite ! 33 (λ (w : Val). ‵ (fat fullShare tyBool l₉ 0 w)) (ap only w1) refl $ first ! $ branches ! (load ! (from ! (stop !)) (look ! 33 refl))
-        (λ y1. let b1 : n1 ≡ true = is-yes (n1) y1 in assigns ! (addr ! (from ! (fld ! refl (hop ! (look-in ! 37 (sub ! 0 refl (whole !))) (stop !))))) (from ! (stop !)) (init ! 27 refl (tt, tt)) $
-        assigns ! (agg ! (and-then ! (load ! (from ! (stop !)) (look ! 27 refl)) (and-then ! (load ! (from ! (fld ! refl (stop !))) (look-in ! 37 (sub ! 1 refl (whole !)))) (no-more !)))) (from ! (stop !)) (init ! 25 refl (tt, (tt, (record { fits = room7 .0 }, tt)))) $
-        move ! (8 ∷ []) $ use1 W (‵ (O5) ⊛ ‵ (O5)) (shr-slice-copy 𝓤 H A W (named 1) κ₁ u64 .twice s5 (v5 ∷ [])) $ split ! $
-        lft-new ! tt (λ ν1b. move ! (9 ∷ 4 ∷ []) $ use2 W (later (some (λ (δ : GName). ‵ (MutSlice (named 1) (ν1b ∷ []) u64 .own (ref7 δ (ys7)) (v7 ∷ [])) ⊛ ‵ (Lent7 ν1b δ (ys7))))) (lends7 (named 1) ν1b (ys7) (refl)) $ await ! tt $ pick ! (λ δ1b. split ! $ nothing ! $ move ! (3 ∷ 0 ∷ []) $ join ! $ move ! (7 ∷ 0 ∷ []) $ join ! $ move ! (3 ∷ 1 ∷ []) $ join ! $ move ! (1 ∷ 0 ∷ []) $ join ! $
+        nothing ! $ alloc ! (λ l₀. alloc ! (λ l₁. alloc ! (λ l₂. alloc ! (λ l₃. alloc ! (λ l₄. alloc ! (λ l₅. alloc ! (λ l₆. alloc ! (λ l₇. alloc ! (λ l₈. alloc ! (λ l₉. alloc ! (λ l₁₀. alloc ! (λ l₁₁. alloc ! (λ l₁₂. alloc ! (λ l₁₃. alloc ! (λ l₁₄. alloc ! (λ l₁₅. alloc ! (λ l₁₆. alloc ! (λ l₁₇. alloc ! (λ l₁₈. alloc ! (λ l₁₉. alloc0 ! $ hide ! (λ died die. params1 ! $ pass1 ! (init ! 19 refl (bool-lawful 𝓤 H A W .typed n1 _ w1 .0)) $ pass1 ! (init ! 18 refl (shr-slice-lawful 𝓤 H A W (named 0) κ₀ mEntry.the-row .typed s2 (v2 ∷ []) w2 .0)) $ pass1 ! (init ! 17 refl (uint-lawful 𝓤 H A W w64 .typed n3 _ w3 .0)) $ pass1 ! (init ! 16 refl (uint-lawful 𝓤 H A W w64 .typed n4 _ w4 .0)) $ pass1 ! (init ! 15 refl (shr-slice-lawful 𝓤 H A W (named 1) κ₁ u64 .typed s5 (v5 ∷ []) w5 .0)) $ pass1 ! (init ! 14 refl (shr-slice-lawful 𝓤 H A W (named 2) κ₂ u64 .typed s6 (v6 ∷ []) w6 .0)) $ pass1 ! (init ! 13 refl (tt, (tt, (record { fits = room7 .0 }, tt)))) $ pass0 ! $
+        move ! (22 ∷ []) $ fsplit ! $ move ! (1 ∷ []) $ fsplit ! $ move ! (1 ∷ []) $ fsplit ! $ move ! (1 ∷ []) $ fsplit ! $ move ! (1 ∷ []) $ fsplit ! $ move ! (1 ∷ []) $ fsplit ! $ move ! (1 ∷ []) $ fsplit ! $ move ! (1 ∷ []) $ drop ! $ move ! (28 ∷ []) $ split ! $ move ! (1 ∷ []) $ split ! $ move ! (1 ∷ []) $ split ! $ move ! (1 ∷ []) $ split ! $ move ! (1 ∷ []) $ drop ! $ tidy W (_ ∷ _ ∷ _ ∷ _ ∷ _ ∷ _ ∷ _ ∷ _ ∷ _ ∷ _ ∷ _ ∷ _ ∷ _ ∷ _ ∷ _ ∷ _ ∷ _ ∷ _ ∷ _ ∷ _ ∷ _ ∷ _ ∷ _ ∷ _ ∷ _ ∷ _ ∷ _ ∷ _ ∷ _ ∷ _ ∷ _ ∷ _ ∷ []) $
+        assigns ! (of-opd ! (load ! (from ! (stop !)) (look ! 30 refl))) (from ! (stop !)) (init ! 22 refl (bool-lawful 𝓤 H A W .typed n1 _ w1 .0)) $
+        rewrite ! 22 (λ (w : Val). ‵ (fat fullShare tyBool l₉ 0 w)) (ap only w1) refl $ first ! $ branches ! (load ! (from ! (stop !)) (look ! 22 refl))
+        (λ y1. let b1 : n1 ≡ true = is-yes (n1) y1 in assigns ! (addr ! (from ! (fld ! refl (hop ! (look-in ! 24 (sub ! 0 refl (whole !))) (stop !))))) (from ! (stop !)) (init ! 19 refl (tt, tt)) $
+        assigns ! (agg ! (and-then ! (load ! (from ! (stop !)) (look ! 19 refl)) (and-then ! (load ! (from ! (fld ! refl (stop !))) (look-in ! 24 (sub ! 1 refl (whole !)))) (no-more !)))) (from ! (stop !)) (init ! 18 refl (tt, (tt, (record { fits = room7 .0 }, tt)))) $
+        move ! (6 ∷ []) $ use1 W (‵ (O5) ⊛ ‵ (O5)) (shr-slice-copy 𝓤 H A W (named 1) κ₁ u64 .twice s5 (v5 ∷ [])) $ split ! $
+        lft-new ! tt (λ ν1b. move ! (7 ∷ 3 ∷ []) $ use2 W (later (some (λ (δ : GName). ‵ (MutSlice (named 1) (ν1b ∷ []) u64 .own (ref7 δ (ys7)) (v7 ∷ [])) ⊛ ‵ (Lent7 ν1b δ (ys7))))) (lends7 (named 1) ν1b (ys7) (refl)) $ await ! tt $ pick ! (λ δ1b. split ! $ tidy W (_ ∷ _ ∷ _ ∷ _ ∷ _ ∷ _ ∷ _ ∷ _ ∷ _ ∷ _ ∷ _ ∷ _ ∷ _ ∷ _ ∷ _ ∷ _ ∷ _ ∷ _ ∷ _ ∷ _ ∷ _ ∷ _ ∷ _ ∷ _ ∷ _ ∷ _ ∷ _ ∷ _ ∷ _ ∷ _ ∷ _ ∷ _ ∷ _ ∷ _ ∷ []) $ nothing ! $ move ! (3 ∷ 0 ∷ []) $ join ! $ move ! (6 ∷ 0 ∷ []) $ join ! $ move ! (3 ∷ 1 ∷ []) $ join ! $ move ! (1 ∷ 0 ∷ []) $ join ! $
         -- call 1
         use1 W (raw (Callee-g1 𝓤 H A at-mem run .pre (((κ₁, ((ν1b ∷ []), tt)), (q₁, (fullShare, tt)), tt, (s5, (ref7 δ1b (ys7), tt)), (v5 ∷ [], (v7 ∷ [], tt))), tt))) (qed W ((‵ (flft κ₁ q₁) ⊛ ‵ (flft (ν1b ∷ []) fullShare) ⊛ ‵ ftrue) ∷ ‵ (ShrSlice (named 0) κ₁ u64 .own s5 (v5 ∷ [])) ∷ ‵ (MutSlice (named 1) (ν1b ∷ []) u64 .own (ref7 δ1b (ys7)) (v7 ∷ [])) ∷ []) ∵ nothing ! $ move ! (3 ∷ 0 ∷ []) $ fjoin ! $ move ! (2 ∷ 0 ∷ []) $ fjoin ! $ move ! (1 ∷ 0 ∷ []) $ join ! $ nothing ! $ move ! (1 ∷ 0 ∷ []) $ frame ! $ done !) $
-        calls-at ! fm (Callee-g1 𝓤 H A at-mem run) known-g1 (((κ₁, ((ν1b ∷ []), tt)), (q₁, (fullShare, tt)), tt, (s5, (ref7 δ1b (ys7), tt)), (v5 ∷ [], (v7 ∷ [], tt))), tt) (and-then ! (load ! (from ! (stop !)) (look ! 40 refl)) (and-then ! (load ! (from ! (stop !)) (look ! 24 refl)) (no-more !))) (λ z1.
+        calls-at ! fm (Callee-g1 𝓤 H A at-mem run) known-g1 (((κ₁, ((ν1b ∷ []), tt)), (q₁, (fullShare, tt)), tt, (s5, (ref7 δ1b (ys7), tt)), (v5 ∷ [], (v7 ∷ [], tt))), tt) (and-then ! (load ! (from ! (stop !)) (look ! 25 refl)) (and-then ! (load ! (from ! (stop !)) (look ! 17 refl)) (no-more !))) (λ z1.
         use1 W (later (some (λ (r1 : Unit {0}). ((‵ (flft κ₁ q₁) ⊛ ‵ (flft (ν1b ∷ []) fullShare) ⊛ ‵ ftrue) ⊛ ‵ (unit .own r1 (z1 ∷ []))) ⊛ some (λ (ws : Lasts g1.ended (κ₁, ((ν1b ∷ []), tt)) (s5, (ref7 δ1b (ys7), tt))). ‵ (lasts g1.ended (κ₁, ((ν1b ∷ []), tt)) (s5, (ref7 δ1b (ys7), tt)) ws) ⊛ raw (g1.clauses 𝓤 H A at-mem run (κ₁, ((ν1b ∷ []), tt)) (s5, (ref7 δ1b (ys7), tt)) .ensures tt r1 (atExit g1.ended (κ₁, ((ν1b ∷ []), tt)) (s5, (ref7 δ1b (ys7), tt)) ws)))))) (id⊢ 𝓤 _) $ await ! tt $ pick ! (λ r1. split ! $ move ! (1 ∷ []) $ pick ! (λ ws1. split ! $ move ! (1 ∷ []) $ heard ! _ (λ e1.
-        fsplit ! $ move ! (1 ∷ []) $ fsplit ! $ fsplit ! $ move ! (1 ∷ []) $ feqL ! (λ same1b. move ! (3 ∷ []) $ split ! $ move ! (1 ∷ []) $ feqL ! (λ i1. land ! (from ! (stop !)) (init ! 31 refl (subst (λ (t : Val). Trueᴮ (hasTy tyUnit t) × WT t) (sym (ap only i1)) (tt, tt))) $
-        split ! $ move ! (1 ∷ []) $ split ! $ move ! (1 ∷ []) $ move ! (1 ∷ []) $ lft-end ! tt $ move ! (0 ∷ 6 ∷ 3 ∷ []) $ use3 W (later (‵ (O7 (ws1 .1 .0)) ⊛ ‵ (flft κ₃ q₃))) (backs7 (named 1) ν1b δ1b (ys7) (ws1 .1 .0) (refl) room7 same1b) $ await ! tt $ split ! $
-        assigns ! (addr ! (from ! (fld ! refl (hop ! (look-in ! 40 (sub ! 0 refl (whole !))) (stop !))))) (from ! (stop !)) (init ! 26 refl (tt, tt)) $
-        assigns ! (agg ! (and-then ! (load ! (from ! (stop !)) (look ! 26 refl)) (and-then ! (load ! (from ! (fld ! refl (stop !))) (look-in ! 40 (sub ! 1 refl (whole !)))) (no-more !)))) (from ! (stop !)) (init ! 24 refl (tt, (tt, (record { fits = room7 .0 }, tt)))) $
-        move ! (11 ∷ []) $ use1 W (‵ (O6) ⊛ ‵ (O6)) (shr-slice-copy 𝓤 H A W (named 2) κ₂ u64 .twice s6 (v6 ∷ [])) $ split ! $
-        lft-new ! tt (λ ν2c. move ! (3 ∷ 4 ∷ []) $ use2 W (later (some (λ (δ : GName). ‵ (MutSlice (named 1) (ν2c ∷ []) u64 .own (ref7 δ (ws1 .1 .0)) (v7 ∷ [])) ⊛ ‵ (Lent7 ν2c δ (ws1 .1 .0))))) (lends7 (named 1) ν2c (ws1 .1 .0) (same1b)) $ await ! tt $ pick ! (λ δ2c. split ! $ nothing ! $ move ! (3 ∷ 0 ∷ []) $ join ! $ move ! (11 ∷ 0 ∷ []) $ join ! $ move ! (3 ∷ 1 ∷ []) $ join ! $ move ! (1 ∷ 0 ∷ []) $ join ! $
+        fsplit ! $ drop ! $ fsplit ! $ fsplit ! $ move ! (1 ∷ []) $ feqL ! (λ same1b. move ! (1 ∷ []) $ drop ! $ move ! (1 ∷ []) $ split ! $ move ! (1 ∷ []) $ feqL ! (λ i1. land ! (from ! (stop !)) (init ! 20 refl (subst (λ (t : Val). Trueᴮ (hasTy tyUnit t) × WT t) (sym (ap only i1)) (tt, tt))) $
+        tidy W (_ ∷ _ ∷ _ ∷ _ ∷ _ ∷ _ ∷ _ ∷ _ ∷ _ ∷ _ ∷ _ ∷ _ ∷ _ ∷ _ ∷ _ ∷ _ ∷ _ ∷ _ ∷ _ ∷ _ ∷ _ ∷ _ ∷ _ ∷ _ ∷ _ ∷ _ ∷ _ ∷ _ ∷ _ ∷ _ ∷ _ ∷ _ ∷ []) $ split ! $ move ! (1 ∷ []) $ split ! $ move ! (1 ∷ []) $ drop ! $ lft-end ! tt $ move ! (0 ∷ 3 ∷ 2 ∷ []) $ use3 W (later (‵ (O7 (ws1 .1 .0)) ⊛ ‵ (flft κ₃ q₃))) (backs7 (named 1) ν1b δ1b (ys7) (ws1 .1 .0) (refl) room7 same1b) $ await ! tt $ split ! $
+        assigns ! (addr ! (from ! (fld ! refl (hop ! (look-in ! 24 (sub ! 0 refl (whole !))) (stop !))))) (from ! (stop !)) (init ! 17 refl (tt, tt)) $
+        assigns ! (agg ! (and-then ! (load ! (from ! (stop !)) (look ! 17 refl)) (and-then ! (load ! (from ! (fld ! refl (stop !))) (look-in ! 24 (sub ! 1 refl (whole !)))) (no-more !)))) (from ! (stop !)) (init ! 16 refl (tt, (tt, (record { fits = room7 .0 }, tt)))) $
+        move ! (6 ∷ []) $ use1 W (‵ (O6) ⊛ ‵ (O6)) (shr-slice-copy 𝓤 H A W (named 2) κ₂ u64 .twice s6 (v6 ∷ [])) $ split ! $
+        lft-new ! tt (λ ν2c. move ! (3 ∷ 4 ∷ []) $ use2 W (later (some (λ (δ : GName). ‵ (MutSlice (named 1) (ν2c ∷ []) u64 .own (ref7 δ (ws1 .1 .0)) (v7 ∷ [])) ⊛ ‵ (Lent7 ν2c δ (ws1 .1 .0))))) (lends7 (named 1) ν2c (ws1 .1 .0) (same1b)) $ await ! tt $ pick ! (λ δ2c. split ! $ tidy W (_ ∷ _ ∷ _ ∷ _ ∷ _ ∷ _ ∷ _ ∷ _ ∷ _ ∷ _ ∷ _ ∷ _ ∷ _ ∷ _ ∷ _ ∷ _ ∷ _ ∷ _ ∷ _ ∷ _ ∷ _ ∷ _ ∷ _ ∷ _ ∷ _ ∷ _ ∷ _ ∷ _ ∷ _ ∷ _ ∷ _ ∷ _ ∷ _ ∷ _ ∷ []) $ nothing ! $ move ! (3 ∷ 0 ∷ []) $ join ! $ move ! (7 ∷ 0 ∷ []) $ join ! $ move ! (3 ∷ 1 ∷ []) $ join ! $ move ! (1 ∷ 0 ∷ []) $ join ! $
         -- call 2
         use1 W (raw (Callee-g2 𝓤 H A at-mem run .pre (((κ₂, ((ν2c ∷ []), tt)), (q₂, (fullShare, tt)), tt, (n3, (s6, (ref7 δ2c (ws1 .1 .0), tt))), (u3 ∷ [], (v6 ∷ [], (v7 ∷ [], tt)))), tt))) (qed W ((‵ (flft κ₂ q₂) ⊛ ‵ (flft (ν2c ∷ []) fullShare) ⊛ ‵ ftrue) ∷ ‵ (ShrSlice (named 0) κ₂ u64 .own s6 (v6 ∷ [])) ∷ ‵ (MutSlice (named 1) (ν2c ∷ []) u64 .own (ref7 δ2c (ws1 .1 .0)) (v7 ∷ [])) ∷ []) ∵ nothing ! $ move ! (3 ∷ 0 ∷ []) $ fjoin ! $ move ! (2 ∷ 0 ∷ []) $ fjoin ! $ owned ! u64 (Is u64) (uint-makes 𝓤 H A W w64) (n3) _ w3 $ fjoin ! $ move ! (1 ∷ 0 ∷ []) $ join ! $ nothing ! $ move ! (1 ∷ 0 ∷ []) $ frame ! $ done !) $
-        calls-at ! fm (Callee-g2 𝓤 H A at-mem run) known-g2 (((κ₂, ((ν2c ∷ []), tt)), (q₂, (fullShare, tt)), tt, (n3, (s6, (ref7 δ2c (ws1 .1 .0), tt))), (u3 ∷ [], (v6 ∷ [], (v7 ∷ [], tt)))), tt) (and-then ! (load ! (from ! (stop !)) (look ! 47 refl)) (and-then ! (load ! (from ! (stop !)) (look ! 41 refl)) (and-then ! (load ! (from ! (stop !)) (look ! 23 refl)) (no-more !)))) (λ z2.
+        calls-at ! fm (Callee-g2 𝓤 H A at-mem run) known-g2 (((κ₂, ((ν2c ∷ []), tt)), (q₂, (fullShare, tt)), tt, (n3, (s6, (ref7 δ2c (ws1 .1 .0), tt))), (u3 ∷ [], (v6 ∷ [], (v7 ∷ [], tt)))), tt) (and-then ! (load ! (from ! (stop !)) (look ! 27 refl)) (and-then ! (load ! (from ! (stop !)) (look ! 24 refl)) (and-then ! (load ! (from ! (stop !)) (look ! 15 refl)) (no-more !)))) (λ z2.
         use1 W (later (some (λ (r2 : Unit {0}). ((‵ (flft κ₂ q₂) ⊛ ‵ (flft (ν2c ∷ []) fullShare) ⊛ ‵ ftrue) ⊛ ‵ (unit .own r2 (z2 ∷ []))) ⊛ some (λ (ws : Lasts g2.ended (κ₂, ((ν2c ∷ []), tt)) (n3, (s6, (ref7 δ2c (ws1 .1 .0), tt)))). ‵ (lasts g2.ended (κ₂, ((ν2c ∷ []), tt)) (n3, (s6, (ref7 δ2c (ws1 .1 .0), tt))) ws) ⊛ raw (g2.clauses 𝓤 H A at-mem run (κ₂, ((ν2c ∷ []), tt)) (n3, (s6, (ref7 δ2c (ws1 .1 .0), tt))) .ensures tt r2 (atExit g2.ended (κ₂, ((ν2c ∷ []), tt)) (n3, (s6, (ref7 δ2c (ws1 .1 .0), tt))) ws)))))) (id⊢ 𝓤 _) $ await ! tt $ pick ! (λ r2. split ! $ move ! (1 ∷ []) $ pick ! (λ ws2. split ! $ move ! (1 ∷ []) $ heard ! _ (λ e2.
-        fsplit ! $ move ! (1 ∷ []) $ fsplit ! $ move ! (1 ∷ []) $ fsplit ! $ fsplit ! $ move ! (1 ∷ []) $ feqL ! (λ same2c. move ! (4 ∷ []) $ split ! $ move ! (1 ∷ []) $ feqL ! (λ i2. land ! (from ! (stop !)) (store ! 35 refl (subst (λ (t : Val). Trueᴮ (hasTy tyUnit t) × WT t) (sym (ap only i2)) (tt, tt))) $
-        split ! $ move ! (1 ∷ []) $ split ! $ move ! (1 ∷ []) $ move ! (1 ∷ []) $ lft-end ! tt $ move ! (0 ∷ 7 ∷ 3 ∷ []) $ use3 W (later (‵ (O7 (ws2 .1 .1 .0)) ⊛ ‵ (flft κ₃ q₃))) (backs7 (named 1) ν2c δ2c (ws1 .1 .0) (ws2 .1 .1 .0) (same1b) room7 same2c) $ await ! tt $ split ! $
-        assigns ! (addr ! (from ! (fld ! refl (hop ! (look-in ! 44 (sub ! 0 refl (whole !))) (stop !))))) (from ! (stop !)) (init ! 26 refl (tt, tt)) $
-        assigns ! (agg ! (and-then ! (load ! (from ! (stop !)) (look ! 26 refl)) (and-then ! (load ! (from ! (fld ! refl (stop !))) (look-in ! 44 (sub ! 1 refl (whole !)))) (no-more !)))) (from ! (stop !)) (init ! 24 refl (tt, (tt, (record { fits = room7 .0 }, tt)))) $
-        move ! (18 ∷ []) $ use1 W (‵ (O2) ⊛ ‵ (O2)) (shr-slice-copy 𝓤 H A W (named 0) κ₀ mEntry.the-row .twice s2 (v2 ∷ [])) $ split ! $
-        lft-new ! tt (λ ν3d. move ! (3 ∷ 4 ∷ []) $ use2 W (later (some (λ (δ : GName). ‵ (MutSlice (named 1) (ν3d ∷ []) u64 .own (ref7 δ (ws2 .1 .1 .0)) (v7 ∷ [])) ⊛ ‵ (Lent7 ν3d δ (ws2 .1 .1 .0))))) (lends7 (named 1) ν3d (ws2 .1 .1 .0) (same2c ∙ same1b)) $ await ! tt $ pick ! (λ δ3d. split ! $ nothing ! $ move ! (3 ∷ 0 ∷ []) $ join ! $ move ! (17 ∷ 0 ∷ []) $ join ! $ move ! (3 ∷ 1 ∷ []) $ join ! $ move ! (1 ∷ 0 ∷ []) $ join ! $
+        fsplit ! $ drop ! $ fsplit ! $ drop ! $ fsplit ! $ fsplit ! $ move ! (1 ∷ []) $ feqL ! (λ same2c. move ! (1 ∷ []) $ drop ! $ move ! (1 ∷ []) $ split ! $ move ! (1 ∷ []) $ feqL ! (λ i2. land ! (from ! (stop !)) (store ! 20 refl (subst (λ (t : Val). Trueᴮ (hasTy tyUnit t) × WT t) (sym (ap only i2)) (tt, tt))) $
+        tidy W (_ ∷ _ ∷ _ ∷ _ ∷ _ ∷ _ ∷ _ ∷ _ ∷ _ ∷ _ ∷ _ ∷ _ ∷ _ ∷ _ ∷ _ ∷ _ ∷ _ ∷ _ ∷ _ ∷ _ ∷ _ ∷ _ ∷ _ ∷ _ ∷ _ ∷ _ ∷ _ ∷ _ ∷ _ ∷ _ ∷ _ ∷ _ ∷ []) $ split ! $ move ! (1 ∷ []) $ split ! $ move ! (1 ∷ []) $ drop ! $ lft-end ! tt $ move ! (0 ∷ 3 ∷ 2 ∷ []) $ use3 W (later (‵ (O7 (ws2 .1 .1 .0)) ⊛ ‵ (flft κ₃ q₃))) (backs7 (named 1) ν2c δ2c (ws1 .1 .0) (ws2 .1 .1 .0) (same1b) room7 same2c) $ await ! tt $ split ! $
+        assigns ! (addr ! (from ! (fld ! refl (hop ! (look-in ! 24 (sub ! 0 refl (whole !))) (stop !))))) (from ! (stop !)) (init ! 15 refl (tt, tt)) $
+        assigns ! (agg ! (and-then ! (load ! (from ! (stop !)) (look ! 15 refl)) (and-then ! (load ! (from ! (fld ! refl (stop !))) (look-in ! 24 (sub ! 1 refl (whole !)))) (no-more !)))) (from ! (stop !)) (init ! 14 refl (tt, (tt, (record { fits = room7 .0 }, tt)))) $
+        move ! (9 ∷ []) $ use1 W (‵ (O2) ⊛ ‵ (O2)) (shr-slice-copy 𝓤 H A W (named 0) κ₀ mEntry.the-row .twice s2 (v2 ∷ [])) $ split ! $
+        lft-new ! tt (λ ν3d. move ! (3 ∷ 4 ∷ []) $ use2 W (later (some (λ (δ : GName). ‵ (MutSlice (named 1) (ν3d ∷ []) u64 .own (ref7 δ (ws2 .1 .1 .0)) (v7 ∷ [])) ⊛ ‵ (Lent7 ν3d δ (ws2 .1 .1 .0))))) (lends7 (named 1) ν3d (ws2 .1 .1 .0) (same2c ∙ same1b)) $ await ! tt $ pick ! (λ δ3d. split ! $ tidy W (_ ∷ _ ∷ _ ∷ _ ∷ _ ∷ _ ∷ _ ∷ _ ∷ _ ∷ _ ∷ _ ∷ _ ∷ _ ∷ _ ∷ _ ∷ _ ∷ _ ∷ _ ∷ _ ∷ _ ∷ _ ∷ _ ∷ _ ∷ _ ∷ _ ∷ _ ∷ _ ∷ _ ∷ _ ∷ _ ∷ _ ∷ _ ∷ _ ∷ _ ∷ []) $ nothing ! $ move ! (3 ∷ 0 ∷ []) $ join ! $ move ! (9 ∷ 0 ∷ []) $ join ! $ move ! (3 ∷ 1 ∷ []) $ join ! $ move ! (1 ∷ 0 ∷ []) $ join ! $
         -- call 3
         use1 W (raw (Callee-g3 𝓤 H A at-mem run .pre (((κ₀, ((ν3d ∷ []), tt)), (q₀, (fullShare, tt)), tt, (s2, (n3, (n4, (ref7 δ3d (ws2 .1 .1 .0), tt)))), (v2 ∷ [], (u3 ∷ [], (u4 ∷ [], (v7 ∷ [], tt))))), tt))) (qed W ((‵ (flft κ₀ q₀) ⊛ ‵ (flft (ν3d ∷ []) fullShare) ⊛ ‵ ftrue) ∷ ‵ (ShrSlice (named 0) κ₀ mEntry.the-row .own s2 (v2 ∷ [])) ∷ ‵ (MutSlice (named 1) (ν3d ∷ []) u64 .own (ref7 δ3d (ws2 .1 .1 .0)) (v7 ∷ [])) ∷ []) ∵ nothing ! $ move ! (3 ∷ 0 ∷ []) $ fjoin ! $ owned ! u64 (Is u64) (uint-makes 𝓤 H A W w64) (n4) _ w4 $ fjoin ! $ owned ! u64 (Is u64) (uint-makes 𝓤 H A W w64) (n3) _ w3 $ fjoin ! $ move ! (2 ∷ 0 ∷ []) $ fjoin ! $ move ! (1 ∷ 0 ∷ []) $ join ! $ nothing ! $ move ! (1 ∷ 0 ∷ []) $ frame ! $ done !) $
-        calls-at ! fm (Callee-g3 𝓤 H A at-mem run) known-g3 (((κ₀, ((ν3d ∷ []), tt)), (q₀, (fullShare, tt)), tt, (s2, (n3, (n4, (ref7 δ3d (ws2 .1 .1 .0), tt)))), (v2 ∷ [], (u3 ∷ [], (u4 ∷ [], (v7 ∷ [], tt))))), tt) (and-then ! (load ! (from ! (stop !)) (look ! 53 refl)) (and-then ! (load ! (from ! (stop !)) (look ! 51 refl)) (and-then ! (load ! (from ! (stop !)) (look ! 49 refl)) (and-then ! (load ! (from ! (stop !)) (look ! 23 refl)) (no-more !))))) (λ z3.
+        calls-at ! fm (Callee-g3 𝓤 H A at-mem run) known-g3 (((κ₀, ((ν3d ∷ []), tt)), (q₀, (fullShare, tt)), tt, (s2, (n3, (n4, (ref7 δ3d (ws2 .1 .1 .0), tt)))), (v2 ∷ [], (u3 ∷ [], (u4 ∷ [], (v7 ∷ [], tt))))), tt) (and-then ! (load ! (from ! (stop !)) (look ! 28 refl)) (and-then ! (load ! (from ! (stop !)) (look ! 27 refl)) (and-then ! (load ! (from ! (stop !)) (look ! 26 refl)) (and-then ! (load ! (from ! (stop !)) (look ! 13 refl)) (no-more !))))) (λ z3.
         use1 W (later (some (λ (r3 : Gf128). ((‵ (flft κ₀ q₀) ⊛ ‵ (flft (ν3d ∷ []) fullShare) ⊛ ‵ ftrue) ⊛ ‵ (mGf128.the-row .own r3 (z3 ∷ []))) ⊛ some (λ (ws : Lasts g3.ended (κ₀, ((ν3d ∷ []), tt)) (s2, (n3, (n4, (ref7 δ3d (ws2 .1 .1 .0), tt))))). ‵ (lasts g3.ended (κ₀, ((ν3d ∷ []), tt)) (s2, (n3, (n4, (ref7 δ3d (ws2 .1 .1 .0), tt)))) ws) ⊛ raw (g3.clauses 𝓤 H A at-mem run (κ₀, ((ν3d ∷ []), tt)) (s2, (n3, (n4, (ref7 δ3d (ws2 .1 .1 .0), tt)))) .ensures tt r3 (atExit g3.ended (κ₀, ((ν3d ∷ []), tt)) (s2, (n3, (n4, (ref7 δ3d (ws2 .1 .1 .0), tt)))) ws)))))) (id⊢ 𝓤 _) $ await ! tt $ pick ! (λ r3. split ! $ move ! (1 ∷ []) $ pick ! (λ ws3. split ! $ move ! (1 ∷ []) $ heard ! _ (λ e3.
-        fsplit ! $ move ! (1 ∷ []) $ fsplit ! $ move ! (1 ∷ []) $ fsplit ! $ move ! (1 ∷ []) $ fsplit ! $ fsplit ! $ move ! (1 ∷ []) $ feqL ! (λ same3d. move ! (5 ∷ []) $ split ! $ move ! (1 ∷ []) $ peeks ! mGf128.the-row (Is mGf128.the-row) (shows 𝓤 H A mGf128.the-row) r3 (z3 ∷ []) (λ i3. drop ! $ land ! (from ! (stop !)) (init ! 46 refl (LL.lawful mGf128.the-type lGf128.the-laws 𝓤 H A W .typed r3 _ i3 .0)) $
-        split ! $ move ! (1 ∷ []) $ split ! $ move ! (1 ∷ []) $ move ! (1 ∷ []) $ lft-end ! tt $ move ! (0 ∷ 8 ∷ 3 ∷ []) $ use3 W (later (‵ (O7 (ws3 .1 .1 .1 .0)) ⊛ ‵ (flft κ₃ q₃))) (backs7 (named 1) ν3d δ3d (ws2 .1 .1 .0) (ws3 .1 .1 .1 .0) (same2c ∙ same1b) room7 same3d) $ await ! tt $ split ! $
-        assigns ! (addr ! (from ! (fld ! refl (hop ! (look-in ! 49 (sub ! 0 refl (whole !))) (stop !))))) (from ! (stop !)) (init ! 27 refl (tt, tt)) $
-        assigns ! (agg ! (and-then ! (load ! (from ! (stop !)) (look ! 27 refl)) (and-then ! (load ! (from ! (fld ! refl (stop !))) (look-in ! 49 (sub ! 1 refl (whole !)))) (no-more !)))) (from ! (stop !)) (init ! 25 refl (tt, (tt, (record { fits = room7 .0 }, tt)))) $
-        lft-new ! tt (λ ν4c. move ! (1 ∷ 2 ∷ []) $ use2 W (later (some (λ (δ : GName). ‵ (MutSlice (named 0) (ν4c ∷ []) u64 .own (ref7 δ (ws3 .1 .1 .1 .0)) (v7 ∷ [])) ⊛ ‵ (Lent7 ν4c δ (ws3 .1 .1 .1 .0))))) (lends7 (named 0) ν4c (ws3 .1 .1 .1 .0) (same3d ∙ same2c ∙ same1b)) $ await ! tt $ pick ! (λ δ4c. split ! $ nothing ! $ move ! (3 ∷ 0 ∷ []) $ join ! $ join ! $
+        fsplit ! $ drop ! $ fsplit ! $ drop ! $ fsplit ! $ drop ! $ fsplit ! $ fsplit ! $ move ! (1 ∷ []) $ feqL ! (λ same3d. move ! (1 ∷ []) $ drop ! $ move ! (1 ∷ []) $ split ! $ move ! (1 ∷ []) $ peeks ! mGf128.the-row (Is mGf128.the-row) (shows 𝓤 H A mGf128.the-row) r3 (z3 ∷ []) (λ i3. drop ! $ land ! (from ! (stop !)) (init ! 23 refl (LL.lawful mGf128.the-type lGf128.the-laws 𝓤 H A W .typed r3 _ i3 .0)) $
+        tidy W (_ ∷ _ ∷ _ ∷ _ ∷ _ ∷ _ ∷ _ ∷ _ ∷ _ ∷ _ ∷ _ ∷ _ ∷ _ ∷ _ ∷ _ ∷ _ ∷ _ ∷ _ ∷ _ ∷ _ ∷ _ ∷ _ ∷ _ ∷ _ ∷ _ ∷ _ ∷ _ ∷ _ ∷ _ ∷ _ ∷ _ ∷ _ ∷ []) $ split ! $ move ! (1 ∷ []) $ split ! $ move ! (1 ∷ []) $ drop ! $ lft-end ! tt $ move ! (0 ∷ 3 ∷ 2 ∷ []) $ use3 W (later (‵ (O7 (ws3 .1 .1 .1 .0)) ⊛ ‵ (flft κ₃ q₃))) (backs7 (named 1) ν3d δ3d (ws2 .1 .1 .0) (ws3 .1 .1 .1 .0) (same2c ∙ same1b) room7 same3d) $ await ! tt $ split ! $
+        assigns ! (addr ! (from ! (fld ! refl (hop ! (look-in ! 24 (sub ! 0 refl (whole !))) (stop !))))) (from ! (stop !)) (init ! 13 refl (tt, tt)) $
+        assigns ! (agg ! (and-then ! (load ! (from ! (stop !)) (look ! 13 refl)) (and-then ! (load ! (from ! (fld ! refl (stop !))) (look-in ! 24 (sub ! 1 refl (whole !)))) (no-more !)))) (from ! (stop !)) (init ! 12 refl (tt, (tt, (record { fits = room7 .0 }, tt)))) $
+        lft-new ! tt (λ ν4c. move ! (1 ∷ 2 ∷ []) $ use2 W (later (some (λ (δ : GName). ‵ (MutSlice (named 0) (ν4c ∷ []) u64 .own (ref7 δ (ws3 .1 .1 .1 .0)) (v7 ∷ [])) ⊛ ‵ (Lent7 ν4c δ (ws3 .1 .1 .1 .0))))) (lends7 (named 0) ν4c (ws3 .1 .1 .1 .0) (same3d ∙ same2c ∙ same1b)) $ await ! tt $ pick ! (λ δ4c. split ! $ tidy W (_ ∷ _ ∷ _ ∷ _ ∷ _ ∷ _ ∷ _ ∷ _ ∷ _ ∷ _ ∷ _ ∷ _ ∷ _ ∷ _ ∷ _ ∷ _ ∷ _ ∷ _ ∷ _ ∷ _ ∷ _ ∷ _ ∷ _ ∷ _ ∷ _ ∷ _ ∷ _ ∷ _ ∷ _ ∷ _ ∷ _ ∷ _ ∷ _ ∷ []) $ nothing ! $ move ! (3 ∷ 0 ∷ []) $ join ! $ join ! $
         -- call 4
         use1 W (raw (Callee-g4 𝓤 H A at-mem run .pre ((((ν4c ∷ []), tt), (fullShare, tt), tt, (n3, (n4, (ref7 δ4c (ws3 .1 .1 .1 .0), tt))), (u3 ∷ [], (u4 ∷ [], (v7 ∷ [], tt)))), tt))) (qed W ((‵ (flft (ν4c ∷ []) fullShare) ⊛ ‵ ftrue) ∷ ‵ (MutSlice (named 0) (ν4c ∷ []) u64 .own (ref7 δ4c (ws3 .1 .1 .1 .0)) (v7 ∷ [])) ∷ []) ∵ nothing ! $ move ! (2 ∷ 0 ∷ []) $ fjoin ! $ owned ! u64 (Is u64) (uint-makes 𝓤 H A W w64) (n4) _ w4 $ fjoin ! $ owned ! u64 (Is u64) (uint-makes 𝓤 H A W w64) (n3) _ w3 $ fjoin ! $ move ! (1 ∷ 0 ∷ []) $ join ! $ nothing ! $ move ! (1 ∷ 0 ∷ []) $ frame ! $ done !) $
-        calls-at ! fm (Callee-g4 𝓤 H A at-mem run) known-g4 ((((ν4c ∷ []), tt), (fullShare, tt), tt, (n3, (n4, (ref7 δ4c (ws3 .1 .1 .1 .0), tt))), (u3 ∷ [], (u4 ∷ [], (v7 ∷ [], tt)))), tt) (and-then ! (load ! (from ! (stop !)) (look ! 57 refl)) (and-then ! (load ! (from ! (stop !)) (look ! 55 refl)) (and-then ! (load ! (from ! (stop !)) (look ! 25 refl)) (no-more !)))) (λ z4.
+        calls-at ! fm (Callee-g4 𝓤 H A at-mem run) known-g4 ((((ν4c ∷ []), tt), (fullShare, tt), tt, (n3, (n4, (ref7 δ4c (ws3 .1 .1 .1 .0), tt))), (u3 ∷ [], (u4 ∷ [], (v7 ∷ [], tt)))), tt) (and-then ! (load ! (from ! (stop !)) (look ! 28 refl)) (and-then ! (load ! (from ! (stop !)) (look ! 27 refl)) (and-then ! (load ! (from ! (stop !)) (look ! 12 refl)) (no-more !)))) (λ z4.
         use1 W (later (some (λ (r4 : Unit {0}). ((‵ (flft (ν4c ∷ []) fullShare) ⊛ ‵ ftrue) ⊛ ‵ (unit .own r4 (z4 ∷ []))) ⊛ some (λ (ws : Lasts g4.ended ((ν4c ∷ []), tt) (n3, (n4, (ref7 δ4c (ws3 .1 .1 .1 .0), tt)))). ‵ (lasts g4.ended ((ν4c ∷ []), tt) (n3, (n4, (ref7 δ4c (ws3 .1 .1 .1 .0), tt))) ws) ⊛ raw (g4.clauses 𝓤 H A at-mem run ((ν4c ∷ []), tt) (n3, (n4, (ref7 δ4c (ws3 .1 .1 .1 .0), tt))) .ensures tt r4 (atExit g4.ended ((ν4c ∷ []), tt) (n3, (n4, (ref7 δ4c (ws3 .1 .1 .1 .0), tt))) ws)))))) (id⊢ 𝓤 _) $ await ! tt $ pick ! (λ r4. split ! $ move ! (1 ∷ []) $ pick ! (λ ws4. split ! $ move ! (1 ∷ []) $ heard ! _ (λ e4.
-        fsplit ! $ move ! (1 ∷ []) $ fsplit ! $ move ! (1 ∷ []) $ fsplit ! $ fsplit ! $ move ! (1 ∷ []) $ feqL ! (λ same4c. move ! (4 ∷ []) $ split ! $ move ! (1 ∷ []) $ feqL ! (λ i4. land ! (from ! (stop !)) (store ! 45 refl (subst (λ (t : Val). Trueᴮ (hasTy tyUnit t) × WT t) (sym (ap only i4)) (tt, tt))) $
-        split ! $ move ! (1 ∷ []) $ move ! (1 ∷ []) $ lft-end ! tt $ move ! (0 ∷ 6 ∷ 2 ∷ []) $ use3 W (later (‵ (O7 (ws4 .1 .1 .0)) ⊛ ‵ (flft κ₃ q₃))) (backs7 (named 0) ν4c δ4c (ws3 .1 .1 .1 .0) (ws4 .1 .1 .0) (same3d ∙ same2c ∙ same1b) room7 same4c) $ await ! tt $ split ! $
-        assigns-last ! (of-opd ! (load ! (from ! (stop !)) (look ! 51 refl))) (from ! (stop !)) (init ! 47 refl (LL.lawful mGf128.the-type lGf128.the-laws 𝓤 H A W .typed r3 _ i3 .0)) $
+        fsplit ! $ drop ! $ fsplit ! $ drop ! $ fsplit ! $ fsplit ! $ move ! (1 ∷ []) $ feqL ! (λ same4c. move ! (1 ∷ []) $ drop ! $ move ! (1 ∷ []) $ split ! $ move ! (1 ∷ []) $ feqL ! (λ i4. land ! (from ! (stop !)) (store ! 21 refl (subst (λ (t : Val). Trueᴮ (hasTy tyUnit t) × WT t) (sym (ap only i4)) (tt, tt))) $
+        tidy W (_ ∷ _ ∷ _ ∷ _ ∷ _ ∷ _ ∷ _ ∷ _ ∷ _ ∷ _ ∷ _ ∷ _ ∷ _ ∷ _ ∷ _ ∷ _ ∷ _ ∷ _ ∷ _ ∷ _ ∷ _ ∷ _ ∷ _ ∷ _ ∷ _ ∷ _ ∷ _ ∷ _ ∷ _ ∷ _ ∷ _ ∷ _ ∷ _ ∷ []) $ split ! $ move ! (1 ∷ []) $ drop ! $ lft-end ! tt $ move ! (0 ∷ 2 ∷ 1 ∷ []) $ use3 W (later (‵ (O7 (ws4 .1 .1 .0)) ⊛ ‵ (flft κ₃ q₃))) (backs7 (named 0) ν4c δ4c (ws3 .1 .1 .1 .0) (ws4 .1 .1 .0) (same3d ∙ same2c ∙ same1b) room7 same4c) $ await ! tt $ split ! $
+        assigns-last ! (of-opd ! (load ! (from ! (stop !)) (look ! 23 refl))) (from ! (stop !)) (init ! 21 refl (LL.lawful mGf128.the-type lGf128.the-laws 𝓤 H A W .typed r3 _ i3 .0)) $
         exec ! C Λ ((lGf128.mir, l₀) ∷ (tyBool, l₁) ∷ (sliceTy (tyRef (named 0) imm (pointee (mEntry.the-row .written))), l₂) ∷ (tyInt w64, l₃) ∷ (tyInt w64, l₄) ∷ (sliceTy (tyRef (named 1) imm (tyInt w64)), l₅) ∷ (sliceTy (tyRef (named 2) imm (tyInt w64)), l₆) ∷ (sliceTy (tyRef (named 3) mut (tyInt w64)), l₇) ∷ (lGf128.mir, l₈) ∷ (tyBool, l₉) ∷ (lGf128.mir, l₁₀) ∷ (tyUnit, l₁₁) ∷ (tyRef erased mut (tyInt w64), l₁₂) ∷ (sliceTy (tyRef erased mut (tyInt w64)), l₁₃) ∷ (tyRef erased mut (tyInt w64), l₁₄) ∷ (sliceTy (tyRef erased mut (tyInt w64)), l₁₅) ∷ (tyRef erased mut (tyInt w64), l₁₆) ∷ (sliceTy (tyRef erased mut (tyInt w64)), l₁₇) ∷ (tyRef erased mut (tyInt w64), l₁₈) ∷ (sliceTy (tyRef erased mut (tyInt w64)), l₁₉) ∷ []) Mir.t-3 (atRet ((lGf128.mir, l₀) ∷ (tyBool, l₁) ∷ (sliceTy (tyRef (named 0) imm (pointee (mEntry.the-row .written))), l₂) ∷ (tyInt w64, l₃) ∷ (tyInt w64, l₄) ∷ (sliceTy (tyRef (named 1) imm (tyInt w64)), l₅) ∷ (sliceTy (tyRef (named 2) imm (tyInt w64)), l₆) ∷ (sliceTy (tyRef (named 3) mut (tyInt w64)), l₇) ∷ (lGf128.mir, l₈) ∷ (tyBool, l₉) ∷ (lGf128.mir, l₁₀) ∷ (tyUnit, l₁₁) ∷ (tyRef erased mut (tyInt w64), l₁₂) ∷ (sliceTy (tyRef erased mut (tyInt w64)), l₁₃) ∷ (tyRef erased mut (tyInt w64), l₁₄) ∷ (sliceTy (tyRef erased mut (tyInt w64)), l₁₅) ∷ (tyRef erased mut (tyInt w64), l₁₆) ∷ (sliceTy (tyRef erased mut (tyInt w64)), l₁₇) ∷ (tyRef erased mut (tyInt w64), l₁₈) ∷ (sliceTy (tyRef erased mut (tyInt w64)), l₁₉) ∷ []) Post) $
-        assigns ! (of-opd ! (load ! (from ! (stop !)) (look ! 47 refl))) (from ! (stop !)) (init ! 67 refl (LL.lawful mGf128.the-type lGf128.the-laws 𝓤 H A W .typed r3 _ i3 .0)) $
-        returns ! (look ! 67 refl) $ forget ! 67 refl $ forget ! 65 refl $ forget ! 63 refl $ forget ! 61 refl $ forget ! 59 refl $ forget ! 57 refl $ forget ! 55 refl $ forget ! 53 refl $ forget ! 51 refl $ forget ! 49 refl $ forget ! 47 refl $ forget ! 45 refl $ forget ! 43 refl $ forget ! 41 refl $ forget ! 39 refl $ forget ! 37 refl $ forget ! 35 refl $ forget ! 33 refl $ forget ! 31 refl $ forget ! 29 refl $
-        move ! (67 ∷ 68 ∷ []) $ free1 ! $ move ! (65 ∷ 66 ∷ []) $ free1 ! $ move ! (63 ∷ 64 ∷ []) $ free1 ! $ move ! (61 ∷ 62 ∷ []) $ free1 ! $ move ! (59 ∷ 60 ∷ []) $ free1 ! $ move ! (57 ∷ 58 ∷ []) $ free1 ! $ move ! (55 ∷ 56 ∷ []) $ free1 ! $ move ! (53 ∷ 54 ∷ []) $ free1 ! $ move ! (51 ∷ 52 ∷ []) $ free1 ! $ move ! (49 ∷ 50 ∷ []) $ free1 ! $ move ! (47 ∷ 48 ∷ []) $ free1 ! $ move ! (45 ∷ 46 ∷ []) $ free1 ! $ move ! (43 ∷ 44 ∷ []) $ free1 ! $ move ! (41 ∷ 42 ∷ []) $ free1 ! $ move ! (39 ∷ 40 ∷ []) $ free1 ! $ move ! (37 ∷ 38 ∷ []) $ free1 ! $ move ! (35 ∷ 36 ∷ []) $ free1 ! $ move ! (33 ∷ 34 ∷ []) $ free1 ! $ move ! (31 ∷ 32 ∷ []) $ free1 ! $ move ! (29 ∷ 30 ∷ []) $ free1 ! $ free0 ! $
+        assigns ! (of-opd ! (load ! (from ! (stop !)) (look ! 21 refl))) (from ! (stop !)) (init ! 31 refl (LL.lawful mGf128.the-type lGf128.the-laws 𝓤 H A W .typed r3 _ i3 .0)) $
+        tidy W (_ ∷ _ ∷ _ ∷ _ ∷ _ ∷ _ ∷ _ ∷ _ ∷ _ ∷ _ ∷ _ ∷ _ ∷ _ ∷ _ ∷ _ ∷ _ ∷ _ ∷ _ ∷ _ ∷ _ ∷ _ ∷ _ ∷ _ ∷ _ ∷ _ ∷ _ ∷ _ ∷ _ ∷ _ ∷ _ ∷ _ ∷ _ ∷ []) $ returns ! (look ! 31 refl) $ move ! (11 ∷ []) $ use1 W (dies ((lGf128.mir, l₀) ∷ (tyBool, l₁) ∷ (sliceTy (tyRef (named 0) imm (pointee (mEntry.the-row .written))), l₂) ∷ (tyInt w64, l₃) ∷ (tyInt w64, l₄) ∷ (sliceTy (tyRef (named 1) imm (tyInt w64)), l₅) ∷ (sliceTy (tyRef (named 2) imm (tyInt w64)), l₆) ∷ (sliceTy (tyRef (named 3) mut (tyInt w64)), l₇) ∷ (lGf128.mir, l₈) ∷ (tyBool, l₉) ∷ (lGf128.mir, l₁₀) ∷ (tyUnit, l₁₁) ∷ (tyRef erased mut (tyInt w64), l₁₂) ∷ (sliceTy (tyRef erased mut (tyInt w64)), l₁₃) ∷ (tyRef erased mut (tyInt w64), l₁₄) ∷ (sliceTy (tyRef erased mut (tyInt w64)), l₁₅) ∷ (tyRef erased mut (tyInt w64), l₁₆) ∷ (sliceTy (tyRef erased mut (tyInt w64)), l₁₇) ∷ (tyRef erased mut (tyInt w64), l₁₈) ∷ (sliceTy (tyRef erased mut (tyInt w64)), l₁₉) ∷ []) (‵ ftrue)) die $ free-all ! 11 ((lGf128.mir, l₀) ∷ (tyBool, l₁) ∷ (sliceTy (tyRef (named 0) imm (pointee (mEntry.the-row .written))), l₂) ∷ (tyInt w64, l₃) ∷ (tyInt w64, l₄) ∷ (sliceTy (tyRef (named 1) imm (tyInt w64)), l₅) ∷ (sliceTy (tyRef (named 2) imm (tyInt w64)), l₆) ∷ (sliceTy (tyRef (named 3) mut (tyInt w64)), l₇) ∷ (lGf128.mir, l₈) ∷ (tyBool, l₉) ∷ (lGf128.mir, l₁₀) ∷ (tyUnit, l₁₁) ∷ (tyRef erased mut (tyInt w64), l₁₂) ∷ (sliceTy (tyRef erased mut (tyInt w64)), l₁₃) ∷ (tyRef erased mut (tyInt w64), l₁₄) ∷ (sliceTy (tyRef erased mut (tyInt w64)), l₁₅) ∷ (tyRef erased mut (tyInt w64), l₁₆) ∷ (sliceTy (tyRef erased mut (tyInt w64)), l₁₇) ∷ (tyRef erased mut (tyInt w64), l₁₈) ∷ (sliceTy (tyRef erased mut (tyInt w64)), l₁₉) ∷ []) (kept _ ∷ kept _ ∷ kept _ ∷ kept _ ∷ kept _ ∷ kept _ ∷ kept _ ∷ kept _ ∷ kept _ ∷ kept _ ∷ kept _ ∷ kept _ ∷ kept _ ∷ kept _ ∷ kept _ ∷ kept _ ∷ kept _ ∷ kept _ ∷ kept _ ∷ kept _ ∷ []) refl $
         suffices ! _ (ends-at 𝓤 H A f.ended stayed (f.clauses 𝓤 H A at-mem run) W (((κ₀, (κ₁, (κ₂, (κ₃, tt)))), (q₀, (q₁, (q₂, (q₃, tt)))), tt, a, at), tt) z3 r3 (tt, (tt, (tt, (tt, (tt, (tt, (ws4 .1 .1 .0, tt))))))) (tt, (tt, (tt, (tt, (tt, (tt, (same4c ∙ same3d ∙ same2c ∙ same1b, tt)))))))) $ says ! (sum-some n3 n4 (value r3) (s2 .now) (s5 .now) (s6 .now) ys7 n1 (ws1 .1 .0) (ws2 .1 .1 .0) (ws3 .1 .1 .1 .0) (ws4 .1 .1 .0) b1 e1 e2 e3 e4) $
-        nothing ! $ move ! (2 ∷ 0 ∷ []) $ join ! $ move ! (14 ∷ 0 ∷ []) $ join ! $ move ! (19 ∷ 0 ∷ []) $ join ! $ move ! (7 ∷ 0 ∷ []) $ join ! $ nothing ! $ move ! (2 ∷ 0 ∷ []) $ fjoin ! $ move ! (16 ∷ 0 ∷ []) $ fjoin ! $ move ! (19 ∷ 0 ∷ []) $ fjoin ! $ move ! (21 ∷ 0 ∷ []) $ fjoin ! $ move ! (21 ∷ 0 ∷ []) $ fjoin ! $ move ! (11 ∷ 0 ∷ []) $ fjoin ! $ move ! (20 ∷ 0 ∷ []) $ fjoin ! $ keep ! (1 ∷ 0 ∷ []) $ frame ! $ frame ! $ owned ! mGf128.the-row (Is mGf128.the-row) (LL.makes mGf128.the-type lGf128.the-plain 𝓤 H A) r3 _ i3 $ done !)))))))))))))))))))))))))))))))))
-        (λ y1. let b1 : n1 ≡ false = is-no (n1) y1 in nothing ! $
+        nothing ! $ move ! (2 ∷ 0 ∷ []) $ join ! $ move ! (4 ∷ 0 ∷ []) $ join ! $ move ! (5 ∷ 0 ∷ []) $ join ! $ move ! (2 ∷ 0 ∷ []) $ join ! $ nothing ! $ move ! (2 ∷ 0 ∷ []) $ fjoin ! $ move ! (3 ∷ 0 ∷ []) $ fjoin ! $ move ! (3 ∷ 0 ∷ []) $ fjoin ! $ move ! (3 ∷ 0 ∷ []) $ fjoin ! $ move ! (3 ∷ 0 ∷ []) $ fjoin ! $ move ! (2 ∷ 0 ∷ []) $ fjoin ! $ move ! (2 ∷ 0 ∷ []) $ fjoin ! $ keep ! (1 ∷ 0 ∷ []) $ frame ! $ frame ! $ owned ! mGf128.the-row (Is mGf128.the-row) (LL.makes mGf128.the-type lGf128.the-plain 𝓤 H A) r3 _ i3 $ done !)))))))))))))))))))))))))))))))))
+        (λ y1. let b1 : n1 ≡ false = is-no (n1) y1 in tidy W (_ ∷ _ ∷ _ ∷ _ ∷ _ ∷ _ ∷ _ ∷ _ ∷ _ ∷ _ ∷ _ ∷ _ ∷ _ ∷ _ ∷ _ ∷ _ ∷ _ ∷ _ ∷ _ ∷ _ ∷ _ ∷ _ ∷ _ ∷ _ ∷ _ ∷ _ ∷ _ ∷ _ ∷ _ ∷ _ ∷ _ ∷ _ ∷ []) $ nothing ! $
         -- call 5
         use1 W (raw (Callee-g5 𝓤 H A at-mem run .pre ((tt, tt, tt, tt, tt), tt))) (qed W ((‵ ftrue) ∷ []) ∵ nothing ! $ move ! (1 ∷ 0 ∷ []) $ join ! $ nothing ! $ move ! (1 ∷ 0 ∷ []) $ frame ! $ done !) $
         calls-at-last ! fm (Callee-g5 𝓤 H A at-mem run) known-g5 ((tt, tt, tt, tt, tt), tt) (no-more !) (λ z5.
         use1 W (later (some (λ (r5 : Gf128). ((‵ ftrue) ⊛ ‵ (mGf128.the-row .own r5 (z5 ∷ []))) ⊛ some (λ (ws : Lasts g5.ended tt tt). ‵ (lasts g5.ended tt tt ws) ⊛ raw (g5.clauses 𝓤 H A at-mem run tt tt .ensures tt r5 (atExit g5.ended tt tt ws)))))) (id⊢ 𝓤 _) $ await ! tt $ pick ! (λ r5. split ! $ move ! (1 ∷ []) $ pick ! (λ ws5. split ! $ move ! (1 ∷ []) $ heard ! _ (λ e5.
-        move ! (1 ∷ []) $ split ! $ move ! (1 ∷ []) $ peeks ! mGf128.the-row (Is mGf128.the-row) (shows 𝓤 H A mGf128.the-row) r5 (z5 ∷ []) (λ i5. drop ! $ land-last ! (from ! (stop !)) (init ! 33 refl (LL.lawful mGf128.the-type lGf128.the-laws 𝓤 H A W .typed r5 _ i5 .0)) $
-        exec ! C Λ ((lGf128.mir, l₀) ∷ (tyBool, l₁) ∷ (sliceTy (tyRef (named 0) imm (pointee (mEntry.the-row .written))), l₂) ∷ (tyInt w64, l₃) ∷ (tyInt w64, l₄) ∷ (sliceTy (tyRef (named 1) imm (tyInt w64)), l₅) ∷ (sliceTy (tyRef (named 2) imm (tyInt w64)), l₆) ∷ (sliceTy (tyRef (named 3) mut (tyInt w64)), l₇) ∷ (lGf128.mir, l₈) ∷ (tyBool, l₉) ∷ (lGf128.mir, l₁₀) ∷ (tyUnit, l₁₁) ∷ (tyRef erased mut (tyInt w64), l₁₂) ∷ (sliceTy (tyRef erased mut (tyInt w64)), l₁₃) ∷ (tyRef erased mut (tyInt w64), l₁₄) ∷ (sliceTy (tyRef erased mut (tyInt w64)), l₁₅) ∷ (tyRef erased mut (tyInt w64), l₁₆) ∷ (sliceTy (tyRef erased mut (tyInt w64)), l₁₇) ∷ (tyRef erased mut (tyInt w64), l₁₈) ∷ (sliceTy (tyRef erased mut (tyInt w64)), l₁₉) ∷ []) Mir.t-3 (atRet ((lGf128.mir, l₀) ∷ (tyBool, l₁) ∷ (sliceTy (tyRef (named 0) imm (pointee (mEntry.the-row .written))), l₂) ∷ (tyInt w64, l₃) ∷ (tyInt w64, l₄) ∷ (sliceTy (tyRef (named 1) imm (tyInt w64)), l₅) ∷ (sliceTy (tyRef (named 2) imm (tyInt w64)), l₆) ∷ (sliceTy (tyRef (named 3) mut (tyInt w64)), l₇) ∷ (lGf128.mir, l₈) ∷ (tyBool, l₉) ∷ (lGf128.mir, l₁₀) ∷ (tyUnit, l₁₁) ∷ (tyRef erased mut (tyInt w64), l₁₂) ∷ (sliceTy (tyRef erased mut (tyInt w64)), l₁₃) ∷ (tyRef erased mut (tyInt w64), l₁₄) ∷ (sliceTy (tyRef erased mut (tyInt w64)), l₁₅) ∷ (tyRef erased mut (tyInt w64), l₁₆) ∷ (sliceTy (tyRef erased mut (tyInt w64)), l₁₇) ∷ (tyRef erased mut (tyInt w64), l₁₈) ∷ (sliceTy (tyRef erased mut (tyInt w64)), l₁₉) ∷ []) Post) $
-        assigns ! (of-opd ! (load ! (from ! (stop !)) (look ! 33 refl))) (from ! (stop !)) (init ! 53 refl (LL.lawful mGf128.the-type lGf128.the-laws 𝓤 H A W .typed r5 _ i5 .0)) $
-        returns ! (look ! 53 refl) $ forget ! 53 refl $ forget ! 51 refl $ forget ! 49 refl $ forget ! 47 refl $ forget ! 45 refl $ forget ! 43 refl $ forget ! 41 refl $ forget ! 39 refl $ forget ! 35 refl $ forget ! 33 refl $
-        move ! (53 ∷ 54 ∷ []) $ free1 ! $ move ! (51 ∷ 52 ∷ []) $ free1 ! $ move ! (49 ∷ 50 ∷ []) $ free1 ! $ move ! (47 ∷ 48 ∷ []) $ free1 ! $ move ! (45 ∷ 46 ∷ []) $ free1 ! $ move ! (43 ∷ 44 ∷ []) $ free1 ! $ move ! (41 ∷ 42 ∷ []) $ free1 ! $ move ! (39 ∷ 40 ∷ []) $ free1 ! $ move ! (37 ∷ 38 ∷ []) $ free1 ! $ move ! (35 ∷ 36 ∷ []) $ free1 ! $ move ! (33 ∷ 34 ∷ []) $ free1 ! $ move ! (31 ∷ 32 ∷ []) $ free1 ! $ move ! (29 ∷ 30 ∷ []) $ free1 ! $ move ! (27 ∷ 28 ∷ []) $ free1 ! $ move ! (25 ∷ 26 ∷ []) $ free1 ! $ move ! (23 ∷ 24 ∷ []) $ free1 ! $ move ! (21 ∷ 22 ∷ []) $ free1 ! $ move ! (19 ∷ 20 ∷ []) $ free1 ! $ move ! (17 ∷ 18 ∷ []) $ free1 ! $ move ! (15 ∷ 16 ∷ []) $ free1 ! $ free0 ! $
+        drop ! $ split ! $ move ! (1 ∷ []) $ peeks ! mGf128.the-row (Is mGf128.the-row) (shows 𝓤 H A mGf128.the-row) r5 (z5 ∷ []) (λ i5. drop ! $ land-last ! (from ! (stop !)) (init ! 22 refl (LL.lawful mGf128.the-type lGf128.the-laws 𝓤 H A W .typed r5 _ i5 .0)) $
+        tidy W (_ ∷ _ ∷ _ ∷ _ ∷ _ ∷ _ ∷ _ ∷ _ ∷ _ ∷ _ ∷ _ ∷ _ ∷ _ ∷ _ ∷ _ ∷ _ ∷ _ ∷ _ ∷ _ ∷ _ ∷ _ ∷ _ ∷ _ ∷ _ ∷ _ ∷ _ ∷ _ ∷ _ ∷ _ ∷ _ ∷ _ ∷ _ ∷ _ ∷ []) $ drop ! $ exec ! C Λ ((lGf128.mir, l₀) ∷ (tyBool, l₁) ∷ (sliceTy (tyRef (named 0) imm (pointee (mEntry.the-row .written))), l₂) ∷ (tyInt w64, l₃) ∷ (tyInt w64, l₄) ∷ (sliceTy (tyRef (named 1) imm (tyInt w64)), l₅) ∷ (sliceTy (tyRef (named 2) imm (tyInt w64)), l₆) ∷ (sliceTy (tyRef (named 3) mut (tyInt w64)), l₇) ∷ (lGf128.mir, l₈) ∷ (tyBool, l₉) ∷ (lGf128.mir, l₁₀) ∷ (tyUnit, l₁₁) ∷ (tyRef erased mut (tyInt w64), l₁₂) ∷ (sliceTy (tyRef erased mut (tyInt w64)), l₁₃) ∷ (tyRef erased mut (tyInt w64), l₁₄) ∷ (sliceTy (tyRef erased mut (tyInt w64)), l₁₅) ∷ (tyRef erased mut (tyInt w64), l₁₆) ∷ (sliceTy (tyRef erased mut (tyInt w64)), l₁₇) ∷ (tyRef erased mut (tyInt w64), l₁₈) ∷ (sliceTy (tyRef erased mut (tyInt w64)), l₁₉) ∷ []) Mir.t-3 (atRet ((lGf128.mir, l₀) ∷ (tyBool, l₁) ∷ (sliceTy (tyRef (named 0) imm (pointee (mEntry.the-row .written))), l₂) ∷ (tyInt w64, l₃) ∷ (tyInt w64, l₄) ∷ (sliceTy (tyRef (named 1) imm (tyInt w64)), l₅) ∷ (sliceTy (tyRef (named 2) imm (tyInt w64)), l₆) ∷ (sliceTy (tyRef (named 3) mut (tyInt w64)), l₇) ∷ (lGf128.mir, l₈) ∷ (tyBool, l₉) ∷ (lGf128.mir, l₁₀) ∷ (tyUnit, l₁₁) ∷ (tyRef erased mut (tyInt w64), l₁₂) ∷ (sliceTy (tyRef erased mut (tyInt w64)), l₁₃) ∷ (tyRef erased mut (tyInt w64), l₁₄) ∷ (sliceTy (tyRef erased mut (tyInt w64)), l₁₅) ∷ (tyRef erased mut (tyInt w64), l₁₆) ∷ (sliceTy (tyRef erased mut (tyInt w64)), l₁₇) ∷ (tyRef erased mut (tyInt w64), l₁₈) ∷ (sliceTy (tyRef erased mut (tyInt w64)), l₁₉) ∷ []) Post) $
+        assigns ! (of-opd ! (load ! (from ! (stop !)) (look ! 21 refl))) (from ! (stop !)) (init ! 31 refl (LL.lawful mGf128.the-type lGf128.the-laws 𝓤 H A W .typed r5 _ i5 .0)) $
+        tidy W (_ ∷ _ ∷ _ ∷ _ ∷ _ ∷ _ ∷ _ ∷ _ ∷ _ ∷ _ ∷ _ ∷ _ ∷ _ ∷ _ ∷ _ ∷ _ ∷ _ ∷ _ ∷ _ ∷ _ ∷ _ ∷ _ ∷ _ ∷ _ ∷ _ ∷ _ ∷ _ ∷ _ ∷ _ ∷ _ ∷ _ ∷ _ ∷ []) $ returns ! (look ! 31 refl) $ move ! (11 ∷ []) $ use1 W (dies ((lGf128.mir, l₀) ∷ (tyBool, l₁) ∷ (sliceTy (tyRef (named 0) imm (pointee (mEntry.the-row .written))), l₂) ∷ (tyInt w64, l₃) ∷ (tyInt w64, l₄) ∷ (sliceTy (tyRef (named 1) imm (tyInt w64)), l₅) ∷ (sliceTy (tyRef (named 2) imm (tyInt w64)), l₆) ∷ (sliceTy (tyRef (named 3) mut (tyInt w64)), l₇) ∷ (lGf128.mir, l₈) ∷ (tyBool, l₉) ∷ (lGf128.mir, l₁₀) ∷ (tyUnit, l₁₁) ∷ (tyRef erased mut (tyInt w64), l₁₂) ∷ (sliceTy (tyRef erased mut (tyInt w64)), l₁₃) ∷ (tyRef erased mut (tyInt w64), l₁₄) ∷ (sliceTy (tyRef erased mut (tyInt w64)), l₁₅) ∷ (tyRef erased mut (tyInt w64), l₁₆) ∷ (sliceTy (tyRef erased mut (tyInt w64)), l₁₇) ∷ (tyRef erased mut (tyInt w64), l₁₈) ∷ (sliceTy (tyRef erased mut (tyInt w64)), l₁₉) ∷ []) (‵ ftrue)) die $ free-all ! 11 ((lGf128.mir, l₀) ∷ (tyBool, l₁) ∷ (sliceTy (tyRef (named 0) imm (pointee (mEntry.the-row .written))), l₂) ∷ (tyInt w64, l₃) ∷ (tyInt w64, l₄) ∷ (sliceTy (tyRef (named 1) imm (tyInt w64)), l₅) ∷ (sliceTy (tyRef (named 2) imm (tyInt w64)), l₆) ∷ (sliceTy (tyRef (named 3) mut (tyInt w64)), l₇) ∷ (lGf128.mir, l₈) ∷ (tyBool, l₉) ∷ (lGf128.mir, l₁₀) ∷ (tyUnit, l₁₁) ∷ (tyRef erased mut (tyInt w64), l₁₂) ∷ (sliceTy (tyRef erased mut (tyInt w64)), l₁₃) ∷ (tyRef erased mut (tyInt w64), l₁₄) ∷ (sliceTy (tyRef erased mut (tyInt w64)), l₁₅) ∷ (tyRef erased mut (tyInt w64), l₁₆) ∷ (sliceTy (tyRef erased mut (tyInt w64)), l₁₇) ∷ (tyRef erased mut (tyInt w64), l₁₈) ∷ (sliceTy (tyRef erased mut (tyInt w64)), l₁₉) ∷ []) (kept _ ∷ kept _ ∷ kept _ ∷ kept _ ∷ kept _ ∷ kept _ ∷ kept _ ∷ kept _ ∷ bare ∷ kept _ ∷ kept _ ∷ bare ∷ bare ∷ bare ∷ bare ∷ bare ∷ bare ∷ bare ∷ bare ∷ bare ∷ []) refl $
         suffices ! _ (ends-at 𝓤 H A f.ended stayed (f.clauses 𝓤 H A at-mem run) W (((κ₀, (κ₁, (κ₂, (κ₃, tt)))), (q₀, (q₁, (q₂, (q₃, tt)))), tt, a, at), tt) z5 r5 (tt, (tt, (tt, (tt, (tt, (tt, (ys7, tt))))))) (tt, (tt, (tt, (tt, (tt, (tt, (refl, tt)))))))) $ says ! (sum-none n3 n4 (value r5) (s2 .now) (s5 .now) (s6 .now) ys7 n1 b1 e5) $
-        nothing ! $ move ! (4 ∷ 0 ∷ []) $ join ! $ move ! (4 ∷ 0 ∷ []) $ join ! $ move ! (4 ∷ 0 ∷ []) $ join ! $ move ! (4 ∷ 0 ∷ []) $ join ! $ nothing ! $ move ! (6 ∷ 0 ∷ []) $ fjoin ! $ move ! (6 ∷ 0 ∷ []) $ fjoin ! $ move ! (6 ∷ 0 ∷ []) $ fjoin ! $ move ! (6 ∷ 0 ∷ []) $ fjoin ! $ move ! (6 ∷ 0 ∷ []) $ fjoin ! $ move ! (6 ∷ 0 ∷ []) $ fjoin ! $ move ! (6 ∷ 0 ∷ []) $ fjoin ! $ keep ! (1 ∷ 0 ∷ []) $ frame ! $ frame ! $ owned ! mGf128.the-row (Is mGf128.the-row) (LL.makes mGf128.the-type lGf128.the-plain 𝓤 H A) r5 _ i5 $ done !))))))
-        ))))))))))))))))))))
+        nothing ! $ move ! (1 ∷ 0 ∷ []) $ join ! $ move ! (1 ∷ 0 ∷ []) $ join ! $ move ! (1 ∷ 0 ∷ []) $ join ! $ move ! (1 ∷ 0 ∷ []) $ join ! $ nothing ! $ move ! (2 ∷ 0 ∷ []) $ fjoin ! $ move ! (2 ∷ 0 ∷ []) $ fjoin ! $ move ! (2 ∷ 0 ∷ []) $ fjoin ! $ move ! (2 ∷ 0 ∷ []) $ fjoin ! $ move ! (2 ∷ 0 ∷ []) $ fjoin ! $ move ! (2 ∷ 0 ∷ []) $ fjoin ! $ move ! (2 ∷ 0 ∷ []) $ fjoin ! $ keep ! (1 ∷ 0 ∷ []) $ frame ! $ frame ! $ owned ! mGf128.the-row (Is mGf128.the-row) (LL.makes mGf128.the-type lGf128.the-plain 𝓤 H A) r5 _ i5 $ done !))))))
+        )))))))))))))))))))))
 
 module _ {M : Type 1} (𝓤 : URA M) (H : Heap 𝓤) (A : Atoms 𝓤) (W : Given 𝓤 H A) (mem : Memory → SProp 𝓤) (run : Routine → Fun 𝓤) where
   walks : (C : Calls 𝓤 H) (Λ : Loops 𝓤 H) → FmC 𝓤 H (W .laws) C → Triple 𝓤 (C #g1) (Callee-g1 𝓤 H A mem run) → Triple 𝓤 (C #g2) (Callee-g2 𝓤 H A mem run) → Triple 𝓤 (C #g3) (Callee-g3 𝓤 H A mem run) → Triple 𝓤 (C #g4) (Callee-g4 𝓤 H A mem run) → Triple 𝓤 (C #g5) (Callee-g5 𝓤 H A mem run) → Walks 𝓤 H A f.ended stayed (WpFn 𝓤 H C Λ code.function) (f.clauses 𝓤 H A mem run)

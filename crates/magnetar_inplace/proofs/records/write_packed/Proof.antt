@@ -20,7 +20,7 @@ use contract.Monad.{Fun, fact}
 use contract.Running.{givenOf, tables, tablesOf}
 use types.Kit.{Given, ‵, raw, _⊛_, ⋆, some, later, _$_, _∵_, !, qed, by, move, keep, drop, use1, use2, use3, split, join, pick, fsplit, fsplit3, fjoin, fjoin3, feqL, feqI, rewrite, atRet, suffices, frame, await, done}
 use types.Part.{agg, whole, sub, look-in}
-use types.Run.{look, look-raw, init, store, store-raw, forget, stop, hop, fld, from, load, unit-lit, of-opd, addr, and-then, no-more, lit, true-lit, false-lit, assigns, assigns-last, land, land-last, first, branches, skips, exec, returns, enter, alloc1, alloc0, params1, pass1, pass0, free1, free0}
+use types.Run.{look, look-raw, init, store, store-raw, stop, hop, fld, from, load, unit-lit, of-opd, addr, and-then, no-more, lit, true-lit, false-lit, assigns, assigns-last, land, land-last, first, branches, skips, exec, returns, enter, alloc0, params1, pass1, pass0}
 use types.Tokens.{lft-new, lft-end}
 use sound.WpLaws.{FmC, fmOf, WpFn-mono}
 use denote.RattleType.{owns}
@@ -49,6 +49,7 @@ use Rattle.magnetar_inplace.proofs.PackedEnds.{write-some, write-none}
 use Rattle.magnetar_inplace.specs.declared.records.Entry.{Entry}
 use Rattle.magnetar_inplace.proofs.records.Entry as mEntry
 use Rattle.magnetar_inplace.proofs.records.Entry.Laws as lEntry
+use Rattle.magnetar_inplace.proofs.Locals.{tidy, bare, kept, dies, alloc, hide, free-all}
 use Rattle.magnetar_inplace.proofs.Again.{LentAgain, lends-again, comes-back}
 use Rattle.magnetar_inplace.proofs.logins.clear_blocks as g1
 use Rattle.magnetar_inplace.proofs.logins.clear_blocks.Symbol as g1-def
@@ -160,50 +161,48 @@ module _ {M : Type 1} (𝓤 : URA M) (H : Heap 𝓤) (A : Atoms 𝓤) (W : Given
     walk : ent 𝓤 (onEntry 𝓤 H A f.signature (κ₀, (κ₁, (κ₂, (κ₃, tt)))) (q₀, (q₁, (q₂, (q₃, tt)))) a at) (WpFn 𝓤 H C Λ code.function (v1 ∷ v2 ∷ v3 ∷ v4 ∷ v5 ∷ v6 ∷ v7 ∷ v8 ∷ []) Post)
     walk =
         qed W ((‵ (flft κ₀ q₀) ⊛ ‵ (flft κ₁ q₁) ⊛ ‵ (flft κ₂ q₂) ⊛ ‵ (flft κ₃ q₃) ⊛ ‵ ftrue) ∷ ‵ (owns (bool ∷ ShrSlice (named 0) κ₀ mEntry.the-row ∷ ShrSlice (named 1) κ₁ u64 ∷ ShrSlice (named 2) κ₂ u64 ∷ u64 ∷ u64 ∷ u64 ∷ MutSlice (named 3) κ₃ u64 ∷ []) a at) ∷ []) ∵ enter ! C Λ code.function (v1 ∷ v2 ∷ v3 ∷ v4 ∷ v5 ∷ v6 ∷ v7 ∷ v8 ∷ []) _ $
-        alloc1 ! (λ l₀. alloc1 ! (λ l₁. alloc1 ! (λ l₂. alloc1 ! (λ l₃. alloc1 ! (λ l₄. alloc1 ! (λ l₅. alloc1 ! (λ l₆. alloc1 ! (λ l₇. alloc1 ! (λ l₈. alloc1 ! (λ l₉. alloc1 ! (λ l₁₀. alloc1 ! (λ l₁₁. alloc1 ! (λ l₁₂. alloc1 ! (λ l₁₃. alloc1 ! (λ l₁₄. alloc1 ! (λ l₁₅. alloc1 ! (λ l₁₆. alloc0 ! $ params1 ! $ pass1 ! (init ! 30 refl (bool-lawful 𝓤 H A W .typed n1 _ w1 .0)) $ pass1 ! (init ! 28 refl (shr-slice-lawful 𝓤 H A W (named 0) κ₀ mEntry.the-row .typed s2 (v2 ∷ []) w2 .0)) $ pass1 ! (init ! 26 refl (shr-slice-lawful 𝓤 H A W (named 1) κ₁ u64 .typed s3 (v3 ∷ []) w3 .0)) $ pass1 ! (init ! 24 refl (shr-slice-lawful 𝓤 H A W (named 2) κ₂ u64 .typed s4 (v4 ∷ []) w4 .0)) $ pass1 ! (init ! 22 refl (uint-lawful 𝓤 H A W w64 .typed n5 _ w5 .0)) $ pass1 ! (init ! 20 refl (uint-lawful 𝓤 H A W w64 .typed n6 _ w6 .0)) $ pass1 ! (init ! 18 refl (uint-lawful 𝓤 H A W w64 .typed n7 _ w7 .0)) $ pass1 ! (init ! 16 refl (tt, (tt, (record { fits = room8 .0 }, tt)))) $ pass0 ! $
-        move ! (35 ∷ []) $ fsplit ! $ move ! (1 ∷ []) $ fsplit ! $ move ! (1 ∷ []) $ fsplit ! $ move ! (1 ∷ []) $ fsplit ! $ move ! (1 ∷ []) $ fsplit ! $ move ! (1 ∷ []) $ fsplit ! $ move ! (1 ∷ []) $ fsplit ! $ move ! (1 ∷ []) $ fsplit ! $ move ! (1 ∷ []) $ move ! (43 ∷ []) $ split ! $ move ! (1 ∷ []) $ split ! $ move ! (1 ∷ []) $ split ! $ move ! (1 ∷ []) $ split ! $ move ! (1 ∷ []) $
-        assigns ! (of-opd ! (load ! (from ! (stop !)) (look ! 44 refl))) (from ! (stop !)) (init ! 26 refl (bool-lawful 𝓤 H A W .typed n1 _ w1 .0)) $
-        rewrite ! 26 (λ (w : Val). ‵ (fat fullShare tyBool l₁₀ 0 w)) (ap only w1) refl $ first ! $ branches ! (load ! (from ! (stop !)) (look ! 26 refl))
-        (λ y1. let b1 : n1 ≡ true = is-yes (n1) y1 in assigns ! (addr ! (from ! (fld ! refl (hop ! (look-in ! 30 (sub ! 0 refl (whole !))) (stop !))))) (from ! (stop !)) (init ! 20 refl (tt, tt)) $
-        assigns ! (agg ! (and-then ! (load ! (from ! (stop !)) (look ! 20 refl)) (and-then ! (load ! (from ! (fld ! refl (stop !))) (look-in ! 30 (sub ! 1 refl (whole !)))) (no-more !)))) (from ! (stop !)) (init ! 18 refl (tt, (tt, (record { fits = room8 .0 }, tt)))) $
-        lft-new ! tt (λ ν1d. move ! (7 ∷ 2 ∷ []) $ use2 W (later (some (λ (δ : GName). ‵ (MutSlice (named 0) (ν1d ∷ []) u64 .own (ref8 δ (ys8)) (v8 ∷ [])) ⊛ ‵ (Lent8 ν1d δ (ys8))))) (lends8 (named 0) ν1d (ys8) (refl)) $ await ! tt $ pick ! (λ δ1d. split ! $ nothing ! $ move ! (3 ∷ 0 ∷ []) $ join ! $ join ! $
+        nothing ! $ alloc ! (λ l₀. alloc ! (λ l₁. alloc ! (λ l₂. alloc ! (λ l₃. alloc ! (λ l₄. alloc ! (λ l₅. alloc ! (λ l₆. alloc ! (λ l₇. alloc ! (λ l₈. alloc ! (λ l₉. alloc ! (λ l₁₀. alloc ! (λ l₁₁. alloc ! (λ l₁₂. alloc ! (λ l₁₃. alloc ! (λ l₁₄. alloc ! (λ l₁₅. alloc ! (λ l₁₆. alloc0 ! $ hide ! (λ died die. params1 ! $ pass1 ! (init ! 16 refl (bool-lawful 𝓤 H A W .typed n1 _ w1 .0)) $ pass1 ! (init ! 15 refl (shr-slice-lawful 𝓤 H A W (named 0) κ₀ mEntry.the-row .typed s2 (v2 ∷ []) w2 .0)) $ pass1 ! (init ! 14 refl (shr-slice-lawful 𝓤 H A W (named 1) κ₁ u64 .typed s3 (v3 ∷ []) w3 .0)) $ pass1 ! (init ! 13 refl (shr-slice-lawful 𝓤 H A W (named 2) κ₂ u64 .typed s4 (v4 ∷ []) w4 .0)) $ pass1 ! (init ! 12 refl (uint-lawful 𝓤 H A W w64 .typed n5 _ w5 .0)) $ pass1 ! (init ! 11 refl (uint-lawful 𝓤 H A W w64 .typed n6 _ w6 .0)) $ pass1 ! (init ! 10 refl (uint-lawful 𝓤 H A W w64 .typed n7 _ w7 .0)) $ pass1 ! (init ! 9 refl (tt, (tt, (record { fits = room8 .0 }, tt)))) $ pass0 ! $
+        move ! (19 ∷ []) $ fsplit ! $ move ! (1 ∷ []) $ fsplit ! $ move ! (1 ∷ []) $ fsplit ! $ move ! (1 ∷ []) $ fsplit ! $ move ! (1 ∷ []) $ fsplit ! $ move ! (1 ∷ []) $ fsplit ! $ move ! (1 ∷ []) $ fsplit ! $ move ! (1 ∷ []) $ fsplit ! $ move ! (1 ∷ []) $ drop ! $ move ! (26 ∷ []) $ split ! $ move ! (1 ∷ []) $ split ! $ move ! (1 ∷ []) $ split ! $ move ! (1 ∷ []) $ split ! $ move ! (1 ∷ []) $ drop ! $ tidy W (_ ∷ _ ∷ _ ∷ _ ∷ _ ∷ _ ∷ _ ∷ _ ∷ _ ∷ _ ∷ _ ∷ _ ∷ _ ∷ _ ∷ _ ∷ _ ∷ _ ∷ _ ∷ _ ∷ _ ∷ _ ∷ _ ∷ _ ∷ _ ∷ _ ∷ _ ∷ _ ∷ _ ∷ _ ∷ _ ∷ []) $
+        assigns ! (of-opd ! (load ! (from ! (stop !)) (look ! 28 refl))) (from ! (stop !)) (init ! 19 refl (bool-lawful 𝓤 H A W .typed n1 _ w1 .0)) $
+        rewrite ! 19 (λ (w : Val). ‵ (fat fullShare tyBool l₁₀ 0 w)) (ap only w1) refl $ first ! $ branches ! (load ! (from ! (stop !)) (look ! 19 refl))
+        (λ y1. let b1 : n1 ≡ true = is-yes (n1) y1 in assigns ! (addr ! (from ! (fld ! refl (hop ! (look-in ! 21 (sub ! 0 refl (whole !))) (stop !))))) (from ! (stop !)) (init ! 16 refl (tt, tt)) $
+        assigns ! (agg ! (and-then ! (load ! (from ! (stop !)) (look ! 16 refl)) (and-then ! (load ! (from ! (fld ! refl (stop !))) (look-in ! 21 (sub ! 1 refl (whole !)))) (no-more !)))) (from ! (stop !)) (init ! 15 refl (tt, (tt, (record { fits = room8 .0 }, tt)))) $
+        lft-new ! tt (λ ν1d. move ! (5 ∷ 1 ∷ []) $ use2 W (later (some (λ (δ : GName). ‵ (MutSlice (named 0) (ν1d ∷ []) u64 .own (ref8 δ (ys8)) (v8 ∷ [])) ⊛ ‵ (Lent8 ν1d δ (ys8))))) (lends8 (named 0) ν1d (ys8) (refl)) $ await ! tt $ pick ! (λ δ1d. split ! $ tidy W (_ ∷ _ ∷ _ ∷ _ ∷ _ ∷ _ ∷ _ ∷ _ ∷ _ ∷ _ ∷ _ ∷ _ ∷ _ ∷ _ ∷ _ ∷ _ ∷ _ ∷ _ ∷ _ ∷ _ ∷ _ ∷ _ ∷ _ ∷ _ ∷ _ ∷ _ ∷ _ ∷ _ ∷ _ ∷ _ ∷ _ ∷ []) $ nothing ! $ move ! (3 ∷ 0 ∷ []) $ join ! $ join ! $
         -- call 1
         use1 W (raw (Callee-g1 𝓤 H A at-mem run .pre ((((ν1d ∷ []), tt), (fullShare, tt), tt, (n5, (n6, (n7, (ref8 δ1d (ys8), tt)))), (u5 ∷ [], (u6 ∷ [], (u7 ∷ [], (v8 ∷ [], tt))))), tt))) (qed W ((‵ (flft (ν1d ∷ []) fullShare) ⊛ ‵ ftrue) ∷ ‵ (MutSlice (named 0) (ν1d ∷ []) u64 .own (ref8 δ1d (ys8)) (v8 ∷ [])) ∷ []) ∵ nothing ! $ move ! (2 ∷ 0 ∷ []) $ fjoin ! $ owned ! u64 (Is u64) (uint-makes 𝓤 H A W w64) (n7) _ w7 $ fjoin ! $ owned ! u64 (Is u64) (uint-makes 𝓤 H A W w64) (n6) _ w6 $ fjoin ! $ owned ! u64 (Is u64) (uint-makes 𝓤 H A W w64) (n5) _ w5 $ fjoin ! $ move ! (1 ∷ 0 ∷ []) $ join ! $ nothing ! $ move ! (1 ∷ 0 ∷ []) $ frame ! $ done !) $
-        calls-at ! fm (Callee-g1 𝓤 H A at-mem run) known-g1 ((((ν1d ∷ []), tt), (fullShare, tt), tt, (n5, (n6, (n7, (ref8 δ1d (ys8), tt)))), (u5 ∷ [], (u6 ∷ [], (u7 ∷ [], (v8 ∷ [], tt))))), tt) (and-then ! (load ! (from ! (stop !)) (look ! 36 refl)) (and-then ! (load ! (from ! (stop !)) (look ! 34 refl)) (and-then ! (load ! (from ! (stop !)) (look ! 32 refl)) (and-then ! (load ! (from ! (stop !)) (look ! 18 refl)) (no-more !))))) (λ z1.
+        calls-at ! fm (Callee-g1 𝓤 H A at-mem run) known-g1 ((((ν1d ∷ []), tt), (fullShare, tt), tt, (n5, (n6, (n7, (ref8 δ1d (ys8), tt)))), (u5 ∷ [], (u6 ∷ [], (u7 ∷ [], (v8 ∷ [], tt))))), tt) (and-then ! (load ! (from ! (stop !)) (look ! 24 refl)) (and-then ! (load ! (from ! (stop !)) (look ! 23 refl)) (and-then ! (load ! (from ! (stop !)) (look ! 22 refl)) (and-then ! (load ! (from ! (stop !)) (look ! 15 refl)) (no-more !))))) (λ z1.
         use1 W (later (some (λ (r1 : Unit {0}). ((‵ (flft (ν1d ∷ []) fullShare) ⊛ ‵ ftrue) ⊛ ‵ (unit .own r1 (z1 ∷ []))) ⊛ some (λ (ws : Lasts g1.ended ((ν1d ∷ []), tt) (n5, (n6, (n7, (ref8 δ1d (ys8), tt))))). ‵ (lasts g1.ended ((ν1d ∷ []), tt) (n5, (n6, (n7, (ref8 δ1d (ys8), tt)))) ws) ⊛ raw (g1.clauses 𝓤 H A at-mem run ((ν1d ∷ []), tt) (n5, (n6, (n7, (ref8 δ1d (ys8), tt)))) .ensures tt r1 (atExit g1.ended ((ν1d ∷ []), tt) (n5, (n6, (n7, (ref8 δ1d (ys8), tt)))) ws)))))) (id⊢ 𝓤 _) $ await ! tt $ pick ! (λ r1. split ! $ move ! (1 ∷ []) $ pick ! (λ ws1. split ! $ move ! (1 ∷ []) $ heard ! _ (λ e1.
-        fsplit ! $ move ! (1 ∷ []) $ fsplit ! $ move ! (1 ∷ []) $ fsplit ! $ move ! (1 ∷ []) $ fsplit ! $ fsplit ! $ move ! (1 ∷ []) $ feqL ! (λ same1d. move ! (5 ∷ []) $ split ! $ move ! (1 ∷ []) $ feqL ! (λ i1. land ! (from ! (stop !)) (init ! 27 refl (subst (λ (t : Val). Trueᴮ (hasTy tyUnit t) × WT t) (sym (ap only i1)) (tt, tt))) $
-        split ! $ move ! (1 ∷ []) $ move ! (1 ∷ []) $ lft-end ! tt $ move ! (0 ∷ 7 ∷ 2 ∷ []) $ use3 W (later (‵ (O8 (ws1 .1 .1 .1 .0)) ⊛ ‵ (flft κ₃ q₃))) (backs8 (named 0) ν1d δ1d (ys8) (ws1 .1 .1 .1 .0) (refl) room8 same1d) $ await ! tt $ split ! $
-        assigns ! (addr ! (from ! (fld ! refl (hop ! (look-in ! 35 (sub ! 0 refl (whole !))) (stop !))))) (from ! (stop !)) (init ! 21 refl (tt, tt)) $
-        assigns ! (agg ! (and-then ! (load ! (from ! (stop !)) (look ! 21 refl)) (and-then ! (load ! (from ! (fld ! refl (stop !))) (look-in ! 35 (sub ! 1 refl (whole !)))) (no-more !)))) (from ! (stop !)) (init ! 19 refl (tt, (tt, (record { fits = room8 .0 }, tt)))) $
-        move ! (17 ∷ []) $ use1 W (‵ (O2) ⊛ ‵ (O2)) (shr-slice-copy 𝓤 H A W (named 0) κ₀ mEntry.the-row .twice s2 (v2 ∷ [])) $ split ! $ move ! (18 ∷ []) $ use1 W (‵ (O3) ⊛ ‵ (O3)) (shr-slice-copy 𝓤 H A W (named 1) κ₁ u64 .twice s3 (v3 ∷ [])) $ split ! $ move ! (19 ∷ []) $ use1 W (‵ (O4) ⊛ ‵ (O4)) (shr-slice-copy 𝓤 H A W (named 2) κ₂ u64 .twice s4 (v4 ∷ [])) $ split ! $
-        lft-new ! tt (λ ν2g. move ! (7 ∷ 8 ∷ []) $ use2 W (later (some (λ (δ : GName). ‵ (MutSlice (named 3) (ν2g ∷ []) u64 .own (ref8 δ (ws1 .1 .1 .1 .0)) (v8 ∷ [])) ⊛ ‵ (Lent8 ν2g δ (ws1 .1 .1 .1 .0))))) (lends8 (named 3) ν2g (ws1 .1 .1 .1 .0) (same1d)) $ await ! tt $ pick ! (λ δ2g. split ! $ nothing ! $ move ! (3 ∷ 0 ∷ []) $ join ! $ move ! (15 ∷ 0 ∷ []) $ join ! $ move ! (15 ∷ 0 ∷ []) $ join ! $ move ! (15 ∷ 0 ∷ []) $ join ! $ move ! (3 ∷ 1 ∷ []) $ join ! $ move ! (4 ∷ 0 ∷ []) $ join ! $ move ! (5 ∷ 0 ∷ []) $ join ! $ move ! (1 ∷ 0 ∷ []) $ join ! $
+        fsplit ! $ drop ! $ fsplit ! $ drop ! $ fsplit ! $ drop ! $ fsplit ! $ fsplit ! $ move ! (1 ∷ []) $ feqL ! (λ same1d. move ! (1 ∷ []) $ drop ! $ move ! (1 ∷ []) $ split ! $ move ! (1 ∷ []) $ feqL ! (λ i1. land ! (from ! (stop !)) (init ! 18 refl (subst (λ (t : Val). Trueᴮ (hasTy tyUnit t) × WT t) (sym (ap only i1)) (tt, tt))) $
+        tidy W (_ ∷ _ ∷ _ ∷ _ ∷ _ ∷ _ ∷ _ ∷ _ ∷ _ ∷ _ ∷ _ ∷ _ ∷ _ ∷ _ ∷ _ ∷ _ ∷ _ ∷ _ ∷ _ ∷ _ ∷ _ ∷ _ ∷ _ ∷ _ ∷ _ ∷ _ ∷ _ ∷ _ ∷ _ ∷ _ ∷ _ ∷ []) $ split ! $ move ! (1 ∷ []) $ drop ! $ lft-end ! tt $ move ! (0 ∷ 2 ∷ 1 ∷ []) $ use3 W (later (‵ (O8 (ws1 .1 .1 .1 .0)) ⊛ ‵ (flft κ₃ q₃))) (backs8 (named 0) ν1d δ1d (ys8) (ws1 .1 .1 .1 .0) (refl) room8 same1d) $ await ! tt $ split ! $
+        assigns ! (addr ! (from ! (fld ! refl (hop ! (look-in ! 21 (sub ! 0 refl (whole !))) (stop !))))) (from ! (stop !)) (init ! 14 refl (tt, tt)) $
+        assigns ! (agg ! (and-then ! (load ! (from ! (stop !)) (look ! 14 refl)) (and-then ! (load ! (from ! (fld ! refl (stop !))) (look-in ! 21 (sub ! 1 refl (whole !)))) (no-more !)))) (from ! (stop !)) (init ! 13 refl (tt, (tt, (record { fits = room8 .0 }, tt)))) $
+        move ! (10 ∷ []) $ use1 W (‵ (O2) ⊛ ‵ (O2)) (shr-slice-copy 𝓤 H A W (named 0) κ₀ mEntry.the-row .twice s2 (v2 ∷ [])) $ split ! $ move ! (11 ∷ []) $ use1 W (‵ (O3) ⊛ ‵ (O3)) (shr-slice-copy 𝓤 H A W (named 1) κ₁ u64 .twice s3 (v3 ∷ [])) $ split ! $ move ! (12 ∷ []) $ use1 W (‵ (O4) ⊛ ‵ (O4)) (shr-slice-copy 𝓤 H A W (named 2) κ₂ u64 .twice s4 (v4 ∷ [])) $ split ! $
+        lft-new ! tt (λ ν2g. move ! (7 ∷ 8 ∷ []) $ use2 W (later (some (λ (δ : GName). ‵ (MutSlice (named 3) (ν2g ∷ []) u64 .own (ref8 δ (ws1 .1 .1 .1 .0)) (v8 ∷ [])) ⊛ ‵ (Lent8 ν2g δ (ws1 .1 .1 .1 .0))))) (lends8 (named 3) ν2g (ws1 .1 .1 .1 .0) (same1d)) $ await ! tt $ pick ! (λ δ2g. split ! $ tidy W (_ ∷ _ ∷ _ ∷ _ ∷ _ ∷ _ ∷ _ ∷ _ ∷ _ ∷ _ ∷ _ ∷ _ ∷ _ ∷ _ ∷ _ ∷ _ ∷ _ ∷ _ ∷ _ ∷ _ ∷ _ ∷ _ ∷ _ ∷ _ ∷ _ ∷ _ ∷ _ ∷ _ ∷ _ ∷ _ ∷ _ ∷ _ ∷ _ ∷ _ ∷ []) $ nothing ! $ move ! (3 ∷ 0 ∷ []) $ join ! $ move ! (9 ∷ 0 ∷ []) $ join ! $ move ! (9 ∷ 0 ∷ []) $ join ! $ move ! (9 ∷ 0 ∷ []) $ join ! $ move ! (3 ∷ 1 ∷ []) $ join ! $ move ! (4 ∷ 0 ∷ []) $ join ! $ move ! (5 ∷ 0 ∷ []) $ join ! $ move ! (1 ∷ 0 ∷ []) $ join ! $
         -- call 2
         use1 W (raw (Callee-g2 𝓤 H A at-mem run .pre (((κ₀, (κ₁, (κ₂, ((ν2g ∷ []), tt)))), (q₀, (q₁, (q₂, (fullShare, tt)))), tt, (s2, (s3, (s4, (n5, (n6, (n7, (ref8 δ2g (ws1 .1 .1 .1 .0), tt))))))), (v2 ∷ [], (v3 ∷ [], (v4 ∷ [], (u5 ∷ [], (u6 ∷ [], (u7 ∷ [], (v8 ∷ [], tt)))))))), tt))) (qed W ((‵ (flft κ₀ q₀) ⊛ ‵ (flft κ₁ q₁) ⊛ ‵ (flft κ₂ q₂) ⊛ ‵ (flft (ν2g ∷ []) fullShare) ⊛ ‵ ftrue) ∷ ‵ (ShrSlice (named 0) κ₀ mEntry.the-row .own s2 (v2 ∷ [])) ∷ ‵ (ShrSlice (named 1) κ₁ u64 .own s3 (v3 ∷ [])) ∷ ‵ (ShrSlice (named 2) κ₂ u64 .own s4 (v4 ∷ [])) ∷ ‵ (MutSlice (named 3) (ν2g ∷ []) u64 .own (ref8 δ2g (ws1 .1 .1 .1 .0)) (v8 ∷ [])) ∷ []) ∵ nothing ! $ move ! (5 ∷ 0 ∷ []) $ fjoin ! $ owned ! u64 (Is u64) (uint-makes 𝓤 H A W w64) (n7) _ w7 $ fjoin ! $ owned ! u64 (Is u64) (uint-makes 𝓤 H A W w64) (n6) _ w6 $ fjoin ! $ owned ! u64 (Is u64) (uint-makes 𝓤 H A W w64) (n5) _ w5 $ fjoin ! $ move ! (4 ∷ 0 ∷ []) $ fjoin ! $ move ! (3 ∷ 0 ∷ []) $ fjoin ! $ move ! (2 ∷ 0 ∷ []) $ fjoin ! $ move ! (1 ∷ 0 ∷ []) $ join ! $ nothing ! $ move ! (1 ∷ 0 ∷ []) $ frame ! $ done !) $
-        calls-at ! fm (Callee-g2 𝓤 H A at-mem run) known-g2 (((κ₀, (κ₁, (κ₂, ((ν2g ∷ []), tt)))), (q₀, (q₁, (q₂, (fullShare, tt)))), tt, (s2, (s3, (s4, (n5, (n6, (n7, (ref8 δ2g (ws1 .1 .1 .1 .0), tt))))))), (v2 ∷ [], (v3 ∷ [], (v4 ∷ [], (u5 ∷ [], (u6 ∷ [], (u7 ∷ [], (v8 ∷ [], tt)))))))), tt) (and-then ! (load ! (from ! (stop !)) (look ! 44 refl)) (and-then ! (load ! (from ! (stop !)) (look ! 42 refl)) (and-then ! (load ! (from ! (stop !)) (look ! 40 refl)) (and-then ! (load ! (from ! (stop !)) (look ! 38 refl)) (and-then ! (load ! (from ! (stop !)) (look ! 36 refl)) (and-then ! (load ! (from ! (stop !)) (look ! 34 refl)) (and-then ! (load ! (from ! (stop !)) (look ! 16 refl)) (no-more !)))))))) (λ z2.
+        calls-at ! fm (Callee-g2 𝓤 H A at-mem run) known-g2 (((κ₀, (κ₁, (κ₂, ((ν2g ∷ []), tt)))), (q₀, (q₁, (q₂, (fullShare, tt)))), tt, (s2, (s3, (s4, (n5, (n6, (n7, (ref8 δ2g (ws1 .1 .1 .1 .0), tt))))))), (v2 ∷ [], (v3 ∷ [], (v4 ∷ [], (u5 ∷ [], (u6 ∷ [], (u7 ∷ [], (v8 ∷ [], tt)))))))), tt) (and-then ! (load ! (from ! (stop !)) (look ! 24 refl)) (and-then ! (load ! (from ! (stop !)) (look ! 23 refl)) (and-then ! (load ! (from ! (stop !)) (look ! 22 refl)) (and-then ! (load ! (from ! (stop !)) (look ! 21 refl)) (and-then ! (load ! (from ! (stop !)) (look ! 20 refl)) (and-then ! (load ! (from ! (stop !)) (look ! 19 refl)) (and-then ! (load ! (from ! (stop !)) (look ! 10 refl)) (no-more !)))))))) (λ z2.
         use1 W (later (some (λ (r2 : Unit {0}). ((‵ (flft κ₀ q₀) ⊛ ‵ (flft κ₁ q₁) ⊛ ‵ (flft κ₂ q₂) ⊛ ‵ (flft (ν2g ∷ []) fullShare) ⊛ ‵ ftrue) ⊛ ‵ (unit .own r2 (z2 ∷ []))) ⊛ some (λ (ws : Lasts g2.ended (κ₀, (κ₁, (κ₂, ((ν2g ∷ []), tt)))) (s2, (s3, (s4, (n5, (n6, (n7, (ref8 δ2g (ws1 .1 .1 .1 .0), tt)))))))). ‵ (lasts g2.ended (κ₀, (κ₁, (κ₂, ((ν2g ∷ []), tt)))) (s2, (s3, (s4, (n5, (n6, (n7, (ref8 δ2g (ws1 .1 .1 .1 .0), tt))))))) ws) ⊛ raw (g2.clauses 𝓤 H A at-mem run (κ₀, (κ₁, (κ₂, ((ν2g ∷ []), tt)))) (s2, (s3, (s4, (n5, (n6, (n7, (ref8 δ2g (ws1 .1 .1 .1 .0), tt))))))) .ensures tt r2 (atExit g2.ended (κ₀, (κ₁, (κ₂, ((ν2g ∷ []), tt)))) (s2, (s3, (s4, (n5, (n6, (n7, (ref8 δ2g (ws1 .1 .1 .1 .0), tt))))))) ws)))))) (id⊢ 𝓤 _) $ await ! tt $ pick ! (λ r2. split ! $ move ! (1 ∷ []) $ pick ! (λ ws2. split ! $ move ! (1 ∷ []) $ heard ! _ (λ e2.
-        fsplit ! $ move ! (1 ∷ []) $ fsplit ! $ move ! (1 ∷ []) $ fsplit ! $ move ! (1 ∷ []) $ fsplit ! $ move ! (1 ∷ []) $ fsplit ! $ move ! (1 ∷ []) $ fsplit ! $ move ! (1 ∷ []) $ fsplit ! $ fsplit ! $ move ! (1 ∷ []) $ feqL ! (λ same2g. move ! (8 ∷ []) $ split ! $ move ! (1 ∷ []) $ feqL ! (λ i2. land ! (from ! (stop !)) (store ! 32 refl (subst (λ (t : Val). Trueᴮ (hasTy tyUnit t) × WT t) (sym (ap only i2)) (tt, tt))) $
-        split ! $ move ! (1 ∷ []) $ split ! $ move ! (1 ∷ []) $ split ! $ move ! (1 ∷ []) $ split ! $ move ! (1 ∷ []) $ move ! (1 ∷ []) $ lft-end ! tt $ move ! (0 ∷ 13 ∷ 5 ∷ []) $ use3 W (later (‵ (O8 (ws2 .1 .1 .1 .1 .1 .1 .0)) ⊛ ‵ (flft κ₃ q₃))) (backs8 (named 3) ν2g δ2g (ws1 .1 .1 .1 .0) (ws2 .1 .1 .1 .1 .1 .1 .0) (same1d) room8 same2g) $ await ! tt $ split ! $
-        move ! (15 ∷ []) $ use1 W (‵ (O2) ⊛ ‵ (O2)) (shr-slice-copy 𝓤 H A W (named 0) κ₀ mEntry.the-row .twice s2 (v2 ∷ [])) $ split ! $ nothing ! $ move ! (8 ∷ 0 ∷ []) $ join ! $ join ! $
+        fsplit ! $ drop ! $ fsplit ! $ drop ! $ fsplit ! $ drop ! $ fsplit ! $ drop ! $ fsplit ! $ drop ! $ fsplit ! $ drop ! $ fsplit ! $ fsplit ! $ move ! (1 ∷ []) $ feqL ! (λ same2g. move ! (1 ∷ []) $ drop ! $ move ! (1 ∷ []) $ split ! $ move ! (1 ∷ []) $ feqL ! (λ i2. land ! (from ! (stop !)) (store ! 15 refl (subst (λ (t : Val). Trueᴮ (hasTy tyUnit t) × WT t) (sym (ap only i2)) (tt, tt))) $
+        tidy W (_ ∷ _ ∷ _ ∷ _ ∷ _ ∷ _ ∷ _ ∷ _ ∷ _ ∷ _ ∷ _ ∷ _ ∷ _ ∷ _ ∷ _ ∷ _ ∷ _ ∷ _ ∷ _ ∷ _ ∷ _ ∷ _ ∷ _ ∷ _ ∷ _ ∷ _ ∷ _ ∷ _ ∷ []) $ split ! $ move ! (1 ∷ []) $ split ! $ move ! (1 ∷ []) $ split ! $ move ! (1 ∷ []) $ split ! $ move ! (1 ∷ []) $ drop ! $ lft-end ! tt $ move ! (0 ∷ 5 ∷ 4 ∷ []) $ use3 W (later (‵ (O8 (ws2 .1 .1 .1 .1 .1 .1 .0)) ⊛ ‵ (flft κ₃ q₃))) (backs8 (named 3) ν2g δ2g (ws1 .1 .1 .1 .0) (ws2 .1 .1 .1 .1 .1 .1 .0) (same1d) room8 same2g) $ await ! tt $ split ! $
+        move ! (7 ∷ []) $ use1 W (‵ (O2) ⊛ ‵ (O2)) (shr-slice-copy 𝓤 H A W (named 0) κ₀ mEntry.the-row .twice s2 (v2 ∷ [])) $ split ! $ tidy W (_ ∷ _ ∷ _ ∷ _ ∷ _ ∷ _ ∷ _ ∷ _ ∷ _ ∷ _ ∷ _ ∷ _ ∷ _ ∷ _ ∷ _ ∷ _ ∷ _ ∷ _ ∷ _ ∷ _ ∷ _ ∷ _ ∷ _ ∷ _ ∷ _ ∷ _ ∷ _ ∷ _ ∷ _ ∷ _ ∷ _ ∷ []) $ nothing ! $ move ! (7 ∷ 0 ∷ []) $ join ! $ join ! $
         -- call 3
         use1 W (raw (Callee-g3 𝓤 H A at-mem run .pre (((κ₀, tt), (q₀, tt), tt, (s2, (n6, tt)), (v2 ∷ [], (u6 ∷ [], tt))), tt))) (qed W ((‵ (flft κ₀ q₀) ⊛ ‵ ftrue) ∷ ‵ (ShrSlice (named 0) κ₀ mEntry.the-row .own s2 (v2 ∷ [])) ∷ []) ∵ nothing ! $ owned ! u64 (Is u64) (uint-makes 𝓤 H A W w64) (n6) _ w6 $ fjoin ! $ move ! (2 ∷ 0 ∷ []) $ fjoin ! $ move ! (1 ∷ 0 ∷ []) $ join ! $ nothing ! $ move ! (1 ∷ 0 ∷ []) $ frame ! $ done !) $
-        calls-at ! fm (Callee-g3 𝓤 H A at-mem run) known-g3 (((κ₀, tt), (q₀, tt), tt, (s2, (n6, tt)), (v2 ∷ [], (u6 ∷ [], tt))), tt) (and-then ! (load ! (from ! (stop !)) (look ! 55 refl)) (and-then ! (load ! (from ! (stop !)) (look ! 47 refl)) (no-more !))) (λ z3.
+        calls-at ! fm (Callee-g3 𝓤 H A at-mem run) known-g3 (((κ₀, tt), (q₀, tt), tt, (s2, (n6, tt)), (v2 ∷ [], (u6 ∷ [], tt))), tt) (and-then ! (load ! (from ! (stop !)) (look ! 27 refl)) (and-then ! (load ! (from ! (stop !)) (look ! 23 refl)) (no-more !))) (λ z3.
         use1 W (later (some (λ (r3 : Bool). ((‵ (flft κ₀ q₀) ⊛ ‵ ftrue) ⊛ ‵ (bool .own r3 (z3 ∷ []))) ⊛ some (λ (ws : Lasts g3.ended (κ₀, tt) (s2, (n6, tt))). ‵ (lasts g3.ended (κ₀, tt) (s2, (n6, tt)) ws) ⊛ raw (g3.clauses 𝓤 H A at-mem run (κ₀, tt) (s2, (n6, tt)) .ensures tt r3 (atExit g3.ended (κ₀, tt) (s2, (n6, tt)) ws)))))) (id⊢ 𝓤 _) $ await ! tt $ pick ! (λ r3. split ! $ move ! (1 ∷ []) $ pick ! (λ ws3. split ! $ move ! (1 ∷ []) $ heard ! _ (λ e3.
-        fsplit ! $ move ! (1 ∷ []) $ fsplit ! $ move ! (3 ∷ []) $ split ! $ move ! (1 ∷ []) $ peeks ! bool (Is bool) (shows 𝓤 H A bool) r3 (z3 ∷ []) (λ i3. drop ! $ land ! (from ! (stop !)) (init ! 44 refl (bool-lawful 𝓤 H A W .typed r3 _ i3 .0)) $
-        split ! $ move ! (1 ∷ []) $ assigns-last ! (of-opd ! (load ! (from ! (stop !)) (look ! 45 refl))) (from ! (stop !)) (init ! 41 refl (bool-lawful 𝓤 H A W .typed r3 _ i3 .0)) $
+        drop ! $ split ! $ move ! (1 ∷ []) $ peeks ! bool (Is bool) (shows 𝓤 H A bool) r3 (z3 ∷ []) (λ i3. drop ! $ land ! (from ! (stop !)) (init ! 20 refl (bool-lawful 𝓤 H A W .typed r3 _ i3 .0)) $
+        tidy W (_ ∷ _ ∷ _ ∷ _ ∷ _ ∷ _ ∷ _ ∷ _ ∷ _ ∷ _ ∷ _ ∷ _ ∷ _ ∷ _ ∷ _ ∷ _ ∷ _ ∷ _ ∷ _ ∷ _ ∷ _ ∷ _ ∷ _ ∷ _ ∷ _ ∷ _ ∷ _ ∷ _ ∷ _ ∷ _ ∷ []) $ split ! $ move ! (1 ∷ []) $ drop ! $ assigns-last ! (of-opd ! (load ! (from ! (stop !)) (look ! 20 refl))) (from ! (stop !)) (init ! 18 refl (bool-lawful 𝓤 H A W .typed r3 _ i3 .0)) $
         exec ! C Λ ((tyBool, l₀) ∷ (tyBool, l₁) ∷ (sliceTy (tyRef (named 0) imm (pointee (mEntry.the-row .written))), l₂) ∷ (sliceTy (tyRef (named 1) imm (tyInt w64)), l₃) ∷ (sliceTy (tyRef (named 2) imm (tyInt w64)), l₄) ∷ (tyInt w64, l₅) ∷ (tyInt w64, l₆) ∷ (tyInt w64, l₇) ∷ (sliceTy (tyRef (named 3) mut (tyInt w64)), l₈) ∷ (tyBool, l₉) ∷ (tyBool, l₁₀) ∷ (tyBool, l₁₁) ∷ (tyUnit, l₁₂) ∷ (tyRef erased mut (tyInt w64), l₁₃) ∷ (sliceTy (tyRef erased mut (tyInt w64)), l₁₄) ∷ (tyRef erased mut (tyInt w64), l₁₅) ∷ (sliceTy (tyRef erased mut (tyInt w64)), l₁₆) ∷ []) Mir.t-3 (atRet ((tyBool, l₀) ∷ (tyBool, l₁) ∷ (sliceTy (tyRef (named 0) imm (pointee (mEntry.the-row .written))), l₂) ∷ (sliceTy (tyRef (named 1) imm (tyInt w64)), l₃) ∷ (sliceTy (tyRef (named 2) imm (tyInt w64)), l₄) ∷ (tyInt w64, l₅) ∷ (tyInt w64, l₆) ∷ (tyInt w64, l₇) ∷ (sliceTy (tyRef (named 3) mut (tyInt w64)), l₈) ∷ (tyBool, l₉) ∷ (tyBool, l₁₀) ∷ (tyBool, l₁₁) ∷ (tyUnit, l₁₂) ∷ (tyRef erased mut (tyInt w64), l₁₃) ∷ (sliceTy (tyRef erased mut (tyInt w64)), l₁₄) ∷ (tyRef erased mut (tyInt w64), l₁₅) ∷ (sliceTy (tyRef erased mut (tyInt w64)), l₁₆) ∷ []) Post) $
-        assigns ! (of-opd ! (load ! (from ! (stop !)) (look ! 41 refl))) (from ! (stop !)) (init ! 63 refl (bool-lawful 𝓤 H A W .typed r3 _ i3 .0)) $
-        returns ! (look ! 63 refl) $ forget ! 63 refl $ forget ! 61 refl $ forget ! 59 refl $ forget ! 57 refl $ forget ! 55 refl $ forget ! 53 refl $ forget ! 51 refl $ forget ! 49 refl $ forget ! 47 refl $ forget ! 45 refl $ forget ! 43 refl $ forget ! 41 refl $ forget ! 39 refl $ forget ! 37 refl $ forget ! 35 refl $ forget ! 33 refl $ forget ! 31 refl $
-        move ! (63 ∷ 64 ∷ []) $ free1 ! $ move ! (61 ∷ 62 ∷ []) $ free1 ! $ move ! (59 ∷ 60 ∷ []) $ free1 ! $ move ! (57 ∷ 58 ∷ []) $ free1 ! $ move ! (55 ∷ 56 ∷ []) $ free1 ! $ move ! (53 ∷ 54 ∷ []) $ free1 ! $ move ! (51 ∷ 52 ∷ []) $ free1 ! $ move ! (49 ∷ 50 ∷ []) $ free1 ! $ move ! (47 ∷ 48 ∷ []) $ free1 ! $ move ! (45 ∷ 46 ∷ []) $ free1 ! $ move ! (43 ∷ 44 ∷ []) $ free1 ! $ move ! (41 ∷ 42 ∷ []) $ free1 ! $ move ! (39 ∷ 40 ∷ []) $ free1 ! $ move ! (37 ∷ 38 ∷ []) $ free1 ! $ move ! (35 ∷ 36 ∷ []) $ free1 ! $ move ! (33 ∷ 34 ∷ []) $ free1 ! $ move ! (31 ∷ 32 ∷ []) $ free1 ! $ free0 ! $
+        assigns ! (of-opd ! (load ! (from ! (stop !)) (look ! 18 refl))) (from ! (stop !)) (init ! 29 refl (bool-lawful 𝓤 H A W .typed r3 _ i3 .0)) $
+        tidy W (_ ∷ _ ∷ _ ∷ _ ∷ _ ∷ _ ∷ _ ∷ _ ∷ _ ∷ _ ∷ _ ∷ _ ∷ _ ∷ _ ∷ _ ∷ _ ∷ _ ∷ _ ∷ _ ∷ _ ∷ _ ∷ _ ∷ _ ∷ _ ∷ _ ∷ _ ∷ _ ∷ _ ∷ _ ∷ _ ∷ []) $ returns ! (look ! 29 refl) $ move ! (12 ∷ []) $ use1 W (dies ((tyBool, l₀) ∷ (tyBool, l₁) ∷ (sliceTy (tyRef (named 0) imm (pointee (mEntry.the-row .written))), l₂) ∷ (sliceTy (tyRef (named 1) imm (tyInt w64)), l₃) ∷ (sliceTy (tyRef (named 2) imm (tyInt w64)), l₄) ∷ (tyInt w64, l₅) ∷ (tyInt w64, l₆) ∷ (tyInt w64, l₇) ∷ (sliceTy (tyRef (named 3) mut (tyInt w64)), l₈) ∷ (tyBool, l₉) ∷ (tyBool, l₁₀) ∷ (tyBool, l₁₁) ∷ (tyUnit, l₁₂) ∷ (tyRef erased mut (tyInt w64), l₁₃) ∷ (sliceTy (tyRef erased mut (tyInt w64)), l₁₄) ∷ (tyRef erased mut (tyInt w64), l₁₅) ∷ (sliceTy (tyRef erased mut (tyInt w64)), l₁₆) ∷ []) (‵ ftrue)) die $ free-all ! 12 ((tyBool, l₀) ∷ (tyBool, l₁) ∷ (sliceTy (tyRef (named 0) imm (pointee (mEntry.the-row .written))), l₂) ∷ (sliceTy (tyRef (named 1) imm (tyInt w64)), l₃) ∷ (sliceTy (tyRef (named 2) imm (tyInt w64)), l₄) ∷ (tyInt w64, l₅) ∷ (tyInt w64, l₆) ∷ (tyInt w64, l₇) ∷ (sliceTy (tyRef (named 3) mut (tyInt w64)), l₈) ∷ (tyBool, l₉) ∷ (tyBool, l₁₀) ∷ (tyBool, l₁₁) ∷ (tyUnit, l₁₂) ∷ (tyRef erased mut (tyInt w64), l₁₃) ∷ (sliceTy (tyRef erased mut (tyInt w64)), l₁₄) ∷ (tyRef erased mut (tyInt w64), l₁₅) ∷ (sliceTy (tyRef erased mut (tyInt w64)), l₁₆) ∷ []) (kept _ ∷ kept _ ∷ kept _ ∷ kept _ ∷ kept _ ∷ kept _ ∷ kept _ ∷ kept _ ∷ kept _ ∷ kept _ ∷ kept _ ∷ kept _ ∷ kept _ ∷ kept _ ∷ kept _ ∷ kept _ ∷ kept _ ∷ []) refl $
         suffices ! _ (ends-at 𝓤 H A f.ended stayed (f.clauses 𝓤 H A at-mem run) W (((κ₀, (κ₁, (κ₂, (κ₃, tt)))), (q₀, (q₁, (q₂, (q₃, tt)))), tt, a, at), tt) z3 r3 (tt, (tt, (tt, (tt, (tt, (tt, (tt, (ws2 .1 .1 .1 .1 .1 .1 .0, tt)))))))) (tt, (tt, (tt, (tt, (tt, (tt, (tt, (same2g ∙ same1d, tt))))))))) $ says ! (write-some (s2 .now) (s3 .now) (s4 .now) ys8 n5 n6 n7 n1 r3 (ws1 .1 .1 .1 .0) (ws2 .1 .1 .1 .1 .1 .1 .0) b1 e1 e2 e3) $
-        nothing ! $ move ! (8 ∷ 0 ∷ []) $ join ! $ move ! (9 ∷ 0 ∷ []) $ join ! $ move ! (9 ∷ 0 ∷ []) $ join ! $ move ! (2 ∷ 0 ∷ []) $ join ! $ nothing ! $ move ! (7 ∷ 0 ∷ []) $ fjoin ! $ move ! (24 ∷ 0 ∷ []) $ fjoin ! $ move ! (24 ∷ 0 ∷ []) $ fjoin ! $ move ! (24 ∷ 0 ∷ []) $ fjoin ! $ move ! (15 ∷ 0 ∷ []) $ fjoin ! $ move ! (15 ∷ 0 ∷ []) $ fjoin ! $ move ! (6 ∷ 0 ∷ []) $ fjoin ! $ move ! (21 ∷ 0 ∷ []) $ fjoin ! $ keep ! (1 ∷ 0 ∷ []) $ frame ! $ frame ! $ owned ! bool (Is bool) (bool-makes 𝓤 H A W) r3 _ i3 $ done !))))))))))))))))))))))
-        (λ y1. let b1 : n1 ≡ false = is-no (n1) y1 in assigns-last ! (of-opd ! (false-lit !)) (from ! (stop !)) (init ! 24 refl (tt, tt)) $
+        nothing ! $ move ! (4 ∷ 0 ∷ []) $ join ! $ move ! (4 ∷ 0 ∷ []) $ join ! $ move ! (4 ∷ 0 ∷ []) $ join ! $ move ! (1 ∷ 0 ∷ []) $ join ! $ nothing ! $ move ! (3 ∷ 0 ∷ []) $ fjoin ! $ move ! (5 ∷ 0 ∷ []) $ fjoin ! $ move ! (5 ∷ 0 ∷ []) $ fjoin ! $ move ! (5 ∷ 0 ∷ []) $ fjoin ! $ move ! (3 ∷ 0 ∷ []) $ fjoin ! $ move ! (3 ∷ 0 ∷ []) $ fjoin ! $ move ! (2 ∷ 0 ∷ []) $ fjoin ! $ move ! (2 ∷ 0 ∷ []) $ fjoin ! $ keep ! (1 ∷ 0 ∷ []) $ frame ! $ frame ! $ owned ! bool (Is bool) (bool-makes 𝓤 H A W) r3 _ i3 $ done !))))))))))))))))))))))
+        (λ y1. let b1 : n1 ≡ false = is-no (n1) y1 in assigns-last ! (of-opd ! (false-lit !)) (from ! (stop !)) (init ! 18 refl (tt, tt)) $
         exec ! C Λ ((tyBool, l₀) ∷ (tyBool, l₁) ∷ (sliceTy (tyRef (named 0) imm (pointee (mEntry.the-row .written))), l₂) ∷ (sliceTy (tyRef (named 1) imm (tyInt w64)), l₃) ∷ (sliceTy (tyRef (named 2) imm (tyInt w64)), l₄) ∷ (tyInt w64, l₅) ∷ (tyInt w64, l₆) ∷ (tyInt w64, l₇) ∷ (sliceTy (tyRef (named 3) mut (tyInt w64)), l₈) ∷ (tyBool, l₉) ∷ (tyBool, l₁₀) ∷ (tyBool, l₁₁) ∷ (tyUnit, l₁₂) ∷ (tyRef erased mut (tyInt w64), l₁₃) ∷ (sliceTy (tyRef erased mut (tyInt w64)), l₁₄) ∷ (tyRef erased mut (tyInt w64), l₁₅) ∷ (sliceTy (tyRef erased mut (tyInt w64)), l₁₆) ∷ []) Mir.t-3 (atRet ((tyBool, l₀) ∷ (tyBool, l₁) ∷ (sliceTy (tyRef (named 0) imm (pointee (mEntry.the-row .written))), l₂) ∷ (sliceTy (tyRef (named 1) imm (tyInt w64)), l₃) ∷ (sliceTy (tyRef (named 2) imm (tyInt w64)), l₄) ∷ (tyInt w64, l₅) ∷ (tyInt w64, l₆) ∷ (tyInt w64, l₇) ∷ (sliceTy (tyRef (named 3) mut (tyInt w64)), l₈) ∷ (tyBool, l₉) ∷ (tyBool, l₁₀) ∷ (tyBool, l₁₁) ∷ (tyUnit, l₁₂) ∷ (tyRef erased mut (tyInt w64), l₁₃) ∷ (sliceTy (tyRef erased mut (tyInt w64)), l₁₄) ∷ (tyRef erased mut (tyInt w64), l₁₅) ∷ (sliceTy (tyRef erased mut (tyInt w64)), l₁₆) ∷ []) Post) $
-        assigns ! (of-opd ! (load ! (from ! (stop !)) (look ! 24 refl))) (from ! (stop !)) (init ! 46 refl (bool-lawful 𝓤 H A W .typed false _ refl .0)) $
-        returns ! (look ! 46 refl) $ forget ! 46 refl $ forget ! 44 refl $ forget ! 42 refl $ forget ! 40 refl $ forget ! 38 refl $ forget ! 36 refl $ forget ! 34 refl $ forget ! 32 refl $ forget ! 30 refl $ forget ! 26 refl $ forget ! 24 refl $
-        move ! (46 ∷ 47 ∷ []) $ free1 ! $ move ! (44 ∷ 45 ∷ []) $ free1 ! $ move ! (42 ∷ 43 ∷ []) $ free1 ! $ move ! (40 ∷ 41 ∷ []) $ free1 ! $ move ! (38 ∷ 39 ∷ []) $ free1 ! $ move ! (36 ∷ 37 ∷ []) $ free1 ! $ move ! (34 ∷ 35 ∷ []) $ free1 ! $ move ! (32 ∷ 33 ∷ []) $ free1 ! $ move ! (30 ∷ 31 ∷ []) $ free1 ! $ move ! (28 ∷ 29 ∷ []) $ free1 ! $ move ! (26 ∷ 27 ∷ []) $ free1 ! $ move ! (24 ∷ 25 ∷ []) $ free1 ! $ move ! (22 ∷ 23 ∷ []) $ free1 ! $ move ! (20 ∷ 21 ∷ []) $ free1 ! $ move ! (18 ∷ 19 ∷ []) $ free1 ! $ move ! (16 ∷ 17 ∷ []) $ free1 ! $ move ! (14 ∷ 15 ∷ []) $ free1 ! $ free0 ! $
+        assigns ! (of-opd ! (load ! (from ! (stop !)) (look ! 18 refl))) (from ! (stop !)) (init ! 29 refl (bool-lawful 𝓤 H A W .typed false _ refl .0)) $
+        tidy W (_ ∷ _ ∷ _ ∷ _ ∷ _ ∷ _ ∷ _ ∷ _ ∷ _ ∷ _ ∷ _ ∷ _ ∷ _ ∷ _ ∷ _ ∷ _ ∷ _ ∷ _ ∷ _ ∷ _ ∷ _ ∷ _ ∷ _ ∷ _ ∷ _ ∷ _ ∷ _ ∷ _ ∷ _ ∷ _ ∷ []) $ returns ! (look ! 29 refl) $ move ! (12 ∷ []) $ use1 W (dies ((tyBool, l₀) ∷ (tyBool, l₁) ∷ (sliceTy (tyRef (named 0) imm (pointee (mEntry.the-row .written))), l₂) ∷ (sliceTy (tyRef (named 1) imm (tyInt w64)), l₃) ∷ (sliceTy (tyRef (named 2) imm (tyInt w64)), l₄) ∷ (tyInt w64, l₅) ∷ (tyInt w64, l₆) ∷ (tyInt w64, l₇) ∷ (sliceTy (tyRef (named 3) mut (tyInt w64)), l₈) ∷ (tyBool, l₉) ∷ (tyBool, l₁₀) ∷ (tyBool, l₁₁) ∷ (tyUnit, l₁₂) ∷ (tyRef erased mut (tyInt w64), l₁₃) ∷ (sliceTy (tyRef erased mut (tyInt w64)), l₁₄) ∷ (tyRef erased mut (tyInt w64), l₁₅) ∷ (sliceTy (tyRef erased mut (tyInt w64)), l₁₆) ∷ []) (‵ ftrue)) die $ free-all ! 12 ((tyBool, l₀) ∷ (tyBool, l₁) ∷ (sliceTy (tyRef (named 0) imm (pointee (mEntry.the-row .written))), l₂) ∷ (sliceTy (tyRef (named 1) imm (tyInt w64)), l₃) ∷ (sliceTy (tyRef (named 2) imm (tyInt w64)), l₄) ∷ (tyInt w64, l₅) ∷ (tyInt w64, l₆) ∷ (tyInt w64, l₇) ∷ (sliceTy (tyRef (named 3) mut (tyInt w64)), l₈) ∷ (tyBool, l₉) ∷ (tyBool, l₁₀) ∷ (tyBool, l₁₁) ∷ (tyUnit, l₁₂) ∷ (tyRef erased mut (tyInt w64), l₁₃) ∷ (sliceTy (tyRef erased mut (tyInt w64)), l₁₄) ∷ (tyRef erased mut (tyInt w64), l₁₅) ∷ (sliceTy (tyRef erased mut (tyInt w64)), l₁₆) ∷ []) (kept _ ∷ kept _ ∷ kept _ ∷ kept _ ∷ kept _ ∷ kept _ ∷ kept _ ∷ kept _ ∷ kept _ ∷ bare ∷ kept _ ∷ kept _ ∷ bare ∷ bare ∷ bare ∷ bare ∷ bare ∷ []) refl $
         suffices ! _ (ends-at 𝓤 H A f.ended stayed (f.clauses 𝓤 H A at-mem run) W (((κ₀, (κ₁, (κ₂, (κ₃, tt)))), (q₀, (q₁, (q₂, (q₃, tt)))), tt, a, at), tt) (vbool false) false (tt, (tt, (tt, (tt, (tt, (tt, (tt, (ys8, tt)))))))) (tt, (tt, (tt, (tt, (tt, (tt, (tt, (refl, tt))))))))) $ says ! (write-none (s2 .now) (s3 .now) (s4 .now) ys8 n5 n6 n7 n1 false b1 refl) $
-        nothing ! $ move ! (2 ∷ 0 ∷ []) $ join ! $ move ! (2 ∷ 0 ∷ []) $ join ! $ move ! (2 ∷ 0 ∷ []) $ join ! $ move ! (2 ∷ 0 ∷ []) $ join ! $ nothing ! $ move ! (4 ∷ 0 ∷ []) $ fjoin ! $ move ! (4 ∷ 0 ∷ []) $ fjoin ! $ move ! (4 ∷ 0 ∷ []) $ fjoin ! $ move ! (4 ∷ 0 ∷ []) $ fjoin ! $ move ! (4 ∷ 0 ∷ []) $ fjoin ! $ move ! (4 ∷ 0 ∷ []) $ fjoin ! $ move ! (4 ∷ 0 ∷ []) $ fjoin ! $ move ! (4 ∷ 0 ∷ []) $ fjoin ! $ keep ! (1 ∷ 0 ∷ []) $ frame ! $ frame ! $ owned ! bool (Is bool) (bool-makes 𝓤 H A W) false _ refl $ done !)
-        )))))))))))))))))
+        nothing ! $ move ! (1 ∷ 0 ∷ []) $ join ! $ move ! (1 ∷ 0 ∷ []) $ join ! $ move ! (1 ∷ 0 ∷ []) $ join ! $ move ! (1 ∷ 0 ∷ []) $ join ! $ nothing ! $ move ! (2 ∷ 0 ∷ []) $ fjoin ! $ move ! (2 ∷ 0 ∷ []) $ fjoin ! $ move ! (2 ∷ 0 ∷ []) $ fjoin ! $ move ! (2 ∷ 0 ∷ []) $ fjoin ! $ move ! (2 ∷ 0 ∷ []) $ fjoin ! $ move ! (2 ∷ 0 ∷ []) $ fjoin ! $ move ! (2 ∷ 0 ∷ []) $ fjoin ! $ move ! (2 ∷ 0 ∷ []) $ fjoin ! $ keep ! (1 ∷ 0 ∷ []) $ frame ! $ frame ! $ owned ! bool (Is bool) (bool-makes 𝓤 H A W) false _ refl $ done !)
+        ))))))))))))))))))
 
 module _ {M : Type 1} (𝓤 : URA M) (H : Heap 𝓤) (A : Atoms 𝓤) (W : Given 𝓤 H A) (mem : Memory → SProp 𝓤) (run : Routine → Fun 𝓤) where
   walks : (C : Calls 𝓤 H) (Λ : Loops 𝓤 H) → FmC 𝓤 H (W .laws) C → Triple 𝓤 (C #g1) (Callee-g1 𝓤 H A mem run) → Triple 𝓤 (C #g2) (Callee-g2 𝓤 H A mem run) → Triple 𝓤 (C #g3) (Callee-g3 𝓤 H A mem run) → Walks 𝓤 H A f.ended stayed (WpFn 𝓤 H C Λ code.function) (f.clauses 𝓤 H A mem run)

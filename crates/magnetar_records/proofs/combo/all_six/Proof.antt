@@ -20,7 +20,7 @@ use contract.Monad.{Fun, fact}
 use contract.Running.{givenOf, tables, tablesOf}
 use types.Kit.{Given, ‵, raw, _⊛_, ⋆, some, later, _$_, _∵_, !, qed, by, move, keep, drop, use1, use2, use3, split, join, pick, fsplit, fsplit3, fjoin, fjoin3, feqL, feqI, rewrite, atRet, suffices, frame, await, done}
 use types.Part.{agg, whole, sub, look-in}
-use types.Run.{look, look-raw, init, store, store-raw, forget, stop, hop, fld, from, load, unit-lit, of-opd, addr, and-then, no-more, lit, true-lit, false-lit, assigns, assigns-last, land, land-last, first, branches, skips, exec, returns, enter, alloc1, alloc0, params1, pass1, pass0, free1, free0}
+use types.Run.{look, look-raw, init, store, store-raw, stop, hop, fld, from, load, unit-lit, of-opd, addr, and-then, no-more, lit, true-lit, false-lit, assigns, assigns-last, land, land-last, first, branches, skips, exec, returns, enter, alloc0, params1, pass1, pass0}
 use types.Tokens.{lft-new, lft-end}
 use sound.WpLaws.{FmC, fmOf, WpFn-mono}
 use denote.RattleType.{owns}
@@ -48,6 +48,7 @@ use denote.Exit.{yes}
 use Rattle.magnetar_inplace.specs.declared.records.Entry.{Entry}
 use Rattle.magnetar_inplace.proofs.records.Entry as mEntry
 use Rattle.magnetar_inplace.proofs.records.Entry.Laws as lEntry
+use Rattle.magnetar_inplace.proofs.Locals.{tidy, bare, kept, dies, alloc, hide, free-all}
 use Rattle.magnetar_inplace.proofs.records.all_inside as g1
 use Rattle.magnetar_inplace.proofs.records.all_inside.Symbol as g1-def
 use Rattle.magnetar_inplace.proofs.records.all_inside.Symbol.{name as #g1}
@@ -171,54 +172,53 @@ module _ {M : Type 1} (𝓤 : URA M) (H : Heap 𝓤) (A : Atoms 𝓤) (W : Given
     walk : ent 𝓤 (onEntry 𝓤 H A f.signature (κ₀, (κ₁, (κ₂, (κ₃, (κ₄, (κ₅, tt)))))) (q₀, (q₁, (q₂, (q₃, (q₄, (q₅, tt)))))) a at) (WpFn 𝓤 H C Λ code.function (v1 ∷ v2 ∷ v3 ∷ v4 ∷ v5 ∷ v6 ∷ v7 ∷ v8 ∷ v9 ∷ v10 ∷ v11 ∷ v12 ∷ v13 ∷ v14 ∷ v15 ∷ v16 ∷ v17 ∷ v18 ∷ []) Post)
     walk =
         qed W ((‵ (flft κ₀ q₀) ⊛ ‵ (flft κ₁ q₁) ⊛ ‵ (flft κ₂ q₂) ⊛ ‵ (flft κ₃ q₃) ⊛ ‵ (flft κ₄ q₄) ⊛ ‵ (flft κ₅ q₅) ⊛ ‵ ftrue) ∷ ‵ (owns (u64 ∷ u64 ∷ ShrSlice (named 0) κ₀ mEntry.the-row ∷ u64 ∷ u64 ∷ ShrSlice (named 1) κ₁ mEntry.the-row ∷ u64 ∷ u64 ∷ ShrSlice (named 2) κ₂ mEntry.the-row ∷ u64 ∷ u64 ∷ ShrSlice (named 3) κ₃ mEntry.the-row ∷ u64 ∷ u64 ∷ ShrSlice (named 4) κ₄ mEntry.the-row ∷ u64 ∷ u64 ∷ ShrSlice (named 5) κ₅ mEntry.the-row ∷ []) a at) ∷ []) ∵ enter ! C Λ code.function (v1 ∷ v2 ∷ v3 ∷ v4 ∷ v5 ∷ v6 ∷ v7 ∷ v8 ∷ v9 ∷ v10 ∷ v11 ∷ v12 ∷ v13 ∷ v14 ∷ v15 ∷ v16 ∷ v17 ∷ v18 ∷ []) _ $
-        alloc1 ! (λ l₀. alloc1 ! (λ l₁. alloc1 ! (λ l₂. alloc1 ! (λ l₃. alloc1 ! (λ l₄. alloc1 ! (λ l₅. alloc1 ! (λ l₆. alloc1 ! (λ l₇. alloc1 ! (λ l₈. alloc1 ! (λ l₉. alloc1 ! (λ l₁₀. alloc1 ! (λ l₁₁. alloc1 ! (λ l₁₂. alloc1 ! (λ l₁₃. alloc1 ! (λ l₁₄. alloc1 ! (λ l₁₅. alloc1 ! (λ l₁₆. alloc1 ! (λ l₁₇. alloc1 ! (λ l₁₈. alloc1 ! (λ l₁₉. alloc1 ! (λ l₂₀. alloc1 ! (λ l₂₁. alloc1 ! (λ l₂₂. alloc1 ! (λ l₂₃. alloc1 ! (λ l₂₄. alloc0 ! $ params1 ! $ pass1 ! (init ! 46 refl (uint-lawful 𝓤 H A W w64 .typed n1 _ w1 .0)) $ pass1 ! (init ! 44 refl (uint-lawful 𝓤 H A W w64 .typed n2 _ w2 .0)) $ pass1 ! (init ! 42 refl (shr-slice-lawful 𝓤 H A W (named 0) κ₀ mEntry.the-row .typed s3 (v3 ∷ []) w3 .0)) $ pass1 ! (init ! 40 refl (uint-lawful 𝓤 H A W w64 .typed n4 _ w4 .0)) $ pass1 ! (init ! 38 refl (uint-lawful 𝓤 H A W w64 .typed n5 _ w5 .0)) $ pass1 ! (init ! 36 refl (shr-slice-lawful 𝓤 H A W (named 1) κ₁ mEntry.the-row .typed s6 (v6 ∷ []) w6 .0)) $ pass1 ! (init ! 34 refl (uint-lawful 𝓤 H A W w64 .typed n7 _ w7 .0)) $ pass1 ! (init ! 32 refl (uint-lawful 𝓤 H A W w64 .typed n8 _ w8 .0)) $ pass1 ! (init ! 30 refl (shr-slice-lawful 𝓤 H A W (named 2) κ₂ mEntry.the-row .typed s9 (v9 ∷ []) w9 .0)) $ pass1 ! (init ! 28 refl (uint-lawful 𝓤 H A W w64 .typed n10 _ w10 .0)) $ pass1 ! (init ! 26 refl (uint-lawful 𝓤 H A W w64 .typed n11 _ w11 .0)) $ pass1 ! (init ! 24 refl (shr-slice-lawful 𝓤 H A W (named 3) κ₃ mEntry.the-row .typed s12 (v12 ∷ []) w12 .0)) $ pass1 ! (init ! 22 refl (uint-lawful 𝓤 H A W w64 .typed n13 _ w13 .0)) $ pass1 ! (init ! 20 refl (uint-lawful 𝓤 H A W w64 .typed n14 _ w14 .0)) $ pass1 ! (init ! 18 refl (shr-slice-lawful 𝓤 H A W (named 4) κ₄ mEntry.the-row .typed s15 (v15 ∷ []) w15 .0)) $ pass1 ! (init ! 16 refl (uint-lawful 𝓤 H A W w64 .typed n16 _ w16 .0)) $ pass1 ! (init ! 14 refl (uint-lawful 𝓤 H A W w64 .typed n17 _ w17 .0)) $ pass1 ! (init ! 12 refl (shr-slice-lawful 𝓤 H A W (named 5) κ₅ mEntry.the-row .typed s18 (v18 ∷ []) w18 .0)) $ pass0 ! $
-        move ! (51 ∷ []) $ fsplit ! $ move ! (1 ∷ []) $ fsplit ! $ move ! (1 ∷ []) $ fsplit ! $ move ! (1 ∷ []) $ fsplit ! $ move ! (1 ∷ []) $ fsplit ! $ move ! (1 ∷ []) $ fsplit ! $ move ! (1 ∷ []) $ fsplit ! $ move ! (1 ∷ []) $ fsplit ! $ move ! (1 ∷ []) $ fsplit ! $ move ! (1 ∷ []) $ fsplit ! $ move ! (1 ∷ []) $ fsplit ! $ move ! (1 ∷ []) $ fsplit ! $ move ! (1 ∷ []) $ fsplit ! $ move ! (1 ∷ []) $ fsplit ! $ move ! (1 ∷ []) $ fsplit ! $ move ! (1 ∷ []) $ fsplit ! $ move ! (1 ∷ []) $ fsplit ! $ move ! (1 ∷ []) $ fsplit ! $ move ! (1 ∷ []) $ move ! (69 ∷ []) $ split ! $ move ! (1 ∷ []) $ split ! $ move ! (1 ∷ []) $ split ! $ move ! (1 ∷ []) $ split ! $ move ! (1 ∷ []) $ split ! $ move ! (1 ∷ []) $ split ! $ move ! (1 ∷ []) $
-        move ! (23 ∷ []) $ use1 W (‵ (O3) ⊛ ‵ (O3)) (shr-slice-copy 𝓤 H A W (named 0) κ₀ mEntry.the-row .twice s3 (v3 ∷ [])) $ split ! $ nothing ! $ move ! (9 ∷ 0 ∷ []) $ join ! $ join ! $
+        nothing ! $ alloc ! (λ l₀. alloc ! (λ l₁. alloc ! (λ l₂. alloc ! (λ l₃. alloc ! (λ l₄. alloc ! (λ l₅. alloc ! (λ l₆. alloc ! (λ l₇. alloc ! (λ l₈. alloc ! (λ l₉. alloc ! (λ l₁₀. alloc ! (λ l₁₁. alloc ! (λ l₁₂. alloc ! (λ l₁₃. alloc ! (λ l₁₄. alloc ! (λ l₁₅. alloc ! (λ l₁₆. alloc ! (λ l₁₇. alloc ! (λ l₁₈. alloc ! (λ l₁₉. alloc ! (λ l₂₀. alloc ! (λ l₂₁. alloc ! (λ l₂₂. alloc ! (λ l₂₃. alloc ! (λ l₂₄. alloc0 ! $ hide ! (λ died die. params1 ! $ pass1 ! (init ! 24 refl (uint-lawful 𝓤 H A W w64 .typed n1 _ w1 .0)) $ pass1 ! (init ! 23 refl (uint-lawful 𝓤 H A W w64 .typed n2 _ w2 .0)) $ pass1 ! (init ! 22 refl (shr-slice-lawful 𝓤 H A W (named 0) κ₀ mEntry.the-row .typed s3 (v3 ∷ []) w3 .0)) $ pass1 ! (init ! 21 refl (uint-lawful 𝓤 H A W w64 .typed n4 _ w4 .0)) $ pass1 ! (init ! 20 refl (uint-lawful 𝓤 H A W w64 .typed n5 _ w5 .0)) $ pass1 ! (init ! 19 refl (shr-slice-lawful 𝓤 H A W (named 1) κ₁ mEntry.the-row .typed s6 (v6 ∷ []) w6 .0)) $ pass1 ! (init ! 18 refl (uint-lawful 𝓤 H A W w64 .typed n7 _ w7 .0)) $ pass1 ! (init ! 17 refl (uint-lawful 𝓤 H A W w64 .typed n8 _ w8 .0)) $ pass1 ! (init ! 16 refl (shr-slice-lawful 𝓤 H A W (named 2) κ₂ mEntry.the-row .typed s9 (v9 ∷ []) w9 .0)) $ pass1 ! (init ! 15 refl (uint-lawful 𝓤 H A W w64 .typed n10 _ w10 .0)) $ pass1 ! (init ! 14 refl (uint-lawful 𝓤 H A W w64 .typed n11 _ w11 .0)) $ pass1 ! (init ! 13 refl (shr-slice-lawful 𝓤 H A W (named 3) κ₃ mEntry.the-row .typed s12 (v12 ∷ []) w12 .0)) $ pass1 ! (init ! 12 refl (uint-lawful 𝓤 H A W w64 .typed n13 _ w13 .0)) $ pass1 ! (init ! 11 refl (uint-lawful 𝓤 H A W w64 .typed n14 _ w14 .0)) $ pass1 ! (init ! 10 refl (shr-slice-lawful 𝓤 H A W (named 4) κ₄ mEntry.the-row .typed s15 (v15 ∷ []) w15 .0)) $ pass1 ! (init ! 9 refl (uint-lawful 𝓤 H A W w64 .typed n16 _ w16 .0)) $ pass1 ! (init ! 8 refl (uint-lawful 𝓤 H A W w64 .typed n17 _ w17 .0)) $ pass1 ! (init ! 7 refl (shr-slice-lawful 𝓤 H A W (named 5) κ₅ mEntry.the-row .typed s18 (v18 ∷ []) w18 .0)) $ pass0 ! $
+        move ! (27 ∷ []) $ fsplit ! $ move ! (1 ∷ []) $ fsplit ! $ move ! (1 ∷ []) $ fsplit ! $ move ! (1 ∷ []) $ fsplit ! $ move ! (1 ∷ []) $ fsplit ! $ move ! (1 ∷ []) $ fsplit ! $ move ! (1 ∷ []) $ fsplit ! $ move ! (1 ∷ []) $ fsplit ! $ move ! (1 ∷ []) $ fsplit ! $ move ! (1 ∷ []) $ fsplit ! $ move ! (1 ∷ []) $ fsplit ! $ move ! (1 ∷ []) $ fsplit ! $ move ! (1 ∷ []) $ fsplit ! $ move ! (1 ∷ []) $ fsplit ! $ move ! (1 ∷ []) $ fsplit ! $ move ! (1 ∷ []) $ fsplit ! $ move ! (1 ∷ []) $ fsplit ! $ move ! (1 ∷ []) $ fsplit ! $ move ! (1 ∷ []) $ drop ! $ move ! (44 ∷ []) $ split ! $ move ! (1 ∷ []) $ split ! $ move ! (1 ∷ []) $ split ! $ move ! (1 ∷ []) $ split ! $ move ! (1 ∷ []) $ split ! $ move ! (1 ∷ []) $ split ! $ move ! (1 ∷ []) $ drop ! $ tidy W (_ ∷ _ ∷ _ ∷ _ ∷ _ ∷ _ ∷ _ ∷ _ ∷ _ ∷ _ ∷ _ ∷ _ ∷ _ ∷ _ ∷ _ ∷ _ ∷ _ ∷ _ ∷ _ ∷ _ ∷ _ ∷ _ ∷ _ ∷ _ ∷ _ ∷ _ ∷ _ ∷ _ ∷ _ ∷ _ ∷ _ ∷ _ ∷ _ ∷ _ ∷ _ ∷ _ ∷ _ ∷ _ ∷ _ ∷ _ ∷ _ ∷ _ ∷ _ ∷ _ ∷ _ ∷ _ ∷ _ ∷ _ ∷ _ ∷ _ ∷ []) $
+        move ! (21 ∷ []) $ use1 W (‵ (O3) ⊛ ‵ (O3)) (shr-slice-copy 𝓤 H A W (named 0) κ₀ mEntry.the-row .twice s3 (v3 ∷ [])) $ split ! $ tidy W (_ ∷ _ ∷ _ ∷ _ ∷ _ ∷ _ ∷ _ ∷ _ ∷ _ ∷ _ ∷ _ ∷ _ ∷ _ ∷ _ ∷ _ ∷ _ ∷ _ ∷ _ ∷ _ ∷ _ ∷ _ ∷ _ ∷ _ ∷ _ ∷ _ ∷ _ ∷ _ ∷ _ ∷ _ ∷ _ ∷ _ ∷ _ ∷ _ ∷ _ ∷ _ ∷ _ ∷ _ ∷ _ ∷ _ ∷ _ ∷ _ ∷ _ ∷ _ ∷ _ ∷ _ ∷ _ ∷ _ ∷ _ ∷ _ ∷ _ ∷ _ ∷ []) $ nothing ! $ move ! (8 ∷ 0 ∷ []) $ join ! $ join ! $
         -- call 1
         use1 W (raw (Callee-g1 𝓤 H A at-mem run .pre (((κ₀, tt), (q₀, tt), tt, (s3, (n1, (n2, tt))), (v3 ∷ [], (u1 ∷ [], (u2 ∷ [], tt)))), tt))) (qed W ((‵ (flft κ₀ q₀) ⊛ ‵ ftrue) ∷ ‵ (ShrSlice (named 0) κ₀ mEntry.the-row .own s3 (v3 ∷ [])) ∷ []) ∵ nothing ! $ owned ! u64 (Is u64) (uint-makes 𝓤 H A W w64) (n2) _ w2 $ fjoin ! $ owned ! u64 (Is u64) (uint-makes 𝓤 H A W w64) (n1) _ w1 $ fjoin ! $ move ! (2 ∷ 0 ∷ []) $ fjoin ! $ move ! (1 ∷ 0 ∷ []) $ join ! $ nothing ! $ move ! (1 ∷ 0 ∷ []) $ frame ! $ done !) $
-        calls-at ! fm (Callee-g1 𝓤 H A at-mem run) known-g1 (((κ₀, tt), (q₀, tt), tt, (s3, (n1, (n2, tt))), (v3 ∷ [], (u1 ∷ [], (u2 ∷ [], tt)))), tt) (and-then ! (load ! (from ! (stop !)) (look ! 68 refl)) (and-then ! (load ! (from ! (stop !)) (look ! 72 refl)) (and-then ! (load ! (from ! (stop !)) (look ! 70 refl)) (no-more !)))) (λ z1.
+        calls-at ! fm (Callee-g1 𝓤 H A at-mem run) known-g1 (((κ₀, tt), (q₀, tt), tt, (s3, (n1, (n2, tt))), (v3 ∷ [], (u1 ∷ [], (u2 ∷ [], tt)))), tt) (and-then ! (load ! (from ! (stop !)) (look ! 46 refl)) (and-then ! (load ! (from ! (stop !)) (look ! 48 refl)) (and-then ! (load ! (from ! (stop !)) (look ! 47 refl)) (no-more !)))) (λ z1.
         use1 W (later (some (λ (r1 : Bool). ((‵ (flft κ₀ q₀) ⊛ ‵ ftrue) ⊛ ‵ (bool .own r1 (z1 ∷ []))) ⊛ some (λ (ws : Lasts g1.ended (κ₀, tt) (s3, (n1, (n2, tt)))). ‵ (lasts g1.ended (κ₀, tt) (s3, (n1, (n2, tt))) ws) ⊛ raw (g1.clauses 𝓤 H A at-mem run (κ₀, tt) (s3, (n1, (n2, tt))) .ensures tt r1 (atExit g1.ended (κ₀, tt) (s3, (n1, (n2, tt))) ws)))))) (id⊢ 𝓤 _) $ await ! tt $ pick ! (λ r1. split ! $ move ! (1 ∷ []) $ pick ! (λ ws1. split ! $ move ! (1 ∷ []) $ heard ! _ (λ e1.
-        fsplit ! $ move ! (1 ∷ []) $ fsplit ! $ move ! (1 ∷ []) $ fsplit ! $ move ! (4 ∷ []) $ split ! $ move ! (1 ∷ []) $ peeks ! bool (Is bool) (shows 𝓤 H A bool) r1 (z1 ∷ []) (λ i1. drop ! $ land ! (from ! (stop !)) (init ! 40 refl (bool-lawful 𝓤 H A W .typed r1 _ i1 .0)) $
-        split ! $ move ! (1 ∷ []) $ move ! (26 ∷ []) $ use1 W (‵ (O6) ⊛ ‵ (O6)) (shr-slice-copy 𝓤 H A W (named 1) κ₁ mEntry.the-row .twice s6 (v6 ∷ [])) $ split ! $ nothing ! $ move ! (15 ∷ 0 ∷ []) $ join ! $ join ! $
+        drop ! $ split ! $ move ! (1 ∷ []) $ peeks ! bool (Is bool) (shows 𝓤 H A bool) r1 (z1 ∷ []) (λ i1. drop ! $ land ! (from ! (stop !)) (init ! 30 refl (bool-lawful 𝓤 H A W .typed r1 _ i1 .0)) $
+        tidy W (_ ∷ _ ∷ _ ∷ _ ∷ _ ∷ _ ∷ _ ∷ _ ∷ _ ∷ _ ∷ _ ∷ _ ∷ _ ∷ _ ∷ _ ∷ _ ∷ _ ∷ _ ∷ _ ∷ _ ∷ _ ∷ _ ∷ _ ∷ _ ∷ _ ∷ _ ∷ _ ∷ _ ∷ _ ∷ _ ∷ _ ∷ _ ∷ _ ∷ _ ∷ _ ∷ _ ∷ _ ∷ _ ∷ _ ∷ _ ∷ _ ∷ _ ∷ _ ∷ _ ∷ _ ∷ _ ∷ _ ∷ _ ∷ _ ∷ _ ∷ []) $ split ! $ move ! (1 ∷ []) $ drop ! $ move ! (19 ∷ []) $ use1 W (‵ (O6) ⊛ ‵ (O6)) (shr-slice-copy 𝓤 H A W (named 1) κ₁ mEntry.the-row .twice s6 (v6 ∷ [])) $ split ! $ tidy W (_ ∷ _ ∷ _ ∷ _ ∷ _ ∷ _ ∷ _ ∷ _ ∷ _ ∷ _ ∷ _ ∷ _ ∷ _ ∷ _ ∷ _ ∷ _ ∷ _ ∷ _ ∷ _ ∷ _ ∷ _ ∷ _ ∷ _ ∷ _ ∷ _ ∷ _ ∷ _ ∷ _ ∷ _ ∷ _ ∷ _ ∷ _ ∷ _ ∷ _ ∷ _ ∷ _ ∷ _ ∷ _ ∷ _ ∷ _ ∷ _ ∷ _ ∷ _ ∷ _ ∷ _ ∷ _ ∷ _ ∷ _ ∷ _ ∷ _ ∷ _ ∷ []) $ nothing ! $ move ! (9 ∷ 0 ∷ []) $ join ! $ join ! $
         -- call 2
         use1 W (raw (Callee-g1 𝓤 H A at-mem run .pre (((κ₁, tt), (q₁, tt), tt, (s6, (n4, (n5, tt))), (v6 ∷ [], (u4 ∷ [], (u5 ∷ [], tt)))), tt))) (qed W ((‵ (flft κ₁ q₁) ⊛ ‵ ftrue) ∷ ‵ (ShrSlice (named 0) κ₁ mEntry.the-row .own s6 (v6 ∷ [])) ∷ []) ∵ nothing ! $ owned ! u64 (Is u64) (uint-makes 𝓤 H A W w64) (n5) _ w5 $ fjoin ! $ owned ! u64 (Is u64) (uint-makes 𝓤 H A W w64) (n4) _ w4 $ fjoin ! $ move ! (2 ∷ 0 ∷ []) $ fjoin ! $ move ! (1 ∷ 0 ∷ []) $ join ! $ nothing ! $ move ! (1 ∷ 0 ∷ []) $ frame ! $ done !) $
-        calls-at ! fm (Callee-g1 𝓤 H A at-mem run) known-g1 (((κ₁, tt), (q₁, tt), tt, (s6, (n4, (n5, tt))), (v6 ∷ [], (u4 ∷ [], (u5 ∷ [], tt)))), tt) (and-then ! (load ! (from ! (stop !)) (look ! 67 refl)) (and-then ! (load ! (from ! (stop !)) (look ! 71 refl)) (and-then ! (load ! (from ! (stop !)) (look ! 69 refl)) (no-more !)))) (λ z2.
+        calls-at ! fm (Callee-g1 𝓤 H A at-mem run) known-g1 (((κ₁, tt), (q₁, tt), tt, (s6, (n4, (n5, tt))), (v6 ∷ [], (u4 ∷ [], (u5 ∷ [], tt)))), tt) (and-then ! (load ! (from ! (stop !)) (look ! 43 refl)) (and-then ! (load ! (from ! (stop !)) (look ! 45 refl)) (and-then ! (load ! (from ! (stop !)) (look ! 44 refl)) (no-more !)))) (λ z2.
         use1 W (later (some (λ (r2 : Bool). ((‵ (flft κ₁ q₁) ⊛ ‵ ftrue) ⊛ ‵ (bool .own r2 (z2 ∷ []))) ⊛ some (λ (ws : Lasts g1.ended (κ₁, tt) (s6, (n4, (n5, tt)))). ‵ (lasts g1.ended (κ₁, tt) (s6, (n4, (n5, tt))) ws) ⊛ raw (g1.clauses 𝓤 H A at-mem run (κ₁, tt) (s6, (n4, (n5, tt))) .ensures tt r2 (atExit g1.ended (κ₁, tt) (s6, (n4, (n5, tt))) ws)))))) (id⊢ 𝓤 _) $ await ! tt $ pick ! (λ r2. split ! $ move ! (1 ∷ []) $ pick ! (λ ws2. split ! $ move ! (1 ∷ []) $ heard ! _ (λ e2.
-        fsplit ! $ move ! (1 ∷ []) $ fsplit ! $ move ! (1 ∷ []) $ fsplit ! $ move ! (4 ∷ []) $ split ! $ move ! (1 ∷ []) $ peeks ! bool (Is bool) (shows 𝓤 H A bool) r2 (z2 ∷ []) (λ i2. drop ! $ land ! (from ! (stop !)) (init ! 43 refl (bool-lawful 𝓤 H A W .typed r2 _ i2 .0)) $
-        split ! $ move ! (1 ∷ []) $ move ! (29 ∷ []) $ use1 W (‵ (O9) ⊛ ‵ (O9)) (shr-slice-copy 𝓤 H A W (named 2) κ₂ mEntry.the-row .twice s9 (v9 ∷ [])) $ split ! $ nothing ! $ move ! (21 ∷ 0 ∷ []) $ join ! $ join ! $
+        drop ! $ split ! $ move ! (1 ∷ []) $ peeks ! bool (Is bool) (shows 𝓤 H A bool) r2 (z2 ∷ []) (λ i2. drop ! $ land ! (from ! (stop !)) (init ! 29 refl (bool-lawful 𝓤 H A W .typed r2 _ i2 .0)) $
+        tidy W (_ ∷ _ ∷ _ ∷ _ ∷ _ ∷ _ ∷ _ ∷ _ ∷ _ ∷ _ ∷ _ ∷ _ ∷ _ ∷ _ ∷ _ ∷ _ ∷ _ ∷ _ ∷ _ ∷ _ ∷ _ ∷ _ ∷ _ ∷ _ ∷ _ ∷ _ ∷ _ ∷ _ ∷ _ ∷ _ ∷ _ ∷ _ ∷ _ ∷ _ ∷ _ ∷ _ ∷ _ ∷ _ ∷ _ ∷ _ ∷ _ ∷ _ ∷ _ ∷ _ ∷ _ ∷ _ ∷ _ ∷ _ ∷ _ ∷ _ ∷ []) $ split ! $ move ! (1 ∷ []) $ drop ! $ move ! (17 ∷ []) $ use1 W (‵ (O9) ⊛ ‵ (O9)) (shr-slice-copy 𝓤 H A W (named 2) κ₂ mEntry.the-row .twice s9 (v9 ∷ [])) $ split ! $ tidy W (_ ∷ _ ∷ _ ∷ _ ∷ _ ∷ _ ∷ _ ∷ _ ∷ _ ∷ _ ∷ _ ∷ _ ∷ _ ∷ _ ∷ _ ∷ _ ∷ _ ∷ _ ∷ _ ∷ _ ∷ _ ∷ _ ∷ _ ∷ _ ∷ _ ∷ _ ∷ _ ∷ _ ∷ _ ∷ _ ∷ _ ∷ _ ∷ _ ∷ _ ∷ _ ∷ _ ∷ _ ∷ _ ∷ _ ∷ _ ∷ _ ∷ _ ∷ _ ∷ _ ∷ _ ∷ _ ∷ _ ∷ _ ∷ _ ∷ _ ∷ _ ∷ []) $ nothing ! $ move ! (10 ∷ 0 ∷ []) $ join ! $ join ! $
         -- call 3
         use1 W (raw (Callee-g1 𝓤 H A at-mem run .pre (((κ₂, tt), (q₂, tt), tt, (s9, (n7, (n8, tt))), (v9 ∷ [], (u7 ∷ [], (u8 ∷ [], tt)))), tt))) (qed W ((‵ (flft κ₂ q₂) ⊛ ‵ ftrue) ∷ ‵ (ShrSlice (named 0) κ₂ mEntry.the-row .own s9 (v9 ∷ [])) ∷ []) ∵ nothing ! $ owned ! u64 (Is u64) (uint-makes 𝓤 H A W w64) (n8) _ w8 $ fjoin ! $ owned ! u64 (Is u64) (uint-makes 𝓤 H A W w64) (n7) _ w7 $ fjoin ! $ move ! (2 ∷ 0 ∷ []) $ fjoin ! $ move ! (1 ∷ 0 ∷ []) $ join ! $ nothing ! $ move ! (1 ∷ 0 ∷ []) $ frame ! $ done !) $
-        calls-at ! fm (Callee-g1 𝓤 H A at-mem run) known-g1 (((κ₂, tt), (q₂, tt), tt, (s9, (n7, (n8, tt))), (v9 ∷ [], (u7 ∷ [], (u8 ∷ [], tt)))), tt) (and-then ! (load ! (from ! (stop !)) (look ! 66 refl)) (and-then ! (load ! (from ! (stop !)) (look ! 70 refl)) (and-then ! (load ! (from ! (stop !)) (look ! 68 refl)) (no-more !)))) (λ z3.
+        calls-at ! fm (Callee-g1 𝓤 H A at-mem run) known-g1 (((κ₂, tt), (q₂, tt), tt, (s9, (n7, (n8, tt))), (v9 ∷ [], (u7 ∷ [], (u8 ∷ [], tt)))), tt) (and-then ! (load ! (from ! (stop !)) (look ! 40 refl)) (and-then ! (load ! (from ! (stop !)) (look ! 42 refl)) (and-then ! (load ! (from ! (stop !)) (look ! 41 refl)) (no-more !)))) (λ z3.
         use1 W (later (some (λ (r3 : Bool). ((‵ (flft κ₂ q₂) ⊛ ‵ ftrue) ⊛ ‵ (bool .own r3 (z3 ∷ []))) ⊛ some (λ (ws : Lasts g1.ended (κ₂, tt) (s9, (n7, (n8, tt)))). ‵ (lasts g1.ended (κ₂, tt) (s9, (n7, (n8, tt))) ws) ⊛ raw (g1.clauses 𝓤 H A at-mem run (κ₂, tt) (s9, (n7, (n8, tt))) .ensures tt r3 (atExit g1.ended (κ₂, tt) (s9, (n7, (n8, tt))) ws)))))) (id⊢ 𝓤 _) $ await ! tt $ pick ! (λ r3. split ! $ move ! (1 ∷ []) $ pick ! (λ ws3. split ! $ move ! (1 ∷ []) $ heard ! _ (λ e3.
-        fsplit ! $ move ! (1 ∷ []) $ fsplit ! $ move ! (1 ∷ []) $ fsplit ! $ move ! (4 ∷ []) $ split ! $ move ! (1 ∷ []) $ peeks ! bool (Is bool) (shows 𝓤 H A bool) r3 (z3 ∷ []) (λ i3. drop ! $ land ! (from ! (stop !)) (init ! 46 refl (bool-lawful 𝓤 H A W .typed r3 _ i3 .0)) $
-        split ! $ move ! (1 ∷ []) $ move ! (32 ∷ []) $ use1 W (‵ (O12) ⊛ ‵ (O12)) (shr-slice-copy 𝓤 H A W (named 3) κ₃ mEntry.the-row .twice s12 (v12 ∷ [])) $ split ! $ nothing ! $ move ! (27 ∷ 0 ∷ []) $ join ! $ join ! $
+        drop ! $ split ! $ move ! (1 ∷ []) $ peeks ! bool (Is bool) (shows 𝓤 H A bool) r3 (z3 ∷ []) (λ i3. drop ! $ land ! (from ! (stop !)) (init ! 28 refl (bool-lawful 𝓤 H A W .typed r3 _ i3 .0)) $
+        tidy W (_ ∷ _ ∷ _ ∷ _ ∷ _ ∷ _ ∷ _ ∷ _ ∷ _ ∷ _ ∷ _ ∷ _ ∷ _ ∷ _ ∷ _ ∷ _ ∷ _ ∷ _ ∷ _ ∷ _ ∷ _ ∷ _ ∷ _ ∷ _ ∷ _ ∷ _ ∷ _ ∷ _ ∷ _ ∷ _ ∷ _ ∷ _ ∷ _ ∷ _ ∷ _ ∷ _ ∷ _ ∷ _ ∷ _ ∷ _ ∷ _ ∷ _ ∷ _ ∷ _ ∷ _ ∷ _ ∷ _ ∷ _ ∷ _ ∷ _ ∷ []) $ split ! $ move ! (1 ∷ []) $ drop ! $ move ! (15 ∷ []) $ use1 W (‵ (O12) ⊛ ‵ (O12)) (shr-slice-copy 𝓤 H A W (named 3) κ₃ mEntry.the-row .twice s12 (v12 ∷ [])) $ split ! $ tidy W (_ ∷ _ ∷ _ ∷ _ ∷ _ ∷ _ ∷ _ ∷ _ ∷ _ ∷ _ ∷ _ ∷ _ ∷ _ ∷ _ ∷ _ ∷ _ ∷ _ ∷ _ ∷ _ ∷ _ ∷ _ ∷ _ ∷ _ ∷ _ ∷ _ ∷ _ ∷ _ ∷ _ ∷ _ ∷ _ ∷ _ ∷ _ ∷ _ ∷ _ ∷ _ ∷ _ ∷ _ ∷ _ ∷ _ ∷ _ ∷ _ ∷ _ ∷ _ ∷ _ ∷ _ ∷ _ ∷ _ ∷ _ ∷ _ ∷ _ ∷ _ ∷ []) $ nothing ! $ move ! (11 ∷ 0 ∷ []) $ join ! $ join ! $
         -- call 4
         use1 W (raw (Callee-g1 𝓤 H A at-mem run .pre (((κ₃, tt), (q₃, tt), tt, (s12, (n10, (n11, tt))), (v12 ∷ [], (u10 ∷ [], (u11 ∷ [], tt)))), tt))) (qed W ((‵ (flft κ₃ q₃) ⊛ ‵ ftrue) ∷ ‵ (ShrSlice (named 0) κ₃ mEntry.the-row .own s12 (v12 ∷ [])) ∷ []) ∵ nothing ! $ owned ! u64 (Is u64) (uint-makes 𝓤 H A W w64) (n11) _ w11 $ fjoin ! $ owned ! u64 (Is u64) (uint-makes 𝓤 H A W w64) (n10) _ w10 $ fjoin ! $ move ! (2 ∷ 0 ∷ []) $ fjoin ! $ move ! (1 ∷ 0 ∷ []) $ join ! $ nothing ! $ move ! (1 ∷ 0 ∷ []) $ frame ! $ done !) $
-        calls-at ! fm (Callee-g1 𝓤 H A at-mem run) known-g1 (((κ₃, tt), (q₃, tt), tt, (s12, (n10, (n11, tt))), (v12 ∷ [], (u10 ∷ [], (u11 ∷ [], tt)))), tt) (and-then ! (load ! (from ! (stop !)) (look ! 65 refl)) (and-then ! (load ! (from ! (stop !)) (look ! 69 refl)) (and-then ! (load ! (from ! (stop !)) (look ! 67 refl)) (no-more !)))) (λ z4.
+        calls-at ! fm (Callee-g1 𝓤 H A at-mem run) known-g1 (((κ₃, tt), (q₃, tt), tt, (s12, (n10, (n11, tt))), (v12 ∷ [], (u10 ∷ [], (u11 ∷ [], tt)))), tt) (and-then ! (load ! (from ! (stop !)) (look ! 37 refl)) (and-then ! (load ! (from ! (stop !)) (look ! 39 refl)) (and-then ! (load ! (from ! (stop !)) (look ! 38 refl)) (no-more !)))) (λ z4.
         use1 W (later (some (λ (r4 : Bool). ((‵ (flft κ₃ q₃) ⊛ ‵ ftrue) ⊛ ‵ (bool .own r4 (z4 ∷ []))) ⊛ some (λ (ws : Lasts g1.ended (κ₃, tt) (s12, (n10, (n11, tt)))). ‵ (lasts g1.ended (κ₃, tt) (s12, (n10, (n11, tt))) ws) ⊛ raw (g1.clauses 𝓤 H A at-mem run (κ₃, tt) (s12, (n10, (n11, tt))) .ensures tt r4 (atExit g1.ended (κ₃, tt) (s12, (n10, (n11, tt))) ws)))))) (id⊢ 𝓤 _) $ await ! tt $ pick ! (λ r4. split ! $ move ! (1 ∷ []) $ pick ! (λ ws4. split ! $ move ! (1 ∷ []) $ heard ! _ (λ e4.
-        fsplit ! $ move ! (1 ∷ []) $ fsplit ! $ move ! (1 ∷ []) $ fsplit ! $ move ! (4 ∷ []) $ split ! $ move ! (1 ∷ []) $ peeks ! bool (Is bool) (shows 𝓤 H A bool) r4 (z4 ∷ []) (λ i4. drop ! $ land ! (from ! (stop !)) (init ! 49 refl (bool-lawful 𝓤 H A W .typed r4 _ i4 .0)) $
-        split ! $ move ! (1 ∷ []) $ move ! (35 ∷ []) $ use1 W (‵ (O15) ⊛ ‵ (O15)) (shr-slice-copy 𝓤 H A W (named 4) κ₄ mEntry.the-row .twice s15 (v15 ∷ [])) $ split ! $ nothing ! $ move ! (33 ∷ 0 ∷ []) $ join ! $ join ! $
+        drop ! $ split ! $ move ! (1 ∷ []) $ peeks ! bool (Is bool) (shows 𝓤 H A bool) r4 (z4 ∷ []) (λ i4. drop ! $ land ! (from ! (stop !)) (init ! 27 refl (bool-lawful 𝓤 H A W .typed r4 _ i4 .0)) $
+        tidy W (_ ∷ _ ∷ _ ∷ _ ∷ _ ∷ _ ∷ _ ∷ _ ∷ _ ∷ _ ∷ _ ∷ _ ∷ _ ∷ _ ∷ _ ∷ _ ∷ _ ∷ _ ∷ _ ∷ _ ∷ _ ∷ _ ∷ _ ∷ _ ∷ _ ∷ _ ∷ _ ∷ _ ∷ _ ∷ _ ∷ _ ∷ _ ∷ _ ∷ _ ∷ _ ∷ _ ∷ _ ∷ _ ∷ _ ∷ _ ∷ _ ∷ _ ∷ _ ∷ _ ∷ _ ∷ _ ∷ _ ∷ _ ∷ _ ∷ _ ∷ []) $ split ! $ move ! (1 ∷ []) $ drop ! $ move ! (13 ∷ []) $ use1 W (‵ (O15) ⊛ ‵ (O15)) (shr-slice-copy 𝓤 H A W (named 4) κ₄ mEntry.the-row .twice s15 (v15 ∷ [])) $ split ! $ tidy W (_ ∷ _ ∷ _ ∷ _ ∷ _ ∷ _ ∷ _ ∷ _ ∷ _ ∷ _ ∷ _ ∷ _ ∷ _ ∷ _ ∷ _ ∷ _ ∷ _ ∷ _ ∷ _ ∷ _ ∷ _ ∷ _ ∷ _ ∷ _ ∷ _ ∷ _ ∷ _ ∷ _ ∷ _ ∷ _ ∷ _ ∷ _ ∷ _ ∷ _ ∷ _ ∷ _ ∷ _ ∷ _ ∷ _ ∷ _ ∷ _ ∷ _ ∷ _ ∷ _ ∷ _ ∷ _ ∷ _ ∷ _ ∷ _ ∷ _ ∷ _ ∷ []) $ nothing ! $ move ! (12 ∷ 0 ∷ []) $ join ! $ join ! $
         -- call 5
         use1 W (raw (Callee-g1 𝓤 H A at-mem run .pre (((κ₄, tt), (q₄, tt), tt, (s15, (n13, (n14, tt))), (v15 ∷ [], (u13 ∷ [], (u14 ∷ [], tt)))), tt))) (qed W ((‵ (flft κ₄ q₄) ⊛ ‵ ftrue) ∷ ‵ (ShrSlice (named 0) κ₄ mEntry.the-row .own s15 (v15 ∷ [])) ∷ []) ∵ nothing ! $ owned ! u64 (Is u64) (uint-makes 𝓤 H A W w64) (n14) _ w14 $ fjoin ! $ owned ! u64 (Is u64) (uint-makes 𝓤 H A W w64) (n13) _ w13 $ fjoin ! $ move ! (2 ∷ 0 ∷ []) $ fjoin ! $ move ! (1 ∷ 0 ∷ []) $ join ! $ nothing ! $ move ! (1 ∷ 0 ∷ []) $ frame ! $ done !) $
-        calls-at ! fm (Callee-g1 𝓤 H A at-mem run) known-g1 (((κ₄, tt), (q₄, tt), tt, (s15, (n13, (n14, tt))), (v15 ∷ [], (u13 ∷ [], (u14 ∷ [], tt)))), tt) (and-then ! (load ! (from ! (stop !)) (look ! 64 refl)) (and-then ! (load ! (from ! (stop !)) (look ! 68 refl)) (and-then ! (load ! (from ! (stop !)) (look ! 66 refl)) (no-more !)))) (λ z5.
+        calls-at ! fm (Callee-g1 𝓤 H A at-mem run) known-g1 (((κ₄, tt), (q₄, tt), tt, (s15, (n13, (n14, tt))), (v15 ∷ [], (u13 ∷ [], (u14 ∷ [], tt)))), tt) (and-then ! (load ! (from ! (stop !)) (look ! 34 refl)) (and-then ! (load ! (from ! (stop !)) (look ! 36 refl)) (and-then ! (load ! (from ! (stop !)) (look ! 35 refl)) (no-more !)))) (λ z5.
         use1 W (later (some (λ (r5 : Bool). ((‵ (flft κ₄ q₄) ⊛ ‵ ftrue) ⊛ ‵ (bool .own r5 (z5 ∷ []))) ⊛ some (λ (ws : Lasts g1.ended (κ₄, tt) (s15, (n13, (n14, tt)))). ‵ (lasts g1.ended (κ₄, tt) (s15, (n13, (n14, tt))) ws) ⊛ raw (g1.clauses 𝓤 H A at-mem run (κ₄, tt) (s15, (n13, (n14, tt))) .ensures tt r5 (atExit g1.ended (κ₄, tt) (s15, (n13, (n14, tt))) ws)))))) (id⊢ 𝓤 _) $ await ! tt $ pick ! (λ r5. split ! $ move ! (1 ∷ []) $ pick ! (λ ws5. split ! $ move ! (1 ∷ []) $ heard ! _ (λ e5.
-        fsplit ! $ move ! (1 ∷ []) $ fsplit ! $ move ! (1 ∷ []) $ fsplit ! $ move ! (4 ∷ []) $ split ! $ move ! (1 ∷ []) $ peeks ! bool (Is bool) (shows 𝓤 H A bool) r5 (z5 ∷ []) (λ i5. drop ! $ land ! (from ! (stop !)) (init ! 52 refl (bool-lawful 𝓤 H A W .typed r5 _ i5 .0)) $
-        split ! $ move ! (1 ∷ []) $ move ! (38 ∷ []) $ use1 W (‵ (O18) ⊛ ‵ (O18)) (shr-slice-copy 𝓤 H A W (named 5) κ₅ mEntry.the-row .twice s18 (v18 ∷ [])) $ split ! $ nothing ! $ move ! (39 ∷ 0 ∷ []) $ join ! $ join ! $
+        drop ! $ split ! $ move ! (1 ∷ []) $ peeks ! bool (Is bool) (shows 𝓤 H A bool) r5 (z5 ∷ []) (λ i5. drop ! $ land ! (from ! (stop !)) (init ! 26 refl (bool-lawful 𝓤 H A W .typed r5 _ i5 .0)) $
+        tidy W (_ ∷ _ ∷ _ ∷ _ ∷ _ ∷ _ ∷ _ ∷ _ ∷ _ ∷ _ ∷ _ ∷ _ ∷ _ ∷ _ ∷ _ ∷ _ ∷ _ ∷ _ ∷ _ ∷ _ ∷ _ ∷ _ ∷ _ ∷ _ ∷ _ ∷ _ ∷ _ ∷ _ ∷ _ ∷ _ ∷ _ ∷ _ ∷ _ ∷ _ ∷ _ ∷ _ ∷ _ ∷ _ ∷ _ ∷ _ ∷ _ ∷ _ ∷ _ ∷ _ ∷ _ ∷ _ ∷ _ ∷ _ ∷ _ ∷ _ ∷ []) $ split ! $ move ! (1 ∷ []) $ drop ! $ move ! (11 ∷ []) $ use1 W (‵ (O18) ⊛ ‵ (O18)) (shr-slice-copy 𝓤 H A W (named 5) κ₅ mEntry.the-row .twice s18 (v18 ∷ [])) $ split ! $ tidy W (_ ∷ _ ∷ _ ∷ _ ∷ _ ∷ _ ∷ _ ∷ _ ∷ _ ∷ _ ∷ _ ∷ _ ∷ _ ∷ _ ∷ _ ∷ _ ∷ _ ∷ _ ∷ _ ∷ _ ∷ _ ∷ _ ∷ _ ∷ _ ∷ _ ∷ _ ∷ _ ∷ _ ∷ _ ∷ _ ∷ _ ∷ _ ∷ _ ∷ _ ∷ _ ∷ _ ∷ _ ∷ _ ∷ _ ∷ _ ∷ _ ∷ _ ∷ _ ∷ _ ∷ _ ∷ _ ∷ _ ∷ _ ∷ _ ∷ _ ∷ _ ∷ []) $ nothing ! $ move ! (13 ∷ 0 ∷ []) $ join ! $ join ! $
         -- call 6
         use1 W (raw (Callee-g1 𝓤 H A at-mem run .pre (((κ₅, tt), (q₅, tt), tt, (s18, (n16, (n17, tt))), (v18 ∷ [], (u16 ∷ [], (u17 ∷ [], tt)))), tt))) (qed W ((‵ (flft κ₅ q₅) ⊛ ‵ ftrue) ∷ ‵ (ShrSlice (named 0) κ₅ mEntry.the-row .own s18 (v18 ∷ [])) ∷ []) ∵ nothing ! $ owned ! u64 (Is u64) (uint-makes 𝓤 H A W w64) (n17) _ w17 $ fjoin ! $ owned ! u64 (Is u64) (uint-makes 𝓤 H A W w64) (n16) _ w16 $ fjoin ! $ move ! (2 ∷ 0 ∷ []) $ fjoin ! $ move ! (1 ∷ 0 ∷ []) $ join ! $ nothing ! $ move ! (1 ∷ 0 ∷ []) $ frame ! $ done !) $
-        calls-at ! fm (Callee-g1 𝓤 H A at-mem run) known-g1 (((κ₅, tt), (q₅, tt), tt, (s18, (n16, (n17, tt))), (v18 ∷ [], (u16 ∷ [], (u17 ∷ [], tt)))), tt) (and-then ! (load ! (from ! (stop !)) (look ! 63 refl)) (and-then ! (load ! (from ! (stop !)) (look ! 67 refl)) (and-then ! (load ! (from ! (stop !)) (look ! 65 refl)) (no-more !)))) (λ z6.
+        calls-at ! fm (Callee-g1 𝓤 H A at-mem run) known-g1 (((κ₅, tt), (q₅, tt), tt, (s18, (n16, (n17, tt))), (v18 ∷ [], (u16 ∷ [], (u17 ∷ [], tt)))), tt) (and-then ! (load ! (from ! (stop !)) (look ! 31 refl)) (and-then ! (load ! (from ! (stop !)) (look ! 33 refl)) (and-then ! (load ! (from ! (stop !)) (look ! 32 refl)) (no-more !)))) (λ z6.
         use1 W (later (some (λ (r6 : Bool). ((‵ (flft κ₅ q₅) ⊛ ‵ ftrue) ⊛ ‵ (bool .own r6 (z6 ∷ []))) ⊛ some (λ (ws : Lasts g1.ended (κ₅, tt) (s18, (n16, (n17, tt)))). ‵ (lasts g1.ended (κ₅, tt) (s18, (n16, (n17, tt))) ws) ⊛ raw (g1.clauses 𝓤 H A at-mem run (κ₅, tt) (s18, (n16, (n17, tt))) .ensures tt r6 (atExit g1.ended (κ₅, tt) (s18, (n16, (n17, tt))) ws)))))) (id⊢ 𝓤 _) $ await ! tt $ pick ! (λ r6. split ! $ move ! (1 ∷ []) $ pick ! (λ ws6. split ! $ move ! (1 ∷ []) $ heard ! _ (λ e6.
-        fsplit ! $ move ! (1 ∷ []) $ fsplit ! $ move ! (1 ∷ []) $ fsplit ! $ move ! (4 ∷ []) $ split ! $ move ! (1 ∷ []) $ peeks ! bool (Is bool) (shows 𝓤 H A bool) r6 (z6 ∷ []) (λ i6. drop ! $ land ! (from ! (stop !)) (init ! 55 refl (bool-lawful 𝓤 H A W .typed r6 _ i6 .0)) $
-        split ! $ move ! (1 ∷ []) $ nothing ! $
+        drop ! $ split ! $ move ! (1 ∷ []) $ peeks ! bool (Is bool) (shows 𝓤 H A bool) r6 (z6 ∷ []) (λ i6. drop ! $ land ! (from ! (stop !)) (init ! 25 refl (bool-lawful 𝓤 H A W .typed r6 _ i6 .0)) $
+        tidy W (_ ∷ _ ∷ _ ∷ _ ∷ _ ∷ _ ∷ _ ∷ _ ∷ _ ∷ _ ∷ _ ∷ _ ∷ _ ∷ _ ∷ _ ∷ _ ∷ _ ∷ _ ∷ _ ∷ _ ∷ _ ∷ _ ∷ _ ∷ _ ∷ _ ∷ _ ∷ _ ∷ _ ∷ _ ∷ _ ∷ _ ∷ _ ∷ _ ∷ _ ∷ _ ∷ _ ∷ _ ∷ _ ∷ _ ∷ _ ∷ _ ∷ _ ∷ _ ∷ _ ∷ _ ∷ _ ∷ _ ∷ _ ∷ _ ∷ _ ∷ []) $ split ! $ move ! (1 ∷ []) $ drop ! $ tidy W (_ ∷ _ ∷ _ ∷ _ ∷ _ ∷ _ ∷ _ ∷ _ ∷ _ ∷ _ ∷ _ ∷ _ ∷ _ ∷ _ ∷ _ ∷ _ ∷ _ ∷ _ ∷ _ ∷ _ ∷ _ ∷ _ ∷ _ ∷ _ ∷ _ ∷ _ ∷ _ ∷ _ ∷ _ ∷ _ ∷ _ ∷ _ ∷ _ ∷ _ ∷ _ ∷ _ ∷ _ ∷ _ ∷ _ ∷ _ ∷ _ ∷ _ ∷ _ ∷ _ ∷ _ ∷ _ ∷ _ ∷ _ ∷ _ ∷ _ ∷ []) $ nothing ! $
         -- call 7
         use1 W (raw (Callee-g2 𝓤 H A at-mem run .pre ((tt, tt, tt, (r1, (r2, (r3, (r4, (r5, (r6, tt)))))), (z1 ∷ [], (z2 ∷ [], (z3 ∷ [], (z4 ∷ [], (z5 ∷ [], (z6 ∷ [], tt))))))), tt))) (qed W ((‵ ftrue) ∷ []) ∵ nothing ! $ owned ! bool (Is bool) (bool-makes 𝓤 H A W) (r6) _ i6 $ fjoin ! $ owned ! bool (Is bool) (bool-makes 𝓤 H A W) (r5) _ i5 $ fjoin ! $ owned ! bool (Is bool) (bool-makes 𝓤 H A W) (r4) _ i4 $ fjoin ! $ owned ! bool (Is bool) (bool-makes 𝓤 H A W) (r3) _ i3 $ fjoin ! $ owned ! bool (Is bool) (bool-makes 𝓤 H A W) (r2) _ i2 $ fjoin ! $ owned ! bool (Is bool) (bool-makes 𝓤 H A W) (r1) _ i1 $ fjoin ! $ move ! (1 ∷ 0 ∷ []) $ join ! $ nothing ! $ move ! (1 ∷ 0 ∷ []) $ frame ! $ done !) $
-        calls-at ! fm (Callee-g2 𝓤 H A at-mem run) known-g2 ((tt, tt, tt, (r1, (r2, (r3, (r4, (r5, (r6, tt)))))), (z1 ∷ [], (z2 ∷ [], (z3 ∷ [], (z4 ∷ [], (z5 ∷ [], (z6 ∷ [], tt))))))), tt) (and-then ! (load ! (from ! (stop !)) (look ! 67 refl)) (and-then ! (load ! (from ! (stop !)) (look ! 65 refl)) (and-then ! (load ! (from ! (stop !)) (look ! 63 refl)) (and-then ! (load ! (from ! (stop !)) (look ! 61 refl)) (and-then ! (load ! (from ! (stop !)) (look ! 59 refl)) (and-then ! (load ! (from ! (stop !)) (look ! 57 refl)) (no-more !))))))) (λ z7.
+        calls-at ! fm (Callee-g2 𝓤 H A at-mem run) known-g2 ((tt, tt, tt, (r1, (r2, (r3, (r4, (r5, (r6, tt)))))), (z1 ∷ [], (z2 ∷ [], (z3 ∷ [], (z4 ∷ [], (z5 ∷ [], (z6 ∷ [], tt))))))), tt) (and-then ! (load ! (from ! (stop !)) (look ! 31 refl)) (and-then ! (load ! (from ! (stop !)) (look ! 30 refl)) (and-then ! (load ! (from ! (stop !)) (look ! 29 refl)) (and-then ! (load ! (from ! (stop !)) (look ! 28 refl)) (and-then ! (load ! (from ! (stop !)) (look ! 27 refl)) (and-then ! (load ! (from ! (stop !)) (look ! 26 refl)) (no-more !))))))) (λ z7.
         use1 W (later (some (λ (r7 : Bool). ((‵ ftrue) ⊛ ‵ (bool .own r7 (z7 ∷ []))) ⊛ some (λ (ws : Lasts g2.ended tt (r1, (r2, (r3, (r4, (r5, (r6, tt))))))). ‵ (lasts g2.ended tt (r1, (r2, (r3, (r4, (r5, (r6, tt)))))) ws) ⊛ raw (g2.clauses 𝓤 H A at-mem run tt (r1, (r2, (r3, (r4, (r5, (r6, tt)))))) .ensures tt r7 (atExit g2.ended tt (r1, (r2, (r3, (r4, (r5, (r6, tt)))))) ws)))))) (id⊢ 𝓤 _) $ await ! tt $ pick ! (λ r7. split ! $ move ! (1 ∷ []) $ pick ! (λ ws7. split ! $ move ! (1 ∷ []) $ heard ! _ (λ e7.
-        fsplit ! $ move ! (1 ∷ []) $ fsplit ! $ move ! (1 ∷ []) $ fsplit ! $ move ! (1 ∷ []) $ fsplit ! $ move ! (1 ∷ []) $ fsplit ! $ move ! (1 ∷ []) $ fsplit ! $ move ! (7 ∷ []) $ split ! $ move ! (1 ∷ []) $ peeks ! bool (Is bool) (shows 𝓤 H A bool) r7 (z7 ∷ []) (λ i7. drop ! $ land ! (from ! (stop !)) (init ! 112 refl (bool-lawful 𝓤 H A W .typed r7 _ i7 .0)) $
-        returns ! (look ! 112 refl) $ forget ! 112 refl $ forget ! 110 refl $ forget ! 108 refl $ forget ! 106 refl $ forget ! 104 refl $ forget ! 102 refl $ forget ! 100 refl $ forget ! 98 refl $ forget ! 96 refl $ forget ! 94 refl $ forget ! 92 refl $ forget ! 90 refl $ forget ! 88 refl $ forget ! 86 refl $ forget ! 84 refl $ forget ! 82 refl $ forget ! 80 refl $ forget ! 78 refl $ forget ! 76 refl $ forget ! 74 refl $ forget ! 72 refl $ forget ! 70 refl $ forget ! 68 refl $ forget ! 66 refl $ forget ! 64 refl $
-        move ! (112 ∷ 113 ∷ []) $ free1 ! $ move ! (110 ∷ 111 ∷ []) $ free1 ! $ move ! (108 ∷ 109 ∷ []) $ free1 ! $ move ! (106 ∷ 107 ∷ []) $ free1 ! $ move ! (104 ∷ 105 ∷ []) $ free1 ! $ move ! (102 ∷ 103 ∷ []) $ free1 ! $ move ! (100 ∷ 101 ∷ []) $ free1 ! $ move ! (98 ∷ 99 ∷ []) $ free1 ! $ move ! (96 ∷ 97 ∷ []) $ free1 ! $ move ! (94 ∷ 95 ∷ []) $ free1 ! $ move ! (92 ∷ 93 ∷ []) $ free1 ! $ move ! (90 ∷ 91 ∷ []) $ free1 ! $ move ! (88 ∷ 89 ∷ []) $ free1 ! $ move ! (86 ∷ 87 ∷ []) $ free1 ! $ move ! (84 ∷ 85 ∷ []) $ free1 ! $ move ! (82 ∷ 83 ∷ []) $ free1 ! $ move ! (80 ∷ 81 ∷ []) $ free1 ! $ move ! (78 ∷ 79 ∷ []) $ free1 ! $ move ! (76 ∷ 77 ∷ []) $ free1 ! $ move ! (74 ∷ 75 ∷ []) $ free1 ! $ move ! (72 ∷ 73 ∷ []) $ free1 ! $ move ! (70 ∷ 71 ∷ []) $ free1 ! $ move ! (68 ∷ 69 ∷ []) $ free1 ! $ move ! (66 ∷ 67 ∷ []) $ free1 ! $ move ! (64 ∷ 65 ∷ []) $ free1 ! $ free0 ! $
+        drop ! $ split ! $ move ! (1 ∷ []) $ peeks ! bool (Is bool) (shows 𝓤 H A bool) r7 (z7 ∷ []) (λ i7. drop ! $ land ! (from ! (stop !)) (init ! 50 refl (bool-lawful 𝓤 H A W .typed r7 _ i7 .0)) $
+        tidy W (_ ∷ _ ∷ _ ∷ _ ∷ _ ∷ _ ∷ _ ∷ _ ∷ _ ∷ _ ∷ _ ∷ _ ∷ _ ∷ _ ∷ _ ∷ _ ∷ _ ∷ _ ∷ _ ∷ _ ∷ _ ∷ _ ∷ _ ∷ _ ∷ _ ∷ _ ∷ _ ∷ _ ∷ _ ∷ _ ∷ _ ∷ _ ∷ _ ∷ _ ∷ _ ∷ _ ∷ _ ∷ _ ∷ _ ∷ _ ∷ _ ∷ _ ∷ _ ∷ _ ∷ _ ∷ _ ∷ _ ∷ _ ∷ _ ∷ _ ∷ _ ∷ []) $ drop ! $ tidy W (_ ∷ _ ∷ _ ∷ _ ∷ _ ∷ _ ∷ _ ∷ _ ∷ _ ∷ _ ∷ _ ∷ _ ∷ _ ∷ _ ∷ _ ∷ _ ∷ _ ∷ _ ∷ _ ∷ _ ∷ _ ∷ _ ∷ _ ∷ _ ∷ _ ∷ _ ∷ _ ∷ _ ∷ _ ∷ _ ∷ _ ∷ _ ∷ _ ∷ _ ∷ _ ∷ _ ∷ _ ∷ _ ∷ _ ∷ _ ∷ _ ∷ _ ∷ _ ∷ _ ∷ _ ∷ _ ∷ _ ∷ _ ∷ _ ∷ _ ∷ []) $ returns ! (look ! 49 refl) $ move ! (24 ∷ []) $ use1 W (dies ((tyBool, l₀) ∷ (tyInt w64, l₁) ∷ (tyInt w64, l₂) ∷ (sliceTy (tyRef (named 0) imm (pointee (mEntry.the-row .written))), l₃) ∷ (tyInt w64, l₄) ∷ (tyInt w64, l₅) ∷ (sliceTy (tyRef (named 1) imm (pointee (mEntry.the-row .written))), l₆) ∷ (tyInt w64, l₇) ∷ (tyInt w64, l₈) ∷ (sliceTy (tyRef (named 2) imm (pointee (mEntry.the-row .written))), l₉) ∷ (tyInt w64, l₁₀) ∷ (tyInt w64, l₁₁) ∷ (sliceTy (tyRef (named 3) imm (pointee (mEntry.the-row .written))), l₁₂) ∷ (tyInt w64, l₁₃) ∷ (tyInt w64, l₁₄) ∷ (sliceTy (tyRef (named 4) imm (pointee (mEntry.the-row .written))), l₁₅) ∷ (tyInt w64, l₁₆) ∷ (tyInt w64, l₁₇) ∷ (sliceTy (tyRef (named 5) imm (pointee (mEntry.the-row .written))), l₁₈) ∷ (tyBool, l₁₉) ∷ (tyBool, l₂₀) ∷ (tyBool, l₂₁) ∷ (tyBool, l₂₂) ∷ (tyBool, l₂₃) ∷ (tyBool, l₂₄) ∷ []) (‵ ftrue)) die $ free-all ! 24 ((tyBool, l₀) ∷ (tyInt w64, l₁) ∷ (tyInt w64, l₂) ∷ (sliceTy (tyRef (named 0) imm (pointee (mEntry.the-row .written))), l₃) ∷ (tyInt w64, l₄) ∷ (tyInt w64, l₅) ∷ (sliceTy (tyRef (named 1) imm (pointee (mEntry.the-row .written))), l₆) ∷ (tyInt w64, l₇) ∷ (tyInt w64, l₈) ∷ (sliceTy (tyRef (named 2) imm (pointee (mEntry.the-row .written))), l₉) ∷ (tyInt w64, l₁₀) ∷ (tyInt w64, l₁₁) ∷ (sliceTy (tyRef (named 3) imm (pointee (mEntry.the-row .written))), l₁₂) ∷ (tyInt w64, l₁₃) ∷ (tyInt w64, l₁₄) ∷ (sliceTy (tyRef (named 4) imm (pointee (mEntry.the-row .written))), l₁₅) ∷ (tyInt w64, l₁₆) ∷ (tyInt w64, l₁₇) ∷ (sliceTy (tyRef (named 5) imm (pointee (mEntry.the-row .written))), l₁₈) ∷ (tyBool, l₁₉) ∷ (tyBool, l₂₀) ∷ (tyBool, l₂₁) ∷ (tyBool, l₂₂) ∷ (tyBool, l₂₃) ∷ (tyBool, l₂₄) ∷ []) (kept _ ∷ kept _ ∷ kept _ ∷ kept _ ∷ kept _ ∷ kept _ ∷ kept _ ∷ kept _ ∷ kept _ ∷ kept _ ∷ kept _ ∷ kept _ ∷ kept _ ∷ kept _ ∷ kept _ ∷ kept _ ∷ kept _ ∷ kept _ ∷ kept _ ∷ kept _ ∷ kept _ ∷ kept _ ∷ kept _ ∷ kept _ ∷ kept _ ∷ []) refl $
         suffices ! _ (ends-at 𝓤 H A f.ended stayed (f.clauses 𝓤 H A at-mem run) W (((κ₀, (κ₁, (κ₂, (κ₃, (κ₄, (κ₅, tt)))))), (q₀, (q₁, (q₂, (q₃, (q₄, (q₅, tt)))))), tt, a, at), tt) z7 r7 (tt, (tt, (tt, (tt, (tt, (tt, (tt, (tt, (tt, (tt, (tt, (tt, (tt, (tt, (tt, (tt, (tt, (tt, tt)))))))))))))))))) (tt, (tt, (tt, (tt, (tt, (tt, (tt, (tt, (tt, (tt, (tt, (tt, (tt, (tt, (tt, (tt, (tt, (tt, tt))))))))))))))))))) $ says ! (cc) $
-        nothing ! $ move ! (10 ∷ 0 ∷ []) $ join ! $ move ! (16 ∷ 0 ∷ []) $ join ! $ move ! (22 ∷ 0 ∷ []) $ join ! $ move ! (28 ∷ 0 ∷ []) $ join ! $ move ! (34 ∷ 0 ∷ []) $ join ! $ move ! (40 ∷ 0 ∷ []) $ join ! $ nothing ! $ move ! (15 ∷ 0 ∷ []) $ fjoin ! $ move ! (47 ∷ 0 ∷ []) $ fjoin ! $ move ! (47 ∷ 0 ∷ []) $ fjoin ! $ move ! (20 ∷ 0 ∷ []) $ fjoin ! $ move ! (46 ∷ 0 ∷ []) $ fjoin ! $ move ! (46 ∷ 0 ∷ []) $ fjoin ! $ move ! (25 ∷ 0 ∷ []) $ fjoin ! $ move ! (45 ∷ 0 ∷ []) $ fjoin ! $ move ! (45 ∷ 0 ∷ []) $ fjoin ! $ move ! (30 ∷ 0 ∷ []) $ fjoin ! $ move ! (44 ∷ 0 ∷ []) $ fjoin ! $ move ! (44 ∷ 0 ∷ []) $ fjoin ! $ move ! (35 ∷ 0 ∷ []) $ fjoin ! $ move ! (43 ∷ 0 ∷ []) $ fjoin ! $ move ! (43 ∷ 0 ∷ []) $ fjoin ! $ move ! (40 ∷ 0 ∷ []) $ fjoin ! $ move ! (42 ∷ 0 ∷ []) $ fjoin ! $ move ! (42 ∷ 0 ∷ []) $ fjoin ! $ keep ! (1 ∷ 0 ∷ []) $ frame ! $ frame ! $ owned ! bool (Is bool) (bool-makes 𝓤 H A W) r7 _ i7 $ done !))))))))))))))))))))))))))))))))))))))))))))))))))))))))))))
+        nothing ! $ move ! (1 ∷ 0 ∷ []) $ join ! $ move ! (2 ∷ 0 ∷ []) $ join ! $ move ! (3 ∷ 0 ∷ []) $ join ! $ move ! (4 ∷ 0 ∷ []) $ join ! $ move ! (5 ∷ 0 ∷ []) $ join ! $ move ! (6 ∷ 0 ∷ []) $ join ! $ nothing ! $ move ! (2 ∷ 0 ∷ []) $ fjoin ! $ move ! (7 ∷ 0 ∷ []) $ fjoin ! $ move ! (7 ∷ 0 ∷ []) $ fjoin ! $ move ! (2 ∷ 0 ∷ []) $ fjoin ! $ move ! (6 ∷ 0 ∷ []) $ fjoin ! $ move ! (6 ∷ 0 ∷ []) $ fjoin ! $ move ! (2 ∷ 0 ∷ []) $ fjoin ! $ move ! (5 ∷ 0 ∷ []) $ fjoin ! $ move ! (5 ∷ 0 ∷ []) $ fjoin ! $ move ! (2 ∷ 0 ∷ []) $ fjoin ! $ move ! (4 ∷ 0 ∷ []) $ fjoin ! $ move ! (4 ∷ 0 ∷ []) $ fjoin ! $ move ! (2 ∷ 0 ∷ []) $ fjoin ! $ move ! (3 ∷ 0 ∷ []) $ fjoin ! $ move ! (3 ∷ 0 ∷ []) $ fjoin ! $ move ! (2 ∷ 0 ∷ []) $ fjoin ! $ move ! (2 ∷ 0 ∷ []) $ fjoin ! $ move ! (2 ∷ 0 ∷ []) $ fjoin ! $ keep ! (1 ∷ 0 ∷ []) $ frame ! $ frame ! $ owned ! bool (Is bool) (bool-makes 𝓤 H A W) r7 _ i7 $ done !)))))))))))))))))))))))))))))))))))))))))))))))))))))))))))))
 
 module _ {M : Type 1} (𝓤 : URA M) (H : Heap 𝓤) (A : Atoms 𝓤) (W : Given 𝓤 H A) (mem : Memory → SProp 𝓤) (run : Routine → Fun 𝓤) where
   walks : (C : Calls 𝓤 H) (Λ : Loops 𝓤 H) → FmC 𝓤 H (W .laws) C → Triple 𝓤 (C #g1) (Callee-g1 𝓤 H A mem run) → Triple 𝓤 (C #g2) (Callee-g2 𝓤 H A mem run) → Walks 𝓤 H A f.ended stayed (WpFn 𝓤 H C Λ code.function) (f.clauses 𝓤 H A mem run)

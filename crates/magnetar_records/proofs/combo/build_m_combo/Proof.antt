@@ -20,7 +20,7 @@ use contract.Monad.{Fun, fact}
 use contract.Running.{givenOf, tables, tablesOf}
 use types.Kit.{Given, ‵, raw, _⊛_, ⋆, some, later, _$_, _∵_, !, qed, by, move, keep, drop, use1, use2, use3, split, join, pick, fsplit, fsplit3, fjoin, fjoin3, feqL, feqI, rewrite, atRet, suffices, frame, await, done}
 use types.Part.{agg, whole, sub, look-in}
-use types.Run.{look, look-raw, init, store, store-raw, forget, stop, hop, fld, from, load, unit-lit, of-opd, addr, and-then, no-more, lit, true-lit, false-lit, assigns, assigns-last, land, land-last, first, branches, skips, exec, returns, enter, alloc1, alloc0, params1, pass1, pass0, free1, free0}
+use types.Run.{look, look-raw, init, store, store-raw, stop, hop, fld, from, load, unit-lit, of-opd, addr, and-then, no-more, lit, true-lit, false-lit, assigns, assigns-last, land, land-last, first, branches, skips, exec, returns, enter, alloc0, params1, pass1, pass0}
 use types.Tokens.{lft-new, lft-end}
 use sound.WpLaws.{FmC, fmOf, WpFn-mono}
 use denote.RattleType.{owns}
@@ -49,6 +49,7 @@ use Rattle.magnetar_records.proofs.ComboEnds.{combo-ends}
 use Rattle.magnetar_inplace.specs.declared.records.Entry.{Entry}
 use Rattle.magnetar_inplace.proofs.records.Entry as mEntry
 use Rattle.magnetar_inplace.proofs.records.Entry.Laws as lEntry
+use Rattle.magnetar_inplace.proofs.Locals.{tidy, bare, kept, dies, alloc, hide, free-all}
 use Rattle.magnetar_inplace.proofs.Again.{LentAgain, lends-again, comes-back}
 use Rattle.magnetar_records.proofs.combo.refused as g1
 use Rattle.magnetar_records.proofs.combo.refused.Symbol as g1-def
@@ -238,33 +239,32 @@ module _ {M : Type 1} (𝓤 : URA M) (H : Heap 𝓤) (A : Atoms 𝓤) (W : Given
     walk : ent 𝓤 (onEntry 𝓤 H A f.signature (κ₀, (κ₁, (κ₂, (κ₃, (κ₄, (κ₅, (κ₆, (κ₇, (κ₈, (κ₉, (κ₁₀, tt))))))))))) (q₀, (q₁, (q₂, (q₃, (q₄, (q₅, (q₆, (q₇, (q₈, (q₉, (q₁₀, tt))))))))))) a at) (WpFn 𝓤 H C Λ code.function (v1 ∷ v2 ∷ v3 ∷ v4 ∷ v5 ∷ v6 ∷ v7 ∷ v8 ∷ v9 ∷ v10 ∷ v11 ∷ v12 ∷ v13 ∷ v14 ∷ v15 ∷ v16 ∷ v17 ∷ v18 ∷ v19 ∷ v20 ∷ v21 ∷ v22 ∷ v23 ∷ v24 ∷ []) Post)
     walk =
         qed W ((‵ (flft κ₀ q₀) ⊛ ‵ (flft κ₁ q₁) ⊛ ‵ (flft κ₂ q₂) ⊛ ‵ (flft κ₃ q₃) ⊛ ‵ (flft κ₄ q₄) ⊛ ‵ (flft κ₅ q₅) ⊛ ‵ (flft κ₆ q₆) ⊛ ‵ (flft κ₇ q₇) ⊛ ‵ (flft κ₈ q₈) ⊛ ‵ (flft κ₉ q₉) ⊛ ‵ (flft κ₁₀ q₁₀) ⊛ ‵ ftrue) ∷ ‵ (owns (MutSlice (named 0) κ₀ u64 ∷ MutSlice (named 1) κ₁ u64 ∷ u64 ∷ u64 ∷ u64 ∷ ShrSlice (named 2) κ₂ mEntry.the-row ∷ u64 ∷ u64 ∷ ShrSlice (named 3) κ₃ mEntry.the-row ∷ u64 ∷ u64 ∷ ShrSlice (named 4) κ₄ mEntry.the-row ∷ u64 ∷ u64 ∷ ShrSlice (named 5) κ₅ mEntry.the-row ∷ u64 ∷ u64 ∷ ShrSlice (named 6) κ₆ mEntry.the-row ∷ u64 ∷ u64 ∷ ShrSlice (named 7) κ₇ mEntry.the-row ∷ ShrSlice (named 8) κ₈ u64 ∷ ShrSlice (named 9) κ₉ u64 ∷ ShrSlice (named 10) κ₁₀ u64 ∷ []) a at) ∷ []) ∵ enter ! C Λ code.function (v1 ∷ v2 ∷ v3 ∷ v4 ∷ v5 ∷ v6 ∷ v7 ∷ v8 ∷ v9 ∷ v10 ∷ v11 ∷ v12 ∷ v13 ∷ v14 ∷ v15 ∷ v16 ∷ v17 ∷ v18 ∷ v19 ∷ v20 ∷ v21 ∷ v22 ∷ v23 ∷ v24 ∷ []) _ $
-        alloc1 ! (λ l₀. alloc1 ! (λ l₁. alloc1 ! (λ l₂. alloc1 ! (λ l₃. alloc1 ! (λ l₄. alloc1 ! (λ l₅. alloc1 ! (λ l₆. alloc1 ! (λ l₇. alloc1 ! (λ l₈. alloc1 ! (λ l₉. alloc1 ! (λ l₁₀. alloc1 ! (λ l₁₁. alloc1 ! (λ l₁₂. alloc1 ! (λ l₁₃. alloc1 ! (λ l₁₄. alloc1 ! (λ l₁₅. alloc1 ! (λ l₁₆. alloc1 ! (λ l₁₇. alloc1 ! (λ l₁₈. alloc1 ! (λ l₁₉. alloc1 ! (λ l₂₀. alloc1 ! (λ l₂₁. alloc1 ! (λ l₂₂. alloc1 ! (λ l₂₃. alloc1 ! (λ l₂₄. alloc1 ! (λ l₂₅. alloc1 ! (λ l₂₆. alloc1 ! (λ l₂₇. alloc1 ! (λ l₂₈. alloc1 ! (λ l₂₉. alloc1 ! (λ l₃₀. alloc1 ! (λ l₃₁. alloc0 ! $ params1 ! $ pass1 ! (init ! 60 refl (tt, (tt, (record { fits = room1 .0 }, tt)))) $ pass1 ! (init ! 58 refl (tt, (tt, (record { fits = room2 .0 }, tt)))) $ pass1 ! (init ! 56 refl (uint-lawful 𝓤 H A W w64 .typed n3 _ w3 .0)) $ pass1 ! (init ! 54 refl (uint-lawful 𝓤 H A W w64 .typed n4 _ w4 .0)) $ pass1 ! (init ! 52 refl (uint-lawful 𝓤 H A W w64 .typed n5 _ w5 .0)) $ pass1 ! (init ! 50 refl (shr-slice-lawful 𝓤 H A W (named 2) κ₂ mEntry.the-row .typed s6 (v6 ∷ []) w6 .0)) $ pass1 ! (init ! 48 refl (uint-lawful 𝓤 H A W w64 .typed n7 _ w7 .0)) $ pass1 ! (init ! 46 refl (uint-lawful 𝓤 H A W w64 .typed n8 _ w8 .0)) $ pass1 ! (init ! 44 refl (shr-slice-lawful 𝓤 H A W (named 3) κ₃ mEntry.the-row .typed s9 (v9 ∷ []) w9 .0)) $ pass1 ! (init ! 42 refl (uint-lawful 𝓤 H A W w64 .typed n10 _ w10 .0)) $ pass1 ! (init ! 40 refl (uint-lawful 𝓤 H A W w64 .typed n11 _ w11 .0)) $ pass1 ! (init ! 38 refl (shr-slice-lawful 𝓤 H A W (named 4) κ₄ mEntry.the-row .typed s12 (v12 ∷ []) w12 .0)) $ pass1 ! (init ! 36 refl (uint-lawful 𝓤 H A W w64 .typed n13 _ w13 .0)) $ pass1 ! (init ! 34 refl (uint-lawful 𝓤 H A W w64 .typed n14 _ w14 .0)) $ pass1 ! (init ! 32 refl (shr-slice-lawful 𝓤 H A W (named 5) κ₅ mEntry.the-row .typed s15 (v15 ∷ []) w15 .0)) $ pass1 ! (init ! 30 refl (uint-lawful 𝓤 H A W w64 .typed n16 _ w16 .0)) $ pass1 ! (init ! 28 refl (uint-lawful 𝓤 H A W w64 .typed n17 _ w17 .0)) $ pass1 ! (init ! 26 refl (shr-slice-lawful 𝓤 H A W (named 6) κ₆ mEntry.the-row .typed s18 (v18 ∷ []) w18 .0)) $ pass1 ! (init ! 24 refl (uint-lawful 𝓤 H A W w64 .typed n19 _ w19 .0)) $ pass1 ! (init ! 22 refl (uint-lawful 𝓤 H A W w64 .typed n20 _ w20 .0)) $ pass1 ! (init ! 20 refl (shr-slice-lawful 𝓤 H A W (named 7) κ₇ mEntry.the-row .typed s21 (v21 ∷ []) w21 .0)) $ pass1 ! (init ! 18 refl (shr-slice-lawful 𝓤 H A W (named 8) κ₈ u64 .typed s22 (v22 ∷ []) w22 .0)) $ pass1 ! (init ! 16 refl (shr-slice-lawful 𝓤 H A W (named 9) κ₉ u64 .typed s23 (v23 ∷ []) w23 .0)) $ pass1 ! (init ! 14 refl (shr-slice-lawful 𝓤 H A W (named 10) κ₁₀ u64 .typed s24 (v24 ∷ []) w24 .0)) $ pass0 ! $
-        move ! (65 ∷ []) $ fsplit ! $ move ! (1 ∷ []) $ fsplit ! $ move ! (1 ∷ []) $ fsplit ! $ move ! (1 ∷ []) $ fsplit ! $ move ! (1 ∷ []) $ fsplit ! $ move ! (1 ∷ []) $ fsplit ! $ move ! (1 ∷ []) $ fsplit ! $ move ! (1 ∷ []) $ fsplit ! $ move ! (1 ∷ []) $ fsplit ! $ move ! (1 ∷ []) $ fsplit ! $ move ! (1 ∷ []) $ fsplit ! $ move ! (1 ∷ []) $ fsplit ! $ move ! (1 ∷ []) $ fsplit ! $ move ! (1 ∷ []) $ fsplit ! $ move ! (1 ∷ []) $ fsplit ! $ move ! (1 ∷ []) $ fsplit ! $ move ! (1 ∷ []) $ fsplit ! $ move ! (1 ∷ []) $ fsplit ! $ move ! (1 ∷ []) $ fsplit ! $ move ! (1 ∷ []) $ fsplit ! $ move ! (1 ∷ []) $ fsplit ! $ move ! (1 ∷ []) $ fsplit ! $ move ! (1 ∷ []) $ fsplit ! $ move ! (1 ∷ []) $ fsplit ! $ move ! (1 ∷ []) $ move ! (89 ∷ []) $ split ! $ move ! (1 ∷ []) $ split ! $ move ! (1 ∷ []) $ split ! $ move ! (1 ∷ []) $ split ! $ move ! (1 ∷ []) $ split ! $ move ! (1 ∷ []) $ split ! $ move ! (1 ∷ []) $ split ! $ move ! (1 ∷ []) $ split ! $ move ! (1 ∷ []) $ split ! $ move ! (1 ∷ []) $ split ! $ move ! (1 ∷ []) $ split ! $ move ! (1 ∷ []) $
-        assigns ! (of-opd ! (load ! (from ! (fld ! refl (stop !))) (look-in ! 97 (sub ! 1 refl (whole !))))) (from ! (stop !)) (init ! 47 refl (tt, record { fits = (room1 .0) })) $
-        assigns ! (of-opd ! (load ! (from ! (fld ! refl (stop !))) (look-in ! 95 (sub ! 1 refl (whole !))))) (from ! (stop !)) (init ! 45 refl (tt, record { fits = (room2 .0) })) $
-        move ! (31 ∷ []) $ use1 W (‵ (O6) ⊛ ‵ (O6)) (shr-slice-copy 𝓤 H A W (named 2) κ₂ mEntry.the-row .twice s6 (v6 ∷ [])) $ split ! $ move ! (30 ∷ []) $ use1 W (‵ (O9) ⊛ ‵ (O9)) (shr-slice-copy 𝓤 H A W (named 3) κ₃ mEntry.the-row .twice s9 (v9 ∷ [])) $ split ! $ move ! (29 ∷ []) $ use1 W (‵ (O12) ⊛ ‵ (O12)) (shr-slice-copy 𝓤 H A W (named 4) κ₄ mEntry.the-row .twice s12 (v12 ∷ [])) $ split ! $ move ! (28 ∷ []) $ use1 W (‵ (O15) ⊛ ‵ (O15)) (shr-slice-copy 𝓤 H A W (named 5) κ₅ mEntry.the-row .twice s15 (v15 ∷ [])) $ split ! $ move ! (27 ∷ []) $ use1 W (‵ (O18) ⊛ ‵ (O18)) (shr-slice-copy 𝓤 H A W (named 6) κ₆ mEntry.the-row .twice s18 (v18 ∷ [])) $ split ! $ move ! (26 ∷ []) $ use1 W (‵ (O21) ⊛ ‵ (O21)) (shr-slice-copy 𝓤 H A W (named 7) κ₇ mEntry.the-row .twice s21 (v21 ∷ [])) $ split ! $ move ! (27 ∷ []) $ use1 W (‵ (O22) ⊛ ‵ (O22)) (shr-slice-copy 𝓤 H A W (named 8) κ₈ u64 .twice s22 (v22 ∷ [])) $ split ! $ move ! (28 ∷ []) $ use1 W (‵ (O23) ⊛ ‵ (O23)) (shr-slice-copy 𝓤 H A W (named 9) κ₉ u64 .twice s23 (v23 ∷ [])) $ split ! $ move ! (29 ∷ []) $ use1 W (‵ (O24) ⊛ ‵ (O24)) (shr-slice-copy 𝓤 H A W (named 10) κ₁₀ u64 .twice s24 (v24 ∷ [])) $ split ! $ nothing ! $ move ! (20 ∷ 0 ∷ []) $ join ! $ move ! (20 ∷ 0 ∷ []) $ join ! $ move ! (20 ∷ 0 ∷ []) $ join ! $ move ! (20 ∷ 0 ∷ []) $ join ! $ move ! (20 ∷ 0 ∷ []) $ join ! $ move ! (20 ∷ 0 ∷ []) $ join ! $ move ! (20 ∷ 0 ∷ []) $ join ! $ move ! (20 ∷ 0 ∷ []) $ join ! $ move ! (20 ∷ 0 ∷ []) $ join ! $ move ! (3 ∷ 1 ∷ []) $ join ! $ move ! (4 ∷ 0 ∷ []) $ join ! $ move ! (5 ∷ 0 ∷ []) $ join ! $ move ! (6 ∷ 0 ∷ []) $ join ! $ move ! (7 ∷ 0 ∷ []) $ join ! $ move ! (8 ∷ 0 ∷ []) $ join ! $ move ! (9 ∷ 0 ∷ []) $ join ! $ move ! (10 ∷ 0 ∷ []) $ join ! $ move ! (1 ∷ 0 ∷ []) $ join ! $
+        nothing ! $ alloc ! (λ l₀. alloc ! (λ l₁. alloc ! (λ l₂. alloc ! (λ l₃. alloc ! (λ l₄. alloc ! (λ l₅. alloc ! (λ l₆. alloc ! (λ l₇. alloc ! (λ l₈. alloc ! (λ l₉. alloc ! (λ l₁₀. alloc ! (λ l₁₁. alloc ! (λ l₁₂. alloc ! (λ l₁₃. alloc ! (λ l₁₄. alloc ! (λ l₁₅. alloc ! (λ l₁₆. alloc ! (λ l₁₇. alloc ! (λ l₁₈. alloc ! (λ l₁₉. alloc ! (λ l₂₀. alloc ! (λ l₂₁. alloc ! (λ l₂₂. alloc ! (λ l₂₃. alloc ! (λ l₂₄. alloc ! (λ l₂₅. alloc ! (λ l₂₆. alloc ! (λ l₂₇. alloc ! (λ l₂₈. alloc ! (λ l₂₉. alloc ! (λ l₃₀. alloc ! (λ l₃₁. alloc0 ! $ hide ! (λ died die. params1 ! $ pass1 ! (init ! 31 refl (tt, (tt, (record { fits = room1 .0 }, tt)))) $ pass1 ! (init ! 30 refl (tt, (tt, (record { fits = room2 .0 }, tt)))) $ pass1 ! (init ! 29 refl (uint-lawful 𝓤 H A W w64 .typed n3 _ w3 .0)) $ pass1 ! (init ! 28 refl (uint-lawful 𝓤 H A W w64 .typed n4 _ w4 .0)) $ pass1 ! (init ! 27 refl (uint-lawful 𝓤 H A W w64 .typed n5 _ w5 .0)) $ pass1 ! (init ! 26 refl (shr-slice-lawful 𝓤 H A W (named 2) κ₂ mEntry.the-row .typed s6 (v6 ∷ []) w6 .0)) $ pass1 ! (init ! 25 refl (uint-lawful 𝓤 H A W w64 .typed n7 _ w7 .0)) $ pass1 ! (init ! 24 refl (uint-lawful 𝓤 H A W w64 .typed n8 _ w8 .0)) $ pass1 ! (init ! 23 refl (shr-slice-lawful 𝓤 H A W (named 3) κ₃ mEntry.the-row .typed s9 (v9 ∷ []) w9 .0)) $ pass1 ! (init ! 22 refl (uint-lawful 𝓤 H A W w64 .typed n10 _ w10 .0)) $ pass1 ! (init ! 21 refl (uint-lawful 𝓤 H A W w64 .typed n11 _ w11 .0)) $ pass1 ! (init ! 20 refl (shr-slice-lawful 𝓤 H A W (named 4) κ₄ mEntry.the-row .typed s12 (v12 ∷ []) w12 .0)) $ pass1 ! (init ! 19 refl (uint-lawful 𝓤 H A W w64 .typed n13 _ w13 .0)) $ pass1 ! (init ! 18 refl (uint-lawful 𝓤 H A W w64 .typed n14 _ w14 .0)) $ pass1 ! (init ! 17 refl (shr-slice-lawful 𝓤 H A W (named 5) κ₅ mEntry.the-row .typed s15 (v15 ∷ []) w15 .0)) $ pass1 ! (init ! 16 refl (uint-lawful 𝓤 H A W w64 .typed n16 _ w16 .0)) $ pass1 ! (init ! 15 refl (uint-lawful 𝓤 H A W w64 .typed n17 _ w17 .0)) $ pass1 ! (init ! 14 refl (shr-slice-lawful 𝓤 H A W (named 6) κ₆ mEntry.the-row .typed s18 (v18 ∷ []) w18 .0)) $ pass1 ! (init ! 13 refl (uint-lawful 𝓤 H A W w64 .typed n19 _ w19 .0)) $ pass1 ! (init ! 12 refl (uint-lawful 𝓤 H A W w64 .typed n20 _ w20 .0)) $ pass1 ! (init ! 11 refl (shr-slice-lawful 𝓤 H A W (named 7) κ₇ mEntry.the-row .typed s21 (v21 ∷ []) w21 .0)) $ pass1 ! (init ! 10 refl (shr-slice-lawful 𝓤 H A W (named 8) κ₈ u64 .typed s22 (v22 ∷ []) w22 .0)) $ pass1 ! (init ! 9 refl (shr-slice-lawful 𝓤 H A W (named 9) κ₉ u64 .typed s23 (v23 ∷ []) w23 .0)) $ pass1 ! (init ! 8 refl (shr-slice-lawful 𝓤 H A W (named 10) κ₁₀ u64 .typed s24 (v24 ∷ []) w24 .0)) $ pass0 ! $
+        move ! (34 ∷ []) $ fsplit ! $ move ! (1 ∷ []) $ fsplit ! $ move ! (1 ∷ []) $ fsplit ! $ move ! (1 ∷ []) $ fsplit ! $ move ! (1 ∷ []) $ fsplit ! $ move ! (1 ∷ []) $ fsplit ! $ move ! (1 ∷ []) $ fsplit ! $ move ! (1 ∷ []) $ fsplit ! $ move ! (1 ∷ []) $ fsplit ! $ move ! (1 ∷ []) $ fsplit ! $ move ! (1 ∷ []) $ fsplit ! $ move ! (1 ∷ []) $ fsplit ! $ move ! (1 ∷ []) $ fsplit ! $ move ! (1 ∷ []) $ fsplit ! $ move ! (1 ∷ []) $ fsplit ! $ move ! (1 ∷ []) $ fsplit ! $ move ! (1 ∷ []) $ fsplit ! $ move ! (1 ∷ []) $ fsplit ! $ move ! (1 ∷ []) $ fsplit ! $ move ! (1 ∷ []) $ fsplit ! $ move ! (1 ∷ []) $ fsplit ! $ move ! (1 ∷ []) $ fsplit ! $ move ! (1 ∷ []) $ fsplit ! $ move ! (1 ∷ []) $ fsplit ! $ move ! (1 ∷ []) $ drop ! $ move ! (57 ∷ []) $ split ! $ move ! (1 ∷ []) $ split ! $ move ! (1 ∷ []) $ split ! $ move ! (1 ∷ []) $ split ! $ move ! (1 ∷ []) $ split ! $ move ! (1 ∷ []) $ split ! $ move ! (1 ∷ []) $ split ! $ move ! (1 ∷ []) $ split ! $ move ! (1 ∷ []) $ split ! $ move ! (1 ∷ []) $ split ! $ move ! (1 ∷ []) $ split ! $ move ! (1 ∷ []) $ drop ! $ tidy W (_ ∷ _ ∷ _ ∷ _ ∷ _ ∷ _ ∷ _ ∷ _ ∷ _ ∷ _ ∷ _ ∷ _ ∷ _ ∷ _ ∷ _ ∷ _ ∷ _ ∷ _ ∷ _ ∷ _ ∷ _ ∷ _ ∷ _ ∷ _ ∷ _ ∷ _ ∷ _ ∷ _ ∷ _ ∷ _ ∷ _ ∷ _ ∷ _ ∷ _ ∷ _ ∷ _ ∷ _ ∷ _ ∷ _ ∷ _ ∷ _ ∷ _ ∷ _ ∷ _ ∷ _ ∷ _ ∷ _ ∷ _ ∷ _ ∷ _ ∷ _ ∷ _ ∷ _ ∷ _ ∷ _ ∷ _ ∷ _ ∷ _ ∷ _ ∷ _ ∷ _ ∷ _ ∷ _ ∷ _ ∷ _ ∷ _ ∷ _ ∷ _ ∷ []) $
+        assigns ! (of-opd ! (load ! (from ! (fld ! refl (stop !))) (look-in ! 66 (sub ! 1 refl (whole !))))) (from ! (stop !)) (init ! 41 refl (tt, record { fits = (room1 .0) })) $
+        assigns ! (of-opd ! (load ! (from ! (fld ! refl (stop !))) (look-in ! 65 (sub ! 1 refl (whole !))))) (from ! (stop !)) (init ! 40 refl (tt, record { fits = (room2 .0) })) $
+        move ! (29 ∷ []) $ use1 W (‵ (O6) ⊛ ‵ (O6)) (shr-slice-copy 𝓤 H A W (named 2) κ₂ mEntry.the-row .twice s6 (v6 ∷ [])) $ split ! $ move ! (28 ∷ []) $ use1 W (‵ (O9) ⊛ ‵ (O9)) (shr-slice-copy 𝓤 H A W (named 3) κ₃ mEntry.the-row .twice s9 (v9 ∷ [])) $ split ! $ move ! (27 ∷ []) $ use1 W (‵ (O12) ⊛ ‵ (O12)) (shr-slice-copy 𝓤 H A W (named 4) κ₄ mEntry.the-row .twice s12 (v12 ∷ [])) $ split ! $ move ! (26 ∷ []) $ use1 W (‵ (O15) ⊛ ‵ (O15)) (shr-slice-copy 𝓤 H A W (named 5) κ₅ mEntry.the-row .twice s15 (v15 ∷ [])) $ split ! $ move ! (25 ∷ []) $ use1 W (‵ (O18) ⊛ ‵ (O18)) (shr-slice-copy 𝓤 H A W (named 6) κ₆ mEntry.the-row .twice s18 (v18 ∷ [])) $ split ! $ move ! (24 ∷ []) $ use1 W (‵ (O21) ⊛ ‵ (O21)) (shr-slice-copy 𝓤 H A W (named 7) κ₇ mEntry.the-row .twice s21 (v21 ∷ [])) $ split ! $ move ! (25 ∷ []) $ use1 W (‵ (O22) ⊛ ‵ (O22)) (shr-slice-copy 𝓤 H A W (named 8) κ₈ u64 .twice s22 (v22 ∷ [])) $ split ! $ move ! (26 ∷ []) $ use1 W (‵ (O23) ⊛ ‵ (O23)) (shr-slice-copy 𝓤 H A W (named 9) κ₉ u64 .twice s23 (v23 ∷ [])) $ split ! $ move ! (27 ∷ []) $ use1 W (‵ (O24) ⊛ ‵ (O24)) (shr-slice-copy 𝓤 H A W (named 10) κ₁₀ u64 .twice s24 (v24 ∷ [])) $ split ! $ tidy W (_ ∷ _ ∷ _ ∷ _ ∷ _ ∷ _ ∷ _ ∷ _ ∷ _ ∷ _ ∷ _ ∷ _ ∷ _ ∷ _ ∷ _ ∷ _ ∷ _ ∷ _ ∷ _ ∷ _ ∷ _ ∷ _ ∷ _ ∷ _ ∷ _ ∷ _ ∷ _ ∷ _ ∷ _ ∷ _ ∷ _ ∷ _ ∷ _ ∷ _ ∷ _ ∷ _ ∷ _ ∷ _ ∷ _ ∷ _ ∷ _ ∷ _ ∷ _ ∷ _ ∷ _ ∷ _ ∷ _ ∷ _ ∷ _ ∷ _ ∷ _ ∷ _ ∷ _ ∷ _ ∷ _ ∷ _ ∷ _ ∷ _ ∷ _ ∷ _ ∷ _ ∷ _ ∷ _ ∷ _ ∷ _ ∷ _ ∷ _ ∷ _ ∷ _ ∷ _ ∷ _ ∷ _ ∷ _ ∷ _ ∷ _ ∷ _ ∷ _ ∷ []) $ nothing ! $ move ! (19 ∷ 0 ∷ []) $ join ! $ move ! (19 ∷ 0 ∷ []) $ join ! $ move ! (19 ∷ 0 ∷ []) $ join ! $ move ! (19 ∷ 0 ∷ []) $ join ! $ move ! (19 ∷ 0 ∷ []) $ join ! $ move ! (19 ∷ 0 ∷ []) $ join ! $ move ! (19 ∷ 0 ∷ []) $ join ! $ move ! (19 ∷ 0 ∷ []) $ join ! $ move ! (19 ∷ 0 ∷ []) $ join ! $ move ! (3 ∷ 1 ∷ []) $ join ! $ move ! (4 ∷ 0 ∷ []) $ join ! $ move ! (5 ∷ 0 ∷ []) $ join ! $ move ! (6 ∷ 0 ∷ []) $ join ! $ move ! (7 ∷ 0 ∷ []) $ join ! $ move ! (8 ∷ 0 ∷ []) $ join ! $ move ! (9 ∷ 0 ∷ []) $ join ! $ move ! (10 ∷ 0 ∷ []) $ join ! $ move ! (1 ∷ 0 ∷ []) $ join ! $
         -- call 1
         use1 W (raw (Callee-g1 𝓤 H A at-mem run .pre (((κ₂, (κ₃, (κ₄, (κ₅, (κ₆, (κ₇, (κ₈, (κ₉, (κ₁₀, tt))))))))), (q₂, (q₃, (q₄, (q₅, (q₆, (q₇, (q₈, (q₉, (q₁₀, tt))))))))), tt, (n3, (n4, (n5, (s6, (n7, (n8, (s9, (n10, (n11, (s12, (n13, (n14, (s15, (n16, (n17, (s18, (n19, (n20, (s21, (s22, (s23, (s24, ((length ys1), ((length ys2), tt)))))))))))))))))))))))), (u3 ∷ [], (u4 ∷ [], (u5 ∷ [], (v6 ∷ [], (u7 ∷ [], (u8 ∷ [], (v9 ∷ [], (u10 ∷ [], (u11 ∷ [], (v12 ∷ [], (u13 ∷ [], (u14 ∷ [], (v15 ∷ [], (u16 ∷ [], (u17 ∷ [], (v18 ∷ [], (u19 ∷ [], (u20 ∷ [], (v21 ∷ [], (v22 ∷ [], (v23 ∷ [], (v24 ∷ [], ((vint w64 (length ys1)) ∷ [], ((vint w64 (length ys2)) ∷ [], tt))))))))))))))))))))))))), tt))) (qed W ((‵ (flft κ₂ q₂) ⊛ ‵ (flft κ₃ q₃) ⊛ ‵ (flft κ₄ q₄) ⊛ ‵ (flft κ₅ q₅) ⊛ ‵ (flft κ₆ q₆) ⊛ ‵ (flft κ₇ q₇) ⊛ ‵ (flft κ₈ q₈) ⊛ ‵ (flft κ₉ q₉) ⊛ ‵ (flft κ₁₀ q₁₀) ⊛ ‵ ftrue) ∷ ‵ (ShrSlice (named 0) κ₂ mEntry.the-row .own s6 (v6 ∷ [])) ∷ ‵ (ShrSlice (named 1) κ₃ mEntry.the-row .own s9 (v9 ∷ [])) ∷ ‵ (ShrSlice (named 2) κ₄ mEntry.the-row .own s12 (v12 ∷ [])) ∷ ‵ (ShrSlice (named 3) κ₅ mEntry.the-row .own s15 (v15 ∷ [])) ∷ ‵ (ShrSlice (named 4) κ₆ mEntry.the-row .own s18 (v18 ∷ [])) ∷ ‵ (ShrSlice (named 5) κ₇ mEntry.the-row .own s21 (v21 ∷ [])) ∷ ‵ (ShrSlice (named 6) κ₈ u64 .own s22 (v22 ∷ [])) ∷ ‵ (ShrSlice (named 7) κ₉ u64 .own s23 (v23 ∷ [])) ∷ ‵ (ShrSlice (named 8) κ₁₀ u64 .own s24 (v24 ∷ [])) ∷ []) ∵ nothing ! $ owned ! u64 (Is u64) (uint-makes 𝓤 H A W w64) ((length ys2)) _ (refl, (room2 .0)) $ fjoin ! $ owned ! u64 (Is u64) (uint-makes 𝓤 H A W w64) ((length ys1)) _ (refl, (room1 .0)) $ fjoin ! $ move ! (10 ∷ 0 ∷ []) $ fjoin ! $ move ! (9 ∷ 0 ∷ []) $ fjoin ! $ move ! (8 ∷ 0 ∷ []) $ fjoin ! $ move ! (7 ∷ 0 ∷ []) $ fjoin ! $ owned ! u64 (Is u64) (uint-makes 𝓤 H A W w64) (n20) _ w20 $ fjoin ! $ owned ! u64 (Is u64) (uint-makes 𝓤 H A W w64) (n19) _ w19 $ fjoin ! $ move ! (6 ∷ 0 ∷ []) $ fjoin ! $ owned ! u64 (Is u64) (uint-makes 𝓤 H A W w64) (n17) _ w17 $ fjoin ! $ owned ! u64 (Is u64) (uint-makes 𝓤 H A W w64) (n16) _ w16 $ fjoin ! $ move ! (5 ∷ 0 ∷ []) $ fjoin ! $ owned ! u64 (Is u64) (uint-makes 𝓤 H A W w64) (n14) _ w14 $ fjoin ! $ owned ! u64 (Is u64) (uint-makes 𝓤 H A W w64) (n13) _ w13 $ fjoin ! $ move ! (4 ∷ 0 ∷ []) $ fjoin ! $ owned ! u64 (Is u64) (uint-makes 𝓤 H A W w64) (n11) _ w11 $ fjoin ! $ owned ! u64 (Is u64) (uint-makes 𝓤 H A W w64) (n10) _ w10 $ fjoin ! $ move ! (3 ∷ 0 ∷ []) $ fjoin ! $ owned ! u64 (Is u64) (uint-makes 𝓤 H A W w64) (n8) _ w8 $ fjoin ! $ owned ! u64 (Is u64) (uint-makes 𝓤 H A W w64) (n7) _ w7 $ fjoin ! $ move ! (2 ∷ 0 ∷ []) $ fjoin ! $ owned ! u64 (Is u64) (uint-makes 𝓤 H A W w64) (n5) _ w5 $ fjoin ! $ owned ! u64 (Is u64) (uint-makes 𝓤 H A W w64) (n4) _ w4 $ fjoin ! $ owned ! u64 (Is u64) (uint-makes 𝓤 H A W w64) (n3) _ w3 $ fjoin ! $ move ! (1 ∷ 0 ∷ []) $ join ! $ nothing ! $ move ! (1 ∷ 0 ∷ []) $ frame ! $ done !) $
-        calls-at ! fm (Callee-g1 𝓤 H A at-mem run) known-g1 (((κ₂, (κ₃, (κ₄, (κ₅, (κ₆, (κ₇, (κ₈, (κ₉, (κ₁₀, tt))))))))), (q₂, (q₃, (q₄, (q₅, (q₆, (q₇, (q₈, (q₉, (q₁₀, tt))))))))), tt, (n3, (n4, (n5, (s6, (n7, (n8, (s9, (n10, (n11, (s12, (n13, (n14, (s15, (n16, (n17, (s18, (n19, (n20, (s21, (s22, (s23, (s24, ((length ys1), ((length ys2), tt)))))))))))))))))))))))), (u3 ∷ [], (u4 ∷ [], (u5 ∷ [], (v6 ∷ [], (u7 ∷ [], (u8 ∷ [], (v9 ∷ [], (u10 ∷ [], (u11 ∷ [], (v12 ∷ [], (u13 ∷ [], (u14 ∷ [], (v15 ∷ [], (u16 ∷ [], (u17 ∷ [], (v18 ∷ [], (u19 ∷ [], (u20 ∷ [], (v21 ∷ [], (v22 ∷ [], (v23 ∷ [], (v24 ∷ [], ((vint w64 (length ys1)) ∷ [], ((vint w64 (length ys2)) ∷ [], tt))))))))))))))))))))))))), tt) (and-then ! (load ! (from ! (stop !)) (look ! 85 refl)) (and-then ! (load ! (from ! (stop !)) (look ! 83 refl)) (and-then ! (load ! (from ! (stop !)) (look ! 81 refl)) (and-then ! (load ! (from ! (stop !)) (look ! 79 refl)) (and-then ! (load ! (from ! (stop !)) (look ! 77 refl)) (and-then ! (load ! (from ! (stop !)) (look ! 75 refl)) (and-then ! (load ! (from ! (stop !)) (look ! 73 refl)) (and-then ! (load ! (from ! (stop !)) (look ! 71 refl)) (and-then ! (load ! (from ! (stop !)) (look ! 69 refl)) (and-then ! (load ! (from ! (stop !)) (look ! 67 refl)) (and-then ! (load ! (from ! (stop !)) (look ! 65 refl)) (and-then ! (load ! (from ! (stop !)) (look ! 63 refl)) (and-then ! (load ! (from ! (stop !)) (look ! 61 refl)) (and-then ! (load ! (from ! (stop !)) (look ! 59 refl)) (and-then ! (load ! (from ! (stop !)) (look ! 57 refl)) (and-then ! (load ! (from ! (stop !)) (look ! 55 refl)) (and-then ! (load ! (from ! (stop !)) (look ! 53 refl)) (and-then ! (load ! (from ! (stop !)) (look ! 51 refl)) (and-then ! (load ! (from ! (stop !)) (look ! 49 refl)) (and-then ! (load ! (from ! (stop !)) (look ! 47 refl)) (and-then ! (load ! (from ! (stop !)) (look ! 45 refl)) (and-then ! (load ! (from ! (stop !)) (look ! 43 refl)) (and-then ! (load ! (from ! (stop !)) (look ! 39 refl)) (and-then ! (load ! (from ! (stop !)) (look ! 37 refl)) (no-more !))))))))))))))))))))))))) (λ z1.
+        calls-at ! fm (Callee-g1 𝓤 H A at-mem run) known-g1 (((κ₂, (κ₃, (κ₄, (κ₅, (κ₆, (κ₇, (κ₈, (κ₉, (κ₁₀, tt))))))))), (q₂, (q₃, (q₄, (q₅, (q₆, (q₇, (q₈, (q₉, (q₁₀, tt))))))))), tt, (n3, (n4, (n5, (s6, (n7, (n8, (s9, (n10, (n11, (s12, (n13, (n14, (s15, (n16, (n17, (s18, (n19, (n20, (s21, (s22, (s23, (s24, ((length ys1), ((length ys2), tt)))))))))))))))))))))))), (u3 ∷ [], (u4 ∷ [], (u5 ∷ [], (v6 ∷ [], (u7 ∷ [], (u8 ∷ [], (v9 ∷ [], (u10 ∷ [], (u11 ∷ [], (v12 ∷ [], (u13 ∷ [], (u14 ∷ [], (v15 ∷ [], (u16 ∷ [], (u17 ∷ [], (v18 ∷ [], (u19 ∷ [], (u20 ∷ [], (v21 ∷ [], (v22 ∷ [], (v23 ∷ [], (v24 ∷ [], ((vint w64 (length ys1)) ∷ [], ((vint w64 (length ys2)) ∷ [], tt))))))))))))))))))))))))), tt) (and-then ! (load ! (from ! (stop !)) (look ! 56 refl)) (and-then ! (load ! (from ! (stop !)) (look ! 55 refl)) (and-then ! (load ! (from ! (stop !)) (look ! 54 refl)) (and-then ! (load ! (from ! (stop !)) (look ! 53 refl)) (and-then ! (load ! (from ! (stop !)) (look ! 52 refl)) (and-then ! (load ! (from ! (stop !)) (look ! 51 refl)) (and-then ! (load ! (from ! (stop !)) (look ! 50 refl)) (and-then ! (load ! (from ! (stop !)) (look ! 49 refl)) (and-then ! (load ! (from ! (stop !)) (look ! 48 refl)) (and-then ! (load ! (from ! (stop !)) (look ! 47 refl)) (and-then ! (load ! (from ! (stop !)) (look ! 46 refl)) (and-then ! (load ! (from ! (stop !)) (look ! 45 refl)) (and-then ! (load ! (from ! (stop !)) (look ! 44 refl)) (and-then ! (load ! (from ! (stop !)) (look ! 43 refl)) (and-then ! (load ! (from ! (stop !)) (look ! 42 refl)) (and-then ! (load ! (from ! (stop !)) (look ! 41 refl)) (and-then ! (load ! (from ! (stop !)) (look ! 40 refl)) (and-then ! (load ! (from ! (stop !)) (look ! 39 refl)) (and-then ! (load ! (from ! (stop !)) (look ! 38 refl)) (and-then ! (load ! (from ! (stop !)) (look ! 37 refl)) (and-then ! (load ! (from ! (stop !)) (look ! 36 refl)) (and-then ! (load ! (from ! (stop !)) (look ! 35 refl)) (and-then ! (load ! (from ! (stop !)) (look ! 33 refl)) (and-then ! (load ! (from ! (stop !)) (look ! 32 refl)) (no-more !))))))))))))))))))))))))) (λ z1.
         use1 W (later (some (λ (r1 : ℕ). ((‵ (flft κ₂ q₂) ⊛ ‵ (flft κ₃ q₃) ⊛ ‵ (flft κ₄ q₄) ⊛ ‵ (flft κ₅ q₅) ⊛ ‵ (flft κ₆ q₆) ⊛ ‵ (flft κ₇ q₇) ⊛ ‵ (flft κ₈ q₈) ⊛ ‵ (flft κ₉ q₉) ⊛ ‵ (flft κ₁₀ q₁₀) ⊛ ‵ ftrue) ⊛ ‵ (u32 .own r1 (z1 ∷ []))) ⊛ some (λ (ws : Lasts g1.ended (κ₂, (κ₃, (κ₄, (κ₅, (κ₆, (κ₇, (κ₈, (κ₉, (κ₁₀, tt))))))))) (n3, (n4, (n5, (s6, (n7, (n8, (s9, (n10, (n11, (s12, (n13, (n14, (s15, (n16, (n17, (s18, (n19, (n20, (s21, (s22, (s23, (s24, ((length ys1), ((length ys2), tt))))))))))))))))))))))))). ‵ (lasts g1.ended (κ₂, (κ₃, (κ₄, (κ₅, (κ₆, (κ₇, (κ₈, (κ₉, (κ₁₀, tt))))))))) (n3, (n4, (n5, (s6, (n7, (n8, (s9, (n10, (n11, (s12, (n13, (n14, (s15, (n16, (n17, (s18, (n19, (n20, (s21, (s22, (s23, (s24, ((length ys1), ((length ys2), tt)))))))))))))))))))))))) ws) ⊛ raw (g1.clauses 𝓤 H A at-mem run (κ₂, (κ₃, (κ₄, (κ₅, (κ₆, (κ₇, (κ₈, (κ₉, (κ₁₀, tt))))))))) (n3, (n4, (n5, (s6, (n7, (n8, (s9, (n10, (n11, (s12, (n13, (n14, (s15, (n16, (n17, (s18, (n19, (n20, (s21, (s22, (s23, (s24, ((length ys1), ((length ys2), tt)))))))))))))))))))))))) .ensures tt r1 (atExit g1.ended (κ₂, (κ₃, (κ₄, (κ₅, (κ₆, (κ₇, (κ₈, (κ₉, (κ₁₀, tt))))))))) (n3, (n4, (n5, (s6, (n7, (n8, (s9, (n10, (n11, (s12, (n13, (n14, (s15, (n16, (n17, (s18, (n19, (n20, (s21, (s22, (s23, (s24, ((length ys1), ((length ys2), tt)))))))))))))))))))))))) ws)))))) (id⊢ 𝓤 _) $ await ! tt $ pick ! (λ r1. split ! $ move ! (1 ∷ []) $ pick ! (λ ws1. split ! $ move ! (1 ∷ []) $ heard ! _ (λ e1.
-        fsplit ! $ move ! (1 ∷ []) $ fsplit ! $ move ! (1 ∷ []) $ fsplit ! $ move ! (1 ∷ []) $ fsplit ! $ move ! (1 ∷ []) $ fsplit ! $ move ! (1 ∷ []) $ fsplit ! $ move ! (1 ∷ []) $ fsplit ! $ move ! (1 ∷ []) $ fsplit ! $ move ! (1 ∷ []) $ fsplit ! $ move ! (1 ∷ []) $ fsplit ! $ move ! (1 ∷ []) $ fsplit ! $ move ! (1 ∷ []) $ fsplit ! $ move ! (1 ∷ []) $ fsplit ! $ move ! (1 ∷ []) $ fsplit ! $ move ! (1 ∷ []) $ fsplit ! $ move ! (1 ∷ []) $ fsplit ! $ move ! (1 ∷ []) $ fsplit ! $ move ! (1 ∷ []) $ fsplit ! $ move ! (1 ∷ []) $ fsplit ! $ move ! (1 ∷ []) $ fsplit ! $ move ! (1 ∷ []) $ fsplit ! $ move ! (1 ∷ []) $ fsplit ! $ move ! (1 ∷ []) $ fsplit ! $ move ! (1 ∷ []) $ fsplit ! $ move ! (25 ∷ []) $ split ! $ move ! (1 ∷ []) $ peeks ! u32 (Is u32) (shows 𝓤 H A u32) r1 (z1 ∷ []) (λ i1. drop ! $ land ! (from ! (stop !)) (init ! 66 refl (uint-lawful 𝓤 H A W w32 .typed r1 _ i1 .0)) $
-        split ! $ move ! (1 ∷ []) $ split ! $ move ! (1 ∷ []) $ split ! $ move ! (1 ∷ []) $ split ! $ move ! (1 ∷ []) $ split ! $ move ! (1 ∷ []) $ split ! $ move ! (1 ∷ []) $ split ! $ move ! (1 ∷ []) $ split ! $ move ! (1 ∷ []) $ split ! $ move ! (1 ∷ []) $ assigns ! (addr ! (from ! (fld ! refl (hop ! (look-in ! 123 (sub ! 0 refl (whole !))) (stop !))))) (from ! (stop !)) (init ! 69 refl (tt, tt)) $
-        assigns ! (agg ! (and-then ! (load ! (from ! (stop !)) (look ! 69 refl)) (and-then ! (load ! (from ! (fld ! refl (stop !))) (look-in ! 123 (sub ! 1 refl (whole !)))) (no-more !)))) (from ! (stop !)) (init ! 67 refl (tt, (tt, (record { fits = room1 .0 }, tt)))) $
-        assigns ! (addr ! (from ! (fld ! refl (hop ! (look-in ! 121 (sub ! 0 refl (whole !))) (stop !))))) (from ! (stop !)) (init ! 65 refl (tt, tt)) $
-        assigns ! (agg ! (and-then ! (load ! (from ! (stop !)) (look ! 65 refl)) (and-then ! (load ! (from ! (fld ! refl (stop !))) (look-in ! 121 (sub ! 1 refl (whole !)))) (no-more !)))) (from ! (stop !)) (init ! 63 refl (tt, (tt, (record { fits = room2 .0 }, tt)))) $
-        lft-new ! tt (λ ν2b. move ! (63 ∷ 47 ∷ []) $ use2 W (later (some (λ (δ : GName). ‵ (MutSlice (named 0) (ν2b ∷ []) u64 .own (ref1 δ (ys1)) (v1 ∷ [])) ⊛ ‵ (Lent1 ν2b δ (ys1))))) (lends1 (named 0) ν2b (ys1) (refl)) $ await ! tt $ pick ! (λ δ2b. split ! $
-        lft-new ! tt (λ ν2c. move ! (64 ∷ 49 ∷ []) $ use2 W (later (some (λ (δ : GName). ‵ (MutSlice (named 1) (ν2c ∷ []) u64 .own (ref2 δ (ys2)) (v2 ∷ [])) ⊛ ‵ (Lent2 ν2c δ (ys2))))) (lends2 (named 1) ν2c (ys2) (refl)) $ await ! tt $ pick ! (λ δ2c. split ! $ move ! (43 ∷ []) $ use1 W (‵ (O22) ⊛ ‵ (O22)) (shr-slice-copy 𝓤 H A W (named 8) κ₈ u64 .twice s22 (v22 ∷ [])) $ split ! $ move ! (44 ∷ []) $ use1 W (‵ (O23) ⊛ ‵ (O23)) (shr-slice-copy 𝓤 H A W (named 9) κ₉ u64 .twice s23 (v23 ∷ [])) $ split ! $ move ! (45 ∷ []) $ use1 W (‵ (O24) ⊛ ‵ (O24)) (shr-slice-copy 𝓤 H A W (named 10) κ₁₀ u64 .twice s24 (v24 ∷ [])) $ split ! $ move ! (52 ∷ []) $ use1 W (‵ (O6) ⊛ ‵ (O6)) (shr-slice-copy 𝓤 H A W (named 2) κ₂ mEntry.the-row .twice s6 (v6 ∷ [])) $ split ! $ move ! (53 ∷ []) $ use1 W (‵ (O9) ⊛ ‵ (O9)) (shr-slice-copy 𝓤 H A W (named 3) κ₃ mEntry.the-row .twice s9 (v9 ∷ [])) $ split ! $ move ! (54 ∷ []) $ use1 W (‵ (O12) ⊛ ‵ (O12)) (shr-slice-copy 𝓤 H A W (named 4) κ₄ mEntry.the-row .twice s12 (v12 ∷ [])) $ split ! $ move ! (55 ∷ []) $ use1 W (‵ (O15) ⊛ ‵ (O15)) (shr-slice-copy 𝓤 H A W (named 5) κ₅ mEntry.the-row .twice s15 (v15 ∷ [])) $ split ! $ move ! (56 ∷ []) $ use1 W (‵ (O18) ⊛ ‵ (O18)) (shr-slice-copy 𝓤 H A W (named 6) κ₆ mEntry.the-row .twice s18 (v18 ∷ [])) $ split ! $ move ! (57 ∷ []) $ use1 W (‵ (O21) ⊛ ‵ (O21)) (shr-slice-copy 𝓤 H A W (named 7) κ₇ mEntry.the-row .twice s21 (v21 ∷ [])) $ split ! $ nothing ! $ move ! (29 ∷ 0 ∷ []) $ join ! $ move ! (29 ∷ 0 ∷ []) $ join ! $ move ! (29 ∷ 0 ∷ []) $ join ! $ move ! (29 ∷ 0 ∷ []) $ join ! $ move ! (29 ∷ 0 ∷ []) $ join ! $ move ! (29 ∷ 0 ∷ []) $ join ! $ move ! (26 ∷ 0 ∷ []) $ join ! $ move ! (26 ∷ 0 ∷ []) $ join ! $ move ! (26 ∷ 0 ∷ []) $ join ! $ move ! (21 ∷ 0 ∷ []) $ join ! $ move ! (23 ∷ 0 ∷ []) $ join ! $ move ! (3 ∷ 1 ∷ []) $ join ! $ move ! (4 ∷ 0 ∷ []) $ join ! $ move ! (5 ∷ 0 ∷ []) $ join ! $ move ! (6 ∷ 0 ∷ []) $ join ! $ move ! (7 ∷ 0 ∷ []) $ join ! $ move ! (8 ∷ 0 ∷ []) $ join ! $ move ! (9 ∷ 0 ∷ []) $ join ! $ move ! (10 ∷ 0 ∷ []) $ join ! $ move ! (11 ∷ 0 ∷ []) $ join ! $ move ! (12 ∷ 0 ∷ []) $ join ! $ move ! (1 ∷ 0 ∷ []) $ join ! $
+        drop ! $ split ! $ move ! (1 ∷ []) $ peeks ! u32 (Is u32) (shows 𝓤 H A u32) r1 (z1 ∷ []) (λ i1. drop ! $ land ! (from ! (stop !)) (init ! 34 refl (uint-lawful 𝓤 H A W w32 .typed r1 _ i1 .0)) $
+        tidy W (_ ∷ _ ∷ _ ∷ _ ∷ _ ∷ _ ∷ _ ∷ _ ∷ _ ∷ _ ∷ _ ∷ _ ∷ _ ∷ _ ∷ _ ∷ _ ∷ _ ∷ _ ∷ _ ∷ _ ∷ _ ∷ _ ∷ _ ∷ _ ∷ _ ∷ _ ∷ _ ∷ _ ∷ _ ∷ _ ∷ _ ∷ _ ∷ _ ∷ _ ∷ _ ∷ _ ∷ _ ∷ _ ∷ _ ∷ _ ∷ _ ∷ _ ∷ _ ∷ _ ∷ _ ∷ _ ∷ _ ∷ _ ∷ _ ∷ _ ∷ _ ∷ _ ∷ _ ∷ _ ∷ _ ∷ _ ∷ _ ∷ _ ∷ _ ∷ _ ∷ []) $ split ! $ move ! (1 ∷ []) $ split ! $ move ! (1 ∷ []) $ split ! $ move ! (1 ∷ []) $ split ! $ move ! (1 ∷ []) $ split ! $ move ! (1 ∷ []) $ split ! $ move ! (1 ∷ []) $ split ! $ move ! (1 ∷ []) $ split ! $ move ! (1 ∷ []) $ split ! $ move ! (1 ∷ []) $ drop ! $ assigns ! (addr ! (from ! (fld ! refl (hop ! (look-in ! 66 (sub ! 0 refl (whole !))) (stop !))))) (from ! (stop !)) (init ! 39 refl (tt, tt)) $
+        assigns ! (agg ! (and-then ! (load ! (from ! (stop !)) (look ! 39 refl)) (and-then ! (load ! (from ! (fld ! refl (stop !))) (look-in ! 66 (sub ! 1 refl (whole !)))) (no-more !)))) (from ! (stop !)) (init ! 38 refl (tt, (tt, (record { fits = room1 .0 }, tt)))) $
+        assigns ! (addr ! (from ! (fld ! refl (hop ! (look-in ! 65 (sub ! 0 refl (whole !))) (stop !))))) (from ! (stop !)) (init ! 37 refl (tt, tt)) $
+        assigns ! (agg ! (and-then ! (load ! (from ! (stop !)) (look ! 37 refl)) (and-then ! (load ! (from ! (fld ! refl (stop !))) (look-in ! 65 (sub ! 1 refl (whole !)))) (no-more !)))) (from ! (stop !)) (init ! 36 refl (tt, (tt, (record { fits = room2 .0 }, tt)))) $
+        lft-new ! tt (λ ν2b. move ! (35 ∷ 20 ∷ []) $ use2 W (later (some (λ (δ : GName). ‵ (MutSlice (named 0) (ν2b ∷ []) u64 .own (ref1 δ (ys1)) (v1 ∷ [])) ⊛ ‵ (Lent1 ν2b δ (ys1))))) (lends1 (named 0) ν2b (ys1) (refl)) $ await ! tt $ pick ! (λ δ2b. split ! $
+        lft-new ! tt (λ ν2c. move ! (36 ∷ 22 ∷ []) $ use2 W (later (some (λ (δ : GName). ‵ (MutSlice (named 1) (ν2c ∷ []) u64 .own (ref2 δ (ys2)) (v2 ∷ [])) ⊛ ‵ (Lent2 ν2c δ (ys2))))) (lends2 (named 1) ν2c (ys2) (refl)) $ await ! tt $ pick ! (λ δ2c. split ! $ move ! (17 ∷ []) $ use1 W (‵ (O22) ⊛ ‵ (O22)) (shr-slice-copy 𝓤 H A W (named 8) κ₈ u64 .twice s22 (v22 ∷ [])) $ split ! $ move ! (18 ∷ []) $ use1 W (‵ (O23) ⊛ ‵ (O23)) (shr-slice-copy 𝓤 H A W (named 9) κ₉ u64 .twice s23 (v23 ∷ [])) $ split ! $ move ! (19 ∷ []) $ use1 W (‵ (O24) ⊛ ‵ (O24)) (shr-slice-copy 𝓤 H A W (named 10) κ₁₀ u64 .twice s24 (v24 ∷ [])) $ split ! $ move ! (26 ∷ []) $ use1 W (‵ (O6) ⊛ ‵ (O6)) (shr-slice-copy 𝓤 H A W (named 2) κ₂ mEntry.the-row .twice s6 (v6 ∷ [])) $ split ! $ move ! (27 ∷ []) $ use1 W (‵ (O9) ⊛ ‵ (O9)) (shr-slice-copy 𝓤 H A W (named 3) κ₃ mEntry.the-row .twice s9 (v9 ∷ [])) $ split ! $ move ! (28 ∷ []) $ use1 W (‵ (O12) ⊛ ‵ (O12)) (shr-slice-copy 𝓤 H A W (named 4) κ₄ mEntry.the-row .twice s12 (v12 ∷ [])) $ split ! $ move ! (29 ∷ []) $ use1 W (‵ (O15) ⊛ ‵ (O15)) (shr-slice-copy 𝓤 H A W (named 5) κ₅ mEntry.the-row .twice s15 (v15 ∷ [])) $ split ! $ move ! (30 ∷ []) $ use1 W (‵ (O18) ⊛ ‵ (O18)) (shr-slice-copy 𝓤 H A W (named 6) κ₆ mEntry.the-row .twice s18 (v18 ∷ [])) $ split ! $ move ! (31 ∷ []) $ use1 W (‵ (O21) ⊛ ‵ (O21)) (shr-slice-copy 𝓤 H A W (named 7) κ₇ mEntry.the-row .twice s21 (v21 ∷ [])) $ split ! $ tidy W (_ ∷ _ ∷ _ ∷ _ ∷ _ ∷ _ ∷ _ ∷ _ ∷ _ ∷ _ ∷ _ ∷ _ ∷ _ ∷ _ ∷ _ ∷ _ ∷ _ ∷ _ ∷ _ ∷ _ ∷ _ ∷ _ ∷ _ ∷ _ ∷ _ ∷ _ ∷ _ ∷ _ ∷ _ ∷ _ ∷ _ ∷ _ ∷ _ ∷ _ ∷ _ ∷ _ ∷ _ ∷ _ ∷ _ ∷ _ ∷ _ ∷ _ ∷ _ ∷ _ ∷ _ ∷ _ ∷ _ ∷ _ ∷ _ ∷ _ ∷ _ ∷ _ ∷ _ ∷ _ ∷ _ ∷ _ ∷ _ ∷ _ ∷ _ ∷ _ ∷ _ ∷ _ ∷ _ ∷ _ ∷ _ ∷ _ ∷ _ ∷ _ ∷ _ ∷ _ ∷ _ ∷ _ ∷ _ ∷ _ ∷ _ ∷ _ ∷ _ ∷ _ ∷ _ ∷ []) $ nothing ! $ move ! (28 ∷ 0 ∷ []) $ join ! $ move ! (28 ∷ 0 ∷ []) $ join ! $ move ! (28 ∷ 0 ∷ []) $ join ! $ move ! (28 ∷ 0 ∷ []) $ join ! $ move ! (28 ∷ 0 ∷ []) $ join ! $ move ! (28 ∷ 0 ∷ []) $ join ! $ move ! (25 ∷ 0 ∷ []) $ join ! $ move ! (25 ∷ 0 ∷ []) $ join ! $ move ! (25 ∷ 0 ∷ []) $ join ! $ move ! (21 ∷ 0 ∷ []) $ join ! $ move ! (23 ∷ 0 ∷ []) $ join ! $ move ! (3 ∷ 1 ∷ []) $ join ! $ move ! (4 ∷ 0 ∷ []) $ join ! $ move ! (5 ∷ 0 ∷ []) $ join ! $ move ! (6 ∷ 0 ∷ []) $ join ! $ move ! (7 ∷ 0 ∷ []) $ join ! $ move ! (8 ∷ 0 ∷ []) $ join ! $ move ! (9 ∷ 0 ∷ []) $ join ! $ move ! (10 ∷ 0 ∷ []) $ join ! $ move ! (11 ∷ 0 ∷ []) $ join ! $ move ! (12 ∷ 0 ∷ []) $ join ! $ move ! (1 ∷ 0 ∷ []) $ join ! $
         -- call 2
         use1 W (raw (Callee-g2 𝓤 H A at-mem run .pre ((((ν2b ∷ []), ((ν2c ∷ []), (κ₈, (κ₉, (κ₁₀, (κ₂, (κ₃, (κ₄, (κ₅, (κ₆, (κ₇, tt))))))))))), (fullShare, (fullShare, (q₈, (q₉, (q₁₀, (q₂, (q₃, (q₄, (q₅, (q₆, (q₇, tt))))))))))), tt, (r1, (ref1 δ2b (ys1), (ref2 δ2c (ys2), (n3, (n4, (n13, (s22, (s23, (s24, (s6, (s9, (s12, (s15, (s18, (s21, tt))))))))))))))), (z1 ∷ [], (v1 ∷ [], (v2 ∷ [], (u3 ∷ [], (u4 ∷ [], (u13 ∷ [], (v22 ∷ [], (v23 ∷ [], (v24 ∷ [], (v6 ∷ [], (v9 ∷ [], (v12 ∷ [], (v15 ∷ [], (v18 ∷ [], (v21 ∷ [], tt)))))))))))))))), tt))) (qed W ((‵ (flft (ν2b ∷ []) fullShare) ⊛ ‵ (flft (ν2c ∷ []) fullShare) ⊛ ‵ (flft κ₈ q₈) ⊛ ‵ (flft κ₉ q₉) ⊛ ‵ (flft κ₁₀ q₁₀) ⊛ ‵ (flft κ₂ q₂) ⊛ ‵ (flft κ₃ q₃) ⊛ ‵ (flft κ₄ q₄) ⊛ ‵ (flft κ₅ q₅) ⊛ ‵ (flft κ₆ q₆) ⊛ ‵ (flft κ₇ q₇) ⊛ ‵ ftrue) ∷ ‵ (MutSlice (named 0) (ν2b ∷ []) u64 .own (ref1 δ2b (ys1)) (v1 ∷ [])) ∷ ‵ (MutSlice (named 1) (ν2c ∷ []) u64 .own (ref2 δ2c (ys2)) (v2 ∷ [])) ∷ ‵ (ShrSlice (named 2) κ₈ u64 .own s22 (v22 ∷ [])) ∷ ‵ (ShrSlice (named 3) κ₉ u64 .own s23 (v23 ∷ [])) ∷ ‵ (ShrSlice (named 4) κ₁₀ u64 .own s24 (v24 ∷ [])) ∷ ‵ (ShrSlice (named 5) κ₂ mEntry.the-row .own s6 (v6 ∷ [])) ∷ ‵ (ShrSlice (named 6) κ₃ mEntry.the-row .own s9 (v9 ∷ [])) ∷ ‵ (ShrSlice (named 7) κ₄ mEntry.the-row .own s12 (v12 ∷ [])) ∷ ‵ (ShrSlice (named 8) κ₅ mEntry.the-row .own s15 (v15 ∷ [])) ∷ ‵ (ShrSlice (named 9) κ₆ mEntry.the-row .own s18 (v18 ∷ [])) ∷ ‵ (ShrSlice (named 10) κ₇ mEntry.the-row .own s21 (v21 ∷ [])) ∷ []) ∵ nothing ! $ move ! (12 ∷ 0 ∷ []) $ fjoin ! $ move ! (11 ∷ 0 ∷ []) $ fjoin ! $ move ! (10 ∷ 0 ∷ []) $ fjoin ! $ move ! (9 ∷ 0 ∷ []) $ fjoin ! $ move ! (8 ∷ 0 ∷ []) $ fjoin ! $ move ! (7 ∷ 0 ∷ []) $ fjoin ! $ move ! (6 ∷ 0 ∷ []) $ fjoin ! $ move ! (5 ∷ 0 ∷ []) $ fjoin ! $ move ! (4 ∷ 0 ∷ []) $ fjoin ! $ owned ! u64 (Is u64) (uint-makes 𝓤 H A W w64) (n13) _ w13 $ fjoin ! $ owned ! u64 (Is u64) (uint-makes 𝓤 H A W w64) (n4) _ w4 $ fjoin ! $ owned ! u64 (Is u64) (uint-makes 𝓤 H A W w64) (n3) _ w3 $ fjoin ! $ move ! (3 ∷ 0 ∷ []) $ fjoin ! $ move ! (2 ∷ 0 ∷ []) $ fjoin ! $ owned ! u32 (Is u32) (uint-makes 𝓤 H A W w32) (r1) _ i1 $ fjoin ! $ move ! (1 ∷ 0 ∷ []) $ join ! $ nothing ! $ move ! (1 ∷ 0 ∷ []) $ frame ! $ done !) $
-        calls-at ! fm (Callee-g2 𝓤 H A at-mem run) known-g2 ((((ν2b ∷ []), ((ν2c ∷ []), (κ₈, (κ₉, (κ₁₀, (κ₂, (κ₃, (κ₄, (κ₅, (κ₆, (κ₇, tt))))))))))), (fullShare, (fullShare, (q₈, (q₉, (q₁₀, (q₂, (q₃, (q₄, (q₅, (q₆, (q₇, tt))))))))))), tt, (r1, (ref1 δ2b (ys1), (ref2 δ2c (ys2), (n3, (n4, (n13, (s22, (s23, (s24, (s6, (s9, (s12, (s15, (s18, (s21, tt))))))))))))))), (z1 ∷ [], (v1 ∷ [], (v2 ∷ [], (u3 ∷ [], (u4 ∷ [], (u13 ∷ [], (v22 ∷ [], (v23 ∷ [], (v24 ∷ [], (v6 ∷ [], (v9 ∷ [], (v12 ∷ [], (v15 ∷ [], (v18 ∷ [], (v21 ∷ [], tt)))))))))))))))), tt) (and-then ! (load ! (from ! (stop !)) (look ! 65 refl)) (and-then ! (load ! (from ! (stop !)) (look ! 57 refl)) (and-then ! (load ! (from ! (stop !)) (look ! 53 refl)) (and-then ! (load ! (from ! (stop !)) (look ! 109 refl)) (and-then ! (load ! (from ! (stop !)) (look ! 107 refl)) (and-then ! (load ! (from ! (stop !)) (look ! 89 refl)) (and-then ! (load ! (from ! (stop !)) (look ! 71 refl)) (and-then ! (load ! (from ! (stop !)) (look ! 69 refl)) (and-then ! (load ! (from ! (stop !)) (look ! 67 refl)) (and-then ! (load ! (from ! (stop !)) (look ! 103 refl)) (and-then ! (load ! (from ! (stop !)) (look ! 97 refl)) (and-then ! (load ! (from ! (stop !)) (look ! 91 refl)) (and-then ! (load ! (from ! (stop !)) (look ! 85 refl)) (and-then ! (load ! (from ! (stop !)) (look ! 79 refl)) (and-then ! (load ! (from ! (stop !)) (look ! 73 refl)) (no-more !)))))))))))))))) (λ z2.
+        calls-at ! fm (Callee-g2 𝓤 H A at-mem run) known-g2 ((((ν2b ∷ []), ((ν2c ∷ []), (κ₈, (κ₉, (κ₁₀, (κ₂, (κ₃, (κ₄, (κ₅, (κ₆, (κ₇, tt))))))))))), (fullShare, (fullShare, (q₈, (q₉, (q₁₀, (q₂, (q₃, (q₄, (q₅, (q₆, (q₇, tt))))))))))), tt, (r1, (ref1 δ2b (ys1), (ref2 δ2c (ys2), (n3, (n4, (n13, (s22, (s23, (s24, (s6, (s9, (s12, (s15, (s18, (s21, tt))))))))))))))), (z1 ∷ [], (v1 ∷ [], (v2 ∷ [], (u3 ∷ [], (u4 ∷ [], (u13 ∷ [], (v22 ∷ [], (v23 ∷ [], (v24 ∷ [], (v6 ∷ [], (v9 ∷ [], (v12 ∷ [], (v15 ∷ [], (v18 ∷ [], (v21 ∷ [], tt)))))))))))))))), tt) (and-then ! (load ! (from ! (stop !)) (look ! 32 refl)) (and-then ! (load ! (from ! (stop !)) (look ! 28 refl)) (and-then ! (load ! (from ! (stop !)) (look ! 26 refl)) (and-then ! (load ! (from ! (stop !)) (look ! 54 refl)) (and-then ! (load ! (from ! (stop !)) (look ! 53 refl)) (and-then ! (load ! (from ! (stop !)) (look ! 44 refl)) (and-then ! (load ! (from ! (stop !)) (look ! 35 refl)) (and-then ! (load ! (from ! (stop !)) (look ! 34 refl)) (and-then ! (load ! (from ! (stop !)) (look ! 33 refl)) (and-then ! (load ! (from ! (stop !)) (look ! 51 refl)) (and-then ! (load ! (from ! (stop !)) (look ! 48 refl)) (and-then ! (load ! (from ! (stop !)) (look ! 45 refl)) (and-then ! (load ! (from ! (stop !)) (look ! 42 refl)) (and-then ! (load ! (from ! (stop !)) (look ! 39 refl)) (and-then ! (load ! (from ! (stop !)) (look ! 36 refl)) (no-more !)))))))))))))))) (λ z2.
         use1 W (later (some (λ (r2 : ℕ). ((‵ (flft (ν2b ∷ []) fullShare) ⊛ ‵ (flft (ν2c ∷ []) fullShare) ⊛ ‵ (flft κ₈ q₈) ⊛ ‵ (flft κ₉ q₉) ⊛ ‵ (flft κ₁₀ q₁₀) ⊛ ‵ (flft κ₂ q₂) ⊛ ‵ (flft κ₃ q₃) ⊛ ‵ (flft κ₄ q₄) ⊛ ‵ (flft κ₅ q₅) ⊛ ‵ (flft κ₆ q₆) ⊛ ‵ (flft κ₇ q₇) ⊛ ‵ ftrue) ⊛ ‵ (u32 .own r2 (z2 ∷ []))) ⊛ some (λ (ws : Lasts g2.ended ((ν2b ∷ []), ((ν2c ∷ []), (κ₈, (κ₉, (κ₁₀, (κ₂, (κ₃, (κ₄, (κ₅, (κ₆, (κ₇, tt))))))))))) (r1, (ref1 δ2b (ys1), (ref2 δ2c (ys2), (n3, (n4, (n13, (s22, (s23, (s24, (s6, (s9, (s12, (s15, (s18, (s21, tt)))))))))))))))). ‵ (lasts g2.ended ((ν2b ∷ []), ((ν2c ∷ []), (κ₈, (κ₉, (κ₁₀, (κ₂, (κ₃, (κ₄, (κ₅, (κ₆, (κ₇, tt))))))))))) (r1, (ref1 δ2b (ys1), (ref2 δ2c (ys2), (n3, (n4, (n13, (s22, (s23, (s24, (s6, (s9, (s12, (s15, (s18, (s21, tt))))))))))))))) ws) ⊛ raw (g2.clauses 𝓤 H A at-mem run ((ν2b ∷ []), ((ν2c ∷ []), (κ₈, (κ₉, (κ₁₀, (κ₂, (κ₃, (κ₄, (κ₅, (κ₆, (κ₇, tt))))))))))) (r1, (ref1 δ2b (ys1), (ref2 δ2c (ys2), (n3, (n4, (n13, (s22, (s23, (s24, (s6, (s9, (s12, (s15, (s18, (s21, tt))))))))))))))) .ensures tt r2 (atExit g2.ended ((ν2b ∷ []), ((ν2c ∷ []), (κ₈, (κ₉, (κ₁₀, (κ₂, (κ₃, (κ₄, (κ₅, (κ₆, (κ₇, tt))))))))))) (r1, (ref1 δ2b (ys1), (ref2 δ2c (ys2), (n3, (n4, (n13, (s22, (s23, (s24, (s6, (s9, (s12, (s15, (s18, (s21, tt))))))))))))))) ws)))))) (id⊢ 𝓤 _) $ await ! tt $ pick ! (λ r2. split ! $ move ! (1 ∷ []) $ pick ! (λ ws2. split ! $ move ! (1 ∷ []) $ heard ! _ (λ e2.
-        fsplit ! $ move ! (1 ∷ []) $ fsplit ! $ fsplit ! $ move ! (1 ∷ []) $ feqL ! (λ same2b. move ! (1 ∷ []) $ fsplit ! $ fsplit ! $ move ! (1 ∷ []) $ feqL ! (λ same2c. move ! (1 ∷ []) $ fsplit ! $ move ! (1 ∷ []) $ fsplit ! $ move ! (1 ∷ []) $ fsplit ! $ move ! (1 ∷ []) $ fsplit ! $ move ! (1 ∷ []) $ fsplit ! $ move ! (1 ∷ []) $ fsplit ! $ move ! (1 ∷ []) $ fsplit ! $ move ! (1 ∷ []) $ fsplit ! $ move ! (1 ∷ []) $ fsplit ! $ move ! (1 ∷ []) $ fsplit ! $ move ! (1 ∷ []) $ fsplit ! $ move ! (1 ∷ []) $ fsplit ! $ move ! (16 ∷ []) $ split ! $ move ! (1 ∷ []) $ peeks ! u32 (Is u32) (shows 𝓤 H A u32) r2 (z2 ∷ []) (λ i2. drop ! $ land ! (from ! (stop !)) (init ! 131 refl (uint-lawful 𝓤 H A W w32 .typed r2 _ i2 .0)) $
-        split ! $ move ! (1 ∷ []) $ split ! $ move ! (1 ∷ []) $ split ! $ move ! (1 ∷ []) $ split ! $ move ! (1 ∷ []) $ split ! $ move ! (1 ∷ []) $ split ! $ move ! (1 ∷ []) $ split ! $ move ! (1 ∷ []) $ split ! $ move ! (1 ∷ []) $ split ! $ move ! (1 ∷ []) $ split ! $ move ! (1 ∷ []) $ split ! $ move ! (1 ∷ []) $ move ! (11 ∷ []) $ lft-end ! tt $ move ! (0 ∷ 38 ∷ 26 ∷ []) $ use3 W (later (‵ (O1 (ws2 .1 .0)) ⊛ ‵ (flft κ₀ q₀))) (backs1 (named 0) ν2b δ2b (ys1) (ws2 .1 .0) (refl) room1 same2b) $ await ! tt $ split ! $
-        move ! (12 ∷ []) $ lft-end ! tt $ move ! (0 ∷ 37 ∷ 26 ∷ []) $ use3 W (later (‵ (O2 (ws2 .1 .1 .0)) ⊛ ‵ (flft κ₁ q₁))) (backs2 (named 1) ν2c δ2c (ys2) (ws2 .1 .1 .0) (refl) room2 same2c) $ await ! tt $ split ! $
-        returns ! (look ! 140 refl) $ forget ! 140 refl $ forget ! 138 refl $ forget ! 136 refl $ forget ! 134 refl $ forget ! 132 refl $ forget ! 130 refl $ forget ! 128 refl $ forget ! 126 refl $ forget ! 124 refl $ forget ! 122 refl $ forget ! 120 refl $ forget ! 118 refl $ forget ! 116 refl $ forget ! 114 refl $ forget ! 112 refl $ forget ! 110 refl $ forget ! 108 refl $ forget ! 106 refl $ forget ! 104 refl $ forget ! 102 refl $ forget ! 100 refl $ forget ! 98 refl $ forget ! 96 refl $ forget ! 94 refl $ forget ! 92 refl $ forget ! 90 refl $ forget ! 88 refl $ forget ! 86 refl $ forget ! 84 refl $ forget ! 82 refl $ forget ! 80 refl $ forget ! 78 refl $
-        move ! (140 ∷ 141 ∷ []) $ free1 ! $ move ! (138 ∷ 139 ∷ []) $ free1 ! $ move ! (136 ∷ 137 ∷ []) $ free1 ! $ move ! (134 ∷ 135 ∷ []) $ free1 ! $ move ! (132 ∷ 133 ∷ []) $ free1 ! $ move ! (130 ∷ 131 ∷ []) $ free1 ! $ move ! (128 ∷ 129 ∷ []) $ free1 ! $ move ! (126 ∷ 127 ∷ []) $ free1 ! $ move ! (124 ∷ 125 ∷ []) $ free1 ! $ move ! (122 ∷ 123 ∷ []) $ free1 ! $ move ! (120 ∷ 121 ∷ []) $ free1 ! $ move ! (118 ∷ 119 ∷ []) $ free1 ! $ move ! (116 ∷ 117 ∷ []) $ free1 ! $ move ! (114 ∷ 115 ∷ []) $ free1 ! $ move ! (112 ∷ 113 ∷ []) $ free1 ! $ move ! (110 ∷ 111 ∷ []) $ free1 ! $ move ! (108 ∷ 109 ∷ []) $ free1 ! $ move ! (106 ∷ 107 ∷ []) $ free1 ! $ move ! (104 ∷ 105 ∷ []) $ free1 ! $ move ! (102 ∷ 103 ∷ []) $ free1 ! $ move ! (100 ∷ 101 ∷ []) $ free1 ! $ move ! (98 ∷ 99 ∷ []) $ free1 ! $ move ! (96 ∷ 97 ∷ []) $ free1 ! $ move ! (94 ∷ 95 ∷ []) $ free1 ! $ move ! (92 ∷ 93 ∷ []) $ free1 ! $ move ! (90 ∷ 91 ∷ []) $ free1 ! $ move ! (88 ∷ 89 ∷ []) $ free1 ! $ move ! (86 ∷ 87 ∷ []) $ free1 ! $ move ! (84 ∷ 85 ∷ []) $ free1 ! $ move ! (82 ∷ 83 ∷ []) $ free1 ! $ move ! (80 ∷ 81 ∷ []) $ free1 ! $ move ! (78 ∷ 79 ∷ []) $ free1 ! $ free0 ! $
+        fsplit ! $ drop ! $ fsplit ! $ fsplit ! $ move ! (1 ∷ []) $ feqL ! (λ same2b. move ! (1 ∷ []) $ fsplit ! $ fsplit ! $ move ! (1 ∷ []) $ feqL ! (λ same2c. move ! (1 ∷ []) $ drop ! $ move ! (2 ∷ []) $ split ! $ move ! (1 ∷ []) $ peeks ! u32 (Is u32) (shows 𝓤 H A u32) r2 (z2 ∷ []) (λ i2. drop ! $ land ! (from ! (stop !)) (init ! 59 refl (uint-lawful 𝓤 H A W w32 .typed r2 _ i2 .0)) $
+        tidy W (_ ∷ _ ∷ _ ∷ _ ∷ _ ∷ _ ∷ _ ∷ _ ∷ _ ∷ _ ∷ _ ∷ _ ∷ _ ∷ _ ∷ _ ∷ _ ∷ _ ∷ _ ∷ _ ∷ _ ∷ _ ∷ _ ∷ _ ∷ _ ∷ _ ∷ _ ∷ _ ∷ _ ∷ _ ∷ _ ∷ _ ∷ _ ∷ _ ∷ _ ∷ _ ∷ _ ∷ _ ∷ _ ∷ _ ∷ _ ∷ _ ∷ _ ∷ _ ∷ _ ∷ _ ∷ _ ∷ _ ∷ _ ∷ _ ∷ _ ∷ _ ∷ _ ∷ _ ∷ _ ∷ _ ∷ _ ∷ _ ∷ _ ∷ _ ∷ _ ∷ []) $ split ! $ move ! (1 ∷ []) $ split ! $ move ! (1 ∷ []) $ split ! $ move ! (1 ∷ []) $ split ! $ move ! (1 ∷ []) $ split ! $ move ! (1 ∷ []) $ split ! $ move ! (1 ∷ []) $ split ! $ move ! (1 ∷ []) $ split ! $ move ! (1 ∷ []) $ split ! $ move ! (1 ∷ []) $ split ! $ move ! (1 ∷ []) $ split ! $ move ! (1 ∷ []) $ drop ! $ move ! (10 ∷ []) $ lft-end ! tt $ move ! (0 ∷ 23 ∷ 12 ∷ []) $ use3 W (later (‵ (O1 (ws2 .1 .0)) ⊛ ‵ (flft κ₀ q₀))) (backs1 (named 0) ν2b δ2b (ys1) (ws2 .1 .0) (refl) room1 same2b) $ await ! tt $ split ! $
+        move ! (11 ∷ []) $ lft-end ! tt $ move ! (0 ∷ 22 ∷ 12 ∷ []) $ use3 W (later (‵ (O2 (ws2 .1 .1 .0)) ⊛ ‵ (flft κ₁ q₁))) (backs2 (named 1) ν2c δ2c (ys2) (ws2 .1 .1 .0) (refl) room2 same2c) $ await ! tt $ split ! $
+        tidy W (_ ∷ _ ∷ _ ∷ _ ∷ _ ∷ _ ∷ _ ∷ _ ∷ _ ∷ _ ∷ _ ∷ _ ∷ _ ∷ _ ∷ _ ∷ _ ∷ _ ∷ _ ∷ _ ∷ _ ∷ _ ∷ _ ∷ _ ∷ _ ∷ _ ∷ _ ∷ _ ∷ _ ∷ _ ∷ _ ∷ _ ∷ _ ∷ _ ∷ _ ∷ _ ∷ _ ∷ _ ∷ _ ∷ _ ∷ _ ∷ _ ∷ _ ∷ _ ∷ _ ∷ _ ∷ _ ∷ _ ∷ _ ∷ _ ∷ _ ∷ _ ∷ _ ∷ _ ∷ _ ∷ _ ∷ _ ∷ _ ∷ _ ∷ _ ∷ _ ∷ _ ∷ _ ∷ _ ∷ _ ∷ _ ∷ _ ∷ _ ∷ _ ∷ []) $ returns ! (look ! 67 refl) $ move ! (35 ∷ []) $ use1 W (dies ((tyInt w32, l₀) ∷ (sliceTy (tyRef (named 0) mut (tyInt w64)), l₁) ∷ (sliceTy (tyRef (named 1) mut (tyInt w64)), l₂) ∷ (tyInt w64, l₃) ∷ (tyInt w64, l₄) ∷ (tyInt w64, l₅) ∷ (sliceTy (tyRef (named 2) imm (pointee (mEntry.the-row .written))), l₆) ∷ (tyInt w64, l₇) ∷ (tyInt w64, l₈) ∷ (sliceTy (tyRef (named 3) imm (pointee (mEntry.the-row .written))), l₉) ∷ (tyInt w64, l₁₀) ∷ (tyInt w64, l₁₁) ∷ (sliceTy (tyRef (named 4) imm (pointee (mEntry.the-row .written))), l₁₂) ∷ (tyInt w64, l₁₃) ∷ (tyInt w64, l₁₄) ∷ (sliceTy (tyRef (named 5) imm (pointee (mEntry.the-row .written))), l₁₅) ∷ (tyInt w64, l₁₆) ∷ (tyInt w64, l₁₇) ∷ (sliceTy (tyRef (named 6) imm (pointee (mEntry.the-row .written))), l₁₈) ∷ (tyInt w64, l₁₉) ∷ (tyInt w64, l₂₀) ∷ (sliceTy (tyRef (named 7) imm (pointee (mEntry.the-row .written))), l₂₁) ∷ (sliceTy (tyRef (named 8) imm (tyInt w64)), l₂₂) ∷ (sliceTy (tyRef (named 9) imm (tyInt w64)), l₂₃) ∷ (sliceTy (tyRef (named 10) imm (tyInt w64)), l₂₄) ∷ (tyInt w32, l₂₅) ∷ (tyInt w64, l₂₆) ∷ (tyInt w64, l₂₇) ∷ (tyRef erased mut (tyInt w64), l₂₈) ∷ (sliceTy (tyRef erased mut (tyInt w64)), l₂₉) ∷ (tyRef erased mut (tyInt w64), l₃₀) ∷ (sliceTy (tyRef erased mut (tyInt w64)), l₃₁) ∷ []) (‵ ftrue)) die $ free-all ! 35 ((tyInt w32, l₀) ∷ (sliceTy (tyRef (named 0) mut (tyInt w64)), l₁) ∷ (sliceTy (tyRef (named 1) mut (tyInt w64)), l₂) ∷ (tyInt w64, l₃) ∷ (tyInt w64, l₄) ∷ (tyInt w64, l₅) ∷ (sliceTy (tyRef (named 2) imm (pointee (mEntry.the-row .written))), l₆) ∷ (tyInt w64, l₇) ∷ (tyInt w64, l₈) ∷ (sliceTy (tyRef (named 3) imm (pointee (mEntry.the-row .written))), l₉) ∷ (tyInt w64, l₁₀) ∷ (tyInt w64, l₁₁) ∷ (sliceTy (tyRef (named 4) imm (pointee (mEntry.the-row .written))), l₁₂) ∷ (tyInt w64, l₁₃) ∷ (tyInt w64, l₁₄) ∷ (sliceTy (tyRef (named 5) imm (pointee (mEntry.the-row .written))), l₁₅) ∷ (tyInt w64, l₁₆) ∷ (tyInt w64, l₁₇) ∷ (sliceTy (tyRef (named 6) imm (pointee (mEntry.the-row .written))), l₁₈) ∷ (tyInt w64, l₁₉) ∷ (tyInt w64, l₂₀) ∷ (sliceTy (tyRef (named 7) imm (pointee (mEntry.the-row .written))), l₂₁) ∷ (sliceTy (tyRef (named 8) imm (tyInt w64)), l₂₂) ∷ (sliceTy (tyRef (named 9) imm (tyInt w64)), l₂₃) ∷ (sliceTy (tyRef (named 10) imm (tyInt w64)), l₂₄) ∷ (tyInt w32, l₂₅) ∷ (tyInt w64, l₂₆) ∷ (tyInt w64, l₂₇) ∷ (tyRef erased mut (tyInt w64), l₂₈) ∷ (sliceTy (tyRef erased mut (tyInt w64)), l₂₉) ∷ (tyRef erased mut (tyInt w64), l₃₀) ∷ (sliceTy (tyRef erased mut (tyInt w64)), l₃₁) ∷ []) (kept _ ∷ kept _ ∷ kept _ ∷ kept _ ∷ kept _ ∷ kept _ ∷ kept _ ∷ kept _ ∷ kept _ ∷ kept _ ∷ kept _ ∷ kept _ ∷ kept _ ∷ kept _ ∷ kept _ ∷ kept _ ∷ kept _ ∷ kept _ ∷ kept _ ∷ kept _ ∷ kept _ ∷ kept _ ∷ kept _ ∷ kept _ ∷ kept _ ∷ kept _ ∷ kept _ ∷ kept _ ∷ kept _ ∷ kept _ ∷ kept _ ∷ kept _ ∷ []) refl $
         suffices ! _ (ends-at 𝓤 H A f.ended stayed (f.clauses 𝓤 H A at-mem run) W (((κ₀, (κ₁, (κ₂, (κ₃, (κ₄, (κ₅, (κ₆, (κ₇, (κ₈, (κ₉, (κ₁₀, tt))))))))))), (q₀, (q₁, (q₂, (q₃, (q₄, (q₅, (q₆, (q₇, (q₈, (q₉, (q₁₀, tt))))))))))), tt, a, at), tt) z2 r2 (ws2 .1 .0, (ws2 .1 .1 .0, (tt, (tt, (tt, (tt, (tt, (tt, (tt, (tt, (tt, (tt, (tt, (tt, (tt, (tt, (tt, (tt, (tt, (tt, (tt, (tt, (tt, (tt, tt)))))))))))))))))))))))) (same2b, (same2c, (tt, (tt, (tt, (tt, (tt, (tt, (tt, (tt, (tt, (tt, (tt, (tt, (tt, (tt, (tt, (tt, (tt, (tt, (tt, (tt, (tt, (tt, tt))))))))))))))))))))))))) $ says ! (combo-ends n4 n5 (s6 .now) n7 n8 (s9 .now) n10 n11 (s12 .now) n13 n14 (s15 .now) n16 n17 (s18 .now) n19 n20 (s21 .now) n3 (s22 .now) (s23 .now) (s24 .now) ys1 ys2 r1 e1 r2 (ws2 .1 .0) (ws2 .1 .1 .0) e2) $
-        nothing ! $ move ! (12 ∷ 0 ∷ []) $ join ! $ move ! (12 ∷ 0 ∷ []) $ join ! $ move ! (12 ∷ 0 ∷ []) $ join ! $ move ! (6 ∷ 0 ∷ []) $ join ! $ move ! (6 ∷ 0 ∷ []) $ join ! $ move ! (6 ∷ 0 ∷ []) $ join ! $ move ! (6 ∷ 0 ∷ []) $ join ! $ move ! (6 ∷ 0 ∷ []) $ join ! $ move ! (6 ∷ 0 ∷ []) $ join ! $ move ! (2 ∷ 0 ∷ []) $ join ! $ move ! (3 ∷ 0 ∷ []) $ join ! $ nothing ! $ move ! (25 ∷ 0 ∷ []) $ fjoin ! $ move ! (25 ∷ 0 ∷ []) $ fjoin ! $ move ! (25 ∷ 0 ∷ []) $ fjoin ! $ move ! (19 ∷ 0 ∷ []) $ fjoin ! $ move ! (52 ∷ 0 ∷ []) $ fjoin ! $ move ! (52 ∷ 0 ∷ []) $ fjoin ! $ move ! (19 ∷ 0 ∷ []) $ fjoin ! $ move ! (51 ∷ 0 ∷ []) $ fjoin ! $ move ! (51 ∷ 0 ∷ []) $ fjoin ! $ move ! (19 ∷ 0 ∷ []) $ fjoin ! $ move ! (50 ∷ 0 ∷ []) $ fjoin ! $ move ! (50 ∷ 0 ∷ []) $ fjoin ! $ move ! (19 ∷ 0 ∷ []) $ fjoin ! $ move ! (49 ∷ 0 ∷ []) $ fjoin ! $ move ! (49 ∷ 0 ∷ []) $ fjoin ! $ move ! (19 ∷ 0 ∷ []) $ fjoin ! $ move ! (48 ∷ 0 ∷ []) $ fjoin ! $ move ! (48 ∷ 0 ∷ []) $ fjoin ! $ move ! (19 ∷ 0 ∷ []) $ fjoin ! $ move ! (47 ∷ 0 ∷ []) $ fjoin ! $ move ! (47 ∷ 0 ∷ []) $ fjoin ! $ move ! (47 ∷ 0 ∷ []) $ fjoin ! $ move ! (2 ∷ 0 ∷ []) $ fjoin ! $ move ! (2 ∷ 0 ∷ []) $ fjoin ! $ keep ! (1 ∷ 0 ∷ []) $ frame ! $ frame ! $ owned ! u32 (Is u32) (uint-makes 𝓤 H A W w32) r2 _ i2 $ done !))))))))))))))))))))))))))))))))))))))))))))))))
+        nothing ! $ move ! (11 ∷ 0 ∷ []) $ join ! $ move ! (11 ∷ 0 ∷ []) $ join ! $ move ! (11 ∷ 0 ∷ []) $ join ! $ move ! (5 ∷ 0 ∷ []) $ join ! $ move ! (5 ∷ 0 ∷ []) $ join ! $ move ! (5 ∷ 0 ∷ []) $ join ! $ move ! (5 ∷ 0 ∷ []) $ join ! $ move ! (5 ∷ 0 ∷ []) $ join ! $ move ! (5 ∷ 0 ∷ []) $ join ! $ move ! (2 ∷ 0 ∷ []) $ join ! $ move ! (3 ∷ 0 ∷ []) $ join ! $ nothing ! $ move ! (10 ∷ 0 ∷ []) $ fjoin ! $ move ! (10 ∷ 0 ∷ []) $ fjoin ! $ move ! (10 ∷ 0 ∷ []) $ fjoin ! $ move ! (4 ∷ 0 ∷ []) $ fjoin ! $ move ! (9 ∷ 0 ∷ []) $ fjoin ! $ move ! (9 ∷ 0 ∷ []) $ fjoin ! $ move ! (4 ∷ 0 ∷ []) $ fjoin ! $ move ! (8 ∷ 0 ∷ []) $ fjoin ! $ move ! (8 ∷ 0 ∷ []) $ fjoin ! $ move ! (4 ∷ 0 ∷ []) $ fjoin ! $ move ! (7 ∷ 0 ∷ []) $ fjoin ! $ move ! (7 ∷ 0 ∷ []) $ fjoin ! $ move ! (4 ∷ 0 ∷ []) $ fjoin ! $ move ! (6 ∷ 0 ∷ []) $ fjoin ! $ move ! (6 ∷ 0 ∷ []) $ fjoin ! $ move ! (4 ∷ 0 ∷ []) $ fjoin ! $ move ! (5 ∷ 0 ∷ []) $ fjoin ! $ move ! (5 ∷ 0 ∷ []) $ fjoin ! $ move ! (4 ∷ 0 ∷ []) $ fjoin ! $ move ! (4 ∷ 0 ∷ []) $ fjoin ! $ move ! (4 ∷ 0 ∷ []) $ fjoin ! $ move ! (4 ∷ 0 ∷ []) $ fjoin ! $ move ! (2 ∷ 0 ∷ []) $ fjoin ! $ move ! (2 ∷ 0 ∷ []) $ fjoin ! $ keep ! (1 ∷ 0 ∷ []) $ frame ! $ frame ! $ owned ! u32 (Is u32) (uint-makes 𝓤 H A W w32) r2 _ i2 $ done !)))))))))))))))))))))))))))))))))))))))))))))))))
 
 module _ {M : Type 1} (𝓤 : URA M) (H : Heap 𝓤) (A : Atoms 𝓤) (W : Given 𝓤 H A) (mem : Memory → SProp 𝓤) (run : Routine → Fun 𝓤) where
   walks : (C : Calls 𝓤 H) (Λ : Loops 𝓤 H) → FmC 𝓤 H (W .laws) C → Triple 𝓤 (C #g1) (Callee-g1 𝓤 H A mem run) → Triple 𝓤 (C #g2) (Callee-g2 𝓤 H A mem run) → Walks 𝓤 H A f.ended stayed (WpFn 𝓤 H C Λ code.function) (f.clauses 𝓤 H A mem run)

@@ -20,7 +20,7 @@ use contract.Monad.{Fun, fact}
 use contract.Running.{givenOf, tables, tablesOf}
 use types.Kit.{Given, ‵, raw, _⊛_, ⋆, some, later, _$_, _∵_, !, qed, by, move, keep, drop, use1, use2, use3, split, join, pick, fsplit, fsplit3, fjoin, fjoin3, feqL, feqI, rewrite, atRet, suffices, frame, await, done}
 use types.Part.{agg, whole, sub, look-in}
-use types.Run.{look, look-raw, init, store, store-raw, forget, stop, hop, fld, from, load, unit-lit, of-opd, addr, and-then, no-more, lit, true-lit, false-lit, assigns, assigns-last, land, land-last, first, branches, skips, exec, returns, enter, alloc1, alloc0, params1, pass1, pass0, free1, free0}
+use types.Run.{look, look-raw, init, store, store-raw, stop, hop, fld, from, load, unit-lit, of-opd, addr, and-then, no-more, lit, true-lit, false-lit, assigns, assigns-last, land, land-last, first, branches, skips, exec, returns, enter, alloc0, params1, pass1, pass0}
 use types.Tokens.{lft-new, lft-end}
 use sound.WpLaws.{FmC, fmOf, WpFn-mono}
 use denote.RattleType.{owns}
@@ -48,6 +48,7 @@ use denote.Exit.{yes}
 use Rattle.magnetar_inplace.specs.declared.records.Entry.{Entry}
 use Rattle.magnetar_inplace.proofs.records.Entry as mEntry
 use Rattle.magnetar_inplace.proofs.records.Entry.Laws as lEntry
+use Rattle.magnetar_inplace.proofs.Locals.{tidy, bare, kept, dies, alloc, hide, free-all}
 use Rattle.magnetar_inplace.proofs.Again.{LentAgain, lends-again, comes-back}
 use Rattle.magnetar_inplace.proofs.steps.clear_front as g1
 use Rattle.magnetar_inplace.proofs.steps.clear_front.Symbol as g1-def
@@ -183,97 +184,96 @@ module _ {M : Type 1} (𝓤 : URA M) (H : Heap 𝓤) (A : Atoms 𝓤) (W : Given
     walk : ent 𝓤 (onEntry 𝓤 H A f.signature (κ₀, (κ₁, (κ₂, (κ₃, (κ₄, (κ₅, (κ₆, tt))))))) (q₀, (q₁, (q₂, (q₃, (q₄, (q₅, (q₆, tt))))))) a at) (WpFn 𝓤 H C Λ code.function (v1 ∷ v2 ∷ v3 ∷ v4 ∷ v5 ∷ v6 ∷ v7 ∷ v8 ∷ v9 ∷ v10 ∷ v11 ∷ v12 ∷ v13 ∷ []) Post)
     walk =
         qed W ((‵ (flft κ₀ q₀) ⊛ ‵ (flft κ₁ q₁) ⊛ ‵ (flft κ₂ q₂) ⊛ ‵ (flft κ₃ q₃) ⊛ ‵ (flft κ₄ q₄) ⊛ ‵ (flft κ₅ q₅) ⊛ ‵ (flft κ₆ q₆) ⊛ ‵ ftrue) ∷ ‵ (owns (MutSlice (named 0) κ₀ u64 ∷ u64 ∷ u64 ∷ u64 ∷ (Array u64 12) ∷ (Array u64 32) ∷ (Array u64 32) ∷ ShrSlice (named 1) κ₁ mEntry.the-row ∷ ShrSlice (named 2) κ₂ mEntry.the-row ∷ ShrSlice (named 3) κ₃ mEntry.the-row ∷ ShrSlice (named 4) κ₄ mEntry.the-row ∷ ShrSlice (named 5) κ₅ mEntry.the-row ∷ ShrSlice (named 6) κ₆ mEntry.the-row ∷ []) a at) ∷ []) ∵ enter ! C Λ code.function (v1 ∷ v2 ∷ v3 ∷ v4 ∷ v5 ∷ v6 ∷ v7 ∷ v8 ∷ v9 ∷ v10 ∷ v11 ∷ v12 ∷ v13 ∷ []) _ $
-        alloc1 ! (λ l₀. alloc1 ! (λ l₁. alloc1 ! (λ l₂. alloc1 ! (λ l₃. alloc1 ! (λ l₄. alloc1 ! (λ l₅. alloc1 ! (λ l₆. alloc1 ! (λ l₇. alloc1 ! (λ l₈. alloc1 ! (λ l₉. alloc1 ! (λ l₁₀. alloc1 ! (λ l₁₁. alloc1 ! (λ l₁₂. alloc1 ! (λ l₁₃. alloc1 ! (λ l₁₄. alloc1 ! (λ l₁₅. alloc1 ! (λ l₁₆. alloc1 ! (λ l₁₇. alloc1 ! (λ l₁₈. alloc1 ! (λ l₁₉. alloc1 ! (λ l₂₀. alloc1 ! (λ l₂₁. alloc1 ! (λ l₂₂. alloc1 ! (λ l₂₃. alloc1 ! (λ l₂₄. alloc1 ! (λ l₂₅. alloc1 ! (λ l₂₆. alloc1 ! (λ l₂₇. alloc1 ! (λ l₂₈. alloc1 ! (λ l₂₉. alloc1 ! (λ l₃₀. alloc1 ! (λ l₃₁. alloc1 ! (λ l₃₂. alloc1 ! (λ l₃₃. alloc1 ! (λ l₃₄. alloc1 ! (λ l₃₅. alloc1 ! (λ l₃₆. alloc0 ! $ params1 ! $ pass1 ! (init ! 70 refl (tt, (tt, (record { fits = room1 .0 }, tt)))) $ pass1 ! (init ! 68 refl (uint-lawful 𝓤 H A W w64 .typed n2 _ w2 .0)) $ pass1 ! (init ! 66 refl (uint-lawful 𝓤 H A W w64 .typed n3 _ w3 .0)) $ pass1 ! (init ! 64 refl (uint-lawful 𝓤 H A W w64 .typed n4 _ w4 .0)) $ pass1 ! (init ! 62 refl (array-lawful 𝓤 H A W u64 (uint-lawful 𝓤 H A W w64) 12 .typed n5 _ w5 .0)) $ pass1 ! (init ! 60 refl (array-lawful 𝓤 H A W u64 (uint-lawful 𝓤 H A W w64) 32 .typed n6 _ w6 .0)) $ pass1 ! (init ! 58 refl (array-lawful 𝓤 H A W u64 (uint-lawful 𝓤 H A W w64) 32 .typed n7 _ w7 .0)) $ pass1 ! (init ! 56 refl (shr-slice-lawful 𝓤 H A W (named 1) κ₁ mEntry.the-row .typed s8 (v8 ∷ []) w8 .0)) $ pass1 ! (init ! 54 refl (shr-slice-lawful 𝓤 H A W (named 2) κ₂ mEntry.the-row .typed s9 (v9 ∷ []) w9 .0)) $ pass1 ! (init ! 52 refl (shr-slice-lawful 𝓤 H A W (named 3) κ₃ mEntry.the-row .typed s10 (v10 ∷ []) w10 .0)) $ pass1 ! (init ! 50 refl (shr-slice-lawful 𝓤 H A W (named 4) κ₄ mEntry.the-row .typed s11 (v11 ∷ []) w11 .0)) $ pass1 ! (init ! 48 refl (shr-slice-lawful 𝓤 H A W (named 5) κ₅ mEntry.the-row .typed s12 (v12 ∷ []) w12 .0)) $ pass1 ! (init ! 46 refl (shr-slice-lawful 𝓤 H A W (named 6) κ₆ mEntry.the-row .typed s13 (v13 ∷ []) w13 .0)) $ pass0 ! $
-        move ! (75 ∷ []) $ fsplit ! $ move ! (1 ∷ []) $ fsplit ! $ move ! (1 ∷ []) $ fsplit ! $ move ! (1 ∷ []) $ fsplit ! $ move ! (1 ∷ []) $ fsplit ! $ move ! (1 ∷ []) $ fsplit ! $ move ! (1 ∷ []) $ fsplit ! $ move ! (1 ∷ []) $ fsplit ! $ move ! (1 ∷ []) $ fsplit ! $ move ! (1 ∷ []) $ fsplit ! $ move ! (1 ∷ []) $ fsplit ! $ move ! (1 ∷ []) $ fsplit ! $ move ! (1 ∷ []) $ fsplit ! $ move ! (1 ∷ []) $ move ! (88 ∷ []) $ split ! $ move ! (1 ∷ []) $ split ! $ move ! (1 ∷ []) $ split ! $ move ! (1 ∷ []) $ split ! $ move ! (1 ∷ []) $ split ! $ move ! (1 ∷ []) $ split ! $ move ! (1 ∷ []) $ split ! $ move ! (1 ∷ []) $
-        assigns ! (of-opd ! (lit ! tt)) (from ! (stop !)) (init ! 66 refl (tt, record { fits = lit< tt })) $
-        assigns ! (of-opd ! (lit ! tt)) (from ! (stop !)) (init ! 64 refl (tt, record { fits = lit< tt })) $
-        assigns ! (of-opd ! (lit ! tt)) (from ! (stop !)) (init ! 62 refl (tt, record { fits = lit< tt })) $
-        assigns ! (of-opd ! (lit ! tt)) (from ! (stop !)) (init ! 60 refl (tt, record { fits = lit< tt })) $
-        assigns ! (of-opd ! (lit ! tt)) (from ! (stop !)) (init ! 58 refl (tt, record { fits = lit< tt })) $
-        assigns ! (of-opd ! (lit ! tt)) (from ! (stop !)) (init ! 56 refl (tt, record { fits = lit< tt })) $
-        assigns ! (addr ! (from ! (fld ! refl (hop ! (look-in ! 92 (sub ! 0 refl (whole !))) (stop !))))) (from ! (stop !)) (init ! 52 refl (tt, tt)) $
-        assigns ! (agg ! (and-then ! (load ! (from ! (stop !)) (look ! 52 refl)) (and-then ! (load ! (from ! (fld ! refl (stop !))) (look-in ! 92 (sub ! 1 refl (whole !)))) (no-more !)))) (from ! (stop !)) (init ! 50 refl (tt, (tt, (record { fits = room1 .0 }, tt)))) $
-        lft-new ! tt (λ ν1b. move ! (22 ∷ 8 ∷ []) $ use2 W (later (some (λ (δ : GName). ‵ (MutSlice (named 0) (ν1b ∷ []) u64 .own (ref1 δ (ys1)) (v1 ∷ [])) ⊛ ‵ (Lent1 ν1b δ (ys1))))) (lends1 (named 0) ν1b (ys1) (refl)) $ await ! tt $ pick ! (λ δ1b. split ! $ nothing ! $ move ! (3 ∷ 0 ∷ []) $ join ! $ join ! $
+        nothing ! $ alloc ! (λ l₀. alloc ! (λ l₁. alloc ! (λ l₂. alloc ! (λ l₃. alloc ! (λ l₄. alloc ! (λ l₅. alloc ! (λ l₆. alloc ! (λ l₇. alloc ! (λ l₈. alloc ! (λ l₉. alloc ! (λ l₁₀. alloc ! (λ l₁₁. alloc ! (λ l₁₂. alloc ! (λ l₁₃. alloc ! (λ l₁₄. alloc ! (λ l₁₅. alloc ! (λ l₁₆. alloc ! (λ l₁₇. alloc ! (λ l₁₈. alloc ! (λ l₁₉. alloc ! (λ l₂₀. alloc ! (λ l₂₁. alloc ! (λ l₂₂. alloc ! (λ l₂₃. alloc ! (λ l₂₄. alloc ! (λ l₂₅. alloc ! (λ l₂₆. alloc ! (λ l₂₇. alloc ! (λ l₂₈. alloc ! (λ l₂₉. alloc ! (λ l₃₀. alloc ! (λ l₃₁. alloc ! (λ l₃₂. alloc ! (λ l₃₃. alloc ! (λ l₃₄. alloc ! (λ l₃₅. alloc ! (λ l₃₆. alloc0 ! $ hide ! (λ died die. params1 ! $ pass1 ! (init ! 36 refl (tt, (tt, (record { fits = room1 .0 }, tt)))) $ pass1 ! (init ! 35 refl (uint-lawful 𝓤 H A W w64 .typed n2 _ w2 .0)) $ pass1 ! (init ! 34 refl (uint-lawful 𝓤 H A W w64 .typed n3 _ w3 .0)) $ pass1 ! (init ! 33 refl (uint-lawful 𝓤 H A W w64 .typed n4 _ w4 .0)) $ pass1 ! (init ! 32 refl (array-lawful 𝓤 H A W u64 (uint-lawful 𝓤 H A W w64) 12 .typed n5 _ w5 .0)) $ pass1 ! (init ! 31 refl (array-lawful 𝓤 H A W u64 (uint-lawful 𝓤 H A W w64) 32 .typed n6 _ w6 .0)) $ pass1 ! (init ! 30 refl (array-lawful 𝓤 H A W u64 (uint-lawful 𝓤 H A W w64) 32 .typed n7 _ w7 .0)) $ pass1 ! (init ! 29 refl (shr-slice-lawful 𝓤 H A W (named 1) κ₁ mEntry.the-row .typed s8 (v8 ∷ []) w8 .0)) $ pass1 ! (init ! 28 refl (shr-slice-lawful 𝓤 H A W (named 2) κ₂ mEntry.the-row .typed s9 (v9 ∷ []) w9 .0)) $ pass1 ! (init ! 27 refl (shr-slice-lawful 𝓤 H A W (named 3) κ₃ mEntry.the-row .typed s10 (v10 ∷ []) w10 .0)) $ pass1 ! (init ! 26 refl (shr-slice-lawful 𝓤 H A W (named 4) κ₄ mEntry.the-row .typed s11 (v11 ∷ []) w11 .0)) $ pass1 ! (init ! 25 refl (shr-slice-lawful 𝓤 H A W (named 5) κ₅ mEntry.the-row .typed s12 (v12 ∷ []) w12 .0)) $ pass1 ! (init ! 24 refl (shr-slice-lawful 𝓤 H A W (named 6) κ₆ mEntry.the-row .typed s13 (v13 ∷ []) w13 .0)) $ pass0 ! $
+        move ! (39 ∷ []) $ fsplit ! $ move ! (1 ∷ []) $ fsplit ! $ move ! (1 ∷ []) $ fsplit ! $ move ! (1 ∷ []) $ fsplit ! $ move ! (1 ∷ []) $ fsplit ! $ move ! (1 ∷ []) $ fsplit ! $ move ! (1 ∷ []) $ fsplit ! $ move ! (1 ∷ []) $ fsplit ! $ move ! (1 ∷ []) $ fsplit ! $ move ! (1 ∷ []) $ fsplit ! $ move ! (1 ∷ []) $ fsplit ! $ move ! (1 ∷ []) $ fsplit ! $ move ! (1 ∷ []) $ fsplit ! $ move ! (1 ∷ []) $ drop ! $ move ! (51 ∷ []) $ split ! $ move ! (1 ∷ []) $ split ! $ move ! (1 ∷ []) $ split ! $ move ! (1 ∷ []) $ split ! $ move ! (1 ∷ []) $ split ! $ move ! (1 ∷ []) $ split ! $ move ! (1 ∷ []) $ split ! $ move ! (1 ∷ []) $ drop ! $ tidy W (_ ∷ _ ∷ _ ∷ _ ∷ _ ∷ _ ∷ _ ∷ _ ∷ _ ∷ _ ∷ _ ∷ _ ∷ _ ∷ _ ∷ _ ∷ _ ∷ _ ∷ _ ∷ _ ∷ _ ∷ _ ∷ _ ∷ _ ∷ _ ∷ _ ∷ _ ∷ _ ∷ _ ∷ _ ∷ _ ∷ _ ∷ _ ∷ _ ∷ _ ∷ _ ∷ _ ∷ _ ∷ _ ∷ _ ∷ _ ∷ _ ∷ _ ∷ _ ∷ _ ∷ _ ∷ _ ∷ _ ∷ _ ∷ _ ∷ _ ∷ _ ∷ _ ∷ _ ∷ _ ∷ _ ∷ _ ∷ _ ∷ _ ∷ []) $
+        assigns ! (of-opd ! (lit ! tt)) (from ! (stop !)) (init ! 43 refl (tt, record { fits = lit< tt })) $
+        assigns ! (of-opd ! (lit ! tt)) (from ! (stop !)) (init ! 42 refl (tt, record { fits = lit< tt })) $
+        assigns ! (of-opd ! (lit ! tt)) (from ! (stop !)) (init ! 41 refl (tt, record { fits = lit< tt })) $
+        assigns ! (of-opd ! (lit ! tt)) (from ! (stop !)) (init ! 40 refl (tt, record { fits = lit< tt })) $
+        assigns ! (of-opd ! (lit ! tt)) (from ! (stop !)) (init ! 39 refl (tt, record { fits = lit< tt })) $
+        assigns ! (of-opd ! (lit ! tt)) (from ! (stop !)) (init ! 38 refl (tt, record { fits = lit< tt })) $
+        assigns ! (addr ! (from ! (fld ! refl (hop ! (look-in ! 56 (sub ! 0 refl (whole !))) (stop !))))) (from ! (stop !)) (init ! 36 refl (tt, tt)) $
+        assigns ! (agg ! (and-then ! (load ! (from ! (stop !)) (look ! 36 refl)) (and-then ! (load ! (from ! (fld ! refl (stop !))) (look-in ! 56 (sub ! 1 refl (whole !)))) (no-more !)))) (from ! (stop !)) (init ! 35 refl (tt, (tt, (record { fits = room1 .0 }, tt)))) $
+        lft-new ! tt (λ ν1b. move ! (20 ∷ 7 ∷ []) $ use2 W (later (some (λ (δ : GName). ‵ (MutSlice (named 0) (ν1b ∷ []) u64 .own (ref1 δ (ys1)) (v1 ∷ [])) ⊛ ‵ (Lent1 ν1b δ (ys1))))) (lends1 (named 0) ν1b (ys1) (refl)) $ await ! tt $ pick ! (λ δ1b. split ! $ tidy W (_ ∷ _ ∷ _ ∷ _ ∷ _ ∷ _ ∷ _ ∷ _ ∷ _ ∷ _ ∷ _ ∷ _ ∷ _ ∷ _ ∷ _ ∷ _ ∷ _ ∷ _ ∷ _ ∷ _ ∷ _ ∷ _ ∷ _ ∷ _ ∷ _ ∷ _ ∷ _ ∷ _ ∷ _ ∷ _ ∷ _ ∷ _ ∷ _ ∷ _ ∷ _ ∷ _ ∷ _ ∷ _ ∷ _ ∷ _ ∷ _ ∷ _ ∷ _ ∷ _ ∷ _ ∷ _ ∷ _ ∷ _ ∷ _ ∷ _ ∷ _ ∷ _ ∷ _ ∷ _ ∷ _ ∷ _ ∷ _ ∷ _ ∷ _ ∷ []) $ nothing ! $ move ! (3 ∷ 0 ∷ []) $ join ! $ join ! $
         -- call 1
         use1 W (raw (Callee-g1 𝓤 H A at-mem run .pre ((((ν1b ∷ []), tt), (fullShare, tt), tt, (n2, (ref1 δ1b (ys1), tt)), (u2 ∷ [], (v1 ∷ [], tt))), tt))) (qed W ((‵ (flft (ν1b ∷ []) fullShare) ⊛ ‵ ftrue) ∷ ‵ (MutSlice (named 0) (ν1b ∷ []) u64 .own (ref1 δ1b (ys1)) (v1 ∷ [])) ∷ []) ∵ nothing ! $ move ! (2 ∷ 0 ∷ []) $ fjoin ! $ owned ! u64 (Is u64) (uint-makes 𝓤 H A W w64) (n2) _ w2 $ fjoin ! $ move ! (1 ∷ 0 ∷ []) $ join ! $ nothing ! $ move ! (1 ∷ 0 ∷ []) $ frame ! $ done !) $
-        calls-at ! fm (Callee-g1 𝓤 H A at-mem run) known-g1 ((((ν1b ∷ []), tt), (fullShare, tt), tt, (n2, (ref1 δ1b (ys1), tt)), (u2 ∷ [], (v1 ∷ [], tt))), tt) (and-then ! (load ! (from ! (stop !)) (look ! 90 refl)) (and-then ! (load ! (from ! (stop !)) (look ! 50 refl)) (no-more !))) (λ z1.
+        calls-at ! fm (Callee-g1 𝓤 H A at-mem run) known-g1 ((((ν1b ∷ []), tt), (fullShare, tt), tt, (n2, (ref1 δ1b (ys1), tt)), (u2 ∷ [], (v1 ∷ [], tt))), tt) (and-then ! (load ! (from ! (stop !)) (look ! 55 refl)) (and-then ! (load ! (from ! (stop !)) (look ! 35 refl)) (no-more !))) (λ z1.
         use1 W (later (some (λ (r1 : Unit {0}). ((‵ (flft (ν1b ∷ []) fullShare) ⊛ ‵ ftrue) ⊛ ‵ (unit .own r1 (z1 ∷ []))) ⊛ some (λ (ws : Lasts g1.ended ((ν1b ∷ []), tt) (n2, (ref1 δ1b (ys1), tt))). ‵ (lasts g1.ended ((ν1b ∷ []), tt) (n2, (ref1 δ1b (ys1), tt)) ws) ⊛ raw (g1.clauses 𝓤 H A at-mem run ((ν1b ∷ []), tt) (n2, (ref1 δ1b (ys1), tt)) .ensures tt r1 (atExit g1.ended ((ν1b ∷ []), tt) (n2, (ref1 δ1b (ys1), tt)) ws)))))) (id⊢ 𝓤 _) $ await ! tt $ pick ! (λ r1. split ! $ move ! (1 ∷ []) $ pick ! (λ ws1. split ! $ move ! (1 ∷ []) $ heard ! _ (λ e1.
-        fsplit ! $ move ! (1 ∷ []) $ fsplit ! $ fsplit ! $ move ! (1 ∷ []) $ feqL ! (λ same1b. move ! (3 ∷ []) $ split ! $ move ! (1 ∷ []) $ feqL ! (λ i1. land ! (from ! (stop !)) (init ! 57 refl (subst (λ (t : Val). Trueᴮ (hasTy tyUnit t) × WT t) (sym (ap only i1)) (tt, tt))) $
-        split ! $ move ! (1 ∷ []) $ move ! (1 ∷ []) $ lft-end ! tt $ move ! (0 ∷ 5 ∷ 2 ∷ []) $ use3 W (later (‵ (O1 (ws1 .1 .0)) ⊛ ‵ (flft κ₀ q₀))) (backs1 (named 0) ν1b δ1b (ys1) (ws1 .1 .0) (refl) room1 same1b) $ await ! tt $ split ! $
-        assigns ! (addr ! (from ! (fld ! refl (hop ! (look-in ! 95 (sub ! 0 refl (whole !))) (stop !))))) (from ! (stop !)) (init ! 51 refl (tt, tt)) $
-        assigns ! (agg ! (and-then ! (load ! (from ! (stop !)) (look ! 51 refl)) (and-then ! (load ! (from ! (fld ! refl (stop !))) (look-in ! 95 (sub ! 1 refl (whole !)))) (no-more !)))) (from ! (stop !)) (init ! 49 refl (tt, (tt, (record { fits = room1 .0 }, tt)))) $
-        move ! (18 ∷ []) $ use1 W (‵ (O8) ⊛ ‵ (O8)) (shr-slice-copy 𝓤 H A W (named 1) κ₁ mEntry.the-row .twice s8 (v8 ∷ [])) $ split ! $
-        lft-new ! tt (λ ν2b. move ! (3 ∷ 4 ∷ []) $ use2 W (later (some (λ (δ : GName). ‵ (MutSlice (named 1) (ν2b ∷ []) u64 .own (ref1 δ (ws1 .1 .0)) (v1 ∷ [])) ⊛ ‵ (Lent1 ν2b δ (ws1 .1 .0))))) (lends1 (named 1) ν2b (ws1 .1 .0) (same1b)) $ await ! tt $ pick ! (λ δ2b. split ! $ nothing ! $ move ! (3 ∷ 0 ∷ []) $ join ! $ move ! (14 ∷ 0 ∷ []) $ join ! $ move ! (3 ∷ 1 ∷ []) $ join ! $ move ! (1 ∷ 0 ∷ []) $ join ! $
+        fsplit ! $ drop ! $ fsplit ! $ fsplit ! $ move ! (1 ∷ []) $ feqL ! (λ same1b. move ! (1 ∷ []) $ drop ! $ move ! (1 ∷ []) $ split ! $ move ! (1 ∷ []) $ feqL ! (λ i1. land ! (from ! (stop !)) (init ! 38 refl (subst (λ (t : Val). Trueᴮ (hasTy tyUnit t) × WT t) (sym (ap only i1)) (tt, tt))) $
+        tidy W (_ ∷ _ ∷ _ ∷ _ ∷ _ ∷ _ ∷ _ ∷ _ ∷ _ ∷ _ ∷ _ ∷ _ ∷ _ ∷ _ ∷ _ ∷ _ ∷ _ ∷ _ ∷ _ ∷ _ ∷ _ ∷ _ ∷ _ ∷ _ ∷ _ ∷ _ ∷ _ ∷ _ ∷ _ ∷ _ ∷ _ ∷ _ ∷ _ ∷ _ ∷ _ ∷ _ ∷ _ ∷ _ ∷ _ ∷ _ ∷ _ ∷ _ ∷ _ ∷ _ ∷ _ ∷ _ ∷ _ ∷ _ ∷ _ ∷ _ ∷ _ ∷ _ ∷ _ ∷ _ ∷ _ ∷ _ ∷ _ ∷ _ ∷ _ ∷ []) $ split ! $ move ! (1 ∷ []) $ drop ! $ lft-end ! tt $ move ! (0 ∷ 2 ∷ 1 ∷ []) $ use3 W (later (‵ (O1 (ws1 .1 .0)) ⊛ ‵ (flft κ₀ q₀))) (backs1 (named 0) ν1b δ1b (ys1) (ws1 .1 .0) (refl) room1 same1b) $ await ! tt $ split ! $
+        assigns ! (addr ! (from ! (fld ! refl (hop ! (look-in ! 56 (sub ! 0 refl (whole !))) (stop !))))) (from ! (stop !)) (init ! 34 refl (tt, tt)) $
+        assigns ! (agg ! (and-then ! (load ! (from ! (stop !)) (look ! 34 refl)) (and-then ! (load ! (from ! (fld ! refl (stop !))) (look-in ! 56 (sub ! 1 refl (whole !)))) (no-more !)))) (from ! (stop !)) (init ! 33 refl (tt, (tt, (record { fits = room1 .0 }, tt)))) $
+        move ! (13 ∷ []) $ use1 W (‵ (O8) ⊛ ‵ (O8)) (shr-slice-copy 𝓤 H A W (named 1) κ₁ mEntry.the-row .twice s8 (v8 ∷ [])) $ split ! $
+        lft-new ! tt (λ ν2b. move ! (3 ∷ 4 ∷ []) $ use2 W (later (some (λ (δ : GName). ‵ (MutSlice (named 1) (ν2b ∷ []) u64 .own (ref1 δ (ws1 .1 .0)) (v1 ∷ [])) ⊛ ‵ (Lent1 ν2b δ (ws1 .1 .0))))) (lends1 (named 1) ν2b (ws1 .1 .0) (same1b)) $ await ! tt $ pick ! (λ δ2b. split ! $ tidy W (_ ∷ _ ∷ _ ∷ _ ∷ _ ∷ _ ∷ _ ∷ _ ∷ _ ∷ _ ∷ _ ∷ _ ∷ _ ∷ _ ∷ _ ∷ _ ∷ _ ∷ _ ∷ _ ∷ _ ∷ _ ∷ _ ∷ _ ∷ _ ∷ _ ∷ _ ∷ _ ∷ _ ∷ _ ∷ _ ∷ _ ∷ _ ∷ _ ∷ _ ∷ _ ∷ _ ∷ _ ∷ _ ∷ _ ∷ _ ∷ _ ∷ _ ∷ _ ∷ _ ∷ _ ∷ _ ∷ _ ∷ _ ∷ _ ∷ _ ∷ _ ∷ _ ∷ _ ∷ _ ∷ _ ∷ _ ∷ _ ∷ _ ∷ _ ∷ _ ∷ []) $ nothing ! $ move ! (3 ∷ 0 ∷ []) $ join ! $ move ! (10 ∷ 0 ∷ []) $ join ! $ move ! (3 ∷ 1 ∷ []) $ join ! $ move ! (1 ∷ 0 ∷ []) $ join ! $
         -- call 2
         use1 W (raw (Callee-g2 𝓤 H A at-mem run .pre (((κ₁, ((ν2b ∷ []), tt)), (q₁, (fullShare, tt)), tt, (s8, (ref1 δ2b (ws1 .1 .0), (n2, (n3, (n5, (0, (n6, tt))))))), (v8 ∷ [], (v1 ∷ [], (u2 ∷ [], (u3 ∷ [], (u5 ∷ [], ((vint w64 0) ∷ [], (u6 ∷ [], tt)))))))), tt))) (qed W ((‵ (flft κ₁ q₁) ⊛ ‵ (flft (ν2b ∷ []) fullShare) ⊛ ‵ ftrue) ∷ ‵ (ShrSlice (named 0) κ₁ mEntry.the-row .own s8 (v8 ∷ [])) ∷ ‵ (MutSlice (named 1) (ν2b ∷ []) u64 .own (ref1 δ2b (ws1 .1 .0)) (v1 ∷ [])) ∷ []) ∵ nothing ! $ owned ! (Array u64 32) (Is (Array u64 32)) (array-makes 𝓤 H A W u64 (uint-makes 𝓤 H A W w64) 32) (n6) _ w6 $ fjoin ! $ owned ! u64 (Is u64) (uint-makes 𝓤 H A W w64) (0) _ (refl, lit< tt) $ fjoin ! $ owned ! (Array u64 12) (Is (Array u64 12)) (array-makes 𝓤 H A W u64 (uint-makes 𝓤 H A W w64) 12) (n5) _ w5 $ fjoin ! $ owned ! u64 (Is u64) (uint-makes 𝓤 H A W w64) (n3) _ w3 $ fjoin ! $ owned ! u64 (Is u64) (uint-makes 𝓤 H A W w64) (n2) _ w2 $ fjoin ! $ move ! (3 ∷ 0 ∷ []) $ fjoin ! $ move ! (2 ∷ 0 ∷ []) $ fjoin ! $ move ! (1 ∷ 0 ∷ []) $ join ! $ nothing ! $ move ! (1 ∷ 0 ∷ []) $ frame ! $ done !) $
-        calls-at ! fm (Callee-g2 𝓤 H A at-mem run) known-g2 (((κ₁, ((ν2b ∷ []), tt)), (q₁, (fullShare, tt)), tt, (s8, (ref1 δ2b (ws1 .1 .0), (n2, (n3, (n5, (0, (n6, tt))))))), (v8 ∷ [], (v1 ∷ [], (u2 ∷ [], (u3 ∷ [], (u5 ∷ [], ((vint w64 0) ∷ [], (u6 ∷ [], tt)))))))), tt) (and-then ! (load ! (from ! (stop !)) (look ! 80 refl)) (and-then ! (load ! (from ! (stop !)) (look ! 48 refl)) (and-then ! (load ! (from ! (stop !)) (look ! 92 refl)) (and-then ! (load ! (from ! (stop !)) (look ! 90 refl)) (and-then ! (load ! (from ! (stop !)) (look ! 86 refl)) (and-then ! (load ! (from ! (stop !)) (look ! 68 refl)) (and-then ! (load ! (from ! (stop !)) (look ! 84 refl)) (no-more !)))))))) (λ z2.
+        calls-at ! fm (Callee-g2 𝓤 H A at-mem run) known-g2 (((κ₁, ((ν2b ∷ []), tt)), (q₁, (fullShare, tt)), tt, (s8, (ref1 δ2b (ws1 .1 .0), (n2, (n3, (n5, (0, (n6, tt))))))), (v8 ∷ [], (v1 ∷ [], (u2 ∷ [], (u3 ∷ [], (u5 ∷ [], ((vint w64 0) ∷ [], (u6 ∷ [], tt)))))))), tt) (and-then ! (load ! (from ! (stop !)) (look ! 48 refl)) (and-then ! (load ! (from ! (stop !)) (look ! 32 refl)) (and-then ! (load ! (from ! (stop !)) (look ! 54 refl)) (and-then ! (load ! (from ! (stop !)) (look ! 53 refl)) (and-then ! (load ! (from ! (stop !)) (look ! 51 refl)) (and-then ! (load ! (from ! (stop !)) (look ! 42 refl)) (and-then ! (load ! (from ! (stop !)) (look ! 50 refl)) (no-more !)))))))) (λ z2.
         use1 W (later (some (λ (r2 : Unit {0}). ((‵ (flft κ₁ q₁) ⊛ ‵ (flft (ν2b ∷ []) fullShare) ⊛ ‵ ftrue) ⊛ ‵ (unit .own r2 (z2 ∷ []))) ⊛ some (λ (ws : Lasts g2.ended (κ₁, ((ν2b ∷ []), tt)) (s8, (ref1 δ2b (ws1 .1 .0), (n2, (n3, (n5, (0, (n6, tt)))))))). ‵ (lasts g2.ended (κ₁, ((ν2b ∷ []), tt)) (s8, (ref1 δ2b (ws1 .1 .0), (n2, (n3, (n5, (0, (n6, tt))))))) ws) ⊛ raw (g2.clauses 𝓤 H A at-mem run (κ₁, ((ν2b ∷ []), tt)) (s8, (ref1 δ2b (ws1 .1 .0), (n2, (n3, (n5, (0, (n6, tt))))))) .ensures tt r2 (atExit g2.ended (κ₁, ((ν2b ∷ []), tt)) (s8, (ref1 δ2b (ws1 .1 .0), (n2, (n3, (n5, (0, (n6, tt))))))) ws)))))) (id⊢ 𝓤 _) $ await ! tt $ pick ! (λ r2. split ! $ move ! (1 ∷ []) $ pick ! (λ ws2. split ! $ move ! (1 ∷ []) $ heard ! _ (λ e2.
-        fsplit ! $ move ! (1 ∷ []) $ fsplit ! $ fsplit ! $ move ! (1 ∷ []) $ feqL ! (λ same2b. move ! (1 ∷ []) $ fsplit ! $ move ! (1 ∷ []) $ fsplit ! $ move ! (1 ∷ []) $ fsplit ! $ move ! (1 ∷ []) $ fsplit ! $ move ! (1 ∷ []) $ fsplit ! $ move ! (8 ∷ []) $ split ! $ move ! (1 ∷ []) $ feqL ! (λ i2. land ! (from ! (stop !)) (store ! 64 refl (subst (λ (t : Val). Trueᴮ (hasTy tyUnit t) × WT t) (sym (ap only i2)) (tt, tt))) $
-        split ! $ move ! (1 ∷ []) $ split ! $ move ! (1 ∷ []) $ move ! (1 ∷ []) $ lft-end ! tt $ move ! (0 ∷ 11 ∷ 9 ∷ []) $ use3 W (later (‵ (O1 (ws2 .1 .0)) ⊛ ‵ (flft κ₀ q₀))) (backs1 (named 1) ν2b δ2b (ws1 .1 .0) (ws2 .1 .0) (same1b) room1 same2b) $ await ! tt $ split ! $
-        assigns ! (addr ! (from ! (fld ! refl (hop ! (look-in ! 103 (sub ! 0 refl (whole !))) (stop !))))) (from ! (stop !)) (init ! 55 refl (tt, tt)) $
-        assigns ! (agg ! (and-then ! (load ! (from ! (stop !)) (look ! 55 refl)) (and-then ! (load ! (from ! (fld ! refl (stop !))) (look-in ! 103 (sub ! 1 refl (whole !)))) (no-more !)))) (from ! (stop !)) (init ! 53 refl (tt, (tt, (record { fits = room1 .0 }, tt)))) $
-        move ! (26 ∷ []) $ use1 W (‵ (O9) ⊛ ‵ (O9)) (shr-slice-copy 𝓤 H A W (named 2) κ₂ mEntry.the-row .twice s9 (v9 ∷ [])) $ split ! $
-        lft-new ! tt (λ ν3b. move ! (3 ∷ 4 ∷ []) $ use2 W (later (some (λ (δ : GName). ‵ (MutSlice (named 1) (ν3b ∷ []) u64 .own (ref1 δ (ws2 .1 .0)) (v1 ∷ [])) ⊛ ‵ (Lent1 ν3b δ (ws2 .1 .0))))) (lends1 (named 1) ν3b (ws2 .1 .0) (same2b ∙ same1b)) $ await ! tt $ pick ! (λ δ3b. split ! $ nothing ! $ move ! (3 ∷ 0 ∷ []) $ join ! $ move ! (23 ∷ 0 ∷ []) $ join ! $ move ! (3 ∷ 1 ∷ []) $ join ! $ move ! (1 ∷ 0 ∷ []) $ join ! $
+        fsplit ! $ drop ! $ fsplit ! $ fsplit ! $ move ! (1 ∷ []) $ feqL ! (λ same2b. move ! (1 ∷ []) $ drop ! $ move ! (1 ∷ []) $ split ! $ move ! (1 ∷ []) $ feqL ! (λ i2. land ! (from ! (stop !)) (store ! 37 refl (subst (λ (t : Val). Trueᴮ (hasTy tyUnit t) × WT t) (sym (ap only i2)) (tt, tt))) $
+        tidy W (_ ∷ _ ∷ _ ∷ _ ∷ _ ∷ _ ∷ _ ∷ _ ∷ _ ∷ _ ∷ _ ∷ _ ∷ _ ∷ _ ∷ _ ∷ _ ∷ _ ∷ _ ∷ _ ∷ _ ∷ _ ∷ _ ∷ _ ∷ _ ∷ _ ∷ _ ∷ _ ∷ _ ∷ _ ∷ _ ∷ _ ∷ _ ∷ _ ∷ _ ∷ _ ∷ _ ∷ _ ∷ _ ∷ _ ∷ _ ∷ _ ∷ _ ∷ _ ∷ _ ∷ _ ∷ _ ∷ _ ∷ _ ∷ _ ∷ _ ∷ _ ∷ _ ∷ _ ∷ _ ∷ _ ∷ _ ∷ _ ∷ _ ∷ []) $ split ! $ move ! (1 ∷ []) $ split ! $ move ! (1 ∷ []) $ drop ! $ lft-end ! tt $ move ! (0 ∷ 3 ∷ 2 ∷ []) $ use3 W (later (‵ (O1 (ws2 .1 .0)) ⊛ ‵ (flft κ₀ q₀))) (backs1 (named 1) ν2b δ2b (ws1 .1 .0) (ws2 .1 .0) (same1b) room1 same2b) $ await ! tt $ split ! $
+        assigns ! (addr ! (from ! (fld ! refl (hop ! (look-in ! 56 (sub ! 0 refl (whole !))) (stop !))))) (from ! (stop !)) (init ! 32 refl (tt, tt)) $
+        assigns ! (agg ! (and-then ! (load ! (from ! (stop !)) (look ! 32 refl)) (and-then ! (load ! (from ! (fld ! refl (stop !))) (look-in ! 56 (sub ! 1 refl (whole !)))) (no-more !)))) (from ! (stop !)) (init ! 31 refl (tt, (tt, (record { fits = room1 .0 }, tt)))) $
+        move ! (13 ∷ []) $ use1 W (‵ (O9) ⊛ ‵ (O9)) (shr-slice-copy 𝓤 H A W (named 2) κ₂ mEntry.the-row .twice s9 (v9 ∷ [])) $ split ! $
+        lft-new ! tt (λ ν3b. move ! (3 ∷ 4 ∷ []) $ use2 W (later (some (λ (δ : GName). ‵ (MutSlice (named 1) (ν3b ∷ []) u64 .own (ref1 δ (ws2 .1 .0)) (v1 ∷ [])) ⊛ ‵ (Lent1 ν3b δ (ws2 .1 .0))))) (lends1 (named 1) ν3b (ws2 .1 .0) (same2b ∙ same1b)) $ await ! tt $ pick ! (λ δ3b. split ! $ tidy W (_ ∷ _ ∷ _ ∷ _ ∷ _ ∷ _ ∷ _ ∷ _ ∷ _ ∷ _ ∷ _ ∷ _ ∷ _ ∷ _ ∷ _ ∷ _ ∷ _ ∷ _ ∷ _ ∷ _ ∷ _ ∷ _ ∷ _ ∷ _ ∷ _ ∷ _ ∷ _ ∷ _ ∷ _ ∷ _ ∷ _ ∷ _ ∷ _ ∷ _ ∷ _ ∷ _ ∷ _ ∷ _ ∷ _ ∷ _ ∷ _ ∷ _ ∷ _ ∷ _ ∷ _ ∷ _ ∷ _ ∷ _ ∷ _ ∷ _ ∷ _ ∷ _ ∷ _ ∷ _ ∷ _ ∷ _ ∷ _ ∷ _ ∷ _ ∷ _ ∷ []) $ nothing ! $ move ! (3 ∷ 0 ∷ []) $ join ! $ move ! (11 ∷ 0 ∷ []) $ join ! $ move ! (3 ∷ 1 ∷ []) $ join ! $ move ! (1 ∷ 0 ∷ []) $ join ! $
         -- call 3
         use1 W (raw (Callee-g2 𝓤 H A at-mem run .pre (((κ₂, ((ν3b ∷ []), tt)), (q₂, (fullShare, tt)), tt, (s9, (ref1 δ3b (ws2 .1 .0), (n2, (n3, (n5, (1, (n6, tt))))))), (v9 ∷ [], (v1 ∷ [], (u2 ∷ [], (u3 ∷ [], (u5 ∷ [], ((vint w64 1) ∷ [], (u6 ∷ [], tt)))))))), tt))) (qed W ((‵ (flft κ₂ q₂) ⊛ ‵ (flft (ν3b ∷ []) fullShare) ⊛ ‵ ftrue) ∷ ‵ (ShrSlice (named 0) κ₂ mEntry.the-row .own s9 (v9 ∷ [])) ∷ ‵ (MutSlice (named 1) (ν3b ∷ []) u64 .own (ref1 δ3b (ws2 .1 .0)) (v1 ∷ [])) ∷ []) ∵ nothing ! $ owned ! (Array u64 32) (Is (Array u64 32)) (array-makes 𝓤 H A W u64 (uint-makes 𝓤 H A W w64) 32) (n6) _ w6 $ fjoin ! $ owned ! u64 (Is u64) (uint-makes 𝓤 H A W w64) (1) _ (refl, lit< tt) $ fjoin ! $ owned ! (Array u64 12) (Is (Array u64 12)) (array-makes 𝓤 H A W u64 (uint-makes 𝓤 H A W w64) 12) (n5) _ w5 $ fjoin ! $ owned ! u64 (Is u64) (uint-makes 𝓤 H A W w64) (n3) _ w3 $ fjoin ! $ owned ! u64 (Is u64) (uint-makes 𝓤 H A W w64) (n2) _ w2 $ fjoin ! $ move ! (3 ∷ 0 ∷ []) $ fjoin ! $ move ! (2 ∷ 0 ∷ []) $ fjoin ! $ move ! (1 ∷ 0 ∷ []) $ join ! $ nothing ! $ move ! (1 ∷ 0 ∷ []) $ frame ! $ done !) $
-        calls-at ! fm (Callee-g2 𝓤 H A at-mem run) known-g2 (((κ₂, ((ν3b ∷ []), tt)), (q₂, (fullShare, tt)), tt, (s9, (ref1 δ3b (ws2 .1 .0), (n2, (n3, (n5, (1, (n6, tt))))))), (v9 ∷ [], (v1 ∷ [], (u2 ∷ [], (u3 ∷ [], (u5 ∷ [], ((vint w64 1) ∷ [], (u6 ∷ [], tt)))))))), tt) (and-then ! (load ! (from ! (stop !)) (look ! 86 refl)) (and-then ! (load ! (from ! (stop !)) (look ! 52 refl)) (and-then ! (load ! (from ! (stop !)) (look ! 100 refl)) (and-then ! (load ! (from ! (stop !)) (look ! 98 refl)) (and-then ! (load ! (from ! (stop !)) (look ! 94 refl)) (and-then ! (load ! (from ! (stop !)) (look ! 74 refl)) (and-then ! (load ! (from ! (stop !)) (look ! 92 refl)) (no-more !)))))))) (λ z3.
+        calls-at ! fm (Callee-g2 𝓤 H A at-mem run) known-g2 (((κ₂, ((ν3b ∷ []), tt)), (q₂, (fullShare, tt)), tt, (s9, (ref1 δ3b (ws2 .1 .0), (n2, (n3, (n5, (1, (n6, tt))))))), (v9 ∷ [], (v1 ∷ [], (u2 ∷ [], (u3 ∷ [], (u5 ∷ [], ((vint w64 1) ∷ [], (u6 ∷ [], tt)))))))), tt) (and-then ! (load ! (from ! (stop !)) (look ! 47 refl)) (and-then ! (load ! (from ! (stop !)) (look ! 30 refl)) (and-then ! (load ! (from ! (stop !)) (look ! 54 refl)) (and-then ! (load ! (from ! (stop !)) (look ! 53 refl)) (and-then ! (load ! (from ! (stop !)) (look ! 51 refl)) (and-then ! (load ! (from ! (stop !)) (look ! 41 refl)) (and-then ! (load ! (from ! (stop !)) (look ! 50 refl)) (no-more !)))))))) (λ z3.
         use1 W (later (some (λ (r3 : Unit {0}). ((‵ (flft κ₂ q₂) ⊛ ‵ (flft (ν3b ∷ []) fullShare) ⊛ ‵ ftrue) ⊛ ‵ (unit .own r3 (z3 ∷ []))) ⊛ some (λ (ws : Lasts g2.ended (κ₂, ((ν3b ∷ []), tt)) (s9, (ref1 δ3b (ws2 .1 .0), (n2, (n3, (n5, (1, (n6, tt)))))))). ‵ (lasts g2.ended (κ₂, ((ν3b ∷ []), tt)) (s9, (ref1 δ3b (ws2 .1 .0), (n2, (n3, (n5, (1, (n6, tt))))))) ws) ⊛ raw (g2.clauses 𝓤 H A at-mem run (κ₂, ((ν3b ∷ []), tt)) (s9, (ref1 δ3b (ws2 .1 .0), (n2, (n3, (n5, (1, (n6, tt))))))) .ensures tt r3 (atExit g2.ended (κ₂, ((ν3b ∷ []), tt)) (s9, (ref1 δ3b (ws2 .1 .0), (n2, (n3, (n5, (1, (n6, tt))))))) ws)))))) (id⊢ 𝓤 _) $ await ! tt $ pick ! (λ r3. split ! $ move ! (1 ∷ []) $ pick ! (λ ws3. split ! $ move ! (1 ∷ []) $ heard ! _ (λ e3.
-        fsplit ! $ move ! (1 ∷ []) $ fsplit ! $ fsplit ! $ move ! (1 ∷ []) $ feqL ! (λ same3b. move ! (1 ∷ []) $ fsplit ! $ move ! (1 ∷ []) $ fsplit ! $ move ! (1 ∷ []) $ fsplit ! $ move ! (1 ∷ []) $ fsplit ! $ move ! (1 ∷ []) $ fsplit ! $ move ! (8 ∷ []) $ split ! $ move ! (1 ∷ []) $ feqL ! (λ i3. land ! (from ! (stop !)) (store ! 72 refl (subst (λ (t : Val). Trueᴮ (hasTy tyUnit t) × WT t) (sym (ap only i3)) (tt, tt))) $
-        split ! $ move ! (1 ∷ []) $ split ! $ move ! (1 ∷ []) $ move ! (1 ∷ []) $ lft-end ! tt $ move ! (0 ∷ 11 ∷ 9 ∷ []) $ use3 W (later (‵ (O1 (ws3 .1 .0)) ⊛ ‵ (flft κ₀ q₀))) (backs1 (named 1) ν3b δ3b (ws2 .1 .0) (ws3 .1 .0) (same2b ∙ same1b) room1 same3b) $ await ! tt $ split ! $
-        assigns ! (addr ! (from ! (fld ! refl (hop ! (look-in ! 111 (sub ! 0 refl (whole !))) (stop !))))) (from ! (stop !)) (init ! 59 refl (tt, tt)) $
-        assigns ! (agg ! (and-then ! (load ! (from ! (stop !)) (look ! 59 refl)) (and-then ! (load ! (from ! (fld ! refl (stop !))) (look-in ! 111 (sub ! 1 refl (whole !)))) (no-more !)))) (from ! (stop !)) (init ! 57 refl (tt, (tt, (record { fits = room1 .0 }, tt)))) $
-        move ! (34 ∷ []) $ use1 W (‵ (O10) ⊛ ‵ (O10)) (shr-slice-copy 𝓤 H A W (named 3) κ₃ mEntry.the-row .twice s10 (v10 ∷ [])) $ split ! $
-        lft-new ! tt (λ ν4b. move ! (3 ∷ 4 ∷ []) $ use2 W (later (some (λ (δ : GName). ‵ (MutSlice (named 1) (ν4b ∷ []) u64 .own (ref1 δ (ws3 .1 .0)) (v1 ∷ [])) ⊛ ‵ (Lent1 ν4b δ (ws3 .1 .0))))) (lends1 (named 1) ν4b (ws3 .1 .0) (same3b ∙ same2b ∙ same1b)) $ await ! tt $ pick ! (λ δ4b. split ! $ nothing ! $ move ! (3 ∷ 0 ∷ []) $ join ! $ move ! (32 ∷ 0 ∷ []) $ join ! $ move ! (3 ∷ 1 ∷ []) $ join ! $ move ! (1 ∷ 0 ∷ []) $ join ! $
+        fsplit ! $ drop ! $ fsplit ! $ fsplit ! $ move ! (1 ∷ []) $ feqL ! (λ same3b. move ! (1 ∷ []) $ drop ! $ move ! (1 ∷ []) $ split ! $ move ! (1 ∷ []) $ feqL ! (λ i3. land ! (from ! (stop !)) (store ! 37 refl (subst (λ (t : Val). Trueᴮ (hasTy tyUnit t) × WT t) (sym (ap only i3)) (tt, tt))) $
+        tidy W (_ ∷ _ ∷ _ ∷ _ ∷ _ ∷ _ ∷ _ ∷ _ ∷ _ ∷ _ ∷ _ ∷ _ ∷ _ ∷ _ ∷ _ ∷ _ ∷ _ ∷ _ ∷ _ ∷ _ ∷ _ ∷ _ ∷ _ ∷ _ ∷ _ ∷ _ ∷ _ ∷ _ ∷ _ ∷ _ ∷ _ ∷ _ ∷ _ ∷ _ ∷ _ ∷ _ ∷ _ ∷ _ ∷ _ ∷ _ ∷ _ ∷ _ ∷ _ ∷ _ ∷ _ ∷ _ ∷ _ ∷ _ ∷ _ ∷ _ ∷ _ ∷ _ ∷ _ ∷ _ ∷ _ ∷ _ ∷ _ ∷ _ ∷ []) $ split ! $ move ! (1 ∷ []) $ split ! $ move ! (1 ∷ []) $ drop ! $ lft-end ! tt $ move ! (0 ∷ 3 ∷ 2 ∷ []) $ use3 W (later (‵ (O1 (ws3 .1 .0)) ⊛ ‵ (flft κ₀ q₀))) (backs1 (named 1) ν3b δ3b (ws2 .1 .0) (ws3 .1 .0) (same2b ∙ same1b) room1 same3b) $ await ! tt $ split ! $
+        assigns ! (addr ! (from ! (fld ! refl (hop ! (look-in ! 56 (sub ! 0 refl (whole !))) (stop !))))) (from ! (stop !)) (init ! 30 refl (tt, tt)) $
+        assigns ! (agg ! (and-then ! (load ! (from ! (stop !)) (look ! 30 refl)) (and-then ! (load ! (from ! (fld ! refl (stop !))) (look-in ! 56 (sub ! 1 refl (whole !)))) (no-more !)))) (from ! (stop !)) (init ! 29 refl (tt, (tt, (record { fits = room1 .0 }, tt)))) $
+        move ! (13 ∷ []) $ use1 W (‵ (O10) ⊛ ‵ (O10)) (shr-slice-copy 𝓤 H A W (named 3) κ₃ mEntry.the-row .twice s10 (v10 ∷ [])) $ split ! $
+        lft-new ! tt (λ ν4b. move ! (3 ∷ 4 ∷ []) $ use2 W (later (some (λ (δ : GName). ‵ (MutSlice (named 1) (ν4b ∷ []) u64 .own (ref1 δ (ws3 .1 .0)) (v1 ∷ [])) ⊛ ‵ (Lent1 ν4b δ (ws3 .1 .0))))) (lends1 (named 1) ν4b (ws3 .1 .0) (same3b ∙ same2b ∙ same1b)) $ await ! tt $ pick ! (λ δ4b. split ! $ tidy W (_ ∷ _ ∷ _ ∷ _ ∷ _ ∷ _ ∷ _ ∷ _ ∷ _ ∷ _ ∷ _ ∷ _ ∷ _ ∷ _ ∷ _ ∷ _ ∷ _ ∷ _ ∷ _ ∷ _ ∷ _ ∷ _ ∷ _ ∷ _ ∷ _ ∷ _ ∷ _ ∷ _ ∷ _ ∷ _ ∷ _ ∷ _ ∷ _ ∷ _ ∷ _ ∷ _ ∷ _ ∷ _ ∷ _ ∷ _ ∷ _ ∷ _ ∷ _ ∷ _ ∷ _ ∷ _ ∷ _ ∷ _ ∷ _ ∷ _ ∷ _ ∷ _ ∷ _ ∷ _ ∷ _ ∷ _ ∷ _ ∷ _ ∷ _ ∷ _ ∷ []) $ nothing ! $ move ! (3 ∷ 0 ∷ []) $ join ! $ move ! (12 ∷ 0 ∷ []) $ join ! $ move ! (3 ∷ 1 ∷ []) $ join ! $ move ! (1 ∷ 0 ∷ []) $ join ! $
         -- call 4
         use1 W (raw (Callee-g2 𝓤 H A at-mem run .pre (((κ₃, ((ν4b ∷ []), tt)), (q₃, (fullShare, tt)), tt, (s10, (ref1 δ4b (ws3 .1 .0), (n2, (n3, (n5, (2, (n6, tt))))))), (v10 ∷ [], (v1 ∷ [], (u2 ∷ [], (u3 ∷ [], (u5 ∷ [], ((vint w64 2) ∷ [], (u6 ∷ [], tt)))))))), tt))) (qed W ((‵ (flft κ₃ q₃) ⊛ ‵ (flft (ν4b ∷ []) fullShare) ⊛ ‵ ftrue) ∷ ‵ (ShrSlice (named 0) κ₃ mEntry.the-row .own s10 (v10 ∷ [])) ∷ ‵ (MutSlice (named 1) (ν4b ∷ []) u64 .own (ref1 δ4b (ws3 .1 .0)) (v1 ∷ [])) ∷ []) ∵ nothing ! $ owned ! (Array u64 32) (Is (Array u64 32)) (array-makes 𝓤 H A W u64 (uint-makes 𝓤 H A W w64) 32) (n6) _ w6 $ fjoin ! $ owned ! u64 (Is u64) (uint-makes 𝓤 H A W w64) (2) _ (refl, lit< tt) $ fjoin ! $ owned ! (Array u64 12) (Is (Array u64 12)) (array-makes 𝓤 H A W u64 (uint-makes 𝓤 H A W w64) 12) (n5) _ w5 $ fjoin ! $ owned ! u64 (Is u64) (uint-makes 𝓤 H A W w64) (n3) _ w3 $ fjoin ! $ owned ! u64 (Is u64) (uint-makes 𝓤 H A W w64) (n2) _ w2 $ fjoin ! $ move ! (3 ∷ 0 ∷ []) $ fjoin ! $ move ! (2 ∷ 0 ∷ []) $ fjoin ! $ move ! (1 ∷ 0 ∷ []) $ join ! $ nothing ! $ move ! (1 ∷ 0 ∷ []) $ frame ! $ done !) $
-        calls-at ! fm (Callee-g2 𝓤 H A at-mem run) known-g2 (((κ₃, ((ν4b ∷ []), tt)), (q₃, (fullShare, tt)), tt, (s10, (ref1 δ4b (ws3 .1 .0), (n2, (n3, (n5, (2, (n6, tt))))))), (v10 ∷ [], (v1 ∷ [], (u2 ∷ [], (u3 ∷ [], (u5 ∷ [], ((vint w64 2) ∷ [], (u6 ∷ [], tt)))))))), tt) (and-then ! (load ! (from ! (stop !)) (look ! 92 refl)) (and-then ! (load ! (from ! (stop !)) (look ! 56 refl)) (and-then ! (load ! (from ! (stop !)) (look ! 108 refl)) (and-then ! (load ! (from ! (stop !)) (look ! 106 refl)) (and-then ! (load ! (from ! (stop !)) (look ! 102 refl)) (and-then ! (load ! (from ! (stop !)) (look ! 80 refl)) (and-then ! (load ! (from ! (stop !)) (look ! 100 refl)) (no-more !)))))))) (λ z4.
+        calls-at ! fm (Callee-g2 𝓤 H A at-mem run) known-g2 (((κ₃, ((ν4b ∷ []), tt)), (q₃, (fullShare, tt)), tt, (s10, (ref1 δ4b (ws3 .1 .0), (n2, (n3, (n5, (2, (n6, tt))))))), (v10 ∷ [], (v1 ∷ [], (u2 ∷ [], (u3 ∷ [], (u5 ∷ [], ((vint w64 2) ∷ [], (u6 ∷ [], tt)))))))), tt) (and-then ! (load ! (from ! (stop !)) (look ! 46 refl)) (and-then ! (load ! (from ! (stop !)) (look ! 28 refl)) (and-then ! (load ! (from ! (stop !)) (look ! 54 refl)) (and-then ! (load ! (from ! (stop !)) (look ! 53 refl)) (and-then ! (load ! (from ! (stop !)) (look ! 51 refl)) (and-then ! (load ! (from ! (stop !)) (look ! 40 refl)) (and-then ! (load ! (from ! (stop !)) (look ! 50 refl)) (no-more !)))))))) (λ z4.
         use1 W (later (some (λ (r4 : Unit {0}). ((‵ (flft κ₃ q₃) ⊛ ‵ (flft (ν4b ∷ []) fullShare) ⊛ ‵ ftrue) ⊛ ‵ (unit .own r4 (z4 ∷ []))) ⊛ some (λ (ws : Lasts g2.ended (κ₃, ((ν4b ∷ []), tt)) (s10, (ref1 δ4b (ws3 .1 .0), (n2, (n3, (n5, (2, (n6, tt)))))))). ‵ (lasts g2.ended (κ₃, ((ν4b ∷ []), tt)) (s10, (ref1 δ4b (ws3 .1 .0), (n2, (n3, (n5, (2, (n6, tt))))))) ws) ⊛ raw (g2.clauses 𝓤 H A at-mem run (κ₃, ((ν4b ∷ []), tt)) (s10, (ref1 δ4b (ws3 .1 .0), (n2, (n3, (n5, (2, (n6, tt))))))) .ensures tt r4 (atExit g2.ended (κ₃, ((ν4b ∷ []), tt)) (s10, (ref1 δ4b (ws3 .1 .0), (n2, (n3, (n5, (2, (n6, tt))))))) ws)))))) (id⊢ 𝓤 _) $ await ! tt $ pick ! (λ r4. split ! $ move ! (1 ∷ []) $ pick ! (λ ws4. split ! $ move ! (1 ∷ []) $ heard ! _ (λ e4.
-        fsplit ! $ move ! (1 ∷ []) $ fsplit ! $ fsplit ! $ move ! (1 ∷ []) $ feqL ! (λ same4b. move ! (1 ∷ []) $ fsplit ! $ move ! (1 ∷ []) $ fsplit ! $ move ! (1 ∷ []) $ fsplit ! $ move ! (1 ∷ []) $ fsplit ! $ move ! (1 ∷ []) $ fsplit ! $ move ! (8 ∷ []) $ split ! $ move ! (1 ∷ []) $ feqL ! (λ i4. land ! (from ! (stop !)) (store ! 80 refl (subst (λ (t : Val). Trueᴮ (hasTy tyUnit t) × WT t) (sym (ap only i4)) (tt, tt))) $
-        split ! $ move ! (1 ∷ []) $ split ! $ move ! (1 ∷ []) $ move ! (1 ∷ []) $ lft-end ! tt $ move ! (0 ∷ 11 ∷ 9 ∷ []) $ use3 W (later (‵ (O1 (ws4 .1 .0)) ⊛ ‵ (flft κ₀ q₀))) (backs1 (named 1) ν4b δ4b (ws3 .1 .0) (ws4 .1 .0) (same3b ∙ same2b ∙ same1b) room1 same4b) $ await ! tt $ split ! $
-        assigns ! (addr ! (from ! (fld ! refl (hop ! (look-in ! 119 (sub ! 0 refl (whole !))) (stop !))))) (from ! (stop !)) (init ! 63 refl (tt, tt)) $
-        assigns ! (agg ! (and-then ! (load ! (from ! (stop !)) (look ! 63 refl)) (and-then ! (load ! (from ! (fld ! refl (stop !))) (look-in ! 119 (sub ! 1 refl (whole !)))) (no-more !)))) (from ! (stop !)) (init ! 61 refl (tt, (tt, (record { fits = room1 .0 }, tt)))) $
-        move ! (42 ∷ []) $ use1 W (‵ (O11) ⊛ ‵ (O11)) (shr-slice-copy 𝓤 H A W (named 4) κ₄ mEntry.the-row .twice s11 (v11 ∷ [])) $ split ! $
-        lft-new ! tt (λ ν5b. move ! (3 ∷ 4 ∷ []) $ use2 W (later (some (λ (δ : GName). ‵ (MutSlice (named 1) (ν5b ∷ []) u64 .own (ref1 δ (ws4 .1 .0)) (v1 ∷ [])) ⊛ ‵ (Lent1 ν5b δ (ws4 .1 .0))))) (lends1 (named 1) ν5b (ws4 .1 .0) (same4b ∙ same3b ∙ same2b ∙ same1b)) $ await ! tt $ pick ! (λ δ5b. split ! $ nothing ! $ move ! (3 ∷ 0 ∷ []) $ join ! $ move ! (41 ∷ 0 ∷ []) $ join ! $ move ! (3 ∷ 1 ∷ []) $ join ! $ move ! (1 ∷ 0 ∷ []) $ join ! $
+        fsplit ! $ drop ! $ fsplit ! $ fsplit ! $ move ! (1 ∷ []) $ feqL ! (λ same4b. move ! (1 ∷ []) $ drop ! $ move ! (1 ∷ []) $ split ! $ move ! (1 ∷ []) $ feqL ! (λ i4. land ! (from ! (stop !)) (store ! 37 refl (subst (λ (t : Val). Trueᴮ (hasTy tyUnit t) × WT t) (sym (ap only i4)) (tt, tt))) $
+        tidy W (_ ∷ _ ∷ _ ∷ _ ∷ _ ∷ _ ∷ _ ∷ _ ∷ _ ∷ _ ∷ _ ∷ _ ∷ _ ∷ _ ∷ _ ∷ _ ∷ _ ∷ _ ∷ _ ∷ _ ∷ _ ∷ _ ∷ _ ∷ _ ∷ _ ∷ _ ∷ _ ∷ _ ∷ _ ∷ _ ∷ _ ∷ _ ∷ _ ∷ _ ∷ _ ∷ _ ∷ _ ∷ _ ∷ _ ∷ _ ∷ _ ∷ _ ∷ _ ∷ _ ∷ _ ∷ _ ∷ _ ∷ _ ∷ _ ∷ _ ∷ _ ∷ _ ∷ _ ∷ _ ∷ _ ∷ _ ∷ _ ∷ _ ∷ []) $ split ! $ move ! (1 ∷ []) $ split ! $ move ! (1 ∷ []) $ drop ! $ lft-end ! tt $ move ! (0 ∷ 3 ∷ 2 ∷ []) $ use3 W (later (‵ (O1 (ws4 .1 .0)) ⊛ ‵ (flft κ₀ q₀))) (backs1 (named 1) ν4b δ4b (ws3 .1 .0) (ws4 .1 .0) (same3b ∙ same2b ∙ same1b) room1 same4b) $ await ! tt $ split ! $
+        assigns ! (addr ! (from ! (fld ! refl (hop ! (look-in ! 56 (sub ! 0 refl (whole !))) (stop !))))) (from ! (stop !)) (init ! 28 refl (tt, tt)) $
+        assigns ! (agg ! (and-then ! (load ! (from ! (stop !)) (look ! 28 refl)) (and-then ! (load ! (from ! (fld ! refl (stop !))) (look-in ! 56 (sub ! 1 refl (whole !)))) (no-more !)))) (from ! (stop !)) (init ! 27 refl (tt, (tt, (record { fits = room1 .0 }, tt)))) $
+        move ! (13 ∷ []) $ use1 W (‵ (O11) ⊛ ‵ (O11)) (shr-slice-copy 𝓤 H A W (named 4) κ₄ mEntry.the-row .twice s11 (v11 ∷ [])) $ split ! $
+        lft-new ! tt (λ ν5b. move ! (3 ∷ 4 ∷ []) $ use2 W (later (some (λ (δ : GName). ‵ (MutSlice (named 1) (ν5b ∷ []) u64 .own (ref1 δ (ws4 .1 .0)) (v1 ∷ [])) ⊛ ‵ (Lent1 ν5b δ (ws4 .1 .0))))) (lends1 (named 1) ν5b (ws4 .1 .0) (same4b ∙ same3b ∙ same2b ∙ same1b)) $ await ! tt $ pick ! (λ δ5b. split ! $ tidy W (_ ∷ _ ∷ _ ∷ _ ∷ _ ∷ _ ∷ _ ∷ _ ∷ _ ∷ _ ∷ _ ∷ _ ∷ _ ∷ _ ∷ _ ∷ _ ∷ _ ∷ _ ∷ _ ∷ _ ∷ _ ∷ _ ∷ _ ∷ _ ∷ _ ∷ _ ∷ _ ∷ _ ∷ _ ∷ _ ∷ _ ∷ _ ∷ _ ∷ _ ∷ _ ∷ _ ∷ _ ∷ _ ∷ _ ∷ _ ∷ _ ∷ _ ∷ _ ∷ _ ∷ _ ∷ _ ∷ _ ∷ _ ∷ _ ∷ _ ∷ _ ∷ _ ∷ _ ∷ _ ∷ _ ∷ _ ∷ _ ∷ _ ∷ _ ∷ _ ∷ []) $ nothing ! $ move ! (3 ∷ 0 ∷ []) $ join ! $ move ! (13 ∷ 0 ∷ []) $ join ! $ move ! (3 ∷ 1 ∷ []) $ join ! $ move ! (1 ∷ 0 ∷ []) $ join ! $
         -- call 5
         use1 W (raw (Callee-g2 𝓤 H A at-mem run .pre (((κ₄, ((ν5b ∷ []), tt)), (q₄, (fullShare, tt)), tt, (s11, (ref1 δ5b (ws4 .1 .0), (n2, (n4, (n5, (3, (n7, tt))))))), (v11 ∷ [], (v1 ∷ [], (u2 ∷ [], (u4 ∷ [], (u5 ∷ [], ((vint w64 3) ∷ [], (u7 ∷ [], tt)))))))), tt))) (qed W ((‵ (flft κ₄ q₄) ⊛ ‵ (flft (ν5b ∷ []) fullShare) ⊛ ‵ ftrue) ∷ ‵ (ShrSlice (named 0) κ₄ mEntry.the-row .own s11 (v11 ∷ [])) ∷ ‵ (MutSlice (named 1) (ν5b ∷ []) u64 .own (ref1 δ5b (ws4 .1 .0)) (v1 ∷ [])) ∷ []) ∵ nothing ! $ owned ! (Array u64 32) (Is (Array u64 32)) (array-makes 𝓤 H A W u64 (uint-makes 𝓤 H A W w64) 32) (n7) _ w7 $ fjoin ! $ owned ! u64 (Is u64) (uint-makes 𝓤 H A W w64) (3) _ (refl, lit< tt) $ fjoin ! $ owned ! (Array u64 12) (Is (Array u64 12)) (array-makes 𝓤 H A W u64 (uint-makes 𝓤 H A W w64) 12) (n5) _ w5 $ fjoin ! $ owned ! u64 (Is u64) (uint-makes 𝓤 H A W w64) (n4) _ w4 $ fjoin ! $ owned ! u64 (Is u64) (uint-makes 𝓤 H A W w64) (n2) _ w2 $ fjoin ! $ move ! (3 ∷ 0 ∷ []) $ fjoin ! $ move ! (2 ∷ 0 ∷ []) $ fjoin ! $ move ! (1 ∷ 0 ∷ []) $ join ! $ nothing ! $ move ! (1 ∷ 0 ∷ []) $ frame ! $ done !) $
-        calls-at ! fm (Callee-g2 𝓤 H A at-mem run) known-g2 (((κ₄, ((ν5b ∷ []), tt)), (q₄, (fullShare, tt)), tt, (s11, (ref1 δ5b (ws4 .1 .0), (n2, (n4, (n5, (3, (n7, tt))))))), (v11 ∷ [], (v1 ∷ [], (u2 ∷ [], (u4 ∷ [], (u5 ∷ [], ((vint w64 3) ∷ [], (u7 ∷ [], tt)))))))), tt) (and-then ! (load ! (from ! (stop !)) (look ! 98 refl)) (and-then ! (load ! (from ! (stop !)) (look ! 60 refl)) (and-then ! (load ! (from ! (stop !)) (look ! 116 refl)) (and-then ! (load ! (from ! (stop !)) (look ! 112 refl)) (and-then ! (load ! (from ! (stop !)) (look ! 110 refl)) (and-then ! (load ! (from ! (stop !)) (look ! 86 refl)) (and-then ! (load ! (from ! (stop !)) (look ! 106 refl)) (no-more !)))))))) (λ z5.
+        calls-at ! fm (Callee-g2 𝓤 H A at-mem run) known-g2 (((κ₄, ((ν5b ∷ []), tt)), (q₄, (fullShare, tt)), tt, (s11, (ref1 δ5b (ws4 .1 .0), (n2, (n4, (n5, (3, (n7, tt))))))), (v11 ∷ [], (v1 ∷ [], (u2 ∷ [], (u4 ∷ [], (u5 ∷ [], ((vint w64 3) ∷ [], (u7 ∷ [], tt)))))))), tt) (and-then ! (load ! (from ! (stop !)) (look ! 45 refl)) (and-then ! (load ! (from ! (stop !)) (look ! 26 refl)) (and-then ! (load ! (from ! (stop !)) (look ! 54 refl)) (and-then ! (load ! (from ! (stop !)) (look ! 52 refl)) (and-then ! (load ! (from ! (stop !)) (look ! 51 refl)) (and-then ! (load ! (from ! (stop !)) (look ! 39 refl)) (and-then ! (load ! (from ! (stop !)) (look ! 49 refl)) (no-more !)))))))) (λ z5.
         use1 W (later (some (λ (r5 : Unit {0}). ((‵ (flft κ₄ q₄) ⊛ ‵ (flft (ν5b ∷ []) fullShare) ⊛ ‵ ftrue) ⊛ ‵ (unit .own r5 (z5 ∷ []))) ⊛ some (λ (ws : Lasts g2.ended (κ₄, ((ν5b ∷ []), tt)) (s11, (ref1 δ5b (ws4 .1 .0), (n2, (n4, (n5, (3, (n7, tt)))))))). ‵ (lasts g2.ended (κ₄, ((ν5b ∷ []), tt)) (s11, (ref1 δ5b (ws4 .1 .0), (n2, (n4, (n5, (3, (n7, tt))))))) ws) ⊛ raw (g2.clauses 𝓤 H A at-mem run (κ₄, ((ν5b ∷ []), tt)) (s11, (ref1 δ5b (ws4 .1 .0), (n2, (n4, (n5, (3, (n7, tt))))))) .ensures tt r5 (atExit g2.ended (κ₄, ((ν5b ∷ []), tt)) (s11, (ref1 δ5b (ws4 .1 .0), (n2, (n4, (n5, (3, (n7, tt))))))) ws)))))) (id⊢ 𝓤 _) $ await ! tt $ pick ! (λ r5. split ! $ move ! (1 ∷ []) $ pick ! (λ ws5. split ! $ move ! (1 ∷ []) $ heard ! _ (λ e5.
-        fsplit ! $ move ! (1 ∷ []) $ fsplit ! $ fsplit ! $ move ! (1 ∷ []) $ feqL ! (λ same5b. move ! (1 ∷ []) $ fsplit ! $ move ! (1 ∷ []) $ fsplit ! $ move ! (1 ∷ []) $ fsplit ! $ move ! (1 ∷ []) $ fsplit ! $ move ! (1 ∷ []) $ fsplit ! $ move ! (8 ∷ []) $ split ! $ move ! (1 ∷ []) $ feqL ! (λ i5. land ! (from ! (stop !)) (store ! 88 refl (subst (λ (t : Val). Trueᴮ (hasTy tyUnit t) × WT t) (sym (ap only i5)) (tt, tt))) $
-        split ! $ move ! (1 ∷ []) $ split ! $ move ! (1 ∷ []) $ move ! (1 ∷ []) $ lft-end ! tt $ move ! (0 ∷ 11 ∷ 9 ∷ []) $ use3 W (later (‵ (O1 (ws5 .1 .0)) ⊛ ‵ (flft κ₀ q₀))) (backs1 (named 1) ν5b δ5b (ws4 .1 .0) (ws5 .1 .0) (same4b ∙ same3b ∙ same2b ∙ same1b) room1 same5b) $ await ! tt $ split ! $
-        assigns ! (addr ! (from ! (fld ! refl (hop ! (look-in ! 127 (sub ! 0 refl (whole !))) (stop !))))) (from ! (stop !)) (init ! 67 refl (tt, tt)) $
-        assigns ! (agg ! (and-then ! (load ! (from ! (stop !)) (look ! 67 refl)) (and-then ! (load ! (from ! (fld ! refl (stop !))) (look-in ! 127 (sub ! 1 refl (whole !)))) (no-more !)))) (from ! (stop !)) (init ! 65 refl (tt, (tt, (record { fits = room1 .0 }, tt)))) $
-        move ! (50 ∷ []) $ use1 W (‵ (O12) ⊛ ‵ (O12)) (shr-slice-copy 𝓤 H A W (named 5) κ₅ mEntry.the-row .twice s12 (v12 ∷ [])) $ split ! $
-        lft-new ! tt (λ ν6b. move ! (3 ∷ 4 ∷ []) $ use2 W (later (some (λ (δ : GName). ‵ (MutSlice (named 1) (ν6b ∷ []) u64 .own (ref1 δ (ws5 .1 .0)) (v1 ∷ [])) ⊛ ‵ (Lent1 ν6b δ (ws5 .1 .0))))) (lends1 (named 1) ν6b (ws5 .1 .0) (same5b ∙ same4b ∙ same3b ∙ same2b ∙ same1b)) $ await ! tt $ pick ! (λ δ6b. split ! $ nothing ! $ move ! (3 ∷ 0 ∷ []) $ join ! $ move ! (50 ∷ 0 ∷ []) $ join ! $ move ! (3 ∷ 1 ∷ []) $ join ! $ move ! (1 ∷ 0 ∷ []) $ join ! $
+        fsplit ! $ drop ! $ fsplit ! $ fsplit ! $ move ! (1 ∷ []) $ feqL ! (λ same5b. move ! (1 ∷ []) $ drop ! $ move ! (1 ∷ []) $ split ! $ move ! (1 ∷ []) $ feqL ! (λ i5. land ! (from ! (stop !)) (store ! 37 refl (subst (λ (t : Val). Trueᴮ (hasTy tyUnit t) × WT t) (sym (ap only i5)) (tt, tt))) $
+        tidy W (_ ∷ _ ∷ _ ∷ _ ∷ _ ∷ _ ∷ _ ∷ _ ∷ _ ∷ _ ∷ _ ∷ _ ∷ _ ∷ _ ∷ _ ∷ _ ∷ _ ∷ _ ∷ _ ∷ _ ∷ _ ∷ _ ∷ _ ∷ _ ∷ _ ∷ _ ∷ _ ∷ _ ∷ _ ∷ _ ∷ _ ∷ _ ∷ _ ∷ _ ∷ _ ∷ _ ∷ _ ∷ _ ∷ _ ∷ _ ∷ _ ∷ _ ∷ _ ∷ _ ∷ _ ∷ _ ∷ _ ∷ _ ∷ _ ∷ _ ∷ _ ∷ _ ∷ _ ∷ _ ∷ _ ∷ _ ∷ _ ∷ _ ∷ []) $ split ! $ move ! (1 ∷ []) $ split ! $ move ! (1 ∷ []) $ drop ! $ lft-end ! tt $ move ! (0 ∷ 3 ∷ 2 ∷ []) $ use3 W (later (‵ (O1 (ws5 .1 .0)) ⊛ ‵ (flft κ₀ q₀))) (backs1 (named 1) ν5b δ5b (ws4 .1 .0) (ws5 .1 .0) (same4b ∙ same3b ∙ same2b ∙ same1b) room1 same5b) $ await ! tt $ split ! $
+        assigns ! (addr ! (from ! (fld ! refl (hop ! (look-in ! 56 (sub ! 0 refl (whole !))) (stop !))))) (from ! (stop !)) (init ! 26 refl (tt, tt)) $
+        assigns ! (agg ! (and-then ! (load ! (from ! (stop !)) (look ! 26 refl)) (and-then ! (load ! (from ! (fld ! refl (stop !))) (look-in ! 56 (sub ! 1 refl (whole !)))) (no-more !)))) (from ! (stop !)) (init ! 25 refl (tt, (tt, (record { fits = room1 .0 }, tt)))) $
+        move ! (13 ∷ []) $ use1 W (‵ (O12) ⊛ ‵ (O12)) (shr-slice-copy 𝓤 H A W (named 5) κ₅ mEntry.the-row .twice s12 (v12 ∷ [])) $ split ! $
+        lft-new ! tt (λ ν6b. move ! (3 ∷ 4 ∷ []) $ use2 W (later (some (λ (δ : GName). ‵ (MutSlice (named 1) (ν6b ∷ []) u64 .own (ref1 δ (ws5 .1 .0)) (v1 ∷ [])) ⊛ ‵ (Lent1 ν6b δ (ws5 .1 .0))))) (lends1 (named 1) ν6b (ws5 .1 .0) (same5b ∙ same4b ∙ same3b ∙ same2b ∙ same1b)) $ await ! tt $ pick ! (λ δ6b. split ! $ tidy W (_ ∷ _ ∷ _ ∷ _ ∷ _ ∷ _ ∷ _ ∷ _ ∷ _ ∷ _ ∷ _ ∷ _ ∷ _ ∷ _ ∷ _ ∷ _ ∷ _ ∷ _ ∷ _ ∷ _ ∷ _ ∷ _ ∷ _ ∷ _ ∷ _ ∷ _ ∷ _ ∷ _ ∷ _ ∷ _ ∷ _ ∷ _ ∷ _ ∷ _ ∷ _ ∷ _ ∷ _ ∷ _ ∷ _ ∷ _ ∷ _ ∷ _ ∷ _ ∷ _ ∷ _ ∷ _ ∷ _ ∷ _ ∷ _ ∷ _ ∷ _ ∷ _ ∷ _ ∷ _ ∷ _ ∷ _ ∷ _ ∷ _ ∷ _ ∷ _ ∷ []) $ nothing ! $ move ! (3 ∷ 0 ∷ []) $ join ! $ move ! (14 ∷ 0 ∷ []) $ join ! $ move ! (3 ∷ 1 ∷ []) $ join ! $ move ! (1 ∷ 0 ∷ []) $ join ! $
         -- call 6
         use1 W (raw (Callee-g2 𝓤 H A at-mem run .pre (((κ₅, ((ν6b ∷ []), tt)), (q₅, (fullShare, tt)), tt, (s12, (ref1 δ6b (ws5 .1 .0), (n2, (n4, (n5, (4, (n7, tt))))))), (v12 ∷ [], (v1 ∷ [], (u2 ∷ [], (u4 ∷ [], (u5 ∷ [], ((vint w64 4) ∷ [], (u7 ∷ [], tt)))))))), tt))) (qed W ((‵ (flft κ₅ q₅) ⊛ ‵ (flft (ν6b ∷ []) fullShare) ⊛ ‵ ftrue) ∷ ‵ (ShrSlice (named 0) κ₅ mEntry.the-row .own s12 (v12 ∷ [])) ∷ ‵ (MutSlice (named 1) (ν6b ∷ []) u64 .own (ref1 δ6b (ws5 .1 .0)) (v1 ∷ [])) ∷ []) ∵ nothing ! $ owned ! (Array u64 32) (Is (Array u64 32)) (array-makes 𝓤 H A W u64 (uint-makes 𝓤 H A W w64) 32) (n7) _ w7 $ fjoin ! $ owned ! u64 (Is u64) (uint-makes 𝓤 H A W w64) (4) _ (refl, lit< tt) $ fjoin ! $ owned ! (Array u64 12) (Is (Array u64 12)) (array-makes 𝓤 H A W u64 (uint-makes 𝓤 H A W w64) 12) (n5) _ w5 $ fjoin ! $ owned ! u64 (Is u64) (uint-makes 𝓤 H A W w64) (n4) _ w4 $ fjoin ! $ owned ! u64 (Is u64) (uint-makes 𝓤 H A W w64) (n2) _ w2 $ fjoin ! $ move ! (3 ∷ 0 ∷ []) $ fjoin ! $ move ! (2 ∷ 0 ∷ []) $ fjoin ! $ move ! (1 ∷ 0 ∷ []) $ join ! $ nothing ! $ move ! (1 ∷ 0 ∷ []) $ frame ! $ done !) $
-        calls-at ! fm (Callee-g2 𝓤 H A at-mem run) known-g2 (((κ₅, ((ν6b ∷ []), tt)), (q₅, (fullShare, tt)), tt, (s12, (ref1 δ6b (ws5 .1 .0), (n2, (n4, (n5, (4, (n7, tt))))))), (v12 ∷ [], (v1 ∷ [], (u2 ∷ [], (u4 ∷ [], (u5 ∷ [], ((vint w64 4) ∷ [], (u7 ∷ [], tt)))))))), tt) (and-then ! (load ! (from ! (stop !)) (look ! 104 refl)) (and-then ! (load ! (from ! (stop !)) (look ! 64 refl)) (and-then ! (load ! (from ! (stop !)) (look ! 124 refl)) (and-then ! (load ! (from ! (stop !)) (look ! 120 refl)) (and-then ! (load ! (from ! (stop !)) (look ! 118 refl)) (and-then ! (load ! (from ! (stop !)) (look ! 92 refl)) (and-then ! (load ! (from ! (stop !)) (look ! 114 refl)) (no-more !)))))))) (λ z6.
+        calls-at ! fm (Callee-g2 𝓤 H A at-mem run) known-g2 (((κ₅, ((ν6b ∷ []), tt)), (q₅, (fullShare, tt)), tt, (s12, (ref1 δ6b (ws5 .1 .0), (n2, (n4, (n5, (4, (n7, tt))))))), (v12 ∷ [], (v1 ∷ [], (u2 ∷ [], (u4 ∷ [], (u5 ∷ [], ((vint w64 4) ∷ [], (u7 ∷ [], tt)))))))), tt) (and-then ! (load ! (from ! (stop !)) (look ! 44 refl)) (and-then ! (load ! (from ! (stop !)) (look ! 24 refl)) (and-then ! (load ! (from ! (stop !)) (look ! 54 refl)) (and-then ! (load ! (from ! (stop !)) (look ! 52 refl)) (and-then ! (load ! (from ! (stop !)) (look ! 51 refl)) (and-then ! (load ! (from ! (stop !)) (look ! 38 refl)) (and-then ! (load ! (from ! (stop !)) (look ! 49 refl)) (no-more !)))))))) (λ z6.
         use1 W (later (some (λ (r6 : Unit {0}). ((‵ (flft κ₅ q₅) ⊛ ‵ (flft (ν6b ∷ []) fullShare) ⊛ ‵ ftrue) ⊛ ‵ (unit .own r6 (z6 ∷ []))) ⊛ some (λ (ws : Lasts g2.ended (κ₅, ((ν6b ∷ []), tt)) (s12, (ref1 δ6b (ws5 .1 .0), (n2, (n4, (n5, (4, (n7, tt)))))))). ‵ (lasts g2.ended (κ₅, ((ν6b ∷ []), tt)) (s12, (ref1 δ6b (ws5 .1 .0), (n2, (n4, (n5, (4, (n7, tt))))))) ws) ⊛ raw (g2.clauses 𝓤 H A at-mem run (κ₅, ((ν6b ∷ []), tt)) (s12, (ref1 δ6b (ws5 .1 .0), (n2, (n4, (n5, (4, (n7, tt))))))) .ensures tt r6 (atExit g2.ended (κ₅, ((ν6b ∷ []), tt)) (s12, (ref1 δ6b (ws5 .1 .0), (n2, (n4, (n5, (4, (n7, tt))))))) ws)))))) (id⊢ 𝓤 _) $ await ! tt $ pick ! (λ r6. split ! $ move ! (1 ∷ []) $ pick ! (λ ws6. split ! $ move ! (1 ∷ []) $ heard ! _ (λ e6.
-        fsplit ! $ move ! (1 ∷ []) $ fsplit ! $ fsplit ! $ move ! (1 ∷ []) $ feqL ! (λ same6b. move ! (1 ∷ []) $ fsplit ! $ move ! (1 ∷ []) $ fsplit ! $ move ! (1 ∷ []) $ fsplit ! $ move ! (1 ∷ []) $ fsplit ! $ move ! (1 ∷ []) $ fsplit ! $ move ! (8 ∷ []) $ split ! $ move ! (1 ∷ []) $ feqL ! (λ i6. land ! (from ! (stop !)) (store ! 96 refl (subst (λ (t : Val). Trueᴮ (hasTy tyUnit t) × WT t) (sym (ap only i6)) (tt, tt))) $
-        split ! $ move ! (1 ∷ []) $ split ! $ move ! (1 ∷ []) $ move ! (1 ∷ []) $ lft-end ! tt $ move ! (0 ∷ 11 ∷ 9 ∷ []) $ use3 W (later (‵ (O1 (ws6 .1 .0)) ⊛ ‵ (flft κ₀ q₀))) (backs1 (named 1) ν6b δ6b (ws5 .1 .0) (ws6 .1 .0) (same5b ∙ same4b ∙ same3b ∙ same2b ∙ same1b) room1 same6b) $ await ! tt $ split ! $
-        assigns ! (addr ! (from ! (fld ! refl (hop ! (look-in ! 135 (sub ! 0 refl (whole !))) (stop !))))) (from ! (stop !)) (init ! 71 refl (tt, tt)) $
-        assigns ! (agg ! (and-then ! (load ! (from ! (stop !)) (look ! 71 refl)) (and-then ! (load ! (from ! (fld ! refl (stop !))) (look-in ! 135 (sub ! 1 refl (whole !)))) (no-more !)))) (from ! (stop !)) (init ! 69 refl (tt, (tt, (record { fits = room1 .0 }, tt)))) $
-        move ! (58 ∷ []) $ use1 W (‵ (O13) ⊛ ‵ (O13)) (shr-slice-copy 𝓤 H A W (named 6) κ₆ mEntry.the-row .twice s13 (v13 ∷ [])) $ split ! $
-        lft-new ! tt (λ ν7b. move ! (3 ∷ 4 ∷ []) $ use2 W (later (some (λ (δ : GName). ‵ (MutSlice (named 1) (ν7b ∷ []) u64 .own (ref1 δ (ws6 .1 .0)) (v1 ∷ [])) ⊛ ‵ (Lent1 ν7b δ (ws6 .1 .0))))) (lends1 (named 1) ν7b (ws6 .1 .0) (same6b ∙ same5b ∙ same4b ∙ same3b ∙ same2b ∙ same1b)) $ await ! tt $ pick ! (λ δ7b. split ! $ nothing ! $ move ! (3 ∷ 0 ∷ []) $ join ! $ move ! (59 ∷ 0 ∷ []) $ join ! $ move ! (3 ∷ 1 ∷ []) $ join ! $ move ! (1 ∷ 0 ∷ []) $ join ! $
+        fsplit ! $ drop ! $ fsplit ! $ fsplit ! $ move ! (1 ∷ []) $ feqL ! (λ same6b. move ! (1 ∷ []) $ drop ! $ move ! (1 ∷ []) $ split ! $ move ! (1 ∷ []) $ feqL ! (λ i6. land ! (from ! (stop !)) (store ! 37 refl (subst (λ (t : Val). Trueᴮ (hasTy tyUnit t) × WT t) (sym (ap only i6)) (tt, tt))) $
+        tidy W (_ ∷ _ ∷ _ ∷ _ ∷ _ ∷ _ ∷ _ ∷ _ ∷ _ ∷ _ ∷ _ ∷ _ ∷ _ ∷ _ ∷ _ ∷ _ ∷ _ ∷ _ ∷ _ ∷ _ ∷ _ ∷ _ ∷ _ ∷ _ ∷ _ ∷ _ ∷ _ ∷ _ ∷ _ ∷ _ ∷ _ ∷ _ ∷ _ ∷ _ ∷ _ ∷ _ ∷ _ ∷ _ ∷ _ ∷ _ ∷ _ ∷ _ ∷ _ ∷ _ ∷ _ ∷ _ ∷ _ ∷ _ ∷ _ ∷ _ ∷ _ ∷ _ ∷ _ ∷ _ ∷ _ ∷ _ ∷ _ ∷ _ ∷ []) $ split ! $ move ! (1 ∷ []) $ split ! $ move ! (1 ∷ []) $ drop ! $ lft-end ! tt $ move ! (0 ∷ 3 ∷ 2 ∷ []) $ use3 W (later (‵ (O1 (ws6 .1 .0)) ⊛ ‵ (flft κ₀ q₀))) (backs1 (named 1) ν6b δ6b (ws5 .1 .0) (ws6 .1 .0) (same5b ∙ same4b ∙ same3b ∙ same2b ∙ same1b) room1 same6b) $ await ! tt $ split ! $
+        assigns ! (addr ! (from ! (fld ! refl (hop ! (look-in ! 56 (sub ! 0 refl (whole !))) (stop !))))) (from ! (stop !)) (init ! 24 refl (tt, tt)) $
+        assigns ! (agg ! (and-then ! (load ! (from ! (stop !)) (look ! 24 refl)) (and-then ! (load ! (from ! (fld ! refl (stop !))) (look-in ! 56 (sub ! 1 refl (whole !)))) (no-more !)))) (from ! (stop !)) (init ! 23 refl (tt, (tt, (record { fits = room1 .0 }, tt)))) $
+        move ! (13 ∷ []) $ use1 W (‵ (O13) ⊛ ‵ (O13)) (shr-slice-copy 𝓤 H A W (named 6) κ₆ mEntry.the-row .twice s13 (v13 ∷ [])) $ split ! $
+        lft-new ! tt (λ ν7b. move ! (3 ∷ 4 ∷ []) $ use2 W (later (some (λ (δ : GName). ‵ (MutSlice (named 1) (ν7b ∷ []) u64 .own (ref1 δ (ws6 .1 .0)) (v1 ∷ [])) ⊛ ‵ (Lent1 ν7b δ (ws6 .1 .0))))) (lends1 (named 1) ν7b (ws6 .1 .0) (same6b ∙ same5b ∙ same4b ∙ same3b ∙ same2b ∙ same1b)) $ await ! tt $ pick ! (λ δ7b. split ! $ tidy W (_ ∷ _ ∷ _ ∷ _ ∷ _ ∷ _ ∷ _ ∷ _ ∷ _ ∷ _ ∷ _ ∷ _ ∷ _ ∷ _ ∷ _ ∷ _ ∷ _ ∷ _ ∷ _ ∷ _ ∷ _ ∷ _ ∷ _ ∷ _ ∷ _ ∷ _ ∷ _ ∷ _ ∷ _ ∷ _ ∷ _ ∷ _ ∷ _ ∷ _ ∷ _ ∷ _ ∷ _ ∷ _ ∷ _ ∷ _ ∷ _ ∷ _ ∷ _ ∷ _ ∷ _ ∷ _ ∷ _ ∷ _ ∷ _ ∷ _ ∷ _ ∷ _ ∷ _ ∷ _ ∷ _ ∷ _ ∷ _ ∷ _ ∷ _ ∷ _ ∷ []) $ nothing ! $ move ! (3 ∷ 0 ∷ []) $ join ! $ move ! (15 ∷ 0 ∷ []) $ join ! $ move ! (3 ∷ 1 ∷ []) $ join ! $ move ! (1 ∷ 0 ∷ []) $ join ! $
         -- call 7
         use1 W (raw (Callee-g2 𝓤 H A at-mem run .pre (((κ₆, ((ν7b ∷ []), tt)), (q₆, (fullShare, tt)), tt, (s13, (ref1 δ7b (ws6 .1 .0), (n2, (n4, (n5, (5, (n7, tt))))))), (v13 ∷ [], (v1 ∷ [], (u2 ∷ [], (u4 ∷ [], (u5 ∷ [], ((vint w64 5) ∷ [], (u7 ∷ [], tt)))))))), tt))) (qed W ((‵ (flft κ₆ q₆) ⊛ ‵ (flft (ν7b ∷ []) fullShare) ⊛ ‵ ftrue) ∷ ‵ (ShrSlice (named 0) κ₆ mEntry.the-row .own s13 (v13 ∷ [])) ∷ ‵ (MutSlice (named 1) (ν7b ∷ []) u64 .own (ref1 δ7b (ws6 .1 .0)) (v1 ∷ [])) ∷ []) ∵ nothing ! $ owned ! (Array u64 32) (Is (Array u64 32)) (array-makes 𝓤 H A W u64 (uint-makes 𝓤 H A W w64) 32) (n7) _ w7 $ fjoin ! $ owned ! u64 (Is u64) (uint-makes 𝓤 H A W w64) (5) _ (refl, lit< tt) $ fjoin ! $ owned ! (Array u64 12) (Is (Array u64 12)) (array-makes 𝓤 H A W u64 (uint-makes 𝓤 H A W w64) 12) (n5) _ w5 $ fjoin ! $ owned ! u64 (Is u64) (uint-makes 𝓤 H A W w64) (n4) _ w4 $ fjoin ! $ owned ! u64 (Is u64) (uint-makes 𝓤 H A W w64) (n2) _ w2 $ fjoin ! $ move ! (3 ∷ 0 ∷ []) $ fjoin ! $ move ! (2 ∷ 0 ∷ []) $ fjoin ! $ move ! (1 ∷ 0 ∷ []) $ join ! $ nothing ! $ move ! (1 ∷ 0 ∷ []) $ frame ! $ done !) $
-        calls-at ! fm (Callee-g2 𝓤 H A at-mem run) known-g2 (((κ₆, ((ν7b ∷ []), tt)), (q₆, (fullShare, tt)), tt, (s13, (ref1 δ7b (ws6 .1 .0), (n2, (n4, (n5, (5, (n7, tt))))))), (v13 ∷ [], (v1 ∷ [], (u2 ∷ [], (u4 ∷ [], (u5 ∷ [], ((vint w64 5) ∷ [], (u7 ∷ [], tt)))))))), tt) (and-then ! (load ! (from ! (stop !)) (look ! 110 refl)) (and-then ! (load ! (from ! (stop !)) (look ! 68 refl)) (and-then ! (load ! (from ! (stop !)) (look ! 132 refl)) (and-then ! (load ! (from ! (stop !)) (look ! 128 refl)) (and-then ! (load ! (from ! (stop !)) (look ! 126 refl)) (and-then ! (load ! (from ! (stop !)) (look ! 98 refl)) (and-then ! (load ! (from ! (stop !)) (look ! 122 refl)) (no-more !)))))))) (λ z7.
+        calls-at ! fm (Callee-g2 𝓤 H A at-mem run) known-g2 (((κ₆, ((ν7b ∷ []), tt)), (q₆, (fullShare, tt)), tt, (s13, (ref1 δ7b (ws6 .1 .0), (n2, (n4, (n5, (5, (n7, tt))))))), (v13 ∷ [], (v1 ∷ [], (u2 ∷ [], (u4 ∷ [], (u5 ∷ [], ((vint w64 5) ∷ [], (u7 ∷ [], tt)))))))), tt) (and-then ! (load ! (from ! (stop !)) (look ! 43 refl)) (and-then ! (load ! (from ! (stop !)) (look ! 22 refl)) (and-then ! (load ! (from ! (stop !)) (look ! 54 refl)) (and-then ! (load ! (from ! (stop !)) (look ! 52 refl)) (and-then ! (load ! (from ! (stop !)) (look ! 51 refl)) (and-then ! (load ! (from ! (stop !)) (look ! 37 refl)) (and-then ! (load ! (from ! (stop !)) (look ! 49 refl)) (no-more !)))))))) (λ z7.
         use1 W (later (some (λ (r7 : Unit {0}). ((‵ (flft κ₆ q₆) ⊛ ‵ (flft (ν7b ∷ []) fullShare) ⊛ ‵ ftrue) ⊛ ‵ (unit .own r7 (z7 ∷ []))) ⊛ some (λ (ws : Lasts g2.ended (κ₆, ((ν7b ∷ []), tt)) (s13, (ref1 δ7b (ws6 .1 .0), (n2, (n4, (n5, (5, (n7, tt)))))))). ‵ (lasts g2.ended (κ₆, ((ν7b ∷ []), tt)) (s13, (ref1 δ7b (ws6 .1 .0), (n2, (n4, (n5, (5, (n7, tt))))))) ws) ⊛ raw (g2.clauses 𝓤 H A at-mem run (κ₆, ((ν7b ∷ []), tt)) (s13, (ref1 δ7b (ws6 .1 .0), (n2, (n4, (n5, (5, (n7, tt))))))) .ensures tt r7 (atExit g2.ended (κ₆, ((ν7b ∷ []), tt)) (s13, (ref1 δ7b (ws6 .1 .0), (n2, (n4, (n5, (5, (n7, tt))))))) ws)))))) (id⊢ 𝓤 _) $ await ! tt $ pick ! (λ r7. split ! $ move ! (1 ∷ []) $ pick ! (λ ws7. split ! $ move ! (1 ∷ []) $ heard ! _ (λ e7.
-        fsplit ! $ move ! (1 ∷ []) $ fsplit ! $ fsplit ! $ move ! (1 ∷ []) $ feqL ! (λ same7b. move ! (1 ∷ []) $ fsplit ! $ move ! (1 ∷ []) $ fsplit ! $ move ! (1 ∷ []) $ fsplit ! $ move ! (1 ∷ []) $ fsplit ! $ move ! (1 ∷ []) $ fsplit ! $ move ! (8 ∷ []) $ split ! $ move ! (1 ∷ []) $ feqL ! (λ i7. land ! (from ! (stop !)) (store ! 104 refl (subst (λ (t : Val). Trueᴮ (hasTy tyUnit t) × WT t) (sym (ap only i7)) (tt, tt))) $
-        split ! $ move ! (1 ∷ []) $ split ! $ move ! (1 ∷ []) $ move ! (1 ∷ []) $ lft-end ! tt $ move ! (0 ∷ 11 ∷ 9 ∷ []) $ use3 W (later (‵ (O1 (ws7 .1 .0)) ⊛ ‵ (flft κ₀ q₀))) (backs1 (named 1) ν7b δ7b (ws6 .1 .0) (ws7 .1 .0) (same6b ∙ same5b ∙ same4b ∙ same3b ∙ same2b ∙ same1b) room1 same7b) $ await ! tt $ split ! $
-        assigns ! (addr ! (from ! (fld ! refl (hop ! (look-in ! 143 (sub ! 0 refl (whole !))) (stop !))))) (from ! (stop !)) (init ! 75 refl (tt, tt)) $
-        assigns ! (agg ! (and-then ! (load ! (from ! (stop !)) (look ! 75 refl)) (and-then ! (load ! (from ! (fld ! refl (stop !))) (look-in ! 143 (sub ! 1 refl (whole !)))) (no-more !)))) (from ! (stop !)) (init ! 73 refl (tt, (tt, (record { fits = room1 .0 }, tt)))) $
-        lft-new ! tt (λ ν8a. move ! (1 ∷ 2 ∷ []) $ use2 W (later (some (λ (δ : GName). ‵ (MutSlice (named 0) (ν8a ∷ []) u64 .own (ref1 δ (ws7 .1 .0)) (v1 ∷ [])) ⊛ ‵ (Lent1 ν8a δ (ws7 .1 .0))))) (lends1 (named 0) ν8a (ws7 .1 .0) (same7b ∙ same6b ∙ same5b ∙ same4b ∙ same3b ∙ same2b ∙ same1b)) $ await ! tt $ pick ! (λ δ8a. split ! $ nothing ! $ move ! (3 ∷ 0 ∷ []) $ join ! $ join ! $
+        fsplit ! $ drop ! $ fsplit ! $ fsplit ! $ move ! (1 ∷ []) $ feqL ! (λ same7b. move ! (1 ∷ []) $ drop ! $ move ! (1 ∷ []) $ split ! $ move ! (1 ∷ []) $ feqL ! (λ i7. land ! (from ! (stop !)) (store ! 37 refl (subst (λ (t : Val). Trueᴮ (hasTy tyUnit t) × WT t) (sym (ap only i7)) (tt, tt))) $
+        tidy W (_ ∷ _ ∷ _ ∷ _ ∷ _ ∷ _ ∷ _ ∷ _ ∷ _ ∷ _ ∷ _ ∷ _ ∷ _ ∷ _ ∷ _ ∷ _ ∷ _ ∷ _ ∷ _ ∷ _ ∷ _ ∷ _ ∷ _ ∷ _ ∷ _ ∷ _ ∷ _ ∷ _ ∷ _ ∷ _ ∷ _ ∷ _ ∷ _ ∷ _ ∷ _ ∷ _ ∷ _ ∷ _ ∷ _ ∷ _ ∷ _ ∷ _ ∷ _ ∷ _ ∷ _ ∷ _ ∷ _ ∷ _ ∷ _ ∷ _ ∷ _ ∷ _ ∷ _ ∷ _ ∷ _ ∷ _ ∷ _ ∷ _ ∷ []) $ split ! $ move ! (1 ∷ []) $ split ! $ move ! (1 ∷ []) $ drop ! $ lft-end ! tt $ move ! (0 ∷ 3 ∷ 2 ∷ []) $ use3 W (later (‵ (O1 (ws7 .1 .0)) ⊛ ‵ (flft κ₀ q₀))) (backs1 (named 1) ν7b δ7b (ws6 .1 .0) (ws7 .1 .0) (same6b ∙ same5b ∙ same4b ∙ same3b ∙ same2b ∙ same1b) room1 same7b) $ await ! tt $ split ! $
+        assigns ! (addr ! (from ! (fld ! refl (hop ! (look-in ! 56 (sub ! 0 refl (whole !))) (stop !))))) (from ! (stop !)) (init ! 22 refl (tt, tt)) $
+        assigns ! (agg ! (and-then ! (load ! (from ! (stop !)) (look ! 22 refl)) (and-then ! (load ! (from ! (fld ! refl (stop !))) (look-in ! 56 (sub ! 1 refl (whole !)))) (no-more !)))) (from ! (stop !)) (init ! 21 refl (tt, (tt, (record { fits = room1 .0 }, tt)))) $
+        lft-new ! tt (λ ν8a. move ! (1 ∷ 2 ∷ []) $ use2 W (later (some (λ (δ : GName). ‵ (MutSlice (named 0) (ν8a ∷ []) u64 .own (ref1 δ (ws7 .1 .0)) (v1 ∷ [])) ⊛ ‵ (Lent1 ν8a δ (ws7 .1 .0))))) (lends1 (named 0) ν8a (ws7 .1 .0) (same7b ∙ same6b ∙ same5b ∙ same4b ∙ same3b ∙ same2b ∙ same1b)) $ await ! tt $ pick ! (λ δ8a. split ! $ tidy W (_ ∷ _ ∷ _ ∷ _ ∷ _ ∷ _ ∷ _ ∷ _ ∷ _ ∷ _ ∷ _ ∷ _ ∷ _ ∷ _ ∷ _ ∷ _ ∷ _ ∷ _ ∷ _ ∷ _ ∷ _ ∷ _ ∷ _ ∷ _ ∷ _ ∷ _ ∷ _ ∷ _ ∷ _ ∷ _ ∷ _ ∷ _ ∷ _ ∷ _ ∷ _ ∷ _ ∷ _ ∷ _ ∷ _ ∷ _ ∷ _ ∷ _ ∷ _ ∷ _ ∷ _ ∷ _ ∷ _ ∷ _ ∷ _ ∷ _ ∷ _ ∷ _ ∷ _ ∷ _ ∷ _ ∷ _ ∷ _ ∷ _ ∷ _ ∷ []) $ nothing ! $ move ! (3 ∷ 0 ∷ []) $ join ! $ join ! $
         -- call 8
         use1 W (raw (Callee-g3 𝓤 H A at-mem run .pre ((((ν8a ∷ []), tt), (fullShare, tt), tt, (ref1 δ8a (ws7 .1 .0), (n2, (n3, (n4, tt)))), (v1 ∷ [], (u2 ∷ [], (u3 ∷ [], (u4 ∷ [], tt))))), tt))) (qed W ((‵ (flft (ν8a ∷ []) fullShare) ⊛ ‵ ftrue) ∷ ‵ (MutSlice (named 0) (ν8a ∷ []) u64 .own (ref1 δ8a (ws7 .1 .0)) (v1 ∷ [])) ∷ []) ∵ nothing ! $ owned ! u64 (Is u64) (uint-makes 𝓤 H A W w64) (n4) _ w4 $ fjoin ! $ owned ! u64 (Is u64) (uint-makes 𝓤 H A W w64) (n3) _ w3 $ fjoin ! $ owned ! u64 (Is u64) (uint-makes 𝓤 H A W w64) (n2) _ w2 $ fjoin ! $ move ! (2 ∷ 0 ∷ []) $ fjoin ! $ move ! (1 ∷ 0 ∷ []) $ join ! $ nothing ! $ move ! (1 ∷ 0 ∷ []) $ frame ! $ done !) $
-        calls-at ! fm (Callee-g3 𝓤 H A at-mem run) known-g3 ((((ν8a ∷ []), tt), (fullShare, tt), tt, (ref1 δ8a (ws7 .1 .0), (n2, (n3, (n4, tt)))), (v1 ∷ [], (u2 ∷ [], (u3 ∷ [], (u4 ∷ [], tt))))), tt) (and-then ! (load ! (from ! (stop !)) (look ! 73 refl)) (and-then ! (load ! (from ! (stop !)) (look ! 141 refl)) (and-then ! (load ! (from ! (stop !)) (look ! 139 refl)) (and-then ! (load ! (from ! (stop !)) (look ! 137 refl)) (no-more !))))) (λ z8.
+        calls-at ! fm (Callee-g3 𝓤 H A at-mem run) known-g3 ((((ν8a ∷ []), tt), (fullShare, tt), tt, (ref1 δ8a (ws7 .1 .0), (n2, (n3, (n4, tt)))), (v1 ∷ [], (u2 ∷ [], (u3 ∷ [], (u4 ∷ [], tt))))), tt) (and-then ! (load ! (from ! (stop !)) (look ! 21 refl)) (and-then ! (load ! (from ! (stop !)) (look ! 55 refl)) (and-then ! (load ! (from ! (stop !)) (look ! 54 refl)) (and-then ! (load ! (from ! (stop !)) (look ! 53 refl)) (no-more !))))) (λ z8.
         use1 W (later (some (λ (r8 : Unit {0}). ((‵ (flft (ν8a ∷ []) fullShare) ⊛ ‵ ftrue) ⊛ ‵ (unit .own r8 (z8 ∷ []))) ⊛ some (λ (ws : Lasts g3.ended ((ν8a ∷ []), tt) (ref1 δ8a (ws7 .1 .0), (n2, (n3, (n4, tt))))). ‵ (lasts g3.ended ((ν8a ∷ []), tt) (ref1 δ8a (ws7 .1 .0), (n2, (n3, (n4, tt)))) ws) ⊛ raw (g3.clauses 𝓤 H A at-mem run ((ν8a ∷ []), tt) (ref1 δ8a (ws7 .1 .0), (n2, (n3, (n4, tt)))) .ensures tt r8 (atExit g3.ended ((ν8a ∷ []), tt) (ref1 δ8a (ws7 .1 .0), (n2, (n3, (n4, tt)))) ws)))))) (id⊢ 𝓤 _) $ await ! tt $ pick ! (λ r8. split ! $ move ! (1 ∷ []) $ pick ! (λ ws8. split ! $ move ! (1 ∷ []) $ heard ! _ (λ e8.
-        fsplit ! $ fsplit ! $ move ! (1 ∷ []) $ feqL ! (λ same8a. move ! (1 ∷ []) $ fsplit ! $ move ! (1 ∷ []) $ fsplit ! $ move ! (1 ∷ []) $ fsplit ! $ move ! (5 ∷ []) $ split ! $ move ! (1 ∷ []) $ feqL ! (λ i8. land ! (from ! (stop !)) (store ! 110 refl (subst (λ (t : Val). Trueᴮ (hasTy tyUnit t) × WT t) (sym (ap only i8)) (tt, tt))) $
-        split ! $ move ! (1 ∷ []) $ move ! (1 ∷ []) $ lft-end ! tt $ move ! (0 ∷ 7 ∷ 6 ∷ []) $ use3 W (later (‵ (O1 (ws8 .0)) ⊛ ‵ (flft κ₀ q₀))) (backs1 (named 0) ν8a δ8a (ws7 .1 .0) (ws8 .0) (same7b ∙ same6b ∙ same5b ∙ same4b ∙ same3b ∙ same2b ∙ same1b) room1 same8a) $ await ! tt $ split ! $
-        assigns ! (of-opd ! (unit-lit !)) (from ! (stop !)) (init ! 150 refl (tt, tt)) $
-        returns ! (look ! 150 refl) $ forget ! 150 refl $ forget ! 148 refl $ forget ! 146 refl $ forget ! 144 refl $ forget ! 142 refl $ forget ! 140 refl $ forget ! 138 refl $ forget ! 136 refl $ forget ! 134 refl $ forget ! 132 refl $ forget ! 130 refl $ forget ! 128 refl $ forget ! 126 refl $ forget ! 124 refl $ forget ! 122 refl $ forget ! 120 refl $ forget ! 118 refl $ forget ! 116 refl $ forget ! 114 refl $ forget ! 112 refl $ forget ! 110 refl $ forget ! 108 refl $ forget ! 106 refl $ forget ! 104 refl $ forget ! 102 refl $ forget ! 100 refl $ forget ! 98 refl $ forget ! 96 refl $ forget ! 94 refl $ forget ! 92 refl $ forget ! 90 refl $ forget ! 88 refl $ forget ! 86 refl $ forget ! 84 refl $ forget ! 82 refl $ forget ! 80 refl $ forget ! 78 refl $
-        move ! (150 ∷ 151 ∷ []) $ free1 ! $ move ! (148 ∷ 149 ∷ []) $ free1 ! $ move ! (146 ∷ 147 ∷ []) $ free1 ! $ move ! (144 ∷ 145 ∷ []) $ free1 ! $ move ! (142 ∷ 143 ∷ []) $ free1 ! $ move ! (140 ∷ 141 ∷ []) $ free1 ! $ move ! (138 ∷ 139 ∷ []) $ free1 ! $ move ! (136 ∷ 137 ∷ []) $ free1 ! $ move ! (134 ∷ 135 ∷ []) $ free1 ! $ move ! (132 ∷ 133 ∷ []) $ free1 ! $ move ! (130 ∷ 131 ∷ []) $ free1 ! $ move ! (128 ∷ 129 ∷ []) $ free1 ! $ move ! (126 ∷ 127 ∷ []) $ free1 ! $ move ! (124 ∷ 125 ∷ []) $ free1 ! $ move ! (122 ∷ 123 ∷ []) $ free1 ! $ move ! (120 ∷ 121 ∷ []) $ free1 ! $ move ! (118 ∷ 119 ∷ []) $ free1 ! $ move ! (116 ∷ 117 ∷ []) $ free1 ! $ move ! (114 ∷ 115 ∷ []) $ free1 ! $ move ! (112 ∷ 113 ∷ []) $ free1 ! $ move ! (110 ∷ 111 ∷ []) $ free1 ! $ move ! (108 ∷ 109 ∷ []) $ free1 ! $ move ! (106 ∷ 107 ∷ []) $ free1 ! $ move ! (104 ∷ 105 ∷ []) $ free1 ! $ move ! (102 ∷ 103 ∷ []) $ free1 ! $ move ! (100 ∷ 101 ∷ []) $ free1 ! $ move ! (98 ∷ 99 ∷ []) $ free1 ! $ move ! (96 ∷ 97 ∷ []) $ free1 ! $ move ! (94 ∷ 95 ∷ []) $ free1 ! $ move ! (92 ∷ 93 ∷ []) $ free1 ! $ move ! (90 ∷ 91 ∷ []) $ free1 ! $ move ! (88 ∷ 89 ∷ []) $ free1 ! $ move ! (86 ∷ 87 ∷ []) $ free1 ! $ move ! (84 ∷ 85 ∷ []) $ free1 ! $ move ! (82 ∷ 83 ∷ []) $ free1 ! $ move ! (80 ∷ 81 ∷ []) $ free1 ! $ move ! (78 ∷ 79 ∷ []) $ free1 ! $ free0 ! $
+        fsplit ! $ fsplit ! $ move ! (1 ∷ []) $ feqL ! (λ same8a. move ! (1 ∷ []) $ drop ! $ move ! (1 ∷ []) $ split ! $ move ! (1 ∷ []) $ feqL ! (λ i8. land ! (from ! (stop !)) (store ! 38 refl (subst (λ (t : Val). Trueᴮ (hasTy tyUnit t) × WT t) (sym (ap only i8)) (tt, tt))) $
+        tidy W (_ ∷ _ ∷ _ ∷ _ ∷ _ ∷ _ ∷ _ ∷ _ ∷ _ ∷ _ ∷ _ ∷ _ ∷ _ ∷ _ ∷ _ ∷ _ ∷ _ ∷ _ ∷ _ ∷ _ ∷ _ ∷ _ ∷ _ ∷ _ ∷ _ ∷ _ ∷ _ ∷ _ ∷ _ ∷ _ ∷ _ ∷ _ ∷ _ ∷ _ ∷ _ ∷ _ ∷ _ ∷ _ ∷ _ ∷ _ ∷ _ ∷ _ ∷ _ ∷ _ ∷ _ ∷ _ ∷ _ ∷ _ ∷ _ ∷ _ ∷ _ ∷ _ ∷ _ ∷ _ ∷ _ ∷ _ ∷ _ ∷ _ ∷ _ ∷ []) $ split ! $ move ! (1 ∷ []) $ drop ! $ lft-end ! tt $ move ! (0 ∷ 2 ∷ 1 ∷ []) $ use3 W (later (‵ (O1 (ws8 .0)) ⊛ ‵ (flft κ₀ q₀))) (backs1 (named 0) ν8a δ8a (ws7 .1 .0) (ws8 .0) (same7b ∙ same6b ∙ same5b ∙ same4b ∙ same3b ∙ same2b ∙ same1b) room1 same8a) $ await ! tt $ split ! $
+        assigns ! (of-opd ! (unit-lit !)) (from ! (stop !)) (init ! 57 refl (tt, tt)) $
+        tidy W (_ ∷ _ ∷ _ ∷ _ ∷ _ ∷ _ ∷ _ ∷ _ ∷ _ ∷ _ ∷ _ ∷ _ ∷ _ ∷ _ ∷ _ ∷ _ ∷ _ ∷ _ ∷ _ ∷ _ ∷ _ ∷ _ ∷ _ ∷ _ ∷ _ ∷ _ ∷ _ ∷ _ ∷ _ ∷ _ ∷ _ ∷ _ ∷ _ ∷ _ ∷ _ ∷ _ ∷ _ ∷ _ ∷ _ ∷ _ ∷ _ ∷ _ ∷ _ ∷ _ ∷ _ ∷ _ ∷ _ ∷ _ ∷ _ ∷ _ ∷ _ ∷ _ ∷ _ ∷ _ ∷ _ ∷ _ ∷ _ ∷ _ ∷ []) $ returns ! (look ! 57 refl) $ move ! (20 ∷ []) $ use1 W (dies ((tyUnit, l₀) ∷ (sliceTy (tyRef (named 0) mut (tyInt w64)), l₁) ∷ (tyInt w64, l₂) ∷ (tyInt w64, l₃) ∷ (tyInt w64, l₄) ∷ (tyArray (tyInt w64) 12, l₅) ∷ (tyArray (tyInt w64) 32, l₆) ∷ (tyArray (tyInt w64) 32, l₇) ∷ (sliceTy (tyRef (named 1) imm (pointee (mEntry.the-row .written))), l₈) ∷ (sliceTy (tyRef (named 2) imm (pointee (mEntry.the-row .written))), l₉) ∷ (sliceTy (tyRef (named 3) imm (pointee (mEntry.the-row .written))), l₁₀) ∷ (sliceTy (tyRef (named 4) imm (pointee (mEntry.the-row .written))), l₁₁) ∷ (sliceTy (tyRef (named 5) imm (pointee (mEntry.the-row .written))), l₁₂) ∷ (sliceTy (tyRef (named 6) imm (pointee (mEntry.the-row .written))), l₁₃) ∷ (tyInt w64, l₁₄) ∷ (tyInt w64, l₁₅) ∷ (tyInt w64, l₁₆) ∷ (tyInt w64, l₁₇) ∷ (tyInt w64, l₁₈) ∷ (tyInt w64, l₁₉) ∷ (tyUnit, l₂₀) ∷ (tyRef erased mut (tyInt w64), l₂₁) ∷ (sliceTy (tyRef erased mut (tyInt w64)), l₂₂) ∷ (tyRef erased mut (tyInt w64), l₂₃) ∷ (sliceTy (tyRef erased mut (tyInt w64)), l₂₄) ∷ (tyRef erased mut (tyInt w64), l₂₅) ∷ (sliceTy (tyRef erased mut (tyInt w64)), l₂₆) ∷ (tyRef erased mut (tyInt w64), l₂₇) ∷ (sliceTy (tyRef erased mut (tyInt w64)), l₂₈) ∷ (tyRef erased mut (tyInt w64), l₂₉) ∷ (sliceTy (tyRef erased mut (tyInt w64)), l₃₀) ∷ (tyRef erased mut (tyInt w64), l₃₁) ∷ (sliceTy (tyRef erased mut (tyInt w64)), l₃₂) ∷ (tyRef erased mut (tyInt w64), l₃₃) ∷ (sliceTy (tyRef erased mut (tyInt w64)), l₃₄) ∷ (tyRef erased mut (tyInt w64), l₃₅) ∷ (sliceTy (tyRef erased mut (tyInt w64)), l₃₆) ∷ []) (‵ ftrue)) die $ free-all ! 20 ((tyUnit, l₀) ∷ (sliceTy (tyRef (named 0) mut (tyInt w64)), l₁) ∷ (tyInt w64, l₂) ∷ (tyInt w64, l₃) ∷ (tyInt w64, l₄) ∷ (tyArray (tyInt w64) 12, l₅) ∷ (tyArray (tyInt w64) 32, l₆) ∷ (tyArray (tyInt w64) 32, l₇) ∷ (sliceTy (tyRef (named 1) imm (pointee (mEntry.the-row .written))), l₈) ∷ (sliceTy (tyRef (named 2) imm (pointee (mEntry.the-row .written))), l₉) ∷ (sliceTy (tyRef (named 3) imm (pointee (mEntry.the-row .written))), l₁₀) ∷ (sliceTy (tyRef (named 4) imm (pointee (mEntry.the-row .written))), l₁₁) ∷ (sliceTy (tyRef (named 5) imm (pointee (mEntry.the-row .written))), l₁₂) ∷ (sliceTy (tyRef (named 6) imm (pointee (mEntry.the-row .written))), l₁₃) ∷ (tyInt w64, l₁₄) ∷ (tyInt w64, l₁₅) ∷ (tyInt w64, l₁₆) ∷ (tyInt w64, l₁₇) ∷ (tyInt w64, l₁₈) ∷ (tyInt w64, l₁₉) ∷ (tyUnit, l₂₀) ∷ (tyRef erased mut (tyInt w64), l₂₁) ∷ (sliceTy (tyRef erased mut (tyInt w64)), l₂₂) ∷ (tyRef erased mut (tyInt w64), l₂₃) ∷ (sliceTy (tyRef erased mut (tyInt w64)), l₂₄) ∷ (tyRef erased mut (tyInt w64), l₂₅) ∷ (sliceTy (tyRef erased mut (tyInt w64)), l₂₆) ∷ (tyRef erased mut (tyInt w64), l₂₇) ∷ (sliceTy (tyRef erased mut (tyInt w64)), l₂₈) ∷ (tyRef erased mut (tyInt w64), l₂₉) ∷ (sliceTy (tyRef erased mut (tyInt w64)), l₃₀) ∷ (tyRef erased mut (tyInt w64), l₃₁) ∷ (sliceTy (tyRef erased mut (tyInt w64)), l₃₂) ∷ (tyRef erased mut (tyInt w64), l₃₃) ∷ (sliceTy (tyRef erased mut (tyInt w64)), l₃₄) ∷ (tyRef erased mut (tyInt w64), l₃₅) ∷ (sliceTy (tyRef erased mut (tyInt w64)), l₃₆) ∷ []) (kept _ ∷ kept _ ∷ kept _ ∷ kept _ ∷ kept _ ∷ kept _ ∷ kept _ ∷ kept _ ∷ kept _ ∷ kept _ ∷ kept _ ∷ kept _ ∷ kept _ ∷ kept _ ∷ kept _ ∷ kept _ ∷ kept _ ∷ kept _ ∷ kept _ ∷ kept _ ∷ kept _ ∷ kept _ ∷ kept _ ∷ kept _ ∷ kept _ ∷ kept _ ∷ kept _ ∷ kept _ ∷ kept _ ∷ kept _ ∷ kept _ ∷ kept _ ∷ kept _ ∷ kept _ ∷ kept _ ∷ kept _ ∷ kept _ ∷ []) refl $
         suffices ! _ (ends-at 𝓤 H A f.ended stayed (f.clauses 𝓤 H A at-mem run) W (((κ₀, (κ₁, (κ₂, (κ₃, (κ₄, (κ₅, (κ₆, tt))))))), (q₀, (q₁, (q₂, (q₃, (q₄, (q₅, (q₆, tt))))))), tt, a, at), tt) vunit tt (ws8 .0, (tt, (tt, (tt, (tt, (tt, (tt, (tt, (tt, (tt, (tt, (tt, (tt, tt))))))))))))) (same8a ∙ same7b ∙ same6b ∙ same5b ∙ same4b ∙ same3b ∙ same2b ∙ same1b, (tt, (tt, (tt, (tt, (tt, (tt, (tt, (tt, (tt, (tt, (tt, (tt, tt)))))))))))))) $ says ! (cc) $
-        nothing ! $ move ! (9 ∷ 0 ∷ []) $ join ! $ move ! (18 ∷ 0 ∷ []) $ join ! $ move ! (27 ∷ 0 ∷ []) $ join ! $ move ! (36 ∷ 0 ∷ []) $ join ! $ move ! (45 ∷ 0 ∷ []) $ join ! $ move ! (54 ∷ 0 ∷ []) $ join ! $ move ! (2 ∷ 0 ∷ []) $ join ! $ nothing ! $ move ! (16 ∷ 0 ∷ []) $ fjoin ! $ move ! (24 ∷ 0 ∷ []) $ fjoin ! $ move ! (32 ∷ 0 ∷ []) $ fjoin ! $ move ! (40 ∷ 0 ∷ []) $ fjoin ! $ move ! (48 ∷ 0 ∷ []) $ fjoin ! $ move ! (56 ∷ 0 ∷ []) $ fjoin ! $ move ! (61 ∷ 0 ∷ []) $ fjoin ! $ move ! (61 ∷ 0 ∷ []) $ fjoin ! $ move ! (61 ∷ 0 ∷ []) $ fjoin ! $ move ! (61 ∷ 0 ∷ []) $ fjoin ! $ move ! (61 ∷ 0 ∷ []) $ fjoin ! $ move ! (61 ∷ 0 ∷ []) $ fjoin ! $ move ! (2 ∷ 0 ∷ []) $ fjoin ! $ keep ! (1 ∷ 0 ∷ []) $ frame ! $ feqI ! (List Val) (vunit ∷ []) (vunit ∷ []) refl $ move ! (1 ∷ 0 ∷ []) $ done !)))))))))))))))))))))))))))))))))))))))))))))))))))))))))))))))))))))))))))))))))))))))))))))))))))))
+        nothing ! $ move ! (3 ∷ 0 ∷ []) $ join ! $ move ! (4 ∷ 0 ∷ []) $ join ! $ move ! (5 ∷ 0 ∷ []) $ join ! $ move ! (6 ∷ 0 ∷ []) $ join ! $ move ! (7 ∷ 0 ∷ []) $ join ! $ move ! (8 ∷ 0 ∷ []) $ join ! $ move ! (2 ∷ 0 ∷ []) $ join ! $ nothing ! $ move ! (3 ∷ 0 ∷ []) $ fjoin ! $ move ! (3 ∷ 0 ∷ []) $ fjoin ! $ move ! (3 ∷ 0 ∷ []) $ fjoin ! $ move ! (3 ∷ 0 ∷ []) $ fjoin ! $ move ! (3 ∷ 0 ∷ []) $ fjoin ! $ move ! (3 ∷ 0 ∷ []) $ fjoin ! $ move ! (3 ∷ 0 ∷ []) $ fjoin ! $ move ! (3 ∷ 0 ∷ []) $ fjoin ! $ move ! (3 ∷ 0 ∷ []) $ fjoin ! $ move ! (3 ∷ 0 ∷ []) $ fjoin ! $ move ! (3 ∷ 0 ∷ []) $ fjoin ! $ move ! (3 ∷ 0 ∷ []) $ fjoin ! $ move ! (2 ∷ 0 ∷ []) $ fjoin ! $ keep ! (1 ∷ 0 ∷ []) $ frame ! $ feqI ! (List Val) (vunit ∷ []) (vunit ∷ []) refl $ move ! (1 ∷ 0 ∷ []) $ done !))))))))))))))))))))))))))))))))))))))))))))))))))))))))))))))))))))))))))))))))))))))))))))))))))))))
 
 module _ {M : Type 1} (𝓤 : URA M) (H : Heap 𝓤) (A : Atoms 𝓤) (W : Given 𝓤 H A) (mem : Memory → SProp 𝓤) (run : Routine → Fun 𝓤) where
   walks : (C : Calls 𝓤 H) (Λ : Loops 𝓤 H) → FmC 𝓤 H (W .laws) C → Triple 𝓤 (C #g1) (Callee-g1 𝓤 H A mem run) → Triple 𝓤 (C #g2) (Callee-g2 𝓤 H A mem run) → Triple 𝓤 (C #g3) (Callee-g3 𝓤 H A mem run) → Walks 𝓤 H A f.ended stayed (WpFn 𝓤 H C Λ code.function) (f.clauses 𝓤 H A mem run)

@@ -20,7 +20,7 @@ use contract.Monad.{Fun, fact}
 use contract.Running.{givenOf, tables, tablesOf}
 use types.Kit.{Given, ‵, raw, _⊛_, ⋆, some, later, _$_, _∵_, !, qed, by, move, keep, drop, use1, use2, use3, split, join, pick, fsplit, fsplit3, fjoin, fjoin3, feqL, feqI, rewrite, atRet, suffices, frame, await, done}
 use types.Part.{agg, whole, sub, look-in}
-use types.Run.{look, look-raw, init, store, store-raw, forget, stop, hop, fld, from, load, unit-lit, of-opd, addr, and-then, no-more, lit, true-lit, false-lit, assigns, assigns-last, land, land-last, first, branches, skips, exec, returns, enter, alloc1, alloc0, params1, pass1, pass0, free1, free0}
+use types.Run.{look, look-raw, init, store, store-raw, stop, hop, fld, from, load, unit-lit, of-opd, addr, and-then, no-more, lit, true-lit, false-lit, assigns, assigns-last, land, land-last, first, branches, skips, exec, returns, enter, alloc0, params1, pass1, pass0}
 use types.Tokens.{lft-new, lft-end}
 use sound.WpLaws.{FmC, fmOf, WpFn-mono}
 use denote.RattleType.{owns}
@@ -48,6 +48,7 @@ use denote.Exit.{yes}
 use Rattle.magnetar_inplace.specs.declared.records.Entry.{Entry}
 use Rattle.magnetar_inplace.proofs.records.Entry as mEntry
 use Rattle.magnetar_inplace.proofs.records.Entry.Laws as lEntry
+use Rattle.magnetar_inplace.proofs.Locals.{tidy, bare, kept, dies, alloc, hide, free-all}
 use Rattle.magnetar_inplace.proofs.Again.{LentAgain, lends-again, comes-back}
 use Rattle.magnetar_records.proofs.steps.alphas12 as g1
 use Rattle.magnetar_records.proofs.steps.alphas12.Symbol as g1-def
@@ -221,53 +222,52 @@ module _ {M : Type 1} (𝓤 : URA M) (H : Heap 𝓤) (A : Atoms 𝓤) (W : Given
     walk : ent 𝓤 (onEntry 𝓤 H A f.signature (κ₀, (κ₁, (κ₂, (κ₃, (κ₄, (κ₅, (κ₆, (κ₇, (κ₈, (κ₉, (κ₁₀, tt))))))))))) (q₀, (q₁, (q₂, (q₃, (q₄, (q₅, (q₆, (q₇, (q₈, (q₉, (q₁₀, tt))))))))))) a at) (WpFn 𝓤 H C Λ code.function (v1 ∷ v2 ∷ v3 ∷ v4 ∷ v5 ∷ v6 ∷ v7 ∷ v8 ∷ v9 ∷ v10 ∷ v11 ∷ v12 ∷ v13 ∷ v14 ∷ []) Post)
     walk =
         qed W ((‵ (flft κ₀ q₀) ⊛ ‵ (flft κ₁ q₁) ⊛ ‵ (flft κ₂ q₂) ⊛ ‵ (flft κ₃ q₃) ⊛ ‵ (flft κ₄ q₄) ⊛ ‵ (flft κ₅ q₅) ⊛ ‵ (flft κ₆ q₆) ⊛ ‵ (flft κ₇ q₇) ⊛ ‵ (flft κ₈ q₈) ⊛ ‵ (flft κ₉ q₉) ⊛ ‵ (flft κ₁₀ q₁₀) ⊛ ‵ ftrue) ∷ ‵ (owns (MutSlice (named 0) κ₀ u64 ∷ MutSlice (named 1) κ₁ u64 ∷ u64 ∷ u64 ∷ u64 ∷ ShrSlice (named 2) κ₂ u64 ∷ ShrSlice (named 3) κ₃ u64 ∷ ShrSlice (named 4) κ₄ u64 ∷ ShrSlice (named 5) κ₅ mEntry.the-row ∷ ShrSlice (named 6) κ₆ mEntry.the-row ∷ ShrSlice (named 7) κ₇ mEntry.the-row ∷ ShrSlice (named 8) κ₈ mEntry.the-row ∷ ShrSlice (named 9) κ₉ mEntry.the-row ∷ ShrSlice (named 10) κ₁₀ mEntry.the-row ∷ []) a at) ∷ []) ∵ enter ! C Λ code.function (v1 ∷ v2 ∷ v3 ∷ v4 ∷ v5 ∷ v6 ∷ v7 ∷ v8 ∷ v9 ∷ v10 ∷ v11 ∷ v12 ∷ v13 ∷ v14 ∷ []) _ $
-        alloc1 ! (λ l₀. alloc1 ! (λ l₁. alloc1 ! (λ l₂. alloc1 ! (λ l₃. alloc1 ! (λ l₄. alloc1 ! (λ l₅. alloc1 ! (λ l₆. alloc1 ! (λ l₇. alloc1 ! (λ l₈. alloc1 ! (λ l₉. alloc1 ! (λ l₁₀. alloc1 ! (λ l₁₁. alloc1 ! (λ l₁₂. alloc1 ! (λ l₁₃. alloc1 ! (λ l₁₄. alloc1 ! (λ l₁₅. alloc1 ! (λ l₁₆. alloc1 ! (λ l₁₇. alloc1 ! (λ l₁₈. alloc1 ! (λ l₁₉. alloc1 ! (λ l₂₀. alloc1 ! (λ l₂₁. alloc1 ! (λ l₂₂. alloc1 ! (λ l₂₃. alloc1 ! (λ l₂₄. alloc0 ! $ params1 ! $ pass1 ! (init ! 46 refl (tt, (tt, (record { fits = room1 .0 }, tt)))) $ pass1 ! (init ! 44 refl (tt, (tt, (record { fits = room2 .0 }, tt)))) $ pass1 ! (init ! 42 refl (uint-lawful 𝓤 H A W w64 .typed n3 _ w3 .0)) $ pass1 ! (init ! 40 refl (uint-lawful 𝓤 H A W w64 .typed n4 _ w4 .0)) $ pass1 ! (init ! 38 refl (uint-lawful 𝓤 H A W w64 .typed n5 _ w5 .0)) $ pass1 ! (init ! 36 refl (shr-slice-lawful 𝓤 H A W (named 2) κ₂ u64 .typed s6 (v6 ∷ []) w6 .0)) $ pass1 ! (init ! 34 refl (shr-slice-lawful 𝓤 H A W (named 3) κ₃ u64 .typed s7 (v7 ∷ []) w7 .0)) $ pass1 ! (init ! 32 refl (shr-slice-lawful 𝓤 H A W (named 4) κ₄ u64 .typed s8 (v8 ∷ []) w8 .0)) $ pass1 ! (init ! 30 refl (shr-slice-lawful 𝓤 H A W (named 5) κ₅ mEntry.the-row .typed s9 (v9 ∷ []) w9 .0)) $ pass1 ! (init ! 28 refl (shr-slice-lawful 𝓤 H A W (named 6) κ₆ mEntry.the-row .typed s10 (v10 ∷ []) w10 .0)) $ pass1 ! (init ! 26 refl (shr-slice-lawful 𝓤 H A W (named 7) κ₇ mEntry.the-row .typed s11 (v11 ∷ []) w11 .0)) $ pass1 ! (init ! 24 refl (shr-slice-lawful 𝓤 H A W (named 8) κ₈ mEntry.the-row .typed s12 (v12 ∷ []) w12 .0)) $ pass1 ! (init ! 22 refl (shr-slice-lawful 𝓤 H A W (named 9) κ₉ mEntry.the-row .typed s13 (v13 ∷ []) w13 .0)) $ pass1 ! (init ! 20 refl (shr-slice-lawful 𝓤 H A W (named 10) κ₁₀ mEntry.the-row .typed s14 (v14 ∷ []) w14 .0)) $ pass0 ! $
-        move ! (51 ∷ []) $ fsplit ! $ move ! (1 ∷ []) $ fsplit ! $ move ! (1 ∷ []) $ fsplit ! $ move ! (1 ∷ []) $ fsplit ! $ move ! (1 ∷ []) $ fsplit ! $ move ! (1 ∷ []) $ fsplit ! $ move ! (1 ∷ []) $ fsplit ! $ move ! (1 ∷ []) $ fsplit ! $ move ! (1 ∷ []) $ fsplit ! $ move ! (1 ∷ []) $ fsplit ! $ move ! (1 ∷ []) $ fsplit ! $ move ! (1 ∷ []) $ fsplit ! $ move ! (1 ∷ []) $ fsplit ! $ move ! (1 ∷ []) $ fsplit ! $ move ! (1 ∷ []) $ move ! (65 ∷ []) $ split ! $ move ! (1 ∷ []) $ split ! $ move ! (1 ∷ []) $ split ! $ move ! (1 ∷ []) $ split ! $ move ! (1 ∷ []) $ split ! $ move ! (1 ∷ []) $ split ! $ move ! (1 ∷ []) $ split ! $ move ! (1 ∷ []) $ split ! $ move ! (1 ∷ []) $ split ! $ move ! (1 ∷ []) $ split ! $ move ! (1 ∷ []) $ split ! $ move ! (1 ∷ []) $
-        move ! (21 ∷ []) $ use1 W (‵ (O6) ⊛ ‵ (O6)) (shr-slice-copy 𝓤 H A W (named 2) κ₂ u64 .twice s6 (v6 ∷ [])) $ split ! $ nothing ! $ move ! (12 ∷ 0 ∷ []) $ join ! $ join ! $
+        nothing ! $ alloc ! (λ l₀. alloc ! (λ l₁. alloc ! (λ l₂. alloc ! (λ l₃. alloc ! (λ l₄. alloc ! (λ l₅. alloc ! (λ l₆. alloc ! (λ l₇. alloc ! (λ l₈. alloc ! (λ l₉. alloc ! (λ l₁₀. alloc ! (λ l₁₁. alloc ! (λ l₁₂. alloc ! (λ l₁₃. alloc ! (λ l₁₄. alloc ! (λ l₁₅. alloc ! (λ l₁₆. alloc ! (λ l₁₇. alloc ! (λ l₁₈. alloc ! (λ l₁₉. alloc ! (λ l₂₀. alloc ! (λ l₂₁. alloc ! (λ l₂₂. alloc ! (λ l₂₃. alloc ! (λ l₂₄. alloc0 ! $ hide ! (λ died die. params1 ! $ pass1 ! (init ! 24 refl (tt, (tt, (record { fits = room1 .0 }, tt)))) $ pass1 ! (init ! 23 refl (tt, (tt, (record { fits = room2 .0 }, tt)))) $ pass1 ! (init ! 22 refl (uint-lawful 𝓤 H A W w64 .typed n3 _ w3 .0)) $ pass1 ! (init ! 21 refl (uint-lawful 𝓤 H A W w64 .typed n4 _ w4 .0)) $ pass1 ! (init ! 20 refl (uint-lawful 𝓤 H A W w64 .typed n5 _ w5 .0)) $ pass1 ! (init ! 19 refl (shr-slice-lawful 𝓤 H A W (named 2) κ₂ u64 .typed s6 (v6 ∷ []) w6 .0)) $ pass1 ! (init ! 18 refl (shr-slice-lawful 𝓤 H A W (named 3) κ₃ u64 .typed s7 (v7 ∷ []) w7 .0)) $ pass1 ! (init ! 17 refl (shr-slice-lawful 𝓤 H A W (named 4) κ₄ u64 .typed s8 (v8 ∷ []) w8 .0)) $ pass1 ! (init ! 16 refl (shr-slice-lawful 𝓤 H A W (named 5) κ₅ mEntry.the-row .typed s9 (v9 ∷ []) w9 .0)) $ pass1 ! (init ! 15 refl (shr-slice-lawful 𝓤 H A W (named 6) κ₆ mEntry.the-row .typed s10 (v10 ∷ []) w10 .0)) $ pass1 ! (init ! 14 refl (shr-slice-lawful 𝓤 H A W (named 7) κ₇ mEntry.the-row .typed s11 (v11 ∷ []) w11 .0)) $ pass1 ! (init ! 13 refl (shr-slice-lawful 𝓤 H A W (named 8) κ₈ mEntry.the-row .typed s12 (v12 ∷ []) w12 .0)) $ pass1 ! (init ! 12 refl (shr-slice-lawful 𝓤 H A W (named 9) κ₉ mEntry.the-row .typed s13 (v13 ∷ []) w13 .0)) $ pass1 ! (init ! 11 refl (shr-slice-lawful 𝓤 H A W (named 10) κ₁₀ mEntry.the-row .typed s14 (v14 ∷ []) w14 .0)) $ pass0 ! $
+        move ! (27 ∷ []) $ fsplit ! $ move ! (1 ∷ []) $ fsplit ! $ move ! (1 ∷ []) $ fsplit ! $ move ! (1 ∷ []) $ fsplit ! $ move ! (1 ∷ []) $ fsplit ! $ move ! (1 ∷ []) $ fsplit ! $ move ! (1 ∷ []) $ fsplit ! $ move ! (1 ∷ []) $ fsplit ! $ move ! (1 ∷ []) $ fsplit ! $ move ! (1 ∷ []) $ fsplit ! $ move ! (1 ∷ []) $ fsplit ! $ move ! (1 ∷ []) $ fsplit ! $ move ! (1 ∷ []) $ fsplit ! $ move ! (1 ∷ []) $ fsplit ! $ move ! (1 ∷ []) $ drop ! $ move ! (40 ∷ []) $ split ! $ move ! (1 ∷ []) $ split ! $ move ! (1 ∷ []) $ split ! $ move ! (1 ∷ []) $ split ! $ move ! (1 ∷ []) $ split ! $ move ! (1 ∷ []) $ split ! $ move ! (1 ∷ []) $ split ! $ move ! (1 ∷ []) $ split ! $ move ! (1 ∷ []) $ split ! $ move ! (1 ∷ []) $ split ! $ move ! (1 ∷ []) $ split ! $ move ! (1 ∷ []) $ drop ! $ tidy W (_ ∷ _ ∷ _ ∷ _ ∷ _ ∷ _ ∷ _ ∷ _ ∷ _ ∷ _ ∷ _ ∷ _ ∷ _ ∷ _ ∷ _ ∷ _ ∷ _ ∷ _ ∷ _ ∷ _ ∷ _ ∷ _ ∷ _ ∷ _ ∷ _ ∷ _ ∷ _ ∷ _ ∷ _ ∷ _ ∷ _ ∷ _ ∷ _ ∷ _ ∷ _ ∷ _ ∷ _ ∷ _ ∷ _ ∷ _ ∷ _ ∷ _ ∷ _ ∷ _ ∷ _ ∷ _ ∷ _ ∷ _ ∷ _ ∷ _ ∷ _ ∷ []) $
+        move ! (19 ∷ []) $ use1 W (‵ (O6) ⊛ ‵ (O6)) (shr-slice-copy 𝓤 H A W (named 2) κ₂ u64 .twice s6 (v6 ∷ [])) $ split ! $ tidy W (_ ∷ _ ∷ _ ∷ _ ∷ _ ∷ _ ∷ _ ∷ _ ∷ _ ∷ _ ∷ _ ∷ _ ∷ _ ∷ _ ∷ _ ∷ _ ∷ _ ∷ _ ∷ _ ∷ _ ∷ _ ∷ _ ∷ _ ∷ _ ∷ _ ∷ _ ∷ _ ∷ _ ∷ _ ∷ _ ∷ _ ∷ _ ∷ _ ∷ _ ∷ _ ∷ _ ∷ _ ∷ _ ∷ _ ∷ _ ∷ _ ∷ _ ∷ _ ∷ _ ∷ _ ∷ _ ∷ _ ∷ _ ∷ _ ∷ _ ∷ _ ∷ _ ∷ []) $ nothing ! $ move ! (11 ∷ 0 ∷ []) $ join ! $ join ! $
         -- call 1
         use1 W (raw (Callee-g1 𝓤 H A at-mem run .pre (((κ₂, tt), (q₂, tt), tt, (s6, tt), (v6 ∷ [], tt)), tt))) (qed W ((‵ (flft κ₂ q₂) ⊛ ‵ ftrue) ∷ ‵ (ShrSlice (named 0) κ₂ u64 .own s6 (v6 ∷ [])) ∷ []) ∵ nothing ! $ move ! (2 ∷ 0 ∷ []) $ fjoin ! $ move ! (1 ∷ 0 ∷ []) $ join ! $ nothing ! $ move ! (1 ∷ 0 ∷ []) $ frame ! $ done !) $
-        calls-at ! fm (Callee-g1 𝓤 H A at-mem run) known-g1 (((κ₂, tt), (q₂, tt), tt, (s6, tt), (v6 ∷ [], tt)), tt) (and-then ! (load ! (from ! (stop !)) (look ! 63 refl)) (no-more !)) (λ z1.
+        calls-at ! fm (Callee-g1 𝓤 H A at-mem run) known-g1 (((κ₂, tt), (q₂, tt), tt, (s6, tt), (v6 ∷ [], tt)), tt) (and-then ! (load ! (from ! (stop !)) (look ! 44 refl)) (no-more !)) (λ z1.
         use1 W (later (some (λ (r1 : (List ℕ)). ((‵ (flft κ₂ q₂) ⊛ ‵ ftrue) ⊛ ‵ ((Array u64 12) .own r1 (z1 ∷ []))) ⊛ some (λ (ws : Lasts g1.ended (κ₂, tt) (s6, tt)). ‵ (lasts g1.ended (κ₂, tt) (s6, tt) ws) ⊛ raw (g1.clauses 𝓤 H A at-mem run (κ₂, tt) (s6, tt) .ensures tt r1 (atExit g1.ended (κ₂, tt) (s6, tt) ws)))))) (id⊢ 𝓤 _) $ await ! tt $ pick ! (λ r1. split ! $ move ! (1 ∷ []) $ pick ! (λ ws1. split ! $ move ! (1 ∷ []) $ heard ! _ (λ e1.
-        fsplit ! $ move ! (2 ∷ []) $ split ! $ move ! (1 ∷ []) $ peeks ! (Array u64 12) (Is (Array u64 12)) (shows 𝓤 H A (Array u64 12)) r1 (z1 ∷ []) (λ i1. drop ! $ land ! (from ! (stop !)) (init ! 47 refl (array-lawful 𝓤 H A W u64 (uint-lawful 𝓤 H A W w64) 12 .typed r1 _ i1 .0)) $
-        split ! $ move ! (1 ∷ []) $ move ! (24 ∷ []) $ use1 W (‵ (O7) ⊛ ‵ (O7)) (shr-slice-copy 𝓤 H A W (named 3) κ₃ u64 .twice s7 (v7 ∷ [])) $ split ! $ nothing ! $ move ! (16 ∷ 0 ∷ []) $ join ! $ join ! $
+        drop ! $ split ! $ move ! (1 ∷ []) $ peeks ! (Array u64 12) (Is (Array u64 12)) (shows 𝓤 H A (Array u64 12)) r1 (z1 ∷ []) (λ i1. drop ! $ land ! (from ! (stop !)) (init ! 35 refl (array-lawful 𝓤 H A W u64 (uint-lawful 𝓤 H A W w64) 12 .typed r1 _ i1 .0)) $
+        tidy W (_ ∷ _ ∷ _ ∷ _ ∷ _ ∷ _ ∷ _ ∷ _ ∷ _ ∷ _ ∷ _ ∷ _ ∷ _ ∷ _ ∷ _ ∷ _ ∷ _ ∷ _ ∷ _ ∷ _ ∷ _ ∷ _ ∷ _ ∷ _ ∷ _ ∷ _ ∷ _ ∷ _ ∷ _ ∷ _ ∷ _ ∷ _ ∷ _ ∷ _ ∷ _ ∷ _ ∷ _ ∷ _ ∷ _ ∷ _ ∷ _ ∷ _ ∷ _ ∷ _ ∷ _ ∷ _ ∷ _ ∷ _ ∷ _ ∷ _ ∷ _ ∷ []) $ split ! $ move ! (1 ∷ []) $ drop ! $ move ! (19 ∷ []) $ use1 W (‵ (O7) ⊛ ‵ (O7)) (shr-slice-copy 𝓤 H A W (named 3) κ₃ u64 .twice s7 (v7 ∷ [])) $ split ! $ tidy W (_ ∷ _ ∷ _ ∷ _ ∷ _ ∷ _ ∷ _ ∷ _ ∷ _ ∷ _ ∷ _ ∷ _ ∷ _ ∷ _ ∷ _ ∷ _ ∷ _ ∷ _ ∷ _ ∷ _ ∷ _ ∷ _ ∷ _ ∷ _ ∷ _ ∷ _ ∷ _ ∷ _ ∷ _ ∷ _ ∷ _ ∷ _ ∷ _ ∷ _ ∷ _ ∷ _ ∷ _ ∷ _ ∷ _ ∷ _ ∷ _ ∷ _ ∷ _ ∷ _ ∷ _ ∷ _ ∷ _ ∷ _ ∷ _ ∷ _ ∷ _ ∷ _ ∷ []) $ nothing ! $ move ! (12 ∷ 0 ∷ []) $ join ! $ join ! $
         -- call 2
         use1 W (raw (Callee-g2 𝓤 H A at-mem run .pre (((κ₃, tt), (q₃, tt), tt, (s7, tt), (v7 ∷ [], tt)), tt))) (qed W ((‵ (flft κ₃ q₃) ⊛ ‵ ftrue) ∷ ‵ (ShrSlice (named 0) κ₃ u64 .own s7 (v7 ∷ [])) ∷ []) ∵ nothing ! $ move ! (2 ∷ 0 ∷ []) $ fjoin ! $ move ! (1 ∷ 0 ∷ []) $ join ! $ nothing ! $ move ! (1 ∷ 0 ∷ []) $ frame ! $ done !) $
-        calls-at ! fm (Callee-g2 𝓤 H A at-mem run) known-g2 (((κ₃, tt), (q₃, tt), tt, (s7, tt), (v7 ∷ [], tt)), tt) (and-then ! (load ! (from ! (stop !)) (look ! 64 refl)) (no-more !)) (λ z2.
+        calls-at ! fm (Callee-g2 𝓤 H A at-mem run) known-g2 (((κ₃, tt), (q₃, tt), tt, (s7, tt), (v7 ∷ [], tt)), tt) (and-then ! (load ! (from ! (stop !)) (look ! 43 refl)) (no-more !)) (λ z2.
         use1 W (later (some (λ (r2 : (List ℕ)). ((‵ (flft κ₃ q₃) ⊛ ‵ ftrue) ⊛ ‵ ((Array u64 32) .own r2 (z2 ∷ []))) ⊛ some (λ (ws : Lasts g2.ended (κ₃, tt) (s7, tt)). ‵ (lasts g2.ended (κ₃, tt) (s7, tt) ws) ⊛ raw (g2.clauses 𝓤 H A at-mem run (κ₃, tt) (s7, tt) .ensures tt r2 (atExit g2.ended (κ₃, tt) (s7, tt) ws)))))) (id⊢ 𝓤 _) $ await ! tt $ pick ! (λ r2. split ! $ move ! (1 ∷ []) $ pick ! (λ ws2. split ! $ move ! (1 ∷ []) $ heard ! _ (λ e2.
-        fsplit ! $ move ! (2 ∷ []) $ split ! $ move ! (1 ∷ []) $ peeks ! (Array u64 32) (Is (Array u64 32)) (shows 𝓤 H A (Array u64 32)) r2 (z2 ∷ []) (λ i2. drop ! $ land ! (from ! (stop !)) (init ! 48 refl (array-lawful 𝓤 H A W u64 (uint-lawful 𝓤 H A W w64) 32 .typed r2 _ i2 .0)) $
-        split ! $ move ! (1 ∷ []) $ move ! (27 ∷ []) $ use1 W (‵ (O8) ⊛ ‵ (O8)) (shr-slice-copy 𝓤 H A W (named 4) κ₄ u64 .twice s8 (v8 ∷ [])) $ split ! $ nothing ! $ move ! (20 ∷ 0 ∷ []) $ join ! $ join ! $
+        drop ! $ split ! $ move ! (1 ∷ []) $ peeks ! (Array u64 32) (Is (Array u64 32)) (shows 𝓤 H A (Array u64 32)) r2 (z2 ∷ []) (λ i2. drop ! $ land ! (from ! (stop !)) (init ! 34 refl (array-lawful 𝓤 H A W u64 (uint-lawful 𝓤 H A W w64) 32 .typed r2 _ i2 .0)) $
+        tidy W (_ ∷ _ ∷ _ ∷ _ ∷ _ ∷ _ ∷ _ ∷ _ ∷ _ ∷ _ ∷ _ ∷ _ ∷ _ ∷ _ ∷ _ ∷ _ ∷ _ ∷ _ ∷ _ ∷ _ ∷ _ ∷ _ ∷ _ ∷ _ ∷ _ ∷ _ ∷ _ ∷ _ ∷ _ ∷ _ ∷ _ ∷ _ ∷ _ ∷ _ ∷ _ ∷ _ ∷ _ ∷ _ ∷ _ ∷ _ ∷ _ ∷ _ ∷ _ ∷ _ ∷ _ ∷ _ ∷ _ ∷ _ ∷ _ ∷ _ ∷ _ ∷ []) $ split ! $ move ! (1 ∷ []) $ drop ! $ move ! (19 ∷ []) $ use1 W (‵ (O8) ⊛ ‵ (O8)) (shr-slice-copy 𝓤 H A W (named 4) κ₄ u64 .twice s8 (v8 ∷ [])) $ split ! $ tidy W (_ ∷ _ ∷ _ ∷ _ ∷ _ ∷ _ ∷ _ ∷ _ ∷ _ ∷ _ ∷ _ ∷ _ ∷ _ ∷ _ ∷ _ ∷ _ ∷ _ ∷ _ ∷ _ ∷ _ ∷ _ ∷ _ ∷ _ ∷ _ ∷ _ ∷ _ ∷ _ ∷ _ ∷ _ ∷ _ ∷ _ ∷ _ ∷ _ ∷ _ ∷ _ ∷ _ ∷ _ ∷ _ ∷ _ ∷ _ ∷ _ ∷ _ ∷ _ ∷ _ ∷ _ ∷ _ ∷ _ ∷ _ ∷ _ ∷ _ ∷ _ ∷ _ ∷ []) $ nothing ! $ move ! (13 ∷ 0 ∷ []) $ join ! $ join ! $
         -- call 3
         use1 W (raw (Callee-g2 𝓤 H A at-mem run .pre (((κ₄, tt), (q₄, tt), tt, (s8, tt), (v8 ∷ [], tt)), tt))) (qed W ((‵ (flft κ₄ q₄) ⊛ ‵ ftrue) ∷ ‵ (ShrSlice (named 0) κ₄ u64 .own s8 (v8 ∷ [])) ∷ []) ∵ nothing ! $ move ! (2 ∷ 0 ∷ []) $ fjoin ! $ move ! (1 ∷ 0 ∷ []) $ join ! $ nothing ! $ move ! (1 ∷ 0 ∷ []) $ frame ! $ done !) $
-        calls-at ! fm (Callee-g2 𝓤 H A at-mem run) known-g2 (((κ₄, tt), (q₄, tt), tt, (s8, tt), (v8 ∷ [], tt)), tt) (and-then ! (load ! (from ! (stop !)) (look ! 65 refl)) (no-more !)) (λ z3.
+        calls-at ! fm (Callee-g2 𝓤 H A at-mem run) known-g2 (((κ₄, tt), (q₄, tt), tt, (s8, tt), (v8 ∷ [], tt)), tt) (and-then ! (load ! (from ! (stop !)) (look ! 42 refl)) (no-more !)) (λ z3.
         use1 W (later (some (λ (r3 : (List ℕ)). ((‵ (flft κ₄ q₄) ⊛ ‵ ftrue) ⊛ ‵ ((Array u64 32) .own r3 (z3 ∷ []))) ⊛ some (λ (ws : Lasts g2.ended (κ₄, tt) (s8, tt)). ‵ (lasts g2.ended (κ₄, tt) (s8, tt) ws) ⊛ raw (g2.clauses 𝓤 H A at-mem run (κ₄, tt) (s8, tt) .ensures tt r3 (atExit g2.ended (κ₄, tt) (s8, tt) ws)))))) (id⊢ 𝓤 _) $ await ! tt $ pick ! (λ r3. split ! $ move ! (1 ∷ []) $ pick ! (λ ws3. split ! $ move ! (1 ∷ []) $ heard ! _ (λ e3.
-        fsplit ! $ move ! (2 ∷ []) $ split ! $ move ! (1 ∷ []) $ peeks ! (Array u64 32) (Is (Array u64 32)) (shows 𝓤 H A (Array u64 32)) r3 (z3 ∷ []) (λ i3. drop ! $ land ! (from ! (stop !)) (init ! 49 refl (array-lawful 𝓤 H A W u64 (uint-lawful 𝓤 H A W w64) 32 .typed r3 _ i3 .0)) $
-        split ! $ move ! (1 ∷ []) $ assigns ! (addr ! (from ! (fld ! refl (hop ! (look-in ! 80 (sub ! 0 refl (whole !))) (stop !))))) (from ! (stop !)) (init ! 46 refl (tt, tt)) $
-        assigns ! (agg ! (and-then ! (load ! (from ! (stop !)) (look ! 46 refl)) (and-then ! (load ! (from ! (fld ! refl (stop !))) (look-in ! 80 (sub ! 1 refl (whole !)))) (no-more !)))) (from ! (stop !)) (init ! 44 refl (tt, (tt, (record { fits = room2 .0 }, tt)))) $
-        lft-new ! tt (λ ν4a. move ! (35 ∷ 23 ∷ []) $ use2 W (later (some (λ (δ : GName). ‵ (MutSlice (named 0) (ν4a ∷ []) u64 .own (ref2 δ (ys2)) (v2 ∷ [])) ⊛ ‵ (Lent2 ν4a δ (ys2))))) (lends2 (named 0) ν4a (ys2) (refl)) $ await ! tt $ pick ! (λ δ4a. split ! $ move ! (32 ∷ []) $ use1 W (‵ (O9) ⊛ ‵ (O9)) (shr-slice-copy 𝓤 H A W (named 5) κ₅ mEntry.the-row .twice s9 (v9 ∷ [])) $ split ! $ move ! (33 ∷ []) $ use1 W (‵ (O10) ⊛ ‵ (O10)) (shr-slice-copy 𝓤 H A W (named 6) κ₆ mEntry.the-row .twice s10 (v10 ∷ [])) $ split ! $ move ! (34 ∷ []) $ use1 W (‵ (O11) ⊛ ‵ (O11)) (shr-slice-copy 𝓤 H A W (named 7) κ₇ mEntry.the-row .twice s11 (v11 ∷ [])) $ split ! $ move ! (35 ∷ []) $ use1 W (‵ (O12) ⊛ ‵ (O12)) (shr-slice-copy 𝓤 H A W (named 8) κ₈ mEntry.the-row .twice s12 (v12 ∷ [])) $ split ! $ move ! (36 ∷ []) $ use1 W (‵ (O13) ⊛ ‵ (O13)) (shr-slice-copy 𝓤 H A W (named 9) κ₉ mEntry.the-row .twice s13 (v13 ∷ [])) $ split ! $ move ! (37 ∷ []) $ use1 W (‵ (O14) ⊛ ‵ (O14)) (shr-slice-copy 𝓤 H A W (named 10) κ₁₀ mEntry.the-row .twice s14 (v14 ∷ [])) $ split ! $ nothing ! $ move ! (32 ∷ 0 ∷ []) $ join ! $ move ! (32 ∷ 0 ∷ []) $ join ! $ move ! (32 ∷ 0 ∷ []) $ join ! $ move ! (32 ∷ 0 ∷ []) $ join ! $ move ! (32 ∷ 0 ∷ []) $ join ! $ move ! (32 ∷ 0 ∷ []) $ join ! $ move ! (15 ∷ 0 ∷ []) $ join ! $ move ! (3 ∷ 1 ∷ []) $ join ! $ move ! (4 ∷ 0 ∷ []) $ join ! $ move ! (5 ∷ 0 ∷ []) $ join ! $ move ! (6 ∷ 0 ∷ []) $ join ! $ move ! (7 ∷ 0 ∷ []) $ join ! $ move ! (8 ∷ 0 ∷ []) $ join ! $ move ! (1 ∷ 0 ∷ []) $ join ! $
+        drop ! $ split ! $ move ! (1 ∷ []) $ peeks ! (Array u64 32) (Is (Array u64 32)) (shows 𝓤 H A (Array u64 32)) r3 (z3 ∷ []) (λ i3. drop ! $ land ! (from ! (stop !)) (init ! 33 refl (array-lawful 𝓤 H A W u64 (uint-lawful 𝓤 H A W w64) 32 .typed r3 _ i3 .0)) $
+        tidy W (_ ∷ _ ∷ _ ∷ _ ∷ _ ∷ _ ∷ _ ∷ _ ∷ _ ∷ _ ∷ _ ∷ _ ∷ _ ∷ _ ∷ _ ∷ _ ∷ _ ∷ _ ∷ _ ∷ _ ∷ _ ∷ _ ∷ _ ∷ _ ∷ _ ∷ _ ∷ _ ∷ _ ∷ _ ∷ _ ∷ _ ∷ _ ∷ _ ∷ _ ∷ _ ∷ _ ∷ _ ∷ _ ∷ _ ∷ _ ∷ _ ∷ _ ∷ _ ∷ _ ∷ _ ∷ _ ∷ _ ∷ _ ∷ _ ∷ _ ∷ _ ∷ []) $ split ! $ move ! (1 ∷ []) $ drop ! $ assigns ! (addr ! (from ! (fld ! refl (hop ! (look-in ! 48 (sub ! 0 refl (whole !))) (stop !))))) (from ! (stop !)) (init ! 31 refl (tt, tt)) $
+        assigns ! (agg ! (and-then ! (load ! (from ! (stop !)) (look ! 31 refl)) (and-then ! (load ! (from ! (fld ! refl (stop !))) (look-in ! 48 (sub ! 1 refl (whole !)))) (no-more !)))) (from ! (stop !)) (init ! 30 refl (tt, (tt, (record { fits = room2 .0 }, tt)))) $
+        lft-new ! tt (λ ν4a. move ! (24 ∷ 13 ∷ []) $ use2 W (later (some (λ (δ : GName). ‵ (MutSlice (named 0) (ν4a ∷ []) u64 .own (ref2 δ (ys2)) (v2 ∷ [])) ⊛ ‵ (Lent2 ν4a δ (ys2))))) (lends2 (named 0) ν4a (ys2) (refl)) $ await ! tt $ pick ! (λ δ4a. split ! $ move ! (21 ∷ []) $ use1 W (‵ (O9) ⊛ ‵ (O9)) (shr-slice-copy 𝓤 H A W (named 5) κ₅ mEntry.the-row .twice s9 (v9 ∷ [])) $ split ! $ move ! (22 ∷ []) $ use1 W (‵ (O10) ⊛ ‵ (O10)) (shr-slice-copy 𝓤 H A W (named 6) κ₆ mEntry.the-row .twice s10 (v10 ∷ [])) $ split ! $ move ! (23 ∷ []) $ use1 W (‵ (O11) ⊛ ‵ (O11)) (shr-slice-copy 𝓤 H A W (named 7) κ₇ mEntry.the-row .twice s11 (v11 ∷ [])) $ split ! $ move ! (24 ∷ []) $ use1 W (‵ (O12) ⊛ ‵ (O12)) (shr-slice-copy 𝓤 H A W (named 8) κ₈ mEntry.the-row .twice s12 (v12 ∷ [])) $ split ! $ move ! (25 ∷ []) $ use1 W (‵ (O13) ⊛ ‵ (O13)) (shr-slice-copy 𝓤 H A W (named 9) κ₉ mEntry.the-row .twice s13 (v13 ∷ [])) $ split ! $ move ! (26 ∷ []) $ use1 W (‵ (O14) ⊛ ‵ (O14)) (shr-slice-copy 𝓤 H A W (named 10) κ₁₀ mEntry.the-row .twice s14 (v14 ∷ [])) $ split ! $ tidy W (_ ∷ _ ∷ _ ∷ _ ∷ _ ∷ _ ∷ _ ∷ _ ∷ _ ∷ _ ∷ _ ∷ _ ∷ _ ∷ _ ∷ _ ∷ _ ∷ _ ∷ _ ∷ _ ∷ _ ∷ _ ∷ _ ∷ _ ∷ _ ∷ _ ∷ _ ∷ _ ∷ _ ∷ _ ∷ _ ∷ _ ∷ _ ∷ _ ∷ _ ∷ _ ∷ _ ∷ _ ∷ _ ∷ _ ∷ _ ∷ _ ∷ _ ∷ _ ∷ _ ∷ _ ∷ _ ∷ _ ∷ _ ∷ _ ∷ _ ∷ _ ∷ _ ∷ _ ∷ _ ∷ _ ∷ _ ∷ _ ∷ _ ∷ []) $ nothing ! $ move ! (22 ∷ 0 ∷ []) $ join ! $ move ! (22 ∷ 0 ∷ []) $ join ! $ move ! (22 ∷ 0 ∷ []) $ join ! $ move ! (22 ∷ 0 ∷ []) $ join ! $ move ! (22 ∷ 0 ∷ []) $ join ! $ move ! (22 ∷ 0 ∷ []) $ join ! $ move ! (15 ∷ 0 ∷ []) $ join ! $ move ! (3 ∷ 1 ∷ []) $ join ! $ move ! (4 ∷ 0 ∷ []) $ join ! $ move ! (5 ∷ 0 ∷ []) $ join ! $ move ! (6 ∷ 0 ∷ []) $ join ! $ move ! (7 ∷ 0 ∷ []) $ join ! $ move ! (8 ∷ 0 ∷ []) $ join ! $ move ! (1 ∷ 0 ∷ []) $ join ! $
         -- call 4
         use1 W (raw (Callee-g3 𝓤 H A at-mem run .pre ((((ν4a ∷ []), (κ₅, (κ₆, (κ₇, (κ₈, (κ₉, (κ₁₀, tt))))))), (fullShare, (q₅, (q₆, (q₇, (q₈, (q₉, (q₁₀, tt))))))), tt, (ref2 δ4a (ys2), (n3, (n4, (n5, (r1, (r2, (r3, (s9, (s10, (s11, (s12, (s13, (s14, tt))))))))))))), (v2 ∷ [], (u3 ∷ [], (u4 ∷ [], (u5 ∷ [], (z1 ∷ [], (z2 ∷ [], (z3 ∷ [], (v9 ∷ [], (v10 ∷ [], (v11 ∷ [], (v12 ∷ [], (v13 ∷ [], (v14 ∷ [], tt)))))))))))))), tt))) (qed W ((‵ (flft (ν4a ∷ []) fullShare) ⊛ ‵ (flft κ₅ q₅) ⊛ ‵ (flft κ₆ q₆) ⊛ ‵ (flft κ₇ q₇) ⊛ ‵ (flft κ₈ q₈) ⊛ ‵ (flft κ₉ q₉) ⊛ ‵ (flft κ₁₀ q₁₀) ⊛ ‵ ftrue) ∷ ‵ (MutSlice (named 0) (ν4a ∷ []) u64 .own (ref2 δ4a (ys2)) (v2 ∷ [])) ∷ ‵ (ShrSlice (named 1) κ₅ mEntry.the-row .own s9 (v9 ∷ [])) ∷ ‵ (ShrSlice (named 2) κ₆ mEntry.the-row .own s10 (v10 ∷ [])) ∷ ‵ (ShrSlice (named 3) κ₇ mEntry.the-row .own s11 (v11 ∷ [])) ∷ ‵ (ShrSlice (named 4) κ₈ mEntry.the-row .own s12 (v12 ∷ [])) ∷ ‵ (ShrSlice (named 5) κ₉ mEntry.the-row .own s13 (v13 ∷ [])) ∷ ‵ (ShrSlice (named 6) κ₁₀ mEntry.the-row .own s14 (v14 ∷ [])) ∷ []) ∵ nothing ! $ move ! (8 ∷ 0 ∷ []) $ fjoin ! $ move ! (7 ∷ 0 ∷ []) $ fjoin ! $ move ! (6 ∷ 0 ∷ []) $ fjoin ! $ move ! (5 ∷ 0 ∷ []) $ fjoin ! $ move ! (4 ∷ 0 ∷ []) $ fjoin ! $ move ! (3 ∷ 0 ∷ []) $ fjoin ! $ owned ! (Array u64 32) (Is (Array u64 32)) (array-makes 𝓤 H A W u64 (uint-makes 𝓤 H A W w64) 32) (r3) _ i3 $ fjoin ! $ owned ! (Array u64 32) (Is (Array u64 32)) (array-makes 𝓤 H A W u64 (uint-makes 𝓤 H A W w64) 32) (r2) _ i2 $ fjoin ! $ owned ! (Array u64 12) (Is (Array u64 12)) (array-makes 𝓤 H A W u64 (uint-makes 𝓤 H A W w64) 12) (r1) _ i1 $ fjoin ! $ owned ! u64 (Is u64) (uint-makes 𝓤 H A W w64) (n5) _ w5 $ fjoin ! $ owned ! u64 (Is u64) (uint-makes 𝓤 H A W w64) (n4) _ w4 $ fjoin ! $ owned ! u64 (Is u64) (uint-makes 𝓤 H A W w64) (n3) _ w3 $ fjoin ! $ move ! (2 ∷ 0 ∷ []) $ fjoin ! $ move ! (1 ∷ 0 ∷ []) $ join ! $ nothing ! $ move ! (1 ∷ 0 ∷ []) $ frame ! $ done !) $
-        calls-at ! fm (Callee-g3 𝓤 H A at-mem run) known-g3 ((((ν4a ∷ []), (κ₅, (κ₆, (κ₇, (κ₈, (κ₉, (κ₁₀, tt))))))), (fullShare, (q₅, (q₆, (q₇, (q₈, (q₉, (q₁₀, tt))))))), tt, (ref2 δ4a (ys2), (n3, (n4, (n5, (r1, (r2, (r3, (s9, (s10, (s11, (s12, (s13, (s14, tt))))))))))))), (v2 ∷ [], (u3 ∷ [], (u4 ∷ [], (u5 ∷ [], (z1 ∷ [], (z2 ∷ [], (z3 ∷ [], (v9 ∷ [], (v10 ∷ [], (v11 ∷ [], (v12 ∷ [], (v13 ∷ [], (v14 ∷ [], tt)))))))))))))), tt) (and-then ! (load ! (from ! (stop !)) (look ! 38 refl)) (and-then ! (load ! (from ! (stop !)) (look ! 72 refl)) (and-then ! (load ! (from ! (stop !)) (look ! 70 refl)) (and-then ! (load ! (from ! (stop !)) (look ! 68 refl)) (and-then ! (load ! (from ! (stop !)) (look ! 48 refl)) (and-then ! (load ! (from ! (stop !)) (look ! 46 refl)) (and-then ! (load ! (from ! (stop !)) (look ! 44 refl)) (and-then ! (load ! (from ! (stop !)) (look ! 60 refl)) (and-then ! (load ! (from ! (stop !)) (look ! 58 refl)) (and-then ! (load ! (from ! (stop !)) (look ! 56 refl)) (and-then ! (load ! (from ! (stop !)) (look ! 54 refl)) (and-then ! (load ! (from ! (stop !)) (look ! 52 refl)) (and-then ! (load ! (from ! (stop !)) (look ! 50 refl)) (no-more !)))))))))))))) (λ z4.
+        calls-at ! fm (Callee-g3 𝓤 H A at-mem run) known-g3 ((((ν4a ∷ []), (κ₅, (κ₆, (κ₇, (κ₈, (κ₉, (κ₁₀, tt))))))), (fullShare, (q₅, (q₆, (q₇, (q₈, (q₉, (q₁₀, tt))))))), tt, (ref2 δ4a (ys2), (n3, (n4, (n5, (r1, (r2, (r3, (s9, (s10, (s11, (s12, (s13, (s14, tt))))))))))))), (v2 ∷ [], (u3 ∷ [], (u4 ∷ [], (u5 ∷ [], (z1 ∷ [], (z2 ∷ [], (z3 ∷ [], (v9 ∷ [], (v10 ∷ [], (v11 ∷ [], (v12 ∷ [], (v13 ∷ [], (v14 ∷ [], tt)))))))))))))), tt) (and-then ! (load ! (from ! (stop !)) (look ! 24 refl)) (and-then ! (load ! (from ! (stop !)) (look ! 41 refl)) (and-then ! (load ! (from ! (stop !)) (look ! 40 refl)) (and-then ! (load ! (from ! (stop !)) (look ! 39 refl)) (and-then ! (load ! (from ! (stop !)) (look ! 29 refl)) (and-then ! (load ! (from ! (stop !)) (look ! 28 refl)) (and-then ! (load ! (from ! (stop !)) (look ! 27 refl)) (and-then ! (load ! (from ! (stop !)) (look ! 35 refl)) (and-then ! (load ! (from ! (stop !)) (look ! 34 refl)) (and-then ! (load ! (from ! (stop !)) (look ! 33 refl)) (and-then ! (load ! (from ! (stop !)) (look ! 32 refl)) (and-then ! (load ! (from ! (stop !)) (look ! 31 refl)) (and-then ! (load ! (from ! (stop !)) (look ! 30 refl)) (no-more !)))))))))))))) (λ z4.
         use1 W (later (some (λ (r4 : Unit {0}). ((‵ (flft (ν4a ∷ []) fullShare) ⊛ ‵ (flft κ₅ q₅) ⊛ ‵ (flft κ₆ q₆) ⊛ ‵ (flft κ₇ q₇) ⊛ ‵ (flft κ₈ q₈) ⊛ ‵ (flft κ₉ q₉) ⊛ ‵ (flft κ₁₀ q₁₀) ⊛ ‵ ftrue) ⊛ ‵ (unit .own r4 (z4 ∷ []))) ⊛ some (λ (ws : Lasts g3.ended ((ν4a ∷ []), (κ₅, (κ₆, (κ₇, (κ₈, (κ₉, (κ₁₀, tt))))))) (ref2 δ4a (ys2), (n3, (n4, (n5, (r1, (r2, (r3, (s9, (s10, (s11, (s12, (s13, (s14, tt)))))))))))))). ‵ (lasts g3.ended ((ν4a ∷ []), (κ₅, (κ₆, (κ₇, (κ₈, (κ₉, (κ₁₀, tt))))))) (ref2 δ4a (ys2), (n3, (n4, (n5, (r1, (r2, (r3, (s9, (s10, (s11, (s12, (s13, (s14, tt))))))))))))) ws) ⊛ raw (g3.clauses 𝓤 H A at-mem run ((ν4a ∷ []), (κ₅, (κ₆, (κ₇, (κ₈, (κ₉, (κ₁₀, tt))))))) (ref2 δ4a (ys2), (n3, (n4, (n5, (r1, (r2, (r3, (s9, (s10, (s11, (s12, (s13, (s14, tt))))))))))))) .ensures tt r4 (atExit g3.ended ((ν4a ∷ []), (κ₅, (κ₆, (κ₇, (κ₈, (κ₉, (κ₁₀, tt))))))) (ref2 δ4a (ys2), (n3, (n4, (n5, (r1, (r2, (r3, (s9, (s10, (s11, (s12, (s13, (s14, tt))))))))))))) ws)))))) (id⊢ 𝓤 _) $ await ! tt $ pick ! (λ r4. split ! $ move ! (1 ∷ []) $ pick ! (λ ws4. split ! $ move ! (1 ∷ []) $ heard ! _ (λ e4.
-        fsplit ! $ fsplit ! $ move ! (1 ∷ []) $ feqL ! (λ same4a. move ! (1 ∷ []) $ fsplit ! $ move ! (1 ∷ []) $ fsplit ! $ move ! (1 ∷ []) $ fsplit ! $ move ! (1 ∷ []) $ fsplit ! $ move ! (1 ∷ []) $ fsplit ! $ move ! (1 ∷ []) $ fsplit ! $ move ! (1 ∷ []) $ fsplit ! $ move ! (1 ∷ []) $ fsplit ! $ move ! (1 ∷ []) $ fsplit ! $ move ! (1 ∷ []) $ fsplit ! $ move ! (1 ∷ []) $ fsplit ! $ move ! (1 ∷ []) $ fsplit ! $ move ! (14 ∷ []) $ split ! $ move ! (1 ∷ []) $ feqL ! (λ i4. land ! (from ! (stop !)) (init ! 56 refl (subst (λ (t : Val). Trueᴮ (hasTy tyUnit t) × WT t) (sym (ap only i4)) (tt, tt))) $
-        split ! $ move ! (1 ∷ []) $ split ! $ move ! (1 ∷ []) $ split ! $ move ! (1 ∷ []) $ split ! $ move ! (1 ∷ []) $ split ! $ move ! (1 ∷ []) $ split ! $ move ! (1 ∷ []) $ split ! $ move ! (1 ∷ []) $ move ! (7 ∷ []) $ lft-end ! tt $ move ! (0 ∷ 28 ∷ 21 ∷ []) $ use3 W (later (‵ (O2 (ws4 .0)) ⊛ ‵ (flft κ₁ q₁))) (backs2 (named 0) ν4a δ4a (ys2) (ws4 .0) (refl) room2 same4a) $ await ! tt $ split ! $
-        assigns ! (addr ! (from ! (fld ! refl (hop ! (look-in ! 94 (sub ! 0 refl (whole !))) (stop !))))) (from ! (stop !)) (init ! 56 refl (tt, tt)) $
-        assigns ! (agg ! (and-then ! (load ! (from ! (stop !)) (look ! 56 refl)) (and-then ! (load ! (from ! (fld ! refl (stop !))) (look-in ! 94 (sub ! 1 refl (whole !)))) (no-more !)))) (from ! (stop !)) (init ! 54 refl (tt, (tt, (record { fits = room2 .0 }, tt)))) $
-        assigns ! (addr ! (from ! (fld ! refl (hop ! (look-in ! 96 (sub ! 0 refl (whole !))) (stop !))))) (from ! (stop !)) (init ! 52 refl (tt, tt)) $
-        assigns ! (agg ! (and-then ! (load ! (from ! (stop !)) (look ! 52 refl)) (and-then ! (load ! (from ! (fld ! refl (stop !))) (look-in ! 96 (sub ! 1 refl (whole !)))) (no-more !)))) (from ! (stop !)) (init ! 50 refl (tt, (tt, (record { fits = room1 .0 }, tt)))) $
+        fsplit ! $ fsplit ! $ move ! (1 ∷ []) $ feqL ! (λ same4a. move ! (1 ∷ []) $ drop ! $ move ! (1 ∷ []) $ split ! $ move ! (1 ∷ []) $ feqL ! (λ i4. land ! (from ! (stop !)) (init ! 27 refl (subst (λ (t : Val). Trueᴮ (hasTy tyUnit t) × WT t) (sym (ap only i4)) (tt, tt))) $
+        tidy W (_ ∷ _ ∷ _ ∷ _ ∷ _ ∷ _ ∷ _ ∷ _ ∷ _ ∷ _ ∷ _ ∷ _ ∷ _ ∷ _ ∷ _ ∷ _ ∷ _ ∷ _ ∷ _ ∷ _ ∷ _ ∷ _ ∷ _ ∷ _ ∷ _ ∷ _ ∷ _ ∷ _ ∷ _ ∷ _ ∷ _ ∷ _ ∷ _ ∷ _ ∷ _ ∷ _ ∷ _ ∷ _ ∷ _ ∷ _ ∷ _ ∷ _ ∷ _ ∷ _ ∷ _ ∷ _ ∷ []) $ split ! $ move ! (1 ∷ []) $ split ! $ move ! (1 ∷ []) $ split ! $ move ! (1 ∷ []) $ split ! $ move ! (1 ∷ []) $ split ! $ move ! (1 ∷ []) $ split ! $ move ! (1 ∷ []) $ split ! $ move ! (1 ∷ []) $ drop ! $ move ! (6 ∷ []) $ lft-end ! tt $ move ! (0 ∷ 14 ∷ 7 ∷ []) $ use3 W (later (‵ (O2 (ws4 .0)) ⊛ ‵ (flft κ₁ q₁))) (backs2 (named 0) ν4a δ4a (ys2) (ws4 .0) (refl) room2 same4a) $ await ! tt $ split ! $
+        assigns ! (addr ! (from ! (fld ! refl (hop ! (look-in ! 48 (sub ! 0 refl (whole !))) (stop !))))) (from ! (stop !)) (init ! 29 refl (tt, tt)) $
+        assigns ! (agg ! (and-then ! (load ! (from ! (stop !)) (look ! 29 refl)) (and-then ! (load ! (from ! (fld ! refl (stop !))) (look-in ! 48 (sub ! 1 refl (whole !)))) (no-more !)))) (from ! (stop !)) (init ! 28 refl (tt, (tt, (record { fits = room2 .0 }, tt)))) $
+        assigns ! (addr ! (from ! (fld ! refl (hop ! (look-in ! 49 (sub ! 0 refl (whole !))) (stop !))))) (from ! (stop !)) (init ! 27 refl (tt, tt)) $
+        assigns ! (agg ! (and-then ! (load ! (from ! (stop !)) (look ! 27 refl)) (and-then ! (load ! (from ! (fld ! refl (stop !))) (look-in ! 49 (sub ! 1 refl (whole !)))) (no-more !)))) (from ! (stop !)) (init ! 26 refl (tt, (tt, (record { fits = room1 .0 }, tt)))) $
         lft-new ! tt (λ ν5b. move ! (1 ∷ 2 ∷ []) $ use2 W (later (some (λ (δ : GName). ‵ (MutSlice (named 0) (ν5b ∷ []) u64 .own (ref2 δ (ws4 .0)) (v2 ∷ [])) ⊛ ‵ (Lent2 ν5b δ (ws4 .0))))) (lends2 (named 0) ν5b (ws4 .0) (same4a)) $ await ! tt $ pick ! (λ δ5b. split ! $
-        lft-new ! tt (λ ν5c. move ! (51 ∷ 46 ∷ []) $ use2 W (later (some (λ (δ : GName). ‵ (MutSlice (named 1) (ν5c ∷ []) u64 .own (ref1 δ (ys1)) (v1 ∷ [])) ⊛ ‵ (Lent1 ν5c δ (ys1))))) (lends1 (named 1) ν5c (ys1) (refl)) $ await ! tt $ pick ! (λ δ5c. split ! $ nothing ! $ move ! (3 ∷ 0 ∷ []) $ join ! $ move ! (5 ∷ 0 ∷ []) $ join ! $ move ! (3 ∷ 1 ∷ []) $ join ! $ move ! (1 ∷ 0 ∷ []) $ join ! $
+        lft-new ! tt (λ ν5c. move ! (26 ∷ 22 ∷ []) $ use2 W (later (some (λ (δ : GName). ‵ (MutSlice (named 1) (ν5c ∷ []) u64 .own (ref1 δ (ys1)) (v1 ∷ [])) ⊛ ‵ (Lent1 ν5c δ (ys1))))) (lends1 (named 1) ν5c (ys1) (refl)) $ await ! tt $ pick ! (λ δ5c. split ! $ tidy W (_ ∷ _ ∷ _ ∷ _ ∷ _ ∷ _ ∷ _ ∷ _ ∷ _ ∷ _ ∷ _ ∷ _ ∷ _ ∷ _ ∷ _ ∷ _ ∷ _ ∷ _ ∷ _ ∷ _ ∷ _ ∷ _ ∷ _ ∷ _ ∷ _ ∷ _ ∷ _ ∷ _ ∷ _ ∷ _ ∷ _ ∷ _ ∷ _ ∷ _ ∷ _ ∷ _ ∷ _ ∷ _ ∷ _ ∷ _ ∷ _ ∷ _ ∷ _ ∷ _ ∷ _ ∷ _ ∷ _ ∷ _ ∷ _ ∷ _ ∷ _ ∷ _ ∷ _ ∷ []) $ nothing ! $ move ! (3 ∷ 0 ∷ []) $ join ! $ move ! (5 ∷ 0 ∷ []) $ join ! $ move ! (3 ∷ 1 ∷ []) $ join ! $ move ! (1 ∷ 0 ∷ []) $ join ! $
         -- call 5
         use1 W (raw (Callee-g4 𝓤 H A at-mem run .pre ((((ν5b ∷ []), ((ν5c ∷ []), tt)), (fullShare, (fullShare, tt)), tt, (n3, (ref2 δ5b (ws4 .0), (ref1 δ5c (ys1), tt))), (u3 ∷ [], (v2 ∷ [], (v1 ∷ [], tt)))), tt))) (qed W ((‵ (flft (ν5b ∷ []) fullShare) ⊛ ‵ (flft (ν5c ∷ []) fullShare) ⊛ ‵ ftrue) ∷ ‵ (MutSlice (named 0) (ν5b ∷ []) u64 .own (ref2 δ5b (ws4 .0)) (v2 ∷ [])) ∷ ‵ (MutSlice (named 1) (ν5c ∷ []) u64 .own (ref1 δ5c (ys1)) (v1 ∷ [])) ∷ []) ∵ nothing ! $ move ! (3 ∷ 0 ∷ []) $ fjoin ! $ move ! (2 ∷ 0 ∷ []) $ fjoin ! $ owned ! u64 (Is u64) (uint-makes 𝓤 H A W w64) (n3) _ w3 $ fjoin ! $ move ! (1 ∷ 0 ∷ []) $ join ! $ nothing ! $ move ! (1 ∷ 0 ∷ []) $ frame ! $ done !) $
-        calls-at ! fm (Callee-g4 𝓤 H A at-mem run) known-g4 ((((ν5b ∷ []), ((ν5c ∷ []), tt)), (fullShare, (fullShare, tt)), tt, (n3, (ref2 δ5b (ws4 .0), (ref1 δ5c (ys1), tt))), (u3 ∷ [], (v2 ∷ [], (v1 ∷ [], tt)))), tt) (and-then ! (load ! (from ! (stop !)) (look ! 91 refl)) (and-then ! (load ! (from ! (stop !)) (look ! 53 refl)) (and-then ! (load ! (from ! (stop !)) (look ! 49 refl)) (no-more !)))) (λ z5.
+        calls-at ! fm (Callee-g4 𝓤 H A at-mem run) known-g4 ((((ν5b ∷ []), ((ν5c ∷ []), tt)), (fullShare, (fullShare, tt)), tt, (n3, (ref2 δ5b (ws4 .0), (ref1 δ5c (ys1), tt))), (u3 ∷ [], (v2 ∷ [], (v1 ∷ [], tt)))), tt) (and-then ! (load ! (from ! (stop !)) (look ! 46 refl)) (and-then ! (load ! (from ! (stop !)) (look ! 27 refl)) (and-then ! (load ! (from ! (stop !)) (look ! 25 refl)) (no-more !)))) (λ z5.
         use1 W (later (some (λ (r5 : Unit {0}). ((‵ (flft (ν5b ∷ []) fullShare) ⊛ ‵ (flft (ν5c ∷ []) fullShare) ⊛ ‵ ftrue) ⊛ ‵ (unit .own r5 (z5 ∷ []))) ⊛ some (λ (ws : Lasts g4.ended ((ν5b ∷ []), ((ν5c ∷ []), tt)) (n3, (ref2 δ5b (ws4 .0), (ref1 δ5c (ys1), tt)))). ‵ (lasts g4.ended ((ν5b ∷ []), ((ν5c ∷ []), tt)) (n3, (ref2 δ5b (ws4 .0), (ref1 δ5c (ys1), tt))) ws) ⊛ raw (g4.clauses 𝓤 H A at-mem run ((ν5b ∷ []), ((ν5c ∷ []), tt)) (n3, (ref2 δ5b (ws4 .0), (ref1 δ5c (ys1), tt))) .ensures tt r5 (atExit g4.ended ((ν5b ∷ []), ((ν5c ∷ []), tt)) (n3, (ref2 δ5b (ws4 .0), (ref1 δ5c (ys1), tt))) ws)))))) (id⊢ 𝓤 _) $ await ! tt $ pick ! (λ r5. split ! $ move ! (1 ∷ []) $ pick ! (λ ws5. split ! $ move ! (1 ∷ []) $ heard ! _ (λ e5.
-        fsplit ! $ move ! (1 ∷ []) $ fsplit ! $ fsplit ! $ move ! (1 ∷ []) $ feqL ! (λ same5b. move ! (1 ∷ []) $ fsplit ! $ fsplit ! $ move ! (1 ∷ []) $ feqL ! (λ same5c. move ! (4 ∷ []) $ split ! $ move ! (1 ∷ []) $ feqL ! (λ i5. land ! (from ! (stop !)) (store ! 65 refl (subst (λ (t : Val). Trueᴮ (hasTy tyUnit t) × WT t) (sym (ap only i5)) (tt, tt))) $
-        split ! $ move ! (1 ∷ []) $ split ! $ move ! (1 ∷ []) $ move ! (2 ∷ []) $ lft-end ! tt $ move ! (0 ∷ 8 ∷ 5 ∷ []) $ use3 W (later (‵ (O2 (ws5 .1 .0)) ⊛ ‵ (flft κ₁ q₁))) (backs2 (named 0) ν5b δ5b (ws4 .0) (ws5 .1 .0) (same4a) room2 same5b) $ await ! tt $ split ! $
-        move ! (3 ∷ []) $ lft-end ! tt $ move ! (0 ∷ 7 ∷ 4 ∷ []) $ use3 W (later (‵ (O1 (ws5 .1 .1 .0)) ⊛ ‵ (flft κ₀ q₀))) (backs1 (named 1) ν5c δ5c (ys1) (ws5 .1 .1 .0) (refl) room1 same5c) $ await ! tt $ split ! $
-        assigns ! (of-opd ! (unit-lit !)) (from ! (stop !)) (init ! 101 refl (tt, tt)) $
-        returns ! (look ! 101 refl) $ forget ! 101 refl $ forget ! 99 refl $ forget ! 97 refl $ forget ! 95 refl $ forget ! 93 refl $ forget ! 91 refl $ forget ! 89 refl $ forget ! 87 refl $ forget ! 85 refl $ forget ! 83 refl $ forget ! 81 refl $ forget ! 79 refl $ forget ! 77 refl $ forget ! 75 refl $ forget ! 73 refl $ forget ! 71 refl $ forget ! 69 refl $ forget ! 67 refl $ forget ! 65 refl $ forget ! 63 refl $ forget ! 61 refl $ forget ! 59 refl $ forget ! 57 refl $ forget ! 55 refl $ forget ! 53 refl $
-        move ! (101 ∷ 102 ∷ []) $ free1 ! $ move ! (99 ∷ 100 ∷ []) $ free1 ! $ move ! (97 ∷ 98 ∷ []) $ free1 ! $ move ! (95 ∷ 96 ∷ []) $ free1 ! $ move ! (93 ∷ 94 ∷ []) $ free1 ! $ move ! (91 ∷ 92 ∷ []) $ free1 ! $ move ! (89 ∷ 90 ∷ []) $ free1 ! $ move ! (87 ∷ 88 ∷ []) $ free1 ! $ move ! (85 ∷ 86 ∷ []) $ free1 ! $ move ! (83 ∷ 84 ∷ []) $ free1 ! $ move ! (81 ∷ 82 ∷ []) $ free1 ! $ move ! (79 ∷ 80 ∷ []) $ free1 ! $ move ! (77 ∷ 78 ∷ []) $ free1 ! $ move ! (75 ∷ 76 ∷ []) $ free1 ! $ move ! (73 ∷ 74 ∷ []) $ free1 ! $ move ! (71 ∷ 72 ∷ []) $ free1 ! $ move ! (69 ∷ 70 ∷ []) $ free1 ! $ move ! (67 ∷ 68 ∷ []) $ free1 ! $ move ! (65 ∷ 66 ∷ []) $ free1 ! $ move ! (63 ∷ 64 ∷ []) $ free1 ! $ move ! (61 ∷ 62 ∷ []) $ free1 ! $ move ! (59 ∷ 60 ∷ []) $ free1 ! $ move ! (57 ∷ 58 ∷ []) $ free1 ! $ move ! (55 ∷ 56 ∷ []) $ free1 ! $ move ! (53 ∷ 54 ∷ []) $ free1 ! $ free0 ! $
+        fsplit ! $ drop ! $ fsplit ! $ fsplit ! $ move ! (1 ∷ []) $ feqL ! (λ same5b. move ! (1 ∷ []) $ fsplit ! $ fsplit ! $ move ! (1 ∷ []) $ feqL ! (λ same5c. move ! (1 ∷ []) $ drop ! $ move ! (2 ∷ []) $ split ! $ move ! (1 ∷ []) $ feqL ! (λ i5. land ! (from ! (stop !)) (store ! 33 refl (subst (λ (t : Val). Trueᴮ (hasTy tyUnit t) × WT t) (sym (ap only i5)) (tt, tt))) $
+        tidy W (_ ∷ _ ∷ _ ∷ _ ∷ _ ∷ _ ∷ _ ∷ _ ∷ _ ∷ _ ∷ _ ∷ _ ∷ _ ∷ _ ∷ _ ∷ _ ∷ _ ∷ _ ∷ _ ∷ _ ∷ _ ∷ _ ∷ _ ∷ _ ∷ _ ∷ _ ∷ _ ∷ _ ∷ _ ∷ _ ∷ _ ∷ _ ∷ _ ∷ _ ∷ _ ∷ _ ∷ _ ∷ _ ∷ _ ∷ _ ∷ _ ∷ _ ∷ _ ∷ _ ∷ _ ∷ _ ∷ _ ∷ _ ∷ _ ∷ _ ∷ _ ∷ _ ∷ []) $ split ! $ move ! (1 ∷ []) $ split ! $ move ! (1 ∷ []) $ drop ! $ move ! (1 ∷ []) $ lft-end ! tt $ move ! (0 ∷ 5 ∷ 3 ∷ []) $ use3 W (later (‵ (O2 (ws5 .1 .0)) ⊛ ‵ (flft κ₁ q₁))) (backs2 (named 0) ν5b δ5b (ws4 .0) (ws5 .1 .0) (same4a) room2 same5b) $ await ! tt $ split ! $
+        move ! (2 ∷ []) $ lft-end ! tt $ move ! (0 ∷ 4 ∷ 3 ∷ []) $ use3 W (later (‵ (O1 (ws5 .1 .1 .0)) ⊛ ‵ (flft κ₀ q₀))) (backs1 (named 1) ν5c δ5c (ys1) (ws5 .1 .1 .0) (refl) room1 same5c) $ await ! tt $ split ! $
+        assigns ! (of-opd ! (unit-lit !)) (from ! (stop !)) (init ! 50 refl (tt, tt)) $
+        tidy W (_ ∷ _ ∷ _ ∷ _ ∷ _ ∷ _ ∷ _ ∷ _ ∷ _ ∷ _ ∷ _ ∷ _ ∷ _ ∷ _ ∷ _ ∷ _ ∷ _ ∷ _ ∷ _ ∷ _ ∷ _ ∷ _ ∷ _ ∷ _ ∷ _ ∷ _ ∷ _ ∷ _ ∷ _ ∷ _ ∷ _ ∷ _ ∷ _ ∷ _ ∷ _ ∷ _ ∷ _ ∷ _ ∷ _ ∷ _ ∷ _ ∷ _ ∷ _ ∷ _ ∷ _ ∷ _ ∷ _ ∷ _ ∷ _ ∷ _ ∷ _ ∷ []) $ returns ! (look ! 50 refl) $ move ! (25 ∷ []) $ use1 W (dies ((tyUnit, l₀) ∷ (sliceTy (tyRef (named 0) mut (tyInt w64)), l₁) ∷ (sliceTy (tyRef (named 1) mut (tyInt w64)), l₂) ∷ (tyInt w64, l₃) ∷ (tyInt w64, l₄) ∷ (tyInt w64, l₅) ∷ (sliceTy (tyRef (named 2) imm (tyInt w64)), l₆) ∷ (sliceTy (tyRef (named 3) imm (tyInt w64)), l₇) ∷ (sliceTy (tyRef (named 4) imm (tyInt w64)), l₈) ∷ (sliceTy (tyRef (named 5) imm (pointee (mEntry.the-row .written))), l₉) ∷ (sliceTy (tyRef (named 6) imm (pointee (mEntry.the-row .written))), l₁₀) ∷ (sliceTy (tyRef (named 7) imm (pointee (mEntry.the-row .written))), l₁₁) ∷ (sliceTy (tyRef (named 8) imm (pointee (mEntry.the-row .written))), l₁₂) ∷ (sliceTy (tyRef (named 9) imm (pointee (mEntry.the-row .written))), l₁₃) ∷ (sliceTy (tyRef (named 10) imm (pointee (mEntry.the-row .written))), l₁₄) ∷ (tyArray (tyInt w64) 12, l₁₅) ∷ (tyArray (tyInt w64) 32, l₁₆) ∷ (tyArray (tyInt w64) 32, l₁₇) ∷ (tyUnit, l₁₈) ∷ (tyRef erased mut (tyInt w64), l₁₉) ∷ (sliceTy (tyRef erased mut (tyInt w64)), l₂₀) ∷ (tyRef erased mut (tyInt w64), l₂₁) ∷ (sliceTy (tyRef erased mut (tyInt w64)), l₂₂) ∷ (tyRef erased mut (tyInt w64), l₂₃) ∷ (sliceTy (tyRef erased mut (tyInt w64)), l₂₄) ∷ []) (‵ ftrue)) die $ free-all ! 25 ((tyUnit, l₀) ∷ (sliceTy (tyRef (named 0) mut (tyInt w64)), l₁) ∷ (sliceTy (tyRef (named 1) mut (tyInt w64)), l₂) ∷ (tyInt w64, l₃) ∷ (tyInt w64, l₄) ∷ (tyInt w64, l₅) ∷ (sliceTy (tyRef (named 2) imm (tyInt w64)), l₆) ∷ (sliceTy (tyRef (named 3) imm (tyInt w64)), l₇) ∷ (sliceTy (tyRef (named 4) imm (tyInt w64)), l₈) ∷ (sliceTy (tyRef (named 5) imm (pointee (mEntry.the-row .written))), l₉) ∷ (sliceTy (tyRef (named 6) imm (pointee (mEntry.the-row .written))), l₁₀) ∷ (sliceTy (tyRef (named 7) imm (pointee (mEntry.the-row .written))), l₁₁) ∷ (sliceTy (tyRef (named 8) imm (pointee (mEntry.the-row .written))), l₁₂) ∷ (sliceTy (tyRef (named 9) imm (pointee (mEntry.the-row .written))), l₁₃) ∷ (sliceTy (tyRef (named 10) imm (pointee (mEntry.the-row .written))), l₁₄) ∷ (tyArray (tyInt w64) 12, l₁₅) ∷ (tyArray (tyInt w64) 32, l₁₆) ∷ (tyArray (tyInt w64) 32, l₁₇) ∷ (tyUnit, l₁₈) ∷ (tyRef erased mut (tyInt w64), l₁₉) ∷ (sliceTy (tyRef erased mut (tyInt w64)), l₂₀) ∷ (tyRef erased mut (tyInt w64), l₂₁) ∷ (sliceTy (tyRef erased mut (tyInt w64)), l₂₂) ∷ (tyRef erased mut (tyInt w64), l₂₃) ∷ (sliceTy (tyRef erased mut (tyInt w64)), l₂₄) ∷ []) (kept _ ∷ kept _ ∷ kept _ ∷ kept _ ∷ kept _ ∷ kept _ ∷ kept _ ∷ kept _ ∷ kept _ ∷ kept _ ∷ kept _ ∷ kept _ ∷ kept _ ∷ kept _ ∷ kept _ ∷ kept _ ∷ kept _ ∷ kept _ ∷ kept _ ∷ kept _ ∷ kept _ ∷ kept _ ∷ kept _ ∷ kept _ ∷ kept _ ∷ []) refl $
         suffices ! _ (ends-at 𝓤 H A f.ended stayed (f.clauses 𝓤 H A at-mem run) W (((κ₀, (κ₁, (κ₂, (κ₃, (κ₄, (κ₅, (κ₆, (κ₇, (κ₈, (κ₉, (κ₁₀, tt))))))))))), (q₀, (q₁, (q₂, (q₃, (q₄, (q₅, (q₆, (q₇, (q₈, (q₉, (q₁₀, tt))))))))))), tt, a, at), tt) vunit tt (ws5 .1 .1 .0, (ws5 .1 .0, (tt, (tt, (tt, (tt, (tt, (tt, (tt, (tt, (tt, (tt, (tt, (tt, tt)))))))))))))) (same5c, (same5b ∙ same4a, (tt, (tt, (tt, (tt, (tt, (tt, (tt, (tt, (tt, (tt, (tt, (tt, tt))))))))))))))) $ says ! ((cc, cc)) $
-        nothing ! $ move ! (9 ∷ 0 ∷ []) $ join ! $ move ! (9 ∷ 0 ∷ []) $ join ! $ move ! (9 ∷ 0 ∷ []) $ join ! $ move ! (9 ∷ 0 ∷ []) $ join ! $ move ! (9 ∷ 0 ∷ []) $ join ! $ move ! (9 ∷ 0 ∷ []) $ join ! $ move ! (29 ∷ 0 ∷ []) $ join ! $ move ! (33 ∷ 0 ∷ []) $ join ! $ move ! (37 ∷ 0 ∷ []) $ join ! $ move ! (4 ∷ 0 ∷ []) $ join ! $ move ! (2 ∷ 0 ∷ []) $ join ! $ nothing ! $ move ! (21 ∷ 0 ∷ []) $ fjoin ! $ move ! (21 ∷ 0 ∷ []) $ fjoin ! $ move ! (21 ∷ 0 ∷ []) $ fjoin ! $ move ! (21 ∷ 0 ∷ []) $ fjoin ! $ move ! (21 ∷ 0 ∷ []) $ fjoin ! $ move ! (21 ∷ 0 ∷ []) $ fjoin ! $ move ! (24 ∷ 0 ∷ []) $ fjoin ! $ move ! (27 ∷ 0 ∷ []) $ fjoin ! $ move ! (30 ∷ 0 ∷ []) $ fjoin ! $ move ! (32 ∷ 0 ∷ []) $ fjoin ! $ move ! (32 ∷ 0 ∷ []) $ fjoin ! $ move ! (32 ∷ 0 ∷ []) $ fjoin ! $ move ! (3 ∷ 0 ∷ []) $ fjoin ! $ move ! (2 ∷ 0 ∷ []) $ fjoin ! $ keep ! (1 ∷ 0 ∷ []) $ frame ! $ feqI ! (List Val) (vunit ∷ []) (vunit ∷ []) refl $ move ! (1 ∷ 0 ∷ []) $ done !)))))))))))))))))))))))))))))))))))))))))))))))))))))))))))
+        nothing ! $ move ! (5 ∷ 0 ∷ []) $ join ! $ move ! (5 ∷ 0 ∷ []) $ join ! $ move ! (5 ∷ 0 ∷ []) $ join ! $ move ! (5 ∷ 0 ∷ []) $ join ! $ move ! (5 ∷ 0 ∷ []) $ join ! $ move ! (5 ∷ 0 ∷ []) $ join ! $ move ! (11 ∷ 0 ∷ []) $ join ! $ move ! (12 ∷ 0 ∷ []) $ join ! $ move ! (13 ∷ 0 ∷ []) $ join ! $ move ! (4 ∷ 0 ∷ []) $ join ! $ move ! (2 ∷ 0 ∷ []) $ join ! $ nothing ! $ move ! (4 ∷ 0 ∷ []) $ fjoin ! $ move ! (4 ∷ 0 ∷ []) $ fjoin ! $ move ! (4 ∷ 0 ∷ []) $ fjoin ! $ move ! (4 ∷ 0 ∷ []) $ fjoin ! $ move ! (4 ∷ 0 ∷ []) $ fjoin ! $ move ! (4 ∷ 0 ∷ []) $ fjoin ! $ move ! (4 ∷ 0 ∷ []) $ fjoin ! $ move ! (4 ∷ 0 ∷ []) $ fjoin ! $ move ! (4 ∷ 0 ∷ []) $ fjoin ! $ move ! (4 ∷ 0 ∷ []) $ fjoin ! $ move ! (4 ∷ 0 ∷ []) $ fjoin ! $ move ! (4 ∷ 0 ∷ []) $ fjoin ! $ move ! (3 ∷ 0 ∷ []) $ fjoin ! $ move ! (2 ∷ 0 ∷ []) $ fjoin ! $ keep ! (1 ∷ 0 ∷ []) $ frame ! $ feqI ! (List Val) (vunit ∷ []) (vunit ∷ []) refl $ move ! (1 ∷ 0 ∷ []) $ done !))))))))))))))))))))))))))))))))))))))))))))))))))))))))))))
 
 module _ {M : Type 1} (𝓤 : URA M) (H : Heap 𝓤) (A : Atoms 𝓤) (W : Given 𝓤 H A) (mem : Memory → SProp 𝓤) (run : Routine → Fun 𝓤) where
   walks : (C : Calls 𝓤 H) (Λ : Loops 𝓤 H) → FmC 𝓤 H (W .laws) C → Triple 𝓤 (C #g1) (Callee-g1 𝓤 H A mem run) → Triple 𝓤 (C #g2) (Callee-g2 𝓤 H A mem run) → Triple 𝓤 (C #g3) (Callee-g3 𝓤 H A mem run) → Triple 𝓤 (C #g4) (Callee-g4 𝓤 H A mem run) → Walks 𝓤 H A f.ended stayed (WpFn 𝓤 H C Λ code.function) (f.clauses 𝓤 H A mem run)

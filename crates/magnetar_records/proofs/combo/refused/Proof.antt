@@ -20,7 +20,7 @@ use contract.Monad.{Fun, fact}
 use contract.Running.{givenOf, tables, tablesOf}
 use types.Kit.{Given, ‵, raw, _⊛_, ⋆, some, later, _$_, _∵_, !, qed, by, move, keep, drop, use1, use2, use3, split, join, pick, fsplit, fsplit3, fjoin, fjoin3, feqL, feqI, rewrite, atRet, suffices, frame, await, done}
 use types.Part.{agg, whole, sub, look-in}
-use types.Run.{look, look-raw, init, store, store-raw, forget, stop, hop, fld, from, load, unit-lit, of-opd, addr, and-then, no-more, lit, true-lit, false-lit, assigns, assigns-last, land, land-last, first, branches, skips, exec, returns, enter, alloc1, alloc0, params1, pass1, pass0, free1, free0}
+use types.Run.{look, look-raw, init, store, store-raw, stop, hop, fld, from, load, unit-lit, of-opd, addr, and-then, no-more, lit, true-lit, false-lit, assigns, assigns-last, land, land-last, first, branches, skips, exec, returns, enter, alloc0, params1, pass1, pass0}
 use types.Tokens.{lft-new, lft-end}
 use sound.WpLaws.{FmC, fmOf, WpFn-mono}
 use denote.RattleType.{owns}
@@ -49,6 +49,7 @@ use Rattle.magnetar_records.proofs.ComboEnds.{combo-refused}
 use Rattle.magnetar_inplace.specs.declared.records.Entry.{Entry}
 use Rattle.magnetar_inplace.proofs.records.Entry as mEntry
 use Rattle.magnetar_inplace.proofs.records.Entry.Laws as lEntry
+use Rattle.magnetar_inplace.proofs.Locals.{tidy, bare, kept, dies, alloc, hide, free-all}
 use Rattle.magnetar_records.proofs.combo.all_six as g1
 use Rattle.magnetar_records.proofs.combo.all_six.Symbol as g1-def
 use Rattle.magnetar_records.proofs.combo.all_six.Symbol.{name as #g1}
@@ -199,33 +200,32 @@ module _ {M : Type 1} (𝓤 : URA M) (H : Heap 𝓤) (A : Atoms 𝓤) (W : Given
     walk : ent 𝓤 (onEntry 𝓤 H A f.signature (κ₀, (κ₁, (κ₂, (κ₃, (κ₄, (κ₅, (κ₆, (κ₇, (κ₈, tt))))))))) (q₀, (q₁, (q₂, (q₃, (q₄, (q₅, (q₆, (q₇, (q₈, tt))))))))) a at) (WpFn 𝓤 H C Λ code.function (v1 ∷ v2 ∷ v3 ∷ v4 ∷ v5 ∷ v6 ∷ v7 ∷ v8 ∷ v9 ∷ v10 ∷ v11 ∷ v12 ∷ v13 ∷ v14 ∷ v15 ∷ v16 ∷ v17 ∷ v18 ∷ v19 ∷ v20 ∷ v21 ∷ v22 ∷ v23 ∷ v24 ∷ []) Post)
     walk =
         qed W ((‵ (flft κ₀ q₀) ⊛ ‵ (flft κ₁ q₁) ⊛ ‵ (flft κ₂ q₂) ⊛ ‵ (flft κ₃ q₃) ⊛ ‵ (flft κ₄ q₄) ⊛ ‵ (flft κ₅ q₅) ⊛ ‵ (flft κ₆ q₆) ⊛ ‵ (flft κ₇ q₇) ⊛ ‵ (flft κ₈ q₈) ⊛ ‵ ftrue) ∷ ‵ (owns (u64 ∷ u64 ∷ u64 ∷ ShrSlice (named 0) κ₀ mEntry.the-row ∷ u64 ∷ u64 ∷ ShrSlice (named 1) κ₁ mEntry.the-row ∷ u64 ∷ u64 ∷ ShrSlice (named 2) κ₂ mEntry.the-row ∷ u64 ∷ u64 ∷ ShrSlice (named 3) κ₃ mEntry.the-row ∷ u64 ∷ u64 ∷ ShrSlice (named 4) κ₄ mEntry.the-row ∷ u64 ∷ u64 ∷ ShrSlice (named 5) κ₅ mEntry.the-row ∷ ShrSlice (named 6) κ₆ u64 ∷ ShrSlice (named 7) κ₇ u64 ∷ ShrSlice (named 8) κ₈ u64 ∷ u64 ∷ u64 ∷ []) a at) ∷ []) ∵ enter ! C Λ code.function (v1 ∷ v2 ∷ v3 ∷ v4 ∷ v5 ∷ v6 ∷ v7 ∷ v8 ∷ v9 ∷ v10 ∷ v11 ∷ v12 ∷ v13 ∷ v14 ∷ v15 ∷ v16 ∷ v17 ∷ v18 ∷ v19 ∷ v20 ∷ v21 ∷ v22 ∷ v23 ∷ v24 ∷ []) _ $
-        alloc1 ! (λ l₀. alloc1 ! (λ l₁. alloc1 ! (λ l₂. alloc1 ! (λ l₃. alloc1 ! (λ l₄. alloc1 ! (λ l₅. alloc1 ! (λ l₆. alloc1 ! (λ l₇. alloc1 ! (λ l₈. alloc1 ! (λ l₉. alloc1 ! (λ l₁₀. alloc1 ! (λ l₁₁. alloc1 ! (λ l₁₂. alloc1 ! (λ l₁₃. alloc1 ! (λ l₁₄. alloc1 ! (λ l₁₅. alloc1 ! (λ l₁₆. alloc1 ! (λ l₁₇. alloc1 ! (λ l₁₈. alloc1 ! (λ l₁₉. alloc1 ! (λ l₂₀. alloc1 ! (λ l₂₁. alloc1 ! (λ l₂₂. alloc1 ! (λ l₂₃. alloc1 ! (λ l₂₄. alloc1 ! (λ l₂₅. alloc1 ! (λ l₂₆. alloc1 ! (λ l₂₇. alloc1 ! (λ l₂₈. alloc1 ! (λ l₂₉. alloc1 ! (λ l₃₀. alloc1 ! (λ l₃₁. alloc1 ! (λ l₃₂. alloc1 ! (λ l₃₃. alloc1 ! (λ l₃₄. alloc0 ! $ params1 ! $ pass1 ! (init ! 66 refl (uint-lawful 𝓤 H A W w64 .typed n1 _ w1 .0)) $ pass1 ! (init ! 64 refl (uint-lawful 𝓤 H A W w64 .typed n2 _ w2 .0)) $ pass1 ! (init ! 62 refl (uint-lawful 𝓤 H A W w64 .typed n3 _ w3 .0)) $ pass1 ! (init ! 60 refl (shr-slice-lawful 𝓤 H A W (named 0) κ₀ mEntry.the-row .typed s4 (v4 ∷ []) w4 .0)) $ pass1 ! (init ! 58 refl (uint-lawful 𝓤 H A W w64 .typed n5 _ w5 .0)) $ pass1 ! (init ! 56 refl (uint-lawful 𝓤 H A W w64 .typed n6 _ w6 .0)) $ pass1 ! (init ! 54 refl (shr-slice-lawful 𝓤 H A W (named 1) κ₁ mEntry.the-row .typed s7 (v7 ∷ []) w7 .0)) $ pass1 ! (init ! 52 refl (uint-lawful 𝓤 H A W w64 .typed n8 _ w8 .0)) $ pass1 ! (init ! 50 refl (uint-lawful 𝓤 H A W w64 .typed n9 _ w9 .0)) $ pass1 ! (init ! 48 refl (shr-slice-lawful 𝓤 H A W (named 2) κ₂ mEntry.the-row .typed s10 (v10 ∷ []) w10 .0)) $ pass1 ! (init ! 46 refl (uint-lawful 𝓤 H A W w64 .typed n11 _ w11 .0)) $ pass1 ! (init ! 44 refl (uint-lawful 𝓤 H A W w64 .typed n12 _ w12 .0)) $ pass1 ! (init ! 42 refl (shr-slice-lawful 𝓤 H A W (named 3) κ₃ mEntry.the-row .typed s13 (v13 ∷ []) w13 .0)) $ pass1 ! (init ! 40 refl (uint-lawful 𝓤 H A W w64 .typed n14 _ w14 .0)) $ pass1 ! (init ! 38 refl (uint-lawful 𝓤 H A W w64 .typed n15 _ w15 .0)) $ pass1 ! (init ! 36 refl (shr-slice-lawful 𝓤 H A W (named 4) κ₄ mEntry.the-row .typed s16 (v16 ∷ []) w16 .0)) $ pass1 ! (init ! 34 refl (uint-lawful 𝓤 H A W w64 .typed n17 _ w17 .0)) $ pass1 ! (init ! 32 refl (uint-lawful 𝓤 H A W w64 .typed n18 _ w18 .0)) $ pass1 ! (init ! 30 refl (shr-slice-lawful 𝓤 H A W (named 5) κ₅ mEntry.the-row .typed s19 (v19 ∷ []) w19 .0)) $ pass1 ! (init ! 28 refl (shr-slice-lawful 𝓤 H A W (named 6) κ₆ u64 .typed s20 (v20 ∷ []) w20 .0)) $ pass1 ! (init ! 26 refl (shr-slice-lawful 𝓤 H A W (named 7) κ₇ u64 .typed s21 (v21 ∷ []) w21 .0)) $ pass1 ! (init ! 24 refl (shr-slice-lawful 𝓤 H A W (named 8) κ₈ u64 .typed s22 (v22 ∷ []) w22 .0)) $ pass1 ! (init ! 22 refl (uint-lawful 𝓤 H A W w64 .typed n23 _ w23 .0)) $ pass1 ! (init ! 20 refl (uint-lawful 𝓤 H A W w64 .typed n24 _ w24 .0)) $ pass0 ! $
-        move ! (71 ∷ []) $ fsplit ! $ move ! (1 ∷ []) $ fsplit ! $ move ! (1 ∷ []) $ fsplit ! $ move ! (1 ∷ []) $ fsplit ! $ move ! (1 ∷ []) $ fsplit ! $ move ! (1 ∷ []) $ fsplit ! $ move ! (1 ∷ []) $ fsplit ! $ move ! (1 ∷ []) $ fsplit ! $ move ! (1 ∷ []) $ fsplit ! $ move ! (1 ∷ []) $ fsplit ! $ move ! (1 ∷ []) $ fsplit ! $ move ! (1 ∷ []) $ fsplit ! $ move ! (1 ∷ []) $ fsplit ! $ move ! (1 ∷ []) $ fsplit ! $ move ! (1 ∷ []) $ fsplit ! $ move ! (1 ∷ []) $ fsplit ! $ move ! (1 ∷ []) $ fsplit ! $ move ! (1 ∷ []) $ fsplit ! $ move ! (1 ∷ []) $ fsplit ! $ move ! (1 ∷ []) $ fsplit ! $ move ! (1 ∷ []) $ fsplit ! $ move ! (1 ∷ []) $ fsplit ! $ move ! (1 ∷ []) $ fsplit ! $ move ! (1 ∷ []) $ fsplit ! $ move ! (1 ∷ []) $ move ! (95 ∷ []) $ split ! $ move ! (1 ∷ []) $ split ! $ move ! (1 ∷ []) $ split ! $ move ! (1 ∷ []) $ split ! $ move ! (1 ∷ []) $ split ! $ move ! (1 ∷ []) $ split ! $ move ! (1 ∷ []) $ split ! $ move ! (1 ∷ []) $ split ! $ move ! (1 ∷ []) $ split ! $ move ! (1 ∷ []) $
-        move ! (31 ∷ []) $ use1 W (‵ (O4) ⊛ ‵ (O4)) (shr-slice-copy 𝓤 H A W (named 0) κ₀ mEntry.the-row .twice s4 (v4 ∷ [])) $ split ! $ move ! (30 ∷ []) $ use1 W (‵ (O7) ⊛ ‵ (O7)) (shr-slice-copy 𝓤 H A W (named 1) κ₁ mEntry.the-row .twice s7 (v7 ∷ [])) $ split ! $ move ! (29 ∷ []) $ use1 W (‵ (O10) ⊛ ‵ (O10)) (shr-slice-copy 𝓤 H A W (named 2) κ₂ mEntry.the-row .twice s10 (v10 ∷ [])) $ split ! $ move ! (28 ∷ []) $ use1 W (‵ (O13) ⊛ ‵ (O13)) (shr-slice-copy 𝓤 H A W (named 3) κ₃ mEntry.the-row .twice s13 (v13 ∷ [])) $ split ! $ move ! (27 ∷ []) $ use1 W (‵ (O16) ⊛ ‵ (O16)) (shr-slice-copy 𝓤 H A W (named 4) κ₄ mEntry.the-row .twice s16 (v16 ∷ [])) $ split ! $ move ! (26 ∷ []) $ use1 W (‵ (O19) ⊛ ‵ (O19)) (shr-slice-copy 𝓤 H A W (named 5) κ₅ mEntry.the-row .twice s19 (v19 ∷ [])) $ split ! $ nothing ! $ move ! (17 ∷ 0 ∷ []) $ join ! $ move ! (17 ∷ 0 ∷ []) $ join ! $ move ! (17 ∷ 0 ∷ []) $ join ! $ move ! (17 ∷ 0 ∷ []) $ join ! $ move ! (17 ∷ 0 ∷ []) $ join ! $ move ! (17 ∷ 0 ∷ []) $ join ! $ move ! (3 ∷ 1 ∷ []) $ join ! $ move ! (4 ∷ 0 ∷ []) $ join ! $ move ! (5 ∷ 0 ∷ []) $ join ! $ move ! (6 ∷ 0 ∷ []) $ join ! $ move ! (7 ∷ 0 ∷ []) $ join ! $ move ! (1 ∷ 0 ∷ []) $ join ! $
+        nothing ! $ alloc ! (λ l₀. alloc ! (λ l₁. alloc ! (λ l₂. alloc ! (λ l₃. alloc ! (λ l₄. alloc ! (λ l₅. alloc ! (λ l₆. alloc ! (λ l₇. alloc ! (λ l₈. alloc ! (λ l₉. alloc ! (λ l₁₀. alloc ! (λ l₁₁. alloc ! (λ l₁₂. alloc ! (λ l₁₃. alloc ! (λ l₁₄. alloc ! (λ l₁₅. alloc ! (λ l₁₆. alloc ! (λ l₁₇. alloc ! (λ l₁₈. alloc ! (λ l₁₉. alloc ! (λ l₂₀. alloc ! (λ l₂₁. alloc ! (λ l₂₂. alloc ! (λ l₂₃. alloc ! (λ l₂₄. alloc ! (λ l₂₅. alloc ! (λ l₂₆. alloc ! (λ l₂₇. alloc ! (λ l₂₈. alloc ! (λ l₂₉. alloc ! (λ l₃₀. alloc ! (λ l₃₁. alloc ! (λ l₃₂. alloc ! (λ l₃₃. alloc ! (λ l₃₄. alloc0 ! $ hide ! (λ died die. params1 ! $ pass1 ! (init ! 34 refl (uint-lawful 𝓤 H A W w64 .typed n1 _ w1 .0)) $ pass1 ! (init ! 33 refl (uint-lawful 𝓤 H A W w64 .typed n2 _ w2 .0)) $ pass1 ! (init ! 32 refl (uint-lawful 𝓤 H A W w64 .typed n3 _ w3 .0)) $ pass1 ! (init ! 31 refl (shr-slice-lawful 𝓤 H A W (named 0) κ₀ mEntry.the-row .typed s4 (v4 ∷ []) w4 .0)) $ pass1 ! (init ! 30 refl (uint-lawful 𝓤 H A W w64 .typed n5 _ w5 .0)) $ pass1 ! (init ! 29 refl (uint-lawful 𝓤 H A W w64 .typed n6 _ w6 .0)) $ pass1 ! (init ! 28 refl (shr-slice-lawful 𝓤 H A W (named 1) κ₁ mEntry.the-row .typed s7 (v7 ∷ []) w7 .0)) $ pass1 ! (init ! 27 refl (uint-lawful 𝓤 H A W w64 .typed n8 _ w8 .0)) $ pass1 ! (init ! 26 refl (uint-lawful 𝓤 H A W w64 .typed n9 _ w9 .0)) $ pass1 ! (init ! 25 refl (shr-slice-lawful 𝓤 H A W (named 2) κ₂ mEntry.the-row .typed s10 (v10 ∷ []) w10 .0)) $ pass1 ! (init ! 24 refl (uint-lawful 𝓤 H A W w64 .typed n11 _ w11 .0)) $ pass1 ! (init ! 23 refl (uint-lawful 𝓤 H A W w64 .typed n12 _ w12 .0)) $ pass1 ! (init ! 22 refl (shr-slice-lawful 𝓤 H A W (named 3) κ₃ mEntry.the-row .typed s13 (v13 ∷ []) w13 .0)) $ pass1 ! (init ! 21 refl (uint-lawful 𝓤 H A W w64 .typed n14 _ w14 .0)) $ pass1 ! (init ! 20 refl (uint-lawful 𝓤 H A W w64 .typed n15 _ w15 .0)) $ pass1 ! (init ! 19 refl (shr-slice-lawful 𝓤 H A W (named 4) κ₄ mEntry.the-row .typed s16 (v16 ∷ []) w16 .0)) $ pass1 ! (init ! 18 refl (uint-lawful 𝓤 H A W w64 .typed n17 _ w17 .0)) $ pass1 ! (init ! 17 refl (uint-lawful 𝓤 H A W w64 .typed n18 _ w18 .0)) $ pass1 ! (init ! 16 refl (shr-slice-lawful 𝓤 H A W (named 5) κ₅ mEntry.the-row .typed s19 (v19 ∷ []) w19 .0)) $ pass1 ! (init ! 15 refl (shr-slice-lawful 𝓤 H A W (named 6) κ₆ u64 .typed s20 (v20 ∷ []) w20 .0)) $ pass1 ! (init ! 14 refl (shr-slice-lawful 𝓤 H A W (named 7) κ₇ u64 .typed s21 (v21 ∷ []) w21 .0)) $ pass1 ! (init ! 13 refl (shr-slice-lawful 𝓤 H A W (named 8) κ₈ u64 .typed s22 (v22 ∷ []) w22 .0)) $ pass1 ! (init ! 12 refl (uint-lawful 𝓤 H A W w64 .typed n23 _ w23 .0)) $ pass1 ! (init ! 11 refl (uint-lawful 𝓤 H A W w64 .typed n24 _ w24 .0)) $ pass0 ! $
+        move ! (37 ∷ []) $ fsplit ! $ move ! (1 ∷ []) $ fsplit ! $ move ! (1 ∷ []) $ fsplit ! $ move ! (1 ∷ []) $ fsplit ! $ move ! (1 ∷ []) $ fsplit ! $ move ! (1 ∷ []) $ fsplit ! $ move ! (1 ∷ []) $ fsplit ! $ move ! (1 ∷ []) $ fsplit ! $ move ! (1 ∷ []) $ fsplit ! $ move ! (1 ∷ []) $ fsplit ! $ move ! (1 ∷ []) $ fsplit ! $ move ! (1 ∷ []) $ fsplit ! $ move ! (1 ∷ []) $ fsplit ! $ move ! (1 ∷ []) $ fsplit ! $ move ! (1 ∷ []) $ fsplit ! $ move ! (1 ∷ []) $ fsplit ! $ move ! (1 ∷ []) $ fsplit ! $ move ! (1 ∷ []) $ fsplit ! $ move ! (1 ∷ []) $ fsplit ! $ move ! (1 ∷ []) $ fsplit ! $ move ! (1 ∷ []) $ fsplit ! $ move ! (1 ∷ []) $ fsplit ! $ move ! (1 ∷ []) $ fsplit ! $ move ! (1 ∷ []) $ fsplit ! $ move ! (1 ∷ []) $ drop ! $ move ! (60 ∷ []) $ split ! $ move ! (1 ∷ []) $ split ! $ move ! (1 ∷ []) $ split ! $ move ! (1 ∷ []) $ split ! $ move ! (1 ∷ []) $ split ! $ move ! (1 ∷ []) $ split ! $ move ! (1 ∷ []) $ split ! $ move ! (1 ∷ []) $ split ! $ move ! (1 ∷ []) $ split ! $ move ! (1 ∷ []) $ drop ! $ tidy W (_ ∷ _ ∷ _ ∷ _ ∷ _ ∷ _ ∷ _ ∷ _ ∷ _ ∷ _ ∷ _ ∷ _ ∷ _ ∷ _ ∷ _ ∷ _ ∷ _ ∷ _ ∷ _ ∷ _ ∷ _ ∷ _ ∷ _ ∷ _ ∷ _ ∷ _ ∷ _ ∷ _ ∷ _ ∷ _ ∷ _ ∷ _ ∷ _ ∷ _ ∷ _ ∷ _ ∷ _ ∷ _ ∷ _ ∷ _ ∷ _ ∷ _ ∷ _ ∷ _ ∷ _ ∷ _ ∷ _ ∷ _ ∷ _ ∷ _ ∷ _ ∷ _ ∷ _ ∷ _ ∷ _ ∷ _ ∷ _ ∷ _ ∷ _ ∷ _ ∷ _ ∷ _ ∷ _ ∷ _ ∷ _ ∷ _ ∷ _ ∷ _ ∷ _ ∷ []) $
+        move ! (29 ∷ []) $ use1 W (‵ (O4) ⊛ ‵ (O4)) (shr-slice-copy 𝓤 H A W (named 0) κ₀ mEntry.the-row .twice s4 (v4 ∷ [])) $ split ! $ move ! (28 ∷ []) $ use1 W (‵ (O7) ⊛ ‵ (O7)) (shr-slice-copy 𝓤 H A W (named 1) κ₁ mEntry.the-row .twice s7 (v7 ∷ [])) $ split ! $ move ! (27 ∷ []) $ use1 W (‵ (O10) ⊛ ‵ (O10)) (shr-slice-copy 𝓤 H A W (named 2) κ₂ mEntry.the-row .twice s10 (v10 ∷ [])) $ split ! $ move ! (26 ∷ []) $ use1 W (‵ (O13) ⊛ ‵ (O13)) (shr-slice-copy 𝓤 H A W (named 3) κ₃ mEntry.the-row .twice s13 (v13 ∷ [])) $ split ! $ move ! (25 ∷ []) $ use1 W (‵ (O16) ⊛ ‵ (O16)) (shr-slice-copy 𝓤 H A W (named 4) κ₄ mEntry.the-row .twice s16 (v16 ∷ [])) $ split ! $ move ! (24 ∷ []) $ use1 W (‵ (O19) ⊛ ‵ (O19)) (shr-slice-copy 𝓤 H A W (named 5) κ₅ mEntry.the-row .twice s19 (v19 ∷ [])) $ split ! $ tidy W (_ ∷ _ ∷ _ ∷ _ ∷ _ ∷ _ ∷ _ ∷ _ ∷ _ ∷ _ ∷ _ ∷ _ ∷ _ ∷ _ ∷ _ ∷ _ ∷ _ ∷ _ ∷ _ ∷ _ ∷ _ ∷ _ ∷ _ ∷ _ ∷ _ ∷ _ ∷ _ ∷ _ ∷ _ ∷ _ ∷ _ ∷ _ ∷ _ ∷ _ ∷ _ ∷ _ ∷ _ ∷ _ ∷ _ ∷ _ ∷ _ ∷ _ ∷ _ ∷ _ ∷ _ ∷ _ ∷ _ ∷ _ ∷ _ ∷ _ ∷ _ ∷ _ ∷ _ ∷ _ ∷ _ ∷ _ ∷ _ ∷ _ ∷ _ ∷ _ ∷ _ ∷ _ ∷ _ ∷ _ ∷ _ ∷ _ ∷ _ ∷ _ ∷ _ ∷ _ ∷ _ ∷ _ ∷ _ ∷ _ ∷ _ ∷ []) $ nothing ! $ move ! (16 ∷ 0 ∷ []) $ join ! $ move ! (16 ∷ 0 ∷ []) $ join ! $ move ! (16 ∷ 0 ∷ []) $ join ! $ move ! (16 ∷ 0 ∷ []) $ join ! $ move ! (16 ∷ 0 ∷ []) $ join ! $ move ! (16 ∷ 0 ∷ []) $ join ! $ move ! (3 ∷ 1 ∷ []) $ join ! $ move ! (4 ∷ 0 ∷ []) $ join ! $ move ! (5 ∷ 0 ∷ []) $ join ! $ move ! (6 ∷ 0 ∷ []) $ join ! $ move ! (7 ∷ 0 ∷ []) $ join ! $ move ! (1 ∷ 0 ∷ []) $ join ! $
         -- call 1
         use1 W (raw (Callee-g1 𝓤 H A at-mem run .pre (((κ₀, (κ₁, (κ₂, (κ₃, (κ₄, (κ₅, tt)))))), (q₀, (q₁, (q₂, (q₃, (q₄, (q₅, tt)))))), tt, (n2, (n3, (s4, (n5, (n6, (s7, (n8, (n9, (s10, (n11, (n12, (s13, (n14, (n15, (s16, (n17, (n18, (s19, tt)))))))))))))))))), (u2 ∷ [], (u3 ∷ [], (v4 ∷ [], (u5 ∷ [], (u6 ∷ [], (v7 ∷ [], (u8 ∷ [], (u9 ∷ [], (v10 ∷ [], (u11 ∷ [], (u12 ∷ [], (v13 ∷ [], (u14 ∷ [], (u15 ∷ [], (v16 ∷ [], (u17 ∷ [], (u18 ∷ [], (v19 ∷ [], tt))))))))))))))))))), tt))) (qed W ((‵ (flft κ₀ q₀) ⊛ ‵ (flft κ₁ q₁) ⊛ ‵ (flft κ₂ q₂) ⊛ ‵ (flft κ₃ q₃) ⊛ ‵ (flft κ₄ q₄) ⊛ ‵ (flft κ₅ q₅) ⊛ ‵ ftrue) ∷ ‵ (ShrSlice (named 0) κ₀ mEntry.the-row .own s4 (v4 ∷ [])) ∷ ‵ (ShrSlice (named 1) κ₁ mEntry.the-row .own s7 (v7 ∷ [])) ∷ ‵ (ShrSlice (named 2) κ₂ mEntry.the-row .own s10 (v10 ∷ [])) ∷ ‵ (ShrSlice (named 3) κ₃ mEntry.the-row .own s13 (v13 ∷ [])) ∷ ‵ (ShrSlice (named 4) κ₄ mEntry.the-row .own s16 (v16 ∷ [])) ∷ ‵ (ShrSlice (named 5) κ₅ mEntry.the-row .own s19 (v19 ∷ [])) ∷ []) ∵ nothing ! $ move ! (7 ∷ 0 ∷ []) $ fjoin ! $ owned ! u64 (Is u64) (uint-makes 𝓤 H A W w64) (n18) _ w18 $ fjoin ! $ owned ! u64 (Is u64) (uint-makes 𝓤 H A W w64) (n17) _ w17 $ fjoin ! $ move ! (6 ∷ 0 ∷ []) $ fjoin ! $ owned ! u64 (Is u64) (uint-makes 𝓤 H A W w64) (n15) _ w15 $ fjoin ! $ owned ! u64 (Is u64) (uint-makes 𝓤 H A W w64) (n14) _ w14 $ fjoin ! $ move ! (5 ∷ 0 ∷ []) $ fjoin ! $ owned ! u64 (Is u64) (uint-makes 𝓤 H A W w64) (n12) _ w12 $ fjoin ! $ owned ! u64 (Is u64) (uint-makes 𝓤 H A W w64) (n11) _ w11 $ fjoin ! $ move ! (4 ∷ 0 ∷ []) $ fjoin ! $ owned ! u64 (Is u64) (uint-makes 𝓤 H A W w64) (n9) _ w9 $ fjoin ! $ owned ! u64 (Is u64) (uint-makes 𝓤 H A W w64) (n8) _ w8 $ fjoin ! $ move ! (3 ∷ 0 ∷ []) $ fjoin ! $ owned ! u64 (Is u64) (uint-makes 𝓤 H A W w64) (n6) _ w6 $ fjoin ! $ owned ! u64 (Is u64) (uint-makes 𝓤 H A W w64) (n5) _ w5 $ fjoin ! $ move ! (2 ∷ 0 ∷ []) $ fjoin ! $ owned ! u64 (Is u64) (uint-makes 𝓤 H A W w64) (n3) _ w3 $ fjoin ! $ owned ! u64 (Is u64) (uint-makes 𝓤 H A W w64) (n2) _ w2 $ fjoin ! $ move ! (1 ∷ 0 ∷ []) $ join ! $ nothing ! $ move ! (1 ∷ 0 ∷ []) $ frame ! $ done !) $
-        calls-at ! fm (Callee-g1 𝓤 H A at-mem run) known-g1 (((κ₀, (κ₁, (κ₂, (κ₃, (κ₄, (κ₅, tt)))))), (q₀, (q₁, (q₂, (q₃, (q₄, (q₅, tt)))))), tt, (n2, (n3, (s4, (n5, (n6, (s7, (n8, (n9, (s10, (n11, (n12, (s13, (n14, (n15, (s16, (n17, (n18, (s19, tt)))))))))))))))))), (u2 ∷ [], (u3 ∷ [], (v4 ∷ [], (u5 ∷ [], (u6 ∷ [], (v7 ∷ [], (u8 ∷ [], (u9 ∷ [], (v10 ∷ [], (u11 ∷ [], (u12 ∷ [], (v13 ∷ [], (u14 ∷ [], (u15 ∷ [], (v16 ∷ [], (u17 ∷ [], (u18 ∷ [], (v19 ∷ [], tt))))))))))))))))))), tt) (and-then ! (load ! (from ! (stop !)) (look ! 94 refl)) (and-then ! (load ! (from ! (stop !)) (look ! 92 refl)) (and-then ! (load ! (from ! (stop !)) (look ! 90 refl)) (and-then ! (load ! (from ! (stop !)) (look ! 88 refl)) (and-then ! (load ! (from ! (stop !)) (look ! 86 refl)) (and-then ! (load ! (from ! (stop !)) (look ! 84 refl)) (and-then ! (load ! (from ! (stop !)) (look ! 82 refl)) (and-then ! (load ! (from ! (stop !)) (look ! 80 refl)) (and-then ! (load ! (from ! (stop !)) (look ! 78 refl)) (and-then ! (load ! (from ! (stop !)) (look ! 76 refl)) (and-then ! (load ! (from ! (stop !)) (look ! 74 refl)) (and-then ! (load ! (from ! (stop !)) (look ! 72 refl)) (and-then ! (load ! (from ! (stop !)) (look ! 70 refl)) (and-then ! (load ! (from ! (stop !)) (look ! 68 refl)) (and-then ! (load ! (from ! (stop !)) (look ! 66 refl)) (and-then ! (load ! (from ! (stop !)) (look ! 64 refl)) (and-then ! (load ! (from ! (stop !)) (look ! 62 refl)) (and-then ! (load ! (from ! (stop !)) (look ! 60 refl)) (no-more !))))))))))))))))))) (λ z1.
+        calls-at ! fm (Callee-g1 𝓤 H A at-mem run) known-g1 (((κ₀, (κ₁, (κ₂, (κ₃, (κ₄, (κ₅, tt)))))), (q₀, (q₁, (q₂, (q₃, (q₄, (q₅, tt)))))), tt, (n2, (n3, (s4, (n5, (n6, (s7, (n8, (n9, (s10, (n11, (n12, (s13, (n14, (n15, (s16, (n17, (n18, (s19, tt)))))))))))))))))), (u2 ∷ [], (u3 ∷ [], (v4 ∷ [], (u5 ∷ [], (u6 ∷ [], (v7 ∷ [], (u8 ∷ [], (u9 ∷ [], (v10 ∷ [], (u11 ∷ [], (u12 ∷ [], (v13 ∷ [], (u14 ∷ [], (u15 ∷ [], (v16 ∷ [], (u17 ∷ [], (u18 ∷ [], (v19 ∷ [], tt))))))))))))))))))), tt) (and-then ! (load ! (from ! (stop !)) (look ! 61 refl)) (and-then ! (load ! (from ! (stop !)) (look ! 60 refl)) (and-then ! (load ! (from ! (stop !)) (look ! 59 refl)) (and-then ! (load ! (from ! (stop !)) (look ! 58 refl)) (and-then ! (load ! (from ! (stop !)) (look ! 57 refl)) (and-then ! (load ! (from ! (stop !)) (look ! 56 refl)) (and-then ! (load ! (from ! (stop !)) (look ! 55 refl)) (and-then ! (load ! (from ! (stop !)) (look ! 54 refl)) (and-then ! (load ! (from ! (stop !)) (look ! 53 refl)) (and-then ! (load ! (from ! (stop !)) (look ! 52 refl)) (and-then ! (load ! (from ! (stop !)) (look ! 51 refl)) (and-then ! (load ! (from ! (stop !)) (look ! 50 refl)) (and-then ! (load ! (from ! (stop !)) (look ! 49 refl)) (and-then ! (load ! (from ! (stop !)) (look ! 48 refl)) (and-then ! (load ! (from ! (stop !)) (look ! 47 refl)) (and-then ! (load ! (from ! (stop !)) (look ! 46 refl)) (and-then ! (load ! (from ! (stop !)) (look ! 45 refl)) (and-then ! (load ! (from ! (stop !)) (look ! 44 refl)) (no-more !))))))))))))))))))) (λ z1.
         use1 W (later (some (λ (r1 : Bool). ((‵ (flft κ₀ q₀) ⊛ ‵ (flft κ₁ q₁) ⊛ ‵ (flft κ₂ q₂) ⊛ ‵ (flft κ₃ q₃) ⊛ ‵ (flft κ₄ q₄) ⊛ ‵ (flft κ₅ q₅) ⊛ ‵ ftrue) ⊛ ‵ (bool .own r1 (z1 ∷ []))) ⊛ some (λ (ws : Lasts g1.ended (κ₀, (κ₁, (κ₂, (κ₃, (κ₄, (κ₅, tt)))))) (n2, (n3, (s4, (n5, (n6, (s7, (n8, (n9, (s10, (n11, (n12, (s13, (n14, (n15, (s16, (n17, (n18, (s19, tt))))))))))))))))))). ‵ (lasts g1.ended (κ₀, (κ₁, (κ₂, (κ₃, (κ₄, (κ₅, tt)))))) (n2, (n3, (s4, (n5, (n6, (s7, (n8, (n9, (s10, (n11, (n12, (s13, (n14, (n15, (s16, (n17, (n18, (s19, tt)))))))))))))))))) ws) ⊛ raw (g1.clauses 𝓤 H A at-mem run (κ₀, (κ₁, (κ₂, (κ₃, (κ₄, (κ₅, tt)))))) (n2, (n3, (s4, (n5, (n6, (s7, (n8, (n9, (s10, (n11, (n12, (s13, (n14, (n15, (s16, (n17, (n18, (s19, tt)))))))))))))))))) .ensures tt r1 (atExit g1.ended (κ₀, (κ₁, (κ₂, (κ₃, (κ₄, (κ₅, tt)))))) (n2, (n3, (s4, (n5, (n6, (s7, (n8, (n9, (s10, (n11, (n12, (s13, (n14, (n15, (s16, (n17, (n18, (s19, tt)))))))))))))))))) ws)))))) (id⊢ 𝓤 _) $ await ! tt $ pick ! (λ r1. split ! $ move ! (1 ∷ []) $ pick ! (λ ws1. split ! $ move ! (1 ∷ []) $ heard ! _ (λ e1.
-        fsplit ! $ move ! (1 ∷ []) $ fsplit ! $ move ! (1 ∷ []) $ fsplit ! $ move ! (1 ∷ []) $ fsplit ! $ move ! (1 ∷ []) $ fsplit ! $ move ! (1 ∷ []) $ fsplit ! $ move ! (1 ∷ []) $ fsplit ! $ move ! (1 ∷ []) $ fsplit ! $ move ! (1 ∷ []) $ fsplit ! $ move ! (1 ∷ []) $ fsplit ! $ move ! (1 ∷ []) $ fsplit ! $ move ! (1 ∷ []) $ fsplit ! $ move ! (1 ∷ []) $ fsplit ! $ move ! (1 ∷ []) $ fsplit ! $ move ! (1 ∷ []) $ fsplit ! $ move ! (1 ∷ []) $ fsplit ! $ move ! (1 ∷ []) $ fsplit ! $ move ! (1 ∷ []) $ fsplit ! $ move ! (19 ∷ []) $ split ! $ move ! (1 ∷ []) $ peeks ! bool (Is bool) (shows 𝓤 H A bool) r1 (z1 ∷ []) (λ i1. drop ! $ land ! (from ! (stop !)) (init ! 67 refl (bool-lawful 𝓤 H A W .typed r1 _ i1 .0)) $
-        split ! $ move ! (1 ∷ []) $ split ! $ move ! (1 ∷ []) $ split ! $ move ! (1 ∷ []) $ split ! $ move ! (1 ∷ []) $ split ! $ move ! (1 ∷ []) $ split ! $ move ! (1 ∷ []) $ assigns ! (of-opd ! (load ! (from ! (fld ! refl (stop !))) (look-in ! 115 (sub ! 1 refl (whole !))))) (from ! (stop !)) (init ! 71 refl (tt, record { fits = (w4 .0 .1 .0) })) $
-        assigns ! (of-opd ! (load ! (from ! (fld ! refl (stop !))) (look-in ! 109 (sub ! 1 refl (whole !))))) (from ! (stop !)) (init ! 69 refl (tt, record { fits = (w7 .0 .1 .0) })) $
-        assigns ! (of-opd ! (load ! (from ! (fld ! refl (stop !))) (look-in ! 103 (sub ! 1 refl (whole !))))) (from ! (stop !)) (init ! 67 refl (tt, record { fits = (w10 .0 .1 .0) })) $
-        assigns ! (of-opd ! (load ! (from ! (fld ! refl (stop !))) (look-in ! 97 (sub ! 1 refl (whole !))))) (from ! (stop !)) (init ! 65 refl (tt, record { fits = (w13 .0 .1 .0) })) $
-        assigns ! (of-opd ! (load ! (from ! (fld ! refl (stop !))) (look-in ! 91 (sub ! 1 refl (whole !))))) (from ! (stop !)) (init ! 63 refl (tt, record { fits = (w16 .0 .1 .0) })) $
-        assigns ! (of-opd ! (load ! (from ! (fld ! refl (stop !))) (look-in ! 85 (sub ! 1 refl (whole !))))) (from ! (stop !)) (init ! 61 refl (tt, record { fits = (w19 .0 .1 .0) })) $
-        assigns ! (of-opd ! (load ! (from ! (fld ! refl (stop !))) (look-in ! 83 (sub ! 1 refl (whole !))))) (from ! (stop !)) (init ! 59 refl (tt, record { fits = (w20 .0 .1 .0) })) $
-        assigns ! (of-opd ! (load ! (from ! (fld ! refl (stop !))) (look-in ! 81 (sub ! 1 refl (whole !))))) (from ! (stop !)) (init ! 57 refl (tt, record { fits = (w21 .0 .1 .0) })) $
-        assigns ! (of-opd ! (load ! (from ! (fld ! refl (stop !))) (look-in ! 79 (sub ! 1 refl (whole !))))) (from ! (stop !)) (init ! 55 refl (tt, record { fits = (w22 .0 .1 .0) })) $
-        nothing ! $
+        drop ! $ split ! $ move ! (1 ∷ []) $ peeks ! bool (Is bool) (shows 𝓤 H A bool) r1 (z1 ∷ []) (λ i1. drop ! $ land ! (from ! (stop !)) (init ! 38 refl (bool-lawful 𝓤 H A W .typed r1 _ i1 .0)) $
+        tidy W (_ ∷ _ ∷ _ ∷ _ ∷ _ ∷ _ ∷ _ ∷ _ ∷ _ ∷ _ ∷ _ ∷ _ ∷ _ ∷ _ ∷ _ ∷ _ ∷ _ ∷ _ ∷ _ ∷ _ ∷ _ ∷ _ ∷ _ ∷ _ ∷ _ ∷ _ ∷ _ ∷ _ ∷ _ ∷ _ ∷ _ ∷ _ ∷ _ ∷ _ ∷ _ ∷ _ ∷ _ ∷ _ ∷ _ ∷ _ ∷ _ ∷ _ ∷ _ ∷ _ ∷ _ ∷ _ ∷ _ ∷ _ ∷ _ ∷ _ ∷ _ ∷ _ ∷ _ ∷ _ ∷ _ ∷ _ ∷ _ ∷ _ ∷ _ ∷ _ ∷ _ ∷ _ ∷ _ ∷ _ ∷ []) $ split ! $ move ! (1 ∷ []) $ split ! $ move ! (1 ∷ []) $ split ! $ move ! (1 ∷ []) $ split ! $ move ! (1 ∷ []) $ split ! $ move ! (1 ∷ []) $ split ! $ move ! (1 ∷ []) $ drop ! $ assigns ! (of-opd ! (load ! (from ! (fld ! refl (stop !))) (look-in ! 64 (sub ! 1 refl (whole !))))) (from ! (stop !)) (init ! 42 refl (tt, record { fits = (w4 .0 .1 .0) })) $
+        assigns ! (of-opd ! (load ! (from ! (fld ! refl (stop !))) (look-in ! 61 (sub ! 1 refl (whole !))))) (from ! (stop !)) (init ! 41 refl (tt, record { fits = (w7 .0 .1 .0) })) $
+        assigns ! (of-opd ! (load ! (from ! (fld ! refl (stop !))) (look-in ! 58 (sub ! 1 refl (whole !))))) (from ! (stop !)) (init ! 40 refl (tt, record { fits = (w10 .0 .1 .0) })) $
+        assigns ! (of-opd ! (load ! (from ! (fld ! refl (stop !))) (look-in ! 55 (sub ! 1 refl (whole !))))) (from ! (stop !)) (init ! 39 refl (tt, record { fits = (w13 .0 .1 .0) })) $
+        assigns ! (of-opd ! (load ! (from ! (fld ! refl (stop !))) (look-in ! 52 (sub ! 1 refl (whole !))))) (from ! (stop !)) (init ! 38 refl (tt, record { fits = (w16 .0 .1 .0) })) $
+        assigns ! (of-opd ! (load ! (from ! (fld ! refl (stop !))) (look-in ! 49 (sub ! 1 refl (whole !))))) (from ! (stop !)) (init ! 37 refl (tt, record { fits = (w19 .0 .1 .0) })) $
+        assigns ! (of-opd ! (load ! (from ! (fld ! refl (stop !))) (look-in ! 48 (sub ! 1 refl (whole !))))) (from ! (stop !)) (init ! 36 refl (tt, record { fits = (w20 .0 .1 .0) })) $
+        assigns ! (of-opd ! (load ! (from ! (fld ! refl (stop !))) (look-in ! 47 (sub ! 1 refl (whole !))))) (from ! (stop !)) (init ! 35 refl (tt, record { fits = (w21 .0 .1 .0) })) $
+        assigns ! (of-opd ! (load ! (from ! (fld ! refl (stop !))) (look-in ! 46 (sub ! 1 refl (whole !))))) (from ! (stop !)) (init ! 34 refl (tt, record { fits = (w22 .0 .1 .0) })) $
+        tidy W (_ ∷ _ ∷ _ ∷ _ ∷ _ ∷ _ ∷ _ ∷ _ ∷ _ ∷ _ ∷ _ ∷ _ ∷ _ ∷ _ ∷ _ ∷ _ ∷ _ ∷ _ ∷ _ ∷ _ ∷ _ ∷ _ ∷ _ ∷ _ ∷ _ ∷ _ ∷ _ ∷ _ ∷ _ ∷ _ ∷ _ ∷ _ ∷ _ ∷ _ ∷ _ ∷ _ ∷ _ ∷ _ ∷ _ ∷ _ ∷ _ ∷ _ ∷ _ ∷ _ ∷ _ ∷ _ ∷ _ ∷ _ ∷ _ ∷ _ ∷ _ ∷ _ ∷ _ ∷ _ ∷ _ ∷ _ ∷ _ ∷ _ ∷ _ ∷ _ ∷ _ ∷ _ ∷ _ ∷ _ ∷ _ ∷ _ ∷ _ ∷ _ ∷ _ ∷ []) $ nothing ! $
         -- call 2
         use1 W (raw (Callee-g2 𝓤 H A at-mem run .pre ((tt, tt, tt, (n1, (n2, (n3, ((length (s4 .now)), (n5, (n6, ((length (s7 .now)), (n8, (n9, ((length (s10 .now)), (n11, (n12, ((length (s13 .now)), (n14, (n15, ((length (s16 .now)), (n17, (n18, ((length (s19 .now)), (r1, ((length (s20 .now)), ((length (s21 .now)), ((length (s22 .now)), (n23, (n24, tt))))))))))))))))))))))))), (u1 ∷ [], (u2 ∷ [], (u3 ∷ [], ((vint w64 (length (s4 .now))) ∷ [], (u5 ∷ [], (u6 ∷ [], ((vint w64 (length (s7 .now))) ∷ [], (u8 ∷ [], (u9 ∷ [], ((vint w64 (length (s10 .now))) ∷ [], (u11 ∷ [], (u12 ∷ [], ((vint w64 (length (s13 .now))) ∷ [], (u14 ∷ [], (u15 ∷ [], ((vint w64 (length (s16 .now))) ∷ [], (u17 ∷ [], (u18 ∷ [], ((vint w64 (length (s19 .now))) ∷ [], (z1 ∷ [], ((vint w64 (length (s20 .now))) ∷ [], ((vint w64 (length (s21 .now))) ∷ [], ((vint w64 (length (s22 .now))) ∷ [], (u23 ∷ [], (u24 ∷ [], tt)))))))))))))))))))))))))), tt))) (qed W ((‵ ftrue) ∷ []) ∵ nothing ! $ owned ! u64 (Is u64) (uint-makes 𝓤 H A W w64) (n24) _ w24 $ fjoin ! $ owned ! u64 (Is u64) (uint-makes 𝓤 H A W w64) (n23) _ w23 $ fjoin ! $ owned ! u64 (Is u64) (uint-makes 𝓤 H A W w64) ((length (s22 .now))) _ (refl, (w22 .0 .1 .0)) $ fjoin ! $ owned ! u64 (Is u64) (uint-makes 𝓤 H A W w64) ((length (s21 .now))) _ (refl, (w21 .0 .1 .0)) $ fjoin ! $ owned ! u64 (Is u64) (uint-makes 𝓤 H A W w64) ((length (s20 .now))) _ (refl, (w20 .0 .1 .0)) $ fjoin ! $ owned ! bool (Is bool) (bool-makes 𝓤 H A W) (r1) _ i1 $ fjoin ! $ owned ! u64 (Is u64) (uint-makes 𝓤 H A W w64) ((length (s19 .now))) _ (refl, (w19 .0 .1 .0)) $ fjoin ! $ owned ! u64 (Is u64) (uint-makes 𝓤 H A W w64) (n18) _ w18 $ fjoin ! $ owned ! u64 (Is u64) (uint-makes 𝓤 H A W w64) (n17) _ w17 $ fjoin ! $ owned ! u64 (Is u64) (uint-makes 𝓤 H A W w64) ((length (s16 .now))) _ (refl, (w16 .0 .1 .0)) $ fjoin ! $ owned ! u64 (Is u64) (uint-makes 𝓤 H A W w64) (n15) _ w15 $ fjoin ! $ owned ! u64 (Is u64) (uint-makes 𝓤 H A W w64) (n14) _ w14 $ fjoin ! $ owned ! u64 (Is u64) (uint-makes 𝓤 H A W w64) ((length (s13 .now))) _ (refl, (w13 .0 .1 .0)) $ fjoin ! $ owned ! u64 (Is u64) (uint-makes 𝓤 H A W w64) (n12) _ w12 $ fjoin ! $ owned ! u64 (Is u64) (uint-makes 𝓤 H A W w64) (n11) _ w11 $ fjoin ! $ owned ! u64 (Is u64) (uint-makes 𝓤 H A W w64) ((length (s10 .now))) _ (refl, (w10 .0 .1 .0)) $ fjoin ! $ owned ! u64 (Is u64) (uint-makes 𝓤 H A W w64) (n9) _ w9 $ fjoin ! $ owned ! u64 (Is u64) (uint-makes 𝓤 H A W w64) (n8) _ w8 $ fjoin ! $ owned ! u64 (Is u64) (uint-makes 𝓤 H A W w64) ((length (s7 .now))) _ (refl, (w7 .0 .1 .0)) $ fjoin ! $ owned ! u64 (Is u64) (uint-makes 𝓤 H A W w64) (n6) _ w6 $ fjoin ! $ owned ! u64 (Is u64) (uint-makes 𝓤 H A W w64) (n5) _ w5 $ fjoin ! $ owned ! u64 (Is u64) (uint-makes 𝓤 H A W w64) ((length (s4 .now))) _ (refl, (w4 .0 .1 .0)) $ fjoin ! $ owned ! u64 (Is u64) (uint-makes 𝓤 H A W w64) (n3) _ w3 $ fjoin ! $ owned ! u64 (Is u64) (uint-makes 𝓤 H A W w64) (n2) _ w2 $ fjoin ! $ owned ! u64 (Is u64) (uint-makes 𝓤 H A W w64) (n1) _ w1 $ fjoin ! $ move ! (1 ∷ 0 ∷ []) $ join ! $ nothing ! $ move ! (1 ∷ 0 ∷ []) $ frame ! $ done !) $
-        calls-at ! fm (Callee-g2 𝓤 H A at-mem run) known-g2 ((tt, tt, tt, (n1, (n2, (n3, ((length (s4 .now)), (n5, (n6, ((length (s7 .now)), (n8, (n9, ((length (s10 .now)), (n11, (n12, ((length (s13 .now)), (n14, (n15, ((length (s16 .now)), (n17, (n18, ((length (s19 .now)), (r1, ((length (s20 .now)), ((length (s21 .now)), ((length (s22 .now)), (n23, (n24, tt))))))))))))))))))))))))), (u1 ∷ [], (u2 ∷ [], (u3 ∷ [], ((vint w64 (length (s4 .now))) ∷ [], (u5 ∷ [], (u6 ∷ [], ((vint w64 (length (s7 .now))) ∷ [], (u8 ∷ [], (u9 ∷ [], ((vint w64 (length (s10 .now))) ∷ [], (u11 ∷ [], (u12 ∷ [], ((vint w64 (length (s13 .now))) ∷ [], (u14 ∷ [], (u15 ∷ [], ((vint w64 (length (s16 .now))) ∷ [], (u17 ∷ [], (u18 ∷ [], ((vint w64 (length (s19 .now))) ∷ [], (z1 ∷ [], ((vint w64 (length (s20 .now))) ∷ [], ((vint w64 (length (s21 .now))) ∷ [], ((vint w64 (length (s22 .now))) ∷ [], (u23 ∷ [], (u24 ∷ [], tt)))))))))))))))))))))))))), tt) (and-then ! (load ! (from ! (stop !)) (look ! 122 refl)) (and-then ! (load ! (from ! (stop !)) (look ! 120 refl)) (and-then ! (load ! (from ! (stop !)) (look ! 118 refl)) (and-then ! (load ! (from ! (stop !)) (look ! 72 refl)) (and-then ! (load ! (from ! (stop !)) (look ! 114 refl)) (and-then ! (load ! (from ! (stop !)) (look ! 112 refl)) (and-then ! (load ! (from ! (stop !)) (look ! 70 refl)) (and-then ! (load ! (from ! (stop !)) (look ! 108 refl)) (and-then ! (load ! (from ! (stop !)) (look ! 106 refl)) (and-then ! (load ! (from ! (stop !)) (look ! 68 refl)) (and-then ! (load ! (from ! (stop !)) (look ! 102 refl)) (and-then ! (load ! (from ! (stop !)) (look ! 100 refl)) (and-then ! (load ! (from ! (stop !)) (look ! 66 refl)) (and-then ! (load ! (from ! (stop !)) (look ! 96 refl)) (and-then ! (load ! (from ! (stop !)) (look ! 94 refl)) (and-then ! (load ! (from ! (stop !)) (look ! 64 refl)) (and-then ! (load ! (from ! (stop !)) (look ! 90 refl)) (and-then ! (load ! (from ! (stop !)) (look ! 88 refl)) (and-then ! (load ! (from ! (stop !)) (look ! 62 refl)) (and-then ! (load ! (from ! (stop !)) (look ! 74 refl)) (and-then ! (load ! (from ! (stop !)) (look ! 60 refl)) (and-then ! (load ! (from ! (stop !)) (look ! 58 refl)) (and-then ! (load ! (from ! (stop !)) (look ! 56 refl)) (and-then ! (load ! (from ! (stop !)) (look ! 78 refl)) (and-then ! (load ! (from ! (stop !)) (look ! 76 refl)) (no-more !)))))))))))))))))))))))))) (λ z2.
+        calls-at ! fm (Callee-g2 𝓤 H A at-mem run) known-g2 ((tt, tt, tt, (n1, (n2, (n3, ((length (s4 .now)), (n5, (n6, ((length (s7 .now)), (n8, (n9, ((length (s10 .now)), (n11, (n12, ((length (s13 .now)), (n14, (n15, ((length (s16 .now)), (n17, (n18, ((length (s19 .now)), (r1, ((length (s20 .now)), ((length (s21 .now)), ((length (s22 .now)), (n23, (n24, tt))))))))))))))))))))))))), (u1 ∷ [], (u2 ∷ [], (u3 ∷ [], ((vint w64 (length (s4 .now))) ∷ [], (u5 ∷ [], (u6 ∷ [], ((vint w64 (length (s7 .now))) ∷ [], (u8 ∷ [], (u9 ∷ [], ((vint w64 (length (s10 .now))) ∷ [], (u11 ∷ [], (u12 ∷ [], ((vint w64 (length (s13 .now))) ∷ [], (u14 ∷ [], (u15 ∷ [], ((vint w64 (length (s16 .now))) ∷ [], (u17 ∷ [], (u18 ∷ [], ((vint w64 (length (s19 .now))) ∷ [], (z1 ∷ [], ((vint w64 (length (s20 .now))) ∷ [], ((vint w64 (length (s21 .now))) ∷ [], ((vint w64 (length (s22 .now))) ∷ [], (u23 ∷ [], (u24 ∷ [], tt)))))))))))))))))))))))))), tt) (and-then ! (load ! (from ! (stop !)) (look ! 68 refl)) (and-then ! (load ! (from ! (stop !)) (look ! 67 refl)) (and-then ! (load ! (from ! (stop !)) (look ! 66 refl)) (and-then ! (load ! (from ! (stop !)) (look ! 43 refl)) (and-then ! (load ! (from ! (stop !)) (look ! 64 refl)) (and-then ! (load ! (from ! (stop !)) (look ! 63 refl)) (and-then ! (load ! (from ! (stop !)) (look ! 42 refl)) (and-then ! (load ! (from ! (stop !)) (look ! 61 refl)) (and-then ! (load ! (from ! (stop !)) (look ! 60 refl)) (and-then ! (load ! (from ! (stop !)) (look ! 41 refl)) (and-then ! (load ! (from ! (stop !)) (look ! 58 refl)) (and-then ! (load ! (from ! (stop !)) (look ! 57 refl)) (and-then ! (load ! (from ! (stop !)) (look ! 40 refl)) (and-then ! (load ! (from ! (stop !)) (look ! 55 refl)) (and-then ! (load ! (from ! (stop !)) (look ! 54 refl)) (and-then ! (load ! (from ! (stop !)) (look ! 39 refl)) (and-then ! (load ! (from ! (stop !)) (look ! 52 refl)) (and-then ! (load ! (from ! (stop !)) (look ! 51 refl)) (and-then ! (load ! (from ! (stop !)) (look ! 38 refl)) (and-then ! (load ! (from ! (stop !)) (look ! 44 refl)) (and-then ! (load ! (from ! (stop !)) (look ! 37 refl)) (and-then ! (load ! (from ! (stop !)) (look ! 36 refl)) (and-then ! (load ! (from ! (stop !)) (look ! 35 refl)) (and-then ! (load ! (from ! (stop !)) (look ! 46 refl)) (and-then ! (load ! (from ! (stop !)) (look ! 45 refl)) (no-more !)))))))))))))))))))))))))) (λ z2.
         use1 W (later (some (λ (r2 : ℕ). ((‵ ftrue) ⊛ ‵ (u32 .own r2 (z2 ∷ []))) ⊛ some (λ (ws : Lasts g2.ended tt (n1, (n2, (n3, ((length (s4 .now)), (n5, (n6, ((length (s7 .now)), (n8, (n9, ((length (s10 .now)), (n11, (n12, ((length (s13 .now)), (n14, (n15, ((length (s16 .now)), (n17, (n18, ((length (s19 .now)), (r1, ((length (s20 .now)), ((length (s21 .now)), ((length (s22 .now)), (n23, (n24, tt)))))))))))))))))))))))))). ‵ (lasts g2.ended tt (n1, (n2, (n3, ((length (s4 .now)), (n5, (n6, ((length (s7 .now)), (n8, (n9, ((length (s10 .now)), (n11, (n12, ((length (s13 .now)), (n14, (n15, ((length (s16 .now)), (n17, (n18, ((length (s19 .now)), (r1, ((length (s20 .now)), ((length (s21 .now)), ((length (s22 .now)), (n23, (n24, tt))))))))))))))))))))))))) ws) ⊛ raw (g2.clauses 𝓤 H A at-mem run tt (n1, (n2, (n3, ((length (s4 .now)), (n5, (n6, ((length (s7 .now)), (n8, (n9, ((length (s10 .now)), (n11, (n12, ((length (s13 .now)), (n14, (n15, ((length (s16 .now)), (n17, (n18, ((length (s19 .now)), (r1, ((length (s20 .now)), ((length (s21 .now)), ((length (s22 .now)), (n23, (n24, tt))))))))))))))))))))))))) .ensures tt r2 (atExit g2.ended tt (n1, (n2, (n3, ((length (s4 .now)), (n5, (n6, ((length (s7 .now)), (n8, (n9, ((length (s10 .now)), (n11, (n12, ((length (s13 .now)), (n14, (n15, ((length (s16 .now)), (n17, (n18, ((length (s19 .now)), (r1, ((length (s20 .now)), ((length (s21 .now)), ((length (s22 .now)), (n23, (n24, tt))))))))))))))))))))))))) ws)))))) (id⊢ 𝓤 _) $ await ! tt $ pick ! (λ r2. split ! $ move ! (1 ∷ []) $ pick ! (λ ws2. split ! $ move ! (1 ∷ []) $ heard ! _ (λ e2.
-        fsplit ! $ move ! (1 ∷ []) $ fsplit ! $ move ! (1 ∷ []) $ fsplit ! $ move ! (1 ∷ []) $ fsplit ! $ move ! (1 ∷ []) $ fsplit ! $ move ! (1 ∷ []) $ fsplit ! $ move ! (1 ∷ []) $ fsplit ! $ move ! (1 ∷ []) $ fsplit ! $ move ! (1 ∷ []) $ fsplit ! $ move ! (1 ∷ []) $ fsplit ! $ move ! (1 ∷ []) $ fsplit ! $ move ! (1 ∷ []) $ fsplit ! $ move ! (1 ∷ []) $ fsplit ! $ move ! (1 ∷ []) $ fsplit ! $ move ! (1 ∷ []) $ fsplit ! $ move ! (1 ∷ []) $ fsplit ! $ move ! (1 ∷ []) $ fsplit ! $ move ! (1 ∷ []) $ fsplit ! $ move ! (1 ∷ []) $ fsplit ! $ move ! (1 ∷ []) $ fsplit ! $ move ! (1 ∷ []) $ fsplit ! $ move ! (1 ∷ []) $ fsplit ! $ move ! (1 ∷ []) $ fsplit ! $ move ! (1 ∷ []) $ fsplit ! $ move ! (1 ∷ []) $ fsplit ! $ move ! (26 ∷ []) $ split ! $ move ! (1 ∷ []) $ peeks ! u32 (Is u32) (shows 𝓤 H A u32) r2 (z2 ∷ []) (λ i2. drop ! $ land ! (from ! (stop !)) (init ! 150 refl (uint-lawful 𝓤 H A W w32 .typed r2 _ i2 .0)) $
-        returns ! (look ! 150 refl) $ forget ! 150 refl $ forget ! 148 refl $ forget ! 146 refl $ forget ! 144 refl $ forget ! 142 refl $ forget ! 140 refl $ forget ! 138 refl $ forget ! 136 refl $ forget ! 134 refl $ forget ! 132 refl $ forget ! 130 refl $ forget ! 128 refl $ forget ! 126 refl $ forget ! 124 refl $ forget ! 122 refl $ forget ! 120 refl $ forget ! 118 refl $ forget ! 116 refl $ forget ! 114 refl $ forget ! 112 refl $ forget ! 110 refl $ forget ! 108 refl $ forget ! 106 refl $ forget ! 104 refl $ forget ! 102 refl $ forget ! 100 refl $ forget ! 98 refl $ forget ! 96 refl $ forget ! 94 refl $ forget ! 92 refl $ forget ! 90 refl $ forget ! 88 refl $ forget ! 86 refl $ forget ! 84 refl $ forget ! 82 refl $
-        move ! (150 ∷ 151 ∷ []) $ free1 ! $ move ! (148 ∷ 149 ∷ []) $ free1 ! $ move ! (146 ∷ 147 ∷ []) $ free1 ! $ move ! (144 ∷ 145 ∷ []) $ free1 ! $ move ! (142 ∷ 143 ∷ []) $ free1 ! $ move ! (140 ∷ 141 ∷ []) $ free1 ! $ move ! (138 ∷ 139 ∷ []) $ free1 ! $ move ! (136 ∷ 137 ∷ []) $ free1 ! $ move ! (134 ∷ 135 ∷ []) $ free1 ! $ move ! (132 ∷ 133 ∷ []) $ free1 ! $ move ! (130 ∷ 131 ∷ []) $ free1 ! $ move ! (128 ∷ 129 ∷ []) $ free1 ! $ move ! (126 ∷ 127 ∷ []) $ free1 ! $ move ! (124 ∷ 125 ∷ []) $ free1 ! $ move ! (122 ∷ 123 ∷ []) $ free1 ! $ move ! (120 ∷ 121 ∷ []) $ free1 ! $ move ! (118 ∷ 119 ∷ []) $ free1 ! $ move ! (116 ∷ 117 ∷ []) $ free1 ! $ move ! (114 ∷ 115 ∷ []) $ free1 ! $ move ! (112 ∷ 113 ∷ []) $ free1 ! $ move ! (110 ∷ 111 ∷ []) $ free1 ! $ move ! (108 ∷ 109 ∷ []) $ free1 ! $ move ! (106 ∷ 107 ∷ []) $ free1 ! $ move ! (104 ∷ 105 ∷ []) $ free1 ! $ move ! (102 ∷ 103 ∷ []) $ free1 ! $ move ! (100 ∷ 101 ∷ []) $ free1 ! $ move ! (98 ∷ 99 ∷ []) $ free1 ! $ move ! (96 ∷ 97 ∷ []) $ free1 ! $ move ! (94 ∷ 95 ∷ []) $ free1 ! $ move ! (92 ∷ 93 ∷ []) $ free1 ! $ move ! (90 ∷ 91 ∷ []) $ free1 ! $ move ! (88 ∷ 89 ∷ []) $ free1 ! $ move ! (86 ∷ 87 ∷ []) $ free1 ! $ move ! (84 ∷ 85 ∷ []) $ free1 ! $ move ! (82 ∷ 83 ∷ []) $ free1 ! $ free0 ! $
+        drop ! $ split ! $ move ! (1 ∷ []) $ peeks ! u32 (Is u32) (shows 𝓤 H A u32) r2 (z2 ∷ []) (λ i2. drop ! $ land ! (from ! (stop !)) (init ! 69 refl (uint-lawful 𝓤 H A W w32 .typed r2 _ i2 .0)) $
+        tidy W (_ ∷ _ ∷ _ ∷ _ ∷ _ ∷ _ ∷ _ ∷ _ ∷ _ ∷ _ ∷ _ ∷ _ ∷ _ ∷ _ ∷ _ ∷ _ ∷ _ ∷ _ ∷ _ ∷ _ ∷ _ ∷ _ ∷ _ ∷ _ ∷ _ ∷ _ ∷ _ ∷ _ ∷ _ ∷ _ ∷ _ ∷ _ ∷ _ ∷ _ ∷ _ ∷ _ ∷ _ ∷ _ ∷ _ ∷ _ ∷ _ ∷ _ ∷ _ ∷ _ ∷ _ ∷ _ ∷ _ ∷ _ ∷ _ ∷ _ ∷ _ ∷ _ ∷ _ ∷ _ ∷ _ ∷ _ ∷ _ ∷ _ ∷ _ ∷ _ ∷ _ ∷ _ ∷ _ ∷ _ ∷ _ ∷ _ ∷ _ ∷ _ ∷ _ ∷ _ ∷ []) $ drop ! $ tidy W (_ ∷ _ ∷ _ ∷ _ ∷ _ ∷ _ ∷ _ ∷ _ ∷ _ ∷ _ ∷ _ ∷ _ ∷ _ ∷ _ ∷ _ ∷ _ ∷ _ ∷ _ ∷ _ ∷ _ ∷ _ ∷ _ ∷ _ ∷ _ ∷ _ ∷ _ ∷ _ ∷ _ ∷ _ ∷ _ ∷ _ ∷ _ ∷ _ ∷ _ ∷ _ ∷ _ ∷ _ ∷ _ ∷ _ ∷ _ ∷ _ ∷ _ ∷ _ ∷ _ ∷ _ ∷ _ ∷ _ ∷ _ ∷ _ ∷ _ ∷ _ ∷ _ ∷ _ ∷ _ ∷ _ ∷ _ ∷ _ ∷ _ ∷ _ ∷ _ ∷ _ ∷ _ ∷ _ ∷ _ ∷ _ ∷ _ ∷ _ ∷ _ ∷ _ ∷ []) $ returns ! (look ! 68 refl) $ move ! (33 ∷ []) $ use1 W (dies ((tyInt w32, l₀) ∷ (tyInt w64, l₁) ∷ (tyInt w64, l₂) ∷ (tyInt w64, l₃) ∷ (sliceTy (tyRef (named 0) imm (pointee (mEntry.the-row .written))), l₄) ∷ (tyInt w64, l₅) ∷ (tyInt w64, l₆) ∷ (sliceTy (tyRef (named 1) imm (pointee (mEntry.the-row .written))), l₇) ∷ (tyInt w64, l₈) ∷ (tyInt w64, l₉) ∷ (sliceTy (tyRef (named 2) imm (pointee (mEntry.the-row .written))), l₁₀) ∷ (tyInt w64, l₁₁) ∷ (tyInt w64, l₁₂) ∷ (sliceTy (tyRef (named 3) imm (pointee (mEntry.the-row .written))), l₁₃) ∷ (tyInt w64, l₁₄) ∷ (tyInt w64, l₁₅) ∷ (sliceTy (tyRef (named 4) imm (pointee (mEntry.the-row .written))), l₁₆) ∷ (tyInt w64, l₁₇) ∷ (tyInt w64, l₁₈) ∷ (sliceTy (tyRef (named 5) imm (pointee (mEntry.the-row .written))), l₁₉) ∷ (sliceTy (tyRef (named 6) imm (tyInt w64)), l₂₀) ∷ (sliceTy (tyRef (named 7) imm (tyInt w64)), l₂₁) ∷ (sliceTy (tyRef (named 8) imm (tyInt w64)), l₂₂) ∷ (tyInt w64, l₂₃) ∷ (tyInt w64, l₂₄) ∷ (tyBool, l₂₅) ∷ (tyInt w64, l₂₆) ∷ (tyInt w64, l₂₇) ∷ (tyInt w64, l₂₈) ∷ (tyInt w64, l₂₉) ∷ (tyInt w64, l₃₀) ∷ (tyInt w64, l₃₁) ∷ (tyInt w64, l₃₂) ∷ (tyInt w64, l₃₃) ∷ (tyInt w64, l₃₄) ∷ []) (‵ ftrue)) die $ free-all ! 33 ((tyInt w32, l₀) ∷ (tyInt w64, l₁) ∷ (tyInt w64, l₂) ∷ (tyInt w64, l₃) ∷ (sliceTy (tyRef (named 0) imm (pointee (mEntry.the-row .written))), l₄) ∷ (tyInt w64, l₅) ∷ (tyInt w64, l₆) ∷ (sliceTy (tyRef (named 1) imm (pointee (mEntry.the-row .written))), l₇) ∷ (tyInt w64, l₈) ∷ (tyInt w64, l₉) ∷ (sliceTy (tyRef (named 2) imm (pointee (mEntry.the-row .written))), l₁₀) ∷ (tyInt w64, l₁₁) ∷ (tyInt w64, l₁₂) ∷ (sliceTy (tyRef (named 3) imm (pointee (mEntry.the-row .written))), l₁₃) ∷ (tyInt w64, l₁₄) ∷ (tyInt w64, l₁₅) ∷ (sliceTy (tyRef (named 4) imm (pointee (mEntry.the-row .written))), l₁₆) ∷ (tyInt w64, l₁₇) ∷ (tyInt w64, l₁₈) ∷ (sliceTy (tyRef (named 5) imm (pointee (mEntry.the-row .written))), l₁₉) ∷ (sliceTy (tyRef (named 6) imm (tyInt w64)), l₂₀) ∷ (sliceTy (tyRef (named 7) imm (tyInt w64)), l₂₁) ∷ (sliceTy (tyRef (named 8) imm (tyInt w64)), l₂₂) ∷ (tyInt w64, l₂₃) ∷ (tyInt w64, l₂₄) ∷ (tyBool, l₂₅) ∷ (tyInt w64, l₂₆) ∷ (tyInt w64, l₂₇) ∷ (tyInt w64, l₂₈) ∷ (tyInt w64, l₂₉) ∷ (tyInt w64, l₃₀) ∷ (tyInt w64, l₃₁) ∷ (tyInt w64, l₃₂) ∷ (tyInt w64, l₃₃) ∷ (tyInt w64, l₃₄) ∷ []) (kept _ ∷ kept _ ∷ kept _ ∷ kept _ ∷ kept _ ∷ kept _ ∷ kept _ ∷ kept _ ∷ kept _ ∷ kept _ ∷ kept _ ∷ kept _ ∷ kept _ ∷ kept _ ∷ kept _ ∷ kept _ ∷ kept _ ∷ kept _ ∷ kept _ ∷ kept _ ∷ kept _ ∷ kept _ ∷ kept _ ∷ kept _ ∷ kept _ ∷ kept _ ∷ kept _ ∷ kept _ ∷ kept _ ∷ kept _ ∷ kept _ ∷ kept _ ∷ kept _ ∷ kept _ ∷ kept _ ∷ []) refl $
         suffices ! _ (ends-at 𝓤 H A f.ended stayed (f.clauses 𝓤 H A at-mem run) W (((κ₀, (κ₁, (κ₂, (κ₃, (κ₄, (κ₅, (κ₆, (κ₇, (κ₈, tt))))))))), (q₀, (q₁, (q₂, (q₃, (q₄, (q₅, (q₆, (q₇, (q₈, tt))))))))), tt, a, at), tt) z2 r2 (tt, (tt, (tt, (tt, (tt, (tt, (tt, (tt, (tt, (tt, (tt, (tt, (tt, (tt, (tt, (tt, (tt, (tt, (tt, (tt, (tt, (tt, (tt, (tt, tt)))))))))))))))))))))))) (tt, (tt, (tt, (tt, (tt, (tt, (tt, (tt, (tt, (tt, (tt, (tt, (tt, (tt, (tt, (tt, (tt, (tt, (tt, (tt, (tt, (tt, (tt, (tt, tt))))))))))))))))))))))))) $ says ! (combo-refused n2 n3 (s4 .now) n5 n6 (s7 .now) n8 n9 (s10 .now) n11 n12 (s13 .now) n14 n15 (s16 .now) n17 n18 (s19 .now) n1 (s20 .now) (s21 .now) (s22 .now) n23 n24 r1 r2 e1 e2) $
-        nothing ! $ move ! (61 ∷ 0 ∷ []) $ join ! $ move ! (61 ∷ 0 ∷ []) $ join ! $ move ! (61 ∷ 0 ∷ []) $ join ! $ move ! (29 ∷ 0 ∷ []) $ join ! $ move ! (29 ∷ 0 ∷ []) $ join ! $ move ! (29 ∷ 0 ∷ []) $ join ! $ move ! (29 ∷ 0 ∷ []) $ join ! $ move ! (29 ∷ 0 ∷ []) $ join ! $ move ! (29 ∷ 0 ∷ []) $ join ! $ nothing ! $ move ! (57 ∷ 0 ∷ []) $ fjoin ! $ move ! (57 ∷ 0 ∷ []) $ fjoin ! $ move ! (57 ∷ 0 ∷ []) $ fjoin ! $ move ! (57 ∷ 0 ∷ []) $ fjoin ! $ move ! (57 ∷ 0 ∷ []) $ fjoin ! $ move ! (49 ∷ 0 ∷ []) $ fjoin ! $ move ! (56 ∷ 0 ∷ []) $ fjoin ! $ move ! (56 ∷ 0 ∷ []) $ fjoin ! $ move ! (49 ∷ 0 ∷ []) $ fjoin ! $ move ! (55 ∷ 0 ∷ []) $ fjoin ! $ move ! (55 ∷ 0 ∷ []) $ fjoin ! $ move ! (49 ∷ 0 ∷ []) $ fjoin ! $ move ! (54 ∷ 0 ∷ []) $ fjoin ! $ move ! (54 ∷ 0 ∷ []) $ fjoin ! $ move ! (49 ∷ 0 ∷ []) $ fjoin ! $ move ! (53 ∷ 0 ∷ []) $ fjoin ! $ move ! (53 ∷ 0 ∷ []) $ fjoin ! $ move ! (49 ∷ 0 ∷ []) $ fjoin ! $ move ! (52 ∷ 0 ∷ []) $ fjoin ! $ move ! (52 ∷ 0 ∷ []) $ fjoin ! $ move ! (49 ∷ 0 ∷ []) $ fjoin ! $ move ! (51 ∷ 0 ∷ []) $ fjoin ! $ move ! (51 ∷ 0 ∷ []) $ fjoin ! $ move ! (51 ∷ 0 ∷ []) $ fjoin ! $ keep ! (1 ∷ 0 ∷ []) $ frame ! $ frame ! $ owned ! u32 (Is u32) (uint-makes 𝓤 H A W w32) r2 _ i2 $ done !)))))))))))))))))))))))))))))))))))))))))))))
+        nothing ! $ move ! (13 ∷ 0 ∷ []) $ join ! $ move ! (13 ∷ 0 ∷ []) $ join ! $ move ! (13 ∷ 0 ∷ []) $ join ! $ move ! (1 ∷ 0 ∷ []) $ join ! $ move ! (1 ∷ 0 ∷ []) $ join ! $ move ! (1 ∷ 0 ∷ []) $ join ! $ move ! (1 ∷ 0 ∷ []) $ join ! $ move ! (1 ∷ 0 ∷ []) $ join ! $ move ! (1 ∷ 0 ∷ []) $ join ! $ nothing ! $ move ! (8 ∷ 0 ∷ []) $ fjoin ! $ move ! (8 ∷ 0 ∷ []) $ fjoin ! $ move ! (8 ∷ 0 ∷ []) $ fjoin ! $ move ! (8 ∷ 0 ∷ []) $ fjoin ! $ move ! (8 ∷ 0 ∷ []) $ fjoin ! $ move ! (2 ∷ 0 ∷ []) $ fjoin ! $ move ! (7 ∷ 0 ∷ []) $ fjoin ! $ move ! (7 ∷ 0 ∷ []) $ fjoin ! $ move ! (2 ∷ 0 ∷ []) $ fjoin ! $ move ! (6 ∷ 0 ∷ []) $ fjoin ! $ move ! (6 ∷ 0 ∷ []) $ fjoin ! $ move ! (2 ∷ 0 ∷ []) $ fjoin ! $ move ! (5 ∷ 0 ∷ []) $ fjoin ! $ move ! (5 ∷ 0 ∷ []) $ fjoin ! $ move ! (2 ∷ 0 ∷ []) $ fjoin ! $ move ! (4 ∷ 0 ∷ []) $ fjoin ! $ move ! (4 ∷ 0 ∷ []) $ fjoin ! $ move ! (2 ∷ 0 ∷ []) $ fjoin ! $ move ! (3 ∷ 0 ∷ []) $ fjoin ! $ move ! (3 ∷ 0 ∷ []) $ fjoin ! $ move ! (2 ∷ 0 ∷ []) $ fjoin ! $ move ! (2 ∷ 0 ∷ []) $ fjoin ! $ move ! (2 ∷ 0 ∷ []) $ fjoin ! $ move ! (2 ∷ 0 ∷ []) $ fjoin ! $ keep ! (1 ∷ 0 ∷ []) $ frame ! $ frame ! $ owned ! u32 (Is u32) (uint-makes 𝓤 H A W w32) r2 _ i2 $ done !))))))))))))))))))))))))))))))))))))))))))))))
 
 module _ {M : Type 1} (𝓤 : URA M) (H : Heap 𝓤) (A : Atoms 𝓤) (W : Given 𝓤 H A) (mem : Memory → SProp 𝓤) (run : Routine → Fun 𝓤) where
   walks : (C : Calls 𝓤 H) (Λ : Loops 𝓤 H) → FmC 𝓤 H (W .laws) C → Triple 𝓤 (C #g1) (Callee-g1 𝓤 H A mem run) → Triple 𝓤 (C #g2) (Callee-g2 𝓤 H A mem run) → Walks 𝓤 H A f.ended stayed (WpFn 𝓤 H C Λ code.function) (f.clauses 𝓤 H A mem run)

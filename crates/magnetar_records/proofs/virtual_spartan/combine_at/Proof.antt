@@ -20,7 +20,7 @@ use contract.Monad.{Fun, fact}
 use contract.Running.{givenOf, tables, tablesOf}
 use types.Kit.{Given, ‵, raw, _⊛_, ⋆, some, later, _$_, _∵_, !, qed, by, move, keep, drop, use1, use2, use3, split, join, pick, fsplit, fsplit3, fjoin, fjoin3, feqL, feqI, rewrite, atRet, suffices, frame, await, done}
 use types.Part.{agg, whole, sub, look-in}
-use types.Run.{look, look-raw, init, store, store-raw, forget, stop, hop, fld, from, load, unit-lit, of-opd, addr, and-then, no-more, lit, true-lit, false-lit, assigns, assigns-last, land, land-last, first, branches, skips, exec, returns, enter, alloc1, alloc0, params1, pass1, pass0, free1, free0}
+use types.Run.{look, look-raw, init, store, store-raw, stop, hop, fld, from, load, unit-lit, of-opd, addr, and-then, no-more, lit, true-lit, false-lit, assigns, assigns-last, land, land-last, first, branches, skips, exec, returns, enter, alloc0, params1, pass1, pass0}
 use types.Tokens.{lft-new, lft-end}
 use sound.WpLaws.{FmC, fmOf, WpFn-mono}
 use denote.RattleType.{owns}
@@ -48,6 +48,7 @@ use denote.Exit.{yes}
 use Rattle.magnetar_inplace.specs.declared.records.Entry.{Entry}
 use Rattle.magnetar_inplace.proofs.records.Entry as mEntry
 use Rattle.magnetar_inplace.proofs.records.Entry.Laws as lEntry
+use Rattle.magnetar_inplace.proofs.Locals.{tidy, bare, kept, dies, alloc, hide, free-all}
 use Rattle.magnetar_inplace.proofs.Again.{LentAgain, lends-again, comes-back}
 use Rattle.magnetar_records.proofs.stages.run_alphas as g1
 use Rattle.magnetar_records.proofs.stages.run_alphas.Symbol as g1-def
@@ -187,40 +188,39 @@ module _ {M : Type 1} (𝓤 : URA M) (H : Heap 𝓤) (A : Atoms 𝓤) (W : Given
     walk : ent 𝓤 (onEntry 𝓤 H A f.signature (κ₀, (κ₁, (κ₂, (κ₃, (κ₄, (κ₅, (κ₆, tt))))))) (q₀, (q₁, (q₂, (q₃, (q₄, (q₅, (q₆, tt))))))) a at) (WpFn 𝓤 H C Λ code.function (v1 ∷ v2 ∷ v3 ∷ v4 ∷ v5 ∷ v6 ∷ v7 ∷ v8 ∷ v9 ∷ v10 ∷ v11 ∷ v12 ∷ []) Post)
     walk =
         qed W ((‵ (flft κ₀ q₀) ⊛ ‵ (flft κ₁ q₁) ⊛ ‵ (flft κ₂ q₂) ⊛ ‵ (flft κ₃ q₃) ⊛ ‵ (flft κ₄ q₄) ⊛ ‵ (flft κ₅ q₅) ⊛ ‵ (flft κ₆ q₆) ⊛ ‵ ftrue) ∷ ‵ (owns (MutSlice (named 0) κ₀ u64 ∷ u64 ∷ u64 ∷ u64 ∷ u64 ∷ (Array u64 256) ∷ ShrSlice (named 1) κ₁ mEntry.the-row ∷ ShrSlice (named 2) κ₂ mEntry.the-row ∷ ShrSlice (named 3) κ₃ mEntry.the-row ∷ ShrSlice (named 4) κ₄ mEntry.the-row ∷ ShrSlice (named 5) κ₅ mEntry.the-row ∷ ShrSlice (named 6) κ₆ mEntry.the-row ∷ []) a at) ∷ []) ∵ enter ! C Λ code.function (v1 ∷ v2 ∷ v3 ∷ v4 ∷ v5 ∷ v6 ∷ v7 ∷ v8 ∷ v9 ∷ v10 ∷ v11 ∷ v12 ∷ []) _ $
-        alloc1 ! (λ l₀. alloc1 ! (λ l₁. alloc1 ! (λ l₂. alloc1 ! (λ l₃. alloc1 ! (λ l₄. alloc1 ! (λ l₅. alloc1 ! (λ l₆. alloc1 ! (λ l₇. alloc1 ! (λ l₈. alloc1 ! (λ l₉. alloc1 ! (λ l₁₀. alloc1 ! (λ l₁₁. alloc1 ! (λ l₁₂. alloc1 ! (λ l₁₃. alloc1 ! (λ l₁₄. alloc1 ! (λ l₁₅. alloc1 ! (λ l₁₆. alloc1 ! (λ l₁₇. alloc1 ! (λ l₁₈. alloc0 ! $ params1 ! $ pass1 ! (init ! 34 refl (tt, (tt, (record { fits = room1 .0 }, tt)))) $ pass1 ! (init ! 32 refl (uint-lawful 𝓤 H A W w64 .typed n2 _ w2 .0)) $ pass1 ! (init ! 30 refl (uint-lawful 𝓤 H A W w64 .typed n3 _ w3 .0)) $ pass1 ! (init ! 28 refl (uint-lawful 𝓤 H A W w64 .typed n4 _ w4 .0)) $ pass1 ! (init ! 26 refl (uint-lawful 𝓤 H A W w64 .typed n5 _ w5 .0)) $ pass1 ! (init ! 24 refl (array-lawful 𝓤 H A W u64 (uint-lawful 𝓤 H A W w64) 256 .typed n6 _ w6 .0)) $ pass1 ! (init ! 22 refl (shr-slice-lawful 𝓤 H A W (named 1) κ₁ mEntry.the-row .typed s7 (v7 ∷ []) w7 .0)) $ pass1 ! (init ! 20 refl (shr-slice-lawful 𝓤 H A W (named 2) κ₂ mEntry.the-row .typed s8 (v8 ∷ []) w8 .0)) $ pass1 ! (init ! 18 refl (shr-slice-lawful 𝓤 H A W (named 3) κ₃ mEntry.the-row .typed s9 (v9 ∷ []) w9 .0)) $ pass1 ! (init ! 16 refl (shr-slice-lawful 𝓤 H A W (named 4) κ₄ mEntry.the-row .typed s10 (v10 ∷ []) w10 .0)) $ pass1 ! (init ! 14 refl (shr-slice-lawful 𝓤 H A W (named 5) κ₅ mEntry.the-row .typed s11 (v11 ∷ []) w11 .0)) $ pass1 ! (init ! 12 refl (shr-slice-lawful 𝓤 H A W (named 6) κ₆ mEntry.the-row .typed s12 (v12 ∷ []) w12 .0)) $ pass0 ! $
-        move ! (39 ∷ []) $ fsplit ! $ move ! (1 ∷ []) $ fsplit ! $ move ! (1 ∷ []) $ fsplit ! $ move ! (1 ∷ []) $ fsplit ! $ move ! (1 ∷ []) $ fsplit ! $ move ! (1 ∷ []) $ fsplit ! $ move ! (1 ∷ []) $ fsplit ! $ move ! (1 ∷ []) $ fsplit ! $ move ! (1 ∷ []) $ fsplit ! $ move ! (1 ∷ []) $ fsplit ! $ move ! (1 ∷ []) $ fsplit ! $ move ! (1 ∷ []) $ fsplit ! $ move ! (1 ∷ []) $ move ! (51 ∷ []) $ split ! $ move ! (1 ∷ []) $ split ! $ move ! (1 ∷ []) $ split ! $ move ! (1 ∷ []) $ split ! $ move ! (1 ∷ []) $ split ! $ move ! (1 ∷ []) $ split ! $ move ! (1 ∷ []) $ split ! $ move ! (1 ∷ []) $
-        nothing ! $
+        nothing ! $ alloc ! (λ l₀. alloc ! (λ l₁. alloc ! (λ l₂. alloc ! (λ l₃. alloc ! (λ l₄. alloc ! (λ l₅. alloc ! (λ l₆. alloc ! (λ l₇. alloc ! (λ l₈. alloc ! (λ l₉. alloc ! (λ l₁₀. alloc ! (λ l₁₁. alloc ! (λ l₁₂. alloc ! (λ l₁₃. alloc ! (λ l₁₄. alloc ! (λ l₁₅. alloc ! (λ l₁₆. alloc ! (λ l₁₇. alloc ! (λ l₁₈. alloc0 ! $ hide ! (λ died die. params1 ! $ pass1 ! (init ! 18 refl (tt, (tt, (record { fits = room1 .0 }, tt)))) $ pass1 ! (init ! 17 refl (uint-lawful 𝓤 H A W w64 .typed n2 _ w2 .0)) $ pass1 ! (init ! 16 refl (uint-lawful 𝓤 H A W w64 .typed n3 _ w3 .0)) $ pass1 ! (init ! 15 refl (uint-lawful 𝓤 H A W w64 .typed n4 _ w4 .0)) $ pass1 ! (init ! 14 refl (uint-lawful 𝓤 H A W w64 .typed n5 _ w5 .0)) $ pass1 ! (init ! 13 refl (array-lawful 𝓤 H A W u64 (uint-lawful 𝓤 H A W w64) 256 .typed n6 _ w6 .0)) $ pass1 ! (init ! 12 refl (shr-slice-lawful 𝓤 H A W (named 1) κ₁ mEntry.the-row .typed s7 (v7 ∷ []) w7 .0)) $ pass1 ! (init ! 11 refl (shr-slice-lawful 𝓤 H A W (named 2) κ₂ mEntry.the-row .typed s8 (v8 ∷ []) w8 .0)) $ pass1 ! (init ! 10 refl (shr-slice-lawful 𝓤 H A W (named 3) κ₃ mEntry.the-row .typed s9 (v9 ∷ []) w9 .0)) $ pass1 ! (init ! 9 refl (shr-slice-lawful 𝓤 H A W (named 4) κ₄ mEntry.the-row .typed s10 (v10 ∷ []) w10 .0)) $ pass1 ! (init ! 8 refl (shr-slice-lawful 𝓤 H A W (named 5) κ₅ mEntry.the-row .typed s11 (v11 ∷ []) w11 .0)) $ pass1 ! (init ! 7 refl (shr-slice-lawful 𝓤 H A W (named 6) κ₆ mEntry.the-row .typed s12 (v12 ∷ []) w12 .0)) $ pass0 ! $
+        move ! (21 ∷ []) $ fsplit ! $ move ! (1 ∷ []) $ fsplit ! $ move ! (1 ∷ []) $ fsplit ! $ move ! (1 ∷ []) $ fsplit ! $ move ! (1 ∷ []) $ fsplit ! $ move ! (1 ∷ []) $ fsplit ! $ move ! (1 ∷ []) $ fsplit ! $ move ! (1 ∷ []) $ fsplit ! $ move ! (1 ∷ []) $ fsplit ! $ move ! (1 ∷ []) $ fsplit ! $ move ! (1 ∷ []) $ fsplit ! $ move ! (1 ∷ []) $ fsplit ! $ move ! (1 ∷ []) $ drop ! $ move ! (32 ∷ []) $ split ! $ move ! (1 ∷ []) $ split ! $ move ! (1 ∷ []) $ split ! $ move ! (1 ∷ []) $ split ! $ move ! (1 ∷ []) $ split ! $ move ! (1 ∷ []) $ split ! $ move ! (1 ∷ []) $ split ! $ move ! (1 ∷ []) $ drop ! $ tidy W (_ ∷ _ ∷ _ ∷ _ ∷ _ ∷ _ ∷ _ ∷ _ ∷ _ ∷ _ ∷ _ ∷ _ ∷ _ ∷ _ ∷ _ ∷ _ ∷ _ ∷ _ ∷ _ ∷ _ ∷ _ ∷ _ ∷ _ ∷ _ ∷ _ ∷ _ ∷ _ ∷ _ ∷ _ ∷ _ ∷ _ ∷ _ ∷ _ ∷ _ ∷ _ ∷ _ ∷ _ ∷ _ ∷ _ ∷ []) $
+        tidy W (_ ∷ _ ∷ _ ∷ _ ∷ _ ∷ _ ∷ _ ∷ _ ∷ _ ∷ _ ∷ _ ∷ _ ∷ _ ∷ _ ∷ _ ∷ _ ∷ _ ∷ _ ∷ _ ∷ _ ∷ _ ∷ _ ∷ _ ∷ _ ∷ _ ∷ _ ∷ _ ∷ _ ∷ _ ∷ _ ∷ _ ∷ _ ∷ _ ∷ _ ∷ _ ∷ _ ∷ _ ∷ _ ∷ _ ∷ []) $ nothing ! $
         -- call 1
         use1 W (raw (Callee-g1 𝓤 H A at-mem run .pre ((tt, tt, tt, (n3, (n4, (n5, (n6, tt)))), (u3 ∷ [], (u4 ∷ [], (u5 ∷ [], (u6 ∷ [], tt))))), tt))) (qed W ((‵ ftrue) ∷ []) ∵ nothing ! $ owned ! (Array u64 256) (Is (Array u64 256)) (array-makes 𝓤 H A W u64 (uint-makes 𝓤 H A W w64) 256) (n6) _ w6 $ fjoin ! $ owned ! u64 (Is u64) (uint-makes 𝓤 H A W w64) (n5) _ w5 $ fjoin ! $ owned ! u64 (Is u64) (uint-makes 𝓤 H A W w64) (n4) _ w4 $ fjoin ! $ owned ! u64 (Is u64) (uint-makes 𝓤 H A W w64) (n3) _ w3 $ fjoin ! $ move ! (1 ∷ 0 ∷ []) $ join ! $ nothing ! $ move ! (1 ∷ 0 ∷ []) $ frame ! $ done !) $
-        calls-at ! fm (Callee-g1 𝓤 H A at-mem run) known-g1 ((tt, tt, tt, (n3, (n4, (n5, (n6, tt)))), (u3 ∷ [], (u4 ∷ [], (u5 ∷ [], (u6 ∷ [], tt))))), tt) (and-then ! (load ! (from ! (stop !)) (look ! 52 refl)) (and-then ! (load ! (from ! (stop !)) (look ! 50 refl)) (and-then ! (load ! (from ! (stop !)) (look ! 48 refl)) (and-then ! (load ! (from ! (stop !)) (look ! 46 refl)) (no-more !))))) (λ z1.
+        calls-at ! fm (Callee-g1 𝓤 H A at-mem run) known-g1 ((tt, tt, tt, (n3, (n4, (n5, (n6, tt)))), (u3 ∷ [], (u4 ∷ [], (u5 ∷ [], (u6 ∷ [], tt))))), tt) (and-then ! (load ! (from ! (stop !)) (look ! 36 refl)) (and-then ! (load ! (from ! (stop !)) (look ! 35 refl)) (and-then ! (load ! (from ! (stop !)) (look ! 34 refl)) (and-then ! (load ! (from ! (stop !)) (look ! 33 refl)) (no-more !))))) (λ z1.
         use1 W (later (some (λ (r1 : (List ℕ)). ((‵ ftrue) ⊛ ‵ ((Array u64 12) .own r1 (z1 ∷ []))) ⊛ some (λ (ws : Lasts g1.ended tt (n3, (n4, (n5, (n6, tt))))). ‵ (lasts g1.ended tt (n3, (n4, (n5, (n6, tt)))) ws) ⊛ raw (g1.clauses 𝓤 H A at-mem run tt (n3, (n4, (n5, (n6, tt)))) .ensures tt r1 (atExit g1.ended tt (n3, (n4, (n5, (n6, tt)))) ws)))))) (id⊢ 𝓤 _) $ await ! tt $ pick ! (λ r1. split ! $ move ! (1 ∷ []) $ pick ! (λ ws1. split ! $ move ! (1 ∷ []) $ heard ! _ (λ e1.
-        fsplit ! $ move ! (1 ∷ []) $ fsplit ! $ move ! (1 ∷ []) $ fsplit ! $ move ! (1 ∷ []) $ fsplit ! $ move ! (5 ∷ []) $ split ! $ move ! (1 ∷ []) $ peeks ! (Array u64 12) (Is (Array u64 12)) (shows 𝓤 H A (Array u64 12)) r1 (z1 ∷ []) (λ i1. drop ! $ land ! (from ! (stop !)) (init ! 37 refl (array-lawful 𝓤 H A W u64 (uint-lawful 𝓤 H A W w64) 12 .typed r1 _ i1 .0)) $
-        nothing ! $
+        drop ! $ split ! $ move ! (1 ∷ []) $ peeks ! (Array u64 12) (Is (Array u64 12)) (shows 𝓤 H A (Array u64 12)) r1 (z1 ∷ []) (λ i1. drop ! $ land ! (from ! (stop !)) (init ! 26 refl (array-lawful 𝓤 H A W u64 (uint-lawful 𝓤 H A W w64) 12 .typed r1 _ i1 .0)) $
+        tidy W (_ ∷ _ ∷ _ ∷ _ ∷ _ ∷ _ ∷ _ ∷ _ ∷ _ ∷ _ ∷ _ ∷ _ ∷ _ ∷ _ ∷ _ ∷ _ ∷ _ ∷ _ ∷ _ ∷ _ ∷ _ ∷ _ ∷ _ ∷ _ ∷ _ ∷ _ ∷ _ ∷ _ ∷ _ ∷ _ ∷ _ ∷ _ ∷ _ ∷ _ ∷ _ ∷ _ ∷ _ ∷ _ ∷ _ ∷ _ ∷ []) $ drop ! $ tidy W (_ ∷ _ ∷ _ ∷ _ ∷ _ ∷ _ ∷ _ ∷ _ ∷ _ ∷ _ ∷ _ ∷ _ ∷ _ ∷ _ ∷ _ ∷ _ ∷ _ ∷ _ ∷ _ ∷ _ ∷ _ ∷ _ ∷ _ ∷ _ ∷ _ ∷ _ ∷ _ ∷ _ ∷ _ ∷ _ ∷ _ ∷ _ ∷ _ ∷ _ ∷ _ ∷ _ ∷ _ ∷ _ ∷ _ ∷ []) $ nothing ! $
         -- call 2
         use1 W (raw (Callee-g2 𝓤 H A at-mem run .pre ((tt, tt, tt, (n3, (n4, (n5, (n6, tt)))), (u3 ∷ [], (u4 ∷ [], (u5 ∷ [], (u6 ∷ [], tt))))), tt))) (qed W ((‵ ftrue) ∷ []) ∵ nothing ! $ owned ! (Array u64 256) (Is (Array u64 256)) (array-makes 𝓤 H A W u64 (uint-makes 𝓤 H A W w64) 256) (n6) _ w6 $ fjoin ! $ owned ! u64 (Is u64) (uint-makes 𝓤 H A W w64) (n5) _ w5 $ fjoin ! $ owned ! u64 (Is u64) (uint-makes 𝓤 H A W w64) (n4) _ w4 $ fjoin ! $ owned ! u64 (Is u64) (uint-makes 𝓤 H A W w64) (n3) _ w3 $ fjoin ! $ move ! (1 ∷ 0 ∷ []) $ join ! $ nothing ! $ move ! (1 ∷ 0 ∷ []) $ frame ! $ done !) $
-        calls-at ! fm (Callee-g2 𝓤 H A at-mem run) known-g2 ((tt, tt, tt, (n3, (n4, (n5, (n6, tt)))), (u3 ∷ [], (u4 ∷ [], (u5 ∷ [], (u6 ∷ [], tt))))), tt) (and-then ! (load ! (from ! (stop !)) (look ! 58 refl)) (and-then ! (load ! (from ! (stop !)) (look ! 56 refl)) (and-then ! (load ! (from ! (stop !)) (look ! 54 refl)) (and-then ! (load ! (from ! (stop !)) (look ! 52 refl)) (no-more !))))) (λ z2.
+        calls-at ! fm (Callee-g2 𝓤 H A at-mem run) known-g2 ((tt, tt, tt, (n3, (n4, (n5, (n6, tt)))), (u3 ∷ [], (u4 ∷ [], (u5 ∷ [], (u6 ∷ [], tt))))), tt) (and-then ! (load ! (from ! (stop !)) (look ! 36 refl)) (and-then ! (load ! (from ! (stop !)) (look ! 35 refl)) (and-then ! (load ! (from ! (stop !)) (look ! 34 refl)) (and-then ! (load ! (from ! (stop !)) (look ! 33 refl)) (no-more !))))) (λ z2.
         use1 W (later (some (λ (r2 : (List ℕ)). ((‵ ftrue) ⊛ ‵ ((Array u64 32) .own r2 (z2 ∷ []))) ⊛ some (λ (ws : Lasts g2.ended tt (n3, (n4, (n5, (n6, tt))))). ‵ (lasts g2.ended tt (n3, (n4, (n5, (n6, tt)))) ws) ⊛ raw (g2.clauses 𝓤 H A at-mem run tt (n3, (n4, (n5, (n6, tt)))) .ensures tt r2 (atExit g2.ended tt (n3, (n4, (n5, (n6, tt)))) ws)))))) (id⊢ 𝓤 _) $ await ! tt $ pick ! (λ r2. split ! $ move ! (1 ∷ []) $ pick ! (λ ws2. split ! $ move ! (1 ∷ []) $ heard ! _ (λ e2.
-        fsplit ! $ move ! (1 ∷ []) $ fsplit ! $ move ! (1 ∷ []) $ fsplit ! $ move ! (1 ∷ []) $ fsplit ! $ move ! (5 ∷ []) $ split ! $ move ! (1 ∷ []) $ peeks ! (Array u64 32) (Is (Array u64 32)) (shows 𝓤 H A (Array u64 32)) r2 (z2 ∷ []) (λ i2. drop ! $ land ! (from ! (stop !)) (init ! 41 refl (array-lawful 𝓤 H A W u64 (uint-lawful 𝓤 H A W w64) 32 .typed r2 _ i2 .0)) $
-        nothing ! $
+        drop ! $ split ! $ move ! (1 ∷ []) $ peeks ! (Array u64 32) (Is (Array u64 32)) (shows 𝓤 H A (Array u64 32)) r2 (z2 ∷ []) (λ i2. drop ! $ land ! (from ! (stop !)) (init ! 25 refl (array-lawful 𝓤 H A W u64 (uint-lawful 𝓤 H A W w64) 32 .typed r2 _ i2 .0)) $
+        tidy W (_ ∷ _ ∷ _ ∷ _ ∷ _ ∷ _ ∷ _ ∷ _ ∷ _ ∷ _ ∷ _ ∷ _ ∷ _ ∷ _ ∷ _ ∷ _ ∷ _ ∷ _ ∷ _ ∷ _ ∷ _ ∷ _ ∷ _ ∷ _ ∷ _ ∷ _ ∷ _ ∷ _ ∷ _ ∷ _ ∷ _ ∷ _ ∷ _ ∷ _ ∷ _ ∷ _ ∷ _ ∷ _ ∷ _ ∷ _ ∷ []) $ drop ! $ tidy W (_ ∷ _ ∷ _ ∷ _ ∷ _ ∷ _ ∷ _ ∷ _ ∷ _ ∷ _ ∷ _ ∷ _ ∷ _ ∷ _ ∷ _ ∷ _ ∷ _ ∷ _ ∷ _ ∷ _ ∷ _ ∷ _ ∷ _ ∷ _ ∷ _ ∷ _ ∷ _ ∷ _ ∷ _ ∷ _ ∷ _ ∷ _ ∷ _ ∷ _ ∷ _ ∷ _ ∷ _ ∷ _ ∷ _ ∷ []) $ nothing ! $
         -- call 3
         use1 W (raw (Callee-g3 𝓤 H A at-mem run .pre ((tt, tt, tt, (n3, (n4, (n5, (n6, tt)))), (u3 ∷ [], (u4 ∷ [], (u5 ∷ [], (u6 ∷ [], tt))))), tt))) (qed W ((‵ ftrue) ∷ []) ∵ nothing ! $ owned ! (Array u64 256) (Is (Array u64 256)) (array-makes 𝓤 H A W u64 (uint-makes 𝓤 H A W w64) 256) (n6) _ w6 $ fjoin ! $ owned ! u64 (Is u64) (uint-makes 𝓤 H A W w64) (n5) _ w5 $ fjoin ! $ owned ! u64 (Is u64) (uint-makes 𝓤 H A W w64) (n4) _ w4 $ fjoin ! $ owned ! u64 (Is u64) (uint-makes 𝓤 H A W w64) (n3) _ w3 $ fjoin ! $ move ! (1 ∷ 0 ∷ []) $ join ! $ nothing ! $ move ! (1 ∷ 0 ∷ []) $ frame ! $ done !) $
-        calls-at ! fm (Callee-g3 𝓤 H A at-mem run) known-g3 ((tt, tt, tt, (n3, (n4, (n5, (n6, tt)))), (u3 ∷ [], (u4 ∷ [], (u5 ∷ [], (u6 ∷ [], tt))))), tt) (and-then ! (load ! (from ! (stop !)) (look ! 64 refl)) (and-then ! (load ! (from ! (stop !)) (look ! 62 refl)) (and-then ! (load ! (from ! (stop !)) (look ! 60 refl)) (and-then ! (load ! (from ! (stop !)) (look ! 58 refl)) (no-more !))))) (λ z3.
+        calls-at ! fm (Callee-g3 𝓤 H A at-mem run) known-g3 ((tt, tt, tt, (n3, (n4, (n5, (n6, tt)))), (u3 ∷ [], (u4 ∷ [], (u5 ∷ [], (u6 ∷ [], tt))))), tt) (and-then ! (load ! (from ! (stop !)) (look ! 36 refl)) (and-then ! (load ! (from ! (stop !)) (look ! 35 refl)) (and-then ! (load ! (from ! (stop !)) (look ! 34 refl)) (and-then ! (load ! (from ! (stop !)) (look ! 33 refl)) (no-more !))))) (λ z3.
         use1 W (later (some (λ (r3 : (List ℕ)). ((‵ ftrue) ⊛ ‵ ((Array u64 32) .own r3 (z3 ∷ []))) ⊛ some (λ (ws : Lasts g3.ended tt (n3, (n4, (n5, (n6, tt))))). ‵ (lasts g3.ended tt (n3, (n4, (n5, (n6, tt)))) ws) ⊛ raw (g3.clauses 𝓤 H A at-mem run tt (n3, (n4, (n5, (n6, tt)))) .ensures tt r3 (atExit g3.ended tt (n3, (n4, (n5, (n6, tt)))) ws)))))) (id⊢ 𝓤 _) $ await ! tt $ pick ! (λ r3. split ! $ move ! (1 ∷ []) $ pick ! (λ ws3. split ! $ move ! (1 ∷ []) $ heard ! _ (λ e3.
-        fsplit ! $ move ! (1 ∷ []) $ fsplit ! $ move ! (1 ∷ []) $ fsplit ! $ move ! (1 ∷ []) $ fsplit ! $ move ! (5 ∷ []) $ split ! $ move ! (1 ∷ []) $ peeks ! (Array u64 32) (Is (Array u64 32)) (shows 𝓤 H A (Array u64 32)) r3 (z3 ∷ []) (λ i3. drop ! $ land ! (from ! (stop !)) (init ! 45 refl (array-lawful 𝓤 H A W u64 (uint-lawful 𝓤 H A W w64) 32 .typed r3 _ i3 .0)) $
-        assigns ! (addr ! (from ! (fld ! refl (hop ! (look-in ! 73 (sub ! 0 refl (whole !))) (stop !))))) (from ! (stop !)) (init ! 41 refl (tt, tt)) $
-        assigns ! (agg ! (and-then ! (load ! (from ! (stop !)) (look ! 41 refl)) (and-then ! (load ! (from ! (fld ! refl (stop !))) (look-in ! 73 (sub ! 1 refl (whole !)))) (no-more !)))) (from ! (stop !)) (init ! 39 refl (tt, (tt, (record { fits = room1 .0 }, tt)))) $
-        lft-new ! tt (λ ν4a. move ! (39 ∷ 26 ∷ []) $ use2 W (later (some (λ (δ : GName). ‵ (MutSlice (named 0) (ν4a ∷ []) u64 .own (ref1 δ (ys1)) (v1 ∷ [])) ⊛ ‵ (Lent1 ν4a δ (ys1))))) (lends1 (named 0) ν4a (ys1) (refl)) $ await ! tt $ pick ! (λ δ4a. split ! $ move ! (34 ∷ []) $ use1 W (‵ (O7) ⊛ ‵ (O7)) (shr-slice-copy 𝓤 H A W (named 1) κ₁ mEntry.the-row .twice s7 (v7 ∷ [])) $ split ! $ move ! (35 ∷ []) $ use1 W (‵ (O8) ⊛ ‵ (O8)) (shr-slice-copy 𝓤 H A W (named 2) κ₂ mEntry.the-row .twice s8 (v8 ∷ [])) $ split ! $ move ! (36 ∷ []) $ use1 W (‵ (O9) ⊛ ‵ (O9)) (shr-slice-copy 𝓤 H A W (named 3) κ₃ mEntry.the-row .twice s9 (v9 ∷ [])) $ split ! $ move ! (37 ∷ []) $ use1 W (‵ (O10) ⊛ ‵ (O10)) (shr-slice-copy 𝓤 H A W (named 4) κ₄ mEntry.the-row .twice s10 (v10 ∷ [])) $ split ! $ move ! (38 ∷ []) $ use1 W (‵ (O11) ⊛ ‵ (O11)) (shr-slice-copy 𝓤 H A W (named 5) κ₅ mEntry.the-row .twice s11 (v11 ∷ [])) $ split ! $ move ! (39 ∷ []) $ use1 W (‵ (O12) ⊛ ‵ (O12)) (shr-slice-copy 𝓤 H A W (named 6) κ₆ mEntry.the-row .twice s12 (v12 ∷ [])) $ split ! $ nothing ! $ move ! (35 ∷ 0 ∷ []) $ join ! $ move ! (35 ∷ 0 ∷ []) $ join ! $ move ! (35 ∷ 0 ∷ []) $ join ! $ move ! (35 ∷ 0 ∷ []) $ join ! $ move ! (35 ∷ 0 ∷ []) $ join ! $ move ! (35 ∷ 0 ∷ []) $ join ! $ move ! (15 ∷ 0 ∷ []) $ join ! $ move ! (3 ∷ 1 ∷ []) $ join ! $ move ! (4 ∷ 0 ∷ []) $ join ! $ move ! (5 ∷ 0 ∷ []) $ join ! $ move ! (6 ∷ 0 ∷ []) $ join ! $ move ! (7 ∷ 0 ∷ []) $ join ! $ move ! (8 ∷ 0 ∷ []) $ join ! $ move ! (1 ∷ 0 ∷ []) $ join ! $
+        drop ! $ split ! $ move ! (1 ∷ []) $ peeks ! (Array u64 32) (Is (Array u64 32)) (shows 𝓤 H A (Array u64 32)) r3 (z3 ∷ []) (λ i3. drop ! $ land ! (from ! (stop !)) (init ! 24 refl (array-lawful 𝓤 H A W u64 (uint-lawful 𝓤 H A W w64) 32 .typed r3 _ i3 .0)) $
+        tidy W (_ ∷ _ ∷ _ ∷ _ ∷ _ ∷ _ ∷ _ ∷ _ ∷ _ ∷ _ ∷ _ ∷ _ ∷ _ ∷ _ ∷ _ ∷ _ ∷ _ ∷ _ ∷ _ ∷ _ ∷ _ ∷ _ ∷ _ ∷ _ ∷ _ ∷ _ ∷ _ ∷ _ ∷ _ ∷ _ ∷ _ ∷ _ ∷ _ ∷ _ ∷ _ ∷ _ ∷ _ ∷ _ ∷ _ ∷ _ ∷ []) $ drop ! $ assigns ! (addr ! (from ! (fld ! refl (hop ! (look-in ! 37 (sub ! 0 refl (whole !))) (stop !))))) (from ! (stop !)) (init ! 21 refl (tt, tt)) $
+        assigns ! (agg ! (and-then ! (load ! (from ! (stop !)) (look ! 21 refl)) (and-then ! (load ! (from ! (fld ! refl (stop !))) (look-in ! 37 (sub ! 1 refl (whole !)))) (no-more !)))) (from ! (stop !)) (init ! 20 refl (tt, (tt, (record { fits = room1 .0 }, tt)))) $
+        lft-new ! tt (λ ν4a. move ! (19 ∷ 7 ∷ []) $ use2 W (later (some (λ (δ : GName). ‵ (MutSlice (named 0) (ν4a ∷ []) u64 .own (ref1 δ (ys1)) (v1 ∷ [])) ⊛ ‵ (Lent1 ν4a δ (ys1))))) (lends1 (named 0) ν4a (ys1) (refl)) $ await ! tt $ pick ! (λ δ4a. split ! $ move ! (14 ∷ []) $ use1 W (‵ (O7) ⊛ ‵ (O7)) (shr-slice-copy 𝓤 H A W (named 1) κ₁ mEntry.the-row .twice s7 (v7 ∷ [])) $ split ! $ move ! (15 ∷ []) $ use1 W (‵ (O8) ⊛ ‵ (O8)) (shr-slice-copy 𝓤 H A W (named 2) κ₂ mEntry.the-row .twice s8 (v8 ∷ [])) $ split ! $ move ! (16 ∷ []) $ use1 W (‵ (O9) ⊛ ‵ (O9)) (shr-slice-copy 𝓤 H A W (named 3) κ₃ mEntry.the-row .twice s9 (v9 ∷ [])) $ split ! $ move ! (17 ∷ []) $ use1 W (‵ (O10) ⊛ ‵ (O10)) (shr-slice-copy 𝓤 H A W (named 4) κ₄ mEntry.the-row .twice s10 (v10 ∷ [])) $ split ! $ move ! (18 ∷ []) $ use1 W (‵ (O11) ⊛ ‵ (O11)) (shr-slice-copy 𝓤 H A W (named 5) κ₅ mEntry.the-row .twice s11 (v11 ∷ [])) $ split ! $ move ! (19 ∷ []) $ use1 W (‵ (O12) ⊛ ‵ (O12)) (shr-slice-copy 𝓤 H A W (named 6) κ₆ mEntry.the-row .twice s12 (v12 ∷ [])) $ split ! $ tidy W (_ ∷ _ ∷ _ ∷ _ ∷ _ ∷ _ ∷ _ ∷ _ ∷ _ ∷ _ ∷ _ ∷ _ ∷ _ ∷ _ ∷ _ ∷ _ ∷ _ ∷ _ ∷ _ ∷ _ ∷ _ ∷ _ ∷ _ ∷ _ ∷ _ ∷ _ ∷ _ ∷ _ ∷ _ ∷ _ ∷ _ ∷ _ ∷ _ ∷ _ ∷ _ ∷ _ ∷ _ ∷ _ ∷ _ ∷ _ ∷ _ ∷ _ ∷ _ ∷ _ ∷ _ ∷ _ ∷ []) $ nothing ! $ move ! (16 ∷ 0 ∷ []) $ join ! $ move ! (16 ∷ 0 ∷ []) $ join ! $ move ! (16 ∷ 0 ∷ []) $ join ! $ move ! (16 ∷ 0 ∷ []) $ join ! $ move ! (16 ∷ 0 ∷ []) $ join ! $ move ! (16 ∷ 0 ∷ []) $ join ! $ move ! (15 ∷ 0 ∷ []) $ join ! $ move ! (3 ∷ 1 ∷ []) $ join ! $ move ! (4 ∷ 0 ∷ []) $ join ! $ move ! (5 ∷ 0 ∷ []) $ join ! $ move ! (6 ∷ 0 ∷ []) $ join ! $ move ! (7 ∷ 0 ∷ []) $ join ! $ move ! (8 ∷ 0 ∷ []) $ join ! $ move ! (1 ∷ 0 ∷ []) $ join ! $
         -- call 4
         use1 W (raw (Callee-g4 𝓤 H A at-mem run .pre ((((ν4a ∷ []), (κ₁, (κ₂, (κ₃, (κ₄, (κ₅, (κ₆, tt))))))), (fullShare, (q₁, (q₂, (q₃, (q₄, (q₅, (q₆, tt))))))), tt, (ref1 δ4a (ys1), (n2, (n4, (n5, (r1, (r2, (r3, (s7, (s8, (s9, (s10, (s11, (s12, tt))))))))))))), (v1 ∷ [], (u2 ∷ [], (u4 ∷ [], (u5 ∷ [], (z1 ∷ [], (z2 ∷ [], (z3 ∷ [], (v7 ∷ [], (v8 ∷ [], (v9 ∷ [], (v10 ∷ [], (v11 ∷ [], (v12 ∷ [], tt)))))))))))))), tt))) (qed W ((‵ (flft (ν4a ∷ []) fullShare) ⊛ ‵ (flft κ₁ q₁) ⊛ ‵ (flft κ₂ q₂) ⊛ ‵ (flft κ₃ q₃) ⊛ ‵ (flft κ₄ q₄) ⊛ ‵ (flft κ₅ q₅) ⊛ ‵ (flft κ₆ q₆) ⊛ ‵ ftrue) ∷ ‵ (MutSlice (named 0) (ν4a ∷ []) u64 .own (ref1 δ4a (ys1)) (v1 ∷ [])) ∷ ‵ (ShrSlice (named 1) κ₁ mEntry.the-row .own s7 (v7 ∷ [])) ∷ ‵ (ShrSlice (named 2) κ₂ mEntry.the-row .own s8 (v8 ∷ [])) ∷ ‵ (ShrSlice (named 3) κ₃ mEntry.the-row .own s9 (v9 ∷ [])) ∷ ‵ (ShrSlice (named 4) κ₄ mEntry.the-row .own s10 (v10 ∷ [])) ∷ ‵ (ShrSlice (named 5) κ₅ mEntry.the-row .own s11 (v11 ∷ [])) ∷ ‵ (ShrSlice (named 6) κ₆ mEntry.the-row .own s12 (v12 ∷ [])) ∷ []) ∵ nothing ! $ move ! (8 ∷ 0 ∷ []) $ fjoin ! $ move ! (7 ∷ 0 ∷ []) $ fjoin ! $ move ! (6 ∷ 0 ∷ []) $ fjoin ! $ move ! (5 ∷ 0 ∷ []) $ fjoin ! $ move ! (4 ∷ 0 ∷ []) $ fjoin ! $ move ! (3 ∷ 0 ∷ []) $ fjoin ! $ owned ! (Array u64 32) (Is (Array u64 32)) (array-makes 𝓤 H A W u64 (uint-makes 𝓤 H A W w64) 32) (r3) _ i3 $ fjoin ! $ owned ! (Array u64 32) (Is (Array u64 32)) (array-makes 𝓤 H A W u64 (uint-makes 𝓤 H A W w64) 32) (r2) _ i2 $ fjoin ! $ owned ! (Array u64 12) (Is (Array u64 12)) (array-makes 𝓤 H A W u64 (uint-makes 𝓤 H A W w64) 12) (r1) _ i1 $ fjoin ! $ owned ! u64 (Is u64) (uint-makes 𝓤 H A W w64) (n5) _ w5 $ fjoin ! $ owned ! u64 (Is u64) (uint-makes 𝓤 H A W w64) (n4) _ w4 $ fjoin ! $ owned ! u64 (Is u64) (uint-makes 𝓤 H A W w64) (n2) _ w2 $ fjoin ! $ move ! (2 ∷ 0 ∷ []) $ fjoin ! $ move ! (1 ∷ 0 ∷ []) $ join ! $ nothing ! $ move ! (1 ∷ 0 ∷ []) $ frame ! $ done !) $
-        calls-at ! fm (Callee-g4 𝓤 H A at-mem run) known-g4 ((((ν4a ∷ []), (κ₁, (κ₂, (κ₃, (κ₄, (κ₅, (κ₆, tt))))))), (fullShare, (q₁, (q₂, (q₃, (q₄, (q₅, (q₆, tt))))))), tt, (ref1 δ4a (ys1), (n2, (n4, (n5, (r1, (r2, (r3, (s7, (s8, (s9, (s10, (s11, (s12, tt))))))))))))), (v1 ∷ [], (u2 ∷ [], (u4 ∷ [], (u5 ∷ [], (z1 ∷ [], (z2 ∷ [], (z3 ∷ [], (v7 ∷ [], (v8 ∷ [], (v9 ∷ [], (v10 ∷ [], (v11 ∷ [], (v12 ∷ [], tt)))))))))))))), tt) (and-then ! (load ! (from ! (stop !)) (look ! 33 refl)) (and-then ! (load ! (from ! (stop !)) (look ! 65 refl)) (and-then ! (load ! (from ! (stop !)) (look ! 61 refl)) (and-then ! (load ! (from ! (stop !)) (look ! 59 refl)) (and-then ! (load ! (from ! (stop !)) (look ! 43 refl)) (and-then ! (load ! (from ! (stop !)) (look ! 41 refl)) (and-then ! (load ! (from ! (stop !)) (look ! 39 refl)) (and-then ! (load ! (from ! (stop !)) (look ! 55 refl)) (and-then ! (load ! (from ! (stop !)) (look ! 53 refl)) (and-then ! (load ! (from ! (stop !)) (look ! 51 refl)) (and-then ! (load ! (from ! (stop !)) (look ! 49 refl)) (and-then ! (load ! (from ! (stop !)) (look ! 47 refl)) (and-then ! (load ! (from ! (stop !)) (look ! 45 refl)) (no-more !)))))))))))))) (λ z4.
+        calls-at ! fm (Callee-g4 𝓤 H A at-mem run) known-g4 ((((ν4a ∷ []), (κ₁, (κ₂, (κ₃, (κ₄, (κ₅, (κ₆, tt))))))), (fullShare, (q₁, (q₂, (q₃, (q₄, (q₅, (q₆, tt))))))), tt, (ref1 δ4a (ys1), (n2, (n4, (n5, (r1, (r2, (r3, (s7, (s8, (s9, (s10, (s11, (s12, tt))))))))))))), (v1 ∷ [], (u2 ∷ [], (u4 ∷ [], (u5 ∷ [], (z1 ∷ [], (z2 ∷ [], (z3 ∷ [], (v7 ∷ [], (v8 ∷ [], (v9 ∷ [], (v10 ∷ [], (v11 ∷ [], (v12 ∷ [], tt)))))))))))))), tt) (and-then ! (load ! (from ! (stop !)) (look ! 14 refl)) (and-then ! (load ! (from ! (stop !)) (look ! 30 refl)) (and-then ! (load ! (from ! (stop !)) (look ! 28 refl)) (and-then ! (load ! (from ! (stop !)) (look ! 27 refl)) (and-then ! (load ! (from ! (stop !)) (look ! 19 refl)) (and-then ! (load ! (from ! (stop !)) (look ! 18 refl)) (and-then ! (load ! (from ! (stop !)) (look ! 17 refl)) (and-then ! (load ! (from ! (stop !)) (look ! 25 refl)) (and-then ! (load ! (from ! (stop !)) (look ! 24 refl)) (and-then ! (load ! (from ! (stop !)) (look ! 23 refl)) (and-then ! (load ! (from ! (stop !)) (look ! 22 refl)) (and-then ! (load ! (from ! (stop !)) (look ! 21 refl)) (and-then ! (load ! (from ! (stop !)) (look ! 20 refl)) (no-more !)))))))))))))) (λ z4.
         use1 W (later (some (λ (r4 : Unit {0}). ((‵ (flft (ν4a ∷ []) fullShare) ⊛ ‵ (flft κ₁ q₁) ⊛ ‵ (flft κ₂ q₂) ⊛ ‵ (flft κ₃ q₃) ⊛ ‵ (flft κ₄ q₄) ⊛ ‵ (flft κ₅ q₅) ⊛ ‵ (flft κ₆ q₆) ⊛ ‵ ftrue) ⊛ ‵ (unit .own r4 (z4 ∷ []))) ⊛ some (λ (ws : Lasts g4.ended ((ν4a ∷ []), (κ₁, (κ₂, (κ₃, (κ₄, (κ₅, (κ₆, tt))))))) (ref1 δ4a (ys1), (n2, (n4, (n5, (r1, (r2, (r3, (s7, (s8, (s9, (s10, (s11, (s12, tt)))))))))))))). ‵ (lasts g4.ended ((ν4a ∷ []), (κ₁, (κ₂, (κ₃, (κ₄, (κ₅, (κ₆, tt))))))) (ref1 δ4a (ys1), (n2, (n4, (n5, (r1, (r2, (r3, (s7, (s8, (s9, (s10, (s11, (s12, tt))))))))))))) ws) ⊛ raw (g4.clauses 𝓤 H A at-mem run ((ν4a ∷ []), (κ₁, (κ₂, (κ₃, (κ₄, (κ₅, (κ₆, tt))))))) (ref1 δ4a (ys1), (n2, (n4, (n5, (r1, (r2, (r3, (s7, (s8, (s9, (s10, (s11, (s12, tt))))))))))))) .ensures tt r4 (atExit g4.ended ((ν4a ∷ []), (κ₁, (κ₂, (κ₃, (κ₄, (κ₅, (κ₆, tt))))))) (ref1 δ4a (ys1), (n2, (n4, (n5, (r1, (r2, (r3, (s7, (s8, (s9, (s10, (s11, (s12, tt))))))))))))) ws)))))) (id⊢ 𝓤 _) $ await ! tt $ pick ! (λ r4. split ! $ move ! (1 ∷ []) $ pick ! (λ ws4. split ! $ move ! (1 ∷ []) $ heard ! _ (λ e4.
-        fsplit ! $ fsplit ! $ move ! (1 ∷ []) $ feqL ! (λ same4a. move ! (1 ∷ []) $ fsplit ! $ move ! (1 ∷ []) $ fsplit ! $ move ! (1 ∷ []) $ fsplit ! $ move ! (1 ∷ []) $ fsplit ! $ move ! (1 ∷ []) $ fsplit ! $ move ! (1 ∷ []) $ fsplit ! $ move ! (1 ∷ []) $ fsplit ! $ move ! (1 ∷ []) $ fsplit ! $ move ! (1 ∷ []) $ fsplit ! $ move ! (1 ∷ []) $ fsplit ! $ move ! (1 ∷ []) $ fsplit ! $ move ! (1 ∷ []) $ fsplit ! $ move ! (14 ∷ []) $ split ! $ move ! (1 ∷ []) $ feqL ! (λ i4. land ! (from ! (stop !)) (init ! 51 refl (subst (λ (t : Val). Trueᴮ (hasTy tyUnit t) × WT t) (sym (ap only i4)) (tt, tt))) $
-        split ! $ move ! (1 ∷ []) $ split ! $ move ! (1 ∷ []) $ split ! $ move ! (1 ∷ []) $ split ! $ move ! (1 ∷ []) $ split ! $ move ! (1 ∷ []) $ split ! $ move ! (1 ∷ []) $ split ! $ move ! (1 ∷ []) $ move ! (7 ∷ []) $ lft-end ! tt $ move ! (0 ∷ 28 ∷ 21 ∷ []) $ use3 W (later (‵ (O1 (ws4 .0)) ⊛ ‵ (flft κ₀ q₀))) (backs1 (named 0) ν4a δ4a (ys1) (ws4 .0) (refl) room1 same4a) $ await ! tt $ split ! $
-        assigns ! (of-opd ! (unit-lit !)) (from ! (stop !)) (init ! 89 refl (tt, tt)) $
-        returns ! (look ! 89 refl) $ forget ! 89 refl $ forget ! 87 refl $ forget ! 85 refl $ forget ! 83 refl $ forget ! 81 refl $ forget ! 79 refl $ forget ! 77 refl $ forget ! 75 refl $ forget ! 73 refl $ forget ! 71 refl $ forget ! 69 refl $ forget ! 67 refl $ forget ! 65 refl $ forget ! 63 refl $ forget ! 61 refl $ forget ! 59 refl $ forget ! 57 refl $ forget ! 55 refl $ forget ! 53 refl $
-        move ! (89 ∷ 90 ∷ []) $ free1 ! $ move ! (87 ∷ 88 ∷ []) $ free1 ! $ move ! (85 ∷ 86 ∷ []) $ free1 ! $ move ! (83 ∷ 84 ∷ []) $ free1 ! $ move ! (81 ∷ 82 ∷ []) $ free1 ! $ move ! (79 ∷ 80 ∷ []) $ free1 ! $ move ! (77 ∷ 78 ∷ []) $ free1 ! $ move ! (75 ∷ 76 ∷ []) $ free1 ! $ move ! (73 ∷ 74 ∷ []) $ free1 ! $ move ! (71 ∷ 72 ∷ []) $ free1 ! $ move ! (69 ∷ 70 ∷ []) $ free1 ! $ move ! (67 ∷ 68 ∷ []) $ free1 ! $ move ! (65 ∷ 66 ∷ []) $ free1 ! $ move ! (63 ∷ 64 ∷ []) $ free1 ! $ move ! (61 ∷ 62 ∷ []) $ free1 ! $ move ! (59 ∷ 60 ∷ []) $ free1 ! $ move ! (57 ∷ 58 ∷ []) $ free1 ! $ move ! (55 ∷ 56 ∷ []) $ free1 ! $ move ! (53 ∷ 54 ∷ []) $ free1 ! $ free0 ! $
+        fsplit ! $ fsplit ! $ move ! (1 ∷ []) $ feqL ! (λ same4a. move ! (1 ∷ []) $ drop ! $ move ! (1 ∷ []) $ split ! $ move ! (1 ∷ []) $ feqL ! (λ i4. land ! (from ! (stop !)) (init ! 17 refl (subst (λ (t : Val). Trueᴮ (hasTy tyUnit t) × WT t) (sym (ap only i4)) (tt, tt))) $
+        tidy W (_ ∷ _ ∷ _ ∷ _ ∷ _ ∷ _ ∷ _ ∷ _ ∷ _ ∷ _ ∷ _ ∷ _ ∷ _ ∷ _ ∷ _ ∷ _ ∷ _ ∷ _ ∷ _ ∷ _ ∷ _ ∷ _ ∷ _ ∷ _ ∷ _ ∷ _ ∷ _ ∷ _ ∷ _ ∷ _ ∷ _ ∷ _ ∷ _ ∷ _ ∷ []) $ split ! $ move ! (1 ∷ []) $ split ! $ move ! (1 ∷ []) $ split ! $ move ! (1 ∷ []) $ split ! $ move ! (1 ∷ []) $ split ! $ move ! (1 ∷ []) $ split ! $ move ! (1 ∷ []) $ split ! $ move ! (1 ∷ []) $ drop ! $ move ! (6 ∷ []) $ lft-end ! tt $ move ! (0 ∷ 14 ∷ 7 ∷ []) $ use3 W (later (‵ (O1 (ws4 .0)) ⊛ ‵ (flft κ₀ q₀))) (backs1 (named 0) ν4a δ4a (ys1) (ws4 .0) (refl) room1 same4a) $ await ! tt $ split ! $
+        assigns ! (of-opd ! (unit-lit !)) (from ! (stop !)) (init ! 38 refl (tt, tt)) $
+        tidy W (_ ∷ _ ∷ _ ∷ _ ∷ _ ∷ _ ∷ _ ∷ _ ∷ _ ∷ _ ∷ _ ∷ _ ∷ _ ∷ _ ∷ _ ∷ _ ∷ _ ∷ _ ∷ _ ∷ _ ∷ _ ∷ _ ∷ _ ∷ _ ∷ _ ∷ _ ∷ _ ∷ _ ∷ _ ∷ _ ∷ _ ∷ _ ∷ _ ∷ _ ∷ _ ∷ _ ∷ _ ∷ _ ∷ _ ∷ []) $ returns ! (look ! 38 refl) $ move ! (19 ∷ []) $ use1 W (dies ((tyUnit, l₀) ∷ (sliceTy (tyRef (named 0) mut (tyInt w64)), l₁) ∷ (tyInt w64, l₂) ∷ (tyInt w64, l₃) ∷ (tyInt w64, l₄) ∷ (tyInt w64, l₅) ∷ (tyArray (tyInt w64) 256, l₆) ∷ (sliceTy (tyRef (named 1) imm (pointee (mEntry.the-row .written))), l₇) ∷ (sliceTy (tyRef (named 2) imm (pointee (mEntry.the-row .written))), l₈) ∷ (sliceTy (tyRef (named 3) imm (pointee (mEntry.the-row .written))), l₉) ∷ (sliceTy (tyRef (named 4) imm (pointee (mEntry.the-row .written))), l₁₀) ∷ (sliceTy (tyRef (named 5) imm (pointee (mEntry.the-row .written))), l₁₁) ∷ (sliceTy (tyRef (named 6) imm (pointee (mEntry.the-row .written))), l₁₂) ∷ (tyArray (tyInt w64) 12, l₁₃) ∷ (tyArray (tyInt w64) 32, l₁₄) ∷ (tyArray (tyInt w64) 32, l₁₅) ∷ (tyUnit, l₁₆) ∷ (tyRef erased mut (tyInt w64), l₁₇) ∷ (sliceTy (tyRef erased mut (tyInt w64)), l₁₈) ∷ []) (‵ ftrue)) die $ free-all ! 19 ((tyUnit, l₀) ∷ (sliceTy (tyRef (named 0) mut (tyInt w64)), l₁) ∷ (tyInt w64, l₂) ∷ (tyInt w64, l₃) ∷ (tyInt w64, l₄) ∷ (tyInt w64, l₅) ∷ (tyArray (tyInt w64) 256, l₆) ∷ (sliceTy (tyRef (named 1) imm (pointee (mEntry.the-row .written))), l₇) ∷ (sliceTy (tyRef (named 2) imm (pointee (mEntry.the-row .written))), l₈) ∷ (sliceTy (tyRef (named 3) imm (pointee (mEntry.the-row .written))), l₉) ∷ (sliceTy (tyRef (named 4) imm (pointee (mEntry.the-row .written))), l₁₀) ∷ (sliceTy (tyRef (named 5) imm (pointee (mEntry.the-row .written))), l₁₁) ∷ (sliceTy (tyRef (named 6) imm (pointee (mEntry.the-row .written))), l₁₂) ∷ (tyArray (tyInt w64) 12, l₁₃) ∷ (tyArray (tyInt w64) 32, l₁₄) ∷ (tyArray (tyInt w64) 32, l₁₅) ∷ (tyUnit, l₁₆) ∷ (tyRef erased mut (tyInt w64), l₁₇) ∷ (sliceTy (tyRef erased mut (tyInt w64)), l₁₈) ∷ []) (kept _ ∷ kept _ ∷ kept _ ∷ kept _ ∷ kept _ ∷ kept _ ∷ kept _ ∷ kept _ ∷ kept _ ∷ kept _ ∷ kept _ ∷ kept _ ∷ kept _ ∷ kept _ ∷ kept _ ∷ kept _ ∷ kept _ ∷ kept _ ∷ kept _ ∷ []) refl $
         suffices ! _ (ends-at 𝓤 H A f.ended stayed (f.clauses 𝓤 H A at-mem run) W (((κ₀, (κ₁, (κ₂, (κ₃, (κ₄, (κ₅, (κ₆, tt))))))), (q₀, (q₁, (q₂, (q₃, (q₄, (q₅, (q₆, tt))))))), tt, a, at), tt) vunit tt (ws4 .0, (tt, (tt, (tt, (tt, (tt, (tt, (tt, (tt, (tt, (tt, (tt, tt)))))))))))) (same4a, (tt, (tt, (tt, (tt, (tt, (tt, (tt, (tt, (tt, (tt, (tt, tt))))))))))))) $ says ! (cc) $
-        nothing ! $ move ! (4 ∷ 0 ∷ []) $ join ! $ move ! (4 ∷ 0 ∷ []) $ join ! $ move ! (4 ∷ 0 ∷ []) $ join ! $ move ! (4 ∷ 0 ∷ []) $ join ! $ move ! (4 ∷ 0 ∷ []) $ join ! $ move ! (4 ∷ 0 ∷ []) $ join ! $ move ! (2 ∷ 0 ∷ []) $ join ! $ nothing ! $ move ! (17 ∷ 0 ∷ []) $ fjoin ! $ move ! (17 ∷ 0 ∷ []) $ fjoin ! $ move ! (17 ∷ 0 ∷ []) $ fjoin ! $ move ! (17 ∷ 0 ∷ []) $ fjoin ! $ move ! (17 ∷ 0 ∷ []) $ fjoin ! $ move ! (17 ∷ 0 ∷ []) $ fjoin ! $ move ! (37 ∷ 0 ∷ []) $ fjoin ! $ move ! (37 ∷ 0 ∷ []) $ fjoin ! $ move ! (37 ∷ 0 ∷ []) $ fjoin ! $ move ! (37 ∷ 0 ∷ []) $ fjoin ! $ move ! (37 ∷ 0 ∷ []) $ fjoin ! $ move ! (2 ∷ 0 ∷ []) $ fjoin ! $ keep ! (1 ∷ 0 ∷ []) $ frame ! $ feqI ! (List Val) (vunit ∷ []) (vunit ∷ []) refl $ move ! (1 ∷ 0 ∷ []) $ done !))))))))))))))))))))))))))))))))))))))))))
+        nothing ! $ move ! (3 ∷ 0 ∷ []) $ join ! $ move ! (3 ∷ 0 ∷ []) $ join ! $ move ! (3 ∷ 0 ∷ []) $ join ! $ move ! (3 ∷ 0 ∷ []) $ join ! $ move ! (3 ∷ 0 ∷ []) $ join ! $ move ! (3 ∷ 0 ∷ []) $ join ! $ move ! (2 ∷ 0 ∷ []) $ join ! $ nothing ! $ move ! (3 ∷ 0 ∷ []) $ fjoin ! $ move ! (3 ∷ 0 ∷ []) $ fjoin ! $ move ! (3 ∷ 0 ∷ []) $ fjoin ! $ move ! (3 ∷ 0 ∷ []) $ fjoin ! $ move ! (3 ∷ 0 ∷ []) $ fjoin ! $ move ! (3 ∷ 0 ∷ []) $ fjoin ! $ move ! (3 ∷ 0 ∷ []) $ fjoin ! $ move ! (3 ∷ 0 ∷ []) $ fjoin ! $ move ! (3 ∷ 0 ∷ []) $ fjoin ! $ move ! (3 ∷ 0 ∷ []) $ fjoin ! $ move ! (3 ∷ 0 ∷ []) $ fjoin ! $ move ! (2 ∷ 0 ∷ []) $ fjoin ! $ keep ! (1 ∷ 0 ∷ []) $ frame ! $ feqI ! (List Val) (vunit ∷ []) (vunit ∷ []) refl $ move ! (1 ∷ 0 ∷ []) $ done !)))))))))))))))))))))))))))))))))))))))))))
 
 module _ {M : Type 1} (𝓤 : URA M) (H : Heap 𝓤) (A : Atoms 𝓤) (W : Given 𝓤 H A) (mem : Memory → SProp 𝓤) (run : Routine → Fun 𝓤) where
   walks : (C : Calls 𝓤 H) (Λ : Loops 𝓤 H) → FmC 𝓤 H (W .laws) C → Triple 𝓤 (C #g1) (Callee-g1 𝓤 H A mem run) → Triple 𝓤 (C #g2) (Callee-g2 𝓤 H A mem run) → Triple 𝓤 (C #g3) (Callee-g3 𝓤 H A mem run) → Triple 𝓤 (C #g4) (Callee-g4 𝓤 H A mem run) → Walks 𝓤 H A f.ended stayed (WpFn 𝓤 H C Λ code.function) (f.clauses 𝓤 H A mem run)

@@ -20,7 +20,7 @@ use contract.Monad.{Fun, fact}
 use contract.Running.{givenOf, tables, tablesOf}
 use types.Kit.{Given, ‵, raw, _⊛_, ⋆, some, later, _$_, _∵_, !, qed, by, move, keep, drop, use1, use2, use3, split, join, pick, fsplit, fsplit3, fjoin, fjoin3, feqL, feqI, rewrite, atRet, suffices, frame, await, done}
 use types.Part.{agg, whole, sub, look-in}
-use types.Run.{look, look-raw, init, store, store-raw, forget, stop, hop, fld, from, load, unit-lit, of-opd, addr, and-then, no-more, lit, true-lit, false-lit, assigns, assigns-last, land, land-last, first, branches, skips, exec, returns, enter, alloc1, alloc0, params1, pass1, pass0, free1, free0}
+use types.Run.{look, look-raw, init, store, store-raw, stop, hop, fld, from, load, unit-lit, of-opd, addr, and-then, no-more, lit, true-lit, false-lit, assigns, assigns-last, land, land-last, first, branches, skips, exec, returns, enter, alloc0, params1, pass1, pass0}
 use types.Tokens.{lft-new, lft-end}
 use sound.WpLaws.{FmC, fmOf, WpFn-mono}
 use denote.RattleType.{owns}
@@ -49,6 +49,7 @@ use Rattle.magnetar_records.proofs.RunEnds.{verify-refused}
 use Rattle.magnetar_inplace.specs.declared.records.Entry.{Entry}
 use Rattle.magnetar_inplace.proofs.records.Entry as mEntry
 use Rattle.magnetar_inplace.proofs.records.Entry.Laws as lEntry
+use Rattle.magnetar_inplace.proofs.Locals.{tidy, bare, kept, dies, alloc, hide, free-all}
 use Rattle.magnetar_records.proofs.combo.all_six as g1
 use Rattle.magnetar_records.proofs.combo.all_six.Symbol as g1-def
 use Rattle.magnetar_records.proofs.combo.all_six.Symbol.{name as #g1}
@@ -205,30 +206,29 @@ module _ {M : Type 1} (𝓤 : URA M) (H : Heap 𝓤) (A : Atoms 𝓤) (W : Given
     walk : ent 𝓤 (onEntry 𝓤 H A f.signature (κ₀, (κ₁, (κ₂, (κ₃, (κ₄, (κ₅, (κ₆, (κ₇, (κ₈, tt))))))))) (q₀, (q₁, (q₂, (q₃, (q₄, (q₅, (q₆, (q₇, (q₈, tt))))))))) a at) (WpFn 𝓤 H C Λ code.function (v1 ∷ v2 ∷ v3 ∷ v4 ∷ v5 ∷ v6 ∷ v7 ∷ v8 ∷ v9 ∷ v10 ∷ v11 ∷ v12 ∷ v13 ∷ v14 ∷ v15 ∷ v16 ∷ v17 ∷ v18 ∷ v19 ∷ v20 ∷ v21 ∷ v22 ∷ v23 ∷ v24 ∷ v25 ∷ v26 ∷ []) Post)
     walk =
         qed W ((‵ (flft κ₀ q₀) ⊛ ‵ (flft κ₁ q₁) ⊛ ‵ (flft κ₂ q₂) ⊛ ‵ (flft κ₃ q₃) ⊛ ‵ (flft κ₄ q₄) ⊛ ‵ (flft κ₅ q₅) ⊛ ‵ (flft κ₆ q₆) ⊛ ‵ (flft κ₇ q₇) ⊛ ‵ (flft κ₈ q₈) ⊛ ‵ ftrue) ∷ ‵ (owns (u64 ∷ u64 ∷ ShrSlice (named 0) κ₀ u64 ∷ u64 ∷ u64 ∷ ShrSlice (named 1) κ₁ mEntry.the-row ∷ u64 ∷ u64 ∷ ShrSlice (named 2) κ₂ mEntry.the-row ∷ u64 ∷ u64 ∷ ShrSlice (named 3) κ₃ mEntry.the-row ∷ u64 ∷ u64 ∷ ShrSlice (named 4) κ₄ mEntry.the-row ∷ u64 ∷ u64 ∷ ShrSlice (named 5) κ₅ mEntry.the-row ∷ u64 ∷ u64 ∷ ShrSlice (named 6) κ₆ mEntry.the-row ∷ ShrSlice (named 7) κ₇ u64 ∷ ShrSlice (named 8) κ₈ u64 ∷ u64 ∷ u64 ∷ u64 ∷ []) a at) ∷ []) ∵ enter ! C Λ code.function (v1 ∷ v2 ∷ v3 ∷ v4 ∷ v5 ∷ v6 ∷ v7 ∷ v8 ∷ v9 ∷ v10 ∷ v11 ∷ v12 ∷ v13 ∷ v14 ∷ v15 ∷ v16 ∷ v17 ∷ v18 ∷ v19 ∷ v20 ∷ v21 ∷ v22 ∷ v23 ∷ v24 ∷ v25 ∷ v26 ∷ []) _ $
-        alloc1 ! (λ l₀. alloc1 ! (λ l₁. alloc1 ! (λ l₂. alloc1 ! (λ l₃. alloc1 ! (λ l₄. alloc1 ! (λ l₅. alloc1 ! (λ l₆. alloc1 ! (λ l₇. alloc1 ! (λ l₈. alloc1 ! (λ l₉. alloc1 ! (λ l₁₀. alloc1 ! (λ l₁₁. alloc1 ! (λ l₁₂. alloc1 ! (λ l₁₃. alloc1 ! (λ l₁₄. alloc1 ! (λ l₁₅. alloc1 ! (λ l₁₆. alloc1 ! (λ l₁₇. alloc1 ! (λ l₁₈. alloc1 ! (λ l₁₉. alloc1 ! (λ l₂₀. alloc1 ! (λ l₂₁. alloc1 ! (λ l₂₂. alloc1 ! (λ l₂₃. alloc1 ! (λ l₂₄. alloc1 ! (λ l₂₅. alloc1 ! (λ l₂₆. alloc1 ! (λ l₂₇. alloc1 ! (λ l₂₈. alloc1 ! (λ l₂₉. alloc1 ! (λ l₃₀. alloc1 ! (λ l₃₁. alloc1 ! (λ l₃₂. alloc1 ! (λ l₃₃. alloc0 ! $ params1 ! $ pass1 ! (init ! 64 refl (uint-lawful 𝓤 H A W w64 .typed n1 _ w1 .0)) $ pass1 ! (init ! 62 refl (uint-lawful 𝓤 H A W w64 .typed n2 _ w2 .0)) $ pass1 ! (init ! 60 refl (shr-slice-lawful 𝓤 H A W (named 0) κ₀ u64 .typed s3 (v3 ∷ []) w3 .0)) $ pass1 ! (init ! 58 refl (uint-lawful 𝓤 H A W w64 .typed n4 _ w4 .0)) $ pass1 ! (init ! 56 refl (uint-lawful 𝓤 H A W w64 .typed n5 _ w5 .0)) $ pass1 ! (init ! 54 refl (shr-slice-lawful 𝓤 H A W (named 1) κ₁ mEntry.the-row .typed s6 (v6 ∷ []) w6 .0)) $ pass1 ! (init ! 52 refl (uint-lawful 𝓤 H A W w64 .typed n7 _ w7 .0)) $ pass1 ! (init ! 50 refl (uint-lawful 𝓤 H A W w64 .typed n8 _ w8 .0)) $ pass1 ! (init ! 48 refl (shr-slice-lawful 𝓤 H A W (named 2) κ₂ mEntry.the-row .typed s9 (v9 ∷ []) w9 .0)) $ pass1 ! (init ! 46 refl (uint-lawful 𝓤 H A W w64 .typed n10 _ w10 .0)) $ pass1 ! (init ! 44 refl (uint-lawful 𝓤 H A W w64 .typed n11 _ w11 .0)) $ pass1 ! (init ! 42 refl (shr-slice-lawful 𝓤 H A W (named 3) κ₃ mEntry.the-row .typed s12 (v12 ∷ []) w12 .0)) $ pass1 ! (init ! 40 refl (uint-lawful 𝓤 H A W w64 .typed n13 _ w13 .0)) $ pass1 ! (init ! 38 refl (uint-lawful 𝓤 H A W w64 .typed n14 _ w14 .0)) $ pass1 ! (init ! 36 refl (shr-slice-lawful 𝓤 H A W (named 4) κ₄ mEntry.the-row .typed s15 (v15 ∷ []) w15 .0)) $ pass1 ! (init ! 34 refl (uint-lawful 𝓤 H A W w64 .typed n16 _ w16 .0)) $ pass1 ! (init ! 32 refl (uint-lawful 𝓤 H A W w64 .typed n17 _ w17 .0)) $ pass1 ! (init ! 30 refl (shr-slice-lawful 𝓤 H A W (named 5) κ₅ mEntry.the-row .typed s18 (v18 ∷ []) w18 .0)) $ pass1 ! (init ! 28 refl (uint-lawful 𝓤 H A W w64 .typed n19 _ w19 .0)) $ pass1 ! (init ! 26 refl (uint-lawful 𝓤 H A W w64 .typed n20 _ w20 .0)) $ pass1 ! (init ! 24 refl (shr-slice-lawful 𝓤 H A W (named 6) κ₆ mEntry.the-row .typed s21 (v21 ∷ []) w21 .0)) $ pass1 ! (init ! 22 refl (shr-slice-lawful 𝓤 H A W (named 7) κ₇ u64 .typed s22 (v22 ∷ []) w22 .0)) $ pass1 ! (init ! 20 refl (shr-slice-lawful 𝓤 H A W (named 8) κ₈ u64 .typed s23 (v23 ∷ []) w23 .0)) $ pass1 ! (init ! 18 refl (uint-lawful 𝓤 H A W w64 .typed n24 _ w24 .0)) $ pass1 ! (init ! 16 refl (uint-lawful 𝓤 H A W w64 .typed n25 _ w25 .0)) $ pass1 ! (init ! 14 refl (uint-lawful 𝓤 H A W w64 .typed n26 _ w26 .0)) $ pass0 ! $
-        move ! (69 ∷ []) $ fsplit ! $ move ! (1 ∷ []) $ fsplit ! $ move ! (1 ∷ []) $ fsplit ! $ move ! (1 ∷ []) $ fsplit ! $ move ! (1 ∷ []) $ fsplit ! $ move ! (1 ∷ []) $ fsplit ! $ move ! (1 ∷ []) $ fsplit ! $ move ! (1 ∷ []) $ fsplit ! $ move ! (1 ∷ []) $ fsplit ! $ move ! (1 ∷ []) $ fsplit ! $ move ! (1 ∷ []) $ fsplit ! $ move ! (1 ∷ []) $ fsplit ! $ move ! (1 ∷ []) $ fsplit ! $ move ! (1 ∷ []) $ fsplit ! $ move ! (1 ∷ []) $ fsplit ! $ move ! (1 ∷ []) $ fsplit ! $ move ! (1 ∷ []) $ fsplit ! $ move ! (1 ∷ []) $ fsplit ! $ move ! (1 ∷ []) $ fsplit ! $ move ! (1 ∷ []) $ fsplit ! $ move ! (1 ∷ []) $ fsplit ! $ move ! (1 ∷ []) $ fsplit ! $ move ! (1 ∷ []) $ fsplit ! $ move ! (1 ∷ []) $ fsplit ! $ move ! (1 ∷ []) $ fsplit ! $ move ! (1 ∷ []) $ fsplit ! $ move ! (1 ∷ []) $ move ! (95 ∷ []) $ split ! $ move ! (1 ∷ []) $ split ! $ move ! (1 ∷ []) $ split ! $ move ! (1 ∷ []) $ split ! $ move ! (1 ∷ []) $ split ! $ move ! (1 ∷ []) $ split ! $ move ! (1 ∷ []) $ split ! $ move ! (1 ∷ []) $ split ! $ move ! (1 ∷ []) $ split ! $ move ! (1 ∷ []) $
-        move ! (31 ∷ []) $ use1 W (‵ (O6) ⊛ ‵ (O6)) (shr-slice-copy 𝓤 H A W (named 1) κ₁ mEntry.the-row .twice s6 (v6 ∷ [])) $ split ! $ move ! (30 ∷ []) $ use1 W (‵ (O9) ⊛ ‵ (O9)) (shr-slice-copy 𝓤 H A W (named 2) κ₂ mEntry.the-row .twice s9 (v9 ∷ [])) $ split ! $ move ! (29 ∷ []) $ use1 W (‵ (O12) ⊛ ‵ (O12)) (shr-slice-copy 𝓤 H A W (named 3) κ₃ mEntry.the-row .twice s12 (v12 ∷ [])) $ split ! $ move ! (28 ∷ []) $ use1 W (‵ (O15) ⊛ ‵ (O15)) (shr-slice-copy 𝓤 H A W (named 4) κ₄ mEntry.the-row .twice s15 (v15 ∷ [])) $ split ! $ move ! (27 ∷ []) $ use1 W (‵ (O18) ⊛ ‵ (O18)) (shr-slice-copy 𝓤 H A W (named 5) κ₅ mEntry.the-row .twice s18 (v18 ∷ [])) $ split ! $ move ! (26 ∷ []) $ use1 W (‵ (O21) ⊛ ‵ (O21)) (shr-slice-copy 𝓤 H A W (named 6) κ₆ mEntry.the-row .twice s21 (v21 ∷ [])) $ split ! $ nothing ! $ move ! (16 ∷ 0 ∷ []) $ join ! $ move ! (16 ∷ 0 ∷ []) $ join ! $ move ! (16 ∷ 0 ∷ []) $ join ! $ move ! (16 ∷ 0 ∷ []) $ join ! $ move ! (16 ∷ 0 ∷ []) $ join ! $ move ! (16 ∷ 0 ∷ []) $ join ! $ move ! (3 ∷ 1 ∷ []) $ join ! $ move ! (4 ∷ 0 ∷ []) $ join ! $ move ! (5 ∷ 0 ∷ []) $ join ! $ move ! (6 ∷ 0 ∷ []) $ join ! $ move ! (7 ∷ 0 ∷ []) $ join ! $ move ! (1 ∷ 0 ∷ []) $ join ! $
+        nothing ! $ alloc ! (λ l₀. alloc ! (λ l₁. alloc ! (λ l₂. alloc ! (λ l₃. alloc ! (λ l₄. alloc ! (λ l₅. alloc ! (λ l₆. alloc ! (λ l₇. alloc ! (λ l₈. alloc ! (λ l₉. alloc ! (λ l₁₀. alloc ! (λ l₁₁. alloc ! (λ l₁₂. alloc ! (λ l₁₃. alloc ! (λ l₁₄. alloc ! (λ l₁₅. alloc ! (λ l₁₆. alloc ! (λ l₁₇. alloc ! (λ l₁₈. alloc ! (λ l₁₉. alloc ! (λ l₂₀. alloc ! (λ l₂₁. alloc ! (λ l₂₂. alloc ! (λ l₂₃. alloc ! (λ l₂₄. alloc ! (λ l₂₅. alloc ! (λ l₂₆. alloc ! (λ l₂₇. alloc ! (λ l₂₈. alloc ! (λ l₂₉. alloc ! (λ l₃₀. alloc ! (λ l₃₁. alloc ! (λ l₃₂. alloc ! (λ l₃₃. alloc0 ! $ hide ! (λ died die. params1 ! $ pass1 ! (init ! 33 refl (uint-lawful 𝓤 H A W w64 .typed n1 _ w1 .0)) $ pass1 ! (init ! 32 refl (uint-lawful 𝓤 H A W w64 .typed n2 _ w2 .0)) $ pass1 ! (init ! 31 refl (shr-slice-lawful 𝓤 H A W (named 0) κ₀ u64 .typed s3 (v3 ∷ []) w3 .0)) $ pass1 ! (init ! 30 refl (uint-lawful 𝓤 H A W w64 .typed n4 _ w4 .0)) $ pass1 ! (init ! 29 refl (uint-lawful 𝓤 H A W w64 .typed n5 _ w5 .0)) $ pass1 ! (init ! 28 refl (shr-slice-lawful 𝓤 H A W (named 1) κ₁ mEntry.the-row .typed s6 (v6 ∷ []) w6 .0)) $ pass1 ! (init ! 27 refl (uint-lawful 𝓤 H A W w64 .typed n7 _ w7 .0)) $ pass1 ! (init ! 26 refl (uint-lawful 𝓤 H A W w64 .typed n8 _ w8 .0)) $ pass1 ! (init ! 25 refl (shr-slice-lawful 𝓤 H A W (named 2) κ₂ mEntry.the-row .typed s9 (v9 ∷ []) w9 .0)) $ pass1 ! (init ! 24 refl (uint-lawful 𝓤 H A W w64 .typed n10 _ w10 .0)) $ pass1 ! (init ! 23 refl (uint-lawful 𝓤 H A W w64 .typed n11 _ w11 .0)) $ pass1 ! (init ! 22 refl (shr-slice-lawful 𝓤 H A W (named 3) κ₃ mEntry.the-row .typed s12 (v12 ∷ []) w12 .0)) $ pass1 ! (init ! 21 refl (uint-lawful 𝓤 H A W w64 .typed n13 _ w13 .0)) $ pass1 ! (init ! 20 refl (uint-lawful 𝓤 H A W w64 .typed n14 _ w14 .0)) $ pass1 ! (init ! 19 refl (shr-slice-lawful 𝓤 H A W (named 4) κ₄ mEntry.the-row .typed s15 (v15 ∷ []) w15 .0)) $ pass1 ! (init ! 18 refl (uint-lawful 𝓤 H A W w64 .typed n16 _ w16 .0)) $ pass1 ! (init ! 17 refl (uint-lawful 𝓤 H A W w64 .typed n17 _ w17 .0)) $ pass1 ! (init ! 16 refl (shr-slice-lawful 𝓤 H A W (named 5) κ₅ mEntry.the-row .typed s18 (v18 ∷ []) w18 .0)) $ pass1 ! (init ! 15 refl (uint-lawful 𝓤 H A W w64 .typed n19 _ w19 .0)) $ pass1 ! (init ! 14 refl (uint-lawful 𝓤 H A W w64 .typed n20 _ w20 .0)) $ pass1 ! (init ! 13 refl (shr-slice-lawful 𝓤 H A W (named 6) κ₆ mEntry.the-row .typed s21 (v21 ∷ []) w21 .0)) $ pass1 ! (init ! 12 refl (shr-slice-lawful 𝓤 H A W (named 7) κ₇ u64 .typed s22 (v22 ∷ []) w22 .0)) $ pass1 ! (init ! 11 refl (shr-slice-lawful 𝓤 H A W (named 8) κ₈ u64 .typed s23 (v23 ∷ []) w23 .0)) $ pass1 ! (init ! 10 refl (uint-lawful 𝓤 H A W w64 .typed n24 _ w24 .0)) $ pass1 ! (init ! 9 refl (uint-lawful 𝓤 H A W w64 .typed n25 _ w25 .0)) $ pass1 ! (init ! 8 refl (uint-lawful 𝓤 H A W w64 .typed n26 _ w26 .0)) $ pass0 ! $
+        move ! (36 ∷ []) $ fsplit ! $ move ! (1 ∷ []) $ fsplit ! $ move ! (1 ∷ []) $ fsplit ! $ move ! (1 ∷ []) $ fsplit ! $ move ! (1 ∷ []) $ fsplit ! $ move ! (1 ∷ []) $ fsplit ! $ move ! (1 ∷ []) $ fsplit ! $ move ! (1 ∷ []) $ fsplit ! $ move ! (1 ∷ []) $ fsplit ! $ move ! (1 ∷ []) $ fsplit ! $ move ! (1 ∷ []) $ fsplit ! $ move ! (1 ∷ []) $ fsplit ! $ move ! (1 ∷ []) $ fsplit ! $ move ! (1 ∷ []) $ fsplit ! $ move ! (1 ∷ []) $ fsplit ! $ move ! (1 ∷ []) $ fsplit ! $ move ! (1 ∷ []) $ fsplit ! $ move ! (1 ∷ []) $ fsplit ! $ move ! (1 ∷ []) $ fsplit ! $ move ! (1 ∷ []) $ fsplit ! $ move ! (1 ∷ []) $ fsplit ! $ move ! (1 ∷ []) $ fsplit ! $ move ! (1 ∷ []) $ fsplit ! $ move ! (1 ∷ []) $ fsplit ! $ move ! (1 ∷ []) $ fsplit ! $ move ! (1 ∷ []) $ fsplit ! $ move ! (1 ∷ []) $ drop ! $ move ! (61 ∷ []) $ split ! $ move ! (1 ∷ []) $ split ! $ move ! (1 ∷ []) $ split ! $ move ! (1 ∷ []) $ split ! $ move ! (1 ∷ []) $ split ! $ move ! (1 ∷ []) $ split ! $ move ! (1 ∷ []) $ split ! $ move ! (1 ∷ []) $ split ! $ move ! (1 ∷ []) $ split ! $ move ! (1 ∷ []) $ drop ! $ tidy W (_ ∷ _ ∷ _ ∷ _ ∷ _ ∷ _ ∷ _ ∷ _ ∷ _ ∷ _ ∷ _ ∷ _ ∷ _ ∷ _ ∷ _ ∷ _ ∷ _ ∷ _ ∷ _ ∷ _ ∷ _ ∷ _ ∷ _ ∷ _ ∷ _ ∷ _ ∷ _ ∷ _ ∷ _ ∷ _ ∷ _ ∷ _ ∷ _ ∷ _ ∷ _ ∷ _ ∷ _ ∷ _ ∷ _ ∷ _ ∷ _ ∷ _ ∷ _ ∷ _ ∷ _ ∷ _ ∷ _ ∷ _ ∷ _ ∷ _ ∷ _ ∷ _ ∷ _ ∷ _ ∷ _ ∷ _ ∷ _ ∷ _ ∷ _ ∷ _ ∷ _ ∷ _ ∷ _ ∷ _ ∷ _ ∷ _ ∷ _ ∷ _ ∷ _ ∷ _ ∷ []) $
+        move ! (29 ∷ []) $ use1 W (‵ (O6) ⊛ ‵ (O6)) (shr-slice-copy 𝓤 H A W (named 1) κ₁ mEntry.the-row .twice s6 (v6 ∷ [])) $ split ! $ move ! (28 ∷ []) $ use1 W (‵ (O9) ⊛ ‵ (O9)) (shr-slice-copy 𝓤 H A W (named 2) κ₂ mEntry.the-row .twice s9 (v9 ∷ [])) $ split ! $ move ! (27 ∷ []) $ use1 W (‵ (O12) ⊛ ‵ (O12)) (shr-slice-copy 𝓤 H A W (named 3) κ₃ mEntry.the-row .twice s12 (v12 ∷ [])) $ split ! $ move ! (26 ∷ []) $ use1 W (‵ (O15) ⊛ ‵ (O15)) (shr-slice-copy 𝓤 H A W (named 4) κ₄ mEntry.the-row .twice s15 (v15 ∷ [])) $ split ! $ move ! (25 ∷ []) $ use1 W (‵ (O18) ⊛ ‵ (O18)) (shr-slice-copy 𝓤 H A W (named 5) κ₅ mEntry.the-row .twice s18 (v18 ∷ [])) $ split ! $ move ! (24 ∷ []) $ use1 W (‵ (O21) ⊛ ‵ (O21)) (shr-slice-copy 𝓤 H A W (named 6) κ₆ mEntry.the-row .twice s21 (v21 ∷ [])) $ split ! $ tidy W (_ ∷ _ ∷ _ ∷ _ ∷ _ ∷ _ ∷ _ ∷ _ ∷ _ ∷ _ ∷ _ ∷ _ ∷ _ ∷ _ ∷ _ ∷ _ ∷ _ ∷ _ ∷ _ ∷ _ ∷ _ ∷ _ ∷ _ ∷ _ ∷ _ ∷ _ ∷ _ ∷ _ ∷ _ ∷ _ ∷ _ ∷ _ ∷ _ ∷ _ ∷ _ ∷ _ ∷ _ ∷ _ ∷ _ ∷ _ ∷ _ ∷ _ ∷ _ ∷ _ ∷ _ ∷ _ ∷ _ ∷ _ ∷ _ ∷ _ ∷ _ ∷ _ ∷ _ ∷ _ ∷ _ ∷ _ ∷ _ ∷ _ ∷ _ ∷ _ ∷ _ ∷ _ ∷ _ ∷ _ ∷ _ ∷ _ ∷ _ ∷ _ ∷ _ ∷ _ ∷ _ ∷ _ ∷ _ ∷ _ ∷ _ ∷ _ ∷ []) $ nothing ! $ move ! (15 ∷ 0 ∷ []) $ join ! $ move ! (15 ∷ 0 ∷ []) $ join ! $ move ! (15 ∷ 0 ∷ []) $ join ! $ move ! (15 ∷ 0 ∷ []) $ join ! $ move ! (15 ∷ 0 ∷ []) $ join ! $ move ! (15 ∷ 0 ∷ []) $ join ! $ move ! (3 ∷ 1 ∷ []) $ join ! $ move ! (4 ∷ 0 ∷ []) $ join ! $ move ! (5 ∷ 0 ∷ []) $ join ! $ move ! (6 ∷ 0 ∷ []) $ join ! $ move ! (7 ∷ 0 ∷ []) $ join ! $ move ! (1 ∷ 0 ∷ []) $ join ! $
         -- call 1
         use1 W (raw (Callee-g1 𝓤 H A at-mem run .pre (((κ₁, (κ₂, (κ₃, (κ₄, (κ₅, (κ₆, tt)))))), (q₁, (q₂, (q₃, (q₄, (q₅, (q₆, tt)))))), tt, (n4, (n5, (s6, (n7, (n8, (s9, (n10, (n11, (s12, (n13, (n14, (s15, (n16, (n17, (s18, (n19, (n20, (s21, tt)))))))))))))))))), (u4 ∷ [], (u5 ∷ [], (v6 ∷ [], (u7 ∷ [], (u8 ∷ [], (v9 ∷ [], (u10 ∷ [], (u11 ∷ [], (v12 ∷ [], (u13 ∷ [], (u14 ∷ [], (v15 ∷ [], (u16 ∷ [], (u17 ∷ [], (v18 ∷ [], (u19 ∷ [], (u20 ∷ [], (v21 ∷ [], tt))))))))))))))))))), tt))) (qed W ((‵ (flft κ₁ q₁) ⊛ ‵ (flft κ₂ q₂) ⊛ ‵ (flft κ₃ q₃) ⊛ ‵ (flft κ₄ q₄) ⊛ ‵ (flft κ₅ q₅) ⊛ ‵ (flft κ₆ q₆) ⊛ ‵ ftrue) ∷ ‵ (ShrSlice (named 0) κ₁ mEntry.the-row .own s6 (v6 ∷ [])) ∷ ‵ (ShrSlice (named 1) κ₂ mEntry.the-row .own s9 (v9 ∷ [])) ∷ ‵ (ShrSlice (named 2) κ₃ mEntry.the-row .own s12 (v12 ∷ [])) ∷ ‵ (ShrSlice (named 3) κ₄ mEntry.the-row .own s15 (v15 ∷ [])) ∷ ‵ (ShrSlice (named 4) κ₅ mEntry.the-row .own s18 (v18 ∷ [])) ∷ ‵ (ShrSlice (named 5) κ₆ mEntry.the-row .own s21 (v21 ∷ [])) ∷ []) ∵ nothing ! $ move ! (7 ∷ 0 ∷ []) $ fjoin ! $ owned ! u64 (Is u64) (uint-makes 𝓤 H A W w64) (n20) _ w20 $ fjoin ! $ owned ! u64 (Is u64) (uint-makes 𝓤 H A W w64) (n19) _ w19 $ fjoin ! $ move ! (6 ∷ 0 ∷ []) $ fjoin ! $ owned ! u64 (Is u64) (uint-makes 𝓤 H A W w64) (n17) _ w17 $ fjoin ! $ owned ! u64 (Is u64) (uint-makes 𝓤 H A W w64) (n16) _ w16 $ fjoin ! $ move ! (5 ∷ 0 ∷ []) $ fjoin ! $ owned ! u64 (Is u64) (uint-makes 𝓤 H A W w64) (n14) _ w14 $ fjoin ! $ owned ! u64 (Is u64) (uint-makes 𝓤 H A W w64) (n13) _ w13 $ fjoin ! $ move ! (4 ∷ 0 ∷ []) $ fjoin ! $ owned ! u64 (Is u64) (uint-makes 𝓤 H A W w64) (n11) _ w11 $ fjoin ! $ owned ! u64 (Is u64) (uint-makes 𝓤 H A W w64) (n10) _ w10 $ fjoin ! $ move ! (3 ∷ 0 ∷ []) $ fjoin ! $ owned ! u64 (Is u64) (uint-makes 𝓤 H A W w64) (n8) _ w8 $ fjoin ! $ owned ! u64 (Is u64) (uint-makes 𝓤 H A W w64) (n7) _ w7 $ fjoin ! $ move ! (2 ∷ 0 ∷ []) $ fjoin ! $ owned ! u64 (Is u64) (uint-makes 𝓤 H A W w64) (n5) _ w5 $ fjoin ! $ owned ! u64 (Is u64) (uint-makes 𝓤 H A W w64) (n4) _ w4 $ fjoin ! $ move ! (1 ∷ 0 ∷ []) $ join ! $ nothing ! $ move ! (1 ∷ 0 ∷ []) $ frame ! $ done !) $
-        calls-at ! fm (Callee-g1 𝓤 H A at-mem run) known-g1 (((κ₁, (κ₂, (κ₃, (κ₄, (κ₅, (κ₆, tt)))))), (q₁, (q₂, (q₃, (q₄, (q₅, (q₆, tt)))))), tt, (n4, (n5, (s6, (n7, (n8, (s9, (n10, (n11, (s12, (n13, (n14, (s15, (n16, (n17, (s18, (n19, (n20, (s21, tt)))))))))))))))))), (u4 ∷ [], (u5 ∷ [], (v6 ∷ [], (u7 ∷ [], (u8 ∷ [], (v9 ∷ [], (u10 ∷ [], (u11 ∷ [], (v12 ∷ [], (u13 ∷ [], (u14 ∷ [], (v15 ∷ [], (u16 ∷ [], (u17 ∷ [], (v18 ∷ [], (u19 ∷ [], (u20 ∷ [], (v21 ∷ [], tt))))))))))))))))))), tt) (and-then ! (load ! (from ! (stop !)) (look ! 90 refl)) (and-then ! (load ! (from ! (stop !)) (look ! 88 refl)) (and-then ! (load ! (from ! (stop !)) (look ! 86 refl)) (and-then ! (load ! (from ! (stop !)) (look ! 84 refl)) (and-then ! (load ! (from ! (stop !)) (look ! 82 refl)) (and-then ! (load ! (from ! (stop !)) (look ! 80 refl)) (and-then ! (load ! (from ! (stop !)) (look ! 78 refl)) (and-then ! (load ! (from ! (stop !)) (look ! 76 refl)) (and-then ! (load ! (from ! (stop !)) (look ! 74 refl)) (and-then ! (load ! (from ! (stop !)) (look ! 72 refl)) (and-then ! (load ! (from ! (stop !)) (look ! 70 refl)) (and-then ! (load ! (from ! (stop !)) (look ! 68 refl)) (and-then ! (load ! (from ! (stop !)) (look ! 66 refl)) (and-then ! (load ! (from ! (stop !)) (look ! 64 refl)) (and-then ! (load ! (from ! (stop !)) (look ! 62 refl)) (and-then ! (load ! (from ! (stop !)) (look ! 60 refl)) (and-then ! (load ! (from ! (stop !)) (look ! 58 refl)) (and-then ! (load ! (from ! (stop !)) (look ! 56 refl)) (no-more !))))))))))))))))))) (λ z1.
+        calls-at ! fm (Callee-g1 𝓤 H A at-mem run) known-g1 (((κ₁, (κ₂, (κ₃, (κ₄, (κ₅, (κ₆, tt)))))), (q₁, (q₂, (q₃, (q₄, (q₅, (q₆, tt)))))), tt, (n4, (n5, (s6, (n7, (n8, (s9, (n10, (n11, (s12, (n13, (n14, (s15, (n16, (n17, (s18, (n19, (n20, (s21, tt)))))))))))))))))), (u4 ∷ [], (u5 ∷ [], (v6 ∷ [], (u7 ∷ [], (u8 ∷ [], (v9 ∷ [], (u10 ∷ [], (u11 ∷ [], (v12 ∷ [], (u13 ∷ [], (u14 ∷ [], (v15 ∷ [], (u16 ∷ [], (u17 ∷ [], (v18 ∷ [], (u19 ∷ [], (u20 ∷ [], (v21 ∷ [], tt))))))))))))))))))), tt) (and-then ! (load ! (from ! (stop !)) (look ! 60 refl)) (and-then ! (load ! (from ! (stop !)) (look ! 59 refl)) (and-then ! (load ! (from ! (stop !)) (look ! 58 refl)) (and-then ! (load ! (from ! (stop !)) (look ! 57 refl)) (and-then ! (load ! (from ! (stop !)) (look ! 56 refl)) (and-then ! (load ! (from ! (stop !)) (look ! 55 refl)) (and-then ! (load ! (from ! (stop !)) (look ! 54 refl)) (and-then ! (load ! (from ! (stop !)) (look ! 53 refl)) (and-then ! (load ! (from ! (stop !)) (look ! 52 refl)) (and-then ! (load ! (from ! (stop !)) (look ! 51 refl)) (and-then ! (load ! (from ! (stop !)) (look ! 50 refl)) (and-then ! (load ! (from ! (stop !)) (look ! 49 refl)) (and-then ! (load ! (from ! (stop !)) (look ! 48 refl)) (and-then ! (load ! (from ! (stop !)) (look ! 47 refl)) (and-then ! (load ! (from ! (stop !)) (look ! 46 refl)) (and-then ! (load ! (from ! (stop !)) (look ! 45 refl)) (and-then ! (load ! (from ! (stop !)) (look ! 44 refl)) (and-then ! (load ! (from ! (stop !)) (look ! 43 refl)) (no-more !))))))))))))))))))) (λ z1.
         use1 W (later (some (λ (r1 : Bool). ((‵ (flft κ₁ q₁) ⊛ ‵ (flft κ₂ q₂) ⊛ ‵ (flft κ₃ q₃) ⊛ ‵ (flft κ₄ q₄) ⊛ ‵ (flft κ₅ q₅) ⊛ ‵ (flft κ₆ q₆) ⊛ ‵ ftrue) ⊛ ‵ (bool .own r1 (z1 ∷ []))) ⊛ some (λ (ws : Lasts g1.ended (κ₁, (κ₂, (κ₃, (κ₄, (κ₅, (κ₆, tt)))))) (n4, (n5, (s6, (n7, (n8, (s9, (n10, (n11, (s12, (n13, (n14, (s15, (n16, (n17, (s18, (n19, (n20, (s21, tt))))))))))))))))))). ‵ (lasts g1.ended (κ₁, (κ₂, (κ₃, (κ₄, (κ₅, (κ₆, tt)))))) (n4, (n5, (s6, (n7, (n8, (s9, (n10, (n11, (s12, (n13, (n14, (s15, (n16, (n17, (s18, (n19, (n20, (s21, tt)))))))))))))))))) ws) ⊛ raw (g1.clauses 𝓤 H A at-mem run (κ₁, (κ₂, (κ₃, (κ₄, (κ₅, (κ₆, tt)))))) (n4, (n5, (s6, (n7, (n8, (s9, (n10, (n11, (s12, (n13, (n14, (s15, (n16, (n17, (s18, (n19, (n20, (s21, tt)))))))))))))))))) .ensures tt r1 (atExit g1.ended (κ₁, (κ₂, (κ₃, (κ₄, (κ₅, (κ₆, tt)))))) (n4, (n5, (s6, (n7, (n8, (s9, (n10, (n11, (s12, (n13, (n14, (s15, (n16, (n17, (s18, (n19, (n20, (s21, tt)))))))))))))))))) ws)))))) (id⊢ 𝓤 _) $ await ! tt $ pick ! (λ r1. split ! $ move ! (1 ∷ []) $ pick ! (λ ws1. split ! $ move ! (1 ∷ []) $ heard ! _ (λ e1.
-        fsplit ! $ move ! (1 ∷ []) $ fsplit ! $ move ! (1 ∷ []) $ fsplit ! $ move ! (1 ∷ []) $ fsplit ! $ move ! (1 ∷ []) $ fsplit ! $ move ! (1 ∷ []) $ fsplit ! $ move ! (1 ∷ []) $ fsplit ! $ move ! (1 ∷ []) $ fsplit ! $ move ! (1 ∷ []) $ fsplit ! $ move ! (1 ∷ []) $ fsplit ! $ move ! (1 ∷ []) $ fsplit ! $ move ! (1 ∷ []) $ fsplit ! $ move ! (1 ∷ []) $ fsplit ! $ move ! (1 ∷ []) $ fsplit ! $ move ! (1 ∷ []) $ fsplit ! $ move ! (1 ∷ []) $ fsplit ! $ move ! (1 ∷ []) $ fsplit ! $ move ! (1 ∷ []) $ fsplit ! $ move ! (19 ∷ []) $ split ! $ move ! (1 ∷ []) $ peeks ! bool (Is bool) (shows 𝓤 H A bool) r1 (z1 ∷ []) (λ i1. drop ! $ land ! (from ! (stop !)) (init ! 63 refl (bool-lawful 𝓤 H A W .typed r1 _ i1 .0)) $
-        split ! $ move ! (1 ∷ []) $ split ! $ move ! (1 ∷ []) $ split ! $ move ! (1 ∷ []) $ split ! $ move ! (1 ∷ []) $ split ! $ move ! (1 ∷ []) $ split ! $ move ! (1 ∷ []) $ assigns ! (of-opd ! (load ! (from ! (fld ! refl (stop !))) (look-in ! 111 (sub ! 1 refl (whole !))))) (from ! (stop !)) (init ! 67 refl (tt, record { fits = (w6 .0 .1 .0) })) $
-        assigns ! (of-opd ! (load ! (from ! (fld ! refl (stop !))) (look-in ! 105 (sub ! 1 refl (whole !))))) (from ! (stop !)) (init ! 65 refl (tt, record { fits = (w9 .0 .1 .0) })) $
-        assigns ! (of-opd ! (load ! (from ! (fld ! refl (stop !))) (look-in ! 99 (sub ! 1 refl (whole !))))) (from ! (stop !)) (init ! 63 refl (tt, record { fits = (w12 .0 .1 .0) })) $
-        assigns ! (of-opd ! (load ! (from ! (fld ! refl (stop !))) (look-in ! 93 (sub ! 1 refl (whole !))))) (from ! (stop !)) (init ! 61 refl (tt, record { fits = (w15 .0 .1 .0) })) $
-        assigns ! (of-opd ! (load ! (from ! (fld ! refl (stop !))) (look-in ! 87 (sub ! 1 refl (whole !))))) (from ! (stop !)) (init ! 59 refl (tt, record { fits = (w18 .0 .1 .0) })) $
-        assigns ! (of-opd ! (load ! (from ! (fld ! refl (stop !))) (look-in ! 81 (sub ! 1 refl (whole !))))) (from ! (stop !)) (init ! 57 refl (tt, record { fits = (w21 .0 .1 .0) })) $
-        move ! (54 ∷ []) $ use1 W (‵ (O3) ⊛ ‵ (O3)) (shr-slice-copy 𝓤 H A W (named 0) κ₀ u64 .twice s3 (v3 ∷ [])) $ split ! $ move ! (43 ∷ []) $ use1 W (‵ (O22) ⊛ ‵ (O22)) (shr-slice-copy 𝓤 H A W (named 7) κ₇ u64 .twice s22 (v22 ∷ [])) $ split ! $ move ! (44 ∷ []) $ use1 W (‵ (O23) ⊛ ‵ (O23)) (shr-slice-copy 𝓤 H A W (named 8) κ₈ u64 .twice s23 (v23 ∷ [])) $ split ! $ nothing ! $ move ! (40 ∷ 0 ∷ []) $ join ! $ move ! (40 ∷ 0 ∷ []) $ join ! $ move ! (40 ∷ 0 ∷ []) $ join ! $ move ! (3 ∷ 1 ∷ []) $ join ! $ move ! (4 ∷ 0 ∷ []) $ join ! $ move ! (1 ∷ 0 ∷ []) $ join ! $
+        drop ! $ split ! $ move ! (1 ∷ []) $ peeks ! bool (Is bool) (shows 𝓤 H A bool) r1 (z1 ∷ []) (λ i1. drop ! $ land ! (from ! (stop !)) (init ! 37 refl (bool-lawful 𝓤 H A W .typed r1 _ i1 .0)) $
+        tidy W (_ ∷ _ ∷ _ ∷ _ ∷ _ ∷ _ ∷ _ ∷ _ ∷ _ ∷ _ ∷ _ ∷ _ ∷ _ ∷ _ ∷ _ ∷ _ ∷ _ ∷ _ ∷ _ ∷ _ ∷ _ ∷ _ ∷ _ ∷ _ ∷ _ ∷ _ ∷ _ ∷ _ ∷ _ ∷ _ ∷ _ ∷ _ ∷ _ ∷ _ ∷ _ ∷ _ ∷ _ ∷ _ ∷ _ ∷ _ ∷ _ ∷ _ ∷ _ ∷ _ ∷ _ ∷ _ ∷ _ ∷ _ ∷ _ ∷ _ ∷ _ ∷ _ ∷ _ ∷ _ ∷ _ ∷ _ ∷ _ ∷ _ ∷ _ ∷ _ ∷ _ ∷ _ ∷ _ ∷ _ ∷ _ ∷ []) $ split ! $ move ! (1 ∷ []) $ split ! $ move ! (1 ∷ []) $ split ! $ move ! (1 ∷ []) $ split ! $ move ! (1 ∷ []) $ split ! $ move ! (1 ∷ []) $ split ! $ move ! (1 ∷ []) $ drop ! $ assigns ! (of-opd ! (load ! (from ! (fld ! refl (stop !))) (look-in ! 63 (sub ! 1 refl (whole !))))) (from ! (stop !)) (init ! 41 refl (tt, record { fits = (w6 .0 .1 .0) })) $
+        assigns ! (of-opd ! (load ! (from ! (fld ! refl (stop !))) (look-in ! 60 (sub ! 1 refl (whole !))))) (from ! (stop !)) (init ! 40 refl (tt, record { fits = (w9 .0 .1 .0) })) $
+        assigns ! (of-opd ! (load ! (from ! (fld ! refl (stop !))) (look-in ! 57 (sub ! 1 refl (whole !))))) (from ! (stop !)) (init ! 39 refl (tt, record { fits = (w12 .0 .1 .0) })) $
+        assigns ! (of-opd ! (load ! (from ! (fld ! refl (stop !))) (look-in ! 54 (sub ! 1 refl (whole !))))) (from ! (stop !)) (init ! 38 refl (tt, record { fits = (w15 .0 .1 .0) })) $
+        assigns ! (of-opd ! (load ! (from ! (fld ! refl (stop !))) (look-in ! 51 (sub ! 1 refl (whole !))))) (from ! (stop !)) (init ! 37 refl (tt, record { fits = (w18 .0 .1 .0) })) $
+        assigns ! (of-opd ! (load ! (from ! (fld ! refl (stop !))) (look-in ! 48 (sub ! 1 refl (whole !))))) (from ! (stop !)) (init ! 36 refl (tt, record { fits = (w21 .0 .1 .0) })) $
+        move ! (32 ∷ []) $ use1 W (‵ (O3) ⊛ ‵ (O3)) (shr-slice-copy 𝓤 H A W (named 0) κ₀ u64 .twice s3 (v3 ∷ [])) $ split ! $ move ! (21 ∷ []) $ use1 W (‵ (O22) ⊛ ‵ (O22)) (shr-slice-copy 𝓤 H A W (named 7) κ₇ u64 .twice s22 (v22 ∷ [])) $ split ! $ move ! (22 ∷ []) $ use1 W (‵ (O23) ⊛ ‵ (O23)) (shr-slice-copy 𝓤 H A W (named 8) κ₈ u64 .twice s23 (v23 ∷ [])) $ split ! $ tidy W (_ ∷ _ ∷ _ ∷ _ ∷ _ ∷ _ ∷ _ ∷ _ ∷ _ ∷ _ ∷ _ ∷ _ ∷ _ ∷ _ ∷ _ ∷ _ ∷ _ ∷ _ ∷ _ ∷ _ ∷ _ ∷ _ ∷ _ ∷ _ ∷ _ ∷ _ ∷ _ ∷ _ ∷ _ ∷ _ ∷ _ ∷ _ ∷ _ ∷ _ ∷ _ ∷ _ ∷ _ ∷ _ ∷ _ ∷ _ ∷ _ ∷ _ ∷ _ ∷ _ ∷ _ ∷ _ ∷ _ ∷ _ ∷ _ ∷ _ ∷ _ ∷ _ ∷ _ ∷ _ ∷ _ ∷ _ ∷ _ ∷ _ ∷ _ ∷ _ ∷ _ ∷ _ ∷ _ ∷ _ ∷ _ ∷ _ ∷ _ ∷ _ ∷ _ ∷ _ ∷ _ ∷ _ ∷ _ ∷ []) $ nothing ! $ move ! (19 ∷ 0 ∷ []) $ join ! $ move ! (19 ∷ 0 ∷ []) $ join ! $ move ! (19 ∷ 0 ∷ []) $ join ! $ move ! (3 ∷ 1 ∷ []) $ join ! $ move ! (4 ∷ 0 ∷ []) $ join ! $ move ! (1 ∷ 0 ∷ []) $ join ! $
         -- call 2
         use1 W (raw (Callee-g2 𝓤 H A at-mem run .pre (((κ₀, (κ₇, (κ₈, tt))), (q₀, (q₇, (q₈, tt))), tt, (n1, (n2, (s3, (n4, (n5, ((length (s6 .now)), (n7, (n8, ((length (s9 .now)), (n10, (n11, ((length (s12 .now)), (n13, (n14, ((length (s15 .now)), (n16, (n17, ((length (s18 .now)), (n19, (n20, ((length (s21 .now)), (r1, (s22, (s23, (n24, (n25, (n26, tt))))))))))))))))))))))))))), (u1 ∷ [], (u2 ∷ [], (v3 ∷ [], (u4 ∷ [], (u5 ∷ [], ((vint w64 (length (s6 .now))) ∷ [], (u7 ∷ [], (u8 ∷ [], ((vint w64 (length (s9 .now))) ∷ [], (u10 ∷ [], (u11 ∷ [], ((vint w64 (length (s12 .now))) ∷ [], (u13 ∷ [], (u14 ∷ [], ((vint w64 (length (s15 .now))) ∷ [], (u16 ∷ [], (u17 ∷ [], ((vint w64 (length (s18 .now))) ∷ [], (u19 ∷ [], (u20 ∷ [], ((vint w64 (length (s21 .now))) ∷ [], (z1 ∷ [], (v22 ∷ [], (v23 ∷ [], (u24 ∷ [], (u25 ∷ [], (u26 ∷ [], tt)))))))))))))))))))))))))))), tt))) (qed W ((‵ (flft κ₀ q₀) ⊛ ‵ (flft κ₇ q₇) ⊛ ‵ (flft κ₈ q₈) ⊛ ‵ ftrue) ∷ ‵ (ShrSlice (named 0) κ₀ u64 .own s3 (v3 ∷ [])) ∷ ‵ (ShrSlice (named 1) κ₇ u64 .own s22 (v22 ∷ [])) ∷ ‵ (ShrSlice (named 2) κ₈ u64 .own s23 (v23 ∷ [])) ∷ []) ∵ nothing ! $ owned ! u64 (Is u64) (uint-makes 𝓤 H A W w64) (n26) _ w26 $ fjoin ! $ owned ! u64 (Is u64) (uint-makes 𝓤 H A W w64) (n25) _ w25 $ fjoin ! $ owned ! u64 (Is u64) (uint-makes 𝓤 H A W w64) (n24) _ w24 $ fjoin ! $ move ! (4 ∷ 0 ∷ []) $ fjoin ! $ move ! (3 ∷ 0 ∷ []) $ fjoin ! $ owned ! bool (Is bool) (bool-makes 𝓤 H A W) (r1) _ i1 $ fjoin ! $ owned ! u64 (Is u64) (uint-makes 𝓤 H A W w64) ((length (s21 .now))) _ (refl, (w21 .0 .1 .0)) $ fjoin ! $ owned ! u64 (Is u64) (uint-makes 𝓤 H A W w64) (n20) _ w20 $ fjoin ! $ owned ! u64 (Is u64) (uint-makes 𝓤 H A W w64) (n19) _ w19 $ fjoin ! $ owned ! u64 (Is u64) (uint-makes 𝓤 H A W w64) ((length (s18 .now))) _ (refl, (w18 .0 .1 .0)) $ fjoin ! $ owned ! u64 (Is u64) (uint-makes 𝓤 H A W w64) (n17) _ w17 $ fjoin ! $ owned ! u64 (Is u64) (uint-makes 𝓤 H A W w64) (n16) _ w16 $ fjoin ! $ owned ! u64 (Is u64) (uint-makes 𝓤 H A W w64) ((length (s15 .now))) _ (refl, (w15 .0 .1 .0)) $ fjoin ! $ owned ! u64 (Is u64) (uint-makes 𝓤 H A W w64) (n14) _ w14 $ fjoin ! $ owned ! u64 (Is u64) (uint-makes 𝓤 H A W w64) (n13) _ w13 $ fjoin ! $ owned ! u64 (Is u64) (uint-makes 𝓤 H A W w64) ((length (s12 .now))) _ (refl, (w12 .0 .1 .0)) $ fjoin ! $ owned ! u64 (Is u64) (uint-makes 𝓤 H A W w64) (n11) _ w11 $ fjoin ! $ owned ! u64 (Is u64) (uint-makes 𝓤 H A W w64) (n10) _ w10 $ fjoin ! $ owned ! u64 (Is u64) (uint-makes 𝓤 H A W w64) ((length (s9 .now))) _ (refl, (w9 .0 .1 .0)) $ fjoin ! $ owned ! u64 (Is u64) (uint-makes 𝓤 H A W w64) (n8) _ w8 $ fjoin ! $ owned ! u64 (Is u64) (uint-makes 𝓤 H A W w64) (n7) _ w7 $ fjoin ! $ owned ! u64 (Is u64) (uint-makes 𝓤 H A W w64) ((length (s6 .now))) _ (refl, (w6 .0 .1 .0)) $ fjoin ! $ owned ! u64 (Is u64) (uint-makes 𝓤 H A W w64) (n5) _ w5 $ fjoin ! $ owned ! u64 (Is u64) (uint-makes 𝓤 H A W w64) (n4) _ w4 $ fjoin ! $ move ! (2 ∷ 0 ∷ []) $ fjoin ! $ owned ! u64 (Is u64) (uint-makes 𝓤 H A W w64) (n2) _ w2 $ fjoin ! $ owned ! u64 (Is u64) (uint-makes 𝓤 H A W w64) (n1) _ w1 $ fjoin ! $ move ! (1 ∷ 0 ∷ []) $ join ! $ nothing ! $ move ! (1 ∷ 0 ∷ []) $ frame ! $ done !) $
-        calls-at ! fm (Callee-g2 𝓤 H A at-mem run) known-g2 (((κ₀, (κ₇, (κ₈, tt))), (q₀, (q₇, (q₈, tt))), tt, (n1, (n2, (s3, (n4, (n5, ((length (s6 .now)), (n7, (n8, ((length (s9 .now)), (n10, (n11, ((length (s12 .now)), (n13, (n14, ((length (s15 .now)), (n16, (n17, ((length (s18 .now)), (n19, (n20, ((length (s21 .now)), (r1, (s22, (s23, (n24, (n25, (n26, tt))))))))))))))))))))))))))), (u1 ∷ [], (u2 ∷ [], (v3 ∷ [], (u4 ∷ [], (u5 ∷ [], ((vint w64 (length (s6 .now))) ∷ [], (u7 ∷ [], (u8 ∷ [], ((vint w64 (length (s9 .now))) ∷ [], (u10 ∷ [], (u11 ∷ [], ((vint w64 (length (s12 .now))) ∷ [], (u13 ∷ [], (u14 ∷ [], ((vint w64 (length (s15 .now))) ∷ [], (u16 ∷ [], (u17 ∷ [], ((vint w64 (length (s18 .now))) ∷ [], (u19 ∷ [], (u20 ∷ [], ((vint w64 (length (s21 .now))) ∷ [], (z1 ∷ [], (v22 ∷ [], (v23 ∷ [], (u24 ∷ [], (u25 ∷ [], (u26 ∷ [], tt)))))))))))))))))))))))))))), tt) (and-then ! (load ! (from ! (stop !)) (look ! 119 refl)) (and-then ! (load ! (from ! (stop !)) (look ! 117 refl)) (and-then ! (load ! (from ! (stop !)) (look ! 115 refl)) (and-then ! (load ! (from ! (stop !)) (look ! 113 refl)) (and-then ! (load ! (from ! (stop !)) (look ! 111 refl)) (and-then ! (load ! (from ! (stop !)) (look ! 65 refl)) (and-then ! (load ! (from ! (stop !)) (look ! 107 refl)) (and-then ! (load ! (from ! (stop !)) (look ! 105 refl)) (and-then ! (load ! (from ! (stop !)) (look ! 63 refl)) (and-then ! (load ! (from ! (stop !)) (look ! 101 refl)) (and-then ! (load ! (from ! (stop !)) (look ! 99 refl)) (and-then ! (load ! (from ! (stop !)) (look ! 61 refl)) (and-then ! (load ! (from ! (stop !)) (look ! 95 refl)) (and-then ! (load ! (from ! (stop !)) (look ! 93 refl)) (and-then ! (load ! (from ! (stop !)) (look ! 59 refl)) (and-then ! (load ! (from ! (stop !)) (look ! 89 refl)) (and-then ! (load ! (from ! (stop !)) (look ! 87 refl)) (and-then ! (load ! (from ! (stop !)) (look ! 57 refl)) (and-then ! (load ! (from ! (stop !)) (look ! 83 refl)) (and-then ! (load ! (from ! (stop !)) (look ! 81 refl)) (and-then ! (load ! (from ! (stop !)) (look ! 55 refl)) (and-then ! (load ! (from ! (stop !)) (look ! 67 refl)) (and-then ! (load ! (from ! (stop !)) (look ! 77 refl)) (and-then ! (load ! (from ! (stop !)) (look ! 75 refl)) (and-then ! (load ! (from ! (stop !)) (look ! 73 refl)) (and-then ! (load ! (from ! (stop !)) (look ! 71 refl)) (and-then ! (load ! (from ! (stop !)) (look ! 69 refl)) (no-more !)))))))))))))))))))))))))))) (λ z2.
+        calls-at ! fm (Callee-g2 𝓤 H A at-mem run) known-g2 (((κ₀, (κ₇, (κ₈, tt))), (q₀, (q₇, (q₈, tt))), tt, (n1, (n2, (s3, (n4, (n5, ((length (s6 .now)), (n7, (n8, ((length (s9 .now)), (n10, (n11, ((length (s12 .now)), (n13, (n14, ((length (s15 .now)), (n16, (n17, ((length (s18 .now)), (n19, (n20, ((length (s21 .now)), (r1, (s22, (s23, (n24, (n25, (n26, tt))))))))))))))))))))))))))), (u1 ∷ [], (u2 ∷ [], (v3 ∷ [], (u4 ∷ [], (u5 ∷ [], ((vint w64 (length (s6 .now))) ∷ [], (u7 ∷ [], (u8 ∷ [], ((vint w64 (length (s9 .now))) ∷ [], (u10 ∷ [], (u11 ∷ [], ((vint w64 (length (s12 .now))) ∷ [], (u13 ∷ [], (u14 ∷ [], ((vint w64 (length (s15 .now))) ∷ [], (u16 ∷ [], (u17 ∷ [], ((vint w64 (length (s18 .now))) ∷ [], (u19 ∷ [], (u20 ∷ [], ((vint w64 (length (s21 .now))) ∷ [], (z1 ∷ [], (v22 ∷ [], (v23 ∷ [], (u24 ∷ [], (u25 ∷ [], (u26 ∷ [], tt)))))))))))))))))))))))))))), tt) (and-then ! (load ! (from ! (stop !)) (look ! 66 refl)) (and-then ! (load ! (from ! (stop !)) (look ! 65 refl)) (and-then ! (load ! (from ! (stop !)) (look ! 64 refl)) (and-then ! (load ! (from ! (stop !)) (look ! 63 refl)) (and-then ! (load ! (from ! (stop !)) (look ! 62 refl)) (and-then ! (load ! (from ! (stop !)) (look ! 39 refl)) (and-then ! (load ! (from ! (stop !)) (look ! 60 refl)) (and-then ! (load ! (from ! (stop !)) (look ! 59 refl)) (and-then ! (load ! (from ! (stop !)) (look ! 38 refl)) (and-then ! (load ! (from ! (stop !)) (look ! 57 refl)) (and-then ! (load ! (from ! (stop !)) (look ! 56 refl)) (and-then ! (load ! (from ! (stop !)) (look ! 37 refl)) (and-then ! (load ! (from ! (stop !)) (look ! 54 refl)) (and-then ! (load ! (from ! (stop !)) (look ! 53 refl)) (and-then ! (load ! (from ! (stop !)) (look ! 36 refl)) (and-then ! (load ! (from ! (stop !)) (look ! 51 refl)) (and-then ! (load ! (from ! (stop !)) (look ! 50 refl)) (and-then ! (load ! (from ! (stop !)) (look ! 35 refl)) (and-then ! (load ! (from ! (stop !)) (look ! 48 refl)) (and-then ! (load ! (from ! (stop !)) (look ! 47 refl)) (and-then ! (load ! (from ! (stop !)) (look ! 34 refl)) (and-then ! (load ! (from ! (stop !)) (look ! 40 refl)) (and-then ! (load ! (from ! (stop !)) (look ! 45 refl)) (and-then ! (load ! (from ! (stop !)) (look ! 44 refl)) (and-then ! (load ! (from ! (stop !)) (look ! 43 refl)) (and-then ! (load ! (from ! (stop !)) (look ! 42 refl)) (and-then ! (load ! (from ! (stop !)) (look ! 41 refl)) (no-more !)))))))))))))))))))))))))))) (λ z2.
         use1 W (later (some (λ (r2 : ℕ). ((‵ (flft κ₀ q₀) ⊛ ‵ (flft κ₇ q₇) ⊛ ‵ (flft κ₈ q₈) ⊛ ‵ ftrue) ⊛ ‵ (u32 .own r2 (z2 ∷ []))) ⊛ some (λ (ws : Lasts g2.ended (κ₀, (κ₇, (κ₈, tt))) (n1, (n2, (s3, (n4, (n5, ((length (s6 .now)), (n7, (n8, ((length (s9 .now)), (n10, (n11, ((length (s12 .now)), (n13, (n14, ((length (s15 .now)), (n16, (n17, ((length (s18 .now)), (n19, (n20, ((length (s21 .now)), (r1, (s22, (s23, (n24, (n25, (n26, tt)))))))))))))))))))))))))))). ‵ (lasts g2.ended (κ₀, (κ₇, (κ₈, tt))) (n1, (n2, (s3, (n4, (n5, ((length (s6 .now)), (n7, (n8, ((length (s9 .now)), (n10, (n11, ((length (s12 .now)), (n13, (n14, ((length (s15 .now)), (n16, (n17, ((length (s18 .now)), (n19, (n20, ((length (s21 .now)), (r1, (s22, (s23, (n24, (n25, (n26, tt))))))))))))))))))))))))))) ws) ⊛ raw (g2.clauses 𝓤 H A at-mem run (κ₀, (κ₇, (κ₈, tt))) (n1, (n2, (s3, (n4, (n5, ((length (s6 .now)), (n7, (n8, ((length (s9 .now)), (n10, (n11, ((length (s12 .now)), (n13, (n14, ((length (s15 .now)), (n16, (n17, ((length (s18 .now)), (n19, (n20, ((length (s21 .now)), (r1, (s22, (s23, (n24, (n25, (n26, tt))))))))))))))))))))))))))) .ensures tt r2 (atExit g2.ended (κ₀, (κ₇, (κ₈, tt))) (n1, (n2, (s3, (n4, (n5, ((length (s6 .now)), (n7, (n8, ((length (s9 .now)), (n10, (n11, ((length (s12 .now)), (n13, (n14, ((length (s15 .now)), (n16, (n17, ((length (s18 .now)), (n19, (n20, ((length (s21 .now)), (r1, (s22, (s23, (n24, (n25, (n26, tt))))))))))))))))))))))))))) ws)))))) (id⊢ 𝓤 _) $ await ! tt $ pick ! (λ r2. split ! $ move ! (1 ∷ []) $ pick ! (λ ws2. split ! $ move ! (1 ∷ []) $ heard ! _ (λ e2.
-        fsplit ! $ move ! (1 ∷ []) $ fsplit ! $ move ! (1 ∷ []) $ fsplit ! $ move ! (1 ∷ []) $ fsplit ! $ move ! (1 ∷ []) $ fsplit ! $ move ! (1 ∷ []) $ fsplit ! $ move ! (1 ∷ []) $ fsplit ! $ move ! (1 ∷ []) $ fsplit ! $ move ! (1 ∷ []) $ fsplit ! $ move ! (1 ∷ []) $ fsplit ! $ move ! (1 ∷ []) $ fsplit ! $ move ! (1 ∷ []) $ fsplit ! $ move ! (1 ∷ []) $ fsplit ! $ move ! (1 ∷ []) $ fsplit ! $ move ! (1 ∷ []) $ fsplit ! $ move ! (1 ∷ []) $ fsplit ! $ move ! (1 ∷ []) $ fsplit ! $ move ! (1 ∷ []) $ fsplit ! $ move ! (1 ∷ []) $ fsplit ! $ move ! (1 ∷ []) $ fsplit ! $ move ! (1 ∷ []) $ fsplit ! $ move ! (1 ∷ []) $ fsplit ! $ move ! (1 ∷ []) $ fsplit ! $ move ! (1 ∷ []) $ fsplit ! $ move ! (1 ∷ []) $ fsplit ! $ move ! (1 ∷ []) $ fsplit ! $ move ! (1 ∷ []) $ fsplit ! $ move ! (28 ∷ []) $ split ! $ move ! (1 ∷ []) $ peeks ! u32 (Is u32) (shows 𝓤 H A u32) r2 (z2 ∷ []) (λ i2. drop ! $ land ! (from ! (stop !)) (init ! 149 refl (uint-lawful 𝓤 H A W w32 .typed r2 _ i2 .0)) $
-        split ! $ move ! (1 ∷ []) $ split ! $ move ! (1 ∷ []) $ split ! $ move ! (1 ∷ []) $ returns ! (look ! 152 refl) $ forget ! 152 refl $ forget ! 150 refl $ forget ! 148 refl $ forget ! 146 refl $ forget ! 144 refl $ forget ! 142 refl $ forget ! 140 refl $ forget ! 138 refl $ forget ! 136 refl $ forget ! 134 refl $ forget ! 132 refl $ forget ! 130 refl $ forget ! 128 refl $ forget ! 126 refl $ forget ! 124 refl $ forget ! 122 refl $ forget ! 120 refl $ forget ! 118 refl $ forget ! 116 refl $ forget ! 114 refl $ forget ! 112 refl $ forget ! 110 refl $ forget ! 108 refl $ forget ! 106 refl $ forget ! 104 refl $ forget ! 102 refl $ forget ! 100 refl $ forget ! 98 refl $ forget ! 96 refl $ forget ! 94 refl $ forget ! 92 refl $ forget ! 90 refl $ forget ! 88 refl $ forget ! 86 refl $
-        move ! (152 ∷ 153 ∷ []) $ free1 ! $ move ! (150 ∷ 151 ∷ []) $ free1 ! $ move ! (148 ∷ 149 ∷ []) $ free1 ! $ move ! (146 ∷ 147 ∷ []) $ free1 ! $ move ! (144 ∷ 145 ∷ []) $ free1 ! $ move ! (142 ∷ 143 ∷ []) $ free1 ! $ move ! (140 ∷ 141 ∷ []) $ free1 ! $ move ! (138 ∷ 139 ∷ []) $ free1 ! $ move ! (136 ∷ 137 ∷ []) $ free1 ! $ move ! (134 ∷ 135 ∷ []) $ free1 ! $ move ! (132 ∷ 133 ∷ []) $ free1 ! $ move ! (130 ∷ 131 ∷ []) $ free1 ! $ move ! (128 ∷ 129 ∷ []) $ free1 ! $ move ! (126 ∷ 127 ∷ []) $ free1 ! $ move ! (124 ∷ 125 ∷ []) $ free1 ! $ move ! (122 ∷ 123 ∷ []) $ free1 ! $ move ! (120 ∷ 121 ∷ []) $ free1 ! $ move ! (118 ∷ 119 ∷ []) $ free1 ! $ move ! (116 ∷ 117 ∷ []) $ free1 ! $ move ! (114 ∷ 115 ∷ []) $ free1 ! $ move ! (112 ∷ 113 ∷ []) $ free1 ! $ move ! (110 ∷ 111 ∷ []) $ free1 ! $ move ! (108 ∷ 109 ∷ []) $ free1 ! $ move ! (106 ∷ 107 ∷ []) $ free1 ! $ move ! (104 ∷ 105 ∷ []) $ free1 ! $ move ! (102 ∷ 103 ∷ []) $ free1 ! $ move ! (100 ∷ 101 ∷ []) $ free1 ! $ move ! (98 ∷ 99 ∷ []) $ free1 ! $ move ! (96 ∷ 97 ∷ []) $ free1 ! $ move ! (94 ∷ 95 ∷ []) $ free1 ! $ move ! (92 ∷ 93 ∷ []) $ free1 ! $ move ! (90 ∷ 91 ∷ []) $ free1 ! $ move ! (88 ∷ 89 ∷ []) $ free1 ! $ move ! (86 ∷ 87 ∷ []) $ free1 ! $ free0 ! $
+        drop ! $ split ! $ move ! (1 ∷ []) $ peeks ! u32 (Is u32) (shows 𝓤 H A u32) r2 (z2 ∷ []) (λ i2. drop ! $ land ! (from ! (stop !)) (init ! 67 refl (uint-lawful 𝓤 H A W w32 .typed r2 _ i2 .0)) $
+        tidy W (_ ∷ _ ∷ _ ∷ _ ∷ _ ∷ _ ∷ _ ∷ _ ∷ _ ∷ _ ∷ _ ∷ _ ∷ _ ∷ _ ∷ _ ∷ _ ∷ _ ∷ _ ∷ _ ∷ _ ∷ _ ∷ _ ∷ _ ∷ _ ∷ _ ∷ _ ∷ _ ∷ _ ∷ _ ∷ _ ∷ _ ∷ _ ∷ _ ∷ _ ∷ _ ∷ _ ∷ _ ∷ _ ∷ _ ∷ _ ∷ _ ∷ _ ∷ _ ∷ _ ∷ _ ∷ _ ∷ _ ∷ _ ∷ _ ∷ _ ∷ _ ∷ _ ∷ _ ∷ _ ∷ _ ∷ _ ∷ _ ∷ _ ∷ _ ∷ _ ∷ _ ∷ _ ∷ _ ∷ _ ∷ _ ∷ _ ∷ _ ∷ _ ∷ []) $ split ! $ move ! (1 ∷ []) $ split ! $ move ! (1 ∷ []) $ split ! $ move ! (1 ∷ []) $ drop ! $ tidy W (_ ∷ _ ∷ _ ∷ _ ∷ _ ∷ _ ∷ _ ∷ _ ∷ _ ∷ _ ∷ _ ∷ _ ∷ _ ∷ _ ∷ _ ∷ _ ∷ _ ∷ _ ∷ _ ∷ _ ∷ _ ∷ _ ∷ _ ∷ _ ∷ _ ∷ _ ∷ _ ∷ _ ∷ _ ∷ _ ∷ _ ∷ _ ∷ _ ∷ _ ∷ _ ∷ _ ∷ _ ∷ _ ∷ _ ∷ _ ∷ _ ∷ _ ∷ _ ∷ _ ∷ _ ∷ _ ∷ _ ∷ _ ∷ _ ∷ _ ∷ _ ∷ _ ∷ _ ∷ _ ∷ _ ∷ _ ∷ _ ∷ _ ∷ _ ∷ _ ∷ _ ∷ _ ∷ _ ∷ _ ∷ _ ∷ _ ∷ _ ∷ _ ∷ _ ∷ _ ∷ []) $ returns ! (look ! 69 refl) $ move ! (35 ∷ []) $ use1 W (dies ((tyInt w32, l₀) ∷ (tyInt w64, l₁) ∷ (tyInt w64, l₂) ∷ (sliceTy (tyRef (named 0) imm (tyInt w64)), l₃) ∷ (tyInt w64, l₄) ∷ (tyInt w64, l₅) ∷ (sliceTy (tyRef (named 1) imm (pointee (mEntry.the-row .written))), l₆) ∷ (tyInt w64, l₇) ∷ (tyInt w64, l₈) ∷ (sliceTy (tyRef (named 2) imm (pointee (mEntry.the-row .written))), l₉) ∷ (tyInt w64, l₁₀) ∷ (tyInt w64, l₁₁) ∷ (sliceTy (tyRef (named 3) imm (pointee (mEntry.the-row .written))), l₁₂) ∷ (tyInt w64, l₁₃) ∷ (tyInt w64, l₁₄) ∷ (sliceTy (tyRef (named 4) imm (pointee (mEntry.the-row .written))), l₁₅) ∷ (tyInt w64, l₁₆) ∷ (tyInt w64, l₁₇) ∷ (sliceTy (tyRef (named 5) imm (pointee (mEntry.the-row .written))), l₁₈) ∷ (tyInt w64, l₁₉) ∷ (tyInt w64, l₂₀) ∷ (sliceTy (tyRef (named 6) imm (pointee (mEntry.the-row .written))), l₂₁) ∷ (sliceTy (tyRef (named 7) imm (tyInt w64)), l₂₂) ∷ (sliceTy (tyRef (named 8) imm (tyInt w64)), l₂₃) ∷ (tyInt w64, l₂₄) ∷ (tyInt w64, l₂₅) ∷ (tyInt w64, l₂₆) ∷ (tyBool, l₂₇) ∷ (tyInt w64, l₂₈) ∷ (tyInt w64, l₂₉) ∷ (tyInt w64, l₃₀) ∷ (tyInt w64, l₃₁) ∷ (tyInt w64, l₃₂) ∷ (tyInt w64, l₃₃) ∷ []) (‵ ftrue)) die $ free-all ! 35 ((tyInt w32, l₀) ∷ (tyInt w64, l₁) ∷ (tyInt w64, l₂) ∷ (sliceTy (tyRef (named 0) imm (tyInt w64)), l₃) ∷ (tyInt w64, l₄) ∷ (tyInt w64, l₅) ∷ (sliceTy (tyRef (named 1) imm (pointee (mEntry.the-row .written))), l₆) ∷ (tyInt w64, l₇) ∷ (tyInt w64, l₈) ∷ (sliceTy (tyRef (named 2) imm (pointee (mEntry.the-row .written))), l₉) ∷ (tyInt w64, l₁₀) ∷ (tyInt w64, l₁₁) ∷ (sliceTy (tyRef (named 3) imm (pointee (mEntry.the-row .written))), l₁₂) ∷ (tyInt w64, l₁₃) ∷ (tyInt w64, l₁₄) ∷ (sliceTy (tyRef (named 4) imm (pointee (mEntry.the-row .written))), l₁₅) ∷ (tyInt w64, l₁₆) ∷ (tyInt w64, l₁₇) ∷ (sliceTy (tyRef (named 5) imm (pointee (mEntry.the-row .written))), l₁₈) ∷ (tyInt w64, l₁₉) ∷ (tyInt w64, l₂₀) ∷ (sliceTy (tyRef (named 6) imm (pointee (mEntry.the-row .written))), l₂₁) ∷ (sliceTy (tyRef (named 7) imm (tyInt w64)), l₂₂) ∷ (sliceTy (tyRef (named 8) imm (tyInt w64)), l₂₃) ∷ (tyInt w64, l₂₄) ∷ (tyInt w64, l₂₅) ∷ (tyInt w64, l₂₆) ∷ (tyBool, l₂₇) ∷ (tyInt w64, l₂₈) ∷ (tyInt w64, l₂₉) ∷ (tyInt w64, l₃₀) ∷ (tyInt w64, l₃₁) ∷ (tyInt w64, l₃₂) ∷ (tyInt w64, l₃₃) ∷ []) (kept _ ∷ kept _ ∷ kept _ ∷ kept _ ∷ kept _ ∷ kept _ ∷ kept _ ∷ kept _ ∷ kept _ ∷ kept _ ∷ kept _ ∷ kept _ ∷ kept _ ∷ kept _ ∷ kept _ ∷ kept _ ∷ kept _ ∷ kept _ ∷ kept _ ∷ kept _ ∷ kept _ ∷ kept _ ∷ kept _ ∷ kept _ ∷ kept _ ∷ kept _ ∷ kept _ ∷ kept _ ∷ kept _ ∷ kept _ ∷ kept _ ∷ kept _ ∷ kept _ ∷ kept _ ∷ []) refl $
         suffices ! _ (ends-at 𝓤 H A f.ended stayed (f.clauses 𝓤 H A at-mem run) W (((κ₀, (κ₁, (κ₂, (κ₃, (κ₄, (κ₅, (κ₆, (κ₇, (κ₈, tt))))))))), (q₀, (q₁, (q₂, (q₃, (q₄, (q₅, (q₆, (q₇, (q₈, tt))))))))), tt, a, at), tt) z2 r2 (tt, (tt, (tt, (tt, (tt, (tt, (tt, (tt, (tt, (tt, (tt, (tt, (tt, (tt, (tt, (tt, (tt, (tt, (tt, (tt, (tt, (tt, (tt, (tt, (tt, (tt, tt)))))))))))))))))))))))))) (tt, (tt, (tt, (tt, (tt, (tt, (tt, (tt, (tt, (tt, (tt, (tt, (tt, (tt, (tt, (tt, (tt, (tt, (tt, (tt, (tt, (tt, (tt, (tt, (tt, (tt, tt))))))))))))))))))))))))))) $ says ! (verify-refused n4 n5 (s6 .now) n7 n8 (s9 .now) n10 n11 (s12 .now) n13 n14 (s15 .now) n16 n17 (s18 .now) n19 n20 (s21 .now) n1 n2 (s3 .now) (s22 .now) (s23 .now) n24 n25 n26 r1 r2 e1 e2) $
-        nothing ! $ move ! (2 ∷ 0 ∷ []) $ join ! $ move ! (2 ∷ 0 ∷ []) $ join ! $ move ! (35 ∷ 0 ∷ []) $ join ! $ move ! (35 ∷ 0 ∷ []) $ join ! $ move ! (35 ∷ 0 ∷ []) $ join ! $ move ! (35 ∷ 0 ∷ []) $ join ! $ move ! (35 ∷ 0 ∷ []) $ join ! $ move ! (35 ∷ 0 ∷ []) $ join ! $ move ! (2 ∷ 0 ∷ []) $ join ! $ nothing ! $ move ! (62 ∷ 0 ∷ []) $ fjoin ! $ move ! (62 ∷ 0 ∷ []) $ fjoin ! $ move ! (62 ∷ 0 ∷ []) $ fjoin ! $ move ! (31 ∷ 0 ∷ []) $ fjoin ! $ move ! (31 ∷ 0 ∷ []) $ fjoin ! $ move ! (52 ∷ 0 ∷ []) $ fjoin ! $ move ! (59 ∷ 0 ∷ []) $ fjoin ! $ move ! (59 ∷ 0 ∷ []) $ fjoin ! $ move ! (52 ∷ 0 ∷ []) $ fjoin ! $ move ! (58 ∷ 0 ∷ []) $ fjoin ! $ move ! (58 ∷ 0 ∷ []) $ fjoin ! $ move ! (52 ∷ 0 ∷ []) $ fjoin ! $ move ! (57 ∷ 0 ∷ []) $ fjoin ! $ move ! (57 ∷ 0 ∷ []) $ fjoin ! $ move ! (52 ∷ 0 ∷ []) $ fjoin ! $ move ! (56 ∷ 0 ∷ []) $ fjoin ! $ move ! (56 ∷ 0 ∷ []) $ fjoin ! $ move ! (52 ∷ 0 ∷ []) $ fjoin ! $ move ! (55 ∷ 0 ∷ []) $ fjoin ! $ move ! (55 ∷ 0 ∷ []) $ fjoin ! $ move ! (52 ∷ 0 ∷ []) $ fjoin ! $ move ! (54 ∷ 0 ∷ []) $ fjoin ! $ move ! (54 ∷ 0 ∷ []) $ fjoin ! $ move ! (31 ∷ 0 ∷ []) $ fjoin ! $ move ! (53 ∷ 0 ∷ []) $ fjoin ! $ move ! (53 ∷ 0 ∷ []) $ fjoin ! $ keep ! (1 ∷ 0 ∷ []) $ frame ! $ frame ! $ owned ! u32 (Is u32) (uint-makes 𝓤 H A W w32) r2 _ i2 $ done !))))))))))))))))))))))))))))))))))))))))))))
+        nothing ! $ move ! (1 ∷ 0 ∷ []) $ join ! $ move ! (1 ∷ 0 ∷ []) $ join ! $ move ! (5 ∷ 0 ∷ []) $ join ! $ move ! (5 ∷ 0 ∷ []) $ join ! $ move ! (5 ∷ 0 ∷ []) $ join ! $ move ! (5 ∷ 0 ∷ []) $ join ! $ move ! (5 ∷ 0 ∷ []) $ join ! $ move ! (5 ∷ 0 ∷ []) $ join ! $ move ! (1 ∷ 0 ∷ []) $ join ! $ nothing ! $ move ! (11 ∷ 0 ∷ []) $ fjoin ! $ move ! (11 ∷ 0 ∷ []) $ fjoin ! $ move ! (11 ∷ 0 ∷ []) $ fjoin ! $ move ! (2 ∷ 0 ∷ []) $ fjoin ! $ move ! (2 ∷ 0 ∷ []) $ fjoin ! $ move ! (3 ∷ 0 ∷ []) $ fjoin ! $ move ! (8 ∷ 0 ∷ []) $ fjoin ! $ move ! (8 ∷ 0 ∷ []) $ fjoin ! $ move ! (3 ∷ 0 ∷ []) $ fjoin ! $ move ! (7 ∷ 0 ∷ []) $ fjoin ! $ move ! (7 ∷ 0 ∷ []) $ fjoin ! $ move ! (3 ∷ 0 ∷ []) $ fjoin ! $ move ! (6 ∷ 0 ∷ []) $ fjoin ! $ move ! (6 ∷ 0 ∷ []) $ fjoin ! $ move ! (3 ∷ 0 ∷ []) $ fjoin ! $ move ! (5 ∷ 0 ∷ []) $ fjoin ! $ move ! (5 ∷ 0 ∷ []) $ fjoin ! $ move ! (3 ∷ 0 ∷ []) $ fjoin ! $ move ! (4 ∷ 0 ∷ []) $ fjoin ! $ move ! (4 ∷ 0 ∷ []) $ fjoin ! $ move ! (3 ∷ 0 ∷ []) $ fjoin ! $ move ! (3 ∷ 0 ∷ []) $ fjoin ! $ move ! (3 ∷ 0 ∷ []) $ fjoin ! $ move ! (2 ∷ 0 ∷ []) $ fjoin ! $ move ! (2 ∷ 0 ∷ []) $ fjoin ! $ move ! (2 ∷ 0 ∷ []) $ fjoin ! $ keep ! (1 ∷ 0 ∷ []) $ frame ! $ frame ! $ owned ! u32 (Is u32) (uint-makes 𝓤 H A W w32) r2 _ i2 $ done !)))))))))))))))))))))))))))))))))))))))))))))
 
 module _ {M : Type 1} (𝓤 : URA M) (H : Heap 𝓤) (A : Atoms 𝓤) (W : Given 𝓤 H A) (mem : Memory → SProp 𝓤) (run : Routine → Fun 𝓤) where
   walks : (C : Calls 𝓤 H) (Λ : Loops 𝓤 H) → FmC 𝓤 H (W .laws) C → Triple 𝓤 (C #g1) (Callee-g1 𝓤 H A mem run) → Triple 𝓤 (C #g2) (Callee-g2 𝓤 H A mem run) → Walks 𝓤 H A f.ended stayed (WpFn 𝓤 H C Λ code.function) (f.clauses 𝓤 H A mem run)

@@ -20,7 +20,7 @@ use contract.Monad.{Fun, fact}
 use contract.Running.{givenOf, tables, tablesOf}
 use types.Kit.{Given, ‵, raw, _⊛_, ⋆, some, later, _$_, _∵_, !, qed, by, move, keep, drop, use1, use2, use3, split, join, pick, fsplit, fsplit3, fjoin, fjoin3, feqL, feqI, rewrite, atRet, suffices, frame, await, done}
 use types.Part.{agg, whole, sub, look-in}
-use types.Run.{look, look-raw, init, store, store-raw, forget, stop, hop, fld, from, load, unit-lit, of-opd, addr, and-then, no-more, lit, true-lit, false-lit, assigns, assigns-last, land, land-last, first, branches, skips, exec, returns, enter, alloc1, alloc0, params1, pass1, pass0, free1, free0}
+use types.Run.{look, look-raw, init, store, store-raw, stop, hop, fld, from, load, unit-lit, of-opd, addr, and-then, no-more, lit, true-lit, false-lit, assigns, assigns-last, land, land-last, first, branches, skips, exec, returns, enter, alloc0, params1, pass1, pass0}
 use types.Tokens.{lft-new, lft-end}
 use sound.WpLaws.{FmC, fmOf, WpFn-mono}
 use denote.RattleType.{owns}
@@ -55,6 +55,7 @@ use Rattle.magnetar_row_records.proofs.steps.Seen.Laws as lSeen
 use Rattle.magnetar_inplace.specs.declared.records.Entry.{Entry}
 use Rattle.magnetar_inplace.proofs.records.Entry as mEntry
 use Rattle.magnetar_inplace.proofs.records.Entry.Laws as lEntry
+use Rattle.magnetar_inplace.proofs.Locals.{tidy, bare, kept, dies, alloc, hide, free-all}
 use Rattle.magnetar_inplace.proofs.Again.{LentAgain, lends-again, comes-back}
 use Rattle.magnetar_row_records.proofs.steps.twice as g1
 use Rattle.magnetar_row_records.proofs.steps.twice.Symbol as g1-def
@@ -181,58 +182,57 @@ module _ {M : Type 1} (𝓤 : URA M) (H : Heap 𝓤) (A : Atoms 𝓤) (W : Given
     walk : ent 𝓤 (onEntry 𝓤 H A f.signature (κ₀, (κ₁, (κ₂, (κ₃, (κ₄, (κ₅, tt)))))) (q₀, (q₁, (q₂, (q₃, (q₄, (q₅, tt)))))) a at) (WpFn 𝓤 H C Λ code.function (v1 ∷ v2 ∷ v3 ∷ v4 ∷ v5 ∷ v6 ∷ v7 ∷ v8 ∷ v9 ∷ v10 ∷ v11 ∷ []) Post)
     walk =
         qed W ((‵ (flft κ₀ q₀) ⊛ ‵ (flft κ₁ q₁) ⊛ ‵ (flft κ₂ q₂) ⊛ ‵ (flft κ₃ q₃) ⊛ ‵ (flft κ₄ q₄) ⊛ ‵ (flft κ₅ q₅) ⊛ ‵ ftrue) ∷ ‵ (owns (mSeen.the-row ∷ u64 ∷ u64 ∷ MutSlice (named 0) κ₀ u64 ∷ u64 ∷ u64 ∷ ShrSlice (named 1) κ₁ u64 ∷ ShrSlice (named 2) κ₂ u64 ∷ ShrSlice (named 3) κ₃ mEntry.the-row ∷ ShrSlice (named 4) κ₄ mEntry.the-row ∷ ShrSlice (named 5) κ₅ mEntry.the-row ∷ []) a at) ∷ []) ∵ enter ! C Λ code.function (v1 ∷ v2 ∷ v3 ∷ v4 ∷ v5 ∷ v6 ∷ v7 ∷ v8 ∷ v9 ∷ v10 ∷ v11 ∷ []) _ $
-        alloc1 ! (λ l₀. alloc1 ! (λ l₁. alloc1 ! (λ l₂. alloc1 ! (λ l₃. alloc1 ! (λ l₄. alloc1 ! (λ l₅. alloc1 ! (λ l₆. alloc1 ! (λ l₇. alloc1 ! (λ l₈. alloc1 ! (λ l₉. alloc1 ! (λ l₁₀. alloc1 ! (λ l₁₁. alloc1 ! (λ l₁₂. alloc1 ! (λ l₁₃. alloc1 ! (λ l₁₄. alloc1 ! (λ l₁₅. alloc1 ! (λ l₁₆. alloc1 ! (λ l₁₇. alloc1 ! (λ l₁₈. alloc1 ! (λ l₁₉. alloc1 ! (λ l₂₀. alloc1 ! (λ l₂₁. alloc1 ! (λ l₂₂. alloc0 ! $ params1 ! $ pass1 ! (init ! 42 refl (LL.lawful mSeen.the-type lSeen.the-laws 𝓤 H A W .typed n1 _ w1 .0)) $ pass1 ! (init ! 40 refl (uint-lawful 𝓤 H A W w64 .typed n2 _ w2 .0)) $ pass1 ! (init ! 38 refl (uint-lawful 𝓤 H A W w64 .typed n3 _ w3 .0)) $ pass1 ! (init ! 36 refl (tt, (tt, (record { fits = room4 .0 }, tt)))) $ pass1 ! (init ! 34 refl (uint-lawful 𝓤 H A W w64 .typed n5 _ w5 .0)) $ pass1 ! (init ! 32 refl (uint-lawful 𝓤 H A W w64 .typed n6 _ w6 .0)) $ pass1 ! (init ! 30 refl (shr-slice-lawful 𝓤 H A W (named 1) κ₁ u64 .typed s7 (v7 ∷ []) w7 .0)) $ pass1 ! (init ! 28 refl (shr-slice-lawful 𝓤 H A W (named 2) κ₂ u64 .typed s8 (v8 ∷ []) w8 .0)) $ pass1 ! (init ! 26 refl (shr-slice-lawful 𝓤 H A W (named 3) κ₃ mEntry.the-row .typed s9 (v9 ∷ []) w9 .0)) $ pass1 ! (init ! 24 refl (shr-slice-lawful 𝓤 H A W (named 4) κ₄ mEntry.the-row .typed s10 (v10 ∷ []) w10 .0)) $ pass1 ! (init ! 22 refl (shr-slice-lawful 𝓤 H A W (named 5) κ₅ mEntry.the-row .typed s11 (v11 ∷ []) w11 .0)) $ pass0 ! $
-        move ! (47 ∷ []) $ fsplit ! $ move ! (1 ∷ []) $ fsplit ! $ move ! (1 ∷ []) $ fsplit ! $ move ! (1 ∷ []) $ fsplit ! $ move ! (1 ∷ []) $ fsplit ! $ move ! (1 ∷ []) $ fsplit ! $ move ! (1 ∷ []) $ fsplit ! $ move ! (1 ∷ []) $ fsplit ! $ move ! (1 ∷ []) $ fsplit ! $ move ! (1 ∷ []) $ fsplit ! $ move ! (1 ∷ []) $ fsplit ! $ move ! (1 ∷ []) $ move ! (58 ∷ []) $ split ! $ move ! (1 ∷ []) $ split ! $ move ! (1 ∷ []) $ split ! $ move ! (1 ∷ []) $ split ! $ move ! (1 ∷ []) $ split ! $ move ! (1 ∷ []) $ split ! $ move ! (1 ∷ []) $
-        assigns ! (of-opd ! (lit ! tt)) (from ! (stop !)) (init ! 39 refl (tt, record { fits = lit< tt })) $
-        nothing ! $
+        nothing ! $ alloc ! (λ l₀. alloc ! (λ l₁. alloc ! (λ l₂. alloc ! (λ l₃. alloc ! (λ l₄. alloc ! (λ l₅. alloc ! (λ l₆. alloc ! (λ l₇. alloc ! (λ l₈. alloc ! (λ l₉. alloc ! (λ l₁₀. alloc ! (λ l₁₁. alloc ! (λ l₁₂. alloc ! (λ l₁₃. alloc ! (λ l₁₄. alloc ! (λ l₁₅. alloc ! (λ l₁₆. alloc ! (λ l₁₇. alloc ! (λ l₁₈. alloc ! (λ l₁₉. alloc ! (λ l₂₀. alloc ! (λ l₂₁. alloc ! (λ l₂₂. alloc0 ! $ hide ! (λ died die. params1 ! $ pass1 ! (init ! 22 refl (LL.lawful mSeen.the-type lSeen.the-laws 𝓤 H A W .typed n1 _ w1 .0)) $ pass1 ! (init ! 21 refl (uint-lawful 𝓤 H A W w64 .typed n2 _ w2 .0)) $ pass1 ! (init ! 20 refl (uint-lawful 𝓤 H A W w64 .typed n3 _ w3 .0)) $ pass1 ! (init ! 19 refl (tt, (tt, (record { fits = room4 .0 }, tt)))) $ pass1 ! (init ! 18 refl (uint-lawful 𝓤 H A W w64 .typed n5 _ w5 .0)) $ pass1 ! (init ! 17 refl (uint-lawful 𝓤 H A W w64 .typed n6 _ w6 .0)) $ pass1 ! (init ! 16 refl (shr-slice-lawful 𝓤 H A W (named 1) κ₁ u64 .typed s7 (v7 ∷ []) w7 .0)) $ pass1 ! (init ! 15 refl (shr-slice-lawful 𝓤 H A W (named 2) κ₂ u64 .typed s8 (v8 ∷ []) w8 .0)) $ pass1 ! (init ! 14 refl (shr-slice-lawful 𝓤 H A W (named 3) κ₃ mEntry.the-row .typed s9 (v9 ∷ []) w9 .0)) $ pass1 ! (init ! 13 refl (shr-slice-lawful 𝓤 H A W (named 4) κ₄ mEntry.the-row .typed s10 (v10 ∷ []) w10 .0)) $ pass1 ! (init ! 12 refl (shr-slice-lawful 𝓤 H A W (named 5) κ₅ mEntry.the-row .typed s11 (v11 ∷ []) w11 .0)) $ pass0 ! $
+        move ! (25 ∷ []) $ fsplit ! $ move ! (1 ∷ []) $ fsplit ! $ move ! (1 ∷ []) $ fsplit ! $ move ! (1 ∷ []) $ fsplit ! $ move ! (1 ∷ []) $ fsplit ! $ move ! (1 ∷ []) $ fsplit ! $ move ! (1 ∷ []) $ fsplit ! $ move ! (1 ∷ []) $ fsplit ! $ move ! (1 ∷ []) $ fsplit ! $ move ! (1 ∷ []) $ fsplit ! $ move ! (1 ∷ []) $ fsplit ! $ move ! (1 ∷ []) $ drop ! $ move ! (35 ∷ []) $ split ! $ move ! (1 ∷ []) $ split ! $ move ! (1 ∷ []) $ split ! $ move ! (1 ∷ []) $ split ! $ move ! (1 ∷ []) $ split ! $ move ! (1 ∷ []) $ split ! $ move ! (1 ∷ []) $ drop ! $ tidy W (_ ∷ _ ∷ _ ∷ _ ∷ _ ∷ _ ∷ _ ∷ _ ∷ _ ∷ _ ∷ _ ∷ _ ∷ _ ∷ _ ∷ _ ∷ _ ∷ _ ∷ _ ∷ _ ∷ _ ∷ _ ∷ _ ∷ _ ∷ _ ∷ _ ∷ _ ∷ _ ∷ _ ∷ _ ∷ _ ∷ _ ∷ _ ∷ _ ∷ _ ∷ _ ∷ _ ∷ _ ∷ _ ∷ _ ∷ _ ∷ _ ∷ []) $
+        assigns ! (of-opd ! (lit ! tt)) (from ! (stop !)) (init ! 28 refl (tt, record { fits = lit< tt })) $
+        tidy W (_ ∷ _ ∷ _ ∷ _ ∷ _ ∷ _ ∷ _ ∷ _ ∷ _ ∷ _ ∷ _ ∷ _ ∷ _ ∷ _ ∷ _ ∷ _ ∷ _ ∷ _ ∷ _ ∷ _ ∷ _ ∷ _ ∷ _ ∷ _ ∷ _ ∷ _ ∷ _ ∷ _ ∷ _ ∷ _ ∷ _ ∷ _ ∷ _ ∷ _ ∷ _ ∷ _ ∷ _ ∷ _ ∷ _ ∷ _ ∷ _ ∷ []) $ nothing ! $
         -- call 1
         use1 W (raw (Callee-g1 𝓤 H A at-mem run .pre ((tt, tt, tt, (n5, tt), (u5 ∷ [], tt)), tt))) (qed W ((‵ ftrue) ∷ []) ∵ nothing ! $ owned ! u64 (Is u64) (uint-makes 𝓤 H A W w64) (n5) _ w5 $ fjoin ! $ move ! (1 ∷ 0 ∷ []) $ join ! $ nothing ! $ move ! (1 ∷ 0 ∷ []) $ frame ! $ done !) $
-        calls-at ! fm (Callee-g1 𝓤 H A at-mem run) known-g1 ((tt, tt, tt, (n5, tt), (u5 ∷ [], tt)), tt) (and-then ! (load ! (from ! (stop !)) (look ! 54 refl)) (no-more !)) (λ z1.
+        calls-at ! fm (Callee-g1 𝓤 H A at-mem run) known-g1 ((tt, tt, tt, (n5, tt), (u5 ∷ [], tt)), tt) (and-then ! (load ! (from ! (stop !)) (look ! 36 refl)) (no-more !)) (λ z1.
         use1 W (later (some (λ (r1 : ℕ). ((‵ ftrue) ⊛ ‵ (u64 .own r1 (z1 ∷ []))) ⊛ some (λ (ws : Lasts g1.ended tt (n5, tt)). ‵ (lasts g1.ended tt (n5, tt) ws) ⊛ raw (g1.clauses 𝓤 H A at-mem run tt (n5, tt) .ensures tt r1 (atExit g1.ended tt (n5, tt) ws)))))) (id⊢ 𝓤 _) $ await ! tt $ pick ! (λ r1. split ! $ move ! (1 ∷ []) $ pick ! (λ ws1. split ! $ move ! (1 ∷ []) $ heard ! _ (λ e1.
-        fsplit ! $ move ! (2 ∷ []) $ split ! $ move ! (1 ∷ []) $ peeks ! u64 (Is u64) (shows 𝓤 H A u64) r1 (z1 ∷ []) (λ i1. drop ! $ land ! (from ! (stop !)) (init ! 40 refl (uint-lawful 𝓤 H A W w64 .typed r1 _ i1 .0)) $
-        assigns ! (addr ! (from ! (fld ! refl (hop ! (look-in ! 58 (sub ! 0 refl (whole !))) (stop !))))) (from ! (stop !)) (init ! 36 refl (tt, tt)) $
-        assigns ! (agg ! (and-then ! (load ! (from ! (stop !)) (look ! 36 refl)) (and-then ! (load ! (from ! (fld ! refl (stop !))) (look-in ! 58 (sub ! 1 refl (whole !)))) (no-more !)))) (from ! (stop !)) (init ! 34 refl (tt, (tt, (record { fits = room4 .0 }, tt)))) $
-        move ! (13 ∷ []) $ use1 W (‵ (O9) ⊛ ‵ (O9)) (shr-slice-copy 𝓤 H A W (named 3) κ₃ mEntry.the-row .twice s9 (v9 ∷ [])) $ split ! $
-        lft-new ! tt (λ ν2b. move ! (20 ∷ 12 ∷ []) $ use2 W (later (some (λ (δ : GName). ‵ (MutSlice (named 1) (ν2b ∷ []) u64 .own (ref4 δ (ys4)) (v4 ∷ [])) ⊛ ‵ (Lent4 ν2b δ (ys4))))) (lends4 (named 1) ν2b (ys4) (refl)) $ await ! tt $ pick ! (λ δ2b. split ! $ move ! (18 ∷ []) $ use1 W (‵ (O7) ⊛ ‵ (O7)) (shr-slice-copy 𝓤 H A W (named 1) κ₁ u64 .twice s7 (v7 ∷ [])) $ split ! $ move ! (19 ∷ []) $ use1 W (‵ (O8) ⊛ ‵ (O8)) (shr-slice-copy 𝓤 H A W (named 2) κ₂ u64 .twice s8 (v8 ∷ [])) $ split ! $ nothing ! $ move ! (17 ∷ 0 ∷ []) $ join ! $ move ! (17 ∷ 0 ∷ []) $ join ! $ move ! (7 ∷ 0 ∷ []) $ join ! $ move ! (15 ∷ 0 ∷ []) $ join ! $ move ! (3 ∷ 1 ∷ []) $ join ! $ move ! (4 ∷ 0 ∷ []) $ join ! $ move ! (5 ∷ 0 ∷ []) $ join ! $ move ! (1 ∷ 0 ∷ []) $ join ! $
+        drop ! $ split ! $ move ! (1 ∷ []) $ peeks ! u64 (Is u64) (shows 𝓤 H A u64) r1 (z1 ∷ []) (λ i1. drop ! $ land ! (from ! (stop !)) (init ! 28 refl (uint-lawful 𝓤 H A W w64 .typed r1 _ i1 .0)) $
+        tidy W (_ ∷ _ ∷ _ ∷ _ ∷ _ ∷ _ ∷ _ ∷ _ ∷ _ ∷ _ ∷ _ ∷ _ ∷ _ ∷ _ ∷ _ ∷ _ ∷ _ ∷ _ ∷ _ ∷ _ ∷ _ ∷ _ ∷ _ ∷ _ ∷ _ ∷ _ ∷ _ ∷ _ ∷ _ ∷ _ ∷ _ ∷ _ ∷ _ ∷ _ ∷ _ ∷ _ ∷ _ ∷ _ ∷ _ ∷ _ ∷ _ ∷ _ ∷ []) $ drop ! $ assigns ! (addr ! (from ! (fld ! refl (hop ! (look-in ! 36 (sub ! 0 refl (whole !))) (stop !))))) (from ! (stop !)) (init ! 25 refl (tt, tt)) $
+        assigns ! (agg ! (and-then ! (load ! (from ! (stop !)) (look ! 25 refl)) (and-then ! (load ! (from ! (fld ! refl (stop !))) (look-in ! 36 (sub ! 1 refl (whole !)))) (no-more !)))) (from ! (stop !)) (init ! 24 refl (tt, (tt, (record { fits = room4 .0 }, tt)))) $
+        move ! (8 ∷ []) $ use1 W (‵ (O9) ⊛ ‵ (O9)) (shr-slice-copy 𝓤 H A W (named 3) κ₃ mEntry.the-row .twice s9 (v9 ∷ [])) $ split ! $
+        lft-new ! tt (λ ν2b. move ! (15 ∷ 8 ∷ []) $ use2 W (later (some (λ (δ : GName). ‵ (MutSlice (named 1) (ν2b ∷ []) u64 .own (ref4 δ (ys4)) (v4 ∷ [])) ⊛ ‵ (Lent4 ν2b δ (ys4))))) (lends4 (named 1) ν2b (ys4) (refl)) $ await ! tt $ pick ! (λ δ2b. split ! $ move ! (13 ∷ []) $ use1 W (‵ (O7) ⊛ ‵ (O7)) (shr-slice-copy 𝓤 H A W (named 1) κ₁ u64 .twice s7 (v7 ∷ [])) $ split ! $ move ! (14 ∷ []) $ use1 W (‵ (O8) ⊛ ‵ (O8)) (shr-slice-copy 𝓤 H A W (named 2) κ₂ u64 .twice s8 (v8 ∷ [])) $ split ! $ tidy W (_ ∷ _ ∷ _ ∷ _ ∷ _ ∷ _ ∷ _ ∷ _ ∷ _ ∷ _ ∷ _ ∷ _ ∷ _ ∷ _ ∷ _ ∷ _ ∷ _ ∷ _ ∷ _ ∷ _ ∷ _ ∷ _ ∷ _ ∷ _ ∷ _ ∷ _ ∷ _ ∷ _ ∷ _ ∷ _ ∷ _ ∷ _ ∷ _ ∷ _ ∷ _ ∷ _ ∷ _ ∷ _ ∷ _ ∷ _ ∷ _ ∷ _ ∷ _ ∷ _ ∷ _ ∷ []) $ nothing ! $ move ! (13 ∷ 0 ∷ []) $ join ! $ move ! (13 ∷ 0 ∷ []) $ join ! $ move ! (7 ∷ 0 ∷ []) $ join ! $ move ! (11 ∷ 0 ∷ []) $ join ! $ move ! (3 ∷ 1 ∷ []) $ join ! $ move ! (4 ∷ 0 ∷ []) $ join ! $ move ! (5 ∷ 0 ∷ []) $ join ! $ move ! (1 ∷ 0 ∷ []) $ join ! $
         -- call 2
         use1 W (raw (Callee-g2 𝓤 H A at-mem run .pre (((κ₃, ((ν2b ∷ []), (κ₁, (κ₂, tt)))), (q₃, (fullShare, (q₁, (q₂, tt)))), tt, (s9, (ref4 δ2b (ys4), (0, (n5, (n3, (n6, (s7, (s8, tt)))))))), (v9 ∷ [], (v4 ∷ [], ((vint w64 0) ∷ [], (u5 ∷ [], (u3 ∷ [], (u6 ∷ [], (v7 ∷ [], (v8 ∷ [], tt))))))))), tt))) (qed W ((‵ (flft κ₃ q₃) ⊛ ‵ (flft (ν2b ∷ []) fullShare) ⊛ ‵ (flft κ₁ q₁) ⊛ ‵ (flft κ₂ q₂) ⊛ ‵ ftrue) ∷ ‵ (ShrSlice (named 0) κ₃ mEntry.the-row .own s9 (v9 ∷ [])) ∷ ‵ (MutSlice (named 1) (ν2b ∷ []) u64 .own (ref4 δ2b (ys4)) (v4 ∷ [])) ∷ ‵ (ShrSlice (named 2) κ₁ u64 .own s7 (v7 ∷ [])) ∷ ‵ (ShrSlice (named 3) κ₂ u64 .own s8 (v8 ∷ [])) ∷ []) ∵ nothing ! $ move ! (5 ∷ 0 ∷ []) $ fjoin ! $ move ! (4 ∷ 0 ∷ []) $ fjoin ! $ owned ! u64 (Is u64) (uint-makes 𝓤 H A W w64) (n6) _ w6 $ fjoin ! $ owned ! u64 (Is u64) (uint-makes 𝓤 H A W w64) (n3) _ w3 $ fjoin ! $ owned ! u64 (Is u64) (uint-makes 𝓤 H A W w64) (n5) _ w5 $ fjoin ! $ owned ! u64 (Is u64) (uint-makes 𝓤 H A W w64) (0) _ (refl, lit< tt) $ fjoin ! $ move ! (3 ∷ 0 ∷ []) $ fjoin ! $ move ! (2 ∷ 0 ∷ []) $ fjoin ! $ move ! (1 ∷ 0 ∷ []) $ join ! $ nothing ! $ move ! (1 ∷ 0 ∷ []) $ frame ! $ done !) $
-        calls-at ! fm (Callee-g2 𝓤 H A at-mem run) known-g2 (((κ₃, ((ν2b ∷ []), (κ₁, (κ₂, tt)))), (q₃, (fullShare, (q₁, (q₂, tt)))), tt, (s9, (ref4 δ2b (ys4), (0, (n5, (n3, (n6, (s7, (s8, tt)))))))), (v9 ∷ [], (v4 ∷ [], ((vint w64 0) ∷ [], (u5 ∷ [], (u3 ∷ [], (u6 ∷ [], (v7 ∷ [], (v8 ∷ [], tt))))))))), tt) (and-then ! (load ! (from ! (stop !)) (look ! 45 refl)) (and-then ! (load ! (from ! (stop !)) (look ! 31 refl)) (and-then ! (load ! (from ! (stop !)) (look ! 39 refl)) (and-then ! (load ! (from ! (stop !)) (look ! 53 refl)) (and-then ! (load ! (from ! (stop !)) (look ! 57 refl)) (and-then ! (load ! (from ! (stop !)) (look ! 51 refl)) (and-then ! (load ! (from ! (stop !)) (look ! 49 refl)) (and-then ! (load ! (from ! (stop !)) (look ! 47 refl)) (no-more !))))))))) (λ z2.
+        calls-at ! fm (Callee-g2 𝓤 H A at-mem run) known-g2 (((κ₃, ((ν2b ∷ []), (κ₁, (κ₂, tt)))), (q₃, (fullShare, (q₁, (q₂, tt)))), tt, (s9, (ref4 δ2b (ys4), (0, (n5, (n3, (n6, (s7, (s8, tt)))))))), (v9 ∷ [], (v4 ∷ [], ((vint w64 0) ∷ [], (u5 ∷ [], (u3 ∷ [], (u6 ∷ [], (v7 ∷ [], (v8 ∷ [], tt))))))))), tt) (and-then ! (load ! (from ! (stop !)) (look ! 28 refl)) (and-then ! (load ! (from ! (stop !)) (look ! 21 refl)) (and-then ! (load ! (from ! (stop !)) (look ! 25 refl)) (and-then ! (load ! (from ! (stop !)) (look ! 32 refl)) (and-then ! (load ! (from ! (stop !)) (look ! 34 refl)) (and-then ! (load ! (from ! (stop !)) (look ! 31 refl)) (and-then ! (load ! (from ! (stop !)) (look ! 30 refl)) (and-then ! (load ! (from ! (stop !)) (look ! 29 refl)) (no-more !))))))))) (λ z2.
         use1 W (later (some (λ (r2 : Unit {0}). ((‵ (flft κ₃ q₃) ⊛ ‵ (flft (ν2b ∷ []) fullShare) ⊛ ‵ (flft κ₁ q₁) ⊛ ‵ (flft κ₂ q₂) ⊛ ‵ ftrue) ⊛ ‵ (unit .own r2 (z2 ∷ []))) ⊛ some (λ (ws : Lasts g2.ended (κ₃, ((ν2b ∷ []), (κ₁, (κ₂, tt)))) (s9, (ref4 δ2b (ys4), (0, (n5, (n3, (n6, (s7, (s8, tt))))))))). ‵ (lasts g2.ended (κ₃, ((ν2b ∷ []), (κ₁, (κ₂, tt)))) (s9, (ref4 δ2b (ys4), (0, (n5, (n3, (n6, (s7, (s8, tt)))))))) ws) ⊛ raw (g2.clauses 𝓤 H A at-mem run (κ₃, ((ν2b ∷ []), (κ₁, (κ₂, tt)))) (s9, (ref4 δ2b (ys4), (0, (n5, (n3, (n6, (s7, (s8, tt)))))))) .ensures tt r2 (atExit g2.ended (κ₃, ((ν2b ∷ []), (κ₁, (κ₂, tt)))) (s9, (ref4 δ2b (ys4), (0, (n5, (n3, (n6, (s7, (s8, tt)))))))) ws)))))) (id⊢ 𝓤 _) $ await ! tt $ pick ! (λ r2. split ! $ move ! (1 ∷ []) $ pick ! (λ ws2. split ! $ move ! (1 ∷ []) $ heard ! _ (λ e2.
-        fsplit ! $ move ! (1 ∷ []) $ fsplit ! $ fsplit ! $ move ! (1 ∷ []) $ feqL ! (λ same2b. move ! (1 ∷ []) $ fsplit ! $ move ! (1 ∷ []) $ fsplit ! $ move ! (1 ∷ []) $ fsplit ! $ move ! (1 ∷ []) $ fsplit ! $ move ! (1 ∷ []) $ fsplit ! $ move ! (1 ∷ []) $ fsplit ! $ move ! (9 ∷ []) $ split ! $ move ! (1 ∷ []) $ feqL ! (λ i2. land ! (from ! (stop !)) (init ! 44 refl (subst (λ (t : Val). Trueᴮ (hasTy tyUnit t) × WT t) (sym (ap only i2)) (tt, tt))) $
-        split ! $ move ! (1 ∷ []) $ split ! $ move ! (1 ∷ []) $ split ! $ move ! (1 ∷ []) $ split ! $ move ! (1 ∷ []) $ move ! (3 ∷ []) $ lft-end ! tt $ move ! (0 ∷ 16 ∷ 12 ∷ []) $ use3 W (later (‵ (O4 (ws2 .1 .0)) ⊛ ‵ (flft κ₀ q₀))) (backs4 (named 1) ν2b δ2b (ys4) (ws2 .1 .0) (refl) room4 same2b) $ await ! tt $ split ! $
-        assigns ! (addr ! (from ! (fld ! refl (hop ! (look-in ! 67 (sub ! 0 refl (whole !))) (stop !))))) (from ! (stop !)) (init ! 41 refl (tt, tt)) $
-        assigns ! (agg ! (and-then ! (load ! (from ! (stop !)) (look ! 41 refl)) (and-then ! (load ! (from ! (fld ! refl (stop !))) (look-in ! 67 (sub ! 1 refl (whole !)))) (no-more !)))) (from ! (stop !)) (init ! 39 refl (tt, (tt, (record { fits = room4 .0 }, tt)))) $
-        move ! (25 ∷ []) $ use1 W (‵ (O10) ⊛ ‵ (O10)) (shr-slice-copy 𝓤 H A W (named 4) κ₄ mEntry.the-row .twice s10 (v10 ∷ [])) $ split ! $
-        lft-new ! tt (λ ν3b. move ! (3 ∷ 4 ∷ []) $ use2 W (later (some (λ (δ : GName). ‵ (MutSlice (named 1) (ν3b ∷ []) u64 .own (ref4 δ (ws2 .1 .0)) (v4 ∷ [])) ⊛ ‵ (Lent4 ν3b δ (ws2 .1 .0))))) (lends4 (named 1) ν3b (ws2 .1 .0) (same2b)) $ await ! tt $ pick ! (λ δ3b. split ! $ move ! (18 ∷ []) $ use1 W (‵ (O7) ⊛ ‵ (O7)) (shr-slice-copy 𝓤 H A W (named 1) κ₁ u64 .twice s7 (v7 ∷ [])) $ split ! $ move ! (19 ∷ []) $ use1 W (‵ (O8) ⊛ ‵ (O8)) (shr-slice-copy 𝓤 H A W (named 2) κ₂ u64 .twice s8 (v8 ∷ [])) $ split ! $ nothing ! $ move ! (11 ∷ 0 ∷ []) $ join ! $ move ! (11 ∷ 0 ∷ []) $ join ! $ move ! (7 ∷ 0 ∷ []) $ join ! $ move ! (25 ∷ 0 ∷ []) $ join ! $ move ! (3 ∷ 1 ∷ []) $ join ! $ move ! (4 ∷ 0 ∷ []) $ join ! $ move ! (5 ∷ 0 ∷ []) $ join ! $ move ! (1 ∷ 0 ∷ []) $ join ! $
+        fsplit ! $ drop ! $ fsplit ! $ fsplit ! $ move ! (1 ∷ []) $ feqL ! (λ same2b. move ! (1 ∷ []) $ drop ! $ move ! (1 ∷ []) $ split ! $ move ! (1 ∷ []) $ feqL ! (λ i2. land ! (from ! (stop !)) (init ! 24 refl (subst (λ (t : Val). Trueᴮ (hasTy tyUnit t) × WT t) (sym (ap only i2)) (tt, tt))) $
+        tidy W (_ ∷ _ ∷ _ ∷ _ ∷ _ ∷ _ ∷ _ ∷ _ ∷ _ ∷ _ ∷ _ ∷ _ ∷ _ ∷ _ ∷ _ ∷ _ ∷ _ ∷ _ ∷ _ ∷ _ ∷ _ ∷ _ ∷ _ ∷ _ ∷ _ ∷ _ ∷ _ ∷ _ ∷ _ ∷ _ ∷ _ ∷ _ ∷ _ ∷ _ ∷ _ ∷ _ ∷ _ ∷ _ ∷ _ ∷ []) $ split ! $ move ! (1 ∷ []) $ split ! $ move ! (1 ∷ []) $ split ! $ move ! (1 ∷ []) $ split ! $ move ! (1 ∷ []) $ drop ! $ move ! (2 ∷ []) $ lft-end ! tt $ move ! (0 ∷ 7 ∷ 4 ∷ []) $ use3 W (later (‵ (O4 (ws2 .1 .0)) ⊛ ‵ (flft κ₀ q₀))) (backs4 (named 1) ν2b δ2b (ys4) (ws2 .1 .0) (refl) room4 same2b) $ await ! tt $ split ! $
+        assigns ! (addr ! (from ! (fld ! refl (hop ! (look-in ! 36 (sub ! 0 refl (whole !))) (stop !))))) (from ! (stop !)) (init ! 23 refl (tt, tt)) $
+        assigns ! (agg ! (and-then ! (load ! (from ! (stop !)) (look ! 23 refl)) (and-then ! (load ! (from ! (fld ! refl (stop !))) (look-in ! 36 (sub ! 1 refl (whole !)))) (no-more !)))) (from ! (stop !)) (init ! 22 refl (tt, (tt, (record { fits = room4 .0 }, tt)))) $
+        move ! (11 ∷ []) $ use1 W (‵ (O10) ⊛ ‵ (O10)) (shr-slice-copy 𝓤 H A W (named 4) κ₄ mEntry.the-row .twice s10 (v10 ∷ [])) $ split ! $
+        lft-new ! tt (λ ν3b. move ! (3 ∷ 4 ∷ []) $ use2 W (later (some (λ (δ : GName). ‵ (MutSlice (named 1) (ν3b ∷ []) u64 .own (ref4 δ (ws2 .1 .0)) (v4 ∷ [])) ⊛ ‵ (Lent4 ν3b δ (ws2 .1 .0))))) (lends4 (named 1) ν3b (ws2 .1 .0) (same2b)) $ await ! tt $ pick ! (λ δ3b. split ! $ move ! (9 ∷ []) $ use1 W (‵ (O7) ⊛ ‵ (O7)) (shr-slice-copy 𝓤 H A W (named 1) κ₁ u64 .twice s7 (v7 ∷ [])) $ split ! $ move ! (10 ∷ []) $ use1 W (‵ (O8) ⊛ ‵ (O8)) (shr-slice-copy 𝓤 H A W (named 2) κ₂ u64 .twice s8 (v8 ∷ [])) $ split ! $ tidy W (_ ∷ _ ∷ _ ∷ _ ∷ _ ∷ _ ∷ _ ∷ _ ∷ _ ∷ _ ∷ _ ∷ _ ∷ _ ∷ _ ∷ _ ∷ _ ∷ _ ∷ _ ∷ _ ∷ _ ∷ _ ∷ _ ∷ _ ∷ _ ∷ _ ∷ _ ∷ _ ∷ _ ∷ _ ∷ _ ∷ _ ∷ _ ∷ _ ∷ _ ∷ _ ∷ _ ∷ _ ∷ _ ∷ _ ∷ _ ∷ _ ∷ _ ∷ _ ∷ _ ∷ _ ∷ []) $ nothing ! $ move ! (10 ∷ 0 ∷ []) $ join ! $ move ! (10 ∷ 0 ∷ []) $ join ! $ move ! (7 ∷ 0 ∷ []) $ join ! $ move ! (12 ∷ 0 ∷ []) $ join ! $ move ! (3 ∷ 1 ∷ []) $ join ! $ move ! (4 ∷ 0 ∷ []) $ join ! $ move ! (5 ∷ 0 ∷ []) $ join ! $ move ! (1 ∷ 0 ∷ []) $ join ! $
         -- call 3
         use1 W (raw (Callee-g2 𝓤 H A at-mem run .pre (((κ₄, ((ν3b ∷ []), (κ₁, (κ₂, tt)))), (q₄, (fullShare, (q₁, (q₂, tt)))), tt, (s10, (ref4 δ3b (ws2 .1 .0), (n5, (n5, (n3, (n6, (s7, (s8, tt)))))))), (v10 ∷ [], (v4 ∷ [], (u5 ∷ [], (u5 ∷ [], (u3 ∷ [], (u6 ∷ [], (v7 ∷ [], (v8 ∷ [], tt))))))))), tt))) (qed W ((‵ (flft κ₄ q₄) ⊛ ‵ (flft (ν3b ∷ []) fullShare) ⊛ ‵ (flft κ₁ q₁) ⊛ ‵ (flft κ₂ q₂) ⊛ ‵ ftrue) ∷ ‵ (ShrSlice (named 0) κ₄ mEntry.the-row .own s10 (v10 ∷ [])) ∷ ‵ (MutSlice (named 1) (ν3b ∷ []) u64 .own (ref4 δ3b (ws2 .1 .0)) (v4 ∷ [])) ∷ ‵ (ShrSlice (named 2) κ₁ u64 .own s7 (v7 ∷ [])) ∷ ‵ (ShrSlice (named 3) κ₂ u64 .own s8 (v8 ∷ [])) ∷ []) ∵ nothing ! $ move ! (5 ∷ 0 ∷ []) $ fjoin ! $ move ! (4 ∷ 0 ∷ []) $ fjoin ! $ owned ! u64 (Is u64) (uint-makes 𝓤 H A W w64) (n6) _ w6 $ fjoin ! $ owned ! u64 (Is u64) (uint-makes 𝓤 H A W w64) (n3) _ w3 $ fjoin ! $ owned ! u64 (Is u64) (uint-makes 𝓤 H A W w64) (n5) _ w5 $ fjoin ! $ owned ! u64 (Is u64) (uint-makes 𝓤 H A W w64) (n5) _ w5 $ fjoin ! $ move ! (3 ∷ 0 ∷ []) $ fjoin ! $ move ! (2 ∷ 0 ∷ []) $ fjoin ! $ move ! (1 ∷ 0 ∷ []) $ join ! $ nothing ! $ move ! (1 ∷ 0 ∷ []) $ frame ! $ done !) $
-        calls-at ! fm (Callee-g2 𝓤 H A at-mem run) known-g2 (((κ₄, ((ν3b ∷ []), (κ₁, (κ₂, tt)))), (q₄, (fullShare, (q₁, (q₂, tt)))), tt, (s10, (ref4 δ3b (ws2 .1 .0), (n5, (n5, (n3, (n6, (s7, (s8, tt)))))))), (v10 ∷ [], (v4 ∷ [], (u5 ∷ [], (u5 ∷ [], (u3 ∷ [], (u6 ∷ [], (v7 ∷ [], (v8 ∷ [], tt))))))))), tt) (and-then ! (load ! (from ! (stop !)) (look ! 52 refl)) (and-then ! (load ! (from ! (stop !)) (look ! 36 refl)) (and-then ! (load ! (from ! (stop !)) (look ! 62 refl)) (and-then ! (load ! (from ! (stop !)) (look ! 62 refl)) (and-then ! (load ! (from ! (stop !)) (look ! 66 refl)) (and-then ! (load ! (from ! (stop !)) (look ! 60 refl)) (and-then ! (load ! (from ! (stop !)) (look ! 58 refl)) (and-then ! (load ! (from ! (stop !)) (look ! 56 refl)) (no-more !))))))))) (λ z3.
+        calls-at ! fm (Callee-g2 𝓤 H A at-mem run) known-g2 (((κ₄, ((ν3b ∷ []), (κ₁, (κ₂, tt)))), (q₄, (fullShare, (q₁, (q₂, tt)))), tt, (s10, (ref4 δ3b (ws2 .1 .0), (n5, (n5, (n3, (n6, (s7, (s8, tt)))))))), (v10 ∷ [], (v4 ∷ [], (u5 ∷ [], (u5 ∷ [], (u3 ∷ [], (u6 ∷ [], (v7 ∷ [], (v8 ∷ [], tt))))))))), tt) (and-then ! (load ! (from ! (stop !)) (look ! 27 refl)) (and-then ! (load ! (from ! (stop !)) (look ! 19 refl)) (and-then ! (load ! (from ! (stop !)) (look ! 32 refl)) (and-then ! (load ! (from ! (stop !)) (look ! 32 refl)) (and-then ! (load ! (from ! (stop !)) (look ! 34 refl)) (and-then ! (load ! (from ! (stop !)) (look ! 31 refl)) (and-then ! (load ! (from ! (stop !)) (look ! 30 refl)) (and-then ! (load ! (from ! (stop !)) (look ! 29 refl)) (no-more !))))))))) (λ z3.
         use1 W (later (some (λ (r3 : Unit {0}). ((‵ (flft κ₄ q₄) ⊛ ‵ (flft (ν3b ∷ []) fullShare) ⊛ ‵ (flft κ₁ q₁) ⊛ ‵ (flft κ₂ q₂) ⊛ ‵ ftrue) ⊛ ‵ (unit .own r3 (z3 ∷ []))) ⊛ some (λ (ws : Lasts g2.ended (κ₄, ((ν3b ∷ []), (κ₁, (κ₂, tt)))) (s10, (ref4 δ3b (ws2 .1 .0), (n5, (n5, (n3, (n6, (s7, (s8, tt))))))))). ‵ (lasts g2.ended (κ₄, ((ν3b ∷ []), (κ₁, (κ₂, tt)))) (s10, (ref4 δ3b (ws2 .1 .0), (n5, (n5, (n3, (n6, (s7, (s8, tt)))))))) ws) ⊛ raw (g2.clauses 𝓤 H A at-mem run (κ₄, ((ν3b ∷ []), (κ₁, (κ₂, tt)))) (s10, (ref4 δ3b (ws2 .1 .0), (n5, (n5, (n3, (n6, (s7, (s8, tt)))))))) .ensures tt r3 (atExit g2.ended (κ₄, ((ν3b ∷ []), (κ₁, (κ₂, tt)))) (s10, (ref4 δ3b (ws2 .1 .0), (n5, (n5, (n3, (n6, (s7, (s8, tt)))))))) ws)))))) (id⊢ 𝓤 _) $ await ! tt $ pick ! (λ r3. split ! $ move ! (1 ∷ []) $ pick ! (λ ws3. split ! $ move ! (1 ∷ []) $ heard ! _ (λ e3.
-        fsplit ! $ move ! (1 ∷ []) $ fsplit ! $ fsplit ! $ move ! (1 ∷ []) $ feqL ! (λ same3b. move ! (1 ∷ []) $ fsplit ! $ move ! (1 ∷ []) $ fsplit ! $ move ! (1 ∷ []) $ fsplit ! $ move ! (1 ∷ []) $ fsplit ! $ move ! (1 ∷ []) $ fsplit ! $ move ! (1 ∷ []) $ fsplit ! $ move ! (9 ∷ []) $ split ! $ move ! (1 ∷ []) $ feqL ! (λ i3. land ! (from ! (stop !)) (store ! 53 refl (subst (λ (t : Val). Trueᴮ (hasTy tyUnit t) × WT t) (sym (ap only i3)) (tt, tt))) $
-        split ! $ move ! (1 ∷ []) $ split ! $ move ! (1 ∷ []) $ split ! $ move ! (1 ∷ []) $ split ! $ move ! (1 ∷ []) $ move ! (3 ∷ []) $ lft-end ! tt $ move ! (0 ∷ 16 ∷ 12 ∷ []) $ use3 W (later (‵ (O4 (ws3 .1 .0)) ⊛ ‵ (flft κ₀ q₀))) (backs4 (named 1) ν3b δ3b (ws2 .1 .0) (ws3 .1 .0) (same2b) room4 same3b) $ await ! tt $ split ! $
-        assigns ! (addr ! (from ! (fld ! refl (hop ! (look-in ! 76 (sub ! 0 refl (whole !))) (stop !))))) (from ! (stop !)) (init ! 46 refl (tt, tt)) $
-        assigns ! (agg ! (and-then ! (load ! (from ! (stop !)) (look ! 46 refl)) (and-then ! (load ! (from ! (fld ! refl (stop !))) (look-in ! 76 (sub ! 1 refl (whole !)))) (no-more !)))) (from ! (stop !)) (init ! 44 refl (tt, (tt, (record { fits = room4 .0 }, tt)))) $
-        move ! (34 ∷ []) $ use1 W (‵ (O11) ⊛ ‵ (O11)) (shr-slice-copy 𝓤 H A W (named 5) κ₅ mEntry.the-row .twice s11 (v11 ∷ [])) $ split ! $
-        lft-new ! tt (λ ν4b. move ! (3 ∷ 4 ∷ []) $ use2 W (later (some (λ (δ : GName). ‵ (MutSlice (named 1) (ν4b ∷ []) u64 .own (ref4 δ (ws3 .1 .0)) (v4 ∷ [])) ⊛ ‵ (Lent4 ν4b δ (ws3 .1 .0))))) (lends4 (named 1) ν4b (ws3 .1 .0) (same3b ∙ same2b)) $ await ! tt $ pick ! (λ δ4b. split ! $ move ! (18 ∷ []) $ use1 W (‵ (O7) ⊛ ‵ (O7)) (shr-slice-copy 𝓤 H A W (named 1) κ₁ u64 .twice s7 (v7 ∷ [])) $ split ! $ move ! (19 ∷ []) $ use1 W (‵ (O8) ⊛ ‵ (O8)) (shr-slice-copy 𝓤 H A W (named 2) κ₂ u64 .twice s8 (v8 ∷ [])) $ split ! $ nothing ! $ move ! (11 ∷ 0 ∷ []) $ join ! $ move ! (11 ∷ 0 ∷ []) $ join ! $ move ! (7 ∷ 0 ∷ []) $ join ! $ move ! (35 ∷ 0 ∷ []) $ join ! $ move ! (3 ∷ 1 ∷ []) $ join ! $ move ! (4 ∷ 0 ∷ []) $ join ! $ move ! (5 ∷ 0 ∷ []) $ join ! $ move ! (1 ∷ 0 ∷ []) $ join ! $
+        fsplit ! $ drop ! $ fsplit ! $ fsplit ! $ move ! (1 ∷ []) $ feqL ! (λ same3b. move ! (1 ∷ []) $ drop ! $ move ! (1 ∷ []) $ split ! $ move ! (1 ∷ []) $ feqL ! (λ i3. land ! (from ! (stop !)) (store ! 24 refl (subst (λ (t : Val). Trueᴮ (hasTy tyUnit t) × WT t) (sym (ap only i3)) (tt, tt))) $
+        tidy W (_ ∷ _ ∷ _ ∷ _ ∷ _ ∷ _ ∷ _ ∷ _ ∷ _ ∷ _ ∷ _ ∷ _ ∷ _ ∷ _ ∷ _ ∷ _ ∷ _ ∷ _ ∷ _ ∷ _ ∷ _ ∷ _ ∷ _ ∷ _ ∷ _ ∷ _ ∷ _ ∷ _ ∷ _ ∷ _ ∷ _ ∷ _ ∷ _ ∷ _ ∷ _ ∷ _ ∷ _ ∷ _ ∷ _ ∷ []) $ split ! $ move ! (1 ∷ []) $ split ! $ move ! (1 ∷ []) $ split ! $ move ! (1 ∷ []) $ split ! $ move ! (1 ∷ []) $ drop ! $ move ! (2 ∷ []) $ lft-end ! tt $ move ! (0 ∷ 7 ∷ 4 ∷ []) $ use3 W (later (‵ (O4 (ws3 .1 .0)) ⊛ ‵ (flft κ₀ q₀))) (backs4 (named 1) ν3b δ3b (ws2 .1 .0) (ws3 .1 .0) (same2b) room4 same3b) $ await ! tt $ split ! $
+        assigns ! (addr ! (from ! (fld ! refl (hop ! (look-in ! 36 (sub ! 0 refl (whole !))) (stop !))))) (from ! (stop !)) (init ! 21 refl (tt, tt)) $
+        assigns ! (agg ! (and-then ! (load ! (from ! (stop !)) (look ! 21 refl)) (and-then ! (load ! (from ! (fld ! refl (stop !))) (look-in ! 36 (sub ! 1 refl (whole !)))) (no-more !)))) (from ! (stop !)) (init ! 20 refl (tt, (tt, (record { fits = room4 .0 }, tt)))) $
+        move ! (11 ∷ []) $ use1 W (‵ (O11) ⊛ ‵ (O11)) (shr-slice-copy 𝓤 H A W (named 5) κ₅ mEntry.the-row .twice s11 (v11 ∷ [])) $ split ! $
+        lft-new ! tt (λ ν4b. move ! (3 ∷ 4 ∷ []) $ use2 W (later (some (λ (δ : GName). ‵ (MutSlice (named 1) (ν4b ∷ []) u64 .own (ref4 δ (ws3 .1 .0)) (v4 ∷ [])) ⊛ ‵ (Lent4 ν4b δ (ws3 .1 .0))))) (lends4 (named 1) ν4b (ws3 .1 .0) (same3b ∙ same2b)) $ await ! tt $ pick ! (λ δ4b. split ! $ move ! (9 ∷ []) $ use1 W (‵ (O7) ⊛ ‵ (O7)) (shr-slice-copy 𝓤 H A W (named 1) κ₁ u64 .twice s7 (v7 ∷ [])) $ split ! $ move ! (10 ∷ []) $ use1 W (‵ (O8) ⊛ ‵ (O8)) (shr-slice-copy 𝓤 H A W (named 2) κ₂ u64 .twice s8 (v8 ∷ [])) $ split ! $ tidy W (_ ∷ _ ∷ _ ∷ _ ∷ _ ∷ _ ∷ _ ∷ _ ∷ _ ∷ _ ∷ _ ∷ _ ∷ _ ∷ _ ∷ _ ∷ _ ∷ _ ∷ _ ∷ _ ∷ _ ∷ _ ∷ _ ∷ _ ∷ _ ∷ _ ∷ _ ∷ _ ∷ _ ∷ _ ∷ _ ∷ _ ∷ _ ∷ _ ∷ _ ∷ _ ∷ _ ∷ _ ∷ _ ∷ _ ∷ _ ∷ _ ∷ _ ∷ _ ∷ _ ∷ _ ∷ []) $ nothing ! $ move ! (10 ∷ 0 ∷ []) $ join ! $ move ! (10 ∷ 0 ∷ []) $ join ! $ move ! (7 ∷ 0 ∷ []) $ join ! $ move ! (13 ∷ 0 ∷ []) $ join ! $ move ! (3 ∷ 1 ∷ []) $ join ! $ move ! (4 ∷ 0 ∷ []) $ join ! $ move ! (5 ∷ 0 ∷ []) $ join ! $ move ! (1 ∷ 0 ∷ []) $ join ! $
         -- call 4
         use1 W (raw (Callee-g2 𝓤 H A at-mem run .pre (((κ₅, ((ν4b ∷ []), (κ₁, (κ₂, tt)))), (q₅, (fullShare, (q₁, (q₂, tt)))), tt, (s11, (ref4 δ4b (ws3 .1 .0), (r1, (n5, (n3, (n6, (s7, (s8, tt)))))))), (v11 ∷ [], (v4 ∷ [], (z1 ∷ [], (u5 ∷ [], (u3 ∷ [], (u6 ∷ [], (v7 ∷ [], (v8 ∷ [], tt))))))))), tt))) (qed W ((‵ (flft κ₅ q₅) ⊛ ‵ (flft (ν4b ∷ []) fullShare) ⊛ ‵ (flft κ₁ q₁) ⊛ ‵ (flft κ₂ q₂) ⊛ ‵ ftrue) ∷ ‵ (ShrSlice (named 0) κ₅ mEntry.the-row .own s11 (v11 ∷ [])) ∷ ‵ (MutSlice (named 1) (ν4b ∷ []) u64 .own (ref4 δ4b (ws3 .1 .0)) (v4 ∷ [])) ∷ ‵ (ShrSlice (named 2) κ₁ u64 .own s7 (v7 ∷ [])) ∷ ‵ (ShrSlice (named 3) κ₂ u64 .own s8 (v8 ∷ [])) ∷ []) ∵ nothing ! $ move ! (5 ∷ 0 ∷ []) $ fjoin ! $ move ! (4 ∷ 0 ∷ []) $ fjoin ! $ owned ! u64 (Is u64) (uint-makes 𝓤 H A W w64) (n6) _ w6 $ fjoin ! $ owned ! u64 (Is u64) (uint-makes 𝓤 H A W w64) (n3) _ w3 $ fjoin ! $ owned ! u64 (Is u64) (uint-makes 𝓤 H A W w64) (n5) _ w5 $ fjoin ! $ owned ! u64 (Is u64) (uint-makes 𝓤 H A W w64) (r1) _ i1 $ fjoin ! $ move ! (3 ∷ 0 ∷ []) $ fjoin ! $ move ! (2 ∷ 0 ∷ []) $ fjoin ! $ move ! (1 ∷ 0 ∷ []) $ join ! $ nothing ! $ move ! (1 ∷ 0 ∷ []) $ frame ! $ done !) $
-        calls-at ! fm (Callee-g2 𝓤 H A at-mem run) known-g2 (((κ₅, ((ν4b ∷ []), (κ₁, (κ₂, tt)))), (q₅, (fullShare, (q₁, (q₂, tt)))), tt, (s11, (ref4 δ4b (ws3 .1 .0), (r1, (n5, (n3, (n6, (s7, (s8, tt)))))))), (v11 ∷ [], (v4 ∷ [], (z1 ∷ [], (u5 ∷ [], (u3 ∷ [], (u6 ∷ [], (v7 ∷ [], (v8 ∷ [], tt))))))))), tt) (and-then ! (load ! (from ! (stop !)) (look ! 59 refl)) (and-then ! (load ! (from ! (stop !)) (look ! 41 refl)) (and-then ! (load ! (from ! (stop !)) (look ! 55 refl)) (and-then ! (load ! (from ! (stop !)) (look ! 71 refl)) (and-then ! (load ! (from ! (stop !)) (look ! 75 refl)) (and-then ! (load ! (from ! (stop !)) (look ! 69 refl)) (and-then ! (load ! (from ! (stop !)) (look ! 67 refl)) (and-then ! (load ! (from ! (stop !)) (look ! 65 refl)) (no-more !))))))))) (λ z4.
+        calls-at ! fm (Callee-g2 𝓤 H A at-mem run) known-g2 (((κ₅, ((ν4b ∷ []), (κ₁, (κ₂, tt)))), (q₅, (fullShare, (q₁, (q₂, tt)))), tt, (s11, (ref4 δ4b (ws3 .1 .0), (r1, (n5, (n3, (n6, (s7, (s8, tt)))))))), (v11 ∷ [], (v4 ∷ [], (z1 ∷ [], (u5 ∷ [], (u3 ∷ [], (u6 ∷ [], (v7 ∷ [], (v8 ∷ [], tt))))))))), tt) (and-then ! (load ! (from ! (stop !)) (look ! 26 refl)) (and-then ! (load ! (from ! (stop !)) (look ! 17 refl)) (and-then ! (load ! (from ! (stop !)) (look ! 24 refl)) (and-then ! (load ! (from ! (stop !)) (look ! 32 refl)) (and-then ! (load ! (from ! (stop !)) (look ! 34 refl)) (and-then ! (load ! (from ! (stop !)) (look ! 31 refl)) (and-then ! (load ! (from ! (stop !)) (look ! 30 refl)) (and-then ! (load ! (from ! (stop !)) (look ! 29 refl)) (no-more !))))))))) (λ z4.
         use1 W (later (some (λ (r4 : Unit {0}). ((‵ (flft κ₅ q₅) ⊛ ‵ (flft (ν4b ∷ []) fullShare) ⊛ ‵ (flft κ₁ q₁) ⊛ ‵ (flft κ₂ q₂) ⊛ ‵ ftrue) ⊛ ‵ (unit .own r4 (z4 ∷ []))) ⊛ some (λ (ws : Lasts g2.ended (κ₅, ((ν4b ∷ []), (κ₁, (κ₂, tt)))) (s11, (ref4 δ4b (ws3 .1 .0), (r1, (n5, (n3, (n6, (s7, (s8, tt))))))))). ‵ (lasts g2.ended (κ₅, ((ν4b ∷ []), (κ₁, (κ₂, tt)))) (s11, (ref4 δ4b (ws3 .1 .0), (r1, (n5, (n3, (n6, (s7, (s8, tt)))))))) ws) ⊛ raw (g2.clauses 𝓤 H A at-mem run (κ₅, ((ν4b ∷ []), (κ₁, (κ₂, tt)))) (s11, (ref4 δ4b (ws3 .1 .0), (r1, (n5, (n3, (n6, (s7, (s8, tt)))))))) .ensures tt r4 (atExit g2.ended (κ₅, ((ν4b ∷ []), (κ₁, (κ₂, tt)))) (s11, (ref4 δ4b (ws3 .1 .0), (r1, (n5, (n3, (n6, (s7, (s8, tt)))))))) ws)))))) (id⊢ 𝓤 _) $ await ! tt $ pick ! (λ r4. split ! $ move ! (1 ∷ []) $ pick ! (λ ws4. split ! $ move ! (1 ∷ []) $ heard ! _ (λ e4.
-        fsplit ! $ move ! (1 ∷ []) $ fsplit ! $ fsplit ! $ move ! (1 ∷ []) $ feqL ! (λ same4b. move ! (1 ∷ []) $ fsplit ! $ move ! (1 ∷ []) $ fsplit ! $ move ! (1 ∷ []) $ fsplit ! $ move ! (1 ∷ []) $ fsplit ! $ move ! (1 ∷ []) $ fsplit ! $ move ! (1 ∷ []) $ fsplit ! $ move ! (9 ∷ []) $ split ! $ move ! (1 ∷ []) $ feqL ! (λ i4. land ! (from ! (stop !)) (store ! 62 refl (subst (λ (t : Val). Trueᴮ (hasTy tyUnit t) × WT t) (sym (ap only i4)) (tt, tt))) $
-        split ! $ move ! (1 ∷ []) $ split ! $ move ! (1 ∷ []) $ split ! $ move ! (1 ∷ []) $ split ! $ move ! (1 ∷ []) $ move ! (3 ∷ []) $ lft-end ! tt $ move ! (0 ∷ 16 ∷ 12 ∷ []) $ use3 W (later (‵ (O4 (ws4 .1 .0)) ⊛ ‵ (flft κ₀ q₀))) (backs4 (named 1) ν4b δ4b (ws3 .1 .0) (ws4 .1 .0) (same3b ∙ same2b) room4 same4b) $ await ! tt $ split ! $
-        assigns ! (addr ! (from ! (fld ! refl (hop ! (look-in ! 85 (sub ! 0 refl (whole !))) (stop !))))) (from ! (stop !)) (init ! 51 refl (tt, tt)) $
-        assigns ! (agg ! (and-then ! (load ! (from ! (stop !)) (look ! 51 refl)) (and-then ! (load ! (from ! (fld ! refl (stop !))) (look-in ! 85 (sub ! 1 refl (whole !)))) (no-more !)))) (from ! (stop !)) (init ! 49 refl (tt, (tt, (record { fits = room4 .0 }, tt)))) $
-        lft-new ! tt (λ ν5d. move ! (1 ∷ 2 ∷ []) $ use2 W (later (some (λ (δ : GName). ‵ (MutSlice (named 0) (ν5d ∷ []) u64 .own (ref4 δ (ws4 .1 .0)) (v4 ∷ [])) ⊛ ‵ (Lent4 ν5d δ (ws4 .1 .0))))) (lends4 (named 0) ν5d (ws4 .1 .0) (same4b ∙ same3b ∙ same2b)) $ await ! tt $ pick ! (λ δ5d. split ! $ nothing ! $ move ! (3 ∷ 0 ∷ []) $ join ! $ join ! $
+        fsplit ! $ drop ! $ fsplit ! $ fsplit ! $ move ! (1 ∷ []) $ feqL ! (λ same4b. move ! (1 ∷ []) $ drop ! $ move ! (1 ∷ []) $ split ! $ move ! (1 ∷ []) $ feqL ! (λ i4. land ! (from ! (stop !)) (store ! 24 refl (subst (λ (t : Val). Trueᴮ (hasTy tyUnit t) × WT t) (sym (ap only i4)) (tt, tt))) $
+        tidy W (_ ∷ _ ∷ _ ∷ _ ∷ _ ∷ _ ∷ _ ∷ _ ∷ _ ∷ _ ∷ _ ∷ _ ∷ _ ∷ _ ∷ _ ∷ _ ∷ _ ∷ _ ∷ _ ∷ _ ∷ _ ∷ _ ∷ _ ∷ _ ∷ _ ∷ _ ∷ _ ∷ _ ∷ _ ∷ _ ∷ _ ∷ _ ∷ _ ∷ _ ∷ _ ∷ _ ∷ _ ∷ _ ∷ _ ∷ []) $ split ! $ move ! (1 ∷ []) $ split ! $ move ! (1 ∷ []) $ split ! $ move ! (1 ∷ []) $ split ! $ move ! (1 ∷ []) $ drop ! $ move ! (2 ∷ []) $ lft-end ! tt $ move ! (0 ∷ 7 ∷ 4 ∷ []) $ use3 W (later (‵ (O4 (ws4 .1 .0)) ⊛ ‵ (flft κ₀ q₀))) (backs4 (named 1) ν4b δ4b (ws3 .1 .0) (ws4 .1 .0) (same3b ∙ same2b) room4 same4b) $ await ! tt $ split ! $
+        assigns ! (addr ! (from ! (fld ! refl (hop ! (look-in ! 36 (sub ! 0 refl (whole !))) (stop !))))) (from ! (stop !)) (init ! 19 refl (tt, tt)) $
+        assigns ! (agg ! (and-then ! (load ! (from ! (stop !)) (look ! 19 refl)) (and-then ! (load ! (from ! (fld ! refl (stop !))) (look-in ! 36 (sub ! 1 refl (whole !)))) (no-more !)))) (from ! (stop !)) (init ! 18 refl (tt, (tt, (record { fits = room4 .0 }, tt)))) $
+        lft-new ! tt (λ ν5d. move ! (1 ∷ 2 ∷ []) $ use2 W (later (some (λ (δ : GName). ‵ (MutSlice (named 0) (ν5d ∷ []) u64 .own (ref4 δ (ws4 .1 .0)) (v4 ∷ [])) ⊛ ‵ (Lent4 ν5d δ (ws4 .1 .0))))) (lends4 (named 0) ν5d (ws4 .1 .0) (same4b ∙ same3b ∙ same2b)) $ await ! tt $ pick ! (λ δ5d. split ! $ tidy W (_ ∷ _ ∷ _ ∷ _ ∷ _ ∷ _ ∷ _ ∷ _ ∷ _ ∷ _ ∷ _ ∷ _ ∷ _ ∷ _ ∷ _ ∷ _ ∷ _ ∷ _ ∷ _ ∷ _ ∷ _ ∷ _ ∷ _ ∷ _ ∷ _ ∷ _ ∷ _ ∷ _ ∷ _ ∷ _ ∷ _ ∷ _ ∷ _ ∷ _ ∷ _ ∷ _ ∷ _ ∷ _ ∷ _ ∷ _ ∷ _ ∷ _ ∷ []) $ nothing ! $ move ! (3 ∷ 0 ∷ []) $ join ! $ join ! $
         -- call 5
         use1 W (raw (Callee-g3 𝓤 H A at-mem run .pre ((((ν5d ∷ []), tt), (fullShare, tt), tt, (n1, (n2, (n3, (ref4 δ5d (ws4 .1 .0), (n5, tt))))), (u1 ∷ [], (u2 ∷ [], (u3 ∷ [], (v4 ∷ [], (u5 ∷ [], tt)))))), tt))) (qed W ((‵ (flft (ν5d ∷ []) fullShare) ⊛ ‵ ftrue) ∷ ‵ (MutSlice (named 0) (ν5d ∷ []) u64 .own (ref4 δ5d (ws4 .1 .0)) (v4 ∷ [])) ∷ []) ∵ nothing ! $ owned ! u64 (Is u64) (uint-makes 𝓤 H A W w64) (n5) _ w5 $ fjoin ! $ move ! (2 ∷ 0 ∷ []) $ fjoin ! $ owned ! u64 (Is u64) (uint-makes 𝓤 H A W w64) (n3) _ w3 $ fjoin ! $ owned ! u64 (Is u64) (uint-makes 𝓤 H A W w64) (n2) _ w2 $ fjoin ! $ owned ! mSeen.the-row (Is mSeen.the-row) (LL.makes mSeen.the-type lSeen.the-plain 𝓤 H A) (n1) _ w1 $ fjoin ! $ move ! (1 ∷ 0 ∷ []) $ join ! $ nothing ! $ move ! (1 ∷ 0 ∷ []) $ frame ! $ done !) $
-        calls-at ! fm (Callee-g3 𝓤 H A at-mem run) known-g3 ((((ν5d ∷ []), tt), (fullShare, tt), tt, (n1, (n2, (n3, (ref4 δ5d (ws4 .1 .0), (n5, tt))))), (u1 ∷ [], (u2 ∷ [], (u3 ∷ [], (v4 ∷ [], (u5 ∷ [], tt)))))), tt) (and-then ! (load ! (from ! (stop !)) (look ! 91 refl)) (and-then ! (load ! (from ! (stop !)) (look ! 89 refl)) (and-then ! (load ! (from ! (stop !)) (look ! 87 refl)) (and-then ! (load ! (from ! (stop !)) (look ! 49 refl)) (and-then ! (load ! (from ! (stop !)) (look ! 83 refl)) (no-more !)))))) (λ z5.
+        calls-at ! fm (Callee-g3 𝓤 H A at-mem run) known-g3 ((((ν5d ∷ []), tt), (fullShare, tt), tt, (n1, (n2, (n3, (ref4 δ5d (ws4 .1 .0), (n5, tt))))), (u1 ∷ [], (u2 ∷ [], (u3 ∷ [], (v4 ∷ [], (u5 ∷ [], tt)))))), tt) (and-then ! (load ! (from ! (stop !)) (look ! 39 refl)) (and-then ! (load ! (from ! (stop !)) (look ! 38 refl)) (and-then ! (load ! (from ! (stop !)) (look ! 37 refl)) (and-then ! (load ! (from ! (stop !)) (look ! 18 refl)) (and-then ! (load ! (from ! (stop !)) (look ! 35 refl)) (no-more !)))))) (λ z5.
         use1 W (later (some (λ (r5 : Seen). ((‵ (flft (ν5d ∷ []) fullShare) ⊛ ‵ ftrue) ⊛ ‵ (mSeen.the-row .own r5 (z5 ∷ []))) ⊛ some (λ (ws : Lasts g3.ended ((ν5d ∷ []), tt) (n1, (n2, (n3, (ref4 δ5d (ws4 .1 .0), (n5, tt)))))). ‵ (lasts g3.ended ((ν5d ∷ []), tt) (n1, (n2, (n3, (ref4 δ5d (ws4 .1 .0), (n5, tt))))) ws) ⊛ raw (g3.clauses 𝓤 H A at-mem run ((ν5d ∷ []), tt) (n1, (n2, (n3, (ref4 δ5d (ws4 .1 .0), (n5, tt))))) .ensures tt r5 (atExit g3.ended ((ν5d ∷ []), tt) (n1, (n2, (n3, (ref4 δ5d (ws4 .1 .0), (n5, tt))))) ws)))))) (id⊢ 𝓤 _) $ await ! tt $ pick ! (λ r5. split ! $ move ! (1 ∷ []) $ pick ! (λ ws5. split ! $ move ! (1 ∷ []) $ heard ! _ (λ e5.
-        fsplit ! $ move ! (1 ∷ []) $ fsplit ! $ move ! (1 ∷ []) $ fsplit ! $ move ! (1 ∷ []) $ fsplit ! $ fsplit ! $ move ! (1 ∷ []) $ feqL ! (λ same5d. move ! (1 ∷ []) $ fsplit ! $ move ! (6 ∷ []) $ split ! $ move ! (1 ∷ []) $ peeks ! mSeen.the-row (Is mSeen.the-row) (shows 𝓤 H A mSeen.the-row) r5 (z5 ∷ []) (λ i5. drop ! $ land ! (from ! (stop !)) (init ! 99 refl (LL.lawful mSeen.the-type lSeen.the-laws 𝓤 H A W .typed r5 _ i5 .0)) $
-        split ! $ move ! (1 ∷ []) $ move ! (1 ∷ []) $ lft-end ! tt $ move ! (0 ∷ 8 ∷ 4 ∷ []) $ use3 W (later (‵ (O4 (ws5 .1 .1 .1 .0)) ⊛ ‵ (flft κ₀ q₀))) (backs4 (named 0) ν5d δ5d (ws4 .1 .0) (ws5 .1 .1 .1 .0) (same4b ∙ same3b ∙ same2b) room4 same5d) $ await ! tt $ split ! $
-        returns ! (look ! 99 refl) $ forget ! 99 refl $ forget ! 97 refl $ forget ! 95 refl $ forget ! 93 refl $ forget ! 91 refl $ forget ! 89 refl $ forget ! 87 refl $ forget ! 85 refl $ forget ! 83 refl $ forget ! 81 refl $ forget ! 79 refl $ forget ! 77 refl $ forget ! 75 refl $ forget ! 73 refl $ forget ! 71 refl $ forget ! 69 refl $ forget ! 67 refl $ forget ! 65 refl $ forget ! 63 refl $ forget ! 61 refl $ forget ! 59 refl $ forget ! 57 refl $ forget ! 55 refl $
-        move ! (99 ∷ 100 ∷ []) $ free1 ! $ move ! (97 ∷ 98 ∷ []) $ free1 ! $ move ! (95 ∷ 96 ∷ []) $ free1 ! $ move ! (93 ∷ 94 ∷ []) $ free1 ! $ move ! (91 ∷ 92 ∷ []) $ free1 ! $ move ! (89 ∷ 90 ∷ []) $ free1 ! $ move ! (87 ∷ 88 ∷ []) $ free1 ! $ move ! (85 ∷ 86 ∷ []) $ free1 ! $ move ! (83 ∷ 84 ∷ []) $ free1 ! $ move ! (81 ∷ 82 ∷ []) $ free1 ! $ move ! (79 ∷ 80 ∷ []) $ free1 ! $ move ! (77 ∷ 78 ∷ []) $ free1 ! $ move ! (75 ∷ 76 ∷ []) $ free1 ! $ move ! (73 ∷ 74 ∷ []) $ free1 ! $ move ! (71 ∷ 72 ∷ []) $ free1 ! $ move ! (69 ∷ 70 ∷ []) $ free1 ! $ move ! (67 ∷ 68 ∷ []) $ free1 ! $ move ! (65 ∷ 66 ∷ []) $ free1 ! $ move ! (63 ∷ 64 ∷ []) $ free1 ! $ move ! (61 ∷ 62 ∷ []) $ free1 ! $ move ! (59 ∷ 60 ∷ []) $ free1 ! $ move ! (57 ∷ 58 ∷ []) $ free1 ! $ move ! (55 ∷ 56 ∷ []) $ free1 ! $ free0 ! $
+        fsplit ! $ drop ! $ fsplit ! $ drop ! $ fsplit ! $ drop ! $ fsplit ! $ fsplit ! $ move ! (1 ∷ []) $ feqL ! (λ same5d. move ! (1 ∷ []) $ drop ! $ move ! (1 ∷ []) $ split ! $ move ! (1 ∷ []) $ peeks ! mSeen.the-row (Is mSeen.the-row) (shows 𝓤 H A mSeen.the-row) r5 (z5 ∷ []) (λ i5. drop ! $ land ! (from ! (stop !)) (init ! 41 refl (LL.lawful mSeen.the-type lSeen.the-laws 𝓤 H A W .typed r5 _ i5 .0)) $
+        tidy W (_ ∷ _ ∷ _ ∷ _ ∷ _ ∷ _ ∷ _ ∷ _ ∷ _ ∷ _ ∷ _ ∷ _ ∷ _ ∷ _ ∷ _ ∷ _ ∷ _ ∷ _ ∷ _ ∷ _ ∷ _ ∷ _ ∷ _ ∷ _ ∷ _ ∷ _ ∷ _ ∷ _ ∷ _ ∷ _ ∷ _ ∷ _ ∷ _ ∷ _ ∷ _ ∷ _ ∷ _ ∷ _ ∷ _ ∷ _ ∷ _ ∷ _ ∷ []) $ split ! $ move ! (1 ∷ []) $ drop ! $ lft-end ! tt $ move ! (0 ∷ 2 ∷ 1 ∷ []) $ use3 W (later (‵ (O4 (ws5 .1 .1 .1 .0)) ⊛ ‵ (flft κ₀ q₀))) (backs4 (named 0) ν5d δ5d (ws4 .1 .0) (ws5 .1 .1 .1 .0) (same4b ∙ same3b ∙ same2b) room4 same5d) $ await ! tt $ split ! $
+        tidy W (_ ∷ _ ∷ _ ∷ _ ∷ _ ∷ _ ∷ _ ∷ _ ∷ _ ∷ _ ∷ _ ∷ _ ∷ _ ∷ _ ∷ _ ∷ _ ∷ _ ∷ _ ∷ _ ∷ _ ∷ _ ∷ _ ∷ _ ∷ _ ∷ _ ∷ _ ∷ _ ∷ _ ∷ _ ∷ _ ∷ _ ∷ _ ∷ _ ∷ _ ∷ _ ∷ _ ∷ _ ∷ _ ∷ _ ∷ _ ∷ _ ∷ []) $ returns ! (look ! 40 refl) $ move ! (17 ∷ []) $ use1 W (dies ((lSeen.mir, l₀) ∷ (lSeen.mir, l₁) ∷ (tyInt w64, l₂) ∷ (tyInt w64, l₃) ∷ (sliceTy (tyRef (named 0) mut (tyInt w64)), l₄) ∷ (tyInt w64, l₅) ∷ (tyInt w64, l₆) ∷ (sliceTy (tyRef (named 1) imm (tyInt w64)), l₇) ∷ (sliceTy (tyRef (named 2) imm (tyInt w64)), l₈) ∷ (sliceTy (tyRef (named 3) imm (pointee (mEntry.the-row .written))), l₉) ∷ (sliceTy (tyRef (named 4) imm (pointee (mEntry.the-row .written))), l₁₀) ∷ (sliceTy (tyRef (named 5) imm (pointee (mEntry.the-row .written))), l₁₁) ∷ (tyInt w64, l₁₂) ∷ (tyInt w64, l₁₃) ∷ (tyUnit, l₁₄) ∷ (tyRef erased mut (tyInt w64), l₁₅) ∷ (sliceTy (tyRef erased mut (tyInt w64)), l₁₆) ∷ (tyRef erased mut (tyInt w64), l₁₇) ∷ (sliceTy (tyRef erased mut (tyInt w64)), l₁₈) ∷ (tyRef erased mut (tyInt w64), l₁₉) ∷ (sliceTy (tyRef erased mut (tyInt w64)), l₂₀) ∷ (tyRef erased mut (tyInt w64), l₂₁) ∷ (sliceTy (tyRef erased mut (tyInt w64)), l₂₂) ∷ []) (‵ ftrue)) die $ free-all ! 17 ((lSeen.mir, l₀) ∷ (lSeen.mir, l₁) ∷ (tyInt w64, l₂) ∷ (tyInt w64, l₃) ∷ (sliceTy (tyRef (named 0) mut (tyInt w64)), l₄) ∷ (tyInt w64, l₅) ∷ (tyInt w64, l₆) ∷ (sliceTy (tyRef (named 1) imm (tyInt w64)), l₇) ∷ (sliceTy (tyRef (named 2) imm (tyInt w64)), l₈) ∷ (sliceTy (tyRef (named 3) imm (pointee (mEntry.the-row .written))), l₉) ∷ (sliceTy (tyRef (named 4) imm (pointee (mEntry.the-row .written))), l₁₀) ∷ (sliceTy (tyRef (named 5) imm (pointee (mEntry.the-row .written))), l₁₁) ∷ (tyInt w64, l₁₂) ∷ (tyInt w64, l₁₃) ∷ (tyUnit, l₁₄) ∷ (tyRef erased mut (tyInt w64), l₁₅) ∷ (sliceTy (tyRef erased mut (tyInt w64)), l₁₆) ∷ (tyRef erased mut (tyInt w64), l₁₇) ∷ (sliceTy (tyRef erased mut (tyInt w64)), l₁₈) ∷ (tyRef erased mut (tyInt w64), l₁₉) ∷ (sliceTy (tyRef erased mut (tyInt w64)), l₂₀) ∷ (tyRef erased mut (tyInt w64), l₂₁) ∷ (sliceTy (tyRef erased mut (tyInt w64)), l₂₂) ∷ []) (kept _ ∷ kept _ ∷ kept _ ∷ kept _ ∷ kept _ ∷ kept _ ∷ kept _ ∷ kept _ ∷ kept _ ∷ kept _ ∷ kept _ ∷ kept _ ∷ kept _ ∷ kept _ ∷ kept _ ∷ kept _ ∷ kept _ ∷ kept _ ∷ kept _ ∷ kept _ ∷ kept _ ∷ kept _ ∷ kept _ ∷ []) refl $
         suffices ! _ (ends-at 𝓤 H A f.ended stayed (f.clauses 𝓤 H A at-mem run) W (((κ₀, (κ₁, (κ₂, (κ₃, (κ₄, (κ₅, tt)))))), (q₀, (q₁, (q₂, (q₃, (q₄, (q₅, tt)))))), tt, a, at), tt) z5 r5 (tt, (tt, (tt, (ws5 .1 .1 .1 .0, (tt, (tt, (tt, (tt, (tt, (tt, (tt, tt))))))))))) (tt, (tt, (tt, (same5d ∙ same4b ∙ same3b ∙ same2b, (tt, (tt, (tt, (tt, (tt, (tt, (tt, tt)))))))))))) $ says ! (login-ends n1 n2 n3 n5 r1 (zAt n6 (s7 .now) (elements (s8 .now)) n3) (entriesOfRecords (s9 .now)) (entriesOfRecords (s10 .now)) (entriesOfRecords (s11 .now)) ys4 (ws2 .1 .0) (ws3 .1 .0) (ws4 .1 .0) (ws5 .1 .1 .1 .0) r5 e1 e2 e3 e4 e5) $
-        nothing ! $ move ! (12 ∷ 0 ∷ []) $ join ! $ move ! (24 ∷ 0 ∷ []) $ join ! $ move ! (34 ∷ 0 ∷ []) $ join ! $ move ! (10 ∷ 0 ∷ []) $ join ! $ move ! (10 ∷ 0 ∷ []) $ join ! $ move ! (2 ∷ 0 ∷ []) $ join ! $ nothing ! $ move ! (20 ∷ 0 ∷ []) $ fjoin ! $ move ! (29 ∷ 0 ∷ []) $ fjoin ! $ move ! (38 ∷ 0 ∷ []) $ fjoin ! $ move ! (18 ∷ 0 ∷ []) $ fjoin ! $ move ! (18 ∷ 0 ∷ []) $ fjoin ! $ move ! (41 ∷ 0 ∷ []) $ fjoin ! $ move ! (41 ∷ 0 ∷ []) $ fjoin ! $ move ! (2 ∷ 0 ∷ []) $ fjoin ! $ move ! (40 ∷ 0 ∷ []) $ fjoin ! $ move ! (40 ∷ 0 ∷ []) $ fjoin ! $ move ! (40 ∷ 0 ∷ []) $ fjoin ! $ keep ! (1 ∷ 0 ∷ []) $ frame ! $ frame ! $ owned ! mSeen.the-row (Is mSeen.the-row) (LL.makes mSeen.the-type lSeen.the-plain 𝓤 H A) r5 _ i5 $ done !))))))))))))))))))))))))))))))))))))))))))))))))))))))))))))
+        nothing ! $ move ! (5 ∷ 0 ∷ []) $ join ! $ move ! (8 ∷ 0 ∷ []) $ join ! $ move ! (9 ∷ 0 ∷ []) $ join ! $ move ! (3 ∷ 0 ∷ []) $ join ! $ move ! (3 ∷ 0 ∷ []) $ join ! $ move ! (2 ∷ 0 ∷ []) $ join ! $ nothing ! $ move ! (5 ∷ 0 ∷ []) $ fjoin ! $ move ! (5 ∷ 0 ∷ []) $ fjoin ! $ move ! (5 ∷ 0 ∷ []) $ fjoin ! $ move ! (3 ∷ 0 ∷ []) $ fjoin ! $ move ! (3 ∷ 0 ∷ []) $ fjoin ! $ move ! (3 ∷ 0 ∷ []) $ fjoin ! $ move ! (3 ∷ 0 ∷ []) $ fjoin ! $ move ! (2 ∷ 0 ∷ []) $ fjoin ! $ move ! (2 ∷ 0 ∷ []) $ fjoin ! $ move ! (2 ∷ 0 ∷ []) $ fjoin ! $ move ! (2 ∷ 0 ∷ []) $ fjoin ! $ keep ! (1 ∷ 0 ∷ []) $ frame ! $ frame ! $ owned ! mSeen.the-row (Is mSeen.the-row) (LL.makes mSeen.the-type lSeen.the-plain 𝓤 H A) r5 _ i5 $ done !)))))))))))))))))))))))))))))))))))))))))))))))))))))))))))))
 
 module _ {M : Type 1} (𝓤 : URA M) (H : Heap 𝓤) (A : Atoms 𝓤) (W : Given 𝓤 H A) (mem : Memory → SProp 𝓤) (run : Routine → Fun 𝓤) where
   walks : (C : Calls 𝓤 H) (Λ : Loops 𝓤 H) → FmC 𝓤 H (W .laws) C → Triple 𝓤 (C #g1) (Callee-g1 𝓤 H A mem run) → Triple 𝓤 (C #g2) (Callee-g2 𝓤 H A mem run) → Triple 𝓤 (C #g3) (Callee-g3 𝓤 H A mem run) → Walks 𝓤 H A f.ended stayed (WpFn 𝓤 H C Λ code.function) (f.clauses 𝓤 H A mem run)

@@ -20,7 +20,7 @@ use contract.Monad.{Fun, fact}
 use contract.Running.{givenOf, tables, tablesOf}
 use types.Kit.{Given, ‵, raw, _⊛_, ⋆, some, later, _$_, _∵_, !, qed, by, move, keep, drop, use1, use2, use3, split, join, pick, fsplit, fsplit3, fjoin, fjoin3, feqL, feqI, rewrite, atRet, suffices, frame, await, done}
 use types.Part.{agg, whole, sub, look-in}
-use types.Run.{look, look-raw, init, store, store-raw, forget, stop, hop, fld, from, load, unit-lit, of-opd, addr, and-then, no-more, lit, true-lit, false-lit, assigns, assigns-last, land, land-last, first, branches, skips, exec, returns, enter, alloc1, alloc0, params1, pass1, pass0, free1, free0}
+use types.Run.{look, look-raw, init, store, store-raw, stop, hop, fld, from, load, unit-lit, of-opd, addr, and-then, no-more, lit, true-lit, false-lit, assigns, assigns-last, land, land-last, first, branches, skips, exec, returns, enter, alloc0, params1, pass1, pass0}
 use types.Tokens.{lft-new, lft-end}
 use sound.WpLaws.{FmC, fmOf, WpFn-mono}
 use denote.RattleType.{owns}
@@ -54,6 +54,7 @@ use Rattle.magnetar_inplace.proofs.records.Entry.Laws as lEntry
 use Rattle.magnetar_row_records.specs.declared.steps.Seen.{Seen}
 use Rattle.magnetar_row_records.proofs.steps.Seen as mSeen
 use Rattle.magnetar_row_records.proofs.steps.Seen.Laws as lSeen
+use Rattle.magnetar_inplace.proofs.Locals.{tidy, bare, kept, dies, alloc, hide, free-all}
 use Rattle.magnetar_inplace.proofs.Again.{LentAgain, lends-again, comes-back}
 use Rattle.magnetar_row_records.proofs.steps.none as g1
 use Rattle.magnetar_row_records.proofs.steps.none.Symbol as g1-def
@@ -195,48 +196,47 @@ module _ {M : Type 1} (𝓤 : URA M) (H : Heap 𝓤) (A : Atoms 𝓤) (W : Given
     walk : ent 𝓤 (onEntry 𝓤 H A f.signature (κ₀, (κ₁, (κ₂, (κ₃, (κ₄, (κ₅, (κ₆, (κ₇, (κ₈, tt))))))))) (q₀, (q₁, (q₂, (q₃, (q₄, (q₅, (q₆, (q₇, (q₈, tt))))))))) a at) (WpFn 𝓤 H C Λ code.function (v1 ∷ v2 ∷ v3 ∷ v4 ∷ v5 ∷ v6 ∷ v7 ∷ v8 ∷ v9 ∷ v10 ∷ v11 ∷ v12 ∷ v13 ∷ []) Post)
     walk =
         qed W ((‵ (flft κ₀ q₀) ⊛ ‵ (flft κ₁ q₁) ⊛ ‵ (flft κ₂ q₂) ⊛ ‵ (flft κ₃ q₃) ⊛ ‵ (flft κ₄ q₄) ⊛ ‵ (flft κ₅ q₅) ⊛ ‵ (flft κ₆ q₆) ⊛ ‵ (flft κ₇ q₇) ⊛ ‵ (flft κ₈ q₈) ⊛ ‵ ftrue) ∷ ‵ (owns (MutSlice (named 0) κ₀ u64 ∷ u64 ∷ u64 ∷ u64 ∷ u64 ∷ ShrSlice (named 1) κ₁ u64 ∷ ShrSlice (named 2) κ₂ u64 ∷ ShrSlice (named 3) κ₃ mEntry.the-row ∷ ShrSlice (named 4) κ₄ mEntry.the-row ∷ ShrSlice (named 5) κ₅ mEntry.the-row ∷ ShrSlice (named 6) κ₆ mEntry.the-row ∷ ShrSlice (named 7) κ₇ mEntry.the-row ∷ ShrSlice (named 8) κ₈ mEntry.the-row ∷ []) a at) ∷ []) ∵ enter ! C Λ code.function (v1 ∷ v2 ∷ v3 ∷ v4 ∷ v5 ∷ v6 ∷ v7 ∷ v8 ∷ v9 ∷ v10 ∷ v11 ∷ v12 ∷ v13 ∷ []) _ $
-        alloc1 ! (λ l₀. alloc1 ! (λ l₁. alloc1 ! (λ l₂. alloc1 ! (λ l₃. alloc1 ! (λ l₄. alloc1 ! (λ l₅. alloc1 ! (λ l₆. alloc1 ! (λ l₇. alloc1 ! (λ l₈. alloc1 ! (λ l₉. alloc1 ! (λ l₁₀. alloc1 ! (λ l₁₁. alloc1 ! (λ l₁₂. alloc1 ! (λ l₁₃. alloc1 ! (λ l₁₄. alloc1 ! (λ l₁₅. alloc1 ! (λ l₁₆. alloc1 ! (λ l₁₇. alloc1 ! (λ l₁₈. alloc1 ! (λ l₁₉. alloc1 ! (λ l₂₀. alloc1 ! (λ l₂₁. alloc1 ! (λ l₂₂. alloc1 ! (λ l₂₃. alloc1 ! (λ l₂₄. alloc1 ! (λ l₂₅. alloc0 ! $ params1 ! $ pass1 ! (init ! 48 refl (tt, (tt, (record { fits = room1 .0 }, tt)))) $ pass1 ! (init ! 46 refl (uint-lawful 𝓤 H A W w64 .typed n2 _ w2 .0)) $ pass1 ! (init ! 44 refl (uint-lawful 𝓤 H A W w64 .typed n3 _ w3 .0)) $ pass1 ! (init ! 42 refl (uint-lawful 𝓤 H A W w64 .typed n4 _ w4 .0)) $ pass1 ! (init ! 40 refl (uint-lawful 𝓤 H A W w64 .typed n5 _ w5 .0)) $ pass1 ! (init ! 38 refl (shr-slice-lawful 𝓤 H A W (named 1) κ₁ u64 .typed s6 (v6 ∷ []) w6 .0)) $ pass1 ! (init ! 36 refl (shr-slice-lawful 𝓤 H A W (named 2) κ₂ u64 .typed s7 (v7 ∷ []) w7 .0)) $ pass1 ! (init ! 34 refl (shr-slice-lawful 𝓤 H A W (named 3) κ₃ mEntry.the-row .typed s8 (v8 ∷ []) w8 .0)) $ pass1 ! (init ! 32 refl (shr-slice-lawful 𝓤 H A W (named 4) κ₄ mEntry.the-row .typed s9 (v9 ∷ []) w9 .0)) $ pass1 ! (init ! 30 refl (shr-slice-lawful 𝓤 H A W (named 5) κ₅ mEntry.the-row .typed s10 (v10 ∷ []) w10 .0)) $ pass1 ! (init ! 28 refl (shr-slice-lawful 𝓤 H A W (named 6) κ₆ mEntry.the-row .typed s11 (v11 ∷ []) w11 .0)) $ pass1 ! (init ! 26 refl (shr-slice-lawful 𝓤 H A W (named 7) κ₇ mEntry.the-row .typed s12 (v12 ∷ []) w12 .0)) $ pass1 ! (init ! 24 refl (shr-slice-lawful 𝓤 H A W (named 8) κ₈ mEntry.the-row .typed s13 (v13 ∷ []) w13 .0)) $ pass0 ! $
-        move ! (53 ∷ []) $ fsplit ! $ move ! (1 ∷ []) $ fsplit ! $ move ! (1 ∷ []) $ fsplit ! $ move ! (1 ∷ []) $ fsplit ! $ move ! (1 ∷ []) $ fsplit ! $ move ! (1 ∷ []) $ fsplit ! $ move ! (1 ∷ []) $ fsplit ! $ move ! (1 ∷ []) $ fsplit ! $ move ! (1 ∷ []) $ fsplit ! $ move ! (1 ∷ []) $ fsplit ! $ move ! (1 ∷ []) $ fsplit ! $ move ! (1 ∷ []) $ fsplit ! $ move ! (1 ∷ []) $ fsplit ! $ move ! (1 ∷ []) $ move ! (66 ∷ []) $ split ! $ move ! (1 ∷ []) $ split ! $ move ! (1 ∷ []) $ split ! $ move ! (1 ∷ []) $ split ! $ move ! (1 ∷ []) $ split ! $ move ! (1 ∷ []) $ split ! $ move ! (1 ∷ []) $ split ! $ move ! (1 ∷ []) $ split ! $ move ! (1 ∷ []) $ split ! $ move ! (1 ∷ []) $
-        assigns ! (of-opd ! (lit ! tt)) (from ! (stop !)) (init ! 46 refl (tt, record { fits = lit< tt })) $
-        assigns ! (of-opd ! (lit ! tt)) (from ! (stop !)) (init ! 44 refl (tt, record { fits = lit< tt })) $
-        nothing ! $
+        nothing ! $ alloc ! (λ l₀. alloc ! (λ l₁. alloc ! (λ l₂. alloc ! (λ l₃. alloc ! (λ l₄. alloc ! (λ l₅. alloc ! (λ l₆. alloc ! (λ l₇. alloc ! (λ l₈. alloc ! (λ l₉. alloc ! (λ l₁₀. alloc ! (λ l₁₁. alloc ! (λ l₁₂. alloc ! (λ l₁₃. alloc ! (λ l₁₄. alloc ! (λ l₁₅. alloc ! (λ l₁₆. alloc ! (λ l₁₇. alloc ! (λ l₁₈. alloc ! (λ l₁₉. alloc ! (λ l₂₀. alloc ! (λ l₂₁. alloc ! (λ l₂₂. alloc ! (λ l₂₃. alloc ! (λ l₂₄. alloc ! (λ l₂₅. alloc0 ! $ hide ! (λ died die. params1 ! $ pass1 ! (init ! 25 refl (tt, (tt, (record { fits = room1 .0 }, tt)))) $ pass1 ! (init ! 24 refl (uint-lawful 𝓤 H A W w64 .typed n2 _ w2 .0)) $ pass1 ! (init ! 23 refl (uint-lawful 𝓤 H A W w64 .typed n3 _ w3 .0)) $ pass1 ! (init ! 22 refl (uint-lawful 𝓤 H A W w64 .typed n4 _ w4 .0)) $ pass1 ! (init ! 21 refl (uint-lawful 𝓤 H A W w64 .typed n5 _ w5 .0)) $ pass1 ! (init ! 20 refl (shr-slice-lawful 𝓤 H A W (named 1) κ₁ u64 .typed s6 (v6 ∷ []) w6 .0)) $ pass1 ! (init ! 19 refl (shr-slice-lawful 𝓤 H A W (named 2) κ₂ u64 .typed s7 (v7 ∷ []) w7 .0)) $ pass1 ! (init ! 18 refl (shr-slice-lawful 𝓤 H A W (named 3) κ₃ mEntry.the-row .typed s8 (v8 ∷ []) w8 .0)) $ pass1 ! (init ! 17 refl (shr-slice-lawful 𝓤 H A W (named 4) κ₄ mEntry.the-row .typed s9 (v9 ∷ []) w9 .0)) $ pass1 ! (init ! 16 refl (shr-slice-lawful 𝓤 H A W (named 5) κ₅ mEntry.the-row .typed s10 (v10 ∷ []) w10 .0)) $ pass1 ! (init ! 15 refl (shr-slice-lawful 𝓤 H A W (named 6) κ₆ mEntry.the-row .typed s11 (v11 ∷ []) w11 .0)) $ pass1 ! (init ! 14 refl (shr-slice-lawful 𝓤 H A W (named 7) κ₇ mEntry.the-row .typed s12 (v12 ∷ []) w12 .0)) $ pass1 ! (init ! 13 refl (shr-slice-lawful 𝓤 H A W (named 8) κ₈ mEntry.the-row .typed s13 (v13 ∷ []) w13 .0)) $ pass0 ! $
+        move ! (28 ∷ []) $ fsplit ! $ move ! (1 ∷ []) $ fsplit ! $ move ! (1 ∷ []) $ fsplit ! $ move ! (1 ∷ []) $ fsplit ! $ move ! (1 ∷ []) $ fsplit ! $ move ! (1 ∷ []) $ fsplit ! $ move ! (1 ∷ []) $ fsplit ! $ move ! (1 ∷ []) $ fsplit ! $ move ! (1 ∷ []) $ fsplit ! $ move ! (1 ∷ []) $ fsplit ! $ move ! (1 ∷ []) $ fsplit ! $ move ! (1 ∷ []) $ fsplit ! $ move ! (1 ∷ []) $ fsplit ! $ move ! (1 ∷ []) $ drop ! $ move ! (40 ∷ []) $ split ! $ move ! (1 ∷ []) $ split ! $ move ! (1 ∷ []) $ split ! $ move ! (1 ∷ []) $ split ! $ move ! (1 ∷ []) $ split ! $ move ! (1 ∷ []) $ split ! $ move ! (1 ∷ []) $ split ! $ move ! (1 ∷ []) $ split ! $ move ! (1 ∷ []) $ split ! $ move ! (1 ∷ []) $ drop ! $ tidy W (_ ∷ _ ∷ _ ∷ _ ∷ _ ∷ _ ∷ _ ∷ _ ∷ _ ∷ _ ∷ _ ∷ _ ∷ _ ∷ _ ∷ _ ∷ _ ∷ _ ∷ _ ∷ _ ∷ _ ∷ _ ∷ _ ∷ _ ∷ _ ∷ _ ∷ _ ∷ _ ∷ _ ∷ _ ∷ _ ∷ _ ∷ _ ∷ _ ∷ _ ∷ _ ∷ _ ∷ _ ∷ _ ∷ _ ∷ _ ∷ _ ∷ _ ∷ _ ∷ _ ∷ _ ∷ _ ∷ _ ∷ _ ∷ _ ∷ []) $
+        assigns ! (of-opd ! (lit ! tt)) (from ! (stop !)) (init ! 34 refl (tt, record { fits = lit< tt })) $
+        assigns ! (of-opd ! (lit ! tt)) (from ! (stop !)) (init ! 33 refl (tt, record { fits = lit< tt })) $
+        tidy W (_ ∷ _ ∷ _ ∷ _ ∷ _ ∷ _ ∷ _ ∷ _ ∷ _ ∷ _ ∷ _ ∷ _ ∷ _ ∷ _ ∷ _ ∷ _ ∷ _ ∷ _ ∷ _ ∷ _ ∷ _ ∷ _ ∷ _ ∷ _ ∷ _ ∷ _ ∷ _ ∷ _ ∷ _ ∷ _ ∷ _ ∷ _ ∷ _ ∷ _ ∷ _ ∷ _ ∷ _ ∷ _ ∷ _ ∷ _ ∷ _ ∷ _ ∷ _ ∷ _ ∷ _ ∷ _ ∷ _ ∷ _ ∷ _ ∷ []) $ nothing ! $
         -- call 1
         use1 W (raw (Callee-g1 𝓤 H A at-mem run .pre ((tt, tt, tt, tt, tt), tt))) (qed W ((‵ ftrue) ∷ []) ∵ nothing ! $ move ! (1 ∷ 0 ∷ []) $ join ! $ nothing ! $ move ! (1 ∷ 0 ∷ []) $ frame ! $ done !) $
         calls-at ! fm (Callee-g1 𝓤 H A at-mem run) known-g1 ((tt, tt, tt, tt, tt), tt) (no-more !) (λ z1.
         use1 W (later (some (λ (r1 : Seen). ((‵ ftrue) ⊛ ‵ (mSeen.the-row .own r1 (z1 ∷ []))) ⊛ some (λ (ws : Lasts g1.ended tt tt). ‵ (lasts g1.ended tt tt ws) ⊛ raw (g1.clauses 𝓤 H A at-mem run tt tt .ensures tt r1 (atExit g1.ended tt tt ws)))))) (id⊢ 𝓤 _) $ await ! tt $ pick ! (λ r1. split ! $ move ! (1 ∷ []) $ pick ! (λ ws1. split ! $ move ! (1 ∷ []) $ heard ! _ (λ e1.
-        move ! (1 ∷ []) $ split ! $ move ! (1 ∷ []) $ peeks ! mSeen.the-row (Is mSeen.the-row) (shows 𝓤 H A mSeen.the-row) r1 (z1 ∷ []) (λ i1. drop ! $ land ! (from ! (stop !)) (init ! 44 refl (LL.lawful mSeen.the-type lSeen.the-laws 𝓤 H A W .typed r1 _ i1 .0)) $
-        assigns ! (addr ! (from ! (fld ! refl (hop ! (look-in ! 74 (sub ! 0 refl (whole !))) (stop !))))) (from ! (stop !)) (init ! 38 refl (tt, tt)) $
-        assigns ! (agg ! (and-then ! (load ! (from ! (stop !)) (look ! 38 refl)) (and-then ! (load ! (from ! (fld ! refl (stop !))) (look-in ! 74 (sub ! 1 refl (whole !)))) (no-more !)))) (from ! (stop !)) (init ! 36 refl (tt, (tt, (record { fits = room1 .0 }, tt)))) $
-        lft-new ! tt (λ ν2c. move ! (26 ∷ 12 ∷ []) $ use2 W (later (some (λ (δ : GName). ‵ (MutSlice (named 0) (ν2c ∷ []) u64 .own (ref1 δ (ys1)) (v1 ∷ [])) ⊛ ‵ (Lent1 ν2c δ (ys1))))) (lends1 (named 0) ν2c (ys1) (refl)) $ await ! tt $ pick ! (λ δ2c. split ! $ move ! (22 ∷ []) $ use1 W (‵ (O6) ⊛ ‵ (O6)) (shr-slice-copy 𝓤 H A W (named 1) κ₁ u64 .twice s6 (v6 ∷ [])) $ split ! $ move ! (23 ∷ []) $ use1 W (‵ (O7) ⊛ ‵ (O7)) (shr-slice-copy 𝓤 H A W (named 2) κ₂ u64 .twice s7 (v7 ∷ [])) $ split ! $ move ! (24 ∷ []) $ use1 W (‵ (O8) ⊛ ‵ (O8)) (shr-slice-copy 𝓤 H A W (named 3) κ₃ mEntry.the-row .twice s8 (v8 ∷ [])) $ split ! $ move ! (25 ∷ []) $ use1 W (‵ (O9) ⊛ ‵ (O9)) (shr-slice-copy 𝓤 H A W (named 4) κ₄ mEntry.the-row .twice s9 (v9 ∷ [])) $ split ! $ move ! (26 ∷ []) $ use1 W (‵ (O10) ⊛ ‵ (O10)) (shr-slice-copy 𝓤 H A W (named 5) κ₅ mEntry.the-row .twice s10 (v10 ∷ [])) $ split ! $ nothing ! $ move ! (20 ∷ 0 ∷ []) $ join ! $ move ! (20 ∷ 0 ∷ []) $ join ! $ move ! (20 ∷ 0 ∷ []) $ join ! $ move ! (20 ∷ 0 ∷ []) $ join ! $ move ! (20 ∷ 0 ∷ []) $ join ! $ move ! (13 ∷ 0 ∷ []) $ join ! $ move ! (3 ∷ 1 ∷ []) $ join ! $ move ! (4 ∷ 0 ∷ []) $ join ! $ move ! (5 ∷ 0 ∷ []) $ join ! $ move ! (6 ∷ 0 ∷ []) $ join ! $ move ! (7 ∷ 0 ∷ []) $ join ! $ move ! (1 ∷ 0 ∷ []) $ join ! $
+        drop ! $ split ! $ move ! (1 ∷ []) $ peeks ! mSeen.the-row (Is mSeen.the-row) (shows 𝓤 H A mSeen.the-row) r1 (z1 ∷ []) (λ i1. drop ! $ land ! (from ! (stop !)) (init ! 33 refl (LL.lawful mSeen.the-type lSeen.the-laws 𝓤 H A W .typed r1 _ i1 .0)) $
+        tidy W (_ ∷ _ ∷ _ ∷ _ ∷ _ ∷ _ ∷ _ ∷ _ ∷ _ ∷ _ ∷ _ ∷ _ ∷ _ ∷ _ ∷ _ ∷ _ ∷ _ ∷ _ ∷ _ ∷ _ ∷ _ ∷ _ ∷ _ ∷ _ ∷ _ ∷ _ ∷ _ ∷ _ ∷ _ ∷ _ ∷ _ ∷ _ ∷ _ ∷ _ ∷ _ ∷ _ ∷ _ ∷ _ ∷ _ ∷ _ ∷ _ ∷ _ ∷ _ ∷ _ ∷ _ ∷ _ ∷ _ ∷ _ ∷ _ ∷ _ ∷ []) $ drop ! $ assigns ! (addr ! (from ! (fld ! refl (hop ! (look-in ! 47 (sub ! 0 refl (whole !))) (stop !))))) (from ! (stop !)) (init ! 29 refl (tt, tt)) $
+        assigns ! (agg ! (and-then ! (load ! (from ! (stop !)) (look ! 29 refl)) (and-then ! (load ! (from ! (fld ! refl (stop !))) (look-in ! 47 (sub ! 1 refl (whole !)))) (no-more !)))) (from ! (stop !)) (init ! 28 refl (tt, (tt, (record { fits = room1 .0 }, tt)))) $
+        lft-new ! tt (λ ν2c. move ! (22 ∷ 9 ∷ []) $ use2 W (later (some (λ (δ : GName). ‵ (MutSlice (named 0) (ν2c ∷ []) u64 .own (ref1 δ (ys1)) (v1 ∷ [])) ⊛ ‵ (Lent1 ν2c δ (ys1))))) (lends1 (named 0) ν2c (ys1) (refl)) $ await ! tt $ pick ! (λ δ2c. split ! $ move ! (18 ∷ []) $ use1 W (‵ (O6) ⊛ ‵ (O6)) (shr-slice-copy 𝓤 H A W (named 1) κ₁ u64 .twice s6 (v6 ∷ [])) $ split ! $ move ! (19 ∷ []) $ use1 W (‵ (O7) ⊛ ‵ (O7)) (shr-slice-copy 𝓤 H A W (named 2) κ₂ u64 .twice s7 (v7 ∷ [])) $ split ! $ move ! (20 ∷ []) $ use1 W (‵ (O8) ⊛ ‵ (O8)) (shr-slice-copy 𝓤 H A W (named 3) κ₃ mEntry.the-row .twice s8 (v8 ∷ [])) $ split ! $ move ! (21 ∷ []) $ use1 W (‵ (O9) ⊛ ‵ (O9)) (shr-slice-copy 𝓤 H A W (named 4) κ₄ mEntry.the-row .twice s9 (v9 ∷ [])) $ split ! $ move ! (22 ∷ []) $ use1 W (‵ (O10) ⊛ ‵ (O10)) (shr-slice-copy 𝓤 H A W (named 5) κ₅ mEntry.the-row .twice s10 (v10 ∷ [])) $ split ! $ tidy W (_ ∷ _ ∷ _ ∷ _ ∷ _ ∷ _ ∷ _ ∷ _ ∷ _ ∷ _ ∷ _ ∷ _ ∷ _ ∷ _ ∷ _ ∷ _ ∷ _ ∷ _ ∷ _ ∷ _ ∷ _ ∷ _ ∷ _ ∷ _ ∷ _ ∷ _ ∷ _ ∷ _ ∷ _ ∷ _ ∷ _ ∷ _ ∷ _ ∷ _ ∷ _ ∷ _ ∷ _ ∷ _ ∷ _ ∷ _ ∷ _ ∷ _ ∷ _ ∷ _ ∷ _ ∷ _ ∷ _ ∷ _ ∷ _ ∷ _ ∷ _ ∷ _ ∷ _ ∷ _ ∷ _ ∷ []) $ nothing ! $ move ! (17 ∷ 0 ∷ []) $ join ! $ move ! (17 ∷ 0 ∷ []) $ join ! $ move ! (17 ∷ 0 ∷ []) $ join ! $ move ! (17 ∷ 0 ∷ []) $ join ! $ move ! (17 ∷ 0 ∷ []) $ join ! $ move ! (13 ∷ 0 ∷ []) $ join ! $ move ! (3 ∷ 1 ∷ []) $ join ! $ move ! (4 ∷ 0 ∷ []) $ join ! $ move ! (5 ∷ 0 ∷ []) $ join ! $ move ! (6 ∷ 0 ∷ []) $ join ! $ move ! (7 ∷ 0 ∷ []) $ join ! $ move ! (1 ∷ 0 ∷ []) $ join ! $
         -- call 2
         use1 W (raw (Callee-g2 𝓤 H A at-mem run .pre ((((ν2c ∷ []), (κ₁, (κ₂, (κ₃, (κ₄, (κ₅, tt)))))), (fullShare, (q₁, (q₂, (q₃, (q₄, (q₅, tt)))))), tt, (r1, (1, (ref1 δ2c (ys1), (n2, (n4, (n3, (s6, (s7, (s8, (s9, (s10, tt))))))))))), (z1 ∷ [], ((vint w64 1) ∷ [], (v1 ∷ [], (u2 ∷ [], (u4 ∷ [], (u3 ∷ [], (v6 ∷ [], (v7 ∷ [], (v8 ∷ [], (v9 ∷ [], (v10 ∷ [], tt)))))))))))), tt))) (qed W ((‵ (flft (ν2c ∷ []) fullShare) ⊛ ‵ (flft κ₁ q₁) ⊛ ‵ (flft κ₂ q₂) ⊛ ‵ (flft κ₃ q₃) ⊛ ‵ (flft κ₄ q₄) ⊛ ‵ (flft κ₅ q₅) ⊛ ‵ ftrue) ∷ ‵ (MutSlice (named 0) (ν2c ∷ []) u64 .own (ref1 δ2c (ys1)) (v1 ∷ [])) ∷ ‵ (ShrSlice (named 1) κ₁ u64 .own s6 (v6 ∷ [])) ∷ ‵ (ShrSlice (named 2) κ₂ u64 .own s7 (v7 ∷ [])) ∷ ‵ (ShrSlice (named 3) κ₃ mEntry.the-row .own s8 (v8 ∷ [])) ∷ ‵ (ShrSlice (named 4) κ₄ mEntry.the-row .own s9 (v9 ∷ [])) ∷ ‵ (ShrSlice (named 5) κ₅ mEntry.the-row .own s10 (v10 ∷ [])) ∷ []) ∵ nothing ! $ move ! (7 ∷ 0 ∷ []) $ fjoin ! $ move ! (6 ∷ 0 ∷ []) $ fjoin ! $ move ! (5 ∷ 0 ∷ []) $ fjoin ! $ move ! (4 ∷ 0 ∷ []) $ fjoin ! $ move ! (3 ∷ 0 ∷ []) $ fjoin ! $ owned ! u64 (Is u64) (uint-makes 𝓤 H A W w64) (n3) _ w3 $ fjoin ! $ owned ! u64 (Is u64) (uint-makes 𝓤 H A W w64) (n4) _ w4 $ fjoin ! $ owned ! u64 (Is u64) (uint-makes 𝓤 H A W w64) (n2) _ w2 $ fjoin ! $ move ! (2 ∷ 0 ∷ []) $ fjoin ! $ owned ! u64 (Is u64) (uint-makes 𝓤 H A W w64) (1) _ (refl, lit< tt) $ fjoin ! $ owned ! mSeen.the-row (Is mSeen.the-row) (LL.makes mSeen.the-type lSeen.the-plain 𝓤 H A) (r1) _ i1 $ fjoin ! $ move ! (1 ∷ 0 ∷ []) $ join ! $ nothing ! $ move ! (1 ∷ 0 ∷ []) $ frame ! $ done !) $
-        calls-at ! fm (Callee-g2 𝓤 H A at-mem run) known-g2 ((((ν2c ∷ []), (κ₁, (κ₂, (κ₃, (κ₄, (κ₅, tt)))))), (fullShare, (q₁, (q₂, (q₃, (q₄, (q₅, tt)))))), tt, (r1, (1, (ref1 δ2c (ys1), (n2, (n4, (n3, (s6, (s7, (s8, (s9, (s10, tt))))))))))), (z1 ∷ [], ((vint w64 1) ∷ [], (v1 ∷ [], (u2 ∷ [], (u4 ∷ [], (u3 ∷ [], (v6 ∷ [], (v7 ∷ [], (v8 ∷ [], (v9 ∷ [], (v10 ∷ [], tt)))))))))))), tt) (and-then ! (load ! (from ! (stop !)) (look ! 39 refl)) (and-then ! (load ! (from ! (stop !)) (look ! 43 refl)) (and-then ! (load ! (from ! (stop !)) (look ! 31 refl)) (and-then ! (load ! (from ! (stop !)) (look ! 67 refl)) (and-then ! (load ! (from ! (stop !)) (look ! 63 refl)) (and-then ! (load ! (from ! (stop !)) (look ! 65 refl)) (and-then ! (load ! (from ! (stop !)) (look ! 59 refl)) (and-then ! (load ! (from ! (stop !)) (look ! 57 refl)) (and-then ! (load ! (from ! (stop !)) (look ! 55 refl)) (and-then ! (load ! (from ! (stop !)) (look ! 53 refl)) (and-then ! (load ! (from ! (stop !)) (look ! 51 refl)) (no-more !)))))))))))) (λ z2.
+        calls-at ! fm (Callee-g2 𝓤 H A at-mem run) known-g2 ((((ν2c ∷ []), (κ₁, (κ₂, (κ₃, (κ₄, (κ₅, tt)))))), (fullShare, (q₁, (q₂, (q₃, (q₄, (q₅, tt)))))), tt, (r1, (1, (ref1 δ2c (ys1), (n2, (n4, (n3, (s6, (s7, (s8, (s9, (s10, tt))))))))))), (z1 ∷ [], ((vint w64 1) ∷ [], (v1 ∷ [], (u2 ∷ [], (u4 ∷ [], (u3 ∷ [], (v6 ∷ [], (v7 ∷ [], (v8 ∷ [], (v9 ∷ [], (v10 ∷ [], tt)))))))))))), tt) (and-then ! (load ! (from ! (stop !)) (look ! 27 refl)) (and-then ! (load ! (from ! (stop !)) (look ! 29 refl)) (and-then ! (load ! (from ! (stop !)) (look ! 23 refl)) (and-then ! (load ! (from ! (stop !)) (look ! 41 refl)) (and-then ! (load ! (from ! (stop !)) (look ! 39 refl)) (and-then ! (load ! (from ! (stop !)) (look ! 40 refl)) (and-then ! (load ! (from ! (stop !)) (look ! 37 refl)) (and-then ! (load ! (from ! (stop !)) (look ! 36 refl)) (and-then ! (load ! (from ! (stop !)) (look ! 35 refl)) (and-then ! (load ! (from ! (stop !)) (look ! 34 refl)) (and-then ! (load ! (from ! (stop !)) (look ! 33 refl)) (no-more !)))))))))))) (λ z2.
         use1 W (later (some (λ (r2 : Seen). ((‵ (flft (ν2c ∷ []) fullShare) ⊛ ‵ (flft κ₁ q₁) ⊛ ‵ (flft κ₂ q₂) ⊛ ‵ (flft κ₃ q₃) ⊛ ‵ (flft κ₄ q₄) ⊛ ‵ (flft κ₅ q₅) ⊛ ‵ ftrue) ⊛ ‵ (mSeen.the-row .own r2 (z2 ∷ []))) ⊛ some (λ (ws : Lasts g2.ended ((ν2c ∷ []), (κ₁, (κ₂, (κ₃, (κ₄, (κ₅, tt)))))) (r1, (1, (ref1 δ2c (ys1), (n2, (n4, (n3, (s6, (s7, (s8, (s9, (s10, tt)))))))))))). ‵ (lasts g2.ended ((ν2c ∷ []), (κ₁, (κ₂, (κ₃, (κ₄, (κ₅, tt)))))) (r1, (1, (ref1 δ2c (ys1), (n2, (n4, (n3, (s6, (s7, (s8, (s9, (s10, tt))))))))))) ws) ⊛ raw (g2.clauses 𝓤 H A at-mem run ((ν2c ∷ []), (κ₁, (κ₂, (κ₃, (κ₄, (κ₅, tt)))))) (r1, (1, (ref1 δ2c (ys1), (n2, (n4, (n3, (s6, (s7, (s8, (s9, (s10, tt))))))))))) .ensures tt r2 (atExit g2.ended ((ν2c ∷ []), (κ₁, (κ₂, (κ₃, (κ₄, (κ₅, tt)))))) (r1, (1, (ref1 δ2c (ys1), (n2, (n4, (n3, (s6, (s7, (s8, (s9, (s10, tt))))))))))) ws)))))) (id⊢ 𝓤 _) $ await ! tt $ pick ! (λ r2. split ! $ move ! (1 ∷ []) $ pick ! (λ ws2. split ! $ move ! (1 ∷ []) $ heard ! _ (λ e2.
-        fsplit ! $ move ! (1 ∷ []) $ fsplit ! $ move ! (1 ∷ []) $ fsplit ! $ fsplit ! $ move ! (1 ∷ []) $ feqL ! (λ same2c. move ! (1 ∷ []) $ fsplit ! $ move ! (1 ∷ []) $ fsplit ! $ move ! (1 ∷ []) $ fsplit ! $ move ! (1 ∷ []) $ fsplit ! $ move ! (1 ∷ []) $ fsplit ! $ move ! (1 ∷ []) $ fsplit ! $ move ! (1 ∷ []) $ fsplit ! $ move ! (1 ∷ []) $ fsplit ! $ move ! (12 ∷ []) $ split ! $ move ! (1 ∷ []) $ peeks ! mSeen.the-row (Is mSeen.the-row) (shows 𝓤 H A mSeen.the-row) r2 (z2 ∷ []) (λ i2. drop ! $ land ! (from ! (stop !)) (init ! 49 refl (LL.lawful mSeen.the-type lSeen.the-laws 𝓤 H A W .typed r2 _ i2 .0)) $
-        split ! $ move ! (1 ∷ []) $ split ! $ move ! (1 ∷ []) $ split ! $ move ! (1 ∷ []) $ split ! $ move ! (1 ∷ []) $ split ! $ move ! (1 ∷ []) $ split ! $ move ! (1 ∷ []) $ move ! (6 ∷ []) $ lft-end ! tt $ move ! (0 ∷ 24 ∷ 16 ∷ []) $ use3 W (later (‵ (O1 (ws2 .1 .1 .0)) ⊛ ‵ (flft κ₀ q₀))) (backs1 (named 0) ν2c δ2c (ys1) (ws2 .1 .1 .0) (refl) room1 same2c) $ await ! tt $ split ! $
-        assigns ! (addr ! (from ! (fld ! refl (hop ! (look-in ! 86 (sub ! 0 refl (whole !))) (stop !))))) (from ! (stop !)) (init ! 46 refl (tt, tt)) $
-        assigns ! (agg ! (and-then ! (load ! (from ! (stop !)) (look ! 46 refl)) (and-then ! (load ! (from ! (fld ! refl (stop !))) (look-in ! 86 (sub ! 1 refl (whole !)))) (no-more !)))) (from ! (stop !)) (init ! 44 refl (tt, (tt, (record { fits = room1 .0 }, tt)))) $
-        lft-new ! tt (λ ν3c. move ! (1 ∷ 2 ∷ []) $ use2 W (later (some (λ (δ : GName). ‵ (MutSlice (named 0) (ν3c ∷ []) u64 .own (ref1 δ (ws2 .1 .1 .0)) (v1 ∷ [])) ⊛ ‵ (Lent1 ν3c δ (ws2 .1 .1 .0))))) (lends1 (named 0) ν3c (ws2 .1 .1 .0) (same2c)) $ await ! tt $ pick ! (λ δ3c. split ! $ move ! (24 ∷ []) $ use1 W (‵ (O6) ⊛ ‵ (O6)) (shr-slice-copy 𝓤 H A W (named 1) κ₁ u64 .twice s6 (v6 ∷ [])) $ split ! $ move ! (25 ∷ []) $ use1 W (‵ (O7) ⊛ ‵ (O7)) (shr-slice-copy 𝓤 H A W (named 2) κ₂ u64 .twice s7 (v7 ∷ [])) $ split ! $ move ! (36 ∷ []) $ use1 W (‵ (O11) ⊛ ‵ (O11)) (shr-slice-copy 𝓤 H A W (named 6) κ₆ mEntry.the-row .twice s11 (v11 ∷ [])) $ split ! $ move ! (37 ∷ []) $ use1 W (‵ (O12) ⊛ ‵ (O12)) (shr-slice-copy 𝓤 H A W (named 7) κ₇ mEntry.the-row .twice s12 (v12 ∷ [])) $ split ! $ move ! (38 ∷ []) $ use1 W (‵ (O13) ⊛ ‵ (O13)) (shr-slice-copy 𝓤 H A W (named 8) κ₈ mEntry.the-row .twice s13 (v13 ∷ [])) $ split ! $ nothing ! $ move ! (37 ∷ 0 ∷ []) $ join ! $ move ! (37 ∷ 0 ∷ []) $ join ! $ move ! (37 ∷ 0 ∷ []) $ join ! $ move ! (18 ∷ 0 ∷ []) $ join ! $ move ! (18 ∷ 0 ∷ []) $ join ! $ move ! (13 ∷ 0 ∷ []) $ join ! $ move ! (3 ∷ 1 ∷ []) $ join ! $ move ! (4 ∷ 0 ∷ []) $ join ! $ move ! (5 ∷ 0 ∷ []) $ join ! $ move ! (6 ∷ 0 ∷ []) $ join ! $ move ! (7 ∷ 0 ∷ []) $ join ! $ move ! (1 ∷ 0 ∷ []) $ join ! $
+        fsplit ! $ drop ! $ fsplit ! $ drop ! $ fsplit ! $ fsplit ! $ move ! (1 ∷ []) $ feqL ! (λ same2c. move ! (1 ∷ []) $ drop ! $ move ! (1 ∷ []) $ split ! $ move ! (1 ∷ []) $ peeks ! mSeen.the-row (Is mSeen.the-row) (shows 𝓤 H A mSeen.the-row) r2 (z2 ∷ []) (λ i2. drop ! $ land ! (from ! (stop !)) (init ! 27 refl (LL.lawful mSeen.the-type lSeen.the-laws 𝓤 H A W .typed r2 _ i2 .0)) $
+        tidy W (_ ∷ _ ∷ _ ∷ _ ∷ _ ∷ _ ∷ _ ∷ _ ∷ _ ∷ _ ∷ _ ∷ _ ∷ _ ∷ _ ∷ _ ∷ _ ∷ _ ∷ _ ∷ _ ∷ _ ∷ _ ∷ _ ∷ _ ∷ _ ∷ _ ∷ _ ∷ _ ∷ _ ∷ _ ∷ _ ∷ _ ∷ _ ∷ _ ∷ _ ∷ _ ∷ _ ∷ _ ∷ _ ∷ _ ∷ _ ∷ _ ∷ _ ∷ _ ∷ _ ∷ _ ∷ []) $ split ! $ move ! (1 ∷ []) $ split ! $ move ! (1 ∷ []) $ split ! $ move ! (1 ∷ []) $ split ! $ move ! (1 ∷ []) $ split ! $ move ! (1 ∷ []) $ split ! $ move ! (1 ∷ []) $ drop ! $ move ! (5 ∷ []) $ lft-end ! tt $ move ! (0 ∷ 12 ∷ 6 ∷ []) $ use3 W (later (‵ (O1 (ws2 .1 .1 .0)) ⊛ ‵ (flft κ₀ q₀))) (backs1 (named 0) ν2c δ2c (ys1) (ws2 .1 .1 .0) (refl) room1 same2c) $ await ! tt $ split ! $
+        assigns ! (addr ! (from ! (fld ! refl (hop ! (look-in ! 47 (sub ! 0 refl (whole !))) (stop !))))) (from ! (stop !)) (init ! 27 refl (tt, tt)) $
+        assigns ! (agg ! (and-then ! (load ! (from ! (stop !)) (look ! 27 refl)) (and-then ! (load ! (from ! (fld ! refl (stop !))) (look-in ! 47 (sub ! 1 refl (whole !)))) (no-more !)))) (from ! (stop !)) (init ! 26 refl (tt, (tt, (record { fits = room1 .0 }, tt)))) $
+        lft-new ! tt (λ ν3c. move ! (1 ∷ 2 ∷ []) $ use2 W (later (some (λ (δ : GName). ‵ (MutSlice (named 0) (ν3c ∷ []) u64 .own (ref1 δ (ws2 .1 .1 .0)) (v1 ∷ [])) ⊛ ‵ (Lent1 ν3c δ (ws2 .1 .1 .0))))) (lends1 (named 0) ν3c (ws2 .1 .1 .0) (same2c)) $ await ! tt $ pick ! (λ δ3c. split ! $ move ! (12 ∷ []) $ use1 W (‵ (O6) ⊛ ‵ (O6)) (shr-slice-copy 𝓤 H A W (named 1) κ₁ u64 .twice s6 (v6 ∷ [])) $ split ! $ move ! (13 ∷ []) $ use1 W (‵ (O7) ⊛ ‵ (O7)) (shr-slice-copy 𝓤 H A W (named 2) κ₂ u64 .twice s7 (v7 ∷ [])) $ split ! $ move ! (20 ∷ []) $ use1 W (‵ (O11) ⊛ ‵ (O11)) (shr-slice-copy 𝓤 H A W (named 6) κ₆ mEntry.the-row .twice s11 (v11 ∷ [])) $ split ! $ move ! (21 ∷ []) $ use1 W (‵ (O12) ⊛ ‵ (O12)) (shr-slice-copy 𝓤 H A W (named 7) κ₇ mEntry.the-row .twice s12 (v12 ∷ [])) $ split ! $ move ! (22 ∷ []) $ use1 W (‵ (O13) ⊛ ‵ (O13)) (shr-slice-copy 𝓤 H A W (named 8) κ₈ mEntry.the-row .twice s13 (v13 ∷ [])) $ split ! $ tidy W (_ ∷ _ ∷ _ ∷ _ ∷ _ ∷ _ ∷ _ ∷ _ ∷ _ ∷ _ ∷ _ ∷ _ ∷ _ ∷ _ ∷ _ ∷ _ ∷ _ ∷ _ ∷ _ ∷ _ ∷ _ ∷ _ ∷ _ ∷ _ ∷ _ ∷ _ ∷ _ ∷ _ ∷ _ ∷ _ ∷ _ ∷ _ ∷ _ ∷ _ ∷ _ ∷ _ ∷ _ ∷ _ ∷ _ ∷ _ ∷ _ ∷ _ ∷ _ ∷ _ ∷ _ ∷ _ ∷ _ ∷ _ ∷ _ ∷ _ ∷ _ ∷ _ ∷ _ ∷ _ ∷ _ ∷ []) $ nothing ! $ move ! (22 ∷ 0 ∷ []) $ join ! $ move ! (22 ∷ 0 ∷ []) $ join ! $ move ! (22 ∷ 0 ∷ []) $ join ! $ move ! (17 ∷ 0 ∷ []) $ join ! $ move ! (17 ∷ 0 ∷ []) $ join ! $ move ! (13 ∷ 0 ∷ []) $ join ! $ move ! (3 ∷ 1 ∷ []) $ join ! $ move ! (4 ∷ 0 ∷ []) $ join ! $ move ! (5 ∷ 0 ∷ []) $ join ! $ move ! (6 ∷ 0 ∷ []) $ join ! $ move ! (7 ∷ 0 ∷ []) $ join ! $ move ! (1 ∷ 0 ∷ []) $ join ! $
         -- call 3
         use1 W (raw (Callee-g2 𝓤 H A at-mem run .pre ((((ν3c ∷ []), (κ₁, (κ₂, (κ₆, (κ₇, (κ₈, tt)))))), (fullShare, (q₁, (q₂, (q₆, (q₇, (q₈, tt)))))), tt, (r2, (2, (ref1 δ3c (ws2 .1 .1 .0), (n2, (n5, (n3, (s6, (s7, (s11, (s12, (s13, tt))))))))))), (z2 ∷ [], ((vint w64 2) ∷ [], (v1 ∷ [], (u2 ∷ [], (u5 ∷ [], (u3 ∷ [], (v6 ∷ [], (v7 ∷ [], (v11 ∷ [], (v12 ∷ [], (v13 ∷ [], tt)))))))))))), tt))) (qed W ((‵ (flft (ν3c ∷ []) fullShare) ⊛ ‵ (flft κ₁ q₁) ⊛ ‵ (flft κ₂ q₂) ⊛ ‵ (flft κ₆ q₆) ⊛ ‵ (flft κ₇ q₇) ⊛ ‵ (flft κ₈ q₈) ⊛ ‵ ftrue) ∷ ‵ (MutSlice (named 0) (ν3c ∷ []) u64 .own (ref1 δ3c (ws2 .1 .1 .0)) (v1 ∷ [])) ∷ ‵ (ShrSlice (named 1) κ₁ u64 .own s6 (v6 ∷ [])) ∷ ‵ (ShrSlice (named 2) κ₂ u64 .own s7 (v7 ∷ [])) ∷ ‵ (ShrSlice (named 3) κ₆ mEntry.the-row .own s11 (v11 ∷ [])) ∷ ‵ (ShrSlice (named 4) κ₇ mEntry.the-row .own s12 (v12 ∷ [])) ∷ ‵ (ShrSlice (named 5) κ₈ mEntry.the-row .own s13 (v13 ∷ [])) ∷ []) ∵ nothing ! $ move ! (7 ∷ 0 ∷ []) $ fjoin ! $ move ! (6 ∷ 0 ∷ []) $ fjoin ! $ move ! (5 ∷ 0 ∷ []) $ fjoin ! $ move ! (4 ∷ 0 ∷ []) $ fjoin ! $ move ! (3 ∷ 0 ∷ []) $ fjoin ! $ owned ! u64 (Is u64) (uint-makes 𝓤 H A W w64) (n3) _ w3 $ fjoin ! $ owned ! u64 (Is u64) (uint-makes 𝓤 H A W w64) (n5) _ w5 $ fjoin ! $ owned ! u64 (Is u64) (uint-makes 𝓤 H A W w64) (n2) _ w2 $ fjoin ! $ move ! (2 ∷ 0 ∷ []) $ fjoin ! $ owned ! u64 (Is u64) (uint-makes 𝓤 H A W w64) (2) _ (refl, lit< tt) $ fjoin ! $ owned ! mSeen.the-row (Is mSeen.the-row) (LL.makes mSeen.the-type lSeen.the-plain 𝓤 H A) (r2) _ i2 $ fjoin ! $ move ! (1 ∷ 0 ∷ []) $ join ! $ nothing ! $ move ! (1 ∷ 0 ∷ []) $ frame ! $ done !) $
-        calls-at ! fm (Callee-g2 𝓤 H A at-mem run) known-g2 ((((ν3c ∷ []), (κ₁, (κ₂, (κ₆, (κ₇, (κ₈, tt)))))), (fullShare, (q₁, (q₂, (q₆, (q₇, (q₈, tt)))))), tt, (r2, (2, (ref1 δ3c (ws2 .1 .1 .0), (n2, (n5, (n3, (s6, (s7, (s11, (s12, (s13, tt))))))))))), (z2 ∷ [], ((vint w64 2) ∷ [], (v1 ∷ [], (u2 ∷ [], (u5 ∷ [], (u3 ∷ [], (v6 ∷ [], (v7 ∷ [], (v11 ∷ [], (v12 ∷ [], (v13 ∷ [], tt)))))))))))), tt) (and-then ! (load ! (from ! (stop !)) (look ! 49 refl)) (and-then ! (load ! (from ! (stop !)) (look ! 53 refl)) (and-then ! (load ! (from ! (stop !)) (look ! 39 refl)) (and-then ! (load ! (from ! (stop !)) (look ! 79 refl)) (and-then ! (load ! (from ! (stop !)) (look ! 73 refl)) (and-then ! (load ! (from ! (stop !)) (look ! 77 refl)) (and-then ! (load ! (from ! (stop !)) (look ! 71 refl)) (and-then ! (load ! (from ! (stop !)) (look ! 69 refl)) (and-then ! (load ! (from ! (stop !)) (look ! 61 refl)) (and-then ! (load ! (from ! (stop !)) (look ! 59 refl)) (and-then ! (load ! (from ! (stop !)) (look ! 57 refl)) (no-more !)))))))))))) (λ z3.
+        calls-at ! fm (Callee-g2 𝓤 H A at-mem run) known-g2 ((((ν3c ∷ []), (κ₁, (κ₂, (κ₆, (κ₇, (κ₈, tt)))))), (fullShare, (q₁, (q₂, (q₆, (q₇, (q₈, tt)))))), tt, (r2, (2, (ref1 δ3c (ws2 .1 .1 .0), (n2, (n5, (n3, (s6, (s7, (s11, (s12, (s13, tt))))))))))), (z2 ∷ [], ((vint w64 2) ∷ [], (v1 ∷ [], (u2 ∷ [], (u5 ∷ [], (u3 ∷ [], (v6 ∷ [], (v7 ∷ [], (v11 ∷ [], (v12 ∷ [], (v13 ∷ [], tt)))))))))))), tt) (and-then ! (load ! (from ! (stop !)) (look ! 26 refl)) (and-then ! (load ! (from ! (stop !)) (look ! 28 refl)) (and-then ! (load ! (from ! (stop !)) (look ! 21 refl)) (and-then ! (load ! (from ! (stop !)) (look ! 41 refl)) (and-then ! (load ! (from ! (stop !)) (look ! 38 refl)) (and-then ! (load ! (from ! (stop !)) (look ! 40 refl)) (and-then ! (load ! (from ! (stop !)) (look ! 37 refl)) (and-then ! (load ! (from ! (stop !)) (look ! 36 refl)) (and-then ! (load ! (from ! (stop !)) (look ! 32 refl)) (and-then ! (load ! (from ! (stop !)) (look ! 31 refl)) (and-then ! (load ! (from ! (stop !)) (look ! 30 refl)) (no-more !)))))))))))) (λ z3.
         use1 W (later (some (λ (r3 : Seen). ((‵ (flft (ν3c ∷ []) fullShare) ⊛ ‵ (flft κ₁ q₁) ⊛ ‵ (flft κ₂ q₂) ⊛ ‵ (flft κ₆ q₆) ⊛ ‵ (flft κ₇ q₇) ⊛ ‵ (flft κ₈ q₈) ⊛ ‵ ftrue) ⊛ ‵ (mSeen.the-row .own r3 (z3 ∷ []))) ⊛ some (λ (ws : Lasts g2.ended ((ν3c ∷ []), (κ₁, (κ₂, (κ₆, (κ₇, (κ₈, tt)))))) (r2, (2, (ref1 δ3c (ws2 .1 .1 .0), (n2, (n5, (n3, (s6, (s7, (s11, (s12, (s13, tt)))))))))))). ‵ (lasts g2.ended ((ν3c ∷ []), (κ₁, (κ₂, (κ₆, (κ₇, (κ₈, tt)))))) (r2, (2, (ref1 δ3c (ws2 .1 .1 .0), (n2, (n5, (n3, (s6, (s7, (s11, (s12, (s13, tt))))))))))) ws) ⊛ raw (g2.clauses 𝓤 H A at-mem run ((ν3c ∷ []), (κ₁, (κ₂, (κ₆, (κ₇, (κ₈, tt)))))) (r2, (2, (ref1 δ3c (ws2 .1 .1 .0), (n2, (n5, (n3, (s6, (s7, (s11, (s12, (s13, tt))))))))))) .ensures tt r3 (atExit g2.ended ((ν3c ∷ []), (κ₁, (κ₂, (κ₆, (κ₇, (κ₈, tt)))))) (r2, (2, (ref1 δ3c (ws2 .1 .1 .0), (n2, (n5, (n3, (s6, (s7, (s11, (s12, (s13, tt))))))))))) ws)))))) (id⊢ 𝓤 _) $ await ! tt $ pick ! (λ r3. split ! $ move ! (1 ∷ []) $ pick ! (λ ws3. split ! $ move ! (1 ∷ []) $ heard ! _ (λ e3.
-        fsplit ! $ move ! (1 ∷ []) $ fsplit ! $ move ! (1 ∷ []) $ fsplit ! $ fsplit ! $ move ! (1 ∷ []) $ feqL ! (λ same3c. move ! (1 ∷ []) $ fsplit ! $ move ! (1 ∷ []) $ fsplit ! $ move ! (1 ∷ []) $ fsplit ! $ move ! (1 ∷ []) $ fsplit ! $ move ! (1 ∷ []) $ fsplit ! $ move ! (1 ∷ []) $ fsplit ! $ move ! (1 ∷ []) $ fsplit ! $ move ! (1 ∷ []) $ fsplit ! $ move ! (12 ∷ []) $ split ! $ move ! (1 ∷ []) $ peeks ! mSeen.the-row (Is mSeen.the-row) (shows 𝓤 H A mSeen.the-row) r3 (z3 ∷ []) (λ i3. drop ! $ land ! (from ! (stop !)) (init ! 59 refl (LL.lawful mSeen.the-type lSeen.the-laws 𝓤 H A W .typed r3 _ i3 .0)) $
-        split ! $ move ! (1 ∷ []) $ split ! $ move ! (1 ∷ []) $ split ! $ move ! (1 ∷ []) $ split ! $ move ! (1 ∷ []) $ split ! $ move ! (1 ∷ []) $ split ! $ move ! (1 ∷ []) $ move ! (6 ∷ []) $ lft-end ! tt $ move ! (0 ∷ 24 ∷ 16 ∷ []) $ use3 W (later (‵ (O1 (ws3 .1 .1 .0)) ⊛ ‵ (flft κ₀ q₀))) (backs1 (named 0) ν3c δ3c (ws2 .1 .1 .0) (ws3 .1 .1 .0) (same2c) room1 same3c) $ await ! tt $ split ! $
-        assigns ! (addr ! (from ! (fld ! refl (hop ! (look-in ! 98 (sub ! 0 refl (whole !))) (stop !))))) (from ! (stop !)) (init ! 52 refl (tt, tt)) $
-        assigns ! (agg ! (and-then ! (load ! (from ! (stop !)) (look ! 52 refl)) (and-then ! (load ! (from ! (fld ! refl (stop !))) (look-in ! 98 (sub ! 1 refl (whole !)))) (no-more !)))) (from ! (stop !)) (init ! 50 refl (tt, (tt, (record { fits = room1 .0 }, tt)))) $
-        lft-new ! tt (λ ν4a. move ! (1 ∷ 2 ∷ []) $ use2 W (later (some (λ (δ : GName). ‵ (MutSlice (named 0) (ν4a ∷ []) u64 .own (ref1 δ (ws3 .1 .1 .0)) (v1 ∷ [])) ⊛ ‵ (Lent1 ν4a δ (ws3 .1 .1 .0))))) (lends1 (named 0) ν4a (ws3 .1 .1 .0) (same3c ∙ same2c)) $ await ! tt $ pick ! (λ δ4a. split ! $ nothing ! $ move ! (3 ∷ 0 ∷ []) $ join ! $ join ! $
+        fsplit ! $ drop ! $ fsplit ! $ drop ! $ fsplit ! $ fsplit ! $ move ! (1 ∷ []) $ feqL ! (λ same3c. move ! (1 ∷ []) $ drop ! $ move ! (1 ∷ []) $ split ! $ move ! (1 ∷ []) $ peeks ! mSeen.the-row (Is mSeen.the-row) (shows 𝓤 H A mSeen.the-row) r3 (z3 ∷ []) (λ i3. drop ! $ land ! (from ! (stop !)) (init ! 26 refl (LL.lawful mSeen.the-type lSeen.the-laws 𝓤 H A W .typed r3 _ i3 .0)) $
+        tidy W (_ ∷ _ ∷ _ ∷ _ ∷ _ ∷ _ ∷ _ ∷ _ ∷ _ ∷ _ ∷ _ ∷ _ ∷ _ ∷ _ ∷ _ ∷ _ ∷ _ ∷ _ ∷ _ ∷ _ ∷ _ ∷ _ ∷ _ ∷ _ ∷ _ ∷ _ ∷ _ ∷ _ ∷ _ ∷ _ ∷ _ ∷ _ ∷ _ ∷ _ ∷ _ ∷ _ ∷ _ ∷ _ ∷ _ ∷ _ ∷ _ ∷ _ ∷ _ ∷ _ ∷ _ ∷ []) $ split ! $ move ! (1 ∷ []) $ split ! $ move ! (1 ∷ []) $ split ! $ move ! (1 ∷ []) $ split ! $ move ! (1 ∷ []) $ split ! $ move ! (1 ∷ []) $ split ! $ move ! (1 ∷ []) $ drop ! $ move ! (5 ∷ []) $ lft-end ! tt $ move ! (0 ∷ 12 ∷ 6 ∷ []) $ use3 W (later (‵ (O1 (ws3 .1 .1 .0)) ⊛ ‵ (flft κ₀ q₀))) (backs1 (named 0) ν3c δ3c (ws2 .1 .1 .0) (ws3 .1 .1 .0) (same2c) room1 same3c) $ await ! tt $ split ! $
+        assigns ! (addr ! (from ! (fld ! refl (hop ! (look-in ! 47 (sub ! 0 refl (whole !))) (stop !))))) (from ! (stop !)) (init ! 24 refl (tt, tt)) $
+        assigns ! (agg ! (and-then ! (load ! (from ! (stop !)) (look ! 24 refl)) (and-then ! (load ! (from ! (fld ! refl (stop !))) (look-in ! 47 (sub ! 1 refl (whole !)))) (no-more !)))) (from ! (stop !)) (init ! 23 refl (tt, (tt, (record { fits = room1 .0 }, tt)))) $
+        lft-new ! tt (λ ν4a. move ! (1 ∷ 2 ∷ []) $ use2 W (later (some (λ (δ : GName). ‵ (MutSlice (named 0) (ν4a ∷ []) u64 .own (ref1 δ (ws3 .1 .1 .0)) (v1 ∷ [])) ⊛ ‵ (Lent1 ν4a δ (ws3 .1 .1 .0))))) (lends1 (named 0) ν4a (ws3 .1 .1 .0) (same3c ∙ same2c)) $ await ! tt $ pick ! (λ δ4a. split ! $ tidy W (_ ∷ _ ∷ _ ∷ _ ∷ _ ∷ _ ∷ _ ∷ _ ∷ _ ∷ _ ∷ _ ∷ _ ∷ _ ∷ _ ∷ _ ∷ _ ∷ _ ∷ _ ∷ _ ∷ _ ∷ _ ∷ _ ∷ _ ∷ _ ∷ _ ∷ _ ∷ _ ∷ _ ∷ _ ∷ _ ∷ _ ∷ _ ∷ _ ∷ _ ∷ _ ∷ _ ∷ _ ∷ _ ∷ _ ∷ _ ∷ _ ∷ _ ∷ _ ∷ _ ∷ _ ∷ _ ∷ _ ∷ _ ∷ _ ∷ _ ∷ []) $ nothing ! $ move ! (3 ∷ 0 ∷ []) $ join ! $ join ! $
         -- call 4
         use1 W (raw (Callee-g3 𝓤 H A at-mem run .pre ((((ν4a ∷ []), tt), (fullShare, tt), tt, (ref1 δ4a (ws3 .1 .1 .0), (n4, (n5, tt))), (v1 ∷ [], (u4 ∷ [], (u5 ∷ [], tt)))), tt))) (qed W ((‵ (flft (ν4a ∷ []) fullShare) ⊛ ‵ ftrue) ∷ ‵ (MutSlice (named 0) (ν4a ∷ []) u64 .own (ref1 δ4a (ws3 .1 .1 .0)) (v1 ∷ [])) ∷ []) ∵ nothing ! $ owned ! u64 (Is u64) (uint-makes 𝓤 H A W w64) (n5) _ w5 $ fjoin ! $ owned ! u64 (Is u64) (uint-makes 𝓤 H A W w64) (n4) _ w4 $ fjoin ! $ move ! (2 ∷ 0 ∷ []) $ fjoin ! $ move ! (1 ∷ 0 ∷ []) $ join ! $ nothing ! $ move ! (1 ∷ 0 ∷ []) $ frame ! $ done !) $
-        calls-at ! fm (Callee-g3 𝓤 H A at-mem run) known-g3 ((((ν4a ∷ []), tt), (fullShare, tt), tt, (ref1 δ4a (ws3 .1 .1 .0), (n4, (n5, tt))), (v1 ∷ [], (u4 ∷ [], (u5 ∷ [], tt)))), tt) (and-then ! (load ! (from ! (stop !)) (look ! 50 refl)) (and-then ! (load ! (from ! (stop !)) (look ! 92 refl)) (and-then ! (load ! (from ! (stop !)) (look ! 90 refl)) (no-more !)))) (λ z4.
+        calls-at ! fm (Callee-g3 𝓤 H A at-mem run) known-g3 ((((ν4a ∷ []), tt), (fullShare, tt), tt, (ref1 δ4a (ws3 .1 .1 .0), (n4, (n5, tt))), (v1 ∷ [], (u4 ∷ [], (u5 ∷ [], tt)))), tt) (and-then ! (load ! (from ! (stop !)) (look ! 23 refl)) (and-then ! (load ! (from ! (stop !)) (look ! 44 refl)) (and-then ! (load ! (from ! (stop !)) (look ! 43 refl)) (no-more !)))) (λ z4.
         use1 W (later (some (λ (r4 : Unit {0}). ((‵ (flft (ν4a ∷ []) fullShare) ⊛ ‵ ftrue) ⊛ ‵ (unit .own r4 (z4 ∷ []))) ⊛ some (λ (ws : Lasts g3.ended ((ν4a ∷ []), tt) (ref1 δ4a (ws3 .1 .1 .0), (n4, (n5, tt)))). ‵ (lasts g3.ended ((ν4a ∷ []), tt) (ref1 δ4a (ws3 .1 .1 .0), (n4, (n5, tt))) ws) ⊛ raw (g3.clauses 𝓤 H A at-mem run ((ν4a ∷ []), tt) (ref1 δ4a (ws3 .1 .1 .0), (n4, (n5, tt))) .ensures tt r4 (atExit g3.ended ((ν4a ∷ []), tt) (ref1 δ4a (ws3 .1 .1 .0), (n4, (n5, tt))) ws)))))) (id⊢ 𝓤 _) $ await ! tt $ pick ! (λ r4. split ! $ move ! (1 ∷ []) $ pick ! (λ ws4. split ! $ move ! (1 ∷ []) $ heard ! _ (λ e4.
-        fsplit ! $ fsplit ! $ move ! (1 ∷ []) $ feqL ! (λ same4a. move ! (1 ∷ []) $ fsplit ! $ move ! (1 ∷ []) $ fsplit ! $ move ! (4 ∷ []) $ split ! $ move ! (1 ∷ []) $ feqL ! (λ i4. land ! (from ! (stop !)) (init ! 58 refl (subst (λ (t : Val). Trueᴮ (hasTy tyUnit t) × WT t) (sym (ap only i4)) (tt, tt))) $
-        split ! $ move ! (1 ∷ []) $ move ! (1 ∷ []) $ lft-end ! tt $ move ! (0 ∷ 6 ∷ 5 ∷ []) $ use3 W (later (‵ (O1 (ws4 .0)) ⊛ ‵ (flft κ₀ q₀))) (backs1 (named 0) ν4a δ4a (ws3 .1 .1 .0) (ws4 .0) (same3c ∙ same2c) room1 same4a) $ await ! tt $ split ! $
-        assigns ! (of-opd ! (load ! (from ! (stop !)) (look ! 68 refl))) (from ! (stop !)) (init ! 104 refl (LL.lawful mSeen.the-type lSeen.the-laws 𝓤 H A W .typed r3 _ i3 .0)) $
-        returns ! (look ! 104 refl) $ forget ! 104 refl $ forget ! 102 refl $ forget ! 100 refl $ forget ! 98 refl $ forget ! 96 refl $ forget ! 94 refl $ forget ! 92 refl $ forget ! 90 refl $ forget ! 88 refl $ forget ! 86 refl $ forget ! 84 refl $ forget ! 82 refl $ forget ! 80 refl $ forget ! 78 refl $ forget ! 76 refl $ forget ! 74 refl $ forget ! 72 refl $ forget ! 70 refl $ forget ! 68 refl $ forget ! 66 refl $ forget ! 64 refl $ forget ! 62 refl $ forget ! 60 refl $ forget ! 58 refl $ forget ! 56 refl $ forget ! 54 refl $
-        move ! (104 ∷ 105 ∷ []) $ free1 ! $ move ! (102 ∷ 103 ∷ []) $ free1 ! $ move ! (100 ∷ 101 ∷ []) $ free1 ! $ move ! (98 ∷ 99 ∷ []) $ free1 ! $ move ! (96 ∷ 97 ∷ []) $ free1 ! $ move ! (94 ∷ 95 ∷ []) $ free1 ! $ move ! (92 ∷ 93 ∷ []) $ free1 ! $ move ! (90 ∷ 91 ∷ []) $ free1 ! $ move ! (88 ∷ 89 ∷ []) $ free1 ! $ move ! (86 ∷ 87 ∷ []) $ free1 ! $ move ! (84 ∷ 85 ∷ []) $ free1 ! $ move ! (82 ∷ 83 ∷ []) $ free1 ! $ move ! (80 ∷ 81 ∷ []) $ free1 ! $ move ! (78 ∷ 79 ∷ []) $ free1 ! $ move ! (76 ∷ 77 ∷ []) $ free1 ! $ move ! (74 ∷ 75 ∷ []) $ free1 ! $ move ! (72 ∷ 73 ∷ []) $ free1 ! $ move ! (70 ∷ 71 ∷ []) $ free1 ! $ move ! (68 ∷ 69 ∷ []) $ free1 ! $ move ! (66 ∷ 67 ∷ []) $ free1 ! $ move ! (64 ∷ 65 ∷ []) $ free1 ! $ move ! (62 ∷ 63 ∷ []) $ free1 ! $ move ! (60 ∷ 61 ∷ []) $ free1 ! $ move ! (58 ∷ 59 ∷ []) $ free1 ! $ move ! (56 ∷ 57 ∷ []) $ free1 ! $ move ! (54 ∷ 55 ∷ []) $ free1 ! $ free0 ! $
+        fsplit ! $ fsplit ! $ move ! (1 ∷ []) $ feqL ! (λ same4a. move ! (1 ∷ []) $ drop ! $ move ! (1 ∷ []) $ split ! $ move ! (1 ∷ []) $ feqL ! (λ i4. land ! (from ! (stop !)) (init ! 26 refl (subst (λ (t : Val). Trueᴮ (hasTy tyUnit t) × WT t) (sym (ap only i4)) (tt, tt))) $
+        tidy W (_ ∷ _ ∷ _ ∷ _ ∷ _ ∷ _ ∷ _ ∷ _ ∷ _ ∷ _ ∷ _ ∷ _ ∷ _ ∷ _ ∷ _ ∷ _ ∷ _ ∷ _ ∷ _ ∷ _ ∷ _ ∷ _ ∷ _ ∷ _ ∷ _ ∷ _ ∷ _ ∷ _ ∷ _ ∷ _ ∷ _ ∷ _ ∷ _ ∷ _ ∷ _ ∷ _ ∷ _ ∷ _ ∷ _ ∷ _ ∷ _ ∷ _ ∷ _ ∷ _ ∷ _ ∷ _ ∷ _ ∷ _ ∷ _ ∷ _ ∷ []) $ split ! $ move ! (1 ∷ []) $ drop ! $ lft-end ! tt $ move ! (0 ∷ 2 ∷ 1 ∷ []) $ use3 W (later (‵ (O1 (ws4 .0)) ⊛ ‵ (flft κ₀ q₀))) (backs1 (named 0) ν4a δ4a (ws3 .1 .1 .0) (ws4 .0) (same3c ∙ same2c) room1 same4a) $ await ! tt $ split ! $
+        assigns ! (of-opd ! (load ! (from ! (stop !)) (look ! 30 refl))) (from ! (stop !)) (init ! 48 refl (LL.lawful mSeen.the-type lSeen.the-laws 𝓤 H A W .typed r3 _ i3 .0)) $
+        tidy W (_ ∷ _ ∷ _ ∷ _ ∷ _ ∷ _ ∷ _ ∷ _ ∷ _ ∷ _ ∷ _ ∷ _ ∷ _ ∷ _ ∷ _ ∷ _ ∷ _ ∷ _ ∷ _ ∷ _ ∷ _ ∷ _ ∷ _ ∷ _ ∷ _ ∷ _ ∷ _ ∷ _ ∷ _ ∷ _ ∷ _ ∷ _ ∷ _ ∷ _ ∷ _ ∷ _ ∷ _ ∷ _ ∷ _ ∷ _ ∷ _ ∷ _ ∷ _ ∷ _ ∷ _ ∷ _ ∷ _ ∷ _ ∷ _ ∷ []) $ returns ! (look ! 48 refl) $ move ! (22 ∷ []) $ use1 W (dies ((lSeen.mir, l₀) ∷ (sliceTy (tyRef (named 0) mut (tyInt w64)), l₁) ∷ (tyInt w64, l₂) ∷ (tyInt w64, l₃) ∷ (tyInt w64, l₄) ∷ (tyInt w64, l₅) ∷ (sliceTy (tyRef (named 1) imm (tyInt w64)), l₆) ∷ (sliceTy (tyRef (named 2) imm (tyInt w64)), l₇) ∷ (sliceTy (tyRef (named 3) imm (pointee (mEntry.the-row .written))), l₈) ∷ (sliceTy (tyRef (named 4) imm (pointee (mEntry.the-row .written))), l₉) ∷ (sliceTy (tyRef (named 5) imm (pointee (mEntry.the-row .written))), l₁₀) ∷ (sliceTy (tyRef (named 6) imm (pointee (mEntry.the-row .written))), l₁₁) ∷ (sliceTy (tyRef (named 7) imm (pointee (mEntry.the-row .written))), l₁₂) ∷ (sliceTy (tyRef (named 8) imm (pointee (mEntry.the-row .written))), l₁₃) ∷ (tyInt w64, l₁₄) ∷ (tyInt w64, l₁₅) ∷ (lSeen.mir, l₁₆) ∷ (lSeen.mir, l₁₇) ∷ (lSeen.mir, l₁₈) ∷ (tyRef erased mut (tyInt w64), l₁₉) ∷ (sliceTy (tyRef erased mut (tyInt w64)), l₂₀) ∷ (tyRef erased mut (tyInt w64), l₂₁) ∷ (sliceTy (tyRef erased mut (tyInt w64)), l₂₂) ∷ (tyUnit, l₂₃) ∷ (tyRef erased mut (tyInt w64), l₂₄) ∷ (sliceTy (tyRef erased mut (tyInt w64)), l₂₅) ∷ []) (‵ ftrue)) die $ free-all ! 22 ((lSeen.mir, l₀) ∷ (sliceTy (tyRef (named 0) mut (tyInt w64)), l₁) ∷ (tyInt w64, l₂) ∷ (tyInt w64, l₃) ∷ (tyInt w64, l₄) ∷ (tyInt w64, l₅) ∷ (sliceTy (tyRef (named 1) imm (tyInt w64)), l₆) ∷ (sliceTy (tyRef (named 2) imm (tyInt w64)), l₇) ∷ (sliceTy (tyRef (named 3) imm (pointee (mEntry.the-row .written))), l₈) ∷ (sliceTy (tyRef (named 4) imm (pointee (mEntry.the-row .written))), l₉) ∷ (sliceTy (tyRef (named 5) imm (pointee (mEntry.the-row .written))), l₁₀) ∷ (sliceTy (tyRef (named 6) imm (pointee (mEntry.the-row .written))), l₁₁) ∷ (sliceTy (tyRef (named 7) imm (pointee (mEntry.the-row .written))), l₁₂) ∷ (sliceTy (tyRef (named 8) imm (pointee (mEntry.the-row .written))), l₁₃) ∷ (tyInt w64, l₁₄) ∷ (tyInt w64, l₁₅) ∷ (lSeen.mir, l₁₆) ∷ (lSeen.mir, l₁₇) ∷ (lSeen.mir, l₁₈) ∷ (tyRef erased mut (tyInt w64), l₁₉) ∷ (sliceTy (tyRef erased mut (tyInt w64)), l₂₀) ∷ (tyRef erased mut (tyInt w64), l₂₁) ∷ (sliceTy (tyRef erased mut (tyInt w64)), l₂₂) ∷ (tyUnit, l₂₃) ∷ (tyRef erased mut (tyInt w64), l₂₄) ∷ (sliceTy (tyRef erased mut (tyInt w64)), l₂₅) ∷ []) (kept _ ∷ kept _ ∷ kept _ ∷ kept _ ∷ kept _ ∷ kept _ ∷ kept _ ∷ kept _ ∷ kept _ ∷ kept _ ∷ kept _ ∷ kept _ ∷ kept _ ∷ kept _ ∷ kept _ ∷ kept _ ∷ kept _ ∷ kept _ ∷ kept _ ∷ kept _ ∷ kept _ ∷ kept _ ∷ kept _ ∷ kept _ ∷ kept _ ∷ kept _ ∷ []) refl $
         suffices ! _ (ends-at 𝓤 H A f.ended stayed (f.clauses 𝓤 H A at-mem run) W (((κ₀, (κ₁, (κ₂, (κ₃, (κ₄, (κ₅, (κ₆, (κ₇, (κ₈, tt))))))))), (q₀, (q₁, (q₂, (q₃, (q₄, (q₅, (q₆, (q₇, (q₈, tt))))))))), tt, a, at), tt) z3 r3 (ws4 .0, (tt, (tt, (tt, (tt, (tt, (tt, (tt, (tt, (tt, (tt, (tt, (tt, tt))))))))))))) (same4a ∙ same3c ∙ same2c, (tt, (tt, (tt, (tt, (tt, (tt, (tt, (tt, (tt, (tt, (tt, (tt, tt)))))))))))))) $ says ! (judge-ends n2 n3 n4 n5 (s6 .now) (elements (s7 .now)) (entriesOfRecords (s8 .now)) (entriesOfRecords (s9 .now)) (entriesOfRecords (s10 .now)) (entriesOfRecords (s11 .now)) (entriesOfRecords (s12 .now)) (entriesOfRecords (s13 .now)) ys1 (ws2 .1 .1 .0) (ws3 .1 .1 .0) (ws4 .0) r1 r2 r3 e1 e2 e3 e4) $
-        nothing ! $ move ! (8 ∷ 0 ∷ []) $ join ! $ move ! (8 ∷ 0 ∷ []) $ join ! $ move ! (8 ∷ 0 ∷ []) $ join ! $ move ! (27 ∷ 0 ∷ []) $ join ! $ move ! (27 ∷ 0 ∷ []) $ join ! $ move ! (27 ∷ 0 ∷ []) $ join ! $ move ! (8 ∷ 0 ∷ []) $ join ! $ move ! (8 ∷ 0 ∷ []) $ join ! $ move ! (2 ∷ 0 ∷ []) $ join ! $ nothing ! $ move ! (19 ∷ 0 ∷ []) $ fjoin ! $ move ! (19 ∷ 0 ∷ []) $ fjoin ! $ move ! (19 ∷ 0 ∷ []) $ fjoin ! $ move ! (33 ∷ 0 ∷ []) $ fjoin ! $ move ! (33 ∷ 0 ∷ []) $ fjoin ! $ move ! (33 ∷ 0 ∷ []) $ fjoin ! $ move ! (19 ∷ 0 ∷ []) $ fjoin ! $ move ! (19 ∷ 0 ∷ []) $ fjoin ! $ move ! (35 ∷ 0 ∷ []) $ fjoin ! $ move ! (35 ∷ 0 ∷ []) $ fjoin ! $ move ! (35 ∷ 0 ∷ []) $ fjoin ! $ move ! (35 ∷ 0 ∷ []) $ fjoin ! $ move ! (2 ∷ 0 ∷ []) $ fjoin ! $ keep ! (1 ∷ 0 ∷ []) $ frame ! $ frame ! $ owned ! mSeen.the-row (Is mSeen.the-row) (LL.makes mSeen.the-type lSeen.the-plain 𝓤 H A) r3 _ i3 $ done !)))))))))))))))))))))))))))))))))))))))))))))))))))))))
+        nothing ! $ move ! (3 ∷ 0 ∷ []) $ join ! $ move ! (3 ∷ 0 ∷ []) $ join ! $ move ! (3 ∷ 0 ∷ []) $ join ! $ move ! (10 ∷ 0 ∷ []) $ join ! $ move ! (10 ∷ 0 ∷ []) $ join ! $ move ! (10 ∷ 0 ∷ []) $ join ! $ move ! (3 ∷ 0 ∷ []) $ join ! $ move ! (3 ∷ 0 ∷ []) $ join ! $ move ! (2 ∷ 0 ∷ []) $ join ! $ nothing ! $ move ! (3 ∷ 0 ∷ []) $ fjoin ! $ move ! (3 ∷ 0 ∷ []) $ fjoin ! $ move ! (3 ∷ 0 ∷ []) $ fjoin ! $ move ! (5 ∷ 0 ∷ []) $ fjoin ! $ move ! (5 ∷ 0 ∷ []) $ fjoin ! $ move ! (5 ∷ 0 ∷ []) $ fjoin ! $ move ! (3 ∷ 0 ∷ []) $ fjoin ! $ move ! (3 ∷ 0 ∷ []) $ fjoin ! $ move ! (3 ∷ 0 ∷ []) $ fjoin ! $ move ! (3 ∷ 0 ∷ []) $ fjoin ! $ move ! (3 ∷ 0 ∷ []) $ fjoin ! $ move ! (3 ∷ 0 ∷ []) $ fjoin ! $ move ! (2 ∷ 0 ∷ []) $ fjoin ! $ keep ! (1 ∷ 0 ∷ []) $ frame ! $ frame ! $ owned ! mSeen.the-row (Is mSeen.the-row) (LL.makes mSeen.the-type lSeen.the-plain 𝓤 H A) r3 _ i3 $ done !))))))))))))))))))))))))))))))))))))))))))))))))))))))))
 
 module _ {M : Type 1} (𝓤 : URA M) (H : Heap 𝓤) (A : Atoms 𝓤) (W : Given 𝓤 H A) (mem : Memory → SProp 𝓤) (run : Routine → Fun 𝓤) where
   walks : (C : Calls 𝓤 H) (Λ : Loops 𝓤 H) → FmC 𝓤 H (W .laws) C → Triple 𝓤 (C #g1) (Callee-g1 𝓤 H A mem run) → Triple 𝓤 (C #g2) (Callee-g2 𝓤 H A mem run) → Triple 𝓤 (C #g3) (Callee-g3 𝓤 H A mem run) → Walks 𝓤 H A f.ended stayed (WpFn 𝓤 H C Λ code.function) (f.clauses 𝓤 H A mem run)

@@ -20,7 +20,7 @@ use contract.Monad.{Fun, fact}
 use contract.Running.{givenOf, tables, tablesOf}
 use types.Kit.{Given, ‵, raw, _⊛_, ⋆, some, later, _$_, _∵_, !, qed, by, move, keep, drop, use1, use2, use3, split, join, pick, fsplit, fsplit3, fjoin, fjoin3, feqL, feqI, rewrite, atRet, suffices, frame, await, done}
 use types.Part.{agg, whole, sub, look-in}
-use types.Run.{look, look-raw, init, store, store-raw, forget, stop, hop, fld, from, load, unit-lit, of-opd, addr, and-then, no-more, lit, true-lit, false-lit, assigns, assigns-last, land, land-last, first, branches, skips, exec, returns, enter, alloc1, alloc0, params1, pass1, pass0, free1, free0}
+use types.Run.{look, look-raw, init, store, store-raw, stop, hop, fld, from, load, unit-lit, of-opd, addr, and-then, no-more, lit, true-lit, false-lit, assigns, assigns-last, land, land-last, first, branches, skips, exec, returns, enter, alloc0, params1, pass1, pass0}
 use types.Tokens.{lft-new, lft-end}
 use sound.WpLaws.{FmC, fmOf, WpFn-mono}
 use denote.RattleType.{owns}
@@ -51,6 +51,7 @@ use Rattle.magnetar_inplace.proofs.records.Entry.Laws as lEntry
 use Rattle.magnetar_row_records.specs.declared.steps.Seen.{Seen}
 use Rattle.magnetar_row_records.proofs.steps.Seen as mSeen
 use Rattle.magnetar_row_records.proofs.steps.Seen.Laws as lSeen
+use Rattle.magnetar_inplace.proofs.Locals.{tidy, bare, kept, dies, alloc, hide, free-all}
 use Rattle.magnetar_inplace.proofs.Again.{LentAgain, lends-again, comes-back}
 use Rattle.magnetar_inplace.proofs.steps.is_none as g1
 use Rattle.magnetar_inplace.proofs.steps.is_none.Symbol as g1-def
@@ -195,46 +196,44 @@ module _ {M : Type 1} (𝓤 : URA M) (H : Heap 𝓤) (A : Atoms 𝓤) (W : Given
     walk : ent 𝓤 (onEntry 𝓤 H A f.signature (κ₀, (κ₁, (κ₂, (κ₃, (κ₄, (κ₅, (κ₆, (κ₇, (κ₈, tt))))))))) (q₀, (q₁, (q₂, (q₃, (q₄, (q₅, (q₆, (q₇, (q₈, tt))))))))) a at) (WpFn 𝓤 H C Λ code.function (v1 ∷ v2 ∷ v3 ∷ v4 ∷ v5 ∷ v6 ∷ v7 ∷ v8 ∷ v9 ∷ v10 ∷ v11 ∷ v12 ∷ v13 ∷ v14 ∷ []) Post)
     walk =
         qed W ((‵ (flft κ₀ q₀) ⊛ ‵ (flft κ₁ q₁) ⊛ ‵ (flft κ₂ q₂) ⊛ ‵ (flft κ₃ q₃) ⊛ ‵ (flft κ₄ q₄) ⊛ ‵ (flft κ₅ q₅) ⊛ ‵ (flft κ₆ q₆) ⊛ ‵ (flft κ₇ q₇) ⊛ ‵ (flft κ₈ q₈) ⊛ ‵ ftrue) ∷ ‵ (owns (u32 ∷ MutSlice (named 0) κ₀ u64 ∷ u64 ∷ u64 ∷ u64 ∷ u64 ∷ ShrSlice (named 1) κ₁ u64 ∷ ShrSlice (named 2) κ₂ u64 ∷ ShrSlice (named 3) κ₃ mEntry.the-row ∷ ShrSlice (named 4) κ₄ mEntry.the-row ∷ ShrSlice (named 5) κ₅ mEntry.the-row ∷ ShrSlice (named 6) κ₆ mEntry.the-row ∷ ShrSlice (named 7) κ₇ mEntry.the-row ∷ ShrSlice (named 8) κ₈ mEntry.the-row ∷ []) a at) ∷ []) ∵ enter ! C Λ code.function (v1 ∷ v2 ∷ v3 ∷ v4 ∷ v5 ∷ v6 ∷ v7 ∷ v8 ∷ v9 ∷ v10 ∷ v11 ∷ v12 ∷ v13 ∷ v14 ∷ []) _ $
-        alloc1 ! (λ l₀. alloc1 ! (λ l₁. alloc1 ! (λ l₂. alloc1 ! (λ l₃. alloc1 ! (λ l₄. alloc1 ! (λ l₅. alloc1 ! (λ l₆. alloc1 ! (λ l₇. alloc1 ! (λ l₈. alloc1 ! (λ l₉. alloc1 ! (λ l₁₀. alloc1 ! (λ l₁₁. alloc1 ! (λ l₁₂. alloc1 ! (λ l₁₃. alloc1 ! (λ l₁₄. alloc1 ! (λ l₁₅. alloc1 ! (λ l₁₆. alloc1 ! (λ l₁₇. alloc1 ! (λ l₁₈. alloc1 ! (λ l₁₉. alloc1 ! (λ l₂₀. alloc1 ! (λ l₂₁. alloc0 ! $ params1 ! $ pass1 ! (init ! 40 refl (uint-lawful 𝓤 H A W w32 .typed n1 _ w1 .0)) $ pass1 ! (init ! 38 refl (tt, (tt, (record { fits = room2 .0 }, tt)))) $ pass1 ! (init ! 36 refl (uint-lawful 𝓤 H A W w64 .typed n3 _ w3 .0)) $ pass1 ! (init ! 34 refl (uint-lawful 𝓤 H A W w64 .typed n4 _ w4 .0)) $ pass1 ! (init ! 32 refl (uint-lawful 𝓤 H A W w64 .typed n5 _ w5 .0)) $ pass1 ! (init ! 30 refl (uint-lawful 𝓤 H A W w64 .typed n6 _ w6 .0)) $ pass1 ! (init ! 28 refl (shr-slice-lawful 𝓤 H A W (named 1) κ₁ u64 .typed s7 (v7 ∷ []) w7 .0)) $ pass1 ! (init ! 26 refl (shr-slice-lawful 𝓤 H A W (named 2) κ₂ u64 .typed s8 (v8 ∷ []) w8 .0)) $ pass1 ! (init ! 24 refl (shr-slice-lawful 𝓤 H A W (named 3) κ₃ mEntry.the-row .typed s9 (v9 ∷ []) w9 .0)) $ pass1 ! (init ! 22 refl (shr-slice-lawful 𝓤 H A W (named 4) κ₄ mEntry.the-row .typed s10 (v10 ∷ []) w10 .0)) $ pass1 ! (init ! 20 refl (shr-slice-lawful 𝓤 H A W (named 5) κ₅ mEntry.the-row .typed s11 (v11 ∷ []) w11 .0)) $ pass1 ! (init ! 18 refl (shr-slice-lawful 𝓤 H A W (named 6) κ₆ mEntry.the-row .typed s12 (v12 ∷ []) w12 .0)) $ pass1 ! (init ! 16 refl (shr-slice-lawful 𝓤 H A W (named 7) κ₇ mEntry.the-row .typed s13 (v13 ∷ []) w13 .0)) $ pass1 ! (init ! 14 refl (shr-slice-lawful 𝓤 H A W (named 8) κ₈ mEntry.the-row .typed s14 (v14 ∷ []) w14 .0)) $ pass0 ! $
-        move ! (45 ∷ []) $ fsplit ! $ move ! (1 ∷ []) $ fsplit ! $ move ! (1 ∷ []) $ fsplit ! $ move ! (1 ∷ []) $ fsplit ! $ move ! (1 ∷ []) $ fsplit ! $ move ! (1 ∷ []) $ fsplit ! $ move ! (1 ∷ []) $ fsplit ! $ move ! (1 ∷ []) $ fsplit ! $ move ! (1 ∷ []) $ fsplit ! $ move ! (1 ∷ []) $ fsplit ! $ move ! (1 ∷ []) $ fsplit ! $ move ! (1 ∷ []) $ fsplit ! $ move ! (1 ∷ []) $ fsplit ! $ move ! (1 ∷ []) $ fsplit ! $ move ! (1 ∷ []) $ move ! (59 ∷ []) $ split ! $ move ! (1 ∷ []) $ split ! $ move ! (1 ∷ []) $ split ! $ move ! (1 ∷ []) $ split ! $ move ! (1 ∷ []) $ split ! $ move ! (1 ∷ []) $ split ! $ move ! (1 ∷ []) $ split ! $ move ! (1 ∷ []) $ split ! $ move ! (1 ∷ []) $ split ! $ move ! (1 ∷ []) $
-        nothing ! $
+        nothing ! $ alloc ! (λ l₀. alloc ! (λ l₁. alloc ! (λ l₂. alloc ! (λ l₃. alloc ! (λ l₄. alloc ! (λ l₅. alloc ! (λ l₆. alloc ! (λ l₇. alloc ! (λ l₈. alloc ! (λ l₉. alloc ! (λ l₁₀. alloc ! (λ l₁₁. alloc ! (λ l₁₂. alloc ! (λ l₁₃. alloc ! (λ l₁₄. alloc ! (λ l₁₅. alloc ! (λ l₁₆. alloc ! (λ l₁₇. alloc ! (λ l₁₈. alloc ! (λ l₁₉. alloc ! (λ l₂₀. alloc ! (λ l₂₁. alloc0 ! $ hide ! (λ died die. params1 ! $ pass1 ! (init ! 21 refl (uint-lawful 𝓤 H A W w32 .typed n1 _ w1 .0)) $ pass1 ! (init ! 20 refl (tt, (tt, (record { fits = room2 .0 }, tt)))) $ pass1 ! (init ! 19 refl (uint-lawful 𝓤 H A W w64 .typed n3 _ w3 .0)) $ pass1 ! (init ! 18 refl (uint-lawful 𝓤 H A W w64 .typed n4 _ w4 .0)) $ pass1 ! (init ! 17 refl (uint-lawful 𝓤 H A W w64 .typed n5 _ w5 .0)) $ pass1 ! (init ! 16 refl (uint-lawful 𝓤 H A W w64 .typed n6 _ w6 .0)) $ pass1 ! (init ! 15 refl (shr-slice-lawful 𝓤 H A W (named 1) κ₁ u64 .typed s7 (v7 ∷ []) w7 .0)) $ pass1 ! (init ! 14 refl (shr-slice-lawful 𝓤 H A W (named 2) κ₂ u64 .typed s8 (v8 ∷ []) w8 .0)) $ pass1 ! (init ! 13 refl (shr-slice-lawful 𝓤 H A W (named 3) κ₃ mEntry.the-row .typed s9 (v9 ∷ []) w9 .0)) $ pass1 ! (init ! 12 refl (shr-slice-lawful 𝓤 H A W (named 4) κ₄ mEntry.the-row .typed s10 (v10 ∷ []) w10 .0)) $ pass1 ! (init ! 11 refl (shr-slice-lawful 𝓤 H A W (named 5) κ₅ mEntry.the-row .typed s11 (v11 ∷ []) w11 .0)) $ pass1 ! (init ! 10 refl (shr-slice-lawful 𝓤 H A W (named 6) κ₆ mEntry.the-row .typed s12 (v12 ∷ []) w12 .0)) $ pass1 ! (init ! 9 refl (shr-slice-lawful 𝓤 H A W (named 7) κ₇ mEntry.the-row .typed s13 (v13 ∷ []) w13 .0)) $ pass1 ! (init ! 8 refl (shr-slice-lawful 𝓤 H A W (named 8) κ₈ mEntry.the-row .typed s14 (v14 ∷ []) w14 .0)) $ pass0 ! $
+        move ! (24 ∷ []) $ fsplit ! $ move ! (1 ∷ []) $ fsplit ! $ move ! (1 ∷ []) $ fsplit ! $ move ! (1 ∷ []) $ fsplit ! $ move ! (1 ∷ []) $ fsplit ! $ move ! (1 ∷ []) $ fsplit ! $ move ! (1 ∷ []) $ fsplit ! $ move ! (1 ∷ []) $ fsplit ! $ move ! (1 ∷ []) $ fsplit ! $ move ! (1 ∷ []) $ fsplit ! $ move ! (1 ∷ []) $ fsplit ! $ move ! (1 ∷ []) $ fsplit ! $ move ! (1 ∷ []) $ fsplit ! $ move ! (1 ∷ []) $ fsplit ! $ move ! (1 ∷ []) $ drop ! $ move ! (37 ∷ []) $ split ! $ move ! (1 ∷ []) $ split ! $ move ! (1 ∷ []) $ split ! $ move ! (1 ∷ []) $ split ! $ move ! (1 ∷ []) $ split ! $ move ! (1 ∷ []) $ split ! $ move ! (1 ∷ []) $ split ! $ move ! (1 ∷ []) $ split ! $ move ! (1 ∷ []) $ split ! $ move ! (1 ∷ []) $ drop ! $ tidy W (_ ∷ _ ∷ _ ∷ _ ∷ _ ∷ _ ∷ _ ∷ _ ∷ _ ∷ _ ∷ _ ∷ _ ∷ _ ∷ _ ∷ _ ∷ _ ∷ _ ∷ _ ∷ _ ∷ _ ∷ _ ∷ _ ∷ _ ∷ _ ∷ _ ∷ _ ∷ _ ∷ _ ∷ _ ∷ _ ∷ _ ∷ _ ∷ _ ∷ _ ∷ _ ∷ _ ∷ _ ∷ _ ∷ _ ∷ _ ∷ _ ∷ _ ∷ _ ∷ _ ∷ _ ∷ _ ∷ []) $
+        tidy W (_ ∷ _ ∷ _ ∷ _ ∷ _ ∷ _ ∷ _ ∷ _ ∷ _ ∷ _ ∷ _ ∷ _ ∷ _ ∷ _ ∷ _ ∷ _ ∷ _ ∷ _ ∷ _ ∷ _ ∷ _ ∷ _ ∷ _ ∷ _ ∷ _ ∷ _ ∷ _ ∷ _ ∷ _ ∷ _ ∷ _ ∷ _ ∷ _ ∷ _ ∷ _ ∷ _ ∷ _ ∷ _ ∷ _ ∷ _ ∷ _ ∷ _ ∷ _ ∷ _ ∷ _ ∷ _ ∷ []) $ nothing ! $
         -- call 1
         use1 W (raw (Callee-g1 𝓤 H A at-mem run .pre ((tt, tt, tt, (n1, tt), (u1 ∷ [], tt)), tt))) (qed W ((‵ ftrue) ∷ []) ∵ nothing ! $ owned ! u32 (Is u32) (uint-makes 𝓤 H A W w32) (n1) _ w1 $ fjoin ! $ move ! (1 ∷ 0 ∷ []) $ join ! $ nothing ! $ move ! (1 ∷ 0 ∷ []) $ frame ! $ done !) $
-        calls-at ! fm (Callee-g1 𝓤 H A at-mem run) known-g1 ((tt, tt, tt, (n1, tt), (u1 ∷ [], tt)), tt) (and-then ! (load ! (from ! (stop !)) (look ! 66 refl)) (no-more !)) (λ z1.
+        calls-at ! fm (Callee-g1 𝓤 H A at-mem run) known-g1 ((tt, tt, tt, (n1, tt), (u1 ∷ [], tt)), tt) (and-then ! (load ! (from ! (stop !)) (look ! 45 refl)) (no-more !)) (λ z1.
         use1 W (later (some (λ (r1 : Bool). ((‵ ftrue) ⊛ ‵ (bool .own r1 (z1 ∷ []))) ⊛ some (λ (ws : Lasts g1.ended tt (n1, tt)). ‵ (lasts g1.ended tt (n1, tt) ws) ⊛ raw (g1.clauses 𝓤 H A at-mem run tt (n1, tt) .ensures tt r1 (atExit g1.ended tt (n1, tt) ws)))))) (id⊢ 𝓤 _) $ await ! tt $ pick ! (λ r1. split ! $ move ! (1 ∷ []) $ pick ! (λ ws1. split ! $ move ! (1 ∷ []) $ heard ! _ (λ e1.
-        fsplit ! $ move ! (2 ∷ []) $ split ! $ move ! (1 ∷ []) $ peeks ! bool (Is bool) (shows 𝓤 H A bool) r1 (z1 ∷ []) (λ i1. drop ! $ land ! (from ! (stop !)) (init ! 40 refl (bool-lawful 𝓤 H A W .typed r1 _ i1 .0)) $
-        nothing ! $
+        drop ! $ split ! $ move ! (1 ∷ []) $ peeks ! bool (Is bool) (shows 𝓤 H A bool) r1 (z1 ∷ []) (λ i1. drop ! $ land ! (from ! (stop !)) (init ! 31 refl (bool-lawful 𝓤 H A W .typed r1 _ i1 .0)) $
+        tidy W (_ ∷ _ ∷ _ ∷ _ ∷ _ ∷ _ ∷ _ ∷ _ ∷ _ ∷ _ ∷ _ ∷ _ ∷ _ ∷ _ ∷ _ ∷ _ ∷ _ ∷ _ ∷ _ ∷ _ ∷ _ ∷ _ ∷ _ ∷ _ ∷ _ ∷ _ ∷ _ ∷ _ ∷ _ ∷ _ ∷ _ ∷ _ ∷ _ ∷ _ ∷ _ ∷ _ ∷ _ ∷ _ ∷ _ ∷ _ ∷ _ ∷ _ ∷ _ ∷ _ ∷ _ ∷ _ ∷ _ ∷ []) $ drop ! $ tidy W (_ ∷ _ ∷ _ ∷ _ ∷ _ ∷ _ ∷ _ ∷ _ ∷ _ ∷ _ ∷ _ ∷ _ ∷ _ ∷ _ ∷ _ ∷ _ ∷ _ ∷ _ ∷ _ ∷ _ ∷ _ ∷ _ ∷ _ ∷ _ ∷ _ ∷ _ ∷ _ ∷ _ ∷ _ ∷ _ ∷ _ ∷ _ ∷ _ ∷ _ ∷ _ ∷ _ ∷ _ ∷ _ ∷ _ ∷ _ ∷ _ ∷ _ ∷ _ ∷ _ ∷ _ ∷ _ ∷ []) $ nothing ! $
         -- call 2
         use1 W (raw (Callee-g2 𝓤 H A at-mem run .pre ((tt, tt, tt, tt, tt), tt))) (qed W ((‵ ftrue) ∷ []) ∵ nothing ! $ move ! (1 ∷ 0 ∷ []) $ join ! $ nothing ! $ move ! (1 ∷ 0 ∷ []) $ frame ! $ done !) $
         calls-at ! fm (Callee-g2 𝓤 H A at-mem run) known-g2 ((tt, tt, tt, tt, tt), tt) (no-more !) (λ z2.
         use1 W (later (some (λ (r2 : Seen). ((‵ ftrue) ⊛ ‵ (mSeen.the-row .own r2 (z2 ∷ []))) ⊛ some (λ (ws : Lasts g2.ended tt tt). ‵ (lasts g2.ended tt tt ws) ⊛ raw (g2.clauses 𝓤 H A at-mem run tt tt .ensures tt r2 (atExit g2.ended tt tt ws)))))) (id⊢ 𝓤 _) $ await ! tt $ pick ! (λ r2. split ! $ move ! (1 ∷ []) $ pick ! (λ ws2. split ! $ move ! (1 ∷ []) $ heard ! _ (λ e2.
-        move ! (1 ∷ []) $ split ! $ move ! (1 ∷ []) $ peeks ! mSeen.the-row (Is mSeen.the-row) (shows 𝓤 H A mSeen.the-row) r2 (z2 ∷ []) (λ i2. drop ! $ land ! (from ! (stop !)) (init ! 40 refl (LL.lawful mSeen.the-type lSeen.the-laws 𝓤 H A W .typed r2 _ i2 .0)) $
-        assigns ! (of-opd ! (load ! (from ! (stop !)) (look ! 42 refl))) (from ! (stop !)) (init ! 36 refl (bool-lawful 𝓤 H A W .typed r1 _ i1 .0)) $
-        rewrite ! 36 (λ (w : Val). ‵ (fat fullShare tyBool l₁₈ 0 w)) (ap only i1) refl $ first ! $ branches ! (load ! (from ! (stop !)) (look ! 36 refl))
-        (λ y1. let b1 : r1 ≡ true = is-yes (r1) y1 in assigns ! (addr ! (from ! (fld ! refl (hop ! (look-in ! 68 (sub ! 0 refl (whole !))) (stop !))))) (from ! (stop !)) (init ! 32 refl (tt, tt)) $
-        assigns ! (agg ! (and-then ! (load ! (from ! (stop !)) (look ! 32 refl)) (and-then ! (load ! (from ! (fld ! refl (stop !))) (look-in ! 68 (sub ! 1 refl (whole !)))) (no-more !)))) (from ! (stop !)) (init ! 30 refl (tt, (tt, (record { fits = room2 .0 }, tt)))) $
-        lft-new ! tt (λ ν3a. move ! (29 ∷ 15 ∷ []) $ use2 W (later (some (λ (δ : GName). ‵ (MutSlice (named 0) (ν3a ∷ []) u64 .own (ref2 δ (ys2)) (v2 ∷ [])) ⊛ ‵ (Lent2 ν3a δ (ys2))))) (lends2 (named 0) ν3a (ys2) (refl)) $ await ! tt $ pick ! (λ δ3a. split ! $ move ! (25 ∷ []) $ use1 W (‵ (O7) ⊛ ‵ (O7)) (shr-slice-copy 𝓤 H A W (named 1) κ₁ u64 .twice s7 (v7 ∷ [])) $ split ! $ move ! (26 ∷ []) $ use1 W (‵ (O8) ⊛ ‵ (O8)) (shr-slice-copy 𝓤 H A W (named 2) κ₂ u64 .twice s8 (v8 ∷ [])) $ split ! $ move ! (27 ∷ []) $ use1 W (‵ (O9) ⊛ ‵ (O9)) (shr-slice-copy 𝓤 H A W (named 3) κ₃ mEntry.the-row .twice s9 (v9 ∷ [])) $ split ! $ move ! (28 ∷ []) $ use1 W (‵ (O10) ⊛ ‵ (O10)) (shr-slice-copy 𝓤 H A W (named 4) κ₄ mEntry.the-row .twice s10 (v10 ∷ [])) $ split ! $ move ! (29 ∷ []) $ use1 W (‵ (O11) ⊛ ‵ (O11)) (shr-slice-copy 𝓤 H A W (named 5) κ₅ mEntry.the-row .twice s11 (v11 ∷ [])) $ split ! $ move ! (30 ∷ []) $ use1 W (‵ (O12) ⊛ ‵ (O12)) (shr-slice-copy 𝓤 H A W (named 6) κ₆ mEntry.the-row .twice s12 (v12 ∷ [])) $ split ! $ move ! (31 ∷ []) $ use1 W (‵ (O13) ⊛ ‵ (O13)) (shr-slice-copy 𝓤 H A W (named 7) κ₇ mEntry.the-row .twice s13 (v13 ∷ [])) $ split ! $ move ! (32 ∷ []) $ use1 W (‵ (O14) ⊛ ‵ (O14)) (shr-slice-copy 𝓤 H A W (named 8) κ₈ mEntry.the-row .twice s14 (v14 ∷ [])) $ split ! $ nothing ! $ move ! (26 ∷ 0 ∷ []) $ join ! $ move ! (26 ∷ 0 ∷ []) $ join ! $ move ! (26 ∷ 0 ∷ []) $ join ! $ move ! (26 ∷ 0 ∷ []) $ join ! $ move ! (26 ∷ 0 ∷ []) $ join ! $ move ! (26 ∷ 0 ∷ []) $ join ! $ move ! (26 ∷ 0 ∷ []) $ join ! $ move ! (26 ∷ 0 ∷ []) $ join ! $ move ! (19 ∷ 0 ∷ []) $ join ! $ move ! (3 ∷ 1 ∷ []) $ join ! $ move ! (4 ∷ 0 ∷ []) $ join ! $ move ! (5 ∷ 0 ∷ []) $ join ! $ move ! (6 ∷ 0 ∷ []) $ join ! $ move ! (7 ∷ 0 ∷ []) $ join ! $ move ! (8 ∷ 0 ∷ []) $ join ! $ move ! (9 ∷ 0 ∷ []) $ join ! $ move ! (10 ∷ 0 ∷ []) $ join ! $ move ! (1 ∷ 0 ∷ []) $ join ! $
+        drop ! $ split ! $ move ! (1 ∷ []) $ peeks ! mSeen.the-row (Is mSeen.the-row) (shows 𝓤 H A mSeen.the-row) r2 (z2 ∷ []) (λ i2. drop ! $ land ! (from ! (stop !)) (init ! 30 refl (LL.lawful mSeen.the-type lSeen.the-laws 𝓤 H A W .typed r2 _ i2 .0)) $
+        tidy W (_ ∷ _ ∷ _ ∷ _ ∷ _ ∷ _ ∷ _ ∷ _ ∷ _ ∷ _ ∷ _ ∷ _ ∷ _ ∷ _ ∷ _ ∷ _ ∷ _ ∷ _ ∷ _ ∷ _ ∷ _ ∷ _ ∷ _ ∷ _ ∷ _ ∷ _ ∷ _ ∷ _ ∷ _ ∷ _ ∷ _ ∷ _ ∷ _ ∷ _ ∷ _ ∷ _ ∷ _ ∷ _ ∷ _ ∷ _ ∷ _ ∷ _ ∷ _ ∷ _ ∷ _ ∷ _ ∷ _ ∷ []) $ drop ! $ assigns ! (of-opd ! (load ! (from ! (stop !)) (look ! 30 refl))) (from ! (stop !)) (init ! 27 refl (bool-lawful 𝓤 H A W .typed r1 _ i1 .0)) $
+        rewrite ! 27 (λ (w : Val). ‵ (fat fullShare tyBool l₁₈ 0 w)) (ap only i1) refl $ first ! $ branches ! (load ! (from ! (stop !)) (look ! 27 refl))
+        (λ y1. let b1 : r1 ≡ true = is-yes (r1) y1 in assigns ! (addr ! (from ! (fld ! refl (hop ! (look-in ! 43 (sub ! 0 refl (whole !))) (stop !))))) (from ! (stop !)) (init ! 25 refl (tt, tt)) $
+        assigns ! (agg ! (and-then ! (load ! (from ! (stop !)) (look ! 25 refl)) (and-then ! (load ! (from ! (fld ! refl (stop !))) (look-in ! 43 (sub ! 1 refl (whole !)))) (no-more !)))) (from ! (stop !)) (init ! 24 refl (tt, (tt, (record { fits = room2 .0 }, tt)))) $
+        lft-new ! tt (λ ν3a. move ! (22 ∷ 9 ∷ []) $ use2 W (later (some (λ (δ : GName). ‵ (MutSlice (named 0) (ν3a ∷ []) u64 .own (ref2 δ (ys2)) (v2 ∷ [])) ⊛ ‵ (Lent2 ν3a δ (ys2))))) (lends2 (named 0) ν3a (ys2) (refl)) $ await ! tt $ pick ! (λ δ3a. split ! $ move ! (18 ∷ []) $ use1 W (‵ (O7) ⊛ ‵ (O7)) (shr-slice-copy 𝓤 H A W (named 1) κ₁ u64 .twice s7 (v7 ∷ [])) $ split ! $ move ! (19 ∷ []) $ use1 W (‵ (O8) ⊛ ‵ (O8)) (shr-slice-copy 𝓤 H A W (named 2) κ₂ u64 .twice s8 (v8 ∷ [])) $ split ! $ move ! (20 ∷ []) $ use1 W (‵ (O9) ⊛ ‵ (O9)) (shr-slice-copy 𝓤 H A W (named 3) κ₃ mEntry.the-row .twice s9 (v9 ∷ [])) $ split ! $ move ! (21 ∷ []) $ use1 W (‵ (O10) ⊛ ‵ (O10)) (shr-slice-copy 𝓤 H A W (named 4) κ₄ mEntry.the-row .twice s10 (v10 ∷ [])) $ split ! $ move ! (22 ∷ []) $ use1 W (‵ (O11) ⊛ ‵ (O11)) (shr-slice-copy 𝓤 H A W (named 5) κ₅ mEntry.the-row .twice s11 (v11 ∷ [])) $ split ! $ move ! (23 ∷ []) $ use1 W (‵ (O12) ⊛ ‵ (O12)) (shr-slice-copy 𝓤 H A W (named 6) κ₆ mEntry.the-row .twice s12 (v12 ∷ [])) $ split ! $ move ! (24 ∷ []) $ use1 W (‵ (O13) ⊛ ‵ (O13)) (shr-slice-copy 𝓤 H A W (named 7) κ₇ mEntry.the-row .twice s13 (v13 ∷ [])) $ split ! $ move ! (25 ∷ []) $ use1 W (‵ (O14) ⊛ ‵ (O14)) (shr-slice-copy 𝓤 H A W (named 8) κ₈ mEntry.the-row .twice s14 (v14 ∷ [])) $ split ! $ tidy W (_ ∷ _ ∷ _ ∷ _ ∷ _ ∷ _ ∷ _ ∷ _ ∷ _ ∷ _ ∷ _ ∷ _ ∷ _ ∷ _ ∷ _ ∷ _ ∷ _ ∷ _ ∷ _ ∷ _ ∷ _ ∷ _ ∷ _ ∷ _ ∷ _ ∷ _ ∷ _ ∷ _ ∷ _ ∷ _ ∷ _ ∷ _ ∷ _ ∷ _ ∷ _ ∷ _ ∷ _ ∷ _ ∷ _ ∷ _ ∷ _ ∷ _ ∷ _ ∷ _ ∷ _ ∷ _ ∷ _ ∷ _ ∷ _ ∷ _ ∷ _ ∷ _ ∷ _ ∷ _ ∷ _ ∷ []) $ nothing ! $ move ! (20 ∷ 0 ∷ []) $ join ! $ move ! (20 ∷ 0 ∷ []) $ join ! $ move ! (20 ∷ 0 ∷ []) $ join ! $ move ! (20 ∷ 0 ∷ []) $ join ! $ move ! (20 ∷ 0 ∷ []) $ join ! $ move ! (20 ∷ 0 ∷ []) $ join ! $ move ! (20 ∷ 0 ∷ []) $ join ! $ move ! (20 ∷ 0 ∷ []) $ join ! $ move ! (19 ∷ 0 ∷ []) $ join ! $ move ! (3 ∷ 1 ∷ []) $ join ! $ move ! (4 ∷ 0 ∷ []) $ join ! $ move ! (5 ∷ 0 ∷ []) $ join ! $ move ! (6 ∷ 0 ∷ []) $ join ! $ move ! (7 ∷ 0 ∷ []) $ join ! $ move ! (8 ∷ 0 ∷ []) $ join ! $ move ! (9 ∷ 0 ∷ []) $ join ! $ move ! (10 ∷ 0 ∷ []) $ join ! $ move ! (1 ∷ 0 ∷ []) $ join ! $
         -- call 3
         use1 W (raw (Callee-g3 𝓤 H A at-mem run .pre ((((ν3a ∷ []), (κ₁, (κ₂, (κ₃, (κ₄, (κ₅, (κ₆, (κ₇, (κ₈, tt))))))))), (fullShare, (q₁, (q₂, (q₃, (q₄, (q₅, (q₆, (q₇, (q₈, tt))))))))), tt, (ref2 δ3a (ys2), (n3, (n4, (n5, (n6, (s7, (s8, (s9, (s10, (s11, (s12, (s13, (s14, tt))))))))))))), (v2 ∷ [], (u3 ∷ [], (u4 ∷ [], (u5 ∷ [], (u6 ∷ [], (v7 ∷ [], (v8 ∷ [], (v9 ∷ [], (v10 ∷ [], (v11 ∷ [], (v12 ∷ [], (v13 ∷ [], (v14 ∷ [], tt)))))))))))))), tt))) (qed W ((‵ (flft (ν3a ∷ []) fullShare) ⊛ ‵ (flft κ₁ q₁) ⊛ ‵ (flft κ₂ q₂) ⊛ ‵ (flft κ₃ q₃) ⊛ ‵ (flft κ₄ q₄) ⊛ ‵ (flft κ₅ q₅) ⊛ ‵ (flft κ₆ q₆) ⊛ ‵ (flft κ₇ q₇) ⊛ ‵ (flft κ₈ q₈) ⊛ ‵ ftrue) ∷ ‵ (MutSlice (named 0) (ν3a ∷ []) u64 .own (ref2 δ3a (ys2)) (v2 ∷ [])) ∷ ‵ (ShrSlice (named 1) κ₁ u64 .own s7 (v7 ∷ [])) ∷ ‵ (ShrSlice (named 2) κ₂ u64 .own s8 (v8 ∷ [])) ∷ ‵ (ShrSlice (named 3) κ₃ mEntry.the-row .own s9 (v9 ∷ [])) ∷ ‵ (ShrSlice (named 4) κ₄ mEntry.the-row .own s10 (v10 ∷ [])) ∷ ‵ (ShrSlice (named 5) κ₅ mEntry.the-row .own s11 (v11 ∷ [])) ∷ ‵ (ShrSlice (named 6) κ₆ mEntry.the-row .own s12 (v12 ∷ [])) ∷ ‵ (ShrSlice (named 7) κ₇ mEntry.the-row .own s13 (v13 ∷ [])) ∷ ‵ (ShrSlice (named 8) κ₈ mEntry.the-row .own s14 (v14 ∷ [])) ∷ []) ∵ nothing ! $ move ! (10 ∷ 0 ∷ []) $ fjoin ! $ move ! (9 ∷ 0 ∷ []) $ fjoin ! $ move ! (8 ∷ 0 ∷ []) $ fjoin ! $ move ! (7 ∷ 0 ∷ []) $ fjoin ! $ move ! (6 ∷ 0 ∷ []) $ fjoin ! $ move ! (5 ∷ 0 ∷ []) $ fjoin ! $ move ! (4 ∷ 0 ∷ []) $ fjoin ! $ move ! (3 ∷ 0 ∷ []) $ fjoin ! $ owned ! u64 (Is u64) (uint-makes 𝓤 H A W w64) (n6) _ w6 $ fjoin ! $ owned ! u64 (Is u64) (uint-makes 𝓤 H A W w64) (n5) _ w5 $ fjoin ! $ owned ! u64 (Is u64) (uint-makes 𝓤 H A W w64) (n4) _ w4 $ fjoin ! $ owned ! u64 (Is u64) (uint-makes 𝓤 H A W w64) (n3) _ w3 $ fjoin ! $ move ! (2 ∷ 0 ∷ []) $ fjoin ! $ move ! (1 ∷ 0 ∷ []) $ join ! $ nothing ! $ move ! (1 ∷ 0 ∷ []) $ frame ! $ done !) $
-        calls-at ! fm (Callee-g3 𝓤 H A at-mem run) known-g3 ((((ν3a ∷ []), (κ₁, (κ₂, (κ₃, (κ₄, (κ₅, (κ₆, (κ₇, (κ₈, tt))))))))), (fullShare, (q₁, (q₂, (q₃, (q₄, (q₅, (q₆, (q₇, (q₈, tt))))))))), tt, (ref2 δ3a (ys2), (n3, (n4, (n5, (n6, (s7, (s8, (s9, (s10, (s11, (s12, (s13, (s14, tt))))))))))))), (v2 ∷ [], (u3 ∷ [], (u4 ∷ [], (u5 ∷ [], (u6 ∷ [], (v7 ∷ [], (v8 ∷ [], (v9 ∷ [], (v10 ∷ [], (v11 ∷ [], (v12 ∷ [], (v13 ∷ [], (v14 ∷ [], tt)))))))))))))), tt) (and-then ! (load ! (from ! (stop !)) (look ! 22 refl)) (and-then ! (load ! (from ! (stop !)) (look ! 58 refl)) (and-then ! (load ! (from ! (stop !)) (look ! 56 refl)) (and-then ! (load ! (from ! (stop !)) (look ! 54 refl)) (and-then ! (load ! (from ! (stop !)) (look ! 52 refl)) (and-then ! (load ! (from ! (stop !)) (look ! 50 refl)) (and-then ! (load ! (from ! (stop !)) (look ! 48 refl)) (and-then ! (load ! (from ! (stop !)) (look ! 46 refl)) (and-then ! (load ! (from ! (stop !)) (look ! 44 refl)) (and-then ! (load ! (from ! (stop !)) (look ! 42 refl)) (and-then ! (load ! (from ! (stop !)) (look ! 40 refl)) (and-then ! (load ! (from ! (stop !)) (look ! 38 refl)) (and-then ! (load ! (from ! (stop !)) (look ! 36 refl)) (no-more !)))))))))))))) (λ z3.
+        calls-at ! fm (Callee-g3 𝓤 H A at-mem run) known-g3 ((((ν3a ∷ []), (κ₁, (κ₂, (κ₃, (κ₄, (κ₅, (κ₆, (κ₇, (κ₈, tt))))))))), (fullShare, (q₁, (q₂, (q₃, (q₄, (q₅, (q₆, (q₇, (q₈, tt))))))))), tt, (ref2 δ3a (ys2), (n3, (n4, (n5, (n6, (s7, (s8, (s9, (s10, (s11, (s12, (s13, (s14, tt))))))))))))), (v2 ∷ [], (u3 ∷ [], (u4 ∷ [], (u5 ∷ [], (u6 ∷ [], (v7 ∷ [], (v8 ∷ [], (v9 ∷ [], (v10 ∷ [], (v11 ∷ [], (v12 ∷ [], (v13 ∷ [], (v14 ∷ [], tt)))))))))))))), tt) (and-then ! (load ! (from ! (stop !)) (look ! 16 refl)) (and-then ! (load ! (from ! (stop !)) (look ! 34 refl)) (and-then ! (load ! (from ! (stop !)) (look ! 33 refl)) (and-then ! (load ! (from ! (stop !)) (look ! 32 refl)) (and-then ! (load ! (from ! (stop !)) (look ! 31 refl)) (and-then ! (load ! (from ! (stop !)) (look ! 30 refl)) (and-then ! (load ! (from ! (stop !)) (look ! 29 refl)) (and-then ! (load ! (from ! (stop !)) (look ! 28 refl)) (and-then ! (load ! (from ! (stop !)) (look ! 27 refl)) (and-then ! (load ! (from ! (stop !)) (look ! 26 refl)) (and-then ! (load ! (from ! (stop !)) (look ! 25 refl)) (and-then ! (load ! (from ! (stop !)) (look ! 24 refl)) (and-then ! (load ! (from ! (stop !)) (look ! 23 refl)) (no-more !)))))))))))))) (λ z3.
         use1 W (later (some (λ (r3 : Seen). ((‵ (flft (ν3a ∷ []) fullShare) ⊛ ‵ (flft κ₁ q₁) ⊛ ‵ (flft κ₂ q₂) ⊛ ‵ (flft κ₃ q₃) ⊛ ‵ (flft κ₄ q₄) ⊛ ‵ (flft κ₅ q₅) ⊛ ‵ (flft κ₆ q₆) ⊛ ‵ (flft κ₇ q₇) ⊛ ‵ (flft κ₈ q₈) ⊛ ‵ ftrue) ⊛ ‵ (mSeen.the-row .own r3 (z3 ∷ []))) ⊛ some (λ (ws : Lasts g3.ended ((ν3a ∷ []), (κ₁, (κ₂, (κ₃, (κ₄, (κ₅, (κ₆, (κ₇, (κ₈, tt))))))))) (ref2 δ3a (ys2), (n3, (n4, (n5, (n6, (s7, (s8, (s9, (s10, (s11, (s12, (s13, (s14, tt)))))))))))))). ‵ (lasts g3.ended ((ν3a ∷ []), (κ₁, (κ₂, (κ₃, (κ₄, (κ₅, (κ₆, (κ₇, (κ₈, tt))))))))) (ref2 δ3a (ys2), (n3, (n4, (n5, (n6, (s7, (s8, (s9, (s10, (s11, (s12, (s13, (s14, tt))))))))))))) ws) ⊛ raw (g3.clauses 𝓤 H A at-mem run ((ν3a ∷ []), (κ₁, (κ₂, (κ₃, (κ₄, (κ₅, (κ₆, (κ₇, (κ₈, tt))))))))) (ref2 δ3a (ys2), (n3, (n4, (n5, (n6, (s7, (s8, (s9, (s10, (s11, (s12, (s13, (s14, tt))))))))))))) .ensures tt r3 (atExit g3.ended ((ν3a ∷ []), (κ₁, (κ₂, (κ₃, (κ₄, (κ₅, (κ₆, (κ₇, (κ₈, tt))))))))) (ref2 δ3a (ys2), (n3, (n4, (n5, (n6, (s7, (s8, (s9, (s10, (s11, (s12, (s13, (s14, tt))))))))))))) ws)))))) (id⊢ 𝓤 _) $ await ! tt $ pick ! (λ r3. split ! $ move ! (1 ∷ []) $ pick ! (λ ws3. split ! $ move ! (1 ∷ []) $ heard ! _ (λ e3.
-        fsplit ! $ fsplit ! $ move ! (1 ∷ []) $ feqL ! (λ same3a. move ! (1 ∷ []) $ fsplit ! $ move ! (1 ∷ []) $ fsplit ! $ move ! (1 ∷ []) $ fsplit ! $ move ! (1 ∷ []) $ fsplit ! $ move ! (1 ∷ []) $ fsplit ! $ move ! (1 ∷ []) $ fsplit ! $ move ! (1 ∷ []) $ fsplit ! $ move ! (1 ∷ []) $ fsplit ! $ move ! (1 ∷ []) $ fsplit ! $ move ! (1 ∷ []) $ fsplit ! $ move ! (1 ∷ []) $ fsplit ! $ move ! (1 ∷ []) $ fsplit ! $ move ! (14 ∷ []) $ split ! $ move ! (1 ∷ []) $ peeks ! mSeen.the-row (Is mSeen.the-row) (shows 𝓤 H A mSeen.the-row) r3 (z3 ∷ []) (λ i3. drop ! $ land ! (from ! (stop !)) (init ! 44 refl (LL.lawful mSeen.the-type lSeen.the-laws 𝓤 H A W .typed r3 _ i3 .0)) $
-        split ! $ move ! (1 ∷ []) $ split ! $ move ! (1 ∷ []) $ split ! $ move ! (1 ∷ []) $ split ! $ move ! (1 ∷ []) $ split ! $ move ! (1 ∷ []) $ split ! $ move ! (1 ∷ []) $ split ! $ move ! (1 ∷ []) $ split ! $ move ! (1 ∷ []) $ split ! $ move ! (1 ∷ []) $ move ! (9 ∷ []) $ lft-end ! tt $ move ! (0 ∷ 32 ∷ 23 ∷ []) $ use3 W (later (‵ (O2 (ws3 .0)) ⊛ ‵ (flft κ₀ q₀))) (backs2 (named 0) ν3a δ3a (ys2) (ws3 .0) (refl) room2 same3a) $ await ! tt $ split ! $
-        assigns-last ! (of-opd ! (load ! (from ! (stop !)) (look ! 52 refl))) (from ! (stop !)) (init ! 48 refl (LL.lawful mSeen.the-type lSeen.the-laws 𝓤 H A W .typed r3 _ i3 .0)) $
+        fsplit ! $ fsplit ! $ move ! (1 ∷ []) $ feqL ! (λ same3a. move ! (1 ∷ []) $ drop ! $ move ! (1 ∷ []) $ split ! $ move ! (1 ∷ []) $ peeks ! mSeen.the-row (Is mSeen.the-row) (shows 𝓤 H A mSeen.the-row) r3 (z3 ∷ []) (λ i3. drop ! $ land ! (from ! (stop !)) (init ! 21 refl (LL.lawful mSeen.the-type lSeen.the-laws 𝓤 H A W .typed r3 _ i3 .0)) $
+        tidy W (_ ∷ _ ∷ _ ∷ _ ∷ _ ∷ _ ∷ _ ∷ _ ∷ _ ∷ _ ∷ _ ∷ _ ∷ _ ∷ _ ∷ _ ∷ _ ∷ _ ∷ _ ∷ _ ∷ _ ∷ _ ∷ _ ∷ _ ∷ _ ∷ _ ∷ _ ∷ _ ∷ _ ∷ _ ∷ _ ∷ _ ∷ _ ∷ _ ∷ _ ∷ _ ∷ _ ∷ _ ∷ _ ∷ _ ∷ []) $ split ! $ move ! (1 ∷ []) $ split ! $ move ! (1 ∷ []) $ split ! $ move ! (1 ∷ []) $ split ! $ move ! (1 ∷ []) $ split ! $ move ! (1 ∷ []) $ split ! $ move ! (1 ∷ []) $ split ! $ move ! (1 ∷ []) $ split ! $ move ! (1 ∷ []) $ split ! $ move ! (1 ∷ []) $ drop ! $ move ! (8 ∷ []) $ lft-end ! tt $ move ! (0 ∷ 18 ∷ 9 ∷ []) $ use3 W (later (‵ (O2 (ws3 .0)) ⊛ ‵ (flft κ₀ q₀))) (backs2 (named 0) ν3a δ3a (ys2) (ws3 .0) (refl) room2 same3a) $ await ! tt $ split ! $
+        assigns-last ! (of-opd ! (load ! (from ! (stop !)) (look ! 28 refl))) (from ! (stop !)) (init ! 26 refl (LL.lawful mSeen.the-type lSeen.the-laws 𝓤 H A W .typed r3 _ i3 .0)) $
         exec ! C Λ ((lSeen.mir, l₀) ∷ (tyInt w32, l₁) ∷ (sliceTy (tyRef (named 0) mut (tyInt w64)), l₂) ∷ (tyInt w64, l₃) ∷ (tyInt w64, l₄) ∷ (tyInt w64, l₅) ∷ (tyInt w64, l₆) ∷ (sliceTy (tyRef (named 1) imm (tyInt w64)), l₇) ∷ (sliceTy (tyRef (named 2) imm (tyInt w64)), l₈) ∷ (sliceTy (tyRef (named 3) imm (pointee (mEntry.the-row .written))), l₉) ∷ (sliceTy (tyRef (named 4) imm (pointee (mEntry.the-row .written))), l₁₀) ∷ (sliceTy (tyRef (named 5) imm (pointee (mEntry.the-row .written))), l₁₁) ∷ (sliceTy (tyRef (named 6) imm (pointee (mEntry.the-row .written))), l₁₂) ∷ (sliceTy (tyRef (named 7) imm (pointee (mEntry.the-row .written))), l₁₃) ∷ (sliceTy (tyRef (named 8) imm (pointee (mEntry.the-row .written))), l₁₄) ∷ (tyBool, l₁₅) ∷ (lSeen.mir, l₁₆) ∷ (lSeen.mir, l₁₇) ∷ (tyBool, l₁₈) ∷ (lSeen.mir, l₁₉) ∷ (tyRef erased mut (tyInt w64), l₂₀) ∷ (sliceTy (tyRef erased mut (tyInt w64)), l₂₁) ∷ []) Mir.t-5 (atRet ((lSeen.mir, l₀) ∷ (tyInt w32, l₁) ∷ (sliceTy (tyRef (named 0) mut (tyInt w64)), l₂) ∷ (tyInt w64, l₃) ∷ (tyInt w64, l₄) ∷ (tyInt w64, l₅) ∷ (tyInt w64, l₆) ∷ (sliceTy (tyRef (named 1) imm (tyInt w64)), l₇) ∷ (sliceTy (tyRef (named 2) imm (tyInt w64)), l₈) ∷ (sliceTy (tyRef (named 3) imm (pointee (mEntry.the-row .written))), l₉) ∷ (sliceTy (tyRef (named 4) imm (pointee (mEntry.the-row .written))), l₁₀) ∷ (sliceTy (tyRef (named 5) imm (pointee (mEntry.the-row .written))), l₁₁) ∷ (sliceTy (tyRef (named 6) imm (pointee (mEntry.the-row .written))), l₁₂) ∷ (sliceTy (tyRef (named 7) imm (pointee (mEntry.the-row .written))), l₁₃) ∷ (sliceTy (tyRef (named 8) imm (pointee (mEntry.the-row .written))), l₁₄) ∷ (tyBool, l₁₅) ∷ (lSeen.mir, l₁₆) ∷ (lSeen.mir, l₁₇) ∷ (tyBool, l₁₈) ∷ (lSeen.mir, l₁₉) ∷ (tyRef erased mut (tyInt w64), l₂₀) ∷ (sliceTy (tyRef erased mut (tyInt w64)), l₂₁) ∷ []) Post) $
-        assigns ! (of-opd ! (load ! (from ! (stop !)) (look ! 48 refl))) (from ! (stop !)) (init ! 86 refl (LL.lawful mSeen.the-type lSeen.the-laws 𝓤 H A W .typed r3 _ i3 .0)) $
-        returns ! (look ! 86 refl) $ forget ! 86 refl $ forget ! 84 refl $ forget ! 82 refl $ forget ! 80 refl $ forget ! 78 refl $ forget ! 76 refl $ forget ! 74 refl $ forget ! 72 refl $ forget ! 70 refl $ forget ! 68 refl $ forget ! 66 refl $ forget ! 64 refl $ forget ! 62 refl $ forget ! 60 refl $ forget ! 58 refl $ forget ! 56 refl $ forget ! 54 refl $ forget ! 52 refl $ forget ! 50 refl $ forget ! 48 refl $ forget ! 46 refl $ forget ! 44 refl $
-        move ! (86 ∷ 87 ∷ []) $ free1 ! $ move ! (84 ∷ 85 ∷ []) $ free1 ! $ move ! (82 ∷ 83 ∷ []) $ free1 ! $ move ! (80 ∷ 81 ∷ []) $ free1 ! $ move ! (78 ∷ 79 ∷ []) $ free1 ! $ move ! (76 ∷ 77 ∷ []) $ free1 ! $ move ! (74 ∷ 75 ∷ []) $ free1 ! $ move ! (72 ∷ 73 ∷ []) $ free1 ! $ move ! (70 ∷ 71 ∷ []) $ free1 ! $ move ! (68 ∷ 69 ∷ []) $ free1 ! $ move ! (66 ∷ 67 ∷ []) $ free1 ! $ move ! (64 ∷ 65 ∷ []) $ free1 ! $ move ! (62 ∷ 63 ∷ []) $ free1 ! $ move ! (60 ∷ 61 ∷ []) $ free1 ! $ move ! (58 ∷ 59 ∷ []) $ free1 ! $ move ! (56 ∷ 57 ∷ []) $ free1 ! $ move ! (54 ∷ 55 ∷ []) $ free1 ! $ move ! (52 ∷ 53 ∷ []) $ free1 ! $ move ! (50 ∷ 51 ∷ []) $ free1 ! $ move ! (48 ∷ 49 ∷ []) $ free1 ! $ move ! (46 ∷ 47 ∷ []) $ free1 ! $ move ! (44 ∷ 45 ∷ []) $ free1 ! $ free0 ! $
+        assigns ! (of-opd ! (load ! (from ! (stop !)) (look ! 26 refl))) (from ! (stop !)) (init ! 45 refl (LL.lawful mSeen.the-type lSeen.the-laws 𝓤 H A W .typed r3 _ i3 .0)) $
+        tidy W (_ ∷ _ ∷ _ ∷ _ ∷ _ ∷ _ ∷ _ ∷ _ ∷ _ ∷ _ ∷ _ ∷ _ ∷ _ ∷ _ ∷ _ ∷ _ ∷ _ ∷ _ ∷ _ ∷ _ ∷ _ ∷ _ ∷ _ ∷ _ ∷ _ ∷ _ ∷ _ ∷ _ ∷ _ ∷ _ ∷ _ ∷ _ ∷ _ ∷ _ ∷ _ ∷ _ ∷ _ ∷ _ ∷ _ ∷ _ ∷ _ ∷ _ ∷ _ ∷ _ ∷ _ ∷ _ ∷ []) $ returns ! (look ! 45 refl) $ move ! (23 ∷ []) $ use1 W (dies ((lSeen.mir, l₀) ∷ (tyInt w32, l₁) ∷ (sliceTy (tyRef (named 0) mut (tyInt w64)), l₂) ∷ (tyInt w64, l₃) ∷ (tyInt w64, l₄) ∷ (tyInt w64, l₅) ∷ (tyInt w64, l₆) ∷ (sliceTy (tyRef (named 1) imm (tyInt w64)), l₇) ∷ (sliceTy (tyRef (named 2) imm (tyInt w64)), l₈) ∷ (sliceTy (tyRef (named 3) imm (pointee (mEntry.the-row .written))), l₉) ∷ (sliceTy (tyRef (named 4) imm (pointee (mEntry.the-row .written))), l₁₀) ∷ (sliceTy (tyRef (named 5) imm (pointee (mEntry.the-row .written))), l₁₁) ∷ (sliceTy (tyRef (named 6) imm (pointee (mEntry.the-row .written))), l₁₂) ∷ (sliceTy (tyRef (named 7) imm (pointee (mEntry.the-row .written))), l₁₃) ∷ (sliceTy (tyRef (named 8) imm (pointee (mEntry.the-row .written))), l₁₄) ∷ (tyBool, l₁₅) ∷ (lSeen.mir, l₁₆) ∷ (lSeen.mir, l₁₇) ∷ (tyBool, l₁₈) ∷ (lSeen.mir, l₁₉) ∷ (tyRef erased mut (tyInt w64), l₂₀) ∷ (sliceTy (tyRef erased mut (tyInt w64)), l₂₁) ∷ []) (‵ ftrue)) die $ free-all ! 23 ((lSeen.mir, l₀) ∷ (tyInt w32, l₁) ∷ (sliceTy (tyRef (named 0) mut (tyInt w64)), l₂) ∷ (tyInt w64, l₃) ∷ (tyInt w64, l₄) ∷ (tyInt w64, l₅) ∷ (tyInt w64, l₆) ∷ (sliceTy (tyRef (named 1) imm (tyInt w64)), l₇) ∷ (sliceTy (tyRef (named 2) imm (tyInt w64)), l₈) ∷ (sliceTy (tyRef (named 3) imm (pointee (mEntry.the-row .written))), l₉) ∷ (sliceTy (tyRef (named 4) imm (pointee (mEntry.the-row .written))), l₁₀) ∷ (sliceTy (tyRef (named 5) imm (pointee (mEntry.the-row .written))), l₁₁) ∷ (sliceTy (tyRef (named 6) imm (pointee (mEntry.the-row .written))), l₁₂) ∷ (sliceTy (tyRef (named 7) imm (pointee (mEntry.the-row .written))), l₁₃) ∷ (sliceTy (tyRef (named 8) imm (pointee (mEntry.the-row .written))), l₁₄) ∷ (tyBool, l₁₅) ∷ (lSeen.mir, l₁₆) ∷ (lSeen.mir, l₁₇) ∷ (tyBool, l₁₈) ∷ (lSeen.mir, l₁₉) ∷ (tyRef erased mut (tyInt w64), l₂₀) ∷ (sliceTy (tyRef erased mut (tyInt w64)), l₂₁) ∷ []) (kept _ ∷ kept _ ∷ kept _ ∷ kept _ ∷ kept _ ∷ kept _ ∷ kept _ ∷ kept _ ∷ kept _ ∷ kept _ ∷ kept _ ∷ kept _ ∷ kept _ ∷ kept _ ∷ kept _ ∷ kept _ ∷ kept _ ∷ kept _ ∷ kept _ ∷ kept _ ∷ kept _ ∷ kept _ ∷ []) refl $
         suffices ! _ (ends-at 𝓤 H A f.ended stayed (f.clauses 𝓤 H A at-mem run) W (((κ₀, (κ₁, (κ₂, (κ₃, (κ₄, (κ₅, (κ₆, (κ₇, (κ₈, tt))))))))), (q₀, (q₁, (q₂, (q₃, (q₄, (q₅, (q₆, (q₇, (q₈, tt))))))))), tt, a, at), tt) z3 r3 (tt, (ws3 .0, (tt, (tt, (tt, (tt, (tt, (tt, (tt, (tt, (tt, (tt, (tt, (tt, tt)))))))))))))) (tt, (same3a, (tt, (tt, (tt, (tt, (tt, (tt, (tt, (tt, (tt, (tt, (tt, (tt, tt))))))))))))))) $ says ! ((rw (← e1, b1) (e3 .0), rw (← e1, b1) (e3 .1))) $
-        nothing ! $ move ! (4 ∷ 0 ∷ []) $ join ! $ move ! (4 ∷ 0 ∷ []) $ join ! $ move ! (4 ∷ 0 ∷ []) $ join ! $ move ! (4 ∷ 0 ∷ []) $ join ! $ move ! (4 ∷ 0 ∷ []) $ join ! $ move ! (4 ∷ 0 ∷ []) $ join ! $ move ! (4 ∷ 0 ∷ []) $ join ! $ move ! (4 ∷ 0 ∷ []) $ join ! $ move ! (2 ∷ 0 ∷ []) $ join ! $ nothing ! $ move ! (17 ∷ 0 ∷ []) $ fjoin ! $ move ! (17 ∷ 0 ∷ []) $ fjoin ! $ move ! (17 ∷ 0 ∷ []) $ fjoin ! $ move ! (17 ∷ 0 ∷ []) $ fjoin ! $ move ! (17 ∷ 0 ∷ []) $ fjoin ! $ move ! (17 ∷ 0 ∷ []) $ fjoin ! $ move ! (17 ∷ 0 ∷ []) $ fjoin ! $ move ! (17 ∷ 0 ∷ []) $ fjoin ! $ move ! (24 ∷ 0 ∷ []) $ fjoin ! $ move ! (24 ∷ 0 ∷ []) $ fjoin ! $ move ! (24 ∷ 0 ∷ []) $ fjoin ! $ move ! (24 ∷ 0 ∷ []) $ fjoin ! $ move ! (2 ∷ 0 ∷ []) $ fjoin ! $ move ! (23 ∷ 0 ∷ []) $ fjoin ! $ keep ! (1 ∷ 0 ∷ []) $ frame ! $ frame ! $ owned ! mSeen.the-row (Is mSeen.the-row) (LL.makes mSeen.the-type lSeen.the-plain 𝓤 H A) r3 _ i3 $ done !)))))))))
-        (λ y1. let b1 : r1 ≡ false = is-no (r1) y1 in assigns-last ! (of-opd ! (load ! (from ! (stop !)) (look ! 40 refl))) (from ! (stop !)) (init ! 34 refl (LL.lawful mSeen.the-type lSeen.the-laws 𝓤 H A W .typed r2 _ i2 .0)) $
+        nothing ! $ move ! (3 ∷ 0 ∷ []) $ join ! $ move ! (3 ∷ 0 ∷ []) $ join ! $ move ! (3 ∷ 0 ∷ []) $ join ! $ move ! (3 ∷ 0 ∷ []) $ join ! $ move ! (3 ∷ 0 ∷ []) $ join ! $ move ! (3 ∷ 0 ∷ []) $ join ! $ move ! (3 ∷ 0 ∷ []) $ join ! $ move ! (3 ∷ 0 ∷ []) $ join ! $ move ! (2 ∷ 0 ∷ []) $ join ! $ nothing ! $ move ! (3 ∷ 0 ∷ []) $ fjoin ! $ move ! (3 ∷ 0 ∷ []) $ fjoin ! $ move ! (3 ∷ 0 ∷ []) $ fjoin ! $ move ! (3 ∷ 0 ∷ []) $ fjoin ! $ move ! (3 ∷ 0 ∷ []) $ fjoin ! $ move ! (3 ∷ 0 ∷ []) $ fjoin ! $ move ! (3 ∷ 0 ∷ []) $ fjoin ! $ move ! (3 ∷ 0 ∷ []) $ fjoin ! $ move ! (3 ∷ 0 ∷ []) $ fjoin ! $ move ! (3 ∷ 0 ∷ []) $ fjoin ! $ move ! (3 ∷ 0 ∷ []) $ fjoin ! $ move ! (3 ∷ 0 ∷ []) $ fjoin ! $ move ! (2 ∷ 0 ∷ []) $ fjoin ! $ move ! (2 ∷ 0 ∷ []) $ fjoin ! $ keep ! (1 ∷ 0 ∷ []) $ frame ! $ frame ! $ owned ! mSeen.the-row (Is mSeen.the-row) (LL.makes mSeen.the-type lSeen.the-plain 𝓤 H A) r3 _ i3 $ done !)))))))))
+        (λ y1. let b1 : r1 ≡ false = is-no (r1) y1 in assigns-last ! (of-opd ! (load ! (from ! (stop !)) (look ! 29 refl))) (from ! (stop !)) (init ! 26 refl (LL.lawful mSeen.the-type lSeen.the-laws 𝓤 H A W .typed r2 _ i2 .0)) $
         exec ! C Λ ((lSeen.mir, l₀) ∷ (tyInt w32, l₁) ∷ (sliceTy (tyRef (named 0) mut (tyInt w64)), l₂) ∷ (tyInt w64, l₃) ∷ (tyInt w64, l₄) ∷ (tyInt w64, l₅) ∷ (tyInt w64, l₆) ∷ (sliceTy (tyRef (named 1) imm (tyInt w64)), l₇) ∷ (sliceTy (tyRef (named 2) imm (tyInt w64)), l₈) ∷ (sliceTy (tyRef (named 3) imm (pointee (mEntry.the-row .written))), l₉) ∷ (sliceTy (tyRef (named 4) imm (pointee (mEntry.the-row .written))), l₁₀) ∷ (sliceTy (tyRef (named 5) imm (pointee (mEntry.the-row .written))), l₁₁) ∷ (sliceTy (tyRef (named 6) imm (pointee (mEntry.the-row .written))), l₁₂) ∷ (sliceTy (tyRef (named 7) imm (pointee (mEntry.the-row .written))), l₁₃) ∷ (sliceTy (tyRef (named 8) imm (pointee (mEntry.the-row .written))), l₁₄) ∷ (tyBool, l₁₅) ∷ (lSeen.mir, l₁₆) ∷ (lSeen.mir, l₁₇) ∷ (tyBool, l₁₈) ∷ (lSeen.mir, l₁₉) ∷ (tyRef erased mut (tyInt w64), l₂₀) ∷ (sliceTy (tyRef erased mut (tyInt w64)), l₂₁) ∷ []) Mir.t-5 (atRet ((lSeen.mir, l₀) ∷ (tyInt w32, l₁) ∷ (sliceTy (tyRef (named 0) mut (tyInt w64)), l₂) ∷ (tyInt w64, l₃) ∷ (tyInt w64, l₄) ∷ (tyInt w64, l₅) ∷ (tyInt w64, l₆) ∷ (sliceTy (tyRef (named 1) imm (tyInt w64)), l₇) ∷ (sliceTy (tyRef (named 2) imm (tyInt w64)), l₈) ∷ (sliceTy (tyRef (named 3) imm (pointee (mEntry.the-row .written))), l₉) ∷ (sliceTy (tyRef (named 4) imm (pointee (mEntry.the-row .written))), l₁₀) ∷ (sliceTy (tyRef (named 5) imm (pointee (mEntry.the-row .written))), l₁₁) ∷ (sliceTy (tyRef (named 6) imm (pointee (mEntry.the-row .written))), l₁₂) ∷ (sliceTy (tyRef (named 7) imm (pointee (mEntry.the-row .written))), l₁₃) ∷ (sliceTy (tyRef (named 8) imm (pointee (mEntry.the-row .written))), l₁₄) ∷ (tyBool, l₁₅) ∷ (lSeen.mir, l₁₆) ∷ (lSeen.mir, l₁₇) ∷ (tyBool, l₁₈) ∷ (lSeen.mir, l₁₉) ∷ (tyRef erased mut (tyInt w64), l₂₀) ∷ (sliceTy (tyRef erased mut (tyInt w64)), l₂₁) ∷ []) Post) $
-        assigns ! (of-opd ! (load ! (from ! (stop !)) (look ! 34 refl))) (from ! (stop !)) (init ! 72 refl (LL.lawful mSeen.the-type lSeen.the-laws 𝓤 H A W .typed r2 _ i2 .0)) $
-        returns ! (look ! 72 refl) $ forget ! 72 refl $ forget ! 70 refl $ forget ! 68 refl $ forget ! 66 refl $ forget ! 64 refl $ forget ! 62 refl $ forget ! 60 refl $ forget ! 58 refl $ forget ! 56 refl $ forget ! 54 refl $ forget ! 52 refl $ forget ! 50 refl $ forget ! 48 refl $ forget ! 46 refl $ forget ! 44 refl $ forget ! 42 refl $ forget ! 40 refl $ forget ! 36 refl $ forget ! 34 refl $
-        move ! (72 ∷ 73 ∷ []) $ free1 ! $ move ! (70 ∷ 71 ∷ []) $ free1 ! $ move ! (68 ∷ 69 ∷ []) $ free1 ! $ move ! (66 ∷ 67 ∷ []) $ free1 ! $ move ! (64 ∷ 65 ∷ []) $ free1 ! $ move ! (62 ∷ 63 ∷ []) $ free1 ! $ move ! (60 ∷ 61 ∷ []) $ free1 ! $ move ! (58 ∷ 59 ∷ []) $ free1 ! $ move ! (56 ∷ 57 ∷ []) $ free1 ! $ move ! (54 ∷ 55 ∷ []) $ free1 ! $ move ! (52 ∷ 53 ∷ []) $ free1 ! $ move ! (50 ∷ 51 ∷ []) $ free1 ! $ move ! (48 ∷ 49 ∷ []) $ free1 ! $ move ! (46 ∷ 47 ∷ []) $ free1 ! $ move ! (44 ∷ 45 ∷ []) $ free1 ! $ move ! (42 ∷ 43 ∷ []) $ free1 ! $ move ! (40 ∷ 41 ∷ []) $ free1 ! $ move ! (38 ∷ 39 ∷ []) $ free1 ! $ move ! (36 ∷ 37 ∷ []) $ free1 ! $ move ! (34 ∷ 35 ∷ []) $ free1 ! $ move ! (32 ∷ 33 ∷ []) $ free1 ! $ move ! (30 ∷ 31 ∷ []) $ free1 ! $ free0 ! $
+        assigns ! (of-opd ! (load ! (from ! (stop !)) (look ! 26 refl))) (from ! (stop !)) (init ! 45 refl (LL.lawful mSeen.the-type lSeen.the-laws 𝓤 H A W .typed r2 _ i2 .0)) $
+        tidy W (_ ∷ _ ∷ _ ∷ _ ∷ _ ∷ _ ∷ _ ∷ _ ∷ _ ∷ _ ∷ _ ∷ _ ∷ _ ∷ _ ∷ _ ∷ _ ∷ _ ∷ _ ∷ _ ∷ _ ∷ _ ∷ _ ∷ _ ∷ _ ∷ _ ∷ _ ∷ _ ∷ _ ∷ _ ∷ _ ∷ _ ∷ _ ∷ _ ∷ _ ∷ _ ∷ _ ∷ _ ∷ _ ∷ _ ∷ _ ∷ _ ∷ _ ∷ _ ∷ _ ∷ _ ∷ _ ∷ []) $ returns ! (look ! 45 refl) $ move ! (23 ∷ []) $ use1 W (dies ((lSeen.mir, l₀) ∷ (tyInt w32, l₁) ∷ (sliceTy (tyRef (named 0) mut (tyInt w64)), l₂) ∷ (tyInt w64, l₃) ∷ (tyInt w64, l₄) ∷ (tyInt w64, l₅) ∷ (tyInt w64, l₆) ∷ (sliceTy (tyRef (named 1) imm (tyInt w64)), l₇) ∷ (sliceTy (tyRef (named 2) imm (tyInt w64)), l₈) ∷ (sliceTy (tyRef (named 3) imm (pointee (mEntry.the-row .written))), l₉) ∷ (sliceTy (tyRef (named 4) imm (pointee (mEntry.the-row .written))), l₁₀) ∷ (sliceTy (tyRef (named 5) imm (pointee (mEntry.the-row .written))), l₁₁) ∷ (sliceTy (tyRef (named 6) imm (pointee (mEntry.the-row .written))), l₁₂) ∷ (sliceTy (tyRef (named 7) imm (pointee (mEntry.the-row .written))), l₁₃) ∷ (sliceTy (tyRef (named 8) imm (pointee (mEntry.the-row .written))), l₁₄) ∷ (tyBool, l₁₅) ∷ (lSeen.mir, l₁₆) ∷ (lSeen.mir, l₁₇) ∷ (tyBool, l₁₈) ∷ (lSeen.mir, l₁₉) ∷ (tyRef erased mut (tyInt w64), l₂₀) ∷ (sliceTy (tyRef erased mut (tyInt w64)), l₂₁) ∷ []) (‵ ftrue)) die $ free-all ! 23 ((lSeen.mir, l₀) ∷ (tyInt w32, l₁) ∷ (sliceTy (tyRef (named 0) mut (tyInt w64)), l₂) ∷ (tyInt w64, l₃) ∷ (tyInt w64, l₄) ∷ (tyInt w64, l₅) ∷ (tyInt w64, l₆) ∷ (sliceTy (tyRef (named 1) imm (tyInt w64)), l₇) ∷ (sliceTy (tyRef (named 2) imm (tyInt w64)), l₈) ∷ (sliceTy (tyRef (named 3) imm (pointee (mEntry.the-row .written))), l₉) ∷ (sliceTy (tyRef (named 4) imm (pointee (mEntry.the-row .written))), l₁₀) ∷ (sliceTy (tyRef (named 5) imm (pointee (mEntry.the-row .written))), l₁₁) ∷ (sliceTy (tyRef (named 6) imm (pointee (mEntry.the-row .written))), l₁₂) ∷ (sliceTy (tyRef (named 7) imm (pointee (mEntry.the-row .written))), l₁₃) ∷ (sliceTy (tyRef (named 8) imm (pointee (mEntry.the-row .written))), l₁₄) ∷ (tyBool, l₁₅) ∷ (lSeen.mir, l₁₆) ∷ (lSeen.mir, l₁₇) ∷ (tyBool, l₁₈) ∷ (lSeen.mir, l₁₉) ∷ (tyRef erased mut (tyInt w64), l₂₀) ∷ (sliceTy (tyRef erased mut (tyInt w64)), l₂₁) ∷ []) (kept _ ∷ kept _ ∷ kept _ ∷ kept _ ∷ kept _ ∷ kept _ ∷ kept _ ∷ kept _ ∷ kept _ ∷ kept _ ∷ kept _ ∷ kept _ ∷ kept _ ∷ kept _ ∷ kept _ ∷ kept _ ∷ kept _ ∷ bare ∷ kept _ ∷ kept _ ∷ bare ∷ bare ∷ []) refl $
         suffices ! _ (ends-at 𝓤 H A f.ended stayed (f.clauses 𝓤 H A at-mem run) W (((κ₀, (κ₁, (κ₂, (κ₃, (κ₄, (κ₅, (κ₆, (κ₇, (κ₈, tt))))))))), (q₀, (q₁, (q₂, (q₃, (q₄, (q₅, (q₆, (q₇, (q₈, tt))))))))), tt, a, at), tt) z2 r2 (tt, (ys2, (tt, (tt, (tt, (tt, (tt, (tt, (tt, (tt, (tt, (tt, (tt, (tt, tt)))))))))))))) (tt, (refl, (tt, (tt, (tt, (tt, (tt, (tt, (tt, (tt, (tt, (tt, (tt, (tt, tt))))))))))))))) $ says ! ((rw (← e1, b1) e2, rw (← e1, b1) refl)) $
-        nothing ! $ move ! (7 ∷ 0 ∷ []) $ join ! $ move ! (7 ∷ 0 ∷ []) $ join ! $ move ! (7 ∷ 0 ∷ []) $ join ! $ move ! (7 ∷ 0 ∷ []) $ join ! $ move ! (7 ∷ 0 ∷ []) $ join ! $ move ! (7 ∷ 0 ∷ []) $ join ! $ move ! (7 ∷ 0 ∷ []) $ join ! $ move ! (7 ∷ 0 ∷ []) $ join ! $ move ! (7 ∷ 0 ∷ []) $ join ! $ nothing ! $ move ! (9 ∷ 0 ∷ []) $ fjoin ! $ move ! (9 ∷ 0 ∷ []) $ fjoin ! $ move ! (9 ∷ 0 ∷ []) $ fjoin ! $ move ! (9 ∷ 0 ∷ []) $ fjoin ! $ move ! (9 ∷ 0 ∷ []) $ fjoin ! $ move ! (9 ∷ 0 ∷ []) $ fjoin ! $ move ! (9 ∷ 0 ∷ []) $ fjoin ! $ move ! (9 ∷ 0 ∷ []) $ fjoin ! $ move ! (9 ∷ 0 ∷ []) $ fjoin ! $ move ! (9 ∷ 0 ∷ []) $ fjoin ! $ move ! (9 ∷ 0 ∷ []) $ fjoin ! $ move ! (9 ∷ 0 ∷ []) $ fjoin ! $ move ! (9 ∷ 0 ∷ []) $ fjoin ! $ move ! (9 ∷ 0 ∷ []) $ fjoin ! $ keep ! (1 ∷ 0 ∷ []) $ frame ! $ frame ! $ owned ! mSeen.the-row (Is mSeen.the-row) (LL.makes mSeen.the-type lSeen.the-plain 𝓤 H A) r2 _ i2 $ done !)
-        ))))))))))))))))))))))))))))))))
+        nothing ! $ move ! (1 ∷ 0 ∷ []) $ join ! $ move ! (1 ∷ 0 ∷ []) $ join ! $ move ! (1 ∷ 0 ∷ []) $ join ! $ move ! (1 ∷ 0 ∷ []) $ join ! $ move ! (1 ∷ 0 ∷ []) $ join ! $ move ! (1 ∷ 0 ∷ []) $ join ! $ move ! (1 ∷ 0 ∷ []) $ join ! $ move ! (1 ∷ 0 ∷ []) $ join ! $ move ! (1 ∷ 0 ∷ []) $ join ! $ nothing ! $ move ! (2 ∷ 0 ∷ []) $ fjoin ! $ move ! (2 ∷ 0 ∷ []) $ fjoin ! $ move ! (2 ∷ 0 ∷ []) $ fjoin ! $ move ! (2 ∷ 0 ∷ []) $ fjoin ! $ move ! (2 ∷ 0 ∷ []) $ fjoin ! $ move ! (2 ∷ 0 ∷ []) $ fjoin ! $ move ! (2 ∷ 0 ∷ []) $ fjoin ! $ move ! (2 ∷ 0 ∷ []) $ fjoin ! $ move ! (2 ∷ 0 ∷ []) $ fjoin ! $ move ! (2 ∷ 0 ∷ []) $ fjoin ! $ move ! (2 ∷ 0 ∷ []) $ fjoin ! $ move ! (2 ∷ 0 ∷ []) $ fjoin ! $ move ! (2 ∷ 0 ∷ []) $ fjoin ! $ move ! (2 ∷ 0 ∷ []) $ fjoin ! $ keep ! (1 ∷ 0 ∷ []) $ frame ! $ frame ! $ owned ! mSeen.the-row (Is mSeen.the-row) (LL.makes mSeen.the-type lSeen.the-plain 𝓤 H A) r2 _ i2 $ done !)
+        )))))))))))))))))))))))))))))))))
 
 module _ {M : Type 1} (𝓤 : URA M) (H : Heap 𝓤) (A : Atoms 𝓤) (W : Given 𝓤 H A) (mem : Memory → SProp 𝓤) (run : Routine → Fun 𝓤) where
   walks : (C : Calls 𝓤 H) (Λ : Loops 𝓤 H) → FmC 𝓤 H (W .laws) C → Triple 𝓤 (C #g1) (Callee-g1 𝓤 H A mem run) → Triple 𝓤 (C #g2) (Callee-g2 𝓤 H A mem run) → Triple 𝓤 (C #g3) (Callee-g3 𝓤 H A mem run) → Walks 𝓤 H A f.ended stayed (WpFn 𝓤 H C Λ code.function) (f.clauses 𝓤 H A mem run)

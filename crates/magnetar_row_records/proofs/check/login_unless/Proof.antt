@@ -20,7 +20,7 @@ use contract.Monad.{Fun, fact}
 use contract.Running.{givenOf, tables, tablesOf}
 use types.Kit.{Given, ‵, raw, _⊛_, ⋆, some, later, _$_, _∵_, !, qed, by, move, keep, drop, use1, use2, use3, split, join, pick, fsplit, fsplit3, fjoin, fjoin3, feqL, feqI, rewrite, atRet, suffices, frame, await, done}
 use types.Part.{agg, whole, sub, look-in}
-use types.Run.{look, look-raw, init, store, store-raw, forget, stop, hop, fld, from, load, unit-lit, of-opd, addr, and-then, no-more, lit, true-lit, false-lit, assigns, assigns-last, land, land-last, first, branches, skips, exec, returns, enter, alloc1, alloc0, params1, pass1, pass0, free1, free0}
+use types.Run.{look, look-raw, init, store, store-raw, stop, hop, fld, from, load, unit-lit, of-opd, addr, and-then, no-more, lit, true-lit, false-lit, assigns, assigns-last, land, land-last, first, branches, skips, exec, returns, enter, alloc0, params1, pass1, pass0}
 use types.Tokens.{lft-new, lft-end}
 use sound.WpLaws.{FmC, fmOf, WpFn-mono}
 use denote.RattleType.{owns}
@@ -55,6 +55,7 @@ use Rattle.magnetar_row_records.proofs.steps.Seen.Laws as lSeen
 use Rattle.magnetar_inplace.specs.declared.records.Entry.{Entry}
 use Rattle.magnetar_inplace.proofs.records.Entry as mEntry
 use Rattle.magnetar_inplace.proofs.records.Entry.Laws as lEntry
+use Rattle.magnetar_inplace.proofs.Locals.{tidy, bare, kept, dies, alloc, hide, free-all}
 use Rattle.magnetar_inplace.proofs.Again.{LentAgain, lends-again, comes-back}
 use Rattle.magnetar_row_records.proofs.steps.is_nothing as g1
 use Rattle.magnetar_row_records.proofs.steps.is_nothing.Symbol as g1-def
@@ -174,40 +175,38 @@ module _ {M : Type 1} (𝓤 : URA M) (H : Heap 𝓤) (A : Atoms 𝓤) (W : Given
     walk : ent 𝓤 (onEntry 𝓤 H A f.signature (κ₀, (κ₁, (κ₂, (κ₃, (κ₄, (κ₅, tt)))))) (q₀, (q₁, (q₂, (q₃, (q₄, (q₅, tt)))))) a at) (WpFn 𝓤 H C Λ code.function (v1 ∷ v2 ∷ v3 ∷ v4 ∷ v5 ∷ v6 ∷ v7 ∷ v8 ∷ v9 ∷ v10 ∷ v11 ∷ []) Post)
     walk =
         qed W ((‵ (flft κ₀ q₀) ⊛ ‵ (flft κ₁ q₁) ⊛ ‵ (flft κ₂ q₂) ⊛ ‵ (flft κ₃ q₃) ⊛ ‵ (flft κ₄ q₄) ⊛ ‵ (flft κ₅ q₅) ⊛ ‵ ftrue) ∷ ‵ (owns (mSeen.the-row ∷ u64 ∷ u64 ∷ MutSlice (named 0) κ₀ u64 ∷ u64 ∷ u64 ∷ ShrSlice (named 1) κ₁ u64 ∷ ShrSlice (named 2) κ₂ u64 ∷ ShrSlice (named 3) κ₃ mEntry.the-row ∷ ShrSlice (named 4) κ₄ mEntry.the-row ∷ ShrSlice (named 5) κ₅ mEntry.the-row ∷ []) a at) ∷ []) ∵ enter ! C Λ code.function (v1 ∷ v2 ∷ v3 ∷ v4 ∷ v5 ∷ v6 ∷ v7 ∷ v8 ∷ v9 ∷ v10 ∷ v11 ∷ []) _ $
-        alloc1 ! (λ l₀. alloc1 ! (λ l₁. alloc1 ! (λ l₂. alloc1 ! (λ l₃. alloc1 ! (λ l₄. alloc1 ! (λ l₅. alloc1 ! (λ l₆. alloc1 ! (λ l₇. alloc1 ! (λ l₈. alloc1 ! (λ l₉. alloc1 ! (λ l₁₀. alloc1 ! (λ l₁₁. alloc1 ! (λ l₁₂. alloc1 ! (λ l₁₃. alloc1 ! (λ l₁₄. alloc1 ! (λ l₁₅. alloc1 ! (λ l₁₆. alloc1 ! (λ l₁₇. alloc0 ! $ params1 ! $ pass1 ! (init ! 32 refl (LL.lawful mSeen.the-type lSeen.the-laws 𝓤 H A W .typed n1 _ w1 .0)) $ pass1 ! (init ! 30 refl (uint-lawful 𝓤 H A W w64 .typed n2 _ w2 .0)) $ pass1 ! (init ! 28 refl (uint-lawful 𝓤 H A W w64 .typed n3 _ w3 .0)) $ pass1 ! (init ! 26 refl (tt, (tt, (record { fits = room4 .0 }, tt)))) $ pass1 ! (init ! 24 refl (uint-lawful 𝓤 H A W w64 .typed n5 _ w5 .0)) $ pass1 ! (init ! 22 refl (uint-lawful 𝓤 H A W w64 .typed n6 _ w6 .0)) $ pass1 ! (init ! 20 refl (shr-slice-lawful 𝓤 H A W (named 1) κ₁ u64 .typed s7 (v7 ∷ []) w7 .0)) $ pass1 ! (init ! 18 refl (shr-slice-lawful 𝓤 H A W (named 2) κ₂ u64 .typed s8 (v8 ∷ []) w8 .0)) $ pass1 ! (init ! 16 refl (shr-slice-lawful 𝓤 H A W (named 3) κ₃ mEntry.the-row .typed s9 (v9 ∷ []) w9 .0)) $ pass1 ! (init ! 14 refl (shr-slice-lawful 𝓤 H A W (named 4) κ₄ mEntry.the-row .typed s10 (v10 ∷ []) w10 .0)) $ pass1 ! (init ! 12 refl (shr-slice-lawful 𝓤 H A W (named 5) κ₅ mEntry.the-row .typed s11 (v11 ∷ []) w11 .0)) $ pass0 ! $
-        move ! (37 ∷ []) $ fsplit ! $ move ! (1 ∷ []) $ fsplit ! $ move ! (1 ∷ []) $ fsplit ! $ move ! (1 ∷ []) $ fsplit ! $ move ! (1 ∷ []) $ fsplit ! $ move ! (1 ∷ []) $ fsplit ! $ move ! (1 ∷ []) $ fsplit ! $ move ! (1 ∷ []) $ fsplit ! $ move ! (1 ∷ []) $ fsplit ! $ move ! (1 ∷ []) $ fsplit ! $ move ! (1 ∷ []) $ fsplit ! $ move ! (1 ∷ []) $ move ! (48 ∷ []) $ split ! $ move ! (1 ∷ []) $ split ! $ move ! (1 ∷ []) $ split ! $ move ! (1 ∷ []) $ split ! $ move ! (1 ∷ []) $ split ! $ move ! (1 ∷ []) $ split ! $ move ! (1 ∷ []) $
-        nothing ! $
+        nothing ! $ alloc ! (λ l₀. alloc ! (λ l₁. alloc ! (λ l₂. alloc ! (λ l₃. alloc ! (λ l₄. alloc ! (λ l₅. alloc ! (λ l₆. alloc ! (λ l₇. alloc ! (λ l₈. alloc ! (λ l₉. alloc ! (λ l₁₀. alloc ! (λ l₁₁. alloc ! (λ l₁₂. alloc ! (λ l₁₃. alloc ! (λ l₁₄. alloc ! (λ l₁₅. alloc ! (λ l₁₆. alloc ! (λ l₁₇. alloc0 ! $ hide ! (λ died die. params1 ! $ pass1 ! (init ! 17 refl (LL.lawful mSeen.the-type lSeen.the-laws 𝓤 H A W .typed n1 _ w1 .0)) $ pass1 ! (init ! 16 refl (uint-lawful 𝓤 H A W w64 .typed n2 _ w2 .0)) $ pass1 ! (init ! 15 refl (uint-lawful 𝓤 H A W w64 .typed n3 _ w3 .0)) $ pass1 ! (init ! 14 refl (tt, (tt, (record { fits = room4 .0 }, tt)))) $ pass1 ! (init ! 13 refl (uint-lawful 𝓤 H A W w64 .typed n5 _ w5 .0)) $ pass1 ! (init ! 12 refl (uint-lawful 𝓤 H A W w64 .typed n6 _ w6 .0)) $ pass1 ! (init ! 11 refl (shr-slice-lawful 𝓤 H A W (named 1) κ₁ u64 .typed s7 (v7 ∷ []) w7 .0)) $ pass1 ! (init ! 10 refl (shr-slice-lawful 𝓤 H A W (named 2) κ₂ u64 .typed s8 (v8 ∷ []) w8 .0)) $ pass1 ! (init ! 9 refl (shr-slice-lawful 𝓤 H A W (named 3) κ₃ mEntry.the-row .typed s9 (v9 ∷ []) w9 .0)) $ pass1 ! (init ! 8 refl (shr-slice-lawful 𝓤 H A W (named 4) κ₄ mEntry.the-row .typed s10 (v10 ∷ []) w10 .0)) $ pass1 ! (init ! 7 refl (shr-slice-lawful 𝓤 H A W (named 5) κ₅ mEntry.the-row .typed s11 (v11 ∷ []) w11 .0)) $ pass0 ! $
+        move ! (20 ∷ []) $ fsplit ! $ move ! (1 ∷ []) $ fsplit ! $ move ! (1 ∷ []) $ fsplit ! $ move ! (1 ∷ []) $ fsplit ! $ move ! (1 ∷ []) $ fsplit ! $ move ! (1 ∷ []) $ fsplit ! $ move ! (1 ∷ []) $ fsplit ! $ move ! (1 ∷ []) $ fsplit ! $ move ! (1 ∷ []) $ fsplit ! $ move ! (1 ∷ []) $ fsplit ! $ move ! (1 ∷ []) $ fsplit ! $ move ! (1 ∷ []) $ drop ! $ move ! (30 ∷ []) $ split ! $ move ! (1 ∷ []) $ split ! $ move ! (1 ∷ []) $ split ! $ move ! (1 ∷ []) $ split ! $ move ! (1 ∷ []) $ split ! $ move ! (1 ∷ []) $ split ! $ move ! (1 ∷ []) $ drop ! $ tidy W (_ ∷ _ ∷ _ ∷ _ ∷ _ ∷ _ ∷ _ ∷ _ ∷ _ ∷ _ ∷ _ ∷ _ ∷ _ ∷ _ ∷ _ ∷ _ ∷ _ ∷ _ ∷ _ ∷ _ ∷ _ ∷ _ ∷ _ ∷ _ ∷ _ ∷ _ ∷ _ ∷ _ ∷ _ ∷ _ ∷ _ ∷ _ ∷ _ ∷ _ ∷ _ ∷ _ ∷ []) $
+        tidy W (_ ∷ _ ∷ _ ∷ _ ∷ _ ∷ _ ∷ _ ∷ _ ∷ _ ∷ _ ∷ _ ∷ _ ∷ _ ∷ _ ∷ _ ∷ _ ∷ _ ∷ _ ∷ _ ∷ _ ∷ _ ∷ _ ∷ _ ∷ _ ∷ _ ∷ _ ∷ _ ∷ _ ∷ _ ∷ _ ∷ _ ∷ _ ∷ _ ∷ _ ∷ _ ∷ _ ∷ []) $ nothing ! $
         -- call 1
         use1 W (raw (Callee-g1 𝓤 H A at-mem run .pre ((tt, tt, tt, (n1, tt), (u1 ∷ [], tt)), tt))) (qed W ((‵ ftrue) ∷ []) ∵ nothing ! $ owned ! mSeen.the-row (Is mSeen.the-row) (LL.makes mSeen.the-type lSeen.the-plain 𝓤 H A) (n1) _ w1 $ fjoin ! $ move ! (1 ∷ 0 ∷ []) $ join ! $ nothing ! $ move ! (1 ∷ 0 ∷ []) $ frame ! $ done !) $
-        calls-at ! fm (Callee-g1 𝓤 H A at-mem run) known-g1 ((tt, tt, tt, (n1, tt), (u1 ∷ [], tt)), tt) (and-then ! (load ! (from ! (stop !)) (look ! 52 refl)) (no-more !)) (λ z1.
+        calls-at ! fm (Callee-g1 𝓤 H A at-mem run) known-g1 ((tt, tt, tt, (n1, tt), (u1 ∷ [], tt)), tt) (and-then ! (load ! (from ! (stop !)) (look ! 35 refl)) (no-more !)) (λ z1.
         use1 W (later (some (λ (r1 : Bool). ((‵ ftrue) ⊛ ‵ (bool .own r1 (z1 ∷ []))) ⊛ some (λ (ws : Lasts g1.ended tt (n1, tt)). ‵ (lasts g1.ended tt (n1, tt) ws) ⊛ raw (g1.clauses 𝓤 H A at-mem run tt (n1, tt) .ensures tt r1 (atExit g1.ended tt (n1, tt) ws)))))) (id⊢ 𝓤 _) $ await ! tt $ pick ! (λ r1. split ! $ move ! (1 ∷ []) $ pick ! (λ ws1. split ! $ move ! (1 ∷ []) $ heard ! _ (λ e1.
-        fsplit ! $ move ! (2 ∷ []) $ split ! $ move ! (1 ∷ []) $ peeks ! bool (Is bool) (shows 𝓤 H A bool) r1 (z1 ∷ []) (λ i1. drop ! $ land ! (from ! (stop !)) (init ! 32 refl (bool-lawful 𝓤 H A W .typed r1 _ i1 .0)) $
-        assigns ! (of-opd ! (load ! (from ! (stop !)) (look ! 32 refl))) (from ! (stop !)) (init ! 28 refl (bool-lawful 𝓤 H A W .typed r1 _ i1 .0)) $
-        rewrite ! 28 (λ (w : Val). ‵ (fat fullShare tyBool l₁₄ 0 w)) (ap only i1) refl $ first ! $ branches ! (load ! (from ! (stop !)) (look ! 28 refl))
-        (λ y1. let b1 : r1 ≡ true = is-yes (r1) y1 in assigns ! (addr ! (from ! (fld ! refl (hop ! (look-in ! 48 (sub ! 0 refl (whole !))) (stop !))))) (from ! (stop !)) (init ! 24 refl (tt, tt)) $
-        assigns ! (agg ! (and-then ! (load ! (from ! (stop !)) (look ! 24 refl)) (and-then ! (load ! (from ! (fld ! refl (stop !))) (look-in ! 48 (sub ! 1 refl (whole !)))) (no-more !)))) (from ! (stop !)) (init ! 22 refl (tt, (tt, (record { fits = room4 .0 }, tt)))) $
-        lft-new ! tt (λ ν2d. move ! (19 ∷ 10 ∷ []) $ use2 W (later (some (λ (δ : GName). ‵ (MutSlice (named 0) (ν2d ∷ []) u64 .own (ref4 δ (ys4)) (v4 ∷ [])) ⊛ ‵ (Lent4 ν2d δ (ys4))))) (lends4 (named 0) ν2d (ys4) (refl)) $ await ! tt $ pick ! (λ δ2d. split ! $ move ! (17 ∷ []) $ use1 W (‵ (O7) ⊛ ‵ (O7)) (shr-slice-copy 𝓤 H A W (named 1) κ₁ u64 .twice s7 (v7 ∷ [])) $ split ! $ move ! (18 ∷ []) $ use1 W (‵ (O8) ⊛ ‵ (O8)) (shr-slice-copy 𝓤 H A W (named 2) κ₂ u64 .twice s8 (v8 ∷ [])) $ split ! $ move ! (19 ∷ []) $ use1 W (‵ (O9) ⊛ ‵ (O9)) (shr-slice-copy 𝓤 H A W (named 3) κ₃ mEntry.the-row .twice s9 (v9 ∷ [])) $ split ! $ move ! (20 ∷ []) $ use1 W (‵ (O10) ⊛ ‵ (O10)) (shr-slice-copy 𝓤 H A W (named 4) κ₄ mEntry.the-row .twice s10 (v10 ∷ [])) $ split ! $ move ! (21 ∷ []) $ use1 W (‵ (O11) ⊛ ‵ (O11)) (shr-slice-copy 𝓤 H A W (named 5) κ₅ mEntry.the-row .twice s11 (v11 ∷ [])) $ split ! $ nothing ! $ move ! (18 ∷ 0 ∷ []) $ join ! $ move ! (18 ∷ 0 ∷ []) $ join ! $ move ! (18 ∷ 0 ∷ []) $ join ! $ move ! (18 ∷ 0 ∷ []) $ join ! $ move ! (18 ∷ 0 ∷ []) $ join ! $ move ! (13 ∷ 0 ∷ []) $ join ! $ move ! (3 ∷ 1 ∷ []) $ join ! $ move ! (4 ∷ 0 ∷ []) $ join ! $ move ! (5 ∷ 0 ∷ []) $ join ! $ move ! (6 ∷ 0 ∷ []) $ join ! $ move ! (7 ∷ 0 ∷ []) $ join ! $ move ! (1 ∷ 0 ∷ []) $ join ! $
+        drop ! $ split ! $ move ! (1 ∷ []) $ peeks ! bool (Is bool) (shows 𝓤 H A bool) r1 (z1 ∷ []) (λ i1. drop ! $ land ! (from ! (stop !)) (init ! 24 refl (bool-lawful 𝓤 H A W .typed r1 _ i1 .0)) $
+        tidy W (_ ∷ _ ∷ _ ∷ _ ∷ _ ∷ _ ∷ _ ∷ _ ∷ _ ∷ _ ∷ _ ∷ _ ∷ _ ∷ _ ∷ _ ∷ _ ∷ _ ∷ _ ∷ _ ∷ _ ∷ _ ∷ _ ∷ _ ∷ _ ∷ _ ∷ _ ∷ _ ∷ _ ∷ _ ∷ _ ∷ _ ∷ _ ∷ _ ∷ _ ∷ _ ∷ _ ∷ _ ∷ []) $ drop ! $ assigns ! (of-opd ! (load ! (from ! (stop !)) (look ! 23 refl))) (from ! (stop !)) (init ! 21 refl (bool-lawful 𝓤 H A W .typed r1 _ i1 .0)) $
+        rewrite ! 21 (λ (w : Val). ‵ (fat fullShare tyBool l₁₄ 0 w)) (ap only i1) refl $ first ! $ branches ! (load ! (from ! (stop !)) (look ! 21 refl))
+        (λ y1. let b1 : r1 ≡ true = is-yes (r1) y1 in assigns ! (addr ! (from ! (fld ! refl (hop ! (look-in ! 31 (sub ! 0 refl (whole !))) (stop !))))) (from ! (stop !)) (init ! 19 refl (tt, tt)) $
+        assigns ! (agg ! (and-then ! (load ! (from ! (stop !)) (look ! 19 refl)) (and-then ! (load ! (from ! (fld ! refl (stop !))) (look-in ! 31 (sub ! 1 refl (whole !)))) (no-more !)))) (from ! (stop !)) (init ! 18 refl (tt, (tt, (record { fits = room4 .0 }, tt)))) $
+        lft-new ! tt (λ ν2d. move ! (14 ∷ 6 ∷ []) $ use2 W (later (some (λ (δ : GName). ‵ (MutSlice (named 0) (ν2d ∷ []) u64 .own (ref4 δ (ys4)) (v4 ∷ [])) ⊛ ‵ (Lent4 ν2d δ (ys4))))) (lends4 (named 0) ν2d (ys4) (refl)) $ await ! tt $ pick ! (λ δ2d. split ! $ move ! (12 ∷ []) $ use1 W (‵ (O7) ⊛ ‵ (O7)) (shr-slice-copy 𝓤 H A W (named 1) κ₁ u64 .twice s7 (v7 ∷ [])) $ split ! $ move ! (13 ∷ []) $ use1 W (‵ (O8) ⊛ ‵ (O8)) (shr-slice-copy 𝓤 H A W (named 2) κ₂ u64 .twice s8 (v8 ∷ [])) $ split ! $ move ! (14 ∷ []) $ use1 W (‵ (O9) ⊛ ‵ (O9)) (shr-slice-copy 𝓤 H A W (named 3) κ₃ mEntry.the-row .twice s9 (v9 ∷ [])) $ split ! $ move ! (15 ∷ []) $ use1 W (‵ (O10) ⊛ ‵ (O10)) (shr-slice-copy 𝓤 H A W (named 4) κ₄ mEntry.the-row .twice s10 (v10 ∷ [])) $ split ! $ move ! (16 ∷ []) $ use1 W (‵ (O11) ⊛ ‵ (O11)) (shr-slice-copy 𝓤 H A W (named 5) κ₅ mEntry.the-row .twice s11 (v11 ∷ [])) $ split ! $ tidy W (_ ∷ _ ∷ _ ∷ _ ∷ _ ∷ _ ∷ _ ∷ _ ∷ _ ∷ _ ∷ _ ∷ _ ∷ _ ∷ _ ∷ _ ∷ _ ∷ _ ∷ _ ∷ _ ∷ _ ∷ _ ∷ _ ∷ _ ∷ _ ∷ _ ∷ _ ∷ _ ∷ _ ∷ _ ∷ _ ∷ _ ∷ _ ∷ _ ∷ _ ∷ _ ∷ _ ∷ _ ∷ _ ∷ _ ∷ _ ∷ _ ∷ _ ∷ []) $ nothing ! $ move ! (14 ∷ 0 ∷ []) $ join ! $ move ! (14 ∷ 0 ∷ []) $ join ! $ move ! (14 ∷ 0 ∷ []) $ join ! $ move ! (14 ∷ 0 ∷ []) $ join ! $ move ! (14 ∷ 0 ∷ []) $ join ! $ move ! (13 ∷ 0 ∷ []) $ join ! $ move ! (3 ∷ 1 ∷ []) $ join ! $ move ! (4 ∷ 0 ∷ []) $ join ! $ move ! (5 ∷ 0 ∷ []) $ join ! $ move ! (6 ∷ 0 ∷ []) $ join ! $ move ! (7 ∷ 0 ∷ []) $ join ! $ move ! (1 ∷ 0 ∷ []) $ join ! $
         -- call 2
         use1 W (raw (Callee-g2 𝓤 H A at-mem run .pre ((((ν2d ∷ []), (κ₁, (κ₂, (κ₃, (κ₄, (κ₅, tt)))))), (fullShare, (q₁, (q₂, (q₃, (q₄, (q₅, tt)))))), tt, (n1, (n2, (n3, (ref4 δ2d (ys4), (n5, (n6, (s7, (s8, (s9, (s10, (s11, tt))))))))))), (u1 ∷ [], (u2 ∷ [], (u3 ∷ [], (v4 ∷ [], (u5 ∷ [], (u6 ∷ [], (v7 ∷ [], (v8 ∷ [], (v9 ∷ [], (v10 ∷ [], (v11 ∷ [], tt)))))))))))), tt))) (qed W ((‵ (flft (ν2d ∷ []) fullShare) ⊛ ‵ (flft κ₁ q₁) ⊛ ‵ (flft κ₂ q₂) ⊛ ‵ (flft κ₃ q₃) ⊛ ‵ (flft κ₄ q₄) ⊛ ‵ (flft κ₅ q₅) ⊛ ‵ ftrue) ∷ ‵ (MutSlice (named 0) (ν2d ∷ []) u64 .own (ref4 δ2d (ys4)) (v4 ∷ [])) ∷ ‵ (ShrSlice (named 1) κ₁ u64 .own s7 (v7 ∷ [])) ∷ ‵ (ShrSlice (named 2) κ₂ u64 .own s8 (v8 ∷ [])) ∷ ‵ (ShrSlice (named 3) κ₃ mEntry.the-row .own s9 (v9 ∷ [])) ∷ ‵ (ShrSlice (named 4) κ₄ mEntry.the-row .own s10 (v10 ∷ [])) ∷ ‵ (ShrSlice (named 5) κ₅ mEntry.the-row .own s11 (v11 ∷ [])) ∷ []) ∵ nothing ! $ move ! (7 ∷ 0 ∷ []) $ fjoin ! $ move ! (6 ∷ 0 ∷ []) $ fjoin ! $ move ! (5 ∷ 0 ∷ []) $ fjoin ! $ move ! (4 ∷ 0 ∷ []) $ fjoin ! $ move ! (3 ∷ 0 ∷ []) $ fjoin ! $ owned ! u64 (Is u64) (uint-makes 𝓤 H A W w64) (n6) _ w6 $ fjoin ! $ owned ! u64 (Is u64) (uint-makes 𝓤 H A W w64) (n5) _ w5 $ fjoin ! $ move ! (2 ∷ 0 ∷ []) $ fjoin ! $ owned ! u64 (Is u64) (uint-makes 𝓤 H A W w64) (n3) _ w3 $ fjoin ! $ owned ! u64 (Is u64) (uint-makes 𝓤 H A W w64) (n2) _ w2 $ fjoin ! $ owned ! mSeen.the-row (Is mSeen.the-row) (LL.makes mSeen.the-type lSeen.the-plain 𝓤 H A) (n1) _ w1 $ fjoin ! $ move ! (1 ∷ 0 ∷ []) $ join ! $ nothing ! $ move ! (1 ∷ 0 ∷ []) $ frame ! $ done !) $
-        calls-at ! fm (Callee-g2 𝓤 H A at-mem run) known-g2 ((((ν2d ∷ []), (κ₁, (κ₂, (κ₃, (κ₄, (κ₅, tt)))))), (fullShare, (q₁, (q₂, (q₃, (q₄, (q₅, tt)))))), tt, (n1, (n2, (n3, (ref4 δ2d (ys4), (n5, (n6, (s7, (s8, (s9, (s10, (s11, tt))))))))))), (u1 ∷ [], (u2 ∷ [], (u3 ∷ [], (v4 ∷ [], (u5 ∷ [], (u6 ∷ [], (v7 ∷ [], (v8 ∷ [], (v9 ∷ [], (v10 ∷ [], (v11 ∷ [], tt)))))))))))), tt) (and-then ! (load ! (from ! (stop !)) (look ! 49 refl)) (and-then ! (load ! (from ! (stop !)) (look ! 47 refl)) (and-then ! (load ! (from ! (stop !)) (look ! 45 refl)) (and-then ! (load ! (from ! (stop !)) (look ! 17 refl)) (and-then ! (load ! (from ! (stop !)) (look ! 41 refl)) (and-then ! (load ! (from ! (stop !)) (look ! 39 refl)) (and-then ! (load ! (from ! (stop !)) (look ! 37 refl)) (and-then ! (load ! (from ! (stop !)) (look ! 35 refl)) (and-then ! (load ! (from ! (stop !)) (look ! 33 refl)) (and-then ! (load ! (from ! (stop !)) (look ! 31 refl)) (and-then ! (load ! (from ! (stop !)) (look ! 29 refl)) (no-more !)))))))))))) (λ z2.
+        calls-at ! fm (Callee-g2 𝓤 H A at-mem run) known-g2 ((((ν2d ∷ []), (κ₁, (κ₂, (κ₃, (κ₄, (κ₅, tt)))))), (fullShare, (q₁, (q₂, (q₃, (q₄, (q₅, tt)))))), tt, (n1, (n2, (n3, (ref4 δ2d (ys4), (n5, (n6, (s7, (s8, (s9, (s10, (s11, tt))))))))))), (u1 ∷ [], (u2 ∷ [], (u3 ∷ [], (v4 ∷ [], (u5 ∷ [], (u6 ∷ [], (v7 ∷ [], (v8 ∷ [], (v9 ∷ [], (v10 ∷ [], (v11 ∷ [], tt)))))))))))), tt) (and-then ! (load ! (from ! (stop !)) (look ! 29 refl)) (and-then ! (load ! (from ! (stop !)) (look ! 28 refl)) (and-then ! (load ! (from ! (stop !)) (look ! 27 refl)) (and-then ! (load ! (from ! (stop !)) (look ! 13 refl)) (and-then ! (load ! (from ! (stop !)) (look ! 25 refl)) (and-then ! (load ! (from ! (stop !)) (look ! 24 refl)) (and-then ! (load ! (from ! (stop !)) (look ! 23 refl)) (and-then ! (load ! (from ! (stop !)) (look ! 22 refl)) (and-then ! (load ! (from ! (stop !)) (look ! 21 refl)) (and-then ! (load ! (from ! (stop !)) (look ! 20 refl)) (and-then ! (load ! (from ! (stop !)) (look ! 19 refl)) (no-more !)))))))))))) (λ z2.
         use1 W (later (some (λ (r2 : Seen). ((‵ (flft (ν2d ∷ []) fullShare) ⊛ ‵ (flft κ₁ q₁) ⊛ ‵ (flft κ₂ q₂) ⊛ ‵ (flft κ₃ q₃) ⊛ ‵ (flft κ₄ q₄) ⊛ ‵ (flft κ₅ q₅) ⊛ ‵ ftrue) ⊛ ‵ (mSeen.the-row .own r2 (z2 ∷ []))) ⊛ some (λ (ws : Lasts g2.ended ((ν2d ∷ []), (κ₁, (κ₂, (κ₃, (κ₄, (κ₅, tt)))))) (n1, (n2, (n3, (ref4 δ2d (ys4), (n5, (n6, (s7, (s8, (s9, (s10, (s11, tt)))))))))))). ‵ (lasts g2.ended ((ν2d ∷ []), (κ₁, (κ₂, (κ₃, (κ₄, (κ₅, tt)))))) (n1, (n2, (n3, (ref4 δ2d (ys4), (n5, (n6, (s7, (s8, (s9, (s10, (s11, tt))))))))))) ws) ⊛ raw (g2.clauses 𝓤 H A at-mem run ((ν2d ∷ []), (κ₁, (κ₂, (κ₃, (κ₄, (κ₅, tt)))))) (n1, (n2, (n3, (ref4 δ2d (ys4), (n5, (n6, (s7, (s8, (s9, (s10, (s11, tt))))))))))) .ensures tt r2 (atExit g2.ended ((ν2d ∷ []), (κ₁, (κ₂, (κ₃, (κ₄, (κ₅, tt)))))) (n1, (n2, (n3, (ref4 δ2d (ys4), (n5, (n6, (s7, (s8, (s9, (s10, (s11, tt))))))))))) ws)))))) (id⊢ 𝓤 _) $ await ! tt $ pick ! (λ r2. split ! $ move ! (1 ∷ []) $ pick ! (λ ws2. split ! $ move ! (1 ∷ []) $ heard ! _ (λ e2.
-        fsplit ! $ move ! (1 ∷ []) $ fsplit ! $ move ! (1 ∷ []) $ fsplit ! $ move ! (1 ∷ []) $ fsplit ! $ fsplit ! $ move ! (1 ∷ []) $ feqL ! (λ same2d. move ! (1 ∷ []) $ fsplit ! $ move ! (1 ∷ []) $ fsplit ! $ move ! (1 ∷ []) $ fsplit ! $ move ! (1 ∷ []) $ fsplit ! $ move ! (1 ∷ []) $ fsplit ! $ move ! (1 ∷ []) $ fsplit ! $ move ! (1 ∷ []) $ fsplit ! $ move ! (12 ∷ []) $ split ! $ move ! (1 ∷ []) $ peeks ! mSeen.the-row (Is mSeen.the-row) (shows 𝓤 H A mSeen.the-row) r2 (z2 ∷ []) (λ i2. drop ! $ land ! (from ! (stop !)) (init ! 37 refl (LL.lawful mSeen.the-type lSeen.the-laws 𝓤 H A W .typed r2 _ i2 .0)) $
-        split ! $ move ! (1 ∷ []) $ split ! $ move ! (1 ∷ []) $ split ! $ move ! (1 ∷ []) $ split ! $ move ! (1 ∷ []) $ split ! $ move ! (1 ∷ []) $ split ! $ move ! (1 ∷ []) $ move ! (6 ∷ []) $ lft-end ! tt $ move ! (0 ∷ 24 ∷ 15 ∷ []) $ use3 W (later (‵ (O4 (ws2 .1 .1 .1 .0)) ⊛ ‵ (flft κ₀ q₀))) (backs4 (named 0) ν2d δ2d (ys4) (ws2 .1 .1 .1 .0) (refl) room4 same2d) $ await ! tt $ split ! $
-        assigns-last ! (of-opd ! (load ! (from ! (stop !)) (look ! 42 refl))) (from ! (stop !)) (init ! 38 refl (LL.lawful mSeen.the-type lSeen.the-laws 𝓤 H A W .typed r2 _ i2 .0)) $
+        fsplit ! $ drop ! $ fsplit ! $ drop ! $ fsplit ! $ drop ! $ fsplit ! $ fsplit ! $ move ! (1 ∷ []) $ feqL ! (λ same2d. move ! (1 ∷ []) $ drop ! $ move ! (1 ∷ []) $ split ! $ move ! (1 ∷ []) $ peeks ! mSeen.the-row (Is mSeen.the-row) (shows 𝓤 H A mSeen.the-row) r2 (z2 ∷ []) (λ i2. drop ! $ land ! (from ! (stop !)) (init ! 18 refl (LL.lawful mSeen.the-type lSeen.the-laws 𝓤 H A W .typed r2 _ i2 .0)) $
+        tidy W (_ ∷ _ ∷ _ ∷ _ ∷ _ ∷ _ ∷ _ ∷ _ ∷ _ ∷ _ ∷ _ ∷ _ ∷ _ ∷ _ ∷ _ ∷ _ ∷ _ ∷ _ ∷ _ ∷ _ ∷ _ ∷ _ ∷ _ ∷ _ ∷ _ ∷ _ ∷ _ ∷ _ ∷ _ ∷ _ ∷ _ ∷ _ ∷ []) $ split ! $ move ! (1 ∷ []) $ split ! $ move ! (1 ∷ []) $ split ! $ move ! (1 ∷ []) $ split ! $ move ! (1 ∷ []) $ split ! $ move ! (1 ∷ []) $ split ! $ move ! (1 ∷ []) $ drop ! $ move ! (5 ∷ []) $ lft-end ! tt $ move ! (0 ∷ 12 ∷ 6 ∷ []) $ use3 W (later (‵ (O4 (ws2 .1 .1 .1 .0)) ⊛ ‵ (flft κ₀ q₀))) (backs4 (named 0) ν2d δ2d (ys4) (ws2 .1 .1 .1 .0) (refl) room4 same2d) $ await ! tt $ split ! $
+        assigns-last ! (of-opd ! (load ! (from ! (stop !)) (look ! 22 refl))) (from ! (stop !)) (init ! 20 refl (LL.lawful mSeen.the-type lSeen.the-laws 𝓤 H A W .typed r2 _ i2 .0)) $
         exec ! C Λ ((lSeen.mir, l₀) ∷ (lSeen.mir, l₁) ∷ (tyInt w64, l₂) ∷ (tyInt w64, l₃) ∷ (sliceTy (tyRef (named 0) mut (tyInt w64)), l₄) ∷ (tyInt w64, l₅) ∷ (tyInt w64, l₆) ∷ (sliceTy (tyRef (named 1) imm (tyInt w64)), l₇) ∷ (sliceTy (tyRef (named 2) imm (tyInt w64)), l₈) ∷ (sliceTy (tyRef (named 3) imm (pointee (mEntry.the-row .written))), l₉) ∷ (sliceTy (tyRef (named 4) imm (pointee (mEntry.the-row .written))), l₁₀) ∷ (sliceTy (tyRef (named 5) imm (pointee (mEntry.the-row .written))), l₁₁) ∷ (tyBool, l₁₂) ∷ (lSeen.mir, l₁₃) ∷ (tyBool, l₁₄) ∷ (lSeen.mir, l₁₅) ∷ (tyRef erased mut (tyInt w64), l₁₆) ∷ (sliceTy (tyRef erased mut (tyInt w64)), l₁₇) ∷ []) Mir.t-4 (atRet ((lSeen.mir, l₀) ∷ (lSeen.mir, l₁) ∷ (tyInt w64, l₂) ∷ (tyInt w64, l₃) ∷ (sliceTy (tyRef (named 0) mut (tyInt w64)), l₄) ∷ (tyInt w64, l₅) ∷ (tyInt w64, l₆) ∷ (sliceTy (tyRef (named 1) imm (tyInt w64)), l₇) ∷ (sliceTy (tyRef (named 2) imm (tyInt w64)), l₈) ∷ (sliceTy (tyRef (named 3) imm (pointee (mEntry.the-row .written))), l₉) ∷ (sliceTy (tyRef (named 4) imm (pointee (mEntry.the-row .written))), l₁₀) ∷ (sliceTy (tyRef (named 5) imm (pointee (mEntry.the-row .written))), l₁₁) ∷ (tyBool, l₁₂) ∷ (lSeen.mir, l₁₃) ∷ (tyBool, l₁₄) ∷ (lSeen.mir, l₁₅) ∷ (tyRef erased mut (tyInt w64), l₁₆) ∷ (sliceTy (tyRef erased mut (tyInt w64)), l₁₇) ∷ []) Post) $
-        assigns ! (of-opd ! (load ! (from ! (stop !)) (look ! 38 refl))) (from ! (stop !)) (init ! 68 refl (LL.lawful mSeen.the-type lSeen.the-laws 𝓤 H A W .typed r2 _ i2 .0)) $
-        returns ! (look ! 68 refl) $ forget ! 68 refl $ forget ! 66 refl $ forget ! 64 refl $ forget ! 62 refl $ forget ! 60 refl $ forget ! 58 refl $ forget ! 56 refl $ forget ! 54 refl $ forget ! 52 refl $ forget ! 50 refl $ forget ! 48 refl $ forget ! 46 refl $ forget ! 44 refl $ forget ! 42 refl $ forget ! 40 refl $ forget ! 38 refl $ forget ! 36 refl $ forget ! 34 refl $
-        move ! (68 ∷ 69 ∷ []) $ free1 ! $ move ! (66 ∷ 67 ∷ []) $ free1 ! $ move ! (64 ∷ 65 ∷ []) $ free1 ! $ move ! (62 ∷ 63 ∷ []) $ free1 ! $ move ! (60 ∷ 61 ∷ []) $ free1 ! $ move ! (58 ∷ 59 ∷ []) $ free1 ! $ move ! (56 ∷ 57 ∷ []) $ free1 ! $ move ! (54 ∷ 55 ∷ []) $ free1 ! $ move ! (52 ∷ 53 ∷ []) $ free1 ! $ move ! (50 ∷ 51 ∷ []) $ free1 ! $ move ! (48 ∷ 49 ∷ []) $ free1 ! $ move ! (46 ∷ 47 ∷ []) $ free1 ! $ move ! (44 ∷ 45 ∷ []) $ free1 ! $ move ! (42 ∷ 43 ∷ []) $ free1 ! $ move ! (40 ∷ 41 ∷ []) $ free1 ! $ move ! (38 ∷ 39 ∷ []) $ free1 ! $ move ! (36 ∷ 37 ∷ []) $ free1 ! $ move ! (34 ∷ 35 ∷ []) $ free1 ! $ free0 ! $
+        assigns ! (of-opd ! (load ! (from ! (stop !)) (look ! 20 refl))) (from ! (stop !)) (init ! 35 refl (LL.lawful mSeen.the-type lSeen.the-laws 𝓤 H A W .typed r2 _ i2 .0)) $
+        tidy W (_ ∷ _ ∷ _ ∷ _ ∷ _ ∷ _ ∷ _ ∷ _ ∷ _ ∷ _ ∷ _ ∷ _ ∷ _ ∷ _ ∷ _ ∷ _ ∷ _ ∷ _ ∷ _ ∷ _ ∷ _ ∷ _ ∷ _ ∷ _ ∷ _ ∷ _ ∷ _ ∷ _ ∷ _ ∷ _ ∷ _ ∷ _ ∷ _ ∷ _ ∷ _ ∷ _ ∷ []) $ returns ! (look ! 35 refl) $ move ! (17 ∷ []) $ use1 W (dies ((lSeen.mir, l₀) ∷ (lSeen.mir, l₁) ∷ (tyInt w64, l₂) ∷ (tyInt w64, l₃) ∷ (sliceTy (tyRef (named 0) mut (tyInt w64)), l₄) ∷ (tyInt w64, l₅) ∷ (tyInt w64, l₆) ∷ (sliceTy (tyRef (named 1) imm (tyInt w64)), l₇) ∷ (sliceTy (tyRef (named 2) imm (tyInt w64)), l₈) ∷ (sliceTy (tyRef (named 3) imm (pointee (mEntry.the-row .written))), l₉) ∷ (sliceTy (tyRef (named 4) imm (pointee (mEntry.the-row .written))), l₁₀) ∷ (sliceTy (tyRef (named 5) imm (pointee (mEntry.the-row .written))), l₁₁) ∷ (tyBool, l₁₂) ∷ (lSeen.mir, l₁₃) ∷ (tyBool, l₁₄) ∷ (lSeen.mir, l₁₅) ∷ (tyRef erased mut (tyInt w64), l₁₆) ∷ (sliceTy (tyRef erased mut (tyInt w64)), l₁₇) ∷ []) (‵ ftrue)) die $ free-all ! 17 ((lSeen.mir, l₀) ∷ (lSeen.mir, l₁) ∷ (tyInt w64, l₂) ∷ (tyInt w64, l₃) ∷ (sliceTy (tyRef (named 0) mut (tyInt w64)), l₄) ∷ (tyInt w64, l₅) ∷ (tyInt w64, l₆) ∷ (sliceTy (tyRef (named 1) imm (tyInt w64)), l₇) ∷ (sliceTy (tyRef (named 2) imm (tyInt w64)), l₈) ∷ (sliceTy (tyRef (named 3) imm (pointee (mEntry.the-row .written))), l₉) ∷ (sliceTy (tyRef (named 4) imm (pointee (mEntry.the-row .written))), l₁₀) ∷ (sliceTy (tyRef (named 5) imm (pointee (mEntry.the-row .written))), l₁₁) ∷ (tyBool, l₁₂) ∷ (lSeen.mir, l₁₃) ∷ (tyBool, l₁₄) ∷ (lSeen.mir, l₁₅) ∷ (tyRef erased mut (tyInt w64), l₁₆) ∷ (sliceTy (tyRef erased mut (tyInt w64)), l₁₇) ∷ []) (kept _ ∷ kept _ ∷ kept _ ∷ kept _ ∷ kept _ ∷ kept _ ∷ kept _ ∷ kept _ ∷ kept _ ∷ kept _ ∷ kept _ ∷ kept _ ∷ kept _ ∷ kept _ ∷ kept _ ∷ kept _ ∷ kept _ ∷ kept _ ∷ []) refl $
         suffices ! _ (ends-at 𝓤 H A f.ended stayed (f.clauses 𝓤 H A at-mem run) W (((κ₀, (κ₁, (κ₂, (κ₃, (κ₄, (κ₅, tt)))))), (q₀, (q₁, (q₂, (q₃, (q₄, (q₅, tt)))))), tt, a, at), tt) z2 r2 (tt, (tt, (tt, (ws2 .1 .1 .1 .0, (tt, (tt, (tt, (tt, (tt, (tt, (tt, tt))))))))))) (tt, (tt, (tt, (same2d, (tt, (tt, (tt, (tt, (tt, (tt, (tt, tt)))))))))))) $ says ! (unless-some n2 n5 (zAt n6 (s7 .now) (elements (s8 .now)) n3) (entriesOfRecords (s9 .now)) (entriesOfRecords (s10 .now)) (entriesOfRecords (s11 .now)) n3 n1 r2 ys4 (ws2 .1 .1 .1 .0) (sym e1 ∙ b1) e2) $
-        nothing ! $ move ! (4 ∷ 0 ∷ []) $ join ! $ move ! (4 ∷ 0 ∷ []) $ join ! $ move ! (4 ∷ 0 ∷ []) $ join ! $ move ! (4 ∷ 0 ∷ []) $ join ! $ move ! (4 ∷ 0 ∷ []) $ join ! $ move ! (2 ∷ 0 ∷ []) $ join ! $ nothing ! $ move ! (15 ∷ 0 ∷ []) $ fjoin ! $ move ! (15 ∷ 0 ∷ []) $ fjoin ! $ move ! (15 ∷ 0 ∷ []) $ fjoin ! $ move ! (15 ∷ 0 ∷ []) $ fjoin ! $ move ! (15 ∷ 0 ∷ []) $ fjoin ! $ move ! (20 ∷ 0 ∷ []) $ fjoin ! $ move ! (20 ∷ 0 ∷ []) $ fjoin ! $ move ! (2 ∷ 0 ∷ []) $ fjoin ! $ move ! (19 ∷ 0 ∷ []) $ fjoin ! $ move ! (19 ∷ 0 ∷ []) $ fjoin ! $ move ! (19 ∷ 0 ∷ []) $ fjoin ! $ keep ! (1 ∷ 0 ∷ []) $ frame ! $ frame ! $ owned ! mSeen.the-row (Is mSeen.the-row) (LL.makes mSeen.the-type lSeen.the-plain 𝓤 H A) r2 _ i2 $ done !)))))))))
-        (λ y1. let b1 : r1 ≡ false = is-no (r1) y1 in assigns-last ! (of-opd ! (load ! (from ! (stop !)) (look ! 54 refl))) (from ! (stop !)) (init ! 26 refl (LL.lawful mSeen.the-type lSeen.the-laws 𝓤 H A W .typed n1 _ w1 .0)) $
+        nothing ! $ move ! (3 ∷ 0 ∷ []) $ join ! $ move ! (3 ∷ 0 ∷ []) $ join ! $ move ! (3 ∷ 0 ∷ []) $ join ! $ move ! (3 ∷ 0 ∷ []) $ join ! $ move ! (3 ∷ 0 ∷ []) $ join ! $ move ! (2 ∷ 0 ∷ []) $ join ! $ nothing ! $ move ! (3 ∷ 0 ∷ []) $ fjoin ! $ move ! (3 ∷ 0 ∷ []) $ fjoin ! $ move ! (3 ∷ 0 ∷ []) $ fjoin ! $ move ! (3 ∷ 0 ∷ []) $ fjoin ! $ move ! (3 ∷ 0 ∷ []) $ fjoin ! $ move ! (3 ∷ 0 ∷ []) $ fjoin ! $ move ! (3 ∷ 0 ∷ []) $ fjoin ! $ move ! (2 ∷ 0 ∷ []) $ fjoin ! $ move ! (2 ∷ 0 ∷ []) $ fjoin ! $ move ! (2 ∷ 0 ∷ []) $ fjoin ! $ move ! (2 ∷ 0 ∷ []) $ fjoin ! $ keep ! (1 ∷ 0 ∷ []) $ frame ! $ frame ! $ owned ! mSeen.the-row (Is mSeen.the-row) (LL.makes mSeen.the-type lSeen.the-plain 𝓤 H A) r2 _ i2 $ done !)))))))))
+        (λ y1. let b1 : r1 ≡ false = is-no (r1) y1 in assigns-last ! (of-opd ! (load ! (from ! (stop !)) (look ! 34 refl))) (from ! (stop !)) (init ! 20 refl (LL.lawful mSeen.the-type lSeen.the-laws 𝓤 H A W .typed n1 _ w1 .0)) $
         exec ! C Λ ((lSeen.mir, l₀) ∷ (lSeen.mir, l₁) ∷ (tyInt w64, l₂) ∷ (tyInt w64, l₃) ∷ (sliceTy (tyRef (named 0) mut (tyInt w64)), l₄) ∷ (tyInt w64, l₅) ∷ (tyInt w64, l₆) ∷ (sliceTy (tyRef (named 1) imm (tyInt w64)), l₇) ∷ (sliceTy (tyRef (named 2) imm (tyInt w64)), l₈) ∷ (sliceTy (tyRef (named 3) imm (pointee (mEntry.the-row .written))), l₉) ∷ (sliceTy (tyRef (named 4) imm (pointee (mEntry.the-row .written))), l₁₀) ∷ (sliceTy (tyRef (named 5) imm (pointee (mEntry.the-row .written))), l₁₁) ∷ (tyBool, l₁₂) ∷ (lSeen.mir, l₁₃) ∷ (tyBool, l₁₄) ∷ (lSeen.mir, l₁₅) ∷ (tyRef erased mut (tyInt w64), l₁₆) ∷ (sliceTy (tyRef erased mut (tyInt w64)), l₁₇) ∷ []) Mir.t-4 (atRet ((lSeen.mir, l₀) ∷ (lSeen.mir, l₁) ∷ (tyInt w64, l₂) ∷ (tyInt w64, l₃) ∷ (sliceTy (tyRef (named 0) mut (tyInt w64)), l₄) ∷ (tyInt w64, l₅) ∷ (tyInt w64, l₆) ∷ (sliceTy (tyRef (named 1) imm (tyInt w64)), l₇) ∷ (sliceTy (tyRef (named 2) imm (tyInt w64)), l₈) ∷ (sliceTy (tyRef (named 3) imm (pointee (mEntry.the-row .written))), l₉) ∷ (sliceTy (tyRef (named 4) imm (pointee (mEntry.the-row .written))), l₁₀) ∷ (sliceTy (tyRef (named 5) imm (pointee (mEntry.the-row .written))), l₁₁) ∷ (tyBool, l₁₂) ∷ (lSeen.mir, l₁₃) ∷ (tyBool, l₁₄) ∷ (lSeen.mir, l₁₅) ∷ (tyRef erased mut (tyInt w64), l₁₆) ∷ (sliceTy (tyRef erased mut (tyInt w64)), l₁₇) ∷ []) Post) $
-        assigns ! (of-opd ! (load ! (from ! (stop !)) (look ! 26 refl))) (from ! (stop !)) (init ! 56 refl (LL.lawful mSeen.the-type lSeen.the-laws 𝓤 H A W .typed n1 _ w1 .0)) $
-        returns ! (look ! 56 refl) $ forget ! 56 refl $ forget ! 54 refl $ forget ! 52 refl $ forget ! 50 refl $ forget ! 48 refl $ forget ! 46 refl $ forget ! 44 refl $ forget ! 42 refl $ forget ! 40 refl $ forget ! 38 refl $ forget ! 36 refl $ forget ! 34 refl $ forget ! 32 refl $ forget ! 28 refl $ forget ! 26 refl $
-        move ! (56 ∷ 57 ∷ []) $ free1 ! $ move ! (54 ∷ 55 ∷ []) $ free1 ! $ move ! (52 ∷ 53 ∷ []) $ free1 ! $ move ! (50 ∷ 51 ∷ []) $ free1 ! $ move ! (48 ∷ 49 ∷ []) $ free1 ! $ move ! (46 ∷ 47 ∷ []) $ free1 ! $ move ! (44 ∷ 45 ∷ []) $ free1 ! $ move ! (42 ∷ 43 ∷ []) $ free1 ! $ move ! (40 ∷ 41 ∷ []) $ free1 ! $ move ! (38 ∷ 39 ∷ []) $ free1 ! $ move ! (36 ∷ 37 ∷ []) $ free1 ! $ move ! (34 ∷ 35 ∷ []) $ free1 ! $ move ! (32 ∷ 33 ∷ []) $ free1 ! $ move ! (30 ∷ 31 ∷ []) $ free1 ! $ move ! (28 ∷ 29 ∷ []) $ free1 ! $ move ! (26 ∷ 27 ∷ []) $ free1 ! $ move ! (24 ∷ 25 ∷ []) $ free1 ! $ move ! (22 ∷ 23 ∷ []) $ free1 ! $ free0 ! $
+        assigns ! (of-opd ! (load ! (from ! (stop !)) (look ! 20 refl))) (from ! (stop !)) (init ! 35 refl (LL.lawful mSeen.the-type lSeen.the-laws 𝓤 H A W .typed n1 _ w1 .0)) $
+        tidy W (_ ∷ _ ∷ _ ∷ _ ∷ _ ∷ _ ∷ _ ∷ _ ∷ _ ∷ _ ∷ _ ∷ _ ∷ _ ∷ _ ∷ _ ∷ _ ∷ _ ∷ _ ∷ _ ∷ _ ∷ _ ∷ _ ∷ _ ∷ _ ∷ _ ∷ _ ∷ _ ∷ _ ∷ _ ∷ _ ∷ _ ∷ _ ∷ _ ∷ _ ∷ _ ∷ _ ∷ []) $ returns ! (look ! 35 refl) $ move ! (17 ∷ []) $ use1 W (dies ((lSeen.mir, l₀) ∷ (lSeen.mir, l₁) ∷ (tyInt w64, l₂) ∷ (tyInt w64, l₃) ∷ (sliceTy (tyRef (named 0) mut (tyInt w64)), l₄) ∷ (tyInt w64, l₅) ∷ (tyInt w64, l₆) ∷ (sliceTy (tyRef (named 1) imm (tyInt w64)), l₇) ∷ (sliceTy (tyRef (named 2) imm (tyInt w64)), l₈) ∷ (sliceTy (tyRef (named 3) imm (pointee (mEntry.the-row .written))), l₉) ∷ (sliceTy (tyRef (named 4) imm (pointee (mEntry.the-row .written))), l₁₀) ∷ (sliceTy (tyRef (named 5) imm (pointee (mEntry.the-row .written))), l₁₁) ∷ (tyBool, l₁₂) ∷ (lSeen.mir, l₁₃) ∷ (tyBool, l₁₄) ∷ (lSeen.mir, l₁₅) ∷ (tyRef erased mut (tyInt w64), l₁₆) ∷ (sliceTy (tyRef erased mut (tyInt w64)), l₁₇) ∷ []) (‵ ftrue)) die $ free-all ! 17 ((lSeen.mir, l₀) ∷ (lSeen.mir, l₁) ∷ (tyInt w64, l₂) ∷ (tyInt w64, l₃) ∷ (sliceTy (tyRef (named 0) mut (tyInt w64)), l₄) ∷ (tyInt w64, l₅) ∷ (tyInt w64, l₆) ∷ (sliceTy (tyRef (named 1) imm (tyInt w64)), l₇) ∷ (sliceTy (tyRef (named 2) imm (tyInt w64)), l₈) ∷ (sliceTy (tyRef (named 3) imm (pointee (mEntry.the-row .written))), l₉) ∷ (sliceTy (tyRef (named 4) imm (pointee (mEntry.the-row .written))), l₁₀) ∷ (sliceTy (tyRef (named 5) imm (pointee (mEntry.the-row .written))), l₁₁) ∷ (tyBool, l₁₂) ∷ (lSeen.mir, l₁₃) ∷ (tyBool, l₁₄) ∷ (lSeen.mir, l₁₅) ∷ (tyRef erased mut (tyInt w64), l₁₆) ∷ (sliceTy (tyRef erased mut (tyInt w64)), l₁₇) ∷ []) (kept _ ∷ kept _ ∷ kept _ ∷ kept _ ∷ kept _ ∷ kept _ ∷ kept _ ∷ kept _ ∷ kept _ ∷ kept _ ∷ kept _ ∷ kept _ ∷ kept _ ∷ bare ∷ kept _ ∷ kept _ ∷ bare ∷ bare ∷ []) refl $
         suffices ! _ (ends-at 𝓤 H A f.ended stayed (f.clauses 𝓤 H A at-mem run) W (((κ₀, (κ₁, (κ₂, (κ₃, (κ₄, (κ₅, tt)))))), (q₀, (q₁, (q₂, (q₃, (q₄, (q₅, tt)))))), tt, a, at), tt) u1 n1 (tt, (tt, (tt, (ys4, (tt, (tt, (tt, (tt, (tt, (tt, (tt, tt))))))))))) (tt, (tt, (tt, (refl, (tt, (tt, (tt, (tt, (tt, (tt, (tt, tt)))))))))))) $ says ! (unless-none n2 n5 (zAt n6 (s7 .now) (elements (s8 .now)) n3) (entriesOfRecords (s9 .now)) (entriesOfRecords (s10 .now)) (entriesOfRecords (s11 .now)) n3 n1 ys4 (sym e1 ∙ b1)) $
-        nothing ! $ move ! (5 ∷ 0 ∷ []) $ join ! $ move ! (5 ∷ 0 ∷ []) $ join ! $ move ! (5 ∷ 0 ∷ []) $ join ! $ move ! (5 ∷ 0 ∷ []) $ join ! $ move ! (5 ∷ 0 ∷ []) $ join ! $ move ! (5 ∷ 0 ∷ []) $ join ! $ nothing ! $ move ! (7 ∷ 0 ∷ []) $ fjoin ! $ move ! (7 ∷ 0 ∷ []) $ fjoin ! $ move ! (7 ∷ 0 ∷ []) $ fjoin ! $ move ! (7 ∷ 0 ∷ []) $ fjoin ! $ move ! (7 ∷ 0 ∷ []) $ fjoin ! $ move ! (7 ∷ 0 ∷ []) $ fjoin ! $ move ! (7 ∷ 0 ∷ []) $ fjoin ! $ move ! (7 ∷ 0 ∷ []) $ fjoin ! $ move ! (7 ∷ 0 ∷ []) $ fjoin ! $ move ! (7 ∷ 0 ∷ []) $ fjoin ! $ move ! (7 ∷ 0 ∷ []) $ fjoin ! $ keep ! (1 ∷ 0 ∷ []) $ frame ! $ frame ! $ owned ! mSeen.the-row (Is mSeen.the-row) (LL.makes mSeen.the-type lSeen.the-plain 𝓤 H A) n1 _ w1 $ done !)
-        )))))))))))))))))))))))
+        nothing ! $ move ! (1 ∷ 0 ∷ []) $ join ! $ move ! (1 ∷ 0 ∷ []) $ join ! $ move ! (1 ∷ 0 ∷ []) $ join ! $ move ! (1 ∷ 0 ∷ []) $ join ! $ move ! (1 ∷ 0 ∷ []) $ join ! $ move ! (1 ∷ 0 ∷ []) $ join ! $ nothing ! $ move ! (2 ∷ 0 ∷ []) $ fjoin ! $ move ! (2 ∷ 0 ∷ []) $ fjoin ! $ move ! (2 ∷ 0 ∷ []) $ fjoin ! $ move ! (2 ∷ 0 ∷ []) $ fjoin ! $ move ! (2 ∷ 0 ∷ []) $ fjoin ! $ move ! (2 ∷ 0 ∷ []) $ fjoin ! $ move ! (2 ∷ 0 ∷ []) $ fjoin ! $ move ! (2 ∷ 0 ∷ []) $ fjoin ! $ move ! (2 ∷ 0 ∷ []) $ fjoin ! $ move ! (2 ∷ 0 ∷ []) $ fjoin ! $ move ! (2 ∷ 0 ∷ []) $ fjoin ! $ keep ! (1 ∷ 0 ∷ []) $ frame ! $ frame ! $ owned ! mSeen.the-row (Is mSeen.the-row) (LL.makes mSeen.the-type lSeen.the-plain 𝓤 H A) n1 _ w1 $ done !)
+        ))))))))))))))))))))))))
 
 module _ {M : Type 1} (𝓤 : URA M) (H : Heap 𝓤) (A : Atoms 𝓤) (W : Given 𝓤 H A) (mem : Memory → SProp 𝓤) (run : Routine → Fun 𝓤) where
   walks : (C : Calls 𝓤 H) (Λ : Loops 𝓤 H) → FmC 𝓤 H (W .laws) C → Triple 𝓤 (C #g1) (Callee-g1 𝓤 H A mem run) → Triple 𝓤 (C #g2) (Callee-g2 𝓤 H A mem run) → Walks 𝓤 H A f.ended stayed (WpFn 𝓤 H C Λ code.function) (f.clauses 𝓤 H A mem run)
