@@ -6,18 +6,16 @@
 # SHAPE has a letter for each parameter:  A  r: ACC, at which the value starts      Q  q: u64, to which the loop counts      N  n: u64
 #   S  s: &[u64]      E  es: &[RECORD]      M  out: &mut [u64]      and an I where step is passed the number u
 # The code is   let mut acc = r; let mut u = 0; while u < q { acc = step(<acc for r, u for I, the other parameters but q, in order>); u += 1; } acc
-import sys
+import sys, walk
+from walk import C, LINE, sub, κ, q, arr, sp, lst, nest, tup, prod, split, where
 crate, rec, acc, shape = sys.argv[1:5]
-def split(x):                        # CRATE::MODULE..::NAME: where its specs and proofs are, its path there, and its name
-    c, *way, n = x.split('::')
-    return ((f'Rattle.{crate}.specs', f'Rattle.{crate}.proofs') if c == crate else (f'Rattle.{c}.specs', f'Rattle.{c}.proofs')), '.'.join(way + [n]), n
-home, recpath, rec = split(rec)
-again = 'Rattle.magnetar_inplace.proofs' if crate == 'magnetar_inplace' else 'Rattle.magnetar_inplace.proofs'
+home, recpath, rec = split(crate, rec)
+again = where(crate, 'magnetar_inplace')[1]
 accuse = ''
 if acc == 'u64': row, den, mty, makes, typed, vals, tells = 'u64', 'ℕ', 'tyInt w64', '(uint-makes 𝓤 H A W w64)', 'uint-lawful 𝓤 H A W w64 .typed', '(uint-vals w64)', 'uint-tells w64'
 elif acc == 'bool': row, den, mty, makes, typed, vals, tells = 'bool', 'Bool', 'tyBool', '(bool-makes 𝓤 H A W)', 'bool-lawful 𝓤 H A W .typed', 'bool-vals', 'bool-tells'
 else:
-    ah, apath, den = split(acc)
+    ah, apath, den = split(crate, acc)
     row, mty, makes, typed = 'B.the-row', 'B′.mir', '(LL.makes B.the-type B′.the-plain 𝓤 H A)', 'LL.lawful B.the-type B′.the-laws 𝓤 H A W .typed'
     vals, tells = '(LL.vals B.the-type B′.the-laws)', 'LL.tells B.the-type B′.the-laws'
     accuse = f'use {ah[0]}.declared.{apath}.{{{den}}}\nuse {ah[1]}.{apath} as B\nuse {ah[1]}.{apath}.Laws as B′\n'
@@ -38,7 +36,6 @@ lft = {j: t for t, j in enumerate(sl)}; clft = lft; L = len(sl)      # the funct
 elt = {j: 'T.the-row' if K(j) == 'E' else 'u64' for j in sl}
 lden = {j: f'List {rec}' if K(j) == 'E' else 'List ℕ' for j in sl}
 mir_el = {j: '(pointee (T.the-row .written))' if K(j) == 'E' else '(tyInt w64)' for j in sl}
-sub = lambda j: ''.join('₀₁₂₃₄₅₆₇₈₉'[int(c)] for c in str(j))
 loc = {'res': 0}
 for j in idx: loc[f'p{j}'] = j
 n = m + 1
@@ -54,31 +51,13 @@ def ty(k):
     if k[0] == 'a': return 'tyRef erased mut (tyInt w64)'
     if k[0] == 'b': return 'sliceTy (tyRef erased mut (tyInt w64))'
     return {'A': mty, 'N': 'tyInt w64', 'Q': 'tyInt w64'}.get(K(j)) or f'sliceTy (tyRef (named {lft[j]}) {"mut" if K(j) == "M" else "imm"} {mir_el[j]})'
-def tup(xs, end='tt'):
-    s = end
-    for x in reversed(xs): s = f'({x}, {s})'
-    return s
-def prod(xs, end='Unit {0}'):
-    s = end
-    for x in reversed(xs): s = f'({x} × {s})'
-    return s
-def lst(xs): return ' ∷ '.join(list(xs) + ['[]'])
-def nest(j): return ' '.join(['.1'] * j + ['.0'])     # path of component j
-arr = lambda xs: ''.join(x + ' → ' for x in xs)
-pl = lambda k: f'(place {loc[k]} [])'
-cp = lambda k: f'(copy {pl(k)})'
-cpf = lambda k, f: f'(copy (place {loc[k]} (field {f} ∷ [])))'
+pl, cp, cpf = walk.places(loc)
 
 # ---- the MIR
 arg = lambda j: 'acc' if j == 'R' else 'i' if j == 'I' else f'b{j}' if K(j) == 'M' else f'p{j}'
 stm = [f'assign {pl("test")} (op2 (lt unsigned) {cp("i")} {cp(f"p{q_}")})', f'cond {cp("test")} skipᴹ (exit 1)']
-for j in Ms:
-    stm.append(f'assign {pl(f"a{j}")} (addrOf (place {loc[f"p{j}"]} (field 0 ∷ deref (tyInt w64) ∷ [])))')
-    stm.append(f'assign {pl(f"b{j}")} (aggregate ({cp(f"a{j}")} ∷ {cpf(f"p{j}", 1)} ∷ []))')
-stm.append(f'call k ({lst(cp(arg(j)) for j in seq)}) {pl("acc")}')
-stm.append(f'assign {pl("i")} (op2 (add unsigned) {cp("i")} (int w64 1))')
-turn = f'({stm[-1]})'
-for s in reversed(stm[:-1]): turn = f'(seq ({s})\n    {turn})'
+for j in Ms: stm += walk.lent_code(loc, j, 'w64')
+turn = walk.turn_code(loc, stm, [cp(arg(j)) for j in seq], 'acc')
 rest = f'seq (assign {pl("res")} (rvOpd {cp("acc")})) return'
 body = f'seq (assign {pl("acc")} (rvOpd {cp(f"p{a_}")})) (seq (assign {pl("i")} (rvOpd (int w64 0))) (seq (block (loop (turn k))) ({rest})))'
 
@@ -149,60 +128,8 @@ use {home[1]}.{recpath} as T
 use {home[1]}.{recpath}.Laws as T′
 {accuse}use {again}.Again.{{LentAgain, lends-again, comes-back}}
 
--- ---- the function and its callee
-abbrev pub turn : Name → Code
-turn k = {turn}
-
-abbrev rest : Code
-rest = {rest}
-
-abbrev pub function : Name → Fn
-function k = record {{
-  lifetimes = {L};
-  outlives = [];
-  params = {m};
-  locals = {lst(f'local ({ty(k)}) valueLocal' for k in order)};
-  body = {body};
-}}
-
-abbrev pub ended : Ended
-ended = record {{ signature = record {{ lifetimes = {L}; outlives = []; params = {lst(slots)}; result = plain (λ _. {row}) }}; kept = {tup(['yes'] * m)} }}
-
-abbrev pub stepped : Ended
-stepped = record {{ signature = record {{ lifetimes = {L}; outlives = []; params = {lst(cslots)}; result = plain (λ _. {row}) }}; kept = {tup(['yes'] * len(seq))} }}
-
-abbrev stayed : Stays (ended .signature .params) (ended .kept)
-stayed = {tup(stays)}
-
--- the values passed, and those that the callee is passed
-abbrev pub Arg : Type 0
-Arg = {argT}
-
-abbrev pub Passed : Type 0
-Passed = {gargT}
-
--- ---- a goal P ∗ X, where X holds of nothing: P is left
-adds : {{M : Type 1}} {{𝓤 : URA M}} {{H : Heap 𝓤}} {{A : Atoms 𝓤}} {{K : Type 0}} {{W : Given 𝓤 H A}} {{Γ : List (Item 𝓤)}} → K → {{P X : SProp 𝓤}} → ent 𝓤 (emp 𝓤) X → Step K W Γ (prop P) Γ (prop (sep 𝓤 P X))
-adds {{𝓤 = 𝓤}} t {{P}} {{X}} h = step (λ s. record {{ prf = via 𝓤 P (s .prf) (via 𝓤 (sep 𝓤 (emp 𝓤) P) (emp∗ 𝓤 P) (via 𝓤 (sep 𝓤 X P) (monoL 𝓤 P h) (comm∗ 𝓤 X P))) }})
-
--- ---- P ∗ R as a hypothesis, where R shows φ: φ is learned
-learns : {{M : Type 1}} (𝓤 : URA M) {{φ : Type 0}} {{P R Q : SProp 𝓤}} → ent 𝓤 R (fact 𝓤 φ) → (φ → ent 𝓤 P Q) → ent 𝓤 (sep 𝓤 P R) Q
-learns 𝓤 {{φ}} {{P}} h k = via 𝓤 (sep 𝓤 P (fact 𝓤 φ)) (monoR 𝓤 P h) (needs 𝓤 φ P k)
-
--- ---- an order by a number
-below-acc : {{X : Type 0}} (f : X → ℕ) (n : ℕ) (x : X) → f x < n → Acc (λ (y z : X). f y < f z) x
-below-acc f zero x h = absurd (not-suc-le-zero h)
-below-acc f (suc k) x h = Acc·intro x (λ y hy. below-acc f k y (lt-of-lt-of-le hy (le-of-suc-le-suc h)))
-
-by-number : {{X : Type 0}} (f : X → ℕ) → WellFounded (λ (y z : X). f y < f z)
-by-number f = record {{ apply = λ x. below-acc f (suc (f x)) x (lt-suc-self (f x)) }}
-
-this-fits : (i n : ℕ) → i < n → n < 2 ^ 64 → i < 2 ^ 64
-this-fits i n l h = omega (arith, l, h)
-
-next-fits : (i n : ℕ) → i < n → n < 2 ^ 64 → i + 1 < 2 ^ 64
-next-fits i n l h = omega (arith, l, h)
-
+{walk.stated(turn, rest, L, [ty(k) for k in order], body, L, slots, cslots, row, stays, argT, gargT)}
+{walk.fits}
 none-less : (n : ℕ) → 0 ≤ n
 none-less n = omega arith
 
@@ -215,7 +142,6 @@ at-end i n a b = omega (arith, a, b)
 
 # ---- the law
 Z = {j: f'zs{sub(j)}' for j in Ms}; Z1 = {j: f'zs′{sub(j)}' for j in Ms}; D = {j: f'δ{sub(j)}' for j in Ms}; Y = {j: f'ys{sub(j)}' for j in Ms}
-sp = lambda xs: ''.join(' ' + x for x in xs)
 dz = sp(D[j] for j in Ms) + sp(Z[j] for j in Ms); zv = sp(Z[j] for j in Ms); z1v = sp(Z1[j] for j in Ms)
 bd = ''.join(f' ({D[j]} : GName)' for j in Ms); bz = lambda zz: ''.join(f' ({zz[j]} : List ℕ)' for j in Ms)
 ap = lambda j: f'(a {pj(j)})'
@@ -239,7 +165,6 @@ pub record Holds {{M : Type 1}} (𝓤 : URA M) (c : Clauses 𝓤 ended) (d : Cla
 ''')
 
 # ---- the walk
-κ = lambda j: f'κ{sub(j)}'; q = lambda j: f'q{sub(j)}'
 mods = f'(k : Name) (c : Clauses 𝓤 ended) (d : Clauses 𝓤 stepped) (Inv : {invT}) (hold : Holds 𝓤 c d Inv)'
 κs = tup([κ(j) for j in sl]); qs = tup([q(j) for j in sl])
 pv = [by(j, f'(s{sub(j)} : RefT ({lden.get(j)}))', f'(b{sub(j)} o{sub(j)} : ℕ) (γ{sub(j)} : GName) (ys{sub(j)} : List ℕ)', f'(n{sub(j)} : ℕ)', f'(n{sub(j)} : {den})') for j in idx]
@@ -247,13 +172,7 @@ val = lambda j: by(j, f'sliceVal (s{sub(j)} .ptr) (length (s{sub(j)} .now))', f'
 src0 = lambda j: by(j, f's{sub(j)}', f'ref{sub(j)} γ{sub(j)} ys{sub(j)}', f'n{sub(j)}', f'n{sub(j)}')
 rowAt = lambda j: by(j, f'ShrSlice (named {lft.get(j)}) {κ(j)} {elt.get(j)}', f'MutSlice (named {lft.get(j)}) {κ(j)} u64', 'u64', row)
 w(f'''module _ {{M : Type 1}} (𝓤 : URA M) (H : Heap 𝓤) (A : Atoms 𝓤) (W : Given 𝓤 H A) {mods} ({' '.join(κ(j) for j in sl)} : Lft) ({' '.join(q(j) for j in sl)} : Share) {' '.join(pv)} where''')
-for j in idx:
-    if K(j) == 'M': w(f'''  abbrev ref{sub(j)} : GName → List ℕ → RefT (List ℕ)
-  ref{sub(j)} δ l = record {{ ptr = (b{sub(j)}, o{sub(j)}); name = δ; now = l }}
-''')
-    w(f'''  abbrev v{sub(j)} : Val
-  v{sub(j)} = {val(j)}
-''')
+for j in idx: w(walk.value(j, val(j), K(j) == 'M'))
 w(f'''  abbrev a : Arg
   a = {tup([src0(j) for j in idx])}
 
@@ -263,53 +182,17 @@ w(f'''  abbrev a : Arg
   abbrev n : ℕ
   n = n{sub(q_)}
 ''')
-for j in idx:
-    if K(j) in 'SE': w(f'''  abbrev O{sub(j)} : Fml
-  O{sub(j)} = {rowAt(j)} .own s{sub(j)} (v{sub(j)} ∷ [])
-''')
-    if K(j) == 'M': w(f'''  abbrev O{sub(j)} : List ℕ → Fml
-  O{sub(j)} l = {rowAt(j)} .own (ref{sub(j)} γ{sub(j)} l) (v{sub(j)} ∷ [])
-
-  abbrev Lent{sub(j)} : ℕ → GName → List ℕ → Fml
-  Lent{sub(j)} ν δ l = LentAgain u64 {κ(j)} (ν ∷ []) {q(j)} γ{sub(j)} b{sub(j)} o{sub(j)} δ l
-
-  -- the slice is lent again, and comes back, with its count as the machine has it
-  lends{sub(j)} : (ν : ℕ) (l : List ℕ) → length l ≡ length ys{sub(j)} → ent 𝓤 (⋆ 𝓤 H A (‵ (O{sub(j)} l) ∷ ‵ (flft {κ(j)} {q(j)}) ∷ []))
-      (⋆ 𝓤 H A (later (some (λ (δ : GName). ‵ (MutSlice (named {clft[j]}) (ν ∷ []) u64 .own (ref{sub(j)} δ l) (v{sub(j)} ∷ [])) ⊛ ‵ (Lent{sub(j)} ν δ l))) ∷ []))
-  lends{sub(j)} ν l e = subst (λ (t : ℕ). ent 𝓤 (⋆ 𝓤 H A (‵ ({rowAt(j)} .own (ref{sub(j)} γ{sub(j)} l) (sliceVal (b{sub(j)}, o{sub(j)}) t ∷ [])) ∷ ‵ (flft {κ(j)} {q(j)}) ∷ []))
-      (⋆ 𝓤 H A (later (some (λ (δ : GName). ‵ (MutSlice (named {clft[j]}) (ν ∷ []) u64 .own (ref{sub(j)} δ l) (sliceVal (b{sub(j)}, o{sub(j)}) t ∷ [])) ⊛ ‵ (Lent{sub(j)} ν δ l))) ∷ []))) e
-      (lends-again u64 {κ(j)} (ν ∷ []) {q(j)} γ{sub(j)} b{sub(j)} o{sub(j)} 𝓤 H A W (named {lft[j]}) (named {clft[j]}) l)
-
-  backs{sub(j)} : (ν : ℕ) (δ : GName) (l l′ : List ℕ) → length l ≡ length ys{sub(j)} → Room u64 (length ys{sub(j)}) → length l′ ≡ length l
-      → ent 𝓤 (⋆ 𝓤 H A (‵ (fdead (ν ∷ [])) ∷ ‵ (Lent{sub(j)} ν δ l) ∷ ‵ (finally u64 δ l′) ∷ [])) (⋆ 𝓤 H A (later (‵ (O{sub(j)} l′) ⊛ ‵ (flft {κ(j)} {q(j)})) ∷ []))
-  backs{sub(j)} ν δ l l′ e room e′ = subst (λ (t : ℕ). ent 𝓤 (⋆ 𝓤 H A (‵ (fdead (ν ∷ [])) ∷ ‵ (Lent{sub(j)} ν δ l) ∷ ‵ (finally u64 δ l′) ∷ []))
-      (⋆ 𝓤 H A (later (‵ ({rowAt(j)} .own (ref{sub(j)} γ{sub(j)} l′) (sliceVal (b{sub(j)}, o{sub(j)}) t ∷ [])) ⊛ ‵ (flft {κ(j)} {q(j)})) ∷ []))) e
-      (comes-back u64 {κ(j)} (ν ∷ []) {q(j)} γ{sub(j)} b{sub(j)} o{sub(j)} 𝓤 H A W (named {lft[j]}) (named {clft[j]}) l δ l′ (subst (Room u64) (sym e) room) e′)
-''')
+for j in sl: w(walk.lent(j, 'u64', lft[j], clft[j]) if K(j) == 'M' else walk.shared(j, rowAt(j)))
 # Post and exits
 Zlen = arr(f'length {Z[j]} ≡ length {Y[j]}' for j in Ms)
-alive = '(' + ' ⊛ '.join([f'‵ (flft {κ(j)} {q(j)})' for j in sl] + ['‵ ftrue']) + ')'
+alive = walk.alive_of((κ(j), q(j)) for j in sl)
 fits_arrow = arr([f'n{sub(j)} < 2 ^ 64' for j in Ns] + [f'Is {row} n{sub(a_)} (v{sub(a_)} ∷ [])'])
 nf = ' '.join([f'f{sub(j)}' for j in Ns] + [f'p{sub(a_)}'])
 es_ = ' '.join(f'e{sub(j)}' for j in Ms); lens_ = ' '.join(f'len{sub(j)}' for j in Ms)
 exctx = lst([alive] + [f'‵ (O{sub(j)} {Z[j]})' if K(j) == 'M' else f'‵ O{sub(j)}' for j in sl])
-class C:                                # a context, by names
-    def __init__(s, names): s.c = list(names); s.t = ''
-    def mv(s, *ns):
-        ps = [s.c.index(x) for x in ns]
-        s.t += f'move ! ({lst(map(str, ps))}) $ '
-        s.c = list(ns) + [x for x in s.c if x not in ns]
-    def __call__(s, txt): s.t += txt
-    def p(s, x): return s.c.index(x)
-def build_owns(k, names):               # from the items builds what all parameters own, at the head as 'acc'
-    k('nothing ! $ '); k.c.insert(0, 'acc')
-    for nm, how in reversed(names):
-        if how is None: k.mv(nm, 'acc')
-        else: k(how + ' $ '); k.c.insert(0, nm)
-        k('fjoin ! $ '); assert k.c[:2] == [nm, 'acc'], k.c; k.c = ['acc'] + k.c[2:]
 own1 = lambda j: f'owned ! {row} (Is {row}) {makes} n{sub(j)} _ p{sub(j)}' if K(j) == 'A' else f'owned ! u64 (Is u64) (uint-makes 𝓤 H A W w64) n{sub(j)} _ (refl, f{sub(j)})'
 k = C(['alive'] + [f'O{j}' for j in sl])
-build_owns(k, [(f'O{j}', None if j in lft else own1(j)) for j in idx])
+k.owns([(f'O{j}', None if j in lft else own1(j)) for j in idx])
 k.mv('alive', 'acc')
 w(f'''  module _ (g : c {κs} a .ghost) where
     abbrev Post : Val → SProp 𝓤
@@ -323,12 +206,12 @@ w(f'''  module _ (g : c {κs} a .ghost) where
 ''')
 # the call
 ck = tup([f'(ν{sub(j)} ∷ [])' if K(j) == 'M' else κ(j) for j in sl]); cq = tup(['fullShare' if K(j) == 'M' else q(j) for j in sl])
-calive = '(' + ' ⊛ '.join([f'‵ (flft {"(ν" + sub(j) + " ∷ [])" if K(j) == "M" else κ(j)} {"fullShare" if K(j) == "M" else q(j)})' for j in sl] + ['‵ ftrue']) + ')'
+calive = walk.alive_of((f'(ν{sub(j)} ∷ [])', 'fullShare') if K(j) == 'M' else (κ(j), q(j)) for j in sl)
 cat = tup(['u ∷ []' if j == 'R' else 'vint w64 i ∷ []' if j == 'I' else f'v{sub(j)} ∷ []' for j in seq])
 νs = ' '.join(f'ν{sub(j)}' for j in Ms)
 cOwn = {j: f'MutSlice (named {clft[j]}) (ν{sub(j)} ∷ []) u64 .own (ref{sub(j)} {D[j]} {Z[j]}) (v{sub(j)} ∷ [])' if K(j) == 'M' else f'ShrSlice (named {clft[j]}) {κ(j)} {elt[j]} .own s{sub(j)} (v{sub(j)} ∷ [])' for j in sl}
 k = C(['alive'] + [f'O{j}' for j in sl])
-build_owns(k, [('R', f'owned ! {row} (Is {row}) {makes} r _ isr') if j == 'R' else ('I', 'owned ! u64 (Is u64) (uint-makes 𝓤 H A W w64) i _ (refl, fi)') if j == 'I' else (f'O{j}', None if j in lft else own1(j)) for j in seq])
+k.owns([('R', f'owned ! {row} (Is {row}) {makes} r _ isr') if j == 'R' else ('I', 'owned ! u64 (Is u64) (uint-makes 𝓤 H A W w64) i _ (refl, fi)') if j == 'I' else (f'O{j}', None if j in lft else own1(j)) for j in seq])
 k.mv('alive', 'acc')
 gctx = lst([calive] + [f'‵ ({cOwn[j]})' for j in sl])
 pre = 'tripleOf 𝓤 H A (stepped .signature) (closing 𝓤 H A stepped d)'
@@ -348,162 +231,54 @@ rx = f'x .{1 + NM}'; ux = f'x .{2 + NM}'; isx = f'x .{3 + 2 * NM}'; mostx = f'x 
 ls = ' '.join(f'l{sub(loc[x])}' for x in order)
 l = lambda x: f'l{sub(loc[x])}'
 En = lst(f'({ty(x)}, {l(x)})' for x in order)
+given = [' '.join(f'(room{sub(j)} : Room u64 (length ys{sub(j)}))' for j in Ms), ' '.join(f'(f{sub(j)} : n{sub(j)} < 2 ^ 64)' for j in Ns), f'(p{sub(a_)} : Is {row} n{sub(a_)} (v{sub(a_)} ∷ []))', ' '.join(f'(p{sub(j)} : Is ({rowAt(j)}) s{sub(j)} (v{sub(j)} ∷ []))' for j in Ss), f'({ls} : ℕ)']
 w(f'''    -- where the loop is: the number, what the slices hold, the value that goes round, and what is known of them
-    abbrev At : Type 0
-    At = {Xf}
-
-    abbrev left : At → ℕ
-    left x = n - x .0
-
-    module _ (𝓣 : Tables 𝓤 H) (known : Triple 𝓤 (𝓣 .C k) ({pre})) {' '.join(f'(room{sub(j)} : Room u64 (length ys{sub(j)}))' for j in Ms)} {' '.join(f'(f{sub(j)} : n{sub(j)} < 2 ^ 64)' for j in Ns)} (p{sub(a_)} : Is {row} n{sub(a_)} (v{sub(a_)} ∷ [])) {' '.join(f'(p{sub(j)} : Is ({rowAt(j)}) s{sub(j)} (v{sub(j)} ∷ []))' for j in Ss)} ({ls} : ℕ) where
-      abbrev C : Calls 𝓤 H
-      C = 𝓣 .C
-
-      abbrev Λ : Loops 𝓤 H
-      Λ = 𝓣 .Λ
-
-      abbrev En : Env 𝓤 H
-      En = {En}
-''')
-def cell(x):
-    if x[0] == 'p': return f'‵ (fat fullShare ({ty(x)}) {l(x)} 0 v{sub(int(x[1:]))})'
-    if x == 'acc': return f'‵ (fat fullShare ({ty(x)}) {l(x)} 0 u)'
-    if x == 'i': return f'‵ (fat fullShare ({ty(x)}) {l(x)} 0 (vint w64 i))'
-    return f'‵ (froom ({ty(x)}) {l(x)} 0)'
+{walk.begun(Xf, pre, ' '.join(given), En)}''')
+filled = {**{f'p{j}': f'v{sub(j)}' for j in idx}, 'acc': 'u', 'i': '(vint w64 i)'}
 inames = []; iitems = []
 for j in Ms + Ss:
     inames += [f'O{j}', f'tok{j}']; iitems += [f'‵ (O{sub(j)} {Z[j]})' if K(j) == 'M' else f'‵ O{sub(j)}', f'‵ (flft {κ(j)} {q(j)})']
-for x in order: inames.append('c_' + x); iitems.append(cell(x))
+for x in order: inames.append('c_' + x); iitems.append(walk.cell(x, ty(x), l(x), filled))
 for x in order: inames.append('d_' + x); iitems.append(f'‵ (fdies ({ty(x)}) {l(x)})')
-w(f'''      abbrev Items : ℕ → {'List ℕ → ' * NM}Val → List (Item 𝓤)
-      Items i{zv} u = {lst(iitems)}
-
-      abbrev I : At → List (Item 𝓤)
-      I x = Items (x .0){sp('(' + zx[j] + ')' for j in Ms)} ({ux})
-
-      abbrev ≺ : At → At → Type 0
-      ≺ x y = left x < left y
-
-      -- when the loop is left, the rest of the body runs
-      abbrev Left : Out → SProp 𝓤
-      Left = afterBlock 𝓤 H (afterSeq 𝓤 H (Wp 𝓤 H C Λ En rest (atReturn 𝓤 H En Post)) (atReturn 𝓤 H En Post))
-''')
+w(walk.invariant('ℕ → ' + 'List ℕ → ' * NM + 'Val → ', f'i{zv} u', iitems, f"(x .0){sp('(' + zx[j] + ')' for j in Ms)} ({ux})"))
 # a turn that goes on
 k = C(inames)
-S = lambda txt: k(txt)
-loadw = lambda x: f'(load ! (from ! (stop !)) (look ! {k.p("c_" + x)} refl))'
-loadf = lambda x, f: f'(load ! (from ! (fld ! refl (stop !))) (look-in ! {k.p("c_" + x)} (sub ! {f} refl (whole !))))'
-NLn = '\n          '
-def asg(rv, x, wt, how='init'): S(f'assigns ! {rv} (from ! (stop !)) ({how} ! {k.p("c_" + x)} refl {wt}) $ {NLn}')
-def test():
-    asg(f'(bin ! {loadw("i")} {loadw(f"p{q_}")} tt)', 'test', '(tt, tt)')
-    S(f'rewrite ! {k.p("c_test")} (λ (t : Bool). ‵ (fat fullShare tyBool {l("test")} 0 (vbool t))) e refl $ ')
-test()
-S(f'stays ! {loadw("test")} $ {NLn}')
-close = 0
-for j in Ms:
-    asg(f'(addr ! (from ! (fld ! refl (hop ! (look-in ! {k.p(f"c_p{j}")} (sub ! 0 refl (whole !))) (stop !)))))', f'a{j}', '(tt, tt)')
-    asg(f'(agg ! (and-then ! {loadw(f"a{j}")} (and-then ! {loadf(f"p{j}", 1)} (no-more !))))', f'b{j}', f'(tt, (tt, (record {{ fits = room{sub(j)} .0 }}, tt)))')
-for j in Ss:
-    k.mv(f'O{j}')
-    S(f'use1 W (‵ O{sub(j)} ⊛ ‵ O{sub(j)}) (shr-slice-copy 𝓤 H A W (named {lft[j]}) {κ(j)} {elt[j]} .twice s{sub(j)} (v{sub(j)} ∷ [])) $ split ! $ {NLn}')
-    k.c = [f'G{j}', f'O{j}'] + k.c[1:]
-for j in Ms:
-    S(f'lft-new ! tt (λ ν{sub(j)}. '); close += 1
-    k.c.insert(0, f'ν{j}')
-    k.mv(f'O{j}', f'tok{j}')
-    S(f'use2 W (later (some (λ (δ : GName). ‵ (MutSlice (named {clft[j]}) (ν{sub(j)} ∷ []) u64 .own (ref{sub(j)} δ {Z[j]}) (v{sub(j)} ∷ [])) ⊛ ‵ (Lent{sub(j)} ν{sub(j)} δ {Z[j]})))) (lends{sub(j)} ν{sub(j)} {Z[j]} len{sub(j)}) $ await ! tt $ pick ! (λ {D[j]}. split ! $ {NLn}'); close += 1
-    k.c = [f'G{j}', f'L{j}'] + k.c[2:]
+k.test(f'p{q_}', l)
+k(f'stays ! {k.word("test")} $ {LINE}')
+for j in Ms: k.addressed(j)
+for j in Ss: k.copies(j, lft[j], elt[j])
+for j in Ms: k.lends(j, clft[j], 'u64')
 tk = [f'ν{j}' if K(j) == 'M' else f'tok{j}' for j in sl]
-S('nothing ! $ '); k.c.insert(0, 'acc')
-for t in reversed(tk):
-    k.mv(t, 'acc'); S('join ! $ '); k.c = ['acc'] + k.c[2:]
+k.joins(tk)
 gs = ['acc'] + [f'G{j}' for j in sl]
-lastg = gs[-1]
-for t in reversed(gs[:-1]):
-    k.mv(t, lastg); S('join ! $ '); k.c = [lastg] + k.c[2:]
+k.onto(gs[:-1], gs[-1])
 nd = sp([νs] if Ms else []) + dz
-S(f'use1 W (raw ({pre} .pre (to{nd} r u i))) (goes{nd} r u i {lens_} small inv {nf} fi isr) $ {NLn}')
-k.c = ['pre'] + k.c[1:]
-argl = '(no-more !)'
-for j in reversed(seq): argl = f'(and-then ! {loadw(arg(j))} {argl})'
-S(f'calls-at ! (fmOf 𝓤 H (W .laws) 𝓣) ({pre}) known (to{nd} r u i) {argl} (λ u′. {NLn}'); close += 1
-S(f'use1 W (later (some (λ (r′ : {den}). ({calive} ⊛ ‵ ({row} .own r′ (u′ ∷ []))) ⊛ some (λ (ws : Lasts stepped {ck} {to}). ‵ (lasts stepped {ck} {to} ws) ⊛ raw (d {ck} {to} .ensures (hold .ghost {ck} {to}) r′ (atExit stepped {ck} {to} ws)))))) (id⊢ 𝓤 _) $ await ! tt $ pick ! (λ r′. split ! $ move ! (1 ∷ []) $ pick ! (λ ws. split ! $ move ! (1 ∷ []) $ {NLn}'); close += 2
 wsz = sp('(ws ' + nest(cpos(j)) + ')' for j in Ms)
-S(f'use1 W (raw (fact 𝓤 (Inv a (i + 1){wsz} r′))) (hold .tells {ck} a{dz} r i {lens_} small inv{wsz} r′) $ heard ! (Inv a (i + 1){wsz} r′) (λ inv′. {NLn}'); close += 1
-k.c = ['lasts', 'back'] + k.c[1:]
-for t, j in enumerate(seq):
-    k.mv('lasts') if k.c[0] != 'lasts' else None
-    S('fsplit ! $ '); k.c = [f'last{t}', 'lasts'] + k.c[1:]
-    if j not in ('R', 'I') and K(j) == 'M':
-        S('fsplit ! $ '); k.c = [f'fin{j}', f'eq{j}'] + k.c[1:]
-        k.mv(f'eq{j}'); S(f'feqL ! (λ same{sub(j)}. '); close += 1; k.c = k.c[1:]
-    k.mv('lasts')
-k.mv('back'); S('split ! $ '); k.c = ['alive', 'ures'] + k.c[1:]
-k.mv('ures')
-S(f'peeks ! {row} (Is {row}) (shows 𝓤 H A {row}) r′ (u′ ∷ []) (λ isr′. drop ! $ '); close += 1; k.c = k.c[1:]
-S(f'land ! (from ! (stop !)) (store ! {k.p("c_acc")} refl ({typed} r′ _ isr′ .0)) $ {NLn}')
-k.mv('alive')
-for t in tk:
-    S('split ! $ '); k.c = [t] + k.c; k.c[1] = 'alive'; k.mv('alive')
-for j in Ms:
-    k.mv(f'ν{j}'); S('lft-end ! tt $ '); k.mv(f'ν{j}', f'L{j}', f'fin{j}')
-    S(f'use3 W (later (‵ (O{sub(j)} (ws {nest(cpos(j))})) ⊛ ‵ (flft {κ(j)} {q(j)}))) (backs{sub(j)} ν{sub(j)} {D[j]} {Z[j]} (ws {nest(cpos(j))}) len{sub(j)} room{sub(j)} same{sub(j)}) $ await ! tt $ split ! $ {NLn}')
-    k.c = [f'O{j}', f'tok{j}'] + k.c[3:]
-S(f'assigns-last ! (bin ! {loadw("i")} (lit ! tt) (record {{ fits = next }})) (from ! (stop !)) (store ! {k.p("c_i")} refl (tt, record {{ fits = next }})) $ {NLn}')
-for x in ['test'] + [f'{y}{j}' for j in Ms for y in 'ab']: S(f'forget ! {k.p("c_" + x)} refl $ ')
-S(f'keep ! ({lst(str(k.p(x)) for x in inames)}) $ {NLn}again ! ≺ I x ({", ".join(["i + 1"] + ["ws " + nest(cpos(j)) for j in Ms] + ["r′", "u′"] + [f"same{sub(j)} ∙ len{sub(j)}" for j in Ms] + ["isr′", "next-most i n small", "inv′"])}) (add-one-dec n i small)' + ')' * close)
-more_txt = k.t
-w(f'''      module _ (x : At) where
-        abbrev i : ℕ
-        i = x .0
-''')
-for j in Ms:
-    w(f'''        abbrev {Z[j]} : List ℕ
-        {Z[j]} = {zx[j]}
-
-        abbrev len{sub(j)} : length {Z[j]} ≡ length ys{sub(j)}
-        len{sub(j)} = {ex[j]}
-''')
-w(f'''        abbrev r : {den}
-        r = {rx}
-
-        abbrev u : Val
-        u = {ux}
-
-        abbrev isr : Is {row} r (u ∷ [])
-        isr = {isx}
-
+k.call(pre, f'(to{nd} r u i)', f'(goes{nd} r u i {lens_} small inv {nf} fi isr)', [arg(j) for j in seq], den, row, calive, ck, to, f'Inv a (i + 1){wsz} r′', f'hold .tells {ck} a{dz} r i {lens_} small inv{wsz} r′')
+for t, j in enumerate(seq): k.last(t, j if j not in ('R', 'I') and K(j) == 'M' else None)
+k.result()
+k.kept(row, typed)
+k.splits('alive', tk)
+for j in Ms: k.back(j, f'ws {nest(cpos(j))}')
+k(f'assigns-last ! (bin ! {k.word("i")} (lit ! tt) (record {{ fits = next }})) (from ! (stop !)) (store ! {k.p("c_i")} refl (tt, record {{ fits = next }})) $ {LINE}')
+k.forget(['test'] + [f'{y}{j}' for j in Ms for y in 'ab'])
+k(f'keep ! ({k.keeps(inames)}) $ {LINE}again ! ≺ I x ({", ".join(["i + 1"] + ["ws " + nest(cpos(j)) for j in Ms] + ["r′", "u′"] + [f"same{sub(j)} ∙ len{sub(j)}" for j in Ms] + ["isr′", "next-most i n small", "inv′"])}) (add-one-dec n i small)' + ')' * k.close)
+w(f'''{walk.state([(j, zx[j], ex[j]) for j in Ms], (den, row, rx, ux, isx))}
         -- a turn that goes on: each `&mut` slice is lent again and comes back
-        more : (e : ltb i n ≡ true) → (small : i < n) → i < 2 ^ 64 → i + 1 < 2 ^ 64 → Inv a i{zv} r → ent 𝓤 (⋆ 𝓤 H A (I x)) (Wp 𝓤 H C Λ En (turn k) (afterTurn 𝓤 H (Below 𝓤 H A ≺ I x) Left))
-        unfolding afterTurn
-        more e small fi next inv =
-          qed W (I x) ∵ exec ! C Λ En (turn k) (anyQ (afterTurn 𝓤 H (Below 𝓤 H A ≺ I x) Left)) $
-          {more_txt}
-''')
+{walk.turn_by('more', f'(e : ltb i n ≡ true) → (small : i < n) → i < 2 ^ 64 → i + 1 < 2 ^ 64 → Inv a i{zv} r', 'e small fi next inv', k.t)}''')
 # the turn that leaves
 k = C(inames)
-test()
-S(f'leaves-loop ! {loadw("test")} $ exec ! C Λ En rest (atRet En Post) $ {NLn}')
-asg(f'(of-opd ! {loadw("acc")})', 'res', f'({typed} r _ isr .0)')
-S(f'returns ! (look ! {k.p("c_res")} refl) $ ')
-for x in ['acc', 'test', 'i', 'res'] + [f'p{j}' for j in idx]: S(f'forget ! {k.p("c_" + x)} refl $ ')
-S(NLn)
-for x in order:
-    k.mv('c_' + x, 'd_' + x); S('free1 ! $ '); k.c = k.c[2:]
-S('free0 ! $ ' + NLn)
-S('nothing ! $ '); k.c.insert(0, 'acc')
-for t in reversed([f'tok{j}' for j in sl]):
-    k.mv(t, 'acc'); S('join ! $ '); k.c = ['acc'] + k.c[2:]
-S(f'keep ! ({lst(str(k.p(x)) for x in ["acc"] + [f"O{j}" for j in sl])}) $ by ! (exits{zv} r u {lens_} inv {nf} isr)')
+k.test(f'p{q_}', l)
+k(f'leaves-loop ! {k.word("test")} $ exec ! C Λ En rest (atRet En Post) $ {LINE}')
+k.asg(f'(of-opd ! {k.word("acc")})', 'res', f'({typed} r _ isr .0)')
+k(f'returns ! (look ! {k.p("c_res")} refl) $ ')
+k.forget(['acc', 'test', 'i', 'res'] + [f'p{j}' for j in idx])
+k.frees(order)
+k.joins([f'tok{j}' for j in sl])
+k(f'keep ! ({k.keeps(["acc"] + [f"O{j}" for j in sl])}) $ by ! (exits{zv} r u {lens_} inv {nf} isr)')
 w(f'''        -- the turn that leaves the loop, and the rest of the body
-        last : (e : ltb i n ≡ false) → Inv a n{zv} r → ent 𝓤 (⋆ 𝓤 H A (I x)) (Wp 𝓤 H C Λ En (turn k) (afterTurn 𝓤 H (Below 𝓤 H A ≺ I x) Left))
-        unfolding afterTurn
-        last e inv =
-          qed W (I x) ∵ exec ! C Λ En (turn k) (anyQ (afterTurn 𝓤 H (Below 𝓤 H A ≺ I x) Left)) $
-          {k.t}
-
-        turn-by : (t : Bool) → ltb i n ≡ t → ent 𝓤 (⋆ 𝓤 H A (I x)) (Wp 𝓤 H C Λ En (turn k) (afterTurn 𝓤 H (Below 𝓤 H A ≺ I x) Left))
+{walk.turn_by('last', f'(e : ltb i n ≡ false) → Inv a n{zv} r', 'e inv', k.t)}
+        turn-by : (t : Bool) → ltb i n ≡ t → {walk.goal}
         turn-by true e = more e (ltb-true i n e) (this-fits i n (ltb-true i n e) f{sub(q_)}) (next-fits i n (ltb-true i n e) f{sub(q_)}) ({invx})
         turn-by false e = last e (subst (λ (t : ℕ). Inv a t{zv} r) (at-end i n (ltb-false i n e) ({mostx})) ({invx}))
 ''')
@@ -511,22 +286,18 @@ w(f'''        -- the turn that leaves the loop, and the rest of the body
 k = C([])
 for x in reversed(order): k.c += ['c_' + x, 'd_' + x]
 k.c += ['alive', 'owns']
-S('params1 ! $ ')
+k('params1 ! $ ')
 for j in idx:
     wt = by(j, f'(shr-slice-lawful 𝓤 H A W (named {lft.get(j)}) {κ(j)} {elt.get(j)} .typed s{sub(j)} (v{sub(j)} ∷ []) p{sub(j)} .0)', f'(tt, (tt, (record {{ fits = room{sub(j)} .0 }}, tt)))', f'(tt, record {{ fits = f{sub(j)} }})', f'({typed} n{sub(j)} _ p{sub(j)} .0)')
-    S(f'pass1 ! (init ! {k.p(f"c_p{j}")} refl {wt}) $ ')
-S(f'pass0 ! $ {NLn}')
-asg(f'(of-opd ! {loadw(f"p{a_}")})', 'acc', f'({typed} n{sub(a_)} _ p{sub(a_)} .0)')
-asg('(of-opd ! (lit ! tt))', 'i', '(tt, record { fits = lit< tt })')
-k.mv('owns')
-for j in idx:
-    S('fsplit ! $ '); k.c = [f'O{j}', 'owns'] + k.c[1:]; k.mv('owns')
-k.mv('alive')
-for j in sl:
-    S('split ! $ '); k.c = [f'tok{j}', 'alive'] + k.c[1:]; k.mv('alive')
+    k(f'pass1 ! (init ! {k.p(f"c_p{j}")} refl {wt}) $ ')
+k(f'pass0 ! $ {LINE}')
+k.asg(f'(of-opd ! {k.word(f"p{a_}")})', 'acc', f'({typed} n{sub(a_)} _ p{sub(a_)} .0)')
+k.asg('(of-opd ! (lit ! tt))', 'i', '(tt, record { fits = lit< tt })')
+k.splits('owns', [f'O{j}' for j in idx], 'fsplit')
+k.splits('alive', [f'tok{j}' for j in sl])
 fa = ' '.join([f'room{sub(j)}' for j in Ms] + [f'f{sub(j)}' for j in Ns] + [f'p{sub(a_)}'] + [f'p{sub(j)}' for j in Ss])
 x0 = '(' + ', '.join(['0'] + [f'ys{sub(j)}' for j in Ms] + [f'n{sub(a_)}', f'v{sub(a_)}'] + ['refl' for j in Ms] + [f'p{sub(a_)}', 'none-less n', 'inv']) + ')'
-S(f'keep ! ({lst(str(k.p(x)) for x in inames)}) $ first ! $ blocks ! $ {NLn}loops ! 𝓣 (≺ 𝓣 known {fa} {ls}) (by-number left) (I 𝓣 known {fa} {ls}) (λ x. by ! (turn-by 𝓣 known {fa} {ls} x (ltb (x .0) n) refl)) {x0}' + ')' * NL)
+k(f'keep ! ({k.keeps(inames)}) $ first ! $ blocks ! $ {LINE}loops ! 𝓣 (≺ 𝓣 known {fa} {ls}) (by-number left) (I 𝓣 known {fa} {ls}) (λ x. by ! (turn-by 𝓣 known {fa} {ls} x (ltb (x .0) n) refl)) {x0}' + ')' * NL)
 w(f'''    walk : (𝓣 : Tables 𝓤 H) → Triple 𝓤 (𝓣 .C k) ({pre}) → Inv a 0{sp(Y[j] for j in Ms)} n{sub(a_)} → {arr(f'Room u64 (length ys{sub(j)})' for j in Ms)}{fits_arrow}{arr(f'Is ({rowAt(j)}) s{sub(j)} (v{sub(j)} ∷ [])' for j in Ss)}
         ent 𝓤 (onEntry 𝓤 H A (ended .signature) {κs} {qs} a at) (WpFn 𝓤 H (𝓣 .C) (𝓣 .Λ) (function k) ({lst(f'v{sub(j)}' for j in idx)}) Post)
     walk 𝓣 known inv {fa} =
@@ -540,12 +311,5 @@ kargs = ' '.join(f'(κs {nest(t)})' for t in range(L)); qargs = ' '.join(f'(qs {
 are = [f'(are {pj(j)} .0 .1)' for j in Ms] + [f'(are {pj(j)} .1)' for j in Ns] + [f'(are {pj(a_)})'] + [f'(are {pj(j)})' for j in Ss]
 spell = tup([by(j, 'slice-vals', 'slice-vals', 'uint-vals w64', vals) for j in idx])
 tell = tup([by(j, f'shr-slice-tells (named {lft.get(j)}) (κs {nest(lft.get(j, 0))}) {elt.get(j)}', f'mut-slice-tells (named {lft.get(j)}) (κs {nest(lft.get(j, 0))}) u64', 'uint-tells w64', tells) for j in idx])
-w(f'''module _ {{M : Type 1}} (𝓤 : URA M) (H : Heap 𝓤) (A : Atoms 𝓤) (W : Given 𝓤 H A) {mods} (𝓣 : Tables 𝓤 H) (known : Triple 𝓤 (𝓣 .C k) ({pre})) where
-  walks : Walks 𝓤 H A ended stayed (WpFn 𝓤 H (𝓣 .C) (𝓣 .Λ) (function k)) c
-  walks = walked 𝓤 H A ended stayed c (WpFn 𝓤 H (𝓣 .C) (𝓣 .Λ) (function k)) (λ κs. {spell}) (λ κs. {tell})
-      (λ κs qs bounds a g are. learns 𝓤 (hold .begins κs a g) (λ inv. walk 𝓤 H A W k c d Inv hold {kargs} {qargs} {' '.join(wargs)} g 𝓣 known inv {' '.join(are)}))
-
-  pub count-meets : Meets 𝓤 H A (ended .signature) (WpFn 𝓤 H (𝓣 .C) (𝓣 .Λ) (function k)) (closing 𝓤 H A ended c)
-  count-meets = walk-meets 𝓤 H A ended stayed W {tup(gos)} c (WpFn 𝓤 H (𝓣 .C) (𝓣 .Λ) (function k)) (WpFn-mono 𝓤 H (W .laws) 𝓣 (function k)) walks
-''')
+w(walk.ended('count-meets', spell, tell, f"{kargs} {qargs} {' '.join(wargs)} g 𝓣 known inv {' '.join(are)}", gos, mods, pre))
 print('\n'.join(o))

@@ -8,6 +8,7 @@
 #   TERM may cite e1, e2, ..: what call 1, 2, .. ensures (numbered as they stand; what follows a branch is numbered once for each way); r1, r2, .. the results; `pre`, with --requires TYPE
 #   and the parameters: s1 (a &[T], `s1 .now`), ys1 (what a &mut [T] holds on entry), h1 (behind a &mut STRUCT), n1 (by value); ws1 .1 .0 for what call 1's argument 1 holds after it
 import sys, subprocess, re
+from walk import C as Context, sub, κ, q, lst, tup, prod, nest, where
 argv = sys.argv[1:]
 crate, fname = argv[0], argv[1]
 finals = []; requires = ''; parts_ = []; asks = {}; uses = []; defs = []
@@ -49,17 +50,6 @@ def all_calls(ss):
         if isinstance(x, list) and x[0] == 'if': yield from all_calls(flat(x[2])); yield from all_calls(flat(x[3]))
 uv = lambda j: f'u{j}' + ('′' if j in (8, 16, 32, 64) else '')      # u8, .. are types
 letter = lambda t: 'abcdefghijklmnopqrstuvwxyz'[t]
-sub = lambda j: ''.join('₀₁₂₃₄₅₆₇₈₉'[int(c)] for c in str(j))
-def lst(xs): return ' ∷ '.join(list(xs) + ['[]'])
-def tup(xs, end='tt'):
-    s = end
-    for x in reversed(xs): s = f'({x}, {s})'
-    return s
-def prod(xs, end='Unit {0}'):
-    s = end
-    for x in reversed(xs): s = f'({x} × {s})'
-    return s
-def nest(j): return ' '.join(['.1'] * j + ['.0'])
 structs = []
 def sname(t):
     c, *way, n = t[1][1].strip('"').split('::')
@@ -91,7 +81,6 @@ for j in range(1, m + 1):
 K = lambda j: params[j-1][0]; LF = lambda j: params[j-1][1]; IN = lambda j: params[j-1][2]
 idx = range(1, m + 1)
 res = info(locs[0])
-κ = lambda n: f'κ{sub(n)}'; q = lambda n: f'q{sub(n)}'
 κs = tup([κ(n) for n in range(L)]); qs = tup([q(n) for n in range(L)])
 by_l = {LF(j): j for j in idx if LF(j) is not None}
 def val(j):
@@ -140,15 +129,9 @@ def gm(g):               # crate and path of a callee
     c, f = g.split('::', 1); return c, f.replace('::', '.')
 gn = {g: f'g{t+1}' for t, g in enumerate(callees)}
 
-class C:
-    def __init__(s, names): s.c = list(names); s.t = ''; s.close = 0
-    def mv(s, *ns):
-        assert len(set(s.c)) == len(s.c), s.c
-        ps = [s.c.index(x) for x in ns]
-        if ps != list(range(len(ps))): s.t += f'move ! ({lst(map(str, ps))}) $ '
-        s.c = list(ns) + [x for x in s.c if x not in ns]
-    def __call__(s, txt): s.t += txt
-    def p(s, x): return s.c.index(x)
+class C(Context):
+    def moves(s, ps):
+        if ps != list(range(len(ps))): super().moves(ps)
     def tidy(s): s.t += f'tidy W ({lst("_" for _ in s.c)}) $ '
 NL = '\n        '
 k = C([])
@@ -293,25 +276,18 @@ def one(s, last):
             own = f'ShrRef (named {n}) {κ(LF(j))} {IN(j)["row"]} .own (ref{j} γ{j} h{j}) (v{j} ∷ [])'
             k.mv(f'O{j}'); k(f'use1 W (‵ (O{j} h{j}) ⊛ ‵ (O{j} h{j})) (shr-copy 𝓤 H A W (named {LF(j)}) {κ(LF(j))} {IN(j)["row"]} .twice (ref{j} γ{j} h{j}) (v{j} ∷ [])) $ split ! $ '); k.c = [f'G{t}', f'O{j}'] + k.c[1:]
             items.append((f'G{t}', own, f'tok{LF(j)}')); dens.append(f'ref{j} γ{j} h{j}'); vals_.append(f'v{j} ∷ []'); build.append((f'G{t}', None)); ws.append(('tt', None))
-        elif e[0] == 'againR':
-            j = e[1]; n = len(klist); closed(j); ν = f'ν{c_}{letter(t)}'; δ = f'δ{c_}{letter(t)}'; l_ = cur[j][0]; r0 = IN(j)['row']
+        elif e[0] in ('againR', 'again'):
+            j = e[1]; n = len(klist); ν = f'ν{c_}{letter(t)}'; δ = f'δ{c_}{letter(t)}'; r0 = IN(j)['row']
+            if e[0] == 'againR': closed(j)
+            l_, ln = cur[j][:2]; of = f'{κ(LF(j))} ({ν} ∷ []) {q(LF(j))} γ{j} b{j} o{j}'
+            kind, what, lent, lends = ('R', 'MutRef', f'LentR {r0} {of} δ ({l_})', f'lendsR 𝓤 H A W {r0} (named {LF(j)}) {of} (named {n}) ({l_})') if e[0] == 'againR' else ('M', 'MutSlice', f'Lent{j} {ν} δ ({l_})', f'lends{j} (named {n}) {ν} ({l_}) ({ln})')
+            own = lambda δ: f'{what} (named {n}) ({ν} ∷ []) {r0} .own (ref{j} {δ} ({l_})) (v{j} ∷ [])'
             k(f'{NL}lft-new ! tt (λ {ν}. '); k.close += 1; k.c.insert(0, ν)
             k.mv(f'O{j}', f'tok{LF(j)}')
-            k(f'use2 W (later (some (λ (δ : GName). ‵ (MutRef (named {n}) ({ν} ∷ []) {r0} .own (ref{j} δ ({l_})) (v{j} ∷ [])) ⊛ ‵ (LentR {r0} {κ(LF(j))} ({ν} ∷ []) {q(LF(j))} γ{j} b{j} o{j} δ ({l_}))))) (lendsR 𝓤 H A W {r0} (named {LF(j)}) {κ(LF(j))} ({ν} ∷ []) {q(LF(j))} γ{j} b{j} o{j} (named {n}) ({l_})) $ await ! tt $ pick ! (λ {δ}. split ! $ '); k.close += 1
+            k(f'use2 W (later (some (λ (δ : GName). ‵ ({own("δ")}) ⊛ ‵ ({lent})))) ({lends}) $ await ! tt $ pick ! (λ {δ}. split ! $ '); k.close += 1
             k.c = [f'G{t}', f'L{t}'] + k.c[2:]
             klist.append(f'({ν} ∷ [])'); qlist.append('fullShare')
-            own = f'MutRef (named {n}) ({ν} ∷ []) {r0} .own (ref{j} {δ} ({l_})) (v{j} ∷ [])'
-            items.append((f'G{t}', own, ν)); dens.append(f'ref{j} {δ} ({l_})'); vals_.append(f'v{j} ∷ []'); build.append((f'G{t}', None)); ws.append(('R', (j, ν, δ, t, n)))
-        elif e[0] == 'again':
-            j = e[1]; n = len(klist); ν = f'ν{c_}{letter(t)}'; δ = f'δ{c_}{letter(t)}'
-            l_, ln = cur[j]
-            k(f'{NL}lft-new ! tt (λ {ν}. '); k.close += 1; k.c.insert(0, ν)
-            k.mv(f'O{j}', f'tok{LF(j)}')
-            k(f'use2 W (later (some (λ (δ : GName). ‵ (MutSlice (named {n}) ({ν} ∷ []) {IN(j)["row"]} .own (ref{j} δ ({l_})) (v{j} ∷ [])) ⊛ ‵ (Lent{j} {ν} δ ({l_}))))) (lends{j} (named {n}) {ν} ({l_}) ({ln})) $ await ! tt $ pick ! (λ {δ}. split ! $ '); k.close += 1
-            k.c = [f'G{t}', f'L{t}'] + k.c[2:]
-            klist.append(f'({ν} ∷ [])'); qlist.append('fullShare')
-            own = f'MutSlice (named {n}) ({ν} ∷ []) {IN(j)["row"]} .own (ref{j} {δ} ({l_})) (v{j} ∷ [])'
-            items.append((f'G{t}', own, ν)); dens.append(f'ref{j} {δ} ({l_})'); vals_.append(f'v{j} ∷ []'); build.append((f'G{t}', None)); ws.append(('M', (j, ν, δ, t, n)))
+            items.append((f'G{t}', own(δ), ν)); dens.append(f'ref{j} {δ} ({l_})'); vals_.append(f'v{j} ∷ []'); build.append((f'G{t}', None)); ws.append((kind, (j, ν, δ, t, n)))
         elif e[0] in ('lend', 'lendS'):
             Q_ = e[1]; _, h_, u_, w_, I = env[Q_]; n = len(klist); ν = f'ν{c_}{letter(t)}'; δ = f'δ{c_}{letter(t)}'; at_ = f'l{sub(Q_)} 0'
             k(f'{NL}lft-new ! tt (λ {ν}. '); k.close += 1; k.c.insert(0, ν)
@@ -513,11 +489,11 @@ use denote.Exit.{{yes}}''')
 for u in uses: w('use ' + u)
 for c, way, n in structs:
     d = '.'.join(way + [n])
-    hs, hp = (f'Rattle.{c}.specs', f'Rattle.{c}.proofs') if c == crate else (f'Rattle.{c}.specs', f'Rattle.{c}.proofs')
+    hs, hp = where(crate, c)
     w(f'use {hs}.declared.{d}.{{{n}}}\nuse {hp}.{d} as m{n}\nuse {hp}.{d}.Laws as l{n}')
 Msl = [j for j in idx if K(j) == 'M']
 if 'into !' in walk: w(f'use types.SemTy.{{Body}}\nuse types.Share.{{parts, arr-parts}}\nuse lib.ListN.{{take}}\nuse lib.Seq.{{length-take-le}}\nuse Prim.Native.Nat.{{_≤_}}\nuse types.Tokens.{{lent-back}}\nuse base.Fml.{{flent}}\nuse denote.Memory.{{cellAt, partAt, mem, shares}}\nuse denote.ArrayMemory.{{array-apart, array-whole}}\nuse denote.Lend.{{lends-ref, ref-back, lends-shr-slice}}\nuse Rattle.{crate}.proofs.Local.{{into, out, rest, cut, mend, room-of}}')
-again = 'Rattle.magnetar_inplace.proofs' if crate == 'magnetar_inplace' else 'Rattle.magnetar_inplace.proofs'
+again = where(crate, 'magnetar_inplace')[1]
 w(f'use {again}.Locals.{{tidy, bare, kept, dies, alloc, hide, free-all}}')
 if Msl: w(f'use {again}.Again.{{LentAgain, lends-again, comes-back}}')
 for g in callees:

@@ -3,14 +3,19 @@
 # tools/count.py write. Run it in the repository's root after a change of a walked function's code or contract, then `rt fmt` and `rt check` of
 # the crate. Nobody has to trust the tools: the checker checks what they write.
 set -e
-c=magnetar_inplace
-p=crates/$c/proofs
+crate() { c=$1; p=crates/$c/proofs; ends=Rattle.$c.proofs; }
 each() { out=$1; shift; python3 tools/each.py $c magnetar_inplace::records::Entry 32 row,col,lo,hi "$@" > $p/$out.new && mv $p/$out.new $p/$out.antt; }
 count() { out=$1; python3 tools/count.py $c magnetar_inplace::records::Entry $3 $2 > $p/$out.new && mv $p/$out.new $p/$out.antt; }
 thin() { f=$1; shift; d=$p/$(echo $f | sed 's/::/\//'); mkdir -p $d; python3 tools/thin.py $c $f "$@" > $d/new && mv $d/new $d/Proof.antt; }
-ends=Rattle.$c.proofs.RecordEnds
-packed=Rattle.$c.proofs.PackedEnds
-masks=Rattle.$c.proofs.MaskEnds
+# six matrices among the parameters, the first at parameter $1: with their sizes, or their entries alone
+six() { for i in 0 3 6 9 12 15; do echo "n$(($1 + i)) n$(($1 + i + 1)) (s$(($1 + i + 2)) .now)"; done | paste -sd ' ' -; }
+alone() { for i in 0 1 2 3 4 5; do echo "(s$(($1 + i)) .now)"; done | paste -sd ' ' -; }
+
+# magnetar_inplace: the record forms
+crate magnetar_inplace
+packed=$ends.PackedEnds
+masks=$ends.MaskEnds
+ends=$ends.RecordEnds
 value='Rattle.magnetar_field.specs.Gf128.{value}'
 
 # the laws for loops over records, by shape
@@ -24,9 +29,7 @@ each EachSNNNNM SNNNNM
 each EachNNMGf128 NNM magnetar_field::gf128::Gf128:lo,hi
 
 # calls in a row
-thin transcript::absorb_bytes
-thin transcript::absorb_u64
-thin transcript::absorb_digest
+for g in absorb_bytes absorb_u64 absorb_digest; do thin transcript::$g; done
 thin transcript::absorb_field --final '(cc, cc)'
 thin transcript::challenge_field --final '(cc, cc)'
 thin transcript::challenge_field_vec --final '(cc, cc, cc)'
@@ -53,11 +56,7 @@ thin records::apply_simd_bit_masks --use "$masks.{masks-done, masks-back}" \
   --final 'masks-back n1 n2 (s3 .now) (s4 .now) ys8 n5 n6 n7 r1 r2 r4 r3 r5 r6 e1 e2 e3 e4 e5 e6 b1'
 
 # magnetar_row_records: the row check
-c=magnetar_row_records
-p=crates/$c/proofs
-ends=Rattle.$c.proofs
-six3='n3 n4 (s5 .now) n6 n7 (s8 .now) n9 n10 (s11 .now) n12 n13 (s14 .now) n15 n16 (s17 .now) n18 n19 (s20 .now)'
-six4='n4 n5 (s6 .now) n7 n8 (s9 .now) n10 n11 (s12 .now) n13 n14 (s15 .now) n16 n17 (s18 .now) n19 n20 (s21 .now)'
+crate magnetar_row_records
 entries='Rattle.magnetar_inplace.specs.Records.{entriesOfRecords}'
 words='Rattle.magnetar_field.specs.Words.{elements}'
 steps=Rattle.$c.specs.Steps
@@ -74,73 +73,55 @@ thin check::judge --use "$ends.WalkLaws.{judge-ends}" --use "$entries" --use "$w
   --final 'judge-ends n2 n3 n4 n5 (s6 .now) (elements (s7 .now)) (entriesOfRecords (s8 .now)) (entriesOfRecords (s9 .now)) (entriesOfRecords (s10 .now)) (entriesOfRecords (s11 .now)) (entriesOfRecords (s12 .now)) (entriesOfRecords (s13 .now)) ys1 (ws2 .1 .1 .0) (ws3 .1 .1 .0) (ws4 .0) r1 r2 r3 e1 e2 e3 e4'
 thin check::judge_unless --final '(rw (← e1, b1) (e3 .0), rw (← e1, b1) (e3 .1))' --final '(rw (← e1, b1) e2, rw (← e1, b1) refl)'
 thin check::all_six
-thin check::refused --use "$ends.NumberLaws.{refused-is}" --final "refused-is $six3 n1 n2 (s21 .now) (s22 .now) n23 r1 r2 e1 e2"
+thin check::refused --use "$ends.NumberLaws.{refused-is}" --final "refused-is $(six 3) n1 n2 (s21 .now) (s22 .now) n23 r1 r2 e1 e2"
 thin check::row_check --use "$ends.CheckEnds.{check-ends}" --use 'Rattle.magnetar_batch.specs.Check.{outcome}' \
-  --final "check-ends $six4 n2 n3 (s22 .now) (s23 .now) ys1 r1 r2 r3 (ws3 .1 .0) (outcome r4) e1 e2 e3 e4"
+  --final "check-ends $(six 4) n2 n3 (s22 .now) (s23 .now) ys1 r1 r2 r3 (ws3 .1 .0) (outcome r4) e1 e2 e3 e4"
 
 # magnetar_forms: locals lent to the thin functions
-c=magnetar_forms
-p=crates/$c/proofs
-thin lent::absorb_bytes
-thin lent::absorb_u64
-thin lent::absorb_digest
+crate magnetar_forms
+for g in absorb_bytes absorb_u64 absorb_digest; do thin lent::$g; done
 thin lent::absorb_field --final '(cc, cc)'
 thin lent::challenge_field --final '(cc, cc, cc)'
 thin lent::challenge_field_vec --final '(cc, cc, cc)'
 thin lent::is_binary --requires 'n4 ≤ 32' --part pre
-thin lent::apply --requires 'n4 ≤ 32' --part pre --final e1
-thin lent::eval_mle_table --requires 'n4 ≤ 32' --part pre --final e1
-thin lent::eval_mle_at --requires 'n4 ≤ 32' --part pre --final e1
-thin lent::apply_simd_packed --requires 'n4 ≤ 32' --part pre --final e1
+for g in apply eval_mle_table eval_mle_at apply_simd_packed; do thin lent::$g --requires 'n4 ≤ 32' --part pre --final e1; done
 
 # magnetar_records: the combined table and the verifier
-c=magnetar_records
-p=crates/$c/proofs
-ends=Rattle.$c.proofs
-six2='n2 n3 (s4 .now) n5 n6 (s7 .now) n8 n9 (s10 .now) n11 n12 (s13 .now) n14 n15 (s16 .now) n17 n18 (s19 .now)'
-six4='n4 n5 (s6 .now) n7 n8 (s9 .now) n10 n11 (s12 .now) n13 n14 (s15 .now) n16 n17 (s18 .now) n19 n20 (s21 .now)'
-six7='n7 n8 (s9 .now) n10 n11 (s12 .now) n13 n14 (s15 .now) n16 n17 (s18 .now) n19 n20 (s21 .now) n22 n23 (s24 .now)'
+crate magnetar_records
 each EachNNM NNM
 thin combo::add_matrix
 thin combo::combine
 thin combo::all_six
 thin combo::fill --final '(cc, cc)'
 thin combo::fill_unless --final '(refl, rw (← e1, b1) (e2 .0), rw (← e1, b1) (e2 .1))' --final '(refl, rw (← e1, b1) refl, rw (← e1, b1) refl)'
-thin combo::refused --use "$ends.ComboEnds.{combo-refused}" --final "combo-refused $six2 n1 (s20 .now) (s21 .now) (s22 .now) n23 n24 r1 r2 e1 e2"
+thin combo::refused --use "$ends.ComboEnds.{combo-refused}" --final "combo-refused $(six 2) n1 (s20 .now) (s21 .now) (s22 .now) n23 n24 r1 r2 e1 e2"
 thin combo::build_m_combo --use "$ends.ComboEnds.{combo-ends}" \
-  --final "combo-ends $six4 n3 (s22 .now) (s23 .now) (s24 .now) ys1 ys2 r1 e1 r2 (ws2 .1 .0) (ws2 .1 .1 .0) e2"
+  --final "combo-ends $(six 4) n3 (s22 .now) (s23 .now) (s24 .now) ys1 ys2 r1 e1 r2 (ws2 .1 .0) (ws2 .1 .1 .0) e2"
 thin virtual_spartan::combine_at
 thin virtual_spartan::combine
 thin virtual_spartan::verify_in --use "$ends.StageLaws.{run-left}" \
   --final 'run-left n4 n5 n7 n8 (s6 .now) (s15 .now) (s16 .now) h1 ys2 _ (ws1 .0) r2 (ws2 .0) (ws2 .1 .0) r3 r4 e1 e2 e3 e4'
 thin virtual_spartan::verify_unless --final 'rw (← e1, b1) e2' --final 'rw (← e1, b1) refl'
 thin virtual_spartan::refused --use "$ends.RunEnds.{verify-refused}" \
-  --final "verify-refused $six4 n1 n2 (s3 .now) (s22 .now) (s23 .now) n24 n25 n26 r1 r2 e1 e2"
+  --final "verify-refused $(six 4) n1 n2 (s3 .now) (s22 .now) (s23 .now) n24 n25 n26 r1 r2 e1 e2"
 thin virtual_spartan::verify_virtual_spartan --use "$ends.RunEnds.{verify-ends}" \
-  --final "verify-ends $six7 n4 n5 (s6 .now) (s25 .now) (s26 .now) h1 ys2 ys3 r2 r1 e1 e2 r3 (ws3 .1 .0) (ws3 .1 .1 .0) (ws3 .1 .1 .1 .0) e3"
+  --final "verify-ends $(six 7) n4 n5 (s6 .now) (s25 .now) (s26 .now) h1 ys2 ys3 r2 r1 e1 e2 r3 (ws3 .1 .0) (ws3 .1 .1 .0) (ws3 .1 .1 .1 .0) e3"
 
 # magnetar_records_prover: the prover
-c=magnetar_records_prover
-p=crates/$c/proofs
-ends=Rattle.$c.proofs
-six7s='(s8 .now) (s9 .now) (s10 .now) (s11 .now) (s12 .now) (s13 .now)'
-six8='(s9 .now) (s10 .now) (s11 .now) (s12 .now) (s13 .now) (s14 .now)'
-six9='(s10 .now) (s11 .now) (s12 .now) (s13 .now) (s14 .now) (s15 .now)'
-six4='n4 n5 (s6 .now) n7 n8 (s9 .now) n10 n11 (s12 .now) n13 n14 (s15 .now) n16 n17 (s18 .now) n19 n20 (s21 .now)'
-six7='n7 n8 (s9 .now) n10 n11 (s12 .now) n13 n14 (s15 .now) n16 n17 (s18 .now) n19 n20 (s21 .now) n22 n23 (s24 .now)'
+crate magnetar_records_prover
 thin products::product --final 'rw (e3, e2 .1, e1)'
 thin products::products
 thin virtual_spartan::first --use "$ends.ProveEnds.{outer-is}" \
-  --final "outer-is n6 n7 n3 n4 n5 $six7s (s14 .now) (s15 .now) ys1 ys2 n16 (ws1 .0) (r2 .«transcript») (r2 .«draws») (ws2 .0) (ws2 .1 .0) r3 (ws4 .0) e1 e2 e3 e4"
+  --final "outer-is n6 n7 n3 n4 n5 $(alone 8) (s14 .now) (s15 .now) ys1 ys2 n16 (ws1 .0) (r2 .«transcript») (r2 .«draws») (ws2 .0) (ws2 .1 .0) r3 (ws4 .0) e1 e2 e3 e4"
 thin virtual_spartan::prove_in --use "$ends.ProveEnds.{prove-in-is}" \
-  --final "prove-in-is n7 n8 n4 n5 (s6 .now) $six8 (s15 .now) (s16 .now) ys1 ys2 ys3 n17 (r1 .«transcript») (r1 .«draws») (ws1 .0) (ws1 .1 .0) r2 (ws2 .0) (ws2 .1 .0) (ws2 .1 .1 .0) (e1 .0) (e1 .1) e2"
+  --final "prove-in-is n7 n8 n4 n5 (s6 .now) $(alone 9) (s15 .now) (s16 .now) ys1 ys2 ys3 n17 (r1 .«transcript») (r1 .«draws») (ws1 .0) (ws1 .1 .0) r2 (ws2 .0) (ws2 .1 .0) (ws2 .1 .1 .0) (e1 .0) (e1 .1) e2"
 thin virtual_spartan::prove_unless --use "$ends.EntryEnds.{unless-some, unless-none}" --use "$ends.ProveEnds.{same}" \
-  --final "unless-some n1 (same n8 n9 n5 n6 (s7 .now) $six9 (s16 .now) (s17 .now) ys2 ys3 ys4 n18) (s16 .now) (s17 .now) ys2 ys3 ys4 n18 r2 (ws2 .0) (ws2 .1 .0) (ws2 .1 .1 .0) r1 e1 b1 e2" \
-  --final "unless-none n1 (same n8 n9 n5 n6 (s7 .now) $six9 (s16 .now) (s17 .now) ys2 ys3 ys4 n18) (s16 .now) (s17 .now) ys2 ys3 ys4 n18 r1 e1 b1"
+  --final "unless-some n1 (same n8 n9 n5 n6 (s7 .now) $(alone 10) (s16 .now) (s17 .now) ys2 ys3 ys4 n18) (s16 .now) (s17 .now) ys2 ys3 ys4 n18 r2 (ws2 .0) (ws2 .1 .0) (ws2 .1 .1 .0) r1 e1 b1 e2" \
+  --final "unless-none n1 (same n8 n9 n5 n6 (s7 .now) $(alone 10) (s16 .now) (s17 .now) ys2 ys3 ys4 n18) (s16 .now) (s17 .now) ys2 ys3 ys4 n18 r1 e1 b1"
 thin virtual_spartan::refused --use "$ends.EntryEnds.{prove-refused}" \
-  --final "prove-refused $six4 n1 n2 (s3 .now) (s22 .now) (s23 .now) (n24 .«squeeze_ctr») r1 n25 n26 n27 r2 r3 e1 e2 e3"
+  --final "prove-refused $(six 4) n1 n2 (s3 .now) (s22 .now) (s23 .now) (n24 .«squeeze_ctr») r1 n25 n26 n27 r2 r3 e1 e2 e3"
 thin virtual_spartan::prove --use "$ends.EntryEnds.{prove-ends}" \
-  --final "prove-ends $six7 n4 n5 (s6 .now) (s25 .now) (s26 .now) n27 ys1 ys2 ys3 r1 e1 r2 (ws2 .1 .0) (ws2 .1 .1 .0) (ws2 .1 .1 .1 .0) r3 e2 e3"
+  --final "prove-ends $(six 7) n4 n5 (s6 .now) (s25 .now) (s26 .now) n27 ys1 ys2 ys3 r1 e1 r2 (ws2 .1 .0) (ws2 .1 .1 .0) (ws2 .1 .1 .1 .0) r3 e2 e3"
 thin virtual_spartan::prove_virtual_spartan --final 'rw (e2, e3) e1'
 
 # magnetar_cases: arrays of records lent. three N F FINAL: F lends three of six and calls F_in, which lends the others; their numbers are the

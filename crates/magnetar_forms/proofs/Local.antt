@@ -5,6 +5,7 @@
 --     cut, mend  the elements in memory are the first n and the rest
 --     room-of    fewer elements have room where more have
 -- Assumes nothing.
+-- Assumes nothing.
 use Prim.Native.Nat.{ℕ, zero, suc, _+_, _≤_}
 use native.Mathlib.Nat.{lt-of-le-of-lt, mul-le-mul-right}
 use mathlib.Core.List.{List, [], _∷_}

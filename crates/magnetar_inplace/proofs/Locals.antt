@@ -6,6 +6,7 @@
 --     dies, cells      what is gathered, and the cells (bare room, or a value that is forgotten), the last local first
 --     free-all         every local is freed: the cells are all that follows the first m items
 -- Assumes `Given`.
+-- Assumes nothing.
 use mathlib.Core.Path.{_≡_, subst}
 use Prim.Native.Nat.{ℕ, zero, suc}
 use mathlib.Core.List.{List, [], _∷_}

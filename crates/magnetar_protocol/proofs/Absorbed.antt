@@ -1,4 +1,5 @@
 -- The schedule absorbs the proof's elements in their order, and before draw k exactly those that the list of draw k sees.
+-- Assumes nothing.
 use mathlib.Core.Path.{_≡_, refl, sym, ap, ap₂, _∙_, subst}
 use mathlib.Core.Bool.{Bool, true, false}
 use mathlib.Core.List.{List, [], _∷_, _++_}

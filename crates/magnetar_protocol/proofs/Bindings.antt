@@ -1,5 +1,6 @@
 -- What is left of a table when all its variables are bound is its value at the point; and the value of a segment of the folded bits is
 -- the sum that its claim is about.
+-- Assumes nothing.
 use mathlib.Core.Path.{_≡_, refl, sym, ap, ap₂, _∙_}
 use mathlib.Core.Bool.{Bool, true, false}
 use mathlib.Core.List.{List, [], _∷_, _++_, reverse, reverse-cons, append-nil, append-assoc}

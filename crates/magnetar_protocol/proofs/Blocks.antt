@@ -1,5 +1,6 @@
 -- The verifier's answer and its stop in two blocks, before and after the alphas; and what depends on the sizes of a relation alone is
 -- the same at its outline.
+-- Assumes nothing.
 use mathlib.Core.Path.{_≡_, refl, sym, ap, _∙_}
 use mathlib.Core.Bool.{Bool, true, false, cond}
 use mathlib.Core.List.{List, [], _∷_, _++_, append-assoc}

@@ -1,4 +1,5 @@
 -- The parts of the returned claims: they are true exactly where each segment value is the true value at the points of the draws.
+-- Assumes nothing.
 use mathlib.Core.Path.{_≡_, sym, ap, _∙_}
 use mathlib.Core.List.{List, _++_}
 use Prim.Native.Nat.{ℕ, _+_, _-_, _<_}

@@ -1,4 +1,5 @@
 -- The theorem on the honest prover.
+-- Assumes nothing.
 use mathlib.Core.Path.{_≡_, sym, ap, subst}
 use mathlib.Core.List.{List, _++_}
 use Prim.Native.Nat.{ℕ}

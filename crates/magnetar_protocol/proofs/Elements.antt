@@ -1,4 +1,5 @@
 -- Taking elements of lists of numbers, part by part, and of their sums of products.
+-- Assumes nothing.
 use mathlib.Core.Path.{_≡_, refl, sym, ap, ap₂, _∙_}
 use mathlib.Core.List.{List, [], _∷_, _++_, map, reverse, reverse-cons}
 use Prim.Native.Nat.{ℕ, zero, suc, _^_, _<_}

@@ -1,4 +1,5 @@
 -- The sizes, goodness and layout of the second example: what the two theorems ask for can be had.
+-- Assumes nothing.
 use mathlib.Core.Path.{_≡_, refl}
 use mathlib.Core.Bool.{true, false, false≢true}
 use mathlib.Core.List.{[], _∷_}

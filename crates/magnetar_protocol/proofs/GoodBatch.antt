@@ -1,4 +1,5 @@
 -- A batch is good where it is good in the theory: (Az)(Bz) + Cz is zero in each row of each login.
+-- Assumes nothing.
 use mathlib.Core.Path.{_≡_, refl, sym, ap, ap₂, _∙_, subst}
 use mathlib.Core.List.{List, [], _∷_, _++_}
 use Prim.Native.Nat.{ℕ, zero, suc, _^_, _<_}

@@ -1,4 +1,5 @@
 -- The honest words are elements.
+-- Assumes nothing.
 use mathlib.Core.List.{List, [], _∷_, _++_}
 use Prim.Native.Nat.{ℕ, zero, suc, _^_, _<_}
 use lib.ListN.{length, getD, take, drop}

@@ -1,5 +1,6 @@
 -- Where the segments of a layout lie: each at a multiple of its length, one behind the other, within the columns. These laws
 -- speak of magnetar_r1cs alone.
+-- Assumes nothing.
 use mathlib.Core.Path.{_≡_, refl, ap}
 use mathlib.Core.Bool.{Bool, true, false, _&&_, _||_, and-eq-true-iff}
 use mathlib.Core.List.{List, [], _∷_}

@@ -1,4 +1,5 @@
 -- An answer of 0 means that every check passes, and so that every round of each sum-check does.
+-- Assumes nothing.
 use mathlib.Core.Path.{_≡_, refl}
 use mathlib.Core.Bool.{Bool, true, false, and-eq-true-iff}
 use mathlib.Core.List.{List, [], _∷_, _++_}

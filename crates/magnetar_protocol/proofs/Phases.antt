@@ -1,4 +1,5 @@
 -- The verifier's answer phase by phase: a later phase decides where the earlier ones find nothing.
+-- Assumes nothing.
 use mathlib.Core.Path.{_≡_, refl, ap, _∙_}
 use mathlib.Core.Bool.{Bool, true, false, cond}
 use mathlib.Core.List.{List, [], _∷_, _++_}

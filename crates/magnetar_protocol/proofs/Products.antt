@@ -1,4 +1,5 @@
 -- The products of matrices and vectors over numbers are those of the theory, row by row, and so are the column sums.
+-- Assumes nothing.
 use mathlib.Core.Path.{_≡_, refl, sym, ap, ap₂, _∙_, subst}
 use mathlib.Core.Bool.{Bool, true, false, cond}
 use mathlib.Core.List.{List, [], _∷_, map}

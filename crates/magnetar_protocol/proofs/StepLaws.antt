@@ -1,5 +1,6 @@
 -- The prover's steps: what each of them draws, says and makes of the transcript, which is what the schedule makes of it when the
 -- proof holds what is said. And its steps behind others.
+-- Assumes nothing.
 use mathlib.Core.Path.{_≡_, refl, sym, ap, ap₂, _∙_, subst}
 use mathlib.Core.List.{List, [], _∷_, _++_, append-nil, append-assoc}
 use Prim.Native.Nat.{ℕ, zero, suc, _+_, _-_, _*_}

@@ -1,5 +1,6 @@
 -- The prover's run step by step goes along the schedule: what it says, what it draws, and that a verifier who is given its words hears
 -- the same.
+-- Assumes nothing.
 use mathlib.Core.Path.{_≡_, refl, sym, ap, ap₂, _∙_, subst, subst₂}
 use mathlib.Core.List.{List, [], _∷_, _++_, append-nil}
 use Prim.Native.Nat.{ℕ, zero, suc, _+_, _-_, _*_, _/_}

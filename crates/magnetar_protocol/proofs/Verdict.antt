@@ -1,5 +1,6 @@
 -- The verifier's answer is 0 exactly where the rounds of the three sum-checks pass, their terminal equations hold, and so does
 -- the identity of the segments.
+-- Assumes nothing.
 use mathlib.Core.Path.{_≡_, refl, sym, ap, ap₂, _∙_, subst}
 use mathlib.Core.Bool.{Bool, true, false}
 use mathlib.Core.List.{List, [], _∷_, _++_, append-assoc}

@@ -1,4 +1,5 @@
 -- One test more, after a number or after none.
+-- Assumes nothing.
 use mathlib.Core.Path.{_≡_, refl, sym, ap, _∙_, subst}
 use mathlib.Core.Bool.{Bool, not, false}
 use mathlib.Core.List.{List, [], _∷_, _++_}

@@ -1,4 +1,5 @@
 -- The eq factor's table over the variables that stay, made in place; and its value at the point that the challenges make.
+-- Assumes nothing.
 use mathlib.Core.Path.{_≡_, refl, sym, ap, ap₂, _∙_}
 use mathlib.Core.Bool.{Bool, true, false, cond}
 use mathlib.Core.List.{List, [], _∷_, _++_, reverse, reverse-cons}

@@ -1,5 +1,6 @@
 -- The pairs of an eq table: where the next variable is 0 and where it is 1 stand the entries of the eq table over the others, times
 -- 1 + t and times t, with t for the variable's element of the point.
+-- Assumes nothing.
 use mathlib.Core.Path.{_≡_, refl, sym, ap, ap₂, _∙_}
 use mathlib.Core.List.{List, [], _∷_, _++_, append-nil}
 use Prim.Native.Nat.{ℕ, zero, suc, _+_, _^_, _<_}

@@ -1,4 +1,5 @@
 -- The elements of numbers carry the sums, products and polynomials of magnetar_field over to the field of the theory.
+-- Assumes nothing.
 use mathlib.Core.Path.{_≡_, refl, ap, _∙_}
 use mathlib.Core.List.{List, [], _∷_, map}
 use Prim.Native.Nat.{ℕ, _^_, _<_}

@@ -1,4 +1,5 @@
 -- The verifier's passes over a message, from its last coefficient to its first; and elements compared word by word.
+-- Assumes nothing.
 use mathlib.Core.Path.{_≡_, refl, sym, ap, ap₂, _∙_}
 use mathlib.Core.Bool.{Bool, true, false}
 use mathlib.Core.List.{List, [], _∷_}

@@ -1,5 +1,6 @@
 -- From the sums over the pairs to the message: the middle coefficient is the sum of all three (Karatsuba), the eq factor is
 -- multiplied in, and the coefficients are stored at the front of the output.
+-- Assumes nothing.
 use mathlib.Core.Path.{_≡_, refl, sym, ap, _∙_}
 use mathlib.Core.List.{List, [], _∷_, _++_}
 use Prim.Native.Nat.{ℕ, zero, suc, _+_, _*_, _/_, _%_, _^_, _≤_, _<_}

@@ -1,4 +1,5 @@
 -- The polynomial of an outer round, with the eq factor kept apart, over any field: the sum over pairs, coefficient by coefficient.
+-- Assumes nothing.
 use mathlib.Core.Path.{_≡_, ap₂, _∙_}
 use mathlib.Core.List.{List, [], _∷_}
 use Prim.Native.Nat.{ℕ, zero, suc}

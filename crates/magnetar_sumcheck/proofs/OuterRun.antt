@@ -1,5 +1,6 @@
 -- The outer prover over numbers follows the theory: what it holds stands for a state of the theory's sum-check, its message is that
 -- state's polynomial, and its fold binds that state's next variable. So its messages are the honest ones.
+-- Assumes nothing.
 use mathlib.Core.Path.{_≡_, refl, sym, ap, ap₂, _∙_, subst}
 use mathlib.Core.List.{List, [], _∷_, map}
 use Prim.Native.Nat.{ℕ, zero, suc, _+_, _-_, _/_, _%_, _^_, _≤_, _<_}

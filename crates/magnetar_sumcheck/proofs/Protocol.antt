@@ -1,5 +1,6 @@
 -- The laws of both sum-checks over numbers: the message's value at the challenge is the sum that is left, its values at 0 and at 1 add up
 -- to the sum before; honest messages pass, and checks that pass with a true end leave a true claim or a challenge in its list.
+-- Assumes nothing.
 use mathlib.Core.Path.{_≡_, refl, sym, ap, ap₂, _∙_, subst}
 use mathlib.Core.Bool.{true}
 use mathlib.Core.List.{List, [], _∷_, _++_, map, reverse, reverse-cons}

@@ -1,4 +1,5 @@
 -- Entries of tables, and where the entries of a pair stand for the lowest and for the highest variable.
+-- Assumes nothing.
 use mathlib.Core.Path.{_≡_, refl}
 use mathlib.Core.List.{List, [], _∷_, map}
 use Prim.Native.Nat.{ℕ, zero, suc, _+_, _^_, _<_}

@@ -1,5 +1,6 @@
 -- The two laws of a round over numbers: the message's value at r is the sum over the bound tables, and its values at 0 and at 1 add
 -- up to the sum over the tables.
+-- Assumes nothing.
 use mathlib.Core.Path.{_≡_, refl, sym, ap, _∙_}
 use mathlib.Core.List.{List, [], _∷_, map}
 use Prim.Native.Nat.{ℕ, zero, suc, _^_, _<_}

@@ -1,4 +1,5 @@
 -- The verifier's rounds over numbers are those of the theory: the checks pass for the numbers where they hold for their elements.
+-- Assumes nothing.
 use mathlib.Core.Path.{_≡_, refl, sym, ap, _∙_}
 use mathlib.Core.Bool.{true, false, false≢true, and-eq-true-iff}
 use mathlib.Core.List.{List, [], _∷_, map}

@@ -1,4 +1,5 @@
 -- Two lists of values with the same combination by alpha are equal, or some alpha_k is in its list, of at most one element.
+-- Assumes nothing: the field and its laws are parameters.
 use mathlib.Core.Path.{_≡_, refl, sym, ap, ap₂, _∙_}
 use mathlib.Core.Bool.{Bool, true, false, _&&_, cond}
 use mathlib.Core.List.{List, [], _∷_, List·Memᴰ}

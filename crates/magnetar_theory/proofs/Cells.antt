@@ -1,4 +1,5 @@
 -- Both kinds of cells: the polynomial on a line has the value of the cell there.
+-- Assumes nothing: the field and its laws are parameters.
 use mathlib.Core.Path.{_≡_}
 use Rattle.magnetar_theory.specs.Field.{Field, Laws, eval}
 use Rattle.magnetar_theory.proofs.Ring.{ring}

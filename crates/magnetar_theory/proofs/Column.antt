@@ -1,4 +1,5 @@
 -- A column of a table of cells is bound as a table of elements is; at the end one cell is left.
+-- Assumes nothing: the field and its laws are parameters.
 use mathlib.Core.Path.{_≡_, refl, sym, ap, ap₂, _∙_}
 use mathlib.Core.List.{List, [], _∷_, _++_, map, reverse}
 use Prim.Native.Nat.{ℕ, zero, suc, _+_, _^_, _≤_}

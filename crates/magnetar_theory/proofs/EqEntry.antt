@@ -1,4 +1,5 @@
 -- Entry i of the eq table is the product over j of p_j where bit j of i is 1, and of 1 + p_j where it is 0.
+-- Assumes nothing: the field and its laws are parameters.
 use mathlib.Core.Path.{_≡_, refl, ap, ap₂, _∙_}
 use mathlib.Core.List.{List, [], _∷_}
 use Prim.Native.Nat.{ℕ, zero, suc, _^_, _<_, _/_, _%_}

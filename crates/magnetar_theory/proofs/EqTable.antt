@@ -1,4 +1,5 @@
 -- A table bound at a point, in either order, is its sum against the point's eq table; eq of two points is a product.
+-- Assumes nothing: the field and its laws are parameters.
 use mathlib.Core.Path.{_≡_, refl, sym, ap, ap₂, _∙_}
 use mathlib.Core.List.{List, [], _∷_, _++_, reverse, reverse-cons, append-assoc, append-nil}
 use Prim.Native.Nat.{ℕ, suc, _+_, _^_}

@@ -1,4 +1,5 @@
 -- GF(2^128) meets the laws of a field, and taking the element of a number is a homomorphism.
+-- Assumes nothing: the field and its laws are parameters.
 use mathlib.Core.Path.{_≡_, refl, sym, ap, ap₂, _∙_, subst}
 use mathlib.Core.Bool.{true, _&&_, true≢false}
 use mathlib.Core.List.{List, [], _∷_, map, List·Memᴰ, List·Memᴰ·head, List·Memᴰ·tail}

@@ -1,4 +1,5 @@
 -- The inner sum-check is sound up to its lists, and complete.
+-- Assumes nothing: the field and its laws are parameters.
 use mathlib.Core.Path.{_≡_, refl, sym, ap, ap₂, _∙_}
 use mathlib.Core.List.{List, [], _∷_, map, append-nil}
 use mathlib.Core.Logic.{_⊎_, inl, inr}

@@ -1,4 +1,5 @@
 -- The table of all products of a matrix, summed against an eq table, is the matrix's column sums against the folded vector.
+-- Assumes nothing: the field and its laws are parameters.
 use mathlib.Core.Path.{_≡_, refl, sym, ap, ap₂, _∙_}
 use mathlib.Core.List.{List, [], _∷_, _++_, map}
 use Prim.Native.Nat.{ℕ, zero, suc, _^_}

@@ -1,4 +1,5 @@
 -- The laws of a ring of characteristic two, by name and as a ruleset for `simp`, which makes it a normaliser.
+-- Assumes nothing: the field and its laws are parameters.
 use mathlib.Core.Path.{_≡_, sym, ap, _∙_}
 use Rattle.magnetar_theory.specs.Field.{Field, Ring}
 

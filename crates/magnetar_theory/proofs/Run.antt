@@ -1,4 +1,5 @@
 -- A whole run, accepted with true claims: the batch is good, or a draw is bad. A good batch: the honest words are accepted.
+-- Assumes nothing: the field and its laws are parameters.
 use mathlib.Core.Path.{_≡_, refl, sym, ap, ap₂, _∙_}
 use mathlib.Core.Bool.{Bool, true, false, false≢true}
 use mathlib.Core.List.{List, [], _∷_, _++_, map, reverse}

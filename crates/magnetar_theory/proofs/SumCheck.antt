@@ -1,4 +1,5 @@
 -- The sum-check is sound up to the lists of bad challenges, and complete.
+-- Assumes nothing: the field and its laws are parameters.
 use mathlib.Core.Path.{_≡_, refl, sym, ap, _∙_}
 use mathlib.Core.Bool.{Bool, true, false, _&&_, cond, false≢true}
 use mathlib.Core.List.{List, [], _∷_, List·Memᴰ}

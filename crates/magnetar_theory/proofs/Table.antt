@@ -1,5 +1,6 @@
 -- The rounds over tables of cells are rounds of a sum-check: the polynomial's value at r is the sum over the bound table, and
 -- its values at 0 and 1 add up to the sum over the table.
+-- Assumes nothing: the field and its laws are parameters.
 use mathlib.Core.Path.{_≡_, refl, _∙_}
 use mathlib.Core.List.{List, [], _∷_}
 use Prim.Native.Nat.{ℕ, zero, suc, _+_, _^_}

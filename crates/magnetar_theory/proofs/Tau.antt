@@ -1,4 +1,5 @@
 -- A table whose sum against the eq table of tau is zero is all zero, or some tau_j is in its list, of at most one element.
+-- Assumes nothing: the field and its laws are parameters.
 use mathlib.Core.Path.{_≡_, refl, sym, ap₂, _∙_}
 use mathlib.Core.Bool.{Bool, true, false, _&&_, cond, false≢true}
 use mathlib.Core.List.{List, [], _∷_, List·Memᴰ}

@@ -1,4 +1,5 @@
 -- The two theorems on a whole run over GF(2^128), and the sizes of the lists.
+-- Assumes nothing: the field and its laws are parameters.
 use mathlib.Core.Path.{_≡_, sym}
 use mathlib.Core.List.{List, map}
 use mathlib.Core.Logic.{_⊎_, inl, inr}

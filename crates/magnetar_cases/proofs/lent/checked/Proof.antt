@@ -85,7 +85,6 @@ is-no : (t : Bool) → Trueᴮ (not t) → t ≡ false
 is-no true a = absurd a
 is-no false _ = refl
 
-
 abbrev stayed : Stays (f.ended .signature .params) (f.ended .kept)
 stayed = (stay-slice (0 ∷ []) tt (plain (λ _. u64)), (stay-none (λ _. u64) yes, (stay-none (λ _. u64) yes, (stay-none (λ _. u64) yes, (stay-none (λ _. u64) yes, (stay-none (λ _. (Array mEntry.the-row 64)) yes, (stay-none (λ _. u64) yes, (stay-none (λ _. u64) yes, (stay-none (λ _. (Array mEntry.the-row 64)) yes, (stay-none (λ _. u64) yes, (stay-none (λ _. u64) yes, (stay-none (λ _. (Array mEntry.the-row 64)) yes, (stay-none (λ _. u64) yes, (stay-none (λ _. u64) yes, (stay-none (λ _. (Array mEntry.the-row 64)) yes, (stay-none (λ _. u64) yes, (stay-none (λ _. u64) yes, (stay-none (λ _. (Array mEntry.the-row 64)) yes, (stay-none (λ _. u64) yes, (stay-none (λ _. u64) yes, (stay-none (λ _. (Array mEntry.the-row 64)) yes, (stay-none-slice (1 ∷ []) tt (plain (λ _. u64)) yes, (stay-none-slice (2 ∷ []) tt (plain (λ _. u64)) yes, (stay-none (λ _. u64) yes, (stay-none (λ _. u64) yes, (stay-none (λ _. u64) yes, (stay-none (λ _. u64) yes, (stay-none (λ _. u64) yes, (stay-none (λ _. u64) yes, tt)))))))))))))))))))))))))))))
 
@@ -221,50 +220,47 @@ module _ {M : Type 1} (𝓤 : URA M) (H : Heap 𝓤) (A : Atoms 𝓤) (W : Given
     walk : ((n24 ≤ 64) × (n25 ≤ 64) × (n26 ≤ 64) × (n27 ≤ 64) × (n28 ≤ 64) × (n29 ≤ 64)) → ent 𝓤 (onEntry 𝓤 H A f.signature (κ₀, (κ₁, (κ₂, tt))) (q₀, (q₁, (q₂, tt))) a at) (WpFn 𝓤 H C Λ code.function (v1 ∷ v2 ∷ v3 ∷ v4 ∷ v5 ∷ v6 ∷ v7 ∷ v8 ∷ v9 ∷ v10 ∷ v11 ∷ v12 ∷ v13 ∷ v14 ∷ v15 ∷ v16 ∷ v17 ∷ v18 ∷ v19 ∷ v20 ∷ v21 ∷ v22 ∷ v23 ∷ v24 ∷ v25 ∷ v26 ∷ v27 ∷ v28 ∷ v29 ∷ []) Post)
     walk pre =
         qed W ((‵ (flft κ₀ q₀) ⊛ ‵ (flft κ₁ q₁) ⊛ ‵ (flft κ₂ q₂) ⊛ ‵ ftrue) ∷ ‵ (owns (MutSlice (named 0) κ₀ u64 ∷ u64 ∷ u64 ∷ u64 ∷ u64 ∷ (Array mEntry.the-row 64) ∷ u64 ∷ u64 ∷ (Array mEntry.the-row 64) ∷ u64 ∷ u64 ∷ (Array mEntry.the-row 64) ∷ u64 ∷ u64 ∷ (Array mEntry.the-row 64) ∷ u64 ∷ u64 ∷ (Array mEntry.the-row 64) ∷ u64 ∷ u64 ∷ (Array mEntry.the-row 64) ∷ ShrSlice (named 1) κ₁ u64 ∷ ShrSlice (named 2) κ₂ u64 ∷ u64 ∷ u64 ∷ u64 ∷ u64 ∷ u64 ∷ u64 ∷ []) a at) ∷ []) ∵ enter ! C Λ code.function (v1 ∷ v2 ∷ v3 ∷ v4 ∷ v5 ∷ v6 ∷ v7 ∷ v8 ∷ v9 ∷ v10 ∷ v11 ∷ v12 ∷ v13 ∷ v14 ∷ v15 ∷ v16 ∷ v17 ∷ v18 ∷ v19 ∷ v20 ∷ v21 ∷ v22 ∷ v23 ∷ v24 ∷ v25 ∷ v26 ∷ v27 ∷ v28 ∷ v29 ∷ []) _ $
-        nothing ! $ alloc ! (λ l₀. alloc ! (λ l₁. alloc ! (λ l₂. alloc ! (λ l₃. alloc ! (λ l₄. alloc ! (λ l₅. alloc ! (λ l₆. alloc ! (λ l₇. alloc ! (λ l₈. alloc ! (λ l₉. alloc ! (λ l₁₀. alloc ! (λ l₁₁. alloc ! (λ l₁₂. alloc ! (λ l₁₃. alloc ! (λ l₁₄. alloc ! (λ l₁₅. alloc ! (λ l₁₆. alloc ! (λ l₁₇. alloc ! (λ l₁₈. alloc ! (λ l₁₉. alloc ! (λ l₂₀. alloc ! (λ l₂₁. alloc ! (λ l₂₂. alloc ! (λ l₂₃. alloc ! (λ l₂₄. alloc ! (λ l₂₅. alloc ! (λ l₂₆. alloc ! (λ l₂₇. alloc ! (λ l₂₈. alloc ! (λ l₂₉. alloc ! (λ l₃₀. alloc ! (λ l₃₁. alloc ! (λ l₃₂. alloc ! (λ l₃₃. alloc ! (λ l₃₄. alloc ! (λ l₃₅. alloc ! (λ l₃₆. alloc ! (λ l₃₇. alloc ! (λ l₃₈. alloc ! (λ l₃₉. alloc ! (λ l₄₀. alloc0 ! $ hide ! (λ died die. params1 ! $ pass1 ! (init ! 40 refl (tt, (tt, (record { fits = room1 .0 }, tt)))) $ pass1 ! (init ! 39 refl (uint-lawful 𝓤 H A W w64 .typed n2 _ w2 .0)) $ pass1 ! (init ! 38 refl (uint-lawful 𝓤 H A W w64 .typed n3 _ w3 .0)) $ pass1 ! (init ! 37 refl (uint-lawful 𝓤 H A W w64 .typed n4 _ w4 .0)) $ pass1 ! (init ! 36 refl (uint-lawful 𝓤 H A W w64 .typed n5 _ w5 .0)) $ pass1 ! (init ! 35 refl (array-lawful 𝓤 H A W mEntry.the-row (LL.lawful mEntry.the-type lEntry.the-laws 𝓤 H A W) 64 .typed n6 _ w6 .0)) $ pass1 ! (init ! 34 refl (uint-lawful 𝓤 H A W w64 .typed n7 _ w7 .0)) $ pass1 ! (init ! 33 refl (uint-lawful 𝓤 H A W w64 .typed n8 _ w8 .0)) $ pass1 ! (init ! 32 refl (array-lawful 𝓤 H A W mEntry.the-row (LL.lawful mEntry.the-type lEntry.the-laws 𝓤 H A W) 64 .typed n9 _ w9 .0)) $ pass1 ! (init ! 31 refl (uint-lawful 𝓤 H A W w64 .typed n10 _ w10 .0)) $ pass1 ! (init ! 30 refl (uint-lawful 𝓤 H A W w64 .typed n11 _ w11 .0)) $ pass1 ! (init ! 29 refl (array-lawful 𝓤 H A W mEntry.the-row (LL.lawful mEntry.the-type lEntry.the-laws 𝓤 H A W) 64 .typed n12 _ w12 .0)) $ pass1 ! (init ! 28 refl (uint-lawful 𝓤 H A W w64 .typed n13 _ w13 .0)) $ pass1 ! (init ! 27 refl (uint-lawful 𝓤 H A W w64 .typed n14 _ w14 .0)) $ pass1 ! (init ! 26 refl (array-lawful 𝓤 H A W mEntry.the-row (LL.lawful mEntry.the-type lEntry.the-laws 𝓤 H A W) 64 .typed n15 _ w15 .0)) $ pass1 ! (init ! 25 refl (uint-lawful 𝓤 H A W w64 .typed n16 _ w16 .0)) $ pass1 ! (init ! 24 refl (uint-lawful 𝓤 H A W w64 .typed n17 _ w17 .0)) $ pass1 ! (init ! 23 refl (array-lawful 𝓤 H A W mEntry.the-row (LL.lawful mEntry.the-type lEntry.the-laws 𝓤 H A W) 64 .typed n18 _ w18 .0)) $ pass1 ! (init ! 22 refl (uint-lawful 𝓤 H A W w64 .typed n19 _ w19 .0)) $ pass1 ! (init ! 21 refl (uint-lawful 𝓤 H A W w64 .typed n20 _ w20 .0)) $ pass1 ! (init ! 20 refl (array-lawful 𝓤 H A W mEntry.the-row (LL.lawful mEntry.the-type lEntry.the-laws 𝓤 H A W) 64 .typed n21 _ w21 .0)) $ pass1 ! (init ! 19 refl (shr-slice-lawful 𝓤 H A W (named 1) κ₁ u64 .typed s22 (v22 ∷ []) w22 .0)) $ pass1 ! (init ! 18 refl (shr-slice-lawful 𝓤 H A W (named 2) κ₂ u64 .typed s23 (v23 ∷ []) w23 .0)) $ pass1 ! (init ! 17 refl (uint-lawful 𝓤 H A W w64 .typed n24 _ w24 .0)) $ pass1 ! (init ! 16 refl (uint-lawful 𝓤 H A W w64 .typed n25 _ w25 .0)) $ pass1 ! (init ! 15 refl (uint-lawful 𝓤 H A W w64 .typed n26 _ w26 .0)) $ pass1 ! (init ! 14 refl (uint-lawful 𝓤 H A W w64 .typed n27 _ w27 .0)) $ pass1 ! (init ! 13 refl (uint-lawful 𝓤 H A W w64 .typed n28 _ w28 .0)) $ pass1 ! (init ! 12 refl (uint-lawful 𝓤 H A W w64 .typed n29 _ w29 .0)) $ pass0 ! $ 
-        move ! (43 ∷ []) $ fsplit ! $ move ! (1 ∷ []) $ fsplit ! $ move ! (1 ∷ []) $ fsplit ! $ move ! (1 ∷ []) $ fsplit ! $ move ! (1 ∷ []) $ fsplit ! $ move ! (1 ∷ []) $ fsplit ! $ move ! (1 ∷ []) $ fsplit ! $ move ! (1 ∷ []) $ fsplit ! $ move ! (1 ∷ []) $ fsplit ! $ move ! (1 ∷ []) $ fsplit ! $ move ! (1 ∷ []) $ fsplit ! $ move ! (1 ∷ []) $ fsplit ! $ move ! (1 ∷ []) $ fsplit ! $ move ! (1 ∷ []) $ fsplit ! $ move ! (1 ∷ []) $ fsplit ! $ move ! (1 ∷ []) $ fsplit ! $ move ! (1 ∷ []) $ fsplit ! $ move ! (1 ∷ []) $ fsplit ! $ move ! (1 ∷ []) $ fsplit ! $ move ! (1 ∷ []) $ fsplit ! $ move ! (1 ∷ []) $ fsplit ! $ move ! (1 ∷ []) $ fsplit ! $ move ! (1 ∷ []) $ fsplit ! $ move ! (1 ∷ []) $ fsplit ! $ move ! (1 ∷ []) $ fsplit ! $ move ! (1 ∷ []) $ fsplit ! $ move ! (1 ∷ []) $ fsplit ! $ move ! (1 ∷ []) $ fsplit ! $ move ! (1 ∷ []) $ fsplit ! $ move ! (1 ∷ []) $ drop ! $ move ! (71 ∷ []) $ split ! $ move ! (1 ∷ []) $ split ! $ move ! (1 ∷ []) $ split ! $ move ! (1 ∷ []) $ drop ! $ tidy W (_ ∷ _ ∷ _ ∷ _ ∷ _ ∷ _ ∷ _ ∷ _ ∷ _ ∷ _ ∷ _ ∷ _ ∷ _ ∷ _ ∷ _ ∷ _ ∷ _ ∷ _ ∷ _ ∷ _ ∷ _ ∷ _ ∷ _ ∷ _ ∷ _ ∷ _ ∷ _ ∷ _ ∷ _ ∷ _ ∷ _ ∷ _ ∷ _ ∷ _ ∷ _ ∷ _ ∷ _ ∷ _ ∷ _ ∷ _ ∷ _ ∷ _ ∷ _ ∷ _ ∷ _ ∷ _ ∷ _ ∷ _ ∷ _ ∷ _ ∷ _ ∷ _ ∷ _ ∷ _ ∷ _ ∷ _ ∷ _ ∷ _ ∷ _ ∷ _ ∷ _ ∷ _ ∷ _ ∷ _ ∷ _ ∷ _ ∷ _ ∷ _ ∷ _ ∷ _ ∷ _ ∷ _ ∷ _ ∷ _ ∷ []) $ 
-        assigns ! (of-opd ! (load ! (from ! (stop !)) (look ! 67 refl))) (from ! (stop !)) (init ! 43 refl (array-lawful 𝓤 H A W mEntry.the-row (LL.lawful mEntry.the-type lEntry.the-laws 𝓤 H A W) 64 .typed n6 _ w6 .0)) $ 
-        assigns ! (of-opd ! (load ! (from ! (stop !)) (look ! 64 refl))) (from ! (stop !)) (init ! 42 refl (array-lawful 𝓤 H A W mEntry.the-row (LL.lawful mEntry.the-type lEntry.the-laws 𝓤 H A W) 64 .typed n9 _ w9 .0)) $ 
-        assigns ! (of-opd ! (load ! (from ! (stop !)) (look ! 61 refl))) (from ! (stop !)) (init ! 41 refl (array-lawful 𝓤 H A W mEntry.the-row (LL.lawful mEntry.the-type lEntry.the-laws 𝓤 H A W) 64 .typed n12 _ w12 .0)) $ 
-        assigns ! (addr ! (from ! (fld ! refl (hop ! (look-in ! 72 (sub ! 0 refl (whole !))) (stop !))))) (from ! (stop !)) (init ! 40 refl (tt, tt)) $ 
-        assigns ! (agg ! (and-then ! (load ! (from ! (stop !)) (look ! 40 refl)) (and-then ! (load ! (from ! (fld ! refl (stop !))) (look-in ! 72 (sub ! 1 refl (whole !)))) (no-more !)))) (from ! (stop !)) (init ! 39 refl (tt, (tt, (record { fits = room1 .0 }, tt)))) $ 
-        assigns ! (addr ! (from ! (stop !))) (from ! (stop !)) (init ! 38 refl (tt, tt)) $ 
-        rewrite ! 49 (λ (w : Val). ‵ (fat fullShare (tyInt w64) l₂₄ 0 w)) (ap only (w24 .0)) refl $ assigns ! (agg ! (and-then ! (load ! (from ! (stop !)) (look ! 38 refl)) (and-then ! (load ! (from ! (stop !)) (look ! 49 refl)) (no-more !)))) (from ! (stop !)) (init ! 37 refl (tt, (tt, (record { fits = w24 .1 }, tt)))) $ 
-        assigns ! (addr ! (from ! (stop !))) (from ! (stop !)) (init ! 36 refl (tt, tt)) $ 
-        rewrite ! 48 (λ (w : Val). ‵ (fat fullShare (tyInt w64) l₂₅ 0 w)) (ap only (w25 .0)) refl $ assigns ! (agg ! (and-then ! (load ! (from ! (stop !)) (look ! 36 refl)) (and-then ! (load ! (from ! (stop !)) (look ! 48 refl)) (no-more !)))) (from ! (stop !)) (init ! 35 refl (tt, (tt, (record { fits = w25 .1 }, tt)))) $ 
-        assigns ! (addr ! (from ! (stop !))) (from ! (stop !)) (init ! 34 refl (tt, tt)) $ 
-        rewrite ! 47 (λ (w : Val). ‵ (fat fullShare (tyInt w64) l₂₆ 0 w)) (ap only (w26 .0)) refl $ assigns ! (agg ! (and-then ! (load ! (from ! (stop !)) (look ! 34 refl)) (and-then ! (load ! (from ! (stop !)) (look ! 47 refl)) (no-more !)))) (from ! (stop !)) (init ! 33 refl (tt, (tt, (record { fits = w26 .1 }, tt)))) $ 
-        
-        lft-new ! tt (λ ν1a. move ! (32 ∷ 3 ∷ []) $ use2 W (later (some (λ (δ : GName). ‵ (MutSlice (named 0) (ν1a ∷ []) u64 .own (ref1 δ (ys1)) (v1 ∷ [])) ⊛ ‵ (Lent1 ν1a δ (ys1))))) (lends1 (named 0) ν1a (ys1) (refl)) $ await ! tt $ pick ! (λ δ1a. split ! $ 
-        lft-new ! tt (λ ν1f. owned ! (Array mEntry.the-row 64) (Is (Array mEntry.the-row 64)) (array-makes 𝓤 H A W mEntry.the-row (LL.makes mEntry.the-type lEntry.the-plain 𝓤 H A) 64) (n6) _ w6 $ move ! (46 ∷ 0 ∷ []) $ use1 W (‵ (cellAt fullShare ((Array mEntry.the-row 64) .mir) (u6 ∷ []) l₃₀ 0)) (W .laws .at-raw fullShare (tyArray (lEntry.mir) 64) l₃₀ 0 (u6)) $ into ! (Array mEntry.the-row 64) fullShare (n6) (u6 ∷ []) l₃₀ 0 $ 
-        use1 W (‵ (arr-parts (shares mEntry.the-row) 64 .part fullShare (n6) l₃₀ 0)) (array-apart 𝓤 H A W mEntry.the-row fullShare tt 64 (n6) l₃₀ 0) $ fsplit ! $ feqL ! (λ ln1f. 
-        use1 W (‵ (parts (mem mEntry.the-row) (shares mEntry.the-row) fullShare (take n24 (n6)) l₃₀ 0) ⊛ ‵ (rest mEntry.the-row fullShare n24 (n6) l₃₀ 0)) (cut 𝓤 H A mEntry.the-row fullShare n24 (n6) l₃₀ 0) $ split ! $ feqI ! ℕ (length (take n24 (n6))) (length (take n24 (n6))) refl $ fjoin ! $ 
-        use1 W (later (some (λ (δ : GName). ‵ (ShrSlice (named 1) (ν1f ∷ []) mEntry.the-row .own (record { ptr = (l₃₀, 0); name = δ; now = (take n24 (n6)) }) (sliceVal (l₃₀, 0) (length (take n24 (n6))) ∷ [])) ⊛ ‵ (flent (ν1f ∷ []) (arr-parts (shares mEntry.the-row) (length (take n24 (n6))) .part fullShare (take n24 (n6)) l₃₀ 0))))) (lends-shr-slice 𝓤 H A W mEntry.the-row (named 1) (ν1f ∷ []) fullShare (take n24 (n6)) l₃₀ 0 (subst (Room mEntry.the-row) (sym (length-take-le n24 (n6) (subst (λ (m : ℕ). n24 ≤ m) (sym ln1f) (pre .0)))) (room-of mEntry.the-row n24 64 (pre .0) (lit< tt, lit< tt)))) $ await ! tt $ pick ! (λ δ1f. split ! $ rewrite ! 0 (λ (m : ℕ). ‵ (ShrSlice (named 1) (ν1f ∷ []) mEntry.the-row .own (record { ptr = (l₃₀, 0); name = δ1f; now = (take n24 (n6)) }) (sliceVal (l₃₀, 0) m ∷ []))) (length-take-le n24 (n6) (subst (λ (m : ℕ). n24 ≤ m) (sym ln1f) (pre .0))) refl $ 
-        
-        lft-new ! tt (λ ν1i. owned ! (Array mEntry.the-row 64) (Is (Array mEntry.the-row 64)) (array-makes 𝓤 H A W mEntry.the-row (LL.makes mEntry.the-type lEntry.the-plain 𝓤 H A) 64) (n9) _ w9 $ move ! (49 ∷ 0 ∷ []) $ use1 W (‵ (cellAt fullShare ((Array mEntry.the-row 64) .mir) (u9 ∷ []) l₃₁ 0)) (W .laws .at-raw fullShare (tyArray (lEntry.mir) 64) l₃₁ 0 (u9)) $ into ! (Array mEntry.the-row 64) fullShare (n9) (u9 ∷ []) l₃₁ 0 $ 
-        use1 W (‵ (arr-parts (shares mEntry.the-row) 64 .part fullShare (n9) l₃₁ 0)) (array-apart 𝓤 H A W mEntry.the-row fullShare tt 64 (n9) l₃₁ 0) $ fsplit ! $ feqL ! (λ ln1i. 
-        use1 W (‵ (parts (mem mEntry.the-row) (shares mEntry.the-row) fullShare (take n25 (n9)) l₃₁ 0) ⊛ ‵ (rest mEntry.the-row fullShare n25 (n9) l₃₁ 0)) (cut 𝓤 H A mEntry.the-row fullShare n25 (n9) l₃₁ 0) $ split ! $ feqI ! ℕ (length (take n25 (n9))) (length (take n25 (n9))) refl $ fjoin ! $ 
-        use1 W (later (some (λ (δ : GName). ‵ (ShrSlice (named 2) (ν1i ∷ []) mEntry.the-row .own (record { ptr = (l₃₁, 0); name = δ; now = (take n25 (n9)) }) (sliceVal (l₃₁, 0) (length (take n25 (n9))) ∷ [])) ⊛ ‵ (flent (ν1i ∷ []) (arr-parts (shares mEntry.the-row) (length (take n25 (n9))) .part fullShare (take n25 (n9)) l₃₁ 0))))) (lends-shr-slice 𝓤 H A W mEntry.the-row (named 2) (ν1i ∷ []) fullShare (take n25 (n9)) l₃₁ 0 (subst (Room mEntry.the-row) (sym (length-take-le n25 (n9) (subst (λ (m : ℕ). n25 ≤ m) (sym ln1i) (pre .1)))) (room-of mEntry.the-row n25 64 (pre .1) (lit< tt, lit< tt)))) $ await ! tt $ pick ! (λ δ1i. split ! $ rewrite ! 0 (λ (m : ℕ). ‵ (ShrSlice (named 2) (ν1i ∷ []) mEntry.the-row .own (record { ptr = (l₃₁, 0); name = δ1i; now = (take n25 (n9)) }) (sliceVal (l₃₁, 0) m ∷ []))) (length-take-le n25 (n9) (subst (λ (m : ℕ). n25 ≤ m) (sym ln1i) (pre .1))) refl $ 
-        
-        lft-new ! tt (λ ν1l. owned ! (Array mEntry.the-row 64) (Is (Array mEntry.the-row 64)) (array-makes 𝓤 H A W mEntry.the-row (LL.makes mEntry.the-type lEntry.the-plain 𝓤 H A) 64) (n12) _ w12 $ move ! (52 ∷ 0 ∷ []) $ use1 W (‵ (cellAt fullShare ((Array mEntry.the-row 64) .mir) (u12 ∷ []) l₃₂ 0)) (W .laws .at-raw fullShare (tyArray (lEntry.mir) 64) l₃₂ 0 (u12)) $ into ! (Array mEntry.the-row 64) fullShare (n12) (u12 ∷ []) l₃₂ 0 $ 
-        use1 W (‵ (arr-parts (shares mEntry.the-row) 64 .part fullShare (n12) l₃₂ 0)) (array-apart 𝓤 H A W mEntry.the-row fullShare tt 64 (n12) l₃₂ 0) $ fsplit ! $ feqL ! (λ ln1l. 
-        use1 W (‵ (parts (mem mEntry.the-row) (shares mEntry.the-row) fullShare (take n26 (n12)) l₃₂ 0) ⊛ ‵ (rest mEntry.the-row fullShare n26 (n12) l₃₂ 0)) (cut 𝓤 H A mEntry.the-row fullShare n26 (n12) l₃₂ 0) $ split ! $ feqI ! ℕ (length (take n26 (n12))) (length (take n26 (n12))) refl $ fjoin ! $ 
-        use1 W (later (some (λ (δ : GName). ‵ (ShrSlice (named 3) (ν1l ∷ []) mEntry.the-row .own (record { ptr = (l₃₂, 0); name = δ; now = (take n26 (n12)) }) (sliceVal (l₃₂, 0) (length (take n26 (n12))) ∷ [])) ⊛ ‵ (flent (ν1l ∷ []) (arr-parts (shares mEntry.the-row) (length (take n26 (n12))) .part fullShare (take n26 (n12)) l₃₂ 0))))) (lends-shr-slice 𝓤 H A W mEntry.the-row (named 3) (ν1l ∷ []) fullShare (take n26 (n12)) l₃₂ 0 (subst (Room mEntry.the-row) (sym (length-take-le n26 (n12) (subst (λ (m : ℕ). n26 ≤ m) (sym ln1l) (pre .2)))) (room-of mEntry.the-row n26 64 (pre .2) (lit< tt, lit< tt)))) $ await ! tt $ pick ! (λ δ1l. split ! $ rewrite ! 0 (λ (m : ℕ). ‵ (ShrSlice (named 3) (ν1l ∷ []) mEntry.the-row .own (record { ptr = (l₃₂, 0); name = δ1l; now = (take n26 (n12)) }) (sliceVal (l₃₂, 0) m ∷ []))) (length-take-le n26 (n12) (subst (λ (m : ℕ). n26 ≤ m) (sym ln1l) (pre .2))) refl $ 
-        move ! (24 ∷ []) $ use1 W (‵ (O22) ⊛ ‵ (O22)) (shr-slice-copy 𝓤 H A W (named 1) κ₁ u64 .twice s22 (v22 ∷ [])) $ split ! $ move ! (25 ∷ []) $ use1 W (‵ (O23) ⊛ ‵ (O23)) (shr-slice-copy 𝓤 H A W (named 2) κ₂ u64 .twice s23 (v23 ∷ [])) $ split ! $ tidy W (_ ∷ _ ∷ _ ∷ _ ∷ _ ∷ _ ∷ _ ∷ _ ∷ _ ∷ _ ∷ _ ∷ _ ∷ _ ∷ _ ∷ _ ∷ _ ∷ _ ∷ _ ∷ _ ∷ _ ∷ _ ∷ _ ∷ _ ∷ _ ∷ _ ∷ _ ∷ _ ∷ _ ∷ _ ∷ _ ∷ _ ∷ _ ∷ _ ∷ _ ∷ _ ∷ _ ∷ _ ∷ _ ∷ _ ∷ _ ∷ _ ∷ _ ∷ _ ∷ _ ∷ _ ∷ _ ∷ _ ∷ _ ∷ _ ∷ _ ∷ _ ∷ _ ∷ _ ∷ _ ∷ _ ∷ _ ∷ _ ∷ _ ∷ _ ∷ _ ∷ _ ∷ _ ∷ _ ∷ _ ∷ _ ∷ _ ∷ _ ∷ _ ∷ _ ∷ _ ∷ _ ∷ _ ∷ _ ∷ _ ∷ _ ∷ _ ∷ _ ∷ _ ∷ _ ∷ _ ∷ _ ∷ _ ∷ _ ∷ _ ∷ _ ∷ _ ∷ []) $ nothing ! $ move ! (20 ∷ 0 ∷ []) $ join ! $ move ! (20 ∷ 0 ∷ []) $ join ! $ move ! (8 ∷ 0 ∷ []) $ join ! $ move ! (11 ∷ 0 ∷ []) $ join ! $ move ! (14 ∷ 0 ∷ []) $ join ! $ move ! (16 ∷ 0 ∷ []) $ join ! $ move ! (3 ∷ 1 ∷ []) $ join ! $ move ! (4 ∷ 0 ∷ []) $ join ! $ move ! (6 ∷ 0 ∷ []) $ join ! $ move ! (8 ∷ 0 ∷ []) $ join ! $ move ! (10 ∷ 0 ∷ []) $ join ! $ move ! (1 ∷ 0 ∷ []) $ join ! $ 
+        nothing ! $ alloc ! (λ l₀. alloc ! (λ l₁. alloc ! (λ l₂. alloc ! (λ l₃. alloc ! (λ l₄. alloc ! (λ l₅. alloc ! (λ l₆. alloc ! (λ l₇. alloc ! (λ l₈. alloc ! (λ l₉. alloc ! (λ l₁₀. alloc ! (λ l₁₁. alloc ! (λ l₁₂. alloc ! (λ l₁₃. alloc ! (λ l₁₄. alloc ! (λ l₁₅. alloc ! (λ l₁₆. alloc ! (λ l₁₇. alloc ! (λ l₁₈. alloc ! (λ l₁₉. alloc ! (λ l₂₀. alloc ! (λ l₂₁. alloc ! (λ l₂₂. alloc ! (λ l₂₃. alloc ! (λ l₂₄. alloc ! (λ l₂₅. alloc ! (λ l₂₆. alloc ! (λ l₂₇. alloc ! (λ l₂₈. alloc ! (λ l₂₉. alloc ! (λ l₃₀. alloc ! (λ l₃₁. alloc ! (λ l₃₂. alloc ! (λ l₃₃. alloc ! (λ l₃₄. alloc ! (λ l₃₅. alloc ! (λ l₃₆. alloc ! (λ l₃₇. alloc ! (λ l₃₈. alloc ! (λ l₃₉. alloc ! (λ l₄₀. alloc0 ! $ hide ! (λ died die. params1 ! $ pass1 ! (init ! 40 refl (tt, (tt, (record { fits = room1 .0 }, tt)))) $ pass1 ! (init ! 39 refl (uint-lawful 𝓤 H A W w64 .typed n2 _ w2 .0)) $ pass1 ! (init ! 38 refl (uint-lawful 𝓤 H A W w64 .typed n3 _ w3 .0)) $ pass1 ! (init ! 37 refl (uint-lawful 𝓤 H A W w64 .typed n4 _ w4 .0)) $ pass1 ! (init ! 36 refl (uint-lawful 𝓤 H A W w64 .typed n5 _ w5 .0)) $ pass1 ! (init ! 35 refl (array-lawful 𝓤 H A W mEntry.the-row (LL.lawful mEntry.the-type lEntry.the-laws 𝓤 H A W) 64 .typed n6 _ w6 .0)) $ pass1 ! (init ! 34 refl (uint-lawful 𝓤 H A W w64 .typed n7 _ w7 .0)) $ pass1 ! (init ! 33 refl (uint-lawful 𝓤 H A W w64 .typed n8 _ w8 .0)) $ pass1 ! (init ! 32 refl (array-lawful 𝓤 H A W mEntry.the-row (LL.lawful mEntry.the-type lEntry.the-laws 𝓤 H A W) 64 .typed n9 _ w9 .0)) $ pass1 ! (init ! 31 refl (uint-lawful 𝓤 H A W w64 .typed n10 _ w10 .0)) $ pass1 ! (init ! 30 refl (uint-lawful 𝓤 H A W w64 .typed n11 _ w11 .0)) $ pass1 ! (init ! 29 refl (array-lawful 𝓤 H A W mEntry.the-row (LL.lawful mEntry.the-type lEntry.the-laws 𝓤 H A W) 64 .typed n12 _ w12 .0)) $ pass1 ! (init ! 28 refl (uint-lawful 𝓤 H A W w64 .typed n13 _ w13 .0)) $ pass1 ! (init ! 27 refl (uint-lawful 𝓤 H A W w64 .typed n14 _ w14 .0)) $ pass1 ! (init ! 26 refl (array-lawful 𝓤 H A W mEntry.the-row (LL.lawful mEntry.the-type lEntry.the-laws 𝓤 H A W) 64 .typed n15 _ w15 .0)) $ pass1 ! (init ! 25 refl (uint-lawful 𝓤 H A W w64 .typed n16 _ w16 .0)) $ pass1 ! (init ! 24 refl (uint-lawful 𝓤 H A W w64 .typed n17 _ w17 .0)) $ pass1 ! (init ! 23 refl (array-lawful 𝓤 H A W mEntry.the-row (LL.lawful mEntry.the-type lEntry.the-laws 𝓤 H A W) 64 .typed n18 _ w18 .0)) $ pass1 ! (init ! 22 refl (uint-lawful 𝓤 H A W w64 .typed n19 _ w19 .0)) $ pass1 ! (init ! 21 refl (uint-lawful 𝓤 H A W w64 .typed n20 _ w20 .0)) $ pass1 ! (init ! 20 refl (array-lawful 𝓤 H A W mEntry.the-row (LL.lawful mEntry.the-type lEntry.the-laws 𝓤 H A W) 64 .typed n21 _ w21 .0)) $ pass1 ! (init ! 19 refl (shr-slice-lawful 𝓤 H A W (named 1) κ₁ u64 .typed s22 (v22 ∷ []) w22 .0)) $ pass1 ! (init ! 18 refl (shr-slice-lawful 𝓤 H A W (named 2) κ₂ u64 .typed s23 (v23 ∷ []) w23 .0)) $ pass1 ! (init ! 17 refl (uint-lawful 𝓤 H A W w64 .typed n24 _ w24 .0)) $ pass1 ! (init ! 16 refl (uint-lawful 𝓤 H A W w64 .typed n25 _ w25 .0)) $ pass1 ! (init ! 15 refl (uint-lawful 𝓤 H A W w64 .typed n26 _ w26 .0)) $ pass1 ! (init ! 14 refl (uint-lawful 𝓤 H A W w64 .typed n27 _ w27 .0)) $ pass1 ! (init ! 13 refl (uint-lawful 𝓤 H A W w64 .typed n28 _ w28 .0)) $ pass1 ! (init ! 12 refl (uint-lawful 𝓤 H A W w64 .typed n29 _ w29 .0)) $ pass0 ! $
+        move ! (43 ∷ []) $ fsplit ! $ move ! (1 ∷ []) $ fsplit ! $ move ! (1 ∷ []) $ fsplit ! $ move ! (1 ∷ []) $ fsplit ! $ move ! (1 ∷ []) $ fsplit ! $ move ! (1 ∷ []) $ fsplit ! $ move ! (1 ∷ []) $ fsplit ! $ move ! (1 ∷ []) $ fsplit ! $ move ! (1 ∷ []) $ fsplit ! $ move ! (1 ∷ []) $ fsplit ! $ move ! (1 ∷ []) $ fsplit ! $ move ! (1 ∷ []) $ fsplit ! $ move ! (1 ∷ []) $ fsplit ! $ move ! (1 ∷ []) $ fsplit ! $ move ! (1 ∷ []) $ fsplit ! $ move ! (1 ∷ []) $ fsplit ! $ move ! (1 ∷ []) $ fsplit ! $ move ! (1 ∷ []) $ fsplit ! $ move ! (1 ∷ []) $ fsplit ! $ move ! (1 ∷ []) $ fsplit ! $ move ! (1 ∷ []) $ fsplit ! $ move ! (1 ∷ []) $ fsplit ! $ move ! (1 ∷ []) $ fsplit ! $ move ! (1 ∷ []) $ fsplit ! $ move ! (1 ∷ []) $ fsplit ! $ move ! (1 ∷ []) $ fsplit ! $ move ! (1 ∷ []) $ fsplit ! $ move ! (1 ∷ []) $ fsplit ! $ move ! (1 ∷ []) $ fsplit ! $ move ! (1 ∷ []) $ drop ! $ move ! (71 ∷ []) $ split ! $ move ! (1 ∷ []) $ split ! $ move ! (1 ∷ []) $ split ! $ move ! (1 ∷ []) $ drop ! $ tidy W (_ ∷ _ ∷ _ ∷ _ ∷ _ ∷ _ ∷ _ ∷ _ ∷ _ ∷ _ ∷ _ ∷ _ ∷ _ ∷ _ ∷ _ ∷ _ ∷ _ ∷ _ ∷ _ ∷ _ ∷ _ ∷ _ ∷ _ ∷ _ ∷ _ ∷ _ ∷ _ ∷ _ ∷ _ ∷ _ ∷ _ ∷ _ ∷ _ ∷ _ ∷ _ ∷ _ ∷ _ ∷ _ ∷ _ ∷ _ ∷ _ ∷ _ ∷ _ ∷ _ ∷ _ ∷ _ ∷ _ ∷ _ ∷ _ ∷ _ ∷ _ ∷ _ ∷ _ ∷ _ ∷ _ ∷ _ ∷ _ ∷ _ ∷ _ ∷ _ ∷ _ ∷ _ ∷ _ ∷ _ ∷ _ ∷ _ ∷ _ ∷ _ ∷ _ ∷ _ ∷ _ ∷ _ ∷ _ ∷ _ ∷ []) $
+        assigns ! (of-opd ! (load ! (from ! (stop !)) (look ! 67 refl))) (from ! (stop !)) (init ! 43 refl (array-lawful 𝓤 H A W mEntry.the-row (LL.lawful mEntry.the-type lEntry.the-laws 𝓤 H A W) 64 .typed n6 _ w6 .0)) $
+        assigns ! (of-opd ! (load ! (from ! (stop !)) (look ! 64 refl))) (from ! (stop !)) (init ! 42 refl (array-lawful 𝓤 H A W mEntry.the-row (LL.lawful mEntry.the-type lEntry.the-laws 𝓤 H A W) 64 .typed n9 _ w9 .0)) $
+        assigns ! (of-opd ! (load ! (from ! (stop !)) (look ! 61 refl))) (from ! (stop !)) (init ! 41 refl (array-lawful 𝓤 H A W mEntry.the-row (LL.lawful mEntry.the-type lEntry.the-laws 𝓤 H A W) 64 .typed n12 _ w12 .0)) $
+        assigns ! (addr ! (from ! (fld ! refl (hop ! (look-in ! 72 (sub ! 0 refl (whole !))) (stop !))))) (from ! (stop !)) (init ! 40 refl (tt, tt)) $
+        assigns ! (agg ! (and-then ! (load ! (from ! (stop !)) (look ! 40 refl)) (and-then ! (load ! (from ! (fld ! refl (stop !))) (look-in ! 72 (sub ! 1 refl (whole !)))) (no-more !)))) (from ! (stop !)) (init ! 39 refl (tt, (tt, (record { fits = room1 .0 }, tt)))) $
+        assigns ! (addr ! (from ! (stop !))) (from ! (stop !)) (init ! 38 refl (tt, tt)) $
+        rewrite ! 49 (λ (w : Val). ‵ (fat fullShare (tyInt w64) l₂₄ 0 w)) (ap only (w24 .0)) refl $ assigns ! (agg ! (and-then ! (load ! (from ! (stop !)) (look ! 38 refl)) (and-then ! (load ! (from ! (stop !)) (look ! 49 refl)) (no-more !)))) (from ! (stop !)) (init ! 37 refl (tt, (tt, (record { fits = w24 .1 }, tt)))) $
+        assigns ! (addr ! (from ! (stop !))) (from ! (stop !)) (init ! 36 refl (tt, tt)) $
+        rewrite ! 48 (λ (w : Val). ‵ (fat fullShare (tyInt w64) l₂₅ 0 w)) (ap only (w25 .0)) refl $ assigns ! (agg ! (and-then ! (load ! (from ! (stop !)) (look ! 36 refl)) (and-then ! (load ! (from ! (stop !)) (look ! 48 refl)) (no-more !)))) (from ! (stop !)) (init ! 35 refl (tt, (tt, (record { fits = w25 .1 }, tt)))) $
+        assigns ! (addr ! (from ! (stop !))) (from ! (stop !)) (init ! 34 refl (tt, tt)) $
+        rewrite ! 47 (λ (w : Val). ‵ (fat fullShare (tyInt w64) l₂₆ 0 w)) (ap only (w26 .0)) refl $ assigns ! (agg ! (and-then ! (load ! (from ! (stop !)) (look ! 34 refl)) (and-then ! (load ! (from ! (stop !)) (look ! 47 refl)) (no-more !)))) (from ! (stop !)) (init ! 33 refl (tt, (tt, (record { fits = w26 .1 }, tt)))) $
+        lft-new ! tt (λ ν1a. move ! (32 ∷ 3 ∷ []) $ use2 W (later (some (λ (δ : GName). ‵ (MutSlice (named 0) (ν1a ∷ []) u64 .own (ref1 δ (ys1)) (v1 ∷ [])) ⊛ ‵ (Lent1 ν1a δ (ys1))))) (lends1 (named 0) ν1a (ys1) (refl)) $ await ! tt $ pick ! (λ δ1a. split ! $
+        lft-new ! tt (λ ν1f. owned ! (Array mEntry.the-row 64) (Is (Array mEntry.the-row 64)) (array-makes 𝓤 H A W mEntry.the-row (LL.makes mEntry.the-type lEntry.the-plain 𝓤 H A) 64) (n6) _ w6 $ move ! (46 ∷ 0 ∷ []) $ use1 W (‵ (cellAt fullShare ((Array mEntry.the-row 64) .mir) (u6 ∷ []) l₃₀ 0)) (W .laws .at-raw fullShare (tyArray (lEntry.mir) 64) l₃₀ 0 (u6)) $ into ! (Array mEntry.the-row 64) fullShare (n6) (u6 ∷ []) l₃₀ 0 $
+        use1 W (‵ (arr-parts (shares mEntry.the-row) 64 .part fullShare (n6) l₃₀ 0)) (array-apart 𝓤 H A W mEntry.the-row fullShare tt 64 (n6) l₃₀ 0) $ fsplit ! $ feqL ! (λ ln1f.
+        use1 W (‵ (parts (mem mEntry.the-row) (shares mEntry.the-row) fullShare (take n24 (n6)) l₃₀ 0) ⊛ ‵ (rest mEntry.the-row fullShare n24 (n6) l₃₀ 0)) (cut 𝓤 H A mEntry.the-row fullShare n24 (n6) l₃₀ 0) $ split ! $ feqI ! ℕ (length (take n24 (n6))) (length (take n24 (n6))) refl $ fjoin ! $
+        use1 W (later (some (λ (δ : GName). ‵ (ShrSlice (named 1) (ν1f ∷ []) mEntry.the-row .own (record { ptr = (l₃₀, 0); name = δ; now = (take n24 (n6)) }) (sliceVal (l₃₀, 0) (length (take n24 (n6))) ∷ [])) ⊛ ‵ (flent (ν1f ∷ []) (arr-parts (shares mEntry.the-row) (length (take n24 (n6))) .part fullShare (take n24 (n6)) l₃₀ 0))))) (lends-shr-slice 𝓤 H A W mEntry.the-row (named 1) (ν1f ∷ []) fullShare (take n24 (n6)) l₃₀ 0 (subst (Room mEntry.the-row) (sym (length-take-le n24 (n6) (subst (λ (m : ℕ). n24 ≤ m) (sym ln1f) (pre .0)))) (room-of mEntry.the-row n24 64 (pre .0) (lit< tt, lit< tt)))) $ await ! tt $ pick ! (λ δ1f. split ! $ rewrite ! 0 (λ (m : ℕ). ‵ (ShrSlice (named 1) (ν1f ∷ []) mEntry.the-row .own (record { ptr = (l₃₀, 0); name = δ1f; now = (take n24 (n6)) }) (sliceVal (l₃₀, 0) m ∷ []))) (length-take-le n24 (n6) (subst (λ (m : ℕ). n24 ≤ m) (sym ln1f) (pre .0))) refl $
+        lft-new ! tt (λ ν1i. owned ! (Array mEntry.the-row 64) (Is (Array mEntry.the-row 64)) (array-makes 𝓤 H A W mEntry.the-row (LL.makes mEntry.the-type lEntry.the-plain 𝓤 H A) 64) (n9) _ w9 $ move ! (49 ∷ 0 ∷ []) $ use1 W (‵ (cellAt fullShare ((Array mEntry.the-row 64) .mir) (u9 ∷ []) l₃₁ 0)) (W .laws .at-raw fullShare (tyArray (lEntry.mir) 64) l₃₁ 0 (u9)) $ into ! (Array mEntry.the-row 64) fullShare (n9) (u9 ∷ []) l₃₁ 0 $
+        use1 W (‵ (arr-parts (shares mEntry.the-row) 64 .part fullShare (n9) l₃₁ 0)) (array-apart 𝓤 H A W mEntry.the-row fullShare tt 64 (n9) l₃₁ 0) $ fsplit ! $ feqL ! (λ ln1i.
+        use1 W (‵ (parts (mem mEntry.the-row) (shares mEntry.the-row) fullShare (take n25 (n9)) l₃₁ 0) ⊛ ‵ (rest mEntry.the-row fullShare n25 (n9) l₃₁ 0)) (cut 𝓤 H A mEntry.the-row fullShare n25 (n9) l₃₁ 0) $ split ! $ feqI ! ℕ (length (take n25 (n9))) (length (take n25 (n9))) refl $ fjoin ! $
+        use1 W (later (some (λ (δ : GName). ‵ (ShrSlice (named 2) (ν1i ∷ []) mEntry.the-row .own (record { ptr = (l₃₁, 0); name = δ; now = (take n25 (n9)) }) (sliceVal (l₃₁, 0) (length (take n25 (n9))) ∷ [])) ⊛ ‵ (flent (ν1i ∷ []) (arr-parts (shares mEntry.the-row) (length (take n25 (n9))) .part fullShare (take n25 (n9)) l₃₁ 0))))) (lends-shr-slice 𝓤 H A W mEntry.the-row (named 2) (ν1i ∷ []) fullShare (take n25 (n9)) l₃₁ 0 (subst (Room mEntry.the-row) (sym (length-take-le n25 (n9) (subst (λ (m : ℕ). n25 ≤ m) (sym ln1i) (pre .1)))) (room-of mEntry.the-row n25 64 (pre .1) (lit< tt, lit< tt)))) $ await ! tt $ pick ! (λ δ1i. split ! $ rewrite ! 0 (λ (m : ℕ). ‵ (ShrSlice (named 2) (ν1i ∷ []) mEntry.the-row .own (record { ptr = (l₃₁, 0); name = δ1i; now = (take n25 (n9)) }) (sliceVal (l₃₁, 0) m ∷ []))) (length-take-le n25 (n9) (subst (λ (m : ℕ). n25 ≤ m) (sym ln1i) (pre .1))) refl $
+        lft-new ! tt (λ ν1l. owned ! (Array mEntry.the-row 64) (Is (Array mEntry.the-row 64)) (array-makes 𝓤 H A W mEntry.the-row (LL.makes mEntry.the-type lEntry.the-plain 𝓤 H A) 64) (n12) _ w12 $ move ! (52 ∷ 0 ∷ []) $ use1 W (‵ (cellAt fullShare ((Array mEntry.the-row 64) .mir) (u12 ∷ []) l₃₂ 0)) (W .laws .at-raw fullShare (tyArray (lEntry.mir) 64) l₃₂ 0 (u12)) $ into ! (Array mEntry.the-row 64) fullShare (n12) (u12 ∷ []) l₃₂ 0 $
+        use1 W (‵ (arr-parts (shares mEntry.the-row) 64 .part fullShare (n12) l₃₂ 0)) (array-apart 𝓤 H A W mEntry.the-row fullShare tt 64 (n12) l₃₂ 0) $ fsplit ! $ feqL ! (λ ln1l.
+        use1 W (‵ (parts (mem mEntry.the-row) (shares mEntry.the-row) fullShare (take n26 (n12)) l₃₂ 0) ⊛ ‵ (rest mEntry.the-row fullShare n26 (n12) l₃₂ 0)) (cut 𝓤 H A mEntry.the-row fullShare n26 (n12) l₃₂ 0) $ split ! $ feqI ! ℕ (length (take n26 (n12))) (length (take n26 (n12))) refl $ fjoin ! $
+        use1 W (later (some (λ (δ : GName). ‵ (ShrSlice (named 3) (ν1l ∷ []) mEntry.the-row .own (record { ptr = (l₃₂, 0); name = δ; now = (take n26 (n12)) }) (sliceVal (l₃₂, 0) (length (take n26 (n12))) ∷ [])) ⊛ ‵ (flent (ν1l ∷ []) (arr-parts (shares mEntry.the-row) (length (take n26 (n12))) .part fullShare (take n26 (n12)) l₃₂ 0))))) (lends-shr-slice 𝓤 H A W mEntry.the-row (named 3) (ν1l ∷ []) fullShare (take n26 (n12)) l₃₂ 0 (subst (Room mEntry.the-row) (sym (length-take-le n26 (n12) (subst (λ (m : ℕ). n26 ≤ m) (sym ln1l) (pre .2)))) (room-of mEntry.the-row n26 64 (pre .2) (lit< tt, lit< tt)))) $ await ! tt $ pick ! (λ δ1l. split ! $ rewrite ! 0 (λ (m : ℕ). ‵ (ShrSlice (named 3) (ν1l ∷ []) mEntry.the-row .own (record { ptr = (l₃₂, 0); name = δ1l; now = (take n26 (n12)) }) (sliceVal (l₃₂, 0) m ∷ []))) (length-take-le n26 (n12) (subst (λ (m : ℕ). n26 ≤ m) (sym ln1l) (pre .2))) refl $
+        move ! (24 ∷ []) $ use1 W (‵ (O22) ⊛ ‵ (O22)) (shr-slice-copy 𝓤 H A W (named 1) κ₁ u64 .twice s22 (v22 ∷ [])) $ split ! $ move ! (25 ∷ []) $ use1 W (‵ (O23) ⊛ ‵ (O23)) (shr-slice-copy 𝓤 H A W (named 2) κ₂ u64 .twice s23 (v23 ∷ [])) $ split ! $ tidy W (_ ∷ _ ∷ _ ∷ _ ∷ _ ∷ _ ∷ _ ∷ _ ∷ _ ∷ _ ∷ _ ∷ _ ∷ _ ∷ _ ∷ _ ∷ _ ∷ _ ∷ _ ∷ _ ∷ _ ∷ _ ∷ _ ∷ _ ∷ _ ∷ _ ∷ _ ∷ _ ∷ _ ∷ _ ∷ _ ∷ _ ∷ _ ∷ _ ∷ _ ∷ _ ∷ _ ∷ _ ∷ _ ∷ _ ∷ _ ∷ _ ∷ _ ∷ _ ∷ _ ∷ _ ∷ _ ∷ _ ∷ _ ∷ _ ∷ _ ∷ _ ∷ _ ∷ _ ∷ _ ∷ _ ∷ _ ∷ _ ∷ _ ∷ _ ∷ _ ∷ _ ∷ _ ∷ _ ∷ _ ∷ _ ∷ _ ∷ _ ∷ _ ∷ _ ∷ _ ∷ _ ∷ _ ∷ _ ∷ _ ∷ _ ∷ _ ∷ _ ∷ _ ∷ _ ∷ _ ∷ _ ∷ _ ∷ _ ∷ _ ∷ _ ∷ _ ∷ []) $ nothing ! $ move ! (20 ∷ 0 ∷ []) $ join ! $ move ! (20 ∷ 0 ∷ []) $ join ! $ move ! (8 ∷ 0 ∷ []) $ join ! $ move ! (11 ∷ 0 ∷ []) $ join ! $ move ! (14 ∷ 0 ∷ []) $ join ! $ move ! (16 ∷ 0 ∷ []) $ join ! $ move ! (3 ∷ 1 ∷ []) $ join ! $ move ! (4 ∷ 0 ∷ []) $ join ! $ move ! (6 ∷ 0 ∷ []) $ join ! $ move ! (8 ∷ 0 ∷ []) $ join ! $ move ! (10 ∷ 0 ∷ []) $ join ! $ move ! (1 ∷ 0 ∷ []) $ join ! $
         -- call 1
-        use1 W (raw (Callee-g1 𝓤 H A at-mem run .pre ((((ν1a ∷ []), ((ν1f ∷ []), ((ν1i ∷ []), ((ν1l ∷ []), (κ₁, (κ₂, tt)))))), (fullShare, (fullShare, (fullShare, (fullShare, (q₁, (q₂, tt)))))), tt, (ref1 δ1a (ys1), (n2, (n3, (n4, (n5, (record { ptr = (l₃₀, 0); name = δ1f; now = (take n24 (n6)) }, (n7, (n8, (record { ptr = (l₃₁, 0); name = δ1i; now = (take n25 (n9)) }, (n10, (n11, (record { ptr = (l₃₂, 0); name = δ1l; now = (take n26 (n12)) }, (n13, (n14, (n15, (n16, (n17, (n18, (n19, (n20, (n21, (s22, (s23, (n27, (n28, (n29, tt)))))))))))))))))))))))))), (v1 ∷ [], (u2 ∷ [], (u3 ∷ [], (u4 ∷ [], (u5 ∷ [], (sliceVal (l₃₀, 0) n24 ∷ [], (u7 ∷ [], (u8′ ∷ [], (sliceVal (l₃₁, 0) n25 ∷ [], (u10 ∷ [], (u11 ∷ [], (sliceVal (l₃₂, 0) n26 ∷ [], (u13 ∷ [], (u14 ∷ [], (u15 ∷ [], (u16′ ∷ [], (u17 ∷ [], (u18 ∷ [], (u19 ∷ [], (u20 ∷ [], (u21 ∷ [], (v22 ∷ [], (v23 ∷ [], (u27 ∷ [], (u28 ∷ [], (u29 ∷ [], tt))))))))))))))))))))))))))), tt))) (qed W ((‵ (flft (ν1a ∷ []) fullShare) ⊛ ‵ (flft (ν1f ∷ []) fullShare) ⊛ ‵ (flft (ν1i ∷ []) fullShare) ⊛ ‵ (flft (ν1l ∷ []) fullShare) ⊛ ‵ (flft κ₁ q₁) ⊛ ‵ (flft κ₂ q₂) ⊛ ‵ ftrue) ∷ ‵ (MutSlice (named 0) (ν1a ∷ []) u64 .own (ref1 δ1a (ys1)) (v1 ∷ [])) ∷ ‵ (ShrSlice (named 1) (ν1f ∷ []) mEntry.the-row .own (record { ptr = (l₃₀, 0); name = δ1f; now = (take n24 (n6)) }) (sliceVal (l₃₀, 0) n24 ∷ [])) ∷ ‵ (ShrSlice (named 2) (ν1i ∷ []) mEntry.the-row .own (record { ptr = (l₃₁, 0); name = δ1i; now = (take n25 (n9)) }) (sliceVal (l₃₁, 0) n25 ∷ [])) ∷ ‵ (ShrSlice (named 3) (ν1l ∷ []) mEntry.the-row .own (record { ptr = (l₃₂, 0); name = δ1l; now = (take n26 (n12)) }) (sliceVal (l₃₂, 0) n26 ∷ [])) ∷ ‵ (ShrSlice (named 4) κ₁ u64 .own s22 (v22 ∷ [])) ∷ ‵ (ShrSlice (named 5) κ₂ u64 .own s23 (v23 ∷ [])) ∷ []) ∵ says ! ((pre .3, pre .4, pre .5)) $ nothing ! $ owned ! u64 (Is u64) (uint-makes 𝓤 H A W w64) (n29) _ w29 $ fjoin ! $ owned ! u64 (Is u64) (uint-makes 𝓤 H A W w64) (n28) _ w28 $ fjoin ! $ owned ! u64 (Is u64) (uint-makes 𝓤 H A W w64) (n27) _ w27 $ fjoin ! $ move ! (7 ∷ 0 ∷ []) $ fjoin ! $ move ! (6 ∷ 0 ∷ []) $ fjoin ! $ owned ! (Array mEntry.the-row 64) (Is (Array mEntry.the-row 64)) (array-makes 𝓤 H A W mEntry.the-row (LL.makes mEntry.the-type lEntry.the-plain 𝓤 H A) 64) (n21) _ w21 $ fjoin ! $ owned ! u64 (Is u64) (uint-makes 𝓤 H A W w64) (n20) _ w20 $ fjoin ! $ owned ! u64 (Is u64) (uint-makes 𝓤 H A W w64) (n19) _ w19 $ fjoin ! $ owned ! (Array mEntry.the-row 64) (Is (Array mEntry.the-row 64)) (array-makes 𝓤 H A W mEntry.the-row (LL.makes mEntry.the-type lEntry.the-plain 𝓤 H A) 64) (n18) _ w18 $ fjoin ! $ owned ! u64 (Is u64) (uint-makes 𝓤 H A W w64) (n17) _ w17 $ fjoin ! $ owned ! u64 (Is u64) (uint-makes 𝓤 H A W w64) (n16) _ w16 $ fjoin ! $ owned ! (Array mEntry.the-row 64) (Is (Array mEntry.the-row 64)) (array-makes 𝓤 H A W mEntry.the-row (LL.makes mEntry.the-type lEntry.the-plain 𝓤 H A) 64) (n15) _ w15 $ fjoin ! $ owned ! u64 (Is u64) (uint-makes 𝓤 H A W w64) (n14) _ w14 $ fjoin ! $ owned ! u64 (Is u64) (uint-makes 𝓤 H A W w64) (n13) _ w13 $ fjoin ! $ move ! (5 ∷ 0 ∷ []) $ fjoin ! $ owned ! u64 (Is u64) (uint-makes 𝓤 H A W w64) (n11) _ w11 $ fjoin ! $ owned ! u64 (Is u64) (uint-makes 𝓤 H A W w64) (n10) _ w10 $ fjoin ! $ move ! (4 ∷ 0 ∷ []) $ fjoin ! $ owned ! u64 (Is u64) (uint-makes 𝓤 H A W w64) (n8) _ w8 $ fjoin ! $ owned ! u64 (Is u64) (uint-makes 𝓤 H A W w64) (n7) _ w7 $ fjoin ! $ move ! (3 ∷ 0 ∷ []) $ fjoin ! $ owned ! u64 (Is u64) (uint-makes 𝓤 H A W w64) (n5) _ w5 $ fjoin ! $ owned ! u64 (Is u64) (uint-makes 𝓤 H A W w64) (n4) _ w4 $ fjoin ! $ owned ! u64 (Is u64) (uint-makes 𝓤 H A W w64) (n3) _ w3 $ fjoin ! $ owned ! u64 (Is u64) (uint-makes 𝓤 H A W w64) (n2) _ w2 $ fjoin ! $ move ! (2 ∷ 0 ∷ []) $ fjoin ! $ move ! (1 ∷ 0 ∷ []) $ frame ! $ done !) $ 
-        calls-at ! fm (Callee-g1 𝓤 H A at-mem run) known-g1 ((((ν1a ∷ []), ((ν1f ∷ []), ((ν1i ∷ []), ((ν1l ∷ []), (κ₁, (κ₂, tt)))))), (fullShare, (fullShare, (fullShare, (fullShare, (q₁, (q₂, tt)))))), tt, (ref1 δ1a (ys1), (n2, (n3, (n4, (n5, (record { ptr = (l₃₀, 0); name = δ1f; now = (take n24 (n6)) }, (n7, (n8, (record { ptr = (l₃₁, 0); name = δ1i; now = (take n25 (n9)) }, (n10, (n11, (record { ptr = (l₃₂, 0); name = δ1l; now = (take n26 (n12)) }, (n13, (n14, (n15, (n16, (n17, (n18, (n19, (n20, (n21, (s22, (s23, (n27, (n28, (n29, tt)))))))))))))))))))))))))), (v1 ∷ [], (u2 ∷ [], (u3 ∷ [], (u4 ∷ [], (u5 ∷ [], (sliceVal (l₃₀, 0) n24 ∷ [], (u7 ∷ [], (u8′ ∷ [], (sliceVal (l₃₁, 0) n25 ∷ [], (u10 ∷ [], (u11 ∷ [], (sliceVal (l₃₂, 0) n26 ∷ [], (u13 ∷ [], (u14 ∷ [], (u15 ∷ [], (u16′ ∷ [], (u17 ∷ [], (u18 ∷ [], (u19 ∷ [], (u20 ∷ [], (u21 ∷ [], (v22 ∷ [], (v23 ∷ [], (u27 ∷ [], (u28 ∷ [], (u29 ∷ [], tt))))))))))))))))))))))))))), tt) (and-then ! (load ! (from ! (stop !)) (look ! 43 refl)) (and-then ! (load ! (from ! (stop !)) (look ! 72 refl)) (and-then ! (load ! (from ! (stop !)) (look ! 71 refl)) (and-then ! (load ! (from ! (stop !)) (look ! 70 refl)) (and-then ! (load ! (from ! (stop !)) (look ! 69 refl)) (and-then ! (load ! (from ! (stop !)) (look ! 41 refl)) (and-then ! (load ! (from ! (stop !)) (look ! 67 refl)) (and-then ! (load ! (from ! (stop !)) (look ! 66 refl)) (and-then ! (load ! (from ! (stop !)) (look ! 39 refl)) (and-then ! (load ! (from ! (stop !)) (look ! 64 refl)) (and-then ! (load ! (from ! (stop !)) (look ! 63 refl)) (and-then ! (load ! (from ! (stop !)) (look ! 37 refl)) (and-then ! (load ! (from ! (stop !)) (look ! 61 refl)) (and-then ! (load ! (from ! (stop !)) (look ! 60 refl)) (and-then ! (load ! (from ! (stop !)) (look ! 59 refl)) (and-then ! (load ! (from ! (stop !)) (look ! 58 refl)) (and-then ! (load ! (from ! (stop !)) (look ! 57 refl)) (and-then ! (load ! (from ! (stop !)) (look ! 56 refl)) (and-then ! (load ! (from ! (stop !)) (look ! 55 refl)) (and-then ! (load ! (from ! (stop !)) (look ! 54 refl)) (and-then ! (load ! (from ! (stop !)) (look ! 53 refl)) (and-then ! (load ! (from ! (stop !)) (look ! 52 refl)) (and-then ! (load ! (from ! (stop !)) (look ! 51 refl)) (and-then ! (load ! (from ! (stop !)) (look ! 47 refl)) (and-then ! (load ! (from ! (stop !)) (look ! 46 refl)) (and-then ! (load ! (from ! (stop !)) (look ! 45 refl)) (no-more !))))))))))))))))))))))))))) (λ z1. 
-        use1 W (later (some (λ (r1 : RowCheck). ((‵ (flft (ν1a ∷ []) fullShare) ⊛ ‵ (flft (ν1f ∷ []) fullShare) ⊛ ‵ (flft (ν1i ∷ []) fullShare) ⊛ ‵ (flft (ν1l ∷ []) fullShare) ⊛ ‵ (flft κ₁ q₁) ⊛ ‵ (flft κ₂ q₂) ⊛ ‵ ftrue) ⊛ ‵ (mRowCheck.the-row .own r1 (z1 ∷ []))) ⊛ some (λ (ws : Lasts g1.ended ((ν1a ∷ []), ((ν1f ∷ []), ((ν1i ∷ []), ((ν1l ∷ []), (κ₁, (κ₂, tt)))))) (ref1 δ1a (ys1), (n2, (n3, (n4, (n5, (record { ptr = (l₃₀, 0); name = δ1f; now = (take n24 (n6)) }, (n7, (n8, (record { ptr = (l₃₁, 0); name = δ1i; now = (take n25 (n9)) }, (n10, (n11, (record { ptr = (l₃₂, 0); name = δ1l; now = (take n26 (n12)) }, (n13, (n14, (n15, (n16, (n17, (n18, (n19, (n20, (n21, (s22, (s23, (n27, (n28, (n29, tt))))))))))))))))))))))))))). ‵ (lasts g1.ended ((ν1a ∷ []), ((ν1f ∷ []), ((ν1i ∷ []), ((ν1l ∷ []), (κ₁, (κ₂, tt)))))) (ref1 δ1a (ys1), (n2, (n3, (n4, (n5, (record { ptr = (l₃₀, 0); name = δ1f; now = (take n24 (n6)) }, (n7, (n8, (record { ptr = (l₃₁, 0); name = δ1i; now = (take n25 (n9)) }, (n10, (n11, (record { ptr = (l₃₂, 0); name = δ1l; now = (take n26 (n12)) }, (n13, (n14, (n15, (n16, (n17, (n18, (n19, (n20, (n21, (s22, (s23, (n27, (n28, (n29, tt)))))))))))))))))))))))))) ws) ⊛ raw (g1.clauses 𝓤 H A at-mem run ((ν1a ∷ []), ((ν1f ∷ []), ((ν1i ∷ []), ((ν1l ∷ []), (κ₁, (κ₂, tt)))))) (ref1 δ1a (ys1), (n2, (n3, (n4, (n5, (record { ptr = (l₃₀, 0); name = δ1f; now = (take n24 (n6)) }, (n7, (n8, (record { ptr = (l₃₁, 0); name = δ1i; now = (take n25 (n9)) }, (n10, (n11, (record { ptr = (l₃₂, 0); name = δ1l; now = (take n26 (n12)) }, (n13, (n14, (n15, (n16, (n17, (n18, (n19, (n20, (n21, (s22, (s23, (n27, (n28, (n29, tt)))))))))))))))))))))))))) .ensures tt r1 (atExit g1.ended ((ν1a ∷ []), ((ν1f ∷ []), ((ν1i ∷ []), ((ν1l ∷ []), (κ₁, (κ₂, tt)))))) (ref1 δ1a (ys1), (n2, (n3, (n4, (n5, (record { ptr = (l₃₀, 0); name = δ1f; now = (take n24 (n6)) }, (n7, (n8, (record { ptr = (l₃₁, 0); name = δ1i; now = (take n25 (n9)) }, (n10, (n11, (record { ptr = (l₃₂, 0); name = δ1l; now = (take n26 (n12)) }, (n13, (n14, (n15, (n16, (n17, (n18, (n19, (n20, (n21, (s22, (s23, (n27, (n28, (n29, tt)))))))))))))))))))))))))) ws)))))) (id⊢ 𝓤 _) $ await ! tt $ pick ! (λ r1. split ! $ move ! (1 ∷ []) $ pick ! (λ ws1. split ! $ move ! (1 ∷ []) $ heard ! _ (λ e1. 
-        fsplit ! $ fsplit ! $ move ! (1 ∷ []) $ feqL ! (λ same1a. move ! (1 ∷ []) $ drop ! $ move ! (1 ∷ []) $ split ! $ move ! (1 ∷ []) $ peeks ! mRowCheck.the-row (Is mRowCheck.the-row) (shows 𝓤 H A mRowCheck.the-row) r1 (z1 ∷ []) (λ i1. drop ! $ land ! (from ! (stop !)) (init ! 75 refl (EL.lawful mRowCheck.the-type lRowCheck.the-laws 𝓤 H A W tt .typed r1 _ i1 .0)) $ 
-        tidy W (_ ∷ _ ∷ _ ∷ _ ∷ _ ∷ _ ∷ _ ∷ _ ∷ _ ∷ _ ∷ _ ∷ _ ∷ _ ∷ _ ∷ _ ∷ _ ∷ _ ∷ _ ∷ _ ∷ _ ∷ _ ∷ _ ∷ _ ∷ _ ∷ _ ∷ _ ∷ _ ∷ _ ∷ _ ∷ _ ∷ _ ∷ _ ∷ _ ∷ _ ∷ _ ∷ _ ∷ _ ∷ _ ∷ _ ∷ _ ∷ _ ∷ _ ∷ _ ∷ _ ∷ _ ∷ _ ∷ _ ∷ _ ∷ _ ∷ _ ∷ _ ∷ _ ∷ _ ∷ _ ∷ _ ∷ _ ∷ _ ∷ _ ∷ _ ∷ _ ∷ _ ∷ _ ∷ _ ∷ _ ∷ _ ∷ _ ∷ _ ∷ _ ∷ _ ∷ _ ∷ _ ∷ _ ∷ _ ∷ _ ∷ _ ∷ _ ∷ []) $ split ! $ move ! (1 ∷ []) $ split ! $ move ! (1 ∷ []) $ split ! $ move ! (1 ∷ []) $ split ! $ move ! (1 ∷ []) $ split ! $ move ! (1 ∷ []) $ split ! $ move ! (1 ∷ []) $ drop ! $ move ! (5 ∷ []) $ lft-end ! tt $ move ! (0 ∷ 15 ∷ 6 ∷ []) $ use3 W (later (‵ (O1 (ws1 .0)) ⊛ ‵ (flft κ₀ q₀))) (backs1 (named 0) ν1a δ1a (ys1) (ws1 .0) (refl) room1 same1a) $ await ! tt $ split ! $ 
-        move ! (6 ∷ []) $ lft-end ! tt $ move ! (0 ∷ 13 ∷ []) $ lent-back ! tt $ fsplit ! $ drop ! $ move ! (0 ∷ 13 ∷ []) $ use2 W (‵ (parts (mem mEntry.the-row) (shares mEntry.the-row) fullShare (n6) l₃₀ 0)) (mend 𝓤 H A mEntry.the-row fullShare n24 (n6) l₃₀ 0) $ feqI ! ℕ (length (n6)) 64 ln1f $ fjoin ! $ use1 W (‵ (partAt (Array mEntry.the-row 64) fullShare (n6) l₃₀ 0)) (array-whole 𝓤 H A W mEntry.the-row fullShare 64 (n6) l₃₀ 0) $ 
-        out ! (Array mEntry.the-row 64) fullShare (n6) l₃₀ 0 (λ vs. spelt ! (Array mEntry.the-row 64) (Is (Array mEntry.the-row 64)) (shows 𝓤 H A (Array mEntry.the-row 64)) (array-vals (LL.vals mEntry.the-type lEntry.the-laws)) (array-tells mEntry.the-row (LL.vals mEntry.the-type lEntry.the-laws) (LL.tells mEntry.the-type lEntry.the-laws) 64) fullShare (n6) vs l₃₀ 0 $ move ! (1 ∷ []) $ peeks ! (Array mEntry.the-row 64) (Is (Array mEntry.the-row 64)) (shows 𝓤 H A (Array mEntry.the-row 64)) (n6) (array-val (LL.vals mEntry.the-type lEntry.the-laws) (n6) ∷ []) (λ w1f. drop ! $ use1 W (‵ (fat fullShare (tyArray (lEntry.mir) 64) l₃₀ 0 (array-val (LL.vals mEntry.the-type lEntry.the-laws) (n6)))) (W .laws .raw-at fullShare (tyArray (lEntry.mir) 64) l₃₀ 0 (array-val (LL.vals mEntry.the-type lEntry.the-laws) (n6))) $ 
-        move ! (6 ∷ []) $ lft-end ! tt $ move ! (0 ∷ 11 ∷ []) $ lent-back ! tt $ fsplit ! $ drop ! $ move ! (0 ∷ 11 ∷ []) $ use2 W (‵ (parts (mem mEntry.the-row) (shares mEntry.the-row) fullShare (n9) l₃₁ 0)) (mend 𝓤 H A mEntry.the-row fullShare n25 (n9) l₃₁ 0) $ feqI ! ℕ (length (n9)) 64 ln1i $ fjoin ! $ use1 W (‵ (partAt (Array mEntry.the-row 64) fullShare (n9) l₃₁ 0)) (array-whole 𝓤 H A W mEntry.the-row fullShare 64 (n9) l₃₁ 0) $ 
-        out ! (Array mEntry.the-row 64) fullShare (n9) l₃₁ 0 (λ vs. spelt ! (Array mEntry.the-row 64) (Is (Array mEntry.the-row 64)) (shows 𝓤 H A (Array mEntry.the-row 64)) (array-vals (LL.vals mEntry.the-type lEntry.the-laws)) (array-tells mEntry.the-row (LL.vals mEntry.the-type lEntry.the-laws) (LL.tells mEntry.the-type lEntry.the-laws) 64) fullShare (n9) vs l₃₁ 0 $ move ! (1 ∷ []) $ peeks ! (Array mEntry.the-row 64) (Is (Array mEntry.the-row 64)) (shows 𝓤 H A (Array mEntry.the-row 64)) (n9) (array-val (LL.vals mEntry.the-type lEntry.the-laws) (n9) ∷ []) (λ w1i. drop ! $ use1 W (‵ (fat fullShare (tyArray (lEntry.mir) 64) l₃₁ 0 (array-val (LL.vals mEntry.the-type lEntry.the-laws) (n9)))) (W .laws .raw-at fullShare (tyArray (lEntry.mir) 64) l₃₁ 0 (array-val (LL.vals mEntry.the-type lEntry.the-laws) (n9))) $ 
-        move ! (6 ∷ []) $ lft-end ! tt $ move ! (0 ∷ 9 ∷ []) $ lent-back ! tt $ fsplit ! $ drop ! $ move ! (0 ∷ 9 ∷ []) $ use2 W (‵ (parts (mem mEntry.the-row) (shares mEntry.the-row) fullShare (n12) l₃₂ 0)) (mend 𝓤 H A mEntry.the-row fullShare n26 (n12) l₃₂ 0) $ feqI ! ℕ (length (n12)) 64 ln1l $ fjoin ! $ use1 W (‵ (partAt (Array mEntry.the-row 64) fullShare (n12) l₃₂ 0)) (array-whole 𝓤 H A W mEntry.the-row fullShare 64 (n12) l₃₂ 0) $ 
-        out ! (Array mEntry.the-row 64) fullShare (n12) l₃₂ 0 (λ vs. spelt ! (Array mEntry.the-row 64) (Is (Array mEntry.the-row 64)) (shows 𝓤 H A (Array mEntry.the-row 64)) (array-vals (LL.vals mEntry.the-type lEntry.the-laws)) (array-tells mEntry.the-row (LL.vals mEntry.the-type lEntry.the-laws) (LL.tells mEntry.the-type lEntry.the-laws) 64) fullShare (n12) vs l₃₂ 0 $ move ! (1 ∷ []) $ peeks ! (Array mEntry.the-row 64) (Is (Array mEntry.the-row 64)) (shows 𝓤 H A (Array mEntry.the-row 64)) (n12) (array-val (LL.vals mEntry.the-type lEntry.the-laws) (n12) ∷ []) (λ w1l. drop ! $ use1 W (‵ (fat fullShare (tyArray (lEntry.mir) 64) l₃₂ 0 (array-val (LL.vals mEntry.the-type lEntry.the-laws) (n12)))) (W .laws .raw-at fullShare (tyArray (lEntry.mir) 64) l₃₂ 0 (array-val (LL.vals mEntry.the-type lEntry.the-laws) (n12))) $ 
-        tidy W (_ ∷ _ ∷ _ ∷ _ ∷ _ ∷ _ ∷ _ ∷ _ ∷ _ ∷ _ ∷ _ ∷ _ ∷ _ ∷ _ ∷ _ ∷ _ ∷ _ ∷ _ ∷ _ ∷ _ ∷ _ ∷ _ ∷ _ ∷ _ ∷ _ ∷ _ ∷ _ ∷ _ ∷ _ ∷ _ ∷ _ ∷ _ ∷ _ ∷ _ ∷ _ ∷ _ ∷ _ ∷ _ ∷ _ ∷ _ ∷ _ ∷ _ ∷ _ ∷ _ ∷ _ ∷ _ ∷ _ ∷ _ ∷ _ ∷ _ ∷ _ ∷ _ ∷ _ ∷ _ ∷ _ ∷ _ ∷ _ ∷ _ ∷ _ ∷ _ ∷ _ ∷ _ ∷ _ ∷ _ ∷ _ ∷ _ ∷ _ ∷ _ ∷ _ ∷ _ ∷ _ ∷ _ ∷ _ ∷ _ ∷ []) $ returns ! (look ! 73 refl) $ move ! (3 ∷ 4 ∷ 5 ∷ 6 ∷ 7 ∷ 8 ∷ 9 ∷ 10 ∷ 11 ∷ 12 ∷ 13 ∷ 14 ∷ 15 ∷ 16 ∷ 17 ∷ 18 ∷ 19 ∷ 20 ∷ 21 ∷ 22 ∷ 23 ∷ 24 ∷ 25 ∷ 26 ∷ 27 ∷ 28 ∷ 29 ∷ 30 ∷ 31 ∷ 32 ∷ 33 ∷ 34 ∷ 35 ∷ 36 ∷ 37 ∷ 38 ∷ 39 ∷ 40 ∷ 41 ∷ 42 ∷ 43 ∷ 0 ∷ 1 ∷ 2 ∷ 44 ∷ 45 ∷ 46 ∷ 47 ∷ 48 ∷ 49 ∷ 50 ∷ 51 ∷ 52 ∷ 53 ∷ 54 ∷ 55 ∷ 56 ∷ 57 ∷ 58 ∷ 59 ∷ 60 ∷ 61 ∷ 62 ∷ 63 ∷ 64 ∷ 65 ∷ 66 ∷ 67 ∷ 68 ∷ 69 ∷ 70 ∷ 71 ∷ 72 ∷ 73 ∷ []) $ move ! (32 ∷ []) $ use1 W (dies ((lRowCheck.mir, l₀) ∷ (sliceTy (tyRef (named 0) mut (tyInt w64)), l₁) ∷ (tyInt w64, l₂) ∷ (tyInt w64, l₃) ∷ (tyInt w64, l₄) ∷ (tyInt w64, l₅) ∷ (tyArray (lEntry.mir) 64, l₆) ∷ (tyInt w64, l₇) ∷ (tyInt w64, l₈) ∷ (tyArray (lEntry.mir) 64, l₉) ∷ (tyInt w64, l₁₀) ∷ (tyInt w64, l₁₁) ∷ (tyArray (lEntry.mir) 64, l₁₂) ∷ (tyInt w64, l₁₃) ∷ (tyInt w64, l₁₄) ∷ (tyArray (lEntry.mir) 64, l₁₅) ∷ (tyInt w64, l₁₆) ∷ (tyInt w64, l₁₇) ∷ (tyArray (lEntry.mir) 64, l₁₈) ∷ (tyInt w64, l₁₉) ∷ (tyInt w64, l₂₀) ∷ (tyArray (lEntry.mir) 64, l₂₁) ∷ (sliceTy (tyRef (named 1) imm (tyInt w64)), l₂₂) ∷ (sliceTy (tyRef (named 2) imm (tyInt w64)), l₂₃) ∷ (tyInt w64, l₂₄) ∷ (tyInt w64, l₂₅) ∷ (tyInt w64, l₂₆) ∷ (tyInt w64, l₂₇) ∷ (tyInt w64, l₂₈) ∷ (tyInt w64, l₂₉) ∷ (tyArray (lEntry.mir) 64, l₃₀) ∷ (tyArray (lEntry.mir) 64, l₃₁) ∷ (tyArray (lEntry.mir) 64, l₃₂) ∷ (tyRef erased mut (tyInt w64), l₃₃) ∷ (sliceTy (tyRef erased mut (tyInt w64)), l₃₄) ∷ (tyRef erased imm (pointee ((Array mEntry.the-row 64) .written)), l₃₅) ∷ (sliceTy (tyRef erased imm (pointee (mEntry.the-row .written))), l₃₆) ∷ (tyRef erased imm (pointee ((Array mEntry.the-row 64) .written)), l₃₇) ∷ (sliceTy (tyRef erased imm (pointee (mEntry.the-row .written))), l₃₈) ∷ (tyRef erased imm (pointee ((Array mEntry.the-row 64) .written)), l₃₉) ∷ (sliceTy (tyRef erased imm (pointee (mEntry.the-row .written))), l₄₀) ∷ []) (‵ ftrue)) die $ free-all ! 32 ((lRowCheck.mir, l₀) ∷ (sliceTy (tyRef (named 0) mut (tyInt w64)), l₁) ∷ (tyInt w64, l₂) ∷ (tyInt w64, l₃) ∷ (tyInt w64, l₄) ∷ (tyInt w64, l₅) ∷ (tyArray (lEntry.mir) 64, l₆) ∷ (tyInt w64, l₇) ∷ (tyInt w64, l₈) ∷ (tyArray (lEntry.mir) 64, l₉) ∷ (tyInt w64, l₁₀) ∷ (tyInt w64, l₁₁) ∷ (tyArray (lEntry.mir) 64, l₁₂) ∷ (tyInt w64, l₁₃) ∷ (tyInt w64, l₁₄) ∷ (tyArray (lEntry.mir) 64, l₁₅) ∷ (tyInt w64, l₁₆) ∷ (tyInt w64, l₁₇) ∷ (tyArray (lEntry.mir) 64, l₁₈) ∷ (tyInt w64, l₁₉) ∷ (tyInt w64, l₂₀) ∷ (tyArray (lEntry.mir) 64, l₂₁) ∷ (sliceTy (tyRef (named 1) imm (tyInt w64)), l₂₂) ∷ (sliceTy (tyRef (named 2) imm (tyInt w64)), l₂₃) ∷ (tyInt w64, l₂₄) ∷ (tyInt w64, l₂₅) ∷ (tyInt w64, l₂₆) ∷ (tyInt w64, l₂₇) ∷ (tyInt w64, l₂₈) ∷ (tyInt w64, l₂₉) ∷ (tyArray (lEntry.mir) 64, l₃₀) ∷ (tyArray (lEntry.mir) 64, l₃₁) ∷ (tyArray (lEntry.mir) 64, l₃₂) ∷ (tyRef erased mut (tyInt w64), l₃₃) ∷ (sliceTy (tyRef erased mut (tyInt w64)), l₃₄) ∷ (tyRef erased imm (pointee ((Array mEntry.the-row 64) .written)), l₃₅) ∷ (sliceTy (tyRef erased imm (pointee (mEntry.the-row .written))), l₃₆) ∷ (tyRef erased imm (pointee ((Array mEntry.the-row 64) .written)), l₃₇) ∷ (sliceTy (tyRef erased imm (pointee (mEntry.the-row .written))), l₃₈) ∷ (tyRef erased imm (pointee ((Array mEntry.the-row 64) .written)), l₃₉) ∷ (sliceTy (tyRef erased imm (pointee (mEntry.the-row .written))), l₄₀) ∷ []) (kept _ ∷ kept _ ∷ kept _ ∷ kept _ ∷ kept _ ∷ kept _ ∷ kept _ ∷ kept _ ∷ kept _ ∷ kept _ ∷ kept _ ∷ kept _ ∷ kept _ ∷ kept _ ∷ kept _ ∷ kept _ ∷ kept _ ∷ kept _ ∷ kept _ ∷ kept _ ∷ kept _ ∷ kept _ ∷ kept _ ∷ kept _ ∷ kept _ ∷ kept _ ∷ kept _ ∷ kept _ ∷ kept _ ∷ kept _ ∷ kept _ ∷ kept _ ∷ kept _ ∷ kept _ ∷ kept _ ∷ kept _ ∷ kept _ ∷ kept _ ∷ kept _ ∷ kept _ ∷ kept _ ∷ []) refl $ 
-        suffices ! _ (ends-at 𝓤 H A f.ended stayed (f.clauses 𝓤 H A at-mem run) W (((κ₀, (κ₁, (κ₂, tt))), (q₀, (q₁, (q₂, tt))), tt, a, at), tt) z1 r1 (ws1 .0, (tt, (tt, (tt, (tt, (tt, (tt, (tt, (tt, (tt, (tt, (tt, (tt, (tt, (tt, (tt, (tt, (tt, (tt, (tt, (tt, (tt, (tt, (tt, (tt, (tt, (tt, (tt, (tt, tt))))))))))))))))))))))))))))) (same1a, (tt, (tt, (tt, (tt, (tt, (tt, (tt, (tt, (tt, (tt, (tt, (tt, (tt, (tt, (tt, (tt, (tt, (tt, (tt, (tt, (tt, (tt, (tt, (tt, (tt, (tt, (tt, (tt, tt)))))))))))))))))))))))))))))) $ says ! (e1) $ 
+        use1 W (raw (Callee-g1 𝓤 H A at-mem run .pre ((((ν1a ∷ []), ((ν1f ∷ []), ((ν1i ∷ []), ((ν1l ∷ []), (κ₁, (κ₂, tt)))))), (fullShare, (fullShare, (fullShare, (fullShare, (q₁, (q₂, tt)))))), tt, (ref1 δ1a (ys1), (n2, (n3, (n4, (n5, (record { ptr = (l₃₀, 0); name = δ1f; now = (take n24 (n6)) }, (n7, (n8, (record { ptr = (l₃₁, 0); name = δ1i; now = (take n25 (n9)) }, (n10, (n11, (record { ptr = (l₃₂, 0); name = δ1l; now = (take n26 (n12)) }, (n13, (n14, (n15, (n16, (n17, (n18, (n19, (n20, (n21, (s22, (s23, (n27, (n28, (n29, tt)))))))))))))))))))))))))), (v1 ∷ [], (u2 ∷ [], (u3 ∷ [], (u4 ∷ [], (u5 ∷ [], (sliceVal (l₃₀, 0) n24 ∷ [], (u7 ∷ [], (u8′ ∷ [], (sliceVal (l₃₁, 0) n25 ∷ [], (u10 ∷ [], (u11 ∷ [], (sliceVal (l₃₂, 0) n26 ∷ [], (u13 ∷ [], (u14 ∷ [], (u15 ∷ [], (u16′ ∷ [], (u17 ∷ [], (u18 ∷ [], (u19 ∷ [], (u20 ∷ [], (u21 ∷ [], (v22 ∷ [], (v23 ∷ [], (u27 ∷ [], (u28 ∷ [], (u29 ∷ [], tt))))))))))))))))))))))))))), tt))) (qed W ((‵ (flft (ν1a ∷ []) fullShare) ⊛ ‵ (flft (ν1f ∷ []) fullShare) ⊛ ‵ (flft (ν1i ∷ []) fullShare) ⊛ ‵ (flft (ν1l ∷ []) fullShare) ⊛ ‵ (flft κ₁ q₁) ⊛ ‵ (flft κ₂ q₂) ⊛ ‵ ftrue) ∷ ‵ (MutSlice (named 0) (ν1a ∷ []) u64 .own (ref1 δ1a (ys1)) (v1 ∷ [])) ∷ ‵ (ShrSlice (named 1) (ν1f ∷ []) mEntry.the-row .own (record { ptr = (l₃₀, 0); name = δ1f; now = (take n24 (n6)) }) (sliceVal (l₃₀, 0) n24 ∷ [])) ∷ ‵ (ShrSlice (named 2) (ν1i ∷ []) mEntry.the-row .own (record { ptr = (l₃₁, 0); name = δ1i; now = (take n25 (n9)) }) (sliceVal (l₃₁, 0) n25 ∷ [])) ∷ ‵ (ShrSlice (named 3) (ν1l ∷ []) mEntry.the-row .own (record { ptr = (l₃₂, 0); name = δ1l; now = (take n26 (n12)) }) (sliceVal (l₃₂, 0) n26 ∷ [])) ∷ ‵ (ShrSlice (named 4) κ₁ u64 .own s22 (v22 ∷ [])) ∷ ‵ (ShrSlice (named 5) κ₂ u64 .own s23 (v23 ∷ [])) ∷ []) ∵ says ! ((pre .3, pre .4, pre .5)) $ nothing ! $ owned ! u64 (Is u64) (uint-makes 𝓤 H A W w64) (n29) _ w29 $ fjoin ! $ owned ! u64 (Is u64) (uint-makes 𝓤 H A W w64) (n28) _ w28 $ fjoin ! $ owned ! u64 (Is u64) (uint-makes 𝓤 H A W w64) (n27) _ w27 $ fjoin ! $ move ! (7 ∷ 0 ∷ []) $ fjoin ! $ move ! (6 ∷ 0 ∷ []) $ fjoin ! $ owned ! (Array mEntry.the-row 64) (Is (Array mEntry.the-row 64)) (array-makes 𝓤 H A W mEntry.the-row (LL.makes mEntry.the-type lEntry.the-plain 𝓤 H A) 64) (n21) _ w21 $ fjoin ! $ owned ! u64 (Is u64) (uint-makes 𝓤 H A W w64) (n20) _ w20 $ fjoin ! $ owned ! u64 (Is u64) (uint-makes 𝓤 H A W w64) (n19) _ w19 $ fjoin ! $ owned ! (Array mEntry.the-row 64) (Is (Array mEntry.the-row 64)) (array-makes 𝓤 H A W mEntry.the-row (LL.makes mEntry.the-type lEntry.the-plain 𝓤 H A) 64) (n18) _ w18 $ fjoin ! $ owned ! u64 (Is u64) (uint-makes 𝓤 H A W w64) (n17) _ w17 $ fjoin ! $ owned ! u64 (Is u64) (uint-makes 𝓤 H A W w64) (n16) _ w16 $ fjoin ! $ owned ! (Array mEntry.the-row 64) (Is (Array mEntry.the-row 64)) (array-makes 𝓤 H A W mEntry.the-row (LL.makes mEntry.the-type lEntry.the-plain 𝓤 H A) 64) (n15) _ w15 $ fjoin ! $ owned ! u64 (Is u64) (uint-makes 𝓤 H A W w64) (n14) _ w14 $ fjoin ! $ owned ! u64 (Is u64) (uint-makes 𝓤 H A W w64) (n13) _ w13 $ fjoin ! $ move ! (5 ∷ 0 ∷ []) $ fjoin ! $ owned ! u64 (Is u64) (uint-makes 𝓤 H A W w64) (n11) _ w11 $ fjoin ! $ owned ! u64 (Is u64) (uint-makes 𝓤 H A W w64) (n10) _ w10 $ fjoin ! $ move ! (4 ∷ 0 ∷ []) $ fjoin ! $ owned ! u64 (Is u64) (uint-makes 𝓤 H A W w64) (n8) _ w8 $ fjoin ! $ owned ! u64 (Is u64) (uint-makes 𝓤 H A W w64) (n7) _ w7 $ fjoin ! $ move ! (3 ∷ 0 ∷ []) $ fjoin ! $ owned ! u64 (Is u64) (uint-makes 𝓤 H A W w64) (n5) _ w5 $ fjoin ! $ owned ! u64 (Is u64) (uint-makes 𝓤 H A W w64) (n4) _ w4 $ fjoin ! $ owned ! u64 (Is u64) (uint-makes 𝓤 H A W w64) (n3) _ w3 $ fjoin ! $ owned ! u64 (Is u64) (uint-makes 𝓤 H A W w64) (n2) _ w2 $ fjoin ! $ move ! (2 ∷ 0 ∷ []) $ fjoin ! $ move ! (1 ∷ 0 ∷ []) $ frame ! $ done !) $
+        calls-at ! fm (Callee-g1 𝓤 H A at-mem run) known-g1 ((((ν1a ∷ []), ((ν1f ∷ []), ((ν1i ∷ []), ((ν1l ∷ []), (κ₁, (κ₂, tt)))))), (fullShare, (fullShare, (fullShare, (fullShare, (q₁, (q₂, tt)))))), tt, (ref1 δ1a (ys1), (n2, (n3, (n4, (n5, (record { ptr = (l₃₀, 0); name = δ1f; now = (take n24 (n6)) }, (n7, (n8, (record { ptr = (l₃₁, 0); name = δ1i; now = (take n25 (n9)) }, (n10, (n11, (record { ptr = (l₃₂, 0); name = δ1l; now = (take n26 (n12)) }, (n13, (n14, (n15, (n16, (n17, (n18, (n19, (n20, (n21, (s22, (s23, (n27, (n28, (n29, tt)))))))))))))))))))))))))), (v1 ∷ [], (u2 ∷ [], (u3 ∷ [], (u4 ∷ [], (u5 ∷ [], (sliceVal (l₃₀, 0) n24 ∷ [], (u7 ∷ [], (u8′ ∷ [], (sliceVal (l₃₁, 0) n25 ∷ [], (u10 ∷ [], (u11 ∷ [], (sliceVal (l₃₂, 0) n26 ∷ [], (u13 ∷ [], (u14 ∷ [], (u15 ∷ [], (u16′ ∷ [], (u17 ∷ [], (u18 ∷ [], (u19 ∷ [], (u20 ∷ [], (u21 ∷ [], (v22 ∷ [], (v23 ∷ [], (u27 ∷ [], (u28 ∷ [], (u29 ∷ [], tt))))))))))))))))))))))))))), tt) (and-then ! (load ! (from ! (stop !)) (look ! 43 refl)) (and-then ! (load ! (from ! (stop !)) (look ! 72 refl)) (and-then ! (load ! (from ! (stop !)) (look ! 71 refl)) (and-then ! (load ! (from ! (stop !)) (look ! 70 refl)) (and-then ! (load ! (from ! (stop !)) (look ! 69 refl)) (and-then ! (load ! (from ! (stop !)) (look ! 41 refl)) (and-then ! (load ! (from ! (stop !)) (look ! 67 refl)) (and-then ! (load ! (from ! (stop !)) (look ! 66 refl)) (and-then ! (load ! (from ! (stop !)) (look ! 39 refl)) (and-then ! (load ! (from ! (stop !)) (look ! 64 refl)) (and-then ! (load ! (from ! (stop !)) (look ! 63 refl)) (and-then ! (load ! (from ! (stop !)) (look ! 37 refl)) (and-then ! (load ! (from ! (stop !)) (look ! 61 refl)) (and-then ! (load ! (from ! (stop !)) (look ! 60 refl)) (and-then ! (load ! (from ! (stop !)) (look ! 59 refl)) (and-then ! (load ! (from ! (stop !)) (look ! 58 refl)) (and-then ! (load ! (from ! (stop !)) (look ! 57 refl)) (and-then ! (load ! (from ! (stop !)) (look ! 56 refl)) (and-then ! (load ! (from ! (stop !)) (look ! 55 refl)) (and-then ! (load ! (from ! (stop !)) (look ! 54 refl)) (and-then ! (load ! (from ! (stop !)) (look ! 53 refl)) (and-then ! (load ! (from ! (stop !)) (look ! 52 refl)) (and-then ! (load ! (from ! (stop !)) (look ! 51 refl)) (and-then ! (load ! (from ! (stop !)) (look ! 47 refl)) (and-then ! (load ! (from ! (stop !)) (look ! 46 refl)) (and-then ! (load ! (from ! (stop !)) (look ! 45 refl)) (no-more !))))))))))))))))))))))))))) (λ z1.
+        use1 W (later (some (λ (r1 : RowCheck). ((‵ (flft (ν1a ∷ []) fullShare) ⊛ ‵ (flft (ν1f ∷ []) fullShare) ⊛ ‵ (flft (ν1i ∷ []) fullShare) ⊛ ‵ (flft (ν1l ∷ []) fullShare) ⊛ ‵ (flft κ₁ q₁) ⊛ ‵ (flft κ₂ q₂) ⊛ ‵ ftrue) ⊛ ‵ (mRowCheck.the-row .own r1 (z1 ∷ []))) ⊛ some (λ (ws : Lasts g1.ended ((ν1a ∷ []), ((ν1f ∷ []), ((ν1i ∷ []), ((ν1l ∷ []), (κ₁, (κ₂, tt)))))) (ref1 δ1a (ys1), (n2, (n3, (n4, (n5, (record { ptr = (l₃₀, 0); name = δ1f; now = (take n24 (n6)) }, (n7, (n8, (record { ptr = (l₃₁, 0); name = δ1i; now = (take n25 (n9)) }, (n10, (n11, (record { ptr = (l₃₂, 0); name = δ1l; now = (take n26 (n12)) }, (n13, (n14, (n15, (n16, (n17, (n18, (n19, (n20, (n21, (s22, (s23, (n27, (n28, (n29, tt))))))))))))))))))))))))))). ‵ (lasts g1.ended ((ν1a ∷ []), ((ν1f ∷ []), ((ν1i ∷ []), ((ν1l ∷ []), (κ₁, (κ₂, tt)))))) (ref1 δ1a (ys1), (n2, (n3, (n4, (n5, (record { ptr = (l₃₀, 0); name = δ1f; now = (take n24 (n6)) }, (n7, (n8, (record { ptr = (l₃₁, 0); name = δ1i; now = (take n25 (n9)) }, (n10, (n11, (record { ptr = (l₃₂, 0); name = δ1l; now = (take n26 (n12)) }, (n13, (n14, (n15, (n16, (n17, (n18, (n19, (n20, (n21, (s22, (s23, (n27, (n28, (n29, tt)))))))))))))))))))))))))) ws) ⊛ raw (g1.clauses 𝓤 H A at-mem run ((ν1a ∷ []), ((ν1f ∷ []), ((ν1i ∷ []), ((ν1l ∷ []), (κ₁, (κ₂, tt)))))) (ref1 δ1a (ys1), (n2, (n3, (n4, (n5, (record { ptr = (l₃₀, 0); name = δ1f; now = (take n24 (n6)) }, (n7, (n8, (record { ptr = (l₃₁, 0); name = δ1i; now = (take n25 (n9)) }, (n10, (n11, (record { ptr = (l₃₂, 0); name = δ1l; now = (take n26 (n12)) }, (n13, (n14, (n15, (n16, (n17, (n18, (n19, (n20, (n21, (s22, (s23, (n27, (n28, (n29, tt)))))))))))))))))))))))))) .ensures tt r1 (atExit g1.ended ((ν1a ∷ []), ((ν1f ∷ []), ((ν1i ∷ []), ((ν1l ∷ []), (κ₁, (κ₂, tt)))))) (ref1 δ1a (ys1), (n2, (n3, (n4, (n5, (record { ptr = (l₃₀, 0); name = δ1f; now = (take n24 (n6)) }, (n7, (n8, (record { ptr = (l₃₁, 0); name = δ1i; now = (take n25 (n9)) }, (n10, (n11, (record { ptr = (l₃₂, 0); name = δ1l; now = (take n26 (n12)) }, (n13, (n14, (n15, (n16, (n17, (n18, (n19, (n20, (n21, (s22, (s23, (n27, (n28, (n29, tt)))))))))))))))))))))))))) ws)))))) (id⊢ 𝓤 _) $ await ! tt $ pick ! (λ r1. split ! $ move ! (1 ∷ []) $ pick ! (λ ws1. split ! $ move ! (1 ∷ []) $ heard ! _ (λ e1.
+        fsplit ! $ fsplit ! $ move ! (1 ∷ []) $ feqL ! (λ same1a. move ! (1 ∷ []) $ drop ! $ move ! (1 ∷ []) $ split ! $ move ! (1 ∷ []) $ peeks ! mRowCheck.the-row (Is mRowCheck.the-row) (shows 𝓤 H A mRowCheck.the-row) r1 (z1 ∷ []) (λ i1. drop ! $ land ! (from ! (stop !)) (init ! 75 refl (EL.lawful mRowCheck.the-type lRowCheck.the-laws 𝓤 H A W tt .typed r1 _ i1 .0)) $
+        tidy W (_ ∷ _ ∷ _ ∷ _ ∷ _ ∷ _ ∷ _ ∷ _ ∷ _ ∷ _ ∷ _ ∷ _ ∷ _ ∷ _ ∷ _ ∷ _ ∷ _ ∷ _ ∷ _ ∷ _ ∷ _ ∷ _ ∷ _ ∷ _ ∷ _ ∷ _ ∷ _ ∷ _ ∷ _ ∷ _ ∷ _ ∷ _ ∷ _ ∷ _ ∷ _ ∷ _ ∷ _ ∷ _ ∷ _ ∷ _ ∷ _ ∷ _ ∷ _ ∷ _ ∷ _ ∷ _ ∷ _ ∷ _ ∷ _ ∷ _ ∷ _ ∷ _ ∷ _ ∷ _ ∷ _ ∷ _ ∷ _ ∷ _ ∷ _ ∷ _ ∷ _ ∷ _ ∷ _ ∷ _ ∷ _ ∷ _ ∷ _ ∷ _ ∷ _ ∷ _ ∷ _ ∷ _ ∷ _ ∷ _ ∷ _ ∷ _ ∷ []) $ split ! $ move ! (1 ∷ []) $ split ! $ move ! (1 ∷ []) $ split ! $ move ! (1 ∷ []) $ split ! $ move ! (1 ∷ []) $ split ! $ move ! (1 ∷ []) $ split ! $ move ! (1 ∷ []) $ drop ! $ move ! (5 ∷ []) $ lft-end ! tt $ move ! (0 ∷ 15 ∷ 6 ∷ []) $ use3 W (later (‵ (O1 (ws1 .0)) ⊛ ‵ (flft κ₀ q₀))) (backs1 (named 0) ν1a δ1a (ys1) (ws1 .0) (refl) room1 same1a) $ await ! tt $ split ! $
+        move ! (6 ∷ []) $ lft-end ! tt $ move ! (0 ∷ 13 ∷ []) $ lent-back ! tt $ fsplit ! $ drop ! $ move ! (0 ∷ 13 ∷ []) $ use2 W (‵ (parts (mem mEntry.the-row) (shares mEntry.the-row) fullShare (n6) l₃₀ 0)) (mend 𝓤 H A mEntry.the-row fullShare n24 (n6) l₃₀ 0) $ feqI ! ℕ (length (n6)) 64 ln1f $ fjoin ! $ use1 W (‵ (partAt (Array mEntry.the-row 64) fullShare (n6) l₃₀ 0)) (array-whole 𝓤 H A W mEntry.the-row fullShare 64 (n6) l₃₀ 0) $
+        out ! (Array mEntry.the-row 64) fullShare (n6) l₃₀ 0 (λ vs. spelt ! (Array mEntry.the-row 64) (Is (Array mEntry.the-row 64)) (shows 𝓤 H A (Array mEntry.the-row 64)) (array-vals (LL.vals mEntry.the-type lEntry.the-laws)) (array-tells mEntry.the-row (LL.vals mEntry.the-type lEntry.the-laws) (LL.tells mEntry.the-type lEntry.the-laws) 64) fullShare (n6) vs l₃₀ 0 $ move ! (1 ∷ []) $ peeks ! (Array mEntry.the-row 64) (Is (Array mEntry.the-row 64)) (shows 𝓤 H A (Array mEntry.the-row 64)) (n6) (array-val (LL.vals mEntry.the-type lEntry.the-laws) (n6) ∷ []) (λ w1f. drop ! $ use1 W (‵ (fat fullShare (tyArray (lEntry.mir) 64) l₃₀ 0 (array-val (LL.vals mEntry.the-type lEntry.the-laws) (n6)))) (W .laws .raw-at fullShare (tyArray (lEntry.mir) 64) l₃₀ 0 (array-val (LL.vals mEntry.the-type lEntry.the-laws) (n6))) $
+        move ! (6 ∷ []) $ lft-end ! tt $ move ! (0 ∷ 11 ∷ []) $ lent-back ! tt $ fsplit ! $ drop ! $ move ! (0 ∷ 11 ∷ []) $ use2 W (‵ (parts (mem mEntry.the-row) (shares mEntry.the-row) fullShare (n9) l₃₁ 0)) (mend 𝓤 H A mEntry.the-row fullShare n25 (n9) l₃₁ 0) $ feqI ! ℕ (length (n9)) 64 ln1i $ fjoin ! $ use1 W (‵ (partAt (Array mEntry.the-row 64) fullShare (n9) l₃₁ 0)) (array-whole 𝓤 H A W mEntry.the-row fullShare 64 (n9) l₃₁ 0) $
+        out ! (Array mEntry.the-row 64) fullShare (n9) l₃₁ 0 (λ vs. spelt ! (Array mEntry.the-row 64) (Is (Array mEntry.the-row 64)) (shows 𝓤 H A (Array mEntry.the-row 64)) (array-vals (LL.vals mEntry.the-type lEntry.the-laws)) (array-tells mEntry.the-row (LL.vals mEntry.the-type lEntry.the-laws) (LL.tells mEntry.the-type lEntry.the-laws) 64) fullShare (n9) vs l₃₁ 0 $ move ! (1 ∷ []) $ peeks ! (Array mEntry.the-row 64) (Is (Array mEntry.the-row 64)) (shows 𝓤 H A (Array mEntry.the-row 64)) (n9) (array-val (LL.vals mEntry.the-type lEntry.the-laws) (n9) ∷ []) (λ w1i. drop ! $ use1 W (‵ (fat fullShare (tyArray (lEntry.mir) 64) l₃₁ 0 (array-val (LL.vals mEntry.the-type lEntry.the-laws) (n9)))) (W .laws .raw-at fullShare (tyArray (lEntry.mir) 64) l₃₁ 0 (array-val (LL.vals mEntry.the-type lEntry.the-laws) (n9))) $
+        move ! (6 ∷ []) $ lft-end ! tt $ move ! (0 ∷ 9 ∷ []) $ lent-back ! tt $ fsplit ! $ drop ! $ move ! (0 ∷ 9 ∷ []) $ use2 W (‵ (parts (mem mEntry.the-row) (shares mEntry.the-row) fullShare (n12) l₃₂ 0)) (mend 𝓤 H A mEntry.the-row fullShare n26 (n12) l₃₂ 0) $ feqI ! ℕ (length (n12)) 64 ln1l $ fjoin ! $ use1 W (‵ (partAt (Array mEntry.the-row 64) fullShare (n12) l₃₂ 0)) (array-whole 𝓤 H A W mEntry.the-row fullShare 64 (n12) l₃₂ 0) $
+        out ! (Array mEntry.the-row 64) fullShare (n12) l₃₂ 0 (λ vs. spelt ! (Array mEntry.the-row 64) (Is (Array mEntry.the-row 64)) (shows 𝓤 H A (Array mEntry.the-row 64)) (array-vals (LL.vals mEntry.the-type lEntry.the-laws)) (array-tells mEntry.the-row (LL.vals mEntry.the-type lEntry.the-laws) (LL.tells mEntry.the-type lEntry.the-laws) 64) fullShare (n12) vs l₃₂ 0 $ move ! (1 ∷ []) $ peeks ! (Array mEntry.the-row 64) (Is (Array mEntry.the-row 64)) (shows 𝓤 H A (Array mEntry.the-row 64)) (n12) (array-val (LL.vals mEntry.the-type lEntry.the-laws) (n12) ∷ []) (λ w1l. drop ! $ use1 W (‵ (fat fullShare (tyArray (lEntry.mir) 64) l₃₂ 0 (array-val (LL.vals mEntry.the-type lEntry.the-laws) (n12)))) (W .laws .raw-at fullShare (tyArray (lEntry.mir) 64) l₃₂ 0 (array-val (LL.vals mEntry.the-type lEntry.the-laws) (n12))) $
+        tidy W (_ ∷ _ ∷ _ ∷ _ ∷ _ ∷ _ ∷ _ ∷ _ ∷ _ ∷ _ ∷ _ ∷ _ ∷ _ ∷ _ ∷ _ ∷ _ ∷ _ ∷ _ ∷ _ ∷ _ ∷ _ ∷ _ ∷ _ ∷ _ ∷ _ ∷ _ ∷ _ ∷ _ ∷ _ ∷ _ ∷ _ ∷ _ ∷ _ ∷ _ ∷ _ ∷ _ ∷ _ ∷ _ ∷ _ ∷ _ ∷ _ ∷ _ ∷ _ ∷ _ ∷ _ ∷ _ ∷ _ ∷ _ ∷ _ ∷ _ ∷ _ ∷ _ ∷ _ ∷ _ ∷ _ ∷ _ ∷ _ ∷ _ ∷ _ ∷ _ ∷ _ ∷ _ ∷ _ ∷ _ ∷ _ ∷ _ ∷ _ ∷ _ ∷ _ ∷ _ ∷ _ ∷ _ ∷ _ ∷ _ ∷ []) $ returns ! (look ! 73 refl) $ move ! (3 ∷ 4 ∷ 5 ∷ 6 ∷ 7 ∷ 8 ∷ 9 ∷ 10 ∷ 11 ∷ 12 ∷ 13 ∷ 14 ∷ 15 ∷ 16 ∷ 17 ∷ 18 ∷ 19 ∷ 20 ∷ 21 ∷ 22 ∷ 23 ∷ 24 ∷ 25 ∷ 26 ∷ 27 ∷ 28 ∷ 29 ∷ 30 ∷ 31 ∷ 32 ∷ 33 ∷ 34 ∷ 35 ∷ 36 ∷ 37 ∷ 38 ∷ 39 ∷ 40 ∷ 41 ∷ 42 ∷ 43 ∷ 0 ∷ 1 ∷ 2 ∷ 44 ∷ 45 ∷ 46 ∷ 47 ∷ 48 ∷ 49 ∷ 50 ∷ 51 ∷ 52 ∷ 53 ∷ 54 ∷ 55 ∷ 56 ∷ 57 ∷ 58 ∷ 59 ∷ 60 ∷ 61 ∷ 62 ∷ 63 ∷ 64 ∷ 65 ∷ 66 ∷ 67 ∷ 68 ∷ 69 ∷ 70 ∷ 71 ∷ 72 ∷ 73 ∷ []) $ move ! (32 ∷ []) $ use1 W (dies ((lRowCheck.mir, l₀) ∷ (sliceTy (tyRef (named 0) mut (tyInt w64)), l₁) ∷ (tyInt w64, l₂) ∷ (tyInt w64, l₃) ∷ (tyInt w64, l₄) ∷ (tyInt w64, l₅) ∷ (tyArray (lEntry.mir) 64, l₆) ∷ (tyInt w64, l₇) ∷ (tyInt w64, l₈) ∷ (tyArray (lEntry.mir) 64, l₉) ∷ (tyInt w64, l₁₀) ∷ (tyInt w64, l₁₁) ∷ (tyArray (lEntry.mir) 64, l₁₂) ∷ (tyInt w64, l₁₃) ∷ (tyInt w64, l₁₄) ∷ (tyArray (lEntry.mir) 64, l₁₅) ∷ (tyInt w64, l₁₆) ∷ (tyInt w64, l₁₇) ∷ (tyArray (lEntry.mir) 64, l₁₈) ∷ (tyInt w64, l₁₉) ∷ (tyInt w64, l₂₀) ∷ (tyArray (lEntry.mir) 64, l₂₁) ∷ (sliceTy (tyRef (named 1) imm (tyInt w64)), l₂₂) ∷ (sliceTy (tyRef (named 2) imm (tyInt w64)), l₂₃) ∷ (tyInt w64, l₂₄) ∷ (tyInt w64, l₂₅) ∷ (tyInt w64, l₂₆) ∷ (tyInt w64, l₂₇) ∷ (tyInt w64, l₂₈) ∷ (tyInt w64, l₂₉) ∷ (tyArray (lEntry.mir) 64, l₃₀) ∷ (tyArray (lEntry.mir) 64, l₃₁) ∷ (tyArray (lEntry.mir) 64, l₃₂) ∷ (tyRef erased mut (tyInt w64), l₃₃) ∷ (sliceTy (tyRef erased mut (tyInt w64)), l₃₄) ∷ (tyRef erased imm (pointee ((Array mEntry.the-row 64) .written)), l₃₅) ∷ (sliceTy (tyRef erased imm (pointee (mEntry.the-row .written))), l₃₆) ∷ (tyRef erased imm (pointee ((Array mEntry.the-row 64) .written)), l₃₇) ∷ (sliceTy (tyRef erased imm (pointee (mEntry.the-row .written))), l₃₈) ∷ (tyRef erased imm (pointee ((Array mEntry.the-row 64) .written)), l₃₉) ∷ (sliceTy (tyRef erased imm (pointee (mEntry.the-row .written))), l₄₀) ∷ []) (‵ ftrue)) die $ free-all ! 32 ((lRowCheck.mir, l₀) ∷ (sliceTy (tyRef (named 0) mut (tyInt w64)), l₁) ∷ (tyInt w64, l₂) ∷ (tyInt w64, l₃) ∷ (tyInt w64, l₄) ∷ (tyInt w64, l₅) ∷ (tyArray (lEntry.mir) 64, l₆) ∷ (tyInt w64, l₇) ∷ (tyInt w64, l₈) ∷ (tyArray (lEntry.mir) 64, l₉) ∷ (tyInt w64, l₁₀) ∷ (tyInt w64, l₁₁) ∷ (tyArray (lEntry.mir) 64, l₁₂) ∷ (tyInt w64, l₁₃) ∷ (tyInt w64, l₁₄) ∷ (tyArray (lEntry.mir) 64, l₁₅) ∷ (tyInt w64, l₁₆) ∷ (tyInt w64, l₁₇) ∷ (tyArray (lEntry.mir) 64, l₁₈) ∷ (tyInt w64, l₁₉) ∷ (tyInt w64, l₂₀) ∷ (tyArray (lEntry.mir) 64, l₂₁) ∷ (sliceTy (tyRef (named 1) imm (tyInt w64)), l₂₂) ∷ (sliceTy (tyRef (named 2) imm (tyInt w64)), l₂₃) ∷ (tyInt w64, l₂₄) ∷ (tyInt w64, l₂₅) ∷ (tyInt w64, l₂₆) ∷ (tyInt w64, l₂₇) ∷ (tyInt w64, l₂₈) ∷ (tyInt w64, l₂₉) ∷ (tyArray (lEntry.mir) 64, l₃₀) ∷ (tyArray (lEntry.mir) 64, l₃₁) ∷ (tyArray (lEntry.mir) 64, l₃₂) ∷ (tyRef erased mut (tyInt w64), l₃₃) ∷ (sliceTy (tyRef erased mut (tyInt w64)), l₃₄) ∷ (tyRef erased imm (pointee ((Array mEntry.the-row 64) .written)), l₃₅) ∷ (sliceTy (tyRef erased imm (pointee (mEntry.the-row .written))), l₃₆) ∷ (tyRef erased imm (pointee ((Array mEntry.the-row 64) .written)), l₃₇) ∷ (sliceTy (tyRef erased imm (pointee (mEntry.the-row .written))), l₃₈) ∷ (tyRef erased imm (pointee ((Array mEntry.the-row 64) .written)), l₃₉) ∷ (sliceTy (tyRef erased imm (pointee (mEntry.the-row .written))), l₄₀) ∷ []) (kept _ ∷ kept _ ∷ kept _ ∷ kept _ ∷ kept _ ∷ kept _ ∷ kept _ ∷ kept _ ∷ kept _ ∷ kept _ ∷ kept _ ∷ kept _ ∷ kept _ ∷ kept _ ∷ kept _ ∷ kept _ ∷ kept _ ∷ kept _ ∷ kept _ ∷ kept _ ∷ kept _ ∷ kept _ ∷ kept _ ∷ kept _ ∷ kept _ ∷ kept _ ∷ kept _ ∷ kept _ ∷ kept _ ∷ kept _ ∷ kept _ ∷ kept _ ∷ kept _ ∷ kept _ ∷ kept _ ∷ kept _ ∷ kept _ ∷ kept _ ∷ kept _ ∷ kept _ ∷ kept _ ∷ []) refl $
+        suffices ! _ (ends-at 𝓤 H A f.ended stayed (f.clauses 𝓤 H A at-mem run) W (((κ₀, (κ₁, (κ₂, tt))), (q₀, (q₁, (q₂, tt))), tt, a, at), tt) z1 r1 (ws1 .0, (tt, (tt, (tt, (tt, (tt, (tt, (tt, (tt, (tt, (tt, (tt, (tt, (tt, (tt, (tt, (tt, (tt, (tt, (tt, (tt, (tt, (tt, (tt, (tt, (tt, (tt, (tt, (tt, tt))))))))))))))))))))))))))))) (same1a, (tt, (tt, (tt, (tt, (tt, (tt, (tt, (tt, (tt, (tt, (tt, (tt, (tt, (tt, (tt, (tt, (tt, (tt, (tt, (tt, (tt, (tt, (tt, (tt, (tt, (tt, (tt, (tt, tt)))))))))))))))))))))))))))))) $ says ! (e1) $
         nothing ! $ move ! (3 ∷ 0 ∷ []) $ join ! $ move ! (3 ∷ 0 ∷ []) $ join ! $ move ! (2 ∷ 0 ∷ []) $ join ! $ nothing ! $ move ! (5 ∷ 0 ∷ []) $ fjoin ! $ move ! (5 ∷ 0 ∷ []) $ fjoin ! $ move ! (5 ∷ 0 ∷ []) $ fjoin ! $ move ! (5 ∷ 0 ∷ []) $ fjoin ! $ move ! (5 ∷ 0 ∷ []) $ fjoin ! $ move ! (5 ∷ 0 ∷ []) $ fjoin ! $ move ! (3 ∷ 0 ∷ []) $ fjoin ! $ move ! (3 ∷ 0 ∷ []) $ fjoin ! $ move ! (3 ∷ 0 ∷ []) $ fjoin ! $ move ! (3 ∷ 0 ∷ []) $ fjoin ! $ move ! (3 ∷ 0 ∷ []) $ fjoin ! $ move ! (3 ∷ 0 ∷ []) $ fjoin ! $ move ! (3 ∷ 0 ∷ []) $ fjoin ! $ move ! (3 ∷ 0 ∷ []) $ fjoin ! $ move ! (3 ∷ 0 ∷ []) $ fjoin ! $ move ! (3 ∷ 0 ∷ []) $ fjoin ! $ move ! (3 ∷ 0 ∷ []) $ fjoin ! $ move ! (3 ∷ 0 ∷ []) $ fjoin ! $ move ! (3 ∷ 0 ∷ []) $ fjoin ! $ move ! (3 ∷ 0 ∷ []) $ fjoin ! $ move ! (3 ∷ 0 ∷ []) $ fjoin ! $ move ! (3 ∷ 0 ∷ []) $ fjoin ! $ move ! (3 ∷ 0 ∷ []) $ fjoin ! $ move ! (3 ∷ 0 ∷ []) $ fjoin ! $ move ! (3 ∷ 0 ∷ []) $ fjoin ! $ move ! (3 ∷ 0 ∷ []) $ fjoin ! $ move ! (3 ∷ 0 ∷ []) $ fjoin ! $ move ! (3 ∷ 0 ∷ []) $ fjoin ! $ move ! (2 ∷ 0 ∷ []) $ fjoin ! $ keep ! (1 ∷ 0 ∷ []) $ frame ! $ frame ! $ owned ! mRowCheck.the-row (Is mRowCheck.the-row) (EL.makes mRowCheck.the-type lRowCheck.the-plain 𝓤 H A) r1 _ i1 $ done !)))))))))))))))))))))))))))))))))))))))))))))))))))))))))))))))))
 
 module _ {M : Type 1} (𝓤 : URA M) (H : Heap 𝓤) (A : Atoms 𝓤) (W : Given 𝓤 H A) (mem : Memory → SProp 𝓤) (run : Routine → Fun 𝓤) where

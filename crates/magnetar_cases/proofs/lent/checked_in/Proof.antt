@@ -85,7 +85,6 @@ is-no : (t : Bool) → Trueᴮ (not t) → t ≡ false
 is-no true a = absurd a
 is-no false _ = refl
 
-
 abbrev stayed : Stays (f.ended .signature .params) (f.ended .kept)
 stayed = (stay-slice (0 ∷ []) tt (plain (λ _. u64)), (stay-none (λ _. u64) yes, (stay-none (λ _. u64) yes, (stay-none (λ _. u64) yes, (stay-none (λ _. u64) yes, (stay-none-slice (1 ∷ []) tt (plain (λ _. mEntry.the-row)) yes, (stay-none (λ _. u64) yes, (stay-none (λ _. u64) yes, (stay-none-slice (2 ∷ []) tt (plain (λ _. mEntry.the-row)) yes, (stay-none (λ _. u64) yes, (stay-none (λ _. u64) yes, (stay-none-slice (3 ∷ []) tt (plain (λ _. mEntry.the-row)) yes, (stay-none (λ _. u64) yes, (stay-none (λ _. u64) yes, (stay-none (λ _. (Array mEntry.the-row 64)) yes, (stay-none (λ _. u64) yes, (stay-none (λ _. u64) yes, (stay-none (λ _. (Array mEntry.the-row 64)) yes, (stay-none (λ _. u64) yes, (stay-none (λ _. u64) yes, (stay-none (λ _. (Array mEntry.the-row 64)) yes, (stay-none-slice (4 ∷ []) tt (plain (λ _. u64)) yes, (stay-none-slice (5 ∷ []) tt (plain (λ _. u64)) yes, (stay-none (λ _. u64) yes, (stay-none (λ _. u64) yes, (stay-none (λ _. u64) yes, tt))))))))))))))))))))))))))
 
@@ -221,50 +220,47 @@ module _ {M : Type 1} (𝓤 : URA M) (H : Heap 𝓤) (A : Atoms 𝓤) (W : Given
     walk : ((n24 ≤ 64) × (n25 ≤ 64) × (n26 ≤ 64)) → ent 𝓤 (onEntry 𝓤 H A f.signature (κ₀, (κ₁, (κ₂, (κ₃, (κ₄, (κ₅, tt)))))) (q₀, (q₁, (q₂, (q₃, (q₄, (q₅, tt)))))) a at) (WpFn 𝓤 H C Λ code.function (v1 ∷ v2 ∷ v3 ∷ v4 ∷ v5 ∷ v6 ∷ v7 ∷ v8 ∷ v9 ∷ v10 ∷ v11 ∷ v12 ∷ v13 ∷ v14 ∷ v15 ∷ v16 ∷ v17 ∷ v18 ∷ v19 ∷ v20 ∷ v21 ∷ v22 ∷ v23 ∷ v24 ∷ v25 ∷ v26 ∷ []) Post)
     walk pre =
         qed W ((‵ (flft κ₀ q₀) ⊛ ‵ (flft κ₁ q₁) ⊛ ‵ (flft κ₂ q₂) ⊛ ‵ (flft κ₃ q₃) ⊛ ‵ (flft κ₄ q₄) ⊛ ‵ (flft κ₅ q₅) ⊛ ‵ ftrue) ∷ ‵ (owns (MutSlice (named 0) κ₀ u64 ∷ u64 ∷ u64 ∷ u64 ∷ u64 ∷ ShrSlice (named 1) κ₁ mEntry.the-row ∷ u64 ∷ u64 ∷ ShrSlice (named 2) κ₂ mEntry.the-row ∷ u64 ∷ u64 ∷ ShrSlice (named 3) κ₃ mEntry.the-row ∷ u64 ∷ u64 ∷ (Array mEntry.the-row 64) ∷ u64 ∷ u64 ∷ (Array mEntry.the-row 64) ∷ u64 ∷ u64 ∷ (Array mEntry.the-row 64) ∷ ShrSlice (named 4) κ₄ u64 ∷ ShrSlice (named 5) κ₅ u64 ∷ u64 ∷ u64 ∷ u64 ∷ []) a at) ∷ []) ∵ enter ! C Λ code.function (v1 ∷ v2 ∷ v3 ∷ v4 ∷ v5 ∷ v6 ∷ v7 ∷ v8 ∷ v9 ∷ v10 ∷ v11 ∷ v12 ∷ v13 ∷ v14 ∷ v15 ∷ v16 ∷ v17 ∷ v18 ∷ v19 ∷ v20 ∷ v21 ∷ v22 ∷ v23 ∷ v24 ∷ v25 ∷ v26 ∷ []) _ $
-        nothing ! $ alloc ! (λ l₀. alloc ! (λ l₁. alloc ! (λ l₂. alloc ! (λ l₃. alloc ! (λ l₄. alloc ! (λ l₅. alloc ! (λ l₆. alloc ! (λ l₇. alloc ! (λ l₈. alloc ! (λ l₉. alloc ! (λ l₁₀. alloc ! (λ l₁₁. alloc ! (λ l₁₂. alloc ! (λ l₁₃. alloc ! (λ l₁₄. alloc ! (λ l₁₅. alloc ! (λ l₁₆. alloc ! (λ l₁₇. alloc ! (λ l₁₈. alloc ! (λ l₁₉. alloc ! (λ l₂₀. alloc ! (λ l₂₁. alloc ! (λ l₂₂. alloc ! (λ l₂₃. alloc ! (λ l₂₄. alloc ! (λ l₂₅. alloc ! (λ l₂₆. alloc ! (λ l₂₇. alloc ! (λ l₂₈. alloc ! (λ l₂₉. alloc ! (λ l₃₀. alloc ! (λ l₃₁. alloc ! (λ l₃₂. alloc ! (λ l₃₃. alloc ! (λ l₃₄. alloc ! (λ l₃₅. alloc ! (λ l₃₆. alloc ! (λ l₃₇. alloc0 ! $ hide ! (λ died die. params1 ! $ pass1 ! (init ! 37 refl (tt, (tt, (record { fits = room1 .0 }, tt)))) $ pass1 ! (init ! 36 refl (uint-lawful 𝓤 H A W w64 .typed n2 _ w2 .0)) $ pass1 ! (init ! 35 refl (uint-lawful 𝓤 H A W w64 .typed n3 _ w3 .0)) $ pass1 ! (init ! 34 refl (uint-lawful 𝓤 H A W w64 .typed n4 _ w4 .0)) $ pass1 ! (init ! 33 refl (uint-lawful 𝓤 H A W w64 .typed n5 _ w5 .0)) $ pass1 ! (init ! 32 refl (shr-slice-lawful 𝓤 H A W (named 1) κ₁ mEntry.the-row .typed s6 (v6 ∷ []) w6 .0)) $ pass1 ! (init ! 31 refl (uint-lawful 𝓤 H A W w64 .typed n7 _ w7 .0)) $ pass1 ! (init ! 30 refl (uint-lawful 𝓤 H A W w64 .typed n8 _ w8 .0)) $ pass1 ! (init ! 29 refl (shr-slice-lawful 𝓤 H A W (named 2) κ₂ mEntry.the-row .typed s9 (v9 ∷ []) w9 .0)) $ pass1 ! (init ! 28 refl (uint-lawful 𝓤 H A W w64 .typed n10 _ w10 .0)) $ pass1 ! (init ! 27 refl (uint-lawful 𝓤 H A W w64 .typed n11 _ w11 .0)) $ pass1 ! (init ! 26 refl (shr-slice-lawful 𝓤 H A W (named 3) κ₃ mEntry.the-row .typed s12 (v12 ∷ []) w12 .0)) $ pass1 ! (init ! 25 refl (uint-lawful 𝓤 H A W w64 .typed n13 _ w13 .0)) $ pass1 ! (init ! 24 refl (uint-lawful 𝓤 H A W w64 .typed n14 _ w14 .0)) $ pass1 ! (init ! 23 refl (array-lawful 𝓤 H A W mEntry.the-row (LL.lawful mEntry.the-type lEntry.the-laws 𝓤 H A W) 64 .typed n15 _ w15 .0)) $ pass1 ! (init ! 22 refl (uint-lawful 𝓤 H A W w64 .typed n16 _ w16 .0)) $ pass1 ! (init ! 21 refl (uint-lawful 𝓤 H A W w64 .typed n17 _ w17 .0)) $ pass1 ! (init ! 20 refl (array-lawful 𝓤 H A W mEntry.the-row (LL.lawful mEntry.the-type lEntry.the-laws 𝓤 H A W) 64 .typed n18 _ w18 .0)) $ pass1 ! (init ! 19 refl (uint-lawful 𝓤 H A W w64 .typed n19 _ w19 .0)) $ pass1 ! (init ! 18 refl (uint-lawful 𝓤 H A W w64 .typed n20 _ w20 .0)) $ pass1 ! (init ! 17 refl (array-lawful 𝓤 H A W mEntry.the-row (LL.lawful mEntry.the-type lEntry.the-laws 𝓤 H A W) 64 .typed n21 _ w21 .0)) $ pass1 ! (init ! 16 refl (shr-slice-lawful 𝓤 H A W (named 4) κ₄ u64 .typed s22 (v22 ∷ []) w22 .0)) $ pass1 ! (init ! 15 refl (shr-slice-lawful 𝓤 H A W (named 5) κ₅ u64 .typed s23 (v23 ∷ []) w23 .0)) $ pass1 ! (init ! 14 refl (uint-lawful 𝓤 H A W w64 .typed n24 _ w24 .0)) $ pass1 ! (init ! 13 refl (uint-lawful 𝓤 H A W w64 .typed n25 _ w25 .0)) $ pass1 ! (init ! 12 refl (uint-lawful 𝓤 H A W w64 .typed n26 _ w26 .0)) $ pass0 ! $ 
-        move ! (40 ∷ []) $ fsplit ! $ move ! (1 ∷ []) $ fsplit ! $ move ! (1 ∷ []) $ fsplit ! $ move ! (1 ∷ []) $ fsplit ! $ move ! (1 ∷ []) $ fsplit ! $ move ! (1 ∷ []) $ fsplit ! $ move ! (1 ∷ []) $ fsplit ! $ move ! (1 ∷ []) $ fsplit ! $ move ! (1 ∷ []) $ fsplit ! $ move ! (1 ∷ []) $ fsplit ! $ move ! (1 ∷ []) $ fsplit ! $ move ! (1 ∷ []) $ fsplit ! $ move ! (1 ∷ []) $ fsplit ! $ move ! (1 ∷ []) $ fsplit ! $ move ! (1 ∷ []) $ fsplit ! $ move ! (1 ∷ []) $ fsplit ! $ move ! (1 ∷ []) $ fsplit ! $ move ! (1 ∷ []) $ fsplit ! $ move ! (1 ∷ []) $ fsplit ! $ move ! (1 ∷ []) $ fsplit ! $ move ! (1 ∷ []) $ fsplit ! $ move ! (1 ∷ []) $ fsplit ! $ move ! (1 ∷ []) $ fsplit ! $ move ! (1 ∷ []) $ fsplit ! $ move ! (1 ∷ []) $ fsplit ! $ move ! (1 ∷ []) $ fsplit ! $ move ! (1 ∷ []) $ drop ! $ move ! (65 ∷ []) $ split ! $ move ! (1 ∷ []) $ split ! $ move ! (1 ∷ []) $ split ! $ move ! (1 ∷ []) $ split ! $ move ! (1 ∷ []) $ split ! $ move ! (1 ∷ []) $ split ! $ move ! (1 ∷ []) $ drop ! $ tidy W (_ ∷ _ ∷ _ ∷ _ ∷ _ ∷ _ ∷ _ ∷ _ ∷ _ ∷ _ ∷ _ ∷ _ ∷ _ ∷ _ ∷ _ ∷ _ ∷ _ ∷ _ ∷ _ ∷ _ ∷ _ ∷ _ ∷ _ ∷ _ ∷ _ ∷ _ ∷ _ ∷ _ ∷ _ ∷ _ ∷ _ ∷ _ ∷ _ ∷ _ ∷ _ ∷ _ ∷ _ ∷ _ ∷ _ ∷ _ ∷ _ ∷ _ ∷ _ ∷ _ ∷ _ ∷ _ ∷ _ ∷ _ ∷ _ ∷ _ ∷ _ ∷ _ ∷ _ ∷ _ ∷ _ ∷ _ ∷ _ ∷ _ ∷ _ ∷ _ ∷ _ ∷ _ ∷ _ ∷ _ ∷ _ ∷ _ ∷ _ ∷ _ ∷ _ ∷ _ ∷ _ ∷ []) $ 
-        assigns ! (of-opd ! (load ! (from ! (stop !)) (look ! 55 refl))) (from ! (stop !)) (init ! 43 refl (array-lawful 𝓤 H A W mEntry.the-row (LL.lawful mEntry.the-type lEntry.the-laws 𝓤 H A W) 64 .typed n15 _ w15 .0)) $ 
-        assigns ! (of-opd ! (load ! (from ! (stop !)) (look ! 52 refl))) (from ! (stop !)) (init ! 42 refl (array-lawful 𝓤 H A W mEntry.the-row (LL.lawful mEntry.the-type lEntry.the-laws 𝓤 H A W) 64 .typed n18 _ w18 .0)) $ 
-        assigns ! (of-opd ! (load ! (from ! (stop !)) (look ! 49 refl))) (from ! (stop !)) (init ! 41 refl (array-lawful 𝓤 H A W mEntry.the-row (LL.lawful mEntry.the-type lEntry.the-laws 𝓤 H A W) 64 .typed n21 _ w21 .0)) $ 
-        assigns ! (addr ! (from ! (fld ! refl (hop ! (look-in ! 69 (sub ! 0 refl (whole !))) (stop !))))) (from ! (stop !)) (init ! 40 refl (tt, tt)) $ 
-        assigns ! (agg ! (and-then ! (load ! (from ! (stop !)) (look ! 40 refl)) (and-then ! (load ! (from ! (fld ! refl (stop !))) (look-in ! 69 (sub ! 1 refl (whole !)))) (no-more !)))) (from ! (stop !)) (init ! 39 refl (tt, (tt, (record { fits = room1 .0 }, tt)))) $ 
-        assigns ! (addr ! (from ! (stop !))) (from ! (stop !)) (init ! 38 refl (tt, tt)) $ 
-        rewrite ! 46 (λ (w : Val). ‵ (fat fullShare (tyInt w64) l₂₄ 0 w)) (ap only (w24 .0)) refl $ assigns ! (agg ! (and-then ! (load ! (from ! (stop !)) (look ! 38 refl)) (and-then ! (load ! (from ! (stop !)) (look ! 46 refl)) (no-more !)))) (from ! (stop !)) (init ! 37 refl (tt, (tt, (record { fits = w24 .1 }, tt)))) $ 
-        assigns ! (addr ! (from ! (stop !))) (from ! (stop !)) (init ! 36 refl (tt, tt)) $ 
-        rewrite ! 45 (λ (w : Val). ‵ (fat fullShare (tyInt w64) l₂₅ 0 w)) (ap only (w25 .0)) refl $ assigns ! (agg ! (and-then ! (load ! (from ! (stop !)) (look ! 36 refl)) (and-then ! (load ! (from ! (stop !)) (look ! 45 refl)) (no-more !)))) (from ! (stop !)) (init ! 35 refl (tt, (tt, (record { fits = w25 .1 }, tt)))) $ 
-        assigns ! (addr ! (from ! (stop !))) (from ! (stop !)) (init ! 34 refl (tt, tt)) $ 
-        rewrite ! 44 (λ (w : Val). ‵ (fat fullShare (tyInt w64) l₂₆ 0 w)) (ap only (w26 .0)) refl $ assigns ! (agg ! (and-then ! (load ! (from ! (stop !)) (look ! 34 refl)) (and-then ! (load ! (from ! (stop !)) (look ! 44 refl)) (no-more !)))) (from ! (stop !)) (init ! 33 refl (tt, (tt, (record { fits = w26 .1 }, tt)))) $ 
-        
-        lft-new ! tt (λ ν1a. move ! (32 ∷ 6 ∷ []) $ use2 W (later (some (λ (δ : GName). ‵ (MutSlice (named 0) (ν1a ∷ []) u64 .own (ref1 δ (ys1)) (v1 ∷ [])) ⊛ ‵ (Lent1 ν1a δ (ys1))))) (lends1 (named 0) ν1a (ys1) (refl)) $ await ! tt $ pick ! (λ δ1a. split ! $ move ! (28 ∷ []) $ use1 W (‵ (O6) ⊛ ‵ (O6)) (shr-slice-copy 𝓤 H A W (named 1) κ₁ mEntry.the-row .twice s6 (v6 ∷ [])) $ split ! $ move ! (27 ∷ []) $ use1 W (‵ (O9) ⊛ ‵ (O9)) (shr-slice-copy 𝓤 H A W (named 2) κ₂ mEntry.the-row .twice s9 (v9 ∷ [])) $ split ! $ move ! (26 ∷ []) $ use1 W (‵ (O12) ⊛ ‵ (O12)) (shr-slice-copy 𝓤 H A W (named 3) κ₃ mEntry.the-row .twice s12 (v12 ∷ [])) $ split ! $ 
-        lft-new ! tt (λ ν1o. owned ! (Array mEntry.the-row 64) (Is (Array mEntry.the-row 64)) (array-makes 𝓤 H A W mEntry.the-row (LL.makes mEntry.the-type lEntry.the-plain 𝓤 H A) 64) (n15) _ w15 $ move ! (49 ∷ 0 ∷ []) $ use1 W (‵ (cellAt fullShare ((Array mEntry.the-row 64) .mir) (u15 ∷ []) l₂₇ 0)) (W .laws .at-raw fullShare (tyArray (lEntry.mir) 64) l₂₇ 0 (u15)) $ into ! (Array mEntry.the-row 64) fullShare (n15) (u15 ∷ []) l₂₇ 0 $ 
-        use1 W (‵ (arr-parts (shares mEntry.the-row) 64 .part fullShare (n15) l₂₇ 0)) (array-apart 𝓤 H A W mEntry.the-row fullShare tt 64 (n15) l₂₇ 0) $ fsplit ! $ feqL ! (λ ln1o. 
-        use1 W (‵ (parts (mem mEntry.the-row) (shares mEntry.the-row) fullShare (take n24 (n15)) l₂₇ 0) ⊛ ‵ (rest mEntry.the-row fullShare n24 (n15) l₂₇ 0)) (cut 𝓤 H A mEntry.the-row fullShare n24 (n15) l₂₇ 0) $ split ! $ feqI ! ℕ (length (take n24 (n15))) (length (take n24 (n15))) refl $ fjoin ! $ 
-        use1 W (later (some (λ (δ : GName). ‵ (ShrSlice (named 4) (ν1o ∷ []) mEntry.the-row .own (record { ptr = (l₂₇, 0); name = δ; now = (take n24 (n15)) }) (sliceVal (l₂₇, 0) (length (take n24 (n15))) ∷ [])) ⊛ ‵ (flent (ν1o ∷ []) (arr-parts (shares mEntry.the-row) (length (take n24 (n15))) .part fullShare (take n24 (n15)) l₂₇ 0))))) (lends-shr-slice 𝓤 H A W mEntry.the-row (named 4) (ν1o ∷ []) fullShare (take n24 (n15)) l₂₇ 0 (subst (Room mEntry.the-row) (sym (length-take-le n24 (n15) (subst (λ (m : ℕ). n24 ≤ m) (sym ln1o) (pre .0)))) (room-of mEntry.the-row n24 64 (pre .0) (lit< tt, lit< tt)))) $ await ! tt $ pick ! (λ δ1o. split ! $ rewrite ! 0 (λ (m : ℕ). ‵ (ShrSlice (named 4) (ν1o ∷ []) mEntry.the-row .own (record { ptr = (l₂₇, 0); name = δ1o; now = (take n24 (n15)) }) (sliceVal (l₂₇, 0) m ∷ []))) (length-take-le n24 (n15) (subst (λ (m : ℕ). n24 ≤ m) (sym ln1o) (pre .0))) refl $ 
-        
-        lft-new ! tt (λ ν1r. owned ! (Array mEntry.the-row 64) (Is (Array mEntry.the-row 64)) (array-makes 𝓤 H A W mEntry.the-row (LL.makes mEntry.the-type lEntry.the-plain 𝓤 H A) 64) (n18) _ w18 $ move ! (52 ∷ 0 ∷ []) $ use1 W (‵ (cellAt fullShare ((Array mEntry.the-row 64) .mir) (u18 ∷ []) l₂₈ 0)) (W .laws .at-raw fullShare (tyArray (lEntry.mir) 64) l₂₈ 0 (u18)) $ into ! (Array mEntry.the-row 64) fullShare (n18) (u18 ∷ []) l₂₈ 0 $ 
-        use1 W (‵ (arr-parts (shares mEntry.the-row) 64 .part fullShare (n18) l₂₈ 0)) (array-apart 𝓤 H A W mEntry.the-row fullShare tt 64 (n18) l₂₈ 0) $ fsplit ! $ feqL ! (λ ln1r. 
-        use1 W (‵ (parts (mem mEntry.the-row) (shares mEntry.the-row) fullShare (take n25 (n18)) l₂₈ 0) ⊛ ‵ (rest mEntry.the-row fullShare n25 (n18) l₂₈ 0)) (cut 𝓤 H A mEntry.the-row fullShare n25 (n18) l₂₈ 0) $ split ! $ feqI ! ℕ (length (take n25 (n18))) (length (take n25 (n18))) refl $ fjoin ! $ 
-        use1 W (later (some (λ (δ : GName). ‵ (ShrSlice (named 5) (ν1r ∷ []) mEntry.the-row .own (record { ptr = (l₂₈, 0); name = δ; now = (take n25 (n18)) }) (sliceVal (l₂₈, 0) (length (take n25 (n18))) ∷ [])) ⊛ ‵ (flent (ν1r ∷ []) (arr-parts (shares mEntry.the-row) (length (take n25 (n18))) .part fullShare (take n25 (n18)) l₂₈ 0))))) (lends-shr-slice 𝓤 H A W mEntry.the-row (named 5) (ν1r ∷ []) fullShare (take n25 (n18)) l₂₈ 0 (subst (Room mEntry.the-row) (sym (length-take-le n25 (n18) (subst (λ (m : ℕ). n25 ≤ m) (sym ln1r) (pre .1)))) (room-of mEntry.the-row n25 64 (pre .1) (lit< tt, lit< tt)))) $ await ! tt $ pick ! (λ δ1r. split ! $ rewrite ! 0 (λ (m : ℕ). ‵ (ShrSlice (named 5) (ν1r ∷ []) mEntry.the-row .own (record { ptr = (l₂₈, 0); name = δ1r; now = (take n25 (n18)) }) (sliceVal (l₂₈, 0) m ∷ []))) (length-take-le n25 (n18) (subst (λ (m : ℕ). n25 ≤ m) (sym ln1r) (pre .1))) refl $ 
-        
-        lft-new ! tt (λ ν1u. owned ! (Array mEntry.the-row 64) (Is (Array mEntry.the-row 64)) (array-makes 𝓤 H A W mEntry.the-row (LL.makes mEntry.the-type lEntry.the-plain 𝓤 H A) 64) (n21) _ w21 $ move ! (55 ∷ 0 ∷ []) $ use1 W (‵ (cellAt fullShare ((Array mEntry.the-row 64) .mir) (u21 ∷ []) l₂₉ 0)) (W .laws .at-raw fullShare (tyArray (lEntry.mir) 64) l₂₉ 0 (u21)) $ into ! (Array mEntry.the-row 64) fullShare (n21) (u21 ∷ []) l₂₉ 0 $ 
-        use1 W (‵ (arr-parts (shares mEntry.the-row) 64 .part fullShare (n21) l₂₉ 0)) (array-apart 𝓤 H A W mEntry.the-row fullShare tt 64 (n21) l₂₉ 0) $ fsplit ! $ feqL ! (λ ln1u. 
-        use1 W (‵ (parts (mem mEntry.the-row) (shares mEntry.the-row) fullShare (take n26 (n21)) l₂₉ 0) ⊛ ‵ (rest mEntry.the-row fullShare n26 (n21) l₂₉ 0)) (cut 𝓤 H A mEntry.the-row fullShare n26 (n21) l₂₉ 0) $ split ! $ feqI ! ℕ (length (take n26 (n21))) (length (take n26 (n21))) refl $ fjoin ! $ 
-        use1 W (later (some (λ (δ : GName). ‵ (ShrSlice (named 6) (ν1u ∷ []) mEntry.the-row .own (record { ptr = (l₂₉, 0); name = δ; now = (take n26 (n21)) }) (sliceVal (l₂₉, 0) (length (take n26 (n21))) ∷ [])) ⊛ ‵ (flent (ν1u ∷ []) (arr-parts (shares mEntry.the-row) (length (take n26 (n21))) .part fullShare (take n26 (n21)) l₂₉ 0))))) (lends-shr-slice 𝓤 H A W mEntry.the-row (named 6) (ν1u ∷ []) fullShare (take n26 (n21)) l₂₉ 0 (subst (Room mEntry.the-row) (sym (length-take-le n26 (n21) (subst (λ (m : ℕ). n26 ≤ m) (sym ln1u) (pre .2)))) (room-of mEntry.the-row n26 64 (pre .2) (lit< tt, lit< tt)))) $ await ! tt $ pick ! (λ δ1u. split ! $ rewrite ! 0 (λ (m : ℕ). ‵ (ShrSlice (named 6) (ν1u ∷ []) mEntry.the-row .own (record { ptr = (l₂₉, 0); name = δ1u; now = (take n26 (n21)) }) (sliceVal (l₂₉, 0) m ∷ []))) (length-take-le n26 (n21) (subst (λ (m : ℕ). n26 ≤ m) (sym ln1u) (pre .2))) refl $ 
-        move ! (30 ∷ []) $ use1 W (‵ (O22) ⊛ ‵ (O22)) (shr-slice-copy 𝓤 H A W (named 4) κ₄ u64 .twice s22 (v22 ∷ [])) $ split ! $ move ! (31 ∷ []) $ use1 W (‵ (O23) ⊛ ‵ (O23)) (shr-slice-copy 𝓤 H A W (named 5) κ₅ u64 .twice s23 (v23 ∷ [])) $ split ! $ tidy W (_ ∷ _ ∷ _ ∷ _ ∷ _ ∷ _ ∷ _ ∷ _ ∷ _ ∷ _ ∷ _ ∷ _ ∷ _ ∷ _ ∷ _ ∷ _ ∷ _ ∷ _ ∷ _ ∷ _ ∷ _ ∷ _ ∷ _ ∷ _ ∷ _ ∷ _ ∷ _ ∷ _ ∷ _ ∷ _ ∷ _ ∷ _ ∷ _ ∷ _ ∷ _ ∷ _ ∷ _ ∷ _ ∷ _ ∷ _ ∷ _ ∷ _ ∷ _ ∷ _ ∷ _ ∷ _ ∷ _ ∷ _ ∷ _ ∷ _ ∷ _ ∷ _ ∷ _ ∷ _ ∷ _ ∷ _ ∷ _ ∷ _ ∷ _ ∷ _ ∷ _ ∷ _ ∷ _ ∷ _ ∷ _ ∷ _ ∷ _ ∷ _ ∷ _ ∷ _ ∷ _ ∷ _ ∷ _ ∷ _ ∷ _ ∷ _ ∷ _ ∷ _ ∷ _ ∷ _ ∷ _ ∷ _ ∷ _ ∷ _ ∷ _ ∷ _ ∷ []) $ nothing ! $ move ! (26 ∷ 0 ∷ []) $ join ! $ move ! (26 ∷ 0 ∷ []) $ join ! $ move ! (8 ∷ 0 ∷ []) $ join ! $ move ! (11 ∷ 0 ∷ []) $ join ! $ move ! (14 ∷ 0 ∷ []) $ join ! $ move ! (23 ∷ 0 ∷ []) $ join ! $ move ! (23 ∷ 0 ∷ []) $ join ! $ move ! (23 ∷ 0 ∷ []) $ join ! $ move ! (22 ∷ 0 ∷ []) $ join ! $ move ! (3 ∷ 1 ∷ []) $ join ! $ move ! (4 ∷ 0 ∷ []) $ join ! $ move ! (6 ∷ 0 ∷ []) $ join ! $ move ! (8 ∷ 0 ∷ []) $ join ! $ move ! (10 ∷ 0 ∷ []) $ join ! $ move ! (11 ∷ 0 ∷ []) $ join ! $ move ! (12 ∷ 0 ∷ []) $ join ! $ move ! (13 ∷ 0 ∷ []) $ join ! $ move ! (1 ∷ 0 ∷ []) $ join ! $ 
+        nothing ! $ alloc ! (λ l₀. alloc ! (λ l₁. alloc ! (λ l₂. alloc ! (λ l₃. alloc ! (λ l₄. alloc ! (λ l₅. alloc ! (λ l₆. alloc ! (λ l₇. alloc ! (λ l₈. alloc ! (λ l₉. alloc ! (λ l₁₀. alloc ! (λ l₁₁. alloc ! (λ l₁₂. alloc ! (λ l₁₃. alloc ! (λ l₁₄. alloc ! (λ l₁₅. alloc ! (λ l₁₆. alloc ! (λ l₁₇. alloc ! (λ l₁₈. alloc ! (λ l₁₉. alloc ! (λ l₂₀. alloc ! (λ l₂₁. alloc ! (λ l₂₂. alloc ! (λ l₂₃. alloc ! (λ l₂₄. alloc ! (λ l₂₅. alloc ! (λ l₂₆. alloc ! (λ l₂₇. alloc ! (λ l₂₈. alloc ! (λ l₂₉. alloc ! (λ l₃₀. alloc ! (λ l₃₁. alloc ! (λ l₃₂. alloc ! (λ l₃₃. alloc ! (λ l₃₄. alloc ! (λ l₃₅. alloc ! (λ l₃₆. alloc ! (λ l₃₇. alloc0 ! $ hide ! (λ died die. params1 ! $ pass1 ! (init ! 37 refl (tt, (tt, (record { fits = room1 .0 }, tt)))) $ pass1 ! (init ! 36 refl (uint-lawful 𝓤 H A W w64 .typed n2 _ w2 .0)) $ pass1 ! (init ! 35 refl (uint-lawful 𝓤 H A W w64 .typed n3 _ w3 .0)) $ pass1 ! (init ! 34 refl (uint-lawful 𝓤 H A W w64 .typed n4 _ w4 .0)) $ pass1 ! (init ! 33 refl (uint-lawful 𝓤 H A W w64 .typed n5 _ w5 .0)) $ pass1 ! (init ! 32 refl (shr-slice-lawful 𝓤 H A W (named 1) κ₁ mEntry.the-row .typed s6 (v6 ∷ []) w6 .0)) $ pass1 ! (init ! 31 refl (uint-lawful 𝓤 H A W w64 .typed n7 _ w7 .0)) $ pass1 ! (init ! 30 refl (uint-lawful 𝓤 H A W w64 .typed n8 _ w8 .0)) $ pass1 ! (init ! 29 refl (shr-slice-lawful 𝓤 H A W (named 2) κ₂ mEntry.the-row .typed s9 (v9 ∷ []) w9 .0)) $ pass1 ! (init ! 28 refl (uint-lawful 𝓤 H A W w64 .typed n10 _ w10 .0)) $ pass1 ! (init ! 27 refl (uint-lawful 𝓤 H A W w64 .typed n11 _ w11 .0)) $ pass1 ! (init ! 26 refl (shr-slice-lawful 𝓤 H A W (named 3) κ₃ mEntry.the-row .typed s12 (v12 ∷ []) w12 .0)) $ pass1 ! (init ! 25 refl (uint-lawful 𝓤 H A W w64 .typed n13 _ w13 .0)) $ pass1 ! (init ! 24 refl (uint-lawful 𝓤 H A W w64 .typed n14 _ w14 .0)) $ pass1 ! (init ! 23 refl (array-lawful 𝓤 H A W mEntry.the-row (LL.lawful mEntry.the-type lEntry.the-laws 𝓤 H A W) 64 .typed n15 _ w15 .0)) $ pass1 ! (init ! 22 refl (uint-lawful 𝓤 H A W w64 .typed n16 _ w16 .0)) $ pass1 ! (init ! 21 refl (uint-lawful 𝓤 H A W w64 .typed n17 _ w17 .0)) $ pass1 ! (init ! 20 refl (array-lawful 𝓤 H A W mEntry.the-row (LL.lawful mEntry.the-type lEntry.the-laws 𝓤 H A W) 64 .typed n18 _ w18 .0)) $ pass1 ! (init ! 19 refl (uint-lawful 𝓤 H A W w64 .typed n19 _ w19 .0)) $ pass1 ! (init ! 18 refl (uint-lawful 𝓤 H A W w64 .typed n20 _ w20 .0)) $ pass1 ! (init ! 17 refl (array-lawful 𝓤 H A W mEntry.the-row (LL.lawful mEntry.the-type lEntry.the-laws 𝓤 H A W) 64 .typed n21 _ w21 .0)) $ pass1 ! (init ! 16 refl (shr-slice-lawful 𝓤 H A W (named 4) κ₄ u64 .typed s22 (v22 ∷ []) w22 .0)) $ pass1 ! (init ! 15 refl (shr-slice-lawful 𝓤 H A W (named 5) κ₅ u64 .typed s23 (v23 ∷ []) w23 .0)) $ pass1 ! (init ! 14 refl (uint-lawful 𝓤 H A W w64 .typed n24 _ w24 .0)) $ pass1 ! (init ! 13 refl (uint-lawful 𝓤 H A W w64 .typed n25 _ w25 .0)) $ pass1 ! (init ! 12 refl (uint-lawful 𝓤 H A W w64 .typed n26 _ w26 .0)) $ pass0 ! $
+        move ! (40 ∷ []) $ fsplit ! $ move ! (1 ∷ []) $ fsplit ! $ move ! (1 ∷ []) $ fsplit ! $ move ! (1 ∷ []) $ fsplit ! $ move ! (1 ∷ []) $ fsplit ! $ move ! (1 ∷ []) $ fsplit ! $ move ! (1 ∷ []) $ fsplit ! $ move ! (1 ∷ []) $ fsplit ! $ move ! (1 ∷ []) $ fsplit ! $ move ! (1 ∷ []) $ fsplit ! $ move ! (1 ∷ []) $ fsplit ! $ move ! (1 ∷ []) $ fsplit ! $ move ! (1 ∷ []) $ fsplit ! $ move ! (1 ∷ []) $ fsplit ! $ move ! (1 ∷ []) $ fsplit ! $ move ! (1 ∷ []) $ fsplit ! $ move ! (1 ∷ []) $ fsplit ! $ move ! (1 ∷ []) $ fsplit ! $ move ! (1 ∷ []) $ fsplit ! $ move ! (1 ∷ []) $ fsplit ! $ move ! (1 ∷ []) $ fsplit ! $ move ! (1 ∷ []) $ fsplit ! $ move ! (1 ∷ []) $ fsplit ! $ move ! (1 ∷ []) $ fsplit ! $ move ! (1 ∷ []) $ fsplit ! $ move ! (1 ∷ []) $ fsplit ! $ move ! (1 ∷ []) $ drop ! $ move ! (65 ∷ []) $ split ! $ move ! (1 ∷ []) $ split ! $ move ! (1 ∷ []) $ split ! $ move ! (1 ∷ []) $ split ! $ move ! (1 ∷ []) $ split ! $ move ! (1 ∷ []) $ split ! $ move ! (1 ∷ []) $ drop ! $ tidy W (_ ∷ _ ∷ _ ∷ _ ∷ _ ∷ _ ∷ _ ∷ _ ∷ _ ∷ _ ∷ _ ∷ _ ∷ _ ∷ _ ∷ _ ∷ _ ∷ _ ∷ _ ∷ _ ∷ _ ∷ _ ∷ _ ∷ _ ∷ _ ∷ _ ∷ _ ∷ _ ∷ _ ∷ _ ∷ _ ∷ _ ∷ _ ∷ _ ∷ _ ∷ _ ∷ _ ∷ _ ∷ _ ∷ _ ∷ _ ∷ _ ∷ _ ∷ _ ∷ _ ∷ _ ∷ _ ∷ _ ∷ _ ∷ _ ∷ _ ∷ _ ∷ _ ∷ _ ∷ _ ∷ _ ∷ _ ∷ _ ∷ _ ∷ _ ∷ _ ∷ _ ∷ _ ∷ _ ∷ _ ∷ _ ∷ _ ∷ _ ∷ _ ∷ _ ∷ _ ∷ _ ∷ []) $
+        assigns ! (of-opd ! (load ! (from ! (stop !)) (look ! 55 refl))) (from ! (stop !)) (init ! 43 refl (array-lawful 𝓤 H A W mEntry.the-row (LL.lawful mEntry.the-type lEntry.the-laws 𝓤 H A W) 64 .typed n15 _ w15 .0)) $
+        assigns ! (of-opd ! (load ! (from ! (stop !)) (look ! 52 refl))) (from ! (stop !)) (init ! 42 refl (array-lawful 𝓤 H A W mEntry.the-row (LL.lawful mEntry.the-type lEntry.the-laws 𝓤 H A W) 64 .typed n18 _ w18 .0)) $
+        assigns ! (of-opd ! (load ! (from ! (stop !)) (look ! 49 refl))) (from ! (stop !)) (init ! 41 refl (array-lawful 𝓤 H A W mEntry.the-row (LL.lawful mEntry.the-type lEntry.the-laws 𝓤 H A W) 64 .typed n21 _ w21 .0)) $
+        assigns ! (addr ! (from ! (fld ! refl (hop ! (look-in ! 69 (sub ! 0 refl (whole !))) (stop !))))) (from ! (stop !)) (init ! 40 refl (tt, tt)) $
+        assigns ! (agg ! (and-then ! (load ! (from ! (stop !)) (look ! 40 refl)) (and-then ! (load ! (from ! (fld ! refl (stop !))) (look-in ! 69 (sub ! 1 refl (whole !)))) (no-more !)))) (from ! (stop !)) (init ! 39 refl (tt, (tt, (record { fits = room1 .0 }, tt)))) $
+        assigns ! (addr ! (from ! (stop !))) (from ! (stop !)) (init ! 38 refl (tt, tt)) $
+        rewrite ! 46 (λ (w : Val). ‵ (fat fullShare (tyInt w64) l₂₄ 0 w)) (ap only (w24 .0)) refl $ assigns ! (agg ! (and-then ! (load ! (from ! (stop !)) (look ! 38 refl)) (and-then ! (load ! (from ! (stop !)) (look ! 46 refl)) (no-more !)))) (from ! (stop !)) (init ! 37 refl (tt, (tt, (record { fits = w24 .1 }, tt)))) $
+        assigns ! (addr ! (from ! (stop !))) (from ! (stop !)) (init ! 36 refl (tt, tt)) $
+        rewrite ! 45 (λ (w : Val). ‵ (fat fullShare (tyInt w64) l₂₅ 0 w)) (ap only (w25 .0)) refl $ assigns ! (agg ! (and-then ! (load ! (from ! (stop !)) (look ! 36 refl)) (and-then ! (load ! (from ! (stop !)) (look ! 45 refl)) (no-more !)))) (from ! (stop !)) (init ! 35 refl (tt, (tt, (record { fits = w25 .1 }, tt)))) $
+        assigns ! (addr ! (from ! (stop !))) (from ! (stop !)) (init ! 34 refl (tt, tt)) $
+        rewrite ! 44 (λ (w : Val). ‵ (fat fullShare (tyInt w64) l₂₆ 0 w)) (ap only (w26 .0)) refl $ assigns ! (agg ! (and-then ! (load ! (from ! (stop !)) (look ! 34 refl)) (and-then ! (load ! (from ! (stop !)) (look ! 44 refl)) (no-more !)))) (from ! (stop !)) (init ! 33 refl (tt, (tt, (record { fits = w26 .1 }, tt)))) $
+        lft-new ! tt (λ ν1a. move ! (32 ∷ 6 ∷ []) $ use2 W (later (some (λ (δ : GName). ‵ (MutSlice (named 0) (ν1a ∷ []) u64 .own (ref1 δ (ys1)) (v1 ∷ [])) ⊛ ‵ (Lent1 ν1a δ (ys1))))) (lends1 (named 0) ν1a (ys1) (refl)) $ await ! tt $ pick ! (λ δ1a. split ! $ move ! (28 ∷ []) $ use1 W (‵ (O6) ⊛ ‵ (O6)) (shr-slice-copy 𝓤 H A W (named 1) κ₁ mEntry.the-row .twice s6 (v6 ∷ [])) $ split ! $ move ! (27 ∷ []) $ use1 W (‵ (O9) ⊛ ‵ (O9)) (shr-slice-copy 𝓤 H A W (named 2) κ₂ mEntry.the-row .twice s9 (v9 ∷ [])) $ split ! $ move ! (26 ∷ []) $ use1 W (‵ (O12) ⊛ ‵ (O12)) (shr-slice-copy 𝓤 H A W (named 3) κ₃ mEntry.the-row .twice s12 (v12 ∷ [])) $ split ! $
+        lft-new ! tt (λ ν1o. owned ! (Array mEntry.the-row 64) (Is (Array mEntry.the-row 64)) (array-makes 𝓤 H A W mEntry.the-row (LL.makes mEntry.the-type lEntry.the-plain 𝓤 H A) 64) (n15) _ w15 $ move ! (49 ∷ 0 ∷ []) $ use1 W (‵ (cellAt fullShare ((Array mEntry.the-row 64) .mir) (u15 ∷ []) l₂₇ 0)) (W .laws .at-raw fullShare (tyArray (lEntry.mir) 64) l₂₇ 0 (u15)) $ into ! (Array mEntry.the-row 64) fullShare (n15) (u15 ∷ []) l₂₇ 0 $
+        use1 W (‵ (arr-parts (shares mEntry.the-row) 64 .part fullShare (n15) l₂₇ 0)) (array-apart 𝓤 H A W mEntry.the-row fullShare tt 64 (n15) l₂₇ 0) $ fsplit ! $ feqL ! (λ ln1o.
+        use1 W (‵ (parts (mem mEntry.the-row) (shares mEntry.the-row) fullShare (take n24 (n15)) l₂₇ 0) ⊛ ‵ (rest mEntry.the-row fullShare n24 (n15) l₂₇ 0)) (cut 𝓤 H A mEntry.the-row fullShare n24 (n15) l₂₇ 0) $ split ! $ feqI ! ℕ (length (take n24 (n15))) (length (take n24 (n15))) refl $ fjoin ! $
+        use1 W (later (some (λ (δ : GName). ‵ (ShrSlice (named 4) (ν1o ∷ []) mEntry.the-row .own (record { ptr = (l₂₇, 0); name = δ; now = (take n24 (n15)) }) (sliceVal (l₂₇, 0) (length (take n24 (n15))) ∷ [])) ⊛ ‵ (flent (ν1o ∷ []) (arr-parts (shares mEntry.the-row) (length (take n24 (n15))) .part fullShare (take n24 (n15)) l₂₇ 0))))) (lends-shr-slice 𝓤 H A W mEntry.the-row (named 4) (ν1o ∷ []) fullShare (take n24 (n15)) l₂₇ 0 (subst (Room mEntry.the-row) (sym (length-take-le n24 (n15) (subst (λ (m : ℕ). n24 ≤ m) (sym ln1o) (pre .0)))) (room-of mEntry.the-row n24 64 (pre .0) (lit< tt, lit< tt)))) $ await ! tt $ pick ! (λ δ1o. split ! $ rewrite ! 0 (λ (m : ℕ). ‵ (ShrSlice (named 4) (ν1o ∷ []) mEntry.the-row .own (record { ptr = (l₂₇, 0); name = δ1o; now = (take n24 (n15)) }) (sliceVal (l₂₇, 0) m ∷ []))) (length-take-le n24 (n15) (subst (λ (m : ℕ). n24 ≤ m) (sym ln1o) (pre .0))) refl $
+        lft-new ! tt (λ ν1r. owned ! (Array mEntry.the-row 64) (Is (Array mEntry.the-row 64)) (array-makes 𝓤 H A W mEntry.the-row (LL.makes mEntry.the-type lEntry.the-plain 𝓤 H A) 64) (n18) _ w18 $ move ! (52 ∷ 0 ∷ []) $ use1 W (‵ (cellAt fullShare ((Array mEntry.the-row 64) .mir) (u18 ∷ []) l₂₈ 0)) (W .laws .at-raw fullShare (tyArray (lEntry.mir) 64) l₂₈ 0 (u18)) $ into ! (Array mEntry.the-row 64) fullShare (n18) (u18 ∷ []) l₂₈ 0 $
+        use1 W (‵ (arr-parts (shares mEntry.the-row) 64 .part fullShare (n18) l₂₈ 0)) (array-apart 𝓤 H A W mEntry.the-row fullShare tt 64 (n18) l₂₈ 0) $ fsplit ! $ feqL ! (λ ln1r.
+        use1 W (‵ (parts (mem mEntry.the-row) (shares mEntry.the-row) fullShare (take n25 (n18)) l₂₈ 0) ⊛ ‵ (rest mEntry.the-row fullShare n25 (n18) l₂₈ 0)) (cut 𝓤 H A mEntry.the-row fullShare n25 (n18) l₂₈ 0) $ split ! $ feqI ! ℕ (length (take n25 (n18))) (length (take n25 (n18))) refl $ fjoin ! $
+        use1 W (later (some (λ (δ : GName). ‵ (ShrSlice (named 5) (ν1r ∷ []) mEntry.the-row .own (record { ptr = (l₂₈, 0); name = δ; now = (take n25 (n18)) }) (sliceVal (l₂₈, 0) (length (take n25 (n18))) ∷ [])) ⊛ ‵ (flent (ν1r ∷ []) (arr-parts (shares mEntry.the-row) (length (take n25 (n18))) .part fullShare (take n25 (n18)) l₂₈ 0))))) (lends-shr-slice 𝓤 H A W mEntry.the-row (named 5) (ν1r ∷ []) fullShare (take n25 (n18)) l₂₈ 0 (subst (Room mEntry.the-row) (sym (length-take-le n25 (n18) (subst (λ (m : ℕ). n25 ≤ m) (sym ln1r) (pre .1)))) (room-of mEntry.the-row n25 64 (pre .1) (lit< tt, lit< tt)))) $ await ! tt $ pick ! (λ δ1r. split ! $ rewrite ! 0 (λ (m : ℕ). ‵ (ShrSlice (named 5) (ν1r ∷ []) mEntry.the-row .own (record { ptr = (l₂₈, 0); name = δ1r; now = (take n25 (n18)) }) (sliceVal (l₂₈, 0) m ∷ []))) (length-take-le n25 (n18) (subst (λ (m : ℕ). n25 ≤ m) (sym ln1r) (pre .1))) refl $
+        lft-new ! tt (λ ν1u. owned ! (Array mEntry.the-row 64) (Is (Array mEntry.the-row 64)) (array-makes 𝓤 H A W mEntry.the-row (LL.makes mEntry.the-type lEntry.the-plain 𝓤 H A) 64) (n21) _ w21 $ move ! (55 ∷ 0 ∷ []) $ use1 W (‵ (cellAt fullShare ((Array mEntry.the-row 64) .mir) (u21 ∷ []) l₂₉ 0)) (W .laws .at-raw fullShare (tyArray (lEntry.mir) 64) l₂₉ 0 (u21)) $ into ! (Array mEntry.the-row 64) fullShare (n21) (u21 ∷ []) l₂₉ 0 $
+        use1 W (‵ (arr-parts (shares mEntry.the-row) 64 .part fullShare (n21) l₂₉ 0)) (array-apart 𝓤 H A W mEntry.the-row fullShare tt 64 (n21) l₂₉ 0) $ fsplit ! $ feqL ! (λ ln1u.
+        use1 W (‵ (parts (mem mEntry.the-row) (shares mEntry.the-row) fullShare (take n26 (n21)) l₂₉ 0) ⊛ ‵ (rest mEntry.the-row fullShare n26 (n21) l₂₉ 0)) (cut 𝓤 H A mEntry.the-row fullShare n26 (n21) l₂₉ 0) $ split ! $ feqI ! ℕ (length (take n26 (n21))) (length (take n26 (n21))) refl $ fjoin ! $
+        use1 W (later (some (λ (δ : GName). ‵ (ShrSlice (named 6) (ν1u ∷ []) mEntry.the-row .own (record { ptr = (l₂₉, 0); name = δ; now = (take n26 (n21)) }) (sliceVal (l₂₉, 0) (length (take n26 (n21))) ∷ [])) ⊛ ‵ (flent (ν1u ∷ []) (arr-parts (shares mEntry.the-row) (length (take n26 (n21))) .part fullShare (take n26 (n21)) l₂₉ 0))))) (lends-shr-slice 𝓤 H A W mEntry.the-row (named 6) (ν1u ∷ []) fullShare (take n26 (n21)) l₂₉ 0 (subst (Room mEntry.the-row) (sym (length-take-le n26 (n21) (subst (λ (m : ℕ). n26 ≤ m) (sym ln1u) (pre .2)))) (room-of mEntry.the-row n26 64 (pre .2) (lit< tt, lit< tt)))) $ await ! tt $ pick ! (λ δ1u. split ! $ rewrite ! 0 (λ (m : ℕ). ‵ (ShrSlice (named 6) (ν1u ∷ []) mEntry.the-row .own (record { ptr = (l₂₉, 0); name = δ1u; now = (take n26 (n21)) }) (sliceVal (l₂₉, 0) m ∷ []))) (length-take-le n26 (n21) (subst (λ (m : ℕ). n26 ≤ m) (sym ln1u) (pre .2))) refl $
+        move ! (30 ∷ []) $ use1 W (‵ (O22) ⊛ ‵ (O22)) (shr-slice-copy 𝓤 H A W (named 4) κ₄ u64 .twice s22 (v22 ∷ [])) $ split ! $ move ! (31 ∷ []) $ use1 W (‵ (O23) ⊛ ‵ (O23)) (shr-slice-copy 𝓤 H A W (named 5) κ₅ u64 .twice s23 (v23 ∷ [])) $ split ! $ tidy W (_ ∷ _ ∷ _ ∷ _ ∷ _ ∷ _ ∷ _ ∷ _ ∷ _ ∷ _ ∷ _ ∷ _ ∷ _ ∷ _ ∷ _ ∷ _ ∷ _ ∷ _ ∷ _ ∷ _ ∷ _ ∷ _ ∷ _ ∷ _ ∷ _ ∷ _ ∷ _ ∷ _ ∷ _ ∷ _ ∷ _ ∷ _ ∷ _ ∷ _ ∷ _ ∷ _ ∷ _ ∷ _ ∷ _ ∷ _ ∷ _ ∷ _ ∷ _ ∷ _ ∷ _ ∷ _ ∷ _ ∷ _ ∷ _ ∷ _ ∷ _ ∷ _ ∷ _ ∷ _ ∷ _ ∷ _ ∷ _ ∷ _ ∷ _ ∷ _ ∷ _ ∷ _ ∷ _ ∷ _ ∷ _ ∷ _ ∷ _ ∷ _ ∷ _ ∷ _ ∷ _ ∷ _ ∷ _ ∷ _ ∷ _ ∷ _ ∷ _ ∷ _ ∷ _ ∷ _ ∷ _ ∷ _ ∷ _ ∷ _ ∷ _ ∷ _ ∷ []) $ nothing ! $ move ! (26 ∷ 0 ∷ []) $ join ! $ move ! (26 ∷ 0 ∷ []) $ join ! $ move ! (8 ∷ 0 ∷ []) $ join ! $ move ! (11 ∷ 0 ∷ []) $ join ! $ move ! (14 ∷ 0 ∷ []) $ join ! $ move ! (23 ∷ 0 ∷ []) $ join ! $ move ! (23 ∷ 0 ∷ []) $ join ! $ move ! (23 ∷ 0 ∷ []) $ join ! $ move ! (22 ∷ 0 ∷ []) $ join ! $ move ! (3 ∷ 1 ∷ []) $ join ! $ move ! (4 ∷ 0 ∷ []) $ join ! $ move ! (6 ∷ 0 ∷ []) $ join ! $ move ! (8 ∷ 0 ∷ []) $ join ! $ move ! (10 ∷ 0 ∷ []) $ join ! $ move ! (11 ∷ 0 ∷ []) $ join ! $ move ! (12 ∷ 0 ∷ []) $ join ! $ move ! (13 ∷ 0 ∷ []) $ join ! $ move ! (1 ∷ 0 ∷ []) $ join ! $
         -- call 1
-        use1 W (raw (Callee-g1 𝓤 H A at-mem run .pre ((((ν1a ∷ []), (κ₁, (κ₂, (κ₃, ((ν1o ∷ []), ((ν1r ∷ []), ((ν1u ∷ []), (κ₄, (κ₅, tt))))))))), (fullShare, (q₁, (q₂, (q₃, (fullShare, (fullShare, (fullShare, (q₄, (q₅, tt))))))))), tt, (ref1 δ1a (ys1), (n2, (n3, (n4, (n5, (s6, (n7, (n8, (s9, (n10, (n11, (s12, (n13, (n14, (record { ptr = (l₂₇, 0); name = δ1o; now = (take n24 (n15)) }, (n16, (n17, (record { ptr = (l₂₈, 0); name = δ1r; now = (take n25 (n18)) }, (n19, (n20, (record { ptr = (l₂₉, 0); name = δ1u; now = (take n26 (n21)) }, (s22, (s23, tt))))))))))))))))))))))), (v1 ∷ [], (u2 ∷ [], (u3 ∷ [], (u4 ∷ [], (u5 ∷ [], (v6 ∷ [], (u7 ∷ [], (u8′ ∷ [], (v9 ∷ [], (u10 ∷ [], (u11 ∷ [], (v12 ∷ [], (u13 ∷ [], (u14 ∷ [], (sliceVal (l₂₇, 0) n24 ∷ [], (u16′ ∷ [], (u17 ∷ [], (sliceVal (l₂₈, 0) n25 ∷ [], (u19 ∷ [], (u20 ∷ [], (sliceVal (l₂₉, 0) n26 ∷ [], (v22 ∷ [], (v23 ∷ [], tt)))))))))))))))))))))))), tt))) (qed W ((‵ (flft (ν1a ∷ []) fullShare) ⊛ ‵ (flft κ₁ q₁) ⊛ ‵ (flft κ₂ q₂) ⊛ ‵ (flft κ₃ q₃) ⊛ ‵ (flft (ν1o ∷ []) fullShare) ⊛ ‵ (flft (ν1r ∷ []) fullShare) ⊛ ‵ (flft (ν1u ∷ []) fullShare) ⊛ ‵ (flft κ₄ q₄) ⊛ ‵ (flft κ₅ q₅) ⊛ ‵ ftrue) ∷ ‵ (MutSlice (named 0) (ν1a ∷ []) u64 .own (ref1 δ1a (ys1)) (v1 ∷ [])) ∷ ‵ (ShrSlice (named 1) κ₁ mEntry.the-row .own s6 (v6 ∷ [])) ∷ ‵ (ShrSlice (named 2) κ₂ mEntry.the-row .own s9 (v9 ∷ [])) ∷ ‵ (ShrSlice (named 3) κ₃ mEntry.the-row .own s12 (v12 ∷ [])) ∷ ‵ (ShrSlice (named 4) (ν1o ∷ []) mEntry.the-row .own (record { ptr = (l₂₇, 0); name = δ1o; now = (take n24 (n15)) }) (sliceVal (l₂₇, 0) n24 ∷ [])) ∷ ‵ (ShrSlice (named 5) (ν1r ∷ []) mEntry.the-row .own (record { ptr = (l₂₈, 0); name = δ1r; now = (take n25 (n18)) }) (sliceVal (l₂₈, 0) n25 ∷ [])) ∷ ‵ (ShrSlice (named 6) (ν1u ∷ []) mEntry.the-row .own (record { ptr = (l₂₉, 0); name = δ1u; now = (take n26 (n21)) }) (sliceVal (l₂₉, 0) n26 ∷ [])) ∷ ‵ (ShrSlice (named 7) κ₄ u64 .own s22 (v22 ∷ [])) ∷ ‵ (ShrSlice (named 8) κ₅ u64 .own s23 (v23 ∷ [])) ∷ []) ∵ nothing ! $ move ! (10 ∷ 0 ∷ []) $ fjoin ! $ move ! (9 ∷ 0 ∷ []) $ fjoin ! $ move ! (8 ∷ 0 ∷ []) $ fjoin ! $ owned ! u64 (Is u64) (uint-makes 𝓤 H A W w64) (n20) _ w20 $ fjoin ! $ owned ! u64 (Is u64) (uint-makes 𝓤 H A W w64) (n19) _ w19 $ fjoin ! $ move ! (7 ∷ 0 ∷ []) $ fjoin ! $ owned ! u64 (Is u64) (uint-makes 𝓤 H A W w64) (n17) _ w17 $ fjoin ! $ owned ! u64 (Is u64) (uint-makes 𝓤 H A W w64) (n16) _ w16 $ fjoin ! $ move ! (6 ∷ 0 ∷ []) $ fjoin ! $ owned ! u64 (Is u64) (uint-makes 𝓤 H A W w64) (n14) _ w14 $ fjoin ! $ owned ! u64 (Is u64) (uint-makes 𝓤 H A W w64) (n13) _ w13 $ fjoin ! $ move ! (5 ∷ 0 ∷ []) $ fjoin ! $ owned ! u64 (Is u64) (uint-makes 𝓤 H A W w64) (n11) _ w11 $ fjoin ! $ owned ! u64 (Is u64) (uint-makes 𝓤 H A W w64) (n10) _ w10 $ fjoin ! $ move ! (4 ∷ 0 ∷ []) $ fjoin ! $ owned ! u64 (Is u64) (uint-makes 𝓤 H A W w64) (n8) _ w8 $ fjoin ! $ owned ! u64 (Is u64) (uint-makes 𝓤 H A W w64) (n7) _ w7 $ fjoin ! $ move ! (3 ∷ 0 ∷ []) $ fjoin ! $ owned ! u64 (Is u64) (uint-makes 𝓤 H A W w64) (n5) _ w5 $ fjoin ! $ owned ! u64 (Is u64) (uint-makes 𝓤 H A W w64) (n4) _ w4 $ fjoin ! $ owned ! u64 (Is u64) (uint-makes 𝓤 H A W w64) (n3) _ w3 $ fjoin ! $ owned ! u64 (Is u64) (uint-makes 𝓤 H A W w64) (n2) _ w2 $ fjoin ! $ move ! (2 ∷ 0 ∷ []) $ fjoin ! $ move ! (1 ∷ 0 ∷ []) $ join ! $ nothing ! $ move ! (1 ∷ 0 ∷ []) $ frame ! $ done !) $ 
-        calls-at ! fm (Callee-g1 𝓤 H A at-mem run) known-g1 ((((ν1a ∷ []), (κ₁, (κ₂, (κ₃, ((ν1o ∷ []), ((ν1r ∷ []), ((ν1u ∷ []), (κ₄, (κ₅, tt))))))))), (fullShare, (q₁, (q₂, (q₃, (fullShare, (fullShare, (fullShare, (q₄, (q₅, tt))))))))), tt, (ref1 δ1a (ys1), (n2, (n3, (n4, (n5, (s6, (n7, (n8, (s9, (n10, (n11, (s12, (n13, (n14, (record { ptr = (l₂₇, 0); name = δ1o; now = (take n24 (n15)) }, (n16, (n17, (record { ptr = (l₂₈, 0); name = δ1r; now = (take n25 (n18)) }, (n19, (n20, (record { ptr = (l₂₉, 0); name = δ1u; now = (take n26 (n21)) }, (s22, (s23, tt))))))))))))))))))))))), (v1 ∷ [], (u2 ∷ [], (u3 ∷ [], (u4 ∷ [], (u5 ∷ [], (v6 ∷ [], (u7 ∷ [], (u8′ ∷ [], (v9 ∷ [], (u10 ∷ [], (u11 ∷ [], (v12 ∷ [], (u13 ∷ [], (u14 ∷ [], (sliceVal (l₂₇, 0) n24 ∷ [], (u16′ ∷ [], (u17 ∷ [], (sliceVal (l₂₈, 0) n25 ∷ [], (u19 ∷ [], (u20 ∷ [], (sliceVal (l₂₉, 0) n26 ∷ [], (v22 ∷ [], (v23 ∷ [], tt)))))))))))))))))))))))), tt) (and-then ! (load ! (from ! (stop !)) (look ! 40 refl)) (and-then ! (load ! (from ! (stop !)) (look ! 66 refl)) (and-then ! (load ! (from ! (stop !)) (look ! 65 refl)) (and-then ! (load ! (from ! (stop !)) (look ! 64 refl)) (and-then ! (load ! (from ! (stop !)) (look ! 63 refl)) (and-then ! (load ! (from ! (stop !)) (look ! 62 refl)) (and-then ! (load ! (from ! (stop !)) (look ! 61 refl)) (and-then ! (load ! (from ! (stop !)) (look ! 60 refl)) (and-then ! (load ! (from ! (stop !)) (look ! 59 refl)) (and-then ! (load ! (from ! (stop !)) (look ! 58 refl)) (and-then ! (load ! (from ! (stop !)) (look ! 57 refl)) (and-then ! (load ! (from ! (stop !)) (look ! 56 refl)) (and-then ! (load ! (from ! (stop !)) (look ! 55 refl)) (and-then ! (load ! (from ! (stop !)) (look ! 54 refl)) (and-then ! (load ! (from ! (stop !)) (look ! 38 refl)) (and-then ! (load ! (from ! (stop !)) (look ! 52 refl)) (and-then ! (load ! (from ! (stop !)) (look ! 51 refl)) (and-then ! (load ! (from ! (stop !)) (look ! 36 refl)) (and-then ! (load ! (from ! (stop !)) (look ! 49 refl)) (and-then ! (load ! (from ! (stop !)) (look ! 48 refl)) (and-then ! (load ! (from ! (stop !)) (look ! 34 refl)) (and-then ! (load ! (from ! (stop !)) (look ! 46 refl)) (and-then ! (load ! (from ! (stop !)) (look ! 45 refl)) (no-more !)))))))))))))))))))))))) (λ z1. 
-        use1 W (later (some (λ (r1 : RowCheck). ((‵ (flft (ν1a ∷ []) fullShare) ⊛ ‵ (flft κ₁ q₁) ⊛ ‵ (flft κ₂ q₂) ⊛ ‵ (flft κ₃ q₃) ⊛ ‵ (flft (ν1o ∷ []) fullShare) ⊛ ‵ (flft (ν1r ∷ []) fullShare) ⊛ ‵ (flft (ν1u ∷ []) fullShare) ⊛ ‵ (flft κ₄ q₄) ⊛ ‵ (flft κ₅ q₅) ⊛ ‵ ftrue) ⊛ ‵ (mRowCheck.the-row .own r1 (z1 ∷ []))) ⊛ some (λ (ws : Lasts g1.ended ((ν1a ∷ []), (κ₁, (κ₂, (κ₃, ((ν1o ∷ []), ((ν1r ∷ []), ((ν1u ∷ []), (κ₄, (κ₅, tt))))))))) (ref1 δ1a (ys1), (n2, (n3, (n4, (n5, (s6, (n7, (n8, (s9, (n10, (n11, (s12, (n13, (n14, (record { ptr = (l₂₇, 0); name = δ1o; now = (take n24 (n15)) }, (n16, (n17, (record { ptr = (l₂₈, 0); name = δ1r; now = (take n25 (n18)) }, (n19, (n20, (record { ptr = (l₂₉, 0); name = δ1u; now = (take n26 (n21)) }, (s22, (s23, tt)))))))))))))))))))))))). ‵ (lasts g1.ended ((ν1a ∷ []), (κ₁, (κ₂, (κ₃, ((ν1o ∷ []), ((ν1r ∷ []), ((ν1u ∷ []), (κ₄, (κ₅, tt))))))))) (ref1 δ1a (ys1), (n2, (n3, (n4, (n5, (s6, (n7, (n8, (s9, (n10, (n11, (s12, (n13, (n14, (record { ptr = (l₂₇, 0); name = δ1o; now = (take n24 (n15)) }, (n16, (n17, (record { ptr = (l₂₈, 0); name = δ1r; now = (take n25 (n18)) }, (n19, (n20, (record { ptr = (l₂₉, 0); name = δ1u; now = (take n26 (n21)) }, (s22, (s23, tt))))))))))))))))))))))) ws) ⊛ raw (g1.clauses 𝓤 H A at-mem run ((ν1a ∷ []), (κ₁, (κ₂, (κ₃, ((ν1o ∷ []), ((ν1r ∷ []), ((ν1u ∷ []), (κ₄, (κ₅, tt))))))))) (ref1 δ1a (ys1), (n2, (n3, (n4, (n5, (s6, (n7, (n8, (s9, (n10, (n11, (s12, (n13, (n14, (record { ptr = (l₂₇, 0); name = δ1o; now = (take n24 (n15)) }, (n16, (n17, (record { ptr = (l₂₈, 0); name = δ1r; now = (take n25 (n18)) }, (n19, (n20, (record { ptr = (l₂₉, 0); name = δ1u; now = (take n26 (n21)) }, (s22, (s23, tt))))))))))))))))))))))) .ensures tt r1 (atExit g1.ended ((ν1a ∷ []), (κ₁, (κ₂, (κ₃, ((ν1o ∷ []), ((ν1r ∷ []), ((ν1u ∷ []), (κ₄, (κ₅, tt))))))))) (ref1 δ1a (ys1), (n2, (n3, (n4, (n5, (s6, (n7, (n8, (s9, (n10, (n11, (s12, (n13, (n14, (record { ptr = (l₂₇, 0); name = δ1o; now = (take n24 (n15)) }, (n16, (n17, (record { ptr = (l₂₈, 0); name = δ1r; now = (take n25 (n18)) }, (n19, (n20, (record { ptr = (l₂₉, 0); name = δ1u; now = (take n26 (n21)) }, (s22, (s23, tt))))))))))))))))))))))) ws)))))) (id⊢ 𝓤 _) $ await ! tt $ pick ! (λ r1. split ! $ move ! (1 ∷ []) $ pick ! (λ ws1. split ! $ move ! (1 ∷ []) $ heard ! _ (λ e1. 
-        fsplit ! $ fsplit ! $ move ! (1 ∷ []) $ feqL ! (λ same1a. move ! (1 ∷ []) $ drop ! $ move ! (1 ∷ []) $ split ! $ move ! (1 ∷ []) $ peeks ! mRowCheck.the-row (Is mRowCheck.the-row) (shows 𝓤 H A mRowCheck.the-row) r1 (z1 ∷ []) (λ i1. drop ! $ land ! (from ! (stop !)) (init ! 69 refl (EL.lawful mRowCheck.the-type lRowCheck.the-laws 𝓤 H A W tt .typed r1 _ i1 .0)) $ 
-        tidy W (_ ∷ _ ∷ _ ∷ _ ∷ _ ∷ _ ∷ _ ∷ _ ∷ _ ∷ _ ∷ _ ∷ _ ∷ _ ∷ _ ∷ _ ∷ _ ∷ _ ∷ _ ∷ _ ∷ _ ∷ _ ∷ _ ∷ _ ∷ _ ∷ _ ∷ _ ∷ _ ∷ _ ∷ _ ∷ _ ∷ _ ∷ _ ∷ _ ∷ _ ∷ _ ∷ _ ∷ _ ∷ _ ∷ _ ∷ _ ∷ _ ∷ _ ∷ _ ∷ _ ∷ _ ∷ _ ∷ _ ∷ _ ∷ _ ∷ _ ∷ _ ∷ _ ∷ _ ∷ _ ∷ _ ∷ _ ∷ _ ∷ _ ∷ _ ∷ _ ∷ _ ∷ _ ∷ _ ∷ _ ∷ _ ∷ _ ∷ _ ∷ _ ∷ _ ∷ _ ∷ []) $ split ! $ move ! (1 ∷ []) $ split ! $ move ! (1 ∷ []) $ split ! $ move ! (1 ∷ []) $ split ! $ move ! (1 ∷ []) $ split ! $ move ! (1 ∷ []) $ split ! $ move ! (1 ∷ []) $ split ! $ move ! (1 ∷ []) $ split ! $ move ! (1 ∷ []) $ split ! $ move ! (1 ∷ []) $ drop ! $ move ! (8 ∷ []) $ lft-end ! tt $ move ! (0 ∷ 21 ∷ 9 ∷ []) $ use3 W (later (‵ (O1 (ws1 .0)) ⊛ ‵ (flft κ₀ q₀))) (backs1 (named 0) ν1a δ1a (ys1) (ws1 .0) (refl) room1 same1a) $ await ! tt $ split ! $ 
-        move ! (6 ∷ []) $ lft-end ! tt $ move ! (0 ∷ 16 ∷ []) $ lent-back ! tt $ fsplit ! $ drop ! $ move ! (0 ∷ 16 ∷ []) $ use2 W (‵ (parts (mem mEntry.the-row) (shares mEntry.the-row) fullShare (n15) l₂₇ 0)) (mend 𝓤 H A mEntry.the-row fullShare n24 (n15) l₂₇ 0) $ feqI ! ℕ (length (n15)) 64 ln1o $ fjoin ! $ use1 W (‵ (partAt (Array mEntry.the-row 64) fullShare (n15) l₂₇ 0)) (array-whole 𝓤 H A W mEntry.the-row fullShare 64 (n15) l₂₇ 0) $ 
-        out ! (Array mEntry.the-row 64) fullShare (n15) l₂₇ 0 (λ vs. spelt ! (Array mEntry.the-row 64) (Is (Array mEntry.the-row 64)) (shows 𝓤 H A (Array mEntry.the-row 64)) (array-vals (LL.vals mEntry.the-type lEntry.the-laws)) (array-tells mEntry.the-row (LL.vals mEntry.the-type lEntry.the-laws) (LL.tells mEntry.the-type lEntry.the-laws) 64) fullShare (n15) vs l₂₇ 0 $ move ! (1 ∷ []) $ peeks ! (Array mEntry.the-row 64) (Is (Array mEntry.the-row 64)) (shows 𝓤 H A (Array mEntry.the-row 64)) (n15) (array-val (LL.vals mEntry.the-type lEntry.the-laws) (n15) ∷ []) (λ w1o. drop ! $ use1 W (‵ (fat fullShare (tyArray (lEntry.mir) 64) l₂₇ 0 (array-val (LL.vals mEntry.the-type lEntry.the-laws) (n15)))) (W .laws .raw-at fullShare (tyArray (lEntry.mir) 64) l₂₇ 0 (array-val (LL.vals mEntry.the-type lEntry.the-laws) (n15))) $ 
-        move ! (6 ∷ []) $ lft-end ! tt $ move ! (0 ∷ 14 ∷ []) $ lent-back ! tt $ fsplit ! $ drop ! $ move ! (0 ∷ 14 ∷ []) $ use2 W (‵ (parts (mem mEntry.the-row) (shares mEntry.the-row) fullShare (n18) l₂₈ 0)) (mend 𝓤 H A mEntry.the-row fullShare n25 (n18) l₂₈ 0) $ feqI ! ℕ (length (n18)) 64 ln1r $ fjoin ! $ use1 W (‵ (partAt (Array mEntry.the-row 64) fullShare (n18) l₂₈ 0)) (array-whole 𝓤 H A W mEntry.the-row fullShare 64 (n18) l₂₈ 0) $ 
-        out ! (Array mEntry.the-row 64) fullShare (n18) l₂₈ 0 (λ vs. spelt ! (Array mEntry.the-row 64) (Is (Array mEntry.the-row 64)) (shows 𝓤 H A (Array mEntry.the-row 64)) (array-vals (LL.vals mEntry.the-type lEntry.the-laws)) (array-tells mEntry.the-row (LL.vals mEntry.the-type lEntry.the-laws) (LL.tells mEntry.the-type lEntry.the-laws) 64) fullShare (n18) vs l₂₈ 0 $ move ! (1 ∷ []) $ peeks ! (Array mEntry.the-row 64) (Is (Array mEntry.the-row 64)) (shows 𝓤 H A (Array mEntry.the-row 64)) (n18) (array-val (LL.vals mEntry.the-type lEntry.the-laws) (n18) ∷ []) (λ w1r. drop ! $ use1 W (‵ (fat fullShare (tyArray (lEntry.mir) 64) l₂₈ 0 (array-val (LL.vals mEntry.the-type lEntry.the-laws) (n18)))) (W .laws .raw-at fullShare (tyArray (lEntry.mir) 64) l₂₈ 0 (array-val (LL.vals mEntry.the-type lEntry.the-laws) (n18))) $ 
-        move ! (6 ∷ []) $ lft-end ! tt $ move ! (0 ∷ 12 ∷ []) $ lent-back ! tt $ fsplit ! $ drop ! $ move ! (0 ∷ 12 ∷ []) $ use2 W (‵ (parts (mem mEntry.the-row) (shares mEntry.the-row) fullShare (n21) l₂₉ 0)) (mend 𝓤 H A mEntry.the-row fullShare n26 (n21) l₂₉ 0) $ feqI ! ℕ (length (n21)) 64 ln1u $ fjoin ! $ use1 W (‵ (partAt (Array mEntry.the-row 64) fullShare (n21) l₂₉ 0)) (array-whole 𝓤 H A W mEntry.the-row fullShare 64 (n21) l₂₉ 0) $ 
-        out ! (Array mEntry.the-row 64) fullShare (n21) l₂₉ 0 (λ vs. spelt ! (Array mEntry.the-row 64) (Is (Array mEntry.the-row 64)) (shows 𝓤 H A (Array mEntry.the-row 64)) (array-vals (LL.vals mEntry.the-type lEntry.the-laws)) (array-tells mEntry.the-row (LL.vals mEntry.the-type lEntry.the-laws) (LL.tells mEntry.the-type lEntry.the-laws) 64) fullShare (n21) vs l₂₉ 0 $ move ! (1 ∷ []) $ peeks ! (Array mEntry.the-row 64) (Is (Array mEntry.the-row 64)) (shows 𝓤 H A (Array mEntry.the-row 64)) (n21) (array-val (LL.vals mEntry.the-type lEntry.the-laws) (n21) ∷ []) (λ w1u. drop ! $ use1 W (‵ (fat fullShare (tyArray (lEntry.mir) 64) l₂₉ 0 (array-val (LL.vals mEntry.the-type lEntry.the-laws) (n21)))) (W .laws .raw-at fullShare (tyArray (lEntry.mir) 64) l₂₉ 0 (array-val (LL.vals mEntry.the-type lEntry.the-laws) (n21))) $ 
-        tidy W (_ ∷ _ ∷ _ ∷ _ ∷ _ ∷ _ ∷ _ ∷ _ ∷ _ ∷ _ ∷ _ ∷ _ ∷ _ ∷ _ ∷ _ ∷ _ ∷ _ ∷ _ ∷ _ ∷ _ ∷ _ ∷ _ ∷ _ ∷ _ ∷ _ ∷ _ ∷ _ ∷ _ ∷ _ ∷ _ ∷ _ ∷ _ ∷ _ ∷ _ ∷ _ ∷ _ ∷ _ ∷ _ ∷ _ ∷ _ ∷ _ ∷ _ ∷ _ ∷ _ ∷ _ ∷ _ ∷ _ ∷ _ ∷ _ ∷ _ ∷ _ ∷ _ ∷ _ ∷ _ ∷ _ ∷ _ ∷ _ ∷ _ ∷ _ ∷ _ ∷ _ ∷ _ ∷ _ ∷ _ ∷ _ ∷ _ ∷ _ ∷ _ ∷ _ ∷ _ ∷ _ ∷ []) $ returns ! (look ! 70 refl) $ move ! (3 ∷ 4 ∷ 5 ∷ 6 ∷ 7 ∷ 8 ∷ 9 ∷ 10 ∷ 11 ∷ 12 ∷ 13 ∷ 14 ∷ 15 ∷ 16 ∷ 17 ∷ 18 ∷ 19 ∷ 20 ∷ 21 ∷ 22 ∷ 23 ∷ 24 ∷ 25 ∷ 26 ∷ 27 ∷ 28 ∷ 29 ∷ 30 ∷ 31 ∷ 32 ∷ 33 ∷ 34 ∷ 35 ∷ 36 ∷ 37 ∷ 38 ∷ 39 ∷ 40 ∷ 41 ∷ 42 ∷ 43 ∷ 0 ∷ 1 ∷ 2 ∷ 44 ∷ 45 ∷ 46 ∷ 47 ∷ 48 ∷ 49 ∷ 50 ∷ 51 ∷ 52 ∷ 53 ∷ 54 ∷ 55 ∷ 56 ∷ 57 ∷ 58 ∷ 59 ∷ 60 ∷ 61 ∷ 62 ∷ 63 ∷ 64 ∷ 65 ∷ 66 ∷ 67 ∷ 68 ∷ 69 ∷ 70 ∷ []) $ move ! (32 ∷ []) $ use1 W (dies ((lRowCheck.mir, l₀) ∷ (sliceTy (tyRef (named 0) mut (tyInt w64)), l₁) ∷ (tyInt w64, l₂) ∷ (tyInt w64, l₃) ∷ (tyInt w64, l₄) ∷ (tyInt w64, l₅) ∷ (sliceTy (tyRef (named 1) imm (pointee (mEntry.the-row .written))), l₆) ∷ (tyInt w64, l₇) ∷ (tyInt w64, l₈) ∷ (sliceTy (tyRef (named 2) imm (pointee (mEntry.the-row .written))), l₉) ∷ (tyInt w64, l₁₀) ∷ (tyInt w64, l₁₁) ∷ (sliceTy (tyRef (named 3) imm (pointee (mEntry.the-row .written))), l₁₂) ∷ (tyInt w64, l₁₃) ∷ (tyInt w64, l₁₄) ∷ (tyArray (lEntry.mir) 64, l₁₅) ∷ (tyInt w64, l₁₆) ∷ (tyInt w64, l₁₇) ∷ (tyArray (lEntry.mir) 64, l₁₈) ∷ (tyInt w64, l₁₉) ∷ (tyInt w64, l₂₀) ∷ (tyArray (lEntry.mir) 64, l₂₁) ∷ (sliceTy (tyRef (named 4) imm (tyInt w64)), l₂₂) ∷ (sliceTy (tyRef (named 5) imm (tyInt w64)), l₂₃) ∷ (tyInt w64, l₂₄) ∷ (tyInt w64, l₂₅) ∷ (tyInt w64, l₂₆) ∷ (tyArray (lEntry.mir) 64, l₂₇) ∷ (tyArray (lEntry.mir) 64, l₂₈) ∷ (tyArray (lEntry.mir) 64, l₂₉) ∷ (tyRef erased mut (tyInt w64), l₃₀) ∷ (sliceTy (tyRef erased mut (tyInt w64)), l₃₁) ∷ (tyRef erased imm (pointee ((Array mEntry.the-row 64) .written)), l₃₂) ∷ (sliceTy (tyRef erased imm (pointee (mEntry.the-row .written))), l₃₃) ∷ (tyRef erased imm (pointee ((Array mEntry.the-row 64) .written)), l₃₄) ∷ (sliceTy (tyRef erased imm (pointee (mEntry.the-row .written))), l₃₅) ∷ (tyRef erased imm (pointee ((Array mEntry.the-row 64) .written)), l₃₆) ∷ (sliceTy (tyRef erased imm (pointee (mEntry.the-row .written))), l₃₇) ∷ []) (‵ ftrue)) die $ free-all ! 32 ((lRowCheck.mir, l₀) ∷ (sliceTy (tyRef (named 0) mut (tyInt w64)), l₁) ∷ (tyInt w64, l₂) ∷ (tyInt w64, l₃) ∷ (tyInt w64, l₄) ∷ (tyInt w64, l₅) ∷ (sliceTy (tyRef (named 1) imm (pointee (mEntry.the-row .written))), l₆) ∷ (tyInt w64, l₇) ∷ (tyInt w64, l₈) ∷ (sliceTy (tyRef (named 2) imm (pointee (mEntry.the-row .written))), l₉) ∷ (tyInt w64, l₁₀) ∷ (tyInt w64, l₁₁) ∷ (sliceTy (tyRef (named 3) imm (pointee (mEntry.the-row .written))), l₁₂) ∷ (tyInt w64, l₁₃) ∷ (tyInt w64, l₁₄) ∷ (tyArray (lEntry.mir) 64, l₁₅) ∷ (tyInt w64, l₁₆) ∷ (tyInt w64, l₁₇) ∷ (tyArray (lEntry.mir) 64, l₁₈) ∷ (tyInt w64, l₁₉) ∷ (tyInt w64, l₂₀) ∷ (tyArray (lEntry.mir) 64, l₂₁) ∷ (sliceTy (tyRef (named 4) imm (tyInt w64)), l₂₂) ∷ (sliceTy (tyRef (named 5) imm (tyInt w64)), l₂₃) ∷ (tyInt w64, l₂₄) ∷ (tyInt w64, l₂₅) ∷ (tyInt w64, l₂₆) ∷ (tyArray (lEntry.mir) 64, l₂₇) ∷ (tyArray (lEntry.mir) 64, l₂₈) ∷ (tyArray (lEntry.mir) 64, l₂₉) ∷ (tyRef erased mut (tyInt w64), l₃₀) ∷ (sliceTy (tyRef erased mut (tyInt w64)), l₃₁) ∷ (tyRef erased imm (pointee ((Array mEntry.the-row 64) .written)), l₃₂) ∷ (sliceTy (tyRef erased imm (pointee (mEntry.the-row .written))), l₃₃) ∷ (tyRef erased imm (pointee ((Array mEntry.the-row 64) .written)), l₃₄) ∷ (sliceTy (tyRef erased imm (pointee (mEntry.the-row .written))), l₃₅) ∷ (tyRef erased imm (pointee ((Array mEntry.the-row 64) .written)), l₃₆) ∷ (sliceTy (tyRef erased imm (pointee (mEntry.the-row .written))), l₃₇) ∷ []) (kept _ ∷ kept _ ∷ kept _ ∷ kept _ ∷ kept _ ∷ kept _ ∷ kept _ ∷ kept _ ∷ kept _ ∷ kept _ ∷ kept _ ∷ kept _ ∷ kept _ ∷ kept _ ∷ kept _ ∷ kept _ ∷ kept _ ∷ kept _ ∷ kept _ ∷ kept _ ∷ kept _ ∷ kept _ ∷ kept _ ∷ kept _ ∷ kept _ ∷ kept _ ∷ kept _ ∷ kept _ ∷ kept _ ∷ kept _ ∷ kept _ ∷ kept _ ∷ kept _ ∷ kept _ ∷ kept _ ∷ kept _ ∷ kept _ ∷ kept _ ∷ []) refl $ 
-        suffices ! _ (ends-at 𝓤 H A f.ended stayed (f.clauses 𝓤 H A at-mem run) W (((κ₀, (κ₁, (κ₂, (κ₃, (κ₄, (κ₅, tt)))))), (q₀, (q₁, (q₂, (q₃, (q₄, (q₅, tt)))))), tt, a, at), tt) z1 r1 (ws1 .0, (tt, (tt, (tt, (tt, (tt, (tt, (tt, (tt, (tt, (tt, (tt, (tt, (tt, (tt, (tt, (tt, (tt, (tt, (tt, (tt, (tt, (tt, (tt, (tt, (tt, tt)))))))))))))))))))))))))) (same1a, (tt, (tt, (tt, (tt, (tt, (tt, (tt, (tt, (tt, (tt, (tt, (tt, (tt, (tt, (tt, (tt, (tt, (tt, (tt, (tt, (tt, (tt, (tt, (tt, (tt, tt))))))))))))))))))))))))))) $ says ! (e1) $ 
+        use1 W (raw (Callee-g1 𝓤 H A at-mem run .pre ((((ν1a ∷ []), (κ₁, (κ₂, (κ₃, ((ν1o ∷ []), ((ν1r ∷ []), ((ν1u ∷ []), (κ₄, (κ₅, tt))))))))), (fullShare, (q₁, (q₂, (q₃, (fullShare, (fullShare, (fullShare, (q₄, (q₅, tt))))))))), tt, (ref1 δ1a (ys1), (n2, (n3, (n4, (n5, (s6, (n7, (n8, (s9, (n10, (n11, (s12, (n13, (n14, (record { ptr = (l₂₇, 0); name = δ1o; now = (take n24 (n15)) }, (n16, (n17, (record { ptr = (l₂₈, 0); name = δ1r; now = (take n25 (n18)) }, (n19, (n20, (record { ptr = (l₂₉, 0); name = δ1u; now = (take n26 (n21)) }, (s22, (s23, tt))))))))))))))))))))))), (v1 ∷ [], (u2 ∷ [], (u3 ∷ [], (u4 ∷ [], (u5 ∷ [], (v6 ∷ [], (u7 ∷ [], (u8′ ∷ [], (v9 ∷ [], (u10 ∷ [], (u11 ∷ [], (v12 ∷ [], (u13 ∷ [], (u14 ∷ [], (sliceVal (l₂₇, 0) n24 ∷ [], (u16′ ∷ [], (u17 ∷ [], (sliceVal (l₂₈, 0) n25 ∷ [], (u19 ∷ [], (u20 ∷ [], (sliceVal (l₂₉, 0) n26 ∷ [], (v22 ∷ [], (v23 ∷ [], tt)))))))))))))))))))))))), tt))) (qed W ((‵ (flft (ν1a ∷ []) fullShare) ⊛ ‵ (flft κ₁ q₁) ⊛ ‵ (flft κ₂ q₂) ⊛ ‵ (flft κ₃ q₃) ⊛ ‵ (flft (ν1o ∷ []) fullShare) ⊛ ‵ (flft (ν1r ∷ []) fullShare) ⊛ ‵ (flft (ν1u ∷ []) fullShare) ⊛ ‵ (flft κ₄ q₄) ⊛ ‵ (flft κ₅ q₅) ⊛ ‵ ftrue) ∷ ‵ (MutSlice (named 0) (ν1a ∷ []) u64 .own (ref1 δ1a (ys1)) (v1 ∷ [])) ∷ ‵ (ShrSlice (named 1) κ₁ mEntry.the-row .own s6 (v6 ∷ [])) ∷ ‵ (ShrSlice (named 2) κ₂ mEntry.the-row .own s9 (v9 ∷ [])) ∷ ‵ (ShrSlice (named 3) κ₃ mEntry.the-row .own s12 (v12 ∷ [])) ∷ ‵ (ShrSlice (named 4) (ν1o ∷ []) mEntry.the-row .own (record { ptr = (l₂₇, 0); name = δ1o; now = (take n24 (n15)) }) (sliceVal (l₂₇, 0) n24 ∷ [])) ∷ ‵ (ShrSlice (named 5) (ν1r ∷ []) mEntry.the-row .own (record { ptr = (l₂₈, 0); name = δ1r; now = (take n25 (n18)) }) (sliceVal (l₂₈, 0) n25 ∷ [])) ∷ ‵ (ShrSlice (named 6) (ν1u ∷ []) mEntry.the-row .own (record { ptr = (l₂₉, 0); name = δ1u; now = (take n26 (n21)) }) (sliceVal (l₂₉, 0) n26 ∷ [])) ∷ ‵ (ShrSlice (named 7) κ₄ u64 .own s22 (v22 ∷ [])) ∷ ‵ (ShrSlice (named 8) κ₅ u64 .own s23 (v23 ∷ [])) ∷ []) ∵ nothing ! $ move ! (10 ∷ 0 ∷ []) $ fjoin ! $ move ! (9 ∷ 0 ∷ []) $ fjoin ! $ move ! (8 ∷ 0 ∷ []) $ fjoin ! $ owned ! u64 (Is u64) (uint-makes 𝓤 H A W w64) (n20) _ w20 $ fjoin ! $ owned ! u64 (Is u64) (uint-makes 𝓤 H A W w64) (n19) _ w19 $ fjoin ! $ move ! (7 ∷ 0 ∷ []) $ fjoin ! $ owned ! u64 (Is u64) (uint-makes 𝓤 H A W w64) (n17) _ w17 $ fjoin ! $ owned ! u64 (Is u64) (uint-makes 𝓤 H A W w64) (n16) _ w16 $ fjoin ! $ move ! (6 ∷ 0 ∷ []) $ fjoin ! $ owned ! u64 (Is u64) (uint-makes 𝓤 H A W w64) (n14) _ w14 $ fjoin ! $ owned ! u64 (Is u64) (uint-makes 𝓤 H A W w64) (n13) _ w13 $ fjoin ! $ move ! (5 ∷ 0 ∷ []) $ fjoin ! $ owned ! u64 (Is u64) (uint-makes 𝓤 H A W w64) (n11) _ w11 $ fjoin ! $ owned ! u64 (Is u64) (uint-makes 𝓤 H A W w64) (n10) _ w10 $ fjoin ! $ move ! (4 ∷ 0 ∷ []) $ fjoin ! $ owned ! u64 (Is u64) (uint-makes 𝓤 H A W w64) (n8) _ w8 $ fjoin ! $ owned ! u64 (Is u64) (uint-makes 𝓤 H A W w64) (n7) _ w7 $ fjoin ! $ move ! (3 ∷ 0 ∷ []) $ fjoin ! $ owned ! u64 (Is u64) (uint-makes 𝓤 H A W w64) (n5) _ w5 $ fjoin ! $ owned ! u64 (Is u64) (uint-makes 𝓤 H A W w64) (n4) _ w4 $ fjoin ! $ owned ! u64 (Is u64) (uint-makes 𝓤 H A W w64) (n3) _ w3 $ fjoin ! $ owned ! u64 (Is u64) (uint-makes 𝓤 H A W w64) (n2) _ w2 $ fjoin ! $ move ! (2 ∷ 0 ∷ []) $ fjoin ! $ move ! (1 ∷ 0 ∷ []) $ join ! $ nothing ! $ move ! (1 ∷ 0 ∷ []) $ frame ! $ done !) $
+        calls-at ! fm (Callee-g1 𝓤 H A at-mem run) known-g1 ((((ν1a ∷ []), (κ₁, (κ₂, (κ₃, ((ν1o ∷ []), ((ν1r ∷ []), ((ν1u ∷ []), (κ₄, (κ₅, tt))))))))), (fullShare, (q₁, (q₂, (q₃, (fullShare, (fullShare, (fullShare, (q₄, (q₅, tt))))))))), tt, (ref1 δ1a (ys1), (n2, (n3, (n4, (n5, (s6, (n7, (n8, (s9, (n10, (n11, (s12, (n13, (n14, (record { ptr = (l₂₇, 0); name = δ1o; now = (take n24 (n15)) }, (n16, (n17, (record { ptr = (l₂₈, 0); name = δ1r; now = (take n25 (n18)) }, (n19, (n20, (record { ptr = (l₂₉, 0); name = δ1u; now = (take n26 (n21)) }, (s22, (s23, tt))))))))))))))))))))))), (v1 ∷ [], (u2 ∷ [], (u3 ∷ [], (u4 ∷ [], (u5 ∷ [], (v6 ∷ [], (u7 ∷ [], (u8′ ∷ [], (v9 ∷ [], (u10 ∷ [], (u11 ∷ [], (v12 ∷ [], (u13 ∷ [], (u14 ∷ [], (sliceVal (l₂₇, 0) n24 ∷ [], (u16′ ∷ [], (u17 ∷ [], (sliceVal (l₂₈, 0) n25 ∷ [], (u19 ∷ [], (u20 ∷ [], (sliceVal (l₂₉, 0) n26 ∷ [], (v22 ∷ [], (v23 ∷ [], tt)))))))))))))))))))))))), tt) (and-then ! (load ! (from ! (stop !)) (look ! 40 refl)) (and-then ! (load ! (from ! (stop !)) (look ! 66 refl)) (and-then ! (load ! (from ! (stop !)) (look ! 65 refl)) (and-then ! (load ! (from ! (stop !)) (look ! 64 refl)) (and-then ! (load ! (from ! (stop !)) (look ! 63 refl)) (and-then ! (load ! (from ! (stop !)) (look ! 62 refl)) (and-then ! (load ! (from ! (stop !)) (look ! 61 refl)) (and-then ! (load ! (from ! (stop !)) (look ! 60 refl)) (and-then ! (load ! (from ! (stop !)) (look ! 59 refl)) (and-then ! (load ! (from ! (stop !)) (look ! 58 refl)) (and-then ! (load ! (from ! (stop !)) (look ! 57 refl)) (and-then ! (load ! (from ! (stop !)) (look ! 56 refl)) (and-then ! (load ! (from ! (stop !)) (look ! 55 refl)) (and-then ! (load ! (from ! (stop !)) (look ! 54 refl)) (and-then ! (load ! (from ! (stop !)) (look ! 38 refl)) (and-then ! (load ! (from ! (stop !)) (look ! 52 refl)) (and-then ! (load ! (from ! (stop !)) (look ! 51 refl)) (and-then ! (load ! (from ! (stop !)) (look ! 36 refl)) (and-then ! (load ! (from ! (stop !)) (look ! 49 refl)) (and-then ! (load ! (from ! (stop !)) (look ! 48 refl)) (and-then ! (load ! (from ! (stop !)) (look ! 34 refl)) (and-then ! (load ! (from ! (stop !)) (look ! 46 refl)) (and-then ! (load ! (from ! (stop !)) (look ! 45 refl)) (no-more !)))))))))))))))))))))))) (λ z1.
+        use1 W (later (some (λ (r1 : RowCheck). ((‵ (flft (ν1a ∷ []) fullShare) ⊛ ‵ (flft κ₁ q₁) ⊛ ‵ (flft κ₂ q₂) ⊛ ‵ (flft κ₃ q₃) ⊛ ‵ (flft (ν1o ∷ []) fullShare) ⊛ ‵ (flft (ν1r ∷ []) fullShare) ⊛ ‵ (flft (ν1u ∷ []) fullShare) ⊛ ‵ (flft κ₄ q₄) ⊛ ‵ (flft κ₅ q₅) ⊛ ‵ ftrue) ⊛ ‵ (mRowCheck.the-row .own r1 (z1 ∷ []))) ⊛ some (λ (ws : Lasts g1.ended ((ν1a ∷ []), (κ₁, (κ₂, (κ₃, ((ν1o ∷ []), ((ν1r ∷ []), ((ν1u ∷ []), (κ₄, (κ₅, tt))))))))) (ref1 δ1a (ys1), (n2, (n3, (n4, (n5, (s6, (n7, (n8, (s9, (n10, (n11, (s12, (n13, (n14, (record { ptr = (l₂₇, 0); name = δ1o; now = (take n24 (n15)) }, (n16, (n17, (record { ptr = (l₂₈, 0); name = δ1r; now = (take n25 (n18)) }, (n19, (n20, (record { ptr = (l₂₉, 0); name = δ1u; now = (take n26 (n21)) }, (s22, (s23, tt)))))))))))))))))))))))). ‵ (lasts g1.ended ((ν1a ∷ []), (κ₁, (κ₂, (κ₃, ((ν1o ∷ []), ((ν1r ∷ []), ((ν1u ∷ []), (κ₄, (κ₅, tt))))))))) (ref1 δ1a (ys1), (n2, (n3, (n4, (n5, (s6, (n7, (n8, (s9, (n10, (n11, (s12, (n13, (n14, (record { ptr = (l₂₇, 0); name = δ1o; now = (take n24 (n15)) }, (n16, (n17, (record { ptr = (l₂₈, 0); name = δ1r; now = (take n25 (n18)) }, (n19, (n20, (record { ptr = (l₂₉, 0); name = δ1u; now = (take n26 (n21)) }, (s22, (s23, tt))))))))))))))))))))))) ws) ⊛ raw (g1.clauses 𝓤 H A at-mem run ((ν1a ∷ []), (κ₁, (κ₂, (κ₃, ((ν1o ∷ []), ((ν1r ∷ []), ((ν1u ∷ []), (κ₄, (κ₅, tt))))))))) (ref1 δ1a (ys1), (n2, (n3, (n4, (n5, (s6, (n7, (n8, (s9, (n10, (n11, (s12, (n13, (n14, (record { ptr = (l₂₇, 0); name = δ1o; now = (take n24 (n15)) }, (n16, (n17, (record { ptr = (l₂₈, 0); name = δ1r; now = (take n25 (n18)) }, (n19, (n20, (record { ptr = (l₂₉, 0); name = δ1u; now = (take n26 (n21)) }, (s22, (s23, tt))))))))))))))))))))))) .ensures tt r1 (atExit g1.ended ((ν1a ∷ []), (κ₁, (κ₂, (κ₃, ((ν1o ∷ []), ((ν1r ∷ []), ((ν1u ∷ []), (κ₄, (κ₅, tt))))))))) (ref1 δ1a (ys1), (n2, (n3, (n4, (n5, (s6, (n7, (n8, (s9, (n10, (n11, (s12, (n13, (n14, (record { ptr = (l₂₇, 0); name = δ1o; now = (take n24 (n15)) }, (n16, (n17, (record { ptr = (l₂₈, 0); name = δ1r; now = (take n25 (n18)) }, (n19, (n20, (record { ptr = (l₂₉, 0); name = δ1u; now = (take n26 (n21)) }, (s22, (s23, tt))))))))))))))))))))))) ws)))))) (id⊢ 𝓤 _) $ await ! tt $ pick ! (λ r1. split ! $ move ! (1 ∷ []) $ pick ! (λ ws1. split ! $ move ! (1 ∷ []) $ heard ! _ (λ e1.
+        fsplit ! $ fsplit ! $ move ! (1 ∷ []) $ feqL ! (λ same1a. move ! (1 ∷ []) $ drop ! $ move ! (1 ∷ []) $ split ! $ move ! (1 ∷ []) $ peeks ! mRowCheck.the-row (Is mRowCheck.the-row) (shows 𝓤 H A mRowCheck.the-row) r1 (z1 ∷ []) (λ i1. drop ! $ land ! (from ! (stop !)) (init ! 69 refl (EL.lawful mRowCheck.the-type lRowCheck.the-laws 𝓤 H A W tt .typed r1 _ i1 .0)) $
+        tidy W (_ ∷ _ ∷ _ ∷ _ ∷ _ ∷ _ ∷ _ ∷ _ ∷ _ ∷ _ ∷ _ ∷ _ ∷ _ ∷ _ ∷ _ ∷ _ ∷ _ ∷ _ ∷ _ ∷ _ ∷ _ ∷ _ ∷ _ ∷ _ ∷ _ ∷ _ ∷ _ ∷ _ ∷ _ ∷ _ ∷ _ ∷ _ ∷ _ ∷ _ ∷ _ ∷ _ ∷ _ ∷ _ ∷ _ ∷ _ ∷ _ ∷ _ ∷ _ ∷ _ ∷ _ ∷ _ ∷ _ ∷ _ ∷ _ ∷ _ ∷ _ ∷ _ ∷ _ ∷ _ ∷ _ ∷ _ ∷ _ ∷ _ ∷ _ ∷ _ ∷ _ ∷ _ ∷ _ ∷ _ ∷ _ ∷ _ ∷ _ ∷ _ ∷ _ ∷ _ ∷ []) $ split ! $ move ! (1 ∷ []) $ split ! $ move ! (1 ∷ []) $ split ! $ move ! (1 ∷ []) $ split ! $ move ! (1 ∷ []) $ split ! $ move ! (1 ∷ []) $ split ! $ move ! (1 ∷ []) $ split ! $ move ! (1 ∷ []) $ split ! $ move ! (1 ∷ []) $ split ! $ move ! (1 ∷ []) $ drop ! $ move ! (8 ∷ []) $ lft-end ! tt $ move ! (0 ∷ 21 ∷ 9 ∷ []) $ use3 W (later (‵ (O1 (ws1 .0)) ⊛ ‵ (flft κ₀ q₀))) (backs1 (named 0) ν1a δ1a (ys1) (ws1 .0) (refl) room1 same1a) $ await ! tt $ split ! $
+        move ! (6 ∷ []) $ lft-end ! tt $ move ! (0 ∷ 16 ∷ []) $ lent-back ! tt $ fsplit ! $ drop ! $ move ! (0 ∷ 16 ∷ []) $ use2 W (‵ (parts (mem mEntry.the-row) (shares mEntry.the-row) fullShare (n15) l₂₇ 0)) (mend 𝓤 H A mEntry.the-row fullShare n24 (n15) l₂₇ 0) $ feqI ! ℕ (length (n15)) 64 ln1o $ fjoin ! $ use1 W (‵ (partAt (Array mEntry.the-row 64) fullShare (n15) l₂₇ 0)) (array-whole 𝓤 H A W mEntry.the-row fullShare 64 (n15) l₂₇ 0) $
+        out ! (Array mEntry.the-row 64) fullShare (n15) l₂₇ 0 (λ vs. spelt ! (Array mEntry.the-row 64) (Is (Array mEntry.the-row 64)) (shows 𝓤 H A (Array mEntry.the-row 64)) (array-vals (LL.vals mEntry.the-type lEntry.the-laws)) (array-tells mEntry.the-row (LL.vals mEntry.the-type lEntry.the-laws) (LL.tells mEntry.the-type lEntry.the-laws) 64) fullShare (n15) vs l₂₇ 0 $ move ! (1 ∷ []) $ peeks ! (Array mEntry.the-row 64) (Is (Array mEntry.the-row 64)) (shows 𝓤 H A (Array mEntry.the-row 64)) (n15) (array-val (LL.vals mEntry.the-type lEntry.the-laws) (n15) ∷ []) (λ w1o. drop ! $ use1 W (‵ (fat fullShare (tyArray (lEntry.mir) 64) l₂₇ 0 (array-val (LL.vals mEntry.the-type lEntry.the-laws) (n15)))) (W .laws .raw-at fullShare (tyArray (lEntry.mir) 64) l₂₇ 0 (array-val (LL.vals mEntry.the-type lEntry.the-laws) (n15))) $
+        move ! (6 ∷ []) $ lft-end ! tt $ move ! (0 ∷ 14 ∷ []) $ lent-back ! tt $ fsplit ! $ drop ! $ move ! (0 ∷ 14 ∷ []) $ use2 W (‵ (parts (mem mEntry.the-row) (shares mEntry.the-row) fullShare (n18) l₂₈ 0)) (mend 𝓤 H A mEntry.the-row fullShare n25 (n18) l₂₈ 0) $ feqI ! ℕ (length (n18)) 64 ln1r $ fjoin ! $ use1 W (‵ (partAt (Array mEntry.the-row 64) fullShare (n18) l₂₈ 0)) (array-whole 𝓤 H A W mEntry.the-row fullShare 64 (n18) l₂₈ 0) $
+        out ! (Array mEntry.the-row 64) fullShare (n18) l₂₈ 0 (λ vs. spelt ! (Array mEntry.the-row 64) (Is (Array mEntry.the-row 64)) (shows 𝓤 H A (Array mEntry.the-row 64)) (array-vals (LL.vals mEntry.the-type lEntry.the-laws)) (array-tells mEntry.the-row (LL.vals mEntry.the-type lEntry.the-laws) (LL.tells mEntry.the-type lEntry.the-laws) 64) fullShare (n18) vs l₂₈ 0 $ move ! (1 ∷ []) $ peeks ! (Array mEntry.the-row 64) (Is (Array mEntry.the-row 64)) (shows 𝓤 H A (Array mEntry.the-row 64)) (n18) (array-val (LL.vals mEntry.the-type lEntry.the-laws) (n18) ∷ []) (λ w1r. drop ! $ use1 W (‵ (fat fullShare (tyArray (lEntry.mir) 64) l₂₈ 0 (array-val (LL.vals mEntry.the-type lEntry.the-laws) (n18)))) (W .laws .raw-at fullShare (tyArray (lEntry.mir) 64) l₂₈ 0 (array-val (LL.vals mEntry.the-type lEntry.the-laws) (n18))) $
+        move ! (6 ∷ []) $ lft-end ! tt $ move ! (0 ∷ 12 ∷ []) $ lent-back ! tt $ fsplit ! $ drop ! $ move ! (0 ∷ 12 ∷ []) $ use2 W (‵ (parts (mem mEntry.the-row) (shares mEntry.the-row) fullShare (n21) l₂₉ 0)) (mend 𝓤 H A mEntry.the-row fullShare n26 (n21) l₂₉ 0) $ feqI ! ℕ (length (n21)) 64 ln1u $ fjoin ! $ use1 W (‵ (partAt (Array mEntry.the-row 64) fullShare (n21) l₂₉ 0)) (array-whole 𝓤 H A W mEntry.the-row fullShare 64 (n21) l₂₉ 0) $
+        out ! (Array mEntry.the-row 64) fullShare (n21) l₂₉ 0 (λ vs. spelt ! (Array mEntry.the-row 64) (Is (Array mEntry.the-row 64)) (shows 𝓤 H A (Array mEntry.the-row 64)) (array-vals (LL.vals mEntry.the-type lEntry.the-laws)) (array-tells mEntry.the-row (LL.vals mEntry.the-type lEntry.the-laws) (LL.tells mEntry.the-type lEntry.the-laws) 64) fullShare (n21) vs l₂₉ 0 $ move ! (1 ∷ []) $ peeks ! (Array mEntry.the-row 64) (Is (Array mEntry.the-row 64)) (shows 𝓤 H A (Array mEntry.the-row 64)) (n21) (array-val (LL.vals mEntry.the-type lEntry.the-laws) (n21) ∷ []) (λ w1u. drop ! $ use1 W (‵ (fat fullShare (tyArray (lEntry.mir) 64) l₂₉ 0 (array-val (LL.vals mEntry.the-type lEntry.the-laws) (n21)))) (W .laws .raw-at fullShare (tyArray (lEntry.mir) 64) l₂₉ 0 (array-val (LL.vals mEntry.the-type lEntry.the-laws) (n21))) $
+        tidy W (_ ∷ _ ∷ _ ∷ _ ∷ _ ∷ _ ∷ _ ∷ _ ∷ _ ∷ _ ∷ _ ∷ _ ∷ _ ∷ _ ∷ _ ∷ _ ∷ _ ∷ _ ∷ _ ∷ _ ∷ _ ∷ _ ∷ _ ∷ _ ∷ _ ∷ _ ∷ _ ∷ _ ∷ _ ∷ _ ∷ _ ∷ _ ∷ _ ∷ _ ∷ _ ∷ _ ∷ _ ∷ _ ∷ _ ∷ _ ∷ _ ∷ _ ∷ _ ∷ _ ∷ _ ∷ _ ∷ _ ∷ _ ∷ _ ∷ _ ∷ _ ∷ _ ∷ _ ∷ _ ∷ _ ∷ _ ∷ _ ∷ _ ∷ _ ∷ _ ∷ _ ∷ _ ∷ _ ∷ _ ∷ _ ∷ _ ∷ _ ∷ _ ∷ _ ∷ _ ∷ _ ∷ []) $ returns ! (look ! 70 refl) $ move ! (3 ∷ 4 ∷ 5 ∷ 6 ∷ 7 ∷ 8 ∷ 9 ∷ 10 ∷ 11 ∷ 12 ∷ 13 ∷ 14 ∷ 15 ∷ 16 ∷ 17 ∷ 18 ∷ 19 ∷ 20 ∷ 21 ∷ 22 ∷ 23 ∷ 24 ∷ 25 ∷ 26 ∷ 27 ∷ 28 ∷ 29 ∷ 30 ∷ 31 ∷ 32 ∷ 33 ∷ 34 ∷ 35 ∷ 36 ∷ 37 ∷ 38 ∷ 39 ∷ 40 ∷ 41 ∷ 42 ∷ 43 ∷ 0 ∷ 1 ∷ 2 ∷ 44 ∷ 45 ∷ 46 ∷ 47 ∷ 48 ∷ 49 ∷ 50 ∷ 51 ∷ 52 ∷ 53 ∷ 54 ∷ 55 ∷ 56 ∷ 57 ∷ 58 ∷ 59 ∷ 60 ∷ 61 ∷ 62 ∷ 63 ∷ 64 ∷ 65 ∷ 66 ∷ 67 ∷ 68 ∷ 69 ∷ 70 ∷ []) $ move ! (32 ∷ []) $ use1 W (dies ((lRowCheck.mir, l₀) ∷ (sliceTy (tyRef (named 0) mut (tyInt w64)), l₁) ∷ (tyInt w64, l₂) ∷ (tyInt w64, l₃) ∷ (tyInt w64, l₄) ∷ (tyInt w64, l₅) ∷ (sliceTy (tyRef (named 1) imm (pointee (mEntry.the-row .written))), l₆) ∷ (tyInt w64, l₇) ∷ (tyInt w64, l₈) ∷ (sliceTy (tyRef (named 2) imm (pointee (mEntry.the-row .written))), l₉) ∷ (tyInt w64, l₁₀) ∷ (tyInt w64, l₁₁) ∷ (sliceTy (tyRef (named 3) imm (pointee (mEntry.the-row .written))), l₁₂) ∷ (tyInt w64, l₁₃) ∷ (tyInt w64, l₁₄) ∷ (tyArray (lEntry.mir) 64, l₁₅) ∷ (tyInt w64, l₁₆) ∷ (tyInt w64, l₁₇) ∷ (tyArray (lEntry.mir) 64, l₁₈) ∷ (tyInt w64, l₁₉) ∷ (tyInt w64, l₂₀) ∷ (tyArray (lEntry.mir) 64, l₂₁) ∷ (sliceTy (tyRef (named 4) imm (tyInt w64)), l₂₂) ∷ (sliceTy (tyRef (named 5) imm (tyInt w64)), l₂₃) ∷ (tyInt w64, l₂₄) ∷ (tyInt w64, l₂₅) ∷ (tyInt w64, l₂₆) ∷ (tyArray (lEntry.mir) 64, l₂₇) ∷ (tyArray (lEntry.mir) 64, l₂₈) ∷ (tyArray (lEntry.mir) 64, l₂₉) ∷ (tyRef erased mut (tyInt w64), l₃₀) ∷ (sliceTy (tyRef erased mut (tyInt w64)), l₃₁) ∷ (tyRef erased imm (pointee ((Array mEntry.the-row 64) .written)), l₃₂) ∷ (sliceTy (tyRef erased imm (pointee (mEntry.the-row .written))), l₃₃) ∷ (tyRef erased imm (pointee ((Array mEntry.the-row 64) .written)), l₃₄) ∷ (sliceTy (tyRef erased imm (pointee (mEntry.the-row .written))), l₃₅) ∷ (tyRef erased imm (pointee ((Array mEntry.the-row 64) .written)), l₃₆) ∷ (sliceTy (tyRef erased imm (pointee (mEntry.the-row .written))), l₃₇) ∷ []) (‵ ftrue)) die $ free-all ! 32 ((lRowCheck.mir, l₀) ∷ (sliceTy (tyRef (named 0) mut (tyInt w64)), l₁) ∷ (tyInt w64, l₂) ∷ (tyInt w64, l₃) ∷ (tyInt w64, l₄) ∷ (tyInt w64, l₅) ∷ (sliceTy (tyRef (named 1) imm (pointee (mEntry.the-row .written))), l₆) ∷ (tyInt w64, l₇) ∷ (tyInt w64, l₈) ∷ (sliceTy (tyRef (named 2) imm (pointee (mEntry.the-row .written))), l₉) ∷ (tyInt w64, l₁₀) ∷ (tyInt w64, l₁₁) ∷ (sliceTy (tyRef (named 3) imm (pointee (mEntry.the-row .written))), l₁₂) ∷ (tyInt w64, l₁₃) ∷ (tyInt w64, l₁₄) ∷ (tyArray (lEntry.mir) 64, l₁₅) ∷ (tyInt w64, l₁₆) ∷ (tyInt w64, l₁₇) ∷ (tyArray (lEntry.mir) 64, l₁₈) ∷ (tyInt w64, l₁₉) ∷ (tyInt w64, l₂₀) ∷ (tyArray (lEntry.mir) 64, l₂₁) ∷ (sliceTy (tyRef (named 4) imm (tyInt w64)), l₂₂) ∷ (sliceTy (tyRef (named 5) imm (tyInt w64)), l₂₃) ∷ (tyInt w64, l₂₄) ∷ (tyInt w64, l₂₅) ∷ (tyInt w64, l₂₆) ∷ (tyArray (lEntry.mir) 64, l₂₇) ∷ (tyArray (lEntry.mir) 64, l₂₈) ∷ (tyArray (lEntry.mir) 64, l₂₉) ∷ (tyRef erased mut (tyInt w64), l₃₀) ∷ (sliceTy (tyRef erased mut (tyInt w64)), l₃₁) ∷ (tyRef erased imm (pointee ((Array mEntry.the-row 64) .written)), l₃₂) ∷ (sliceTy (tyRef erased imm (pointee (mEntry.the-row .written))), l₃₃) ∷ (tyRef erased imm (pointee ((Array mEntry.the-row 64) .written)), l₃₄) ∷ (sliceTy (tyRef erased imm (pointee (mEntry.the-row .written))), l₃₅) ∷ (tyRef erased imm (pointee ((Array mEntry.the-row 64) .written)), l₃₆) ∷ (sliceTy (tyRef erased imm (pointee (mEntry.the-row .written))), l₃₇) ∷ []) (kept _ ∷ kept _ ∷ kept _ ∷ kept _ ∷ kept _ ∷ kept _ ∷ kept _ ∷ kept _ ∷ kept _ ∷ kept _ ∷ kept _ ∷ kept _ ∷ kept _ ∷ kept _ ∷ kept _ ∷ kept _ ∷ kept _ ∷ kept _ ∷ kept _ ∷ kept _ ∷ kept _ ∷ kept _ ∷ kept _ ∷ kept _ ∷ kept _ ∷ kept _ ∷ kept _ ∷ kept _ ∷ kept _ ∷ kept _ ∷ kept _ ∷ kept _ ∷ kept _ ∷ kept _ ∷ kept _ ∷ kept _ ∷ kept _ ∷ kept _ ∷ []) refl $
+        suffices ! _ (ends-at 𝓤 H A f.ended stayed (f.clauses 𝓤 H A at-mem run) W (((κ₀, (κ₁, (κ₂, (κ₃, (κ₄, (κ₅, tt)))))), (q₀, (q₁, (q₂, (q₃, (q₄, (q₅, tt)))))), tt, a, at), tt) z1 r1 (ws1 .0, (tt, (tt, (tt, (tt, (tt, (tt, (tt, (tt, (tt, (tt, (tt, (tt, (tt, (tt, (tt, (tt, (tt, (tt, (tt, (tt, (tt, (tt, (tt, (tt, (tt, tt)))))))))))))))))))))))))) (same1a, (tt, (tt, (tt, (tt, (tt, (tt, (tt, (tt, (tt, (tt, (tt, (tt, (tt, (tt, (tt, (tt, (tt, (tt, (tt, (tt, (tt, (tt, (tt, (tt, (tt, tt))))))))))))))))))))))))))) $ says ! (e1) $
         nothing ! $ move ! (3 ∷ 0 ∷ []) $ join ! $ move ! (3 ∷ 0 ∷ []) $ join ! $ move ! (3 ∷ 0 ∷ []) $ join ! $ move ! (3 ∷ 0 ∷ []) $ join ! $ move ! (3 ∷ 0 ∷ []) $ join ! $ move ! (2 ∷ 0 ∷ []) $ join ! $ nothing ! $ move ! (8 ∷ 0 ∷ []) $ fjoin ! $ move ! (8 ∷ 0 ∷ []) $ fjoin ! $ move ! (8 ∷ 0 ∷ []) $ fjoin ! $ move ! (3 ∷ 0 ∷ []) $ fjoin ! $ move ! (3 ∷ 0 ∷ []) $ fjoin ! $ move ! (6 ∷ 0 ∷ []) $ fjoin ! $ move ! (6 ∷ 0 ∷ []) $ fjoin ! $ move ! (6 ∷ 0 ∷ []) $ fjoin ! $ move ! (6 ∷ 0 ∷ []) $ fjoin ! $ move ! (6 ∷ 0 ∷ []) $ fjoin ! $ move ! (6 ∷ 0 ∷ []) $ fjoin ! $ move ! (6 ∷ 0 ∷ []) $ fjoin ! $ move ! (6 ∷ 0 ∷ []) $ fjoin ! $ move ! (6 ∷ 0 ∷ []) $ fjoin ! $ move ! (3 ∷ 0 ∷ []) $ fjoin ! $ move ! (5 ∷ 0 ∷ []) $ fjoin ! $ move ! (5 ∷ 0 ∷ []) $ fjoin ! $ move ! (3 ∷ 0 ∷ []) $ fjoin ! $ move ! (4 ∷ 0 ∷ []) $ fjoin ! $ move ! (4 ∷ 0 ∷ []) $ fjoin ! $ move ! (3 ∷ 0 ∷ []) $ fjoin ! $ move ! (3 ∷ 0 ∷ []) $ fjoin ! $ move ! (3 ∷ 0 ∷ []) $ fjoin ! $ move ! (3 ∷ 0 ∷ []) $ fjoin ! $ move ! (3 ∷ 0 ∷ []) $ fjoin ! $ move ! (2 ∷ 0 ∷ []) $ fjoin ! $ keep ! (1 ∷ 0 ∷ []) $ frame ! $ frame ! $ owned ! mRowCheck.the-row (Is mRowCheck.the-row) (EL.makes mRowCheck.the-type lRowCheck.the-plain 𝓤 H A) r1 _ i1 $ done !))))))))))))))))))))))))))))))))))))))))))))))))))))))))))))))
 
 module _ {M : Type 1} (𝓤 : URA M) (H : Heap 𝓤) (A : Atoms 𝓤) (W : Given 𝓤 H A) (mem : Memory → SProp 𝓤) (run : Routine → Fun 𝓤) where

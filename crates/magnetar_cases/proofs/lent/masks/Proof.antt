@@ -82,7 +82,6 @@ is-no : (t : Bool) → Trueᴮ (not t) → t ≡ false
 is-no true a = absurd a
 is-no false _ = refl
 
-
 abbrev stayed : Stays (f.ended .signature .params) (f.ended .kept)
 stayed = (stay-none (λ _. u64) yes, (stay-none (λ _. u64) yes, (stay-none (λ _. (Array mEntry.the-row 64)) yes, (stay-none (λ _. u64) yes, (stay-none-slice (0 ∷ []) tt (plain (λ _. u64)) yes, (stay-none (λ _. u64) yes, (stay-none (λ _. u64) yes, (stay-none (λ _. u64) yes, (stay-slice (1 ∷ []) tt (plain (λ _. u64)), tt)))))))))
 
@@ -155,30 +154,29 @@ module _ {M : Type 1} (𝓤 : URA M) (H : Heap 𝓤) (A : Atoms 𝓤) (W : Given
     walk : (n4 ≤ 64) → ent 𝓤 (onEntry 𝓤 H A f.signature (κ₀, (κ₁, tt)) (q₀, (q₁, tt)) a at) (WpFn 𝓤 H C Λ code.function (v1 ∷ v2 ∷ v3 ∷ v4 ∷ v5 ∷ v6 ∷ v7 ∷ v8 ∷ v9 ∷ []) Post)
     walk pre =
         qed W ((‵ (flft κ₀ q₀) ⊛ ‵ (flft κ₁ q₁) ⊛ ‵ ftrue) ∷ ‵ (owns (u64 ∷ u64 ∷ (Array mEntry.the-row 64) ∷ u64 ∷ ShrSlice (named 0) κ₀ u64 ∷ u64 ∷ u64 ∷ u64 ∷ MutSlice (named 1) κ₁ u64 ∷ []) a at) ∷ []) ∵ enter ! C Λ code.function (v1 ∷ v2 ∷ v3 ∷ v4 ∷ v5 ∷ v6 ∷ v7 ∷ v8 ∷ v9 ∷ []) _ $
-        nothing ! $ alloc ! (λ l₀. alloc ! (λ l₁. alloc ! (λ l₂. alloc ! (λ l₃. alloc ! (λ l₄. alloc ! (λ l₅. alloc ! (λ l₆. alloc ! (λ l₇. alloc ! (λ l₈. alloc ! (λ l₉. alloc ! (λ l₁₀. alloc ! (λ l₁₁. alloc ! (λ l₁₂. alloc ! (λ l₁₃. alloc ! (λ l₁₄. alloc0 ! $ hide ! (λ died die. params1 ! $ pass1 ! (init ! 14 refl (uint-lawful 𝓤 H A W w64 .typed n1 _ w1 .0)) $ pass1 ! (init ! 13 refl (uint-lawful 𝓤 H A W w64 .typed n2 _ w2 .0)) $ pass1 ! (init ! 12 refl (array-lawful 𝓤 H A W mEntry.the-row (LL.lawful mEntry.the-type lEntry.the-laws 𝓤 H A W) 64 .typed n3 _ w3 .0)) $ pass1 ! (init ! 11 refl (uint-lawful 𝓤 H A W w64 .typed n4 _ w4 .0)) $ pass1 ! (init ! 10 refl (shr-slice-lawful 𝓤 H A W (named 0) κ₀ u64 .typed s5 (v5 ∷ []) w5 .0)) $ pass1 ! (init ! 9 refl (uint-lawful 𝓤 H A W w64 .typed n6 _ w6 .0)) $ pass1 ! (init ! 8 refl (uint-lawful 𝓤 H A W w64 .typed n7 _ w7 .0)) $ pass1 ! (init ! 7 refl (uint-lawful 𝓤 H A W w64 .typed n8 _ w8 .0)) $ pass1 ! (init ! 6 refl (tt, (tt, (record { fits = room9 .0 }, tt)))) $ pass0 ! $ 
-        move ! (17 ∷ []) $ fsplit ! $ move ! (1 ∷ []) $ fsplit ! $ move ! (1 ∷ []) $ fsplit ! $ move ! (1 ∷ []) $ fsplit ! $ move ! (1 ∷ []) $ fsplit ! $ move ! (1 ∷ []) $ fsplit ! $ move ! (1 ∷ []) $ fsplit ! $ move ! (1 ∷ []) $ fsplit ! $ move ! (1 ∷ []) $ fsplit ! $ move ! (1 ∷ []) $ drop ! $ move ! (25 ∷ []) $ split ! $ move ! (1 ∷ []) $ split ! $ move ! (1 ∷ []) $ drop ! $ tidy W (_ ∷ _ ∷ _ ∷ _ ∷ _ ∷ _ ∷ _ ∷ _ ∷ _ ∷ _ ∷ _ ∷ _ ∷ _ ∷ _ ∷ _ ∷ _ ∷ _ ∷ _ ∷ _ ∷ _ ∷ _ ∷ _ ∷ _ ∷ _ ∷ _ ∷ _ ∷ _ ∷ []) $ 
-        assigns ! (of-opd ! (load ! (from ! (stop !)) (look ! 23 refl))) (from ! (stop !)) (init ! 16 refl (array-lawful 𝓤 H A W mEntry.the-row (LL.lawful mEntry.the-type lEntry.the-laws 𝓤 H A W) 64 .typed n3 _ w3 .0)) $ 
-        assigns ! (addr ! (from ! (stop !))) (from ! (stop !)) (init ! 15 refl (tt, tt)) $ 
-        rewrite ! 22 (λ (w : Val). ‵ (fat fullShare (tyInt w64) l₄ 0 w)) (ap only (w4 .0)) refl $ assigns ! (agg ! (and-then ! (load ! (from ! (stop !)) (look ! 15 refl)) (and-then ! (load ! (from ! (stop !)) (look ! 22 refl)) (no-more !)))) (from ! (stop !)) (init ! 14 refl (tt, (tt, (record { fits = w4 .1 }, tt)))) $ 
-        assigns ! (addr ! (from ! (fld ! refl (hop ! (look-in ! 17 (sub ! 0 refl (whole !))) (stop !))))) (from ! (stop !)) (init ! 13 refl (tt, tt)) $ 
-        assigns ! (agg ! (and-then ! (load ! (from ! (stop !)) (look ! 13 refl)) (and-then ! (load ! (from ! (fld ! refl (stop !))) (look-in ! 17 (sub ! 1 refl (whole !)))) (no-more !)))) (from ! (stop !)) (init ! 12 refl (tt, (tt, (record { fits = room9 .0 }, tt)))) $ 
-        
-        lft-new ! tt (λ ν1c. owned ! (Array mEntry.the-row 64) (Is (Array mEntry.the-row 64)) (array-makes 𝓤 H A W mEntry.the-row (LL.makes mEntry.the-type lEntry.the-plain 𝓤 H A) 64) (n3) _ w3 $ move ! (18 ∷ 0 ∷ []) $ use1 W (‵ (cellAt fullShare ((Array mEntry.the-row 64) .mir) (u3 ∷ []) l₁₀ 0)) (W .laws .at-raw fullShare (tyArray (lEntry.mir) 64) l₁₀ 0 (u3)) $ into ! (Array mEntry.the-row 64) fullShare (n3) (u3 ∷ []) l₁₀ 0 $ 
-        use1 W (‵ (arr-parts (shares mEntry.the-row) 64 .part fullShare (n3) l₁₀ 0)) (array-apart 𝓤 H A W mEntry.the-row fullShare tt 64 (n3) l₁₀ 0) $ fsplit ! $ feqL ! (λ ln1c. 
-        use1 W (‵ (parts (mem mEntry.the-row) (shares mEntry.the-row) fullShare (take n4 (n3)) l₁₀ 0) ⊛ ‵ (rest mEntry.the-row fullShare n4 (n3) l₁₀ 0)) (cut 𝓤 H A mEntry.the-row fullShare n4 (n3) l₁₀ 0) $ split ! $ feqI ! ℕ (length (take n4 (n3))) (length (take n4 (n3))) refl $ fjoin ! $ 
-        use1 W (later (some (λ (δ : GName). ‵ (ShrSlice (named 0) (ν1c ∷ []) mEntry.the-row .own (record { ptr = (l₁₀, 0); name = δ; now = (take n4 (n3)) }) (sliceVal (l₁₀, 0) (length (take n4 (n3))) ∷ [])) ⊛ ‵ (flent (ν1c ∷ []) (arr-parts (shares mEntry.the-row) (length (take n4 (n3))) .part fullShare (take n4 (n3)) l₁₀ 0))))) (lends-shr-slice 𝓤 H A W mEntry.the-row (named 0) (ν1c ∷ []) fullShare (take n4 (n3)) l₁₀ 0 (subst (Room mEntry.the-row) (sym (length-take-le n4 (n3) (subst (λ (m : ℕ). n4 ≤ m) (sym ln1c) (pre)))) (room-of mEntry.the-row n4 64 (pre) (lit< tt, lit< tt)))) $ await ! tt $ pick ! (λ δ1c. split ! $ rewrite ! 0 (λ (m : ℕ). ‵ (ShrSlice (named 0) (ν1c ∷ []) mEntry.the-row .own (record { ptr = (l₁₀, 0); name = δ1c; now = (take n4 (n3)) }) (sliceVal (l₁₀, 0) m ∷ []))) (length-take-le n4 (n3) (subst (λ (m : ℕ). n4 ≤ m) (sym ln1c) (pre))) refl $ 
-        move ! (10 ∷ []) $ use1 W (‵ (O5) ⊛ ‵ (O5)) (shr-slice-copy 𝓤 H A W (named 0) κ₀ u64 .twice s5 (v5 ∷ [])) $ split ! $ 
-        lft-new ! tt (λ ν1h. move ! (9 ∷ 7 ∷ []) $ use2 W (later (some (λ (δ : GName). ‵ (MutSlice (named 2) (ν1h ∷ []) u64 .own (ref9 δ (ys9)) (v9 ∷ [])) ⊛ ‵ (Lent9 ν1h δ (ys9))))) (lends9 (named 2) ν1h (ys9) (refl)) $ await ! tt $ pick ! (λ δ1h. split ! $ tidy W (_ ∷ _ ∷ _ ∷ _ ∷ _ ∷ _ ∷ _ ∷ _ ∷ _ ∷ _ ∷ _ ∷ _ ∷ _ ∷ _ ∷ _ ∷ _ ∷ _ ∷ _ ∷ _ ∷ _ ∷ _ ∷ _ ∷ _ ∷ _ ∷ _ ∷ _ ∷ _ ∷ _ ∷ _ ∷ _ ∷ _ ∷ _ ∷ []) $ nothing ! $ move ! (3 ∷ 0 ∷ []) $ join ! $ move ! (9 ∷ 0 ∷ []) $ join ! $ move ! (8 ∷ 0 ∷ []) $ join ! $ move ! (3 ∷ 1 ∷ []) $ join ! $ move ! (4 ∷ 0 ∷ []) $ join ! $ move ! (1 ∷ 0 ∷ []) $ join ! $ 
+        nothing ! $ alloc ! (λ l₀. alloc ! (λ l₁. alloc ! (λ l₂. alloc ! (λ l₃. alloc ! (λ l₄. alloc ! (λ l₅. alloc ! (λ l₆. alloc ! (λ l₇. alloc ! (λ l₈. alloc ! (λ l₉. alloc ! (λ l₁₀. alloc ! (λ l₁₁. alloc ! (λ l₁₂. alloc ! (λ l₁₃. alloc ! (λ l₁₄. alloc0 ! $ hide ! (λ died die. params1 ! $ pass1 ! (init ! 14 refl (uint-lawful 𝓤 H A W w64 .typed n1 _ w1 .0)) $ pass1 ! (init ! 13 refl (uint-lawful 𝓤 H A W w64 .typed n2 _ w2 .0)) $ pass1 ! (init ! 12 refl (array-lawful 𝓤 H A W mEntry.the-row (LL.lawful mEntry.the-type lEntry.the-laws 𝓤 H A W) 64 .typed n3 _ w3 .0)) $ pass1 ! (init ! 11 refl (uint-lawful 𝓤 H A W w64 .typed n4 _ w4 .0)) $ pass1 ! (init ! 10 refl (shr-slice-lawful 𝓤 H A W (named 0) κ₀ u64 .typed s5 (v5 ∷ []) w5 .0)) $ pass1 ! (init ! 9 refl (uint-lawful 𝓤 H A W w64 .typed n6 _ w6 .0)) $ pass1 ! (init ! 8 refl (uint-lawful 𝓤 H A W w64 .typed n7 _ w7 .0)) $ pass1 ! (init ! 7 refl (uint-lawful 𝓤 H A W w64 .typed n8 _ w8 .0)) $ pass1 ! (init ! 6 refl (tt, (tt, (record { fits = room9 .0 }, tt)))) $ pass0 ! $
+        move ! (17 ∷ []) $ fsplit ! $ move ! (1 ∷ []) $ fsplit ! $ move ! (1 ∷ []) $ fsplit ! $ move ! (1 ∷ []) $ fsplit ! $ move ! (1 ∷ []) $ fsplit ! $ move ! (1 ∷ []) $ fsplit ! $ move ! (1 ∷ []) $ fsplit ! $ move ! (1 ∷ []) $ fsplit ! $ move ! (1 ∷ []) $ fsplit ! $ move ! (1 ∷ []) $ drop ! $ move ! (25 ∷ []) $ split ! $ move ! (1 ∷ []) $ split ! $ move ! (1 ∷ []) $ drop ! $ tidy W (_ ∷ _ ∷ _ ∷ _ ∷ _ ∷ _ ∷ _ ∷ _ ∷ _ ∷ _ ∷ _ ∷ _ ∷ _ ∷ _ ∷ _ ∷ _ ∷ _ ∷ _ ∷ _ ∷ _ ∷ _ ∷ _ ∷ _ ∷ _ ∷ _ ∷ _ ∷ _ ∷ []) $
+        assigns ! (of-opd ! (load ! (from ! (stop !)) (look ! 23 refl))) (from ! (stop !)) (init ! 16 refl (array-lawful 𝓤 H A W mEntry.the-row (LL.lawful mEntry.the-type lEntry.the-laws 𝓤 H A W) 64 .typed n3 _ w3 .0)) $
+        assigns ! (addr ! (from ! (stop !))) (from ! (stop !)) (init ! 15 refl (tt, tt)) $
+        rewrite ! 22 (λ (w : Val). ‵ (fat fullShare (tyInt w64) l₄ 0 w)) (ap only (w4 .0)) refl $ assigns ! (agg ! (and-then ! (load ! (from ! (stop !)) (look ! 15 refl)) (and-then ! (load ! (from ! (stop !)) (look ! 22 refl)) (no-more !)))) (from ! (stop !)) (init ! 14 refl (tt, (tt, (record { fits = w4 .1 }, tt)))) $
+        assigns ! (addr ! (from ! (fld ! refl (hop ! (look-in ! 17 (sub ! 0 refl (whole !))) (stop !))))) (from ! (stop !)) (init ! 13 refl (tt, tt)) $
+        assigns ! (agg ! (and-then ! (load ! (from ! (stop !)) (look ! 13 refl)) (and-then ! (load ! (from ! (fld ! refl (stop !))) (look-in ! 17 (sub ! 1 refl (whole !)))) (no-more !)))) (from ! (stop !)) (init ! 12 refl (tt, (tt, (record { fits = room9 .0 }, tt)))) $
+        lft-new ! tt (λ ν1c. owned ! (Array mEntry.the-row 64) (Is (Array mEntry.the-row 64)) (array-makes 𝓤 H A W mEntry.the-row (LL.makes mEntry.the-type lEntry.the-plain 𝓤 H A) 64) (n3) _ w3 $ move ! (18 ∷ 0 ∷ []) $ use1 W (‵ (cellAt fullShare ((Array mEntry.the-row 64) .mir) (u3 ∷ []) l₁₀ 0)) (W .laws .at-raw fullShare (tyArray (lEntry.mir) 64) l₁₀ 0 (u3)) $ into ! (Array mEntry.the-row 64) fullShare (n3) (u3 ∷ []) l₁₀ 0 $
+        use1 W (‵ (arr-parts (shares mEntry.the-row) 64 .part fullShare (n3) l₁₀ 0)) (array-apart 𝓤 H A W mEntry.the-row fullShare tt 64 (n3) l₁₀ 0) $ fsplit ! $ feqL ! (λ ln1c.
+        use1 W (‵ (parts (mem mEntry.the-row) (shares mEntry.the-row) fullShare (take n4 (n3)) l₁₀ 0) ⊛ ‵ (rest mEntry.the-row fullShare n4 (n3) l₁₀ 0)) (cut 𝓤 H A mEntry.the-row fullShare n4 (n3) l₁₀ 0) $ split ! $ feqI ! ℕ (length (take n4 (n3))) (length (take n4 (n3))) refl $ fjoin ! $
+        use1 W (later (some (λ (δ : GName). ‵ (ShrSlice (named 0) (ν1c ∷ []) mEntry.the-row .own (record { ptr = (l₁₀, 0); name = δ; now = (take n4 (n3)) }) (sliceVal (l₁₀, 0) (length (take n4 (n3))) ∷ [])) ⊛ ‵ (flent (ν1c ∷ []) (arr-parts (shares mEntry.the-row) (length (take n4 (n3))) .part fullShare (take n4 (n3)) l₁₀ 0))))) (lends-shr-slice 𝓤 H A W mEntry.the-row (named 0) (ν1c ∷ []) fullShare (take n4 (n3)) l₁₀ 0 (subst (Room mEntry.the-row) (sym (length-take-le n4 (n3) (subst (λ (m : ℕ). n4 ≤ m) (sym ln1c) (pre)))) (room-of mEntry.the-row n4 64 (pre) (lit< tt, lit< tt)))) $ await ! tt $ pick ! (λ δ1c. split ! $ rewrite ! 0 (λ (m : ℕ). ‵ (ShrSlice (named 0) (ν1c ∷ []) mEntry.the-row .own (record { ptr = (l₁₀, 0); name = δ1c; now = (take n4 (n3)) }) (sliceVal (l₁₀, 0) m ∷ []))) (length-take-le n4 (n3) (subst (λ (m : ℕ). n4 ≤ m) (sym ln1c) (pre))) refl $
+        move ! (10 ∷ []) $ use1 W (‵ (O5) ⊛ ‵ (O5)) (shr-slice-copy 𝓤 H A W (named 0) κ₀ u64 .twice s5 (v5 ∷ [])) $ split ! $
+        lft-new ! tt (λ ν1h. move ! (9 ∷ 7 ∷ []) $ use2 W (later (some (λ (δ : GName). ‵ (MutSlice (named 2) (ν1h ∷ []) u64 .own (ref9 δ (ys9)) (v9 ∷ [])) ⊛ ‵ (Lent9 ν1h δ (ys9))))) (lends9 (named 2) ν1h (ys9) (refl)) $ await ! tt $ pick ! (λ δ1h. split ! $ tidy W (_ ∷ _ ∷ _ ∷ _ ∷ _ ∷ _ ∷ _ ∷ _ ∷ _ ∷ _ ∷ _ ∷ _ ∷ _ ∷ _ ∷ _ ∷ _ ∷ _ ∷ _ ∷ _ ∷ _ ∷ _ ∷ _ ∷ _ ∷ _ ∷ _ ∷ _ ∷ _ ∷ _ ∷ _ ∷ _ ∷ _ ∷ _ ∷ []) $ nothing ! $ move ! (3 ∷ 0 ∷ []) $ join ! $ move ! (9 ∷ 0 ∷ []) $ join ! $ move ! (8 ∷ 0 ∷ []) $ join ! $ move ! (3 ∷ 1 ∷ []) $ join ! $ move ! (4 ∷ 0 ∷ []) $ join ! $ move ! (1 ∷ 0 ∷ []) $ join ! $
         -- call 1
-        use1 W (raw (Callee-g1 𝓤 H A at-mem run .pre ((((ν1c ∷ []), (κ₀, ((ν1h ∷ []), tt))), (fullShare, (q₀, (fullShare, tt))), tt, (n1, (n2, (record { ptr = (l₁₀, 0); name = δ1c; now = (take n4 (n3)) }, (s5, (n6, (n7, (n8, (ref9 δ1h (ys9), tt)))))))), (u1 ∷ [], (u2 ∷ [], (sliceVal (l₁₀, 0) n4 ∷ [], (v5 ∷ [], (u6 ∷ [], (u7 ∷ [], (u8′ ∷ [], (v9 ∷ [], tt))))))))), tt))) (qed W ((‵ (flft (ν1c ∷ []) fullShare) ⊛ ‵ (flft κ₀ q₀) ⊛ ‵ (flft (ν1h ∷ []) fullShare) ⊛ ‵ ftrue) ∷ ‵ (ShrSlice (named 0) (ν1c ∷ []) mEntry.the-row .own (record { ptr = (l₁₀, 0); name = δ1c; now = (take n4 (n3)) }) (sliceVal (l₁₀, 0) n4 ∷ [])) ∷ ‵ (ShrSlice (named 1) κ₀ u64 .own s5 (v5 ∷ [])) ∷ ‵ (MutSlice (named 2) (ν1h ∷ []) u64 .own (ref9 δ1h (ys9)) (v9 ∷ [])) ∷ []) ∵ nothing ! $ move ! (4 ∷ 0 ∷ []) $ fjoin ! $ owned ! u64 (Is u64) (uint-makes 𝓤 H A W w64) (n8) _ w8 $ fjoin ! $ owned ! u64 (Is u64) (uint-makes 𝓤 H A W w64) (n7) _ w7 $ fjoin ! $ owned ! u64 (Is u64) (uint-makes 𝓤 H A W w64) (n6) _ w6 $ fjoin ! $ move ! (3 ∷ 0 ∷ []) $ fjoin ! $ move ! (2 ∷ 0 ∷ []) $ fjoin ! $ owned ! u64 (Is u64) (uint-makes 𝓤 H A W w64) (n2) _ w2 $ fjoin ! $ owned ! u64 (Is u64) (uint-makes 𝓤 H A W w64) (n1) _ w1 $ fjoin ! $ move ! (1 ∷ 0 ∷ []) $ join ! $ nothing ! $ move ! (1 ∷ 0 ∷ []) $ frame ! $ done !) $ 
-        calls-at ! fm (Callee-g1 𝓤 H A at-mem run) known-g1 ((((ν1c ∷ []), (κ₀, ((ν1h ∷ []), tt))), (fullShare, (q₀, (fullShare, tt))), tt, (n1, (n2, (record { ptr = (l₁₀, 0); name = δ1c; now = (take n4 (n3)) }, (s5, (n6, (n7, (n8, (ref9 δ1h (ys9), tt)))))))), (u1 ∷ [], (u2 ∷ [], (sliceVal (l₁₀, 0) n4 ∷ [], (v5 ∷ [], (u6 ∷ [], (u7 ∷ [], (u8′ ∷ [], (v9 ∷ [], tt))))))))), tt) (and-then ! (load ! (from ! (stop !)) (look ! 25 refl)) (and-then ! (load ! (from ! (stop !)) (look ! 24 refl)) (and-then ! (load ! (from ! (stop !)) (look ! 15 refl)) (and-then ! (load ! (from ! (stop !)) (look ! 21 refl)) (and-then ! (load ! (from ! (stop !)) (look ! 20 refl)) (and-then ! (load ! (from ! (stop !)) (look ! 19 refl)) (and-then ! (load ! (from ! (stop !)) (look ! 18 refl)) (and-then ! (load ! (from ! (stop !)) (look ! 13 refl)) (no-more !))))))))) (λ z1. 
-        use1 W (later (some (λ (r1 : ℕ). ((‵ (flft (ν1c ∷ []) fullShare) ⊛ ‵ (flft κ₀ q₀) ⊛ ‵ (flft (ν1h ∷ []) fullShare) ⊛ ‵ ftrue) ⊛ ‵ (u32 .own r1 (z1 ∷ []))) ⊛ some (λ (ws : Lasts g1.ended ((ν1c ∷ []), (κ₀, ((ν1h ∷ []), tt))) (n1, (n2, (record { ptr = (l₁₀, 0); name = δ1c; now = (take n4 (n3)) }, (s5, (n6, (n7, (n8, (ref9 δ1h (ys9), tt))))))))). ‵ (lasts g1.ended ((ν1c ∷ []), (κ₀, ((ν1h ∷ []), tt))) (n1, (n2, (record { ptr = (l₁₀, 0); name = δ1c; now = (take n4 (n3)) }, (s5, (n6, (n7, (n8, (ref9 δ1h (ys9), tt)))))))) ws) ⊛ raw (g1.clauses 𝓤 H A at-mem run ((ν1c ∷ []), (κ₀, ((ν1h ∷ []), tt))) (n1, (n2, (record { ptr = (l₁₀, 0); name = δ1c; now = (take n4 (n3)) }, (s5, (n6, (n7, (n8, (ref9 δ1h (ys9), tt)))))))) .ensures tt r1 (atExit g1.ended ((ν1c ∷ []), (κ₀, ((ν1h ∷ []), tt))) (n1, (n2, (record { ptr = (l₁₀, 0); name = δ1c; now = (take n4 (n3)) }, (s5, (n6, (n7, (n8, (ref9 δ1h (ys9), tt)))))))) ws)))))) (id⊢ 𝓤 _) $ await ! tt $ pick ! (λ r1. split ! $ move ! (1 ∷ []) $ pick ! (λ ws1. split ! $ move ! (1 ∷ []) $ heard ! _ (λ e1. 
-        fsplit ! $ drop ! $ fsplit ! $ drop ! $ fsplit ! $ drop ! $ fsplit ! $ drop ! $ fsplit ! $ drop ! $ fsplit ! $ drop ! $ fsplit ! $ drop ! $ fsplit ! $ fsplit ! $ move ! (1 ∷ []) $ feqL ! (λ same1h. move ! (1 ∷ []) $ drop ! $ move ! (1 ∷ []) $ split ! $ move ! (1 ∷ []) $ peeks ! u32 (Is u32) (shows 𝓤 H A u32) r1 (z1 ∷ []) (λ i1. drop ! $ land ! (from ! (stop !)) (init ! 27 refl (uint-lawful 𝓤 H A W w32 .typed r1 _ i1 .0)) $ 
-        tidy W (_ ∷ _ ∷ _ ∷ _ ∷ _ ∷ _ ∷ _ ∷ _ ∷ _ ∷ _ ∷ _ ∷ _ ∷ _ ∷ _ ∷ _ ∷ _ ∷ _ ∷ _ ∷ _ ∷ _ ∷ _ ∷ _ ∷ _ ∷ _ ∷ _ ∷ _ ∷ _ ∷ _ ∷ []) $ split ! $ move ! (1 ∷ []) $ split ! $ move ! (1 ∷ []) $ split ! $ move ! (1 ∷ []) $ drop ! $ move ! (2 ∷ []) $ lft-end ! tt $ move ! (0 ∷ 6 ∷ []) $ lent-back ! tt $ fsplit ! $ drop ! $ move ! (0 ∷ 6 ∷ []) $ use2 W (‵ (parts (mem mEntry.the-row) (shares mEntry.the-row) fullShare (n3) l₁₀ 0)) (mend 𝓤 H A mEntry.the-row fullShare n4 (n3) l₁₀ 0) $ feqI ! ℕ (length (n3)) 64 ln1c $ fjoin ! $ use1 W (‵ (partAt (Array mEntry.the-row 64) fullShare (n3) l₁₀ 0)) (array-whole 𝓤 H A W mEntry.the-row fullShare 64 (n3) l₁₀ 0) $ 
-        out ! (Array mEntry.the-row 64) fullShare (n3) l₁₀ 0 (λ vs. spelt ! (Array mEntry.the-row 64) (Is (Array mEntry.the-row 64)) (shows 𝓤 H A (Array mEntry.the-row 64)) (array-vals (LL.vals mEntry.the-type lEntry.the-laws)) (array-tells mEntry.the-row (LL.vals mEntry.the-type lEntry.the-laws) (LL.tells mEntry.the-type lEntry.the-laws) 64) fullShare (n3) vs l₁₀ 0 $ move ! (1 ∷ []) $ peeks ! (Array mEntry.the-row 64) (Is (Array mEntry.the-row 64)) (shows 𝓤 H A (Array mEntry.the-row 64)) (n3) (array-val (LL.vals mEntry.the-type lEntry.the-laws) (n3) ∷ []) (λ w1c. drop ! $ use1 W (‵ (fat fullShare (tyArray (lEntry.mir) 64) l₁₀ 0 (array-val (LL.vals mEntry.the-type lEntry.the-laws) (n3)))) (W .laws .raw-at fullShare (tyArray (lEntry.mir) 64) l₁₀ 0 (array-val (LL.vals mEntry.the-type lEntry.the-laws) (n3))) $ 
-        move ! (1 ∷ []) $ lft-end ! tt $ move ! (0 ∷ 4 ∷ 3 ∷ []) $ use3 W (later (‵ (O9 (ws1 .1 .1 .1 .1 .1 .1 .1 .0)) ⊛ ‵ (flft κ₁ q₁))) (backs9 (named 2) ν1h δ1h (ys9) (ws1 .1 .1 .1 .1 .1 .1 .1 .0) (refl) room9 same1h) $ await ! tt $ split ! $ 
-        tidy W (_ ∷ _ ∷ _ ∷ _ ∷ _ ∷ _ ∷ _ ∷ _ ∷ _ ∷ _ ∷ _ ∷ _ ∷ _ ∷ _ ∷ _ ∷ _ ∷ _ ∷ _ ∷ _ ∷ _ ∷ _ ∷ _ ∷ _ ∷ _ ∷ _ ∷ _ ∷ _ ∷ []) $ returns ! (look ! 26 refl) $ move ! (0 ∷ 1 ∷ 3 ∷ 4 ∷ 5 ∷ 6 ∷ 7 ∷ 8 ∷ 9 ∷ 10 ∷ 11 ∷ 12 ∷ 13 ∷ 14 ∷ 15 ∷ 16 ∷ 2 ∷ 17 ∷ 18 ∷ 19 ∷ 20 ∷ 21 ∷ 22 ∷ 23 ∷ 24 ∷ 25 ∷ 26 ∷ []) $ move ! (11 ∷ []) $ use1 W (dies ((tyInt w32, l₀) ∷ (tyInt w64, l₁) ∷ (tyInt w64, l₂) ∷ (tyArray (lEntry.mir) 64, l₃) ∷ (tyInt w64, l₄) ∷ (sliceTy (tyRef (named 0) imm (tyInt w64)), l₅) ∷ (tyInt w64, l₆) ∷ (tyInt w64, l₇) ∷ (tyInt w64, l₈) ∷ (sliceTy (tyRef (named 1) mut (tyInt w64)), l₉) ∷ (tyArray (lEntry.mir) 64, l₁₀) ∷ (tyRef erased imm (pointee ((Array mEntry.the-row 64) .written)), l₁₁) ∷ (sliceTy (tyRef erased imm (pointee (mEntry.the-row .written))), l₁₂) ∷ (tyRef erased mut (tyInt w64), l₁₃) ∷ (sliceTy (tyRef erased mut (tyInt w64)), l₁₄) ∷ []) (‵ ftrue)) die $ free-all ! 11 ((tyInt w32, l₀) ∷ (tyInt w64, l₁) ∷ (tyInt w64, l₂) ∷ (tyArray (lEntry.mir) 64, l₃) ∷ (tyInt w64, l₄) ∷ (sliceTy (tyRef (named 0) imm (tyInt w64)), l₅) ∷ (tyInt w64, l₆) ∷ (tyInt w64, l₇) ∷ (tyInt w64, l₈) ∷ (sliceTy (tyRef (named 1) mut (tyInt w64)), l₉) ∷ (tyArray (lEntry.mir) 64, l₁₀) ∷ (tyRef erased imm (pointee ((Array mEntry.the-row 64) .written)), l₁₁) ∷ (sliceTy (tyRef erased imm (pointee (mEntry.the-row .written))), l₁₂) ∷ (tyRef erased mut (tyInt w64), l₁₃) ∷ (sliceTy (tyRef erased mut (tyInt w64)), l₁₄) ∷ []) (kept _ ∷ kept _ ∷ kept _ ∷ kept _ ∷ kept _ ∷ kept _ ∷ kept _ ∷ kept _ ∷ kept _ ∷ kept _ ∷ kept _ ∷ kept _ ∷ kept _ ∷ kept _ ∷ kept _ ∷ []) refl $ 
-        suffices ! _ (ends-at 𝓤 H A f.ended stayed (f.clauses 𝓤 H A at-mem run) W (((κ₀, (κ₁, tt)), (q₀, (q₁, tt)), tt, a, at), tt) z1 r1 (tt, (tt, (tt, (tt, (tt, (tt, (tt, (tt, (ws1 .1 .1 .1 .1 .1 .1 .1 .0, tt))))))))) (tt, (tt, (tt, (tt, (tt, (tt, (tt, (tt, (same1h, tt)))))))))) $ says ! (e1) $ 
+        use1 W (raw (Callee-g1 𝓤 H A at-mem run .pre ((((ν1c ∷ []), (κ₀, ((ν1h ∷ []), tt))), (fullShare, (q₀, (fullShare, tt))), tt, (n1, (n2, (record { ptr = (l₁₀, 0); name = δ1c; now = (take n4 (n3)) }, (s5, (n6, (n7, (n8, (ref9 δ1h (ys9), tt)))))))), (u1 ∷ [], (u2 ∷ [], (sliceVal (l₁₀, 0) n4 ∷ [], (v5 ∷ [], (u6 ∷ [], (u7 ∷ [], (u8′ ∷ [], (v9 ∷ [], tt))))))))), tt))) (qed W ((‵ (flft (ν1c ∷ []) fullShare) ⊛ ‵ (flft κ₀ q₀) ⊛ ‵ (flft (ν1h ∷ []) fullShare) ⊛ ‵ ftrue) ∷ ‵ (ShrSlice (named 0) (ν1c ∷ []) mEntry.the-row .own (record { ptr = (l₁₀, 0); name = δ1c; now = (take n4 (n3)) }) (sliceVal (l₁₀, 0) n4 ∷ [])) ∷ ‵ (ShrSlice (named 1) κ₀ u64 .own s5 (v5 ∷ [])) ∷ ‵ (MutSlice (named 2) (ν1h ∷ []) u64 .own (ref9 δ1h (ys9)) (v9 ∷ [])) ∷ []) ∵ nothing ! $ move ! (4 ∷ 0 ∷ []) $ fjoin ! $ owned ! u64 (Is u64) (uint-makes 𝓤 H A W w64) (n8) _ w8 $ fjoin ! $ owned ! u64 (Is u64) (uint-makes 𝓤 H A W w64) (n7) _ w7 $ fjoin ! $ owned ! u64 (Is u64) (uint-makes 𝓤 H A W w64) (n6) _ w6 $ fjoin ! $ move ! (3 ∷ 0 ∷ []) $ fjoin ! $ move ! (2 ∷ 0 ∷ []) $ fjoin ! $ owned ! u64 (Is u64) (uint-makes 𝓤 H A W w64) (n2) _ w2 $ fjoin ! $ owned ! u64 (Is u64) (uint-makes 𝓤 H A W w64) (n1) _ w1 $ fjoin ! $ move ! (1 ∷ 0 ∷ []) $ join ! $ nothing ! $ move ! (1 ∷ 0 ∷ []) $ frame ! $ done !) $
+        calls-at ! fm (Callee-g1 𝓤 H A at-mem run) known-g1 ((((ν1c ∷ []), (κ₀, ((ν1h ∷ []), tt))), (fullShare, (q₀, (fullShare, tt))), tt, (n1, (n2, (record { ptr = (l₁₀, 0); name = δ1c; now = (take n4 (n3)) }, (s5, (n6, (n7, (n8, (ref9 δ1h (ys9), tt)))))))), (u1 ∷ [], (u2 ∷ [], (sliceVal (l₁₀, 0) n4 ∷ [], (v5 ∷ [], (u6 ∷ [], (u7 ∷ [], (u8′ ∷ [], (v9 ∷ [], tt))))))))), tt) (and-then ! (load ! (from ! (stop !)) (look ! 25 refl)) (and-then ! (load ! (from ! (stop !)) (look ! 24 refl)) (and-then ! (load ! (from ! (stop !)) (look ! 15 refl)) (and-then ! (load ! (from ! (stop !)) (look ! 21 refl)) (and-then ! (load ! (from ! (stop !)) (look ! 20 refl)) (and-then ! (load ! (from ! (stop !)) (look ! 19 refl)) (and-then ! (load ! (from ! (stop !)) (look ! 18 refl)) (and-then ! (load ! (from ! (stop !)) (look ! 13 refl)) (no-more !))))))))) (λ z1.
+        use1 W (later (some (λ (r1 : ℕ). ((‵ (flft (ν1c ∷ []) fullShare) ⊛ ‵ (flft κ₀ q₀) ⊛ ‵ (flft (ν1h ∷ []) fullShare) ⊛ ‵ ftrue) ⊛ ‵ (u32 .own r1 (z1 ∷ []))) ⊛ some (λ (ws : Lasts g1.ended ((ν1c ∷ []), (κ₀, ((ν1h ∷ []), tt))) (n1, (n2, (record { ptr = (l₁₀, 0); name = δ1c; now = (take n4 (n3)) }, (s5, (n6, (n7, (n8, (ref9 δ1h (ys9), tt))))))))). ‵ (lasts g1.ended ((ν1c ∷ []), (κ₀, ((ν1h ∷ []), tt))) (n1, (n2, (record { ptr = (l₁₀, 0); name = δ1c; now = (take n4 (n3)) }, (s5, (n6, (n7, (n8, (ref9 δ1h (ys9), tt)))))))) ws) ⊛ raw (g1.clauses 𝓤 H A at-mem run ((ν1c ∷ []), (κ₀, ((ν1h ∷ []), tt))) (n1, (n2, (record { ptr = (l₁₀, 0); name = δ1c; now = (take n4 (n3)) }, (s5, (n6, (n7, (n8, (ref9 δ1h (ys9), tt)))))))) .ensures tt r1 (atExit g1.ended ((ν1c ∷ []), (κ₀, ((ν1h ∷ []), tt))) (n1, (n2, (record { ptr = (l₁₀, 0); name = δ1c; now = (take n4 (n3)) }, (s5, (n6, (n7, (n8, (ref9 δ1h (ys9), tt)))))))) ws)))))) (id⊢ 𝓤 _) $ await ! tt $ pick ! (λ r1. split ! $ move ! (1 ∷ []) $ pick ! (λ ws1. split ! $ move ! (1 ∷ []) $ heard ! _ (λ e1.
+        fsplit ! $ drop ! $ fsplit ! $ drop ! $ fsplit ! $ drop ! $ fsplit ! $ drop ! $ fsplit ! $ drop ! $ fsplit ! $ drop ! $ fsplit ! $ drop ! $ fsplit ! $ fsplit ! $ move ! (1 ∷ []) $ feqL ! (λ same1h. move ! (1 ∷ []) $ drop ! $ move ! (1 ∷ []) $ split ! $ move ! (1 ∷ []) $ peeks ! u32 (Is u32) (shows 𝓤 H A u32) r1 (z1 ∷ []) (λ i1. drop ! $ land ! (from ! (stop !)) (init ! 27 refl (uint-lawful 𝓤 H A W w32 .typed r1 _ i1 .0)) $
+        tidy W (_ ∷ _ ∷ _ ∷ _ ∷ _ ∷ _ ∷ _ ∷ _ ∷ _ ∷ _ ∷ _ ∷ _ ∷ _ ∷ _ ∷ _ ∷ _ ∷ _ ∷ _ ∷ _ ∷ _ ∷ _ ∷ _ ∷ _ ∷ _ ∷ _ ∷ _ ∷ _ ∷ _ ∷ []) $ split ! $ move ! (1 ∷ []) $ split ! $ move ! (1 ∷ []) $ split ! $ move ! (1 ∷ []) $ drop ! $ move ! (2 ∷ []) $ lft-end ! tt $ move ! (0 ∷ 6 ∷ []) $ lent-back ! tt $ fsplit ! $ drop ! $ move ! (0 ∷ 6 ∷ []) $ use2 W (‵ (parts (mem mEntry.the-row) (shares mEntry.the-row) fullShare (n3) l₁₀ 0)) (mend 𝓤 H A mEntry.the-row fullShare n4 (n3) l₁₀ 0) $ feqI ! ℕ (length (n3)) 64 ln1c $ fjoin ! $ use1 W (‵ (partAt (Array mEntry.the-row 64) fullShare (n3) l₁₀ 0)) (array-whole 𝓤 H A W mEntry.the-row fullShare 64 (n3) l₁₀ 0) $
+        out ! (Array mEntry.the-row 64) fullShare (n3) l₁₀ 0 (λ vs. spelt ! (Array mEntry.the-row 64) (Is (Array mEntry.the-row 64)) (shows 𝓤 H A (Array mEntry.the-row 64)) (array-vals (LL.vals mEntry.the-type lEntry.the-laws)) (array-tells mEntry.the-row (LL.vals mEntry.the-type lEntry.the-laws) (LL.tells mEntry.the-type lEntry.the-laws) 64) fullShare (n3) vs l₁₀ 0 $ move ! (1 ∷ []) $ peeks ! (Array mEntry.the-row 64) (Is (Array mEntry.the-row 64)) (shows 𝓤 H A (Array mEntry.the-row 64)) (n3) (array-val (LL.vals mEntry.the-type lEntry.the-laws) (n3) ∷ []) (λ w1c. drop ! $ use1 W (‵ (fat fullShare (tyArray (lEntry.mir) 64) l₁₀ 0 (array-val (LL.vals mEntry.the-type lEntry.the-laws) (n3)))) (W .laws .raw-at fullShare (tyArray (lEntry.mir) 64) l₁₀ 0 (array-val (LL.vals mEntry.the-type lEntry.the-laws) (n3))) $
+        move ! (1 ∷ []) $ lft-end ! tt $ move ! (0 ∷ 4 ∷ 3 ∷ []) $ use3 W (later (‵ (O9 (ws1 .1 .1 .1 .1 .1 .1 .1 .0)) ⊛ ‵ (flft κ₁ q₁))) (backs9 (named 2) ν1h δ1h (ys9) (ws1 .1 .1 .1 .1 .1 .1 .1 .0) (refl) room9 same1h) $ await ! tt $ split ! $
+        tidy W (_ ∷ _ ∷ _ ∷ _ ∷ _ ∷ _ ∷ _ ∷ _ ∷ _ ∷ _ ∷ _ ∷ _ ∷ _ ∷ _ ∷ _ ∷ _ ∷ _ ∷ _ ∷ _ ∷ _ ∷ _ ∷ _ ∷ _ ∷ _ ∷ _ ∷ _ ∷ _ ∷ []) $ returns ! (look ! 26 refl) $ move ! (0 ∷ 1 ∷ 3 ∷ 4 ∷ 5 ∷ 6 ∷ 7 ∷ 8 ∷ 9 ∷ 10 ∷ 11 ∷ 12 ∷ 13 ∷ 14 ∷ 15 ∷ 16 ∷ 2 ∷ 17 ∷ 18 ∷ 19 ∷ 20 ∷ 21 ∷ 22 ∷ 23 ∷ 24 ∷ 25 ∷ 26 ∷ []) $ move ! (11 ∷ []) $ use1 W (dies ((tyInt w32, l₀) ∷ (tyInt w64, l₁) ∷ (tyInt w64, l₂) ∷ (tyArray (lEntry.mir) 64, l₃) ∷ (tyInt w64, l₄) ∷ (sliceTy (tyRef (named 0) imm (tyInt w64)), l₅) ∷ (tyInt w64, l₆) ∷ (tyInt w64, l₇) ∷ (tyInt w64, l₈) ∷ (sliceTy (tyRef (named 1) mut (tyInt w64)), l₉) ∷ (tyArray (lEntry.mir) 64, l₁₀) ∷ (tyRef erased imm (pointee ((Array mEntry.the-row 64) .written)), l₁₁) ∷ (sliceTy (tyRef erased imm (pointee (mEntry.the-row .written))), l₁₂) ∷ (tyRef erased mut (tyInt w64), l₁₃) ∷ (sliceTy (tyRef erased mut (tyInt w64)), l₁₄) ∷ []) (‵ ftrue)) die $ free-all ! 11 ((tyInt w32, l₀) ∷ (tyInt w64, l₁) ∷ (tyInt w64, l₂) ∷ (tyArray (lEntry.mir) 64, l₃) ∷ (tyInt w64, l₄) ∷ (sliceTy (tyRef (named 0) imm (tyInt w64)), l₅) ∷ (tyInt w64, l₆) ∷ (tyInt w64, l₇) ∷ (tyInt w64, l₈) ∷ (sliceTy (tyRef (named 1) mut (tyInt w64)), l₉) ∷ (tyArray (lEntry.mir) 64, l₁₀) ∷ (tyRef erased imm (pointee ((Array mEntry.the-row 64) .written)), l₁₁) ∷ (sliceTy (tyRef erased imm (pointee (mEntry.the-row .written))), l₁₂) ∷ (tyRef erased mut (tyInt w64), l₁₃) ∷ (sliceTy (tyRef erased mut (tyInt w64)), l₁₄) ∷ []) (kept _ ∷ kept _ ∷ kept _ ∷ kept _ ∷ kept _ ∷ kept _ ∷ kept _ ∷ kept _ ∷ kept _ ∷ kept _ ∷ kept _ ∷ kept _ ∷ kept _ ∷ kept _ ∷ kept _ ∷ []) refl $
+        suffices ! _ (ends-at 𝓤 H A f.ended stayed (f.clauses 𝓤 H A at-mem run) W (((κ₀, (κ₁, tt)), (q₀, (q₁, tt)), tt, a, at), tt) z1 r1 (tt, (tt, (tt, (tt, (tt, (tt, (tt, (tt, (ws1 .1 .1 .1 .1 .1 .1 .1 .0, tt))))))))) (tt, (tt, (tt, (tt, (tt, (tt, (tt, (tt, (same1h, tt)))))))))) $ says ! (e1) $
         nothing ! $ move ! (2 ∷ 0 ∷ []) $ join ! $ move ! (2 ∷ 0 ∷ []) $ join ! $ nothing ! $ move ! (2 ∷ 0 ∷ []) $ fjoin ! $ move ! (3 ∷ 0 ∷ []) $ fjoin ! $ move ! (3 ∷ 0 ∷ []) $ fjoin ! $ move ! (3 ∷ 0 ∷ []) $ fjoin ! $ move ! (2 ∷ 0 ∷ []) $ fjoin ! $ move ! (2 ∷ 0 ∷ []) $ fjoin ! $ move ! (2 ∷ 0 ∷ []) $ fjoin ! $ move ! (2 ∷ 0 ∷ []) $ fjoin ! $ move ! (2 ∷ 0 ∷ []) $ fjoin ! $ keep ! (1 ∷ 0 ∷ []) $ frame ! $ frame ! $ owned ! u32 (Is u32) (uint-makes 𝓤 H A W w32) r1 _ i1 $ done !)))))))))))))))))))))))))))))
 
 module _ {M : Type 1} (𝓤 : URA M) (H : Heap 𝓤) (A : Atoms 𝓤) (W : Given 𝓤 H A) (mem : Memory → SProp 𝓤) (run : Routine → Fun 𝓤) where

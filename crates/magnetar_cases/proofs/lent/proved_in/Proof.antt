@@ -92,7 +92,6 @@ is-no : (t : Bool) → Trueᴮ (not t) → t ≡ false
 is-no true a = absurd a
 is-no false _ = refl
 
-
 abbrev stayed : Stays (f.ended .signature .params) (f.ended .kept)
 stayed = (stay-none (λ _. mTranscript.the-row) yes, (stay-slice (0 ∷ []) tt (plain (λ _. u64)), (stay-slice (1 ∷ []) tt (plain (λ _. u64)), (stay-slice (2 ∷ []) tt (plain (λ _. u64)), (stay-none (λ _. u64) yes, (stay-none (λ _. u64) yes, (stay-none-slice (3 ∷ []) tt (plain (λ _. u64)) yes, (stay-none (λ _. u64) yes, (stay-none (λ _. u64) yes, (stay-none-slice (4 ∷ []) tt (plain (λ _. mEntry.the-row)) yes, (stay-none (λ _. u64) yes, (stay-none (λ _. u64) yes, (stay-none-slice (5 ∷ []) tt (plain (λ _. mEntry.the-row)) yes, (stay-none (λ _. u64) yes, (stay-none (λ _. u64) yes, (stay-none-slice (6 ∷ []) tt (plain (λ _. mEntry.the-row)) yes, (stay-none (λ _. u64) yes, (stay-none (λ _. u64) yes, (stay-none (λ _. (Array mEntry.the-row 64)) yes, (stay-none (λ _. u64) yes, (stay-none (λ _. u64) yes, (stay-none (λ _. (Array mEntry.the-row 64)) yes, (stay-none (λ _. u64) yes, (stay-none (λ _. u64) yes, (stay-none (λ _. (Array mEntry.the-row 64)) yes, (stay-none-slice (7 ∷ []) tt (plain (λ _. u64)) yes, (stay-none-slice (8 ∷ []) tt (plain (λ _. u64)) yes, (stay-none (λ _. u64) yes, (stay-none (λ _. u64) yes, (stay-none (λ _. u64) yes, tt))))))))))))))))))))))))))))))
 
@@ -284,72 +283,68 @@ module _ {M : Type 1} (𝓤 : URA M) (H : Heap 𝓤) (A : Atoms 𝓤) (W : Given
     walk : ((n28 ≤ 64) × (n29 ≤ 64) × (n30 ≤ 64)) → ent 𝓤 (onEntry 𝓤 H A f.signature (κ₀, (κ₁, (κ₂, (κ₃, (κ₄, (κ₅, (κ₆, (κ₇, (κ₈, tt))))))))) (q₀, (q₁, (q₂, (q₃, (q₄, (q₅, (q₆, (q₇, (q₈, tt))))))))) a at) (WpFn 𝓤 H C Λ code.function (v1 ∷ v2 ∷ v3 ∷ v4 ∷ v5 ∷ v6 ∷ v7 ∷ v8 ∷ v9 ∷ v10 ∷ v11 ∷ v12 ∷ v13 ∷ v14 ∷ v15 ∷ v16 ∷ v17 ∷ v18 ∷ v19 ∷ v20 ∷ v21 ∷ v22 ∷ v23 ∷ v24 ∷ v25 ∷ v26 ∷ v27 ∷ v28 ∷ v29 ∷ v30 ∷ []) Post)
     walk pre =
         qed W ((‵ (flft κ₀ q₀) ⊛ ‵ (flft κ₁ q₁) ⊛ ‵ (flft κ₂ q₂) ⊛ ‵ (flft κ₃ q₃) ⊛ ‵ (flft κ₄ q₄) ⊛ ‵ (flft κ₅ q₅) ⊛ ‵ (flft κ₆ q₆) ⊛ ‵ (flft κ₇ q₇) ⊛ ‵ (flft κ₈ q₈) ⊛ ‵ ftrue) ∷ ‵ (owns (mTranscript.the-row ∷ MutSlice (named 0) κ₀ u64 ∷ MutSlice (named 1) κ₁ u64 ∷ MutSlice (named 2) κ₂ u64 ∷ u64 ∷ u64 ∷ ShrSlice (named 3) κ₃ u64 ∷ u64 ∷ u64 ∷ ShrSlice (named 4) κ₄ mEntry.the-row ∷ u64 ∷ u64 ∷ ShrSlice (named 5) κ₅ mEntry.the-row ∷ u64 ∷ u64 ∷ ShrSlice (named 6) κ₆ mEntry.the-row ∷ u64 ∷ u64 ∷ (Array mEntry.the-row 64) ∷ u64 ∷ u64 ∷ (Array mEntry.the-row 64) ∷ u64 ∷ u64 ∷ (Array mEntry.the-row 64) ∷ ShrSlice (named 7) κ₇ u64 ∷ ShrSlice (named 8) κ₈ u64 ∷ u64 ∷ u64 ∷ u64 ∷ []) a at) ∷ []) ∵ enter ! C Λ code.function (v1 ∷ v2 ∷ v3 ∷ v4 ∷ v5 ∷ v6 ∷ v7 ∷ v8 ∷ v9 ∷ v10 ∷ v11 ∷ v12 ∷ v13 ∷ v14 ∷ v15 ∷ v16 ∷ v17 ∷ v18 ∷ v19 ∷ v20 ∷ v21 ∷ v22 ∷ v23 ∷ v24 ∷ v25 ∷ v26 ∷ v27 ∷ v28 ∷ v29 ∷ v30 ∷ []) _ $
-        nothing ! $ alloc ! (λ l₀. alloc ! (λ l₁. alloc ! (λ l₂. alloc ! (λ l₃. alloc ! (λ l₄. alloc ! (λ l₅. alloc ! (λ l₆. alloc ! (λ l₇. alloc ! (λ l₈. alloc ! (λ l₉. alloc ! (λ l₁₀. alloc ! (λ l₁₁. alloc ! (λ l₁₂. alloc ! (λ l₁₃. alloc ! (λ l₁₄. alloc ! (λ l₁₅. alloc ! (λ l₁₆. alloc ! (λ l₁₇. alloc ! (λ l₁₈. alloc ! (λ l₁₉. alloc ! (λ l₂₀. alloc ! (λ l₂₁. alloc ! (λ l₂₂. alloc ! (λ l₂₃. alloc ! (λ l₂₄. alloc ! (λ l₂₅. alloc ! (λ l₂₆. alloc ! (λ l₂₇. alloc ! (λ l₂₈. alloc ! (λ l₂₉. alloc ! (λ l₃₀. alloc ! (λ l₃₁. alloc ! (λ l₃₂. alloc ! (λ l₃₃. alloc ! (λ l₃₄. alloc ! (λ l₃₅. alloc ! (λ l₃₆. alloc ! (λ l₃₇. alloc ! (λ l₃₈. alloc ! (λ l₃₉. alloc ! (λ l₄₀. alloc ! (λ l₄₁. alloc ! (λ l₄₂. alloc ! (λ l₄₃. alloc ! (λ l₄₄. alloc ! (λ l₄₅. alloc ! (λ l₄₆. alloc ! (λ l₄₇. alloc ! (λ l₄₈. alloc ! (λ l₄₉. alloc0 ! $ hide ! (λ died die. params1 ! $ pass1 ! (init ! 49 refl (LL.lawful mTranscript.the-type lTranscript.the-laws 𝓤 H A W .typed n1 _ w1 .0)) $ pass1 ! (init ! 48 refl (tt, (tt, (record { fits = room2 .0 }, tt)))) $ pass1 ! (init ! 47 refl (tt, (tt, (record { fits = room3 .0 }, tt)))) $ pass1 ! (init ! 46 refl (tt, (tt, (record { fits = room4 .0 }, tt)))) $ pass1 ! (init ! 45 refl (uint-lawful 𝓤 H A W w64 .typed n5 _ w5 .0)) $ pass1 ! (init ! 44 refl (uint-lawful 𝓤 H A W w64 .typed n6 _ w6 .0)) $ pass1 ! (init ! 43 refl (shr-slice-lawful 𝓤 H A W (named 3) κ₃ u64 .typed s7 (v7 ∷ []) w7 .0)) $ pass1 ! (init ! 42 refl (uint-lawful 𝓤 H A W w64 .typed n8 _ w8 .0)) $ pass1 ! (init ! 41 refl (uint-lawful 𝓤 H A W w64 .typed n9 _ w9 .0)) $ pass1 ! (init ! 40 refl (shr-slice-lawful 𝓤 H A W (named 4) κ₄ mEntry.the-row .typed s10 (v10 ∷ []) w10 .0)) $ pass1 ! (init ! 39 refl (uint-lawful 𝓤 H A W w64 .typed n11 _ w11 .0)) $ pass1 ! (init ! 38 refl (uint-lawful 𝓤 H A W w64 .typed n12 _ w12 .0)) $ pass1 ! (init ! 37 refl (shr-slice-lawful 𝓤 H A W (named 5) κ₅ mEntry.the-row .typed s13 (v13 ∷ []) w13 .0)) $ pass1 ! (init ! 36 refl (uint-lawful 𝓤 H A W w64 .typed n14 _ w14 .0)) $ pass1 ! (init ! 35 refl (uint-lawful 𝓤 H A W w64 .typed n15 _ w15 .0)) $ pass1 ! (init ! 34 refl (shr-slice-lawful 𝓤 H A W (named 6) κ₆ mEntry.the-row .typed s16 (v16 ∷ []) w16 .0)) $ pass1 ! (init ! 33 refl (uint-lawful 𝓤 H A W w64 .typed n17 _ w17 .0)) $ pass1 ! (init ! 32 refl (uint-lawful 𝓤 H A W w64 .typed n18 _ w18 .0)) $ pass1 ! (init ! 31 refl (array-lawful 𝓤 H A W mEntry.the-row (LL.lawful mEntry.the-type lEntry.the-laws 𝓤 H A W) 64 .typed n19 _ w19 .0)) $ pass1 ! (init ! 30 refl (uint-lawful 𝓤 H A W w64 .typed n20 _ w20 .0)) $ pass1 ! (init ! 29 refl (uint-lawful 𝓤 H A W w64 .typed n21 _ w21 .0)) $ pass1 ! (init ! 28 refl (array-lawful 𝓤 H A W mEntry.the-row (LL.lawful mEntry.the-type lEntry.the-laws 𝓤 H A W) 64 .typed n22 _ w22 .0)) $ pass1 ! (init ! 27 refl (uint-lawful 𝓤 H A W w64 .typed n23 _ w23 .0)) $ pass1 ! (init ! 26 refl (uint-lawful 𝓤 H A W w64 .typed n24 _ w24 .0)) $ pass1 ! (init ! 25 refl (array-lawful 𝓤 H A W mEntry.the-row (LL.lawful mEntry.the-type lEntry.the-laws 𝓤 H A W) 64 .typed n25 _ w25 .0)) $ pass1 ! (init ! 24 refl (shr-slice-lawful 𝓤 H A W (named 7) κ₇ u64 .typed s26 (v26 ∷ []) w26 .0)) $ pass1 ! (init ! 23 refl (shr-slice-lawful 𝓤 H A W (named 8) κ₈ u64 .typed s27 (v27 ∷ []) w27 .0)) $ pass1 ! (init ! 22 refl (uint-lawful 𝓤 H A W w64 .typed n28 _ w28 .0)) $ pass1 ! (init ! 21 refl (uint-lawful 𝓤 H A W w64 .typed n29 _ w29 .0)) $ pass1 ! (init ! 20 refl (uint-lawful 𝓤 H A W w64 .typed n30 _ w30 .0)) $ pass0 ! $ 
-        move ! (52 ∷ []) $ fsplit ! $ move ! (1 ∷ []) $ fsplit ! $ move ! (1 ∷ []) $ fsplit ! $ move ! (1 ∷ []) $ fsplit ! $ move ! (1 ∷ []) $ fsplit ! $ move ! (1 ∷ []) $ fsplit ! $ move ! (1 ∷ []) $ fsplit ! $ move ! (1 ∷ []) $ fsplit ! $ move ! (1 ∷ []) $ fsplit ! $ move ! (1 ∷ []) $ fsplit ! $ move ! (1 ∷ []) $ fsplit ! $ move ! (1 ∷ []) $ fsplit ! $ move ! (1 ∷ []) $ fsplit ! $ move ! (1 ∷ []) $ fsplit ! $ move ! (1 ∷ []) $ fsplit ! $ move ! (1 ∷ []) $ fsplit ! $ move ! (1 ∷ []) $ fsplit ! $ move ! (1 ∷ []) $ fsplit ! $ move ! (1 ∷ []) $ fsplit ! $ move ! (1 ∷ []) $ fsplit ! $ move ! (1 ∷ []) $ fsplit ! $ move ! (1 ∷ []) $ fsplit ! $ move ! (1 ∷ []) $ fsplit ! $ move ! (1 ∷ []) $ fsplit ! $ move ! (1 ∷ []) $ fsplit ! $ move ! (1 ∷ []) $ fsplit ! $ move ! (1 ∷ []) $ fsplit ! $ move ! (1 ∷ []) $ fsplit ! $ move ! (1 ∷ []) $ fsplit ! $ move ! (1 ∷ []) $ fsplit ! $ move ! (1 ∷ []) $ drop ! $ move ! (81 ∷ []) $ split ! $ move ! (1 ∷ []) $ split ! $ move ! (1 ∷ []) $ split ! $ move ! (1 ∷ []) $ split ! $ move ! (1 ∷ []) $ split ! $ move ! (1 ∷ []) $ split ! $ move ! (1 ∷ []) $ split ! $ move ! (1 ∷ []) $ split ! $ move ! (1 ∷ []) $ split ! $ move ! (1 ∷ []) $ drop ! $ tidy W (_ ∷ _ ∷ _ ∷ _ ∷ _ ∷ _ ∷ _ ∷ _ ∷ _ ∷ _ ∷ _ ∷ _ ∷ _ ∷ _ ∷ _ ∷ _ ∷ _ ∷ _ ∷ _ ∷ _ ∷ _ ∷ _ ∷ _ ∷ _ ∷ _ ∷ _ ∷ _ ∷ _ ∷ _ ∷ _ ∷ _ ∷ _ ∷ _ ∷ _ ∷ _ ∷ _ ∷ _ ∷ _ ∷ _ ∷ _ ∷ _ ∷ _ ∷ _ ∷ _ ∷ _ ∷ _ ∷ _ ∷ _ ∷ _ ∷ _ ∷ _ ∷ _ ∷ _ ∷ _ ∷ _ ∷ _ ∷ _ ∷ _ ∷ _ ∷ _ ∷ _ ∷ _ ∷ _ ∷ _ ∷ _ ∷ _ ∷ _ ∷ _ ∷ _ ∷ _ ∷ _ ∷ _ ∷ _ ∷ _ ∷ _ ∷ _ ∷ _ ∷ _ ∷ _ ∷ _ ∷ _ ∷ _ ∷ _ ∷ _ ∷ _ ∷ _ ∷ _ ∷ _ ∷ _ ∷ _ ∷ []) $ 
-        assigns ! (of-opd ! (load ! (from ! (stop !)) (look ! 70 refl))) (from ! (stop !)) (init ! 58 refl (array-lawful 𝓤 H A W mEntry.the-row (LL.lawful mEntry.the-type lEntry.the-laws 𝓤 H A W) 64 .typed n19 _ w19 .0)) $ 
-        assigns ! (of-opd ! (load ! (from ! (stop !)) (look ! 67 refl))) (from ! (stop !)) (init ! 57 refl (array-lawful 𝓤 H A W mEntry.the-row (LL.lawful mEntry.the-type lEntry.the-laws 𝓤 H A W) 64 .typed n22 _ w22 .0)) $ 
-        assigns ! (of-opd ! (load ! (from ! (stop !)) (look ! 64 refl))) (from ! (stop !)) (init ! 56 refl (array-lawful 𝓤 H A W mEntry.the-row (LL.lawful mEntry.the-type lEntry.the-laws 𝓤 H A W) 64 .typed n25 _ w25 .0)) $ 
-        assigns ! (of-opd ! (load ! (from ! (stop !)) (look ! 88 refl))) (from ! (stop !)) (init ! 55 refl (LL.lawful mTranscript.the-type lTranscript.the-laws 𝓤 H A W .typed n1 _ w1 .0)) $ 
-        assigns ! (addr ! (from ! (stop !))) (from ! (stop !)) (init ! 53 refl (tt, tt)) $ 
-        assigns ! (addr ! (from ! (fld ! refl (hop ! (look-in ! 87 (sub ! 0 refl (whole !))) (stop !))))) (from ! (stop !)) (init ! 52 refl (tt, tt)) $ 
-        assigns ! (agg ! (and-then ! (load ! (from ! (stop !)) (look ! 52 refl)) (and-then ! (load ! (from ! (fld ! refl (stop !))) (look-in ! 87 (sub ! 1 refl (whole !)))) (no-more !)))) (from ! (stop !)) (init ! 51 refl (tt, (tt, (record { fits = room2 .0 }, tt)))) $ 
-        assigns ! (addr ! (from ! (fld ! refl (hop ! (look-in ! 86 (sub ! 0 refl (whole !))) (stop !))))) (from ! (stop !)) (init ! 50 refl (tt, tt)) $ 
-        assigns ! (agg ! (and-then ! (load ! (from ! (stop !)) (look ! 50 refl)) (and-then ! (load ! (from ! (fld ! refl (stop !))) (look-in ! 86 (sub ! 1 refl (whole !)))) (no-more !)))) (from ! (stop !)) (init ! 49 refl (tt, (tt, (record { fits = room3 .0 }, tt)))) $ 
-        assigns ! (addr ! (from ! (fld ! refl (hop ! (look-in ! 85 (sub ! 0 refl (whole !))) (stop !))))) (from ! (stop !)) (init ! 48 refl (tt, tt)) $ 
-        assigns ! (agg ! (and-then ! (load ! (from ! (stop !)) (look ! 48 refl)) (and-then ! (load ! (from ! (fld ! refl (stop !))) (look-in ! 85 (sub ! 1 refl (whole !)))) (no-more !)))) (from ! (stop !)) (init ! 47 refl (tt, (tt, (record { fits = room4 .0 }, tt)))) $ 
-        assigns ! (addr ! (from ! (stop !))) (from ! (stop !)) (init ! 46 refl (tt, tt)) $ 
-        rewrite ! 61 (λ (w : Val). ‵ (fat fullShare (tyInt w64) l₂₈ 0 w)) (ap only (w28 .0)) refl $ assigns ! (agg ! (and-then ! (load ! (from ! (stop !)) (look ! 46 refl)) (and-then ! (load ! (from ! (stop !)) (look ! 61 refl)) (no-more !)))) (from ! (stop !)) (init ! 45 refl (tt, (tt, (record { fits = w28 .1 }, tt)))) $ 
-        assigns ! (addr ! (from ! (stop !))) (from ! (stop !)) (init ! 44 refl (tt, tt)) $ 
-        rewrite ! 60 (λ (w : Val). ‵ (fat fullShare (tyInt w64) l₂₉ 0 w)) (ap only (w29 .0)) refl $ assigns ! (agg ! (and-then ! (load ! (from ! (stop !)) (look ! 44 refl)) (and-then ! (load ! (from ! (stop !)) (look ! 60 refl)) (no-more !)))) (from ! (stop !)) (init ! 43 refl (tt, (tt, (record { fits = w29 .1 }, tt)))) $ 
-        assigns ! (addr ! (from ! (stop !))) (from ! (stop !)) (init ! 42 refl (tt, tt)) $ 
-        rewrite ! 59 (λ (w : Val). ‵ (fat fullShare (tyInt w64) l₃₀ 0 w)) (ap only (w30 .0)) refl $ assigns ! (agg ! (and-then ! (load ! (from ! (stop !)) (look ! 42 refl)) (and-then ! (load ! (from ! (stop !)) (look ! 59 refl)) (no-more !)))) (from ! (stop !)) (init ! 41 refl (tt, (tt, (record { fits = w30 .1 }, tt)))) $ 
-        
-        lft-new ! tt (λ ν1a. owned ! mTranscript.the-row (Is mTranscript.the-row) (LL.makes mTranscript.the-type lTranscript.the-plain 𝓤 H A) (n1) _ w1 $ move ! (57 ∷ 0 ∷ []) $ use1 W (‵ (cellAt fullShare (mTranscript.the-row .mir) (u1 ∷ []) l₃₄ 0)) (W .laws .at-raw fullShare (lTranscript.mir) l₃₄ 0 (u1)) $ into ! mTranscript.the-row fullShare (n1) (u1 ∷ []) l₃₄ 0 $ 
-        use1 W (later (some (λ (δ : GName). ‵ (MutRef (named 0) (ν1a ∷ []) mTranscript.the-row .own (record { ptr = (l₃₄, 0); name = δ; now = n1 }) (vptr l₃₄ 0 ∷ [])) ⊛ ‵ (flent (ν1a ∷ []) (Body (mem mTranscript.the-row) l₃₄ 0 δ))))) (lends-ref 𝓤 H A W mTranscript.the-row (named 0) (ν1a ∷ []) (n1) l₃₄ 0) $ await ! tt $ pick ! (λ δ1a. split ! $ 
-        
-        lft-new ! tt (λ ν1b. move ! (41 ∷ 12 ∷ []) $ use2 W (later (some (λ (δ : GName). ‵ (MutSlice (named 1) (ν1b ∷ []) u64 .own (ref2 δ (ys2)) (v2 ∷ [])) ⊛ ‵ (Lent2 ν1b δ (ys2))))) (lends2 (named 1) ν1b (ys2) (refl)) $ await ! tt $ pick ! (λ δ1b. split ! $ 
-        lft-new ! tt (λ ν1c. move ! (42 ∷ 14 ∷ []) $ use2 W (later (some (λ (δ : GName). ‵ (MutSlice (named 2) (ν1c ∷ []) u64 .own (ref3 δ (ys3)) (v3 ∷ [])) ⊛ ‵ (Lent3 ν1c δ (ys3))))) (lends3 (named 2) ν1c (ys3) (refl)) $ await ! tt $ pick ! (λ δ1c. split ! $ 
-        lft-new ! tt (λ ν1d. move ! (43 ∷ 16 ∷ []) $ use2 W (later (some (λ (δ : GName). ‵ (MutSlice (named 3) (ν1d ∷ []) u64 .own (ref4 δ (ys4)) (v4 ∷ [])) ⊛ ‵ (Lent4 ν1d δ (ys4))))) (lends4 (named 3) ν1d (ys4) (refl)) $ await ! tt $ pick ! (λ δ1d. split ! $ move ! (41 ∷ []) $ use1 W (‵ (O7) ⊛ ‵ (O7)) (shr-slice-copy 𝓤 H A W (named 3) κ₃ u64 .twice s7 (v7 ∷ [])) $ split ! $ move ! (40 ∷ []) $ use1 W (‵ (O10) ⊛ ‵ (O10)) (shr-slice-copy 𝓤 H A W (named 4) κ₄ mEntry.the-row .twice s10 (v10 ∷ [])) $ split ! $ move ! (39 ∷ []) $ use1 W (‵ (O13) ⊛ ‵ (O13)) (shr-slice-copy 𝓤 H A W (named 5) κ₅ mEntry.the-row .twice s13 (v13 ∷ [])) $ split ! $ move ! (38 ∷ []) $ use1 W (‵ (O16) ⊛ ‵ (O16)) (shr-slice-copy 𝓤 H A W (named 6) κ₆ mEntry.the-row .twice s16 (v16 ∷ [])) $ split ! $ 
-        lft-new ! tt (λ ν1s. owned ! (Array mEntry.the-row 64) (Is (Array mEntry.the-row 64)) (array-makes 𝓤 H A W mEntry.the-row (LL.makes mEntry.the-type lEntry.the-plain 𝓤 H A) 64) (n19) _ w19 $ move ! (69 ∷ 0 ∷ []) $ use1 W (‵ (cellAt fullShare ((Array mEntry.the-row 64) .mir) (u19 ∷ []) l₃₁ 0)) (W .laws .at-raw fullShare (tyArray (lEntry.mir) 64) l₃₁ 0 (u19)) $ into ! (Array mEntry.the-row 64) fullShare (n19) (u19 ∷ []) l₃₁ 0 $ 
-        use1 W (‵ (arr-parts (shares mEntry.the-row) 64 .part fullShare (n19) l₃₁ 0)) (array-apart 𝓤 H A W mEntry.the-row fullShare tt 64 (n19) l₃₁ 0) $ fsplit ! $ feqL ! (λ ln1s. 
-        use1 W (‵ (parts (mem mEntry.the-row) (shares mEntry.the-row) fullShare (take n28 (n19)) l₃₁ 0) ⊛ ‵ (rest mEntry.the-row fullShare n28 (n19) l₃₁ 0)) (cut 𝓤 H A mEntry.the-row fullShare n28 (n19) l₃₁ 0) $ split ! $ feqI ! ℕ (length (take n28 (n19))) (length (take n28 (n19))) refl $ fjoin ! $ 
-        use1 W (later (some (λ (δ : GName). ‵ (ShrSlice (named 8) (ν1s ∷ []) mEntry.the-row .own (record { ptr = (l₃₁, 0); name = δ; now = (take n28 (n19)) }) (sliceVal (l₃₁, 0) (length (take n28 (n19))) ∷ [])) ⊛ ‵ (flent (ν1s ∷ []) (arr-parts (shares mEntry.the-row) (length (take n28 (n19))) .part fullShare (take n28 (n19)) l₃₁ 0))))) (lends-shr-slice 𝓤 H A W mEntry.the-row (named 8) (ν1s ∷ []) fullShare (take n28 (n19)) l₃₁ 0 (subst (Room mEntry.the-row) (sym (length-take-le n28 (n19) (subst (λ (m : ℕ). n28 ≤ m) (sym ln1s) (pre .0)))) (room-of mEntry.the-row n28 64 (pre .0) (lit< tt, lit< tt)))) $ await ! tt $ pick ! (λ δ1s. split ! $ rewrite ! 0 (λ (m : ℕ). ‵ (ShrSlice (named 8) (ν1s ∷ []) mEntry.the-row .own (record { ptr = (l₃₁, 0); name = δ1s; now = (take n28 (n19)) }) (sliceVal (l₃₁, 0) m ∷ []))) (length-take-le n28 (n19) (subst (λ (m : ℕ). n28 ≤ m) (sym ln1s) (pre .0))) refl $ 
-        
-        lft-new ! tt (λ ν1v. owned ! (Array mEntry.the-row 64) (Is (Array mEntry.the-row 64)) (array-makes 𝓤 H A W mEntry.the-row (LL.makes mEntry.the-type lEntry.the-plain 𝓤 H A) 64) (n22) _ w22 $ move ! (72 ∷ 0 ∷ []) $ use1 W (‵ (cellAt fullShare ((Array mEntry.the-row 64) .mir) (u22 ∷ []) l₃₂ 0)) (W .laws .at-raw fullShare (tyArray (lEntry.mir) 64) l₃₂ 0 (u22)) $ into ! (Array mEntry.the-row 64) fullShare (n22) (u22 ∷ []) l₃₂ 0 $ 
-        use1 W (‵ (arr-parts (shares mEntry.the-row) 64 .part fullShare (n22) l₃₂ 0)) (array-apart 𝓤 H A W mEntry.the-row fullShare tt 64 (n22) l₃₂ 0) $ fsplit ! $ feqL ! (λ ln1v. 
-        use1 W (‵ (parts (mem mEntry.the-row) (shares mEntry.the-row) fullShare (take n29 (n22)) l₃₂ 0) ⊛ ‵ (rest mEntry.the-row fullShare n29 (n22) l₃₂ 0)) (cut 𝓤 H A mEntry.the-row fullShare n29 (n22) l₃₂ 0) $ split ! $ feqI ! ℕ (length (take n29 (n22))) (length (take n29 (n22))) refl $ fjoin ! $ 
-        use1 W (later (some (λ (δ : GName). ‵ (ShrSlice (named 9) (ν1v ∷ []) mEntry.the-row .own (record { ptr = (l₃₂, 0); name = δ; now = (take n29 (n22)) }) (sliceVal (l₃₂, 0) (length (take n29 (n22))) ∷ [])) ⊛ ‵ (flent (ν1v ∷ []) (arr-parts (shares mEntry.the-row) (length (take n29 (n22))) .part fullShare (take n29 (n22)) l₃₂ 0))))) (lends-shr-slice 𝓤 H A W mEntry.the-row (named 9) (ν1v ∷ []) fullShare (take n29 (n22)) l₃₂ 0 (subst (Room mEntry.the-row) (sym (length-take-le n29 (n22) (subst (λ (m : ℕ). n29 ≤ m) (sym ln1v) (pre .1)))) (room-of mEntry.the-row n29 64 (pre .1) (lit< tt, lit< tt)))) $ await ! tt $ pick ! (λ δ1v. split ! $ rewrite ! 0 (λ (m : ℕ). ‵ (ShrSlice (named 9) (ν1v ∷ []) mEntry.the-row .own (record { ptr = (l₃₂, 0); name = δ1v; now = (take n29 (n22)) }) (sliceVal (l₃₂, 0) m ∷ []))) (length-take-le n29 (n22) (subst (λ (m : ℕ). n29 ≤ m) (sym ln1v) (pre .1))) refl $ 
-        
-        lft-new ! tt (λ ν1y. owned ! (Array mEntry.the-row 64) (Is (Array mEntry.the-row 64)) (array-makes 𝓤 H A W mEntry.the-row (LL.makes mEntry.the-type lEntry.the-plain 𝓤 H A) 64) (n25) _ w25 $ move ! (75 ∷ 0 ∷ []) $ use1 W (‵ (cellAt fullShare ((Array mEntry.the-row 64) .mir) (u25 ∷ []) l₃₃ 0)) (W .laws .at-raw fullShare (tyArray (lEntry.mir) 64) l₃₃ 0 (u25)) $ into ! (Array mEntry.the-row 64) fullShare (n25) (u25 ∷ []) l₃₃ 0 $ 
-        use1 W (‵ (arr-parts (shares mEntry.the-row) 64 .part fullShare (n25) l₃₃ 0)) (array-apart 𝓤 H A W mEntry.the-row fullShare tt 64 (n25) l₃₃ 0) $ fsplit ! $ feqL ! (λ ln1y. 
-        use1 W (‵ (parts (mem mEntry.the-row) (shares mEntry.the-row) fullShare (take n30 (n25)) l₃₃ 0) ⊛ ‵ (rest mEntry.the-row fullShare n30 (n25) l₃₃ 0)) (cut 𝓤 H A mEntry.the-row fullShare n30 (n25) l₃₃ 0) $ split ! $ feqI ! ℕ (length (take n30 (n25))) (length (take n30 (n25))) refl $ fjoin ! $ 
-        use1 W (later (some (λ (δ : GName). ‵ (ShrSlice (named 10) (ν1y ∷ []) mEntry.the-row .own (record { ptr = (l₃₃, 0); name = δ; now = (take n30 (n25)) }) (sliceVal (l₃₃, 0) (length (take n30 (n25))) ∷ [])) ⊛ ‵ (flent (ν1y ∷ []) (arr-parts (shares mEntry.the-row) (length (take n30 (n25))) .part fullShare (take n30 (n25)) l₃₃ 0))))) (lends-shr-slice 𝓤 H A W mEntry.the-row (named 10) (ν1y ∷ []) fullShare (take n30 (n25)) l₃₃ 0 (subst (Room mEntry.the-row) (sym (length-take-le n30 (n25) (subst (λ (m : ℕ). n30 ≤ m) (sym ln1y) (pre .2)))) (room-of mEntry.the-row n30 64 (pre .2) (lit< tt, lit< tt)))) $ await ! tt $ pick ! (λ δ1y. split ! $ rewrite ! 0 (λ (m : ℕ). ‵ (ShrSlice (named 10) (ν1y ∷ []) mEntry.the-row .own (record { ptr = (l₃₃, 0); name = δ1y; now = (take n30 (n25)) }) (sliceVal (l₃₃, 0) m ∷ []))) (length-take-le n30 (n25) (subst (λ (m : ℕ). n30 ≤ m) (sym ln1y) (pre .2))) refl $ 
-        move ! (42 ∷ []) $ use1 W (‵ (O26) ⊛ ‵ (O26)) (shr-slice-copy 𝓤 H A W (named 7) κ₇ u64 .twice s26 (v26 ∷ [])) $ split ! $ move ! (43 ∷ []) $ use1 W (‵ (O27) ⊛ ‵ (O27)) (shr-slice-copy 𝓤 H A W (named 8) κ₈ u64 .twice s27 (v27 ∷ [])) $ split ! $ tidy W (_ ∷ _ ∷ _ ∷ _ ∷ _ ∷ _ ∷ _ ∷ _ ∷ _ ∷ _ ∷ _ ∷ _ ∷ _ ∷ _ ∷ _ ∷ _ ∷ _ ∷ _ ∷ _ ∷ _ ∷ _ ∷ _ ∷ _ ∷ _ ∷ _ ∷ _ ∷ _ ∷ _ ∷ _ ∷ _ ∷ _ ∷ _ ∷ _ ∷ _ ∷ _ ∷ _ ∷ _ ∷ _ ∷ _ ∷ _ ∷ _ ∷ _ ∷ _ ∷ _ ∷ _ ∷ _ ∷ _ ∷ _ ∷ _ ∷ _ ∷ _ ∷ _ ∷ _ ∷ _ ∷ _ ∷ _ ∷ _ ∷ _ ∷ _ ∷ _ ∷ _ ∷ _ ∷ _ ∷ _ ∷ _ ∷ _ ∷ _ ∷ _ ∷ _ ∷ _ ∷ _ ∷ _ ∷ _ ∷ _ ∷ _ ∷ _ ∷ _ ∷ _ ∷ _ ∷ _ ∷ _ ∷ _ ∷ _ ∷ _ ∷ _ ∷ _ ∷ _ ∷ _ ∷ _ ∷ _ ∷ _ ∷ _ ∷ _ ∷ _ ∷ _ ∷ _ ∷ _ ∷ _ ∷ _ ∷ _ ∷ _ ∷ _ ∷ _ ∷ _ ∷ _ ∷ _ ∷ _ ∷ _ ∷ _ ∷ _ ∷ []) $ nothing ! $ move ! (37 ∷ 0 ∷ []) $ join ! $ move ! (37 ∷ 0 ∷ []) $ join ! $ move ! (8 ∷ 0 ∷ []) $ join ! $ move ! (11 ∷ 0 ∷ []) $ join ! $ move ! (14 ∷ 0 ∷ []) $ join ! $ move ! (34 ∷ 0 ∷ []) $ join ! $ move ! (34 ∷ 0 ∷ []) $ join ! $ move ! (34 ∷ 0 ∷ []) $ join ! $ move ! (34 ∷ 0 ∷ []) $ join ! $ move ! (24 ∷ 0 ∷ []) $ join ! $ move ! (26 ∷ 0 ∷ []) $ join ! $ move ! (28 ∷ 0 ∷ []) $ join ! $ move ! (30 ∷ 0 ∷ []) $ join ! $ move ! (3 ∷ 1 ∷ []) $ join ! $ move ! (4 ∷ 0 ∷ []) $ join ! $ move ! (6 ∷ 0 ∷ []) $ join ! $ move ! (8 ∷ 0 ∷ []) $ join ! $ move ! (10 ∷ 0 ∷ []) $ join ! $ move ! (11 ∷ 0 ∷ []) $ join ! $ move ! (12 ∷ 0 ∷ []) $ join ! $ move ! (13 ∷ 0 ∷ []) $ join ! $ move ! (14 ∷ 0 ∷ []) $ join ! $ move ! (15 ∷ 0 ∷ []) $ join ! $ move ! (16 ∷ 0 ∷ []) $ join ! $ move ! (17 ∷ 0 ∷ []) $ join ! $ move ! (1 ∷ 0 ∷ []) $ join ! $ 
+        nothing ! $ alloc ! (λ l₀. alloc ! (λ l₁. alloc ! (λ l₂. alloc ! (λ l₃. alloc ! (λ l₄. alloc ! (λ l₅. alloc ! (λ l₆. alloc ! (λ l₇. alloc ! (λ l₈. alloc ! (λ l₉. alloc ! (λ l₁₀. alloc ! (λ l₁₁. alloc ! (λ l₁₂. alloc ! (λ l₁₃. alloc ! (λ l₁₄. alloc ! (λ l₁₅. alloc ! (λ l₁₆. alloc ! (λ l₁₇. alloc ! (λ l₁₈. alloc ! (λ l₁₉. alloc ! (λ l₂₀. alloc ! (λ l₂₁. alloc ! (λ l₂₂. alloc ! (λ l₂₃. alloc ! (λ l₂₄. alloc ! (λ l₂₅. alloc ! (λ l₂₆. alloc ! (λ l₂₇. alloc ! (λ l₂₈. alloc ! (λ l₂₉. alloc ! (λ l₃₀. alloc ! (λ l₃₁. alloc ! (λ l₃₂. alloc ! (λ l₃₃. alloc ! (λ l₃₄. alloc ! (λ l₃₅. alloc ! (λ l₃₆. alloc ! (λ l₃₇. alloc ! (λ l₃₈. alloc ! (λ l₃₉. alloc ! (λ l₄₀. alloc ! (λ l₄₁. alloc ! (λ l₄₂. alloc ! (λ l₄₃. alloc ! (λ l₄₄. alloc ! (λ l₄₅. alloc ! (λ l₄₆. alloc ! (λ l₄₇. alloc ! (λ l₄₈. alloc ! (λ l₄₉. alloc0 ! $ hide ! (λ died die. params1 ! $ pass1 ! (init ! 49 refl (LL.lawful mTranscript.the-type lTranscript.the-laws 𝓤 H A W .typed n1 _ w1 .0)) $ pass1 ! (init ! 48 refl (tt, (tt, (record { fits = room2 .0 }, tt)))) $ pass1 ! (init ! 47 refl (tt, (tt, (record { fits = room3 .0 }, tt)))) $ pass1 ! (init ! 46 refl (tt, (tt, (record { fits = room4 .0 }, tt)))) $ pass1 ! (init ! 45 refl (uint-lawful 𝓤 H A W w64 .typed n5 _ w5 .0)) $ pass1 ! (init ! 44 refl (uint-lawful 𝓤 H A W w64 .typed n6 _ w6 .0)) $ pass1 ! (init ! 43 refl (shr-slice-lawful 𝓤 H A W (named 3) κ₃ u64 .typed s7 (v7 ∷ []) w7 .0)) $ pass1 ! (init ! 42 refl (uint-lawful 𝓤 H A W w64 .typed n8 _ w8 .0)) $ pass1 ! (init ! 41 refl (uint-lawful 𝓤 H A W w64 .typed n9 _ w9 .0)) $ pass1 ! (init ! 40 refl (shr-slice-lawful 𝓤 H A W (named 4) κ₄ mEntry.the-row .typed s10 (v10 ∷ []) w10 .0)) $ pass1 ! (init ! 39 refl (uint-lawful 𝓤 H A W w64 .typed n11 _ w11 .0)) $ pass1 ! (init ! 38 refl (uint-lawful 𝓤 H A W w64 .typed n12 _ w12 .0)) $ pass1 ! (init ! 37 refl (shr-slice-lawful 𝓤 H A W (named 5) κ₅ mEntry.the-row .typed s13 (v13 ∷ []) w13 .0)) $ pass1 ! (init ! 36 refl (uint-lawful 𝓤 H A W w64 .typed n14 _ w14 .0)) $ pass1 ! (init ! 35 refl (uint-lawful 𝓤 H A W w64 .typed n15 _ w15 .0)) $ pass1 ! (init ! 34 refl (shr-slice-lawful 𝓤 H A W (named 6) κ₆ mEntry.the-row .typed s16 (v16 ∷ []) w16 .0)) $ pass1 ! (init ! 33 refl (uint-lawful 𝓤 H A W w64 .typed n17 _ w17 .0)) $ pass1 ! (init ! 32 refl (uint-lawful 𝓤 H A W w64 .typed n18 _ w18 .0)) $ pass1 ! (init ! 31 refl (array-lawful 𝓤 H A W mEntry.the-row (LL.lawful mEntry.the-type lEntry.the-laws 𝓤 H A W) 64 .typed n19 _ w19 .0)) $ pass1 ! (init ! 30 refl (uint-lawful 𝓤 H A W w64 .typed n20 _ w20 .0)) $ pass1 ! (init ! 29 refl (uint-lawful 𝓤 H A W w64 .typed n21 _ w21 .0)) $ pass1 ! (init ! 28 refl (array-lawful 𝓤 H A W mEntry.the-row (LL.lawful mEntry.the-type lEntry.the-laws 𝓤 H A W) 64 .typed n22 _ w22 .0)) $ pass1 ! (init ! 27 refl (uint-lawful 𝓤 H A W w64 .typed n23 _ w23 .0)) $ pass1 ! (init ! 26 refl (uint-lawful 𝓤 H A W w64 .typed n24 _ w24 .0)) $ pass1 ! (init ! 25 refl (array-lawful 𝓤 H A W mEntry.the-row (LL.lawful mEntry.the-type lEntry.the-laws 𝓤 H A W) 64 .typed n25 _ w25 .0)) $ pass1 ! (init ! 24 refl (shr-slice-lawful 𝓤 H A W (named 7) κ₇ u64 .typed s26 (v26 ∷ []) w26 .0)) $ pass1 ! (init ! 23 refl (shr-slice-lawful 𝓤 H A W (named 8) κ₈ u64 .typed s27 (v27 ∷ []) w27 .0)) $ pass1 ! (init ! 22 refl (uint-lawful 𝓤 H A W w64 .typed n28 _ w28 .0)) $ pass1 ! (init ! 21 refl (uint-lawful 𝓤 H A W w64 .typed n29 _ w29 .0)) $ pass1 ! (init ! 20 refl (uint-lawful 𝓤 H A W w64 .typed n30 _ w30 .0)) $ pass0 ! $
+        move ! (52 ∷ []) $ fsplit ! $ move ! (1 ∷ []) $ fsplit ! $ move ! (1 ∷ []) $ fsplit ! $ move ! (1 ∷ []) $ fsplit ! $ move ! (1 ∷ []) $ fsplit ! $ move ! (1 ∷ []) $ fsplit ! $ move ! (1 ∷ []) $ fsplit ! $ move ! (1 ∷ []) $ fsplit ! $ move ! (1 ∷ []) $ fsplit ! $ move ! (1 ∷ []) $ fsplit ! $ move ! (1 ∷ []) $ fsplit ! $ move ! (1 ∷ []) $ fsplit ! $ move ! (1 ∷ []) $ fsplit ! $ move ! (1 ∷ []) $ fsplit ! $ move ! (1 ∷ []) $ fsplit ! $ move ! (1 ∷ []) $ fsplit ! $ move ! (1 ∷ []) $ fsplit ! $ move ! (1 ∷ []) $ fsplit ! $ move ! (1 ∷ []) $ fsplit ! $ move ! (1 ∷ []) $ fsplit ! $ move ! (1 ∷ []) $ fsplit ! $ move ! (1 ∷ []) $ fsplit ! $ move ! (1 ∷ []) $ fsplit ! $ move ! (1 ∷ []) $ fsplit ! $ move ! (1 ∷ []) $ fsplit ! $ move ! (1 ∷ []) $ fsplit ! $ move ! (1 ∷ []) $ fsplit ! $ move ! (1 ∷ []) $ fsplit ! $ move ! (1 ∷ []) $ fsplit ! $ move ! (1 ∷ []) $ fsplit ! $ move ! (1 ∷ []) $ drop ! $ move ! (81 ∷ []) $ split ! $ move ! (1 ∷ []) $ split ! $ move ! (1 ∷ []) $ split ! $ move ! (1 ∷ []) $ split ! $ move ! (1 ∷ []) $ split ! $ move ! (1 ∷ []) $ split ! $ move ! (1 ∷ []) $ split ! $ move ! (1 ∷ []) $ split ! $ move ! (1 ∷ []) $ split ! $ move ! (1 ∷ []) $ drop ! $ tidy W (_ ∷ _ ∷ _ ∷ _ ∷ _ ∷ _ ∷ _ ∷ _ ∷ _ ∷ _ ∷ _ ∷ _ ∷ _ ∷ _ ∷ _ ∷ _ ∷ _ ∷ _ ∷ _ ∷ _ ∷ _ ∷ _ ∷ _ ∷ _ ∷ _ ∷ _ ∷ _ ∷ _ ∷ _ ∷ _ ∷ _ ∷ _ ∷ _ ∷ _ ∷ _ ∷ _ ∷ _ ∷ _ ∷ _ ∷ _ ∷ _ ∷ _ ∷ _ ∷ _ ∷ _ ∷ _ ∷ _ ∷ _ ∷ _ ∷ _ ∷ _ ∷ _ ∷ _ ∷ _ ∷ _ ∷ _ ∷ _ ∷ _ ∷ _ ∷ _ ∷ _ ∷ _ ∷ _ ∷ _ ∷ _ ∷ _ ∷ _ ∷ _ ∷ _ ∷ _ ∷ _ ∷ _ ∷ _ ∷ _ ∷ _ ∷ _ ∷ _ ∷ _ ∷ _ ∷ _ ∷ _ ∷ _ ∷ _ ∷ _ ∷ _ ∷ _ ∷ _ ∷ _ ∷ _ ∷ _ ∷ []) $
+        assigns ! (of-opd ! (load ! (from ! (stop !)) (look ! 70 refl))) (from ! (stop !)) (init ! 58 refl (array-lawful 𝓤 H A W mEntry.the-row (LL.lawful mEntry.the-type lEntry.the-laws 𝓤 H A W) 64 .typed n19 _ w19 .0)) $
+        assigns ! (of-opd ! (load ! (from ! (stop !)) (look ! 67 refl))) (from ! (stop !)) (init ! 57 refl (array-lawful 𝓤 H A W mEntry.the-row (LL.lawful mEntry.the-type lEntry.the-laws 𝓤 H A W) 64 .typed n22 _ w22 .0)) $
+        assigns ! (of-opd ! (load ! (from ! (stop !)) (look ! 64 refl))) (from ! (stop !)) (init ! 56 refl (array-lawful 𝓤 H A W mEntry.the-row (LL.lawful mEntry.the-type lEntry.the-laws 𝓤 H A W) 64 .typed n25 _ w25 .0)) $
+        assigns ! (of-opd ! (load ! (from ! (stop !)) (look ! 88 refl))) (from ! (stop !)) (init ! 55 refl (LL.lawful mTranscript.the-type lTranscript.the-laws 𝓤 H A W .typed n1 _ w1 .0)) $
+        assigns ! (addr ! (from ! (stop !))) (from ! (stop !)) (init ! 53 refl (tt, tt)) $
+        assigns ! (addr ! (from ! (fld ! refl (hop ! (look-in ! 87 (sub ! 0 refl (whole !))) (stop !))))) (from ! (stop !)) (init ! 52 refl (tt, tt)) $
+        assigns ! (agg ! (and-then ! (load ! (from ! (stop !)) (look ! 52 refl)) (and-then ! (load ! (from ! (fld ! refl (stop !))) (look-in ! 87 (sub ! 1 refl (whole !)))) (no-more !)))) (from ! (stop !)) (init ! 51 refl (tt, (tt, (record { fits = room2 .0 }, tt)))) $
+        assigns ! (addr ! (from ! (fld ! refl (hop ! (look-in ! 86 (sub ! 0 refl (whole !))) (stop !))))) (from ! (stop !)) (init ! 50 refl (tt, tt)) $
+        assigns ! (agg ! (and-then ! (load ! (from ! (stop !)) (look ! 50 refl)) (and-then ! (load ! (from ! (fld ! refl (stop !))) (look-in ! 86 (sub ! 1 refl (whole !)))) (no-more !)))) (from ! (stop !)) (init ! 49 refl (tt, (tt, (record { fits = room3 .0 }, tt)))) $
+        assigns ! (addr ! (from ! (fld ! refl (hop ! (look-in ! 85 (sub ! 0 refl (whole !))) (stop !))))) (from ! (stop !)) (init ! 48 refl (tt, tt)) $
+        assigns ! (agg ! (and-then ! (load ! (from ! (stop !)) (look ! 48 refl)) (and-then ! (load ! (from ! (fld ! refl (stop !))) (look-in ! 85 (sub ! 1 refl (whole !)))) (no-more !)))) (from ! (stop !)) (init ! 47 refl (tt, (tt, (record { fits = room4 .0 }, tt)))) $
+        assigns ! (addr ! (from ! (stop !))) (from ! (stop !)) (init ! 46 refl (tt, tt)) $
+        rewrite ! 61 (λ (w : Val). ‵ (fat fullShare (tyInt w64) l₂₈ 0 w)) (ap only (w28 .0)) refl $ assigns ! (agg ! (and-then ! (load ! (from ! (stop !)) (look ! 46 refl)) (and-then ! (load ! (from ! (stop !)) (look ! 61 refl)) (no-more !)))) (from ! (stop !)) (init ! 45 refl (tt, (tt, (record { fits = w28 .1 }, tt)))) $
+        assigns ! (addr ! (from ! (stop !))) (from ! (stop !)) (init ! 44 refl (tt, tt)) $
+        rewrite ! 60 (λ (w : Val). ‵ (fat fullShare (tyInt w64) l₂₉ 0 w)) (ap only (w29 .0)) refl $ assigns ! (agg ! (and-then ! (load ! (from ! (stop !)) (look ! 44 refl)) (and-then ! (load ! (from ! (stop !)) (look ! 60 refl)) (no-more !)))) (from ! (stop !)) (init ! 43 refl (tt, (tt, (record { fits = w29 .1 }, tt)))) $
+        assigns ! (addr ! (from ! (stop !))) (from ! (stop !)) (init ! 42 refl (tt, tt)) $
+        rewrite ! 59 (λ (w : Val). ‵ (fat fullShare (tyInt w64) l₃₀ 0 w)) (ap only (w30 .0)) refl $ assigns ! (agg ! (and-then ! (load ! (from ! (stop !)) (look ! 42 refl)) (and-then ! (load ! (from ! (stop !)) (look ! 59 refl)) (no-more !)))) (from ! (stop !)) (init ! 41 refl (tt, (tt, (record { fits = w30 .1 }, tt)))) $
+        lft-new ! tt (λ ν1a. owned ! mTranscript.the-row (Is mTranscript.the-row) (LL.makes mTranscript.the-type lTranscript.the-plain 𝓤 H A) (n1) _ w1 $ move ! (57 ∷ 0 ∷ []) $ use1 W (‵ (cellAt fullShare (mTranscript.the-row .mir) (u1 ∷ []) l₃₄ 0)) (W .laws .at-raw fullShare (lTranscript.mir) l₃₄ 0 (u1)) $ into ! mTranscript.the-row fullShare (n1) (u1 ∷ []) l₃₄ 0 $
+        use1 W (later (some (λ (δ : GName). ‵ (MutRef (named 0) (ν1a ∷ []) mTranscript.the-row .own (record { ptr = (l₃₄, 0); name = δ; now = n1 }) (vptr l₃₄ 0 ∷ [])) ⊛ ‵ (flent (ν1a ∷ []) (Body (mem mTranscript.the-row) l₃₄ 0 δ))))) (lends-ref 𝓤 H A W mTranscript.the-row (named 0) (ν1a ∷ []) (n1) l₃₄ 0) $ await ! tt $ pick ! (λ δ1a. split ! $
+        lft-new ! tt (λ ν1b. move ! (41 ∷ 12 ∷ []) $ use2 W (later (some (λ (δ : GName). ‵ (MutSlice (named 1) (ν1b ∷ []) u64 .own (ref2 δ (ys2)) (v2 ∷ [])) ⊛ ‵ (Lent2 ν1b δ (ys2))))) (lends2 (named 1) ν1b (ys2) (refl)) $ await ! tt $ pick ! (λ δ1b. split ! $
+        lft-new ! tt (λ ν1c. move ! (42 ∷ 14 ∷ []) $ use2 W (later (some (λ (δ : GName). ‵ (MutSlice (named 2) (ν1c ∷ []) u64 .own (ref3 δ (ys3)) (v3 ∷ [])) ⊛ ‵ (Lent3 ν1c δ (ys3))))) (lends3 (named 2) ν1c (ys3) (refl)) $ await ! tt $ pick ! (λ δ1c. split ! $
+        lft-new ! tt (λ ν1d. move ! (43 ∷ 16 ∷ []) $ use2 W (later (some (λ (δ : GName). ‵ (MutSlice (named 3) (ν1d ∷ []) u64 .own (ref4 δ (ys4)) (v4 ∷ [])) ⊛ ‵ (Lent4 ν1d δ (ys4))))) (lends4 (named 3) ν1d (ys4) (refl)) $ await ! tt $ pick ! (λ δ1d. split ! $ move ! (41 ∷ []) $ use1 W (‵ (O7) ⊛ ‵ (O7)) (shr-slice-copy 𝓤 H A W (named 3) κ₃ u64 .twice s7 (v7 ∷ [])) $ split ! $ move ! (40 ∷ []) $ use1 W (‵ (O10) ⊛ ‵ (O10)) (shr-slice-copy 𝓤 H A W (named 4) κ₄ mEntry.the-row .twice s10 (v10 ∷ [])) $ split ! $ move ! (39 ∷ []) $ use1 W (‵ (O13) ⊛ ‵ (O13)) (shr-slice-copy 𝓤 H A W (named 5) κ₅ mEntry.the-row .twice s13 (v13 ∷ [])) $ split ! $ move ! (38 ∷ []) $ use1 W (‵ (O16) ⊛ ‵ (O16)) (shr-slice-copy 𝓤 H A W (named 6) κ₆ mEntry.the-row .twice s16 (v16 ∷ [])) $ split ! $
+        lft-new ! tt (λ ν1s. owned ! (Array mEntry.the-row 64) (Is (Array mEntry.the-row 64)) (array-makes 𝓤 H A W mEntry.the-row (LL.makes mEntry.the-type lEntry.the-plain 𝓤 H A) 64) (n19) _ w19 $ move ! (69 ∷ 0 ∷ []) $ use1 W (‵ (cellAt fullShare ((Array mEntry.the-row 64) .mir) (u19 ∷ []) l₃₁ 0)) (W .laws .at-raw fullShare (tyArray (lEntry.mir) 64) l₃₁ 0 (u19)) $ into ! (Array mEntry.the-row 64) fullShare (n19) (u19 ∷ []) l₃₁ 0 $
+        use1 W (‵ (arr-parts (shares mEntry.the-row) 64 .part fullShare (n19) l₃₁ 0)) (array-apart 𝓤 H A W mEntry.the-row fullShare tt 64 (n19) l₃₁ 0) $ fsplit ! $ feqL ! (λ ln1s.
+        use1 W (‵ (parts (mem mEntry.the-row) (shares mEntry.the-row) fullShare (take n28 (n19)) l₃₁ 0) ⊛ ‵ (rest mEntry.the-row fullShare n28 (n19) l₃₁ 0)) (cut 𝓤 H A mEntry.the-row fullShare n28 (n19) l₃₁ 0) $ split ! $ feqI ! ℕ (length (take n28 (n19))) (length (take n28 (n19))) refl $ fjoin ! $
+        use1 W (later (some (λ (δ : GName). ‵ (ShrSlice (named 8) (ν1s ∷ []) mEntry.the-row .own (record { ptr = (l₃₁, 0); name = δ; now = (take n28 (n19)) }) (sliceVal (l₃₁, 0) (length (take n28 (n19))) ∷ [])) ⊛ ‵ (flent (ν1s ∷ []) (arr-parts (shares mEntry.the-row) (length (take n28 (n19))) .part fullShare (take n28 (n19)) l₃₁ 0))))) (lends-shr-slice 𝓤 H A W mEntry.the-row (named 8) (ν1s ∷ []) fullShare (take n28 (n19)) l₃₁ 0 (subst (Room mEntry.the-row) (sym (length-take-le n28 (n19) (subst (λ (m : ℕ). n28 ≤ m) (sym ln1s) (pre .0)))) (room-of mEntry.the-row n28 64 (pre .0) (lit< tt, lit< tt)))) $ await ! tt $ pick ! (λ δ1s. split ! $ rewrite ! 0 (λ (m : ℕ). ‵ (ShrSlice (named 8) (ν1s ∷ []) mEntry.the-row .own (record { ptr = (l₃₁, 0); name = δ1s; now = (take n28 (n19)) }) (sliceVal (l₃₁, 0) m ∷ []))) (length-take-le n28 (n19) (subst (λ (m : ℕ). n28 ≤ m) (sym ln1s) (pre .0))) refl $
+        lft-new ! tt (λ ν1v. owned ! (Array mEntry.the-row 64) (Is (Array mEntry.the-row 64)) (array-makes 𝓤 H A W mEntry.the-row (LL.makes mEntry.the-type lEntry.the-plain 𝓤 H A) 64) (n22) _ w22 $ move ! (72 ∷ 0 ∷ []) $ use1 W (‵ (cellAt fullShare ((Array mEntry.the-row 64) .mir) (u22 ∷ []) l₃₂ 0)) (W .laws .at-raw fullShare (tyArray (lEntry.mir) 64) l₃₂ 0 (u22)) $ into ! (Array mEntry.the-row 64) fullShare (n22) (u22 ∷ []) l₃₂ 0 $
+        use1 W (‵ (arr-parts (shares mEntry.the-row) 64 .part fullShare (n22) l₃₂ 0)) (array-apart 𝓤 H A W mEntry.the-row fullShare tt 64 (n22) l₃₂ 0) $ fsplit ! $ feqL ! (λ ln1v.
+        use1 W (‵ (parts (mem mEntry.the-row) (shares mEntry.the-row) fullShare (take n29 (n22)) l₃₂ 0) ⊛ ‵ (rest mEntry.the-row fullShare n29 (n22) l₃₂ 0)) (cut 𝓤 H A mEntry.the-row fullShare n29 (n22) l₃₂ 0) $ split ! $ feqI ! ℕ (length (take n29 (n22))) (length (take n29 (n22))) refl $ fjoin ! $
+        use1 W (later (some (λ (δ : GName). ‵ (ShrSlice (named 9) (ν1v ∷ []) mEntry.the-row .own (record { ptr = (l₃₂, 0); name = δ; now = (take n29 (n22)) }) (sliceVal (l₃₂, 0) (length (take n29 (n22))) ∷ [])) ⊛ ‵ (flent (ν1v ∷ []) (arr-parts (shares mEntry.the-row) (length (take n29 (n22))) .part fullShare (take n29 (n22)) l₃₂ 0))))) (lends-shr-slice 𝓤 H A W mEntry.the-row (named 9) (ν1v ∷ []) fullShare (take n29 (n22)) l₃₂ 0 (subst (Room mEntry.the-row) (sym (length-take-le n29 (n22) (subst (λ (m : ℕ). n29 ≤ m) (sym ln1v) (pre .1)))) (room-of mEntry.the-row n29 64 (pre .1) (lit< tt, lit< tt)))) $ await ! tt $ pick ! (λ δ1v. split ! $ rewrite ! 0 (λ (m : ℕ). ‵ (ShrSlice (named 9) (ν1v ∷ []) mEntry.the-row .own (record { ptr = (l₃₂, 0); name = δ1v; now = (take n29 (n22)) }) (sliceVal (l₃₂, 0) m ∷ []))) (length-take-le n29 (n22) (subst (λ (m : ℕ). n29 ≤ m) (sym ln1v) (pre .1))) refl $
+        lft-new ! tt (λ ν1y. owned ! (Array mEntry.the-row 64) (Is (Array mEntry.the-row 64)) (array-makes 𝓤 H A W mEntry.the-row (LL.makes mEntry.the-type lEntry.the-plain 𝓤 H A) 64) (n25) _ w25 $ move ! (75 ∷ 0 ∷ []) $ use1 W (‵ (cellAt fullShare ((Array mEntry.the-row 64) .mir) (u25 ∷ []) l₃₃ 0)) (W .laws .at-raw fullShare (tyArray (lEntry.mir) 64) l₃₃ 0 (u25)) $ into ! (Array mEntry.the-row 64) fullShare (n25) (u25 ∷ []) l₃₃ 0 $
+        use1 W (‵ (arr-parts (shares mEntry.the-row) 64 .part fullShare (n25) l₃₃ 0)) (array-apart 𝓤 H A W mEntry.the-row fullShare tt 64 (n25) l₃₃ 0) $ fsplit ! $ feqL ! (λ ln1y.
+        use1 W (‵ (parts (mem mEntry.the-row) (shares mEntry.the-row) fullShare (take n30 (n25)) l₃₃ 0) ⊛ ‵ (rest mEntry.the-row fullShare n30 (n25) l₃₃ 0)) (cut 𝓤 H A mEntry.the-row fullShare n30 (n25) l₃₃ 0) $ split ! $ feqI ! ℕ (length (take n30 (n25))) (length (take n30 (n25))) refl $ fjoin ! $
+        use1 W (later (some (λ (δ : GName). ‵ (ShrSlice (named 10) (ν1y ∷ []) mEntry.the-row .own (record { ptr = (l₃₃, 0); name = δ; now = (take n30 (n25)) }) (sliceVal (l₃₃, 0) (length (take n30 (n25))) ∷ [])) ⊛ ‵ (flent (ν1y ∷ []) (arr-parts (shares mEntry.the-row) (length (take n30 (n25))) .part fullShare (take n30 (n25)) l₃₃ 0))))) (lends-shr-slice 𝓤 H A W mEntry.the-row (named 10) (ν1y ∷ []) fullShare (take n30 (n25)) l₃₃ 0 (subst (Room mEntry.the-row) (sym (length-take-le n30 (n25) (subst (λ (m : ℕ). n30 ≤ m) (sym ln1y) (pre .2)))) (room-of mEntry.the-row n30 64 (pre .2) (lit< tt, lit< tt)))) $ await ! tt $ pick ! (λ δ1y. split ! $ rewrite ! 0 (λ (m : ℕ). ‵ (ShrSlice (named 10) (ν1y ∷ []) mEntry.the-row .own (record { ptr = (l₃₃, 0); name = δ1y; now = (take n30 (n25)) }) (sliceVal (l₃₃, 0) m ∷ []))) (length-take-le n30 (n25) (subst (λ (m : ℕ). n30 ≤ m) (sym ln1y) (pre .2))) refl $
+        move ! (42 ∷ []) $ use1 W (‵ (O26) ⊛ ‵ (O26)) (shr-slice-copy 𝓤 H A W (named 7) κ₇ u64 .twice s26 (v26 ∷ [])) $ split ! $ move ! (43 ∷ []) $ use1 W (‵ (O27) ⊛ ‵ (O27)) (shr-slice-copy 𝓤 H A W (named 8) κ₈ u64 .twice s27 (v27 ∷ [])) $ split ! $ tidy W (_ ∷ _ ∷ _ ∷ _ ∷ _ ∷ _ ∷ _ ∷ _ ∷ _ ∷ _ ∷ _ ∷ _ ∷ _ ∷ _ ∷ _ ∷ _ ∷ _ ∷ _ ∷ _ ∷ _ ∷ _ ∷ _ ∷ _ ∷ _ ∷ _ ∷ _ ∷ _ ∷ _ ∷ _ ∷ _ ∷ _ ∷ _ ∷ _ ∷ _ ∷ _ ∷ _ ∷ _ ∷ _ ∷ _ ∷ _ ∷ _ ∷ _ ∷ _ ∷ _ ∷ _ ∷ _ ∷ _ ∷ _ ∷ _ ∷ _ ∷ _ ∷ _ ∷ _ ∷ _ ∷ _ ∷ _ ∷ _ ∷ _ ∷ _ ∷ _ ∷ _ ∷ _ ∷ _ ∷ _ ∷ _ ∷ _ ∷ _ ∷ _ ∷ _ ∷ _ ∷ _ ∷ _ ∷ _ ∷ _ ∷ _ ∷ _ ∷ _ ∷ _ ∷ _ ∷ _ ∷ _ ∷ _ ∷ _ ∷ _ ∷ _ ∷ _ ∷ _ ∷ _ ∷ _ ∷ _ ∷ _ ∷ _ ∷ _ ∷ _ ∷ _ ∷ _ ∷ _ ∷ _ ∷ _ ∷ _ ∷ _ ∷ _ ∷ _ ∷ _ ∷ _ ∷ _ ∷ _ ∷ _ ∷ _ ∷ _ ∷ []) $ nothing ! $ move ! (37 ∷ 0 ∷ []) $ join ! $ move ! (37 ∷ 0 ∷ []) $ join ! $ move ! (8 ∷ 0 ∷ []) $ join ! $ move ! (11 ∷ 0 ∷ []) $ join ! $ move ! (14 ∷ 0 ∷ []) $ join ! $ move ! (34 ∷ 0 ∷ []) $ join ! $ move ! (34 ∷ 0 ∷ []) $ join ! $ move ! (34 ∷ 0 ∷ []) $ join ! $ move ! (34 ∷ 0 ∷ []) $ join ! $ move ! (24 ∷ 0 ∷ []) $ join ! $ move ! (26 ∷ 0 ∷ []) $ join ! $ move ! (28 ∷ 0 ∷ []) $ join ! $ move ! (30 ∷ 0 ∷ []) $ join ! $ move ! (3 ∷ 1 ∷ []) $ join ! $ move ! (4 ∷ 0 ∷ []) $ join ! $ move ! (6 ∷ 0 ∷ []) $ join ! $ move ! (8 ∷ 0 ∷ []) $ join ! $ move ! (10 ∷ 0 ∷ []) $ join ! $ move ! (11 ∷ 0 ∷ []) $ join ! $ move ! (12 ∷ 0 ∷ []) $ join ! $ move ! (13 ∷ 0 ∷ []) $ join ! $ move ! (14 ∷ 0 ∷ []) $ join ! $ move ! (15 ∷ 0 ∷ []) $ join ! $ move ! (16 ∷ 0 ∷ []) $ join ! $ move ! (17 ∷ 0 ∷ []) $ join ! $ move ! (1 ∷ 0 ∷ []) $ join ! $
         -- call 1
-        use1 W (raw (Callee-g1 𝓤 H A at-mem run .pre ((((ν1a ∷ []), ((ν1b ∷ []), ((ν1c ∷ []), ((ν1d ∷ []), (κ₃, (κ₄, (κ₅, (κ₆, ((ν1s ∷ []), ((ν1v ∷ []), ((ν1y ∷ []), (κ₇, (κ₈, tt))))))))))))), (fullShare, (fullShare, (fullShare, (fullShare, (q₃, (q₄, (q₅, (q₆, (fullShare, (fullShare, (fullShare, (q₇, (q₈, tt))))))))))))), tt, (record { ptr = (l₃₄, 0); name = δ1a; now = n1 }, (ref2 δ1b (ys2), (ref3 δ1c (ys3), (ref4 δ1d (ys4), (n5, (n6, (s7, (n8, (n9, (s10, (n11, (n12, (s13, (n14, (n15, (s16, (n17, (n18, (record { ptr = (l₃₁, 0); name = δ1s; now = (take n28 (n19)) }, (n20, (n21, (record { ptr = (l₃₂, 0); name = δ1v; now = (take n29 (n22)) }, (n23, (n24, (record { ptr = (l₃₃, 0); name = δ1y; now = (take n30 (n25)) }, (s26, (s27, tt))))))))))))))))))))))))))), (vptr l₃₄ 0 ∷ [], (v2 ∷ [], (v3 ∷ [], (v4 ∷ [], (u5 ∷ [], (u6 ∷ [], (v7 ∷ [], (u8′ ∷ [], (u9 ∷ [], (v10 ∷ [], (u11 ∷ [], (u12 ∷ [], (v13 ∷ [], (u14 ∷ [], (u15 ∷ [], (v16 ∷ [], (u17 ∷ [], (u18 ∷ [], (sliceVal (l₃₁, 0) n28 ∷ [], (u20 ∷ [], (u21 ∷ [], (sliceVal (l₃₂, 0) n29 ∷ [], (u23 ∷ [], (u24 ∷ [], (sliceVal (l₃₃, 0) n30 ∷ [], (v26 ∷ [], (v27 ∷ [], tt)))))))))))))))))))))))))))), tt))) (qed W ((‵ (flft (ν1a ∷ []) fullShare) ⊛ ‵ (flft (ν1b ∷ []) fullShare) ⊛ ‵ (flft (ν1c ∷ []) fullShare) ⊛ ‵ (flft (ν1d ∷ []) fullShare) ⊛ ‵ (flft κ₃ q₃) ⊛ ‵ (flft κ₄ q₄) ⊛ ‵ (flft κ₅ q₅) ⊛ ‵ (flft κ₆ q₆) ⊛ ‵ (flft (ν1s ∷ []) fullShare) ⊛ ‵ (flft (ν1v ∷ []) fullShare) ⊛ ‵ (flft (ν1y ∷ []) fullShare) ⊛ ‵ (flft κ₇ q₇) ⊛ ‵ (flft κ₈ q₈) ⊛ ‵ ftrue) ∷ ‵ (MutRef (named 0) (ν1a ∷ []) mTranscript.the-row .own (record { ptr = (l₃₄, 0); name = δ1a; now = n1 }) (vptr l₃₄ 0 ∷ [])) ∷ ‵ (MutSlice (named 1) (ν1b ∷ []) u64 .own (ref2 δ1b (ys2)) (v2 ∷ [])) ∷ ‵ (MutSlice (named 2) (ν1c ∷ []) u64 .own (ref3 δ1c (ys3)) (v3 ∷ [])) ∷ ‵ (MutSlice (named 3) (ν1d ∷ []) u64 .own (ref4 δ1d (ys4)) (v4 ∷ [])) ∷ ‵ (ShrSlice (named 4) κ₃ u64 .own s7 (v7 ∷ [])) ∷ ‵ (ShrSlice (named 5) κ₄ mEntry.the-row .own s10 (v10 ∷ [])) ∷ ‵ (ShrSlice (named 6) κ₅ mEntry.the-row .own s13 (v13 ∷ [])) ∷ ‵ (ShrSlice (named 7) κ₆ mEntry.the-row .own s16 (v16 ∷ [])) ∷ ‵ (ShrSlice (named 8) (ν1s ∷ []) mEntry.the-row .own (record { ptr = (l₃₁, 0); name = δ1s; now = (take n28 (n19)) }) (sliceVal (l₃₁, 0) n28 ∷ [])) ∷ ‵ (ShrSlice (named 9) (ν1v ∷ []) mEntry.the-row .own (record { ptr = (l₃₂, 0); name = δ1v; now = (take n29 (n22)) }) (sliceVal (l₃₂, 0) n29 ∷ [])) ∷ ‵ (ShrSlice (named 10) (ν1y ∷ []) mEntry.the-row .own (record { ptr = (l₃₃, 0); name = δ1y; now = (take n30 (n25)) }) (sliceVal (l₃₃, 0) n30 ∷ [])) ∷ ‵ (ShrSlice (named 11) κ₇ u64 .own s26 (v26 ∷ [])) ∷ ‵ (ShrSlice (named 12) κ₈ u64 .own s27 (v27 ∷ [])) ∷ []) ∵ nothing ! $ move ! (14 ∷ 0 ∷ []) $ fjoin ! $ move ! (13 ∷ 0 ∷ []) $ fjoin ! $ move ! (12 ∷ 0 ∷ []) $ fjoin ! $ owned ! u64 (Is u64) (uint-makes 𝓤 H A W w64) (n24) _ w24 $ fjoin ! $ owned ! u64 (Is u64) (uint-makes 𝓤 H A W w64) (n23) _ w23 $ fjoin ! $ move ! (11 ∷ 0 ∷ []) $ fjoin ! $ owned ! u64 (Is u64) (uint-makes 𝓤 H A W w64) (n21) _ w21 $ fjoin ! $ owned ! u64 (Is u64) (uint-makes 𝓤 H A W w64) (n20) _ w20 $ fjoin ! $ move ! (10 ∷ 0 ∷ []) $ fjoin ! $ owned ! u64 (Is u64) (uint-makes 𝓤 H A W w64) (n18) _ w18 $ fjoin ! $ owned ! u64 (Is u64) (uint-makes 𝓤 H A W w64) (n17) _ w17 $ fjoin ! $ move ! (9 ∷ 0 ∷ []) $ fjoin ! $ owned ! u64 (Is u64) (uint-makes 𝓤 H A W w64) (n15) _ w15 $ fjoin ! $ owned ! u64 (Is u64) (uint-makes 𝓤 H A W w64) (n14) _ w14 $ fjoin ! $ move ! (8 ∷ 0 ∷ []) $ fjoin ! $ owned ! u64 (Is u64) (uint-makes 𝓤 H A W w64) (n12) _ w12 $ fjoin ! $ owned ! u64 (Is u64) (uint-makes 𝓤 H A W w64) (n11) _ w11 $ fjoin ! $ move ! (7 ∷ 0 ∷ []) $ fjoin ! $ owned ! u64 (Is u64) (uint-makes 𝓤 H A W w64) (n9) _ w9 $ fjoin ! $ owned ! u64 (Is u64) (uint-makes 𝓤 H A W w64) (n8) _ w8 $ fjoin ! $ move ! (6 ∷ 0 ∷ []) $ fjoin ! $ owned ! u64 (Is u64) (uint-makes 𝓤 H A W w64) (n6) _ w6 $ fjoin ! $ owned ! u64 (Is u64) (uint-makes 𝓤 H A W w64) (n5) _ w5 $ fjoin ! $ move ! (5 ∷ 0 ∷ []) $ fjoin ! $ move ! (4 ∷ 0 ∷ []) $ fjoin ! $ move ! (3 ∷ 0 ∷ []) $ fjoin ! $ move ! (2 ∷ 0 ∷ []) $ fjoin ! $ move ! (1 ∷ 0 ∷ []) $ join ! $ nothing ! $ move ! (1 ∷ 0 ∷ []) $ frame ! $ done !) $ 
-        calls-at ! fm (Callee-g1 𝓤 H A at-mem run) known-g1 ((((ν1a ∷ []), ((ν1b ∷ []), ((ν1c ∷ []), ((ν1d ∷ []), (κ₃, (κ₄, (κ₅, (κ₆, ((ν1s ∷ []), ((ν1v ∷ []), ((ν1y ∷ []), (κ₇, (κ₈, tt))))))))))))), (fullShare, (fullShare, (fullShare, (fullShare, (q₃, (q₄, (q₅, (q₆, (fullShare, (fullShare, (fullShare, (q₇, (q₈, tt))))))))))))), tt, (record { ptr = (l₃₄, 0); name = δ1a; now = n1 }, (ref2 δ1b (ys2), (ref3 δ1c (ys3), (ref4 δ1d (ys4), (n5, (n6, (s7, (n8, (n9, (s10, (n11, (n12, (s13, (n14, (n15, (s16, (n17, (n18, (record { ptr = (l₃₁, 0); name = δ1s; now = (take n28 (n19)) }, (n20, (n21, (record { ptr = (l₃₂, 0); name = δ1v; now = (take n29 (n22)) }, (n23, (n24, (record { ptr = (l₃₃, 0); name = δ1y; now = (take n30 (n25)) }, (s26, (s27, tt))))))))))))))))))))))))))), (vptr l₃₄ 0 ∷ [], (v2 ∷ [], (v3 ∷ [], (v4 ∷ [], (u5 ∷ [], (u6 ∷ [], (v7 ∷ [], (u8′ ∷ [], (u9 ∷ [], (v10 ∷ [], (u11 ∷ [], (u12 ∷ [], (v13 ∷ [], (u14 ∷ [], (u15 ∷ [], (v16 ∷ [], (u17 ∷ [], (u18 ∷ [], (sliceVal (l₃₁, 0) n28 ∷ [], (u20 ∷ [], (u21 ∷ [], (sliceVal (l₃₂, 0) n29 ∷ [], (u23 ∷ [], (u24 ∷ [], (sliceVal (l₃₃, 0) n30 ∷ [], (v26 ∷ [], (v27 ∷ [], tt)))))))))))))))))))))))))))), tt) (and-then ! (load ! (from ! (stop !)) (look ! 52 refl)) (and-then ! (load ! (from ! (stop !)) (look ! 50 refl)) (and-then ! (load ! (from ! (stop !)) (look ! 48 refl)) (and-then ! (load ! (from ! (stop !)) (look ! 46 refl)) (and-then ! (load ! (from ! (stop !)) (look ! 79 refl)) (and-then ! (load ! (from ! (stop !)) (look ! 78 refl)) (and-then ! (load ! (from ! (stop !)) (look ! 77 refl)) (and-then ! (load ! (from ! (stop !)) (look ! 76 refl)) (and-then ! (load ! (from ! (stop !)) (look ! 75 refl)) (and-then ! (load ! (from ! (stop !)) (look ! 74 refl)) (and-then ! (load ! (from ! (stop !)) (look ! 73 refl)) (and-then ! (load ! (from ! (stop !)) (look ! 72 refl)) (and-then ! (load ! (from ! (stop !)) (look ! 71 refl)) (and-then ! (load ! (from ! (stop !)) (look ! 70 refl)) (and-then ! (load ! (from ! (stop !)) (look ! 69 refl)) (and-then ! (load ! (from ! (stop !)) (look ! 68 refl)) (and-then ! (load ! (from ! (stop !)) (look ! 67 refl)) (and-then ! (load ! (from ! (stop !)) (look ! 66 refl)) (and-then ! (load ! (from ! (stop !)) (look ! 44 refl)) (and-then ! (load ! (from ! (stop !)) (look ! 64 refl)) (and-then ! (load ! (from ! (stop !)) (look ! 63 refl)) (and-then ! (load ! (from ! (stop !)) (look ! 42 refl)) (and-then ! (load ! (from ! (stop !)) (look ! 61 refl)) (and-then ! (load ! (from ! (stop !)) (look ! 60 refl)) (and-then ! (load ! (from ! (stop !)) (look ! 40 refl)) (and-then ! (load ! (from ! (stop !)) (look ! 58 refl)) (and-then ! (load ! (from ! (stop !)) (look ! 57 refl)) (no-more !)))))))))))))))))))))))))))) (λ z1. 
-        use1 W (later (some (λ (r1 : ℕ). ((‵ (flft (ν1a ∷ []) fullShare) ⊛ ‵ (flft (ν1b ∷ []) fullShare) ⊛ ‵ (flft (ν1c ∷ []) fullShare) ⊛ ‵ (flft (ν1d ∷ []) fullShare) ⊛ ‵ (flft κ₃ q₃) ⊛ ‵ (flft κ₄ q₄) ⊛ ‵ (flft κ₅ q₅) ⊛ ‵ (flft κ₆ q₆) ⊛ ‵ (flft (ν1s ∷ []) fullShare) ⊛ ‵ (flft (ν1v ∷ []) fullShare) ⊛ ‵ (flft (ν1y ∷ []) fullShare) ⊛ ‵ (flft κ₇ q₇) ⊛ ‵ (flft κ₈ q₈) ⊛ ‵ ftrue) ⊛ ‵ (u32 .own r1 (z1 ∷ []))) ⊛ some (λ (ws : Lasts g1.ended ((ν1a ∷ []), ((ν1b ∷ []), ((ν1c ∷ []), ((ν1d ∷ []), (κ₃, (κ₄, (κ₅, (κ₆, ((ν1s ∷ []), ((ν1v ∷ []), ((ν1y ∷ []), (κ₇, (κ₈, tt))))))))))))) (record { ptr = (l₃₄, 0); name = δ1a; now = n1 }, (ref2 δ1b (ys2), (ref3 δ1c (ys3), (ref4 δ1d (ys4), (n5, (n6, (s7, (n8, (n9, (s10, (n11, (n12, (s13, (n14, (n15, (s16, (n17, (n18, (record { ptr = (l₃₁, 0); name = δ1s; now = (take n28 (n19)) }, (n20, (n21, (record { ptr = (l₃₂, 0); name = δ1v; now = (take n29 (n22)) }, (n23, (n24, (record { ptr = (l₃₃, 0); name = δ1y; now = (take n30 (n25)) }, (s26, (s27, tt)))))))))))))))))))))))))))). ‵ (lasts g1.ended ((ν1a ∷ []), ((ν1b ∷ []), ((ν1c ∷ []), ((ν1d ∷ []), (κ₃, (κ₄, (κ₅, (κ₆, ((ν1s ∷ []), ((ν1v ∷ []), ((ν1y ∷ []), (κ₇, (κ₈, tt))))))))))))) (record { ptr = (l₃₄, 0); name = δ1a; now = n1 }, (ref2 δ1b (ys2), (ref3 δ1c (ys3), (ref4 δ1d (ys4), (n5, (n6, (s7, (n8, (n9, (s10, (n11, (n12, (s13, (n14, (n15, (s16, (n17, (n18, (record { ptr = (l₃₁, 0); name = δ1s; now = (take n28 (n19)) }, (n20, (n21, (record { ptr = (l₃₂, 0); name = δ1v; now = (take n29 (n22)) }, (n23, (n24, (record { ptr = (l₃₃, 0); name = δ1y; now = (take n30 (n25)) }, (s26, (s27, tt))))))))))))))))))))))))))) ws) ⊛ raw (g1.clauses 𝓤 H A at-mem run ((ν1a ∷ []), ((ν1b ∷ []), ((ν1c ∷ []), ((ν1d ∷ []), (κ₃, (κ₄, (κ₅, (κ₆, ((ν1s ∷ []), ((ν1v ∷ []), ((ν1y ∷ []), (κ₇, (κ₈, tt))))))))))))) (record { ptr = (l₃₄, 0); name = δ1a; now = n1 }, (ref2 δ1b (ys2), (ref3 δ1c (ys3), (ref4 δ1d (ys4), (n5, (n6, (s7, (n8, (n9, (s10, (n11, (n12, (s13, (n14, (n15, (s16, (n17, (n18, (record { ptr = (l₃₁, 0); name = δ1s; now = (take n28 (n19)) }, (n20, (n21, (record { ptr = (l₃₂, 0); name = δ1v; now = (take n29 (n22)) }, (n23, (n24, (record { ptr = (l₃₃, 0); name = δ1y; now = (take n30 (n25)) }, (s26, (s27, tt))))))))))))))))))))))))))) .ensures tt r1 (atExit g1.ended ((ν1a ∷ []), ((ν1b ∷ []), ((ν1c ∷ []), ((ν1d ∷ []), (κ₃, (κ₄, (κ₅, (κ₆, ((ν1s ∷ []), ((ν1v ∷ []), ((ν1y ∷ []), (κ₇, (κ₈, tt))))))))))))) (record { ptr = (l₃₄, 0); name = δ1a; now = n1 }, (ref2 δ1b (ys2), (ref3 δ1c (ys3), (ref4 δ1d (ys4), (n5, (n6, (s7, (n8, (n9, (s10, (n11, (n12, (s13, (n14, (n15, (s16, (n17, (n18, (record { ptr = (l₃₁, 0); name = δ1s; now = (take n28 (n19)) }, (n20, (n21, (record { ptr = (l₃₂, 0); name = δ1v; now = (take n29 (n22)) }, (n23, (n24, (record { ptr = (l₃₃, 0); name = δ1y; now = (take n30 (n25)) }, (s26, (s27, tt))))))))))))))))))))))))))) ws)))))) (id⊢ 𝓤 _) $ await ! tt $ pick ! (λ r1. split ! $ move ! (1 ∷ []) $ pick ! (λ ws1. split ! $ move ! (1 ∷ []) $ heard ! _ (λ e1. 
-        fsplit ! $ move ! (1 ∷ []) $ fsplit ! $ fsplit ! $ move ! (1 ∷ []) $ feqL ! (λ same1b. move ! (1 ∷ []) $ fsplit ! $ fsplit ! $ move ! (1 ∷ []) $ feqL ! (λ same1c. move ! (1 ∷ []) $ fsplit ! $ fsplit ! $ move ! (1 ∷ []) $ feqL ! (λ same1d. move ! (1 ∷ []) $ drop ! $ move ! (4 ∷ []) $ split ! $ move ! (1 ∷ []) $ peeks ! u32 (Is u32) (shows 𝓤 H A u32) r1 (z1 ∷ []) (λ i1. drop ! $ land ! (from ! (stop !)) (init ! 57 refl (uint-lawful 𝓤 H A W w32 .typed r1 _ i1 .0)) $ 
-        tidy W (_ ∷ _ ∷ _ ∷ _ ∷ _ ∷ _ ∷ _ ∷ _ ∷ _ ∷ _ ∷ _ ∷ _ ∷ _ ∷ _ ∷ _ ∷ _ ∷ _ ∷ _ ∷ _ ∷ _ ∷ _ ∷ _ ∷ _ ∷ _ ∷ _ ∷ _ ∷ _ ∷ _ ∷ _ ∷ _ ∷ _ ∷ _ ∷ _ ∷ _ ∷ _ ∷ _ ∷ _ ∷ _ ∷ _ ∷ _ ∷ _ ∷ _ ∷ _ ∷ _ ∷ _ ∷ _ ∷ _ ∷ _ ∷ _ ∷ _ ∷ _ ∷ _ ∷ _ ∷ _ ∷ _ ∷ _ ∷ _ ∷ _ ∷ _ ∷ _ ∷ _ ∷ _ ∷ _ ∷ _ ∷ _ ∷ _ ∷ _ ∷ _ ∷ _ ∷ _ ∷ _ ∷ _ ∷ _ ∷ _ ∷ _ ∷ _ ∷ _ ∷ _ ∷ _ ∷ _ ∷ _ ∷ _ ∷ _ ∷ _ ∷ _ ∷ _ ∷ _ ∷ _ ∷ _ ∷ []) $ split ! $ move ! (1 ∷ []) $ split ! $ move ! (1 ∷ []) $ split ! $ move ! (1 ∷ []) $ split ! $ move ! (1 ∷ []) $ split ! $ move ! (1 ∷ []) $ split ! $ move ! (1 ∷ []) $ split ! $ move ! (1 ∷ []) $ split ! $ move ! (1 ∷ []) $ split ! $ move ! (1 ∷ []) $ split ! $ move ! (1 ∷ []) $ split ! $ move ! (1 ∷ []) $ split ! $ move ! (1 ∷ []) $ split ! $ move ! (1 ∷ []) $ drop ! $ move ! (12 ∷ []) $ lft-end ! tt $ move ! (0 ∷ 32 ∷ 16 ∷ []) $ use3 W (later (‵ (partAt mTranscript.the-row fullShare ((ws1 .0)) l₃₄ 0))) (ref-back 𝓤 H A W mTranscript.the-row (ν1a ∷ []) δ1a ((ws1 .0)) l₃₄ 0) $ await ! tt $ 
-        out ! mTranscript.the-row fullShare ((ws1 .0)) l₃₄ 0 (λ vs. spelt ! mTranscript.the-row (Is mTranscript.the-row) (shows 𝓤 H A mTranscript.the-row) (LL.vals mTranscript.the-type lTranscript.the-laws) (LL.tells mTranscript.the-type lTranscript.the-laws) fullShare ((ws1 .0)) vs l₃₄ 0 $ move ! (1 ∷ []) $ peeks ! mTranscript.the-row (Is mTranscript.the-row) (shows 𝓤 H A mTranscript.the-row) ((ws1 .0)) (LL.val mTranscript.the-type lTranscript.the-laws ((ws1 .0)) ∷ []) (λ w1a. drop ! $ use1 W (‵ (fat fullShare (lTranscript.mir) l₃₄ 0 (LL.val mTranscript.the-type lTranscript.the-laws ((ws1 .0))))) (W .laws .raw-at fullShare (lTranscript.mir) l₃₄ 0 (LL.val mTranscript.the-type lTranscript.the-laws ((ws1 .0)))) $ 
-        move ! (12 ∷ []) $ lft-end ! tt $ move ! (0 ∷ 30 ∷ 15 ∷ []) $ use3 W (later (‵ (O2 (ws1 .1 .0)) ⊛ ‵ (flft κ₀ q₀))) (backs2 (named 1) ν1b δ1b (ys2) (ws1 .1 .0) (refl) room2 same1b) $ await ! tt $ split ! $ 
-        move ! (13 ∷ []) $ lft-end ! tt $ move ! (0 ∷ 29 ∷ 15 ∷ []) $ use3 W (later (‵ (O3 (ws1 .1 .1 .0)) ⊛ ‵ (flft κ₁ q₁))) (backs3 (named 2) ν1c δ1c (ys3) (ws1 .1 .1 .0) (refl) room3 same1c) $ await ! tt $ split ! $ 
-        move ! (14 ∷ []) $ lft-end ! tt $ move ! (0 ∷ 28 ∷ 15 ∷ []) $ use3 W (later (‵ (O4 (ws1 .1 .1 .1 .0)) ⊛ ‵ (flft κ₂ q₂))) (backs4 (named 3) ν1d δ1d (ys4) (ws1 .1 .1 .1 .0) (refl) room4 same1d) $ await ! tt $ split ! $ 
-        move ! (11 ∷ []) $ lft-end ! tt $ move ! (0 ∷ 22 ∷ []) $ lent-back ! tt $ fsplit ! $ drop ! $ move ! (0 ∷ 22 ∷ []) $ use2 W (‵ (parts (mem mEntry.the-row) (shares mEntry.the-row) fullShare (n19) l₃₁ 0)) (mend 𝓤 H A mEntry.the-row fullShare n28 (n19) l₃₁ 0) $ feqI ! ℕ (length (n19)) 64 ln1s $ fjoin ! $ use1 W (‵ (partAt (Array mEntry.the-row 64) fullShare (n19) l₃₁ 0)) (array-whole 𝓤 H A W mEntry.the-row fullShare 64 (n19) l₃₁ 0) $ 
-        out ! (Array mEntry.the-row 64) fullShare (n19) l₃₁ 0 (λ vs. spelt ! (Array mEntry.the-row 64) (Is (Array mEntry.the-row 64)) (shows 𝓤 H A (Array mEntry.the-row 64)) (array-vals (LL.vals mEntry.the-type lEntry.the-laws)) (array-tells mEntry.the-row (LL.vals mEntry.the-type lEntry.the-laws) (LL.tells mEntry.the-type lEntry.the-laws) 64) fullShare (n19) vs l₃₁ 0 $ move ! (1 ∷ []) $ peeks ! (Array mEntry.the-row 64) (Is (Array mEntry.the-row 64)) (shows 𝓤 H A (Array mEntry.the-row 64)) (n19) (array-val (LL.vals mEntry.the-type lEntry.the-laws) (n19) ∷ []) (λ w1s. drop ! $ use1 W (‵ (fat fullShare (tyArray (lEntry.mir) 64) l₃₁ 0 (array-val (LL.vals mEntry.the-type lEntry.the-laws) (n19)))) (W .laws .raw-at fullShare (tyArray (lEntry.mir) 64) l₃₁ 0 (array-val (LL.vals mEntry.the-type lEntry.the-laws) (n19))) $ 
-        move ! (11 ∷ []) $ lft-end ! tt $ move ! (0 ∷ 20 ∷ []) $ lent-back ! tt $ fsplit ! $ drop ! $ move ! (0 ∷ 20 ∷ []) $ use2 W (‵ (parts (mem mEntry.the-row) (shares mEntry.the-row) fullShare (n22) l₃₂ 0)) (mend 𝓤 H A mEntry.the-row fullShare n29 (n22) l₃₂ 0) $ feqI ! ℕ (length (n22)) 64 ln1v $ fjoin ! $ use1 W (‵ (partAt (Array mEntry.the-row 64) fullShare (n22) l₃₂ 0)) (array-whole 𝓤 H A W mEntry.the-row fullShare 64 (n22) l₃₂ 0) $ 
-        out ! (Array mEntry.the-row 64) fullShare (n22) l₃₂ 0 (λ vs. spelt ! (Array mEntry.the-row 64) (Is (Array mEntry.the-row 64)) (shows 𝓤 H A (Array mEntry.the-row 64)) (array-vals (LL.vals mEntry.the-type lEntry.the-laws)) (array-tells mEntry.the-row (LL.vals mEntry.the-type lEntry.the-laws) (LL.tells mEntry.the-type lEntry.the-laws) 64) fullShare (n22) vs l₃₂ 0 $ move ! (1 ∷ []) $ peeks ! (Array mEntry.the-row 64) (Is (Array mEntry.the-row 64)) (shows 𝓤 H A (Array mEntry.the-row 64)) (n22) (array-val (LL.vals mEntry.the-type lEntry.the-laws) (n22) ∷ []) (λ w1v. drop ! $ use1 W (‵ (fat fullShare (tyArray (lEntry.mir) 64) l₃₂ 0 (array-val (LL.vals mEntry.the-type lEntry.the-laws) (n22)))) (W .laws .raw-at fullShare (tyArray (lEntry.mir) 64) l₃₂ 0 (array-val (LL.vals mEntry.the-type lEntry.the-laws) (n22))) $ 
-        move ! (11 ∷ []) $ lft-end ! tt $ move ! (0 ∷ 18 ∷ []) $ lent-back ! tt $ fsplit ! $ drop ! $ move ! (0 ∷ 18 ∷ []) $ use2 W (‵ (parts (mem mEntry.the-row) (shares mEntry.the-row) fullShare (n25) l₃₃ 0)) (mend 𝓤 H A mEntry.the-row fullShare n30 (n25) l₃₃ 0) $ feqI ! ℕ (length (n25)) 64 ln1y $ fjoin ! $ use1 W (‵ (partAt (Array mEntry.the-row 64) fullShare (n25) l₃₃ 0)) (array-whole 𝓤 H A W mEntry.the-row fullShare 64 (n25) l₃₃ 0) $ 
-        out ! (Array mEntry.the-row 64) fullShare (n25) l₃₃ 0 (λ vs. spelt ! (Array mEntry.the-row 64) (Is (Array mEntry.the-row 64)) (shows 𝓤 H A (Array mEntry.the-row 64)) (array-vals (LL.vals mEntry.the-type lEntry.the-laws)) (array-tells mEntry.the-row (LL.vals mEntry.the-type lEntry.the-laws) (LL.tells mEntry.the-type lEntry.the-laws) 64) fullShare (n25) vs l₃₃ 0 $ move ! (1 ∷ []) $ peeks ! (Array mEntry.the-row 64) (Is (Array mEntry.the-row 64)) (shows 𝓤 H A (Array mEntry.the-row 64)) (n25) (array-val (LL.vals mEntry.the-type lEntry.the-laws) (n25) ∷ []) (λ w1y. drop ! $ use1 W (‵ (fat fullShare (tyArray (lEntry.mir) 64) l₃₃ 0 (array-val (LL.vals mEntry.the-type lEntry.the-laws) (n25)))) (W .laws .raw-at fullShare (tyArray (lEntry.mir) 64) l₃₃ 0 (array-val (LL.vals mEntry.the-type lEntry.the-laws) (n25))) $ 
-        assigns ! (of-opd ! (load ! (from ! (stop !)) (look ! 9 refl))) (from ! (stop !)) (init ! 44 refl (LL.lawful mTranscript.the-type lTranscript.the-laws 𝓤 H A W .typed (ws1 .0) _ w1a .0)) $ 
-        tidy W (_ ∷ _ ∷ _ ∷ _ ∷ _ ∷ _ ∷ _ ∷ _ ∷ _ ∷ _ ∷ _ ∷ _ ∷ _ ∷ _ ∷ _ ∷ _ ∷ _ ∷ _ ∷ _ ∷ _ ∷ _ ∷ _ ∷ _ ∷ _ ∷ _ ∷ _ ∷ _ ∷ _ ∷ _ ∷ _ ∷ _ ∷ _ ∷ _ ∷ _ ∷ _ ∷ _ ∷ _ ∷ _ ∷ _ ∷ _ ∷ _ ∷ _ ∷ _ ∷ _ ∷ _ ∷ _ ∷ _ ∷ _ ∷ _ ∷ _ ∷ _ ∷ _ ∷ _ ∷ _ ∷ _ ∷ _ ∷ _ ∷ _ ∷ _ ∷ _ ∷ _ ∷ _ ∷ _ ∷ _ ∷ _ ∷ _ ∷ _ ∷ _ ∷ _ ∷ _ ∷ _ ∷ _ ∷ _ ∷ _ ∷ _ ∷ _ ∷ _ ∷ _ ∷ _ ∷ _ ∷ _ ∷ _ ∷ _ ∷ _ ∷ _ ∷ _ ∷ _ ∷ _ ∷ _ ∷ _ ∷ []) $ nothing ! $ 
+        use1 W (raw (Callee-g1 𝓤 H A at-mem run .pre ((((ν1a ∷ []), ((ν1b ∷ []), ((ν1c ∷ []), ((ν1d ∷ []), (κ₃, (κ₄, (κ₅, (κ₆, ((ν1s ∷ []), ((ν1v ∷ []), ((ν1y ∷ []), (κ₇, (κ₈, tt))))))))))))), (fullShare, (fullShare, (fullShare, (fullShare, (q₃, (q₄, (q₅, (q₆, (fullShare, (fullShare, (fullShare, (q₇, (q₈, tt))))))))))))), tt, (record { ptr = (l₃₄, 0); name = δ1a; now = n1 }, (ref2 δ1b (ys2), (ref3 δ1c (ys3), (ref4 δ1d (ys4), (n5, (n6, (s7, (n8, (n9, (s10, (n11, (n12, (s13, (n14, (n15, (s16, (n17, (n18, (record { ptr = (l₃₁, 0); name = δ1s; now = (take n28 (n19)) }, (n20, (n21, (record { ptr = (l₃₂, 0); name = δ1v; now = (take n29 (n22)) }, (n23, (n24, (record { ptr = (l₃₃, 0); name = δ1y; now = (take n30 (n25)) }, (s26, (s27, tt))))))))))))))))))))))))))), (vptr l₃₄ 0 ∷ [], (v2 ∷ [], (v3 ∷ [], (v4 ∷ [], (u5 ∷ [], (u6 ∷ [], (v7 ∷ [], (u8′ ∷ [], (u9 ∷ [], (v10 ∷ [], (u11 ∷ [], (u12 ∷ [], (v13 ∷ [], (u14 ∷ [], (u15 ∷ [], (v16 ∷ [], (u17 ∷ [], (u18 ∷ [], (sliceVal (l₃₁, 0) n28 ∷ [], (u20 ∷ [], (u21 ∷ [], (sliceVal (l₃₂, 0) n29 ∷ [], (u23 ∷ [], (u24 ∷ [], (sliceVal (l₃₃, 0) n30 ∷ [], (v26 ∷ [], (v27 ∷ [], tt)))))))))))))))))))))))))))), tt))) (qed W ((‵ (flft (ν1a ∷ []) fullShare) ⊛ ‵ (flft (ν1b ∷ []) fullShare) ⊛ ‵ (flft (ν1c ∷ []) fullShare) ⊛ ‵ (flft (ν1d ∷ []) fullShare) ⊛ ‵ (flft κ₃ q₃) ⊛ ‵ (flft κ₄ q₄) ⊛ ‵ (flft κ₅ q₅) ⊛ ‵ (flft κ₆ q₆) ⊛ ‵ (flft (ν1s ∷ []) fullShare) ⊛ ‵ (flft (ν1v ∷ []) fullShare) ⊛ ‵ (flft (ν1y ∷ []) fullShare) ⊛ ‵ (flft κ₇ q₇) ⊛ ‵ (flft κ₈ q₈) ⊛ ‵ ftrue) ∷ ‵ (MutRef (named 0) (ν1a ∷ []) mTranscript.the-row .own (record { ptr = (l₃₄, 0); name = δ1a; now = n1 }) (vptr l₃₄ 0 ∷ [])) ∷ ‵ (MutSlice (named 1) (ν1b ∷ []) u64 .own (ref2 δ1b (ys2)) (v2 ∷ [])) ∷ ‵ (MutSlice (named 2) (ν1c ∷ []) u64 .own (ref3 δ1c (ys3)) (v3 ∷ [])) ∷ ‵ (MutSlice (named 3) (ν1d ∷ []) u64 .own (ref4 δ1d (ys4)) (v4 ∷ [])) ∷ ‵ (ShrSlice (named 4) κ₃ u64 .own s7 (v7 ∷ [])) ∷ ‵ (ShrSlice (named 5) κ₄ mEntry.the-row .own s10 (v10 ∷ [])) ∷ ‵ (ShrSlice (named 6) κ₅ mEntry.the-row .own s13 (v13 ∷ [])) ∷ ‵ (ShrSlice (named 7) κ₆ mEntry.the-row .own s16 (v16 ∷ [])) ∷ ‵ (ShrSlice (named 8) (ν1s ∷ []) mEntry.the-row .own (record { ptr = (l₃₁, 0); name = δ1s; now = (take n28 (n19)) }) (sliceVal (l₃₁, 0) n28 ∷ [])) ∷ ‵ (ShrSlice (named 9) (ν1v ∷ []) mEntry.the-row .own (record { ptr = (l₃₂, 0); name = δ1v; now = (take n29 (n22)) }) (sliceVal (l₃₂, 0) n29 ∷ [])) ∷ ‵ (ShrSlice (named 10) (ν1y ∷ []) mEntry.the-row .own (record { ptr = (l₃₃, 0); name = δ1y; now = (take n30 (n25)) }) (sliceVal (l₃₃, 0) n30 ∷ [])) ∷ ‵ (ShrSlice (named 11) κ₇ u64 .own s26 (v26 ∷ [])) ∷ ‵ (ShrSlice (named 12) κ₈ u64 .own s27 (v27 ∷ [])) ∷ []) ∵ nothing ! $ move ! (14 ∷ 0 ∷ []) $ fjoin ! $ move ! (13 ∷ 0 ∷ []) $ fjoin ! $ move ! (12 ∷ 0 ∷ []) $ fjoin ! $ owned ! u64 (Is u64) (uint-makes 𝓤 H A W w64) (n24) _ w24 $ fjoin ! $ owned ! u64 (Is u64) (uint-makes 𝓤 H A W w64) (n23) _ w23 $ fjoin ! $ move ! (11 ∷ 0 ∷ []) $ fjoin ! $ owned ! u64 (Is u64) (uint-makes 𝓤 H A W w64) (n21) _ w21 $ fjoin ! $ owned ! u64 (Is u64) (uint-makes 𝓤 H A W w64) (n20) _ w20 $ fjoin ! $ move ! (10 ∷ 0 ∷ []) $ fjoin ! $ owned ! u64 (Is u64) (uint-makes 𝓤 H A W w64) (n18) _ w18 $ fjoin ! $ owned ! u64 (Is u64) (uint-makes 𝓤 H A W w64) (n17) _ w17 $ fjoin ! $ move ! (9 ∷ 0 ∷ []) $ fjoin ! $ owned ! u64 (Is u64) (uint-makes 𝓤 H A W w64) (n15) _ w15 $ fjoin ! $ owned ! u64 (Is u64) (uint-makes 𝓤 H A W w64) (n14) _ w14 $ fjoin ! $ move ! (8 ∷ 0 ∷ []) $ fjoin ! $ owned ! u64 (Is u64) (uint-makes 𝓤 H A W w64) (n12) _ w12 $ fjoin ! $ owned ! u64 (Is u64) (uint-makes 𝓤 H A W w64) (n11) _ w11 $ fjoin ! $ move ! (7 ∷ 0 ∷ []) $ fjoin ! $ owned ! u64 (Is u64) (uint-makes 𝓤 H A W w64) (n9) _ w9 $ fjoin ! $ owned ! u64 (Is u64) (uint-makes 𝓤 H A W w64) (n8) _ w8 $ fjoin ! $ move ! (6 ∷ 0 ∷ []) $ fjoin ! $ owned ! u64 (Is u64) (uint-makes 𝓤 H A W w64) (n6) _ w6 $ fjoin ! $ owned ! u64 (Is u64) (uint-makes 𝓤 H A W w64) (n5) _ w5 $ fjoin ! $ move ! (5 ∷ 0 ∷ []) $ fjoin ! $ move ! (4 ∷ 0 ∷ []) $ fjoin ! $ move ! (3 ∷ 0 ∷ []) $ fjoin ! $ move ! (2 ∷ 0 ∷ []) $ fjoin ! $ move ! (1 ∷ 0 ∷ []) $ join ! $ nothing ! $ move ! (1 ∷ 0 ∷ []) $ frame ! $ done !) $
+        calls-at ! fm (Callee-g1 𝓤 H A at-mem run) known-g1 ((((ν1a ∷ []), ((ν1b ∷ []), ((ν1c ∷ []), ((ν1d ∷ []), (κ₃, (κ₄, (κ₅, (κ₆, ((ν1s ∷ []), ((ν1v ∷ []), ((ν1y ∷ []), (κ₇, (κ₈, tt))))))))))))), (fullShare, (fullShare, (fullShare, (fullShare, (q₃, (q₄, (q₅, (q₆, (fullShare, (fullShare, (fullShare, (q₇, (q₈, tt))))))))))))), tt, (record { ptr = (l₃₄, 0); name = δ1a; now = n1 }, (ref2 δ1b (ys2), (ref3 δ1c (ys3), (ref4 δ1d (ys4), (n5, (n6, (s7, (n8, (n9, (s10, (n11, (n12, (s13, (n14, (n15, (s16, (n17, (n18, (record { ptr = (l₃₁, 0); name = δ1s; now = (take n28 (n19)) }, (n20, (n21, (record { ptr = (l₃₂, 0); name = δ1v; now = (take n29 (n22)) }, (n23, (n24, (record { ptr = (l₃₃, 0); name = δ1y; now = (take n30 (n25)) }, (s26, (s27, tt))))))))))))))))))))))))))), (vptr l₃₄ 0 ∷ [], (v2 ∷ [], (v3 ∷ [], (v4 ∷ [], (u5 ∷ [], (u6 ∷ [], (v7 ∷ [], (u8′ ∷ [], (u9 ∷ [], (v10 ∷ [], (u11 ∷ [], (u12 ∷ [], (v13 ∷ [], (u14 ∷ [], (u15 ∷ [], (v16 ∷ [], (u17 ∷ [], (u18 ∷ [], (sliceVal (l₃₁, 0) n28 ∷ [], (u20 ∷ [], (u21 ∷ [], (sliceVal (l₃₂, 0) n29 ∷ [], (u23 ∷ [], (u24 ∷ [], (sliceVal (l₃₃, 0) n30 ∷ [], (v26 ∷ [], (v27 ∷ [], tt)))))))))))))))))))))))))))), tt) (and-then ! (load ! (from ! (stop !)) (look ! 52 refl)) (and-then ! (load ! (from ! (stop !)) (look ! 50 refl)) (and-then ! (load ! (from ! (stop !)) (look ! 48 refl)) (and-then ! (load ! (from ! (stop !)) (look ! 46 refl)) (and-then ! (load ! (from ! (stop !)) (look ! 79 refl)) (and-then ! (load ! (from ! (stop !)) (look ! 78 refl)) (and-then ! (load ! (from ! (stop !)) (look ! 77 refl)) (and-then ! (load ! (from ! (stop !)) (look ! 76 refl)) (and-then ! (load ! (from ! (stop !)) (look ! 75 refl)) (and-then ! (load ! (from ! (stop !)) (look ! 74 refl)) (and-then ! (load ! (from ! (stop !)) (look ! 73 refl)) (and-then ! (load ! (from ! (stop !)) (look ! 72 refl)) (and-then ! (load ! (from ! (stop !)) (look ! 71 refl)) (and-then ! (load ! (from ! (stop !)) (look ! 70 refl)) (and-then ! (load ! (from ! (stop !)) (look ! 69 refl)) (and-then ! (load ! (from ! (stop !)) (look ! 68 refl)) (and-then ! (load ! (from ! (stop !)) (look ! 67 refl)) (and-then ! (load ! (from ! (stop !)) (look ! 66 refl)) (and-then ! (load ! (from ! (stop !)) (look ! 44 refl)) (and-then ! (load ! (from ! (stop !)) (look ! 64 refl)) (and-then ! (load ! (from ! (stop !)) (look ! 63 refl)) (and-then ! (load ! (from ! (stop !)) (look ! 42 refl)) (and-then ! (load ! (from ! (stop !)) (look ! 61 refl)) (and-then ! (load ! (from ! (stop !)) (look ! 60 refl)) (and-then ! (load ! (from ! (stop !)) (look ! 40 refl)) (and-then ! (load ! (from ! (stop !)) (look ! 58 refl)) (and-then ! (load ! (from ! (stop !)) (look ! 57 refl)) (no-more !)))))))))))))))))))))))))))) (λ z1.
+        use1 W (later (some (λ (r1 : ℕ). ((‵ (flft (ν1a ∷ []) fullShare) ⊛ ‵ (flft (ν1b ∷ []) fullShare) ⊛ ‵ (flft (ν1c ∷ []) fullShare) ⊛ ‵ (flft (ν1d ∷ []) fullShare) ⊛ ‵ (flft κ₃ q₃) ⊛ ‵ (flft κ₄ q₄) ⊛ ‵ (flft κ₅ q₅) ⊛ ‵ (flft κ₆ q₆) ⊛ ‵ (flft (ν1s ∷ []) fullShare) ⊛ ‵ (flft (ν1v ∷ []) fullShare) ⊛ ‵ (flft (ν1y ∷ []) fullShare) ⊛ ‵ (flft κ₇ q₇) ⊛ ‵ (flft κ₈ q₈) ⊛ ‵ ftrue) ⊛ ‵ (u32 .own r1 (z1 ∷ []))) ⊛ some (λ (ws : Lasts g1.ended ((ν1a ∷ []), ((ν1b ∷ []), ((ν1c ∷ []), ((ν1d ∷ []), (κ₃, (κ₄, (κ₅, (κ₆, ((ν1s ∷ []), ((ν1v ∷ []), ((ν1y ∷ []), (κ₇, (κ₈, tt))))))))))))) (record { ptr = (l₃₄, 0); name = δ1a; now = n1 }, (ref2 δ1b (ys2), (ref3 δ1c (ys3), (ref4 δ1d (ys4), (n5, (n6, (s7, (n8, (n9, (s10, (n11, (n12, (s13, (n14, (n15, (s16, (n17, (n18, (record { ptr = (l₃₁, 0); name = δ1s; now = (take n28 (n19)) }, (n20, (n21, (record { ptr = (l₃₂, 0); name = δ1v; now = (take n29 (n22)) }, (n23, (n24, (record { ptr = (l₃₃, 0); name = δ1y; now = (take n30 (n25)) }, (s26, (s27, tt)))))))))))))))))))))))))))). ‵ (lasts g1.ended ((ν1a ∷ []), ((ν1b ∷ []), ((ν1c ∷ []), ((ν1d ∷ []), (κ₃, (κ₄, (κ₅, (κ₆, ((ν1s ∷ []), ((ν1v ∷ []), ((ν1y ∷ []), (κ₇, (κ₈, tt))))))))))))) (record { ptr = (l₃₄, 0); name = δ1a; now = n1 }, (ref2 δ1b (ys2), (ref3 δ1c (ys3), (ref4 δ1d (ys4), (n5, (n6, (s7, (n8, (n9, (s10, (n11, (n12, (s13, (n14, (n15, (s16, (n17, (n18, (record { ptr = (l₃₁, 0); name = δ1s; now = (take n28 (n19)) }, (n20, (n21, (record { ptr = (l₃₂, 0); name = δ1v; now = (take n29 (n22)) }, (n23, (n24, (record { ptr = (l₃₃, 0); name = δ1y; now = (take n30 (n25)) }, (s26, (s27, tt))))))))))))))))))))))))))) ws) ⊛ raw (g1.clauses 𝓤 H A at-mem run ((ν1a ∷ []), ((ν1b ∷ []), ((ν1c ∷ []), ((ν1d ∷ []), (κ₃, (κ₄, (κ₅, (κ₆, ((ν1s ∷ []), ((ν1v ∷ []), ((ν1y ∷ []), (κ₇, (κ₈, tt))))))))))))) (record { ptr = (l₃₄, 0); name = δ1a; now = n1 }, (ref2 δ1b (ys2), (ref3 δ1c (ys3), (ref4 δ1d (ys4), (n5, (n6, (s7, (n8, (n9, (s10, (n11, (n12, (s13, (n14, (n15, (s16, (n17, (n18, (record { ptr = (l₃₁, 0); name = δ1s; now = (take n28 (n19)) }, (n20, (n21, (record { ptr = (l₃₂, 0); name = δ1v; now = (take n29 (n22)) }, (n23, (n24, (record { ptr = (l₃₃, 0); name = δ1y; now = (take n30 (n25)) }, (s26, (s27, tt))))))))))))))))))))))))))) .ensures tt r1 (atExit g1.ended ((ν1a ∷ []), ((ν1b ∷ []), ((ν1c ∷ []), ((ν1d ∷ []), (κ₃, (κ₄, (κ₅, (κ₆, ((ν1s ∷ []), ((ν1v ∷ []), ((ν1y ∷ []), (κ₇, (κ₈, tt))))))))))))) (record { ptr = (l₃₄, 0); name = δ1a; now = n1 }, (ref2 δ1b (ys2), (ref3 δ1c (ys3), (ref4 δ1d (ys4), (n5, (n6, (s7, (n8, (n9, (s10, (n11, (n12, (s13, (n14, (n15, (s16, (n17, (n18, (record { ptr = (l₃₁, 0); name = δ1s; now = (take n28 (n19)) }, (n20, (n21, (record { ptr = (l₃₂, 0); name = δ1v; now = (take n29 (n22)) }, (n23, (n24, (record { ptr = (l₃₃, 0); name = δ1y; now = (take n30 (n25)) }, (s26, (s27, tt))))))))))))))))))))))))))) ws)))))) (id⊢ 𝓤 _) $ await ! tt $ pick ! (λ r1. split ! $ move ! (1 ∷ []) $ pick ! (λ ws1. split ! $ move ! (1 ∷ []) $ heard ! _ (λ e1.
+        fsplit ! $ move ! (1 ∷ []) $ fsplit ! $ fsplit ! $ move ! (1 ∷ []) $ feqL ! (λ same1b. move ! (1 ∷ []) $ fsplit ! $ fsplit ! $ move ! (1 ∷ []) $ feqL ! (λ same1c. move ! (1 ∷ []) $ fsplit ! $ fsplit ! $ move ! (1 ∷ []) $ feqL ! (λ same1d. move ! (1 ∷ []) $ drop ! $ move ! (4 ∷ []) $ split ! $ move ! (1 ∷ []) $ peeks ! u32 (Is u32) (shows 𝓤 H A u32) r1 (z1 ∷ []) (λ i1. drop ! $ land ! (from ! (stop !)) (init ! 57 refl (uint-lawful 𝓤 H A W w32 .typed r1 _ i1 .0)) $
+        tidy W (_ ∷ _ ∷ _ ∷ _ ∷ _ ∷ _ ∷ _ ∷ _ ∷ _ ∷ _ ∷ _ ∷ _ ∷ _ ∷ _ ∷ _ ∷ _ ∷ _ ∷ _ ∷ _ ∷ _ ∷ _ ∷ _ ∷ _ ∷ _ ∷ _ ∷ _ ∷ _ ∷ _ ∷ _ ∷ _ ∷ _ ∷ _ ∷ _ ∷ _ ∷ _ ∷ _ ∷ _ ∷ _ ∷ _ ∷ _ ∷ _ ∷ _ ∷ _ ∷ _ ∷ _ ∷ _ ∷ _ ∷ _ ∷ _ ∷ _ ∷ _ ∷ _ ∷ _ ∷ _ ∷ _ ∷ _ ∷ _ ∷ _ ∷ _ ∷ _ ∷ _ ∷ _ ∷ _ ∷ _ ∷ _ ∷ _ ∷ _ ∷ _ ∷ _ ∷ _ ∷ _ ∷ _ ∷ _ ∷ _ ∷ _ ∷ _ ∷ _ ∷ _ ∷ _ ∷ _ ∷ _ ∷ _ ∷ _ ∷ _ ∷ _ ∷ _ ∷ _ ∷ _ ∷ _ ∷ []) $ split ! $ move ! (1 ∷ []) $ split ! $ move ! (1 ∷ []) $ split ! $ move ! (1 ∷ []) $ split ! $ move ! (1 ∷ []) $ split ! $ move ! (1 ∷ []) $ split ! $ move ! (1 ∷ []) $ split ! $ move ! (1 ∷ []) $ split ! $ move ! (1 ∷ []) $ split ! $ move ! (1 ∷ []) $ split ! $ move ! (1 ∷ []) $ split ! $ move ! (1 ∷ []) $ split ! $ move ! (1 ∷ []) $ split ! $ move ! (1 ∷ []) $ drop ! $ move ! (12 ∷ []) $ lft-end ! tt $ move ! (0 ∷ 32 ∷ 16 ∷ []) $ use3 W (later (‵ (partAt mTranscript.the-row fullShare ((ws1 .0)) l₃₄ 0))) (ref-back 𝓤 H A W mTranscript.the-row (ν1a ∷ []) δ1a ((ws1 .0)) l₃₄ 0) $ await ! tt $
+        out ! mTranscript.the-row fullShare ((ws1 .0)) l₃₄ 0 (λ vs. spelt ! mTranscript.the-row (Is mTranscript.the-row) (shows 𝓤 H A mTranscript.the-row) (LL.vals mTranscript.the-type lTranscript.the-laws) (LL.tells mTranscript.the-type lTranscript.the-laws) fullShare ((ws1 .0)) vs l₃₄ 0 $ move ! (1 ∷ []) $ peeks ! mTranscript.the-row (Is mTranscript.the-row) (shows 𝓤 H A mTranscript.the-row) ((ws1 .0)) (LL.val mTranscript.the-type lTranscript.the-laws ((ws1 .0)) ∷ []) (λ w1a. drop ! $ use1 W (‵ (fat fullShare (lTranscript.mir) l₃₄ 0 (LL.val mTranscript.the-type lTranscript.the-laws ((ws1 .0))))) (W .laws .raw-at fullShare (lTranscript.mir) l₃₄ 0 (LL.val mTranscript.the-type lTranscript.the-laws ((ws1 .0)))) $
+        move ! (12 ∷ []) $ lft-end ! tt $ move ! (0 ∷ 30 ∷ 15 ∷ []) $ use3 W (later (‵ (O2 (ws1 .1 .0)) ⊛ ‵ (flft κ₀ q₀))) (backs2 (named 1) ν1b δ1b (ys2) (ws1 .1 .0) (refl) room2 same1b) $ await ! tt $ split ! $
+        move ! (13 ∷ []) $ lft-end ! tt $ move ! (0 ∷ 29 ∷ 15 ∷ []) $ use3 W (later (‵ (O3 (ws1 .1 .1 .0)) ⊛ ‵ (flft κ₁ q₁))) (backs3 (named 2) ν1c δ1c (ys3) (ws1 .1 .1 .0) (refl) room3 same1c) $ await ! tt $ split ! $
+        move ! (14 ∷ []) $ lft-end ! tt $ move ! (0 ∷ 28 ∷ 15 ∷ []) $ use3 W (later (‵ (O4 (ws1 .1 .1 .1 .0)) ⊛ ‵ (flft κ₂ q₂))) (backs4 (named 3) ν1d δ1d (ys4) (ws1 .1 .1 .1 .0) (refl) room4 same1d) $ await ! tt $ split ! $
+        move ! (11 ∷ []) $ lft-end ! tt $ move ! (0 ∷ 22 ∷ []) $ lent-back ! tt $ fsplit ! $ drop ! $ move ! (0 ∷ 22 ∷ []) $ use2 W (‵ (parts (mem mEntry.the-row) (shares mEntry.the-row) fullShare (n19) l₃₁ 0)) (mend 𝓤 H A mEntry.the-row fullShare n28 (n19) l₃₁ 0) $ feqI ! ℕ (length (n19)) 64 ln1s $ fjoin ! $ use1 W (‵ (partAt (Array mEntry.the-row 64) fullShare (n19) l₃₁ 0)) (array-whole 𝓤 H A W mEntry.the-row fullShare 64 (n19) l₃₁ 0) $
+        out ! (Array mEntry.the-row 64) fullShare (n19) l₃₁ 0 (λ vs. spelt ! (Array mEntry.the-row 64) (Is (Array mEntry.the-row 64)) (shows 𝓤 H A (Array mEntry.the-row 64)) (array-vals (LL.vals mEntry.the-type lEntry.the-laws)) (array-tells mEntry.the-row (LL.vals mEntry.the-type lEntry.the-laws) (LL.tells mEntry.the-type lEntry.the-laws) 64) fullShare (n19) vs l₃₁ 0 $ move ! (1 ∷ []) $ peeks ! (Array mEntry.the-row 64) (Is (Array mEntry.the-row 64)) (shows 𝓤 H A (Array mEntry.the-row 64)) (n19) (array-val (LL.vals mEntry.the-type lEntry.the-laws) (n19) ∷ []) (λ w1s. drop ! $ use1 W (‵ (fat fullShare (tyArray (lEntry.mir) 64) l₃₁ 0 (array-val (LL.vals mEntry.the-type lEntry.the-laws) (n19)))) (W .laws .raw-at fullShare (tyArray (lEntry.mir) 64) l₃₁ 0 (array-val (LL.vals mEntry.the-type lEntry.the-laws) (n19))) $
+        move ! (11 ∷ []) $ lft-end ! tt $ move ! (0 ∷ 20 ∷ []) $ lent-back ! tt $ fsplit ! $ drop ! $ move ! (0 ∷ 20 ∷ []) $ use2 W (‵ (parts (mem mEntry.the-row) (shares mEntry.the-row) fullShare (n22) l₃₂ 0)) (mend 𝓤 H A mEntry.the-row fullShare n29 (n22) l₃₂ 0) $ feqI ! ℕ (length (n22)) 64 ln1v $ fjoin ! $ use1 W (‵ (partAt (Array mEntry.the-row 64) fullShare (n22) l₃₂ 0)) (array-whole 𝓤 H A W mEntry.the-row fullShare 64 (n22) l₃₂ 0) $
+        out ! (Array mEntry.the-row 64) fullShare (n22) l₃₂ 0 (λ vs. spelt ! (Array mEntry.the-row 64) (Is (Array mEntry.the-row 64)) (shows 𝓤 H A (Array mEntry.the-row 64)) (array-vals (LL.vals mEntry.the-type lEntry.the-laws)) (array-tells mEntry.the-row (LL.vals mEntry.the-type lEntry.the-laws) (LL.tells mEntry.the-type lEntry.the-laws) 64) fullShare (n22) vs l₃₂ 0 $ move ! (1 ∷ []) $ peeks ! (Array mEntry.the-row 64) (Is (Array mEntry.the-row 64)) (shows 𝓤 H A (Array mEntry.the-row 64)) (n22) (array-val (LL.vals mEntry.the-type lEntry.the-laws) (n22) ∷ []) (λ w1v. drop ! $ use1 W (‵ (fat fullShare (tyArray (lEntry.mir) 64) l₃₂ 0 (array-val (LL.vals mEntry.the-type lEntry.the-laws) (n22)))) (W .laws .raw-at fullShare (tyArray (lEntry.mir) 64) l₃₂ 0 (array-val (LL.vals mEntry.the-type lEntry.the-laws) (n22))) $
+        move ! (11 ∷ []) $ lft-end ! tt $ move ! (0 ∷ 18 ∷ []) $ lent-back ! tt $ fsplit ! $ drop ! $ move ! (0 ∷ 18 ∷ []) $ use2 W (‵ (parts (mem mEntry.the-row) (shares mEntry.the-row) fullShare (n25) l₃₃ 0)) (mend 𝓤 H A mEntry.the-row fullShare n30 (n25) l₃₃ 0) $ feqI ! ℕ (length (n25)) 64 ln1y $ fjoin ! $ use1 W (‵ (partAt (Array mEntry.the-row 64) fullShare (n25) l₃₃ 0)) (array-whole 𝓤 H A W mEntry.the-row fullShare 64 (n25) l₃₃ 0) $
+        out ! (Array mEntry.the-row 64) fullShare (n25) l₃₃ 0 (λ vs. spelt ! (Array mEntry.the-row 64) (Is (Array mEntry.the-row 64)) (shows 𝓤 H A (Array mEntry.the-row 64)) (array-vals (LL.vals mEntry.the-type lEntry.the-laws)) (array-tells mEntry.the-row (LL.vals mEntry.the-type lEntry.the-laws) (LL.tells mEntry.the-type lEntry.the-laws) 64) fullShare (n25) vs l₃₃ 0 $ move ! (1 ∷ []) $ peeks ! (Array mEntry.the-row 64) (Is (Array mEntry.the-row 64)) (shows 𝓤 H A (Array mEntry.the-row 64)) (n25) (array-val (LL.vals mEntry.the-type lEntry.the-laws) (n25) ∷ []) (λ w1y. drop ! $ use1 W (‵ (fat fullShare (tyArray (lEntry.mir) 64) l₃₃ 0 (array-val (LL.vals mEntry.the-type lEntry.the-laws) (n25)))) (W .laws .raw-at fullShare (tyArray (lEntry.mir) 64) l₃₃ 0 (array-val (LL.vals mEntry.the-type lEntry.the-laws) (n25))) $
+        assigns ! (of-opd ! (load ! (from ! (stop !)) (look ! 9 refl))) (from ! (stop !)) (init ! 44 refl (LL.lawful mTranscript.the-type lTranscript.the-laws 𝓤 H A W .typed (ws1 .0) _ w1a .0)) $
+        tidy W (_ ∷ _ ∷ _ ∷ _ ∷ _ ∷ _ ∷ _ ∷ _ ∷ _ ∷ _ ∷ _ ∷ _ ∷ _ ∷ _ ∷ _ ∷ _ ∷ _ ∷ _ ∷ _ ∷ _ ∷ _ ∷ _ ∷ _ ∷ _ ∷ _ ∷ _ ∷ _ ∷ _ ∷ _ ∷ _ ∷ _ ∷ _ ∷ _ ∷ _ ∷ _ ∷ _ ∷ _ ∷ _ ∷ _ ∷ _ ∷ _ ∷ _ ∷ _ ∷ _ ∷ _ ∷ _ ∷ _ ∷ _ ∷ _ ∷ _ ∷ _ ∷ _ ∷ _ ∷ _ ∷ _ ∷ _ ∷ _ ∷ _ ∷ _ ∷ _ ∷ _ ∷ _ ∷ _ ∷ _ ∷ _ ∷ _ ∷ _ ∷ _ ∷ _ ∷ _ ∷ _ ∷ _ ∷ _ ∷ _ ∷ _ ∷ _ ∷ _ ∷ _ ∷ _ ∷ _ ∷ _ ∷ _ ∷ _ ∷ _ ∷ _ ∷ _ ∷ _ ∷ _ ∷ _ ∷ _ ∷ []) $ nothing ! $
         -- call 2
-        use1 W (raw (Callee-g2 𝓤 H A at-mem run .pre ((tt, tt, tt, (r1, ((ws1 .0), tt)), (z1 ∷ [], ((LL.val mTranscript.the-type lTranscript.the-laws ((ws1 .0))) ∷ [], tt))), tt))) (qed W ((‵ ftrue) ∷ []) ∵ nothing ! $ owned ! mTranscript.the-row (Is mTranscript.the-row) (LL.makes mTranscript.the-type lTranscript.the-plain 𝓤 H A) ((ws1 .0)) _ w1a $ fjoin ! $ owned ! u32 (Is u32) (uint-makes 𝓤 H A W w32) (r1) _ i1 $ fjoin ! $ move ! (1 ∷ 0 ∷ []) $ join ! $ nothing ! $ move ! (1 ∷ 0 ∷ []) $ frame ! $ done !) $ 
-        calls-at ! fm (Callee-g2 𝓤 H A at-mem run) known-g2 ((tt, tt, tt, (r1, ((ws1 .0), tt)), (z1 ∷ [], ((LL.val mTranscript.the-type lTranscript.the-laws ((ws1 .0))) ∷ [], tt))), tt) (and-then ! (load ! (from ! (stop !)) (look ! 59 refl)) (and-then ! (load ! (from ! (stop !)) (look ! 45 refl)) (no-more !))) (λ z2. 
-        use1 W (later (some (λ (r2 : TranscriptAnswer). ((‵ ftrue) ⊛ ‵ (mTranscriptAnswer.the-row .own r2 (z2 ∷ []))) ⊛ some (λ (ws : Lasts g2.ended tt (r1, ((ws1 .0), tt))). ‵ (lasts g2.ended tt (r1, ((ws1 .0), tt)) ws) ⊛ raw (g2.clauses 𝓤 H A at-mem run tt (r1, ((ws1 .0), tt)) .ensures tt r2 (atExit g2.ended tt (r1, ((ws1 .0), tt)) ws)))))) (id⊢ 𝓤 _) $ await ! tt $ pick ! (λ r2. split ! $ move ! (1 ∷ []) $ pick ! (λ ws2. split ! $ move ! (1 ∷ []) $ heard ! _ (λ e2. 
-        drop ! $ split ! $ move ! (1 ∷ []) $ peeks ! mTranscriptAnswer.the-row (Is mTranscriptAnswer.the-row) (shows 𝓤 H A mTranscriptAnswer.the-row) r2 (z2 ∷ []) (λ i2. drop ! $ land ! (from ! (stop !)) (init ! 90 refl (LL.lawful mTranscriptAnswer.the-type lTranscriptAnswer.the-laws 𝓤 H A W .typed r2 _ i2 .0)) $ 
-        tidy W (_ ∷ _ ∷ _ ∷ _ ∷ _ ∷ _ ∷ _ ∷ _ ∷ _ ∷ _ ∷ _ ∷ _ ∷ _ ∷ _ ∷ _ ∷ _ ∷ _ ∷ _ ∷ _ ∷ _ ∷ _ ∷ _ ∷ _ ∷ _ ∷ _ ∷ _ ∷ _ ∷ _ ∷ _ ∷ _ ∷ _ ∷ _ ∷ _ ∷ _ ∷ _ ∷ _ ∷ _ ∷ _ ∷ _ ∷ _ ∷ _ ∷ _ ∷ _ ∷ _ ∷ _ ∷ _ ∷ _ ∷ _ ∷ _ ∷ _ ∷ _ ∷ _ ∷ _ ∷ _ ∷ _ ∷ _ ∷ _ ∷ _ ∷ _ ∷ _ ∷ _ ∷ _ ∷ _ ∷ _ ∷ _ ∷ _ ∷ _ ∷ _ ∷ _ ∷ _ ∷ _ ∷ _ ∷ _ ∷ _ ∷ _ ∷ _ ∷ _ ∷ _ ∷ _ ∷ _ ∷ _ ∷ _ ∷ _ ∷ _ ∷ _ ∷ _ ∷ _ ∷ _ ∷ _ ∷ _ ∷ _ ∷ []) $ drop ! $ tidy W (_ ∷ _ ∷ _ ∷ _ ∷ _ ∷ _ ∷ _ ∷ _ ∷ _ ∷ _ ∷ _ ∷ _ ∷ _ ∷ _ ∷ _ ∷ _ ∷ _ ∷ _ ∷ _ ∷ _ ∷ _ ∷ _ ∷ _ ∷ _ ∷ _ ∷ _ ∷ _ ∷ _ ∷ _ ∷ _ ∷ _ ∷ _ ∷ _ ∷ _ ∷ _ ∷ _ ∷ _ ∷ _ ∷ _ ∷ _ ∷ _ ∷ _ ∷ _ ∷ _ ∷ _ ∷ _ ∷ _ ∷ _ ∷ _ ∷ _ ∷ _ ∷ _ ∷ _ ∷ _ ∷ _ ∷ _ ∷ _ ∷ _ ∷ _ ∷ _ ∷ _ ∷ _ ∷ _ ∷ _ ∷ _ ∷ _ ∷ _ ∷ _ ∷ _ ∷ _ ∷ _ ∷ _ ∷ _ ∷ _ ∷ _ ∷ _ ∷ _ ∷ _ ∷ _ ∷ _ ∷ _ ∷ _ ∷ _ ∷ _ ∷ _ ∷ _ ∷ _ ∷ _ ∷ _ ∷ _ ∷ []) $ returns ! (look ! 89 refl) $ move ! (3 ∷ 4 ∷ 5 ∷ 6 ∷ 7 ∷ 8 ∷ 10 ∷ 11 ∷ 12 ∷ 13 ∷ 14 ∷ 15 ∷ 16 ∷ 17 ∷ 18 ∷ 19 ∷ 20 ∷ 21 ∷ 22 ∷ 23 ∷ 24 ∷ 25 ∷ 26 ∷ 27 ∷ 28 ∷ 29 ∷ 30 ∷ 31 ∷ 32 ∷ 33 ∷ 34 ∷ 35 ∷ 36 ∷ 37 ∷ 38 ∷ 39 ∷ 40 ∷ 41 ∷ 42 ∷ 43 ∷ 44 ∷ 45 ∷ 46 ∷ 47 ∷ 48 ∷ 49 ∷ 50 ∷ 51 ∷ 52 ∷ 53 ∷ 54 ∷ 55 ∷ 56 ∷ 57 ∷ 58 ∷ 9 ∷ 0 ∷ 1 ∷ 2 ∷ 59 ∷ 60 ∷ 61 ∷ 62 ∷ 63 ∷ 64 ∷ 65 ∷ 66 ∷ 67 ∷ 68 ∷ 69 ∷ 70 ∷ 71 ∷ 72 ∷ 73 ∷ 74 ∷ 75 ∷ 76 ∷ 77 ∷ 78 ∷ 79 ∷ 80 ∷ 81 ∷ 82 ∷ 83 ∷ 84 ∷ 85 ∷ 86 ∷ 87 ∷ 88 ∷ 89 ∷ []) $ move ! (39 ∷ []) $ use1 W (dies ((lTranscriptAnswer.mir, l₀) ∷ (lTranscript.mir, l₁) ∷ (sliceTy (tyRef (named 0) mut (tyInt w64)), l₂) ∷ (sliceTy (tyRef (named 1) mut (tyInt w64)), l₃) ∷ (sliceTy (tyRef (named 2) mut (tyInt w64)), l₄) ∷ (tyInt w64, l₅) ∷ (tyInt w64, l₆) ∷ (sliceTy (tyRef (named 3) imm (tyInt w64)), l₇) ∷ (tyInt w64, l₈) ∷ (tyInt w64, l₉) ∷ (sliceTy (tyRef (named 4) imm (pointee (mEntry.the-row .written))), l₁₀) ∷ (tyInt w64, l₁₁) ∷ (tyInt w64, l₁₂) ∷ (sliceTy (tyRef (named 5) imm (pointee (mEntry.the-row .written))), l₁₃) ∷ (tyInt w64, l₁₄) ∷ (tyInt w64, l₁₅) ∷ (sliceTy (tyRef (named 6) imm (pointee (mEntry.the-row .written))), l₁₆) ∷ (tyInt w64, l₁₇) ∷ (tyInt w64, l₁₈) ∷ (tyArray (lEntry.mir) 64, l₁₉) ∷ (tyInt w64, l₂₀) ∷ (tyInt w64, l₂₁) ∷ (tyArray (lEntry.mir) 64, l₂₂) ∷ (tyInt w64, l₂₃) ∷ (tyInt w64, l₂₄) ∷ (tyArray (lEntry.mir) 64, l₂₅) ∷ (sliceTy (tyRef (named 7) imm (tyInt w64)), l₂₆) ∷ (sliceTy (tyRef (named 8) imm (tyInt w64)), l₂₇) ∷ (tyInt w64, l₂₈) ∷ (tyInt w64, l₂₉) ∷ (tyInt w64, l₃₀) ∷ (tyArray (lEntry.mir) 64, l₃₁) ∷ (tyArray (lEntry.mir) 64, l₃₂) ∷ (tyArray (lEntry.mir) 64, l₃₃) ∷ (lTranscript.mir, l₃₄) ∷ (tyInt w32, l₃₅) ∷ (tyRef erased mut (pointee (mTranscript.the-row .written)), l₃₆) ∷ (tyRef erased mut (tyInt w64), l₃₇) ∷ (sliceTy (tyRef erased mut (tyInt w64)), l₃₈) ∷ (tyRef erased mut (tyInt w64), l₃₉) ∷ (sliceTy (tyRef erased mut (tyInt w64)), l₄₀) ∷ (tyRef erased mut (tyInt w64), l₄₁) ∷ (sliceTy (tyRef erased mut (tyInt w64)), l₄₂) ∷ (tyRef erased imm (pointee ((Array mEntry.the-row 64) .written)), l₄₃) ∷ (sliceTy (tyRef erased imm (pointee (mEntry.the-row .written))), l₄₄) ∷ (tyRef erased imm (pointee ((Array mEntry.the-row 64) .written)), l₄₅) ∷ (sliceTy (tyRef erased imm (pointee (mEntry.the-row .written))), l₄₆) ∷ (tyRef erased imm (pointee ((Array mEntry.the-row 64) .written)), l₄₇) ∷ (sliceTy (tyRef erased imm (pointee (mEntry.the-row .written))), l₄₈) ∷ (lTranscript.mir, l₄₉) ∷ []) (‵ ftrue)) die $ free-all ! 39 ((lTranscriptAnswer.mir, l₀) ∷ (lTranscript.mir, l₁) ∷ (sliceTy (tyRef (named 0) mut (tyInt w64)), l₂) ∷ (sliceTy (tyRef (named 1) mut (tyInt w64)), l₃) ∷ (sliceTy (tyRef (named 2) mut (tyInt w64)), l₄) ∷ (tyInt w64, l₅) ∷ (tyInt w64, l₆) ∷ (sliceTy (tyRef (named 3) imm (tyInt w64)), l₇) ∷ (tyInt w64, l₈) ∷ (tyInt w64, l₉) ∷ (sliceTy (tyRef (named 4) imm (pointee (mEntry.the-row .written))), l₁₀) ∷ (tyInt w64, l₁₁) ∷ (tyInt w64, l₁₂) ∷ (sliceTy (tyRef (named 5) imm (pointee (mEntry.the-row .written))), l₁₃) ∷ (tyInt w64, l₁₄) ∷ (tyInt w64, l₁₅) ∷ (sliceTy (tyRef (named 6) imm (pointee (mEntry.the-row .written))), l₁₆) ∷ (tyInt w64, l₁₇) ∷ (tyInt w64, l₁₈) ∷ (tyArray (lEntry.mir) 64, l₁₉) ∷ (tyInt w64, l₂₀) ∷ (tyInt w64, l₂₁) ∷ (tyArray (lEntry.mir) 64, l₂₂) ∷ (tyInt w64, l₂₃) ∷ (tyInt w64, l₂₄) ∷ (tyArray (lEntry.mir) 64, l₂₅) ∷ (sliceTy (tyRef (named 7) imm (tyInt w64)), l₂₆) ∷ (sliceTy (tyRef (named 8) imm (tyInt w64)), l₂₇) ∷ (tyInt w64, l₂₈) ∷ (tyInt w64, l₂₉) ∷ (tyInt w64, l₃₀) ∷ (tyArray (lEntry.mir) 64, l₃₁) ∷ (tyArray (lEntry.mir) 64, l₃₂) ∷ (tyArray (lEntry.mir) 64, l₃₃) ∷ (lTranscript.mir, l₃₄) ∷ (tyInt w32, l₃₅) ∷ (tyRef erased mut (pointee (mTranscript.the-row .written)), l₃₆) ∷ (tyRef erased mut (tyInt w64), l₃₇) ∷ (sliceTy (tyRef erased mut (tyInt w64)), l₃₈) ∷ (tyRef erased mut (tyInt w64), l₃₉) ∷ (sliceTy (tyRef erased mut (tyInt w64)), l₄₀) ∷ (tyRef erased mut (tyInt w64), l₄₁) ∷ (sliceTy (tyRef erased mut (tyInt w64)), l₄₂) ∷ (tyRef erased imm (pointee ((Array mEntry.the-row 64) .written)), l₄₃) ∷ (sliceTy (tyRef erased imm (pointee (mEntry.the-row .written))), l₄₄) ∷ (tyRef erased imm (pointee ((Array mEntry.the-row 64) .written)), l₄₅) ∷ (sliceTy (tyRef erased imm (pointee (mEntry.the-row .written))), l₄₆) ∷ (tyRef erased imm (pointee ((Array mEntry.the-row 64) .written)), l₄₇) ∷ (sliceTy (tyRef erased imm (pointee (mEntry.the-row .written))), l₄₈) ∷ (lTranscript.mir, l₄₉) ∷ []) (kept _ ∷ kept _ ∷ kept _ ∷ kept _ ∷ kept _ ∷ kept _ ∷ kept _ ∷ kept _ ∷ kept _ ∷ kept _ ∷ kept _ ∷ kept _ ∷ kept _ ∷ kept _ ∷ kept _ ∷ kept _ ∷ kept _ ∷ kept _ ∷ kept _ ∷ kept _ ∷ kept _ ∷ kept _ ∷ kept _ ∷ kept _ ∷ kept _ ∷ kept _ ∷ kept _ ∷ kept _ ∷ kept _ ∷ kept _ ∷ kept _ ∷ kept _ ∷ kept _ ∷ kept _ ∷ kept _ ∷ kept _ ∷ kept _ ∷ kept _ ∷ kept _ ∷ kept _ ∷ kept _ ∷ kept _ ∷ kept _ ∷ kept _ ∷ kept _ ∷ kept _ ∷ kept _ ∷ kept _ ∷ kept _ ∷ kept _ ∷ []) refl $ 
-        suffices ! _ (ends-at 𝓤 H A f.ended stayed (f.clauses 𝓤 H A at-mem run) W (((κ₀, (κ₁, (κ₂, (κ₃, (κ₄, (κ₅, (κ₆, (κ₇, (κ₈, tt))))))))), (q₀, (q₁, (q₂, (q₃, (q₄, (q₅, (q₆, (q₇, (q₈, tt))))))))), tt, a, at), tt) z2 r2 (tt, (ws1 .1 .0, (ws1 .1 .1 .0, (ws1 .1 .1 .1 .0, (tt, (tt, (tt, (tt, (tt, (tt, (tt, (tt, (tt, (tt, (tt, (tt, (tt, (tt, (tt, (tt, (tt, (tt, (tt, (tt, (tt, (tt, (tt, (tt, (tt, (tt, tt)))))))))))))))))))))))))))))) (tt, (same1b, (same1c, (same1d, (tt, (tt, (tt, (tt, (tt, (tt, (tt, (tt, (tt, (tt, (tt, (tt, (tt, (tt, (tt, (tt, (tt, (tt, (tt, (tt, (tt, (tt, (tt, (tt, (tt, (tt, tt))))))))))))))))))))))))))))))) $ says ! (rw (e2 .0, e2 .1) e1) $ 
+        use1 W (raw (Callee-g2 𝓤 H A at-mem run .pre ((tt, tt, tt, (r1, ((ws1 .0), tt)), (z1 ∷ [], ((LL.val mTranscript.the-type lTranscript.the-laws ((ws1 .0))) ∷ [], tt))), tt))) (qed W ((‵ ftrue) ∷ []) ∵ nothing ! $ owned ! mTranscript.the-row (Is mTranscript.the-row) (LL.makes mTranscript.the-type lTranscript.the-plain 𝓤 H A) ((ws1 .0)) _ w1a $ fjoin ! $ owned ! u32 (Is u32) (uint-makes 𝓤 H A W w32) (r1) _ i1 $ fjoin ! $ move ! (1 ∷ 0 ∷ []) $ join ! $ nothing ! $ move ! (1 ∷ 0 ∷ []) $ frame ! $ done !) $
+        calls-at ! fm (Callee-g2 𝓤 H A at-mem run) known-g2 ((tt, tt, tt, (r1, ((ws1 .0), tt)), (z1 ∷ [], ((LL.val mTranscript.the-type lTranscript.the-laws ((ws1 .0))) ∷ [], tt))), tt) (and-then ! (load ! (from ! (stop !)) (look ! 59 refl)) (and-then ! (load ! (from ! (stop !)) (look ! 45 refl)) (no-more !))) (λ z2.
+        use1 W (later (some (λ (r2 : TranscriptAnswer). ((‵ ftrue) ⊛ ‵ (mTranscriptAnswer.the-row .own r2 (z2 ∷ []))) ⊛ some (λ (ws : Lasts g2.ended tt (r1, ((ws1 .0), tt))). ‵ (lasts g2.ended tt (r1, ((ws1 .0), tt)) ws) ⊛ raw (g2.clauses 𝓤 H A at-mem run tt (r1, ((ws1 .0), tt)) .ensures tt r2 (atExit g2.ended tt (r1, ((ws1 .0), tt)) ws)))))) (id⊢ 𝓤 _) $ await ! tt $ pick ! (λ r2. split ! $ move ! (1 ∷ []) $ pick ! (λ ws2. split ! $ move ! (1 ∷ []) $ heard ! _ (λ e2.
+        drop ! $ split ! $ move ! (1 ∷ []) $ peeks ! mTranscriptAnswer.the-row (Is mTranscriptAnswer.the-row) (shows 𝓤 H A mTranscriptAnswer.the-row) r2 (z2 ∷ []) (λ i2. drop ! $ land ! (from ! (stop !)) (init ! 90 refl (LL.lawful mTranscriptAnswer.the-type lTranscriptAnswer.the-laws 𝓤 H A W .typed r2 _ i2 .0)) $
+        tidy W (_ ∷ _ ∷ _ ∷ _ ∷ _ ∷ _ ∷ _ ∷ _ ∷ _ ∷ _ ∷ _ ∷ _ ∷ _ ∷ _ ∷ _ ∷ _ ∷ _ ∷ _ ∷ _ ∷ _ ∷ _ ∷ _ ∷ _ ∷ _ ∷ _ ∷ _ ∷ _ ∷ _ ∷ _ ∷ _ ∷ _ ∷ _ ∷ _ ∷ _ ∷ _ ∷ _ ∷ _ ∷ _ ∷ _ ∷ _ ∷ _ ∷ _ ∷ _ ∷ _ ∷ _ ∷ _ ∷ _ ∷ _ ∷ _ ∷ _ ∷ _ ∷ _ ∷ _ ∷ _ ∷ _ ∷ _ ∷ _ ∷ _ ∷ _ ∷ _ ∷ _ ∷ _ ∷ _ ∷ _ ∷ _ ∷ _ ∷ _ ∷ _ ∷ _ ∷ _ ∷ _ ∷ _ ∷ _ ∷ _ ∷ _ ∷ _ ∷ _ ∷ _ ∷ _ ∷ _ ∷ _ ∷ _ ∷ _ ∷ _ ∷ _ ∷ _ ∷ _ ∷ _ ∷ _ ∷ _ ∷ _ ∷ []) $ drop ! $ tidy W (_ ∷ _ ∷ _ ∷ _ ∷ _ ∷ _ ∷ _ ∷ _ ∷ _ ∷ _ ∷ _ ∷ _ ∷ _ ∷ _ ∷ _ ∷ _ ∷ _ ∷ _ ∷ _ ∷ _ ∷ _ ∷ _ ∷ _ ∷ _ ∷ _ ∷ _ ∷ _ ∷ _ ∷ _ ∷ _ ∷ _ ∷ _ ∷ _ ∷ _ ∷ _ ∷ _ ∷ _ ∷ _ ∷ _ ∷ _ ∷ _ ∷ _ ∷ _ ∷ _ ∷ _ ∷ _ ∷ _ ∷ _ ∷ _ ∷ _ ∷ _ ∷ _ ∷ _ ∷ _ ∷ _ ∷ _ ∷ _ ∷ _ ∷ _ ∷ _ ∷ _ ∷ _ ∷ _ ∷ _ ∷ _ ∷ _ ∷ _ ∷ _ ∷ _ ∷ _ ∷ _ ∷ _ ∷ _ ∷ _ ∷ _ ∷ _ ∷ _ ∷ _ ∷ _ ∷ _ ∷ _ ∷ _ ∷ _ ∷ _ ∷ _ ∷ _ ∷ _ ∷ _ ∷ _ ∷ _ ∷ []) $ returns ! (look ! 89 refl) $ move ! (3 ∷ 4 ∷ 5 ∷ 6 ∷ 7 ∷ 8 ∷ 10 ∷ 11 ∷ 12 ∷ 13 ∷ 14 ∷ 15 ∷ 16 ∷ 17 ∷ 18 ∷ 19 ∷ 20 ∷ 21 ∷ 22 ∷ 23 ∷ 24 ∷ 25 ∷ 26 ∷ 27 ∷ 28 ∷ 29 ∷ 30 ∷ 31 ∷ 32 ∷ 33 ∷ 34 ∷ 35 ∷ 36 ∷ 37 ∷ 38 ∷ 39 ∷ 40 ∷ 41 ∷ 42 ∷ 43 ∷ 44 ∷ 45 ∷ 46 ∷ 47 ∷ 48 ∷ 49 ∷ 50 ∷ 51 ∷ 52 ∷ 53 ∷ 54 ∷ 55 ∷ 56 ∷ 57 ∷ 58 ∷ 9 ∷ 0 ∷ 1 ∷ 2 ∷ 59 ∷ 60 ∷ 61 ∷ 62 ∷ 63 ∷ 64 ∷ 65 ∷ 66 ∷ 67 ∷ 68 ∷ 69 ∷ 70 ∷ 71 ∷ 72 ∷ 73 ∷ 74 ∷ 75 ∷ 76 ∷ 77 ∷ 78 ∷ 79 ∷ 80 ∷ 81 ∷ 82 ∷ 83 ∷ 84 ∷ 85 ∷ 86 ∷ 87 ∷ 88 ∷ 89 ∷ []) $ move ! (39 ∷ []) $ use1 W (dies ((lTranscriptAnswer.mir, l₀) ∷ (lTranscript.mir, l₁) ∷ (sliceTy (tyRef (named 0) mut (tyInt w64)), l₂) ∷ (sliceTy (tyRef (named 1) mut (tyInt w64)), l₃) ∷ (sliceTy (tyRef (named 2) mut (tyInt w64)), l₄) ∷ (tyInt w64, l₅) ∷ (tyInt w64, l₆) ∷ (sliceTy (tyRef (named 3) imm (tyInt w64)), l₇) ∷ (tyInt w64, l₈) ∷ (tyInt w64, l₉) ∷ (sliceTy (tyRef (named 4) imm (pointee (mEntry.the-row .written))), l₁₀) ∷ (tyInt w64, l₁₁) ∷ (tyInt w64, l₁₂) ∷ (sliceTy (tyRef (named 5) imm (pointee (mEntry.the-row .written))), l₁₃) ∷ (tyInt w64, l₁₄) ∷ (tyInt w64, l₁₅) ∷ (sliceTy (tyRef (named 6) imm (pointee (mEntry.the-row .written))), l₁₆) ∷ (tyInt w64, l₁₇) ∷ (tyInt w64, l₁₈) ∷ (tyArray (lEntry.mir) 64, l₁₉) ∷ (tyInt w64, l₂₀) ∷ (tyInt w64, l₂₁) ∷ (tyArray (lEntry.mir) 64, l₂₂) ∷ (tyInt w64, l₂₃) ∷ (tyInt w64, l₂₄) ∷ (tyArray (lEntry.mir) 64, l₂₅) ∷ (sliceTy (tyRef (named 7) imm (tyInt w64)), l₂₆) ∷ (sliceTy (tyRef (named 8) imm (tyInt w64)), l₂₇) ∷ (tyInt w64, l₂₈) ∷ (tyInt w64, l₂₉) ∷ (tyInt w64, l₃₀) ∷ (tyArray (lEntry.mir) 64, l₃₁) ∷ (tyArray (lEntry.mir) 64, l₃₂) ∷ (tyArray (lEntry.mir) 64, l₃₃) ∷ (lTranscript.mir, l₃₄) ∷ (tyInt w32, l₃₅) ∷ (tyRef erased mut (pointee (mTranscript.the-row .written)), l₃₆) ∷ (tyRef erased mut (tyInt w64), l₃₇) ∷ (sliceTy (tyRef erased mut (tyInt w64)), l₃₈) ∷ (tyRef erased mut (tyInt w64), l₃₉) ∷ (sliceTy (tyRef erased mut (tyInt w64)), l₄₀) ∷ (tyRef erased mut (tyInt w64), l₄₁) ∷ (sliceTy (tyRef erased mut (tyInt w64)), l₄₂) ∷ (tyRef erased imm (pointee ((Array mEntry.the-row 64) .written)), l₄₃) ∷ (sliceTy (tyRef erased imm (pointee (mEntry.the-row .written))), l₄₄) ∷ (tyRef erased imm (pointee ((Array mEntry.the-row 64) .written)), l₄₅) ∷ (sliceTy (tyRef erased imm (pointee (mEntry.the-row .written))), l₄₆) ∷ (tyRef erased imm (pointee ((Array mEntry.the-row 64) .written)), l₄₇) ∷ (sliceTy (tyRef erased imm (pointee (mEntry.the-row .written))), l₄₈) ∷ (lTranscript.mir, l₄₉) ∷ []) (‵ ftrue)) die $ free-all ! 39 ((lTranscriptAnswer.mir, l₀) ∷ (lTranscript.mir, l₁) ∷ (sliceTy (tyRef (named 0) mut (tyInt w64)), l₂) ∷ (sliceTy (tyRef (named 1) mut (tyInt w64)), l₃) ∷ (sliceTy (tyRef (named 2) mut (tyInt w64)), l₄) ∷ (tyInt w64, l₅) ∷ (tyInt w64, l₆) ∷ (sliceTy (tyRef (named 3) imm (tyInt w64)), l₇) ∷ (tyInt w64, l₈) ∷ (tyInt w64, l₉) ∷ (sliceTy (tyRef (named 4) imm (pointee (mEntry.the-row .written))), l₁₀) ∷ (tyInt w64, l₁₁) ∷ (tyInt w64, l₁₂) ∷ (sliceTy (tyRef (named 5) imm (pointee (mEntry.the-row .written))), l₁₃) ∷ (tyInt w64, l₁₄) ∷ (tyInt w64, l₁₅) ∷ (sliceTy (tyRef (named 6) imm (pointee (mEntry.the-row .written))), l₁₆) ∷ (tyInt w64, l₁₇) ∷ (tyInt w64, l₁₈) ∷ (tyArray (lEntry.mir) 64, l₁₉) ∷ (tyInt w64, l₂₀) ∷ (tyInt w64, l₂₁) ∷ (tyArray (lEntry.mir) 64, l₂₂) ∷ (tyInt w64, l₂₃) ∷ (tyInt w64, l₂₄) ∷ (tyArray (lEntry.mir) 64, l₂₅) ∷ (sliceTy (tyRef (named 7) imm (tyInt w64)), l₂₆) ∷ (sliceTy (tyRef (named 8) imm (tyInt w64)), l₂₇) ∷ (tyInt w64, l₂₈) ∷ (tyInt w64, l₂₉) ∷ (tyInt w64, l₃₀) ∷ (tyArray (lEntry.mir) 64, l₃₁) ∷ (tyArray (lEntry.mir) 64, l₃₂) ∷ (tyArray (lEntry.mir) 64, l₃₃) ∷ (lTranscript.mir, l₃₄) ∷ (tyInt w32, l₃₅) ∷ (tyRef erased mut (pointee (mTranscript.the-row .written)), l₃₆) ∷ (tyRef erased mut (tyInt w64), l₃₇) ∷ (sliceTy (tyRef erased mut (tyInt w64)), l₃₈) ∷ (tyRef erased mut (tyInt w64), l₃₉) ∷ (sliceTy (tyRef erased mut (tyInt w64)), l₄₀) ∷ (tyRef erased mut (tyInt w64), l₄₁) ∷ (sliceTy (tyRef erased mut (tyInt w64)), l₄₂) ∷ (tyRef erased imm (pointee ((Array mEntry.the-row 64) .written)), l₄₃) ∷ (sliceTy (tyRef erased imm (pointee (mEntry.the-row .written))), l₄₄) ∷ (tyRef erased imm (pointee ((Array mEntry.the-row 64) .written)), l₄₅) ∷ (sliceTy (tyRef erased imm (pointee (mEntry.the-row .written))), l₄₆) ∷ (tyRef erased imm (pointee ((Array mEntry.the-row 64) .written)), l₄₇) ∷ (sliceTy (tyRef erased imm (pointee (mEntry.the-row .written))), l₄₈) ∷ (lTranscript.mir, l₄₉) ∷ []) (kept _ ∷ kept _ ∷ kept _ ∷ kept _ ∷ kept _ ∷ kept _ ∷ kept _ ∷ kept _ ∷ kept _ ∷ kept _ ∷ kept _ ∷ kept _ ∷ kept _ ∷ kept _ ∷ kept _ ∷ kept _ ∷ kept _ ∷ kept _ ∷ kept _ ∷ kept _ ∷ kept _ ∷ kept _ ∷ kept _ ∷ kept _ ∷ kept _ ∷ kept _ ∷ kept _ ∷ kept _ ∷ kept _ ∷ kept _ ∷ kept _ ∷ kept _ ∷ kept _ ∷ kept _ ∷ kept _ ∷ kept _ ∷ kept _ ∷ kept _ ∷ kept _ ∷ kept _ ∷ kept _ ∷ kept _ ∷ kept _ ∷ kept _ ∷ kept _ ∷ kept _ ∷ kept _ ∷ kept _ ∷ kept _ ∷ kept _ ∷ []) refl $
+        suffices ! _ (ends-at 𝓤 H A f.ended stayed (f.clauses 𝓤 H A at-mem run) W (((κ₀, (κ₁, (κ₂, (κ₃, (κ₄, (κ₅, (κ₆, (κ₇, (κ₈, tt))))))))), (q₀, (q₁, (q₂, (q₃, (q₄, (q₅, (q₆, (q₇, (q₈, tt))))))))), tt, a, at), tt) z2 r2 (tt, (ws1 .1 .0, (ws1 .1 .1 .0, (ws1 .1 .1 .1 .0, (tt, (tt, (tt, (tt, (tt, (tt, (tt, (tt, (tt, (tt, (tt, (tt, (tt, (tt, (tt, (tt, (tt, (tt, (tt, (tt, (tt, (tt, (tt, (tt, (tt, (tt, tt)))))))))))))))))))))))))))))) (tt, (same1b, (same1c, (same1d, (tt, (tt, (tt, (tt, (tt, (tt, (tt, (tt, (tt, (tt, (tt, (tt, (tt, (tt, (tt, (tt, (tt, (tt, (tt, (tt, (tt, (tt, (tt, (tt, (tt, (tt, tt))))))))))))))))))))))))))))))) $ says ! (rw (e2 .0, e2 .1) e1) $
         nothing ! $ move ! (7 ∷ 0 ∷ []) $ join ! $ move ! (7 ∷ 0 ∷ []) $ join ! $ move ! (7 ∷ 0 ∷ []) $ join ! $ move ! (7 ∷ 0 ∷ []) $ join ! $ move ! (7 ∷ 0 ∷ []) $ join ! $ move ! (7 ∷ 0 ∷ []) $ join ! $ move ! (2 ∷ 0 ∷ []) $ join ! $ move ! (3 ∷ 0 ∷ []) $ join ! $ move ! (4 ∷ 0 ∷ []) $ join ! $ nothing ! $ move ! (11 ∷ 0 ∷ []) $ fjoin ! $ move ! (11 ∷ 0 ∷ []) $ fjoin ! $ move ! (11 ∷ 0 ∷ []) $ fjoin ! $ move ! (5 ∷ 0 ∷ []) $ fjoin ! $ move ! (5 ∷ 0 ∷ []) $ fjoin ! $ move ! (9 ∷ 0 ∷ []) $ fjoin ! $ move ! (9 ∷ 0 ∷ []) $ fjoin ! $ move ! (9 ∷ 0 ∷ []) $ fjoin ! $ move ! (9 ∷ 0 ∷ []) $ fjoin ! $ move ! (9 ∷ 0 ∷ []) $ fjoin ! $ move ! (9 ∷ 0 ∷ []) $ fjoin ! $ move ! (9 ∷ 0 ∷ []) $ fjoin ! $ move ! (9 ∷ 0 ∷ []) $ fjoin ! $ move ! (9 ∷ 0 ∷ []) $ fjoin ! $ move ! (5 ∷ 0 ∷ []) $ fjoin ! $ move ! (8 ∷ 0 ∷ []) $ fjoin ! $ move ! (8 ∷ 0 ∷ []) $ fjoin ! $ move ! (5 ∷ 0 ∷ []) $ fjoin ! $ move ! (7 ∷ 0 ∷ []) $ fjoin ! $ move ! (7 ∷ 0 ∷ []) $ fjoin ! $ move ! (5 ∷ 0 ∷ []) $ fjoin ! $ move ! (6 ∷ 0 ∷ []) $ fjoin ! $ move ! (6 ∷ 0 ∷ []) $ fjoin ! $ move ! (5 ∷ 0 ∷ []) $ fjoin ! $ move ! (5 ∷ 0 ∷ []) $ fjoin ! $ move ! (5 ∷ 0 ∷ []) $ fjoin ! $ move ! (2 ∷ 0 ∷ []) $ fjoin ! $ move ! (2 ∷ 0 ∷ []) $ fjoin ! $ move ! (2 ∷ 0 ∷ []) $ fjoin ! $ move ! (2 ∷ 0 ∷ []) $ fjoin ! $ keep ! (1 ∷ 0 ∷ []) $ frame ! $ frame ! $ owned ! mTranscriptAnswer.the-row (Is mTranscriptAnswer.the-row) (LL.makes mTranscriptAnswer.the-type lTranscriptAnswer.the-plain 𝓤 H A) r2 _ i2 $ done !)))))))))))))))))))))))))))))))))))))))))))))))))))))))))))))))))))))))))))))))))))))))))
 
 module _ {M : Type 1} (𝓤 : URA M) (H : Heap 𝓤) (A : Atoms 𝓤) (W : Given 𝓤 H A) (mem : Memory → SProp 𝓤) (run : Routine → Fun 𝓤) where

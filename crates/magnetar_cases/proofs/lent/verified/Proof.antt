@@ -88,7 +88,6 @@ is-no : (t : Bool) → Trueᴮ (not t) → t ≡ false
 is-no true a = absurd a
 is-no false _ = refl
 
-
 abbrev stayed : Stays (f.ended .signature .params) (f.ended .kept)
 stayed = (stay-none (λ _. mTranscript.the-row) yes, (stay-slice (0 ∷ []) tt (plain (λ _. u64)), (stay-slice (1 ∷ []) tt (plain (λ _. u64)), (stay-none (λ _. u64) yes, (stay-none (λ _. u64) yes, (stay-none-slice (2 ∷ []) tt (plain (λ _. u64)) yes, (stay-none (λ _. u64) yes, (stay-none (λ _. u64) yes, (stay-none (λ _. (Array mEntry.the-row 64)) yes, (stay-none (λ _. u64) yes, (stay-none (λ _. u64) yes, (stay-none (λ _. (Array mEntry.the-row 64)) yes, (stay-none (λ _. u64) yes, (stay-none (λ _. u64) yes, (stay-none (λ _. (Array mEntry.the-row 64)) yes, (stay-none (λ _. u64) yes, (stay-none (λ _. u64) yes, (stay-none (λ _. (Array mEntry.the-row 64)) yes, (stay-none (λ _. u64) yes, (stay-none (λ _. u64) yes, (stay-none (λ _. (Array mEntry.the-row 64)) yes, (stay-none (λ _. u64) yes, (stay-none (λ _. u64) yes, (stay-none (λ _. (Array mEntry.the-row 64)) yes, (stay-none-slice (3 ∷ []) tt (plain (λ _. u64)) yes, (stay-none-slice (4 ∷ []) tt (plain (λ _. u64)) yes, (stay-none (λ _. u64) yes, (stay-none (λ _. u64) yes, (stay-none (λ _. u64) yes, (stay-none (λ _. u64) yes, (stay-none (λ _. u64) yes, (stay-none (λ _. u64) yes, tt))))))))))))))))))))))))))))))))
 
@@ -255,54 +254,51 @@ module _ {M : Type 1} (𝓤 : URA M) (H : Heap 𝓤) (A : Atoms 𝓤) (W : Given
     walk : ((n27 ≤ 64) × (n28 ≤ 64) × (n29 ≤ 64) × (n30 ≤ 64) × (n31 ≤ 64) × (n32 ≤ 64)) → ent 𝓤 (onEntry 𝓤 H A f.signature (κ₀, (κ₁, (κ₂, (κ₃, (κ₄, tt))))) (q₀, (q₁, (q₂, (q₃, (q₄, tt))))) a at) (WpFn 𝓤 H C Λ code.function (v1 ∷ v2 ∷ v3 ∷ v4 ∷ v5 ∷ v6 ∷ v7 ∷ v8 ∷ v9 ∷ v10 ∷ v11 ∷ v12 ∷ v13 ∷ v14 ∷ v15 ∷ v16 ∷ v17 ∷ v18 ∷ v19 ∷ v20 ∷ v21 ∷ v22 ∷ v23 ∷ v24 ∷ v25 ∷ v26 ∷ v27 ∷ v28 ∷ v29 ∷ v30 ∷ v31 ∷ v32 ∷ []) Post)
     walk pre =
         qed W ((‵ (flft κ₀ q₀) ⊛ ‵ (flft κ₁ q₁) ⊛ ‵ (flft κ₂ q₂) ⊛ ‵ (flft κ₃ q₃) ⊛ ‵ (flft κ₄ q₄) ⊛ ‵ ftrue) ∷ ‵ (owns (mTranscript.the-row ∷ MutSlice (named 0) κ₀ u64 ∷ MutSlice (named 1) κ₁ u64 ∷ u64 ∷ u64 ∷ ShrSlice (named 2) κ₂ u64 ∷ u64 ∷ u64 ∷ (Array mEntry.the-row 64) ∷ u64 ∷ u64 ∷ (Array mEntry.the-row 64) ∷ u64 ∷ u64 ∷ (Array mEntry.the-row 64) ∷ u64 ∷ u64 ∷ (Array mEntry.the-row 64) ∷ u64 ∷ u64 ∷ (Array mEntry.the-row 64) ∷ u64 ∷ u64 ∷ (Array mEntry.the-row 64) ∷ ShrSlice (named 3) κ₃ u64 ∷ ShrSlice (named 4) κ₄ u64 ∷ u64 ∷ u64 ∷ u64 ∷ u64 ∷ u64 ∷ u64 ∷ []) a at) ∷ []) ∵ enter ! C Λ code.function (v1 ∷ v2 ∷ v3 ∷ v4 ∷ v5 ∷ v6 ∷ v7 ∷ v8 ∷ v9 ∷ v10 ∷ v11 ∷ v12 ∷ v13 ∷ v14 ∷ v15 ∷ v16 ∷ v17 ∷ v18 ∷ v19 ∷ v20 ∷ v21 ∷ v22 ∷ v23 ∷ v24 ∷ v25 ∷ v26 ∷ v27 ∷ v28 ∷ v29 ∷ v30 ∷ v31 ∷ v32 ∷ []) _ $
-        nothing ! $ alloc ! (λ l₀. alloc ! (λ l₁. alloc ! (λ l₂. alloc ! (λ l₃. alloc ! (λ l₄. alloc ! (λ l₅. alloc ! (λ l₆. alloc ! (λ l₇. alloc ! (λ l₈. alloc ! (λ l₉. alloc ! (λ l₁₀. alloc ! (λ l₁₁. alloc ! (λ l₁₂. alloc ! (λ l₁₃. alloc ! (λ l₁₄. alloc ! (λ l₁₅. alloc ! (λ l₁₆. alloc ! (λ l₁₇. alloc ! (λ l₁₈. alloc ! (λ l₁₉. alloc ! (λ l₂₀. alloc ! (λ l₂₁. alloc ! (λ l₂₂. alloc ! (λ l₂₃. alloc ! (λ l₂₄. alloc ! (λ l₂₅. alloc ! (λ l₂₆. alloc ! (λ l₂₇. alloc ! (λ l₂₈. alloc ! (λ l₂₉. alloc ! (λ l₃₀. alloc ! (λ l₃₁. alloc ! (λ l₃₂. alloc ! (λ l₃₃. alloc ! (λ l₃₄. alloc ! (λ l₃₅. alloc ! (λ l₃₆. alloc ! (λ l₃₇. alloc ! (λ l₃₈. alloc ! (λ l₃₉. alloc ! (λ l₄₀. alloc ! (λ l₄₁. alloc ! (λ l₄₂. alloc ! (λ l₄₃. alloc ! (λ l₄₄. alloc ! (λ l₄₅. alloc0 ! $ hide ! (λ died die. params1 ! $ pass1 ! (init ! 45 refl (LL.lawful mTranscript.the-type lTranscript.the-laws 𝓤 H A W .typed n1 _ w1 .0)) $ pass1 ! (init ! 44 refl (tt, (tt, (record { fits = room2 .0 }, tt)))) $ pass1 ! (init ! 43 refl (tt, (tt, (record { fits = room3 .0 }, tt)))) $ pass1 ! (init ! 42 refl (uint-lawful 𝓤 H A W w64 .typed n4 _ w4 .0)) $ pass1 ! (init ! 41 refl (uint-lawful 𝓤 H A W w64 .typed n5 _ w5 .0)) $ pass1 ! (init ! 40 refl (shr-slice-lawful 𝓤 H A W (named 2) κ₂ u64 .typed s6 (v6 ∷ []) w6 .0)) $ pass1 ! (init ! 39 refl (uint-lawful 𝓤 H A W w64 .typed n7 _ w7 .0)) $ pass1 ! (init ! 38 refl (uint-lawful 𝓤 H A W w64 .typed n8 _ w8 .0)) $ pass1 ! (init ! 37 refl (array-lawful 𝓤 H A W mEntry.the-row (LL.lawful mEntry.the-type lEntry.the-laws 𝓤 H A W) 64 .typed n9 _ w9 .0)) $ pass1 ! (init ! 36 refl (uint-lawful 𝓤 H A W w64 .typed n10 _ w10 .0)) $ pass1 ! (init ! 35 refl (uint-lawful 𝓤 H A W w64 .typed n11 _ w11 .0)) $ pass1 ! (init ! 34 refl (array-lawful 𝓤 H A W mEntry.the-row (LL.lawful mEntry.the-type lEntry.the-laws 𝓤 H A W) 64 .typed n12 _ w12 .0)) $ pass1 ! (init ! 33 refl (uint-lawful 𝓤 H A W w64 .typed n13 _ w13 .0)) $ pass1 ! (init ! 32 refl (uint-lawful 𝓤 H A W w64 .typed n14 _ w14 .0)) $ pass1 ! (init ! 31 refl (array-lawful 𝓤 H A W mEntry.the-row (LL.lawful mEntry.the-type lEntry.the-laws 𝓤 H A W) 64 .typed n15 _ w15 .0)) $ pass1 ! (init ! 30 refl (uint-lawful 𝓤 H A W w64 .typed n16 _ w16 .0)) $ pass1 ! (init ! 29 refl (uint-lawful 𝓤 H A W w64 .typed n17 _ w17 .0)) $ pass1 ! (init ! 28 refl (array-lawful 𝓤 H A W mEntry.the-row (LL.lawful mEntry.the-type lEntry.the-laws 𝓤 H A W) 64 .typed n18 _ w18 .0)) $ pass1 ! (init ! 27 refl (uint-lawful 𝓤 H A W w64 .typed n19 _ w19 .0)) $ pass1 ! (init ! 26 refl (uint-lawful 𝓤 H A W w64 .typed n20 _ w20 .0)) $ pass1 ! (init ! 25 refl (array-lawful 𝓤 H A W mEntry.the-row (LL.lawful mEntry.the-type lEntry.the-laws 𝓤 H A W) 64 .typed n21 _ w21 .0)) $ pass1 ! (init ! 24 refl (uint-lawful 𝓤 H A W w64 .typed n22 _ w22 .0)) $ pass1 ! (init ! 23 refl (uint-lawful 𝓤 H A W w64 .typed n23 _ w23 .0)) $ pass1 ! (init ! 22 refl (array-lawful 𝓤 H A W mEntry.the-row (LL.lawful mEntry.the-type lEntry.the-laws 𝓤 H A W) 64 .typed n24 _ w24 .0)) $ pass1 ! (init ! 21 refl (shr-slice-lawful 𝓤 H A W (named 3) κ₃ u64 .typed s25 (v25 ∷ []) w25 .0)) $ pass1 ! (init ! 20 refl (shr-slice-lawful 𝓤 H A W (named 4) κ₄ u64 .typed s26 (v26 ∷ []) w26 .0)) $ pass1 ! (init ! 19 refl (uint-lawful 𝓤 H A W w64 .typed n27 _ w27 .0)) $ pass1 ! (init ! 18 refl (uint-lawful 𝓤 H A W w64 .typed n28 _ w28 .0)) $ pass1 ! (init ! 17 refl (uint-lawful 𝓤 H A W w64 .typed n29 _ w29 .0)) $ pass1 ! (init ! 16 refl (uint-lawful 𝓤 H A W w64 .typed n30 _ w30 .0)) $ pass1 ! (init ! 15 refl (uint-lawful 𝓤 H A W w64 .typed n31 _ w31 .0)) $ pass1 ! (init ! 14 refl (uint-lawful 𝓤 H A W w64 .typed n32 _ w32 .0)) $ pass0 ! $ 
-        move ! (48 ∷ []) $ fsplit ! $ move ! (1 ∷ []) $ fsplit ! $ move ! (1 ∷ []) $ fsplit ! $ move ! (1 ∷ []) $ fsplit ! $ move ! (1 ∷ []) $ fsplit ! $ move ! (1 ∷ []) $ fsplit ! $ move ! (1 ∷ []) $ fsplit ! $ move ! (1 ∷ []) $ fsplit ! $ move ! (1 ∷ []) $ fsplit ! $ move ! (1 ∷ []) $ fsplit ! $ move ! (1 ∷ []) $ fsplit ! $ move ! (1 ∷ []) $ fsplit ! $ move ! (1 ∷ []) $ fsplit ! $ move ! (1 ∷ []) $ fsplit ! $ move ! (1 ∷ []) $ fsplit ! $ move ! (1 ∷ []) $ fsplit ! $ move ! (1 ∷ []) $ fsplit ! $ move ! (1 ∷ []) $ fsplit ! $ move ! (1 ∷ []) $ fsplit ! $ move ! (1 ∷ []) $ fsplit ! $ move ! (1 ∷ []) $ fsplit ! $ move ! (1 ∷ []) $ fsplit ! $ move ! (1 ∷ []) $ fsplit ! $ move ! (1 ∷ []) $ fsplit ! $ move ! (1 ∷ []) $ fsplit ! $ move ! (1 ∷ []) $ fsplit ! $ move ! (1 ∷ []) $ fsplit ! $ move ! (1 ∷ []) $ fsplit ! $ move ! (1 ∷ []) $ fsplit ! $ move ! (1 ∷ []) $ fsplit ! $ move ! (1 ∷ []) $ fsplit ! $ move ! (1 ∷ []) $ fsplit ! $ move ! (1 ∷ []) $ drop ! $ move ! (79 ∷ []) $ split ! $ move ! (1 ∷ []) $ split ! $ move ! (1 ∷ []) $ split ! $ move ! (1 ∷ []) $ split ! $ move ! (1 ∷ []) $ split ! $ move ! (1 ∷ []) $ drop ! $ tidy W (_ ∷ _ ∷ _ ∷ _ ∷ _ ∷ _ ∷ _ ∷ _ ∷ _ ∷ _ ∷ _ ∷ _ ∷ _ ∷ _ ∷ _ ∷ _ ∷ _ ∷ _ ∷ _ ∷ _ ∷ _ ∷ _ ∷ _ ∷ _ ∷ _ ∷ _ ∷ _ ∷ _ ∷ _ ∷ _ ∷ _ ∷ _ ∷ _ ∷ _ ∷ _ ∷ _ ∷ _ ∷ _ ∷ _ ∷ _ ∷ _ ∷ _ ∷ _ ∷ _ ∷ _ ∷ _ ∷ _ ∷ _ ∷ _ ∷ _ ∷ _ ∷ _ ∷ _ ∷ _ ∷ _ ∷ _ ∷ _ ∷ _ ∷ _ ∷ _ ∷ _ ∷ _ ∷ _ ∷ _ ∷ _ ∷ _ ∷ _ ∷ _ ∷ _ ∷ _ ∷ _ ∷ _ ∷ _ ∷ _ ∷ _ ∷ _ ∷ _ ∷ _ ∷ _ ∷ _ ∷ _ ∷ _ ∷ _ ∷ _ ∷ []) $ 
-        assigns ! (of-opd ! (load ! (from ! (stop !)) (look ! 74 refl))) (from ! (stop !)) (init ! 50 refl (array-lawful 𝓤 H A W mEntry.the-row (LL.lawful mEntry.the-type lEntry.the-laws 𝓤 H A W) 64 .typed n9 _ w9 .0)) $ 
-        assigns ! (of-opd ! (load ! (from ! (stop !)) (look ! 71 refl))) (from ! (stop !)) (init ! 49 refl (array-lawful 𝓤 H A W mEntry.the-row (LL.lawful mEntry.the-type lEntry.the-laws 𝓤 H A W) 64 .typed n12 _ w12 .0)) $ 
-        assigns ! (of-opd ! (load ! (from ! (stop !)) (look ! 68 refl))) (from ! (stop !)) (init ! 48 refl (array-lawful 𝓤 H A W mEntry.the-row (LL.lawful mEntry.the-type lEntry.the-laws 𝓤 H A W) 64 .typed n15 _ w15 .0)) $ 
-        assigns ! (addr ! (from ! (fld ! refl (hop ! (look-in ! 81 (sub ! 0 refl (whole !))) (stop !))))) (from ! (stop !)) (init ! 47 refl (tt, tt)) $ 
-        assigns ! (agg ! (and-then ! (load ! (from ! (stop !)) (look ! 47 refl)) (and-then ! (load ! (from ! (fld ! refl (stop !))) (look-in ! 81 (sub ! 1 refl (whole !)))) (no-more !)))) (from ! (stop !)) (init ! 46 refl (tt, (tt, (record { fits = room2 .0 }, tt)))) $ 
-        assigns ! (addr ! (from ! (fld ! refl (hop ! (look-in ! 80 (sub ! 0 refl (whole !))) (stop !))))) (from ! (stop !)) (init ! 45 refl (tt, tt)) $ 
-        assigns ! (agg ! (and-then ! (load ! (from ! (stop !)) (look ! 45 refl)) (and-then ! (load ! (from ! (fld ! refl (stop !))) (look-in ! 80 (sub ! 1 refl (whole !)))) (no-more !)))) (from ! (stop !)) (init ! 44 refl (tt, (tt, (record { fits = room3 .0 }, tt)))) $ 
-        assigns ! (addr ! (from ! (stop !))) (from ! (stop !)) (init ! 43 refl (tt, tt)) $ 
-        rewrite ! 56 (λ (w : Val). ‵ (fat fullShare (tyInt w64) l₂₇ 0 w)) (ap only (w27 .0)) refl $ assigns ! (agg ! (and-then ! (load ! (from ! (stop !)) (look ! 43 refl)) (and-then ! (load ! (from ! (stop !)) (look ! 56 refl)) (no-more !)))) (from ! (stop !)) (init ! 42 refl (tt, (tt, (record { fits = w27 .1 }, tt)))) $ 
-        assigns ! (addr ! (from ! (stop !))) (from ! (stop !)) (init ! 41 refl (tt, tt)) $ 
-        rewrite ! 55 (λ (w : Val). ‵ (fat fullShare (tyInt w64) l₂₈ 0 w)) (ap only (w28 .0)) refl $ assigns ! (agg ! (and-then ! (load ! (from ! (stop !)) (look ! 41 refl)) (and-then ! (load ! (from ! (stop !)) (look ! 55 refl)) (no-more !)))) (from ! (stop !)) (init ! 40 refl (tt, (tt, (record { fits = w28 .1 }, tt)))) $ 
-        assigns ! (addr ! (from ! (stop !))) (from ! (stop !)) (init ! 39 refl (tt, tt)) $ 
-        rewrite ! 54 (λ (w : Val). ‵ (fat fullShare (tyInt w64) l₂₉ 0 w)) (ap only (w29 .0)) refl $ assigns ! (agg ! (and-then ! (load ! (from ! (stop !)) (look ! 39 refl)) (and-then ! (load ! (from ! (stop !)) (look ! 54 refl)) (no-more !)))) (from ! (stop !)) (init ! 38 refl (tt, (tt, (record { fits = w29 .1 }, tt)))) $ 
-        
-        lft-new ! tt (λ ν1b. move ! (36 ∷ 5 ∷ []) $ use2 W (later (some (λ (δ : GName). ‵ (MutSlice (named 0) (ν1b ∷ []) u64 .own (ref2 δ (ys2)) (v2 ∷ [])) ⊛ ‵ (Lent2 ν1b δ (ys2))))) (lends2 (named 0) ν1b (ys2) (refl)) $ await ! tt $ pick ! (λ δ1b. split ! $ 
-        lft-new ! tt (λ ν1c. move ! (37 ∷ 7 ∷ []) $ use2 W (later (some (λ (δ : GName). ‵ (MutSlice (named 1) (ν1c ∷ []) u64 .own (ref3 δ (ys3)) (v3 ∷ [])) ⊛ ‵ (Lent3 ν1c δ (ys3))))) (lends3 (named 1) ν1c (ys3) (refl)) $ await ! tt $ pick ! (λ δ1c. split ! $ move ! (35 ∷ []) $ use1 W (‵ (O6) ⊛ ‵ (O6)) (shr-slice-copy 𝓤 H A W (named 2) κ₂ u64 .twice s6 (v6 ∷ [])) $ split ! $ 
-        lft-new ! tt (λ ν1i. owned ! (Array mEntry.the-row 64) (Is (Array mEntry.the-row 64)) (array-makes 𝓤 H A W mEntry.the-row (LL.makes mEntry.the-type lEntry.the-plain 𝓤 H A) 64) (n9) _ w9 $ move ! (55 ∷ 0 ∷ []) $ use1 W (‵ (cellAt fullShare ((Array mEntry.the-row 64) .mir) (u9 ∷ []) l₃₃ 0)) (W .laws .at-raw fullShare (tyArray (lEntry.mir) 64) l₃₃ 0 (u9)) $ into ! (Array mEntry.the-row 64) fullShare (n9) (u9 ∷ []) l₃₃ 0 $ 
-        use1 W (‵ (arr-parts (shares mEntry.the-row) 64 .part fullShare (n9) l₃₃ 0)) (array-apart 𝓤 H A W mEntry.the-row fullShare tt 64 (n9) l₃₃ 0) $ fsplit ! $ feqL ! (λ ln1i. 
-        use1 W (‵ (parts (mem mEntry.the-row) (shares mEntry.the-row) fullShare (take n27 (n9)) l₃₃ 0) ⊛ ‵ (rest mEntry.the-row fullShare n27 (n9) l₃₃ 0)) (cut 𝓤 H A mEntry.the-row fullShare n27 (n9) l₃₃ 0) $ split ! $ feqI ! ℕ (length (take n27 (n9))) (length (take n27 (n9))) refl $ fjoin ! $ 
-        use1 W (later (some (λ (δ : GName). ‵ (ShrSlice (named 3) (ν1i ∷ []) mEntry.the-row .own (record { ptr = (l₃₃, 0); name = δ; now = (take n27 (n9)) }) (sliceVal (l₃₃, 0) (length (take n27 (n9))) ∷ [])) ⊛ ‵ (flent (ν1i ∷ []) (arr-parts (shares mEntry.the-row) (length (take n27 (n9))) .part fullShare (take n27 (n9)) l₃₃ 0))))) (lends-shr-slice 𝓤 H A W mEntry.the-row (named 3) (ν1i ∷ []) fullShare (take n27 (n9)) l₃₃ 0 (subst (Room mEntry.the-row) (sym (length-take-le n27 (n9) (subst (λ (m : ℕ). n27 ≤ m) (sym ln1i) (pre .0)))) (room-of mEntry.the-row n27 64 (pre .0) (lit< tt, lit< tt)))) $ await ! tt $ pick ! (λ δ1i. split ! $ rewrite ! 0 (λ (m : ℕ). ‵ (ShrSlice (named 3) (ν1i ∷ []) mEntry.the-row .own (record { ptr = (l₃₃, 0); name = δ1i; now = (take n27 (n9)) }) (sliceVal (l₃₃, 0) m ∷ []))) (length-take-le n27 (n9) (subst (λ (m : ℕ). n27 ≤ m) (sym ln1i) (pre .0))) refl $ 
-        
-        lft-new ! tt (λ ν1l. owned ! (Array mEntry.the-row 64) (Is (Array mEntry.the-row 64)) (array-makes 𝓤 H A W mEntry.the-row (LL.makes mEntry.the-type lEntry.the-plain 𝓤 H A) 64) (n12) _ w12 $ move ! (58 ∷ 0 ∷ []) $ use1 W (‵ (cellAt fullShare ((Array mEntry.the-row 64) .mir) (u12 ∷ []) l₃₄ 0)) (W .laws .at-raw fullShare (tyArray (lEntry.mir) 64) l₃₄ 0 (u12)) $ into ! (Array mEntry.the-row 64) fullShare (n12) (u12 ∷ []) l₃₄ 0 $ 
-        use1 W (‵ (arr-parts (shares mEntry.the-row) 64 .part fullShare (n12) l₃₄ 0)) (array-apart 𝓤 H A W mEntry.the-row fullShare tt 64 (n12) l₃₄ 0) $ fsplit ! $ feqL ! (λ ln1l. 
-        use1 W (‵ (parts (mem mEntry.the-row) (shares mEntry.the-row) fullShare (take n28 (n12)) l₃₄ 0) ⊛ ‵ (rest mEntry.the-row fullShare n28 (n12) l₃₄ 0)) (cut 𝓤 H A mEntry.the-row fullShare n28 (n12) l₃₄ 0) $ split ! $ feqI ! ℕ (length (take n28 (n12))) (length (take n28 (n12))) refl $ fjoin ! $ 
-        use1 W (later (some (λ (δ : GName). ‵ (ShrSlice (named 4) (ν1l ∷ []) mEntry.the-row .own (record { ptr = (l₃₄, 0); name = δ; now = (take n28 (n12)) }) (sliceVal (l₃₄, 0) (length (take n28 (n12))) ∷ [])) ⊛ ‵ (flent (ν1l ∷ []) (arr-parts (shares mEntry.the-row) (length (take n28 (n12))) .part fullShare (take n28 (n12)) l₃₄ 0))))) (lends-shr-slice 𝓤 H A W mEntry.the-row (named 4) (ν1l ∷ []) fullShare (take n28 (n12)) l₃₄ 0 (subst (Room mEntry.the-row) (sym (length-take-le n28 (n12) (subst (λ (m : ℕ). n28 ≤ m) (sym ln1l) (pre .1)))) (room-of mEntry.the-row n28 64 (pre .1) (lit< tt, lit< tt)))) $ await ! tt $ pick ! (λ δ1l. split ! $ rewrite ! 0 (λ (m : ℕ). ‵ (ShrSlice (named 4) (ν1l ∷ []) mEntry.the-row .own (record { ptr = (l₃₄, 0); name = δ1l; now = (take n28 (n12)) }) (sliceVal (l₃₄, 0) m ∷ []))) (length-take-le n28 (n12) (subst (λ (m : ℕ). n28 ≤ m) (sym ln1l) (pre .1))) refl $ 
-        
-        lft-new ! tt (λ ν1o. owned ! (Array mEntry.the-row 64) (Is (Array mEntry.the-row 64)) (array-makes 𝓤 H A W mEntry.the-row (LL.makes mEntry.the-type lEntry.the-plain 𝓤 H A) 64) (n15) _ w15 $ move ! (61 ∷ 0 ∷ []) $ use1 W (‵ (cellAt fullShare ((Array mEntry.the-row 64) .mir) (u15 ∷ []) l₃₅ 0)) (W .laws .at-raw fullShare (tyArray (lEntry.mir) 64) l₃₅ 0 (u15)) $ into ! (Array mEntry.the-row 64) fullShare (n15) (u15 ∷ []) l₃₅ 0 $ 
-        use1 W (‵ (arr-parts (shares mEntry.the-row) 64 .part fullShare (n15) l₃₅ 0)) (array-apart 𝓤 H A W mEntry.the-row fullShare tt 64 (n15) l₃₅ 0) $ fsplit ! $ feqL ! (λ ln1o. 
-        use1 W (‵ (parts (mem mEntry.the-row) (shares mEntry.the-row) fullShare (take n29 (n15)) l₃₅ 0) ⊛ ‵ (rest mEntry.the-row fullShare n29 (n15) l₃₅ 0)) (cut 𝓤 H A mEntry.the-row fullShare n29 (n15) l₃₅ 0) $ split ! $ feqI ! ℕ (length (take n29 (n15))) (length (take n29 (n15))) refl $ fjoin ! $ 
-        use1 W (later (some (λ (δ : GName). ‵ (ShrSlice (named 5) (ν1o ∷ []) mEntry.the-row .own (record { ptr = (l₃₅, 0); name = δ; now = (take n29 (n15)) }) (sliceVal (l₃₅, 0) (length (take n29 (n15))) ∷ [])) ⊛ ‵ (flent (ν1o ∷ []) (arr-parts (shares mEntry.the-row) (length (take n29 (n15))) .part fullShare (take n29 (n15)) l₃₅ 0))))) (lends-shr-slice 𝓤 H A W mEntry.the-row (named 5) (ν1o ∷ []) fullShare (take n29 (n15)) l₃₅ 0 (subst (Room mEntry.the-row) (sym (length-take-le n29 (n15) (subst (λ (m : ℕ). n29 ≤ m) (sym ln1o) (pre .2)))) (room-of mEntry.the-row n29 64 (pre .2) (lit< tt, lit< tt)))) $ await ! tt $ pick ! (λ δ1o. split ! $ rewrite ! 0 (λ (m : ℕ). ‵ (ShrSlice (named 5) (ν1o ∷ []) mEntry.the-row .own (record { ptr = (l₃₅, 0); name = δ1o; now = (take n29 (n15)) }) (sliceVal (l₃₅, 0) m ∷ []))) (length-take-le n29 (n15) (subst (λ (m : ℕ). n29 ≤ m) (sym ln1o) (pre .2))) refl $ 
-        move ! (30 ∷ []) $ use1 W (‵ (O25) ⊛ ‵ (O25)) (shr-slice-copy 𝓤 H A W (named 3) κ₃ u64 .twice s25 (v25 ∷ [])) $ split ! $ move ! (31 ∷ []) $ use1 W (‵ (O26) ⊛ ‵ (O26)) (shr-slice-copy 𝓤 H A W (named 4) κ₄ u64 .twice s26 (v26 ∷ [])) $ split ! $ tidy W (_ ∷ _ ∷ _ ∷ _ ∷ _ ∷ _ ∷ _ ∷ _ ∷ _ ∷ _ ∷ _ ∷ _ ∷ _ ∷ _ ∷ _ ∷ _ ∷ _ ∷ _ ∷ _ ∷ _ ∷ _ ∷ _ ∷ _ ∷ _ ∷ _ ∷ _ ∷ _ ∷ _ ∷ _ ∷ _ ∷ _ ∷ _ ∷ _ ∷ _ ∷ _ ∷ _ ∷ _ ∷ _ ∷ _ ∷ _ ∷ _ ∷ _ ∷ _ ∷ _ ∷ _ ∷ _ ∷ _ ∷ _ ∷ _ ∷ _ ∷ _ ∷ _ ∷ _ ∷ _ ∷ _ ∷ _ ∷ _ ∷ _ ∷ _ ∷ _ ∷ _ ∷ _ ∷ _ ∷ _ ∷ _ ∷ _ ∷ _ ∷ _ ∷ _ ∷ _ ∷ _ ∷ _ ∷ _ ∷ _ ∷ _ ∷ _ ∷ _ ∷ _ ∷ _ ∷ _ ∷ _ ∷ _ ∷ _ ∷ _ ∷ _ ∷ _ ∷ _ ∷ _ ∷ _ ∷ _ ∷ _ ∷ _ ∷ _ ∷ _ ∷ _ ∷ _ ∷ _ ∷ _ ∷ []) $ nothing ! $ move ! (25 ∷ 0 ∷ []) $ join ! $ move ! (25 ∷ 0 ∷ []) $ join ! $ move ! (8 ∷ 0 ∷ []) $ join ! $ move ! (11 ∷ 0 ∷ []) $ join ! $ move ! (14 ∷ 0 ∷ []) $ join ! $ move ! (22 ∷ 0 ∷ []) $ join ! $ move ! (18 ∷ 0 ∷ []) $ join ! $ move ! (20 ∷ 0 ∷ []) $ join ! $ move ! (3 ∷ 1 ∷ []) $ join ! $ move ! (4 ∷ 0 ∷ []) $ join ! $ move ! (6 ∷ 0 ∷ []) $ join ! $ move ! (8 ∷ 0 ∷ []) $ join ! $ move ! (10 ∷ 0 ∷ []) $ join ! $ move ! (11 ∷ 0 ∷ []) $ join ! $ move ! (12 ∷ 0 ∷ []) $ join ! $ move ! (1 ∷ 0 ∷ []) $ join ! $ 
+        nothing ! $ alloc ! (λ l₀. alloc ! (λ l₁. alloc ! (λ l₂. alloc ! (λ l₃. alloc ! (λ l₄. alloc ! (λ l₅. alloc ! (λ l₆. alloc ! (λ l₇. alloc ! (λ l₈. alloc ! (λ l₉. alloc ! (λ l₁₀. alloc ! (λ l₁₁. alloc ! (λ l₁₂. alloc ! (λ l₁₃. alloc ! (λ l₁₄. alloc ! (λ l₁₅. alloc ! (λ l₁₆. alloc ! (λ l₁₇. alloc ! (λ l₁₈. alloc ! (λ l₁₉. alloc ! (λ l₂₀. alloc ! (λ l₂₁. alloc ! (λ l₂₂. alloc ! (λ l₂₃. alloc ! (λ l₂₄. alloc ! (λ l₂₅. alloc ! (λ l₂₆. alloc ! (λ l₂₇. alloc ! (λ l₂₈. alloc ! (λ l₂₉. alloc ! (λ l₃₀. alloc ! (λ l₃₁. alloc ! (λ l₃₂. alloc ! (λ l₃₃. alloc ! (λ l₃₄. alloc ! (λ l₃₅. alloc ! (λ l₃₆. alloc ! (λ l₃₇. alloc ! (λ l₃₈. alloc ! (λ l₃₉. alloc ! (λ l₄₀. alloc ! (λ l₄₁. alloc ! (λ l₄₂. alloc ! (λ l₄₃. alloc ! (λ l₄₄. alloc ! (λ l₄₅. alloc0 ! $ hide ! (λ died die. params1 ! $ pass1 ! (init ! 45 refl (LL.lawful mTranscript.the-type lTranscript.the-laws 𝓤 H A W .typed n1 _ w1 .0)) $ pass1 ! (init ! 44 refl (tt, (tt, (record { fits = room2 .0 }, tt)))) $ pass1 ! (init ! 43 refl (tt, (tt, (record { fits = room3 .0 }, tt)))) $ pass1 ! (init ! 42 refl (uint-lawful 𝓤 H A W w64 .typed n4 _ w4 .0)) $ pass1 ! (init ! 41 refl (uint-lawful 𝓤 H A W w64 .typed n5 _ w5 .0)) $ pass1 ! (init ! 40 refl (shr-slice-lawful 𝓤 H A W (named 2) κ₂ u64 .typed s6 (v6 ∷ []) w6 .0)) $ pass1 ! (init ! 39 refl (uint-lawful 𝓤 H A W w64 .typed n7 _ w7 .0)) $ pass1 ! (init ! 38 refl (uint-lawful 𝓤 H A W w64 .typed n8 _ w8 .0)) $ pass1 ! (init ! 37 refl (array-lawful 𝓤 H A W mEntry.the-row (LL.lawful mEntry.the-type lEntry.the-laws 𝓤 H A W) 64 .typed n9 _ w9 .0)) $ pass1 ! (init ! 36 refl (uint-lawful 𝓤 H A W w64 .typed n10 _ w10 .0)) $ pass1 ! (init ! 35 refl (uint-lawful 𝓤 H A W w64 .typed n11 _ w11 .0)) $ pass1 ! (init ! 34 refl (array-lawful 𝓤 H A W mEntry.the-row (LL.lawful mEntry.the-type lEntry.the-laws 𝓤 H A W) 64 .typed n12 _ w12 .0)) $ pass1 ! (init ! 33 refl (uint-lawful 𝓤 H A W w64 .typed n13 _ w13 .0)) $ pass1 ! (init ! 32 refl (uint-lawful 𝓤 H A W w64 .typed n14 _ w14 .0)) $ pass1 ! (init ! 31 refl (array-lawful 𝓤 H A W mEntry.the-row (LL.lawful mEntry.the-type lEntry.the-laws 𝓤 H A W) 64 .typed n15 _ w15 .0)) $ pass1 ! (init ! 30 refl (uint-lawful 𝓤 H A W w64 .typed n16 _ w16 .0)) $ pass1 ! (init ! 29 refl (uint-lawful 𝓤 H A W w64 .typed n17 _ w17 .0)) $ pass1 ! (init ! 28 refl (array-lawful 𝓤 H A W mEntry.the-row (LL.lawful mEntry.the-type lEntry.the-laws 𝓤 H A W) 64 .typed n18 _ w18 .0)) $ pass1 ! (init ! 27 refl (uint-lawful 𝓤 H A W w64 .typed n19 _ w19 .0)) $ pass1 ! (init ! 26 refl (uint-lawful 𝓤 H A W w64 .typed n20 _ w20 .0)) $ pass1 ! (init ! 25 refl (array-lawful 𝓤 H A W mEntry.the-row (LL.lawful mEntry.the-type lEntry.the-laws 𝓤 H A W) 64 .typed n21 _ w21 .0)) $ pass1 ! (init ! 24 refl (uint-lawful 𝓤 H A W w64 .typed n22 _ w22 .0)) $ pass1 ! (init ! 23 refl (uint-lawful 𝓤 H A W w64 .typed n23 _ w23 .0)) $ pass1 ! (init ! 22 refl (array-lawful 𝓤 H A W mEntry.the-row (LL.lawful mEntry.the-type lEntry.the-laws 𝓤 H A W) 64 .typed n24 _ w24 .0)) $ pass1 ! (init ! 21 refl (shr-slice-lawful 𝓤 H A W (named 3) κ₃ u64 .typed s25 (v25 ∷ []) w25 .0)) $ pass1 ! (init ! 20 refl (shr-slice-lawful 𝓤 H A W (named 4) κ₄ u64 .typed s26 (v26 ∷ []) w26 .0)) $ pass1 ! (init ! 19 refl (uint-lawful 𝓤 H A W w64 .typed n27 _ w27 .0)) $ pass1 ! (init ! 18 refl (uint-lawful 𝓤 H A W w64 .typed n28 _ w28 .0)) $ pass1 ! (init ! 17 refl (uint-lawful 𝓤 H A W w64 .typed n29 _ w29 .0)) $ pass1 ! (init ! 16 refl (uint-lawful 𝓤 H A W w64 .typed n30 _ w30 .0)) $ pass1 ! (init ! 15 refl (uint-lawful 𝓤 H A W w64 .typed n31 _ w31 .0)) $ pass1 ! (init ! 14 refl (uint-lawful 𝓤 H A W w64 .typed n32 _ w32 .0)) $ pass0 ! $
+        move ! (48 ∷ []) $ fsplit ! $ move ! (1 ∷ []) $ fsplit ! $ move ! (1 ∷ []) $ fsplit ! $ move ! (1 ∷ []) $ fsplit ! $ move ! (1 ∷ []) $ fsplit ! $ move ! (1 ∷ []) $ fsplit ! $ move ! (1 ∷ []) $ fsplit ! $ move ! (1 ∷ []) $ fsplit ! $ move ! (1 ∷ []) $ fsplit ! $ move ! (1 ∷ []) $ fsplit ! $ move ! (1 ∷ []) $ fsplit ! $ move ! (1 ∷ []) $ fsplit ! $ move ! (1 ∷ []) $ fsplit ! $ move ! (1 ∷ []) $ fsplit ! $ move ! (1 ∷ []) $ fsplit ! $ move ! (1 ∷ []) $ fsplit ! $ move ! (1 ∷ []) $ fsplit ! $ move ! (1 ∷ []) $ fsplit ! $ move ! (1 ∷ []) $ fsplit ! $ move ! (1 ∷ []) $ fsplit ! $ move ! (1 ∷ []) $ fsplit ! $ move ! (1 ∷ []) $ fsplit ! $ move ! (1 ∷ []) $ fsplit ! $ move ! (1 ∷ []) $ fsplit ! $ move ! (1 ∷ []) $ fsplit ! $ move ! (1 ∷ []) $ fsplit ! $ move ! (1 ∷ []) $ fsplit ! $ move ! (1 ∷ []) $ fsplit ! $ move ! (1 ∷ []) $ fsplit ! $ move ! (1 ∷ []) $ fsplit ! $ move ! (1 ∷ []) $ fsplit ! $ move ! (1 ∷ []) $ fsplit ! $ move ! (1 ∷ []) $ drop ! $ move ! (79 ∷ []) $ split ! $ move ! (1 ∷ []) $ split ! $ move ! (1 ∷ []) $ split ! $ move ! (1 ∷ []) $ split ! $ move ! (1 ∷ []) $ split ! $ move ! (1 ∷ []) $ drop ! $ tidy W (_ ∷ _ ∷ _ ∷ _ ∷ _ ∷ _ ∷ _ ∷ _ ∷ _ ∷ _ ∷ _ ∷ _ ∷ _ ∷ _ ∷ _ ∷ _ ∷ _ ∷ _ ∷ _ ∷ _ ∷ _ ∷ _ ∷ _ ∷ _ ∷ _ ∷ _ ∷ _ ∷ _ ∷ _ ∷ _ ∷ _ ∷ _ ∷ _ ∷ _ ∷ _ ∷ _ ∷ _ ∷ _ ∷ _ ∷ _ ∷ _ ∷ _ ∷ _ ∷ _ ∷ _ ∷ _ ∷ _ ∷ _ ∷ _ ∷ _ ∷ _ ∷ _ ∷ _ ∷ _ ∷ _ ∷ _ ∷ _ ∷ _ ∷ _ ∷ _ ∷ _ ∷ _ ∷ _ ∷ _ ∷ _ ∷ _ ∷ _ ∷ _ ∷ _ ∷ _ ∷ _ ∷ _ ∷ _ ∷ _ ∷ _ ∷ _ ∷ _ ∷ _ ∷ _ ∷ _ ∷ _ ∷ _ ∷ _ ∷ _ ∷ []) $
+        assigns ! (of-opd ! (load ! (from ! (stop !)) (look ! 74 refl))) (from ! (stop !)) (init ! 50 refl (array-lawful 𝓤 H A W mEntry.the-row (LL.lawful mEntry.the-type lEntry.the-laws 𝓤 H A W) 64 .typed n9 _ w9 .0)) $
+        assigns ! (of-opd ! (load ! (from ! (stop !)) (look ! 71 refl))) (from ! (stop !)) (init ! 49 refl (array-lawful 𝓤 H A W mEntry.the-row (LL.lawful mEntry.the-type lEntry.the-laws 𝓤 H A W) 64 .typed n12 _ w12 .0)) $
+        assigns ! (of-opd ! (load ! (from ! (stop !)) (look ! 68 refl))) (from ! (stop !)) (init ! 48 refl (array-lawful 𝓤 H A W mEntry.the-row (LL.lawful mEntry.the-type lEntry.the-laws 𝓤 H A W) 64 .typed n15 _ w15 .0)) $
+        assigns ! (addr ! (from ! (fld ! refl (hop ! (look-in ! 81 (sub ! 0 refl (whole !))) (stop !))))) (from ! (stop !)) (init ! 47 refl (tt, tt)) $
+        assigns ! (agg ! (and-then ! (load ! (from ! (stop !)) (look ! 47 refl)) (and-then ! (load ! (from ! (fld ! refl (stop !))) (look-in ! 81 (sub ! 1 refl (whole !)))) (no-more !)))) (from ! (stop !)) (init ! 46 refl (tt, (tt, (record { fits = room2 .0 }, tt)))) $
+        assigns ! (addr ! (from ! (fld ! refl (hop ! (look-in ! 80 (sub ! 0 refl (whole !))) (stop !))))) (from ! (stop !)) (init ! 45 refl (tt, tt)) $
+        assigns ! (agg ! (and-then ! (load ! (from ! (stop !)) (look ! 45 refl)) (and-then ! (load ! (from ! (fld ! refl (stop !))) (look-in ! 80 (sub ! 1 refl (whole !)))) (no-more !)))) (from ! (stop !)) (init ! 44 refl (tt, (tt, (record { fits = room3 .0 }, tt)))) $
+        assigns ! (addr ! (from ! (stop !))) (from ! (stop !)) (init ! 43 refl (tt, tt)) $
+        rewrite ! 56 (λ (w : Val). ‵ (fat fullShare (tyInt w64) l₂₇ 0 w)) (ap only (w27 .0)) refl $ assigns ! (agg ! (and-then ! (load ! (from ! (stop !)) (look ! 43 refl)) (and-then ! (load ! (from ! (stop !)) (look ! 56 refl)) (no-more !)))) (from ! (stop !)) (init ! 42 refl (tt, (tt, (record { fits = w27 .1 }, tt)))) $
+        assigns ! (addr ! (from ! (stop !))) (from ! (stop !)) (init ! 41 refl (tt, tt)) $
+        rewrite ! 55 (λ (w : Val). ‵ (fat fullShare (tyInt w64) l₂₈ 0 w)) (ap only (w28 .0)) refl $ assigns ! (agg ! (and-then ! (load ! (from ! (stop !)) (look ! 41 refl)) (and-then ! (load ! (from ! (stop !)) (look ! 55 refl)) (no-more !)))) (from ! (stop !)) (init ! 40 refl (tt, (tt, (record { fits = w28 .1 }, tt)))) $
+        assigns ! (addr ! (from ! (stop !))) (from ! (stop !)) (init ! 39 refl (tt, tt)) $
+        rewrite ! 54 (λ (w : Val). ‵ (fat fullShare (tyInt w64) l₂₉ 0 w)) (ap only (w29 .0)) refl $ assigns ! (agg ! (and-then ! (load ! (from ! (stop !)) (look ! 39 refl)) (and-then ! (load ! (from ! (stop !)) (look ! 54 refl)) (no-more !)))) (from ! (stop !)) (init ! 38 refl (tt, (tt, (record { fits = w29 .1 }, tt)))) $
+        lft-new ! tt (λ ν1b. move ! (36 ∷ 5 ∷ []) $ use2 W (later (some (λ (δ : GName). ‵ (MutSlice (named 0) (ν1b ∷ []) u64 .own (ref2 δ (ys2)) (v2 ∷ [])) ⊛ ‵ (Lent2 ν1b δ (ys2))))) (lends2 (named 0) ν1b (ys2) (refl)) $ await ! tt $ pick ! (λ δ1b. split ! $
+        lft-new ! tt (λ ν1c. move ! (37 ∷ 7 ∷ []) $ use2 W (later (some (λ (δ : GName). ‵ (MutSlice (named 1) (ν1c ∷ []) u64 .own (ref3 δ (ys3)) (v3 ∷ [])) ⊛ ‵ (Lent3 ν1c δ (ys3))))) (lends3 (named 1) ν1c (ys3) (refl)) $ await ! tt $ pick ! (λ δ1c. split ! $ move ! (35 ∷ []) $ use1 W (‵ (O6) ⊛ ‵ (O6)) (shr-slice-copy 𝓤 H A W (named 2) κ₂ u64 .twice s6 (v6 ∷ [])) $ split ! $
+        lft-new ! tt (λ ν1i. owned ! (Array mEntry.the-row 64) (Is (Array mEntry.the-row 64)) (array-makes 𝓤 H A W mEntry.the-row (LL.makes mEntry.the-type lEntry.the-plain 𝓤 H A) 64) (n9) _ w9 $ move ! (55 ∷ 0 ∷ []) $ use1 W (‵ (cellAt fullShare ((Array mEntry.the-row 64) .mir) (u9 ∷ []) l₃₃ 0)) (W .laws .at-raw fullShare (tyArray (lEntry.mir) 64) l₃₃ 0 (u9)) $ into ! (Array mEntry.the-row 64) fullShare (n9) (u9 ∷ []) l₃₃ 0 $
+        use1 W (‵ (arr-parts (shares mEntry.the-row) 64 .part fullShare (n9) l₃₃ 0)) (array-apart 𝓤 H A W mEntry.the-row fullShare tt 64 (n9) l₃₃ 0) $ fsplit ! $ feqL ! (λ ln1i.
+        use1 W (‵ (parts (mem mEntry.the-row) (shares mEntry.the-row) fullShare (take n27 (n9)) l₃₃ 0) ⊛ ‵ (rest mEntry.the-row fullShare n27 (n9) l₃₃ 0)) (cut 𝓤 H A mEntry.the-row fullShare n27 (n9) l₃₃ 0) $ split ! $ feqI ! ℕ (length (take n27 (n9))) (length (take n27 (n9))) refl $ fjoin ! $
+        use1 W (later (some (λ (δ : GName). ‵ (ShrSlice (named 3) (ν1i ∷ []) mEntry.the-row .own (record { ptr = (l₃₃, 0); name = δ; now = (take n27 (n9)) }) (sliceVal (l₃₃, 0) (length (take n27 (n9))) ∷ [])) ⊛ ‵ (flent (ν1i ∷ []) (arr-parts (shares mEntry.the-row) (length (take n27 (n9))) .part fullShare (take n27 (n9)) l₃₃ 0))))) (lends-shr-slice 𝓤 H A W mEntry.the-row (named 3) (ν1i ∷ []) fullShare (take n27 (n9)) l₃₃ 0 (subst (Room mEntry.the-row) (sym (length-take-le n27 (n9) (subst (λ (m : ℕ). n27 ≤ m) (sym ln1i) (pre .0)))) (room-of mEntry.the-row n27 64 (pre .0) (lit< tt, lit< tt)))) $ await ! tt $ pick ! (λ δ1i. split ! $ rewrite ! 0 (λ (m : ℕ). ‵ (ShrSlice (named 3) (ν1i ∷ []) mEntry.the-row .own (record { ptr = (l₃₃, 0); name = δ1i; now = (take n27 (n9)) }) (sliceVal (l₃₃, 0) m ∷ []))) (length-take-le n27 (n9) (subst (λ (m : ℕ). n27 ≤ m) (sym ln1i) (pre .0))) refl $
+        lft-new ! tt (λ ν1l. owned ! (Array mEntry.the-row 64) (Is (Array mEntry.the-row 64)) (array-makes 𝓤 H A W mEntry.the-row (LL.makes mEntry.the-type lEntry.the-plain 𝓤 H A) 64) (n12) _ w12 $ move ! (58 ∷ 0 ∷ []) $ use1 W (‵ (cellAt fullShare ((Array mEntry.the-row 64) .mir) (u12 ∷ []) l₃₄ 0)) (W .laws .at-raw fullShare (tyArray (lEntry.mir) 64) l₃₄ 0 (u12)) $ into ! (Array mEntry.the-row 64) fullShare (n12) (u12 ∷ []) l₃₄ 0 $
+        use1 W (‵ (arr-parts (shares mEntry.the-row) 64 .part fullShare (n12) l₃₄ 0)) (array-apart 𝓤 H A W mEntry.the-row fullShare tt 64 (n12) l₃₄ 0) $ fsplit ! $ feqL ! (λ ln1l.
+        use1 W (‵ (parts (mem mEntry.the-row) (shares mEntry.the-row) fullShare (take n28 (n12)) l₃₄ 0) ⊛ ‵ (rest mEntry.the-row fullShare n28 (n12) l₃₄ 0)) (cut 𝓤 H A mEntry.the-row fullShare n28 (n12) l₃₄ 0) $ split ! $ feqI ! ℕ (length (take n28 (n12))) (length (take n28 (n12))) refl $ fjoin ! $
+        use1 W (later (some (λ (δ : GName). ‵ (ShrSlice (named 4) (ν1l ∷ []) mEntry.the-row .own (record { ptr = (l₃₄, 0); name = δ; now = (take n28 (n12)) }) (sliceVal (l₃₄, 0) (length (take n28 (n12))) ∷ [])) ⊛ ‵ (flent (ν1l ∷ []) (arr-parts (shares mEntry.the-row) (length (take n28 (n12))) .part fullShare (take n28 (n12)) l₃₄ 0))))) (lends-shr-slice 𝓤 H A W mEntry.the-row (named 4) (ν1l ∷ []) fullShare (take n28 (n12)) l₃₄ 0 (subst (Room mEntry.the-row) (sym (length-take-le n28 (n12) (subst (λ (m : ℕ). n28 ≤ m) (sym ln1l) (pre .1)))) (room-of mEntry.the-row n28 64 (pre .1) (lit< tt, lit< tt)))) $ await ! tt $ pick ! (λ δ1l. split ! $ rewrite ! 0 (λ (m : ℕ). ‵ (ShrSlice (named 4) (ν1l ∷ []) mEntry.the-row .own (record { ptr = (l₃₄, 0); name = δ1l; now = (take n28 (n12)) }) (sliceVal (l₃₄, 0) m ∷ []))) (length-take-le n28 (n12) (subst (λ (m : ℕ). n28 ≤ m) (sym ln1l) (pre .1))) refl $
+        lft-new ! tt (λ ν1o. owned ! (Array mEntry.the-row 64) (Is (Array mEntry.the-row 64)) (array-makes 𝓤 H A W mEntry.the-row (LL.makes mEntry.the-type lEntry.the-plain 𝓤 H A) 64) (n15) _ w15 $ move ! (61 ∷ 0 ∷ []) $ use1 W (‵ (cellAt fullShare ((Array mEntry.the-row 64) .mir) (u15 ∷ []) l₃₅ 0)) (W .laws .at-raw fullShare (tyArray (lEntry.mir) 64) l₃₅ 0 (u15)) $ into ! (Array mEntry.the-row 64) fullShare (n15) (u15 ∷ []) l₃₅ 0 $
+        use1 W (‵ (arr-parts (shares mEntry.the-row) 64 .part fullShare (n15) l₃₅ 0)) (array-apart 𝓤 H A W mEntry.the-row fullShare tt 64 (n15) l₃₅ 0) $ fsplit ! $ feqL ! (λ ln1o.
+        use1 W (‵ (parts (mem mEntry.the-row) (shares mEntry.the-row) fullShare (take n29 (n15)) l₃₅ 0) ⊛ ‵ (rest mEntry.the-row fullShare n29 (n15) l₃₅ 0)) (cut 𝓤 H A mEntry.the-row fullShare n29 (n15) l₃₅ 0) $ split ! $ feqI ! ℕ (length (take n29 (n15))) (length (take n29 (n15))) refl $ fjoin ! $
+        use1 W (later (some (λ (δ : GName). ‵ (ShrSlice (named 5) (ν1o ∷ []) mEntry.the-row .own (record { ptr = (l₃₅, 0); name = δ; now = (take n29 (n15)) }) (sliceVal (l₃₅, 0) (length (take n29 (n15))) ∷ [])) ⊛ ‵ (flent (ν1o ∷ []) (arr-parts (shares mEntry.the-row) (length (take n29 (n15))) .part fullShare (take n29 (n15)) l₃₅ 0))))) (lends-shr-slice 𝓤 H A W mEntry.the-row (named 5) (ν1o ∷ []) fullShare (take n29 (n15)) l₃₅ 0 (subst (Room mEntry.the-row) (sym (length-take-le n29 (n15) (subst (λ (m : ℕ). n29 ≤ m) (sym ln1o) (pre .2)))) (room-of mEntry.the-row n29 64 (pre .2) (lit< tt, lit< tt)))) $ await ! tt $ pick ! (λ δ1o. split ! $ rewrite ! 0 (λ (m : ℕ). ‵ (ShrSlice (named 5) (ν1o ∷ []) mEntry.the-row .own (record { ptr = (l₃₅, 0); name = δ1o; now = (take n29 (n15)) }) (sliceVal (l₃₅, 0) m ∷ []))) (length-take-le n29 (n15) (subst (λ (m : ℕ). n29 ≤ m) (sym ln1o) (pre .2))) refl $
+        move ! (30 ∷ []) $ use1 W (‵ (O25) ⊛ ‵ (O25)) (shr-slice-copy 𝓤 H A W (named 3) κ₃ u64 .twice s25 (v25 ∷ [])) $ split ! $ move ! (31 ∷ []) $ use1 W (‵ (O26) ⊛ ‵ (O26)) (shr-slice-copy 𝓤 H A W (named 4) κ₄ u64 .twice s26 (v26 ∷ [])) $ split ! $ tidy W (_ ∷ _ ∷ _ ∷ _ ∷ _ ∷ _ ∷ _ ∷ _ ∷ _ ∷ _ ∷ _ ∷ _ ∷ _ ∷ _ ∷ _ ∷ _ ∷ _ ∷ _ ∷ _ ∷ _ ∷ _ ∷ _ ∷ _ ∷ _ ∷ _ ∷ _ ∷ _ ∷ _ ∷ _ ∷ _ ∷ _ ∷ _ ∷ _ ∷ _ ∷ _ ∷ _ ∷ _ ∷ _ ∷ _ ∷ _ ∷ _ ∷ _ ∷ _ ∷ _ ∷ _ ∷ _ ∷ _ ∷ _ ∷ _ ∷ _ ∷ _ ∷ _ ∷ _ ∷ _ ∷ _ ∷ _ ∷ _ ∷ _ ∷ _ ∷ _ ∷ _ ∷ _ ∷ _ ∷ _ ∷ _ ∷ _ ∷ _ ∷ _ ∷ _ ∷ _ ∷ _ ∷ _ ∷ _ ∷ _ ∷ _ ∷ _ ∷ _ ∷ _ ∷ _ ∷ _ ∷ _ ∷ _ ∷ _ ∷ _ ∷ _ ∷ _ ∷ _ ∷ _ ∷ _ ∷ _ ∷ _ ∷ _ ∷ _ ∷ _ ∷ _ ∷ _ ∷ _ ∷ _ ∷ []) $ nothing ! $ move ! (25 ∷ 0 ∷ []) $ join ! $ move ! (25 ∷ 0 ∷ []) $ join ! $ move ! (8 ∷ 0 ∷ []) $ join ! $ move ! (11 ∷ 0 ∷ []) $ join ! $ move ! (14 ∷ 0 ∷ []) $ join ! $ move ! (22 ∷ 0 ∷ []) $ join ! $ move ! (18 ∷ 0 ∷ []) $ join ! $ move ! (20 ∷ 0 ∷ []) $ join ! $ move ! (3 ∷ 1 ∷ []) $ join ! $ move ! (4 ∷ 0 ∷ []) $ join ! $ move ! (6 ∷ 0 ∷ []) $ join ! $ move ! (8 ∷ 0 ∷ []) $ join ! $ move ! (10 ∷ 0 ∷ []) $ join ! $ move ! (11 ∷ 0 ∷ []) $ join ! $ move ! (12 ∷ 0 ∷ []) $ join ! $ move ! (1 ∷ 0 ∷ []) $ join ! $
         -- call 1
-        use1 W (raw (Callee-g1 𝓤 H A at-mem run .pre ((((ν1b ∷ []), ((ν1c ∷ []), (κ₂, ((ν1i ∷ []), ((ν1l ∷ []), ((ν1o ∷ []), (κ₃, (κ₄, tt)))))))), (fullShare, (fullShare, (q₂, (fullShare, (fullShare, (fullShare, (q₃, (q₄, tt)))))))), tt, (n1, (ref2 δ1b (ys2), (ref3 δ1c (ys3), (n4, (n5, (s6, (n7, (n8, (record { ptr = (l₃₃, 0); name = δ1i; now = (take n27 (n9)) }, (n10, (n11, (record { ptr = (l₃₄, 0); name = δ1l; now = (take n28 (n12)) }, (n13, (n14, (record { ptr = (l₃₅, 0); name = δ1o; now = (take n29 (n15)) }, (n16, (n17, (n18, (n19, (n20, (n21, (n22, (n23, (n24, (s25, (s26, (n30, (n31, (n32, tt))))))))))))))))))))))))))))), (u1 ∷ [], (v2 ∷ [], (v3 ∷ [], (u4 ∷ [], (u5 ∷ [], (v6 ∷ [], (u7 ∷ [], (u8′ ∷ [], (sliceVal (l₃₃, 0) n27 ∷ [], (u10 ∷ [], (u11 ∷ [], (sliceVal (l₃₄, 0) n28 ∷ [], (u13 ∷ [], (u14 ∷ [], (sliceVal (l₃₅, 0) n29 ∷ [], (u16′ ∷ [], (u17 ∷ [], (u18 ∷ [], (u19 ∷ [], (u20 ∷ [], (u21 ∷ [], (u22 ∷ [], (u23 ∷ [], (u24 ∷ [], (v25 ∷ [], (v26 ∷ [], (u30 ∷ [], (u31 ∷ [], (u32′ ∷ [], tt)))))))))))))))))))))))))))))), tt))) (qed W ((‵ (flft (ν1b ∷ []) fullShare) ⊛ ‵ (flft (ν1c ∷ []) fullShare) ⊛ ‵ (flft κ₂ q₂) ⊛ ‵ (flft (ν1i ∷ []) fullShare) ⊛ ‵ (flft (ν1l ∷ []) fullShare) ⊛ ‵ (flft (ν1o ∷ []) fullShare) ⊛ ‵ (flft κ₃ q₃) ⊛ ‵ (flft κ₄ q₄) ⊛ ‵ ftrue) ∷ ‵ (MutSlice (named 0) (ν1b ∷ []) u64 .own (ref2 δ1b (ys2)) (v2 ∷ [])) ∷ ‵ (MutSlice (named 1) (ν1c ∷ []) u64 .own (ref3 δ1c (ys3)) (v3 ∷ [])) ∷ ‵ (ShrSlice (named 2) κ₂ u64 .own s6 (v6 ∷ [])) ∷ ‵ (ShrSlice (named 3) (ν1i ∷ []) mEntry.the-row .own (record { ptr = (l₃₃, 0); name = δ1i; now = (take n27 (n9)) }) (sliceVal (l₃₃, 0) n27 ∷ [])) ∷ ‵ (ShrSlice (named 4) (ν1l ∷ []) mEntry.the-row .own (record { ptr = (l₃₄, 0); name = δ1l; now = (take n28 (n12)) }) (sliceVal (l₃₄, 0) n28 ∷ [])) ∷ ‵ (ShrSlice (named 5) (ν1o ∷ []) mEntry.the-row .own (record { ptr = (l₃₅, 0); name = δ1o; now = (take n29 (n15)) }) (sliceVal (l₃₅, 0) n29 ∷ [])) ∷ ‵ (ShrSlice (named 6) κ₃ u64 .own s25 (v25 ∷ [])) ∷ ‵ (ShrSlice (named 7) κ₄ u64 .own s26 (v26 ∷ [])) ∷ []) ∵ says ! ((pre .3, pre .4, pre .5)) $ nothing ! $ owned ! u64 (Is u64) (uint-makes 𝓤 H A W w64) (n32) _ w32 $ fjoin ! $ owned ! u64 (Is u64) (uint-makes 𝓤 H A W w64) (n31) _ w31 $ fjoin ! $ owned ! u64 (Is u64) (uint-makes 𝓤 H A W w64) (n30) _ w30 $ fjoin ! $ move ! (9 ∷ 0 ∷ []) $ fjoin ! $ move ! (8 ∷ 0 ∷ []) $ fjoin ! $ owned ! (Array mEntry.the-row 64) (Is (Array mEntry.the-row 64)) (array-makes 𝓤 H A W mEntry.the-row (LL.makes mEntry.the-type lEntry.the-plain 𝓤 H A) 64) (n24) _ w24 $ fjoin ! $ owned ! u64 (Is u64) (uint-makes 𝓤 H A W w64) (n23) _ w23 $ fjoin ! $ owned ! u64 (Is u64) (uint-makes 𝓤 H A W w64) (n22) _ w22 $ fjoin ! $ owned ! (Array mEntry.the-row 64) (Is (Array mEntry.the-row 64)) (array-makes 𝓤 H A W mEntry.the-row (LL.makes mEntry.the-type lEntry.the-plain 𝓤 H A) 64) (n21) _ w21 $ fjoin ! $ owned ! u64 (Is u64) (uint-makes 𝓤 H A W w64) (n20) _ w20 $ fjoin ! $ owned ! u64 (Is u64) (uint-makes 𝓤 H A W w64) (n19) _ w19 $ fjoin ! $ owned ! (Array mEntry.the-row 64) (Is (Array mEntry.the-row 64)) (array-makes 𝓤 H A W mEntry.the-row (LL.makes mEntry.the-type lEntry.the-plain 𝓤 H A) 64) (n18) _ w18 $ fjoin ! $ owned ! u64 (Is u64) (uint-makes 𝓤 H A W w64) (n17) _ w17 $ fjoin ! $ owned ! u64 (Is u64) (uint-makes 𝓤 H A W w64) (n16) _ w16 $ fjoin ! $ move ! (7 ∷ 0 ∷ []) $ fjoin ! $ owned ! u64 (Is u64) (uint-makes 𝓤 H A W w64) (n14) _ w14 $ fjoin ! $ owned ! u64 (Is u64) (uint-makes 𝓤 H A W w64) (n13) _ w13 $ fjoin ! $ move ! (6 ∷ 0 ∷ []) $ fjoin ! $ owned ! u64 (Is u64) (uint-makes 𝓤 H A W w64) (n11) _ w11 $ fjoin ! $ owned ! u64 (Is u64) (uint-makes 𝓤 H A W w64) (n10) _ w10 $ fjoin ! $ move ! (5 ∷ 0 ∷ []) $ fjoin ! $ owned ! u64 (Is u64) (uint-makes 𝓤 H A W w64) (n8) _ w8 $ fjoin ! $ owned ! u64 (Is u64) (uint-makes 𝓤 H A W w64) (n7) _ w7 $ fjoin ! $ move ! (4 ∷ 0 ∷ []) $ fjoin ! $ owned ! u64 (Is u64) (uint-makes 𝓤 H A W w64) (n5) _ w5 $ fjoin ! $ owned ! u64 (Is u64) (uint-makes 𝓤 H A W w64) (n4) _ w4 $ fjoin ! $ move ! (3 ∷ 0 ∷ []) $ fjoin ! $ move ! (2 ∷ 0 ∷ []) $ fjoin ! $ owned ! mTranscript.the-row (Is mTranscript.the-row) (LL.makes mTranscript.the-type lTranscript.the-plain 𝓤 H A) (n1) _ w1 $ fjoin ! $ move ! (1 ∷ 0 ∷ []) $ frame ! $ done !) $ 
-        calls-at ! fm (Callee-g1 𝓤 H A at-mem run) known-g1 ((((ν1b ∷ []), ((ν1c ∷ []), (κ₂, ((ν1i ∷ []), ((ν1l ∷ []), ((ν1o ∷ []), (κ₃, (κ₄, tt)))))))), (fullShare, (fullShare, (q₂, (fullShare, (fullShare, (fullShare, (q₃, (q₄, tt)))))))), tt, (n1, (ref2 δ1b (ys2), (ref3 δ1c (ys3), (n4, (n5, (s6, (n7, (n8, (record { ptr = (l₃₃, 0); name = δ1i; now = (take n27 (n9)) }, (n10, (n11, (record { ptr = (l₃₄, 0); name = δ1l; now = (take n28 (n12)) }, (n13, (n14, (record { ptr = (l₃₅, 0); name = δ1o; now = (take n29 (n15)) }, (n16, (n17, (n18, (n19, (n20, (n21, (n22, (n23, (n24, (s25, (s26, (n30, (n31, (n32, tt))))))))))))))))))))))))))))), (u1 ∷ [], (v2 ∷ [], (v3 ∷ [], (u4 ∷ [], (u5 ∷ [], (v6 ∷ [], (u7 ∷ [], (u8′ ∷ [], (sliceVal (l₃₃, 0) n27 ∷ [], (u10 ∷ [], (u11 ∷ [], (sliceVal (l₃₄, 0) n28 ∷ [], (u13 ∷ [], (u14 ∷ [], (sliceVal (l₃₅, 0) n29 ∷ [], (u16′ ∷ [], (u17 ∷ [], (u18 ∷ [], (u19 ∷ [], (u20 ∷ [], (u21 ∷ [], (u22 ∷ [], (u23 ∷ [], (u24 ∷ [], (v25 ∷ [], (v26 ∷ [], (u30 ∷ [], (u31 ∷ [], (u32′ ∷ [], tt)))))))))))))))))))))))))))))), tt) (and-then ! (load ! (from ! (stop !)) (look ! 81 refl)) (and-then ! (load ! (from ! (stop !)) (look ! 48 refl)) (and-then ! (load ! (from ! (stop !)) (look ! 46 refl)) (and-then ! (load ! (from ! (stop !)) (look ! 78 refl)) (and-then ! (load ! (from ! (stop !)) (look ! 77 refl)) (and-then ! (load ! (from ! (stop !)) (look ! 76 refl)) (and-then ! (load ! (from ! (stop !)) (look ! 75 refl)) (and-then ! (load ! (from ! (stop !)) (look ! 74 refl)) (and-then ! (load ! (from ! (stop !)) (look ! 44 refl)) (and-then ! (load ! (from ! (stop !)) (look ! 72 refl)) (and-then ! (load ! (from ! (stop !)) (look ! 71 refl)) (and-then ! (load ! (from ! (stop !)) (look ! 42 refl)) (and-then ! (load ! (from ! (stop !)) (look ! 69 refl)) (and-then ! (load ! (from ! (stop !)) (look ! 68 refl)) (and-then ! (load ! (from ! (stop !)) (look ! 40 refl)) (and-then ! (load ! (from ! (stop !)) (look ! 66 refl)) (and-then ! (load ! (from ! (stop !)) (look ! 65 refl)) (and-then ! (load ! (from ! (stop !)) (look ! 64 refl)) (and-then ! (load ! (from ! (stop !)) (look ! 63 refl)) (and-then ! (load ! (from ! (stop !)) (look ! 62 refl)) (and-then ! (load ! (from ! (stop !)) (look ! 61 refl)) (and-then ! (load ! (from ! (stop !)) (look ! 60 refl)) (and-then ! (load ! (from ! (stop !)) (look ! 59 refl)) (and-then ! (load ! (from ! (stop !)) (look ! 58 refl)) (and-then ! (load ! (from ! (stop !)) (look ! 57 refl)) (and-then ! (load ! (from ! (stop !)) (look ! 56 refl)) (and-then ! (load ! (from ! (stop !)) (look ! 52 refl)) (and-then ! (load ! (from ! (stop !)) (look ! 51 refl)) (and-then ! (load ! (from ! (stop !)) (look ! 50 refl)) (no-more !)))))))))))))))))))))))))))))) (λ z1. 
-        use1 W (later (some (λ (r1 : TranscriptAnswer). ((‵ (flft (ν1b ∷ []) fullShare) ⊛ ‵ (flft (ν1c ∷ []) fullShare) ⊛ ‵ (flft κ₂ q₂) ⊛ ‵ (flft (ν1i ∷ []) fullShare) ⊛ ‵ (flft (ν1l ∷ []) fullShare) ⊛ ‵ (flft (ν1o ∷ []) fullShare) ⊛ ‵ (flft κ₃ q₃) ⊛ ‵ (flft κ₄ q₄) ⊛ ‵ ftrue) ⊛ ‵ (mTranscriptAnswer.the-row .own r1 (z1 ∷ []))) ⊛ some (λ (ws : Lasts g1.ended ((ν1b ∷ []), ((ν1c ∷ []), (κ₂, ((ν1i ∷ []), ((ν1l ∷ []), ((ν1o ∷ []), (κ₃, (κ₄, tt)))))))) (n1, (ref2 δ1b (ys2), (ref3 δ1c (ys3), (n4, (n5, (s6, (n7, (n8, (record { ptr = (l₃₃, 0); name = δ1i; now = (take n27 (n9)) }, (n10, (n11, (record { ptr = (l₃₄, 0); name = δ1l; now = (take n28 (n12)) }, (n13, (n14, (record { ptr = (l₃₅, 0); name = δ1o; now = (take n29 (n15)) }, (n16, (n17, (n18, (n19, (n20, (n21, (n22, (n23, (n24, (s25, (s26, (n30, (n31, (n32, tt)))))))))))))))))))))))))))))). ‵ (lasts g1.ended ((ν1b ∷ []), ((ν1c ∷ []), (κ₂, ((ν1i ∷ []), ((ν1l ∷ []), ((ν1o ∷ []), (κ₃, (κ₄, tt)))))))) (n1, (ref2 δ1b (ys2), (ref3 δ1c (ys3), (n4, (n5, (s6, (n7, (n8, (record { ptr = (l₃₃, 0); name = δ1i; now = (take n27 (n9)) }, (n10, (n11, (record { ptr = (l₃₄, 0); name = δ1l; now = (take n28 (n12)) }, (n13, (n14, (record { ptr = (l₃₅, 0); name = δ1o; now = (take n29 (n15)) }, (n16, (n17, (n18, (n19, (n20, (n21, (n22, (n23, (n24, (s25, (s26, (n30, (n31, (n32, tt))))))))))))))))))))))))))))) ws) ⊛ raw (g1.clauses 𝓤 H A at-mem run ((ν1b ∷ []), ((ν1c ∷ []), (κ₂, ((ν1i ∷ []), ((ν1l ∷ []), ((ν1o ∷ []), (κ₃, (κ₄, tt)))))))) (n1, (ref2 δ1b (ys2), (ref3 δ1c (ys3), (n4, (n5, (s6, (n7, (n8, (record { ptr = (l₃₃, 0); name = δ1i; now = (take n27 (n9)) }, (n10, (n11, (record { ptr = (l₃₄, 0); name = δ1l; now = (take n28 (n12)) }, (n13, (n14, (record { ptr = (l₃₅, 0); name = δ1o; now = (take n29 (n15)) }, (n16, (n17, (n18, (n19, (n20, (n21, (n22, (n23, (n24, (s25, (s26, (n30, (n31, (n32, tt))))))))))))))))))))))))))))) .ensures tt r1 (atExit g1.ended ((ν1b ∷ []), ((ν1c ∷ []), (κ₂, ((ν1i ∷ []), ((ν1l ∷ []), ((ν1o ∷ []), (κ₃, (κ₄, tt)))))))) (n1, (ref2 δ1b (ys2), (ref3 δ1c (ys3), (n4, (n5, (s6, (n7, (n8, (record { ptr = (l₃₃, 0); name = δ1i; now = (take n27 (n9)) }, (n10, (n11, (record { ptr = (l₃₄, 0); name = δ1l; now = (take n28 (n12)) }, (n13, (n14, (record { ptr = (l₃₅, 0); name = δ1o; now = (take n29 (n15)) }, (n16, (n17, (n18, (n19, (n20, (n21, (n22, (n23, (n24, (s25, (s26, (n30, (n31, (n32, tt))))))))))))))))))))))))))))) ws)))))) (id⊢ 𝓤 _) $ await ! tt $ pick ! (λ r1. split ! $ move ! (1 ∷ []) $ pick ! (λ ws1. split ! $ move ! (1 ∷ []) $ heard ! _ (λ e1. 
-        fsplit ! $ drop ! $ fsplit ! $ fsplit ! $ move ! (1 ∷ []) $ feqL ! (λ same1b. move ! (1 ∷ []) $ fsplit ! $ fsplit ! $ move ! (1 ∷ []) $ feqL ! (λ same1c. move ! (1 ∷ []) $ drop ! $ move ! (2 ∷ []) $ split ! $ move ! (1 ∷ []) $ peeks ! mTranscriptAnswer.the-row (Is mTranscriptAnswer.the-row) (shows 𝓤 H A mTranscriptAnswer.the-row) r1 (z1 ∷ []) (λ i1. drop ! $ land ! (from ! (stop !)) (init ! 84 refl (LL.lawful mTranscriptAnswer.the-type lTranscriptAnswer.the-laws 𝓤 H A W .typed r1 _ i1 .0)) $ 
-        tidy W (_ ∷ _ ∷ _ ∷ _ ∷ _ ∷ _ ∷ _ ∷ _ ∷ _ ∷ _ ∷ _ ∷ _ ∷ _ ∷ _ ∷ _ ∷ _ ∷ _ ∷ _ ∷ _ ∷ _ ∷ _ ∷ _ ∷ _ ∷ _ ∷ _ ∷ _ ∷ _ ∷ _ ∷ _ ∷ _ ∷ _ ∷ _ ∷ _ ∷ _ ∷ _ ∷ _ ∷ _ ∷ _ ∷ _ ∷ _ ∷ _ ∷ _ ∷ _ ∷ _ ∷ _ ∷ _ ∷ _ ∷ _ ∷ _ ∷ _ ∷ _ ∷ _ ∷ _ ∷ _ ∷ _ ∷ _ ∷ _ ∷ _ ∷ _ ∷ _ ∷ _ ∷ _ ∷ _ ∷ _ ∷ _ ∷ _ ∷ _ ∷ _ ∷ _ ∷ _ ∷ _ ∷ _ ∷ _ ∷ _ ∷ _ ∷ _ ∷ _ ∷ _ ∷ _ ∷ _ ∷ _ ∷ _ ∷ _ ∷ _ ∷ _ ∷ []) $ split ! $ move ! (1 ∷ []) $ split ! $ move ! (1 ∷ []) $ split ! $ move ! (1 ∷ []) $ split ! $ move ! (1 ∷ []) $ split ! $ move ! (1 ∷ []) $ split ! $ move ! (1 ∷ []) $ split ! $ move ! (1 ∷ []) $ split ! $ move ! (1 ∷ []) $ drop ! $ move ! (7 ∷ []) $ lft-end ! tt $ move ! (0 ∷ 20 ∷ 9 ∷ []) $ use3 W (later (‵ (O2 (ws1 .1 .0)) ⊛ ‵ (flft κ₀ q₀))) (backs2 (named 0) ν1b δ1b (ys2) (ws1 .1 .0) (refl) room2 same1b) $ await ! tt $ split ! $ 
-        move ! (8 ∷ []) $ lft-end ! tt $ move ! (0 ∷ 19 ∷ 9 ∷ []) $ use3 W (later (‵ (O3 (ws1 .1 .1 .0)) ⊛ ‵ (flft κ₁ q₁))) (backs3 (named 1) ν1c δ1c (ys3) (ws1 .1 .1 .0) (refl) room3 same1c) $ await ! tt $ split ! $ 
-        move ! (8 ∷ []) $ lft-end ! tt $ move ! (0 ∷ 16 ∷ []) $ lent-back ! tt $ fsplit ! $ drop ! $ move ! (0 ∷ 16 ∷ []) $ use2 W (‵ (parts (mem mEntry.the-row) (shares mEntry.the-row) fullShare (n9) l₃₃ 0)) (mend 𝓤 H A mEntry.the-row fullShare n27 (n9) l₃₃ 0) $ feqI ! ℕ (length (n9)) 64 ln1i $ fjoin ! $ use1 W (‵ (partAt (Array mEntry.the-row 64) fullShare (n9) l₃₃ 0)) (array-whole 𝓤 H A W mEntry.the-row fullShare 64 (n9) l₃₃ 0) $ 
-        out ! (Array mEntry.the-row 64) fullShare (n9) l₃₃ 0 (λ vs. spelt ! (Array mEntry.the-row 64) (Is (Array mEntry.the-row 64)) (shows 𝓤 H A (Array mEntry.the-row 64)) (array-vals (LL.vals mEntry.the-type lEntry.the-laws)) (array-tells mEntry.the-row (LL.vals mEntry.the-type lEntry.the-laws) (LL.tells mEntry.the-type lEntry.the-laws) 64) fullShare (n9) vs l₃₃ 0 $ move ! (1 ∷ []) $ peeks ! (Array mEntry.the-row 64) (Is (Array mEntry.the-row 64)) (shows 𝓤 H A (Array mEntry.the-row 64)) (n9) (array-val (LL.vals mEntry.the-type lEntry.the-laws) (n9) ∷ []) (λ w1i. drop ! $ use1 W (‵ (fat fullShare (tyArray (lEntry.mir) 64) l₃₃ 0 (array-val (LL.vals mEntry.the-type lEntry.the-laws) (n9)))) (W .laws .raw-at fullShare (tyArray (lEntry.mir) 64) l₃₃ 0 (array-val (LL.vals mEntry.the-type lEntry.the-laws) (n9))) $ 
-        move ! (8 ∷ []) $ lft-end ! tt $ move ! (0 ∷ 14 ∷ []) $ lent-back ! tt $ fsplit ! $ drop ! $ move ! (0 ∷ 14 ∷ []) $ use2 W (‵ (parts (mem mEntry.the-row) (shares mEntry.the-row) fullShare (n12) l₃₄ 0)) (mend 𝓤 H A mEntry.the-row fullShare n28 (n12) l₃₄ 0) $ feqI ! ℕ (length (n12)) 64 ln1l $ fjoin ! $ use1 W (‵ (partAt (Array mEntry.the-row 64) fullShare (n12) l₃₄ 0)) (array-whole 𝓤 H A W mEntry.the-row fullShare 64 (n12) l₃₄ 0) $ 
-        out ! (Array mEntry.the-row 64) fullShare (n12) l₃₄ 0 (λ vs. spelt ! (Array mEntry.the-row 64) (Is (Array mEntry.the-row 64)) (shows 𝓤 H A (Array mEntry.the-row 64)) (array-vals (LL.vals mEntry.the-type lEntry.the-laws)) (array-tells mEntry.the-row (LL.vals mEntry.the-type lEntry.the-laws) (LL.tells mEntry.the-type lEntry.the-laws) 64) fullShare (n12) vs l₃₄ 0 $ move ! (1 ∷ []) $ peeks ! (Array mEntry.the-row 64) (Is (Array mEntry.the-row 64)) (shows 𝓤 H A (Array mEntry.the-row 64)) (n12) (array-val (LL.vals mEntry.the-type lEntry.the-laws) (n12) ∷ []) (λ w1l. drop ! $ use1 W (‵ (fat fullShare (tyArray (lEntry.mir) 64) l₃₄ 0 (array-val (LL.vals mEntry.the-type lEntry.the-laws) (n12)))) (W .laws .raw-at fullShare (tyArray (lEntry.mir) 64) l₃₄ 0 (array-val (LL.vals mEntry.the-type lEntry.the-laws) (n12))) $ 
-        move ! (8 ∷ []) $ lft-end ! tt $ move ! (0 ∷ 12 ∷ []) $ lent-back ! tt $ fsplit ! $ drop ! $ move ! (0 ∷ 12 ∷ []) $ use2 W (‵ (parts (mem mEntry.the-row) (shares mEntry.the-row) fullShare (n15) l₃₅ 0)) (mend 𝓤 H A mEntry.the-row fullShare n29 (n15) l₃₅ 0) $ feqI ! ℕ (length (n15)) 64 ln1o $ fjoin ! $ use1 W (‵ (partAt (Array mEntry.the-row 64) fullShare (n15) l₃₅ 0)) (array-whole 𝓤 H A W mEntry.the-row fullShare 64 (n15) l₃₅ 0) $ 
-        out ! (Array mEntry.the-row 64) fullShare (n15) l₃₅ 0 (λ vs. spelt ! (Array mEntry.the-row 64) (Is (Array mEntry.the-row 64)) (shows 𝓤 H A (Array mEntry.the-row 64)) (array-vals (LL.vals mEntry.the-type lEntry.the-laws)) (array-tells mEntry.the-row (LL.vals mEntry.the-type lEntry.the-laws) (LL.tells mEntry.the-type lEntry.the-laws) 64) fullShare (n15) vs l₃₅ 0 $ move ! (1 ∷ []) $ peeks ! (Array mEntry.the-row 64) (Is (Array mEntry.the-row 64)) (shows 𝓤 H A (Array mEntry.the-row 64)) (n15) (array-val (LL.vals mEntry.the-type lEntry.the-laws) (n15) ∷ []) (λ w1o. drop ! $ use1 W (‵ (fat fullShare (tyArray (lEntry.mir) 64) l₃₅ 0 (array-val (LL.vals mEntry.the-type lEntry.the-laws) (n15)))) (W .laws .raw-at fullShare (tyArray (lEntry.mir) 64) l₃₅ 0 (array-val (LL.vals mEntry.the-type lEntry.the-laws) (n15))) $ 
-        tidy W (_ ∷ _ ∷ _ ∷ _ ∷ _ ∷ _ ∷ _ ∷ _ ∷ _ ∷ _ ∷ _ ∷ _ ∷ _ ∷ _ ∷ _ ∷ _ ∷ _ ∷ _ ∷ _ ∷ _ ∷ _ ∷ _ ∷ _ ∷ _ ∷ _ ∷ _ ∷ _ ∷ _ ∷ _ ∷ _ ∷ _ ∷ _ ∷ _ ∷ _ ∷ _ ∷ _ ∷ _ ∷ _ ∷ _ ∷ _ ∷ _ ∷ _ ∷ _ ∷ _ ∷ _ ∷ _ ∷ _ ∷ _ ∷ _ ∷ _ ∷ _ ∷ _ ∷ _ ∷ _ ∷ _ ∷ _ ∷ _ ∷ _ ∷ _ ∷ _ ∷ _ ∷ _ ∷ _ ∷ _ ∷ _ ∷ _ ∷ _ ∷ _ ∷ _ ∷ _ ∷ _ ∷ _ ∷ _ ∷ _ ∷ _ ∷ _ ∷ _ ∷ _ ∷ _ ∷ _ ∷ _ ∷ _ ∷ _ ∷ _ ∷ []) $ returns ! (look ! 83 refl) $ move ! (3 ∷ 4 ∷ 5 ∷ 6 ∷ 7 ∷ 8 ∷ 9 ∷ 10 ∷ 11 ∷ 12 ∷ 13 ∷ 14 ∷ 15 ∷ 16 ∷ 17 ∷ 18 ∷ 19 ∷ 20 ∷ 21 ∷ 22 ∷ 23 ∷ 24 ∷ 25 ∷ 26 ∷ 27 ∷ 28 ∷ 29 ∷ 30 ∷ 31 ∷ 32 ∷ 33 ∷ 34 ∷ 35 ∷ 36 ∷ 37 ∷ 38 ∷ 39 ∷ 40 ∷ 41 ∷ 42 ∷ 43 ∷ 44 ∷ 45 ∷ 46 ∷ 47 ∷ 48 ∷ 49 ∷ 50 ∷ 0 ∷ 1 ∷ 2 ∷ 51 ∷ 52 ∷ 53 ∷ 54 ∷ 55 ∷ 56 ∷ 57 ∷ 58 ∷ 59 ∷ 60 ∷ 61 ∷ 62 ∷ 63 ∷ 64 ∷ 65 ∷ 66 ∷ 67 ∷ 68 ∷ 69 ∷ 70 ∷ 71 ∷ 72 ∷ 73 ∷ 74 ∷ 75 ∷ 76 ∷ 77 ∷ 78 ∷ 79 ∷ 80 ∷ 81 ∷ 82 ∷ 83 ∷ []) $ move ! (37 ∷ []) $ use1 W (dies ((lTranscriptAnswer.mir, l₀) ∷ (lTranscript.mir, l₁) ∷ (sliceTy (tyRef (named 0) mut (tyInt w64)), l₂) ∷ (sliceTy (tyRef (named 1) mut (tyInt w64)), l₃) ∷ (tyInt w64, l₄) ∷ (tyInt w64, l₅) ∷ (sliceTy (tyRef (named 2) imm (tyInt w64)), l₆) ∷ (tyInt w64, l₇) ∷ (tyInt w64, l₈) ∷ (tyArray (lEntry.mir) 64, l₉) ∷ (tyInt w64, l₁₀) ∷ (tyInt w64, l₁₁) ∷ (tyArray (lEntry.mir) 64, l₁₂) ∷ (tyInt w64, l₁₃) ∷ (tyInt w64, l₁₄) ∷ (tyArray (lEntry.mir) 64, l₁₅) ∷ (tyInt w64, l₁₆) ∷ (tyInt w64, l₁₇) ∷ (tyArray (lEntry.mir) 64, l₁₈) ∷ (tyInt w64, l₁₉) ∷ (tyInt w64, l₂₀) ∷ (tyArray (lEntry.mir) 64, l₂₁) ∷ (tyInt w64, l₂₂) ∷ (tyInt w64, l₂₃) ∷ (tyArray (lEntry.mir) 64, l₂₄) ∷ (sliceTy (tyRef (named 3) imm (tyInt w64)), l₂₅) ∷ (sliceTy (tyRef (named 4) imm (tyInt w64)), l₂₆) ∷ (tyInt w64, l₂₇) ∷ (tyInt w64, l₂₈) ∷ (tyInt w64, l₂₉) ∷ (tyInt w64, l₃₀) ∷ (tyInt w64, l₃₁) ∷ (tyInt w64, l₃₂) ∷ (tyArray (lEntry.mir) 64, l₃₃) ∷ (tyArray (lEntry.mir) 64, l₃₄) ∷ (tyArray (lEntry.mir) 64, l₃₅) ∷ (tyRef erased mut (tyInt w64), l₃₆) ∷ (sliceTy (tyRef erased mut (tyInt w64)), l₃₇) ∷ (tyRef erased mut (tyInt w64), l₃₈) ∷ (sliceTy (tyRef erased mut (tyInt w64)), l₃₉) ∷ (tyRef erased imm (pointee ((Array mEntry.the-row 64) .written)), l₄₀) ∷ (sliceTy (tyRef erased imm (pointee (mEntry.the-row .written))), l₄₁) ∷ (tyRef erased imm (pointee ((Array mEntry.the-row 64) .written)), l₄₂) ∷ (sliceTy (tyRef erased imm (pointee (mEntry.the-row .written))), l₄₃) ∷ (tyRef erased imm (pointee ((Array mEntry.the-row 64) .written)), l₄₄) ∷ (sliceTy (tyRef erased imm (pointee (mEntry.the-row .written))), l₄₅) ∷ []) (‵ ftrue)) die $ free-all ! 37 ((lTranscriptAnswer.mir, l₀) ∷ (lTranscript.mir, l₁) ∷ (sliceTy (tyRef (named 0) mut (tyInt w64)), l₂) ∷ (sliceTy (tyRef (named 1) mut (tyInt w64)), l₃) ∷ (tyInt w64, l₄) ∷ (tyInt w64, l₅) ∷ (sliceTy (tyRef (named 2) imm (tyInt w64)), l₆) ∷ (tyInt w64, l₇) ∷ (tyInt w64, l₈) ∷ (tyArray (lEntry.mir) 64, l₉) ∷ (tyInt w64, l₁₀) ∷ (tyInt w64, l₁₁) ∷ (tyArray (lEntry.mir) 64, l₁₂) ∷ (tyInt w64, l₁₃) ∷ (tyInt w64, l₁₄) ∷ (tyArray (lEntry.mir) 64, l₁₅) ∷ (tyInt w64, l₁₆) ∷ (tyInt w64, l₁₇) ∷ (tyArray (lEntry.mir) 64, l₁₈) ∷ (tyInt w64, l₁₉) ∷ (tyInt w64, l₂₀) ∷ (tyArray (lEntry.mir) 64, l₂₁) ∷ (tyInt w64, l₂₂) ∷ (tyInt w64, l₂₃) ∷ (tyArray (lEntry.mir) 64, l₂₄) ∷ (sliceTy (tyRef (named 3) imm (tyInt w64)), l₂₅) ∷ (sliceTy (tyRef (named 4) imm (tyInt w64)), l₂₆) ∷ (tyInt w64, l₂₇) ∷ (tyInt w64, l₂₈) ∷ (tyInt w64, l₂₉) ∷ (tyInt w64, l₃₀) ∷ (tyInt w64, l₃₁) ∷ (tyInt w64, l₃₂) ∷ (tyArray (lEntry.mir) 64, l₃₃) ∷ (tyArray (lEntry.mir) 64, l₃₄) ∷ (tyArray (lEntry.mir) 64, l₃₅) ∷ (tyRef erased mut (tyInt w64), l₃₆) ∷ (sliceTy (tyRef erased mut (tyInt w64)), l₃₇) ∷ (tyRef erased mut (tyInt w64), l₃₈) ∷ (sliceTy (tyRef erased mut (tyInt w64)), l₃₉) ∷ (tyRef erased imm (pointee ((Array mEntry.the-row 64) .written)), l₄₀) ∷ (sliceTy (tyRef erased imm (pointee (mEntry.the-row .written))), l₄₁) ∷ (tyRef erased imm (pointee ((Array mEntry.the-row 64) .written)), l₄₂) ∷ (sliceTy (tyRef erased imm (pointee (mEntry.the-row .written))), l₄₃) ∷ (tyRef erased imm (pointee ((Array mEntry.the-row 64) .written)), l₄₄) ∷ (sliceTy (tyRef erased imm (pointee (mEntry.the-row .written))), l₄₅) ∷ []) (kept _ ∷ kept _ ∷ kept _ ∷ kept _ ∷ kept _ ∷ kept _ ∷ kept _ ∷ kept _ ∷ kept _ ∷ kept _ ∷ kept _ ∷ kept _ ∷ kept _ ∷ kept _ ∷ kept _ ∷ kept _ ∷ kept _ ∷ kept _ ∷ kept _ ∷ kept _ ∷ kept _ ∷ kept _ ∷ kept _ ∷ kept _ ∷ kept _ ∷ kept _ ∷ kept _ ∷ kept _ ∷ kept _ ∷ kept _ ∷ kept _ ∷ kept _ ∷ kept _ ∷ kept _ ∷ kept _ ∷ kept _ ∷ kept _ ∷ kept _ ∷ kept _ ∷ kept _ ∷ kept _ ∷ kept _ ∷ kept _ ∷ kept _ ∷ kept _ ∷ kept _ ∷ []) refl $ 
-        suffices ! _ (ends-at 𝓤 H A f.ended stayed (f.clauses 𝓤 H A at-mem run) W (((κ₀, (κ₁, (κ₂, (κ₃, (κ₄, tt))))), (q₀, (q₁, (q₂, (q₃, (q₄, tt))))), tt, a, at), tt) z1 r1 (tt, (ws1 .1 .0, (ws1 .1 .1 .0, (tt, (tt, (tt, (tt, (tt, (tt, (tt, (tt, (tt, (tt, (tt, (tt, (tt, (tt, (tt, (tt, (tt, (tt, (tt, (tt, (tt, (tt, (tt, (tt, (tt, (tt, (tt, (tt, (tt, tt)))))))))))))))))))))))))))))))) (tt, (same1b, (same1c, (tt, (tt, (tt, (tt, (tt, (tt, (tt, (tt, (tt, (tt, (tt, (tt, (tt, (tt, (tt, (tt, (tt, (tt, (tt, (tt, (tt, (tt, (tt, (tt, (tt, (tt, (tt, (tt, (tt, tt))))))))))))))))))))))))))))))))) $ says ! (e1) $ 
+        use1 W (raw (Callee-g1 𝓤 H A at-mem run .pre ((((ν1b ∷ []), ((ν1c ∷ []), (κ₂, ((ν1i ∷ []), ((ν1l ∷ []), ((ν1o ∷ []), (κ₃, (κ₄, tt)))))))), (fullShare, (fullShare, (q₂, (fullShare, (fullShare, (fullShare, (q₃, (q₄, tt)))))))), tt, (n1, (ref2 δ1b (ys2), (ref3 δ1c (ys3), (n4, (n5, (s6, (n7, (n8, (record { ptr = (l₃₃, 0); name = δ1i; now = (take n27 (n9)) }, (n10, (n11, (record { ptr = (l₃₄, 0); name = δ1l; now = (take n28 (n12)) }, (n13, (n14, (record { ptr = (l₃₅, 0); name = δ1o; now = (take n29 (n15)) }, (n16, (n17, (n18, (n19, (n20, (n21, (n22, (n23, (n24, (s25, (s26, (n30, (n31, (n32, tt))))))))))))))))))))))))))))), (u1 ∷ [], (v2 ∷ [], (v3 ∷ [], (u4 ∷ [], (u5 ∷ [], (v6 ∷ [], (u7 ∷ [], (u8′ ∷ [], (sliceVal (l₃₃, 0) n27 ∷ [], (u10 ∷ [], (u11 ∷ [], (sliceVal (l₃₄, 0) n28 ∷ [], (u13 ∷ [], (u14 ∷ [], (sliceVal (l₃₅, 0) n29 ∷ [], (u16′ ∷ [], (u17 ∷ [], (u18 ∷ [], (u19 ∷ [], (u20 ∷ [], (u21 ∷ [], (u22 ∷ [], (u23 ∷ [], (u24 ∷ [], (v25 ∷ [], (v26 ∷ [], (u30 ∷ [], (u31 ∷ [], (u32′ ∷ [], tt)))))))))))))))))))))))))))))), tt))) (qed W ((‵ (flft (ν1b ∷ []) fullShare) ⊛ ‵ (flft (ν1c ∷ []) fullShare) ⊛ ‵ (flft κ₂ q₂) ⊛ ‵ (flft (ν1i ∷ []) fullShare) ⊛ ‵ (flft (ν1l ∷ []) fullShare) ⊛ ‵ (flft (ν1o ∷ []) fullShare) ⊛ ‵ (flft κ₃ q₃) ⊛ ‵ (flft κ₄ q₄) ⊛ ‵ ftrue) ∷ ‵ (MutSlice (named 0) (ν1b ∷ []) u64 .own (ref2 δ1b (ys2)) (v2 ∷ [])) ∷ ‵ (MutSlice (named 1) (ν1c ∷ []) u64 .own (ref3 δ1c (ys3)) (v3 ∷ [])) ∷ ‵ (ShrSlice (named 2) κ₂ u64 .own s6 (v6 ∷ [])) ∷ ‵ (ShrSlice (named 3) (ν1i ∷ []) mEntry.the-row .own (record { ptr = (l₃₃, 0); name = δ1i; now = (take n27 (n9)) }) (sliceVal (l₃₃, 0) n27 ∷ [])) ∷ ‵ (ShrSlice (named 4) (ν1l ∷ []) mEntry.the-row .own (record { ptr = (l₃₄, 0); name = δ1l; now = (take n28 (n12)) }) (sliceVal (l₃₄, 0) n28 ∷ [])) ∷ ‵ (ShrSlice (named 5) (ν1o ∷ []) mEntry.the-row .own (record { ptr = (l₃₅, 0); name = δ1o; now = (take n29 (n15)) }) (sliceVal (l₃₅, 0) n29 ∷ [])) ∷ ‵ (ShrSlice (named 6) κ₃ u64 .own s25 (v25 ∷ [])) ∷ ‵ (ShrSlice (named 7) κ₄ u64 .own s26 (v26 ∷ [])) ∷ []) ∵ says ! ((pre .3, pre .4, pre .5)) $ nothing ! $ owned ! u64 (Is u64) (uint-makes 𝓤 H A W w64) (n32) _ w32 $ fjoin ! $ owned ! u64 (Is u64) (uint-makes 𝓤 H A W w64) (n31) _ w31 $ fjoin ! $ owned ! u64 (Is u64) (uint-makes 𝓤 H A W w64) (n30) _ w30 $ fjoin ! $ move ! (9 ∷ 0 ∷ []) $ fjoin ! $ move ! (8 ∷ 0 ∷ []) $ fjoin ! $ owned ! (Array mEntry.the-row 64) (Is (Array mEntry.the-row 64)) (array-makes 𝓤 H A W mEntry.the-row (LL.makes mEntry.the-type lEntry.the-plain 𝓤 H A) 64) (n24) _ w24 $ fjoin ! $ owned ! u64 (Is u64) (uint-makes 𝓤 H A W w64) (n23) _ w23 $ fjoin ! $ owned ! u64 (Is u64) (uint-makes 𝓤 H A W w64) (n22) _ w22 $ fjoin ! $ owned ! (Array mEntry.the-row 64) (Is (Array mEntry.the-row 64)) (array-makes 𝓤 H A W mEntry.the-row (LL.makes mEntry.the-type lEntry.the-plain 𝓤 H A) 64) (n21) _ w21 $ fjoin ! $ owned ! u64 (Is u64) (uint-makes 𝓤 H A W w64) (n20) _ w20 $ fjoin ! $ owned ! u64 (Is u64) (uint-makes 𝓤 H A W w64) (n19) _ w19 $ fjoin ! $ owned ! (Array mEntry.the-row 64) (Is (Array mEntry.the-row 64)) (array-makes 𝓤 H A W mEntry.the-row (LL.makes mEntry.the-type lEntry.the-plain 𝓤 H A) 64) (n18) _ w18 $ fjoin ! $ owned ! u64 (Is u64) (uint-makes 𝓤 H A W w64) (n17) _ w17 $ fjoin ! $ owned ! u64 (Is u64) (uint-makes 𝓤 H A W w64) (n16) _ w16 $ fjoin ! $ move ! (7 ∷ 0 ∷ []) $ fjoin ! $ owned ! u64 (Is u64) (uint-makes 𝓤 H A W w64) (n14) _ w14 $ fjoin ! $ owned ! u64 (Is u64) (uint-makes 𝓤 H A W w64) (n13) _ w13 $ fjoin ! $ move ! (6 ∷ 0 ∷ []) $ fjoin ! $ owned ! u64 (Is u64) (uint-makes 𝓤 H A W w64) (n11) _ w11 $ fjoin ! $ owned ! u64 (Is u64) (uint-makes 𝓤 H A W w64) (n10) _ w10 $ fjoin ! $ move ! (5 ∷ 0 ∷ []) $ fjoin ! $ owned ! u64 (Is u64) (uint-makes 𝓤 H A W w64) (n8) _ w8 $ fjoin ! $ owned ! u64 (Is u64) (uint-makes 𝓤 H A W w64) (n7) _ w7 $ fjoin ! $ move ! (4 ∷ 0 ∷ []) $ fjoin ! $ owned ! u64 (Is u64) (uint-makes 𝓤 H A W w64) (n5) _ w5 $ fjoin ! $ owned ! u64 (Is u64) (uint-makes 𝓤 H A W w64) (n4) _ w4 $ fjoin ! $ move ! (3 ∷ 0 ∷ []) $ fjoin ! $ move ! (2 ∷ 0 ∷ []) $ fjoin ! $ owned ! mTranscript.the-row (Is mTranscript.the-row) (LL.makes mTranscript.the-type lTranscript.the-plain 𝓤 H A) (n1) _ w1 $ fjoin ! $ move ! (1 ∷ 0 ∷ []) $ frame ! $ done !) $
+        calls-at ! fm (Callee-g1 𝓤 H A at-mem run) known-g1 ((((ν1b ∷ []), ((ν1c ∷ []), (κ₂, ((ν1i ∷ []), ((ν1l ∷ []), ((ν1o ∷ []), (κ₃, (κ₄, tt)))))))), (fullShare, (fullShare, (q₂, (fullShare, (fullShare, (fullShare, (q₃, (q₄, tt)))))))), tt, (n1, (ref2 δ1b (ys2), (ref3 δ1c (ys3), (n4, (n5, (s6, (n7, (n8, (record { ptr = (l₃₃, 0); name = δ1i; now = (take n27 (n9)) }, (n10, (n11, (record { ptr = (l₃₄, 0); name = δ1l; now = (take n28 (n12)) }, (n13, (n14, (record { ptr = (l₃₅, 0); name = δ1o; now = (take n29 (n15)) }, (n16, (n17, (n18, (n19, (n20, (n21, (n22, (n23, (n24, (s25, (s26, (n30, (n31, (n32, tt))))))))))))))))))))))))))))), (u1 ∷ [], (v2 ∷ [], (v3 ∷ [], (u4 ∷ [], (u5 ∷ [], (v6 ∷ [], (u7 ∷ [], (u8′ ∷ [], (sliceVal (l₃₃, 0) n27 ∷ [], (u10 ∷ [], (u11 ∷ [], (sliceVal (l₃₄, 0) n28 ∷ [], (u13 ∷ [], (u14 ∷ [], (sliceVal (l₃₅, 0) n29 ∷ [], (u16′ ∷ [], (u17 ∷ [], (u18 ∷ [], (u19 ∷ [], (u20 ∷ [], (u21 ∷ [], (u22 ∷ [], (u23 ∷ [], (u24 ∷ [], (v25 ∷ [], (v26 ∷ [], (u30 ∷ [], (u31 ∷ [], (u32′ ∷ [], tt)))))))))))))))))))))))))))))), tt) (and-then ! (load ! (from ! (stop !)) (look ! 81 refl)) (and-then ! (load ! (from ! (stop !)) (look ! 48 refl)) (and-then ! (load ! (from ! (stop !)) (look ! 46 refl)) (and-then ! (load ! (from ! (stop !)) (look ! 78 refl)) (and-then ! (load ! (from ! (stop !)) (look ! 77 refl)) (and-then ! (load ! (from ! (stop !)) (look ! 76 refl)) (and-then ! (load ! (from ! (stop !)) (look ! 75 refl)) (and-then ! (load ! (from ! (stop !)) (look ! 74 refl)) (and-then ! (load ! (from ! (stop !)) (look ! 44 refl)) (and-then ! (load ! (from ! (stop !)) (look ! 72 refl)) (and-then ! (load ! (from ! (stop !)) (look ! 71 refl)) (and-then ! (load ! (from ! (stop !)) (look ! 42 refl)) (and-then ! (load ! (from ! (stop !)) (look ! 69 refl)) (and-then ! (load ! (from ! (stop !)) (look ! 68 refl)) (and-then ! (load ! (from ! (stop !)) (look ! 40 refl)) (and-then ! (load ! (from ! (stop !)) (look ! 66 refl)) (and-then ! (load ! (from ! (stop !)) (look ! 65 refl)) (and-then ! (load ! (from ! (stop !)) (look ! 64 refl)) (and-then ! (load ! (from ! (stop !)) (look ! 63 refl)) (and-then ! (load ! (from ! (stop !)) (look ! 62 refl)) (and-then ! (load ! (from ! (stop !)) (look ! 61 refl)) (and-then ! (load ! (from ! (stop !)) (look ! 60 refl)) (and-then ! (load ! (from ! (stop !)) (look ! 59 refl)) (and-then ! (load ! (from ! (stop !)) (look ! 58 refl)) (and-then ! (load ! (from ! (stop !)) (look ! 57 refl)) (and-then ! (load ! (from ! (stop !)) (look ! 56 refl)) (and-then ! (load ! (from ! (stop !)) (look ! 52 refl)) (and-then ! (load ! (from ! (stop !)) (look ! 51 refl)) (and-then ! (load ! (from ! (stop !)) (look ! 50 refl)) (no-more !)))))))))))))))))))))))))))))) (λ z1.
+        use1 W (later (some (λ (r1 : TranscriptAnswer). ((‵ (flft (ν1b ∷ []) fullShare) ⊛ ‵ (flft (ν1c ∷ []) fullShare) ⊛ ‵ (flft κ₂ q₂) ⊛ ‵ (flft (ν1i ∷ []) fullShare) ⊛ ‵ (flft (ν1l ∷ []) fullShare) ⊛ ‵ (flft (ν1o ∷ []) fullShare) ⊛ ‵ (flft κ₃ q₃) ⊛ ‵ (flft κ₄ q₄) ⊛ ‵ ftrue) ⊛ ‵ (mTranscriptAnswer.the-row .own r1 (z1 ∷ []))) ⊛ some (λ (ws : Lasts g1.ended ((ν1b ∷ []), ((ν1c ∷ []), (κ₂, ((ν1i ∷ []), ((ν1l ∷ []), ((ν1o ∷ []), (κ₃, (κ₄, tt)))))))) (n1, (ref2 δ1b (ys2), (ref3 δ1c (ys3), (n4, (n5, (s6, (n7, (n8, (record { ptr = (l₃₃, 0); name = δ1i; now = (take n27 (n9)) }, (n10, (n11, (record { ptr = (l₃₄, 0); name = δ1l; now = (take n28 (n12)) }, (n13, (n14, (record { ptr = (l₃₅, 0); name = δ1o; now = (take n29 (n15)) }, (n16, (n17, (n18, (n19, (n20, (n21, (n22, (n23, (n24, (s25, (s26, (n30, (n31, (n32, tt)))))))))))))))))))))))))))))). ‵ (lasts g1.ended ((ν1b ∷ []), ((ν1c ∷ []), (κ₂, ((ν1i ∷ []), ((ν1l ∷ []), ((ν1o ∷ []), (κ₃, (κ₄, tt)))))))) (n1, (ref2 δ1b (ys2), (ref3 δ1c (ys3), (n4, (n5, (s6, (n7, (n8, (record { ptr = (l₃₃, 0); name = δ1i; now = (take n27 (n9)) }, (n10, (n11, (record { ptr = (l₃₄, 0); name = δ1l; now = (take n28 (n12)) }, (n13, (n14, (record { ptr = (l₃₅, 0); name = δ1o; now = (take n29 (n15)) }, (n16, (n17, (n18, (n19, (n20, (n21, (n22, (n23, (n24, (s25, (s26, (n30, (n31, (n32, tt))))))))))))))))))))))))))))) ws) ⊛ raw (g1.clauses 𝓤 H A at-mem run ((ν1b ∷ []), ((ν1c ∷ []), (κ₂, ((ν1i ∷ []), ((ν1l ∷ []), ((ν1o ∷ []), (κ₃, (κ₄, tt)))))))) (n1, (ref2 δ1b (ys2), (ref3 δ1c (ys3), (n4, (n5, (s6, (n7, (n8, (record { ptr = (l₃₃, 0); name = δ1i; now = (take n27 (n9)) }, (n10, (n11, (record { ptr = (l₃₄, 0); name = δ1l; now = (take n28 (n12)) }, (n13, (n14, (record { ptr = (l₃₅, 0); name = δ1o; now = (take n29 (n15)) }, (n16, (n17, (n18, (n19, (n20, (n21, (n22, (n23, (n24, (s25, (s26, (n30, (n31, (n32, tt))))))))))))))))))))))))))))) .ensures tt r1 (atExit g1.ended ((ν1b ∷ []), ((ν1c ∷ []), (κ₂, ((ν1i ∷ []), ((ν1l ∷ []), ((ν1o ∷ []), (κ₃, (κ₄, tt)))))))) (n1, (ref2 δ1b (ys2), (ref3 δ1c (ys3), (n4, (n5, (s6, (n7, (n8, (record { ptr = (l₃₃, 0); name = δ1i; now = (take n27 (n9)) }, (n10, (n11, (record { ptr = (l₃₄, 0); name = δ1l; now = (take n28 (n12)) }, (n13, (n14, (record { ptr = (l₃₅, 0); name = δ1o; now = (take n29 (n15)) }, (n16, (n17, (n18, (n19, (n20, (n21, (n22, (n23, (n24, (s25, (s26, (n30, (n31, (n32, tt))))))))))))))))))))))))))))) ws)))))) (id⊢ 𝓤 _) $ await ! tt $ pick ! (λ r1. split ! $ move ! (1 ∷ []) $ pick ! (λ ws1. split ! $ move ! (1 ∷ []) $ heard ! _ (λ e1.
+        fsplit ! $ drop ! $ fsplit ! $ fsplit ! $ move ! (1 ∷ []) $ feqL ! (λ same1b. move ! (1 ∷ []) $ fsplit ! $ fsplit ! $ move ! (1 ∷ []) $ feqL ! (λ same1c. move ! (1 ∷ []) $ drop ! $ move ! (2 ∷ []) $ split ! $ move ! (1 ∷ []) $ peeks ! mTranscriptAnswer.the-row (Is mTranscriptAnswer.the-row) (shows 𝓤 H A mTranscriptAnswer.the-row) r1 (z1 ∷ []) (λ i1. drop ! $ land ! (from ! (stop !)) (init ! 84 refl (LL.lawful mTranscriptAnswer.the-type lTranscriptAnswer.the-laws 𝓤 H A W .typed r1 _ i1 .0)) $
+        tidy W (_ ∷ _ ∷ _ ∷ _ ∷ _ ∷ _ ∷ _ ∷ _ ∷ _ ∷ _ ∷ _ ∷ _ ∷ _ ∷ _ ∷ _ ∷ _ ∷ _ ∷ _ ∷ _ ∷ _ ∷ _ ∷ _ ∷ _ ∷ _ ∷ _ ∷ _ ∷ _ ∷ _ ∷ _ ∷ _ ∷ _ ∷ _ ∷ _ ∷ _ ∷ _ ∷ _ ∷ _ ∷ _ ∷ _ ∷ _ ∷ _ ∷ _ ∷ _ ∷ _ ∷ _ ∷ _ ∷ _ ∷ _ ∷ _ ∷ _ ∷ _ ∷ _ ∷ _ ∷ _ ∷ _ ∷ _ ∷ _ ∷ _ ∷ _ ∷ _ ∷ _ ∷ _ ∷ _ ∷ _ ∷ _ ∷ _ ∷ _ ∷ _ ∷ _ ∷ _ ∷ _ ∷ _ ∷ _ ∷ _ ∷ _ ∷ _ ∷ _ ∷ _ ∷ _ ∷ _ ∷ _ ∷ _ ∷ _ ∷ _ ∷ _ ∷ []) $ split ! $ move ! (1 ∷ []) $ split ! $ move ! (1 ∷ []) $ split ! $ move ! (1 ∷ []) $ split ! $ move ! (1 ∷ []) $ split ! $ move ! (1 ∷ []) $ split ! $ move ! (1 ∷ []) $ split ! $ move ! (1 ∷ []) $ split ! $ move ! (1 ∷ []) $ drop ! $ move ! (7 ∷ []) $ lft-end ! tt $ move ! (0 ∷ 20 ∷ 9 ∷ []) $ use3 W (later (‵ (O2 (ws1 .1 .0)) ⊛ ‵ (flft κ₀ q₀))) (backs2 (named 0) ν1b δ1b (ys2) (ws1 .1 .0) (refl) room2 same1b) $ await ! tt $ split ! $
+        move ! (8 ∷ []) $ lft-end ! tt $ move ! (0 ∷ 19 ∷ 9 ∷ []) $ use3 W (later (‵ (O3 (ws1 .1 .1 .0)) ⊛ ‵ (flft κ₁ q₁))) (backs3 (named 1) ν1c δ1c (ys3) (ws1 .1 .1 .0) (refl) room3 same1c) $ await ! tt $ split ! $
+        move ! (8 ∷ []) $ lft-end ! tt $ move ! (0 ∷ 16 ∷ []) $ lent-back ! tt $ fsplit ! $ drop ! $ move ! (0 ∷ 16 ∷ []) $ use2 W (‵ (parts (mem mEntry.the-row) (shares mEntry.the-row) fullShare (n9) l₃₃ 0)) (mend 𝓤 H A mEntry.the-row fullShare n27 (n9) l₃₃ 0) $ feqI ! ℕ (length (n9)) 64 ln1i $ fjoin ! $ use1 W (‵ (partAt (Array mEntry.the-row 64) fullShare (n9) l₃₃ 0)) (array-whole 𝓤 H A W mEntry.the-row fullShare 64 (n9) l₃₃ 0) $
+        out ! (Array mEntry.the-row 64) fullShare (n9) l₃₃ 0 (λ vs. spelt ! (Array mEntry.the-row 64) (Is (Array mEntry.the-row 64)) (shows 𝓤 H A (Array mEntry.the-row 64)) (array-vals (LL.vals mEntry.the-type lEntry.the-laws)) (array-tells mEntry.the-row (LL.vals mEntry.the-type lEntry.the-laws) (LL.tells mEntry.the-type lEntry.the-laws) 64) fullShare (n9) vs l₃₃ 0 $ move ! (1 ∷ []) $ peeks ! (Array mEntry.the-row 64) (Is (Array mEntry.the-row 64)) (shows 𝓤 H A (Array mEntry.the-row 64)) (n9) (array-val (LL.vals mEntry.the-type lEntry.the-laws) (n9) ∷ []) (λ w1i. drop ! $ use1 W (‵ (fat fullShare (tyArray (lEntry.mir) 64) l₃₃ 0 (array-val (LL.vals mEntry.the-type lEntry.the-laws) (n9)))) (W .laws .raw-at fullShare (tyArray (lEntry.mir) 64) l₃₃ 0 (array-val (LL.vals mEntry.the-type lEntry.the-laws) (n9))) $
+        move ! (8 ∷ []) $ lft-end ! tt $ move ! (0 ∷ 14 ∷ []) $ lent-back ! tt $ fsplit ! $ drop ! $ move ! (0 ∷ 14 ∷ []) $ use2 W (‵ (parts (mem mEntry.the-row) (shares mEntry.the-row) fullShare (n12) l₃₄ 0)) (mend 𝓤 H A mEntry.the-row fullShare n28 (n12) l₃₄ 0) $ feqI ! ℕ (length (n12)) 64 ln1l $ fjoin ! $ use1 W (‵ (partAt (Array mEntry.the-row 64) fullShare (n12) l₃₄ 0)) (array-whole 𝓤 H A W mEntry.the-row fullShare 64 (n12) l₃₄ 0) $
+        out ! (Array mEntry.the-row 64) fullShare (n12) l₃₄ 0 (λ vs. spelt ! (Array mEntry.the-row 64) (Is (Array mEntry.the-row 64)) (shows 𝓤 H A (Array mEntry.the-row 64)) (array-vals (LL.vals mEntry.the-type lEntry.the-laws)) (array-tells mEntry.the-row (LL.vals mEntry.the-type lEntry.the-laws) (LL.tells mEntry.the-type lEntry.the-laws) 64) fullShare (n12) vs l₃₄ 0 $ move ! (1 ∷ []) $ peeks ! (Array mEntry.the-row 64) (Is (Array mEntry.the-row 64)) (shows 𝓤 H A (Array mEntry.the-row 64)) (n12) (array-val (LL.vals mEntry.the-type lEntry.the-laws) (n12) ∷ []) (λ w1l. drop ! $ use1 W (‵ (fat fullShare (tyArray (lEntry.mir) 64) l₃₄ 0 (array-val (LL.vals mEntry.the-type lEntry.the-laws) (n12)))) (W .laws .raw-at fullShare (tyArray (lEntry.mir) 64) l₃₄ 0 (array-val (LL.vals mEntry.the-type lEntry.the-laws) (n12))) $
+        move ! (8 ∷ []) $ lft-end ! tt $ move ! (0 ∷ 12 ∷ []) $ lent-back ! tt $ fsplit ! $ drop ! $ move ! (0 ∷ 12 ∷ []) $ use2 W (‵ (parts (mem mEntry.the-row) (shares mEntry.the-row) fullShare (n15) l₃₅ 0)) (mend 𝓤 H A mEntry.the-row fullShare n29 (n15) l₃₅ 0) $ feqI ! ℕ (length (n15)) 64 ln1o $ fjoin ! $ use1 W (‵ (partAt (Array mEntry.the-row 64) fullShare (n15) l₃₅ 0)) (array-whole 𝓤 H A W mEntry.the-row fullShare 64 (n15) l₃₅ 0) $
+        out ! (Array mEntry.the-row 64) fullShare (n15) l₃₅ 0 (λ vs. spelt ! (Array mEntry.the-row 64) (Is (Array mEntry.the-row 64)) (shows 𝓤 H A (Array mEntry.the-row 64)) (array-vals (LL.vals mEntry.the-type lEntry.the-laws)) (array-tells mEntry.the-row (LL.vals mEntry.the-type lEntry.the-laws) (LL.tells mEntry.the-type lEntry.the-laws) 64) fullShare (n15) vs l₃₅ 0 $ move ! (1 ∷ []) $ peeks ! (Array mEntry.the-row 64) (Is (Array mEntry.the-row 64)) (shows 𝓤 H A (Array mEntry.the-row 64)) (n15) (array-val (LL.vals mEntry.the-type lEntry.the-laws) (n15) ∷ []) (λ w1o. drop ! $ use1 W (‵ (fat fullShare (tyArray (lEntry.mir) 64) l₃₅ 0 (array-val (LL.vals mEntry.the-type lEntry.the-laws) (n15)))) (W .laws .raw-at fullShare (tyArray (lEntry.mir) 64) l₃₅ 0 (array-val (LL.vals mEntry.the-type lEntry.the-laws) (n15))) $
+        tidy W (_ ∷ _ ∷ _ ∷ _ ∷ _ ∷ _ ∷ _ ∷ _ ∷ _ ∷ _ ∷ _ ∷ _ ∷ _ ∷ _ ∷ _ ∷ _ ∷ _ ∷ _ ∷ _ ∷ _ ∷ _ ∷ _ ∷ _ ∷ _ ∷ _ ∷ _ ∷ _ ∷ _ ∷ _ ∷ _ ∷ _ ∷ _ ∷ _ ∷ _ ∷ _ ∷ _ ∷ _ ∷ _ ∷ _ ∷ _ ∷ _ ∷ _ ∷ _ ∷ _ ∷ _ ∷ _ ∷ _ ∷ _ ∷ _ ∷ _ ∷ _ ∷ _ ∷ _ ∷ _ ∷ _ ∷ _ ∷ _ ∷ _ ∷ _ ∷ _ ∷ _ ∷ _ ∷ _ ∷ _ ∷ _ ∷ _ ∷ _ ∷ _ ∷ _ ∷ _ ∷ _ ∷ _ ∷ _ ∷ _ ∷ _ ∷ _ ∷ _ ∷ _ ∷ _ ∷ _ ∷ _ ∷ _ ∷ _ ∷ _ ∷ []) $ returns ! (look ! 83 refl) $ move ! (3 ∷ 4 ∷ 5 ∷ 6 ∷ 7 ∷ 8 ∷ 9 ∷ 10 ∷ 11 ∷ 12 ∷ 13 ∷ 14 ∷ 15 ∷ 16 ∷ 17 ∷ 18 ∷ 19 ∷ 20 ∷ 21 ∷ 22 ∷ 23 ∷ 24 ∷ 25 ∷ 26 ∷ 27 ∷ 28 ∷ 29 ∷ 30 ∷ 31 ∷ 32 ∷ 33 ∷ 34 ∷ 35 ∷ 36 ∷ 37 ∷ 38 ∷ 39 ∷ 40 ∷ 41 ∷ 42 ∷ 43 ∷ 44 ∷ 45 ∷ 46 ∷ 47 ∷ 48 ∷ 49 ∷ 50 ∷ 0 ∷ 1 ∷ 2 ∷ 51 ∷ 52 ∷ 53 ∷ 54 ∷ 55 ∷ 56 ∷ 57 ∷ 58 ∷ 59 ∷ 60 ∷ 61 ∷ 62 ∷ 63 ∷ 64 ∷ 65 ∷ 66 ∷ 67 ∷ 68 ∷ 69 ∷ 70 ∷ 71 ∷ 72 ∷ 73 ∷ 74 ∷ 75 ∷ 76 ∷ 77 ∷ 78 ∷ 79 ∷ 80 ∷ 81 ∷ 82 ∷ 83 ∷ []) $ move ! (37 ∷ []) $ use1 W (dies ((lTranscriptAnswer.mir, l₀) ∷ (lTranscript.mir, l₁) ∷ (sliceTy (tyRef (named 0) mut (tyInt w64)), l₂) ∷ (sliceTy (tyRef (named 1) mut (tyInt w64)), l₃) ∷ (tyInt w64, l₄) ∷ (tyInt w64, l₅) ∷ (sliceTy (tyRef (named 2) imm (tyInt w64)), l₆) ∷ (tyInt w64, l₇) ∷ (tyInt w64, l₈) ∷ (tyArray (lEntry.mir) 64, l₉) ∷ (tyInt w64, l₁₀) ∷ (tyInt w64, l₁₁) ∷ (tyArray (lEntry.mir) 64, l₁₂) ∷ (tyInt w64, l₁₃) ∷ (tyInt w64, l₁₄) ∷ (tyArray (lEntry.mir) 64, l₁₅) ∷ (tyInt w64, l₁₆) ∷ (tyInt w64, l₁₇) ∷ (tyArray (lEntry.mir) 64, l₁₈) ∷ (tyInt w64, l₁₉) ∷ (tyInt w64, l₂₀) ∷ (tyArray (lEntry.mir) 64, l₂₁) ∷ (tyInt w64, l₂₂) ∷ (tyInt w64, l₂₃) ∷ (tyArray (lEntry.mir) 64, l₂₄) ∷ (sliceTy (tyRef (named 3) imm (tyInt w64)), l₂₅) ∷ (sliceTy (tyRef (named 4) imm (tyInt w64)), l₂₆) ∷ (tyInt w64, l₂₇) ∷ (tyInt w64, l₂₈) ∷ (tyInt w64, l₂₉) ∷ (tyInt w64, l₃₀) ∷ (tyInt w64, l₃₁) ∷ (tyInt w64, l₃₂) ∷ (tyArray (lEntry.mir) 64, l₃₃) ∷ (tyArray (lEntry.mir) 64, l₃₄) ∷ (tyArray (lEntry.mir) 64, l₃₅) ∷ (tyRef erased mut (tyInt w64), l₃₆) ∷ (sliceTy (tyRef erased mut (tyInt w64)), l₃₇) ∷ (tyRef erased mut (tyInt w64), l₃₈) ∷ (sliceTy (tyRef erased mut (tyInt w64)), l₃₉) ∷ (tyRef erased imm (pointee ((Array mEntry.the-row 64) .written)), l₄₀) ∷ (sliceTy (tyRef erased imm (pointee (mEntry.the-row .written))), l₄₁) ∷ (tyRef erased imm (pointee ((Array mEntry.the-row 64) .written)), l₄₂) ∷ (sliceTy (tyRef erased imm (pointee (mEntry.the-row .written))), l₄₃) ∷ (tyRef erased imm (pointee ((Array mEntry.the-row 64) .written)), l₄₄) ∷ (sliceTy (tyRef erased imm (pointee (mEntry.the-row .written))), l₄₅) ∷ []) (‵ ftrue)) die $ free-all ! 37 ((lTranscriptAnswer.mir, l₀) ∷ (lTranscript.mir, l₁) ∷ (sliceTy (tyRef (named 0) mut (tyInt w64)), l₂) ∷ (sliceTy (tyRef (named 1) mut (tyInt w64)), l₃) ∷ (tyInt w64, l₄) ∷ (tyInt w64, l₅) ∷ (sliceTy (tyRef (named 2) imm (tyInt w64)), l₆) ∷ (tyInt w64, l₇) ∷ (tyInt w64, l₈) ∷ (tyArray (lEntry.mir) 64, l₉) ∷ (tyInt w64, l₁₀) ∷ (tyInt w64, l₁₁) ∷ (tyArray (lEntry.mir) 64, l₁₂) ∷ (tyInt w64, l₁₃) ∷ (tyInt w64, l₁₄) ∷ (tyArray (lEntry.mir) 64, l₁₅) ∷ (tyInt w64, l₁₆) ∷ (tyInt w64, l₁₇) ∷ (tyArray (lEntry.mir) 64, l₁₈) ∷ (tyInt w64, l₁₉) ∷ (tyInt w64, l₂₀) ∷ (tyArray (lEntry.mir) 64, l₂₁) ∷ (tyInt w64, l₂₂) ∷ (tyInt w64, l₂₃) ∷ (tyArray (lEntry.mir) 64, l₂₄) ∷ (sliceTy (tyRef (named 3) imm (tyInt w64)), l₂₅) ∷ (sliceTy (tyRef (named 4) imm (tyInt w64)), l₂₆) ∷ (tyInt w64, l₂₇) ∷ (tyInt w64, l₂₈) ∷ (tyInt w64, l₂₉) ∷ (tyInt w64, l₃₀) ∷ (tyInt w64, l₃₁) ∷ (tyInt w64, l₃₂) ∷ (tyArray (lEntry.mir) 64, l₃₃) ∷ (tyArray (lEntry.mir) 64, l₃₄) ∷ (tyArray (lEntry.mir) 64, l₃₅) ∷ (tyRef erased mut (tyInt w64), l₃₆) ∷ (sliceTy (tyRef erased mut (tyInt w64)), l₃₇) ∷ (tyRef erased mut (tyInt w64), l₃₈) ∷ (sliceTy (tyRef erased mut (tyInt w64)), l₃₉) ∷ (tyRef erased imm (pointee ((Array mEntry.the-row 64) .written)), l₄₀) ∷ (sliceTy (tyRef erased imm (pointee (mEntry.the-row .written))), l₄₁) ∷ (tyRef erased imm (pointee ((Array mEntry.the-row 64) .written)), l₄₂) ∷ (sliceTy (tyRef erased imm (pointee (mEntry.the-row .written))), l₄₃) ∷ (tyRef erased imm (pointee ((Array mEntry.the-row 64) .written)), l₄₄) ∷ (sliceTy (tyRef erased imm (pointee (mEntry.the-row .written))), l₄₅) ∷ []) (kept _ ∷ kept _ ∷ kept _ ∷ kept _ ∷ kept _ ∷ kept _ ∷ kept _ ∷ kept _ ∷ kept _ ∷ kept _ ∷ kept _ ∷ kept _ ∷ kept _ ∷ kept _ ∷ kept _ ∷ kept _ ∷ kept _ ∷ kept _ ∷ kept _ ∷ kept _ ∷ kept _ ∷ kept _ ∷ kept _ ∷ kept _ ∷ kept _ ∷ kept _ ∷ kept _ ∷ kept _ ∷ kept _ ∷ kept _ ∷ kept _ ∷ kept _ ∷ kept _ ∷ kept _ ∷ kept _ ∷ kept _ ∷ kept _ ∷ kept _ ∷ kept _ ∷ kept _ ∷ kept _ ∷ kept _ ∷ kept _ ∷ kept _ ∷ kept _ ∷ kept _ ∷ []) refl $
+        suffices ! _ (ends-at 𝓤 H A f.ended stayed (f.clauses 𝓤 H A at-mem run) W (((κ₀, (κ₁, (κ₂, (κ₃, (κ₄, tt))))), (q₀, (q₁, (q₂, (q₃, (q₄, tt))))), tt, a, at), tt) z1 r1 (tt, (ws1 .1 .0, (ws1 .1 .1 .0, (tt, (tt, (tt, (tt, (tt, (tt, (tt, (tt, (tt, (tt, (tt, (tt, (tt, (tt, (tt, (tt, (tt, (tt, (tt, (tt, (tt, (tt, (tt, (tt, (tt, (tt, (tt, (tt, (tt, tt)))))))))))))))))))))))))))))))) (tt, (same1b, (same1c, (tt, (tt, (tt, (tt, (tt, (tt, (tt, (tt, (tt, (tt, (tt, (tt, (tt, (tt, (tt, (tt, (tt, (tt, (tt, (tt, (tt, (tt, (tt, (tt, (tt, (tt, (tt, (tt, (tt, tt))))))))))))))))))))))))))))))))) $ says ! (e1) $
         nothing ! $ move ! (5 ∷ 0 ∷ []) $ join ! $ move ! (5 ∷ 0 ∷ []) $ join ! $ move ! (5 ∷ 0 ∷ []) $ join ! $ move ! (2 ∷ 0 ∷ []) $ join ! $ move ! (3 ∷ 0 ∷ []) $ join ! $ nothing ! $ move ! (7 ∷ 0 ∷ []) $ fjoin ! $ move ! (7 ∷ 0 ∷ []) $ fjoin ! $ move ! (7 ∷ 0 ∷ []) $ fjoin ! $ move ! (7 ∷ 0 ∷ []) $ fjoin ! $ move ! (7 ∷ 0 ∷ []) $ fjoin ! $ move ! (7 ∷ 0 ∷ []) $ fjoin ! $ move ! (4 ∷ 0 ∷ []) $ fjoin ! $ move ! (4 ∷ 0 ∷ []) $ fjoin ! $ move ! (5 ∷ 0 ∷ []) $ fjoin ! $ move ! (5 ∷ 0 ∷ []) $ fjoin ! $ move ! (5 ∷ 0 ∷ []) $ fjoin ! $ move ! (5 ∷ 0 ∷ []) $ fjoin ! $ move ! (5 ∷ 0 ∷ []) $ fjoin ! $ move ! (5 ∷ 0 ∷ []) $ fjoin ! $ move ! (5 ∷ 0 ∷ []) $ fjoin ! $ move ! (5 ∷ 0 ∷ []) $ fjoin ! $ move ! (5 ∷ 0 ∷ []) $ fjoin ! $ move ! (5 ∷ 0 ∷ []) $ fjoin ! $ move ! (5 ∷ 0 ∷ []) $ fjoin ! $ move ! (5 ∷ 0 ∷ []) $ fjoin ! $ move ! (5 ∷ 0 ∷ []) $ fjoin ! $ move ! (5 ∷ 0 ∷ []) $ fjoin ! $ move ! (5 ∷ 0 ∷ []) $ fjoin ! $ move ! (5 ∷ 0 ∷ []) $ fjoin ! $ move ! (5 ∷ 0 ∷ []) $ fjoin ! $ move ! (5 ∷ 0 ∷ []) $ fjoin ! $ move ! (4 ∷ 0 ∷ []) $ fjoin ! $ move ! (4 ∷ 0 ∷ []) $ fjoin ! $ move ! (4 ∷ 0 ∷ []) $ fjoin ! $ move ! (2 ∷ 0 ∷ []) $ fjoin ! $ move ! (2 ∷ 0 ∷ []) $ fjoin ! $ move ! (2 ∷ 0 ∷ []) $ fjoin ! $ keep ! (1 ∷ 0 ∷ []) $ frame ! $ frame ! $ owned ! mTranscriptAnswer.the-row (Is mTranscriptAnswer.the-row) (LL.makes mTranscriptAnswer.the-type lTranscriptAnswer.the-plain 𝓤 H A) r1 _ i1 $ done !)))))))))))))))))))))))))))))))))))))))))))))))))))))))))))))))))))))))))
 
 module _ {M : Type 1} (𝓤 : URA M) (H : Heap 𝓤) (A : Atoms 𝓤) (W : Given 𝓤 H A) (mem : Memory → SProp 𝓤) (run : Routine → Fun 𝓤) where

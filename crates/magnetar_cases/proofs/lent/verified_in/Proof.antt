@@ -92,7 +92,6 @@ is-no : (t : Bool) → Trueᴮ (not t) → t ≡ false
 is-no true a = absurd a
 is-no false _ = refl
 
-
 abbrev stayed : Stays (f.ended .signature .params) (f.ended .kept)
 stayed = (stay-none (λ _. mTranscript.the-row) yes, (stay-slice (0 ∷ []) tt (plain (λ _. u64)), (stay-slice (1 ∷ []) tt (plain (λ _. u64)), (stay-none (λ _. u64) yes, (stay-none (λ _. u64) yes, (stay-none-slice (2 ∷ []) tt (plain (λ _. u64)) yes, (stay-none (λ _. u64) yes, (stay-none (λ _. u64) yes, (stay-none-slice (3 ∷ []) tt (plain (λ _. mEntry.the-row)) yes, (stay-none (λ _. u64) yes, (stay-none (λ _. u64) yes, (stay-none-slice (4 ∷ []) tt (plain (λ _. mEntry.the-row)) yes, (stay-none (λ _. u64) yes, (stay-none (λ _. u64) yes, (stay-none-slice (5 ∷ []) tt (plain (λ _. mEntry.the-row)) yes, (stay-none (λ _. u64) yes, (stay-none (λ _. u64) yes, (stay-none (λ _. (Array mEntry.the-row 64)) yes, (stay-none (λ _. u64) yes, (stay-none (λ _. u64) yes, (stay-none (λ _. (Array mEntry.the-row 64)) yes, (stay-none (λ _. u64) yes, (stay-none (λ _. u64) yes, (stay-none (λ _. (Array mEntry.the-row 64)) yes, (stay-none-slice (6 ∷ []) tt (plain (λ _. u64)) yes, (stay-none-slice (7 ∷ []) tt (plain (λ _. u64)) yes, (stay-none (λ _. u64) yes, (stay-none (λ _. u64) yes, (stay-none (λ _. u64) yes, tt)))))))))))))))))))))))))))))
 
@@ -262,68 +261,64 @@ module _ {M : Type 1} (𝓤 : URA M) (H : Heap 𝓤) (A : Atoms 𝓤) (W : Given
     walk : ((n27 ≤ 64) × (n28 ≤ 64) × (n29 ≤ 64)) → ent 𝓤 (onEntry 𝓤 H A f.signature (κ₀, (κ₁, (κ₂, (κ₃, (κ₄, (κ₅, (κ₆, (κ₇, tt)))))))) (q₀, (q₁, (q₂, (q₃, (q₄, (q₅, (q₆, (q₇, tt)))))))) a at) (WpFn 𝓤 H C Λ code.function (v1 ∷ v2 ∷ v3 ∷ v4 ∷ v5 ∷ v6 ∷ v7 ∷ v8 ∷ v9 ∷ v10 ∷ v11 ∷ v12 ∷ v13 ∷ v14 ∷ v15 ∷ v16 ∷ v17 ∷ v18 ∷ v19 ∷ v20 ∷ v21 ∷ v22 ∷ v23 ∷ v24 ∷ v25 ∷ v26 ∷ v27 ∷ v28 ∷ v29 ∷ []) Post)
     walk pre =
         qed W ((‵ (flft κ₀ q₀) ⊛ ‵ (flft κ₁ q₁) ⊛ ‵ (flft κ₂ q₂) ⊛ ‵ (flft κ₃ q₃) ⊛ ‵ (flft κ₄ q₄) ⊛ ‵ (flft κ₅ q₅) ⊛ ‵ (flft κ₆ q₆) ⊛ ‵ (flft κ₇ q₇) ⊛ ‵ ftrue) ∷ ‵ (owns (mTranscript.the-row ∷ MutSlice (named 0) κ₀ u64 ∷ MutSlice (named 1) κ₁ u64 ∷ u64 ∷ u64 ∷ ShrSlice (named 2) κ₂ u64 ∷ u64 ∷ u64 ∷ ShrSlice (named 3) κ₃ mEntry.the-row ∷ u64 ∷ u64 ∷ ShrSlice (named 4) κ₄ mEntry.the-row ∷ u64 ∷ u64 ∷ ShrSlice (named 5) κ₅ mEntry.the-row ∷ u64 ∷ u64 ∷ (Array mEntry.the-row 64) ∷ u64 ∷ u64 ∷ (Array mEntry.the-row 64) ∷ u64 ∷ u64 ∷ (Array mEntry.the-row 64) ∷ ShrSlice (named 6) κ₆ u64 ∷ ShrSlice (named 7) κ₇ u64 ∷ u64 ∷ u64 ∷ u64 ∷ []) a at) ∷ []) ∵ enter ! C Λ code.function (v1 ∷ v2 ∷ v3 ∷ v4 ∷ v5 ∷ v6 ∷ v7 ∷ v8 ∷ v9 ∷ v10 ∷ v11 ∷ v12 ∷ v13 ∷ v14 ∷ v15 ∷ v16 ∷ v17 ∷ v18 ∷ v19 ∷ v20 ∷ v21 ∷ v22 ∷ v23 ∷ v24 ∷ v25 ∷ v26 ∷ v27 ∷ v28 ∷ v29 ∷ []) _ $
-        nothing ! $ alloc ! (λ l₀. alloc ! (λ l₁. alloc ! (λ l₂. alloc ! (λ l₃. alloc ! (λ l₄. alloc ! (λ l₅. alloc ! (λ l₆. alloc ! (λ l₇. alloc ! (λ l₈. alloc ! (λ l₉. alloc ! (λ l₁₀. alloc ! (λ l₁₁. alloc ! (λ l₁₂. alloc ! (λ l₁₃. alloc ! (λ l₁₄. alloc ! (λ l₁₅. alloc ! (λ l₁₆. alloc ! (λ l₁₇. alloc ! (λ l₁₈. alloc ! (λ l₁₉. alloc ! (λ l₂₀. alloc ! (λ l₂₁. alloc ! (λ l₂₂. alloc ! (λ l₂₃. alloc ! (λ l₂₄. alloc ! (λ l₂₅. alloc ! (λ l₂₆. alloc ! (λ l₂₇. alloc ! (λ l₂₈. alloc ! (λ l₂₉. alloc ! (λ l₃₀. alloc ! (λ l₃₁. alloc ! (λ l₃₂. alloc ! (λ l₃₃. alloc ! (λ l₃₄. alloc ! (λ l₃₅. alloc ! (λ l₃₆. alloc ! (λ l₃₇. alloc ! (λ l₃₈. alloc ! (λ l₃₉. alloc ! (λ l₄₀. alloc ! (λ l₄₁. alloc ! (λ l₄₂. alloc ! (λ l₄₃. alloc ! (λ l₄₄. alloc ! (λ l₄₅. alloc ! (λ l₄₆. alloc0 ! $ hide ! (λ died die. params1 ! $ pass1 ! (init ! 46 refl (LL.lawful mTranscript.the-type lTranscript.the-laws 𝓤 H A W .typed n1 _ w1 .0)) $ pass1 ! (init ! 45 refl (tt, (tt, (record { fits = room2 .0 }, tt)))) $ pass1 ! (init ! 44 refl (tt, (tt, (record { fits = room3 .0 }, tt)))) $ pass1 ! (init ! 43 refl (uint-lawful 𝓤 H A W w64 .typed n4 _ w4 .0)) $ pass1 ! (init ! 42 refl (uint-lawful 𝓤 H A W w64 .typed n5 _ w5 .0)) $ pass1 ! (init ! 41 refl (shr-slice-lawful 𝓤 H A W (named 2) κ₂ u64 .typed s6 (v6 ∷ []) w6 .0)) $ pass1 ! (init ! 40 refl (uint-lawful 𝓤 H A W w64 .typed n7 _ w7 .0)) $ pass1 ! (init ! 39 refl (uint-lawful 𝓤 H A W w64 .typed n8 _ w8 .0)) $ pass1 ! (init ! 38 refl (shr-slice-lawful 𝓤 H A W (named 3) κ₃ mEntry.the-row .typed s9 (v9 ∷ []) w9 .0)) $ pass1 ! (init ! 37 refl (uint-lawful 𝓤 H A W w64 .typed n10 _ w10 .0)) $ pass1 ! (init ! 36 refl (uint-lawful 𝓤 H A W w64 .typed n11 _ w11 .0)) $ pass1 ! (init ! 35 refl (shr-slice-lawful 𝓤 H A W (named 4) κ₄ mEntry.the-row .typed s12 (v12 ∷ []) w12 .0)) $ pass1 ! (init ! 34 refl (uint-lawful 𝓤 H A W w64 .typed n13 _ w13 .0)) $ pass1 ! (init ! 33 refl (uint-lawful 𝓤 H A W w64 .typed n14 _ w14 .0)) $ pass1 ! (init ! 32 refl (shr-slice-lawful 𝓤 H A W (named 5) κ₅ mEntry.the-row .typed s15 (v15 ∷ []) w15 .0)) $ pass1 ! (init ! 31 refl (uint-lawful 𝓤 H A W w64 .typed n16 _ w16 .0)) $ pass1 ! (init ! 30 refl (uint-lawful 𝓤 H A W w64 .typed n17 _ w17 .0)) $ pass1 ! (init ! 29 refl (array-lawful 𝓤 H A W mEntry.the-row (LL.lawful mEntry.the-type lEntry.the-laws 𝓤 H A W) 64 .typed n18 _ w18 .0)) $ pass1 ! (init ! 28 refl (uint-lawful 𝓤 H A W w64 .typed n19 _ w19 .0)) $ pass1 ! (init ! 27 refl (uint-lawful 𝓤 H A W w64 .typed n20 _ w20 .0)) $ pass1 ! (init ! 26 refl (array-lawful 𝓤 H A W mEntry.the-row (LL.lawful mEntry.the-type lEntry.the-laws 𝓤 H A W) 64 .typed n21 _ w21 .0)) $ pass1 ! (init ! 25 refl (uint-lawful 𝓤 H A W w64 .typed n22 _ w22 .0)) $ pass1 ! (init ! 24 refl (uint-lawful 𝓤 H A W w64 .typed n23 _ w23 .0)) $ pass1 ! (init ! 23 refl (array-lawful 𝓤 H A W mEntry.the-row (LL.lawful mEntry.the-type lEntry.the-laws 𝓤 H A W) 64 .typed n24 _ w24 .0)) $ pass1 ! (init ! 22 refl (shr-slice-lawful 𝓤 H A W (named 6) κ₆ u64 .typed s25 (v25 ∷ []) w25 .0)) $ pass1 ! (init ! 21 refl (shr-slice-lawful 𝓤 H A W (named 7) κ₇ u64 .typed s26 (v26 ∷ []) w26 .0)) $ pass1 ! (init ! 20 refl (uint-lawful 𝓤 H A W w64 .typed n27 _ w27 .0)) $ pass1 ! (init ! 19 refl (uint-lawful 𝓤 H A W w64 .typed n28 _ w28 .0)) $ pass1 ! (init ! 18 refl (uint-lawful 𝓤 H A W w64 .typed n29 _ w29 .0)) $ pass0 ! $ 
-        move ! (49 ∷ []) $ fsplit ! $ move ! (1 ∷ []) $ fsplit ! $ move ! (1 ∷ []) $ fsplit ! $ move ! (1 ∷ []) $ fsplit ! $ move ! (1 ∷ []) $ fsplit ! $ move ! (1 ∷ []) $ fsplit ! $ move ! (1 ∷ []) $ fsplit ! $ move ! (1 ∷ []) $ fsplit ! $ move ! (1 ∷ []) $ fsplit ! $ move ! (1 ∷ []) $ fsplit ! $ move ! (1 ∷ []) $ fsplit ! $ move ! (1 ∷ []) $ fsplit ! $ move ! (1 ∷ []) $ fsplit ! $ move ! (1 ∷ []) $ fsplit ! $ move ! (1 ∷ []) $ fsplit ! $ move ! (1 ∷ []) $ fsplit ! $ move ! (1 ∷ []) $ fsplit ! $ move ! (1 ∷ []) $ fsplit ! $ move ! (1 ∷ []) $ fsplit ! $ move ! (1 ∷ []) $ fsplit ! $ move ! (1 ∷ []) $ fsplit ! $ move ! (1 ∷ []) $ fsplit ! $ move ! (1 ∷ []) $ fsplit ! $ move ! (1 ∷ []) $ fsplit ! $ move ! (1 ∷ []) $ fsplit ! $ move ! (1 ∷ []) $ fsplit ! $ move ! (1 ∷ []) $ fsplit ! $ move ! (1 ∷ []) $ fsplit ! $ move ! (1 ∷ []) $ fsplit ! $ move ! (1 ∷ []) $ drop ! $ move ! (77 ∷ []) $ split ! $ move ! (1 ∷ []) $ split ! $ move ! (1 ∷ []) $ split ! $ move ! (1 ∷ []) $ split ! $ move ! (1 ∷ []) $ split ! $ move ! (1 ∷ []) $ split ! $ move ! (1 ∷ []) $ split ! $ move ! (1 ∷ []) $ split ! $ move ! (1 ∷ []) $ drop ! $ tidy W (_ ∷ _ ∷ _ ∷ _ ∷ _ ∷ _ ∷ _ ∷ _ ∷ _ ∷ _ ∷ _ ∷ _ ∷ _ ∷ _ ∷ _ ∷ _ ∷ _ ∷ _ ∷ _ ∷ _ ∷ _ ∷ _ ∷ _ ∷ _ ∷ _ ∷ _ ∷ _ ∷ _ ∷ _ ∷ _ ∷ _ ∷ _ ∷ _ ∷ _ ∷ _ ∷ _ ∷ _ ∷ _ ∷ _ ∷ _ ∷ _ ∷ _ ∷ _ ∷ _ ∷ _ ∷ _ ∷ _ ∷ _ ∷ _ ∷ _ ∷ _ ∷ _ ∷ _ ∷ _ ∷ _ ∷ _ ∷ _ ∷ _ ∷ _ ∷ _ ∷ _ ∷ _ ∷ _ ∷ _ ∷ _ ∷ _ ∷ _ ∷ _ ∷ _ ∷ _ ∷ _ ∷ _ ∷ _ ∷ _ ∷ _ ∷ _ ∷ _ ∷ _ ∷ _ ∷ _ ∷ _ ∷ _ ∷ _ ∷ _ ∷ _ ∷ []) $ 
-        assigns ! (of-opd ! (load ! (from ! (stop !)) (look ! 66 refl))) (from ! (stop !)) (init ! 54 refl (array-lawful 𝓤 H A W mEntry.the-row (LL.lawful mEntry.the-type lEntry.the-laws 𝓤 H A W) 64 .typed n18 _ w18 .0)) $ 
-        assigns ! (of-opd ! (load ! (from ! (stop !)) (look ! 63 refl))) (from ! (stop !)) (init ! 53 refl (array-lawful 𝓤 H A W mEntry.the-row (LL.lawful mEntry.the-type lEntry.the-laws 𝓤 H A W) 64 .typed n21 _ w21 .0)) $ 
-        assigns ! (of-opd ! (load ! (from ! (stop !)) (look ! 60 refl))) (from ! (stop !)) (init ! 52 refl (array-lawful 𝓤 H A W mEntry.the-row (LL.lawful mEntry.the-type lEntry.the-laws 𝓤 H A W) 64 .typed n24 _ w24 .0)) $ 
-        assigns ! (of-opd ! (load ! (from ! (stop !)) (look ! 83 refl))) (from ! (stop !)) (init ! 51 refl (LL.lawful mTranscript.the-type lTranscript.the-laws 𝓤 H A W .typed n1 _ w1 .0)) $ 
-        assigns ! (addr ! (from ! (stop !))) (from ! (stop !)) (init ! 49 refl (tt, tt)) $ 
-        assigns ! (addr ! (from ! (fld ! refl (hop ! (look-in ! 82 (sub ! 0 refl (whole !))) (stop !))))) (from ! (stop !)) (init ! 48 refl (tt, tt)) $ 
-        assigns ! (agg ! (and-then ! (load ! (from ! (stop !)) (look ! 48 refl)) (and-then ! (load ! (from ! (fld ! refl (stop !))) (look-in ! 82 (sub ! 1 refl (whole !)))) (no-more !)))) (from ! (stop !)) (init ! 47 refl (tt, (tt, (record { fits = room2 .0 }, tt)))) $ 
-        assigns ! (addr ! (from ! (fld ! refl (hop ! (look-in ! 81 (sub ! 0 refl (whole !))) (stop !))))) (from ! (stop !)) (init ! 46 refl (tt, tt)) $ 
-        assigns ! (agg ! (and-then ! (load ! (from ! (stop !)) (look ! 46 refl)) (and-then ! (load ! (from ! (fld ! refl (stop !))) (look-in ! 81 (sub ! 1 refl (whole !)))) (no-more !)))) (from ! (stop !)) (init ! 45 refl (tt, (tt, (record { fits = room3 .0 }, tt)))) $ 
-        assigns ! (addr ! (from ! (stop !))) (from ! (stop !)) (init ! 44 refl (tt, tt)) $ 
-        rewrite ! 57 (λ (w : Val). ‵ (fat fullShare (tyInt w64) l₂₇ 0 w)) (ap only (w27 .0)) refl $ assigns ! (agg ! (and-then ! (load ! (from ! (stop !)) (look ! 44 refl)) (and-then ! (load ! (from ! (stop !)) (look ! 57 refl)) (no-more !)))) (from ! (stop !)) (init ! 43 refl (tt, (tt, (record { fits = w27 .1 }, tt)))) $ 
-        assigns ! (addr ! (from ! (stop !))) (from ! (stop !)) (init ! 42 refl (tt, tt)) $ 
-        rewrite ! 56 (λ (w : Val). ‵ (fat fullShare (tyInt w64) l₂₈ 0 w)) (ap only (w28 .0)) refl $ assigns ! (agg ! (and-then ! (load ! (from ! (stop !)) (look ! 42 refl)) (and-then ! (load ! (from ! (stop !)) (look ! 56 refl)) (no-more !)))) (from ! (stop !)) (init ! 41 refl (tt, (tt, (record { fits = w28 .1 }, tt)))) $ 
-        assigns ! (addr ! (from ! (stop !))) (from ! (stop !)) (init ! 40 refl (tt, tt)) $ 
-        rewrite ! 55 (λ (w : Val). ‵ (fat fullShare (tyInt w64) l₂₉ 0 w)) (ap only (w29 .0)) refl $ assigns ! (agg ! (and-then ! (load ! (from ! (stop !)) (look ! 40 refl)) (and-then ! (load ! (from ! (stop !)) (look ! 55 refl)) (no-more !)))) (from ! (stop !)) (init ! 39 refl (tt, (tt, (record { fits = w29 .1 }, tt)))) $ 
-        
-        lft-new ! tt (λ ν1a. owned ! mTranscript.the-row (Is mTranscript.the-row) (LL.makes mTranscript.the-type lTranscript.the-plain 𝓤 H A) (n1) _ w1 $ move ! (53 ∷ 0 ∷ []) $ use1 W (‵ (cellAt fullShare (mTranscript.the-row .mir) (u1 ∷ []) l₃₃ 0)) (W .laws .at-raw fullShare (lTranscript.mir) l₃₃ 0 (u1)) $ into ! mTranscript.the-row fullShare (n1) (u1 ∷ []) l₃₃ 0 $ 
-        use1 W (later (some (λ (δ : GName). ‵ (MutRef (named 0) (ν1a ∷ []) mTranscript.the-row .own (record { ptr = (l₃₃, 0); name = δ; now = n1 }) (vptr l₃₃ 0 ∷ [])) ⊛ ‵ (flent (ν1a ∷ []) (Body (mem mTranscript.the-row) l₃₃ 0 δ))))) (lends-ref 𝓤 H A W mTranscript.the-row (named 0) (ν1a ∷ []) (n1) l₃₃ 0) $ await ! tt $ pick ! (λ δ1a. split ! $ 
-        
-        lft-new ! tt (λ ν1b. move ! (39 ∷ 11 ∷ []) $ use2 W (later (some (λ (δ : GName). ‵ (MutSlice (named 1) (ν1b ∷ []) u64 .own (ref2 δ (ys2)) (v2 ∷ [])) ⊛ ‵ (Lent2 ν1b δ (ys2))))) (lends2 (named 1) ν1b (ys2) (refl)) $ await ! tt $ pick ! (λ δ1b. split ! $ 
-        lft-new ! tt (λ ν1c. move ! (40 ∷ 13 ∷ []) $ use2 W (later (some (λ (δ : GName). ‵ (MutSlice (named 2) (ν1c ∷ []) u64 .own (ref3 δ (ys3)) (v3 ∷ [])) ⊛ ‵ (Lent3 ν1c δ (ys3))))) (lends3 (named 2) ν1c (ys3) (refl)) $ await ! tt $ pick ! (λ δ1c. split ! $ move ! (38 ∷ []) $ use1 W (‵ (O6) ⊛ ‵ (O6)) (shr-slice-copy 𝓤 H A W (named 2) κ₂ u64 .twice s6 (v6 ∷ [])) $ split ! $ move ! (37 ∷ []) $ use1 W (‵ (O9) ⊛ ‵ (O9)) (shr-slice-copy 𝓤 H A W (named 3) κ₃ mEntry.the-row .twice s9 (v9 ∷ [])) $ split ! $ move ! (36 ∷ []) $ use1 W (‵ (O12) ⊛ ‵ (O12)) (shr-slice-copy 𝓤 H A W (named 4) κ₄ mEntry.the-row .twice s12 (v12 ∷ [])) $ split ! $ move ! (35 ∷ []) $ use1 W (‵ (O15) ⊛ ‵ (O15)) (shr-slice-copy 𝓤 H A W (named 5) κ₅ mEntry.the-row .twice s15 (v15 ∷ [])) $ split ! $ 
-        lft-new ! tt (λ ν1r. owned ! (Array mEntry.the-row 64) (Is (Array mEntry.the-row 64)) (array-makes 𝓤 H A W mEntry.the-row (LL.makes mEntry.the-type lEntry.the-plain 𝓤 H A) 64) (n18) _ w18 $ move ! (64 ∷ 0 ∷ []) $ use1 W (‵ (cellAt fullShare ((Array mEntry.the-row 64) .mir) (u18 ∷ []) l₃₀ 0)) (W .laws .at-raw fullShare (tyArray (lEntry.mir) 64) l₃₀ 0 (u18)) $ into ! (Array mEntry.the-row 64) fullShare (n18) (u18 ∷ []) l₃₀ 0 $ 
-        use1 W (‵ (arr-parts (shares mEntry.the-row) 64 .part fullShare (n18) l₃₀ 0)) (array-apart 𝓤 H A W mEntry.the-row fullShare tt 64 (n18) l₃₀ 0) $ fsplit ! $ feqL ! (λ ln1r. 
-        use1 W (‵ (parts (mem mEntry.the-row) (shares mEntry.the-row) fullShare (take n27 (n18)) l₃₀ 0) ⊛ ‵ (rest mEntry.the-row fullShare n27 (n18) l₃₀ 0)) (cut 𝓤 H A mEntry.the-row fullShare n27 (n18) l₃₀ 0) $ split ! $ feqI ! ℕ (length (take n27 (n18))) (length (take n27 (n18))) refl $ fjoin ! $ 
-        use1 W (later (some (λ (δ : GName). ‵ (ShrSlice (named 7) (ν1r ∷ []) mEntry.the-row .own (record { ptr = (l₃₀, 0); name = δ; now = (take n27 (n18)) }) (sliceVal (l₃₀, 0) (length (take n27 (n18))) ∷ [])) ⊛ ‵ (flent (ν1r ∷ []) (arr-parts (shares mEntry.the-row) (length (take n27 (n18))) .part fullShare (take n27 (n18)) l₃₀ 0))))) (lends-shr-slice 𝓤 H A W mEntry.the-row (named 7) (ν1r ∷ []) fullShare (take n27 (n18)) l₃₀ 0 (subst (Room mEntry.the-row) (sym (length-take-le n27 (n18) (subst (λ (m : ℕ). n27 ≤ m) (sym ln1r) (pre .0)))) (room-of mEntry.the-row n27 64 (pre .0) (lit< tt, lit< tt)))) $ await ! tt $ pick ! (λ δ1r. split ! $ rewrite ! 0 (λ (m : ℕ). ‵ (ShrSlice (named 7) (ν1r ∷ []) mEntry.the-row .own (record { ptr = (l₃₀, 0); name = δ1r; now = (take n27 (n18)) }) (sliceVal (l₃₀, 0) m ∷ []))) (length-take-le n27 (n18) (subst (λ (m : ℕ). n27 ≤ m) (sym ln1r) (pre .0))) refl $ 
-        
-        lft-new ! tt (λ ν1u. owned ! (Array mEntry.the-row 64) (Is (Array mEntry.the-row 64)) (array-makes 𝓤 H A W mEntry.the-row (LL.makes mEntry.the-type lEntry.the-plain 𝓤 H A) 64) (n21) _ w21 $ move ! (67 ∷ 0 ∷ []) $ use1 W (‵ (cellAt fullShare ((Array mEntry.the-row 64) .mir) (u21 ∷ []) l₃₁ 0)) (W .laws .at-raw fullShare (tyArray (lEntry.mir) 64) l₃₁ 0 (u21)) $ into ! (Array mEntry.the-row 64) fullShare (n21) (u21 ∷ []) l₃₁ 0 $ 
-        use1 W (‵ (arr-parts (shares mEntry.the-row) 64 .part fullShare (n21) l₃₁ 0)) (array-apart 𝓤 H A W mEntry.the-row fullShare tt 64 (n21) l₃₁ 0) $ fsplit ! $ feqL ! (λ ln1u. 
-        use1 W (‵ (parts (mem mEntry.the-row) (shares mEntry.the-row) fullShare (take n28 (n21)) l₃₁ 0) ⊛ ‵ (rest mEntry.the-row fullShare n28 (n21) l₃₁ 0)) (cut 𝓤 H A mEntry.the-row fullShare n28 (n21) l₃₁ 0) $ split ! $ feqI ! ℕ (length (take n28 (n21))) (length (take n28 (n21))) refl $ fjoin ! $ 
-        use1 W (later (some (λ (δ : GName). ‵ (ShrSlice (named 8) (ν1u ∷ []) mEntry.the-row .own (record { ptr = (l₃₁, 0); name = δ; now = (take n28 (n21)) }) (sliceVal (l₃₁, 0) (length (take n28 (n21))) ∷ [])) ⊛ ‵ (flent (ν1u ∷ []) (arr-parts (shares mEntry.the-row) (length (take n28 (n21))) .part fullShare (take n28 (n21)) l₃₁ 0))))) (lends-shr-slice 𝓤 H A W mEntry.the-row (named 8) (ν1u ∷ []) fullShare (take n28 (n21)) l₃₁ 0 (subst (Room mEntry.the-row) (sym (length-take-le n28 (n21) (subst (λ (m : ℕ). n28 ≤ m) (sym ln1u) (pre .1)))) (room-of mEntry.the-row n28 64 (pre .1) (lit< tt, lit< tt)))) $ await ! tt $ pick ! (λ δ1u. split ! $ rewrite ! 0 (λ (m : ℕ). ‵ (ShrSlice (named 8) (ν1u ∷ []) mEntry.the-row .own (record { ptr = (l₃₁, 0); name = δ1u; now = (take n28 (n21)) }) (sliceVal (l₃₁, 0) m ∷ []))) (length-take-le n28 (n21) (subst (λ (m : ℕ). n28 ≤ m) (sym ln1u) (pre .1))) refl $ 
-        
-        lft-new ! tt (λ ν1x. owned ! (Array mEntry.the-row 64) (Is (Array mEntry.the-row 64)) (array-makes 𝓤 H A W mEntry.the-row (LL.makes mEntry.the-type lEntry.the-plain 𝓤 H A) 64) (n24) _ w24 $ move ! (70 ∷ 0 ∷ []) $ use1 W (‵ (cellAt fullShare ((Array mEntry.the-row 64) .mir) (u24 ∷ []) l₃₂ 0)) (W .laws .at-raw fullShare (tyArray (lEntry.mir) 64) l₃₂ 0 (u24)) $ into ! (Array mEntry.the-row 64) fullShare (n24) (u24 ∷ []) l₃₂ 0 $ 
-        use1 W (‵ (arr-parts (shares mEntry.the-row) 64 .part fullShare (n24) l₃₂ 0)) (array-apart 𝓤 H A W mEntry.the-row fullShare tt 64 (n24) l₃₂ 0) $ fsplit ! $ feqL ! (λ ln1x. 
-        use1 W (‵ (parts (mem mEntry.the-row) (shares mEntry.the-row) fullShare (take n29 (n24)) l₃₂ 0) ⊛ ‵ (rest mEntry.the-row fullShare n29 (n24) l₃₂ 0)) (cut 𝓤 H A mEntry.the-row fullShare n29 (n24) l₃₂ 0) $ split ! $ feqI ! ℕ (length (take n29 (n24))) (length (take n29 (n24))) refl $ fjoin ! $ 
-        use1 W (later (some (λ (δ : GName). ‵ (ShrSlice (named 9) (ν1x ∷ []) mEntry.the-row .own (record { ptr = (l₃₂, 0); name = δ; now = (take n29 (n24)) }) (sliceVal (l₃₂, 0) (length (take n29 (n24))) ∷ [])) ⊛ ‵ (flent (ν1x ∷ []) (arr-parts (shares mEntry.the-row) (length (take n29 (n24))) .part fullShare (take n29 (n24)) l₃₂ 0))))) (lends-shr-slice 𝓤 H A W mEntry.the-row (named 9) (ν1x ∷ []) fullShare (take n29 (n24)) l₃₂ 0 (subst (Room mEntry.the-row) (sym (length-take-le n29 (n24) (subst (λ (m : ℕ). n29 ≤ m) (sym ln1x) (pre .2)))) (room-of mEntry.the-row n29 64 (pre .2) (lit< tt, lit< tt)))) $ await ! tt $ pick ! (λ δ1x. split ! $ rewrite ! 0 (λ (m : ℕ). ‵ (ShrSlice (named 9) (ν1x ∷ []) mEntry.the-row .own (record { ptr = (l₃₂, 0); name = δ1x; now = (take n29 (n24)) }) (sliceVal (l₃₂, 0) m ∷ []))) (length-take-le n29 (n24) (subst (λ (m : ℕ). n29 ≤ m) (sym ln1x) (pre .2))) refl $ 
-        move ! (39 ∷ []) $ use1 W (‵ (O25) ⊛ ‵ (O25)) (shr-slice-copy 𝓤 H A W (named 6) κ₆ u64 .twice s25 (v25 ∷ [])) $ split ! $ move ! (40 ∷ []) $ use1 W (‵ (O26) ⊛ ‵ (O26)) (shr-slice-copy 𝓤 H A W (named 7) κ₇ u64 .twice s26 (v26 ∷ [])) $ split ! $ tidy W (_ ∷ _ ∷ _ ∷ _ ∷ _ ∷ _ ∷ _ ∷ _ ∷ _ ∷ _ ∷ _ ∷ _ ∷ _ ∷ _ ∷ _ ∷ _ ∷ _ ∷ _ ∷ _ ∷ _ ∷ _ ∷ _ ∷ _ ∷ _ ∷ _ ∷ _ ∷ _ ∷ _ ∷ _ ∷ _ ∷ _ ∷ _ ∷ _ ∷ _ ∷ _ ∷ _ ∷ _ ∷ _ ∷ _ ∷ _ ∷ _ ∷ _ ∷ _ ∷ _ ∷ _ ∷ _ ∷ _ ∷ _ ∷ _ ∷ _ ∷ _ ∷ _ ∷ _ ∷ _ ∷ _ ∷ _ ∷ _ ∷ _ ∷ _ ∷ _ ∷ _ ∷ _ ∷ _ ∷ _ ∷ _ ∷ _ ∷ _ ∷ _ ∷ _ ∷ _ ∷ _ ∷ _ ∷ _ ∷ _ ∷ _ ∷ _ ∷ _ ∷ _ ∷ _ ∷ _ ∷ _ ∷ _ ∷ _ ∷ _ ∷ _ ∷ _ ∷ _ ∷ _ ∷ _ ∷ _ ∷ _ ∷ _ ∷ _ ∷ _ ∷ _ ∷ _ ∷ _ ∷ _ ∷ _ ∷ _ ∷ _ ∷ _ ∷ _ ∷ _ ∷ []) $ nothing ! $ move ! (34 ∷ 0 ∷ []) $ join ! $ move ! (34 ∷ 0 ∷ []) $ join ! $ move ! (8 ∷ 0 ∷ []) $ join ! $ move ! (11 ∷ 0 ∷ []) $ join ! $ move ! (14 ∷ 0 ∷ []) $ join ! $ move ! (31 ∷ 0 ∷ []) $ join ! $ move ! (31 ∷ 0 ∷ []) $ join ! $ move ! (31 ∷ 0 ∷ []) $ join ! $ move ! (31 ∷ 0 ∷ []) $ join ! $ move ! (24 ∷ 0 ∷ []) $ join ! $ move ! (26 ∷ 0 ∷ []) $ join ! $ move ! (28 ∷ 0 ∷ []) $ join ! $ move ! (3 ∷ 1 ∷ []) $ join ! $ move ! (4 ∷ 0 ∷ []) $ join ! $ move ! (6 ∷ 0 ∷ []) $ join ! $ move ! (8 ∷ 0 ∷ []) $ join ! $ move ! (10 ∷ 0 ∷ []) $ join ! $ move ! (11 ∷ 0 ∷ []) $ join ! $ move ! (12 ∷ 0 ∷ []) $ join ! $ move ! (13 ∷ 0 ∷ []) $ join ! $ move ! (14 ∷ 0 ∷ []) $ join ! $ move ! (15 ∷ 0 ∷ []) $ join ! $ move ! (16 ∷ 0 ∷ []) $ join ! $ move ! (1 ∷ 0 ∷ []) $ join ! $ 
+        nothing ! $ alloc ! (λ l₀. alloc ! (λ l₁. alloc ! (λ l₂. alloc ! (λ l₃. alloc ! (λ l₄. alloc ! (λ l₅. alloc ! (λ l₆. alloc ! (λ l₇. alloc ! (λ l₈. alloc ! (λ l₉. alloc ! (λ l₁₀. alloc ! (λ l₁₁. alloc ! (λ l₁₂. alloc ! (λ l₁₃. alloc ! (λ l₁₄. alloc ! (λ l₁₅. alloc ! (λ l₁₆. alloc ! (λ l₁₇. alloc ! (λ l₁₈. alloc ! (λ l₁₉. alloc ! (λ l₂₀. alloc ! (λ l₂₁. alloc ! (λ l₂₂. alloc ! (λ l₂₃. alloc ! (λ l₂₄. alloc ! (λ l₂₅. alloc ! (λ l₂₆. alloc ! (λ l₂₇. alloc ! (λ l₂₈. alloc ! (λ l₂₉. alloc ! (λ l₃₀. alloc ! (λ l₃₁. alloc ! (λ l₃₂. alloc ! (λ l₃₃. alloc ! (λ l₃₄. alloc ! (λ l₃₅. alloc ! (λ l₃₆. alloc ! (λ l₃₇. alloc ! (λ l₃₈. alloc ! (λ l₃₉. alloc ! (λ l₄₀. alloc ! (λ l₄₁. alloc ! (λ l₄₂. alloc ! (λ l₄₃. alloc ! (λ l₄₄. alloc ! (λ l₄₅. alloc ! (λ l₄₆. alloc0 ! $ hide ! (λ died die. params1 ! $ pass1 ! (init ! 46 refl (LL.lawful mTranscript.the-type lTranscript.the-laws 𝓤 H A W .typed n1 _ w1 .0)) $ pass1 ! (init ! 45 refl (tt, (tt, (record { fits = room2 .0 }, tt)))) $ pass1 ! (init ! 44 refl (tt, (tt, (record { fits = room3 .0 }, tt)))) $ pass1 ! (init ! 43 refl (uint-lawful 𝓤 H A W w64 .typed n4 _ w4 .0)) $ pass1 ! (init ! 42 refl (uint-lawful 𝓤 H A W w64 .typed n5 _ w5 .0)) $ pass1 ! (init ! 41 refl (shr-slice-lawful 𝓤 H A W (named 2) κ₂ u64 .typed s6 (v6 ∷ []) w6 .0)) $ pass1 ! (init ! 40 refl (uint-lawful 𝓤 H A W w64 .typed n7 _ w7 .0)) $ pass1 ! (init ! 39 refl (uint-lawful 𝓤 H A W w64 .typed n8 _ w8 .0)) $ pass1 ! (init ! 38 refl (shr-slice-lawful 𝓤 H A W (named 3) κ₃ mEntry.the-row .typed s9 (v9 ∷ []) w9 .0)) $ pass1 ! (init ! 37 refl (uint-lawful 𝓤 H A W w64 .typed n10 _ w10 .0)) $ pass1 ! (init ! 36 refl (uint-lawful 𝓤 H A W w64 .typed n11 _ w11 .0)) $ pass1 ! (init ! 35 refl (shr-slice-lawful 𝓤 H A W (named 4) κ₄ mEntry.the-row .typed s12 (v12 ∷ []) w12 .0)) $ pass1 ! (init ! 34 refl (uint-lawful 𝓤 H A W w64 .typed n13 _ w13 .0)) $ pass1 ! (init ! 33 refl (uint-lawful 𝓤 H A W w64 .typed n14 _ w14 .0)) $ pass1 ! (init ! 32 refl (shr-slice-lawful 𝓤 H A W (named 5) κ₅ mEntry.the-row .typed s15 (v15 ∷ []) w15 .0)) $ pass1 ! (init ! 31 refl (uint-lawful 𝓤 H A W w64 .typed n16 _ w16 .0)) $ pass1 ! (init ! 30 refl (uint-lawful 𝓤 H A W w64 .typed n17 _ w17 .0)) $ pass1 ! (init ! 29 refl (array-lawful 𝓤 H A W mEntry.the-row (LL.lawful mEntry.the-type lEntry.the-laws 𝓤 H A W) 64 .typed n18 _ w18 .0)) $ pass1 ! (init ! 28 refl (uint-lawful 𝓤 H A W w64 .typed n19 _ w19 .0)) $ pass1 ! (init ! 27 refl (uint-lawful 𝓤 H A W w64 .typed n20 _ w20 .0)) $ pass1 ! (init ! 26 refl (array-lawful 𝓤 H A W mEntry.the-row (LL.lawful mEntry.the-type lEntry.the-laws 𝓤 H A W) 64 .typed n21 _ w21 .0)) $ pass1 ! (init ! 25 refl (uint-lawful 𝓤 H A W w64 .typed n22 _ w22 .0)) $ pass1 ! (init ! 24 refl (uint-lawful 𝓤 H A W w64 .typed n23 _ w23 .0)) $ pass1 ! (init ! 23 refl (array-lawful 𝓤 H A W mEntry.the-row (LL.lawful mEntry.the-type lEntry.the-laws 𝓤 H A W) 64 .typed n24 _ w24 .0)) $ pass1 ! (init ! 22 refl (shr-slice-lawful 𝓤 H A W (named 6) κ₆ u64 .typed s25 (v25 ∷ []) w25 .0)) $ pass1 ! (init ! 21 refl (shr-slice-lawful 𝓤 H A W (named 7) κ₇ u64 .typed s26 (v26 ∷ []) w26 .0)) $ pass1 ! (init ! 20 refl (uint-lawful 𝓤 H A W w64 .typed n27 _ w27 .0)) $ pass1 ! (init ! 19 refl (uint-lawful 𝓤 H A W w64 .typed n28 _ w28 .0)) $ pass1 ! (init ! 18 refl (uint-lawful 𝓤 H A W w64 .typed n29 _ w29 .0)) $ pass0 ! $
+        move ! (49 ∷ []) $ fsplit ! $ move ! (1 ∷ []) $ fsplit ! $ move ! (1 ∷ []) $ fsplit ! $ move ! (1 ∷ []) $ fsplit ! $ move ! (1 ∷ []) $ fsplit ! $ move ! (1 ∷ []) $ fsplit ! $ move ! (1 ∷ []) $ fsplit ! $ move ! (1 ∷ []) $ fsplit ! $ move ! (1 ∷ []) $ fsplit ! $ move ! (1 ∷ []) $ fsplit ! $ move ! (1 ∷ []) $ fsplit ! $ move ! (1 ∷ []) $ fsplit ! $ move ! (1 ∷ []) $ fsplit ! $ move ! (1 ∷ []) $ fsplit ! $ move ! (1 ∷ []) $ fsplit ! $ move ! (1 ∷ []) $ fsplit ! $ move ! (1 ∷ []) $ fsplit ! $ move ! (1 ∷ []) $ fsplit ! $ move ! (1 ∷ []) $ fsplit ! $ move ! (1 ∷ []) $ fsplit ! $ move ! (1 ∷ []) $ fsplit ! $ move ! (1 ∷ []) $ fsplit ! $ move ! (1 ∷ []) $ fsplit ! $ move ! (1 ∷ []) $ fsplit ! $ move ! (1 ∷ []) $ fsplit ! $ move ! (1 ∷ []) $ fsplit ! $ move ! (1 ∷ []) $ fsplit ! $ move ! (1 ∷ []) $ fsplit ! $ move ! (1 ∷ []) $ fsplit ! $ move ! (1 ∷ []) $ drop ! $ move ! (77 ∷ []) $ split ! $ move ! (1 ∷ []) $ split ! $ move ! (1 ∷ []) $ split ! $ move ! (1 ∷ []) $ split ! $ move ! (1 ∷ []) $ split ! $ move ! (1 ∷ []) $ split ! $ move ! (1 ∷ []) $ split ! $ move ! (1 ∷ []) $ split ! $ move ! (1 ∷ []) $ drop ! $ tidy W (_ ∷ _ ∷ _ ∷ _ ∷ _ ∷ _ ∷ _ ∷ _ ∷ _ ∷ _ ∷ _ ∷ _ ∷ _ ∷ _ ∷ _ ∷ _ ∷ _ ∷ _ ∷ _ ∷ _ ∷ _ ∷ _ ∷ _ ∷ _ ∷ _ ∷ _ ∷ _ ∷ _ ∷ _ ∷ _ ∷ _ ∷ _ ∷ _ ∷ _ ∷ _ ∷ _ ∷ _ ∷ _ ∷ _ ∷ _ ∷ _ ∷ _ ∷ _ ∷ _ ∷ _ ∷ _ ∷ _ ∷ _ ∷ _ ∷ _ ∷ _ ∷ _ ∷ _ ∷ _ ∷ _ ∷ _ ∷ _ ∷ _ ∷ _ ∷ _ ∷ _ ∷ _ ∷ _ ∷ _ ∷ _ ∷ _ ∷ _ ∷ _ ∷ _ ∷ _ ∷ _ ∷ _ ∷ _ ∷ _ ∷ _ ∷ _ ∷ _ ∷ _ ∷ _ ∷ _ ∷ _ ∷ _ ∷ _ ∷ _ ∷ _ ∷ []) $
+        assigns ! (of-opd ! (load ! (from ! (stop !)) (look ! 66 refl))) (from ! (stop !)) (init ! 54 refl (array-lawful 𝓤 H A W mEntry.the-row (LL.lawful mEntry.the-type lEntry.the-laws 𝓤 H A W) 64 .typed n18 _ w18 .0)) $
+        assigns ! (of-opd ! (load ! (from ! (stop !)) (look ! 63 refl))) (from ! (stop !)) (init ! 53 refl (array-lawful 𝓤 H A W mEntry.the-row (LL.lawful mEntry.the-type lEntry.the-laws 𝓤 H A W) 64 .typed n21 _ w21 .0)) $
+        assigns ! (of-opd ! (load ! (from ! (stop !)) (look ! 60 refl))) (from ! (stop !)) (init ! 52 refl (array-lawful 𝓤 H A W mEntry.the-row (LL.lawful mEntry.the-type lEntry.the-laws 𝓤 H A W) 64 .typed n24 _ w24 .0)) $
+        assigns ! (of-opd ! (load ! (from ! (stop !)) (look ! 83 refl))) (from ! (stop !)) (init ! 51 refl (LL.lawful mTranscript.the-type lTranscript.the-laws 𝓤 H A W .typed n1 _ w1 .0)) $
+        assigns ! (addr ! (from ! (stop !))) (from ! (stop !)) (init ! 49 refl (tt, tt)) $
+        assigns ! (addr ! (from ! (fld ! refl (hop ! (look-in ! 82 (sub ! 0 refl (whole !))) (stop !))))) (from ! (stop !)) (init ! 48 refl (tt, tt)) $
+        assigns ! (agg ! (and-then ! (load ! (from ! (stop !)) (look ! 48 refl)) (and-then ! (load ! (from ! (fld ! refl (stop !))) (look-in ! 82 (sub ! 1 refl (whole !)))) (no-more !)))) (from ! (stop !)) (init ! 47 refl (tt, (tt, (record { fits = room2 .0 }, tt)))) $
+        assigns ! (addr ! (from ! (fld ! refl (hop ! (look-in ! 81 (sub ! 0 refl (whole !))) (stop !))))) (from ! (stop !)) (init ! 46 refl (tt, tt)) $
+        assigns ! (agg ! (and-then ! (load ! (from ! (stop !)) (look ! 46 refl)) (and-then ! (load ! (from ! (fld ! refl (stop !))) (look-in ! 81 (sub ! 1 refl (whole !)))) (no-more !)))) (from ! (stop !)) (init ! 45 refl (tt, (tt, (record { fits = room3 .0 }, tt)))) $
+        assigns ! (addr ! (from ! (stop !))) (from ! (stop !)) (init ! 44 refl (tt, tt)) $
+        rewrite ! 57 (λ (w : Val). ‵ (fat fullShare (tyInt w64) l₂₇ 0 w)) (ap only (w27 .0)) refl $ assigns ! (agg ! (and-then ! (load ! (from ! (stop !)) (look ! 44 refl)) (and-then ! (load ! (from ! (stop !)) (look ! 57 refl)) (no-more !)))) (from ! (stop !)) (init ! 43 refl (tt, (tt, (record { fits = w27 .1 }, tt)))) $
+        assigns ! (addr ! (from ! (stop !))) (from ! (stop !)) (init ! 42 refl (tt, tt)) $
+        rewrite ! 56 (λ (w : Val). ‵ (fat fullShare (tyInt w64) l₂₈ 0 w)) (ap only (w28 .0)) refl $ assigns ! (agg ! (and-then ! (load ! (from ! (stop !)) (look ! 42 refl)) (and-then ! (load ! (from ! (stop !)) (look ! 56 refl)) (no-more !)))) (from ! (stop !)) (init ! 41 refl (tt, (tt, (record { fits = w28 .1 }, tt)))) $
+        assigns ! (addr ! (from ! (stop !))) (from ! (stop !)) (init ! 40 refl (tt, tt)) $
+        rewrite ! 55 (λ (w : Val). ‵ (fat fullShare (tyInt w64) l₂₉ 0 w)) (ap only (w29 .0)) refl $ assigns ! (agg ! (and-then ! (load ! (from ! (stop !)) (look ! 40 refl)) (and-then ! (load ! (from ! (stop !)) (look ! 55 refl)) (no-more !)))) (from ! (stop !)) (init ! 39 refl (tt, (tt, (record { fits = w29 .1 }, tt)))) $
+        lft-new ! tt (λ ν1a. owned ! mTranscript.the-row (Is mTranscript.the-row) (LL.makes mTranscript.the-type lTranscript.the-plain 𝓤 H A) (n1) _ w1 $ move ! (53 ∷ 0 ∷ []) $ use1 W (‵ (cellAt fullShare (mTranscript.the-row .mir) (u1 ∷ []) l₃₃ 0)) (W .laws .at-raw fullShare (lTranscript.mir) l₃₃ 0 (u1)) $ into ! mTranscript.the-row fullShare (n1) (u1 ∷ []) l₃₃ 0 $
+        use1 W (later (some (λ (δ : GName). ‵ (MutRef (named 0) (ν1a ∷ []) mTranscript.the-row .own (record { ptr = (l₃₃, 0); name = δ; now = n1 }) (vptr l₃₃ 0 ∷ [])) ⊛ ‵ (flent (ν1a ∷ []) (Body (mem mTranscript.the-row) l₃₃ 0 δ))))) (lends-ref 𝓤 H A W mTranscript.the-row (named 0) (ν1a ∷ []) (n1) l₃₃ 0) $ await ! tt $ pick ! (λ δ1a. split ! $
+        lft-new ! tt (λ ν1b. move ! (39 ∷ 11 ∷ []) $ use2 W (later (some (λ (δ : GName). ‵ (MutSlice (named 1) (ν1b ∷ []) u64 .own (ref2 δ (ys2)) (v2 ∷ [])) ⊛ ‵ (Lent2 ν1b δ (ys2))))) (lends2 (named 1) ν1b (ys2) (refl)) $ await ! tt $ pick ! (λ δ1b. split ! $
+        lft-new ! tt (λ ν1c. move ! (40 ∷ 13 ∷ []) $ use2 W (later (some (λ (δ : GName). ‵ (MutSlice (named 2) (ν1c ∷ []) u64 .own (ref3 δ (ys3)) (v3 ∷ [])) ⊛ ‵ (Lent3 ν1c δ (ys3))))) (lends3 (named 2) ν1c (ys3) (refl)) $ await ! tt $ pick ! (λ δ1c. split ! $ move ! (38 ∷ []) $ use1 W (‵ (O6) ⊛ ‵ (O6)) (shr-slice-copy 𝓤 H A W (named 2) κ₂ u64 .twice s6 (v6 ∷ [])) $ split ! $ move ! (37 ∷ []) $ use1 W (‵ (O9) ⊛ ‵ (O9)) (shr-slice-copy 𝓤 H A W (named 3) κ₃ mEntry.the-row .twice s9 (v9 ∷ [])) $ split ! $ move ! (36 ∷ []) $ use1 W (‵ (O12) ⊛ ‵ (O12)) (shr-slice-copy 𝓤 H A W (named 4) κ₄ mEntry.the-row .twice s12 (v12 ∷ [])) $ split ! $ move ! (35 ∷ []) $ use1 W (‵ (O15) ⊛ ‵ (O15)) (shr-slice-copy 𝓤 H A W (named 5) κ₅ mEntry.the-row .twice s15 (v15 ∷ [])) $ split ! $
+        lft-new ! tt (λ ν1r. owned ! (Array mEntry.the-row 64) (Is (Array mEntry.the-row 64)) (array-makes 𝓤 H A W mEntry.the-row (LL.makes mEntry.the-type lEntry.the-plain 𝓤 H A) 64) (n18) _ w18 $ move ! (64 ∷ 0 ∷ []) $ use1 W (‵ (cellAt fullShare ((Array mEntry.the-row 64) .mir) (u18 ∷ []) l₃₀ 0)) (W .laws .at-raw fullShare (tyArray (lEntry.mir) 64) l₃₀ 0 (u18)) $ into ! (Array mEntry.the-row 64) fullShare (n18) (u18 ∷ []) l₃₀ 0 $
+        use1 W (‵ (arr-parts (shares mEntry.the-row) 64 .part fullShare (n18) l₃₀ 0)) (array-apart 𝓤 H A W mEntry.the-row fullShare tt 64 (n18) l₃₀ 0) $ fsplit ! $ feqL ! (λ ln1r.
+        use1 W (‵ (parts (mem mEntry.the-row) (shares mEntry.the-row) fullShare (take n27 (n18)) l₃₀ 0) ⊛ ‵ (rest mEntry.the-row fullShare n27 (n18) l₃₀ 0)) (cut 𝓤 H A mEntry.the-row fullShare n27 (n18) l₃₀ 0) $ split ! $ feqI ! ℕ (length (take n27 (n18))) (length (take n27 (n18))) refl $ fjoin ! $
+        use1 W (later (some (λ (δ : GName). ‵ (ShrSlice (named 7) (ν1r ∷ []) mEntry.the-row .own (record { ptr = (l₃₀, 0); name = δ; now = (take n27 (n18)) }) (sliceVal (l₃₀, 0) (length (take n27 (n18))) ∷ [])) ⊛ ‵ (flent (ν1r ∷ []) (arr-parts (shares mEntry.the-row) (length (take n27 (n18))) .part fullShare (take n27 (n18)) l₃₀ 0))))) (lends-shr-slice 𝓤 H A W mEntry.the-row (named 7) (ν1r ∷ []) fullShare (take n27 (n18)) l₃₀ 0 (subst (Room mEntry.the-row) (sym (length-take-le n27 (n18) (subst (λ (m : ℕ). n27 ≤ m) (sym ln1r) (pre .0)))) (room-of mEntry.the-row n27 64 (pre .0) (lit< tt, lit< tt)))) $ await ! tt $ pick ! (λ δ1r. split ! $ rewrite ! 0 (λ (m : ℕ). ‵ (ShrSlice (named 7) (ν1r ∷ []) mEntry.the-row .own (record { ptr = (l₃₀, 0); name = δ1r; now = (take n27 (n18)) }) (sliceVal (l₃₀, 0) m ∷ []))) (length-take-le n27 (n18) (subst (λ (m : ℕ). n27 ≤ m) (sym ln1r) (pre .0))) refl $
+        lft-new ! tt (λ ν1u. owned ! (Array mEntry.the-row 64) (Is (Array mEntry.the-row 64)) (array-makes 𝓤 H A W mEntry.the-row (LL.makes mEntry.the-type lEntry.the-plain 𝓤 H A) 64) (n21) _ w21 $ move ! (67 ∷ 0 ∷ []) $ use1 W (‵ (cellAt fullShare ((Array mEntry.the-row 64) .mir) (u21 ∷ []) l₃₁ 0)) (W .laws .at-raw fullShare (tyArray (lEntry.mir) 64) l₃₁ 0 (u21)) $ into ! (Array mEntry.the-row 64) fullShare (n21) (u21 ∷ []) l₃₁ 0 $
+        use1 W (‵ (arr-parts (shares mEntry.the-row) 64 .part fullShare (n21) l₃₁ 0)) (array-apart 𝓤 H A W mEntry.the-row fullShare tt 64 (n21) l₃₁ 0) $ fsplit ! $ feqL ! (λ ln1u.
+        use1 W (‵ (parts (mem mEntry.the-row) (shares mEntry.the-row) fullShare (take n28 (n21)) l₃₁ 0) ⊛ ‵ (rest mEntry.the-row fullShare n28 (n21) l₃₁ 0)) (cut 𝓤 H A mEntry.the-row fullShare n28 (n21) l₃₁ 0) $ split ! $ feqI ! ℕ (length (take n28 (n21))) (length (take n28 (n21))) refl $ fjoin ! $
+        use1 W (later (some (λ (δ : GName). ‵ (ShrSlice (named 8) (ν1u ∷ []) mEntry.the-row .own (record { ptr = (l₃₁, 0); name = δ; now = (take n28 (n21)) }) (sliceVal (l₃₁, 0) (length (take n28 (n21))) ∷ [])) ⊛ ‵ (flent (ν1u ∷ []) (arr-parts (shares mEntry.the-row) (length (take n28 (n21))) .part fullShare (take n28 (n21)) l₃₁ 0))))) (lends-shr-slice 𝓤 H A W mEntry.the-row (named 8) (ν1u ∷ []) fullShare (take n28 (n21)) l₃₁ 0 (subst (Room mEntry.the-row) (sym (length-take-le n28 (n21) (subst (λ (m : ℕ). n28 ≤ m) (sym ln1u) (pre .1)))) (room-of mEntry.the-row n28 64 (pre .1) (lit< tt, lit< tt)))) $ await ! tt $ pick ! (λ δ1u. split ! $ rewrite ! 0 (λ (m : ℕ). ‵ (ShrSlice (named 8) (ν1u ∷ []) mEntry.the-row .own (record { ptr = (l₃₁, 0); name = δ1u; now = (take n28 (n21)) }) (sliceVal (l₃₁, 0) m ∷ []))) (length-take-le n28 (n21) (subst (λ (m : ℕ). n28 ≤ m) (sym ln1u) (pre .1))) refl $
+        lft-new ! tt (λ ν1x. owned ! (Array mEntry.the-row 64) (Is (Array mEntry.the-row 64)) (array-makes 𝓤 H A W mEntry.the-row (LL.makes mEntry.the-type lEntry.the-plain 𝓤 H A) 64) (n24) _ w24 $ move ! (70 ∷ 0 ∷ []) $ use1 W (‵ (cellAt fullShare ((Array mEntry.the-row 64) .mir) (u24 ∷ []) l₃₂ 0)) (W .laws .at-raw fullShare (tyArray (lEntry.mir) 64) l₃₂ 0 (u24)) $ into ! (Array mEntry.the-row 64) fullShare (n24) (u24 ∷ []) l₃₂ 0 $
+        use1 W (‵ (arr-parts (shares mEntry.the-row) 64 .part fullShare (n24) l₃₂ 0)) (array-apart 𝓤 H A W mEntry.the-row fullShare tt 64 (n24) l₃₂ 0) $ fsplit ! $ feqL ! (λ ln1x.
+        use1 W (‵ (parts (mem mEntry.the-row) (shares mEntry.the-row) fullShare (take n29 (n24)) l₃₂ 0) ⊛ ‵ (rest mEntry.the-row fullShare n29 (n24) l₃₂ 0)) (cut 𝓤 H A mEntry.the-row fullShare n29 (n24) l₃₂ 0) $ split ! $ feqI ! ℕ (length (take n29 (n24))) (length (take n29 (n24))) refl $ fjoin ! $
+        use1 W (later (some (λ (δ : GName). ‵ (ShrSlice (named 9) (ν1x ∷ []) mEntry.the-row .own (record { ptr = (l₃₂, 0); name = δ; now = (take n29 (n24)) }) (sliceVal (l₃₂, 0) (length (take n29 (n24))) ∷ [])) ⊛ ‵ (flent (ν1x ∷ []) (arr-parts (shares mEntry.the-row) (length (take n29 (n24))) .part fullShare (take n29 (n24)) l₃₂ 0))))) (lends-shr-slice 𝓤 H A W mEntry.the-row (named 9) (ν1x ∷ []) fullShare (take n29 (n24)) l₃₂ 0 (subst (Room mEntry.the-row) (sym (length-take-le n29 (n24) (subst (λ (m : ℕ). n29 ≤ m) (sym ln1x) (pre .2)))) (room-of mEntry.the-row n29 64 (pre .2) (lit< tt, lit< tt)))) $ await ! tt $ pick ! (λ δ1x. split ! $ rewrite ! 0 (λ (m : ℕ). ‵ (ShrSlice (named 9) (ν1x ∷ []) mEntry.the-row .own (record { ptr = (l₃₂, 0); name = δ1x; now = (take n29 (n24)) }) (sliceVal (l₃₂, 0) m ∷ []))) (length-take-le n29 (n24) (subst (λ (m : ℕ). n29 ≤ m) (sym ln1x) (pre .2))) refl $
+        move ! (39 ∷ []) $ use1 W (‵ (O25) ⊛ ‵ (O25)) (shr-slice-copy 𝓤 H A W (named 6) κ₆ u64 .twice s25 (v25 ∷ [])) $ split ! $ move ! (40 ∷ []) $ use1 W (‵ (O26) ⊛ ‵ (O26)) (shr-slice-copy 𝓤 H A W (named 7) κ₇ u64 .twice s26 (v26 ∷ [])) $ split ! $ tidy W (_ ∷ _ ∷ _ ∷ _ ∷ _ ∷ _ ∷ _ ∷ _ ∷ _ ∷ _ ∷ _ ∷ _ ∷ _ ∷ _ ∷ _ ∷ _ ∷ _ ∷ _ ∷ _ ∷ _ ∷ _ ∷ _ ∷ _ ∷ _ ∷ _ ∷ _ ∷ _ ∷ _ ∷ _ ∷ _ ∷ _ ∷ _ ∷ _ ∷ _ ∷ _ ∷ _ ∷ _ ∷ _ ∷ _ ∷ _ ∷ _ ∷ _ ∷ _ ∷ _ ∷ _ ∷ _ ∷ _ ∷ _ ∷ _ ∷ _ ∷ _ ∷ _ ∷ _ ∷ _ ∷ _ ∷ _ ∷ _ ∷ _ ∷ _ ∷ _ ∷ _ ∷ _ ∷ _ ∷ _ ∷ _ ∷ _ ∷ _ ∷ _ ∷ _ ∷ _ ∷ _ ∷ _ ∷ _ ∷ _ ∷ _ ∷ _ ∷ _ ∷ _ ∷ _ ∷ _ ∷ _ ∷ _ ∷ _ ∷ _ ∷ _ ∷ _ ∷ _ ∷ _ ∷ _ ∷ _ ∷ _ ∷ _ ∷ _ ∷ _ ∷ _ ∷ _ ∷ _ ∷ _ ∷ _ ∷ _ ∷ _ ∷ _ ∷ _ ∷ _ ∷ []) $ nothing ! $ move ! (34 ∷ 0 ∷ []) $ join ! $ move ! (34 ∷ 0 ∷ []) $ join ! $ move ! (8 ∷ 0 ∷ []) $ join ! $ move ! (11 ∷ 0 ∷ []) $ join ! $ move ! (14 ∷ 0 ∷ []) $ join ! $ move ! (31 ∷ 0 ∷ []) $ join ! $ move ! (31 ∷ 0 ∷ []) $ join ! $ move ! (31 ∷ 0 ∷ []) $ join ! $ move ! (31 ∷ 0 ∷ []) $ join ! $ move ! (24 ∷ 0 ∷ []) $ join ! $ move ! (26 ∷ 0 ∷ []) $ join ! $ move ! (28 ∷ 0 ∷ []) $ join ! $ move ! (3 ∷ 1 ∷ []) $ join ! $ move ! (4 ∷ 0 ∷ []) $ join ! $ move ! (6 ∷ 0 ∷ []) $ join ! $ move ! (8 ∷ 0 ∷ []) $ join ! $ move ! (10 ∷ 0 ∷ []) $ join ! $ move ! (11 ∷ 0 ∷ []) $ join ! $ move ! (12 ∷ 0 ∷ []) $ join ! $ move ! (13 ∷ 0 ∷ []) $ join ! $ move ! (14 ∷ 0 ∷ []) $ join ! $ move ! (15 ∷ 0 ∷ []) $ join ! $ move ! (16 ∷ 0 ∷ []) $ join ! $ move ! (1 ∷ 0 ∷ []) $ join ! $
         -- call 1
-        use1 W (raw (Callee-g1 𝓤 H A at-mem run .pre ((((ν1a ∷ []), ((ν1b ∷ []), ((ν1c ∷ []), (κ₂, (κ₃, (κ₄, (κ₅, ((ν1r ∷ []), ((ν1u ∷ []), ((ν1x ∷ []), (κ₆, (κ₇, tt)))))))))))), (fullShare, (fullShare, (fullShare, (q₂, (q₃, (q₄, (q₅, (fullShare, (fullShare, (fullShare, (q₆, (q₇, tt)))))))))))), tt, (record { ptr = (l₃₃, 0); name = δ1a; now = n1 }, (ref2 δ1b (ys2), (ref3 δ1c (ys3), (n4, (n5, (s6, (n7, (n8, (s9, (n10, (n11, (s12, (n13, (n14, (s15, (n16, (n17, (record { ptr = (l₃₀, 0); name = δ1r; now = (take n27 (n18)) }, (n19, (n20, (record { ptr = (l₃₁, 0); name = δ1u; now = (take n28 (n21)) }, (n22, (n23, (record { ptr = (l₃₂, 0); name = δ1x; now = (take n29 (n24)) }, (s25, (s26, tt)))))))))))))))))))))))))), (vptr l₃₃ 0 ∷ [], (v2 ∷ [], (v3 ∷ [], (u4 ∷ [], (u5 ∷ [], (v6 ∷ [], (u7 ∷ [], (u8′ ∷ [], (v9 ∷ [], (u10 ∷ [], (u11 ∷ [], (v12 ∷ [], (u13 ∷ [], (u14 ∷ [], (v15 ∷ [], (u16′ ∷ [], (u17 ∷ [], (sliceVal (l₃₀, 0) n27 ∷ [], (u19 ∷ [], (u20 ∷ [], (sliceVal (l₃₁, 0) n28 ∷ [], (u22 ∷ [], (u23 ∷ [], (sliceVal (l₃₂, 0) n29 ∷ [], (v25 ∷ [], (v26 ∷ [], tt))))))))))))))))))))))))))), tt))) (qed W ((‵ (flft (ν1a ∷ []) fullShare) ⊛ ‵ (flft (ν1b ∷ []) fullShare) ⊛ ‵ (flft (ν1c ∷ []) fullShare) ⊛ ‵ (flft κ₂ q₂) ⊛ ‵ (flft κ₃ q₃) ⊛ ‵ (flft κ₄ q₄) ⊛ ‵ (flft κ₅ q₅) ⊛ ‵ (flft (ν1r ∷ []) fullShare) ⊛ ‵ (flft (ν1u ∷ []) fullShare) ⊛ ‵ (flft (ν1x ∷ []) fullShare) ⊛ ‵ (flft κ₆ q₆) ⊛ ‵ (flft κ₇ q₇) ⊛ ‵ ftrue) ∷ ‵ (MutRef (named 0) (ν1a ∷ []) mTranscript.the-row .own (record { ptr = (l₃₃, 0); name = δ1a; now = n1 }) (vptr l₃₃ 0 ∷ [])) ∷ ‵ (MutSlice (named 1) (ν1b ∷ []) u64 .own (ref2 δ1b (ys2)) (v2 ∷ [])) ∷ ‵ (MutSlice (named 2) (ν1c ∷ []) u64 .own (ref3 δ1c (ys3)) (v3 ∷ [])) ∷ ‵ (ShrSlice (named 3) κ₂ u64 .own s6 (v6 ∷ [])) ∷ ‵ (ShrSlice (named 4) κ₃ mEntry.the-row .own s9 (v9 ∷ [])) ∷ ‵ (ShrSlice (named 5) κ₄ mEntry.the-row .own s12 (v12 ∷ [])) ∷ ‵ (ShrSlice (named 6) κ₅ mEntry.the-row .own s15 (v15 ∷ [])) ∷ ‵ (ShrSlice (named 7) (ν1r ∷ []) mEntry.the-row .own (record { ptr = (l₃₀, 0); name = δ1r; now = (take n27 (n18)) }) (sliceVal (l₃₀, 0) n27 ∷ [])) ∷ ‵ (ShrSlice (named 8) (ν1u ∷ []) mEntry.the-row .own (record { ptr = (l₃₁, 0); name = δ1u; now = (take n28 (n21)) }) (sliceVal (l₃₁, 0) n28 ∷ [])) ∷ ‵ (ShrSlice (named 9) (ν1x ∷ []) mEntry.the-row .own (record { ptr = (l₃₂, 0); name = δ1x; now = (take n29 (n24)) }) (sliceVal (l₃₂, 0) n29 ∷ [])) ∷ ‵ (ShrSlice (named 10) κ₆ u64 .own s25 (v25 ∷ [])) ∷ ‵ (ShrSlice (named 11) κ₇ u64 .own s26 (v26 ∷ [])) ∷ []) ∵ nothing ! $ move ! (13 ∷ 0 ∷ []) $ fjoin ! $ move ! (12 ∷ 0 ∷ []) $ fjoin ! $ move ! (11 ∷ 0 ∷ []) $ fjoin ! $ owned ! u64 (Is u64) (uint-makes 𝓤 H A W w64) (n23) _ w23 $ fjoin ! $ owned ! u64 (Is u64) (uint-makes 𝓤 H A W w64) (n22) _ w22 $ fjoin ! $ move ! (10 ∷ 0 ∷ []) $ fjoin ! $ owned ! u64 (Is u64) (uint-makes 𝓤 H A W w64) (n20) _ w20 $ fjoin ! $ owned ! u64 (Is u64) (uint-makes 𝓤 H A W w64) (n19) _ w19 $ fjoin ! $ move ! (9 ∷ 0 ∷ []) $ fjoin ! $ owned ! u64 (Is u64) (uint-makes 𝓤 H A W w64) (n17) _ w17 $ fjoin ! $ owned ! u64 (Is u64) (uint-makes 𝓤 H A W w64) (n16) _ w16 $ fjoin ! $ move ! (8 ∷ 0 ∷ []) $ fjoin ! $ owned ! u64 (Is u64) (uint-makes 𝓤 H A W w64) (n14) _ w14 $ fjoin ! $ owned ! u64 (Is u64) (uint-makes 𝓤 H A W w64) (n13) _ w13 $ fjoin ! $ move ! (7 ∷ 0 ∷ []) $ fjoin ! $ owned ! u64 (Is u64) (uint-makes 𝓤 H A W w64) (n11) _ w11 $ fjoin ! $ owned ! u64 (Is u64) (uint-makes 𝓤 H A W w64) (n10) _ w10 $ fjoin ! $ move ! (6 ∷ 0 ∷ []) $ fjoin ! $ owned ! u64 (Is u64) (uint-makes 𝓤 H A W w64) (n8) _ w8 $ fjoin ! $ owned ! u64 (Is u64) (uint-makes 𝓤 H A W w64) (n7) _ w7 $ fjoin ! $ move ! (5 ∷ 0 ∷ []) $ fjoin ! $ owned ! u64 (Is u64) (uint-makes 𝓤 H A W w64) (n5) _ w5 $ fjoin ! $ owned ! u64 (Is u64) (uint-makes 𝓤 H A W w64) (n4) _ w4 $ fjoin ! $ move ! (4 ∷ 0 ∷ []) $ fjoin ! $ move ! (3 ∷ 0 ∷ []) $ fjoin ! $ move ! (2 ∷ 0 ∷ []) $ fjoin ! $ move ! (1 ∷ 0 ∷ []) $ join ! $ nothing ! $ move ! (1 ∷ 0 ∷ []) $ frame ! $ done !) $ 
-        calls-at ! fm (Callee-g1 𝓤 H A at-mem run) known-g1 ((((ν1a ∷ []), ((ν1b ∷ []), ((ν1c ∷ []), (κ₂, (κ₃, (κ₄, (κ₅, ((ν1r ∷ []), ((ν1u ∷ []), ((ν1x ∷ []), (κ₆, (κ₇, tt)))))))))))), (fullShare, (fullShare, (fullShare, (q₂, (q₃, (q₄, (q₅, (fullShare, (fullShare, (fullShare, (q₆, (q₇, tt)))))))))))), tt, (record { ptr = (l₃₃, 0); name = δ1a; now = n1 }, (ref2 δ1b (ys2), (ref3 δ1c (ys3), (n4, (n5, (s6, (n7, (n8, (s9, (n10, (n11, (s12, (n13, (n14, (s15, (n16, (n17, (record { ptr = (l₃₀, 0); name = δ1r; now = (take n27 (n18)) }, (n19, (n20, (record { ptr = (l₃₁, 0); name = δ1u; now = (take n28 (n21)) }, (n22, (n23, (record { ptr = (l₃₂, 0); name = δ1x; now = (take n29 (n24)) }, (s25, (s26, tt)))))))))))))))))))))))))), (vptr l₃₃ 0 ∷ [], (v2 ∷ [], (v3 ∷ [], (u4 ∷ [], (u5 ∷ [], (v6 ∷ [], (u7 ∷ [], (u8′ ∷ [], (v9 ∷ [], (u10 ∷ [], (u11 ∷ [], (v12 ∷ [], (u13 ∷ [], (u14 ∷ [], (v15 ∷ [], (u16′ ∷ [], (u17 ∷ [], (sliceVal (l₃₀, 0) n27 ∷ [], (u19 ∷ [], (u20 ∷ [], (sliceVal (l₃₁, 0) n28 ∷ [], (u22 ∷ [], (u23 ∷ [], (sliceVal (l₃₂, 0) n29 ∷ [], (v25 ∷ [], (v26 ∷ [], tt))))))))))))))))))))))))))), tt) (and-then ! (load ! (from ! (stop !)) (look ! 49 refl)) (and-then ! (load ! (from ! (stop !)) (look ! 47 refl)) (and-then ! (load ! (from ! (stop !)) (look ! 45 refl)) (and-then ! (load ! (from ! (stop !)) (look ! 76 refl)) (and-then ! (load ! (from ! (stop !)) (look ! 75 refl)) (and-then ! (load ! (from ! (stop !)) (look ! 74 refl)) (and-then ! (load ! (from ! (stop !)) (look ! 73 refl)) (and-then ! (load ! (from ! (stop !)) (look ! 72 refl)) (and-then ! (load ! (from ! (stop !)) (look ! 71 refl)) (and-then ! (load ! (from ! (stop !)) (look ! 70 refl)) (and-then ! (load ! (from ! (stop !)) (look ! 69 refl)) (and-then ! (load ! (from ! (stop !)) (look ! 68 refl)) (and-then ! (load ! (from ! (stop !)) (look ! 67 refl)) (and-then ! (load ! (from ! (stop !)) (look ! 66 refl)) (and-then ! (load ! (from ! (stop !)) (look ! 65 refl)) (and-then ! (load ! (from ! (stop !)) (look ! 64 refl)) (and-then ! (load ! (from ! (stop !)) (look ! 63 refl)) (and-then ! (load ! (from ! (stop !)) (look ! 43 refl)) (and-then ! (load ! (from ! (stop !)) (look ! 61 refl)) (and-then ! (load ! (from ! (stop !)) (look ! 60 refl)) (and-then ! (load ! (from ! (stop !)) (look ! 41 refl)) (and-then ! (load ! (from ! (stop !)) (look ! 58 refl)) (and-then ! (load ! (from ! (stop !)) (look ! 57 refl)) (and-then ! (load ! (from ! (stop !)) (look ! 39 refl)) (and-then ! (load ! (from ! (stop !)) (look ! 55 refl)) (and-then ! (load ! (from ! (stop !)) (look ! 54 refl)) (no-more !))))))))))))))))))))))))))) (λ z1. 
-        use1 W (later (some (λ (r1 : ℕ). ((‵ (flft (ν1a ∷ []) fullShare) ⊛ ‵ (flft (ν1b ∷ []) fullShare) ⊛ ‵ (flft (ν1c ∷ []) fullShare) ⊛ ‵ (flft κ₂ q₂) ⊛ ‵ (flft κ₃ q₃) ⊛ ‵ (flft κ₄ q₄) ⊛ ‵ (flft κ₅ q₅) ⊛ ‵ (flft (ν1r ∷ []) fullShare) ⊛ ‵ (flft (ν1u ∷ []) fullShare) ⊛ ‵ (flft (ν1x ∷ []) fullShare) ⊛ ‵ (flft κ₆ q₆) ⊛ ‵ (flft κ₇ q₇) ⊛ ‵ ftrue) ⊛ ‵ (u32 .own r1 (z1 ∷ []))) ⊛ some (λ (ws : Lasts g1.ended ((ν1a ∷ []), ((ν1b ∷ []), ((ν1c ∷ []), (κ₂, (κ₃, (κ₄, (κ₅, ((ν1r ∷ []), ((ν1u ∷ []), ((ν1x ∷ []), (κ₆, (κ₇, tt)))))))))))) (record { ptr = (l₃₃, 0); name = δ1a; now = n1 }, (ref2 δ1b (ys2), (ref3 δ1c (ys3), (n4, (n5, (s6, (n7, (n8, (s9, (n10, (n11, (s12, (n13, (n14, (s15, (n16, (n17, (record { ptr = (l₃₀, 0); name = δ1r; now = (take n27 (n18)) }, (n19, (n20, (record { ptr = (l₃₁, 0); name = δ1u; now = (take n28 (n21)) }, (n22, (n23, (record { ptr = (l₃₂, 0); name = δ1x; now = (take n29 (n24)) }, (s25, (s26, tt))))))))))))))))))))))))))). ‵ (lasts g1.ended ((ν1a ∷ []), ((ν1b ∷ []), ((ν1c ∷ []), (κ₂, (κ₃, (κ₄, (κ₅, ((ν1r ∷ []), ((ν1u ∷ []), ((ν1x ∷ []), (κ₆, (κ₇, tt)))))))))))) (record { ptr = (l₃₃, 0); name = δ1a; now = n1 }, (ref2 δ1b (ys2), (ref3 δ1c (ys3), (n4, (n5, (s6, (n7, (n8, (s9, (n10, (n11, (s12, (n13, (n14, (s15, (n16, (n17, (record { ptr = (l₃₀, 0); name = δ1r; now = (take n27 (n18)) }, (n19, (n20, (record { ptr = (l₃₁, 0); name = δ1u; now = (take n28 (n21)) }, (n22, (n23, (record { ptr = (l₃₂, 0); name = δ1x; now = (take n29 (n24)) }, (s25, (s26, tt)))))))))))))))))))))))))) ws) ⊛ raw (g1.clauses 𝓤 H A at-mem run ((ν1a ∷ []), ((ν1b ∷ []), ((ν1c ∷ []), (κ₂, (κ₃, (κ₄, (κ₅, ((ν1r ∷ []), ((ν1u ∷ []), ((ν1x ∷ []), (κ₆, (κ₇, tt)))))))))))) (record { ptr = (l₃₃, 0); name = δ1a; now = n1 }, (ref2 δ1b (ys2), (ref3 δ1c (ys3), (n4, (n5, (s6, (n7, (n8, (s9, (n10, (n11, (s12, (n13, (n14, (s15, (n16, (n17, (record { ptr = (l₃₀, 0); name = δ1r; now = (take n27 (n18)) }, (n19, (n20, (record { ptr = (l₃₁, 0); name = δ1u; now = (take n28 (n21)) }, (n22, (n23, (record { ptr = (l₃₂, 0); name = δ1x; now = (take n29 (n24)) }, (s25, (s26, tt)))))))))))))))))))))))))) .ensures tt r1 (atExit g1.ended ((ν1a ∷ []), ((ν1b ∷ []), ((ν1c ∷ []), (κ₂, (κ₃, (κ₄, (κ₅, ((ν1r ∷ []), ((ν1u ∷ []), ((ν1x ∷ []), (κ₆, (κ₇, tt)))))))))))) (record { ptr = (l₃₃, 0); name = δ1a; now = n1 }, (ref2 δ1b (ys2), (ref3 δ1c (ys3), (n4, (n5, (s6, (n7, (n8, (s9, (n10, (n11, (s12, (n13, (n14, (s15, (n16, (n17, (record { ptr = (l₃₀, 0); name = δ1r; now = (take n27 (n18)) }, (n19, (n20, (record { ptr = (l₃₁, 0); name = δ1u; now = (take n28 (n21)) }, (n22, (n23, (record { ptr = (l₃₂, 0); name = δ1x; now = (take n29 (n24)) }, (s25, (s26, tt)))))))))))))))))))))))))) ws)))))) (id⊢ 𝓤 _) $ await ! tt $ pick ! (λ r1. split ! $ move ! (1 ∷ []) $ pick ! (λ ws1. split ! $ move ! (1 ∷ []) $ heard ! _ (λ e1. 
-        fsplit ! $ move ! (1 ∷ []) $ fsplit ! $ fsplit ! $ move ! (1 ∷ []) $ feqL ! (λ same1b. move ! (1 ∷ []) $ fsplit ! $ fsplit ! $ move ! (1 ∷ []) $ feqL ! (λ same1c. move ! (1 ∷ []) $ drop ! $ move ! (3 ∷ []) $ split ! $ move ! (1 ∷ []) $ peeks ! u32 (Is u32) (shows 𝓤 H A u32) r1 (z1 ∷ []) (λ i1. drop ! $ land ! (from ! (stop !)) (init ! 53 refl (uint-lawful 𝓤 H A W w32 .typed r1 _ i1 .0)) $ 
-        tidy W (_ ∷ _ ∷ _ ∷ _ ∷ _ ∷ _ ∷ _ ∷ _ ∷ _ ∷ _ ∷ _ ∷ _ ∷ _ ∷ _ ∷ _ ∷ _ ∷ _ ∷ _ ∷ _ ∷ _ ∷ _ ∷ _ ∷ _ ∷ _ ∷ _ ∷ _ ∷ _ ∷ _ ∷ _ ∷ _ ∷ _ ∷ _ ∷ _ ∷ _ ∷ _ ∷ _ ∷ _ ∷ _ ∷ _ ∷ _ ∷ _ ∷ _ ∷ _ ∷ _ ∷ _ ∷ _ ∷ _ ∷ _ ∷ _ ∷ _ ∷ _ ∷ _ ∷ _ ∷ _ ∷ _ ∷ _ ∷ _ ∷ _ ∷ _ ∷ _ ∷ _ ∷ _ ∷ _ ∷ _ ∷ _ ∷ _ ∷ _ ∷ _ ∷ _ ∷ _ ∷ _ ∷ _ ∷ _ ∷ _ ∷ _ ∷ _ ∷ _ ∷ _ ∷ _ ∷ _ ∷ _ ∷ _ ∷ _ ∷ _ ∷ []) $ split ! $ move ! (1 ∷ []) $ split ! $ move ! (1 ∷ []) $ split ! $ move ! (1 ∷ []) $ split ! $ move ! (1 ∷ []) $ split ! $ move ! (1 ∷ []) $ split ! $ move ! (1 ∷ []) $ split ! $ move ! (1 ∷ []) $ split ! $ move ! (1 ∷ []) $ split ! $ move ! (1 ∷ []) $ split ! $ move ! (1 ∷ []) $ split ! $ move ! (1 ∷ []) $ split ! $ move ! (1 ∷ []) $ drop ! $ move ! (11 ∷ []) $ lft-end ! tt $ move ! (0 ∷ 29 ∷ 14 ∷ []) $ use3 W (later (‵ (partAt mTranscript.the-row fullShare ((ws1 .0)) l₃₃ 0))) (ref-back 𝓤 H A W mTranscript.the-row (ν1a ∷ []) δ1a ((ws1 .0)) l₃₃ 0) $ await ! tt $ 
-        out ! mTranscript.the-row fullShare ((ws1 .0)) l₃₃ 0 (λ vs. spelt ! mTranscript.the-row (Is mTranscript.the-row) (shows 𝓤 H A mTranscript.the-row) (LL.vals mTranscript.the-type lTranscript.the-laws) (LL.tells mTranscript.the-type lTranscript.the-laws) fullShare ((ws1 .0)) vs l₃₃ 0 $ move ! (1 ∷ []) $ peeks ! mTranscript.the-row (Is mTranscript.the-row) (shows 𝓤 H A mTranscript.the-row) ((ws1 .0)) (LL.val mTranscript.the-type lTranscript.the-laws ((ws1 .0)) ∷ []) (λ w1a. drop ! $ use1 W (‵ (fat fullShare (lTranscript.mir) l₃₃ 0 (LL.val mTranscript.the-type lTranscript.the-laws ((ws1 .0))))) (W .laws .raw-at fullShare (lTranscript.mir) l₃₃ 0 (LL.val mTranscript.the-type lTranscript.the-laws ((ws1 .0)))) $ 
-        move ! (11 ∷ []) $ lft-end ! tt $ move ! (0 ∷ 27 ∷ 13 ∷ []) $ use3 W (later (‵ (O2 (ws1 .1 .0)) ⊛ ‵ (flft κ₀ q₀))) (backs2 (named 1) ν1b δ1b (ys2) (ws1 .1 .0) (refl) room2 same1b) $ await ! tt $ split ! $ 
-        move ! (12 ∷ []) $ lft-end ! tt $ move ! (0 ∷ 26 ∷ 13 ∷ []) $ use3 W (later (‵ (O3 (ws1 .1 .1 .0)) ⊛ ‵ (flft κ₁ q₁))) (backs3 (named 2) ν1c δ1c (ys3) (ws1 .1 .1 .0) (refl) room3 same1c) $ await ! tt $ split ! $ 
-        move ! (9 ∷ []) $ lft-end ! tt $ move ! (0 ∷ 20 ∷ []) $ lent-back ! tt $ fsplit ! $ drop ! $ move ! (0 ∷ 20 ∷ []) $ use2 W (‵ (parts (mem mEntry.the-row) (shares mEntry.the-row) fullShare (n18) l₃₀ 0)) (mend 𝓤 H A mEntry.the-row fullShare n27 (n18) l₃₀ 0) $ feqI ! ℕ (length (n18)) 64 ln1r $ fjoin ! $ use1 W (‵ (partAt (Array mEntry.the-row 64) fullShare (n18) l₃₀ 0)) (array-whole 𝓤 H A W mEntry.the-row fullShare 64 (n18) l₃₀ 0) $ 
-        out ! (Array mEntry.the-row 64) fullShare (n18) l₃₀ 0 (λ vs. spelt ! (Array mEntry.the-row 64) (Is (Array mEntry.the-row 64)) (shows 𝓤 H A (Array mEntry.the-row 64)) (array-vals (LL.vals mEntry.the-type lEntry.the-laws)) (array-tells mEntry.the-row (LL.vals mEntry.the-type lEntry.the-laws) (LL.tells mEntry.the-type lEntry.the-laws) 64) fullShare (n18) vs l₃₀ 0 $ move ! (1 ∷ []) $ peeks ! (Array mEntry.the-row 64) (Is (Array mEntry.the-row 64)) (shows 𝓤 H A (Array mEntry.the-row 64)) (n18) (array-val (LL.vals mEntry.the-type lEntry.the-laws) (n18) ∷ []) (λ w1r. drop ! $ use1 W (‵ (fat fullShare (tyArray (lEntry.mir) 64) l₃₀ 0 (array-val (LL.vals mEntry.the-type lEntry.the-laws) (n18)))) (W .laws .raw-at fullShare (tyArray (lEntry.mir) 64) l₃₀ 0 (array-val (LL.vals mEntry.the-type lEntry.the-laws) (n18))) $ 
-        move ! (9 ∷ []) $ lft-end ! tt $ move ! (0 ∷ 18 ∷ []) $ lent-back ! tt $ fsplit ! $ drop ! $ move ! (0 ∷ 18 ∷ []) $ use2 W (‵ (parts (mem mEntry.the-row) (shares mEntry.the-row) fullShare (n21) l₃₁ 0)) (mend 𝓤 H A mEntry.the-row fullShare n28 (n21) l₃₁ 0) $ feqI ! ℕ (length (n21)) 64 ln1u $ fjoin ! $ use1 W (‵ (partAt (Array mEntry.the-row 64) fullShare (n21) l₃₁ 0)) (array-whole 𝓤 H A W mEntry.the-row fullShare 64 (n21) l₃₁ 0) $ 
-        out ! (Array mEntry.the-row 64) fullShare (n21) l₃₁ 0 (λ vs. spelt ! (Array mEntry.the-row 64) (Is (Array mEntry.the-row 64)) (shows 𝓤 H A (Array mEntry.the-row 64)) (array-vals (LL.vals mEntry.the-type lEntry.the-laws)) (array-tells mEntry.the-row (LL.vals mEntry.the-type lEntry.the-laws) (LL.tells mEntry.the-type lEntry.the-laws) 64) fullShare (n21) vs l₃₁ 0 $ move ! (1 ∷ []) $ peeks ! (Array mEntry.the-row 64) (Is (Array mEntry.the-row 64)) (shows 𝓤 H A (Array mEntry.the-row 64)) (n21) (array-val (LL.vals mEntry.the-type lEntry.the-laws) (n21) ∷ []) (λ w1u. drop ! $ use1 W (‵ (fat fullShare (tyArray (lEntry.mir) 64) l₃₁ 0 (array-val (LL.vals mEntry.the-type lEntry.the-laws) (n21)))) (W .laws .raw-at fullShare (tyArray (lEntry.mir) 64) l₃₁ 0 (array-val (LL.vals mEntry.the-type lEntry.the-laws) (n21))) $ 
-        move ! (9 ∷ []) $ lft-end ! tt $ move ! (0 ∷ 16 ∷ []) $ lent-back ! tt $ fsplit ! $ drop ! $ move ! (0 ∷ 16 ∷ []) $ use2 W (‵ (parts (mem mEntry.the-row) (shares mEntry.the-row) fullShare (n24) l₃₂ 0)) (mend 𝓤 H A mEntry.the-row fullShare n29 (n24) l₃₂ 0) $ feqI ! ℕ (length (n24)) 64 ln1x $ fjoin ! $ use1 W (‵ (partAt (Array mEntry.the-row 64) fullShare (n24) l₃₂ 0)) (array-whole 𝓤 H A W mEntry.the-row fullShare 64 (n24) l₃₂ 0) $ 
-        out ! (Array mEntry.the-row 64) fullShare (n24) l₃₂ 0 (λ vs. spelt ! (Array mEntry.the-row 64) (Is (Array mEntry.the-row 64)) (shows 𝓤 H A (Array mEntry.the-row 64)) (array-vals (LL.vals mEntry.the-type lEntry.the-laws)) (array-tells mEntry.the-row (LL.vals mEntry.the-type lEntry.the-laws) (LL.tells mEntry.the-type lEntry.the-laws) 64) fullShare (n24) vs l₃₂ 0 $ move ! (1 ∷ []) $ peeks ! (Array mEntry.the-row 64) (Is (Array mEntry.the-row 64)) (shows 𝓤 H A (Array mEntry.the-row 64)) (n24) (array-val (LL.vals mEntry.the-type lEntry.the-laws) (n24) ∷ []) (λ w1x. drop ! $ use1 W (‵ (fat fullShare (tyArray (lEntry.mir) 64) l₃₂ 0 (array-val (LL.vals mEntry.the-type lEntry.the-laws) (n24)))) (W .laws .raw-at fullShare (tyArray (lEntry.mir) 64) l₃₂ 0 (array-val (LL.vals mEntry.the-type lEntry.the-laws) (n24))) $ 
-        assigns ! (of-opd ! (load ! (from ! (stop !)) (look ! 7 refl))) (from ! (stop !)) (init ! 42 refl (LL.lawful mTranscript.the-type lTranscript.the-laws 𝓤 H A W .typed (ws1 .0) _ w1a .0)) $ 
-        tidy W (_ ∷ _ ∷ _ ∷ _ ∷ _ ∷ _ ∷ _ ∷ _ ∷ _ ∷ _ ∷ _ ∷ _ ∷ _ ∷ _ ∷ _ ∷ _ ∷ _ ∷ _ ∷ _ ∷ _ ∷ _ ∷ _ ∷ _ ∷ _ ∷ _ ∷ _ ∷ _ ∷ _ ∷ _ ∷ _ ∷ _ ∷ _ ∷ _ ∷ _ ∷ _ ∷ _ ∷ _ ∷ _ ∷ _ ∷ _ ∷ _ ∷ _ ∷ _ ∷ _ ∷ _ ∷ _ ∷ _ ∷ _ ∷ _ ∷ _ ∷ _ ∷ _ ∷ _ ∷ _ ∷ _ ∷ _ ∷ _ ∷ _ ∷ _ ∷ _ ∷ _ ∷ _ ∷ _ ∷ _ ∷ _ ∷ _ ∷ _ ∷ _ ∷ _ ∷ _ ∷ _ ∷ _ ∷ _ ∷ _ ∷ _ ∷ _ ∷ _ ∷ _ ∷ _ ∷ _ ∷ _ ∷ _ ∷ _ ∷ _ ∷ _ ∷ []) $ nothing ! $ 
+        use1 W (raw (Callee-g1 𝓤 H A at-mem run .pre ((((ν1a ∷ []), ((ν1b ∷ []), ((ν1c ∷ []), (κ₂, (κ₃, (κ₄, (κ₅, ((ν1r ∷ []), ((ν1u ∷ []), ((ν1x ∷ []), (κ₆, (κ₇, tt)))))))))))), (fullShare, (fullShare, (fullShare, (q₂, (q₃, (q₄, (q₅, (fullShare, (fullShare, (fullShare, (q₆, (q₇, tt)))))))))))), tt, (record { ptr = (l₃₃, 0); name = δ1a; now = n1 }, (ref2 δ1b (ys2), (ref3 δ1c (ys3), (n4, (n5, (s6, (n7, (n8, (s9, (n10, (n11, (s12, (n13, (n14, (s15, (n16, (n17, (record { ptr = (l₃₀, 0); name = δ1r; now = (take n27 (n18)) }, (n19, (n20, (record { ptr = (l₃₁, 0); name = δ1u; now = (take n28 (n21)) }, (n22, (n23, (record { ptr = (l₃₂, 0); name = δ1x; now = (take n29 (n24)) }, (s25, (s26, tt)))))))))))))))))))))))))), (vptr l₃₃ 0 ∷ [], (v2 ∷ [], (v3 ∷ [], (u4 ∷ [], (u5 ∷ [], (v6 ∷ [], (u7 ∷ [], (u8′ ∷ [], (v9 ∷ [], (u10 ∷ [], (u11 ∷ [], (v12 ∷ [], (u13 ∷ [], (u14 ∷ [], (v15 ∷ [], (u16′ ∷ [], (u17 ∷ [], (sliceVal (l₃₀, 0) n27 ∷ [], (u19 ∷ [], (u20 ∷ [], (sliceVal (l₃₁, 0) n28 ∷ [], (u22 ∷ [], (u23 ∷ [], (sliceVal (l₃₂, 0) n29 ∷ [], (v25 ∷ [], (v26 ∷ [], tt))))))))))))))))))))))))))), tt))) (qed W ((‵ (flft (ν1a ∷ []) fullShare) ⊛ ‵ (flft (ν1b ∷ []) fullShare) ⊛ ‵ (flft (ν1c ∷ []) fullShare) ⊛ ‵ (flft κ₂ q₂) ⊛ ‵ (flft κ₃ q₃) ⊛ ‵ (flft κ₄ q₄) ⊛ ‵ (flft κ₅ q₅) ⊛ ‵ (flft (ν1r ∷ []) fullShare) ⊛ ‵ (flft (ν1u ∷ []) fullShare) ⊛ ‵ (flft (ν1x ∷ []) fullShare) ⊛ ‵ (flft κ₆ q₆) ⊛ ‵ (flft κ₇ q₇) ⊛ ‵ ftrue) ∷ ‵ (MutRef (named 0) (ν1a ∷ []) mTranscript.the-row .own (record { ptr = (l₃₃, 0); name = δ1a; now = n1 }) (vptr l₃₃ 0 ∷ [])) ∷ ‵ (MutSlice (named 1) (ν1b ∷ []) u64 .own (ref2 δ1b (ys2)) (v2 ∷ [])) ∷ ‵ (MutSlice (named 2) (ν1c ∷ []) u64 .own (ref3 δ1c (ys3)) (v3 ∷ [])) ∷ ‵ (ShrSlice (named 3) κ₂ u64 .own s6 (v6 ∷ [])) ∷ ‵ (ShrSlice (named 4) κ₃ mEntry.the-row .own s9 (v9 ∷ [])) ∷ ‵ (ShrSlice (named 5) κ₄ mEntry.the-row .own s12 (v12 ∷ [])) ∷ ‵ (ShrSlice (named 6) κ₅ mEntry.the-row .own s15 (v15 ∷ [])) ∷ ‵ (ShrSlice (named 7) (ν1r ∷ []) mEntry.the-row .own (record { ptr = (l₃₀, 0); name = δ1r; now = (take n27 (n18)) }) (sliceVal (l₃₀, 0) n27 ∷ [])) ∷ ‵ (ShrSlice (named 8) (ν1u ∷ []) mEntry.the-row .own (record { ptr = (l₃₁, 0); name = δ1u; now = (take n28 (n21)) }) (sliceVal (l₃₁, 0) n28 ∷ [])) ∷ ‵ (ShrSlice (named 9) (ν1x ∷ []) mEntry.the-row .own (record { ptr = (l₃₂, 0); name = δ1x; now = (take n29 (n24)) }) (sliceVal (l₃₂, 0) n29 ∷ [])) ∷ ‵ (ShrSlice (named 10) κ₆ u64 .own s25 (v25 ∷ [])) ∷ ‵ (ShrSlice (named 11) κ₇ u64 .own s26 (v26 ∷ [])) ∷ []) ∵ nothing ! $ move ! (13 ∷ 0 ∷ []) $ fjoin ! $ move ! (12 ∷ 0 ∷ []) $ fjoin ! $ move ! (11 ∷ 0 ∷ []) $ fjoin ! $ owned ! u64 (Is u64) (uint-makes 𝓤 H A W w64) (n23) _ w23 $ fjoin ! $ owned ! u64 (Is u64) (uint-makes 𝓤 H A W w64) (n22) _ w22 $ fjoin ! $ move ! (10 ∷ 0 ∷ []) $ fjoin ! $ owned ! u64 (Is u64) (uint-makes 𝓤 H A W w64) (n20) _ w20 $ fjoin ! $ owned ! u64 (Is u64) (uint-makes 𝓤 H A W w64) (n19) _ w19 $ fjoin ! $ move ! (9 ∷ 0 ∷ []) $ fjoin ! $ owned ! u64 (Is u64) (uint-makes 𝓤 H A W w64) (n17) _ w17 $ fjoin ! $ owned ! u64 (Is u64) (uint-makes 𝓤 H A W w64) (n16) _ w16 $ fjoin ! $ move ! (8 ∷ 0 ∷ []) $ fjoin ! $ owned ! u64 (Is u64) (uint-makes 𝓤 H A W w64) (n14) _ w14 $ fjoin ! $ owned ! u64 (Is u64) (uint-makes 𝓤 H A W w64) (n13) _ w13 $ fjoin ! $ move ! (7 ∷ 0 ∷ []) $ fjoin ! $ owned ! u64 (Is u64) (uint-makes 𝓤 H A W w64) (n11) _ w11 $ fjoin ! $ owned ! u64 (Is u64) (uint-makes 𝓤 H A W w64) (n10) _ w10 $ fjoin ! $ move ! (6 ∷ 0 ∷ []) $ fjoin ! $ owned ! u64 (Is u64) (uint-makes 𝓤 H A W w64) (n8) _ w8 $ fjoin ! $ owned ! u64 (Is u64) (uint-makes 𝓤 H A W w64) (n7) _ w7 $ fjoin ! $ move ! (5 ∷ 0 ∷ []) $ fjoin ! $ owned ! u64 (Is u64) (uint-makes 𝓤 H A W w64) (n5) _ w5 $ fjoin ! $ owned ! u64 (Is u64) (uint-makes 𝓤 H A W w64) (n4) _ w4 $ fjoin ! $ move ! (4 ∷ 0 ∷ []) $ fjoin ! $ move ! (3 ∷ 0 ∷ []) $ fjoin ! $ move ! (2 ∷ 0 ∷ []) $ fjoin ! $ move ! (1 ∷ 0 ∷ []) $ join ! $ nothing ! $ move ! (1 ∷ 0 ∷ []) $ frame ! $ done !) $
+        calls-at ! fm (Callee-g1 𝓤 H A at-mem run) known-g1 ((((ν1a ∷ []), ((ν1b ∷ []), ((ν1c ∷ []), (κ₂, (κ₃, (κ₄, (κ₅, ((ν1r ∷ []), ((ν1u ∷ []), ((ν1x ∷ []), (κ₆, (κ₇, tt)))))))))))), (fullShare, (fullShare, (fullShare, (q₂, (q₃, (q₄, (q₅, (fullShare, (fullShare, (fullShare, (q₆, (q₇, tt)))))))))))), tt, (record { ptr = (l₃₃, 0); name = δ1a; now = n1 }, (ref2 δ1b (ys2), (ref3 δ1c (ys3), (n4, (n5, (s6, (n7, (n8, (s9, (n10, (n11, (s12, (n13, (n14, (s15, (n16, (n17, (record { ptr = (l₃₀, 0); name = δ1r; now = (take n27 (n18)) }, (n19, (n20, (record { ptr = (l₃₁, 0); name = δ1u; now = (take n28 (n21)) }, (n22, (n23, (record { ptr = (l₃₂, 0); name = δ1x; now = (take n29 (n24)) }, (s25, (s26, tt)))))))))))))))))))))))))), (vptr l₃₃ 0 ∷ [], (v2 ∷ [], (v3 ∷ [], (u4 ∷ [], (u5 ∷ [], (v6 ∷ [], (u7 ∷ [], (u8′ ∷ [], (v9 ∷ [], (u10 ∷ [], (u11 ∷ [], (v12 ∷ [], (u13 ∷ [], (u14 ∷ [], (v15 ∷ [], (u16′ ∷ [], (u17 ∷ [], (sliceVal (l₃₀, 0) n27 ∷ [], (u19 ∷ [], (u20 ∷ [], (sliceVal (l₃₁, 0) n28 ∷ [], (u22 ∷ [], (u23 ∷ [], (sliceVal (l₃₂, 0) n29 ∷ [], (v25 ∷ [], (v26 ∷ [], tt))))))))))))))))))))))))))), tt) (and-then ! (load ! (from ! (stop !)) (look ! 49 refl)) (and-then ! (load ! (from ! (stop !)) (look ! 47 refl)) (and-then ! (load ! (from ! (stop !)) (look ! 45 refl)) (and-then ! (load ! (from ! (stop !)) (look ! 76 refl)) (and-then ! (load ! (from ! (stop !)) (look ! 75 refl)) (and-then ! (load ! (from ! (stop !)) (look ! 74 refl)) (and-then ! (load ! (from ! (stop !)) (look ! 73 refl)) (and-then ! (load ! (from ! (stop !)) (look ! 72 refl)) (and-then ! (load ! (from ! (stop !)) (look ! 71 refl)) (and-then ! (load ! (from ! (stop !)) (look ! 70 refl)) (and-then ! (load ! (from ! (stop !)) (look ! 69 refl)) (and-then ! (load ! (from ! (stop !)) (look ! 68 refl)) (and-then ! (load ! (from ! (stop !)) (look ! 67 refl)) (and-then ! (load ! (from ! (stop !)) (look ! 66 refl)) (and-then ! (load ! (from ! (stop !)) (look ! 65 refl)) (and-then ! (load ! (from ! (stop !)) (look ! 64 refl)) (and-then ! (load ! (from ! (stop !)) (look ! 63 refl)) (and-then ! (load ! (from ! (stop !)) (look ! 43 refl)) (and-then ! (load ! (from ! (stop !)) (look ! 61 refl)) (and-then ! (load ! (from ! (stop !)) (look ! 60 refl)) (and-then ! (load ! (from ! (stop !)) (look ! 41 refl)) (and-then ! (load ! (from ! (stop !)) (look ! 58 refl)) (and-then ! (load ! (from ! (stop !)) (look ! 57 refl)) (and-then ! (load ! (from ! (stop !)) (look ! 39 refl)) (and-then ! (load ! (from ! (stop !)) (look ! 55 refl)) (and-then ! (load ! (from ! (stop !)) (look ! 54 refl)) (no-more !))))))))))))))))))))))))))) (λ z1.
+        use1 W (later (some (λ (r1 : ℕ). ((‵ (flft (ν1a ∷ []) fullShare) ⊛ ‵ (flft (ν1b ∷ []) fullShare) ⊛ ‵ (flft (ν1c ∷ []) fullShare) ⊛ ‵ (flft κ₂ q₂) ⊛ ‵ (flft κ₃ q₃) ⊛ ‵ (flft κ₄ q₄) ⊛ ‵ (flft κ₅ q₅) ⊛ ‵ (flft (ν1r ∷ []) fullShare) ⊛ ‵ (flft (ν1u ∷ []) fullShare) ⊛ ‵ (flft (ν1x ∷ []) fullShare) ⊛ ‵ (flft κ₆ q₆) ⊛ ‵ (flft κ₇ q₇) ⊛ ‵ ftrue) ⊛ ‵ (u32 .own r1 (z1 ∷ []))) ⊛ some (λ (ws : Lasts g1.ended ((ν1a ∷ []), ((ν1b ∷ []), ((ν1c ∷ []), (κ₂, (κ₃, (κ₄, (κ₅, ((ν1r ∷ []), ((ν1u ∷ []), ((ν1x ∷ []), (κ₆, (κ₇, tt)))))))))))) (record { ptr = (l₃₃, 0); name = δ1a; now = n1 }, (ref2 δ1b (ys2), (ref3 δ1c (ys3), (n4, (n5, (s6, (n7, (n8, (s9, (n10, (n11, (s12, (n13, (n14, (s15, (n16, (n17, (record { ptr = (l₃₀, 0); name = δ1r; now = (take n27 (n18)) }, (n19, (n20, (record { ptr = (l₃₁, 0); name = δ1u; now = (take n28 (n21)) }, (n22, (n23, (record { ptr = (l₃₂, 0); name = δ1x; now = (take n29 (n24)) }, (s25, (s26, tt))))))))))))))))))))))))))). ‵ (lasts g1.ended ((ν1a ∷ []), ((ν1b ∷ []), ((ν1c ∷ []), (κ₂, (κ₃, (κ₄, (κ₅, ((ν1r ∷ []), ((ν1u ∷ []), ((ν1x ∷ []), (κ₆, (κ₇, tt)))))))))))) (record { ptr = (l₃₃, 0); name = δ1a; now = n1 }, (ref2 δ1b (ys2), (ref3 δ1c (ys3), (n4, (n5, (s6, (n7, (n8, (s9, (n10, (n11, (s12, (n13, (n14, (s15, (n16, (n17, (record { ptr = (l₃₀, 0); name = δ1r; now = (take n27 (n18)) }, (n19, (n20, (record { ptr = (l₃₁, 0); name = δ1u; now = (take n28 (n21)) }, (n22, (n23, (record { ptr = (l₃₂, 0); name = δ1x; now = (take n29 (n24)) }, (s25, (s26, tt)))))))))))))))))))))))))) ws) ⊛ raw (g1.clauses 𝓤 H A at-mem run ((ν1a ∷ []), ((ν1b ∷ []), ((ν1c ∷ []), (κ₂, (κ₃, (κ₄, (κ₅, ((ν1r ∷ []), ((ν1u ∷ []), ((ν1x ∷ []), (κ₆, (κ₇, tt)))))))))))) (record { ptr = (l₃₃, 0); name = δ1a; now = n1 }, (ref2 δ1b (ys2), (ref3 δ1c (ys3), (n4, (n5, (s6, (n7, (n8, (s9, (n10, (n11, (s12, (n13, (n14, (s15, (n16, (n17, (record { ptr = (l₃₀, 0); name = δ1r; now = (take n27 (n18)) }, (n19, (n20, (record { ptr = (l₃₁, 0); name = δ1u; now = (take n28 (n21)) }, (n22, (n23, (record { ptr = (l₃₂, 0); name = δ1x; now = (take n29 (n24)) }, (s25, (s26, tt)))))))))))))))))))))))))) .ensures tt r1 (atExit g1.ended ((ν1a ∷ []), ((ν1b ∷ []), ((ν1c ∷ []), (κ₂, (κ₃, (κ₄, (κ₅, ((ν1r ∷ []), ((ν1u ∷ []), ((ν1x ∷ []), (κ₆, (κ₇, tt)))))))))))) (record { ptr = (l₃₃, 0); name = δ1a; now = n1 }, (ref2 δ1b (ys2), (ref3 δ1c (ys3), (n4, (n5, (s6, (n7, (n8, (s9, (n10, (n11, (s12, (n13, (n14, (s15, (n16, (n17, (record { ptr = (l₃₀, 0); name = δ1r; now = (take n27 (n18)) }, (n19, (n20, (record { ptr = (l₃₁, 0); name = δ1u; now = (take n28 (n21)) }, (n22, (n23, (record { ptr = (l₃₂, 0); name = δ1x; now = (take n29 (n24)) }, (s25, (s26, tt)))))))))))))))))))))))))) ws)))))) (id⊢ 𝓤 _) $ await ! tt $ pick ! (λ r1. split ! $ move ! (1 ∷ []) $ pick ! (λ ws1. split ! $ move ! (1 ∷ []) $ heard ! _ (λ e1.
+        fsplit ! $ move ! (1 ∷ []) $ fsplit ! $ fsplit ! $ move ! (1 ∷ []) $ feqL ! (λ same1b. move ! (1 ∷ []) $ fsplit ! $ fsplit ! $ move ! (1 ∷ []) $ feqL ! (λ same1c. move ! (1 ∷ []) $ drop ! $ move ! (3 ∷ []) $ split ! $ move ! (1 ∷ []) $ peeks ! u32 (Is u32) (shows 𝓤 H A u32) r1 (z1 ∷ []) (λ i1. drop ! $ land ! (from ! (stop !)) (init ! 53 refl (uint-lawful 𝓤 H A W w32 .typed r1 _ i1 .0)) $
+        tidy W (_ ∷ _ ∷ _ ∷ _ ∷ _ ∷ _ ∷ _ ∷ _ ∷ _ ∷ _ ∷ _ ∷ _ ∷ _ ∷ _ ∷ _ ∷ _ ∷ _ ∷ _ ∷ _ ∷ _ ∷ _ ∷ _ ∷ _ ∷ _ ∷ _ ∷ _ ∷ _ ∷ _ ∷ _ ∷ _ ∷ _ ∷ _ ∷ _ ∷ _ ∷ _ ∷ _ ∷ _ ∷ _ ∷ _ ∷ _ ∷ _ ∷ _ ∷ _ ∷ _ ∷ _ ∷ _ ∷ _ ∷ _ ∷ _ ∷ _ ∷ _ ∷ _ ∷ _ ∷ _ ∷ _ ∷ _ ∷ _ ∷ _ ∷ _ ∷ _ ∷ _ ∷ _ ∷ _ ∷ _ ∷ _ ∷ _ ∷ _ ∷ _ ∷ _ ∷ _ ∷ _ ∷ _ ∷ _ ∷ _ ∷ _ ∷ _ ∷ _ ∷ _ ∷ _ ∷ _ ∷ _ ∷ _ ∷ _ ∷ _ ∷ []) $ split ! $ move ! (1 ∷ []) $ split ! $ move ! (1 ∷ []) $ split ! $ move ! (1 ∷ []) $ split ! $ move ! (1 ∷ []) $ split ! $ move ! (1 ∷ []) $ split ! $ move ! (1 ∷ []) $ split ! $ move ! (1 ∷ []) $ split ! $ move ! (1 ∷ []) $ split ! $ move ! (1 ∷ []) $ split ! $ move ! (1 ∷ []) $ split ! $ move ! (1 ∷ []) $ split ! $ move ! (1 ∷ []) $ drop ! $ move ! (11 ∷ []) $ lft-end ! tt $ move ! (0 ∷ 29 ∷ 14 ∷ []) $ use3 W (later (‵ (partAt mTranscript.the-row fullShare ((ws1 .0)) l₃₃ 0))) (ref-back 𝓤 H A W mTranscript.the-row (ν1a ∷ []) δ1a ((ws1 .0)) l₃₃ 0) $ await ! tt $
+        out ! mTranscript.the-row fullShare ((ws1 .0)) l₃₃ 0 (λ vs. spelt ! mTranscript.the-row (Is mTranscript.the-row) (shows 𝓤 H A mTranscript.the-row) (LL.vals mTranscript.the-type lTranscript.the-laws) (LL.tells mTranscript.the-type lTranscript.the-laws) fullShare ((ws1 .0)) vs l₃₃ 0 $ move ! (1 ∷ []) $ peeks ! mTranscript.the-row (Is mTranscript.the-row) (shows 𝓤 H A mTranscript.the-row) ((ws1 .0)) (LL.val mTranscript.the-type lTranscript.the-laws ((ws1 .0)) ∷ []) (λ w1a. drop ! $ use1 W (‵ (fat fullShare (lTranscript.mir) l₃₃ 0 (LL.val mTranscript.the-type lTranscript.the-laws ((ws1 .0))))) (W .laws .raw-at fullShare (lTranscript.mir) l₃₃ 0 (LL.val mTranscript.the-type lTranscript.the-laws ((ws1 .0)))) $
+        move ! (11 ∷ []) $ lft-end ! tt $ move ! (0 ∷ 27 ∷ 13 ∷ []) $ use3 W (later (‵ (O2 (ws1 .1 .0)) ⊛ ‵ (flft κ₀ q₀))) (backs2 (named 1) ν1b δ1b (ys2) (ws1 .1 .0) (refl) room2 same1b) $ await ! tt $ split ! $
+        move ! (12 ∷ []) $ lft-end ! tt $ move ! (0 ∷ 26 ∷ 13 ∷ []) $ use3 W (later (‵ (O3 (ws1 .1 .1 .0)) ⊛ ‵ (flft κ₁ q₁))) (backs3 (named 2) ν1c δ1c (ys3) (ws1 .1 .1 .0) (refl) room3 same1c) $ await ! tt $ split ! $
+        move ! (9 ∷ []) $ lft-end ! tt $ move ! (0 ∷ 20 ∷ []) $ lent-back ! tt $ fsplit ! $ drop ! $ move ! (0 ∷ 20 ∷ []) $ use2 W (‵ (parts (mem mEntry.the-row) (shares mEntry.the-row) fullShare (n18) l₃₀ 0)) (mend 𝓤 H A mEntry.the-row fullShare n27 (n18) l₃₀ 0) $ feqI ! ℕ (length (n18)) 64 ln1r $ fjoin ! $ use1 W (‵ (partAt (Array mEntry.the-row 64) fullShare (n18) l₃₀ 0)) (array-whole 𝓤 H A W mEntry.the-row fullShare 64 (n18) l₃₀ 0) $
+        out ! (Array mEntry.the-row 64) fullShare (n18) l₃₀ 0 (λ vs. spelt ! (Array mEntry.the-row 64) (Is (Array mEntry.the-row 64)) (shows 𝓤 H A (Array mEntry.the-row 64)) (array-vals (LL.vals mEntry.the-type lEntry.the-laws)) (array-tells mEntry.the-row (LL.vals mEntry.the-type lEntry.the-laws) (LL.tells mEntry.the-type lEntry.the-laws) 64) fullShare (n18) vs l₃₀ 0 $ move ! (1 ∷ []) $ peeks ! (Array mEntry.the-row 64) (Is (Array mEntry.the-row 64)) (shows 𝓤 H A (Array mEntry.the-row 64)) (n18) (array-val (LL.vals mEntry.the-type lEntry.the-laws) (n18) ∷ []) (λ w1r. drop ! $ use1 W (‵ (fat fullShare (tyArray (lEntry.mir) 64) l₃₀ 0 (array-val (LL.vals mEntry.the-type lEntry.the-laws) (n18)))) (W .laws .raw-at fullShare (tyArray (lEntry.mir) 64) l₃₀ 0 (array-val (LL.vals mEntry.the-type lEntry.the-laws) (n18))) $
+        move ! (9 ∷ []) $ lft-end ! tt $ move ! (0 ∷ 18 ∷ []) $ lent-back ! tt $ fsplit ! $ drop ! $ move ! (0 ∷ 18 ∷ []) $ use2 W (‵ (parts (mem mEntry.the-row) (shares mEntry.the-row) fullShare (n21) l₃₁ 0)) (mend 𝓤 H A mEntry.the-row fullShare n28 (n21) l₃₁ 0) $ feqI ! ℕ (length (n21)) 64 ln1u $ fjoin ! $ use1 W (‵ (partAt (Array mEntry.the-row 64) fullShare (n21) l₃₁ 0)) (array-whole 𝓤 H A W mEntry.the-row fullShare 64 (n21) l₃₁ 0) $
+        out ! (Array mEntry.the-row 64) fullShare (n21) l₃₁ 0 (λ vs. spelt ! (Array mEntry.the-row 64) (Is (Array mEntry.the-row 64)) (shows 𝓤 H A (Array mEntry.the-row 64)) (array-vals (LL.vals mEntry.the-type lEntry.the-laws)) (array-tells mEntry.the-row (LL.vals mEntry.the-type lEntry.the-laws) (LL.tells mEntry.the-type lEntry.the-laws) 64) fullShare (n21) vs l₃₁ 0 $ move ! (1 ∷ []) $ peeks ! (Array mEntry.the-row 64) (Is (Array mEntry.the-row 64)) (shows 𝓤 H A (Array mEntry.the-row 64)) (n21) (array-val (LL.vals mEntry.the-type lEntry.the-laws) (n21) ∷ []) (λ w1u. drop ! $ use1 W (‵ (fat fullShare (tyArray (lEntry.mir) 64) l₃₁ 0 (array-val (LL.vals mEntry.the-type lEntry.the-laws) (n21)))) (W .laws .raw-at fullShare (tyArray (lEntry.mir) 64) l₃₁ 0 (array-val (LL.vals mEntry.the-type lEntry.the-laws) (n21))) $
+        move ! (9 ∷ []) $ lft-end ! tt $ move ! (0 ∷ 16 ∷ []) $ lent-back ! tt $ fsplit ! $ drop ! $ move ! (0 ∷ 16 ∷ []) $ use2 W (‵ (parts (mem mEntry.the-row) (shares mEntry.the-row) fullShare (n24) l₃₂ 0)) (mend 𝓤 H A mEntry.the-row fullShare n29 (n24) l₃₂ 0) $ feqI ! ℕ (length (n24)) 64 ln1x $ fjoin ! $ use1 W (‵ (partAt (Array mEntry.the-row 64) fullShare (n24) l₃₂ 0)) (array-whole 𝓤 H A W mEntry.the-row fullShare 64 (n24) l₃₂ 0) $
+        out ! (Array mEntry.the-row 64) fullShare (n24) l₃₂ 0 (λ vs. spelt ! (Array mEntry.the-row 64) (Is (Array mEntry.the-row 64)) (shows 𝓤 H A (Array mEntry.the-row 64)) (array-vals (LL.vals mEntry.the-type lEntry.the-laws)) (array-tells mEntry.the-row (LL.vals mEntry.the-type lEntry.the-laws) (LL.tells mEntry.the-type lEntry.the-laws) 64) fullShare (n24) vs l₃₂ 0 $ move ! (1 ∷ []) $ peeks ! (Array mEntry.the-row 64) (Is (Array mEntry.the-row 64)) (shows 𝓤 H A (Array mEntry.the-row 64)) (n24) (array-val (LL.vals mEntry.the-type lEntry.the-laws) (n24) ∷ []) (λ w1x. drop ! $ use1 W (‵ (fat fullShare (tyArray (lEntry.mir) 64) l₃₂ 0 (array-val (LL.vals mEntry.the-type lEntry.the-laws) (n24)))) (W .laws .raw-at fullShare (tyArray (lEntry.mir) 64) l₃₂ 0 (array-val (LL.vals mEntry.the-type lEntry.the-laws) (n24))) $
+        assigns ! (of-opd ! (load ! (from ! (stop !)) (look ! 7 refl))) (from ! (stop !)) (init ! 42 refl (LL.lawful mTranscript.the-type lTranscript.the-laws 𝓤 H A W .typed (ws1 .0) _ w1a .0)) $
+        tidy W (_ ∷ _ ∷ _ ∷ _ ∷ _ ∷ _ ∷ _ ∷ _ ∷ _ ∷ _ ∷ _ ∷ _ ∷ _ ∷ _ ∷ _ ∷ _ ∷ _ ∷ _ ∷ _ ∷ _ ∷ _ ∷ _ ∷ _ ∷ _ ∷ _ ∷ _ ∷ _ ∷ _ ∷ _ ∷ _ ∷ _ ∷ _ ∷ _ ∷ _ ∷ _ ∷ _ ∷ _ ∷ _ ∷ _ ∷ _ ∷ _ ∷ _ ∷ _ ∷ _ ∷ _ ∷ _ ∷ _ ∷ _ ∷ _ ∷ _ ∷ _ ∷ _ ∷ _ ∷ _ ∷ _ ∷ _ ∷ _ ∷ _ ∷ _ ∷ _ ∷ _ ∷ _ ∷ _ ∷ _ ∷ _ ∷ _ ∷ _ ∷ _ ∷ _ ∷ _ ∷ _ ∷ _ ∷ _ ∷ _ ∷ _ ∷ _ ∷ _ ∷ _ ∷ _ ∷ _ ∷ _ ∷ _ ∷ _ ∷ _ ∷ _ ∷ []) $ nothing ! $
         -- call 2
-        use1 W (raw (Callee-g2 𝓤 H A at-mem run .pre ((tt, tt, tt, (r1, ((ws1 .0), tt)), (z1 ∷ [], ((LL.val mTranscript.the-type lTranscript.the-laws ((ws1 .0))) ∷ [], tt))), tt))) (qed W ((‵ ftrue) ∷ []) ∵ nothing ! $ owned ! mTranscript.the-row (Is mTranscript.the-row) (LL.makes mTranscript.the-type lTranscript.the-plain 𝓤 H A) ((ws1 .0)) _ w1a $ fjoin ! $ owned ! u32 (Is u32) (uint-makes 𝓤 H A W w32) (r1) _ i1 $ fjoin ! $ move ! (1 ∷ 0 ∷ []) $ join ! $ nothing ! $ move ! (1 ∷ 0 ∷ []) $ frame ! $ done !) $ 
-        calls-at ! fm (Callee-g2 𝓤 H A at-mem run) known-g2 ((tt, tt, tt, (r1, ((ws1 .0), tt)), (z1 ∷ [], ((LL.val mTranscript.the-type lTranscript.the-laws ((ws1 .0))) ∷ [], tt))), tt) (and-then ! (load ! (from ! (stop !)) (look ! 55 refl)) (and-then ! (load ! (from ! (stop !)) (look ! 43 refl)) (no-more !))) (λ z2. 
-        use1 W (later (some (λ (r2 : TranscriptAnswer). ((‵ ftrue) ⊛ ‵ (mTranscriptAnswer.the-row .own r2 (z2 ∷ []))) ⊛ some (λ (ws : Lasts g2.ended tt (r1, ((ws1 .0), tt))). ‵ (lasts g2.ended tt (r1, ((ws1 .0), tt)) ws) ⊛ raw (g2.clauses 𝓤 H A at-mem run tt (r1, ((ws1 .0), tt)) .ensures tt r2 (atExit g2.ended tt (r1, ((ws1 .0), tt)) ws)))))) (id⊢ 𝓤 _) $ await ! tt $ pick ! (λ r2. split ! $ move ! (1 ∷ []) $ pick ! (λ ws2. split ! $ move ! (1 ∷ []) $ heard ! _ (λ e2. 
-        drop ! $ split ! $ move ! (1 ∷ []) $ peeks ! mTranscriptAnswer.the-row (Is mTranscriptAnswer.the-row) (shows 𝓤 H A mTranscriptAnswer.the-row) r2 (z2 ∷ []) (λ i2. drop ! $ land ! (from ! (stop !)) (init ! 85 refl (LL.lawful mTranscriptAnswer.the-type lTranscriptAnswer.the-laws 𝓤 H A W .typed r2 _ i2 .0)) $ 
-        tidy W (_ ∷ _ ∷ _ ∷ _ ∷ _ ∷ _ ∷ _ ∷ _ ∷ _ ∷ _ ∷ _ ∷ _ ∷ _ ∷ _ ∷ _ ∷ _ ∷ _ ∷ _ ∷ _ ∷ _ ∷ _ ∷ _ ∷ _ ∷ _ ∷ _ ∷ _ ∷ _ ∷ _ ∷ _ ∷ _ ∷ _ ∷ _ ∷ _ ∷ _ ∷ _ ∷ _ ∷ _ ∷ _ ∷ _ ∷ _ ∷ _ ∷ _ ∷ _ ∷ _ ∷ _ ∷ _ ∷ _ ∷ _ ∷ _ ∷ _ ∷ _ ∷ _ ∷ _ ∷ _ ∷ _ ∷ _ ∷ _ ∷ _ ∷ _ ∷ _ ∷ _ ∷ _ ∷ _ ∷ _ ∷ _ ∷ _ ∷ _ ∷ _ ∷ _ ∷ _ ∷ _ ∷ _ ∷ _ ∷ _ ∷ _ ∷ _ ∷ _ ∷ _ ∷ _ ∷ _ ∷ _ ∷ _ ∷ _ ∷ _ ∷ _ ∷ _ ∷ []) $ drop ! $ tidy W (_ ∷ _ ∷ _ ∷ _ ∷ _ ∷ _ ∷ _ ∷ _ ∷ _ ∷ _ ∷ _ ∷ _ ∷ _ ∷ _ ∷ _ ∷ _ ∷ _ ∷ _ ∷ _ ∷ _ ∷ _ ∷ _ ∷ _ ∷ _ ∷ _ ∷ _ ∷ _ ∷ _ ∷ _ ∷ _ ∷ _ ∷ _ ∷ _ ∷ _ ∷ _ ∷ _ ∷ _ ∷ _ ∷ _ ∷ _ ∷ _ ∷ _ ∷ _ ∷ _ ∷ _ ∷ _ ∷ _ ∷ _ ∷ _ ∷ _ ∷ _ ∷ _ ∷ _ ∷ _ ∷ _ ∷ _ ∷ _ ∷ _ ∷ _ ∷ _ ∷ _ ∷ _ ∷ _ ∷ _ ∷ _ ∷ _ ∷ _ ∷ _ ∷ _ ∷ _ ∷ _ ∷ _ ∷ _ ∷ _ ∷ _ ∷ _ ∷ _ ∷ _ ∷ _ ∷ _ ∷ _ ∷ _ ∷ _ ∷ _ ∷ _ ∷ []) $ returns ! (look ! 84 refl) $ move ! (3 ∷ 4 ∷ 5 ∷ 6 ∷ 8 ∷ 9 ∷ 10 ∷ 11 ∷ 12 ∷ 13 ∷ 14 ∷ 15 ∷ 16 ∷ 17 ∷ 18 ∷ 19 ∷ 20 ∷ 21 ∷ 22 ∷ 23 ∷ 24 ∷ 25 ∷ 26 ∷ 27 ∷ 28 ∷ 29 ∷ 30 ∷ 31 ∷ 32 ∷ 33 ∷ 34 ∷ 35 ∷ 36 ∷ 37 ∷ 38 ∷ 39 ∷ 40 ∷ 41 ∷ 42 ∷ 43 ∷ 44 ∷ 45 ∷ 46 ∷ 47 ∷ 48 ∷ 49 ∷ 50 ∷ 51 ∷ 52 ∷ 53 ∷ 54 ∷ 7 ∷ 0 ∷ 1 ∷ 2 ∷ 55 ∷ 56 ∷ 57 ∷ 58 ∷ 59 ∷ 60 ∷ 61 ∷ 62 ∷ 63 ∷ 64 ∷ 65 ∷ 66 ∷ 67 ∷ 68 ∷ 69 ∷ 70 ∷ 71 ∷ 72 ∷ 73 ∷ 74 ∷ 75 ∷ 76 ∷ 77 ∷ 78 ∷ 79 ∷ 80 ∷ 81 ∷ 82 ∷ 83 ∷ 84 ∷ []) $ move ! (37 ∷ []) $ use1 W (dies ((lTranscriptAnswer.mir, l₀) ∷ (lTranscript.mir, l₁) ∷ (sliceTy (tyRef (named 0) mut (tyInt w64)), l₂) ∷ (sliceTy (tyRef (named 1) mut (tyInt w64)), l₃) ∷ (tyInt w64, l₄) ∷ (tyInt w64, l₅) ∷ (sliceTy (tyRef (named 2) imm (tyInt w64)), l₆) ∷ (tyInt w64, l₇) ∷ (tyInt w64, l₈) ∷ (sliceTy (tyRef (named 3) imm (pointee (mEntry.the-row .written))), l₉) ∷ (tyInt w64, l₁₀) ∷ (tyInt w64, l₁₁) ∷ (sliceTy (tyRef (named 4) imm (pointee (mEntry.the-row .written))), l₁₂) ∷ (tyInt w64, l₁₃) ∷ (tyInt w64, l₁₄) ∷ (sliceTy (tyRef (named 5) imm (pointee (mEntry.the-row .written))), l₁₅) ∷ (tyInt w64, l₁₆) ∷ (tyInt w64, l₁₇) ∷ (tyArray (lEntry.mir) 64, l₁₈) ∷ (tyInt w64, l₁₉) ∷ (tyInt w64, l₂₀) ∷ (tyArray (lEntry.mir) 64, l₂₁) ∷ (tyInt w64, l₂₂) ∷ (tyInt w64, l₂₃) ∷ (tyArray (lEntry.mir) 64, l₂₄) ∷ (sliceTy (tyRef (named 6) imm (tyInt w64)), l₂₅) ∷ (sliceTy (tyRef (named 7) imm (tyInt w64)), l₂₆) ∷ (tyInt w64, l₂₇) ∷ (tyInt w64, l₂₈) ∷ (tyInt w64, l₂₉) ∷ (tyArray (lEntry.mir) 64, l₃₀) ∷ (tyArray (lEntry.mir) 64, l₃₁) ∷ (tyArray (lEntry.mir) 64, l₃₂) ∷ (lTranscript.mir, l₃₃) ∷ (tyInt w32, l₃₄) ∷ (tyRef erased mut (pointee (mTranscript.the-row .written)), l₃₅) ∷ (tyRef erased mut (tyInt w64), l₃₆) ∷ (sliceTy (tyRef erased mut (tyInt w64)), l₃₇) ∷ (tyRef erased mut (tyInt w64), l₃₈) ∷ (sliceTy (tyRef erased mut (tyInt w64)), l₃₉) ∷ (tyRef erased imm (pointee ((Array mEntry.the-row 64) .written)), l₄₀) ∷ (sliceTy (tyRef erased imm (pointee (mEntry.the-row .written))), l₄₁) ∷ (tyRef erased imm (pointee ((Array mEntry.the-row 64) .written)), l₄₂) ∷ (sliceTy (tyRef erased imm (pointee (mEntry.the-row .written))), l₄₃) ∷ (tyRef erased imm (pointee ((Array mEntry.the-row 64) .written)), l₄₄) ∷ (sliceTy (tyRef erased imm (pointee (mEntry.the-row .written))), l₄₅) ∷ (lTranscript.mir, l₄₆) ∷ []) (‵ ftrue)) die $ free-all ! 37 ((lTranscriptAnswer.mir, l₀) ∷ (lTranscript.mir, l₁) ∷ (sliceTy (tyRef (named 0) mut (tyInt w64)), l₂) ∷ (sliceTy (tyRef (named 1) mut (tyInt w64)), l₃) ∷ (tyInt w64, l₄) ∷ (tyInt w64, l₅) ∷ (sliceTy (tyRef (named 2) imm (tyInt w64)), l₆) ∷ (tyInt w64, l₇) ∷ (tyInt w64, l₈) ∷ (sliceTy (tyRef (named 3) imm (pointee (mEntry.the-row .written))), l₉) ∷ (tyInt w64, l₁₀) ∷ (tyInt w64, l₁₁) ∷ (sliceTy (tyRef (named 4) imm (pointee (mEntry.the-row .written))), l₁₂) ∷ (tyInt w64, l₁₃) ∷ (tyInt w64, l₁₄) ∷ (sliceTy (tyRef (named 5) imm (pointee (mEntry.the-row .written))), l₁₅) ∷ (tyInt w64, l₁₆) ∷ (tyInt w64, l₁₇) ∷ (tyArray (lEntry.mir) 64, l₁₈) ∷ (tyInt w64, l₁₉) ∷ (tyInt w64, l₂₀) ∷ (tyArray (lEntry.mir) 64, l₂₁) ∷ (tyInt w64, l₂₂) ∷ (tyInt w64, l₂₃) ∷ (tyArray (lEntry.mir) 64, l₂₄) ∷ (sliceTy (tyRef (named 6) imm (tyInt w64)), l₂₅) ∷ (sliceTy (tyRef (named 7) imm (tyInt w64)), l₂₆) ∷ (tyInt w64, l₂₇) ∷ (tyInt w64, l₂₈) ∷ (tyInt w64, l₂₉) ∷ (tyArray (lEntry.mir) 64, l₃₀) ∷ (tyArray (lEntry.mir) 64, l₃₁) ∷ (tyArray (lEntry.mir) 64, l₃₂) ∷ (lTranscript.mir, l₃₃) ∷ (tyInt w32, l₃₄) ∷ (tyRef erased mut (pointee (mTranscript.the-row .written)), l₃₅) ∷ (tyRef erased mut (tyInt w64), l₃₆) ∷ (sliceTy (tyRef erased mut (tyInt w64)), l₃₇) ∷ (tyRef erased mut (tyInt w64), l₃₈) ∷ (sliceTy (tyRef erased mut (tyInt w64)), l₃₉) ∷ (tyRef erased imm (pointee ((Array mEntry.the-row 64) .written)), l₄₀) ∷ (sliceTy (tyRef erased imm (pointee (mEntry.the-row .written))), l₄₁) ∷ (tyRef erased imm (pointee ((Array mEntry.the-row 64) .written)), l₄₂) ∷ (sliceTy (tyRef erased imm (pointee (mEntry.the-row .written))), l₄₃) ∷ (tyRef erased imm (pointee ((Array mEntry.the-row 64) .written)), l₄₄) ∷ (sliceTy (tyRef erased imm (pointee (mEntry.the-row .written))), l₄₅) ∷ (lTranscript.mir, l₄₆) ∷ []) (kept _ ∷ kept _ ∷ kept _ ∷ kept _ ∷ kept _ ∷ kept _ ∷ kept _ ∷ kept _ ∷ kept _ ∷ kept _ ∷ kept _ ∷ kept _ ∷ kept _ ∷ kept _ ∷ kept _ ∷ kept _ ∷ kept _ ∷ kept _ ∷ kept _ ∷ kept _ ∷ kept _ ∷ kept _ ∷ kept _ ∷ kept _ ∷ kept _ ∷ kept _ ∷ kept _ ∷ kept _ ∷ kept _ ∷ kept _ ∷ kept _ ∷ kept _ ∷ kept _ ∷ kept _ ∷ kept _ ∷ kept _ ∷ kept _ ∷ kept _ ∷ kept _ ∷ kept _ ∷ kept _ ∷ kept _ ∷ kept _ ∷ kept _ ∷ kept _ ∷ kept _ ∷ kept _ ∷ []) refl $ 
-        suffices ! _ (ends-at 𝓤 H A f.ended stayed (f.clauses 𝓤 H A at-mem run) W (((κ₀, (κ₁, (κ₂, (κ₃, (κ₄, (κ₅, (κ₆, (κ₇, tt)))))))), (q₀, (q₁, (q₂, (q₃, (q₄, (q₅, (q₆, (q₇, tt)))))))), tt, a, at), tt) z2 r2 (tt, (ws1 .1 .0, (ws1 .1 .1 .0, (tt, (tt, (tt, (tt, (tt, (tt, (tt, (tt, (tt, (tt, (tt, (tt, (tt, (tt, (tt, (tt, (tt, (tt, (tt, (tt, (tt, (tt, (tt, (tt, (tt, (tt, tt))))))))))))))))))))))))))))) (tt, (same1b, (same1c, (tt, (tt, (tt, (tt, (tt, (tt, (tt, (tt, (tt, (tt, (tt, (tt, (tt, (tt, (tt, (tt, (tt, (tt, (tt, (tt, (tt, (tt, (tt, (tt, (tt, (tt, tt)))))))))))))))))))))))))))))) $ says ! (rw (e2 .0, e2 .1) e1) $ 
+        use1 W (raw (Callee-g2 𝓤 H A at-mem run .pre ((tt, tt, tt, (r1, ((ws1 .0), tt)), (z1 ∷ [], ((LL.val mTranscript.the-type lTranscript.the-laws ((ws1 .0))) ∷ [], tt))), tt))) (qed W ((‵ ftrue) ∷ []) ∵ nothing ! $ owned ! mTranscript.the-row (Is mTranscript.the-row) (LL.makes mTranscript.the-type lTranscript.the-plain 𝓤 H A) ((ws1 .0)) _ w1a $ fjoin ! $ owned ! u32 (Is u32) (uint-makes 𝓤 H A W w32) (r1) _ i1 $ fjoin ! $ move ! (1 ∷ 0 ∷ []) $ join ! $ nothing ! $ move ! (1 ∷ 0 ∷ []) $ frame ! $ done !) $
+        calls-at ! fm (Callee-g2 𝓤 H A at-mem run) known-g2 ((tt, tt, tt, (r1, ((ws1 .0), tt)), (z1 ∷ [], ((LL.val mTranscript.the-type lTranscript.the-laws ((ws1 .0))) ∷ [], tt))), tt) (and-then ! (load ! (from ! (stop !)) (look ! 55 refl)) (and-then ! (load ! (from ! (stop !)) (look ! 43 refl)) (no-more !))) (λ z2.
+        use1 W (later (some (λ (r2 : TranscriptAnswer). ((‵ ftrue) ⊛ ‵ (mTranscriptAnswer.the-row .own r2 (z2 ∷ []))) ⊛ some (λ (ws : Lasts g2.ended tt (r1, ((ws1 .0), tt))). ‵ (lasts g2.ended tt (r1, ((ws1 .0), tt)) ws) ⊛ raw (g2.clauses 𝓤 H A at-mem run tt (r1, ((ws1 .0), tt)) .ensures tt r2 (atExit g2.ended tt (r1, ((ws1 .0), tt)) ws)))))) (id⊢ 𝓤 _) $ await ! tt $ pick ! (λ r2. split ! $ move ! (1 ∷ []) $ pick ! (λ ws2. split ! $ move ! (1 ∷ []) $ heard ! _ (λ e2.
+        drop ! $ split ! $ move ! (1 ∷ []) $ peeks ! mTranscriptAnswer.the-row (Is mTranscriptAnswer.the-row) (shows 𝓤 H A mTranscriptAnswer.the-row) r2 (z2 ∷ []) (λ i2. drop ! $ land ! (from ! (stop !)) (init ! 85 refl (LL.lawful mTranscriptAnswer.the-type lTranscriptAnswer.the-laws 𝓤 H A W .typed r2 _ i2 .0)) $
+        tidy W (_ ∷ _ ∷ _ ∷ _ ∷ _ ∷ _ ∷ _ ∷ _ ∷ _ ∷ _ ∷ _ ∷ _ ∷ _ ∷ _ ∷ _ ∷ _ ∷ _ ∷ _ ∷ _ ∷ _ ∷ _ ∷ _ ∷ _ ∷ _ ∷ _ ∷ _ ∷ _ ∷ _ ∷ _ ∷ _ ∷ _ ∷ _ ∷ _ ∷ _ ∷ _ ∷ _ ∷ _ ∷ _ ∷ _ ∷ _ ∷ _ ∷ _ ∷ _ ∷ _ ∷ _ ∷ _ ∷ _ ∷ _ ∷ _ ∷ _ ∷ _ ∷ _ ∷ _ ∷ _ ∷ _ ∷ _ ∷ _ ∷ _ ∷ _ ∷ _ ∷ _ ∷ _ ∷ _ ∷ _ ∷ _ ∷ _ ∷ _ ∷ _ ∷ _ ∷ _ ∷ _ ∷ _ ∷ _ ∷ _ ∷ _ ∷ _ ∷ _ ∷ _ ∷ _ ∷ _ ∷ _ ∷ _ ∷ _ ∷ _ ∷ _ ∷ _ ∷ []) $ drop ! $ tidy W (_ ∷ _ ∷ _ ∷ _ ∷ _ ∷ _ ∷ _ ∷ _ ∷ _ ∷ _ ∷ _ ∷ _ ∷ _ ∷ _ ∷ _ ∷ _ ∷ _ ∷ _ ∷ _ ∷ _ ∷ _ ∷ _ ∷ _ ∷ _ ∷ _ ∷ _ ∷ _ ∷ _ ∷ _ ∷ _ ∷ _ ∷ _ ∷ _ ∷ _ ∷ _ ∷ _ ∷ _ ∷ _ ∷ _ ∷ _ ∷ _ ∷ _ ∷ _ ∷ _ ∷ _ ∷ _ ∷ _ ∷ _ ∷ _ ∷ _ ∷ _ ∷ _ ∷ _ ∷ _ ∷ _ ∷ _ ∷ _ ∷ _ ∷ _ ∷ _ ∷ _ ∷ _ ∷ _ ∷ _ ∷ _ ∷ _ ∷ _ ∷ _ ∷ _ ∷ _ ∷ _ ∷ _ ∷ _ ∷ _ ∷ _ ∷ _ ∷ _ ∷ _ ∷ _ ∷ _ ∷ _ ∷ _ ∷ _ ∷ _ ∷ _ ∷ []) $ returns ! (look ! 84 refl) $ move ! (3 ∷ 4 ∷ 5 ∷ 6 ∷ 8 ∷ 9 ∷ 10 ∷ 11 ∷ 12 ∷ 13 ∷ 14 ∷ 15 ∷ 16 ∷ 17 ∷ 18 ∷ 19 ∷ 20 ∷ 21 ∷ 22 ∷ 23 ∷ 24 ∷ 25 ∷ 26 ∷ 27 ∷ 28 ∷ 29 ∷ 30 ∷ 31 ∷ 32 ∷ 33 ∷ 34 ∷ 35 ∷ 36 ∷ 37 ∷ 38 ∷ 39 ∷ 40 ∷ 41 ∷ 42 ∷ 43 ∷ 44 ∷ 45 ∷ 46 ∷ 47 ∷ 48 ∷ 49 ∷ 50 ∷ 51 ∷ 52 ∷ 53 ∷ 54 ∷ 7 ∷ 0 ∷ 1 ∷ 2 ∷ 55 ∷ 56 ∷ 57 ∷ 58 ∷ 59 ∷ 60 ∷ 61 ∷ 62 ∷ 63 ∷ 64 ∷ 65 ∷ 66 ∷ 67 ∷ 68 ∷ 69 ∷ 70 ∷ 71 ∷ 72 ∷ 73 ∷ 74 ∷ 75 ∷ 76 ∷ 77 ∷ 78 ∷ 79 ∷ 80 ∷ 81 ∷ 82 ∷ 83 ∷ 84 ∷ []) $ move ! (37 ∷ []) $ use1 W (dies ((lTranscriptAnswer.mir, l₀) ∷ (lTranscript.mir, l₁) ∷ (sliceTy (tyRef (named 0) mut (tyInt w64)), l₂) ∷ (sliceTy (tyRef (named 1) mut (tyInt w64)), l₃) ∷ (tyInt w64, l₄) ∷ (tyInt w64, l₅) ∷ (sliceTy (tyRef (named 2) imm (tyInt w64)), l₆) ∷ (tyInt w64, l₇) ∷ (tyInt w64, l₈) ∷ (sliceTy (tyRef (named 3) imm (pointee (mEntry.the-row .written))), l₉) ∷ (tyInt w64, l₁₀) ∷ (tyInt w64, l₁₁) ∷ (sliceTy (tyRef (named 4) imm (pointee (mEntry.the-row .written))), l₁₂) ∷ (tyInt w64, l₁₃) ∷ (tyInt w64, l₁₄) ∷ (sliceTy (tyRef (named 5) imm (pointee (mEntry.the-row .written))), l₁₅) ∷ (tyInt w64, l₁₆) ∷ (tyInt w64, l₁₇) ∷ (tyArray (lEntry.mir) 64, l₁₈) ∷ (tyInt w64, l₁₉) ∷ (tyInt w64, l₂₀) ∷ (tyArray (lEntry.mir) 64, l₂₁) ∷ (tyInt w64, l₂₂) ∷ (tyInt w64, l₂₃) ∷ (tyArray (lEntry.mir) 64, l₂₄) ∷ (sliceTy (tyRef (named 6) imm (tyInt w64)), l₂₅) ∷ (sliceTy (tyRef (named 7) imm (tyInt w64)), l₂₆) ∷ (tyInt w64, l₂₇) ∷ (tyInt w64, l₂₈) ∷ (tyInt w64, l₂₉) ∷ (tyArray (lEntry.mir) 64, l₃₀) ∷ (tyArray (lEntry.mir) 64, l₃₁) ∷ (tyArray (lEntry.mir) 64, l₃₂) ∷ (lTranscript.mir, l₃₃) ∷ (tyInt w32, l₃₄) ∷ (tyRef erased mut (pointee (mTranscript.the-row .written)), l₃₅) ∷ (tyRef erased mut (tyInt w64), l₃₆) ∷ (sliceTy (tyRef erased mut (tyInt w64)), l₃₇) ∷ (tyRef erased mut (tyInt w64), l₃₈) ∷ (sliceTy (tyRef erased mut (tyInt w64)), l₃₉) ∷ (tyRef erased imm (pointee ((Array mEntry.the-row 64) .written)), l₄₀) ∷ (sliceTy (tyRef erased imm (pointee (mEntry.the-row .written))), l₄₁) ∷ (tyRef erased imm (pointee ((Array mEntry.the-row 64) .written)), l₄₂) ∷ (sliceTy (tyRef erased imm (pointee (mEntry.the-row .written))), l₄₃) ∷ (tyRef erased imm (pointee ((Array mEntry.the-row 64) .written)), l₄₄) ∷ (sliceTy (tyRef erased imm (pointee (mEntry.the-row .written))), l₄₅) ∷ (lTranscript.mir, l₄₆) ∷ []) (‵ ftrue)) die $ free-all ! 37 ((lTranscriptAnswer.mir, l₀) ∷ (lTranscript.mir, l₁) ∷ (sliceTy (tyRef (named 0) mut (tyInt w64)), l₂) ∷ (sliceTy (tyRef (named 1) mut (tyInt w64)), l₃) ∷ (tyInt w64, l₄) ∷ (tyInt w64, l₅) ∷ (sliceTy (tyRef (named 2) imm (tyInt w64)), l₆) ∷ (tyInt w64, l₇) ∷ (tyInt w64, l₈) ∷ (sliceTy (tyRef (named 3) imm (pointee (mEntry.the-row .written))), l₉) ∷ (tyInt w64, l₁₀) ∷ (tyInt w64, l₁₁) ∷ (sliceTy (tyRef (named 4) imm (pointee (mEntry.the-row .written))), l₁₂) ∷ (tyInt w64, l₁₃) ∷ (tyInt w64, l₁₄) ∷ (sliceTy (tyRef (named 5) imm (pointee (mEntry.the-row .written))), l₁₅) ∷ (tyInt w64, l₁₆) ∷ (tyInt w64, l₁₇) ∷ (tyArray (lEntry.mir) 64, l₁₈) ∷ (tyInt w64, l₁₉) ∷ (tyInt w64, l₂₀) ∷ (tyArray (lEntry.mir) 64, l₂₁) ∷ (tyInt w64, l₂₂) ∷ (tyInt w64, l₂₃) ∷ (tyArray (lEntry.mir) 64, l₂₄) ∷ (sliceTy (tyRef (named 6) imm (tyInt w64)), l₂₅) ∷ (sliceTy (tyRef (named 7) imm (tyInt w64)), l₂₆) ∷ (tyInt w64, l₂₇) ∷ (tyInt w64, l₂₈) ∷ (tyInt w64, l₂₉) ∷ (tyArray (lEntry.mir) 64, l₃₀) ∷ (tyArray (lEntry.mir) 64, l₃₁) ∷ (tyArray (lEntry.mir) 64, l₃₂) ∷ (lTranscript.mir, l₃₃) ∷ (tyInt w32, l₃₄) ∷ (tyRef erased mut (pointee (mTranscript.the-row .written)), l₃₅) ∷ (tyRef erased mut (tyInt w64), l₃₆) ∷ (sliceTy (tyRef erased mut (tyInt w64)), l₃₇) ∷ (tyRef erased mut (tyInt w64), l₃₈) ∷ (sliceTy (tyRef erased mut (tyInt w64)), l₃₉) ∷ (tyRef erased imm (pointee ((Array mEntry.the-row 64) .written)), l₄₀) ∷ (sliceTy (tyRef erased imm (pointee (mEntry.the-row .written))), l₄₁) ∷ (tyRef erased imm (pointee ((Array mEntry.the-row 64) .written)), l₄₂) ∷ (sliceTy (tyRef erased imm (pointee (mEntry.the-row .written))), l₄₃) ∷ (tyRef erased imm (pointee ((Array mEntry.the-row 64) .written)), l₄₄) ∷ (sliceTy (tyRef erased imm (pointee (mEntry.the-row .written))), l₄₅) ∷ (lTranscript.mir, l₄₆) ∷ []) (kept _ ∷ kept _ ∷ kept _ ∷ kept _ ∷ kept _ ∷ kept _ ∷ kept _ ∷ kept _ ∷ kept _ ∷ kept _ ∷ kept _ ∷ kept _ ∷ kept _ ∷ kept _ ∷ kept _ ∷ kept _ ∷ kept _ ∷ kept _ ∷ kept _ ∷ kept _ ∷ kept _ ∷ kept _ ∷ kept _ ∷ kept _ ∷ kept _ ∷ kept _ ∷ kept _ ∷ kept _ ∷ kept _ ∷ kept _ ∷ kept _ ∷ kept _ ∷ kept _ ∷ kept _ ∷ kept _ ∷ kept _ ∷ kept _ ∷ kept _ ∷ kept _ ∷ kept _ ∷ kept _ ∷ kept _ ∷ kept _ ∷ kept _ ∷ kept _ ∷ kept _ ∷ kept _ ∷ []) refl $
+        suffices ! _ (ends-at 𝓤 H A f.ended stayed (f.clauses 𝓤 H A at-mem run) W (((κ₀, (κ₁, (κ₂, (κ₃, (κ₄, (κ₅, (κ₆, (κ₇, tt)))))))), (q₀, (q₁, (q₂, (q₃, (q₄, (q₅, (q₆, (q₇, tt)))))))), tt, a, at), tt) z2 r2 (tt, (ws1 .1 .0, (ws1 .1 .1 .0, (tt, (tt, (tt, (tt, (tt, (tt, (tt, (tt, (tt, (tt, (tt, (tt, (tt, (tt, (tt, (tt, (tt, (tt, (tt, (tt, (tt, (tt, (tt, (tt, (tt, (tt, tt))))))))))))))))))))))))))))) (tt, (same1b, (same1c, (tt, (tt, (tt, (tt, (tt, (tt, (tt, (tt, (tt, (tt, (tt, (tt, (tt, (tt, (tt, (tt, (tt, (tt, (tt, (tt, (tt, (tt, (tt, (tt, (tt, (tt, tt)))))))))))))))))))))))))))))) $ says ! (rw (e2 .0, e2 .1) e1) $
         nothing ! $ move ! (5 ∷ 0 ∷ []) $ join ! $ move ! (5 ∷ 0 ∷ []) $ join ! $ move ! (5 ∷ 0 ∷ []) $ join ! $ move ! (5 ∷ 0 ∷ []) $ join ! $ move ! (5 ∷ 0 ∷ []) $ join ! $ move ! (5 ∷ 0 ∷ []) $ join ! $ move ! (2 ∷ 0 ∷ []) $ join ! $ move ! (3 ∷ 0 ∷ []) $ join ! $ nothing ! $ move ! (10 ∷ 0 ∷ []) $ fjoin ! $ move ! (10 ∷ 0 ∷ []) $ fjoin ! $ move ! (10 ∷ 0 ∷ []) $ fjoin ! $ move ! (4 ∷ 0 ∷ []) $ fjoin ! $ move ! (4 ∷ 0 ∷ []) $ fjoin ! $ move ! (8 ∷ 0 ∷ []) $ fjoin ! $ move ! (8 ∷ 0 ∷ []) $ fjoin ! $ move ! (8 ∷ 0 ∷ []) $ fjoin ! $ move ! (8 ∷ 0 ∷ []) $ fjoin ! $ move ! (8 ∷ 0 ∷ []) $ fjoin ! $ move ! (8 ∷ 0 ∷ []) $ fjoin ! $ move ! (8 ∷ 0 ∷ []) $ fjoin ! $ move ! (8 ∷ 0 ∷ []) $ fjoin ! $ move ! (8 ∷ 0 ∷ []) $ fjoin ! $ move ! (4 ∷ 0 ∷ []) $ fjoin ! $ move ! (7 ∷ 0 ∷ []) $ fjoin ! $ move ! (7 ∷ 0 ∷ []) $ fjoin ! $ move ! (4 ∷ 0 ∷ []) $ fjoin ! $ move ! (6 ∷ 0 ∷ []) $ fjoin ! $ move ! (6 ∷ 0 ∷ []) $ fjoin ! $ move ! (4 ∷ 0 ∷ []) $ fjoin ! $ move ! (5 ∷ 0 ∷ []) $ fjoin ! $ move ! (5 ∷ 0 ∷ []) $ fjoin ! $ move ! (4 ∷ 0 ∷ []) $ fjoin ! $ move ! (4 ∷ 0 ∷ []) $ fjoin ! $ move ! (4 ∷ 0 ∷ []) $ fjoin ! $ move ! (2 ∷ 0 ∷ []) $ fjoin ! $ move ! (2 ∷ 0 ∷ []) $ fjoin ! $ move ! (2 ∷ 0 ∷ []) $ fjoin ! $ keep ! (1 ∷ 0 ∷ []) $ frame ! $ frame ! $ owned ! mTranscriptAnswer.the-row (Is mTranscriptAnswer.the-row) (LL.makes mTranscriptAnswer.the-type lTranscriptAnswer.the-plain 𝓤 H A) r2 _ i2 $ done !)))))))))))))))))))))))))))))))))))))))))))))))))))))))))))))))))))))))))))))))))))
 
 module _ {M : Type 1} (𝓤 : URA M) (H : Heap 𝓤) (A : Atoms 𝓤) (W : Given 𝓤 H A) (mem : Memory → SProp 𝓤) (run : Routine → Fun 𝓤) where

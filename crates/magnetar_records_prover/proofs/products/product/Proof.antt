@@ -20,7 +20,7 @@ use contract.Monad.{Fun, fact}
 use contract.Running.{givenOf, tables, tablesOf}
 use types.Kit.{Given, ‵, raw, _⊛_, ⋆, some, later, _$_, _∵_, !, qed, by, move, keep, drop, use1, use2, use3, split, join, pick, fsplit, fsplit3, fjoin, fjoin3, feqL, feqI, rewrite, atRet, suffices, frame, await, done}
 use types.Part.{agg, whole, sub, look-in}
-use types.Run.{look, look-raw, init, store, store-raw, forget, stop, hop, fld, from, load, unit-lit, of-opd, addr, and-then, no-more, lit, true-lit, false-lit, assigns, assigns-last, land, land-last, first, branches, skips, exec, returns, enter, alloc1, alloc0, params1, pass1, pass0, free1, free0}
+use types.Run.{look, look-raw, init, store, store-raw, stop, hop, fld, from, load, unit-lit, of-opd, addr, and-then, no-more, lit, true-lit, false-lit, assigns, assigns-last, land, land-last, first, branches, skips, exec, returns, enter, alloc0, params1, pass1, pass0}
 use types.Tokens.{lft-new, lft-end}
 use sound.WpLaws.{FmC, fmOf, WpFn-mono}
 use denote.RattleType.{owns}
@@ -51,6 +51,7 @@ use Rattle.magnetar_inplace.proofs.records.Entry.Laws as lEntry
 use Rattle.magnetar_r1cs.specs.declared.r1cs.Flag.{Flag}
 use Rattle.magnetar_r1cs.proofs.r1cs.Flag as mFlag
 use Rattle.magnetar_r1cs.proofs.r1cs.Flag.Laws as lFlag
+use Rattle.magnetar_inplace.proofs.Locals.{tidy, bare, kept, dies, alloc, hide, free-all}
 use Rattle.magnetar_inplace.proofs.Again.{LentAgain, lends-again, comes-back}
 use Rattle.magnetar_records_prover.proofs.products.half as g1
 use Rattle.magnetar_records_prover.proofs.products.half.Symbol as g1-def
@@ -168,38 +169,37 @@ module _ {M : Type 1} (𝓤 : URA M) (H : Heap 𝓤) (A : Atoms 𝓤) (W : Given
     walk : ent 𝓤 (onEntry 𝓤 H A f.signature (κ₀, (κ₁, (κ₂, (κ₃, tt)))) (q₀, (q₁, (q₂, (q₃, tt)))) a at) (WpFn 𝓤 H C Λ code.function (v1 ∷ v2 ∷ v3 ∷ v4 ∷ v5 ∷ v6 ∷ v7 ∷ v8 ∷ v9 ∷ v10 ∷ []) Post)
     walk =
         qed W ((‵ (flft κ₀ q₀) ⊛ ‵ (flft κ₁ q₁) ⊛ ‵ (flft κ₂ q₂) ⊛ ‵ (flft κ₃ q₃) ⊛ ‵ ftrue) ∷ ‵ (owns (MutSlice (named 0) κ₀ u64 ∷ u64 ∷ u64 ∷ u64 ∷ u64 ∷ u64 ∷ u64 ∷ ShrSlice (named 1) κ₁ mEntry.the-row ∷ ShrSlice (named 2) κ₂ u64 ∷ ShrSlice (named 3) κ₃ u64 ∷ []) a at) ∷ []) ∵ enter ! C Λ code.function (v1 ∷ v2 ∷ v3 ∷ v4 ∷ v5 ∷ v6 ∷ v7 ∷ v8 ∷ v9 ∷ v10 ∷ []) _ $
-        alloc1 ! (λ l₀. alloc1 ! (λ l₁. alloc1 ! (λ l₂. alloc1 ! (λ l₃. alloc1 ! (λ l₄. alloc1 ! (λ l₅. alloc1 ! (λ l₆. alloc1 ! (λ l₇. alloc1 ! (λ l₈. alloc1 ! (λ l₉. alloc1 ! (λ l₁₀. alloc1 ! (λ l₁₁. alloc1 ! (λ l₁₂. alloc1 ! (λ l₁₃. alloc1 ! (λ l₁₄. alloc1 ! (λ l₁₅. alloc1 ! (λ l₁₆. alloc1 ! (λ l₁₇. alloc0 ! $ params1 ! $ pass1 ! (init ! 32 refl (tt, (tt, (record { fits = room1 .0 }, tt)))) $ pass1 ! (init ! 30 refl (uint-lawful 𝓤 H A W w64 .typed n2 _ w2 .0)) $ pass1 ! (init ! 28 refl (uint-lawful 𝓤 H A W w64 .typed n3 _ w3 .0)) $ pass1 ! (init ! 26 refl (uint-lawful 𝓤 H A W w64 .typed n4 _ w4 .0)) $ pass1 ! (init ! 24 refl (uint-lawful 𝓤 H A W w64 .typed n5 _ w5 .0)) $ pass1 ! (init ! 22 refl (uint-lawful 𝓤 H A W w64 .typed n6 _ w6 .0)) $ pass1 ! (init ! 20 refl (uint-lawful 𝓤 H A W w64 .typed n7 _ w7 .0)) $ pass1 ! (init ! 18 refl (shr-slice-lawful 𝓤 H A W (named 1) κ₁ mEntry.the-row .typed s8 (v8 ∷ []) w8 .0)) $ pass1 ! (init ! 16 refl (shr-slice-lawful 𝓤 H A W (named 2) κ₂ u64 .typed s9 (v9 ∷ []) w9 .0)) $ pass1 ! (init ! 14 refl (shr-slice-lawful 𝓤 H A W (named 3) κ₃ u64 .typed s10 (v10 ∷ []) w10 .0)) $ pass0 ! $
-        move ! (37 ∷ []) $ fsplit ! $ move ! (1 ∷ []) $ fsplit ! $ move ! (1 ∷ []) $ fsplit ! $ move ! (1 ∷ []) $ fsplit ! $ move ! (1 ∷ []) $ fsplit ! $ move ! (1 ∷ []) $ fsplit ! $ move ! (1 ∷ []) $ fsplit ! $ move ! (1 ∷ []) $ fsplit ! $ move ! (1 ∷ []) $ fsplit ! $ move ! (1 ∷ []) $ fsplit ! $ move ! (1 ∷ []) $ move ! (47 ∷ []) $ split ! $ move ! (1 ∷ []) $ split ! $ move ! (1 ∷ []) $ split ! $ move ! (1 ∷ []) $ split ! $ move ! (1 ∷ []) $
-        nothing ! $
+        nothing ! $ alloc ! (λ l₀. alloc ! (λ l₁. alloc ! (λ l₂. alloc ! (λ l₃. alloc ! (λ l₄. alloc ! (λ l₅. alloc ! (λ l₆. alloc ! (λ l₇. alloc ! (λ l₈. alloc ! (λ l₉. alloc ! (λ l₁₀. alloc ! (λ l₁₁. alloc ! (λ l₁₂. alloc ! (λ l₁₃. alloc ! (λ l₁₄. alloc ! (λ l₁₅. alloc ! (λ l₁₆. alloc ! (λ l₁₇. alloc0 ! $ hide ! (λ died die. params1 ! $ pass1 ! (init ! 17 refl (tt, (tt, (record { fits = room1 .0 }, tt)))) $ pass1 ! (init ! 16 refl (uint-lawful 𝓤 H A W w64 .typed n2 _ w2 .0)) $ pass1 ! (init ! 15 refl (uint-lawful 𝓤 H A W w64 .typed n3 _ w3 .0)) $ pass1 ! (init ! 14 refl (uint-lawful 𝓤 H A W w64 .typed n4 _ w4 .0)) $ pass1 ! (init ! 13 refl (uint-lawful 𝓤 H A W w64 .typed n5 _ w5 .0)) $ pass1 ! (init ! 12 refl (uint-lawful 𝓤 H A W w64 .typed n6 _ w6 .0)) $ pass1 ! (init ! 11 refl (uint-lawful 𝓤 H A W w64 .typed n7 _ w7 .0)) $ pass1 ! (init ! 10 refl (shr-slice-lawful 𝓤 H A W (named 1) κ₁ mEntry.the-row .typed s8 (v8 ∷ []) w8 .0)) $ pass1 ! (init ! 9 refl (shr-slice-lawful 𝓤 H A W (named 2) κ₂ u64 .typed s9 (v9 ∷ []) w9 .0)) $ pass1 ! (init ! 8 refl (shr-slice-lawful 𝓤 H A W (named 3) κ₃ u64 .typed s10 (v10 ∷ []) w10 .0)) $ pass0 ! $
+        move ! (20 ∷ []) $ fsplit ! $ move ! (1 ∷ []) $ fsplit ! $ move ! (1 ∷ []) $ fsplit ! $ move ! (1 ∷ []) $ fsplit ! $ move ! (1 ∷ []) $ fsplit ! $ move ! (1 ∷ []) $ fsplit ! $ move ! (1 ∷ []) $ fsplit ! $ move ! (1 ∷ []) $ fsplit ! $ move ! (1 ∷ []) $ fsplit ! $ move ! (1 ∷ []) $ fsplit ! $ move ! (1 ∷ []) $ drop ! $ move ! (29 ∷ []) $ split ! $ move ! (1 ∷ []) $ split ! $ move ! (1 ∷ []) $ split ! $ move ! (1 ∷ []) $ split ! $ move ! (1 ∷ []) $ drop ! $ tidy W (_ ∷ _ ∷ _ ∷ _ ∷ _ ∷ _ ∷ _ ∷ _ ∷ _ ∷ _ ∷ _ ∷ _ ∷ _ ∷ _ ∷ _ ∷ _ ∷ _ ∷ _ ∷ _ ∷ _ ∷ _ ∷ _ ∷ _ ∷ _ ∷ _ ∷ _ ∷ _ ∷ _ ∷ _ ∷ _ ∷ _ ∷ _ ∷ _ ∷ []) $
+        tidy W (_ ∷ _ ∷ _ ∷ _ ∷ _ ∷ _ ∷ _ ∷ _ ∷ _ ∷ _ ∷ _ ∷ _ ∷ _ ∷ _ ∷ _ ∷ _ ∷ _ ∷ _ ∷ _ ∷ _ ∷ _ ∷ _ ∷ _ ∷ _ ∷ _ ∷ _ ∷ _ ∷ _ ∷ _ ∷ _ ∷ _ ∷ _ ∷ _ ∷ []) $ nothing ! $
         -- call 1
         use1 W (raw (Callee-g1 𝓤 H A at-mem run .pre ((tt, tt, tt, (n4, tt), (u4 ∷ [], tt)), tt))) (qed W ((‵ ftrue) ∷ []) ∵ nothing ! $ owned ! u64 (Is u64) (uint-makes 𝓤 H A W w64) (n4) _ w4 $ fjoin ! $ move ! (1 ∷ 0 ∷ []) $ join ! $ nothing ! $ move ! (1 ∷ 0 ∷ []) $ frame ! $ done !) $
-        calls-at ! fm (Callee-g1 𝓤 H A at-mem run) known-g1 ((tt, tt, tt, (n4, tt), (u4 ∷ [], tt)), tt) (and-then ! (load ! (from ! (stop !)) (look ! 43 refl)) (no-more !)) (λ z1.
+        calls-at ! fm (Callee-g1 𝓤 H A at-mem run) known-g1 ((tt, tt, tt, (n4, tt), (u4 ∷ [], tt)), tt) (and-then ! (load ! (from ! (stop !)) (look ! 29 refl)) (no-more !)) (λ z1.
         use1 W (later (some (λ (r1 : ℕ). ((‵ ftrue) ⊛ ‵ (u64 .own r1 (z1 ∷ []))) ⊛ some (λ (ws : Lasts g1.ended tt (n4, tt)). ‵ (lasts g1.ended tt (n4, tt) ws) ⊛ raw (g1.clauses 𝓤 H A at-mem run tt (n4, tt) .ensures tt r1 (atExit g1.ended tt (n4, tt) ws)))))) (id⊢ 𝓤 _) $ await ! tt $ pick ! (λ r1. split ! $ move ! (1 ∷ []) $ pick ! (λ ws1. split ! $ move ! (1 ∷ []) $ heard ! _ (λ e1.
-        fsplit ! $ move ! (2 ∷ []) $ split ! $ move ! (1 ∷ []) $ peeks ! u64 (Is u64) (shows 𝓤 H A u64) r1 (z1 ∷ []) (λ i1. drop ! $ land ! (from ! (stop !)) (init ! 31 refl (uint-lawful 𝓤 H A W w64 .typed r1 _ i1 .0)) $
-        assigns ! (addr ! (from ! (fld ! refl (hop ! (look-in ! 51 (sub ! 0 refl (whole !))) (stop !))))) (from ! (stop !)) (init ! 27 refl (tt, tt)) $
-        assigns ! (agg ! (and-then ! (load ! (from ! (stop !)) (look ! 27 refl)) (and-then ! (load ! (from ! (fld ! refl (stop !))) (look-in ! 51 (sub ! 1 refl (whole !)))) (no-more !)))) (from ! (stop !)) (init ! 25 refl (tt, (tt, (record { fits = room1 .0 }, tt)))) $
-        move ! (11 ∷ []) $ use1 W (‵ (O8) ⊛ ‵ (O8)) (shr-slice-copy 𝓤 H A W (named 1) κ₁ mEntry.the-row .twice s8 (v8 ∷ [])) $ split ! $ move ! (12 ∷ []) $ use1 W (‵ (O9) ⊛ ‵ (O9)) (shr-slice-copy 𝓤 H A W (named 2) κ₂ u64 .twice s9 (v9 ∷ [])) $ split ! $ move ! (13 ∷ []) $ use1 W (‵ (O10) ⊛ ‵ (O10)) (shr-slice-copy 𝓤 H A W (named 3) κ₃ u64 .twice s10 (v10 ∷ [])) $ split ! $
-        lft-new ! tt (λ ν2h. move ! (22 ∷ 14 ∷ []) $ use2 W (later (some (λ (δ : GName). ‵ (MutSlice (named 3) (ν2h ∷ []) u64 .own (ref1 δ (ys1)) (v1 ∷ [])) ⊛ ‵ (Lent1 ν2h δ (ys1))))) (lends1 (named 3) ν2h (ys1) (refl)) $ await ! tt $ pick ! (λ δ2h. split ! $ nothing ! $ move ! (3 ∷ 0 ∷ []) $ join ! $ move ! (13 ∷ 0 ∷ []) $ join ! $ move ! (13 ∷ 0 ∷ []) $ join ! $ move ! (13 ∷ 0 ∷ []) $ join ! $ move ! (3 ∷ 1 ∷ []) $ join ! $ move ! (4 ∷ 0 ∷ []) $ join ! $ move ! (5 ∷ 0 ∷ []) $ join ! $ move ! (1 ∷ 0 ∷ []) $ join ! $
+        drop ! $ split ! $ move ! (1 ∷ []) $ peeks ! u64 (Is u64) (shows 𝓤 H A u64) r1 (z1 ∷ []) (λ i1. drop ! $ land ! (from ! (stop !)) (init ! 22 refl (uint-lawful 𝓤 H A W w64 .typed r1 _ i1 .0)) $
+        tidy W (_ ∷ _ ∷ _ ∷ _ ∷ _ ∷ _ ∷ _ ∷ _ ∷ _ ∷ _ ∷ _ ∷ _ ∷ _ ∷ _ ∷ _ ∷ _ ∷ _ ∷ _ ∷ _ ∷ _ ∷ _ ∷ _ ∷ _ ∷ _ ∷ _ ∷ _ ∷ _ ∷ _ ∷ _ ∷ _ ∷ _ ∷ _ ∷ _ ∷ _ ∷ []) $ drop ! $ assigns ! (addr ! (from ! (fld ! refl (hop ! (look-in ! 31 (sub ! 0 refl (whole !))) (stop !))))) (from ! (stop !)) (init ! 19 refl (tt, tt)) $
+        assigns ! (agg ! (and-then ! (load ! (from ! (stop !)) (look ! 19 refl)) (and-then ! (load ! (from ! (fld ! refl (stop !))) (look-in ! 31 (sub ! 1 refl (whole !)))) (no-more !)))) (from ! (stop !)) (init ! 18 refl (tt, (tt, (record { fits = room1 .0 }, tt)))) $
+        move ! (6 ∷ []) $ use1 W (‵ (O8) ⊛ ‵ (O8)) (shr-slice-copy 𝓤 H A W (named 1) κ₁ mEntry.the-row .twice s8 (v8 ∷ [])) $ split ! $ move ! (7 ∷ []) $ use1 W (‵ (O9) ⊛ ‵ (O9)) (shr-slice-copy 𝓤 H A W (named 2) κ₂ u64 .twice s9 (v9 ∷ [])) $ split ! $ move ! (8 ∷ []) $ use1 W (‵ (O10) ⊛ ‵ (O10)) (shr-slice-copy 𝓤 H A W (named 3) κ₃ u64 .twice s10 (v10 ∷ [])) $ split ! $
+        lft-new ! tt (λ ν2h. move ! (17 ∷ 10 ∷ []) $ use2 W (later (some (λ (δ : GName). ‵ (MutSlice (named 3) (ν2h ∷ []) u64 .own (ref1 δ (ys1)) (v1 ∷ [])) ⊛ ‵ (Lent1 ν2h δ (ys1))))) (lends1 (named 3) ν2h (ys1) (refl)) $ await ! tt $ pick ! (λ δ2h. split ! $ tidy W (_ ∷ _ ∷ _ ∷ _ ∷ _ ∷ _ ∷ _ ∷ _ ∷ _ ∷ _ ∷ _ ∷ _ ∷ _ ∷ _ ∷ _ ∷ _ ∷ _ ∷ _ ∷ _ ∷ _ ∷ _ ∷ _ ∷ _ ∷ _ ∷ _ ∷ _ ∷ _ ∷ _ ∷ _ ∷ _ ∷ _ ∷ _ ∷ _ ∷ _ ∷ _ ∷ _ ∷ _ ∷ []) $ nothing ! $ move ! (3 ∷ 0 ∷ []) $ join ! $ move ! (9 ∷ 0 ∷ []) $ join ! $ move ! (9 ∷ 0 ∷ []) $ join ! $ move ! (9 ∷ 0 ∷ []) $ join ! $ move ! (3 ∷ 1 ∷ []) $ join ! $ move ! (4 ∷ 0 ∷ []) $ join ! $ move ! (5 ∷ 0 ∷ []) $ join ! $ move ! (1 ∷ 0 ∷ []) $ join ! $
         -- call 2
         use1 W (raw (Callee-g2 𝓤 H A at-mem run .pre (((κ₁, (κ₂, (κ₃, ((ν2h ∷ []), tt)))), (q₁, (q₂, (q₃, (fullShare, tt)))), tt, (n3, (n4, (s8, (s9, (s10, (n5, (r1, (ref1 δ2h (ys1), tt)))))))), (u3 ∷ [], (u4 ∷ [], (v8 ∷ [], (v9 ∷ [], (v10 ∷ [], (u5 ∷ [], (z1 ∷ [], (v1 ∷ [], tt))))))))), tt))) (qed W ((‵ (flft κ₁ q₁) ⊛ ‵ (flft κ₂ q₂) ⊛ ‵ (flft κ₃ q₃) ⊛ ‵ (flft (ν2h ∷ []) fullShare) ⊛ ‵ ftrue) ∷ ‵ (ShrSlice (named 0) κ₁ mEntry.the-row .own s8 (v8 ∷ [])) ∷ ‵ (ShrSlice (named 1) κ₂ u64 .own s9 (v9 ∷ [])) ∷ ‵ (ShrSlice (named 2) κ₃ u64 .own s10 (v10 ∷ [])) ∷ ‵ (MutSlice (named 3) (ν2h ∷ []) u64 .own (ref1 δ2h (ys1)) (v1 ∷ [])) ∷ []) ∵ nothing ! $ move ! (5 ∷ 0 ∷ []) $ fjoin ! $ owned ! u64 (Is u64) (uint-makes 𝓤 H A W w64) (r1) _ i1 $ fjoin ! $ owned ! u64 (Is u64) (uint-makes 𝓤 H A W w64) (n5) _ w5 $ fjoin ! $ move ! (4 ∷ 0 ∷ []) $ fjoin ! $ move ! (3 ∷ 0 ∷ []) $ fjoin ! $ move ! (2 ∷ 0 ∷ []) $ fjoin ! $ owned ! u64 (Is u64) (uint-makes 𝓤 H A W w64) (n4) _ w4 $ fjoin ! $ owned ! u64 (Is u64) (uint-makes 𝓤 H A W w64) (n3) _ w3 $ fjoin ! $ move ! (1 ∷ 0 ∷ []) $ join ! $ nothing ! $ move ! (1 ∷ 0 ∷ []) $ frame ! $ done !) $
-        calls-at ! fm (Callee-g2 𝓤 H A at-mem run) known-g2 (((κ₁, (κ₂, (κ₃, ((ν2h ∷ []), tt)))), (q₁, (q₂, (q₃, (fullShare, tt)))), tt, (n3, (n4, (s8, (s9, (s10, (n5, (r1, (ref1 δ2h (ys1), tt)))))))), (u3 ∷ [], (u4 ∷ [], (v8 ∷ [], (v9 ∷ [], (v10 ∷ [], (u5 ∷ [], (z1 ∷ [], (v1 ∷ [], tt))))))))), tt) (and-then ! (load ! (from ! (stop !)) (look ! 44 refl)) (and-then ! (load ! (from ! (stop !)) (look ! 42 refl)) (and-then ! (load ! (from ! (stop !)) (look ! 34 refl)) (and-then ! (load ! (from ! (stop !)) (look ! 32 refl)) (and-then ! (load ! (from ! (stop !)) (look ! 30 refl)) (and-then ! (load ! (from ! (stop !)) (look ! 40 refl)) (and-then ! (load ! (from ! (stop !)) (look ! 28 refl)) (and-then ! (load ! (from ! (stop !)) (look ! 22 refl)) (no-more !))))))))) (λ z2.
+        calls-at ! fm (Callee-g2 𝓤 H A at-mem run) known-g2 (((κ₁, (κ₂, (κ₃, ((ν2h ∷ []), tt)))), (q₁, (q₂, (q₃, (fullShare, tt)))), tt, (n3, (n4, (s8, (s9, (s10, (n5, (r1, (ref1 δ2h (ys1), tt)))))))), (u3 ∷ [], (u4 ∷ [], (v8 ∷ [], (v9 ∷ [], (v10 ∷ [], (u5 ∷ [], (z1 ∷ [], (v1 ∷ [], tt))))))))), tt) (and-then ! (load ! (from ! (stop !)) (look ! 26 refl)) (and-then ! (load ! (from ! (stop !)) (look ! 25 refl)) (and-then ! (load ! (from ! (stop !)) (look ! 21 refl)) (and-then ! (load ! (from ! (stop !)) (look ! 20 refl)) (and-then ! (load ! (from ! (stop !)) (look ! 19 refl)) (and-then ! (load ! (from ! (stop !)) (look ! 24 refl)) (and-then ! (load ! (from ! (stop !)) (look ! 18 refl)) (and-then ! (load ! (from ! (stop !)) (look ! 15 refl)) (no-more !))))))))) (λ z2.
         use1 W (later (some (λ (r2 : Flag). ((‵ (flft κ₁ q₁) ⊛ ‵ (flft κ₂ q₂) ⊛ ‵ (flft κ₃ q₃) ⊛ ‵ (flft (ν2h ∷ []) fullShare) ⊛ ‵ ftrue) ⊛ ‵ (mFlag.the-row .own r2 (z2 ∷ []))) ⊛ some (λ (ws : Lasts g2.ended (κ₁, (κ₂, (κ₃, ((ν2h ∷ []), tt)))) (n3, (n4, (s8, (s9, (s10, (n5, (r1, (ref1 δ2h (ys1), tt))))))))). ‵ (lasts g2.ended (κ₁, (κ₂, (κ₃, ((ν2h ∷ []), tt)))) (n3, (n4, (s8, (s9, (s10, (n5, (r1, (ref1 δ2h (ys1), tt)))))))) ws) ⊛ raw (g2.clauses 𝓤 H A at-mem run (κ₁, (κ₂, (κ₃, ((ν2h ∷ []), tt)))) (n3, (n4, (s8, (s9, (s10, (n5, (r1, (ref1 δ2h (ys1), tt)))))))) .ensures tt r2 (atExit g2.ended (κ₁, (κ₂, (κ₃, ((ν2h ∷ []), tt)))) (n3, (n4, (s8, (s9, (s10, (n5, (r1, (ref1 δ2h (ys1), tt)))))))) ws)))))) (id⊢ 𝓤 _) $ await ! tt $ pick ! (λ r2. split ! $ move ! (1 ∷ []) $ pick ! (λ ws2. split ! $ move ! (1 ∷ []) $ heard ! _ (λ e2.
-        fsplit ! $ move ! (1 ∷ []) $ fsplit ! $ move ! (1 ∷ []) $ fsplit ! $ move ! (1 ∷ []) $ fsplit ! $ move ! (1 ∷ []) $ fsplit ! $ move ! (1 ∷ []) $ fsplit ! $ move ! (1 ∷ []) $ fsplit ! $ move ! (1 ∷ []) $ fsplit ! $ fsplit ! $ move ! (1 ∷ []) $ feqL ! (λ same2h. move ! (9 ∷ []) $ split ! $ move ! (1 ∷ []) $ peeks ! mFlag.the-row (Is mFlag.the-row) (shows 𝓤 H A mFlag.the-row) r2 (z2 ∷ []) (λ i2. drop ! $ land ! (from ! (stop !)) (init ! 35 refl (EL.lawful mFlag.the-type lFlag.the-laws 𝓤 H A W tt .typed r2 _ i2 .0)) $
-        split ! $ move ! (1 ∷ []) $ split ! $ move ! (1 ∷ []) $ split ! $ move ! (1 ∷ []) $ split ! $ move ! (1 ∷ []) $ move ! (1 ∷ []) $ lft-end ! tt $ move ! (0 ∷ 14 ∷ 5 ∷ []) $ use3 W (later (‵ (O1 (ws2 .1 .1 .1 .1 .1 .1 .1 .0)) ⊛ ‵ (flft κ₀ q₀))) (backs1 (named 3) ν2h δ2h (ys1) (ws2 .1 .1 .1 .1 .1 .1 .1 .0) (refl) room1 same2h) $ await ! tt $ split ! $
-        assigns ! (addr ! (from ! (fld ! refl (hop ! (look-in ! 60 (sub ! 0 refl (whole !))) (stop !))))) (from ! (stop !)) (init ! 30 refl (tt, tt)) $
-        assigns ! (agg ! (and-then ! (load ! (from ! (stop !)) (look ! 30 refl)) (and-then ! (load ! (from ! (fld ! refl (stop !))) (look-in ! 60 (sub ! 1 refl (whole !)))) (no-more !)))) (from ! (stop !)) (init ! 28 refl (tt, (tt, (record { fits = room1 .0 }, tt)))) $
-        lft-new ! tt (λ ν3a. move ! (1 ∷ 2 ∷ []) $ use2 W (later (some (λ (δ : GName). ‵ (MutSlice (named 0) (ν3a ∷ []) u64 .own (ref1 δ (ws2 .1 .1 .1 .1 .1 .1 .1 .0)) (v1 ∷ [])) ⊛ ‵ (Lent1 ν3a δ (ws2 .1 .1 .1 .1 .1 .1 .1 .0))))) (lends1 (named 0) ν3a (ws2 .1 .1 .1 .1 .1 .1 .1 .0) (same2h)) $ await ! tt $ pick ! (λ δ3a. split ! $ nothing ! $ move ! (3 ∷ 0 ∷ []) $ join ! $ join ! $
+        fsplit ! $ drop ! $ fsplit ! $ drop ! $ fsplit ! $ drop ! $ fsplit ! $ drop ! $ fsplit ! $ drop ! $ fsplit ! $ drop ! $ fsplit ! $ drop ! $ fsplit ! $ fsplit ! $ move ! (1 ∷ []) $ feqL ! (λ same2h. move ! (1 ∷ []) $ drop ! $ move ! (1 ∷ []) $ split ! $ move ! (1 ∷ []) $ peeks ! mFlag.the-row (Is mFlag.the-row) (shows 𝓤 H A mFlag.the-row) r2 (z2 ∷ []) (λ i2. drop ! $ land ! (from ! (stop !)) (init ! 18 refl (EL.lawful mFlag.the-type lFlag.the-laws 𝓤 H A W tt .typed r2 _ i2 .0)) $
+        tidy W (_ ∷ _ ∷ _ ∷ _ ∷ _ ∷ _ ∷ _ ∷ _ ∷ _ ∷ _ ∷ _ ∷ _ ∷ _ ∷ _ ∷ _ ∷ _ ∷ _ ∷ _ ∷ _ ∷ _ ∷ _ ∷ _ ∷ _ ∷ _ ∷ _ ∷ _ ∷ _ ∷ _ ∷ _ ∷ _ ∷ _ ∷ []) $ split ! $ move ! (1 ∷ []) $ split ! $ move ! (1 ∷ []) $ split ! $ move ! (1 ∷ []) $ split ! $ move ! (1 ∷ []) $ drop ! $ lft-end ! tt $ move ! (0 ∷ 5 ∷ 4 ∷ []) $ use3 W (later (‵ (O1 (ws2 .1 .1 .1 .1 .1 .1 .1 .0)) ⊛ ‵ (flft κ₀ q₀))) (backs1 (named 3) ν2h δ2h (ys1) (ws2 .1 .1 .1 .1 .1 .1 .1 .0) (refl) room1 same2h) $ await ! tt $ split ! $
+        assigns ! (addr ! (from ! (fld ! refl (hop ! (look-in ! 31 (sub ! 0 refl (whole !))) (stop !))))) (from ! (stop !)) (init ! 16 refl (tt, tt)) $
+        assigns ! (agg ! (and-then ! (load ! (from ! (stop !)) (look ! 16 refl)) (and-then ! (load ! (from ! (fld ! refl (stop !))) (look-in ! 31 (sub ! 1 refl (whole !)))) (no-more !)))) (from ! (stop !)) (init ! 15 refl (tt, (tt, (record { fits = room1 .0 }, tt)))) $
+        lft-new ! tt (λ ν3a. move ! (1 ∷ 2 ∷ []) $ use2 W (later (some (λ (δ : GName). ‵ (MutSlice (named 0) (ν3a ∷ []) u64 .own (ref1 δ (ws2 .1 .1 .1 .1 .1 .1 .1 .0)) (v1 ∷ [])) ⊛ ‵ (Lent1 ν3a δ (ws2 .1 .1 .1 .1 .1 .1 .1 .0))))) (lends1 (named 0) ν3a (ws2 .1 .1 .1 .1 .1 .1 .1 .0) (same2h)) $ await ! tt $ pick ! (λ δ3a. split ! $ tidy W (_ ∷ _ ∷ _ ∷ _ ∷ _ ∷ _ ∷ _ ∷ _ ∷ _ ∷ _ ∷ _ ∷ _ ∷ _ ∷ _ ∷ _ ∷ _ ∷ _ ∷ _ ∷ _ ∷ _ ∷ _ ∷ _ ∷ _ ∷ _ ∷ _ ∷ _ ∷ _ ∷ _ ∷ _ ∷ _ ∷ _ ∷ _ ∷ _ ∷ _ ∷ []) $ nothing ! $ move ! (3 ∷ 0 ∷ []) $ join ! $ join ! $
         -- call 3
         use1 W (raw (Callee-g3 𝓤 H A at-mem run .pre ((((ν3a ∷ []), tt), (fullShare, tt), tt, (ref1 δ3a (ws2 .1 .1 .1 .1 .1 .1 .1 .0), (n2, (n5, (n6, (n7, tt))))), (v1 ∷ [], (u2 ∷ [], (u5 ∷ [], (u6 ∷ [], (u7 ∷ [], tt)))))), tt))) (qed W ((‵ (flft (ν3a ∷ []) fullShare) ⊛ ‵ ftrue) ∷ ‵ (MutSlice (named 0) (ν3a ∷ []) u64 .own (ref1 δ3a (ws2 .1 .1 .1 .1 .1 .1 .1 .0)) (v1 ∷ [])) ∷ []) ∵ nothing ! $ owned ! u64 (Is u64) (uint-makes 𝓤 H A W w64) (n7) _ w7 $ fjoin ! $ owned ! u64 (Is u64) (uint-makes 𝓤 H A W w64) (n6) _ w6 $ fjoin ! $ owned ! u64 (Is u64) (uint-makes 𝓤 H A W w64) (n5) _ w5 $ fjoin ! $ owned ! u64 (Is u64) (uint-makes 𝓤 H A W w64) (n2) _ w2 $ fjoin ! $ move ! (2 ∷ 0 ∷ []) $ fjoin ! $ move ! (1 ∷ 0 ∷ []) $ join ! $ nothing ! $ move ! (1 ∷ 0 ∷ []) $ frame ! $ done !) $
-        calls-at ! fm (Callee-g3 𝓤 H A at-mem run) known-g3 ((((ν3a ∷ []), tt), (fullShare, tt), tt, (ref1 δ3a (ws2 .1 .1 .1 .1 .1 .1 .1 .0), (n2, (n5, (n6, (n7, tt))))), (v1 ∷ [], (u2 ∷ [], (u5 ∷ [], (u6 ∷ [], (u7 ∷ [], tt)))))), tt) (and-then ! (load ! (from ! (stop !)) (look ! 28 refl)) (and-then ! (load ! (from ! (stop !)) (look ! 58 refl)) (and-then ! (load ! (from ! (stop !)) (look ! 52 refl)) (and-then ! (load ! (from ! (stop !)) (look ! 50 refl)) (and-then ! (load ! (from ! (stop !)) (look ! 48 refl)) (no-more !)))))) (λ z3.
+        calls-at ! fm (Callee-g3 𝓤 H A at-mem run) known-g3 ((((ν3a ∷ []), tt), (fullShare, tt), tt, (ref1 δ3a (ws2 .1 .1 .1 .1 .1 .1 .1 .0), (n2, (n5, (n6, (n7, tt))))), (v1 ∷ [], (u2 ∷ [], (u5 ∷ [], (u6 ∷ [], (u7 ∷ [], tt)))))), tt) (and-then ! (load ! (from ! (stop !)) (look ! 15 refl)) (and-then ! (load ! (from ! (stop !)) (look ! 30 refl)) (and-then ! (load ! (from ! (stop !)) (look ! 27 refl)) (and-then ! (load ! (from ! (stop !)) (look ! 26 refl)) (and-then ! (load ! (from ! (stop !)) (look ! 25 refl)) (no-more !)))))) (λ z3.
         use1 W (later (some (λ (r3 : Unit {0}). ((‵ (flft (ν3a ∷ []) fullShare) ⊛ ‵ ftrue) ⊛ ‵ (unit .own r3 (z3 ∷ []))) ⊛ some (λ (ws : Lasts g3.ended ((ν3a ∷ []), tt) (ref1 δ3a (ws2 .1 .1 .1 .1 .1 .1 .1 .0), (n2, (n5, (n6, (n7, tt)))))). ‵ (lasts g3.ended ((ν3a ∷ []), tt) (ref1 δ3a (ws2 .1 .1 .1 .1 .1 .1 .1 .0), (n2, (n5, (n6, (n7, tt))))) ws) ⊛ raw (g3.clauses 𝓤 H A at-mem run ((ν3a ∷ []), tt) (ref1 δ3a (ws2 .1 .1 .1 .1 .1 .1 .1 .0), (n2, (n5, (n6, (n7, tt))))) .ensures tt r3 (atExit g3.ended ((ν3a ∷ []), tt) (ref1 δ3a (ws2 .1 .1 .1 .1 .1 .1 .1 .0), (n2, (n5, (n6, (n7, tt))))) ws)))))) (id⊢ 𝓤 _) $ await ! tt $ pick ! (λ r3. split ! $ move ! (1 ∷ []) $ pick ! (λ ws3. split ! $ move ! (1 ∷ []) $ heard ! _ (λ e3.
-        fsplit ! $ fsplit ! $ move ! (1 ∷ []) $ feqL ! (λ same3a. move ! (1 ∷ []) $ fsplit ! $ move ! (1 ∷ []) $ fsplit ! $ move ! (1 ∷ []) $ fsplit ! $ move ! (1 ∷ []) $ fsplit ! $ move ! (6 ∷ []) $ split ! $ move ! (1 ∷ []) $ feqL ! (λ i3. land ! (from ! (stop !)) (init ! 38 refl (subst (λ (t : Val). Trueᴮ (hasTy tyUnit t) × WT t) (sym (ap only i3)) (tt, tt))) $
-        split ! $ move ! (1 ∷ []) $ move ! (1 ∷ []) $ lft-end ! tt $ move ! (0 ∷ 8 ∷ 7 ∷ []) $ use3 W (later (‵ (O1 (ws3 .0)) ⊛ ‵ (flft κ₀ q₀))) (backs1 (named 0) ν3a δ3a (ws2 .1 .1 .1 .1 .1 .1 .1 .0) (ws3 .0) (same2h) room1 same3a) $ await ! tt $ split ! $
-        assigns ! (of-opd ! (unit-lit !)) (from ! (stop !)) (init ! 68 refl (tt, tt)) $
-        returns ! (look ! 68 refl) $ forget ! 68 refl $ forget ! 66 refl $ forget ! 64 refl $ forget ! 62 refl $ forget ! 60 refl $ forget ! 58 refl $ forget ! 56 refl $ forget ! 54 refl $ forget ! 52 refl $ forget ! 50 refl $ forget ! 48 refl $ forget ! 46 refl $ forget ! 44 refl $ forget ! 42 refl $ forget ! 40 refl $ forget ! 38 refl $ forget ! 36 refl $ forget ! 34 refl $
-        move ! (68 ∷ 69 ∷ []) $ free1 ! $ move ! (66 ∷ 67 ∷ []) $ free1 ! $ move ! (64 ∷ 65 ∷ []) $ free1 ! $ move ! (62 ∷ 63 ∷ []) $ free1 ! $ move ! (60 ∷ 61 ∷ []) $ free1 ! $ move ! (58 ∷ 59 ∷ []) $ free1 ! $ move ! (56 ∷ 57 ∷ []) $ free1 ! $ move ! (54 ∷ 55 ∷ []) $ free1 ! $ move ! (52 ∷ 53 ∷ []) $ free1 ! $ move ! (50 ∷ 51 ∷ []) $ free1 ! $ move ! (48 ∷ 49 ∷ []) $ free1 ! $ move ! (46 ∷ 47 ∷ []) $ free1 ! $ move ! (44 ∷ 45 ∷ []) $ free1 ! $ move ! (42 ∷ 43 ∷ []) $ free1 ! $ move ! (40 ∷ 41 ∷ []) $ free1 ! $ move ! (38 ∷ 39 ∷ []) $ free1 ! $ move ! (36 ∷ 37 ∷ []) $ free1 ! $ move ! (34 ∷ 35 ∷ []) $ free1 ! $ free0 ! $
+        fsplit ! $ fsplit ! $ move ! (1 ∷ []) $ feqL ! (λ same3a. move ! (1 ∷ []) $ drop ! $ move ! (1 ∷ []) $ split ! $ move ! (1 ∷ []) $ feqL ! (λ i3. land ! (from ! (stop !)) (init ! 18 refl (subst (λ (t : Val). Trueᴮ (hasTy tyUnit t) × WT t) (sym (ap only i3)) (tt, tt))) $
+        tidy W (_ ∷ _ ∷ _ ∷ _ ∷ _ ∷ _ ∷ _ ∷ _ ∷ _ ∷ _ ∷ _ ∷ _ ∷ _ ∷ _ ∷ _ ∷ _ ∷ _ ∷ _ ∷ _ ∷ _ ∷ _ ∷ _ ∷ _ ∷ _ ∷ _ ∷ _ ∷ _ ∷ _ ∷ _ ∷ _ ∷ _ ∷ _ ∷ _ ∷ _ ∷ []) $ split ! $ move ! (1 ∷ []) $ drop ! $ lft-end ! tt $ move ! (0 ∷ 2 ∷ 1 ∷ []) $ use3 W (later (‵ (O1 (ws3 .0)) ⊛ ‵ (flft κ₀ q₀))) (backs1 (named 0) ν3a δ3a (ws2 .1 .1 .1 .1 .1 .1 .1 .0) (ws3 .0) (same2h) room1 same3a) $ await ! tt $ split ! $
+        assigns ! (of-opd ! (unit-lit !)) (from ! (stop !)) (init ! 32 refl (tt, tt)) $
+        tidy W (_ ∷ _ ∷ _ ∷ _ ∷ _ ∷ _ ∷ _ ∷ _ ∷ _ ∷ _ ∷ _ ∷ _ ∷ _ ∷ _ ∷ _ ∷ _ ∷ _ ∷ _ ∷ _ ∷ _ ∷ _ ∷ _ ∷ _ ∷ _ ∷ _ ∷ _ ∷ _ ∷ _ ∷ _ ∷ _ ∷ _ ∷ _ ∷ _ ∷ []) $ returns ! (look ! 32 refl) $ move ! (14 ∷ []) $ use1 W (dies ((tyUnit, l₀) ∷ (sliceTy (tyRef (named 0) mut (tyInt w64)), l₁) ∷ (tyInt w64, l₂) ∷ (tyInt w64, l₃) ∷ (tyInt w64, l₄) ∷ (tyInt w64, l₅) ∷ (tyInt w64, l₆) ∷ (tyInt w64, l₇) ∷ (sliceTy (tyRef (named 1) imm (pointee (mEntry.the-row .written))), l₈) ∷ (sliceTy (tyRef (named 2) imm (tyInt w64)), l₉) ∷ (sliceTy (tyRef (named 3) imm (tyInt w64)), l₁₀) ∷ (tyInt w64, l₁₁) ∷ (lFlag.mir, l₁₂) ∷ (tyRef erased mut (tyInt w64), l₁₃) ∷ (sliceTy (tyRef erased mut (tyInt w64)), l₁₄) ∷ (tyUnit, l₁₅) ∷ (tyRef erased mut (tyInt w64), l₁₆) ∷ (sliceTy (tyRef erased mut (tyInt w64)), l₁₇) ∷ []) (‵ ftrue)) die $ free-all ! 14 ((tyUnit, l₀) ∷ (sliceTy (tyRef (named 0) mut (tyInt w64)), l₁) ∷ (tyInt w64, l₂) ∷ (tyInt w64, l₃) ∷ (tyInt w64, l₄) ∷ (tyInt w64, l₅) ∷ (tyInt w64, l₆) ∷ (tyInt w64, l₇) ∷ (sliceTy (tyRef (named 1) imm (pointee (mEntry.the-row .written))), l₈) ∷ (sliceTy (tyRef (named 2) imm (tyInt w64)), l₉) ∷ (sliceTy (tyRef (named 3) imm (tyInt w64)), l₁₀) ∷ (tyInt w64, l₁₁) ∷ (lFlag.mir, l₁₂) ∷ (tyRef erased mut (tyInt w64), l₁₃) ∷ (sliceTy (tyRef erased mut (tyInt w64)), l₁₄) ∷ (tyUnit, l₁₅) ∷ (tyRef erased mut (tyInt w64), l₁₆) ∷ (sliceTy (tyRef erased mut (tyInt w64)), l₁₇) ∷ []) (kept _ ∷ kept _ ∷ kept _ ∷ kept _ ∷ kept _ ∷ kept _ ∷ kept _ ∷ kept _ ∷ kept _ ∷ kept _ ∷ kept _ ∷ kept _ ∷ kept _ ∷ kept _ ∷ kept _ ∷ kept _ ∷ kept _ ∷ kept _ ∷ []) refl $
         suffices ! _ (ends-at 𝓤 H A f.ended stayed (f.clauses 𝓤 H A at-mem run) W (((κ₀, (κ₁, (κ₂, (κ₃, tt)))), (q₀, (q₁, (q₂, (q₃, tt)))), tt, a, at), tt) vunit tt (ws3 .0, (tt, (tt, (tt, (tt, (tt, (tt, (tt, (tt, (tt, tt)))))))))) (same3a ∙ same2h, (tt, (tt, (tt, (tt, (tt, (tt, (tt, (tt, (tt, tt))))))))))) $ says ! (rw (e3, e2 .1, e1)) $
-        nothing ! $ move ! (10 ∷ 0 ∷ []) $ join ! $ move ! (10 ∷ 0 ∷ []) $ join ! $ move ! (10 ∷ 0 ∷ []) $ join ! $ move ! (2 ∷ 0 ∷ []) $ join ! $ nothing ! $ move ! (18 ∷ 0 ∷ []) $ fjoin ! $ move ! (18 ∷ 0 ∷ []) $ fjoin ! $ move ! (18 ∷ 0 ∷ []) $ fjoin ! $ move ! (23 ∷ 0 ∷ []) $ fjoin ! $ move ! (23 ∷ 0 ∷ []) $ fjoin ! $ move ! (23 ∷ 0 ∷ []) $ fjoin ! $ move ! (23 ∷ 0 ∷ []) $ fjoin ! $ move ! (23 ∷ 0 ∷ []) $ fjoin ! $ move ! (23 ∷ 0 ∷ []) $ fjoin ! $ move ! (2 ∷ 0 ∷ []) $ fjoin ! $ keep ! (1 ∷ 0 ∷ []) $ frame ! $ feqI ! (List Val) (vunit ∷ []) (vunit ∷ []) refl $ move ! (1 ∷ 0 ∷ []) $ done !)))))))))))))))))))))))))))))))))))))))
+        nothing ! $ move ! (3 ∷ 0 ∷ []) $ join ! $ move ! (3 ∷ 0 ∷ []) $ join ! $ move ! (3 ∷ 0 ∷ []) $ join ! $ move ! (2 ∷ 0 ∷ []) $ join ! $ nothing ! $ move ! (3 ∷ 0 ∷ []) $ fjoin ! $ move ! (3 ∷ 0 ∷ []) $ fjoin ! $ move ! (3 ∷ 0 ∷ []) $ fjoin ! $ move ! (3 ∷ 0 ∷ []) $ fjoin ! $ move ! (3 ∷ 0 ∷ []) $ fjoin ! $ move ! (3 ∷ 0 ∷ []) $ fjoin ! $ move ! (3 ∷ 0 ∷ []) $ fjoin ! $ move ! (3 ∷ 0 ∷ []) $ fjoin ! $ move ! (3 ∷ 0 ∷ []) $ fjoin ! $ move ! (2 ∷ 0 ∷ []) $ fjoin ! $ keep ! (1 ∷ 0 ∷ []) $ frame ! $ feqI ! (List Val) (vunit ∷ []) (vunit ∷ []) refl $ move ! (1 ∷ 0 ∷ []) $ done !))))))))))))))))))))))))))))))))))))))))
 
 module _ {M : Type 1} (𝓤 : URA M) (H : Heap 𝓤) (A : Atoms 𝓤) (W : Given 𝓤 H A) (mem : Memory → SProp 𝓤) (run : Routine → Fun 𝓤) where
   walks : (C : Calls 𝓤 H) (Λ : Loops 𝓤 H) → FmC 𝓤 H (W .laws) C → Triple 𝓤 (C #g1) (Callee-g1 𝓤 H A mem run) → Triple 𝓤 (C #g2) (Callee-g2 𝓤 H A mem run) → Triple 𝓤 (C #g3) (Callee-g3 𝓤 H A mem run) → Walks 𝓤 H A f.ended stayed (WpFn 𝓤 H C Λ code.function) (f.clauses 𝓤 H A mem run)

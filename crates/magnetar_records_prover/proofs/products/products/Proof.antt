@@ -20,7 +20,7 @@ use contract.Monad.{Fun, fact}
 use contract.Running.{givenOf, tables, tablesOf}
 use types.Kit.{Given, ‵, raw, _⊛_, ⋆, some, later, _$_, _∵_, !, qed, by, move, keep, drop, use1, use2, use3, split, join, pick, fsplit, fsplit3, fjoin, fjoin3, feqL, feqI, rewrite, atRet, suffices, frame, await, done}
 use types.Part.{agg, whole, sub, look-in}
-use types.Run.{look, look-raw, init, store, store-raw, forget, stop, hop, fld, from, load, unit-lit, of-opd, addr, and-then, no-more, lit, true-lit, false-lit, assigns, assigns-last, land, land-last, first, branches, skips, exec, returns, enter, alloc1, alloc0, params1, pass1, pass0, free1, free0}
+use types.Run.{look, look-raw, init, store, store-raw, stop, hop, fld, from, load, unit-lit, of-opd, addr, and-then, no-more, lit, true-lit, false-lit, assigns, assigns-last, land, land-last, first, branches, skips, exec, returns, enter, alloc0, params1, pass1, pass0}
 use types.Tokens.{lft-new, lft-end}
 use sound.WpLaws.{FmC, fmOf, WpFn-mono}
 use denote.RattleType.{owns}
@@ -48,6 +48,7 @@ use denote.Exit.{yes}
 use Rattle.magnetar_inplace.specs.declared.records.Entry.{Entry}
 use Rattle.magnetar_inplace.proofs.records.Entry as mEntry
 use Rattle.magnetar_inplace.proofs.records.Entry.Laws as lEntry
+use Rattle.magnetar_inplace.proofs.Locals.{tidy, bare, kept, dies, alloc, hide, free-all}
 use Rattle.magnetar_inplace.proofs.Again.{LentAgain, lends-again, comes-back}
 use Rattle.magnetar_records_prover.proofs.products.product as g1
 use Rattle.magnetar_records_prover.proofs.products.product.Symbol as g1-def
@@ -175,73 +176,72 @@ module _ {M : Type 1} (𝓤 : URA M) (H : Heap 𝓤) (A : Atoms 𝓤) (W : Given
     walk : ent 𝓤 (onEntry 𝓤 H A f.signature (κ₀, (κ₁, (κ₂, (κ₃, (κ₄, (κ₅, (κ₆, (κ₇, (κ₈, tt))))))))) (q₀, (q₁, (q₂, (q₃, (q₄, (q₅, (q₆, (q₇, (q₈, tt))))))))) a at) (WpFn 𝓤 H C Λ code.function (v1 ∷ v2 ∷ v3 ∷ v4 ∷ v5 ∷ v6 ∷ v7 ∷ v8 ∷ v9 ∷ v10 ∷ v11 ∷ v12 ∷ v13 ∷ []) Post)
     walk =
         qed W ((‵ (flft κ₀ q₀) ⊛ ‵ (flft κ₁ q₁) ⊛ ‵ (flft κ₂ q₂) ⊛ ‵ (flft κ₃ q₃) ⊛ ‵ (flft κ₄ q₄) ⊛ ‵ (flft κ₅ q₅) ⊛ ‵ (flft κ₆ q₆) ⊛ ‵ (flft κ₇ q₇) ⊛ ‵ (flft κ₈ q₈) ⊛ ‵ ftrue) ∷ ‵ (owns (MutSlice (named 0) κ₀ u64 ∷ u64 ∷ u64 ∷ u64 ∷ u64 ∷ ShrSlice (named 1) κ₁ mEntry.the-row ∷ ShrSlice (named 2) κ₂ mEntry.the-row ∷ ShrSlice (named 3) κ₃ mEntry.the-row ∷ ShrSlice (named 4) κ₄ mEntry.the-row ∷ ShrSlice (named 5) κ₅ mEntry.the-row ∷ ShrSlice (named 6) κ₆ mEntry.the-row ∷ ShrSlice (named 7) κ₇ u64 ∷ ShrSlice (named 8) κ₈ u64 ∷ []) a at) ∷ []) ∵ enter ! C Λ code.function (v1 ∷ v2 ∷ v3 ∷ v4 ∷ v5 ∷ v6 ∷ v7 ∷ v8 ∷ v9 ∷ v10 ∷ v11 ∷ v12 ∷ v13 ∷ []) _ $
-        alloc1 ! (λ l₀. alloc1 ! (λ l₁. alloc1 ! (λ l₂. alloc1 ! (λ l₃. alloc1 ! (λ l₄. alloc1 ! (λ l₅. alloc1 ! (λ l₆. alloc1 ! (λ l₇. alloc1 ! (λ l₈. alloc1 ! (λ l₉. alloc1 ! (λ l₁₀. alloc1 ! (λ l₁₁. alloc1 ! (λ l₁₂. alloc1 ! (λ l₁₃. alloc1 ! (λ l₁₄. alloc1 ! (λ l₁₅. alloc1 ! (λ l₁₆. alloc1 ! (λ l₁₇. alloc1 ! (λ l₁₈. alloc1 ! (λ l₁₉. alloc1 ! (λ l₂₀. alloc1 ! (λ l₂₁. alloc1 ! (λ l₂₂. alloc1 ! (λ l₂₃. alloc1 ! (λ l₂₄. alloc1 ! (λ l₂₅. alloc1 ! (λ l₂₆. alloc1 ! (λ l₂₇. alloc1 ! (λ l₂₈. alloc1 ! (λ l₂₉. alloc1 ! (λ l₃₀. alloc1 ! (λ l₃₁. alloc1 ! (λ l₃₂. alloc0 ! $ params1 ! $ pass1 ! (init ! 62 refl (tt, (tt, (record { fits = room1 .0 }, tt)))) $ pass1 ! (init ! 60 refl (uint-lawful 𝓤 H A W w64 .typed n2 _ w2 .0)) $ pass1 ! (init ! 58 refl (uint-lawful 𝓤 H A W w64 .typed n3 _ w3 .0)) $ pass1 ! (init ! 56 refl (uint-lawful 𝓤 H A W w64 .typed n4 _ w4 .0)) $ pass1 ! (init ! 54 refl (uint-lawful 𝓤 H A W w64 .typed n5 _ w5 .0)) $ pass1 ! (init ! 52 refl (shr-slice-lawful 𝓤 H A W (named 1) κ₁ mEntry.the-row .typed s6 (v6 ∷ []) w6 .0)) $ pass1 ! (init ! 50 refl (shr-slice-lawful 𝓤 H A W (named 2) κ₂ mEntry.the-row .typed s7 (v7 ∷ []) w7 .0)) $ pass1 ! (init ! 48 refl (shr-slice-lawful 𝓤 H A W (named 3) κ₃ mEntry.the-row .typed s8 (v8 ∷ []) w8 .0)) $ pass1 ! (init ! 46 refl (shr-slice-lawful 𝓤 H A W (named 4) κ₄ mEntry.the-row .typed s9 (v9 ∷ []) w9 .0)) $ pass1 ! (init ! 44 refl (shr-slice-lawful 𝓤 H A W (named 5) κ₅ mEntry.the-row .typed s10 (v10 ∷ []) w10 .0)) $ pass1 ! (init ! 42 refl (shr-slice-lawful 𝓤 H A W (named 6) κ₆ mEntry.the-row .typed s11 (v11 ∷ []) w11 .0)) $ pass1 ! (init ! 40 refl (shr-slice-lawful 𝓤 H A W (named 7) κ₇ u64 .typed s12 (v12 ∷ []) w12 .0)) $ pass1 ! (init ! 38 refl (shr-slice-lawful 𝓤 H A W (named 8) κ₈ u64 .typed s13 (v13 ∷ []) w13 .0)) $ pass0 ! $
-        move ! (67 ∷ []) $ fsplit ! $ move ! (1 ∷ []) $ fsplit ! $ move ! (1 ∷ []) $ fsplit ! $ move ! (1 ∷ []) $ fsplit ! $ move ! (1 ∷ []) $ fsplit ! $ move ! (1 ∷ []) $ fsplit ! $ move ! (1 ∷ []) $ fsplit ! $ move ! (1 ∷ []) $ fsplit ! $ move ! (1 ∷ []) $ fsplit ! $ move ! (1 ∷ []) $ fsplit ! $ move ! (1 ∷ []) $ fsplit ! $ move ! (1 ∷ []) $ fsplit ! $ move ! (1 ∷ []) $ fsplit ! $ move ! (1 ∷ []) $ move ! (80 ∷ []) $ split ! $ move ! (1 ∷ []) $ split ! $ move ! (1 ∷ []) $ split ! $ move ! (1 ∷ []) $ split ! $ move ! (1 ∷ []) $ split ! $ move ! (1 ∷ []) $ split ! $ move ! (1 ∷ []) $ split ! $ move ! (1 ∷ []) $ split ! $ move ! (1 ∷ []) $ split ! $ move ! (1 ∷ []) $
-        assigns ! (of-opd ! (lit ! tt)) (from ! (stop !)) (init ! 60 refl (tt, record { fits = lit< tt })) $
-        assigns ! (of-opd ! (lit ! tt)) (from ! (stop !)) (init ! 58 refl (tt, record { fits = lit< tt })) $
-        assigns ! (of-opd ! (lit ! tt)) (from ! (stop !)) (init ! 56 refl (tt, record { fits = lit< tt })) $
-        assigns ! (of-opd ! (lit ! tt)) (from ! (stop !)) (init ! 54 refl (tt, record { fits = lit< tt })) $
-        assigns ! (of-opd ! (lit ! tt)) (from ! (stop !)) (init ! 52 refl (tt, record { fits = lit< tt })) $
-        assigns ! (of-opd ! (lit ! tt)) (from ! (stop !)) (init ! 50 refl (tt, record { fits = lit< tt })) $
-        assigns ! (addr ! (from ! (fld ! refl (hop ! (look-in ! 86 (sub ! 0 refl (whole !))) (stop !))))) (from ! (stop !)) (init ! 46 refl (tt, tt)) $
-        assigns ! (agg ! (and-then ! (load ! (from ! (stop !)) (look ! 46 refl)) (and-then ! (load ! (from ! (fld ! refl (stop !))) (look-in ! 86 (sub ! 1 refl (whole !)))) (no-more !)))) (from ! (stop !)) (init ! 44 refl (tt, (tt, (record { fits = room1 .0 }, tt)))) $
-        lft-new ! tt (λ ν1a. move ! (24 ∷ 10 ∷ []) $ use2 W (later (some (λ (δ : GName). ‵ (MutSlice (named 0) (ν1a ∷ []) u64 .own (ref1 δ (ys1)) (v1 ∷ [])) ⊛ ‵ (Lent1 ν1a δ (ys1))))) (lends1 (named 0) ν1a (ys1) (refl)) $ await ! tt $ pick ! (λ δ1a. split ! $ move ! (17 ∷ []) $ use1 W (‵ (O9) ⊛ ‵ (O9)) (shr-slice-copy 𝓤 H A W (named 4) κ₄ mEntry.the-row .twice s9 (v9 ∷ [])) $ split ! $ move ! (16 ∷ []) $ use1 W (‵ (O12) ⊛ ‵ (O12)) (shr-slice-copy 𝓤 H A W (named 7) κ₇ u64 .twice s12 (v12 ∷ [])) $ split ! $ move ! (17 ∷ []) $ use1 W (‵ (O13) ⊛ ‵ (O13)) (shr-slice-copy 𝓤 H A W (named 8) κ₈ u64 .twice s13 (v13 ∷ [])) $ split ! $ nothing ! $ move ! (11 ∷ 0 ∷ []) $ join ! $ move ! (11 ∷ 0 ∷ []) $ join ! $ move ! (13 ∷ 0 ∷ []) $ join ! $ move ! (9 ∷ 0 ∷ []) $ join ! $ move ! (3 ∷ 1 ∷ []) $ join ! $ move ! (4 ∷ 0 ∷ []) $ join ! $ move ! (5 ∷ 0 ∷ []) $ join ! $ move ! (1 ∷ 0 ∷ []) $ join ! $
+        nothing ! $ alloc ! (λ l₀. alloc ! (λ l₁. alloc ! (λ l₂. alloc ! (λ l₃. alloc ! (λ l₄. alloc ! (λ l₅. alloc ! (λ l₆. alloc ! (λ l₇. alloc ! (λ l₈. alloc ! (λ l₉. alloc ! (λ l₁₀. alloc ! (λ l₁₁. alloc ! (λ l₁₂. alloc ! (λ l₁₃. alloc ! (λ l₁₄. alloc ! (λ l₁₅. alloc ! (λ l₁₆. alloc ! (λ l₁₇. alloc ! (λ l₁₈. alloc ! (λ l₁₉. alloc ! (λ l₂₀. alloc ! (λ l₂₁. alloc ! (λ l₂₂. alloc ! (λ l₂₃. alloc ! (λ l₂₄. alloc ! (λ l₂₅. alloc ! (λ l₂₆. alloc ! (λ l₂₇. alloc ! (λ l₂₈. alloc ! (λ l₂₉. alloc ! (λ l₃₀. alloc ! (λ l₃₁. alloc ! (λ l₃₂. alloc0 ! $ hide ! (λ died die. params1 ! $ pass1 ! (init ! 32 refl (tt, (tt, (record { fits = room1 .0 }, tt)))) $ pass1 ! (init ! 31 refl (uint-lawful 𝓤 H A W w64 .typed n2 _ w2 .0)) $ pass1 ! (init ! 30 refl (uint-lawful 𝓤 H A W w64 .typed n3 _ w3 .0)) $ pass1 ! (init ! 29 refl (uint-lawful 𝓤 H A W w64 .typed n4 _ w4 .0)) $ pass1 ! (init ! 28 refl (uint-lawful 𝓤 H A W w64 .typed n5 _ w5 .0)) $ pass1 ! (init ! 27 refl (shr-slice-lawful 𝓤 H A W (named 1) κ₁ mEntry.the-row .typed s6 (v6 ∷ []) w6 .0)) $ pass1 ! (init ! 26 refl (shr-slice-lawful 𝓤 H A W (named 2) κ₂ mEntry.the-row .typed s7 (v7 ∷ []) w7 .0)) $ pass1 ! (init ! 25 refl (shr-slice-lawful 𝓤 H A W (named 3) κ₃ mEntry.the-row .typed s8 (v8 ∷ []) w8 .0)) $ pass1 ! (init ! 24 refl (shr-slice-lawful 𝓤 H A W (named 4) κ₄ mEntry.the-row .typed s9 (v9 ∷ []) w9 .0)) $ pass1 ! (init ! 23 refl (shr-slice-lawful 𝓤 H A W (named 5) κ₅ mEntry.the-row .typed s10 (v10 ∷ []) w10 .0)) $ pass1 ! (init ! 22 refl (shr-slice-lawful 𝓤 H A W (named 6) κ₆ mEntry.the-row .typed s11 (v11 ∷ []) w11 .0)) $ pass1 ! (init ! 21 refl (shr-slice-lawful 𝓤 H A W (named 7) κ₇ u64 .typed s12 (v12 ∷ []) w12 .0)) $ pass1 ! (init ! 20 refl (shr-slice-lawful 𝓤 H A W (named 8) κ₈ u64 .typed s13 (v13 ∷ []) w13 .0)) $ pass0 ! $
+        move ! (35 ∷ []) $ fsplit ! $ move ! (1 ∷ []) $ fsplit ! $ move ! (1 ∷ []) $ fsplit ! $ move ! (1 ∷ []) $ fsplit ! $ move ! (1 ∷ []) $ fsplit ! $ move ! (1 ∷ []) $ fsplit ! $ move ! (1 ∷ []) $ fsplit ! $ move ! (1 ∷ []) $ fsplit ! $ move ! (1 ∷ []) $ fsplit ! $ move ! (1 ∷ []) $ fsplit ! $ move ! (1 ∷ []) $ fsplit ! $ move ! (1 ∷ []) $ fsplit ! $ move ! (1 ∷ []) $ fsplit ! $ move ! (1 ∷ []) $ drop ! $ move ! (47 ∷ []) $ split ! $ move ! (1 ∷ []) $ split ! $ move ! (1 ∷ []) $ split ! $ move ! (1 ∷ []) $ split ! $ move ! (1 ∷ []) $ split ! $ move ! (1 ∷ []) $ split ! $ move ! (1 ∷ []) $ split ! $ move ! (1 ∷ []) $ split ! $ move ! (1 ∷ []) $ split ! $ move ! (1 ∷ []) $ drop ! $ tidy W (_ ∷ _ ∷ _ ∷ _ ∷ _ ∷ _ ∷ _ ∷ _ ∷ _ ∷ _ ∷ _ ∷ _ ∷ _ ∷ _ ∷ _ ∷ _ ∷ _ ∷ _ ∷ _ ∷ _ ∷ _ ∷ _ ∷ _ ∷ _ ∷ _ ∷ _ ∷ _ ∷ _ ∷ _ ∷ _ ∷ _ ∷ _ ∷ _ ∷ _ ∷ _ ∷ _ ∷ _ ∷ _ ∷ _ ∷ _ ∷ _ ∷ _ ∷ _ ∷ _ ∷ _ ∷ _ ∷ _ ∷ _ ∷ _ ∷ _ ∷ _ ∷ _ ∷ _ ∷ _ ∷ _ ∷ _ ∷ []) $
+        assigns ! (of-opd ! (lit ! tt)) (from ! (stop !)) (init ! 41 refl (tt, record { fits = lit< tt })) $
+        assigns ! (of-opd ! (lit ! tt)) (from ! (stop !)) (init ! 40 refl (tt, record { fits = lit< tt })) $
+        assigns ! (of-opd ! (lit ! tt)) (from ! (stop !)) (init ! 39 refl (tt, record { fits = lit< tt })) $
+        assigns ! (of-opd ! (lit ! tt)) (from ! (stop !)) (init ! 38 refl (tt, record { fits = lit< tt })) $
+        assigns ! (of-opd ! (lit ! tt)) (from ! (stop !)) (init ! 37 refl (tt, record { fits = lit< tt })) $
+        assigns ! (of-opd ! (lit ! tt)) (from ! (stop !)) (init ! 36 refl (tt, record { fits = lit< tt })) $
+        assigns ! (addr ! (from ! (fld ! refl (hop ! (look-in ! 54 (sub ! 0 refl (whole !))) (stop !))))) (from ! (stop !)) (init ! 34 refl (tt, tt)) $
+        assigns ! (agg ! (and-then ! (load ! (from ! (stop !)) (look ! 34 refl)) (and-then ! (load ! (from ! (fld ! refl (stop !))) (look-in ! 54 (sub ! 1 refl (whole !)))) (no-more !)))) (from ! (stop !)) (init ! 33 refl (tt, (tt, (record { fits = room1 .0 }, tt)))) $
+        lft-new ! tt (λ ν1a. move ! (22 ∷ 9 ∷ []) $ use2 W (later (some (λ (δ : GName). ‵ (MutSlice (named 0) (ν1a ∷ []) u64 .own (ref1 δ (ys1)) (v1 ∷ [])) ⊛ ‵ (Lent1 ν1a δ (ys1))))) (lends1 (named 0) ν1a (ys1) (refl)) $ await ! tt $ pick ! (λ δ1a. split ! $ move ! (15 ∷ []) $ use1 W (‵ (O9) ⊛ ‵ (O9)) (shr-slice-copy 𝓤 H A W (named 4) κ₄ mEntry.the-row .twice s9 (v9 ∷ [])) $ split ! $ move ! (14 ∷ []) $ use1 W (‵ (O12) ⊛ ‵ (O12)) (shr-slice-copy 𝓤 H A W (named 7) κ₇ u64 .twice s12 (v12 ∷ [])) $ split ! $ move ! (15 ∷ []) $ use1 W (‵ (O13) ⊛ ‵ (O13)) (shr-slice-copy 𝓤 H A W (named 8) κ₈ u64 .twice s13 (v13 ∷ [])) $ split ! $ tidy W (_ ∷ _ ∷ _ ∷ _ ∷ _ ∷ _ ∷ _ ∷ _ ∷ _ ∷ _ ∷ _ ∷ _ ∷ _ ∷ _ ∷ _ ∷ _ ∷ _ ∷ _ ∷ _ ∷ _ ∷ _ ∷ _ ∷ _ ∷ _ ∷ _ ∷ _ ∷ _ ∷ _ ∷ _ ∷ _ ∷ _ ∷ _ ∷ _ ∷ _ ∷ _ ∷ _ ∷ _ ∷ _ ∷ _ ∷ _ ∷ _ ∷ _ ∷ _ ∷ _ ∷ _ ∷ _ ∷ _ ∷ _ ∷ _ ∷ _ ∷ _ ∷ _ ∷ _ ∷ _ ∷ _ ∷ _ ∷ _ ∷ _ ∷ _ ∷ _ ∷ []) $ nothing ! $ move ! (10 ∷ 0 ∷ []) $ join ! $ move ! (10 ∷ 0 ∷ []) $ join ! $ move ! (12 ∷ 0 ∷ []) $ join ! $ move ! (9 ∷ 0 ∷ []) $ join ! $ move ! (3 ∷ 1 ∷ []) $ join ! $ move ! (4 ∷ 0 ∷ []) $ join ! $ move ! (5 ∷ 0 ∷ []) $ join ! $ move ! (1 ∷ 0 ∷ []) $ join ! $
         -- call 1
         use1 W (raw (Callee-g1 𝓤 H A at-mem run .pre ((((ν1a ∷ []), (κ₄, (κ₇, (κ₈, tt)))), (fullShare, (q₄, (q₇, (q₈, tt)))), tt, (ref1 δ1a (ys1), (5, (n5, (n2, (n3, (n4, (n5, (s9, (s12, (s13, tt)))))))))), (v1 ∷ [], ((vint w64 5) ∷ [], (u5 ∷ [], (u2 ∷ [], (u3 ∷ [], (u4 ∷ [], (u5 ∷ [], (v9 ∷ [], (v12 ∷ [], (v13 ∷ [], tt))))))))))), tt))) (qed W ((‵ (flft (ν1a ∷ []) fullShare) ⊛ ‵ (flft κ₄ q₄) ⊛ ‵ (flft κ₇ q₇) ⊛ ‵ (flft κ₈ q₈) ⊛ ‵ ftrue) ∷ ‵ (MutSlice (named 0) (ν1a ∷ []) u64 .own (ref1 δ1a (ys1)) (v1 ∷ [])) ∷ ‵ (ShrSlice (named 1) κ₄ mEntry.the-row .own s9 (v9 ∷ [])) ∷ ‵ (ShrSlice (named 2) κ₇ u64 .own s12 (v12 ∷ [])) ∷ ‵ (ShrSlice (named 3) κ₈ u64 .own s13 (v13 ∷ [])) ∷ []) ∵ nothing ! $ move ! (5 ∷ 0 ∷ []) $ fjoin ! $ move ! (4 ∷ 0 ∷ []) $ fjoin ! $ move ! (3 ∷ 0 ∷ []) $ fjoin ! $ owned ! u64 (Is u64) (uint-makes 𝓤 H A W w64) (n5) _ w5 $ fjoin ! $ owned ! u64 (Is u64) (uint-makes 𝓤 H A W w64) (n4) _ w4 $ fjoin ! $ owned ! u64 (Is u64) (uint-makes 𝓤 H A W w64) (n3) _ w3 $ fjoin ! $ owned ! u64 (Is u64) (uint-makes 𝓤 H A W w64) (n2) _ w2 $ fjoin ! $ owned ! u64 (Is u64) (uint-makes 𝓤 H A W w64) (n5) _ w5 $ fjoin ! $ owned ! u64 (Is u64) (uint-makes 𝓤 H A W w64) (5) _ (refl, lit< tt) $ fjoin ! $ move ! (2 ∷ 0 ∷ []) $ fjoin ! $ move ! (1 ∷ 0 ∷ []) $ join ! $ nothing ! $ move ! (1 ∷ 0 ∷ []) $ frame ! $ done !) $
-        calls-at ! fm (Callee-g1 𝓤 H A at-mem run) known-g1 ((((ν1a ∷ []), (κ₄, (κ₇, (κ₈, tt)))), (fullShare, (q₄, (q₇, (q₈, tt)))), tt, (ref1 δ1a (ys1), (5, (n5, (n2, (n3, (n4, (n5, (s9, (s12, (s13, tt)))))))))), (v1 ∷ [], ((vint w64 5) ∷ [], (u5 ∷ [], (u2 ∷ [], (u3 ∷ [], (u4 ∷ [], (u5 ∷ [], (v9 ∷ [], (v12 ∷ [], (v13 ∷ [], tt))))))))))), tt) (and-then ! (load ! (from ! (stop !)) (look ! 41 refl)) (and-then ! (load ! (from ! (stop !)) (look ! 51 refl)) (and-then ! (load ! (from ! (stop !)) (look ! 75 refl)) (and-then ! (load ! (from ! (stop !)) (look ! 81 refl)) (and-then ! (load ! (from ! (stop !)) (look ! 79 refl)) (and-then ! (load ! (from ! (stop !)) (look ! 77 refl)) (and-then ! (load ! (from ! (stop !)) (look ! 75 refl)) (and-then ! (load ! (from ! (stop !)) (look ! 67 refl)) (and-then ! (load ! (from ! (stop !)) (look ! 61 refl)) (and-then ! (load ! (from ! (stop !)) (look ! 59 refl)) (no-more !))))))))))) (λ z1.
+        calls-at ! fm (Callee-g1 𝓤 H A at-mem run) known-g1 ((((ν1a ∷ []), (κ₄, (κ₇, (κ₈, tt)))), (fullShare, (q₄, (q₇, (q₈, tt)))), tt, (ref1 δ1a (ys1), (5, (n5, (n2, (n3, (n4, (n5, (s9, (s12, (s13, tt)))))))))), (v1 ∷ [], ((vint w64 5) ∷ [], (u5 ∷ [], (u2 ∷ [], (u3 ∷ [], (u4 ∷ [], (u5 ∷ [], (v9 ∷ [], (v12 ∷ [], (v13 ∷ [], tt))))))))))), tt) (and-then ! (load ! (from ! (stop !)) (look ! 30 refl)) (and-then ! (load ! (from ! (stop !)) (look ! 35 refl)) (and-then ! (load ! (from ! (stop !)) (look ! 47 refl)) (and-then ! (load ! (from ! (stop !)) (look ! 50 refl)) (and-then ! (load ! (from ! (stop !)) (look ! 49 refl)) (and-then ! (load ! (from ! (stop !)) (look ! 48 refl)) (and-then ! (load ! (from ! (stop !)) (look ! 47 refl)) (and-then ! (load ! (from ! (stop !)) (look ! 43 refl)) (and-then ! (load ! (from ! (stop !)) (look ! 40 refl)) (and-then ! (load ! (from ! (stop !)) (look ! 39 refl)) (no-more !))))))))))) (λ z1.
         use1 W (later (some (λ (r1 : Unit {0}). ((‵ (flft (ν1a ∷ []) fullShare) ⊛ ‵ (flft κ₄ q₄) ⊛ ‵ (flft κ₇ q₇) ⊛ ‵ (flft κ₈ q₈) ⊛ ‵ ftrue) ⊛ ‵ (unit .own r1 (z1 ∷ []))) ⊛ some (λ (ws : Lasts g1.ended ((ν1a ∷ []), (κ₄, (κ₇, (κ₈, tt)))) (ref1 δ1a (ys1), (5, (n5, (n2, (n3, (n4, (n5, (s9, (s12, (s13, tt))))))))))). ‵ (lasts g1.ended ((ν1a ∷ []), (κ₄, (κ₇, (κ₈, tt)))) (ref1 δ1a (ys1), (5, (n5, (n2, (n3, (n4, (n5, (s9, (s12, (s13, tt)))))))))) ws) ⊛ raw (g1.clauses 𝓤 H A at-mem run ((ν1a ∷ []), (κ₄, (κ₇, (κ₈, tt)))) (ref1 δ1a (ys1), (5, (n5, (n2, (n3, (n4, (n5, (s9, (s12, (s13, tt)))))))))) .ensures tt r1 (atExit g1.ended ((ν1a ∷ []), (κ₄, (κ₇, (κ₈, tt)))) (ref1 δ1a (ys1), (5, (n5, (n2, (n3, (n4, (n5, (s9, (s12, (s13, tt)))))))))) ws)))))) (id⊢ 𝓤 _) $ await ! tt $ pick ! (λ r1. split ! $ move ! (1 ∷ []) $ pick ! (λ ws1. split ! $ move ! (1 ∷ []) $ heard ! _ (λ e1.
-        fsplit ! $ fsplit ! $ move ! (1 ∷ []) $ feqL ! (λ same1a. move ! (1 ∷ []) $ fsplit ! $ move ! (1 ∷ []) $ fsplit ! $ move ! (1 ∷ []) $ fsplit ! $ move ! (1 ∷ []) $ fsplit ! $ move ! (1 ∷ []) $ fsplit ! $ move ! (1 ∷ []) $ fsplit ! $ move ! (1 ∷ []) $ fsplit ! $ move ! (1 ∷ []) $ fsplit ! $ move ! (1 ∷ []) $ fsplit ! $ move ! (11 ∷ []) $ split ! $ move ! (1 ∷ []) $ feqL ! (λ i1. land ! (from ! (stop !)) (init ! 56 refl (subst (λ (t : Val). Trueᴮ (hasTy tyUnit t) × WT t) (sym (ap only i1)) (tt, tt))) $
-        split ! $ move ! (1 ∷ []) $ split ! $ move ! (1 ∷ []) $ split ! $ move ! (1 ∷ []) $ split ! $ move ! (1 ∷ []) $ move ! (4 ∷ []) $ lft-end ! tt $ move ! (0 ∷ 19 ∷ 15 ∷ []) $ use3 W (later (‵ (O1 (ws1 .0)) ⊛ ‵ (flft κ₀ q₀))) (backs1 (named 0) ν1a δ1a (ys1) (ws1 .0) (refl) room1 same1a) $ await ! tt $ split ! $
-        assigns ! (addr ! (from ! (fld ! refl (hop ! (look-in ! 97 (sub ! 0 refl (whole !))) (stop !))))) (from ! (stop !)) (init ! 53 refl (tt, tt)) $
-        assigns ! (agg ! (and-then ! (load ! (from ! (stop !)) (look ! 53 refl)) (and-then ! (load ! (from ! (fld ! refl (stop !))) (look-in ! 97 (sub ! 1 refl (whole !)))) (no-more !)))) (from ! (stop !)) (init ! 51 refl (tt, (tt, (record { fits = room1 .0 }, tt)))) $
-        lft-new ! tt (λ ν2a. move ! (1 ∷ 2 ∷ []) $ use2 W (later (some (λ (δ : GName). ‵ (MutSlice (named 0) (ν2a ∷ []) u64 .own (ref1 δ (ws1 .0)) (v1 ∷ [])) ⊛ ‵ (Lent1 ν2a δ (ws1 .0))))) (lends1 (named 0) ν2a (ws1 .0) (same1a)) $ await ! tt $ pick ! (λ δ2a. split ! $ move ! (28 ∷ []) $ use1 W (‵ (O10) ⊛ ‵ (O10)) (shr-slice-copy 𝓤 H A W (named 5) κ₅ mEntry.the-row .twice s10 (v10 ∷ [])) $ split ! $ move ! (20 ∷ []) $ use1 W (‵ (O12) ⊛ ‵ (O12)) (shr-slice-copy 𝓤 H A W (named 7) κ₇ u64 .twice s12 (v12 ∷ [])) $ split ! $ move ! (21 ∷ []) $ use1 W (‵ (O13) ⊛ ‵ (O13)) (shr-slice-copy 𝓤 H A W (named 8) κ₈ u64 .twice s13 (v13 ∷ [])) $ split ! $ nothing ! $ move ! (11 ∷ 0 ∷ []) $ join ! $ move ! (11 ∷ 0 ∷ []) $ join ! $ move ! (25 ∷ 0 ∷ []) $ join ! $ move ! (9 ∷ 0 ∷ []) $ join ! $ move ! (3 ∷ 1 ∷ []) $ join ! $ move ! (4 ∷ 0 ∷ []) $ join ! $ move ! (5 ∷ 0 ∷ []) $ join ! $ move ! (1 ∷ 0 ∷ []) $ join ! $
+        fsplit ! $ fsplit ! $ move ! (1 ∷ []) $ feqL ! (λ same1a. move ! (1 ∷ []) $ drop ! $ move ! (1 ∷ []) $ split ! $ move ! (1 ∷ []) $ feqL ! (λ i1. land ! (from ! (stop !)) (init ! 33 refl (subst (λ (t : Val). Trueᴮ (hasTy tyUnit t) × WT t) (sym (ap only i1)) (tt, tt))) $
+        tidy W (_ ∷ _ ∷ _ ∷ _ ∷ _ ∷ _ ∷ _ ∷ _ ∷ _ ∷ _ ∷ _ ∷ _ ∷ _ ∷ _ ∷ _ ∷ _ ∷ _ ∷ _ ∷ _ ∷ _ ∷ _ ∷ _ ∷ _ ∷ _ ∷ _ ∷ _ ∷ _ ∷ _ ∷ _ ∷ _ ∷ _ ∷ _ ∷ _ ∷ _ ∷ _ ∷ _ ∷ _ ∷ _ ∷ _ ∷ _ ∷ _ ∷ _ ∷ _ ∷ _ ∷ _ ∷ _ ∷ _ ∷ _ ∷ _ ∷ _ ∷ _ ∷ _ ∷ _ ∷ _ ∷ []) $ split ! $ move ! (1 ∷ []) $ split ! $ move ! (1 ∷ []) $ split ! $ move ! (1 ∷ []) $ split ! $ move ! (1 ∷ []) $ drop ! $ move ! (3 ∷ []) $ lft-end ! tt $ move ! (0 ∷ 8 ∷ 4 ∷ []) $ use3 W (later (‵ (O1 (ws1 .0)) ⊛ ‵ (flft κ₀ q₀))) (backs1 (named 0) ν1a δ1a (ys1) (ws1 .0) (refl) room1 same1a) $ await ! tt $ split ! $
+        assigns ! (addr ! (from ! (fld ! refl (hop ! (look-in ! 54 (sub ! 0 refl (whole !))) (stop !))))) (from ! (stop !)) (init ! 32 refl (tt, tt)) $
+        assigns ! (agg ! (and-then ! (load ! (from ! (stop !)) (look ! 32 refl)) (and-then ! (load ! (from ! (fld ! refl (stop !))) (look-in ! 54 (sub ! 1 refl (whole !)))) (no-more !)))) (from ! (stop !)) (init ! 31 refl (tt, (tt, (record { fits = room1 .0 }, tt)))) $
+        lft-new ! tt (λ ν2a. move ! (1 ∷ 2 ∷ []) $ use2 W (later (some (λ (δ : GName). ‵ (MutSlice (named 0) (ν2a ∷ []) u64 .own (ref1 δ (ws1 .0)) (v1 ∷ [])) ⊛ ‵ (Lent1 ν2a δ (ws1 .0))))) (lends1 (named 0) ν2a (ws1 .0) (same1a)) $ await ! tt $ pick ! (λ δ2a. split ! $ move ! (15 ∷ []) $ use1 W (‵ (O10) ⊛ ‵ (O10)) (shr-slice-copy 𝓤 H A W (named 5) κ₅ mEntry.the-row .twice s10 (v10 ∷ [])) $ split ! $ move ! (9 ∷ []) $ use1 W (‵ (O12) ⊛ ‵ (O12)) (shr-slice-copy 𝓤 H A W (named 7) κ₇ u64 .twice s12 (v12 ∷ [])) $ split ! $ move ! (10 ∷ []) $ use1 W (‵ (O13) ⊛ ‵ (O13)) (shr-slice-copy 𝓤 H A W (named 8) κ₈ u64 .twice s13 (v13 ∷ [])) $ split ! $ tidy W (_ ∷ _ ∷ _ ∷ _ ∷ _ ∷ _ ∷ _ ∷ _ ∷ _ ∷ _ ∷ _ ∷ _ ∷ _ ∷ _ ∷ _ ∷ _ ∷ _ ∷ _ ∷ _ ∷ _ ∷ _ ∷ _ ∷ _ ∷ _ ∷ _ ∷ _ ∷ _ ∷ _ ∷ _ ∷ _ ∷ _ ∷ _ ∷ _ ∷ _ ∷ _ ∷ _ ∷ _ ∷ _ ∷ _ ∷ _ ∷ _ ∷ _ ∷ _ ∷ _ ∷ _ ∷ _ ∷ _ ∷ _ ∷ _ ∷ _ ∷ _ ∷ _ ∷ _ ∷ _ ∷ _ ∷ _ ∷ _ ∷ _ ∷ _ ∷ _ ∷ []) $ nothing ! $ move ! (10 ∷ 0 ∷ []) $ join ! $ move ! (10 ∷ 0 ∷ []) $ join ! $ move ! (13 ∷ 0 ∷ []) $ join ! $ move ! (9 ∷ 0 ∷ []) $ join ! $ move ! (3 ∷ 1 ∷ []) $ join ! $ move ! (4 ∷ 0 ∷ []) $ join ! $ move ! (5 ∷ 0 ∷ []) $ join ! $ move ! (1 ∷ 0 ∷ []) $ join ! $
         -- call 2
         use1 W (raw (Callee-g1 𝓤 H A at-mem run .pre ((((ν2a ∷ []), (κ₅, (κ₇, (κ₈, tt)))), (fullShare, (q₅, (q₇, (q₈, tt)))), tt, (ref1 δ2a (ws1 .0), (6, (n5, (n2, (n3, (n4, (n5, (s10, (s12, (s13, tt)))))))))), (v1 ∷ [], ((vint w64 6) ∷ [], (u5 ∷ [], (u2 ∷ [], (u3 ∷ [], (u4 ∷ [], (u5 ∷ [], (v10 ∷ [], (v12 ∷ [], (v13 ∷ [], tt))))))))))), tt))) (qed W ((‵ (flft (ν2a ∷ []) fullShare) ⊛ ‵ (flft κ₅ q₅) ⊛ ‵ (flft κ₇ q₇) ⊛ ‵ (flft κ₈ q₈) ⊛ ‵ ftrue) ∷ ‵ (MutSlice (named 0) (ν2a ∷ []) u64 .own (ref1 δ2a (ws1 .0)) (v1 ∷ [])) ∷ ‵ (ShrSlice (named 1) κ₅ mEntry.the-row .own s10 (v10 ∷ [])) ∷ ‵ (ShrSlice (named 2) κ₇ u64 .own s12 (v12 ∷ [])) ∷ ‵ (ShrSlice (named 3) κ₈ u64 .own s13 (v13 ∷ [])) ∷ []) ∵ nothing ! $ move ! (5 ∷ 0 ∷ []) $ fjoin ! $ move ! (4 ∷ 0 ∷ []) $ fjoin ! $ move ! (3 ∷ 0 ∷ []) $ fjoin ! $ owned ! u64 (Is u64) (uint-makes 𝓤 H A W w64) (n5) _ w5 $ fjoin ! $ owned ! u64 (Is u64) (uint-makes 𝓤 H A W w64) (n4) _ w4 $ fjoin ! $ owned ! u64 (Is u64) (uint-makes 𝓤 H A W w64) (n3) _ w3 $ fjoin ! $ owned ! u64 (Is u64) (uint-makes 𝓤 H A W w64) (n2) _ w2 $ fjoin ! $ owned ! u64 (Is u64) (uint-makes 𝓤 H A W w64) (n5) _ w5 $ fjoin ! $ owned ! u64 (Is u64) (uint-makes 𝓤 H A W w64) (6) _ (refl, lit< tt) $ fjoin ! $ move ! (2 ∷ 0 ∷ []) $ fjoin ! $ move ! (1 ∷ 0 ∷ []) $ join ! $ nothing ! $ move ! (1 ∷ 0 ∷ []) $ frame ! $ done !) $
-        calls-at ! fm (Callee-g1 𝓤 H A at-mem run) known-g1 ((((ν2a ∷ []), (κ₅, (κ₇, (κ₈, tt)))), (fullShare, (q₅, (q₇, (q₈, tt)))), tt, (ref1 δ2a (ws1 .0), (6, (n5, (n2, (n3, (n4, (n5, (s10, (s12, (s13, tt)))))))))), (v1 ∷ [], ((vint w64 6) ∷ [], (u5 ∷ [], (u2 ∷ [], (u3 ∷ [], (u4 ∷ [], (u5 ∷ [], (v10 ∷ [], (v12 ∷ [], (v13 ∷ [], tt))))))))))), tt) (and-then ! (load ! (from ! (stop !)) (look ! 48 refl)) (and-then ! (load ! (from ! (stop !)) (look ! 60 refl)) (and-then ! (load ! (from ! (stop !)) (look ! 86 refl)) (and-then ! (load ! (from ! (stop !)) (look ! 92 refl)) (and-then ! (load ! (from ! (stop !)) (look ! 90 refl)) (and-then ! (load ! (from ! (stop !)) (look ! 88 refl)) (and-then ! (load ! (from ! (stop !)) (look ! 86 refl)) (and-then ! (load ! (from ! (stop !)) (look ! 76 refl)) (and-then ! (load ! (from ! (stop !)) (look ! 72 refl)) (and-then ! (load ! (from ! (stop !)) (look ! 70 refl)) (no-more !))))))))))) (λ z2.
+        calls-at ! fm (Callee-g1 𝓤 H A at-mem run) known-g1 ((((ν2a ∷ []), (κ₅, (κ₇, (κ₈, tt)))), (fullShare, (q₅, (q₇, (q₈, tt)))), tt, (ref1 δ2a (ws1 .0), (6, (n5, (n2, (n3, (n4, (n5, (s10, (s12, (s13, tt)))))))))), (v1 ∷ [], ((vint w64 6) ∷ [], (u5 ∷ [], (u2 ∷ [], (u3 ∷ [], (u4 ∷ [], (u5 ∷ [], (v10 ∷ [], (v12 ∷ [], (v13 ∷ [], tt))))))))))), tt) (and-then ! (load ! (from ! (stop !)) (look ! 28 refl)) (and-then ! (load ! (from ! (stop !)) (look ! 34 refl)) (and-then ! (load ! (from ! (stop !)) (look ! 47 refl)) (and-then ! (load ! (from ! (stop !)) (look ! 50 refl)) (and-then ! (load ! (from ! (stop !)) (look ! 49 refl)) (and-then ! (load ! (from ! (stop !)) (look ! 48 refl)) (and-then ! (load ! (from ! (stop !)) (look ! 47 refl)) (and-then ! (load ! (from ! (stop !)) (look ! 42 refl)) (and-then ! (load ! (from ! (stop !)) (look ! 40 refl)) (and-then ! (load ! (from ! (stop !)) (look ! 39 refl)) (no-more !))))))))))) (λ z2.
         use1 W (later (some (λ (r2 : Unit {0}). ((‵ (flft (ν2a ∷ []) fullShare) ⊛ ‵ (flft κ₅ q₅) ⊛ ‵ (flft κ₇ q₇) ⊛ ‵ (flft κ₈ q₈) ⊛ ‵ ftrue) ⊛ ‵ (unit .own r2 (z2 ∷ []))) ⊛ some (λ (ws : Lasts g1.ended ((ν2a ∷ []), (κ₅, (κ₇, (κ₈, tt)))) (ref1 δ2a (ws1 .0), (6, (n5, (n2, (n3, (n4, (n5, (s10, (s12, (s13, tt))))))))))). ‵ (lasts g1.ended ((ν2a ∷ []), (κ₅, (κ₇, (κ₈, tt)))) (ref1 δ2a (ws1 .0), (6, (n5, (n2, (n3, (n4, (n5, (s10, (s12, (s13, tt)))))))))) ws) ⊛ raw (g1.clauses 𝓤 H A at-mem run ((ν2a ∷ []), (κ₅, (κ₇, (κ₈, tt)))) (ref1 δ2a (ws1 .0), (6, (n5, (n2, (n3, (n4, (n5, (s10, (s12, (s13, tt)))))))))) .ensures tt r2 (atExit g1.ended ((ν2a ∷ []), (κ₅, (κ₇, (κ₈, tt)))) (ref1 δ2a (ws1 .0), (6, (n5, (n2, (n3, (n4, (n5, (s10, (s12, (s13, tt)))))))))) ws)))))) (id⊢ 𝓤 _) $ await ! tt $ pick ! (λ r2. split ! $ move ! (1 ∷ []) $ pick ! (λ ws2. split ! $ move ! (1 ∷ []) $ heard ! _ (λ e2.
-        fsplit ! $ fsplit ! $ move ! (1 ∷ []) $ feqL ! (λ same2a. move ! (1 ∷ []) $ fsplit ! $ move ! (1 ∷ []) $ fsplit ! $ move ! (1 ∷ []) $ fsplit ! $ move ! (1 ∷ []) $ fsplit ! $ move ! (1 ∷ []) $ fsplit ! $ move ! (1 ∷ []) $ fsplit ! $ move ! (1 ∷ []) $ fsplit ! $ move ! (1 ∷ []) $ fsplit ! $ move ! (1 ∷ []) $ fsplit ! $ move ! (11 ∷ []) $ split ! $ move ! (1 ∷ []) $ feqL ! (λ i2. land ! (from ! (stop !)) (store ! 67 refl (subst (λ (t : Val). Trueᴮ (hasTy tyUnit t) × WT t) (sym (ap only i2)) (tt, tt))) $
-        split ! $ move ! (1 ∷ []) $ split ! $ move ! (1 ∷ []) $ split ! $ move ! (1 ∷ []) $ split ! $ move ! (1 ∷ []) $ move ! (4 ∷ []) $ lft-end ! tt $ move ! (0 ∷ 19 ∷ 15 ∷ []) $ use3 W (later (‵ (O1 (ws2 .0)) ⊛ ‵ (flft κ₀ q₀))) (backs1 (named 0) ν2a δ2a (ws1 .0) (ws2 .0) (same1a) room1 same2a) $ await ! tt $ split ! $
-        assigns ! (addr ! (from ! (fld ! refl (hop ! (look-in ! 108 (sub ! 0 refl (whole !))) (stop !))))) (from ! (stop !)) (init ! 60 refl (tt, tt)) $
-        assigns ! (agg ! (and-then ! (load ! (from ! (stop !)) (look ! 60 refl)) (and-then ! (load ! (from ! (fld ! refl (stop !))) (look-in ! 108 (sub ! 1 refl (whole !)))) (no-more !)))) (from ! (stop !)) (init ! 58 refl (tt, (tt, (record { fits = room1 .0 }, tt)))) $
-        lft-new ! tt (λ ν3a. move ! (1 ∷ 2 ∷ []) $ use2 W (later (some (λ (δ : GName). ‵ (MutSlice (named 0) (ν3a ∷ []) u64 .own (ref1 δ (ws2 .0)) (v1 ∷ [])) ⊛ ‵ (Lent1 ν3a δ (ws2 .0))))) (lends1 (named 0) ν3a (ws2 .0) (same2a ∙ same1a)) $ await ! tt $ pick ! (λ δ3a. split ! $ move ! (39 ∷ []) $ use1 W (‵ (O11) ⊛ ‵ (O11)) (shr-slice-copy 𝓤 H A W (named 6) κ₆ mEntry.the-row .twice s11 (v11 ∷ [])) $ split ! $ move ! (20 ∷ []) $ use1 W (‵ (O12) ⊛ ‵ (O12)) (shr-slice-copy 𝓤 H A W (named 7) κ₇ u64 .twice s12 (v12 ∷ [])) $ split ! $ move ! (21 ∷ []) $ use1 W (‵ (O13) ⊛ ‵ (O13)) (shr-slice-copy 𝓤 H A W (named 8) κ₈ u64 .twice s13 (v13 ∷ [])) $ split ! $ nothing ! $ move ! (11 ∷ 0 ∷ []) $ join ! $ move ! (11 ∷ 0 ∷ []) $ join ! $ move ! (37 ∷ 0 ∷ []) $ join ! $ move ! (9 ∷ 0 ∷ []) $ join ! $ move ! (3 ∷ 1 ∷ []) $ join ! $ move ! (4 ∷ 0 ∷ []) $ join ! $ move ! (5 ∷ 0 ∷ []) $ join ! $ move ! (1 ∷ 0 ∷ []) $ join ! $
+        fsplit ! $ fsplit ! $ move ! (1 ∷ []) $ feqL ! (λ same2a. move ! (1 ∷ []) $ drop ! $ move ! (1 ∷ []) $ split ! $ move ! (1 ∷ []) $ feqL ! (λ i2. land ! (from ! (stop !)) (store ! 33 refl (subst (λ (t : Val). Trueᴮ (hasTy tyUnit t) × WT t) (sym (ap only i2)) (tt, tt))) $
+        tidy W (_ ∷ _ ∷ _ ∷ _ ∷ _ ∷ _ ∷ _ ∷ _ ∷ _ ∷ _ ∷ _ ∷ _ ∷ _ ∷ _ ∷ _ ∷ _ ∷ _ ∷ _ ∷ _ ∷ _ ∷ _ ∷ _ ∷ _ ∷ _ ∷ _ ∷ _ ∷ _ ∷ _ ∷ _ ∷ _ ∷ _ ∷ _ ∷ _ ∷ _ ∷ _ ∷ _ ∷ _ ∷ _ ∷ _ ∷ _ ∷ _ ∷ _ ∷ _ ∷ _ ∷ _ ∷ _ ∷ _ ∷ _ ∷ _ ∷ _ ∷ _ ∷ _ ∷ _ ∷ _ ∷ []) $ split ! $ move ! (1 ∷ []) $ split ! $ move ! (1 ∷ []) $ split ! $ move ! (1 ∷ []) $ split ! $ move ! (1 ∷ []) $ drop ! $ move ! (3 ∷ []) $ lft-end ! tt $ move ! (0 ∷ 8 ∷ 4 ∷ []) $ use3 W (later (‵ (O1 (ws2 .0)) ⊛ ‵ (flft κ₀ q₀))) (backs1 (named 0) ν2a δ2a (ws1 .0) (ws2 .0) (same1a) room1 same2a) $ await ! tt $ split ! $
+        assigns ! (addr ! (from ! (fld ! refl (hop ! (look-in ! 54 (sub ! 0 refl (whole !))) (stop !))))) (from ! (stop !)) (init ! 30 refl (tt, tt)) $
+        assigns ! (agg ! (and-then ! (load ! (from ! (stop !)) (look ! 30 refl)) (and-then ! (load ! (from ! (fld ! refl (stop !))) (look-in ! 54 (sub ! 1 refl (whole !)))) (no-more !)))) (from ! (stop !)) (init ! 29 refl (tt, (tt, (record { fits = room1 .0 }, tt)))) $
+        lft-new ! tt (λ ν3a. move ! (1 ∷ 2 ∷ []) $ use2 W (later (some (λ (δ : GName). ‵ (MutSlice (named 0) (ν3a ∷ []) u64 .own (ref1 δ (ws2 .0)) (v1 ∷ [])) ⊛ ‵ (Lent1 ν3a δ (ws2 .0))))) (lends1 (named 0) ν3a (ws2 .0) (same2a ∙ same1a)) $ await ! tt $ pick ! (λ δ3a. split ! $ move ! (15 ∷ []) $ use1 W (‵ (O11) ⊛ ‵ (O11)) (shr-slice-copy 𝓤 H A W (named 6) κ₆ mEntry.the-row .twice s11 (v11 ∷ [])) $ split ! $ move ! (9 ∷ []) $ use1 W (‵ (O12) ⊛ ‵ (O12)) (shr-slice-copy 𝓤 H A W (named 7) κ₇ u64 .twice s12 (v12 ∷ [])) $ split ! $ move ! (10 ∷ []) $ use1 W (‵ (O13) ⊛ ‵ (O13)) (shr-slice-copy 𝓤 H A W (named 8) κ₈ u64 .twice s13 (v13 ∷ [])) $ split ! $ tidy W (_ ∷ _ ∷ _ ∷ _ ∷ _ ∷ _ ∷ _ ∷ _ ∷ _ ∷ _ ∷ _ ∷ _ ∷ _ ∷ _ ∷ _ ∷ _ ∷ _ ∷ _ ∷ _ ∷ _ ∷ _ ∷ _ ∷ _ ∷ _ ∷ _ ∷ _ ∷ _ ∷ _ ∷ _ ∷ _ ∷ _ ∷ _ ∷ _ ∷ _ ∷ _ ∷ _ ∷ _ ∷ _ ∷ _ ∷ _ ∷ _ ∷ _ ∷ _ ∷ _ ∷ _ ∷ _ ∷ _ ∷ _ ∷ _ ∷ _ ∷ _ ∷ _ ∷ _ ∷ _ ∷ _ ∷ _ ∷ _ ∷ _ ∷ _ ∷ _ ∷ []) $ nothing ! $ move ! (10 ∷ 0 ∷ []) $ join ! $ move ! (10 ∷ 0 ∷ []) $ join ! $ move ! (14 ∷ 0 ∷ []) $ join ! $ move ! (9 ∷ 0 ∷ []) $ join ! $ move ! (3 ∷ 1 ∷ []) $ join ! $ move ! (4 ∷ 0 ∷ []) $ join ! $ move ! (5 ∷ 0 ∷ []) $ join ! $ move ! (1 ∷ 0 ∷ []) $ join ! $
         -- call 3
         use1 W (raw (Callee-g1 𝓤 H A at-mem run .pre ((((ν3a ∷ []), (κ₆, (κ₇, (κ₈, tt)))), (fullShare, (q₆, (q₇, (q₈, tt)))), tt, (ref1 δ3a (ws2 .0), (7, (n5, (n2, (n3, (n4, (n5, (s11, (s12, (s13, tt)))))))))), (v1 ∷ [], ((vint w64 7) ∷ [], (u5 ∷ [], (u2 ∷ [], (u3 ∷ [], (u4 ∷ [], (u5 ∷ [], (v11 ∷ [], (v12 ∷ [], (v13 ∷ [], tt))))))))))), tt))) (qed W ((‵ (flft (ν3a ∷ []) fullShare) ⊛ ‵ (flft κ₆ q₆) ⊛ ‵ (flft κ₇ q₇) ⊛ ‵ (flft κ₈ q₈) ⊛ ‵ ftrue) ∷ ‵ (MutSlice (named 0) (ν3a ∷ []) u64 .own (ref1 δ3a (ws2 .0)) (v1 ∷ [])) ∷ ‵ (ShrSlice (named 1) κ₆ mEntry.the-row .own s11 (v11 ∷ [])) ∷ ‵ (ShrSlice (named 2) κ₇ u64 .own s12 (v12 ∷ [])) ∷ ‵ (ShrSlice (named 3) κ₈ u64 .own s13 (v13 ∷ [])) ∷ []) ∵ nothing ! $ move ! (5 ∷ 0 ∷ []) $ fjoin ! $ move ! (4 ∷ 0 ∷ []) $ fjoin ! $ move ! (3 ∷ 0 ∷ []) $ fjoin ! $ owned ! u64 (Is u64) (uint-makes 𝓤 H A W w64) (n5) _ w5 $ fjoin ! $ owned ! u64 (Is u64) (uint-makes 𝓤 H A W w64) (n4) _ w4 $ fjoin ! $ owned ! u64 (Is u64) (uint-makes 𝓤 H A W w64) (n3) _ w3 $ fjoin ! $ owned ! u64 (Is u64) (uint-makes 𝓤 H A W w64) (n2) _ w2 $ fjoin ! $ owned ! u64 (Is u64) (uint-makes 𝓤 H A W w64) (n5) _ w5 $ fjoin ! $ owned ! u64 (Is u64) (uint-makes 𝓤 H A W w64) (7) _ (refl, lit< tt) $ fjoin ! $ move ! (2 ∷ 0 ∷ []) $ fjoin ! $ move ! (1 ∷ 0 ∷ []) $ join ! $ nothing ! $ move ! (1 ∷ 0 ∷ []) $ frame ! $ done !) $
-        calls-at ! fm (Callee-g1 𝓤 H A at-mem run) known-g1 ((((ν3a ∷ []), (κ₆, (κ₇, (κ₈, tt)))), (fullShare, (q₆, (q₇, (q₈, tt)))), tt, (ref1 δ3a (ws2 .0), (7, (n5, (n2, (n3, (n4, (n5, (s11, (s12, (s13, tt)))))))))), (v1 ∷ [], ((vint w64 7) ∷ [], (u5 ∷ [], (u2 ∷ [], (u3 ∷ [], (u4 ∷ [], (u5 ∷ [], (v11 ∷ [], (v12 ∷ [], (v13 ∷ [], tt))))))))))), tt) (and-then ! (load ! (from ! (stop !)) (look ! 55 refl)) (and-then ! (load ! (from ! (stop !)) (look ! 69 refl)) (and-then ! (load ! (from ! (stop !)) (look ! 97 refl)) (and-then ! (load ! (from ! (stop !)) (look ! 103 refl)) (and-then ! (load ! (from ! (stop !)) (look ! 101 refl)) (and-then ! (load ! (from ! (stop !)) (look ! 99 refl)) (and-then ! (load ! (from ! (stop !)) (look ! 97 refl)) (and-then ! (load ! (from ! (stop !)) (look ! 85 refl)) (and-then ! (load ! (from ! (stop !)) (look ! 83 refl)) (and-then ! (load ! (from ! (stop !)) (look ! 81 refl)) (no-more !))))))))))) (λ z3.
+        calls-at ! fm (Callee-g1 𝓤 H A at-mem run) known-g1 ((((ν3a ∷ []), (κ₆, (κ₇, (κ₈, tt)))), (fullShare, (q₆, (q₇, (q₈, tt)))), tt, (ref1 δ3a (ws2 .0), (7, (n5, (n2, (n3, (n4, (n5, (s11, (s12, (s13, tt)))))))))), (v1 ∷ [], ((vint w64 7) ∷ [], (u5 ∷ [], (u2 ∷ [], (u3 ∷ [], (u4 ∷ [], (u5 ∷ [], (v11 ∷ [], (v12 ∷ [], (v13 ∷ [], tt))))))))))), tt) (and-then ! (load ! (from ! (stop !)) (look ! 26 refl)) (and-then ! (load ! (from ! (stop !)) (look ! 33 refl)) (and-then ! (load ! (from ! (stop !)) (look ! 47 refl)) (and-then ! (load ! (from ! (stop !)) (look ! 50 refl)) (and-then ! (load ! (from ! (stop !)) (look ! 49 refl)) (and-then ! (load ! (from ! (stop !)) (look ! 48 refl)) (and-then ! (load ! (from ! (stop !)) (look ! 47 refl)) (and-then ! (load ! (from ! (stop !)) (look ! 41 refl)) (and-then ! (load ! (from ! (stop !)) (look ! 40 refl)) (and-then ! (load ! (from ! (stop !)) (look ! 39 refl)) (no-more !))))))))))) (λ z3.
         use1 W (later (some (λ (r3 : Unit {0}). ((‵ (flft (ν3a ∷ []) fullShare) ⊛ ‵ (flft κ₆ q₆) ⊛ ‵ (flft κ₇ q₇) ⊛ ‵ (flft κ₈ q₈) ⊛ ‵ ftrue) ⊛ ‵ (unit .own r3 (z3 ∷ []))) ⊛ some (λ (ws : Lasts g1.ended ((ν3a ∷ []), (κ₆, (κ₇, (κ₈, tt)))) (ref1 δ3a (ws2 .0), (7, (n5, (n2, (n3, (n4, (n5, (s11, (s12, (s13, tt))))))))))). ‵ (lasts g1.ended ((ν3a ∷ []), (κ₆, (κ₇, (κ₈, tt)))) (ref1 δ3a (ws2 .0), (7, (n5, (n2, (n3, (n4, (n5, (s11, (s12, (s13, tt)))))))))) ws) ⊛ raw (g1.clauses 𝓤 H A at-mem run ((ν3a ∷ []), (κ₆, (κ₇, (κ₈, tt)))) (ref1 δ3a (ws2 .0), (7, (n5, (n2, (n3, (n4, (n5, (s11, (s12, (s13, tt)))))))))) .ensures tt r3 (atExit g1.ended ((ν3a ∷ []), (κ₆, (κ₇, (κ₈, tt)))) (ref1 δ3a (ws2 .0), (7, (n5, (n2, (n3, (n4, (n5, (s11, (s12, (s13, tt)))))))))) ws)))))) (id⊢ 𝓤 _) $ await ! tt $ pick ! (λ r3. split ! $ move ! (1 ∷ []) $ pick ! (λ ws3. split ! $ move ! (1 ∷ []) $ heard ! _ (λ e3.
-        fsplit ! $ fsplit ! $ move ! (1 ∷ []) $ feqL ! (λ same3a. move ! (1 ∷ []) $ fsplit ! $ move ! (1 ∷ []) $ fsplit ! $ move ! (1 ∷ []) $ fsplit ! $ move ! (1 ∷ []) $ fsplit ! $ move ! (1 ∷ []) $ fsplit ! $ move ! (1 ∷ []) $ fsplit ! $ move ! (1 ∷ []) $ fsplit ! $ move ! (1 ∷ []) $ fsplit ! $ move ! (1 ∷ []) $ fsplit ! $ move ! (11 ∷ []) $ split ! $ move ! (1 ∷ []) $ feqL ! (λ i3. land ! (from ! (stop !)) (store ! 78 refl (subst (λ (t : Val). Trueᴮ (hasTy tyUnit t) × WT t) (sym (ap only i3)) (tt, tt))) $
-        split ! $ move ! (1 ∷ []) $ split ! $ move ! (1 ∷ []) $ split ! $ move ! (1 ∷ []) $ split ! $ move ! (1 ∷ []) $ move ! (4 ∷ []) $ lft-end ! tt $ move ! (0 ∷ 19 ∷ 15 ∷ []) $ use3 W (later (‵ (O1 (ws3 .0)) ⊛ ‵ (flft κ₀ q₀))) (backs1 (named 0) ν3a δ3a (ws2 .0) (ws3 .0) (same2a ∙ same1a) room1 same3a) $ await ! tt $ split ! $
-        assigns ! (addr ! (from ! (fld ! refl (hop ! (look-in ! 119 (sub ! 0 refl (whole !))) (stop !))))) (from ! (stop !)) (init ! 67 refl (tt, tt)) $
-        assigns ! (agg ! (and-then ! (load ! (from ! (stop !)) (look ! 67 refl)) (and-then ! (load ! (from ! (fld ! refl (stop !))) (look-in ! 119 (sub ! 1 refl (whole !)))) (no-more !)))) (from ! (stop !)) (init ! 65 refl (tt, (tt, (record { fits = room1 .0 }, tt)))) $
-        lft-new ! tt (λ ν4a. move ! (1 ∷ 2 ∷ []) $ use2 W (later (some (λ (δ : GName). ‵ (MutSlice (named 0) (ν4a ∷ []) u64 .own (ref1 δ (ws3 .0)) (v1 ∷ [])) ⊛ ‵ (Lent1 ν4a δ (ws3 .0))))) (lends1 (named 0) ν4a (ws3 .0) (same3a ∙ same2a ∙ same1a)) $ await ! tt $ pick ! (λ δ4a. split ! $ move ! (53 ∷ []) $ use1 W (‵ (O6) ⊛ ‵ (O6)) (shr-slice-copy 𝓤 H A W (named 1) κ₁ mEntry.the-row .twice s6 (v6 ∷ [])) $ split ! $ move ! (20 ∷ []) $ use1 W (‵ (O12) ⊛ ‵ (O12)) (shr-slice-copy 𝓤 H A W (named 7) κ₇ u64 .twice s12 (v12 ∷ [])) $ split ! $ move ! (21 ∷ []) $ use1 W (‵ (O13) ⊛ ‵ (O13)) (shr-slice-copy 𝓤 H A W (named 8) κ₈ u64 .twice s13 (v13 ∷ [])) $ split ! $ nothing ! $ move ! (11 ∷ 0 ∷ []) $ join ! $ move ! (11 ∷ 0 ∷ []) $ join ! $ move ! (52 ∷ 0 ∷ []) $ join ! $ move ! (9 ∷ 0 ∷ []) $ join ! $ move ! (3 ∷ 1 ∷ []) $ join ! $ move ! (4 ∷ 0 ∷ []) $ join ! $ move ! (5 ∷ 0 ∷ []) $ join ! $ move ! (1 ∷ 0 ∷ []) $ join ! $
+        fsplit ! $ fsplit ! $ move ! (1 ∷ []) $ feqL ! (λ same3a. move ! (1 ∷ []) $ drop ! $ move ! (1 ∷ []) $ split ! $ move ! (1 ∷ []) $ feqL ! (λ i3. land ! (from ! (stop !)) (store ! 33 refl (subst (λ (t : Val). Trueᴮ (hasTy tyUnit t) × WT t) (sym (ap only i3)) (tt, tt))) $
+        tidy W (_ ∷ _ ∷ _ ∷ _ ∷ _ ∷ _ ∷ _ ∷ _ ∷ _ ∷ _ ∷ _ ∷ _ ∷ _ ∷ _ ∷ _ ∷ _ ∷ _ ∷ _ ∷ _ ∷ _ ∷ _ ∷ _ ∷ _ ∷ _ ∷ _ ∷ _ ∷ _ ∷ _ ∷ _ ∷ _ ∷ _ ∷ _ ∷ _ ∷ _ ∷ _ ∷ _ ∷ _ ∷ _ ∷ _ ∷ _ ∷ _ ∷ _ ∷ _ ∷ _ ∷ _ ∷ _ ∷ _ ∷ _ ∷ _ ∷ _ ∷ _ ∷ _ ∷ _ ∷ _ ∷ []) $ split ! $ move ! (1 ∷ []) $ split ! $ move ! (1 ∷ []) $ split ! $ move ! (1 ∷ []) $ split ! $ move ! (1 ∷ []) $ drop ! $ move ! (3 ∷ []) $ lft-end ! tt $ move ! (0 ∷ 8 ∷ 4 ∷ []) $ use3 W (later (‵ (O1 (ws3 .0)) ⊛ ‵ (flft κ₀ q₀))) (backs1 (named 0) ν3a δ3a (ws2 .0) (ws3 .0) (same2a ∙ same1a) room1 same3a) $ await ! tt $ split ! $
+        assigns ! (addr ! (from ! (fld ! refl (hop ! (look-in ! 54 (sub ! 0 refl (whole !))) (stop !))))) (from ! (stop !)) (init ! 28 refl (tt, tt)) $
+        assigns ! (agg ! (and-then ! (load ! (from ! (stop !)) (look ! 28 refl)) (and-then ! (load ! (from ! (fld ! refl (stop !))) (look-in ! 54 (sub ! 1 refl (whole !)))) (no-more !)))) (from ! (stop !)) (init ! 27 refl (tt, (tt, (record { fits = room1 .0 }, tt)))) $
+        lft-new ! tt (λ ν4a. move ! (1 ∷ 2 ∷ []) $ use2 W (later (some (λ (δ : GName). ‵ (MutSlice (named 0) (ν4a ∷ []) u64 .own (ref1 δ (ws3 .0)) (v1 ∷ [])) ⊛ ‵ (Lent1 ν4a δ (ws3 .0))))) (lends1 (named 0) ν4a (ws3 .0) (same3a ∙ same2a ∙ same1a)) $ await ! tt $ pick ! (λ δ4a. split ! $ move ! (18 ∷ []) $ use1 W (‵ (O6) ⊛ ‵ (O6)) (shr-slice-copy 𝓤 H A W (named 1) κ₁ mEntry.the-row .twice s6 (v6 ∷ [])) $ split ! $ move ! (9 ∷ []) $ use1 W (‵ (O12) ⊛ ‵ (O12)) (shr-slice-copy 𝓤 H A W (named 7) κ₇ u64 .twice s12 (v12 ∷ [])) $ split ! $ move ! (10 ∷ []) $ use1 W (‵ (O13) ⊛ ‵ (O13)) (shr-slice-copy 𝓤 H A W (named 8) κ₈ u64 .twice s13 (v13 ∷ [])) $ split ! $ tidy W (_ ∷ _ ∷ _ ∷ _ ∷ _ ∷ _ ∷ _ ∷ _ ∷ _ ∷ _ ∷ _ ∷ _ ∷ _ ∷ _ ∷ _ ∷ _ ∷ _ ∷ _ ∷ _ ∷ _ ∷ _ ∷ _ ∷ _ ∷ _ ∷ _ ∷ _ ∷ _ ∷ _ ∷ _ ∷ _ ∷ _ ∷ _ ∷ _ ∷ _ ∷ _ ∷ _ ∷ _ ∷ _ ∷ _ ∷ _ ∷ _ ∷ _ ∷ _ ∷ _ ∷ _ ∷ _ ∷ _ ∷ _ ∷ _ ∷ _ ∷ _ ∷ _ ∷ _ ∷ _ ∷ _ ∷ _ ∷ _ ∷ _ ∷ _ ∷ _ ∷ []) $ nothing ! $ move ! (10 ∷ 0 ∷ []) $ join ! $ move ! (10 ∷ 0 ∷ []) $ join ! $ move ! (18 ∷ 0 ∷ []) $ join ! $ move ! (9 ∷ 0 ∷ []) $ join ! $ move ! (3 ∷ 1 ∷ []) $ join ! $ move ! (4 ∷ 0 ∷ []) $ join ! $ move ! (5 ∷ 0 ∷ []) $ join ! $ move ! (1 ∷ 0 ∷ []) $ join ! $
         -- call 4
         use1 W (raw (Callee-g1 𝓤 H A at-mem run .pre ((((ν4a ∷ []), (κ₁, (κ₇, (κ₈, tt)))), (fullShare, (q₁, (q₇, (q₈, tt)))), tt, (ref1 δ4a (ws3 .0), (1, (n4, (n2, (n3, (n4, (n5, (s6, (s12, (s13, tt)))))))))), (v1 ∷ [], ((vint w64 1) ∷ [], (u4 ∷ [], (u2 ∷ [], (u3 ∷ [], (u4 ∷ [], (u5 ∷ [], (v6 ∷ [], (v12 ∷ [], (v13 ∷ [], tt))))))))))), tt))) (qed W ((‵ (flft (ν4a ∷ []) fullShare) ⊛ ‵ (flft κ₁ q₁) ⊛ ‵ (flft κ₇ q₇) ⊛ ‵ (flft κ₈ q₈) ⊛ ‵ ftrue) ∷ ‵ (MutSlice (named 0) (ν4a ∷ []) u64 .own (ref1 δ4a (ws3 .0)) (v1 ∷ [])) ∷ ‵ (ShrSlice (named 1) κ₁ mEntry.the-row .own s6 (v6 ∷ [])) ∷ ‵ (ShrSlice (named 2) κ₇ u64 .own s12 (v12 ∷ [])) ∷ ‵ (ShrSlice (named 3) κ₈ u64 .own s13 (v13 ∷ [])) ∷ []) ∵ nothing ! $ move ! (5 ∷ 0 ∷ []) $ fjoin ! $ move ! (4 ∷ 0 ∷ []) $ fjoin ! $ move ! (3 ∷ 0 ∷ []) $ fjoin ! $ owned ! u64 (Is u64) (uint-makes 𝓤 H A W w64) (n5) _ w5 $ fjoin ! $ owned ! u64 (Is u64) (uint-makes 𝓤 H A W w64) (n4) _ w4 $ fjoin ! $ owned ! u64 (Is u64) (uint-makes 𝓤 H A W w64) (n3) _ w3 $ fjoin ! $ owned ! u64 (Is u64) (uint-makes 𝓤 H A W w64) (n2) _ w2 $ fjoin ! $ owned ! u64 (Is u64) (uint-makes 𝓤 H A W w64) (n4) _ w4 $ fjoin ! $ owned ! u64 (Is u64) (uint-makes 𝓤 H A W w64) (1) _ (refl, lit< tt) $ fjoin ! $ move ! (2 ∷ 0 ∷ []) $ fjoin ! $ move ! (1 ∷ 0 ∷ []) $ join ! $ nothing ! $ move ! (1 ∷ 0 ∷ []) $ frame ! $ done !) $
-        calls-at ! fm (Callee-g1 𝓤 H A at-mem run) known-g1 ((((ν4a ∷ []), (κ₁, (κ₇, (κ₈, tt)))), (fullShare, (q₁, (q₇, (q₈, tt)))), tt, (ref1 δ4a (ws3 .0), (1, (n4, (n2, (n3, (n4, (n5, (s6, (s12, (s13, tt)))))))))), (v1 ∷ [], ((vint w64 1) ∷ [], (u4 ∷ [], (u2 ∷ [], (u3 ∷ [], (u4 ∷ [], (u5 ∷ [], (v6 ∷ [], (v12 ∷ [], (v13 ∷ [], tt))))))))))), tt) (and-then ! (load ! (from ! (stop !)) (look ! 62 refl)) (and-then ! (load ! (from ! (stop !)) (look ! 90 refl)) (and-then ! (load ! (from ! (stop !)) (look ! 110 refl)) (and-then ! (load ! (from ! (stop !)) (look ! 114 refl)) (and-then ! (load ! (from ! (stop !)) (look ! 112 refl)) (and-then ! (load ! (from ! (stop !)) (look ! 110 refl)) (and-then ! (load ! (from ! (stop !)) (look ! 108 refl)) (and-then ! (load ! (from ! (stop !)) (look ! 106 refl)) (and-then ! (load ! (from ! (stop !)) (look ! 94 refl)) (and-then ! (load ! (from ! (stop !)) (look ! 92 refl)) (no-more !))))))))))) (λ z4.
+        calls-at ! fm (Callee-g1 𝓤 H A at-mem run) known-g1 ((((ν4a ∷ []), (κ₁, (κ₇, (κ₈, tt)))), (fullShare, (q₁, (q₇, (q₈, tt)))), tt, (ref1 δ4a (ws3 .0), (1, (n4, (n2, (n3, (n4, (n5, (s6, (s12, (s13, tt)))))))))), (v1 ∷ [], ((vint w64 1) ∷ [], (u4 ∷ [], (u2 ∷ [], (u3 ∷ [], (u4 ∷ [], (u5 ∷ [], (v6 ∷ [], (v12 ∷ [], (v13 ∷ [], tt))))))))))), tt) (and-then ! (load ! (from ! (stop !)) (look ! 24 refl)) (and-then ! (load ! (from ! (stop !)) (look ! 38 refl)) (and-then ! (load ! (from ! (stop !)) (look ! 48 refl)) (and-then ! (load ! (from ! (stop !)) (look ! 50 refl)) (and-then ! (load ! (from ! (stop !)) (look ! 49 refl)) (and-then ! (load ! (from ! (stop !)) (look ! 48 refl)) (and-then ! (load ! (from ! (stop !)) (look ! 47 refl)) (and-then ! (load ! (from ! (stop !)) (look ! 46 refl)) (and-then ! (load ! (from ! (stop !)) (look ! 40 refl)) (and-then ! (load ! (from ! (stop !)) (look ! 39 refl)) (no-more !))))))))))) (λ z4.
         use1 W (later (some (λ (r4 : Unit {0}). ((‵ (flft (ν4a ∷ []) fullShare) ⊛ ‵ (flft κ₁ q₁) ⊛ ‵ (flft κ₇ q₇) ⊛ ‵ (flft κ₈ q₈) ⊛ ‵ ftrue) ⊛ ‵ (unit .own r4 (z4 ∷ []))) ⊛ some (λ (ws : Lasts g1.ended ((ν4a ∷ []), (κ₁, (κ₇, (κ₈, tt)))) (ref1 δ4a (ws3 .0), (1, (n4, (n2, (n3, (n4, (n5, (s6, (s12, (s13, tt))))))))))). ‵ (lasts g1.ended ((ν4a ∷ []), (κ₁, (κ₇, (κ₈, tt)))) (ref1 δ4a (ws3 .0), (1, (n4, (n2, (n3, (n4, (n5, (s6, (s12, (s13, tt)))))))))) ws) ⊛ raw (g1.clauses 𝓤 H A at-mem run ((ν4a ∷ []), (κ₁, (κ₇, (κ₈, tt)))) (ref1 δ4a (ws3 .0), (1, (n4, (n2, (n3, (n4, (n5, (s6, (s12, (s13, tt)))))))))) .ensures tt r4 (atExit g1.ended ((ν4a ∷ []), (κ₁, (κ₇, (κ₈, tt)))) (ref1 δ4a (ws3 .0), (1, (n4, (n2, (n3, (n4, (n5, (s6, (s12, (s13, tt)))))))))) ws)))))) (id⊢ 𝓤 _) $ await ! tt $ pick ! (λ r4. split ! $ move ! (1 ∷ []) $ pick ! (λ ws4. split ! $ move ! (1 ∷ []) $ heard ! _ (λ e4.
-        fsplit ! $ fsplit ! $ move ! (1 ∷ []) $ feqL ! (λ same4a. move ! (1 ∷ []) $ fsplit ! $ move ! (1 ∷ []) $ fsplit ! $ move ! (1 ∷ []) $ fsplit ! $ move ! (1 ∷ []) $ fsplit ! $ move ! (1 ∷ []) $ fsplit ! $ move ! (1 ∷ []) $ fsplit ! $ move ! (1 ∷ []) $ fsplit ! $ move ! (1 ∷ []) $ fsplit ! $ move ! (1 ∷ []) $ fsplit ! $ move ! (11 ∷ []) $ split ! $ move ! (1 ∷ []) $ feqL ! (λ i4. land ! (from ! (stop !)) (store ! 89 refl (subst (λ (t : Val). Trueᴮ (hasTy tyUnit t) × WT t) (sym (ap only i4)) (tt, tt))) $
-        split ! $ move ! (1 ∷ []) $ split ! $ move ! (1 ∷ []) $ split ! $ move ! (1 ∷ []) $ split ! $ move ! (1 ∷ []) $ move ! (4 ∷ []) $ lft-end ! tt $ move ! (0 ∷ 19 ∷ 15 ∷ []) $ use3 W (later (‵ (O1 (ws4 .0)) ⊛ ‵ (flft κ₀ q₀))) (backs1 (named 0) ν4a δ4a (ws3 .0) (ws4 .0) (same3a ∙ same2a ∙ same1a) room1 same4a) $ await ! tt $ split ! $
-        assigns ! (addr ! (from ! (fld ! refl (hop ! (look-in ! 130 (sub ! 0 refl (whole !))) (stop !))))) (from ! (stop !)) (init ! 74 refl (tt, tt)) $
-        assigns ! (agg ! (and-then ! (load ! (from ! (stop !)) (look ! 74 refl)) (and-then ! (load ! (from ! (fld ! refl (stop !))) (look-in ! 130 (sub ! 1 refl (whole !)))) (no-more !)))) (from ! (stop !)) (init ! 72 refl (tt, (tt, (record { fits = room1 .0 }, tt)))) $
-        lft-new ! tt (λ ν5a. move ! (1 ∷ 2 ∷ []) $ use2 W (later (some (λ (δ : GName). ‵ (MutSlice (named 0) (ν5a ∷ []) u64 .own (ref1 δ (ws4 .0)) (v1 ∷ [])) ⊛ ‵ (Lent1 ν5a δ (ws4 .0))))) (lends1 (named 0) ν5a (ws4 .0) (same4a ∙ same3a ∙ same2a ∙ same1a)) $ await ! tt $ pick ! (λ δ5a. split ! $ move ! (64 ∷ []) $ use1 W (‵ (O7) ⊛ ‵ (O7)) (shr-slice-copy 𝓤 H A W (named 2) κ₂ mEntry.the-row .twice s7 (v7 ∷ [])) $ split ! $ move ! (20 ∷ []) $ use1 W (‵ (O12) ⊛ ‵ (O12)) (shr-slice-copy 𝓤 H A W (named 7) κ₇ u64 .twice s12 (v12 ∷ [])) $ split ! $ move ! (21 ∷ []) $ use1 W (‵ (O13) ⊛ ‵ (O13)) (shr-slice-copy 𝓤 H A W (named 8) κ₈ u64 .twice s13 (v13 ∷ [])) $ split ! $ nothing ! $ move ! (11 ∷ 0 ∷ []) $ join ! $ move ! (11 ∷ 0 ∷ []) $ join ! $ move ! (64 ∷ 0 ∷ []) $ join ! $ move ! (9 ∷ 0 ∷ []) $ join ! $ move ! (3 ∷ 1 ∷ []) $ join ! $ move ! (4 ∷ 0 ∷ []) $ join ! $ move ! (5 ∷ 0 ∷ []) $ join ! $ move ! (1 ∷ 0 ∷ []) $ join ! $
+        fsplit ! $ fsplit ! $ move ! (1 ∷ []) $ feqL ! (λ same4a. move ! (1 ∷ []) $ drop ! $ move ! (1 ∷ []) $ split ! $ move ! (1 ∷ []) $ feqL ! (λ i4. land ! (from ! (stop !)) (store ! 33 refl (subst (λ (t : Val). Trueᴮ (hasTy tyUnit t) × WT t) (sym (ap only i4)) (tt, tt))) $
+        tidy W (_ ∷ _ ∷ _ ∷ _ ∷ _ ∷ _ ∷ _ ∷ _ ∷ _ ∷ _ ∷ _ ∷ _ ∷ _ ∷ _ ∷ _ ∷ _ ∷ _ ∷ _ ∷ _ ∷ _ ∷ _ ∷ _ ∷ _ ∷ _ ∷ _ ∷ _ ∷ _ ∷ _ ∷ _ ∷ _ ∷ _ ∷ _ ∷ _ ∷ _ ∷ _ ∷ _ ∷ _ ∷ _ ∷ _ ∷ _ ∷ _ ∷ _ ∷ _ ∷ _ ∷ _ ∷ _ ∷ _ ∷ _ ∷ _ ∷ _ ∷ _ ∷ _ ∷ _ ∷ _ ∷ []) $ split ! $ move ! (1 ∷ []) $ split ! $ move ! (1 ∷ []) $ split ! $ move ! (1 ∷ []) $ split ! $ move ! (1 ∷ []) $ drop ! $ move ! (3 ∷ []) $ lft-end ! tt $ move ! (0 ∷ 8 ∷ 4 ∷ []) $ use3 W (later (‵ (O1 (ws4 .0)) ⊛ ‵ (flft κ₀ q₀))) (backs1 (named 0) ν4a δ4a (ws3 .0) (ws4 .0) (same3a ∙ same2a ∙ same1a) room1 same4a) $ await ! tt $ split ! $
+        assigns ! (addr ! (from ! (fld ! refl (hop ! (look-in ! 54 (sub ! 0 refl (whole !))) (stop !))))) (from ! (stop !)) (init ! 26 refl (tt, tt)) $
+        assigns ! (agg ! (and-then ! (load ! (from ! (stop !)) (look ! 26 refl)) (and-then ! (load ! (from ! (fld ! refl (stop !))) (look-in ! 54 (sub ! 1 refl (whole !)))) (no-more !)))) (from ! (stop !)) (init ! 25 refl (tt, (tt, (record { fits = room1 .0 }, tt)))) $
+        lft-new ! tt (λ ν5a. move ! (1 ∷ 2 ∷ []) $ use2 W (later (some (λ (δ : GName). ‵ (MutSlice (named 0) (ν5a ∷ []) u64 .own (ref1 δ (ws4 .0)) (v1 ∷ [])) ⊛ ‵ (Lent1 ν5a δ (ws4 .0))))) (lends1 (named 0) ν5a (ws4 .0) (same4a ∙ same3a ∙ same2a ∙ same1a)) $ await ! tt $ pick ! (λ δ5a. split ! $ move ! (18 ∷ []) $ use1 W (‵ (O7) ⊛ ‵ (O7)) (shr-slice-copy 𝓤 H A W (named 2) κ₂ mEntry.the-row .twice s7 (v7 ∷ [])) $ split ! $ move ! (9 ∷ []) $ use1 W (‵ (O12) ⊛ ‵ (O12)) (shr-slice-copy 𝓤 H A W (named 7) κ₇ u64 .twice s12 (v12 ∷ [])) $ split ! $ move ! (10 ∷ []) $ use1 W (‵ (O13) ⊛ ‵ (O13)) (shr-slice-copy 𝓤 H A W (named 8) κ₈ u64 .twice s13 (v13 ∷ [])) $ split ! $ tidy W (_ ∷ _ ∷ _ ∷ _ ∷ _ ∷ _ ∷ _ ∷ _ ∷ _ ∷ _ ∷ _ ∷ _ ∷ _ ∷ _ ∷ _ ∷ _ ∷ _ ∷ _ ∷ _ ∷ _ ∷ _ ∷ _ ∷ _ ∷ _ ∷ _ ∷ _ ∷ _ ∷ _ ∷ _ ∷ _ ∷ _ ∷ _ ∷ _ ∷ _ ∷ _ ∷ _ ∷ _ ∷ _ ∷ _ ∷ _ ∷ _ ∷ _ ∷ _ ∷ _ ∷ _ ∷ _ ∷ _ ∷ _ ∷ _ ∷ _ ∷ _ ∷ _ ∷ _ ∷ _ ∷ _ ∷ _ ∷ _ ∷ _ ∷ _ ∷ _ ∷ []) $ nothing ! $ move ! (10 ∷ 0 ∷ []) $ join ! $ move ! (10 ∷ 0 ∷ []) $ join ! $ move ! (19 ∷ 0 ∷ []) $ join ! $ move ! (9 ∷ 0 ∷ []) $ join ! $ move ! (3 ∷ 1 ∷ []) $ join ! $ move ! (4 ∷ 0 ∷ []) $ join ! $ move ! (5 ∷ 0 ∷ []) $ join ! $ move ! (1 ∷ 0 ∷ []) $ join ! $
         -- call 5
         use1 W (raw (Callee-g1 𝓤 H A at-mem run .pre ((((ν5a ∷ []), (κ₂, (κ₇, (κ₈, tt)))), (fullShare, (q₂, (q₇, (q₈, tt)))), tt, (ref1 δ5a (ws4 .0), (2, (n4, (n2, (n3, (n4, (n5, (s7, (s12, (s13, tt)))))))))), (v1 ∷ [], ((vint w64 2) ∷ [], (u4 ∷ [], (u2 ∷ [], (u3 ∷ [], (u4 ∷ [], (u5 ∷ [], (v7 ∷ [], (v12 ∷ [], (v13 ∷ [], tt))))))))))), tt))) (qed W ((‵ (flft (ν5a ∷ []) fullShare) ⊛ ‵ (flft κ₂ q₂) ⊛ ‵ (flft κ₇ q₇) ⊛ ‵ (flft κ₈ q₈) ⊛ ‵ ftrue) ∷ ‵ (MutSlice (named 0) (ν5a ∷ []) u64 .own (ref1 δ5a (ws4 .0)) (v1 ∷ [])) ∷ ‵ (ShrSlice (named 1) κ₂ mEntry.the-row .own s7 (v7 ∷ [])) ∷ ‵ (ShrSlice (named 2) κ₇ u64 .own s12 (v12 ∷ [])) ∷ ‵ (ShrSlice (named 3) κ₈ u64 .own s13 (v13 ∷ [])) ∷ []) ∵ nothing ! $ move ! (5 ∷ 0 ∷ []) $ fjoin ! $ move ! (4 ∷ 0 ∷ []) $ fjoin ! $ move ! (3 ∷ 0 ∷ []) $ fjoin ! $ owned ! u64 (Is u64) (uint-makes 𝓤 H A W w64) (n5) _ w5 $ fjoin ! $ owned ! u64 (Is u64) (uint-makes 𝓤 H A W w64) (n4) _ w4 $ fjoin ! $ owned ! u64 (Is u64) (uint-makes 𝓤 H A W w64) (n3) _ w3 $ fjoin ! $ owned ! u64 (Is u64) (uint-makes 𝓤 H A W w64) (n2) _ w2 $ fjoin ! $ owned ! u64 (Is u64) (uint-makes 𝓤 H A W w64) (n4) _ w4 $ fjoin ! $ owned ! u64 (Is u64) (uint-makes 𝓤 H A W w64) (2) _ (refl, lit< tt) $ fjoin ! $ move ! (2 ∷ 0 ∷ []) $ fjoin ! $ move ! (1 ∷ 0 ∷ []) $ join ! $ nothing ! $ move ! (1 ∷ 0 ∷ []) $ frame ! $ done !) $
-        calls-at ! fm (Callee-g1 𝓤 H A at-mem run) known-g1 ((((ν5a ∷ []), (κ₂, (κ₇, (κ₈, tt)))), (fullShare, (q₂, (q₇, (q₈, tt)))), tt, (ref1 δ5a (ws4 .0), (2, (n4, (n2, (n3, (n4, (n5, (s7, (s12, (s13, tt)))))))))), (v1 ∷ [], ((vint w64 2) ∷ [], (u4 ∷ [], (u2 ∷ [], (u3 ∷ [], (u4 ∷ [], (u5 ∷ [], (v7 ∷ [], (v12 ∷ [], (v13 ∷ [], tt))))))))))), tt) (and-then ! (load ! (from ! (stop !)) (look ! 69 refl)) (and-then ! (load ! (from ! (stop !)) (look ! 99 refl)) (and-then ! (load ! (from ! (stop !)) (look ! 121 refl)) (and-then ! (load ! (from ! (stop !)) (look ! 125 refl)) (and-then ! (load ! (from ! (stop !)) (look ! 123 refl)) (and-then ! (load ! (from ! (stop !)) (look ! 121 refl)) (and-then ! (load ! (from ! (stop !)) (look ! 119 refl)) (and-then ! (load ! (from ! (stop !)) (look ! 115 refl)) (and-then ! (load ! (from ! (stop !)) (look ! 105 refl)) (and-then ! (load ! (from ! (stop !)) (look ! 103 refl)) (no-more !))))))))))) (λ z5.
+        calls-at ! fm (Callee-g1 𝓤 H A at-mem run) known-g1 ((((ν5a ∷ []), (κ₂, (κ₇, (κ₈, tt)))), (fullShare, (q₂, (q₇, (q₈, tt)))), tt, (ref1 δ5a (ws4 .0), (2, (n4, (n2, (n3, (n4, (n5, (s7, (s12, (s13, tt)))))))))), (v1 ∷ [], ((vint w64 2) ∷ [], (u4 ∷ [], (u2 ∷ [], (u3 ∷ [], (u4 ∷ [], (u5 ∷ [], (v7 ∷ [], (v12 ∷ [], (v13 ∷ [], tt))))))))))), tt) (and-then ! (load ! (from ! (stop !)) (look ! 22 refl)) (and-then ! (load ! (from ! (stop !)) (look ! 37 refl)) (and-then ! (load ! (from ! (stop !)) (look ! 48 refl)) (and-then ! (load ! (from ! (stop !)) (look ! 50 refl)) (and-then ! (load ! (from ! (stop !)) (look ! 49 refl)) (and-then ! (load ! (from ! (stop !)) (look ! 48 refl)) (and-then ! (load ! (from ! (stop !)) (look ! 47 refl)) (and-then ! (load ! (from ! (stop !)) (look ! 45 refl)) (and-then ! (load ! (from ! (stop !)) (look ! 40 refl)) (and-then ! (load ! (from ! (stop !)) (look ! 39 refl)) (no-more !))))))))))) (λ z5.
         use1 W (later (some (λ (r5 : Unit {0}). ((‵ (flft (ν5a ∷ []) fullShare) ⊛ ‵ (flft κ₂ q₂) ⊛ ‵ (flft κ₇ q₇) ⊛ ‵ (flft κ₈ q₈) ⊛ ‵ ftrue) ⊛ ‵ (unit .own r5 (z5 ∷ []))) ⊛ some (λ (ws : Lasts g1.ended ((ν5a ∷ []), (κ₂, (κ₇, (κ₈, tt)))) (ref1 δ5a (ws4 .0), (2, (n4, (n2, (n3, (n4, (n5, (s7, (s12, (s13, tt))))))))))). ‵ (lasts g1.ended ((ν5a ∷ []), (κ₂, (κ₇, (κ₈, tt)))) (ref1 δ5a (ws4 .0), (2, (n4, (n2, (n3, (n4, (n5, (s7, (s12, (s13, tt)))))))))) ws) ⊛ raw (g1.clauses 𝓤 H A at-mem run ((ν5a ∷ []), (κ₂, (κ₇, (κ₈, tt)))) (ref1 δ5a (ws4 .0), (2, (n4, (n2, (n3, (n4, (n5, (s7, (s12, (s13, tt)))))))))) .ensures tt r5 (atExit g1.ended ((ν5a ∷ []), (κ₂, (κ₇, (κ₈, tt)))) (ref1 δ5a (ws4 .0), (2, (n4, (n2, (n3, (n4, (n5, (s7, (s12, (s13, tt)))))))))) ws)))))) (id⊢ 𝓤 _) $ await ! tt $ pick ! (λ r5. split ! $ move ! (1 ∷ []) $ pick ! (λ ws5. split ! $ move ! (1 ∷ []) $ heard ! _ (λ e5.
-        fsplit ! $ fsplit ! $ move ! (1 ∷ []) $ feqL ! (λ same5a. move ! (1 ∷ []) $ fsplit ! $ move ! (1 ∷ []) $ fsplit ! $ move ! (1 ∷ []) $ fsplit ! $ move ! (1 ∷ []) $ fsplit ! $ move ! (1 ∷ []) $ fsplit ! $ move ! (1 ∷ []) $ fsplit ! $ move ! (1 ∷ []) $ fsplit ! $ move ! (1 ∷ []) $ fsplit ! $ move ! (1 ∷ []) $ fsplit ! $ move ! (11 ∷ []) $ split ! $ move ! (1 ∷ []) $ feqL ! (λ i5. land ! (from ! (stop !)) (store ! 100 refl (subst (λ (t : Val). Trueᴮ (hasTy tyUnit t) × WT t) (sym (ap only i5)) (tt, tt))) $
-        split ! $ move ! (1 ∷ []) $ split ! $ move ! (1 ∷ []) $ split ! $ move ! (1 ∷ []) $ split ! $ move ! (1 ∷ []) $ move ! (4 ∷ []) $ lft-end ! tt $ move ! (0 ∷ 19 ∷ 15 ∷ []) $ use3 W (later (‵ (O1 (ws5 .0)) ⊛ ‵ (flft κ₀ q₀))) (backs1 (named 0) ν5a δ5a (ws4 .0) (ws5 .0) (same4a ∙ same3a ∙ same2a ∙ same1a) room1 same5a) $ await ! tt $ split ! $
-        assigns ! (addr ! (from ! (fld ! refl (hop ! (look-in ! 141 (sub ! 0 refl (whole !))) (stop !))))) (from ! (stop !)) (init ! 81 refl (tt, tt)) $
-        assigns ! (agg ! (and-then ! (load ! (from ! (stop !)) (look ! 81 refl)) (and-then ! (load ! (from ! (fld ! refl (stop !))) (look-in ! 141 (sub ! 1 refl (whole !)))) (no-more !)))) (from ! (stop !)) (init ! 79 refl (tt, (tt, (record { fits = room1 .0 }, tt)))) $
-        lft-new ! tt (λ ν6a. move ! (1 ∷ 2 ∷ []) $ use2 W (later (some (λ (δ : GName). ‵ (MutSlice (named 0) (ν6a ∷ []) u64 .own (ref1 δ (ws5 .0)) (v1 ∷ [])) ⊛ ‵ (Lent1 ν6a δ (ws5 .0))))) (lends1 (named 0) ν6a (ws5 .0) (same5a ∙ same4a ∙ same3a ∙ same2a ∙ same1a)) $ await ! tt $ pick ! (λ δ6a. split ! $ move ! (75 ∷ []) $ use1 W (‵ (O8) ⊛ ‵ (O8)) (shr-slice-copy 𝓤 H A W (named 3) κ₃ mEntry.the-row .twice s8 (v8 ∷ [])) $ split ! $ move ! (20 ∷ []) $ use1 W (‵ (O12) ⊛ ‵ (O12)) (shr-slice-copy 𝓤 H A W (named 7) κ₇ u64 .twice s12 (v12 ∷ [])) $ split ! $ move ! (21 ∷ []) $ use1 W (‵ (O13) ⊛ ‵ (O13)) (shr-slice-copy 𝓤 H A W (named 8) κ₈ u64 .twice s13 (v13 ∷ [])) $ split ! $ nothing ! $ move ! (11 ∷ 0 ∷ []) $ join ! $ move ! (11 ∷ 0 ∷ []) $ join ! $ move ! (76 ∷ 0 ∷ []) $ join ! $ move ! (9 ∷ 0 ∷ []) $ join ! $ move ! (3 ∷ 1 ∷ []) $ join ! $ move ! (4 ∷ 0 ∷ []) $ join ! $ move ! (5 ∷ 0 ∷ []) $ join ! $ move ! (1 ∷ 0 ∷ []) $ join ! $
+        fsplit ! $ fsplit ! $ move ! (1 ∷ []) $ feqL ! (λ same5a. move ! (1 ∷ []) $ drop ! $ move ! (1 ∷ []) $ split ! $ move ! (1 ∷ []) $ feqL ! (λ i5. land ! (from ! (stop !)) (store ! 33 refl (subst (λ (t : Val). Trueᴮ (hasTy tyUnit t) × WT t) (sym (ap only i5)) (tt, tt))) $
+        tidy W (_ ∷ _ ∷ _ ∷ _ ∷ _ ∷ _ ∷ _ ∷ _ ∷ _ ∷ _ ∷ _ ∷ _ ∷ _ ∷ _ ∷ _ ∷ _ ∷ _ ∷ _ ∷ _ ∷ _ ∷ _ ∷ _ ∷ _ ∷ _ ∷ _ ∷ _ ∷ _ ∷ _ ∷ _ ∷ _ ∷ _ ∷ _ ∷ _ ∷ _ ∷ _ ∷ _ ∷ _ ∷ _ ∷ _ ∷ _ ∷ _ ∷ _ ∷ _ ∷ _ ∷ _ ∷ _ ∷ _ ∷ _ ∷ _ ∷ _ ∷ _ ∷ _ ∷ _ ∷ _ ∷ []) $ split ! $ move ! (1 ∷ []) $ split ! $ move ! (1 ∷ []) $ split ! $ move ! (1 ∷ []) $ split ! $ move ! (1 ∷ []) $ drop ! $ move ! (3 ∷ []) $ lft-end ! tt $ move ! (0 ∷ 8 ∷ 4 ∷ []) $ use3 W (later (‵ (O1 (ws5 .0)) ⊛ ‵ (flft κ₀ q₀))) (backs1 (named 0) ν5a δ5a (ws4 .0) (ws5 .0) (same4a ∙ same3a ∙ same2a ∙ same1a) room1 same5a) $ await ! tt $ split ! $
+        assigns ! (addr ! (from ! (fld ! refl (hop ! (look-in ! 54 (sub ! 0 refl (whole !))) (stop !))))) (from ! (stop !)) (init ! 24 refl (tt, tt)) $
+        assigns ! (agg ! (and-then ! (load ! (from ! (stop !)) (look ! 24 refl)) (and-then ! (load ! (from ! (fld ! refl (stop !))) (look-in ! 54 (sub ! 1 refl (whole !)))) (no-more !)))) (from ! (stop !)) (init ! 23 refl (tt, (tt, (record { fits = room1 .0 }, tt)))) $
+        lft-new ! tt (λ ν6a. move ! (1 ∷ 2 ∷ []) $ use2 W (later (some (λ (δ : GName). ‵ (MutSlice (named 0) (ν6a ∷ []) u64 .own (ref1 δ (ws5 .0)) (v1 ∷ [])) ⊛ ‵ (Lent1 ν6a δ (ws5 .0))))) (lends1 (named 0) ν6a (ws5 .0) (same5a ∙ same4a ∙ same3a ∙ same2a ∙ same1a)) $ await ! tt $ pick ! (λ δ6a. split ! $ move ! (18 ∷ []) $ use1 W (‵ (O8) ⊛ ‵ (O8)) (shr-slice-copy 𝓤 H A W (named 3) κ₃ mEntry.the-row .twice s8 (v8 ∷ [])) $ split ! $ move ! (9 ∷ []) $ use1 W (‵ (O12) ⊛ ‵ (O12)) (shr-slice-copy 𝓤 H A W (named 7) κ₇ u64 .twice s12 (v12 ∷ [])) $ split ! $ move ! (10 ∷ []) $ use1 W (‵ (O13) ⊛ ‵ (O13)) (shr-slice-copy 𝓤 H A W (named 8) κ₈ u64 .twice s13 (v13 ∷ [])) $ split ! $ tidy W (_ ∷ _ ∷ _ ∷ _ ∷ _ ∷ _ ∷ _ ∷ _ ∷ _ ∷ _ ∷ _ ∷ _ ∷ _ ∷ _ ∷ _ ∷ _ ∷ _ ∷ _ ∷ _ ∷ _ ∷ _ ∷ _ ∷ _ ∷ _ ∷ _ ∷ _ ∷ _ ∷ _ ∷ _ ∷ _ ∷ _ ∷ _ ∷ _ ∷ _ ∷ _ ∷ _ ∷ _ ∷ _ ∷ _ ∷ _ ∷ _ ∷ _ ∷ _ ∷ _ ∷ _ ∷ _ ∷ _ ∷ _ ∷ _ ∷ _ ∷ _ ∷ _ ∷ _ ∷ _ ∷ _ ∷ _ ∷ _ ∷ _ ∷ _ ∷ _ ∷ []) $ nothing ! $ move ! (10 ∷ 0 ∷ []) $ join ! $ move ! (10 ∷ 0 ∷ []) $ join ! $ move ! (20 ∷ 0 ∷ []) $ join ! $ move ! (9 ∷ 0 ∷ []) $ join ! $ move ! (3 ∷ 1 ∷ []) $ join ! $ move ! (4 ∷ 0 ∷ []) $ join ! $ move ! (5 ∷ 0 ∷ []) $ join ! $ move ! (1 ∷ 0 ∷ []) $ join ! $
         -- call 6
         use1 W (raw (Callee-g1 𝓤 H A at-mem run .pre ((((ν6a ∷ []), (κ₃, (κ₇, (κ₈, tt)))), (fullShare, (q₃, (q₇, (q₈, tt)))), tt, (ref1 δ6a (ws5 .0), (3, (n4, (n2, (n3, (n4, (n5, (s8, (s12, (s13, tt)))))))))), (v1 ∷ [], ((vint w64 3) ∷ [], (u4 ∷ [], (u2 ∷ [], (u3 ∷ [], (u4 ∷ [], (u5 ∷ [], (v8 ∷ [], (v12 ∷ [], (v13 ∷ [], tt))))))))))), tt))) (qed W ((‵ (flft (ν6a ∷ []) fullShare) ⊛ ‵ (flft κ₃ q₃) ⊛ ‵ (flft κ₇ q₇) ⊛ ‵ (flft κ₈ q₈) ⊛ ‵ ftrue) ∷ ‵ (MutSlice (named 0) (ν6a ∷ []) u64 .own (ref1 δ6a (ws5 .0)) (v1 ∷ [])) ∷ ‵ (ShrSlice (named 1) κ₃ mEntry.the-row .own s8 (v8 ∷ [])) ∷ ‵ (ShrSlice (named 2) κ₇ u64 .own s12 (v12 ∷ [])) ∷ ‵ (ShrSlice (named 3) κ₈ u64 .own s13 (v13 ∷ [])) ∷ []) ∵ nothing ! $ move ! (5 ∷ 0 ∷ []) $ fjoin ! $ move ! (4 ∷ 0 ∷ []) $ fjoin ! $ move ! (3 ∷ 0 ∷ []) $ fjoin ! $ owned ! u64 (Is u64) (uint-makes 𝓤 H A W w64) (n5) _ w5 $ fjoin ! $ owned ! u64 (Is u64) (uint-makes 𝓤 H A W w64) (n4) _ w4 $ fjoin ! $ owned ! u64 (Is u64) (uint-makes 𝓤 H A W w64) (n3) _ w3 $ fjoin ! $ owned ! u64 (Is u64) (uint-makes 𝓤 H A W w64) (n2) _ w2 $ fjoin ! $ owned ! u64 (Is u64) (uint-makes 𝓤 H A W w64) (n4) _ w4 $ fjoin ! $ owned ! u64 (Is u64) (uint-makes 𝓤 H A W w64) (3) _ (refl, lit< tt) $ fjoin ! $ move ! (2 ∷ 0 ∷ []) $ fjoin ! $ move ! (1 ∷ 0 ∷ []) $ join ! $ nothing ! $ move ! (1 ∷ 0 ∷ []) $ frame ! $ done !) $
-        calls-at ! fm (Callee-g1 𝓤 H A at-mem run) known-g1 ((((ν6a ∷ []), (κ₃, (κ₇, (κ₈, tt)))), (fullShare, (q₃, (q₇, (q₈, tt)))), tt, (ref1 δ6a (ws5 .0), (3, (n4, (n2, (n3, (n4, (n5, (s8, (s12, (s13, tt)))))))))), (v1 ∷ [], ((vint w64 3) ∷ [], (u4 ∷ [], (u2 ∷ [], (u3 ∷ [], (u4 ∷ [], (u5 ∷ [], (v8 ∷ [], (v12 ∷ [], (v13 ∷ [], tt))))))))))), tt) (and-then ! (load ! (from ! (stop !)) (look ! 76 refl)) (and-then ! (load ! (from ! (stop !)) (look ! 108 refl)) (and-then ! (load ! (from ! (stop !)) (look ! 132 refl)) (and-then ! (load ! (from ! (stop !)) (look ! 136 refl)) (and-then ! (load ! (from ! (stop !)) (look ! 134 refl)) (and-then ! (load ! (from ! (stop !)) (look ! 132 refl)) (and-then ! (load ! (from ! (stop !)) (look ! 130 refl)) (and-then ! (load ! (from ! (stop !)) (look ! 124 refl)) (and-then ! (load ! (from ! (stop !)) (look ! 116 refl)) (and-then ! (load ! (from ! (stop !)) (look ! 114 refl)) (no-more !))))))))))) (λ z6.
+        calls-at ! fm (Callee-g1 𝓤 H A at-mem run) known-g1 ((((ν6a ∷ []), (κ₃, (κ₇, (κ₈, tt)))), (fullShare, (q₃, (q₇, (q₈, tt)))), tt, (ref1 δ6a (ws5 .0), (3, (n4, (n2, (n3, (n4, (n5, (s8, (s12, (s13, tt)))))))))), (v1 ∷ [], ((vint w64 3) ∷ [], (u4 ∷ [], (u2 ∷ [], (u3 ∷ [], (u4 ∷ [], (u5 ∷ [], (v8 ∷ [], (v12 ∷ [], (v13 ∷ [], tt))))))))))), tt) (and-then ! (load ! (from ! (stop !)) (look ! 20 refl)) (and-then ! (load ! (from ! (stop !)) (look ! 36 refl)) (and-then ! (load ! (from ! (stop !)) (look ! 48 refl)) (and-then ! (load ! (from ! (stop !)) (look ! 50 refl)) (and-then ! (load ! (from ! (stop !)) (look ! 49 refl)) (and-then ! (load ! (from ! (stop !)) (look ! 48 refl)) (and-then ! (load ! (from ! (stop !)) (look ! 47 refl)) (and-then ! (load ! (from ! (stop !)) (look ! 44 refl)) (and-then ! (load ! (from ! (stop !)) (look ! 40 refl)) (and-then ! (load ! (from ! (stop !)) (look ! 39 refl)) (no-more !))))))))))) (λ z6.
         use1 W (later (some (λ (r6 : Unit {0}). ((‵ (flft (ν6a ∷ []) fullShare) ⊛ ‵ (flft κ₃ q₃) ⊛ ‵ (flft κ₇ q₇) ⊛ ‵ (flft κ₈ q₈) ⊛ ‵ ftrue) ⊛ ‵ (unit .own r6 (z6 ∷ []))) ⊛ some (λ (ws : Lasts g1.ended ((ν6a ∷ []), (κ₃, (κ₇, (κ₈, tt)))) (ref1 δ6a (ws5 .0), (3, (n4, (n2, (n3, (n4, (n5, (s8, (s12, (s13, tt))))))))))). ‵ (lasts g1.ended ((ν6a ∷ []), (κ₃, (κ₇, (κ₈, tt)))) (ref1 δ6a (ws5 .0), (3, (n4, (n2, (n3, (n4, (n5, (s8, (s12, (s13, tt)))))))))) ws) ⊛ raw (g1.clauses 𝓤 H A at-mem run ((ν6a ∷ []), (κ₃, (κ₇, (κ₈, tt)))) (ref1 δ6a (ws5 .0), (3, (n4, (n2, (n3, (n4, (n5, (s8, (s12, (s13, tt)))))))))) .ensures tt r6 (atExit g1.ended ((ν6a ∷ []), (κ₃, (κ₇, (κ₈, tt)))) (ref1 δ6a (ws5 .0), (3, (n4, (n2, (n3, (n4, (n5, (s8, (s12, (s13, tt)))))))))) ws)))))) (id⊢ 𝓤 _) $ await ! tt $ pick ! (λ r6. split ! $ move ! (1 ∷ []) $ pick ! (λ ws6. split ! $ move ! (1 ∷ []) $ heard ! _ (λ e6.
-        fsplit ! $ fsplit ! $ move ! (1 ∷ []) $ feqL ! (λ same6a. move ! (1 ∷ []) $ fsplit ! $ move ! (1 ∷ []) $ fsplit ! $ move ! (1 ∷ []) $ fsplit ! $ move ! (1 ∷ []) $ fsplit ! $ move ! (1 ∷ []) $ fsplit ! $ move ! (1 ∷ []) $ fsplit ! $ move ! (1 ∷ []) $ fsplit ! $ move ! (1 ∷ []) $ fsplit ! $ move ! (1 ∷ []) $ fsplit ! $ move ! (11 ∷ []) $ split ! $ move ! (1 ∷ []) $ feqL ! (λ i6. land ! (from ! (stop !)) (store ! 111 refl (subst (λ (t : Val). Trueᴮ (hasTy tyUnit t) × WT t) (sym (ap only i6)) (tt, tt))) $
-        split ! $ move ! (1 ∷ []) $ split ! $ move ! (1 ∷ []) $ split ! $ move ! (1 ∷ []) $ split ! $ move ! (1 ∷ []) $ move ! (4 ∷ []) $ lft-end ! tt $ move ! (0 ∷ 19 ∷ 15 ∷ []) $ use3 W (later (‵ (O1 (ws6 .0)) ⊛ ‵ (flft κ₀ q₀))) (backs1 (named 0) ν6a δ6a (ws5 .0) (ws6 .0) (same5a ∙ same4a ∙ same3a ∙ same2a ∙ same1a) room1 same6a) $ await ! tt $ split ! $
-        assigns ! (of-opd ! (unit-lit !)) (from ! (stop !)) (init ! 154 refl (tt, tt)) $
-        returns ! (look ! 154 refl) $ forget ! 154 refl $ forget ! 152 refl $ forget ! 150 refl $ forget ! 148 refl $ forget ! 146 refl $ forget ! 144 refl $ forget ! 142 refl $ forget ! 140 refl $ forget ! 138 refl $ forget ! 136 refl $ forget ! 134 refl $ forget ! 132 refl $ forget ! 130 refl $ forget ! 128 refl $ forget ! 126 refl $ forget ! 124 refl $ forget ! 122 refl $ forget ! 120 refl $ forget ! 118 refl $ forget ! 116 refl $ forget ! 114 refl $ forget ! 112 refl $ forget ! 110 refl $ forget ! 108 refl $ forget ! 106 refl $ forget ! 104 refl $ forget ! 102 refl $ forget ! 100 refl $ forget ! 98 refl $ forget ! 96 refl $ forget ! 94 refl $ forget ! 92 refl $ forget ! 90 refl $
-        move ! (154 ∷ 155 ∷ []) $ free1 ! $ move ! (152 ∷ 153 ∷ []) $ free1 ! $ move ! (150 ∷ 151 ∷ []) $ free1 ! $ move ! (148 ∷ 149 ∷ []) $ free1 ! $ move ! (146 ∷ 147 ∷ []) $ free1 ! $ move ! (144 ∷ 145 ∷ []) $ free1 ! $ move ! (142 ∷ 143 ∷ []) $ free1 ! $ move ! (140 ∷ 141 ∷ []) $ free1 ! $ move ! (138 ∷ 139 ∷ []) $ free1 ! $ move ! (136 ∷ 137 ∷ []) $ free1 ! $ move ! (134 ∷ 135 ∷ []) $ free1 ! $ move ! (132 ∷ 133 ∷ []) $ free1 ! $ move ! (130 ∷ 131 ∷ []) $ free1 ! $ move ! (128 ∷ 129 ∷ []) $ free1 ! $ move ! (126 ∷ 127 ∷ []) $ free1 ! $ move ! (124 ∷ 125 ∷ []) $ free1 ! $ move ! (122 ∷ 123 ∷ []) $ free1 ! $ move ! (120 ∷ 121 ∷ []) $ free1 ! $ move ! (118 ∷ 119 ∷ []) $ free1 ! $ move ! (116 ∷ 117 ∷ []) $ free1 ! $ move ! (114 ∷ 115 ∷ []) $ free1 ! $ move ! (112 ∷ 113 ∷ []) $ free1 ! $ move ! (110 ∷ 111 ∷ []) $ free1 ! $ move ! (108 ∷ 109 ∷ []) $ free1 ! $ move ! (106 ∷ 107 ∷ []) $ free1 ! $ move ! (104 ∷ 105 ∷ []) $ free1 ! $ move ! (102 ∷ 103 ∷ []) $ free1 ! $ move ! (100 ∷ 101 ∷ []) $ free1 ! $ move ! (98 ∷ 99 ∷ []) $ free1 ! $ move ! (96 ∷ 97 ∷ []) $ free1 ! $ move ! (94 ∷ 95 ∷ []) $ free1 ! $ move ! (92 ∷ 93 ∷ []) $ free1 ! $ move ! (90 ∷ 91 ∷ []) $ free1 ! $ free0 ! $
+        fsplit ! $ fsplit ! $ move ! (1 ∷ []) $ feqL ! (λ same6a. move ! (1 ∷ []) $ drop ! $ move ! (1 ∷ []) $ split ! $ move ! (1 ∷ []) $ feqL ! (λ i6. land ! (from ! (stop !)) (store ! 33 refl (subst (λ (t : Val). Trueᴮ (hasTy tyUnit t) × WT t) (sym (ap only i6)) (tt, tt))) $
+        tidy W (_ ∷ _ ∷ _ ∷ _ ∷ _ ∷ _ ∷ _ ∷ _ ∷ _ ∷ _ ∷ _ ∷ _ ∷ _ ∷ _ ∷ _ ∷ _ ∷ _ ∷ _ ∷ _ ∷ _ ∷ _ ∷ _ ∷ _ ∷ _ ∷ _ ∷ _ ∷ _ ∷ _ ∷ _ ∷ _ ∷ _ ∷ _ ∷ _ ∷ _ ∷ _ ∷ _ ∷ _ ∷ _ ∷ _ ∷ _ ∷ _ ∷ _ ∷ _ ∷ _ ∷ _ ∷ _ ∷ _ ∷ _ ∷ _ ∷ _ ∷ _ ∷ _ ∷ _ ∷ _ ∷ []) $ split ! $ move ! (1 ∷ []) $ split ! $ move ! (1 ∷ []) $ split ! $ move ! (1 ∷ []) $ split ! $ move ! (1 ∷ []) $ drop ! $ move ! (3 ∷ []) $ lft-end ! tt $ move ! (0 ∷ 8 ∷ 4 ∷ []) $ use3 W (later (‵ (O1 (ws6 .0)) ⊛ ‵ (flft κ₀ q₀))) (backs1 (named 0) ν6a δ6a (ws5 .0) (ws6 .0) (same5a ∙ same4a ∙ same3a ∙ same2a ∙ same1a) room1 same6a) $ await ! tt $ split ! $
+        assigns ! (of-opd ! (unit-lit !)) (from ! (stop !)) (init ! 55 refl (tt, tt)) $
+        tidy W (_ ∷ _ ∷ _ ∷ _ ∷ _ ∷ _ ∷ _ ∷ _ ∷ _ ∷ _ ∷ _ ∷ _ ∷ _ ∷ _ ∷ _ ∷ _ ∷ _ ∷ _ ∷ _ ∷ _ ∷ _ ∷ _ ∷ _ ∷ _ ∷ _ ∷ _ ∷ _ ∷ _ ∷ _ ∷ _ ∷ _ ∷ _ ∷ _ ∷ _ ∷ _ ∷ _ ∷ _ ∷ _ ∷ _ ∷ _ ∷ _ ∷ _ ∷ _ ∷ _ ∷ _ ∷ _ ∷ _ ∷ _ ∷ _ ∷ _ ∷ _ ∷ _ ∷ _ ∷ _ ∷ _ ∷ _ ∷ []) $ returns ! (look ! 55 refl) $ move ! (22 ∷ []) $ use1 W (dies ((tyUnit, l₀) ∷ (sliceTy (tyRef (named 0) mut (tyInt w64)), l₁) ∷ (tyInt w64, l₂) ∷ (tyInt w64, l₃) ∷ (tyInt w64, l₄) ∷ (tyInt w64, l₅) ∷ (sliceTy (tyRef (named 1) imm (pointee (mEntry.the-row .written))), l₆) ∷ (sliceTy (tyRef (named 2) imm (pointee (mEntry.the-row .written))), l₇) ∷ (sliceTy (tyRef (named 3) imm (pointee (mEntry.the-row .written))), l₈) ∷ (sliceTy (tyRef (named 4) imm (pointee (mEntry.the-row .written))), l₉) ∷ (sliceTy (tyRef (named 5) imm (pointee (mEntry.the-row .written))), l₁₀) ∷ (sliceTy (tyRef (named 6) imm (pointee (mEntry.the-row .written))), l₁₁) ∷ (sliceTy (tyRef (named 7) imm (tyInt w64)), l₁₂) ∷ (sliceTy (tyRef (named 8) imm (tyInt w64)), l₁₃) ∷ (tyInt w64, l₁₄) ∷ (tyInt w64, l₁₅) ∷ (tyInt w64, l₁₆) ∷ (tyInt w64, l₁₇) ∷ (tyInt w64, l₁₈) ∷ (tyInt w64, l₁₉) ∷ (tyUnit, l₂₀) ∷ (tyRef erased mut (tyInt w64), l₂₁) ∷ (sliceTy (tyRef erased mut (tyInt w64)), l₂₂) ∷ (tyRef erased mut (tyInt w64), l₂₃) ∷ (sliceTy (tyRef erased mut (tyInt w64)), l₂₄) ∷ (tyRef erased mut (tyInt w64), l₂₅) ∷ (sliceTy (tyRef erased mut (tyInt w64)), l₂₆) ∷ (tyRef erased mut (tyInt w64), l₂₇) ∷ (sliceTy (tyRef erased mut (tyInt w64)), l₂₈) ∷ (tyRef erased mut (tyInt w64), l₂₉) ∷ (sliceTy (tyRef erased mut (tyInt w64)), l₃₀) ∷ (tyRef erased mut (tyInt w64), l₃₁) ∷ (sliceTy (tyRef erased mut (tyInt w64)), l₃₂) ∷ []) (‵ ftrue)) die $ free-all ! 22 ((tyUnit, l₀) ∷ (sliceTy (tyRef (named 0) mut (tyInt w64)), l₁) ∷ (tyInt w64, l₂) ∷ (tyInt w64, l₃) ∷ (tyInt w64, l₄) ∷ (tyInt w64, l₅) ∷ (sliceTy (tyRef (named 1) imm (pointee (mEntry.the-row .written))), l₆) ∷ (sliceTy (tyRef (named 2) imm (pointee (mEntry.the-row .written))), l₇) ∷ (sliceTy (tyRef (named 3) imm (pointee (mEntry.the-row .written))), l₈) ∷ (sliceTy (tyRef (named 4) imm (pointee (mEntry.the-row .written))), l₉) ∷ (sliceTy (tyRef (named 5) imm (pointee (mEntry.the-row .written))), l₁₀) ∷ (sliceTy (tyRef (named 6) imm (pointee (mEntry.the-row .written))), l₁₁) ∷ (sliceTy (tyRef (named 7) imm (tyInt w64)), l₁₂) ∷ (sliceTy (tyRef (named 8) imm (tyInt w64)), l₁₃) ∷ (tyInt w64, l₁₄) ∷ (tyInt w64, l₁₅) ∷ (tyInt w64, l₁₆) ∷ (tyInt w64, l₁₇) ∷ (tyInt w64, l₁₈) ∷ (tyInt w64, l₁₉) ∷ (tyUnit, l₂₀) ∷ (tyRef erased mut (tyInt w64), l₂₁) ∷ (sliceTy (tyRef erased mut (tyInt w64)), l₂₂) ∷ (tyRef erased mut (tyInt w64), l₂₃) ∷ (sliceTy (tyRef erased mut (tyInt w64)), l₂₄) ∷ (tyRef erased mut (tyInt w64), l₂₅) ∷ (sliceTy (tyRef erased mut (tyInt w64)), l₂₆) ∷ (tyRef erased mut (tyInt w64), l₂₇) ∷ (sliceTy (tyRef erased mut (tyInt w64)), l₂₈) ∷ (tyRef erased mut (tyInt w64), l₂₉) ∷ (sliceTy (tyRef erased mut (tyInt w64)), l₃₀) ∷ (tyRef erased mut (tyInt w64), l₃₁) ∷ (sliceTy (tyRef erased mut (tyInt w64)), l₃₂) ∷ []) (kept _ ∷ kept _ ∷ kept _ ∷ kept _ ∷ kept _ ∷ kept _ ∷ kept _ ∷ kept _ ∷ kept _ ∷ kept _ ∷ kept _ ∷ kept _ ∷ kept _ ∷ kept _ ∷ kept _ ∷ kept _ ∷ kept _ ∷ kept _ ∷ kept _ ∷ kept _ ∷ kept _ ∷ kept _ ∷ kept _ ∷ kept _ ∷ kept _ ∷ kept _ ∷ kept _ ∷ kept _ ∷ kept _ ∷ kept _ ∷ kept _ ∷ kept _ ∷ kept _ ∷ []) refl $
         suffices ! _ (ends-at 𝓤 H A f.ended stayed (f.clauses 𝓤 H A at-mem run) W (((κ₀, (κ₁, (κ₂, (κ₃, (κ₄, (κ₅, (κ₆, (κ₇, (κ₈, tt))))))))), (q₀, (q₁, (q₂, (q₃, (q₄, (q₅, (q₆, (q₇, (q₈, tt))))))))), tt, a, at), tt) vunit tt (ws6 .0, (tt, (tt, (tt, (tt, (tt, (tt, (tt, (tt, (tt, (tt, (tt, (tt, tt))))))))))))) (same6a ∙ same5a ∙ same4a ∙ same3a ∙ same2a ∙ same1a, (tt, (tt, (tt, (tt, (tt, (tt, (tt, (tt, (tt, (tt, (tt, (tt, tt)))))))))))))) $ says ! (cc) $
-        nothing ! $ move ! (4 ∷ 0 ∷ []) $ join ! $ move ! (4 ∷ 0 ∷ []) $ join ! $ move ! (45 ∷ 0 ∷ []) $ join ! $ move ! (57 ∷ 0 ∷ []) $ join ! $ move ! (69 ∷ 0 ∷ []) $ join ! $ move ! (4 ∷ 0 ∷ []) $ join ! $ move ! (18 ∷ 0 ∷ []) $ join ! $ move ! (30 ∷ 0 ∷ []) $ join ! $ move ! (2 ∷ 0 ∷ []) $ join ! $ nothing ! $ move ! (14 ∷ 0 ∷ []) $ fjoin ! $ move ! (14 ∷ 0 ∷ []) $ fjoin ! $ move ! (50 ∷ 0 ∷ []) $ fjoin ! $ move ! (61 ∷ 0 ∷ []) $ fjoin ! $ move ! (72 ∷ 0 ∷ []) $ fjoin ! $ move ! (14 ∷ 0 ∷ []) $ fjoin ! $ move ! (25 ∷ 0 ∷ []) $ fjoin ! $ move ! (36 ∷ 0 ∷ []) $ fjoin ! $ move ! (71 ∷ 0 ∷ []) $ fjoin ! $ move ! (71 ∷ 0 ∷ []) $ fjoin ! $ move ! (71 ∷ 0 ∷ []) $ fjoin ! $ move ! (71 ∷ 0 ∷ []) $ fjoin ! $ move ! (2 ∷ 0 ∷ []) $ fjoin ! $ keep ! (1 ∷ 0 ∷ []) $ frame ! $ feqI ! (List Val) (vunit ∷ []) (vunit ∷ []) refl $ move ! (1 ∷ 0 ∷ []) $ done !)))))))))))))))))))))))))))))))))))))))))))))))))))))))))))))))))))))))))))))))))
+        nothing ! $ move ! (3 ∷ 0 ∷ []) $ join ! $ move ! (3 ∷ 0 ∷ []) $ join ! $ move ! (11 ∷ 0 ∷ []) $ join ! $ move ! (12 ∷ 0 ∷ []) $ join ! $ move ! (13 ∷ 0 ∷ []) $ join ! $ move ! (3 ∷ 0 ∷ []) $ join ! $ move ! (6 ∷ 0 ∷ []) $ join ! $ move ! (7 ∷ 0 ∷ []) $ join ! $ move ! (2 ∷ 0 ∷ []) $ join ! $ nothing ! $ move ! (3 ∷ 0 ∷ []) $ fjoin ! $ move ! (3 ∷ 0 ∷ []) $ fjoin ! $ move ! (6 ∷ 0 ∷ []) $ fjoin ! $ move ! (6 ∷ 0 ∷ []) $ fjoin ! $ move ! (6 ∷ 0 ∷ []) $ fjoin ! $ move ! (3 ∷ 0 ∷ []) $ fjoin ! $ move ! (3 ∷ 0 ∷ []) $ fjoin ! $ move ! (3 ∷ 0 ∷ []) $ fjoin ! $ move ! (3 ∷ 0 ∷ []) $ fjoin ! $ move ! (3 ∷ 0 ∷ []) $ fjoin ! $ move ! (3 ∷ 0 ∷ []) $ fjoin ! $ move ! (3 ∷ 0 ∷ []) $ fjoin ! $ move ! (2 ∷ 0 ∷ []) $ fjoin ! $ keep ! (1 ∷ 0 ∷ []) $ frame ! $ feqI ! (List Val) (vunit ∷ []) (vunit ∷ []) refl $ move ! (1 ∷ 0 ∷ []) $ done !))))))))))))))))))))))))))))))))))))))))))))))))))))))))))))))))))))))))))))))))))
 
 module _ {M : Type 1} (𝓤 : URA M) (H : Heap 𝓤) (A : Atoms 𝓤) (W : Given 𝓤 H A) (mem : Memory → SProp 𝓤) (run : Routine → Fun 𝓤) where
   walks : (C : Calls 𝓤 H) (Λ : Loops 𝓤 H) → FmC 𝓤 H (W .laws) C → Triple 𝓤 (C #g1) (Callee-g1 𝓤 H A mem run) → Walks 𝓤 H A f.ended stayed (WpFn 𝓤 H C Λ code.function) (f.clauses 𝓤 H A mem run)

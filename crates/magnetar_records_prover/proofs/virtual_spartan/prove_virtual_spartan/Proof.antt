@@ -20,7 +20,7 @@ use contract.Monad.{Fun, fact}
 use contract.Running.{givenOf, tables, tablesOf}
 use types.Kit.{Given, ‵, raw, _⊛_, ⋆, some, later, _$_, _∵_, !, qed, by, move, keep, drop, use1, use2, use3, split, join, pick, fsplit, fsplit3, fjoin, fjoin3, feqL, feqI, rewrite, atRet, suffices, frame, await, done}
 use types.Part.{agg, whole, sub, look-in}
-use types.Run.{look, look-raw, init, store, store-raw, forget, stop, hop, fld, from, load, unit-lit, of-opd, addr, and-then, no-more, lit, true-lit, false-lit, assigns, assigns-last, land, land-last, first, branches, skips, exec, returns, enter, alloc1, alloc0, params1, pass1, pass0, free1, free0}
+use types.Run.{look, look-raw, init, store, store-raw, stop, hop, fld, from, load, unit-lit, of-opd, addr, and-then, no-more, lit, true-lit, false-lit, assigns, assigns-last, land, land-last, first, branches, skips, exec, returns, enter, alloc0, params1, pass1, pass0}
 use types.Tokens.{lft-new, lft-end}
 use sound.WpLaws.{FmC, fmOf, WpFn-mono}
 use denote.RattleType.{owns}
@@ -54,6 +54,7 @@ use Rattle.magnetar_inplace.proofs.records.Entry.Laws as lEntry
 use Rattle.magnetar_hash.specs.declared.transcript.TranscriptAnswer.{TranscriptAnswer}
 use Rattle.magnetar_hash.proofs.transcript.TranscriptAnswer as mTranscriptAnswer
 use Rattle.magnetar_hash.proofs.transcript.TranscriptAnswer.Laws as lTranscriptAnswer
+use Rattle.magnetar_inplace.proofs.Locals.{tidy, bare, kept, dies, alloc, hide, free-all}
 use Rattle.magnetar_inplace.proofs.Again.{LentAgain, lends-again, comes-back}
 use Rattle.magnetar_records_prover.proofs.virtual_spartan.prove as g1
 use Rattle.magnetar_records_prover.proofs.virtual_spartan.prove.Symbol as g1-def
@@ -284,45 +285,44 @@ module _ {M : Type 1} (𝓤 : URA M) (H : Heap 𝓤) (A : Atoms 𝓤) (W : Given
     walk : ent 𝓤 (onEntry 𝓤 H A f.signature (κ₀, (κ₁, (κ₂, (κ₃, (κ₄, (κ₅, (κ₆, (κ₇, (κ₈, (κ₉, (κ₁₀, (κ₁₁, (κ₁₂, tt))))))))))))) (q₀, (q₁, (q₂, (q₃, (q₄, (q₅, (q₆, (q₇, (q₈, (q₉, (q₁₀, (q₁₁, (q₁₂, tt))))))))))))) a at) (WpFn 𝓤 H C Λ code.function (v1 ∷ v2 ∷ v3 ∷ v4 ∷ v5 ∷ v6 ∷ v7 ∷ v8 ∷ v9 ∷ v10 ∷ v11 ∷ v12 ∷ v13 ∷ v14 ∷ v15 ∷ v16 ∷ v17 ∷ v18 ∷ v19 ∷ v20 ∷ v21 ∷ v22 ∷ v23 ∷ v24 ∷ v25 ∷ v26 ∷ v27 ∷ []) Post)
     walk =
         qed W ((‵ (flft κ₀ q₀) ⊛ ‵ (flft κ₁ q₁) ⊛ ‵ (flft κ₂ q₂) ⊛ ‵ (flft κ₃ q₃) ⊛ ‵ (flft κ₄ q₄) ⊛ ‵ (flft κ₅ q₅) ⊛ ‵ (flft κ₆ q₆) ⊛ ‵ (flft κ₇ q₇) ⊛ ‵ (flft κ₈ q₈) ⊛ ‵ (flft κ₉ q₉) ⊛ ‵ (flft κ₁₀ q₁₀) ⊛ ‵ (flft κ₁₁ q₁₁) ⊛ ‵ (flft κ₁₂ q₁₂) ⊛ ‵ ftrue) ∷ ‵ (owns (MutRef (named 0) κ₀ mTranscript.the-row ∷ MutSlice (named 1) κ₁ u64 ∷ MutSlice (named 2) κ₂ u64 ∷ MutSlice (named 3) κ₃ u64 ∷ u64 ∷ u64 ∷ ShrSlice (named 4) κ₄ u64 ∷ u64 ∷ u64 ∷ ShrSlice (named 5) κ₅ mEntry.the-row ∷ u64 ∷ u64 ∷ ShrSlice (named 6) κ₆ mEntry.the-row ∷ u64 ∷ u64 ∷ ShrSlice (named 7) κ₇ mEntry.the-row ∷ u64 ∷ u64 ∷ ShrSlice (named 8) κ₈ mEntry.the-row ∷ u64 ∷ u64 ∷ ShrSlice (named 9) κ₉ mEntry.the-row ∷ u64 ∷ u64 ∷ ShrSlice (named 10) κ₁₀ mEntry.the-row ∷ ShrSlice (named 11) κ₁₁ u64 ∷ ShrSlice (named 12) κ₁₂ u64 ∷ []) a at) ∷ []) ∵ enter ! C Λ code.function (v1 ∷ v2 ∷ v3 ∷ v4 ∷ v5 ∷ v6 ∷ v7 ∷ v8 ∷ v9 ∷ v10 ∷ v11 ∷ v12 ∷ v13 ∷ v14 ∷ v15 ∷ v16 ∷ v17 ∷ v18 ∷ v19 ∷ v20 ∷ v21 ∷ v22 ∷ v23 ∷ v24 ∷ v25 ∷ v26 ∷ v27 ∷ []) _ $
-        alloc1 ! (λ l₀. alloc1 ! (λ l₁. alloc1 ! (λ l₂. alloc1 ! (λ l₃. alloc1 ! (λ l₄. alloc1 ! (λ l₅. alloc1 ! (λ l₆. alloc1 ! (λ l₇. alloc1 ! (λ l₈. alloc1 ! (λ l₉. alloc1 ! (λ l₁₀. alloc1 ! (λ l₁₁. alloc1 ! (λ l₁₂. alloc1 ! (λ l₁₃. alloc1 ! (λ l₁₄. alloc1 ! (λ l₁₅. alloc1 ! (λ l₁₆. alloc1 ! (λ l₁₇. alloc1 ! (λ l₁₈. alloc1 ! (λ l₁₉. alloc1 ! (λ l₂₀. alloc1 ! (λ l₂₁. alloc1 ! (λ l₂₂. alloc1 ! (λ l₂₃. alloc1 ! (λ l₂₄. alloc1 ! (λ l₂₅. alloc1 ! (λ l₂₆. alloc1 ! (λ l₂₇. alloc1 ! (λ l₂₈. alloc1 ! (λ l₂₉. alloc1 ! (λ l₃₀. alloc1 ! (λ l₃₁. alloc1 ! (λ l₃₂. alloc1 ! (λ l₃₃. alloc1 ! (λ l₃₄. alloc1 ! (λ l₃₅. alloc0 ! $ params1 ! $ pass1 ! (init ! 68 refl (tt, tt)) $ pass1 ! (init ! 66 refl (tt, (tt, (record { fits = room2 .0 }, tt)))) $ pass1 ! (init ! 64 refl (tt, (tt, (record { fits = room3 .0 }, tt)))) $ pass1 ! (init ! 62 refl (tt, (tt, (record { fits = room4 .0 }, tt)))) $ pass1 ! (init ! 60 refl (uint-lawful 𝓤 H A W w64 .typed n5 _ w5 .0)) $ pass1 ! (init ! 58 refl (uint-lawful 𝓤 H A W w64 .typed n6 _ w6 .0)) $ pass1 ! (init ! 56 refl (shr-slice-lawful 𝓤 H A W (named 4) κ₄ u64 .typed s7 (v7 ∷ []) w7 .0)) $ pass1 ! (init ! 54 refl (uint-lawful 𝓤 H A W w64 .typed n8 _ w8 .0)) $ pass1 ! (init ! 52 refl (uint-lawful 𝓤 H A W w64 .typed n9 _ w9 .0)) $ pass1 ! (init ! 50 refl (shr-slice-lawful 𝓤 H A W (named 5) κ₅ mEntry.the-row .typed s10 (v10 ∷ []) w10 .0)) $ pass1 ! (init ! 48 refl (uint-lawful 𝓤 H A W w64 .typed n11 _ w11 .0)) $ pass1 ! (init ! 46 refl (uint-lawful 𝓤 H A W w64 .typed n12 _ w12 .0)) $ pass1 ! (init ! 44 refl (shr-slice-lawful 𝓤 H A W (named 6) κ₆ mEntry.the-row .typed s13 (v13 ∷ []) w13 .0)) $ pass1 ! (init ! 42 refl (uint-lawful 𝓤 H A W w64 .typed n14 _ w14 .0)) $ pass1 ! (init ! 40 refl (uint-lawful 𝓤 H A W w64 .typed n15 _ w15 .0)) $ pass1 ! (init ! 38 refl (shr-slice-lawful 𝓤 H A W (named 7) κ₇ mEntry.the-row .typed s16 (v16 ∷ []) w16 .0)) $ pass1 ! (init ! 36 refl (uint-lawful 𝓤 H A W w64 .typed n17 _ w17 .0)) $ pass1 ! (init ! 34 refl (uint-lawful 𝓤 H A W w64 .typed n18 _ w18 .0)) $ pass1 ! (init ! 32 refl (shr-slice-lawful 𝓤 H A W (named 8) κ₈ mEntry.the-row .typed s19 (v19 ∷ []) w19 .0)) $ pass1 ! (init ! 30 refl (uint-lawful 𝓤 H A W w64 .typed n20 _ w20 .0)) $ pass1 ! (init ! 28 refl (uint-lawful 𝓤 H A W w64 .typed n21 _ w21 .0)) $ pass1 ! (init ! 26 refl (shr-slice-lawful 𝓤 H A W (named 9) κ₉ mEntry.the-row .typed s22 (v22 ∷ []) w22 .0)) $ pass1 ! (init ! 24 refl (uint-lawful 𝓤 H A W w64 .typed n23 _ w23 .0)) $ pass1 ! (init ! 22 refl (uint-lawful 𝓤 H A W w64 .typed n24 _ w24 .0)) $ pass1 ! (init ! 20 refl (shr-slice-lawful 𝓤 H A W (named 10) κ₁₀ mEntry.the-row .typed s25 (v25 ∷ []) w25 .0)) $ pass1 ! (init ! 18 refl (shr-slice-lawful 𝓤 H A W (named 11) κ₁₁ u64 .typed s26 (v26 ∷ []) w26 .0)) $ pass1 ! (init ! 16 refl (shr-slice-lawful 𝓤 H A W (named 12) κ₁₂ u64 .typed s27 (v27 ∷ []) w27 .0)) $ pass0 ! $
-        move ! (73 ∷ []) $ fsplit ! $ move ! (1 ∷ []) $ fsplit ! $ move ! (1 ∷ []) $ fsplit ! $ move ! (1 ∷ []) $ fsplit ! $ move ! (1 ∷ []) $ fsplit ! $ move ! (1 ∷ []) $ fsplit ! $ move ! (1 ∷ []) $ fsplit ! $ move ! (1 ∷ []) $ fsplit ! $ move ! (1 ∷ []) $ fsplit ! $ move ! (1 ∷ []) $ fsplit ! $ move ! (1 ∷ []) $ fsplit ! $ move ! (1 ∷ []) $ fsplit ! $ move ! (1 ∷ []) $ fsplit ! $ move ! (1 ∷ []) $ fsplit ! $ move ! (1 ∷ []) $ fsplit ! $ move ! (1 ∷ []) $ fsplit ! $ move ! (1 ∷ []) $ fsplit ! $ move ! (1 ∷ []) $ fsplit ! $ move ! (1 ∷ []) $ fsplit ! $ move ! (1 ∷ []) $ fsplit ! $ move ! (1 ∷ []) $ fsplit ! $ move ! (1 ∷ []) $ fsplit ! $ move ! (1 ∷ []) $ fsplit ! $ move ! (1 ∷ []) $ fsplit ! $ move ! (1 ∷ []) $ fsplit ! $ move ! (1 ∷ []) $ fsplit ! $ move ! (1 ∷ []) $ fsplit ! $ move ! (1 ∷ []) $ move ! (100 ∷ []) $ split ! $ move ! (1 ∷ []) $ split ! $ move ! (1 ∷ []) $ split ! $ move ! (1 ∷ []) $ split ! $ move ! (1 ∷ []) $ split ! $ move ! (1 ∷ []) $ split ! $ move ! (1 ∷ []) $ split ! $ move ! (1 ∷ []) $ split ! $ move ! (1 ∷ []) $ split ! $ move ! (1 ∷ []) $ split ! $ move ! (1 ∷ []) $ split ! $ move ! (1 ∷ []) $ split ! $ move ! (1 ∷ []) $ split ! $ move ! (1 ∷ []) $
-        assigns ! (addr ! (from ! (fld ! refl (hop ! (look-in ! 108 (sub ! 0 refl (whole !))) (stop !))))) (from ! (stop !)) (init ! 54 refl (tt, tt)) $
-        assigns ! (agg ! (and-then ! (load ! (from ! (stop !)) (look ! 54 refl)) (and-then ! (load ! (from ! (fld ! refl (stop !))) (look-in ! 108 (sub ! 1 refl (whole !)))) (no-more !)))) (from ! (stop !)) (init ! 52 refl (tt, (tt, (record { fits = room2 .0 }, tt)))) $
-        assigns ! (addr ! (from ! (fld ! refl (hop ! (look-in ! 106 (sub ! 0 refl (whole !))) (stop !))))) (from ! (stop !)) (init ! 50 refl (tt, tt)) $
-        assigns ! (agg ! (and-then ! (load ! (from ! (stop !)) (look ! 50 refl)) (and-then ! (load ! (from ! (fld ! refl (stop !))) (look-in ! 106 (sub ! 1 refl (whole !)))) (no-more !)))) (from ! (stop !)) (init ! 48 refl (tt, (tt, (record { fits = room3 .0 }, tt)))) $
-        assigns ! (addr ! (from ! (fld ! refl (hop ! (look-in ! 104 (sub ! 0 refl (whole !))) (stop !))))) (from ! (stop !)) (init ! 46 refl (tt, tt)) $
-        assigns ! (agg ! (and-then ! (load ! (from ! (stop !)) (look ! 46 refl)) (and-then ! (load ! (from ! (fld ! refl (stop !))) (look-in ! 104 (sub ! 1 refl (whole !)))) (no-more !)))) (from ! (stop !)) (init ! 44 refl (tt, (tt, (record { fits = room4 .0 }, tt)))) $
-        move ! (41 ∷ []) $ fsplit3 ! $ drop ! $ move ! (0 ∷ 1 ∷ 15 ∷ []) $ opens ! tt mTranscript.the-row {h = h1} b1 o1 (λ vs. spelt ! mTranscript.the-row (Is mTranscript.the-row) (shows 𝓤 H A mTranscript.the-row) (LL.vals mTranscript.the-type lTranscript.the-laws) (LL.tells mTranscript.the-type lTranscript.the-laws) fullShare (h1) vs b1 o1 $ move ! (1 ∷ []) $ peeks ! mTranscript.the-row (Is mTranscript.the-row) (shows 𝓤 H A mTranscript.the-row) (h1) (LL.val mTranscript.the-type lTranscript.the-laws (h1) ∷ []) (λ w1o1. drop ! $
-        assigns ! (of-opd ! (load ! (from ! (hop ! (look ! 112 refl) (stop !))) (look-raw ! 0 refl))) (from ! (stop !)) (init ! 44 refl (LL.lawful mTranscript.the-type lTranscript.the-laws 𝓤 H A W .typed h1 _ w1o1 .0)) $
-        lft-new ! tt (λ ν1a. move ! (44 ∷ 17 ∷ []) $ use2 W (later (some (λ (δ : GName). ‵ (MutSlice (named 0) (ν1a ∷ []) u64 .own (ref2 δ (ys2)) (v2 ∷ [])) ⊛ ‵ (Lent2 ν1a δ (ys2))))) (lends2 (named 0) ν1a (ys2) (refl)) $ await ! tt $ pick ! (λ δ1a. split ! $
-        lft-new ! tt (λ ν1b. move ! (45 ∷ 19 ∷ []) $ use2 W (later (some (λ (δ : GName). ‵ (MutSlice (named 1) (ν1b ∷ []) u64 .own (ref3 δ (ys3)) (v3 ∷ [])) ⊛ ‵ (Lent3 ν1b δ (ys3))))) (lends3 (named 1) ν1b (ys3) (refl)) $ await ! tt $ pick ! (λ δ1b. split ! $
-        lft-new ! tt (λ ν1c. move ! (46 ∷ 21 ∷ []) $ use2 W (later (some (λ (δ : GName). ‵ (MutSlice (named 2) (ν1c ∷ []) u64 .own (ref4 δ (ys4)) (v4 ∷ [])) ⊛ ‵ (Lent4 ν1c δ (ys4))))) (lends4 (named 2) ν1c (ys4) (refl)) $ await ! tt $ pick ! (λ δ1c. split ! $ move ! (44 ∷ []) $ use1 W (‵ (O7) ⊛ ‵ (O7)) (shr-slice-copy 𝓤 H A W (named 4) κ₄ u64 .twice s7 (v7 ∷ [])) $ split ! $ move ! (43 ∷ []) $ use1 W (‵ (O10) ⊛ ‵ (O10)) (shr-slice-copy 𝓤 H A W (named 5) κ₅ mEntry.the-row .twice s10 (v10 ∷ [])) $ split ! $ move ! (42 ∷ []) $ use1 W (‵ (O13) ⊛ ‵ (O13)) (shr-slice-copy 𝓤 H A W (named 6) κ₆ mEntry.the-row .twice s13 (v13 ∷ [])) $ split ! $ move ! (41 ∷ []) $ use1 W (‵ (O16) ⊛ ‵ (O16)) (shr-slice-copy 𝓤 H A W (named 7) κ₇ mEntry.the-row .twice s16 (v16 ∷ [])) $ split ! $ move ! (40 ∷ []) $ use1 W (‵ (O19) ⊛ ‵ (O19)) (shr-slice-copy 𝓤 H A W (named 8) κ₈ mEntry.the-row .twice s19 (v19 ∷ [])) $ split ! $ move ! (39 ∷ []) $ use1 W (‵ (O22) ⊛ ‵ (O22)) (shr-slice-copy 𝓤 H A W (named 9) κ₉ mEntry.the-row .twice s22 (v22 ∷ [])) $ split ! $ move ! (38 ∷ []) $ use1 W (‵ (O25) ⊛ ‵ (O25)) (shr-slice-copy 𝓤 H A W (named 10) κ₁₀ mEntry.the-row .twice s25 (v25 ∷ [])) $ split ! $ move ! (39 ∷ []) $ use1 W (‵ (O26) ⊛ ‵ (O26)) (shr-slice-copy 𝓤 H A W (named 11) κ₁₁ u64 .twice s26 (v26 ∷ [])) $ split ! $ move ! (40 ∷ []) $ use1 W (‵ (O27) ⊛ ‵ (O27)) (shr-slice-copy 𝓤 H A W (named 12) κ₁₂ u64 .twice s27 (v27 ∷ [])) $ split ! $ nothing ! $ move ! (33 ∷ 0 ∷ []) $ join ! $ move ! (33 ∷ 0 ∷ []) $ join ! $ move ! (33 ∷ 0 ∷ []) $ join ! $ move ! (33 ∷ 0 ∷ []) $ join ! $ move ! (33 ∷ 0 ∷ []) $ join ! $ move ! (33 ∷ 0 ∷ []) $ join ! $ move ! (33 ∷ 0 ∷ []) $ join ! $ move ! (33 ∷ 0 ∷ []) $ join ! $ move ! (33 ∷ 0 ∷ []) $ join ! $ move ! (21 ∷ 0 ∷ []) $ join ! $ move ! (23 ∷ 0 ∷ []) $ join ! $ move ! (25 ∷ 0 ∷ []) $ join ! $ move ! (3 ∷ 1 ∷ []) $ join ! $ move ! (4 ∷ 0 ∷ []) $ join ! $ move ! (5 ∷ 0 ∷ []) $ join ! $ move ! (6 ∷ 0 ∷ []) $ join ! $ move ! (7 ∷ 0 ∷ []) $ join ! $ move ! (8 ∷ 0 ∷ []) $ join ! $ move ! (9 ∷ 0 ∷ []) $ join ! $ move ! (10 ∷ 0 ∷ []) $ join ! $ move ! (11 ∷ 0 ∷ []) $ join ! $ move ! (12 ∷ 0 ∷ []) $ join ! $ move ! (13 ∷ 0 ∷ []) $ join ! $ move ! (1 ∷ 0 ∷ []) $ join ! $
+        nothing ! $ alloc ! (λ l₀. alloc ! (λ l₁. alloc ! (λ l₂. alloc ! (λ l₃. alloc ! (λ l₄. alloc ! (λ l₅. alloc ! (λ l₆. alloc ! (λ l₇. alloc ! (λ l₈. alloc ! (λ l₉. alloc ! (λ l₁₀. alloc ! (λ l₁₁. alloc ! (λ l₁₂. alloc ! (λ l₁₃. alloc ! (λ l₁₄. alloc ! (λ l₁₅. alloc ! (λ l₁₆. alloc ! (λ l₁₇. alloc ! (λ l₁₈. alloc ! (λ l₁₉. alloc ! (λ l₂₀. alloc ! (λ l₂₁. alloc ! (λ l₂₂. alloc ! (λ l₂₃. alloc ! (λ l₂₄. alloc ! (λ l₂₅. alloc ! (λ l₂₆. alloc ! (λ l₂₇. alloc ! (λ l₂₈. alloc ! (λ l₂₉. alloc ! (λ l₃₀. alloc ! (λ l₃₁. alloc ! (λ l₃₂. alloc ! (λ l₃₃. alloc ! (λ l₃₄. alloc ! (λ l₃₅. alloc0 ! $ hide ! (λ died die. params1 ! $ pass1 ! (init ! 35 refl (tt, tt)) $ pass1 ! (init ! 34 refl (tt, (tt, (record { fits = room2 .0 }, tt)))) $ pass1 ! (init ! 33 refl (tt, (tt, (record { fits = room3 .0 }, tt)))) $ pass1 ! (init ! 32 refl (tt, (tt, (record { fits = room4 .0 }, tt)))) $ pass1 ! (init ! 31 refl (uint-lawful 𝓤 H A W w64 .typed n5 _ w5 .0)) $ pass1 ! (init ! 30 refl (uint-lawful 𝓤 H A W w64 .typed n6 _ w6 .0)) $ pass1 ! (init ! 29 refl (shr-slice-lawful 𝓤 H A W (named 4) κ₄ u64 .typed s7 (v7 ∷ []) w7 .0)) $ pass1 ! (init ! 28 refl (uint-lawful 𝓤 H A W w64 .typed n8 _ w8 .0)) $ pass1 ! (init ! 27 refl (uint-lawful 𝓤 H A W w64 .typed n9 _ w9 .0)) $ pass1 ! (init ! 26 refl (shr-slice-lawful 𝓤 H A W (named 5) κ₅ mEntry.the-row .typed s10 (v10 ∷ []) w10 .0)) $ pass1 ! (init ! 25 refl (uint-lawful 𝓤 H A W w64 .typed n11 _ w11 .0)) $ pass1 ! (init ! 24 refl (uint-lawful 𝓤 H A W w64 .typed n12 _ w12 .0)) $ pass1 ! (init ! 23 refl (shr-slice-lawful 𝓤 H A W (named 6) κ₆ mEntry.the-row .typed s13 (v13 ∷ []) w13 .0)) $ pass1 ! (init ! 22 refl (uint-lawful 𝓤 H A W w64 .typed n14 _ w14 .0)) $ pass1 ! (init ! 21 refl (uint-lawful 𝓤 H A W w64 .typed n15 _ w15 .0)) $ pass1 ! (init ! 20 refl (shr-slice-lawful 𝓤 H A W (named 7) κ₇ mEntry.the-row .typed s16 (v16 ∷ []) w16 .0)) $ pass1 ! (init ! 19 refl (uint-lawful 𝓤 H A W w64 .typed n17 _ w17 .0)) $ pass1 ! (init ! 18 refl (uint-lawful 𝓤 H A W w64 .typed n18 _ w18 .0)) $ pass1 ! (init ! 17 refl (shr-slice-lawful 𝓤 H A W (named 8) κ₈ mEntry.the-row .typed s19 (v19 ∷ []) w19 .0)) $ pass1 ! (init ! 16 refl (uint-lawful 𝓤 H A W w64 .typed n20 _ w20 .0)) $ pass1 ! (init ! 15 refl (uint-lawful 𝓤 H A W w64 .typed n21 _ w21 .0)) $ pass1 ! (init ! 14 refl (shr-slice-lawful 𝓤 H A W (named 9) κ₉ mEntry.the-row .typed s22 (v22 ∷ []) w22 .0)) $ pass1 ! (init ! 13 refl (uint-lawful 𝓤 H A W w64 .typed n23 _ w23 .0)) $ pass1 ! (init ! 12 refl (uint-lawful 𝓤 H A W w64 .typed n24 _ w24 .0)) $ pass1 ! (init ! 11 refl (shr-slice-lawful 𝓤 H A W (named 10) κ₁₀ mEntry.the-row .typed s25 (v25 ∷ []) w25 .0)) $ pass1 ! (init ! 10 refl (shr-slice-lawful 𝓤 H A W (named 11) κ₁₁ u64 .typed s26 (v26 ∷ []) w26 .0)) $ pass1 ! (init ! 9 refl (shr-slice-lawful 𝓤 H A W (named 12) κ₁₂ u64 .typed s27 (v27 ∷ []) w27 .0)) $ pass0 ! $
+        move ! (38 ∷ []) $ fsplit ! $ move ! (1 ∷ []) $ fsplit ! $ move ! (1 ∷ []) $ fsplit ! $ move ! (1 ∷ []) $ fsplit ! $ move ! (1 ∷ []) $ fsplit ! $ move ! (1 ∷ []) $ fsplit ! $ move ! (1 ∷ []) $ fsplit ! $ move ! (1 ∷ []) $ fsplit ! $ move ! (1 ∷ []) $ fsplit ! $ move ! (1 ∷ []) $ fsplit ! $ move ! (1 ∷ []) $ fsplit ! $ move ! (1 ∷ []) $ fsplit ! $ move ! (1 ∷ []) $ fsplit ! $ move ! (1 ∷ []) $ fsplit ! $ move ! (1 ∷ []) $ fsplit ! $ move ! (1 ∷ []) $ fsplit ! $ move ! (1 ∷ []) $ fsplit ! $ move ! (1 ∷ []) $ fsplit ! $ move ! (1 ∷ []) $ fsplit ! $ move ! (1 ∷ []) $ fsplit ! $ move ! (1 ∷ []) $ fsplit ! $ move ! (1 ∷ []) $ fsplit ! $ move ! (1 ∷ []) $ fsplit ! $ move ! (1 ∷ []) $ fsplit ! $ move ! (1 ∷ []) $ fsplit ! $ move ! (1 ∷ []) $ fsplit ! $ move ! (1 ∷ []) $ fsplit ! $ move ! (1 ∷ []) $ drop ! $ move ! (64 ∷ []) $ split ! $ move ! (1 ∷ []) $ split ! $ move ! (1 ∷ []) $ split ! $ move ! (1 ∷ []) $ split ! $ move ! (1 ∷ []) $ split ! $ move ! (1 ∷ []) $ split ! $ move ! (1 ∷ []) $ split ! $ move ! (1 ∷ []) $ split ! $ move ! (1 ∷ []) $ split ! $ move ! (1 ∷ []) $ split ! $ move ! (1 ∷ []) $ split ! $ move ! (1 ∷ []) $ split ! $ move ! (1 ∷ []) $ split ! $ move ! (1 ∷ []) $ drop ! $ tidy W (_ ∷ _ ∷ _ ∷ _ ∷ _ ∷ _ ∷ _ ∷ _ ∷ _ ∷ _ ∷ _ ∷ _ ∷ _ ∷ _ ∷ _ ∷ _ ∷ _ ∷ _ ∷ _ ∷ _ ∷ _ ∷ _ ∷ _ ∷ _ ∷ _ ∷ _ ∷ _ ∷ _ ∷ _ ∷ _ ∷ _ ∷ _ ∷ _ ∷ _ ∷ _ ∷ _ ∷ _ ∷ _ ∷ _ ∷ _ ∷ _ ∷ _ ∷ _ ∷ _ ∷ _ ∷ _ ∷ _ ∷ _ ∷ _ ∷ _ ∷ _ ∷ _ ∷ _ ∷ _ ∷ _ ∷ _ ∷ _ ∷ _ ∷ _ ∷ _ ∷ _ ∷ _ ∷ _ ∷ _ ∷ _ ∷ _ ∷ _ ∷ _ ∷ _ ∷ _ ∷ _ ∷ _ ∷ _ ∷ _ ∷ _ ∷ _ ∷ _ ∷ []) $
+        assigns ! (addr ! (from ! (fld ! refl (hop ! (look-in ! 74 (sub ! 0 refl (whole !))) (stop !))))) (from ! (stop !)) (init ! 47 refl (tt, tt)) $
+        assigns ! (agg ! (and-then ! (load ! (from ! (stop !)) (look ! 47 refl)) (and-then ! (load ! (from ! (fld ! refl (stop !))) (look-in ! 74 (sub ! 1 refl (whole !)))) (no-more !)))) (from ! (stop !)) (init ! 46 refl (tt, (tt, (record { fits = room2 .0 }, tt)))) $
+        assigns ! (addr ! (from ! (fld ! refl (hop ! (look-in ! 73 (sub ! 0 refl (whole !))) (stop !))))) (from ! (stop !)) (init ! 45 refl (tt, tt)) $
+        assigns ! (agg ! (and-then ! (load ! (from ! (stop !)) (look ! 45 refl)) (and-then ! (load ! (from ! (fld ! refl (stop !))) (look-in ! 73 (sub ! 1 refl (whole !)))) (no-more !)))) (from ! (stop !)) (init ! 44 refl (tt, (tt, (record { fits = room3 .0 }, tt)))) $
+        assigns ! (addr ! (from ! (fld ! refl (hop ! (look-in ! 72 (sub ! 0 refl (whole !))) (stop !))))) (from ! (stop !)) (init ! 43 refl (tt, tt)) $
+        assigns ! (agg ! (and-then ! (load ! (from ! (stop !)) (look ! 43 refl)) (and-then ! (load ! (from ! (fld ! refl (stop !))) (look-in ! 72 (sub ! 1 refl (whole !)))) (no-more !)))) (from ! (stop !)) (init ! 42 refl (tt, (tt, (record { fits = room4 .0 }, tt)))) $
+        move ! (39 ∷ []) $ fsplit3 ! $ drop ! $ move ! (0 ∷ 1 ∷ 14 ∷ []) $ opens ! tt mTranscript.the-row {h = h1} b1 o1 (λ vs. spelt ! mTranscript.the-row (Is mTranscript.the-row) (shows 𝓤 H A mTranscript.the-row) (LL.vals mTranscript.the-type lTranscript.the-laws) (LL.tells mTranscript.the-type lTranscript.the-laws) fullShare (h1) vs b1 o1 $ move ! (1 ∷ []) $ peeks ! mTranscript.the-row (Is mTranscript.the-row) (shows 𝓤 H A mTranscript.the-row) (h1) (LL.val mTranscript.the-type lTranscript.the-laws (h1) ∷ []) (λ w1o1. drop ! $
+        assigns ! (of-opd ! (load ! (from ! (hop ! (look ! 77 refl) (stop !))) (look-raw ! 0 refl))) (from ! (stop !)) (init ! 43 refl (LL.lawful mTranscript.the-type lTranscript.the-laws 𝓤 H A W .typed h1 _ w1o1 .0)) $
+        lft-new ! tt (λ ν1a. move ! (42 ∷ 16 ∷ []) $ use2 W (later (some (λ (δ : GName). ‵ (MutSlice (named 0) (ν1a ∷ []) u64 .own (ref2 δ (ys2)) (v2 ∷ [])) ⊛ ‵ (Lent2 ν1a δ (ys2))))) (lends2 (named 0) ν1a (ys2) (refl)) $ await ! tt $ pick ! (λ δ1a. split ! $
+        lft-new ! tt (λ ν1b. move ! (43 ∷ 18 ∷ []) $ use2 W (later (some (λ (δ : GName). ‵ (MutSlice (named 1) (ν1b ∷ []) u64 .own (ref3 δ (ys3)) (v3 ∷ [])) ⊛ ‵ (Lent3 ν1b δ (ys3))))) (lends3 (named 1) ν1b (ys3) (refl)) $ await ! tt $ pick ! (λ δ1b. split ! $
+        lft-new ! tt (λ ν1c. move ! (44 ∷ 20 ∷ []) $ use2 W (later (some (λ (δ : GName). ‵ (MutSlice (named 2) (ν1c ∷ []) u64 .own (ref4 δ (ys4)) (v4 ∷ [])) ⊛ ‵ (Lent4 ν1c δ (ys4))))) (lends4 (named 2) ν1c (ys4) (refl)) $ await ! tt $ pick ! (λ δ1c. split ! $ move ! (42 ∷ []) $ use1 W (‵ (O7) ⊛ ‵ (O7)) (shr-slice-copy 𝓤 H A W (named 4) κ₄ u64 .twice s7 (v7 ∷ [])) $ split ! $ move ! (41 ∷ []) $ use1 W (‵ (O10) ⊛ ‵ (O10)) (shr-slice-copy 𝓤 H A W (named 5) κ₅ mEntry.the-row .twice s10 (v10 ∷ [])) $ split ! $ move ! (40 ∷ []) $ use1 W (‵ (O13) ⊛ ‵ (O13)) (shr-slice-copy 𝓤 H A W (named 6) κ₆ mEntry.the-row .twice s13 (v13 ∷ [])) $ split ! $ move ! (39 ∷ []) $ use1 W (‵ (O16) ⊛ ‵ (O16)) (shr-slice-copy 𝓤 H A W (named 7) κ₇ mEntry.the-row .twice s16 (v16 ∷ [])) $ split ! $ move ! (38 ∷ []) $ use1 W (‵ (O19) ⊛ ‵ (O19)) (shr-slice-copy 𝓤 H A W (named 8) κ₈ mEntry.the-row .twice s19 (v19 ∷ [])) $ split ! $ move ! (37 ∷ []) $ use1 W (‵ (O22) ⊛ ‵ (O22)) (shr-slice-copy 𝓤 H A W (named 9) κ₉ mEntry.the-row .twice s22 (v22 ∷ [])) $ split ! $ move ! (36 ∷ []) $ use1 W (‵ (O25) ⊛ ‵ (O25)) (shr-slice-copy 𝓤 H A W (named 10) κ₁₀ mEntry.the-row .twice s25 (v25 ∷ [])) $ split ! $ move ! (37 ∷ []) $ use1 W (‵ (O26) ⊛ ‵ (O26)) (shr-slice-copy 𝓤 H A W (named 11) κ₁₁ u64 .twice s26 (v26 ∷ [])) $ split ! $ move ! (38 ∷ []) $ use1 W (‵ (O27) ⊛ ‵ (O27)) (shr-slice-copy 𝓤 H A W (named 12) κ₁₂ u64 .twice s27 (v27 ∷ [])) $ split ! $ tidy W (_ ∷ _ ∷ _ ∷ _ ∷ _ ∷ _ ∷ _ ∷ _ ∷ _ ∷ _ ∷ _ ∷ _ ∷ _ ∷ _ ∷ _ ∷ _ ∷ _ ∷ _ ∷ _ ∷ _ ∷ _ ∷ _ ∷ _ ∷ _ ∷ _ ∷ _ ∷ _ ∷ _ ∷ _ ∷ _ ∷ _ ∷ _ ∷ _ ∷ _ ∷ _ ∷ _ ∷ _ ∷ _ ∷ _ ∷ _ ∷ _ ∷ _ ∷ _ ∷ _ ∷ _ ∷ _ ∷ _ ∷ _ ∷ _ ∷ _ ∷ _ ∷ _ ∷ _ ∷ _ ∷ _ ∷ _ ∷ _ ∷ _ ∷ _ ∷ _ ∷ _ ∷ _ ∷ _ ∷ _ ∷ _ ∷ _ ∷ _ ∷ _ ∷ _ ∷ _ ∷ _ ∷ _ ∷ _ ∷ _ ∷ _ ∷ _ ∷ _ ∷ _ ∷ _ ∷ _ ∷ _ ∷ _ ∷ _ ∷ _ ∷ _ ∷ _ ∷ _ ∷ _ ∷ _ ∷ _ ∷ _ ∷ []) $ nothing ! $ move ! (32 ∷ 0 ∷ []) $ join ! $ move ! (32 ∷ 0 ∷ []) $ join ! $ move ! (32 ∷ 0 ∷ []) $ join ! $ move ! (32 ∷ 0 ∷ []) $ join ! $ move ! (32 ∷ 0 ∷ []) $ join ! $ move ! (32 ∷ 0 ∷ []) $ join ! $ move ! (32 ∷ 0 ∷ []) $ join ! $ move ! (32 ∷ 0 ∷ []) $ join ! $ move ! (32 ∷ 0 ∷ []) $ join ! $ move ! (21 ∷ 0 ∷ []) $ join ! $ move ! (23 ∷ 0 ∷ []) $ join ! $ move ! (25 ∷ 0 ∷ []) $ join ! $ move ! (3 ∷ 1 ∷ []) $ join ! $ move ! (4 ∷ 0 ∷ []) $ join ! $ move ! (5 ∷ 0 ∷ []) $ join ! $ move ! (6 ∷ 0 ∷ []) $ join ! $ move ! (7 ∷ 0 ∷ []) $ join ! $ move ! (8 ∷ 0 ∷ []) $ join ! $ move ! (9 ∷ 0 ∷ []) $ join ! $ move ! (10 ∷ 0 ∷ []) $ join ! $ move ! (11 ∷ 0 ∷ []) $ join ! $ move ! (12 ∷ 0 ∷ []) $ join ! $ move ! (13 ∷ 0 ∷ []) $ join ! $ move ! (1 ∷ 0 ∷ []) $ join ! $
         -- call 1
         use1 W (raw (Callee-g1 𝓤 H A at-mem run .pre ((((ν1a ∷ []), ((ν1b ∷ []), ((ν1c ∷ []), (κ₄, (κ₅, (κ₆, (κ₇, (κ₈, (κ₉, (κ₁₀, (κ₁₁, (κ₁₂, tt)))))))))))), (fullShare, (fullShare, (fullShare, (q₄, (q₅, (q₆, (q₇, (q₈, (q₉, (q₁₀, (q₁₁, (q₁₂, tt)))))))))))), tt, (ref2 δ1a (ys2), (ref3 δ1b (ys3), (ref4 δ1c (ys4), (n5, (n6, (s7, (n8, (n9, (s10, (n11, (n12, (s13, (n14, (n15, (s16, (n17, (n18, (s19, (n20, (n21, (s22, (n23, (n24, (s25, (s26, (s27, (h1, tt))))))))))))))))))))))))))), (v2 ∷ [], (v3 ∷ [], (v4 ∷ [], (u5 ∷ [], (u6 ∷ [], (v7 ∷ [], (u8 ∷ [], (u9 ∷ [], (v10 ∷ [], (u11 ∷ [], (u12 ∷ [], (v13 ∷ [], (u14 ∷ [], (u15 ∷ [], (v16 ∷ [], (u17 ∷ [], (u18 ∷ [], (v19 ∷ [], (u20 ∷ [], (u21 ∷ [], (v22 ∷ [], (u23 ∷ [], (u24 ∷ [], (v25 ∷ [], (v26 ∷ [], (v27 ∷ [], ((LL.val mTranscript.the-type lTranscript.the-laws (h1)) ∷ [], tt)))))))))))))))))))))))))))), tt))) (qed W ((‵ (flft (ν1a ∷ []) fullShare) ⊛ ‵ (flft (ν1b ∷ []) fullShare) ⊛ ‵ (flft (ν1c ∷ []) fullShare) ⊛ ‵ (flft κ₄ q₄) ⊛ ‵ (flft κ₅ q₅) ⊛ ‵ (flft κ₆ q₆) ⊛ ‵ (flft κ₇ q₇) ⊛ ‵ (flft κ₈ q₈) ⊛ ‵ (flft κ₉ q₉) ⊛ ‵ (flft κ₁₀ q₁₀) ⊛ ‵ (flft κ₁₁ q₁₁) ⊛ ‵ (flft κ₁₂ q₁₂) ⊛ ‵ ftrue) ∷ ‵ (MutSlice (named 0) (ν1a ∷ []) u64 .own (ref2 δ1a (ys2)) (v2 ∷ [])) ∷ ‵ (MutSlice (named 1) (ν1b ∷ []) u64 .own (ref3 δ1b (ys3)) (v3 ∷ [])) ∷ ‵ (MutSlice (named 2) (ν1c ∷ []) u64 .own (ref4 δ1c (ys4)) (v4 ∷ [])) ∷ ‵ (ShrSlice (named 3) κ₄ u64 .own s7 (v7 ∷ [])) ∷ ‵ (ShrSlice (named 4) κ₅ mEntry.the-row .own s10 (v10 ∷ [])) ∷ ‵ (ShrSlice (named 5) κ₆ mEntry.the-row .own s13 (v13 ∷ [])) ∷ ‵ (ShrSlice (named 6) κ₇ mEntry.the-row .own s16 (v16 ∷ [])) ∷ ‵ (ShrSlice (named 7) κ₈ mEntry.the-row .own s19 (v19 ∷ [])) ∷ ‵ (ShrSlice (named 8) κ₉ mEntry.the-row .own s22 (v22 ∷ [])) ∷ ‵ (ShrSlice (named 9) κ₁₀ mEntry.the-row .own s25 (v25 ∷ [])) ∷ ‵ (ShrSlice (named 10) κ₁₁ u64 .own s26 (v26 ∷ [])) ∷ ‵ (ShrSlice (named 11) κ₁₂ u64 .own s27 (v27 ∷ [])) ∷ []) ∵ nothing ! $ owned ! mTranscript.the-row (Is mTranscript.the-row) (LL.makes mTranscript.the-type lTranscript.the-plain 𝓤 H A) (h1) _ w1o1 $ fjoin ! $ move ! (13 ∷ 0 ∷ []) $ fjoin ! $ move ! (12 ∷ 0 ∷ []) $ fjoin ! $ move ! (11 ∷ 0 ∷ []) $ fjoin ! $ owned ! u64 (Is u64) (uint-makes 𝓤 H A W w64) (n24) _ w24 $ fjoin ! $ owned ! u64 (Is u64) (uint-makes 𝓤 H A W w64) (n23) _ w23 $ fjoin ! $ move ! (10 ∷ 0 ∷ []) $ fjoin ! $ owned ! u64 (Is u64) (uint-makes 𝓤 H A W w64) (n21) _ w21 $ fjoin ! $ owned ! u64 (Is u64) (uint-makes 𝓤 H A W w64) (n20) _ w20 $ fjoin ! $ move ! (9 ∷ 0 ∷ []) $ fjoin ! $ owned ! u64 (Is u64) (uint-makes 𝓤 H A W w64) (n18) _ w18 $ fjoin ! $ owned ! u64 (Is u64) (uint-makes 𝓤 H A W w64) (n17) _ w17 $ fjoin ! $ move ! (8 ∷ 0 ∷ []) $ fjoin ! $ owned ! u64 (Is u64) (uint-makes 𝓤 H A W w64) (n15) _ w15 $ fjoin ! $ owned ! u64 (Is u64) (uint-makes 𝓤 H A W w64) (n14) _ w14 $ fjoin ! $ move ! (7 ∷ 0 ∷ []) $ fjoin ! $ owned ! u64 (Is u64) (uint-makes 𝓤 H A W w64) (n12) _ w12 $ fjoin ! $ owned ! u64 (Is u64) (uint-makes 𝓤 H A W w64) (n11) _ w11 $ fjoin ! $ move ! (6 ∷ 0 ∷ []) $ fjoin ! $ owned ! u64 (Is u64) (uint-makes 𝓤 H A W w64) (n9) _ w9 $ fjoin ! $ owned ! u64 (Is u64) (uint-makes 𝓤 H A W w64) (n8) _ w8 $ fjoin ! $ move ! (5 ∷ 0 ∷ []) $ fjoin ! $ owned ! u64 (Is u64) (uint-makes 𝓤 H A W w64) (n6) _ w6 $ fjoin ! $ owned ! u64 (Is u64) (uint-makes 𝓤 H A W w64) (n5) _ w5 $ fjoin ! $ move ! (4 ∷ 0 ∷ []) $ fjoin ! $ move ! (3 ∷ 0 ∷ []) $ fjoin ! $ move ! (2 ∷ 0 ∷ []) $ fjoin ! $ move ! (1 ∷ 0 ∷ []) $ join ! $ nothing ! $ move ! (1 ∷ 0 ∷ []) $ frame ! $ done !) $
-        calls-at ! fm (Callee-g1 𝓤 H A at-mem run) known-g1 ((((ν1a ∷ []), ((ν1b ∷ []), ((ν1c ∷ []), (κ₄, (κ₅, (κ₆, (κ₇, (κ₈, (κ₉, (κ₁₀, (κ₁₁, (κ₁₂, tt)))))))))))), (fullShare, (fullShare, (fullShare, (q₄, (q₅, (q₆, (q₇, (q₈, (q₉, (q₁₀, (q₁₁, (q₁₂, tt)))))))))))), tt, (ref2 δ1a (ys2), (ref3 δ1b (ys3), (ref4 δ1c (ys4), (n5, (n6, (s7, (n8, (n9, (s10, (n11, (n12, (s13, (n14, (n15, (s16, (n17, (n18, (s19, (n20, (n21, (s22, (n23, (n24, (s25, (s26, (s27, (h1, tt))))))))))))))))))))))))))), (v2 ∷ [], (v3 ∷ [], (v4 ∷ [], (u5 ∷ [], (u6 ∷ [], (v7 ∷ [], (u8 ∷ [], (u9 ∷ [], (v10 ∷ [], (u11 ∷ [], (u12 ∷ [], (v13 ∷ [], (u14 ∷ [], (u15 ∷ [], (v16 ∷ [], (u17 ∷ [], (u18 ∷ [], (v19 ∷ [], (u20 ∷ [], (u21 ∷ [], (v22 ∷ [], (u23 ∷ [], (u24 ∷ [], (v25 ∷ [], (v26 ∷ [], (v27 ∷ [], ((LL.val mTranscript.the-type lTranscript.the-laws (h1)) ∷ [], tt)))))))))))))))))))))))))))), tt) (and-then ! (load ! (from ! (stop !)) (look ! 43 refl)) (and-then ! (load ! (from ! (stop !)) (look ! 39 refl)) (and-then ! (load ! (from ! (stop !)) (look ! 35 refl)) (and-then ! (load ! (from ! (stop !)) (look ! 93 refl)) (and-then ! (load ! (from ! (stop !)) (look ! 91 refl)) (and-then ! (load ! (from ! (stop !)) (look ! 89 refl)) (and-then ! (load ! (from ! (stop !)) (look ! 87 refl)) (and-then ! (load ! (from ! (stop !)) (look ! 85 refl)) (and-then ! (load ! (from ! (stop !)) (look ! 83 refl)) (and-then ! (load ! (from ! (stop !)) (look ! 81 refl)) (and-then ! (load ! (from ! (stop !)) (look ! 79 refl)) (and-then ! (load ! (from ! (stop !)) (look ! 77 refl)) (and-then ! (load ! (from ! (stop !)) (look ! 75 refl)) (and-then ! (load ! (from ! (stop !)) (look ! 73 refl)) (and-then ! (load ! (from ! (stop !)) (look ! 71 refl)) (and-then ! (load ! (from ! (stop !)) (look ! 69 refl)) (and-then ! (load ! (from ! (stop !)) (look ! 67 refl)) (and-then ! (load ! (from ! (stop !)) (look ! 65 refl)) (and-then ! (load ! (from ! (stop !)) (look ! 63 refl)) (and-then ! (load ! (from ! (stop !)) (look ! 61 refl)) (and-then ! (load ! (from ! (stop !)) (look ! 59 refl)) (and-then ! (load ! (from ! (stop !)) (look ! 57 refl)) (and-then ! (load ! (from ! (stop !)) (look ! 55 refl)) (and-then ! (load ! (from ! (stop !)) (look ! 53 refl)) (and-then ! (load ! (from ! (stop !)) (look ! 51 refl)) (and-then ! (load ! (from ! (stop !)) (look ! 49 refl)) (and-then ! (load ! (from ! (stop !)) (look ! 33 refl)) (no-more !)))))))))))))))))))))))))))) (λ z1.
+        calls-at ! fm (Callee-g1 𝓤 H A at-mem run) known-g1 ((((ν1a ∷ []), ((ν1b ∷ []), ((ν1c ∷ []), (κ₄, (κ₅, (κ₆, (κ₇, (κ₈, (κ₉, (κ₁₀, (κ₁₁, (κ₁₂, tt)))))))))))), (fullShare, (fullShare, (fullShare, (q₄, (q₅, (q₆, (q₇, (q₈, (q₉, (q₁₀, (q₁₁, (q₁₂, tt)))))))))))), tt, (ref2 δ1a (ys2), (ref3 δ1b (ys3), (ref4 δ1c (ys4), (n5, (n6, (s7, (n8, (n9, (s10, (n11, (n12, (s13, (n14, (n15, (s16, (n17, (n18, (s19, (n20, (n21, (s22, (n23, (n24, (s25, (s26, (s27, (h1, tt))))))))))))))))))))))))))), (v2 ∷ [], (v3 ∷ [], (v4 ∷ [], (u5 ∷ [], (u6 ∷ [], (v7 ∷ [], (u8 ∷ [], (u9 ∷ [], (v10 ∷ [], (u11 ∷ [], (u12 ∷ [], (v13 ∷ [], (u14 ∷ [], (u15 ∷ [], (v16 ∷ [], (u17 ∷ [], (u18 ∷ [], (v19 ∷ [], (u20 ∷ [], (u21 ∷ [], (v22 ∷ [], (u23 ∷ [], (u24 ∷ [], (v25 ∷ [], (v26 ∷ [], (v27 ∷ [], ((LL.val mTranscript.the-type lTranscript.the-laws (h1)) ∷ [], tt)))))))))))))))))))))))))))), tt) (and-then ! (load ! (from ! (stop !)) (look ! 37 refl)) (and-then ! (load ! (from ! (stop !)) (look ! 35 refl)) (and-then ! (load ! (from ! (stop !)) (look ! 33 refl)) (and-then ! (load ! (from ! (stop !)) (look ! 62 refl)) (and-then ! (load ! (from ! (stop !)) (look ! 61 refl)) (and-then ! (load ! (from ! (stop !)) (look ! 60 refl)) (and-then ! (load ! (from ! (stop !)) (look ! 59 refl)) (and-then ! (load ! (from ! (stop !)) (look ! 58 refl)) (and-then ! (load ! (from ! (stop !)) (look ! 57 refl)) (and-then ! (load ! (from ! (stop !)) (look ! 56 refl)) (and-then ! (load ! (from ! (stop !)) (look ! 55 refl)) (and-then ! (load ! (from ! (stop !)) (look ! 54 refl)) (and-then ! (load ! (from ! (stop !)) (look ! 53 refl)) (and-then ! (load ! (from ! (stop !)) (look ! 52 refl)) (and-then ! (load ! (from ! (stop !)) (look ! 51 refl)) (and-then ! (load ! (from ! (stop !)) (look ! 50 refl)) (and-then ! (load ! (from ! (stop !)) (look ! 49 refl)) (and-then ! (load ! (from ! (stop !)) (look ! 48 refl)) (and-then ! (load ! (from ! (stop !)) (look ! 47 refl)) (and-then ! (load ! (from ! (stop !)) (look ! 46 refl)) (and-then ! (load ! (from ! (stop !)) (look ! 45 refl)) (and-then ! (load ! (from ! (stop !)) (look ! 44 refl)) (and-then ! (load ! (from ! (stop !)) (look ! 43 refl)) (and-then ! (load ! (from ! (stop !)) (look ! 42 refl)) (and-then ! (load ! (from ! (stop !)) (look ! 41 refl)) (and-then ! (load ! (from ! (stop !)) (look ! 40 refl)) (and-then ! (load ! (from ! (stop !)) (look ! 32 refl)) (no-more !)))))))))))))))))))))))))))) (λ z1.
         use1 W (later (some (λ (r1 : TranscriptAnswer). ((‵ (flft (ν1a ∷ []) fullShare) ⊛ ‵ (flft (ν1b ∷ []) fullShare) ⊛ ‵ (flft (ν1c ∷ []) fullShare) ⊛ ‵ (flft κ₄ q₄) ⊛ ‵ (flft κ₅ q₅) ⊛ ‵ (flft κ₆ q₆) ⊛ ‵ (flft κ₇ q₇) ⊛ ‵ (flft κ₈ q₈) ⊛ ‵ (flft κ₉ q₉) ⊛ ‵ (flft κ₁₀ q₁₀) ⊛ ‵ (flft κ₁₁ q₁₁) ⊛ ‵ (flft κ₁₂ q₁₂) ⊛ ‵ ftrue) ⊛ ‵ (mTranscriptAnswer.the-row .own r1 (z1 ∷ []))) ⊛ some (λ (ws : Lasts g1.ended ((ν1a ∷ []), ((ν1b ∷ []), ((ν1c ∷ []), (κ₄, (κ₅, (κ₆, (κ₇, (κ₈, (κ₉, (κ₁₀, (κ₁₁, (κ₁₂, tt)))))))))))) (ref2 δ1a (ys2), (ref3 δ1b (ys3), (ref4 δ1c (ys4), (n5, (n6, (s7, (n8, (n9, (s10, (n11, (n12, (s13, (n14, (n15, (s16, (n17, (n18, (s19, (n20, (n21, (s22, (n23, (n24, (s25, (s26, (s27, (h1, tt)))))))))))))))))))))))))))). ‵ (lasts g1.ended ((ν1a ∷ []), ((ν1b ∷ []), ((ν1c ∷ []), (κ₄, (κ₅, (κ₆, (κ₇, (κ₈, (κ₉, (κ₁₀, (κ₁₁, (κ₁₂, tt)))))))))))) (ref2 δ1a (ys2), (ref3 δ1b (ys3), (ref4 δ1c (ys4), (n5, (n6, (s7, (n8, (n9, (s10, (n11, (n12, (s13, (n14, (n15, (s16, (n17, (n18, (s19, (n20, (n21, (s22, (n23, (n24, (s25, (s26, (s27, (h1, tt))))))))))))))))))))))))))) ws) ⊛ raw (g1.clauses 𝓤 H A at-mem run ((ν1a ∷ []), ((ν1b ∷ []), ((ν1c ∷ []), (κ₄, (κ₅, (κ₆, (κ₇, (κ₈, (κ₉, (κ₁₀, (κ₁₁, (κ₁₂, tt)))))))))))) (ref2 δ1a (ys2), (ref3 δ1b (ys3), (ref4 δ1c (ys4), (n5, (n6, (s7, (n8, (n9, (s10, (n11, (n12, (s13, (n14, (n15, (s16, (n17, (n18, (s19, (n20, (n21, (s22, (n23, (n24, (s25, (s26, (s27, (h1, tt))))))))))))))))))))))))))) .ensures tt r1 (atExit g1.ended ((ν1a ∷ []), ((ν1b ∷ []), ((ν1c ∷ []), (κ₄, (κ₅, (κ₆, (κ₇, (κ₈, (κ₉, (κ₁₀, (κ₁₁, (κ₁₂, tt)))))))))))) (ref2 δ1a (ys2), (ref3 δ1b (ys3), (ref4 δ1c (ys4), (n5, (n6, (s7, (n8, (n9, (s10, (n11, (n12, (s13, (n14, (n15, (s16, (n17, (n18, (s19, (n20, (n21, (s22, (n23, (n24, (s25, (s26, (s27, (h1, tt))))))))))))))))))))))))))) ws)))))) (id⊢ 𝓤 _) $ await ! tt $ pick ! (λ r1. split ! $ move ! (1 ∷ []) $ pick ! (λ ws1. split ! $ move ! (1 ∷ []) $ heard ! _ (λ e1.
-        fsplit ! $ fsplit ! $ move ! (1 ∷ []) $ feqL ! (λ same1a. move ! (1 ∷ []) $ fsplit ! $ fsplit ! $ move ! (1 ∷ []) $ feqL ! (λ same1b. move ! (1 ∷ []) $ fsplit ! $ fsplit ! $ move ! (1 ∷ []) $ feqL ! (λ same1c. move ! (1 ∷ []) $ fsplit ! $ move ! (1 ∷ []) $ fsplit ! $ move ! (1 ∷ []) $ fsplit ! $ move ! (1 ∷ []) $ fsplit ! $ move ! (1 ∷ []) $ fsplit ! $ move ! (1 ∷ []) $ fsplit ! $ move ! (1 ∷ []) $ fsplit ! $ move ! (1 ∷ []) $ fsplit ! $ move ! (1 ∷ []) $ fsplit ! $ move ! (1 ∷ []) $ fsplit ! $ move ! (1 ∷ []) $ fsplit ! $ move ! (1 ∷ []) $ fsplit ! $ move ! (1 ∷ []) $ fsplit ! $ move ! (1 ∷ []) $ fsplit ! $ move ! (1 ∷ []) $ fsplit ! $ move ! (1 ∷ []) $ fsplit ! $ move ! (1 ∷ []) $ fsplit ! $ move ! (1 ∷ []) $ fsplit ! $ move ! (1 ∷ []) $ fsplit ! $ move ! (1 ∷ []) $ fsplit ! $ move ! (1 ∷ []) $ fsplit ! $ move ! (1 ∷ []) $ fsplit ! $ move ! (1 ∷ []) $ fsplit ! $ move ! (1 ∷ []) $ fsplit ! $ move ! (28 ∷ []) $ split ! $ move ! (1 ∷ []) $ peeks ! mTranscriptAnswer.the-row (Is mTranscriptAnswer.the-row) (shows 𝓤 H A mTranscriptAnswer.the-row) r1 (z1 ∷ []) (λ i1. drop ! $ land ! (from ! (stop !)) (init ! 75 refl (LL.lawful mTranscriptAnswer.the-type lTranscriptAnswer.the-laws 𝓤 H A W .typed r1 _ i1 .0)) $
-        split ! $ move ! (1 ∷ []) $ split ! $ move ! (1 ∷ []) $ split ! $ move ! (1 ∷ []) $ split ! $ move ! (1 ∷ []) $ split ! $ move ! (1 ∷ []) $ split ! $ move ! (1 ∷ []) $ split ! $ move ! (1 ∷ []) $ split ! $ move ! (1 ∷ []) $ split ! $ move ! (1 ∷ []) $ split ! $ move ! (1 ∷ []) $ split ! $ move ! (1 ∷ []) $ split ! $ move ! (1 ∷ []) $ move ! (12 ∷ []) $ lft-end ! tt $ move ! (0 ∷ 52 ∷ 40 ∷ []) $ use3 W (later (‵ (O2 (ws1 .0)) ⊛ ‵ (flft κ₁ q₁))) (backs2 (named 0) ν1a δ1a (ys2) (ws1 .0) (refl) room2 same1a) $ await ! tt $ split ! $
-        move ! (13 ∷ []) $ lft-end ! tt $ move ! (0 ∷ 51 ∷ 40 ∷ []) $ use3 W (later (‵ (O3 (ws1 .1 .0)) ⊛ ‵ (flft κ₂ q₂))) (backs3 (named 1) ν1b δ1b (ys3) (ws1 .1 .0) (refl) room3 same1b) $ await ! tt $ split ! $
-        move ! (14 ∷ []) $ lft-end ! tt $ move ! (0 ∷ 50 ∷ 40 ∷ []) $ use3 W (later (‵ (O4 (ws1 .1 .1 .0)) ⊛ ‵ (flft κ₃ q₃))) (backs4 (named 2) ν1c δ1c (ys4) (ws1 .1 .1 .0) (refl) room4 same1c) $ await ! tt $ split ! $
-        nothing ! $
+        fsplit ! $ fsplit ! $ move ! (1 ∷ []) $ feqL ! (λ same1a. move ! (1 ∷ []) $ fsplit ! $ fsplit ! $ move ! (1 ∷ []) $ feqL ! (λ same1b. move ! (1 ∷ []) $ fsplit ! $ fsplit ! $ move ! (1 ∷ []) $ feqL ! (λ same1c. move ! (1 ∷ []) $ drop ! $ move ! (3 ∷ []) $ split ! $ move ! (1 ∷ []) $ peeks ! mTranscriptAnswer.the-row (Is mTranscriptAnswer.the-row) (shows 𝓤 H A mTranscriptAnswer.the-row) r1 (z1 ∷ []) (λ i1. drop ! $ land ! (from ! (stop !)) (init ! 42 refl (LL.lawful mTranscriptAnswer.the-type lTranscriptAnswer.the-laws 𝓤 H A W .typed r1 _ i1 .0)) $
+        tidy W (_ ∷ _ ∷ _ ∷ _ ∷ _ ∷ _ ∷ _ ∷ _ ∷ _ ∷ _ ∷ _ ∷ _ ∷ _ ∷ _ ∷ _ ∷ _ ∷ _ ∷ _ ∷ _ ∷ _ ∷ _ ∷ _ ∷ _ ∷ _ ∷ _ ∷ _ ∷ _ ∷ _ ∷ _ ∷ _ ∷ _ ∷ _ ∷ _ ∷ _ ∷ _ ∷ _ ∷ _ ∷ _ ∷ _ ∷ _ ∷ _ ∷ _ ∷ _ ∷ _ ∷ _ ∷ _ ∷ _ ∷ _ ∷ _ ∷ _ ∷ _ ∷ _ ∷ _ ∷ _ ∷ _ ∷ _ ∷ _ ∷ _ ∷ _ ∷ _ ∷ _ ∷ _ ∷ _ ∷ _ ∷ _ ∷ _ ∷ _ ∷ _ ∷ _ ∷ _ ∷ _ ∷ []) $ split ! $ move ! (1 ∷ []) $ split ! $ move ! (1 ∷ []) $ split ! $ move ! (1 ∷ []) $ split ! $ move ! (1 ∷ []) $ split ! $ move ! (1 ∷ []) $ split ! $ move ! (1 ∷ []) $ split ! $ move ! (1 ∷ []) $ split ! $ move ! (1 ∷ []) $ split ! $ move ! (1 ∷ []) $ split ! $ move ! (1 ∷ []) $ split ! $ move ! (1 ∷ []) $ split ! $ move ! (1 ∷ []) $ drop ! $ move ! (11 ∷ []) $ lft-end ! tt $ move ! (0 ∷ 26 ∷ 14 ∷ []) $ use3 W (later (‵ (O2 (ws1 .0)) ⊛ ‵ (flft κ₁ q₁))) (backs2 (named 0) ν1a δ1a (ys2) (ws1 .0) (refl) room2 same1a) $ await ! tt $ split ! $
+        move ! (12 ∷ []) $ lft-end ! tt $ move ! (0 ∷ 25 ∷ 14 ∷ []) $ use3 W (later (‵ (O3 (ws1 .1 .0)) ⊛ ‵ (flft κ₂ q₂))) (backs3 (named 1) ν1b δ1b (ys3) (ws1 .1 .0) (refl) room3 same1b) $ await ! tt $ split ! $
+        move ! (13 ∷ []) $ lft-end ! tt $ move ! (0 ∷ 24 ∷ 14 ∷ []) $ use3 W (later (‵ (O4 (ws1 .1 .1 .0)) ⊛ ‵ (flft κ₃ q₃))) (backs4 (named 2) ν1c δ1c (ys4) (ws1 .1 .1 .0) (refl) room4 same1c) $ await ! tt $ split ! $
+        tidy W (_ ∷ _ ∷ _ ∷ _ ∷ _ ∷ _ ∷ _ ∷ _ ∷ _ ∷ _ ∷ _ ∷ _ ∷ _ ∷ _ ∷ _ ∷ _ ∷ _ ∷ _ ∷ _ ∷ _ ∷ _ ∷ _ ∷ _ ∷ _ ∷ _ ∷ _ ∷ _ ∷ _ ∷ _ ∷ _ ∷ _ ∷ _ ∷ _ ∷ _ ∷ _ ∷ _ ∷ _ ∷ _ ∷ _ ∷ _ ∷ _ ∷ _ ∷ _ ∷ _ ∷ _ ∷ _ ∷ _ ∷ _ ∷ _ ∷ _ ∷ _ ∷ _ ∷ _ ∷ _ ∷ _ ∷ _ ∷ _ ∷ _ ∷ _ ∷ _ ∷ _ ∷ _ ∷ _ ∷ _ ∷ _ ∷ _ ∷ _ ∷ _ ∷ _ ∷ _ ∷ _ ∷ _ ∷ _ ∷ _ ∷ _ ∷ _ ∷ _ ∷ _ ∷ _ ∷ []) $ nothing ! $
         -- call 2
         use1 W (raw (Callee-g2 𝓤 H A at-mem run .pre ((tt, tt, tt, (r1, tt), (z1 ∷ [], tt)), tt))) (qed W ((‵ ftrue) ∷ []) ∵ nothing ! $ owned ! mTranscriptAnswer.the-row (Is mTranscriptAnswer.the-row) (LL.makes mTranscriptAnswer.the-type lTranscriptAnswer.the-plain 𝓤 H A) (r1) _ i1 $ fjoin ! $ move ! (1 ∷ 0 ∷ []) $ join ! $ nothing ! $ move ! (1 ∷ 0 ∷ []) $ frame ! $ done !) $
-        calls-at ! fm (Callee-g2 𝓤 H A at-mem run) known-g2 ((tt, tt, tt, (r1, tt), (z1 ∷ [], tt)), tt) (and-then ! (load ! (from ! (stop !)) (look ! 85 refl)) (no-more !)) (λ z2.
+        calls-at ! fm (Callee-g2 𝓤 H A at-mem run) known-g2 ((tt, tt, tt, (r1, tt), (z1 ∷ [], tt)), tt) (and-then ! (load ! (from ! (stop !)) (look ! 51 refl)) (no-more !)) (λ z2.
         use1 W (later (some (λ (r2 : Transcript). ((‵ ftrue) ⊛ ‵ (mTranscript.the-row .own r2 (z2 ∷ []))) ⊛ some (λ (ws : Lasts g2.ended tt (r1, tt)). ‵ (lasts g2.ended tt (r1, tt) ws) ⊛ raw (g2.clauses 𝓤 H A at-mem run tt (r1, tt) .ensures tt r2 (atExit g2.ended tt (r1, tt) ws)))))) (id⊢ 𝓤 _) $ await ! tt $ pick ! (λ r2. split ! $ move ! (1 ∷ []) $ pick ! (λ ws2. split ! $ move ! (1 ∷ []) $ heard ! _ (λ e2.
-        fsplit ! $ move ! (2 ∷ []) $ split ! $ move ! (1 ∷ []) $ peeks ! mTranscript.the-row (Is mTranscript.the-row) (shows 𝓤 H A mTranscript.the-row) r2 (z2 ∷ []) (λ i2. drop ! $ land ! (from ! (stop !)) (store ! 73 refl (LL.lawful mTranscript.the-type lTranscript.the-laws 𝓤 H A W .typed r2 _ i2 .0)) $
-        assigns ! (of-opd ! (load ! (from ! (stop !)) (look ! 73 refl))) (from ! (hop ! (look ! 141 refl) (stop !))) (store-raw ! 53 refl (LL.lawful mTranscript.the-type lTranscript.the-laws 𝓤 H A W .typed r2 _ i2 .0)) $
-        nothing ! $
+        drop ! $ split ! $ move ! (1 ∷ []) $ peeks ! mTranscript.the-row (Is mTranscript.the-row) (shows 𝓤 H A mTranscript.the-row) r2 (z2 ∷ []) (λ i2. drop ! $ land ! (from ! (stop !)) (store ! 44 refl (LL.lawful mTranscript.the-type lTranscript.the-laws 𝓤 H A W .typed r2 _ i2 .0)) $
+        tidy W (_ ∷ _ ∷ _ ∷ _ ∷ _ ∷ _ ∷ _ ∷ _ ∷ _ ∷ _ ∷ _ ∷ _ ∷ _ ∷ _ ∷ _ ∷ _ ∷ _ ∷ _ ∷ _ ∷ _ ∷ _ ∷ _ ∷ _ ∷ _ ∷ _ ∷ _ ∷ _ ∷ _ ∷ _ ∷ _ ∷ _ ∷ _ ∷ _ ∷ _ ∷ _ ∷ _ ∷ _ ∷ _ ∷ _ ∷ _ ∷ _ ∷ _ ∷ _ ∷ _ ∷ _ ∷ _ ∷ _ ∷ _ ∷ _ ∷ _ ∷ _ ∷ _ ∷ _ ∷ _ ∷ _ ∷ _ ∷ _ ∷ _ ∷ _ ∷ _ ∷ _ ∷ _ ∷ _ ∷ _ ∷ _ ∷ _ ∷ _ ∷ _ ∷ _ ∷ _ ∷ _ ∷ _ ∷ _ ∷ _ ∷ _ ∷ _ ∷ _ ∷ _ ∷ _ ∷ _ ∷ []) $ drop ! $ assigns ! (of-opd ! (load ! (from ! (stop !)) (look ! 43 refl))) (from ! (hop ! (look ! 77 refl) (stop !))) (store-raw ! 24 refl (LL.lawful mTranscript.the-type lTranscript.the-laws 𝓤 H A W .typed r2 _ i2 .0)) $
+        tidy W (_ ∷ _ ∷ _ ∷ _ ∷ _ ∷ _ ∷ _ ∷ _ ∷ _ ∷ _ ∷ _ ∷ _ ∷ _ ∷ _ ∷ _ ∷ _ ∷ _ ∷ _ ∷ _ ∷ _ ∷ _ ∷ _ ∷ _ ∷ _ ∷ _ ∷ _ ∷ _ ∷ _ ∷ _ ∷ _ ∷ _ ∷ _ ∷ _ ∷ _ ∷ _ ∷ _ ∷ _ ∷ _ ∷ _ ∷ _ ∷ _ ∷ _ ∷ _ ∷ _ ∷ _ ∷ _ ∷ _ ∷ _ ∷ _ ∷ _ ∷ _ ∷ _ ∷ _ ∷ _ ∷ _ ∷ _ ∷ _ ∷ _ ∷ _ ∷ _ ∷ _ ∷ _ ∷ _ ∷ _ ∷ _ ∷ _ ∷ _ ∷ _ ∷ _ ∷ _ ∷ _ ∷ _ ∷ _ ∷ _ ∷ _ ∷ _ ∷ _ ∷ _ ∷ _ ∷ []) $ nothing ! $
         -- call 3
         use1 W (raw (Callee-g3 𝓤 H A at-mem run .pre ((tt, tt, tt, (r1, tt), (z1 ∷ [], tt)), tt))) (qed W ((‵ ftrue) ∷ []) ∵ nothing ! $ owned ! mTranscriptAnswer.the-row (Is mTranscriptAnswer.the-row) (LL.makes mTranscriptAnswer.the-type lTranscriptAnswer.the-plain 𝓤 H A) (r1) _ i1 $ fjoin ! $ move ! (1 ∷ 0 ∷ []) $ join ! $ nothing ! $ move ! (1 ∷ 0 ∷ []) $ frame ! $ done !) $
-        calls-at ! fm (Callee-g3 𝓤 H A at-mem run) known-g3 ((tt, tt, tt, (r1, tt), (z1 ∷ [], tt)), tt) (and-then ! (load ! (from ! (stop !)) (look ! 88 refl)) (no-more !)) (λ z3.
+        calls-at ! fm (Callee-g3 𝓤 H A at-mem run) known-g3 ((tt, tt, tt, (r1, tt), (z1 ∷ [], tt)), tt) (and-then ! (load ! (from ! (stop !)) (look ! 51 refl)) (no-more !)) (λ z3.
         use1 W (later (some (λ (r3 : ℕ). ((‵ ftrue) ⊛ ‵ (u32 .own r3 (z3 ∷ []))) ⊛ some (λ (ws : Lasts g3.ended tt (r1, tt)). ‵ (lasts g3.ended tt (r1, tt) ws) ⊛ raw (g3.clauses 𝓤 H A at-mem run tt (r1, tt) .ensures tt r3 (atExit g3.ended tt (r1, tt) ws)))))) (id⊢ 𝓤 _) $ await ! tt $ pick ! (λ r3. split ! $ move ! (1 ∷ []) $ pick ! (λ ws3. split ! $ move ! (1 ∷ []) $ heard ! _ (λ e3.
-        fsplit ! $ move ! (2 ∷ []) $ split ! $ move ! (1 ∷ []) $ peeks ! u32 (Is u32) (shows 𝓤 H A u32) r3 (z3 ∷ []) (λ i3. drop ! $ land ! (from ! (stop !)) (init ! 146 refl (uint-lawful 𝓤 H A W w32 .typed r3 _ i3 .0)) $
-        owned ! mTranscript.the-row (Is mTranscript.the-row) (LL.makes mTranscript.the-type lTranscript.the-plain 𝓤 H A) (r2) _ i2 $ move ! (57 ∷ 0 ∷ 58 ∷ 59 ∷ 60 ∷ []) $ closes ! tt mTranscript.the-row (r2) (z2 ∷ []) b1 o1 $ feqI ! (List Val) (vptr b1 o1 ∷ []) (vptr b1 o1 ∷ []) refl $ fjoin3 ! $
-        returns ! (look ! 144 refl) $ forget ! 144 refl $ forget ! 142 refl $ forget ! 140 refl $ forget ! 138 refl $ forget ! 136 refl $ forget ! 134 refl $ forget ! 132 refl $ forget ! 130 refl $ forget ! 128 refl $ forget ! 126 refl $ forget ! 124 refl $ forget ! 122 refl $ forget ! 120 refl $ forget ! 118 refl $ forget ! 116 refl $ forget ! 114 refl $ forget ! 112 refl $ forget ! 110 refl $ forget ! 108 refl $ forget ! 106 refl $ forget ! 104 refl $ forget ! 102 refl $ forget ! 100 refl $ forget ! 98 refl $ forget ! 96 refl $ forget ! 94 refl $ forget ! 92 refl $ forget ! 90 refl $ forget ! 88 refl $ forget ! 86 refl $ forget ! 84 refl $ forget ! 82 refl $ forget ! 80 refl $ forget ! 78 refl $ forget ! 76 refl $ forget ! 74 refl $
-        move ! (144 ∷ 145 ∷ []) $ free1 ! $ move ! (142 ∷ 143 ∷ []) $ free1 ! $ move ! (140 ∷ 141 ∷ []) $ free1 ! $ move ! (138 ∷ 139 ∷ []) $ free1 ! $ move ! (136 ∷ 137 ∷ []) $ free1 ! $ move ! (134 ∷ 135 ∷ []) $ free1 ! $ move ! (132 ∷ 133 ∷ []) $ free1 ! $ move ! (130 ∷ 131 ∷ []) $ free1 ! $ move ! (128 ∷ 129 ∷ []) $ free1 ! $ move ! (126 ∷ 127 ∷ []) $ free1 ! $ move ! (124 ∷ 125 ∷ []) $ free1 ! $ move ! (122 ∷ 123 ∷ []) $ free1 ! $ move ! (120 ∷ 121 ∷ []) $ free1 ! $ move ! (118 ∷ 119 ∷ []) $ free1 ! $ move ! (116 ∷ 117 ∷ []) $ free1 ! $ move ! (114 ∷ 115 ∷ []) $ free1 ! $ move ! (112 ∷ 113 ∷ []) $ free1 ! $ move ! (110 ∷ 111 ∷ []) $ free1 ! $ move ! (108 ∷ 109 ∷ []) $ free1 ! $ move ! (106 ∷ 107 ∷ []) $ free1 ! $ move ! (104 ∷ 105 ∷ []) $ free1 ! $ move ! (102 ∷ 103 ∷ []) $ free1 ! $ move ! (100 ∷ 101 ∷ []) $ free1 ! $ move ! (98 ∷ 99 ∷ []) $ free1 ! $ move ! (96 ∷ 97 ∷ []) $ free1 ! $ move ! (94 ∷ 95 ∷ []) $ free1 ! $ move ! (92 ∷ 93 ∷ []) $ free1 ! $ move ! (90 ∷ 91 ∷ []) $ free1 ! $ move ! (88 ∷ 89 ∷ []) $ free1 ! $ move ! (86 ∷ 87 ∷ []) $ free1 ! $ move ! (84 ∷ 85 ∷ []) $ free1 ! $ move ! (82 ∷ 83 ∷ []) $ free1 ! $ move ! (80 ∷ 81 ∷ []) $ free1 ! $ move ! (78 ∷ 79 ∷ []) $ free1 ! $ move ! (76 ∷ 77 ∷ []) $ free1 ! $ move ! (74 ∷ 75 ∷ []) $ free1 ! $ free0 ! $
+        drop ! $ split ! $ move ! (1 ∷ []) $ peeks ! u32 (Is u32) (shows 𝓤 H A u32) r3 (z3 ∷ []) (λ i3. drop ! $ land ! (from ! (stop !)) (init ! 79 refl (uint-lawful 𝓤 H A W w32 .typed r3 _ i3 .0)) $
+        tidy W (_ ∷ _ ∷ _ ∷ _ ∷ _ ∷ _ ∷ _ ∷ _ ∷ _ ∷ _ ∷ _ ∷ _ ∷ _ ∷ _ ∷ _ ∷ _ ∷ _ ∷ _ ∷ _ ∷ _ ∷ _ ∷ _ ∷ _ ∷ _ ∷ _ ∷ _ ∷ _ ∷ _ ∷ _ ∷ _ ∷ _ ∷ _ ∷ _ ∷ _ ∷ _ ∷ _ ∷ _ ∷ _ ∷ _ ∷ _ ∷ _ ∷ _ ∷ _ ∷ _ ∷ _ ∷ _ ∷ _ ∷ _ ∷ _ ∷ _ ∷ _ ∷ _ ∷ _ ∷ _ ∷ _ ∷ _ ∷ _ ∷ _ ∷ _ ∷ _ ∷ _ ∷ _ ∷ _ ∷ _ ∷ _ ∷ _ ∷ _ ∷ _ ∷ _ ∷ _ ∷ _ ∷ _ ∷ _ ∷ _ ∷ _ ∷ _ ∷ _ ∷ _ ∷ _ ∷ _ ∷ []) $ drop ! $ owned ! mTranscript.the-row (Is mTranscript.the-row) (LL.makes mTranscript.the-type lTranscript.the-plain 𝓤 H A) (r2) _ i2 $ move ! (25 ∷ 0 ∷ 26 ∷ 27 ∷ 28 ∷ []) $ closes ! tt mTranscript.the-row (r2) (z2 ∷ []) b1 o1 $ feqI ! (List Val) (vptr b1 o1 ∷ []) (vptr b1 o1 ∷ []) refl $ fjoin3 ! $
+        tidy W (_ ∷ _ ∷ _ ∷ _ ∷ _ ∷ _ ∷ _ ∷ _ ∷ _ ∷ _ ∷ _ ∷ _ ∷ _ ∷ _ ∷ _ ∷ _ ∷ _ ∷ _ ∷ _ ∷ _ ∷ _ ∷ _ ∷ _ ∷ _ ∷ _ ∷ _ ∷ _ ∷ _ ∷ _ ∷ _ ∷ _ ∷ _ ∷ _ ∷ _ ∷ _ ∷ _ ∷ _ ∷ _ ∷ _ ∷ _ ∷ _ ∷ _ ∷ _ ∷ _ ∷ _ ∷ _ ∷ _ ∷ _ ∷ _ ∷ _ ∷ _ ∷ _ ∷ _ ∷ _ ∷ _ ∷ _ ∷ _ ∷ _ ∷ _ ∷ _ ∷ _ ∷ _ ∷ _ ∷ _ ∷ _ ∷ _ ∷ _ ∷ _ ∷ _ ∷ _ ∷ _ ∷ _ ∷ _ ∷ _ ∷ _ ∷ _ ∷ _ ∷ []) $ returns ! (look ! 76 refl) $ move ! (40 ∷ []) $ use1 W (dies ((tyInt w32, l₀) ∷ (tyRef (named 0) mut (pointee (mTranscript.the-row .written)), l₁) ∷ (sliceTy (tyRef (named 1) mut (tyInt w64)), l₂) ∷ (sliceTy (tyRef (named 2) mut (tyInt w64)), l₃) ∷ (sliceTy (tyRef (named 3) mut (tyInt w64)), l₄) ∷ (tyInt w64, l₅) ∷ (tyInt w64, l₆) ∷ (sliceTy (tyRef (named 4) imm (tyInt w64)), l₇) ∷ (tyInt w64, l₈) ∷ (tyInt w64, l₉) ∷ (sliceTy (tyRef (named 5) imm (pointee (mEntry.the-row .written))), l₁₀) ∷ (tyInt w64, l₁₁) ∷ (tyInt w64, l₁₂) ∷ (sliceTy (tyRef (named 6) imm (pointee (mEntry.the-row .written))), l₁₃) ∷ (tyInt w64, l₁₄) ∷ (tyInt w64, l₁₅) ∷ (sliceTy (tyRef (named 7) imm (pointee (mEntry.the-row .written))), l₁₆) ∷ (tyInt w64, l₁₇) ∷ (tyInt w64, l₁₈) ∷ (sliceTy (tyRef (named 8) imm (pointee (mEntry.the-row .written))), l₁₉) ∷ (tyInt w64, l₂₀) ∷ (tyInt w64, l₂₁) ∷ (sliceTy (tyRef (named 9) imm (pointee (mEntry.the-row .written))), l₂₂) ∷ (tyInt w64, l₂₃) ∷ (tyInt w64, l₂₄) ∷ (sliceTy (tyRef (named 10) imm (pointee (mEntry.the-row .written))), l₂₅) ∷ (sliceTy (tyRef (named 11) imm (tyInt w64)), l₂₆) ∷ (sliceTy (tyRef (named 12) imm (tyInt w64)), l₂₇) ∷ (lTranscriptAnswer.mir, l₂₈) ∷ (tyRef erased mut (tyInt w64), l₂₉) ∷ (sliceTy (tyRef erased mut (tyInt w64)), l₃₀) ∷ (tyRef erased mut (tyInt w64), l₃₁) ∷ (sliceTy (tyRef erased mut (tyInt w64)), l₃₂) ∷ (tyRef erased mut (tyInt w64), l₃₃) ∷ (sliceTy (tyRef erased mut (tyInt w64)), l₃₄) ∷ (lTranscript.mir, l₃₅) ∷ []) (‵ ftrue)) die $ free-all ! 40 ((tyInt w32, l₀) ∷ (tyRef (named 0) mut (pointee (mTranscript.the-row .written)), l₁) ∷ (sliceTy (tyRef (named 1) mut (tyInt w64)), l₂) ∷ (sliceTy (tyRef (named 2) mut (tyInt w64)), l₃) ∷ (sliceTy (tyRef (named 3) mut (tyInt w64)), l₄) ∷ (tyInt w64, l₅) ∷ (tyInt w64, l₆) ∷ (sliceTy (tyRef (named 4) imm (tyInt w64)), l₇) ∷ (tyInt w64, l₈) ∷ (tyInt w64, l₉) ∷ (sliceTy (tyRef (named 5) imm (pointee (mEntry.the-row .written))), l₁₀) ∷ (tyInt w64, l₁₁) ∷ (tyInt w64, l₁₂) ∷ (sliceTy (tyRef (named 6) imm (pointee (mEntry.the-row .written))), l₁₃) ∷ (tyInt w64, l₁₄) ∷ (tyInt w64, l₁₅) ∷ (sliceTy (tyRef (named 7) imm (pointee (mEntry.the-row .written))), l₁₆) ∷ (tyInt w64, l₁₇) ∷ (tyInt w64, l₁₈) ∷ (sliceTy (tyRef (named 8) imm (pointee (mEntry.the-row .written))), l₁₉) ∷ (tyInt w64, l₂₀) ∷ (tyInt w64, l₂₁) ∷ (sliceTy (tyRef (named 9) imm (pointee (mEntry.the-row .written))), l₂₂) ∷ (tyInt w64, l₂₃) ∷ (tyInt w64, l₂₄) ∷ (sliceTy (tyRef (named 10) imm (pointee (mEntry.the-row .written))), l₂₅) ∷ (sliceTy (tyRef (named 11) imm (tyInt w64)), l₂₆) ∷ (sliceTy (tyRef (named 12) imm (tyInt w64)), l₂₇) ∷ (lTranscriptAnswer.mir, l₂₈) ∷ (tyRef erased mut (tyInt w64), l₂₉) ∷ (sliceTy (tyRef erased mut (tyInt w64)), l₃₀) ∷ (tyRef erased mut (tyInt w64), l₃₁) ∷ (sliceTy (tyRef erased mut (tyInt w64)), l₃₂) ∷ (tyRef erased mut (tyInt w64), l₃₃) ∷ (sliceTy (tyRef erased mut (tyInt w64)), l₃₄) ∷ (lTranscript.mir, l₃₅) ∷ []) (kept _ ∷ kept _ ∷ kept _ ∷ kept _ ∷ kept _ ∷ kept _ ∷ kept _ ∷ kept _ ∷ kept _ ∷ kept _ ∷ kept _ ∷ kept _ ∷ kept _ ∷ kept _ ∷ kept _ ∷ kept _ ∷ kept _ ∷ kept _ ∷ kept _ ∷ kept _ ∷ kept _ ∷ kept _ ∷ kept _ ∷ kept _ ∷ kept _ ∷ kept _ ∷ kept _ ∷ kept _ ∷ kept _ ∷ kept _ ∷ kept _ ∷ kept _ ∷ kept _ ∷ kept _ ∷ kept _ ∷ kept _ ∷ []) refl $
         suffices ! _ (ends-at 𝓤 H A f.ended stayed (f.clauses 𝓤 H A at-mem run) W (((κ₀, (κ₁, (κ₂, (κ₃, (κ₄, (κ₅, (κ₆, (κ₇, (κ₈, (κ₉, (κ₁₀, (κ₁₁, (κ₁₂, tt))))))))))))), (q₀, (q₁, (q₂, (q₃, (q₄, (q₅, (q₆, (q₇, (q₈, (q₉, (q₁₀, (q₁₁, (q₁₂, tt))))))))))))), tt, a, at), tt) z3 r3 (r2, (ws1 .0, (ws1 .1 .0, (ws1 .1 .1 .0, (tt, (tt, (tt, (tt, (tt, (tt, (tt, (tt, (tt, (tt, (tt, (tt, (tt, (tt, (tt, (tt, (tt, (tt, (tt, (tt, (tt, (tt, (tt, tt))))))))))))))))))))))))))) (tt, (same1a, (same1b, (same1c, (tt, (tt, (tt, (tt, (tt, (tt, (tt, (tt, (tt, (tt, (tt, (tt, (tt, (tt, (tt, (tt, (tt, (tt, (tt, (tt, (tt, (tt, (tt, tt)))))))))))))))))))))))))))) $ says ! (rw (e2, e3) e1) $
-        nothing ! $ move ! (16 ∷ 0 ∷ []) $ join ! $ move ! (16 ∷ 0 ∷ []) $ join ! $ move ! (16 ∷ 0 ∷ []) $ join ! $ move ! (16 ∷ 0 ∷ []) $ join ! $ move ! (16 ∷ 0 ∷ []) $ join ! $ move ! (16 ∷ 0 ∷ []) $ join ! $ move ! (16 ∷ 0 ∷ []) $ join ! $ move ! (16 ∷ 0 ∷ []) $ join ! $ move ! (16 ∷ 0 ∷ []) $ join ! $ move ! (10 ∷ 0 ∷ []) $ join ! $ move ! (11 ∷ 0 ∷ []) $ join ! $ move ! (12 ∷ 0 ∷ []) $ join ! $ move ! (2 ∷ 0 ∷ []) $ join ! $ nothing ! $ move ! (38 ∷ 0 ∷ []) $ fjoin ! $ move ! (38 ∷ 0 ∷ []) $ fjoin ! $ move ! (38 ∷ 0 ∷ []) $ fjoin ! $ move ! (46 ∷ 0 ∷ []) $ fjoin ! $ move ! (46 ∷ 0 ∷ []) $ fjoin ! $ move ! (38 ∷ 0 ∷ []) $ fjoin ! $ move ! (45 ∷ 0 ∷ []) $ fjoin ! $ move ! (45 ∷ 0 ∷ []) $ fjoin ! $ move ! (38 ∷ 0 ∷ []) $ fjoin ! $ move ! (44 ∷ 0 ∷ []) $ fjoin ! $ move ! (44 ∷ 0 ∷ []) $ fjoin ! $ move ! (38 ∷ 0 ∷ []) $ fjoin ! $ move ! (43 ∷ 0 ∷ []) $ fjoin ! $ move ! (43 ∷ 0 ∷ []) $ fjoin ! $ move ! (38 ∷ 0 ∷ []) $ fjoin ! $ move ! (42 ∷ 0 ∷ []) $ fjoin ! $ move ! (42 ∷ 0 ∷ []) $ fjoin ! $ move ! (38 ∷ 0 ∷ []) $ fjoin ! $ move ! (41 ∷ 0 ∷ []) $ fjoin ! $ move ! (41 ∷ 0 ∷ []) $ fjoin ! $ move ! (38 ∷ 0 ∷ []) $ fjoin ! $ move ! (40 ∷ 0 ∷ []) $ fjoin ! $ move ! (40 ∷ 0 ∷ []) $ fjoin ! $ move ! (9 ∷ 0 ∷ []) $ fjoin ! $ move ! (9 ∷ 0 ∷ []) $ fjoin ! $ move ! (9 ∷ 0 ∷ []) $ fjoin ! $ move ! (2 ∷ 0 ∷ []) $ fjoin ! $ keep ! (1 ∷ 0 ∷ []) $ frame ! $ frame ! $ owned ! u32 (Is u32) (uint-makes 𝓤 H A W w32) r3 _ i3 $ done !))))))))))))))))))))))))))))))))))))))))))))))))))))))))))))))
+        nothing ! $ move ! (9 ∷ 0 ∷ []) $ join ! $ move ! (9 ∷ 0 ∷ []) $ join ! $ move ! (9 ∷ 0 ∷ []) $ join ! $ move ! (9 ∷ 0 ∷ []) $ join ! $ move ! (9 ∷ 0 ∷ []) $ join ! $ move ! (9 ∷ 0 ∷ []) $ join ! $ move ! (9 ∷ 0 ∷ []) $ join ! $ move ! (9 ∷ 0 ∷ []) $ join ! $ move ! (9 ∷ 0 ∷ []) $ join ! $ move ! (4 ∷ 0 ∷ []) $ join ! $ move ! (5 ∷ 0 ∷ []) $ join ! $ move ! (6 ∷ 0 ∷ []) $ join ! $ move ! (2 ∷ 0 ∷ []) $ join ! $ nothing ! $ move ! (6 ∷ 0 ∷ []) $ fjoin ! $ move ! (6 ∷ 0 ∷ []) $ fjoin ! $ move ! (6 ∷ 0 ∷ []) $ fjoin ! $ move ! (12 ∷ 0 ∷ []) $ fjoin ! $ move ! (12 ∷ 0 ∷ []) $ fjoin ! $ move ! (6 ∷ 0 ∷ []) $ fjoin ! $ move ! (11 ∷ 0 ∷ []) $ fjoin ! $ move ! (11 ∷ 0 ∷ []) $ fjoin ! $ move ! (6 ∷ 0 ∷ []) $ fjoin ! $ move ! (10 ∷ 0 ∷ []) $ fjoin ! $ move ! (10 ∷ 0 ∷ []) $ fjoin ! $ move ! (6 ∷ 0 ∷ []) $ fjoin ! $ move ! (9 ∷ 0 ∷ []) $ fjoin ! $ move ! (9 ∷ 0 ∷ []) $ fjoin ! $ move ! (6 ∷ 0 ∷ []) $ fjoin ! $ move ! (8 ∷ 0 ∷ []) $ fjoin ! $ move ! (8 ∷ 0 ∷ []) $ fjoin ! $ move ! (6 ∷ 0 ∷ []) $ fjoin ! $ move ! (7 ∷ 0 ∷ []) $ fjoin ! $ move ! (7 ∷ 0 ∷ []) $ fjoin ! $ move ! (6 ∷ 0 ∷ []) $ fjoin ! $ move ! (6 ∷ 0 ∷ []) $ fjoin ! $ move ! (6 ∷ 0 ∷ []) $ fjoin ! $ move ! (3 ∷ 0 ∷ []) $ fjoin ! $ move ! (3 ∷ 0 ∷ []) $ fjoin ! $ move ! (3 ∷ 0 ∷ []) $ fjoin ! $ move ! (2 ∷ 0 ∷ []) $ fjoin ! $ keep ! (1 ∷ 0 ∷ []) $ frame ! $ frame ! $ owned ! u32 (Is u32) (uint-makes 𝓤 H A W w32) r3 _ i3 $ done !)))))))))))))))))))))))))))))))))))))))))))))))))))))))))))))))
 
 module _ {M : Type 1} (𝓤 : URA M) (H : Heap 𝓤) (A : Atoms 𝓤) (W : Given 𝓤 H A) (mem : Memory → SProp 𝓤) (run : Routine → Fun 𝓤) where
   walks : (C : Calls 𝓤 H) (Λ : Loops 𝓤 H) → FmC 𝓤 H (W .laws) C → Triple 𝓤 (C #g1) (Callee-g1 𝓤 H A mem run) → Triple 𝓤 (C #g2) (Callee-g2 𝓤 H A mem run) → Triple 𝓤 (C #g3) (Callee-g3 𝓤 H A mem run) → Walks 𝓤 H A f.ended stayed (WpFn 𝓤 H C Λ code.function) (f.clauses 𝓤 H A mem run)
