@@ -1,6 +1,6 @@
 #!/bin/sh
-# Writes anew the proofs of magnetar_inplace, magnetar_row_records, magnetar_forms, magnetar_records and magnetar_cases that tools/thin.py, tools/each.py and
-# tools/count.py write. Run it in the repository's root after a change of a walked function's code or contract, then `rt fmt` and `rt check` of
+# Writes anew the proofs of magnetar_inplace, magnetar_row_records, magnetar_forms, magnetar_records, magnetar_records_prover and magnetar_cases
+# that tools/thin.py, tools/each.py and tools/count.py write. Run it in the repository's root after a change of a walked function's code or contract, then `rt fmt` and `rt check` of
 # the crate. Nobody has to trust the tools: the checker checks what they write.
 set -e
 crate() { c=$1; p=crates/$c/proofs; ends=Rattle.$c.proofs; }

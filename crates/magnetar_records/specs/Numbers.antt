@@ -1,4 +1,5 @@
--- The refusals of six slices of records by numbers alone. Only private contracts cite these definitions.
+-- The refusals of six slices of records by numbers alone. Only private contracts, and those of what the
+-- prover over records is made of too, cite these definitions.
 -- Assumes nothing.
 use mathlib.Core.Bool.{Bool, cond, not, _&&_}
 use mathlib.Core.List.{[], _∷_, _++_}

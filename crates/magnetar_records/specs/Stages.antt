@@ -1,4 +1,5 @@
--- What the stages of a run that see no matrix leave. Only private contracts cite these definitions.
+-- What the stages of a run that see no matrix leave. Only private contracts, and those of what the
+-- prover over records is made of too, cite these definitions.
 -- Assumes nothing.
 use mathlib.Core.Bool.{cond}
 use mathlib.Core.List.{List, []}

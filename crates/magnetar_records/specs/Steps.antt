@@ -1,4 +1,5 @@
--- What the walks that make the combined table do, call by call. Only private contracts cite these definitions.
+-- What the walks that make the combined table do, call by call. Only private contracts, and those of what the
+-- prover over records is made of too, cite these definitions.
 -- Assumes nothing.
 use mathlib.Core.Bool.{cond}
 use mathlib.Core.List.{List, [], _∷_, _++_}

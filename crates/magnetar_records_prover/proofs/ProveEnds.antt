@@ -83,18 +83,6 @@ module _ (R : Rules) (ws x w c s : List ℕ) (t : Transcript) (ok : Provable R w
   segments = P .fine .segments
 
   -- the sizes of the parts
-  bin-words : tableWords q b ≡ 2 * (q * b)
-  bin-words =
-      let i : min q 4096 ≡ q = omega (arith, P .logins .high) in
-      let j : min b 65536 ≡ b = omega (arith, P .fine .bin .rows .high) in
-      rw (i, j)
-
-  fld-words : tableWords q f ≡ 2 * (q * f)
-  fld-words =
-      let i : min q 4096 ≡ q = omega (arith, P .logins .high) in
-      let j : min f 65536 ≡ f = omega (arith, P .fine .fld .rows .high) in
-      rw (i, j)
-
   room-is : parts.roomOf m q b f ≡ proverRoom R
   room-is =
       let i : min q 4096 ≡ q = omega (arith, P .logins .high) in
