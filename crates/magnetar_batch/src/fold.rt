@@ -25,8 +25,8 @@ ghost use Rattle.magnetar_r1cs.specs.Table.{raised, Point};
 ghost use Rattle.magnetar_batch.specs.Fold.{selectAt, wordSelect, rowSelect, foldSum};
 ghost use Rattle.magnetar_batch.specs.Entries.{foldRefusal, foldOut, foldScratch, foldInRefusal, foldInOut};
 
-// The fold of a vector with an element for each login. 11: the point is no point, or the vector is not of its length; 15:
-// too little room.
+// The fold of a vector with an element for each login. 11: an odd number of words or over 20 elements in the point, or the vector is
+// not of its table's length; 15: too little room.
 pub fn fold_instances(vector: &[u64], point: &[u64], scratch: &mut [u64]) -> Evaluated
     ensures value { λ r. ⌜ answer r ≡ answered (mleRefusal (now (vector .entry)) (now (point .entry)) (now (scratch .entry))) (mle (elements (now (vector .entry))) (elements (now (point .entry)))) ⌝ }
     ensures cleared { λ _. ⌜ now (scratch .exit) ≡ mleScratch (now (vector .entry)) (now (point .entry)) (now (scratch .entry)) ⌝ }

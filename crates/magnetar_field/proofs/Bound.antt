@@ -1,17 +1,16 @@
 -- The loop that binds a variable in place, the first entry first: it reads only what it has not overwritten.
 -- Assumes nothing.
-use mathlib.Core.Path.{_≡_, refl, sym, ap, ap₂, _∙_}
-use mathlib.Core.List.{List, [], _∷_, _++_}
+use mathlib.Core.Path.{_≡_, ap, _∙_}
+use mathlib.Core.List.{List, _++_}
 use Prim.Native.Nat.{ℕ, zero, suc, _+_, _-_, _*_, _/_, _%_, _^_, _≤_, _<_}
-use native.Mathlib.Nat.{mod-lt, mul-mod-left, div-add-mod', mul-le-mul-right, div-lt-iff-lt-mul, mul-left-comm, mul-comm, mul-assoc, pow-suc}
+use native.Mathlib.Nat.{mod-lt, mul-mod-left, div-add-mod', mul-le-mul-right, div-lt-iff-lt-mul, mul-left-comm, pow-suc}
 use native.Mathlib.Omega.{arith}
 use lib.ListN.{length, getD, set, take, drop, length-take}
 use lib.Pow.{pow-pos, pow-add}
 use Rattle.magnetar_field.specs.Binding.{BindFits}
-use lib.Seq.{getD-take, take-at, length-take-le}
-use Rattle.magnetar_field.specs.Tabulate.{tabulate}
+use lib.Seq.{getD-take}
 use Rattle.magnetar_field.specs.Multilinear.{line, insertZero, bindVar}
-use Rattle.magnetar_field.proofs.Tabulation.{tabulate-length, tabulate-ext}
+use Rattle.magnetar_field.proofs.Tabulation.{tabulate-ext}
 use Rattle.magnetar_field.proofs.Making.{Made, made-none, made-get, made-more}
 
 -- ---- the two places that entry i is made of, with blocks of b entries

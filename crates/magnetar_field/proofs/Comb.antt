@@ -5,20 +5,20 @@ use mathlib.Core.Path.{_≡_, refl, sym, ap, ap₂, _∙_}
 use mathlib.Core.Bool.{Bool, true, false}
 use mathlib.Core.List.{List}
 use Prim.Native.Nat.{ℕ, zero, suc, _+_, _-_, _*_, _/_, _%_, _^_, _≤_, _<_}
-use native.Mathlib.Nat.{zero-mul, zero-add, add-zero, mod-lt, mod-eq-of-lt, pow-suc, div-one, div-eq-of-lt, lt-of-le-of-lt, lt-of-lt-of-le, mul-comm}
+use native.Mathlib.Nat.{zero-add, add-zero, mod-lt, div-one, div-eq-of-lt, lt-of-le-of-lt, lt-of-lt-of-le, mul-comm}
 use native.Mathlib.Omega.{arith}
 use borrow.Author.Tests.{eqb-true, eqb-false}
 use lib.Arith.{digits-lt}
 use lib.Bits.{bitOr, or-lt, xor-block, xor-shifted}
 use lib.Dec.{eqb, lit<, lit≤}
-use lib.ListN.{length, getD, set, length-set}
-use lib.Pow.{pow-pos, pow-mono, pow-add, shl-lt, shr-lt, shr-shr, shr-le, split}
+use lib.ListN.{length, set, length-set}
+use lib.Pow.{pow-pos, pow-add, shr-shr, shr-le, split}
 use lib.Seq.{getD-set-same, getD-set-other}
 use Rattle.magnetar_field.specs.Gf128.{_⊕_, _⊗_, timesX}
 use Rattle.magnetar_field.specs.Residue.{residue, pairAt, Multiples}
-use Rattle.magnetar_field.proofs.Xor.{xor, ⊕-zero, zero-⊕, ⊕-self, ⊕-lt, ⊕-assoc, ⊕-comm, ⊕-four, add-digit, additive-zero}
+use Rattle.magnetar_field.proofs.Xor.{xor, ⊕-zero, ⊕-self, ⊕-lt, ⊕-comm, add-digit, additive-zero}
 use Rattle.magnetar_field.proofs.Product.{xpow, xpow-comm, ⊗-⊕, ⊗-zero, ⊗-one, ⊗-lt}
-use Rattle.magnetar_field.proofs.Reduction.{widen, residue-⊕, residue-small, residue-shift, xpow-⊕, xpow-small, ⊗-shift}
+use Rattle.magnetar_field.proofs.Reduction.{widen, residue-⊕, residue-small, residue-shift, xpow-⊕, ⊗-shift}
 use Rattle.magnetar_field.proofs.Shift.{shifted, joined}
 
 -- ---- words

@@ -1,13 +1,13 @@
 -- The eq table: its size, its entries, and how it grows by one variable.
 -- Assumes nothing.
-use mathlib.Core.Path.{_≡_, refl, sym, ap, ap₂, _∙_}
+use mathlib.Core.Path.{_≡_, refl, sym, ap, _∙_}
 use mathlib.Core.Bool.{Bool, true, false}
 use mathlib.Core.List.{List, [], _∷_}
-use Prim.Native.Nat.{ℕ, zero, suc, _+_, _-_, _*_, _/_, _%_, _^_, _≤_, _<_}
+use Prim.Native.Nat.{ℕ, zero, suc, _-_, _*_, _/_, _%_, _^_, _≤_, _<_}
 use native.Mathlib.Nat.{pow-suc}
 use native.Mathlib.Numerals.{sub-one}
 use native.Mathlib.Omega.{arith}
-use lib.Dec.{eqb, ltb, lit<}
+use lib.Dec.{ltb, lit<}
 use borrow.Author.Tests.{ltb-true, ltb-false}
 use lib.ListN.{length, getD, drop, drop-of-length-le, List·getD-eq-default}
 use lib.Seq.{drop-cons}
@@ -17,7 +17,7 @@ use Rattle.magnetar_field.specs.Tabulate.{tabulate}
 use Rattle.magnetar_field.specs.EqTable.{eqFactor, odd, eqAt, eqBits, eqTable, scaledTable}
 use Rattle.magnetar_field.specs.Doubling.{doubled}
 use Rattle.magnetar_field.proofs.Product.{⊗-comm, ⊗-left-comm, ⊗-⊕, ⊗-one, one-⊗, ⊗-lt}
-use Rattle.magnetar_field.proofs.Tabulation.{tabulate-length, tabulate-get, tabulate-out, tabulate-of, tabulate-ext}
+use Rattle.magnetar_field.proofs.Tabulation.{tabulate-length, tabulate-get, tabulate-of, tabulate-ext}
 
 pub eqTable-length : (p : List ℕ) → length (eqTable p) ≡ 2 ^ length p
 unfolding eqTable

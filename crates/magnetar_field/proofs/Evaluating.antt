@@ -1,13 +1,12 @@
 -- The loop that binds every variable, the highest first: the value at the point stays.
 -- Assumes nothing.
-use mathlib.Core.Path.{_≡_, refl, sym, ap, ap₂, _∙_}
-use mathlib.Core.List.{List, [], _∷_, _++_}
-use Prim.Native.Nat.{ℕ, zero, suc, _+_, _-_, _*_, _/_, _%_, _^_, _≤_, _<_}
+use mathlib.Core.Path.{_≡_, sym, ap, _∙_}
+use mathlib.Core.List.{List, _++_}
+use Prim.Native.Nat.{ℕ, zero, suc, _+_, _-_, _*_, _/_, _^_, _≤_, _<_}
 use native.Mathlib.Nat.{pow-suc, mod-self}
 use native.Mathlib.Numerals.{sub-one}
 use native.Mathlib.Omega.{arith}
-use lib.ListN.{length, getD, take, drop, length-take}
-use lib.Pow.{pow-pos}
+use lib.ListN.{length, getD, take, drop}
 use lib.Seq.{take-all, take-at, take-suc, getD-take, length-take-le}
 use Rattle.magnetar_field.specs.Multilinear.{mle, bindVar}
 use Rattle.magnetar_field.specs.Binding.{BindFits}

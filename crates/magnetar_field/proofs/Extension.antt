@@ -6,18 +6,17 @@ use Prim.Native.Nat.{ℕ, zero, suc, _+_, _-_, _*_, _/_, _%_, _^_, _≤_, _<_}
 use native.Mathlib.Nat.{pow-suc, div-eq-of-lt, mod-eq-of-lt, zero-mul, zero-add, le-of-suc-le-suc}
 use native.Mathlib.Omega.{arith}
 use mathlib.Core.Bool.{Bool, true, false}
-use lib.Dec.{eqb, ltb, lit<}
+use lib.Dec.{ltb}
 use borrow.Author.Tests.{ltb-true, ltb-false}
 use lib.ListN.{length, getD, take, drop, length-append, length-take, length-drop, List·getD-append}
 use lib.Pow.{pow-pos}
-use lib.Seq.{ext-getD, getD-take, getD-drop, getD-append-add, take-all}
+use lib.Seq.{ext-getD, getD-take, getD-drop, getD-append-add}
 use Rattle.magnetar_field.specs.Gf128.{_⊕_, _⊗_}
-use Rattle.magnetar_field.specs.Tabulate.{tabulate}
 use Rattle.magnetar_field.specs.EqTable.{eqFactor, odd, eqAt, eqTable}
 use Rattle.magnetar_field.specs.Multilinear.{dot, mle, line, insertZero, bindVar}
-use Rattle.magnetar_field.proofs.Xor.{xor, ⊕-assoc, ⊕-zero, zero-⊕, ⊕-self, ⊕-four, ⊕-lt}
-use Rattle.magnetar_field.proofs.Product.{⊗-comm, ⊗-assoc, ⊗-left-comm, ⊗-⊕, ⊕-⊗, ⊗-one, one-⊗, ⊗-zero, zero-⊗, ⊗-lt}
-use Rattle.magnetar_field.proofs.Tabulation.{tabulate-length, tabulate-get, tabulate-of}
+use Rattle.magnetar_field.proofs.Xor.{⊕-assoc, ⊕-zero, zero-⊕, ⊕-self, ⊕-four, ⊕-lt}
+use Rattle.magnetar_field.proofs.Product.{⊗-assoc, ⊗-left-comm, ⊗-⊕, ⊕-⊗, ⊗-one, one-⊗, ⊗-zero, ⊗-lt}
+use Rattle.magnetar_field.proofs.Tabulation.{tabulate-of}
 use Rattle.magnetar_field.proofs.EqTables.{eqTable-length, eqTable-get, eqTable-nil, eqAt-cons}
 
 -- ---- sums of products

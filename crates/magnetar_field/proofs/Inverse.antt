@@ -12,7 +12,7 @@ use Rattle.magnetar_field.specs.Gf128.{_⊗_, power, inverse}
 use Rattle.magnetar_field.proofs.Xor.{bit-cases, two-pos}
 use Rattle.magnetar_field.proofs.Product.{⊗-comm, ⊗-assoc, ⊗-lt, ⊗-zero}
 use Rattle.magnetar_field.proofs.Square.{sq, sqs, sqs-suc}
-use Rattle.magnetar_field.proofs.Power.{power-lt, power-one, power-add, power-double}
+use Rattle.magnetar_field.proofs.Power.{power-one, power-add, power-double}
 use Rattle.magnetar_field.proofs.Norm.{norm, ⊗-norm}
 use Rattle.magnetar_field.proofs.Polynomial.{Invertible, cancel-zero}
 use Rattle.magnetar_field.proofs.Order.{sqs-id}
@@ -75,10 +75,6 @@ inverse-is a h = power-double a (2 ^ 127 - 1) ∙ sym (ap₂ _⊗_ (norm-power 1
 -- each element but 0 times its inverse is 1
 pub inverse-right : (a : ℕ) → a < 2 ^ 128 → a ≢ 0 → a ⊗ inverse a ≡ 1
 inverse-right a h n = ap (λ (x : ℕ). a ⊗ x) (inverse-is a h) ∙ fermat-right a h n
-
-pub inverse-lt : (a : ℕ) → inverse a < 2 ^ 128
-unfolding inverse
-inverse-lt a = power-lt a (2 ^ 128 - 2)
 
 -- and the inverse of 0 is 0
 pub inverse-zero : inverse 0 ≡ 0

@@ -1,5 +1,5 @@
-pub mod MarkedRows
 pub mod Xor
+pub mod Compared
 pub mod Product
 pub mod Reduction
 pub mod Shift
@@ -13,7 +13,6 @@ pub mod Fixed
 pub mod Power
 pub mod Inverse
 pub mod Roots
-pub mod Collide
 pub mod Log2
 pub mod Mask
 pub mod Elements

@@ -1,6 +1,6 @@
 -- The logarithm to the base 2 by halving.
 -- Assumes nothing.
-use mathlib.Core.Path.{_≡_, refl, sym, ap, _∙_}
+use mathlib.Core.Path.{_≡_, refl, _∙_}
 use Prim.Native.Nat.{ℕ, zero, suc, _+_, _/_, _^_, _≤_, _<_}
 use native.Mathlib.Nat.{pow-suc, zero-add, lt-of-not-le}
 use native.Mathlib.Omega.{arith}

@@ -6,10 +6,9 @@ use Prim.Native.Nat.{ℕ, zero, suc, _+_, _≤_, _<_}
 use native.Mathlib.Nat.{le-of-suc-le-suc}
 use native.Mathlib.Numerals.{add-one}
 use native.Mathlib.Omega.{arith}
-use lib.ListN.{length, getD, set, drop, length-append, length-drop}
+use lib.ListN.{length, getD, set, drop}
 use lib.Seq.{drop-nil}
 use Rattle.magnetar_field.specs.Tabulate.{tabulate}
-use Rattle.magnetar_field.proofs.Tabulation.{tabulate-length}
 
 module _ {A : Type 0} where
   set-next : (f : ℕ → A) (i : ℕ) (a : List A) → i < length a → set (tabulate f i ++ drop i a) i (f i) ≡ tabulate f (suc i) ++ drop (suc i) a

@@ -1,13 +1,11 @@
 -- A word under the mask that a bit makes when it is taken from 0: all ones or all zeros.
 -- Assumes nothing.
-use mathlib.Core.Path.{_≡_, refl, sym, _∙_}
+use mathlib.Core.Path.{_≡_}
 use Prim.Native.Nat.{ℕ, _+_, _-_, _*_, _%_, _^_, _<_}
 use native.Mathlib.Nat.{zero-mul, one-mul, mod-eq-of-lt}
 use native.Mathlib.Omega.{arith}
 use lib.Bits.{bitAnd, and-zero-r, and-mask}
-use Rattle.magnetar_field.specs.Gf128.{_⊗_}
 use Rattle.magnetar_field.proofs.Xor.{bit-cases}
-use Rattle.magnetar_field.proofs.Product.{⊗-zero, ⊗-one}
 
 pub masked : (w m d : ℕ) → d < 2 → w < 2 ^ 64 → m < 2 ^ 64 → (m + d) % 2 ^ 64 ≡ 0 → bitAnd w m ≡ d * w
 masked w m d hd hw hm =
@@ -19,8 +17,3 @@ masked w m d hd hw hm =
 -- both words of an element times a bit
 pub digit-mul : (d hi lo : ℕ) → d < 2 → d * (hi * 2 ^ 64 + lo) ≡ d * hi * 2 ^ 64 + d * lo
 digit-mul d hi lo = bit-cases (λ (u : ℕ). u * (hi * 2 ^ 64 + lo) ≡ u * hi * 2 ^ 64 + u * lo) (omega arith) (omega arith) d
-
--- a bit times an element is their product
-pub bit-product : (b r : ℕ) → b < 2 → r < 2 ^ 128 → b % 2 * r ≡ r ⊗ b
-bit-product b r h l =
-    bit-cases (λ (u : ℕ). u % 2 * r ≡ r ⊗ u) (zero-mul r ∙ sym (⊗-zero r)) (one-mul r ∙ sym (⊗-one r l)) b h

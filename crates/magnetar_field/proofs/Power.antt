@@ -7,9 +7,8 @@ use native.Mathlib.Numerals.{add-one}
 use lib.Arith.{lt-one}
 use native.Mathlib.Omega.{arith}
 use lib.Dec.{lit<}
-use lib.Pow.{pow-pos}
 use Rattle.magnetar_field.specs.Gf128.{_⊗_, power}
-use Rattle.magnetar_field.proofs.Product.{⊗-assoc, ⊗-comm, ⊗-left-comm, ⊗-one, one-⊗, ⊗-lt}
+use Rattle.magnetar_field.proofs.Product.{⊗-assoc, ⊗-one, one-⊗, ⊗-lt}
 
 pub power-lt : (a k : ℕ) → power a k < 2 ^ 128
 unfolding power

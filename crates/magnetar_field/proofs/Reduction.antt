@@ -2,15 +2,15 @@
 -- Assumes nothing.
 use mathlib.Core.Path.{_≡_, refl, sym, ap, ap₂, _∙_}
 use Prim.Native.Nat.{ℕ, zero, suc, _+_, _-_, _*_, _/_, _%_, _^_, _≤_, _<_}
-use native.Mathlib.Nat.{zero-add, add-zero, add-mul, add-assoc, suc-add, zero-mul, one-mul, mul-one, mul-assoc, mul-comm, mul-mod-left, mul-div-cancel, mod-lt, mod-eq-of-lt, div-eq-of-lt, pow-suc, le-trans, lt-of-le-of-lt, lt-of-lt-of-le, div-lt-iff-lt-mul, div-div-eq-div-mul}
+use native.Mathlib.Nat.{zero-add, add-zero, add-mul, add-assoc, suc-add, zero-mul, mul-one, mul-assoc, mul-mod-left, mul-div-cancel, mod-lt, mod-eq-of-lt, pow-suc, lt-of-lt-of-le, div-div-eq-div-mul}
 use native.Mathlib.Omega.{arith}
 use lib.Arith.{lt-one, digits-lt}
 use lib.Dec.{lit<, lit≤}
-use lib.Pow.{pow-pos, pow-mono, pow-lt, pow-add, shl-lt, shr-lt, shr-shr, high, low, mod-pow-add}
+use lib.Pow.{pow-pos, pow-mono, pow-add, shl-lt, shr-lt, shr-shr, high, low, mod-pow-add}
 use Rattle.magnetar_field.specs.Gf128.{_⊕_, _⊗_, x¹²⁸, timesX, sumTimes}
 use Rattle.magnetar_field.specs.Residue.{residue}
-use Rattle.magnetar_field.proofs.Xor.{xor, ⊕-zero, zero-⊕, ⊕-lt, ⊕-assoc, ⊕-comm, top, two-pos, half-lt-pow, Additive, additive-zero}
-use Rattle.magnetar_field.proofs.Product.{sumTimes-⊕-r, sumTimes-zero, sumTimes-timesX, timesX-⊕, timesX-small, timesX-lt, xpow, xpow-suc, xpow-one, ⊗-⊕, ⊗-pow, ⊗-xpow, ⊗-one, one-⊗}
+use Rattle.magnetar_field.proofs.Xor.{xor, zero-⊕, ⊕-lt, ⊕-assoc, ⊕-comm, top, two-pos, half-lt-pow, Additive}
+use Rattle.magnetar_field.proofs.Product.{sumTimes-⊕-r, sumTimes-zero, sumTimes-timesX, timesX-⊕, xpow, xpow-suc, xpow-one, ⊗-⊕, ⊗-pow, ⊗-xpow, ⊗-one, one-⊗}
 
 -- a number of j bits has n bits
 pub widen : (j n : ℕ) {a : ℕ} → a < 2 ^ j → j ≤ n → a < 2 ^ n

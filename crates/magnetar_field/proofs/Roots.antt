@@ -1,18 +1,17 @@
 -- The roots of a polynomial over K, as a list.
 -- Assumes nothing.
-use mathlib.Core.Path.{_≡_, _∙_, subst}
+use mathlib.Core.Path.{_≡_, subst}
 use mathlib.Core.Logic.{_≢_, _⊎_, inl, inr}
-use mathlib.Core.List.{List, [], _∷_, List·Memᴰ, List·Memᴰ·head, List·Memᴰ·tail, List·Memᴰ·not-nil}
-use Prim.Native.Nat.{ℕ, zero, suc, _^_, _≤_, _<_}
+use mathlib.Core.List.{List, [], _∷_, List·Memᴰ, List·Memᴰ·head, List·Memᴰ·tail}
+use Prim.Native.Nat.{ℕ, zero, suc, _^_, _<_}
 use native.Mathlib.Nat.{le-of-suc-le-suc, not-suc-le-zero, le-step, le-refl, eq-or-lt-of-le, ne-of-lt, lt-of-not-le}
 use native.Mathlib.Decide.{ℕ-discrete}
 use lib.ListN.{length}
-use Rattle.magnetar_field.specs.Gf128.{_⊕_, _⊗_}
+use Rattle.magnetar_field.specs.Gf128.{_⊕_}
 use Rattle.magnetar_field.specs.Polynomial.{eval, AllZero, keep, rootsBelow, roots}
 use Rattle.magnetar_field.proofs.Polynomial.{AllBelow, AllRoots, Apart, AllApart, all-zero}
 use Rattle.magnetar_field.proofs.Inverse.{invertible}
-use Rattle.magnetar_field.proofs.Xor.{⊕-assoc, ⊕-zero, ⊕-lt, eq-of-⊕}
-use Rattle.magnetar_field.proofs.Product.{⊗-⊕, ⊗-zero, ⊗-comm, ⊗-left-comm}
+use Rattle.magnetar_field.proofs.Xor.{⊕-lt, eq-of-⊕}
 
 -- ---- different roots are fewer than the coefficients
 abbrev pub Away : ℕ → List ℕ → Type 0
@@ -100,41 +99,8 @@ pub root-in : (cs : List ℕ) (r : ℕ) → r < 2 ^ 128 → eval cs r ≡ 0 → 
 unfolding roots
 root-in cs r h e = roots-mem cs (2 ^ 128) r h e
 
-mem-roots : (cs l : List ℕ) (n r : ℕ) → AllRoots cs l → AllBelow n l → List·Memᴰ r l → (r < n) × (eval cs r ≡ 0)
-mem-roots cs [] n r h b m = absurd (List·Memᴰ·not-nil m)
-mem-roots cs (x ∷ l) n r h b (List·Memᴰ·head e) = (rw e (b .0), rw e (h .0))
-mem-roots cs (x ∷ l) n r h b (List·Memᴰ·tail m) = mem-roots cs l n r (h .1) (b .1) m
-
--- nothing else is
-pub in-root : (cs : List ℕ) (r : ℕ) → List·Memᴰ r (roots cs) → (r < 2 ^ 128) × (eval cs r ≡ 0)
-unfolding roots
-in-root cs r m =
-    mem-roots cs (rootsBelow cs (2 ^ 128)) (2 ^ 128) r (roots-roots cs (2 ^ 128)) (roots-below cs (2 ^ 128)) m
-
 -- and the list is shorter than the list of coefficients
 pub roots-few : (cs : List ℕ) → AllBelow (2 ^ 128) cs → ¬ (AllZero cs) → length (roots cs) < length cs
 unfolding roots
 roots-few cs h n =
     distinct-few cs (rootsBelow cs (2 ^ 128)) h n (roots-below cs (2 ^ 128)) (roots-distinct cs (2 ^ 128)) (roots-roots cs (2 ^ 128))
-
--- a cubic
-unfoldable pub cubic : ℕ → ℕ → ℕ → ℕ → ℕ → ℕ
-cubic c0 c1 c2 c3 r = c0 ⊕ c1 ⊗ r ⊕ c2 ⊗ (r ⊗ r) ⊕ c3 ⊗ (r ⊗ (r ⊗ r))
-
-unfoldable pub cubicRoots : ℕ → ℕ → ℕ → ℕ → List ℕ
-cubicRoots c0 c1 c2 c3 = roots (c0 ∷ c1 ∷ c2 ∷ c3 ∷ [])
-
-cubic-eval : (c0 c1 c2 c3 r : ℕ) → eval (c0 ∷ c1 ∷ c2 ∷ c3 ∷ []) r ≡ cubic c0 c1 c2 c3 r
-unfolding eval cubic
-cubic-eval c0 c1 c2 c3 r = simp (⊗-zero, ⊕-zero, ⊗-⊕, ⊗-comm, ⊗-left-comm, ⊕-assoc)
-
-pub cubic-in : (c0 c1 c2 c3 r : ℕ) → r < 2 ^ 128 → cubic c0 c1 c2 c3 r ≡ 0 → List·Memᴰ r (cubicRoots c0 c1 c2 c3)
-unfolding cubicRoots
-cubic-in c0 c1 c2 c3 r h e = root-in (c0 ∷ c1 ∷ c2 ∷ c3 ∷ []) r h (cubic-eval c0 c1 c2 c3 r ∙ e)
-
-pub cubic-few : (c0 c1 c2 c3 : ℕ) → c0 < 2 ^ 128 → c1 < 2 ^ 128 → c2 < 2 ^ 128 → c3 < 2 ^ 128
-    → ¬ ((c0 ≡ 0) × (c1 ≡ 0) × (c2 ≡ 0) × (c3 ≡ 0)) → length (cubicRoots c0 c1 c2 c3) ≤ 3
-unfolding cubicRoots
-cubic-few c0 c1 c2 c3 h0 h1 h2 h3 n =
-    le-of-suc-le-suc (roots-few (c0 ∷ c1 ∷ c2 ∷ c3 ∷ []) (h0, (h1, (h2, (h3, tt))))
-    (λ z. n (z .0, z .1 .0, z .1 .1 .0, z .1 .1 .1 .0)))

@@ -1,12 +1,12 @@
 -- Shifts of numbers that several words make, the lowest word first: what a word loses at its top, the next one gains.
 -- Assumes nothing.
-use mathlib.Core.Path.{_≡_, refl, sym, ap, ap₂, _∙_}
-use Prim.Native.Nat.{ℕ, zero, suc, _+_, _-_, _*_, _/_, _%_, _^_, _≤_, _<_}
-use native.Mathlib.Nat.{add-mul, add-comm, add-zero, mul-mod-left, mul-assoc, mul-comm, mul-right-comm, mod-lt, mod-eq-of-lt, mul-div-cancel, div-div-eq-div-mul, div-add-mod'}
+use mathlib.Core.Path.{_≡_, sym, ap, ap₂, _∙_}
+use Prim.Native.Nat.{ℕ, _+_, _-_, _*_, _/_, _%_, _^_, _<_}
+use native.Mathlib.Nat.{add-mul, add-comm, add-zero, mul-mod-left, mul-comm, mul-right-comm, mod-lt, mul-div-cancel, div-div-eq-div-mul, div-add-mod'}
 use native.Mathlib.Omega.{arith}
-use lib.Arith.{mod-mul, digits-div, digits-mod}
+use lib.Arith.{mod-mul}
 use lib.Bits.{bitOr, or-shifted}
-use lib.Pow.{pow-pos, pow-add, shr-lt, high, low, mod-pow-add, shl-shr}
+use lib.Pow.{pow-pos, pow-add, shr-lt, high, low, mod-pow-add}
 
 module _ (j k : ℕ) (e : j + k ≡ 64) where
   -- the top of a word, k bits of it

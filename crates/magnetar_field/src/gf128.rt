@@ -5,7 +5,7 @@
 // factor, and reduces once, at the end.
 ghost use mathlib.Core.Path.{_≡_};
 ghost use Prim.Native.Nat.{_+_, _*_, _/_, _%_, _^_, _<_};
-ghost use lib.Dec.{ltb};
+ghost use lib.Dec.{eqb, ltb};
 ghost use lib.ListN.{length};
 ghost use Rattle.magnetar_field.specs.Gf128.{value, _⊕_, _⊗_, timesX, power, inverse};
 ghost use Rattle.magnetar_field.specs.Residue.{wide, residue, Multiples, Combined};
@@ -44,6 +44,16 @@ pub fn mul_bit(r: Gf128, b: Gf128) -> Gf128
         lo: r.lo & mask,
         hi: r.hi & mask,
     }
+}
+
+// Whether two elements are equal.
+pub fn equal(a: Gf128, b: Gf128) -> bool
+    ensures { λ r. ⌜ r ≡ eqb (value a) (value b) ⌝ }
+{
+    if a.hi != b.hi {
+        return false;
+    }
+    a.lo == b.lo
 }
 
 // Whether the element is 0 or 1.

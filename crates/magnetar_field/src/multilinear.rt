@@ -71,7 +71,7 @@ pub fn dot(xs: &[u64], ys: &[u64]) -> Gf128
     ensures { λ r. ⌜ value r ≡ dot (elements (now (xs .entry))) (elements (now (ys .entry))) ⌝ }
 {
     let mut acc = ZERO;
-    let mut j = words::shorter(xs.len(), ys.len()) / 2;
+    let mut j = sizes::least(xs.len(), ys.len()) / 2;
     while j > 0 {
         j -= 1;
         acc = gf128::add(gf128::mul(words::get(xs, j), words::get(ys, j)), acc);
@@ -89,7 +89,7 @@ fn bind_entry(t: &mut [u64], i: usize, k: usize, block: usize, r: Gf128)
     words::put(t, i, gf128::add(a, gf128::mul(r, gf128::add(a, b))));
 }
 
-// Binds variable v of the first 2 * pairs elements: the first ones of each pair's places become the bound table.
+// Binds variable v of the first 2 * pairs elements: the first `pairs` elements become the bound table, the others stay.
 fn bind(t: &mut [u64], pairs: usize, v: usize, r: Gf128)
     requires { ⌜ BindFits (length (now t)) pairs v ⌝ }
     ensures { λ _. ⌜ elements (now (t .exit)) ≡ bindVar v (value r) (take (2 * pairs) (elements (now (t .entry)))) ++ drop pairs (elements (now (t .entry))) ⌝ }

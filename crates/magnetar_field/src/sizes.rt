@@ -1,6 +1,6 @@
-// Powers of two.
+// Powers of two, and the larger and the least of two sizes.
 ghost use mathlib.Core.Path.{_≡_};
-ghost use Prim.Native.Nat.{_^_, _<_};
+ghost use Prim.Native.Nat.{_^_, _<_, max, min};
 ghost use Rattle.magnetar_field.specs.Sizes.{log₂, powerOfTwo};
 
 // The logarithm to the base 2, rounded down; that of 0 is 0.
@@ -29,4 +29,18 @@ pub(crate) fn power_of_two(k: usize) -> usize
     ensures { λ r. ⌜ r ≡ 2 ^ k ⌝ }
 {
     1 << k
+}
+
+// The larger of two sizes.
+pub fn larger(a: usize, b: usize) -> usize
+    ensures { λ r. ⌜ r ≡ max a b ⌝ }
+{
+    if a < b { b } else { a }
+}
+
+// The least of two sizes.
+pub fn least(a: usize, b: usize) -> usize
+    ensures { λ r. ⌜ r ≡ min a b ⌝ }
+{
+    if a < b { a } else { b }
 }

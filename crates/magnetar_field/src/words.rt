@@ -1,8 +1,8 @@
 // Slices of words that hold elements: word 2i is the low half of element i, and word 2i + 1 its high half.
 use crate::gf128::Gf128;
 use crate::gf128::ZERO;
+use crate::sizes;
 ghost use mathlib.Core.Path.{_≡_};
-ghost use Prim.Native.Nat.{min};
 ghost use lib.ListN.{length, getD, replicate};
 ghost use Rattle.magnetar_field.specs.Gf128.{value};
 ghost use Rattle.magnetar_field.specs.Words.{elements, stored, overlaid};
@@ -48,16 +48,10 @@ pub fn clear(s: &mut [u64])
 pub fn copy(src: &[u64], dst: &mut [u64])
     ensures { λ _. ⌜ now (dst .exit) ≡ overlaid (now (src .entry)) (now (dst .entry)) ⌝ }
 {
-    let n = shorter(src.len(), dst.len());
+    let n = sizes::least(src.len(), dst.len());
     let mut i = 0;
     while i < n {
         dst[i] = src[i];
         i += 1;
     }
-}
-
-pub(crate) fn shorter(a: usize, b: usize) -> usize
-    ensures { λ r. ⌜ r ≡ min a b ⌝ }
-{
-    if a < b { a } else { b }
 }

@@ -9,7 +9,7 @@ use Rattle.magnetar_hash.specs.Bytes.{leBytes}
 use Rattle.magnetar_hash.specs.Sha3.{sha3}
 use Rattle.magnetar_hash.specs.declared.sha3.DigestAnswer.{DigestAnswer}
 
--- a part: its length as 8 bytes, then the part
+-- the parts, each as its length in 8 bytes and then its bytes
 unfoldable pub framed : List (List ℕ) → List ℕ
 framed [] = []
 framed (p ∷ ps) = leBytes 8 (length p) ++ p ++ framed ps

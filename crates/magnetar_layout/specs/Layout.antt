@@ -52,7 +52,7 @@ localVars ns i = log₂ (getD ns i 0)
 abbrev pub suffixBits : ℕ → List ℕ → ℕ → ℕ
 suffixBits w ns i = log₂ w - localVars ns i
 
--- the number of its place
+-- the number of its place, the Rust's `b_i`: the offset divided by the length
 abbrev pub suffix : List ℕ → ℕ → ℕ
 suffix ns i = offset ns i / getD ns i 0
 
@@ -63,6 +63,6 @@ within [] ns y = false
 within (o ∷ os) [] y = false
 within (o ∷ os) (n ∷ ns) y = (leb o y && ltb y (o + n)) || within os ns y
 
--- the column y lies in no segment
+-- the column y lies in no segment: what document 01 calls outside
 unfoldable pub outside : List ℕ → ℕ → Bool
 outside ns y = not (within (offsets ns) ns y)

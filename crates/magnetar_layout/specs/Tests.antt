@@ -1,4 +1,4 @@
--- The refusals 1 to 15 of document 01 as tests, each with its number. The first bad test gives the number of the refusal.
+-- The refusals 1 to 11 and 15 of document 01 as tests, each with its number. The first bad test gives the number of the refusal.
 -- Assumes nothing.
 use mathlib.Core.Bool.{Bool, not, cond, _&&_}
 use mathlib.Core.List.{List, [], _∷_, _++_}

@@ -5,7 +5,7 @@ use magnetar_field::sizes;
 ghost use mathlib.Core.Path.{_≡_};
 ghost use mathlib.Core.Bool.{true};
 ghost use mathlib.Core.List.{_++_};
-ghost use Prim.Native.Nat.{ℕ, _+_, _*_, _<_, _≤_};
+ghost use Prim.Native.Nat.{_+_, _*_, _<_, _≤_};
 ghost use lib.Dec.{ltb};
 ghost use lib.ListN.{length, drop};
 ghost use Rattle.magnetar_layout.specs.Every.{every};
@@ -149,7 +149,7 @@ pub fn suffix_bits(w: usize, lens: &[usize], i: usize) -> Reading
     Reading::NoSegment
 }
 
-// The number that these variables have on segment i.
+// The offset of segment i divided by its length: the number that its suffix bits have on it.
 pub fn b_i(w: usize, lens: &[usize], i: usize) -> Reading
     ensures { λ r. ⌜ read r ≡ readOf w (now (lens .entry)) i (suffix (now (lens .entry)) i) ⌝ }
 {

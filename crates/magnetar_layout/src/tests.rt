@@ -1,4 +1,4 @@
-// The refusals 1 to 10, each as a number: an earlier number stays.
+// The tests of sizes, entries and lengths that the refusals 1, 4, 6, 7 and 8 are made of, each as a number: an earlier number stays.
 use magnetar_field::sizes;
 ghost use mathlib.Core.Path.{_≡_};
 ghost use Prim.Native.Nat.{_*_};

@@ -1,12 +1,12 @@
 -- Elements below 2^128, and products by 0 and 1.
 -- Assumes nothing.
-use mathlib.Core.Path.{_≡_, refl, sym, ap, _∙_}
+use mathlib.Core.Path.{_≡_, sym, ap, _∙_}
 use mathlib.Core.List.{List}
 use Prim.Native.Nat.{ℕ, _+_, _*_, _/_, _%_, _^_, _<_, _≤_}
 use native.Mathlib.Nat.{div-lt-iff-lt-mul, zero-mul, one-mul, zero-div}
 use native.Mathlib.Omega.{arith}
 use lib.Pow.{pow-pos, high}
-use lib.ListN.{length, getD, List·getD-eq-default}
+use lib.ListN.{length, List·getD-eq-default}
 use Rattle.magnetar_field.specs.Gf128.{_⊗_}
 use Rattle.magnetar_field.proofs.Xor.{bit-cases}
 use Rattle.magnetar_field.proofs.Product.{⊗-zero, zero-⊗, ⊗-one, one-⊗}

@@ -1,21 +1,20 @@
 -- A matrix that its tests let through.
 -- Assumes nothing.
 use mathlib.Core.Path.{_≡_, refl, sym, _∙_}
-use mathlib.Core.Bool.{Bool, true, false, not, _&&_}
+use mathlib.Core.Bool.{Bool, true, _&&_}
 use mathlib.Core.List.{List, [], _∷_, _++_}
-use Prim.Native.Nat.{ℕ, _*_, _<_, _≤_}
+use Prim.Native.Nat.{ℕ, _*_, _≤_}
 use native.Mathlib.Omega.{arith}
-use lib.Dec.{eqb, ltb}
+use lib.Dec.{ltb}
 use lib.ListN.{length}
-use borrow.Author.Tests.{not-false, eqb-true, ltb-true, ltb-false, lt-ltb}
-use Rattle.magnetar_field.specs.Gf128.{_⊕_}
+use borrow.Author.Tests.{not-false, eqb-true, ltb-true, lt-ltb}
 use Rattle.magnetar_layout.specs.Every.{every}
 use Rattle.magnetar_r1cs.specs.Matrix.{Entry, sumOver}
-use Rattle.magnetar_r1cs.specs.Lent.{Lent, entry, entriesOf}
+use Rattle.magnetar_r1cs.specs.Lent.{Lent, entriesOf}
 use Rattle.magnetar_r1cs.specs.Packed.{loginWords}
 use Rattle.magnetar_r1cs.specs.Table.{Equal}
 use Rattle.magnetar_r1cs.specs.Entries.{matrixTests}
-use Rattle.magnetar_layout.specs.Tests.{Tests, noted, allBelow, counted, placed, loneTests, batchTests}
+use Rattle.magnetar_layout.specs.Tests.{noted, allBelow, counted, placed, loneTests, batchTests}
 use Rattle.magnetar_layout.proofs.EveryLaws.{both}
 use Rattle.magnetar_layout.proofs.Noted.{Clear, noted-clear}
 use Rattle.magnetar_layout.proofs.SizeLaws.{Sized, not-bad}

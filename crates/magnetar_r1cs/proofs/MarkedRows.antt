@@ -16,7 +16,7 @@ use Rattle.magnetar_r1cs.specs.Packed.{loginWords, packedBit, loginPart,
 use Rattle.magnetar_layout.specs.Layout.{nextMultiple, offsetsFrom, endFrom, offsets, layoutEnd, isLength}
 use Rattle.magnetar_layout.specs.Tests.{note, isSize}
 use Rattle.magnetar_r1cs.specs.Entries.{packedTable}
-use Rattle.magnetar_layout.specs.Entries.{layoutRefusal}
+use Rattle.magnetar_layout.specs.Entries.{layoutRefusal, buildRefusal, buildOut}
 
 -- what a row of the table says: an element, a list of elements or offsets, a packed output with its flag, or a refusal
 pub data Result : Type 0 where
@@ -51,11 +51,11 @@ table =
     ∷ row 7 (output (packedTable matrix (3 ∷ 0 ∷ []) (5 ∷ []) 1 2) (bitValued 2 matrix)) (output (2 ∷ 10 ∷ []) false)
     ∷ row 8 (list (mleTable matrix (2 ∷ []))) (list (3 ∷ 0 ∷ 5 ∷ 4 ∷ []))
     ∷ row 9 (list (folded 2 2 (unpacked 2 2 (1 ∷ 0 ∷ 3 ∷ 0 ∷ [])) (2 ∷ []))) (list (1 ∷ 2 ∷ []))
-    ∷ row 10 (list (offsets (4 ∷ 1 ∷ 8 ∷ []))) (list (0 ∷ 4 ∷ 8 ∷ []))
+    ∷ row 10 (list (buildOut 16 (4 ∷ 1 ∷ 8 ∷ []) (0 ∷ 0 ∷ 0 ∷ []))) (list (0 ∷ 4 ∷ 8 ∷ []))
     ∷ row 11 (refusal (layoutRefusal 16 (1 ∷ 8 ∷ 8 ∷ []))) (refusal 9)
     ∷ row 12 (refusal (layoutRefusal 16 (3 ∷ []))) (refusal 8) ∷ []
 
 -- each case has the table's result
 pub marked : map (λ r. r .case) table ≡ map (λ r. r .result) table
-unfolding matrix table row _⊕_ _⊗_ timesX sumTimes eqTable eqAt eqFactor tabulate log₂ halvings sumBelow blocks sumOver rowTotal share timesAt times transpose mleTable every bitValued assignment bitOf foldedAt folded loginWords packedBit loginPart unpacked nextMultiple offsetsFrom endFrom offsets layoutEnd isLength note isSize packedTable layoutRefusal
+unfolding matrix table row _⊕_ _⊗_ timesX sumTimes eqTable eqAt eqFactor tabulate log₂ halvings sumBelow blocks sumOver rowTotal share timesAt times transpose mleTable every bitValued assignment bitOf foldedAt folded loginWords packedBit loginPart unpacked nextMultiple offsetsFrom endFrom offsets layoutEnd isLength note isSize packedTable layoutRefusal buildRefusal
 marked = refl

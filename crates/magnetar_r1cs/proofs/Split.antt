@@ -1,6 +1,6 @@
 -- The product with z = (w, 1, x): the shares from the bits and from the public columns.
 -- Assumes nothing.
-use mathlib.Core.Path.{_≡_, refl, sym, ap, _∙_}
+use mathlib.Core.Path.{_≡_, refl, ap, _∙_}
 use mathlib.Core.Bool.{Bool, true, false, cond, _&&_}
 use mathlib.Core.List.{List, [], _∷_, _++_}
 use Prim.Native.Nat.{ℕ, zero, suc, _+_, _-_, _*_, _^_, _≤_, _<_}
@@ -8,7 +8,7 @@ use native.Mathlib.Nat.{suc-inj}
 use native.Mathlib.Numerals.{add-one}
 use native.Mathlib.Omega.{arith}
 use lib.Dec.{eqb, ltb, leb, leb·suc-suc}
-use borrow.Author.Tests.{ltb-true, ltb-false, lt-ltb, le-ltb, le-leb, leb-true}
+use borrow.Author.Tests.{ltb-true, ltb-false, lt-ltb, le-ltb}
 use lib.ListN.{length, getD, List·getD-append}
 use lib.Seq.{getD-append-add}
 use Rattle.magnetar_field.specs.Gf128.{_⊕_, _⊗_}
@@ -17,14 +17,13 @@ use Rattle.magnetar_field.proofs.Xor.{⊕-zero, zero-⊕, ⊕-four}
 use Rattle.magnetar_field.proofs.Tabulation.{tabulate-length, tabulate-get, tabulate-ext}
 use Rattle.magnetar_r1cs.specs.Sum.{blocks}
 use Rattle.magnetar_layout.specs.Every.{every}
-use Rattle.magnetar_r1cs.specs.Matrix.{Entry, Matrix, sumOver, rowTotal, share, timesAt, times, isBit, bitValued}
+use Rattle.magnetar_r1cs.specs.Matrix.{Entry, sumOver, rowTotal, share, timesAt, times, isBit}
 use Rattle.magnetar_r1cs.specs.Batch.{assignment}
 use Rattle.magnetar_r1cs.specs.Packed.{packedBit, loginPart, unpacked}
 use Rattle.magnetar_r1cs.specs.Lent.{Lent, entriesOf, matrixOf}
 use Rattle.magnetar_r1cs.specs.Table.{publicShare, bitShare, loginTotal, loginBlock, Equal}
 use Rattle.magnetar_layout.specs.Tests.{allBelow}
 use Rattle.magnetar_r1cs.specs.Entries.{packedTable}
-use Rattle.magnetar_layout.proofs.EveryLaws.{both}
 
 -- ---- one entry
 public-at : (w : ℕ) (x : List ℕ) (e : Entry) → w ≤ e .col → publicShare w x e ≡ e .value ⊗ getD (1 ∷ x) (e .col - w) 0

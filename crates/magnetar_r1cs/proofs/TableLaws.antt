@@ -13,12 +13,12 @@ use Rattle.magnetar_field.specs.Gf128.{_⊕_, _⊗_}
 use Rattle.magnetar_field.specs.Tabulate.{tabulate}
 use Rattle.magnetar_field.specs.Words.{elements, words}
 use Rattle.magnetar_field.proofs.Xor.{⊕-zero, zero-⊕, ⊕-assoc}
-use Rattle.magnetar_field.proofs.Elements.{words-elements}
+use Rattle.magnetar_field.proofs.Elements.{words-elements, elements-stored}
 use Rattle.magnetar_field.proofs.Tabulation.{tabulate-length, tabulate-get, tabulate-of}
 use Rattle.magnetar_field.proofs.Product.{⊗-one}
 use Rattle.magnetar_r1cs.specs.Packed.{packedBit}
 use Rattle.magnetar_r1cs.specs.Lent.{entry}
-use Rattle.magnetar_r1cs.specs.Table.{addedAt, raised, publicShare, bitShare}
+use Rattle.magnetar_r1cs.specs.Table.{addedIn, addedAt, raised, publicShare, bitShare}
 
 -- ---- words
 two-suc : (i : ℕ) → 2 * suc i ≡ suc (suc (2 * i))
@@ -40,6 +40,10 @@ elements-append [] ws = elements-words ws
 elements-append (v ∷ vs) ws = rw (split v 64, elements-append vs ws)
 
 -- ---- amounts added
+pub added-in : (s : List ℕ) (k v : ℕ) → elements (addedIn s k v) ≡ addedAt (elements s) k v
+unfolding addedIn addedAt
+added-in s k v = elements-stored s k (getD (elements s) k 0 ⊕ v)
+
 pub added-length : (t : List ℕ) (k v : ℕ) → length (addedAt t k v) ≡ length t
 unfolding addedAt
 added-length t k v = length-set t k (getD t k 0 ⊕ v)

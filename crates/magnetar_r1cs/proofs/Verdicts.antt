@@ -1,17 +1,16 @@
 -- The plain row check's verdict: good exactly for a good batch, and otherwise the first failing row.
 -- Assumes nothing.
-use mathlib.Core.Path.{_≡_, refl, sym, ap, _∙_}
-use mathlib.Core.Bool.{Bool, true, false, cond, false≢true}
+use mathlib.Core.Path.{_≡_, refl, ap}
+use mathlib.Core.Bool.{Bool, true, false, cond}
 use mathlib.Core.List.{List}
-use Prim.Native.Nat.{ℕ, zero, suc, _+_, _≤_, _<_, suc-le-suc}
+use Prim.Native.Nat.{ℕ, zero, suc, _≤_, _<_, suc-le-suc}
 use native.Mathlib.Nat.{le-of-suc-le-suc, zero-lt-suc}
 use native.Mathlib.Omega.{arith}
 use lib.Dec.{eqb}
-use borrow.Author.Tests.{eqb-true, eqb-false, eq-eqb, ne-eqb}
-use Rattle.magnetar_field.specs.Gf128.{_⊗_}
-use Rattle.magnetar_r1cs.specs.Matrix.{System, timesAt}
+use borrow.Author.Tests.{eqb-true, eq-eqb}
+use Rattle.magnetar_r1cs.specs.Matrix.{System}
 use Rattle.magnetar_r1cs.specs.Batch.{Batch, Relation, assignment, rowHolds, Satisfied, Good}
-use Rattle.magnetar_r1cs.specs.RowCheck.{firstNot, failingRow, failingLogin, Verdict, verdict}
+use Rattle.magnetar_r1cs.specs.RowCheck.{firstNot, failingRow, failingLogin, verdict}
 use Rattle.magnetar_r1cs.specs.RowCheck.Verdict.{good, bin, fld}
 
 -- ---- the first number of which a test is false

@@ -12,7 +12,7 @@ use Rattle.magnetar_field.specs.Entries.{Answer, answered}
 use Rattle.magnetar_r1cs.specs.declared.r1cs.Flag.{Flag}
 use Rattle.magnetar_r1cs.specs.declared.r1cs.Flag.the-variants.{Yes, No, Refused}
 use Rattle.magnetar_r1cs.specs.Sum.{blocks}
-use Rattle.magnetar_r1cs.specs.Matrix.{Matrix, times, mleTable, mleAt, binary, bitValued}
+use Rattle.magnetar_r1cs.specs.Matrix.{Matrix, times, mleTable, mleAt, bitValued}
 use Rattle.magnetar_r1cs.specs.Batch.{assignment}
 use Rattle.magnetar_r1cs.specs.Masks.{masks}
 use Rattle.magnetar_r1cs.specs.Packed.{unpacked}

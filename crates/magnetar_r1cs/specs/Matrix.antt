@@ -32,10 +32,6 @@ unfoldable pub sumOver : (Entry → ℕ) → List Entry → ℕ
 sumOver f [] = 0
 sumOver f (e ∷ es) = f e ⊕ sumOver f es
 
--- the value of a matrix at row i and column j: the sum of the entries there
-unfoldable pub cell : Matrix → ℕ → ℕ → ℕ
-cell m i j = sumOver (λ e. cond (eqb (e .row) i && eqb (e .col) j) (e .value) 0) (m .entries)
-
 -- the sum of f over the entries of row i
 unfoldable pub rowTotal : (Entry → ℕ) → List Entry → ℕ → ℕ
 rowTotal f es i = sumOver (λ e. cond (eqb (e .row) i) (f e) 0) es
@@ -76,6 +72,7 @@ isBit e = ltb (e .value) 2
 unfoldable pub binary : Matrix → Bool
 binary m = every isBit (m .entries)
 
--- each value is 0 or 1 and no column exceeds w, so that M z is 0 or 1 in each row where z is (bits, 1, ..) with w bits
+-- the packed flag: each value is 0 or 1 and no column exceeds w, so that M z is 0 or 1 in each row where z is (bits, 1, ..) with w
+-- bits
 unfoldable pub bitValued : ℕ → Matrix → Bool
 bitValued w m = every (λ e. isBit e && leb (e .col) w) (m .entries)

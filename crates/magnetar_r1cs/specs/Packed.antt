@@ -2,7 +2,7 @@
 -- the lowest bit of its first word. Bits at or past w belong to no column.
 -- Assumes nothing.
 use mathlib.Core.List.{List}
-use Prim.Native.Nat.{ℕ, _+_, _*_, _/_, _%_, _^_}
+use Prim.Native.Nat.{ℕ, _*_, _/_, _%_, _^_}
 use lib.ListN.{getD, take, drop}
 use Rattle.magnetar_field.specs.Tabulate.{tabulate}
 unfoldable pub use Rattle.magnetar_layout.specs.Login.{loginWords}

@@ -1,6 +1,6 @@
 -- Sums in GF(2^128), and vectors that are set one behind the other.
 -- Assumes nothing.
-use mathlib.Core.List.{List, [], _∷_, _++_}
+use mathlib.Core.List.{List, [], _++_}
 use Prim.Native.Nat.{ℕ, zero, suc}
 use Rattle.magnetar_field.specs.Gf128.{_⊕_}
 

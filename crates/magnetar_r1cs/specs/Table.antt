@@ -1,16 +1,22 @@
--- What the walks over a matrix's entries leave in a table of elements.
+-- What the walks over a matrix's entries leave in a table of elements. Of the public contracts only `add_at`'s cites a definition of
+-- this file (`addedIn`); the others are for private ones.
 -- Assumes nothing.
 use mathlib.Core.Bool.{cond}
-use mathlib.Core.List.{List, [], _∷_}
+use mathlib.Core.List.{List, _∷_}
 use Prim.Native.Nat.{ℕ, _+_, _-_, _%_, _≤_}
 use lib.Dec.{ltb}
 use lib.ListN.{length, getD, set}
 use mathlib.Core.Path.{_≡_}
 use Rattle.magnetar_field.specs.Gf128.{_⊕_, _⊗_}
 use Rattle.magnetar_field.specs.Tabulate.{tabulate}
+use Rattle.magnetar_field.specs.Words.{elements, stored}
 use Rattle.magnetar_field.specs.Entries.{tableWords}
 use Rattle.magnetar_r1cs.specs.Matrix.{Entry, rowTotal}
 use Rattle.magnetar_r1cs.specs.Packed.{packedBit, loginPart}
+
+-- the words with v added to the element at index k; unchanged where they hold no such element
+unfoldable pub addedIn : List ℕ → ℕ → ℕ → List ℕ
+addedIn s k v = stored s k (getD (elements s) k 0 ⊕ v)
 
 -- t with v added at index k; unchanged where it has no such index
 unfoldable pub addedAt : List ℕ → ℕ → ℕ → List ℕ

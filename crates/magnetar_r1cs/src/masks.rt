@@ -3,7 +3,7 @@ use crate::r1cs;
 use crate::walk;
 use magnetar_field::words;
 ghost use mathlib.Core.Path.{_≡_};
-ghost use Prim.Native.Nat.{ℕ, _+_, _*_, _^_, _<_, _≤_};
+ghost use Prim.Native.Nat.{_+_, _*_, _^_, _<_, _≤_};
 ghost use lib.ListN.{length};
 ghost use Rattle.magnetar_r1cs.specs.Sum.{blocks};
 ghost use Rattle.magnetar_r1cs.specs.Matrix.{rowTotal};

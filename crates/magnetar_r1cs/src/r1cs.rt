@@ -11,7 +11,7 @@ ghost use mathlib.Core.Path.{_≡_};
 ghost use mathlib.Core.Bool.{true, _&&_};
 ghost use lib.Dec.{leb};
 ghost use Rattle.magnetar_layout.specs.Every.{every};
-ghost use Prim.Native.Nat.{ℕ, _+_, _*_, _/_, _%_, _^_, _<_, _≤_};
+ghost use Prim.Native.Nat.{_+_, _*_, _/_, _%_, _<_, _≤_};
 ghost use mathlib.Core.List.{_++_};
 ghost use lib.ListN.{length, take, drop, replicate};
 ghost use Rattle.magnetar_field.specs.Gf128.{value};
@@ -51,8 +51,8 @@ pub(crate) fn product(
     walk::add_product(row, col, lo, hi, factors, out);
 }
 
-// The product with the vector z. 1: no such columns; 4: no such rows; 6: no such entries; 7: an entry outside; 11: z is not
-// of the columns' length; 15: too little room.
+// The product with the vector z. 1: no such columns; 4: no such rows; 6: over 1,048,576 entries, or slices of unequal length; 7: an
+// entry outside; 11: z is not of the columns' length; 15: too little room.
 pub fn apply(
     rows: usize,
     cols: usize,

@@ -3,21 +3,20 @@ use magnetar_field::gf128;
 use magnetar_field::gf128::Gf128;
 use magnetar_field::words;
 ghost use mathlib.Core.Path.{_≡_};
-ghost use Prim.Native.Nat.{ℕ, _+_, _*_, _^_, _<_, _≤_};
-ghost use lib.ListN.{length, getD};
-ghost use Rattle.magnetar_field.specs.Gf128.{value, _⊕_, _⊗_};
+ghost use Prim.Native.Nat.{_+_, _<_, _≤_};
+ghost use Rattle.magnetar_field.specs.Gf128.{value, _⊗_};
 ghost use Rattle.magnetar_field.specs.Words.{elements};
 ghost use mathlib.Core.Bool.{true};
 ghost use Rattle.magnetar_layout.specs.Every.{every};
 ghost use Rattle.magnetar_r1cs.specs.Matrix.{sumOver, rowTotal, share, isBit};
 ghost use Rattle.magnetar_r1cs.specs.Packed.{packedBit};
 ghost use Rattle.magnetar_r1cs.specs.Lent.{entry, entriesOf};
-ghost use Rattle.magnetar_r1cs.specs.Table.{addedAt, raised, publicShare, bitShare, cross, Equal};
+ghost use Rattle.magnetar_r1cs.specs.Table.{addedIn, addedAt, raised, publicShare, bitShare, cross, Equal};
 ghost use Rattle.magnetar_layout.specs.Tests.{allBelow};
 
 // Adds e to the element at index k, where there is one.
 pub fn add_at(out: &mut [u64], k: usize, e: Gf128)
-    ensures { λ _. ⌜ elements (now (out .exit)) ≡ addedAt (elements (now (out .entry))) k (value e) ⌝ }
+    ensures { λ _. ⌜ now (out .exit) ≡ addedIn (now (out .entry)) k (value e) ⌝ }
 {
     let v = words::get(out, k);
     words::put(out, k, gf128::add(v, e));

@@ -1,35 +1,15 @@
--- The verifier's passes over a message, from its last coefficient to its first; and elements compared word by word.
+-- The verifier's passes over a message, from its last coefficient to its first.
 -- Assumes nothing.
-use mathlib.Core.Path.{_≡_, refl, sym, ap, ap₂, _∙_}
-use mathlib.Core.Bool.{Bool, true, false}
+use mathlib.Core.Path.{_≡_, sym, ap, ap₂, _∙_}
 use mathlib.Core.List.{List, [], _∷_}
-use Prim.Native.Nat.{ℕ, zero, suc, _+_, _-_, _*_, _^_, _≤_, _<_, min}
+use Prim.Native.Nat.{ℕ, zero, suc, _-_, _≤_, _<_, min}
 use native.Mathlib.Omega.{arith}
-use lib.Dec.{eqb}
 use lib.ListN.{length, getD, drop, drop-of-length-le}
 use lib.Seq.{drop-cons}
-use borrow.Author.Tests.{eqb-true, eqb-false, eq-eqb, ne-eqb}
 use Rattle.magnetar_field.specs.Gf128.{_⊕_, _⊗_}
 use Rattle.magnetar_field.specs.Polynomial.{eval}
 use Rattle.magnetar_sumcheck.specs.Sum.{total}
 use Rattle.magnetar_sumcheck.specs.Round.{checkSum}
-
--- ---- words
-pub differ : (l h l′ h′ : ℕ) → l < 2 ^ 64 → l′ < 2 ^ 64 → (h ≡ h′ → ⊥) → eqb (h * 2 ^ 64 + l) (h′ * 2 ^ 64 + l′) ≡ false
-differ l h l′ h′ p q n = ne-eqb (h * 2 ^ 64 + l) (h′ * 2 ^ 64 + l′) apart
-  where
-    apart : h * 2 ^ 64 + l ≡ h′ * 2 ^ 64 + l′ → ⊥
-    apart e = n (omega arith)
-
-pub compared : (l h l′ h′ : ℕ) → h ≡ h′ → eqb (h * 2 ^ 64 + l) (h′ * 2 ^ 64 + l′) ≡ eqb l l′
-compared l h l′ h′ e = go (eqb l l′) refl
-  where
-    go : (b : Bool) → eqb l l′ ≡ b → eqb (h * 2 ^ 64 + l) (h′ * 2 ^ 64 + l′) ≡ b
-    go true t = eq-eqb _ _ (ap₂ (λ (x y : ℕ). x * 2 ^ 64 + y) e (eqb-true l l′ t))
-    go false t = ne-eqb (h * 2 ^ 64 + l) (h′ * 2 ^ 64 + l′) apart
-      where
-        apart : h * 2 ^ 64 + l ≡ h′ * 2 ^ 64 + l′ → ⊥
-        apart q = eqb-false l l′ t (omega arith)
 
 -- ---- the sum of the coefficients from i on
 pub record Summed (m : List ℕ) (i acc : ℕ) : Type 0 where

@@ -12,13 +12,13 @@ use Rattle.magnetar_hash.specs.Transcript.{absorbed, drawn, element, noElement}
 use Rattle.magnetar_sumcheck.specs.Round.{holds}
 
 -- the transcript after the message's words m were absorbed and the challenge was drawn, both under the label
-abbrev pub heard : Transcript → List ℕ → List ℕ → Transcript
-heard t label m = drawn (absorbed t label (wordBytes m)) label
+abbrev pub afterRound : Transcript → List ℕ → List ℕ → Transcript
+afterRound t label m = drawn (absorbed t label (wordBytes m)) label
 
 -- the transcript after a round with the running claim c
 unfoldable pub nextTranscript : Transcript → List ℕ → List ℕ → ℕ → Transcript
-nextTranscript t label m c = cond (holds (elements m) c) (heard t label m) t
+nextTranscript t label m c = cond (holds (elements m) c) (afterRound t label m) t
 
 -- the challenge of the round
 unfoldable pub nextChallenge : Transcript → List ℕ → List ℕ → ℕ → Gf128
-nextChallenge t label m c = cond (holds (elements m) c) (element (heard t label m)) noElement
+nextChallenge t label m c = cond (holds (elements m) c) (element (afterRound t label m)) noElement

@@ -25,7 +25,7 @@ pub record Outer : Type 0 where
 unfoldable pub outerValue : Outer → ℕ
 outerValue S = S .k ⊗ weighted (S .e) (λ i. getD (S .a) i 0 ⊗ getD (S .b) i 0 ⊕ getD (S .c) i 0) (length (S .e))
 
--- the variable of the next round, and its tau
+-- the variable of the next round
 abbrev pub outerVar : Outer → ℕ
 outerVar S = nextVar (S .high) (length (S .tau))
 

@@ -34,7 +34,7 @@ eqPoints (p ∷ ps) [] = 1
 eqPoints (p ∷ ps) (q ∷ qs) = (1 ⊕ p ⊕ q) ⊗ eqPoints ps qs
 
 -- ---- A table by the pairs of its entries that differ in variable v alone.
--- the entry of pair i where the variable is 0, and where it is 1
+-- the entry of pair i where the variable is 0
 unfoldable pub at₀ : ℕ → List ℕ → ℕ → ℕ
 at₀ v t i = getD t (insertZero v i) 0
 

@@ -5,7 +5,6 @@
 -- k ((1 + t) + X) e(x), and the polynomial is
 --   k ((1 + t) + X) (the sum over x of e(x) (a(X, x) b(X, x) + c(X, x))).
 -- Assumes nothing.
--- Assumes nothing.
 use mathlib.Core.List.{List, [], _∷_}
 use Prim.Native.Nat.{ℕ, _/_}
 use lib.ListN.{length, getD}

@@ -10,8 +10,8 @@ use magnetar_field::words;
 use magnetar_hash::transcript;
 use magnetar_hash::transcript::Transcript;
 ghost use mathlib.Core.Path.{_≡_};
-ghost use mathlib.Core.List.{List, [], _∷_, _++_};
-ghost use Prim.Native.Nat.{ℕ, _+_, _*_, _/_, _^_, _<_, _≤_};
+ghost use mathlib.Core.List.{[], _∷_, _++_};
+ghost use Prim.Native.Nat.{_+_, _*_, _/_, _^_, _<_, _≤_};
 ghost use lib.Dec.{eqb};
 ghost use lib.ListN.{length, getD, drop};
 ghost use Rattle.magnetar_field.specs.Gf128.{value, _⊕_, _⊗_};
@@ -362,16 +362,6 @@ pub struct Round {
     pub claim: Gf128,
 }
 
-// Whether two elements are the same.
-fn same(a: Gf128, b: Gf128) -> bool
-    ensures { λ r. ⌜ r ≡ eqb (value a) (value b) ⌝ }
-{
-    if a.hi != b.hi {
-        return false;
-    }
-    a.lo == b.lo
-}
-
 // The sum of the coefficients but the first: the message's value at 0 plus its value at 1.
 fn check_sum(msg: &[u64]) -> Gf128
     ensures { λ r. ⌜ value r ≡ checkSum (elements (now (msg .entry))) ⌝ }
@@ -389,7 +379,7 @@ fn check_sum(msg: &[u64]) -> Gf128
 pub fn sum_holds(msg: &[u64], claim: Gf128) -> bool
     ensures { λ r. ⌜ r ≡ holds (elements (now (msg .entry))) (value claim) ⌝ }
 {
-    same(check_sum(msg), claim)
+    gf128::equal(check_sum(msg), claim)
 }
 
 // The message's value at r: the next running claim. A product for each coefficient.
@@ -427,14 +417,14 @@ pub fn round_external(msg: &[u64], claim: Gf128, r: Gf128) -> Round
 pub fn outer_finish(running: Gf128, e: Gf128, a: Gf128, b: Gf128, c: Gf128) -> bool
     ensures { λ r. ⌜ r ≡ eqb (outerEnd (value e) (value a) (value b) (value c)) (value running) ⌝ }
 {
-    same(gf128::mul(e, multiply_add(c, a, b)), running)
+    gf128::equal(gf128::mul(e, multiply_add(c, a, b)), running)
 }
 
 // The terminal identity of the inner sum-check: the running claim is t z. One product.
 pub fn inner_finish(running: Gf128, t: Gf128, z: Gf128) -> bool
     ensures { λ r. ⌜ r ≡ eqb (innerEnd (value t) (value z)) (value running) ⌝ }
 {
-    same(gf128::mul(t, z), running)
+    gf128::equal(gf128::mul(t, z), running)
 }
 
 // What a round leaves that draws for itself: whether the message was right, the running claim, the challenge (0 where the message
@@ -455,8 +445,8 @@ pub fn round_capturing(msg: &[u64], claim: Gf128, t: Transcript, label: &[u8]) -
     ensures claim { λ o. ⌜ value (o .claim) ≡ nextClaim (value claim) (elements (now (msg .entry))) (value (o .challenge)) ⌝ }
 {
     if sum_holds(msg, claim) {
-        let heard = transcript::absorb_words(t, label, msg);
-        let next = transcript::draw(heard, label);
+        let absorbed = transcript::absorb_words(t, label, msg);
+        let next = transcript::draw(absorbed, label);
         let r = transcript::element(next);
         let value = eval_message(msg, r);
         return Captured {

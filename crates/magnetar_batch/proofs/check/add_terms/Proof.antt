@@ -8,6 +8,7 @@ use denote.Ref.{now}
 use Rattle.magnetar_field.specs.Words.{elements}
 use Rattle.magnetar_r1cs.specs.Matrix.{share}
 use Rattle.magnetar_r1cs.specs.Lent.{entriesOf}
+use Rattle.magnetar_r1cs.proofs.TableLaws.{added-in}
 use Rattle.magnetar_r1cs.proofs.Walked.{Walked, walked-start, walked-more, walked-end, entry-at, entries-end}
 use Rattle.magnetar_batch.specs.Rows.{zOf}
 use borrow.Author.Needs.{needs}
@@ -65,7 +66,7 @@ unfolding share
 loop-again c =
     let x = (c .before .before .before .before .before .before .before .before .before .before .before .before .before .before .before .before .before .before .args) in
     let l = (c .before .before .before .before .before .before .before .before .before .before .loop) in
-    (search needs, rw (c .before .before .add-at .ensures, c .before .before .before .before .before .term .ensures) (walked-more _ _ _ _ _ (l .inv .1) _ (entry-at (now (x .row)) (now (x .col)) (now (x .lo)) (now (x .hi)) (l .i) ((c .before .before .before .before .before .before .before .before .before .before .before .before .before .before .before .before .before .before .pre)) (omega arith))))
+    (search needs, rw (c .before .before .add-at .ensures, added-in, c .before .before .before .before .before .term .ensures) (walked-more _ _ _ _ _ (l .inv .1) _ (entry-at (now (x .row)) (now (x .col)) (now (x .lo)) (now (x .hi)) (l .i) ((c .before .before .before .before .before .before .before .before .before .before .before .before .before .before .before .before .before .before .pre)) (omega arith))))
 
 same-length : tie.Need-same-length Inv-loop μ-loop
 same-length c = c .before .loop .inv .0

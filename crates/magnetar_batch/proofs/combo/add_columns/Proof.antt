@@ -8,6 +8,7 @@ use denote.Ref.{now}
 use Rattle.magnetar_field.specs.Words.{elements}
 use Rattle.magnetar_r1cs.specs.Matrix.{share}
 use Rattle.magnetar_r1cs.specs.Lent.{entry, entriesOf}
+use Rattle.magnetar_r1cs.proofs.TableLaws.{added-in}
 use Rattle.magnetar_r1cs.proofs.Walked.{Walked, walked-start, walked-more, walked-end, entry-at, entries-end}
 use Rattle.magnetar_batch.proofs.ColumnLaws.{behind-stays, factor-at, below-at}
 use borrow.Author.Needs.{needs}
@@ -80,8 +81,8 @@ loop-again c =
     let b : getD (now (x .col)) (l .i) 0 < x .m = below-at (x .m) (now (x .col)) (l .i) (omega arith) (p .cols) in
     let f = factor-at (x .m) (elements (now (x .s))) (elements (l .s)) (getD (now (x .row)) (l .i) 0) (l .inv .1) in (
       search needs,
-      rw (c .before .before .add-at .ensures) (behind-stays (x .m) (elements (now (x .s))) (elements (l .s)) _ _ b (l .inv .1)),
-      rw (c .before .before .add-at .ensures, c .before .before .before .scale .ensures, c .before .before .before .before .before .before .get .ensures, f) (walked-more _ _ _ _ _ (l .inv .2) _ (entry-at (now (x .col)) (now (x .row)) (now (x .lo)) (now (x .hi)) (l .i) (p .equal) (omega arith))),
+      rw (c .before .before .add-at .ensures, added-in) (behind-stays (x .m) (elements (now (x .s))) (elements (l .s)) _ _ b (l .inv .1)),
+      rw (c .before .before .add-at .ensures, added-in, c .before .before .before .scale .ensures, c .before .before .before .before .before .before .get .ensures, f) (walked-more _ _ _ _ _ (l .inv .2) _ (entry-at (now (x .col)) (now (x .row)) (now (x .lo)) (now (x .hi)) (l .i) (p .equal) (omega arith))),
     )
 
 same-length : tie.Need-same-length Inv-loop μ-loop

@@ -8,6 +8,7 @@ use lib.ListN.{length}
 use lib.Count.{trailing-le}
 use Rattle.magnetar_field.specs.Gf128.{value}
 use Rattle.magnetar_field.specs.Words.{elements}
+use Rattle.magnetar_r1cs.proofs.TableLaws.{added-in}
 use Rattle.magnetar_batch.proofs.SetBits.{lowest, cleared-less}
 use Rattle.magnetar_batch.proofs.Selected.{Selected, selected-start, selected-more, selected-end}
 use borrow.Author.Needs.{needs}
@@ -42,7 +43,7 @@ loop-again : tie.Need-loop-again Inv-loop μ-loop
 loop-again c =
     let l = c .before .before .before .before .before .loop in
     let p : 0 < l .left = omega arith in
-    (search needs, omega (arith, cleared-less (l .left) p), rw (c .before .before .add-at .ensures) (selected-more _ _ _ _ _ _ (l .inv .2) _ (lowest 64 (l .left) p (l .inv .1))))
+    (search needs, omega (arith, cleared-less (l .left) p), rw (c .before .before .add-at .ensures, added-in) (selected-more _ _ _ _ _ _ (l .inv .2) _ (lowest 64 (l .left) p (l .inv .1))))
 
 same-length : tie.Need-same-length Inv-loop μ-loop
 same-length c = c .before .loop .inv .0

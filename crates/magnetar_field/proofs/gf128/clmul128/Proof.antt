@@ -1,6 +1,6 @@
 -- `magnetar_field::gf128::clmul128` meets its contract.
 -- Assumes nothing.
-use mathlib.Core.Path.{_≡_, refl, sym, ap, _∙_}
+use mathlib.Core.Path.{_∙_}
 use Prim.Native.Nat.{_≤_, _<_, _^_}
 use native.Mathlib.Omega.{arith}
 use Rattle.magnetar_field.specs.Residue.{wide, pairAt, Multiples}

@@ -1,7 +1,7 @@
 -- `magnetar_field::gf128::mul_bit` meets its contract.
 -- Assumes nothing.
 use mathlib.Core.Path.{_≡_, sym}
-use Prim.Native.Nat.{_+_, _*_, _%_, _^_}
+use Prim.Native.Nat.{_%_}
 use native.Mathlib.Omega.{arith}
 use Rattle.magnetar_field.proofs.Mask.{masked, digit-mul}
 use Rattle.magnetar_field.specs.Gf128.{value}

@@ -1,7 +1,5 @@
 -- `magnetar_field::gf128::multiples_step` meets its contract.
 -- Assumes nothing.
-use mathlib.Core.Path.{_∙_}
-use native.Mathlib.Omega.{arith}
 use Rattle.magnetar_field.proofs.Comb.{append-word, multiples-more}
 use borrow.Author.Needs.{needs}
 use Rattle.magnetar_field.proofs.gf128.multiples_step.Statement.{statement}

@@ -1,6 +1,5 @@
 -- `magnetar_field::gf128::pow` meets its contract.
 -- Assumes nothing.
-use mathlib.Core.Path.{_∙_}
 use lib.Dec.{lit<}
 use borrow.Author.Needs.{needs}
 use Rattle.magnetar_field.proofs.Product.{⊗-lt}

@@ -1,7 +1,6 @@
 -- `magnetar_field::gf128::pow_word` meets its contract.
 -- Assumes nothing.
 use Prim.Native.Nat.{_≤_, _<_, _-_, _^_}
-use mathlib.Core.Path.{sym, _∙_}
 use native.Mathlib.Omega.{arith}
 use Rattle.magnetar_field.specs.Gf128.{value}
 use Rattle.magnetar_field.proofs.Product.{⊗-lt}

@@ -2,7 +2,7 @@
 -- Assumes nothing.
 use mathlib.Core.Path.{refl}
 use Prim.Native.Nat.{_<_, _^_}
-use Rattle.magnetar_field.specs.Gf128.{value, _⊕_}
+use Rattle.magnetar_field.specs.Gf128.{_⊕_}
 use Rattle.magnetar_field.proofs.Reduction.{reduced-words}
 use borrow.Author.Needs.{needs}
 use Rattle.magnetar_field.proofs.gf128.reduce256.Statement.{statement}

@@ -1,11 +1,10 @@
 -- `magnetar_field::multilinear::bind` meets its contract.
 -- Assumes nothing.
-use mathlib.Core.Path.{_≡_, refl, ap}
-use Prim.Native.Nat.{ℕ, _≤_, _-_, _*_, _/_, _^_}
+use mathlib.Core.Path.{_≡_, refl}
+use Prim.Native.Nat.{_≤_, _-_, _^_}
 use native.Mathlib.Omega.{arith}
 use lib.ListN.{length}
 use lib.Pow.{pow-pos, pow-lt}
-use denote.Ref.{now}
 use Rattle.magnetar_field.specs.Gf128.{value}
 use Rattle.magnetar_field.specs.Words.{elements}
 use Rattle.magnetar_field.proofs.Elements.{elements-length}

@@ -4,7 +4,6 @@ use mathlib.Core.Path.{_≡_, _∙_}
 use Prim.Native.Nat.{ℕ, _≤_, _<_, _*_, _^_}
 use native.Mathlib.Omega.{arith}
 use lib.ListN.{length, getD}
-use denote.Ref.{now}
 use Rattle.magnetar_field.specs.Words.{elements}
 use Rattle.magnetar_field.proofs.Elements.{elements-length, elements-below}
 use Rattle.magnetar_field.proofs.Evaluating.{Evaluating, evaluating-start, evaluating-more, evaluating-end, evaluating-fits}

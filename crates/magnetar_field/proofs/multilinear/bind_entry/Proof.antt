@@ -1,7 +1,5 @@
 -- `magnetar_field::multilinear::bind_entry` meets its contract.
 -- Assumes nothing.
-use mathlib.Core.Path.{ap, _∙_}
-use Rattle.magnetar_field.specs.Words.{elements}
 use Rattle.magnetar_field.specs.Multilinear.{line}
 use Rattle.magnetar_field.proofs.Elements.{elements-stored}
 use borrow.Author.Needs.{needs}

@@ -1,8 +1,8 @@
 -- `magnetar_field::multilinear::bind_var` meets its contract.
 -- Assumes nothing.
-use mathlib.Core.Path.{_≡_, sym, ap, _∙_}
+use mathlib.Core.Path.{_≡_, sym, _∙_}
 use native.Mathlib.Omega.{arith}
-use Prim.Native.Nat.{_<_, _*_, _/_, _^_}
+use Prim.Native.Nat.{_*_, _/_, _^_}
 use lib.ListN.{length, take}
 use denote.Ref.{now}
 use Rattle.magnetar_field.specs.Sizes.{log₂}

@@ -1,8 +1,8 @@
 -- `magnetar_field::multilinear::dot` meets its contract.
 -- Assumes nothing.
 use denote.Ref.{now}
-use mathlib.Core.Path.{_≡_, sym, _∙_}
-use Prim.Native.Nat.{_≤_, _/_, min}
+use mathlib.Core.Path.{_≡_, sym}
+use Prim.Native.Nat.{_≤_, _/_}
 use native.Mathlib.Omega.{arith}
 use lib.ListN.{drop, length}
 use Rattle.magnetar_field.specs.Gf128.{value}
@@ -20,13 +20,13 @@ Inv-loop xs ys acc₀ j₀ acc j = (j ≤ length xs / 2) × (j ≤ length ys / 2
 abbrev μ-loop : tie.MeasureT-loop
 μ-loop xs ys acc₀ j₀ acc j = j
 
-shorter-requires : tie.Need-shorter-requires Inv-loop μ-loop
-shorter-requires c κs = search needs
+least-requires : tie.Need-least-requires Inv-loop μ-loop
+least-requires c κs = search needs
 
 loop-holds : tie.Need-loop-holds Inv-loop μ-loop
 loop-holds c =
     let x = (c .before .before .before .args) in
-    (omega arith, omega arith, sym (dot-none (now (x .xs)) (now (x .ys)) (c .shorter .result) (c .shorter .ensures)))
+    (omega arith, omega arith, sym (dot-none (now (x .xs)) (now (x .ys)) (c .least .result) (c .least .ensures)))
 
 sub-j : tie.Need-sub-j Inv-loop μ-loop
 sub-j c = search needs
@@ -65,7 +65,7 @@ dot-spec =
     (tie.spec
     Inv-loop
     μ-loop
-    shorter-requires
+    least-requires
     loop-holds
     sub-j
     get-requires

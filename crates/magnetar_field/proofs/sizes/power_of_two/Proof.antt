@@ -1,7 +1,6 @@
 -- `magnetar_field::sizes::power_of_two` meets its contract.
 -- Assumes nothing.
 use native.Mathlib.Nat.{mod-eq-of-lt, one-mul}
-use native.Mathlib.Omega.{arith}
 use lib.Pow.{pow-lt}
 use borrow.Author.Needs.{needs}
 use Rattle.magnetar_field.proofs.sizes.power_of_two.Statement.{statement}

@@ -1,12 +1,14 @@
 -- `magnetar_inplace::steps::add_to` meets its contract.
 -- Assumes nothing.
 use borrow.Author.Tests.{lt-leb}
-use mathlib.Core.Path.{sym}
+use mathlib.Core.Path.{sym, ap, _∙_}
 use native.Mathlib.Omega.{arith}
 use lib.Seq.{length-take-le}
 use Prim.Native.Nat.{_*_}
 use lib.ListN.{length}
 use denote.Ref.{now}
+use Rattle.magnetar_field.specs.Words.{elements}
+use Rattle.magnetar_r1cs.proofs.TableLaws.{added-in}
 use Rattle.magnetar_inplace.specs.Steps.{addedTo}
 use Rattle.magnetar_inplace.proofs.RecordLaws.{added-words}
 use borrow.Author.Needs.{needs}
@@ -30,7 +32,7 @@ same-length c = search needs
 
 returns : tie.Need-returns
 returns c =
-    added-words _ _ _ _ _ (omega arith) (c .before .before .add-at .kept .0) (c .before .before .add-at .ensures)
+    added-words _ _ _ _ _ (omega arith) (c .before .before .add-at .kept .0) (ap elements (c .before .before .add-at .ensures) ∙ added-in _ _ _)
     (λ i. omega (arith, c .slice-known2 .given i))
 
 returns-2 : tie.Need-returns-2

@@ -1,7 +1,7 @@
 -- `magnetar_layout::layout::b_i` meets its contract.
 -- Assumes nothing.
-use Rattle.magnetar_layout.proofs.Laid.{sound, Size, each-size}
-use mathlib.Core.Path.{_≡_, refl, sym, _∙_}
+use Rattle.magnetar_layout.proofs.Laid.{sound, each-size}
+use mathlib.Core.Path.{sym, _∙_}
 use native.Mathlib.Omega.{arith}
 use Rattle.magnetar_layout.proofs.Readings.{read-refused, read-some, read-none}
 use borrow.Author.Needs.{needs}

@@ -3,13 +3,12 @@
 use lib.ListN.{length}
 use lib.Dec.{ltb}
 use denote.Ref.{now}
-use Prim.Native.Nat.{ℕ, _≤_}
+use Prim.Native.Nat.{ℕ}
 use Rattle.magnetar_layout.proofs.Readings.{build-is}
 use mathlib.Core.Path.{_≡_, refl, sym, _∙_}
-use native.Mathlib.Omega.{arith}
 use borrow.Author.Tests.{ltb-false}
 use Rattle.magnetar_layout.specs.Tests.{note}
-use Rattle.magnetar_layout.specs.Entries.{buildRefusal, layoutRefusal}
+use Rattle.magnetar_layout.specs.Entries.{buildRefusal}
 use Rattle.magnetar_layout.proofs.Noted.{note-clear, turned, done}
 use Rattle.magnetar_layout.proofs.Laid.{sound}
 use borrow.Author.Needs.{needs}

@@ -1,14 +1,13 @@
 -- `magnetar_layout::layout::ends_past` meets its contract.
 -- Assumes nothing.
 use denote.Ref.{now}
-use Rattle.magnetar_layout.specs.Layout.{isLength, layoutEnd}
-use Rattle.magnetar_layout.proofs.Laid.{Laid, Size, each-size, laid-start, laid-more, laid-end, laid-within, next-most}
-use mathlib.Core.Path.{_≡_, refl, sym, _∙_}
-use Prim.Native.Nat.{_+_, _≤_, _<_, _-_}
+use Rattle.magnetar_layout.specs.Layout.{layoutEnd}
+use Rattle.magnetar_layout.proofs.Laid.{Laid, each-size, laid-start, laid-more, laid-end, laid-within, next-most}
+use mathlib.Core.Path.{sym}
+use Prim.Native.Nat.{_≤_, _-_}
 use native.Mathlib.Omega.{arith}
-use lib.ListN.{length, drop}
-use Rattle.magnetar_layout.proofs.EveryLaws.{every-at}
-use Rattle.magnetar_layout.proofs.Laid.{Laid, laid-start, laid-more, laid-end, laid-within, length-pos, length-most, next-most}
+use lib.ListN.{length}
+use Rattle.magnetar_layout.proofs.Laid.{Laid, laid-start, laid-more, laid-end, laid-within, next-most}
 use borrow.Author.Tests.{lt-ltb, le-ltb}
 use borrow.Author.Needs.{needs}
 use Rattle.magnetar_layout.proofs.layout.ends_past.Statement.{statement}

@@ -1,14 +1,14 @@
 -- `magnetar_layout::layout::fill` meets its contract.
 -- Assumes nothing.
-use mathlib.Core.Path.{_≡_, refl, sym, _∙_}
+use mathlib.Core.Path.{_≡_, refl, _∙_}
 use mathlib.Core.List.{_++_}
-use Prim.Native.Nat.{_+_, _≤_, _<_, _-_}
+use Prim.Native.Nat.{_+_, _≤_, _-_}
 use native.Mathlib.Omega.{arith}
 use lib.ListN.{length, take, drop}
 use lib.Seq.{take-all}
 use Rattle.magnetar_layout.specs.Layout.{offsets}
 use Rattle.magnetar_field.proofs.Elements.{copy-more}
-use Rattle.magnetar_layout.proofs.Laid.{Laid, Size, each-size, laid-start, laid-more, laid-within, laid-offset, next-most, offsets-length}
+use Rattle.magnetar_layout.proofs.Laid.{Laid, each-size, laid-start, laid-more, laid-within, laid-offset, next-most, offsets-length}
 use borrow.Author.Needs.{needs}
 use Rattle.magnetar_layout.proofs.layout.fill.Statement.{statement}
 use Rattle.magnetar_layout.proofs.layout.fill.Tie as tie

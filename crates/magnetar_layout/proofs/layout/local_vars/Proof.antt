@@ -1,6 +1,5 @@
 -- `magnetar_layout::layout::local_vars` meets its contract.
 -- Assumes nothing.
-use mathlib.Core.Path.{_≡_, refl, sym, _∙_}
 use native.Mathlib.Omega.{arith}
 use Rattle.magnetar_layout.proofs.Readings.{read-refused, read-some, read-none}
 use borrow.Author.Needs.{needs}

@@ -1,7 +1,7 @@
 -- `magnetar_layout::layout::offset` meets its contract.
 -- Assumes nothing.
 use Rattle.magnetar_layout.proofs.Laid.{sound}
-use mathlib.Core.Path.{_≡_, refl, sym, _∙_}
+use mathlib.Core.Path.{sym, _∙_}
 use native.Mathlib.Omega.{arith}
 use Rattle.magnetar_layout.proofs.Readings.{read-refused, read-some, read-none}
 use borrow.Author.Needs.{needs}

@@ -1,13 +1,10 @@
 -- `magnetar_layout::layout::place` meets its contract.
 -- Assumes nothing.
-use Rattle.magnetar_layout.proofs.Laid.{Laid, Size, each-size, laid-start, laid-more, laid-end, laid-within, laid-offset, next-most}
-use mathlib.Core.Path.{_≡_, refl, sym, _∙_}
-use Prim.Native.Nat.{_+_, _≤_, _<_, _-_}
+use Rattle.magnetar_layout.proofs.Laid.{Laid, each-size, laid-start, laid-more, laid-within, laid-offset, next-most}
+use mathlib.Core.Path.{_≡_, _∙_}
+use Prim.Native.Nat.{_≤_, _-_}
 use native.Mathlib.Omega.{arith}
-use lib.ListN.{length, drop}
-use Rattle.magnetar_layout.specs.Layout.{isLength}
-use Rattle.magnetar_layout.proofs.EveryLaws.{every-at}
-use Rattle.magnetar_layout.proofs.Laid.{Laid, laid-start, laid-more, laid-end, laid-within, laid-offset, length-pos, length-most, next-most}
+use Rattle.magnetar_layout.proofs.Laid.{Laid, laid-start, laid-more, laid-within, laid-offset, next-most}
 use borrow.Author.Needs.{needs}
 use Rattle.magnetar_layout.proofs.layout.place.Statement.{statement}
 use Rattle.magnetar_layout.proofs.layout.place.Tie as tie

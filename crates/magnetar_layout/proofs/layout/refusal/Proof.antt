@@ -1,19 +1,19 @@
 -- `magnetar_layout::layout::refusal` meets its contract.
 -- Assumes nothing.
-use mathlib.Core.Path.{_≡_, refl, sym, _∙_}
+use mathlib.Core.Path.{_≡_, refl}
 use mathlib.Core.Bool.{not}
 use mathlib.Core.List.{[], _∷_}
-use Prim.Native.Nat.{ℕ, _*_}
+use Prim.Native.Nat.{_*_}
 use native.Mathlib.Omega.{arith}
 use denote.Ref.{now}
 use lib.ListN.{drop}
 use borrow.Author.Tests.{not-false}
 use Rattle.magnetar_layout.specs.Every.{every}
-use Rattle.magnetar_layout.specs.Layout.{isLength, layoutEnd}
-use Rattle.magnetar_layout.specs.Tests.{Tests, noted, isSize, columnTests, layoutTests}
+use Rattle.magnetar_layout.specs.Layout.{isLength}
+use Rattle.magnetar_layout.specs.Tests.{Tests, noted, isSize, layoutTests}
 use Rattle.magnetar_layout.specs.Entries.{layoutRefusal}
 use Rattle.magnetar_layout.proofs.Noted.{noted-front, noted-clear}
-use Rattle.magnetar_layout.proofs.SizeLaws.{Sized, not-bad}
+use Rattle.magnetar_layout.proofs.SizeLaws.{not-bad}
 use borrow.Author.Needs.{needs}
 use Rattle.magnetar_layout.proofs.layout.refusal.Statement.{statement}
 use Rattle.magnetar_layout.proofs.layout.refusal.Tie as tie

@@ -1,8 +1,8 @@
 -- `magnetar_layout::layout::segment` meets its contract.
 -- Assumes nothing.
-use lib.ListN.{take, drop, getD}
+use lib.ListN.{getD}
 use Prim.Native.Nat.{_+_, _*_, _-_}
-use mathlib.Core.Path.{_≡_, refl, sym, _∙_}
+use mathlib.Core.Path.{_≡_, sym, _∙_}
 use native.Mathlib.Omega.{arith}
 use Rattle.magnetar_layout.proofs.Laid.{sound, Inside, offset-within}
 use Rattle.magnetar_layout.proofs.Readings.{part-refused, part-other, part-missing, part-is}

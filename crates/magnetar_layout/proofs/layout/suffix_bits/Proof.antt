@@ -1,9 +1,8 @@
 -- `magnetar_layout::layout::suffix_bits` meets its contract.
 -- Assumes nothing.
-use Rattle.magnetar_layout.proofs.Laid.{sound, Size, each-size}
+use Rattle.magnetar_layout.proofs.Laid.{sound, each-size}
 use Rattle.magnetar_layout.proofs.Readings.{log-le}
-use native.Mathlib.Nat.{le-trans}
-use mathlib.Core.Path.{_≡_, refl, sym, _∙_}
+use mathlib.Core.Path.{sym, _∙_}
 use native.Mathlib.Omega.{arith}
 use Rattle.magnetar_layout.proofs.Readings.{read-refused, read-some, read-none}
 use borrow.Author.Needs.{needs}

@@ -1,6 +1,6 @@
 -- `magnetar_layout::layout::witness_vars` meets its contract.
 -- Assumes nothing.
-use mathlib.Core.Path.{_≡_, refl, sym, _∙_}
+use mathlib.Core.Path.{sym, _∙_}
 use Rattle.magnetar_layout.specs.Tests.{note}
 use Rattle.magnetar_layout.specs.Entries.{varsRefusal}
 use borrow.Author.Needs.{needs}

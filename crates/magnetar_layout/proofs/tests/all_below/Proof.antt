@@ -1,13 +1,12 @@
 -- `magnetar_layout::tests::all_below` meets its contract.
 -- Assumes nothing.
 use Rattle.magnetar_layout.proofs.EveryLaws.{Left, every-more, every-not, every-end}
-use mathlib.Core.Path.{_≡_, refl, sym, _∙_}
-use Prim.Native.Nat.{_≤_, _-_}
+use mathlib.Core.Path.{refl}
+use Prim.Native.Nat.{_-_}
 use native.Mathlib.Omega.{arith}
 use lib.Dec.{ltb}
-use lib.ListN.{length, drop}
+use lib.ListN.{length}
 use borrow.Author.Tests.{lt-ltb, le-ltb}
-use Rattle.magnetar_layout.specs.Every.{every}
 use borrow.Author.Needs.{needs}
 use Rattle.magnetar_layout.proofs.tests.all_below.Statement.{statement}
 use Rattle.magnetar_layout.proofs.tests.all_below.Tie as tie

@@ -2,11 +2,10 @@
 -- Assumes nothing.
 use borrow.Author.Tests.{not-true, not-false}
 use Rattle.magnetar_layout.proofs.EveryLaws.{Left, every-more, every-not, every-end}
-use mathlib.Core.Path.{_≡_, refl, sym, _∙_}
-use Prim.Native.Nat.{_≤_, _-_}
+use mathlib.Core.Path.{refl, sym, _∙_}
+use Prim.Native.Nat.{_-_}
 use native.Mathlib.Omega.{arith}
-use lib.ListN.{length, drop}
-use Rattle.magnetar_layout.specs.Every.{every}
+use lib.ListN.{length}
 use Rattle.magnetar_layout.specs.Layout.{isLength}
 use borrow.Author.Needs.{needs}
 use Rattle.magnetar_layout.proofs.tests.all_lengths.Statement.{statement}

@@ -1,7 +1,7 @@
 -- `magnetar_layout::tests::is_length` meets its contract.
 -- Assumes nothing.
-use borrow.Author.Tests.{lt-leb, le-leb, lt-ltb, le-ltb}
-use mathlib.Core.Path.{_≡_, refl}
+use borrow.Author.Tests.{lt-leb, le-leb, lt-ltb}
+use mathlib.Core.Path.{_≡_}
 use native.Mathlib.Omega.{arith}
 use Rattle.magnetar_layout.specs.Layout.{isLength}
 use borrow.Author.Needs.{needs}

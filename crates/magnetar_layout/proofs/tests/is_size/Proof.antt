@@ -1,7 +1,6 @@
 -- `magnetar_layout::tests::is_size` meets its contract.
 -- Assumes nothing.
 use borrow.Author.Tests.{lt-leb, le-leb}
-use native.Mathlib.Omega.{arith}
 use Rattle.magnetar_layout.specs.Tests.{isSize}
 use borrow.Author.Needs.{needs}
 use Rattle.magnetar_layout.proofs.tests.is_size.Statement.{statement}

@@ -1,6 +1,5 @@
 -- `magnetar_layout::tests::lone` meets its contract.
 -- Assumes nothing.
-use mathlib.Core.Path.{_≡_, _∙_}
 use borrow.Author.Needs.{needs}
 use Rattle.magnetar_layout.proofs.tests.lone.Statement.{statement}
 use Rattle.magnetar_layout.proofs.tests.lone.Tie as tie

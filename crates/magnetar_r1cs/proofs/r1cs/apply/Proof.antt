@@ -3,21 +3,18 @@
 use Rattle.magnetar_r1cs.proofs.TableLaws.{in-front}
 use Rattle.magnetar_r1cs.proofs.Lone.{Lone}
 use denote.Ref.{now}
-use Rattle.magnetar_r1cs.specs.Lent.{Lent, lent, entriesOf, matrixOf}
-use mathlib.Core.Path.{_≡_, refl, sym, ap, _∙_}
-use mathlib.Core.Bool.{not}
-use mathlib.Core.List.{List, _++_}
-use Prim.Native.Nat.{ℕ, _*_, _≤_, _/_}
+use Rattle.magnetar_r1cs.specs.Lent.{Lent, lent, matrixOf}
+use mathlib.Core.Path.{_≡_, refl, sym, _∙_}
+use mathlib.Core.List.{_++_}
+use Prim.Native.Nat.{_*_, _≤_}
 use native.Mathlib.Omega.{arith}
-use lib.Dec.{eqb, ltb}
-use lib.ListN.{length, length-take}
+use lib.ListN.{length}
 use lib.Seq.{length-take-le}
 use borrow.Author.Tests.{ltb-false}
 use Rattle.magnetar_r1cs.specs.Matrix.{times, timesAt}
 use Rattle.magnetar_layout.specs.Tests.{Tests, noted, loneTests, lengthTest, roomTest}
 use Rattle.magnetar_r1cs.specs.Entries.{applyRefusal}
 use Rattle.magnetar_layout.proofs.Noted.{noted-front, noted-late, noted-clear, turned, done}
-use Rattle.magnetar_layout.proofs.SizeLaws.{Sized}
 use Rattle.magnetar_r1cs.proofs.Lone.{lone}
 use borrow.Author.Needs.{needs}
 use Rattle.magnetar_r1cs.proofs.r1cs.apply.Statement.{statement}

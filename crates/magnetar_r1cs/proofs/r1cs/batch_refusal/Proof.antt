@@ -1,20 +1,13 @@
 -- `magnetar_r1cs::r1cs::batch_refusal` meets its contract.
 -- Assumes nothing.
-use mathlib.Core.Path.{_≡_, refl, sym, ap, _∙_}
-use mathlib.Core.Bool.{not}
-use mathlib.Core.List.{List, _++_}
-use Prim.Native.Nat.{ℕ, _+_, _*_, _≤_, _/_}
+use mathlib.Core.Path.{_≡_, refl, sym, _∙_}
+use mathlib.Core.List.{_++_}
+use Prim.Native.Nat.{_+_, _*_, _≤_}
 use native.Mathlib.Omega.{arith}
-use lib.Dec.{eqb, ltb}
-use lib.ListN.{length, length-take}
-use lib.Seq.{length-take-le}
-use borrow.Author.Tests.{ltb-false, eqb-true, not-false}
 use denote.Ref.{now}
-use Rattle.magnetar_field.specs.Sizes.{log₂}
-use Rattle.magnetar_r1cs.specs.Lent.{Lent, lent, entriesOf, matrixOf}
-use Rattle.magnetar_layout.specs.Tests.{Tests, noted, loneTests, lengthTest, roomTest}
-use Rattle.magnetar_layout.proofs.Noted.{noted-front, noted-late, noted-clear, turned, done}
-use Rattle.magnetar_layout.proofs.SizeLaws.{Sized}
+use Rattle.magnetar_r1cs.specs.Lent.{Lent, lent}
+use Rattle.magnetar_layout.specs.Tests.{Tests, noted}
+use Rattle.magnetar_layout.proofs.Noted.{noted-front, noted-late, noted-clear}
 use lib.ListN.{drop}
 use Rattle.magnetar_layout.specs.Tests.{sizeTests, packedTests, publicTests, rowTests, rowsTests, colsTests, counted, placed}
 use Rattle.magnetar_layout.proofs.SizeLaws.{not-bad}

@@ -1,6 +1,5 @@
 -- `magnetar_r1cs::r1cs::bit_valued` meets its contract.
 -- Assumes nothing.
-use mathlib.Core.Path.{_≡_, refl, sym, ap, _∙_}
 use denote.Ref.{now}
 use Rattle.magnetar_r1cs.proofs.Split.{flag-is}
 use borrow.Author.Needs.{needs}

@@ -1,8 +1,8 @@
 -- `magnetar_r1cs::r1cs::is_binary` meets its contract.
 -- Assumes nothing.
 use denote.Ref.{now}
-use Rattle.magnetar_r1cs.specs.Lent.{Lent, lent, entriesOf, matrixOf}
-use mathlib.Core.Path.{_≡_, refl, sym, _∙_}
+use Rattle.magnetar_r1cs.specs.Lent.{Lent, lent, matrixOf}
+use mathlib.Core.Path.{sym, _∙_}
 use borrow.Author.Tests.{ne-eqb}
 use Rattle.magnetar_r1cs.specs.Matrix.{binary}
 use Rattle.magnetar_r1cs.specs.Entries.{binaryRefusal}

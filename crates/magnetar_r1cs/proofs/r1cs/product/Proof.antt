@@ -1,12 +1,7 @@
 -- `magnetar_r1cs::r1cs::product` meets its contract.
 -- Assumes nothing.
-use mathlib.Core.Path.{_≡_, refl, sym, ap, _∙_}
-use mathlib.Core.List.{[], append-nil}
 use native.Mathlib.Omega.{arith}
-use lib.ListN.{length}
 use denote.Ref.{now}
-use Rattle.magnetar_field.specs.Words.{elements, words}
-use Rattle.magnetar_field.proofs.Elements.{words-elements}
 use Rattle.magnetar_r1cs.proofs.TableLaws.{cleared-raised}
 use borrow.Author.Needs.{needs}
 use Rattle.magnetar_r1cs.proofs.r1cs.product.Statement.{statement}

@@ -4,10 +4,9 @@ use Rattle.magnetar_r1cs.proofs.Parts.{both-length}
 use Rattle.magnetar_r1cs.proofs.Parts.{behind, both-parts}
 use Rattle.magnetar_r1cs.proofs.TableLaws.{elements-append}
 use denote.Ref.{now}
-use lib.ListN.{length, replicate}
-use Prim.Native.Nat.{ℕ, _*_}
+use Prim.Native.Nat.{_*_}
 use lib.Seq.{length-take-le}
-use mathlib.Core.Path.{_≡_, refl, sym, ap, _∙_}
+use mathlib.Core.Path.{sym, _∙_}
 use borrow.Author.Needs.{needs}
 use Rattle.magnetar_r1cs.proofs.r1cs.sum_in.Statement.{statement}
 use Rattle.magnetar_r1cs.proofs.r1cs.sum_in.Tie as tie

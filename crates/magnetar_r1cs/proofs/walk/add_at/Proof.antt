@@ -1,8 +1,6 @@
 -- `magnetar_r1cs::walk::add_at` meets its contract.
 -- Assumes nothing.
-use Rattle.magnetar_field.specs.Words.{elements}
-use Rattle.magnetar_r1cs.specs.Table.{addedAt}
-use Rattle.magnetar_field.proofs.Elements.{elements-stored}
+use Rattle.magnetar_r1cs.specs.Table.{addedIn}
 use borrow.Author.Needs.{needs}
 use Rattle.magnetar_r1cs.proofs.walk.add_at.Statement.{statement}
 use Rattle.magnetar_r1cs.proofs.walk.add_at.Tie as tie
@@ -20,8 +18,8 @@ same-length : tie.Need-same-length
 same-length c = search needs
 
 returns : tie.Need-returns
-unfolding addedAt
-returns c = rw (c .before .before .put .ensures, elements-stored, c .before .before .before .add .ensures, c .before .before .before .before .before .get .ensures)
+unfolding addedIn
+returns c = rw (c .before .before .put .ensures, c .before .before .before .add .ensures, c .before .before .before .before .before .get .ensures)
 
 pub add-at-spec : {M : Type 1} → statement M
 add-at-spec = tie.close (tie.spec get-requires add-requires put-requires same-length returns)

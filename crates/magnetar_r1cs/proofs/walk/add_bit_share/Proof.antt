@@ -1,9 +1,9 @@
 -- `magnetar_r1cs::walk::add_bit_share` meets its contract.
 -- Assumes nothing.
-use mathlib.Core.Path.{_≡_, sym, _∙_}
+use mathlib.Core.Path.{sym}
 use native.Mathlib.Omega.{arith}
 use denote.Ref.{now}
-use Rattle.magnetar_r1cs.proofs.TableLaws.{added-zero, bit-some, bit-none}
+use Rattle.magnetar_r1cs.proofs.TableLaws.{added-in, added-zero, bit-some, bit-none}
 use borrow.Author.Needs.{needs}
 use Rattle.magnetar_r1cs.proofs.walk.add_bit_share.Statement.{statement}
 use Rattle.magnetar_r1cs.proofs.walk.add_bit_share.Tie as tie
@@ -23,7 +23,7 @@ same-length c = search needs
 returns : tie.Need-returns
 returns c =
     let x = c .before .before .before .before .before .before .before .before .before .args in
-    rw (c .before .before .add-at .ensures, c .before .before .before .select .ensures, c .before .before .before .before .bit-at .ensures .0, bit-some (x .w) (now (x .login)) (x .r) (x .c) (x .v .lo) (x .v .hi) (omega arith))
+    rw (c .before .before .add-at .ensures, added-in, c .before .before .before .select .ensures, c .before .before .before .before .bit-at .ensures .0, bit-some (x .w) (now (x .login)) (x .r) (x .c) (x .v .lo) (x .v .hi) (omega arith))
 
 returns-2 : tie.Need-returns-2
 returns-2 c =

@@ -1,13 +1,13 @@
 -- `magnetar_r1cs::walk::add_product` meets its contract.
 -- Assumes nothing.
-use mathlib.Core.Path.{_≡_, refl, sym, ap, _∙_}
+use mathlib.Core.Path.{_≡_, refl}
 use Prim.Native.Nat.{_-_}
 use native.Mathlib.Omega.{arith}
 use lib.ListN.{length}
 use denote.Ref.{now}
 use Rattle.magnetar_field.specs.Words.{elements}
 use Rattle.magnetar_r1cs.specs.Matrix.{share}
-use Rattle.magnetar_r1cs.specs.Lent.{entry, entriesOf}
+use Rattle.magnetar_r1cs.specs.Lent.{entriesOf}
 use Rattle.magnetar_r1cs.proofs.Walked.{Walked, walked-start, walked-more, walked-end, entry-at, entries-end}
 use borrow.Author.Needs.{needs}
 use Rattle.magnetar_r1cs.proofs.walk.add_product.Statement.{statement}

@@ -1,6 +1,7 @@
 -- `magnetar_r1cs::walk::add_share` meets its contract.
 -- Assumes nothing.
 use Rattle.magnetar_r1cs.specs.Matrix.{share}
+use Rattle.magnetar_r1cs.proofs.TableLaws.{added-in}
 use borrow.Author.Needs.{needs}
 use Rattle.magnetar_r1cs.proofs.walk.add_share.Statement.{statement}
 use Rattle.magnetar_r1cs.proofs.walk.add_share.Tie as tie
@@ -19,7 +20,7 @@ same-length c = search needs
 
 returns : tie.Need-returns
 unfolding share
-returns c = rw (c .before .before .add-at .ensures, c .before .before .before .scale .ensures, c .before .before .before .before .get .ensures)
+returns c = rw (c .before .before .add-at .ensures, added-in, c .before .before .before .scale .ensures, c .before .before .before .before .get .ensures)
 
 pub add-share-spec : {M : Type 1} → statement M
 add-share-spec =

@@ -1,6 +1,6 @@
 -- `magnetar_r1cs::walk::scale` meets its contract.
 -- Assumes nothing.
-use mathlib.Core.Path.{_≡_, sym, _∙_}
+use mathlib.Core.Path.{sym, _∙_}
 use borrow.Author.Tests.{ltb-true}
 use Rattle.magnetar_r1cs.proofs.Digits.{value-lt, digit-⊗}
 use borrow.Author.Needs.{needs}

@@ -2,7 +2,7 @@
 -- Assumes nothing.
 use Prim.Native.Nat.{_+_, _*_, _^_}
 use native.Mathlib.Omega.{arith}
-use mathlib.Core.Path.{_≡_, sym, _∙_}
+use mathlib.Core.Path.{_≡_, _∙_}
 use Rattle.magnetar_r1cs.proofs.Digits.{value-lt, ⊗-digit}
 use borrow.Author.Needs.{needs}
 use Rattle.magnetar_r1cs.proofs.walk.select.Statement.{statement}

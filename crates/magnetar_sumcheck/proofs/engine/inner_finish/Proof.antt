@@ -8,12 +8,12 @@ use Rattle.magnetar_sumcheck.proofs.engine.inner_finish.Tie as tie
 mul-requires : tie.Need-mul-requires
 mul-requires c κs = search needs
 
-same-requires : tie.Need-same-requires
-same-requires c κs = search needs
+equal-requires : tie.Need-equal-requires
+equal-requires c κs = search needs
 
 returns : tie.Need-returns
 unfolding innerEnd
-returns c = rw (c .same .ensures, c .before .mul .ensures)
+returns c = rw (c .equal .ensures, c .before .mul .ensures)
 
 pub inner-finish-spec : {M : Type 1} → statement M
-inner-finish-spec = tie.close (tie.spec mul-requires same-requires returns)
+inner-finish-spec = tie.close (tie.spec mul-requires equal-requires returns)

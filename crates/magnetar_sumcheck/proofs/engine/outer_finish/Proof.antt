@@ -13,13 +13,13 @@ multiply-add-requires c κs = search needs
 mul-requires : tie.Need-mul-requires
 mul-requires c κs = search needs
 
-same-requires : tie.Need-same-requires
-same-requires c κs = search needs
+equal-requires : tie.Need-equal-requires
+equal-requires c κs = search needs
 
 returns : tie.Need-returns
 unfolding outerEnd
 returns c = let x = c .before .before .before .args in rw (
-  c .same .ensures,
+  c .equal .ensures,
   c .before .mul .ensures,
   c .before .before .multiply-add .ensures,
   ⊕-comm (value (x .c))
@@ -27,4 +27,4 @@ returns c = let x = c .before .before .before .args in rw (
 )
 
 pub outer-finish-spec : {M : Type 1} → statement M
-outer-finish-spec = tie.close (tie.spec multiply-add-requires mul-requires same-requires returns)
+outer-finish-spec = tie.close (tie.spec multiply-add-requires mul-requires equal-requires returns)

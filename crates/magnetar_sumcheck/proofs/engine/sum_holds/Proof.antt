@@ -8,12 +8,12 @@ use Rattle.magnetar_sumcheck.proofs.engine.sum_holds.Tie as tie
 check-sum-requires : tie.Need-check-sum-requires
 check-sum-requires c κs = search needs
 
-same-requires : tie.Need-same-requires
-same-requires c κs = search needs
+equal-requires : tie.Need-equal-requires
+equal-requires c κs = search needs
 
 returns : tie.Need-returns
 unfolding holds
-returns c = rw (c .same .ensures, c .before .check-sum .ensures)
+returns c = rw (c .equal .ensures, c .before .check-sum .ensures)
 
 pub sum-holds-spec : {M : Type 1} → statement M
-sum-holds-spec = tie.close (tie.spec check-sum-requires same-requires returns)
+sum-holds-spec = tie.close (tie.spec check-sum-requires equal-requires returns)

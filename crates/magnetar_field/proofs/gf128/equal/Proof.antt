@@ -1,11 +1,11 @@
--- `magnetar_sumcheck::engine::same` meets its contract.
+-- `magnetar_field::gf128::equal` meets its contract.
 -- Assumes nothing.
 use Prim.Native.Nat.{_<_, _^_}
 use mathlib.Core.Path.{sym}
 use native.Mathlib.Omega.{arith}
-use Rattle.magnetar_sumcheck.proofs.Horner.{differ, compared}
-use Rattle.magnetar_sumcheck.proofs.engine.same.Statement.{statement}
-use Rattle.magnetar_sumcheck.proofs.engine.same.Tie as tie
+use Rattle.magnetar_field.proofs.Compared.{differ, compared}
+use Rattle.magnetar_field.proofs.gf128.equal.Statement.{statement}
+use Rattle.magnetar_field.proofs.gf128.equal.Tie as tie
 
 returns : tie.Need-returns
 returns c =
@@ -19,5 +19,5 @@ returns-2 c =
     let x = c .before .before .before .before .before .args in
     sym (compared (x .a .lo) (x .a .hi) (x .b .lo) (x .b .hi) (c .before .before .if1 .left))
 
-pub same-spec : {M : Type 1} → statement M
-same-spec = tie.close (tie.spec returns returns-2)
+pub equal-spec : {M : Type 1} → statement M
+equal-spec = tie.close (tie.spec returns returns-2)
