@@ -1,12 +1,11 @@
 -- What the row check leaves, and what is known once its tests passed.
 -- Assumes nothing.
-use mathlib.Core.Path.{_≡_, refl, sym, ap, _∙_}
-use mathlib.Core.Bool.{Bool, true, false}
+use mathlib.Core.Path.{_≡_, refl}
 use mathlib.Core.List.{List, [], _∷_, _++_}
 use Prim.Native.Nat.{ℕ, _+_, _*_, _/_, _≤_, _<_, max}
 use native.Mathlib.Omega.{arith}
 use lib.Dec.{ltb}
-use borrow.Author.Tests.{eqb-true, ltb-false, lt-ltb, le-ltb, ne-eqb, not-false}
+use borrow.Author.Tests.{eqb-true, lt-ltb, le-ltb, ne-eqb, not-false}
 use lib.ListN.{length, take, drop, replicate}
 use lib.Seq.{take-at, drop-at}
 use Rattle.magnetar_field.specs.Words.{elements}
@@ -14,7 +13,7 @@ use Rattle.magnetar_r1cs.specs.Packed.{loginWords, unpacked}
 use Rattle.magnetar_r1cs.specs.RowCheck.{verdict}
 use Rattle.magnetar_layout.specs.Tests.{Tests, note, noted}
 use Rattle.magnetar_layout.proofs.Noted.{noted-front, noted-late, noted-clear, turned, done}
-use Rattle.magnetar_layout.proofs.SizeLaws.{Sized, not-bad}
+use Rattle.magnetar_layout.proofs.SizeLaws.{not-bad}
 use Rattle.magnetar_batch.specs.Systems.{Lent3, systemsTests}
 use Rattle.magnetar_batch.specs.Check.{Outcome, relation, batchSizes, checkRefusal, checkAnswer, checkScratch}
 use Rattle.magnetar_batch.specs.Check.Outcome.{judged, refused}

@@ -1,9 +1,9 @@
 -- The walk over a matrix's entries by columns, with its factors behind the table.
 -- Assumes nothing.
 use mathlib.Core.Path.{_≡_, refl, sym, ap, _∙_}
-use mathlib.Core.Bool.{Bool, true, false, cond, _&&_}
-use mathlib.Core.List.{List, [], _∷_, _++_, map}
-use Prim.Native.Nat.{ℕ, zero, suc, _+_, _-_, _*_, _/_, _%_, _^_, _≤_, _<_}
+use mathlib.Core.Bool.{Bool, true, false, cond}
+use mathlib.Core.List.{List, [], _∷_, _++_}
+use Prim.Native.Nat.{ℕ, zero, suc, _+_, _-_, _*_, _^_, _≤_, _<_}
 use native.Mathlib.Nat.{le-of-suc-le-suc}
 use native.Mathlib.Omega.{arith}
 use lib.Dec.{eqb, ltb}
@@ -11,16 +11,15 @@ use borrow.Author.Tests.{ltb-true, ltb-false}
 use lib.ListN.{length, getD, set, take, drop, replicate, length-replicate, getD-replicate, List·getD-append, List·getD-eq-default}
 use lib.Seq.{getD-drop}
 use Rattle.magnetar_field.specs.Gf128.{_⊕_, _⊗_}
-use Rattle.magnetar_field.specs.Tabulate.{tabulate}
 use Rattle.magnetar_field.specs.Words.{elements, words}
-use Rattle.magnetar_field.specs.EqTable.{eqAt, eqTable, scaledTable}
+use Rattle.magnetar_field.specs.EqTable.{eqTable, scaledTable}
 use Rattle.magnetar_field.specs.Multilinear.{dot}
-use Rattle.magnetar_field.proofs.Xor.{xor, zero-⊕, ⊕-zero, ⊕-assoc}
+use Rattle.magnetar_field.proofs.Xor.{xor}
 use Rattle.magnetar_field.proofs.Product.{⊗-left-comm, ⊗-⊕, ⊗-zero}
-use Rattle.magnetar_field.proofs.Tabulation.{tabulate-get, tabulate-of, tabulate-ext}
+use Rattle.magnetar_field.proofs.Tabulation.{tabulate-get, tabulate-of}
 use Rattle.magnetar_field.proofs.EqTables.{eqTable-length, eqTable-get, scaled-length, scaled-get}
 use Rattle.magnetar_field.proofs.Elements.{elements-length}
-use Rattle.magnetar_r1cs.specs.Matrix.{Entry, Matrix, sumOver, rowTotal, share, timesAt, times, swapped, transpose, mleTable}
+use Rattle.magnetar_r1cs.specs.Matrix.{Entry, sumOver, rowTotal, share, timesAt, times, transpose, mleTable}
 use Rattle.magnetar_r1cs.specs.Lent.{Lent, entriesOf, matrixOf}
 use Rattle.magnetar_r1cs.specs.Table.{addedAt, raised}
 use Rattle.magnetar_layout.specs.Tests.{allBelow}

@@ -3,7 +3,7 @@
 use mathlib.Core.Path.{_≡_, refl, sym, ap, _∙_}
 use mathlib.Core.Bool.{Bool, true, false}
 use mathlib.Core.List.{List, [], _++_, append-nil}
-use Prim.Native.Nat.{ℕ, zero, suc, _+_, _-_, _*_, _/_, _%_, _^_, _≤_, _<_}
+use Prim.Native.Nat.{ℕ, zero, suc, _+_, _-_, _*_, _^_, _≤_, _<_}
 use native.Mathlib.Numerals.{add-one}
 use native.Mathlib.Omega.{arith}
 use lib.Dec.{ltb}
@@ -23,7 +23,7 @@ use Rattle.magnetar_r1cs.specs.Packed.{packedBit, loginPart, unpacked}
 use Rattle.magnetar_r1cs.specs.Table.{raised}
 use Rattle.magnetar_batch.specs.Fold.{rowSelect, foldSum}
 use Rattle.magnetar_r1cs.proofs.Digits.{bit-lt, ⊗-bit}
-use Rattle.magnetar_r1cs.proofs.TableLaws.{raised-is, raised-twice, raised-ext, raised-length, raised-get, raised-zeros}
+use Rattle.magnetar_r1cs.proofs.TableLaws.{raised-is, raised-twice, raised-length, raised-get, raised-zeros}
 use Rattle.magnetar_r1cs.proofs.LoginParts.{bit-unpacked, sum-ext}
 use Rattle.magnetar_batch.proofs.Selected.{row-in}
 use Rattle.magnetar_batch.proofs.Rooms.{front-kept, behind-is, zeros-front, take-raised}

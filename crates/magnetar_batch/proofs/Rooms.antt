@@ -2,22 +2,21 @@
 -- Assumes nothing.
 use mathlib.Core.Path.{_≡_, refl, sym, ap, _∙_}
 use mathlib.Core.List.{List, [], _∷_, _++_, append-nil}
-use Prim.Native.Nat.{ℕ, zero, suc, _+_, _-_, _*_, _/_, _%_, _^_, _≤_, _<_}
+use Prim.Native.Nat.{ℕ, zero, suc, _+_, _-_, _*_, _%_, _^_, _≤_, _<_}
 use native.Mathlib.Nat.{le-of-suc-le-suc}
 use native.Mathlib.Omega.{arith}
-use lib.ListN.{length, getD, take, drop, replicate, length-take, length-drop, length-replicate, drop-of-length-le}
+use lib.ListN.{length, getD, take, drop, replicate, length-drop, drop-of-length-le}
 use lib.Seq.{take-all, take-at, drop-at, drop-drop, length-take-le, getD-take}
 use lib.Pow.{split}
 use borrow.Rule.Slice.PartMut.{putMid}
-use Rattle.magnetar_field.specs.Gf128.{_⊕_}
 use Rattle.magnetar_field.specs.Tabulate.{tabulate}
 use Rattle.magnetar_field.specs.Words.{elements, words}
 use Rattle.magnetar_field.specs.EqTable.{scaledTable}
 use Rattle.magnetar_field.specs.Entries.{eqRefusal, scaledOut, tableWords}
-use Rattle.magnetar_field.proofs.Elements.{elements-length, elements-drop, words-elements}
+use Rattle.magnetar_field.proofs.Elements.{elements-drop, words-elements}
 use Rattle.magnetar_field.proofs.Refusals.{eq-none}
 use Rattle.magnetar_r1cs.specs.Table.{raised}
-use Rattle.magnetar_r1cs.proofs.TableLaws.{elements-zero, raised-length, raised-get, raised-is, raised-zeros}
+use Rattle.magnetar_r1cs.proofs.TableLaws.{elements-zero, raised-length, raised-get, raised-is}
 
 -- ---- the part behind the first k words, lent and back
 pub back-part : (s : List ℕ) (k : ℕ) → take (length s - k) (drop k s) ≡ drop k s

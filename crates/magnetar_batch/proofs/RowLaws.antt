@@ -1,20 +1,18 @@
 -- The rows of a login: z at a column, products one behind the other, and the first row that does not hold.
 -- Assumes nothing.
-use mathlib.Core.Path.{_≡_, refl, sym, ap, ap₂, _∙_}
+use mathlib.Core.Path.{_≡_, refl, sym, ap, _∙_}
 use mathlib.Core.Bool.{Bool, true, false, cond, false≢true}
 use mathlib.Core.List.{List, [], _∷_, _++_}
-use Prim.Native.Nat.{ℕ, zero, suc, _+_, _-_, _*_, _/_, _%_, _^_, _≤_, _<_, suc-le-suc}
-use native.Mathlib.Nat.{zero-lt-suc, le-of-suc-le-suc, div-lt-iff-lt-mul, mul-comm}
-use native.Mathlib.Numerals.{add-one, sub-one}
+use Prim.Native.Nat.{ℕ, zero, suc, _+_, _-_, _*_, _/_, _^_, _≤_, _<_, suc-le-suc}
+use native.Mathlib.Nat.{zero-lt-suc, div-lt-iff-lt-mul, mul-comm}
 use native.Mathlib.Omega.{arith}
 use lib.Dec.{eqb, ltb}
 use borrow.Author.Tests.{eqb-true, eqb-false, eq-eqb, ne-eqb, ltb-true, ltb-false, lt-ltb, le-ltb}
 use lib.ListN.{length, getD, take, drop, replicate, List·getD-append, length-append, length-drop}
 use lib.Seq.{getD-append-add, length-take-le}
-use Rattle.magnetar_field.specs.Gf128.{_⊕_, _⊗_}
+use Rattle.magnetar_field.specs.Gf128.{_⊗_}
 use Rattle.magnetar_field.specs.Tabulate.{tabulate}
 use Rattle.magnetar_field.specs.Words.{elements, words}
-use Rattle.magnetar_field.proofs.Product.{⊗-one}
 use Rattle.magnetar_field.proofs.Elements.{words-append}
 use Rattle.magnetar_field.proofs.Tabulation.{tabulate-length, tabulate-get}
 use Rattle.magnetar_r1cs.specs.Matrix.{Entry, rowTotal, share, timesAt}
@@ -29,23 +27,6 @@ use Rattle.magnetar_r1cs.proofs.Verdicts.{first-le, first-before, first-not, fi
 use Rattle.magnetar_r1cs.proofs.TableLaws.{elements-words, cleared-raised}
 use Rattle.magnetar_batch.specs.Systems.{Lent3, systemOf}
 use Rattle.magnetar_batch.specs.Rows.{zOf, holdsAt, rowOf, loginRow, loginOf}
-
--- ---- elements compared word by word
-pub differ : (l h l′ h′ : ℕ) → l < 2 ^ 64 → l′ < 2 ^ 64 → (h ≡ h′ → ⊥) → eqb (h * 2 ^ 64 + l) (h′ * 2 ^ 64 + l′) ≡ false
-differ l h l′ h′ p q n = ne-eqb (h * 2 ^ 64 + l) (h′ * 2 ^ 64 + l′) apart
-  where
-    apart : h * 2 ^ 64 + l ≡ h′ * 2 ^ 64 + l′ → ⊥
-    apart e = n (omega arith)
-
-pub compared : (l h l′ h′ : ℕ) → h ≡ h′ → eqb (h * 2 ^ 64 + l) (h′ * 2 ^ 64 + l′) ≡ eqb l l′
-compared l h l′ h′ e = go (eqb l l′) refl
-  where
-    go : (b : Bool) → eqb l l′ ≡ b → eqb (h * 2 ^ 64 + l) (h′ * 2 ^ 64 + l′) ≡ b
-    go true t = eq-eqb _ _ (ap₂ (λ (x y : ℕ). x * 2 ^ 64 + y) e (eqb-true l l′ t))
-    go false t = ne-eqb (h * 2 ^ 64 + l) (h′ * 2 ^ 64 + l′) apart
-      where
-        apart : h * 2 ^ 64 + l ≡ h′ * 2 ^ 64 + l′ → ⊥
-        apart q = eqb-false l l′ t (omega arith)
 
 -- ---- z at a column
 module _ (w : ℕ) (ws x : List ℕ) (c : ℕ) where

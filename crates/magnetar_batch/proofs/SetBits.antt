@@ -1,8 +1,8 @@
 -- The lowest set bit of a number, and the number without it.
 -- Assumes nothing.
-use mathlib.Core.Path.{_≡_, refl, sym, ap, ap₂, _∙_}
-use Prim.Native.Nat.{ℕ, zero, suc, _+_, _-_, _*_, _/_, _%_, _^_, _≤_, _<_, min}
-use native.Mathlib.Nat.{pow-suc, zero-div, mul-div-cancel, zero-mul, le-trans, lt-of-lt-of-le, mod-lt}
+use mathlib.Core.Path.{_≡_, refl, sym, ap, _∙_}
+use Prim.Native.Nat.{ℕ, zero, suc, _+_, _-_, _*_, _/_, _%_, _^_, _≤_, _<_}
+use native.Mathlib.Nat.{pow-suc, lt-of-lt-of-le, mod-lt}
 use native.Mathlib.Omega.{arith}
 use lib.Count.{trailingZeros, under}
 use lib.Bits.{bitAnd, and-step, and-self, and-le-r}

@@ -1,20 +1,18 @@
 -- Chains of tests, and what is known of two systems that passed them.
 -- Assumes nothing.
 use mathlib.Core.Path.{_≡_, refl, sym, ap, _∙_}
-use mathlib.Core.Bool.{Bool, true, false}
+use mathlib.Core.Bool.{true}
 use mathlib.Core.List.{List, [], _∷_, _++_}
-use Prim.Native.Nat.{ℕ, _+_, _*_, _/_, _%_, _^_, _≤_, _<_, max}
+use Prim.Native.Nat.{ℕ, _+_}
 use native.Mathlib.Omega.{arith}
-use borrow.Author.Tests.{eqb-true, ltb-false, not-false}
+use borrow.Author.Tests.{eqb-true, not-false}
 use lib.ListN.{length}
-use Rattle.magnetar_field.specs.Sizes.{log₂}
 use Rattle.magnetar_r1cs.specs.Lent.{Lent}
 use Rattle.magnetar_layout.specs.Tests.{Tests, noted, allBelow, columnTests, counted, placed}
-use Rattle.magnetar_layout.proofs.Noted.{noted-append, noted-clear, numbered, Clear}
+use Rattle.magnetar_layout.proofs.Noted.{noted-append, noted-clear, Clear}
 use Rattle.magnetar_layout.proofs.SizeLaws.{Sized, not-bad}
 use Rattle.magnetar_r1cs.proofs.Lone.{flipped}
-use Rattle.magnetar_r1cs.proofs.Points.{log-most}
-use Rattle.magnetar_batch.specs.Systems.{Lent3, rows3, cols3, counted3, placed3, systemsTests, pointTests}
+use Rattle.magnetar_batch.specs.Systems.{Lent3, rows3, cols3, counted3, placed3, systemsTests}
 use Rattle.magnetar_batch.specs.Columns.{Placed, Fit}
 use Rattle.magnetar_batch.proofs.ColumnLaws.{Wide}
 

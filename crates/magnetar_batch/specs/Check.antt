@@ -1,6 +1,5 @@
 -- The answer of the plain row check.
 -- Assumes nothing.
-use mathlib.Core.Bool.{not}
 use mathlib.Core.List.{List, [], _∷_, _++_}
 use Prim.Native.Nat.{ℕ, _+_, _*_, _/_, max}
 use lib.Dec.{ltb}

@@ -1,11 +1,10 @@
 -- What the fold of a login's words adds to a table: an element at each column whose bit is set.
 -- Assumes nothing.
-use mathlib.Core.Bool.{cond, _&&_}
+use mathlib.Core.Bool.{cond}
 use mathlib.Core.List.{List}
 use Prim.Native.Nat.{ℕ, _*_, _-_, _/_, _%_, _^_}
 use lib.Dec.{ltb, leb}
-use lib.ListN.{length, getD}
-use Rattle.magnetar_field.specs.Gf128.{_⊗_}
+use lib.ListN.{getD}
 use Rattle.magnetar_r1cs.specs.Sum.{sumBelow}
 use Rattle.magnetar_r1cs.specs.Packed.{packedBit, loginPart}
 

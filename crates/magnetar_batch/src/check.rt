@@ -2,6 +2,7 @@
 use crate::combo;
 use magnetar_field::gf128;
 use magnetar_field::gf128::Gf128;
+use magnetar_field::sizes;
 use magnetar_field::words;
 use magnetar_layout::tests;
 use magnetar_r1cs::r1cs;
@@ -9,16 +10,16 @@ use magnetar_r1cs::walk;
 ghost use mathlib.Core.Path.{_≡_};
 ghost use mathlib.Core.Bool.{cond};
 ghost use mathlib.Core.List.{_++_};
-ghost use Prim.Native.Nat.{ℕ, _+_, _*_, _/_, _%_, _≤_, _<_};
-ghost use lib.Dec.{eqb, ltb};
-ghost use lib.ListN.{length, getD, replicate};
+ghost use Prim.Native.Nat.{_+_, _*_, _/_, _≤_, _<_};
+ghost use lib.Dec.{ltb};
+ghost use lib.ListN.{length, getD};
 ghost use Rattle.magnetar_field.specs.Gf128.{value, _⊗_};
 ghost use Rattle.magnetar_field.specs.Words.{elements, words};
 ghost use Rattle.magnetar_field.specs.Tabulate.{tabulate};
 ghost use Rattle.magnetar_r1cs.specs.Matrix.{rowTotal, share};
 ghost use Rattle.magnetar_r1cs.specs.Lent.{lent, entriesOf};
 ghost use Rattle.magnetar_r1cs.specs.Table.{raised, Equal};
-ghost use Rattle.magnetar_r1cs.specs.Packed.{packedBit, loginWords, unpacked};
+ghost use Rattle.magnetar_r1cs.specs.Packed.{loginWords, unpacked};
 ghost use Rattle.magnetar_r1cs.specs.RowCheck.{firstNot, verdict};
 ghost use Rattle.magnetar_layout.specs.Tests.{noted};
 ghost use Rattle.magnetar_batch.specs.Systems.{system};
@@ -33,17 +34,6 @@ pub enum RowCheck {
     Refused(u32),
 }
 
-// The bit at column c of a login's words.
-fn bit_at(login: &[u64], c: usize) -> u64
-    ensures { λ r. ⌜ (r ≡ packedBit (now (login .entry)) c) × (r < 2) ⌝ }
-{
-    let k = c / 64;
-    if k < login.len() {
-        return (login[k] >> (c % 64)) % 2;
-    }
-    0
-}
-
 // v times z at column c, z being the login's bits below w, then 1 and x. A product only with an element of x.
 fn term(v: Gf128, c: usize, w: usize, login: &[u64], x: &[u64]) -> Gf128
     ensures { λ r. ⌜ value r ≡ value v ⊗ getD (zOf w (now (login .entry)) (elements (now (x .entry)))) c 0 ⌝ }
@@ -52,7 +42,7 @@ fn term(v: Gf128, c: usize, w: usize, login: &[u64], x: &[u64]) -> Gf128
         return gf128::mul_bit(
             v,
             Gf128 {
-                lo: bit_at(login, c),
+                lo: walk::bit_at(login, c),
                 hi: 0,
             },
         );
@@ -181,16 +171,6 @@ fn products3(
     );
 }
 
-// Whether two elements are the same.
-fn same(a: Gf128, b: Gf128) -> bool
-    ensures { λ r. ⌜ r ≡ eqb (value a) (value b) ⌝ }
-{
-    if a.hi != b.hi {
-        return false;
-    }
-    a.lo == b.lo
-}
-
 // The first row that does not hold of n rows, or n.
 fn first_failing(s: &[u64], n: usize) -> usize
     requires { ⌜ n ≤ 65536 ⌝ }
@@ -199,7 +179,7 @@ fn first_failing(s: &[u64], n: usize) -> usize
     let mut row = 0;
     while row < n {
         let p = gf128::mul(words::get(s, row), words::get(s, n + row));
-        if !same(p, words::get(s, 2 * n + row)) {
+        if !gf128::equal(p, words::get(s, 2 * n + row)) {
             return row;
         }
         row += 1;
@@ -537,7 +517,7 @@ pub fn row_check(
     if z != 0 {
         return RowCheck::Refused(z);
     }
-    let end = 6 * combo::larger(abrows, afrows);
+    let end = 6 * sizes::larger(abrows, afrows);
     if scratch.len() < end {
         return RowCheck::Refused(15);
     }

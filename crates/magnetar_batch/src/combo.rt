@@ -11,7 +11,7 @@ use magnetar_layout::tests;
 use magnetar_r1cs::walk;
 ghost use mathlib.Core.Path.{_≡_};
 ghost use mathlib.Core.List.{_++_};
-ghost use Prim.Native.Nat.{ℕ, _+_, _-_, _*_, _%_, _≤_, max};
+ghost use Prim.Native.Nat.{_+_, _-_, _*_, _≤_};
 ghost use lib.ListN.{length, getD, take, drop, replicate};
 ghost use Rattle.magnetar_field.specs.Gf128.{value};
 ghost use Rattle.magnetar_field.specs.Words.{elements, words};
@@ -192,13 +192,6 @@ fn combine(
     room::clear_behind(s, 2 * m);
 }
 
-// The larger of two numbers.
-pub(crate) fn larger(a: usize, b: usize) -> usize
-    ensures { λ r. ⌜ r ≡ max a b ⌝ }
-{
-    if a < b { b } else { a }
-}
-
 // 1, 4, 5, 6 and 7 of both systems.
 pub fn systems_refusal(
     m: usize,
@@ -324,7 +317,7 @@ fn points_refusal(
     let z = tests::note(0, 11, alphas.len() != 12);
     let z = tests::note(z, 11, pb.len() != 2 * sizes::log2(nb));
     let z = tests::note(z, 11, pf.len() != 2 * sizes::log2(nf));
-    tests::note(z, 15, room < 2 * m + 2 * larger(nb, nf))
+    tests::note(z, 15, room < 2 * m + 2 * sizes::larger(nb, nf))
 }
 
 // The combined table within one slice, in its first 2m words; the next 2R words, R being the larger row count, are 0 at exit. 1, 4
@@ -421,7 +414,7 @@ pub fn combine_in(
     if n != 0 {
         return n;
     }
-    let end = 2 * m + 2 * larger(abrows, afrows);
+    let end = 2 * m + 2 * sizes::larger(abrows, afrows);
     combine(
         &mut s[..end],
         m,
@@ -555,7 +548,7 @@ pub fn build_m_combo(
     if n != 0 {
         return n;
     }
-    let end = 2 * m + 2 * larger(abrows, afrows);
+    let end = 2 * m + 2 * sizes::larger(abrows, afrows);
     let k = 2 * m;
     combine(
         &mut scratch[..end],

@@ -40,8 +40,8 @@ pub(crate) fn select(v: Gf128, bit: u64) -> Gf128
     gf128::mul_bit(v, Gf128 { lo: bit, hi: 0 })
 }
 
-// The bit at column c of a login's words.
-pub(crate) fn bit_at(login: &[u64], c: usize) -> u64
+// The bit at column c of a login's words, 0 where they have no such column.
+pub fn bit_at(login: &[u64], c: usize) -> u64
     ensures { λ r. ⌜ r ≡ packedBit (now (login .entry)) c ⌝ }
     ensures { λ r. ⌜ r < 2 ⌝ }
 {

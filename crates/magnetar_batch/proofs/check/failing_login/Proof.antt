@@ -1,7 +1,7 @@
 -- `magnetar_batch::check::failing_login` meets its contract.
 -- Assumes nothing.
-use mathlib.Core.Path.{_≡_, refl, sym, ap, _∙_}
-use Prim.Native.Nat.{_+_, _*_, _-_, _≤_, _<_}
+use mathlib.Core.Path.{_≡_, refl, _∙_}
+use Prim.Native.Nat.{_-_, _≤_}
 use native.Mathlib.Omega.{arith}
 use lib.Dec.{eqb}
 use lib.ListN.{length}
@@ -9,7 +9,7 @@ use denote.Ref.{now}
 use Rattle.magnetar_field.specs.Words.{elements}
 use Rattle.magnetar_r1cs.specs.Lent.{entriesOf}
 use Rattle.magnetar_r1cs.specs.Packed.{loginWords}
-use Rattle.magnetar_r1cs.proofs.LoginParts.{Part, part-of, part-is, words-most}
+use Rattle.magnetar_r1cs.proofs.LoginParts.{part-of, part-is, words-most}
 use Rattle.magnetar_batch.specs.Rows.{loginRow}
 use Rattle.magnetar_batch.proofs.RowLaws.{Below, below-start, login-found, login-more, login-none}
 use borrow.Author.Needs.{needs}

@@ -1,6 +1,6 @@
 -- `magnetar_batch::check::failing_row` meets its contract.
 -- Assumes nothing.
-use mathlib.Core.Path.{_≡_, sym, _∙_}
+use mathlib.Core.Path.{_∙_}
 use Rattle.magnetar_batch.proofs.RowLaws.{row-is}
 use borrow.Author.Needs.{needs}
 use Rattle.magnetar_batch.proofs.check.failing_row.Statement.{statement}

@@ -1,6 +1,6 @@
 -- `magnetar_batch::check::first_failing` meets its contract.
 -- Assumes nothing.
-use mathlib.Core.Path.{_≡_, refl, sym, ap, _∙_}
+use mathlib.Core.Path.{sym, _∙_}
 use Prim.Native.Nat.{_-_, _≤_}
 use native.Mathlib.Omega.{arith}
 use borrow.Author.Tests.{not-true, not-false}
@@ -42,8 +42,8 @@ add-get-2 c = search needs
 get-requires-3 : tie.Need-get-requires-3 Inv-loop μ-loop
 get-requires-3 c κs = search needs
 
-same-requires : tie.Need-same-requires Inv-loop μ-loop
-same-requires c κs = search needs
+equal-requires : tie.Need-equal-requires Inv-loop μ-loop
+equal-requires c κs = search needs
 
 returns : tie.Need-returns Inv-loop μ-loop
 unfolding holdsAt
@@ -51,7 +51,7 @@ returns c =
     let x = (c .before .before .before .before .before .before .before .before .before .args) in
     let l = (c .before .before .before .before .before .before .before .loop) in
     first-is (holdsAt (elements (now (x .s))) (x .n)) (x .n) (l .row) (omega arith) (l .inv .1)
-    (rw (← c .before .before .before .before .before .get .ensures, ← c .before .before .before .before .get2 .ensures, ← c .before .before .get3 .ensures, ← c .before .before .before .mul .ensures) (sym (c .before .same .ensures) ∙ not-true _ (c .if1 .taken)))
+    (rw (← c .before .before .before .before .before .get .ensures, ← c .before .before .before .before .get2 .ensures, ← c .before .before .get3 .ensures, ← c .before .before .before .mul .ensures) (sym (c .before .equal .ensures) ∙ not-true _ (c .if1 .taken)))
 
 add-row : tie.Need-add-row Inv-loop μ-loop
 add-row c = search needs
@@ -66,7 +66,7 @@ loop-again c =
     let l = (c .before .before .before .before .before .before .before .loop) in (
       omega arith,
       below-more (holdsAt (elements (now (x .s))) (x .n)) (l .row) (l .inv .1)
-          (rw (← c .before .before .before .before .before .get .ensures, ← c .before .before .before .before .get2 .ensures, ← c .before .before .get3 .ensures, ← c .before .before .before .mul .ensures) (sym (c .before .same .ensures) ∙ not-false _ (c .if1 .left))),
+          (rw (← c .before .before .before .before .before .get .ensures, ← c .before .before .before .before .get2 .ensures, ← c .before .before .get3 .ensures, ← c .before .before .before .mul .ensures) (sym (c .before .equal .ensures) ∙ not-false _ (c .if1 .left))),
     )
 
 returns-2 : tie.Need-returns-2 Inv-loop μ-loop
@@ -89,7 +89,7 @@ first-failing-spec =
     mul-get
     add-get-2
     get-requires-3
-    same-requires
+    equal-requires
     returns
     add-row
     loop-less

@@ -1,17 +1,15 @@
 -- `magnetar_batch::check::judge` meets its contract.
 -- Assumes nothing.
-use mathlib.Core.Path.{_≡_, refl, sym, ap, _∙_}
-use Prim.Native.Nat.{ℕ, _*_, _≤_}
+use mathlib.Core.Path.{sym, ap, _∙_}
+use Prim.Native.Nat.{_*_}
 use native.Mathlib.Omega.{arith}
-use lib.ListN.{length}
 use lib.Seq.{length-take-le}
 use denote.Ref.{now}
 use Rattle.magnetar_field.specs.Words.{elements}
 use Rattle.magnetar_r1cs.specs.Lent.{lent}
 use Rattle.magnetar_batch.specs.Systems.{Lent3, system}
 use Rattle.magnetar_batch.specs.Check.{judged}
-use Rattle.magnetar_batch.proofs.RowLaws.{Found, judged-bin, judged-fld, judged-good, whole-kept}
-use borrow.Author.Needs.{needs}
+use Rattle.magnetar_batch.proofs.RowLaws.{judged-bin, judged-fld, judged-good, whole-kept}
 use Rattle.magnetar_batch.proofs.check.judge.Statement.{statement}
 use Rattle.magnetar_batch.proofs.check.judge.Tie as tie
 

@@ -1,12 +1,12 @@
 -- `magnetar_batch::check::products2` meets its contract.
 -- Assumes nothing.
-use mathlib.Core.Path.{_≡_, refl, sym, ap, _∙_}
+use mathlib.Core.Path.{sym, _∙_}
 use Prim.Native.Nat.{_*_, _≤_}
 use native.Mathlib.Omega.{arith}
-use lib.ListN.{length, length-drop}
+use lib.ListN.{length}
 use lib.Seq.{length-take-le}
 use denote.Ref.{now}
-use Rattle.magnetar_r1cs.proofs.Parts.{behind, both-parts}
+use Rattle.magnetar_r1cs.proofs.Parts.{both-parts}
 use borrow.Author.Needs.{needs}
 use Rattle.magnetar_batch.proofs.check.products2.Statement.{statement}
 use Rattle.magnetar_batch.proofs.check.products2.Tie as tie

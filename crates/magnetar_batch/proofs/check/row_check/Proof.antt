@@ -1,6 +1,6 @@
 -- `magnetar_batch::check::row_check` meets its contract.
 -- Assumes nothing.
-use mathlib.Core.Path.{_≡_, refl, sym, ap, _∙_}
+use mathlib.Core.Path.{_≡_, sym, _∙_}
 use Prim.Native.Nat.{ℕ, _*_, _≤_, max}
 use native.Mathlib.Nat.{le-max-left, le-max-right, mul-le-mul-left}
 use native.Mathlib.Omega.{arith}

@@ -1,13 +1,13 @@
 -- `magnetar_batch::combo::add_columns` meets its contract.
 -- Assumes nothing.
-use mathlib.Core.Path.{_≡_, refl, sym, ap, _∙_}
-use Prim.Native.Nat.{_+_, _*_, _-_, _≤_, _<_}
+use mathlib.Core.Path.{_≡_, refl}
+use Prim.Native.Nat.{_-_, _<_}
 use native.Mathlib.Omega.{arith}
 use lib.ListN.{length, getD, drop}
 use denote.Ref.{now}
 use Rattle.magnetar_field.specs.Words.{elements}
 use Rattle.magnetar_r1cs.specs.Matrix.{share}
-use Rattle.magnetar_r1cs.specs.Lent.{entry, entriesOf}
+use Rattle.magnetar_r1cs.specs.Lent.{entriesOf}
 use Rattle.magnetar_r1cs.proofs.TableLaws.{added-in}
 use Rattle.magnetar_r1cs.proofs.Walked.{Walked, walked-start, walked-more, walked-end, entry-at, entries-end}
 use Rattle.magnetar_batch.proofs.ColumnLaws.{behind-stays, factor-at, below-at}

@@ -1,8 +1,6 @@
 -- `magnetar_batch::combo::add_system` meets its contract.
 -- Assumes nothing.
-use mathlib.Core.Path.{_≡_, refl, sym, ap, _∙_}
-use lib.ListN.{length}
-use denote.Ref.{now}
+use mathlib.Core.Path.{_∙_}
 use Rattle.magnetar_batch.proofs.SystemLaws.{fit-kept}
 use borrow.Author.Needs.{needs}
 use Rattle.magnetar_batch.proofs.combo.add_system.Statement.{statement}

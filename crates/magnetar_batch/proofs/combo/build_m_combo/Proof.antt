@@ -4,7 +4,7 @@ use Prim.Native.Nat.{_-_}
 use lib.ListN.{replicate}
 use Rattle.magnetar_field.specs.Words.{elements, words}
 use Rattle.magnetar_batch.proofs.Combos.{sums}
-use mathlib.Core.Path.{_≡_, refl, sym, ap, _∙_}
+use mathlib.Core.Path.{_≡_, sym, _∙_}
 use Prim.Native.Nat.{ℕ, _+_, _*_, _≤_, max}
 use native.Mathlib.Nat.{le-max-left, le-max-right, le-of-eq}
 use native.Mathlib.Omega.{arith}

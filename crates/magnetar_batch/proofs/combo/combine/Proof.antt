@@ -2,10 +2,10 @@
 -- Assumes nothing.
 use Rattle.magnetar_batch.specs.Columns.{column}
 use Rattle.magnetar_batch.proofs.ColumnLaws.{six-added}
-use mathlib.Core.Path.{_≡_, refl, sym, ap, _∙_}
-use Prim.Native.Nat.{ℕ, _+_, _-_, _*_, _/_, _≤_}
+use mathlib.Core.Path.{_≡_, _∙_}
+use Prim.Native.Nat.{_+_, _-_, _*_, _≤_}
 use native.Mathlib.Omega.{arith}
-use lib.ListN.{length, replicate}
+use lib.ListN.{length}
 use denote.Ref.{now}
 use Rattle.magnetar_field.specs.Words.{elements}
 use Rattle.magnetar_batch.proofs.SystemLaws.{fit-kept}

@@ -1,6 +1,6 @@
 -- `magnetar_batch::combo::combine_in` meets its contract.
 -- Assumes nothing.
-use mathlib.Core.Path.{_≡_, refl, sym, ap, _∙_}
+use mathlib.Core.Path.{_≡_, sym, _∙_}
 use Prim.Native.Nat.{ℕ, _+_, _*_, _≤_, max}
 use native.Mathlib.Nat.{le-max-left, le-max-right, le-of-eq}
 use native.Mathlib.Omega.{arith}
@@ -9,7 +9,6 @@ use lib.Seq.{length-take-le}
 use denote.Ref.{now}
 use Rattle.magnetar_r1cs.specs.Lent.{lent}
 use Rattle.magnetar_batch.specs.Systems.{Lent3, system}
-use Rattle.magnetar_batch.specs.Entries.{behindWords}
 use Rattle.magnetar_batch.proofs.SystemLaws.{Fits6, fits6}
 use Rattle.magnetar_batch.proofs.Combos.{Points, points, fit-of, combo-in, combo-early, combo-late, combo-kept}
 use borrow.Author.Needs.{needs}

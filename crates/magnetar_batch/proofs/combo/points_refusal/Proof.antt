@@ -1,7 +1,6 @@
 -- `magnetar_batch::combo::points_refusal` meets its contract.
 -- Assumes nothing.
 use native.Mathlib.Omega.{arith}
-use Prim.Native.Nat.{_<_, _≤_, max}
 use Rattle.magnetar_field.proofs.Log2.{log₂-lt}
 use borrow.Author.Needs.{needs}
 use Rattle.magnetar_batch.proofs.combo.points_refusal.Statement.{statement}

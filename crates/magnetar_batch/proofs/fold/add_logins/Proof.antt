@@ -1,7 +1,7 @@
 -- `magnetar_batch::fold::add_logins` meets its contract.
 -- Assumes nothing.
-use mathlib.Core.Path.{_≡_, refl, sym, ap, _∙_}
-use Prim.Native.Nat.{_+_, _*_, _≤_, _<_, _-_}
+use mathlib.Core.Path.{_≡_, refl}
+use Prim.Native.Nat.{_≤_, _-_}
 use native.Mathlib.Omega.{arith}
 use lib.ListN.{length}
 use denote.Ref.{now}
@@ -9,7 +9,7 @@ use Rattle.magnetar_field.specs.Words.{elements}
 use Rattle.magnetar_r1cs.specs.Packed.{loginWords}
 use Rattle.magnetar_r1cs.specs.Table.{raised}
 use Rattle.magnetar_batch.specs.Fold.{foldSum}
-use Rattle.magnetar_r1cs.proofs.LoginParts.{Part, part-of, part-is, words-most}
+use Rattle.magnetar_r1cs.proofs.LoginParts.{part-of, part-is, words-most}
 use Rattle.magnetar_batch.proofs.Folds.{logins-start, logins-more}
 use borrow.Author.Needs.{needs}
 use Rattle.magnetar_batch.proofs.fold.add_logins.Statement.{statement}

@@ -1,17 +1,15 @@
 -- `magnetar_batch::fold::fold_packed_w` meets its contract.
 -- Assumes nothing.
-use mathlib.Core.Path.{_≡_, refl, sym, ap, _∙_}
-use mathlib.Core.Bool.{not}
-use mathlib.Core.List.{List, _++_}
-use Prim.Native.Nat.{ℕ, _+_, _*_, _≤_, _/_}
+use mathlib.Core.Path.{_≡_, refl, sym, _∙_}
+use mathlib.Core.List.{_++_}
+use Prim.Native.Nat.{_+_, _*_, _≤_}
 use native.Mathlib.Omega.{arith}
-use lib.Dec.{eqb, ltb}
-use lib.ListN.{length, length-take}
+use lib.ListN.{length}
 use lib.Seq.{length-take-le}
 use borrow.Author.Tests.{ltb-false, eqb-true, not-false}
 use denote.Ref.{now}
 use Rattle.magnetar_field.specs.Sizes.{log₂}
-use Rattle.magnetar_layout.specs.Tests.{Tests, noted, loneTests, lengthTest, roomTest}
+use Rattle.magnetar_layout.specs.Tests.{Tests, noted, lengthTest, roomTest}
 use Rattle.magnetar_layout.proofs.SizeLaws.{Sized}
 use Rattle.magnetar_r1cs.proofs.Points.{point-of, log-most}
 use Rattle.magnetar_r1cs.specs.Packed.{loginWords}

@@ -3,7 +3,7 @@
 use mathlib.Core.Path.{_≡_, _∙_, ap}
 use Prim.Native.Nat.{ℕ, _-_}
 use mathlib.Core.List.{List, _++_}
-use lib.ListN.{length, take, drop, replicate, length-drop}
+use lib.ListN.{length, take, replicate, length-drop}
 use denote.Ref.{now}
 use Rattle.magnetar_batch.proofs.Rooms.{back-put, back-part}
 use borrow.Author.Needs.{needs}
