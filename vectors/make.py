@@ -60,20 +60,14 @@ class Lines:
     """Lines of queries with their answers, in sections that begin with a note."""
 
     def __init__(self):
-        self.queries, self.answers, self.section = [], [], {}
+        self.queries, self.answers = [], []
 
-    def said(self, query, *answers):
-        """A query with its answers; one that its section has already is not written again."""
-        if query in self.section:
-            assert self.section[query] == answers, query
-            return
-        self.section[query] = answers
+    def written(self, query, *answers):
         self.queries.append(query)
         self.answers += answers
 
     def note(self, text):
-        self.section = {}
-        self.said(f"# {text}", f"# {text}")
+        self.written(f"# {text}", f"# {text}")
 
     def write(self, crate):
         (TOP / "crates" / crate / "stdin").write_text("".join(f"{q}\n" for q in self.queries))
@@ -85,7 +79,18 @@ class Sheet(Lines):
 
     def __init__(self, oracle, fieldops, sumops):
         super().__init__()
+        self.section = {}
         self.commands = {"oracle": Rust(oracle, "ops"), "fieldops": Rust(fieldops), "sumops": Rust(sumops)}
+
+    def note(self, text):
+        self.section = {}
+        super().note(text)
+
+    def said(self, query, *answers):
+        """A query with its answers; one that its section has already is not written again."""
+        if query not in self.section:
+            self.written(query, *answers)
+        assert self.section.setdefault(query, answers) == answers, query
 
     def rust(self, command, query):
         """A query that the Rust answers; the words of the answer."""
