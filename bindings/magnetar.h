@@ -32,7 +32,7 @@ enum {
     MAGNETAR_LAYOUT = 9,          /* the layout ends past m / 2 */
     MAGNETAR_SEGMENTS = 10,       /* over 64 segments */
     MAGNETAR_LENGTH = 11,         /* a point, vector or table is not of the wanted length, or has no such variable */
-    MAGNETAR_MASKS = 12,          /* masks of values that are no bits (no function here gives it) */
+    MAGNETAR_MASKS = 12,          /* masks of a value over 1 or of a column past m/2 (no function here gives it) */
     MAGNETAR_V = 13,              /* masks for v over log2 q or over 6 (no function here gives it) */
     MAGNETAR_COUNTER = 14,        /* the transcript's counter is 2^32 or more */
     MAGNETAR_ROOM = 15,           /* an output or the scratch is too short */

@@ -35,6 +35,7 @@ compiled() {
         crate=$(basename "$crate")
         if [ -f "$copy/crates/$crate/src/lib.rt" ]; then words+=(--lib "$crate=$copy/crates/$crate/src/lib.rt"); fi
     done
+    rm -f "$copy/module.o"
     for crate in std io libc; do words+=(--lib "$crate=$kit/libs/$crate/src/lib.rt"); done
     "$own/bin/rattle-cases" --toolchain "$copy/toolchain" --stdin "$copy/nothing" --stdout "$copy/nothing" \
         "$copy/crates/$1/src/main.rt" --crate-name "$1" "${words[@]}" >"$copy/said" 2>&1 || { cat "$copy/said"; exit 1; }
@@ -42,14 +43,13 @@ compiled() {
 }
 
 compared() {
-    compiled magnetar_vectors
-    compiled magnetar_forms
-    compiled magnetar_cases
+    compiled magnetar_vectors && compiled magnetar_forms && compiled magnetar_cases || return
     RAYON_NUM_THREADS=1 target/compare/compare "$copy/bin" "$@" >"$copy/said" 2>/dev/null
 }
 
 fresh() {
-    rm -rf "$copy/crates"
+    rm -rf "$copy/crates" "$copy/said"
+    rm -f "$copy"/bin/*
     cp -R crates "$copy/crates"
 }
 
@@ -64,12 +64,14 @@ text = open(path).read()
 assert text.count(old) == 1, (path, old, text.count(old))
 open(path, "w").write(text.replace(old, new))
 P
-    if compared 60 1; then
+    # only a difference that the comparison names is a fault found: not a program that was not built, nor a run that failed
+    compared 60 1 || true
+    if grep -q '^DIFFERENT' "$copy/said" 2>/dev/null; then
+        echo "$1: $(tail -n 1 "$copy/said")"
+        grep '^DIFFERENT' "$copy/said" | sed 's/^DIFFERENT: /    /; s/; the smallest input:$//'
+    else
         echo "$1: NOT FOUND"
         missed=1
-    else
-        echo "$1: $(tail -n 1 "$copy/said")"
-        grep '^DIFFERENT' "$copy/said" | sed 's/^DIFFERENT: /    /; s/; the smallest input:$//' || true
     fi
 }
 

@@ -6,27 +6,15 @@ use magnetar_field::eq::{eq_build_fused, eq_char2, eq_table};
 use magnetar_field::gf128::{inv, is_bit, mul, mul_bit, pow, square, Gf128};
 use magnetar_field::multilinear::{bind_var, fold_pairs};
 
-fn list(words: &mut &[u64]) -> Vec<u64> {
-    let n = words[0] as usize;
-    let found = words[1..n + 1].to_vec();
-    *words = &words[n + 1..];
-    found
-}
+#[allow(dead_code)]
+#[path = "../compare/src/text.rs"]
+mod text;
 
-fn elements(words: &mut &[u64]) -> Vec<Gf128> {
-    list(words).chunks(2).map(|w| Gf128(w[0] as u128 | (w[1] as u128) << 64)).collect()
-}
+mod queries;
+use queries::{elements, list, numbers};
 
 fn text(elements: &[Gf128]) -> String {
-    let words = elements.iter().map(|e| format!(" {:#x} {:#x}", e.0 as u64, (e.0 >> 64) as u64));
-    format!("= {}{}", 2 * elements.len(), words.collect::<String>())
-}
-
-fn number(word: &str) -> u64 {
-    match word.strip_prefix("0x") {
-        Some(digits) => u64::from_str_radix(digits, 16).unwrap(),
-        None => word.parse().unwrap(),
-    }
+    format!("= {}", text::elements(elements))
 }
 
 fn answer(op: &str, words: &mut &[u64]) -> String {
@@ -61,7 +49,6 @@ fn main() {
     for line in std::io::stdin().lines() {
         let line = line.unwrap();
         let (op, rest) = line.split_once(' ').unwrap();
-        let words: Vec<u64> = rest.split(' ').map(number).collect();
-        println!("{}", answer(op, &mut &words[..]));
+        println!("{}", answer(op, &mut &numbers(rest)[..]));
     }
 }

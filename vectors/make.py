@@ -56,20 +56,41 @@ class Rust:
         return self.asks(query, 1)[0]
 
 
-class Sheet:
-    """Lines of queries with their answers."""
+class Lines:
+    """Lines of queries with their answers, in sections that begin with a note."""
 
-    def __init__(self, oracle, fieldops, sumops):
-        self.commands = {"oracle": Rust(oracle, "ops"), "fieldops": Rust(fieldops), "sumops": Rust(sumops)}
+    def __init__(self):
         self.queries, self.answers = [], []
 
-    def said(self, query, *answers):
-        """A query with the answers that are known otherwise."""
+    def written(self, query, *answers):
         self.queries.append(query)
         self.answers += answers
 
     def note(self, text):
-        self.said(f"# {text}", f"# {text}")
+        self.written(f"# {text}", f"# {text}")
+
+    def write(self, crate):
+        (TOP / "crates" / crate / "stdin").write_text("".join(f"{q}\n" for q in self.queries))
+        (TOP / "crates" / crate / "stdout").write_text("".join(f"{a}\n" for a in self.answers))
+
+
+class Sheet(Lines):
+    """Queries on single functions, and the commands that answer them."""
+
+    def __init__(self, oracle, fieldops, sumops):
+        super().__init__()
+        self.section = {}
+        self.commands = {"oracle": Rust(oracle, "ops"), "fieldops": Rust(fieldops), "sumops": Rust(sumops)}
+
+    def note(self, text):
+        self.section = {}
+        super().note(text)
+
+    def said(self, query, *answers):
+        """A query with its answers; one that its section has already is not written again."""
+        if query not in self.section:
+            self.written(query, *answers)
+        assert self.section.setdefault(query, answers) == answers, query
 
     def rust(self, command, query):
         """A query that the Rust answers; the words of the answer."""
@@ -80,10 +101,6 @@ class Sheet:
     def now(self, command, query):
         """The elements' words of the Rust's answer to a query that is not written down."""
         return self.commands[command].ask(query).split()[2:]
-
-    def write(self, crate):
-        (TOP / "crates" / crate / "stdin").write_text("".join(f"{q}\n" for q in self.queries))
-        (TOP / "crates" / crate / "stdout").write_text("".join(f"{a}\n" for a in self.answers))
 
 
 def rows(sheet):
@@ -107,6 +124,10 @@ def elements(sheet):
     pairs += [(1 << i, 1 << (127 - i)) for i in range(0, 128, 9)] + [(1 << i, 1 << (128 - i)) for i in range(1, 128, 9)]
     for a, b in pairs:
         sheet.rust("oracle", f"mul {listed([a, b])}")
+    sheet.note("logarithms of sizes, rounded down, and whether they are powers of two")
+    for n in sorted({0, 3, 5, 2**64 - 1} | {2**k + d for k in (0, 1, 2, 5, 16, 32, 62, 63) for d in (-1, 0, 1)}):
+        sheet.said(f"log2 {n}", f"= {max(n, 1).bit_length() - 1}")
+        sheet.said(f"ispower {n}", f"= {'true' if n and n & (n - 1) == 0 else 'false'}")
     sheet.note("chains of products")
     for n in [0, 1, 2, 1000, 100000]:
         sheet.rust("fieldops", f"chain {listed(some(2))} {n}")
@@ -291,6 +312,11 @@ def hashes(sheet):
             sheet.rust("oracle", " ".join(["new", hexed(protocol)] + [hexed(random_bytes(n)) for n in lens]))
     for total, lens in wrong:
         sheet.said(f"newlens 6162 {hexed(random_bytes(total))} {counted(lens)}", f"! 17 {'00' * 32} 0")
+    for lens in [[], [0], [5], [3, 0, 7]]:
+        data = bytes(range(sum(lens)))
+        cut = [data[sum(lens[:i]) : sum(lens[: i + 1])] for i in range(len(lens))]
+        answer = sheet.commands["oracle"].ask(" ".join(["new 6162"] + [hexed(part) for part in cut]))
+        sheet.said(f"newlens 6162 {hexed(data)} {counted(lens)}", answer)
 
 
 def counted(numbers):
@@ -459,6 +485,7 @@ def sumchecks(sheet):
             claim ^= c
         for wrong in [0, 1 << 64]:
             sheet.rust("sumops", f"round {listed(message)} {listed([claim ^ wrong] + some(1))}")
+    captures(sheet)
     sheet.note("terminal values: true ones, and damaged in each; a factor of 0")
     product = lambda x, y: element(sheet.now("oracle", f"mul {listed([x, y])}"))
     for e, a, b, c in [some(4), some(4), [0] + some(3), some(1) + [0] + some(2), some(3) + [0]]:
@@ -483,6 +510,22 @@ def sumchecks(sheet):
     for k, t, r in [some(3), [1] + some(2), some(1) + [1, 0], some(1) + [1, 1], [0] + some(2)]:
         sheet.said(f"eqnext {listed([k, t, r])}", f"= {listed([product(k, 1 ^ t ^ r)])}")
     lent_rounds(sheet)
+
+
+def captures(sheet):
+    sheet.note("a round that draws its challenge: right messages of degree 0 to 5, and wrong ones, after which the transcript is as it was")
+    dice = random.Random(20240220)
+    for degree in range(6):
+        message = [dice.getrandbits(128) for _ in range(degree + 1)]
+        claim = 0
+        for c in message[1:]:
+            claim ^= c
+        at = f"{dice.randbytes(32).hex()} {dice.choice([0, 1, 7, 2**32 - 1, 2**32, 2**64 - 1])} {hexed([b'', b'vs-inner', b'c' * 130][degree % 3])}"
+        for wrong in [0, 1, 1 << 127]:
+            sheet.rust("sumops", f"capture {at} {listed(message)} {listed([claim ^ wrong])}")
+    zero = f"{'00' * 32} 0 {hexed(b'vs-inner')}"
+    sheet.rust("sumops", f"capture {zero} {brief([0, 0, 0])} {brief([0])}")
+    sheet.rust("sumops", f"capture {zero} {brief([0, 0, 0])} {brief([1])}")
 
 
 def lent_rounds(sheet):
@@ -667,13 +710,14 @@ def batches(sheet):
                 after = " ".join(["=", str(len(found) + extra)] + found + [MARK] * extra)
                 sheet.said(f"packed {len(found) + extra} 0 {m.text()} {pk} {x} 2 {q} {w}", f"= {flag}", after)
             sheet.said(f"packed {len(found) - 1} 0 {m.text()} {pk} {x} 2 {q} {w}", "! 15", untouched(len(found) - 1))
-    sheet.note("packed batches that are refused: 1, 2, 3, 4, 5, 11 and 15")
+    sheet.note("packed batches that are refused: 1 to 7 and 15")
     m = Matrix(2, 4, [(0, 0, 1)])
     for q, w, pk, x, text, code in [
         (1, 2, 1, 1, m.text(), 15), (0, 2, 0, 1, m.text(), 1), (3, 2, 3, 1, m.text(), 1), (8192, 2, 1, 1, m.text(), 1),
         (4096, 2, 1, 1, m.text(), 2), (1, 3, 1, 1, m.text(), 1), (1, 65536, 1, 1, m.text(), 1), (1, 32768, 1, 1, m.text(), 2),
         (1, 2, 0, 0, m.text(), 2), (1, 2, 2, 1, m.text(), 2), (1, 2, 1, 0, m.text(), 3), (1, 2, 1, 2, m.text(), 3),
         (1, 4, 1, 3, m.text(), 5), (1, 1, 1, 0, m.text(), 5), (1, 2, 1, 1, "3 4 0 0 0 0", 4), (1, 2, 1, 1, "2 4 1 2 1 0 1 1 1 0", 7),
+        (1, 2, 1, 1, "2 4 1 0 1 0 1 1 0", 6), (1, 2, 1, 1, "2 4 2 2 2 1 0 1 1 1 0", 6),
         (64, 2, 64, 1, "16384 4 0 0 0 0", 15), (64, 2, 64, 1, "32768 4 0 0 0 0", 4),
     ]:
         sheet.said(f"packed 0 0 {text} {brief([3] * pk)} {brief([5] * x)} 2 {q} {w}", f"! {code}", untouched(0))

@@ -7,26 +7,21 @@
 //! that is measured. One thread.
 use magnetar::{prove, verify, Claims, Element, Matrix, Relation, Transcript};
 use magnetar_field::{mul, Gf128};
-use magnetar_spartan::{DualRelation, SegmentClaim, SegmentLayout, SegmentSpec, SparseMatrix, VirtualSpartanProof};
+use magnetar_spartan::{DualRelation, SegmentClaim, SegmentLayout, SegmentSpec, SparseMatrix};
 use std::time::{Duration, Instant};
 
-struct Random(u64);
+#[macro_use]
+#[path = "../../compare/src/flat.rs"]
+mod flat;
+#[allow(dead_code)]
+#[path = "../../compare/src/random.rs"]
+mod random;
+#[allow(dead_code)]
+#[path = "../../compare/src/text.rs"]
+mod text;
 
-impl Random {
-    fn word(&mut self) -> u64 {
-        self.0 = self.0.wrapping_add(0x9E3779B97F4A7C15);
-        let mut z = self.0;
-        z = (z ^ (z >> 30)).wrapping_mul(0xBF58476D1CE4E5B9);
-        z = (z ^ (z >> 27)).wrapping_mul(0x94D049BB133111EB);
-        z ^ (z >> 31)
-    }
-    fn below(&mut self, n: usize) -> usize {
-        (self.word() % n as u64) as usize
-    }
-    fn wide(&mut self) -> u128 {
-        (self.word() as u128) << 64 | self.word() as u128
-    }
-}
+use random::Random;
+use text::words;
 
 /// A batch that every row holds for: B is a constant of each row and entries that cancel, C is A times that constant.
 struct Case {
@@ -72,10 +67,6 @@ fn element(x: Gf128) -> Element {
     Element { lo: x.0 as u64, hi: (x.0 >> 64) as u64 }
 }
 
-fn words(t: &[Gf128]) -> Vec<u64> {
-    t.iter().flat_map(|x| [x.0 as u64, (x.0 >> 64) as u64]).collect()
-}
-
 // ---- Our side's inputs.
 
 fn relation(c: &Case) -> Relation {
@@ -112,22 +103,6 @@ fn their_layout(c: &Case) -> SegmentLayout {
     SegmentLayout::build(c.m / 2, c.lens.iter().enumerate().map(spec).collect())
 }
 
-/// The Rust's proof as words in the order of ours.
-fn flat(p: &VirtualSpartanProof) -> Vec<u64> {
-    let mut all: Vec<Gf128> = vec![];
-    for (bin, fld) in &p.outer_shared {
-        all.extend(bin);
-        all.extend(fld);
-    }
-    all.extend(p.outer_bin.iter().flatten());
-    all.extend(p.outer_fld.iter().flatten());
-    all.extend(&p.terminals);
-    all.extend(p.inner.iter().flatten());
-    all.push(p.v_z);
-    all.extend(&p.segment_values);
-    words(&all)
-}
-
 /// Whether our claims are the Rust's, of which each holds as much of r_low as its segment has variables.
 fn same(ours: &Claims, theirs: &[SegmentClaim]) -> bool {
     2 * theirs.len() == ours.values.len()
@@ -151,10 +126,10 @@ fn agree(ours: &Transcript, theirs: &magnetar_hash::Transcript) -> bool {
 #[derive(Clone, Copy)]
 struct Cost {
     time: Duration,
-    kilobytes: u64,
+    kibibytes: u64,
 }
 
-const NONE: Cost = Cost { time: Duration::MAX, kilobytes: 0 };
+const NONE: Cost = Cost { time: Duration::MAX, kibibytes: 0 };
 
 /// A line of /proc/self/status.
 fn status(name: &str) -> u64 {
@@ -175,7 +150,7 @@ fn measured<T>(cost: &mut Cost, run: impl FnOnce() -> T) -> T {
     let start = Instant::now();
     let r = run();
     cost.time = cost.time.min(start.elapsed());
-    cost.kilobytes = cost.kilobytes.max(status("VmHWM").saturating_sub(before));
+    cost.kibibytes = cost.kibibytes.max(status("VmHWM").saturating_sub(before));
     r
 }
 
@@ -183,8 +158,8 @@ fn ms(c: Cost) -> f64 {
     c.time.as_secs_f64() * 1e3
 }
 
-fn mb(c: Cost) -> f64 {
-    c.kilobytes as f64 / 1024.0
+fn mib(c: Cost) -> f64 {
+    c.kibibytes as f64 / 1024.0
 }
 
 fn main() {
@@ -208,7 +183,7 @@ fn main() {
         let (their_proof, their_claims) = measured(&mut proving[1], || {
             magnetar_spartan::prove_virtual_spartan(&theirs, &layout, &c.packed, &c.x, q, &mut u)
         });
-        assert!(proof == flat(&their_proof), "the proofs differ");
+        assert!(proof == words(&flat!(&their_proof)), "the proofs differ");
         assert!(same(&claims, &their_claims) && agree(&t, &u), "the provers' claims or transcripts differ");
         made = Some((proof, their_proof));
     }
@@ -227,8 +202,8 @@ fn main() {
     assert!(verify(&r, &x, &bad, &mut start.clone()).is_err(), "a wrong proof is accepted");
     let rows = if rb == rf { format!("{rb}") } else { format!("{rb}, {rf}") };
     println!(
-        "| {m} | {q} | {rows} | {entries} | {:.2} ms | {:.2} ms | {:.2} | {:.1} MB | {:.1} MB | {:.2} ms | {:.2} ms | {:.2} | {:.1} MB | {:.1} MB |",
-        ms(proving[0]), ms(proving[1]), ms(proving[0]) / ms(proving[1]), mb(proving[0]), mb(proving[1]),
-        ms(cost[0]), ms(cost[1]), ms(cost[0]) / ms(cost[1]), mb(cost[0]), mb(cost[1]),
+        "| {m} | {q} | {rows} | {entries} | {:.2} ms | {:.2} ms | {:.2} | {:.1} MiB | {:.1} MiB | {:.2} ms | {:.2} ms | {:.2} | {:.1} MiB | {:.1} MiB |",
+        ms(proving[0]), ms(proving[1]), ms(proving[0]) / ms(proving[1]), mib(proving[0]), mib(proving[1]),
+        ms(cost[0]), ms(cost[1]), ms(cost[0]) / ms(cost[1]), mib(cost[0]), mib(cost[1]),
     );
 }

@@ -1,29 +1,25 @@
 //! Times the rounds of the sum-checks beside the Rust's, on the same tables in one run, and compares what they give.
 //! One thread; the shortest of some turns, the two sides in turn.
 #[allow(dead_code)]
+#[path = "../../compare/src/random.rs"]
+mod random;
+#[allow(dead_code)]
 #[path = "../../bindings/rust/src/sys.rs"]
 mod sys;
+#[allow(dead_code)]
+#[path = "../../compare/src/text.rs"]
+mod text;
 
 use magnetar_field::{Gf128, ONE, ZERO};
 use magnetar_sumcheck::public::{EqFactor, PublicFactor, TableFactor};
 use magnetar_sumcheck::{BindOrder, SumcheckProver, SumcheckSpec, Term};
 use std::time::{Duration, Instant};
 use sys::Element;
+use text::words;
 
 fn random(n: usize, seed: u64) -> Vec<Gf128> {
-    let mut x = seed;
-    let mut word = move || {
-        x = x.wrapping_add(0x9E3779B97F4A7C15);
-        let mut z = x;
-        z = (z ^ (z >> 30)).wrapping_mul(0xBF58476D1CE4E5B9);
-        z = (z ^ (z >> 27)).wrapping_mul(0x94D049BB133111EB);
-        z ^ (z >> 31)
-    };
-    (0..n).map(|_| Gf128((word() as u128) << 64 | word() as u128)).collect()
-}
-
-fn words(t: &[Gf128]) -> Vec<u64> {
-    t.iter().flat_map(|x| [x.0 as u64, (x.0 >> 64) as u64]).collect()
+    let mut r = random::Random(seed);
+    (0..n).map(|_| Gf128(r.wide())).collect()
 }
 
 fn element(x: Gf128) -> Element {

@@ -1,9 +1,8 @@
 //! A relation and a proof in the Rust's forms. The published files are compiled three times (as they are, with their private functions
 //! opened, with given elements in the place of the draws), and each copy has types of its own.
-use crate::relation::{Matrix, Relation};
+use crate::relation::{Entries, Matrix, Relation};
 use crate::rust::elements;
 use crate::text::words;
-use magnetar_field::Gf128;
 
 macro_rules! forms {
     ($name:ident, $spartan:ident) => {
@@ -28,18 +27,7 @@ macro_rules! forms {
 
             /// The proof as document 01 orders its words.
             pub fn flat(p: &VirtualSpartanProof) -> Vec<u64> {
-                let mut all: Vec<Gf128> = vec![];
-                for (bin, fld) in &p.outer_shared {
-                    all.extend(bin);
-                    all.extend(fld);
-                }
-                all.extend(p.outer_bin.iter().flatten());
-                all.extend(p.outer_fld.iter().flatten());
-                all.extend(&p.terminals);
-                all.extend(p.inner.iter().flatten());
-                all.push(p.v_z);
-                all.extend(&p.segment_values);
-                words(&all)
+                words(&flat!(p))
             }
 
             /// Words as a proof, split as document 01 says.

@@ -25,12 +25,12 @@ fn parts(sheet: &mut Sheet, parts: &[Vec<u8>]) {
 }
 
 /// A label: the Rust's are UTF-8.
-fn label(r: &mut Random) -> String {
+pub fn label(r: &mut Random) -> String {
     let n = r.pick(&[0, 1, 3, 8, 14, 60, 130, 136]);
     (0..n).map(|_| r.pick(&['a', 'z', '-', '0', ' ', '\0', 'é', '∀'])).collect()
 }
 
-fn counter(r: &mut Random) -> u64 {
+pub fn counter(r: &mut Random) -> u64 {
     match r.below(6) {
         0 => 0,
         1 => r.below(300) as u64,
@@ -51,7 +51,7 @@ fn begin(sheet: &mut Sheet, protocol: &str, parts: &[Vec<u8>]) {
     sheet.ask("transcript::new", Rust, query, vec![format!("= {answer}")]);
 }
 
-fn on(t: &rust::State, label: &str) -> String {
+pub fn on(t: &rust::State, label: &str) -> String {
     format!("{} {}", state(t), hex(label.as_bytes()))
 }
 

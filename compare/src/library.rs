@@ -3,24 +3,7 @@
 use crate::relation::Relation;
 use crate::rust::State;
 use crate::text::MARK;
-use magnetar::sys;
-
-/// A call with the six matrices between other arguments.
-macro_rules! with_matrices {
-    ($function:path, $r:expr, ($($before:expr),*), ($($after:expr),*)) => {{
-        let [a, b, c, d, e, f] = &$r.matrices;
-        $function(
-            $($before,)*
-            a.rows, a.cols, a.row.as_ptr(), a.row.len(), a.col.as_ptr(), a.col.len(), a.lo.as_ptr(), a.lo.len(), a.hi.as_ptr(), a.hi.len(),
-            b.rows, b.cols, b.row.as_ptr(), b.row.len(), b.col.as_ptr(), b.col.len(), b.lo.as_ptr(), b.lo.len(), b.hi.as_ptr(), b.hi.len(),
-            c.rows, c.cols, c.row.as_ptr(), c.row.len(), c.col.as_ptr(), c.col.len(), c.lo.as_ptr(), c.lo.len(), c.hi.as_ptr(), c.hi.len(),
-            d.rows, d.cols, d.row.as_ptr(), d.row.len(), d.col.as_ptr(), d.col.len(), d.lo.as_ptr(), d.lo.len(), d.hi.as_ptr(), d.hi.len(),
-            e.rows, e.cols, e.row.as_ptr(), e.row.len(), e.col.as_ptr(), e.col.len(), e.lo.as_ptr(), e.lo.len(), e.hi.as_ptr(), e.hi.len(),
-            f.rows, f.cols, f.row.as_ptr(), f.row.len(), f.col.as_ptr(), f.col.len(), f.lo.as_ptr(), f.lo.len(), f.hi.as_ptr(), f.hi.len(),
-            $($after),*
-        )
-    }};
-}
+use magnetar::{sys, with_matrices};
 
 fn sent(t: &State) -> sys::Transcript {
     sys::Transcript { state: t.0, squeeze_ctr: t.1 }
@@ -46,7 +29,7 @@ pub fn verify(r: &Relation, t: &State, proof: &[u64], claims: usize, scratch: us
     let a = unsafe {
         with_matrices!(
             sys::magnetar_verify_virtual_spartan,
-            r,
+            r.matrices.each_ref(),
             (claims.as_mut_ptr(), claims.len(), scratch.as_mut_ptr(), scratch.len(), r.m, r.q, r.lens.as_ptr(), r.lens.len()),
             (r.x.as_ptr(), r.x.len(), proof.as_ptr(), proof.len(), sent(t))
         )
@@ -60,7 +43,7 @@ pub fn row_check(r: &Relation, scratch: usize) -> ((u32, u32, usize, usize), Vec
     let a = unsafe {
         with_matrices!(
             sys::magnetar_row_check,
-            r,
+            r.matrices.each_ref(),
             (scratch.as_mut_ptr(), scratch.len(), r.m, r.q),
             (r.packed.as_ptr(), r.packed.len(), r.x.as_ptr(), r.x.len())
         )
@@ -73,7 +56,7 @@ pub fn prove(r: &Relation, t: &State, proof: usize, claims: usize, scratch: usiz
     let a = unsafe {
         with_matrices!(
             sys::magnetar_prove_virtual_spartan,
-            r,
+            r.matrices.each_ref(),
             (
                 proof.as_mut_ptr(), proof.len(), claims.as_mut_ptr(), claims.len(), scratch.as_mut_ptr(), scratch.len(),
                 r.m, r.q, r.lens.as_ptr(), r.lens.len()

@@ -2,7 +2,7 @@
 use crate::library;
 use crate::model;
 use crate::random::Random;
-use crate::relation::{self, Relation};
+use crate::relation::{self, Entries, Relation};
 use crate::runs;
 use crate::rust::State;
 use crate::tally::{By, Tally};

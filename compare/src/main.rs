@@ -4,7 +4,11 @@
 //!     compare PROGRAMS SECONDS SEED   random inputs from the seed for so many seconds
 //!
 //! PROGRAMS is the folder with the test programs. Ends with 1 where anything differs that is not on the list.
+#[macro_use]
+mod flat;
+
 mod draws;
+mod engine;
 mod field;
 mod forms;
 mod hash;

@@ -2,7 +2,7 @@
 use crate::forms::plain;
 use crate::model;
 use crate::random::Random;
-use crate::relation::{self, Matrix};
+use crate::relation::{self, Entries, Matrix};
 use crate::sheet::Sheet;
 use crate::tally::By::{Document, Rust};
 use crate::text::*;

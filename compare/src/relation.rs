@@ -7,38 +7,40 @@ use magnetar_field::{mul, Gf128};
 use magnetar_spartan::{DualRelation, SegmentLayout, SparseMatrix};
 
 /// A matrix as it is lent: four lists that may be of unequal length.
-#[derive(Clone, Debug, Default)]
-pub struct Matrix {
-    pub rows: usize,
-    pub cols: usize,
-    pub row: Vec<usize>,
-    pub col: Vec<usize>,
-    pub lo: Vec<u64>,
-    pub hi: Vec<u64>,
+pub use magnetar::Matrix;
+
+/// How matrices are made here, and their other forms.
+pub trait Entries {
+    fn empty(rows: usize, cols: usize) -> Self;
+    fn put(&mut self, row: usize, col: usize, value: Gf128);
+    fn entries(&self) -> Vec<(usize, usize, Gf128)>;
+    fn rust(&self) -> SparseMatrix;
+    /// In the words of the test programs.
+    fn text(&self) -> String;
+    fn shuffle(&mut self, r: &mut Random);
 }
 
-impl Matrix {
-    pub fn empty(rows: usize, cols: usize) -> Matrix {
+impl Entries for Matrix {
+    fn empty(rows: usize, cols: usize) -> Matrix {
         Matrix { rows, cols, ..Matrix::default() }
     }
 
-    pub fn put(&mut self, row: usize, col: usize, value: Gf128) {
+    fn put(&mut self, row: usize, col: usize, value: Gf128) {
         self.row.push(row);
         self.col.push(col);
         self.lo.push(value.0 as u64);
         self.hi.push((value.0 >> 64) as u64);
     }
 
-    pub fn entries(&self) -> Vec<(usize, usize, Gf128)> {
+    fn entries(&self) -> Vec<(usize, usize, Gf128)> {
         (0..self.row.len()).map(|i| (self.row[i], self.col[i], Gf128(self.lo[i] as u128 | (self.hi[i] as u128) << 64))).collect()
     }
 
-    pub fn rust(&self) -> SparseMatrix {
+    fn rust(&self) -> SparseMatrix {
         plain::matrix(self)
     }
 
-    /// In the words of the test programs.
-    pub fn text(&self) -> String {
+    fn text(&self) -> String {
         format!("{:#x} {:#x} {} {} {} {}", self.rows, self.cols, text::sizes(&self.row), text::sizes(&self.col), text::list(&self.lo), text::list(&self.hi))
     }
 

@@ -3,7 +3,7 @@ use crate::forms::{number, plain};
 use crate::library::{self, Outcome};
 use crate::model::{self, Lent};
 use crate::random::Random;
-use crate::relation::{self, Kind, Matrix, Relation, KINDS};
+use crate::relation::{self, Entries, Kind, Matrix, Relation, KINDS};
 use crate::rust::{self, State};
 use crate::tally::{By, Tally};
 use crate::text::*;

@@ -1,61 +1,13 @@
 //! Queries on the sum-check: whole ones, single rounds, terminal identities, and the functions on lent tables.
+use crate::engine::{self, inner_terms, order, outer_terms, whole, Public};
+use crate::hash;
 use crate::random::Random;
+use crate::rust::State;
 use crate::sheet::Sheet;
 use crate::tally::By::{Document, Rust};
 use crate::text::*;
-use magnetar_field::{eq_build_fused, is_bit, mul, Gf128, ONE, ZERO};
-use magnetar_sumcheck::{BindOrder, EqFactor, PublicFactor, RoundMsg, SumcheckProver, SumcheckSpec, SumcheckVerifier};
-use magnetar_sumcheck::{TableFactor, Term};
-
-type Public = Vec<Box<dyn PublicFactor + Send + Sync>>;
-
-fn order(high: usize) -> BindOrder {
-    if high == 0 { BindOrder::Increasing } else { BindOrder::HighBitsFirst { high } }
-}
-
-/// eq (A B + C)
-fn outer_terms() -> Vec<Term> {
-    vec![
-        Term { coeff: ONE, dense: vec![0, 1], public: vec![0] },
-        Term { coeff: ONE, dense: vec![2], public: vec![0] },
-    ]
-}
-
-/// T Z
-fn inner_terms() -> Vec<Term> {
-    vec![Term { coeff: ONE, dense: vec![0], public: vec![0] }]
-}
-
-/// A whole sum-check of the Rust's: in each round the message, the verdict on it, the claim after it and the folded tables.
-fn whole(claim: Gf128, dense: &[Vec<Gf128>], public: &dyn Fn() -> Public, terms: Vec<Term>, high: usize, r: &[Gf128], shown: bool) -> (Vec<String>, Vec<Vec<Gf128>>) {
-    let order = order(high);
-    let spec = SumcheckSpec { num_vars: r.len(), dense: dense.to_vec(), public: public(), terms: terms.clone(), claim };
-    let bits = dense.iter().map(|d| d.iter().all(|x| is_bit(*x))).collect();
-    let mut prover = SumcheckProver::with_dense_bits(&spec, order, bits);
-    let factors = public();
-    let mut verifier = SumcheckVerifier::new(r.len(), claim, &factors, terms, order);
-    let (mut good, mut running, mut lines, mut messages) = (true, claim, vec![], vec![]);
-    for &x in r {
-        let message = prover.message();
-        let holds = verifier.round_external(&message, x).is_ok();
-        prover.fold(x);
-        good &= holds;
-        if holds {
-            running = prover.running();
-        }
-        lines.push(format!("= {} {holds} {}", elements(&message.0), elements(&[running])));
-        if shown {
-            lines.push(format!("= {}", elements(&prover.debug_public_state().0[0])));
-        }
-        lines.extend(prover.dense_tables().iter().map(|t| format!("= {}", elements(t))));
-        messages.push(message.0);
-    }
-    let (claims, _) = prover.finish();
-    let mut end = vec![factors[0].eval_at(&order.point(r.len(), r))];
-    end.extend(&claims);
-    lines.push(format!("= {} {}", elements(&end), good && verifier.finish(&claims).is_ok()));
-    (lines, messages)
-}
+use magnetar_field::{eq_build_fused, mul, Gf128, ONE, ZERO};
+use magnetar_sumcheck::{EqFactor, PublicFactor, TableFactor};
 
 fn outer(sheet: &mut Sheet, high: usize, tau: &[Gf128], abc: &[Vec<Gf128>; 3], r: &[Gf128], wrong: Gf128) -> (Gf128, Vec<Vec<Gf128>>) {
     let e = eq_build_fused(tau);
@@ -76,25 +28,17 @@ fn inner(sheet: &mut Sheet, high: usize, t: &[Gf128], z: &[Gf128], r: &[Gf128], 
     sheet.ask("inner sum-check", Rust, query, lines);
 }
 
-/// One message of any degree. The Rust's verifier hands out no claim; it confirms the message's value.
-fn round(sheet: &mut Sheet, message: &[Gf128], claim: Gf128, r: Gf128) {
-    let terms = vec![Term { coeff: ONE, dense: vec![0; message.len() - 1], public: vec![] }];
-    let mut verifier = SumcheckVerifier::new(1, claim, &[], terms, BindOrder::Increasing);
-    let holds = verifier.round_external(&RoundMsg(message.to_vec()), r).is_ok();
-    let next = message.iter().rev().fold(ZERO, |acc, c| mul(acc, r) + *c);
-    if holds && message.len() > 1 {
-        assert!(verifier.finish_offset(&[ZERO], next).is_ok());
-    }
+/// One message of any degree, with the challenge from outside and drawn.
+fn round(sheet: &mut Sheet, message: &[Gf128], claim: Gf128, r: Gf128, t: &State, label: &str) {
     let query = format!("round {} {}", elements(message), elements(&[claim, r]));
-    sheet.ask("engine::round_external", Rust, query, vec![format!("= {holds} {}", elements(&[if holds { next } else { claim }]))]);
+    sheet.ask("engine::round_external", Rust, query, vec![engine::round(message, claim, r)]);
+    let query = format!("capture {} {} {}", hash::on(t, label), elements(message), elements(&[claim]));
+    sheet.ask("engine::round_capturing", Rust, query, vec![engine::capture(t, label, message, claim)]);
 }
 
 fn end(sheet: &mut Sheet, outer: bool, values: &[Gf128]) {
-    let factors: Public = vec![Box::new(TableFactor::new(vec![values[1]]))];
-    let terms = if outer { outer_terms() } else { inner_terms() };
-    let holds = SumcheckVerifier::new(0, values[0], &factors, terms, BindOrder::Increasing).finish(&values[2..]).is_ok();
-    let (name, op) = if outer { ("engine::outer_finish", "outerend") } else { ("engine::inner_finish", "innerend") };
-    sheet.ask(name, Rust, format!("{op} {}", elements(values)), vec![truth(holds)]);
+    let (name, op, terms) = if outer { ("engine::outer_finish", "outerend", outer_terms()) } else { ("engine::inner_finish", "innerend", inner_terms()) };
+    sheet.ask(name, Rust, format!("{op} {}", elements(values)), vec![truth(engine::end(terms, values))]);
 }
 
 fn ends(sheet: &mut Sheet, r: &mut Random) {
@@ -230,13 +174,14 @@ pub fn random(sheet: &mut Sheet, r: &mut Random) {
     points(sheet, high, &tau, &point);
     points(sheet, high, &point, &point);
     ends(sheet, r);
+    let (t, label): (State, String) = ((r.bytes(32).try_into().unwrap(), hash::counter(r)), hash::label(r));
     if let Some(message) = messages.first() {
         let x = r.element();
-        round(sheet, message, claim, x);
+        round(sheet, message, claim, x, &t, &label);
         let mut damaged = message.clone();
         let k = r.below(4);
         damaged[k] = damaged[k] + Gf128(1 << r.below(128));
-        round(sheet, &damaged, claim, x);
+        round(sheet, &damaged, claim, x, &t, &label);
         let v = r.below(n);
         let room = r.below(12);
         lent(sheet, &tau, &abc, v, room);
@@ -246,9 +191,9 @@ pub fn random(sheet: &mut Sheet, r: &mut Random) {
     let message = r.elements(degree + 1);
     let claim = message[1..].iter().fold(ZERO, |s, &c| s + c);
     let x = r.element();
-    round(sheet, &message, claim, x);
-    round(sheet, &message, claim + Gf128(1 << r.below(128)), x);
-    let (k, t) = (r.element(), r.element());
-    let next = mul(k, ONE + t + x);
-    sheet.ask("public::eq_next", Rust, format!("eqnext {}", elements(&[k, t, x])), vec![format!("= {}", elements(&[next]))]);
+    round(sheet, &message, claim, x, &t, &label);
+    round(sheet, &message, claim + Gf128(1 << r.below(128)), x, &t, &label);
+    let (k, tau) = (r.element(), r.element());
+    let next = mul(k, ONE + tau + x);
+    sheet.ask("public::eq_next", Rust, format!("eqnext {}", elements(&[k, tau, x])), vec![format!("= {}", elements(&[next]))]);
 }

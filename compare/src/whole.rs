@@ -4,7 +4,7 @@ use crate::library::Outcome;
 use crate::matrix;
 use crate::model;
 use crate::random::Random;
-use crate::relation::{self, Matrix, Relation, KINDS};
+use crate::relation::{self, Entries, Matrix, Relation, KINDS};
 use crate::runs;
 use crate::rust;
 use crate::sheet::Sheet;

@@ -47,7 +47,7 @@ refusals! {
     Layout = 9, "the layout ends past m / 2";
     Segments = 10, "over 64 segments";
     Length = 11, "a point, vector or table is not of the wanted length, or has no such variable";
-    Masks = 12, "masks of values that are no bits";
+    Masks = 12, "masks of a value over 1 or of a column past m/2";
     V = 13, "masks for v over log2 q or over 6";
     Counter = 14, "the transcript's counter is 2^32 or more";
     Room = 15, "an output or the scratch is too short";

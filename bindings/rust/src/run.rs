@@ -68,6 +68,12 @@ impl Relation {
         2 * (log(self.q) + log(self.m).saturating_sub(1) + self.segments.len())
     }
 
+    /// A, B, C of bin, then of fld.
+    fn six(&self) -> [&Matrix; 6] {
+        let ([a, b, c], [d, e, f]) = (&self.bin, &self.fld);
+        [a, b, c, d, e, f]
+    }
+
     fn most_rows(&self) -> usize {
         self.bin[0].rows.max(self.fld[0].rows)
     }
@@ -101,10 +107,12 @@ impl Relation {
     }
 }
 
-/// A call with the six matrices between other arguments.
+/// A call of the library with six matrices between other arguments; for programs that lend words of their own.
+#[doc(hidden)]
+#[macro_export]
 macro_rules! with_matrices {
-    ($function:path, $r:expr, ($($before:expr),*), ($($after:expr),*)) => {{
-        let ([a, b, c], [d, e, f]) = (&$r.bin, &$r.fld);
+    ($function:path, $six:expr, ($($before:expr),*), ($($after:expr),*)) => {{
+        let [a, b, c, d, e, f]: [&$crate::Matrix; 6] = $six;
         $function(
             $($before,)*
             a.rows, a.cols, a.row.as_ptr(), a.row.len(), a.col.as_ptr(), a.col.len(), a.lo.as_ptr(), a.lo.len(), a.hi.as_ptr(), a.hi.len(),
@@ -133,7 +141,7 @@ pub fn row_check(r: &Relation, packed: &[u64], x: &[u64]) -> Result<Option<Faili
     let found = unsafe {
         with_matrices!(
             sys::magnetar_row_check,
-            r,
+            r.six(),
             (scratch.as_mut_ptr(), scratch.len(), r.m, r.q),
             (packed.as_ptr(), packed.len(), x.as_ptr(), x.len())
         )
@@ -150,7 +158,7 @@ pub fn prove(r: &Relation, packed: &[u64], x: &[u64], t: &mut Transcript) -> Res
     let answer = unsafe {
         with_matrices!(
             sys::magnetar_prove_virtual_spartan,
-            r,
+            r.six(),
             (
                 proof.as_mut_ptr(), proof.len(), claims.as_mut_ptr(), claims.len(), scratch.as_mut_ptr(), scratch.len(),
                 r.m, r.q, r.segments.as_ptr(), r.segments.len()
@@ -170,7 +178,7 @@ pub fn verify(r: &Relation, x: &[u64], proof: &[u64], t: &mut Transcript) -> Res
     let answer = unsafe {
         with_matrices!(
             sys::magnetar_verify_virtual_spartan,
-            r,
+            r.six(),
             (claims.as_mut_ptr(), claims.len(), scratch.as_mut_ptr(), scratch.len(), r.m, r.q, r.segments.as_ptr(), r.segments.len()),
             (x.as_ptr(), x.len(), proof.as_ptr(), proof.len(), *t)
         )

@@ -26,7 +26,7 @@ fn relation(code: u32) {
 fn lent(code: u32) {
     match code {
         11 => print(b"a point, vector or list has the wrong length"),
-        12 => print(b"masks are wanted of values that are no bits"),
+        12 => print(b"masks of a value over 1 or of a column past m/2"),
         13 => print(b"v is over log2 q or over 6"),
         14 => print(b"the transcript's counter is 2^32 or more"),
         15 => print(b"an output or the scratch is too short"),

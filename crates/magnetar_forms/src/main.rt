@@ -1,6 +1,6 @@
 // Answers the queries of standard input, a line for each, through the core and through the forms of `magnetar_inplace` (the
 // transcript in place, matrices as records), and writes the answer where both agree, else `differ` and both. The queries are those
-// of `magnetar_vectors` on these functions, with the recorded answers of the Rust (docs/VECTORS.md). A line that begins with # is
+// of `magnetar_vectors` on these functions, with the recorded answers (docs/VECTORS.md). A line that begins with # is
 // copied.
 mod hash;
 mod lent;

@@ -14,6 +14,7 @@ use magnetar_field::gf128::Evaluated;
 use magnetar_field::gf128::Gf128;
 use magnetar_field::gf128::{self};
 use magnetar_field::multilinear;
+use magnetar_field::sizes;
 use magnetar_field::words;
 
 // The queries by name: its letters, the last one lowest.
@@ -56,6 +57,10 @@ const PUT: u64 = 0x707574;
 const CLEAR: u64 = 0x636c656172;
 
 const COPY: u64 = 0x636f7079;
+
+const LOG2: u64 = 0x6c6f6732;
+
+const ISPOWER: u64 = 0x6973706f776572;
 
 const EQROOM: u64 = 0x6571726f6f6d;
 
@@ -292,8 +297,26 @@ fn numbered(op: u64, nums: &[u64], out: &mut [u64]) -> bool {
     written(op, n, p, table)
 }
 
+// Answers a query on a size, or says that it is none.
+fn sized(op: u64, n: usize) -> bool {
+    if op == LOG2 {
+        print(b"= ");
+        text::print_count(sizes::log2(n));
+        print(b"\n");
+        return true;
+    }
+    if op == ISPOWER {
+        print_bool(sizes::is_power_of_two(n));
+        return true;
+    }
+    false
+}
+
 // Answers a query on the field, or says that it is none.
 pub(crate) fn answered(op: u64, nums: &[u64], out: &mut [u64]) -> bool {
+    if sized(op, text::size(at(nums, 0))) {
+        return true;
+    }
     if elements(op, nums) {
         return true;
     }

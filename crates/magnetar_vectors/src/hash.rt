@@ -10,6 +10,8 @@ use magnetar_field::words;
 use magnetar_hash::sha3;
 use magnetar_hash::transcript::Transcript;
 use magnetar_hash::transcript::{self};
+use magnetar_sumcheck::engine::Captured;
+use magnetar_sumcheck::engine::{self};
 
 // The queries by name: its last eight letters, the last one lowest.
 const SHA3: u64 = 0x73686133;
@@ -43,6 +45,8 @@ const DRAWS: u64 = 0x6472617773;
 const DRAWVEC: u64 = 0x64726177766563;
 
 const RAWDRAWVEC: u64 = 0x7764726177766563;
+
+const CAPTURE: u64 = 0x63617074757265;
 
 const FEBYTES: u64 = 0x66656279746573;
 
@@ -275,6 +279,29 @@ fn drawn(op: u64, t: Transcript, label: &[u8], nums: &[u64]) -> bool {
     false
 }
 
+// What a round leaves that draws its challenge: whether the message is right, the claim, the challenge and the transcript.
+fn print_captured(o: Captured) {
+    print(b"= ");
+    text::print_truth(o.holds);
+    print(b" 4");
+    text::print_word(o.claim.lo);
+    text::print_word(o.claim.hi);
+    text::print_word(o.challenge.lo);
+    text::print_word(o.challenge.hi);
+    print(b" ");
+    print_state(o.transcript);
+}
+
+// capture S C L MSG 2 CLAIM, or says that it is none.
+fn captured(op: u64, t: Transcript, label: &[u8], nums: &[u64]) -> bool {
+    if op == CAPTURE {
+        let claim = words::get(text::nth(nums, 3, 1), 0);
+        print_captured(engine::round_capturing(list(nums, 3), claim, t, label));
+        return true;
+    }
+    false
+}
+
 // Answers a query for bytes, or says that it is none.
 fn shown(op: u64, t: Transcript, nums: &[u64]) -> bool {
     if op == DIGEST {
@@ -341,6 +368,9 @@ fn of_transcript(op: u64, t: Transcript, label: &[u8], nums: &[u64], data: &[u8]
         return true;
     }
     if drawn(op, t, label, nums) {
+        return true;
+    }
+    if captured(op, t, label, nums) {
         return true;
     }
     shown(op, t, nums)

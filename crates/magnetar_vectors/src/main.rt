@@ -1,4 +1,4 @@
-// Answers the queries of standard input, a line for each: the recorded answers of the Rust are `stdout`
+// Answers the queries of standard input, a line for each: the recorded answers are `stdout`
 // (docs/VECTORS.md says what each query asks and where its answer comes from). A line that begins with # is copied.
 mod field;
 mod hash;
