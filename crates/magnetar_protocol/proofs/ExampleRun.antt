@@ -14,7 +14,7 @@ use Rattle.magnetar_r1cs.specs.Matrix.{sumOver, rowTotal, share, timesAt}
 use Rattle.magnetar_r1cs.specs.Batch.{bitOf, assignment, Satisfied, Good}
 use Rattle.magnetar_layout.specs.Layout.{nextMultiple, offsetsFrom, offsets, endFrom, layoutEnd, isLength, within, outside}
 use Rattle.magnetar_protocol.specs.RunSizes.{SizedRelation, SizedBatch, SizedRun}
-use Rattle.magnetar_protocol.specs.Soundness.{NoStray}
+use Rattle.magnetar_protocol.specs.Soundness.{NoBitOutside}
 use Rattle.magnetar_protocol.specs.Prover.{Convinces}
 use Rattle.magnetar_protocol.proofs.HonestBelow.{elements-of}
 use Rattle.magnetar_protocol.proofs.Completeness.{completeness}
@@ -102,7 +102,7 @@ small-good = record { bin = bin; fld = fld }
     fld (suc zero) (suc i) h k = absurd (omega arith)
     fld (suc (suc u)) i h k = absurd (omega arith)
 
-pub small-laid : NoStray small smallBatch
+pub small-laid : NoBitOutside small smallBatch
 unfolding outside within offsets offsetsFrom nextMultiple
 small-laid u zero h k o = absurd (false≢true o)
 small-laid u (suc zero) h k o = absurd (false≢true o)

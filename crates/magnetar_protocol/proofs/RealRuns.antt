@@ -14,7 +14,7 @@ use Rattle.magnetar_protocol.specs.Schedule.{Event, schedule}
 use Rattle.magnetar_protocol.specs.Play.{Played, heard}
 use Rattle.magnetar_protocol.specs.Run.{verdict, claims, ClaimsTrue}
 use Rattle.magnetar_protocol.specs.RunSizes.{SizedRelation, SizedBatch, Elements}
-use Rattle.magnetar_protocol.specs.Soundness.{NoStray, badDraws, absorbedBefore, BadDraw}
+use Rattle.magnetar_protocol.specs.Soundness.{NoBitOutside, badDraws, absorbedBefore, BadDraw}
 use Rattle.magnetar_protocol.specs.Prover.{proverClaims, Convinces}
 use Rattle.magnetar_protocol.specs.RealRun.{verifierDraws, verifierTranscript, proving, proverDraws, proverTranscript, saidWords, Agrees}
 use Rattle.magnetar_protocol.proofs.Soundness.{soundness, all-lists}
@@ -25,11 +25,11 @@ use Rattle.magnetar_protocol.proofs.Stepwise.{hears-the-same}
 use Rattle.magnetar_protocol.proofs.ProverRun.{proving-words, prover-count, prover-elements}
 
 -- Where a verifier accepts whose draws are those of its transcript, no bit is set outside the segments and every returned claim is
--- true of the batch, the batch is good, or some draw lies in its list.
+-- true of the batch, the batch is good, or some draw lies in its list of at most three elements.
 pub soundness-run : (r : Relation) (b : Batch) (x w : List ℕ) (t : Transcript)
     → SizedRelation r → SizedBatch r b → suc (length x) ≡ r .m / 2 → Elements x → length w ≡ proofElements r → Elements w
     → verdict r x w (verifierDraws r w t) ≡ 0
-    → NoStray r b
+    → NoBitOutside r b
     → ClaimsTrue r b (claims r w (verifierDraws r w t))
     → Good r b x ⊎ BadDraw r b x w (verifierDraws r w t)
 soundness-run r b x w t R B px ex lw ew =
@@ -57,7 +57,7 @@ lists-run r b x w t R = all-lists r b x w (verifierDraws r w t) R (verifier-coun
 pub completeness-run : (r : Relation) (b : Batch) (x : List ℕ) (t : Transcript)
     → SizedRelation r → SizedBatch r b → suc (length x) ≡ r .m / 2 → Elements x
     → Good r b x
-    → NoStray r b
+    → NoBitOutside r b
     → Agrees r b x t
 completeness-run r b x t R B px ex g stray = record {
   same-draws = drawn;

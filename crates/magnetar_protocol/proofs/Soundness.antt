@@ -23,7 +23,7 @@ use Rattle.magnetar_protocol.specs.Draws.{Draws, drawCount, drawsOf}
 use Rattle.magnetar_protocol.specs.Run.{verdict, claims, ClaimsTrue}
 use Rattle.magnetar_protocol.specs.Theory.{els, logHalf, relationE, publicE, batchE, drawsE}
 use Rattle.magnetar_protocol.specs.RunSizes.{SizedRelation, Elements, Sized}
-use Rattle.magnetar_protocol.specs.Soundness.{NoStray, badDraws, absorbedBefore, BadDraw}
+use Rattle.magnetar_protocol.specs.Soundness.{NoBitOutside, badDraws, absorbedBefore, BadDraw}
 use Rattle.magnetar_protocol.proofs.Elements.{map-take, els-at}
 use Rattle.magnetar_protocol.proofs.SizeFacts.{cols-suc, Cut, cut, flat}
 use Rattle.magnetar_protocol.proofs.Verdict.{holds-of}
@@ -57,11 +57,12 @@ module _ (r : Relation) (b : Batch) (x w d : List ℕ) where
       by : List Element → List Element → List ℕ
       by v e = map number (lists gf128 (logLogins r) (relationE r) (publicE x) (batchE b) v e)
 
-  -- a draw in its list, as numbers
+  -- a draw in its list of at most three, as numbers
   as-numbers : Elements d → Hit gf128 listE (els d) → BadDraw r b x w d
   as-numbers below (k, h, m) = (
     k,
     small,
+    at-most-three r b x (take (absorbedBefore r k) w) (take k d),
     subst₂ (λ (a : ℕ) (l : List ℕ). List·Memᴰ a l) (ap number (els-at d k) ∙ number-of (getD d k 0) (below k))
         (list-is k (omega (arith, small))) (number-mem m),
   )
@@ -99,8 +100,8 @@ module _ (r : Relation) (b : Batch) (x w d : List ℕ) where
       sums (suc n) f g e = ap₂ _+_ (e 0 (omega arith)) (sums n (λ k. f (suc k)) (λ k. g (suc k)) (λ k l. e (suc k) (omega arith)))
 
   -- Demand 3, first half: where the verifier accepts, no bit is set outside the segments and every claim is true of the batch,
-  -- the batch is good, or some draw lies in its list.
-  pub soundness : Sized r b x w d → verdict r x w d ≡ 0 → NoStray r b → ClaimsTrue r b (claims r w d) → Good r b x ⊎ BadDraw r b x w d
+  -- the batch is good, or some draw lies in its list, which has at most three elements.
+  pub soundness : Sized r b x w d → verdict r x w d ≡ 0 → NoBitOutside r b → ClaimsTrue r b (claims r w d) → Good r b x ⊎ BadDraw r b x w d
   unfolding verdict claims
   soundness S v stray true = go found
     where

@@ -23,7 +23,7 @@ use Rattle.magnetar_batch.specs.Systems.{systemOf}
 use Rattle.magnetar_protocol.specs.Shape.{proofElements}
 use Rattle.magnetar_protocol.specs.Run.{claims, verdict, ClaimsTrue}
 use Rattle.magnetar_protocol.specs.RunSizes.{SizedRelation, SizedBatch}
-use Rattle.magnetar_protocol.specs.Soundness.{NoStray}
+use Rattle.magnetar_protocol.specs.Soundness.{NoBitOutside}
 use Rattle.magnetar_protocol.specs.Prover.{proverWords, proverClaims}
 use Rattle.magnetar_protocol.specs.RealRun.{verifierDraws, verifierTranscript, proverDraws, proverTranscript, saidWords, Agrees}
 use Rattle.magnetar_protocol.proofs.Stepwise.{proving-length}
@@ -110,7 +110,7 @@ module _ (R : Rules) (ws x : List ℕ) (t : Transcript) (w c s : List ℕ) where
 
   -- Wherever neither end is refused by 1 to 16: of a good batch with no bit outside the segments the verifier is convinced.
   pub verify-complete : (c′ s′ : List ℕ) → AreWords x → proveRefusal R ws x t w c s ≡ 0 → verifyRefusal R x handed t c′ s′ ≡ 0
-      → Good (relationOf R) (batchOf R ws) (elements x) → NoStray (relationOf R) (batchOf R ws) → Convinced c′ s′
+      → Good (relationOf R) (batchOf R ws) (elements x) → NoBitOutside (relationOf R) (batchOf R ws) → Convinced c′ s′
   verify-complete c′ s′ wx hp hv good stray =
       record { accepted = accepted; same-claims = same; true-claims = subst (ClaimsTrue r b) (sym (returned R x handed t c′ s′ accepted ∙ told)) (agrees .true-claims); same-transcript = ends }
     where

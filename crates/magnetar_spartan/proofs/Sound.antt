@@ -22,7 +22,7 @@ use Rattle.magnetar_protocol.specs.Proof.{segmentValues}
 use Rattle.magnetar_protocol.specs.Draws.{drawsOf, loginPoint, lowPoint}
 use Rattle.magnetar_protocol.specs.Run.{claims, verdict, ClaimsTrue}
 use Rattle.magnetar_protocol.specs.RunSizes.{SizedRelation, SizedBatch}
-use Rattle.magnetar_protocol.specs.Soundness.{NoStray, BadDraw}
+use Rattle.magnetar_protocol.specs.Soundness.{NoBitOutside, BadDraw}
 use Rattle.magnetar_protocol.specs.RealRun.{verifierDraws}
 use Rattle.magnetar_protocol.proofs.SizeFacts.{cut}
 use Rattle.magnetar_protocol.proofs.ClaimParts.{claims-length}
@@ -90,7 +90,7 @@ module _ (R : Rules) (x w : List ℕ) (t : Transcript) (c s : List ℕ) (e : ver
 
   -- Where the verifier answers 0, no bit of the batch is set outside the segments and every claim that it has written is true of the
   -- batch, the batch keeps the rules, or some draw of the transcript lies in its list.
-  pub verify-sound : (b : Batch) → AreWords x → AreWords w → SizedBatch (relationOf R) b → NoStray (relationOf R) b
+  pub verify-sound : (b : Batch) → AreWords x → AreWords w → SizedBatch (relationOf R) b → NoBitOutside (relationOf R) b
       → ClaimsTrue (relationOf R) b (elements (take (claimWords R) (verifyOutcome R x w t c s .claims)))
       → Good (relationOf R) b (elements x) ⊎ BadDraw (relationOf R) b (elements x) (elements w) (verifierDraws (relationOf R) (elements w) t)
   verify-sound b wx ww B stray ct =
