@@ -8,7 +8,7 @@ use lib.ListN.{length, take}
 use lib.Seq.{take-length}
 use Rattle.magnetar_hash.specs.declared.transcript.Transcript.{Transcript}
 use Rattle.magnetar_r1cs.specs.Batch.{Relation, Batch, Good}
-use Rattle.magnetar_theory.specs.Count.{sumTo}
+use Rattle.magnetar_theory.specs.Count.{naturalSum}
 use Rattle.magnetar_protocol.specs.Shape.{logLogins, logBin, logFld, logCols, proofElements}
 use Rattle.magnetar_protocol.specs.Schedule.{Event, schedule}
 use Rattle.magnetar_protocol.specs.Play.{Played, heard}
@@ -48,7 +48,7 @@ soundness-run r b x w t R B px ex lw ew =
 
 -- all lists along the run together
 pub lists-run : (r : Relation) (b : Batch) (x w : List ℕ) (t : Transcript) → SizedRelation r
-    → sumTo (length (verifierDraws r w t))
+    → naturalSum (length (verifierDraws r w t))
     (λ k. length (badDraws r b x (take (absorbedBefore r k) w) (take k (verifierDraws r w t))))
     ≤ 4 * (logLogins r + max (logBin r) (logFld r)) + 1 + 2 * logCols r
 lists-run r b x w t R = all-lists r b x w (verifierDraws r w t) R (verifier-count r w t)

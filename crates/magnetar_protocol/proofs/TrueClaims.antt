@@ -40,7 +40,7 @@ module _ (r : Relation) (b : Batch) (D : Draws) (R : SizedRelation r) (B : Sized
   pub sizes : (x : List ℕ) → suc (length x) ≡ r .m / 2 → NoBitOutside r b → Sizes gf128 (relationE r) (publicE x) (batchE b) (drawsE r D)
   sizes x px stray = record {
     logins = length-map b els ∙ B .logins ∙ logins-pow ∙ ap (λ (k : ℕ). 2 ^ k) (sym (length-map (D .shared) element));
-    bits = all-length (2 ^ logHalf r) b (λ u k. B .columns u (omega (arith, B .logins)) ∙ half-pow r R);
+    row-lengths = all-length (2 ^ logHalf r) b (λ u k. B .columns u (omega (arith, B .logins)) ∙ half-pow r R);
     laid = subst (λ (n : ℕ). AllLaid gf128 n (segmentsE (offsets (r .lengths)) (r .lengths)) (batchE b)) (half-pow r R)
         (laid-out r b R B stray);
     public = length-map (1 ∷ x) element ∙ px ∙ half-pow r R;

@@ -9,7 +9,7 @@ use lib.ListN.{length, getD, take}
 use Rattle.magnetar_r1cs.specs.Batch.{Relation, Batch, bitOf}
 use Rattle.magnetar_layout.specs.Layout.{outside}
 use Rattle.magnetar_theory.specs.Lists.{lists}
-use Rattle.magnetar_theory.specs.Heard.{heard}
+use Rattle.magnetar_theory.specs.Absorbed.{absorbedCount}
 use Rattle.magnetar_theory.specs.Gf128.{number, gf128}
 use Rattle.magnetar_protocol.specs.Shape.{logLogins, logBin, logFld}
 use Rattle.magnetar_protocol.specs.Theory.{els, relationE, publicE, batchE}
@@ -26,7 +26,7 @@ badDraws r b x absorbed drawn =
 
 -- how many of the proof's elements are absorbed before draw k
 unfoldable pub absorbedBefore : Relation → ℕ → ℕ
-absorbedBefore r k = heard (logLogins r) (logBin r) (logFld r) k
+absorbedBefore r k = absorbedCount (logLogins r) (logBin r) (logFld r) k
 
 -- some draw lies in its list, and that list has at most three elements
 abbrev pub BadDraw : Relation → Batch → List ℕ → (words draws : List ℕ) → Type 0

@@ -21,7 +21,7 @@ use Rattle.magnetar_theory.specs.Inner.{zipInner}
 use Rattle.magnetar_theory.specs.Run.{Relation, System, binGood, residues, vectors, trueTerminals, combo, folded}
 use Rattle.magnetar_theory.specs.Lists.{section, words, sixAt, outer, lists, listsOf}
 use Rattle.magnetar_theory.proofs.Lists.{bad-few, words-few, outer-few}
-use Rattle.magnetar_theory.specs.Count.{stage, most, draws, sumTo}
+use Rattle.magnetar_theory.specs.Count.{stage, most, draws, naturalSum}
 
 ltb-suc : (m n : ℕ) → ltb (suc m) (suc n) ≡ ltb m n
 ltb-suc m n = go (ltb m n) refl
@@ -40,7 +40,7 @@ module _ (F : Field) where
   met l [] = 0
   met l (a ∷ d) = length (l []) + met (λ p. l (a ∷ p)) d
 
-  pub met-sum : (l : List K → List K) (d : List K) → met l d ≡ sumTo (length d) (λ k. length (l (take k d)))
+  pub met-sum : (l : List K → List K) (d : List K) → met l d ≡ naturalSum (length d) (λ k. length (l (take k d)))
   met-sum l [] = refl
   met-sum l (a ∷ d) = ap (λ (n : ℕ). length (l []) + n) (met-sum (λ p. l (a ∷ p)) d)
 

@@ -17,7 +17,7 @@ most good s b f = stage (b + s) (cond good 0 1)
 abbrev pub draws : ℕ → ℕ → ℕ → ℕ → ℕ
 draws s b f h = b + s + (f + s + (s + (b + (f + (6 + suc h)))))
 
--- f 0 + .. + f (n - 1)
-abbrev pub sumTo : ℕ → (ℕ → ℕ) → ℕ
-sumTo zero f = 0
-sumTo (suc n) f = f 0 + sumTo n (λ k. f (suc k))
+-- f 0 + .. + f (n - 1), a sum of natural numbers
+abbrev pub naturalSum : ℕ → (ℕ → ℕ) → ℕ
+naturalSum zero f = 0
+naturalSum (suc n) f = f 0 + naturalSum n (λ k. f (suc k))
