@@ -25,7 +25,7 @@ use Rattle.magnetar_protocol.specs.Run.{claims, verdict, ClaimsTrue}
 use Rattle.magnetar_protocol.specs.RunSizes.{SizedRelation, SizedBatch}
 use Rattle.magnetar_protocol.specs.Soundness.{NoBitOutside}
 use Rattle.magnetar_protocol.specs.Prover.{proverWords, proverClaims}
-use Rattle.magnetar_protocol.specs.RealRun.{verifierDraws, verifierTranscript, proverDraws, proverTranscript, saidWords, Agrees}
+use Rattle.magnetar_protocol.specs.RealRun.{verifierDraws, verifierTranscript, proverDraws, proverTranscript, sentWords, Agrees}
 use Rattle.magnetar_protocol.proofs.Stepwise.{proving-length}
 use Rattle.magnetar_protocol.proofs.ProverRun.{proving-words}
 use Rattle.magnetar_protocol.proofs.RealRuns.{completeness-run}
@@ -75,10 +75,10 @@ module _ (R : Rules) (ws x : List ℕ) (t : Transcript) (w c s : List ℕ) where
   handed = writtenProof R ws x t w c s
 
   abbrev said : List ℕ
-  said = saidWords (relationOf R) (batchOf R ws) (elements x) t
+  said = sentWords (relationOf R) (batchOf R ws) (elements x) t
 
   handed-is : proveRefusal R ws x t w c s ≡ 0 → proofWords R ≡ 2 * length said → handed ≡ words said
-  unfolding proveOutcome proveDraws saidWords
+  unfolding proveOutcome proveDraws sentWords
   handed-is hp h =
       rw hp (front (proverWords (relationOf R) (batchOf R ws) (elements x) (proverDraws (relationOf R) (batchOf R ws) (elements x) t)) (drop (proofWords R) w) (proofWords R) h)
 
@@ -128,7 +128,7 @@ module _ (R : Rules) (ws x : List ℕ) (t : Transcript) (w c s : List ℕ) where
       agrees = completeness-run r b (elements x) t relation (sized-batch R ws) public (elements-below x wx) good stray
 
       size : proofWords R ≡ 2 * length said
-      size = unfold saidWords systemOf matrixOf in ap (λ (n : ℕ). 2 * n)
+      size = unfold sentWords systemOf matrixOf in ap (λ (n : ℕ). 2 * n)
           (sym (proving-length r b (elements x) t) ∙ ap length (proving-words r b (elements x) t relation (sized-batch R ws) public (elements-below x wx)))
 
       given : elements handed ≡ said
