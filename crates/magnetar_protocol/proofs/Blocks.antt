@@ -12,17 +12,15 @@ use borrow.Author.Tests.{ne-eqb}
 use Rattle.magnetar_field.specs.Gf128.{_⊕_, _⊗_}
 use Rattle.magnetar_field.specs.EqTable.{eqAt}
 use Rattle.magnetar_field.specs.Multilinear.{mle}
-use Rattle.magnetar_hash.specs.declared.transcript.Transcript.{Transcript}
 use Rattle.magnetar_r1cs.specs.Batch.{Relation}
 use Rattle.magnetar_layout.specs.Layout.{localVars, suffix}
-use Rattle.magnetar_protocol.specs.Shape.{logLogins, proofElements}
-use Rattle.magnetar_protocol.specs.Proof.{binMessages, fldMessages, terminals, innerRounds, valueZ, segmentValues}
-use Rattle.magnetar_protocol.specs.Draws.{Draws, drawCount, drawsOf, lowPoint, topElement}
+use Rattle.magnetar_protocol.specs.Shape.{logLogins}
+use Rattle.magnetar_protocol.specs.Proof.{binMessages, fldMessages, valueZ, segmentValues}
+use Rattle.magnetar_protocol.specs.Draws.{Draws, drawsOf, lowPoint, topElement}
 use Rattle.magnetar_protocol.specs.Schedule.{outline, schedule, afterTaus, afterInner}
-use Rattle.magnetar_protocol.specs.Checks.{Check, binRound, fldRound, innerClaim, segmentSum, firstRefusal, firstStop, checks, sharedChecks, rowChecks, terminalChecks, innerChecks, identityCheck}
+use Rattle.magnetar_protocol.specs.Checks.{Check, binRound, fldRound, segmentSum, firstRefusal, firstStop, checks, sharedChecks, rowChecks, terminalChecks, innerChecks, identityCheck}
 use Rattle.magnetar_protocol.specs.Run.{verdict, claims}
 use Rattle.magnetar_protocol.specs.RealRun.{stop}
-use Rattle.magnetar_protocol.specs.Stepwise.{Steps, Tables, tauSteps, outerBegin, binRows, fldRows, outerRounds, terminalsLeft, outerAll, innerRun, segmentValue, lowDraws, ended, innerAll}
 use Rattle.magnetar_protocol.proofs.Phases.{Numbered, numbered-append, orElse, first-append, shared-numbered, rows-numbered, terminals-numbered, inner-numbered}
 
 -- ---- the stop of two lists of checks
@@ -115,12 +113,6 @@ module _ (r : Relation) where
   unfolding drawsOf
   draws-outlined d = refl
 
-  pub count-outlined : drawCount r ≡ drawCount (outlined r)
-  count-outlined = refl
-
-  pub elements-outlined : proofElements r ≡ proofElements (outlined r)
-  elements-outlined = refl
-
   pub claims-outlined : (w d : List ℕ) → claims r w d ≡ claims (outlined r) w d
   unfolding claims drawsOf lowPoint segmentValues
   claims-outlined w d = refl
@@ -155,29 +147,3 @@ module _ (r : Relation) where
       passes = eqb ((1 ⊕ topElement r D) ⊗ s ⊕ topElement r D ⊗ mle (1 ∷ x) (lowPoint r D)) (valueZ r w);
       events = afterInner r + 1;
     } ∷ []) (sum-outlined 0 (segmentValues r w))
-
-    -- what the inner checks take from the words and the draws
-    pub claim-outlined : innerClaim r w D ≡ innerClaim (outlined r) w D
-    unfolding innerClaim terminals
-    claim-outlined = refl
-
-    pub rounds-outlined : innerRounds r w ≡ innerRounds (outlined r) w
-    unfolding innerRounds
-    rounds-outlined = refl
-
-    pub value-outlined : valueZ r w ≡ valueZ (outlined r) w
-    unfolding valueZ
-    value-outlined = refl
-
-  -- the steps
-  pub tau-outlined : (t : Transcript) → tauSteps r t ≡ tauSteps (outlined r) t
-  unfolding tauSteps
-  tau-outlined t = refl
-
-  pub outer-outlined : (T : Tables) (p : Steps) → outerAll r T p ≡ outerAll (outlined r) T p
-  unfolding outerAll outerRounds terminalsLeft outerBegin binRows fldRows
-  outer-outlined T p = refl
-
-  pub inner-outlined : (t f x : List ℕ) (p : Steps) → innerAll r t f x p ≡ innerAll (outlined r) t f x p
-  unfolding innerAll innerRun segmentValue lowDraws ended
-  inner-outlined t f x p = refl

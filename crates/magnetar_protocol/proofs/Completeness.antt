@@ -13,8 +13,8 @@ use Rattle.magnetar_protocol.specs.Draws.{Draws, drawsOf, loginPoint, lo
 use Rattle.magnetar_protocol.specs.Run.{verdict, claims, trueValue, ClaimsTrue}
 use Rattle.magnetar_protocol.specs.RunSizes.{SizedRun, Sized}
 use Rattle.magnetar_protocol.specs.Theory.{relationE, publicE, batchE, drawsE}
-use Rattle.magnetar_protocol.specs.Soundness.{NoStray}
-use Rattle.magnetar_protocol.specs.Prover.{trueValues, honestWords, proverWords, proverClaims, Convinces}
+use Rattle.magnetar_protocol.specs.Soundness.{NoBitOutside}
+use Rattle.magnetar_protocol.specs.Prover.{trueValues, honestWords, proverWords, proverClaims, CompleteRun}
 use Rattle.magnetar_protocol.proofs.SizeFacts.{Cut, cut}
 use Rattle.magnetar_protocol.proofs.Verdict.{of-holds}
 use Rattle.magnetar_protocol.proofs.AcceptedHolds.{holds}
@@ -48,7 +48,7 @@ module _ (r : Relation) (b : Batch) (x d : List ℕ) (S : SizedRun r b x d) wher
   true-claims = values-true r (S .relation) (drawsOf r d) (cut r d (S .draws)) (trueValues r b (drawsOf r d)) b
       (λ i h. tabulate-get (trueValue r b (drawsOf r d)) (length (r .lengths)) i 0 h)
 
-  honest-accepted : Good r b x → NoStray r b → verdict r x (proverWords r b x d) d ≡ 0
+  honest-accepted : Good r b x → NoBitOutside r b → verdict r x (proverWords r b x d) d ≡ 0
   unfolding verdict proverWords
   honest-accepted g stray =
       of-holds r x (honestWords r b x D) D C
@@ -66,5 +66,5 @@ module _ (r : Relation) (b : Batch) (x d : List ℕ) (S : SizedRun r b x d) wher
 
   -- Demand 3, second half: of a good batch with no bit outside, the honest words are accepted, both ends return the same claims,
   -- and all of them are true.
-  pub completeness : Good r b x → NoStray r b → Convinces r b x d
+  pub completeness : Good r b x → NoBitOutside r b → CompleteRun r b x d
   completeness g stray = record { accepted = honest-accepted g stray; same-claims = same-claims; true-claims = true-claims }

@@ -1,7 +1,7 @@
 -- A schedule played: part after part, how many events and draws there are, and that every draw is an element.
 -- Assumes nothing.
 use mathlib.Core.Path.{_≡_, refl, sym, ap, _∙_, subst}
-use mathlib.Core.List.{List, [], _∷_, _++_, append-nil, append-assoc}
+use mathlib.Core.List.{List, [], _∷_, _++_}
 use Prim.Native.Nat.{ℕ, zero, suc, _+_, _*_, _^_, _≤_, _<_}
 use native.Mathlib.Nat.{mod-lt, add-zero}
 use native.Mathlib.Omega.{arith}
@@ -22,7 +22,7 @@ use Rattle.magnetar_r1cs.proofs.Digits.{value-lt}
 use Rattle.magnetar_protocol.specs.Proof.{part}
 use Rattle.magnetar_protocol.specs.Draws.{drawCount}
 use Rattle.magnetar_protocol.specs.Schedule.{Event, absorb, draw, rounds, singles, schedule, afterInner}
-use Rattle.magnetar_protocol.specs.Play.{Played, start, absorbing, drawing, play, heard}
+use Rattle.magnetar_protocol.specs.Play.{Played, start, absorbing, drawing, play, playedFrom}
 use Rattle.magnetar_protocol.specs.RunSizes.{Elements}
 use Rattle.magnetar_protocol.specs.RealRun.{verifierDraws}
 use Rattle.magnetar_protocol.proofs.HonestBelow.{elements-of, both}
@@ -37,20 +37,6 @@ play-append w (draw l ∷ a) b p = play-append w a b (drawing l p)
 -- what was drawn before stands before what is drawn
 abbrev pub onto : List ℕ → Played → Played
 onto d p = record { transcript = p .transcript; draws = d ++ p .draws }
-
-drawing-onto : (d l : List ℕ) (p : Played) → drawing l (onto d p) ≡ onto d (drawing l p)
-drawing-onto d l p = ap (λ (e : List ℕ). record { transcript = drawn (p .transcript) l; draws = e }) (append-assoc d (p .draws) _)
-
-pub play-onto : (w : List ℕ) (es : List Event) (d : List ℕ) (p : Played) → play w es (onto d p) ≡ onto d (play w es p)
-unfolding play
-play-onto w [] d p = refl
-play-onto w (absorb l i n ∷ es) d p = play-onto w es d (absorbing l (part i n w) p)
-play-onto w (draw l ∷ es) d p = ap (play w es) (drawing-onto d l p) ∙ play-onto w es d (drawing l p)
-
-pub play-after : (w : List ℕ) (es : List Event) (p : Played) → play w es p ≡ onto (p .draws) (play w es (start (p .transcript)))
-play-after w es p =
-    ap (λ (d : List ℕ). play w es (record { transcript = p .transcript; draws = d })) (sym (append-nil (p .draws)))
-    ∙ play-onto w es (p .draws) (start (p .transcript))
 
 -- ---- counts
 pub rounds-length : (label : ℕ → List ℕ) (first size i n : ℕ) → length (rounds label first size i n) ≡ 2 * n
@@ -116,7 +102,7 @@ module _ (r : Relation) where
   schedule-draws =
       simp (drawsIn-append, drawsIn-replicate, drawsIn-rounds, drawsIn-singles) (omega arith)
 
-  pub heard-count : (w : List ℕ) (t : Transcript) → length (heard w (schedule r) t .draws) ≡ drawCount r
+  pub heard-count : (w : List ℕ) (t : Transcript) → length (playedFrom w (schedule r) t .draws) ≡ drawCount r
   heard-count w t = play-count w (schedule r) (start t) ∙ omega (arith, schedule-draws)
 
 -- ---- bounds
@@ -160,8 +146,8 @@ all-drawn w [] p h = h
 all-drawn w (absorb l i n ∷ es) p h = all-drawn w es (absorbing l (part i n w) p) h
 all-drawn w (draw l ∷ es) p h = all-drawn w es (drawing l p) (both (p .draws) (_ ∷ []) h (drawn-lt (p .transcript) l, tt))
 
-pub heard-elements : (w : List ℕ) (es : List Event) (t : Transcript) → Elements (heard w es t .draws)
-heard-elements w es t = elements-of (heard w es t .draws) (all-drawn w es (start t) tt)
+pub heard-elements : (w : List ℕ) (es : List Event) (t : Transcript) → Elements (playedFrom w es t .draws)
+heard-elements w es t = elements-of (playedFrom w es t .draws) (all-drawn w es (start t) tt)
 
 -- ---- the verifier's draws
 module _ (r : Relation) (w : List ℕ) (t : Transcript) where

@@ -1,8 +1,9 @@
--- The sizes, goodness and layout of the second example: what the two theorems ask for can be had.
+-- The sizes, goodness and layout of the second example: what the two theorems ask for can be had, and both are applied to it.
 -- Assumes nothing.
-use mathlib.Core.Path.{_≡_, refl}
-use mathlib.Core.Bool.{true, false, false≢true}
+use mathlib.Core.Path.{_≡_, refl, sym, subst}
+use mathlib.Core.Bool.{false≢true}
 use mathlib.Core.List.{[], _∷_}
+use mathlib.Core.Logic.{_⊎_}
 use Prim.Native.Nat.{ℕ, zero, suc, _<_}
 use native.Mathlib.Omega.{arith}
 use lib.Dec.{lit<, lit≤}
@@ -13,11 +14,13 @@ use Rattle.magnetar_layout.specs.Every.{every}
 use Rattle.magnetar_r1cs.specs.Matrix.{sumOver, rowTotal, share, timesAt}
 use Rattle.magnetar_r1cs.specs.Batch.{bitOf, assignment, Satisfied, Good}
 use Rattle.magnetar_layout.specs.Layout.{nextMultiple, offsetsFrom, offsets, endFrom, layoutEnd, isLength, within, outside}
+use Rattle.magnetar_protocol.specs.Run.{ClaimsTrue}
 use Rattle.magnetar_protocol.specs.RunSizes.{SizedRelation, SizedBatch, SizedRun}
-use Rattle.magnetar_protocol.specs.Soundness.{NoStray}
-use Rattle.magnetar_protocol.specs.Prover.{Convinces}
+use Rattle.magnetar_protocol.specs.Soundness.{NoBitOutside, BadDraw}
+use Rattle.magnetar_protocol.specs.Prover.{proverWords, CompleteRun}
 use Rattle.magnetar_protocol.proofs.HonestBelow.{elements-of}
-use Rattle.magnetar_protocol.proofs.Completeness.{completeness}
+use Rattle.magnetar_protocol.proofs.Soundness.{soundness}
+use Rattle.magnetar_protocol.proofs.Completeness.{prover-sized, completeness}
 use Rattle.magnetar_protocol.proofs.Examples.{small, smallBatch, smallDraws}
 
 -- ---- sizes
@@ -72,13 +75,7 @@ small-sized = record {
   public = refl;
   draws = refl;
   elements-x = elements-of (5 ∷ []) (lit< tt, tt);
-  elements-d = elements-of smallDraws (
-    lit< tt,
-    (
-      lit< tt,
-      (lit< tt, (lit< tt, (lit< tt, (lit< tt, (lit< tt, (lit< tt, (lit< tt, (lit< tt, (lit< tt, (lit< tt, (lit< tt, tt))))))))))),
-    ),
-  );
+  elements-d = elements-of smallDraws (lit< tt, (lit< tt, (lit< tt, (lit< tt, (lit< tt, (lit< tt, (lit< tt, (lit< tt, (lit< tt, (lit< tt, (lit< tt, (lit< tt, (lit< tt, (lit< tt, (lit< tt, tt)))))))))))))));
 }
 
 -- ---- the batch
@@ -97,17 +94,25 @@ small-good = record { bin = bin; fld = fld }
 
     fld : Satisfied (small .fld) 2 smallBatch (5 ∷ [])
     fld zero zero h k = refl
-    fld zero (suc i) h k = absurd (omega arith)
+    fld zero (suc zero) h k = refl
+    fld zero (suc (suc i)) h k = absurd (omega arith)
     fld (suc zero) zero h k = refl
-    fld (suc zero) (suc i) h k = absurd (omega arith)
+    fld (suc zero) (suc zero) h k = refl
+    fld (suc zero) (suc (suc i)) h k = absurd (omega arith)
     fld (suc (suc u)) i h k = absurd (omega arith)
 
-pub small-laid : NoStray small smallBatch
+pub small-laid : NoBitOutside small smallBatch
 unfolding outside within offsets offsetsFrom nextMultiple
 small-laid u zero h k o = absurd (false≢true o)
 small-laid u (suc zero) h k o = absurd (false≢true o)
 small-laid u (suc (suc y)) h k o = absurd (omega arith)
 
 -- so the honest words of this batch are accepted, and the claims are true
-pub small-convinces : Convinces small smallBatch (5 ∷ []) smallDraws
-small-convinces = completeness small smallBatch (5 ∷ []) smallDraws small-sized small-good small-laid
+pub small-complete : CompleteRun small smallBatch (5 ∷ []) smallDraws
+small-complete = completeness small smallBatch (5 ∷ []) smallDraws small-sized small-good small-laid
+
+-- and the theorem on an accepted run speaks of these words: all that it asks for holds of them
+pub small-sound : Good small smallBatch (5 ∷ []) ⊎ BadDraw small smallBatch (5 ∷ []) (proverWords small smallBatch (5 ∷ []) smallDraws) smallDraws
+small-sound = soundness small smallBatch (5 ∷ []) (proverWords small smallBatch (5 ∷ []) smallDraws) smallDraws
+    (prover-sized small smallBatch (5 ∷ []) smallDraws small-sized) (small-complete .accepted) small-laid
+    (subst (ClaimsTrue small smallBatch) (sym (small-complete .same-claims)) (small-complete .true-claims))

@@ -71,24 +71,22 @@ unfolding log₂ halvings _⊕_ _⊗_ sumTimes timesX tabulate eval eqFactor eqA
     verdict
 least-refused = refl
 
--- ---- m = 4, q = 2: two rows that say that each bit is a bit, a row 1 x = x, and a segment of both bits
-abbrev diagonal : Matrix
-diagonal = record { rows = 2; cols = 4; entries = record { row = 0; col = 0; value = 1 } ∷ record { row = 1; col = 1; value = 1 } ∷ [] }
-
-abbrev column : ℕ → Matrix
-column k = record { rows = 1; cols = 4; entries = record { row = 0; col = k; value = 1 } ∷ [] }
+-- ---- m = 4, q = 2: two rows that say that each bit is a bit, the rows 1 x = x and 1 1 = 1, and a segment of both bits
+-- two rows, with a one in column k of the first and in column l of the second
+abbrev columns : ℕ → ℕ → Matrix
+columns k l = record { rows = 2; cols = 4; entries = record { row = 0; col = k; value = 1 } ∷ record { row = 1; col = l; value = 1 } ∷ [] }
 
 abbrev pub small : Relation
 small = record {
   m = 4;
   q = 2;
-  bin = record { a = diagonal; b = diagonal; c = diagonal };
-  fld = record { a = column 2; b = column 3; c = column 3 };
+  bin = record { a = columns 0 1; b = columns 0 1; c = columns 0 1 };
+  fld = record { a = columns 2 2; b = columns 3 2; c = columns 3 2 };
   lengths = 2 ∷ [];
 }
 
 abbrev pub smallDraws : List ℕ
-smallDraws = 17 ∷ 35 ∷ 70 ∷ 5 ∷ 6 ∷ 7 ∷ 8 ∷ 9 ∷ 10 ∷ 11 ∷ 12 ∷ 13 ∷ 14 ∷ []
+smallDraws = 17 ∷ 35 ∷ 70 ∷ 5 ∷ 6 ∷ 7 ∷ 8 ∷ 9 ∷ 10 ∷ 11 ∷ 12 ∷ 13 ∷ 14 ∷ 15 ∷ 16 ∷ []
 
 abbrev pub smallBatch : List (List ℕ)
 smallBatch = (1 ∷ 0 ∷ []) ∷ (1 ∷ 1 ∷ []) ∷ []
@@ -102,8 +100,8 @@ abbrev answer : ℕ → ℕ
 answer j = verdict small (5 ∷ []) (flipped j) smallDraws
 
 -- one element of the honest words changed: each of 21 to 29 is met
-pub changed : map answer (0 ∷ 1 ∷ 4 ∷ 5 ∷ 8 ∷ 9 ∷ 14 ∷ 17 ∷ 18 ∷ 19 ∷ 21 ∷ 24 ∷ 25 ∷ []) ≡ 23 ∷ 21 ∷ 26 ∷ 22 ∷ 25 ∷ 23 ∷ 25 ∷ 26 ∷ 27 ∷ 27
-    ∷ 28 ∷ 28 ∷ 29 ∷ []
+pub changed : map answer (0 ∷ 1 ∷ 4 ∷ 5 ∷ 8 ∷ 9 ∷ 12 ∷ 13 ∷ 18 ∷ 21 ∷ 22 ∷ 23 ∷ 25 ∷ 28 ∷ 29 ∷ [])
+    ≡ 23 ∷ 21 ∷ 24 ∷ 22 ∷ 25 ∷ 23 ∷ 26 ∷ 24 ∷ 25 ∷ 26 ∷ 27 ∷ 27 ∷ 28 ∷ 28 ∷ 29 ∷ []
 unfolding log₂ halvings _⊕_ _⊗_ sumTimes timesX tabulate eval eqFactor eqAt eqTable dot mle line insertZero bindVar sumTo
     total checkSum holds running eqPoints at₀ at₁ slope outerEnd innerEnd innerSums innerMessage nextVar coefficient₀
     coefficient₁ coefficient₂ weighted timesEq outerMessage dropVar outerNext outerFold outerStart outerMessages

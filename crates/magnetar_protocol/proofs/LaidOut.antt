@@ -19,7 +19,7 @@ use Rattle.magnetar_theory.specs.Run.{AllLaid}
 use Rattle.magnetar_theory.specs.Gf128.{Element, element, gf128}
 use Rattle.magnetar_protocol.specs.Theory.{els, batchE, segmentsE}
 use Rattle.magnetar_protocol.specs.RunSizes.{SizedRelation, SizedBatch}
-use Rattle.magnetar_protocol.specs.Soundness.{NoStray}
+use Rattle.magnetar_protocol.specs.Soundness.{NoBitOutside}
 use Rattle.magnetar_protocol.proofs.Elements.{els-at}
 use Rattle.magnetar_protocol.proofs.LayoutLaws.{first-length, next-least, next-aligned, end-least, none-below}
 
@@ -83,7 +83,7 @@ logins-laid v n ns (w ∷ b) e f l z = (
   logins-laid v n ns b e f (λ u h. l (suc u) (omega arith)) (λ u y h₁ h₂ h₃. z (suc u) y (omega arith) h₂ h₃),
 )
 
-pub laid-out : (r : Relation) (b : Batch) → SizedRelation r → SizedBatch r b → NoStray r b
+pub laid-out : (r : Relation) (b : Batch) → SizedRelation r → SizedBatch r b → NoBitOutside r b
     → AllLaid gf128 (r .m / 2) (segmentsE (offsets (r .lengths)) (r .lengths)) (batchE b)
 unfolding offsets layoutEnd outside bitOf
 laid-out r b R B z =

@@ -1,6 +1,6 @@
 -- The verifier's answer phase by phase: a later phase decides where the earlier ones find nothing.
 -- Assumes nothing.
-use mathlib.Core.Path.{_≡_, refl, ap, _∙_}
+use mathlib.Core.Path.{_≡_, refl}
 use mathlib.Core.Bool.{Bool, true, false, cond}
 use mathlib.Core.List.{List, [], _∷_, _++_}
 use Prim.Native.Nat.{ℕ, zero, suc, _+_, _*_, _<_}
@@ -14,9 +14,9 @@ use Rattle.magnetar_sumcheck.specs.Inner.{innerEnd}
 use Rattle.magnetar_r1cs.specs.Batch.{Relation}
 use Rattle.magnetar_protocol.specs.Shape.{logLogins, logBin, logFld, logCols}
 use Rattle.magnetar_protocol.specs.Draws.{Draws}
-use Rattle.magnetar_protocol.specs.Schedule.{afterTaus, afterShared, afterBin, afterAlphas, afterInner}
+use Rattle.magnetar_protocol.specs.Schedule.{afterShared, afterBin, afterAlphas, afterInner}
 use Rattle.magnetar_protocol.specs.Proof.{innerRounds, valueZ}
-use Rattle.magnetar_protocol.specs.Checks.{Check, roundHolds, innerClaim, combined, binRound, fldRound, firstRefusal, checks, sharedChecks, rowChecks, terminalChecks, innerChecks, identityCheck}
+use Rattle.magnetar_protocol.specs.Checks.{Check, roundHolds, innerClaim, combined, binRound, fldRound, firstRefusal, sharedChecks, rowChecks, terminalChecks, innerChecks}
 
 -- each refusal has a number
 abbrev pub Numbered : List Check → Type 0
@@ -77,17 +77,3 @@ module _ (r : Relation) (x w : List ℕ) (D : Draws) where
 
       innerLast : Bool
       innerLast = eqb (running (innerClaim r w D) (innerRounds r w) (D .inner)) (innerEnd (mle (combined r D) (D .inner)) (valueZ r w))
-
-  pub phases : firstRefusal (checks r x w D)
-      ≡ orElse (firstRefusal (sharedChecks r x w D 0 (logLogins r)))
-      (orElse (firstRefusal (rowChecks r x w D))
-      (orElse (firstRefusal (terminalChecks r x w D)) (orElse (firstRefusal (innerChecks r x w D)) (firstRefusal (identityCheck r x w D)))))
-  unfolding checks
-  phases =
-      first-append (sharedChecks r x w D 0 (logLogins r))
-      (rowChecks r x w D ++ (terminalChecks r x w D ++ (innerChecks r x w D ++ identityCheck r x w D))) (shared-numbered 0 (logLogins r))
-      ∙ ap (orElse (firstRefusal (sharedChecks r x w D 0 (logLogins r))))
-      (first-append (rowChecks r x w D) (terminalChecks r x w D ++ (innerChecks r x w D ++ identityCheck r x w D)) rows-numbered
-      ∙ ap (orElse (firstRefusal (rowChecks r x w D)))
-      (first-append (terminalChecks r x w D) (innerChecks r x w D ++ identityCheck r x w D) terminals-numbered
-      ∙ ap (orElse (firstRefusal (terminalChecks r x w D))) (first-append (innerChecks r x w D) (identityCheck r x w D) inner-numbered)))

@@ -9,7 +9,7 @@ use lib.Dec.{eqb}
 use lib.ListN.{length, getD, getD-replicate}
 use lib.Pow.{pow-pos}
 use borrow.Author.Tests.{eqb-true, eqb-false}
-use Rattle.magnetar_field.specs.Gf128.{_⊕_, _⊗_}
+use Rattle.magnetar_field.specs.Gf128.{_⊗_}
 use Rattle.magnetar_field.specs.EqTable.{eqTable}
 use Rattle.magnetar_field.proofs.Xor.{⊕-lt}
 use Rattle.magnetar_field.proofs.Product.{⊗-lt}

@@ -1,6 +1,6 @@
 -- The words of the prover's run are the honest words at its draws.
 -- Assumes nothing.
-use mathlib.Core.Path.{_≡_, refl, sym, ap, ap₂, _∙_, subst}
+use mathlib.Core.Path.{_≡_, refl, sym, ap, ap₂, _∙_}
 use mathlib.Core.List.{List, [], _∷_, _++_}
 use Prim.Native.Nat.{ℕ, zero, suc, _+_, _-_, _*_, _/_, _^_, _≤_, _<_}
 use native.Mathlib.Omega.{arith}
@@ -30,17 +30,17 @@ use Rattle.magnetar_protocol.specs.Run.{trueValue, claims}
 use Rattle.magnetar_protocol.specs.RunSizes.{SizedSystem, SizedRelation, SizedBatch, Elements}
 use Rattle.magnetar_protocol.specs.Theory.{logHalf}
 use Rattle.magnetar_protocol.specs.Prover.{joined, inTurn, productTable, outerRounds, binRounds, fldRounds, terminalValues, foldedZ, trueValues, honestWords, proverWords, proverClaims}
-use Rattle.magnetar_protocol.specs.Stepwise.{Steps, segmentValue}
-use Rattle.magnetar_protocol.specs.RealRun.{productTables, outerDraws, outerProving, proving, proverDraws}
+use Rattle.magnetar_protocol.specs.Stepwise.{segmentValue}
+use Rattle.magnetar_protocol.specs.RealRun.{productTables, outerDraws, proving, proverDraws}
 use Rattle.magnetar_protocol.proofs.LayoutLaws.{Placed, placed}
 use Rattle.magnetar_protocol.proofs.SegmentSums.{pow-le}
 use Rattle.magnetar_protocol.proofs.SizeFacts.{cols-suc, half-pow, Cut, cut, low-size}
 use Rattle.magnetar_protocol.proofs.HonestTables.{product-length, foldedZ-length}
 use Rattle.magnetar_protocol.proofs.HonestParts.{outer-count, segment-part}
-use Rattle.magnetar_protocol.proofs.HonestBelow.{elements-of, both, tabulate-below, honest-elements}
+use Rattle.magnetar_protocol.proofs.HonestBelow.{elements-of, both, tabulate-below}
 use Rattle.magnetar_protocol.proofs.StepLaws.{folds, messages-append, binds}
 use Rattle.magnetar_protocol.proofs.Bindings.{binds-left, left-a, left-b, left-c, segment-is, folded-elements}
-use Rattle.magnetar_protocol.proofs.Stepwise.{elements-front, shared, tau-bin-length, tau-fld-length, shared-length, row-bin-length, row-fld-length, alpha-length, leftOf, binAtStart, fldAtStart, ends-bin, ends-fld, outerSaid, inner-of, inner-of-length, lastSaid, proving-said, proving-count, proving-elements, proving-after, outer-parts, parts, parts-are}
+use Rattle.magnetar_protocol.proofs.Stepwise.{shared, tau-bin-length, tau-fld-length, shared-length, row-bin-length, row-fld-length, alpha-length, leftOf, binAtStart, fldAtStart, ends-bin, ends-fld, outerSaid, inner-of, inner-of-length, lastSaid, proving-said, proving-count, proving-elements, outer-parts, parts, parts-are}
 
 -- ---- the products are elements
 sum-over-lt : (f : Entry → ℕ) (es : List Entry) → ((e : Entry) → f e < 2 ^ 128) → sumOver f es < 2 ^ 128
@@ -234,15 +234,6 @@ module _ (r : Relation) (b : Batch) (x : List ℕ) (t : Transcript) where
     pub proving-words : proving r b x t .said ≡ proverWords r b x (proverDraws r b x t)
     unfolding proverWords proverDraws
     proving-words = proving-said r b x t ∙ words-same ∙ ap (honestWords r b x) (sym (parts-are r b x t))
-
-    -- and elements
-    pub proving-words-elements : Elements (proving r b x t .said)
-    proving-words-elements = subst Elements (sym proving-words)
-        (unfold proverWords in honest-elements r b x (drawsOf r (proverDraws r b x t)))
-
-    pub outer-words-elements : Elements (outerProving r b x t .said)
-    outer-words-elements = elements-front (outerProving r b x t .said) _
-        (subst (λ (p : Steps). Elements (p .said)) (proving-after r b x t) proving-words-elements)
 
   -- ---- the draws
   pub prover-count : length (proverDraws r b x t) ≡ drawCount r

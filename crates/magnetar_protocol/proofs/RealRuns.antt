@@ -8,15 +8,15 @@ use lib.ListN.{length, take}
 use lib.Seq.{take-length}
 use Rattle.magnetar_hash.specs.declared.transcript.Transcript.{Transcript}
 use Rattle.magnetar_r1cs.specs.Batch.{Relation, Batch, Good}
-use Rattle.magnetar_theory.specs.Count.{sumTo}
+use Rattle.magnetar_theory.specs.Count.{naturalSum}
 use Rattle.magnetar_protocol.specs.Shape.{logLogins, logBin, logFld, logCols, proofElements}
 use Rattle.magnetar_protocol.specs.Schedule.{Event, schedule}
-use Rattle.magnetar_protocol.specs.Play.{Played, heard}
+use Rattle.magnetar_protocol.specs.Play.{Played, playedFrom}
 use Rattle.magnetar_protocol.specs.Run.{verdict, claims, ClaimsTrue}
 use Rattle.magnetar_protocol.specs.RunSizes.{SizedRelation, SizedBatch, Elements}
-use Rattle.magnetar_protocol.specs.Soundness.{NoStray, badDraws, absorbedBefore, BadDraw}
-use Rattle.magnetar_protocol.specs.Prover.{proverClaims, Convinces}
-use Rattle.magnetar_protocol.specs.RealRun.{verifierDraws, verifierTranscript, proving, proverDraws, proverTranscript, saidWords, Agrees}
+use Rattle.magnetar_protocol.specs.Soundness.{NoBitOutside, badDraws, absorbedBefore, BadDraw}
+use Rattle.magnetar_protocol.specs.Prover.{proverClaims, CompleteRun}
+use Rattle.magnetar_protocol.specs.RealRun.{verifierDraws, verifierTranscript, proving, proverDraws, proverTranscript, sentWords, Agrees}
 use Rattle.magnetar_protocol.proofs.Soundness.{soundness, all-lists}
 use Rattle.magnetar_protocol.proofs.Completeness.{completeness}
 use Rattle.magnetar_protocol.proofs.Counts.{verifier-count, verifier-elements}
@@ -25,11 +25,11 @@ use Rattle.magnetar_protocol.proofs.Stepwise.{hears-the-same}
 use Rattle.magnetar_protocol.proofs.ProverRun.{proving-words, prover-count, prover-elements}
 
 -- Where a verifier accepts whose draws are those of its transcript, no bit is set outside the segments and every returned claim is
--- true of the batch, the batch is good, or some draw lies in its list.
+-- true of the batch, the batch is good, or some draw lies in its list of at most three elements.
 pub soundness-run : (r : Relation) (b : Batch) (x w : List ℕ) (t : Transcript)
     → SizedRelation r → SizedBatch r b → suc (length x) ≡ r .m / 2 → Elements x → length w ≡ proofElements r → Elements w
     → verdict r x w (verifierDraws r w t) ≡ 0
-    → NoStray r b
+    → NoBitOutside r b
     → ClaimsTrue r b (claims r w (verifierDraws r w t))
     → Good r b x ⊎ BadDraw r b x w (verifierDraws r w t)
 soundness-run r b x w t R B px ex lw ew =
@@ -48,7 +48,7 @@ soundness-run r b x w t R B px ex lw ew =
 
 -- all lists along the run together
 pub lists-run : (r : Relation) (b : Batch) (x w : List ℕ) (t : Transcript) → SizedRelation r
-    → sumTo (length (verifierDraws r w t))
+    → naturalSum (length (verifierDraws r w t))
     (λ k. length (badDraws r b x (take (absorbedBefore r k) w) (take k (verifierDraws r w t))))
     ≤ 4 * (logLogins r + max (logBin r) (logFld r)) + 1 + 2 * logCols r
 lists-run r b x w t R = all-lists r b x w (verifierDraws r w t) R (verifier-count r w t)
@@ -57,17 +57,17 @@ lists-run r b x w t R = all-lists r b x w (verifierDraws r w t) R (verifier-coun
 pub completeness-run : (r : Relation) (b : Batch) (x : List ℕ) (t : Transcript)
     → SizedRelation r → SizedBatch r b → suc (length x) ≡ r .m / 2 → Elements x
     → Good r b x
-    → NoStray r b
+    → NoBitOutside r b
     → Agrees r b x t
 completeness-run r b x t R B px ex g stray = record {
   same-draws = drawn;
   accepted = accepts;
-  same-claims = ap (claims r (saidWords r b x t)) drawn ∙ claimed;
-  true-claims = subst (ClaimsTrue r b) (sym (ap (claims r (saidWords r b x t)) drawn ∙ claimed)) (convinced .true-claims);
+  same-claims = ap (claims r (sentWords r b x t)) drawn ∙ claimed;
+  true-claims = subst (ClaimsTrue r b) (sym (ap (claims r (sentWords r b x t)) drawn ∙ claimed)) (convinced .true-claims);
   same-transcript = ends;
 }
   where
-    convinced : Convinces r b x (proverDraws r b x t)
+    convinced : CompleteRun r b x (proverDraws r b x t)
     convinced = completeness r b x (proverDraws r b x t) (record {
       relation = R;
       batch = B;
@@ -77,21 +77,21 @@ completeness-run r b x t R B px ex g stray = record {
       elements-d = prover-elements r b x t;
     }) g stray
 
-    hears : heard (saidWords r b x t) (schedule r) t ≡ proving r b x t .played
-    hears = unfold saidWords in (ap (λ (w : List ℕ). heard w (schedule r) t) (sym (proving-words r b x t R B px ex)) ∙ hears-the-same r b x t)
+    hears : playedFrom (sentWords r b x t) (schedule r) t ≡ proving r b x t .played
+    hears = unfold sentWords in (ap (λ (w : List ℕ). playedFrom w (schedule r) t) (sym (proving-words r b x t R B px ex)) ∙ hears-the-same r b x t)
 
-    drawn : verifierDraws r (saidWords r b x t) t ≡ proverDraws r b x t
+    drawn : verifierDraws r (sentWords r b x t) t ≡ proverDraws r b x t
     drawn = unfold verifierDraws proverDraws in ap (λ (p : Played). p .draws) hears
 
-    accepts : verdict r x (saidWords r b x t) (verifierDraws r (saidWords r b x t) t) ≡ 0
-    accepts = ap (verdict r x (saidWords r b x t)) drawn ∙ unfold saidWords in convinced .accepted
+    accepts : verdict r x (sentWords r b x t) (verifierDraws r (sentWords r b x t) t) ≡ 0
+    accepts = ap (verdict r x (sentWords r b x t)) drawn ∙ unfold sentWords in convinced .accepted
 
-    claimed : claims r (saidWords r b x t) (proverDraws r b x t) ≡ proverClaims r b (proverDraws r b x t)
-    claimed = unfold saidWords in convinced .same-claims
+    claimed : claims r (sentWords r b x t) (proverDraws r b x t) ≡ proverClaims r b (proverDraws r b x t)
+    claimed = unfold sentWords in convinced .same-claims
 
-    ends : verifierTranscript r x (saidWords r b x t) t ≡ proverTranscript r b x t
+    ends : verifierTranscript r x (sentWords r b x t) t ≡ proverTranscript r b x t
     ends = unfold verifierTranscript proverTranscript in
-        (ap (λ (n : ℕ). heard (saidWords r b x t) (take n (schedule r)) t .transcript)
-        (stop-accepted r x (saidWords r b x t) (verifierDraws r (saidWords r b x t) t) accepts)
-        ∙ ap (λ (es : List Event). heard (saidWords r b x t) es t .transcript) (take-length (schedule r))
+        (ap (λ (n : ℕ). playedFrom (sentWords r b x t) (take n (schedule r)) t .transcript)
+        (stop-accepted r x (sentWords r b x t) (verifierDraws r (sentWords r b x t) t) accepts)
+        ∙ ap (λ (es : List Event). playedFrom (sentWords r b x t) es t .transcript) (take-length (schedule r))
         ∙ ap (λ (p : Played). p .transcript) hears)

@@ -8,14 +8,14 @@ use native.Mathlib.Omega.{arith}
 use lib.ListN.{length, getD, take, length-map}
 use lib.Seq.{length-take-le}
 use Rattle.magnetar_r1cs.specs.Batch.{Relation, Batch, Good}
-use Rattle.magnetar_theory.specs.Lists.{lists, Hit, drawn, wordsOf}
+use Rattle.magnetar_theory.specs.Lists.{lists, DrawInList, drawn, wordsOf}
 use Rattle.magnetar_theory.specs.Run.{Accepted, trueValue as trueValueE, Draws as DrawsE}
-use Rattle.magnetar_theory.specs.Count.{sumTo}
+use Rattle.magnetar_theory.specs.Count.{naturalSum}
 use Rattle.magnetar_theory.specs.Whole.{Good as GoodE, listOf}
 use Rattle.magnetar_theory.specs.Gf128.{Element, element, number, gf128}
 use Rattle.magnetar_theory.proofs.Gf128.{number-of, gf128Laws}
 use Rattle.magnetar_theory.proofs.Count.{met, met-sum, met-same, met-lists}
-use Rattle.magnetar_theory.proofs.Heard.{heard-lists}
+use Rattle.magnetar_theory.proofs.Absorbed.{absorbed-lists}
 use Rattle.magnetar_theory.proofs.Whole.{list-sizes, sound}
 use Rattle.magnetar_protocol.specs.Shape.{logLogins, logBin, logFld, logCols}
 use Rattle.magnetar_protocol.specs.Proof.{segmentValues}
@@ -23,7 +23,7 @@ use Rattle.magnetar_protocol.specs.Draws.{Draws, drawCount, drawsOf}
 use Rattle.magnetar_protocol.specs.Run.{verdict, claims, ClaimsTrue}
 use Rattle.magnetar_protocol.specs.Theory.{els, logHalf, relationE, publicE, batchE, drawsE}
 use Rattle.magnetar_protocol.specs.RunSizes.{SizedRelation, Elements, Sized}
-use Rattle.magnetar_protocol.specs.Soundness.{NoStray, badDraws, absorbedBefore, BadDraw}
+use Rattle.magnetar_protocol.specs.Soundness.{NoBitOutside, badDraws, absorbedBefore, BadDraw}
 use Rattle.magnetar_protocol.proofs.Elements.{map-take, els-at}
 use Rattle.magnetar_protocol.proofs.SizeFacts.{cols-suc, Cut, cut, flat}
 use Rattle.magnetar_protocol.proofs.Verdict.{holds-of}
@@ -57,11 +57,12 @@ module _ (r : Relation) (b : Batch) (x w d : List ℕ) where
       by : List Element → List Element → List ℕ
       by v e = map number (lists gf128 (logLogins r) (relationE r) (publicE x) (batchE b) v e)
 
-  -- a draw in its list, as numbers
-  as-numbers : Elements d → Hit gf128 listE (els d) → BadDraw r b x w d
+  -- a draw in its list of at most three, as numbers
+  as-numbers : Elements d → DrawInList gf128 listE (els d) → BadDraw r b x w d
   as-numbers below (k, h, m) = (
     k,
     small,
+    at-most-three r b x (take (absorbedBefore r k) w) (take k d),
     subst₂ (λ (a : ℕ) (l : List ℕ). List·Memᴰ a l) (ap number (els-at d k) ∙ number-of (getD d k 0) (below k))
         (list-is k (omega (arith, small))) (number-mem m),
   )
@@ -71,7 +72,7 @@ module _ (r : Relation) (b : Batch) (x w d : List ℕ) where
 
   -- all lists along one run together: 4 J + 1 + 2 log m, where 2 ^ J is the logins times the rows of the larger system
   pub all-lists : SizedRelation r → length d ≡ drawCount r
-      → sumTo (length d) (λ k. length (badDraws r b x (take (absorbedBefore r k) w) (take k d)))
+      → naturalSum (length d) (λ k. length (badDraws r b x (take (absorbedBefore r k) w) (take k d)))
       ≤ 4 * (logLogins r + max (logBin r) (logFld r)) + 1 + 2 * logCols r
   all-lists R h =
       total-at-most (met gf128 whole (els d)) (sums (length d) (λ k. length (badDraws r b x (take (absorbedBefore r k) w) (take k d)))
@@ -85,22 +86,22 @@ module _ (r : Relation) (b : Batch) (x w d : List ℕ) where
       each : (k : ℕ) → k < length d → length (badDraws r b x (take (absorbedBefore r k) w) (take k d)) ≡ length (listE (take k (els d)))
       each k l = ap length (sym (list-is k (omega arith))) ∙ length-map (listE (take k (els d))) number
 
-      same : sumTo (length d) (λ k. length (listE (take k (els d)))) ≡ met gf128 whole (els d)
+      same : naturalSum (length d) (λ k. length (listE (take k (els d)))) ≡ met gf128 whole (els d)
       same =
-          ap (λ (n : ℕ). sumTo n (λ k. length (listE (take k (els d))))) (sym (length-map d element)) ∙ sym (met-sum gf128 listE (els d))
-          ∙ met-same gf128 listE whole (els d) (heard-lists gf128 (logLogins r) (relationE r) (publicE x) (batchE b) (els w))
+          ap (λ (n : ℕ). naturalSum n (λ k. length (listE (take k (els d))))) (sym (length-map d element)) ∙ sym (met-sum gf128 listE (els d))
+          ∙ met-same gf128 listE whole (els d) (absorbed-lists gf128 (logLogins r) (relationE r) (publicE x) (batchE b) (els w))
 
       total-at-most : {t : ℕ} (m : ℕ) → t ≡ m → m ≤ 4 * (logLogins r + max (logBin r) (logFld r)) + 1 + 2 * suc (logHalf r)
           → t ≤ 4 * (logLogins r + max (logBin r) (logFld r)) + 1 + 2 * logCols r
       total-at-most m e l = omega (arith, cols-suc r R)
 
-      sums : (n : ℕ) (f g : ℕ → ℕ) → ((k : ℕ) → k < n → f k ≡ g k) → sumTo n f ≡ sumTo n g
+      sums : (n : ℕ) (f g : ℕ → ℕ) → ((k : ℕ) → k < n → f k ≡ g k) → naturalSum n f ≡ naturalSum n g
       sums zero f g e = refl
       sums (suc n) f g e = ap₂ _+_ (e 0 (omega arith)) (sums n (λ k. f (suc k)) (λ k. g (suc k)) (λ k l. e (suc k) (omega arith)))
 
   -- Demand 3, first half: where the verifier accepts, no bit is set outside the segments and every claim is true of the batch,
-  -- the batch is good, or some draw lies in its list.
-  pub soundness : Sized r b x w d → verdict r x w d ≡ 0 → NoStray r b → ClaimsTrue r b (claims r w d) → Good r b x ⊎ BadDraw r b x w d
+  -- the batch is good, or some draw lies in its list, which has at most three elements.
+  pub soundness : Sized r b x w d → verdict r x w d ≡ 0 → NoBitOutside r b → ClaimsTrue r b (claims r w d) → Good r b x ⊎ BadDraw r b x w d
   unfolding verdict claims
   soundness S v stray true = go found
     where
@@ -123,7 +124,7 @@ module _ (r : Relation) (b : Batch) (x w d : List ℕ) where
       count = length-map (D .shared) element ∙ C .shared
 
       Found : ℕ → List Element → Type 0
-      Found s drawn = GoodE (relationE r) (publicE x) (batchE b) ⊎ Hit gf128 (listOf (relationE r) (publicE x) (batchE b) s (els w)) drawn
+      Found s drawn = GoodE (relationE r) (publicE x) (batchE b) ⊎ DrawInList gf128 (listOf (relationE r) (publicE x) (batchE b) s (els w)) drawn
 
       found : Found (logLogins r) (els d)
       found =

@@ -3,11 +3,10 @@
 -- Assumes nothing.
 use mathlib.Core.Path.{_≡_, refl, sym, ap, ap₂, _∙_, subst, subst₂}
 use mathlib.Core.List.{List, [], _∷_, _++_, append-nil}
-use Prim.Native.Nat.{ℕ, zero, suc, _+_, _-_, _*_, _/_}
+use Prim.Native.Nat.{ℕ, suc, _+_, _-_, _*_, _/_}
 use native.Mathlib.Nat.{add-zero}
 use native.Mathlib.Omega.{arith}
 use lib.ListN.{length, getD, take, drop, replicate, length-append}
-use lib.Pow.{pow-pos}
 use lib.Seq.{take-at, drop-at, drop-append-seam, take-nil, take-all}
 use Rattle.magnetar_field.specs.Tabulate.{tabulate}
 use Rattle.magnetar_field.proofs.Tabulation.{tabulate-length}
@@ -18,26 +17,16 @@ use Rattle.magnetar_r1cs.specs.Batch.{Relation, Batch, folded}
 use Rattle.magnetar_protocol.specs.Shape.{logLogins, logBin, logFld, logCols, beforeTerminals, beforeInner, proofElements}
 use Rattle.magnetar_protocol.specs.Draws.{Draws, drawCount, drawsOf, loginPoint}
 use Rattle.magnetar_protocol.specs.Schedule.{Event, absorb, draw, numbered, rounds, singles, schedule}
-use Rattle.magnetar_protocol.specs.Play.{Played, heard}
+use Rattle.magnetar_protocol.specs.Play.{Played, playedFrom}
 use Rattle.magnetar_protocol.specs.Checks.{combined}
 use Rattle.magnetar_protocol.specs.Prover.{joined, inTurn}
-use Rattle.magnetar_protocol.specs.Stepwise.{Steps, begin, say, askTimes, sayEach, OuterSteps, sharedSteps, RowSteps, rowSteps, InnerSteps, Tables, tauSteps, outerBegin, binRows, fldRows, outerRounds, terminalsLeft, outerAll, innerRun, segmentValue, lowDraws, ended, innerAll}
+use Rattle.magnetar_protocol.specs.Stepwise.{Steps, begin, say, askTimes, sayEach, OuterSteps, sharedSteps, RowSteps, rowSteps, InnerSteps, Tables, tauSteps, outerBegin, binRows, fldRows, outerSteps, terminalsLeft, outerAll, innerRun, segmentValue, lowDraws, ended, innerAll}
 use Rattle.magnetar_protocol.specs.RunSizes.{Elements}
 use Rattle.magnetar_protocol.specs.RealRun.{productTables, outerProving, outerDraws, proving}
 use Rattle.magnetar_protocol.proofs.Counts.{heard-count, heard-elements}
 use Rattle.magnetar_protocol.proofs.Chunks.{joined-length, inTurn-length, past}
 use Rattle.magnetar_protocol.proofs.HonestParts.{outer-each, outer-count, inner-each, inner-count}
 use Rattle.magnetar_protocol.proofs.StepLaws.{Goes, goes-none, goes-then, goes-say, goes-each, Asks, asks, folds, SharedRounds, shared-rounds, RowRounds, row-rounds, InnerRounds, inner-rounds, binds, behind, inner-all-after}
-
--- the first of two lists of elements
-pub elements-front : (s t : List ℕ) → Elements (s ++ t) → Elements s
-elements-front [] t h i = pow-pos 128
-elements-front (x ∷ s) t h zero = h 0
-elements-front (x ∷ s) t h (suc i) = elements-front s t (λ k. h (suc k)) i
-
-pub elements-back : (s t : List ℕ) → Elements (s ++ t) → Elements t
-elements-back [] t h = h
-elements-back (x ∷ s) t h = elements-back s t (λ k. h (suc k))
 
 -- where steps that start at n elements end
 ends : {es : List Event} {p q : Steps} {rs v : List ℕ} (n k : ℕ) → Goes es p q rs v → length (p .said) ≡ n → length v ≡ k
@@ -71,7 +60,7 @@ module _ (r : Relation) (T : Tables) (t : Transcript) where
   P₅ = askTimes 6 (ascii "vs-alpha") P₄
 
   outer-is : outerAll r T (tauSteps r t) ≡ P₅
-  unfolding outerAll outerRounds tauSteps
+  unfolding outerAll outerSteps tauSteps
   outer-is = refl
 
   -- ---- the parts
@@ -275,9 +264,6 @@ module _ (r : Relation) (T : Tables) (t : Transcript) where
   pub outer-draws : outerAll r T (tauSteps r t) .played .draws ≡ outerDrawn []
   outer-draws = outer-goes .draws
 
-  pub outer-said : outerAll r T (tauSteps r t) .said ≡ outerSaid []
-  outer-said = outer-goes .said
-
   pub outer-said-length : length (outerAll r T (tauSteps r t) .said) ≡ beforeInner r
   outer-said-length = ap (λ (q : Steps). length (q .said)) outer-is ∙ said₆
 
@@ -448,7 +434,7 @@ module _ (r : Relation) (b : Batch) (x : List ℕ) (t : Transcript) where
       ++ (getD (binds ds (f ++ (1 ∷ x))) 0 0 ∷ tabulate (segmentValue r c f x (take (logCols r - 1) ds)) (length (r .lengths)))
 
   goes-proving : Goes (schedule r) (begin t) (proving r b x t) (outerDrawn r T t inner-of) (outerSaid r T t (lastSaid inner-of))
-  unfolding schedule proving outerProving inner-of outerAll outerRounds tauSteps
+  unfolding schedule proving outerProving inner-of outerAll outerSteps tauSteps
   goes-proving = goes-outer r T t (goes-inner r c f x (outerProving r b x t) (beforeInner r) outer-proving-length)
 
   -- all draws, and all words
@@ -459,7 +445,7 @@ module _ (r : Relation) (b : Batch) (x : List ℕ) (t : Transcript) where
   proving-said = goes-proving .said
 
   -- the verifier that is given the words hears the same
-  pub hears-the-same : heard (proving r b x t .said) (schedule r) t ≡ proving r b x t .played
+  pub hears-the-same : playedFrom (proving r b x t .said) (schedule r) t ≡ proving r b x t .played
   hears-the-same = goes-proving .hears (proving r b x t .said) [] (sym (append-nil (proving r b x t .said)))
 
   -- the words are as many as document 01 says, the draws as many as the schedule says
@@ -488,10 +474,6 @@ module _ (r : Relation) (b : Batch) (x : List ℕ) (t : Transcript) where
   pub outer-proving-count : length (outerProving r b x t .played .draws) ≡ drawCount r - logCols r
   unfolding outerProving
   outer-proving-count = outer-draws-length r T t
-
-  pub outer-proving-elements : Elements (outerProving r b x t .played .draws)
-  outer-proving-elements = elements-front (outerProving r b x t .played .draws) _
-      (subst (λ (p : Steps). Elements (p .played .draws)) proving-after proving-elements)
 
   -- the parts of the draws, up to the alphas and in all
   pub outer-parts : outerDraws r b x t

@@ -2,7 +2,7 @@
 -- Assumes nothing.
 use mathlib.Core.Path.{_≡_, sym, ap, ap₂, _∙_, subst}
 use mathlib.Core.List.{List, [], _∷_, map, reverse}
-use Prim.Native.Nat.{ℕ, suc, _+_, _-_, _*_, _/_, _^_, _≤_, _<_}
+use Prim.Native.Nat.{ℕ, suc, _+_, _*_, _/_, _^_, _≤_, _<_}
 use native.Mathlib.Omega.{arith}
 use lib.ListN.{length, getD, take, drop, length-map, length-drop, length-reverse}
 use lib.Seq.{length-take-le}
@@ -19,7 +19,7 @@ use Rattle.magnetar_protocol.specs.Draws.{Draws, loginPoint, lowPoint}
 use Rattle.magnetar_protocol.specs.Run.{trueValue}
 use Rattle.magnetar_protocol.specs.Theory.{els, logHalf, segmentsE, relationE, publicE, batchE, drawsE, wordsE}
 use Rattle.magnetar_protocol.specs.RunSizes.{SizedRelation, SizedBatch}
-use Rattle.magnetar_protocol.specs.Soundness.{NoStray}
+use Rattle.magnetar_protocol.specs.Soundness.{NoBitOutside}
 use Rattle.magnetar_protocol.proofs.Elements.{map-take, map-reverse}
 use Rattle.magnetar_protocol.proofs.LayoutLaws.{Placed, placed, offsets-length}
 use Rattle.magnetar_protocol.proofs.ClaimValues.{claim-is, values-are}
@@ -37,10 +37,10 @@ module _ (r : Relation) (b : Batch) (D : Draws) (R : SizedRelation r) (B : Sized
   logins-pow : r .q ≡ 2 ^ length (D .shared)
   logins-pow = R .logins .power ∙ ap (λ (k : ℕ). 2 ^ k) (sym (C .shared))
 
-  pub sizes : (x : List ℕ) → suc (length x) ≡ r .m / 2 → NoStray r b → Sizes gf128 (relationE r) (publicE x) (batchE b) (drawsE r D)
+  pub sizes : (x : List ℕ) → suc (length x) ≡ r .m / 2 → NoBitOutside r b → Sizes gf128 (relationE r) (publicE x) (batchE b) (drawsE r D)
   sizes x px stray = record {
     logins = length-map b els ∙ B .logins ∙ logins-pow ∙ ap (λ (k : ℕ). 2 ^ k) (sym (length-map (D .shared) element));
-    bits = all-length (2 ^ logHalf r) b (λ u k. B .columns u (omega (arith, B .logins)) ∙ half-pow r R);
+    row-lengths = all-length (2 ^ logHalf r) b (λ u k. B .columns u (omega (arith, B .logins)) ∙ half-pow r R);
     laid = subst (λ (n : ℕ). AllLaid gf128 n (segmentsE (offsets (r .lengths)) (r .lengths)) (batchE b)) (half-pow r R)
         (laid-out r b R B stray);
     public = length-map (1 ∷ x) element ∙ px ∙ half-pow r R;

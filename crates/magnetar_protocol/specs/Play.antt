@@ -36,6 +36,6 @@ play w [] p = p
 play w (absorb label i n ∷ es) p = play w es (absorbing label (part i n w) p)
 play w (draw label ∷ es) p = play w es (drawing label p)
 
--- from the start
-abbrev pub heard : List ℕ → List Event → Transcript → Played
-heard w es t = play w es (start t)
+-- the events played from the transcript t on, nothing drawn before
+abbrev pub playedFrom : List ℕ → List Event → Transcript → Played
+playedFrom w es t = play w es (start t)

@@ -81,7 +81,7 @@ unfoldable pub proverClaims : Relation → Batch → List ℕ → List ℕ
 proverClaims r b d = loginPoint (drawsOf r d) ++ (lowPoint r (drawsOf r d) ++ trueValues r b (drawsOf r d))
 
 -- the honest words are accepted, both ends return the same claims, and all of them are true
-pub record Convinces (r : Relation) (b : Batch) (x d : List ℕ) : Type 0 where
+pub record CompleteRun (r : Relation) (b : Batch) (x d : List ℕ) : Type 0 where
   pub accepted : verdict r x (proverWords r b x d) d ≡ 0
   pub same-claims : claims r (proverWords r b x d) d ≡ proverClaims r b d
   pub true-claims : ClaimsTrue r b (proverClaims r b d)

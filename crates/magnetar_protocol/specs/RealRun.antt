@@ -8,7 +8,7 @@ use Rattle.magnetar_hash.specs.declared.transcript.Transcript.{Transcript}
 use Rattle.magnetar_r1cs.specs.Batch.{Relation, Batch, folded}
 use Rattle.magnetar_protocol.specs.Draws.{Draws, drawsOf, loginPoint}
 use Rattle.magnetar_protocol.specs.Schedule.{schedule}
-use Rattle.magnetar_protocol.specs.Play.{heard}
+use Rattle.magnetar_protocol.specs.Play.{playedFrom}
 use Rattle.magnetar_protocol.specs.Checks.{checks, firstStop, combined}
 use Rattle.magnetar_protocol.specs.Run.{verdict, claims, ClaimsTrue}
 use Rattle.magnetar_protocol.specs.Prover.{productTable, proverWords, proverClaims}
@@ -17,7 +17,7 @@ use Rattle.magnetar_protocol.specs.Stepwise.{Steps, Tables, tauSteps, ou
 -- ---- the verifier, given the public columns x, the proof's elements w and the transcript t
 -- the elements that it draws
 unfoldable pub verifierDraws : Relation → List ℕ → Transcript → List ℕ
-verifierDraws r w t = heard w (schedule r) t .draws
+verifierDraws r w t = playedFrom w (schedule r) t .draws
 
 -- how many events it has played when it answers, with the draws d
 unfoldable pub stop : Relation → (x w d : List ℕ) → ℕ
@@ -25,7 +25,7 @@ stop r x w d = firstStop (checks r x w (drawsOf r d)) (length (schedule r))
 
 -- its transcript when it answers
 unfoldable pub verifierTranscript : Relation → (x w : List ℕ) → Transcript → Transcript
-verifierTranscript r x w t = heard w (take (stop r x w (verifierDraws r w t)) (schedule r)) t .transcript
+verifierTranscript r x w t = playedFrom w (take (stop r x w (verifierDraws r w t)) (schedule r)) t .transcript
 
 -- ---- the prover, given the batch b, the public columns x and the transcript t
 -- the products of the six matrices and the z of every login
@@ -59,15 +59,15 @@ proverDraws r b x t = proving r b x t .played .draws
 unfoldable pub proverTranscript : Relation → Batch → List ℕ → Transcript → Transcript
 proverTranscript r b x t = proving r b x t .played .transcript
 
--- the words that it says
-unfoldable pub saidWords : Relation → Batch → List ℕ → Transcript → List ℕ
-saidWords r b x t = proverWords r b x (proverDraws r b x t)
+-- the words that it sends
+unfoldable pub sentWords : Relation → Batch → List ℕ → Transcript → List ℕ
+sentWords r b x t = proverWords r b x (proverDraws r b x t)
 
 -- ---- a verifier who is given these words, and the same transcript, draws what the prover drew, accepts, returns the same claims, all of
 -- them true, and ends with the same transcript
 pub record Agrees (r : Relation) (b : Batch) (x : List ℕ) (t : Transcript) : Type 0 where
-  pub same-draws : verifierDraws r (saidWords r b x t) t ≡ proverDraws r b x t
-  pub accepted : verdict r x (saidWords r b x t) (verifierDraws r (saidWords r b x t) t) ≡ 0
-  pub same-claims : claims r (saidWords r b x t) (verifierDraws r (saidWords r b x t) t) ≡ proverClaims r b (proverDraws r b x t)
-  pub true-claims : ClaimsTrue r b (claims r (saidWords r b x t) (verifierDraws r (saidWords r b x t) t))
-  pub same-transcript : verifierTranscript r x (saidWords r b x t) t ≡ proverTranscript r b x t
+  pub same-draws : verifierDraws r (sentWords r b x t) t ≡ proverDraws r b x t
+  pub accepted : verdict r x (sentWords r b x t) (verifierDraws r (sentWords r b x t) t) ≡ 0
+  pub same-claims : claims r (sentWords r b x t) (verifierDraws r (sentWords r b x t) t) ≡ proverClaims r b (proverDraws r b x t)
+  pub true-claims : ClaimsTrue r b (claims r (sentWords r b x t) (verifierDraws r (sentWords r b x t) t))
+  pub same-transcript : verifierTranscript r x (sentWords r b x t) t ≡ proverTranscript r b x t

@@ -1,4 +1,4 @@
--- The sizes that the refusals 1 to 17 leave.
+-- The sizes that the refusals 1 to 16 leave, and those of a batch and of draws that fit them.
 -- Assumes nothing.
 use mathlib.Core.Path.{_≡_}
 use mathlib.Core.Bool.{true, _&&_}

@@ -4,19 +4,19 @@
 use mathlib.Core.Path.{_≡_}
 use mathlib.Core.Bool.{true}
 use mathlib.Core.List.{List, map, List·Memᴰ}
-use Prim.Native.Nat.{ℕ, _/_, _<_}
+use Prim.Native.Nat.{ℕ, _/_, _<_, _≤_}
 use lib.ListN.{length, getD, take}
 use Rattle.magnetar_r1cs.specs.Batch.{Relation, Batch, bitOf}
 use Rattle.magnetar_layout.specs.Layout.{outside}
 use Rattle.magnetar_theory.specs.Lists.{lists}
-use Rattle.magnetar_theory.specs.Heard.{heard}
+use Rattle.magnetar_theory.specs.Absorbed.{absorbedCount}
 use Rattle.magnetar_theory.specs.Gf128.{number, gf128}
 use Rattle.magnetar_protocol.specs.Shape.{logLogins, logBin, logFld}
 use Rattle.magnetar_protocol.specs.Theory.{els, relationE, publicE, batchE}
 
 -- no bit is set at a column that lies in no segment
-abbrev pub NoStray : Relation → Batch → Type 0
-NoStray r b = (u y : ℕ) → u < r .q → y < r .m / 2 → outside (r .lengths) y ≡ true → bitOf b u y ≡ 0
+abbrev pub NoBitOutside : Relation → Batch → Type 0
+NoBitOutside r b = (u y : ℕ) → u < r .q → y < r .m / 2 → outside (r .lengths) y ≡ true → bitOf b u y ≡ 0
 
 -- the list of the next draw, from the relation, the batch, the public columns, the proof's elements absorbed so far, and the
 -- draws so far
@@ -26,9 +26,10 @@ badDraws r b x absorbed drawn =
 
 -- how many of the proof's elements are absorbed before draw k
 unfoldable pub absorbedBefore : Relation → ℕ → ℕ
-absorbedBefore r k = heard (logLogins r) (logBin r) (logFld r) k
+absorbedBefore r k = absorbedCount (logLogins r) (logBin r) (logFld r) k
 
--- some draw is in its list
+-- some draw lies in its list, and that list has at most three elements
 abbrev pub BadDraw : Relation → Batch → List ℕ → (words draws : List ℕ) → Type 0
 BadDraw r b x w d =
-    (k : ℕ) × (k < length d) × List·Memᴰ (getD d k 0) (badDraws r b x (take (absorbedBefore r k) w) (take k d))
+    (k : ℕ) × (k < length d) × (length (badDraws r b x (take (absorbedBefore r k) w) (take k d)) ≤ 3)
+    × List·Memᴰ (getD d k 0) (badDraws r b x (take (absorbedBefore r k) w) (take k d))

@@ -1,7 +1,8 @@
 -- The prover's run step by step, as its functions make it: what it says is absorbed and added to the proof, and what it asks for is
--- drawn. `proofs/Stepwise` and `proofs/ProverRun` show that this is the run of specs/RealRun.
+-- drawn. `proofs/Stepwise` and `proofs/ProverRun` show that its words are `proverWords` at its draws and that the schedule, played on them,
+-- makes the same draws.
 -- Assumes nothing.
-use mathlib.Core.List.{List, [], _∷_, _++_, reverse}
+use mathlib.Core.List.{List, [], _∷_, _++_}
 use Prim.Native.Nat.{ℕ, zero, suc, _+_, _-_}
 use Prim.Native.String.{String}
 use lib.ListN.{length, getD, take, drop}
@@ -94,6 +95,7 @@ pub record InnerSteps : Type 0 where
   pub table : List ℕ
   pub z : List ℕ
 
+-- both tables with their lowest variable bound to the element drawn last
 abbrev pub bound : Steps → InnerSteps → InnerSteps
 bound s p = record { steps = s; table = bindVar 0 (answerOf s) (p .table); z = bindVar 0 (answerOf s) (p .z) }
 
@@ -122,7 +124,7 @@ module _ (r : Relation) where
 
   -- the outer rounds, the terminals and the alphas
   module _ (T : Tables) where
-    -- after the taus, which are the draws d
+    -- after the taus, which are the draws so far
     unfoldable pub outerBegin : Steps → OuterSteps
     outerBegin p = record {
       steps = p;
@@ -146,8 +148,8 @@ module _ (r : Relation) where
     }
 
     -- all outer rounds
-    unfoldable pub outerRounds : Steps → OuterSteps
-    outerRounds p = fldRows (binRows (sharedSteps 0 (logLogins r) (outerBegin p)))
+    unfoldable pub outerSteps : Steps → OuterSteps
+    outerSteps p = fldRows (binRows (sharedSteps 0 (logLogins r) (outerBegin p)))
 
     -- the first entry of each table that is left
     unfoldable pub terminalsLeft : OuterSteps → List ℕ
@@ -156,7 +158,7 @@ module _ (r : Relation) where
         ∷ getD (q .fld .c) 0 0 ∷ []
 
     unfoldable pub outerAll : Steps → Steps
-    outerAll p = askTimes 6 (ascii "vs-alpha") (sayEach "vs-terminal-" 0 (terminalsLeft (outerRounds p)) (outerRounds p .steps))
+    outerAll p = askTimes 6 (ascii "vs-alpha") (sayEach "vs-terminal-" 0 (terminalsLeft (outerSteps p)) (outerSteps p .steps))
 
   -- the inner rounds, v_z and the segment values, with the combined table t, the folded witness columns f and the public columns x
   module _ (t f x : List ℕ) where

@@ -27,7 +27,7 @@ use Rattle.magnetar_batch.proofs.SystemLaws.{Fits6, fits6}
 use Rattle.magnetar_batch.proofs.Combos.{combo-length}
 use Rattle.magnetar_protocol.specs.Draws.{drawCount, drawsOf}
 use Rattle.magnetar_protocol.specs.Schedule.{outline, schedule}
-use Rattle.magnetar_protocol.specs.Play.{Played, heard}
+use Rattle.magnetar_protocol.specs.Play.{Played, playedFrom}
 use Rattle.magnetar_protocol.specs.Checks.{combined}
 use Rattle.magnetar_protocol.specs.RealRun.{verifierDraws}
 use Rattle.magnetar_checks.specs.declared.found.Found.{Found}
@@ -194,7 +194,7 @@ module _ (n₁ m₁ : ℕ) (ab : List Entry) (n₂ m₂ : ℕ) (bb : List Entry)
 
       -- the draws
       abbrev W : List ℕ
-      W = words (heard (elements w) (take 65536 (schedule (outline m q n₁ n₄ ns))) t .draws)
+      W = words (playedFrom (elements w) (take 65536 (schedule (outline m q n₁ n₄ ns))) t .draws)
 
       abbrev D : List ℕ
       D = drawnOver m q n₁ n₄ ns w t (noDraws m q n₁ n₄)

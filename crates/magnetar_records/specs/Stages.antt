@@ -12,7 +12,7 @@ use Rattle.magnetar_hash.specs.declared.transcript.Transcript.{Transcript}
 use Rattle.magnetar_hash.specs.declared.transcript.TranscriptAnswer.{TranscriptAnswer}
 use Rattle.magnetar_protocol.specs.Draws.{drawCount}
 use Rattle.magnetar_protocol.specs.Schedule.{outline, schedule}
-use Rattle.magnetar_protocol.specs.Play.{heard}
+use Rattle.magnetar_protocol.specs.Play.{playedFrom}
 use Rattle.magnetar_checks.specs.declared.found.Found.{Found}
 use Rattle.magnetar_checks.specs.Outer.{outerFound}
 use Rattle.magnetar_checks.specs.End.{endFound, endRoom}
@@ -24,11 +24,11 @@ use Rattle.magnetar_records.specs.Steps.{padded, tableMade}
 
 -- the words of the draws of a run of these sizes, written over the words d
 abbrev pub drawnOver : (m q b f : ℕ) → (ns w : List ℕ) → Transcript → List ℕ → List ℕ
-drawnOver m q b f ns w t d = overlaid (words (heard (elements w) (take 65536 (schedule (outline m q b f ns))) t .draws)) d
+drawnOver m q b f ns w t d = overlaid (words (playedFrom (elements w) (take 65536 (schedule (outline m q b f ns))) t .draws)) d
 
 -- the transcript after n events
 abbrev pub playedTo : (m q b f : ℕ) → (ns w : List ℕ) → Transcript → ℕ → Transcript
-playedTo m q b f ns w t n = heard (elements w) (take n (schedule (outline m q b f ns))) t .transcript
+playedTo m q b f ns w t n = playedFrom (elements w) (take n (schedule (outline m q b f ns))) t .transcript
 
 -- the finding f, or l where f is none
 abbrev pub firstOf : Found → Found → Found

@@ -17,7 +17,7 @@ use Rattle.magnetar_hash.specs.declared.transcript.Transcript.{Transcript}
 use Rattle.magnetar_sumcheck.specs.Messages.{Outer, outerStart}
 use Rattle.magnetar_r1cs.specs.Batch.{Relation}
 use Rattle.magnetar_protocol.specs.Schedule.{outline}
-use Rattle.magnetar_protocol.specs.Stepwise.{Steps, OuterSteps, RowSteps, Tables, begin, sayEach, askTimes, sharedSteps, rowSteps, tauSteps, outerBegin, binRows, fldRows, outerRounds, terminalsLeft, outerAll}
+use Rattle.magnetar_protocol.specs.Stepwise.{Steps, OuterSteps, RowSteps, Tables, begin, sayEach, askTimes, sharedSteps, rowSteps, tauSteps, outerBegin, binRows, fldRows, outerSteps, terminalsLeft, outerAll}
 use Rattle.magnetar_protocol.proofs.StepLaws.{row-rounds}
 use Rattle.magnetar_rounds.specs.Held.{tableAt, stepsIn, outerIn, rowIn, tablesIn, saidIn, saidEach, threeIn, Begun}
 use Rattle.magnetar_rounds.specs.Shared.{sharedIn}
@@ -30,7 +30,7 @@ use Rattle.magnetar_rounds.proofs.OuterEnds.{drop-of-take}
 -- with the logarithms of a relation it is the run's
 pub whole-is : (m q rb rf : ℕ) (ns : List ℕ) (T : Tables) (t : Transcript)
     → outerWhole (log₂ q) (log₂ rb) (log₂ rf) T t ≡ outerAll (outline m q rb rf ns) T (tauSteps (outline m q rb rf ns) t)
-unfolding outerWhole outerAll outerRounds fldRows binRows outerBegin tauSteps terminalsLeft
+unfolding outerWhole outerAll outerSteps fldRows binRows outerBegin tauSteps terminalsLeft
 whole-is m q rb rf ns T t = refl
 
 -- ---- the row rounds leave the draws before them

@@ -20,7 +20,7 @@ use Rattle.magnetar_hash.specs.declared.transcript.Transcript.{Transcript}
 use Rattle.magnetar_hash.specs.Transcript.{absorbed, drawn, element}
 use Rattle.magnetar_protocol.specs.Proof.{part}
 use Rattle.magnetar_protocol.specs.Schedule.{Event, absorb, draw}
-use Rattle.magnetar_protocol.specs.Play.{Played, play, heard, start, absorbing, drawing}
+use Rattle.magnetar_protocol.specs.Play.{Played, play, playedFrom, start, absorbing, drawing}
 use Rattle.magnetar_schedule.specs.declared.play.Stage.{Stage}
 use Rattle.magnetar_schedule.specs.Stages.{Written, Adds, Going}
 
@@ -257,7 +257,7 @@ pub going-start
     → s .transcript ≡ t
     → s .written ≡ 0
     → s .place ≡ 0
-    → Going w was (heard w (take (s .left) es) t) es 0 s was
+    → Going w was (playedFrom w (take (s .left) es) t) es 0 s was
 unfolding words
 going-start w was es t s et ew ep =
     record {

@@ -10,7 +10,7 @@ use Rattle.magnetar_field.specs.Words.{words, overlaid}
 use Rattle.magnetar_hash.specs.Bytes.{ascii}
 use Rattle.magnetar_hash.specs.declared.transcript.Transcript.{Transcript}
 use Rattle.magnetar_protocol.specs.Schedule.{Event, absorb, draw, numbered, rounds, singles, schedule, outline}
-use Rattle.magnetar_protocol.specs.Play.{Played, heard}
+use Rattle.magnetar_protocol.specs.Play.{Played, playedFrom}
 use Rattle.magnetar_schedule.specs.declared.play.Stage.{Stage}
 use Rattle.magnetar_schedule.specs.Stages.{Going, Plays, OuterPlays, InnerPlays}
 use Rattle.magnetar_schedule.proofs.Staging.{going-start, going-end}
@@ -60,12 +60,12 @@ pub run-all
     → s ≡ record { transcript = t; written = 0; place = 0; left = to }
     → OuterPlays w a b f s was r mid
     → InnerPlays w c (length ns) r mid v last
-    → (v .transcript ≡ heard w (take to (schedule (outline m q rb rf ns))) t .transcript)
-    × (last ≡ overlaid (words (heard w (take to (schedule (outline m q rb rf ns))) t .draws)) was)
+    → (v .transcript ≡ playedFrom w (take to (schedule (outline m q rb rf ns))) t .transcript)
+    × (last ≡ overlaid (words (playedFrom w (take to (schedule (outline m q rb rf ns))) t .draws)) was)
 unfolding schedule
 run-all {w} {was} {mid} {last} {a} {b} {f} {c} {to} {s} {r} {v} m q rb rf ns t ea eb ef ec es outer inner =
     let first : Stage = record { transcript = t; written = 0; place = 0; left = to } in
-    let whole : Played = heard w (take to (schedule (outline m q rb rf ns))) t in
+    let whole : Played = playedFrom w (take to (schedule (outline m q rb rf ns))) t in
     let o : OuterPlays w (log₂ q) (log₂ rb) (log₂ rf) first was r mid =
     subst (λ (x : Stage). OuterPlays w (log₂ q) (log₂ rb) (log₂ rf) x was r mid) es
     (subst (λ (x : ℕ). OuterPlays w (log₂ q) (log₂ rb) x s was r mid) ef

@@ -8,7 +8,7 @@ ghost use Rattle.magnetar_field.specs.Words.{elements, words, overlaid};
 ghost use Rattle.magnetar_hash.specs.Bytes.{ascii};
 ghost use Rattle.magnetar_hash.specs.Transcript.{element};
 ghost use Rattle.magnetar_protocol.specs.Schedule.{absorb, draw, digits, rounds, singles, schedule, outline};
-ghost use Rattle.magnetar_protocol.specs.Play.{heard};
+ghost use Rattle.magnetar_protocol.specs.Play.{playedFrom};
 ghost use Rattle.magnetar_schedule.specs.Stages.{Adds, Plays, OuterPlays, InnerPlays};
 use crate::events;
 use magnetar_field::sizes;
@@ -243,9 +243,9 @@ pub fn play(
     t: Transcript,
     to: usize,
 ) -> Transcript
-    ensures transcript { λ u. ⌜ u ≡ heard (elements (now (proof .entry))) (take to (schedule (outline m q rb rf (now (lens .entry))))) t .transcript ⌝ }
+    ensures transcript { λ u. ⌜ u ≡ playedFrom (elements (now (proof .entry))) (take to (schedule (outline m q rb rf (now (lens .entry))))) t .transcript ⌝ }
     ensures draws { λ _. ⌜ now (draws .exit)
-        ≡ overlaid (words (heard (elements (now (proof .entry))) (take to (schedule (outline m q rb rf (now (lens .entry))))) t .draws)) (now (draws .entry)) ⌝ }
+        ≡ overlaid (words (playedFrom (elements (now (proof .entry))) (take to (schedule (outline m q rb rf (now (lens .entry))))) t .draws)) (now (draws .entry)) ⌝ }
 {
     let s = Stage {
         transcript: t,

@@ -23,18 +23,19 @@ use Rattle.magnetar_batch.specs.Systems.{systemOf}
 use Rattle.magnetar_protocol.specs.Shape.{proofElements}
 use Rattle.magnetar_protocol.specs.Run.{claims, verdict, ClaimsTrue}
 use Rattle.magnetar_protocol.specs.RunSizes.{SizedRelation, SizedBatch}
-use Rattle.magnetar_protocol.specs.Soundness.{NoStray}
+use Rattle.magnetar_protocol.specs.Soundness.{NoBitOutside}
 use Rattle.magnetar_protocol.specs.Prover.{proverWords, proverClaims}
-use Rattle.magnetar_protocol.specs.RealRun.{verifierDraws, verifierTranscript, proverDraws, proverTranscript, saidWords, Agrees}
+use Rattle.magnetar_protocol.specs.RealRun.{verifierDraws, verifierTranscript, proverDraws, proverTranscript, sentWords, Agrees}
 use Rattle.magnetar_protocol.proofs.Stepwise.{proving-length}
 use Rattle.magnetar_protocol.proofs.ProverRun.{proving-words}
 use Rattle.magnetar_protocol.proofs.RealRuns.{completeness-run}
 use Rattle.magnetar_spartan.specs.Rules.{Rules, relationOf}
 use Rattle.magnetar_spartan.specs.Refusals.{claimWords, proofWords}
 use Rattle.magnetar_spartan.specs.Outcome.{batchOf, verifyRefusal, verifyVerdict, verifyClaims, verifyOutcome, proveRefusal, proveDraws, proveOutcome}
+use Rattle.magnetar_spartan.specs.Theorems.{AreWords, writtenProof, CompleteCall}
 use Rattle.magnetar_spartan.proofs.SizedRules.{sized-relation}
 use Rattle.magnetar_spartan.proofs.Ended.{Verifiable, verifiable}
-use Rattle.magnetar_spartan.proofs.Sound.{AreWords, front, claims-size, returned-words, returned}
+use Rattle.magnetar_spartan.proofs.Sound.{front, claims-size, returned-words, returned}
 
 -- ---- packed words hold a batch of the relation's sizes
 packed-bit : (ws : List ℕ) (y : ℕ) → packedBit ws y < 2
@@ -70,15 +71,14 @@ pub sized-batch : (R : Rules) (ws : List ℕ) → SizedBatch (relationOf R) (bat
 sized-batch R ws = record { logins = many (R .q) (R .m / 2) ws; columns = wide (R .q) (R .m / 2) ws; bits = bits-below (R .q) (R .m / 2) ws }
 
 module _ (R : Rules) (ws x : List ℕ) (t : Transcript) (w c s : List ℕ) where
-  -- the proof that the prover hands over: the front of its buffer
-  abbrev pub handed : List ℕ
-  handed = take (proofWords R) (proveOutcome R ws x t w c s .proof)
+  abbrev handed : List ℕ
+  handed = writtenProof R ws x t w c s
 
   abbrev said : List ℕ
-  said = saidWords (relationOf R) (batchOf R ws) (elements x) t
+  said = sentWords (relationOf R) (batchOf R ws) (elements x) t
 
   handed-is : proveRefusal R ws x t w c s ≡ 0 → proofWords R ≡ 2 * length said → handed ≡ words said
-  unfolding proveOutcome proveDraws saidWords
+  unfolding proveOutcome proveDraws sentWords
   handed-is hp h =
       rw hp (front (proverWords (relationOf R) (batchOf R ws) (elements x) (proverDraws (relationOf R) (batchOf R ws) (elements x) t)) (drop (proofWords R) w) (proofWords R) h)
 
@@ -100,17 +100,12 @@ module _ (R : Rules) (ws x : List ℕ) (t : Transcript) (w c s : List ℕ) where
   claims-handed hp h =
       rw hp (front (proverClaims (relationOf R) (batchOf R ws) (proverDraws (relationOf R) (batchOf R ws) (elements x) t)) (drop (claimWords R) c) (claimWords R) h)
 
-  -- the verifier, given these words in buffers c′ and s′ of its own, accepts; both have written the same claims, all of them true of the
-  -- batch; and both end with the same transcript
-  pub record Convinced (c′ s′ : List ℕ) : Type 0 where
-    pub accepted : verifyOutcome R x handed t c′ s′ .code ≡ 0
-    pub same-claims : take (claimWords R) (verifyOutcome R x handed t c′ s′ .claims) ≡ take (claimWords R) (proveOutcome R ws x t w c s .claims)
-    pub true-claims : ClaimsTrue (relationOf R) (batchOf R ws) (elements (take (claimWords R) (verifyOutcome R x handed t c′ s′ .claims)))
-    pub same-transcript : verifyOutcome R x handed t c′ s′ .transcript ≡ proveOutcome R ws x t w c s .transcript
-
-  -- Wherever neither end is refused by 1 to 16: of a good batch with no bit outside the segments the verifier is convinced.
-  pub verify-complete : (c′ s′ : List ℕ) → AreWords x → proveRefusal R ws x t w c s ≡ 0 → verifyRefusal R x handed t c′ s′ ≡ 0
-      → Good (relationOf R) (batchOf R ws) (elements x) → NoStray (relationOf R) (batchOf R ws) → Convinced c′ s′
+  -- Wherever neither end is refused by 1 to 16: of a good batch with no bit outside the segments the verifier accepts what the prover has
+  -- written, and both ends agree.
+  pub verify-complete : (c′ s′ : List ℕ) → AreWords x
+      → proveRefusal R ws x t w c s ≡ 0 → verifyRefusal R x (writtenProof R ws x t w c s) t c′ s′ ≡ 0
+      → Good (relationOf R) (batchOf R ws) (elements x) → NoBitOutside (relationOf R) (batchOf R ws)
+      → CompleteCall R ws x t w c s c′ s′
   verify-complete c′ s′ wx hp hv good stray =
       record { accepted = accepted; same-claims = same; true-claims = subst (ClaimsTrue r b) (sym (returned R x handed t c′ s′ accepted ∙ told)) (agrees .true-claims); same-transcript = ends }
     where
@@ -133,7 +128,7 @@ module _ (R : Rules) (ws x : List ℕ) (t : Transcript) (w c s : List ℕ) where
       agrees = completeness-run r b (elements x) t relation (sized-batch R ws) public (elements-below x wx) good stray
 
       size : proofWords R ≡ 2 * length said
-      size = unfold saidWords systemOf matrixOf in ap (λ (n : ℕ). 2 * n)
+      size = unfold sentWords systemOf matrixOf in ap (λ (n : ℕ). 2 * n)
           (sym (proving-length r b (elements x) t) ∙ ap length (proving-words r b (elements x) t relation (sized-batch R ws) public (elements-below x wx)))
 
       given : elements handed ≡ said

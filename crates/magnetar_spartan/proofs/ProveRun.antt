@@ -22,7 +22,7 @@ use Rattle.magnetar_protocol.specs.Schedule.{outline}
 use Rattle.magnetar_protocol.specs.Run.{claims}
 use Rattle.magnetar_protocol.specs.RunSizes.{SizedRelation, SizedBatch, Elements}
 use Rattle.magnetar_protocol.specs.Prover.{proverWords, proverClaims}
-use Rattle.magnetar_protocol.specs.Stepwise.{Steps, Tables, tauSteps, outerAll, outerRounds, fldRows, binRows, outerBegin, terminalsLeft}
+use Rattle.magnetar_protocol.specs.Stepwise.{Steps, Tables, tauSteps, outerAll, outerSteps, fldRows, binRows, outerBegin, terminalsLeft}
 use Rattle.magnetar_protocol.specs.RealRun.{productTables, outerProving, proving, proverDraws, proverTranscript}
 use Rattle.magnetar_protocol.proofs.Blocks.{claims-outlined, outlined}
 use Rattle.magnetar_protocol.proofs.Stepwise.{outer-proving-said, outer-proving-count}
@@ -68,7 +68,7 @@ tables-there q rb rf p s T l e = rw (take-at p s (blockWords q rb rf) l) e
 
 -- the outer rounds, of a relation
 outer-all : (r : Relation) (T : Tables) (t : Transcript) → outerAll r T (tauSteps r t) ≡ outerWhole (logLogins r) (logBin r) (logFld r) T t
-unfolding outerWhole outerAll outerRounds fldRows binRows outerBegin tauSteps terminalsLeft
+unfolding outerWhole outerAll outerSteps fldRows binRows outerBegin tauSteps terminalsLeft
 outer-all r T t = refl
 
 module _ (R : Rules) (P : Ready R) (ws x : List ℕ) (t : Transcript) where

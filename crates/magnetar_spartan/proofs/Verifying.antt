@@ -23,7 +23,7 @@ use Rattle.magnetar_protocol.specs.Shape.{logLogins, logCols}
 use Rattle.magnetar_protocol.specs.Proof.{innerRounds, valueZ, terminals}
 use Rattle.magnetar_protocol.specs.Draws.{Draws, drawsOf, drawCount}
 use Rattle.magnetar_protocol.specs.Schedule.{Event, schedule, outline, afterAlphas, afterInner}
-use Rattle.magnetar_protocol.specs.Play.{Played, heard}
+use Rattle.magnetar_protocol.specs.Play.{Played, playedFrom}
 use Rattle.magnetar_protocol.specs.Checks.{Check, roundHolds, firstRefusal, firstStop, sharedChecks, rowChecks, terminalChecks, innerClaim, innerChecks, identityCheck, combined}
 use Rattle.magnetar_protocol.specs.Run.{verdict}
 use Rattle.magnetar_protocol.specs.RealRun.{verifierDraws, verifierTranscript, stop}
@@ -55,17 +55,17 @@ draws-is R d = draws-outlined (relationOf R) d ∙ ap (λ (r : Relation). drawsO
 module _ (R : Rules) (w : List ℕ) (t : Transcript) where
   -- the whole schedule
   pub heard-all : (k : ℕ) → length (schedule (sizesOf R)) ≤ k
-      → heard w (take k (schedule (sizesOf R))) t ≡ heard w (schedule (relationOf R)) t
-  heard-all k h = ap (λ (es : List Event). heard w es t) (take-all k (schedule (sizesOf R)) h ∙ sym (schedule-is R))
+      → playedFrom w (take k (schedule (sizesOf R))) t ≡ playedFrom w (schedule (relationOf R)) t
+  heard-all k h = ap (λ (es : List Event). playedFrom w es t) (take-all k (schedule (sizesOf R)) h ∙ sym (schedule-is R))
 
   pub drawn-words : (k : ℕ) (d d′ : List ℕ) → length (schedule (sizesOf R)) ≤ k → length d ≡ 2 * drawCount (sizesOf R)
-      → d′ ≡ overlaid (words (heard w (take k (schedule (sizesOf R))) t .draws)) d → d′ ≡ words (verifierDraws (relationOf R) w t)
+      → d′ ≡ overlaid (words (playedFrom w (take k (schedule (sizesOf R))) t .draws)) d → d′ ≡ words (verifierDraws (relationOf R) w t)
   unfolding verifierDraws
   drawn-words k d d′ h l e =
-      let c : length (words (heard w (schedule (relationOf R)) t .draws)) ≡ length d =
-      words-length (heard w (schedule (relationOf R)) t .draws)
+      let c : length (words (playedFrom w (schedule (relationOf R)) t .draws)) ≡ length d =
+      words-length (playedFrom w (schedule (relationOf R)) t .draws)
       ∙ ap (λ (n : ℕ). 2 * n) (heard-count (relationOf R) w t ∙ count) ∙ sym l in
-      e ∙ rw (heard-all k h) (overlaid-same (words (heard w (schedule (relationOf R)) t .draws)) d (sym c))
+      e ∙ rw (heard-all k h) (overlaid-same (words (playedFrom w (schedule (relationOf R)) t .draws)) d (sym c))
     where
       count : drawCount (relationOf R) ≡ drawCount (sizesOf R)
       count = unfold systemOf matrixOf in refl
@@ -116,7 +116,7 @@ module _ (R : Rules) (x w : List ℕ) (t : Transcript) where
 
   -- the transcript after n events
   abbrev pub after : ℕ → Transcript
-  after n = heard (elements w) (take n (schedule (sizesOf R))) t .transcript
+  after n = playedFrom (elements w) (take n (schedule (sizesOf R))) t .transcript
 
   -- what the run answers
   abbrev pub Answers : ℕ → Transcript → Type 0
@@ -124,7 +124,7 @@ module _ (R : Rules) (x w : List ℕ) (t : Transcript) where
 
   stopped : (n : ℕ) → n ≡ stop rel (elements x) (elements w) drawn → after n ≡ verifierTranscript rel (elements x) (elements w) t
   unfolding verifierTranscript
-  stopped n e = ap₂ (λ (es : List Event) (k : ℕ). heard (elements w) (take k es) t .transcript) (sym (schedule-is R)) e
+  stopped n e = ap₂ (λ (es : List Event) (k : ℕ). playedFrom (elements w) (take k es) t .transcript) (sym (schedule-is R)) e
 
   -- some outer check does not pass
   pub answer-outer : (c n : ℕ) → c ≡ firstRefusal outerOf → n ≡ firstStop outerOf 0 → (c ≡ 0 → ⊥) → Answers c (after n)
@@ -159,7 +159,7 @@ module _ (R : Rules) (x w : List ℕ) (t : Transcript) where
             ∙ stopped (length (schedule rel)) (sym (stop-accepted rel (elements x) (elements w) drawn a)),
       )
     where
-      whole : (k : ℕ) → length (schedule (sizesOf R)) ≤ k → after k ≡ heard (elements w) (schedule rel) t .transcript
+      whole : (k : ℕ) → length (schedule (sizesOf R)) ≤ k → after k ≡ playedFrom (elements w) (schedule rel) t .transcript
       whole k h = ap (λ (p : Played). p .transcript) (heard-all R (elements w) t k h)
 
 -- ---- the later checks, over a table that is the combined one

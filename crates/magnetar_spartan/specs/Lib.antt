@@ -2,4 +2,5 @@ pub mod Rules
 pub mod Refusals
 pub mod Ready
 pub mod Outcome
+pub mod Theorems
 pub mod Later

@@ -83,7 +83,7 @@ pub record FoldReady (q w n k ws d s : ℕ) : Type 0 where
   pub drawn : 2 * k + 2 * n ≤ d
   pub room : 6 * w + 2 * q ≤ s
 
--- the inner rounds over m columns, with n public words
+-- the inner rounds over m columns, with segments of lengths ns and x public words
 pub record InnerReady (m : ℕ) (ns : List ℕ) (x : ℕ) : Type 0 where
   pub columns : Sized 2 65536 m
   pub lengths : every (isLength (m / 2)) ns ≡ true

@@ -38,7 +38,7 @@ roomOf n words = (15, ltb words n) ∷ []
 abbrev pub wordTests : ℕ → List ℕ → Tests
 wordTests n w = (16, not (eqb (length w) n)) ∷ []
 
--- ---- how many words are wanted, R being the larger row count
+-- ---- how many words are wanted
 -- the proof
 abbrev pub proofWords : Rules → ℕ
 proofWords R = 2 * proofElements (outline (R .m) (R .q) (R .bin .a .rows) (R .fld .a .rows) (R .lengths))
@@ -47,11 +47,11 @@ proofWords R = 2 * proofElements (outline (R .m) (R .q) (R .bin .a .rows) (R .fl
 abbrev pub claimWords : Rules → ℕ
 claimWords R = 2 * (log₂ (R .q) + (log₂ (R .m) - 1) + length (R .lengths))
 
--- the verifier's scratch: 4m + 4R
+-- the verifier's scratch: 4m + 4 times the larger row count
 abbrev pub verifierRoom : Rules → ℕ
 verifierRoom R = 4 * R .m + 4 * max (R .bin .a .rows) (R .fld .a .rows)
 
--- the prover's scratch: 8q(Rb + Rf) + 8m + 4R + 4q
+-- the prover's scratch: 8q times both row counts, 8m, 4 times the larger row count, and 4q
 abbrev pub proverRoom : Rules → ℕ
 proverRoom R =
     8 * (R .q * (R .bin .a .rows + R .fld .a .rows)) + 8 * R .m + 4 * max (R .bin .a .rows) (R .fld .a .rows) + 4 * R .q

@@ -16,7 +16,7 @@ ghost use Rattle.magnetar_field.specs.Words.{elements};
 ghost use Rattle.magnetar_layout.specs.Lent.{lent};
 ghost use Rattle.magnetar_batch.specs.Systems.{system};
 ghost use Rattle.magnetar_protocol.specs.Schedule.{outline, schedule};
-ghost use Rattle.magnetar_protocol.specs.Play.{heard};
+ghost use Rattle.magnetar_protocol.specs.Play.{playedFrom};
 ghost use Rattle.magnetar_spartan.specs.Rules.{rules, relationOf};
 ghost use Rattle.magnetar_spartan.specs.Ready.{Ready, VerifyReady};
 ghost use Rattle.magnetar_spartan.specs.Outcome.{proved, proveOutcome, verified, verifyOutcome, verifyVerdict, verifyClaims};
@@ -33,7 +33,7 @@ pub fn stopped(
     t: Transcript,
     found: Found,
 ) -> TranscriptAnswer
-    ensures { λ r. ⌜ (r .code ≡ found .code) × (r .transcript ≡ heard (elements (now (proof .entry))) (take (found .events) (schedule (outline m q rb rf (now (lens .entry))))) t .transcript) ⌝ }
+    ensures { λ r. ⌜ (r .code ≡ found .code) × (r .transcript ≡ playedFrom (elements (now (proof .entry))) (take (found .events) (schedule (outline m q rb rf (now (lens .entry))))) t .transcript) ⌝ }
 {
     let mut none = [0u64; 2];
     let u = play::play(m, q, rb, rf, lens, proof, &mut none, t, found.events);

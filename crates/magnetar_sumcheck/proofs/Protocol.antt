@@ -17,13 +17,13 @@ use Rattle.magnetar_field.specs.Multilinear.{dot, mle}
 use Rattle.magnetar_field.proofs.Polynomial.{AllBelow, eval-lt}
 use Rattle.magnetar_field.proofs.Product.{⊗-lt}
 use Rattle.magnetar_field.proofs.Xor.{⊕-lt, ⊕-self, eq-of-⊕}
-use Rattle.magnetar_theory.specs.SumCheck.{Checks, running as runningE, Caught, honest}
+use Rattle.magnetar_theory.specs.SumCheck.{Checks, running as runningE, BadChallenge, honest}
 use Rattle.magnetar_theory.specs.Table.{State, tableRounds}
 use Rattle.magnetar_theory.specs.Cells.{outerCells, innerCells}
 use Rattle.magnetar_theory.specs.EqTable.{eqTable as eqTableE, dot as dotE, eqProduct}
 use Rattle.magnetar_theory.specs.Outer.{rowValues, start}
 use Rattle.magnetar_theory.specs.Inner.{zipInner}
-use Rattle.magnetar_theory.specs.Tau.{Zeros, TauCaught}
+use Rattle.magnetar_theory.specs.Tau.{Zeros, BadTau}
 use Rattle.magnetar_theory.specs.Gf128.{Element, element, sum, product, gf128}
 use Rattle.magnetar_theory.proofs.Matrix.{dot-comm}
 use Rattle.magnetar_theory.proofs.Outer.{outer-sound, outer-complete}
@@ -196,8 +196,8 @@ module _ (tau a b c rs cs : List ℕ) (Z : OuterSizes tau a b c rs cs) where
 
   -- if all checks pass and the end is true, every row holds, or an element of tau or a challenge is in its list
   pub outer-accepted : (ms : List (List ℕ)) → passes 0 ms (rs ++ cs) ≡ true → running 0 ms (rs ++ cs) ≡ trueEnd tau a b c rs cs
-      → Rows a b c ⊎ (TauCaught gf128 (rowValues gf128 (els a) (els b) (els c)) (els tau)
-      ⊎ Caught gf128 (tableRounds gf128 (outerCells gf128)) begin (map els ms) (els rs ++ els cs))
+      → Rows a b c ⊎ (BadTau gf128 (rowValues gf128 (els a) (els b) (els c)) (els tau)
+      ⊎ BadChallenge gf128 (tableRounds gf128 (outerCells gf128)) begin (map els ms) (els rs ++ els cs))
   outer-accepted ms h e = outer-sound gf128 gf128Laws (els a) (els b) (els c) (els tau) (els rs) (els cs) (els-length a (Z .size-a))
       (els-length b (Z .size-b) ∙ sym (els-length a (Z .size-a))) (els-length c (Z .size-c) ∙ sym (els-length a (Z .size-a))) tau-length
       (map els ms)
@@ -268,12 +268,12 @@ module _ (t z rs : List ℕ) (lt : length t ≡ 2 ^ length rs) (lz : length z �
 
   -- if all checks pass and the end is true, the claim is the sum, or a challenge is in its list
   pub inner-accepted : (v : ℕ) (ms : List (List ℕ)) → passes v ms rs ≡ true → running v ms rs ≡ innerEnd (mle t rs) (mle z rs)
-      → (element v ≡ element (dot t z)) ⊎ Caught gf128 (tableRounds gf128 (innerCells gf128)) innerBegin (map els ms) (els rs)
+      → (element v ≡ element (dot t z)) ⊎ BadChallenge gf128 (tableRounds gf128 (innerCells gf128)) innerBegin (map els ms) (els rs)
   inner-accepted v ms h e = go (inner-sound gf128 gf128Laws (els t) (els z) (els rs) inner-length inner-same (element v) (map els ms)
       (passes-checks v ms rs h) (sym (running-is v ms rs) ∙ ap element e ∙ inner-end))
     where
-      go : (element v ≡ dotE gf128 (els t) (els z)) ⊎ Caught gf128 (tableRounds gf128 (innerCells gf128)) innerBegin (map els ms) (els rs)
-          → (element v ≡ element (dot t z)) ⊎ Caught gf128 (tableRounds gf128 (innerCells gf128)) innerBegin (map els ms) (els rs)
+      go : (element v ≡ dotE gf128 (els t) (els z)) ⊎ BadChallenge gf128 (tableRounds gf128 (innerCells gf128)) innerBegin (map els ms) (els rs)
+          → (element v ≡ element (dot t z)) ⊎ BadChallenge gf128 (tableRounds gf128 (innerCells gf128)) innerBegin (map els ms) (els rs)
       go (inl p) = inl (p ∙ sym (element-dot t z))
       go (inr m) = inr m
 

@@ -13,7 +13,7 @@ use Rattle.magnetar_theory.proofs.SumCheck.{eq-of-sum-zero}
 use Rattle.magnetar_theory.specs.EqTable.{dot}
 use Rattle.magnetar_theory.specs.Tau.{Zeros}
 use Rattle.magnetar_theory.proofs.Tau.{all-zero, eval-line}
-use Rattle.magnetar_theory.specs.Alpha.{diffs, slopeRoots, lastRoots, alphaList, AlphaCaught}
+use Rattle.magnetar_theory.specs.Alpha.{diffs, slopeRoots, lastRoots, alphaList, BadAlpha}
 
 module _ (F : Field) where
   open Field F using (K, 𝟎, 𝟏, _⊕_, _⊗_, same, roots)
@@ -88,7 +88,7 @@ module _ (F : Field) where
         terms a v t p q = simp (ring, L .laws)
 
     pub alpha-sound : (al vs ts : List K) → length al ≡ length vs → length vs ≡ length ts → dot F al vs ≡ dot F al ts → (vs ≡ ts)
-        ⊎ AlphaCaught F vs ts al
+        ⊎ BadAlpha F vs ts al
     alpha-sound al vs ts l k e = go (search-last al (diffs F vs ts) 𝟎 (l ∙ sym (length-diffs vs ts k)) zero-dot)
       where
         double : (x : K) → 𝟎 ⊕ (x ⊕ x) ≡ 𝟎
@@ -97,7 +97,7 @@ module _ (F : Field) where
         zero-dot : 𝟎 ⊕ dot F al (diffs F vs ts) ≡ 𝟎
         zero-dot = ap (λ (w : K). 𝟎 ⊕ w) (dot-diffs al vs ts k ∙ ap (λ (w : K). w ⊕ dot F al ts) e) ∙ double (dot F al ts)
 
-        go : ((𝟎 ≡ 𝟎) × Zeros F (diffs F vs ts)) ⊎ Found 𝟎 (diffs F vs ts) al → (vs ≡ ts) ⊎ AlphaCaught F vs ts al
+        go : ((𝟎 ≡ 𝟎) × Zeros F (diffs F vs ts)) ⊎ Found 𝟎 (diffs F vs ts) al → (vs ≡ ts) ⊎ BadAlpha F vs ts al
         go (inl (_, z)) = inl (equal vs ts k z)
         go (inr m) = inr m
 

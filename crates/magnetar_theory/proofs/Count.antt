@@ -1,9 +1,9 @@
--- How many elements the lists have: by the place of the draw, and all lists met along one run together.
+-- How many elements all lists met along one run have together.
 -- Assumes nothing: the field and its laws are parameters.
-use mathlib.Core.Path.{_≡_, refl, sym, ap, ap₂, _∙_, subst}
+use mathlib.Core.Path.{_≡_, refl, sym, ap, ap₂, _∙_}
 use mathlib.Core.Bool.{Bool, true, false, cond, false≢true}
 use mathlib.Core.List.{List, [], _∷_, _++_}
-use Prim.Native.Nat.{ℕ, zero, suc, _+_, _-_, _*_, _≤_, max}
+use Prim.Native.Nat.{ℕ, zero, suc, _+_, _*_, _≤_, max}
 use native.Mathlib.Nat.{suc-mul, zero-add, le-max-left, le-max-right}
 use native.Mathlib.Omega.{arith}
 use lib.Dec.{ltb}
@@ -16,12 +16,12 @@ use Rattle.magnetar_theory.specs.Cells.{innerCells}
 use Rattle.magnetar_theory.specs.Tau.{Zeros, tauList}
 use Rattle.magnetar_theory.proofs.Tau.{zeros, same-zero, tau-few}
 use Rattle.magnetar_theory.specs.Alpha.{alphaList, diffs, lastRoots, slopeRoots}
-use Rattle.magnetar_theory.proofs.Alpha.{alpha-few, slope-few}
+use Rattle.magnetar_theory.proofs.Alpha.{slope-few}
 use Rattle.magnetar_theory.specs.Inner.{zipInner}
 use Rattle.magnetar_theory.specs.Run.{Relation, System, binGood, residues, vectors, trueTerminals, combo, folded}
 use Rattle.magnetar_theory.specs.Lists.{section, words, sixAt, outer, lists, listsOf}
 use Rattle.magnetar_theory.proofs.Lists.{bad-few, words-few, outer-few}
-use Rattle.magnetar_theory.specs.Count.{stage, most, draws, sumTo}
+use Rattle.magnetar_theory.specs.Count.{draws, naturalSum}
 
 ltb-suc : (m n : ℕ) → ltb (suc m) (suc n) ≡ ltb m n
 ltb-suc m n = go (ltb m n) refl
@@ -40,7 +40,7 @@ module _ (F : Field) where
   met l [] = 0
   met l (a ∷ d) = length (l []) + met (λ p. l (a ∷ p)) d
 
-  pub met-sum : (l : List K → List K) (d : List K) → met l d ≡ sumTo (length d) (λ k. length (l (take k d)))
+  pub met-sum : (l : List K → List K) (d : List K) → met l d ≡ naturalSum (length d) (λ k. length (l (take k d)))
   met-sum l [] = refl
   met-sum l (a ∷ d) = ap (λ (n : ℕ). length (l []) + n) (met-sum (λ p. l (a ∷ p)) d)
 
@@ -85,16 +85,6 @@ module _ (F : Field) where
   met-within : (n m B C : ℕ) (g : List K → List K) (r : List K → List K → List K) (d : List K) → length d ≤ n + m
       → ((e : List K) → met g (take n e) ≤ B) → ((t e : List K) → length e ≤ m → met (r t) e ≤ C) → met (section F n g r) d ≤ B + C
   met-within n m B C g r d l h k = omega (arith, met-section n g r d, h d, k (take n d) (drop n d) (omega (arith, length-drop n d)))
-
-  section-most : (n c : ℕ) (f : ℕ → ℕ) (g : List K → List K) (r : List K → List K → List K) (p : List K)
-      → ((e : List K) → length (g e) ≤ c) → ((t e : List K) → length (r t e) ≤ f (length e))
-      → length (section F n g r p) ≤ stage n c f (length p)
-  unfolding section stage
-  section-most n c f g r p h k = go (ltb (length p) n)
-    where
-      go : (b : Bool) → length (cond b (g p) (r (take n p) (drop n p))) ≤ cond b c (f (length p - n))
-      go true = h p
-      go false = subst (λ (m : ℕ). length (r (take n p) (drop n p)) ≤ f m) (length-drop n p) (k (take n p) (drop n p))
 
   cond-most : (b : Bool) (u v : List K) (m n : ℕ) → length u ≤ m → length v ≤ n → length (cond b u v) ≤ cond b m n
   cond-most true u v m n h k = h
@@ -156,21 +146,6 @@ module _ (F : Field) where
           (record { tops = 0; rows = suc (R .logHalf); cells = zipInner F (combo F R rb rf al) (folded F R x ws sh) }) e
           (words F (8 * s + 4 * R .bin .logRows + 4 * R .fld .logRows + 6 + 3 * length e) 3 w)
           (words-few F L s R x ws w (8 * s + 4 * R .bin .logRows + 4 * R .fld .logRows + 6 + 3 * length e) 3)
-
-      -- tau and alpha one, a round of the outer sum-check three, of the inner two
-      pub few-at : (p : List K) → length (lists F s R x ws w p) ≤ most (binGood F R x ws) s (R .bin .logRows) (R .fld .logRows) (length p)
-      unfolding listsOf
-      few-at p = section-most _ _ _ _ _ p (λ e. cond-most (binGood F R x ws) _ _ 0 1 (omega arith) (tau-one (R .bin) e))
-          λ tb p. section-most _ _ _ _ _ p (λ e. cond-most (binGood F R x ws) _ _ 1 0 (tau-one (R .fld) e) (omega arith))
-          λ tf p. section-most _ _ _ _ _ p (λ e. both-most (binGood F R x ws) _ _ 3 (round (R .fld) tf e (8 * length e + 4))
-          (round (R .bin) tb e (8 * length e)))
-          λ sh p. section-most _ _ _ _ _ p (λ e. cond-most (binGood F R x ws) _ _ 0 3 (omega arith)
-          (round (R .bin) tb (sh ++ e) (8 * s + 4 * length e)))
-          λ rb p. section-most _ _ _ _ _ p (λ e. cond-most (binGood F R x ws) _ _ 3 0
-          (round (R .fld) tf (sh ++ e) (8 * s + 4 * R .bin .logRows + 4 * length e)) (omega arith))
-          λ rf p. section-most _ _ _ _ _ p (λ e. alpha-few F L (sixAt F (8 * s + 4 * R .bin .logRows + 4 * R .fld .logRows) w)
-          (trueTerminals F R x ws sh rb rf) e)
-          λ al e. inner-two sh rb rf al e
 
       -- all lists met along one run, by the system followed
       met-by : (good : Bool) (d : List K) → length d ≤ draws s (R .bin .logRows) (R .fld .logRows) (R .logHalf)

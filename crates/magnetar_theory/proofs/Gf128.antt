@@ -1,9 +1,8 @@
 -- GF(2^128) meets the laws of a field, and taking the element of a number is a homomorphism.
--- Assumes nothing: the field and its laws are parameters.
+-- Assumes nothing.
 use mathlib.Core.Path.{_≡_, refl, sym, ap, ap₂, _∙_, subst}
 use mathlib.Core.Bool.{true, _&&_, true≢false}
 use mathlib.Core.List.{List, [], _∷_, map, List·Memᴰ, List·Memᴰ·head, List·Memᴰ·tail}
-use mathlib.Core.Logic.{_⊎_, inl, inr}
 use mathlib.Core.HLevel.{Σ-prop-path}
 use Prim.Native.Nat.{ℕ, suc, _%_, _^_, _≤_, _<_}
 use native.Mathlib.Nat.{mod-eq-of-lt}
@@ -15,7 +14,6 @@ use Rattle.magnetar_field.specs.Gf128.{_⊕_, _⊗_}
 use Rattle.magnetar_field.specs.Polynomial.{roots, AllZero, eval as evalN}
 use Rattle.magnetar_field.proofs.Xor.{⊕-assoc, ⊕-comm, ⊕-self, ⊕-zero, ⊕-lt, ⊕-mod}
 use Rattle.magnetar_field.proofs.Product.{⊗-assoc, ⊗-comm, ⊗-⊕, ⊗-one, ⊗-lt, ⊗-mod}
-use Rattle.magnetar_field.proofs.Inverse.{zero-product}
 use Rattle.magnetar_field.proofs.Polynomial.{AllBelow}
 use Rattle.magnetar_field.proofs.Roots.{root-in, roots-few}
 use Rattle.magnetar_theory.specs.Field.{Ring, Laws, eval, allZero}
@@ -114,18 +112,12 @@ pub gf128Laws : Laws gf128
 unfolding rootsOf
 gf128Laws = record {
   laws = gf128Ring;
-  no-zero-divisors = λ x y e. parts x y (zero-product (number x) (number y) (number-lt x) (number-lt y)
-      (sym (number-product x y) ∙ ap number e ∙ number-zero));
   root-listed = λ p r h e. subst (λ (x : Element). List·Memᴰ x (map element (roots (map number p)))) (element-number r)
       (element-mem (number r) (root-in (map number p) (number r) (number-lt r) (sym (number-eval p r) ∙ ap number e ∙ number-zero)));
   roots-few = λ c p h. few c p (roots-few (number c ∷ map number p) (numbers-below (c ∷ p))
       (λ z. true≢false (sym (all-zero (c ∷ p) z) ∙ h)));
 }
   where
-    parts : (x y : Element) → (number x ≡ 0) ⊎ (number y ≡ 0) → (x ≡ element 0) ⊎ (y ≡ element 0)
-    parts x y (inl e) = inl (same-number x (element 0) (e ∙ sym number-zero))
-    parts x y (inr e) = inr (same-number y (element 0) (e ∙ sym number-zero))
-
     few : (c : Element) (p : List Element) → length (roots (number c ∷ map number p)) < suc (length (map number p))
         → length (map element (roots (number c ∷ map number p))) ≤ length p
     few c p h = omega (arith, length-map (roots (number c ∷ map number p)) element, length-map p number)

@@ -8,7 +8,7 @@ use native.Mathlib.Nat.{zero-add}
 use native.Mathlib.Omega.{arith}
 use lib.ListN.{length}
 use Rattle.magnetar_theory.specs.Field.{Field, Laws}
-use Rattle.magnetar_theory.specs.SumCheck.{Checks, running, bindAll, Caught, honest}
+use Rattle.magnetar_theory.specs.SumCheck.{Checks, running, bindAll, BadChallenge, honest}
 use Rattle.magnetar_theory.proofs.SumCheck.{sound, complete}
 use Rattle.magnetar_theory.specs.Table.{State, tableRounds, sumTerms}
 use Rattle.magnetar_theory.proofs.Table.{tableLaws}
@@ -70,12 +70,12 @@ module _ (F : Field) where
 
       pub inner-sound : (v : K) (ms : List (List K)) → Checks F v ms rs → running F v ms rs
           ≡ dot F (eqTable F rs) t ⊗ dot F (eqTable F rs) z
-          → (v ≡ dot F t z) ⊎ Caught F (tableRounds F (innerCells F)) begin ms rs
+          → (v ≡ dot F t z) ⊎ BadChallenge F (tableRounds F (innerCells F)) begin ms rs
       inner-sound v ms h e = go (sound F L (tableRounds F (innerCells F))
           (tableLaws F (innerCells F) L (innerCellLaws F L)) ms rs v begin h (e ∙ sym end-value))
         where
-          go : (v ≡ sumTerms F (innerCells F) (zipInner F t z)) ⊎ Caught F (tableRounds F (innerCells F)) begin ms rs → (v ≡ dot F t z)
-              ⊎ Caught F (tableRounds F (innerCells F)) begin ms rs
+          go : (v ≡ sumTerms F (innerCells F) (zipInner F t z)) ⊎ BadChallenge F (tableRounds F (innerCells F)) begin ms rs → (v ≡ dot F t z)
+              ⊎ BadChallenge F (tableRounds F (innerCells F)) begin ms rs
           go (inl p) = inl (p ∙ sum-dot t z)
           go (inr m) = inr m
 

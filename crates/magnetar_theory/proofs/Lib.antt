@@ -13,7 +13,7 @@ pub mod Inner
 pub mod Segment
 pub mod Run
 pub mod Lists
-pub mod Heard
+pub mod Absorbed
 pub mod Count
 pub mod Gf128
 pub mod Whole

@@ -12,7 +12,7 @@ use lib.ListN.{length, take, drop, getD, length-append, length-take, List·getD-
 use lib.Seq.{take-append-le, take-append-add, getD-append-add, length-take-le, take-at, drop-at, drop-drop}
 use borrow.Author.Tests.{ltb-true, ltb-false, lt-ltb, le-ltb}
 use Rattle.magnetar_theory.specs.Field.{Field, Laws}
-use Rattle.magnetar_theory.specs.SumCheck.{badChallenges, bindAll, Caught}
+use Rattle.magnetar_theory.specs.SumCheck.{badChallenges, bindAll, BadChallenge}
 use Rattle.magnetar_theory.proofs.SumCheck.{few, length-addPoly}
 use Rattle.magnetar_theory.specs.Table.{Cells, tableRounds, State, polyAll, pairs}
 use Rattle.magnetar_theory.specs.Cells.{InnerCell, outerCells, innerCells}
@@ -23,7 +23,7 @@ use Rattle.magnetar_theory.specs.Inner.{zipInner}
 use Rattle.magnetar_theory.specs.Run.{Relation, System, Draws, Accepted, Sizes, binGood, vectors, residues, begin, trueTerminals, trueValue, combo, folded, inner}
 use Rattle.magnetar_theory.proofs.Run.{Bad, whole-sound}
 use Rattle.magnetar_theory.proofs.Run.{tau-bin, tau-fld, round-bin, round-fld, alpha-bad, inner-bad}
-use Rattle.magnetar_theory.specs.Lists.{section, Hit, words, sixAt, outer, listsOf, lists, rounds, wordsOf, drawn}
+use Rattle.magnetar_theory.specs.Lists.{section, DrawInList, words, sixAt, outer, listsOf, lists, rounds, wordsOf, drawn}
 
 module _ (F : Field) where
   open Field F using (K, 𝟎, 𝟏, _⊕_, _⊗_)
@@ -41,7 +41,7 @@ module _ (F : Field) where
       far : st + i * st ≡ suc i * st
       far = omega (arith, suc-mul i st)
 
-  hit-here : (lst : List K → List K) (sec rest : List K) → Hit F lst sec → Hit F lst (sec ++ rest)
+  hit-here : (lst : List K → List K) (sec rest : List K) → DrawInList F lst sec → DrawInList F lst (sec ++ rest)
   hit-here lst sec rest (k, h, m) = (
     k,
     omega (arith, length-append sec rest),
@@ -49,7 +49,7 @@ module _ (F : Field) where
         (sym (List·getD-append sec rest 𝟎 k h)) (sym (take-append-le k sec rest (omega arith))) m,
   )
 
-  hit-skip : (lst : List K → List K) (sec rest : List K) → Hit F (λ p. lst (sec ++ p)) rest → Hit F lst (sec ++ rest)
+  hit-skip : (lst : List K → List K) (sec rest : List K) → DrawInList F (λ p. lst (sec ++ p)) rest → DrawInList F lst (sec ++ rest)
   hit-skip lst sec rest (k, h, m) = (
     length sec + k,
     omega (arith, length-append sec rest),
@@ -57,15 +57,15 @@ module _ (F : Field) where
         (λ (a : K) (l : List K). List·Memᴰ a (lst l)) (sym (getD-append-add sec rest k 𝟎)) (sym (take-append-add sec rest k)) m,
   )
 
-  pub hit-map : (l₁ l₂ : List K → List K) (d : List K) → ((p : List K) → length p < length d → l₁ p ≡ l₂ p) → Hit F l₁ d → Hit F l₂ d
+  pub hit-map : (l₁ l₂ : List K → List K) (d : List K) → ((p : List K) → length p < length d → l₁ p ≡ l₂ p) → DrawInList F l₁ d → DrawInList F l₂ d
   hit-map l₁ l₂ d e (k, h, m) = (k, h, subst (List·Memᴰ (getD d k 𝟎)) (e (take k d) (rw (length-take-le k d (omega arith)) h)) m)
 
   module _ (n : ℕ) (g : List K → List K) (r : List K → List K → List K) (sec rest : List K) (l : length sec ≡ n) where
-    hit-inside : Hit F g sec → Hit F (section F n g r) (sec ++ rest)
+    hit-inside : DrawInList F g sec → DrawInList F (section F n g r) (sec ++ rest)
     unfolding section
     hit-inside h = hit-here (section F n g r) sec rest (hit-map g (section F n g r) sec (λ p q. rw (lt-ltb (length p) n (rw l at q))) h)
 
-    hit-after : Hit F (r sec) rest → Hit F (section F n g r) (sec ++ rest)
+    hit-after : DrawInList F (r sec) rest → DrawInList F (section F n g r) (sec ++ rest)
     unfolding section
     hit-after h = hit-skip (section F n g r) sec rest
         (hit-map (r sec) (λ p. section F n g r (sec ++ p)) rest
@@ -74,10 +74,10 @@ module _ (F : Field) where
   -- a round of the first part or of the second
   split : (lst : List K → List K → List K) (sh rb : List K) (m₁ m₂ : List (List K)) → length m₁ ≡ length sh
       → (i : ℕ) × (i < length (sh ++ rb)) × List·Memᴰ (getD (sh ++ rb) i 𝟎) (lst (take i (sh ++ rb)) (getD (m₁ ++ m₂) i []))
-      → Hit F (λ e. lst e (getD m₁ (length e) [])) sh ⊎ Hit F (λ e. lst (sh ++ e) (getD m₂ (length e) [])) rb
+      → DrawInList F (λ e. lst e (getD m₁ (length e) [])) sh ⊎ DrawInList F (λ e. lst (sh ++ e) (getD m₂ (length e) [])) rb
   split lst sh rb m₁ m₂ l (i, h, m) = go (ltb i (length sh)) refl
     where
-      first : i < length sh → Hit F (λ e. lst e (getD m₁ (length e) [])) sh
+      first : i < length sh → DrawInList F (λ e. lst e (getD m₁ (length e) [])) sh
       first q = (
         i,
         q,
@@ -85,7 +85,7 @@ module _ (F : Field) where
             (rw (List·getD-append sh rb 𝟎 i q, take-append-le i sh rb (omega arith), List·getD-append m₁ m₂ [] i (omega arith)) at m),
       )
 
-      second : (j : ℕ) → i ≡ length sh + j → Hit F (λ e. lst (sh ++ e) (getD m₂ (length e) [])) rb
+      second : (j : ℕ) → i ≡ length sh + j → DrawInList F (λ e. lst (sh ++ e) (getD m₂ (length e) [])) rb
       second j e = (
         j,
         small,
@@ -99,8 +99,8 @@ module _ (F : Field) where
           moved : List·Memᴰ (getD (sh ++ rb) (length sh + j) 𝟎) (lst (take (length sh + j) (sh ++ rb)) (getD (m₁ ++ m₂) (length sh + j) []))
           moved = rw e at m
 
-      go : (t : Bool) → ltb i (length sh) ≡ t → Hit F (λ e. lst e (getD m₁ (length e) [])) sh
-          ⊎ Hit F (λ e. lst (sh ++ e) (getD m₂ (length e) [])) rb
+      go : (t : Bool) → ltb i (length sh) ≡ t → DrawInList F (λ e. lst e (getD m₁ (length e) [])) sh
+          ⊎ DrawInList F (λ e. lst (sh ++ e) (getD m₂ (length e) [])) rb
       go true e = inl (first (ltb-true i (length sh) e))
       go false e = inr (second (i - length sh) (omega (arith, ltb-false i (length sh) e)))
 
@@ -173,9 +173,9 @@ module _ (F : Field) where
     message c st n i o o′ h e = at-rounds c st n i (drop o w) h ∙ ap (take n) (drop-drop (i * st) o w ∙ ap (λ (k : ℕ). drop k w) e)
 
     shared-part : (Y : System F) (taus : List K) (rows o : ℕ)
-        → Hit F (λ e. outer F (length (D .shared)) R x ws w Y taus rows e
+        → DrawInList F (λ e. outer F (length (D .shared)) R x ws w Y taus rows e
         (getD (rounds F (length (D .shared)) 8 4 (drop o w)) (length e) [])) (D .shared)
-        → Hit F (λ e. outer F (length (D .shared)) R x ws w Y taus rows e (words F (8 * length e + o) 4 w)) (D .shared)
+        → DrawInList F (λ e. outer F (length (D .shared)) R x ws w Y taus rows e (words F (8 * length e + o) 4 w)) (D .shared)
     shared-part Y taus rows o = hit-map (λ e. outer F (length (D .shared)) R x ws w Y taus rows e
         (getD (rounds F (length (D .shared)) 8 4 (drop o w)) (length e) []))
         (λ e. outer F (length (D .shared)) R x ws w Y taus rows e (words F (8 * length e + o) 4 w)) (D .shared)
@@ -183,9 +183,9 @@ module _ (F : Field) where
         (message (length (D .shared)) 8 4 (length p) o (8 * length p + o) h (omega arith)))
 
     row-part : (Y : System F) (taus r : List K) (rows o : ℕ) → length r ≡ rows
-        → Hit F (λ e. outer F (length (D .shared)) R x ws w Y taus rows (D .shared ++ e)
+        → DrawInList F (λ e. outer F (length (D .shared)) R x ws w Y taus rows (D .shared ++ e)
         (getD (rounds F rows 4 4 (drop o w)) (length e) [])) r
-        → Hit F (λ e. outer F (length (D .shared)) R x ws w Y taus rows (D .shared ++ e) (words F (o + 4 * length e) 4 w)) r
+        → DrawInList F (λ e. outer F (length (D .shared)) R x ws w Y taus rows (D .shared ++ e) (words F (o + 4 * length e) 4 w)) r
     row-part Y taus r rows o l = hit-map (λ e. outer F (length (D .shared)) R x ws w Y taus rows (D .shared ++ e)
         (getD (rounds F rows 4 4 (drop o w)) (length e) []))
         (λ e. outer F (length (D .shared)) R x ws w Y taus rows (D .shared ++ e) (words F (o + 4 * length e) 4 w)) r
@@ -200,30 +200,30 @@ module _ (F : Field) where
 
     -- the rounds of one system, by their part
     parts : (Y : System F) (taus r : List K) (o o′ : ℕ) → length r ≡ Y .logRows
-        → Caught F (tableRounds F (outerCells F)) (begin F Y taus (vectors F ws x) (length (D .shared)) (length r))
+        → BadChallenge F (tableRounds F (outerCells F)) (begin F Y taus (vectors F ws x) (length (D .shared)) (length r))
         (rounds F (length (D .shared)) 8 4 (drop o w) ++ rounds F (Y .logRows) 4 4 (drop o′ w)) (D .shared ++ r)
-        → Hit F (λ e. outer F (length (D .shared)) R x ws w Y taus (Y .logRows) e (words F (8 * length e + o) 4 w)) (D .shared)
-        ⊎ Hit F (λ e. outer F (length (D .shared)) R x ws w Y taus (Y .logRows) (D .shared ++ e) (words F (o′ + 4 * length e) 4 w)) r
+        → DrawInList F (λ e. outer F (length (D .shared)) R x ws w Y taus (Y .logRows) e (words F (8 * length e + o) 4 w)) (D .shared)
+        ⊎ DrawInList F (λ e. outer F (length (D .shared)) R x ws w Y taus (Y .logRows) (D .shared ++ e) (words F (o′ + 4 * length e) 4 w)) r
     unfolding outer
     parts Y taus r o o′ l t = go (split (badChallenges F (tableRounds F (outerCells F))
         (begin F Y taus (vectors F ws x) (length (D .shared)) (Y .logRows))) (D .shared) r (rounds F (length (D .shared)) 8 4 (drop o w))
         (rounds F (Y .logRows) 4 4 (drop o′ w)) (length-rounds (length (D .shared)) 8 4 (drop o w))
-        (subst (λ (k : ℕ). Caught F (tableRounds F (outerCells F)) (begin F Y taus (vectors F ws x) (length (D .shared)) k)
+        (subst (λ (k : ℕ). BadChallenge F (tableRounds F (outerCells F)) (begin F Y taus (vectors F ws x) (length (D .shared)) k)
         (rounds F (length (D .shared)) 8 4 (drop o w) ++ rounds F (Y .logRows) 4 4 (drop o′ w)) (D .shared ++ r)) l t))
       where
-        go : Hit F (λ e. outer F (length (D .shared)) R x ws w Y taus (Y .logRows) e
+        go : DrawInList F (λ e. outer F (length (D .shared)) R x ws w Y taus (Y .logRows) e
             (getD (rounds F (length (D .shared)) 8 4 (drop o w)) (length e) [])) (D .shared)
-            ⊎ Hit F (λ e. outer F (length (D .shared)) R x ws w Y taus (Y .logRows) (D .shared ++ e)
+            ⊎ DrawInList F (λ e. outer F (length (D .shared)) R x ws w Y taus (Y .logRows) (D .shared ++ e)
             (getD (rounds F (Y .logRows) 4 4 (drop o′ w)) (length e) [])) r
-            → Hit F (λ e. outer F (length (D .shared)) R x ws w Y taus (Y .logRows) e (words F (8 * length e + o) 4 w)) (D .shared)
-            ⊎ Hit F (λ e. outer F (length (D .shared)) R x ws w Y taus (Y .logRows) (D .shared ++ e)
+            → DrawInList F (λ e. outer F (length (D .shared)) R x ws w Y taus (Y .logRows) e (words F (8 * length e + o) 4 w)) (D .shared)
+            ⊎ DrawInList F (λ e. outer F (length (D .shared)) R x ws w Y taus (Y .logRows) (D .shared ++ e)
             (words F (o′ + 4 * length e) 4 w)) r
         go (inl h) = inl (shared-part Y taus (Y .logRows) o h)
         go (inr h) = inr (row-part Y taus r (Y .logRows) o′ l h)
 
     inner-part : (t : List (InnerCell F)) (n o : ℕ) (e : List K) → length e ≡ n
-        → Caught F (tableRounds F (innerCells F)) (record { tops = 0; rows = length e; cells = t }) (rounds F n 3 3 (drop o w)) e
-        → Hit F (λ p. badChallenges F (tableRounds F (innerCells F)) (record { tops = 0; rows = n; cells = t }) p
+        → BadChallenge F (tableRounds F (innerCells F)) (record { tops = 0; rows = length e; cells = t }) (rounds F n 3 3 (drop o w)) e
+        → DrawInList F (λ p. badChallenges F (tableRounds F (innerCells F)) (record { tops = 0; rows = n; cells = t }) p
         (words F (o + 3 * length p) 3 w)) e
     inner-part t n o e l (i, k, m) = (
       i,
@@ -237,21 +237,21 @@ module _ (F : Field) where
     inner-size : length (inner F D) ≡ suc (R .logHalf)
     inner-size = length-append (D .low) (D .last ∷ []) ∙ omega (arith, S .low-size)
 
-    at : (b : Bool) → binGood F R x ws ≡ b → Hit F (listsOf F (length (D .shared)) R x ws w b) (drawn F D)
-        → Hit F (lists F (length (D .shared)) R x ws w) (drawn F D)
-    at b e h = subst (λ (c : Bool). Hit F (listsOf F (length (D .shared)) R x ws w c) (drawn F D)) (sym e) h
+    at : (b : Bool) → binGood F R x ws ≡ b → DrawInList F (listsOf F (length (D .shared)) R x ws w b) (drawn F D)
+        → DrawInList F (lists F (length (D .shared)) R x ws w) (drawn F D)
+    at b e h = subst (λ (c : Bool). DrawInList F (listsOf F (length (D .shared)) R x ws w c) (drawn F D)) (sym e) h
 
     -- the draws of the seven parts, each in its place
-    place : Bad F R x ws D (wordsOf F (length (D .shared)) R w) → Hit F (lists F (length (D .shared)) R x ws w) (drawn F D)
+    place : Bad F R x ws D (wordsOf F (length (D .shared)) R w) → DrawInList F (lists F (length (D .shared)) R x ws w) (drawn F D)
     unfolding listsOf
     place (tau-bin b t) = at false b (hit-inside _ _ _ (D .tauBin) _ tb-size t)
     place (tau-fld b t) = at true b (hit-after _ _ _ (D .tauBin) _ tb-size (hit-inside _ _ _ (D .tauFld) _ tf-size t))
     place (round-bin b t) = at false b (go (parts (R .bin) (D .tauBin) (D .rowBin) 0 (8 * length (D .shared)) (S .rows-bin) t))
       where
-        go : Hit F (λ e. outer F (length (D .shared)) R x ws w (R .bin) (D .tauBin) (R .bin .logRows) e (words F (8 * length e + 0) 4 w))
-            (D .shared) ⊎ Hit F (λ e. outer F (length (D .shared)) R x ws w (R .bin) (D .tauBin) (R .bin .logRows) (D .shared ++ e)
+        go : DrawInList F (λ e. outer F (length (D .shared)) R x ws w (R .bin) (D .tauBin) (R .bin .logRows) e (words F (8 * length e + 0) 4 w))
+            (D .shared) ⊎ DrawInList F (λ e. outer F (length (D .shared)) R x ws w (R .bin) (D .tauBin) (R .bin .logRows) (D .shared ++ e)
             (words F (8 * length (D .shared) + 4 * length e) 4 w)) (D .rowBin)
-            → Hit F (listsOf F (length (D .shared)) R x ws w false) (drawn F D)
+            → DrawInList F (listsOf F (length (D .shared)) R x ws w false) (drawn F D)
         go (inl h) = hit-after _ _ _ (D .tauBin) _ tb-size (hit-after _ _ _ (D .tauFld) _ tf-size (hit-inside _ _ _ (D .shared) _ refl
             (hit-map (λ e. outer F (length (D .shared)) R x ws w (R .bin) (D .tauBin) (R .bin .logRows) e (words F (8 * length e + 0) 4 w))
             (λ e. outer F (length (D .shared)) R x ws w (R .bin) (D .tauBin) (R .bin .logRows) e (words F (8 * length e) 4 w))
@@ -263,10 +263,10 @@ module _ (F : Field) where
     place (round-fld b t) = at true b (go (parts (R .fld) (D .tauFld) (D .rowFld) 4 (8 * length (D .shared) + 4 * R .bin .logRows)
         (S .rows-fld) t))
       where
-        go : Hit F (λ e. outer F (length (D .shared)) R x ws w (R .fld) (D .tauFld) (R .fld .logRows) e (words F (8 * length e + 4) 4 w))
-            (D .shared) ⊎ Hit F (λ e. outer F (length (D .shared)) R x ws w (R .fld) (D .tauFld) (R .fld .logRows) (D .shared ++ e)
+        go : DrawInList F (λ e. outer F (length (D .shared)) R x ws w (R .fld) (D .tauFld) (R .fld .logRows) e (words F (8 * length e + 4) 4 w))
+            (D .shared) ⊎ DrawInList F (λ e. outer F (length (D .shared)) R x ws w (R .fld) (D .tauFld) (R .fld .logRows) (D .shared ++ e)
             (words F (8 * length (D .shared) + 4 * R .bin .logRows + 4 * length e) 4 w)) (D .rowFld)
-            → Hit F (listsOf F (length (D .shared)) R x ws w true) (drawn F D)
+            → DrawInList F (listsOf F (length (D .shared)) R x ws w true) (drawn F D)
         go (inl h) = hit-after _ _ _ (D .tauBin) _ tb-size (hit-after _ _ _ (D .tauFld) _ tf-size (hit-inside _ _ _ (D .shared) _ refl h))
         go (inr h) = hit-after _ _ _ (D .tauBin) _ tb-size
             (hit-after _ _ _ (D .tauFld) _ tf-size (hit-after _ _ _ (D .shared) _ refl
@@ -283,12 +283,12 @@ module _ (F : Field) where
     pub flat-sound : Accepted F R x D (wordsOf F (length (D .shared)) R w) → (wordsOf F (length (D .shared)) R w) .values
         ≡ map (trueValue F D ws) (R .segs)
         → (Zeros F (residues F (R .bin) (vectors F ws x)) × Zeros F (residues F (R .fld) (vectors F ws x)))
-        ⊎ Hit F (lists F (length (D .shared)) R x ws w) (drawn F D)
+        ⊎ DrawInList F (lists F (length (D .shared)) R x ws w) (drawn F D)
     flat-sound H T = go (whole-sound F L R x ws D S (wordsOf F (length (D .shared)) R w) H T)
       where
         go : (Zeros F (residues F (R .bin) (vectors F ws x)) × Zeros F (residues F (R .fld) (vectors F ws x)))
             ⊎ Bad F R x ws D (wordsOf F (length (D .shared)) R w)
             → (Zeros F (residues F (R .bin) (vectors F ws x)) × Zeros F (residues F (R .fld) (vectors F ws x)))
-            ⊎ Hit F (lists F (length (D .shared)) R x ws w) (drawn F D)
+            ⊎ DrawInList F (lists F (length (D .shared)) R x ws w) (drawn F D)
         go (inl z) = inl z
         go (inr b) = inr (place b)

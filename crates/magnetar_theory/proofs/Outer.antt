@@ -8,7 +8,7 @@ use native.Mathlib.Omega.{arith}
 use lib.ListN.{length, length-append, length-reverse}
 use Rattle.magnetar_theory.specs.Field.{Field, Laws}
 use Rattle.magnetar_theory.proofs.Ring.{ring}
-use Rattle.magnetar_theory.specs.SumCheck.{Checks, running, bindAll, Caught, honest}
+use Rattle.magnetar_theory.specs.SumCheck.{Checks, running, bindAll, BadChallenge, honest}
 use Rattle.magnetar_theory.proofs.SumCheck.{sound, complete}
 use Rattle.magnetar_theory.specs.Table.{State, tableRounds, sumTerms}
 use Rattle.magnetar_theory.proofs.Table.{tableLaws}
@@ -16,7 +16,7 @@ use Rattle.magnetar_theory.specs.Cells.{OuterCell, outerCells}
 use Rattle.magnetar_theory.proofs.Cells.{outerCellLaws}
 use Rattle.magnetar_theory.specs.EqTable.{eqTable, dot, eqProduct}
 use Rattle.magnetar_theory.proofs.EqTable.{dot-nil, eq-eq, length-eqTable}
-use Rattle.magnetar_theory.specs.Tau.{Zeros, TauCaught}
+use Rattle.magnetar_theory.specs.Tau.{Zeros, BadTau}
 use Rattle.magnetar_theory.proofs.Tau.{tau-sound}
 use Rattle.magnetar_theory.proofs.Column.{Column, run-end, last-value, column-end}
 use Rattle.magnetar_theory.specs.Outer.{zipOuter, rowValues, start}
@@ -125,22 +125,22 @@ module _ (F : Field) where
       pub outer-sound : (ms : List (List K)) → Checks F 𝟎 ms (rs ++ cs)
           → running F 𝟎 ms (rs ++ cs) ≡ eqProduct F taus point ⊗ (dot F (eqTable F point) a ⊗ dot F (eqTable F point) b ⊕ dot F
           (eqTable F point) c)
-          → Zeros F (rowValues F a b c) ⊎ (TauCaught F (rowValues F a b c) taus
-          ⊎ Caught F (tableRounds F (outerCells F)) begin ms (rs ++ cs))
+          → Zeros F (rowValues F a b c) ⊎ (BadTau F (rowValues F a b c) taus
+          ⊎ BadChallenge F (tableRounds F (outerCells F)) begin ms (rs ++ cs))
       outer-sound ms h e = go (sound F L (tableRounds F (outerCells F)) (tableLaws F (outerCells F) L (outerCellLaws F L)) ms
           (rs ++ cs) 𝟎 begin h (e ∙ sym end-value))
         where
           size : length (rowValues F a b c) ≤ 2 ^ length taus
           size = rw lt (omega (arith, length-rows a b c))
 
-          tau : Zeros F (rowValues F a b c) ⊎ TauCaught F (rowValues F a b c) taus → Zeros F (rowValues F a b c)
-              ⊎ (TauCaught F (rowValues F a b c) taus ⊎ Caught F (tableRounds F (outerCells F)) begin ms (rs ++ cs))
+          tau : Zeros F (rowValues F a b c) ⊎ BadTau F (rowValues F a b c) taus → Zeros F (rowValues F a b c)
+              ⊎ (BadTau F (rowValues F a b c) taus ⊎ BadChallenge F (tableRounds F (outerCells F)) begin ms (rs ++ cs))
           tau (inl z) = inl z
           tau (inr m) = inr (inl m)
 
           go : (𝟎 ≡ sumTerms F (outerCells F) (zipOuter F a b c (eqTable F taus)))
-              ⊎ Caught F (tableRounds F (outerCells F)) begin ms (rs ++ cs) → Zeros F (rowValues F a b c)
-              ⊎ (TauCaught F (rowValues F a b c) taus ⊎ Caught F (tableRounds F (outerCells F)) begin ms (rs ++ cs))
+              ⊎ BadChallenge F (tableRounds F (outerCells F)) begin ms (rs ++ cs) → Zeros F (rowValues F a b c)
+              ⊎ (BadTau F (rowValues F a b c) taus ⊎ BadChallenge F (tableRounds F (outerCells F)) begin ms (rs ++ cs))
           go (inr m) = inr (inr m)
           go (inl v) = tau (tau-sound F L taus (rowValues F a b c) size (sym (v ∙ sum-rows a b c (eqTable F taus))))
 

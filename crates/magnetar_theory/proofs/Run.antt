@@ -10,21 +10,21 @@ use native.Mathlib.Omega.{arith}
 use lib.ListN.{length, take, drop, getD, length-append, length-reverse, length-map}
 use Rattle.magnetar_theory.specs.Field.{Field, Laws}
 use Rattle.magnetar_theory.proofs.Ring.{ring}
-use Rattle.magnetar_theory.specs.SumCheck.{total, Checks, running, Caught, honest}
+use Rattle.magnetar_theory.specs.SumCheck.{total, Checks, running, BadChallenge, honest}
 use Rattle.magnetar_theory.specs.Table.{tableRounds}
 use Rattle.magnetar_theory.specs.Cells.{outerCells, innerCells}
 use Rattle.magnetar_theory.specs.EqTable.{eqTable, dot, eqProduct}
 use Rattle.magnetar_theory.proofs.EqTable.{length-eqTable}
-use Rattle.magnetar_theory.specs.Tau.{Zeros, TauCaught}
+use Rattle.magnetar_theory.specs.Tau.{Zeros, BadTau}
 use Rattle.magnetar_theory.proofs.Tau.{zeros, all-zero}
-use Rattle.magnetar_theory.specs.Alpha.{AlphaCaught}
+use Rattle.magnetar_theory.specs.Alpha.{BadAlpha}
 use Rattle.magnetar_theory.proofs.Alpha.{alpha-sound}
 use Rattle.magnetar_theory.specs.Matrix.{Entry, apply, applyAll, columns, AllLength}
 use Rattle.magnetar_theory.proofs.Matrix.{dot-comm, dot-fold, length-fold, length-apply, length-columns, matrix}
 use Rattle.magnetar_theory.proofs.Outer.{outer-sound, outer-complete}
 use Rattle.magnetar_theory.specs.Inner.{zipInner}
 use Rattle.magnetar_theory.proofs.Inner.{inner-sound, inner-complete}
-use Rattle.magnetar_theory.specs.Segment.{Segment, slice}
+use Rattle.magnetar_theory.specs.Segment.{Segment, segmentPart}
 use Rattle.magnetar_theory.proofs.Segment.{bySegments, segments, halves, eq-total}
 use Rattle.magnetar_theory.specs.Run.{System, Relation, vectors, table, residues, begin, Draws, Words, inner, terminals, six, segSum, Accepted, trueValue, AllLaid, Sizes, trueTerminals, combo, folded, binGood, honestWords}
 
@@ -35,14 +35,14 @@ module _ (F : Field) where
   infixl 70 _⊗_
   -- a draw is in its list
   pub data Bad (R : Relation F) (x : List K) (ws : List (List K)) (D : Draws F) (W : Words F) : Type 0 where
-    tau-bin : binGood F R x ws ≡ false → TauCaught F (residues F (R .bin) (vectors F ws x)) (D .tauBin) → Bad R x ws D W
-    tau-fld : binGood F R x ws ≡ true → TauCaught F (residues F (R .fld) (vectors F ws x)) (D .tauFld) → Bad R x ws D W
-    round-bin : binGood F R x ws ≡ false → Caught F (tableRounds F (outerCells F)) (begin F (R .bin) (D .tauBin) (vectors F ws x)
+    tau-bin : binGood F R x ws ≡ false → BadTau F (residues F (R .bin) (vectors F ws x)) (D .tauBin) → Bad R x ws D W
+    tau-fld : binGood F R x ws ≡ true → BadTau F (residues F (R .fld) (vectors F ws x)) (D .tauFld) → Bad R x ws D W
+    round-bin : binGood F R x ws ≡ false → BadChallenge F (tableRounds F (outerCells F)) (begin F (R .bin) (D .tauBin) (vectors F ws x)
         (length (D .shared)) (length (D .rowBin))) (W .binMs) (D .shared ++ D .rowBin) → Bad R x ws D W
-    round-fld : binGood F R x ws ≡ true → Caught F (tableRounds F (outerCells F)) (begin F (R .fld) (D .tauFld) (vectors F ws x)
+    round-fld : binGood F R x ws ≡ true → BadChallenge F (tableRounds F (outerCells F)) (begin F (R .fld) (D .tauFld) (vectors F ws x)
         (length (D .shared)) (length (D .rowFld))) (W .fldMs) (D .shared ++ D .rowFld) → Bad R x ws D W
-    alpha-bad : AlphaCaught F (terminals F W) (trueTerminals F R x ws (D .shared) (D .rowBin) (D .rowFld)) (D .alpha) → Bad R x ws D W
-    inner-bad : Caught F (tableRounds F (innerCells F))
+    alpha-bad : BadAlpha F (terminals F W) (trueTerminals F R x ws (D .shared) (D .rowBin) (D .rowFld)) (D .alpha) → Bad R x ws D W
+    inner-bad : BadChallenge F (tableRounds F (innerCells F))
         (record {
           tops = 0;
           rows = length (inner F D);
@@ -88,12 +88,12 @@ module _ (F : Field) where
 
     -- the sums over the segments, login by login
     sums : (gs : List Segment) (r es : List K) (ws : List (List K)) → dot F es (map (λ (w : List K). bySegments F gs r w) ws)
-        ≡ segSum F gs r (map (λ (g : Segment). dot F es (map (λ (w : List K). dot F (eqTable F (take (g .logLen) r)) (slice F g w)) ws)) gs)
+        ≡ segSum F gs r (map (λ (g : Segment). dot F es (map (λ (w : List K). dot F (eqTable F (take (g .logLen) r)) (segmentPart F g w)) ws)) gs)
     sums [] r es ws = nothing es ws
     sums (g ∷ gs) r es ws = linear es (getD (eqTable F (drop (g .logLen) r)) (g .number) 𝟎)
-        (λ w. dot F (eqTable F (take (g .logLen) r)) (slice F g w)) (λ w. bySegments F gs r w) ws
+        (λ w. dot F (eqTable F (take (g .logLen) r)) (segmentPart F g w)) (λ w. bySegments F gs r w) ws
         ∙ ap (λ (v : K). getD (eqTable F (drop (g .logLen) r)) (g .number) 𝟎 ⊗ dot F es
-        (map (λ (w : List K). dot F (eqTable F (take (g .logLen) r)) (slice F g w)) ws) ⊕ v) (sums gs r es ws)
+        (map (λ (w : List K). dot F (eqTable F (take (g .logLen) r)) (segmentPart F g w)) ws) ⊕ v) (sums gs r es ws)
 
     by-login : (n : ℕ) (gs : List Segment) (r es : List K) (ws : List (List K)) → 2 ^ length r ≡ n → AllLaid F n gs ws
         → dot F es (map (λ (w : List K). dot F (eqTable F r) w) ws) ≡ dot F es (map (λ (w : List K). bySegments F gs r w) ws)
@@ -132,7 +132,7 @@ module _ (F : Field) where
       halfs = ap (λ (k : ℕ). 2 ^ k) (S .low-size)
 
       vecs : AllLength F (2 ^ suc (R .logHalf)) (vectors F ws x)
-      vecs = all-vectors (2 ^ R .logHalf) (2 ^ suc (R .logHalf)) x ws (S .bits) (S .public) (sym (two-pow-succ (R .logHalf)))
+      vecs = all-vectors (2 ^ R .logHalf) (2 ^ suc (R .logHalf)) x ws (S .row-lengths) (S .public) (sym (two-pow-succ (R .logHalf)))
 
       many : length ws ≡ length inst
       unfolding inst
@@ -143,7 +143,7 @@ module _ (F : Field) where
           ≡ (𝟏 ⊕ D .last) ⊗ segSum F (R .segs) (D .low) (map (trueValue F D ws) (R .segs)) ⊕ D .last ⊗ dot F (eqTable F (D .low)) x
       unfolding inst
       at-end = dot-fold F L (2 ^ suc (R .logHalf)) (eqTable F (inner F D)) inst (vectors F ws x)
-          ∙ fold-end 0 inst (D .low) (D .last) x ws (rw halfs (S .bits))
+          ∙ fold-end 0 inst (D .low) (D .last) x ws (rw halfs (S .row-lengths))
           ∙ linear inst (𝟏 ⊕ D .last) (λ w. dot F (eqTable F (D .low)) w) (λ w. D .last ⊗ dot F (eqTable F (D .low)) x) ws
           ∙ ap₂ (λ (a b : K). (𝟏 ⊕ D .last) ⊗ a ⊕ b)
           (by-login (2 ^ R .logHalf) (R .segs) (D .low) inst ws halfs (S .laid) ∙ sums (R .segs) (D .low) inst ws)
@@ -207,8 +207,8 @@ module _ (F : Field) where
           → a ≡ dot F (eqTable F (r ++ reverse (D .shared))) (table F Y (Y .A) (vectors F ws x)) → b
           ≡ dot F (eqTable F (r ++ reverse (D .shared))) (table F Y (Y .B) (vectors F ws x)) → c
           ≡ dot F (eqTable F (r ++ reverse (D .shared))) (table F Y (Y .C) (vectors F ws x))
-          → Zeros F (residues F Y (vectors F ws x)) ⊎ (TauCaught F (residues F Y (vectors F ws x)) taus
-          ⊎ Caught F (tableRounds F (outerCells F)) (begin F Y taus (vectors F ws x) (length (D .shared)) (length r)) ms
+          → Zeros F (residues F Y (vectors F ws x)) ⊎ (BadTau F (residues F Y (vectors F ws x)) taus
+          ⊎ BadChallenge F (tableRounds F (outerCells F)) (begin F Y taus (vectors F ws x) (length (D .shared)) (length r)) ms
           (D .shared ++ r))
       system Y taus r ms h k ch a b c e p q s = outer-sound F L (table F Y (Y .A) (vectors F ws x)) (table F Y (Y .B) (vectors F ws x))
           (table F Y (Y .C) (vectors F ws x)) taus (D .shared) r (table-size Y (Y .A) r h)
@@ -229,7 +229,7 @@ module _ (F : Field) where
             (sym vz-true)))
           where
             go : (dot F (D .alpha) (terminals F W) ≡ dot F (combo F R (D .rowBin) (D .rowFld) (D .alpha)) (folded F R x ws (D .shared)))
-                ⊎ Caught F (tableRounds F (innerCells F)) (record {
+                ⊎ BadChallenge F (tableRounds F (innerCells F)) (record {
                   tops = 0;
                   rows = length (inner F D);
                   cells = zipInner F
@@ -244,7 +244,7 @@ module _ (F : Field) where
         after-alpha = go after-inner
           where
             pick : (terminals F W ≡ trueTerminals F R x ws (D .shared) (D .rowBin) (D .rowFld))
-                ⊎ AlphaCaught F (terminals F W) (trueTerminals F R x ws (D .shared) (D .rowBin) (D .rowFld)) (D .alpha)
+                ⊎ BadAlpha F (terminals F W) (trueTerminals F R x ws (D .shared) (D .rowBin) (D .rowFld)) (D .alpha)
                 → (terminals F W ≡ trueTerminals F R x ws (D .shared) (D .rowBin) (D .rowFld)) ⊎ Bad R x ws D W
             pick (inl e) = inl e
             pick (inr m) = inr (alpha-bad m)
@@ -260,12 +260,12 @@ module _ (F : Field) where
         whole-sound = go after-alpha
           where
             both : (c : Bool) → binGood F R x ws ≡ c → Zeros F (residues F (R .bin) (vectors F ws x))
-                ⊎ (TauCaught F (residues F (R .bin) (vectors F ws x)) (D .tauBin)
-                ⊎ Caught F (tableRounds F (outerCells F)) (begin F (R .bin) (D .tauBin) (vectors F ws x) (length (D .shared))
+                ⊎ (BadTau F (residues F (R .bin) (vectors F ws x)) (D .tauBin)
+                ⊎ BadChallenge F (tableRounds F (outerCells F)) (begin F (R .bin) (D .tauBin) (vectors F ws x) (length (D .shared))
                 (length (D .rowBin))) (W .binMs) (D .shared ++ D .rowBin))
                 → Zeros F (residues F (R .fld) (vectors F ws x))
-                ⊎ (TauCaught F (residues F (R .fld) (vectors F ws x)) (D .tauFld)
-                ⊎ Caught F (tableRounds F (outerCells F)) (begin F (R .fld) (D .tauFld) (vectors F ws x) (length (D .shared))
+                ⊎ (BadTau F (residues F (R .fld) (vectors F ws x)) (D .tauFld)
+                ⊎ BadChallenge F (tableRounds F (outerCells F)) (begin F (R .fld) (D .tauFld) (vectors F ws x) (length (D .shared))
                 (length (D .rowFld))) (W .fldMs) (D .shared ++ D .rowFld))
                 → (Zeros F (residues F (R .bin) (vectors F ws x)) × Zeros F (residues F (R .fld) (vectors F ws x))) ⊎ Bad R x ws D W
             both true e a (inl b) = inl (zeros F L (residues F (R .bin) (vectors F ws x)) e, b)

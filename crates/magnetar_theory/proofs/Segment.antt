@@ -15,7 +15,7 @@ use Rattle.magnetar_theory.specs.EqTable.{eqTable, spread, dot, scale}
 use Rattle.magnetar_theory.proofs.EqTable.{dot-nil, length-scale, length-eqTable, dot-append, eqTable-snoc}
 use Rattle.magnetar_theory.proofs.Matrix.{blocks, eqTable-append, dot-scale-left}
 use Rattle.magnetar_theory.proofs.Outer.{dot-zeros}
-use Rattle.magnetar_theory.specs.Segment.{Segment, offset, after, Laid, slice}
+use Rattle.magnetar_theory.specs.Segment.{Segment, offset, after, Laid, segmentPart}
 
 fits : (v b n : ℕ) → b * 2 ^ v + 2 ^ v ≤ 2 ^ n → (v ≤ n) × (b < 2 ^ (n - v))
 fits zero b n h = (omega arith, rw sub-zero (omega arith))
@@ -34,7 +34,7 @@ module _ (F : Field) where
   abbrev pub bySegments : List Segment → List K → List K → K
   bySegments [] r w = 𝟎
   bySegments (g ∷ gs) r w = getD (eqTable F (drop (g .logLen) r)) (g .number) 𝟎 ⊗ dot F (eqTable F (take (g .logLen) r))
-      (slice F g w) ⊕ bySegments gs r w
+      (segmentPart F g w) ⊕ bySegments gs r w
 
   module _ (L : Laws F) where
     dot-split : (n : ℕ) (e t : List K) → dot F e t ≡ dot F (take n e) (take n t) ⊕ dot F (drop n e) (drop n t)
@@ -58,8 +58,8 @@ module _ (F : Field) where
 
     -- the entries of the eq table that a segment has
     segment-eq : (g : Segment) (r : List K) → g .logLen ≤ length r → g .number < 2 ^ (length r - g .logLen)
-        → slice F g (eqTable F r) ≡ scale F (getD (eqTable F (drop (g .logLen) r)) (g .number) 𝟎) (eqTable F (take (g .logLen) r))
-    segment-eq g r h k = ap (slice F g) (ap (eqTable F) (sym (take-append-drop v r)) ∙ eqTable-append F L (take v r) (drop v r))
+        → segmentPart F g (eqTable F r) ≡ scale F (getD (eqTable F (drop (g .logLen) r)) (g .number) 𝟎) (eqTable F (take (g .logLen) r))
+    segment-eq g r h k = ap (segmentPart F g) (ap (eqTable F) (sym (take-append-drop v r)) ∙ eqTable-append F L (take v r) (drop v r))
         ∙ ap (λ (n : ℕ). take n (drop (g .number * n) (blocks F L (eqTable F (drop v r)) (eqTable F (take v r))))) (sym size)
         ∙ block (eqTable F (drop v r)) (eqTable F (take v r)) (g .number) many
       where
@@ -73,10 +73,10 @@ module _ (F : Field) where
         many = rw (length-eqTable F L (drop v r), length-drop v r) k
 
     segment-dot : (g : Segment) (r w : List K) → g .logLen ≤ length r → g .number < 2 ^ (length r - g .logLen)
-        → dot F (slice F g (eqTable F r)) (slice F g w)
-        ≡ getD (eqTable F (drop (g .logLen) r)) (g .number) 𝟎 ⊗ dot F (eqTable F (take (g .logLen) r)) (slice F g w)
-    segment-dot g r w h k = ap (λ (e : List K). dot F e (slice F g w)) (segment-eq g r h k)
-        ∙ dot-scale-left F L (getD (eqTable F (drop (g .logLen) r)) (g .number) 𝟎) (eqTable F (take (g .logLen) r)) (slice F g w)
+        → dot F (segmentPart F g (eqTable F r)) (segmentPart F g w)
+        ≡ getD (eqTable F (drop (g .logLen) r)) (g .number) 𝟎 ⊗ dot F (eqTable F (take (g .logLen) r)) (segmentPart F g w)
+    segment-dot g r w h k = ap (λ (e : List K). dot F e (segmentPart F g w)) (segment-eq g r h k)
+        ∙ dot-scale-left F L (getD (eqTable F (drop (g .logLen) r)) (g .number) 𝟎) (eqTable F (take (g .logLen) r)) (segmentPart F g w)
 
     pub segments : (gs : List Segment) (c : ℕ) (r w : List K) → Laid F c (2 ^ length r) gs w → dot F (drop c (eqTable F r)) (drop c w)
         ≡ bySegments gs r w
@@ -97,9 +97,9 @@ module _ (F : Field) where
             ∙ ap₂ _⊕_ (dot-zeros F L (take (offset g - c) (drop c E)) (take (offset g - c) (drop c w)) z) (ap₂ (dot F) (to E) (to w))
 
         here : dot F (drop (offset g) E) (drop (offset g) w)
-            ≡ dot F (slice F g E) (slice F g w) ⊕ dot F (drop (after g) E) (drop (after g) w)
+            ≡ dot F (segmentPart F g E) (segmentPart F g w) ⊕ dot F (drop (after g) E) (drop (after g) w)
         here = dot-split (2 ^ g .logLen) (drop (offset g) E) (drop (offset g) w)
-            ∙ ap (λ (x : K). dot F (slice F g E) (slice F g w) ⊕ x)
+            ∙ ap (λ (x : K). dot F (segmentPart F g E) (segmentPart F g w) ⊕ x)
             (ap₂ (dot F) (drop-drop (2 ^ g .logLen) (offset g) E) (drop-drop (2 ^ g .logLen) (offset g) w))
 
         ok : (g .logLen ≤ length r) × (g .number < 2 ^ (length r - g .logLen))
@@ -110,7 +110,7 @@ module _ (F : Field) where
 
         step : dot F (drop c E) (drop c w) ≡ 𝟎 ⊕ dot F (drop (offset g) E) (drop (offset g) w)
             → dot F (drop (offset g) E) (drop (offset g) w)
-            ≡ dot F (slice F g E) (slice F g w) ⊕ dot F (drop (after g) E) (drop (after g) w)
+            ≡ dot F (segmentPart F g E) (segmentPart F g w) ⊕ dot F (drop (after g) E) (drop (after g) w)
             → dot F (drop (after g) E) (drop (after g) w) ≡ bySegments gs r w → dot F (drop c E) (drop c w) ≡ bySegments (g ∷ gs) r w
         step a b d = a ∙ clean (dot F (drop (offset g) E) (drop (offset g) w)) ∙ b ∙ ap₂ _⊕_ (segment-dot g r w (ok .0) (ok .1)) d
 

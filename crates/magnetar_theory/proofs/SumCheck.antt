@@ -9,7 +9,7 @@ use native.Mathlib.Omega.{arith}
 use lib.ListN.{length}
 use Rattle.magnetar_theory.specs.Field.{Field, Laws, eval, allZero}
 use Rattle.magnetar_theory.proofs.Ring.{ring}
-use Rattle.magnetar_theory.specs.SumCheck.{Rounds, total, checkSum, Checks, running, addPoly, rootsOfDiff, bindAll, Caught, honest}
+use Rattle.magnetar_theory.specs.SumCheck.{Rounds, total, checkSum, Checks, running, addPoly, rootsOfDiff, bindAll, BadChallenge, honest}
 
 module _ (F : Field) where
   open Field F using (K, 𝟎, 𝟏, _⊕_, _⊗_, same, roots)
@@ -88,13 +88,13 @@ module _ (F : Field) (L : Laws F) where
     open Rounds G using (St, value, bind, poly)
 
     pub sound : (ms : List (List K)) (rs : List K) (c : K) (S : St) → Checks F c ms rs → running F c ms rs ≡ value (bindAll F G rs S)
-        → (c ≡ value S) ⊎ Caught F G S ms rs
+        → (c ≡ value S) ⊎ BadChallenge F G S ms rs
     sound [] [] c S h e = inl e
     sound (m ∷ ms) (r ∷ rs) c S h e = go (sound ms rs (eval F m r) (bind r S) (h .1) e) (agree m (poly S))
       where
-        go : (eval F m r ≡ value (bind r S)) ⊎ Caught F G (bind r S) ms rs → ((x : K) → eval F m x ≡ eval F (poly S) x)
+        go : (eval F m r ≡ value (bind r S)) ⊎ BadChallenge F G (bind r S) ms rs → ((x : K) → eval F m x ≡ eval F (poly S) x)
             ⊎ ((r : K) → eval F m r ≡ eval F (poly S) r → List·Memᴰ r (rootsOfDiff F m (poly S))) → (c ≡ value S)
-            ⊎ Caught F G S (m ∷ ms) (r ∷ rs)
+            ⊎ BadChallenge F G S (m ∷ ms) (r ∷ rs)
         go (inr (i, k, l)) a = inr (suc i, omega arith, l)
         go (inl v) (inl a) = inl (sym (h .0) ∙ checkSum-is m ∙ rw (a 𝟎, a 𝟏) (GL .poly-sum S))
         go (inl v) (inr a) = inr (zero, omega arith, a r (v ∙ sym (GL .poly-value S r)))

@@ -13,7 +13,7 @@ use Rattle.magnetar_theory.proofs.Ring.{ring}
 use Rattle.magnetar_theory.proofs.SumCheck.{eq-of-sum-zero}
 use Rattle.magnetar_theory.specs.EqTable.{eqTable, dot, bindLow}
 use Rattle.magnetar_theory.proofs.EqTable.{dot-spread}
-use Rattle.magnetar_theory.specs.Tau.{Zeros, lineRoots, firstRoots, bindLows, tauList, TauCaught}
+use Rattle.magnetar_theory.specs.Tau.{Zeros, lineRoots, firstRoots, bindLows, tauList, BadTau}
 
 module _ (F : Field) where
   open Field F using (K, 𝟎, 𝟏, _⊕_, _⊗_, same, roots)
@@ -76,7 +76,7 @@ module _ (F : Field) where
     length-bindLow r (x ∷ y ∷ t) zero h = absurd (omega arith)
     length-bindLow r (x ∷ y ∷ t) (suc n) h = omega (arith, length-bindLow r t n (omega arith))
 
-    pub tau-sound : (taus t : List K) → length t ≤ 2 ^ length taus → dot F (eqTable F taus) t ≡ 𝟎 → Zeros F t ⊎ TauCaught F t taus
+    pub tau-sound : (taus t : List K) → length t ≤ 2 ^ length taus → dot F (eqTable F taus) t ≡ 𝟎 → Zeros F t ⊎ BadTau F t taus
     tau-sound [] [] h e = inl tt
     tau-sound [] (x ∷ []) h e = inl (one x ∙ e, tt)
       where
@@ -86,11 +86,11 @@ module _ (F : Field) where
     tau-sound (p ∷ taus) t h e = go (tau-sound taus (bindLow F p t)
         (length-bindLow p t (2 ^ length taus) (omega (arith, two-pow-succ (length taus)))) (sym (dot-spread F L p (eqTable F taus) t) ∙ e))
       where
-        go : Zeros F (bindLow F p t) ⊎ TauCaught F (bindLow F p t) taus → Zeros F t ⊎ TauCaught F t (p ∷ taus)
+        go : Zeros F (bindLow F p t) ⊎ BadTau F (bindLow F p t) taus → Zeros F t ⊎ BadTau F t (p ∷ taus)
         go (inr (j, k, m)) = inr (suc j, omega arith, m)
         go (inl z) = here (step t p z)
           where
-            here : Zeros F t ⊎ List·Memᴰ p (firstRoots F t) → Zeros F t ⊎ TauCaught F t (p ∷ taus)
+            here : Zeros F t ⊎ List·Memᴰ p (firstRoots F t) → Zeros F t ⊎ BadTau F t (p ∷ taus)
             here (inl z) = inl z
             here (inr m) = inr (zero, omega arith, m)
 

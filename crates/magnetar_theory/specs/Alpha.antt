@@ -32,5 +32,5 @@ module _ (F : Field) where
   alphaList vs ts earlier = lastRoots 𝟎 (diffs vs ts) earlier
 
   -- some alpha_k is in its list
-  abbrev pub AlphaCaught : List K → List K → List K → Type 0
-  AlphaCaught vs ts al = (k : ℕ) × (k < length al) × List·Memᴰ (getD al k 𝟎) (alphaList vs ts (take k al))
+  abbrev pub BadAlpha : List K → List K → List K → Type 0
+  BadAlpha vs ts al = (k : ℕ) × (k < length al) × List·Memᴰ (getD al k 𝟎) (alphaList vs ts (take k al))

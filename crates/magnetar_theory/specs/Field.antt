@@ -4,7 +4,6 @@
 use mathlib.Core.Path.{_≡_}
 use mathlib.Core.Bool.{Bool, true, false, _&&_}
 use mathlib.Core.List.{List, [], _∷_, List·Memᴰ}
-use mathlib.Core.Logic.{_⊎_}
 use Prim.Native.Nat.{_≤_}
 use lib.ListN.{length}
 
@@ -46,9 +45,8 @@ module _ (F : Field) where
     pub same-true : (x y : K) → same x y ≡ true → x ≡ y
     pub same-false : (x y : K) → same x y ≡ false → ¬ (x ≡ y)
 
-  -- a field as the theory needs it: no zero divisors, and the roots of a polynomial that is not zero listed, fewer than its coefficients
+  -- what the theory needs of a field besides: the roots of a polynomial that is not zero are listed, fewer than its coefficients
   pub record Laws : Type 0 where
     pub laws : Ring
-    pub no-zero-divisors : (x y : K) → x ⊗ y ≡ 𝟎 → (x ≡ 𝟎) ⊎ (y ≡ 𝟎)
     pub root-listed : (p : List K) (r : K) → allZero p ≡ false → eval p r ≡ 𝟎 → List·Memᴰ r (roots p)
     pub roots-few : (c : K) (p : List K) → allZero (c ∷ p) ≡ false → length (roots (c ∷ p)) ≤ length p

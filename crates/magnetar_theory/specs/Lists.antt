@@ -1,5 +1,6 @@
 -- The lists of bad draws, one definition for all draws of a run: the list of a draw is given by the relation, the batch, the
--- public columns, the proof's words and the draws before it. And the proof's words and the draws as flat lists.
+-- public columns, the proof's words and the draws before it. And the proof's words and the draws as flat lists. A word here is one element
+-- of the proof.
 -- Assumes nothing.
 use mathlib.Core.Bool.{Bool, cond}
 use mathlib.Core.List.{List, [], _∷_, _++_, List·Memᴰ}
@@ -23,10 +24,10 @@ module _ (F : Field) where
   section n inside after p = cond (ltb (length p) n) (inside p) (after (take n p) (drop n p))
 
   -- some draw is in its list
-  abbrev pub Hit : (List K → List K) → List K → Type 0
-  Hit lists d = (k : ℕ) × (k < length d) × List·Memᴰ (getD d k 𝟎) (lists (take k d))
+  abbrev pub DrawInList : (List K → List K) → List K → Type 0
+  DrawInList lists d = (k : ℕ) × (k < length d) × List·Memᴰ (getD d k 𝟎) (lists (take k d))
 
-  -- words i to i + n
+  -- n words from i on
   abbrev pub words : ℕ → ℕ → List K → List K
   words i n w = take n (drop i w)
 

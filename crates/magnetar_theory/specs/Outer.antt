@@ -27,6 +27,6 @@ module _ (F : Field) where
   rowValues (x ∷ a) (y ∷ b) [] = []
   rowValues (x ∷ a) (y ∷ b) (z ∷ c) = (x ⊗ y ⊕ z) ∷ rowValues a b c
 
-  -- s high variables, b low ones
+  -- the state at the start, with s high variables and n low ones
   abbrev pub start : (a b c taus : List K) → ℕ → ℕ → State F (outerCells F)
   start a b c taus s n = record { tops = s; rows = n; cells = zipOuter a b c (eqTable F taus) }

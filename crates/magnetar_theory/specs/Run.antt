@@ -1,5 +1,6 @@
 -- A whole run of virtual Spartan with its draws as plain elements: the relation, the draws, the proof's words, what the verifier
--- tests, the true value of each claim, and the honest prover's words. Nothing here mentions a hash or a transcript.
+-- tests, the true value of each claim, and the honest prover's words. A word here is one element of the proof. Nothing here mentions a hash
+-- or a transcript.
 -- Assumes nothing.
 use mathlib.Core.Path.{_≡_}
 use mathlib.Core.Bool.{Bool}
@@ -14,7 +15,7 @@ use Rattle.magnetar_theory.specs.EqTable.{eqTable, dot, eqProduct}
 use Rattle.magnetar_theory.specs.Matrix.{Entry, applyAll, columns, fold, AllLength}
 use Rattle.magnetar_theory.specs.Outer.{rowValues, start}
 use Rattle.magnetar_theory.specs.Inner.{zipInner}
-use Rattle.magnetar_theory.specs.Segment.{Segment, Laid, slice}
+use Rattle.magnetar_theory.specs.Segment.{Segment, Laid, segmentPart}
 
 module _ (F : Field) where
   open Field F using (K, 𝟎, 𝟏, _⊕_, _⊗_)
@@ -116,17 +117,18 @@ module _ (F : Field) where
   -- the value that a segment's claim is about
   abbrev pub trueValue : Draws → List (List K) → Segment → K
   trueValue D ws g = dot F (eqTable F (reverse (D .shared)))
-      (map (λ (w : List K). dot F (eqTable F (take (g .logLen) (D .low))) (slice F g w)) ws)
+      (map (λ (w : List K). dot F (eqTable F (take (g .logLen) (D .low))) (segmentPart F g w)) ws)
 
   -- every vector is zero outside the segments
   abbrev pub AllLaid : ℕ → List Segment → List (List K) → Type 0
   AllLaid n gs [] = Unit {0}
   AllLaid n gs (w ∷ ws) = Laid F 0 n gs w × AllLaid n gs ws
 
-  -- the sizes that the refusals 1 to 17 leave
+  -- the sizes that the refusals 1 to 16 leave, with as many rows of bits as logins, each of the first half's length; and that every row is
+  -- zero outside the segments (`laid`), which no refusal tests
   pub record Sizes (R : Relation) (x : List K) (ws : List (List K)) (D : Draws) : Type 0 where
     pub logins : length ws ≡ 2 ^ length (D .shared)
-    pub bits : AllLength F (2 ^ R .logHalf) ws
+    pub row-lengths : AllLength F (2 ^ R .logHalf) ws
     pub laid : AllLaid (2 ^ R .logHalf) (R .segs) ws
     pub public : length x ≡ 2 ^ R .logHalf
     pub rows-bin : length (D .rowBin) ≡ R .bin .logRows

@@ -30,5 +30,5 @@ module _ (F : Field) where
   Laid c n (g ∷ gs) w = (c ≤ offset g) × (after g ≤ n) × Zeros F (take (offset g - c) (drop c w)) × Laid (after g) n gs w
 
   -- the entries of a segment
-  abbrev pub slice : Segment → List K → List K
-  slice g w = take (2 ^ g .logLen) (drop (offset g) w)
+  abbrev pub segmentPart : Segment → List K → List K
+  segmentPart g w = take (2 ^ g .logLen) (drop (offset g) w)

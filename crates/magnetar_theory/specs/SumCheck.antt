@@ -66,8 +66,8 @@ module _ (F : Field) where
     badChallenges S earlier m = rootsOfDiff m (poly (bindAll earlier S))
 
     -- some challenge is in its round's list
-    abbrev pub Caught : St → List (List K) → List K → Type 0
-    Caught S ms rs = (i : ℕ) × (i < length rs) × List·Memᴰ (getD rs i 𝟎) (badChallenges S (take i rs) (getD ms i []))
+    abbrev pub BadChallenge : St → List (List K) → List K → Type 0
+    BadChallenge S ms rs = (i : ℕ) × (i < length rs) × List·Memᴰ (getD rs i 𝟎) (badChallenges S (take i rs) (getD ms i []))
 
     -- the honest prover's messages: each is the state's own polynomial
     abbrev pub honest : St → List K → List (List K)

@@ -38,5 +38,5 @@ module _ (F : Field) where
   tauList t earlier = firstRoots (bindLows earlier t)
 
   -- some tau_j is in its list
-  abbrev pub TauCaught : List K → List K → Type 0
-  TauCaught t taus = (j : ℕ) × (j < length taus) × List·Memᴰ (getD taus j 𝟎) (tauList t (take j taus))
+  abbrev pub BadTau : List K → List K → Type 0
+  BadTau t taus = (j : ℕ) × (j < length taus) × List·Memᴰ (getD taus j 𝟎) (tauList t (take j taus))

@@ -6,7 +6,7 @@ use lib.ListN.{length, take}
 use Rattle.magnetar_theory.specs.Tau.{Zeros}
 use Rattle.magnetar_theory.specs.Run.{Relation, residues, vectors}
 use Rattle.magnetar_theory.specs.Lists.{lists}
-use Rattle.magnetar_theory.specs.Heard.{heard}
+use Rattle.magnetar_theory.specs.Absorbed.{absorbedCount}
 use Rattle.magnetar_theory.specs.Gf128.{gf128}
 
 -- the elements
@@ -20,4 +20,4 @@ module _ (R : Relation gf128) (x : List E) (ws : List (List E)) where
 
   -- the list of a draw, from the words absorbed before it and the draws before it
   abbrev pub listOf : ℕ → List E → List E → List E
-  listOf s w earlier = lists gf128 s R x ws (take (heard s (R .bin .logRows) (R .fld .logRows) (length earlier)) w) earlier
+  listOf s w earlier = lists gf128 s R x ws (take (absorbedCount s (R .bin .logRows) (R .fld .logRows) (length earlier)) w) earlier

@@ -17,9 +17,9 @@ use Rattle.magnetar_theory.specs.Alpha.{alphaList}
 use Rattle.magnetar_theory.specs.Inner.{zipInner}
 use Rattle.magnetar_theory.specs.Run.{Relation, binGood, trueTerminals, combo, folded}
 use Rattle.magnetar_theory.specs.Lists.{section, words, sixAt, lists, listsOf, outer}
-use Rattle.magnetar_theory.specs.Heard.{heardAfter, heard}
+use Rattle.magnetar_theory.specs.Absorbed.{absorbedAfter, absorbedCount}
 
-at-shared : (s g k i : ℕ) → i < s → k ≡ suc i → 8 * i + 8 ≤ heardAfter s g k
+at-shared : (s g k i : ℕ) → i < s → k ≡ suc i → 8 * i + 8 ≤ absorbedAfter s g k
 at-shared s g k i h e = some (4 * min g (k - s)) (6 * min 1 (k - s - g)) (3 * (k - s - g - 6)) part
   where
     part : 8 * i + 8 ≤ 8 * min s k
@@ -28,7 +28,7 @@ at-shared s g k i h e = some (4 * min g (k - s)) (6 * min 1 (k - s - g)) (3 * (k
     some : (b c d : ℕ) → 8 * i + 8 ≤ 8 * min s k → 8 * i + 8 ≤ 8 * min s k + b + c + d
     some b c d h = omega arith
 
-at-row : (s g k i : ℕ) → i < g → k ≡ s + suc i → 8 * s + 4 * i + 4 ≤ heardAfter s g k
+at-row : (s g k i : ℕ) → i < g → k ≡ s + suc i → 8 * s + 4 * i + 4 ≤ absorbedAfter s g k
 at-row s g k i h e = some (6 * min 1 (k - s - g)) (3 * (k - s - g - 6)) part
   where
     part : 8 * s + 4 * i + 4 ≤ 8 * min s k + 4 * min g (k - s)
@@ -37,7 +37,7 @@ at-row s g k i h e = some (6 * min 1 (k - s - g)) (3 * (k - s - g - 6)) part
     some : (c d : ℕ) → 8 * s + 4 * i + 4 ≤ 8 * min s k + 4 * min g (k - s) → 8 * s + 4 * i + 4 ≤ 8 * min s k + 4 * min g (k - s) + c + d
     some c d h = omega arith
 
-at-alpha : (s g k : ℕ) → s + g < k → 8 * s + 4 * g + 6 ≤ heardAfter s g k
+at-alpha : (s g k : ℕ) → s + g < k → 8 * s + 4 * g + 6 ≤ absorbedAfter s g k
 at-alpha s g k h = omega (arith, first, second, third)
   where
     first : min s k ≡ s
@@ -49,7 +49,7 @@ at-alpha s g k h = omega (arith, first, second, third)
     third : min 1 (k - s - g) ≡ 1
     third = omega arith
 
-at-inner : (s g k i : ℕ) → k ≡ s + g + 6 + suc i → 8 * s + 4 * g + 6 + 3 * i + 3 ≤ heardAfter s g k
+at-inner : (s g k i : ℕ) → k ≡ s + g + 6 + suc i → 8 * s + 4 * g + 6 + 3 * i + 3 ≤ absorbedAfter s g k
 at-inner s g k i h = omega (arith, first, second, third, fourth)
   where
     first : min s k ≡ s
@@ -104,8 +104,8 @@ module _ (F : Field) where
       go true e = h (ltb-true (length p) n e)
       go false e = k (ltb-false (length p) n e)
 
-  words-heard : (i n B m : ℕ) (w : List K) → i + n ≤ B → B ≤ m → words F i n (take m w) ≡ words F i n w
-  words-heard i n B m w h k = words-take i n m w (omega arith)
+  words-absorbed : (i n B m : ℕ) (w : List K) → i + n ≤ B → B ≤ m → words F i n (take m w) ≡ words F i n w
+  words-absorbed i n B m w h k = words-take i n m w (omega arith)
 
   left : (n : ℕ) (p : List K) → n ≤ length p → length p ≡ n + length (drop n p)
   left n p h = omega (arith, length-drop n p)
@@ -142,25 +142,25 @@ module _ (F : Field) where
           count a b n n₁ n₂ h k = omega arith
 
     -- the list of a draw uses no word that was not absorbed before it
-    pub heard-lists : (p : List K) → lists F s R x ws (take (heard s (R .bin .logRows) (R .fld .logRows) (length p)) w) p
+    pub absorbed-lists : (p : List K) → lists F s R x ws (take (absorbedCount s (R .bin .logRows) (R .fld .logRows) (length p)) w) p
         ≡ lists F s R x ws w p
     unfolding listsOf outer
-    heard-lists p = section-same _ _ _ _ _ p (λ _. refl)
+    absorbed-lists p = section-same _ _ _ _ _ p (λ _. refl)
         λ h₁. section-same _ _ _ _ _ (p₁ p) (λ _. refl)
         λ h₂. section-same _ _ _ _ _ (p₂ p) (λ q. ap₂
         (λ (m₁ m₂ : List K). cond (binGood F R x ws) (outer F s R x ws w (R .fld) (take (R .fld .logRows + s) (p₁ p)) (R .fld .logRows)
         (p₂ p) m₁) (outer F s R x ws w (R .bin) (take (R .bin .logRows + s) p) (R .bin .logRows) (p₂ p) m₂))
-        (words-heard (8 * length (p₂ p) + 4) 4 (8 * length (p₂ p) + 8) H w (omega arith)
+        (words-absorbed (8 * length (p₂ p) + 4) 4 (8 * length (p₂ p) + 8) H w (omega arith)
         (at-shared s g (after p) (length (p₂ p)) q (after-tau p h₁ h₂)))
-        (words-heard (8 * length (p₂ p)) 4 (8 * length (p₂ p) + 8) H w (omega arith)
+        (words-absorbed (8 * length (p₂ p)) 4 (8 * length (p₂ p) + 8) H w (omega arith)
         (at-shared s g (after p) (length (p₂ p)) q (after-tau p h₁ h₂))))
         λ h₃. section-same _ _ _ _ _ (p₃ p) (λ q. ap (λ (m : List K). cond (binGood F R x ws) []
         (outer F s R x ws w (R .bin) (take (R .bin .logRows + s) p) (R .bin .logRows) (take s (p₂ p) ++ p₃ p) m))
-        (words-heard (8 * s + 4 * length (p₃ p)) 4 (8 * s + 4 * length (p₃ p) + 4) H w (omega arith)
+        (words-absorbed (8 * s + 4 * length (p₃ p)) 4 (8 * s + 4 * length (p₃ p) + 4) H w (omega arith)
         (at-row s g (after p) (length (p₃ p)) (omega arith) (after-tau p h₁ h₂ ∙ omega (arith, left s (p₂ p) h₃)))))
         λ h₄. section-same _ _ _ _ _ (p₄ p) (λ q. ap (λ (m : List K). cond (binGood F R x ws)
         (outer F s R x ws w (R .fld) (take (R .fld .logRows + s) (p₁ p)) (R .fld .logRows) (take s (p₂ p) ++ p₄ p) m) [])
-        (words-heard (8 * s + 4 * R .bin .logRows + 4 * length (p₄ p)) 4 (8 * s + 4 * (R .bin .logRows + length (p₄ p)) + 4) H w
+        (words-absorbed (8 * s + 4 * R .bin .logRows + 4 * length (p₄ p)) 4 (8 * s + 4 * (R .bin .logRows + length (p₄ p)) + 4) H w
         (omega arith) (at-row s g (after p) (R .bin .logRows + length (p₄ p)) (omega arith)
         (after-tau p h₁ h₂ ∙ omega (arith, left s (p₂ p) h₃, left (R .bin .logRows) (p₃ p) h₄)))))
         λ h₅. section-same _ _ _ _ _ (p₅ p) (λ q. ap (λ (t : List K). alphaList F t
@@ -176,7 +176,7 @@ module _ (F : Field) where
               (combo F R (take (R .bin .logRows) (p₃ p)) (take (R .fld .logRows) (p₄ p)) (take 6 (p₅ p)))
               (folded F R x ws (take s (p₂ p)));
         }) (p₆ p))
-        (words-heard (8 * s + 4 * R .bin .logRows + 4 * R .fld .logRows + 6 + 3 * length (p₆ p)) 3
+        (words-absorbed (8 * s + 4 * R .bin .logRows + 4 * R .fld .logRows + 6 + 3 * length (p₆ p)) 3
         (8 * s + 4 * (R .bin .logRows + R .fld .logRows) + 6 + 3 * length (p₆ p) + 3) H w (omega arith)
         (at-inner s g (after p) (length (p₆ p)) (last (after p) (length (p₂ p)) (length (p₃ p)) (length (p₄ p)) (length (p₅ p))
         (length (p₆ p)) (after-tau p h₁ h₂) (left s (p₂ p) h₃) (left (R .bin .logRows) (p₃ p) h₄) (left (R .fld .logRows) (p₄ p) h₅)
@@ -186,7 +186,7 @@ module _ (F : Field) where
         g = R .bin .logRows + R .fld .logRows
 
         H : ℕ
-        H = heard s (R .bin .logRows) (R .fld .logRows) (length p)
+        H = absorbedCount s (R .bin .logRows) (R .fld .logRows) (length p)
 
         at-most : 8 * s + 4 * (R .bin .logRows + R .fld .logRows) + 6 ≤ H → 8 * s + 4 * R .bin .logRows + 4 * R .fld .logRows + 6 ≤ H
         at-most h = same H h
