@@ -1,17 +1,15 @@
 -- What the two ends leave of a good batch: the theorem on a good batch, of the outcomes of both functions.
 -- Assumes nothing.
-use mathlib.Core.Path.{_≡_, refl, sym, ap, ap₂, _∙_, subst}
+use mathlib.Core.Path.{_≡_, refl, sym, ap, _∙_, subst}
 use mathlib.Core.Bool.{Bool, true, false}
-use mathlib.Core.List.{List, [], _++_}
-use Prim.Native.Nat.{ℕ, suc, _+_, _-_, _*_, _/_, _%_, _^_, _<_, _≤_}
-use native.Mathlib.Nat.{mod-lt}
+use mathlib.Core.List.{List, []}
+use Prim.Native.Nat.{ℕ, suc, _*_, _/_, _<_, _≤_}
 use native.Mathlib.Omega.{arith}
-use lib.Dec.{eqb, ltb}
+use lib.Dec.{ltb}
 use lib.ListN.{length, getD, take, drop}
-use lib.Seq.{take-at}
 use borrow.Author.Tests.{ltb-true, ltb-false}
 use Rattle.magnetar_field.specs.Words.{elements, words}
-use Rattle.magnetar_field.proofs.Elements.{elements-length, elements-below, words-length}
+use Rattle.magnetar_field.proofs.Elements.{elements-length, elements-below}
 use Rattle.magnetar_field.proofs.Tabulation.{tabulate-length, tabulate-get, tabulate-out}
 use Rattle.magnetar_hash.specs.declared.transcript.Transcript.{Transcript}
 use Rattle.magnetar_r1cs.specs.Batch.{Relation, Batch, Good, bitOf}
@@ -20,7 +18,6 @@ use Rattle.magnetar_r1cs.specs.Lent.{matrixOf}
 use Rattle.magnetar_r1cs.proofs.TableLaws.{elements-words}
 use Rattle.magnetar_r1cs.proofs.LoginParts.{bit-unpacked}
 use Rattle.magnetar_batch.specs.Systems.{systemOf}
-use Rattle.magnetar_protocol.specs.Shape.{proofElements}
 use Rattle.magnetar_protocol.specs.Run.{claims, verdict, ClaimsTrue}
 use Rattle.magnetar_protocol.specs.RunSizes.{SizedRelation, SizedBatch}
 use Rattle.magnetar_protocol.specs.Soundness.{NoBitOutside}
@@ -31,7 +28,7 @@ use Rattle.magnetar_protocol.proofs.ProverRun.{proving-words}
 use Rattle.magnetar_protocol.proofs.RealRuns.{completeness-run}
 use Rattle.magnetar_spartan.specs.Rules.{Rules, relationOf}
 use Rattle.magnetar_spartan.specs.Refusals.{claimWords, proofWords}
-use Rattle.magnetar_spartan.specs.Outcome.{batchOf, verifyRefusal, verifyVerdict, verifyClaims, verifyOutcome, proveRefusal, proveDraws, proveOutcome}
+use Rattle.magnetar_spartan.specs.Outcome.{batchOf, verifyRefusal, verifyVerdict, verifyOutcome, proveRefusal, proveDraws, proveOutcome}
 use Rattle.magnetar_spartan.specs.Theorems.{AreWords, writtenProof, CompleteCall}
 use Rattle.magnetar_spartan.proofs.SizedRules.{sized-relation}
 use Rattle.magnetar_spartan.proofs.Ended.{Verifiable, verifiable}
