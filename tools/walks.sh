@@ -91,7 +91,6 @@ crate magnetar_records
 each EachNNM NNM
 thin combo::add_matrix
 thin combo::combine
-thin combo::all_six
 thin combo::fill --final '(cc, cc)'
 thin combo::fill_unless --final '(refl, rw (← e1, b1) (e2 .0), rw (← e1, b1) (e2 .1))' --final '(refl, rw (← e1, b1) refl, rw (← e1, b1) refl)'
 thin combo::refused --use "$ends.ComboEnds.{combo-refused}" --final "combo-refused $(six 2) n1 (s20 .now) (s21 .now) (s22 .now) n23 n24 r1 r2 e1 e2"
