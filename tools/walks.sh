@@ -33,6 +33,7 @@ for g in absorb_bytes absorb_u64 absorb_digest; do thin transcript::$g; done
 thin transcript::absorb_field --final '(cc, cc)'
 thin transcript::challenge_field --final '(cc, cc)'
 thin transcript::challenge_field_vec --final '(cc, cc, cc)'
+thin records::all_six
 thin records::is_binary --use "$ends.{binary-ends}" --use 'Rattle.magnetar_r1cs.specs.Entries.{flagged}' \
   --final 'binary-ends n1 n2 (s3 .now) r1 r3 r2 (flagged r4) e1 e2 e3 e4'
 thin records::apply --use "$ends.{apply-done, apply-back}" \
@@ -59,20 +60,19 @@ thin records::apply_simd_bit_masks --use "$masks.{masks-done, masks-back}" \
 crate magnetar_row_records
 entries='Rattle.magnetar_inplace.specs.Records.{entriesOfRecords}'
 words='Rattle.magnetar_field.specs.Words.{elements}'
-steps=Rattle.$c.specs.Steps
+z='Rattle.magnetar_inplace.specs.LoginSteps.{loginZ}'
 each EachMNNNNSS MNNNNSS
 count CountANIMQNNSSEEE ANIMQNNSSEEE magnetar_row_records::steps::Seen
-thin check::product --use "$ends.WalkLaws.{product-ends}" --use "$entries" --use "$words" --use "$steps.{zAt}" \
-  --final 'product-ends n3 n4 (zAt n6 (s7 .now) (elements (s8 .now)) n5) (entriesOfRecords (s1 .now)) ys2 (ws1 .0) (ws2 .1 .0) e1 e2'
-thin check::check_login --use "$ends.WalkLaws.{login-ends}" --use "$entries" --use "$words" --use "$steps.{zAt}" \
-  --final 'login-ends n1 n2 n3 n5 r1 (zAt n6 (s7 .now) (elements (s8 .now)) n3) (entriesOfRecords (s9 .now)) (entriesOfRecords (s10 .now)) (entriesOfRecords (s11 .now)) ys4 (ws2 .1 .0) (ws3 .1 .0) (ws4 .1 .0) (ws5 .1 .1 .1 .0) r5 e1 e2 e3 e4 e5'
-thin check::login_unless --use "$ends.WalkLaws.{unless-some, unless-none}" --use "$entries" --use "$words" --use "$steps.{zAt}" \
-  --final 'unless-some n2 n5 (zAt n6 (s7 .now) (elements (s8 .now)) n3) (entriesOfRecords (s9 .now)) (entriesOfRecords (s10 .now)) (entriesOfRecords (s11 .now)) n3 n1 r2 ys4 (ws2 .1 .1 .1 .0) (sym e1 ∙ b1) e2' \
-  --final 'unless-none n2 n5 (zAt n6 (s7 .now) (elements (s8 .now)) n3) (entriesOfRecords (s9 .now)) (entriesOfRecords (s10 .now)) (entriesOfRecords (s11 .now)) n3 n1 ys4 (sym e1 ∙ b1)'
+thin check::product --use "$ends.WalkLaws.{product-ends}" --use "$entries" --use "$words" --use "$z" \
+  --final 'product-ends n3 n4 (loginZ n6 (s7 .now) (elements (s8 .now)) n5) (entriesOfRecords (s1 .now)) ys2 (ws1 .0) (ws2 .1 .0) e1 e2'
+thin check::check_login --use "$ends.WalkLaws.{login-ends}" --use "$entries" --use "$words" --use "$z" \
+  --final 'login-ends n1 n2 n3 n5 r1 (loginZ n6 (s7 .now) (elements (s8 .now)) n3) (entriesOfRecords (s9 .now)) (entriesOfRecords (s10 .now)) (entriesOfRecords (s11 .now)) ys4 (ws2 .1 .0) (ws3 .1 .0) (ws4 .1 .0) (ws5 .1 .1 .1 .0) r5 e1 e2 e3 e4 e5'
+thin check::login_unless --use "$ends.WalkLaws.{unless-some, unless-none}" --use "$entries" --use "$words" --use "$z" \
+  --final 'unless-some n2 n5 (loginZ n6 (s7 .now) (elements (s8 .now)) n3) (entriesOfRecords (s9 .now)) (entriesOfRecords (s10 .now)) (entriesOfRecords (s11 .now)) n3 n1 r2 ys4 (ws2 .1 .1 .1 .0) (sym e1 ∙ b1) e2' \
+  --final 'unless-none n2 n5 (loginZ n6 (s7 .now) (elements (s8 .now)) n3) (entriesOfRecords (s9 .now)) (entriesOfRecords (s10 .now)) (entriesOfRecords (s11 .now)) n3 n1 ys4 (sym e1 ∙ b1)'
 thin check::judge --use "$ends.WalkLaws.{judge-ends}" --use "$entries" --use "$words" \
   --final 'judge-ends n2 n3 n4 n5 (s6 .now) (elements (s7 .now)) (entriesOfRecords (s8 .now)) (entriesOfRecords (s9 .now)) (entriesOfRecords (s10 .now)) (entriesOfRecords (s11 .now)) (entriesOfRecords (s12 .now)) (entriesOfRecords (s13 .now)) ys1 (ws2 .1 .1 .0) (ws3 .1 .1 .0) (ws4 .0) r1 r2 r3 e1 e2 e3 e4'
 thin check::judge_unless --final '(rw (← e1, b1) (e3 .0), rw (← e1, b1) (e3 .1))' --final '(rw (← e1, b1) e2, rw (← e1, b1) refl)'
-thin check::all_six
 thin check::refused --use "$ends.NumberLaws.{refused-is}" --final "refused-is $(six 3) n1 n2 (s21 .now) (s22 .now) n23 r1 r2 e1 e2"
 thin check::row_check --use "$ends.CheckEnds.{check-ends}" --use 'Rattle.magnetar_batch.specs.Check.{outcome}' \
   --final "check-ends $(six 4) n2 n3 (s22 .now) (s23 .now) ys1 r1 r2 r3 (ws3 .1 .0) (outcome r4) e1 e2 e3 e4"
@@ -91,7 +91,6 @@ crate magnetar_records
 each EachNNM NNM
 thin combo::add_matrix
 thin combo::combine
-thin combo::all_six
 thin combo::fill --final '(cc, cc)'
 thin combo::fill_unless --final '(refl, rw (← e1, b1) (e2 .0), rw (← e1, b1) (e2 .1))' --final '(refl, rw (← e1, b1) refl, rw (← e1, b1) refl)'
 thin combo::refused --use "$ends.ComboEnds.{combo-refused}" --final "combo-refused $(six 2) n1 (s20 .now) (s21 .now) (s22 .now) n23 n24 r1 r2 e1 e2"

@@ -49,7 +49,7 @@ sums m s t al p r =
     (column (getD al 2 0) p (s .c .row) (s .c .col) (s .c .lo) (s .c .hi)) (column (getD al 3 0) r (t .a .row) (t .a .col) (t .a .lo) (t .a .hi))
     (column (getD al 4 0) r (t .b .row) (t .b .col) (t .b .lo) (t .b .hi)) (column (getD al 5 0) r (t .c .row) (t .c .col) (t .c .lo) (t .c .hi))
 
-zeros-on : (a b : ℕ) (l : List ℕ) → replicate {A = ℕ} a 0 ++ (replicate b 0 ++ l) ≡ replicate (a + b) 0 ++ l
+pub zeros-on : (a b : ℕ) (l : List ℕ) → replicate {A = ℕ} a 0 ++ (replicate b 0 ++ l) ≡ replicate (a + b) 0 ++ l
 zeros-on zero b l = rw (zero-add b)
 zeros-on (suc a) b l = rw (suc-add a b) (ap (λ (k : List ℕ). 0 ∷ k) (zeros-on a b l))
 

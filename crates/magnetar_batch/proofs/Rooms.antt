@@ -68,7 +68,7 @@ module _ (n : ℕ) (s : List ℕ) (fits : 2 * n ≤ length s) where
       elements-drop n (take (2 * n) s ++ (words vs ++ b))
       ∙ ap elements (drop-at (take (2 * n) s) (words vs ++ b) (2 * n) (length-take-le (2 * n) s fits)) ∙ elements-behind vs b
 
-take-zeros : (n m : ℕ) → n ≤ m → take {A = ℕ} n (replicate m 0) ≡ replicate n 0
+pub take-zeros : (n m : ℕ) → n ≤ m → take {A = ℕ} n (replicate m 0) ≡ replicate n 0
 take-zeros zero m h = refl
 take-zeros (suc n) zero h = absurd (omega arith)
 take-zeros (suc n) (suc m) h = ap (λ (l : List ℕ). 0 ∷ l) (take-zeros n m (le-of-suc-le-suc h))

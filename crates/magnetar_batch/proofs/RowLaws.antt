@@ -8,12 +8,13 @@ use native.Mathlib.Nat.{zero-lt-suc, div-lt-iff-lt-mul, mul-comm}
 use native.Mathlib.Omega.{arith}
 use lib.Dec.{eqb, ltb}
 use borrow.Author.Tests.{eqb-true, eqb-false, eq-eqb, ne-eqb, ltb-true, ltb-false, lt-ltb, le-ltb}
-use lib.ListN.{length, getD, take, drop, replicate, List·getD-append, length-append, length-drop}
+use lib.ListN.{length, getD, take, drop, replicate, List·getD-append, List·getD-eq-default, length-append, length-drop}
 use lib.Seq.{getD-append-add, length-take-le}
 use Rattle.magnetar_field.specs.Gf128.{_⊗_}
 use Rattle.magnetar_field.specs.Tabulate.{tabulate}
 use Rattle.magnetar_field.specs.Words.{elements, words}
-use Rattle.magnetar_field.proofs.Elements.{words-append}
+use Rattle.magnetar_field.proofs.Product.{⊗-one, ⊗-zero}
+use Rattle.magnetar_field.proofs.Elements.{elements-length, words-append}
 use Rattle.magnetar_field.proofs.Tabulation.{tabulate-length, tabulate-get}
 use Rattle.magnetar_r1cs.specs.Matrix.{Entry, rowTotal, share, timesAt}
 use Rattle.magnetar_r1cs.specs.Lent.{Lent, entriesOf, matrixOf}
@@ -85,6 +86,20 @@ first-is f n i h b e = go (ltb (firstNot f n) i) refl (ltb i (firstNot f n)) ref
 
 pub first-end : (f : ℕ → Bool) (n i : ℕ) → i ≡ n → Below f i → n ≡ firstNot f n
 first-end f n i e b = sym (first-none f n (rw e at b))
+
+-- rows past the end of the table hold
+pub rows-past : (s : List ℕ) (n : ℕ) → length s < n → n ≡ firstNot (holdsAt (elements s) n) n
+unfolding holdsAt
+rows-past s n h = first-end (holdsAt (elements s) n) n n refl below
+  where
+    out : (j : ℕ) → getD (elements s) (n + j) 0 ≡ 0
+    out j = List·getD-eq-default (elements s) 0 (rw (elements-length s) (omega (arith, h)))
+
+    out-later : (j : ℕ) → getD (elements s) (2 * n + j) 0 ≡ 0
+    out-later j = List·getD-eq-default (elements s) 0 (rw (elements-length s) (omega (arith, h)))
+
+    below : Below (holdsAt (elements s) n) n
+    below j k = rw (out j, out-later j, ⊗-zero (getD (elements s) j 0))
 
 -- ---- three products one behind the other
 module _ (a b c : ℕ → ℕ) (n : ℕ) where

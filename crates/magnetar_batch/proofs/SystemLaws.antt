@@ -3,13 +3,13 @@
 use mathlib.Core.Path.{_≡_, refl, sym, ap, _∙_}
 use mathlib.Core.Bool.{true}
 use mathlib.Core.List.{List, [], _∷_, _++_}
-use Prim.Native.Nat.{ℕ, _+_}
+use Prim.Native.Nat.{ℕ, zero, suc, _+_, _*_, _/_, _%_, _^_, _≤_, _<_, max}
 use native.Mathlib.Omega.{arith}
 use borrow.Author.Tests.{eqb-true, not-false}
 use lib.ListN.{length}
 use Rattle.magnetar_r1cs.specs.Lent.{Lent}
 use Rattle.magnetar_layout.specs.Tests.{Tests, noted, allBelow, columnTests, counted, placed}
-use Rattle.magnetar_layout.proofs.Noted.{noted-append, noted-clear, Clear}
+use Rattle.magnetar_layout.proofs.Noted.{noted-append, noted-kept, noted-rest, noted-clear, numbered, Clear}
 use Rattle.magnetar_layout.proofs.SizeLaws.{Sized, not-bad}
 use Rattle.magnetar_r1cs.proofs.Lone.{flipped}
 use Rattle.magnetar_batch.specs.Systems.{Lent3, rows3, cols3, counted3, placed3, systemsTests}
@@ -18,6 +18,19 @@ use Rattle.magnetar_batch.proofs.ColumnLaws.{Wide}
 
 pub linked : (l k : Tests) (z y r : ℕ) → y ≡ noted z l → r ≡ noted y k → r ≡ noted z (l ++ k)
 linked l k z y r e f = f ∙ (ap (λ (n : ℕ). noted n k) e ∙ sym (noted-append z l k))
+
+-- where all of the tests are passed, so are the first and the last of them
+pub front-none : (l k : Tests) → noted 0 (l ++ k) ≡ 0 → noted 0 l ≡ 0
+front-none l k e = go (noted 0 l) refl
+  where
+    go : (z : ℕ) → noted 0 l ≡ z → noted 0 l ≡ 0
+    go zero h = h
+    go (suc z) h =
+        let b : suc z ≡ 0 = sym (noted-kept (suc z) k (λ i. omega arith)) ∙ (ap (λ (y : ℕ). noted y k) (sym h) ∙ (sym (noted-append 0 l k) ∙ e)) in
+        absurd (omega (arith, b))
+
+pub rest-none : (l k : Tests) → noted 0 (l ++ k) ≡ 0 → noted 0 k ≡ 0
+rest-none l k e = sym (noted-rest l k (noted 0 l) refl (front-none l k e)) ∙ e
 
 clear-front : (l k : Tests) → Clear (l ++ k) → Clear l
 clear-front [] k c = tt

@@ -1,4 +1,4 @@
--- What the row check computes for a login. Only the contracts of private functions speak of this.
+-- What the row check computes for a login. Only private contracts, and that of `first_failing`, cite these definitions.
 -- Assumes nothing.
 use mathlib.Core.Bool.{Bool}
 use mathlib.Core.List.{List, _∷_, _++_}

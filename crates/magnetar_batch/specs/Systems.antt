@@ -38,6 +38,11 @@ rowTests3 a b c = rowTests a ++ (rowTests b ++ (rowTests c ++ ((4, not (eqb b a)
 abbrev pub colTests3 : ℕ → ℕ → ℕ → ℕ → Tests
 colTests3 m a b c = colsTests m a ++ (colsTests m b ++ colsTests m c)
 
+-- 1, 4 and 5 of both systems over m columns: the six row counts, the six column counts
+abbrev pub shapeTests6 : (m a b c d e f a′ b′ c′ d′ e′ f′ : ℕ) → Tests
+shapeTests6 m a b c d e f a′ b′ c′ d′ e′ f′ =
+    columnTests m ++ (rowTests3 a b c ++ (rowTests3 d e f ++ (colTests3 m a′ b′ c′ ++ colTests3 m d′ e′ f′)))
+
 abbrev pub rows3 : Lent3 → Tests
 rows3 s = rowTests3 (s .a .rows) (s .b .rows) (s .c .rows)
 

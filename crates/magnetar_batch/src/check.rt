@@ -171,11 +171,13 @@ fn products3(
     );
 }
 
-// The first row that does not hold of n rows, or n.
-fn first_failing(s: &[u64], n: usize) -> usize
-    requires { ⌜ n ≤ 65536 ⌝ }
+// The first row that does not hold of n rows, or n; past the end of s stands 0.
+pub fn first_failing(s: &[u64], n: usize) -> usize
     ensures { λ r. ⌜ r ≡ firstNot (holdsAt (elements (now (s .entry))) n) n ⌝ }
 {
+    if n > s.len() {
+        return n;
+    }
     let mut row = 0;
     while row < n {
         let p = gf128::mul(words::get(s, row), words::get(s, n + row));
@@ -409,7 +411,7 @@ fn judge(
 }
 
 // 1 to 3, and 4 for q logins of n and k rows.
-fn batch_sizes(m: usize, q: usize, n: usize, k: usize, packed: &[u64], x: &[u64]) -> u32
+pub fn batch_sizes(m: usize, q: usize, n: usize, k: usize, packed: &[u64], x: &[u64]) -> u32
     ensures { λ r. ⌜ r ≡ noted 0 (batchSizes m q n k (now (packed .entry)) (now (x .entry))) ⌝ }
 {
     let z = tests::note(0, 1, !tests::is_size(2, 65536, m));

@@ -3,7 +3,7 @@ use magnetar_layout::tests;
 ghost use mathlib.Core.Path.{_≡_};
 ghost use mathlib.Core.List.{_++_};
 ghost use Rattle.magnetar_layout.specs.Tests.{noted, countTests, placeTests};
-ghost use Rattle.magnetar_batch.specs.Systems.{rowTests3, colTests3};
+ghost use Rattle.magnetar_batch.specs.Systems.{rowTests3, colTests3, shapeTests6};
 
 // 4: the rows, alone and against each other.
 pub fn rows3(z: u32, a: usize, b: usize, c: usize) -> u32
@@ -23,6 +23,31 @@ pub fn cols3(z: u32, m: usize, a: usize, b: usize, c: usize) -> u32
     let z = tests::note(z, 5, a != m);
     let z = tests::note(z, 5, b != m);
     tests::note(z, 5, c != m)
+}
+
+// 1, 4 and 5 of both systems over m columns.
+pub fn shapes6(
+    m: usize,
+    abrows: usize,
+    abcols: usize,
+    bbrows: usize,
+    bbcols: usize,
+    cbrows: usize,
+    cbcols: usize,
+    afrows: usize,
+    afcols: usize,
+    bfrows: usize,
+    bfcols: usize,
+    cfrows: usize,
+    cfcols: usize,
+) -> u32
+    ensures { λ r. ⌜ r ≡ noted 0 (shapeTests6 m abrows bbrows cbrows afrows bfrows cfrows abcols bbcols cbcols afcols bfcols cfcols) ⌝ }
+{
+    let z = tests::note(0, 1, !tests::is_size(2, 65536, m));
+    let z = rows3(z, abrows, bbrows, cbrows);
+    let z = rows3(z, afrows, bfrows, cfrows);
+    let z = cols3(z, m, abcols, bbcols, cbcols);
+    cols3(z, m, afcols, bfcols, cfcols)
 }
 
 // 6: how many entries there are.

@@ -4,6 +4,7 @@ pub mod StepLaws
 pub mod RecordLaws
 pub mod RecordEnds
 pub mod LoginLaws
+pub mod SixLaws
 pub mod PackedEnds
 pub mod MaskLaws
 pub mod MaskEnds

@@ -3,12 +3,12 @@
 use mathlib.Core.Path.{_≡_, refl, sym, ap, _∙_}
 use mathlib.Core.Bool.{Bool, true, false, cond}
 use mathlib.Core.List.{List, [], _∷_, _++_}
-use Prim.Native.Nat.{ℕ, zero, suc, _+_, _-_, _*_, _/_, _%_, _^_, _≤_, _<_}
-use native.Mathlib.Nat.{suc-mul, zero-div, zero-mul}
+use Prim.Native.Nat.{ℕ, zero, suc, _+_, _-_, _*_, _/_, _%_, _^_, _≤_, _<_, min}
+use native.Mathlib.Nat.{suc-mul, zero-div, zero-mul, mul-zero, mul-le-mul-left, mul-le-mul-right, le-trans, div-lt-iff-lt-mul}
 use native.Mathlib.Numerals.{add-one}
 use native.Mathlib.Omega.{arith}
 use lib.Dec.{eqb, ltb, leb}
-use lib.ListN.{length, getD, take, drop, replicate, take-append-drop, length-drop, length-replicate, getD-replicate, List·getD-eq-default}
+use lib.ListN.{length, getD, take, drop, replicate, take-append-drop, length-drop, length-replicate, getD-replicate, length-take, List·getD-eq-default}
 use lib.Seq.{getD-take, getD-drop, length-take-le}
 use borrow.Author.Tests.{eqb-true, eqb-false, ne-eqb, ltb-true, ltb-false, leb-true, lt-ltb, le-leb}
 use Rattle.magnetar_field.specs.Gf128.{_⊕_}
@@ -25,24 +25,57 @@ use Rattle.magnetar_r1cs.proofs.LoginParts.{part-ends}
 use Rattle.magnetar_r1cs.proofs.Split.{z-bit, z-public}
 use Rattle.magnetar_r1cs.proofs.TableLaws.{added-length, added-here, added-there}
 use Rattle.magnetar_inplace.specs.Steps.{addedTo}
-use Rattle.magnetar_inplace.specs.LoginSteps.{zOf, inReach, clearedBlocks, addedBlocks, addedLogins, addedPacked}
+use Rattle.magnetar_inplace.specs.LoginSteps.{loginZ, inReach, clearedBlocks, addedBlocks, addedLogins, addedPacked}
 use Rattle.magnetar_inplace.proofs.RecordLaws.{one-added, zeros-cleared}
 
+-- ---- where a login's words start
+pub start-fits : (u k : ℕ) → u ≤ 4294967295 → k ≤ 4294967295 → u * k < 2 ^ 64
+start-fits u k h l =
+    let e : u * k ≤ 18446744065119617025 = le-trans (mul-le-mul-left u l) (mul-le-mul-right 4294967295 h) in
+    omega (arith, e)
+
+pub start-none : (u k n : ℕ) → k ≡ 0 → 0 ≡ min (u * k) n
+start-none u k n e = let z : u * k ≡ 0 = ap (λ (i : ℕ). u * i) e ∙ mul-zero u in omega (arith, z)
+
+positive : (k : ℕ) → (k ≡ 0 → ⊥) → 0 < k
+positive zero h = absurd (h refl)
+positive (suc k) h = omega arith
+
+module _ (u k n : ℕ) (h : k ≡ 0 → ⊥) where
+  pub start-past : n / k < u → n ≡ min (u * k) n
+  start-past l = let m : n < u * k = div-lt-iff-lt-mul {k = k} {x = n} {y = u} (positive k h) .0 l in omega (arith, m)
+
+  pub start-in : u ≤ n / k → u * k ≤ n
+  start-in l = go (ltb n (u * k)) refl
+    where
+      go : (b : Bool) → ltb n (u * k) ≡ b → u * k ≤ n
+      go false t = ltb-false n (u * k) t
+      go true t =
+          let m : n / k < u = div-lt-iff-lt-mul {k = k} {x = n} {y = u} (positive k h) .1 (ltb-true n (u * k) t) in
+          absurd (omega (arith, l, m))
+
 -- ---- a login's bits, and its z
-module _ (w : ℕ) (ws : List ℕ) (u c : ℕ) (h : c < w) where
-  place-is : getD (loginPart w ws u) (c / 64) 0 ≡ getD ws (u * loginWords w + c / 64) 0
-  unfolding loginPart loginWords
-  place-is = getD-take (loginWords w) (drop (u * loginWords w) ws) (c / 64) 0 (omega arith) ∙ getD-drop (u * loginWords w) ws (c / 64) 0
+module _ (w : ℕ) (ws : List ℕ) (u c k : ℕ) (e : k ≡ loginWords w) where
+  place-is : c / 64 < k → getD (loginPart w ws u) (c / 64) 0 ≡ getD ws (u * k + c / 64) 0
+  unfolding loginPart
+  place-is h = rw (← e) (getD-take k (drop (u * k) ws) (c / 64) 0 h ∙ getD-drop (u * k) ws (c / 64) 0)
 
-  pub login-bit-is : (k : ℕ) → k ≡ loginWords w → getD ws (u * k + c / 64) 0 / 2 ^ (c % 64) % 2 ≡ packedBit (loginPart w ws u) c
+  pub login-bit-is : (a : ℕ) → c / 64 < k → a ≡ u * k → getD ws (a + c / 64) 0 / 2 ^ (c % 64) % 2 ≡ packedBit (loginPart w ws u) c
   unfolding packedBit
-  login-bit-is k e = rw (e, place-is)
+  login-bit-is a h s = rw (s, place-is h)
 
-  pub login-bit-missing : (k : ℕ) → k ≡ loginWords w → length ws ≤ u * k + c / 64 → 0 ≡ packedBit (loginPart w ws u) c
+  zero-bit : getD (loginPart w ws u) (c / 64) 0 ≡ 0 → 0 ≡ packedBit (loginPart w ws u) c
   unfolding packedBit
-  login-bit-missing k e l =
-      let z : getD ws (u * loginWords w + c / 64) 0 ≡ 0 = List·getD-eq-default ws 0 (rw e at l) in
-      rw (place-is, z) (sym (ap (λ (n : ℕ). n % 2) (zero-div (2 ^ (c % 64)))))
+  zero-bit z = rw z (sym (ap (λ (n : ℕ). n % 2) (zero-div (2 ^ (c % 64)))))
+
+  pub login-bit-past : k ≤ c / 64 → 0 ≡ packedBit (loginPart w ws u) c
+  unfolding loginPart
+  login-bit-past h =
+      let l : length (loginPart w ws u) ≤ c / 64 = rw (← e, length-take) (omega (arith, h)) in
+      zero-bit (List·getD-eq-default (loginPart w ws u) 0 l)
+
+  pub login-bit-missing : c / 64 < k → length ws ≤ u * k + c / 64 → 0 ≡ packedBit (loginPart w ws u) c
+  login-bit-missing h l = zero-bit (place-is h ∙ List·getD-eq-default ws 0 l)
 
 behind-one : (x : List ℕ) (j : ℕ) → 0 < j → getD (1 ∷ x) j 0 ≡ getD x (j - 1) 0
 behind-one x zero h = absurd (omega arith)
@@ -52,18 +85,18 @@ pub low-word : (b : ℕ) → 0 * 2 ^ 64 + b ≡ b
 low-word b = omega arith
 
 module _ (w : ℕ) (ws x : List ℕ) (u c : ℕ) where
-  pub z-is-bit : c < w → packedBit (loginPart w ws u) c ≡ getD (zOf w ws x u) c 0
-  unfolding zOf
+  pub z-is-bit : c < w → packedBit (loginPart w ws u) c ≡ getD (loginZ w ws x u) c 0
+  unfolding loginZ
   z-is-bit h = sym (z-bit w x (loginPart w ws u) c h)
 
-  pub z-is-one : c ≡ w → 1 ≡ getD (zOf w ws x u) c 0
-  unfolding zOf
+  pub z-is-one : c ≡ w → 1 ≡ getD (loginZ w ws x u) c 0
+  unfolding loginZ
   z-is-one e =
       let d : c - w ≡ 0 = omega arith in
       sym (z-public w x (loginPart w ws u) c (omega arith) ∙ rw d)
 
-  pub z-is-public : w < c → getD x (c - w - 1) 0 ≡ getD (zOf w ws x u) c 0
-  unfolding zOf
+  pub z-is-public : w < c → getD x (c - w - 1) 0 ≡ getD (loginZ w ws x u) c 0
+  unfolding loginZ
   z-is-public h = sym (z-public w x (loginPart w ws u) c (omega arith) ∙ behind-one x (c - w) (omega arith))
 
 -- ---- within the limits

@@ -3,7 +3,7 @@
 use mathlib.Core.Path.{_≡_, refl, sym, ap, _∙_}
 use mathlib.Core.Bool.{Bool, true, false, cond}
 use mathlib.Core.List.{List, _++_}
-use Prim.Native.Nat.{ℕ, _+_, _*_, _≤_}
+use Prim.Native.Nat.{ℕ, _*_, _≤_}
 use native.Mathlib.Omega.{arith}
 use lib.Dec.{eqb}
 use lib.ListN.{length, drop}
@@ -22,7 +22,7 @@ use Rattle.magnetar_r1cs.proofs.Split.{blocks-ext, assigned}
 use Rattle.magnetar_inplace.specs.declared.records.Entry.{Entry}
 use Rattle.magnetar_inplace.specs.Records.{entriesOfRecords, lentOf}
 use Rattle.magnetar_inplace.specs.Steps.{liesIn}
-use Rattle.magnetar_inplace.specs.LoginSteps.{zOf, bitUpTo, batchOf, roomOf, clearedBlocks, addedPacked}
+use Rattle.magnetar_inplace.specs.LoginSteps.{loginZ, bitUpTo, packedBatchTests, packedRoomTests, clearedBlocks, addedPacked}
 use Rattle.magnetar_inplace.proofs.RecordLaws.{matrix-of, batch-same}
 use Rattle.magnetar_inplace.proofs.RecordEnds.{turned-back, went-on}
 use Rattle.magnetar_inplace.proofs.LoginLaws.{packed-added, twice-in}
@@ -33,19 +33,19 @@ flag-is n m w es = rw (matrix-of n m es)
 
 module _ (n m : ℕ) (es : List Entry) (ws x : List ℕ) (q w : ℕ) where
   abbrev products : List ℕ
-  products = blocks (λ u. tabulate (rowTotal (share (zOf w ws (elements x) u)) (entriesOfRecords es)) n) q
+  products = blocks (λ u. tabulate (rowTotal (share (loginZ w ws (elements x) u)) (entriesOfRecords es)) n) q
 
   products-are : products ≡ packedTable (matrixOf (lentOf n m es)) ws (elements x) q w
-  unfolding packedTable times timesAt zOf
+  unfolding packedTable times timesAt loginZ
   products-are =
       rw (matrix-of n m es)
       (blocks-ext _ _ q (λ u h. ap (λ (z : List ℕ). tabulate (rowTotal (share z) (entriesOfRecords es)) n) (sym (assigned q w ws (elements x) u h))))
 
 module _ (n m : ℕ) (es : List Entry) (ws x out : List ℕ) (q w : ℕ) (within go : Bool) (k : ℕ) (i : within ≡ every (liesIn n m) (entriesOfRecords es))
-    (t : k ≡ noted 0 (batchOf n m (length es) within (length ws) (length x) q w ++ roomOf q n (length out))) (g : go ≡ eqb k 0) where
+    (t : k ≡ noted 0 (packedBatchTests n m (length es) within (length ws) (length x) q w ++ packedRoomTests q n (length out))) (g : go ≡ eqb k 0) where
   packed-refusal : k ≡ packedRefusal (lentOf n m es) ws x q w out
   unfolding packedRefusal lentOf
-  packed-refusal = t ∙ rw i (batch-same n m es ws x q w (roomOf q n (length out)))
+  packed-refusal = t ∙ rw i (batch-same n m es ws x q w (packedRoomTests q n (length out)))
 
   record PackedFits : Type 0 where
     half : w ≤ 32768
@@ -55,7 +55,7 @@ module _ (n m : ℕ) (es : List Entry) (ws x out : List ℕ) (q w : ℕ) (within
 
   packed-fits : go ≡ true → PackedFits
   packed-fits b =
-      let l = batchOf n m (length es) within (length ws) (length x) q w ++ roomOf q n (length out) in
+      let l = packedBatchTests n m (length es) within (length ws) (length x) q w ++ packedRoomTests q n (length out) in
       let c = noted-clear 0 l refl (sym t ∙ eqb-true k 0 (sym g ∙ b)) .1 in
       let z = not-bad (c .0) in
       record {
@@ -71,20 +71,20 @@ module _ (n m : ℕ) (es : List Entry) (ws x out : List ℕ) (q w : ℕ) (within
 
   packed-end : (b : Bool) (out₁ : List ℕ) (f : Bool) (r : Flagged) → go ≡ b
       → (f ≡ cond b (every (bitUpTo w) (entriesOfRecords es)) false)
-      × (out₁ ≡ cond b (addedPacked q w n (λ u. share (zOf w ws (elements x) u)) (entriesOfRecords es) (clearedBlocks q w n out)) out)
+      × (out₁ ≡ cond b (addedPacked q w n (λ u. share (loginZ w ws (elements x) u)) (entriesOfRecords es) (clearedBlocks q w n out)) out)
       → r ≡ flaggedOf k f
       → (r ≡ flaggedOf (packedRefusal (lentOf n m es) ws x q w out) (bitValued w (matrixOf (lentOf n m es)))) × (out₁ ≡ packedOut (lentOf n m es) ws x q w out)
   packed-end false out₁ f r b e₁ e₂ = (e₂ ∙ rw (← packed-refusal, ← g, b), e₁ .1 ∙ turned-back _ _ go packed-refusal g b)
   packed-end true out₁ f r b e₁ e₂ =
       let h = packed-fits b in
       let room : 2 * (q * n) ≤ length out = omega (arith, h .room, twice-in q n) in
-      let a = packed-added q w n (λ u. share (zOf w ws (elements x) u)) (entriesOfRecords es) out (h .logins) (h .half) (h .rows-size .high) (h .rows-size .low) room in
+      let a = packed-added q w n (λ u. share (loginZ w ws (elements x) u)) (entriesOfRecords es) out (h .logins) (h .half) (h .rows-size .high) (h .rows-size .low) room in
       let y : out₁ ≡ words (packedTable (matrixOf (lentOf n m es)) ws (elements x) q w) ++ drop (q * (2 * lentOf n m es .rows)) out = e₁ .1 ∙ (a ∙ rw (products-are n m es ws x q w, rest-is)) in
       (e₂ ∙ rw (e₁ .0, flag-is n m w es, packed-refusal), y ∙ went-on _ _ go packed-refusal g b)
 
   pub packed-ends : (out₁ : List ℕ) (f : Bool) (r : Flagged)
       → (f ≡ cond go (every (bitUpTo w) (entriesOfRecords es)) false)
-      × (out₁ ≡ cond go (addedPacked q w n (λ u. share (zOf w ws (elements x) u)) (entriesOfRecords es) (clearedBlocks q w n out)) out)
+      × (out₁ ≡ cond go (addedPacked q w n (λ u. share (loginZ w ws (elements x) u)) (entriesOfRecords es) (clearedBlocks q w n out)) out)
       → r ≡ flaggedOf k f
       → (r ≡ flaggedOf (packedRefusal (lentOf n m es) ws x q w out) (bitValued w (matrixOf (lentOf n m es)))) × (out₁ ≡ packedOut (lentOf n m es) ws x q w out)
   packed-ends out₁ f r e₁ e₂ = packed-end go out₁ f r refl e₁ e₂
@@ -94,11 +94,11 @@ module _ (es : List Entry) (ws x out : List ℕ) (q w n : ℕ) (go f : Bool) whe
   abbrev Leaves : List ℕ → Type 0
   Leaves t =
       (f ≡ cond go (every (bitUpTo w) (entriesOfRecords es)) false)
-      × (t ≡ cond go (addedPacked q w n (λ u. share (zOf w ws (elements x) u)) (entriesOfRecords es) (clearedBlocks q w n out)) out)
+      × (t ≡ cond go (addedPacked q w n (λ u. share (loginZ w ws (elements x) u)) (entriesOfRecords es) (clearedBlocks q w n out)) out)
 
   pub write-none : go ≡ false → f ≡ false → Leaves out
   write-none b e = rw b (e, refl)
 
   pub write-some : (out₁ out₂ : List ℕ) → go ≡ true → out₁ ≡ clearedBlocks q w n out
-      → out₂ ≡ addedPacked q w n (λ u. share (zOf w ws (elements x) u)) (entriesOfRecords es) out₁ → f ≡ every (bitUpTo w) (entriesOfRecords es) → Leaves out₂
-  write-some out₁ out₂ b e₁ e₂ e₃ = rw b (e₃, e₂ ∙ ap (addedPacked q w n (λ u. share (zOf w ws (elements x) u)) (entriesOfRecords es)) e₁)
+      → out₂ ≡ addedPacked q w n (λ u. share (loginZ w ws (elements x) u)) (entriesOfRecords es) out₁ → f ≡ every (bitUpTo w) (entriesOfRecords es) → Leaves out₂
+  write-some out₁ out₂ b e₁ e₂ e₃ = rw b (e₃, e₂ ∙ ap (addedPacked q w n (λ u. share (loginZ w ws (elements x) u)) (entriesOfRecords es)) e₁)

@@ -3,7 +3,7 @@
 use mathlib.Core.Path.{_≡_, refl, sym, ap, _∙_}
 use mathlib.Core.Bool.{Bool, true, false, not, _&&_}
 use mathlib.Core.List.{List, [], _∷_, _++_, map}
-use Prim.Native.Nat.{ℕ, zero, suc, _+_, _*_, _^_, _<_, _≤_}
+use Prim.Native.Nat.{ℕ, zero, suc, _*_, _^_, _<_, _≤_}
 use native.Mathlib.Omega.{arith}
 use lib.Dec.{ltb}
 use lib.ListN.{length, getD, take, drop, replicate, length-append, length-replicate}
@@ -25,7 +25,7 @@ use Rattle.magnetar_r1cs.proofs.TableLaws.{elements-words, added-length, raised
 use Rattle.magnetar_r1cs.proofs.Walked.{walked-start, walked-more, walked-end}
 use Rattle.magnetar_inplace.specs.declared.records.Entry.{Entry}
 use Rattle.magnetar_inplace.specs.Records.{entryOf, entriesOfRecords, lentOf}
-use Rattle.magnetar_inplace.specs.LoginSteps.{batchOf}
+use Rattle.magnetar_inplace.specs.LoginSteps.{packedBatchTests}
 use Rattle.magnetar_inplace.specs.Steps.{liesIn, loneOf, clearedTo, addedTo, addedAll}
 
 -- ---- a flag that is carried round
@@ -96,7 +96,7 @@ lone-same n m es k =
     rw (map-length (λ e. e .row) es, map-length (λ e. e .col) es, map-length (λ e. e .lo) es, map-length (λ e. e .hi) es, inside-both n m es, note-both)
 
 pub batch-same : (n m : ℕ) (es : List Entry) (ws x : List ℕ) (q w : ℕ) (k : Tests)
-    → noted 0 (batchOf n m (length es) (every (liesIn n m) (entriesOfRecords es)) (length ws) (length x) q w ++ k) ≡ noted 0 (batchTests (lentOf n m es) ws x q w ++ k)
+    → noted 0 (packedBatchTests n m (length es) (every (liesIn n m) (entriesOfRecords es)) (length ws) (length x) q w ++ k) ≡ noted 0 (batchTests (lentOf n m es) ws x q w ++ k)
 unfolding lentOf
 batch-same n m es ws x q w k =
     rw (map-length (λ e. e .row) es, map-length (λ e. e .col) es, map-length (λ e. e .lo) es, map-length (λ e. e .hi) es, inside-both n m es, note-both)

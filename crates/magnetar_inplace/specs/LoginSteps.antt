@@ -1,4 +1,5 @@
--- What the walk over entry records does for a batch of logins, record by record. Only private contracts cite these definitions.
+-- What the walk over entry records does for a batch of logins, record by record. Only private contracts, and that of `z_at`, cite
+-- these definitions.
 -- Assumes nothing.
 use mathlib.Core.Bool.{Bool, not, cond, _&&_}
 use mathlib.Core.List.{List, [], _∷_, _++_}
@@ -11,8 +12,8 @@ use Rattle.magnetar_r1cs.specs.Packed.{packedBit, loginPart, loginWords}
 use Rattle.magnetar_inplace.specs.Steps.{clearedTo, addedTo}
 
 -- z = (w, 1, x) of login u of the packed words ws
-unfoldable pub zOf : ℕ → List ℕ → List ℕ → ℕ → List ℕ
-zOf w ws x u = tabulate (packedBit (loginPart w ws u)) w ++ (1 ∷ x)
+unfoldable pub loginZ : ℕ → List ℕ → List ℕ → ℕ → List ℕ
+loginZ w ws x u = tabulate (packedBit (loginPart w ws u)) w ++ (1 ∷ x)
 
 -- the value is 0 or 1 and the column does not exceed w
 abbrev pub bitUpTo : ℕ → Entry → Bool
@@ -23,14 +24,14 @@ abbrev pub inReach : ℕ → ℕ → ℕ → ℕ → Bool
 inReach q w n r = leb q 4096 && (leb w 32768 && (leb n 65536 && ltb r n))
 
 -- the refusals of n rows and m columns with k records for q logins of w columns, with p packed and x public words
-abbrev pub batchOf : ℕ → ℕ → ℕ → Bool → ℕ → ℕ → ℕ → ℕ → Tests
-batchOf n m k inside p x q w =
+abbrev pub packedBatchTests : ℕ → ℕ → ℕ → Bool → ℕ → ℕ → ℕ → ℕ → Tests
+packedBatchTests n m k inside p x q w =
     sizeTests (2 * w) q ++ ((2, not (eqb p (q * loginWords w))) ∷ (3, not (eqb x (2 * w - 2))) ∷ []) ++ rowsTests q n
     ++ colsTests (2 * w) m ++ countTests k k k k ++ (7, not inside) ∷ []
 
 -- 15 of q logins with n rows, for room of out words
-abbrev pub roomOf : ℕ → ℕ → ℕ → Tests
-roomOf q n out = (15, ltb out (q * (2 * n))) ∷ []
+abbrev pub packedRoomTests : ℕ → ℕ → ℕ → Tests
+packedRoomTests q n out = (15, ltb out (q * (2 * n))) ∷ []
 
 -- the first q * n elements are 0
 unfoldable pub clearedBlocks : ℕ → ℕ → ℕ → List ℕ → List ℕ

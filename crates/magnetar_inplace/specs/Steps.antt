@@ -1,4 +1,5 @@
--- What the walks over entry records do, record by record. Only private contracts cite these definitions.
+-- What the walks over entry records do, record by record. Private contracts, and those of `clear_front`, `add_to`, `get_between`,
+-- `all_inside`, `all_six` and `records6`, cite these.
 -- Assumes nothing.
 use mathlib.Core.Bool.{Bool, not, cond, _&&_}
 use mathlib.Core.List.{List, [], _∷_, _++_}
@@ -20,6 +21,12 @@ liesIn n m e = ltb (e .row) n && ltb (e .col) m
 -- 1, 4, 6 and 7 of n rows and m columns with k records, which lie inside or not
 abbrev pub loneOf : ℕ → ℕ → ℕ → Bool → Tests
 loneOf n m k inside = columnTests m ++ rowTests n ++ countTests k k k k ++ (7, not inside) ∷ []
+
+-- 6 and 7 of six slices of records, whose records all lie inside or not
+abbrev pub recordTests6 : (a b c d e f : ℕ) → Bool → Tests
+recordTests6 a b c d e f inside =
+    (countTests a a a a ++ (countTests b b b b ++ countTests c c c c))
+    ++ ((countTests d d d d ++ (countTests e e e e ++ countTests f f f f)) ++ ((7, not inside) ∷ []))
 
 -- 11 and 15 of `apply` for n rows and m columns, a vector of z words and room of out words
 abbrev pub applyTests : ℕ → ℕ → ℕ → ℕ → Tests

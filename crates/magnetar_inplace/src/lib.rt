@@ -1,5 +1,5 @@
 // Thin functions above the core: the transcript changed in place, and matrices lent as slices of entry records.
-mod logins;
+pub mod logins;
 mod masks;
 pub mod records;
 pub mod steps;

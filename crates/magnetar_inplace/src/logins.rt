@@ -1,8 +1,8 @@
-// What `records::apply_simd_packed` does with one record, for each login of a batch.
+// A login's bits and its z, and what `records::apply_simd_packed` does with one record, for each login of a batch.
 ghost use mathlib.Core.Path.{_≡_};
 ghost use mathlib.Core.Bool.{_&&_};
 ghost use mathlib.Core.List.{_++_};
-ghost use Prim.Native.Nat.{_+_, _*_, _<_, _≤_};
+ghost use Prim.Native.Nat.{_+_, _*_, _<_, _≤_, min};
 ghost use lib.ListN.{getD};
 ghost use Rattle.magnetar_field.specs.Gf128.{value};
 ghost use Rattle.magnetar_field.specs.Words.{elements};
@@ -11,7 +11,7 @@ ghost use Rattle.magnetar_r1cs.specs.Matrix.{share};
 ghost use Rattle.magnetar_r1cs.specs.Packed.{packedBit, loginPart};
 ghost use Rattle.magnetar_inplace.specs.Records.{entryOf};
 ghost use Rattle.magnetar_inplace.specs.Steps.{addedTo};
-ghost use Rattle.magnetar_inplace.specs.LoginSteps.{zOf, bitUpTo, inReach, batchOf, clearedBlocks, addedBlocks, addedLogins, roomOf};
+ghost use Rattle.magnetar_inplace.specs.LoginSteps.{loginZ, bitUpTo, inReach, packedBatchTests, clearedBlocks, addedBlocks, addedLogins, packedRoomTests};
 use crate::records::Entry;
 use crate::steps;
 use magnetar_field::gf128;
@@ -50,23 +50,47 @@ pub(crate) fn in_reach(q: usize, w: usize, n: usize, r: usize) -> bool
     r < n
 }
 
-// The bit of login u at column c.
-pub(crate) fn login_bit(packed: &[u64], w: usize, u: usize, c: usize) -> u64
-    requires { ⌜ (u < 4096) × (w ≤ 32768) × (c < w) ⌝ }
+// Where the words of login u start among n words, k for each login; n where that is past them.
+fn login_start(u: usize, k: usize, n: usize) -> usize
+    ensures { λ r. ⌜ r ≡ min (u * k) n ⌝ }
+{
+    if u <= 4294967295 {
+        if k <= 4294967295 {
+            let a = u * k;
+            if a < n {
+                return a;
+            }
+            return n;
+        }
+    }
+    if k == 0 {
+        return 0;
+    }
+    if u > n / k {
+        return n;
+    }
+    u * k
+}
+
+// The bit of login u at column c; 0 where there is no word of it.
+pub fn login_bit(packed: &[u64], w: usize, u: usize, c: usize) -> u64
     ensures { λ r. ⌜ (r ≡ packedBit (loginPart w (now (packed .entry)) u) c) × (r < 2) ⌝ }
 {
     let k = r1cs::login_words(w);
-    let j = u * k + c / 64;
-    if j < packed.len() {
-        return (packed[j] >> (c % 64)) % 2;
+    let j = c / 64;
+    if j >= k {
+        return 0;
+    }
+    let a = login_start(u, k, packed.len());
+    if j < packed.len() - a {
+        return (packed[a + j] >> (c % 64)) % 2;
     }
     0
 }
 
 // Login u's z at column c.
-pub(crate) fn z_at(packed: &[u64], x: &[u64], w: usize, u: usize, c: usize) -> Gf128
-    requires { ⌜ (u < 4096) × (w ≤ 32768) ⌝ }
-    ensures { λ r. ⌜ value r ≡ getD (zOf w (now (packed .entry)) (elements (now (x .entry))) u) c 0 ⌝ }
+pub fn z_at(packed: &[u64], x: &[u64], w: usize, u: usize, c: usize) -> Gf128
+    ensures { λ r. ⌜ value r ≡ getD (loginZ w (now (packed .entry)) (elements (now (x .entry))) u) c 0 ⌝ }
 {
     if c < w {
         let b = login_bit(packed, w, u, c);
@@ -91,7 +115,7 @@ pub(crate) fn add_login(
     e: Entry,
 )
     requires { ⌜ (u < 4096) × (w ≤ 32768) × (n ≤ 65536) × (e .row < n) ⌝ }
-    ensures { λ _. ⌜ now (out .exit) ≡ addedTo k (u * n + e .row) (share (zOf w (now (packed .entry)) (elements (now (x .entry))) u) (entryOf e)) (now (out .entry)) ⌝ }
+    ensures { λ _. ⌜ now (out .exit) ≡ addedTo k (u * n + e .row) (share (loginZ w (now (packed .entry)) (elements (now (x .entry))) u) (entryOf e)) (now (out .entry)) ⌝ }
 {
     let v = Gf128 { lo: e.lo, hi: e.hi };
     let f = z_at(packed, x, w, u, e.col);
@@ -102,7 +126,7 @@ pub(crate) fn add_login(
 // Adds a record's shares of the products of q logins.
 fn each_login(packed: &[u64], x: &[u64], q: usize, w: usize, n: usize, out: &mut [u64], e: Entry)
     requires { ⌜ (q ≤ 4096) × (w ≤ 32768) × (n ≤ 65536) × (e .row < n) ⌝ }
-    ensures { λ _. ⌜ now (out .exit) ≡ addedBlocks (q * n) n (λ u. share (zOf w (now (packed .entry)) (elements (now (x .entry))) u)) (entryOf e) q (now (out .entry)) ⌝ }
+    ensures { λ _. ⌜ now (out .exit) ≡ addedBlocks (q * n) n (λ u. share (loginZ w (now (packed .entry)) (elements (now (x .entry))) u)) (entryOf e) q (now (out .entry)) ⌝ }
 {
     let k = q * n;
     let mut u = 0;
@@ -122,7 +146,7 @@ pub(crate) fn add_logins(
     out: &mut [u64],
     e: Entry,
 )
-    ensures { λ _. ⌜ now (out .exit) ≡ addedLogins q w n (λ u. share (zOf w (now (packed .entry)) (elements (now (x .entry))) u)) (entryOf e) (now (out .entry)) ⌝ }
+    ensures { λ _. ⌜ now (out .exit) ≡ addedLogins q w n (λ u. share (loginZ w (now (packed .entry)) (elements (now (x .entry))) u)) (entryOf e) (now (out .entry)) ⌝ }
 {
     if in_reach(q, w, n, e.row) {
         each_login(packed, x, q, w, n, out, e);
@@ -150,7 +174,7 @@ pub(crate) fn packed_refusal(
     w: usize,
     out: usize,
 ) -> u32
-    ensures { λ r. ⌜ r ≡ noted 0 (batchOf rows cols n inside p x q w ++ roomOf q rows out) ⌝ }
+    ensures { λ r. ⌜ r ≡ noted 0 (packedBatchTests rows cols n inside p x q w ++ packedRoomTests q rows out) ⌝ }
 {
     let z = tests::note(0, 1, !tests::is_half(w));
     let z = tests::note(z, 1, !tests::is_size(1, 4096, q));

@@ -1,7 +1,7 @@
 // Matrices lent as slices of entry records. Each function is that of `magnetar_r1cs::r1cs` with its name; it calls, for one
 // record after the other, a function on that record's numbers.
 ghost use mathlib.Core.Path.{_≡_};
-ghost use mathlib.Core.Bool.{true, false, cond};
+ghost use mathlib.Core.Bool.{true, false, cond, _&&_};
 ghost use mathlib.Core.List.{map};
 ghost use Prim.Native.Nat.{_+_, _*_};
 ghost use lib.ListN.{take};
@@ -14,7 +14,7 @@ ghost use Rattle.magnetar_r1cs.specs.Lent.{matrixOf};
 ghost use Rattle.magnetar_r1cs.specs.Entries.{applyRefusal, applyOut, binaryRefusal, flagged, flaggedOf, tableRefusal, tableOut, tableScratch, atAnswer, atScratch, packedRefusal, packedOut, masksRefusal, masksOut};
 ghost use Rattle.magnetar_inplace.specs.Records.{entriesOfRecords, lentOf};
 ghost use Rattle.magnetar_inplace.specs.Steps.{liesIn, addedAll, pairShare, builtBehind, clearedTo};
-ghost use Rattle.magnetar_inplace.specs.LoginSteps.{zOf, bitUpTo, clearedBlocks, addedPacked};
+ghost use Rattle.magnetar_inplace.specs.LoginSteps.{loginZ, bitUpTo, clearedBlocks, addedPacked};
 ghost use Rattle.magnetar_inplace.specs.MaskSteps.{flips, flippedAll};
 use crate::logins;
 use crate::masks;
@@ -42,6 +42,38 @@ pub fn all_inside(es: &[Entry], rows: usize, cols: usize) -> bool
         i += 1;
     }
     acc
+}
+
+// Every record of six slices lies inside its matrix.
+pub fn all_six(
+    abrows: usize,
+    abcols: usize,
+    ab: &[Entry],
+    bbrows: usize,
+    bbcols: usize,
+    bb: &[Entry],
+    cbrows: usize,
+    cbcols: usize,
+    cb: &[Entry],
+    afrows: usize,
+    afcols: usize,
+    af: &[Entry],
+    bfrows: usize,
+    bfcols: usize,
+    bf: &[Entry],
+    cfrows: usize,
+    cfcols: usize,
+    cf: &[Entry],
+) -> bool
+    ensures { λ r. ⌜ r ≡ every (liesIn abrows abcols) (entriesOfRecords (now (ab .entry))) && (every (liesIn bbrows bbcols) (entriesOfRecords (now (bb .entry))) && (every (liesIn cbrows cbcols) (entriesOfRecords (now (cb .entry))) && (every (liesIn afrows afcols) (entriesOfRecords (now (af .entry))) && (every (liesIn bfrows bfcols) (entriesOfRecords (now (bf .entry))) && (every (liesIn cfrows cfcols) (entriesOfRecords (now (cf .entry)))))))) ⌝ }
+{
+    let i0 = all_inside(ab, abrows, abcols);
+    let i1 = all_inside(bb, bbrows, bbcols);
+    let i2 = all_inside(cb, cbrows, cbcols);
+    let i3 = all_inside(af, afrows, afcols);
+    let i4 = all_inside(bf, bfrows, bfcols);
+    let i5 = all_inside(cf, cfrows, cfcols);
+    steps::all6(i0, i1, i2, i3, i4, i5)
 }
 
 // Every value is 0 or 1.
@@ -224,7 +256,7 @@ fn add_packed(
     n: usize,
     out: &mut [u64],
 )
-    ensures { λ _. ⌜ now (out .exit) ≡ addedPacked q w n (λ u. share (zOf w (now (packed .entry)) (elements (now (x .entry))) u)) (entriesOfRecords (now (es .entry))) (now (out .entry)) ⌝ }
+    ensures { λ _. ⌜ now (out .exit) ≡ addedPacked q w n (λ u. share (loginZ w (now (packed .entry)) (elements (now (x .entry))) u)) (entriesOfRecords (now (es .entry))) (now (out .entry)) ⌝ }
 {
     let mut i = 0;
     while i < es.len() {
@@ -245,7 +277,7 @@ fn write_packed(
     out: &mut [u64],
 ) -> bool
     ensures { λ b. ⌜ (b ≡ cond go (every (bitUpTo w) (entriesOfRecords (now (es .entry)))) false)
-        × (now (out .exit) ≡ cond go (addedPacked q w n (λ u. share (zOf w (now (packed .entry)) (elements (now (x .entry))) u)) (entriesOfRecords (now (es .entry))) (clearedBlocks q w n (now (out .entry)))) (now (out .entry))) ⌝ }
+        × (now (out .exit) ≡ cond go (addedPacked q w n (λ u. share (loginZ w (now (packed .entry)) (elements (now (x .entry))) u)) (entriesOfRecords (now (es .entry))) (clearedBlocks q w n (now (out .entry)))) (now (out .entry))) ⌝ }
 {
     if go {
         logins::clear_blocks(q, w, n, out);

@@ -12,7 +12,7 @@ ghost use Rattle.magnetar_layout.specs.Tests.{noted};
 ghost use Rattle.magnetar_r1cs.specs.Matrix.{share, isBit, swapped};
 ghost use Rattle.magnetar_r1cs.specs.Entries.{flaggedOf, flagged};
 ghost use Rattle.magnetar_inplace.specs.Records.{entryOf};
-ghost use Rattle.magnetar_inplace.specs.Steps.{liesIn, loneOf, applyTests, tableTests, atTests, clearedTo, addedTo, front, between, builtBehind, pairShare};
+ghost use Rattle.magnetar_inplace.specs.Steps.{liesIn, loneOf, recordTests6, applyTests, tableTests, atTests, clearedTo, addedTo, front, between, builtBehind, pairShare};
 use crate::records::Entry;
 use magnetar_field::eq::EqBits;
 use magnetar_field::gf128;
@@ -55,6 +55,46 @@ pub(crate) fn lone(rows: usize, cols: usize, n: usize, inside: bool) -> u32
     let z = tests::note(z, 4, !tests::is_size(1, 65536, rows));
     let z = tests::counts(z, n, n, n, n);
     tests::note(z, 7, !inside)
+}
+
+// 6 and 7 of six slices of records, by their lengths, after an earlier number z.
+pub fn records6(
+    z: u32,
+    ab: usize,
+    bb: usize,
+    cb: usize,
+    af: usize,
+    bf: usize,
+    cf: usize,
+    inside: bool,
+) -> u32
+    ensures { λ r. ⌜ r ≡ noted z (recordTests6 ab bb cb af bf cf inside) ⌝ }
+{
+    let z = tests::counts(z, ab, ab, ab, ab);
+    let z = tests::counts(z, bb, bb, bb, bb);
+    let z = tests::counts(z, cb, cb, cb, cb);
+    let z = tests::counts(z, af, af, af, af);
+    let z = tests::counts(z, bf, bf, bf, bf);
+    let z = tests::counts(z, cf, cf, cf, cf);
+    tests::note(z, 7, !inside)
+}
+
+// Whether all six flags are set.
+pub(crate) fn all6(a: bool, b: bool, c: bool, d: bool, e: bool, f: bool) -> bool
+    ensures { λ r. ⌜ r ≡ a && (b && (c && (d && (e && f)))) ⌝ }
+{
+    if a {
+        if b {
+            if c {
+                if d {
+                    if e {
+                        return f;
+                    }
+                }
+            }
+        }
+    }
+    false
 }
 
 // Nothing is refused.

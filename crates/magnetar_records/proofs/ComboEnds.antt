@@ -3,50 +3,40 @@
 use mathlib.Core.Path.{_≡_, refl, sym, ap, ap₂, _∙_}
 use mathlib.Core.Bool.{Bool, true, false, cond}
 use mathlib.Core.List.{List, [], _∷_, _++_, map}
-use Prim.Native.Nat.{ℕ, zero, suc, _+_, _*_, _/_, _≤_, min, max}
-use native.Mathlib.Nat.{zero-add, suc-add}
+use Prim.Native.Nat.{ℕ, _+_, _*_, _/_, _≤_, min, max}
 use native.Mathlib.Omega.{arith}
 use lib.Dec.{eqb, ltb}
 use lib.ListN.{length, getD, take, drop, replicate, length-append, length-replicate}
 use lib.Seq.{take-at, drop-at, take-all}
 use borrow.Author.Tests.{eqb-true, ltb-false, le-leb}
 use Rattle.magnetar_field.specs.Sizes.{log₂}
-use Rattle.magnetar_field.specs.Words.{elements, words, overlaid}
+use Rattle.magnetar_field.specs.Words.{elements, overlaid}
 use Rattle.magnetar_field.specs.EqTable.{scaledTable}
 use Rattle.magnetar_field.proofs.Elements.{overlaid-same}
-use Rattle.magnetar_layout.specs.Tests.{Tests, noted}
-use Rattle.magnetar_layout.proofs.Noted.{noted-append, noted-clear, noted-rest, noted-kept}
+use Rattle.magnetar_layout.specs.Tests.{noted}
+use Rattle.magnetar_layout.proofs.Noted.{noted-clear, noted-rest}
 use Rattle.magnetar_layout.proofs.SizeLaws.{Sized}
 use Rattle.magnetar_r1cs.specs.Matrix.{rowTotal, share, swapped}
 use Rattle.magnetar_r1cs.proofs.Walked.{entries-swapped}
 use Rattle.magnetar_r1cs.proofs.Points.{log-most}
-use Rattle.magnetar_batch.specs.Systems.{Lent3, counted3, placed3, systemsTests, pointTests}
+use Rattle.magnetar_batch.specs.Systems.{Lent3, counted3, placed3, shapeTests6, systemsTests, pointTests}
 use Rattle.magnetar_batch.specs.Columns.{column}
 use Rattle.magnetar_batch.specs.Entries.{comboWords, mComboRefusal, mComboOut, mComboScratch}
-use Rattle.magnetar_batch.proofs.SystemLaws.{Fits6, fits6}
-use Rattle.magnetar_batch.proofs.Combos.{Points, points, words-are, combo-length}
+use Rattle.magnetar_batch.proofs.SystemLaws.{Fits6, fits6, front-none}
+use Rattle.magnetar_batch.proofs.Combos.{Points, points, words-are, combo-length, zeros-on}
 use Rattle.magnetar_inplace.specs.declared.records.Entry.{Entry}
 use Rattle.magnetar_inplace.specs.Records.{entriesOfRecords, lentOf}
-use Rattle.magnetar_inplace.specs.Steps.{clearedTo}
+use Rattle.magnetar_inplace.specs.Steps.{clearedTo, recordTests6}
+use Rattle.magnetar_inplace.proofs.SixLaws.{insideOf, counted-is}
 use Rattle.magnetar_inplace.proofs.RecordLaws.{entries-are}
 use Rattle.magnetar_inplace.proofs.RecordEnds.{turned-back, went-on}
 use Rattle.magnetar_records.specs.Steps.{padded, pointIn, tableMade}
 use Rattle.magnetar_records.specs.Outcome.{combinedAs, comboOutcome}
-use Rattle.magnetar_records.specs.Numbers.{joined, countedOf, frontOf, pointsOf}
+use Rattle.magnetar_records.specs.Numbers.{firstRefusalOf, pointsOf}
 use Rattle.magnetar_records.proofs.TableWalk.{Row, columnOf, table-made}
-use Rattle.magnetar_records.proofs.NumberLaws.{binOf, fldOf, insideOf, counted-is, joined-is}
+use Rattle.magnetar_records.proofs.NumberLaws.{binOf, fldOf, first-refusal-is}
 
 -- ---- words in front of others
--- where all of the tests are passed, so are the first of them
-pub first : (l k : Tests) → noted 0 (l ++ k) ≡ 0 → noted 0 l ≡ 0
-first l k e = go (noted 0 l) refl
-  where
-    go : (z : ℕ) → noted 0 l ≡ z → noted 0 l ≡ 0
-    go zero h = h
-    go (suc z) h =
-        let b : suc z ≡ 0 = sym (noted-kept (suc z) k (λ i. omega arith)) ∙ (ap (λ (y : ℕ). noted y k) (sym h) ∙ (sym (noted-append 0 l k) ∙ e)) in
-        absurd (omega (arith, b))
-
 padded-front : (n : ℕ) (p : List ℕ) → Sized 1 65536 n → length p ≡ 2 * log₂ n → pointIn n (padded 32 p) ≡ p
 unfolding overlaid
 padded-front n p z l =
@@ -57,10 +47,6 @@ padded-front n p z l =
 laid : (t out : List ℕ) (k : ℕ) → length t ≡ k → k ≤ length out → overlaid t out ≡ t ++ drop k out
 unfolding overlaid
 laid t out k l h = rw (take-all (length out) t (omega arith), l)
-
-zeros-on : (a b : ℕ) (l : List ℕ) → replicate {A = ℕ} a 0 ++ (replicate b 0 ++ l) ≡ replicate (a + b) 0 ++ l
-zeros-on zero b l = rw (zero-add b)
-zeros-on (suc a) b l = rw (suc-add a b) (ap (λ (k : List ℕ). 0 ∷ k) (zeros-on a b l))
 
 cleared-all : (m k : ℕ) (t r : List ℕ) → length t ≡ 2 * m → clearedTo m (t ++ (replicate (2 * k) 0 ++ r)) ≡ replicate (2 * m + 2 * k) 0 ++ r
 unfolding clearedTo
@@ -115,18 +101,18 @@ module _ (n₁ m₁ : ℕ) (ab : List Entry) (n₂ m₂ : ℕ) (bb : List Entry)
 
   -- ---- `build_m_combo`
   module _ (al p r : List ℕ) (o w : ℕ) where
-    combo-tests : noted 0 (frontOf m n₁ n₂ n₃ n₄ n₅ n₆ m₁ m₂ m₃ m₄ m₅ m₆ ++ ((counted3 S ++ (counted3 T ++ (placed3 S ++ placed3 T))) ++ pointsOf m n₁ n₄ (length al) (length p) (length r) w o))
+    combo-tests : noted 0 (shapeTests6 m n₁ n₂ n₃ n₄ n₅ n₆ m₁ m₂ m₃ m₄ m₅ m₆ ++ ((counted3 S ++ (counted3 T ++ (placed3 S ++ placed3 T))) ++ pointsOf m n₁ n₄ (length al) (length p) (length r) w o))
         ≡ mComboRefusal m S T al p r o w
     unfolding mComboRefusal systemsTests lentOf
     combo-tests = refl
 
     pub combo-refused : (inside : Bool) (k : ℕ) → inside ≡ insideOf n₁ m₁ ab n₂ m₂ bb n₃ m₃ cb n₄ m₄ af n₅ m₅ bf n₆ m₆ cf
-        → k ≡ joined (noted 0 (frontOf m n₁ n₂ n₃ n₄ n₅ n₆ m₁ m₂ m₃ m₄ m₅ m₆ ++ pointsOf m n₁ n₄ (length al) (length p) (length r) w o))
-        (noted 0 (countedOf (length ab) (length bb) (length cb) (length af) (length bf) (length cf) inside))
+        → k ≡ firstRefusalOf (noted 0 (shapeTests6 m n₁ n₂ n₃ n₄ n₅ n₆ m₁ m₂ m₃ m₄ m₅ m₆ ++ pointsOf m n₁ n₄ (length al) (length p) (length r) w o))
+        (noted 0 (recordTests6 (length ab) (length bb) (length cb) (length af) (length bf) (length cf) inside))
         → k ≡ mComboRefusal m S T al p r o w
     combo-refused inside k i q =
-        q ∙ (rw (i, counted-is n₁ m₁ ab n₂ m₂ bb n₃ m₃ cb n₄ m₄ af n₅ m₅ bf n₆ m₆ cf)
-        (joined-is (frontOf m n₁ n₂ n₃ n₄ n₅ n₆ m₁ m₂ m₃ m₄ m₅ m₆) (counted3 S ++ (counted3 T ++ (placed3 S ++ placed3 T)))
+        q ∙ (rw (i, counted-is n₁ m₁ ab n₂ m₂ bb n₃ m₃ cb n₄ m₄ af n₅ m₅ bf n₆ m₆ cf 0)
+        (first-refusal-is (shapeTests6 m n₁ n₂ n₃ n₄ n₅ n₆ m₁ m₂ m₃ m₄ m₅ m₆) (counted3 S ++ (counted3 T ++ (placed3 S ++ placed3 T)))
         (pointsOf m n₁ n₄ (length al) (length p) (length r) w o) refl refl) ∙ combo-tests)
 
   module _ (al p r out s : List ℕ) (k : ℕ) (combo-refusal : k ≡ mComboRefusal m S T al p r (length out) (length s)) where
@@ -149,12 +135,12 @@ module _ (n₁ m₁ : ℕ) (ab : List Entry) (n₂ m₂ : ℕ) (bb : List Entry)
     unfolding mComboRefusal lentOf
     combo-fits b =
         let z : noted 0 (systemsTests m S T ++ (pointTests m n₁ n₄ al p r (length s) ++ ((15, ltb (length out) (2 * m)) ∷ []))) ≡ 0 = sym combo-refusal ∙ eqb-true k 0 b in
-        let front : noted 0 (systemsTests m S T) ≡ 0 = first (systemsTests m S T) (pointTests m n₁ n₄ al p r (length s) ++ ((15, ltb (length out) (2 * m)) ∷ [])) z in
+        let front : noted 0 (systemsTests m S T) ≡ 0 = front-none (systemsTests m S T) (pointTests m n₁ n₄ al p r (length s) ++ ((15, ltb (length out) (2 * m)) ∷ [])) z in
         let rest : noted 0 (pointTests m n₁ n₄ al p r (length s) ++ ((15, ltb (length out) (2 * m)) ∷ [])) ≡ 0 = sym (noted-rest (systemsTests m S T) (pointTests m n₁ n₄ al p r (length s) ++ ((15, ltb (length out) (2 * m)) ∷ [])) (noted 0 (systemsTests m S T)) refl front) ∙ z in
         let c = noted-clear 0 (pointTests m n₁ n₄ al p r (length s) ++ ((15, ltb (length out) (2 * m)) ∷ [])) refl rest .1 in
         record {
           fits = fits6 m S T front;
-          points-fit = points m n₁ n₄ al p r (length s) (first (pointTests m n₁ n₄ al p r (length s)) ((15, ltb (length out) (2 * m)) ∷ []) rest);
+          points-fit = points m n₁ n₄ al p r (length s) (front-none (pointTests m n₁ n₄ al p r (length s)) ((15, ltb (length out) (2 * m)) ∷ []) rest);
           room = ltb-false _ _ (c .1 .1 .1 .1 .0);
         }
 

@@ -15,7 +15,7 @@ use Rattle.magnetar_r1cs.proofs.Points.{log-most}
 use Rattle.magnetar_layout.proofs.SizeLaws.{Sized}
 use Rattle.magnetar_batch.specs.Systems.{Lent3, systemsTests, pointTests}
 use Rattle.magnetar_batch.specs.Entries.{comboRefusal, comboIn, comboWords}
-use Rattle.magnetar_batch.proofs.SystemLaws.{Fits6, fits6}
+use Rattle.magnetar_batch.proofs.SystemLaws.{Fits6, fits6, front-none}
 use Rattle.magnetar_batch.proofs.Combos.{combo-length}
 use Rattle.magnetar_protocol.specs.Draws.{drawCount, drawsOf}
 use Rattle.magnetar_protocol.specs.Schedule.{outline}
@@ -27,9 +27,9 @@ use Rattle.magnetar_spartan.proofs.Ended.{draws-small}
 use Rattle.magnetar_inplace.specs.declared.records.Entry.{Entry}
 use Rattle.magnetar_inplace.specs.Records.{entriesOfRecords, lentOf}
 use Rattle.magnetar_records.specs.Steps.{pointIn}
-use Rattle.magnetar_records.specs.Stages.{binAt, fldAt, alphasAt, window, tableAt}
+use Rattle.magnetar_records.specs.Stages.{binAt, fldAt, alphasAt, window, tableAtDraws}
 use Rattle.magnetar_records.proofs.NumberLaws.{binOf, fldOf}
-use Rattle.magnetar_records.proofs.ComboEnds.{first, table-is}
+use Rattle.magnetar_records.proofs.ComboEnds.{table-is}
 
 -- ---- words behind those that are changed
 -- words as many as s, which are those of s from word k on
@@ -166,11 +166,11 @@ module _ (n₁ m₁ : ℕ) (ab : List Entry) (n₂ m₂ : ℕ) (bb : List Entry)
 
   fits : Fits6 m S T
   unfolding comboRefusal
-  fits = fits6 m S T (first (systemsTests m S T) (pointTests m (S .a .rows) (T .a .rows) al pb pf (length s)) combo-fine)
+  fits = fits6 m S T (front-none (systemsTests m S T) (pointTests m (S .a .rows) (T .a .rows) al pb pf (length s)) combo-fine)
 
   -- the table
   abbrev U : List ℕ
-  U = tableAt m q n₁ n₄ all (entriesOfRecords ab) (entriesOfRecords bb) (entriesOfRecords cb) (entriesOfRecords af) (entriesOfRecords bf) (entriesOfRecords cf) s
+  U = tableAtDraws m q n₁ n₄ all (entriesOfRecords ab) (entriesOfRecords bb) (entriesOfRecords cb) (entriesOfRecords af) (entriesOfRecords bf) (entriesOfRecords cf) s
 
   pub drawn-table : U ≡ comboWords m S T al pb pf ++ (replicate (2 * max n₁ n₄) 0 ++ drop (2 * m + 2 * max n₁ n₄) s)
   drawn-table = table-is n₁ m₁ ab n₂ m₂ bb n₃ m₃ cb n₄ m₄ af n₅ m₅ bf n₆ m₆ cf m al pb pf (window 32 (binAt q n₁ n₄) all) (window 32 (fldAt q n₁ n₄) all) s fits al-long pb-is pf-is pb-long pf-long enough

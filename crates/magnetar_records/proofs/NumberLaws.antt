@@ -1,24 +1,19 @@
 -- The refusals by numbers alone are those of the matrices that are lent.
 -- Assumes nothing.
 use mathlib.Core.Path.{_≡_, refl, sym, ap, _∙_, subst}
-use mathlib.Core.Bool.{Bool, true, false, not, cond, _&&_, _||_}
-use mathlib.Core.List.{List, [], _∷_, _++_, map}
-use Prim.Native.Nat.{ℕ, zero, suc, _+_, _≤_, _<_}
+use mathlib.Core.Bool.{Bool, true, false, cond, _&&_, _||_}
+use mathlib.Core.List.{List, [], _∷_, _++_}
+use Prim.Native.Nat.{ℕ, zero, suc, _≤_, _<_}
 use native.Mathlib.Omega.{arith}
 use lib.Dec.{eqb, leb}
-use lib.ListN.{length}
 use borrow.Author.Tests.{ne-eqb, le-leb, lt-leb, leb-true}
-use Rattle.magnetar_layout.specs.Every.{every}
-use Rattle.magnetar_layout.specs.Lent.{lent}
-use Rattle.magnetar_layout.specs.Tests.{Tests, note, noted, countTests, counted, placed, allBelow}
-use Rattle.magnetar_batch.specs.Systems.{Lent3, system, counted3, placed3}
+use Rattle.magnetar_layout.specs.Tests.{Tests, note, noted}
 use Rattle.magnetar_layout.proofs.Noted.{note-kept, noted-kept, noted-append, Clear}
 use Rattle.magnetar_layout.proofs.EveryLaws.{both}
+use Rattle.magnetar_batch.specs.Systems.{Lent3, system}
 use Rattle.magnetar_inplace.specs.declared.records.Entry.{Entry}
-use Rattle.magnetar_inplace.specs.Records.{entriesOfRecords, lentOf}
-use Rattle.magnetar_inplace.specs.Steps.{liesIn}
-use Rattle.magnetar_inplace.proofs.RecordLaws.{map-length, inside-both, note-both}
-use Rattle.magnetar_records.specs.Numbers.{joined, countedOf}
+use Rattle.magnetar_inplace.specs.Records.{lentOf}
+use Rattle.magnetar_records.specs.Numbers.{firstRefusalOf}
 
 -- ---- numbers below 6, and from 6 on
 abbrev low : ℕ → Bool
@@ -68,23 +63,23 @@ module _ (a c b : Tests) (ha : numbers low a ≡ true) (hb : numbers late b ≡ 
   between-all : noted 0 (a ++ (c ++ b)) ≡ noted (noted (noted 0 a) c) b
   between-all = noted-append 0 a (c ++ b) ∙ noted-append (noted 0 a) c b
 
-  none-first : (k : ℕ) → noted 0 c ≡ k → noted 0 a ≡ 0 → joined (noted 0 (a ++ b)) (noted 0 c) ≡ noted 0 (a ++ (c ++ b))
-  unfolding joined
+  none-first : (k : ℕ) → noted 0 c ≡ k → noted 0 a ≡ 0 → firstRefusalOf (noted 0 (a ++ b)) (noted 0 c) ≡ noted 0 (a ++ (c ++ b))
+  unfolding firstRefusalOf
   none-first zero e z = rw (noted-append 0 a b, between-all, z, late-low (noted 0 b) (noted-fine late late-some b hb), e)
   none-first (suc k) e z =
       rw (noted-append 0 a b, between-all, z, late-low (noted 0 b) (noted-fine late late-some b hb), e, ne-eqb (suc k) 0 (λ h. omega arith)) (sym (noted-kept (suc k) b (λ h. omega arith)))
 
-  some-first : (k : ℕ) → noted 0 a ≡ suc k → joined (noted 0 (a ++ b)) (noted 0 c) ≡ noted 0 (a ++ (c ++ b))
-  unfolding joined
+  some-first : (k : ℕ) → noted 0 a ≡ suc k → firstRefusalOf (noted 0 (a ++ b)) (noted 0 c) ≡ noted 0 (a ++ (c ++ b))
+  unfolding firstRefusalOf
   some-first k e =
       let h : suc k ≡ 0 → ⊥ = λ h. omega arith in
       let l : low (suc k) ≡ true = subst (λ (d : Bool). (d || low (suc k)) ≡ true) (ne-eqb (suc k) 0 h) (subst (λ (j : ℕ). (eqb j 0 || low j) ≡ true) e (noted-fine low low-some a ha)) in
       rw (noted-append 0 a b, between-all, e, noted-kept (suc k) b h, noted-kept (suc k) c h, noted-kept (suc k) b h, l)
 
-  pub joined-is : joined (noted 0 (a ++ b)) (noted 0 c) ≡ noted 0 (a ++ (c ++ b))
-  joined-is = go (noted 0 a) refl
+  pub first-refusal-is : firstRefusalOf (noted 0 (a ++ b)) (noted 0 c) ≡ noted 0 (a ++ (c ++ b))
+  first-refusal-is = go (noted 0 a) refl
     where
-      go : (k : ℕ) → noted 0 a ≡ k → joined (noted 0 (a ++ b)) (noted 0 c) ≡ noted 0 (a ++ (c ++ b))
+      go : (k : ℕ) → noted 0 a ≡ k → firstRefusalOf (noted 0 (a ++ b)) (noted 0 c) ≡ noted 0 (a ++ (c ++ b))
       go zero e = none-first (noted 0 c) refl e
       go (suc k) e = some-first k e
 
@@ -102,24 +97,7 @@ pub skipped : (a c b : Tests) → Clear c → noted 0 (a ++ (c ++ b)) ≡ noted 
 skipped a c b h =
     noted-append 0 a (c ++ b) ∙ (noted-append (noted 0 a) c b ∙ (ap (λ (y : ℕ). noted y b) (noted-skip (noted 0 a) c h) ∙ sym (noted-append 0 a b)))
 
--- ---- six slices of records
-abbrev inside : ℕ → ℕ → List Entry → Bool
-inside n m es = every (liesIn n m) (entriesOfRecords es)
-
-one-counted : (n m : ℕ) (es : List Entry) (z : ℕ) → noted z (countTests (length es) (length es) (length es) (length es)) ≡ noted z (counted (lentOf n m es))
-unfolding lentOf
-one-counted n m es z = rw (map-length (λ e. e .row) es, map-length (λ e. e .col) es, map-length (λ e. e .lo) es, map-length (λ e. e .hi) es)
-
-one-placed : (n m : ℕ) (es : List Entry) (z : ℕ) → note 7 (not (inside n m es)) z ≡ noted z (placed (lentOf n m es))
-unfolding lentOf
-one-placed n m es z = rw (inside-both n m es) (note-both (allBelow n (map (λ e. e .row) es)) (allBelow m (map (λ e. e .col) es)) z)
-
-six : (a b c d e f : Bool) (z : ℕ)
-    → note 7 (not (a && (b && (c && (d && (e && f)))))) z
-    ≡ note 7 (not f) (note 7 (not e) (note 7 (not d) (note 7 (not c) (note 7 (not b) (note 7 (not a) z)))))
-six a b c d e f z =
-    note-both a (b && (c && (d && (e && f)))) z ∙ (note-both b (c && (d && (e && f))) _ ∙ (note-both c (d && (e && f)) _ ∙ (note-both d (e && f) _ ∙ note-both e f _)))
-
+-- ---- the systems of six slices of records
 module _ (n₁ m₁ : ℕ) (ab : List Entry) (n₂ m₂ : ℕ) (bb : List Entry) (n₃ m₃ : ℕ) (cb : List Entry) (n₄ m₄ : ℕ) (af : List Entry) (n₅ m₅ : ℕ)
     (bf : List Entry) (n₆ m₆ : ℕ) (cf : List Entry) where
   abbrev pub binOf : Lent3
@@ -128,37 +106,15 @@ module _ (n₁ m₁ : ℕ) (ab : List Entry) (n₂ m₂ : ℕ) (bb : List Entry)
   abbrev pub fldOf : Lent3
   fldOf = system (lentOf n₄ m₄ af) (lentOf n₅ m₅ bf) (lentOf n₆ m₆ cf)
 
-  abbrev pub insideOf : Bool
-  insideOf = inside n₁ m₁ ab && (inside n₂ m₂ bb && (inside n₃ m₃ cb && (inside n₄ m₄ af && (inside n₅ m₅ bf && inside n₆ m₆ cf))))
+-- ---- two numbers, as one
+pub first-refusal-none : (z c : ℕ) → z ≡ 0 → c ≡ firstRefusalOf z c
+unfolding firstRefusalOf
+first-refusal-none z zero e = rw e
+first-refusal-none z (suc c) e = rw (e, ne-eqb (suc c) 0 (λ h. omega arith))
 
-  pub counted-is : noted 0 (countedOf (length ab) (length bb) (length cb) (length af) (length bf) (length cf) insideOf)
-      ≡ noted 0 (counted3 binOf ++ (counted3 fldOf ++ (placed3 binOf ++ placed3 fldOf)))
-  counted-is =
-      rw (
-        six (inside n₁ m₁ ab) (inside n₂ m₂ bb) (inside n₃ m₃ cb) (inside n₄ m₄ af) (inside n₅ m₅ bf) (inside n₆ m₆ cf),
-        one-placed n₁ m₁ ab,
-        one-placed n₂ m₂ bb,
-        one-placed n₃ m₃ cb,
-        one-placed n₄ m₄ af,
-        one-placed n₅ m₅ bf,
-        one-placed n₆ m₆ cf,
-        one-counted n₁ m₁ ab,
-        one-counted n₂ m₂ bb,
-        one-counted n₃ m₃ cb,
-        one-counted n₄ m₄ af,
-        one-counted n₅ m₅ bf,
-        one-counted n₆ m₆ cf,
-      )
-
--- ---- two numbers joined
-pub joined-none : (z c : ℕ) → z ≡ 0 → c ≡ joined z c
-unfolding joined
-joined-none z zero e = rw e
-joined-none z (suc c) e = rw (e, ne-eqb (suc c) 0 (λ h. omega arith))
-
-pub joined-low : (z c : ℕ) → (z ≡ 0 → ⊥) → z ≤ 5 → z ≡ joined z c
-unfolding joined
-joined-low z c h l = rw (le-leb 1 z (some z h), le-leb z 5 l)
+pub first-refusal-low : (z c : ℕ) → (z ≡ 0 → ⊥) → z ≤ 5 → z ≡ firstRefusalOf z c
+unfolding firstRefusalOf
+first-refusal-low z c h l = rw (le-leb 1 z (some z h), le-leb z 5 l)
   where
     some : (n : ℕ) → (n ≡ 0 → ⊥) → 1 ≤ n
     some zero h = absurd (h refl)
@@ -168,10 +124,10 @@ past : (b : Bool) (z d : ℕ) → cond (b && false) z d ≡ d
 past true z d = refl
 past false z d = refl
 
-pub joined-late : (z c : ℕ) → 5 < z → c ≡ 0 → z ≡ joined z c
-unfolding joined
-joined-late z c l e = rw (lt-leb z 5 l, e) (sym (past (leb 1 z) z z))
+pub first-refusal-late : (z c : ℕ) → 5 < z → c ≡ 0 → z ≡ firstRefusalOf z c
+unfolding firstRefusalOf
+first-refusal-late z c l e = rw (lt-leb z 5 l, e) (sym (past (leb 1 z) z z))
 
-pub joined-first : (z c : ℕ) → 5 < z → (c ≡ 0 → ⊥) → c ≡ joined z c
-unfolding joined
-joined-first z c l h = rw (lt-leb z 5 l, ne-eqb c 0 h) (sym (past (leb 1 z) z c))
+pub first-refusal-first : (z c : ℕ) → 5 < z → (c ≡ 0 → ⊥) → c ≡ firstRefusalOf z c
+unfolding firstRefusalOf
+first-refusal-first z c l h = rw (lt-leb z 5 l, ne-eqb c 0 h) (sym (past (leb 1 z) z c))

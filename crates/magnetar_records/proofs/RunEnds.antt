@@ -1,30 +1,20 @@
 -- How the verifier over records ends: what its stages gave is the core's outcome for the matrices that are lent.
 -- Assumes nothing.
-use mathlib.Core.Path.{_≡_, refl, sym, ap, ap₂, _∙_, subst}
+use mathlib.Core.Path.{_≡_, refl, sym, ap, _∙_, subst}
 use mathlib.Core.Bool.{Bool, true, false, cond, false≢true}
-use mathlib.Core.List.{List, [], _++_, append-assoc}
-use Prim.Native.Nat.{ℕ, zero, suc, _+_, _-_, _*_, _/_, _^_, _≤_, _<_, min, max}
-use lib.Pow.{pow-mono}
-use native.Mathlib.Nat.{lt-of-not-le}
+use mathlib.Core.List.{List, [], _++_}
+use Prim.Native.Nat.{ℕ, zero, suc, _+_, _*_, _/_, _≤_, min, max}
 use native.Mathlib.Omega.{arith}
 use lib.Dec.{eqb}
-use lib.ListN.{length, take, drop, replicate, length-append, length-take, length-drop, length-replicate}
-use lib.Seq.{take-all, take-take, take-append-le, drop-append-le, drop-append-add, drop-drop, length-take-le}
+use lib.ListN.{length, take, drop, replicate, length-drop, length-replicate}
 use borrow.Author.Tests.{eqb-true, ne-eqb, eq-eqb, le-leb}
-use Rattle.magnetar_field.specs.Sizes.{log₂}
-use Rattle.magnetar_field.specs.Words.{elements, words, overlaid}
-use Rattle.magnetar_field.proofs.Elements.{overlaid-same}
-use Rattle.magnetar_r1cs.proofs.Points.{log-most}
+use Rattle.magnetar_field.specs.Words.{elements, words}
 use Rattle.magnetar_layout.specs.Every.{every}
 use Rattle.magnetar_hash.specs.declared.transcript.Transcript.{Transcript}
 use Rattle.magnetar_hash.specs.declared.transcript.TranscriptAnswer.{TranscriptAnswer}
 use Rattle.magnetar_layout.specs.Lent.{lent}
-use Rattle.magnetar_layout.proofs.SizeLaws.{Sized}
 use Rattle.magnetar_layout.specs.Tests.{Tests, noted, sizeTests, publicTests, layoutTests}
-use Rattle.magnetar_batch.specs.Systems.{Lent3, system, colTests3, counted3, placed3, systemsTests, pointTests}
-use Rattle.magnetar_batch.specs.Entries.{comboRefusal, comboIn, comboWords}
-use Rattle.magnetar_batch.proofs.SystemLaws.{Fits6, fits6}
-use Rattle.magnetar_batch.proofs.Combos.{combo-length}
+use Rattle.magnetar_batch.specs.Systems.{Lent3, system, colTests3, counted3, placed3}
 use Rattle.magnetar_protocol.specs.Draws.{drawCount, drawsOf}
 use Rattle.magnetar_protocol.specs.Schedule.{outline, schedule}
 use Rattle.magnetar_protocol.specs.Play.{Played, playedFrom}
@@ -37,18 +27,17 @@ use Rattle.magnetar_spartan.specs.Rules.{Rules, rules, relationOf}
 use Rattle.magnetar_spartan.specs.Refusals.{verifyTests, systemRows, counterTests, roomOf, wordTests, proofWords, claimWords, verifierRoom}
 use Rattle.magnetar_spartan.specs.Ready.{Ready, VerifyReady}
 use Rattle.magnetar_spartan.specs.Outcome.{verifyRefusal, verifyOutcome}
-use Rattle.magnetar_spartan.proofs.Combining.{combo-none, combined-front, combined-is, part-length}
 use Rattle.magnetar_spartan.proofs.Verifying.{sizesOf, heard-all, drawn-words, schedule-small}
 use Rattle.magnetar_spartan.proofs.VerifyRun.{Left, out-outer, out-later, out-none}
 use Rattle.magnetar_spartan.proofs.Ended.{Verifiable, verifiable, draws-small, verify-turned}
 use Rattle.magnetar_inplace.specs.declared.records.Entry.{Entry}
 use Rattle.magnetar_inplace.specs.Records.{entriesOfRecords, lentOf}
-use Rattle.magnetar_inplace.specs.Steps.{clearedTo}
-use Rattle.magnetar_records.specs.Steps.{pointIn}
-use Rattle.magnetar_records.specs.Numbers.{joined, countedOf}
-use Rattle.magnetar_records.specs.Stages.{drawnOver, playedTo, stopOf, stopAnswer, stopClaims, stopRoom, noDraws, binAt, fldAt, alphasAt, window, roomElements, runTable, leftAt, verifyLeft}
+use Rattle.magnetar_inplace.specs.Steps.{clearedTo, recordTests6}
+use Rattle.magnetar_records.specs.Numbers.{firstRefusalOf}
+use Rattle.magnetar_records.specs.Stages.{drawnOver, playedTo, stopOf, stopAnswer, stopClaims, stopRoom, noDraws, roomElements, runTable, leftAt, verifyLeft}
 use Rattle.magnetar_records.specs.Outcome.{inPlace}
-use Rattle.magnetar_records.proofs.NumberLaws.{binOf, fldOf, insideOf, counted-is, joined-is, skipped}
+use Rattle.magnetar_records.proofs.NumberLaws.{binOf, fldOf, first-refusal-is, skipped}
+use Rattle.magnetar_inplace.proofs.SixLaws.{insideOf, counted-is}
 use Rattle.magnetar_records.proofs.DrawnTable.{Beyond, in-front, overlaid-length, drawn-combined, drawn-beyond}
 
 -- ---- the room
@@ -166,10 +155,10 @@ module _ (n₁ m₁ : ℕ) (ab : List Entry) (n₂ m₂ : ℕ) (bb : List Entry)
   whole-is x w n c s = refl
 
   pub verify-refused : (x w : List ℕ) (n c s : ℕ) (within : Bool) (k : ℕ) → within ≡ insideOf n₁ m₁ ab n₂ m₂ bb n₃ m₃ cb n₄ m₄ af n₅ m₅ bf n₆ m₆ cf
-      → k ≡ joined (noted 0 (verifyTests bare x w n c s)) (noted 0 (countedOf (length ab) (length bb) (length cb) (length af) (length bf) (length cf) within)) → k ≡ noted 0 (verifyTests R x w n c s)
+      → k ≡ firstRefusalOf (noted 0 (verifyTests bare x w n c s)) (noted 0 (recordTests6 (length ab) (length bb) (length cb) (length af) (length bf) (length cf) within)) → k ≡ noted 0 (verifyTests R x w n c s)
   verify-refused x w n c s within k i e =
-      e ∙ (rw (i, bare-is x w n c s, counted-is n₁ m₁ ab n₂ m₂ bb n₃ m₃ cb n₄ m₄ af n₅ m₅ bf n₆ m₆ cf)
-      (joined-is (early x) (placesOf R) (afterwards w n c s) refl refl) ∙ whole-is x w n c s)
+      e ∙ (rw (i, bare-is x w n c s, counted-is n₁ m₁ ab n₂ m₂ bb n₃ m₃ cb n₄ m₄ af n₅ m₅ bf n₆ m₆ cf 0)
+      (first-refusal-is (early x) (placesOf R) (afterwards w n c s) refl refl) ∙ whole-is x w n c s)
 
   module _ (x w : List ℕ) (t : Transcript) (c s : List ℕ) (k n : ℕ) (en : n ≡ t .«squeeze_ctr»)
       (e : k ≡ noted 0 (verifyTests R x w n (length c) (length s))) where

@@ -1,9 +1,8 @@
 -- What the stages of a run that see no matrix leave, call by call.
 -- Assumes nothing.
 use mathlib.Core.Path.{_≡_, refl, sym, ap, ap₂, _∙_}
-use mathlib.Core.List.{List, _∷_}
-use Prim.Native.Nat.{ℕ, zero, suc, _+_, _-_, _≤_, min}
-use native.Mathlib.Nat.{le-of-suc-le-suc}
+use mathlib.Core.List.{List}
+use Prim.Native.Nat.{ℕ, _+_, _-_, min}
 use native.Mathlib.Omega.{arith}
 use lib.ListN.{take, drop, replicate}
 use borrow.Author.Tests.{ne-eqb, eq-eqb}
@@ -14,6 +13,7 @@ use Rattle.magnetar_checks.specs.Outer.{outerFound}
 use Rattle.magnetar_checks.specs.End.{endFound, endRoom}
 use Rattle.magnetar_checks.specs.Claims.{claimsOut}
 use Rattle.magnetar_inplace.specs.Steps.{clearedTo}
+use Rattle.magnetar_batch.proofs.Rooms.{take-zeros}
 use Rattle.magnetar_records.specs.Steps.{padded}
 use Rattle.magnetar_records.specs.Stages.{drawnOver, playedTo, stopOf, stopAnswer, stopClaims, stopRoom, noDraws, roomElements, window, verifyLeft}
 use Rattle.magnetar_records.specs.Outcome.{inPlace}
@@ -22,11 +22,6 @@ pub window-is : (n k a : ℕ) (d r : List ℕ) → a ≡ min k (256 - n) → r �
 window-is n k a d r h e =
     let w : a + n - a ≡ n = omega arith in
     e ∙ rw (w, h)
-
-take-zeros : (n m : ℕ) → n ≤ m → take {A = ℕ} n (replicate m 0) ≡ replicate n 0
-take-zeros zero m h = refl
-take-zeros (suc n) zero h = absurd (omega arith)
-take-zeros (suc n) (suc m) h = ap (λ (l : List ℕ). 0 ∷ l) (take-zeros n m (le-of-suc-le-suc h))
 
 -- a part of 256 words of 0
 pub zeros-part : (k n : ℕ) → k ≡ min n 256 → take {A = ℕ} (k - 0) (replicate 256 0) ≡ replicate (min n 256) 0

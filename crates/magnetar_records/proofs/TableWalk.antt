@@ -24,7 +24,7 @@ use Rattle.magnetar_r1cs.proofs.TableLaws.{added-length, raised-length}
 use Rattle.magnetar_inplace.specs.Steps.{between, clearedTo}
 use Rattle.magnetar_inplace.proofs.RecordLaws.{one-added, raised-none, raised-more, words-length, front-read, zeros-cleared, cleared-words}
 use Rattle.magnetar_inplace.proofs.StepLaws.{rest-is, behind-is, cleared-none}
-use Rattle.magnetar_records.specs.Steps.{columnAdded, columnsAdded, seeded, clearedBehind, pointIn, tableMade}
+use Rattle.magnetar_records.specs.Steps.{columnAdded, columnsAdded, eqBehind, clearedBehind, pointIn, tableMade}
 
 -- ---- the loop over one matrix
 pub columns-more : (m n : ℕ) (e : matrix.Entry) (es : List matrix.Entry) (s s′ : List ℕ) → s′ ≡ columnAdded m n e s
@@ -37,22 +37,22 @@ unfolding columnsAdded
 columns-end m n s = refl
 
 -- ---- the steps' parts of the words
-pub seeded-some : (m c : ℕ) (p s t : List ℕ) → 2 * m ≤ length s → t ≡ scaledOut p c (take (length s - 2 * m) (drop (2 * m) s))
-    → putMid (2 * m) (length s - 2 * m) s t ≡ seeded m c p s
-unfolding seeded
-seeded-some m c p s t h e = behind-is (2 * m) s t ∙ rw (le-leb (2 * m) (length s) h, e, rest-is (2 * m) s)
+pub eq-behind-some : (m c : ℕ) (p s t : List ℕ) → 2 * m ≤ length s → t ≡ scaledOut p c (take (length s - 2 * m) (drop (2 * m) s))
+    → putMid (2 * m) (length s - 2 * m) s t ≡ eqBehind m c p s
+unfolding eqBehind
+eq-behind-some m c p s t h e = behind-is (2 * m) s t ∙ rw (le-leb (2 * m) (length s) h, e, rest-is (2 * m) s)
 
 -- with a point and a factor that a step reads
-pub seeded-read : (m n l j v k : ℕ) (al p s t : List ℕ) → 2 * m ≤ length s → l ≡ min (2 * j) 32 → j ≡ log₂ n → v ≡ getD (elements al) k 0
+pub eq-behind-read : (m n l j v k : ℕ) (al p s t : List ℕ) → 2 * m ≤ length s → l ≡ min (2 * j) 32 → j ≡ log₂ n → v ≡ getD (elements al) k 0
     → t ≡ scaledOut (take (l - 0) p) v (take (length s - 2 * m) (drop (2 * m) s))
-    → putMid (2 * m) (length s - 2 * m) s t ≡ seeded m (getD (elements al) k 0) (pointIn n p) s
-seeded-read m n l j v k al p s t h hl hj hv e =
+    → putMid (2 * m) (length s - 2 * m) s t ≡ eqBehind m (getD (elements al) k 0) (pointIn n p) s
+eq-behind-read m n l j v k al p s t h hl hj hv e =
     let d : l - 0 ≡ min (2 * log₂ n) 32 = omega (arith, ap (λ (i : ℕ). 2 * i) hj) in
-    seeded-some m (getD (elements al) k 0) (pointIn n p) s t h (e ∙ rw (d, hv))
+    eq-behind-some m (getD (elements al) k 0) (pointIn n p) s t h (e ∙ rw (d, hv))
 
-pub seeded-none : (m c : ℕ) (p s : List ℕ) → length s < 2 * m → s ≡ seeded m c p s
-unfolding seeded
-seeded-none m c p s h = rw (lt-leb (2 * m) (length s) h)
+pub eq-behind-none : (m c : ℕ) (p s : List ℕ) → length s < 2 * m → s ≡ eqBehind m c p s
+unfolding eqBehind
+eq-behind-none m c p s h = rw (lt-leb (2 * m) (length s) h)
 
 -- the first m elements, copied and cleared
 pub moved : (m : ℕ) (s t o out : List ℕ) → 2 * m ≤ length s → o ≡ overlaid (take (2 * m - 0) s) out → t ≡ replicate (length (take (2 * m - 0) s)) 0
@@ -134,10 +134,10 @@ module _ (m n c : ℕ) (p : List ℕ) (w : Row n p) where
   factors-length : length (scaledTable c (elements p)) ≡ n
   factors-length = scaled-length c (elements p) ∙ (ap (λ (i : ℕ). 2 ^ i) (elements-length p) ∙ sym (w .power))
 
-  seeded-are : (t b r : List ℕ) → length t ≡ m → 2 * n ≤ length b
-      → seeded m c p (words t ++ (b ++ r)) ≡ words t ++ (words (scaledTable c (elements p)) ++ (drop (2 * n) b ++ r))
-  unfolding seeded
-  seeded-are t b r l h =
+  eq-behind-are : (t b r : List ℕ) → length t ≡ m → 2 * n ≤ length b
+      → eqBehind m c p (words t ++ (b ++ r)) ≡ words t ++ (words (scaledTable c (elements p)) ++ (drop (2 * n) b ++ r))
+  unfolding eqBehind
+  eq-behind-are t b r l h =
       let d : length (words t) ≡ 2 * m = doubled m t l in
       let k : 2 * m ≤ length (words t ++ (b ++ r)) = rw length-append (omega (arith, d)) in
       let tw : tableWords p ≡ 2 * n = ap (λ (i : ℕ). 2 * i) (sym (w .power)) in
@@ -146,11 +146,11 @@ module _ (m n c : ℕ) (p : List ℕ) (w : Row n p) where
       rw (le-leb (2 * m) (length (words t ++ (b ++ r))) k, take-at (words t) (b ++ r) (2 * m) d, drop-at (words t) (b ++ r) (2 * m) d, none, tw, drop-append-le (2 * n) b r h)
 
   pub matrix-held : (k : ℕ) (t r s : List ℕ) (es : List matrix.Entry) → 2 * n ≤ k → Held m k t r s
-      → Held m k (raised (columnOf c p es) t) r (columnsAdded m n es (seeded m c p s))
+      → Held m k (raised (columnOf c p es) t) r (columnsAdded m n es (eqBehind m c p s))
   matrix-held k t r s es h g = record {
     behind = words (scaledTable c (elements p)) ++ drop (2 * n) (g .behind);
-    is = ap (λ (u : List ℕ). columnsAdded m n es (seeded m c p u)) (g .is)
-        ∙ (ap (columnsAdded m n es) (seeded-are t (g .behind) r (g .wide) (omega (arith, h, g .long)))
+    is = ap (λ (u : List ℕ). columnsAdded m n es (eqBehind m c p u)) (g .is)
+        ∙ (ap (columnsAdded m n es) (eq-behind-are t (g .behind) r (g .wide) (omega (arith, h, g .long)))
         ∙ (columns-are m n (scaledTable c (elements p)) (drop (2 * n) (g .behind) ++ r) factors-length es t (g .wide)
         ∙ ap (λ (u : List ℕ). words (raised (columnOf c p es) t) ++ u) (sym (append-assoc (words (scaledTable c (elements p))) (drop (2 * n) (g .behind)) r))));
     wide = raised-length (columnOf c p es) t ∙ g .wide;

@@ -1,4 +1,4 @@
--- What the stages of a run that see no matrix leave. Only private contracts, and those of what the
+-- What the stages of a run leave: draws, checks, claims, and the combined table at the draws. Only private contracts, and those of what the
 -- prover over records is made of too, cite these definitions.
 -- Assumes nothing.
 use mathlib.Core.Bool.{cond}
@@ -77,12 +77,12 @@ roomElements m b f = 2 * m + 2 * max b f
 
 -- ---- a run's table, and what the checks and claims leave with it
 -- the combined table, in front of s, at the words d of the draws, with the entries of six matrices
-abbrev pub tableAt : (m q b f : ℕ) → (d : List ℕ) → (ab bb cb af bf cf : List Entry) → (s : List ℕ) → List ℕ
-tableAt m q b f d ab bb cb af bf cf s =
+abbrev pub tableAtDraws : (m q b f : ℕ) → (d : List ℕ) → (ab bb cb af bf cf : List Entry) → (s : List ℕ) → List ℕ
+tableAtDraws m q b f d ab bb cb af bf cf s =
     tableMade m b f (window 12 (alphasAt q b f) d) (window 32 (binAt q b f) d) (window 32 (fldAt q b f) d) ab bb cb af bf cf s
 
 abbrev pub runTable : (m q b f : ℕ) → (ns w : List ℕ) → Transcript → (ab bb cb af bf cf : List Entry) → (s : List ℕ) → List ℕ
-runTable m q b f ns w t ab bb cb af bf cf s = tableAt m q b f (drawnOver m q b f ns w t (replicate 256 0)) ab bb cb af bf cf s
+runTable m q b f ns w t ab bb cb af bf cf s = tableAtDraws m q b f (drawnOver m q b f ns w t (replicate 256 0)) ab bb cb af bf cf s
 
 -- what is left where the checks run with the words d of the draws and the table in front of s
 abbrev pub leftAt : (m q b f : ℕ) → (ns x w d : List ℕ) → Transcript → (c s : List ℕ) → Verified

@@ -23,8 +23,8 @@ columnsAdded m n [] s = s
 columnsAdded m n (e ∷ es) s = columnsAdded m n es (columnAdded m n e s)
 
 -- c times the eq table of the point p behind the first m elements; nothing where they are fewer
-unfoldable pub seeded : ℕ → ℕ → List ℕ → List ℕ → List ℕ
-seeded m c p s = cond (leb (2 * m) (length s)) (take (2 * m) s ++ scaledOut p c (drop (2 * m) s)) s
+unfoldable pub eqBehind : ℕ → ℕ → List ℕ → List ℕ → List ℕ
+eqBehind m c p s = cond (leb (2 * m) (length s)) (take (2 * m) s ++ scaledOut p c (drop (2 * m) s)) s
 
 -- 0 in the k elements behind the first m; nothing where they are fewer
 unfoldable pub clearedBehind : ℕ → ℕ → List ℕ → List ℕ
@@ -41,7 +41,7 @@ pointIn n p = take (min (2 * log₂ n) 32) p
 
 -- a matrix of n rows, times alpha k at the row point p, added to the table of m elements
 abbrev pub matrixAdded : ℕ → ℕ → List ℕ → ℕ → List ℕ → List Entry → List ℕ → List ℕ
-matrixAdded m n al k p es s = columnsAdded m n es (seeded m (getD (elements al) k 0) (pointIn n p) s)
+matrixAdded m n al k p es s = columnsAdded m n es (eqBehind m (getD (elements al) k 0) (pointIn n p) s)
 
 -- the six of them on a table of 0, and 0 behind it
 abbrev pub tableMade : (m n k : ℕ) → (al p r : List ℕ) → (ab bb cb af bf cf : List Entry) → (s : List ℕ) → List ℕ

@@ -1,15 +1,14 @@
 // The combined table over six slices of entry records (`build_m_combo`).
 ghost use mathlib.Core.Path.{_≡_};
-ghost use mathlib.Core.Bool.{_&&_, cond};
+ghost use mathlib.Core.Bool.{cond};
 ghost use Prim.Native.Nat.{_*_};
 ghost use lib.Dec.{eqb};
 ghost use lib.ListN.{length, take};
 ghost use Rattle.magnetar_field.specs.Words.{overlaid};
-ghost use Rattle.magnetar_layout.specs.Every.{every};
 ghost use Rattle.magnetar_batch.specs.Systems.{system};
 ghost use Rattle.magnetar_batch.specs.Entries.{mComboRefusal};
 ghost use Rattle.magnetar_inplace.specs.Records.{entriesOfRecords, lentOf};
-ghost use Rattle.magnetar_inplace.specs.Steps.{liesIn, clearedTo};
+ghost use Rattle.magnetar_inplace.specs.Steps.{clearedTo};
 ghost use Rattle.magnetar_records.specs.Steps.{columnsAdded, padded, matrixAdded, tableMade};
 ghost use Rattle.magnetar_records.specs.Outcome.{combinedAs, comboOutcome};
 use crate::refusal;
@@ -41,7 +40,7 @@ fn add_matrix(
 )
     ensures { λ _. ⌜ now (s .exit) ≡ matrixAdded m n al k p (entriesOfRecords (now (es .entry))) (now (s .entry)) ⌝ }
 {
-    steps::seed(s, m, n, al, k, p);
+    steps::eq_behind(s, m, n, al, k, p);
     add_columns(es, m, n, s);
 }
 
@@ -136,38 +135,6 @@ fn fill_unless(
     }
 }
 
-// Every record of the six slices lies inside its matrix.
-pub fn all_six(
-    abrows: usize,
-    abcols: usize,
-    ab: &[Entry],
-    bbrows: usize,
-    bbcols: usize,
-    bb: &[Entry],
-    cbrows: usize,
-    cbcols: usize,
-    cb: &[Entry],
-    afrows: usize,
-    afcols: usize,
-    af: &[Entry],
-    bfrows: usize,
-    bfcols: usize,
-    bf: &[Entry],
-    cfrows: usize,
-    cfcols: usize,
-    cf: &[Entry],
-) -> bool
-    ensures { λ r. ⌜ r ≡ every (liesIn abrows abcols) (entriesOfRecords (now (ab .entry))) && (every (liesIn bbrows bbcols) (entriesOfRecords (now (bb .entry))) && (every (liesIn cbrows cbcols) (entriesOfRecords (now (cb .entry))) && (every (liesIn afrows afcols) (entriesOfRecords (now (af .entry))) && (every (liesIn bfrows bfcols) (entriesOfRecords (now (bf .entry))) && (every (liesIn cfrows cfcols) (entriesOfRecords (now (cf .entry)))))))) ⌝ }
-{
-    let i0 = records::all_inside(ab, abrows, abcols);
-    let i1 = records::all_inside(bb, bbrows, bbcols);
-    let i2 = records::all_inside(cb, cbrows, cbcols);
-    let i3 = records::all_inside(af, afrows, afcols);
-    let i4 = records::all_inside(bf, bfrows, bfcols);
-    let i5 = records::all_inside(cf, cfrows, cfcols);
-    steps::all6(i0, i1, i2, i3, i4, i5)
-}
-
 // The refusals of `build_m_combo`; out and scratch are numbers of words.
 fn refused(
     m: usize,
@@ -197,7 +164,7 @@ fn refused(
 ) -> u32
     ensures { λ r. ⌜ r ≡ mComboRefusal m (system (lentOf abrows abcols (now (ab .entry))) (lentOf bbrows bbcols (now (bb .entry))) (lentOf cbrows cbcols (now (cb .entry)))) (system (lentOf afrows afcols (now (af .entry))) (lentOf bfrows bfcols (now (bf .entry))) (lentOf cfrows cfcols (now (cf .entry)))) (now (alphas .entry)) (now (pb .entry)) (now (pf .entry)) out scratch ⌝ }
 {
-    let inside = all_six(
+    let inside = records::all_six(
         abrows,
         abcols,
         ab,

@@ -4,35 +4,20 @@ ghost use mathlib.Core.List.{[], _++_};
 ghost use Prim.Native.Nat.{_≤_};
 ghost use Rattle.magnetar_layout.specs.Lent.{lent};
 ghost use Rattle.magnetar_layout.specs.Tests.{noted};
-ghost use Rattle.magnetar_batch.specs.Systems.{system};
+ghost use Rattle.magnetar_batch.specs.Systems.{system, shapeTests6};
+ghost use Rattle.magnetar_inplace.specs.Steps.{recordTests6};
 ghost use Rattle.magnetar_spartan.specs.Rules.{rules};
 ghost use Rattle.magnetar_spartan.specs.Refusals.{verifyTests};
-ghost use Rattle.magnetar_records.specs.Numbers.{joined, countedOf, frontOf, pointsOf};
+ghost use Rattle.magnetar_records.specs.Numbers.{firstRefusalOf, pointsOf};
 use crate::steps;
 use magnetar_batch::systems;
+use magnetar_inplace::steps as walks;
 use magnetar_layout::tests;
 use magnetar_spartan::refusal;
 
-// 6 and 7 of six slices of records, by their lengths.
-pub fn counted(
-    ab: usize,
-    bb: usize,
-    cb: usize,
-    af: usize,
-    bf: usize,
-    cf: usize,
-    inside: bool,
-) -> u32
-    ensures { λ r. ⌜ r ≡ noted 0 (countedOf ab bb cb af bf cf inside) ⌝ }
-{
-    let z = systems::counts3(0, ab, ab, ab, ab, bb, bb, bb, bb, cb, cb, cb, cb);
-    let z = systems::counts3(z, af, af, af, af, bf, bf, bf, bf, cf, cf, cf, cf);
-    tests::note(z, 7, !inside)
-}
-
 // z where it is 1 to 5; else c where it is a refusal; else z.
 pub fn join(z: u32, c: u32) -> u32
-    ensures { λ r. ⌜ r ≡ joined z c ⌝ }
+    ensures { λ r. ⌜ r ≡ firstRefusalOf z c ⌝ }
 {
     if z == 0 {
         return c;
@@ -44,31 +29,6 @@ pub fn join(z: u32, c: u32) -> u32
         return z;
     }
     c
-}
-
-// 1, 4 and 5 of both systems.
-fn front(
-    m: usize,
-    abrows: usize,
-    abcols: usize,
-    bbrows: usize,
-    bbcols: usize,
-    cbrows: usize,
-    cbcols: usize,
-    afrows: usize,
-    afcols: usize,
-    bfrows: usize,
-    bfcols: usize,
-    cfrows: usize,
-    cfcols: usize,
-) -> u32
-    ensures { λ r. ⌜ r ≡ noted 0 (frontOf m abrows bbrows cbrows afrows bfrows cfrows abcols bbcols cbcols afcols bfcols cfcols) ⌝ }
-{
-    let z = tests::note(0, 1, !tests::is_size(2, 65536, m));
-    let z = systems::rows3(z, abrows, bbrows, cbrows);
-    let z = systems::rows3(z, afrows, bfrows, cfrows);
-    let z = systems::cols3(z, m, abcols, bbcols, cbcols);
-    systems::cols3(z, m, afcols, bfcols, cfcols)
 }
 
 // 11 and 15 of the combined table: the words of the alphas and the points, and the room.
@@ -120,10 +80,10 @@ pub(crate) fn combo(
     out: usize,
     scratch: usize,
 ) -> u32
-    ensures { λ r. ⌜ r ≡ joined (noted 0 (frontOf m abrows bbrows cbrows afrows bfrows cfrows abcols bbcols cbcols afcols bfcols cfcols ++ pointsOf m abrows afrows al pb pf scratch out)) (noted 0 (countedOf ab bb cb af bf cf inside)) ⌝ }
+    ensures { λ r. ⌜ r ≡ firstRefusalOf (noted 0 (shapeTests6 m abrows bbrows cbrows afrows bfrows cfrows abcols bbcols cbcols afcols bfcols cfcols ++ pointsOf m abrows afrows al pb pf scratch out)) (noted 0 (recordTests6 ab bb cb af bf cf inside)) ⌝ }
 {
-    let c = counted(ab, bb, cb, af, bf, cf, inside);
-    let z = front(
+    let c = walks::records6(0, ab, bb, cb, af, bf, cf, inside);
+    let z = systems::shapes6(
         m,
         abrows,
         abcols,
@@ -175,13 +135,13 @@ pub(crate) fn verify(
     claims: usize,
     scratch: usize,
 ) -> u32
-    ensures { λ r. ⌜ r ≡ joined (noted 0 (verifyTests (rules m q (now (lens .entry)) (system (lent abrows abcols [] [] [] []) (lent bbrows bbcols [] [] [] []) (lent cbrows cbcols [] [] [] [])) (system (lent afrows afcols [] [] [] []) (lent bfrows bfcols [] [] [] []) (lent cfrows cfcols [] [] [] []))) (now (x .entry)) (now (proof .entry)) n claims scratch)) (noted 0 (countedOf ab bb cb af bf cf inside)) ⌝ }
+    ensures { λ r. ⌜ r ≡ firstRefusalOf (noted 0 (verifyTests (rules m q (now (lens .entry)) (system (lent abrows abcols [] [] [] []) (lent bbrows bbcols [] [] [] []) (lent cbrows cbcols [] [] [] [])) (system (lent afrows afcols [] [] [] []) (lent bfrows bfcols [] [] [] []) (lent cfrows cfcols [] [] [] []))) (now (x .entry)) (now (proof .entry)) n claims scratch)) (noted 0 (recordTests6 ab bb cb af bf cf inside)) ⌝ }
 {
     let places = [0usize; 1];
     let values = [0u64; 1];
     let p = &places[0..0];
     let v = &values[0..0];
-    let c = counted(ab, bb, cb, af, bf, cf, inside);
+    let c = walks::records6(0, ab, bb, cb, af, bf, cf, inside);
     let z = refusal::verify(
         m,
         q,

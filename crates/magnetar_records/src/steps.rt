@@ -1,13 +1,12 @@
 // What the combined table is made of: one record, and the words for one matrix.
 ghost use mathlib.Core.Path.{_≡_};
-ghost use mathlib.Core.Bool.{_&&_};
 ghost use Prim.Native.Nat.{_+_, _*_, _≤_, min, max};
 ghost use lib.ListN.{getD, take};
 ghost use Rattle.magnetar_field.specs.Sizes.{log₂};
 ghost use Rattle.magnetar_field.specs.Words.{elements, overlaid};
 ghost use Rattle.magnetar_inplace.specs.Records.{entryOf};
 ghost use Rattle.magnetar_inplace.specs.Steps.{clearedTo};
-ghost use Rattle.magnetar_records.specs.Steps.{columnAdded, seeded, clearedBehind, padded, pointIn};
+ghost use Rattle.magnetar_records.specs.Steps.{columnAdded, eqBehind, clearedBehind, padded, pointIn};
 use magnetar_field::eq;
 use magnetar_field::gf128::Gf128;
 use magnetar_field::sizes;
@@ -47,8 +46,8 @@ pub fn larger(a: usize, b: usize) -> usize
 }
 
 // Puts alpha k times the eq table of the row point p, for n rows, behind the first m elements.
-pub(crate) fn seed(s: &mut [u64], m: usize, n: usize, al: [u64; 12], k: usize, p: [u64; 32])
-    ensures { λ _. ⌜ now (s .exit) ≡ seeded m (getD (elements al) k 0) (pointIn n p) (now (s .entry)) ⌝ }
+pub(crate) fn eq_behind(s: &mut [u64], m: usize, n: usize, al: [u64; 12], k: usize, p: [u64; 32])
+    ensures { λ _. ⌜ now (s .exit) ≡ eqBehind m (getD (elements al) k 0) (pointIn n p) (now (s .entry)) ⌝ }
 {
     let c = words::get(&al, k);
     let l = least(2 * log(n), 32);
@@ -71,24 +70,6 @@ pub(crate) fn clear_behind(s: &mut [u64], m: usize, nb: usize, nf: usize)
             words::clear(&mut s[a..e]);
         }
     }
-}
-
-// Six flags.
-pub(crate) fn all6(a: bool, b: bool, c: bool, d: bool, e: bool, f: bool) -> bool
-    ensures { λ r. ⌜ r ≡ a && (b && (c && (d && (e && f)))) ⌝ }
-{
-    if a {
-        if b {
-            if c {
-                if d {
-                    if e {
-                        return f;
-                    }
-                }
-            }
-        }
-    }
-    false
 }
 
 // The alphas, as an array.

@@ -8,12 +8,13 @@ ghost use Rattle.magnetar_spartan.specs.Rules.{rules};
 ghost use Rattle.magnetar_spartan.specs.Refusals.{verifyTests};
 ghost use Rattle.magnetar_spartan.specs.Outcome.{verifyOutcome};
 ghost use Rattle.magnetar_inplace.specs.Records.{entriesOfRecords, lentOf};
-ghost use Rattle.magnetar_records.specs.Stages.{verifyLeft, tableAt, runTable};
+ghost use Rattle.magnetar_records.specs.Stages.{verifyLeft, tableAtDraws, runTable};
 ghost use Rattle.magnetar_records.specs.Outcome.{inPlace};
 use crate::combo;
 use crate::refusal;
 use crate::stages;
 use magnetar_hash::transcript::Transcript;
+use magnetar_inplace::records;
 use magnetar_inplace::records::Entry;
 use magnetar_inplace::steps as walks;
 use magnetar_inplace::transcript;
@@ -33,7 +34,7 @@ pub fn combine_at(
     bf: &[Entry],
     cf: &[Entry],
 )
-    ensures { λ _. ⌜ now (s .exit) ≡ tableAt m q rb rf d (entriesOfRecords (now (ab .entry))) (entriesOfRecords (now (bb .entry))) (entriesOfRecords (now (cb .entry))) (entriesOfRecords (now (af .entry))) (entriesOfRecords (now (bf .entry))) (entriesOfRecords (now (cf .entry))) (now (s .entry)) ⌝ }
+    ensures { λ _. ⌜ now (s .exit) ≡ tableAtDraws m q rb rf d (entriesOfRecords (now (ab .entry))) (entriesOfRecords (now (bb .entry))) (entriesOfRecords (now (cb .entry))) (entriesOfRecords (now (af .entry))) (entriesOfRecords (now (bf .entry))) (entriesOfRecords (now (cf .entry))) (now (s .entry)) ⌝ }
 {
     let al = stages::run_alphas(q, rb, rf, d);
     let pb = stages::bin_point(q, rb, rf, d);
@@ -185,7 +186,7 @@ fn refused(
 ) -> u32
     ensures { λ r. ⌜ r ≡ noted 0 (verifyTests (rules m q (now (lens .entry)) (system (lentOf abrows abcols (now (ab .entry))) (lentOf bbrows bbcols (now (bb .entry))) (lentOf cbrows cbcols (now (cb .entry)))) (system (lentOf afrows afcols (now (af .entry))) (lentOf bfrows bfcols (now (bf .entry))) (lentOf cfrows cfcols (now (cf .entry))))) (now (x .entry)) (now (proof .entry)) n claims scratch) ⌝ }
 {
-    let inside = combo::all_six(
+    let inside = records::all_six(
         abrows,
         abcols,
         ab,

@@ -21,8 +21,10 @@ use Rattle.magnetar_spartan.specs.Outcome.{proveRefusal, proveOutcome}
 use Rattle.magnetar_spartan.proofs.Ended.{provable, prove-turned}
 use Rattle.magnetar_inplace.specs.declared.records.Entry.{Entry}
 use Rattle.magnetar_inplace.specs.Records.{lentOf}
-use Rattle.magnetar_records.specs.Numbers.{joined, countedOf}
-use Rattle.magnetar_records.proofs.NumberLaws.{binOf, fldOf, insideOf, counted-is, joined-is, skipped}
+use Rattle.magnetar_records.specs.Numbers.{firstRefusalOf}
+use Rattle.magnetar_records.proofs.NumberLaws.{binOf, fldOf, first-refusal-is, skipped}
+use Rattle.magnetar_inplace.specs.Steps.{recordTests6}
+use Rattle.magnetar_inplace.proofs.SixLaws.{insideOf, counted-is}
 use Rattle.magnetar_records_prover.specs.Outcome.{provedInPlace}
 use Rattle.magnetar_records_prover.proofs.ProveEnds.{same}
 
@@ -77,10 +79,10 @@ module _ (n₁ m₁ : ℕ) (ab : List Entry) (n₂ m₂ : ℕ) (bb : List Entry)
   whole-is n w c s = refl
 
   pub prove-refused : (n′ n w c s : ℕ) (within : Bool) (k : ℕ) → n ≡ n′ → within ≡ insideOf n₁ m₁ ab n₂ m₂ bb n₃ m₃ cb n₄ m₄ af n₅ m₅ bf n₆ m₆ cf
-      → k ≡ joined (noted 0 (proveTests bare ws x n w c s)) (noted 0 (countedOf (length ab) (length bb) (length cb) (length af) (length bf) (length cf) within)) → k ≡ noted 0 (proveTests R ws x n′ w c s)
+      → k ≡ firstRefusalOf (noted 0 (proveTests bare ws x n w c s)) (noted 0 (recordTests6 (length ab) (length bb) (length cb) (length af) (length bf) (length cf) within)) → k ≡ noted 0 (proveTests R ws x n′ w c s)
   prove-refused n′ n w c s within k j i e =
-      e ∙ (rw (i, bare-is n w c s, counted-is n₁ m₁ ab n₂ m₂ bb n₃ m₃ cb n₄ m₄ af n₅ m₅ bf n₆ m₆ cf)
-      (joined-is early (placesOf R) (afterwards n w c s) refl refl) ∙ (whole-is n w c s ∙ ap (λ (y : ℕ). noted 0 (proveTests R ws x y w c s)) j))
+      e ∙ (rw (i, bare-is n w c s, counted-is n₁ m₁ ab n₂ m₂ bb n₃ m₃ cb n₄ m₄ af n₅ m₅ bf n₆ m₆ cf 0)
+      (first-refusal-is early (placesOf R) (afterwards n w c s) refl refl) ∙ (whole-is n w c s ∙ ap (λ (y : ℕ). noted 0 (proveTests R ws x y w c s)) j))
 
   module _ (t : Transcript) (w c s : List ℕ) (k : ℕ)
       (e : k ≡ noted 0 (proveTests R ws x (t .«squeeze_ctr») (length w) (length c) (length s))) where

@@ -3,7 +3,7 @@
 use mathlib.Core.Path.{_≡_, refl, sym, ap, ap₂, _∙_, subst}
 use mathlib.Core.List.{List, _++_}
 use Prim.Native.Nat.{ℕ, zero, suc, _+_, _-_, _*_, _/_, _≤_, min}
-use native.Mathlib.Nat.{suc-mul, zero-mul, mul-add}
+use native.Mathlib.Nat.{suc-mul, zero-mul}
 use native.Mathlib.Omega.{arith}
 use lib.ListN.{length, take, drop, length-append}
 use lib.Seq.{take-at, drop-drop}
@@ -22,13 +22,13 @@ use Rattle.magnetar_r1cs.proofs.TableLaws.{elements-words}
 use Rattle.magnetar_protocol.specs.RealRun.{productTables}
 use Rattle.magnetar_rounds.specs.Entries.{blockWords, tablesOf}
 use Rattle.magnetar_rounds.specs.Held.{tableAt}
-use Rattle.magnetar_rounds.proofs.Slots.{take-of-drop, mid-length, mid-before, mid-behind, mid-at, mid-back, fore-length, fore-back, fore-behind}
+use Rattle.magnetar_rounds.proofs.Slots.{take-of-drop, mid-length, mid-before, mid-behind, mid-at, mid-back, fore-length, fore-back}
 use Rattle.magnetar_spartan.specs.Rules.{Rules, relationOf}
-use Rattle.magnetar_spartan.specs.Ready.{FineMatrix, FineSystem, BatchReady, Ready}
+use Rattle.magnetar_spartan.specs.Ready.{FineMatrix, BatchReady, Ready}
 use Rattle.magnetar_spartan.specs.Outcome.{batchOf}
 use Rattle.magnetar_spartan.proofs.ProductTables.{room-is, product-front, product-ready, six-tables}
-use Rattle.magnetar_records_prover.specs.Parts.{tableWords, placeOf, sizeOf, lifted, productPlaced, sixPlaced}
-use Rattle.magnetar_records_prover.proofs.PartLaws.{lifted-some}
+use Rattle.magnetar_records_prover.specs.Parts.{productWords, placeOf, sizeOf, copied, productPlaced, sixPlaced}
+use Rattle.magnetar_records_prover.proofs.PartLaws.{copied-some}
 
 -- ---- one table t of n words, made in front of s and moved to place p
 pub record Placed (n p : ℕ) (t s s′ : List ℕ) : Type 0 where
@@ -51,10 +51,10 @@ module _ (n p : ℕ) (w s : List ℕ) (l : length w ≡ n) (h : n ≤ p) (g : p 
   room : p + n ≤ length made
   room = omega (arith, made-long, g)
 
-  moved-is : lifted p n made ≡ moved
+  moved-is : copied p n made ≡ moved
   moved-is =
       let d : p + n - p ≡ n = omega arith in
-      lifted-some p n made h room ∙ rw (take-at w (drop n s) n l, d)
+      copied-some p n made h room ∙ rw (take-at w (drop n s) n l, d)
 
   from : (o : ℕ) (u : List ℕ) → p + n ≤ o → drop o u ≡ drop (o - (p + n)) (drop (p + n) u)
   from o u k = let q : p + n + (o - (p + n)) ≡ o = omega arith in sym (drop-drop (o - (p + n)) (p + n) u ∙ ap (λ (i : ℕ). drop i u) q)
@@ -64,7 +64,7 @@ module _ (n p : ℕ) (w s : List ℕ) (l : length w ≡ n) (h : n ≤ p) (g : p 
       let q : n + (o - n) ≡ o = omega arith in
       sym (drop-drop (o - n) n made ∙ ap (λ (i : ℕ). drop i made) q) ∙ (ap (drop (o - n)) (fore-back s w n (omega arith) l) ∙ (drop-drop (o - n) n s ∙ ap (λ (i : ℕ). drop i s) q))
 
-  pub placed-moved : (t : List ℕ) → w ≡ words t → Placed n p t s (lifted p n made)
+  pub placed-moved : (t : List ℕ) → w ≡ words t → Placed n p t s (copied p n made)
   placed-moved t e =
       subst (Placed n p t s) (sym moved-is) (record {
         long = mid-length made w p n room l ∙ made-long;
@@ -89,14 +89,14 @@ module _ (m q : ℕ) (ws x : List ℕ) (ready : BatchReady m q (length ws) (leng
   productOf a = packedTable (matrixOf a) ws (elements x) q (m / 2)
 
   pub one-placed : (n : ℕ) (a : Lent) → FineMatrix n m a → Sized 1 65536 n → q * n ≤ 1048576 → (k p : ℕ) → k ≡ 2 * (q * n) → (s : List ℕ) → k ≤ p → p + k ≤ length s
-      → Placed k p (productOf a) s (lifted p k (packedOut a ws x q (m / 2) s))
+      → Placed k p (productOf a) s (copied p k (packedOut a ws x q (m / 2) s))
   one-placed n a f z h k p e s hp hs =
       let c = product-ready n m q k a f z h e in
       let w : q * (2 * a .rows) ≡ k = room-is q (a .rows) ∙ sym (c .1 .1) in
       let o : packedOut a ws x q (m / 2) s ≡ words (productOf a) ++ drop k s =
       product-front m q a ws x s ready (c .0 .0) (c .0 .1) (c .1 .0) (omega (arith, hp, hs, c .1 .1)) ∙ ap (λ (i : ℕ). words (productOf a) ++ drop i s) w in
       let l : length (words (productOf a)) ≡ k = words-length (productOf a) ∙ (ap (λ (i : ℕ). 2 * i) (table-length a ws (elements x) q (m / 2)) ∙ sym (c .1 .1)) in
-      subst (λ (u : List ℕ). Placed k p (productOf a) s (lifted p k u)) (sym o) (placed-moved k p (words (productOf a)) s l hp hs (productOf a) refl)
+      subst (λ (u : List ℕ). Placed k p (productOf a) s (copied p k u)) (sym o) (placed-moved k p (words (productOf a)) s l hp hs (productOf a) refl)
 
 -- ---- all six
 module _ (R : Rules) (P : Ready R) (ws x s : List ℕ) (hw : length ws ≡ R .q * loginWords (R .m / 2)) (hx : length x ≡ R .m - 2)
@@ -107,13 +107,13 @@ module _ (R : Rules) (P : Ready R) (ws x s : List ℕ) (hw : length ws ≡ R .q 
   abbrev F : ℕ
   F = 2 * (R .q * R .fld .a .rows)
 
-  bin-words : tableWords (R .q) (R .bin .a .rows) ≡ B
+  bin-words : productWords (R .q) (R .bin .a .rows) ≡ B
   bin-words =
       let a : min (R .q) 4096 ≡ R .q = omega (arith, P .logins .high) in
       let b : min (R .bin .a .rows) 65536 ≡ R .bin .a .rows = omega (arith, P .fine .bin .rows .high) in
       rw (a, b)
 
-  fld-words : tableWords (R .q) (R .fld .a .rows) ≡ F
+  fld-words : productWords (R .q) (R .fld .a .rows) ≡ F
   fld-words =
       let a : min (R .q) 4096 ≡ R .q = omega (arith, P .logins .high) in
       let b : min (R .fld .a .rows) 65536 ≡ R .fld .a .rows = omega (arith, P .fine .fld .rows .high) in

@@ -1,60 +1,51 @@
 -- How the prover over records ends: what its parts gave is the core's outcome for the matrices that are lent.
 -- Assumes nothing.
 use mathlib.Core.Path.{_≡_, refl, sym, ap, ap₂, _∙_, subst}
-use mathlib.Core.Bool.{Bool, true, false}
-use mathlib.Core.List.{List, [], _++_, reverse}
-use Prim.Native.Nat.{ℕ, zero, suc, _+_, _-_, _*_, _/_, _≤_, min, max}
+use mathlib.Core.List.{List, _++_, reverse}
+use Prim.Native.Nat.{ℕ, zero, suc, _+_, _*_, _/_, _≤_, min, max}
 use native.Mathlib.Nat.{mul-add}
 use native.Mathlib.Omega.{arith}
-use lib.Dec.{eqb}
 use lib.ListN.{length, take, drop, replicate, length-append, length-take, length-drop, length-replicate}
-use lib.Seq.{take-at, drop-at, take-all, take-take, take-append-le, length-take-le}
-use borrow.Author.Tests.{eqb-true, ne-eqb, eq-eqb}
+use lib.Seq.{take-at, drop-at, take-all, take-append-le, length-take-le}
+use borrow.Author.Tests.{ne-eqb}
 use Rattle.magnetar_field.specs.Refusal.{unlessRefused}
 use Rattle.magnetar_field.specs.Sizes.{log₂}
 use Rattle.magnetar_field.specs.Words.{elements, words, overlaid}
-use Rattle.magnetar_field.proofs.Elements.{words-length, elements-length, overlaid-same}
+use Rattle.magnetar_field.proofs.Elements.{words-length, elements-length}
 use Rattle.magnetar_hash.specs.declared.transcript.Transcript.{Transcript}
-use Rattle.magnetar_layout.specs.Every.{every}
-use Rattle.magnetar_layout.specs.Lent.{Lent, lent}
-use Rattle.magnetar_layout.specs.Tests.{Tests, noted, sizeTests, packedTests, publicTests, layoutTests}
-use Rattle.magnetar_layout.proofs.SizeLaws.{Sized}
 use Rattle.magnetar_field.proofs.Tabulation.{tabulate-length}
 use Rattle.magnetar_r1cs.specs.Batch.{folded, foldedAt}
 use Rattle.magnetar_r1cs.specs.Packed.{unpacked}
 use Rattle.magnetar_r1cs.proofs.Points.{log-most}
 use Rattle.magnetar_r1cs.proofs.TableLaws.{elements-words}
-use Rattle.magnetar_batch.specs.Systems.{Lent3, system, colTests3, counted3, placed3}
+use Rattle.magnetar_batch.specs.Systems.{system}
 use Rattle.magnetar_checks.specs.Claims.{claimsOut}
 use Rattle.magnetar_checks.proofs.Pieces.{elements-take}
-use Rattle.magnetar_protocol.specs.Shape.{logCols, beforeInner, proofElements}
 use Rattle.magnetar_protocol.specs.Draws.{drawCount, drawsOf}
 use Rattle.magnetar_protocol.specs.Schedule.{outline}
 use Rattle.magnetar_protocol.specs.Checks.{combined}
 use Rattle.magnetar_protocol.specs.RunSizes.{Elements}
 use Rattle.magnetar_protocol.specs.Stepwise.{Steps}
-use Rattle.magnetar_rounds.specs.Entries.{answerFor, proofFor, drawsFor, scratchFor, blockWords, tablesOf, outerPlayed, innerPlayed}
+use Rattle.magnetar_rounds.specs.Entries.{answerFor, proofFor, drawsFor, scratchFor, blockWords, outerPlayed, innerPlayed}
 use Rattle.magnetar_rounds.proofs.Slots.{take-of-drop}
 use Rattle.magnetar_spartan.specs.Rules.{Rules, rules, relationOf}
-use Rattle.magnetar_spartan.specs.Refusals.{systemRows, counterTests, roomOf, proofWords, claimWords, proverRoom, proveTests}
-use Rattle.magnetar_spartan.specs.Ready.{Ready, InnerReady}
-use Rattle.magnetar_spartan.specs.Outcome.{batchOf, proved, proveRefusal, proveOutcome}
-use Rattle.magnetar_spartan.specs.Later.{outlineOf, drawsBefore, proofBefore, laterSteps, laterTranscript, laterProof, laterDraws, OuterLeft}
+use Rattle.magnetar_spartan.specs.Refusals.{proofWords, claimWords, proverRoom}
+use Rattle.magnetar_spartan.specs.Ready.{Ready}
+use Rattle.magnetar_spartan.specs.Outcome.{batchOf, proveRefusal, proveOutcome}
+use Rattle.magnetar_spartan.specs.Later.{drawsBefore, proofBefore, laterTranscript, laterProof, laterDraws, OuterLeft}
 use Rattle.magnetar_spartan.proofs.Chains.{halves}
 use Rattle.magnetar_spartan.proofs.Complete.{sized-batch}
-use Rattle.magnetar_spartan.proofs.Ended.{Provable, provable, draws-small, prove-turned, prove-through}
+use Rattle.magnetar_spartan.proofs.Ended.{Provable, provable, draws-small, prove-through}
 use Rattle.magnetar_spartan.proofs.LaterRun.{inner-ready, inner-drawn-many, inner-said-many, later-left}
 use Rattle.magnetar_spartan.proofs.ProveRun.{ProveLeft, blocks-fit, outer-left, run-left}
 use Rattle.magnetar_spartan.proofs.SizedRules.{sized-relation}
 use Rattle.magnetar_inplace.specs.declared.records.Entry.{Entry}
 use Rattle.magnetar_inplace.specs.Records.{entriesOfRecords, lentOf}
-use Rattle.magnetar_records.specs.Numbers.{joined, countedOf}
-use Rattle.magnetar_records.specs.Stages.{tableAt}
-use Rattle.magnetar_records.proofs.NumberLaws.{insideOf, counted-is, joined-is, skipped}
+use Rattle.magnetar_records.specs.Stages.{tableAtDraws}
 use Rattle.magnetar_records.proofs.DrawnTable.{over, overlaid-length, drawn-combined, drawn-beyond, log-few}
 use Rattle.magnetar_records_prover.specs.Parts as parts
-use Rattle.magnetar_records_prover.specs.Parts.{tableWords, proofWordsOf, claimWordsOf, sixPlaced}
-use Rattle.magnetar_records_prover.specs.Stages.{drawWordsOf, outerNumber, OuterDone, outerRoom, loginAt, saidBefore, drawnBefore, saidAll, drawnAll, EndReady, LaterReady, laterPlayed, LaterLeft}
+use Rattle.magnetar_records_prover.specs.Parts.{proofWordsOf, claimWordsOf, sixPlaced}
+use Rattle.magnetar_records_prover.specs.Stages.{drawWordsOf, outerNumber, OuterDone, outerRoom, loginAt, saidBefore, drawnBefore, saidAll, drawnAll, LaterReady, laterPlayed, LaterLeft}
 use Rattle.magnetar_records_prover.specs.Outcome.{provedInPlace}
 use Rattle.magnetar_records_prover.proofs.StageLaws.{behind-front}
 use Rattle.magnetar_records_prover.proofs.ProductLaws.{s₆, six-long, six-rest, six-are}
@@ -83,7 +74,7 @@ module _ (R : Rules) (ws x w c s : List ℕ) (t : Transcript) (ok : Provable R w
   segments = P .fine .segments
 
   -- the sizes of the parts
-  room-is : parts.roomOf m q b f ≡ proverRoom R
+  room-is : parts.proverRoomWords m q b f ≡ proverRoom R
   room-is =
       let i : min q 4096 ≡ q = omega (arith, P .logins .high) in
       let j : min m 65536 ≡ m = omega (arith, P .columns .high) in
@@ -317,7 +308,7 @@ scratch-beyond (suc z) n k s h g = rw (ne-eqb (suc z) 0 (λ e. omega arith)) (re
 -- ---- the first part: the products, the outer rounds, the combined table
 module _ (rb rf m q k : ℕ) (ab bb cb af bf cf : List Entry) (ws x w s : List ℕ) (t : Transcript) where
   abbrev pub table : (d y : List ℕ) → List ℕ
-  table d y = tableAt m q rb rf d (entriesOfRecords ab) (entriesOfRecords bb) (entriesOfRecords cb) (entriesOfRecords af) (entriesOfRecords bf) (entriesOfRecords cf) y
+  table d y = tableAtDraws m q rb rf d (entriesOfRecords ab) (entriesOfRecords bb) (entriesOfRecords cb) (entriesOfRecords af) (entriesOfRecords bf) (entriesOfRecords cf) y
 
   -- the products in their places
   abbrev pub placed : List ℕ

@@ -1,11 +1,11 @@
 -- What the parts of a proving run that see no matrix leave, call by call.
 -- Assumes nothing.
 use mathlib.Core.Path.{_≡_, refl, sym, ap, ap₂, _∙_, subst}
-use mathlib.Core.List.{List, [], _++_, reverse, append-assoc}
+use mathlib.Core.List.{List, _++_, reverse, append-assoc}
 use Prim.Native.Nat.{ℕ, _+_, _-_, _*_, _/_, _≤_, min}
 use native.Mathlib.Omega.{arith}
-use lib.ListN.{length, getD, take, drop, replicate, length-append, length-take, length-drop, length-replicate}
-use lib.Seq.{take-at, drop-at, take-take, take-append-le, drop-append-le, drop-append-add, drop-drop, length-take-le}
+use lib.ListN.{length, getD, take, drop, replicate, length-append, length-drop, length-replicate}
+use lib.Seq.{drop-at, take-take, drop-append-add, drop-drop, length-take-le}
 use borrow.Rule.Slice.PartMut.{putMid}
 use Rattle.magnetar_field.specs.Sizes.{log₂}
 use Rattle.magnetar_field.specs.Tabulate.{tabulate}
@@ -23,16 +23,15 @@ use Rattle.magnetar_batch.proofs.Rooms.{back-part, back-put}
 use Rattle.magnetar_protocol.specs.Shape.{logCols, beforeInner, proofElements}
 use Rattle.magnetar_protocol.specs.Draws.{drawCount}
 use Rattle.magnetar_protocol.specs.Schedule.{outline}
-use Rattle.magnetar_protocol.specs.Stepwise.{Steps, begin, innerAll}
+use Rattle.magnetar_protocol.specs.Stepwise.{Steps}
 use Rattle.magnetar_rounds.specs.Entries.{outerRefusal, outerPlayed, blockWords, innerRefusal, innerPlayed, answerFor, proofFor, drawsFor, scratchFor}
-use Rattle.magnetar_rounds.proofs.Slots.{take-of-drop}
 use Rattle.magnetar_rounds.specs.declared.answer.RoundsAnswer.{RoundsAnswer}
 use Rattle.magnetar_checks.specs.Claims.{claimsOut}
 use Rattle.magnetar_spartan.specs.Ready.{FoldReady, InnerReady}
 use Rattle.magnetar_spartan.proofs.Chains.{halves}
 use Rattle.magnetar_spartan.proofs.Combining.{noted-none, size-fine, same-fine, most-fine}
-use Rattle.magnetar_spartan.proofs.LaterRun.{point-reversed, logins-few, fold-front, fold-behind, inner-none, inner-drawn-many, inner-said-many, finish-left}
-use Rattle.magnetar_records_prover.specs.Parts.{proofWordsOf, claimWordsOf, roomOf}
+use Rattle.magnetar_spartan.proofs.LaterRun.{point-reversed, logins-few, fold-front, fold-behind, inner-none, finish-left}
+use Rattle.magnetar_records_prover.specs.Parts.{proofWordsOf, claimWordsOf, proverRoomWords}
 use Rattle.magnetar_records_prover.specs.Stages.{drawWordsOf, OuterDone, outerRoom, loginAt, FoldLeft, saidBefore, drawnBefore, saidAll, drawnAll, InnerLeft, ClaimsLeft, EndReady, EndLeft, LaterReady, laterPlayed, LaterLeft}
 
 -- ---- words behind a front
@@ -201,28 +200,28 @@ module _ (m q b f : ℕ) (ns ws x w d c s : List ℕ) (t : Transcript)
     }
 
     module _ (s₂ s₃ : List ℕ) (u : Transcript) (w′ c′ : List ℕ) (ends : EndLeft m q b f ns w d c s₁ (innerPlayed (outline m 1 1 1 ns) x s₁ t) u w′ c′ s₂)
-        (cleared : s₃ ≡ replicate (min (roomOf m q b f) (length s₂)) 0 ++ drop (min (roomOf m q b f) (length s₂)) s₂) where
+        (cleared : s₃ ≡ replicate (min (proverRoomWords m q b f) (length s₂)) 0 ++ drop (min (proverRoomWords m q b f) (length s₂)) s₂) where
       s₂-long : length s₂ ≡ length s₁
       s₂-long =
           ap length (ends .3) ∙ (length-append (replicate (6 * m) 0) (drop (6 * m) s₁) ∙ omega (arith, length-replicate {A = ℕ} (6 * m) 0, length-drop (6 * m) s₁, same, L .room, L .scratch))
 
-      rest-is′ : drop (roomOf m q b f) s₂ ≡ drop (roomOf m q b f) s
+      rest-is′ : drop (proverRoomWords m q b f) s₂ ≡ drop (proverRoomWords m q b f) s
       rest-is′ =
-          let k : 6 * (m / 2) + 2 * q ≤ roomOf m q b f = omega (arith, even, L .room) in
-          ap (drop (roomOf m q b f)) (ends .3)
-          ∙ (behind-front (6 * m) (roomOf m q b f) (replicate (6 * m) 0) s₁ (length-replicate (6 * m) 0) (omega (arith, L .room))
-          ∙ (from k s₁ ∙ (ap (drop (roomOf m q b f - (6 * (m / 2) + 2 * q))) (folds .2) ∙ sym (from k s))))
+          let k : 6 * (m / 2) + 2 * q ≤ proverRoomWords m q b f = omega (arith, even, L .room) in
+          ap (drop (proverRoomWords m q b f)) (ends .3)
+          ∙ (behind-front (6 * m) (proverRoomWords m q b f) (replicate (6 * m) 0) s₁ (length-replicate (6 * m) 0) (omega (arith, L .room))
+          ∙ (from k s₁ ∙ (ap (drop (proverRoomWords m q b f - (6 * (m / 2) + 2 * q))) (folds .2) ∙ sym (from k s))))
         where
-          from : 6 * (m / 2) + 2 * q ≤ roomOf m q b f → (v : List ℕ) → drop (roomOf m q b f) v ≡ drop (roomOf m q b f - (6 * (m / 2) + 2 * q)) (drop (6 * (m / 2) + 2 * q) v)
+          from : 6 * (m / 2) + 2 * q ≤ proverRoomWords m q b f → (v : List ℕ) → drop (proverRoomWords m q b f) v ≡ drop (proverRoomWords m q b f - (6 * (m / 2) + 2 * q)) (drop (6 * (m / 2) + 2 * q) v)
           from k v =
-              let e : 6 * (m / 2) + 2 * q + (roomOf m q b f - (6 * (m / 2) + 2 * q)) ≡ roomOf m q b f = omega (arith, k) in
-              sym (drop-drop (roomOf m q b f - (6 * (m / 2) + 2 * q)) (6 * (m / 2) + 2 * q) v ∙ ap (λ (i : ℕ). drop i v) e)
+              let e : 6 * (m / 2) + 2 * q + (proverRoomWords m q b f - (6 * (m / 2) + 2 * q)) ≡ proverRoomWords m q b f = omega (arith, k) in
+              sym (drop-drop (proverRoomWords m q b f - (6 * (m / 2) + 2 * q)) (6 * (m / 2) + 2 * q) v ∙ ap (λ (i : ℕ). drop i v) e)
 
       pub later-ends : LaterLeft m q b f ns w d c s (laterPlayed m q b f ns ws x d s t) u w′ c′ s₃
       later-ends =
-          let e : min (roomOf m q b f) (length s₂) ≡ roomOf m q b f = omega (arith, s₂-long, same, L .scratch) in
+          let e : min (proverRoomWords m q b f) (length s₂) ≡ proverRoomWords m q b f = omega (arith, s₂-long, same, L .scratch) in
           subst (λ (p : Steps). LaterLeft m q b f ns w d c s p u w′ c′ s₃) steps-are
-          (ends .0, ends .1, ends .2, cleared ∙ (ap (λ (i : ℕ). replicate i 0 ++ drop i s₂) e ∙ ap (λ (v : List ℕ). replicate (roomOf m q b f) 0 ++ v) rest-is′))
+          (ends .0, ends .1, ends .2, cleared ∙ (ap (λ (i : ℕ). replicate i 0 ++ drop i s₂) e ∙ ap (λ (v : List ℕ). replicate (proverRoomWords m q b f) 0 ++ v) rest-is′))
 
 -- ---- the outer rounds
 pub outer-ends : (m q b f k i n : ℕ) (w s : List ℕ) (t : Transcript) (A : RoundsAnswer) (u : Transcript) (w′ d′ s′ : List ℕ)

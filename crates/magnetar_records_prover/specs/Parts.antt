@@ -11,23 +11,23 @@ use Rattle.magnetar_layout.specs.Lent.{Lent}
 use Rattle.magnetar_r1cs.specs.Entries.{packedOut}
 
 -- one table: 2 words for each of q logins and n rows
-abbrev pub tableWords : ℕ → ℕ → ℕ
-tableWords q n = 2 * (min q 4096 * min n 65536)
+abbrev pub productWords : ℕ → ℕ → ℕ
+productWords q n = 2 * (min q 4096 * min n 65536)
 
 -- where table k stands, and its words: 0 to 3 are those of bin with b rows, 4 to 7 those of fld with f rows
 abbrev pub placeOf : (k q b f : ℕ) → ℕ
-placeOf k q b f = cond (ltb k 4) (k * tableWords q b) (4 * tableWords q b + (min k 7 - 4) * tableWords q f)
+placeOf k q b f = cond (ltb k 4) (k * productWords q b) (4 * productWords q b + (min k 7 - 4) * productWords q f)
 
 abbrev pub sizeOf : (k q b f : ℕ) → ℕ
-sizeOf k q b f = cond (ltb k 4) (tableWords q b) (tableWords q f)
+sizeOf k q b f = cond (ltb k 4) (productWords q b) (productWords q f)
 
 -- the first n words copied to place a; nothing where there is no room for both
-unfoldable pub lifted : (a n : ℕ) → List ℕ → List ℕ
-lifted a n s = cond (leb n a && leb (a + n) (length s)) (take a s ++ (take n s ++ drop n (drop a s))) s
+unfoldable pub copied : (a n : ℕ) → List ℕ → List ℕ
+copied a n s = cond (leb n a && leb (a + n) (length s)) (take a s ++ (take n s ++ drop n (drop a s))) s
 
 -- the products of the matrix a and every login's z as table k
 abbrev pub productPlaced : (k m q b f : ℕ) → Lent → (ws x s : List ℕ) → List ℕ
-productPlaced k m q b f a ws x s = lifted (placeOf k q b f) (sizeOf k q b f) (packedOut a ws x q (m / 2) s)
+productPlaced k m q b f a ws x s = copied (placeOf k q b f) (sizeOf k q b f) (packedOut a ws x q (m / 2) s)
 
 -- those of all six, fld before bin
 abbrev pub sixPlaced : (m q b f : ℕ) → (ab bb cb af bf cf : Lent) → (ws x s : List ℕ) → List ℕ
@@ -42,6 +42,6 @@ proofWordsOf m q b f k = 2 * (8 * log₂ q + 4 * log₂ b + 4 * log₂ f + 6 + 3
 abbrev pub claimWordsOf : (m q k : ℕ) → ℕ
 claimWordsOf m q k = 2 * (log₂ q + (log₂ m - 1) + min k 64)
 
-abbrev pub roomOf : (m q b f : ℕ) → ℕ
-roomOf m q b f =
-    4 * tableWords q b + 4 * tableWords q f + 8 * min m 65536 + 4 * max (min b 65536) (min f 65536) + 4 * min q 4096
+abbrev pub proverRoomWords : (m q b f : ℕ) → ℕ
+proverRoomWords m q b f =
+    4 * productWords q b + 4 * productWords q f + 8 * min m 65536 + 4 * max (min b 65536) (min f 65536) + 4 * min q 4096

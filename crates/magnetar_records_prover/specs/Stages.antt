@@ -19,7 +19,7 @@ use Rattle.magnetar_protocol.specs.Stepwise.{Steps, begin, innerAll}
 use Rattle.magnetar_rounds.specs.Entries.{proofFor, drawsFor, scratchFor, blockWords, outerRefusal, outerPlayed}
 use Rattle.magnetar_checks.specs.Claims.{claimsOut}
 use Rattle.magnetar_spartan.specs.Ready.{InnerReady}
-use Rattle.magnetar_records_prover.specs.Parts.{proofWordsOf, claimWordsOf, roomOf}
+use Rattle.magnetar_records_prover.specs.Parts.{proofWordsOf, claimWordsOf, proverRoomWords}
 
 -- the words of the draws, 256 at most
 abbrev pub drawWordsOf : (m q b f : ℕ) → ℕ
@@ -103,8 +103,8 @@ pub record LaterReady (m q b f : ℕ) (ns : List ℕ) (ws x w c s d : ℕ) : Typ
   pub logins : Sized 1 4096 q
   pub packed : ws ≡ q * loginWords (m / 2)
   pub place : 2 * loginAt q b f + 2 * log₂ q ≤ 256
-  pub room : 6 * m + 2 * q ≤ roomOf m q b f
-  pub scratch : roomOf m q b f ≤ s
+  pub room : 6 * m + 2 * q ≤ proverRoomWords m q b f
+  pub scratch : proverRoomWords m q b f ≤ s
 
 -- its steps: the combined table in front of s, the batch folded at the point of the logins, which is among the words d of the draws
 abbrev pub laterPlayed : (m q b f : ℕ) → (ns ws x d s : List ℕ) → Transcript → Steps
@@ -117,4 +117,4 @@ abbrev pub LaterLeft : (m q b f : ℕ) → (ns w d c s : List ℕ) → Steps →
 LaterLeft m q b f ns w d c s p u w′ c′ s′ =
     (u ≡ p .played .transcript) × (w′ ≡ saidAll q b f w p ++ drop (proofWordsOf m q b f (length ns)) w)
     × (c′ ≡ claimsOut m q b f ns (saidAll q b f w p) (drawnAll q b f d p) (take (claimWordsOf m q (length ns)) c) ++ drop (claimWordsOf m q (length ns)) c)
-    × (s′ ≡ replicate (roomOf m q b f) 0 ++ drop (roomOf m q b f) s)
+    × (s′ ≡ replicate (proverRoomWords m q b f) 0 ++ drop (proverRoomWords m q b f) s)

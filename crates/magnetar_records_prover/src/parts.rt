@@ -4,13 +4,13 @@ ghost use mathlib.Core.Path.{_≡_};
 ghost use mathlib.Core.List.{_++_};
 ghost use Prim.Native.Nat.{_+_, _-_, _≤_, min};
 ghost use lib.ListN.{length, take, drop, replicate};
-ghost use Rattle.magnetar_records_prover.specs.Parts.{tableWords, placeOf, sizeOf, lifted, proofWordsOf, claimWordsOf, roomOf};
+ghost use Rattle.magnetar_records_prover.specs.Parts.{productWords, placeOf, sizeOf, copied, proofWordsOf, claimWordsOf, proverRoomWords};
 use magnetar_field::words;
 use magnetar_records::steps;
 
-// One table: 2 words for each login and row.
-pub(crate) fn table_words(q: usize, n: usize) -> usize
-    ensures { λ r. ⌜ (r ≡ tableWords q n) × (r ≤ 1073741824) ⌝ }
+// How many words one product has: 2 for each login and row.
+pub(crate) fn product_words(q: usize, n: usize) -> usize
+    ensures { λ r. ⌜ (r ≡ productWords q n) × (r ≤ 1073741824) ⌝ }
 {
     let l = steps::least(q, 4096);
     let k = steps::least(n, 65536);
@@ -18,7 +18,7 @@ pub(crate) fn table_words(q: usize, n: usize) -> usize
 }
 
 // Copies the first n words of s to place a, behind them.
-fn lift_in(s: &mut [u64], a: usize, n: usize)
+fn copy_in(s: &mut [u64], a: usize, n: usize)
     requires { ⌜ (n ≤ a) × (a + n ≤ length (now s)) ⌝ }
     ensures { λ _. ⌜ now (s .exit) ≡ take a (now (s .entry)) ++ (take n (now (s .entry)) ++ drop n (drop a (now (s .entry)))) ⌝ }
 {
@@ -31,32 +31,32 @@ fn lift_in(s: &mut [u64], a: usize, n: usize)
 }
 
 // The same where there is room for both; nothing else.
-fn lift_to(s: &mut [u64], a: usize, n: usize)
-    ensures { λ _. ⌜ now (s .exit) ≡ lifted a n (now (s .entry)) ⌝ }
+fn copy_to(s: &mut [u64], a: usize, n: usize)
+    ensures { λ _. ⌜ now (s .exit) ≡ copied a n (now (s .entry)) ⌝ }
 {
     if n <= a {
         if a <= s.len() {
             if n <= s.len() - a {
-                lift_in(s, a, n);
+                copy_in(s, a, n);
             }
         }
     }
 }
 
 // Copies the table in front to table k: 0 to 3 are those of bin, 4 to 7 those of fld.
-pub(crate) fn lift(s: &mut [u64], k: usize, q: usize, rb: usize, rf: usize)
-    ensures { λ _. ⌜ now (s .exit) ≡ lifted (placeOf k q rb rf) (sizeOf k q rb rf) (now (s .entry)) ⌝ }
+pub(crate) fn copy_table(s: &mut [u64], k: usize, q: usize, rb: usize, rf: usize)
+    ensures { λ _. ⌜ now (s .exit) ≡ copied (placeOf k q rb rf) (sizeOf k q rb rf) (now (s .entry)) ⌝ }
 {
-    let b = table_words(q, rb);
-    let f = table_words(q, rf);
+    let b = product_words(q, rb);
+    let f = product_words(q, rf);
     if k < 4 {
-        lift_to(s, k * b, b);
+        copy_to(s, k * b, b);
     } else {
-        lift_to(s, 4 * b + (steps::least(k, 7) - 4) * f, f);
+        copy_to(s, 4 * b + (steps::least(k, 7) - 4) * f, f);
     }
 }
 
-// The proof of a run with k segments.
+// How many words the proof of a run with k segments has.
 pub(crate) fn proof_words(m: usize, q: usize, rb: usize, rf: usize, k: usize) -> usize
     ensures { λ r. ⌜ r ≡ proofWordsOf m q rb rf k ⌝ }
 {
@@ -78,7 +78,7 @@ fn less_one(n: usize) -> usize
     n - 1
 }
 
-// Its claims.
+// How many words its claims have.
 pub(crate) fn claim_words(m: usize, q: usize, k: usize) -> usize
     ensures { λ r. ⌜ r ≡ claimWordsOf m q k ⌝ }
 {
@@ -88,20 +88,20 @@ pub(crate) fn claim_words(m: usize, q: usize, k: usize) -> usize
     2 * (s + less_one(n) + l)
 }
 
-// Its scratch.
+// How many words its scratch has.
 fn room_words(m: usize, q: usize, rb: usize, rf: usize) -> usize
-    ensures { λ r. ⌜ r ≡ roomOf m q rb rf ⌝ }
+    ensures { λ r. ⌜ r ≡ proverRoomWords m q rb rf ⌝ }
 {
     let l = steps::least(q, 4096);
     let b = steps::least(rb, 65536);
     let f = steps::least(rf, 65536);
     let n = steps::least(m, 65536);
-    4 * table_words(q, rb) + 4 * table_words(q, rf) + 8 * n + 4 * steps::larger(b, f) + 4 * l
+    4 * product_words(q, rb) + 4 * product_words(q, rf) + 8 * n + 4 * steps::larger(b, f) + 4 * l
 }
 
-// Clears it.
+// Clears its scratch.
 pub(crate) fn clear_room(s: &mut [u64], m: usize, q: usize, rb: usize, rf: usize)
-    ensures { λ _. ⌜ now (s .exit) ≡ replicate (min (roomOf m q rb rf) (length (now (s .entry)))) 0 ++ drop (min (roomOf m q rb rf) (length (now (s .entry)))) (now (s .entry)) ⌝ }
+    ensures { λ _. ⌜ now (s .exit) ≡ replicate (min (proverRoomWords m q rb rf) (length (now (s .entry)))) 0 ++ drop (min (proverRoomWords m q rb rf) (length (now (s .entry)))) (now (s .entry)) ⌝ }
 {
     let n = steps::least(room_words(m, q, rb, rf), s.len());
     words::clear(&mut s[0..n]);

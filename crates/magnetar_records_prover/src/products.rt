@@ -31,7 +31,7 @@ fn product(
 {
     let w = half(m);
     let _flag = records::apply_simd_packed(n, m, es, packed, x, q, w, s);
-    parts::lift(s, k, q, rb, rf);
+    parts::copy_table(s, k, q, rb, rf);
 }
 
 // The products of all six: bin's of rb rows, fld's of rf rows.

@@ -6,7 +6,9 @@ ghost use Rattle.magnetar_layout.specs.Tests.{noted};
 ghost use Rattle.magnetar_batch.specs.Systems.{system};
 ghost use Rattle.magnetar_spartan.specs.Rules.{rules};
 ghost use Rattle.magnetar_spartan.specs.Refusals.{proveTests};
-ghost use Rattle.magnetar_records.specs.Numbers.{joined, countedOf};
+ghost use Rattle.magnetar_records.specs.Numbers.{firstRefusalOf};
+ghost use Rattle.magnetar_inplace.specs.Steps.{recordTests6};
+use magnetar_inplace::steps as walks;
 use magnetar_records::refusal as records;
 use magnetar_spartan::refusal;
 
@@ -41,13 +43,13 @@ pub(crate) fn prove(
     claims: usize,
     scratch: usize,
 ) -> u32
-    ensures { λ r. ⌜ r ≡ joined (noted 0 (proveTests (rules m q (now (lens .entry)) (system (lent abrows abcols [] [] [] []) (lent bbrows bbcols [] [] [] []) (lent cbrows cbcols [] [] [] [])) (system (lent afrows afcols [] [] [] []) (lent bfrows bfcols [] [] [] []) (lent cfrows cfcols [] [] [] []))) (now (packed .entry)) (now (x .entry)) n words claims scratch)) (noted 0 (countedOf ab bb cb af bf cf inside)) ⌝ }
+    ensures { λ r. ⌜ r ≡ firstRefusalOf (noted 0 (proveTests (rules m q (now (lens .entry)) (system (lent abrows abcols [] [] [] []) (lent bbrows bbcols [] [] [] []) (lent cbrows cbcols [] [] [] [])) (system (lent afrows afcols [] [] [] []) (lent bfrows bfcols [] [] [] []) (lent cfrows cfcols [] [] [] []))) (now (packed .entry)) (now (x .entry)) n words claims scratch)) (noted 0 (recordTests6 ab bb cb af bf cf inside)) ⌝ }
 {
     let places = [0usize; 1];
     let values = [0u64; 1];
     let p = &places[0..0];
     let v = &values[0..0];
-    let c = records::counted(ab, bb, cb, af, bf, cf, inside);
+    let c = walks::records6(0, ab, bb, cb, af, bf, cf, inside);
     let z = refusal::prove(
         m,
         q,

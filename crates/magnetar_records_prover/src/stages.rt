@@ -22,18 +22,18 @@ use magnetar_rounds::inner;
 use magnetar_rounds::rounds;
 
 // What the outer rounds hand on: the words of the draws, 0 behind them, and the transcript.
-pub(crate) struct Drawn {
+pub(crate) struct OuterDraws {
     pub draws: [u64; 256],
     pub transcript: Transcript,
 }
 
-pub(crate) fn draws_of(o: Drawn) -> [u64; 256]
+pub(crate) fn draws_of(o: OuterDraws) -> [u64; 256]
     ensures { λ r. ⌜ r ≡ o .«draws» ⌝ }
 {
     o.draws
 }
 
-// An answer of these.
+// The answer with number n and transcript t.
 pub(crate) fn answer(n: u32, t: Transcript) -> TranscriptAnswer
     ensures { λ r. ⌜ (r .«code» ≡ n) × (r .«transcript» ≡ t) ⌝ }
 {
@@ -53,7 +53,7 @@ pub(crate) fn outer(
     rf: usize,
     k: usize,
     t: Transcript,
-) -> Drawn
+) -> OuterDraws
     ensures { λ r. ⌜ OuterDone m q rb rf k (now (s .entry)) (now (proof .entry)) t (r .«transcript») (r .«draws») (now (proof .exit)) × (now (s .exit) ≡ outerRoom m q rb rf k (now (s .entry)) (now (proof .entry))) ⌝ }
 {
     let i = steps::least(parts::proof_words(m, q, rb, rf, k), proof.len());
@@ -61,7 +61,7 @@ pub(crate) fn outer(
     let mut draws = [0u64; 256];
     let a = rounds::outer_rounds(q, rb, rf, &mut proof[0..i], &mut draws[0..d], s, t);
     let u = a.transcript;
-    Drawn {
+    OuterDraws {
         draws: draws,
         transcript: u,
     }
@@ -217,7 +217,7 @@ pub(crate) fn later(
     lens: &[usize],
     packed: &[u64],
     x: &[u64],
-    o: Drawn,
+    o: OuterDraws,
 ) -> Transcript
     ensures { λ r. ⌜ Elements (elements (now (x .entry)))
         × (LaterReady m q rb rf (now (lens .entry)) (length (now (packed .entry))) (length (now (x .entry))) (length (now (proof .entry))) (length (now (claims .entry))) (length (now (s .entry))) (length (o .«draws»))

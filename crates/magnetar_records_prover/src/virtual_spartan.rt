@@ -6,20 +6,20 @@ ghost use Rattle.magnetar_spartan.specs.Rules.{rules};
 ghost use Rattle.magnetar_spartan.specs.Refusals.{proveTests};
 ghost use Rattle.magnetar_spartan.specs.Outcome.{proveRefusal, proveOutcome};
 ghost use Rattle.magnetar_inplace.specs.Records.{entriesOfRecords, lentOf};
-ghost use Rattle.magnetar_records.specs.Stages.{tableAt};
+ghost use Rattle.magnetar_records.specs.Stages.{tableAtDraws};
 ghost use Rattle.magnetar_records_prover.specs.Parts.{sixPlaced};
 ghost use Rattle.magnetar_records_prover.specs.Stages.{OuterDone, outerRoom};
 ghost use Rattle.magnetar_records_prover.specs.Outcome.{provedInPlace};
 use crate::products;
 use crate::refusal;
 use crate::stages;
-use crate::stages::Drawn;
+use crate::stages::OuterDraws;
 use magnetar_hash::transcript::Transcript;
 use magnetar_hash::transcript::TranscriptAnswer;
+use magnetar_inplace::records;
 use magnetar_inplace::records::Entry;
 use magnetar_inplace::steps as walks;
 use magnetar_inplace::transcript;
-use magnetar_records::combo;
 use magnetar_records::stages as shared;
 use magnetar_records::virtual_spartan as table;
 
@@ -41,9 +41,9 @@ fn first(
     packed: &[u64],
     x: &[u64],
     t: Transcript,
-) -> Drawn
+) -> OuterDraws
     ensures { λ r. ⌜ OuterDone m q rb rf k (sixPlaced m q rb rf (lentOf rb m (now (ab .entry))) (lentOf rb m (now (bb .entry))) (lentOf rb m (now (cb .entry))) (lentOf rf m (now (af .entry))) (lentOf rf m (now (bf .entry))) (lentOf rf m (now (cf .entry))) (now (packed .entry)) (now (x .entry)) (now (scratch .entry))) (now (proof .entry)) t (r .«transcript») (r .«draws») (now (proof .exit))
-        × (now (scratch .exit) ≡ tableAt m q rb rf (r .«draws») (entriesOfRecords (now (ab .entry))) (entriesOfRecords (now (bb .entry))) (entriesOfRecords (now (cb .entry))) (entriesOfRecords (now (af .entry))) (entriesOfRecords (now (bf .entry))) (entriesOfRecords (now (cf .entry))) (outerRoom m q rb rf k (sixPlaced m q rb rf (lentOf rb m (now (ab .entry))) (lentOf rb m (now (bb .entry))) (lentOf rb m (now (cb .entry))) (lentOf rf m (now (af .entry))) (lentOf rf m (now (bf .entry))) (lentOf rf m (now (cf .entry))) (now (packed .entry)) (now (x .entry)) (now (scratch .entry))) (now (proof .entry)))) ⌝ }
+        × (now (scratch .exit) ≡ tableAtDraws m q rb rf (r .«draws») (entriesOfRecords (now (ab .entry))) (entriesOfRecords (now (bb .entry))) (entriesOfRecords (now (cb .entry))) (entriesOfRecords (now (af .entry))) (entriesOfRecords (now (bf .entry))) (entriesOfRecords (now (cf .entry))) (outerRoom m q rb rf k (sixPlaced m q rb rf (lentOf rb m (now (ab .entry))) (lentOf rb m (now (bb .entry))) (lentOf rb m (now (cb .entry))) (lentOf rf m (now (af .entry))) (lentOf rf m (now (bf .entry))) (lentOf rf m (now (cf .entry))) (now (packed .entry)) (now (x .entry)) (now (scratch .entry))) (now (proof .entry)))) ⌝ }
 {
     products::products(scratch, m, q, rb, rf, ab, bb, cb, af, bf, cf, packed, x);
     let o = stages::outer(proof, scratch, m, q, rb, rf, k, t);
@@ -180,7 +180,7 @@ fn refused(
     ensures { λ r. ⌜ r ≡ noted 0 (proveTests (rules m q (now (lens .entry)) (system (lentOf abrows abcols (now (ab .entry))) (lentOf bbrows bbcols (now (bb .entry))) (lentOf cbrows cbcols (now (cb .entry)))) (system (lentOf afrows afcols (now (af .entry))) (lentOf bfrows bfcols (now (bf .entry))) (lentOf cfrows cfcols (now (cf .entry))))) (now (packed .entry)) (now (x .entry)) (t .«squeeze_ctr») words claims scratch) ⌝ }
 {
     let n = shared::counter(t);
-    let inside = combo::all_six(
+    let inside = records::all_six(
         abrows,
         abcols,
         ab,

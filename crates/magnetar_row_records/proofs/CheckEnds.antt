@@ -1,30 +1,29 @@
 -- How the row check over records ends: what its calls gave is what the core's definitions say of the matrices.
 -- Assumes nothing.
-use mathlib.Core.Path.{_≡_, refl, sym, ap, ap₂, _∙_}
+use mathlib.Core.Path.{_≡_, refl, sym, ap, _∙_}
 use mathlib.Core.Bool.{Bool, true, false, cond}
 use mathlib.Core.List.{List, [], _∷_, _++_}
-use Prim.Native.Nat.{ℕ, zero, suc, _+_, _-_, _*_, _/_, _≤_, _<_, max}
+use Prim.Native.Nat.{ℕ, _+_, _-_, _*_, _/_, _≤_, _<_, max}
 use native.Mathlib.Omega.{arith}
 use lib.Dec.{eqb, ltb}
 use lib.ListN.{length, drop, replicate}
 use lib.Seq.{drop-drop}
 use borrow.Author.Tests.{eqb-true, eqb-false, ne-eqb, ltb-true, ltb-false, lt-ltb, le-leb}
 use Rattle.magnetar_field.specs.Words.{elements}
-use Rattle.magnetar_layout.specs.Tests.{Tests, noted}
-use Rattle.magnetar_layout.proofs.Noted.{noted-append, noted-kept, noted-rest, noted-clear, done}
+use Rattle.magnetar_layout.specs.Tests.{Tests}
+use Rattle.magnetar_layout.proofs.Noted.{noted-clear, done}
 use Rattle.magnetar_r1cs.specs.Matrix as matrix
 use Rattle.magnetar_r1cs.specs.Lent.{Lent, entriesOf}
 use Rattle.magnetar_r1cs.specs.Packed.{unpacked}
 use Rattle.magnetar_r1cs.specs.RowCheck.{verdict}
-use Rattle.magnetar_r1cs.specs.RowCheck.Verdict.{good, bin, fld}
 use Rattle.magnetar_r1cs.proofs.Verdicts.{first-le, first-before, first-not}
 use Rattle.magnetar_batch.specs.Systems.{Lent3, systemsTests}
 use Rattle.magnetar_batch.specs.Check.{Outcome, relation, batchSizes, checkRefusal, checkAnswer, checkScratch}
-use Rattle.magnetar_batch.specs.Check.Outcome.{judged, refused}
+use Rattle.magnetar_batch.specs.Check.Outcome.{judged}
 use Rattle.magnetar_batch.specs.Rows.{loginRow, loginOf}
-use Rattle.magnetar_batch.proofs.SystemLaws.{Fits6, fits6}
+use Rattle.magnetar_batch.proofs.SystemLaws.{Fits6, fits6, front-none, rest-none}
 use Rattle.magnetar_batch.proofs.RowLaws.{Below, Found, judged-bin, judged-fld, judged-good}
-use Rattle.magnetar_batch.proofs.CheckLaws.{Sizes, sizes, check-done}
+use Rattle.magnetar_batch.proofs.CheckLaws.{check-done}
 use Rattle.magnetar_batch.proofs.CheckLaws as core
 use Rattle.magnetar_inplace.specs.declared.records.Entry.{Entry}
 use Rattle.magnetar_inplace.specs.Records.{entriesOfRecords, lentOf}
@@ -75,19 +74,19 @@ module _ (s : Lent3) (k w : ℕ) (ws x : List ℕ) (q : ℕ) where
   is-none : q ≤ where-first → Found s q w ws x where-first (cond (ltb where-first q) row-first 0)
   is-none h = record { login = refl; row = refl }
 
-  module _ (p : Walked) (hn : s .a .rows ≤ 65536) (hw : w ≤ 32768) (hq : q ≤ 4096) (room : 6 * s .a .rows ≤ length (p .left)) where
+  module _ (p : Walked) (hn : s .a .rows ≤ 65536) (room : 6 * s .a .rows ≤ length (p .left)) where
     run-kept : (p .found .system ≡ 0 → ⊥) → run p .found ≡ p .found
     run-kept h = found-kept k (s .a .rows) w ws x (of (s .a)) (of (s .b)) (of (s .c)) p hn room h q
 
     run-found : p .found .system ≡ 0 → (k ≡ 0 → ⊥) → where-first < q → run p .found ≡ record { system = k; login = where-first; row = row-first }
     run-found z some h =
-        found-first k (s .a .rows) w ws x (of (s .a)) (of (s .b)) (of (s .c)) p hn room hw z some q where-first hq h
+        found-first k (s .a .rows) w ws x (of (s .a)) (of (s .b)) (of (s .c)) p hn room z some q where-first h
         (first-below (of (s .a)) (of (s .b)) (of (s .c)) (s .a .rows) w ws x q) (first-fails (of (s .a)) (of (s .b)) (of (s .c)) (s .a .rows) w ws x q h)
 
     run-none : p .found .system ≡ 0 → q ≤ where-first → run p .found ≡ p .found
     run-none z h =
         let e : where-first ≡ q = omega (arith, h, first-most (of (s .a)) (of (s .b)) (of (s .c)) (s .a .rows) w ws x q) in
-        found-none k (s .a .rows) w ws x (of (s .a)) (of (s .b)) (of (s .c)) p hn room hw z q hq
+        found-none k (s .a .rows) w ws x (of (s .a)) (of (s .b)) (of (s .c)) p hn room z q
         (rw e at (first-below (of (s .a)) (of (s .b)) (of (s .c)) (s .a .rows) w ws x q))
 
     run-length : length (run p .left) ≡ length (p .left)
@@ -103,7 +102,7 @@ further i j l k h e =
     ap (λ (v : ℕ). drop v l) (sym d) ∙ (sym (drop-drop (j - i) i l) ∙ (ap (drop (j - i)) e ∙ (drop-drop (j - i) i k ∙ ap (λ (v : ℕ). drop v k) d)))
 
 -- ---- both systems
-module _ (m q w : ℕ) (s t : Lent3) (ws x : List ℕ) (l : List ℕ) (hs : s .a .rows ≤ 65536) (ht : t .a .rows ≤ 65536) (hw : w ≤ 32768) (hq : q ≤ 4096)
+module _ (m q w : ℕ) (s t : Lent3) (ws x : List ℕ) (l : List ℕ) (hs : s .a .rows ≤ 65536) (ht : t .a .rows ≤ 65536)
     (room : 6 * max (s .a .rows) (t .a .rows) ≤ length l) where
   abbrev mid : Walked
   mid = run s 1 w ws x q (from nothing l)
@@ -115,21 +114,21 @@ module _ (m q w : ℕ) (s t : Lent3) (ws x : List ℕ) (l : List ℕ) (hs : s .a
   room-s = omega (arith, room)
 
   mid-length : length (mid .left) ≡ length l
-  mid-length = run-length s 1 w ws x q (from nothing l) hs hw hq room-s
+  mid-length = run-length s 1 w ws x q (from nothing l) hs room-s
 
   room-t : 6 * t .a .rows ≤ length (mid .left)
   room-t = omega (arith, room, mid-length)
 
   behind-end : drop (6 * max (s .a .rows) (t .a .rows)) (end .left) ≡ drop (6 * max (s .a .rows) (t .a .rows)) l
   behind-end =
-      further (6 * t .a .rows) (6 * max (s .a .rows) (t .a .rows)) (end .left) (mid .left) (omega arith) (run-behind t 2 w ws x q mid ht hw hq room-t)
-      ∙ further (6 * s .a .rows) (6 * max (s .a .rows) (t .a .rows)) (mid .left) l (omega arith) (run-behind s 1 w ws x q (from nothing l) hs hw hq room-s)
+      further (6 * t .a .rows) (6 * max (s .a .rows) (t .a .rows)) (end .left) (mid .left) (omega arith) (run-behind t 2 w ws x q mid ht room-t)
+      ∙ further (6 * s .a .rows) (6 * max (s .a .rows) (t .a .rows)) (mid .left) l (omega arith) (run-behind s 1 w ws x q (from nothing l) hs room-s)
 
   cleared-is : clearedTo (3 * max (s .a .rows) (t .a .rows)) (end .left) ≡ replicate (6 * max (s .a .rows) (t .a .rows)) 0 ++ drop (6 * max (s .a .rows) (t .a .rows)) l
   unfolding clearedTo
   cleared-is =
       let d : 2 * (3 * max (s .a .rows) (t .a .rows)) ≡ 6 * max (s .a .rows) (t .a .rows) = omega arith in
-      let h : 6 * max (s .a .rows) (t .a .rows) ≤ length (end .left) = rw (run-length t 2 w ws x q mid ht hw hq room-t, mid-length) room in
+      let h : 6 * max (s .a .rows) (t .a .rows) ≤ length (end .left) = rw (run-length t 2 w ws x q mid ht room-t, mid-length) room in
       rw (d, le-leb _ _ h, behind-end)
 
   abbrev bin-first : ℕ
@@ -141,24 +140,24 @@ module _ (m q w : ℕ) (s t : Lent3) (ws x : List ℕ) (l : List ℕ) (hs : s .a
   answer-bin : bin-first < q → answerOf 0 (end .found) ≡ judged (verdict (relation m q s t) (unpacked q w ws) x)
   unfolding answerOf
   answer-bin h =
-      let e : mid .found ≡ record { system = 1; login = bin-first; row = row-first s 1 w ws x q } = run-found s 1 w ws x q (from nothing l) hs hw hq room-s refl (λ z. omega (arith, z)) h in
-      let k : end .found ≡ record { system = 1; login = bin-first; row = row-first s 1 w ws x q } = run-kept t 2 w ws x q mid ht hw hq room-t (rw e (λ z. omega (arith, z))) ∙ e in
+      let e : mid .found ≡ record { system = 1; login = bin-first; row = row-first s 1 w ws x q } = run-found s 1 w ws x q (from nothing l) hs room-s refl (λ z. omega (arith, z)) h in
+      let k : end .found ≡ record { system = 1; login = bin-first; row = row-first s 1 w ws x q } = run-kept t 2 w ws x q mid ht room-t (rw e (λ z. omega (arith, z))) ∙ e in
       rw k (ap judged (judged-bin m q w s t ws x bin-first (row-first s 1 w ws x q) 0 0 (is-found s 1 w ws x q h) h))
 
   module _ (h : q ≤ bin-first) where
     mid-none : mid .found ≡ nothing
-    mid-none = run-none s 1 w ws x q (from nothing l) hs hw hq room-s refl h
+    mid-none = run-none s 1 w ws x q (from nothing l) hs room-s refl h
 
     answer-fld : fld-first < q → answerOf 0 (end .found) ≡ judged (verdict (relation m q s t) (unpacked q w ws) x)
     unfolding answerOf
     answer-fld g =
-        rw (run-found t 2 w ws x q mid ht hw hq room-t (rw mid-none) (λ z. omega (arith, z)) g)
+        rw (run-found t 2 w ws x q mid ht room-t (rw mid-none) (λ z. omega (arith, z)) g)
         (ap judged (judged-fld m q w s t ws x bin-first _ fld-first (row-first t 2 w ws x q) (is-none s 1 w ws x q h) h (is-found t 2 w ws x q g) g))
 
     answer-good : q ≤ fld-first → answerOf 0 (end .found) ≡ judged (verdict (relation m q s t) (unpacked q w ws) x)
     unfolding answerOf
     answer-good g =
-        rw (run-none t 2 w ws x q mid ht hw hq room-t (rw mid-none) g, mid-none)
+        rw (run-none t 2 w ws x q mid ht room-t (rw mid-none) g, mid-none)
         (ap judged (judged-good m q w s t ws x bin-first _ fld-first _ (is-none s 1 w ws x q h) h (is-none t 2 w ws x q g) g))
 
   answer-is : answerOf 0 (end .found) ≡ judged (verdict (relation m q s t) (unpacked q w ws) x)
@@ -170,31 +169,16 @@ module _ (m q w : ℕ) (s t : Lent3) (ws x : List ℕ) (l : List ℕ) (hs : s .a
       go false b false e = answer-good (ltb-false bin-first q b) (ltb-false fld-first q e)
 
 -- ---- what is known where nothing is refused
-front-none : (l k : Tests) → noted 0 (l ++ k) ≡ 0 → noted 0 l ≡ 0
-front-none l k e = go (noted 0 l) refl
-  where
-    go : (z : ℕ) → noted 0 l ≡ z → noted 0 l ≡ 0
-    go zero h = h
-    go (suc z) h =
-        let b : suc z ≡ 0 = sym (noted-kept (suc z) k (λ i. omega arith)) ∙ (ap (λ (y : ℕ). noted y k) (sym h) ∙ (sym (noted-append 0 l k) ∙ e)) in
-        absurd (omega (arith, b))
-
-rest-none : (l k : Tests) → noted 0 (l ++ k) ≡ 0 → noted 0 k ≡ 0
-rest-none l k e = sym (noted-rest l k (noted 0 l) refl (front-none l k e)) ∙ e
-
-record Fits (m q : ℕ) (s t : Lent3) (ws : List ℕ) (room : ℕ) : Type 0 where
-  sized : Sizes m q ws
+record Fits (m : ℕ) (s t : Lent3) (room : ℕ) : Type 0 where
   systems : Fits6 m s t
   enough : 6 * max (s .a .rows) (t .a .rows) ≤ room
 
-fits : (m q : ℕ) (s t : Lent3) (ws x : List ℕ) (room : ℕ) → checkRefusal m q s t ws x room ≡ 0 → Fits m q s t ws room
+fits : (m q : ℕ) (s t : Lent3) (ws x : List ℕ) (room : ℕ) → checkRefusal m q s t ws x room ≡ 0 → Fits m s t room
 unfolding checkRefusal
 fits m q s t ws x room e =
     let back : Tests = (15, ltb room (6 * max (s .a .rows) (t .a .rows))) ∷ [] in
-    let f = front-none (batchSizes m q (s .a .rows) (t .a .rows) ws x) (systemsTests m s t ++ back) e in
     let r = rest-none (batchSizes m q (s .a .rows) (t .a .rows) ws x) (systemsTests m s t ++ back) e in
     record {
-      sized = sizes m q (s .a .rows) (t .a .rows) ws x f;
       systems = fits6 m s t (front-none (systemsTests m s t) back r);
       enough = ltb-false _ _ (noted-clear 0 back refl (rest-none (systemsTests m s t) back r) .1 .0);
     }
@@ -213,10 +197,9 @@ module _ (m q : ℕ) (s t : Lent3) (ws x l : List ℕ) (n w : ℕ) (e : n ≡ ch
       let c : 0 ≡ checkRefusal m q s t ws x (length l) = sym z ∙ e in
       let hs = f .systems .first .size .high in
       let ht = f .systems .second .size .high in
-      let hw : w ≤ 32768 = rw ew (f .sized .half) in
-      let a = answer-is m q w s t ws (elements x) l hs ht hw (f .sized .logins) (f .enough) in (
+      let a = answer-is m q w s t ws (elements x) l hs ht (f .enough) in (
         ap (λ (i : ℕ). answerOf i seen) z ∙ (a ∙ rw ew (check-done m q s t ws x l c _ refl)),
-        cleared-is m q w s t ws (elements x) l hs ht hw (f .sized .logins) (f .enough) ∙ done _ l c refl,
+        cleared-is m q w s t ws (elements x) l hs ht (f .enough) ∙ done _ l c refl,
       )
 
   ends-some : (r : Seen) → (n ≡ 0 → ⊥) → (answerOf n r ≡ checkAnswer m q s t ws x (length l)) × (l ≡ checkScratch m q s t ws x l)

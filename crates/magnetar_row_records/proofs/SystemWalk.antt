@@ -1,15 +1,15 @@
 -- The walk over the logins of a system: the words it leaves, and the first login with a row that does not hold.
 -- Assumes nothing.
-use mathlib.Core.Path.{_≡_, refl, sym, ap, ap₂, _∙_}
+use mathlib.Core.Path.{_≡_, refl, sym, ap, _∙_}
 use mathlib.Core.Bool.{Bool, true, false}
 use mathlib.Core.List.{List, [], _++_, append-assoc}
-use Prim.Native.Nat.{ℕ, zero, suc, _+_, _-_, _*_, _≤_, _<_, min}
+use Prim.Native.Nat.{ℕ, zero, suc, _+_, _*_, _≤_, _<_}
 use native.Mathlib.Omega.{arith}
 use lib.Dec.{eqb}
 use lib.ListN.{length, take, drop, length-append, length-drop}
 use lib.Seq.{take-at, drop-at, drop-drop}
 use borrow.Author.Tests.{eqb-true, eqb-false, le-leb}
-use Rattle.magnetar_field.specs.Words.{elements, words}
+use Rattle.magnetar_field.specs.Words.{words}
 use Rattle.magnetar_field.specs.Tabulate.{tabulate}
 use Rattle.magnetar_field.proofs.Elements.{words-length}
 use Rattle.magnetar_field.proofs.Tabulation.{tabulate-length}
@@ -17,10 +17,9 @@ use Rattle.magnetar_r1cs.specs.Matrix.{Entry, rowTotal, share}
 use Rattle.magnetar_r1cs.specs.Packed.{loginPart}
 use Rattle.magnetar_batch.specs.Rows.{zOf, rowOf, loginRow}
 use Rattle.magnetar_batch.proofs.RowLaws.{Below, row-is, row-le}
-use Rattle.magnetar_inplace.specs.LoginSteps as login
+use Rattle.magnetar_inplace.specs.LoginSteps.{loginZ}
 use Rattle.magnetar_inplace.proofs.RecordLaws.{cleared-added}
-use Rattle.magnetar_row_records.specs.declared.steps.Seen.{Seen}
-use Rattle.magnetar_row_records.specs.Steps.{behind, zAt, productIn, twiceOf, threeIn, rowIn, seenIn, Walked, from, loginDone, systemDone}
+use Rattle.magnetar_row_records.specs.Steps.{behind, productIn, twiceOf, threeIn, rowIn, Walked, loginDone, systemDone}
 use Rattle.magnetar_row_records.proofs.WalkLaws.{seen-here, seen-none, done-some, done-none}
 
 -- ---- words in front of others
@@ -76,48 +75,45 @@ module _ (n : ℕ) (z : List ℕ) (a b c : List Entry) where
   three-row s hn h =
       let k : 6 * n ≤ length (threeIn n z a b c s) = rw (three-length s hn h) h in
       let e : take (6 * n) (threeIn n z a b c s) ≡ products = ap (take (6 * n)) (three-is s hn h) ∙ take-at products (drop (6 * n) s) (6 * n) products-length in
-      rw (le-leb n 65536 hn, le-leb (6 * n) (length (threeIn n z a b c s)) k, e) (row-is a b c n z products refl)
+      rw (le-leb (6 * n) (length (threeIn n z a b c s)) k, e) (row-is a b c n z products refl)
 
--- a login's z, where nothing is cut
-z-is : (w : ℕ) (ws x : List ℕ) (u : ℕ) → w ≤ 32768 → u < 4096 → zAt w ws x u ≡ zOf w (loginPart w ws u) x
-unfolding zOf login.zOf
-z-is w ws x u hw hu =
-    let a : min w 32768 ≡ w = omega arith in
-    let b : min u 4095 ≡ u = omega arith in
-    rw (a, b)
+-- a login's z
+z-is : (w : ℕ) (ws x : List ℕ) (u : ℕ) → loginZ w ws x u ≡ zOf w (loginPart w ws u) x
+unfolding zOf loginZ
+z-is w ws x u = refl
 
 -- ---- one login
 module _ (k n w : ℕ) (ws x : List ℕ) (a b c : List Entry) (u : ℕ) (p : Walked) (hn : n ≤ 65536) (room : 6 * n ≤ length (p .left)) where
   abbrev next : Walked
-  next = loginDone k n (zAt w ws x u) a b c u p
+  next = loginDone k n (loginZ w ws x u) a b c u p
 
   next-length : length (next .left) ≡ length (p .left)
   next-length = go (eqb (p .found .system) 0) refl
     where
       go : (t : Bool) → eqb (p .found .system) 0 ≡ t → length (next .left) ≡ length (p .left)
-      go true t = ap (λ (v : Walked). length (v .left)) (done-none k n (zAt w ws x u) a b c u p (eqb-true _ 0 t)) ∙ three-length n (zAt w ws x u) a b c (p .left) hn room
-      go false t = ap (λ (v : Walked). length (v .left)) (done-some k n (zAt w ws x u) a b c u p (eqb-false _ 0 t))
+      go true t = ap (λ (v : Walked). length (v .left)) (done-none k n (loginZ w ws x u) a b c u p (eqb-true _ 0 t)) ∙ three-length n (loginZ w ws x u) a b c (p .left) hn room
+      go false t = ap (λ (v : Walked). length (v .left)) (done-some k n (loginZ w ws x u) a b c u p (eqb-false _ 0 t))
 
   next-behind : drop (6 * n) (next .left) ≡ drop (6 * n) (p .left)
   next-behind = go (eqb (p .found .system) 0) refl
     where
       go : (t : Bool) → eqb (p .found .system) 0 ≡ t → drop (6 * n) (next .left) ≡ drop (6 * n) (p .left)
-      go true t = ap (λ (v : Walked). drop (6 * n) (v .left)) (done-none k n (zAt w ws x u) a b c u p (eqb-true _ 0 t)) ∙ three-behind n (zAt w ws x u) a b c (p .left) hn room
-      go false t = ap (λ (v : Walked). drop (6 * n) (v .left)) (done-some k n (zAt w ws x u) a b c u p (eqb-false _ 0 t))
+      go true t = ap (λ (v : Walked). drop (6 * n) (v .left)) (done-none k n (loginZ w ws x u) a b c u p (eqb-true _ 0 t)) ∙ three-behind n (loginZ w ws x u) a b c (p .left) hn room
+      go false t = ap (λ (v : Walked). drop (6 * n) (v .left)) (done-some k n (loginZ w ws x u) a b c u p (eqb-false _ 0 t))
 
-  next-row : w ≤ 32768 → u < 4096 → rowIn n (threeIn n (zAt w ws x u) a b c (p .left)) ≡ loginRow a b c n w ws x u
-  next-row hw hu = three-row n (zAt w ws x u) a b c (p .left) hn room ∙ ap (rowOf a b c n) (z-is w ws x u hw hu)
+  next-row : rowIn n (threeIn n (loginZ w ws x u) a b c (p .left)) ≡ loginRow a b c n w ws x u
+  next-row = three-row n (loginZ w ws x u) a b c (p .left) hn room ∙ ap (rowOf a b c n) (z-is w ws x u)
 
   -- a login whose rows all hold, and one with a row that does not
-  next-none : w ≤ 32768 → u < 4096 → p .found .system ≡ 0 → loginRow a b c n w ws x u ≡ n → next .found ≡ p .found
-  next-none hw hu z e =
-      ap (λ (v : Walked). v .found) (done-none k n (zAt w ws x u) a b c u p z)
-      ∙ sym (seen-none (p .found) k u n (loginRow a b c n w ws x u) (threeIn n (zAt w ws x u) a b c (p .left)) (sym (next-row hw hu)) (omega (arith, e)))
+  next-none : p .found .system ≡ 0 → loginRow a b c n w ws x u ≡ n → next .found ≡ p .found
+  next-none z e =
+      ap (λ (v : Walked). v .found) (done-none k n (loginZ w ws x u) a b c u p z)
+      ∙ sym (seen-none (p .found) k u n (loginRow a b c n w ws x u) (threeIn n (loginZ w ws x u) a b c (p .left)) (sym next-row) (omega (arith, e)))
 
-  next-here : w ≤ 32768 → u < 4096 → p .found .system ≡ 0 → loginRow a b c n w ws x u < n → next .found ≡ record { system = k; login = u; row = loginRow a b c n w ws x u }
-  next-here hw hu z l =
-      ap (λ (v : Walked). v .found) (done-none k n (zAt w ws x u) a b c u p z)
-      ∙ sym (seen-here (p .found) k u n (loginRow a b c n w ws x u) (threeIn n (zAt w ws x u) a b c (p .left)) (sym (next-row hw hu)) l)
+  next-here : p .found .system ≡ 0 → loginRow a b c n w ws x u < n → next .found ≡ record { system = k; login = u; row = loginRow a b c n w ws x u }
+  next-here z l =
+      ap (λ (v : Walked). v .found) (done-none k n (loginZ w ws x u) a b c u p z)
+      ∙ sym (seen-here (p .found) k u n (loginRow a b c n w ws x u) (threeIn n (loginZ w ws x u) a b c (p .left)) (sym next-row) l)
 
 -- ---- one login after the other
 module _ (k n w : ℕ) (ws x : List ℕ) (a b c : List Entry) (p : Walked) (hn : n ≤ 65536) (room : 6 * n ≤ length (p .left)) where
@@ -148,20 +144,20 @@ module _ (k n w : ℕ) (ws x : List ℕ) (a b c : List Entry) (p : Walked) (hn :
   found-kept h zero = refl
   found-kept h (suc u) =
       let e = found-kept h u in
-      ap (λ (v : Walked). v .found) (done-some k n (zAt w ws x u) a b c u (after u) (rw e h)) ∙ e
+      ap (λ (v : Walked). v .found) (done-some k n (loginZ w ws x u) a b c u (after u) (rw e h)) ∙ e
 
-  module _ (hw : w ≤ 32768) (z : p .found .system ≡ 0) where
-    pub found-none : (u : ℕ) → u ≤ 4096 → Below test u → after u .found ≡ p .found
+  module _ (z : p .found .system ≡ 0) where
+    pub found-none : (u : ℕ) → Below test u → after u .found ≡ p .found
     unfolding systemDone
-    found-none zero h below = refl
-    found-none (suc u) h below =
-        let e = found-none u (omega arith) (λ j l. below j (omega arith)) in
-        next-none k n w ws x a b c u (after u) hn (room-at u) hw (omega arith) (rw e z) (eqb-true (row u) n (below u (omega arith))) ∙ e
+    found-none zero below = refl
+    found-none (suc u) below =
+        let e = found-none u (λ j l. below j (omega arith)) in
+        next-none k n w ws x a b c u (after u) hn (room-at u) (rw e z) (eqb-true (row u) n (below u (omega arith))) ∙ e
 
-    pub found-first : (k ≡ 0 → ⊥) → (u v : ℕ) → u ≤ 4096 → v < u → Below test v → test v ≡ false → after u .found ≡ record { system = k; login = v; row = row v }
+    pub found-first : (k ≡ 0 → ⊥) → (u v : ℕ) → v < u → Below test v → test v ≡ false → after u .found ≡ record { system = k; login = v; row = row v }
     unfolding systemDone
-    found-first some zero v h l below t = absurd (omega arith)
-    found-first some (suc u) v h l below t = go (eqb v u) refl (λ l. found-first some u v (omega arith) l below t)
+    found-first some zero v l below t = absurd (omega arith)
+    found-first some (suc u) v l below t = go (eqb v u) refl (λ l. found-first some u v l below t)
       where
         apart : (v u : ℕ) → v < suc u → (v ≡ u → ⊥) → v < u
         apart v u h d = omega arith
@@ -170,12 +166,12 @@ module _ (k n w : ℕ) (ws x : List ℕ) (a b c : List Entry) (p : Walked) (hn :
         under i n h d = omega arith
 
         go : (q : Bool) → eqb v u ≡ q → (v < u → after u .found ≡ record { system = k; login = v; row = row v })
-            → loginDone k n (zAt w ws x u) a b c u (after u) .found ≡ record { system = k; login = v; row = row v }
+            → loginDone k n (loginZ w ws x u) a b c u (after u) .found ≡ record { system = k; login = v; row = row v }
         go true q again =
             let e : v ≡ u = eqb-true v u q in
             let f : row v < n = under (row v) n (row-le a b c n (zOf w (loginPart w ws v) x)) (eqb-false (row v) n t) in
-            let y = found-none u (omega arith) (rw e at below) in
-            rw e (next-here k n w ws x a b c u (after u) hn (room-at u) hw (omega arith) (rw y z) (rw e at f))
+            let y = found-none u (rw e at below) in
+            rw e (next-here k n w ws x a b c u (after u) hn (room-at u) (rw y z) (rw e at f))
         go false q again =
             let y = again (apart v u l (eqb-false v u q)) in
-            ap (λ (d : Walked). d .found) (done-some k n (zAt w ws x u) a b c u (after u) (rw y some)) ∙ y
+            ap (λ (d : Walked). d .found) (done-some k n (loginZ w ws x u) a b c u (after u) (rw y some)) ∙ y

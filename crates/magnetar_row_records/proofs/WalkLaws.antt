@@ -3,25 +3,23 @@
 use mathlib.Core.Path.{_≡_, refl, sym, ap, ap₂, _∙_}
 use mathlib.Core.Bool.{Bool, true, false, cond}
 use mathlib.Core.List.{List, [], _∷_, _++_}
-use Prim.Native.Nat.{ℕ, zero, suc, _+_, _-_, _*_, _≤_, _<_, min, max}
+use Prim.Native.Nat.{ℕ, _+_, _-_, _*_, _≤_, _<_, max}
 use native.Mathlib.Numerals.{add-one}
 use native.Mathlib.Omega.{arith}
-use lib.Dec.{eqb, ltb, leb}
-use lib.ListN.{length, getD, take, drop, take-append-drop, length-append}
+use lib.Dec.{eqb, leb}
+use lib.ListN.{length, take, drop, take-append-drop, length-append}
 use lib.Seq.{take-at, drop-at, length-take-le}
 use borrow.Author.Tests.{leb-true, le-leb, lt-leb, lt-ltb, le-ltb, ne-eqb}
 use borrow.Rule.Slice.PartMut.{putMid}
-use Rattle.magnetar_field.specs.Gf128.{_⊗_}
 use Rattle.magnetar_field.specs.Words.{elements}
-use Rattle.magnetar_field.proofs.Product.{⊗-comm}
 use Rattle.magnetar_r1cs.specs.Matrix.{Entry, share}
 use Rattle.magnetar_r1cs.specs.RowCheck.{firstNot}
 use Rattle.magnetar_batch.specs.Rows.{holdsAt}
-use Rattle.magnetar_inplace.specs.LoginSteps.{zOf}
+use Rattle.magnetar_inplace.specs.LoginSteps.{loginZ}
 use Rattle.magnetar_inplace.specs.Steps.{clearedTo, addedTo, addedAll}
 use Rattle.magnetar_inplace.proofs.StepLaws.{rest-is, behind-is}
 use Rattle.magnetar_row_records.specs.declared.steps.Seen.{Seen}
-use Rattle.magnetar_row_records.specs.Steps.{behind, zAt, productIn, twiceOf, threeIn, rowIn, nothing, seenIn, Walked, from, loginDone, systemDone, bothSeen, bothWords}
+use Rattle.magnetar_row_records.specs.Steps.{behind, productIn, twiceOf, threeIn, rowIn, nothing, seenIn, Walked, from, loginDone, systemDone, bothSeen, bothWords}
 
 -- ---- what is behind the first m elements
 pub behind-some : (m : ℕ) (g : List ℕ → List ℕ) (s t : List ℕ) → 2 * m ≤ length s → t ≡ g (take (length s - 2 * m) (drop (2 * m) s))
@@ -53,11 +51,6 @@ behind-same true m s = sym (take-append-drop (2 * m) s)
 behind-same false m s = refl
 
 -- ---- one record, and none
--- the share of a record with the value v, of login u's z at its column
-pub share-is : (w w′ : ℕ) (ws x : List ℕ) (u u′ col v f r : ℕ) → r ≡ f ⊗ v → f ≡ getD (zOf w′ ws x u′) col 0 → w′ ≡ min w 32768 → u′ ≡ min u 4095
-    → r ≡ v ⊗ getD (zAt w ws x u) col 0
-share-is w w′ ws x u u′ col v f r e z hw hu = e ∙ (⊗-comm f v ∙ ap (λ (y : ℕ). v ⊗ y) (z ∙ ap₂ (λ (i j : ℕ). getD (zOf i ws x j) col 0) hw hu))
-
 pub added-more : (m n : ℕ) (f : Entry → ℕ) (e : Entry) (es : List Entry) (s s′ : List ℕ) → s′ ≡ behind m (addedTo n (e .row) (f e)) s
     → behind m (addedAll n f es) s′ ≡ behind m (addedAll n f (e ∷ es)) s
 unfolding addedAll
@@ -82,17 +75,13 @@ login-ends r k u n t z a b c s s₁ s₂ s₃ s₄ f et e₁ e₂ e₃ e =
     (e .0 ∙ ap (seenIn r k u n) h, e .1 ∙ h)
 
 -- ---- the first row that does not hold
-pub row-wide : (n : ℕ) (s : List ℕ) → 65536 < n → n ≡ rowIn n s
+pub row-here : (n r : ℕ) (s : List ℕ) → 6 * n ≤ length s → r ≡ firstNot (holdsAt (elements (take (6 * n - 0) s)) n) n → r ≡ rowIn n s
 unfolding rowIn
-row-wide n s h = rw (lt-leb n 65536 h)
+row-here n r s l e = let d : 6 * n - 0 ≡ 6 * n = omega arith in rw (le-leb (6 * n) (length s) l) (e ∙ rw d)
 
-pub row-here : (n r : ℕ) (s : List ℕ) → n ≤ 65536 → 6 * n ≤ length s → r ≡ firstNot (holdsAt (elements (take (6 * n - 0) s)) n) n → r ≡ rowIn n s
+pub row-short : (n : ℕ) (s : List ℕ) → length s < 6 * n → n ≡ rowIn n s
 unfolding rowIn
-row-here n r s h l e = let d : 6 * n - 0 ≡ 6 * n = omega arith in rw (le-leb n 65536 h, le-leb (6 * n) (length s) l) (e ∙ rw d)
-
-pub row-short : (n : ℕ) (s : List ℕ) → n ≤ 65536 → length s < 6 * n → n ≡ rowIn n s
-unfolding rowIn
-row-short n s h l = rw (le-leb n 65536 h, lt-leb (6 * n) (length s) l)
+row-short n s l = rw (lt-leb (6 * n) (length s) l)
 
 pub seen-here : (r : Seen) (k u n i : ℕ) (s : List ℕ) → i ≡ rowIn n s → i < n → record { system = k; login = u; row = i } ≡ seenIn r k u n s
 unfolding seenIn
@@ -131,14 +120,14 @@ module _ (k n w : ℕ) (ws x : List ℕ) (a b c : List Entry) where
 
   pub system-more : (u : ℕ) (p : Walked) (r r₁ : Seen) (s s₁ : List ℕ)
       → (r ≡ systemDone k n w ws x a b c u p .found) × (s ≡ systemDone k n w ws x a b c u p .left)
-      → (r₁ ≡ loginDone k n (zAt w ws x u) a b c u (from r s) .found) × (s₁ ≡ loginDone k n (zAt w ws x u) a b c u (from r s) .left)
+      → (r₁ ≡ loginDone k n (loginZ w ws x u) a b c u (from r s) .found) × (s₁ ≡ loginDone k n (loginZ w ws x u) a b c u (from r s) .left)
       → (r₁ ≡ systemDone k n w ws x a b c (u + 1) p .found) × (s₁ ≡ systemDone k n w ws x a b c (u + 1) p .left)
   unfolding systemDone
   system-more u p r r₁ s s₁ inv e =
       let h : from r s ≡ systemDone k n w ws x a b c u p = ap₂ from (inv .0) (inv .1) in
       rw (add-one u) (
-        e .0 ∙ ap (λ (v : Walked). loginDone k n (zAt w ws x u) a b c u v .found) h,
-        e .1 ∙ ap (λ (v : Walked). loginDone k n (zAt w ws x u) a b c u v .left) h,
+        e .0 ∙ ap (λ (v : Walked). loginDone k n (loginZ w ws x u) a b c u v .found) h,
+        e .1 ∙ ap (λ (v : Walked). loginDone k n (loginZ w ws x u) a b c u v .left) h,
       )
 
 -- ---- both systems

@@ -1,6 +1,6 @@
 -- What the walk of the row check does, call by call. Only private contracts cite these definitions.
 -- Assumes nothing.
-use mathlib.Core.Bool.{Bool, cond, _&&_}
+use mathlib.Core.Bool.{cond}
 use mathlib.Core.List.{List, [], _∷_, _++_}
 use Prim.Native.Nat.{ℕ, zero, suc, _*_, min, max}
 use lib.Dec.{eqb, ltb, leb}
@@ -12,17 +12,13 @@ use Rattle.magnetar_r1cs.specs.RowCheck.Verdict.{good, bin, fld}
 use Rattle.magnetar_batch.specs.Check.{Outcome}
 use Rattle.magnetar_batch.specs.Check.Outcome.{judged, refused}
 use Rattle.magnetar_batch.specs.Rows.{holdsAt}
-use Rattle.magnetar_inplace.specs.LoginSteps.{zOf}
+use Rattle.magnetar_inplace.specs.LoginSteps.{loginZ}
 use Rattle.magnetar_inplace.specs.Steps.{clearedTo, addedTo, addedAll}
 use Rattle.magnetar_row_records.specs.declared.steps.Seen.{Seen}
 
 -- g of what is behind the first m elements; nothing where they are fewer
 unfoldable pub behind : ℕ → (List ℕ → List ℕ) → List ℕ → List ℕ
 behind m g s = cond (leb (2 * m) (length s)) (take (2 * m) s ++ g (drop (2 * m) s)) s
-
--- z of login u of the packed words ws, with w columns; larger numbers than a batch has are cut
-abbrev pub zAt : ℕ → List ℕ → List ℕ → ℕ → List ℕ
-zAt w ws x u = zOf (min w 32768) ws x (min u 4095)
 
 -- the product of the entries with z in the first n elements
 abbrev pub productIn : ℕ → List ℕ → List Entry → List ℕ → List ℕ
@@ -38,7 +34,7 @@ threeIn n z a b c s = behind (twiceOf n) (productIn n z c) (behind n (productIn 
 
 -- the first of n rows that does not hold, or n; n where there is no room for three products
 unfoldable pub rowIn : ℕ → List ℕ → ℕ
-rowIn n s = cond (leb n 65536 && leb (6 * n) (length s)) (firstNot (holdsAt (elements (take (6 * n) s)) n) n) n
+rowIn n s = cond (leb (6 * n) (length s)) (firstNot (holdsAt (elements (take (6 * n) s)) n) n) n
 
 -- nothing was found
 abbrev pub nothing : Seen
@@ -65,7 +61,7 @@ loginDone k n z a b c u p =
 -- after u logins of it
 unfoldable pub systemDone : (k n w : ℕ) → (ws x : List ℕ) → (a b c : List Entry) → ℕ → Walked → Walked
 systemDone k n w ws x a b c zero p = p
-systemDone k n w ws x a b c (suc u) p = loginDone k n (zAt w ws x u) a b c u (systemDone k n w ws x a b c u p)
+systemDone k n w ws x a b c (suc u) p = loginDone k n (loginZ w ws x u) a b c u (systemDone k n w ws x a b c u p)
 
 -- after q logins of both systems, of n and k rows
 abbrev pub bothDone : (q w n k : ℕ) → (ws x : List ℕ) → (ab bb cb af bf cf : List Entry) → List ℕ → Walked

@@ -1,17 +1,17 @@
 // The plain row check over six slices of entry records (`row_check`).
 ghost use mathlib.Core.Path.{_≡_};
-ghost use mathlib.Core.Bool.{_&&_, cond};
+ghost use mathlib.Core.Bool.{cond};
 ghost use Prim.Native.Nat.{_*_};
 ghost use lib.Dec.{eqb};
 ghost use lib.ListN.{length};
 ghost use Rattle.magnetar_field.specs.Words.{elements};
-ghost use Rattle.magnetar_layout.specs.Every.{every};
 ghost use Rattle.magnetar_r1cs.specs.Matrix.{share};
 ghost use Rattle.magnetar_batch.specs.Systems.{system};
 ghost use Rattle.magnetar_batch.specs.Check.{outcome, checkRefusal, checkAnswer, checkScratch};
 ghost use Rattle.magnetar_inplace.specs.Records.{entriesOfRecords, lentOf};
-ghost use Rattle.magnetar_inplace.specs.Steps.{liesIn, addedAll};
-ghost use Rattle.magnetar_row_records.specs.Steps.{behind, zAt, productIn, threeIn, nothing, seenIn, from, loginDone, systemDone, bothWords, bothSeen};
+ghost use Rattle.magnetar_inplace.specs.LoginSteps.{loginZ};
+ghost use Rattle.magnetar_inplace.specs.Steps.{addedAll};
+ghost use Rattle.magnetar_row_records.specs.Steps.{behind, productIn, threeIn, nothing, seenIn, from, loginDone, systemDone, bothWords, bothSeen};
 use crate::refusal;
 use crate::steps;
 use crate::steps::Seen;
@@ -31,7 +31,7 @@ fn add_product(
     packed: &[u64],
     x: &[u64],
 )
-    ensures { λ _. ⌜ now (s .exit) ≡ behind m (addedAll n (share (zAt w (now (packed .entry)) (elements (now (x .entry))) u)) (entriesOfRecords (now (es .entry)))) (now (s .entry)) ⌝ }
+    ensures { λ _. ⌜ now (s .exit) ≡ behind m (addedAll n (share (loginZ w (now (packed .entry)) (elements (now (x .entry))) u)) (entriesOfRecords (now (es .entry)))) (now (s .entry)) ⌝ }
 {
     let mut i = 0;
     while i < es.len() {
@@ -51,7 +51,7 @@ fn product(
     packed: &[u64],
     x: &[u64],
 )
-    ensures { λ _. ⌜ now (s .exit) ≡ behind m (productIn n (zAt w (now (packed .entry)) (elements (now (x .entry))) u) (entriesOfRecords (now (es .entry)))) (now (s .entry)) ⌝ }
+    ensures { λ _. ⌜ now (s .exit) ≡ behind m (productIn n (loginZ w (now (packed .entry)) (elements (now (x .entry))) u) (entriesOfRecords (now (es .entry)))) (now (s .entry)) ⌝ }
 {
     steps::clear_behind(s, m, n);
     add_product(es, s, m, n, u, w, packed, x);
@@ -71,7 +71,7 @@ fn check_login(
     b: &[Entry],
     c: &[Entry],
 ) -> Seen
-    ensures { λ f. ⌜ (f ≡ seenIn r k u n (threeIn n (zAt w (now (packed .entry)) (elements (now (x .entry))) u) (entriesOfRecords (now (a .entry))) (entriesOfRecords (now (b .entry))) (entriesOfRecords (now (c .entry))) (now (s .entry)))) × (now (s .exit) ≡ threeIn n (zAt w (now (packed .entry)) (elements (now (x .entry))) u) (entriesOfRecords (now (a .entry))) (entriesOfRecords (now (b .entry))) (entriesOfRecords (now (c .entry))) (now (s .entry))) ⌝ }
+    ensures { λ f. ⌜ (f ≡ seenIn r k u n (threeIn n (loginZ w (now (packed .entry)) (elements (now (x .entry))) u) (entriesOfRecords (now (a .entry))) (entriesOfRecords (now (b .entry))) (entriesOfRecords (now (c .entry))) (now (s .entry)))) × (now (s .exit) ≡ threeIn n (loginZ w (now (packed .entry)) (elements (now (x .entry))) u) (entriesOfRecords (now (a .entry))) (entriesOfRecords (now (b .entry))) (entriesOfRecords (now (c .entry))) (now (s .entry))) ⌝ }
 {
     let none = 0;
     let twice = steps::twice(n);
@@ -95,7 +95,7 @@ fn login_unless(
     b: &[Entry],
     c: &[Entry],
 ) -> Seen
-    ensures { λ f. ⌜ (f ≡ loginDone k n (zAt w (now (packed .entry)) (elements (now (x .entry))) u) (entriesOfRecords (now (a .entry))) (entriesOfRecords (now (b .entry))) (entriesOfRecords (now (c .entry))) u (from r (now (s .entry))) .found) × (now (s .exit) ≡ loginDone k n (zAt w (now (packed .entry)) (elements (now (x .entry))) u) (entriesOfRecords (now (a .entry))) (entriesOfRecords (now (b .entry))) (entriesOfRecords (now (c .entry))) u (from r (now (s .entry))) .left) ⌝ }
+    ensures { λ f. ⌜ (f ≡ loginDone k n (loginZ w (now (packed .entry)) (elements (now (x .entry))) u) (entriesOfRecords (now (a .entry))) (entriesOfRecords (now (b .entry))) (entriesOfRecords (now (c .entry))) u (from r (now (s .entry))) .found) × (now (s .exit) ≡ loginDone k n (loginZ w (now (packed .entry)) (elements (now (x .entry))) u) (entriesOfRecords (now (a .entry))) (entriesOfRecords (now (b .entry))) (entriesOfRecords (now (c .entry))) u (from r (now (s .entry))) .left) ⌝ }
 {
     let go = steps::is_nothing(r);
     if go {
@@ -187,38 +187,6 @@ fn judge_unless(
     }
 }
 
-// Every record of the six slices lies inside its matrix.
-fn all_six(
-    abrows: usize,
-    abcols: usize,
-    ab: &[Entry],
-    bbrows: usize,
-    bbcols: usize,
-    bb: &[Entry],
-    cbrows: usize,
-    cbcols: usize,
-    cb: &[Entry],
-    afrows: usize,
-    afcols: usize,
-    af: &[Entry],
-    bfrows: usize,
-    bfcols: usize,
-    bf: &[Entry],
-    cfrows: usize,
-    cfcols: usize,
-    cf: &[Entry],
-) -> bool
-    ensures { λ r. ⌜ r ≡ every (liesIn abrows abcols) (entriesOfRecords (now (ab .entry))) && (every (liesIn bbrows bbcols) (entriesOfRecords (now (bb .entry))) && (every (liesIn cbrows cbcols) (entriesOfRecords (now (cb .entry))) && (every (liesIn afrows afcols) (entriesOfRecords (now (af .entry))) && (every (liesIn bfrows bfcols) (entriesOfRecords (now (bf .entry))) && (every (liesIn cfrows cfcols) (entriesOfRecords (now (cf .entry)))))))) ⌝ }
-{
-    let i0 = records::all_inside(ab, abrows, abcols);
-    let i1 = records::all_inside(bb, bbrows, bbcols);
-    let i2 = records::all_inside(cb, cbrows, cbcols);
-    let i3 = records::all_inside(af, afrows, afcols);
-    let i4 = records::all_inside(bf, bfrows, bfcols);
-    let i5 = records::all_inside(cf, cfrows, cfcols);
-    steps::all6(i0, i1, i2, i3, i4, i5)
-}
-
 // The refusals; scratch is a number of words.
 fn refused(
     m: usize,
@@ -247,7 +215,7 @@ fn refused(
 ) -> u32
     ensures { λ r. ⌜ r ≡ checkRefusal m q (system (lentOf abrows abcols (now (ab .entry))) (lentOf bbrows bbcols (now (bb .entry))) (lentOf cbrows cbcols (now (cb .entry)))) (system (lentOf afrows afcols (now (af .entry))) (lentOf bfrows bfcols (now (bf .entry))) (lentOf cfrows cfcols (now (cf .entry)))) (now (packed .entry)) (now (x .entry)) scratch ⌝ }
 {
-    let inside = all_six(
+    let inside = records::all_six(
         abrows,
         abcols,
         ab,

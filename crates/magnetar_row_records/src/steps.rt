@@ -1,27 +1,20 @@
 // What the row check over entry records does with one record and with a login's products.
 ghost use mathlib.Core.Path.{_≡_};
-ghost use mathlib.Core.Bool.{_&&_};
-ghost use Prim.Native.Nat.{_*_, _/_, _<_, _≤_, min, max};
+ghost use Prim.Native.Nat.{_*_, _/_, _≤_, min, max};
 ghost use lib.Dec.{eqb};
-ghost use lib.ListN.{getD};
-ghost use Rattle.magnetar_field.specs.Gf128.{value};
 ghost use Rattle.magnetar_field.specs.Words.{elements};
 ghost use Rattle.magnetar_r1cs.specs.Matrix.{share};
-ghost use Rattle.magnetar_r1cs.specs.Packed.{packedBit, loginPart};
-ghost use Rattle.magnetar_r1cs.specs.RowCheck.{firstNot};
 ghost use Rattle.magnetar_batch.specs.Check.{outcome};
-ghost use Rattle.magnetar_batch.specs.Rows.{holdsAt};
 ghost use Rattle.magnetar_inplace.specs.Records.{entryOf};
-ghost use Rattle.magnetar_inplace.specs.LoginSteps.{zOf};
+ghost use Rattle.magnetar_inplace.specs.LoginSteps.{loginZ};
 ghost use Rattle.magnetar_inplace.specs.Steps.{clearedTo, addedTo};
-ghost use Rattle.magnetar_row_records.specs.Steps.{behind, zAt, twiceOf, rowIn, nothing, seenIn, answerOf};
+ghost use Rattle.magnetar_row_records.specs.Steps.{behind, twiceOf, rowIn, nothing, seenIn, answerOf};
+use magnetar_batch::check;
 use magnetar_batch::check::RowCheck;
-use magnetar_field::gf128;
 use magnetar_field::gf128::Gf128;
-use magnetar_field::words;
+use magnetar_inplace::logins;
 use magnetar_inplace::records::Entry;
 use magnetar_inplace::steps;
-use magnetar_r1cs::r1cs;
 use magnetar_r1cs::walk;
 
 // The first failing row: 1 for bin, 2 for fld, 0 for none; the login and the row.
@@ -59,41 +52,12 @@ pub(crate) fn half(m: usize) -> usize
     m / 2
 }
 
-// The bit of login u at column c.
-fn login_bit(packed: &[u64], w: usize, u: usize, c: usize) -> u64
-    requires { ⌜ (u < 4096) × (w ≤ 32768) × (c < w) ⌝ }
-    ensures { λ r. ⌜ (r ≡ packedBit (loginPart w (now (packed .entry)) u) c) × (r < 2) ⌝ }
-{
-    let k = r1cs::login_words(w);
-    let j = u * k + c / 64;
-    if j < packed.len() {
-        return (packed[j] >> (c % 64)) % 2;
-    }
-    0
-}
-
-// Login u's z at column c.
-fn z_at(packed: &[u64], x: &[u64], w: usize, u: usize, c: usize) -> Gf128
-    requires { ⌜ (u < 4096) × (w ≤ 32768) ⌝ }
-    ensures { λ r. ⌜ value r ≡ getD (zOf w (now (packed .entry)) (elements (now (x .entry))) u) c 0 ⌝ }
-{
-    if c < w {
-        let b = login_bit(packed, w, u, c);
-        return Gf128 { lo: b, hi: 0 };
-    }
-    if c == w {
-        return Gf128 { lo: 1, hi: 0 };
-    }
-    let k = c - w - 1;
-    words::get(x, k)
-}
-
 // Adds a record's share of login u's product, at its row, to the first n elements.
 fn add_share(n: usize, u: usize, w: usize, packed: &[u64], x: &[u64], s: &mut [u64], e: Entry)
-    ensures { λ _. ⌜ now (s .exit) ≡ addedTo n (e .row) (share (zAt w (now (packed .entry)) (elements (now (x .entry))) u) (entryOf e)) (now (s .entry)) ⌝ }
+    ensures { λ _. ⌜ now (s .exit) ≡ addedTo n (e .row) (share (loginZ w (now (packed .entry)) (elements (now (x .entry))) u) (entryOf e)) (now (s .entry)) ⌝ }
 {
     let v = Gf128 { lo: e.lo, hi: e.hi };
-    let f = z_at(packed, x, least(w, 32768), least(u, 4095), e.col);
+    let f = logins::z_at(packed, x, w, u, e.col);
     steps::add_to(n, e.row, walk::scale(f, v), s);
 }
 
@@ -108,7 +72,7 @@ pub(crate) fn add_behind(
     x: &[u64],
     e: Entry,
 )
-    ensures { λ _. ⌜ now (s .exit) ≡ behind m (addedTo n (e .row) (share (zAt w (now (packed .entry)) (elements (now (x .entry))) u) (entryOf e))) (now (s .entry)) ⌝ }
+    ensures { λ _. ⌜ now (s .exit) ≡ behind m (addedTo n (e .row) (share (loginZ w (now (packed .entry)) (elements (now (x .entry))) u) (entryOf e))) (now (s .entry)) ⌝ }
 {
     if m <= s.len() / 2 {
         let a = 2 * m;
@@ -136,44 +100,15 @@ pub(crate) fn clear_room(s: &mut [u64], nb: usize, nf: usize)
     }
 }
 
-// Whether two elements are the same.
-fn same(a: Gf128, b: Gf128) -> bool
-    ensures { λ r. ⌜ r ≡ eqb (value a) (value b) ⌝ }
-{
-    if a.hi != b.hi {
-        return false;
-    }
-    a.lo == b.lo
-}
-
-// The first row that does not hold of n rows, or n.
-fn first_failing(s: &[u64], n: usize) -> usize
-    requires { ⌜ n ≤ 65536 ⌝ }
-    ensures { λ r. ⌜ r ≡ firstNot (holdsAt (elements (now (s .entry))) n) n ⌝ }
-{
-    let mut row = 0;
-    while row < n {
-        let p = gf128::mul(words::get(s, row), words::get(s, n + row));
-        if !same(p, words::get(s, 2 * n + row)) {
-            return row;
-        }
-        row += 1;
-    }
-    n
-}
-
-// The same of the three products in front of s.
+// The first row of n that does not hold, by the three products in front of s, or n.
 fn first_row(s: &[u64], n: usize) -> usize
     ensures { λ r. ⌜ r ≡ rowIn n (now (s .entry)) ⌝ }
 {
-    if n > 65536 {
+    if n > s.len() / 6 {
         return n;
     }
     let end = 6 * n;
-    if end <= s.len() {
-        return first_failing(&s[0..end], n);
-    }
-    n
+    check::first_failing(&s[0..end], n)
 }
 
 // Nothing was found yet.
@@ -223,22 +158,4 @@ pub(crate) fn answer(n: u32, r: Seen) -> RowCheck
         return RowCheck::Bin(r.login, r.row);
     }
     RowCheck::Fld(r.login, r.row)
-}
-
-// Six flags.
-pub(crate) fn all6(a: bool, b: bool, c: bool, d: bool, e: bool, f: bool) -> bool
-    ensures { λ r. ⌜ r ≡ a && (b && (c && (d && (e && f)))) ⌝ }
-{
-    if a {
-        if b {
-            if c {
-                if d {
-                    if e {
-                        return f;
-                    }
-                }
-            }
-        }
-    }
-    false
 }

@@ -10,7 +10,7 @@ products3-requires : tie.Need-products3-requires
 products3-requires c κs = search needs
 
 first-failing-requires : tie.Need-first-failing-requires
-first-failing-requires c κs = c .before .before .before .before .before .before .before .before .before .before .before .before .before .before .before .before .before .before .before .before .pre .1 .1 .1 .1
+first-failing-requires c κs = search needs
 
 same-length : tie.Need-same-length
 same-length c = search needs

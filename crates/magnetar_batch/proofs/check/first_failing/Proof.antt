@@ -7,7 +7,7 @@ use borrow.Author.Tests.{not-true, not-false}
 use denote.Ref.{now}
 use Rattle.magnetar_field.specs.Words.{elements}
 use Rattle.magnetar_batch.specs.Rows.{holdsAt}
-use Rattle.magnetar_batch.proofs.RowLaws.{Below, below-start, below-more, first-is, first-end}
+use Rattle.magnetar_batch.proofs.RowLaws.{Below, below-start, below-more, first-is, first-end, rows-past}
 use borrow.Author.Needs.{needs}
 use Rattle.magnetar_batch.proofs.check.first_failing.Statement.{statement}
 use Rattle.magnetar_batch.proofs.check.first_failing.Tie as tie
@@ -18,8 +18,11 @@ Inv-loop s n i₀ i = (i ≤ n) × Below (holdsAt (elements s) n) i
 abbrev μ-loop : tie.MeasureT-loop
 μ-loop s n i₀ i = n - i
 
+returns : tie.Need-returns Inv-loop μ-loop
+returns c = let x = c .before .before .args in rows-past (now (x .s)) (x .n) (omega arith)
+
 loop-holds : tie.Need-loop-holds Inv-loop μ-loop
-loop-holds c = (search needs, below-start (holdsAt (elements (now (c .before .args .s))) (c .before .args .n)))
+loop-holds c = (search needs, below-start (holdsAt (elements (now (c .before .before .args .s))) (c .before .before .args .n)))
 
 get-requires : tie.Need-get-requires Inv-loop μ-loop
 get-requires c κs = search needs
@@ -45,13 +48,13 @@ get-requires-3 c κs = search needs
 equal-requires : tie.Need-equal-requires Inv-loop μ-loop
 equal-requires c κs = search needs
 
-returns : tie.Need-returns Inv-loop μ-loop
+returns-2 : tie.Need-returns-2 Inv-loop μ-loop
 unfolding holdsAt
-returns c =
-    let x = (c .before .before .before .before .before .before .before .before .before .args) in
+returns-2 c =
+    let x = (c .before .before .before .before .before .before .before .before .before .before .args) in
     let l = (c .before .before .before .before .before .before .before .loop) in
     first-is (holdsAt (elements (now (x .s))) (x .n)) (x .n) (l .row) (omega arith) (l .inv .1)
-    (rw (← c .before .before .before .before .before .get .ensures, ← c .before .before .before .before .get2 .ensures, ← c .before .before .get3 .ensures, ← c .before .before .before .mul .ensures) (sym (c .before .equal .ensures) ∙ not-true _ (c .if1 .taken)))
+    (rw (← c .before .before .before .before .before .get .ensures, ← c .before .before .before .before .get2 .ensures, ← c .before .before .get3 .ensures, ← c .before .before .before .mul .ensures) (sym (c .before .equal .ensures) ∙ not-true _ (c .if2 .taken)))
 
 add-row : tie.Need-add-row Inv-loop μ-loop
 add-row c = search needs
@@ -62,16 +65,16 @@ loop-less c = search needs
 loop-again : tie.Need-loop-again Inv-loop μ-loop
 unfolding holdsAt
 loop-again c =
-    let x = (c .before .before .before .before .before .before .before .before .before .args) in
+    let x = (c .before .before .before .before .before .before .before .before .before .before .args) in
     let l = (c .before .before .before .before .before .before .before .loop) in (
       omega arith,
       below-more (holdsAt (elements (now (x .s))) (x .n)) (l .row) (l .inv .1)
-          (rw (← c .before .before .before .before .before .get .ensures, ← c .before .before .before .before .get2 .ensures, ← c .before .before .get3 .ensures, ← c .before .before .before .mul .ensures) (sym (c .before .equal .ensures) ∙ not-false _ (c .if1 .left))),
+          (rw (← c .before .before .before .before .before .get .ensures, ← c .before .before .before .before .get2 .ensures, ← c .before .before .get3 .ensures, ← c .before .before .before .mul .ensures) (sym (c .before .equal .ensures) ∙ not-false _ (c .if2 .left))),
     )
 
-returns-2 : tie.Need-returns-2 Inv-loop μ-loop
-returns-2 c =
-    let x = (c .before .before .before .args) in
+returns-3 : tie.Need-returns-3 Inv-loop μ-loop
+returns-3 c =
+    let x = (c .before .before .before .before .args) in
     let l = (c .before .loop) in
     first-end (holdsAt (elements (now (x .s))) (x .n)) (x .n) (l .row) (omega arith) (l .inv .1)
 
@@ -81,6 +84,7 @@ first-failing-spec =
     (tie.spec
     Inv-loop
     μ-loop
+    returns
     loop-holds
     get-requires
     add-get
@@ -90,8 +94,8 @@ first-failing-spec =
     add-get-2
     get-requires-3
     equal-requires
-    returns
+    returns-2
     add-row
     loop-less
     loop-again
-    returns-2)
+    returns-3)

@@ -8,7 +8,7 @@ use Rattle.magnetar_field.specs.Words.{elements}
 use Rattle.magnetar_r1cs.specs.Matrix.{share}
 use Rattle.magnetar_r1cs.proofs.Blocks.{product-fits}
 use Rattle.magnetar_inplace.specs.Records.{entryOf}
-use Rattle.magnetar_inplace.specs.LoginSteps.{zOf, addedBlocks}
+use Rattle.magnetar_inplace.specs.LoginSteps.{loginZ, addedBlocks}
 use Rattle.magnetar_inplace.proofs.LoginLaws.{blocks-none, blocks-one}
 use borrow.Author.Needs.{needs}
 use Rattle.magnetar_inplace.proofs.logins.each_login.Statement.{statement}
@@ -16,7 +16,7 @@ use Rattle.magnetar_inplace.proofs.logins.each_login.Tie as tie
 
 abbrev Inv-loop : tie.InvT-loop
 Inv-loop packed x q w n out₀ e k u₀ out u =
-    (length out ≡ length out₀) × (k ≡ q * n) × (u ≤ q) × (out ≡ addedBlocks (q * n) n (λ v. share (zOf w packed (elements x) v)) (entryOf e) u out₀)
+    (length out ≡ length out₀) × (k ≡ q * n) × (u ≤ q) × (out ≡ addedBlocks (q * n) n (λ v. share (loginZ w packed (elements x) v)) (entryOf e) u out₀)
 
 abbrev μ-loop : tie.MeasureT-loop
 μ-loop packed x q w n out₀ e k u₀ out u = q - u

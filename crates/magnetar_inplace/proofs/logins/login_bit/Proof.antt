@@ -2,9 +2,7 @@
 -- Assumes nothing.
 use native.Mathlib.Omega.{arith}
 use denote.Ref.{now}
-use Prim.Native.Nat.{_*_, _≤_}
-use Rattle.magnetar_r1cs.proofs.LoginParts.{product-most, words-most}
-use Rattle.magnetar_inplace.proofs.LoginLaws.{login-bit-is, login-bit-missing}
+use Rattle.magnetar_inplace.proofs.LoginLaws.{login-bit-is, login-bit-past, login-bit-missing}
 use borrow.Author.Needs.{needs}
 use Rattle.magnetar_inplace.proofs.logins.login_bit.Statement.{statement}
 use Rattle.magnetar_inplace.proofs.logins.login_bit.Tie as tie
@@ -12,16 +10,19 @@ use Rattle.magnetar_inplace.proofs.logins.login_bit.Tie as tie
 login-words-requires : tie.Need-login-words-requires
 login-words-requires c κs = search needs
 
-small : (c : tie.After-login-words) → c .before .before .args .u * c .login-words .result ≤ 2097152
-small c =
-    let s = c .before .before in
-    product-most (s .args .u) (c .login-words .result) (omega (arith, s .pre .0)) (rw (c .login-words .ensures) (words-most (s .args .w) (s .pre .1)))
+returns : tie.Need-returns
+returns c =
+    let x = c .before .before .before .args in
+    (login-bit-past (x .w) (now (x .packed)) (x .u) (x .c) _ (c .before .login-words .ensures) (omega arith), omega arith)
 
-mul-j : tie.Need-mul-j
-mul-j c = omega (arith, small c)
+login-start-requires : tie.Need-login-start-requires
+login-start-requires c κs = search needs
 
-add-j : tie.Need-add-j
-add-j c = omega (arith, small c)
+sub-if2 : tie.Need-sub-if2
+sub-if2 c = omega arith
+
+add-result : tie.Need-add-result
+add-result c = omega arith
 
 mul-result : tie.Need-mul-result
 mul-result c = search needs
@@ -32,27 +33,27 @@ shared-slice-read-result c = search needs
 shr-result : tie.Need-shr-result
 shr-result c = search needs
 
-returns : tie.Need-returns
-returns c =
-    let s = c .before .before .before .before in
-    let x = s .args in
-    (login-bit-is (x .w) (now (x .packed)) (x .u) (x .c) (s .pre .2) _ (c .before .before .login-words .ensures), omega arith)
-
 returns-2 : tie.Need-returns-2
 returns-2 c =
-    let s = c .before .before .before in
-    let x = s .args in
-    (login-bit-missing (x .w) (now (x .packed)) (x .u) (x .c) (s .pre .2) _ (c .before .login-words .ensures) (omega arith), omega arith)
+    let x = c .before .before .before .before .before .before .args in
+    (login-bit-is (x .w) (now (x .packed)) (x .u) (x .c) _ (c .before .before .before .before .login-words .ensures) (c .before .before .login-start .result) (omega arith) (omega arith), omega arith)
+
+returns-3 : tie.Need-returns-3
+returns-3 c =
+    let x = c .before .before .before .before .before .args in
+    (login-bit-missing (x .w) (now (x .packed)) (x .u) (x .c) _ (c .before .before .before .login-words .ensures) (omega arith) (omega arith), omega arith)
 
 pub login-bit-spec : {M : Type 1} → statement M
 login-bit-spec =
     tie.close
     (tie.spec
     login-words-requires
-    mul-j
-    add-j
+    returns
+    login-start-requires
+    sub-if2
+    add-result
     mul-result
     shared-slice-read-result
     shr-result
-    returns
-    returns-2)
+    returns-2
+    returns-3)

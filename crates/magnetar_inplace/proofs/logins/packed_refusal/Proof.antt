@@ -12,7 +12,7 @@ use Rattle.magnetar_layout.proofs.SizeLaws.{not-bad}
 use Rattle.magnetar_r1cs.specs.Packed.{loginWords}
 use Rattle.magnetar_r1cs.proofs.LoginParts.{product-most, words-most}
 use Rattle.magnetar_r1cs.proofs.Blocks.{product-fits}
-use Rattle.magnetar_inplace.specs.LoginSteps.{roomOf}
+use Rattle.magnetar_inplace.specs.LoginSteps.{packedRoomTests}
 use borrow.Author.Needs.{needs}
 use Rattle.magnetar_inplace.proofs.logins.packed_refusal.Statement.{statement}
 use Rattle.magnetar_inplace.proofs.logins.packed_refusal.Tie as tie
@@ -29,7 +29,7 @@ second s =
 abbrev third : tie.Start → Tests
 third s =
     let x = s .args in
-    (4, ltb 1048576 (x .q * x .rows)) ∷ (colsTests (2 * x .w) (x .cols) ++ countTests (x .n) (x .n) (x .n) (x .n) ++ (7, not (x .inside)) ∷ [] ++ roomOf (x .q) (x .rows) (x .out))
+    (4, ltb 1048576 (x .q * x .rows)) ∷ (colsTests (2 * x .w) (x .cols) ++ countTests (x .n) (x .n) (x .n) (x .n) ++ (7, not (x .inside)) ∷ [] ++ packedRoomTests (x .q) (x .rows) (x .out))
 
 early : (c : tie.After-note2) → c .note2 .result ≡ noted 0 (first (c .before .before .before .before))
 early c = rw (c .note2 .ensures, c .before .is-size .ensures, c .before .before .note .ensures, c .before .before .before .is-half .ensures)

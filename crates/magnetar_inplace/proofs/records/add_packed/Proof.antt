@@ -29,12 +29,12 @@ use Rattle.magnetar_r1cs.specs.Matrix as matrix
 use Rattle.magnetar_field.specs.Words.{elements}
 use Rattle.magnetar_r1cs.specs.Matrix.{share}
 use Rattle.magnetar_inplace.specs.Records.{entryOf, entriesOfRecords}
-use Rattle.magnetar_inplace.specs.LoginSteps.{zOf, addedLogins, addedPacked}
+use Rattle.magnetar_inplace.specs.LoginSteps.{loginZ, addedLogins, addedPacked}
 use Rattle.magnetar_inplace.proofs.LoginLaws.{packed-more, packed-end}
 
 -- the shares of login u
 abbrev shares : each.Arg → ℕ → matrix.Entry → ℕ
-shares a u = share (zOf (a .1 .1 .1 .1 .0) (a .1 .0 .now) (elements (a .1 .1 .0 .now)) u)
+shares a u = share (loginZ (a .1 .1 .1 .1 .0) (a .1 .0 .now) (elements (a .1 .1 .0 .now)) u)
 
 -- what is left to add, to what the output holds, is what was to be added at the start
 abbrev Inv : each.Arg → List Entry → List ℕ → Type 0

@@ -1,7 +1,7 @@
 -- `magnetar_records::refusal::verify` meets its contract.
 -- Assumes nothing.
 use mathlib.Core.Path.{ap₂, _∙_}
-use Rattle.magnetar_records.specs.Numbers.{joined}
+use Rattle.magnetar_records.specs.Numbers.{firstRefusalOf}
 use borrow.Author.Needs.{needs}
 use Rattle.magnetar_records.proofs.refusal.verify.Statement.{statement}
 use Rattle.magnetar_records.proofs.refusal.verify.Tie as tie
@@ -24,8 +24,8 @@ part-v-start c = search needs
 part-v-end : tie.Need-part-v-end
 part-v-end c = search needs
 
-counted-requires : tie.Need-counted-requires
-counted-requires c κs = search needs
+records6-requires : tie.Need-records6-requires
+records6-requires c κs = search needs
 
 verify-requires : tie.Need-verify-requires
 verify-requires c κs = search needs
@@ -34,7 +34,7 @@ join-requires : tie.Need-join-requires
 join-requires c κs = search needs
 
 returns : tie.Need-returns
-returns c = c .join .ensures ∙ ap₂ joined (c .before .verify .ensures) (c .before .before .counted .ensures)
+returns c = c .join .ensures ∙ ap₂ firstRefusalOf (c .before .verify .ensures) (c .before .before .records6 .ensures)
 
 pub verify-spec : {M : Type 1} → statement M
 verify-spec =
@@ -46,7 +46,7 @@ verify-spec =
     sub-v
     part-v-start
     part-v-end
-    counted-requires
+    records6-requires
     verify-requires
     join-requires
     returns)

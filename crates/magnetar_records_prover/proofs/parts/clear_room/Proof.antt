@@ -1,11 +1,11 @@
 -- `magnetar_records_prover::parts::clear_room` meets its contract.
 -- Assumes nothing.
-use mathlib.Core.Path.{_≡_, sym, ap, _∙_}
-use Prim.Native.Nat.{ℕ, _+_, _-_, _*_, _≤_, min}
+use mathlib.Core.Path.{ap, _∙_}
+use Prim.Native.Nat.{ℕ, min}
 use native.Mathlib.Omega.{arith}
 use lib.ListN.{length}
 use denote.Ref.{now}
-use Rattle.magnetar_records_prover.specs.Parts.{roomOf}
+use Rattle.magnetar_records_prover.specs.Parts.{proverRoomWords}
 use Rattle.magnetar_records_prover.proofs.PartLaws.{cleared-front}
 use borrow.Author.Needs.{needs}
 use Rattle.magnetar_records_prover.proofs.parts.clear_room.Statement.{statement}
@@ -35,7 +35,7 @@ same-length c = search needs
 returns : tie.Need-returns
 returns c =
     let x = c .before .before .before .before .before .before .before .args in
-    let r : ℕ = min (roomOf (x .m) (x .q) (x .rb) (x .rf)) (length (now (x .s))) in
+    let r : ℕ = min (proverRoomWords (x .m) (x .q) (x .rb) (x .rf)) (length (now (x .s))) in
     cleared-front r (c .before .before .before .before .least .result) (now (x .s)) _ (c .before .before .before .before .least .ensures .0 ∙ ap (λ (n : ℕ). min n (length (now (x .s)))) (c .before .before .before .before .before .room-words .ensures)) (omega arith) (c .before .before .clear .ensures)
 
 pub clear-room-spec : {M : Type 1} → statement M

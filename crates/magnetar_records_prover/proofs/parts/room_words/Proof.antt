@@ -16,14 +16,14 @@ least-requires-3 c κs = search needs
 least-requires-4 : tie.Need-least-requires-4
 least-requires-4 c κs = search needs
 
-table-words-requires : tie.Need-table-words-requires
-table-words-requires c κs = search needs
+product-words-requires : tie.Need-product-words-requires
+product-words-requires c κs = search needs
 
 mul-result : tie.Need-mul-result
 mul-result c = search needs
 
-table-words-requires-2 : tie.Need-table-words-requires-2
-table-words-requires-2 c κs = search needs
+product-words-requires-2 : tie.Need-product-words-requires-2
+product-words-requires-2 c κs = search needs
 
 mul-result-2 : tie.Need-mul-result-2
 mul-result-2 c = search needs
@@ -63,9 +63,9 @@ room-words-spec =
     least-requires-2
     least-requires-3
     least-requires-4
-    table-words-requires
+    product-words-requires
     mul-result
-    table-words-requires-2
+    product-words-requires-2
     mul-result-2
     add-result
     mul-result-3

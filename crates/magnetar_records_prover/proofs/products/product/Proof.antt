@@ -61,10 +61,10 @@ use Rattle.magnetar_inplace.proofs.records.apply_simd_packed as g2
 use Rattle.magnetar_inplace.proofs.records.apply_simd_packed.Symbol as g2-def
 use Rattle.magnetar_inplace.proofs.records.apply_simd_packed.Symbol.{name as #g2}
 use Rattle.magnetar_inplace.proofs.records.apply_simd_packed.Met as g2-thm
-use Rattle.magnetar_records_prover.proofs.parts.lift as g3
-use Rattle.magnetar_records_prover.proofs.parts.lift.Symbol as g3-def
-use Rattle.magnetar_records_prover.proofs.parts.lift.Symbol.{name as #g3}
-use Rattle.magnetar_records_prover.proofs.parts.lift.Met as g3-thm
+use Rattle.magnetar_records_prover.proofs.parts.copy_table as g3
+use Rattle.magnetar_records_prover.proofs.parts.copy_table.Symbol as g3-def
+use Rattle.magnetar_records_prover.proofs.parts.copy_table.Symbol.{name as #g3}
+use Rattle.magnetar_records_prover.proofs.parts.copy_table.Met as g3-thm
 use Rattle.magnetar_records_prover.proofs.products.product.Key.{name as #f}
 use Rattle.magnetar_records_prover.proofs.products.product as f
 use Rattle.magnetar_records_prover.proofs.products.product.Statement as stated
@@ -218,4 +218,4 @@ product-spec 𝓤 H 𝓜 𝓖 𝓡 =
     (meets 𝓤 H (𝓖 .A) (givenOf 𝓤 H 𝓜 𝓖) (𝓜 .mem) (𝓡 .run) (tablesOf 𝓤 H 𝓜 (tables 𝓤 H 𝓜 𝓡 code.env))
     (cited 𝓤 H (Callee-g1 𝓤 H (𝓖 .A) (𝓜 .mem) (𝓡 .run)) 𝓜 𝓡 code.env #g1 g1-def.routine code.calls-magnetar-records-prover·products·half (g1-thm.met 𝓤 H 𝓜 𝓖 𝓡))
     (cited 𝓤 H (Callee-g2 𝓤 H (𝓖 .A) (𝓜 .mem) (𝓡 .run)) 𝓜 𝓡 code.env #g2 g2-def.routine code.calls-magnetar-inplace·records·apply-simd-packed (g2-thm.met 𝓤 H 𝓜 𝓖 𝓡))
-    (cited 𝓤 H (Callee-g3 𝓤 H (𝓖 .A) (𝓜 .mem) (𝓡 .run)) 𝓜 𝓡 code.env #g3 g3-def.routine code.calls-magnetar-records-prover·parts·lift (g3-thm.met 𝓤 H 𝓜 𝓖 𝓡)))
+    (cited 𝓤 H (Callee-g3 𝓤 H (𝓖 .A) (𝓜 .mem) (𝓡 .run)) 𝓜 𝓡 code.env #g3 g3-def.routine code.calls-magnetar-records-prover·parts·copy-table (g3-thm.met 𝓤 H 𝓜 𝓖 𝓡)))

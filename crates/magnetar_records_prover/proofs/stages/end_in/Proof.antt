@@ -1,7 +1,5 @@
 -- `magnetar_records_prover::stages::end_in` meets its contract.
 -- Assumes nothing.
-use mathlib.Core.Path.{_≡_, sym, ap, _∙_}
-use native.Mathlib.Omega.{arith}
 use denote.Ref.{now}
 use lib.ListN.{length}
 use Rattle.magnetar_records_prover.proofs.StageLaws.{claims-left}

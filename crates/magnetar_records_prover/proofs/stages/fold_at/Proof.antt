@@ -1,10 +1,8 @@
 -- `magnetar_records_prover::stages::fold_at` meets its contract.
 -- Assumes nothing.
-use mathlib.Core.Path.{_≡_, sym, ap, _∙_}
-use Prim.Native.Nat.{ℕ, _+_, _-_, _*_, _≤_, min}
+use mathlib.Core.Path.{_∙_}
 use native.Mathlib.Omega.{arith}
 use denote.Ref.{now}
-use lib.ListN.{length}
 use Rattle.magnetar_records_prover.proofs.StageLaws.{fold-ends}
 use borrow.Author.Needs.{needs}
 use Rattle.magnetar_records_prover.proofs.stages.fold_at.Statement.{statement}

@@ -1,11 +1,8 @@
 -- `magnetar_records_prover::stages::fold_behind` meets its contract.
 -- Assumes nothing.
-use mathlib.Core.Path.{_≡_, sym, ap, _∙_}
-use Prim.Native.Nat.{ℕ, _+_, _-_, _*_, _≤_, min}
-use native.Mathlib.Omega.{arith}
+use mathlib.Core.Path.{_≡_}
+use Prim.Native.Nat.{ℕ, _+_}
 use denote.Ref.{now}
-use lib.ListN.{length}
-use Rattle.magnetar_field.specs.Sizes.{log₂}
 use Rattle.magnetar_records_prover.specs.Stages.{loginAt}
 use Rattle.magnetar_records_prover.proofs.StageLaws.{fold-left}
 use borrow.Author.Needs.{needs}

@@ -1,10 +1,6 @@
 -- `magnetar_records_prover::stages::inner_part` meets its contract.
 -- Assumes nothing.
-use mathlib.Core.Path.{_≡_, sym, ap, _∙_}
-use Prim.Native.Nat.{ℕ, _+_, _-_, _*_, _≤_, min}
-use native.Mathlib.Omega.{arith}
 use denote.Ref.{now}
-use lib.ListN.{length}
 use Rattle.magnetar_records_prover.proofs.StageLaws.{inner-ends}
 use borrow.Author.Needs.{needs}
 use Rattle.magnetar_records_prover.proofs.stages.inner_part.Statement.{statement}

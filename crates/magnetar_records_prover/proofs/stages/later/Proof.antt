@@ -1,9 +1,7 @@
 -- `magnetar_records_prover::stages::later` meets its contract.
 -- Assumes nothing.
-use mathlib.Core.Path.{_≡_, sym, ap, _∙_}
 use native.Mathlib.Omega.{arith}
 use denote.Ref.{now}
-use lib.ListN.{length}
 use Rattle.magnetar_field.proofs.Elements.{elements-below}
 use Rattle.magnetar_records_prover.proofs.StageLaws.{fold-sizes, end-sizes, later-ends}
 use borrow.Author.Needs.{needs}

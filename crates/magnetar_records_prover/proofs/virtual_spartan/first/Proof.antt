@@ -52,9 +52,9 @@ use Rattle.magnetar_inplace.proofs.records.Entry.Laws as lEntry
 use Rattle.magnetar_hash.specs.declared.transcript.Transcript.{Transcript}
 use Rattle.magnetar_hash.proofs.transcript.Transcript as mTranscript
 use Rattle.magnetar_hash.proofs.transcript.Transcript.Laws as lTranscript
-use Rattle.magnetar_records_prover.specs.declared.stages.Drawn.{Drawn}
-use Rattle.magnetar_records_prover.proofs.stages.Drawn as mDrawn
-use Rattle.magnetar_records_prover.proofs.stages.Drawn.Laws as lDrawn
+use Rattle.magnetar_records_prover.specs.declared.stages.OuterDraws.{OuterDraws}
+use Rattle.magnetar_records_prover.proofs.stages.OuterDraws as mOuterDraws
+use Rattle.magnetar_records_prover.proofs.stages.OuterDraws.Laws as lOuterDraws
 use Rattle.magnetar_inplace.proofs.Locals.{tidy, bare, kept, dies, alloc, hide, free-all}
 use Rattle.magnetar_inplace.proofs.Again.{LentAgain, lends-again, comes-back}
 use Rattle.magnetar_records_prover.proofs.products.products as g1
@@ -252,13 +252,13 @@ module _ {M : Type 1} (𝓤 : URA M) (H : Heap 𝓤) (A : Atoms 𝓤) (W : Given
         -- call 2
         use1 W (raw (Callee-g2 𝓤 H A at-mem run .pre ((((ν2a ∷ []), ((ν2b ∷ []), tt)), (fullShare, (fullShare, tt)), tt, (ref1 δ2a (ys1), (ref2 δ2b (ws1 .0), (n3, (n4, (n6, (n7, (n5, (n16, tt)))))))), (v1 ∷ [], (v2 ∷ [], (u3 ∷ [], (u4 ∷ [], (u6 ∷ [], (u7 ∷ [], (u5 ∷ [], (u16 ∷ [], tt))))))))), tt))) (qed W ((‵ (flft (ν2a ∷ []) fullShare) ⊛ ‵ (flft (ν2b ∷ []) fullShare) ⊛ ‵ ftrue) ∷ ‵ (MutSlice (named 0) (ν2a ∷ []) u64 .own (ref1 δ2a (ys1)) (v1 ∷ [])) ∷ ‵ (MutSlice (named 1) (ν2b ∷ []) u64 .own (ref2 δ2b (ws1 .0)) (v2 ∷ [])) ∷ []) ∵ nothing ! $ owned ! mTranscript.the-row (Is mTranscript.the-row) (LL.makes mTranscript.the-type lTranscript.the-plain 𝓤 H A) (n16) _ w16 $ fjoin ! $ owned ! u64 (Is u64) (uint-makes 𝓤 H A W w64) (n5) _ w5 $ fjoin ! $ owned ! u64 (Is u64) (uint-makes 𝓤 H A W w64) (n7) _ w7 $ fjoin ! $ owned ! u64 (Is u64) (uint-makes 𝓤 H A W w64) (n6) _ w6 $ fjoin ! $ owned ! u64 (Is u64) (uint-makes 𝓤 H A W w64) (n4) _ w4 $ fjoin ! $ owned ! u64 (Is u64) (uint-makes 𝓤 H A W w64) (n3) _ w3 $ fjoin ! $ move ! (3 ∷ 0 ∷ []) $ fjoin ! $ move ! (2 ∷ 0 ∷ []) $ fjoin ! $ move ! (1 ∷ 0 ∷ []) $ join ! $ nothing ! $ move ! (1 ∷ 0 ∷ []) $ frame ! $ done !) $
         calls-at ! fm (Callee-g2 𝓤 H A at-mem run) known-g2 ((((ν2a ∷ []), ((ν2b ∷ []), tt)), (fullShare, (fullShare, tt)), tt, (ref1 δ2a (ys1), (ref2 δ2b (ws1 .0), (n3, (n4, (n6, (n7, (n5, (n16, tt)))))))), (v1 ∷ [], (v2 ∷ [], (u3 ∷ [], (u4 ∷ [], (u6 ∷ [], (u7 ∷ [], (u5 ∷ [], (u16 ∷ [], tt))))))))), tt) (and-then ! (load ! (from ! (stop !)) (look ! 30 refl)) (and-then ! (load ! (from ! (stop !)) (look ! 28 refl)) (and-then ! (load ! (from ! (stop !)) (look ! 50 refl)) (and-then ! (load ! (from ! (stop !)) (look ! 49 refl)) (and-then ! (load ! (from ! (stop !)) (look ! 47 refl)) (and-then ! (load ! (from ! (stop !)) (look ! 46 refl)) (and-then ! (load ! (from ! (stop !)) (look ! 48 refl)) (and-then ! (load ! (from ! (stop !)) (look ! 37 refl)) (no-more !))))))))) (λ z2.
-        use1 W (later (some (λ (r2 : Drawn). ((‵ (flft (ν2a ∷ []) fullShare) ⊛ ‵ (flft (ν2b ∷ []) fullShare) ⊛ ‵ ftrue) ⊛ ‵ (mDrawn.the-row .own r2 (z2 ∷ []))) ⊛ some (λ (ws : Lasts g2.ended ((ν2a ∷ []), ((ν2b ∷ []), tt)) (ref1 δ2a (ys1), (ref2 δ2b (ws1 .0), (n3, (n4, (n6, (n7, (n5, (n16, tt))))))))). ‵ (lasts g2.ended ((ν2a ∷ []), ((ν2b ∷ []), tt)) (ref1 δ2a (ys1), (ref2 δ2b (ws1 .0), (n3, (n4, (n6, (n7, (n5, (n16, tt)))))))) ws) ⊛ raw (g2.clauses 𝓤 H A at-mem run ((ν2a ∷ []), ((ν2b ∷ []), tt)) (ref1 δ2a (ys1), (ref2 δ2b (ws1 .0), (n3, (n4, (n6, (n7, (n5, (n16, tt)))))))) .ensures tt r2 (atExit g2.ended ((ν2a ∷ []), ((ν2b ∷ []), tt)) (ref1 δ2a (ys1), (ref2 δ2b (ws1 .0), (n3, (n4, (n6, (n7, (n5, (n16, tt)))))))) ws)))))) (id⊢ 𝓤 _) $ await ! tt $ pick ! (λ r2. split ! $ move ! (1 ∷ []) $ pick ! (λ ws2. split ! $ move ! (1 ∷ []) $ heard ! _ (λ e2.
-        fsplit ! $ fsplit ! $ move ! (1 ∷ []) $ feqL ! (λ same2a. move ! (1 ∷ []) $ fsplit ! $ fsplit ! $ move ! (1 ∷ []) $ feqL ! (λ same2b. move ! (1 ∷ []) $ drop ! $ move ! (2 ∷ []) $ split ! $ move ! (1 ∷ []) $ peeks ! mDrawn.the-row (Is mDrawn.the-row) (shows 𝓤 H A mDrawn.the-row) r2 (z2 ∷ []) (λ i2. drop ! $ land ! (from ! (stop !)) (init ! 38 refl (LL.lawful mDrawn.the-type lDrawn.the-laws 𝓤 H A W .typed r2 _ i2 .0)) $
+        use1 W (later (some (λ (r2 : OuterDraws). ((‵ (flft (ν2a ∷ []) fullShare) ⊛ ‵ (flft (ν2b ∷ []) fullShare) ⊛ ‵ ftrue) ⊛ ‵ (mOuterDraws.the-row .own r2 (z2 ∷ []))) ⊛ some (λ (ws : Lasts g2.ended ((ν2a ∷ []), ((ν2b ∷ []), tt)) (ref1 δ2a (ys1), (ref2 δ2b (ws1 .0), (n3, (n4, (n6, (n7, (n5, (n16, tt))))))))). ‵ (lasts g2.ended ((ν2a ∷ []), ((ν2b ∷ []), tt)) (ref1 δ2a (ys1), (ref2 δ2b (ws1 .0), (n3, (n4, (n6, (n7, (n5, (n16, tt)))))))) ws) ⊛ raw (g2.clauses 𝓤 H A at-mem run ((ν2a ∷ []), ((ν2b ∷ []), tt)) (ref1 δ2a (ys1), (ref2 δ2b (ws1 .0), (n3, (n4, (n6, (n7, (n5, (n16, tt)))))))) .ensures tt r2 (atExit g2.ended ((ν2a ∷ []), ((ν2b ∷ []), tt)) (ref1 δ2a (ys1), (ref2 δ2b (ws1 .0), (n3, (n4, (n6, (n7, (n5, (n16, tt)))))))) ws)))))) (id⊢ 𝓤 _) $ await ! tt $ pick ! (λ r2. split ! $ move ! (1 ∷ []) $ pick ! (λ ws2. split ! $ move ! (1 ∷ []) $ heard ! _ (λ e2.
+        fsplit ! $ fsplit ! $ move ! (1 ∷ []) $ feqL ! (λ same2a. move ! (1 ∷ []) $ fsplit ! $ fsplit ! $ move ! (1 ∷ []) $ feqL ! (λ same2b. move ! (1 ∷ []) $ drop ! $ move ! (2 ∷ []) $ split ! $ move ! (1 ∷ []) $ peeks ! mOuterDraws.the-row (Is mOuterDraws.the-row) (shows 𝓤 H A mOuterDraws.the-row) r2 (z2 ∷ []) (λ i2. drop ! $ land ! (from ! (stop !)) (init ! 38 refl (LL.lawful mOuterDraws.the-type lOuterDraws.the-laws 𝓤 H A W .typed r2 _ i2 .0)) $
         tidy W (_ ∷ _ ∷ _ ∷ _ ∷ _ ∷ _ ∷ _ ∷ _ ∷ _ ∷ _ ∷ _ ∷ _ ∷ _ ∷ _ ∷ _ ∷ _ ∷ _ ∷ _ ∷ _ ∷ _ ∷ _ ∷ _ ∷ _ ∷ _ ∷ _ ∷ _ ∷ _ ∷ _ ∷ _ ∷ _ ∷ _ ∷ _ ∷ _ ∷ _ ∷ _ ∷ _ ∷ _ ∷ _ ∷ _ ∷ _ ∷ _ ∷ _ ∷ _ ∷ _ ∷ _ ∷ _ ∷ _ ∷ _ ∷ _ ∷ _ ∷ _ ∷ _ ∷ _ ∷ _ ∷ _ ∷ _ ∷ []) $ split ! $ move ! (1 ∷ []) $ split ! $ move ! (1 ∷ []) $ drop ! $ move ! (1 ∷ []) $ lft-end ! tt $ move ! (0 ∷ 5 ∷ 3 ∷ []) $ use3 W (later (‵ (O1 (ws2 .0)) ⊛ ‵ (flft κ₀ q₀))) (backs1 (named 0) ν2a δ2a (ys1) (ws2 .0) (refl) room1 same2a) $ await ! tt $ split ! $
         move ! (2 ∷ []) $ lft-end ! tt $ move ! (0 ∷ 4 ∷ 3 ∷ []) $ use3 W (later (‵ (O2 (ws2 .1 .0)) ⊛ ‵ (flft κ₁ q₁))) (backs2 (named 1) ν2b δ2b (ws1 .0) (ws2 .1 .0) (same1a) room2 same2b) $ await ! tt $ split ! $
         tidy W (_ ∷ _ ∷ _ ∷ _ ∷ _ ∷ _ ∷ _ ∷ _ ∷ _ ∷ _ ∷ _ ∷ _ ∷ _ ∷ _ ∷ _ ∷ _ ∷ _ ∷ _ ∷ _ ∷ _ ∷ _ ∷ _ ∷ _ ∷ _ ∷ _ ∷ _ ∷ _ ∷ _ ∷ _ ∷ _ ∷ _ ∷ _ ∷ _ ∷ _ ∷ _ ∷ _ ∷ _ ∷ _ ∷ _ ∷ _ ∷ _ ∷ _ ∷ _ ∷ _ ∷ _ ∷ _ ∷ _ ∷ _ ∷ _ ∷ _ ∷ _ ∷ _ ∷ _ ∷ _ ∷ _ ∷ []) $ nothing ! $
         -- call 3
-        use1 W (raw (Callee-g3 𝓤 H A at-mem run .pre ((tt, tt, tt, (r2, tt), (z2 ∷ [], tt)), tt))) (qed W ((‵ ftrue) ∷ []) ∵ nothing ! $ owned ! mDrawn.the-row (Is mDrawn.the-row) (LL.makes mDrawn.the-type lDrawn.the-plain 𝓤 H A) (r2) _ i2 $ fjoin ! $ move ! (1 ∷ 0 ∷ []) $ join ! $ nothing ! $ move ! (1 ∷ 0 ∷ []) $ frame ! $ done !) $
+        use1 W (raw (Callee-g3 𝓤 H A at-mem run .pre ((tt, tt, tt, (r2, tt), (z2 ∷ [], tt)), tt))) (qed W ((‵ ftrue) ∷ []) ∵ nothing ! $ owned ! mOuterDraws.the-row (Is mOuterDraws.the-row) (LL.makes mOuterDraws.the-type lOuterDraws.the-plain 𝓤 H A) (r2) _ i2 $ fjoin ! $ move ! (1 ∷ 0 ∷ []) $ join ! $ nothing ! $ move ! (1 ∷ 0 ∷ []) $ frame ! $ done !) $
         calls-at ! fm (Callee-g3 𝓤 H A at-mem run) known-g3 ((tt, tt, tt, (r2, tt), (z2 ∷ [], tt)), tt) (and-then ! (load ! (from ! (stop !)) (look ! 38 refl)) (no-more !)) (λ z3.
         use1 W (later (some (λ (r3 : (List ℕ)). ((‵ ftrue) ⊛ ‵ ((Array u64 256) .own r3 (z3 ∷ []))) ⊛ some (λ (ws : Lasts g3.ended tt (r2, tt)). ‵ (lasts g3.ended tt (r2, tt) ws) ⊛ raw (g3.clauses 𝓤 H A at-mem run tt (r2, tt) .ensures tt r3 (atExit g3.ended tt (r2, tt) ws)))))) (id⊢ 𝓤 _) $ await ! tt $ pick ! (λ r3. split ! $ move ! (1 ∷ []) $ pick ! (λ ws3. split ! $ move ! (1 ∷ []) $ heard ! _ (λ e3.
         drop ! $ split ! $ move ! (1 ∷ []) $ peeks ! (Array u64 256) (Is (Array u64 256)) (shows 𝓤 H A (Array u64 256)) r3 (z3 ∷ []) (λ i3. drop ! $ land ! (from ! (stop !)) (init ! 37 refl (array-lawful 𝓤 H A W u64 (uint-lawful 𝓤 H A W w64) 256 .typed r3 _ i3 .0)) $
@@ -271,10 +271,10 @@ module _ {M : Type 1} (𝓤 : URA M) (H : Heap 𝓤) (A : Atoms 𝓤) (W : Given
         use1 W (later (some (λ (r4 : Unit {0}). ((‵ (flft (ν4a ∷ []) fullShare) ⊛ ‵ (flft κ₂ q₂) ⊛ ‵ (flft κ₃ q₃) ⊛ ‵ (flft κ₄ q₄) ⊛ ‵ (flft κ₅ q₅) ⊛ ‵ (flft κ₆ q₆) ⊛ ‵ (flft κ₇ q₇) ⊛ ‵ ftrue) ⊛ ‵ (unit .own r4 (z4 ∷ []))) ⊛ some (λ (ws : Lasts g4.ended ((ν4a ∷ []), (κ₂, (κ₃, (κ₄, (κ₅, (κ₆, (κ₇, tt))))))) (ref2 δ4a (ws2 .1 .0), (n3, (n4, (n6, (n7, (r3, (s8, (s9, (s10, (s11, (s12, (s13, tt))))))))))))). ‵ (lasts g4.ended ((ν4a ∷ []), (κ₂, (κ₃, (κ₄, (κ₅, (κ₆, (κ₇, tt))))))) (ref2 δ4a (ws2 .1 .0), (n3, (n4, (n6, (n7, (r3, (s8, (s9, (s10, (s11, (s12, (s13, tt)))))))))))) ws) ⊛ raw (g4.clauses 𝓤 H A at-mem run ((ν4a ∷ []), (κ₂, (κ₃, (κ₄, (κ₅, (κ₆, (κ₇, tt))))))) (ref2 δ4a (ws2 .1 .0), (n3, (n4, (n6, (n7, (r3, (s8, (s9, (s10, (s11, (s12, (s13, tt)))))))))))) .ensures tt r4 (atExit g4.ended ((ν4a ∷ []), (κ₂, (κ₃, (κ₄, (κ₅, (κ₆, (κ₇, tt))))))) (ref2 δ4a (ws2 .1 .0), (n3, (n4, (n6, (n7, (r3, (s8, (s9, (s10, (s11, (s12, (s13, tt)))))))))))) ws)))))) (id⊢ 𝓤 _) $ await ! tt $ pick ! (λ r4. split ! $ move ! (1 ∷ []) $ pick ! (λ ws4. split ! $ move ! (1 ∷ []) $ heard ! _ (λ e4.
         fsplit ! $ fsplit ! $ move ! (1 ∷ []) $ feqL ! (λ same4a. move ! (1 ∷ []) $ drop ! $ move ! (1 ∷ []) $ split ! $ move ! (1 ∷ []) $ feqL ! (λ i4. land ! (from ! (stop !)) (store ! 30 refl (subst (λ (t : Val). Trueᴮ (hasTy tyUnit t) × WT t) (sym (ap only i4)) (tt, tt))) $
         tidy W (_ ∷ _ ∷ _ ∷ _ ∷ _ ∷ _ ∷ _ ∷ _ ∷ _ ∷ _ ∷ _ ∷ _ ∷ _ ∷ _ ∷ _ ∷ _ ∷ _ ∷ _ ∷ _ ∷ _ ∷ _ ∷ _ ∷ _ ∷ _ ∷ _ ∷ _ ∷ _ ∷ _ ∷ _ ∷ _ ∷ _ ∷ _ ∷ _ ∷ _ ∷ _ ∷ _ ∷ _ ∷ _ ∷ _ ∷ _ ∷ _ ∷ _ ∷ _ ∷ _ ∷ _ ∷ _ ∷ _ ∷ _ ∷ _ ∷ _ ∷ []) $ split ! $ move ! (1 ∷ []) $ split ! $ move ! (1 ∷ []) $ split ! $ move ! (1 ∷ []) $ split ! $ move ! (1 ∷ []) $ split ! $ move ! (1 ∷ []) $ split ! $ move ! (1 ∷ []) $ split ! $ move ! (1 ∷ []) $ drop ! $ move ! (6 ∷ []) $ lft-end ! tt $ move ! (0 ∷ 14 ∷ 7 ∷ []) $ use3 W (later (‵ (O2 (ws4 .0)) ⊛ ‵ (flft κ₁ q₁))) (backs2 (named 0) ν4a δ4a (ws2 .1 .0) (ws4 .0) (same2b ∙ same1a) room2 same4a) $ await ! tt $ split ! $
-        assigns ! (of-opd ! (load ! (from ! (stop !)) (look ! 37 refl))) (from ! (stop !)) (init ! 54 refl (LL.lawful mDrawn.the-type lDrawn.the-laws 𝓤 H A W .typed r2 _ i2 .0)) $
-        tidy W (_ ∷ _ ∷ _ ∷ _ ∷ _ ∷ _ ∷ _ ∷ _ ∷ _ ∷ _ ∷ _ ∷ _ ∷ _ ∷ _ ∷ _ ∷ _ ∷ _ ∷ _ ∷ _ ∷ _ ∷ _ ∷ _ ∷ _ ∷ _ ∷ _ ∷ _ ∷ _ ∷ _ ∷ _ ∷ _ ∷ _ ∷ _ ∷ _ ∷ _ ∷ _ ∷ _ ∷ _ ∷ _ ∷ _ ∷ _ ∷ _ ∷ _ ∷ _ ∷ _ ∷ _ ∷ _ ∷ _ ∷ _ ∷ _ ∷ _ ∷ _ ∷ _ ∷ _ ∷ _ ∷ _ ∷ []) $ returns ! (look ! 54 refl) $ move ! (26 ∷ []) $ use1 W (dies ((lDrawn.mir, l₀) ∷ (sliceTy (tyRef (named 0) mut (tyInt w64)), l₁) ∷ (sliceTy (tyRef (named 1) mut (tyInt w64)), l₂) ∷ (tyInt w64, l₃) ∷ (tyInt w64, l₄) ∷ (tyInt w64, l₅) ∷ (tyInt w64, l₆) ∷ (tyInt w64, l₇) ∷ (sliceTy (tyRef (named 2) imm (pointee (mEntry.the-row .written))), l₈) ∷ (sliceTy (tyRef (named 3) imm (pointee (mEntry.the-row .written))), l₉) ∷ (sliceTy (tyRef (named 4) imm (pointee (mEntry.the-row .written))), l₁₀) ∷ (sliceTy (tyRef (named 5) imm (pointee (mEntry.the-row .written))), l₁₁) ∷ (sliceTy (tyRef (named 6) imm (pointee (mEntry.the-row .written))), l₁₂) ∷ (sliceTy (tyRef (named 7) imm (pointee (mEntry.the-row .written))), l₁₃) ∷ (sliceTy (tyRef (named 8) imm (tyInt w64)), l₁₄) ∷ (sliceTy (tyRef (named 9) imm (tyInt w64)), l₁₅) ∷ (lTranscript.mir, l₁₆) ∷ (lDrawn.mir, l₁₇) ∷ (tyArray (tyInt w64) 256, l₁₈) ∷ (tyUnit, l₁₉) ∷ (tyRef erased mut (tyInt w64), l₂₀) ∷ (sliceTy (tyRef erased mut (tyInt w64)), l₂₁) ∷ (tyRef erased mut (tyInt w64), l₂₂) ∷ (sliceTy (tyRef erased mut (tyInt w64)), l₂₃) ∷ (tyRef erased mut (tyInt w64), l₂₄) ∷ (sliceTy (tyRef erased mut (tyInt w64)), l₂₅) ∷ (tyRef erased mut (tyInt w64), l₂₆) ∷ (sliceTy (tyRef erased mut (tyInt w64)), l₂₇) ∷ []) (‵ ftrue)) die $ free-all ! 26 ((lDrawn.mir, l₀) ∷ (sliceTy (tyRef (named 0) mut (tyInt w64)), l₁) ∷ (sliceTy (tyRef (named 1) mut (tyInt w64)), l₂) ∷ (tyInt w64, l₃) ∷ (tyInt w64, l₄) ∷ (tyInt w64, l₅) ∷ (tyInt w64, l₆) ∷ (tyInt w64, l₇) ∷ (sliceTy (tyRef (named 2) imm (pointee (mEntry.the-row .written))), l₈) ∷ (sliceTy (tyRef (named 3) imm (pointee (mEntry.the-row .written))), l₉) ∷ (sliceTy (tyRef (named 4) imm (pointee (mEntry.the-row .written))), l₁₀) ∷ (sliceTy (tyRef (named 5) imm (pointee (mEntry.the-row .written))), l₁₁) ∷ (sliceTy (tyRef (named 6) imm (pointee (mEntry.the-row .written))), l₁₂) ∷ (sliceTy (tyRef (named 7) imm (pointee (mEntry.the-row .written))), l₁₃) ∷ (sliceTy (tyRef (named 8) imm (tyInt w64)), l₁₄) ∷ (sliceTy (tyRef (named 9) imm (tyInt w64)), l₁₅) ∷ (lTranscript.mir, l₁₆) ∷ (lDrawn.mir, l₁₇) ∷ (tyArray (tyInt w64) 256, l₁₈) ∷ (tyUnit, l₁₉) ∷ (tyRef erased mut (tyInt w64), l₂₀) ∷ (sliceTy (tyRef erased mut (tyInt w64)), l₂₁) ∷ (tyRef erased mut (tyInt w64), l₂₂) ∷ (sliceTy (tyRef erased mut (tyInt w64)), l₂₃) ∷ (tyRef erased mut (tyInt w64), l₂₄) ∷ (sliceTy (tyRef erased mut (tyInt w64)), l₂₅) ∷ (tyRef erased mut (tyInt w64), l₂₆) ∷ (sliceTy (tyRef erased mut (tyInt w64)), l₂₇) ∷ []) (kept _ ∷ kept _ ∷ kept _ ∷ kept _ ∷ kept _ ∷ kept _ ∷ kept _ ∷ kept _ ∷ kept _ ∷ kept _ ∷ kept _ ∷ kept _ ∷ kept _ ∷ kept _ ∷ kept _ ∷ kept _ ∷ kept _ ∷ kept _ ∷ kept _ ∷ kept _ ∷ kept _ ∷ kept _ ∷ kept _ ∷ kept _ ∷ kept _ ∷ kept _ ∷ kept _ ∷ kept _ ∷ []) refl $
+        assigns ! (of-opd ! (load ! (from ! (stop !)) (look ! 37 refl))) (from ! (stop !)) (init ! 54 refl (LL.lawful mOuterDraws.the-type lOuterDraws.the-laws 𝓤 H A W .typed r2 _ i2 .0)) $
+        tidy W (_ ∷ _ ∷ _ ∷ _ ∷ _ ∷ _ ∷ _ ∷ _ ∷ _ ∷ _ ∷ _ ∷ _ ∷ _ ∷ _ ∷ _ ∷ _ ∷ _ ∷ _ ∷ _ ∷ _ ∷ _ ∷ _ ∷ _ ∷ _ ∷ _ ∷ _ ∷ _ ∷ _ ∷ _ ∷ _ ∷ _ ∷ _ ∷ _ ∷ _ ∷ _ ∷ _ ∷ _ ∷ _ ∷ _ ∷ _ ∷ _ ∷ _ ∷ _ ∷ _ ∷ _ ∷ _ ∷ _ ∷ _ ∷ _ ∷ _ ∷ _ ∷ _ ∷ _ ∷ _ ∷ _ ∷ []) $ returns ! (look ! 54 refl) $ move ! (26 ∷ []) $ use1 W (dies ((lOuterDraws.mir, l₀) ∷ (sliceTy (tyRef (named 0) mut (tyInt w64)), l₁) ∷ (sliceTy (tyRef (named 1) mut (tyInt w64)), l₂) ∷ (tyInt w64, l₃) ∷ (tyInt w64, l₄) ∷ (tyInt w64, l₅) ∷ (tyInt w64, l₆) ∷ (tyInt w64, l₇) ∷ (sliceTy (tyRef (named 2) imm (pointee (mEntry.the-row .written))), l₈) ∷ (sliceTy (tyRef (named 3) imm (pointee (mEntry.the-row .written))), l₉) ∷ (sliceTy (tyRef (named 4) imm (pointee (mEntry.the-row .written))), l₁₀) ∷ (sliceTy (tyRef (named 5) imm (pointee (mEntry.the-row .written))), l₁₁) ∷ (sliceTy (tyRef (named 6) imm (pointee (mEntry.the-row .written))), l₁₂) ∷ (sliceTy (tyRef (named 7) imm (pointee (mEntry.the-row .written))), l₁₃) ∷ (sliceTy (tyRef (named 8) imm (tyInt w64)), l₁₄) ∷ (sliceTy (tyRef (named 9) imm (tyInt w64)), l₁₅) ∷ (lTranscript.mir, l₁₆) ∷ (lOuterDraws.mir, l₁₇) ∷ (tyArray (tyInt w64) 256, l₁₈) ∷ (tyUnit, l₁₉) ∷ (tyRef erased mut (tyInt w64), l₂₀) ∷ (sliceTy (tyRef erased mut (tyInt w64)), l₂₁) ∷ (tyRef erased mut (tyInt w64), l₂₂) ∷ (sliceTy (tyRef erased mut (tyInt w64)), l₂₃) ∷ (tyRef erased mut (tyInt w64), l₂₄) ∷ (sliceTy (tyRef erased mut (tyInt w64)), l₂₅) ∷ (tyRef erased mut (tyInt w64), l₂₆) ∷ (sliceTy (tyRef erased mut (tyInt w64)), l₂₇) ∷ []) (‵ ftrue)) die $ free-all ! 26 ((lOuterDraws.mir, l₀) ∷ (sliceTy (tyRef (named 0) mut (tyInt w64)), l₁) ∷ (sliceTy (tyRef (named 1) mut (tyInt w64)), l₂) ∷ (tyInt w64, l₃) ∷ (tyInt w64, l₄) ∷ (tyInt w64, l₅) ∷ (tyInt w64, l₆) ∷ (tyInt w64, l₇) ∷ (sliceTy (tyRef (named 2) imm (pointee (mEntry.the-row .written))), l₈) ∷ (sliceTy (tyRef (named 3) imm (pointee (mEntry.the-row .written))), l₉) ∷ (sliceTy (tyRef (named 4) imm (pointee (mEntry.the-row .written))), l₁₀) ∷ (sliceTy (tyRef (named 5) imm (pointee (mEntry.the-row .written))), l₁₁) ∷ (sliceTy (tyRef (named 6) imm (pointee (mEntry.the-row .written))), l₁₂) ∷ (sliceTy (tyRef (named 7) imm (pointee (mEntry.the-row .written))), l₁₃) ∷ (sliceTy (tyRef (named 8) imm (tyInt w64)), l₁₄) ∷ (sliceTy (tyRef (named 9) imm (tyInt w64)), l₁₅) ∷ (lTranscript.mir, l₁₆) ∷ (lOuterDraws.mir, l₁₇) ∷ (tyArray (tyInt w64) 256, l₁₈) ∷ (tyUnit, l₁₉) ∷ (tyRef erased mut (tyInt w64), l₂₀) ∷ (sliceTy (tyRef erased mut (tyInt w64)), l₂₁) ∷ (tyRef erased mut (tyInt w64), l₂₂) ∷ (sliceTy (tyRef erased mut (tyInt w64)), l₂₃) ∷ (tyRef erased mut (tyInt w64), l₂₄) ∷ (sliceTy (tyRef erased mut (tyInt w64)), l₂₅) ∷ (tyRef erased mut (tyInt w64), l₂₆) ∷ (sliceTy (tyRef erased mut (tyInt w64)), l₂₇) ∷ []) (kept _ ∷ kept _ ∷ kept _ ∷ kept _ ∷ kept _ ∷ kept _ ∷ kept _ ∷ kept _ ∷ kept _ ∷ kept _ ∷ kept _ ∷ kept _ ∷ kept _ ∷ kept _ ∷ kept _ ∷ kept _ ∷ kept _ ∷ kept _ ∷ kept _ ∷ kept _ ∷ kept _ ∷ kept _ ∷ kept _ ∷ kept _ ∷ kept _ ∷ kept _ ∷ kept _ ∷ kept _ ∷ []) refl $
         suffices ! _ (ends-at 𝓤 H A f.ended stayed (f.clauses 𝓤 H A at-mem run) W (((κ₀, (κ₁, (κ₂, (κ₃, (κ₄, (κ₅, (κ₆, (κ₇, (κ₈, (κ₉, tt)))))))))), (q₀, (q₁, (q₂, (q₃, (q₄, (q₅, (q₆, (q₇, (q₈, (q₉, tt)))))))))), tt, a, at), tt) z2 r2 (ws2 .0, (ws4 .0, (tt, (tt, (tt, (tt, (tt, (tt, (tt, (tt, (tt, (tt, (tt, (tt, (tt, (tt, tt)))))))))))))))) (same2a, (same4a ∙ same2b ∙ same1a, (tt, (tt, (tt, (tt, (tt, (tt, (tt, (tt, (tt, (tt, (tt, (tt, (tt, (tt, tt))))))))))))))))) $ says ! (outer-is n6 n7 n3 n4 n5 (s8 .now) (s9 .now) (s10 .now) (s11 .now) (s12 .now) (s13 .now) (s14 .now) (s15 .now) ys1 ys2 n16 (ws1 .0) (r2 .«transcript») (r2 .«draws») (ws2 .0) (ws2 .1 .0) r3 (ws4 .0) e1 e2 e3 e4) $
-        nothing ! $ move ! (17 ∷ 0 ∷ []) $ join ! $ move ! (17 ∷ 0 ∷ []) $ join ! $ move ! (3 ∷ 0 ∷ []) $ join ! $ move ! (3 ∷ 0 ∷ []) $ join ! $ move ! (3 ∷ 0 ∷ []) $ join ! $ move ! (3 ∷ 0 ∷ []) $ join ! $ move ! (3 ∷ 0 ∷ []) $ join ! $ move ! (3 ∷ 0 ∷ []) $ join ! $ move ! (2 ∷ 0 ∷ []) $ join ! $ move ! (9 ∷ 0 ∷ []) $ join ! $ nothing ! $ move ! (12 ∷ 0 ∷ []) $ fjoin ! $ move ! (10 ∷ 0 ∷ []) $ fjoin ! $ move ! (10 ∷ 0 ∷ []) $ fjoin ! $ move ! (3 ∷ 0 ∷ []) $ fjoin ! $ move ! (3 ∷ 0 ∷ []) $ fjoin ! $ move ! (3 ∷ 0 ∷ []) $ fjoin ! $ move ! (3 ∷ 0 ∷ []) $ fjoin ! $ move ! (3 ∷ 0 ∷ []) $ fjoin ! $ move ! (3 ∷ 0 ∷ []) $ fjoin ! $ move ! (4 ∷ 0 ∷ []) $ fjoin ! $ move ! (4 ∷ 0 ∷ []) $ fjoin ! $ move ! (4 ∷ 0 ∷ []) $ fjoin ! $ move ! (4 ∷ 0 ∷ []) $ fjoin ! $ move ! (4 ∷ 0 ∷ []) $ fjoin ! $ move ! (2 ∷ 0 ∷ []) $ fjoin ! $ move ! (2 ∷ 0 ∷ []) $ fjoin ! $ keep ! (1 ∷ 0 ∷ []) $ frame ! $ frame ! $ owned ! mDrawn.the-row (Is mDrawn.the-row) (LL.makes mDrawn.the-type lDrawn.the-plain 𝓤 H A) r2 _ i2 $ done !)))))))))))))))))))))))))))))))))))))))))))))))))))))))))))))
+        nothing ! $ move ! (17 ∷ 0 ∷ []) $ join ! $ move ! (17 ∷ 0 ∷ []) $ join ! $ move ! (3 ∷ 0 ∷ []) $ join ! $ move ! (3 ∷ 0 ∷ []) $ join ! $ move ! (3 ∷ 0 ∷ []) $ join ! $ move ! (3 ∷ 0 ∷ []) $ join ! $ move ! (3 ∷ 0 ∷ []) $ join ! $ move ! (3 ∷ 0 ∷ []) $ join ! $ move ! (2 ∷ 0 ∷ []) $ join ! $ move ! (9 ∷ 0 ∷ []) $ join ! $ nothing ! $ move ! (12 ∷ 0 ∷ []) $ fjoin ! $ move ! (10 ∷ 0 ∷ []) $ fjoin ! $ move ! (10 ∷ 0 ∷ []) $ fjoin ! $ move ! (3 ∷ 0 ∷ []) $ fjoin ! $ move ! (3 ∷ 0 ∷ []) $ fjoin ! $ move ! (3 ∷ 0 ∷ []) $ fjoin ! $ move ! (3 ∷ 0 ∷ []) $ fjoin ! $ move ! (3 ∷ 0 ∷ []) $ fjoin ! $ move ! (3 ∷ 0 ∷ []) $ fjoin ! $ move ! (4 ∷ 0 ∷ []) $ fjoin ! $ move ! (4 ∷ 0 ∷ []) $ fjoin ! $ move ! (4 ∷ 0 ∷ []) $ fjoin ! $ move ! (4 ∷ 0 ∷ []) $ fjoin ! $ move ! (4 ∷ 0 ∷ []) $ fjoin ! $ move ! (2 ∷ 0 ∷ []) $ fjoin ! $ move ! (2 ∷ 0 ∷ []) $ fjoin ! $ keep ! (1 ∷ 0 ∷ []) $ frame ! $ frame ! $ owned ! mOuterDraws.the-row (Is mOuterDraws.the-row) (LL.makes mOuterDraws.the-type lOuterDraws.the-plain 𝓤 H A) r2 _ i2 $ done !)))))))))))))))))))))))))))))))))))))))))))))))))))))))))))))
 
 module _ {M : Type 1} (𝓤 : URA M) (H : Heap 𝓤) (A : Atoms 𝓤) (W : Given 𝓤 H A) (mem : Memory → SProp 𝓤) (run : Routine → Fun 𝓤) where
   walks : (C : Calls 𝓤 H) (Λ : Loops 𝓤 H) → FmC 𝓤 H (W .laws) C → Triple 𝓤 (C #g1) (Callee-g1 𝓤 H A mem run) → Triple 𝓤 (C #g2) (Callee-g2 𝓤 H A mem run) → Triple 𝓤 (C #g3) (Callee-g3 𝓤 H A mem run) → Triple 𝓤 (C #g4) (Callee-g4 𝓤 H A mem run) → Walks 𝓤 H A f.ended stayed (WpFn 𝓤 H C Λ code.function) (f.clauses 𝓤 H A mem run)

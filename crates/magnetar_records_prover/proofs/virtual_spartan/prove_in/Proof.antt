@@ -52,9 +52,9 @@ use Rattle.magnetar_inplace.proofs.records.Entry.Laws as lEntry
 use Rattle.magnetar_hash.specs.declared.transcript.Transcript.{Transcript}
 use Rattle.magnetar_hash.proofs.transcript.Transcript as mTranscript
 use Rattle.magnetar_hash.proofs.transcript.Transcript.Laws as lTranscript
-use Rattle.magnetar_records_prover.specs.declared.stages.Drawn.{Drawn}
-use Rattle.magnetar_records_prover.proofs.stages.Drawn as mDrawn
-use Rattle.magnetar_records_prover.proofs.stages.Drawn.Laws as lDrawn
+use Rattle.magnetar_records_prover.specs.declared.stages.OuterDraws.{OuterDraws}
+use Rattle.magnetar_records_prover.proofs.stages.OuterDraws as mOuterDraws
+use Rattle.magnetar_records_prover.proofs.stages.OuterDraws.Laws as lOuterDraws
 use Rattle.magnetar_inplace.proofs.Locals.{tidy, bare, kept, dies, alloc, hide, free-all}
 use Rattle.magnetar_inplace.proofs.Again.{LentAgain, lends-again, comes-back}
 use Rattle.magnetar_records_prover.proofs.virtual_spartan.first as g1
@@ -255,8 +255,8 @@ module _ {M : Type 1} (𝓤 : URA M) (H : Heap 𝓤) (A : Atoms 𝓤) (W : Given
         -- call 1
         use1 W (raw (Callee-g1 𝓤 H A at-mem run .pre ((((ν1a ∷ []), ((ν1b ∷ []), (κ₄, (κ₅, (κ₆, (κ₇, (κ₈, (κ₉, (κ₁₀, (κ₁₁, tt)))))))))), (fullShare, (fullShare, (q₄, (q₅, (q₆, (q₇, (q₈, (q₉, (q₁₀, (q₁₁, tt)))))))))), tt, (ref1 δ1a (ys1), (ref3 δ1b (ys3), (n4, (n5, ((length (s6 .now)), (n7, (n8, (s9, (s10, (s11, (s12, (s13, (s14, (s15, (s16, (n17, tt)))))))))))))))), (v1 ∷ [], (v3 ∷ [], (u4 ∷ [], (u5 ∷ [], ((vint w64 (length (s6 .now))) ∷ [], (u7 ∷ [], (u8 ∷ [], (v9 ∷ [], (v10 ∷ [], (v11 ∷ [], (v12 ∷ [], (v13 ∷ [], (v14 ∷ [], (v15 ∷ [], (v16 ∷ [], (u17 ∷ [], tt))))))))))))))))), tt))) (qed W ((‵ (flft (ν1a ∷ []) fullShare) ⊛ ‵ (flft (ν1b ∷ []) fullShare) ⊛ ‵ (flft κ₄ q₄) ⊛ ‵ (flft κ₅ q₅) ⊛ ‵ (flft κ₆ q₆) ⊛ ‵ (flft κ₇ q₇) ⊛ ‵ (flft κ₈ q₈) ⊛ ‵ (flft κ₉ q₉) ⊛ ‵ (flft κ₁₀ q₁₀) ⊛ ‵ (flft κ₁₁ q₁₁) ⊛ ‵ ftrue) ∷ ‵ (MutSlice (named 0) (ν1a ∷ []) u64 .own (ref1 δ1a (ys1)) (v1 ∷ [])) ∷ ‵ (MutSlice (named 1) (ν1b ∷ []) u64 .own (ref3 δ1b (ys3)) (v3 ∷ [])) ∷ ‵ (ShrSlice (named 2) κ₄ mEntry.the-row .own s9 (v9 ∷ [])) ∷ ‵ (ShrSlice (named 3) κ₅ mEntry.the-row .own s10 (v10 ∷ [])) ∷ ‵ (ShrSlice (named 4) κ₆ mEntry.the-row .own s11 (v11 ∷ [])) ∷ ‵ (ShrSlice (named 5) κ₇ mEntry.the-row .own s12 (v12 ∷ [])) ∷ ‵ (ShrSlice (named 6) κ₈ mEntry.the-row .own s13 (v13 ∷ [])) ∷ ‵ (ShrSlice (named 7) κ₉ mEntry.the-row .own s14 (v14 ∷ [])) ∷ ‵ (ShrSlice (named 8) κ₁₀ u64 .own s15 (v15 ∷ [])) ∷ ‵ (ShrSlice (named 9) κ₁₁ u64 .own s16 (v16 ∷ [])) ∷ []) ∵ nothing ! $ owned ! mTranscript.the-row (Is mTranscript.the-row) (LL.makes mTranscript.the-type lTranscript.the-plain 𝓤 H A) (n17) _ w17 $ fjoin ! $ move ! (11 ∷ 0 ∷ []) $ fjoin ! $ move ! (10 ∷ 0 ∷ []) $ fjoin ! $ move ! (9 ∷ 0 ∷ []) $ fjoin ! $ move ! (8 ∷ 0 ∷ []) $ fjoin ! $ move ! (7 ∷ 0 ∷ []) $ fjoin ! $ move ! (6 ∷ 0 ∷ []) $ fjoin ! $ move ! (5 ∷ 0 ∷ []) $ fjoin ! $ move ! (4 ∷ 0 ∷ []) $ fjoin ! $ owned ! u64 (Is u64) (uint-makes 𝓤 H A W w64) (n8) _ w8 $ fjoin ! $ owned ! u64 (Is u64) (uint-makes 𝓤 H A W w64) (n7) _ w7 $ fjoin ! $ owned ! u64 (Is u64) (uint-makes 𝓤 H A W w64) ((length (s6 .now))) _ (refl, (w6 .0 .1 .0)) $ fjoin ! $ owned ! u64 (Is u64) (uint-makes 𝓤 H A W w64) (n5) _ w5 $ fjoin ! $ owned ! u64 (Is u64) (uint-makes 𝓤 H A W w64) (n4) _ w4 $ fjoin ! $ move ! (3 ∷ 0 ∷ []) $ fjoin ! $ move ! (2 ∷ 0 ∷ []) $ fjoin ! $ move ! (1 ∷ 0 ∷ []) $ join ! $ nothing ! $ move ! (1 ∷ 0 ∷ []) $ frame ! $ done !) $
         calls-at ! fm (Callee-g1 𝓤 H A at-mem run) known-g1 ((((ν1a ∷ []), ((ν1b ∷ []), (κ₄, (κ₅, (κ₆, (κ₇, (κ₈, (κ₉, (κ₁₀, (κ₁₁, tt)))))))))), (fullShare, (fullShare, (q₄, (q₅, (q₆, (q₇, (q₈, (q₉, (q₁₀, (q₁₁, tt)))))))))), tt, (ref1 δ1a (ys1), (ref3 δ1b (ys3), (n4, (n5, ((length (s6 .now)), (n7, (n8, (s9, (s10, (s11, (s12, (s13, (s14, (s15, (s16, (n17, tt)))))))))))))))), (v1 ∷ [], (v3 ∷ [], (u4 ∷ [], (u5 ∷ [], ((vint w64 (length (s6 .now))) ∷ [], (u7 ∷ [], (u8 ∷ [], (v9 ∷ [], (v10 ∷ [], (v11 ∷ [], (v12 ∷ [], (v13 ∷ [], (v14 ∷ [], (v15 ∷ [], (v16 ∷ [], (u17 ∷ [], tt))))))))))))))))), tt) (and-then ! (load ! (from ! (stop !)) (look ! 29 refl)) (and-then ! (load ! (from ! (stop !)) (look ! 27 refl)) (and-then ! (load ! (from ! (stop !)) (look ! 46 refl)) (and-then ! (load ! (from ! (stop !)) (look ! 45 refl)) (and-then ! (load ! (from ! (stop !)) (look ! 32 refl)) (and-then ! (load ! (from ! (stop !)) (look ! 43 refl)) (and-then ! (load ! (from ! (stop !)) (look ! 42 refl)) (and-then ! (load ! (from ! (stop !)) (look ! 41 refl)) (and-then ! (load ! (from ! (stop !)) (look ! 40 refl)) (and-then ! (load ! (from ! (stop !)) (look ! 39 refl)) (and-then ! (load ! (from ! (stop !)) (look ! 38 refl)) (and-then ! (load ! (from ! (stop !)) (look ! 37 refl)) (and-then ! (load ! (from ! (stop !)) (look ! 36 refl)) (and-then ! (load ! (from ! (stop !)) (look ! 35 refl)) (and-then ! (load ! (from ! (stop !)) (look ! 34 refl)) (and-then ! (load ! (from ! (stop !)) (look ! 33 refl)) (no-more !))))))))))))))))) (λ z1.
-        use1 W (later (some (λ (r1 : Drawn). ((‵ (flft (ν1a ∷ []) fullShare) ⊛ ‵ (flft (ν1b ∷ []) fullShare) ⊛ ‵ (flft κ₄ q₄) ⊛ ‵ (flft κ₅ q₅) ⊛ ‵ (flft κ₆ q₆) ⊛ ‵ (flft κ₇ q₇) ⊛ ‵ (flft κ₈ q₈) ⊛ ‵ (flft κ₉ q₉) ⊛ ‵ (flft κ₁₀ q₁₀) ⊛ ‵ (flft κ₁₁ q₁₁) ⊛ ‵ ftrue) ⊛ ‵ (mDrawn.the-row .own r1 (z1 ∷ []))) ⊛ some (λ (ws : Lasts g1.ended ((ν1a ∷ []), ((ν1b ∷ []), (κ₄, (κ₅, (κ₆, (κ₇, (κ₈, (κ₉, (κ₁₀, (κ₁₁, tt)))))))))) (ref1 δ1a (ys1), (ref3 δ1b (ys3), (n4, (n5, ((length (s6 .now)), (n7, (n8, (s9, (s10, (s11, (s12, (s13, (s14, (s15, (s16, (n17, tt))))))))))))))))). ‵ (lasts g1.ended ((ν1a ∷ []), ((ν1b ∷ []), (κ₄, (κ₅, (κ₆, (κ₇, (κ₈, (κ₉, (κ₁₀, (κ₁₁, tt)))))))))) (ref1 δ1a (ys1), (ref3 δ1b (ys3), (n4, (n5, ((length (s6 .now)), (n7, (n8, (s9, (s10, (s11, (s12, (s13, (s14, (s15, (s16, (n17, tt)))))))))))))))) ws) ⊛ raw (g1.clauses 𝓤 H A at-mem run ((ν1a ∷ []), ((ν1b ∷ []), (κ₄, (κ₅, (κ₆, (κ₇, (κ₈, (κ₉, (κ₁₀, (κ₁₁, tt)))))))))) (ref1 δ1a (ys1), (ref3 δ1b (ys3), (n4, (n5, ((length (s6 .now)), (n7, (n8, (s9, (s10, (s11, (s12, (s13, (s14, (s15, (s16, (n17, tt)))))))))))))))) .ensures tt r1 (atExit g1.ended ((ν1a ∷ []), ((ν1b ∷ []), (κ₄, (κ₅, (κ₆, (κ₇, (κ₈, (κ₉, (κ₁₀, (κ₁₁, tt)))))))))) (ref1 δ1a (ys1), (ref3 δ1b (ys3), (n4, (n5, ((length (s6 .now)), (n7, (n8, (s9, (s10, (s11, (s12, (s13, (s14, (s15, (s16, (n17, tt)))))))))))))))) ws)))))) (id⊢ 𝓤 _) $ await ! tt $ pick ! (λ r1. split ! $ move ! (1 ∷ []) $ pick ! (λ ws1. split ! $ move ! (1 ∷ []) $ heard ! _ (λ e1.
-        fsplit ! $ fsplit ! $ move ! (1 ∷ []) $ feqL ! (λ same1a. move ! (1 ∷ []) $ fsplit ! $ fsplit ! $ move ! (1 ∷ []) $ feqL ! (λ same1b. move ! (1 ∷ []) $ drop ! $ move ! (2 ∷ []) $ split ! $ move ! (1 ∷ []) $ peeks ! mDrawn.the-row (Is mDrawn.the-row) (shows 𝓤 H A mDrawn.the-row) r1 (z1 ∷ []) (λ i1. drop ! $ land ! (from ! (stop !)) (init ! 33 refl (LL.lawful mDrawn.the-type lDrawn.the-laws 𝓤 H A W .typed r1 _ i1 .0)) $
+        use1 W (later (some (λ (r1 : OuterDraws). ((‵ (flft (ν1a ∷ []) fullShare) ⊛ ‵ (flft (ν1b ∷ []) fullShare) ⊛ ‵ (flft κ₄ q₄) ⊛ ‵ (flft κ₅ q₅) ⊛ ‵ (flft κ₆ q₆) ⊛ ‵ (flft κ₇ q₇) ⊛ ‵ (flft κ₈ q₈) ⊛ ‵ (flft κ₉ q₉) ⊛ ‵ (flft κ₁₀ q₁₀) ⊛ ‵ (flft κ₁₁ q₁₁) ⊛ ‵ ftrue) ⊛ ‵ (mOuterDraws.the-row .own r1 (z1 ∷ []))) ⊛ some (λ (ws : Lasts g1.ended ((ν1a ∷ []), ((ν1b ∷ []), (κ₄, (κ₅, (κ₆, (κ₇, (κ₈, (κ₉, (κ₁₀, (κ₁₁, tt)))))))))) (ref1 δ1a (ys1), (ref3 δ1b (ys3), (n4, (n5, ((length (s6 .now)), (n7, (n8, (s9, (s10, (s11, (s12, (s13, (s14, (s15, (s16, (n17, tt))))))))))))))))). ‵ (lasts g1.ended ((ν1a ∷ []), ((ν1b ∷ []), (κ₄, (κ₅, (κ₆, (κ₇, (κ₈, (κ₉, (κ₁₀, (κ₁₁, tt)))))))))) (ref1 δ1a (ys1), (ref3 δ1b (ys3), (n4, (n5, ((length (s6 .now)), (n7, (n8, (s9, (s10, (s11, (s12, (s13, (s14, (s15, (s16, (n17, tt)))))))))))))))) ws) ⊛ raw (g1.clauses 𝓤 H A at-mem run ((ν1a ∷ []), ((ν1b ∷ []), (κ₄, (κ₅, (κ₆, (κ₇, (κ₈, (κ₉, (κ₁₀, (κ₁₁, tt)))))))))) (ref1 δ1a (ys1), (ref3 δ1b (ys3), (n4, (n5, ((length (s6 .now)), (n7, (n8, (s9, (s10, (s11, (s12, (s13, (s14, (s15, (s16, (n17, tt)))))))))))))))) .ensures tt r1 (atExit g1.ended ((ν1a ∷ []), ((ν1b ∷ []), (κ₄, (κ₅, (κ₆, (κ₇, (κ₈, (κ₉, (κ₁₀, (κ₁₁, tt)))))))))) (ref1 δ1a (ys1), (ref3 δ1b (ys3), (n4, (n5, ((length (s6 .now)), (n7, (n8, (s9, (s10, (s11, (s12, (s13, (s14, (s15, (s16, (n17, tt)))))))))))))))) ws)))))) (id⊢ 𝓤 _) $ await ! tt $ pick ! (λ r1. split ! $ move ! (1 ∷ []) $ pick ! (λ ws1. split ! $ move ! (1 ∷ []) $ heard ! _ (λ e1.
+        fsplit ! $ fsplit ! $ move ! (1 ∷ []) $ feqL ! (λ same1a. move ! (1 ∷ []) $ fsplit ! $ fsplit ! $ move ! (1 ∷ []) $ feqL ! (λ same1b. move ! (1 ∷ []) $ drop ! $ move ! (2 ∷ []) $ split ! $ move ! (1 ∷ []) $ peeks ! mOuterDraws.the-row (Is mOuterDraws.the-row) (shows 𝓤 H A mOuterDraws.the-row) r1 (z1 ∷ []) (λ i1. drop ! $ land ! (from ! (stop !)) (init ! 33 refl (LL.lawful mOuterDraws.the-type lOuterDraws.the-laws 𝓤 H A W .typed r1 _ i1 .0)) $
         tidy W (_ ∷ _ ∷ _ ∷ _ ∷ _ ∷ _ ∷ _ ∷ _ ∷ _ ∷ _ ∷ _ ∷ _ ∷ _ ∷ _ ∷ _ ∷ _ ∷ _ ∷ _ ∷ _ ∷ _ ∷ _ ∷ _ ∷ _ ∷ _ ∷ _ ∷ _ ∷ _ ∷ _ ∷ _ ∷ _ ∷ _ ∷ _ ∷ _ ∷ _ ∷ _ ∷ _ ∷ _ ∷ _ ∷ _ ∷ _ ∷ _ ∷ _ ∷ _ ∷ _ ∷ _ ∷ _ ∷ _ ∷ _ ∷ _ ∷ _ ∷ _ ∷ _ ∷ _ ∷ []) $ split ! $ move ! (1 ∷ []) $ split ! $ move ! (1 ∷ []) $ split ! $ move ! (1 ∷ []) $ split ! $ move ! (1 ∷ []) $ split ! $ move ! (1 ∷ []) $ split ! $ move ! (1 ∷ []) $ split ! $ move ! (1 ∷ []) $ split ! $ move ! (1 ∷ []) $ split ! $ move ! (1 ∷ []) $ split ! $ move ! (1 ∷ []) $ drop ! $ move ! (9 ∷ []) $ lft-end ! tt $ move ! (0 ∷ 21 ∷ 11 ∷ []) $ use3 W (later (‵ (O1 (ws1 .0)) ⊛ ‵ (flft κ₀ q₀))) (backs1 (named 0) ν1a δ1a (ys1) (ws1 .0) (refl) room1 same1a) $ await ! tt $ split ! $
         move ! (10 ∷ []) $ lft-end ! tt $ move ! (0 ∷ 20 ∷ 11 ∷ []) $ use3 W (later (‵ (O3 (ws1 .1 .0)) ⊛ ‵ (flft κ₂ q₂))) (backs3 (named 1) ν1b δ1b (ys3) (ws1 .1 .0) (refl) room3 same1b) $ await ! tt $ split ! $
         assigns ! (addr ! (from ! (fld ! refl (hop ! (look-in ! 58 (sub ! 0 refl (whole !))) (stop !))))) (from ! (stop !)) (init ! 35 refl (tt, tt)) $
@@ -269,14 +269,14 @@ module _ {M : Type 1} (𝓤 : URA M) (H : Heap 𝓤) (A : Atoms 𝓤) (W : Given
         lft-new ! tt (λ ν2b. move ! (30 ∷ 23 ∷ []) $ use2 W (later (some (λ (δ : GName). ‵ (MutSlice (named 1) (ν2b ∷ []) u64 .own (ref2 δ (ys2)) (v2 ∷ [])) ⊛ ‵ (Lent2 ν2b δ (ys2))))) (lends2 (named 1) ν2b (ys2) (refl)) $ await ! tt $ pick ! (λ δ2b. split ! $
         lft-new ! tt (λ ν2c. move ! (7 ∷ 8 ∷ []) $ use2 W (later (some (λ (δ : GName). ‵ (MutSlice (named 2) (ν2c ∷ []) u64 .own (ref3 δ (ws1 .1 .0)) (v3 ∷ [])) ⊛ ‵ (Lent3 ν2c δ (ws1 .1 .0))))) (lends3 (named 2) ν2c (ws1 .1 .0) (same1b)) $ await ! tt $ pick ! (λ δ2c. split ! $ move ! (29 ∷ []) $ use1 W (‵ (O6) ⊛ ‵ (O6)) (shr-slice-copy 𝓤 H A W (named 3) κ₃ u64 .twice s6 (v6 ∷ [])) $ split ! $ move ! (20 ∷ []) $ use1 W (‵ (O15) ⊛ ‵ (O15)) (shr-slice-copy 𝓤 H A W (named 10) κ₁₀ u64 .twice s15 (v15 ∷ [])) $ split ! $ move ! (21 ∷ []) $ use1 W (‵ (O16) ⊛ ‵ (O16)) (shr-slice-copy 𝓤 H A W (named 11) κ₁₁ u64 .twice s16 (v16 ∷ [])) $ split ! $ tidy W (_ ∷ _ ∷ _ ∷ _ ∷ _ ∷ _ ∷ _ ∷ _ ∷ _ ∷ _ ∷ _ ∷ _ ∷ _ ∷ _ ∷ _ ∷ _ ∷ _ ∷ _ ∷ _ ∷ _ ∷ _ ∷ _ ∷ _ ∷ _ ∷ _ ∷ _ ∷ _ ∷ _ ∷ _ ∷ _ ∷ _ ∷ _ ∷ _ ∷ _ ∷ _ ∷ _ ∷ _ ∷ _ ∷ _ ∷ _ ∷ _ ∷ _ ∷ _ ∷ _ ∷ _ ∷ _ ∷ _ ∷ _ ∷ _ ∷ _ ∷ _ ∷ _ ∷ _ ∷ _ ∷ _ ∷ _ ∷ _ ∷ _ ∷ _ ∷ _ ∷ _ ∷ _ ∷ _ ∷ _ ∷ _ ∷ _ ∷ []) $ nothing ! $ move ! (16 ∷ 0 ∷ []) $ join ! $ move ! (16 ∷ 0 ∷ []) $ join ! $ move ! (28 ∷ 0 ∷ []) $ join ! $ move ! (9 ∷ 0 ∷ []) $ join ! $ move ! (11 ∷ 0 ∷ []) $ join ! $ move ! (13 ∷ 0 ∷ []) $ join ! $ move ! (3 ∷ 1 ∷ []) $ join ! $ move ! (4 ∷ 0 ∷ []) $ join ! $ move ! (5 ∷ 0 ∷ []) $ join ! $ move ! (6 ∷ 0 ∷ []) $ join ! $ move ! (7 ∷ 0 ∷ []) $ join ! $ move ! (1 ∷ 0 ∷ []) $ join ! $
         -- call 2
-        use1 W (raw (Callee-g2 𝓤 H A at-mem run .pre ((((ν2a ∷ []), ((ν2b ∷ []), ((ν2c ∷ []), (κ₃, (κ₁₀, (κ₁₁, tt)))))), (fullShare, (fullShare, (fullShare, (q₃, (q₁₀, (q₁₁, tt)))))), tt, (ref1 δ2a (ws1 .0), (ref2 δ2b (ys2), (ref3 δ2c (ws1 .1 .0), (n4, (n5, (n7, (n8, (s6, (s15, (s16, (r1, tt))))))))))), (v1 ∷ [], (v2 ∷ [], (v3 ∷ [], (u4 ∷ [], (u5 ∷ [], (u7 ∷ [], (u8 ∷ [], (v6 ∷ [], (v15 ∷ [], (v16 ∷ [], (z1 ∷ [], tt)))))))))))), tt))) (qed W ((‵ (flft (ν2a ∷ []) fullShare) ⊛ ‵ (flft (ν2b ∷ []) fullShare) ⊛ ‵ (flft (ν2c ∷ []) fullShare) ⊛ ‵ (flft κ₃ q₃) ⊛ ‵ (flft κ₁₀ q₁₀) ⊛ ‵ (flft κ₁₁ q₁₁) ⊛ ‵ ftrue) ∷ ‵ (MutSlice (named 0) (ν2a ∷ []) u64 .own (ref1 δ2a (ws1 .0)) (v1 ∷ [])) ∷ ‵ (MutSlice (named 1) (ν2b ∷ []) u64 .own (ref2 δ2b (ys2)) (v2 ∷ [])) ∷ ‵ (MutSlice (named 2) (ν2c ∷ []) u64 .own (ref3 δ2c (ws1 .1 .0)) (v3 ∷ [])) ∷ ‵ (ShrSlice (named 3) κ₃ u64 .own s6 (v6 ∷ [])) ∷ ‵ (ShrSlice (named 4) κ₁₀ u64 .own s15 (v15 ∷ [])) ∷ ‵ (ShrSlice (named 5) κ₁₁ u64 .own s16 (v16 ∷ [])) ∷ []) ∵ nothing ! $ owned ! mDrawn.the-row (Is mDrawn.the-row) (LL.makes mDrawn.the-type lDrawn.the-plain 𝓤 H A) (r1) _ i1 $ fjoin ! $ move ! (7 ∷ 0 ∷ []) $ fjoin ! $ move ! (6 ∷ 0 ∷ []) $ fjoin ! $ move ! (5 ∷ 0 ∷ []) $ fjoin ! $ owned ! u64 (Is u64) (uint-makes 𝓤 H A W w64) (n8) _ w8 $ fjoin ! $ owned ! u64 (Is u64) (uint-makes 𝓤 H A W w64) (n7) _ w7 $ fjoin ! $ owned ! u64 (Is u64) (uint-makes 𝓤 H A W w64) (n5) _ w5 $ fjoin ! $ owned ! u64 (Is u64) (uint-makes 𝓤 H A W w64) (n4) _ w4 $ fjoin ! $ move ! (4 ∷ 0 ∷ []) $ fjoin ! $ move ! (3 ∷ 0 ∷ []) $ fjoin ! $ move ! (2 ∷ 0 ∷ []) $ fjoin ! $ move ! (1 ∷ 0 ∷ []) $ join ! $ nothing ! $ move ! (1 ∷ 0 ∷ []) $ frame ! $ done !) $
+        use1 W (raw (Callee-g2 𝓤 H A at-mem run .pre ((((ν2a ∷ []), ((ν2b ∷ []), ((ν2c ∷ []), (κ₃, (κ₁₀, (κ₁₁, tt)))))), (fullShare, (fullShare, (fullShare, (q₃, (q₁₀, (q₁₁, tt)))))), tt, (ref1 δ2a (ws1 .0), (ref2 δ2b (ys2), (ref3 δ2c (ws1 .1 .0), (n4, (n5, (n7, (n8, (s6, (s15, (s16, (r1, tt))))))))))), (v1 ∷ [], (v2 ∷ [], (v3 ∷ [], (u4 ∷ [], (u5 ∷ [], (u7 ∷ [], (u8 ∷ [], (v6 ∷ [], (v15 ∷ [], (v16 ∷ [], (z1 ∷ [], tt)))))))))))), tt))) (qed W ((‵ (flft (ν2a ∷ []) fullShare) ⊛ ‵ (flft (ν2b ∷ []) fullShare) ⊛ ‵ (flft (ν2c ∷ []) fullShare) ⊛ ‵ (flft κ₃ q₃) ⊛ ‵ (flft κ₁₀ q₁₀) ⊛ ‵ (flft κ₁₁ q₁₁) ⊛ ‵ ftrue) ∷ ‵ (MutSlice (named 0) (ν2a ∷ []) u64 .own (ref1 δ2a (ws1 .0)) (v1 ∷ [])) ∷ ‵ (MutSlice (named 1) (ν2b ∷ []) u64 .own (ref2 δ2b (ys2)) (v2 ∷ [])) ∷ ‵ (MutSlice (named 2) (ν2c ∷ []) u64 .own (ref3 δ2c (ws1 .1 .0)) (v3 ∷ [])) ∷ ‵ (ShrSlice (named 3) κ₃ u64 .own s6 (v6 ∷ [])) ∷ ‵ (ShrSlice (named 4) κ₁₀ u64 .own s15 (v15 ∷ [])) ∷ ‵ (ShrSlice (named 5) κ₁₁ u64 .own s16 (v16 ∷ [])) ∷ []) ∵ nothing ! $ owned ! mOuterDraws.the-row (Is mOuterDraws.the-row) (LL.makes mOuterDraws.the-type lOuterDraws.the-plain 𝓤 H A) (r1) _ i1 $ fjoin ! $ move ! (7 ∷ 0 ∷ []) $ fjoin ! $ move ! (6 ∷ 0 ∷ []) $ fjoin ! $ move ! (5 ∷ 0 ∷ []) $ fjoin ! $ owned ! u64 (Is u64) (uint-makes 𝓤 H A W w64) (n8) _ w8 $ fjoin ! $ owned ! u64 (Is u64) (uint-makes 𝓤 H A W w64) (n7) _ w7 $ fjoin ! $ owned ! u64 (Is u64) (uint-makes 𝓤 H A W w64) (n5) _ w5 $ fjoin ! $ owned ! u64 (Is u64) (uint-makes 𝓤 H A W w64) (n4) _ w4 $ fjoin ! $ move ! (4 ∷ 0 ∷ []) $ fjoin ! $ move ! (3 ∷ 0 ∷ []) $ fjoin ! $ move ! (2 ∷ 0 ∷ []) $ fjoin ! $ move ! (1 ∷ 0 ∷ []) $ join ! $ nothing ! $ move ! (1 ∷ 0 ∷ []) $ frame ! $ done !) $
         calls-at ! fm (Callee-g2 𝓤 H A at-mem run) known-g2 ((((ν2a ∷ []), ((ν2b ∷ []), ((ν2c ∷ []), (κ₃, (κ₁₀, (κ₁₁, tt)))))), (fullShare, (fullShare, (fullShare, (q₃, (q₁₀, (q₁₁, tt)))))), tt, (ref1 δ2a (ws1 .0), (ref2 δ2b (ys2), (ref3 δ2c (ws1 .1 .0), (n4, (n5, (n7, (n8, (s6, (s15, (s16, (r1, tt))))))))))), (v1 ∷ [], (v2 ∷ [], (v3 ∷ [], (u4 ∷ [], (u5 ∷ [], (u7 ∷ [], (u8 ∷ [], (v6 ∷ [], (v15 ∷ [], (v16 ∷ [], (z1 ∷ [], tt)))))))))))), tt) (and-then ! (load ! (from ! (stop !)) (look ! 29 refl)) (and-then ! (load ! (from ! (stop !)) (look ! 27 refl)) (and-then ! (load ! (from ! (stop !)) (look ! 25 refl)) (and-then ! (load ! (from ! (stop !)) (look ! 50 refl)) (and-then ! (load ! (from ! (stop !)) (look ! 49 refl)) (and-then ! (load ! (from ! (stop !)) (look ! 47 refl)) (and-then ! (load ! (from ! (stop !)) (look ! 46 refl)) (and-then ! (load ! (from ! (stop !)) (look ! 48 refl)) (and-then ! (load ! (from ! (stop !)) (look ! 39 refl)) (and-then ! (load ! (from ! (stop !)) (look ! 38 refl)) (and-then ! (load ! (from ! (stop !)) (look ! 35 refl)) (no-more !)))))))))))) (λ z2.
         use1 W (later (some (λ (r2 : Transcript). ((‵ (flft (ν2a ∷ []) fullShare) ⊛ ‵ (flft (ν2b ∷ []) fullShare) ⊛ ‵ (flft (ν2c ∷ []) fullShare) ⊛ ‵ (flft κ₃ q₃) ⊛ ‵ (flft κ₁₀ q₁₀) ⊛ ‵ (flft κ₁₁ q₁₁) ⊛ ‵ ftrue) ⊛ ‵ (mTranscript.the-row .own r2 (z2 ∷ []))) ⊛ some (λ (ws : Lasts g2.ended ((ν2a ∷ []), ((ν2b ∷ []), ((ν2c ∷ []), (κ₃, (κ₁₀, (κ₁₁, tt)))))) (ref1 δ2a (ws1 .0), (ref2 δ2b (ys2), (ref3 δ2c (ws1 .1 .0), (n4, (n5, (n7, (n8, (s6, (s15, (s16, (r1, tt)))))))))))). ‵ (lasts g2.ended ((ν2a ∷ []), ((ν2b ∷ []), ((ν2c ∷ []), (κ₃, (κ₁₀, (κ₁₁, tt)))))) (ref1 δ2a (ws1 .0), (ref2 δ2b (ys2), (ref3 δ2c (ws1 .1 .0), (n4, (n5, (n7, (n8, (s6, (s15, (s16, (r1, tt))))))))))) ws) ⊛ raw (g2.clauses 𝓤 H A at-mem run ((ν2a ∷ []), ((ν2b ∷ []), ((ν2c ∷ []), (κ₃, (κ₁₀, (κ₁₁, tt)))))) (ref1 δ2a (ws1 .0), (ref2 δ2b (ys2), (ref3 δ2c (ws1 .1 .0), (n4, (n5, (n7, (n8, (s6, (s15, (s16, (r1, tt))))))))))) .ensures tt r2 (atExit g2.ended ((ν2a ∷ []), ((ν2b ∷ []), ((ν2c ∷ []), (κ₃, (κ₁₀, (κ₁₁, tt)))))) (ref1 δ2a (ws1 .0), (ref2 δ2b (ys2), (ref3 δ2c (ws1 .1 .0), (n4, (n5, (n7, (n8, (s6, (s15, (s16, (r1, tt))))))))))) ws)))))) (id⊢ 𝓤 _) $ await ! tt $ pick ! (λ r2. split ! $ move ! (1 ∷ []) $ pick ! (λ ws2. split ! $ move ! (1 ∷ []) $ heard ! _ (λ e2.
         fsplit ! $ fsplit ! $ move ! (1 ∷ []) $ feqL ! (λ same2a. move ! (1 ∷ []) $ fsplit ! $ fsplit ! $ move ! (1 ∷ []) $ feqL ! (λ same2b. move ! (1 ∷ []) $ fsplit ! $ fsplit ! $ move ! (1 ∷ []) $ feqL ! (λ same2c. move ! (1 ∷ []) $ drop ! $ move ! (3 ∷ []) $ split ! $ move ! (1 ∷ []) $ peeks ! mTranscript.the-row (Is mTranscript.the-row) (shows 𝓤 H A mTranscript.the-row) r2 (z2 ∷ []) (λ i2. drop ! $ land ! (from ! (stop !)) (init ! 57 refl (LL.lawful mTranscript.the-type lTranscript.the-laws 𝓤 H A W .typed r2 _ i2 .0)) $
         tidy W (_ ∷ _ ∷ _ ∷ _ ∷ _ ∷ _ ∷ _ ∷ _ ∷ _ ∷ _ ∷ _ ∷ _ ∷ _ ∷ _ ∷ _ ∷ _ ∷ _ ∷ _ ∷ _ ∷ _ ∷ _ ∷ _ ∷ _ ∷ _ ∷ _ ∷ _ ∷ _ ∷ _ ∷ _ ∷ _ ∷ _ ∷ _ ∷ _ ∷ _ ∷ _ ∷ _ ∷ _ ∷ _ ∷ _ ∷ _ ∷ _ ∷ _ ∷ _ ∷ _ ∷ _ ∷ _ ∷ _ ∷ _ ∷ _ ∷ _ ∷ _ ∷ _ ∷ _ ∷ _ ∷ _ ∷ _ ∷ _ ∷ _ ∷ []) $ split ! $ move ! (1 ∷ []) $ split ! $ move ! (1 ∷ []) $ split ! $ move ! (1 ∷ []) $ split ! $ move ! (1 ∷ []) $ split ! $ move ! (1 ∷ []) $ split ! $ move ! (1 ∷ []) $ drop ! $ move ! (5 ∷ []) $ lft-end ! tt $ move ! (0 ∷ 14 ∷ 8 ∷ []) $ use3 W (later (‵ (O1 (ws2 .0)) ⊛ ‵ (flft κ₀ q₀))) (backs1 (named 0) ν2a δ2a (ws1 .0) (ws2 .0) (same1a) room1 same2a) $ await ! tt $ split ! $
         move ! (6 ∷ []) $ lft-end ! tt $ move ! (0 ∷ 13 ∷ 8 ∷ []) $ use3 W (later (‵ (O2 (ws2 .1 .0)) ⊛ ‵ (flft κ₁ q₁))) (backs2 (named 1) ν2b δ2b (ys2) (ws2 .1 .0) (refl) room2 same2b) $ await ! tt $ split ! $
         move ! (7 ∷ []) $ lft-end ! tt $ move ! (0 ∷ 12 ∷ 8 ∷ []) $ use3 W (later (‵ (O3 (ws2 .1 .1 .0)) ⊛ ‵ (flft κ₂ q₂))) (backs3 (named 2) ν2c δ2c (ws1 .1 .0) (ws2 .1 .1 .0) (same1b) room3 same2c) $ await ! tt $ split ! $
-        tidy W (_ ∷ _ ∷ _ ∷ _ ∷ _ ∷ _ ∷ _ ∷ _ ∷ _ ∷ _ ∷ _ ∷ _ ∷ _ ∷ _ ∷ _ ∷ _ ∷ _ ∷ _ ∷ _ ∷ _ ∷ _ ∷ _ ∷ _ ∷ _ ∷ _ ∷ _ ∷ _ ∷ _ ∷ _ ∷ _ ∷ _ ∷ _ ∷ _ ∷ _ ∷ _ ∷ _ ∷ _ ∷ _ ∷ _ ∷ _ ∷ _ ∷ _ ∷ _ ∷ _ ∷ _ ∷ _ ∷ _ ∷ _ ∷ _ ∷ _ ∷ _ ∷ _ ∷ _ ∷ _ ∷ _ ∷ _ ∷ _ ∷ _ ∷ _ ∷ _ ∷ []) $ returns ! (look ! 59 refl) $ move ! (29 ∷ []) $ use1 W (dies ((lTranscript.mir, l₀) ∷ (sliceTy (tyRef (named 0) mut (tyInt w64)), l₁) ∷ (sliceTy (tyRef (named 1) mut (tyInt w64)), l₂) ∷ (sliceTy (tyRef (named 2) mut (tyInt w64)), l₃) ∷ (tyInt w64, l₄) ∷ (tyInt w64, l₅) ∷ (sliceTy (tyRef (named 3) imm (tyInt w64)), l₆) ∷ (tyInt w64, l₇) ∷ (tyInt w64, l₈) ∷ (sliceTy (tyRef (named 4) imm (pointee (mEntry.the-row .written))), l₉) ∷ (sliceTy (tyRef (named 5) imm (pointee (mEntry.the-row .written))), l₁₀) ∷ (sliceTy (tyRef (named 6) imm (pointee (mEntry.the-row .written))), l₁₁) ∷ (sliceTy (tyRef (named 7) imm (pointee (mEntry.the-row .written))), l₁₂) ∷ (sliceTy (tyRef (named 8) imm (pointee (mEntry.the-row .written))), l₁₃) ∷ (sliceTy (tyRef (named 9) imm (pointee (mEntry.the-row .written))), l₁₄) ∷ (sliceTy (tyRef (named 10) imm (tyInt w64)), l₁₅) ∷ (sliceTy (tyRef (named 11) imm (tyInt w64)), l₁₆) ∷ (lTranscript.mir, l₁₇) ∷ (tyInt w64, l₁₈) ∷ (lDrawn.mir, l₁₉) ∷ (tyRef erased mut (tyInt w64), l₂₀) ∷ (sliceTy (tyRef erased mut (tyInt w64)), l₂₁) ∷ (tyRef erased mut (tyInt w64), l₂₂) ∷ (sliceTy (tyRef erased mut (tyInt w64)), l₂₃) ∷ (tyRef erased mut (tyInt w64), l₂₄) ∷ (sliceTy (tyRef erased mut (tyInt w64)), l₂₅) ∷ (tyRef erased mut (tyInt w64), l₂₆) ∷ (sliceTy (tyRef erased mut (tyInt w64)), l₂₇) ∷ (tyRef erased mut (tyInt w64), l₂₈) ∷ (sliceTy (tyRef erased mut (tyInt w64)), l₂₉) ∷ []) (‵ ftrue)) die $ free-all ! 29 ((lTranscript.mir, l₀) ∷ (sliceTy (tyRef (named 0) mut (tyInt w64)), l₁) ∷ (sliceTy (tyRef (named 1) mut (tyInt w64)), l₂) ∷ (sliceTy (tyRef (named 2) mut (tyInt w64)), l₃) ∷ (tyInt w64, l₄) ∷ (tyInt w64, l₅) ∷ (sliceTy (tyRef (named 3) imm (tyInt w64)), l₆) ∷ (tyInt w64, l₇) ∷ (tyInt w64, l₈) ∷ (sliceTy (tyRef (named 4) imm (pointee (mEntry.the-row .written))), l₉) ∷ (sliceTy (tyRef (named 5) imm (pointee (mEntry.the-row .written))), l₁₀) ∷ (sliceTy (tyRef (named 6) imm (pointee (mEntry.the-row .written))), l₁₁) ∷ (sliceTy (tyRef (named 7) imm (pointee (mEntry.the-row .written))), l₁₂) ∷ (sliceTy (tyRef (named 8) imm (pointee (mEntry.the-row .written))), l₁₃) ∷ (sliceTy (tyRef (named 9) imm (pointee (mEntry.the-row .written))), l₁₄) ∷ (sliceTy (tyRef (named 10) imm (tyInt w64)), l₁₅) ∷ (sliceTy (tyRef (named 11) imm (tyInt w64)), l₁₆) ∷ (lTranscript.mir, l₁₇) ∷ (tyInt w64, l₁₈) ∷ (lDrawn.mir, l₁₉) ∷ (tyRef erased mut (tyInt w64), l₂₀) ∷ (sliceTy (tyRef erased mut (tyInt w64)), l₂₁) ∷ (tyRef erased mut (tyInt w64), l₂₂) ∷ (sliceTy (tyRef erased mut (tyInt w64)), l₂₃) ∷ (tyRef erased mut (tyInt w64), l₂₄) ∷ (sliceTy (tyRef erased mut (tyInt w64)), l₂₅) ∷ (tyRef erased mut (tyInt w64), l₂₆) ∷ (sliceTy (tyRef erased mut (tyInt w64)), l₂₇) ∷ (tyRef erased mut (tyInt w64), l₂₈) ∷ (sliceTy (tyRef erased mut (tyInt w64)), l₂₉) ∷ []) (kept _ ∷ kept _ ∷ kept _ ∷ kept _ ∷ kept _ ∷ kept _ ∷ kept _ ∷ kept _ ∷ kept _ ∷ kept _ ∷ kept _ ∷ kept _ ∷ kept _ ∷ kept _ ∷ kept _ ∷ kept _ ∷ kept _ ∷ kept _ ∷ kept _ ∷ kept _ ∷ kept _ ∷ kept _ ∷ kept _ ∷ kept _ ∷ kept _ ∷ kept _ ∷ kept _ ∷ kept _ ∷ kept _ ∷ kept _ ∷ []) refl $
+        tidy W (_ ∷ _ ∷ _ ∷ _ ∷ _ ∷ _ ∷ _ ∷ _ ∷ _ ∷ _ ∷ _ ∷ _ ∷ _ ∷ _ ∷ _ ∷ _ ∷ _ ∷ _ ∷ _ ∷ _ ∷ _ ∷ _ ∷ _ ∷ _ ∷ _ ∷ _ ∷ _ ∷ _ ∷ _ ∷ _ ∷ _ ∷ _ ∷ _ ∷ _ ∷ _ ∷ _ ∷ _ ∷ _ ∷ _ ∷ _ ∷ _ ∷ _ ∷ _ ∷ _ ∷ _ ∷ _ ∷ _ ∷ _ ∷ _ ∷ _ ∷ _ ∷ _ ∷ _ ∷ _ ∷ _ ∷ _ ∷ _ ∷ _ ∷ _ ∷ _ ∷ []) $ returns ! (look ! 59 refl) $ move ! (29 ∷ []) $ use1 W (dies ((lTranscript.mir, l₀) ∷ (sliceTy (tyRef (named 0) mut (tyInt w64)), l₁) ∷ (sliceTy (tyRef (named 1) mut (tyInt w64)), l₂) ∷ (sliceTy (tyRef (named 2) mut (tyInt w64)), l₃) ∷ (tyInt w64, l₄) ∷ (tyInt w64, l₅) ∷ (sliceTy (tyRef (named 3) imm (tyInt w64)), l₆) ∷ (tyInt w64, l₇) ∷ (tyInt w64, l₈) ∷ (sliceTy (tyRef (named 4) imm (pointee (mEntry.the-row .written))), l₉) ∷ (sliceTy (tyRef (named 5) imm (pointee (mEntry.the-row .written))), l₁₀) ∷ (sliceTy (tyRef (named 6) imm (pointee (mEntry.the-row .written))), l₁₁) ∷ (sliceTy (tyRef (named 7) imm (pointee (mEntry.the-row .written))), l₁₂) ∷ (sliceTy (tyRef (named 8) imm (pointee (mEntry.the-row .written))), l₁₃) ∷ (sliceTy (tyRef (named 9) imm (pointee (mEntry.the-row .written))), l₁₄) ∷ (sliceTy (tyRef (named 10) imm (tyInt w64)), l₁₅) ∷ (sliceTy (tyRef (named 11) imm (tyInt w64)), l₁₆) ∷ (lTranscript.mir, l₁₇) ∷ (tyInt w64, l₁₈) ∷ (lOuterDraws.mir, l₁₉) ∷ (tyRef erased mut (tyInt w64), l₂₀) ∷ (sliceTy (tyRef erased mut (tyInt w64)), l₂₁) ∷ (tyRef erased mut (tyInt w64), l₂₂) ∷ (sliceTy (tyRef erased mut (tyInt w64)), l₂₃) ∷ (tyRef erased mut (tyInt w64), l₂₄) ∷ (sliceTy (tyRef erased mut (tyInt w64)), l₂₅) ∷ (tyRef erased mut (tyInt w64), l₂₆) ∷ (sliceTy (tyRef erased mut (tyInt w64)), l₂₇) ∷ (tyRef erased mut (tyInt w64), l₂₈) ∷ (sliceTy (tyRef erased mut (tyInt w64)), l₂₉) ∷ []) (‵ ftrue)) die $ free-all ! 29 ((lTranscript.mir, l₀) ∷ (sliceTy (tyRef (named 0) mut (tyInt w64)), l₁) ∷ (sliceTy (tyRef (named 1) mut (tyInt w64)), l₂) ∷ (sliceTy (tyRef (named 2) mut (tyInt w64)), l₃) ∷ (tyInt w64, l₄) ∷ (tyInt w64, l₅) ∷ (sliceTy (tyRef (named 3) imm (tyInt w64)), l₆) ∷ (tyInt w64, l₇) ∷ (tyInt w64, l₈) ∷ (sliceTy (tyRef (named 4) imm (pointee (mEntry.the-row .written))), l₉) ∷ (sliceTy (tyRef (named 5) imm (pointee (mEntry.the-row .written))), l₁₀) ∷ (sliceTy (tyRef (named 6) imm (pointee (mEntry.the-row .written))), l₁₁) ∷ (sliceTy (tyRef (named 7) imm (pointee (mEntry.the-row .written))), l₁₂) ∷ (sliceTy (tyRef (named 8) imm (pointee (mEntry.the-row .written))), l₁₃) ∷ (sliceTy (tyRef (named 9) imm (pointee (mEntry.the-row .written))), l₁₄) ∷ (sliceTy (tyRef (named 10) imm (tyInt w64)), l₁₅) ∷ (sliceTy (tyRef (named 11) imm (tyInt w64)), l₁₆) ∷ (lTranscript.mir, l₁₇) ∷ (tyInt w64, l₁₈) ∷ (lOuterDraws.mir, l₁₉) ∷ (tyRef erased mut (tyInt w64), l₂₀) ∷ (sliceTy (tyRef erased mut (tyInt w64)), l₂₁) ∷ (tyRef erased mut (tyInt w64), l₂₂) ∷ (sliceTy (tyRef erased mut (tyInt w64)), l₂₃) ∷ (tyRef erased mut (tyInt w64), l₂₄) ∷ (sliceTy (tyRef erased mut (tyInt w64)), l₂₅) ∷ (tyRef erased mut (tyInt w64), l₂₆) ∷ (sliceTy (tyRef erased mut (tyInt w64)), l₂₇) ∷ (tyRef erased mut (tyInt w64), l₂₈) ∷ (sliceTy (tyRef erased mut (tyInt w64)), l₂₉) ∷ []) (kept _ ∷ kept _ ∷ kept _ ∷ kept _ ∷ kept _ ∷ kept _ ∷ kept _ ∷ kept _ ∷ kept _ ∷ kept _ ∷ kept _ ∷ kept _ ∷ kept _ ∷ kept _ ∷ kept _ ∷ kept _ ∷ kept _ ∷ kept _ ∷ kept _ ∷ kept _ ∷ kept _ ∷ kept _ ∷ kept _ ∷ kept _ ∷ kept _ ∷ kept _ ∷ kept _ ∷ kept _ ∷ kept _ ∷ kept _ ∷ []) refl $
         suffices ! _ (ends-at 𝓤 H A f.ended stayed (f.clauses 𝓤 H A at-mem run) W (((κ₀, (κ₁, (κ₂, (κ₃, (κ₄, (κ₅, (κ₆, (κ₇, (κ₈, (κ₉, (κ₁₀, (κ₁₁, tt)))))))))))), (q₀, (q₁, (q₂, (q₃, (q₄, (q₅, (q₆, (q₇, (q₈, (q₉, (q₁₀, (q₁₁, tt)))))))))))), tt, a, at), tt) z2 r2 (ws2 .0, (ws2 .1 .0, (ws2 .1 .1 .0, (tt, (tt, (tt, (tt, (tt, (tt, (tt, (tt, (tt, (tt, (tt, (tt, (tt, (tt, tt))))))))))))))))) (same2a ∙ same1a, (same2b, (same2c ∙ same1b, (tt, (tt, (tt, (tt, (tt, (tt, (tt, (tt, (tt, (tt, (tt, (tt, (tt, (tt, tt)))))))))))))))))) $ says ! (prove-in-is n7 n8 n4 n5 (s6 .now) (s9 .now) (s10 .now) (s11 .now) (s12 .now) (s13 .now) (s14 .now) (s15 .now) (s16 .now) ys1 ys2 ys3 n17 (r1 .«transcript») (r1 .«draws») (ws1 .0) (ws1 .1 .0) r2 (ws2 .0) (ws2 .1 .0) (ws2 .1 .1 .0) (e1 .0) (e1 .1) e2) $
         nothing ! $ move ! (7 ∷ 0 ∷ []) $ join ! $ move ! (7 ∷ 0 ∷ []) $ join ! $ move ! (11 ∷ 0 ∷ []) $ join ! $ move ! (11 ∷ 0 ∷ []) $ join ! $ move ! (11 ∷ 0 ∷ []) $ join ! $ move ! (11 ∷ 0 ∷ []) $ join ! $ move ! (11 ∷ 0 ∷ []) $ join ! $ move ! (11 ∷ 0 ∷ []) $ join ! $ move ! (7 ∷ 0 ∷ []) $ join ! $ move ! (2 ∷ 0 ∷ []) $ join ! $ move ! (3 ∷ 0 ∷ []) $ join ! $ move ! (4 ∷ 0 ∷ []) $ join ! $ nothing ! $ move ! (14 ∷ 0 ∷ []) $ fjoin ! $ move ! (5 ∷ 0 ∷ []) $ fjoin ! $ move ! (5 ∷ 0 ∷ []) $ fjoin ! $ move ! (6 ∷ 0 ∷ []) $ fjoin ! $ move ! (6 ∷ 0 ∷ []) $ fjoin ! $ move ! (6 ∷ 0 ∷ []) $ fjoin ! $ move ! (6 ∷ 0 ∷ []) $ fjoin ! $ move ! (6 ∷ 0 ∷ []) $ fjoin ! $ move ! (6 ∷ 0 ∷ []) $ fjoin ! $ move ! (6 ∷ 0 ∷ []) $ fjoin ! $ move ! (6 ∷ 0 ∷ []) $ fjoin ! $ move ! (5 ∷ 0 ∷ []) $ fjoin ! $ move ! (5 ∷ 0 ∷ []) $ fjoin ! $ move ! (5 ∷ 0 ∷ []) $ fjoin ! $ move ! (2 ∷ 0 ∷ []) $ fjoin ! $ move ! (2 ∷ 0 ∷ []) $ fjoin ! $ move ! (2 ∷ 0 ∷ []) $ fjoin ! $ keep ! (1 ∷ 0 ∷ []) $ frame ! $ frame ! $ owned ! mTranscript.the-row (Is mTranscript.the-row) (LL.makes mTranscript.the-type lTranscript.the-plain 𝓤 H A) r2 _ i2 $ done !))))))))))))))))))))))))))))))))))))))))))))))))))))))))
 

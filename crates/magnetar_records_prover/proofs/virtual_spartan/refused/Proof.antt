@@ -57,10 +57,10 @@ use Rattle.magnetar_records.proofs.stages.counter as g1
 use Rattle.magnetar_records.proofs.stages.counter.Symbol as g1-def
 use Rattle.magnetar_records.proofs.stages.counter.Symbol.{name as #g1}
 use Rattle.magnetar_records.proofs.stages.counter.Met as g1-thm
-use Rattle.magnetar_records.proofs.combo.all_six as g2
-use Rattle.magnetar_records.proofs.combo.all_six.Symbol as g2-def
-use Rattle.magnetar_records.proofs.combo.all_six.Symbol.{name as #g2}
-use Rattle.magnetar_records.proofs.combo.all_six.Met as g2-thm
+use Rattle.magnetar_inplace.proofs.records.all_six as g2
+use Rattle.magnetar_inplace.proofs.records.all_six.Symbol as g2-def
+use Rattle.magnetar_inplace.proofs.records.all_six.Symbol.{name as #g2}
+use Rattle.magnetar_inplace.proofs.records.all_six.Met as g2-thm
 use Rattle.magnetar_records_prover.proofs.refusal.prove as g3
 use Rattle.magnetar_records_prover.proofs.refusal.prove.Symbol as g3-def
 use Rattle.magnetar_records_prover.proofs.refusal.prove.Symbol.{name as #g3}
@@ -265,5 +265,5 @@ refused-spec 𝓤 H 𝓜 𝓖 𝓡 =
     (tables 𝓤 H 𝓜 𝓡 code.env .C) (tables 𝓤 H 𝓜 𝓡 code.env .Λ) #f code.function (code.unfolded 𝓤 H 𝓜 𝓡)
     (meets 𝓤 H (𝓖 .A) (givenOf 𝓤 H 𝓜 𝓖) (𝓜 .mem) (𝓡 .run) (tablesOf 𝓤 H 𝓜 (tables 𝓤 H 𝓜 𝓡 code.env))
     (cited 𝓤 H (Callee-g1 𝓤 H (𝓖 .A) (𝓜 .mem) (𝓡 .run)) 𝓜 𝓡 code.env #g1 g1-def.routine code.calls-magnetar-records·stages·counter (g1-thm.met 𝓤 H 𝓜 𝓖 𝓡))
-    (cited 𝓤 H (Callee-g2 𝓤 H (𝓖 .A) (𝓜 .mem) (𝓡 .run)) 𝓜 𝓡 code.env #g2 g2-def.routine code.calls-magnetar-records·combo·all-six (g2-thm.met 𝓤 H 𝓜 𝓖 𝓡))
+    (cited 𝓤 H (Callee-g2 𝓤 H (𝓖 .A) (𝓜 .mem) (𝓡 .run)) 𝓜 𝓡 code.env #g2 g2-def.routine code.calls-magnetar-inplace·records·all-six (g2-thm.met 𝓤 H 𝓜 𝓖 𝓡))
     (cited 𝓤 H (Callee-g3 𝓤 H (𝓖 .A) (𝓜 .mem) (𝓡 .run)) 𝓜 𝓡 code.env #g3 g3-def.routine code.calls-magnetar-records-prover·refusal·prove (g3-thm.met 𝓤 H 𝓜 𝓖 𝓡)))

@@ -28,12 +28,13 @@ use Rattle.magnetar_inplace.specs.Records.{entryOf, entriesOfRecords}
 use Rattle.magnetar_r1cs.specs.Matrix as matrix
 use Rattle.magnetar_r1cs.specs.Matrix.{share}
 use Rattle.magnetar_inplace.specs.Steps.{addedTo, addedAll}
-use Rattle.magnetar_row_records.specs.Steps.{behind, zAt}
+use Rattle.magnetar_row_records.specs.Steps.{behind}
+use Rattle.magnetar_inplace.specs.LoginSteps.{loginZ}
 use Rattle.magnetar_row_records.proofs.WalkLaws.{added-more, added-end}
 
 -- the share of an entry
 abbrev part : each.Arg → matrix.Entry → ℕ
-part a = share (zAt (a .1 .1 .1 .1 .1 .0) (a .1 .1 .1 .1 .1 .1 .0 .now) (elements (a .1 .1 .1 .1 .1 .1 .1 .0 .now)) (a .1 .1 .1 .1 .0))
+part a = share (loginZ (a .1 .1 .1 .1 .1 .0) (a .1 .1 .1 .1 .1 .1 .0 .now) (elements (a .1 .1 .1 .1 .1 .1 .1 .0 .now)) (a .1 .1 .1 .1 .0))
 
 -- what is left to add, to what the words hold, is what was to be added at the start
 abbrev Inv : each.Arg → List Entry → List ℕ → Type 0

@@ -25,7 +25,8 @@ use Rattle.magnetar_row_records.proofs.check.check_system.Code as code
 use Rattle.magnetar_field.specs.Words.{elements}
 use Rattle.magnetar_inplace.specs.Records.{entriesOfRecords}
 use Rattle.magnetar_row_records.specs.declared.steps.Seen.{Seen}
-use Rattle.magnetar_row_records.specs.Steps.{Walked, from, zAt, loginDone, systemDone}
+use Rattle.magnetar_row_records.specs.Steps.{Walked, from, loginDone, systemDone}
+use Rattle.magnetar_inplace.specs.LoginSteps.{loginZ}
 use Rattle.magnetar_row_records.proofs.WalkLaws.{system-start, system-more}
 
 -- what the walk has left after the logins so far
@@ -40,7 +41,7 @@ holds 𝓤 H A mem run = record {
   ghost = λ κs x. tt;
   begins = λ κs a t. factI 𝓤 _ _ (system-start (a .1 .0) (a .1 .1 .1 .1 .0) (a .1 .1 .1 .1 .1 .0) (a .1 .1 .1 .1 .1 .1 .0 .now) (elements (a .1 .1 .1 .1 .1 .1 .1 .0 .now)) (entriesOfRecords (a .1 .1 .1 .1 .1 .1 .1 .1 .0 .now)) (entriesOfRecords (a .1 .1 .1 .1 .1 .1 .1 .1 .1 .0 .now)) (entriesOfRecords (a .1 .1 .1 .1 .1 .1 .1 .1 .1 .1 .0 .now)) (from (a .0) (a .1 .1 .0 .now)));
   asks = λ κs a δ zs r i l h inv. id⊢ 𝓤 (emp 𝓤);
-  tells = λ κs a δ zs r i l h inv zs′ r′. fact-use 𝓤 ((r′ ≡ loginDone (a .1 .0) (a .1 .1 .1 .1 .0) (zAt (a .1 .1 .1 .1 .1 .0) (a .1 .1 .1 .1 .1 .1 .0 .now) (elements (a .1 .1 .1 .1 .1 .1 .1 .0 .now)) i) (entriesOfRecords (a .1 .1 .1 .1 .1 .1 .1 .1 .0 .now)) (entriesOfRecords (a .1 .1 .1 .1 .1 .1 .1 .1 .1 .0 .now)) (entriesOfRecords (a .1 .1 .1 .1 .1 .1 .1 .1 .1 .1 .0 .now)) i (from r zs) .found) × (zs′ ≡ loginDone (a .1 .0) (a .1 .1 .1 .1 .0) (zAt (a .1 .1 .1 .1 .1 .0) (a .1 .1 .1 .1 .1 .1 .0 .now) (elements (a .1 .1 .1 .1 .1 .1 .1 .0 .now)) i) (entriesOfRecords (a .1 .1 .1 .1 .1 .1 .1 .1 .0 .now)) (entriesOfRecords (a .1 .1 .1 .1 .1 .1 .1 .1 .1 .0 .now)) (entriesOfRecords (a .1 .1 .1 .1 .1 .1 .1 .1 .1 .1 .0 .now)) i (from r zs) .left)) (id⊢ 𝓤 _)
+  tells = λ κs a δ zs r i l h inv zs′ r′. fact-use 𝓤 ((r′ ≡ loginDone (a .1 .0) (a .1 .1 .1 .1 .0) (loginZ (a .1 .1 .1 .1 .1 .0) (a .1 .1 .1 .1 .1 .1 .0 .now) (elements (a .1 .1 .1 .1 .1 .1 .1 .0 .now)) i) (entriesOfRecords (a .1 .1 .1 .1 .1 .1 .1 .1 .0 .now)) (entriesOfRecords (a .1 .1 .1 .1 .1 .1 .1 .1 .1 .0 .now)) (entriesOfRecords (a .1 .1 .1 .1 .1 .1 .1 .1 .1 .1 .0 .now)) i (from r zs) .found) × (zs′ ≡ loginDone (a .1 .0) (a .1 .1 .1 .1 .0) (loginZ (a .1 .1 .1 .1 .1 .0) (a .1 .1 .1 .1 .1 .1 .0 .now) (elements (a .1 .1 .1 .1 .1 .1 .1 .0 .now)) i) (entriesOfRecords (a .1 .1 .1 .1 .1 .1 .1 .1 .0 .now)) (entriesOfRecords (a .1 .1 .1 .1 .1 .1 .1 .1 .1 .0 .now)) (entriesOfRecords (a .1 .1 .1 .1 .1 .1 .1 .1 .1 .1 .0 .now)) i (from r zs) .left)) (id⊢ 𝓤 _)
       (λ said. factI 𝓤 _ _ (system-more (a .1 .0) (a .1 .1 .1 .1 .0) (a .1 .1 .1 .1 .1 .0) (a .1 .1 .1 .1 .1 .1 .0 .now) (elements (a .1 .1 .1 .1 .1 .1 .1 .0 .now)) (entriesOfRecords (a .1 .1 .1 .1 .1 .1 .1 .1 .0 .now)) (entriesOfRecords (a .1 .1 .1 .1 .1 .1 .1 .1 .1 .0 .now)) (entriesOfRecords (a .1 .1 .1 .1 .1 .1 .1 .1 .1 .1 .0 .now)) i (from (a .0) (a .1 .1 .0 .now)) r r′ zs zs′ inv said));
   ends = λ κs a t zs r l inv. factI 𝓤 _ _ inv;
 }

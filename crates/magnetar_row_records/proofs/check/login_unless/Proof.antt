@@ -48,7 +48,7 @@ use denote.Exit.{yes}
 use Rattle.magnetar_row_records.proofs.WalkLaws.{unless-some, unless-none}
 use Rattle.magnetar_inplace.specs.Records.{entriesOfRecords}
 use Rattle.magnetar_field.specs.Words.{elements}
-use Rattle.magnetar_row_records.specs.Steps.{zAt}
+use Rattle.magnetar_inplace.specs.LoginSteps.{loginZ}
 use Rattle.magnetar_row_records.specs.declared.steps.Seen.{Seen}
 use Rattle.magnetar_row_records.proofs.steps.Seen as mSeen
 use Rattle.magnetar_row_records.proofs.steps.Seen.Laws as lSeen
@@ -198,13 +198,13 @@ module _ {M : Type 1} (𝓤 : URA M) (H : Heap 𝓤) (A : Atoms 𝓤) (W : Given
         exec ! C Λ ((lSeen.mir, l₀) ∷ (lSeen.mir, l₁) ∷ (tyInt w64, l₂) ∷ (tyInt w64, l₃) ∷ (sliceTy (tyRef (named 0) mut (tyInt w64)), l₄) ∷ (tyInt w64, l₅) ∷ (tyInt w64, l₆) ∷ (sliceTy (tyRef (named 1) imm (tyInt w64)), l₇) ∷ (sliceTy (tyRef (named 2) imm (tyInt w64)), l₈) ∷ (sliceTy (tyRef (named 3) imm (pointee (mEntry.the-row .written))), l₉) ∷ (sliceTy (tyRef (named 4) imm (pointee (mEntry.the-row .written))), l₁₀) ∷ (sliceTy (tyRef (named 5) imm (pointee (mEntry.the-row .written))), l₁₁) ∷ (tyBool, l₁₂) ∷ (lSeen.mir, l₁₃) ∷ (tyBool, l₁₄) ∷ (lSeen.mir, l₁₅) ∷ (tyRef erased mut (tyInt w64), l₁₆) ∷ (sliceTy (tyRef erased mut (tyInt w64)), l₁₇) ∷ []) Mir.t-4 (atRet ((lSeen.mir, l₀) ∷ (lSeen.mir, l₁) ∷ (tyInt w64, l₂) ∷ (tyInt w64, l₃) ∷ (sliceTy (tyRef (named 0) mut (tyInt w64)), l₄) ∷ (tyInt w64, l₅) ∷ (tyInt w64, l₆) ∷ (sliceTy (tyRef (named 1) imm (tyInt w64)), l₇) ∷ (sliceTy (tyRef (named 2) imm (tyInt w64)), l₈) ∷ (sliceTy (tyRef (named 3) imm (pointee (mEntry.the-row .written))), l₉) ∷ (sliceTy (tyRef (named 4) imm (pointee (mEntry.the-row .written))), l₁₀) ∷ (sliceTy (tyRef (named 5) imm (pointee (mEntry.the-row .written))), l₁₁) ∷ (tyBool, l₁₂) ∷ (lSeen.mir, l₁₃) ∷ (tyBool, l₁₄) ∷ (lSeen.mir, l₁₅) ∷ (tyRef erased mut (tyInt w64), l₁₆) ∷ (sliceTy (tyRef erased mut (tyInt w64)), l₁₇) ∷ []) Post) $
         assigns ! (of-opd ! (load ! (from ! (stop !)) (look ! 20 refl))) (from ! (stop !)) (init ! 35 refl (LL.lawful mSeen.the-type lSeen.the-laws 𝓤 H A W .typed r2 _ i2 .0)) $
         tidy W (_ ∷ _ ∷ _ ∷ _ ∷ _ ∷ _ ∷ _ ∷ _ ∷ _ ∷ _ ∷ _ ∷ _ ∷ _ ∷ _ ∷ _ ∷ _ ∷ _ ∷ _ ∷ _ ∷ _ ∷ _ ∷ _ ∷ _ ∷ _ ∷ _ ∷ _ ∷ _ ∷ _ ∷ _ ∷ _ ∷ _ ∷ _ ∷ _ ∷ _ ∷ _ ∷ _ ∷ []) $ returns ! (look ! 35 refl) $ move ! (17 ∷ []) $ use1 W (dies ((lSeen.mir, l₀) ∷ (lSeen.mir, l₁) ∷ (tyInt w64, l₂) ∷ (tyInt w64, l₃) ∷ (sliceTy (tyRef (named 0) mut (tyInt w64)), l₄) ∷ (tyInt w64, l₅) ∷ (tyInt w64, l₆) ∷ (sliceTy (tyRef (named 1) imm (tyInt w64)), l₇) ∷ (sliceTy (tyRef (named 2) imm (tyInt w64)), l₈) ∷ (sliceTy (tyRef (named 3) imm (pointee (mEntry.the-row .written))), l₉) ∷ (sliceTy (tyRef (named 4) imm (pointee (mEntry.the-row .written))), l₁₀) ∷ (sliceTy (tyRef (named 5) imm (pointee (mEntry.the-row .written))), l₁₁) ∷ (tyBool, l₁₂) ∷ (lSeen.mir, l₁₃) ∷ (tyBool, l₁₄) ∷ (lSeen.mir, l₁₅) ∷ (tyRef erased mut (tyInt w64), l₁₆) ∷ (sliceTy (tyRef erased mut (tyInt w64)), l₁₇) ∷ []) (‵ ftrue)) die $ free-all ! 17 ((lSeen.mir, l₀) ∷ (lSeen.mir, l₁) ∷ (tyInt w64, l₂) ∷ (tyInt w64, l₃) ∷ (sliceTy (tyRef (named 0) mut (tyInt w64)), l₄) ∷ (tyInt w64, l₅) ∷ (tyInt w64, l₆) ∷ (sliceTy (tyRef (named 1) imm (tyInt w64)), l₇) ∷ (sliceTy (tyRef (named 2) imm (tyInt w64)), l₈) ∷ (sliceTy (tyRef (named 3) imm (pointee (mEntry.the-row .written))), l₉) ∷ (sliceTy (tyRef (named 4) imm (pointee (mEntry.the-row .written))), l₁₀) ∷ (sliceTy (tyRef (named 5) imm (pointee (mEntry.the-row .written))), l₁₁) ∷ (tyBool, l₁₂) ∷ (lSeen.mir, l₁₃) ∷ (tyBool, l₁₄) ∷ (lSeen.mir, l₁₅) ∷ (tyRef erased mut (tyInt w64), l₁₆) ∷ (sliceTy (tyRef erased mut (tyInt w64)), l₁₇) ∷ []) (kept _ ∷ kept _ ∷ kept _ ∷ kept _ ∷ kept _ ∷ kept _ ∷ kept _ ∷ kept _ ∷ kept _ ∷ kept _ ∷ kept _ ∷ kept _ ∷ kept _ ∷ kept _ ∷ kept _ ∷ kept _ ∷ kept _ ∷ kept _ ∷ []) refl $
-        suffices ! _ (ends-at 𝓤 H A f.ended stayed (f.clauses 𝓤 H A at-mem run) W (((κ₀, (κ₁, (κ₂, (κ₃, (κ₄, (κ₅, tt)))))), (q₀, (q₁, (q₂, (q₃, (q₄, (q₅, tt)))))), tt, a, at), tt) z2 r2 (tt, (tt, (tt, (ws2 .1 .1 .1 .0, (tt, (tt, (tt, (tt, (tt, (tt, (tt, tt))))))))))) (tt, (tt, (tt, (same2d, (tt, (tt, (tt, (tt, (tt, (tt, (tt, tt)))))))))))) $ says ! (unless-some n2 n5 (zAt n6 (s7 .now) (elements (s8 .now)) n3) (entriesOfRecords (s9 .now)) (entriesOfRecords (s10 .now)) (entriesOfRecords (s11 .now)) n3 n1 r2 ys4 (ws2 .1 .1 .1 .0) (sym e1 ∙ b1) e2) $
+        suffices ! _ (ends-at 𝓤 H A f.ended stayed (f.clauses 𝓤 H A at-mem run) W (((κ₀, (κ₁, (κ₂, (κ₃, (κ₄, (κ₅, tt)))))), (q₀, (q₁, (q₂, (q₃, (q₄, (q₅, tt)))))), tt, a, at), tt) z2 r2 (tt, (tt, (tt, (ws2 .1 .1 .1 .0, (tt, (tt, (tt, (tt, (tt, (tt, (tt, tt))))))))))) (tt, (tt, (tt, (same2d, (tt, (tt, (tt, (tt, (tt, (tt, (tt, tt)))))))))))) $ says ! (unless-some n2 n5 (loginZ n6 (s7 .now) (elements (s8 .now)) n3) (entriesOfRecords (s9 .now)) (entriesOfRecords (s10 .now)) (entriesOfRecords (s11 .now)) n3 n1 r2 ys4 (ws2 .1 .1 .1 .0) (sym e1 ∙ b1) e2) $
         nothing ! $ move ! (3 ∷ 0 ∷ []) $ join ! $ move ! (3 ∷ 0 ∷ []) $ join ! $ move ! (3 ∷ 0 ∷ []) $ join ! $ move ! (3 ∷ 0 ∷ []) $ join ! $ move ! (3 ∷ 0 ∷ []) $ join ! $ move ! (2 ∷ 0 ∷ []) $ join ! $ nothing ! $ move ! (3 ∷ 0 ∷ []) $ fjoin ! $ move ! (3 ∷ 0 ∷ []) $ fjoin ! $ move ! (3 ∷ 0 ∷ []) $ fjoin ! $ move ! (3 ∷ 0 ∷ []) $ fjoin ! $ move ! (3 ∷ 0 ∷ []) $ fjoin ! $ move ! (3 ∷ 0 ∷ []) $ fjoin ! $ move ! (3 ∷ 0 ∷ []) $ fjoin ! $ move ! (2 ∷ 0 ∷ []) $ fjoin ! $ move ! (2 ∷ 0 ∷ []) $ fjoin ! $ move ! (2 ∷ 0 ∷ []) $ fjoin ! $ move ! (2 ∷ 0 ∷ []) $ fjoin ! $ keep ! (1 ∷ 0 ∷ []) $ frame ! $ frame ! $ owned ! mSeen.the-row (Is mSeen.the-row) (LL.makes mSeen.the-type lSeen.the-plain 𝓤 H A) r2 _ i2 $ done !)))))))))
         (λ y1. let b1 : r1 ≡ false = is-no (r1) y1 in assigns-last ! (of-opd ! (load ! (from ! (stop !)) (look ! 34 refl))) (from ! (stop !)) (init ! 20 refl (LL.lawful mSeen.the-type lSeen.the-laws 𝓤 H A W .typed n1 _ w1 .0)) $
         exec ! C Λ ((lSeen.mir, l₀) ∷ (lSeen.mir, l₁) ∷ (tyInt w64, l₂) ∷ (tyInt w64, l₃) ∷ (sliceTy (tyRef (named 0) mut (tyInt w64)), l₄) ∷ (tyInt w64, l₅) ∷ (tyInt w64, l₆) ∷ (sliceTy (tyRef (named 1) imm (tyInt w64)), l₇) ∷ (sliceTy (tyRef (named 2) imm (tyInt w64)), l₈) ∷ (sliceTy (tyRef (named 3) imm (pointee (mEntry.the-row .written))), l₉) ∷ (sliceTy (tyRef (named 4) imm (pointee (mEntry.the-row .written))), l₁₀) ∷ (sliceTy (tyRef (named 5) imm (pointee (mEntry.the-row .written))), l₁₁) ∷ (tyBool, l₁₂) ∷ (lSeen.mir, l₁₃) ∷ (tyBool, l₁₄) ∷ (lSeen.mir, l₁₅) ∷ (tyRef erased mut (tyInt w64), l₁₆) ∷ (sliceTy (tyRef erased mut (tyInt w64)), l₁₇) ∷ []) Mir.t-4 (atRet ((lSeen.mir, l₀) ∷ (lSeen.mir, l₁) ∷ (tyInt w64, l₂) ∷ (tyInt w64, l₃) ∷ (sliceTy (tyRef (named 0) mut (tyInt w64)), l₄) ∷ (tyInt w64, l₅) ∷ (tyInt w64, l₆) ∷ (sliceTy (tyRef (named 1) imm (tyInt w64)), l₇) ∷ (sliceTy (tyRef (named 2) imm (tyInt w64)), l₈) ∷ (sliceTy (tyRef (named 3) imm (pointee (mEntry.the-row .written))), l₉) ∷ (sliceTy (tyRef (named 4) imm (pointee (mEntry.the-row .written))), l₁₀) ∷ (sliceTy (tyRef (named 5) imm (pointee (mEntry.the-row .written))), l₁₁) ∷ (tyBool, l₁₂) ∷ (lSeen.mir, l₁₃) ∷ (tyBool, l₁₄) ∷ (lSeen.mir, l₁₅) ∷ (tyRef erased mut (tyInt w64), l₁₆) ∷ (sliceTy (tyRef erased mut (tyInt w64)), l₁₇) ∷ []) Post) $
         assigns ! (of-opd ! (load ! (from ! (stop !)) (look ! 20 refl))) (from ! (stop !)) (init ! 35 refl (LL.lawful mSeen.the-type lSeen.the-laws 𝓤 H A W .typed n1 _ w1 .0)) $
         tidy W (_ ∷ _ ∷ _ ∷ _ ∷ _ ∷ _ ∷ _ ∷ _ ∷ _ ∷ _ ∷ _ ∷ _ ∷ _ ∷ _ ∷ _ ∷ _ ∷ _ ∷ _ ∷ _ ∷ _ ∷ _ ∷ _ ∷ _ ∷ _ ∷ _ ∷ _ ∷ _ ∷ _ ∷ _ ∷ _ ∷ _ ∷ _ ∷ _ ∷ _ ∷ _ ∷ _ ∷ []) $ returns ! (look ! 35 refl) $ move ! (17 ∷ []) $ use1 W (dies ((lSeen.mir, l₀) ∷ (lSeen.mir, l₁) ∷ (tyInt w64, l₂) ∷ (tyInt w64, l₃) ∷ (sliceTy (tyRef (named 0) mut (tyInt w64)), l₄) ∷ (tyInt w64, l₅) ∷ (tyInt w64, l₆) ∷ (sliceTy (tyRef (named 1) imm (tyInt w64)), l₇) ∷ (sliceTy (tyRef (named 2) imm (tyInt w64)), l₈) ∷ (sliceTy (tyRef (named 3) imm (pointee (mEntry.the-row .written))), l₉) ∷ (sliceTy (tyRef (named 4) imm (pointee (mEntry.the-row .written))), l₁₀) ∷ (sliceTy (tyRef (named 5) imm (pointee (mEntry.the-row .written))), l₁₁) ∷ (tyBool, l₁₂) ∷ (lSeen.mir, l₁₃) ∷ (tyBool, l₁₄) ∷ (lSeen.mir, l₁₅) ∷ (tyRef erased mut (tyInt w64), l₁₆) ∷ (sliceTy (tyRef erased mut (tyInt w64)), l₁₇) ∷ []) (‵ ftrue)) die $ free-all ! 17 ((lSeen.mir, l₀) ∷ (lSeen.mir, l₁) ∷ (tyInt w64, l₂) ∷ (tyInt w64, l₃) ∷ (sliceTy (tyRef (named 0) mut (tyInt w64)), l₄) ∷ (tyInt w64, l₅) ∷ (tyInt w64, l₆) ∷ (sliceTy (tyRef (named 1) imm (tyInt w64)), l₇) ∷ (sliceTy (tyRef (named 2) imm (tyInt w64)), l₈) ∷ (sliceTy (tyRef (named 3) imm (pointee (mEntry.the-row .written))), l₉) ∷ (sliceTy (tyRef (named 4) imm (pointee (mEntry.the-row .written))), l₁₀) ∷ (sliceTy (tyRef (named 5) imm (pointee (mEntry.the-row .written))), l₁₁) ∷ (tyBool, l₁₂) ∷ (lSeen.mir, l₁₃) ∷ (tyBool, l₁₄) ∷ (lSeen.mir, l₁₅) ∷ (tyRef erased mut (tyInt w64), l₁₆) ∷ (sliceTy (tyRef erased mut (tyInt w64)), l₁₇) ∷ []) (kept _ ∷ kept _ ∷ kept _ ∷ kept _ ∷ kept _ ∷ kept _ ∷ kept _ ∷ kept _ ∷ kept _ ∷ kept _ ∷ kept _ ∷ kept _ ∷ kept _ ∷ bare ∷ kept _ ∷ kept _ ∷ bare ∷ bare ∷ []) refl $
-        suffices ! _ (ends-at 𝓤 H A f.ended stayed (f.clauses 𝓤 H A at-mem run) W (((κ₀, (κ₁, (κ₂, (κ₃, (κ₄, (κ₅, tt)))))), (q₀, (q₁, (q₂, (q₃, (q₄, (q₅, tt)))))), tt, a, at), tt) u1 n1 (tt, (tt, (tt, (ys4, (tt, (tt, (tt, (tt, (tt, (tt, (tt, tt))))))))))) (tt, (tt, (tt, (refl, (tt, (tt, (tt, (tt, (tt, (tt, (tt, tt)))))))))))) $ says ! (unless-none n2 n5 (zAt n6 (s7 .now) (elements (s8 .now)) n3) (entriesOfRecords (s9 .now)) (entriesOfRecords (s10 .now)) (entriesOfRecords (s11 .now)) n3 n1 ys4 (sym e1 ∙ b1)) $
+        suffices ! _ (ends-at 𝓤 H A f.ended stayed (f.clauses 𝓤 H A at-mem run) W (((κ₀, (κ₁, (κ₂, (κ₃, (κ₄, (κ₅, tt)))))), (q₀, (q₁, (q₂, (q₃, (q₄, (q₅, tt)))))), tt, a, at), tt) u1 n1 (tt, (tt, (tt, (ys4, (tt, (tt, (tt, (tt, (tt, (tt, (tt, tt))))))))))) (tt, (tt, (tt, (refl, (tt, (tt, (tt, (tt, (tt, (tt, (tt, tt)))))))))))) $ says ! (unless-none n2 n5 (loginZ n6 (s7 .now) (elements (s8 .now)) n3) (entriesOfRecords (s9 .now)) (entriesOfRecords (s10 .now)) (entriesOfRecords (s11 .now)) n3 n1 ys4 (sym e1 ∙ b1)) $
         nothing ! $ move ! (1 ∷ 0 ∷ []) $ join ! $ move ! (1 ∷ 0 ∷ []) $ join ! $ move ! (1 ∷ 0 ∷ []) $ join ! $ move ! (1 ∷ 0 ∷ []) $ join ! $ move ! (1 ∷ 0 ∷ []) $ join ! $ move ! (1 ∷ 0 ∷ []) $ join ! $ nothing ! $ move ! (2 ∷ 0 ∷ []) $ fjoin ! $ move ! (2 ∷ 0 ∷ []) $ fjoin ! $ move ! (2 ∷ 0 ∷ []) $ fjoin ! $ move ! (2 ∷ 0 ∷ []) $ fjoin ! $ move ! (2 ∷ 0 ∷ []) $ fjoin ! $ move ! (2 ∷ 0 ∷ []) $ fjoin ! $ move ! (2 ∷ 0 ∷ []) $ fjoin ! $ move ! (2 ∷ 0 ∷ []) $ fjoin ! $ move ! (2 ∷ 0 ∷ []) $ fjoin ! $ move ! (2 ∷ 0 ∷ []) $ fjoin ! $ move ! (2 ∷ 0 ∷ []) $ fjoin ! $ keep ! (1 ∷ 0 ∷ []) $ frame ! $ frame ! $ owned ! mSeen.the-row (Is mSeen.the-row) (LL.makes mSeen.the-type lSeen.the-plain 𝓤 H A) n1 _ w1 $ done !)
         ))))))))))))))))))))))))
 

@@ -48,7 +48,7 @@ use denote.Exit.{yes}
 use Rattle.magnetar_row_records.proofs.WalkLaws.{product-ends}
 use Rattle.magnetar_inplace.specs.Records.{entriesOfRecords}
 use Rattle.magnetar_field.specs.Words.{elements}
-use Rattle.magnetar_row_records.specs.Steps.{zAt}
+use Rattle.magnetar_inplace.specs.LoginSteps.{loginZ}
 use Rattle.magnetar_inplace.specs.declared.records.Entry.{Entry}
 use Rattle.magnetar_inplace.proofs.records.Entry as mEntry
 use Rattle.magnetar_inplace.proofs.records.Entry.Laws as lEntry
@@ -180,7 +180,7 @@ module _ {M : Type 1} (𝓤 : URA M) (H : Heap 𝓤) (A : Atoms 𝓤) (W : Given
         tidy W (_ ∷ _ ∷ _ ∷ _ ∷ _ ∷ _ ∷ _ ∷ _ ∷ _ ∷ _ ∷ _ ∷ _ ∷ _ ∷ _ ∷ _ ∷ _ ∷ _ ∷ _ ∷ _ ∷ _ ∷ _ ∷ _ ∷ _ ∷ _ ∷ _ ∷ []) $ split ! $ move ! (1 ∷ []) $ split ! $ move ! (1 ∷ []) $ split ! $ move ! (1 ∷ []) $ split ! $ move ! (1 ∷ []) $ drop ! $ move ! (2 ∷ []) $ lft-end ! tt $ move ! (0 ∷ 7 ∷ 4 ∷ []) $ use3 W (later (‵ (O2 (ws2 .1 .0)) ⊛ ‵ (flft κ₁ q₁))) (backs2 (named 1) ν2b δ2b (ws1 .0) (ws2 .1 .0) (same1a) room2 same2b) $ await ! tt $ split ! $
         assigns ! (of-opd ! (unit-lit !)) (from ! (stop !)) (init ! 26 refl (tt, tt)) $
         tidy W (_ ∷ _ ∷ _ ∷ _ ∷ _ ∷ _ ∷ _ ∷ _ ∷ _ ∷ _ ∷ _ ∷ _ ∷ _ ∷ _ ∷ _ ∷ _ ∷ _ ∷ _ ∷ _ ∷ _ ∷ _ ∷ _ ∷ _ ∷ _ ∷ _ ∷ _ ∷ _ ∷ []) $ returns ! (look ! 26 refl) $ move ! (12 ∷ []) $ use1 W (dies ((tyUnit, l₀) ∷ (sliceTy (tyRef (named 0) imm (pointee (mEntry.the-row .written))), l₁) ∷ (sliceTy (tyRef (named 1) mut (tyInt w64)), l₂) ∷ (tyInt w64, l₃) ∷ (tyInt w64, l₄) ∷ (tyInt w64, l₅) ∷ (tyInt w64, l₆) ∷ (sliceTy (tyRef (named 2) imm (tyInt w64)), l₇) ∷ (sliceTy (tyRef (named 3) imm (tyInt w64)), l₈) ∷ (tyUnit, l₉) ∷ (tyRef erased mut (tyInt w64), l₁₀) ∷ (sliceTy (tyRef erased mut (tyInt w64)), l₁₁) ∷ (tyRef erased mut (tyInt w64), l₁₂) ∷ (sliceTy (tyRef erased mut (tyInt w64)), l₁₃) ∷ []) (‵ ftrue)) die $ free-all ! 12 ((tyUnit, l₀) ∷ (sliceTy (tyRef (named 0) imm (pointee (mEntry.the-row .written))), l₁) ∷ (sliceTy (tyRef (named 1) mut (tyInt w64)), l₂) ∷ (tyInt w64, l₃) ∷ (tyInt w64, l₄) ∷ (tyInt w64, l₅) ∷ (tyInt w64, l₆) ∷ (sliceTy (tyRef (named 2) imm (tyInt w64)), l₇) ∷ (sliceTy (tyRef (named 3) imm (tyInt w64)), l₈) ∷ (tyUnit, l₉) ∷ (tyRef erased mut (tyInt w64), l₁₀) ∷ (sliceTy (tyRef erased mut (tyInt w64)), l₁₁) ∷ (tyRef erased mut (tyInt w64), l₁₂) ∷ (sliceTy (tyRef erased mut (tyInt w64)), l₁₃) ∷ []) (kept _ ∷ kept _ ∷ kept _ ∷ kept _ ∷ kept _ ∷ kept _ ∷ kept _ ∷ kept _ ∷ kept _ ∷ kept _ ∷ kept _ ∷ kept _ ∷ kept _ ∷ kept _ ∷ []) refl $
-        suffices ! _ (ends-at 𝓤 H A f.ended stayed (f.clauses 𝓤 H A at-mem run) W (((κ₀, (κ₁, (κ₂, (κ₃, tt)))), (q₀, (q₁, (q₂, (q₃, tt)))), tt, a, at), tt) vunit tt (tt, (ws2 .1 .0, (tt, (tt, (tt, (tt, (tt, (tt, tt)))))))) (tt, (same2b ∙ same1a, (tt, (tt, (tt, (tt, (tt, (tt, tt))))))))) $ says ! (product-ends n3 n4 (zAt n6 (s7 .now) (elements (s8 .now)) n5) (entriesOfRecords (s1 .now)) ys2 (ws1 .0) (ws2 .1 .0) e1 e2) $
+        suffices ! _ (ends-at 𝓤 H A f.ended stayed (f.clauses 𝓤 H A at-mem run) W (((κ₀, (κ₁, (κ₂, (κ₃, tt)))), (q₀, (q₁, (q₂, (q₃, tt)))), tt, a, at), tt) vunit tt (tt, (ws2 .1 .0, (tt, (tt, (tt, (tt, (tt, (tt, tt)))))))) (tt, (same2b ∙ same1a, (tt, (tt, (tt, (tt, (tt, (tt, tt))))))))) $ says ! (product-ends n3 n4 (loginZ n6 (s7 .now) (elements (s8 .now)) n5) (entriesOfRecords (s1 .now)) ys2 (ws1 .0) (ws2 .1 .0) e1 e2) $
         nothing ! $ move ! (3 ∷ 0 ∷ []) $ join ! $ move ! (3 ∷ 0 ∷ []) $ join ! $ move ! (2 ∷ 0 ∷ []) $ join ! $ move ! (2 ∷ 0 ∷ []) $ join ! $ nothing ! $ move ! (3 ∷ 0 ∷ []) $ fjoin ! $ move ! (3 ∷ 0 ∷ []) $ fjoin ! $ move ! (4 ∷ 0 ∷ []) $ fjoin ! $ move ! (4 ∷ 0 ∷ []) $ fjoin ! $ move ! (4 ∷ 0 ∷ []) $ fjoin ! $ move ! (4 ∷ 0 ∷ []) $ fjoin ! $ move ! (2 ∷ 0 ∷ []) $ fjoin ! $ move ! (2 ∷ 0 ∷ []) $ fjoin ! $ keep ! (1 ∷ 0 ∷ []) $ frame ! $ feqI ! (List Val) (vunit ∷ []) (vunit ∷ []) refl $ move ! (1 ∷ 0 ∷ []) $ done !)))))))))))))))))))))))))))))))
 
 module _ {M : Type 1} (𝓤 : URA M) (H : Heap 𝓤) (A : Atoms 𝓤) (W : Given 𝓤 H A) (mem : Memory → SProp 𝓤) (run : Routine → Fun 𝓤) where

@@ -2,7 +2,6 @@
 -- Assumes nothing.
 use borrow.Author.Tests.{ne-eqb}
 use Rattle.magnetar_row_records.specs.Steps.{answerOf}
-use borrow.Author.Needs.{needs}
 use Rattle.magnetar_row_records.proofs.steps.answer.Statement.{statement}
 use Rattle.magnetar_row_records.proofs.steps.answer.Tie as tie
 

@@ -1,7 +1,6 @@
 -- `magnetar_row_records::steps::first_bad` meets its contract.
 -- Assumes nothing.
 use mathlib.Core.Path.{refl}
-use native.Mathlib.Omega.{arith}
 use denote.Ref.{now}
 use Rattle.magnetar_row_records.proofs.WalkLaws.{seen-here, seen-none}
 use borrow.Author.Needs.{needs}

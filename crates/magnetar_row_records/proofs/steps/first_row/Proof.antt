@@ -2,13 +2,13 @@
 -- Assumes nothing.
 use native.Mathlib.Omega.{arith}
 use denote.Ref.{now}
-use Rattle.magnetar_row_records.proofs.WalkLaws.{row-wide, row-here, row-short}
+use Rattle.magnetar_row_records.proofs.WalkLaws.{row-here, row-short}
 use borrow.Author.Needs.{needs}
 use Rattle.magnetar_row_records.proofs.steps.first_row.Statement.{statement}
 use Rattle.magnetar_row_records.proofs.steps.first_row.Tie as tie
 
 returns : tie.Need-returns
-returns c = let x = c .before .before .args in row-wide (x .n) (now (x .s)) (omega arith)
+returns c = let x = c .before .before .args in row-short (x .n) (now (x .s)) (omega arith)
 
 mul-end : tie.Need-mul-end
 mul-end c = search needs
@@ -26,10 +26,7 @@ first-failing-requires : tie.Need-first-failing-requires
 first-failing-requires c κs = search needs
 
 returns-2 : tie.Need-returns-2
-returns-2 c = let x = c .before .before .before .before .before .args in row-here (x .n) (c .first-failing .result) (now (x .s)) (omega arith) (omega arith) (c .first-failing .ensures)
-
-returns-3 : tie.Need-returns-3
-returns-3 c = let x = c .before .before .before .args in row-short (x .n) (now (x .s)) (omega arith) (omega arith)
+returns-2 c = let x = c .before .before .before .before .args in row-here (x .n) (c .first-failing .result) (now (x .s)) (omega arith) (c .first-failing .ensures)
 
 pub first-row-spec : {M : Type 1} → statement M
 first-row-spec =
@@ -41,5 +38,4 @@ first-row-spec =
     part-first-failing-start
     part-first-failing-end
     first-failing-requires
-    returns-2
-    returns-3)
+    returns-2)

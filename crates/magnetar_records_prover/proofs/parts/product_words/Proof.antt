@@ -1,12 +1,12 @@
--- `magnetar_records_prover::parts::table_words` meets its contract.
+-- `magnetar_records_prover::parts::product_words` meets its contract.
 -- Assumes nothing.
-use mathlib.Core.Path.{_≡_, ap₂}
+use mathlib.Core.Path.{ap₂}
 use Prim.Native.Nat.{ℕ, _*_, _≤_}
 use native.Mathlib.Omega.{arith}
 use Rattle.magnetar_r1cs.proofs.Blocks.{product-fits}
 use borrow.Author.Needs.{needs}
-use Rattle.magnetar_records_prover.proofs.parts.table_words.Statement.{statement}
-use Rattle.magnetar_records_prover.proofs.parts.table_words.Tie as tie
+use Rattle.magnetar_records_prover.proofs.parts.product_words.Statement.{statement}
+use Rattle.magnetar_records_prover.proofs.parts.product_words.Tie as tie
 
 least-requires : tie.Need-least-requires
 least-requires c κs = search needs
@@ -26,6 +26,6 @@ mul-result-2 c = omega (arith, small c)
 returns : tie.Need-returns
 returns c = (ap₂ (λ (i j : ℕ). 2 * (i * j)) (c .before .least .ensures .0) (c .least2 .ensures .0), omega (arith, small c))
 
-pub table-words-spec : {M : Type 1} → statement M
-table-words-spec =
+pub product-words-spec : {M : Type 1} → statement M
+product-words-spec =
     tie.close (tie.spec least-requires least-requires-2 mul-result mul-result-2 returns)

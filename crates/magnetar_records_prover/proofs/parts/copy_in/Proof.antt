@@ -1,14 +1,14 @@
--- `magnetar_records_prover::parts::lift_in` meets its contract.
+-- `magnetar_records_prover::parts::copy_in` meets its contract.
 -- Assumes nothing.
-use mathlib.Core.Path.{_≡_, refl, sym, ap, _∙_}
-use Prim.Native.Nat.{ℕ, _+_, _-_, _≤_}
+use mathlib.Core.Path.{_≡_, refl}
+use Prim.Native.Nat.{_+_, _-_, _≤_}
 use native.Mathlib.Omega.{arith}
-use lib.ListN.{length, take, drop}
+use lib.ListN.{length}
 use Rattle.magnetar_records_prover.proofs.PartLaws.{Copied, copied-none, copied-more}
 use denote.Ref.{now}
 use borrow.Author.Needs.{needs}
-use Rattle.magnetar_records_prover.proofs.parts.lift_in.Statement.{statement}
-use Rattle.magnetar_records_prover.proofs.parts.lift_in.Tie as tie
+use Rattle.magnetar_records_prover.proofs.parts.copy_in.Statement.{statement}
+use Rattle.magnetar_records_prover.proofs.parts.copy_in.Tie as tie
 
 abbrev Inv-loop : tie.InvT-loop
 Inv-loop s₀ a n i₀ s i = (i ≤ n) × (n ≤ a) × (a + n ≤ length s₀) × (length s ≡ length s₀) × Copied a i s₀ s
@@ -53,8 +53,8 @@ returns c =
     let e : l .i ≡ x .n = omega arith in
     rw (← e) (l .inv .4)
 
-pub lift-in-spec : {M : Type 1} → statement M
-lift-in-spec =
+pub copy-in-spec : {M : Type 1} → statement M
+copy-in-spec =
     tie.close
     (tie.spec
     Inv-loop

@@ -1,13 +1,13 @@
--- `magnetar_records::refusal::front` meets its contract.
+-- `magnetar_batch::systems::shapes6` meets its contract.
 -- Assumes nothing.
 use mathlib.Core.Path.{_∙_}
 use mathlib.Core.List.{_++_}
 use Rattle.magnetar_layout.specs.Tests.{columnTests}
 use Rattle.magnetar_batch.specs.Systems.{rowTests3, colTests3}
 use Rattle.magnetar_batch.proofs.SystemLaws.{linked}
 use borrow.Author.Needs.{needs}
-use Rattle.magnetar_records.proofs.refusal.front.Statement.{statement}
-use Rattle.magnetar_records.proofs.refusal.front.Tie as tie
+use Rattle.magnetar_batch.proofs.systems.shapes6.Statement.{statement}
+use Rattle.magnetar_batch.proofs.systems.shapes6.Tie as tie
 
 is-size-requires : tie.Need-is-size-requires
 is-size-requires c κs = search needs
@@ -37,8 +37,8 @@ returns c =
     linked (columnTests (x .m)) (l₁ ++ (l₂ ++ (l₃ ++ l₄))) 0 (c .before .before .before .before .note .result) _ (c .before .before .before .before .note .ensures ∙ rw (c .before .before .before .before .before .is-size .ensures))
     (linked l₁ (l₂ ++ (l₃ ++ l₄)) _ _ _ (c .before .before .before .rows3 .ensures) (linked l₂ (l₃ ++ l₄) _ _ _ (c .before .before .rows32 .ensures) (linked l₃ l₄ _ _ _ (c .before .cols3 .ensures) (c .cols32 .ensures))))
 
-pub front-spec : {M : Type 1} → statement M
-front-spec =
+pub shapes6-spec : {M : Type 1} → statement M
+shapes6-spec =
     tie.close
     (tie.spec
     is-size-requires

@@ -1,4 +1,4 @@
--- `magnetar_row_records::check::all_six` meets its contract: a walk of its MIR, which is calls in a row. Written by tools/thin.py.
+-- `magnetar_inplace::records::all_six` meets its contract: a walk of its MIR, which is calls in a row. Written by tools/thin.py.
 -- Assumes nothing.
 use mathlib.Core.Path.{_≡_, refl, sym, _∙_, ap, subst}
 use mathlib.Core.Bool.{Bool, true, false, not}
@@ -45,23 +45,23 @@ use denote.Triple.Table.{entered, cited}
 use denote.Triple.Walked.{says, needs, Stays, stay-ref, stay-none, stay-none-ref, stay-slice, stay-none-slice, walkOf, goes-ref, goes-none, goes-none-ref, goes-slice, goes-none-slice, Walks, ends-at, walked, walk-meets}
 use denote.Triple.Clauses.{Lasts, lasts, atExit}
 use denote.Exit.{yes}
 use Rattle.magnetar_inplace.specs.declared.records.Entry.{Entry}
 use Rattle.magnetar_inplace.proofs.records.Entry as mEntry
 use Rattle.magnetar_inplace.proofs.records.Entry.Laws as lEntry
 use Rattle.magnetar_inplace.proofs.Locals.{tidy, bare, kept, dies, alloc, hide, free-all}
 use Rattle.magnetar_inplace.proofs.records.all_inside as g1
 use Rattle.magnetar_inplace.proofs.records.all_inside.Symbol as g1-def
 use Rattle.magnetar_inplace.proofs.records.all_inside.Symbol.{name as #g1}
 use Rattle.magnetar_inplace.proofs.records.all_inside.Met as g1-thm
-use Rattle.magnetar_row_records.proofs.steps.all6 as g2
-use Rattle.magnetar_row_records.proofs.steps.all6.Symbol as g2-def
-use Rattle.magnetar_row_records.proofs.steps.all6.Symbol.{name as #g2}
-use Rattle.magnetar_row_records.proofs.steps.all6.Met as g2-thm
-use Rattle.magnetar_row_records.proofs.check.all_six.Key.{name as #f}
-use Rattle.magnetar_row_records.proofs.check.all_six as f
-use Rattle.magnetar_row_records.proofs.check.all_six.Statement as stated
-use Rattle.magnetar_row_records.proofs.check.all_six.Code as code
-use Rattle.magnetar_row_records.proofs.check.all_six.Code.Mir as Mir
+use Rattle.magnetar_inplace.proofs.steps.all6 as g2
+use Rattle.magnetar_inplace.proofs.steps.all6.Symbol as g2-def
+use Rattle.magnetar_inplace.proofs.steps.all6.Symbol.{name as #g2}
+use Rattle.magnetar_inplace.proofs.steps.all6.Met as g2-thm
+use Rattle.magnetar_inplace.proofs.records.all_six.Key.{name as #f}
+use Rattle.magnetar_inplace.proofs.records.all_six as f
+use Rattle.magnetar_inplace.proofs.records.all_six.Statement as stated
+use Rattle.magnetar_inplace.proofs.records.all_six.Code as code
+use Rattle.magnetar_inplace.proofs.records.all_six.Code.Mir as Mir
 
 abbrev array-val : {X : Type 0} → (X → List Val) → List X → Val
 array-val f t = only (array-vals f t)
@@ -83,7 +83,7 @@ Callee-g1 𝓤 H A mem run = tripleOf 𝓤 H A g1.signature (g1.spec 𝓤 H A me
 abbrev Callee-g2 : {M : Type 1} (𝓤 : URA M) (H : Heap 𝓤) (A : Atoms 𝓤) (mem : Memory → SProp 𝓤) (run : Routine → Fun 𝓤) → Contract 𝓤
 Callee-g2 𝓤 H A mem run = tripleOf 𝓤 H A g2.signature (g2.spec 𝓤 H A mem run)
 
-module _ {M : Type 1} (𝓤 : URA M) (H : Heap 𝓤) (A : Atoms 𝓤) (W : Given 𝓤 H A) (at-mem : Memory → SProp 𝓤) (run : Routine → Fun 𝓤) (κ₀ κ₁ κ₂ κ₃ κ₄ κ₅ : Lft) (q₀ q₁ q₂ q₃ q₄ q₅ : Share) (n1 : ℕ) (u1 : Val) (n2 : ℕ) (u2 : Val) (s3 : RefT (List Entry)) (n4 : ℕ) (u4 : Val) (n5 : ℕ) (u5 : Val) (s6 : RefT (List Entry)) (n7 : ℕ) (u7 : Val) (n8 : ℕ) (u8 : Val) (s9 : RefT (List Entry)) (n10 : ℕ) (u10 : Val) (n11 : ℕ) (u11 : Val) (s12 : RefT (List Entry)) (n13 : ℕ) (u13 : Val) (n14 : ℕ) (u14 : Val) (s15 : RefT (List Entry)) (n16 : ℕ) (u16 : Val) (n17 : ℕ) (u17 : Val) (s18 : RefT (List Entry)) where
+module _ {M : Type 1} (𝓤 : URA M) (H : Heap 𝓤) (A : Atoms 𝓤) (W : Given 𝓤 H A) (at-mem : Memory → SProp 𝓤) (run : Routine → Fun 𝓤) (κ₀ κ₁ κ₂ κ₃ κ₄ κ₅ : Lft) (q₀ q₁ q₂ q₃ q₄ q₅ : Share) (n1 : ℕ) (u1 : Val) (n2 : ℕ) (u2 : Val) (s3 : RefT (List Entry)) (n4 : ℕ) (u4 : Val) (n5 : ℕ) (u5 : Val) (s6 : RefT (List Entry)) (n7 : ℕ) (u7 : Val) (n8 : ℕ) (u8′ : Val) (s9 : RefT (List Entry)) (n10 : ℕ) (u10 : Val) (n11 : ℕ) (u11 : Val) (s12 : RefT (List Entry)) (n13 : ℕ) (u13 : Val) (n14 : ℕ) (u14 : Val) (s15 : RefT (List Entry)) (n16 : ℕ) (u16′ : Val) (n17 : ℕ) (u17 : Val) (s18 : RefT (List Entry)) where
   abbrev v1 : Val
   v1 = u1
 
@@ -112,7 +112,7 @@ module _ {M : Type 1} (𝓤 : URA M) (H : Heap 𝓤) (A : Atoms 𝓤) (W : Given
   v7 = u7
 
   abbrev v8 : Val
-  v8 = u8
+  v8 = u8′
 
   abbrev v9 : Val
   v9 = sliceVal (s9 .ptr) (length (s9 .now))
@@ -145,7 +145,7 @@ module _ {M : Type 1} (𝓤 : URA M) (H : Heap 𝓤) (A : Atoms 𝓤) (W : Given
   O15 = ShrSlice (named 4) κ₄ mEntry.the-row .own s15 (v15 ∷ [])
 
   abbrev v16 : Val
-  v16 = u16
+  v16 = u16′
 
   abbrev v17 : Val
   v17 = u17
@@ -168,7 +168,7 @@ module _ {M : Type 1} (𝓤 : URA M) (H : Heap 𝓤) (A : Atoms 𝓤) (W : Given
   abbrev Post : Val → SProp 𝓤
   Post = walkOf 𝓤 H A f.ended stayed (f.clauses 𝓤 H A at-mem run) .post (((κ₀, (κ₁, (κ₂, (κ₃, (κ₄, (κ₅, tt)))))), (q₀, (q₁, (q₂, (q₃, (q₄, (q₅, tt)))))), tt, a, at), tt)
 
-  module _ (C : Calls 𝓤 H) (Λ : Loops 𝓤 H) (fm : FmC 𝓤 H (W .laws) C) (known-g1 : Triple 𝓤 (C #g1) (Callee-g1 𝓤 H A at-mem run)) (known-g2 : Triple 𝓤 (C #g2) (Callee-g2 𝓤 H A at-mem run)) (w1 : Is u64 n1 (u1 ∷ [])) (w2 : Is u64 n2 (u2 ∷ [])) (w3 : Is (ShrSlice (named 0) κ₀ mEntry.the-row) s3 (v3 ∷ [])) (w4 : Is u64 n4 (u4 ∷ [])) (w5 : Is u64 n5 (u5 ∷ [])) (w6 : Is (ShrSlice (named 1) κ₁ mEntry.the-row) s6 (v6 ∷ [])) (w7 : Is u64 n7 (u7 ∷ [])) (w8 : Is u64 n8 (u8 ∷ [])) (w9 : Is (ShrSlice (named 2) κ₂ mEntry.the-row) s9 (v9 ∷ [])) (w10 : Is u64 n10 (u10 ∷ [])) (w11 : Is u64 n11 (u11 ∷ [])) (w12 : Is (ShrSlice (named 3) κ₃ mEntry.the-row) s12 (v12 ∷ [])) (w13 : Is u64 n13 (u13 ∷ [])) (w14 : Is u64 n14 (u14 ∷ [])) (w15 : Is (ShrSlice (named 4) κ₄ mEntry.the-row) s15 (v15 ∷ [])) (w16 : Is u64 n16 (u16 ∷ [])) (w17 : Is u64 n17 (u17 ∷ [])) (w18 : Is (ShrSlice (named 5) κ₅ mEntry.the-row) s18 (v18 ∷ [])) where
+  module _ (C : Calls 𝓤 H) (Λ : Loops 𝓤 H) (fm : FmC 𝓤 H (W .laws) C) (known-g1 : Triple 𝓤 (C #g1) (Callee-g1 𝓤 H A at-mem run)) (known-g2 : Triple 𝓤 (C #g2) (Callee-g2 𝓤 H A at-mem run)) (w1 : Is u64 n1 (u1 ∷ [])) (w2 : Is u64 n2 (u2 ∷ [])) (w3 : Is (ShrSlice (named 0) κ₀ mEntry.the-row) s3 (v3 ∷ [])) (w4 : Is u64 n4 (u4 ∷ [])) (w5 : Is u64 n5 (u5 ∷ [])) (w6 : Is (ShrSlice (named 1) κ₁ mEntry.the-row) s6 (v6 ∷ [])) (w7 : Is u64 n7 (u7 ∷ [])) (w8 : Is u64 n8 (u8′ ∷ [])) (w9 : Is (ShrSlice (named 2) κ₂ mEntry.the-row) s9 (v9 ∷ [])) (w10 : Is u64 n10 (u10 ∷ [])) (w11 : Is u64 n11 (u11 ∷ [])) (w12 : Is (ShrSlice (named 3) κ₃ mEntry.the-row) s12 (v12 ∷ [])) (w13 : Is u64 n13 (u13 ∷ [])) (w14 : Is u64 n14 (u14 ∷ [])) (w15 : Is (ShrSlice (named 4) κ₄ mEntry.the-row) s15 (v15 ∷ [])) (w16 : Is u64 n16 (u16′ ∷ [])) (w17 : Is u64 n17 (u17 ∷ [])) (w18 : Is (ShrSlice (named 5) κ₅ mEntry.the-row) s18 (v18 ∷ [])) where
     walk : ent 𝓤 (onEntry 𝓤 H A f.signature (κ₀, (κ₁, (κ₂, (κ₃, (κ₄, (κ₅, tt)))))) (q₀, (q₁, (q₂, (q₃, (q₄, (q₅, tt)))))) a at) (WpFn 𝓤 H C Λ code.function (v1 ∷ v2 ∷ v3 ∷ v4 ∷ v5 ∷ v6 ∷ v7 ∷ v8 ∷ v9 ∷ v10 ∷ v11 ∷ v12 ∷ v13 ∷ v14 ∷ v15 ∷ v16 ∷ v17 ∷ v18 ∷ []) Post)
     walk =
         qed W ((‵ (flft κ₀ q₀) ⊛ ‵ (flft κ₁ q₁) ⊛ ‵ (flft κ₂ q₂) ⊛ ‵ (flft κ₃ q₃) ⊛ ‵ (flft κ₄ q₄) ⊛ ‵ (flft κ₅ q₅) ⊛ ‵ ftrue) ∷ ‵ (owns (u64 ∷ u64 ∷ ShrSlice (named 0) κ₀ mEntry.the-row ∷ u64 ∷ u64 ∷ ShrSlice (named 1) κ₁ mEntry.the-row ∷ u64 ∷ u64 ∷ ShrSlice (named 2) κ₂ mEntry.the-row ∷ u64 ∷ u64 ∷ ShrSlice (named 3) κ₃ mEntry.the-row ∷ u64 ∷ u64 ∷ ShrSlice (named 4) κ₄ mEntry.the-row ∷ u64 ∷ u64 ∷ ShrSlice (named 5) κ₅ mEntry.the-row ∷ []) a at) ∷ []) ∵ enter ! C Λ code.function (v1 ∷ v2 ∷ v3 ∷ v4 ∷ v5 ∷ v6 ∷ v7 ∷ v8 ∷ v9 ∷ v10 ∷ v11 ∷ v12 ∷ v13 ∷ v14 ∷ v15 ∷ v16 ∷ v17 ∷ v18 ∷ []) _ $
@@ -188,8 +188,8 @@ module _ {M : Type 1} (𝓤 : URA M) (H : Heap 𝓤) (A : Atoms 𝓤) (W : Given
         drop ! $ split ! $ move ! (1 ∷ []) $ peeks ! bool (Is bool) (shows 𝓤 H A bool) r2 (z2 ∷ []) (λ i2. drop ! $ land ! (from ! (stop !)) (init ! 29 refl (bool-lawful 𝓤 H A W .typed r2 _ i2 .0)) $
         tidy W (_ ∷ _ ∷ _ ∷ _ ∷ _ ∷ _ ∷ _ ∷ _ ∷ _ ∷ _ ∷ _ ∷ _ ∷ _ ∷ _ ∷ _ ∷ _ ∷ _ ∷ _ ∷ _ ∷ _ ∷ _ ∷ _ ∷ _ ∷ _ ∷ _ ∷ _ ∷ _ ∷ _ ∷ _ ∷ _ ∷ _ ∷ _ ∷ _ ∷ _ ∷ _ ∷ _ ∷ _ ∷ _ ∷ _ ∷ _ ∷ _ ∷ _ ∷ _ ∷ _ ∷ _ ∷ _ ∷ _ ∷ _ ∷ _ ∷ _ ∷ []) $ split ! $ move ! (1 ∷ []) $ drop ! $ move ! (17 ∷ []) $ use1 W (‵ (O9) ⊛ ‵ (O9)) (shr-slice-copy 𝓤 H A W (named 2) κ₂ mEntry.the-row .twice s9 (v9 ∷ [])) $ split ! $ tidy W (_ ∷ _ ∷ _ ∷ _ ∷ _ ∷ _ ∷ _ ∷ _ ∷ _ ∷ _ ∷ _ ∷ _ ∷ _ ∷ _ ∷ _ ∷ _ ∷ _ ∷ _ ∷ _ ∷ _ ∷ _ ∷ _ ∷ _ ∷ _ ∷ _ ∷ _ ∷ _ ∷ _ ∷ _ ∷ _ ∷ _ ∷ _ ∷ _ ∷ _ ∷ _ ∷ _ ∷ _ ∷ _ ∷ _ ∷ _ ∷ _ ∷ _ ∷ _ ∷ _ ∷ _ ∷ _ ∷ _ ∷ _ ∷ _ ∷ _ ∷ _ ∷ []) $ nothing ! $ move ! (10 ∷ 0 ∷ []) $ join ! $ join ! $
         -- call 3
-        use1 W (raw (Callee-g1 𝓤 H A at-mem run .pre (((κ₂, tt), (q₂, tt), tt, (s9, (n7, (n8, tt))), (v9 ∷ [], (u7 ∷ [], (u8 ∷ [], tt)))), tt))) (qed W ((‵ (flft κ₂ q₂) ⊛ ‵ ftrue) ∷ ‵ (ShrSlice (named 0) κ₂ mEntry.the-row .own s9 (v9 ∷ [])) ∷ []) ∵ nothing ! $ owned ! u64 (Is u64) (uint-makes 𝓤 H A W w64) (n8) _ w8 $ fjoin ! $ owned ! u64 (Is u64) (uint-makes 𝓤 H A W w64) (n7) _ w7 $ fjoin ! $ move ! (2 ∷ 0 ∷ []) $ fjoin ! $ move ! (1 ∷ 0 ∷ []) $ join ! $ nothing ! $ move ! (1 ∷ 0 ∷ []) $ frame ! $ done !) $
-        calls-at ! fm (Callee-g1 𝓤 H A at-mem run) known-g1 (((κ₂, tt), (q₂, tt), tt, (s9, (n7, (n8, tt))), (v9 ∷ [], (u7 ∷ [], (u8 ∷ [], tt)))), tt) (and-then ! (load ! (from ! (stop !)) (look ! 40 refl)) (and-then ! (load ! (from ! (stop !)) (look ! 42 refl)) (and-then ! (load ! (from ! (stop !)) (look ! 41 refl)) (no-more !)))) (λ z3.
+        use1 W (raw (Callee-g1 𝓤 H A at-mem run .pre (((κ₂, tt), (q₂, tt), tt, (s9, (n7, (n8, tt))), (v9 ∷ [], (u7 ∷ [], (u8′ ∷ [], tt)))), tt))) (qed W ((‵ (flft κ₂ q₂) ⊛ ‵ ftrue) ∷ ‵ (ShrSlice (named 0) κ₂ mEntry.the-row .own s9 (v9 ∷ [])) ∷ []) ∵ nothing ! $ owned ! u64 (Is u64) (uint-makes 𝓤 H A W w64) (n8) _ w8 $ fjoin ! $ owned ! u64 (Is u64) (uint-makes 𝓤 H A W w64) (n7) _ w7 $ fjoin ! $ move ! (2 ∷ 0 ∷ []) $ fjoin ! $ move ! (1 ∷ 0 ∷ []) $ join ! $ nothing ! $ move ! (1 ∷ 0 ∷ []) $ frame ! $ done !) $
+        calls-at ! fm (Callee-g1 𝓤 H A at-mem run) known-g1 (((κ₂, tt), (q₂, tt), tt, (s9, (n7, (n8, tt))), (v9 ∷ [], (u7 ∷ [], (u8′ ∷ [], tt)))), tt) (and-then ! (load ! (from ! (stop !)) (look ! 40 refl)) (and-then ! (load ! (from ! (stop !)) (look ! 42 refl)) (and-then ! (load ! (from ! (stop !)) (look ! 41 refl)) (no-more !)))) (λ z3.
         use1 W (later (some (λ (r3 : Bool). ((‵ (flft κ₂ q₂) ⊛ ‵ ftrue) ⊛ ‵ (bool .own r3 (z3 ∷ []))) ⊛ some (λ (ws : Lasts g1.ended (κ₂, tt) (s9, (n7, (n8, tt)))). ‵ (lasts g1.ended (κ₂, tt) (s9, (n7, (n8, tt))) ws) ⊛ raw (g1.clauses 𝓤 H A at-mem run (κ₂, tt) (s9, (n7, (n8, tt))) .ensures tt r3 (atExit g1.ended (κ₂, tt) (s9, (n7, (n8, tt))) ws)))))) (id⊢ 𝓤 _) $ await ! tt $ pick ! (λ r3. split ! $ move ! (1 ∷ []) $ pick ! (λ ws3. split ! $ move ! (1 ∷ []) $ heard ! _ (λ e3.
         drop ! $ split ! $ move ! (1 ∷ []) $ peeks ! bool (Is bool) (shows 𝓤 H A bool) r3 (z3 ∷ []) (λ i3. drop ! $ land ! (from ! (stop !)) (init ! 28 refl (bool-lawful 𝓤 H A W .typed r3 _ i3 .0)) $
         tidy W (_ ∷ _ ∷ _ ∷ _ ∷ _ ∷ _ ∷ _ ∷ _ ∷ _ ∷ _ ∷ _ ∷ _ ∷ _ ∷ _ ∷ _ ∷ _ ∷ _ ∷ _ ∷ _ ∷ _ ∷ _ ∷ _ ∷ _ ∷ _ ∷ _ ∷ _ ∷ _ ∷ _ ∷ _ ∷ _ ∷ _ ∷ _ ∷ _ ∷ _ ∷ _ ∷ _ ∷ _ ∷ _ ∷ _ ∷ _ ∷ _ ∷ _ ∷ _ ∷ _ ∷ _ ∷ _ ∷ _ ∷ _ ∷ _ ∷ _ ∷ []) $ split ! $ move ! (1 ∷ []) $ drop ! $ move ! (15 ∷ []) $ use1 W (‵ (O12) ⊛ ‵ (O12)) (shr-slice-copy 𝓤 H A W (named 3) κ₃ mEntry.the-row .twice s12 (v12 ∷ [])) $ split ! $ tidy W (_ ∷ _ ∷ _ ∷ _ ∷ _ ∷ _ ∷ _ ∷ _ ∷ _ ∷ _ ∷ _ ∷ _ ∷ _ ∷ _ ∷ _ ∷ _ ∷ _ ∷ _ ∷ _ ∷ _ ∷ _ ∷ _ ∷ _ ∷ _ ∷ _ ∷ _ ∷ _ ∷ _ ∷ _ ∷ _ ∷ _ ∷ _ ∷ _ ∷ _ ∷ _ ∷ _ ∷ _ ∷ _ ∷ _ ∷ _ ∷ _ ∷ _ ∷ _ ∷ _ ∷ _ ∷ _ ∷ _ ∷ _ ∷ _ ∷ _ ∷ _ ∷ []) $ nothing ! $ move ! (11 ∷ 0 ∷ []) $ join ! $ join ! $
@@ -206,8 +206,8 @@ module _ {M : Type 1} (𝓤 : URA M) (H : Heap 𝓤) (A : Atoms 𝓤) (W : Given
         drop ! $ split ! $ move ! (1 ∷ []) $ peeks ! bool (Is bool) (shows 𝓤 H A bool) r5 (z5 ∷ []) (λ i5. drop ! $ land ! (from ! (stop !)) (init ! 26 refl (bool-lawful 𝓤 H A W .typed r5 _ i5 .0)) $
         tidy W (_ ∷ _ ∷ _ ∷ _ ∷ _ ∷ _ ∷ _ ∷ _ ∷ _ ∷ _ ∷ _ ∷ _ ∷ _ ∷ _ ∷ _ ∷ _ ∷ _ ∷ _ ∷ _ ∷ _ ∷ _ ∷ _ ∷ _ ∷ _ ∷ _ ∷ _ ∷ _ ∷ _ ∷ _ ∷ _ ∷ _ ∷ _ ∷ _ ∷ _ ∷ _ ∷ _ ∷ _ ∷ _ ∷ _ ∷ _ ∷ _ ∷ _ ∷ _ ∷ _ ∷ _ ∷ _ ∷ _ ∷ _ ∷ _ ∷ _ ∷ []) $ split ! $ move ! (1 ∷ []) $ drop ! $ move ! (11 ∷ []) $ use1 W (‵ (O18) ⊛ ‵ (O18)) (shr-slice-copy 𝓤 H A W (named 5) κ₅ mEntry.the-row .twice s18 (v18 ∷ [])) $ split ! $ tidy W (_ ∷ _ ∷ _ ∷ _ ∷ _ ∷ _ ∷ _ ∷ _ ∷ _ ∷ _ ∷ _ ∷ _ ∷ _ ∷ _ ∷ _ ∷ _ ∷ _ ∷ _ ∷ _ ∷ _ ∷ _ ∷ _ ∷ _ ∷ _ ∷ _ ∷ _ ∷ _ ∷ _ ∷ _ ∷ _ ∷ _ ∷ _ ∷ _ ∷ _ ∷ _ ∷ _ ∷ _ ∷ _ ∷ _ ∷ _ ∷ _ ∷ _ ∷ _ ∷ _ ∷ _ ∷ _ ∷ _ ∷ _ ∷ _ ∷ _ ∷ _ ∷ []) $ nothing ! $ move ! (13 ∷ 0 ∷ []) $ join ! $ join ! $
         -- call 6
-        use1 W (raw (Callee-g1 𝓤 H A at-mem run .pre (((κ₅, tt), (q₅, tt), tt, (s18, (n16, (n17, tt))), (v18 ∷ [], (u16 ∷ [], (u17 ∷ [], tt)))), tt))) (qed W ((‵ (flft κ₅ q₅) ⊛ ‵ ftrue) ∷ ‵ (ShrSlice (named 0) κ₅ mEntry.the-row .own s18 (v18 ∷ [])) ∷ []) ∵ nothing ! $ owned ! u64 (Is u64) (uint-makes 𝓤 H A W w64) (n17) _ w17 $ fjoin ! $ owned ! u64 (Is u64) (uint-makes 𝓤 H A W w64) (n16) _ w16 $ fjoin ! $ move ! (2 ∷ 0 ∷ []) $ fjoin ! $ move ! (1 ∷ 0 ∷ []) $ join ! $ nothing ! $ move ! (1 ∷ 0 ∷ []) $ frame ! $ done !) $
-        calls-at ! fm (Callee-g1 𝓤 H A at-mem run) known-g1 (((κ₅, tt), (q₅, tt), tt, (s18, (n16, (n17, tt))), (v18 ∷ [], (u16 ∷ [], (u17 ∷ [], tt)))), tt) (and-then ! (load ! (from ! (stop !)) (look ! 31 refl)) (and-then ! (load ! (from ! (stop !)) (look ! 33 refl)) (and-then ! (load ! (from ! (stop !)) (look ! 32 refl)) (no-more !)))) (λ z6.
+        use1 W (raw (Callee-g1 𝓤 H A at-mem run .pre (((κ₅, tt), (q₅, tt), tt, (s18, (n16, (n17, tt))), (v18 ∷ [], (u16′ ∷ [], (u17 ∷ [], tt)))), tt))) (qed W ((‵ (flft κ₅ q₅) ⊛ ‵ ftrue) ∷ ‵ (ShrSlice (named 0) κ₅ mEntry.the-row .own s18 (v18 ∷ [])) ∷ []) ∵ nothing ! $ owned ! u64 (Is u64) (uint-makes 𝓤 H A W w64) (n17) _ w17 $ fjoin ! $ owned ! u64 (Is u64) (uint-makes 𝓤 H A W w64) (n16) _ w16 $ fjoin ! $ move ! (2 ∷ 0 ∷ []) $ fjoin ! $ move ! (1 ∷ 0 ∷ []) $ join ! $ nothing ! $ move ! (1 ∷ 0 ∷ []) $ frame ! $ done !) $
+        calls-at ! fm (Callee-g1 𝓤 H A at-mem run) known-g1 (((κ₅, tt), (q₅, tt), tt, (s18, (n16, (n17, tt))), (v18 ∷ [], (u16′ ∷ [], (u17 ∷ [], tt)))), tt) (and-then ! (load ! (from ! (stop !)) (look ! 31 refl)) (and-then ! (load ! (from ! (stop !)) (look ! 33 refl)) (and-then ! (load ! (from ! (stop !)) (look ! 32 refl)) (no-more !)))) (λ z6.
         use1 W (later (some (λ (r6 : Bool). ((‵ (flft κ₅ q₅) ⊛ ‵ ftrue) ⊛ ‵ (bool .own r6 (z6 ∷ []))) ⊛ some (λ (ws : Lasts g1.ended (κ₅, tt) (s18, (n16, (n17, tt)))). ‵ (lasts g1.ended (κ₅, tt) (s18, (n16, (n17, tt))) ws) ⊛ raw (g1.clauses 𝓤 H A at-mem run (κ₅, tt) (s18, (n16, (n17, tt))) .ensures tt r6 (atExit g1.ended (κ₅, tt) (s18, (n16, (n17, tt))) ws)))))) (id⊢ 𝓤 _) $ await ! tt $ pick ! (λ r6. split ! $ move ! (1 ∷ []) $ pick ! (λ ws6. split ! $ move ! (1 ∷ []) $ heard ! _ (λ e6.
         drop ! $ split ! $ move ! (1 ∷ []) $ peeks ! bool (Is bool) (shows 𝓤 H A bool) r6 (z6 ∷ []) (λ i6. drop ! $ land ! (from ! (stop !)) (init ! 25 refl (bool-lawful 𝓤 H A W .typed r6 _ i6 .0)) $
         tidy W (_ ∷ _ ∷ _ ∷ _ ∷ _ ∷ _ ∷ _ ∷ _ ∷ _ ∷ _ ∷ _ ∷ _ ∷ _ ∷ _ ∷ _ ∷ _ ∷ _ ∷ _ ∷ _ ∷ _ ∷ _ ∷ _ ∷ _ ∷ _ ∷ _ ∷ _ ∷ _ ∷ _ ∷ _ ∷ _ ∷ _ ∷ _ ∷ _ ∷ _ ∷ _ ∷ _ ∷ _ ∷ _ ∷ _ ∷ _ ∷ _ ∷ _ ∷ _ ∷ _ ∷ _ ∷ _ ∷ _ ∷ _ ∷ _ ∷ _ ∷ []) $ split ! $ move ! (1 ∷ []) $ drop ! $ tidy W (_ ∷ _ ∷ _ ∷ _ ∷ _ ∷ _ ∷ _ ∷ _ ∷ _ ∷ _ ∷ _ ∷ _ ∷ _ ∷ _ ∷ _ ∷ _ ∷ _ ∷ _ ∷ _ ∷ _ ∷ _ ∷ _ ∷ _ ∷ _ ∷ _ ∷ _ ∷ _ ∷ _ ∷ _ ∷ _ ∷ _ ∷ _ ∷ _ ∷ _ ∷ _ ∷ _ ∷ _ ∷ _ ∷ _ ∷ _ ∷ _ ∷ _ ∷ _ ∷ _ ∷ _ ∷ _ ∷ _ ∷ _ ∷ _ ∷ _ ∷ []) $ nothing ! $
@@ -236,4 +236,4 @@ all-six-spec 𝓤 H 𝓜 𝓖 𝓡 =
     (tables 𝓤 H 𝓜 𝓡 code.env .C) (tables 𝓤 H 𝓜 𝓡 code.env .Λ) #f code.function (code.unfolded 𝓤 H 𝓜 𝓡)
     (meets 𝓤 H (𝓖 .A) (givenOf 𝓤 H 𝓜 𝓖) (𝓜 .mem) (𝓡 .run) (tablesOf 𝓤 H 𝓜 (tables 𝓤 H 𝓜 𝓡 code.env))
     (cited 𝓤 H (Callee-g1 𝓤 H (𝓖 .A) (𝓜 .mem) (𝓡 .run)) 𝓜 𝓡 code.env #g1 g1-def.routine code.calls-magnetar-inplace·records·all-inside (g1-thm.met 𝓤 H 𝓜 𝓖 𝓡))
-    (cited 𝓤 H (Callee-g2 𝓤 H (𝓖 .A) (𝓜 .mem) (𝓡 .run)) 𝓜 𝓡 code.env #g2 g2-def.routine code.calls-magnetar-row-records·steps·all6 (g2-thm.met 𝓤 H 𝓜 𝓖 𝓡)))
+    (cited 𝓤 H (Callee-g2 𝓤 H (𝓖 .A) (𝓜 .mem) (𝓡 .run)) 𝓜 𝓡 code.env #g2 g2-def.routine code.calls-magnetar-inplace·steps·all6 (g2-thm.met 𝓤 H 𝓜 𝓖 𝓡)))

@@ -1,12 +1,12 @@
--- `magnetar_records::steps::seed` meets its contract.
+-- `magnetar_records::steps::eq_behind` meets its contract.
 -- Assumes nothing.
 use native.Mathlib.Omega.{arith}
 use denote.Ref.{now}
 use Rattle.magnetar_field.specs.Gf128.{value}
-use Rattle.magnetar_records.proofs.TableWalk.{seeded-read, seeded-none}
+use Rattle.magnetar_records.proofs.TableWalk.{eq-behind-read, eq-behind-none}
 use borrow.Author.Needs.{needs}
-use Rattle.magnetar_records.proofs.steps.seed.Statement.{statement}
-use Rattle.magnetar_records.proofs.steps.seed.Tie as tie
+use Rattle.magnetar_records.proofs.steps.eq_behind.Statement.{statement}
+use Rattle.magnetar_records.proofs.steps.eq_behind.Tie as tie
 
 slice-aggregate-get : tie.Need-slice-aggregate-get
 slice-aggregate-get c = search needs
@@ -54,13 +54,13 @@ same-length : tie.Need-same-length
 same-length c = search needs
 
 returns : tie.Need-returns
-returns c = let x = c .before .before .before .before .before .before .before .before .before .before .before .before .args in seeded-read (x .m) (x .n) (c .before .before .before .before .before .before .before .least .result) (c .before .before .before .before .before .before .before .before .log .result) (value (c .before .before .before .before .before .before .before .before .before .get .result)) (x .k) (x .t4) (x .t6) (now (x .s)) _ (omega arith) (c .before .before .before .before .before .before .before .least .ensures .0) (c .before .before .before .before .before .before .before .before .log .ensures .0) (c .before .before .before .before .before .before .before .before .before .get .ensures) (c .before .before .eq-build-scaled .ensures .1)
+returns c = let x = c .before .before .before .before .before .before .before .before .before .before .before .before .args in eq-behind-read (x .m) (x .n) (c .before .before .before .before .before .before .before .least .result) (c .before .before .before .before .before .before .before .before .log .result) (value (c .before .before .before .before .before .before .before .before .before .get .result)) (x .k) (x .t4) (x .t6) (now (x .s)) _ (omega arith) (c .before .before .before .before .before .before .before .least .ensures .0) (c .before .before .before .before .before .before .before .before .log .ensures .0) (c .before .before .before .before .before .before .before .before .before .get .ensures) (c .before .before .eq-build-scaled .ensures .1)
 
 returns-2 : tie.Need-returns-2
-returns-2 c = let x = c .before .before .before .before .before .before .args in seeded-none (x .m) _ _ (now (x .s)) (omega arith)
+returns-2 c = let x = c .before .before .before .before .before .before .args in eq-behind-none (x .m) _ _ (now (x .s)) (omega arith)
 
-pub seed-spec : {M : Type 1} → statement M
-seed-spec =
+pub eq-behind-spec : {M : Type 1} → statement M
+eq-behind-spec =
     tie.close
     (tie.spec
     slice-aggregate-get
