@@ -1,10 +1,11 @@
 pub mod Again
+pub mod Local
 pub mod Locals
 pub mod StepLaws
 pub mod RecordLaws
 pub mod RecordEnds
-pub mod LoginLaws
 pub mod SixLaws
+pub mod LoginLaws
 pub mod PackedEnds
 pub mod MaskLaws
 pub mod MaskEnds

@@ -64,7 +64,7 @@ use base.Fml.{flent}
 use denote.Memory.{cellAt, partAt, mem, shares}
 use denote.ArrayMemory.{array-apart, array-whole}
 use denote.Lend.{lends-ref, ref-back, lends-shr-slice}
-use Rattle.magnetar_cases.proofs.Local.{into, out, rest, cut, mend, room-of}
+use Rattle.magnetar_inplace.proofs.Local.{into, out, rest, cut, mend, room-of}
 use Rattle.magnetar_inplace.proofs.Locals.{tidy, bare, kept, dies, alloc, hide, free-all}
 use Rattle.magnetar_inplace.proofs.Again.{LentAgain, lends-again, comes-back}
 use Rattle.magnetar_cases.proofs.lent.proved_in as g1

@@ -61,8 +61,8 @@ use base.Fml.{flent}
 use denote.Memory.{cellAt, partAt, mem, shares}
 use denote.ArrayMemory.{array-apart, array-whole}
 use denote.Lend.{lends-ref, ref-back, lends-shr-slice}
-use Rattle.magnetar_forms.proofs.Local.{into, out, rest, cut, mend, room-of}
-use Rattle.magnetar_forms.proofs.Again.{LentAgain, lends-again, comes-back}
+use Rattle.magnetar_inplace.proofs.Local.{into, out, rest, cut, mend, room-of}
+use Rattle.magnetar_inplace.proofs.Again.{LentAgain, lends-again, comes-back}
 use Rattle.magnetar_inplace.proofs.transcript.challenge_field_vec as g1
 use Rattle.magnetar_inplace.proofs.transcript.challenge_field_vec.Symbol as g1-def
 use Rattle.magnetar_inplace.proofs.transcript.challenge_field_vec.Symbol.{name as #g1}

@@ -1,10 +1,9 @@
--- A local's value in memory, to be lent and taken back, and the front of an array: steps of a walk beside `Denote/Steps.antt`'s. It says nothing of the crate, and can be copied as it stands.
+-- A local's value in memory, to be lent and taken back, and the front of an array: steps of a walk beside `Denote/Steps.antt`'s. It says nothing of the crate.
 --     into       the machine values at (b, o) and what the type owns at them: the value lies there
 --     out        the value lies there: some machine values do, and the type owns at them
 --     rest       the elements behind the first n, in memory
 --     cut, mend  the elements in memory are the first n and the rest
 --     room-of    fewer elements have room where more have
--- Assumes nothing.
 -- Assumes nothing.
 use Prim.Native.Nat.{ℕ, zero, suc, _+_, _≤_}
 use native.Mathlib.Nat.{lt-of-le-of-lt, mul-le-mul-right}
