@@ -17,15 +17,16 @@ use Rattle.magnetar_field.proofs.Tabulation.{tabulate-of}
 use Rattle.magnetar_sumcheck.specs.Order.{point, placeOf}
 use Rattle.magnetar_sumcheck.proofs.EqFactor.{point-at, length-point}
 use Rattle.magnetar_r1cs.specs.Batch.{Relation}
-use Rattle.magnetar_layout.specs.Tests.{note, noted}
-use Rattle.magnetar_layout.proofs.Noted.{noted-clear}
+use Rattle.magnetar_layout.specs.Tests.{Tests, note, noted, roomTest}
+use Rattle.magnetar_layout.proofs.Noted.{noted-clear, noted-front, noted-rest}
 use Rattle.magnetar_protocol.specs.Shape.{logLogins, logBin, logFld, logCols, beforeEnd, proofElements}
 use Rattle.magnetar_protocol.specs.Proof.{part, segmentValues}
 use Rattle.magnetar_protocol.specs.Draws.{Draws, drawCount, drawsOf, loginPoint, lowPoint}
 use Rattle.magnetar_protocol.specs.Run.{claims}
 use Rattle.magnetar_protocol.specs.Schedule.{outline}
-use Rattle.magnetar_checks.specs.Steps.{drawsFor, proofFor}
+use Rattle.magnetar_checks.specs.Steps.{drawTotal, proofTotal}
 use Rattle.magnetar_checks.specs.ClaimSteps.{claimAt, claimsRefusalOf}
+use Rattle.magnetar_checks.specs.Outer.{runTests, segmentTests, drawTests, proofTests}
 use Rattle.magnetar_checks.specs.Claims.{claimCount, claimsRefusal, claimsOut}
 use Rattle.magnetar_checks.proofs.Pieces.{part-get}
 use Rattle.magnetar_checks.proofs.EqParts.{point-falling}
@@ -100,7 +101,7 @@ module _ (s b f c l proof draws out : ℕ) where
   unfolding claimsRefusalOf note
   claims-segments h = rw (lt-ltb 64 l h)
 
-  pub claims-words : (dw ow pw y₁ y₂ y₃ : ℕ) → l ≤ 64 → dw ≡ 2 * drawsFor s b f c → ow ≡ 2 * (s + (c - 1) + l) → pw ≡ 2 * proofFor s b f c l
+  pub claims-words : (dw ow pw y₁ y₂ y₃ : ℕ) → l ≤ 64 → dw ≡ 2 * drawTotal s b f c → ow ≡ 2 * (s + (c - 1) + l) → pw ≡ 2 * proofTotal s b f c l
       → y₁ ≡ note 11 (ltb draws dw) 0 → y₂ ≡ note 15 (ltb out ow) y₁ → y₃ ≡ note 16 (not (eqb proof pw)) y₂
       → y₃ ≡ claimsRefusalOf s b f c l proof draws out
   unfolding claimsRefusalOf note
@@ -108,32 +109,51 @@ module _ (s b f c l proof draws out : ℕ) where
 
   pub record ClaimsGiven : Type 0 where
     pub few : l ≤ 64
-    pub drawn : 2 * drawsFor s b f c ≤ draws
+    pub drawn : 2 * drawTotal s b f c ≤ draws
     pub room : 2 * (s + (c - 1) + l) ≤ out
-    pub exact : proof ≡ 2 * proofFor s b f c l
+    pub exact : proof ≡ 2 * proofTotal s b f c l
 
   pub claims-given : claimsRefusalOf s b f c l proof draws out ≡ 0 → ClaimsGiven
   unfolding claimsRefusalOf
   claims-given e =
-      let k = noted-clear 0 ((10, ltb 64 l) ∷ (11, ltb draws (2 * drawsFor s b f c)) ∷ (15, ltb out (2 * (s + (c - 1) + l)))
-      ∷ (16, not (eqb proof (2 * proofFor s b f c l))) ∷ []) refl e .1 in
+      let k = noted-clear 0 ((10, ltb 64 l) ∷ (11, ltb draws (2 * drawTotal s b f c)) ∷ (15, ltb out (2 * (s + (c - 1) + l)))
+      ∷ (16, not (eqb proof (2 * proofTotal s b f c l))) ∷ []) refl e .1 in
       record {
         few = ltb-false 64 l (k .0);
-        drawn = ltb-false draws (2 * drawsFor s b f c) (k .1 .0);
+        drawn = ltb-false draws (2 * drawTotal s b f c) (k .1 .0);
         room = ltb-false out (2 * (s + (c - 1) + l)) (k .1 .1 .0);
-        exact = eqb-true proof (2 * proofFor s b f c l) (not-false (eqb proof (2 * proofFor s b f c l)) (k .1 .1 .1 .0));
+        exact = eqb-true proof (2 * proofTotal s b f c l) (not-false (eqb proof (2 * proofTotal s b f c l)) (k .1 .1 .1 .0));
       }
 
 -- ---- the answer
-module _ (m q rb rf : ℕ) (ns p d out : List ℕ) (s b f c n z : ℕ) (es : s ≡ log₂ q) (eb : b ≡ log₂ rb) (ef : f ≡ log₂ rf) (ec : c ≡ log₂ m)
-    (en : n ≡ c - 1) (ez : z ≡ claimsRefusalOf s b f c (length ns) (length p) (length d) (length out)) where
-  refusal-is : claimsRefusal m q rb rf ns p d out
-      ≡ claimsRefusalOf (log₂ q) (log₂ rb) (log₂ rf) (log₂ m) (length ns) (length p) (length d) (length out)
-  unfolding claimsRefusal claimsRefusalOf
+module _ (m q rb rf : ℕ) (ns p d out : List ℕ) where
+  abbrev later : Tests
+  later =
+      segmentTests ns
+      ++ (drawTests (outline m q rb rf ns) d ++ (roomTest (2 * claimCount (outline m q rb rf ns)) out ++ proofTests (outline m q rb rf ns) p))
+
+  refusal-is : noted 0 later ≡ claimsRefusalOf (log₂ q) (log₂ rb) (log₂ rf) (log₂ m) (length ns) (length p) (length d) (length out)
+  unfolding claimsRefusalOf
   refusal-is = refl
 
+  -- a size refuses
+  size-is : (z : ℕ) → z ≡ noted 0 (runTests m q rb rf) → (z ≡ 0 → ⊥) → z ≡ claimsRefusal m q rb rf ns p d out
+  unfolding claimsRefusal
+  size-is z e h = noted-front (runTests m q rb rf) later z e h
+
+  pub claims-size : (z : ℕ) → z ≡ noted 0 (runTests m q rb rf) → (z ≡ 0 → ⊥)
+      → (z ≡ claimsRefusal m q rb rf ns p d out) × (out ≡ claimsOut m q rb rf ns p d out)
+  unfolding claimsOut
+  claims-size z e h = (size-is z e h, rw (← size-is z e h, ne-eqb z 0 h))
+
+module _ (m q rb rf : ℕ) (ns p d out : List ℕ) (s b f c n z : ℕ) (es : s ≡ log₂ q) (eb : b ≡ log₂ rb) (ef : f ≡ log₂ rf) (ec : c ≡ log₂ m)
+    (en : n ≡ c - 1) (ez : z ≡ claimsRefusalOf s b f c (length ns) (length p) (length d) (length out)) (y : ℕ)
+    (ey : y ≡ noted 0 (runTests m q rb rf)) (hy : y ≡ 0) where
   same-refusal : z ≡ claimsRefusal m q rb rf ns p d out
-  same-refusal = ez ∙ rw (es, eb, ef, ec) (sym refusal-is)
+  unfolding claimsRefusal
+  same-refusal =
+      ez ∙ rw (es, eb, ef, ec) (sym (refusal-is m q rb rf ns p d out))
+      ∙ sym (noted-rest (runTests m q rb rf) (later m q rb rf ns p d out) y ey hy)
 
   pub claims-refused : (z ≡ 0 → ⊥) → (z ≡ claimsRefusal m q rb rf ns p d out) × (out ≡ claimsOut m q rb rf ns p d out)
   unfolding claimsOut
@@ -150,8 +170,8 @@ module _ (m q rb rf : ℕ) (ns p d out : List ℕ) (s b f c n z : ℕ) (es : s �
   unfolding claimsOut
   claims-written h front ew e =
       let g = claims-fit h in
-      let drawn : 2 * drawsFor (log₂ q) (log₂ rb) (log₂ rf) (log₂ m) ≤ length d = rw (es, eb, ef, ec) at (g .drawn) in
-      let exact : length p ≡ 2 * proofFor (log₂ q) (log₂ rb) (log₂ rf) (log₂ m) (length ns) = rw (es, eb, ef, ec) at (g .exact) in
+      let drawn : 2 * drawTotal (log₂ q) (log₂ rb) (log₂ rf) (log₂ m) ≤ length d = rw (es, eb, ef, ec) at (g .drawn) in
+      let exact : length p ≡ 2 * proofTotal (log₂ q) (log₂ rb) (log₂ rf) (log₂ m) (length ns) = rw (es, eb, ef, ec) at (g .exact) in
       let t = claims-tabled (outline m q rb rf ns) (elements p) (elements d) (omega (arith, drawn, elements-length d))
       (omega (arith, exact, elements-length p)) in
       (sym h ∙ same-refusal, rw (← same-refusal, h, t, ← es, ← eb, ← ef, ← ec, ← en) (ap (λ (l : List ℕ). l ++ drop (2 * (s + n + length ns)) out) (sym ew ∙ ap words e)))

@@ -29,7 +29,7 @@ use Rattle.magnetar_protocol.specs.Schedule.{afterAlphas, afterInner}
 use Rattle.magnetar_protocol.proofs.Phases.{Numbered, numbered-append, numbered-tabulate}
 use Rattle.magnetar_checks.specs.declared.found.Found.{Found}
 use Rattle.magnetar_checks.specs.Found.{firstFound}
-use Rattle.magnetar_checks.specs.Steps.{check, nothing, noted, after, messages, roundChecks}
+use Rattle.magnetar_checks.specs.Steps.{check, nothing, nextFound, after, messages, roundChecks}
 use Rattle.magnetar_checks.specs.EndSteps.{segmentsAt, identical, alphasAt, terminalsAt, eventsBefore, innerDraws, firstClaim, lastClaim, vz, lowDraws, roundPhase, endPhases}
 use Rattle.magnetar_checks.specs.End.{endChecks}
 use Rattle.magnetar_checks.proofs.Pieces.{part-get}
@@ -141,8 +141,8 @@ module _ (s b f c : ℕ) (ns x w d t : List ℕ) where
       → y ≡ eqb (innerEnd tv (vz s b f c ns x w d t)) claim
       → z ≡ identical (getD d (alphasAt s b f c ns x w d t + 6 + (c - 1)) 0)
       (segmentsAt ns (lowDraws s b f c ns x w d t) 0 (part (terminalsAt s b f c ns x w d t + 6 + 3 * c + 1) (length ns) w)) pv (vz s b f c ns x w d t)
-      → f₂ ≡ noted f₁ (check 28 y (eventsBefore s b f c ns x w d t + 2 * c))
-      → f₃ ≡ noted f₂ (check 29 z (eventsBefore s b f c ns x w d t + 2 * c + 1)) → f₃ ≡ after nothing (endPhases s b f c ns x w d t)
+      → f₂ ≡ nextFound f₁ (check 28 y (eventsBefore s b f c ns x w d t + 2 * c))
+      → f₃ ≡ nextFound f₂ (check 29 z (eventsBefore s b f c ns x w d t + 2 * c + 1)) → f₃ ≡ after nothing (endPhases s b f c ns x w d t)
   unfolding endPhases
   end-done f₁ f₂ f₃ claim tv pv y z e₁ ec et ep ey ez e₂ e₃ =
       rw (e₃, e₂, e₁, ey, ez, ec, et, ep)

@@ -10,39 +10,39 @@ use Rattle.magnetar_protocol.specs.Checks.{Check, firstRefusal, firstStop}
 use Rattle.magnetar_protocol.proofs.Phases.{Numbered}
 use Rattle.magnetar_checks.specs.declared.found.Found.{Found}
 use Rattle.magnetar_checks.specs.Found.{firstFound}
-use Rattle.magnetar_checks.specs.Steps.{check, nothing, noted, after}
+use Rattle.magnetar_checks.specs.Steps.{check, nothing, nextFound, after}
 
-pub noted-kept : (f : Found) (c : Check) → (f .code ≡ 0 → ⊥) → noted f c ≡ f
-unfolding noted
-noted-kept f c h = rw (ne-eqb (f .code) 0 h)
+pub next-kept : (f : Found) (c : Check) → (f .code ≡ 0 → ⊥) → nextFound f c ≡ f
+unfolding nextFound
+next-kept f c h = rw (ne-eqb (f .code) 0 h)
 
-pub noted-pass : (f : Found) (n e : ℕ) (b : Bool) → f .code ≡ 0 → b ≡ true → noted f (check n b e) ≡ f
-unfolding noted
-noted-pass f n e b h p = rw (h, p)
+pub next-pass : (f : Found) (n e : ℕ) (b : Bool) → f .code ≡ 0 → b ≡ true → nextFound f (check n b e) ≡ f
+unfolding nextFound
+next-pass f n e b h p = rw (h, p)
 
-pub noted-fail : (f : Found) (n e : ℕ) (b : Bool) → f .code ≡ 0 → b ≡ false → noted f (check n b e) ≡ record { code = n; events = e }
-unfolding noted
-noted-fail f n e b h p = rw (h, p)
+pub next-fail : (f : Found) (n e : ℕ) (b : Bool) → f .code ≡ 0 → b ≡ false → nextFound f (check n b e) ≡ record { code = n; events = e }
+unfolding nextFound
+next-fail f n e b h p = rw (h, p)
 
 pub after-append : (f : Found) (cs ds : List Check) → after f (cs ++ ds) ≡ after (after f cs) ds
 unfolding after
 after-append f [] ds = refl
-after-append f (c ∷ cs) ds = after-append (noted f c) cs ds
+after-append f (c ∷ cs) ds = after-append (nextFound f c) cs ds
 
 after-kept : (f : Found) (cs : List Check) → (f .code ≡ 0 → ⊥) → after f cs ≡ f
 unfolding after
 after-kept f [] h = refl
-after-kept f (c ∷ cs) h = ap (λ (g : Found). after g cs) (noted-kept f c h) ∙ after-kept f cs h
+after-kept f (c ∷ cs) h = ap (λ (g : Found). after g cs) (next-kept f c h) ∙ after-kept f cs h
 
 pub after-none : (f : Found) → after f [] ≡ f
 unfolding after
 after-none f = refl
 
-pub after-cons : (f : Found) (c : Check) (cs : List Check) → after f (c ∷ cs) ≡ after (noted f c) cs
+pub after-cons : (f : Found) (c : Check) (cs : List Check) → after f (c ∷ cs) ≡ after (nextFound f c) cs
 unfolding after
 after-cons f c cs = refl
 
-pub after-two : (f : Found) (c e : Check) → after f (c ∷ e ∷ []) ≡ noted (noted f c) e
+pub after-two : (f : Found) (c e : Check) → after f (c ∷ e ∷ []) ≡ nextFound (nextFound f c) e
 unfolding after
 after-two f c e = refl
 
@@ -53,7 +53,7 @@ finds [] h = after-none nothing
 finds (c ∷ cs) h = after-cons nothing c cs ∙ go (c .passes) (c .refusal) (c .events) (h .0) (finds cs (h .1))
   where
     go : (b : Bool) (n e : ℕ) → 0 < n → after nothing cs ≡ record { code = firstRefusal cs; events = firstStop cs 0 }
-        → after (noted nothing (check n b e)) cs ≡ record { code = cond b (firstRefusal cs) n; events = cond b (firstStop cs 0) e }
-    go true n e p k = ap (λ (g : Found). after g cs) (noted-pass nothing n e true refl refl) ∙ k
+        → after (nextFound nothing (check n b e)) cs ≡ record { code = cond b (firstRefusal cs) n; events = cond b (firstStop cs 0) e }
+    go true n e p k = ap (λ (g : Found). after g cs) (next-pass nothing n e true refl refl) ∙ k
     go false n e p k =
-        ap (λ (g : Found). after g cs) (noted-fail nothing n e false refl refl) ∙ after-kept (record { code = n; events = e }) cs (λ z. omega arith)
+        ap (λ (g : Found). after g cs) (next-fail nothing n e false refl refl) ∙ after-kept (record { code = n; events = e }) cs (λ z. omega arith)

@@ -24,7 +24,7 @@ use Rattle.magnetar_protocol.specs.Schedule.{afterTaus, afterShared, afterBin}
 use Rattle.magnetar_protocol.proofs.Phases.{Numbered, numbered-append, numbered-tabulate}
 use Rattle.magnetar_checks.specs.declared.found.Found.{Found}
 use Rattle.magnetar_checks.specs.Found.{firstFound}
-use Rattle.magnetar_checks.specs.Steps.{check, nothing, noted, after, messages, roundChecks, sharedBin, sharedFld, bothChecks, terminalHolds, taus, sharedDraws, binDraws, fldDraws, binShared, fldShared, binEnd, fldEnd, sharedPhase, binPhase, fldPhase, terminalPhase, outerPhases}
+use Rattle.magnetar_checks.specs.Steps.{check, nothing, nextFound, after, messages, roundChecks, sharedBin, sharedFld, bothChecks, terminalHolds, taus, sharedDraws, binDraws, fldDraws, binShared, fldShared, binEnd, fldEnd, sharedPhase, binPhase, fldPhase, terminalPhase, outerPhases}
 use Rattle.magnetar_checks.specs.Outer.{outerChecks}
 use Rattle.magnetar_checks.proofs.Finding.{after-append, after-two, finds}
 use Rattle.magnetar_checks.proofs.RoundLaws.{bin-length, fld-length}
@@ -179,7 +179,7 @@ module _ (s b f : ℕ) (w d : List ℕ) (f₁ f₂ f₃ f₄ : Found) (bin₁ fl
       → bin₂ ≡ running bin₁ (messages (8 * s) 4 b w) (binDraws s b f w d)
       → f₃ ≡ after f₂ (roundChecks 24 (taus s b f w d + 2 * s + 2 * b + 2) fld₁ (messages (8 * s + 4 * b) 4 f w) (fldDraws s b f w d) f)
       → fld₂ ≡ running fld₁ (messages (8 * s + 4 * b) 4 f w) (fldDraws s b f w d)
-      → f₄ ≡ noted (noted f₃ (check 25 (terminalHolds bin₂ (part 0 (s + b) d) (binDraws s b f w d) (sharedDraws s b f w d) w
+      → f₄ ≡ nextFound (nextFound f₃ (check 25 (terminalHolds bin₂ (part 0 (s + b) d) (binDraws s b f w d) (sharedDraws s b f w d) w
       (8 * s + 4 * b + 4 * f)) (taus s b f w d + 2 * s + 2 * b + 2 * f)))
       (check 26 (terminalHolds fld₂ (part (s + b) (s + f) d) (fldDraws s b f w d) (sharedDraws s b f w d) w (8 * s + 4 * b + 4 * f + 3))
       (taus s b f w d + 2 * s + 2 * b + 2 * f))

@@ -15,7 +15,7 @@ use Rattle.magnetar_sumcheck.specs.Round.{holds, running}
 use Rattle.magnetar_protocol.specs.Checks.{Check, roundHolds}
 use Rattle.magnetar_protocol.specs.Proof.{part}
 use Rattle.magnetar_checks.specs.declared.found.Found.{Found}
-use Rattle.magnetar_checks.specs.Steps.{check, nothing, noted, after, messages, roundChecks, sharedBin, sharedFld, bothChecks}
+use Rattle.magnetar_checks.specs.Steps.{check, nothing, nextFound, after, messages, roundChecks, sharedBin, sharedFld, bothChecks}
 use Rattle.magnetar_checks.proofs.Finding.{after-none, after-cons}
 
 -- the claim after a round is the message's value at the challenge
@@ -51,7 +51,7 @@ module _ (code events c : ℕ) (ms : List (List ℕ)) (rs : List ℕ) (n : ℕ) 
       (tabulate-get (λ j. check code (roundHolds c ms rs j) (events + 2 * j)) n i (check 0 (roundHolds c ms rs 0) 0) h)
 
   pub going-more : (start f f′ : Found) (claim claim′ i : ℕ) (m : List ℕ) (r : ℕ) → Going c ms rs (roundChecks code events c ms rs n) start f claim i
-      → i < n → m ≡ getD ms i [] → r ≡ getD rs i 0 → f′ ≡ noted f (check code (holds m claim) (events + 2 * i)) → claim′ ≡ eval m r
+      → i < n → m ≡ getD ms i [] → r ≡ getD rs i 0 → f′ ≡ nextFound f (check code (holds m claim) (events + 2 * i)) → claim′ ≡ eval m r
       → (i′ : ℕ) → i′ ≡ i + 1 → Going c ms rs (roundChecks code events c ms rs n) start f′ claim′ i′
   going-more start f f′ claim claim′ i m r g h em er ef ec i′ next = rw (next, add-one i) (record {
     now-claim = ec ∙ ap₂ eval em er ∙ sym (running-at i c ms rs (rw lm h) (rw lr h));
@@ -59,7 +59,7 @@ module _ (code events c : ℕ) (ms : List (List ℕ)) (rs : List ℕ) (n : ℕ) 
         g .now-found ∙ ap (after f) (next-check i h)
         ∙ after-cons f (check code (holds (getD ms i []) (running c (take i ms) (take i rs))) (events + 2 * i)) (drop (suc i) (roundChecks code events c ms rs n))
         ∙ ap (λ (g : Found). after g (drop (suc i) (roundChecks code events c ms rs n)))
-        (sym (ef ∙ ap₂ (λ (k : List ℕ) (l : ℕ). noted f (check code (holds k l) (events + 2 * i))) em (g .now-claim)));
+        (sym (ef ∙ ap₂ (λ (k : List ℕ) (l : ℕ). nextFound f (check code (holds k l) (events + 2 * i))) em (g .now-claim)));
   })
 
   pub going-end : (start f : Found) (claim i : ℕ) → Going c ms rs (roundChecks code events c ms rs n) start f claim i → n ≤ i
@@ -97,14 +97,14 @@ sharing-start events s ms ns rs f h = record {
 module _ (events s : ℕ) (ms ns : List (List ℕ)) (rs : List ℕ) (lm : length ms ≡ s) (ln : length ns ≡ s) (lr : length rs ≡ s) where
   two-more : (f : Found) (i k : ℕ) (a b : ℕ) → a ≡ running 0 (take i ms) (take i rs) → b ≡ running 0 (take i ns) (take i rs)
       → after f (bothChecks events ms ns rs i (suc k))
-      ≡ after (noted (noted f (check 21 (holds (getD ms i []) a) (events + 2 * suc i))) (check 22 (holds (getD ns i []) b) (events + 2 * suc i)))
+      ≡ after (nextFound (nextFound f (check 21 (holds (getD ms i []) a) (events + 2 * suc i))) (check 22 (holds (getD ns i []) b) (events + 2 * suc i)))
       (bothChecks events ms ns rs (suc i) k)
   unfolding bothChecks roundHolds after
   two-more f i k a b e g = rw (e, g)
 
   pub sharing-more : (start f f′ : Found) (a b a′ b′ i : ℕ) (m n : List ℕ) (r : ℕ) → Sharing events s ms ns rs start f a b i → i < s
       → m ≡ getD ms i [] → n ≡ getD ns i [] → r ≡ getD rs i 0
-      → f′ ≡ noted (noted f (check 21 (holds m a) (events + 2 * suc i))) (check 22 (holds n b) (events + 2 * suc i))
+      → f′ ≡ nextFound (nextFound f (check 21 (holds m a) (events + 2 * suc i))) (check 22 (holds n b) (events + 2 * suc i))
       → a′ ≡ eval m r → b′ ≡ eval n r → Sharing events s ms ns rs start f′ a′ b′ (i + 1)
   sharing-more start f f′ a b a′ b′ i m n r g h em en er ef ea eb = rw (add-one i) (record {
     now-bin = ea ∙ ap₂ eval em er ∙ sym (running-at i 0 ms rs (rw lm h) (rw lr h));
@@ -118,8 +118,8 @@ module _ (events s : ℕ) (ms ns : List (List ℕ)) (rs : List ℕ) (lm : length
       left : s - i ≡ suc (s - suc i)
       left = omega arith
 
-      same : noted (noted f (check 21 (holds m a) (events + 2 * suc i))) (check 22 (holds n b) (events + 2 * suc i))
-          ≡ noted (noted f (check 21 (holds (getD ms i []) a) (events + 2 * suc i))) (check 22 (holds (getD ns i []) b) (events + 2 * suc i))
+      same : nextFound (nextFound f (check 21 (holds m a) (events + 2 * suc i))) (check 22 (holds n b) (events + 2 * suc i))
+          ≡ nextFound (nextFound f (check 21 (holds (getD ms i []) a) (events + 2 * suc i))) (check 22 (holds (getD ns i []) b) (events + 2 * suc i))
       same = rw (em, en)
 
   pub sharing-end : (start f : Found) (a b i : ℕ) → Sharing events s ms ns rs start f a b i → s ≤ i

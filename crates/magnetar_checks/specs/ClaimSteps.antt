@@ -1,12 +1,12 @@
 -- The claims one by one. Only the contracts of private functions speak of this.
 -- Assumes nothing.
-use mathlib.Core.Bool.{Bool, not, cond}
+use mathlib.Core.Bool.{not, cond}
 use mathlib.Core.List.{List, [], _∷_}
 use Prim.Native.Nat.{ℕ, _+_, _-_, _*_}
 use lib.Dec.{eqb, ltb}
 use lib.ListN.{getD}
 use Rattle.magnetar_layout.specs.Tests as tests
-use Rattle.magnetar_checks.specs.Steps.{drawsFor, proofFor}
+use Rattle.magnetar_checks.specs.Steps.{drawTotal, proofTotal}
 
 -- claim i: of s shared challenges from place k of the draws on, the last one first; then the n low ones from place j on; then the
 -- segment values from place v of the proof on
@@ -18,5 +18,5 @@ claimAt s n k j v w d i =
 unfoldable pub claimsRefusalOf : (s b f c l proof draws out : ℕ) → ℕ
 claimsRefusalOf s b f c l proof draws out =
     tests.noted 0
-    ((10, ltb 64 l) ∷ (11, ltb draws (2 * drawsFor s b f c)) ∷ (15, ltb out (2 * (s + (c - 1) + l)))
-    ∷ (16, not (eqb proof (2 * proofFor s b f c l))) ∷ [])
+    ((10, ltb 64 l) ∷ (11, ltb draws (2 * drawTotal s b f c)) ∷ (15, ltb out (2 * (s + (c - 1) + l)))
+    ∷ (16, not (eqb proof (2 * proofTotal s b f c l))) ∷ [])

@@ -10,9 +10,9 @@ use Rattle.magnetar_layout.specs.Tests.{noted, roomTest}
 use Rattle.magnetar_protocol.specs.Shape.{logLogins, logCols}
 use Rattle.magnetar_protocol.specs.Schedule.{outline}
 use Rattle.magnetar_protocol.specs.Run.{claims}
-use Rattle.magnetar_checks.specs.Outer.{segmentTests, drawTests, proofTests}
+use Rattle.magnetar_checks.specs.Outer.{runTests, segmentTests, drawTests, proofTests}
 
--- how many elements the claims are: r_inst, r_low (none where there is at most one column), and the segment values
+-- how many elements the claims are: r_inst, r_low, and the segment values
 abbrev pub claimCount : Relation → ℕ
 claimCount r = logLogins r + (logCols r - 1) + length (r .lengths)
 
@@ -20,8 +20,9 @@ claimCount r = logLogins r + (logCols r - 1) + length (r .lengths)
 unfoldable pub claimsRefusal : (m q rowsBin rowsFld : ℕ) → (ns proof draws out : List ℕ) → ℕ
 claimsRefusal m q b f ns proof draws out =
     noted 0
-    (segmentTests ns ++ (drawTests (outline m q b f ns) draws ++ (roomTest (2 * claimCount (outline m q b f ns)) out
-    ++ proofTests (outline m q b f ns) proof)))
+    (runTests m q b f
+    ++ (segmentTests ns ++ (drawTests (outline m q b f ns) draws ++ (roomTest (2 * claimCount (outline m q b f ns)) out
+    ++ proofTests (outline m q b f ns) proof))))
 
 -- what out holds at exit
 unfoldable pub claimsOut : (m q rowsBin rowsFld : ℕ) → (ns proof draws out : List ℕ) → List ℕ

@@ -1,7 +1,6 @@
 -- The outcome of `end_checks`: the checks 27, 28 and 29, with a table in place of the six matrices combined at the row points.
 -- Assumes nothing.
-use mathlib.Core.Bool.{Bool, not}
-use mathlib.Core.List.{List, [], _∷_, _++_}
+use mathlib.Core.List.{List, _∷_, _++_}
 use Prim.Native.Nat.{ℕ, _+_, _*_, _/_}
 use lib.Dec.{eqb}
 use lib.ListN.{take, drop, replicate}
@@ -12,7 +11,7 @@ use Rattle.magnetar_field.specs.Multilinear.{mle}
 use Rattle.magnetar_sumcheck.specs.Round.{running}
 use Rattle.magnetar_sumcheck.specs.Inner.{innerEnd}
 use Rattle.magnetar_r1cs.specs.Batch.{Relation}
-use Rattle.magnetar_layout.specs.Tests.{Tests, noted, columnTests, publicTests, layoutTests, roomTest}
+use Rattle.magnetar_layout.specs.Tests.{noted, sizeTests, publicTests, rowsTests, layoutTests, roomTest}
 use Rattle.magnetar_protocol.specs.Shape.{logCols}
 use Rattle.magnetar_protocol.specs.Proof.{innerRounds, valueZ}
 use Rattle.magnetar_protocol.specs.Draws.{Draws, drawsOf}
@@ -41,8 +40,8 @@ endChecks r x w d table =
 unfoldable pub endRefusal : Relation → (x proof draws s : List ℕ) → ℕ
 endRefusal r x proof draws s =
     noted 0
-    (columnTests (r .m) ++ (publicTests (r .m) x ++ (layoutTests (r .m / 2) (r .lengths)
-    ++ (drawTests r draws ++ (roomTest (4 * r .m) s ++ proofTests r proof)))))
+    (sizeTests (r .m) (r .q) ++ (publicTests (r .m) x ++ (rowsTests (r .q) (r .bin .a .rows) ++ (rowsTests (r .q) (r .fld .a .rows)
+    ++ (layoutTests (r .m / 2) (r .lengths) ++ (drawTests r draws ++ (roomTest (4 * r .m) s ++ proofTests r proof)))))))
 
 -- the table is the m elements at the front of the room
 unfoldable pub endFound : (m q rowsBin rowsFld : ℕ) → (ns x proof draws s : List ℕ) → Found

@@ -18,7 +18,7 @@ use Rattle.magnetar_layout.specs.Tests as tests
 use Rattle.magnetar_protocol.specs.Proof.{part}
 use Rattle.magnetar_protocol.specs.Checks.{Check}
 use Rattle.magnetar_protocol.specs.RunSizes.{Power}
-use Rattle.magnetar_checks.specs.Steps.{check, messages, roundChecks, drawsFor, proofFor}
+use Rattle.magnetar_checks.specs.Steps.{check, messages, roundChecks, drawTotal, proofTotal}
 
 -- the values vs of the segments from segment i on, each times eq(high part of the low point, number of the segment's place)
 unfoldable pub segmentsAt : List ℕ → List ℕ → ℕ → List ℕ → ℕ
@@ -79,12 +79,16 @@ pub record EndFits (m s b f c : ℕ) (ns : List ℕ) (x proof draws : ℕ) : Typ
   pub layout : Sound (m / 2) ns
   pub few : length ns ≤ 64
   pub public : x ≡ m - 2
-  pub drawn : 2 * drawsFor s b f c ≤ draws
-  pub exact : proof ≡ 2 * proofFor s b f c (length ns)
+  pub drawn : 2 * drawTotal s b f c ≤ draws
+  pub exact : proof ≡ 2 * proofTotal s b f c (length ns)
 
--- the guard, by the numbers of words
-unfoldable pub endRefusalOf : (m s b f c : ℕ) → List ℕ → (x proof draws room : ℕ) → ℕ
-endRefusalOf m s b f c ns x proof draws room =
+-- the guard, by the numbers of words: 1, 3 and 4
+abbrev pub frontTests : (m q rb rf x : ℕ) → tests.Tests
+frontTests m q rb rf x = tests.sizeTests m q ++ (((3, not (eqb x (m - 2))) ∷ []) ++ (tests.rowsTests q rb ++ tests.rowsTests q rf))
+
+-- and 8, 9, 10, 11, 15 and 16
+unfoldable pub endRefusalOf : (m s b f c : ℕ) → List ℕ → (proof draws room : ℕ) → ℕ
+endRefusalOf m s b f c ns proof draws room =
     tests.noted 0
-    (tests.columnTests m ++ (((3, not (eqb x (m - 2))) ∷ []) ++ (tests.layoutTests (m / 2) ns
-    ++ ((11, ltb draws (2 * drawsFor s b f c)) ∷ (15, ltb room (4 * m)) ∷ (16, not (eqb proof (2 * proofFor s b f c (length ns)))) ∷ []))))
+    (tests.layoutTests (m / 2) ns
+    ++ ((11, ltb draws (2 * drawTotal s b f c)) ∷ (15, ltb room (4 * m)) ∷ (16, not (eqb proof (2 * proofTotal s b f c (length ns)))) ∷ []))

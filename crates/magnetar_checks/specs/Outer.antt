@@ -7,13 +7,17 @@ use lib.Dec.{eqb, ltb}
 use lib.ListN.{length}
 use Rattle.magnetar_field.specs.Words.{elements}
 use Rattle.magnetar_r1cs.specs.Batch.{Relation}
-use Rattle.magnetar_layout.specs.Tests.{Tests, noted}
+use Rattle.magnetar_layout.specs.Tests.{Tests, noted, sizeTests, rowsTests}
 use Rattle.magnetar_protocol.specs.Shape.{logLogins, proofElements}
 use Rattle.magnetar_protocol.specs.Draws.{Draws, drawCount, drawsOf}
 use Rattle.magnetar_protocol.specs.Schedule.{outline}
 use Rattle.magnetar_protocol.specs.Checks.{Check, sharedChecks, rowChecks, terminalChecks}
 use Rattle.magnetar_checks.specs.declared.found.Found.{Found}
 use Rattle.magnetar_checks.specs.Found.{firstFound, unlessBad}
+
+-- 1 and 4: the columns m, the logins q, and the rows b of bin and f of fld, alone and for all logins
+abbrev pub runTests : (m q b f : ℕ) → Tests
+runTests m q b f = sizeTests m q ++ (rowsTests q b ++ rowsTests q f)
 
 -- 10: over 64 segments; 11: fewer words of draws than a run draws; 16: not the words of a proof
 abbrev pub segmentTests : List ℕ → Tests
@@ -30,10 +34,13 @@ unfoldable pub outerChecks : Relation → List ℕ → Draws → List Check
 outerChecks r w D = sharedChecks r [] w D 0 (logLogins r) ++ (rowChecks r [] w D ++ terminalChecks r [] w D)
 
 -- ---- `outer_checks`: a relation r by its sizes, the words of a proof and of draws
-unfoldable pub outerRefusal : Relation → List ℕ → List ℕ → ℕ
-outerRefusal r proof draws = noted 0 (segmentTests (r .lengths) ++ drawTests r draws ++ proofTests r proof)
+unfoldable pub outerChecksRefusal : Relation → List ℕ → List ℕ → ℕ
+outerChecksRefusal r proof draws =
+    noted 0
+    (runTests (r .m) (r .q) (r .bin .a .rows) (r .fld .a .rows)
+    ++ (segmentTests (r .lengths) ++ (drawTests r draws ++ proofTests r proof)))
 
 unfoldable pub outerFound : (m q rowsBin rowsFld : ℕ) → List ℕ → List ℕ → List ℕ → Found
 outerFound m q b f ns proof draws =
-    unlessBad (outerRefusal (outline m q b f ns) proof draws)
+    unlessBad (outerChecksRefusal (outline m q b f ns) proof draws)
     (firstFound (outerChecks (outline m q b f ns) (elements proof) (drawsOf (outline m q b f ns) (elements draws))))

@@ -4,8 +4,7 @@ use mathlib.Core.Bool.{Bool, not, cond}
 use mathlib.Core.List.{List, [], _∷_, _++_, reverse}
 use Prim.Native.Nat.{ℕ, zero, suc, _+_, _*_}
 use lib.Dec.{eqb, ltb}
-use lib.ListN.{getD, take, drop}
-use Rattle.magnetar_field.specs.Gf128.{_⊗_}
+use lib.ListN.{getD}
 use Rattle.magnetar_field.specs.Tabulate.{tabulate}
 use Rattle.magnetar_sumcheck.specs.Round.{running}
 use Rattle.magnetar_sumcheck.specs.Order.{eqPoints}
@@ -24,27 +23,27 @@ abbrev pub nothing : Found
 nothing = record { code = 0; events = 0 }
 
 -- what is found with one more check: an earlier refusal stays
-unfoldable pub noted : Found → Check → Found
-noted f c = cond (eqb (f .code) 0) (cond (c .passes) f (record { code = c .refusal; events = c .events })) f
+unfoldable pub nextFound : Found → Check → Found
+nextFound f c = cond (eqb (f .code) 0) (cond (c .passes) f (record { code = c .refusal; events = c .events })) f
 
 -- and with a list of checks
 unfoldable pub after : Found → List Check → Found
 after f [] = f
-after f (c ∷ cs) = after (noted f c) cs
+after f (c ∷ cs) = after (nextFound f c) cs
 
 -- ---- how many elements are drawn, and are in a proof with l segments, with the logarithms s, b, f, c of the logins, the rows of bin
 -- and fld, and the columns
-abbrev pub drawsFor : (s b f c : ℕ) → ℕ
-drawsFor s b f c = s + b + (s + f + (s + (b + (f + (6 + c)))))
+abbrev pub drawTotal : (s b f c : ℕ) → ℕ
+drawTotal s b f c = s + b + (s + f + (s + (b + (f + (6 + c)))))
 
-abbrev pub proofFor : (s b f c l : ℕ) → ℕ
-proofFor s b f c l = 8 * s + 4 * b + 4 * f + 6 + 3 * c + 1 + l
+abbrev pub proofTotal : (s b f c l : ℕ) → ℕ
+proofTotal s b f c l = 8 * s + 4 * b + 4 * f + 6 + 3 * c + 1 + l
 
 -- 10, 11 and 16, by the numbers of words
 unfoldable pub refusalOf : (s b f c l proof draws : ℕ) → ℕ
 refusalOf s b f c l proof draws =
     tests.noted 0
-    ((10, ltb 64 l) ∷ (11, ltb draws (2 * drawsFor s b f c)) ∷ (16, not (eqb proof (2 * proofFor s b f c l))) ∷ [])
+    ((10, ltb 64 l) ∷ (11, ltb draws (2 * drawTotal s b f c)) ∷ (16, not (eqb proof (2 * proofTotal s b f c l))) ∷ [])
 
 -- ---- the rounds of one sum-check
 -- n messages of so many elements, one behind the other from place i on

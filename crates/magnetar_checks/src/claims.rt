@@ -123,9 +123,9 @@ fn less_one(n: usize) -> usize
 }
 
 // Writes the claims of a run over q logins with m columns, rb rows of bin and rf rows of fld, and these segment lengths, as words at the
-// front of claims: r_inst, the shared challenges reversed; r_low, the inner challenges but the last; the segment values. With m at most 1
-// there is no inner round, and r_low is empty.
-// 10: over 64 segments; 11: fewer words of draws than a run draws; 15: too little room; 16: not the words of a proof.
+// front of claims: r_inst, the shared challenges reversed; r_low, the inner challenges but the last; the segment values.
+// 1: no such columns or logins; 4: no such rows; 10: over 64 segments; 11: fewer words of draws than a run draws; 15: too little room; 16:
+// not the words of a proof.
 pub fn write_claims(
     m: usize,
     q: usize,
@@ -139,6 +139,10 @@ pub fn write_claims(
     ensures refusal { λ r. ⌜ r ≡ claimsRefusal m q rb rf (now (lens .entry)) (now (proof .entry)) (now (draws .entry)) (now (claims .entry)) ⌝ }
     ensures written { λ _. ⌜ now (claims .exit) ≡ claimsOut m q rb rf (now (lens .entry)) (now (proof .entry)) (now (draws .entry)) (now (claims .entry)) ⌝ }
 {
+    let y = found::size_refusal(m, q, rb, rf);
+    if y != 0 {
+        return y;
+    }
     let s = sizes::log2(q);
     let b = sizes::log2(rb);
     let f = sizes::log2(rf);

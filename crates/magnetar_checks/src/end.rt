@@ -13,8 +13,9 @@ use magnetar_layout::layout;
 use magnetar_layout::tests;
 use magnetar_sumcheck::engine;
 ghost use mathlib.Core.Path.{_≡_};
-ghost use mathlib.Core.List.{[], _∷_, _++_};
-ghost use Prim.Native.Nat.{ℕ, suc, _+_, _-_, _*_, _/_, _%_, _<_, _≤_};
+ghost use mathlib.Core.Bool.{true};
+ghost use mathlib.Core.List.{[], _∷_};
+ghost use Prim.Native.Nat.{ℕ, _+_, _-_, _*_, _/_, _%_, _<_, _≤_};
 ghost use lib.Dec.{eqb};
 ghost use lib.ListN.{length, getD, take, drop, replicate};
 ghost use Rattle.magnetar_field.specs.Gf128.{value, _⊕_, _⊗_};
@@ -22,11 +23,12 @@ ghost use Rattle.magnetar_field.specs.Sizes.{log₂};
 ghost use Rattle.magnetar_field.specs.EqTable.{eqAt};
 ghost use Rattle.magnetar_field.specs.Multilinear.{mle};
 ghost use Rattle.magnetar_field.specs.Words.{elements};
-ghost use Rattle.magnetar_layout.specs.Layout.{Sound, nextMultiple, localVars, suffix};
+ghost use Rattle.magnetar_layout.specs.Layout.{Sound};
+ghost use Rattle.magnetar_layout.specs.Tests.{noted, isSize};
 ghost use Rattle.magnetar_protocol.specs.RunSizes.{Power};
 ghost use Rattle.magnetar_protocol.specs.Proof.{part};
-ghost use Rattle.magnetar_checks.specs.Steps.{check, nothing, noted, after};
-ghost use Rattle.magnetar_checks.specs.EndSteps.{segmentsAt, identical, roundPhase, lastClaim, lowDraws, vz, alphasAt, terminalsAt, eventsBefore, endPhases, EndFits, endRefusalOf};
+ghost use Rattle.magnetar_checks.specs.Steps.{nothing, after};
+ghost use Rattle.magnetar_checks.specs.EndSteps.{segmentsAt, identical, roundPhase, lastClaim, lowDraws, vz, alphasAt, terminalsAt, endPhases, EndFits, frontTests, endRefusalOf};
 ghost use Rattle.magnetar_checks.specs.End.{endFound, endRoom};
 
 // ---- eq at a number, and the segment values.
@@ -193,7 +195,20 @@ fn end_phases(
     found::note(g, 29, z, events + 1)
 }
 
-// 1, 3, 8, 9, 10, 11, 15 and 16, by the numbers of words.
+// 1, 3 and 4, with x public words.
+fn front_refusal(m: usize, q: usize, rb: usize, rf: usize, x: usize) -> u32
+    ensures { λ r. ⌜ r ≡ noted 0 (frontTests m q rb rf x) ⌝ }
+{
+    let z = found::login_refusal(m, q);
+    if z != 0 {
+        return z;
+    }
+    let z = tests::note(0, 3, x != m - 2);
+    let z = found::rows_refusal(z, q, rb);
+    found::rows_refusal(z, q, rf)
+}
+
+// 8, 9, 10, 11, 15 and 16, by the numbers of words.
 fn end_refusal(
     m: usize,
     s: usize,
@@ -201,20 +216,13 @@ fn end_refusal(
     f: usize,
     c: usize,
     lens: &[usize],
-    x: usize,
     proof: usize,
     draws: usize,
     room: usize,
 ) -> u32
-    requires { ⌜ (s < 64) × (b < 64) × (f < 64) × (c < 64) ⌝ }
-    ensures { λ r. ⌜ r ≡ endRefusalOf m s b f c (now (lens .entry)) x proof draws room ⌝ }
+    requires { ⌜ (s < 64) × (b < 64) × (f < 64) × (c < 64) × (isSize 2 65536 m ≡ true) ⌝ }
+    ensures { λ r. ⌜ r ≡ endRefusalOf m s b f c (now (lens .entry)) proof draws room ⌝ }
 {
-    if !tests::is_size(2, 65536, m) {
-        return 1;
-    }
-    if x != m - 2 {
-        return 3;
-    }
     let z = layout::refusal(m / 2, lens);
     if z != 0 {
         return z;
@@ -227,9 +235,9 @@ fn end_refusal(
 // The checks 27 to 29 of a run over q logins with m columns, rb rows of bin and rf rows of fld, and these segment lengths, with the
 // public words x and the table of m elements at the front of s in place of the six matrices combined at the row points: the first that
 // does not pass, in the order of the run.
-// 1: no such columns; 3: not the words of m / 2 - 1 public columns; 8, 9, 10: no such layout over m / 2 columns; 11: fewer words of draws
-// than a run draws; 15: s shorter than 4 m words; 16: not the words of a proof. These stop it before any event. Otherwise the first 4 m
-// words of s are left zero.
+// 1: no such columns or logins; 3: not the words of m / 2 - 1 public columns; 4: no such rows; 8, 9, 10: no such layout over m / 2 columns;
+// 11: fewer words of draws than a run draws; 15: s shorter than 4 m words; 16: not the words of a proof. These stop it before any event.
+// Otherwise the first 4 m words of s are left zero.
 pub fn end_checks(
     m: usize,
     q: usize,
@@ -244,22 +252,15 @@ pub fn end_checks(
     ensures found { λ r. ⌜ r ≡ endFound m q rb rf (now (lens .entry)) (now (x .entry)) (now (proof .entry)) (now (draws .entry)) (now (s .entry)) ⌝ }
     ensures room { λ _. ⌜ now (s .exit) ≡ endRoom m q rb rf (now (lens .entry)) (now (x .entry)) (now (proof .entry)) (now (draws .entry)) (now (s .entry)) ⌝ }
 {
+    let y = front_refusal(m, q, rb, rf, x.len());
+    if y != 0 {
+        return Found { code: y, events: 0 };
+    }
     let a = sizes::log2(q);
     let b = sizes::log2(rb);
     let f = sizes::log2(rf);
     let c = sizes::log2(m);
-    let z = end_refusal(
-        m,
-        a,
-        b,
-        f,
-        c,
-        lens,
-        x.len(),
-        proof.len(),
-        draws.len(),
-        s.len(),
-    );
+    let z = end_refusal(m, a, b, f, c, lens, proof.len(), draws.len(), s.len());
     if z != 0 {
         return Found { code: z, events: 0 };
     }

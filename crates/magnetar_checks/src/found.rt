@@ -1,16 +1,19 @@
 // What the checks find, one check after the other, and rounds of a sum-check whose messages and challenges stand in slices.
 use magnetar_field::gf128::Gf128;
 use magnetar_field::words;
+use magnetar_layout::tests;
 use magnetar_sumcheck::engine;
 ghost use mathlib.Core.Path.{_≡_};
 ghost use Prim.Native.Nat.{ℕ, _+_, _*_, _<_, _≤_};
-ghost use lib.ListN.{length, getD};
+ghost use lib.ListN.{length};
 ghost use Rattle.magnetar_field.specs.Gf128.{value};
 ghost use Rattle.magnetar_field.specs.Polynomial.{eval};
 ghost use Rattle.magnetar_field.specs.Words.{elements};
+ghost use Rattle.magnetar_layout.specs.Tests.{noted, sizeTests, rowsTests};
 ghost use Rattle.magnetar_sumcheck.specs.Round.{holds, running};
 ghost use Rattle.magnetar_protocol.specs.Proof.{part};
-ghost use Rattle.magnetar_checks.specs.Steps.{check, noted, after, messages, roundChecks, drawsFor, proofFor};
+ghost use Rattle.magnetar_checks.specs.Steps.{check, nextFound, after, messages, roundChecks, drawTotal, proofTotal};
+ghost use Rattle.magnetar_checks.specs.Outer.{runTests};
 
 // The first check that does not pass: its refusal (0: none), and how many events of the schedule come before it.
 pub struct Found {
@@ -26,7 +29,7 @@ pub(crate) struct Run {
 
 // f where it is a refusal already; else this check's refusal, where it does not pass.
 pub(crate) fn note(f: Found, code: u32, passes: bool, events: usize) -> Found
-    ensures { λ r. ⌜ r ≡ noted f (check code passes events) ⌝ }
+    ensures { λ r. ⌜ r ≡ nextFound f (check code passes events) ⌝ }
 {
     if f.code != 0 {
         return f;
@@ -40,10 +43,42 @@ pub(crate) fn note(f: Found, code: u32, passes: bool, events: usize) -> Found
     }
 }
 
+// 1: the columns and the logins.
+pub(crate) fn login_refusal(m: usize, q: usize) -> u32
+    ensures { λ r. ⌜ r ≡ noted 0 (sizeTests m q) ⌝ }
+{
+    let z = tests::note(0, 1, !tests::is_size(2, 65536, m));
+    tests::note(z, 1, !tests::is_size(1, 4096, q))
+}
+
+// 4: the rows of a system, alone and for q logins. An earlier number z stays.
+pub(crate) fn rows_refusal(z: u32, q: usize, n: usize) -> u32
+    requires { ⌜ q ≤ 4096 ⌝ }
+    ensures { λ r. ⌜ r ≡ noted z (rowsTests q n) ⌝ }
+{
+    let y = tests::note(z, 4, !tests::is_size(1, 65536, n));
+    if y != 0 {
+        return y;
+    }
+    tests::note(0, 4, q * n > 1048576)
+}
+
+// 1 and 4.
+pub(crate) fn size_refusal(m: usize, q: usize, rb: usize, rf: usize) -> u32
+    ensures { λ r. ⌜ r ≡ noted 0 (runTests m q rb rf) ⌝ }
+{
+    let z = login_refusal(m, q);
+    if z != 0 {
+        return z;
+    }
+    let z = rows_refusal(0, q, rb);
+    rows_refusal(z, q, rf)
+}
+
 // How many words the draws of a run are, with the logarithms s, b, f, c of the logins, the rows of bin and fld, and the columns.
 pub(crate) fn draw_words(s: usize, b: usize, f: usize, c: usize) -> usize
     requires { ⌜ (s < 64) × (b < 64) × (f < 64) × (c < 64) ⌝ }
-    ensures { λ r. ⌜ r ≡ 2 * drawsFor s b f c ⌝ }
+    ensures { λ r. ⌜ r ≡ 2 * drawTotal s b f c ⌝ }
 {
     2 * (s + b + (s + f + (s + (b + (f + (6 + c))))))
 }
@@ -51,7 +86,7 @@ pub(crate) fn draw_words(s: usize, b: usize, f: usize, c: usize) -> usize
 // And those of a proof with l segments.
 pub(crate) fn proof_words(s: usize, b: usize, f: usize, c: usize, l: usize) -> usize
     requires { ⌜ (s < 64) × (b < 64) × (f < 64) × (c < 64) × (l ≤ 64) ⌝ }
-    ensures { λ r. ⌜ r ≡ 2 * proofFor s b f c l ⌝ }
+    ensures { λ r. ⌜ r ≡ 2 * proofTotal s b f c l ⌝ }
 {
     2 * (8 * s + 4 * b + 4 * f + 6 + 3 * c + 1 + l)
 }
@@ -69,7 +104,7 @@ pub(crate) fn piece<'a>(s: &'a [u64], i: usize, n: usize) -> &'a [u64]
 
 // The sum of a message is checked; the next claim is its value at the challenge.
 pub(crate) fn round(f: Found, claim: Gf128, msg: &[u64], r: Gf128, code: u32, events: usize) -> Run
-    ensures found { λ o. ⌜ o .found ≡ noted f (check code (holds (elements (now (msg .entry))) (value claim)) events) ⌝ }
+    ensures found { λ o. ⌜ o .found ≡ nextFound f (check code (holds (elements (now (msg .entry))) (value claim)) events) ⌝ }
     ensures claim { λ o. ⌜ value (o .claim) ≡ eval (elements (now (msg .entry))) (value r) ⌝ }
 {
     let g = note(f, code, engine::sum_holds(msg, claim), events);

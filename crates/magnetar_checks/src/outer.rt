@@ -13,13 +13,13 @@ ghost use mathlib.Core.Path.{_≡_};
 ghost use mathlib.Core.List.{reverse, _++_};
 ghost use Prim.Native.Nat.{ℕ, suc, _+_, _*_, _%_, _<_, _≤_};
 ghost use lib.ListN.{length, getD};
-ghost use Rattle.magnetar_field.specs.Gf128.{value, _⊗_};
+ghost use Rattle.magnetar_field.specs.Gf128.{value};
 ghost use Rattle.magnetar_field.specs.Polynomial.{eval};
 ghost use Rattle.magnetar_field.specs.Words.{elements};
 ghost use Rattle.magnetar_sumcheck.specs.Round.{holds, running};
 ghost use Rattle.magnetar_sumcheck.specs.Order.{eqPoints, point};
 ghost use Rattle.magnetar_protocol.specs.Proof.{part};
-ghost use Rattle.magnetar_checks.specs.Steps.{check, nothing, noted, after, sharedBin, sharedFld, bothChecks, terminalHolds, outerPhases, refusalOf};
+ghost use Rattle.magnetar_checks.specs.Steps.{check, nothing, nextFound, after, sharedBin, sharedFld, bothChecks, terminalHolds, outerPhases, refusalOf};
 ghost use Rattle.magnetar_checks.specs.Outer.{outerFound};
 
 // What was found, and the running claims of both systems.
@@ -32,7 +32,7 @@ struct Both {
 // Shared round j, bin before fld: their messages stand side by side, and the challenge is draw k + j.
 fn shared_round(both: Both, proof: &[u64], draws: &[u64], k: usize, j: usize) -> Both
     requires { ⌜ (j < 64) × (k ≤ 4096) × (16 * j + 16 ≤ length (now proof)) ⌝ }
-    ensures found { λ o. ⌜ o .found ≡ noted (noted (both .found) (check 21 (holds (part (8 * j) 4 (elements (now (proof .entry)))) (value (both .bin))) (k + 2 * suc j))) (check 22 (holds (part (8 * j + 4) 4 (elements (now (proof .entry)))) (value (both .fld))) (k + 2 * suc j)) ⌝ }
+    ensures found { λ o. ⌜ o .found ≡ nextFound (nextFound (both .found) (check 21 (holds (part (8 * j) 4 (elements (now (proof .entry)))) (value (both .bin))) (k + 2 * suc j))) (check 22 (holds (part (8 * j + 4) 4 (elements (now (proof .entry)))) (value (both .fld))) (k + 2 * suc j)) ⌝ }
     ensures bin { λ o. ⌜ value (o .bin) ≡ eval (part (8 * j) 4 (elements (now (proof .entry)))) (getD (elements (now (draws .entry))) (k + j) 0) ⌝ }
     ensures fld { λ o. ⌜ value (o .fld) ≡ eval (part (8 * j + 4) 4 (elements (now (proof .entry)))) (getD (elements (now (draws .entry))) (k + j) 0) ⌝ }
 {
@@ -138,7 +138,7 @@ fn terminals(
     f: usize,
 ) -> Found
     requires { ⌜ (s ≤ 64) × (b ≤ 64) × (f ≤ 64) × (2 * (s + b + (s + f) + s + b + f) ≤ length (now draws)) ⌝ }
-    ensures { λ r. ⌜ r ≡ noted (noted f0 (check 25 (terminalHolds (value bin) (part 0 (s + b) (elements (now (draws .entry)))) (part (s + b + (s + f) + s) b (elements (now (draws .entry)))) (part (s + b + (s + f)) s (elements (now (draws .entry)))) (elements (now (proof .entry))) (8 * s + 4 * b + 4 * f)) (s + b + (s + f) + 2 * s + 2 * b + 2 * f))) (check 26 (terminalHolds (value fld) (part (s + b) (s + f) (elements (now (draws .entry)))) (part (s + b + (s + f) + s + b) f (elements (now (draws .entry)))) (part (s + b + (s + f)) s (elements (now (draws .entry)))) (elements (now (proof .entry))) (8 * s + 4 * b + 4 * f + 3)) (s + b + (s + f) + 2 * s + 2 * b + 2 * f)) ⌝ }
+    ensures { λ r. ⌜ r ≡ nextFound (nextFound f0 (check 25 (terminalHolds (value bin) (part 0 (s + b) (elements (now (draws .entry)))) (part (s + b + (s + f) + s) b (elements (now (draws .entry)))) (part (s + b + (s + f)) s (elements (now (draws .entry)))) (elements (now (proof .entry))) (8 * s + 4 * b + 4 * f)) (s + b + (s + f) + 2 * s + 2 * b + 2 * f))) (check 26 (terminalHolds (value fld) (part (s + b) (s + f) (elements (now (draws .entry)))) (part (s + b + (s + f) + s + b) f (elements (now (draws .entry)))) (part (s + b + (s + f)) s (elements (now (draws .entry)))) (elements (now (proof .entry))) (8 * s + 4 * b + 4 * f + 3)) (s + b + (s + f) + 2 * s + 2 * b + 2 * f)) ⌝ }
 {
     let k = s + b + (s + f);
     let i = 8 * s + 4 * b + 4 * f;
@@ -201,7 +201,8 @@ fn outer_phases(proof: &[u64], draws: &[u64], s: usize, b: usize, f: usize) -> F
 
 // The checks 21 to 26 of a run over q logins with m columns, rb rows of bin and rf rows of fld, and these segment lengths: the
 // first that does not pass, in the order of the run.
-// 10: over 64 segments; 11: fewer words of draws than a run draws; 16: not the words of a proof. These stop it before any event.
+// 1: no such columns or logins; 4: no such rows; 10: over 64 segments; 11: fewer words of draws than a run draws; 16: not the words of a
+// proof. These stop it before any event.
 pub fn outer_checks(
     m: usize,
     q: usize,
@@ -213,6 +214,10 @@ pub fn outer_checks(
 ) -> Found
     ensures { λ r. ⌜ r ≡ outerFound m q rb rf (now (lens .entry)) (now (proof .entry)) (now (draws .entry)) ⌝ }
 {
+    let y = found::size_refusal(m, q, rb, rf);
+    if y != 0 {
+        return Found { code: y, events: 0 };
+    }
     let s = sizes::log2(q);
     let b = sizes::log2(rb);
     let f = sizes::log2(rf);

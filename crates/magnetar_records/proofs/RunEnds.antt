@@ -29,7 +29,8 @@ use Rattle.magnetar_spartan.specs.Ready.{Ready, VerifyReady}
 use Rattle.magnetar_spartan.specs.Outcome.{verifyRefusal, verifyOutcome}
 use Rattle.magnetar_spartan.proofs.Verifying.{sizesOf, heard-all, drawn-words, schedule-small}
 use Rattle.magnetar_spartan.proofs.VerifyRun.{Left, out-outer, out-later, out-none}
-use Rattle.magnetar_spartan.proofs.Ended.{Verifiable, verifiable, draws-small, verify-turned}
+use Rattle.magnetar_spartan.proofs.Ended.{Verifiable, verifiable, draws-small}
+use Rattle.magnetar_spartan.proofs.Ended as core
 use Rattle.magnetar_inplace.specs.declared.records.Entry.{Entry}
 use Rattle.magnetar_inplace.specs.Records.{entriesOfRecords, lentOf}
 use Rattle.magnetar_inplace.specs.Steps.{clearedTo, recordTests6}
@@ -167,7 +168,7 @@ module _ (n₁ m₁ : ℕ) (ab : List Entry) (n₂ m₂ : ℕ) (bb : List Entry)
     refusal-is = e ∙ rw en
 
     verify-back : eqb k 0 ≡ false → inPlace k t c s ≡ verifyOutcome R x w t c s
-    verify-back b = verify-turned R x w t c s k refusal-is (λ z. some k z b)
+    verify-back b = core.verify-refused R x w t c s k refusal-is (λ z. some k z b)
       where
         some : (n : ℕ) → n ≡ 0 → eqb n 0 ≡ false → ⊥
         some n z f = false≢true (sym f ∙ eq-eqb n 0 z)

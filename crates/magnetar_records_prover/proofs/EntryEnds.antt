@@ -18,7 +18,8 @@ use Rattle.magnetar_spartan.specs.Rules.{Rules, rules}
 use Rattle.magnetar_spartan.specs.Refusals.{systemRows, counterTests, roomOf, proofWords, claimWords, proverRoom, proveTests}
 use Rattle.magnetar_spartan.specs.Ready.{Ready}
 use Rattle.magnetar_spartan.specs.Outcome.{proveRefusal, proveOutcome}
-use Rattle.magnetar_spartan.proofs.Ended.{provable, prove-turned}
+use Rattle.magnetar_spartan.proofs.Ended.{provable}
+use Rattle.magnetar_spartan.proofs.Ended as core
 use Rattle.magnetar_inplace.specs.declared.records.Entry.{Entry}
 use Rattle.magnetar_inplace.specs.Records.{lentOf}
 use Rattle.magnetar_records.specs.Numbers.{firstRefusalOf}
@@ -106,7 +107,7 @@ module _ (n₁ m₁ : ℕ) (ab : List Entry) (n₂ m₂ : ℕ) (bb : List Entry)
     unfolding proveRefusal
     at (suc j) h r u w′ c′ s′ U =
         let some : k ≡ 0 → ⊥ = λ z. omega (arith, h, z) in
-        U .0 some ∙ prove-turned R ws x t w c s k refusal-is some
+        U .0 some ∙ core.prove-refused R ws x t w c s k refusal-is some
     at zero h r u w′ c′ s′ U =
         let none : proveRefusal R ws x t w c s ≡ 0 = sym refusal-is ∙ h in
         let a = rules-agree (provable R ws x (t .«squeeze_ctr») (length w) (length c) (length s) none .ready) in

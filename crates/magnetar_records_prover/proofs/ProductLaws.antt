@@ -20,8 +20,7 @@ use Rattle.magnetar_r1cs.specs.Sum.{blocks}
 use Rattle.magnetar_r1cs.specs.Entries.{packedTable, packedOut}
 use Rattle.magnetar_r1cs.proofs.TableLaws.{elements-words}
 use Rattle.magnetar_protocol.specs.RealRun.{productTables}
-use Rattle.magnetar_rounds.specs.Entries.{blockWords, tablesOf}
-use Rattle.magnetar_rounds.specs.Held.{tableAt}
+use Rattle.magnetar_rounds.specs.Entries.{tableAt, blockWords, tablesOf}
 use Rattle.magnetar_rounds.proofs.Slots.{take-of-drop, mid-length, mid-before, mid-behind, mid-at, mid-back, fore-length, fore-back}
 use Rattle.magnetar_spartan.specs.Rules.{Rules, relationOf}
 use Rattle.magnetar_spartan.specs.Ready.{FineMatrix, BatchReady, Ready}

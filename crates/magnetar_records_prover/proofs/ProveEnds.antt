@@ -37,7 +37,7 @@ use Rattle.magnetar_spartan.proofs.Chains.{halves}
 use Rattle.magnetar_spartan.proofs.Complete.{sized-batch}
 use Rattle.magnetar_spartan.proofs.Ended.{Provable, provable, draws-small, prove-through}
 use Rattle.magnetar_spartan.proofs.LaterRun.{inner-ready, inner-drawn-many, inner-said-many, later-left}
-use Rattle.magnetar_spartan.proofs.ProveRun.{ProveLeft, blocks-fit, outer-left, run-left}
+use Rattle.magnetar_spartan.proofs.ProveRun.{ProveLeft, blocks-fit, outer-left, outer-counter, run-left}
 use Rattle.magnetar_spartan.proofs.SizedRules.{sized-relation}
 use Rattle.magnetar_inplace.specs.declared.records.Entry.{Entry}
 use Rattle.magnetar_inplace.specs.Records.{entriesOfRecords, lentOf}
@@ -51,7 +51,7 @@ use Rattle.magnetar_records_prover.proofs.StageLaws.{behind-front}
 use Rattle.magnetar_records_prover.proofs.ProductLaws.{s₆, six-long, six-rest, six-are}
 
 -- ---- the run, by the sizes of the rules: its parts leave what the core says
-module _ (R : Rules) (ws x w c s : List ℕ) (t : Transcript) (ok : Provable R ws x (length w) (length c) (length s)) where
+module _ (R : Rules) (ws x w c s : List ℕ) (t : Transcript) (ok : Provable R ws x (length w) (length c) (length s) (t .«squeeze_ctr»)) where
   abbrev pub m : ℕ
   m = R .m
 
@@ -117,7 +117,7 @@ module _ (R : Rules) (ws x w c s : List ℕ) (t : Transcript) (ok : Provable R w
   d₀-long = length-take (drawWordsOf m q b f) (replicate {A = ℕ} 256 0) ∙ omega (arith, length-replicate {A = ℕ} 256 0, draws-is, drawn-small)
 
   abbrev pub Z : ℕ
-  Z = outerNumber m q b f (length ns) w S₁
+  Z = outerNumber m q b f (length ns) w S₁ t
 
   abbrev pub O : Steps
   O = outerPlayed q b f S₁ t
@@ -133,7 +133,7 @@ module _ (R : Rules) (ws x w c s : List ℕ) (t : Transcript) (ok : Provable R w
 
   outer-done : OuterLeft R ws x t u₁ w₁ d₁
   outer-done =
-      outer-left R P ws x t (answerFor Z O t) w₀ w₁ d₀ d₁ S₁ w₀-long d₀-long (omega (arith, S₁-long, blocks))
+      outer-left R P ws x t (answerFor Z O t) w₀ w₁ d₀ d₁ S₁ w₀-long d₀-long (omega (arith, S₁-long, blocks)) (ok .counter)
       (six-are R P ws x s (ok .packed) (ok .public) blocks) refl refl refl
 
   unless-long : (z : ℕ) (v d : List ℕ) → length (unlessRefused z (overlaid v d) d) ≡ length d
@@ -169,14 +169,14 @@ module _ (R : Rules) (ws x w c s : List ℕ) (t : Transcript) (ok : Provable R w
   -- ---- behind the combined table, which stands in front of S₂
   module _ (S₂ : List ℕ) (long : length S₂ ≡ length s) (rest : drop (proverRoom R) S₂ ≡ drop (proverRoom R) s)
       (table : take m (elements S₂) ≡ combined (relationOf R) (drawsOf (relationOf R) (elements d₁))) (word : Elements (elements x)) where
-    later-sizes : LaterReady m q b f ns (length ws) (length x) (length w₂) (length c) (length S₂) (length d₂)
+    later-sizes : LaterReady m q b f ns (length ws) (length x) (length w₂) (length c) (length S₂) (length d₂) (u₁ .«squeeze_ctr»)
     later-sizes =
         let l = log-few (P .logins) in
         let k = log-most b (P .fine .bin .rows .high) (P .fine .bin .rows .power) in
         let j = log-most f (P .fine .fld .rows .high) (P .fine .fld .rows .power) in
         record {
           end = record {
-            inner = inner-ready R P (length x) (ok .public);
+            inner = inner-ready R P (length x) (u₁ .«squeeze_ctr») (ok .public) (outer-counter R ws x t u₁ w₁ d₁ outer-done);
             drawn = drawn-small;
             proof = omega (arith, proof-is, w₂-long, ok .proof);
             claims = omega (arith, claims-is, ok .claims);
@@ -285,7 +285,7 @@ module _ (R : Rules) (ws x w c s : List ℕ) (t : Transcript) (ok : Provable R w
         (later-is .0) (later-is .1 .0) (later-is .1 .1) said-long drawn-long (length-take-le (claimWordsOf m q (length ns)) c (omega (arith, claims-is, ok .claims)) ∙ claims-is) refl
 
     pub run-is : proveRefusal R ws x t w c s ≡ 0 → (u : Transcript) (w′ c′ s′ : List ℕ)
-        → (LaterReady m q b f ns (length ws) (length x) (length w₂) (length c) (length S₂) (length d₂) → LaterLeft m q b f ns w₂ d₂ c S₂ p u w′ c′ s′)
+        → (LaterReady m q b f ns (length ws) (length x) (length w₂) (length c) (length S₂) (length d₂) (u₁ .«squeeze_ctr») → LaterLeft m q b f ns w₂ d₂ c S₂ p u w′ c′ s′)
         → provedInPlace 0 u w′ c′ s′ ≡ proveOutcome R ws x t w c s
     run-is z u w′ c′ s′ h =
         let r = h later-sizes in
@@ -315,11 +315,11 @@ module _ (rb rf m q k : ℕ) (ab bb cb af bf cf : List Entry) (ws x w s : List �
   placed = sixPlaced m q rb rf (lentOf rb m ab) (lentOf rb m bb) (lentOf rb m cb) (lentOf rf m af) (lentOf rf m bf) (lentOf rf m cf) ws x s
 
   pub outer-is : (s₁ : List ℕ) (h : Transcript) (d v s₂ d′ s₃ : List ℕ) → s₁ ≡ placed
-      → OuterDone m q rb rf k s₁ w t h d v × (s₂ ≡ outerRoom m q rb rf k s₁ w) → d′ ≡ d → s₃ ≡ table d′ s₂
-      → OuterDone m q rb rf k placed w t h d v × (s₃ ≡ table d (outerRoom m q rb rf k placed w))
+      → OuterDone m q rb rf k s₁ w t h d v × (s₂ ≡ outerRoom m q rb rf k s₁ w t) → d′ ≡ d → s₃ ≡ table d′ s₂
+      → OuterDone m q rb rf k placed w t h d v × (s₃ ≡ table d (outerRoom m q rb rf k placed w t))
   outer-is s₁ h d v s₂ d′ s₃ e₁ e₂ e₃ e₄ = (
     subst (λ (y : List ℕ). OuterDone m q rb rf k y w t h d v) e₁ (e₂ .0),
-    e₄ ∙ ap₂ table e₃ (e₂ .1 ∙ ap (λ (y : List ℕ). outerRoom m q rb rf k y w) e₁),
+    e₄ ∙ ap₂ table e₃ (e₂ .1 ∙ ap (λ (y : List ℕ). outerRoom m q rb rf k y w t) e₁),
   )
 
 -- ---- the prover, where nothing refuses it
@@ -329,7 +329,7 @@ module _ (rb rf m q : ℕ) (ns : List ℕ) (ab bb cb af bf cf : List Entry) (ws 
 
   abbrev pub Later : Transcript → (d v y : List ℕ) → Transcript → (w′ c′ s′ : List ℕ) → Type 0
   Later h d v y u w′ c′ s′ =
-      LaterReady m q rb rf ns (length ws) (length x) (length v) (length c) (length y) (length d)
+      LaterReady m q rb rf ns (length ws) (length x) (length v) (length c) (length y) (length d) (h .«squeeze_ctr»)
       → LaterLeft m q rb rf ns v d c y (laterPlayed m q rb rf ns ws x d y h) u w′ c′ s′
 
   -- the products in their places, and the combined table over y
@@ -340,11 +340,11 @@ module _ (rb rf m q : ℕ) (ns : List ℕ) (ab bb cb af bf cf : List Entry) (ws 
   made d y = table rb rf m q (length ns) ab bb cb af bf cf ws x w s t d y
 
   pub prove-in-is : (h : Transcript) (d v s₃ : List ℕ) (u : Transcript) (w′ c′ s′ : List ℕ)
-      → OuterDone m q rb rf (length ns) six w t h d v → s₃ ≡ made d (outerRoom m q rb rf (length ns) six w) → Elements (elements x) × Later h d v s₃ u w′ c′ s′
+      → OuterDone m q rb rf (length ns) six w t h d v → s₃ ≡ made d (outerRoom m q rb rf (length ns) six w t) → Elements (elements x) × Later h d v s₃ u w′ c′ s′
       → proveRefusal same ws x t w c s ≡ 0 → provedInPlace 0 u w′ c′ s′ ≡ proveOutcome same ws x t w c s
   unfolding lentOf proveRefusal
   prove-in-is h d v s₃ u w′ c′ s′ e₂ e₄ e₅ z =
-      let ok : Provable same ws x (length w) (length c) (length s) = provable same ws x (t .«squeeze_ctr») (length w) (length c) (length s) z in
+      let ok : Provable same ws x (length w) (length c) (length s) (t .«squeeze_ctr») = provable same ws x (t .«squeeze_ctr») (length w) (length c) (length s) z in
       let T : List ℕ = scratchFor (Z same ws x w c s t ok) (blockWords q rb rf) (S₁ same ws x w c s t ok) in
       let S₂ : List ℕ = made (d₂ same ws x w c s t ok) T in
       let E₃ : s₃ ≡ S₂ = e₄ ∙ ap (λ (y : List ℕ). made y T) (e₂ .1) in

@@ -24,7 +24,7 @@ use Rattle.magnetar_protocol.specs.Shape.{logCols, beforeInner, proofElements}
 use Rattle.magnetar_protocol.specs.Draws.{drawCount}
 use Rattle.magnetar_protocol.specs.Schedule.{outline}
 use Rattle.magnetar_protocol.specs.Stepwise.{Steps}
-use Rattle.magnetar_rounds.specs.Entries.{outerRefusal, outerPlayed, blockWords, innerRefusal, innerPlayed, answerFor, proofFor, drawsFor, scratchFor}
+use Rattle.magnetar_rounds.specs.Entries.{outerRoundsRefusal, outerPlayed, blockWords, innerRoundsRefusal, innerPlayed, answerFor, proofFor, drawsFor, scratchFor}
 use Rattle.magnetar_rounds.specs.declared.answer.RoundsAnswer.{RoundsAnswer}
 use Rattle.magnetar_checks.specs.Claims.{claimsOut}
 use Rattle.magnetar_spartan.specs.Ready.{FoldReady, InnerReady}
@@ -97,10 +97,10 @@ module _ (m q rb rf l b f a k : ℕ) (ns x w d s : List ℕ) (t : Transcript) (e
   P = innerPlayed (outline m 1 1 1 ns) x s t
 
   abbrev Z : ℕ
-  Z = innerRefusal m ns x (take (length w - a) (drop a w)) (take (length d - k) (drop k d)) s
+  Z = innerRoundsRefusal m ns x (take (length w - a) (drop a w)) (take (length d - k) (drop k d)) s t
 
   pub inner-ends : (A : RoundsAnswer) (w′ d′ s′ : List ℕ) → A ≡ answerFor Z P t → w′ ≡ proofFor Z P (take (length w - a) (drop a w))
-      → d′ ≡ drawsFor Z P (take (length d - k) (drop k d)) → s′ ≡ scratchFor Z (6 * m) s → InnerReady m ns (length x)
+      → d′ ≡ drawsFor Z P (take (length d - k) (drop k d)) → s′ ≡ scratchFor Z (6 * m) s → InnerReady m ns (length x) (t .«squeeze_ctr»)
       → InnerLeft m q rb rf ns w d s P (A .transcript) (putMid a (length w - a) w w′) (putMid k (length d - k) d d′) s′
   inner-ends A w′ d′ s′ eA ew ed es I hw hd hs =
       let ea : a ≡ 2 * (8 * l + 4 * b + 4 * f + 6) = omega (arith, ha, hw, el, eb, ef) in
@@ -108,7 +108,7 @@ module _ (m q rb rf l b f a k : ℕ) (ns x w d s : List ℕ) (t : Transcript) (e
       let fa : a ≡ saidBefore q rb rf = rw (← el, ← eb, ← ef) ea in
       let fk : k ≡ drawnBefore q rb rf = rw (← el, ← eb, ← ef) ek in
       let z : Z ≡ 0 =
-      inner-none m ns x (take (length w - a) (drop a w)) (take (length d - k) (drop k d)) s I
+      inner-none m ns x (take (length w - a) (drop a w)) (take (length d - k) (drop k d)) s t I
       (rw (back-part d k, length-drop) (omega (arith, fk, hd))) (rw (back-part w a, length-drop) (omega (arith, fa, hw))) hs in
       let r = finish-left m q rb rf l b f ns x w d s t el eb ef I hw hd hs A w′ d′ (rw (ea, ek) at eA) (rw (ea, ek) at ew) (rw (ea, ek) at ed) in
       let pw : 2 * beforeInner (outline m q rb rf ns) ≡ saidBefore q rb rf = omega arith in
@@ -120,10 +120,10 @@ module _ (m q rb rf l b f a k : ℕ) (ns x w d s : List ℕ) (t : Transcript) (e
       )
 
 -- ---- the inner rounds and the claims
-pub claims-left : (m q b f : ℕ) (ns w d c s : List ℕ) (p : Steps) (u : Transcript) (w′ d′ c′ s′ : List ℕ) (x : ℕ)
-    → (InnerReady m ns x → InnerLeft m q b f ns w d s p u w′ d′ s′) → c′ ≡ claimsOut m q b f ns w′ d′ c
-    → InnerReady m ns x → ClaimsLeft m q b f ns w d c s p u w′ c′ s′
-claims-left m q b f ns w d c s p u w′ d′ c′ s′ x h e I hw hd hs =
+pub claims-left : (m q b f : ℕ) (ns w d c s : List ℕ) (p : Steps) (u : Transcript) (w′ d′ c′ s′ : List ℕ) (x n : ℕ)
+    → (InnerReady m ns x n → InnerLeft m q b f ns w d s p u w′ d′ s′) → c′ ≡ claimsOut m q b f ns w′ d′ c
+    → InnerReady m ns x n → ClaimsLeft m q b f ns w d c s p u w′ c′ s′
+claims-left m q b f ns w d c s p u w′ d′ c′ s′ x n h e I hw hd hs =
     let r = h I hw hd hs in (r .0, r .1, e ∙ ap₂ (λ (i j : List ℕ). claimsOut m q b f ns i j c) (r .1) (r .2), r .3)
 
 -- ---- on the front of what is lent
@@ -134,11 +134,11 @@ front-put n s t = let e : n - 0 ≡ n = omega arith in rw e
 front-part : (n : ℕ) (s : List ℕ) → take (n - 0) (drop 0 s) ≡ take n s
 front-part n s = let e : n - 0 ≡ n = omega arith in rw e
 
-module _ (m q b f i k n : ℕ) (ns w d c s : List ℕ) (p : Steps) (x : ℕ) (ei : i ≡ min (proofWordsOf m q b f (length ns)) (length w))
+module _ (m q b f i k n : ℕ) (ns w d c s : List ℕ) (p : Steps) (x y : ℕ) (ei : i ≡ min (proofWordsOf m q b f (length ns)) (length w))
     (ek : k ≡ min (claimWordsOf m q (length ns)) (length c)) (en : n ≡ drawWordsOf m q b f) where
   pub end-left : (u : Transcript) (w′ c′ s′ : List ℕ)
-      → (InnerReady m ns x → ClaimsLeft m q b f ns (take (i - 0) (drop 0 w)) (take (n - 0) (drop 0 d)) (take (k - 0) (drop 0 c)) s p u w′ c′ s′)
-      → EndReady m q b f ns x (length w) (length c) (length s) (length d)
+      → (InnerReady m ns x y → ClaimsLeft m q b f ns (take (i - 0) (drop 0 w)) (take (n - 0) (drop 0 d)) (take (k - 0) (drop 0 c)) s p u w′ c′ s′)
+      → EndReady m q b f ns x (length w) (length c) (length s) (length d) y
       → EndLeft m q b f ns w d c s p u (putMid 0 (i - 0) w w′) (putMid 0 (k - 0) c c′) s′
   end-left u w′ c′ s′ h E =
       let segments : length ns ≤ 64 = E .inner .segments in
@@ -159,7 +159,7 @@ module _ (m q b f i k n : ℕ) (ns w d c s : List ℕ) (p : Steps) (x : ℕ) (ei
 
 -- ---- the second part
 module _ (m q b f : ℕ) (ns ws x w d c s : List ℕ) (t : Transcript)
-    (L : LaterReady m q b f ns (length ws) (length x) (length w) (length c) (length s) (length d)) where
+    (L : LaterReady m q b f ns (length ws) (length x) (length w) (length c) (length s) (length d) (t .«squeeze_ctr»)) where
   even : 2 * (m / 2) ≡ m
   even = halves m (L .end .inner .columns)
 
@@ -189,7 +189,7 @@ module _ (m q b f : ℕ) (ns ws x w d c s : List ℕ) (t : Transcript)
     unfolding innerPlayed
     steps-are = rw (front-is, columns-are)
 
-    pub end-sizes : EndReady m q b f ns (length x) (length w) (length c) (length s₁) (length d)
+    pub end-sizes : EndReady m q b f ns (length x) (length w) (length c) (length s₁) (length d) (t .«squeeze_ctr»)
     end-sizes = record {
       inner = L .end .inner;
       drawn = L .end .drawn;
@@ -226,12 +226,12 @@ module _ (m q b f : ℕ) (ns ws x w d c s : List ℕ) (t : Transcript)
 -- ---- the outer rounds
 pub outer-ends : (m q b f k i n : ℕ) (w s : List ℕ) (t : Transcript) (A : RoundsAnswer) (u : Transcript) (w′ d′ s′ : List ℕ)
     → i ≡ min (proofWordsOf m q b f k) (length w) → n ≡ drawWordsOf m q b f
-    → A ≡ answerFor (outerRefusal q b f (take (i - 0) (drop 0 w)) (take (n - 0) (drop 0 (replicate 256 0))) s) (outerPlayed q b f s t) t
-    → w′ ≡ proofFor (outerRefusal q b f (take (i - 0) (drop 0 w)) (take (n - 0) (drop 0 (replicate 256 0))) s) (outerPlayed q b f s t) (take (i - 0) (drop 0 w))
-    → d′ ≡ drawsFor (outerRefusal q b f (take (i - 0) (drop 0 w)) (take (n - 0) (drop 0 (replicate 256 0))) s) (outerPlayed q b f s t) (take (n - 0) (drop 0 (replicate 256 0)))
-    → s′ ≡ scratchFor (outerRefusal q b f (take (i - 0) (drop 0 w)) (take (n - 0) (drop 0 (replicate 256 0))) s) (blockWords q b f) s
+    → A ≡ answerFor (outerRoundsRefusal q b f (take (i - 0) (drop 0 w)) (take (n - 0) (drop 0 (replicate 256 0))) s t) (outerPlayed q b f s t) t
+    → w′ ≡ proofFor (outerRoundsRefusal q b f (take (i - 0) (drop 0 w)) (take (n - 0) (drop 0 (replicate 256 0))) s t) (outerPlayed q b f s t) (take (i - 0) (drop 0 w))
+    → d′ ≡ drawsFor (outerRoundsRefusal q b f (take (i - 0) (drop 0 w)) (take (n - 0) (drop 0 (replicate 256 0))) s t) (outerPlayed q b f s t) (take (n - 0) (drop 0 (replicate 256 0)))
+    → s′ ≡ scratchFor (outerRoundsRefusal q b f (take (i - 0) (drop 0 w)) (take (n - 0) (drop 0 (replicate 256 0))) s t) (blockWords q b f) s
     → u ≡ A .transcript
-    → OuterDone m q b f k s w t u (putMid 0 (n - 0) (replicate 256 0) d′) (putMid 0 (i - 0) w w′) × (s′ ≡ outerRoom m q b f k s w)
+    → OuterDone m q b f k s w t u (putMid 0 (n - 0) (replicate 256 0) d′) (putMid 0 (i - 0) w w′) × (s′ ≡ outerRoom m q b f k s w t)
 outer-ends m q b f k i n w s t A u w′ d′ s′ ei en eA ew ed es eu = rw (
   eu,
   eA,

@@ -16,7 +16,7 @@ use Rattle.magnetar_protocol.specs.Shape.{proofElements}
 use Rattle.magnetar_protocol.specs.Draws.{drawCount}
 use Rattle.magnetar_protocol.specs.Schedule.{outline}
 use Rattle.magnetar_protocol.specs.Stepwise.{Steps, begin, innerAll}
-use Rattle.magnetar_rounds.specs.Entries.{proofFor, drawsFor, scratchFor, blockWords, outerRefusal, outerPlayed}
+use Rattle.magnetar_rounds.specs.Entries.{proofFor, drawsFor, scratchFor, blockWords, outerRoundsRefusal, outerPlayed}
 use Rattle.magnetar_checks.specs.Claims.{claimsOut}
 use Rattle.magnetar_spartan.specs.Ready.{InnerReady}
 use Rattle.magnetar_records_prover.specs.Parts.{proofWordsOf, claimWordsOf, proverRoomWords}
@@ -26,21 +26,21 @@ abbrev pub drawWordsOf : (m q b f : ℕ) → ℕ
 drawWordsOf m q b f = min (2 * drawCount (outline m q b f [])) 256
 
 -- the refusal of the outer rounds, with the words w for the proof and s for the tables
-abbrev pub outerNumber : (m q b f k : ℕ) → (w s : List ℕ) → ℕ
-outerNumber m q b f k w s =
-    outerRefusal q b f (take (min (proofWordsOf m q b f k) (length w)) w) (take (drawWordsOf m q b f) (replicate 256 0)) s
+abbrev pub outerNumber : (m q b f k : ℕ) → (w s : List ℕ) → Transcript → ℕ
+outerNumber m q b f k w s t =
+    outerRoundsRefusal q b f (take (min (proofWordsOf m q b f k) (length w)) w) (take (drawWordsOf m q b f) (replicate 256 0)) s t
 
 -- what the outer rounds over the tables in front of s leave of the proof's words w, for k segments: the transcript h, the words d of the
 -- draws, and w′
 abbrev pub OuterDone : (m q b f k : ℕ) → (s w : List ℕ) → Transcript → Transcript → (d w′ : List ℕ) → Type 0
 OuterDone m q b f k s w t h d w′ =
-    (h ≡ unlessRefused (outerNumber m q b f k w s) (outerPlayed q b f s t .played .transcript) t)
-    × (d ≡ drawsFor (outerNumber m q b f k w s) (outerPlayed q b f s t) (take (drawWordsOf m q b f) (replicate 256 0)) ++ drop (drawWordsOf m q b f) (replicate 256 0))
-    × (w′ ≡ proofFor (outerNumber m q b f k w s) (outerPlayed q b f s t) (take (min (proofWordsOf m q b f k) (length w)) w) ++ drop (min (proofWordsOf m q b f k) (length w)) w)
+    (h ≡ unlessRefused (outerNumber m q b f k w s t) (outerPlayed q b f s t .played .transcript) t)
+    × (d ≡ drawsFor (outerNumber m q b f k w s t) (outerPlayed q b f s t) (take (drawWordsOf m q b f) (replicate 256 0)) ++ drop (drawWordsOf m q b f) (replicate 256 0))
+    × (w′ ≡ proofFor (outerNumber m q b f k w s t) (outerPlayed q b f s t) (take (min (proofWordsOf m q b f k) (length w)) w) ++ drop (min (proofWordsOf m q b f k) (length w)) w)
 
 -- the scratch s when they have ended
-abbrev pub outerRoom : (m q b f k : ℕ) → (s w : List ℕ) → List ℕ
-outerRoom m q b f k s w = scratchFor (outerNumber m q b f k w s) (blockWords q b f) s
+abbrev pub outerRoom : (m q b f k : ℕ) → (s w : List ℕ) → Transcript → List ℕ
+outerRoom m q b f k s w t = scratchFor (outerNumber m q b f k w s t) (blockWords q b f) s
 
 -- the words of the proof and of the draws before the inner rounds, and the place of the first draw for the logins' point
 abbrev pub saidBefore : (q b f : ℕ) → ℕ
@@ -80,9 +80,10 @@ ClaimsLeft m q b f ns w d c s p u w′ c′ s′ =
     × (s′ ≡ replicate (6 * m) 0 ++ drop (6 * m) s)
 
 -- ---- the inner rounds and the claims, on the front of what is lent
--- what they ask for: so many public words x, and room w for the proof, c for the claims, s of scratch and d for the draws
-pub record EndReady (m q b f : ℕ) (ns : List ℕ) (x w c s d : ℕ) : Type 0 where
-  pub inner : InnerReady m ns x
+-- what they ask for: so many public words x, and room w for the proof, c for the claims, s of scratch and d for the draws,
+-- and the counter n of the transcript
+pub record EndReady (m q b f : ℕ) (ns : List ℕ) (x w c s d n : ℕ) : Type 0 where
+  pub inner : InnerReady m ns x n
   pub drawn : 2 * drawCount (outline m q b f ns) ≤ 256
   pub proof : proofWordsOf m q b f (length ns) ≤ w
   pub claims : claimWordsOf m q (length ns) ≤ c
@@ -97,9 +98,10 @@ EndLeft m q b f ns w d c s p u w′ c′ s′ =
     × (s′ ≡ replicate (6 * m) 0 ++ drop (6 * m) s)
 
 -- ---- the whole second part
--- what it asks for: so many packed words ws, public words x, and room w for the proof, c for the claims, s of scratch and d for the draws
-pub record LaterReady (m q b f : ℕ) (ns : List ℕ) (ws x w c s d : ℕ) : Type 0 where
-  pub end : EndReady m q b f ns x w c (6 * m) d
+-- what it asks for: so many packed words ws, public words x, and room w for the proof, c for the claims, s of scratch and d for the draws,
+-- and the counter n
+pub record LaterReady (m q b f : ℕ) (ns : List ℕ) (ws x w c s d n : ℕ) : Type 0 where
+  pub end : EndReady m q b f ns x w c (6 * m) d n
   pub logins : Sized 1 4096 q
   pub packed : ws ≡ q * loginWords (m / 2)
   pub place : 2 * loginAt q b f + 2 * log₂ q ≤ 256

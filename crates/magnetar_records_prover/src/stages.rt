@@ -54,7 +54,7 @@ pub(crate) fn outer(
     k: usize,
     t: Transcript,
 ) -> OuterDraws
-    ensures { λ r. ⌜ OuterDone m q rb rf k (now (s .entry)) (now (proof .entry)) t (r .«transcript») (r .«draws») (now (proof .exit)) × (now (s .exit) ≡ outerRoom m q rb rf k (now (s .entry)) (now (proof .entry))) ⌝ }
+    ensures { λ r. ⌜ OuterDone m q rb rf k (now (s .entry)) (now (proof .entry)) t (r .«transcript») (r .«draws») (now (proof .exit)) × (now (s .exit) ≡ outerRoom m q rb rf k (now (s .entry)) (now (proof .entry)) t) ⌝ }
 {
     let i = steps::least(parts::proof_words(m, q, rb, rf, k), proof.len());
     let d = steps::least(stages::draw_words(m, q, rb, rf), 256);
@@ -136,7 +136,7 @@ fn inner_part(
     x: &[u64],
     t: Transcript,
 ) -> Transcript
-    ensures { λ r. ⌜ (InnerReady m (now (lens .entry)) (length (now (x .entry))) → InnerLeft m q rb rf (now (lens .entry)) (now (proof .entry)) (now (draws .entry)) (now (s .entry)) (innerPlayed (outline m 1 1 1 (now (lens .entry))) (now (x .entry)) (now (s .entry)) t) r (now (proof .exit)) (now (draws .exit)) (now (s .exit))) ⌝ }
+    ensures { λ r. ⌜ (InnerReady m (now (lens .entry)) (length (now (x .entry))) (t .«squeeze_ctr») → InnerLeft m q rb rf (now (lens .entry)) (now (proof .entry)) (now (draws .entry)) (now (s .entry)) (innerPlayed (outline m 1 1 1 (now (lens .entry))) (now (x .entry)) (now (s .entry)) t) r (now (proof .exit)) (now (draws .exit)) (now (s .exit))) ⌝ }
 {
     let l = steps::log(q);
     let b = steps::log(rb);
@@ -161,7 +161,7 @@ fn end_in(
     x: &[u64],
     t: Transcript,
 ) -> Transcript
-    ensures { λ r. ⌜ (InnerReady m (now (lens .entry)) (length (now (x .entry))) → ClaimsLeft m q rb rf (now (lens .entry)) (now (proof .entry)) (now (draws .entry)) (now (claims .entry)) (now (s .entry)) (innerPlayed (outline m 1 1 1 (now (lens .entry))) (now (x .entry)) (now (s .entry)) t) r (now (proof .exit)) (now (claims .exit)) (now (s .exit))) ⌝ }
+    ensures { λ r. ⌜ (InnerReady m (now (lens .entry)) (length (now (x .entry))) (t .«squeeze_ctr») → ClaimsLeft m q rb rf (now (lens .entry)) (now (proof .entry)) (now (draws .entry)) (now (claims .entry)) (now (s .entry)) (innerPlayed (outline m 1 1 1 (now (lens .entry))) (now (x .entry)) (now (s .entry)) t) r (now (proof .exit)) (now (claims .exit)) (now (s .exit))) ⌝ }
 {
     let u = inner_part(proof, draws, s, m, q, rb, rf, lens, x, t);
     let _done = claims::write_claims(m, q, rb, rf, lens, proof, draws, claims);
@@ -182,7 +182,7 @@ fn end(
     d: [u64; 256],
     t: Transcript,
 ) -> Transcript
-    ensures { λ r. ⌜ (EndReady m q rb rf (now (lens .entry)) (length (now (x .entry))) (length (now (proof .entry))) (length (now (claims .entry))) (length (now (s .entry))) (length d)
+    ensures { λ r. ⌜ (EndReady m q rb rf (now (lens .entry)) (length (now (x .entry))) (length (now (proof .entry))) (length (now (claims .entry))) (length (now (s .entry))) (length d) (t .«squeeze_ctr»)
         → EndLeft m q rb rf (now (lens .entry)) (now (proof .entry)) d (now (claims .entry)) (now (s .entry)) (innerPlayed (outline m 1 1 1 (now (lens .entry))) (now (x .entry)) (now (s .entry)) t) r (now (proof .exit)) (now (claims .exit)) (now (s .exit))) ⌝ }
 {
     let k = lens.len();
@@ -220,7 +220,7 @@ pub(crate) fn later(
     o: OuterDraws,
 ) -> Transcript
     ensures { λ r. ⌜ Elements (elements (now (x .entry)))
-        × (LaterReady m q rb rf (now (lens .entry)) (length (now (packed .entry))) (length (now (x .entry))) (length (now (proof .entry))) (length (now (claims .entry))) (length (now (s .entry))) (length (o .«draws»))
+        × (LaterReady m q rb rf (now (lens .entry)) (length (now (packed .entry))) (length (now (x .entry))) (length (now (proof .entry))) (length (now (claims .entry))) (length (now (s .entry))) (length (o .«draws»)) (o .«transcript» .«squeeze_ctr»)
         → LaterLeft m q rb rf (now (lens .entry)) (now (proof .entry)) (o .«draws») (now (claims .entry)) (now (s .entry)) (laterPlayed m q rb rf (now (lens .entry)) (now (packed .entry)) (now (x .entry)) (o .«draws») (now (s .entry)) (o .«transcript»)) r (now (proof .exit)) (now (claims .exit)) (now (s .exit))) ⌝ }
 {
     let d = o.draws;

@@ -19,7 +19,8 @@ use Rattle.magnetar_r1cs.specs.Table.{Point}
 use Rattle.magnetar_r1cs.proofs.Points.{eq-built}
 use Rattle.magnetar_r1cs.proofs.TableLaws.{elements-words}
 use Rattle.magnetar_sumcheck.specs.Messages.{outerStart}
-use Rattle.magnetar_rounds.specs.Held.{tableAt, outerIn, heardOne, Said, saidIn, saidEach, threeIn, Begun}
+use Rattle.magnetar_rounds.specs.Entries.{tableAt}
+use Rattle.magnetar_rounds.specs.Held.{outerIn, heardOne, Said, saidIn, saidEach, threeIn, Begun}
 use Rattle.magnetar_rounds.proofs.Slots.{part-size, part-is, fore-back, fore-length, mid-front, mid-at}
 use Rattle.magnetar_rounds.proofs.Said.{elements-take, table-first}
 

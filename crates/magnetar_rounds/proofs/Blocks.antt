@@ -86,9 +86,6 @@ module _ (proof t u v w : List ℕ) (p : ℕ) (room : 2 * p + 16 ≤ length proo
   pl : length p₁ ≡ length proof
   pl = mid-length proof t (2 * p) 8 (omega arith) tl
 
-  pub told-length : length p₂ ≡ length proof
-  told-length = mid-length p₁ u (2 * p + 8) 8 (omega (arith, pl)) ul ∙ pl
-
   upto : take (2 * p + 8 + 8) p₂ ≡ take (2 * p) proof ++ words (v ++ w)
   upto =
       mid-upto p₁ u (2 * p + 8) 8 (omega (arith, pl)) ul

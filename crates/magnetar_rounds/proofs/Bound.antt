@@ -12,7 +12,8 @@ use Rattle.magnetar_field.specs.Multilinear.{bindVar}
 use Rattle.magnetar_field.specs.Entries.{bindOut}
 use Rattle.magnetar_sumcheck.specs.Entries.{dropOut}
 use Rattle.magnetar_sumcheck.specs.Outer.{dropVar}
-use Rattle.magnetar_rounds.specs.Held.{tableAt, Table}
+use Rattle.magnetar_rounds.specs.Entries.{tableAt}
+use Rattle.magnetar_rounds.specs.Held.{Table}
 use Rattle.magnetar_rounds.proofs.Slots.{part-is, part-size, mid-length, mid-before, mid-behind, mid-in, fore-length, fore-in, fore-back, fore-behind}
 use Rattle.magnetar_rounds.proofs.Whole.{bound-in, bound-length, dropped-in, dropped-length}
 

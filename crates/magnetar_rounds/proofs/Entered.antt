@@ -17,8 +17,8 @@ use Rattle.magnetar_hash.specs.declared.transcript.Transcript.{Transcript}
 use Rattle.magnetar_layout.specs.Layout.{offset, localVars}
 use Rattle.magnetar_protocol.specs.Schedule.{outline}
 use Rattle.magnetar_protocol.specs.Stepwise.{Steps, InnerSteps, begin, say, sayEach, innerSteps, innerRun, segmentValue, lowDraws, ended, innerAll}
-use Rattle.magnetar_rounds.specs.Held.{tableAt, Locals, segmentIn, innerEnded, innerWhole}
-use Rattle.magnetar_rounds.specs.Entries.{innerPlayed}
+use Rattle.magnetar_rounds.specs.Held.{Locals, segmentIn, innerEnded, innerWhole}
+use Rattle.magnetar_rounds.specs.Entries.{tableAt, innerPlayed}
 use Rattle.magnetar_rounds.proofs.Slots.{take-of-drop}
 
 -- the words of the first n elements of p, which has no more, over those that were lent

@@ -11,6 +11,7 @@ use lib.Pow.{pow-mono, pow-pos}
 use borrow.Author.Tests.{ltb-false, eqb-true, not-false}
 use Rattle.magnetar_field.specs.Sizes.{log₂}
 use Rattle.magnetar_field.proofs.Log2.{log₂-pow}
+use Rattle.magnetar_hash.specs.declared.transcript.Transcript.{Transcript}
 use Rattle.magnetar_layout.specs.Entries.{layoutRefusal}
 use Rattle.magnetar_layout.specs.Tests.{Tests, note, noted, isSize, columnTests, publicTests, layoutTests, roomTest}
 use Rattle.magnetar_layout.proofs.Noted.{noted-rest, noted-clear}
@@ -19,7 +20,7 @@ use Rattle.magnetar_layout.proofs.Laid.{sound, each-size}
 use Rattle.magnetar_r1cs.proofs.Points.{log-most}
 use Rattle.magnetar_layout.proofs.Readings.{log-le}
 use Rattle.magnetar_rounds.specs.Held.{Local, Locals}
-use Rattle.magnetar_rounds.specs.Entries.{innerRefusal}
+use Rattle.magnetar_rounds.specs.Entries.{counterTest, innerRoundsRefusal}
 
 -- a size that is a power of two of at least two is even
 pub even-size : (m : ℕ) → Sized 2 65536 m → 2 * (m / 2) ≡ m
@@ -74,15 +75,15 @@ pub record InnerFits (m : ℕ) (ns x proof draws s : List ℕ) : Type 0 where
   pub said : 2 * (3 * log₂ m + 1 + length ns) ≤ length proof
   pub scratch : 6 * m ≤ length s
 
-pub inner-fits : (m : ℕ) (ns x proof draws s : List ℕ) → innerRefusal m ns x proof draws s ≡ 0 → InnerFits m ns x proof draws s
-unfolding innerRefusal
-inner-fits m ns x proof draws s e =
-    let k = noted-clear 0 (columnTests m ++ publicTests m x ++ layoutTests (m / 2) ns ++ (roomTest (2 * log₂ m) draws ++ roomTest (2 * (3 * log₂ m + 1 + length ns)) proof ++ roomTest (6 * m) s)) refl e .1 in
+pub inner-fits : (m : ℕ) (ns x proof draws s : List ℕ) (t : Transcript) → innerRoundsRefusal m ns x proof draws s t ≡ 0 → InnerFits m ns x proof draws s
+unfolding innerRoundsRefusal
+inner-fits m ns x proof draws s t e =
+    let k = noted-clear 0 (columnTests m ++ publicTests m x ++ layoutTests (m / 2) ns ++ (counterTest t ++ (roomTest (2 * log₂ m) draws ++ roomTest (2 * (3 * log₂ m + 1 + length ns)) proof ++ roomTest (6 * m) s))) refl e .1 in
     record {
       sizes = sizes-of m ns x (noted-good (k .0) (k .1 .0) (k .1 .1 .0) (k .1 .1 .1 .0) (k .1 .1 .1 .1 .0));
-      drawn = ltb-false _ _ (k .1 .1 .1 .1 .1 .0);
-      said = ltb-false _ _ (k .1 .1 .1 .1 .1 .1 .0);
-      scratch = ltb-false _ _ (k .1 .1 .1 .1 .1 .1 .1 .0);
+      drawn = ltb-false _ _ (k .1 .1 .1 .1 .1 .1 .0);
+      said = ltb-false _ _ (k .1 .1 .1 .1 .1 .1 .1 .0);
+      scratch = ltb-false _ _ (k .1 .1 .1 .1 .1 .1 .1 .1 .0);
     }
   where
     noted-good : {a b c d f : Bool} → a ≡ false → b ≡ false → c ≡ false → d ≡ false → f ≡ false

@@ -14,7 +14,8 @@ use Rattle.magnetar_hash.specs.declared.transcript.Transcript.{Transcript}
 use Rattle.magnetar_hash.specs.Transcript as transcript
 use Rattle.magnetar_sumcheck.specs.Inner.{innerMessage, innerSums}
 use Rattle.magnetar_protocol.specs.Stepwise.{Steps, InnerSteps, innerStep, innerSteps, say, ask, answerOf}
-use Rattle.magnetar_rounds.specs.Held.{tableAt, stepsIn, innerIn, Table}
+use Rattle.magnetar_rounds.specs.Entries.{tableAt}
+use Rattle.magnetar_rounds.specs.Held.{stepsIn, innerIn, Table}
 use Rattle.magnetar_rounds.proofs.Said.{round-said}
 
 pub inner-three : (v : ℕ) (t z : List ℕ) → length (innerMessage v t z) ≡ 3

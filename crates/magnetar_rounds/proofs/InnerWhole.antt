@@ -14,7 +14,8 @@ use Rattle.magnetar_hash.specs.Bytes.{ascii}
 use Rattle.magnetar_hash.specs.declared.transcript.Transcript.{Transcript}
 use Rattle.magnetar_protocol.specs.Schedule.{numbered}
 use Rattle.magnetar_protocol.specs.Stepwise.{Steps, InnerSteps, begin, say, sayEach, innerSteps}
-use Rattle.magnetar_rounds.specs.Held.{tableAt, stepsIn, innerIn, Local, Locals, segmentIn, Said, saidIn, saidEach, heardOne, innerEnded, innerWhole}
+use Rattle.magnetar_rounds.specs.Entries.{tableAt}
+use Rattle.magnetar_rounds.specs.Held.{stepsIn, innerIn, Local, Locals, segmentIn, Said, saidIn, saidEach, heardOne, innerEnded, innerWhole}
 use Rattle.magnetar_rounds.proofs.Slots.{take-of-drop, fore-back}
 use Rattle.magnetar_rounds.proofs.Said.{steps-eq}
 use Rattle.magnetar_rounds.proofs.InnerSteps.{inner-eq}

@@ -19,13 +19,24 @@ use Rattle.magnetar_r1cs.specs.Batch.{Relation}
 use Rattle.magnetar_protocol.specs.Schedule.{outline}
 use Rattle.magnetar_protocol.specs.Stepwise.{Steps, OuterSteps, RowSteps, Tables, begin, sayEach, askTimes, sharedSteps, rowSteps, tauSteps, outerBegin, binRows, fldRows, outerSteps, terminalsLeft, outerAll}
 use Rattle.magnetar_protocol.proofs.StepLaws.{row-rounds}
-use Rattle.magnetar_rounds.specs.Held.{tableAt, stepsIn, outerIn, rowIn, tablesIn, saidIn, saidEach, threeIn, Begun}
+use Rattle.magnetar_rounds.specs.Entries.{tableAt, tablesIn}
+use Rattle.magnetar_rounds.specs.Held.{stepsIn, outerIn, rowIn, saidIn, saidEach, threeIn, Begun}
 use Rattle.magnetar_rounds.specs.Shared.{sharedIn}
 use Rattle.magnetar_rounds.specs.Whole.{tausOf, beginOf, binOf, fldOf, leftOf, endOf, outerWhole}
 use Rattle.magnetar_rounds.proofs.Drawn.{asked-saying}
 use Rattle.magnetar_rounds.proofs.Begun.{begun-outer}
 use Rattle.magnetar_rounds.proofs.InnerWhole.{beside, each-beside}
-use Rattle.magnetar_rounds.proofs.OuterEnds.{drop-of-take}
+
+drop-of-take : (b f : ℕ) (l : List ℕ) → drop b (take (b + f) l) ≡ take f (drop b l)
+drop-of-take zero f l = let e : zero + f ≡ f = omega arith in ap (λ (n : ℕ). take n l) e
+drop-of-take (suc b) f [] = let e : suc b + f ≡ suc (b + f) = omega arith in ap (λ (n : ℕ). drop (suc b) (take {A = ℕ} n [])) e ∙ none f
+  where
+    none : (f : ℕ) → [] ≡ take {A = ℕ} f []
+    none zero = refl
+    none (suc f) = refl
+drop-of-take (suc b) f (x ∷ l) =
+    let e : suc b + f ≡ suc (b + f) = omega arith in
+    ap (λ (n : ℕ). drop (suc b) (take n (x ∷ l))) e ∙ drop-of-take b f l
 
 -- with the logarithms of a relation it is the run's
 pub whole-is : (m q rb rf : ℕ) (ns : List ℕ) (T : Tables) (t : Transcript)

@@ -10,7 +10,8 @@ use lib.Seq.{length-take-le, take-suc-set, take-add, take-take, drop-drop, paste
 use borrow.Rule.Slice.PartMut.{putMid, mid-len}
 use Rattle.magnetar_field.specs.Words.{elements, stored, overlaid}
 use Rattle.magnetar_field.proofs.Elements.{elements-length, elements-stored, overlaid-same, stored-length}
-use Rattle.magnetar_rounds.specs.Held.{tableAt, pasted}
+use Rattle.magnetar_rounds.specs.Entries.{tableAt}
+use Rattle.magnetar_rounds.specs.Held.{pasted}
 use Rattle.magnetar_rounds.proofs.Slots.{take-of-drop, put-length, put-before, put-behind, put-in, put-at, put-from}
 use Rattle.magnetar_rounds.proofs.Said.{elements-take, elements-join}
 

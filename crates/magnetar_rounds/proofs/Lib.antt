@@ -11,7 +11,6 @@ pub mod Entered
 pub mod RowSteps
 pub mod Drawn
 pub mod Begun
-pub mod OuterEnds
 pub mod Blocks
 pub mod SharedSteps
 pub mod Joined

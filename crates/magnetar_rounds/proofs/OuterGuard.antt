@@ -10,12 +10,13 @@ use lib.ListN.{length, take, drop}
 use lib.Pow.{pow-mono, pow-add}
 use borrow.Author.Tests.{ltb-false}
 use Rattle.magnetar_field.specs.Sizes.{log₂}
+use Rattle.magnetar_hash.specs.declared.transcript.Transcript.{Transcript}
 use Rattle.magnetar_layout.specs.Tests.{noted, roomTest}
 use Rattle.magnetar_layout.proofs.Noted.{noted-append, noted-clear}
 use Rattle.magnetar_layout.proofs.SizeLaws.{Sized, not-bad}
 use Rattle.magnetar_r1cs.proofs.Points.{log-most}
 use Rattle.magnetar_rounds.specs.Whole.{Blocks}
-use Rattle.magnetar_rounds.specs.Entries.{countTests, totalTests, outerDrawn, outerSaid, blockWords, outerRefusal}
+use Rattle.magnetar_rounds.specs.Entries.{counterTest, countTests, totalTests, outerDrawn, outerSaid, blockWords, outerRoundsRefusal}
 
 pub record Counts (q rb rf : ℕ) : Type 0 where
   pub logins : Sized 1 4096 q
@@ -53,19 +54,19 @@ pub record OuterFits (q rb rf : ℕ) (proof draws s : List ℕ) : Type 0 where
   pub said : 2 * outerSaid (log₂ q) (log₂ rb) (log₂ rf) ≤ length proof
   pub scratch : blockWords q rb rf ≤ length s
 
-pub outer-fits : (q rb rf : ℕ) (proof draws s : List ℕ) → outerRefusal q rb rf proof draws s ≡ 0 → OuterFits q rb rf proof draws s
-unfolding outerRefusal
-outer-fits q rb rf proof draws s e =
-    let k = noted-clear 0 (countTests q rb rf ++ totalTests q rb rf ++ (roomTest (2 * outerDrawn (log₂ q) (log₂ rb) (log₂ rf)) draws ++ roomTest (2 * outerSaid (log₂ q) (log₂ rb) (log₂ rf)) proof ++ roomTest (blockWords q rb rf) s)) refl e .1 in
+pub outer-fits : (q rb rf : ℕ) (proof draws s : List ℕ) (t : Transcript) → outerRoundsRefusal q rb rf proof draws s t ≡ 0 → OuterFits q rb rf proof draws s
+unfolding outerRoundsRefusal
+outer-fits q rb rf proof draws s t e =
+    let k = noted-clear 0 (countTests q rb rf ++ totalTests q rb rf ++ (counterTest t ++ (roomTest (2 * outerDrawn (log₂ q) (log₂ rb) (log₂ rf)) draws ++ roomTest (2 * outerSaid (log₂ q) (log₂ rb) (log₂ rf)) proof ++ roomTest (blockWords q rb rf) s))) refl e .1 in
     record {
       totals = record {
         counts = record { logins = not-bad (k .0); bin = not-bad (k .1 .0); fld = not-bad (k .1 .1 .0) };
         bin = ltb-false _ _ (k .1 .1 .1 .0);
         fld = ltb-false _ _ (k .1 .1 .1 .1 .0);
       };
-      drawn = ltb-false _ _ (k .1 .1 .1 .1 .1 .0);
-      said = ltb-false _ _ (k .1 .1 .1 .1 .1 .1 .0);
-      scratch = ltb-false _ _ (k .1 .1 .1 .1 .1 .1 .1 .0);
+      drawn = ltb-false _ _ (k .1 .1 .1 .1 .1 .1 .0);
+      said = ltb-false _ _ (k .1 .1 .1 .1 .1 .1 .1 .0);
+      scratch = ltb-false _ _ (k .1 .1 .1 .1 .1 .1 .1 .1 .0);
     }
 
 -- the logarithms

@@ -14,9 +14,9 @@ use Rattle.magnetar_hash.specs.Bytes.{ascii}
 use Rattle.magnetar_hash.specs.declared.transcript.Transcript.{Transcript}
 use Rattle.magnetar_sumcheck.specs.Messages.{Outer}
 use Rattle.magnetar_protocol.specs.Stepwise.{Steps, OuterSteps, Tables, sayEach, askTimes, sharedSteps, rowSteps}
-use Rattle.magnetar_rounds.specs.Held.{stepsIn, outerIn, rowIn, tablesIn, saidIn, saidEach, threeIn, Begun}
+use Rattle.magnetar_rounds.specs.Held.{stepsIn, outerIn, rowIn, saidIn, saidEach, threeIn, Begun}
 use Rattle.magnetar_rounds.specs.Shared.{sharedIn}
-use Rattle.magnetar_rounds.specs.Entries.{blockWords, tablesOf, outerPlayed}
+use Rattle.magnetar_rounds.specs.Entries.{tablesIn, blockWords, tablesOf, outerPlayed}
 use Rattle.magnetar_rounds.specs.Whole.{tausOf, beginOf, binOf, fldOf, endOf, leftIn, outerWhole}
 use Rattle.magnetar_rounds.proofs.Drawn.{asked-saying}
 use Rattle.magnetar_rounds.proofs.InnerWhole.{beside, each-beside}

@@ -22,7 +22,8 @@ use Rattle.magnetar_sumcheck.specs.Outer.{outerMessage, timesEq, dropVar}
 use Rattle.magnetar_sumcheck.specs.Messages.{Outer, outerNext, outerFold}
 use Rattle.magnetar_protocol.specs.Schedule.{numbered}
 use Rattle.magnetar_protocol.specs.Stepwise.{Steps, RowSteps, rowStep, rowSteps}
-use Rattle.magnetar_rounds.specs.Held.{tableAt, stepsIn, outerIn, rowIn, Table, Rows}
+use Rattle.magnetar_rounds.specs.Entries.{tableAt}
+use Rattle.magnetar_rounds.specs.Held.{stepsIn, outerIn, rowIn, Table, Rows}
 use Rattle.magnetar_rounds.proofs.Slots.{take-of-drop}
 use Rattle.magnetar_rounds.proofs.Said.{round-said}
 

@@ -25,7 +25,8 @@ use Rattle.magnetar_layout.specs.Entries.{layoutRefusal, segmentPart}
 use Rattle.magnetar_r1cs.specs.Table.{Point}
 use Rattle.magnetar_layout.proofs.Readings.{part-is}
 use Rattle.magnetar_r1cs.proofs.TableLaws.{elements-words}
-use Rattle.magnetar_rounds.specs.Held.{tableAt, Local, segmentIn, Said, saidIn, saidEach, heardOne}
+use Rattle.magnetar_rounds.specs.Entries.{tableAt}
+use Rattle.magnetar_rounds.specs.Held.{Local, segmentIn, Said, saidIn, saidEach, heardOne}
 use Rattle.magnetar_rounds.proofs.Slots.{part-size, mid-before, mid-at}
 use Rattle.magnetar_rounds.proofs.Said.{elements-take}
 
@@ -77,9 +78,6 @@ module _ (w n k i : ℕ) (ns d s t : List ℕ) (log : k ≡ log₂ n) (here : n 
 -- ---- the loop: what is left, said from where the run stands, is all of them
 pub record Each (label : String) (vs : List ℕ) (start : Said) (i : ℕ) (at : Said) : Type 0 where
   pub left : saidEach label i (drop i vs) at ≡ saidEach label 0 vs start
-
-pub each-start : (label : String) (vs : List ℕ) (p : Said) → Each label vs p 0 p
-each-start label vs p = record { left = refl }
 
 each-step : (label : String) (i v : ℕ) (vs : List ℕ) (p : Said) → saidEach label i (v ∷ vs) p
     ≡ saidEach label (suc i) vs (record { transcript = heardOne (p .transcript) (numbered label i) v; said = p .said ++ (v ∷ []) })

@@ -19,7 +19,8 @@ use Rattle.magnetar_sumcheck.specs.Outer.{dropVar}
 use Rattle.magnetar_sumcheck.specs.Messages.{Outer, outerNext, outerFold}
 use Rattle.magnetar_protocol.specs.Schedule.{numbered}
 use Rattle.magnetar_protocol.specs.Stepwise.{Steps, OuterSteps, sharedStep, sharedSteps}
-use Rattle.magnetar_rounds.specs.Held.{tableAt, stepsIn, outerIn, Table}
+use Rattle.magnetar_rounds.specs.Entries.{tableAt}
+use Rattle.magnetar_rounds.specs.Held.{stepsIn, outerIn, Table}
 use Rattle.magnetar_rounds.specs.Shared.{messageIn, Dropped, Folded, sharedIn, Shared}
 use Rattle.magnetar_rounds.proofs.Slots.{take-of-drop}
 use Rattle.magnetar_rounds.proofs.Said.{round-said}

@@ -2,7 +2,7 @@
 -- Assumes nothing.
 use mathlib.Core.Bool.{not}
 use mathlib.Core.List.{List, [], _∷_, _++_}
-use Prim.Native.Nat.{ℕ, _+_, _*_, _/_}
+use Prim.Native.Nat.{ℕ, _+_, _*_, _/_, _^_}
 use lib.Dec.{ltb}
 use lib.ListN.{length, take, drop, replicate}
 use Rattle.magnetar_field.specs.Refusal.{unlessRefused}
@@ -13,7 +13,6 @@ use Rattle.magnetar_protocol.specs.Schedule.{outline}
 use Rattle.magnetar_protocol.specs.Stepwise.{Steps, Tables, begin, tauSteps, outerAll, innerAll}
 use Rattle.magnetar_r1cs.specs.Batch.{Relation}
 use Rattle.magnetar_layout.specs.Tests.{Tests, noted, isSize, columnTests, publicTests, layoutTests, roomTest}
-use Rattle.magnetar_rounds.specs.Held.{tablesIn}
 use Rattle.magnetar_rounds.specs.declared.answer.RoundsAnswer.{RoundsAnswer}
 
 -- what a run leaves, unless it is refused with z: the answer, the proof's words, the words of the draws, and the scratch of so many
@@ -30,12 +29,17 @@ drawsFor z p draws = unlessRefused z (overlaid (words (p .played .draws)) draws)
 abbrev pub scratchFor : ℕ → ℕ → List ℕ → List ℕ
 scratchFor z n s = unlessRefused z (replicate n 0 ++ drop n s) s
 
+-- 14: the transcript's counter at entry
+abbrev pub counterTest : Transcript → Tests
+counterTest t = (14, not (ltb (t .«squeeze_ctr») (2 ^ 32))) ∷ []
+
 -- ---- `inner_rounds`: m columns, segments of the lengths ns, the public words x
-unfoldable pub innerRefusal : (m : ℕ) → (ns x proof draws s : List ℕ) → ℕ
-innerRefusal m ns x proof draws s =
+unfoldable pub innerRoundsRefusal : (m : ℕ) → (ns x proof draws s : List ℕ) → Transcript → ℕ
+innerRoundsRefusal m ns x proof draws s t =
     noted 0
     (columnTests m ++ publicTests m x ++ layoutTests (m / 2) ns
-    ++ (roomTest (2 * log₂ m) draws ++ roomTest (2 * (3 * log₂ m + 1 + length ns)) proof ++ roomTest (6 * m) s))
+    ++ (counterTest t
+    ++ (roomTest (2 * log₂ m) draws ++ roomTest (2 * (3 * log₂ m + 1 + length ns)) proof ++ roomTest (6 * m) s)))
 
 -- the run: the combined table is in the first 2m words of s, the folded columns in the m words behind
 unfoldable pub innerPlayed : Relation → (x s : List ℕ) → Transcript → Steps
@@ -60,12 +64,28 @@ outerSaid l b f = 8 * l + 4 * b + 4 * f + 6
 abbrev pub blockWords : (q rb rf : ℕ) → ℕ
 blockWords q rb rf = 8 * (q * rb) + 8 * (q * rf)
 
-unfoldable pub outerRefusal : (q rb rf : ℕ) → (proof draws s : List ℕ) → ℕ
-outerRefusal q rb rf proof draws s =
+unfoldable pub outerRoundsRefusal : (q rb rf : ℕ) → (proof draws s : List ℕ) → Transcript → ℕ
+outerRoundsRefusal q rb rf proof draws s t =
     noted 0
     (countTests q rb rf ++ totalTests q rb rf
+    ++ (counterTest t
     ++ (roomTest (2 * outerDrawn (log₂ q) (log₂ rb) (log₂ rf)) draws ++ roomTest (2 * outerSaid (log₂ q) (log₂ rb) (log₂ rf)) proof
-    ++ roomTest (blockWords q rb rf) s))
+    ++ roomTest (blockWords q rb rf) s)))
+
+-- the table of n words at word i
+abbrev pub tableAt : ℕ → ℕ → List ℕ → List ℕ
+tableAt i n s = elements (take n (drop i s))
+
+-- the tables a, b, c of both systems, in blocks whose tables are b and f words apart, at the start
+abbrev pub tablesIn : (b f : ℕ) → (bin fld : List ℕ) → Tables
+tablesIn b f bin fld = record {
+  bin-a = tableAt b b bin;
+  bin-b = tableAt (2 * b) b bin;
+  bin-c = tableAt (3 * b) b bin;
+  fld-a = tableAt f f fld;
+  fld-b = tableAt (2 * f) f fld;
+  fld-c = tableAt (3 * f) f fld;
+}
 
 -- the tables of both systems: four of 2 q rb words, then four of 2 q rf words; the first table of each four is not read
 abbrev pub tablesOf : (q rb rf : ℕ) → List ℕ → Tables

@@ -16,11 +16,8 @@ use Rattle.magnetar_layout.specs.Layout.{offset, localVars}
 use Rattle.magnetar_hash.specs.Bytes.{wordBytes, ascii}
 use Rattle.magnetar_hash.specs.Transcript.{absorbed}
 use Rattle.magnetar_protocol.specs.Schedule.{numbered}
-use Rattle.magnetar_protocol.specs.Stepwise.{Steps, InnerSteps, RowSteps, Tables, begin, say, sayEach, innerSteps}
-
--- the table of n words at word i
-abbrev pub tableAt : ℕ → ℕ → List ℕ → List ℕ
-tableAt i n s = elements (take n (drop i s))
+use Rattle.magnetar_protocol.specs.Stepwise.{Steps, InnerSteps, RowSteps, begin, say, sayEach, innerSteps}
+use Rattle.magnetar_rounds.specs.Entries.{tableAt}
 
 -- the transcript t, with the first a elements of the proof said and the first d elements drawn
 abbrev pub stepsIn : (a d : ℕ) → Transcript → (proof draws : List ℕ) → Steps
@@ -109,17 +106,6 @@ outerIn high tau k w n s = record {
   a = tableAt w n s;
   b = tableAt (2 * w) n s;
   c = tableAt (3 * w) n s;
-}
-
--- the tables a, b, c of both blocks, at the start
-abbrev pub tablesIn : (b f : ℕ) → (bin fld : List ℕ) → Tables
-tablesIn b f bin fld = record {
-  bin-a = tableAt b b bin;
-  bin-b = tableAt (2 * b) b bin;
-  bin-c = tableAt (3 * b) b bin;
-  fld-a = tableAt f f fld;
-  fld-b = tableAt (2 * f) f fld;
-  fld-c = tableAt (3 * f) f fld;
 }
 
 -- a row round: the tau of the variables that are left stand from element o of the draws on

@@ -1,4 +1,4 @@
-pub mod Held
 pub mod Entries
+pub mod Held
 pub mod Shared
 pub mod Whole

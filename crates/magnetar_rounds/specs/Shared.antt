@@ -10,7 +10,8 @@ use Rattle.magnetar_field.specs.Multilinear.{bindVar}
 use Rattle.magnetar_hash.specs.declared.transcript.Transcript.{Transcript}
 use Rattle.magnetar_sumcheck.specs.Outer.{outerMessage, dropVar}
 use Rattle.magnetar_protocol.specs.Stepwise.{OuterSteps}
-use Rattle.magnetar_rounds.specs.Held.{tableAt, stepsIn, outerIn}
+use Rattle.magnetar_rounds.specs.Entries.{tableAt}
+use Rattle.magnetar_rounds.specs.Held.{stepsIn, outerIn}
 
 -- the message that binds variable v of a block
 abbrev pub messageIn : (v k t w n : ℕ) → List ℕ → List ℕ

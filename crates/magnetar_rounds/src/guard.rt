@@ -1,12 +1,13 @@
 // Which refusal applies, in rising order.
 use magnetar_field::sizes;
+use magnetar_hash::transcript::Transcript;
 use magnetar_layout::layout;
 use magnetar_layout::tests;
 ghost use mathlib.Core.Path.{_≡_};
 ghost use mathlib.Core.List.{_++_};
 ghost use Prim.Native.Nat.{ℕ, _*_, _/_, _<_, _≤_};
 ghost use Rattle.magnetar_layout.specs.Tests.{noted, columnTests, publicTests, layoutTests};
-ghost use Rattle.magnetar_rounds.specs.Entries.{innerRefusal, countTests, totalTests, outerDrawn, outerSaid, blockWords, outerRefusal};
+ghost use Rattle.magnetar_rounds.specs.Entries.{counterTest, innerRoundsRefusal, countTests, totalTests, outerDrawn, outerSaid, blockWords, outerRoundsRefusal};
 
 // 1, 3, 8, 9 and 10.
 fn of_sizes(m: usize, lens: &[usize], x: &[u64]) -> u32
@@ -23,6 +24,13 @@ fn of_sizes(m: usize, lens: &[usize], x: &[u64]) -> u32
     layout::refusal(m / 2, lens)
 }
 
+// 14.
+fn of_counter(t: Transcript) -> u32
+    ensures { λ r. ⌜ r ≡ noted 0 (counterTest t) ⌝ }
+{
+    tests::note(0, 14, !(t.squeeze_ctr < 0x100000000))
+}
+
 // The refusals of the inner rounds.
 pub(crate) fn of_inner(
     m: usize,
@@ -31,15 +39,17 @@ pub(crate) fn of_inner(
     proof: &[u64],
     draws: &[u64],
     s: &[u64],
+    t: Transcript,
 ) -> u32
-    ensures { λ r. ⌜ r ≡ innerRefusal m (now (lens .entry)) (now (x .entry)) (now (proof .entry)) (now (draws .entry)) (now (s .entry)) ⌝ }
+    ensures { λ r. ⌜ r ≡ innerRoundsRefusal m (now (lens .entry)) (now (x .entry)) (now (proof .entry)) (now (draws .entry)) (now (s .entry)) t ⌝ }
 {
     let z = of_sizes(m, lens, x);
     if z != 0 {
         return z;
     }
     let k = sizes::log2(m);
-    let y = tests::note(0, 15, draws.len() < 2 * k);
+    let y = of_counter(t);
+    let y = tests::note(y, 15, draws.len() < 2 * k);
     let y = tests::note(y, 15, proof.len() < 2 * (3 * k + 1 + lens.len()));
     tests::note(y, 15, s.len() < 6 * m)
 }
@@ -98,8 +108,9 @@ pub(crate) fn of_outer(
     proof: &[u64],
     draws: &[u64],
     s: &[u64],
+    t: Transcript,
 ) -> u32
-    ensures { λ r. ⌜ r ≡ outerRefusal q rb rf (now (proof .entry)) (now (draws .entry)) (now (s .entry)) ⌝ }
+    ensures { λ r. ⌜ r ≡ outerRoundsRefusal q rb rf (now (proof .entry)) (now (draws .entry)) (now (s .entry)) t ⌝ }
 {
     let z = of_counts(q, rb, rf);
     if z != 0 {
@@ -111,7 +122,8 @@ pub(crate) fn of_outer(
     let d = drawn_words(l, b, f);
     let a = said_words(l, b, f);
     let e = block_words(q, rb, rf);
-    let y = tests::note(0, 15, draws.len() < d);
+    let y = of_counter(t);
+    let y = tests::note(y, 15, draws.len() < d);
     let y = tests::note(y, 15, proof.len() < a);
     tests::note(y, 15, s.len() < e)
 }

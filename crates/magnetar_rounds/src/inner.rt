@@ -28,8 +28,8 @@ ghost use Rattle.magnetar_layout.specs.Entries.{layoutRefusal};
 ghost use Rattle.magnetar_protocol.specs.Schedule.{numbered, outline};
 ghost use Rattle.magnetar_sumcheck.specs.Inner.{innerMessage};
 ghost use Rattle.magnetar_protocol.specs.Stepwise.{innerStep, innerSteps};
-ghost use Rattle.magnetar_rounds.specs.Entries.{answerFor, proofFor, drawsFor, scratchFor, innerRefusal, innerPlayed};
-ghost use Rattle.magnetar_rounds.specs.Held.{tableAt, stepsIn, innerIn, Table, Local, Locals, segmentIn, pasted, heardOne, saidIn, saidEach, innerWhole};
+ghost use Rattle.magnetar_rounds.specs.Entries.{tableAt, answerFor, proofFor, drawsFor, scratchFor, innerRoundsRefusal, innerPlayed};
+ghost use Rattle.magnetar_rounds.specs.Held.{stepsIn, innerIn, Table, Local, Locals, segmentIn, pasted, heardOne, saidIn, saidEach, innerWhole};
 
 // The message of a round, from the tables of n words at the front of s and at word 2m.
 fn message(out: &mut [u64], s: &[u64], m: usize, n: usize)
@@ -275,7 +275,7 @@ fn run(
 // The inner rounds over m columns, v_z and the segment values: their messages and values are the first elements of proof, their
 // challenges those of draws. s has the combined table in its first 2m words and the folded witness columns in the m words behind;
 // its first 6m words are left zero.
-// 1: no such columns; 3: x is not of m - 2 words; 8, 9, 10: no such layout; 15: draws, proof or s too short.
+// 1: no such columns; 3: x is not of m - 2 words; 8, 9, 10: no such layout; 14: a counter of 2^32 or more; 15: draws, proof or s too short.
 pub fn inner_rounds(
     m: usize,
     lens: &[usize],
@@ -285,12 +285,12 @@ pub fn inner_rounds(
     s: &mut [u64],
     t: Transcript,
 ) -> RoundsAnswer
-    ensures answer { λ r. ⌜ r ≡ answerFor (innerRefusal m (now (lens .entry)) (now (x .entry)) (now (proof .entry)) (now (draws .entry)) (now (s .entry))) (innerPlayed (outline m 1 1 1 (now (lens .entry))) (now (x .entry)) (now (s .entry)) t) t ⌝ }
-    ensures proof { λ _. ⌜ now (proof .exit) ≡ proofFor (innerRefusal m (now (lens .entry)) (now (x .entry)) (now (proof .entry)) (now (draws .entry)) (now (s .entry))) (innerPlayed (outline m 1 1 1 (now (lens .entry))) (now (x .entry)) (now (s .entry)) t) (now (proof .entry)) ⌝ }
-    ensures draws { λ _. ⌜ now (draws .exit) ≡ drawsFor (innerRefusal m (now (lens .entry)) (now (x .entry)) (now (proof .entry)) (now (draws .entry)) (now (s .entry))) (innerPlayed (outline m 1 1 1 (now (lens .entry))) (now (x .entry)) (now (s .entry)) t) (now (draws .entry)) ⌝ }
-    ensures scratch { λ _. ⌜ now (s .exit) ≡ scratchFor (innerRefusal m (now (lens .entry)) (now (x .entry)) (now (proof .entry)) (now (draws .entry)) (now (s .entry))) (6 * m) (now (s .entry)) ⌝ }
+    ensures answer { λ r. ⌜ r ≡ answerFor (innerRoundsRefusal m (now (lens .entry)) (now (x .entry)) (now (proof .entry)) (now (draws .entry)) (now (s .entry)) t) (innerPlayed (outline m 1 1 1 (now (lens .entry))) (now (x .entry)) (now (s .entry)) t) t ⌝ }
+    ensures proof { λ _. ⌜ now (proof .exit) ≡ proofFor (innerRoundsRefusal m (now (lens .entry)) (now (x .entry)) (now (proof .entry)) (now (draws .entry)) (now (s .entry)) t) (innerPlayed (outline m 1 1 1 (now (lens .entry))) (now (x .entry)) (now (s .entry)) t) (now (proof .entry)) ⌝ }
+    ensures draws { λ _. ⌜ now (draws .exit) ≡ drawsFor (innerRoundsRefusal m (now (lens .entry)) (now (x .entry)) (now (proof .entry)) (now (draws .entry)) (now (s .entry)) t) (innerPlayed (outline m 1 1 1 (now (lens .entry))) (now (x .entry)) (now (s .entry)) t) (now (draws .entry)) ⌝ }
+    ensures scratch { λ _. ⌜ now (s .exit) ≡ scratchFor (innerRoundsRefusal m (now (lens .entry)) (now (x .entry)) (now (proof .entry)) (now (draws .entry)) (now (s .entry)) t) (6 * m) (now (s .entry)) ⌝ }
 {
-    let z = guard::of_inner(m, lens, x, proof, draws, s);
+    let z = guard::of_inner(m, lens, x, proof, draws, s, t);
     if z != 0 {
         return RoundsAnswer {
             code: z,

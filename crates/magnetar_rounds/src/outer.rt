@@ -18,7 +18,8 @@ ghost use Rattle.magnetar_hash.specs.Transcript.{element};
 ghost use Rattle.magnetar_protocol.specs.Stepwise.{rowStep, rowSteps};
 ghost use Rattle.magnetar_field.specs.Multilinear.{bindVar};
 ghost use Rattle.magnetar_sumcheck.specs.Outer.{outerMessage, dropVar};
-ghost use Rattle.magnetar_rounds.specs.Held.{tableAt, Table, Rows, rowIn};
+ghost use Rattle.magnetar_rounds.specs.Entries.{tableAt};
+ghost use Rattle.magnetar_rounds.specs.Held.{Table, Rows, rowIn};
 
 // The message of a round that binds variable v of the tables of n words, e being without it already.
 fn tell(out: &mut [u64], s: &[u64], w: usize, n: usize, v: usize, k: Gf128, t: Gf128)

@@ -17,8 +17,8 @@ ghost use Prim.Native.Nat.{ℕ, _+_, _*_, _^_, _<_};
 ghost use lib.ListN.{length, take, drop, replicate};
 ghost use Rattle.magnetar_field.specs.Gf128.{value};
 ghost use Rattle.magnetar_protocol.specs.Stepwise.{sharedSteps};
-ghost use Rattle.magnetar_rounds.specs.Entries.{answerFor, proofFor, drawsFor, scratchFor, outerRefusal, outerPlayed, blockWords};
-ghost use Rattle.magnetar_rounds.specs.Held.{stepsIn, tablesIn};
+ghost use Rattle.magnetar_rounds.specs.Entries.{tablesIn, answerFor, proofFor, drawsFor, scratchFor, outerRoundsRefusal, outerPlayed, blockWords};
+ghost use Rattle.magnetar_rounds.specs.Held.{stepsIn};
 ghost use Rattle.magnetar_rounds.specs.Shared.{sharedIn};
 ghost use Rattle.magnetar_rounds.specs.Whole.{tausOf, beginOf, binOf, fldOf, endOf, outerWhole, leftIn, Blocks};
 
@@ -172,7 +172,7 @@ fn run(
 // The outer rounds of q logins with rb rows of bin and rf rows of fld. The products of bin are in the second to fourth table of 2 q rb
 // words of s, those of fld in the second to fourth table of 2 q rf words behind its first 8 q rb. What is said goes to the front of
 // proof, what is drawn to the front of draws; the 8 q (rb + rf) words of s are cleared.
-// 1: no such logins; 4: no such rows; 15: too little room.
+// 1: no such logins; 4: no such rows; 14: a counter of 2^32 or more; 15: too little room.
 pub fn outer_rounds(
     q: usize,
     rb: usize,
@@ -182,12 +182,12 @@ pub fn outer_rounds(
     s: &mut [u64],
     t: Transcript,
 ) -> RoundsAnswer
-    ensures answer { λ r. ⌜ r ≡ answerFor (outerRefusal q rb rf (now (proof .entry)) (now (draws .entry)) (now (s .entry))) (outerPlayed q rb rf (now (s .entry)) t) t ⌝ }
-    ensures proof { λ _. ⌜ now (proof .exit) ≡ proofFor (outerRefusal q rb rf (now (proof .entry)) (now (draws .entry)) (now (s .entry))) (outerPlayed q rb rf (now (s .entry)) t) (now (proof .entry)) ⌝ }
-    ensures draws { λ _. ⌜ now (draws .exit) ≡ drawsFor (outerRefusal q rb rf (now (proof .entry)) (now (draws .entry)) (now (s .entry))) (outerPlayed q rb rf (now (s .entry)) t) (now (draws .entry)) ⌝ }
-    ensures scratch { λ _. ⌜ now (s .exit) ≡ scratchFor (outerRefusal q rb rf (now (proof .entry)) (now (draws .entry)) (now (s .entry))) (blockWords q rb rf) (now (s .entry)) ⌝ }
+    ensures answer { λ r. ⌜ r ≡ answerFor (outerRoundsRefusal q rb rf (now (proof .entry)) (now (draws .entry)) (now (s .entry)) t) (outerPlayed q rb rf (now (s .entry)) t) t ⌝ }
+    ensures proof { λ _. ⌜ now (proof .exit) ≡ proofFor (outerRoundsRefusal q rb rf (now (proof .entry)) (now (draws .entry)) (now (s .entry)) t) (outerPlayed q rb rf (now (s .entry)) t) (now (proof .entry)) ⌝ }
+    ensures draws { λ _. ⌜ now (draws .exit) ≡ drawsFor (outerRoundsRefusal q rb rf (now (proof .entry)) (now (draws .entry)) (now (s .entry)) t) (outerPlayed q rb rf (now (s .entry)) t) (now (draws .entry)) ⌝ }
+    ensures scratch { λ _. ⌜ now (s .exit) ≡ scratchFor (outerRoundsRefusal q rb rf (now (proof .entry)) (now (draws .entry)) (now (s .entry)) t) (blockWords q rb rf) (now (s .entry)) ⌝ }
 {
-    let z = guard::of_outer(q, rb, rf, proof, draws, s);
+    let z = guard::of_outer(q, rb, rf, proof, draws, s, t);
     if z != 0 {
         return RoundsAnswer {
             code: z,

@@ -11,8 +11,14 @@ use Rattle.magnetar_field.specs.Sizes.{log₂}
 use native.Mathlib.Omega.{arith}
 use Rattle.magnetar_layout.specs.Tests.{Tests, note, noted, isSize, layoutTests}
 use Rattle.magnetar_layout.specs.Entries.{layoutRefusal}
+use Rattle.magnetar_layout.specs.Login.{loginWords}
 use Rattle.magnetar_layout.proofs.Noted.{note-kept, noted-kept, note-clear, noted-append}
 use Rattle.magnetar_layout.proofs.SizeLaws.{Sized, not-bad}
+
+-- a login of at most 32768 columns has at most 512 words
+pub login-most : (w : ℕ) → w ≤ 32768 → loginWords w ≤ 512
+unfolding loginWords
+login-most w h = omega arith
 
 -- a number stays
 pub number-stays : (y e n : ℕ) (b : Bool) → y ≡ e → (y ≡ 0 → ⊥) → y ≡ note n b e

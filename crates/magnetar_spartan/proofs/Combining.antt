@@ -14,6 +14,7 @@ use Rattle.magnetar_field.specs.Sizes.{log₂}
 use Rattle.magnetar_field.specs.Words.{elements, words}
 use Rattle.magnetar_field.proofs.Tabulation.{tabulate-length}
 use Rattle.magnetar_field.proofs.Elements.{elements-drop}
+use Rattle.magnetar_checks.specs.Outer.{runTests}
 use Rattle.magnetar_checks.proofs.Pieces.{elements-take}
 use Rattle.magnetar_layout.specs.Tests.{Tests, note, noted, isSize}
 use Rattle.magnetar_layout.proofs.Noted.{Clear}
@@ -45,6 +46,22 @@ most-fine n a h = le-ltb n a h
 
 pub true-fine : (b : Bool) → b ≡ true → not b ≡ false
 true-fine b e = rw e
+
+-- no test of the sizes is bad
+pub sizes-fine : (R : Rules) → Ready R → (l : Tests) → Clear l → Clear (runTests (R .m) (R .q) (R .bin .a .rows) (R .fld .a .rows) ++ l)
+sizes-fine R P l k = (
+  size-fine 2 65536 (R .m) (P .columns),
+  (
+    size-fine 1 4096 (R .q) (P .logins),
+    (
+      size-fine 1 65536 (R .bin .a .rows) (P .fine .bin .rows),
+      (
+        most-fine 1048576 _ (P .fine .bin .total),
+        (size-fine 1 65536 (R .fld .a .rows) (P .fine .fld .rows), (most-fine 1048576 _ (P .fine .fld .total), k)),
+      ),
+    ),
+  ),
+)
 
 -- ---- elements in front of other words
 pub elements-behind : (vs s : List ℕ) → elements (words vs ++ s) ≡ vs ++ elements s

@@ -10,7 +10,7 @@ use native.Mathlib.Omega.{arith}
 use lib.Dec.{eqb, ltb}
 use lib.ListN.{length, take, drop, replicate, length-append, length-take, length-drop, take-append-drop, drop-of-length-le}
 use lib.Seq.{drop-at, length-take-le, take-at}
-use borrow.Author.Tests.{eq-eqb, ne-eqb, eqb-true, ltb-false, not-false}
+use borrow.Author.Tests.{eq-eqb, ne-eqb, eqb-true, ltb-true, ltb-false, not-false}
 use Rattle.magnetar_field.specs.Sizes.{log₂}
 use Rattle.magnetar_field.specs.Words.{elements, words}
 use Rattle.magnetar_hash.specs.declared.transcript.Transcript.{Transcript}
@@ -106,10 +106,10 @@ part true k n c = rw (none, append-nil)
 part false k n c = take-append-drop k c
 
 module _ (R : Rules) (x w : List ℕ) (t : Transcript) (c s : List ℕ) where
-  pub verify-turned : (z : ℕ) → z ≡ verifyRefusal R x w t c s → (z ≡ 0 → ⊥)
+  pub verify-refused : (z : ℕ) → z ≡ verifyRefusal R x w t c s → (z ≡ 0 → ⊥)
       → verified (record { code = z; transcript = t }) c s ≡ verifyOutcome R x w t c s
   unfolding verifyOutcome
-  verify-turned z e h = rw (← e, ne-eqb z 0 h)
+  verify-refused z e h = rw (← e, ne-eqb z 0 h)
 
   pub verify-through : (z : ℕ) → z ≡ verifyRefusal R x w t c s → z ≡ 0 → (a : TranscriptAnswer) (c′ : List ℕ) (k n : ℕ)
       → k ≡ claimWords R → n ≡ verifierRoom R → Left R x w t a (take k c) c′ → (s′ r : List ℕ) → s′ ≡ replicate n 0 → r ≡ drop n s
@@ -123,15 +123,17 @@ module _ (R : Rules) (x w : List ℕ) (t : Transcript) (c s : List ℕ) where
       rw (y, l .0, l .1, f, hs, hr, hn)
 
 -- ---- the prover
-pub record Provable (R : Rules) (ws x : List ℕ) (w c s : ℕ) : Type 0 where
+-- with packed words ws and public words x, so many words of proof, claims and scratch, and the counter n
+pub record Provable (R : Rules) (ws x : List ℕ) (w c s n : ℕ) : Type 0 where
   pub ready : Ready R
   pub packed : length ws ≡ R .q * loginWords (R .m / 2)
   pub public : length x ≡ R .m - 2
   pub proof : proofWords R ≤ w
   pub claims : claimWords R ≤ c
   pub scratch : proverRoom R ≤ s
+  pub counter : n < 2 ^ 32
 
-pub provable : (R : Rules) (ws x : List ℕ) (n w c s : ℕ) → noted 0 (proveTests R ws x n w c s) ≡ 0 → Provable R ws x w c s
+pub provable : (R : Rules) (ws x : List ℕ) (n w c s : ℕ) → noted 0 (proveTests R ws x n w c s) ≡ 0 → Provable R ws x w c s n
 provable R ws x n w c s e =
     let k = noted-clear 0 (proveTests R ws x n w c s) refl e .1 in
     let rest : Tests = counterTests n ++ (roomOf (proofWords R) w ++ (roomOf (claimWords R) c ++ roomOf (proverRoom R) s)) in
@@ -147,13 +149,14 @@ provable R ws x n w c s e =
       proof = ltb-false w (proofWords R) (b .1 .0);
       claims = ltb-false c (claimWords R) (b .1 .1 .0);
       scratch = ltb-false s (proverRoom R) (b .1 .1 .1 .0);
+      counter = ltb-true n (2 ^ 32) (not-false _ (b .0));
     }
 
 module _ (R : Rules) (ws x : List ℕ) (t : Transcript) (w c s : List ℕ) where
-  pub prove-turned : (z : ℕ) → z ≡ proveRefusal R ws x t w c s → (z ≡ 0 → ⊥)
+  pub prove-refused : (z : ℕ) → z ≡ proveRefusal R ws x t w c s → (z ≡ 0 → ⊥)
       → proved (record { code = z; transcript = t }) w c s ≡ proveOutcome R ws x t w c s
   unfolding proveOutcome
-  prove-turned z e h = rw (← e, ne-eqb z 0 h)
+  prove-refused z e h = rw (← e, ne-eqb z 0 h)
 
   pub prove-through : (z : ℕ) → z ≡ proveRefusal R ws x t w c s → z ≡ 0 → (u : Transcript) (w′ c′ : List ℕ) (i k n : ℕ)
       → i ≡ proofWords R → k ≡ claimWords R → n ≡ proverRoom R → ProveLeft R ws x t u w′ c′ → (s′ r : List ℕ) → s′ ≡ replicate n 0 → r ≡ drop n s

@@ -3,10 +3,11 @@
 -- Assumes nothing.
 use mathlib.Core.Path.{_≡_, refl, sym, ap, ap₂, _∙_}
 use mathlib.Core.List.{List, _++_, reverse}
-use Prim.Native.Nat.{ℕ, _+_, _-_, _*_, _/_, _≤_, max}
+use Prim.Native.Nat.{ℕ, _+_, _-_, _*_, _/_, _^_, _≤_, _<_, max}
 use native.Mathlib.Omega.{arith}
 use lib.ListN.{length, getD, take, drop, length-drop, take-append-drop}
 use lib.Seq.{length-take-le, take-at, drop-at}
+use borrow.Author.Tests.{lt-ltb}
 use borrow.Rule.Slice.PartMut.{putMid}
 use Rattle.magnetar_field.specs.Refusal.{unlessRefused}
 use Rattle.magnetar_field.specs.Sizes.{log₂}
@@ -35,7 +36,7 @@ use Rattle.magnetar_protocol.specs.Checks.{combined}
 use Rattle.magnetar_protocol.specs.Stepwise.{Steps, begin, innerRun, segmentValue, lowDraws, ended, innerAll}
 use Rattle.magnetar_protocol.proofs.Splits.{combined-split, logins-split}
 use Rattle.magnetar_protocol.proofs.Stepwise.{goes-inner, inner-drawn-length, inner-said-length}
-use Rattle.magnetar_rounds.specs.Entries.{innerRefusal, innerPlayed, answerFor, proofFor, drawsFor}
+use Rattle.magnetar_rounds.specs.Entries.{counterTest, innerRoundsRefusal, innerPlayed, answerFor, proofFor, drawsFor}
 use Rattle.magnetar_rounds.specs.declared.answer.RoundsAnswer.{RoundsAnswer}
 use Rattle.magnetar_spartan.specs.Rules.{Rules, relationOf}
 use Rattle.magnetar_spartan.specs.Ready.{Ready, FoldReady, InnerReady}
@@ -98,15 +99,15 @@ module _ (r : Relation) (c f x : List ℕ) (t : Transcript) where
   pub inner-said-many : length (innerAll r c f x (begin t) .said) ≡ 3 * logCols r + 1 + length (r .lengths)
   inner-said-many = ap length (goes-inner r c f x (begin t) 0 refl .said) ∙ inner-said-length r c f x (begin t) 0 refl
 
-pub inner-none : (m : ℕ) (ns x proof draws s : List ℕ) → InnerReady m ns (length x) → 2 * log₂ m ≤ length draws
-    → 2 * (3 * log₂ m + 1 + length ns) ≤ length proof → 6 * m ≤ length s → innerRefusal m ns x proof draws s ≡ 0
-unfolding innerRefusal
-inner-none m ns x proof draws s I hd hp hs =
-    noted-none (columnTests m ++ publicTests m x ++ layoutTests (m / 2) ns ++ (roomTest (2 * log₂ m) draws ++ roomTest (2 * (3 * log₂ m + 1 + length ns)) proof ++ roomTest (6 * m) s))
-    (size-fine 2 65536 m (I .columns), (same-fine (length x) (m - 2) (I .public), (true-fine _ (I .lengths), (most-fine _ _ (I .ends), (most-fine 64 (length ns) (I .segments), (most-fine (length draws) (2 * log₂ m) hd, (most-fine (length proof) _ hp, (most-fine (length s) (6 * m) hs, tt))))))))
+pub inner-none : (m : ℕ) (ns x proof draws s : List ℕ) (t : Transcript) → InnerReady m ns (length x) (t .«squeeze_ctr») → 2 * log₂ m ≤ length draws
+    → 2 * (3 * log₂ m + 1 + length ns) ≤ length proof → 6 * m ≤ length s → innerRoundsRefusal m ns x proof draws s t ≡ 0
+unfolding innerRoundsRefusal
+inner-none m ns x proof draws s t I hd hp hs =
+    noted-none (columnTests m ++ publicTests m x ++ layoutTests (m / 2) ns ++ (counterTest t ++ (roomTest (2 * log₂ m) draws ++ roomTest (2 * (3 * log₂ m + 1 + length ns)) proof ++ roomTest (6 * m) s)))
+    (size-fine 2 65536 m (I .columns), (same-fine (length x) (m - 2) (I .public), (true-fine _ (I .lengths), (most-fine _ _ (I .ends), (most-fine 64 (length ns) (I .segments), (true-fine _ (lt-ltb (t .«squeeze_ctr») (2 ^ 32) (I .counter)), (most-fine (length draws) (2 * log₂ m) hd, (most-fine (length proof) _ hp, (most-fine (length s) (6 * m) hs, tt)))))))))
 
 -- what they leave, behind a words of the proof and k words of the draws
-module _ (m q rb rf l b f : ℕ) (ns x w d s : List ℕ) (t : Transcript) (el : l ≡ log₂ q) (eb : b ≡ log₂ rb) (ef : f ≡ log₂ rf) (I : InnerReady m ns (length x))
+module _ (m q rb rf l b f : ℕ) (ns x w d s : List ℕ) (t : Transcript) (el : l ≡ log₂ q) (eb : b ≡ log₂ rb) (ef : f ≡ log₂ rf) (I : InnerReady m ns (length x) (t .«squeeze_ctr»))
     (hw : length w ≡ 2 * proofElements (outline m q rb rf ns)) (hd : length d ≡ 2 * drawCount (outline m q rb rf ns)) (hs : 6 * m ≤ length s) where
   abbrev a : ℕ
   a = 2 * (8 * l + 4 * b + 4 * f + 6)
@@ -124,10 +125,10 @@ module _ (m q rb rf l b f : ℕ) (ns x w d s : List ℕ) (t : Transcript) (el : 
   P = innerPlayed (outline m 1 1 1 ns) x s t
 
   abbrev z : ℕ
-  z = innerRefusal m ns x W D s
+  z = innerRoundsRefusal m ns x W D s t
 
   fine : z ≡ 0
-  fine = inner-none m ns x W D s I
+  fine = inner-none m ns x W D s t I
       (rw (back-part d k, length-drop) (omega (arith, el, eb, ef, hd)))
       (rw (back-part w a, length-drop) (omega (arith, el, eb, ef, hw))) hs
 
@@ -167,13 +168,14 @@ fold-ready R P l b f ws d s s′ el eb ef ll lb lf hw hd hs same = record {
   room = omega (arith, hs, same);
 }
 
-pub inner-ready : (R : Rules) → Ready R → (x : ℕ) → x ≡ R .m - 2 → InnerReady (R .m) (R .lengths) x
-inner-ready R P x h = record {
+pub inner-ready : (R : Rules) → Ready R → (x n : ℕ) → x ≡ R .m - 2 → n < 2 ^ 32 → InnerReady (R .m) (R .lengths) x n
+inner-ready R P x n h k = record {
   columns = P .columns;
   lengths = P .fine .lengths;
   ends = P .fine .ends;
   segments = P .fine .segments;
   public = h;
+  counter = k;
 }
 
 -- ---- the whole of it

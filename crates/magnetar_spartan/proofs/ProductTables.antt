@@ -18,7 +18,7 @@ use Rattle.magnetar_r1cs.proofs.TableLaws.{elements-words}
 use Rattle.magnetar_batch.specs.Systems.{systemOf}
 use Rattle.magnetar_protocol.specs.Prover.{productTable}
 use Rattle.magnetar_protocol.specs.RealRun.{productTables}
-use Rattle.magnetar_rounds.specs.Held.{tableAt, tablesIn}
+use Rattle.magnetar_rounds.specs.Entries.{tableAt, tablesIn}
 use Rattle.magnetar_rounds.proofs.Slots.{mid-length, mid-before, mid-at}
 use Rattle.magnetar_rounds.proofs.Blocks.{both-front, both-behind}
 use Rattle.magnetar_spartan.specs.Rules.{Rules, relationOf}

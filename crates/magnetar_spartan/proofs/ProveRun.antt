@@ -2,15 +2,17 @@
 -- Assumes nothing.
 use mathlib.Core.Path.{_≡_, refl, sym, ap, ap₂, _∙_, subst}
 use mathlib.Core.List.{List, [], _∷_, _++_, append-nil}
-use Prim.Native.Nat.{ℕ, suc, _+_, _-_, _*_, _/_, _≤_, max}
+use Prim.Native.Nat.{ℕ, suc, _+_, _-_, _*_, _/_, _%_, _^_, _≤_, _<_, max}
 use native.Mathlib.Nat.{mul-add}
 use native.Mathlib.Omega.{arith}
 use lib.ListN.{length, take, drop, drop-of-length-le}
 use lib.Seq.{take-at, take-all}
+use borrow.Author.Tests.{lt-ltb}
 use Rattle.magnetar_field.specs.Sizes.{log₂}
 use Rattle.magnetar_field.specs.Words.{elements, words, overlaid}
 use Rattle.magnetar_field.proofs.Elements.{words-length}
 use Rattle.magnetar_hash.specs.declared.transcript.Transcript.{Transcript}
+use Rattle.magnetar_hash.specs.Transcript.{absorbed, drawn}
 use Rattle.magnetar_layout.specs.Tests.{roomTest}
 use Rattle.magnetar_r1cs.specs.Batch.{Relation, Batch}
 use Rattle.magnetar_r1cs.specs.Lent.{matrixOf}
@@ -22,24 +24,23 @@ use Rattle.magnetar_protocol.specs.Schedule.{outline}
 use Rattle.magnetar_protocol.specs.Run.{claims}
 use Rattle.magnetar_protocol.specs.RunSizes.{SizedRelation, SizedBatch, Elements}
 use Rattle.magnetar_protocol.specs.Prover.{proverWords, proverClaims}
-use Rattle.magnetar_protocol.specs.Stepwise.{Steps, Tables, tauSteps, outerAll, outerSteps, fldRows, binRows, outerBegin, terminalsLeft}
+use Rattle.magnetar_protocol.specs.Stepwise.{Steps, Tables, tauSteps, outerAll, askTimes, sayEach, outerSteps, fldRows, binRows, outerBegin, terminalsLeft}
 use Rattle.magnetar_protocol.specs.RealRun.{productTables, outerProving, proving, proverDraws, proverTranscript}
 use Rattle.magnetar_protocol.proofs.Blocks.{claims-outlined, outlined}
 use Rattle.magnetar_protocol.proofs.Stepwise.{outer-proving-said, outer-proving-count}
 use Rattle.magnetar_protocol.proofs.ProverRun.{proving-words, proving-claims}
-use Rattle.magnetar_rounds.specs.Entries.{answerFor, proofFor, drawsFor, countTests, totalTests, outerDrawn, outerSaid, blockWords, tablesOf, outerRefusal, outerPlayed}
+use Rattle.magnetar_rounds.specs.Entries.{tablesIn, counterTest, answerFor, proofFor, drawsFor, countTests, totalTests, outerDrawn, outerSaid, blockWords, tablesOf, outerRoundsRefusal, outerPlayed}
 use Rattle.magnetar_rounds.specs.declared.answer.RoundsAnswer.{RoundsAnswer}
-use Rattle.magnetar_rounds.specs.Held.{tablesIn}
 use Rattle.magnetar_rounds.specs.Whole.{outerWhole}
 use Rattle.magnetar_rounds.proofs.Joined.{whole-is}
-use Rattle.magnetar_checks.specs.Outer.{segmentTests, drawTests, proofTests}
+use Rattle.magnetar_checks.specs.Outer.{runTests, segmentTests, drawTests, proofTests}
 use Rattle.magnetar_checks.specs.Claims.{claimsRefusal, claimsOut, claimCount}
 use Rattle.magnetar_spartan.specs.Rules.{Rules, relationOf}
 use Rattle.magnetar_spartan.specs.Refusals.{proofWords, claimWords, proverRoom}
 use Rattle.magnetar_spartan.specs.Ready.{Ready}
 use Rattle.magnetar_spartan.specs.Outcome.{batchOf, proveDraws}
 use Rattle.magnetar_spartan.specs.Later.{drawsBefore, proofBefore, laterSteps, laterTranscript, laterProof, laterDraws, OuterLeft}
-use Rattle.magnetar_spartan.proofs.Combining.{noted-none, size-fine, same-fine, most-fine}
+use Rattle.magnetar_spartan.proofs.Combining.{noted-none, sizes-fine, size-fine, same-fine, most-fine, true-fine}
 use Rattle.magnetar_spartan.proofs.Verifying.{sizesOf, sizes-are}
 use Rattle.magnetar_spartan.proofs.Joining.{joined-transcript, joined-proof, joined-draws}
 
@@ -66,6 +67,17 @@ pub tables-there : (q rb rf : ℕ) (p s : List ℕ) (T : Tables) → length p �
     → tablesIn (2 * (q * rb)) (2 * (q * rf)) (take (4 * (2 * (q * rb))) p) (drop (4 * (2 * (q * rb))) p) ≡ T → tablesOf q rb rf (p ++ s) ≡ T
 tables-there q rb rf p s T l e = rw (take-at p s (blockWords q rb rf) l) e
 
+-- absorbing sets the counter to 0: behind the terminals and the alphas it is 6
+counter-left : (r : Relation) (T : Tables) (p : Steps) → outerAll r T p .played .transcript .«squeeze_ctr» ≡ 6
+unfolding outerAll askTimes sayEach terminalsLeft drawn absorbed
+counter-left r T p = refl
+
+pub outer-counter : (R : Rules) (ws x : List ℕ) (t u : Transcript) (w d : List ℕ) → OuterLeft R ws x t u w d → u .«squeeze_ctr» < 2 ^ 32
+unfolding OuterLeft outerProving
+outer-counter R ws x t u w d L =
+    let e : u .«squeeze_ctr» ≡ 6 = ap (λ (v : Transcript). v .«squeeze_ctr») (L .0) ∙ counter-left (relationOf R) (productTables (relationOf R) (batchOf R ws) (elements x)) (tauSteps (relationOf R) t) in
+    omega (arith, e)
+
 -- the outer rounds, of a relation
 outer-all : (r : Relation) (T : Tables) (t : Transcript) → outerAll r T (tauSteps r t) ≡ outerWhole (logLogins r) (logBin r) (logFld r) T t
 unfolding outerWhole outerAll outerSteps fldRows binRows outerBegin tauSteps terminalsLeft
@@ -86,10 +98,10 @@ module _ (R : Rules) (P : Ready R) (ws x : List ℕ) (t : Transcript) where
 
   -- ---- the outer rounds
   outer-none : (w d s : List ℕ) → length w ≡ proofWords R → length d ≡ 2 * drawCount o → blockWords (R .q) (R .bin .a .rows) (R .fld .a .rows) ≤ length s
-      → outerRefusal (R .q) (R .bin .a .rows) (R .fld .a .rows) w d s ≡ 0
-  unfolding outerRefusal
-  outer-none w d s hw hd hs =
-      noted-none (countTests (R .q) (R .bin .a .rows) (R .fld .a .rows) ++ totalTests (R .q) (R .bin .a .rows) (R .fld .a .rows) ++ (roomTest (2 * outerDrawn (log₂ (R .q)) (log₂ (R .bin .a .rows)) (log₂ (R .fld .a .rows))) d ++ roomTest (2 * outerSaid (log₂ (R .q)) (log₂ (R .bin .a .rows)) (log₂ (R .fld .a .rows))) w ++ roomTest (blockWords (R .q) (R .bin .a .rows) (R .fld .a .rows)) s)) (
+      → t .«squeeze_ctr» < 2 ^ 32 → outerRoundsRefusal (R .q) (R .bin .a .rows) (R .fld .a .rows) w d s t ≡ 0
+  unfolding outerRoundsRefusal
+  outer-none w d s hw hd hs ht =
+      noted-none (countTests (R .q) (R .bin .a .rows) (R .fld .a .rows) ++ totalTests (R .q) (R .bin .a .rows) (R .fld .a .rows) ++ (counterTest t ++ (roomTest (2 * outerDrawn (log₂ (R .q)) (log₂ (R .bin .a .rows)) (log₂ (R .fld .a .rows))) d ++ roomTest (2 * outerSaid (log₂ (R .q)) (log₂ (R .bin .a .rows)) (log₂ (R .fld .a .rows))) w ++ roomTest (blockWords (R .q) (R .bin .a .rows) (R .fld .a .rows)) s))) (
         size-fine 1 4096 (R .q) (P .logins),
         (
           size-fine 1 65536 (R .bin .a .rows) (P .fine .bin .rows),
@@ -100,8 +112,11 @@ module _ (R : Rules) (P : Ready R) (ws x : List ℕ) (t : Transcript) where
               (
                 most-fine 1048576 _ (P .fine .fld .total),
                 (
-                  most-fine (length d) _ (omega (arith, hd)),
-                  (most-fine (length w) _ (omega (arith, hw)), (most-fine (length s) _ hs, tt)),
+                  true-fine _ (lt-ltb (t .«squeeze_ctr») (2 ^ 32) ht),
+                  (
+                    most-fine (length d) _ (omega (arith, hd)),
+                    (most-fine (length w) _ (omega (arith, hw)), (most-fine (length s) _ hs, tt)),
+                  ),
                 ),
               ),
             ),
@@ -127,15 +142,15 @@ module _ (R : Rules) (P : Ready R) (ws x : List ℕ) (t : Transcript) where
   drawn-front d h = laid (O .played .draws) d (drawsBefore R) (ap (λ (n : ℕ). 2 * n) (outer-proving-count r b (elements x) t)) (omega (arith, h))
 
   pub outer-left : (a : RoundsAnswer) (w w′ d d′ s : List ℕ) → length w ≡ proofWords R → length d ≡ 2 * drawCount o
-      → blockWords (R .q) (R .bin .a .rows) (R .fld .a .rows) ≤ length s
+      → blockWords (R .q) (R .bin .a .rows) (R .fld .a .rows) ≤ length s → t .«squeeze_ctr» < 2 ^ 32
       → tablesOf (R .q) (R .bin .a .rows) (R .fld .a .rows) s ≡ productTables r b (elements x)
-      → a ≡ answerFor (outerRefusal (R .q) (R .bin .a .rows) (R .fld .a .rows) w d s) (outerPlayed (R .q) (R .bin .a .rows) (R .fld .a .rows) s t) t
-      → w′ ≡ proofFor (outerRefusal (R .q) (R .bin .a .rows) (R .fld .a .rows) w d s) (outerPlayed (R .q) (R .bin .a .rows) (R .fld .a .rows) s t) w
-      → d′ ≡ drawsFor (outerRefusal (R .q) (R .bin .a .rows) (R .fld .a .rows) w d s) (outerPlayed (R .q) (R .bin .a .rows) (R .fld .a .rows) s t) d
+      → a ≡ answerFor (outerRoundsRefusal (R .q) (R .bin .a .rows) (R .fld .a .rows) w d s t) (outerPlayed (R .q) (R .bin .a .rows) (R .fld .a .rows) s t) t
+      → w′ ≡ proofFor (outerRoundsRefusal (R .q) (R .bin .a .rows) (R .fld .a .rows) w d s t) (outerPlayed (R .q) (R .bin .a .rows) (R .fld .a .rows) s t) w
+      → d′ ≡ drawsFor (outerRoundsRefusal (R .q) (R .bin .a .rows) (R .fld .a .rows) w d s t) (outerPlayed (R .q) (R .bin .a .rows) (R .fld .a .rows) s t) d
       → OuterLeft R ws x t (a .transcript) w′ d′
   unfolding OuterLeft
-  outer-left a w w′ d d′ s hw hd hs e ha hp hq =
-      let z = outer-none w d s hw hd hs in
+  outer-left a w w′ d d′ s hw hd hs ht e ha hp hq =
+      let z = outer-none w d s hw hd hs ht in
       let p = outer-is s e in
       (ap (λ (y : RoundsAnswer). y .transcript) ha ∙ rw (z, p) refl, rw (hp, z, p) (said-front w hw), rw (hq, z, p) (drawn-front d hd))
 
@@ -146,13 +161,8 @@ module _ (R : Rules) (P : Ready R) (ws x : List ℕ) (t : Transcript) where
         → claimsRefusal (R .m) (R .q) (R .bin .a .rows) (R .fld .a .rows) (R .lengths) w′ d′ c ≡ 0
     unfolding claimsRefusal
     claims-none w′ d′ c hw hd hc =
-        noted-none (segmentTests (R .lengths) ++ (drawTests o d′ ++ (roomTest (2 * claimCount o) c ++ proofTests o w′))) (
-          most-fine 64 (length (R .lengths)) (P .fine .segments),
-          (
-            most-fine (length d′) (2 * drawCount o) (omega (arith, hd)),
-            (most-fine (length c) (2 * claimCount o) (omega (arith, hc)), (same-fine (length w′) (2 * proofElements o) hw, tt)),
-          ),
-        )
+        noted-none (runTests (R .m) (R .q) (R .bin .a .rows) (R .fld .a .rows) ++ (segmentTests (R .lengths) ++ (drawTests o d′ ++ (roomTest (2 * claimCount o) c ++ proofTests o w′))))
+        (sizes-fine R P (segmentTests (R .lengths) ++ (drawTests o d′ ++ (roomTest (2 * claimCount o) c ++ proofTests o w′))) (most-fine 64 (length (R .lengths)) (P .fine .segments), (most-fine (length d′) (2 * drawCount o) (omega (arith, hd)), (most-fine (length c) (2 * claimCount o) (omega (arith, hc)), (same-fine (length w′) (2 * proofElements o) hw, tt)))))
 
     pub run-left : (v : Transcript) (w′ d′ c c′ : List ℕ) → SizedRelation r → SizedBatch r b → suc (length (elements x)) ≡ R .m / 2
         → Elements (elements x) → v ≡ laterTranscript R ws x d u → w′ ≡ laterProof R ws x d u w → d′ ≡ laterDraws R ws x d u

@@ -11,7 +11,7 @@ use Rattle.magnetar_field.specs.Words.{elements, words, overlaid}
 use Rattle.magnetar_r1cs.proofs.TableLaws.{elements-words}
 use Rattle.magnetar_hash.specs.declared.transcript.Transcript.{Transcript}
 use Rattle.magnetar_hash.specs.declared.transcript.TranscriptAnswer.{TranscriptAnswer}
-use Rattle.magnetar_layout.specs.Tests.{columnTests, publicTests, layoutTests, roomTest}
+use Rattle.magnetar_layout.specs.Tests.{sizeTests, publicTests, rowsTests, layoutTests, roomTest}
 use Rattle.magnetar_r1cs.specs.Batch.{Relation}
 use Rattle.magnetar_batch.specs.Systems.{systemOf}
 use Rattle.magnetar_r1cs.specs.Lent.{matrixOf}
@@ -24,7 +24,7 @@ use Rattle.magnetar_protocol.specs.RealRun.{verifierDraws, verifierTranscript}
 use Rattle.magnetar_protocol.proofs.Blocks.{claims-outlined, outlined}
 use Rattle.magnetar_checks.specs.declared.found.Found.{Found}
 use Rattle.magnetar_checks.specs.Found.{firstFound}
-use Rattle.magnetar_checks.specs.Outer.{outerRefusal, outerFound, segmentTests, drawTests, proofTests}
+use Rattle.magnetar_checks.specs.Outer.{outerChecksRefusal, outerFound, runTests, segmentTests, drawTests, proofTests}
 use Rattle.magnetar_checks.specs.Outer as checked
 use Rattle.magnetar_checks.specs.End.{endRefusal, endFound, endChecks}
 use Rattle.magnetar_checks.specs.Claims.{claimsRefusal, claimsOut, claimCount}
@@ -32,7 +32,7 @@ use Rattle.magnetar_spartan.specs.Rules.{Rules, relationOf}
 use Rattle.magnetar_spartan.specs.Refusals.{proofWords, claimWords, verifierRoom}
 use Rattle.magnetar_spartan.specs.Ready.{Ready, VerifyReady}
 use Rattle.magnetar_spartan.specs.Outcome.{verifyVerdict, verifyClaims}
-use Rattle.magnetar_spartan.proofs.Combining.{noted-none, size-fine, same-fine, most-fine, true-fine}
+use Rattle.magnetar_spartan.proofs.Combining.{noted-none, sizes-fine, size-fine, same-fine, most-fine, true-fine}
 use Rattle.magnetar_spartan.proofs.Verifying.{sizesOf, sizes-are, draws-is, outer-is, later-is, outerOf, laterOf, after, Answers, answer-outer, answer-later, answer-none}
 
 -- the answer a, and claims c that have become c′
@@ -62,10 +62,11 @@ module _ (R : Rules) (P : Ready R) (x w d : List ℕ) (t : Transcript) (claim ro
   proof-fits = L .proof
 
   -- ---- the outer checks
-  outer-none : outerRefusal o w d ≡ 0
-  unfolding outerRefusal
-  outer-none = noted-none (segmentTests (R .lengths) ++ drawTests o d ++ proofTests o w)
-      (most-fine 64 (length (R .lengths)) (P .fine .segments), (most-fine (length d) (2 * drawCount o) draws-fit, (same-fine (length w) (2 * proofElements o) proof-fits, tt)))
+  outer-none : outerChecksRefusal o w d ≡ 0
+  unfolding outerChecksRefusal
+  outer-none =
+      noted-none (runTests (R .m) (R .q) (R .bin .a .rows) (R .fld .a .rows) ++ (segmentTests (R .lengths) ++ (drawTests o d ++ proofTests o w)))
+      (sizes-fine R P (segmentTests (R .lengths) ++ (drawTests o d ++ proofTests o w)) (most-fine 64 (length (R .lengths)) (P .fine .segments), (most-fine (length d) (2 * drawCount o) draws-fit, (same-fine (length w) (2 * proofElements o) proof-fits, tt))))
 
   outer-checks-are : checked.outerChecks o (elements w) (drawsOf o (elements d)) ≡ outerOf R x w t
   unfolding checked.outerChecks
@@ -79,21 +80,36 @@ module _ (R : Rules) (P : Ready R) (x w d : List ℕ) (t : Transcript) (claim ro
   end-none : (s : List ℕ) → 4 * R .m ≤ length s → endRefusal o x w d s ≡ 0
   unfolding endRefusal
   end-none s h =
-      noted-none (columnTests (R .m) ++ (publicTests (R .m) x ++ (layoutTests (R .m / 2) (R .lengths) ++ (drawTests o d ++ (roomTest (4 * R .m) s ++ proofTests o w))))) (
+      noted-none (sizeTests (R .m) (R .q) ++ (publicTests (R .m) x ++ (rowsTests (R .q) (R .bin .a .rows) ++ (rowsTests (R .q) (R .fld .a .rows) ++ (layoutTests (R .m / 2) (R .lengths) ++ (drawTests o d ++ (roomTest (4 * R .m) s ++ proofTests o w))))))) (
         size-fine 2 65536 (R .m) (P .columns),
         (
-          same-fine (length x) (R .m - 2) (L .public),
+          size-fine 1 4096 (R .q) (P .logins),
           (
-            true-fine _ (P .fine .lengths),
+            same-fine (length x) (R .m - 2) (L .public),
             (
-              most-fine _ _ (P .fine .ends),
+              size-fine 1 65536 (R .bin .a .rows) (P .fine .bin .rows),
               (
-                most-fine 64 (length (R .lengths)) (P .fine .segments),
+                most-fine 1048576 _ (P .fine .bin .total),
                 (
-                  most-fine (length d) (2 * drawCount o) draws-fit,
+                  size-fine 1 65536 (R .fld .a .rows) (P .fine .fld .rows),
                   (
-                    most-fine (length s) (4 * R .m) h,
-                    (same-fine (length w) (2 * proofElements o) proof-fits, tt),
+                    most-fine 1048576 _ (P .fine .fld .total),
+                    (
+                      true-fine _ (P .fine .lengths),
+                      (
+                        most-fine _ _ (P .fine .ends),
+                        (
+                          most-fine 64 (length (R .lengths)) (P .fine .segments),
+                          (
+                            most-fine (length d) (2 * drawCount o) draws-fit,
+                            (
+                              most-fine (length s) (4 * R .m) h,
+                              (same-fine (length w) (2 * proofElements o) proof-fits, tt),
+                            ),
+                          ),
+                        ),
+                      ),
+                    ),
                   ),
                 ),
               ),
@@ -137,13 +153,8 @@ module _ (R : Rules) (P : Ready R) (x w d : List ℕ) (t : Transcript) (claim ro
   claims-none : (c : List ℕ) → claimWords R ≤ length c → claimsRefusal (R .m) (R .q) (R .bin .a .rows) (R .fld .a .rows) (R .lengths) w d c ≡ 0
   unfolding claimsRefusal
   claims-none c h =
-      noted-none (segmentTests (R .lengths) ++ (drawTests o d ++ (roomTest (2 * claimCount o) c ++ proofTests o w))) (
-        most-fine 64 (length (R .lengths)) (P .fine .segments),
-        (
-          most-fine (length d) (2 * drawCount o) draws-fit,
-          (most-fine (length c) (2 * claimCount o) (omega (arith, h)), (same-fine (length w) (2 * proofElements o) proof-fits, tt)),
-        ),
-      )
+      noted-none (runTests (R .m) (R .q) (R .bin .a .rows) (R .fld .a .rows) ++ (segmentTests (R .lengths) ++ (drawTests o d ++ (roomTest (2 * claimCount o) c ++ proofTests o w))))
+      (sizes-fine R P (segmentTests (R .lengths) ++ (drawTests o d ++ (roomTest (2 * claimCount o) c ++ proofTests o w))) (most-fine 64 (length (R .lengths)) (P .fine .segments), (most-fine (length d) (2 * drawCount o) draws-fit, (most-fine (length c) (2 * claimCount o) (omega (arith, h)), (same-fine (length w) (2 * proofElements o) proof-fits, tt)))))
 
   claims-is : claims o (elements w) (elements d) ≡ claims (relationOf R) (elements w) D
   claims-is = ap (claims o (elements w)) els ∙ ap (λ (r : Relation). claims r (elements w) D) (sym (sizes-are R)) ∙ sym (claims-outlined (relationOf R) (elements w) D)

@@ -3,7 +3,7 @@
 use mathlib.Core.Path.{_≡_}
 use mathlib.Core.Bool.{true}
 use mathlib.Core.List.{List}
-use Prim.Native.Nat.{ℕ, _+_, _-_, _*_, _/_, _≤_}
+use Prim.Native.Nat.{ℕ, _+_, _-_, _*_, _/_, _^_, _≤_, _<_}
 use lib.ListN.{length}
 use Rattle.magnetar_field.specs.Sizes.{log₂}
 use Rattle.magnetar_layout.specs.Every.{every}
@@ -83,10 +83,11 @@ pub record FoldReady (q w n k ws d s : ℕ) : Type 0 where
   pub drawn : 2 * k + 2 * n ≤ d
   pub room : 6 * w + 2 * q ≤ s
 
--- the inner rounds over m columns, with segments of lengths ns and x public words
-pub record InnerReady (m : ℕ) (ns : List ℕ) (x : ℕ) : Type 0 where
+-- the inner rounds over m columns, with segments of lengths ns and x public words, at a transcript with the counter n
+pub record InnerReady (m : ℕ) (ns : List ℕ) (x n : ℕ) : Type 0 where
   pub columns : Sized 2 65536 m
   pub lengths : every (isLength (m / 2)) ns ≡ true
   pub ends : layoutEnd ns ≤ m / 2
   pub segments : length ns ≤ 64
   pub public : x ≡ m - 2
+  pub counter : n < 2 ^ 32

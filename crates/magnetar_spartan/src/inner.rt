@@ -7,7 +7,7 @@ use magnetar_hash::transcript::Transcript;
 use magnetar_rounds::inner;
 ghost use mathlib.Core.Path.{_≡_};
 ghost use mathlib.Core.List.{_++_, reverse};
-ghost use Prim.Native.Nat.{_+_, _-_, _*_, _/_, _≤_, max};
+ghost use Prim.Native.Nat.{_+_, _-_, _*_, _/_, _^_, _≤_, _<_, max};
 ghost use lib.ListN.{length, take, drop};
 ghost use Rattle.magnetar_field.specs.Words.{elements, words};
 ghost use Rattle.magnetar_layout.specs.Lent.{lent};
@@ -57,7 +57,7 @@ fn fold_at(
 }
 
 // The same, the point being the n shared challenges from place k of the draws on.
-fn fold(packed: &[u64], q: usize, w: usize, n: usize, k: usize, draws: &[u64], s: &mut [u64])
+fn fold_logins(packed: &[u64], q: usize, w: usize, n: usize, k: usize, draws: &[u64], s: &mut [u64])
     requires { ⌜ FoldReady q w n k (length (now packed)) (length (now draws)) (length (now s)) ⌝ }
     ensures table { λ _. ⌜ take (4 * w) (now (s .exit)) ≡ take (4 * w) (now (s .entry)) ⌝ }
     ensures folded { λ _. ⌜ elements (take (2 * w) (drop (4 * w) (now (s .exit)))) ≡ folded q w (unpacked q w (now (packed .entry))) (reverse (take n (drop k (elements (now (draws .entry)))))) ⌝ }
@@ -81,7 +81,7 @@ fn finish(
     s: &mut [u64],
     t: Transcript,
 ) -> Transcript
-    requires { ⌜ InnerReady m (now lens) (length (now x)) ⌝ }
+    requires { ⌜ InnerReady m (now lens) (length (now x)) (t .«squeeze_ctr») ⌝ }
     requires { ⌜ (length (now proof) ≡ 2 * proofElements (outline m q rb rf (now lens))) × (length (now draws) ≡ 2 * drawCount (outline m q rb rf (now lens))) × (6 * m ≤ length (now s)) ⌝ }
     ensures transcript { λ r. ⌜ r ≡ innerPlayed (outline m 1 1 1 (now (lens .entry))) (now (x .entry)) (now (s .entry)) t .played .transcript ⌝ }
     ensures proof { λ _. ⌜ now (proof .exit) ≡ take (2 * beforeInner (outline m q rb rf (now (lens .entry)))) (now (proof .entry)) ++ words (innerPlayed (outline m 1 1 1 (now (lens .entry))) (now (x .entry)) (now (s .entry)) t .said) ⌝ }
@@ -98,7 +98,7 @@ fn finish(
 
 // The second part of a proving run: the combined table, the folded columns, the inner rounds, v_z and the segment values. The draws up
 // to the alphas are there.
-pub(crate) fn inner(
+pub(crate) fn later(
     proof: &mut [u64],
     s: &mut [u64],
     draws: &mut [u64],
@@ -148,7 +148,7 @@ pub(crate) fn inner(
     requires { ⌜ Ready (rules m q (now lens)
         (system (lent abrows abcols (now abrow) (now abcol) (now ablo) (now abhi)) (lent bbrows bbcols (now bbrow) (now bbcol) (now bblo) (now bbhi)) (lent cbrows cbcols (now cbrow) (now cbcol) (now cblo) (now cbhi)))
         (system (lent afrows afcols (now afrow) (now afcol) (now aflo) (now afhi)) (lent bfrows bfcols (now bfrow) (now bfcol) (now bflo) (now bfhi)) (lent cfrows cfcols (now cfrow) (now cfcol) (now cflo) (now cfhi)))) ⌝ }
-    requires { ⌜ (length (now packed) ≡ q * loginWords (m / 2)) × (length (now x) ≡ m - 2) × (length (now proof) ≡ 2 * proofElements (outline m q abrows afrows (now lens))) × (length (now draws) ≡ 2 * drawCount (outline m q abrows afrows (now lens))) × (6 * m + 2 * max abrows afrows + 2 * q ≤ length (now s)) ⌝ }
+    requires { ⌜ (length (now packed) ≡ q * loginWords (m / 2)) × (length (now x) ≡ m - 2) × (length (now proof) ≡ 2 * proofElements (outline m q abrows afrows (now lens))) × (length (now draws) ≡ 2 * drawCount (outline m q abrows afrows (now lens))) × (6 * m + 2 * max abrows afrows + 2 * q ≤ length (now s)) × (t .«squeeze_ctr» < 2 ^ 32) ⌝ }
     ensures transcript { λ r. ⌜ r ≡ laterTranscript (rules m q (now (lens .entry))
         (system (lent abrows abcols (now (abrow .entry)) (now (abcol .entry)) (now (ablo .entry)) (now (abhi .entry))) (lent bbrows bbcols (now (bbrow .entry)) (now (bbcol .entry)) (now (bblo .entry)) (now (bbhi .entry))) (lent cbrows cbcols (now (cbrow .entry)) (now (cbcol .entry)) (now (cblo .entry)) (now (cbhi .entry))))
         (system (lent afrows afcols (now (afrow .entry)) (now (afcol .entry)) (now (aflo .entry)) (now (afhi .entry))) (lent bfrows bfcols (now (bfrow .entry)) (now (bfcol .entry)) (now (bflo .entry)) (now (bfhi .entry))) (lent cfrows cfcols (now (cfrow .entry)) (now (cfcol .entry)) (now (cflo .entry)) (now (cfhi .entry))))) (now (packed .entry)) (now (x .entry)) (now (draws .entry)) t ⌝ }
@@ -207,6 +207,6 @@ pub(crate) fn inner(
         cflo,
         cfhi,
     );
-    fold(packed, q, w, l, k, draws, s);
+    fold_logins(packed, q, w, l, k, draws, s);
     finish(m, q, abrows, afrows, lens, x, proof, draws, s, t)
 }

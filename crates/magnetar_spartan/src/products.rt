@@ -11,7 +11,7 @@ ghost use Rattle.magnetar_r1cs.specs.Lent.{matrixOf};
 ghost use Rattle.magnetar_r1cs.specs.Entries.{packedTable};
 ghost use Rattle.magnetar_batch.specs.Systems.{system};
 ghost use Rattle.magnetar_protocol.specs.RealRun.{productTables};
-ghost use Rattle.magnetar_rounds.specs.Held.{tableAt, tablesIn};
+ghost use Rattle.magnetar_rounds.specs.Entries.{tableAt, tablesIn};
 ghost use Rattle.magnetar_spartan.specs.Rules.{rules, relationOf};
 ghost use Rattle.magnetar_spartan.specs.Ready.{FineMatrix, FineSystem, Ready, BatchReady};
 ghost use Rattle.magnetar_spartan.specs.Outcome.{batchOf};

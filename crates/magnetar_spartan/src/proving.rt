@@ -6,7 +6,7 @@ use magnetar_checks::claims;
 use magnetar_hash::transcript::Transcript;
 use magnetar_rounds::rounds;
 ghost use mathlib.Core.Path.{_≡_};
-ghost use Prim.Native.Nat.{ℕ, _+_, _-_, _*_, _/_, _≤_};
+ghost use Prim.Native.Nat.{ℕ, _+_, _-_, _*_, _/_, _^_, _≤_, _<_};
 ghost use lib.ListN.{length};
 ghost use Rattle.magnetar_field.specs.Words.{elements, words};
 ghost use Rattle.magnetar_layout.specs.Lent.{lent};
@@ -73,7 +73,7 @@ fn outer(
     requires { ⌜ Ready (rules m q (now lens)
         (system (lent abrows abcols (now abrow) (now abcol) (now ablo) (now abhi)) (lent bbrows bbcols (now bbrow) (now bbcol) (now bblo) (now bbhi)) (lent cbrows cbcols (now cbrow) (now cbcol) (now cblo) (now cbhi)))
         (system (lent afrows afcols (now afrow) (now afcol) (now aflo) (now afhi)) (lent bfrows bfcols (now bfrow) (now bfcol) (now bflo) (now bfhi)) (lent cfrows cfcols (now cfrow) (now cfcol) (now cflo) (now cfhi)))) ⌝ }
-    requires { ⌜ (length (now packed) ≡ q * loginWords (m / 2)) × (length (now x) ≡ m - 2) × (length (now proof) ≡ 2 * proofElements (outline m q abrows afrows (now lens))) × (length (now draws) ≡ 2 * drawCount (outline m q abrows afrows (now lens))) × (8 * (q * abrows) + 8 * (q * afrows) ≤ length (now s)) ⌝ }
+    requires { ⌜ (length (now packed) ≡ q * loginWords (m / 2)) × (length (now x) ≡ m - 2) × (length (now proof) ≡ 2 * proofElements (outline m q abrows afrows (now lens))) × (length (now draws) ≡ 2 * drawCount (outline m q abrows afrows (now lens))) × (8 * (q * abrows) + 8 * (q * afrows) ≤ length (now s)) × (t .«squeeze_ctr» < 2 ^ 32) ⌝ }
     ensures { λ r. ⌜ OuterLeft (rules m q (now (lens .entry))
         (system (lent abrows abcols (now (abrow .entry)) (now (abcol .entry)) (now (ablo .entry)) (now (abhi .entry))) (lent bbrows bbcols (now (bbrow .entry)) (now (bbcol .entry)) (now (bblo .entry)) (now (bbhi .entry))) (lent cbrows cbcols (now (cbrow .entry)) (now (cbcol .entry)) (now (cblo .entry)) (now (cbhi .entry))))
         (system (lent afrows afcols (now (afrow .entry)) (now (afcol .entry)) (now (aflo .entry)) (now (afhi .entry))) (lent bfrows bfcols (now (bfrow .entry)) (now (bfcol .entry)) (now (bflo .entry)) (now (bfhi .entry))) (lent cfrows cfcols (now (cfrow .entry)) (now (cfcol .entry)) (now (cflo .entry)) (now (cfhi .entry))))) (now (packed .entry)) (now (x .entry)) t r (now (proof .exit)) (now (draws .exit)) ⌝ }
@@ -182,6 +182,7 @@ pub(crate) fn prove_in(
     requires { ⌜ ProveReady (rules m q (now lens)
         (system (lent abrows abcols (now abrow) (now abcol) (now ablo) (now abhi)) (lent bbrows bbcols (now bbrow) (now bbcol) (now bblo) (now bbhi)) (lent cbrows cbcols (now cbrow) (now cbcol) (now cblo) (now cbhi)))
         (system (lent afrows afcols (now afrow) (now afcol) (now aflo) (now afhi)) (lent bfrows bfcols (now bfrow) (now bfcol) (now bflo) (now bfhi)) (lent cfrows cfcols (now cfrow) (now cfcol) (now cflo) (now cfhi)))) (length (now packed)) (length (now x)) (length (now proof)) (length (now claims)) (length (now s)) (length (now draws)) ⌝ }
+    requires { ⌜ t .«squeeze_ctr» < 2 ^ 32 ⌝ }
     ensures transcript { λ r. ⌜ r ≡ proverTranscript (relationOf (rules m q (now (lens .entry))
         (system (lent abrows abcols (now (abrow .entry)) (now (abcol .entry)) (now (ablo .entry)) (now (abhi .entry))) (lent bbrows bbcols (now (bbrow .entry)) (now (bbcol .entry)) (now (bblo .entry)) (now (bbhi .entry))) (lent cbrows cbcols (now (cbrow .entry)) (now (cbcol .entry)) (now (cblo .entry)) (now (cbhi .entry))))
         (system (lent afrows afcols (now (afrow .entry)) (now (afcol .entry)) (now (aflo .entry)) (now (afhi .entry))) (lent bfrows bfcols (now (bfrow .entry)) (now (bfcol .entry)) (now (bflo .entry)) (now (bfhi .entry))) (lent cfrows cfcols (now (cfrow .entry)) (now (cfcol .entry)) (now (cflo .entry)) (now (cfhi .entry)))))) (batchOf (rules m q (now (lens .entry))
@@ -249,7 +250,7 @@ pub(crate) fn prove_in(
         x,
         t,
     );
-    let v = inner::inner(
+    let v = inner::later(
         proof,
         s,
         draws,

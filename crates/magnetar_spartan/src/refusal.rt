@@ -1,27 +1,25 @@
 // The refusals 1 to 16 of both ends, each as a number: an earlier number stays. The matrices A, B, C of bin are ab, bb, cb, those of
 // fld af, bf, cf.
+use magnetar_batch::systems;
 use magnetar_field::sizes;
 use magnetar_layout::layout;
 use magnetar_layout::tests;
+use magnetar_r1cs::r1cs;
 ghost use mathlib.Core.Path.{_≡_};
 ghost use mathlib.Core.Bool.{not};
-ghost use mathlib.Core.List.{[], _∷_, _++_};
+ghost use mathlib.Core.List.{[], _∷_};
 ghost use lib.Dec.{eqb, ltb};
 ghost use Prim.Native.Nat.{ℕ, _+_, _-_, _*_, _/_, _^_, _≤_, max};
-ghost use lib.ListN.{length};
 ghost use Rattle.magnetar_layout.specs.Lent.{lent};
-ghost use Rattle.magnetar_layout.specs.Tests.{noted, sizeTests, colsTests, countTests, placeTests};
+ghost use Rattle.magnetar_layout.specs.Tests.{noted, sizeTests};
 ghost use Rattle.magnetar_layout.proofs.SizeLaws.{Sized};
 ghost use Rattle.magnetar_field.specs.Sizes.{log₂};
-ghost use Rattle.magnetar_layout.specs.Login.{loginWords};
 ghost use Rattle.magnetar_batch.specs.Systems.{system};
-ghost use Rattle.magnetar_protocol.specs.Shape.{proofElements};
-ghost use Rattle.magnetar_protocol.specs.Schedule.{outline};
 ghost use Rattle.magnetar_spartan.specs.Rules.{rules};
 ghost use Rattle.magnetar_spartan.specs.Refusals.{systemRows, ruleTests, counterTests, verifyTests, proveTests};
 
 // 1: the columns and the logins.
-pub(crate) fn sizes(m: usize, q: usize) -> u32
+fn size_refusal(m: usize, q: usize) -> u32
     ensures { λ r. ⌜ r ≡ noted 0 (sizeTests m q) ⌝ }
 {
     let z = tests::note(0, 1, !tests::is_size(2, 65536, m));
@@ -40,61 +38,6 @@ fn system_rows(z: u32, q: usize, a: usize, b: usize, c: usize) -> u32
         return y;
     }
     tests::note(0, 4, q * a > 1048576)
-}
-
-// 5: the columns of a system.
-fn system_cols(z: u32, m: usize, a: usize, b: usize, c: usize) -> u32
-    ensures { λ r. ⌜ r ≡ noted z (colsTests m a ++ colsTests m b ++ colsTests m c) ⌝ }
-{
-    let z = tests::note(z, 5, a != m);
-    let z = tests::note(z, 5, b != m);
-    tests::note(z, 5, c != m)
-}
-
-// 6: the entries of a system, by the lengths of its slices.
-fn system_counts(
-    z: u32,
-    arow: usize,
-    acol: usize,
-    alo: usize,
-    ahi: usize,
-    brow: usize,
-    bcol: usize,
-    blo: usize,
-    bhi: usize,
-    crow: usize,
-    ccol: usize,
-    clo: usize,
-    chi: usize,
-) -> u32
-    ensures { λ r. ⌜ r ≡ noted z (countTests arow acol alo ahi ++ countTests brow bcol blo bhi ++ countTests crow ccol clo chi) ⌝ }
-{
-    let z = tests::counts(z, arow, acol, alo, ahi);
-    let z = tests::counts(z, brow, bcol, blo, bhi);
-    tests::counts(z, crow, ccol, clo, chi)
-}
-
-// 7: the entries of a system lie inside their matrices.
-fn system_places(
-    z: u32,
-    arows: usize,
-    acols: usize,
-    arow: &[usize],
-    acol: &[usize],
-    brows: usize,
-    bcols: usize,
-    brow: &[usize],
-    bcol: &[usize],
-    crows: usize,
-    ccols: usize,
-    crow: &[usize],
-    ccol: &[usize],
-) -> u32
-    ensures { λ r. ⌜ r ≡ noted z (placeTests arows acols (now (arow .entry)) (now (acol .entry)) ++ placeTests brows bcols (now (brow .entry)) (now (bcol .entry)) ++ placeTests crows ccols (now (crow .entry)) (now (ccol .entry))) ⌝ }
-{
-    let z = tests::places(z, arows, acols, arow, acol);
-    let z = tests::places(z, brows, bcols, brow, bcol);
-    tests::places(z, crows, ccols, crow, ccol)
 }
 
 // 4 to 10: the rules.
@@ -146,9 +89,9 @@ pub(crate) fn rules(
 {
     let z = system_rows(0, q, abrows, bbrows, cbrows);
     let z = system_rows(z, q, afrows, bfrows, cfrows);
-    let z = system_cols(z, m, abcols, bbcols, cbcols);
-    let z = system_cols(z, m, afcols, bfcols, cfcols);
-    let z = system_counts(
+    let z = systems::cols3(z, m, abcols, bbcols, cbcols);
+    let z = systems::cols3(z, m, afcols, bfcols, cfcols);
+    let z = systems::counts3(
         z,
         abrow.len(),
         abcol.len(),
@@ -163,7 +106,7 @@ pub(crate) fn rules(
         cblo.len(),
         cbhi.len(),
     );
-    let z = system_counts(
+    let z = systems::counts3(
         z,
         afrow.len(),
         afcol.len(),
@@ -178,7 +121,7 @@ pub(crate) fn rules(
         cflo.len(),
         cfhi.len(),
     );
-    let z = system_places(
+    let z = systems::places3(
         z,
         abrows,
         abcols,
@@ -193,7 +136,7 @@ pub(crate) fn rules(
         cbrow,
         cbcol,
     );
-    let z = system_places(
+    let z = systems::places3(
         z,
         afrows,
         afcols,
@@ -381,7 +324,7 @@ pub fn verify(
         (system (lent afrows afcols (now (afrow .entry)) (now (afcol .entry)) (now (aflo .entry)) (now (afhi .entry))) (lent bfrows bfcols (now (bfrow .entry)) (now (bfcol .entry)) (now (bflo .entry)) (now (bfhi .entry))) (lent cfrows cfcols (now (cfrow .entry)) (now (cfcol .entry)) (now (cflo .entry)) (now (cfhi .entry)))))
         (now (x .entry)) (now (proof .entry)) n claims scratch) ⌝ }
 {
-    let z = sizes(m, q);
+    let z = size_refusal(m, q);
     if z != 0 {
         return z;
     }
@@ -499,11 +442,11 @@ pub fn prove(
         (system (lent afrows afcols (now (afrow .entry)) (now (afcol .entry)) (now (aflo .entry)) (now (afhi .entry))) (lent bfrows bfcols (now (bfrow .entry)) (now (bfcol .entry)) (now (bflo .entry)) (now (bfhi .entry))) (lent cfrows cfcols (now (cfrow .entry)) (now (cfcol .entry)) (now (cflo .entry)) (now (cfhi .entry)))))
         (now (packed .entry)) (now (x .entry)) n words claims scratch) ⌝ }
 {
-    let z = sizes(m, q);
+    let z = size_refusal(m, q);
     if z != 0 {
         return z;
     }
-    let z = tests::note(0, 2, packed.len() != q * login_words(m / 2));
+    let z = tests::note(0, 2, packed.len() != q * r1cs::login_words(m / 2));
     let z = tests::note(z, 3, x.len() != m - 2);
     if z != 0 {
         return z;
@@ -553,13 +496,4 @@ pub fn prove(
         return z;
     }
     prove_rooms(m, q, abrows, afrows, lens.len(), n, words, claims, scratch)
-}
-
-// How many words a login of w columns has.
-fn login_words(w: usize) -> usize
-    requires { ⌜ w ≤ 32768 ⌝ }
-    ensures { λ r. ⌜ r ≡ loginWords w ⌝ }
-    ensures { λ r. ⌜ r ≤ 512 ⌝ }
-{
-    2 * ((w + 127) / 128)
 }

@@ -107,7 +107,9 @@ fn verify_in(
         (system (lent abrows abcols (now (abrow .entry)) (now (abcol .entry)) (now (ablo .entry)) (now (abhi .entry))) (lent bbrows bbcols (now (bbrow .entry)) (now (bbcol .entry)) (now (bblo .entry)) (now (bbhi .entry))) (lent cbrows cbcols (now (cbrow .entry)) (now (cbcol .entry)) (now (cblo .entry)) (now (cbhi .entry))))
         (system (lent afrows afcols (now (afrow .entry)) (now (afcol .entry)) (now (aflo .entry)) (now (afhi .entry))) (lent bfrows bfcols (now (bfrow .entry)) (now (bfcol .entry)) (now (bflo .entry)) (now (bfhi .entry))) (lent cfrows cfcols (now (cfrow .entry)) (now (cfcol .entry)) (now (cflo .entry)) (now (cfhi .entry))))) (now (x .entry)) (now (proof .entry)) t (now (claims .entry))) ⌝ }
 {
-    let end = play::play(m, q, abrows, afrows, lens, proof, draws, t, 65536);
+    // All challenges are drawn before any check. The outcome is that of checking in document 01's order all the same: the transcript of a
+    // refused run is played again up to the failing check.
+    let heard = play::play(m, q, abrows, afrows, lens, proof, draws, t, 65536);
     let first = outer::outer_checks(m, q, abrows, afrows, lens, proof, draws);
     if first.code != 0 {
         return stopped(m, q, abrows, afrows, lens, proof, t, first);
@@ -162,7 +164,7 @@ fn verify_in(
     claims::write_claims(m, q, abrows, afrows, lens, proof, draws, claims);
     TranscriptAnswer {
         code: 0,
-        transcript: end,
+        transcript: heard,
     }
 }
 

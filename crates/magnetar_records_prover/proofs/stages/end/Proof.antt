@@ -70,7 +70,7 @@ returns : tie.Need-returns
 returns c =
     let x = c .before .before .before .before .before .before .before .before .before .before .before .before .before .before .before .before .before .before .before .before .before .before .before .args in
     let r = c .before .before .before .before .before .before .before .end-in in
-    end-left (x .m) (x .q) (x .rb) (x .rf) (c .before .before .before .before .before .before .before .before .before .before .before .before .before .before .before .before .least .result) (c .before .before .before .before .before .before .before .before .before .before .before .before .before .before .least2 .result) (c .before .before .before .before .before .before .before .before .before .before .before .before .least3 .result) (now (x .lens)) (now (x .proof)) (x .d) (now (x .claims)) (now (x .s)) _ (length (now (x .x)))
+    end-left (x .m) (x .q) (x .rb) (x .rf) (c .before .before .before .before .before .before .before .before .before .before .before .before .before .before .before .before .least .result) (c .before .before .before .before .before .before .before .before .before .before .before .before .before .before .least2 .result) (c .before .before .before .before .before .before .before .before .before .before .before .before .least3 .result) (now (x .lens)) (now (x .proof)) (x .d) (now (x .claims)) (now (x .s)) _ (length (now (x .x))) (x .t .«squeeze_ctr»)
     (c .before .before .before .before .before .before .before .before .before .before .before .before .before .before .before .before .least .ensures .0 ∙ ap (λ (n : ℕ). min n (length (now (x .proof)))) (c .before .before .before .before .before .before .before .before .before .before .before .before .before .before .before .before .before .proof-words .ensures))
     (c .before .before .before .before .before .before .before .before .before .before .before .before .before .before .least2 .ensures .0 ∙ ap (λ (n : ℕ). min n (length (now (x .claims)))) (c .before .before .before .before .before .before .before .before .before .before .before .before .before .before .before .claim-words .ensures))
     (c .before .before .before .before .before .before .before .before .before .before .before .before .least3 .ensures .0 ∙ ap (λ (n : ℕ). min n 256) (c .before .before .before .before .before .before .before .before .before .before .before .before .before .draw-words .ensures))

@@ -29,7 +29,7 @@ returns : tie.Need-returns
 returns c =
     let x = c .before .before .before .before .before .before .before .before .before .before .before .before .before .before .before .before .before .before .before .before .before .before .args in
     let r = c .before .before .before .before .before .before .before .before .before .before .before .before .inner-part in
-    claims-left (x .m) (x .q) (x .rb) (x .rf) (now (x .lens)) (now (x .proof)) (now (x .draws)) (now (x .claims)) (now (x .s)) _ (r .result) _ _ _ _ (length (now (x .x))) (r .ensures) (c .before .before .write-claims .ensures .1)
+    claims-left (x .m) (x .q) (x .rb) (x .rf) (now (x .lens)) (now (x .proof)) (now (x .draws)) (now (x .claims)) (now (x .s)) _ (r .result) _ _ _ _ (length (now (x .x))) (x .t .«squeeze_ctr») (r .ensures) (c .before .before .write-claims .ensures .1)
 
 pub end-in-spec : {M : Type 1} → statement M
 end-in-spec =

@@ -9,7 +9,7 @@ use Rattle.magnetar_field.specs.Sizes.{log₂}
 use Rattle.magnetar_layout.specs.Tests.{roomTest}
 use Rattle.magnetar_layout.proofs.Noted.{noted-front, noted-late}
 use Rattle.magnetar_rounds.proofs.OuterGuard.{totals-of, logins-few, bin-few, fld-few}
-use Rattle.magnetar_rounds.specs.Entries.{countTests, totalTests, outerDrawn, outerSaid, blockWords, outerRefusal}
+use Rattle.magnetar_rounds.specs.Entries.{counterTest, countTests, totalTests, outerDrawn, outerSaid, blockWords, outerRoundsRefusal}
 use borrow.Author.Needs.{needs}
 use Rattle.magnetar_rounds.proofs.guard.of_outer.Statement.{statement}
 use Rattle.magnetar_rounds.proofs.guard.of_outer.Tie as tie
@@ -18,8 +18,10 @@ of-counts-requires : tie.Need-of-counts-requires
 of-counts-requires c κs = search needs
 
 returns : tie.Need-returns
-unfolding outerRefusal
-returns c = noted-front (countTests (c .before .before .before .before .before .args .q) (c .before .before .before .before .before .args .rb) (c .before .before .before .before .before .args .rf) ++ totalTests (c .before .before .before .before .before .args .q) (c .before .before .before .before .before .args .rb) (c .before .before .before .before .before .args .rf)) (roomTest (2 * outerDrawn (log₂ (c .before .before .before .before .before .args .q)) (log₂ (c .before .before .before .before .before .args .rb)) (log₂ (c .before .before .before .before .before .args .rf))) (now (c .before .before .before .before .before .args .draws)) ++ roomTest (2 * outerSaid (log₂ (c .before .before .before .before .before .args .q)) (log₂ (c .before .before .before .before .before .args .rb)) (log₂ (c .before .before .before .before .before .args .rf))) (now (c .before .before .before .before .before .args .proof)) ++ roomTest (blockWords (c .before .before .before .before .before .args .q) (c .before .before .before .before .before .args .rb) (c .before .before .before .before .before .args .rf)) (now (c .before .before .before .before .before .args .s))) _ (c .before .of-counts .ensures) (c .if1 .taken)
+unfolding outerRoundsRefusal
+returns c =
+    let x = c .before .before .before .before .before .args in
+    noted-front (countTests (x .q) (x .rb) (x .rf) ++ totalTests (x .q) (x .rb) (x .rf)) (counterTest (x .t) ++ (roomTest (2 * outerDrawn (log₂ (x .q)) (log₂ (x .rb)) (log₂ (x .rf))) (now (x .draws)) ++ roomTest (2 * outerSaid (log₂ (x .q)) (log₂ (x .rb)) (log₂ (x .rf))) (now (x .proof)) ++ roomTest (blockWords (x .q) (x .rb) (x .rf)) (now (x .s)))) _ (c .before .of-counts .ensures) (c .if1 .taken)
 
 log2-requires : tie.Need-log2-requires
 log2-requires c κs = search needs
@@ -39,6 +41,9 @@ said-words-requires c κs = let z = totals-of (c .before .before .before .before
 block-words-requires : tie.Need-block-words-requires
 block-words-requires c κs = let z = totals-of (c .before .before .before .before .before .before .before .before .before .before .args .q) (c .before .before .before .before .before .before .before .before .before .before .args .rb) (c .before .before .before .before .before .before .before .before .before .before .args .rf) (sym (c .before .before .before .before .before .before .of-counts .ensures) ∙ c .before .before .before .before .before .if1 .left) in (z .bin, z .fld)
 
+of-counter-requires : tie.Need-of-counter-requires
+of-counter-requires c κs = search needs
+
 note-requires : tie.Need-note-requires
 note-requires c κs = search needs
 
@@ -49,8 +54,10 @@ note-requires-3 : tie.Need-note-requires-3
 note-requires-3 c κs = search needs
 
 returns-2 : tie.Need-returns-2
-unfolding outerRefusal
-returns-2 c = noted-late (countTests (c .before .before .before .before .before .before .before .before .before .before .before .before .before .before .args .q) (c .before .before .before .before .before .before .before .before .before .before .before .before .before .before .args .rb) (c .before .before .before .before .before .before .before .before .before .before .before .before .before .before .args .rf) ++ totalTests (c .before .before .before .before .before .before .before .before .before .before .before .before .before .before .args .q) (c .before .before .before .before .before .before .before .before .before .before .before .before .before .before .args .rb) (c .before .before .before .before .before .before .before .before .before .before .before .before .before .before .args .rf)) (roomTest (2 * outerDrawn (log₂ (c .before .before .before .before .before .before .before .before .before .before .before .before .before .before .args .q)) (log₂ (c .before .before .before .before .before .before .before .before .before .before .before .before .before .before .args .rb)) (log₂ (c .before .before .before .before .before .before .before .before .before .before .before .before .before .before .args .rf))) (now (c .before .before .before .before .before .before .before .before .before .before .before .before .before .before .args .draws)) ++ roomTest (2 * outerSaid (log₂ (c .before .before .before .before .before .before .before .before .before .before .before .before .before .before .args .q)) (log₂ (c .before .before .before .before .before .before .before .before .before .before .before .before .before .before .args .rb)) (log₂ (c .before .before .before .before .before .before .before .before .before .before .before .before .before .before .args .rf))) (now (c .before .before .before .before .before .before .before .before .before .before .before .before .before .before .args .proof)) ++ roomTest (blockWords (c .before .before .before .before .before .before .before .before .before .before .before .before .before .before .args .q) (c .before .before .before .before .before .before .before .before .before .before .before .before .before .before .args .rb) (c .before .before .before .before .before .before .before .before .before .before .before .before .before .before .args .rf)) (now (c .before .before .before .before .before .before .before .before .before .before .before .before .before .before .args .s))) _ _ (c .before .before .before .before .before .before .before .before .before .before .of-counts .ensures) (c .before .before .before .before .before .before .before .before .before .if1 .left) (rw (c .note3 .ensures, c .before .note2 .ensures, c .before .before .note .ensures, c .before .before .before .before .before .drawn-words .ensures, c .before .before .before .before .said-words .ensures, c .before .before .before .block-words .ensures, c .before .before .before .before .before .before .before .before .log2 .ensures, c .before .before .before .before .before .before .before .log22 .ensures, c .before .before .before .before .before .before .log23 .ensures))
+unfolding outerRoundsRefusal
+returns-2 c =
+    let x = c .before .before .before .before .before .before .before .before .before .before .before .before .before .before .before .args in
+    noted-late (countTests (x .q) (x .rb) (x .rf) ++ totalTests (x .q) (x .rb) (x .rf)) (counterTest (x .t) ++ (roomTest (2 * outerDrawn (log₂ (x .q)) (log₂ (x .rb)) (log₂ (x .rf))) (now (x .draws)) ++ roomTest (2 * outerSaid (log₂ (x .q)) (log₂ (x .rb)) (log₂ (x .rf))) (now (x .proof)) ++ roomTest (blockWords (x .q) (x .rb) (x .rf)) (now (x .s)))) _ _ (c .before .before .before .before .before .before .before .before .before .before .before .of-counts .ensures) (c .before .before .before .before .before .before .before .before .before .before .if1 .left) (rw (c .note3 .ensures, c .before .note2 .ensures, c .before .before .note .ensures, c .before .before .before .of-counter .ensures, c .before .before .before .before .before .before .drawn-words .ensures, c .before .before .before .before .before .said-words .ensures, c .before .before .before .before .block-words .ensures, c .before .before .before .before .before .before .before .before .before .log2 .ensures, c .before .before .before .before .before .before .before .before .log22 .ensures, c .before .before .before .before .before .before .before .log23 .ensures))
 
 pub of-outer-spec : {M : Type 1} → statement M
 of-outer-spec =
@@ -64,6 +71,7 @@ of-outer-spec =
     drawn-words-requires
     said-words-requires
     block-words-requires
+    of-counter-requires
     note-requires
     note-requires-2
     note-requires-3

@@ -5,7 +5,7 @@ use Rattle.magnetar_field.specs.Gf128.{value}
 use Rattle.magnetar_rounds.proofs.InnerSteps.{inner-stepped, inner-three}
 use Rattle.magnetar_rounds.proofs.Said.{drawn-more, said-more, said-there}
 use Rattle.magnetar_rounds.proofs.Slots.{part-size}
-use Rattle.magnetar_rounds.specs.Held.{tableAt}
+use Rattle.magnetar_rounds.specs.Entries.{tableAt}
 use Rattle.magnetar_sumcheck.specs.Inner.{innerMessage}
 use borrow.Author.Needs.{needs}
 use denote.Ref.{now}

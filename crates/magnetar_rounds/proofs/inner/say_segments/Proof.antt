@@ -5,7 +5,8 @@ use Rattle.magnetar_field.specs.Tabulate.{tabulate}
 use Rattle.magnetar_field.specs.Words.{elements}
 use Rattle.magnetar_protocol.specs.Schedule.{numbered}
 use Rattle.magnetar_rounds.proofs.Segments.{Each, each-done, each-more, each-start-at}
-use Rattle.magnetar_rounds.specs.Held.{heardOne, saidIn, segmentIn, tableAt}
+use Rattle.magnetar_rounds.specs.Entries.{tableAt}
+use Rattle.magnetar_rounds.specs.Held.{heardOne, saidIn, segmentIn}
 use borrow.Author.Needs.{needs}
 use denote.Ref.{now}
 use lib.ListN.{length, take}

@@ -13,7 +13,7 @@ use Rattle.magnetar_layout.proofs.Noted.{done, turned}
 use Rattle.magnetar_rounds.proofs.Entered.{laid-over}
 use Rattle.magnetar_rounds.proofs.OuterGuard.{outer-fits, blocks-lent, logins-few, bin-few, fld-few}
 use Rattle.magnetar_rounds.proofs.OuterParts.{played-is}
-use Rattle.magnetar_rounds.specs.Entries.{outerRefusal, outerSaid, outerDrawn, blockWords}
+use Rattle.magnetar_rounds.specs.Entries.{outerRoundsRefusal, outerSaid, outerDrawn, blockWords}
 use borrow.Author.Needs.{needs}
 use Rattle.magnetar_rounds.proofs.rounds.outer_rounds.Statement.{statement}
 use Rattle.magnetar_rounds.proofs.rounds.outer_rounds.Tie as tie
@@ -43,40 +43,40 @@ log2-requires-3 : tie.Need-log2-requires-3
 log2-requires-3 c κs = search needs
 
 said-words-requires : tie.Need-said-words-requires
-said-words-requires c κs = let z = (outer-fits (c .before .before .before .before .before .before .before .before .before .before .before .args .q) (c .before .before .before .before .before .before .before .before .before .before .before .args .rb) (c .before .before .before .before .before .before .before .before .before .before .before .args .rf) (now (c .before .before .before .before .before .before .before .before .before .before .before .args .proof)) (now (c .before .before .before .before .before .before .before .before .before .before .before .args .draws)) (now (c .before .before .before .before .before .before .before .before .before .before .before .args .s)) (sym (c .before .before .before .before .of-outer .ensures) ∙ c .before .before .before .if1 .left)) .totals in (omega (arith, c .before .before .log2 .ensures, logins-few (z .counts)), omega (arith, c .before .log22 .ensures, bin-few (z .counts)), omega (arith, c .log23 .ensures, fld-few (z .counts)))
+said-words-requires c κs = let z = (outer-fits (c .before .before .before .before .before .before .before .before .before .before .before .args .q) (c .before .before .before .before .before .before .before .before .before .before .before .args .rb) (c .before .before .before .before .before .before .before .before .before .before .before .args .rf) (now (c .before .before .before .before .before .before .before .before .before .before .before .args .proof)) (now (c .before .before .before .before .before .before .before .before .before .before .before .args .draws)) (now (c .before .before .before .before .before .before .before .before .before .before .before .args .s)) (c .before .before .before .before .before .before .before .before .before .before .before .args .t) (sym (c .before .before .before .before .of-outer .ensures) ∙ c .before .before .before .if1 .left)) .totals in (omega (arith, c .before .before .log2 .ensures, logins-few (z .counts)), omega (arith, c .before .log22 .ensures, bin-few (z .counts)), omega (arith, c .log23 .ensures, fld-few (z .counts)))
 
 drawn-words-requires : tie.Need-drawn-words-requires
-drawn-words-requires c κs = let z = (outer-fits (c .before .before .before .before .before .before .before .before .before .before .before .before .args .q) (c .before .before .before .before .before .before .before .before .before .before .before .before .args .rb) (c .before .before .before .before .before .before .before .before .before .before .before .before .args .rf) (now (c .before .before .before .before .before .before .before .before .before .before .before .before .args .proof)) (now (c .before .before .before .before .before .before .before .before .before .before .before .before .args .draws)) (now (c .before .before .before .before .before .before .before .before .before .before .before .before .args .s)) (sym (c .before .before .before .before .before .of-outer .ensures) ∙ c .before .before .before .before .if1 .left)) .totals in (omega (arith, c .before .before .before .log2 .ensures, logins-few (z .counts)), omega (arith, c .before .before .log22 .ensures, bin-few (z .counts)), omega (arith, c .before .log23 .ensures, fld-few (z .counts)))
+drawn-words-requires c κs = let z = (outer-fits (c .before .before .before .before .before .before .before .before .before .before .before .before .args .q) (c .before .before .before .before .before .before .before .before .before .before .before .before .args .rb) (c .before .before .before .before .before .before .before .before .before .before .before .before .args .rf) (now (c .before .before .before .before .before .before .before .before .before .before .before .before .args .proof)) (now (c .before .before .before .before .before .before .before .before .before .before .before .before .args .draws)) (now (c .before .before .before .before .before .before .before .before .before .before .before .before .args .s)) (c .before .before .before .before .before .before .before .before .before .before .before .before .args .t) (sym (c .before .before .before .before .before .of-outer .ensures) ∙ c .before .before .before .before .if1 .left)) .totals in (omega (arith, c .before .before .before .log2 .ensures, logins-few (z .counts)), omega (arith, c .before .before .log22 .ensures, bin-few (z .counts)), omega (arith, c .before .log23 .ensures, fld-few (z .counts)))
 
 block-words-requires : tie.Need-block-words-requires
-block-words-requires c κs = let f = outer-fits (c .before .before .before .before .before .before .before .before .before .before .before .before .before .args .q) (c .before .before .before .before .before .before .before .before .before .before .before .before .before .args .rb) (c .before .before .before .before .before .before .before .before .before .before .before .before .before .args .rf) (now (c .before .before .before .before .before .before .before .before .before .before .before .before .before .args .proof)) (now (c .before .before .before .before .before .before .before .before .before .before .before .before .before .args .draws)) (now (c .before .before .before .before .before .before .before .before .before .before .before .before .before .args .s)) (sym (c .before .before .before .before .before .before .of-outer .ensures) ∙ c .before .before .before .before .before .if1 .left) in (f .totals .bin, f .totals .fld)
+block-words-requires c κs = let f = outer-fits (c .before .before .before .before .before .before .before .before .before .before .before .before .before .args .q) (c .before .before .before .before .before .before .before .before .before .before .before .before .before .args .rb) (c .before .before .before .before .before .before .before .before .before .before .before .before .before .args .rf) (now (c .before .before .before .before .before .before .before .before .before .before .before .before .before .args .proof)) (now (c .before .before .before .before .before .before .before .before .before .before .before .before .before .args .draws)) (now (c .before .before .before .before .before .before .before .before .before .before .before .before .before .args .s)) (c .before .before .before .before .before .before .before .before .before .before .before .before .before .args .t) (sym (c .before .before .before .before .before .before .of-outer .ensures) ∙ c .before .before .before .before .before .if1 .left) in (f .totals .bin, f .totals .fld)
 
 table-words-requires : tie.Need-table-words-requires
-table-words-requires c κs = let f = outer-fits (c .before .before .before .before .before .before .before .before .before .before .before .before .before .before .args .q) (c .before .before .before .before .before .before .before .before .before .before .before .before .before .before .args .rb) (c .before .before .before .before .before .before .before .before .before .before .before .before .before .before .args .rf) (now (c .before .before .before .before .before .before .before .before .before .before .before .before .before .before .args .proof)) (now (c .before .before .before .before .before .before .before .before .before .before .before .before .before .before .args .draws)) (now (c .before .before .before .before .before .before .before .before .before .before .before .before .before .before .args .s)) (sym (c .before .before .before .before .before .before .before .of-outer .ensures) ∙ c .before .before .before .before .before .before .if1 .left) in f .totals .bin
+table-words-requires c κs = let f = outer-fits (c .before .before .before .before .before .before .before .before .before .before .before .before .before .before .args .q) (c .before .before .before .before .before .before .before .before .before .before .before .before .before .before .args .rb) (c .before .before .before .before .before .before .before .before .before .before .before .before .before .before .args .rf) (now (c .before .before .before .before .before .before .before .before .before .before .before .before .before .before .args .proof)) (now (c .before .before .before .before .before .before .before .before .before .before .before .before .before .before .args .draws)) (now (c .before .before .before .before .before .before .before .before .before .before .before .before .before .before .args .s)) (c .before .before .before .before .before .before .before .before .before .before .before .before .before .before .args .t) (sym (c .before .before .before .before .before .before .before .of-outer .ensures) ∙ c .before .before .before .before .before .before .if1 .left) in f .totals .bin
 
 table-words-requires-2 : tie.Need-table-words-requires-2
-table-words-requires-2 c κs = let f = outer-fits (c .before .before .before .before .before .before .before .before .before .before .before .before .before .before .before .args .q) (c .before .before .before .before .before .before .before .before .before .before .before .before .before .before .before .args .rb) (c .before .before .before .before .before .before .before .before .before .before .before .before .before .before .before .args .rf) (now (c .before .before .before .before .before .before .before .before .before .before .before .before .before .before .before .args .proof)) (now (c .before .before .before .before .before .before .before .before .before .before .before .before .before .before .before .args .draws)) (now (c .before .before .before .before .before .before .before .before .before .before .before .before .before .before .before .args .s)) (sym (c .before .before .before .before .before .before .before .before .of-outer .ensures) ∙ c .before .before .before .before .before .before .before .if1 .left) in f .totals .fld
+table-words-requires-2 c κs = let f = outer-fits (c .before .before .before .before .before .before .before .before .before .before .before .before .before .before .before .args .q) (c .before .before .before .before .before .before .before .before .before .before .before .before .before .before .before .args .rb) (c .before .before .before .before .before .before .before .before .before .before .before .before .before .before .before .args .rf) (now (c .before .before .before .before .before .before .before .before .before .before .before .before .before .before .before .args .proof)) (now (c .before .before .before .before .before .before .before .before .before .before .before .before .before .before .before .args .draws)) (now (c .before .before .before .before .before .before .before .before .before .before .before .before .before .before .before .args .s)) (c .before .before .before .before .before .before .before .before .before .before .before .before .before .before .before .args .t) (sym (c .before .before .before .before .before .before .before .before .of-outer .ensures) ∙ c .before .before .before .before .before .before .before .if1 .left) in f .totals .fld
 
 slice-relend-prefix-run : tie.Need-slice-relend-prefix-run
-slice-relend-prefix-run c = let f = outer-fits (c .before .before .before .before .before .before .before .before .before .before .before .before .before .before .before .before .args .q) (c .before .before .before .before .before .before .before .before .before .before .before .before .before .before .before .before .args .rb) (c .before .before .before .before .before .before .before .before .before .before .before .before .before .before .before .before .args .rf) (now (c .before .before .before .before .before .before .before .before .before .before .before .before .before .before .before .before .args .proof)) (now (c .before .before .before .before .before .before .before .before .before .before .before .before .before .before .before .before .args .draws)) (now (c .before .before .before .before .before .before .before .before .before .before .before .before .before .before .before .before .args .s)) (sym (c .before .before .before .before .before .before .before .before .before .of-outer .ensures) ∙ c .before .before .before .before .before .before .before .before .if1 .left) in (omega (arith, c .before .before .before .before .said-words .ensures, c .before .before .before .before .before .before .before .log2 .ensures, c .before .before .before .before .before .before .log22 .ensures, c .before .before .before .before .before .log23 .ensures, f .said))
+slice-relend-prefix-run c = let f = outer-fits (c .before .before .before .before .before .before .before .before .before .before .before .before .before .before .before .before .args .q) (c .before .before .before .before .before .before .before .before .before .before .before .before .before .before .before .before .args .rb) (c .before .before .before .before .before .before .before .before .before .before .before .before .before .before .before .before .args .rf) (now (c .before .before .before .before .before .before .before .before .before .before .before .before .before .before .before .before .args .proof)) (now (c .before .before .before .before .before .before .before .before .before .before .before .before .before .before .before .before .args .draws)) (now (c .before .before .before .before .before .before .before .before .before .before .before .before .before .before .before .before .args .s)) (c .before .before .before .before .before .before .before .before .before .before .before .before .before .before .before .before .args .t) (sym (c .before .before .before .before .before .before .before .before .before .of-outer .ensures) ∙ c .before .before .before .before .before .before .before .before .if1 .left) in (omega (arith, c .before .before .before .before .said-words .ensures, c .before .before .before .before .before .before .before .log2 .ensures, c .before .before .before .before .before .before .log22 .ensures, c .before .before .before .before .before .log23 .ensures, f .said))
 
 slice-aggregate-run : tie.Need-slice-aggregate-run
-slice-aggregate-run c = let f = outer-fits (c .before .before .before .before .before .before .before .before .before .before .before .before .before .before .before .before .before .args .q) (c .before .before .before .before .before .before .before .before .before .before .before .before .before .before .before .before .before .args .rb) (c .before .before .before .before .before .before .before .before .before .before .before .before .before .before .before .before .before .args .rf) (now (c .before .before .before .before .before .before .before .before .before .before .before .before .before .before .before .before .before .args .proof)) (now (c .before .before .before .before .before .before .before .before .before .before .before .before .before .before .before .before .before .args .draws)) (now (c .before .before .before .before .before .before .before .before .before .before .before .before .before .before .before .before .before .args .s)) (sym (c .before .before .before .before .before .before .before .before .before .before .of-outer .ensures) ∙ c .before .before .before .before .before .before .before .before .before .if1 .left) in sym (length-take-le _ _ (omega (arith, c .before .before .before .before .before .said-words .ensures, c .before .before .before .before .before .before .before .before .log2 .ensures, c .before .before .before .before .before .before .before .log22 .ensures, c .before .before .before .before .before .before .log23 .ensures, f .said)))
+slice-aggregate-run c = let f = outer-fits (c .before .before .before .before .before .before .before .before .before .before .before .before .before .before .before .before .before .args .q) (c .before .before .before .before .before .before .before .before .before .before .before .before .before .before .before .before .before .args .rb) (c .before .before .before .before .before .before .before .before .before .before .before .before .before .before .before .before .before .args .rf) (now (c .before .before .before .before .before .before .before .before .before .before .before .before .before .before .before .before .before .args .proof)) (now (c .before .before .before .before .before .before .before .before .before .before .before .before .before .before .before .before .before .args .draws)) (now (c .before .before .before .before .before .before .before .before .before .before .before .before .before .before .before .before .before .args .s)) (c .before .before .before .before .before .before .before .before .before .before .before .before .before .before .before .before .before .args .t) (sym (c .before .before .before .before .before .before .before .before .before .before .of-outer .ensures) ∙ c .before .before .before .before .before .before .before .before .before .if1 .left) in sym (length-take-le _ _ (omega (arith, c .before .before .before .before .before .said-words .ensures, c .before .before .before .before .before .before .before .before .log2 .ensures, c .before .before .before .before .before .before .before .log22 .ensures, c .before .before .before .before .before .before .log23 .ensures, f .said)))
 
 slice-relend-prefix-run-2 : tie.Need-slice-relend-prefix-run-2
-slice-relend-prefix-run-2 c = let f = outer-fits (c .before .before .before .before .before .before .before .before .before .before .before .before .before .before .before .before .before .args .q) (c .before .before .before .before .before .before .before .before .before .before .before .before .before .before .before .before .before .args .rb) (c .before .before .before .before .before .before .before .before .before .before .before .before .before .before .before .before .before .args .rf) (now (c .before .before .before .before .before .before .before .before .before .before .before .before .before .before .before .before .before .args .proof)) (now (c .before .before .before .before .before .before .before .before .before .before .before .before .before .before .before .before .before .args .draws)) (now (c .before .before .before .before .before .before .before .before .before .before .before .before .before .before .before .before .before .args .s)) (sym (c .before .before .before .before .before .before .before .before .before .before .of-outer .ensures) ∙ c .before .before .before .before .before .before .before .before .before .if1 .left) in (omega (arith, c .before .before .before .before .drawn-words .ensures, c .before .before .before .before .before .before .before .before .log2 .ensures, c .before .before .before .before .before .before .before .log22 .ensures, c .before .before .before .before .before .before .log23 .ensures, f .drawn))
+slice-relend-prefix-run-2 c = let f = outer-fits (c .before .before .before .before .before .before .before .before .before .before .before .before .before .before .before .before .before .args .q) (c .before .before .before .before .before .before .before .before .before .before .before .before .before .before .before .before .before .args .rb) (c .before .before .before .before .before .before .before .before .before .before .before .before .before .before .before .before .before .args .rf) (now (c .before .before .before .before .before .before .before .before .before .before .before .before .before .before .before .before .before .args .proof)) (now (c .before .before .before .before .before .before .before .before .before .before .before .before .before .before .before .before .before .args .draws)) (now (c .before .before .before .before .before .before .before .before .before .before .before .before .before .before .before .before .before .args .s)) (c .before .before .before .before .before .before .before .before .before .before .before .before .before .before .before .before .before .args .t) (sym (c .before .before .before .before .before .before .before .before .before .before .of-outer .ensures) ∙ c .before .before .before .before .before .before .before .before .before .if1 .left) in (omega (arith, c .before .before .before .before .drawn-words .ensures, c .before .before .before .before .before .before .before .before .log2 .ensures, c .before .before .before .before .before .before .before .log22 .ensures, c .before .before .before .before .before .before .log23 .ensures, f .drawn))
 
 slice-aggregate-run-2 : tie.Need-slice-aggregate-run-2
-slice-aggregate-run-2 c = let f = outer-fits (c .before .before .before .before .before .before .before .before .before .before .before .before .before .before .before .before .before .before .args .q) (c .before .before .before .before .before .before .before .before .before .before .before .before .before .before .before .before .before .before .args .rb) (c .before .before .before .before .before .before .before .before .before .before .before .before .before .before .before .before .before .before .args .rf) (now (c .before .before .before .before .before .before .before .before .before .before .before .before .before .before .before .before .before .before .args .proof)) (now (c .before .before .before .before .before .before .before .before .before .before .before .before .before .before .before .before .before .before .args .draws)) (now (c .before .before .before .before .before .before .before .before .before .before .before .before .before .before .before .before .before .before .args .s)) (sym (c .before .before .before .before .before .before .before .before .before .before .before .of-outer .ensures) ∙ c .before .before .before .before .before .before .before .before .before .before .if1 .left) in sym (length-take-le _ _ (omega (arith, c .before .before .before .before .before .drawn-words .ensures, c .before .before .before .before .before .before .before .before .before .log2 .ensures, c .before .before .before .before .before .before .before .before .log22 .ensures, c .before .before .before .before .before .before .before .log23 .ensures, f .drawn)))
+slice-aggregate-run-2 c = let f = outer-fits (c .before .before .before .before .before .before .before .before .before .before .before .before .before .before .before .before .before .before .args .q) (c .before .before .before .before .before .before .before .before .before .before .before .before .before .before .before .before .before .before .args .rb) (c .before .before .before .before .before .before .before .before .before .before .before .before .before .before .before .before .before .before .args .rf) (now (c .before .before .before .before .before .before .before .before .before .before .before .before .before .before .before .before .before .before .args .proof)) (now (c .before .before .before .before .before .before .before .before .before .before .before .before .before .before .before .before .before .before .args .draws)) (now (c .before .before .before .before .before .before .before .before .before .before .before .before .before .before .before .before .before .before .args .s)) (c .before .before .before .before .before .before .before .before .before .before .before .before .before .before .before .before .before .before .args .t) (sym (c .before .before .before .before .before .before .before .before .before .before .before .of-outer .ensures) ∙ c .before .before .before .before .before .before .before .before .before .before .if1 .left) in sym (length-take-le _ _ (omega (arith, c .before .before .before .before .before .drawn-words .ensures, c .before .before .before .before .before .before .before .before .before .log2 .ensures, c .before .before .before .before .before .before .before .before .log22 .ensures, c .before .before .before .before .before .before .before .log23 .ensures, f .drawn)))
 
 slice-relend-prefix-run-3 : tie.Need-slice-relend-prefix-run-3
-slice-relend-prefix-run-3 c = let f = outer-fits (c .before .before .before .before .before .before .before .before .before .before .before .before .before .before .before .before .before .before .args .q) (c .before .before .before .before .before .before .before .before .before .before .before .before .before .before .before .before .before .before .args .rb) (c .before .before .before .before .before .before .before .before .before .before .before .before .before .before .before .before .before .before .args .rf) (now (c .before .before .before .before .before .before .before .before .before .before .before .before .before .before .before .before .before .before .args .proof)) (now (c .before .before .before .before .before .before .before .before .before .before .before .before .before .before .before .before .before .before .args .draws)) (now (c .before .before .before .before .before .before .before .before .before .before .before .before .before .before .before .before .before .before .args .s)) (sym (c .before .before .before .before .before .before .before .before .before .before .before .of-outer .ensures) ∙ c .before .before .before .before .before .before .before .before .before .before .if1 .left) in (omega (arith, c .before .before .before .before .block-words .ensures, f .scratch))
+slice-relend-prefix-run-3 c = let f = outer-fits (c .before .before .before .before .before .before .before .before .before .before .before .before .before .before .before .before .before .before .args .q) (c .before .before .before .before .before .before .before .before .before .before .before .before .before .before .before .before .before .before .args .rb) (c .before .before .before .before .before .before .before .before .before .before .before .before .before .before .before .before .before .before .args .rf) (now (c .before .before .before .before .before .before .before .before .before .before .before .before .before .before .before .before .before .before .args .proof)) (now (c .before .before .before .before .before .before .before .before .before .before .before .before .before .before .before .before .before .before .args .draws)) (now (c .before .before .before .before .before .before .before .before .before .before .before .before .before .before .before .before .before .before .args .s)) (c .before .before .before .before .before .before .before .before .before .before .before .before .before .before .before .before .before .before .args .t) (sym (c .before .before .before .before .before .before .before .before .before .before .before .of-outer .ensures) ∙ c .before .before .before .before .before .before .before .before .before .before .if1 .left) in (omega (arith, c .before .before .before .before .block-words .ensures, f .scratch))
 
 slice-aggregate-run-3 : tie.Need-slice-aggregate-run-3
-slice-aggregate-run-3 c = let f = outer-fits (c .before .before .before .before .before .before .before .before .before .before .before .before .before .before .before .before .before .before .before .args .q) (c .before .before .before .before .before .before .before .before .before .before .before .before .before .before .before .before .before .before .before .args .rb) (c .before .before .before .before .before .before .before .before .before .before .before .before .before .before .before .before .before .before .before .args .rf) (now (c .before .before .before .before .before .before .before .before .before .before .before .before .before .before .before .before .before .before .before .args .proof)) (now (c .before .before .before .before .before .before .before .before .before .before .before .before .before .before .before .before .before .before .before .args .draws)) (now (c .before .before .before .before .before .before .before .before .before .before .before .before .before .before .before .before .before .before .before .args .s)) (sym (c .before .before .before .before .before .before .before .before .before .before .before .before .of-outer .ensures) ∙ c .before .before .before .before .before .before .before .before .before .before .before .if1 .left) in sym (length-take-le _ _ (omega (arith, c .before .before .before .before .before .block-words .ensures, f .scratch)))
+slice-aggregate-run-3 c = let f = outer-fits (c .before .before .before .before .before .before .before .before .before .before .before .before .before .before .before .before .before .before .before .args .q) (c .before .before .before .before .before .before .before .before .before .before .before .before .before .before .before .before .before .before .before .args .rb) (c .before .before .before .before .before .before .before .before .before .before .before .before .before .before .before .before .before .before .before .args .rf) (now (c .before .before .before .before .before .before .before .before .before .before .before .before .before .before .before .before .before .before .before .args .proof)) (now (c .before .before .before .before .before .before .before .before .before .before .before .before .before .before .before .before .before .before .before .args .draws)) (now (c .before .before .before .before .before .before .before .before .before .before .before .before .before .before .before .before .before .before .before .args .s)) (c .before .before .before .before .before .before .before .before .before .before .before .before .before .before .before .before .before .before .before .args .t) (sym (c .before .before .before .before .before .before .before .before .before .before .before .before .of-outer .ensures) ∙ c .before .before .before .before .before .before .before .before .before .before .before .if1 .left) in sym (length-take-le _ _ (omega (arith, c .before .before .before .before .before .block-words .ensures, f .scratch)))
 
 run-requires : tie.Need-run-requires
-run-requires c κs = let f = outer-fits (c .before .before .before .before .before .before .before .before .before .before .before .before .before .before .before .before .before .before .before .args .q) (c .before .before .before .before .before .before .before .before .before .before .before .before .before .before .before .before .before .before .before .args .rb) (c .before .before .before .before .before .before .before .before .before .before .before .before .before .before .before .before .before .before .before .args .rf) (now (c .before .before .before .before .before .before .before .before .before .before .before .before .before .before .before .before .before .before .before .args .proof)) (now (c .before .before .before .before .before .before .before .before .before .before .before .before .before .before .before .before .before .before .before .args .draws)) (now (c .before .before .before .before .before .before .before .before .before .before .before .before .before .before .before .before .before .before .before .args .s)) (sym (c .before .before .before .before .before .before .before .before .before .before .before .before .of-outer .ensures) ∙ c .before .before .before .before .before .before .before .before .before .before .before .if1 .left) in blocks-lent (c .before .before .before .before .before .before .before .before .before .before .log2 .ensures) (c .before .before .before .before .before .before .before .before .before .log22 .ensures) (c .before .before .before .before .before .before .before .before .log23 .ensures) (c .before .before .before .before .table-words .ensures) (c .before .before .before .table-words2 .ensures) (length-take-le _ _ (omega (arith, c .before .before .before .before .before .before .before .said-words .ensures, c .before .before .before .before .before .before .before .before .before .before .log2 .ensures, c .before .before .before .before .before .before .before .before .before .log22 .ensures, c .before .before .before .before .before .before .before .before .log23 .ensures, f .said)) ∙ c .before .before .before .before .before .before .before .said-words .ensures) (length-take-le _ _ (omega (arith, c .before .before .before .before .before .before .drawn-words .ensures, c .before .before .before .before .before .before .before .before .before .before .log2 .ensures, c .before .before .before .before .before .before .before .before .before .log22 .ensures, c .before .before .before .before .before .before .before .before .log23 .ensures, f .drawn)) ∙ c .before .before .before .before .before .before .drawn-words .ensures) (length-take-le _ _ (omega (arith, c .before .before .before .before .before .block-words .ensures, f .scratch)) ∙ c .before .before .before .before .before .block-words .ensures) (f .totals)
+run-requires c κs = let f = outer-fits (c .before .before .before .before .before .before .before .before .before .before .before .before .before .before .before .before .before .before .before .args .q) (c .before .before .before .before .before .before .before .before .before .before .before .before .before .before .before .before .before .before .before .args .rb) (c .before .before .before .before .before .before .before .before .before .before .before .before .before .before .before .before .before .before .before .args .rf) (now (c .before .before .before .before .before .before .before .before .before .before .before .before .before .before .before .before .before .before .before .args .proof)) (now (c .before .before .before .before .before .before .before .before .before .before .before .before .before .before .before .before .before .before .before .args .draws)) (now (c .before .before .before .before .before .before .before .before .before .before .before .before .before .before .before .before .before .before .before .args .s)) (c .before .before .before .before .before .before .before .before .before .before .before .before .before .before .before .before .before .before .before .args .t) (sym (c .before .before .before .before .before .before .before .before .before .before .before .before .of-outer .ensures) ∙ c .before .before .before .before .before .before .before .before .before .before .before .if1 .left) in blocks-lent (c .before .before .before .before .before .before .before .before .before .before .log2 .ensures) (c .before .before .before .before .before .before .before .before .before .log22 .ensures) (c .before .before .before .before .before .before .before .before .log23 .ensures) (c .before .before .before .before .table-words .ensures) (c .before .before .before .table-words2 .ensures) (length-take-le _ _ (omega (arith, c .before .before .before .before .before .before .before .said-words .ensures, c .before .before .before .before .before .before .before .before .before .before .log2 .ensures, c .before .before .before .before .before .before .before .before .before .log22 .ensures, c .before .before .before .before .before .before .before .before .log23 .ensures, f .said)) ∙ c .before .before .before .before .before .before .before .said-words .ensures) (length-take-le _ _ (omega (arith, c .before .before .before .before .before .before .drawn-words .ensures, c .before .before .before .before .before .before .before .before .before .before .log2 .ensures, c .before .before .before .before .before .before .before .before .before .log22 .ensures, c .before .before .before .before .before .before .before .before .log23 .ensures, f .drawn)) ∙ c .before .before .before .before .before .before .drawn-words .ensures) (length-take-le _ _ (omega (arith, c .before .before .before .before .before .block-words .ensures, f .scratch)) ∙ c .before .before .before .before .before .block-words .ensures) (f .totals)
 
 same-length-4 : tie.Need-same-length-4
 same-length-4 c = search needs
@@ -88,7 +88,7 @@ same-length-6 : tie.Need-same-length-6
 same-length-6 c = search needs
 
 returns-2 : tie.Need-returns-2
-returns-2 c = let f = outer-fits (c .before .before .before .before .before .before .before .before .before .before .before .before .before .before .before .before .before .before .before .before .before .before .before .before .before .before .args .q) (c .before .before .before .before .before .before .before .before .before .before .before .before .before .before .before .before .before .before .before .before .before .before .before .before .before .before .args .rb) (c .before .before .before .before .before .before .before .before .before .before .before .before .before .before .before .before .before .before .before .before .before .before .before .before .before .before .args .rf) (now (c .before .before .before .before .before .before .before .before .before .before .before .before .before .before .before .before .before .before .before .before .before .before .before .before .before .before .args .proof)) (now (c .before .before .before .before .before .before .before .before .before .before .before .before .before .before .before .before .before .before .before .before .before .before .before .before .before .before .args .draws)) (now (c .before .before .before .before .before .before .before .before .before .before .before .before .before .before .before .before .before .before .before .before .before .before .before .before .before .before .args .s)) (sym (c .before .before .before .before .before .before .before .before .before .before .before .before .before .before .before .before .before .before .before .of-outer .ensures) ∙ c .before .before .before .before .before .before .before .before .before .before .before .before .before .before .before .before .before .before .if1 .left) in let e : _≡_ {A = ℕ} 0 (outerRefusal (c .before .before .before .before .before .before .before .before .before .before .before .before .before .before .before .before .before .before .before .before .before .before .before .before .before .before .args .q) (c .before .before .before .before .before .before .before .before .before .before .before .before .before .before .before .before .before .before .before .before .before .before .before .before .before .before .args .rb) (c .before .before .before .before .before .before .before .before .before .before .before .before .before .before .before .before .before .before .before .before .before .before .before .before .before .before .args .rf) (now (c .before .before .before .before .before .before .before .before .before .before .before .before .before .before .before .before .before .before .before .before .before .before .before .before .before .before .args .proof)) (now (c .before .before .before .before .before .before .before .before .before .before .before .before .before .before .before .before .before .before .before .before .before .before .before .before .before .before .args .draws)) (now (c .before .before .before .before .before .before .before .before .before .before .before .before .before .before .before .before .before .before .before .before .before .before .before .before .before .before .args .s))) = sym (sym (c .before .before .before .before .before .before .before .before .before .before .before .before .before .before .before .before .before .before .before .of-outer .ensures) ∙ c .before .before .before .before .before .before .before .before .before .before .before .before .before .before .before .before .before .before .if1 .left) in
+returns-2 c = let f = outer-fits (c .before .before .before .before .before .before .before .before .before .before .before .before .before .before .before .before .before .before .before .before .before .before .before .before .before .before .args .q) (c .before .before .before .before .before .before .before .before .before .before .before .before .before .before .before .before .before .before .before .before .before .before .before .before .before .before .args .rb) (c .before .before .before .before .before .before .before .before .before .before .before .before .before .before .before .before .before .before .before .before .before .before .before .before .before .before .args .rf) (now (c .before .before .before .before .before .before .before .before .before .before .before .before .before .before .before .before .before .before .before .before .before .before .before .before .before .before .args .proof)) (now (c .before .before .before .before .before .before .before .before .before .before .before .before .before .before .before .before .before .before .before .before .before .before .before .before .before .before .args .draws)) (now (c .before .before .before .before .before .before .before .before .before .before .before .before .before .before .before .before .before .before .before .before .before .before .before .before .before .before .args .s)) (c .before .before .before .before .before .before .before .before .before .before .before .before .before .before .before .before .before .before .before .before .before .before .before .before .before .before .args .t) (sym (c .before .before .before .before .before .before .before .before .before .before .before .before .before .before .before .before .before .before .before .of-outer .ensures) ∙ c .before .before .before .before .before .before .before .before .before .before .before .before .before .before .before .before .before .before .if1 .left) in let e : _≡_ {A = ℕ} 0 (outerRoundsRefusal (c .before .before .before .before .before .before .before .before .before .before .before .before .before .before .before .before .before .before .before .before .before .before .before .before .before .before .args .q) (c .before .before .before .before .before .before .before .before .before .before .before .before .before .before .before .before .before .before .before .before .before .before .before .before .before .before .args .rb) (c .before .before .before .before .before .before .before .before .before .before .before .before .before .before .before .before .before .before .before .before .before .before .before .before .before .before .args .rf) (now (c .before .before .before .before .before .before .before .before .before .before .before .before .before .before .before .before .before .before .before .before .before .before .before .before .before .before .args .proof)) (now (c .before .before .before .before .before .before .before .before .before .before .before .before .before .before .before .before .before .before .before .before .before .before .before .before .before .before .args .draws)) (now (c .before .before .before .before .before .before .before .before .before .before .before .before .before .before .before .before .before .before .before .before .before .before .before .before .before .before .args .s)) (c .before .before .before .before .before .before .before .before .before .before .before .before .before .before .before .before .before .before .before .before .before .before .before .before .before .before .args .t)) = sym (sym (c .before .before .before .before .before .before .before .before .before .before .before .before .before .before .before .before .before .before .before .of-outer .ensures) ∙ c .before .before .before .before .before .before .before .before .before .before .before .before .before .before .before .before .before .before .if1 .left) in
     let q = c .before .before .before .before .before .before .run .ensures .0 ∙ played-is (c .before .before .before .before .before .before .before .before .before .before .before .before .before .before .before .before .before .before .before .before .before .before .before .before .before .before .args .q) (c .before .before .before .before .before .before .before .before .before .before .before .before .before .before .before .before .before .before .before .before .before .before .before .before .before .before .args .rb) (c .before .before .before .before .before .before .before .before .before .before .before .before .before .before .before .before .before .before .before .before .before .before .before .before .before .before .args .rf) (c .before .before .before .before .before .before .before .before .before .before .before .before .before .before .before .before .before .log2 .result) (c .before .before .before .before .before .before .before .before .before .before .before .before .before .before .before .before .log22 .result) (c .before .before .before .before .before .before .before .before .before .before .before .before .before .before .before .log23 .result) (c .before .before .before .before .before .before .before .before .before .before .before .table-words .result) (c .before .before .before .before .before .before .before .before .before .before .table-words2 .result) (c .before .before .before .before .before .before .before .before .before .before .before .before .block-words .result) (now (c .before .before .before .before .before .before .before .before .before .before .before .before .before .before .before .before .before .before .before .before .before .before .before .before .before .before .args .s)) (c .before .before .before .before .before .before .before .before .before .before .before .before .before .before .before .before .before .before .before .before .before .before .before .before .before .before .args .t) (c .before .before .before .before .before .before .before .before .before .before .before .before .before .before .before .before .before .log2 .ensures) (c .before .before .before .before .before .before .before .before .before .before .before .before .before .before .before .before .log22 .ensures) (c .before .before .before .before .before .before .before .before .before .before .before .before .before .before .before .log23 .ensures) (c .before .before .before .before .before .before .before .before .before .before .before .table-words .ensures) (c .before .before .before .before .before .before .before .before .before .before .table-words2 .ensures) (c .before .before .before .before .before .before .before .before .before .before .before .before .block-words .ensures) in
     let a : length (c .before .before .before .before .before .before .run .last .1 .1 .1 .1 .1 .0) ≡ c .before .before .before .before .before .before .before .before .before .before .before .before .before .before .said-words .result = c .before .before .before .before .before .before .run .kept .1 .1 .1 .1 .1 .0 ∙ length-take-le _ _ (omega (arith, c .before .before .before .before .before .before .before .before .before .before .before .before .before .before .said-words .ensures, c .before .before .before .before .before .before .before .before .before .before .before .before .before .before .before .before .before .log2 .ensures, c .before .before .before .before .before .before .before .before .before .before .before .before .before .before .before .before .log22 .ensures, c .before .before .before .before .before .before .before .before .before .before .before .before .before .before .before .log23 .ensures, f .said)) in
     let d : length (c .before .before .before .before .before .before .run .last .1 .1 .1 .1 .1 .1 .0) ≡ c .before .before .before .before .before .before .before .before .before .before .before .before .before .drawn-words .result = c .before .before .before .before .before .before .run .kept .1 .1 .1 .1 .1 .1 .0 ∙ length-take-le _ _ (omega (arith, c .before .before .before .before .before .before .before .before .before .before .before .before .before .drawn-words .ensures, c .before .before .before .before .before .before .before .before .before .before .before .before .before .before .before .before .before .log2 .ensures, c .before .before .before .before .before .before .before .before .before .before .before .before .before .before .before .before .log22 .ensures, c .before .before .before .before .before .before .before .before .before .before .before .before .before .before .before .log23 .ensures, f .drawn)) in

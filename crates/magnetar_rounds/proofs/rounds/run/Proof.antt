@@ -6,7 +6,7 @@ use native.Mathlib.Omega.{arith}
 use lib.ListN.{take, drop, replicate}
 use denote.Ref.{now}
 use Rattle.magnetar_field.specs.Gf128.{value}
-use Rattle.magnetar_rounds.specs.Held.{tablesIn}
+use Rattle.magnetar_rounds.specs.Entries.{tablesIn}
 use Rattle.magnetar_rounds.proofs.OuterGuard.{blocks-same}
 use Rattle.magnetar_rounds.proofs.OuterParts.{all-left}
 use borrow.Author.Needs.{needs}

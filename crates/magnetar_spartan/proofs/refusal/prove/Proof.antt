@@ -19,12 +19,12 @@ use Rattle.magnetar_spartan.specs.Refusals.{ruleTests, counterTests, roo
 use Rattle.magnetar_spartan.proofs.Chains.{log-least}
 use Rattle.magnetar_spartan.specs.Ready.{Fine}
 use Rattle.magnetar_spartan.proofs.Fine.{fine}
-use Rattle.magnetar_spartan.proofs.Chains.{product-most}
+use Rattle.magnetar_spartan.proofs.Chains.{product-most, login-most}
 use borrow.Author.Needs.{needs}
 use Rattle.magnetar_spartan.proofs.refusal.prove.Statement.{statement}
 use Rattle.magnetar_spartan.proofs.refusal.prove.Tie as tie
 
-abbrev start : tie.After-sizes → tie.Start
+abbrev start : tie.After-size-refusal → tie.Start
 start c = c .before .before .before .before .before .before .before .before .before .before .before .before .before .before .before .before .before .before .before .before .before .before .before .before .before .before .before .before
 
 abbrev rel : tie.Start → Rules
@@ -57,20 +57,23 @@ record Sizes (s : tie.Start) : Type 0 where
 
 sizes : (c : tie.Else1) → Sizes (start (c .before))
 sizes c =
-    let k = noted-clear 0 (first (start (c .before))) refl (sym (c .before .sizes .ensures) ∙ c .if1 .left) .1 in
+    let k = noted-clear 0 (first (start (c .before))) refl (sym (c .before .size-refusal .ensures) ∙ c .if1 .left) .1 in
     record { columns = not-bad (k .0); logins = not-bad (k .1 .0) }
 
-sizes-requires : tie.Need-sizes-requires
-sizes-requires c κs = search needs
+size-refusal-requires : tie.Need-size-refusal-requires
+size-refusal-requires c κs = search needs
 
 returns : tie.Need-returns
-returns c = let s = start (c .before) in noted-front (first s) (second s ++ (third s ++ fourth s)) _ (c .before .sizes .ensures) (c .if1 .taken)
+returns c = let s = start (c .before) in noted-front (first s) (second s ++ (third s ++ fourth s)) _ (c .before .size-refusal .ensures) (c .if1 .taken)
 
 login-words-requires : tie.Need-login-words-requires
-login-words-requires c κs = omega (arith, sizes c .columns .high)
+login-words-requires c κs = search needs
 
 mul-note : tie.Need-mul-note
-mul-note c = omega (arith, product-most (start (c .before .before) .args .q) (c .login-words .result) (sizes (c .before) .logins .high) (c .login-words .ensures .1))
+mul-note c =
+    let z = sizes (c .before) in
+    let h : c .login-words .result ≤ 512 = rw (c .login-words .ensures) (login-most (start (c .before .before) .args .m / 2) (omega (arith, z .columns .high))) in
+    omega (arith, product-most (start (c .before .before) .args .q) (c .login-words .result) (z .logins .high) h)
 
 note-requires : tie.Need-note-requires
 note-requires c κs = search needs
@@ -87,7 +90,7 @@ middle c = cc
 returns-2 : tie.Need-returns-2
 returns-2 c =
     let s = start (c .before .before .before .before .before) in
-    noted-late (first s) (second s ++ (third s ++ fourth s)) _ _ (c .before .before .before .before .before .sizes .ensures) (c .before .before .before .before .if1 .left)
+    noted-late (first s) (second s ++ (third s ++ fourth s)) _ _ (c .before .before .before .before .before .size-refusal .ensures) (c .before .before .before .before .if1 .left)
     (noted-front (second s) (third s ++ fourth s) _ (middle (c .before)) (c .if2 .taken))
 
 rules-requires : tie.Need-rules-requires
@@ -99,7 +102,7 @@ ok c = let s = start (c .before .before .before .before .before .before .before)
 returns-3 : tie.Need-returns-3
 returns-3 c =
     let s = start (c .before .before .before .before .before .before .before) in
-    noted-late (first s) (second s ++ (third s ++ fourth s)) _ _ (c .before .before .before .before .before .before .before .sizes .ensures) (c .before .before .before .before .before .before .if1 .left)
+    noted-late (first s) (second s ++ (third s ++ fourth s)) _ _ (c .before .before .before .before .before .before .before .size-refusal .ensures) (c .before .before .before .before .before .before .if1 .left)
     (noted-late (second s) (third s ++ fourth s) _ _ (middle (c .before .before .before)) (c .before .before .if2 .left)
     (noted-front (third s) (fourth s) _ (c .before .rules .ensures) (c .if3 .taken)))
 
@@ -112,7 +115,7 @@ prove-rooms-requires c κs =
 returns-4 : tie.Need-returns-4
 returns-4 c =
     let s = start (c .before .before .before .before .before .before .before .before) in
-    noted-late (first s) (second s ++ (third s ++ fourth s)) _ _ (c .before .before .before .before .before .before .before .before .sizes .ensures) (c .before .before .before .before .before .before .before .if1 .left)
+    noted-late (first s) (second s ++ (third s ++ fourth s)) _ _ (c .before .before .before .before .before .before .before .before .size-refusal .ensures) (c .before .before .before .before .before .before .before .if1 .left)
     (noted-late (second s) (third s ++ fourth s) _ _ (middle (c .before .before .before .before)) (c .before .before .before .if2 .left)
     (noted-late (third s) (fourth s) _ _ (c .before .before .rules .ensures) (c .before .if3 .left) (c .prove-rooms .ensures)))
 
@@ -120,7 +123,7 @@ pub prove-spec : {M : Type 1} → statement M
 prove-spec =
     tie.close
     (tie.spec
-    sizes-requires
+    size-refusal-requires
     returns
     login-words-requires
     mul-note

@@ -17,7 +17,7 @@ use borrow.Author.Needs.{needs}
 use Rattle.magnetar_spartan.proofs.refusal.rules.Statement.{statement}
 use Rattle.magnetar_spartan.proofs.refusal.rules.Tie as tie
 
-abbrev start : tie.After-system-places2 → tie.Start
+abbrev start : tie.After-places32 → tie.Start
 start c = c .before .before .before .before .before .before .before .before .before .before .before .before .before .before .before .before .before .before .before .before .before .before .before .before .before .before .before .before .before .before .before .before .before
 
 abbrev rel : tie.Start → Rules
@@ -32,15 +32,15 @@ rel s =
     (lent (x .cfrows) (x .cfcols) (now (x .cfrow)) (now (x .cfcol)) (now (x .cflo)) (now (x .cfhi))))
 
 -- what the eight calls have tested
-tested : (c : tie.After-system-places2) → let R = rel (start c) in (k : Tests)
+tested : (c : tie.After-places32) → let R = rel (start c) in (k : Tests)
     → noted 0 (rowsOf (R .q) (R .bin) ++ rowsOf (R .q) (R .fld) ++ cols3 (R .m) (R .bin) ++ cols3 (R .m) (R .fld) ++ counted3 (R .bin)
-    ++ counted3 (R .fld) ++ placed3 (R .bin) ++ placed3 (R .fld) ++ k) ≡ noted (c .system-places2 .result) k
+    ++ counted3 (R .fld) ++ placed3 (R .bin) ++ placed3 (R .fld) ++ k) ≡ noted (c .places32 .result) k
 tested c k =
     let R = rel (start c) in
     eight (rowsOf (R .q) (R .bin)) (rowsOf (R .q) (R .fld)) (cols3 (R .m) (R .bin)) (cols3 (R .m) (R .fld)) (counted3 (R .bin))
     (counted3 (R .fld)) (placed3 (R .bin)) (placed3 (R .fld)) k (c .before .before .before .before .before .before .before .system-rows .ensures) (c .before .before .before .before .before .before .system-rows2 .ensures)
-    (c .before .before .before .before .before .system-cols .ensures) (c .before .before .before .before .system-cols2 .ensures) (c .before .before .before .system-counts .ensures) (c .before .before .system-counts2 .ensures)
-    (c .before .system-places .ensures) (c .system-places2 .ensures)
+    (c .before .before .before .before .before .cols3 .ensures) (c .before .before .before .before .cols32 .ensures) (c .before .before .before .counts3 .ensures) (c .before .before .counts32 .ensures)
+    (c .before .places3 .ensures) (c .places32 .ensures)
 
 system-rows-requires : tie.Need-system-rows-requires
 system-rows-requires c κs = c .before .before .before .before .before .before .before .before .before .before .before .before .before .before .before .before .before .before .before .before .before .before .before .before .before .pre .1
@@ -48,23 +48,23 @@ system-rows-requires c κs = c .before .before .before .before .before .before .
 system-rows-requires-2 : tie.Need-system-rows-requires-2
 system-rows-requires-2 c κs = c .before .before .before .before .before .before .before .before .before .before .before .before .before .before .before .before .before .before .before .before .before .before .before .before .before .before .pre .1
 
-system-cols-requires : tie.Need-system-cols-requires
-system-cols-requires c κs = search needs
+cols3-requires : tie.Need-cols3-requires
+cols3-requires c κs = search needs
 
-system-cols-requires-2 : tie.Need-system-cols-requires-2
-system-cols-requires-2 c κs = search needs
+cols3-requires-2 : tie.Need-cols3-requires-2
+cols3-requires-2 c κs = search needs
 
-system-counts-requires : tie.Need-system-counts-requires
-system-counts-requires c κs = search needs
+counts3-requires : tie.Need-counts3-requires
+counts3-requires c κs = search needs
 
-system-counts-requires-2 : tie.Need-system-counts-requires-2
-system-counts-requires-2 c κs = search needs
+counts3-requires-2 : tie.Need-counts3-requires-2
+counts3-requires-2 c κs = search needs
 
-system-places-requires : tie.Need-system-places-requires
-system-places-requires c κs = search needs
+places3-requires : tie.Need-places3-requires
+places3-requires c κs = search needs
 
-system-places-requires-2 : tie.Need-system-places-requires-2
-system-places-requires-2 c κs = search needs
+places3-requires-2 : tie.Need-places3-requires-2
+places3-requires-2 c κs = search needs
 
 returns : tie.Need-returns
 returns c = numbers-stay _ _ (layoutTests (rel (start (c .before)) .m / 2) (rel (start (c .before)) .lengths)) refl (c .if1 .taken) ∙ sym (tested (c .before) (layoutTests (rel (start (c .before)) .m / 2) (rel (start (c .before)) .lengths)))
@@ -85,12 +85,12 @@ rules-spec =
     (tie.spec
     system-rows-requires
     system-rows-requires-2
-    system-cols-requires
-    system-cols-requires-2
-    system-counts-requires
-    system-counts-requires-2
-    system-places-requires
-    system-places-requires-2
+    cols3-requires
+    cols3-requires-2
+    counts3-requires
+    counts3-requires-2
+    places3-requires
+    places3-requires-2
     returns
     refusal-requires
     returns-2)

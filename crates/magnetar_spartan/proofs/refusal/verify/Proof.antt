@@ -23,7 +23,7 @@ use borrow.Author.Needs.{needs}
 use Rattle.magnetar_spartan.proofs.refusal.verify.Statement.{statement}
 use Rattle.magnetar_spartan.proofs.refusal.verify.Tie as tie
 
-abbrev start : tie.After-sizes → tie.Start
+abbrev start : tie.After-size-refusal → tie.Start
 start c = c .before .before .before .before .before .before .before .before .before .before .before .before .before .before .before .before .before .before .before .before .before .before .before .before .before .before .before .before
 
 abbrev rel : tie.Start → Rules
@@ -56,14 +56,14 @@ record Sizes (s : tie.Start) : Type 0 where
 
 sizes : (c : tie.Else1) → Sizes (start (c .before))
 sizes c =
-    let k = noted-clear 0 (first (start (c .before))) refl (sym (c .before .sizes .ensures) ∙ c .if1 .left) .1 in
+    let k = noted-clear 0 (first (start (c .before))) refl (sym (c .before .size-refusal .ensures) ∙ c .if1 .left) .1 in
     record { columns = not-bad (k .0); logins = not-bad (k .1 .0) }
 
-sizes-requires : tie.Need-sizes-requires
-sizes-requires c κs = search needs
+size-refusal-requires : tie.Need-size-refusal-requires
+size-refusal-requires c κs = search needs
 
 returns : tie.Need-returns
-returns c = let s = start (c .before) in noted-front (first s) (second s ++ (third s ++ fourth s)) _ (c .before .sizes .ensures) (c .if1 .taken)
+returns c = let s = start (c .before) in noted-front (first s) (second s ++ (third s ++ fourth s)) _ (c .before .size-refusal .ensures) (c .if1 .taken)
 
 sub-note : tie.Need-sub-note
 sub-note c = sizes c .columns .low
@@ -74,7 +74,7 @@ note-requires c κs = search needs
 returns-2 : tie.Need-returns-2
 returns-2 c =
     let s = start (c .before .before .before) in
-    noted-late (first s) (second s ++ (third s ++ fourth s)) _ _ (c .before .before .before .sizes .ensures) (c .before .before .if1 .left)
+    noted-late (first s) (second s ++ (third s ++ fourth s)) _ _ (c .before .before .before .size-refusal .ensures) (c .before .before .if1 .left)
     (noted-front (second s) (third s ++ fourth s) _ (c .before .note .ensures) (c .if2 .taken))
 
 rules-requires : tie.Need-rules-requires
@@ -86,7 +86,7 @@ ok c = let s = start (c .before .before .before .before .before) in fine (rel s)
 returns-3 : tie.Need-returns-3
 returns-3 c =
     let s = start (c .before .before .before .before .before) in
-    noted-late (first s) (second s ++ (third s ++ fourth s)) _ _ (c .before .before .before .before .before .sizes .ensures) (c .before .before .before .before .if1 .left)
+    noted-late (first s) (second s ++ (third s ++ fourth s)) _ _ (c .before .before .before .before .before .size-refusal .ensures) (c .before .before .before .before .if1 .left)
     (noted-late (second s) (third s ++ fourth s) _ _ (c .before .before .before .note .ensures) (c .before .before .if2 .left)
     (noted-front (third s) (fourth s) _ (c .before .rules .ensures) (c .if3 .taken)))
 
@@ -99,10 +99,10 @@ verify-rooms-requires c κs =
 returns-4 : tie.Need-returns-4
 returns-4 c =
     let s = start (c .before .before .before .before .before .before) in
-    noted-late (first s) (second s ++ (third s ++ fourth s)) _ _ (c .before .before .before .before .before .before .sizes .ensures) (c .before .before .before .before .before .if1 .left)
+    noted-late (first s) (second s ++ (third s ++ fourth s)) _ _ (c .before .before .before .before .before .before .size-refusal .ensures) (c .before .before .before .before .before .if1 .left)
     (noted-late (second s) (third s ++ fourth s) _ _ (c .before .before .before .before .note .ensures) (c .before .before .before .if2 .left)
     (noted-late (third s) (fourth s) _ _ (c .before .before .rules .ensures) (c .before .if3 .left) (c .verify-rooms .ensures)))
 
 pub verify-spec : {M : Type 1} → statement M
 verify-spec =
-    tie.close (tie.spec sizes-requires returns sub-note note-requires returns-2 rules-requires returns-3 verify-rooms-requires returns-4)
+    tie.close (tie.spec size-refusal-requires returns sub-note note-requires returns-2 rules-requires returns-3 verify-rooms-requires returns-4)

@@ -11,7 +11,7 @@ use Rattle.magnetar_batch.specs.Systems.{system}
 use Rattle.magnetar_spartan.specs.Rules.{Rules, rules}
 use Rattle.magnetar_spartan.specs.Outcome.{proveRefusal}
 use Rattle.magnetar_spartan.proofs.Chains.{log-least}
-use Rattle.magnetar_spartan.proofs.Ended.{Provable, provable, draws-small, most, front, front-length, same-words, prove-turned, prove-through}
+use Rattle.magnetar_spartan.proofs.Ended.{Provable, provable, draws-small, most, front, front-length, same-words, prove-refused, prove-through}
 use borrow.Author.Needs.{needs}
 use Rattle.magnetar_spartan.proofs.virtual_spartan.prove_virtual_spartan.Statement.{statement}
 use Rattle.magnetar_spartan.proofs.virtual_spartan.prove_virtual_spartan.Tie as tie
@@ -34,7 +34,7 @@ refused : (c : tie.After-prove) → let x = start c .args in c .prove .result �
 unfolding proveRefusal
 refused c = c .prove .ensures
 
-ok : (c : tie.Else1) → let x = start (c .before) .args in Provable (rel (start (c .before))) (now (x .packed)) (now (x .x)) (length (now (x .proof))) (length (now (x .claims))) (length (now (x .scratch)))
+ok : (c : tie.Else1) → let x = start (c .before) .args in Provable (rel (start (c .before))) (now (x .packed)) (now (x .x)) (length (now (x .proof))) (length (now (x .claims))) (length (now (x .scratch))) (x .t .«squeeze_ctr»)
 ok c = let s = start (c .before) in let x = s .args in provable (rel s) (now (x .packed)) (now (x .x)) (x .t .«squeeze_ctr») (length (now (x .proof))) (length (now (x .claims))) (length (now (x .scratch))) (sym (c .before .prove .ensures) ∙ c .if1 .left)
 
 proof-fits : (c : tie.After-proof-words) → c .proof-words .result ≤ length (now (start (c .before .before) .args .proof))
@@ -53,7 +53,7 @@ prove-requires : tie.Need-prove-requires
 prove-requires c κs = search needs
 
 returns : tie.Need-returns
-returns c = prove-turned (rel (c .before .before .before .before .before .before .before .before .before .before .before .before .before .before .before .before .before .before .before .before .before .before .before .before .before .before .before .before .before .before .before .before)) (now (c .before .before .before .before .before .before .before .before .before .before .before .before .before .before .before .before .before .before .before .before .before .before .before .before .before .before .before .before .before .before .before .before .args .packed)) (now (c .before .before .before .before .before .before .before .before .before .before .before .before .before .before .before .before .before .before .before .before .before .before .before .before .before .before .before .before .before .before .before .before .args .x)) (c .before .before .before .before .before .before .before .before .before .before .before .before .before .before .before .before .before .before .before .before .before .before .before .before .before .before .before .before .before .before .before .before .args .t) (now (c .before .before .before .before .before .before .before .before .before .before .before .before .before .before .before .before .before .before .before .before .before .before .before .before .before .before .before .before .before .before .before .before .args .proof)) (now (c .before .before .before .before .before .before .before .before .before .before .before .before .before .before .before .before .before .before .before .before .before .before .before .before .before .before .before .before .before .before .before .before .args .claims)) (now (c .before .before .before .before .before .before .before .before .before .before .before .before .before .before .before .before .before .before .before .before .before .before .before .before .before .before .before .before .before .before .before .before .args .scratch)) (c .before .prove .result) (refused (c .before)) (c .if1 .taken)
+returns c = prove-refused (rel (c .before .before .before .before .before .before .before .before .before .before .before .before .before .before .before .before .before .before .before .before .before .before .before .before .before .before .before .before .before .before .before .before)) (now (c .before .before .before .before .before .before .before .before .before .before .before .before .before .before .before .before .before .before .before .before .before .before .before .before .before .before .before .before .before .before .before .before .args .packed)) (now (c .before .before .before .before .before .before .before .before .before .before .before .before .before .before .before .before .before .before .before .before .before .before .before .before .before .before .before .before .before .before .before .before .args .x)) (c .before .before .before .before .before .before .before .before .before .before .before .before .before .before .before .before .before .before .before .before .before .before .before .before .before .before .before .before .before .before .before .before .args .t) (now (c .before .before .before .before .before .before .before .before .before .before .before .before .before .before .before .before .before .before .before .before .before .before .before .before .before .before .before .before .before .before .before .before .args .proof)) (now (c .before .before .before .before .before .before .before .before .before .before .before .before .before .before .before .before .before .before .before .before .before .before .before .before .before .before .before .before .before .before .before .before .args .claims)) (now (c .before .before .before .before .before .before .before .before .before .before .before .before .before .before .before .before .before .before .before .before .before .before .before .before .before .before .before .before .before .before .before .before .args .scratch)) (c .before .prove .result) (refused (c .before)) (c .if1 .taken)
 
 proof-words-requires : tie.Need-proof-words-requires
 proof-words-requires c κs = ok (c) .ready .fine .segments
@@ -94,14 +94,17 @@ slice-aggregate-prove-in-4 c = sym (length-take-le _ _ (draws-fit (c .before .be
 prove-in-requires : tie.Need-prove-in-requires
 prove-in-requires c κs = let k = ok (c .before .before .before .before .before .before .before .before) in (
   k .ready,
-  record {
-    packed = k .packed;
-    public = k .public;
-    proof = length-take-le _ _ (proof-fits (c .before .before .before .before .before .before .before)) ∙ c .before .before .before .before .before .before .before .proof-words .ensures;
-    claims = length-take-le _ _ (claims-fit (c .before .before .before .before .before .before)) ∙ c .before .before .before .before .before .before .claim-words .ensures;
-    scratch = length-take-le _ _ (scratch-fits (c .before .before .before .before .before)) ∙ c .before .before .before .before .before .prover-room .ensures;
-    draws = length-take-le _ _ (draws-fit (c .before .before .before .before)) ∙ c .before .before .before .before .draw-words .ensures;
-  },
+  (
+    record {
+      packed = k .packed;
+      public = k .public;
+      proof = length-take-le _ _ (proof-fits (c .before .before .before .before .before .before .before)) ∙ c .before .before .before .before .before .before .before .proof-words .ensures;
+      claims = length-take-le _ _ (claims-fit (c .before .before .before .before .before .before)) ∙ c .before .before .before .before .before .before .claim-words .ensures;
+      scratch = length-take-le _ _ (scratch-fits (c .before .before .before .before .before)) ∙ c .before .before .before .before .before .prover-room .ensures;
+      draws = length-take-le _ _ (draws-fit (c .before .before .before .before)) ∙ c .before .before .before .before .draw-words .ensures;
+    },
+    k .counter,
+  ),
 )
 
 slice-relend-prefix-clear : tie.Need-slice-relend-prefix-clear

@@ -14,7 +14,7 @@ use Rattle.magnetar_spartan.specs.Rules.{Rules, rules}
 use Rattle.magnetar_spartan.specs.Refusals.{verifyTests}
 use Rattle.magnetar_spartan.specs.Outcome.{verifyRefusal}
 use Rattle.magnetar_spartan.proofs.Chains.{log-least}
-use Rattle.magnetar_spartan.proofs.Ended.{Verifiable, verifiable, draws-small, most, front, front-length, same-words, verify-turned, verify-through}
+use Rattle.magnetar_spartan.proofs.Ended.{Verifiable, verifiable, draws-small, most, front, front-length, same-words, verify-refused, verify-through}
 use borrow.Author.Needs.{needs}
 use Rattle.magnetar_spartan.proofs.virtual_spartan.verify_virtual_spartan.Statement.{statement}
 use Rattle.magnetar_spartan.proofs.virtual_spartan.verify_virtual_spartan.Tie as tie
@@ -66,7 +66,7 @@ returns : tie.Need-returns
 returns c =
     let s = start (c .before) in
     let x = s .args in
-    verify-turned (rel s) (now (x .x)) (now (x .proof)) (x .t) (now (x .claims)) (now (x .scratch)) (c .before .verify .result) (refused (c .before)) (c .if1 .taken)
+    verify-refused (rel s) (now (x .x)) (now (x .proof)) (x .t) (now (x .claims)) (now (x .scratch)) (c .before .verify .result) (refused (c .before)) (c .if1 .taken)
 
 claim-words-requires : tie.Need-claim-words-requires
 claim-words-requires c κs = let p = ok c .ready in (log-least _ (p .columns), p .fine .segments)

@@ -1,4 +1,4 @@
--- `magnetar_spartan::inner::inner` meets its contract.
+-- `magnetar_spartan::inner::later` meets its contract.
 -- Assumes nothing.
 use denote.Ref.{now}
 use native.Mathlib.Omega.{arith}
@@ -8,8 +8,8 @@ use Rattle.magnetar_batch.specs.Systems.{system}
 use Rattle.magnetar_spartan.specs.Rules.{Rules, rules}
 use Rattle.magnetar_spartan.proofs.LaterRun.{fold-ready, inner-ready, later-left}
 use borrow.Author.Needs.{needs}
-use Rattle.magnetar_spartan.proofs.inner.inner.Statement.{statement}
-use Rattle.magnetar_spartan.proofs.inner.inner.Tie as tie
+use Rattle.magnetar_spartan.proofs.inner.later.Statement.{statement}
+use Rattle.magnetar_spartan.proofs.inner.later.Tie as tie
 
 abbrev start : tie.After-log3 → tie.Start
 start c = c .before .before .before .before .before .before .before .before .before .before .before .before .before .before .before .before .before .before .before .before .before .before .before .before .before .before .before .before .before .before .before .before .before
@@ -48,8 +48,8 @@ combine-requires c κs =
     let s = start (c .before .before) in
     (s .pre .0, (s .pre .1 .3, omega (arith, s .pre .1 .4)))
 
-fold-requires : tie.Need-fold-requires
-fold-requires c κs =
+fold-logins-requires : tie.Need-fold-logins-requires
+fold-logins-requires c κs =
     let p = c .before .before .before .before .before .before .before in
     let s = start p in
     let x = s .args in
@@ -64,8 +64,8 @@ finish-requires c κs =
     let s = start (c .before .before .before .before .before .before .before .before .before .before .before .before .before) in
     let x = s .args in
     let k = c .before .before .before .before .before .before .before .before .before .before .combine .kept .0 in
-    let e = c .before .before .before .before .before .fold .kept .1 .1 .1 .1 .1 .1 .0 in
-    (inner-ready (rel s) (s .pre .0) (length (now (x .x))) (s .pre .1 .1), (s .pre .1 .2, s .pre .1 .3, omega (arith, s .pre .1 .4, k, e)))
+    let e = c .before .before .before .before .before .fold-logins .kept .1 .1 .1 .1 .1 .1 .0 in
+    (inner-ready (rel s) (s .pre .0) (length (now (x .x))) (x .t .«squeeze_ctr») (s .pre .1 .1) (s .pre .1 .5), (s .pre .1 .2, s .pre .1 .3, omega (arith, s .pre .1 .4, k, e)))
 
 same-length : tie.Need-same-length
 same-length c = search needs
@@ -85,14 +85,14 @@ returns c =
     let b = p .before .log2 in
     let f = p .log3 in
     let t = c .before .before .before .before .before .before .before .before .before .before .before .before .before .before .before .before .before .combine in
-    let z = c .before .before .before .before .before .before .before .before .before .before .before .before .fold in
+    let z = c .before .before .before .before .before .before .before .before .before .before .before .before .fold-logins in
     let e = c .before .before .before .before .before .before .finish in
     later-left (rel s) (s .pre .0) (now (x .packed)) (now (x .x)) (now (x .draws)) (x .t) (s .pre .1 .3) (t .last .0) (z .last .1 .1 .1 .1 .1 .1 .0)
     (l .result) (b .result) (f .result) (l .ensures .0) (b .ensures .0) (f .ensures .0) (t .ensures) (z .ensures .0) (z .ensures .1) (e .result)
     (now (x .proof)) (e .last .1 .1 .1 .1 .1 .1 .0) (e .last .1 .1 .1 .1 .1 .1 .1 .0) (e .ensures .0) (e .ensures .1 .0) (e .ensures .1 .1)
 
-pub inner-spec : {M : Type 1} → statement M
-inner-spec =
+pub later-spec : {M : Type 1} → statement M
+later-spec =
     tie.close
     (tie.spec
     log-requires
@@ -102,7 +102,7 @@ inner-spec =
     add-k-2
     add-k-3
     combine-requires
-    fold-requires
+    fold-logins-requires
     finish-requires
     same-length
     same-length-2

@@ -1,4 +1,4 @@
--- `magnetar_spartan::inner::fold` meets its contract.
+-- `magnetar_spartan::inner::fold_logins` meets its contract.
 -- Assumes nothing.
 use Prim.Native.Nat.{_*_, _≤_}
 use native.Mathlib.Omega.{arith}
@@ -6,8 +6,8 @@ use lib.Seq.{length-take-le}
 use mathlib.Core.Path.{sym}
 use Rattle.magnetar_spartan.proofs.LaterRun.{logins-few}
 use borrow.Author.Needs.{needs}
-use Rattle.magnetar_spartan.proofs.inner.fold.Statement.{statement}
-use Rattle.magnetar_spartan.proofs.inner.fold.Tie as tie
+use Rattle.magnetar_spartan.proofs.inner.fold_logins.Statement.{statement}
+use Rattle.magnetar_spartan.proofs.inner.fold_logins.Tie as tie
 
 few : (s : tie.Start) → 2 * s .args .n ≤ 32
 few s = omega (arith, s .pre .point, logins-few _ (s .pre .logins))
@@ -30,8 +30,8 @@ same-length c = search needs
 returns : tie.Need-returns
 returns c = search needs
 
-pub fold-spec : {M : Type 1} → statement M
-fold-spec =
+pub fold-logins-spec : {M : Type 1} → statement M
+fold-logins-spec =
     tie.close
     (tie.spec
     mul-e

@@ -1,8 +1,8 @@
--- `magnetar_spartan::refusal::sizes` meets its contract.
+-- `magnetar_spartan::refusal::size_refusal` meets its contract.
 -- Assumes nothing.
 use borrow.Author.Needs.{needs}
-use Rattle.magnetar_spartan.proofs.refusal.sizes.Statement.{statement}
-use Rattle.magnetar_spartan.proofs.refusal.sizes.Tie as tie
+use Rattle.magnetar_spartan.proofs.refusal.size_refusal.Statement.{statement}
+use Rattle.magnetar_spartan.proofs.refusal.size_refusal.Tie as tie
 
 is-size-requires : tie.Need-is-size-requires
 is-size-requires c κs = search needs
@@ -19,6 +19,6 @@ note-requires-2 c κs = search needs
 returns : tie.Need-returns
 returns c = cc
 
-pub sizes-spec : {M : Type 1} → statement M
-sizes-spec =
+pub size-refusal-spec : {M : Type 1} → statement M
+size-refusal-spec =
     tie.close (tie.spec is-size-requires note-requires is-size-requires-2 note-requires-2 returns)
