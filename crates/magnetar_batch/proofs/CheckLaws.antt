@@ -10,7 +10,7 @@ use lib.ListN.{length, take, drop, replicate}
 use lib.Seq.{take-at, drop-at}
 use Rattle.magnetar_field.specs.Words.{elements}
 use Rattle.magnetar_r1cs.specs.Packed.{loginWords, unpacked}
-use Rattle.magnetar_r1cs.specs.RowCheck.{verdict}
+use Rattle.magnetar_r1cs.specs.RowCheck.{rowVerdict}
 use Rattle.magnetar_layout.specs.Tests.{Tests, note, noted}
 use Rattle.magnetar_layout.proofs.Noted.{noted-front, noted-late, noted-clear, turned, done}
 use Rattle.magnetar_layout.proofs.SizeLaws.{not-bad}
@@ -69,7 +69,7 @@ module _ (m q : ℕ) (s t : Lent3) (ws x w : List ℕ) where
   )
 
   module _ (z : 0 ≡ checkRefusal m q s t ws x (length w)) where
-    pub check-done : (v : Outcome) → v ≡ judged (verdict (relation m q s t) (unpacked q (m / 2) ws) (elements x)) → v ≡ checkAnswer m q s t ws x (length w)
+    pub check-done : (v : Outcome) → v ≡ judged (rowVerdict (relation m q s t) (unpacked q (m / 2) ws) (elements x)) → v ≡ checkAnswer m q s t ws x (length w)
     check-done v e = rw (e, ← z)
 
     pub check-cleared : (u v : List ℕ) → length u ≡ 6 * max (s .a .rows) (t .a .rows)

@@ -14,9 +14,8 @@ use Rattle.magnetar_field.specs.Sizes.{log₂}
 use Rattle.magnetar_field.specs.Words.{elements, words, overlaid}
 use Rattle.magnetar_field.proofs.Elements.{elements-length, words-length}
 use Rattle.magnetar_field.proofs.Tabulation.{tabulate-length}
-use Rattle.magnetar_layout.specs.Tests.{note, noted}
+use Rattle.magnetar_layout.specs.Tests.{note, noted, Sized}
 use Rattle.magnetar_layout.proofs.Noted.{noted-front, noted-late, noted-clear, note-clear, turned, done}
-use Rattle.magnetar_layout.proofs.SizeLaws.{Sized}
 use Rattle.magnetar_r1cs.proofs.Points.{log-most}
 use Rattle.magnetar_batch.specs.Systems.{Lent3, combinedTable, systemsTests, pointTests}
 use Rattle.magnetar_batch.specs.Columns.{Fit, column, sixTable}

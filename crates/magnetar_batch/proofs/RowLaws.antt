@@ -21,7 +21,7 @@ use Rattle.magnetar_r1cs.specs.Lent.{Lent, entriesOf, matrixOf}
 use Rattle.magnetar_r1cs.specs.Batch.{assignment, rowHolds}
 use Rattle.magnetar_r1cs.specs.Table.{raised}
 use Rattle.magnetar_r1cs.specs.Packed.{packedBit, loginPart, unpacked}
-use Rattle.magnetar_r1cs.specs.RowCheck.{firstNot, failingRow, failingLogin, verdict}
+use Rattle.magnetar_r1cs.specs.RowCheck.{firstNot, failingRow, failingLogin, rowVerdict}
 use Rattle.magnetar_r1cs.specs.RowCheck.Verdict.{good, bin, fld}
 use Rattle.magnetar_batch.specs.Check.{relation}
 use Rattle.magnetar_r1cs.proofs.Verdicts.{first-le, first-before, first-not, first-none}
@@ -196,20 +196,20 @@ unfolding loginOf
 found-most s q w ws x u i f = rw (f .login) (first-le _ q)
 
 module _ (m q w : ℕ) (s t : Lent3) (ws x : List ℕ) (u i v j : ℕ) (f : Found s q w ws x u i) where
-  pub judged-bin : u < q → bin u i ≡ verdict (relation m q s t) (unpacked q w ws) x
-  unfolding verdict
+  pub judged-bin : u < q → bin u i ≡ rowVerdict (relation m q s t) (unpacked q w ws) x
+  unfolding rowVerdict
   judged-bin h = rw (found-login s q w ws x u i f, ne-eqb u q (λ e. omega (arith, h, e)), found-row s q w ws x u i f h)
 
   module _ (none : q ≤ u) (g : Found t q w ws x v j) where
     u-all : u ≡ q
     u-all = omega (arith, none, found-most s q w ws x u i f)
 
-    pub judged-fld : v < q → fld v j ≡ verdict (relation m q s t) (unpacked q w ws) x
-    unfolding verdict
+    pub judged-fld : v < q → fld v j ≡ rowVerdict (relation m q s t) (unpacked q w ws) x
+    unfolding rowVerdict
     judged-fld h = rw (found-login s q w ws x u i f, eq-eqb u q u-all, found-login t q w ws x v j g, ne-eqb v q (λ e. omega (arith, h, e)), found-row t q w ws x v j g h)
 
-    pub judged-good : q ≤ v → good ≡ verdict (relation m q s t) (unpacked q w ws) x
-    unfolding verdict
+    pub judged-good : q ≤ v → good ≡ rowVerdict (relation m q s t) (unpacked q w ws) x
+    unfolding rowVerdict
     judged-good h = rw (found-login s q w ws x u i f, eq-eqb u q u-all, found-login t q w ws x v j g, eq-eqb v q (omega (arith, h, found-most t q w ws x v j g)))
 
 -- a product above a bound, by a quotient

@@ -8,9 +8,9 @@ use native.Mathlib.Omega.{arith}
 use borrow.Author.Tests.{eqb-true, not-false}
 use lib.ListN.{length}
 use Rattle.magnetar_r1cs.specs.Lent.{Lent}
-use Rattle.magnetar_layout.specs.Tests.{Tests, noted, allBelow, columnTests, counted, placed}
+use Rattle.magnetar_layout.specs.Tests.{Tests, noted, allBelow, columnTests, counted, placed, Sized}
 use Rattle.magnetar_layout.proofs.Noted.{noted-append, noted-kept, noted-rest, noted-clear, numbered, Clear}
-use Rattle.magnetar_layout.proofs.SizeLaws.{Sized, not-bad}
+use Rattle.magnetar_layout.proofs.SizeLaws.{not-bad}
 use Rattle.magnetar_r1cs.proofs.Lone.{flipped}
 use Rattle.magnetar_batch.specs.Systems.{Lent3, rows3, cols3, counted3, placed3, systemsTests}
 use Rattle.magnetar_batch.specs.Columns.{Placed, Fit}

@@ -8,7 +8,7 @@ use Rattle.magnetar_field.specs.Refusal.{unlessRefused}
 use Rattle.magnetar_field.specs.Words.{elements}
 use Rattle.magnetar_r1cs.specs.Batch.{Relation}
 use Rattle.magnetar_r1cs.specs.Packed.{unpacked}
-use Rattle.magnetar_r1cs.specs.RowCheck.{Verdict, verdict}
+use Rattle.magnetar_r1cs.specs.RowCheck.{Verdict, rowVerdict}
 use Rattle.magnetar_r1cs.specs.RowCheck.Verdict.{good, bin, fld}
 use Rattle.magnetar_layout.specs.Tests.{Tests, noted, sizeTests, packedTests, publicTests}
 use Rattle.magnetar_batch.specs.declared.check.RowCheck.{RowCheck}
@@ -42,7 +42,7 @@ checkRefusal m q s t ws x room =
 
 abbrev pub checkAnswer : ℕ → ℕ → Lent3 → Lent3 → List ℕ → List ℕ → ℕ → Outcome
 checkAnswer m q s t ws x room =
-    unlessRefused (checkRefusal m q s t ws x room) (judged (verdict (relation m q s t) (unpacked q (m / 2) ws) (elements x)))
+    unlessRefused (checkRefusal m q s t ws x room) (judged (rowVerdict (relation m q s t) (unpacked q (m / 2) ws) (elements x)))
     (refused (checkRefusal m q s t ws x room))
 
 abbrev pub checkScratch : ℕ → ℕ → Lent3 → Lent3 → List ℕ → List ℕ → List ℕ → List ℕ

@@ -20,7 +20,7 @@ ghost use Rattle.magnetar_r1cs.specs.Matrix.{rowTotal, share};
 ghost use Rattle.magnetar_r1cs.specs.Lent.{lent, entriesOf};
 ghost use Rattle.magnetar_r1cs.specs.Table.{raised, Equal};
 ghost use Rattle.magnetar_r1cs.specs.Packed.{loginWords, unpacked};
-ghost use Rattle.magnetar_r1cs.specs.RowCheck.{firstNot, verdict};
+ghost use Rattle.magnetar_r1cs.specs.RowCheck.{firstNot, rowVerdict};
 ghost use Rattle.magnetar_layout.specs.Tests.{noted};
 ghost use Rattle.magnetar_batch.specs.Systems.{system};
 ghost use Rattle.magnetar_batch.specs.Check.{judged, outcome, relation, batchSizes, checkAnswer, checkScratch};
@@ -357,7 +357,7 @@ fn judge(
     requires { ⌜ Equal (now cfrow) (now cfcol) (now cflo) (now cfhi) ⌝ }
     requires { ⌜ (6 * abrows ≤ length (now s)) × (6 * afrows ≤ length (now s)) × (abrows ≤ 65536) × (afrows ≤ 65536) ⌝ }
     requires { ⌜ (w ≤ 32768) × (q ≤ 4096) × (length (now packed) ≡ q * loginWords w) ⌝ }
-    ensures { λ r. ⌜ outcome r ≡ judged (verdict (relation m q (system (lent abrows abcols (now (abrow .entry)) (now (abcol .entry)) (now (ablo .entry)) (now (abhi .entry))) (lent bbrows bbcols (now (bbrow .entry)) (now (bbcol .entry)) (now (bblo .entry)) (now (bbhi .entry))) (lent cbrows cbcols (now (cbrow .entry)) (now (cbcol .entry)) (now (cblo .entry)) (now (cbhi .entry)))) (system (lent afrows afcols (now (afrow .entry)) (now (afcol .entry)) (now (aflo .entry)) (now (afhi .entry))) (lent bfrows bfcols (now (bfrow .entry)) (now (bfcol .entry)) (now (bflo .entry)) (now (bfhi .entry))) (lent cfrows cfcols (now (cfrow .entry)) (now (cfcol .entry)) (now (cflo .entry)) (now (cfhi .entry))))) (unpacked q w (now (packed .entry))) (elements (now (x .entry)))) ⌝ }
+    ensures { λ r. ⌜ outcome r ≡ judged (rowVerdict (relation m q (system (lent abrows abcols (now (abrow .entry)) (now (abcol .entry)) (now (ablo .entry)) (now (abhi .entry))) (lent bbrows bbcols (now (bbrow .entry)) (now (bbcol .entry)) (now (bblo .entry)) (now (bbhi .entry))) (lent cbrows cbcols (now (cbrow .entry)) (now (cbcol .entry)) (now (cblo .entry)) (now (cbhi .entry)))) (system (lent afrows afcols (now (afrow .entry)) (now (afcol .entry)) (now (aflo .entry)) (now (afhi .entry))) (lent bfrows bfcols (now (bfrow .entry)) (now (bfcol .entry)) (now (bflo .entry)) (now (bfhi .entry))) (lent cfrows cfcols (now (cfrow .entry)) (now (cfcol .entry)) (now (cflo .entry)) (now (cfhi .entry))))) (unpacked q w (now (packed .entry))) (elements (now (x .entry)))) ⌝ }
 {
     let b = 6 * abrows;
     let f = failing_login(

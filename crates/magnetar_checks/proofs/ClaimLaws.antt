@@ -3,25 +3,25 @@
 use mathlib.Core.Path.{_≡_, refl, sym, ap, _∙_}
 use mathlib.Core.Bool.{Bool, true, false, not, cond}
 use mathlib.Core.List.{List, [], _∷_, _++_, reverse}
-use Prim.Native.Nat.{ℕ, zero, suc, _+_, _-_, _*_, _/_, _%_, _^_, _≤_, _<_}
+use Prim.Native.Nat.{ℕ, _+_, _-_, _*_, _≤_, _<_}
 use native.Mathlib.Omega.{arith}
 use lib.Dec.{eqb, ltb}
-use lib.ListN.{length, getD, take, drop, length-append, length-drop, List·getD-append}
-use lib.Seq.{length-take-le, getD-append-add, take-take, take-all, getD-drop}
+use lib.ListN.{length, getD, drop, length-append, length-drop, List·getD-append}
+use lib.Seq.{length-take-le, getD-append-add, take-take, getD-drop}
 use borrow.Author.Tests.{ne-eqb, lt-ltb, le-ltb, ltb-true, ltb-false, eqb-true, not-false}
 use Rattle.magnetar_field.specs.Sizes.{log₂}
 use Rattle.magnetar_field.specs.Tabulate.{tabulate}
 use Rattle.magnetar_field.specs.Words.{elements, words}
 use Rattle.magnetar_field.proofs.Elements.{elements-length}
 use Rattle.magnetar_field.proofs.Tabulation.{tabulate-of}
-use Rattle.magnetar_sumcheck.specs.Order.{point, placeOf}
+use Rattle.magnetar_sumcheck.specs.Order.{placeOf}
 use Rattle.magnetar_sumcheck.proofs.EqFactor.{point-at, length-point}
 use Rattle.magnetar_r1cs.specs.Batch.{Relation}
 use Rattle.magnetar_layout.specs.Tests.{Tests, note, noted, roomTest}
 use Rattle.magnetar_layout.proofs.Noted.{noted-clear, noted-front, noted-rest}
 use Rattle.magnetar_protocol.specs.Shape.{logLogins, logBin, logFld, logCols, beforeEnd, proofElements}
 use Rattle.magnetar_protocol.specs.Proof.{part, segmentValues}
-use Rattle.magnetar_protocol.specs.Draws.{Draws, drawCount, drawsOf, loginPoint, lowPoint}
+use Rattle.magnetar_protocol.specs.Draws.{drawCount, drawsOf, loginPoint, lowPoint}
 use Rattle.magnetar_protocol.specs.Run.{claims}
 use Rattle.magnetar_protocol.specs.Schedule.{outline}
 use Rattle.magnetar_checks.specs.Steps.{drawTotal, proofTotal}

@@ -1,23 +1,23 @@
 -- The guard of `end_checks`: which test refuses, and what the tests leave; and the answer.
 -- Assumes nothing.
 use mathlib.Core.Path.{_≡_, refl, sym, ap, _∙_}
-use mathlib.Core.Bool.{Bool, true, false, not}
+use mathlib.Core.Bool.{true, false, not}
 use mathlib.Core.List.{List, [], _∷_, _++_}
 use Prim.Native.Nat.{ℕ, _+_, _-_, _*_, _/_, _≤_, _<_}
 use native.Mathlib.Omega.{arith}
 use lib.Dec.{eqb, ltb}
 use lib.ListN.{length, take, drop, replicate}
 use lib.Seq.{take-take}
-use borrow.Author.Tests.{ne-eqb, eq-eqb, eqb-true, ltb-false, not-false}
+use borrow.Author.Tests.{ne-eqb, eqb-true, ltb-false, not-false}
 use Rattle.magnetar_field.specs.Sizes.{log₂}
 use Rattle.magnetar_field.specs.Words.{elements}
 use Rattle.magnetar_field.proofs.Elements.{elements-length}
-use Rattle.magnetar_layout.specs.Layout.{Sound, isLength, layoutEnd}
+use Rattle.magnetar_layout.specs.Layout.{LayoutFits, isLength, layoutEnd}
 use Rattle.magnetar_layout.specs.Every.{every}
 use Rattle.magnetar_layout.specs.Tests.{Tests, note, noted, isSize, columnTests, layoutTests, roomTest}
 use Rattle.magnetar_layout.specs.Entries.{layoutRefusal}
 use Rattle.magnetar_layout.proofs.Noted.{noted-clear, noted-front, noted-rest, noted-late}
-use Rattle.magnetar_layout.proofs.SizeLaws.{Sized, sized}
+use Rattle.magnetar_layout.proofs.SizeLaws.{sized}
 use Rattle.magnetar_layout.proofs.Laid.{sound}
 use Rattle.magnetar_protocol.specs.RunSizes.{Power}
 use Rattle.magnetar_protocol.specs.Schedule.{outline}
@@ -28,7 +28,7 @@ use Rattle.magnetar_checks.specs.EndSteps.{EndFits, endPhases, frontTest
 use Rattle.magnetar_checks.specs.Outer.{drawTests, proofTests}
 use Rattle.magnetar_checks.specs.End.{endRefusal, endFound, endRoom}
 use Rattle.magnetar_checks.proofs.Pieces.{elements-take}
-use Rattle.magnetar_checks.proofs.EndPhases.{Cols, cols, end-is, end-finds}
+use Rattle.magnetar_checks.proofs.EndPhases.{cols, end-is, end-finds}
 
 pub power-of : (m : ℕ) → isSize 2 65536 m ≡ true → Power 2 65536 m
 power-of m h = let z = sized 2 65536 m h in record { low = z .low; high = z .high; power = z .power }
@@ -75,7 +75,7 @@ module _ (m s b f c : ℕ) (ns : List ℕ) (proof draws room : ℕ) (size : isSi
   few-of e = ltb-false 64 (length ns) (noted-clear 0 (columnTests (2 * (m / 2)) ++ layoutTests (m / 2) ns) refl e .1 .1 .1 .1 .0)
 
   pub record EndGiven : Type 0 where
-    pub layout : Sound (m / 2) ns
+    pub layout : LayoutFits (m / 2) ns
     pub few : length ns ≤ 64
     pub drawn : 2 * drawTotal s b f c ≤ draws
     pub fits : 4 * m ≤ room

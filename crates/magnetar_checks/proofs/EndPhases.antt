@@ -7,13 +7,13 @@ use Prim.Native.Nat.{ℕ, zero, suc, _+_, _-_, _*_, _/_, _^_, _≤_, _<_}
 use native.Mathlib.Nat.{two-pow-succ}
 use native.Mathlib.Omega.{arith}
 use lib.Dec.{eqb, lit<}
-use lib.ListN.{length, getD, take, drop, length-drop}
+use lib.ListN.{length, getD, drop, length-drop}
 use lib.Seq.{take-take, take-all}
 use Rattle.magnetar_field.specs.Gf128.{_⊕_, _⊗_}
 use Rattle.magnetar_field.specs.Sizes.{log₂}
 use Rattle.magnetar_field.specs.Tabulate.{tabulate}
 use Rattle.magnetar_field.specs.EqTable.{eqAt}
-use Rattle.magnetar_field.specs.Multilinear.{dot, mle}
+use Rattle.magnetar_field.specs.Multilinear.{mle}
 use Rattle.magnetar_field.proofs.Log2.{log₂-pow}
 use Rattle.magnetar_sumcheck.specs.Round.{running}
 use Rattle.magnetar_sumcheck.specs.Inner.{innerEnd}

@@ -2,23 +2,22 @@
 -- Assumes nothing.
 use mathlib.Core.Path.{_≡_, refl, sym, ap, ap₂, _∙_}
 use mathlib.Core.List.{List, [], _∷_, _++_}
-use Prim.Native.Nat.{ℕ, zero, suc, _+_, _-_, _*_, _/_, _%_, _^_, _≤_, _<_}
+use Prim.Native.Nat.{ℕ, zero, suc, _+_, _-_, _*_, _/_, _^_, _<_}
 use native.Mathlib.Nat.{two-pow-succ}
 use native.Mathlib.Omega.{arith}
 use lib.ListN.{length, getD, take, drop, length-take, length-drop, List·getD-append}
 use lib.Pow.{split, pow-pos}
-use lib.Seq.{take-at, drop-at, length-take-le, drop-cons, drop-append-le}
+use lib.Seq.{take-at, drop-at, length-take-le, drop-append-le}
 use Rattle.magnetar_field.specs.Gf128.{_⊕_, _⊗_}
 use Rattle.magnetar_field.specs.Sizes.{log₂}
 use Rattle.magnetar_field.specs.Words.{elements, words}
-use Rattle.magnetar_field.specs.EqTable.{eqTable, eqAt}
+use Rattle.magnetar_field.specs.EqTable.{eqTable}
 use Rattle.magnetar_field.specs.Multilinear.{dot, mle}
 use Rattle.magnetar_field.specs.Entries.{eqOut}
 use Rattle.magnetar_field.proofs.Elements.{elements-length, words-length, elements-drop}
 use Rattle.magnetar_field.proofs.EqTables.{eqTable-length, eqTable-get, eqAt-lt}
 use Rattle.magnetar_field.proofs.Product.{one-⊗}
-use Rattle.magnetar_r1cs.specs.Table.{Point}
-use Rattle.magnetar_layout.proofs.SizeLaws.{Sized}
+use Rattle.magnetar_layout.specs.Tests.{Sized}
 use Rattle.magnetar_r1cs.proofs.Points.{log-most, point-of, eq-built}
 use Rattle.magnetar_r1cs.proofs.TableLaws.{elements-words}
 use Rattle.magnetar_protocol.specs.RunSizes.{Power}

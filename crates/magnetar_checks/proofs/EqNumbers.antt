@@ -1,8 +1,8 @@
 -- eq of a point and a number, bit by bit; the values of the segments, one after the other.
 -- Assumes nothing.
 use mathlib.Core.Path.{_≡_, refl, sym, ap, ap₂, subst, _∙_}
-use mathlib.Core.List.{List, [], _∷_, _++_}
-use Prim.Native.Nat.{ℕ, zero, suc, _+_, _-_, _*_, _/_, _%_, _^_, _≤_, _<_}
+use mathlib.Core.List.{List, [], _∷_}
+use Prim.Native.Nat.{ℕ, suc, _+_, _-_, _*_, _/_, _%_, _^_, _≤_, _<_}
 use native.Mathlib.Nat.{le-trans, lt-of-not-le, pow-suc, mul-div-cancel}
 use native.Mathlib.Numerals.{add-one}
 use native.Mathlib.Omega.{arith}
@@ -18,8 +18,8 @@ use Rattle.magnetar_field.proofs.Elements.{elements-drop}
 use Rattle.magnetar_field.proofs.Xor.{⊕-assoc, ⊕-zero, zero-⊕}
 use Rattle.magnetar_field.proofs.Product.{⊗-lt, ⊗-one, one-⊗, ⊗-assoc}
 use Rattle.magnetar_field.proofs.EqTables.{eqAt-lt, eqAt-cons}
-use Rattle.magnetar_layout.specs.Layout.{Sound, nextMultiple, localVars, suffix, offsets}
-use Rattle.magnetar_layout.proofs.Laid.{Laid, laid-start, laid-more, laid-offset, laid-within, offset-within, Size, each-size}
+use Rattle.magnetar_layout.specs.Layout.{LayoutFits, nextMultiple, localVars, suffix}
+use Rattle.magnetar_layout.proofs.Laid.{Laid, laid-start, laid-more, laid-offset, laid-within, offset-within, each-size}
 use Rattle.magnetar_checks.specs.EndSteps.{segmentsAt}
 
 -- ---- the factors of the first j elements are in acc, and the number halved j times is left
@@ -89,7 +89,7 @@ multiple-is : (c n : ℕ) → (c + (n - 1)) / n * n ≡ nextMultiple c n
 unfolding nextMultiple
 multiple-is c n = refl
 
-pub step-of : (w : ℕ) (ns low vs : List ℕ) (acc c i : ℕ) → Sound w ns → Segments ns low vs acc c i → i < length ns
+pub step-of : (w : ℕ) (ns low vs : List ℕ) (acc c i : ℕ) → LayoutFits w ns → Segments ns low vs acc c i → i < length ns
     → Step w c (getD ns i 0) ((c + (getD ns i 0 - 1)) / getD ns i 0) (log₂ w)
 step-of w ns low vs acc c i S g h =
     let z = each-size w ns i (S .lengths) h in
@@ -107,7 +107,7 @@ place-is ns c i k l h p e =
     ap (λ (o : ℕ). o / getD ns i 0) (sym (laid-offset ns c i l h) ∙ sym (multiple-is c (getD ns i 0)) ∙ ap (λ (j : ℕ). j * getD ns i 0) (sym e))
     ∙ mul-div-cancel k p
 
-pub segments-more : (w : ℕ) (ns low vs : List ℕ) (acc c i k v acc′ c′ : ℕ) → Sound w ns → Segments ns low vs acc c i → i < length ns
+pub segments-more : (w : ℕ) (ns low vs : List ℕ) (acc c i k v acc′ c′ : ℕ) → LayoutFits w ns → Segments ns low vs acc c i → i < length ns
     → length vs ≡ length ns → k ≡ (c + (getD ns i 0 - 1)) / getD ns i 0 → v ≡ getD vs i 0
     → acc′ ≡ acc ⊕ eqAt (drop (log₂ (getD ns i 0)) low) k ⊗ v → c′ ≡ k * getD ns i 0 + getD ns i 0 → Segments ns low vs acc′ c′ (i + 1)
 segments-more w ns low vs acc c i k v acc′ c′ S g h lv ek ev ea ec = record {

@@ -1,18 +1,17 @@
 -- The tests on the sizes: which of them refuses, and what they leave.
 -- Assumes nothing.
-use mathlib.Core.Path.{_≡_, refl, sym, ap, _∙_}
-use mathlib.Core.Bool.{Bool, true, false, not}
-use mathlib.Core.List.{List, [], _∷_, _++_}
-use Prim.Native.Nat.{ℕ, _+_, _*_, _^_, _≤_, _<_}
+use mathlib.Core.Path.{_≡_, refl, sym, _∙_}
+use mathlib.Core.Bool.{true, not}
+use mathlib.Core.List.{[], _∷_}
+use Prim.Native.Nat.{ℕ, _*_, _^_, _≤_, _<_}
 use Prim.{⊥}
 use lib.Dec.{eqb, ltb}
-use lib.ListN.{length}
 use borrow.Author.Tests.{ltb-false, lt-ltb, le-ltb, eqb-true, not-false}
 use Rattle.magnetar_field.specs.Sizes.{log₂}
 use Rattle.magnetar_field.proofs.Log2.{log₂-lt}
-use Rattle.magnetar_layout.specs.Tests.{note, noted, isSize, sizeTests, rowsTests}
+use Rattle.magnetar_layout.specs.Tests.{note, noted, isSize, sizeTests, rowsTests, Sized}
 use Rattle.magnetar_layout.proofs.Noted.{note-kept, note-clear, noted-clear}
-use Rattle.magnetar_layout.proofs.SizeLaws.{Sized, not-bad}
+use Rattle.magnetar_layout.proofs.SizeLaws.{not-bad}
 use Rattle.magnetar_checks.specs.Steps.{drawTotal, proofTotal, refusalOf}
 
 pub log-small : (n k : ℕ) → k ≡ log₂ n → n < 2 ^ 64 → k < 64

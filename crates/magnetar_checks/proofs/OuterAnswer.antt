@@ -1,8 +1,8 @@
 -- The answer of `outer_checks`.
 -- Assumes nothing.
-use mathlib.Core.Path.{_≡_, refl, sym, ap, _∙_}
+use mathlib.Core.Path.{_≡_, refl, sym, _∙_}
 use mathlib.Core.List.{List, _++_}
-use Prim.Native.Nat.{ℕ, _+_, _*_, _/_, _≤_}
+use Prim.Native.Nat.{ℕ, _+_, _*_, _≤_}
 use native.Mathlib.Omega.{arith}
 use lib.ListN.{length}
 use borrow.Author.Tests.{ne-eqb}
@@ -15,7 +15,7 @@ use Rattle.magnetar_protocol.specs.Schedule.{outline}
 use Rattle.magnetar_checks.specs.declared.found.Found.{Found}
 use Rattle.magnetar_checks.specs.Steps.{nothing, after, refusalOf, outerPhases}
 use Rattle.magnetar_checks.specs.Outer.{runTests, segmentTests, drawTests, proofTests, outerChecksRefusal, outerFound}
-use Rattle.magnetar_checks.proofs.Guards.{Given, given}
+use Rattle.magnetar_checks.proofs.Guards.{given}
 use Rattle.magnetar_checks.proofs.OuterPhases.{outer-found}
 
 module _ (m q b f : ℕ) (ns p d : List ℕ) where

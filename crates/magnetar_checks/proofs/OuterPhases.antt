@@ -3,20 +3,19 @@
 use mathlib.Core.Path.{_≡_, refl, sym, ap, ap₂, _∙_}
 use mathlib.Core.Bool.{Bool, true, false}
 use mathlib.Core.List.{List, [], _∷_, _++_, reverse}
-use Prim.Native.Nat.{ℕ, zero, suc, _+_, _-_, _*_, _/_, _≤_, _<_}
+use Prim.Native.Nat.{ℕ, zero, suc, _+_, _-_, _*_, _≤_, _<_}
 use native.Mathlib.Omega.{arith}
 use lib.Dec.{eqb, lit<}
 use borrow.Author.Tests.{eq-eqb, ne-eqb, eqb-true, eqb-false}
 use lib.ListN.{length, getD, take, drop, length-drop, List·getD-append}
 use lib.Seq.{length-take-le, take-append-le, take-append-add, getD-append-add}
 use Rattle.magnetar_field.specs.Polynomial.{eval}
-use Rattle.magnetar_field.specs.Tabulate.{tabulate}
 use Rattle.magnetar_field.proofs.Tabulation.{tabulate-ext}
 use Rattle.magnetar_sumcheck.specs.Round.{holds, running}
 use Rattle.magnetar_sumcheck.specs.Order.{eqPoints}
 use Rattle.magnetar_sumcheck.specs.Outer.{outerEnd}
 use Rattle.magnetar_r1cs.specs.Batch.{Relation}
-use Rattle.magnetar_protocol.specs.Shape.{logLogins, logBin, logFld, logCols, beforeTerminals}
+use Rattle.magnetar_protocol.specs.Shape.{logLogins, logBin, logFld, beforeTerminals}
 use Rattle.magnetar_protocol.specs.Proof.{part, binMessages, fldMessages, terminal}
 use Rattle.magnetar_protocol.specs.Draws.{Draws, drawCount, drawsOf, loginPoint}
 use Rattle.magnetar_protocol.specs.Checks.{Check, roundHolds, sharedChecks, rowChecks, terminalChecks, binRound, fldRound}

@@ -13,7 +13,7 @@ use Rattle.magnetar_field.specs.EqTable.{eqAt}
 use Rattle.magnetar_field.specs.Multilinear.{dot, mle}
 use Rattle.magnetar_sumcheck.specs.Round.{running}
 use Rattle.magnetar_sumcheck.specs.Inner.{innerEnd}
-use Rattle.magnetar_layout.specs.Layout.{localVars, suffix, Sound}
+use Rattle.magnetar_layout.specs.Layout.{localVars, suffix, LayoutFits}
 use Rattle.magnetar_layout.specs.Tests as tests
 use Rattle.magnetar_protocol.specs.Proof.{part}
 use Rattle.magnetar_protocol.specs.Checks.{Check}
@@ -76,7 +76,7 @@ pub record EndFits (m s b f c : ℕ) (ns : List ℕ) (x proof draws : ℕ) : Typ
   pub bin : b < 64
   pub fld : f < 64
   pub cols : c ≡ log₂ m
-  pub layout : Sound (m / 2) ns
+  pub layout : LayoutFits (m / 2) ns
   pub few : length ns ≤ 64
   pub public : x ≡ m - 2
   pub drawn : 2 * drawTotal s b f c ≤ draws

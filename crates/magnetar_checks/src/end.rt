@@ -15,15 +15,14 @@ use magnetar_sumcheck::engine;
 ghost use mathlib.Core.Path.{_≡_};
 ghost use mathlib.Core.Bool.{true};
 ghost use mathlib.Core.List.{[], _∷_};
-ghost use Prim.Native.Nat.{ℕ, _+_, _-_, _*_, _/_, _%_, _<_, _≤_};
-ghost use lib.Dec.{eqb};
+ghost use Prim.Native.Nat.{_+_, _-_, _*_, _/_, _%_, _<_, _≤_};
 ghost use lib.ListN.{length, getD, take, drop, replicate};
 ghost use Rattle.magnetar_field.specs.Gf128.{value, _⊕_, _⊗_};
 ghost use Rattle.magnetar_field.specs.Sizes.{log₂};
 ghost use Rattle.magnetar_field.specs.EqTable.{eqAt};
 ghost use Rattle.magnetar_field.specs.Multilinear.{mle};
 ghost use Rattle.magnetar_field.specs.Words.{elements};
-ghost use Rattle.magnetar_layout.specs.Layout.{Sound};
+ghost use Rattle.magnetar_layout.specs.Layout.{LayoutFits};
 ghost use Rattle.magnetar_layout.specs.Tests.{noted, isSize};
 ghost use Rattle.magnetar_protocol.specs.RunSizes.{Power};
 ghost use Rattle.magnetar_protocol.specs.Proof.{part};
@@ -60,7 +59,7 @@ fn add_segment(acc: Gf128, low: &[u64], n: usize, k: usize, v: Gf128) -> Gf128
 
 // The segment values, each times eq of the low point's high part and the number of the segment's place. w is the witness columns.
 fn segment_sum(w: usize, lens: &[usize], low: &[u64], values: &[u64]) -> Gf128
-    requires { ⌜ Sound w (now lens) ⌝ }
+    requires { ⌜ LayoutFits w (now lens) ⌝ }
     requires { ⌜ (length (now low) ≡ 2 * log₂ w) × (length (now values) ≡ 2 * length (now lens)) ⌝ }
     ensures { λ r. ⌜ value r ≡ segmentsAt (now (lens .entry)) (elements (now (low .entry))) 0 (elements (now (values .entry))) ⌝ }
 {
@@ -102,23 +101,13 @@ fn public_value(s: &mut [u64], x: &[u64], low: &[u64], m: usize) -> Gf128
     gf128::add(e, multilinear::dot(x, &s[2..m]))
 }
 
-// a and b are the same element.
-fn same(a: Gf128, b: Gf128) -> bool
-    ensures { λ r. ⌜ r ≡ eqb (value a) (value b) ⌝ }
-{
-    if a.hi != b.hi {
-        return false;
-    }
-    a.lo == b.lo
-}
-
 // (1 + top) a + top p is v.
 fn is_identical(top: Gf128, a: Gf128, p: Gf128, v: Gf128) -> bool
     ensures { λ r. ⌜ r ≡ identical (value top) (value a) (value p) (value v) ⌝ }
 {
     let x = gf128::mul(gf128::add(gf128::ONE, top), a);
     let y = gf128::mul(top, p);
-    same(gf128::add(x, y), v)
+    gf128::equal(gf128::add(x, y), v)
 }
 
 // ---- The checks, with the logarithms s, b, f, c of the logins, the rows of bin and fld, and the columns.

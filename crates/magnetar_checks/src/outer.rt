@@ -11,7 +11,7 @@ use magnetar_sumcheck::engine;
 use magnetar_sumcheck::public;
 ghost use mathlib.Core.Path.{_≡_};
 ghost use mathlib.Core.List.{reverse, _++_};
-ghost use Prim.Native.Nat.{ℕ, suc, _+_, _*_, _%_, _<_, _≤_};
+ghost use Prim.Native.Nat.{suc, _+_, _*_, _%_, _<_, _≤_};
 ghost use lib.ListN.{length, getD};
 ghost use Rattle.magnetar_field.specs.Gf128.{value};
 ghost use Rattle.magnetar_field.specs.Polynomial.{eval};

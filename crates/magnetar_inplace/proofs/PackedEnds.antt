@@ -11,9 +11,9 @@ use borrow.Author.Tests.{eqb-true, ltb-false}
 use Rattle.magnetar_field.specs.Words.{elements, words}
 use Rattle.magnetar_field.specs.Tabulate.{tabulate}
 use Rattle.magnetar_layout.specs.Every.{every}
-use Rattle.magnetar_layout.specs.Tests.{noted}
+use Rattle.magnetar_layout.specs.Tests.{noted, Sized}
 use Rattle.magnetar_layout.proofs.Noted.{noted-clear}
-use Rattle.magnetar_layout.proofs.SizeLaws.{Sized, not-bad}
+use Rattle.magnetar_layout.proofs.SizeLaws.{not-bad}
 use Rattle.magnetar_r1cs.specs.Matrix.{rowTotal, share, times, timesAt, bitValued}
 use Rattle.magnetar_r1cs.specs.Sum.{blocks}
 use Rattle.magnetar_r1cs.specs.Lent.{matrixOf}

@@ -18,10 +18,10 @@ use Rattle.magnetar_field.specs.EqTable.{eqTable, eqAt}
 use Rattle.magnetar_field.specs.Entries.{eqRefusal, eqOut, tableWords, Answer, answered}
 use Rattle.magnetar_field.proofs.EqTables.{eqTable-length, eqTable-get}
 use Rattle.magnetar_layout.specs.Every.{every}
-use Rattle.magnetar_layout.specs.Tests.{noted}
+use Rattle.magnetar_layout.specs.Tests.{noted, Sized}
 use Rattle.magnetar_layout.proofs.Noted.{noted-clear}
 use Rattle.magnetar_layout.proofs.EveryLaws.{both}
-use Rattle.magnetar_layout.proofs.SizeLaws.{Sized, not-bad}
+use Rattle.magnetar_layout.proofs.SizeLaws.{not-bad}
 use Rattle.magnetar_r1cs.specs.Matrix.{Entry as Cell, rowTotal, sumOver, share, isBit, swapped, times, timesAt, transpose, mleTable, mleAt, binary}
 use Rattle.magnetar_r1cs.specs.Lent.{matrixOf}
 use Rattle.magnetar_r1cs.specs.Entries.{Flagged, flaggedOf, binaryRefusal, applyRefusal, applyOut, tableRefusal, tableOut, tableScratch, atRefusal, atAnswer, atScratch}

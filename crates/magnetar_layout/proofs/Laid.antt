@@ -19,7 +19,7 @@ use Rattle.magnetar_layout.specs.Tests.{columnTests, layoutTests}
 use Rattle.magnetar_layout.specs.Entries.{layoutRefusal}
 use Rattle.magnetar_layout.proofs.Noted.{noted-clear}
 use Rattle.magnetar_layout.proofs.SizeLaws.{not-bad}
-use Rattle.magnetar_layout.specs.Layout.{nextMultiple, offsetsFrom, endFrom, offsets, layoutEnd, isLength, Sound}
+use Rattle.magnetar_layout.specs.Layout.{nextMultiple, offsetsFrom, endFrom, offsets, layoutEnd, isLength, LayoutFits}
 use Rattle.magnetar_layout.proofs.EveryLaws.{both, every-at, every-tail, every-drop}
 
 -- ---- half of a power of two
@@ -150,12 +150,12 @@ offset-from-within w c (n ∷ ns) zero e h = end-least w (nextMultiple c n + n) 
 offset-from-within w c (n ∷ ns) (suc i) e h =
     offset-from-within w (nextMultiple c n + n) ns i (every-tail (isLength w) n ns e) (omega arith)
 
-pub offset-within : (w : ℕ) (ns : List ℕ) (i : ℕ) → Sound w ns → i < length ns → getD (offsets ns) i 0 + getD ns i 0 ≤ w
+pub offset-within : (w : ℕ) (ns : List ℕ) (i : ℕ) → LayoutFits w ns → i < length ns → getD (offsets ns) i 0 + getD ns i 0 ≤ w
 unfolding offsets layoutEnd
 offset-within w ns i s h = le-trans (offset-from-within w 0 ns i (s .lengths) h) (s .ends)
 
 -- ---- a layout that is not refused
-pub sound : (w : ℕ) (ns : List ℕ) → layoutRefusal w ns ≡ 0 → Sound w ns
+pub sound : (w : ℕ) (ns : List ℕ) → layoutRefusal w ns ≡ 0 → LayoutFits w ns
 unfolding layoutRefusal
 sound w ns e =
     let k = noted-clear 0 (columnTests (2 * w) ++ layoutTests w ns) refl e .1 in

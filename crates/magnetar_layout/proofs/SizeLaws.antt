@@ -8,12 +8,7 @@ use lib.Dec.{leb}
 use borrow.Author.Tests.{leb-true, eqb-true, not-false}
 use Rattle.magnetar_field.specs.Sizes.{log₂, powerOfTwo}
 use Rattle.magnetar_layout.proofs.EveryLaws.{both}
-use Rattle.magnetar_layout.specs.Tests.{isSize}
-
-pub record Sized (least most n : ℕ) : Type 0 where
-  pub low : least ≤ n
-  pub high : n ≤ most
-  pub power : n ≡ 2 ^ log₂ n
+use Rattle.magnetar_layout.specs.Tests.{isSize, Sized}
 
 pub sized : (least most n : ℕ) → isSize least most n ≡ true → Sized least most n
 unfolding isSize

@@ -34,7 +34,7 @@ unfoldable pub isLength : ℕ → ℕ → Bool
 isLength w n = ltb 0 n && (leb n w && powerOfTwo n)
 
 -- the lengths of a layout in w columns, as the checks leave them
-pub record Sound (w : ℕ) (ns : List ℕ) : Type 0 where
+pub record LayoutFits (w : ℕ) (ns : List ℕ) : Type 0 where
   pub small : w ≤ 32768
   pub power : w ≡ 2 ^ log₂ w
   pub lengths : every (isLength w) ns ≡ true

@@ -1,11 +1,12 @@
 -- The refusals 1 to 11 and 15 of document 01 as tests, each with its number. The first bad test gives the number of the refusal.
 -- Assumes nothing.
+use mathlib.Core.Path.{_≡_}
 use mathlib.Core.Bool.{Bool, not, cond, _&&_}
 use mathlib.Core.List.{List, [], _∷_, _++_}
-use Prim.Native.Nat.{ℕ, _*_, _-_}
+use Prim.Native.Nat.{ℕ, _*_, _-_, _^_, _≤_}
 use lib.Dec.{eqb, ltb, leb}
 use lib.ListN.{length}
-use Rattle.magnetar_field.specs.Sizes.{powerOfTwo}
+use Rattle.magnetar_field.specs.Sizes.{log₂, powerOfTwo}
 use Rattle.magnetar_layout.specs.Every.{every}
 use Rattle.magnetar_layout.specs.Lent.{Lent}
 use Rattle.magnetar_layout.specs.Layout.{isLength, layoutEnd}
@@ -27,6 +28,12 @@ noted a (t ∷ l) = noted (note (t .0) (t .1) a) l
 -- n is a power of two from least to most
 unfoldable pub isSize : ℕ → ℕ → ℕ → Bool
 isSize least most n = leb least n && (leb n most && powerOfTwo n)
+
+-- what a size that passes this test is
+pub record Sized (least most n : ℕ) : Type 0 where
+  pub low : least ≤ n
+  pub high : n ≤ most
+  pub power : n ≡ 2 ^ log₂ n
 
 -- each number is below n
 abbrev pub allBelow : ℕ → List ℕ → Bool

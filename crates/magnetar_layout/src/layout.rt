@@ -9,7 +9,7 @@ ghost use Prim.Native.Nat.{_+_, _*_, _<_, _≤_};
 ghost use lib.Dec.{ltb};
 ghost use lib.ListN.{length, drop};
 ghost use Rattle.magnetar_layout.specs.Every.{every};
-ghost use Rattle.magnetar_layout.specs.Layout.{nextMultiple, isLength, layoutEnd, offsets, offset, localVars, suffixBits, suffix, Sound};
+ghost use Rattle.magnetar_layout.specs.Layout.{nextMultiple, isLength, layoutEnd, offsets, offset, localVars, suffixBits, suffix, LayoutFits};
 ghost use Rattle.magnetar_layout.specs.Entries.{layoutRefusal, buildRefusal, buildOut, read, readOf, varsOf, segmentPart};
 
 // The least multiple of n that is not below c.
@@ -54,7 +54,7 @@ pub fn refusal(w: usize, lens: &[usize]) -> u32
 
 // The offset of segment k.
 fn place(w: usize, lens: &[usize], k: usize) -> usize
-    requires { ⌜ Sound w (now lens) ⌝ }
+    requires { ⌜ LayoutFits w (now lens) ⌝ }
     requires { ⌜ k < length (now lens) ⌝ }
     ensures { λ r. ⌜ r ≡ offset (now (lens .entry)) k ⌝ }
 {
@@ -70,7 +70,7 @@ fn place(w: usize, lens: &[usize], k: usize) -> usize
 
 // Writes the offsets of all segments.
 fn fill(w: usize, lens: &[usize], out: &mut [usize])
-    requires { ⌜ Sound w (now lens) ⌝ }
+    requires { ⌜ LayoutFits w (now lens) ⌝ }
     requires { ⌜ length (now lens) ≤ length (now out) ⌝ }
     ensures { λ _. ⌜ now (out .exit) ≡ offsets (now (lens .entry)) ++ drop (length (now (lens .entry))) (now (out .entry)) ⌝ }
 {

@@ -12,7 +12,7 @@ use lib.Dec.{ltb, leb}
 use lib.ListN.{length, getD}
 use Rattle.magnetar_field.specs.Sizes.{log₂, powerOfTwo}
 use Rattle.magnetar_layout.specs.Every.{every}
-use Rattle.magnetar_layout.specs.Layout.{nextMultiple, offsetsFrom, endFrom, offsets, layoutEnd, isLength, Sound, within}
+use Rattle.magnetar_layout.specs.Layout.{nextMultiple, offsetsFrom, endFrom, offsets, layoutEnd, isLength, LayoutFits, within}
 
 -- ---- one length, one place
 pub record Length (w n : ℕ) : Type 0 where
@@ -68,7 +68,7 @@ placed-from w c (n ∷ ns) zero e h =
     record { size = p .0; aligned = next-aligned c n (p .0 .least); ends = end-least w (nextMultiple c n + n) ns (p .1) }
 placed-from w c (n ∷ ns) (suc i) e h = placed-from w (nextMultiple c n + n) ns i (first-length w n ns e .1) (omega arith)
 
-pub placed : (w : ℕ) (ns : List ℕ) (i : ℕ) → Sound w ns → i < length ns → Placed w (getD (offsets ns) i 0) (getD ns i 0) w
+pub placed : (w : ℕ) (ns : List ℕ) (i : ℕ) → LayoutFits w ns → i < length ns → Placed w (getD (offsets ns) i 0) (getD ns i 0) w
 unfolding offsets layoutEnd
 placed w ns i s h =
     let p = placed-from w 0 ns i (s .lengths) h in

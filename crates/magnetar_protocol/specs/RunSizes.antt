@@ -10,7 +10,7 @@ use Rattle.magnetar_field.specs.Sizes.{log₂}
 use Rattle.magnetar_layout.specs.Every.{every}
 use Rattle.magnetar_r1cs.specs.Matrix.{Matrix, System}
 use Rattle.magnetar_r1cs.specs.Batch.{Relation, Batch, bitOf}
-use Rattle.magnetar_layout.specs.Layout.{Sound}
+use Rattle.magnetar_layout.specs.Layout.{LayoutFits}
 use Rattle.magnetar_protocol.specs.Shape.{proofElements}
 use Rattle.magnetar_protocol.specs.Draws.{drawCount}
 
@@ -40,7 +40,7 @@ pub record SizedRelation (r : Relation) : Type 0 where
   pub logins : Power 1 4096 (r .q)
   pub bin : SizedSystem (r .m) (r .q) (r .bin)
   pub fld : SizedSystem (r .m) (r .q) (r .fld)
-  pub layout : Sound (r .m / 2) (r .lengths)
+  pub layout : LayoutFits (r .m / 2) (r .lengths)
   pub segments : length (r .lengths) ≤ 64
 
 -- q rows of m / 2 bits

@@ -18,7 +18,7 @@ use Rattle.magnetar_field.proofs.Xor.{bit-cases, ⊕-lt, ⊕-comm, ⊕-digit, t
 use Rattle.magnetar_field.proofs.Tabulation.{tabulate-of, tabulate-ext}
 use Rattle.magnetar_layout.specs.Every.{every}
 use Rattle.magnetar_layout.proofs.EveryLaws.{both}
-use Rattle.magnetar_layout.proofs.SizeLaws.{Sized}
+use Rattle.magnetar_layout.specs.Tests.{Sized}
 use Rattle.magnetar_field.specs.Sizes.{log₂}
 use Rattle.magnetar_r1cs.proofs.Points.{log-most}
 use Rattle.magnetar_r1cs.specs.Sum.{sumBelow, blocks}

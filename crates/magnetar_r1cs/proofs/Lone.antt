@@ -14,10 +14,10 @@ use Rattle.magnetar_r1cs.specs.Lent.{Lent, entriesOf}
 use Rattle.magnetar_r1cs.specs.Packed.{loginWords}
 use Rattle.magnetar_r1cs.specs.Table.{Equal}
 use Rattle.magnetar_r1cs.specs.Entries.{matrixTests}
-use Rattle.magnetar_layout.specs.Tests.{noted, allBelow, counted, placed, loneTests, batchTests}
+use Rattle.magnetar_layout.specs.Tests.{noted, allBelow, counted, placed, loneTests, batchTests, Sized}
 use Rattle.magnetar_layout.proofs.EveryLaws.{both}
 use Rattle.magnetar_layout.proofs.Noted.{Clear, noted-clear}
-use Rattle.magnetar_layout.proofs.SizeLaws.{Sized, not-bad}
+use Rattle.magnetar_layout.proofs.SizeLaws.{not-bad}
 
 -- the entries are counted, and lie inside
 pub record Placed (a : Lent) : Type 0 where

@@ -22,7 +22,7 @@ use Rattle.magnetar_r1cs.specs.Matrix.{Entry}
 use Rattle.magnetar_r1cs.specs.Table.{Point, cross}
 use Rattle.magnetar_layout.proofs.EveryLaws.{both}
 use Rattle.magnetar_r1cs.proofs.Lone.{inside}
-use Rattle.magnetar_layout.proofs.SizeLaws.{Sized}
+use Rattle.magnetar_layout.specs.Tests.{Sized}
 
 -- a power of two up to 65,536 has at most 16 as its logarithm
 pub log-most : (n : ℕ) → n ≤ 65536 → n ≡ 2 ^ log₂ n → log₂ n ≤ 16

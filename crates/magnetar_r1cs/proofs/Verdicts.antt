@@ -10,7 +10,7 @@ use lib.Dec.{eqb}
 use borrow.Author.Tests.{eqb-true, eq-eqb}
 use Rattle.magnetar_r1cs.specs.Matrix.{System}
 use Rattle.magnetar_r1cs.specs.Batch.{Batch, Relation, assignment, rowHolds, Satisfied, Good}
-use Rattle.magnetar_r1cs.specs.RowCheck.{firstNot, failingRow, failingLogin, verdict}
+use Rattle.magnetar_r1cs.specs.RowCheck.{firstNot, failingRow, failingLogin, rowVerdict}
 use Rattle.magnetar_r1cs.specs.RowCheck.Verdict.{good, bin, fld}
 
 -- ---- the first number of which a test is false
@@ -69,13 +69,13 @@ module _ (s : System) (q : ℕ) (b : Batch) (x : List ℕ) where
       (λ u hu. eq-eqb _ _ (first-none (rowHolds s (assignment b x u)) (s .a .rows) (λ i hi. eq-eqb _ _ (h u i hu hi))))
 
 -- ---- the verdict
-pub good-verdict : (r : Relation) (b : Batch) (x : List ℕ) → Good r b x → verdict r b x ≡ good
-unfolding verdict
+pub good-verdict : (r : Relation) (b : Batch) (x : List ℕ) → Good r b x → rowVerdict r b x ≡ good
+unfolding rowVerdict
 good-verdict r b x g =
     rw (eq-eqb (failingLogin (r .bin) (r .q) b x) (r .q) (no-failing (r .bin) (r .q) b x (g .bin)), eq-eqb (failingLogin (r .fld) (r .q) b x) (r .q) (no-failing (r .fld) (r .q) b x (g .fld)))
 
-pub verdict-good : (r : Relation) (b : Batch) (x : List ℕ) → verdict r b x ≡ good → Good r b x
-unfolding verdict
+pub verdict-good : (r : Relation) (b : Batch) (x : List ℕ) → rowVerdict r b x ≡ good → Good r b x
+unfolding rowVerdict
 verdict-good r b x e =
     go (eqb (failingLogin (r .bin) (r .q) b x) (r .q)) refl (eqb (failingLogin (r .fld) (r .q) b x) (r .q)) refl e
   where

@@ -25,8 +25,8 @@ pub data Verdict : Type 0 where
   good : Verdict
   bin fld : ℕ → ℕ → Verdict
 
-unfoldable pub verdict : Relation → Batch → List ℕ → Verdict
-verdict r b x =
+unfoldable pub rowVerdict : Relation → Batch → List ℕ → Verdict
+rowVerdict r b x =
     cond (eqb (failingLogin (r .bin) (r .q) b x) (r .q))
     (cond (eqb (failingLogin (r .fld) (r .q) b x) (r .q)) good
     (fld (failingLogin (r .fld) (r .q) b x) (failingRow (r .fld) (assignment b x (failingLogin (r .fld) (r .q) b x)))))

@@ -13,9 +13,8 @@ use Rattle.magnetar_field.specs.Sizes.{log₂}
 use Rattle.magnetar_field.specs.Words.{elements, overlaid}
 use Rattle.magnetar_field.specs.EqTable.{scaledTable}
 use Rattle.magnetar_field.proofs.Elements.{overlaid-same}
-use Rattle.magnetar_layout.specs.Tests.{noted}
+use Rattle.magnetar_layout.specs.Tests.{noted, Sized}
 use Rattle.magnetar_layout.proofs.Noted.{noted-clear, noted-rest}
-use Rattle.magnetar_layout.proofs.SizeLaws.{Sized}
 use Rattle.magnetar_r1cs.specs.Matrix.{rowTotal, share, swapped}
 use Rattle.magnetar_r1cs.proofs.Walked.{entries-swapped}
 use Rattle.magnetar_r1cs.proofs.Points.{log-most}

@@ -12,7 +12,7 @@ use Rattle.magnetar_field.specs.Sizes.{log₂}
 use Rattle.magnetar_field.specs.Words.{elements, overlaid}
 use Rattle.magnetar_field.proofs.Elements.{overlaid-same}
 use Rattle.magnetar_r1cs.proofs.Points.{log-most}
-use Rattle.magnetar_layout.proofs.SizeLaws.{Sized}
+use Rattle.magnetar_layout.specs.Tests.{Sized}
 use Rattle.magnetar_batch.specs.Systems.{Lent3, systemsTests, pointTests}
 use Rattle.magnetar_batch.specs.Entries.{comboRefusal, comboIn, comboWords}
 use Rattle.magnetar_batch.proofs.SystemLaws.{Fits6, fits6, front-none}

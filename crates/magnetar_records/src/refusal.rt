@@ -11,6 +11,7 @@ ghost use Rattle.magnetar_spartan.specs.Refusals.{verifyTests};
 ghost use Rattle.magnetar_records.specs.Numbers.{firstRefusalOf, pointsOf};
 use crate::steps;
 use magnetar_batch::systems;
+use magnetar_field::sizes;
 use magnetar_inplace::steps as walks;
 use magnetar_layout::tests;
 use magnetar_spartan::refusal;
@@ -48,7 +49,7 @@ fn points(
     let z = tests::note(0, 11, al != 12);
     let z = tests::note(z, 11, pb != 2 * steps::log(nb));
     let z = tests::note(z, 11, pf != 2 * steps::log(nf));
-    let z = tests::note(z, 15, scratch < 2 * m + 2 * steps::larger(nb, nf));
+    let z = tests::note(z, 15, scratch < 2 * m + 2 * sizes::larger(nb, nf));
     tests::note(z, 15, out < 2 * m)
 }
 

@@ -11,6 +11,7 @@ use crate::steps;
 use magnetar_checks::claims;
 use magnetar_checks::end;
 use magnetar_checks::outer;
+use magnetar_field::sizes;
 use magnetar_hash::transcript::Transcript;
 use magnetar_hash::transcript::TranscriptAnswer;
 use magnetar_inplace::steps as walks;
@@ -124,7 +125,7 @@ fn checks(
 fn clear_room(m: usize, rb: usize, rf: usize, s: &mut [u64])
     ensures { λ _. ⌜ now (s .exit) ≡ clearedTo (roomElements m rb rf) (now (s .entry)) ⌝ }
 {
-    let k = steps::larger(rb, rf);
+    let k = sizes::larger(rb, rf);
     let h = s.len() / 4;
     if m <= h {
         if k <= h - m {

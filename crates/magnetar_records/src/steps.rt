@@ -38,13 +38,6 @@ pub fn least(a: usize, b: usize) -> usize
     if a < b { a } else { b }
 }
 
-// The larger of two numbers.
-pub fn larger(a: usize, b: usize) -> usize
-    ensures { λ r. ⌜ r ≡ max a b ⌝ }
-{
-    if a < b { b } else { a }
-}
-
 // Puts alpha k times the eq table of the row point p, for n rows, behind the first m elements.
 pub(crate) fn eq_behind(s: &mut [u64], m: usize, n: usize, al: [u64; 12], k: usize, p: [u64; 32])
     ensures { λ _. ⌜ now (s .exit) ≡ eqBehind m (getD (elements al) k 0) (pointIn n p) (now (s .entry)) ⌝ }
@@ -61,7 +54,7 @@ pub(crate) fn eq_behind(s: &mut [u64], m: usize, n: usize, al: [u64; 12], k: usi
 pub(crate) fn clear_behind(s: &mut [u64], m: usize, nb: usize, nf: usize)
     ensures { λ _. ⌜ now (s .exit) ≡ clearedBehind m (max nb nf) (now (s .entry)) ⌝ }
 {
-    let k = larger(nb, nf);
+    let k = sizes::larger(nb, nf);
     let h = s.len() / 2;
     if m <= h {
         if k <= h - m {

@@ -13,7 +13,7 @@ use Rattle.magnetar_field.proofs.Elements.{words-length}
 use Rattle.magnetar_field.proofs.Tabulation.{tabulate-length}
 use Rattle.magnetar_layout.specs.Lent.{Lent}
 use Rattle.magnetar_layout.specs.Login.{loginWords}
-use Rattle.magnetar_layout.proofs.SizeLaws.{Sized}
+use Rattle.magnetar_layout.specs.Tests.{Sized}
 use Rattle.magnetar_r1cs.specs.Lent.{matrixOf}
 use Rattle.magnetar_r1cs.specs.Matrix.{times}
 use Rattle.magnetar_r1cs.specs.Sum.{blocks}

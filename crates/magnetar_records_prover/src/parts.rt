@@ -5,6 +5,7 @@ ghost use mathlib.Core.List.{_++_};
 ghost use Prim.Native.Nat.{_+_, _-_, _≤_, min};
 ghost use lib.ListN.{length, take, drop, replicate};
 ghost use Rattle.magnetar_records_prover.specs.Parts.{productWords, placeOf, sizeOf, copied, proofWordsOf, claimWordsOf, proverRoomWords};
+use magnetar_field::sizes;
 use magnetar_field::words;
 use magnetar_records::steps;
 
@@ -96,7 +97,7 @@ fn room_words(m: usize, q: usize, rb: usize, rf: usize) -> usize
     let b = steps::least(rb, 65536);
     let f = steps::least(rf, 65536);
     let n = steps::least(m, 65536);
-    4 * product_words(q, rb) + 4 * product_words(q, rf) + 8 * n + 4 * steps::larger(b, f) + 4 * l
+    4 * product_words(q, rb) + 4 * product_words(q, rf) + 8 * n + 4 * sizes::larger(b, f) + 4 * l
 }
 
 // Clears its scratch.

@@ -1,13 +1,12 @@
 -- The entries: the run of the definitions, and its words in the slices that are lent.
 -- Assumes nothing.
-use mathlib.Core.Path.{_≡_, refl, sym, ap, ap₂, _∙_}
+use mathlib.Core.Path.{_≡_, sym, ap, ap₂, _∙_}
 use mathlib.Core.List.{List, [], _∷_, _++_}
-use Prim.Native.Nat.{ℕ, zero, suc, _+_, _-_, _*_, _/_, _%_, _^_, _≤_, _<_}
+use Prim.Native.Nat.{ℕ, _+_, _-_, _*_, _/_, _^_, _≤_, _<_}
 use native.Mathlib.Omega.{arith}
 use lib.ListN.{length, getD, take, drop}
-use lib.Seq.{length-take-le, take-take, take-all}
+use lib.Seq.{take-take, take-all}
 use Rattle.magnetar_field.specs.Sizes.{log₂}
-use Rattle.magnetar_field.specs.Tabulate.{tabulate}
 use Rattle.magnetar_field.specs.Words.{elements, words, overlaid}
 use Rattle.magnetar_field.specs.Multilinear.{mle}
 use Rattle.magnetar_field.proofs.Elements.{elements-length, words-elements}
@@ -16,7 +15,7 @@ use Rattle.magnetar_hash.specs.Bytes.{ascii}
 use Rattle.magnetar_hash.specs.declared.transcript.Transcript.{Transcript}
 use Rattle.magnetar_layout.specs.Layout.{offset, localVars}
 use Rattle.magnetar_protocol.specs.Schedule.{outline}
-use Rattle.magnetar_protocol.specs.Stepwise.{Steps, InnerSteps, begin, say, sayEach, innerSteps, innerRun, segmentValue, lowDraws, ended, innerAll}
+use Rattle.magnetar_protocol.specs.Stepwise.{InnerSteps, begin, say, sayEach, innerSteps, innerRun, segmentValue, lowDraws, ended, innerAll}
 use Rattle.magnetar_rounds.specs.Held.{Locals, segmentIn, innerEnded, innerWhole}
 use Rattle.magnetar_rounds.specs.Entries.{tableAt, innerPlayed}
 use Rattle.magnetar_rounds.proofs.Slots.{take-of-drop}

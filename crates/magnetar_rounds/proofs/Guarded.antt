@@ -1,25 +1,24 @@
 -- What the guards' refusals leave.
 -- Assumes nothing.
 use mathlib.Core.Path.{_≡_, refl, sym, ap, _∙_}
-use mathlib.Core.Bool.{Bool, true, false, not}
+use mathlib.Core.Bool.{Bool, false}
 use mathlib.Core.List.{List, [], _∷_, _++_}
 use Prim.Native.Nat.{ℕ, zero, suc, _+_, _-_, _*_, _/_, _^_, _≤_, _<_}
-use native.Mathlib.Nat.{lt-of-not-le, two-pow-succ}
+use native.Mathlib.Nat.{two-pow-succ}
 use native.Mathlib.Omega.{arith}
 use lib.ListN.{length, getD}
-use lib.Pow.{pow-mono, pow-pos}
 use borrow.Author.Tests.{ltb-false, eqb-true, not-false}
 use Rattle.magnetar_field.specs.Sizes.{log₂}
 use Rattle.magnetar_field.proofs.Log2.{log₂-pow}
 use Rattle.magnetar_hash.specs.declared.transcript.Transcript.{Transcript}
 use Rattle.magnetar_layout.specs.Entries.{layoutRefusal}
-use Rattle.magnetar_layout.specs.Tests.{Tests, note, noted, isSize, columnTests, publicTests, layoutTests, roomTest}
+use Rattle.magnetar_layout.specs.Tests.{note, noted, columnTests, publicTests, layoutTests, roomTest, Sized}
 use Rattle.magnetar_layout.proofs.Noted.{noted-rest, noted-clear}
-use Rattle.magnetar_layout.proofs.SizeLaws.{Sized, not-bad}
+use Rattle.magnetar_layout.proofs.SizeLaws.{not-bad}
 use Rattle.magnetar_layout.proofs.Laid.{sound, each-size}
 use Rattle.magnetar_r1cs.proofs.Points.{log-most}
 use Rattle.magnetar_layout.proofs.Readings.{log-le}
-use Rattle.magnetar_rounds.specs.Held.{Local, Locals}
+use Rattle.magnetar_rounds.specs.Held.{Locals}
 use Rattle.magnetar_rounds.specs.Entries.{counterTest, innerRoundsRefusal}
 
 -- a size that is a power of two of at least two is even

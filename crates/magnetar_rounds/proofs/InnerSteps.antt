@@ -1,21 +1,21 @@
 -- An inner round, on the slices that hold the run.
 -- Assumes nothing.
-use mathlib.Core.Path.{_≡_, refl, sym, ap, ap₂, _∙_}
+use mathlib.Core.Path.{_≡_, refl, sym, ap, _∙_}
 use mathlib.Core.List.{List, [], _∷_, _++_}
-use Prim.Native.Nat.{ℕ, zero, suc, _+_, _-_, _*_, _/_, _^_, _≤_, _<_}
+use Prim.Native.Nat.{ℕ, suc, _+_, _-_, _*_, _/_, _^_, _<_}
 use native.Mathlib.Nat.{two-pow-succ}
 use native.Mathlib.Omega.{arith}
-use lib.ListN.{length, take, drop}
+use lib.ListN.{length, take}
 use Rattle.magnetar_field.specs.Gf128.{value}
-use Rattle.magnetar_field.specs.Words.{elements, words, stored}
+use Rattle.magnetar_field.specs.Words.{elements, words}
 use Rattle.magnetar_field.specs.Multilinear.{bindVar}
 use Rattle.magnetar_hash.specs.Bytes.{wordBytes, ascii}
 use Rattle.magnetar_hash.specs.declared.transcript.Transcript.{Transcript}
 use Rattle.magnetar_hash.specs.Transcript as transcript
 use Rattle.magnetar_sumcheck.specs.Inner.{innerMessage, innerSums}
-use Rattle.magnetar_protocol.specs.Stepwise.{Steps, InnerSteps, innerStep, innerSteps, say, ask, answerOf}
+use Rattle.magnetar_protocol.specs.Stepwise.{Steps, InnerSteps, innerStep, innerSteps}
 use Rattle.magnetar_rounds.specs.Entries.{tableAt}
-use Rattle.magnetar_rounds.specs.Held.{stepsIn, innerIn, Table}
+use Rattle.magnetar_rounds.specs.Held.{innerIn, Table}
 use Rattle.magnetar_rounds.proofs.Said.{round-said}
 
 pub inner-three : (v : ℕ) (t z : List ℕ) → length (innerMessage v t z) ≡ 3

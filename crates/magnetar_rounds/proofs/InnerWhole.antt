@@ -2,20 +2,20 @@
 -- Assumes nothing.
 use mathlib.Core.Path.{_≡_, refl, sym, ap, ap₂, _∙_}
 use mathlib.Core.List.{List, [], _∷_, _++_}
-use Prim.Native.Nat.{ℕ, zero, suc, _+_, _-_, _*_, _/_, _%_, _^_, _≤_, _<_}
+use Prim.Native.Nat.{ℕ, suc, _+_, _-_, _*_, _≤_, _<_}
 use Prim.Native.String.{String}
 use native.Mathlib.Omega.{arith}
 use lib.ListN.{length, getD, take, drop, length-drop}
-use lib.Seq.{length-take-le, take-take, take-all, take-append-le, drop-append-le}
+use lib.Seq.{take-take, take-all, take-append-le, drop-append-le}
 use Rattle.magnetar_field.specs.Tabulate.{tabulate}
-use Rattle.magnetar_field.specs.Words.{elements, words}
+use Rattle.magnetar_field.specs.Words.{elements}
 use Rattle.magnetar_field.proofs.Elements.{elements-length}
 use Rattle.magnetar_hash.specs.Bytes.{ascii}
 use Rattle.magnetar_hash.specs.declared.transcript.Transcript.{Transcript}
 use Rattle.magnetar_protocol.specs.Schedule.{numbered}
 use Rattle.magnetar_protocol.specs.Stepwise.{Steps, InnerSteps, begin, say, sayEach, innerSteps}
 use Rattle.magnetar_rounds.specs.Entries.{tableAt}
-use Rattle.magnetar_rounds.specs.Held.{stepsIn, innerIn, Local, Locals, segmentIn, Said, saidIn, saidEach, heardOne, innerEnded, innerWhole}
+use Rattle.magnetar_rounds.specs.Held.{stepsIn, innerIn, Locals, segmentIn, Said, saidIn, saidEach, heardOne, innerEnded, innerWhole}
 use Rattle.magnetar_rounds.proofs.Slots.{take-of-drop, fore-back}
 use Rattle.magnetar_rounds.proofs.Said.{steps-eq}
 use Rattle.magnetar_rounds.proofs.InnerSteps.{inner-eq}

@@ -4,25 +4,22 @@ use mathlib.Core.Path.{_≡_, refl, sym, ap, ap₂, _∙_, subst}
 use mathlib.Core.List.{List, [], _∷_, _++_}
 use Prim.Native.Nat.{ℕ, zero, suc, _+_, _-_, _*_, _/_, _^_, _≤_, _<_}
 use Prim.Native.String.{String}
-use native.Mathlib.Nat.{two-pow-succ}
 use native.Mathlib.Omega.{arith}
 use lib.ListN.{length, take, drop, length-drop}
 use lib.Seq.{take-take, take-at, take-all, length-take-le}
 use Rattle.magnetar_field.specs.Sizes.{log₂}
 use Rattle.magnetar_field.proofs.Log2.{log₂-pow}
 use Rattle.magnetar_field.specs.Words.{elements}
-use Rattle.magnetar_field.proofs.Elements.{elements-length}
 use Rattle.magnetar_hash.specs.Bytes.{ascii}
 use Rattle.magnetar_hash.specs.declared.transcript.Transcript.{Transcript}
 use Rattle.magnetar_sumcheck.specs.Messages.{Outer, outerStart}
-use Rattle.magnetar_r1cs.specs.Batch.{Relation}
 use Rattle.magnetar_protocol.specs.Schedule.{outline}
-use Rattle.magnetar_protocol.specs.Stepwise.{Steps, OuterSteps, RowSteps, Tables, begin, sayEach, askTimes, sharedSteps, rowSteps, tauSteps, outerBegin, binRows, fldRows, outerSteps, terminalsLeft, outerAll}
+use Rattle.magnetar_protocol.specs.Stepwise.{Steps, RowSteps, Tables, askTimes, sharedSteps, rowSteps, tauSteps, outerBegin, binRows, fldRows, outerSteps, terminalsLeft, outerAll}
 use Rattle.magnetar_protocol.proofs.StepLaws.{row-rounds}
 use Rattle.magnetar_rounds.specs.Entries.{tableAt, tablesIn}
 use Rattle.magnetar_rounds.specs.Held.{stepsIn, outerIn, rowIn, saidIn, saidEach, threeIn, Begun}
 use Rattle.magnetar_rounds.specs.Shared.{sharedIn}
-use Rattle.magnetar_rounds.specs.Whole.{tausOf, beginOf, binOf, fldOf, leftOf, endOf, outerWhole}
+use Rattle.magnetar_rounds.specs.Whole.{tausOf, beginOf, binOf, fldOf, endOf, outerWhole}
 use Rattle.magnetar_rounds.proofs.Drawn.{asked-saying}
 use Rattle.magnetar_rounds.proofs.Begun.{begun-outer}
 use Rattle.magnetar_rounds.proofs.InnerWhole.{beside, each-beside}

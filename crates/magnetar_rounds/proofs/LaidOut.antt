@@ -1,18 +1,18 @@
 -- The tables of the inner rounds, laid out in one list.
 -- Assumes nothing.
-use mathlib.Core.Path.{_≡_, refl, sym, ap, ap₂, _∙_}
+use mathlib.Core.Path.{_≡_, sym, ap, ap₂, _∙_}
 use mathlib.Core.List.{List, [], _∷_, _++_, append-nil, append-assoc}
-use Prim.Native.Nat.{ℕ, zero, suc, _+_, _-_, _*_, _/_, _%_, _^_, _≤_, _<_}
+use Prim.Native.Nat.{ℕ, _+_, _-_, _*_, _≤_, _<_}
 use native.Mathlib.Numerals.{add-one}
 use native.Mathlib.Omega.{arith}
-use lib.ListN.{length, getD, set, take, drop, length-append, length-drop, length-take, drop-of-length-le, List·getD-append}
-use lib.Seq.{length-take-le, take-suc-set, take-add, take-take, drop-drop, paste, paste-suc, take-paste, length-paste, getD-take, take-all, take-append-le, drop-append-le, take-at, drop-at}
+use lib.ListN.{length, getD, set, take, drop, length-append, length-drop, drop-of-length-le, List·getD-append}
+use lib.Seq.{length-take-le, take-suc-set, take-add, take-take, drop-drop, paste, paste-suc, length-paste, getD-take, take-append-le, drop-append-le, take-at, drop-at}
 use borrow.Rule.Slice.PartMut.{putMid, mid-len}
 use Rattle.magnetar_field.specs.Words.{elements, stored, overlaid}
 use Rattle.magnetar_field.proofs.Elements.{elements-length, elements-stored, overlaid-same, stored-length}
 use Rattle.magnetar_rounds.specs.Entries.{tableAt}
 use Rattle.magnetar_rounds.specs.Held.{pasted}
-use Rattle.magnetar_rounds.proofs.Slots.{take-of-drop, put-length, put-before, put-behind, put-in, put-at, put-from}
+use Rattle.magnetar_rounds.proofs.Slots.{put-length, put-before, put-behind, put-in, put-at, put-from}
 use Rattle.magnetar_rounds.proofs.Said.{elements-take, elements-join}
 
 -- ---- the copy

@@ -1,7 +1,7 @@
 -- The parts of the outer rounds, one after the other: what each function leaves is what its definition gives.
 -- Assumes nothing.
-use mathlib.Core.Path.{_≡_, refl, sym, ap, ap₂, _∙_}
-use mathlib.Core.List.{List, [], _∷_, _++_}
+use mathlib.Core.Path.{_≡_, sym, ap, ap₂, _∙_}
+use mathlib.Core.List.{List, [], _++_}
 use Prim.Native.Nat.{ℕ, _+_, _-_, _*_, _/_, _^_, _≤_, _<_}
 use native.Mathlib.Omega.{arith}
 use lib.ListN.{length, take, drop}
@@ -9,11 +9,10 @@ use borrow.Rule.Slice.PartMut.{putMid}
 use Rattle.magnetar_field.specs.Sizes.{log₂}
 use Rattle.magnetar_field.proofs.Log2.{log₂-pow}
 use Rattle.magnetar_field.specs.Words.{elements}
-use Rattle.magnetar_field.proofs.Elements.{elements-length}
 use Rattle.magnetar_hash.specs.Bytes.{ascii}
 use Rattle.magnetar_hash.specs.declared.transcript.Transcript.{Transcript}
 use Rattle.magnetar_sumcheck.specs.Messages.{Outer}
-use Rattle.magnetar_protocol.specs.Stepwise.{Steps, OuterSteps, Tables, sayEach, askTimes, sharedSteps, rowSteps}
+use Rattle.magnetar_protocol.specs.Stepwise.{Steps, OuterSteps, Tables, askTimes, sharedSteps, rowSteps}
 use Rattle.magnetar_rounds.specs.Held.{stepsIn, outerIn, rowIn, saidIn, saidEach, threeIn, Begun}
 use Rattle.magnetar_rounds.specs.Shared.{sharedIn}
 use Rattle.magnetar_rounds.specs.Entries.{tablesIn, blockWords, tablesOf, outerPlayed}

@@ -1,6 +1,6 @@
 -- A row round, on the slices that hold the run.
 -- Assumes nothing.
-use mathlib.Core.Path.{_≡_, refl, sym, ap, ap₂, _∙_}
+use mathlib.Core.Path.{_≡_, refl, sym, ap, _∙_}
 use mathlib.Core.List.{List, [], _∷_, _++_}
 use Prim.Native.Nat.{ℕ, zero, suc, _+_, _-_, _*_, _/_, _^_, _≤_, _<_}
 use Prim.Native.String.{String}
@@ -23,7 +23,7 @@ use Rattle.magnetar_sumcheck.specs.Messages.{Outer, outerNext, outerFold}
 use Rattle.magnetar_protocol.specs.Schedule.{numbered}
 use Rattle.magnetar_protocol.specs.Stepwise.{Steps, RowSteps, rowStep, rowSteps}
 use Rattle.magnetar_rounds.specs.Entries.{tableAt}
-use Rattle.magnetar_rounds.specs.Held.{stepsIn, outerIn, rowIn, Table, Rows}
+use Rattle.magnetar_rounds.specs.Held.{outerIn, rowIn, Rows}
 use Rattle.magnetar_rounds.proofs.Slots.{take-of-drop}
 use Rattle.magnetar_rounds.proofs.Said.{round-said}
 

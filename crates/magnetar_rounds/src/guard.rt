@@ -5,7 +5,7 @@ use magnetar_layout::layout;
 use magnetar_layout::tests;
 ghost use mathlib.Core.Path.{_≡_};
 ghost use mathlib.Core.List.{_++_};
-ghost use Prim.Native.Nat.{ℕ, _*_, _/_, _<_, _≤_};
+ghost use Prim.Native.Nat.{_*_, _/_, _<_, _≤_};
 ghost use Rattle.magnetar_layout.specs.Tests.{noted, columnTests, publicTests, layoutTests};
 ghost use Rattle.magnetar_rounds.specs.Entries.{counterTest, innerRoundsRefusal, countTests, totalTests, outerDrawn, outerSaid, blockWords, outerRoundsRefusal};
 

@@ -13,7 +13,7 @@ use magnetar_field::sizes;
 use magnetar_field::words;
 use magnetar_hash::transcript::Transcript;
 ghost use mathlib.Core.Path.{_≡_};
-ghost use Prim.Native.Nat.{ℕ, _+_, _*_, _^_, _<_};
+ghost use Prim.Native.Nat.{_+_, _*_, _^_, _<_};
 ghost use lib.ListN.{length, take, drop, replicate};
 ghost use Rattle.magnetar_field.specs.Gf128.{value};
 ghost use Rattle.magnetar_protocol.specs.Stepwise.{sharedSteps};

@@ -15,7 +15,7 @@ use Rattle.magnetar_layout.proofs.Noted.{noted-clear, done}
 use Rattle.magnetar_r1cs.specs.Matrix as matrix
 use Rattle.magnetar_r1cs.specs.Lent.{Lent, entriesOf}
 use Rattle.magnetar_r1cs.specs.Packed.{unpacked}
-use Rattle.magnetar_r1cs.specs.RowCheck.{verdict}
+use Rattle.magnetar_r1cs.specs.RowCheck.{rowVerdict}
 use Rattle.magnetar_r1cs.proofs.Verdicts.{first-le, first-before, first-not}
 use Rattle.magnetar_batch.specs.Systems.{Lent3, systemsTests}
 use Rattle.magnetar_batch.specs.Check.{Outcome, relation, batchSizes, checkRefusal, checkAnswer, checkScratch}
@@ -137,7 +137,7 @@ module _ (m q w : ℕ) (s t : Lent3) (ws x : List ℕ) (l : List ℕ) (hs : s .a
   abbrev fld-first : ℕ
   fld-first = where-first t 2 w ws x q
 
-  answer-bin : bin-first < q → answerOf 0 (end .found) ≡ judged (verdict (relation m q s t) (unpacked q w ws) x)
+  answer-bin : bin-first < q → answerOf 0 (end .found) ≡ judged (rowVerdict (relation m q s t) (unpacked q w ws) x)
   unfolding answerOf
   answer-bin h =
       let e : mid .found ≡ record { system = 1; login = bin-first; row = row-first s 1 w ws x q } = run-found s 1 w ws x q (from nothing l) hs room-s refl (λ z. omega (arith, z)) h in
@@ -148,22 +148,22 @@ module _ (m q w : ℕ) (s t : Lent3) (ws x : List ℕ) (l : List ℕ) (hs : s .a
     mid-none : mid .found ≡ nothing
     mid-none = run-none s 1 w ws x q (from nothing l) hs room-s refl h
 
-    answer-fld : fld-first < q → answerOf 0 (end .found) ≡ judged (verdict (relation m q s t) (unpacked q w ws) x)
+    answer-fld : fld-first < q → answerOf 0 (end .found) ≡ judged (rowVerdict (relation m q s t) (unpacked q w ws) x)
     unfolding answerOf
     answer-fld g =
         rw (run-found t 2 w ws x q mid ht room-t (rw mid-none) (λ z. omega (arith, z)) g)
         (ap judged (judged-fld m q w s t ws x bin-first _ fld-first (row-first t 2 w ws x q) (is-none s 1 w ws x q h) h (is-found t 2 w ws x q g) g))
 
-    answer-good : q ≤ fld-first → answerOf 0 (end .found) ≡ judged (verdict (relation m q s t) (unpacked q w ws) x)
+    answer-good : q ≤ fld-first → answerOf 0 (end .found) ≡ judged (rowVerdict (relation m q s t) (unpacked q w ws) x)
     unfolding answerOf
     answer-good g =
         rw (run-none t 2 w ws x q mid ht room-t (rw mid-none) g, mid-none)
         (ap judged (judged-good m q w s t ws x bin-first _ fld-first _ (is-none s 1 w ws x q h) h (is-none t 2 w ws x q g) g))
 
-  answer-is : answerOf 0 (end .found) ≡ judged (verdict (relation m q s t) (unpacked q w ws) x)
+  answer-is : answerOf 0 (end .found) ≡ judged (rowVerdict (relation m q s t) (unpacked q w ws) x)
   answer-is = go (ltb bin-first q) refl (ltb fld-first q) refl
     where
-      go : (b : Bool) → ltb bin-first q ≡ b → (d : Bool) → ltb fld-first q ≡ d → answerOf 0 (end .found) ≡ judged (verdict (relation m q s t) (unpacked q w ws) x)
+      go : (b : Bool) → ltb bin-first q ≡ b → (d : Bool) → ltb fld-first q ≡ d → answerOf 0 (end .found) ≡ judged (rowVerdict (relation m q s t) (unpacked q w ws) x)
       go true b d e = answer-bin (ltb-true bin-first q b)
       go false b true e = answer-fld (ltb-false bin-first q b) (ltb-true fld-first q e)
       go false b false e = answer-good (ltb-false bin-first q b) (ltb-false fld-first q e)

@@ -6,9 +6,9 @@ ghost use Rattle.magnetar_batch.specs.Check.{batchSizes};
 ghost use Rattle.magnetar_batch.specs.Systems.{shapeTests6};
 ghost use Rattle.magnetar_inplace.specs.Steps.{recordTests6};
 ghost use Rattle.magnetar_row_records.specs.Numbers.{checkRoomTests};
-use crate::steps;
 use magnetar_batch::check as core;
 use magnetar_batch::systems;
+use magnetar_field::sizes;
 use magnetar_inplace::steps as walks;
 use magnetar_layout::tests;
 
@@ -16,7 +16,7 @@ use magnetar_layout::tests;
 fn room(z: u32, nb: usize, nf: usize, room: usize) -> u32
     ensures { λ r. ⌜ r ≡ noted z (checkRoomTests nb nf room) ⌝ }
 {
-    tests::note(z, 15, steps::larger(nb, nf) > room / 6)
+    tests::note(z, 15, sizes::larger(nb, nf) > room / 6)
 }
 
 // The refusals of `row_check`, for a scratch of some words.

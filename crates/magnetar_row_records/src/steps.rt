@@ -12,6 +12,7 @@ ghost use Rattle.magnetar_row_records.specs.Steps.{behind, twiceOf, rowI
 use magnetar_batch::check;
 use magnetar_batch::check::RowCheck;
 use magnetar_field::gf128::Gf128;
+use magnetar_field::sizes;
 use magnetar_inplace::logins;
 use magnetar_inplace::records::Entry;
 use magnetar_inplace::steps;
@@ -29,13 +30,6 @@ fn least(a: usize, b: usize) -> usize
     ensures { λ r. ⌜ (r ≡ min a b) × (r ≤ b) ⌝ }
 {
     if a < b { a } else { b }
-}
-
-// The larger of two numbers.
-pub(crate) fn larger(a: usize, b: usize) -> usize
-    ensures { λ r. ⌜ r ≡ max a b ⌝ }
-{
-    if a < b { b } else { a }
 }
 
 // Twice n, which is at most 65536.
@@ -94,7 +88,7 @@ pub(crate) fn clear_behind(s: &mut [u64], m: usize, n: usize)
 pub(crate) fn clear_room(s: &mut [u64], nb: usize, nf: usize)
     ensures { λ _. ⌜ now (s .exit) ≡ clearedTo (3 * max nb nf) (now (s .entry)) ⌝ }
 {
-    let k = larger(nb, nf);
+    let k = sizes::larger(nb, nf);
     if k <= s.len() / 6 {
         steps::clear_front(3 * k, s);
     }

@@ -1,19 +1,18 @@
 -- One test more, after a number or after none.
 -- Assumes nothing.
 use mathlib.Core.Path.{_≡_, refl, sym, ap, _∙_, subst}
-use mathlib.Core.Bool.{Bool, not, false}
-use mathlib.Core.List.{List, [], _∷_, _++_}
-use Prim.Native.Nat.{ℕ, _*_, _≤_, _<_, _^_, _/_, zero, suc}
-use lib.ListN.{length}
+use mathlib.Core.Bool.{Bool, not}
+use mathlib.Core.List.{List, _++_}
+use Prim.Native.Nat.{ℕ, _*_, _≤_, _^_, _/_, zero, suc}
 use native.Mathlib.Nat.{two-pow-succ, le-trans, mul-le-mul-left, mul-le-mul-right}
 use borrow.Author.Tests.{le-leb, eq-eqb}
 use Rattle.magnetar_field.specs.Sizes.{log₂}
 use native.Mathlib.Omega.{arith}
-use Rattle.magnetar_layout.specs.Tests.{Tests, note, noted, isSize, layoutTests}
+use Rattle.magnetar_layout.specs.Tests.{Tests, note, noted, isSize, layoutTests, Sized}
 use Rattle.magnetar_layout.specs.Entries.{layoutRefusal}
 use Rattle.magnetar_layout.specs.Login.{loginWords}
 use Rattle.magnetar_layout.proofs.Noted.{note-kept, noted-kept, note-clear, noted-append}
-use Rattle.magnetar_layout.proofs.SizeLaws.{Sized, not-bad}
+use Rattle.magnetar_layout.proofs.SizeLaws.{not-bad}
 
 -- a login of at most 32768 columns has at most 512 words
 pub login-most : (w : ℕ) → w ≤ 32768 → loginWords w ≤ 512

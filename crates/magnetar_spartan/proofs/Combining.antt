@@ -1,6 +1,6 @@
 -- What the combined table's function answers where the rules are ready, and that its table is the run's.
 -- Assumes nothing.
-use mathlib.Core.Path.{_≡_, refl, sym, ap, ap₂, _∙_, subst}
+use mathlib.Core.Path.{_≡_, refl, sym, ap, _∙_}
 use mathlib.Core.Bool.{Bool, true, false, not}
 use mathlib.Core.List.{List, [], _∷_, _++_}
 use Prim.Native.Nat.{ℕ, _+_, _-_, _*_, _^_, _≤_, max}
@@ -16,16 +16,15 @@ use Rattle.magnetar_field.proofs.Tabulation.{tabulate-length}
 use Rattle.magnetar_field.proofs.Elements.{elements-drop}
 use Rattle.magnetar_checks.specs.Outer.{runTests}
 use Rattle.magnetar_checks.proofs.Pieces.{elements-take}
-use Rattle.magnetar_layout.specs.Tests.{Tests, note, noted, isSize}
+use Rattle.magnetar_layout.specs.Tests.{Tests, note, noted, isSize, Sized}
 use Rattle.magnetar_layout.proofs.Noted.{Clear}
-use Rattle.magnetar_layout.proofs.SizeLaws.{Sized}
 use Rattle.magnetar_r1cs.specs.Batch.{Relation}
-use Rattle.magnetar_batch.specs.Systems.{Lent3, systemOf, combinedTable, systemsTests, pointTests}
+use Rattle.magnetar_batch.specs.Systems.{systemOf, combinedTable, systemsTests, pointTests}
 use Rattle.magnetar_batch.specs.Entries.{comboRefusal, comboWords, comboIn, behindWords}
 use Rattle.magnetar_protocol.specs.Draws.{Draws, drawsOf}
 use Rattle.magnetar_protocol.specs.Checks.{combined}
 use Rattle.magnetar_spartan.specs.Rules.{Rules, relationOf}
-use Rattle.magnetar_spartan.specs.Ready.{FineMatrix, Ready}
+use Rattle.magnetar_spartan.specs.Ready.{Ready}
 use Rattle.magnetar_spartan.proofs.Verifying.{sizesOf, draws-is}
 
 -- ---- tests that are not bad

@@ -1,32 +1,32 @@
 -- The outcomes of both ends: refused, or run through.
 -- Assumes nothing.
-use mathlib.Core.Path.{_≡_, refl, sym, ap, ap₂, _∙_, subst}
-use mathlib.Core.Bool.{Bool, true, false, cond, not}
+use mathlib.Core.Path.{_≡_, refl, _∙_}
+use mathlib.Core.Bool.{Bool, true, false, cond}
 use mathlib.Core.List.{List, [], _∷_, _++_, append-nil}
-use Prim.Native.Nat.{ℕ, _+_, _-_, _*_, _/_, _^_, _≤_, _<_, max}
+use Prim.Native.Nat.{ℕ, _+_, _-_, _*_, _/_, _^_, _≤_, _<_}
 use lib.Pow.{pow-mono}
 use native.Mathlib.Nat.{lt-of-not-le}
 use native.Mathlib.Omega.{arith}
-use lib.Dec.{eqb, ltb}
+use lib.Dec.{eqb}
 use lib.ListN.{length, take, drop, replicate, length-append, length-take, length-drop, take-append-drop, drop-of-length-le}
-use lib.Seq.{drop-at, length-take-le, take-at}
+use lib.Seq.{drop-at, length-take-le}
 use borrow.Author.Tests.{eq-eqb, ne-eqb, eqb-true, ltb-true, ltb-false, not-false}
 use Rattle.magnetar_field.specs.Sizes.{log₂}
 use Rattle.magnetar_field.specs.Words.{elements, words}
 use Rattle.magnetar_hash.specs.declared.transcript.Transcript.{Transcript}
 use Rattle.magnetar_hash.specs.declared.transcript.TranscriptAnswer.{TranscriptAnswer}
 use Rattle.magnetar_layout.specs.Login.{loginWords}
-use Rattle.magnetar_layout.specs.Tests.{Tests, noted, sizeTests, packedTests, publicTests}
+use Rattle.magnetar_layout.specs.Tests.{Tests, noted, Sized}
 use Rattle.magnetar_layout.proofs.Noted.{Clear, noted-clear}
-use Rattle.magnetar_layout.proofs.SizeLaws.{Sized, not-bad, sized-wider}
+use Rattle.magnetar_layout.proofs.SizeLaws.{not-bad}
 use Rattle.magnetar_r1cs.proofs.Points.{log-most}
 use Rattle.magnetar_protocol.specs.Draws.{drawCount}
 use Rattle.magnetar_protocol.specs.Run.{claims}
-use Rattle.magnetar_protocol.specs.RealRun.{verifierDraws, verifierTranscript}
+use Rattle.magnetar_protocol.specs.RealRun.{verifierDraws}
 use Rattle.magnetar_spartan.specs.Rules.{Rules, relationOf}
 use Rattle.magnetar_spartan.specs.Refusals.{ruleTests, counterTests, roomOf, wordTests, proofWords, claimWords, verifierRoom, proverRoom, verifyTests, proveTests}
-use Rattle.magnetar_spartan.specs.Ready.{Ready, VerifyReady}
-use Rattle.magnetar_spartan.specs.Outcome.{Verified, verified, Proved, proved, proveRefusal, proveOutcome, verifyRefusal, verifyVerdict, verifyClaims, verifyOutcome}
+use Rattle.magnetar_spartan.specs.Ready.{Ready}
+use Rattle.magnetar_spartan.specs.Outcome.{verified, proved, proveRefusal, proveOutcome, verifyRefusal, verifyVerdict, verifyClaims, verifyOutcome}
 use Rattle.magnetar_spartan.proofs.Fine.{fine}
 use Rattle.magnetar_spartan.proofs.Combining.{noted-none}
 use Rattle.magnetar_spartan.proofs.Verifying.{sizesOf}

@@ -1,24 +1,19 @@
 -- What the tests 4 to 10 leave where none is bad: sizes of a relation.
 -- Assumes nothing.
-use mathlib.Core.Path.{_≡_, refl, sym, _∙_}
-use mathlib.Core.Bool.{Bool, true, not, _&&_}
-use mathlib.Core.List.{List, [], _∷_}
-use Prim.Native.Nat.{ℕ, _*_, _/_, _^_, _≤_}
-use native.Mathlib.Omega.{arith}
+use mathlib.Core.Path.{_≡_, refl}
+use mathlib.Core.Bool.{Bool, not}
+use Prim.Native.Nat.{ℕ, _*_, _/_, _≤_}
 use lib.Dec.{eqb, ltb}
 use lib.ListN.{length}
 use borrow.Author.Tests.{ltb-false, eqb-true, not-false}
-use Rattle.magnetar_field.specs.Sizes.{log₂}
 use Rattle.magnetar_layout.specs.Every.{every}
 use Rattle.magnetar_layout.specs.Layout.{isLength, layoutEnd}
-use Rattle.magnetar_layout.specs.Lent.{Lent}
-use Rattle.magnetar_layout.specs.Tests.{noted, isSize, allBelow}
+use Rattle.magnetar_layout.specs.Tests.{noted, allBelow}
 use Rattle.magnetar_layout.proofs.Noted.{noted-clear}
-use Rattle.magnetar_layout.proofs.SizeLaws.{Sized, not-bad}
+use Rattle.magnetar_layout.proofs.SizeLaws.{not-bad}
 use Rattle.magnetar_spartan.specs.Rules.{Rules}
-use Rattle.magnetar_batch.specs.Systems.{Lent3}
 use Rattle.magnetar_spartan.specs.Refusals.{ruleTests}
-use Rattle.magnetar_spartan.specs.Ready.{FineMatrix, FineSystem, Fine}
+use Rattle.magnetar_spartan.specs.Ready.{Fine}
 
 same : (a b : ℕ) → not (eqb a b) ≡ Bool.false → a ≡ b
 same a b e = eqb-true a b (not-false (eqb a b) e)

@@ -17,8 +17,7 @@ use Rattle.magnetar_field.proofs.Elements.{words-length, overlaid-same, element
 use Rattle.magnetar_field.proofs.Tabulation.{tabulate-of, tabulate-length}
 use Rattle.magnetar_hash.specs.declared.transcript.Transcript.{Transcript}
 use Rattle.magnetar_layout.specs.Login.{loginWords}
-use Rattle.magnetar_layout.specs.Tests.{sizeTests, packedTests, columnTests, publicTests, layoutTests, lengthTest, roomTest}
-use Rattle.magnetar_layout.proofs.SizeLaws.{Sized}
+use Rattle.magnetar_layout.specs.Tests.{sizeTests, packedTests, columnTests, publicTests, layoutTests, lengthTest, roomTest, Sized}
 use Rattle.magnetar_r1cs.specs.Batch.{Relation, Batch, folded, foldedAt}
 use Rattle.magnetar_r1cs.specs.Lent.{matrixOf}
 use Rattle.magnetar_r1cs.specs.Packed.{unpacked}

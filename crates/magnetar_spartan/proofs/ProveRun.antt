@@ -1,8 +1,8 @@
 -- What the prover leaves: the outer rounds of its products, the rest of the run behind them, and the claims.
 -- Assumes nothing.
-use mathlib.Core.Path.{_≡_, refl, sym, ap, ap₂, _∙_, subst}
-use mathlib.Core.List.{List, [], _∷_, _++_, append-nil}
-use Prim.Native.Nat.{ℕ, suc, _+_, _-_, _*_, _/_, _%_, _^_, _≤_, _<_, max}
+use mathlib.Core.Path.{_≡_, refl, sym, ap, ap₂, _∙_}
+use mathlib.Core.List.{List, [], _++_, append-nil}
+use Prim.Native.Nat.{ℕ, suc, _+_, _-_, _*_, _/_, _^_, _≤_, _<_}
 use native.Mathlib.Nat.{mul-add}
 use native.Mathlib.Omega.{arith}
 use lib.ListN.{length, take, drop, drop-of-length-le}
@@ -18,15 +18,14 @@ use Rattle.magnetar_r1cs.specs.Batch.{Relation, Batch}
 use Rattle.magnetar_r1cs.specs.Lent.{matrixOf}
 use Rattle.magnetar_r1cs.proofs.TableLaws.{elements-words}
 use Rattle.magnetar_batch.specs.Systems.{systemOf}
-use Rattle.magnetar_protocol.specs.Shape.{logLogins, logBin, logFld, logCols, beforeInner, proofElements}
+use Rattle.magnetar_protocol.specs.Shape.{logLogins, logBin, logFld, proofElements}
 use Rattle.magnetar_protocol.specs.Draws.{drawCount}
-use Rattle.magnetar_protocol.specs.Schedule.{outline}
 use Rattle.magnetar_protocol.specs.Run.{claims}
 use Rattle.magnetar_protocol.specs.RunSizes.{SizedRelation, SizedBatch, Elements}
 use Rattle.magnetar_protocol.specs.Prover.{proverWords, proverClaims}
 use Rattle.magnetar_protocol.specs.Stepwise.{Steps, Tables, tauSteps, outerAll, askTimes, sayEach, outerSteps, fldRows, binRows, outerBegin, terminalsLeft}
 use Rattle.magnetar_protocol.specs.RealRun.{productTables, outerProving, proving, proverDraws, proverTranscript}
-use Rattle.magnetar_protocol.proofs.Blocks.{claims-outlined, outlined}
+use Rattle.magnetar_protocol.proofs.Blocks.{claims-outlined}
 use Rattle.magnetar_protocol.proofs.Stepwise.{outer-proving-said, outer-proving-count}
 use Rattle.magnetar_protocol.proofs.ProverRun.{proving-words, proving-claims}
 use Rattle.magnetar_rounds.specs.Entries.{tablesIn, counterTest, answerFor, proofFor, drawsFor, countTests, totalTests, outerDrawn, outerSaid, blockWords, tablesOf, outerRoundsRefusal, outerPlayed}
@@ -39,7 +38,7 @@ use Rattle.magnetar_spartan.specs.Rules.{Rules, relationOf}
 use Rattle.magnetar_spartan.specs.Refusals.{proofWords, claimWords, proverRoom}
 use Rattle.magnetar_spartan.specs.Ready.{Ready}
 use Rattle.magnetar_spartan.specs.Outcome.{batchOf, proveDraws}
-use Rattle.magnetar_spartan.specs.Later.{drawsBefore, proofBefore, laterSteps, laterTranscript, laterProof, laterDraws, OuterLeft}
+use Rattle.magnetar_spartan.specs.Later.{drawsBefore, proofBefore, laterTranscript, laterProof, laterDraws, OuterLeft}
 use Rattle.magnetar_spartan.proofs.Combining.{noted-none, sizes-fine, size-fine, same-fine, most-fine, true-fine}
 use Rattle.magnetar_spartan.proofs.Verifying.{sizesOf, sizes-are}
 use Rattle.magnetar_spartan.proofs.Joining.{joined-transcript, joined-proof, joined-draws}

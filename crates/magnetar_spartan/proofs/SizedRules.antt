@@ -1,20 +1,16 @@
 -- Where no test from 1 to 10 is bad, the relation has the sizes that the theorems ask for.
 -- Assumes nothing.
-use mathlib.Core.Path.{_≡_, refl, sym, ap, _∙_, subst}
-use mathlib.Core.Bool.{true, _&&_}
-use mathlib.Core.List.{List, []}
-use Prim.Native.Nat.{ℕ, zero, suc, _*_, _/_, _^_, _≤_, _<_}
+use mathlib.Core.Path.{_≡_, sym, ap, _∙_}
+use mathlib.Core.List.{List}
+use Prim.Native.Nat.{ℕ, _/_, _≤_}
 use native.Mathlib.Nat.{le-trans}
 use native.Mathlib.Omega.{arith}
 use lib.ListN.{length, drop, length-drop}
-use Rattle.magnetar_field.specs.Sizes.{log₂}
 use Rattle.magnetar_layout.proofs.Laid.{half-power}
 use Rattle.magnetar_spartan.proofs.Chains.{halves}
 use Rattle.magnetar_layout.specs.Lent.{Lent}
-use Rattle.magnetar_layout.specs.Layout.{Sound}
-use Rattle.magnetar_layout.proofs.SizeLaws.{Sized}
-use Rattle.magnetar_r1cs.specs.Matrix.{Matrix}
-use Rattle.magnetar_r1cs.specs.Batch.{Relation}
+use Rattle.magnetar_layout.specs.Layout.{LayoutFits}
+use Rattle.magnetar_layout.specs.Tests.{Sized}
 use Rattle.magnetar_r1cs.specs.Lent.{entriesOf, matrixOf}
 use Rattle.magnetar_r1cs.proofs.Lone.{all-inside}
 use Rattle.magnetar_r1cs.proofs.Walked.{entries-end}
@@ -51,7 +47,7 @@ sized-system m q s f = record {
   c = sized-matrix (s .a .rows) m (s .c) (f .c);
 }
 
-pub sound-layout : (R : Rules) → Sized 2 65536 (R .m) → Fine R → Sound (R .m / 2) (R .lengths)
+pub sound-layout : (R : Rules) → Sized 2 65536 (R .m) → Fine R → LayoutFits (R .m / 2) (R .lengths)
 sound-layout R z f = record { small = omega (arith, z .high); power = half-power (R .m / 2) (omega (arith, z .low)) (omega (arith, z .high)) (rw (halves (R .m) z) (z .power)); lengths = f .lengths; ends = f .ends }
 
 pub sized-relation : (R : Rules) → Sized 2 65536 (R .m) → Sized 1 4096 (R .q) → Fine R → SizedRelation (relationOf R)

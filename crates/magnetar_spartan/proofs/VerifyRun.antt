@@ -1,39 +1,36 @@
 -- What the verifier leaves: stopped by an outer check, by a later one, or by none.
 -- Assumes nothing.
-use mathlib.Core.Path.{_≡_, refl, sym, ap, ap₂, _∙_, subst}
-use mathlib.Core.List.{List, [], _∷_, _++_}
-use Prim.Native.Nat.{ℕ, _+_, _-_, _*_, _/_, _≤_, max}
+use mathlib.Core.Path.{_≡_, sym, ap, _∙_}
+use mathlib.Core.List.{List, _++_}
+use Prim.Native.Nat.{ℕ, _+_, _-_, _*_, _/_, _≤_}
 use native.Mathlib.Omega.{arith}
-use lib.ListN.{length, take, drop}
+use lib.ListN.{length, take}
 use borrow.Author.Tests.{ne-eqb}
-use Rattle.magnetar_field.specs.Sizes.{log₂}
-use Rattle.magnetar_field.specs.Words.{elements, words, overlaid}
+use Rattle.magnetar_field.specs.Words.{elements, words}
 use Rattle.magnetar_r1cs.proofs.TableLaws.{elements-words}
 use Rattle.magnetar_hash.specs.declared.transcript.Transcript.{Transcript}
 use Rattle.magnetar_hash.specs.declared.transcript.TranscriptAnswer.{TranscriptAnswer}
 use Rattle.magnetar_layout.specs.Tests.{sizeTests, publicTests, rowsTests, layoutTests, roomTest}
 use Rattle.magnetar_r1cs.specs.Batch.{Relation}
-use Rattle.magnetar_batch.specs.Systems.{systemOf}
-use Rattle.magnetar_r1cs.specs.Lent.{matrixOf}
-use Rattle.magnetar_protocol.specs.Shape.{logLogins, logCols, proofElements}
-use Rattle.magnetar_protocol.specs.Draws.{Draws, drawsOf, drawCount}
+use Rattle.magnetar_protocol.specs.Shape.{proofElements}
+use Rattle.magnetar_protocol.specs.Draws.{drawsOf, drawCount}
 use Rattle.magnetar_protocol.specs.Schedule.{schedule}
-use Rattle.magnetar_protocol.specs.Checks.{Check, firstRefusal, firstStop, combined}
+use Rattle.magnetar_protocol.specs.Checks.{combined}
 use Rattle.magnetar_protocol.specs.Run.{claims}
 use Rattle.magnetar_protocol.specs.RealRun.{verifierDraws, verifierTranscript}
-use Rattle.magnetar_protocol.proofs.Blocks.{claims-outlined, outlined}
+use Rattle.magnetar_protocol.proofs.Blocks.{claims-outlined}
 use Rattle.magnetar_checks.specs.declared.found.Found.{Found}
 use Rattle.magnetar_checks.specs.Found.{firstFound}
 use Rattle.magnetar_checks.specs.Outer.{outerChecksRefusal, outerFound, runTests, segmentTests, drawTests, proofTests}
 use Rattle.magnetar_checks.specs.Outer as checked
-use Rattle.magnetar_checks.specs.End.{endRefusal, endFound, endChecks}
+use Rattle.magnetar_checks.specs.End.{endRefusal, endFound}
 use Rattle.magnetar_checks.specs.Claims.{claimsRefusal, claimsOut, claimCount}
 use Rattle.magnetar_spartan.specs.Rules.{Rules, relationOf}
-use Rattle.magnetar_spartan.specs.Refusals.{proofWords, claimWords, verifierRoom}
+use Rattle.magnetar_spartan.specs.Refusals.{claimWords}
 use Rattle.magnetar_spartan.specs.Ready.{Ready, VerifyReady}
 use Rattle.magnetar_spartan.specs.Outcome.{verifyVerdict, verifyClaims}
 use Rattle.magnetar_spartan.proofs.Combining.{noted-none, sizes-fine, size-fine, same-fine, most-fine, true-fine}
-use Rattle.magnetar_spartan.proofs.Verifying.{sizesOf, sizes-are, draws-is, outer-is, later-is, outerOf, laterOf, after, Answers, answer-outer, answer-later, answer-none}
+use Rattle.magnetar_spartan.proofs.Verifying.{sizesOf, sizes-are, draws-is, outer-is, later-is, outerOf, laterOf, after, answer-outer, answer-later, answer-none}
 
 -- the answer a, and claims c that have become c′
 abbrev pub Left : Rules → (x w : List ℕ) → Transcript → TranscriptAnswer → (c c′ : List ℕ) → Type 0

@@ -1,11 +1,9 @@
 -- The verifier's answer and transcript from what its two groups of checks find.
 -- Assumes nothing.
-use mathlib.Core.Path.{_≡_, refl, sym, ap, ap₂, _∙_, subst}
-use mathlib.Core.Bool.{Bool, true, false, cond}
-use mathlib.Core.List.{List, [], _∷_, _++_, append-assoc, append-nil}
-use Prim.Native.Nat.{ℕ, zero, suc, _+_, _-_, _*_, _≤_, _<_}
+use mathlib.Core.Path.{_≡_, refl, sym, ap, ap₂, _∙_}
+use mathlib.Core.List.{List, [], _++_, append-nil}
+use Prim.Native.Nat.{ℕ, zero, suc, _+_, _-_, _*_, _≤_}
 use native.Mathlib.Omega.{arith}
-use lib.Dec.{eqb}
 use lib.ListN.{length, take}
 use lib.Seq.{take-all}
 use borrow.Author.Tests.{ne-eqb}
@@ -15,21 +13,17 @@ use Rattle.magnetar_hash.specs.declared.transcript.Transcript.{Transcript}
 use Rattle.magnetar_r1cs.specs.Batch.{Relation}
 use Rattle.magnetar_r1cs.specs.Lent.{matrixOf}
 use Rattle.magnetar_batch.specs.Systems.{systemOf}
-use Rattle.magnetar_field.specs.Tabulate.{tabulate}
-use Rattle.magnetar_field.specs.Multilinear.{mle}
-use Rattle.magnetar_sumcheck.specs.Round.{running}
-use Rattle.magnetar_sumcheck.specs.Inner.{innerEnd}
-use Rattle.magnetar_protocol.specs.Shape.{logLogins, logCols}
+use Rattle.magnetar_protocol.specs.Shape.{logLogins}
 use Rattle.magnetar_protocol.specs.Proof.{innerRounds, valueZ, terminals}
 use Rattle.magnetar_protocol.specs.Draws.{Draws, drawsOf, drawCount}
-use Rattle.magnetar_protocol.specs.Schedule.{Event, schedule, outline, afterAlphas, afterInner}
+use Rattle.magnetar_protocol.specs.Schedule.{Event, schedule, outline}
 use Rattle.magnetar_protocol.specs.Play.{Played, playedFrom}
-use Rattle.magnetar_protocol.specs.Checks.{Check, roundHolds, firstRefusal, firstStop, sharedChecks, rowChecks, terminalChecks, innerClaim, innerChecks, identityCheck, combined}
+use Rattle.magnetar_protocol.specs.Checks.{Check, firstRefusal, firstStop, sharedChecks, rowChecks, terminalChecks, innerClaim, combined}
 use Rattle.magnetar_protocol.specs.Run.{verdict}
 use Rattle.magnetar_protocol.specs.RealRun.{verifierDraws, verifierTranscript, stop}
-use Rattle.magnetar_protocol.proofs.Phases.{Numbered, orElse}
+use Rattle.magnetar_protocol.proofs.Phases.{Numbered}
 use Rattle.magnetar_protocol.proofs.Counts.{heard-count, schedule-length}
-use Rattle.magnetar_protocol.proofs.Blocks.{outerChecks, laterChecks, outer-numbered, later-numbered, verdict-blocks, run-stop-blocks, stop-append, stop-accepted, outlined, schedule-outlined, draws-outlined, shared-outlined, rows-outlined, terminals-outlined, identity-outlined}
+use Rattle.magnetar_protocol.proofs.Blocks.{outerChecks, laterChecks, later-numbered, verdict-blocks, run-stop-blocks, stop-append, stop-accepted, outlined, schedule-outlined, draws-outlined, shared-outlined, rows-outlined, terminals-outlined, identity-outlined}
 use Rattle.magnetar_checks.specs.End.{endChecks}
 use Rattle.magnetar_checks.proofs.EndPhases.{end-combined}
 use Rattle.magnetar_spartan.specs.Rules.{Rules, relationOf}

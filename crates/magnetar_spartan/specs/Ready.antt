@@ -10,8 +10,7 @@ use Rattle.magnetar_layout.specs.Every.{every}
 use Rattle.magnetar_layout.specs.Layout.{isLength, layoutEnd}
 use Rattle.magnetar_layout.specs.Lent.{Lent}
 use Rattle.magnetar_layout.specs.Login.{loginWords}
-use Rattle.magnetar_layout.specs.Tests.{allBelow}
-use Rattle.magnetar_layout.proofs.SizeLaws.{Sized}
+use Rattle.magnetar_layout.specs.Tests.{allBelow, Sized}
 use Rattle.magnetar_batch.specs.Systems.{Lent3}
 use Rattle.magnetar_protocol.specs.Draws.{drawCount}
 use Rattle.magnetar_protocol.specs.Schedule.{outline}

@@ -6,7 +6,7 @@ ghost use lib.ListN.{length, take, drop};
 ghost use Rattle.magnetar_field.specs.Words.{elements};
 ghost use Rattle.magnetar_layout.specs.Lent.{lent};
 ghost use Rattle.magnetar_layout.specs.Login.{loginWords};
-ghost use Rattle.magnetar_layout.proofs.SizeLaws.{Sized};
+ghost use Rattle.magnetar_layout.specs.Tests.{Sized};
 ghost use Rattle.magnetar_r1cs.specs.Lent.{matrixOf};
 ghost use Rattle.magnetar_r1cs.specs.Entries.{packedTable};
 ghost use Rattle.magnetar_batch.specs.Systems.{system};

@@ -9,10 +9,9 @@ ghost use mathlib.Core.Path.{_≡_};
 ghost use mathlib.Core.Bool.{not};
 ghost use mathlib.Core.List.{[], _∷_};
 ghost use lib.Dec.{eqb, ltb};
-ghost use Prim.Native.Nat.{ℕ, _+_, _-_, _*_, _/_, _^_, _≤_, max};
+ghost use Prim.Native.Nat.{_+_, _-_, _*_, _/_, _^_, _≤_, max};
 ghost use Rattle.magnetar_layout.specs.Lent.{lent};
-ghost use Rattle.magnetar_layout.specs.Tests.{noted, sizeTests};
-ghost use Rattle.magnetar_layout.proofs.SizeLaws.{Sized};
+ghost use Rattle.magnetar_layout.specs.Tests.{noted, sizeTests, Sized};
 ghost use Rattle.magnetar_field.specs.Sizes.{log₂};
 ghost use Rattle.magnetar_batch.specs.Systems.{system};
 ghost use Rattle.magnetar_spartan.specs.Rules.{rules};
@@ -159,13 +158,6 @@ pub(crate) fn rules(
 
 // ---- How many words are wanted, l being the number of segments.
 
-// The larger row count.
-fn larger(a: usize, b: usize) -> usize
-    ensures { λ r. ⌜ r ≡ max a b ⌝ }
-{
-    if a < b { b } else { a }
-}
-
 // The logarithm to the base 2.
 pub(crate) fn log(n: usize) -> usize
     ensures { λ r. ⌜ r ≡ log₂ n ⌝ }
@@ -201,7 +193,7 @@ pub(crate) fn verifier_room(m: usize, rb: usize, rf: usize) -> usize
     requires { ⌜ (m ≤ 65536) × (rb ≤ 65536) × (rf ≤ 65536) ⌝ }
     ensures { λ r. ⌜ r ≡ 4 * m + 4 * max rb rf ⌝ }
 {
-    4 * m + 4 * larger(rb, rf)
+    4 * m + 4 * sizes::larger(rb, rf)
 }
 
 // q times the rows of both systems.
@@ -218,7 +210,7 @@ pub(crate) fn prover_room(m: usize, q: usize, rb: usize, rf: usize) -> usize
     requires { ⌜ (m ≤ 65536) × (rb ≤ 65536) × (rf ≤ 65536) × (q ≤ 4096) ⌝ }
     ensures { λ r. ⌜ r ≡ 8 * (q * (rb + rf)) + 8 * m + 4 * max rb rf + 4 * q ⌝ }
 {
-    8 * positions(q, rb, rf) + 8 * m + 4 * larger(rb, rf) + 4 * q
+    8 * positions(q, rb, rf) + 8 * m + 4 * sizes::larger(rb, rf) + 4 * q
 }
 
 // 14.

@@ -6,8 +6,8 @@ use Prim.Native.Nat.{_*_, _/_, _≤_}
 use native.Mathlib.Omega.{arith}
 use lib.Dec.{ltb}
 use denote.Ref.{now}
-use Rattle.magnetar_layout.specs.Tests.{Tests, noted, sizeTests, packedTests, publicTests}
-use Rattle.magnetar_layout.proofs.SizeLaws.{Sized, not-bad}
+use Rattle.magnetar_layout.specs.Tests.{Tests, noted, sizeTests, packedTests, publicTests, Sized}
+use Rattle.magnetar_layout.proofs.SizeLaws.{not-bad}
 use Rattle.magnetar_layout.proofs.Noted.{noted-front, noted-late, noted-clear}
 use Rattle.magnetar_r1cs.proofs.LoginParts.{product-most, words-most}
 use Rattle.magnetar_batch.proofs.RowLaws.{over}

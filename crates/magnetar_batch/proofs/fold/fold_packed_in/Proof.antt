@@ -11,10 +11,10 @@ use borrow.Author.Tests.{ltb-false, eqb-true, not-false}
 use denote.Ref.{now}
 use Rattle.magnetar_field.specs.Sizes.{log₂}
 use Rattle.magnetar_field.specs.Words.{elements, words}
-use Rattle.magnetar_layout.specs.Tests.{Tests, noted, sizeTests, packedTests, lengthTest, roomTest}
+use Rattle.magnetar_layout.specs.Tests.{Tests, noted, sizeTests, packedTests, lengthTest, roomTest, Sized}
 use Rattle.magnetar_r1cs.specs.Packed.{loginWords, unpacked}
 use Rattle.magnetar_r1cs.specs.Batch.{folded}
-use Rattle.magnetar_layout.proofs.SizeLaws.{Sized, not-bad, sized-wider}
+use Rattle.magnetar_layout.proofs.SizeLaws.{not-bad, sized-wider}
 use Rattle.magnetar_r1cs.proofs.Points.{point-of, point-size, log-most}
 use Rattle.magnetar_layout.proofs.Noted.{noted-front, noted-late, noted-clear, turned, done}
 use Rattle.magnetar_r1cs.proofs.LoginParts.{product-most, words-most}

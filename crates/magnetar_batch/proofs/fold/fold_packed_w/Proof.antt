@@ -9,8 +9,7 @@ use lib.Seq.{length-take-le}
 use borrow.Author.Tests.{ltb-false, eqb-true, not-false}
 use denote.Ref.{now}
 use Rattle.magnetar_field.specs.Sizes.{log₂}
-use Rattle.magnetar_layout.specs.Tests.{Tests, noted, lengthTest, roomTest}
-use Rattle.magnetar_layout.proofs.SizeLaws.{Sized}
+use Rattle.magnetar_layout.specs.Tests.{Tests, noted, lengthTest, roomTest, Sized}
 use Rattle.magnetar_r1cs.proofs.Points.{point-of, log-most}
 use Rattle.magnetar_r1cs.specs.Packed.{loginWords}
 use Rattle.magnetar_layout.specs.Tests.{sizeTests, packedTests}

@@ -1,13 +1,12 @@
 -- `magnetar_checks::end::end_phases` meets its contract.
 -- Assumes nothing.
 use denote.Ref.{now}
-use mathlib.Core.Path.{_≡_, refl, sym, ap, _∙_}
-use Prim.Native.Nat.{ℕ, _*_}
+use mathlib.Core.Path.{refl, ap, _∙_}
+use Prim.Native.Nat.{ℕ}
 use native.Mathlib.Omega.{arith}
-use lib.ListN.{length, take, replicate}
+use lib.ListN.{take, replicate}
 use Rattle.magnetar_field.specs.Gf128.{value}
 use Rattle.magnetar_field.specs.Words.{elements}
-use Rattle.magnetar_checks.specs.EndSteps.{EndFits}
 use Rattle.magnetar_checks.proofs.EndPhases.{Cols, cols, end-done}
 use borrow.Author.Needs.{needs}
 use Rattle.magnetar_checks.proofs.end.end_phases.Statement.{statement}

@@ -3,7 +3,6 @@
 use denote.Ref.{now}
 use mathlib.Core.Path.{sym, _∙_}
 use native.Mathlib.Omega.{arith}
-use Rattle.magnetar_protocol.specs.RunSizes.{Power}
 use Rattle.magnetar_checks.proofs.EndGuard.{power-of, few-of, end-layout, end-words}
 use borrow.Author.Needs.{needs}
 use Rattle.magnetar_checks.proofs.end.end_refusal.Statement.{statement}

@@ -1,10 +1,7 @@
 -- `magnetar_checks::end::identity_holds` meets its contract.
 -- Assumes nothing.
-use denote.Ref.{now}
-use mathlib.Core.Path.{_≡_, sym, _∙_}
+use mathlib.Core.Path.{_∙_}
 use native.Mathlib.Omega.{arith}
-use lib.ListN.{length}
-use Rattle.magnetar_checks.specs.EndSteps.{EndFits}
 use Rattle.magnetar_checks.proofs.EndPhases.{Cols, cols}
 use borrow.Author.Needs.{needs}
 use Rattle.magnetar_checks.proofs.end.identity_holds.Statement.{statement}

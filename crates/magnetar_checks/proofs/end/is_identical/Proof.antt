@@ -17,14 +17,14 @@ mul-requires-2 c κs = search needs
 add-requires-2 : tie.Need-add-requires-2
 add-requires-2 c κs = search needs
 
-same-requires : tie.Need-same-requires
-same-requires c κs = search needs
+equal-requires : tie.Need-equal-requires
+equal-requires c κs = search needs
 
 returns : tie.Need-returns
 unfolding identical
 returns c =
     rw (
-      c .same .ensures,
+      c .equal .ensures,
       c .before .add2 .ensures,
       c .before .before .mul2 .ensures,
       c .before .before .before .mul .ensures,
@@ -34,4 +34,4 @@ returns c =
 pub is-identical-spec : {M : Type 1} → statement M
 is-identical-spec =
     tie.close
-    (tie.spec add-requires mul-requires mul-requires-2 add-requires-2 same-requires returns)
+    (tie.spec add-requires mul-requires mul-requires-2 add-requires-2 equal-requires returns)

@@ -3,7 +3,7 @@
 use lib.Seq.{take-all}
 use Rattle.magnetar_field.specs.Gf128.{value}
 use denote.Ref.{now}
-use mathlib.Core.Path.{_≡_, refl, sym, _∙_}
+use mathlib.Core.Path.{refl, _∙_}
 use native.Mathlib.Omega.{arith}
 use Prim.Native.Nat.{_-_}
 use lib.ListN.{length, take, drop, length-take, length-drop}

@@ -3,7 +3,7 @@
 use denote.Ref.{now}
 use native.Mathlib.Omega.{arith}
 use lib.ListN.{length}
-use Rattle.magnetar_checks.proofs.Guards.{log-small, Given, given}
+use Rattle.magnetar_checks.proofs.Guards.{log-small, given}
 use Rattle.magnetar_checks.proofs.OuterAnswer.{outer-size, outer-refused, outer-answered}
 use borrow.Author.Needs.{needs}
 use Rattle.magnetar_checks.proofs.outer.outer_checks.Statement.{statement}

@@ -5,7 +5,7 @@ use native.Mathlib.Omega.{arith}
 use denote.Ref.{now}
 use Rattle.magnetar_layout.specs.Lent.{lent}
 use Rattle.magnetar_batch.specs.Systems.{system}
-use Rattle.magnetar_spartan.specs.Rules.{Rules, rules, relationOf}
+use Rattle.magnetar_spartan.specs.Rules.{Rules, rules}
 use Rattle.magnetar_field.proofs.Elements.{elements-length, elements-below}
 use Rattle.magnetar_spartan.proofs.SizedRules.{sized-relation}
 use Rattle.magnetar_spartan.proofs.ProveRun.{blocks-fit, outer-counter, run-left}

@@ -1,16 +1,14 @@
 -- `magnetar_spartan::refusal::rules` meets its contract.
 -- Assumes nothing.
-use mathlib.Core.Path.{_≡_, refl, sym, ap, _∙_}
-use mathlib.Core.List.{List, _++_}
-use Prim.Native.Nat.{ℕ, _*_, _/_}
-use native.Mathlib.Omega.{arith}
-use lib.ListN.{length}
+use mathlib.Core.Path.{_≡_, refl, sym, _∙_}
+use mathlib.Core.List.{_++_}
+use Prim.Native.Nat.{_/_}
 use denote.Ref.{now}
 use Rattle.magnetar_layout.specs.Lent.{lent}
 use Rattle.magnetar_layout.specs.Tests.{Tests, noted, layoutTests}
 use Rattle.magnetar_spartan.specs.Rules.{Rules, rules}
 use Rattle.magnetar_batch.specs.Systems.{system}
-use Rattle.magnetar_spartan.specs.Refusals.{rowsOf, ruleTests}
+use Rattle.magnetar_spartan.specs.Refusals.{rowsOf}
 use Rattle.magnetar_batch.specs.Systems.{cols3, counted3, placed3}
 use Rattle.magnetar_spartan.proofs.Chains.{numbers-stay, none-before-all, eight, layout-tests}
 use borrow.Author.Needs.{needs}

@@ -1,21 +1,16 @@
 -- `magnetar_spartan::refusal::verify` meets its contract.
 -- Assumes nothing.
-use mathlib.Core.Path.{_≡_, refl, sym, ap, _∙_}
-use mathlib.Core.Bool.{not}
-use mathlib.Core.List.{List, [], _∷_, _++_}
-use Prim.Native.Nat.{ℕ, _+_, _-_, _*_, _/_, _^_, _≤_, _<_, max}
-use native.Mathlib.Omega.{arith}
-use lib.Dec.{eqb, ltb}
-use lib.ListN.{length}
+use mathlib.Core.Path.{refl, sym, _∙_}
+use mathlib.Core.List.{_++_}
+use Prim.Native.Nat.{_+_, _-_}
 use denote.Ref.{now}
-use Rattle.magnetar_field.specs.Sizes.{log₂}
 use Rattle.magnetar_layout.specs.Lent.{lent}
-use Rattle.magnetar_layout.specs.Tests.{Tests, noted, sizeTests, packedTests, publicTests}
+use Rattle.magnetar_layout.specs.Tests.{Tests, sizeTests, publicTests, Sized}
 use Rattle.magnetar_layout.proofs.Noted.{noted-front, noted-late, noted-clear}
-use Rattle.magnetar_layout.proofs.SizeLaws.{Sized, not-bad}
+use Rattle.magnetar_layout.proofs.SizeLaws.{not-bad}
 use Rattle.magnetar_spartan.specs.Rules.{Rules, rules}
 use Rattle.magnetar_batch.specs.Systems.{system}
-use Rattle.magnetar_spartan.specs.Refusals.{ruleTests, counterTests, roomOf, wordTests, proofWords, claimWords, verifierRoom, proverRoom}
+use Rattle.magnetar_spartan.specs.Refusals.{ruleTests, counterTests, roomOf, wordTests, proofWords, claimWords, verifierRoom}
 use Rattle.magnetar_spartan.proofs.Chains.{log-least}
 use Rattle.magnetar_spartan.specs.Ready.{Fine}
 use Rattle.magnetar_spartan.proofs.Fine.{fine}

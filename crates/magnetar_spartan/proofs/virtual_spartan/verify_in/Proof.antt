@@ -1,18 +1,17 @@
 -- `magnetar_spartan::virtual_spartan::verify_in` meets its contract.
 -- Assumes nothing.
-use mathlib.Core.Path.{_≡_, refl, sym, ap, _∙_}
+use mathlib.Core.Path.{_≡_, _∙_}
 use mathlib.Core.List.{List}
-use Prim.Native.Nat.{ℕ, _+_, _*_, _≤_, max}
+use Prim.Native.Nat.{ℕ, _*_, _≤_}
 use native.Mathlib.Omega.{arith}
-use lib.ListN.{length, take}
+use lib.ListN.{length}
 use denote.Ref.{now}
 use Rattle.magnetar_field.specs.Words.{elements, words}
 use Rattle.magnetar_layout.specs.Lent.{lent}
 use Rattle.magnetar_batch.specs.Systems.{system}
-use Rattle.magnetar_protocol.specs.Draws.{drawCount}
 use Rattle.magnetar_protocol.specs.RealRun.{verifierDraws}
 use Rattle.magnetar_spartan.specs.Rules.{Rules, rules, relationOf}
-use Rattle.magnetar_spartan.specs.Ready.{Ready, VerifyReady}
+use Rattle.magnetar_spartan.specs.Ready.{VerifyReady}
 use Rattle.magnetar_spartan.proofs.Verifying.{drawn-words, schedule-small}
 use Rattle.magnetar_spartan.proofs.VerifyRun.{out-outer, out-later, out-none}
 use borrow.Author.Needs.{needs}

@@ -1,17 +1,14 @@
 -- `magnetar_spartan::virtual_spartan::verify_virtual_spartan` meets its contract.
 -- Assumes nothing.
-use mathlib.Core.Path.{_≡_, refl, sym, ap, _∙_}
+use mathlib.Core.Path.{_≡_, sym, ap, _∙_}
 use mathlib.Core.List.{List, _++_}
 use Prim.Native.Nat.{ℕ, _≤_}
-use native.Mathlib.Omega.{arith}
 use lib.ListN.{length, drop, replicate}
 use lib.Seq.{length-take-le, drop-at}
 use denote.Ref.{now}
 use Rattle.magnetar_layout.specs.Lent.{lent}
-use Rattle.magnetar_layout.specs.Tests.{noted}
 use Rattle.magnetar_batch.specs.Systems.{system}
 use Rattle.magnetar_spartan.specs.Rules.{Rules, rules}
-use Rattle.magnetar_spartan.specs.Refusals.{verifyTests}
 use Rattle.magnetar_spartan.specs.Outcome.{verifyRefusal}
 use Rattle.magnetar_spartan.proofs.Chains.{log-least}
 use Rattle.magnetar_spartan.proofs.Ended.{Verifiable, verifiable, draws-small, most, front, front-length, same-words, verify-refused, verify-through}
