@@ -1,4 +1,5 @@
--- What the fold of a login's words adds to a table: an element at each column whose bit is set.
+-- What the fold of a login's words adds to a table: an element at each column whose bit is set. Only the contracts of private functions
+-- cite these definitions.
 -- Assumes nothing.
 use mathlib.Core.Bool.{cond}
 use mathlib.Core.List.{List}
