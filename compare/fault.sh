@@ -82,15 +82,15 @@ if [ ${#wanted[@]} -eq 0 ]; then
     echo "no fault: $(tail -n 1 "$copy/said")"
 fi
 # round one is checked, row rounds and inner rounds are not checked
-fault later-rounds magnetar_checks/src/found.rt 'engine::sum_holds(msg, claim)' 'true'
+fault later-rounds magnetar_checks/src/found.rt 'verify::sum_holds(msg, claim)' 'true'
 # the last identity compares low words only
-fault high-words magnetar_checks/src/end.rt 'if a.hi != b.hi {' 'if a.hi != a.hi {'
+fault high-words magnetar_checks/src/end.rt 'gf128::equal(gf128::add(x, y), v)' $'let s = gf128::add(x, y);\n    s.lo == v.lo'
 # the remainder of a product forgets a bit
 fault remainder magnetar_field/src/gf128.rt '(t.w3 >> 57)' '(t.w3 >> 58)'
 # a counter of 2^32 is let through
 fault counter magnetar_spartan/src/refusal.rt '!(n < 0x100000000)' '!(n < 0x100000001)'
 # a later equal entry replaces an earlier one
-fault later-entry magnetar_r1cs/src/walk.rt 'words::put(out, k, gf128::add(v, e));' 'words::put(out, k, e);'
+fault later-entry magnetar_matrix/src/step.rt 'words::put(out, k, gf128::add(v, e));' 'words::put(out, k, e);'
 # bits past the columns of a login are read
 fault upper-bits magnetar_batch/src/fold.rt 'return word % (1 << n);' 'return word;'
 # one round constant of the permutation

@@ -10,7 +10,7 @@ import sys, walk
 from walk import C, LINE, sub, κ, q, arr, sp, lst, nest, tup, prod, split, where
 crate, rec, acc, shape = sys.argv[1:5]
 home, recpath, rec = split(crate, rec)
-again = where(crate, 'magnetar_inplace')[1]
+again = where(crate, 'magnetar_transcript')[1]
 accuse = ''
 if acc == 'u64': row, den, mty, makes, typed, vals, tells = 'u64', 'ℕ', 'tyInt w64', '(uint-makes 𝓤 H A W w64)', 'uint-lawful 𝓤 H A W w64 .typed', '(uint-vals w64)', 'uint-tells w64'
 elif acc == 'bool': row, den, mty, makes, typed, vals, tells = 'bool', 'Bool', 'tyBool', '(bool-makes 𝓤 H A W)', 'bool-lawful 𝓤 H A W .typed', 'bool-vals', 'bool-tells'

@@ -492,7 +492,7 @@ for c, way, n in structs:
     hs, hp = where(crate, c)
     w(f'use {hs}.declared.{d}.{{{n}}}\nuse {hp}.{d} as m{n}\nuse {hp}.{d}.Laws as l{n}')
 Msl = [j for j in idx if K(j) == 'M']
-again = where(crate, 'magnetar_inplace')[1]
+again = where(crate, 'magnetar_transcript')[1]
 if 'into !' in walk: w(f'use types.SemTy.{{Body}}\nuse types.Share.{{parts, arr-parts}}\nuse lib.ListN.{{take}}\nuse lib.Seq.{{length-take-le}}\nuse Prim.Native.Nat.{{_≤_}}\nuse types.Tokens.{{lent-back}}\nuse base.Fml.{{flent}}\nuse denote.Memory.{{cellAt, partAt, mem, shares}}\nuse denote.ArrayMemory.{{array-apart, array-whole}}\nuse denote.Lend.{{lends-ref, ref-back, lends-shr-slice}}\nuse {again}.Local.{{into, out, rest, cut, mend, room-of}}')
 w(f'use {again}.Locals.{{tidy, bare, kept, dies, alloc, hide, free-all}}')
 if Msl: w(f'use {again}.Again.{{LentAgain, lends-again, comes-back}}')

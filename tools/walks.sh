@@ -1,5 +1,5 @@
 #!/bin/sh
-# Writes anew the proofs of magnetar_inplace, magnetar_row_records, magnetar_forms, magnetar_records, magnetar_records_prover and magnetar_cases
+# Writes anew the proofs of magnetar_transcript, magnetar_inplace, magnetar_row_records, magnetar_forms, magnetar_records, magnetar_records_prover, magnetar_arrays and magnetar_arrays_prover
 # that tools/thin.py, tools/each.py and tools/count.py write. Run it in the repository's root after a change of a walked function's code or contract, then `rt fmt` and `rt check` of
 # the crate. Nobody has to trust the tools: the checker checks what they write.
 set -e
@@ -10,6 +10,13 @@ thin() { f=$1; shift; d=$p/$(echo $f | sed 's/::/\//'); mkdir -p $d; python3 too
 # six matrices among the parameters, the first at parameter $1: with their sizes, or their entries alone
 six() { for i in 0 3 6 9 12 15; do echo "n$(($1 + i)) n$(($1 + i + 1)) (s$(($1 + i + 2)) .now)"; done | paste -sd ' ' -; }
 alone() { for i in 0 1 2 3 4 5; do echo "(s$(($1 + i)) .now)"; done | paste -sd ' ' -; }
+
+# magnetar_transcript: the transcript in place
+crate magnetar_transcript
+for g in absorb_bytes absorb_u64 absorb_digest; do thin transcript::$g; done
+thin transcript::absorb_field --final '(cc, cc)'
+thin transcript::challenge_field --final '(cc, cc)'
+thin transcript::challenge_field_vec --final '(cc, cc, cc)'
 
 # magnetar_inplace: the record forms
 crate magnetar_inplace
@@ -29,10 +36,6 @@ each EachSNNNNM SNNNNM
 each EachNNMGf128 NNM magnetar_field::gf128::Gf128:lo,hi
 
 # calls in a row
-for g in absorb_bytes absorb_u64 absorb_digest; do thin transcript::$g; done
-thin transcript::absorb_field --final '(cc, cc)'
-thin transcript::challenge_field --final '(cc, cc)'
-thin transcript::challenge_field_vec --final '(cc, cc, cc)'
 thin records::all_six
 thin records::is_binary --use "$ends.{binary-ends}" --use 'Rattle.magnetar_r1cs.specs.Entries.{flagged}' \
   --final 'binary-ends n1 n2 (s3 .now) r1 r3 r2 (flagged r4) e1 e2 e3 e4'
@@ -45,7 +48,7 @@ thin records::eval_mle_table --use "$ends.{table-done, table-back}" \
 thin records::sum_at --use "$ends.{sum-some, sum-none}" --use "$value" \
   --final 'sum-some n3 n4 (value r3) (s2 .now) (s5 .now) (s6 .now) ys7 n1 (ws1 .1 .0) (ws2 .1 .1 .0) (ws3 .1 .1 .1 .0) (ws4 .1 .1 .0) b1 e1 e2 e3 e4' \
   --final 'sum-none n3 n4 (value r5) (s2 .now) (s5 .now) (s6 .now) ys7 n1 b1 e5'
-thin records::eval_mle_at --use "$ends.{at-ends}" --use "$value" --use 'Rattle.magnetar_field.specs.Entries.{answer}' \
+thin records::eval_mle_at --use "$ends.{at-ends}" --use "$value" --use 'Rattle.magnetar_multilinear.specs.Entries.{answer}' \
   --final 'at-ends n1 n2 (s3 .now) (s4 .now) (s5 .now) ys6 r1 r3 r2 e1 e2 e3 (ws4 .1 .1 .1 .1 .1 .1 .0) (value r4) (answer r5) e4 e5'
 thin records::write_packed --use "$packed.{write-some, write-none}" \
   --final 'write-some (s2 .now) (s3 .now) (s4 .now) ys8 n5 n6 n7 n1 r3 (ws1 .1 .1 .1 .0) (ws2 .1 .1 .1 .1 .1 .1 .0) b1 e1 e2 e3' \
@@ -123,18 +126,12 @@ thin virtual_spartan::prove --use "$ends.EntryEnds.{prove-ends}" \
   --final "prove-ends $(six 7) n4 n5 (s6 .now) (s25 .now) (s26 .now) n27 ys1 ys2 ys3 r1 e1 r2 (ws2 .1 .0) (ws2 .1 .1 .0) (ws2 .1 .1 .1 .0) r3 e2 e3"
 thin virtual_spartan::prove_virtual_spartan --final 'rw (e2, e3) e1'
 
-# magnetar_cases: arrays of records lent. three N F FINAL: F lends three of six and calls F_in, which lends the others; their numbers are the
-# parameters from N on
-c=magnetar_cases
-p=crates/$c/proofs
-three() {
-  k=$1; g=$2; shift 2
-  thin ${g}_in --requires "(n$k ≤ 64) × (n$((k + 1)) ≤ 64) × (n$((k + 2)) ≤ 64)" --part 'pre .0' --part 'pre .1' --part 'pre .2' --final "$1"
-  thin $g --requires "(n$k ≤ 64) × (n$((k + 1)) ≤ 64) × (n$((k + 2)) ≤ 64) × (n$((k + 3)) ≤ 64) × (n$((k + 4)) ≤ 64) × (n$((k + 5)) ≤ 64)" \
-    --part 'pre .0' --part 'pre .1' --part 'pre .2' --ask '1=(pre .3, pre .4, pre .5)' --final e1
-}
-thin lent::masks --requires 'n4 ≤ 64' --part pre --final e1
-three 25 lent::combined e1
-three 27 lent::verified 'rw (e2 .0, e2 .1) e1'
-three 24 lent::checked e1
-three 28 lent::proved 'rw (e2 .0, e2 .1) e1'
+# magnetar_arrays, magnetar_arrays_prover: arrays of records lent. three F FINAL: F lends three of six and calls F_in, which lends the others
+three() { thin ${1}_in --final "$2"; thin $1 --final e1; }
+crate magnetar_arrays
+thin lent::masks --final e1
+three lent::combined e1
+three lent::verified 'rw (e2 .0, e2 .1) e1'
+three lent::checked e1
+crate magnetar_arrays_prover
+three prover::proved 'rw (e2 .0, e2 .1) e1'

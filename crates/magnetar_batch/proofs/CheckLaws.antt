@@ -9,8 +9,8 @@ use borrow.Author.Tests.{eqb-true, lt-ltb, le-ltb, ne-eqb, not-false}
 use lib.ListN.{length, take, drop, replicate}
 use lib.Seq.{take-at, drop-at}
 use Rattle.magnetar_field.specs.Words.{elements}
-use Rattle.magnetar_r1cs.specs.Packed.{loginWords, unpacked}
-use Rattle.magnetar_r1cs.specs.RowCheck.{rowVerdict}
+use Rattle.magnetar_matrix.specs.Packed.{loginWords, unpacked}
+use Rattle.magnetar_matrix.specs.RowCheck.{rowVerdict}
 use Rattle.magnetar_layout.specs.Tests.{Tests, note, noted}
 use Rattle.magnetar_layout.proofs.Noted.{noted-front, noted-late, noted-clear, turned, done}
 use Rattle.magnetar_layout.proofs.SizeLaws.{not-bad}

@@ -12,21 +12,21 @@ use lib.ListN.{length, getD, set, take, drop, replicate, length-replicate, getD-
 use lib.Seq.{getD-drop}
 use Rattle.magnetar_field.specs.Gf128.{_⊕_, _⊗_}
 use Rattle.magnetar_field.specs.Words.{elements, words}
-use Rattle.magnetar_field.specs.EqTable.{eqTable, scaledTable}
-use Rattle.magnetar_field.specs.Multilinear.{dot}
+use Rattle.magnetar_multilinear.specs.EqTable.{eqTable, scaledTable}
+use Rattle.magnetar_multilinear.specs.Multilinear.{dot}
 use Rattle.magnetar_field.proofs.Xor.{xor}
 use Rattle.magnetar_field.proofs.Product.{⊗-left-comm, ⊗-⊕, ⊗-zero}
 use Rattle.magnetar_field.proofs.Tabulation.{tabulate-get, tabulate-of}
-use Rattle.magnetar_field.proofs.EqTables.{eqTable-length, eqTable-get, scaled-length, scaled-get}
+use Rattle.magnetar_multilinear.proofs.EqTables.{eqTable-length, eqTable-get, scaled-length, scaled-get}
 use Rattle.magnetar_field.proofs.Elements.{elements-length}
-use Rattle.magnetar_r1cs.specs.Matrix.{Entry, sumOver, rowTotal, share, timesAt, times, transpose, mleTable}
-use Rattle.magnetar_r1cs.specs.Lent.{Lent, entriesOf, matrixOf}
-use Rattle.magnetar_r1cs.specs.Table.{addedAt, raised}
+use Rattle.magnetar_matrix.specs.Matrix.{Entry, sumOver, rowTotal, share, timesAt, times, transpose, mleTable}
+use Rattle.magnetar_matrix.specs.Lent.{Lent, entriesOf, matrixOf}
+use Rattle.magnetar_matrix.specs.Table.{addedAt, raised}
 use Rattle.magnetar_layout.specs.Tests.{allBelow}
 use Rattle.magnetar_layout.proofs.EveryLaws.{both, every-at}
 use Rattle.magnetar_r1cs.proofs.Lone.{inside, all-inside, sum-ext}
-use Rattle.magnetar_r1cs.proofs.Walked.{entries-swapped}
-use Rattle.magnetar_r1cs.proofs.TableLaws.{raised-length, raised-get, raised-ext}
+use Rattle.magnetar_matrix.proofs.Walked.{entries-swapped}
+use Rattle.magnetar_matrix.proofs.TableLaws.{raised-length, raised-get, raised-ext}
 use Rattle.magnetar_batch.specs.Systems.{Lent3, systemOf, combinedTable}
 use Rattle.magnetar_batch.specs.Columns.{Placed, column, sixTable}
 use Rattle.magnetar_batch.proofs.Rooms.{front-kept, behind-is, take-raised, zeros-front}

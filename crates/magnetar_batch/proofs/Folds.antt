@@ -12,19 +12,19 @@ use lib.ListN.{length, getD, take, drop, replicate, length-take, length-replicat
 use lib.Seq.{getD-drop}
 use Rattle.magnetar_field.specs.Gf128.{_⊕_, _⊗_}
 use Rattle.magnetar_field.specs.Tabulate.{tabulate}
-use Rattle.magnetar_field.specs.EqTable.{eqAt, eqTable, scaledTable}
+use Rattle.magnetar_multilinear.specs.EqTable.{eqAt, eqTable, scaledTable}
 use Rattle.magnetar_field.specs.Words.{elements, words}
 use Rattle.magnetar_field.proofs.Xor.{⊕-zero}
 use Rattle.magnetar_field.proofs.Tabulation.{tabulate-ext}
-use Rattle.magnetar_field.proofs.EqTables.{eqTable-get, eqAt-lt, scaled-one}
-use Rattle.magnetar_r1cs.specs.Sum.{sumBelow}
-use Rattle.magnetar_r1cs.specs.Batch.{bitOf, foldedAt, folded}
-use Rattle.magnetar_r1cs.specs.Packed.{packedBit, loginPart, unpacked}
-use Rattle.magnetar_r1cs.specs.Table.{raised}
+use Rattle.magnetar_multilinear.proofs.EqTables.{eqTable-get, eqAt-lt, scaled-one}
+use Rattle.magnetar_matrix.specs.Sum.{sumBelow}
+use Rattle.magnetar_matrix.specs.Batch.{bitOf, foldedAt, folded}
+use Rattle.magnetar_matrix.specs.Packed.{packedBit, loginPart, unpacked}
+use Rattle.magnetar_matrix.specs.Table.{raised}
 use Rattle.magnetar_batch.specs.Fold.{rowSelect, foldSum}
-use Rattle.magnetar_r1cs.proofs.Digits.{bit-lt, ⊗-bit}
-use Rattle.magnetar_r1cs.proofs.TableLaws.{raised-is, raised-twice, raised-length, raised-get, raised-zeros}
-use Rattle.magnetar_r1cs.proofs.LoginParts.{bit-unpacked, sum-ext}
+use Rattle.magnetar_matrix.proofs.Digits.{bit-lt, ⊗-bit}
+use Rattle.magnetar_matrix.proofs.TableLaws.{raised-is, raised-twice, raised-length, raised-get, raised-zeros}
+use Rattle.magnetar_matrix.proofs.LoginParts.{bit-unpacked, sum-ext}
 use Rattle.magnetar_batch.proofs.Selected.{row-in}
 use Rattle.magnetar_batch.proofs.Rooms.{front-kept, behind-is, zeros-front, take-raised}
 

@@ -11,12 +11,12 @@ use lib.Pow.{split}
 use borrow.Rule.Slice.PartMut.{putMid}
 use Rattle.magnetar_field.specs.Tabulate.{tabulate}
 use Rattle.magnetar_field.specs.Words.{elements, words}
-use Rattle.magnetar_field.specs.EqTable.{scaledTable}
-use Rattle.magnetar_field.specs.Entries.{eqRefusal, scaledOut, tableWords}
+use Rattle.magnetar_multilinear.specs.EqTable.{scaledTable}
+use Rattle.magnetar_multilinear.specs.Entries.{eqRefusal, scaledOut, tableWords}
 use Rattle.magnetar_field.proofs.Elements.{elements-drop, words-elements}
-use Rattle.magnetar_field.proofs.Refusals.{eq-none}
-use Rattle.magnetar_r1cs.specs.Table.{raised}
-use Rattle.magnetar_r1cs.proofs.TableLaws.{elements-zero, raised-length, raised-get, raised-is}
+use Rattle.magnetar_multilinear.proofs.Refusals.{eq-none}
+use Rattle.magnetar_matrix.specs.Table.{raised}
+use Rattle.magnetar_matrix.proofs.TableLaws.{elements-zero, raised-length, raised-get, raised-is}
 
 -- ---- the part behind the first k words, lent and back
 pub back-part : (s : List ℕ) (k : ℕ) → take (length s - k) (drop k s) ≡ drop k s

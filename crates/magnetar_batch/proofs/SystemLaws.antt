@@ -7,7 +7,7 @@ use Prim.Native.Nat.{ℕ, zero, suc, _+_, _*_, _/_, _%_, _^_, _≤_, _<_, max}
 use native.Mathlib.Omega.{arith}
 use borrow.Author.Tests.{eqb-true, not-false}
 use lib.ListN.{length}
-use Rattle.magnetar_r1cs.specs.Lent.{Lent}
+use Rattle.magnetar_matrix.specs.Lent.{Lent}
 use Rattle.magnetar_layout.specs.Tests.{Tests, noted, allBelow, columnTests, counted, placed, Sized}
 use Rattle.magnetar_layout.proofs.Noted.{noted-append, noted-kept, noted-rest, noted-clear, numbered, Clear}
 use Rattle.magnetar_layout.proofs.SizeLaws.{not-bad}

@@ -6,10 +6,10 @@ use lib.Dec.{ltb}
 use lib.ListN.{length, drop, replicate}
 use Rattle.magnetar_field.specs.Refusal.{unlessRefused}
 use Rattle.magnetar_field.specs.Words.{elements}
-use Rattle.magnetar_r1cs.specs.Batch.{Relation}
-use Rattle.magnetar_r1cs.specs.Packed.{unpacked}
-use Rattle.magnetar_r1cs.specs.RowCheck.{Verdict, rowVerdict}
-use Rattle.magnetar_r1cs.specs.RowCheck.Verdict.{good, bin, fld}
+use Rattle.magnetar_matrix.specs.Batch.{Relation}
+use Rattle.magnetar_matrix.specs.Packed.{unpacked}
+use Rattle.magnetar_matrix.specs.RowCheck.{Verdict, rowVerdict}
+use Rattle.magnetar_matrix.specs.RowCheck.Verdict.{good, bin, fld}
 use Rattle.magnetar_layout.specs.Tests.{Tests, noted, sizeTests, packedTests, publicTests}
 use Rattle.magnetar_batch.specs.declared.check.RowCheck.{RowCheck}
 use Rattle.magnetar_batch.specs.declared.check.RowCheck.the-variants as found

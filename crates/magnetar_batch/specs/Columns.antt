@@ -5,10 +5,10 @@ use mathlib.Core.Bool.{true}
 use mathlib.Core.List.{List}
 use Prim.Native.Nat.{ℕ, _+_, _*_, _/_, _%_, _^_, _≤_}
 use lib.ListN.{length, replicate}
-use Rattle.magnetar_field.specs.EqTable.{scaledTable}
-use Rattle.magnetar_r1cs.specs.Matrix.{rowTotal, share}
-use Rattle.magnetar_r1cs.specs.Lent.{entriesOf}
-use Rattle.magnetar_r1cs.specs.Table.{raised, Equal}
+use Rattle.magnetar_multilinear.specs.EqTable.{scaledTable}
+use Rattle.magnetar_matrix.specs.Matrix.{rowTotal, share}
+use Rattle.magnetar_matrix.specs.Lent.{entriesOf}
+use Rattle.magnetar_matrix.specs.Table.{raised, Equal}
 use Rattle.magnetar_layout.specs.Tests.{allBelow}
 
 -- the four slices of a matrix are equally long, and its entries lie within n rows and m columns

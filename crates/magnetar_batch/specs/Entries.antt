@@ -7,8 +7,8 @@ use lib.ListN.{length, drop, replicate}
 use Rattle.magnetar_field.specs.Refusal.{unlessRefused}
 use Rattle.magnetar_field.specs.Sizes.{log₂}
 use Rattle.magnetar_field.specs.Words.{elements, words}
-use Rattle.magnetar_r1cs.specs.Batch.{folded}
-use Rattle.magnetar_r1cs.specs.Packed.{unpacked}
+use Rattle.magnetar_matrix.specs.Batch.{folded}
+use Rattle.magnetar_matrix.specs.Packed.{unpacked}
 use Rattle.magnetar_batch.specs.Systems.{Lent3, systemOf, combinedTable, systemsTests, pointTests}
 use Rattle.magnetar_layout.specs.Tests.{noted, sizeTests, packedTests, lengthTest, roomTest}
 

@@ -6,8 +6,8 @@ use mathlib.Core.List.{List}
 use Prim.Native.Nat.{ℕ, _*_, _-_, _/_, _%_, _^_}
 use lib.Dec.{ltb, leb}
 use lib.ListN.{getD}
-use Rattle.magnetar_r1cs.specs.Sum.{sumBelow}
-use Rattle.magnetar_r1cs.specs.Packed.{packedBit, loginPart}
+use Rattle.magnetar_matrix.specs.Sum.{sumBelow}
+use Rattle.magnetar_matrix.specs.Packed.{packedBit, loginPart}
 
 -- bit i of a number
 abbrev pub bitAt : ℕ → ℕ → ℕ

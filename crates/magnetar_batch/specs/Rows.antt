@@ -1,23 +1,17 @@
--- What the row check computes for a login. Only private contracts, and that of `first_failing`, cite these definitions.
+-- What the row check computes for a login. Only private contracts cite these definitions.
 -- Assumes nothing.
-use mathlib.Core.Bool.{Bool}
 use mathlib.Core.List.{List, _∷_, _++_}
-use Prim.Native.Nat.{ℕ, _+_, _*_}
+use Prim.Native.Nat.{ℕ}
 use lib.Dec.{eqb}
-use lib.ListN.{getD}
 use Rattle.magnetar_field.specs.Gf128.{_⊗_}
 use Rattle.magnetar_field.specs.Tabulate.{tabulate}
-use Rattle.magnetar_r1cs.specs.Matrix.{Entry, rowTotal, share}
-use Rattle.magnetar_r1cs.specs.Packed.{packedBit, loginPart}
-use Rattle.magnetar_r1cs.specs.RowCheck.{firstNot}
+use Rattle.magnetar_matrix.specs.Matrix.{Entry, rowTotal, share}
+use Rattle.magnetar_matrix.specs.Packed.{packedBit, loginPart}
+use Rattle.magnetar_matrix.specs.RowCheck.{firstNot}
 
 -- z = (bits, 1, x) of a login with the words ws and w columns
 unfoldable pub zOf : ℕ → List ℕ → List ℕ → List ℕ
 zOf w ws x = tabulate (packedBit ws) w ++ (1 ∷ x)
-
--- the products of three matrices with z, one behind the other, n rows each: row i holds
-unfoldable pub holdsAt : List ℕ → ℕ → ℕ → Bool
-holdsAt t n i = eqb (getD t i 0 ⊗ getD t (n + i) 0) (getD t (2 * n + i) 0)
 
 -- the first of n rows that does not hold for z, or n
 unfoldable pub rowOf : List Entry → List Entry → List Entry → ℕ → List ℕ → ℕ

@@ -7,9 +7,9 @@ use lib.Dec.{eqb, ltb}
 use lib.ListN.{getD}
 use Rattle.magnetar_field.specs.Sizes.{log₂}
 use Rattle.magnetar_field.specs.Tabulate.{tabulate}
-use Rattle.magnetar_field.specs.Multilinear.{dot}
-use Rattle.magnetar_r1cs.specs.Matrix.{System, mleTable}
-use Rattle.magnetar_r1cs.specs.Lent.{Lent, matrixOf}
+use Rattle.magnetar_multilinear.specs.Multilinear.{dot}
+use Rattle.magnetar_matrix.specs.Matrix.{System, mleTable}
+use Rattle.magnetar_matrix.specs.Lent.{Lent, matrixOf}
 use Rattle.magnetar_layout.specs.Tests.{Tests, columnTests, rowTests, colsTests, counted, placed, lengthTest}
 
 -- a system as it is lent

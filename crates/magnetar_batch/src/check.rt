@@ -5,8 +5,9 @@ use magnetar_field::gf128::Gf128;
 use magnetar_field::sizes;
 use magnetar_field::words;
 use magnetar_layout::tests;
+use magnetar_matrix::rows;
+use magnetar_matrix::step;
 use magnetar_r1cs::r1cs;
-use magnetar_r1cs::walk;
 ghost use mathlib.Core.Path.{_≡_};
 ghost use mathlib.Core.Bool.{cond};
 ghost use mathlib.Core.List.{_++_};
@@ -16,15 +17,15 @@ ghost use lib.ListN.{length, getD};
 ghost use Rattle.magnetar_field.specs.Gf128.{value, _⊗_};
 ghost use Rattle.magnetar_field.specs.Words.{elements, words};
 ghost use Rattle.magnetar_field.specs.Tabulate.{tabulate};
-ghost use Rattle.magnetar_r1cs.specs.Matrix.{rowTotal, share};
-ghost use Rattle.magnetar_r1cs.specs.Lent.{lent, entriesOf};
-ghost use Rattle.magnetar_r1cs.specs.Table.{raised, Equal};
-ghost use Rattle.magnetar_r1cs.specs.Packed.{loginWords, unpacked};
-ghost use Rattle.magnetar_r1cs.specs.RowCheck.{firstNot, rowVerdict};
+ghost use Rattle.magnetar_matrix.specs.Matrix.{rowTotal, share};
+ghost use Rattle.magnetar_matrix.specs.Lent.{lent, entriesOf};
+ghost use Rattle.magnetar_matrix.specs.Table.{raised, Equal};
+ghost use Rattle.magnetar_matrix.specs.Packed.{loginWords, unpacked};
+ghost use Rattle.magnetar_matrix.specs.RowCheck.{rowVerdict};
 ghost use Rattle.magnetar_layout.specs.Tests.{noted};
 ghost use Rattle.magnetar_batch.specs.Systems.{system};
 ghost use Rattle.magnetar_batch.specs.Check.{judged, outcome, relation, batchSizes, checkAnswer, checkScratch};
-ghost use Rattle.magnetar_batch.specs.Rows.{zOf, holdsAt, rowOf, loginRow, loginOf};
+ghost use Rattle.magnetar_batch.specs.Rows.{zOf, rowOf, loginRow, loginOf};
 
 // Good, the login and row of the first failing row of a system, or the number of a refusal.
 pub enum RowCheck {
@@ -42,7 +43,7 @@ fn term(v: Gf128, c: usize, w: usize, login: &[u64], x: &[u64]) -> Gf128
         return gf128::mul_bit(
             v,
             Gf128 {
-                lo: walk::bit_at(login, c),
+                lo: step::bit_at(login, c),
                 hi: 0,
             },
         );
@@ -51,7 +52,7 @@ fn term(v: Gf128, c: usize, w: usize, login: &[u64], x: &[u64]) -> Gf128
         return v;
     }
     let k = c - w - 1;
-    walk::scale(v, words::get(x, k))
+    step::scale(v, words::get(x, k))
 }
 
 // Adds the product of the entries with z.
@@ -75,7 +76,7 @@ fn add_terms(
             hi: hi[i],
         };
         let e = term(v, col[i], w, login, x);
-        walk::add_at(out, row[i], e);
+        step::add_at(out, row[i], e);
         i += 1;
     }
 }
@@ -171,24 +172,6 @@ fn products3(
     );
 }
 
-// The first row that does not hold of n rows, or n; past the end of s stands 0.
-pub fn first_failing(s: &[u64], n: usize) -> usize
-    ensures { λ r. ⌜ r ≡ firstNot (holdsAt (elements (now (s .entry))) n) n ⌝ }
-{
-    if n > s.len() {
-        return n;
-    }
-    let mut row = 0;
-    while row < n {
-        let p = gf128::mul(words::get(s, row), words::get(s, n + row));
-        if !gf128::equal(p, words::get(s, 2 * n + row)) {
-            return row;
-        }
-        row += 1;
-    }
-    n
-}
-
 // The first row that does not hold for the login.
 fn failing_row(
     s: &mut [u64],
@@ -234,7 +217,7 @@ fn failing_row(
         login,
         x,
     );
-    first_failing(s, n)
+    rows::first_failing(s, n)
 }
 
 // A login and a row.

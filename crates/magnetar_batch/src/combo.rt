@@ -8,16 +8,16 @@ use magnetar_field::gf128::Gf128;
 use magnetar_field::sizes;
 use magnetar_field::words;
 use magnetar_layout::tests;
-use magnetar_r1cs::walk;
+use magnetar_matrix::step;
 ghost use mathlib.Core.Path.{_≡_};
 ghost use mathlib.Core.List.{_++_};
 ghost use Prim.Native.Nat.{_+_, _-_, _*_, _≤_};
 ghost use lib.ListN.{length, getD, take, drop, replicate};
 ghost use Rattle.magnetar_field.specs.Gf128.{value};
 ghost use Rattle.magnetar_field.specs.Words.{elements, words};
-ghost use Rattle.magnetar_r1cs.specs.Matrix.{rowTotal, share};
-ghost use Rattle.magnetar_r1cs.specs.Lent.{lent, entriesOf};
-ghost use Rattle.magnetar_r1cs.specs.Table.{raised};
+ghost use Rattle.magnetar_matrix.specs.Matrix.{rowTotal, share};
+ghost use Rattle.magnetar_matrix.specs.Lent.{lent, entriesOf};
+ghost use Rattle.magnetar_matrix.specs.Table.{raised};
 ghost use Rattle.magnetar_batch.specs.Systems.{system, systemsTests, pointTests};
 ghost use Rattle.magnetar_layout.specs.Tests.{noted};
 ghost use Rattle.magnetar_batch.specs.Columns.{Placed, Fit, column, sixTable};
@@ -45,7 +45,7 @@ fn add_columns(
         };
         let at = m + row[i];
         let e = words::get(s, at);
-        walk::add_at(s, col[i], walk::scale(v, e));
+        step::add_at(s, col[i], step::scale(v, e));
         i += 1;
     }
 }

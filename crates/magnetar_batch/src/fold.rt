@@ -1,27 +1,27 @@
 // Folds at a point over the logins.
 use crate::room;
-use magnetar_field::eq::EqBits;
 use magnetar_field::gf128::Evaluated;
 use magnetar_field::gf128::Gf128;
 use magnetar_field::gf128::ONE;
-use magnetar_field::multilinear;
 use magnetar_field::sizes;
 use magnetar_field::words;
 use magnetar_layout::tests;
+use magnetar_matrix::step;
+use magnetar_multilinear::eq::EqBits;
+use magnetar_multilinear::multilinear;
 use magnetar_r1cs::r1cs;
-use magnetar_r1cs::walk;
 ghost use mathlib.Core.Path.{_≡_};
 ghost use Prim.Native.Nat.{_+_, _*_, _/_, _%_, _<_, _≤_};
 ghost use mathlib.Core.List.{_++_};
 ghost use lib.ListN.{length, drop, replicate};
 ghost use Rattle.magnetar_field.specs.Gf128.{value};
 ghost use Rattle.magnetar_field.specs.Words.{elements, words};
-ghost use Rattle.magnetar_field.specs.Multilinear.{mle};
-ghost use Rattle.magnetar_field.specs.Entries.{answer, answered, mleRefusal, mleScratch};
+ghost use Rattle.magnetar_multilinear.specs.Multilinear.{mle};
+ghost use Rattle.magnetar_multilinear.specs.Entries.{answer, answered, mleRefusal, mleScratch};
 ghost use Rattle.magnetar_field.specs.Tabulate.{tabulate};
-ghost use Rattle.magnetar_field.specs.EqTable.{eqTable};
-ghost use Rattle.magnetar_r1cs.specs.Packed.{loginWords};
-ghost use Rattle.magnetar_r1cs.specs.Table.{raised, Point};
+ghost use Rattle.magnetar_multilinear.specs.EqTable.{eqTable};
+ghost use Rattle.magnetar_matrix.specs.Packed.{loginWords};
+ghost use Rattle.magnetar_matrix.specs.Table.{raised, Point};
 ghost use Rattle.magnetar_batch.specs.Fold.{selectAt, wordSelect, rowSelect, foldSum};
 ghost use Rattle.magnetar_batch.specs.Entries.{foldRefusal, foldOut, foldScratch, foldInRefusal, foldInOut};
 
@@ -52,7 +52,7 @@ fn add_word(word: u64, base: usize, e: Gf128, out: &mut [u64])
     let mut left = word;
     while left != 0 {
         let b = u64::trailing_zeros(left) as usize;
-        walk::add_at(out, base + b, e);
+        step::add_at(out, base + b, e);
         left = left & (left - 1);
     }
 }

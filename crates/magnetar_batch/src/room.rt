@@ -1,15 +1,15 @@
 // One slice for a table and, behind it, an eq table.
-use magnetar_field::eq;
 use magnetar_field::gf128::Gf128;
 use magnetar_field::words;
+use magnetar_multilinear::eq;
 ghost use mathlib.Core.Path.{_≡_};
 ghost use mathlib.Core.List.{_++_};
 ghost use Prim.Native.Nat.{_+_, _-_, _%_, _≤_};
 ghost use lib.ListN.{length, take, drop, replicate};
 ghost use Rattle.magnetar_field.specs.Gf128.{value};
 ghost use Rattle.magnetar_field.specs.Words.{elements, words};
-ghost use Rattle.magnetar_field.specs.EqTable.{scaledTable};
-ghost use Rattle.magnetar_field.specs.Entries.{tableWords};
+ghost use Rattle.magnetar_multilinear.specs.EqTable.{scaledTable};
+ghost use Rattle.magnetar_multilinear.specs.Entries.{tableWords};
 
 // Puts c times the eq table of the point behind the first k words.
 pub(crate) fn eq_behind(s: &mut [u64], k: usize, point: &[u64], c: Gf128)

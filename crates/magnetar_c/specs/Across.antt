@@ -1,7 +1,7 @@
 -- The structs that cross to C and what they carry: structs of the crates below with the same fields under the same names, and the
 -- answer of the row check.
 -- Assumes nothing.
-use Rattle.magnetar_r1cs.specs.RowCheck.Verdict.{good, bin, fld}
+use Rattle.magnetar_matrix.specs.RowCheck.Verdict.{good, bin, fld}
 use Rattle.magnetar_batch.specs.Check.{Outcome}
 use Rattle.magnetar_batch.specs.Check.Outcome.{judged, refused}
 use Rattle.magnetar_field.specs.declared.gf128.Gf128.{Gf128}

@@ -2,21 +2,21 @@
 // convention, with the same outcome. A slice is a pointer and a length; a struct goes by value.
 use magnetar_batch::check;
 use magnetar_batch::check::RowCheck;
-use magnetar_field::eq;
 use magnetar_field::gf128;
 use magnetar_field::gf128::Gf128;
-use magnetar_field::multilinear;
 use magnetar_hash::transcript;
 use magnetar_hash::transcript::DrawAnswer;
 use magnetar_hash::transcript::Transcript;
 use magnetar_hash::transcript::TranscriptAnswer;
+use magnetar_multilinear::eq;
+use magnetar_multilinear::multilinear;
 use magnetar_spartan::virtual_spartan;
 use magnetar_sumcheck::engine;
 use magnetar_sumcheck::public;
 ghost use mathlib.Core.Path.{_≡_};
 ghost use lib.ListN.{length};
 ghost use Rattle.magnetar_field.specs.Gf128.{value, _⊗_};
-ghost use Rattle.magnetar_field.specs.Entries.{eqRefusal, eqOut, bindRefusal, bindOut};
+ghost use Rattle.magnetar_multilinear.specs.Entries.{eqRefusal, eqOut, bindRefusal, bindOut};
 ghost use Rattle.magnetar_hash.specs.Transcript as spec;
 ghost use Rattle.magnetar_layout.specs.Lent.{lent};
 ghost use Rattle.magnetar_batch.specs.Systems.{system};

@@ -1,6 +1,4 @@
 // The same calls over records, on words of their own: each says whether all that it hands back is what the core did.
-ghost use Prim.Native.Nat.{_≤_};
-use crate::lent;
 use crate::text::MARK;
 use crate::text::at;
 use crate::text::nth;
@@ -8,6 +6,8 @@ use crate::text::nth_sizes;
 use crate::text::number;
 use crate::text::plus;
 use crate::text::{self};
+use magnetar_arrays::lent;
+use magnetar_arrays_prover::prover;
 use magnetar_batch::check::RowCheck;
 use magnetar_hash::transcript::Transcript;
 use magnetar_hash::transcript::TranscriptAnswer;
@@ -23,7 +23,7 @@ fn record(row: &[usize], col: &[usize], lo: &[u64], hi: &[u64], i: usize) -> Ent
     }
 }
 
-// The first 64 entries as records.
+// The first 64 entries as records; past the end stand zeros, which add nothing.
 fn records(row: &[usize], col: &[usize], lo: &[u64], hi: &[u64]) -> [Entry; 64] {
     let none = record(row, col, lo, hi, row.len());
     let mut es = [none; 64];
@@ -43,14 +43,6 @@ fn matrix(given: &[u64], sizes: &[usize], k: usize) -> [Entry; 64] {
         nth(given, plus(k, 2)),
         nth(given, plus(k, 3)),
     )
-}
-
-// How many entries it has, or 64.
-fn count(sizes: &[usize], k: usize) -> usize
-    ensures { λ r. ⌜ r ≤ 64 ⌝ }
-{
-    let n = nth_sizes(sizes, k).len();
-    if n < 64 { n } else { 64 }
 }
 
 // Whether it can be asked of records: no more than 64, and its four lists are of one length.
@@ -108,7 +100,6 @@ pub(crate) fn masks(nums: &[u64], given: &[u64], sizes: &[usize], code: u32, out
         number(sizes, 4, 0),
         number(sizes, 4, 1),
         matrix(given, sizes, 5),
-        count(sizes, 5),
         nth(given, 3),
         text::size(at(nums, 1)),
         text::size(at(nums, 2)),
@@ -153,12 +144,6 @@ fn combined(
         text::after(nums, 2, 0),
         text::after(nums, 2, 1),
         text::after(nums, 2, 2),
-        count(sizes, 5),
-        count(sizes, 10),
-        count(sizes, 15),
-        count(sizes, 20),
-        count(sizes, 25),
-        count(sizes, 30),
     )
 }
 
@@ -221,12 +206,6 @@ fn verified(
         matrix(given, sizes, 30),
         nth(given, 2),
         proof,
-        count(sizes, 5),
-        count(sizes, 10),
-        count(sizes, 15),
-        count(sizes, 20),
-        count(sizes, 25),
-        count(sizes, 30),
     )
 }
 
@@ -321,12 +300,6 @@ fn checked(given: &[u64], sizes: &[usize], scratch: &mut [u64]) -> RowCheck {
         matrix(given, sizes, 30),
         nth(given, 3),
         nth(given, 2),
-        count(sizes, 5),
-        count(sizes, 10),
-        count(sizes, 15),
-        count(sizes, 20),
-        count(sizes, 25),
-        count(sizes, 30),
     )
 }
 
@@ -351,7 +324,7 @@ fn proved(
     claims: &mut [u64],
     scratch: &mut [u64],
 ) -> TranscriptAnswer {
-    lent::proved(
+    prover::proved(
         t,
         proof,
         claims,
@@ -379,12 +352,6 @@ fn proved(
         matrix(given, sizes, 30),
         nth(given, 3),
         nth(given, 2),
-        count(sizes, 5),
-        count(sizes, 10),
-        count(sizes, 15),
-        count(sizes, 20),
-        count(sizes, 25),
-        count(sizes, 30),
     )
 }
 

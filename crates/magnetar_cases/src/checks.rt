@@ -9,8 +9,8 @@ use crate::text::{self};
 use magnetar_batch::combo;
 use magnetar_checks::claims;
 use magnetar_checks::end;
-use magnetar_checks::found::Found;
 use magnetar_checks::outer;
+use magnetar_protocol::first::Found;
 
 // The query by name: its letters, the last one lowest.
 const CHECKS: u64 = 0x636865636b73;

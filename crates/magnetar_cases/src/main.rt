@@ -3,7 +3,6 @@
 // that begins with # is copied.
 mod again;
 mod checks;
-mod lent;
 mod rowcheck;
 mod runs;
 mod tables;

@@ -9,7 +9,7 @@ use Rattle.magnetar_field.specs.declared.gf128.Gf128.{Gf128}
 use Rattle.magnetar_field.specs.declared.gf128.Evaluated.{Evaluated}
 use Rattle.magnetar_field.specs.declared.gf128.Evaluated.the-variants.{Value, Refused}
 use Rattle.magnetar_field.specs.Gf128.{value}
-use Rattle.magnetar_field.specs.Entries.{Answer, element, refusal, answer, answered}
+use Rattle.magnetar_multilinear.specs.Entries.{Answer, element, refusal, answer, answered}
 use Rattle.magnetar_sumcheck.specs.Entries.{pointsRefusal}
 
 abbrev number : Answer → ℕ

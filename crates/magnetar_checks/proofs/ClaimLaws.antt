@@ -14,9 +14,9 @@ use Rattle.magnetar_field.specs.Tabulate.{tabulate}
 use Rattle.magnetar_field.specs.Words.{elements, words}
 use Rattle.magnetar_field.proofs.Elements.{elements-length}
 use Rattle.magnetar_field.proofs.Tabulation.{tabulate-of}
-use Rattle.magnetar_sumcheck.specs.Order.{placeOf}
+use Rattle.magnetar_round.specs.Order.{placeOf}
 use Rattle.magnetar_sumcheck.proofs.EqFactor.{point-at, length-point}
-use Rattle.magnetar_r1cs.specs.Batch.{Relation}
+use Rattle.magnetar_matrix.specs.Batch.{Relation}
 use Rattle.magnetar_layout.specs.Tests.{Tests, note, noted, roomTest}
 use Rattle.magnetar_layout.proofs.Noted.{noted-clear, noted-front, noted-rest}
 use Rattle.magnetar_protocol.specs.Shape.{logLogins, logBin, logFld, logCols, beforeEnd, proofElements}

@@ -21,9 +21,10 @@ use Rattle.magnetar_layout.proofs.SizeLaws.{sized}
 use Rattle.magnetar_layout.proofs.Laid.{sound}
 use Rattle.magnetar_protocol.specs.RunSizes.{Power}
 use Rattle.magnetar_protocol.specs.Schedule.{outline}
-use Rattle.magnetar_checks.specs.declared.found.Found.{Found}
-use Rattle.magnetar_checks.specs.Found.{firstFound}
-use Rattle.magnetar_checks.specs.Steps.{nothing, after, drawTotal, proofTotal}
+use Rattle.magnetar_protocol.specs.declared.first.Found.{Found}
+use Rattle.magnetar_protocol.specs.Found.{firstFound}
+use Rattle.magnetar_protocol.specs.Found.{nothing, after}
+use Rattle.magnetar_checks.specs.Steps.{drawTotal, proofTotal}
 use Rattle.magnetar_checks.specs.EndSteps.{EndFits, endPhases, frontTests, endRefusalOf}
 use Rattle.magnetar_checks.specs.Outer.{drawTests, proofTests}
 use Rattle.magnetar_checks.specs.End.{endRefusal, endFound, endRoom}

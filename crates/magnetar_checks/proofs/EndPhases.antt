@@ -12,12 +12,12 @@ use lib.Seq.{take-take, take-all}
 use Rattle.magnetar_field.specs.Gf128.{_⊕_, _⊗_}
 use Rattle.magnetar_field.specs.Sizes.{log₂}
 use Rattle.magnetar_field.specs.Tabulate.{tabulate}
-use Rattle.magnetar_field.specs.EqTable.{eqAt}
-use Rattle.magnetar_field.specs.Multilinear.{mle}
+use Rattle.magnetar_multilinear.specs.EqTable.{eqAt}
+use Rattle.magnetar_multilinear.specs.Multilinear.{mle}
 use Rattle.magnetar_field.proofs.Log2.{log₂-pow}
-use Rattle.magnetar_sumcheck.specs.Round.{running}
-use Rattle.magnetar_sumcheck.specs.Inner.{innerEnd}
-use Rattle.magnetar_r1cs.specs.Batch.{Relation}
+use Rattle.magnetar_round.specs.Round.{running}
+use Rattle.magnetar_round.specs.Inner.{innerEnd}
+use Rattle.magnetar_matrix.specs.Batch.{Relation}
 use Rattle.magnetar_layout.specs.Layout.{localVars, suffix}
 use Rattle.magnetar_r1cs.proofs.Points.{log-most}
 use Rattle.magnetar_protocol.specs.Shape.{logLogins, logBin, logFld, logCols, beforeEnd, proofElements}
@@ -27,13 +27,14 @@ use Rattle.magnetar_protocol.specs.Checks.{Check, roundHolds, innerClaim, combi
 use Rattle.magnetar_protocol.specs.RunSizes.{Power}
 use Rattle.magnetar_protocol.specs.Schedule.{afterAlphas, afterInner}
 use Rattle.magnetar_protocol.proofs.Phases.{Numbered, numbered-append, numbered-tabulate}
-use Rattle.magnetar_checks.specs.declared.found.Found.{Found}
-use Rattle.magnetar_checks.specs.Found.{firstFound}
-use Rattle.magnetar_checks.specs.Steps.{check, nothing, nextFound, after, messages, roundChecks}
+use Rattle.magnetar_protocol.specs.declared.first.Found.{Found}
+use Rattle.magnetar_protocol.specs.Found.{firstFound}
+use Rattle.magnetar_protocol.specs.Found.{check, nothing, nextFound, after}
+use Rattle.magnetar_checks.specs.Steps.{messages, roundChecks}
 use Rattle.magnetar_checks.specs.EndSteps.{segmentsAt, identical, alphasAt, terminalsAt, eventsBefore, innerDraws, firstClaim, lastClaim, vz, lowDraws, roundPhase, endPhases}
 use Rattle.magnetar_checks.specs.End.{endChecks}
 use Rattle.magnetar_checks.proofs.Pieces.{part-get}
-use Rattle.magnetar_checks.proofs.Finding.{after-append, after-two, finds}
+use Rattle.magnetar_protocol.proofs.Finding.{after-append, after-two, finds}
 use Rattle.magnetar_checks.proofs.OuterPhases.{eqb-comm}
 
 -- ---- with the matrices combined, they are the verifier's

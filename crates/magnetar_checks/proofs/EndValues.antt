@@ -11,15 +11,15 @@ use lib.Seq.{take-at, drop-at, length-take-le, drop-append-le}
 use Rattle.magnetar_field.specs.Gf128.{_⊕_, _⊗_}
 use Rattle.magnetar_field.specs.Sizes.{log₂}
 use Rattle.magnetar_field.specs.Words.{elements, words}
-use Rattle.magnetar_field.specs.EqTable.{eqTable}
-use Rattle.magnetar_field.specs.Multilinear.{dot, mle}
-use Rattle.magnetar_field.specs.Entries.{eqOut}
+use Rattle.magnetar_multilinear.specs.EqTable.{eqTable}
+use Rattle.magnetar_multilinear.specs.Multilinear.{dot, mle}
+use Rattle.magnetar_multilinear.specs.Entries.{eqOut}
 use Rattle.magnetar_field.proofs.Elements.{elements-length, words-length, elements-drop}
-use Rattle.magnetar_field.proofs.EqTables.{eqTable-length, eqTable-get, eqAt-lt}
+use Rattle.magnetar_multilinear.proofs.EqTables.{eqTable-length, eqTable-get, eqAt-lt}
 use Rattle.magnetar_field.proofs.Product.{one-⊗}
 use Rattle.magnetar_layout.specs.Tests.{Sized}
 use Rattle.magnetar_r1cs.proofs.Points.{log-most, point-of, eq-built}
-use Rattle.magnetar_r1cs.proofs.TableLaws.{elements-words}
+use Rattle.magnetar_matrix.proofs.TableLaws.{elements-words}
 use Rattle.magnetar_protocol.specs.RunSizes.{Power}
 use Rattle.magnetar_checks.proofs.Pieces.{elements-take}
 

@@ -13,11 +13,11 @@ use lib.Seq.{drop-cons, take-all}
 use Rattle.magnetar_field.specs.Gf128.{_⊕_, _⊗_}
 use Rattle.magnetar_field.specs.Sizes.{log₂}
 use Rattle.magnetar_field.specs.Words.{elements}
-use Rattle.magnetar_field.specs.EqTable.{eqFactor, eqAt}
+use Rattle.magnetar_multilinear.specs.EqTable.{eqFactor, eqAt}
 use Rattle.magnetar_field.proofs.Elements.{elements-drop}
 use Rattle.magnetar_field.proofs.Xor.{⊕-assoc, ⊕-zero, zero-⊕}
 use Rattle.magnetar_field.proofs.Product.{⊗-lt, ⊗-one, one-⊗, ⊗-assoc}
-use Rattle.magnetar_field.proofs.EqTables.{eqAt-lt, eqAt-cons}
+use Rattle.magnetar_multilinear.proofs.EqTables.{eqAt-lt, eqAt-cons}
 use Rattle.magnetar_layout.specs.Layout.{LayoutFits, nextMultiple, localVars, suffix}
 use Rattle.magnetar_layout.proofs.Laid.{Laid, laid-start, laid-more, laid-offset, laid-within, offset-within, each-size}
 use Rattle.magnetar_checks.specs.EndSteps.{segmentsAt}

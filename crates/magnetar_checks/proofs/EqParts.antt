@@ -11,7 +11,7 @@ use Rattle.magnetar_field.specs.Gf128.{_⊕_, _⊗_}
 use Rattle.magnetar_field.proofs.Product.{⊗-lt, one-⊗, ⊗-assoc}
 use Rattle.magnetar_field.specs.Words.{elements}
 use Rattle.magnetar_field.proofs.Elements.{elements-length, elements-drop}
-use Rattle.magnetar_sumcheck.specs.Order.{eqPoints, point}
+use Rattle.magnetar_round.specs.Order.{eqPoints, point}
 use Rattle.magnetar_checks.proofs.Pieces.{elements-take}
 
 eqPoints-lt : (ps qs : List ℕ) → eqPoints ps qs < 2 ^ 128

@@ -1,5 +1,4 @@
 pub mod Pieces
-pub mod Finding
 pub mod RoundLaws
 pub mod Answers
 pub mod EqParts

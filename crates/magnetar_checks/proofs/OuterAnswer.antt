@@ -12,8 +12,9 @@ use Rattle.magnetar_field.proofs.Elements.{elements-length}
 use Rattle.magnetar_layout.specs.Tests.{Tests, noted}
 use Rattle.magnetar_layout.proofs.Noted.{noted-front, noted-rest}
 use Rattle.magnetar_protocol.specs.Schedule.{outline}
-use Rattle.magnetar_checks.specs.declared.found.Found.{Found}
-use Rattle.magnetar_checks.specs.Steps.{nothing, after, refusalOf, outerPhases}
+use Rattle.magnetar_protocol.specs.declared.first.Found.{Found}
+use Rattle.magnetar_protocol.specs.Found.{nothing, after}
+use Rattle.magnetar_checks.specs.Steps.{refusalOf, outerPhases}
 use Rattle.magnetar_checks.specs.Outer.{runTests, segmentTests, drawTests, proofTests, outerChecksRefusal, outerFound}
 use Rattle.magnetar_checks.proofs.Guards.{given}
 use Rattle.magnetar_checks.proofs.OuterPhases.{outer-found}

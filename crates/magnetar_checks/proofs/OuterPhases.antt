@@ -11,21 +11,22 @@ use lib.ListN.{length, getD, take, drop, length-drop, List·getD-append}
 use lib.Seq.{length-take-le, take-append-le, take-append-add, getD-append-add}
 use Rattle.magnetar_field.specs.Polynomial.{eval}
 use Rattle.magnetar_field.proofs.Tabulation.{tabulate-ext}
-use Rattle.magnetar_sumcheck.specs.Round.{holds, running}
-use Rattle.magnetar_sumcheck.specs.Order.{eqPoints}
-use Rattle.magnetar_sumcheck.specs.Outer.{outerEnd}
-use Rattle.magnetar_r1cs.specs.Batch.{Relation}
+use Rattle.magnetar_round.specs.Round.{holds, running}
+use Rattle.magnetar_round.specs.Order.{eqPoints}
+use Rattle.magnetar_round.specs.Outer.{outerEnd}
+use Rattle.magnetar_matrix.specs.Batch.{Relation}
 use Rattle.magnetar_protocol.specs.Shape.{logLogins, logBin, logFld, beforeTerminals}
 use Rattle.magnetar_protocol.specs.Proof.{part, binMessages, fldMessages, terminal}
 use Rattle.magnetar_protocol.specs.Draws.{Draws, drawCount, drawsOf, loginPoint}
 use Rattle.magnetar_protocol.specs.Checks.{Check, roundHolds, sharedChecks, rowChecks, terminalChecks, binRound, fldRound}
 use Rattle.magnetar_protocol.specs.Schedule.{afterTaus, afterShared, afterBin}
 use Rattle.magnetar_protocol.proofs.Phases.{Numbered, numbered-append, numbered-tabulate}
-use Rattle.magnetar_checks.specs.declared.found.Found.{Found}
-use Rattle.magnetar_checks.specs.Found.{firstFound}
-use Rattle.magnetar_checks.specs.Steps.{check, nothing, nextFound, after, messages, roundChecks, sharedBin, sharedFld, bothChecks, terminalHolds, taus, sharedDraws, binDraws, fldDraws, binShared, fldShared, binEnd, fldEnd, sharedPhase, binPhase, fldPhase, terminalPhase, outerPhases}
+use Rattle.magnetar_protocol.specs.declared.first.Found.{Found}
+use Rattle.magnetar_protocol.specs.Found.{firstFound}
+use Rattle.magnetar_protocol.specs.Found.{check, nothing, nextFound, after}
+use Rattle.magnetar_checks.specs.Steps.{messages, roundChecks, sharedBin, sharedFld, bothChecks, terminalHolds, taus, sharedDraws, binDraws, fldDraws, binShared, fldShared, binEnd, fldEnd, sharedPhase, binPhase, fldPhase, terminalPhase, outerPhases}
 use Rattle.magnetar_checks.specs.Outer.{outerChecks}
-use Rattle.magnetar_checks.proofs.Finding.{after-append, after-two, finds}
+use Rattle.magnetar_protocol.proofs.Finding.{after-append, after-two, finds}
 use Rattle.magnetar_checks.proofs.RoundLaws.{bin-length, fld-length}
 
 pub eqb-comm : (a b : ℕ) → eqb a b ≡ eqb b a

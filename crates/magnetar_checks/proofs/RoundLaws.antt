@@ -11,12 +11,13 @@ use lib.Seq.{take-all, drop-cons}
 use Rattle.magnetar_field.specs.Polynomial.{eval}
 use Rattle.magnetar_field.specs.Tabulate.{tabulate}
 use Rattle.magnetar_field.proofs.Tabulation.{tabulate-length, tabulate-get}
-use Rattle.magnetar_sumcheck.specs.Round.{holds, running}
+use Rattle.magnetar_round.specs.Round.{holds, running}
 use Rattle.magnetar_protocol.specs.Checks.{Check, roundHolds}
 use Rattle.magnetar_protocol.specs.Proof.{part}
-use Rattle.magnetar_checks.specs.declared.found.Found.{Found}
-use Rattle.magnetar_checks.specs.Steps.{check, nothing, nextFound, after, messages, roundChecks, sharedBin, sharedFld, bothChecks}
-use Rattle.magnetar_checks.proofs.Finding.{after-none, after-cons}
+use Rattle.magnetar_protocol.specs.declared.first.Found.{Found}
+use Rattle.magnetar_protocol.specs.Found.{check, nothing, nextFound, after}
+use Rattle.magnetar_checks.specs.Steps.{messages, roundChecks, sharedBin, sharedFld, bothChecks}
+use Rattle.magnetar_protocol.proofs.Finding.{after-none, after-cons}
 
 -- the claim after a round is the message's value at the challenge
 running-at : (i c : ℕ) (ms : List (List ℕ)) (rs : List ℕ) → i < length ms → i < length rs

@@ -5,7 +5,7 @@ use Prim.Native.Nat.{ℕ, _+_, _-_, _*_}
 use lib.ListN.{length, drop}
 use Rattle.magnetar_field.specs.Refusal.{unlessRefused}
 use Rattle.magnetar_field.specs.Words.{elements, words}
-use Rattle.magnetar_r1cs.specs.Batch.{Relation}
+use Rattle.magnetar_matrix.specs.Batch.{Relation}
 use Rattle.magnetar_layout.specs.Tests.{noted, roomTest}
 use Rattle.magnetar_protocol.specs.Shape.{logLogins, logCols}
 use Rattle.magnetar_protocol.specs.Schedule.{outline}

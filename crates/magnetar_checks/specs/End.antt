@@ -7,18 +7,18 @@ use lib.ListN.{take, drop, replicate}
 use Rattle.magnetar_field.specs.Refusal.{unlessRefused}
 use Rattle.magnetar_field.specs.Tabulate.{tabulate}
 use Rattle.magnetar_field.specs.Words.{elements}
-use Rattle.magnetar_field.specs.Multilinear.{mle}
-use Rattle.magnetar_sumcheck.specs.Round.{running}
-use Rattle.magnetar_sumcheck.specs.Inner.{innerEnd}
-use Rattle.magnetar_r1cs.specs.Batch.{Relation}
+use Rattle.magnetar_multilinear.specs.Multilinear.{mle}
+use Rattle.magnetar_round.specs.Round.{running}
+use Rattle.magnetar_round.specs.Inner.{innerEnd}
+use Rattle.magnetar_matrix.specs.Batch.{Relation}
 use Rattle.magnetar_layout.specs.Tests.{noted, sizeTests, publicTests, rowsTests, layoutTests, roomTest}
 use Rattle.magnetar_protocol.specs.Shape.{logCols}
 use Rattle.magnetar_protocol.specs.Proof.{innerRounds, valueZ}
 use Rattle.magnetar_protocol.specs.Draws.{Draws, drawsOf}
 use Rattle.magnetar_protocol.specs.Schedule.{outline, afterAlphas, afterInner}
 use Rattle.magnetar_protocol.specs.Checks.{Check, roundHolds, innerClaim, identityCheck}
-use Rattle.magnetar_checks.specs.declared.found.Found.{Found}
-use Rattle.magnetar_checks.specs.Found.{firstFound, unlessBad}
+use Rattle.magnetar_protocol.specs.declared.first.Found.{Found}
+use Rattle.magnetar_protocol.specs.Found.{firstFound, unlessBad}
 use Rattle.magnetar_checks.specs.Outer.{drawTests, proofTests}
 
 -- the checks of the inner rounds, of the claim that they leave, and of v_z

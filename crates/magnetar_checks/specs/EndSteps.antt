@@ -9,16 +9,17 @@ use lib.Dec.{eqb, ltb}
 use lib.ListN.{length, getD, drop}
 use Rattle.magnetar_field.specs.Gf128.{_⊕_, _⊗_}
 use Rattle.magnetar_field.specs.Sizes.{log₂}
-use Rattle.magnetar_field.specs.EqTable.{eqAt}
-use Rattle.magnetar_field.specs.Multilinear.{dot, mle}
-use Rattle.magnetar_sumcheck.specs.Round.{running}
-use Rattle.magnetar_sumcheck.specs.Inner.{innerEnd}
+use Rattle.magnetar_multilinear.specs.EqTable.{eqAt}
+use Rattle.magnetar_multilinear.specs.Multilinear.{dot, mle}
+use Rattle.magnetar_round.specs.Round.{running}
+use Rattle.magnetar_round.specs.Inner.{innerEnd}
 use Rattle.magnetar_layout.specs.Layout.{localVars, suffix, LayoutFits}
 use Rattle.magnetar_layout.specs.Tests as tests
 use Rattle.magnetar_protocol.specs.Proof.{part}
 use Rattle.magnetar_protocol.specs.Checks.{Check}
 use Rattle.magnetar_protocol.specs.RunSizes.{Power}
-use Rattle.magnetar_checks.specs.Steps.{check, messages, roundChecks, drawTotal, proofTotal}
+use Rattle.magnetar_protocol.specs.Found.{check}
+use Rattle.magnetar_checks.specs.Steps.{messages, roundChecks, drawTotal, proofTotal}
 
 -- the values vs of the segments from segment i on, each times eq(high part of the low point, number of the segment's place)
 unfoldable pub segmentsAt : List ℕ → List ℕ → ℕ → List ℕ → ℕ

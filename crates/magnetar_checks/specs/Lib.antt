@@ -1,4 +1,3 @@
-pub mod Found
 pub mod Steps
 pub mod Outer
 pub mod EndSteps

@@ -6,14 +6,14 @@ use Prim.Native.Nat.{ℕ, _*_}
 use lib.Dec.{eqb, ltb}
 use lib.ListN.{length}
 use Rattle.magnetar_field.specs.Words.{elements}
-use Rattle.magnetar_r1cs.specs.Batch.{Relation}
+use Rattle.magnetar_matrix.specs.Batch.{Relation}
 use Rattle.magnetar_layout.specs.Tests.{Tests, noted, sizeTests, rowsTests}
 use Rattle.magnetar_protocol.specs.Shape.{logLogins, proofElements}
 use Rattle.magnetar_protocol.specs.Draws.{Draws, drawCount, drawsOf}
 use Rattle.magnetar_protocol.specs.Schedule.{outline}
 use Rattle.magnetar_protocol.specs.Checks.{Check, sharedChecks, rowChecks, terminalChecks}
-use Rattle.magnetar_checks.specs.declared.found.Found.{Found}
-use Rattle.magnetar_checks.specs.Found.{firstFound, unlessBad}
+use Rattle.magnetar_protocol.specs.declared.first.Found.{Found}
+use Rattle.magnetar_protocol.specs.Found.{firstFound, unlessBad}
 
 -- 1 and 4: the columns m, the logins q, and the rows b of bin and f of fld, alone and for all logins
 abbrev pub runTests : (m q b f : ℕ) → Tests

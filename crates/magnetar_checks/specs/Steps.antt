@@ -1,35 +1,18 @@
--- The checks one after the other, and the rounds of one sum-check. Only the contracts of private functions speak of this.
+-- The rounds of one sum-check, and the outer checks phase by phase. Only the contracts of private functions speak of this.
 -- Assumes nothing.
-use mathlib.Core.Bool.{Bool, not, cond}
+use mathlib.Core.Bool.{Bool, not}
 use mathlib.Core.List.{List, [], _∷_, _++_, reverse}
 use Prim.Native.Nat.{ℕ, zero, suc, _+_, _*_}
 use lib.Dec.{eqb, ltb}
 use lib.ListN.{getD}
 use Rattle.magnetar_field.specs.Tabulate.{tabulate}
-use Rattle.magnetar_sumcheck.specs.Round.{running}
-use Rattle.magnetar_sumcheck.specs.Order.{eqPoints}
-use Rattle.magnetar_sumcheck.specs.Outer.{outerEnd}
+use Rattle.magnetar_round.specs.Round.{running}
+use Rattle.magnetar_round.specs.Order.{eqPoints}
+use Rattle.magnetar_round.specs.Outer.{outerEnd}
 use Rattle.magnetar_layout.specs.Tests as tests
 use Rattle.magnetar_protocol.specs.Proof.{part}
 use Rattle.magnetar_protocol.specs.Checks.{Check, roundHolds}
-use Rattle.magnetar_checks.specs.declared.found.Found.{Found}
-
--- a check
-abbrev pub check : ℕ → Bool → ℕ → Check
-check n p e = record { refusal = n; passes = p; events = e }
-
--- nothing found
-abbrev pub nothing : Found
-nothing = record { code = 0; events = 0 }
-
--- what is found with one more check: an earlier refusal stays
-unfoldable pub nextFound : Found → Check → Found
-nextFound f c = cond (eqb (f .code) 0) (cond (c .passes) f (record { code = c .refusal; events = c .events })) f
-
--- and with a list of checks
-unfoldable pub after : Found → List Check → Found
-after f [] = f
-after f (c ∷ cs) = after (nextFound f c) cs
+use Rattle.magnetar_protocol.specs.Found.{check}
 
 -- ---- how many elements are drawn, and are in a proof with l segments, with the logarithms s, b, f, c of the logins, the rows of bin
 -- and fld, and the columns

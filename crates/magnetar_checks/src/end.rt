@@ -1,17 +1,18 @@
 // The checks after the alphas: 27 of the inner rounds, 28 of the claim that they leave, 29 of v_z.
 use crate::found;
-use crate::found::Found;
 use crate::found::Run;
-use magnetar_field::eq;
-use magnetar_field::eq::EqBits;
 use magnetar_field::gf128;
 use magnetar_field::gf128::Gf128;
-use magnetar_field::multilinear;
 use magnetar_field::sizes;
 use magnetar_field::words;
 use magnetar_layout::layout;
 use magnetar_layout::tests;
-use magnetar_sumcheck::engine;
+use magnetar_multilinear::eq;
+use magnetar_multilinear::eq::EqBits;
+use magnetar_multilinear::multilinear;
+use magnetar_protocol::first;
+use magnetar_protocol::first::Found;
+use magnetar_round::verify;
 ghost use mathlib.Core.Path.{_≡_};
 ghost use mathlib.Core.Bool.{true};
 ghost use mathlib.Core.List.{[], _∷_};
@@ -19,14 +20,14 @@ ghost use Prim.Native.Nat.{_+_, _-_, _*_, _/_, _%_, _<_, _≤_};
 ghost use lib.ListN.{length, getD, take, drop, replicate};
 ghost use Rattle.magnetar_field.specs.Gf128.{value, _⊕_, _⊗_};
 ghost use Rattle.magnetar_field.specs.Sizes.{log₂};
-ghost use Rattle.magnetar_field.specs.EqTable.{eqAt};
-ghost use Rattle.magnetar_field.specs.Multilinear.{mle};
+ghost use Rattle.magnetar_multilinear.specs.EqTable.{eqAt};
+ghost use Rattle.magnetar_multilinear.specs.Multilinear.{mle};
 ghost use Rattle.magnetar_field.specs.Words.{elements};
 ghost use Rattle.magnetar_layout.specs.Layout.{LayoutFits};
 ghost use Rattle.magnetar_layout.specs.Tests.{noted, isSize};
 ghost use Rattle.magnetar_protocol.specs.RunSizes.{Power};
 ghost use Rattle.magnetar_protocol.specs.Proof.{part};
-ghost use Rattle.magnetar_checks.specs.Steps.{nothing, after};
+ghost use Rattle.magnetar_protocol.specs.Found.{nothing, after};
 ghost use Rattle.magnetar_checks.specs.EndSteps.{segmentsAt, identical, roundPhase, lastClaim, lowDraws, vz, alphasAt, terminalsAt, endPhases, EndFits, frontTests, endRefusalOf};
 ghost use Rattle.magnetar_checks.specs.End.{endFound, endRoom};
 
@@ -178,10 +179,10 @@ fn end_phases(
     let t = table_value(room, found::piece(draws, k, c), m);
     let p = public_value(room, x, found::piece(draws, k, c - 1), m);
     words::clear(room);
-    let y = engine::inner_finish(run.claim, t, words::get(proof, i));
-    let g = found::note(run.found, 28, y, events);
+    let y = verify::inner_finish(run.claim, t, words::get(proof, i));
+    let g = first::note(run.found, 28, y, events);
     let z = identity_holds(m, lens, p, proof, draws, s, b, f, c);
-    found::note(g, 29, z, events + 1)
+    first::note(g, 29, z, events + 1)
 }
 
 // 1, 3 and 4, with x public words.

@@ -2,7 +2,9 @@
 use magnetar_field::gf128::Gf128;
 use magnetar_field::words;
 use magnetar_layout::tests;
-use magnetar_sumcheck::engine;
+use magnetar_protocol::first;
+use magnetar_protocol::first::Found;
+use magnetar_round::verify;
 ghost use mathlib.Core.Path.{_≡_};
 ghost use Prim.Native.Nat.{_+_, _*_, _<_, _≤_};
 ghost use lib.ListN.{length};
@@ -10,37 +12,16 @@ ghost use Rattle.magnetar_field.specs.Gf128.{value};
 ghost use Rattle.magnetar_field.specs.Polynomial.{eval};
 ghost use Rattle.magnetar_field.specs.Words.{elements};
 ghost use Rattle.magnetar_layout.specs.Tests.{noted, sizeTests, rowsTests};
-ghost use Rattle.magnetar_sumcheck.specs.Round.{holds, running};
+ghost use Rattle.magnetar_round.specs.Round.{holds, running};
 ghost use Rattle.magnetar_protocol.specs.Proof.{part};
-ghost use Rattle.magnetar_checks.specs.Steps.{check, nextFound, after, messages, roundChecks, drawTotal, proofTotal};
+ghost use Rattle.magnetar_protocol.specs.Found.{check, nextFound, after};
+ghost use Rattle.magnetar_checks.specs.Steps.{messages, roundChecks, drawTotal, proofTotal};
 ghost use Rattle.magnetar_checks.specs.Outer.{runTests};
-
-// The first check that does not pass: its refusal (0: none), and how many events of the schedule come before it.
-pub struct Found {
-    pub code: u32,
-    pub events: usize,
-}
 
 // What was found, and the running claim.
 pub(crate) struct Run {
     pub found: Found,
     pub claim: Gf128,
-}
-
-// f where it is a refusal already; else this check's refusal, where it does not pass.
-pub(crate) fn note(f: Found, code: u32, passes: bool, events: usize) -> Found
-    ensures { λ r. ⌜ r ≡ nextFound f (check code passes events) ⌝ }
-{
-    if f.code != 0 {
-        return f;
-    }
-    if passes {
-        return f;
-    }
-    Found {
-        code: code,
-        events: events,
-    }
 }
 
 // 1: the columns and the logins.
@@ -107,8 +88,8 @@ pub(crate) fn round(f: Found, claim: Gf128, msg: &[u64], r: Gf128, code: u32, ev
     ensures found { λ o. ⌜ o .found ≡ nextFound f (check code (holds (elements (now (msg .entry))) (value claim)) events) ⌝ }
     ensures claim { λ o. ⌜ value (o .claim) ≡ eval (elements (now (msg .entry))) (value r) ⌝ }
 {
-    let g = note(f, code, engine::sum_holds(msg, claim), events);
-    let next = engine::eval_message(msg, r);
+    let g = first::note(f, code, verify::sum_holds(msg, claim), events);
+    let next = verify::eval_message(msg, r);
     Run {
         found: g,
         claim: next,

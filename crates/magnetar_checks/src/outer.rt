@@ -1,13 +1,14 @@
 // The checks of the outer sum-checks: 21 and 22 of the shared rounds, 23 and 24 of the row rounds, 25 and 26 of the terminals.
 use crate::found;
-use crate::found::Found;
 use magnetar_field::gf128;
 use magnetar_field::gf128::Evaluated;
 use magnetar_field::gf128::Gf128;
 use magnetar_field::sizes;
 use magnetar_field::words;
 use magnetar_layout::tests;
-use magnetar_sumcheck::engine;
+use magnetar_protocol::first;
+use magnetar_protocol::first::Found;
+use magnetar_round::verify;
 use magnetar_sumcheck::public;
 ghost use mathlib.Core.Path.{_≡_};
 ghost use mathlib.Core.List.{reverse, _++_};
@@ -16,10 +17,11 @@ ghost use lib.ListN.{length, getD};
 ghost use Rattle.magnetar_field.specs.Gf128.{value};
 ghost use Rattle.magnetar_field.specs.Polynomial.{eval};
 ghost use Rattle.magnetar_field.specs.Words.{elements};
-ghost use Rattle.magnetar_sumcheck.specs.Round.{holds, running};
-ghost use Rattle.magnetar_sumcheck.specs.Order.{eqPoints, point};
+ghost use Rattle.magnetar_round.specs.Round.{holds, running};
+ghost use Rattle.magnetar_round.specs.Order.{eqPoints, point};
 ghost use Rattle.magnetar_protocol.specs.Proof.{part};
-ghost use Rattle.magnetar_checks.specs.Steps.{check, nothing, nextFound, after, sharedBin, sharedFld, bothChecks, terminalHolds, outerPhases, refusalOf};
+ghost use Rattle.magnetar_protocol.specs.Found.{check, nothing, nextFound, after};
+ghost use Rattle.magnetar_checks.specs.Steps.{sharedBin, sharedFld, bothChecks, terminalHolds, outerPhases, refusalOf};
 ghost use Rattle.magnetar_checks.specs.Outer.{outerFound};
 
 // What was found, and the running claims of both systems.
@@ -123,7 +125,7 @@ fn terminal_holds(
     let a = words::get(proof, i);
     let b = words::get(proof, i + 1);
     let c = words::get(proof, i + 2);
-    engine::outer_finish(claim, e, a, b, c)
+    verify::outer_finish(claim, e, a, b, c)
 }
 
 // Both terminals: the claims of bin and of fld, with the logarithms s, b, f.
@@ -160,8 +162,8 @@ fn terminals(
         proof,
         i + 3,
     );
-    let f1 = found::note(f0, 25, x, events);
-    found::note(f1, 26, y, events)
+    let f1 = first::note(f0, 25, x, events);
+    first::note(f1, 26, y, events)
 }
 
 // The checks of all phases, with the logarithms s, b, f.

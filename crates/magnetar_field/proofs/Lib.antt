@@ -17,12 +17,5 @@ pub mod Log2
 pub mod Mask
 pub mod Elements
 pub mod Tabulation
-pub mod EqTables
 pub mod Doublings
-pub mod Filling
-pub mod Refusals
 pub mod Making
-pub mod Extension
-pub mod Dots
-pub mod Bound
-pub mod Evaluating

@@ -5,8 +5,4 @@ pub mod Refusal
 pub mod Sizes
 pub mod Tabulate
 pub mod Words
-pub mod EqTable
 pub mod Doubling
-pub mod Multilinear
-pub mod Binding
-pub mod Entries

@@ -1,6 +1,4 @@
-// The field GF(2^128) of magnetar: elements, eq tables and multilinear tables, over lent slices of words.
-pub mod eq;
+// The field GF(2^128) of magnetar: elements, their words in lent slices, and sizes.
 pub mod gf128;
-pub mod multilinear;
 pub mod sizes;
 pub mod words;

@@ -24,7 +24,7 @@ pub fn is_power_of_two(n: usize) -> bool
 }
 
 // 2^k.
-pub(crate) fn power_of_two(k: usize) -> usize
+fn power_of_two(k: usize) -> usize
     requires { ⌜ k < 64 ⌝ }
     ensures { λ r. ⌜ r ≡ 2 ^ k ⌝ }
 {

@@ -3,11 +3,11 @@
 ghost use mathlib.Core.Path.{_≡_};
 ghost use Prim.Native.Nat.{_≤_};
 ghost use lib.ListN.{length, take};
-ghost use Rattle.magnetar_field.specs.Entries.{answer};
+ghost use Rattle.magnetar_multilinear.specs.Entries.{answer};
 ghost use Rattle.magnetar_hash.specs.Bytes.{leBytes};
 ghost use Rattle.magnetar_hash.specs.Transcript.{absorbed, fieldAnswer, drawAnswer, drawsAnswer, drawsOut};
-ghost use Rattle.magnetar_r1cs.specs.Matrix.{binary, bitValued};
-ghost use Rattle.magnetar_r1cs.specs.Lent.{matrixOf};
+ghost use Rattle.magnetar_matrix.specs.Matrix.{binary, bitValued};
+ghost use Rattle.magnetar_matrix.specs.Lent.{matrixOf};
 ghost use Rattle.magnetar_r1cs.specs.Entries.{applyRefusal, applyOut, binaryRefusal, flagged, flaggedOf, tableRefusal, tableOut, tableScratch, atAnswer, atScratch, packedRefusal, packedOut};
 ghost use Rattle.magnetar_inplace.specs.Records.{lentOf};
 use magnetar_field::gf128::Evaluated;
@@ -16,9 +16,9 @@ use magnetar_hash::transcript::Transcript;
 use magnetar_hash::transcript::TranscriptAnswer;
 use magnetar_inplace::records;
 use magnetar_inplace::records::Entry;
-use magnetar_inplace::transcript;
-use magnetar_inplace::transcript::Drawn;
 use magnetar_r1cs::r1cs::Flag;
+use magnetar_transcript::transcript;
+use magnetar_transcript::transcript::Drawn;
 
 pub(crate) fn absorb_bytes(t: Transcript, label: &[u8], bytes: &[u8]) -> Transcript
     ensures { λ r. ⌜ r ≡ absorbed t (now (label .entry)) (now (bytes .entry)) ⌝ }

@@ -57,7 +57,7 @@ use Rattle.magnetar_inplace.proofs.records.Entry.Laws as T′
 use Rattle.magnetar_field.specs.declared.gf128.Gf128.{Gf128}
 use Rattle.magnetar_field.proofs.gf128.Gf128 as B
 use Rattle.magnetar_field.proofs.gf128.Gf128.Laws as B′
-use Rattle.magnetar_inplace.proofs.Again.{LentAgain, lends-again, comes-back}
+use Rattle.magnetar_transcript.proofs.Again.{LentAgain, lends-again, comes-back}
 
 abbrev none : Entry
 none = record { row = 0; col = 0; lo = 0; hi = 0 }

@@ -54,7 +54,7 @@ use denote.Triple.Walked.{needs, Stays, stay-none, stay-slice, stay-none-slice, 
 use Rattle.magnetar_inplace.specs.declared.records.Entry.{Entry}
 use Rattle.magnetar_inplace.proofs.records.Entry as T
 use Rattle.magnetar_inplace.proofs.records.Entry.Laws as T′
-use Rattle.magnetar_inplace.proofs.Again.{LentAgain, lends-again, comes-back}
+use Rattle.magnetar_transcript.proofs.Again.{LentAgain, lends-again, comes-back}
 
 abbrev none : Entry
 none = record { row = 0; col = 0; lo = 0; hi = 0 }

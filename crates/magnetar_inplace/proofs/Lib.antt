@@ -1,6 +1,3 @@
-pub mod Again
-pub mod Local
-pub mod Locals
 pub mod StepLaws
 pub mod RecordLaws
 pub mod RecordEnds

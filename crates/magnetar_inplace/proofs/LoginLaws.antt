@@ -17,13 +17,13 @@ use Rattle.magnetar_field.specs.Words.{words}
 use Rattle.magnetar_field.proofs.Xor.{⊕-zero, zero-⊕, ⊕-assoc}
 use Rattle.magnetar_field.proofs.Tabulation.{tabulate-of}
 use Rattle.magnetar_layout.proofs.EveryLaws.{both}
-use Rattle.magnetar_r1cs.specs.Matrix.{Entry, sumOver, rowTotal}
-use Rattle.magnetar_r1cs.specs.Packed.{packedBit, loginPart, loginWords}
-use Rattle.magnetar_r1cs.specs.Sum.{blocks}
-use Rattle.magnetar_r1cs.specs.Table.{addedAt}
-use Rattle.magnetar_r1cs.proofs.LoginParts.{part-ends}
+use Rattle.magnetar_matrix.specs.Matrix.{Entry, sumOver, rowTotal}
+use Rattle.magnetar_matrix.specs.Packed.{packedBit, loginPart, loginWords}
+use Rattle.magnetar_matrix.specs.Sum.{blocks}
+use Rattle.magnetar_matrix.specs.Table.{addedAt}
+use Rattle.magnetar_matrix.proofs.LoginParts.{part-ends}
 use Rattle.magnetar_r1cs.proofs.Split.{z-bit, z-public}
-use Rattle.magnetar_r1cs.proofs.TableLaws.{added-length, added-here, added-there}
+use Rattle.magnetar_matrix.proofs.TableLaws.{added-length, added-here, added-there}
 use Rattle.magnetar_inplace.specs.Steps.{addedTo}
 use Rattle.magnetar_inplace.specs.LoginSteps.{loginZ, inReach, clearedBlocks, addedBlocks, addedLogins, addedPacked}
 use Rattle.magnetar_inplace.proofs.RecordLaws.{one-added, zeros-cleared}

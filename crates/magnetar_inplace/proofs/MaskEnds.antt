@@ -13,12 +13,12 @@ use Rattle.magnetar_layout.specs.Every.{every}
 use Rattle.magnetar_layout.specs.Tests.{noted, Sized}
 use Rattle.magnetar_layout.proofs.Noted.{noted-clear}
 use Rattle.magnetar_layout.proofs.SizeLaws.{not-bad}
-use Rattle.magnetar_r1cs.specs.Matrix.{bitValued}
-use Rattle.magnetar_r1cs.specs.Sum.{blocks}
-use Rattle.magnetar_r1cs.specs.Packed.{unpacked}
+use Rattle.magnetar_matrix.specs.Matrix.{bitValued}
+use Rattle.magnetar_matrix.specs.Sum.{blocks}
+use Rattle.magnetar_matrix.specs.Packed.{unpacked}
 use Rattle.magnetar_r1cs.specs.Masks.{masks}
 use Rattle.magnetar_r1cs.specs.Flips.{flipBlock}
-use Rattle.magnetar_r1cs.specs.Lent.{matrixOf, entriesOf}
+use Rattle.magnetar_matrix.specs.Lent.{matrixOf, entriesOf}
 use Rattle.magnetar_r1cs.specs.Entries.{maskCount, masksRefusal, masksOut}
 use Rattle.magnetar_r1cs.proofs.Flipped.{powers-of, masks-in-front}
 use Rattle.magnetar_inplace.specs.declared.records.Entry.{Entry}

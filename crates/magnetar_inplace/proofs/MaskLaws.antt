@@ -18,10 +18,10 @@ use Rattle.magnetar_field.specs.Tabulate.{tabulate}
 use Rattle.magnetar_field.proofs.Log2.{Log, log₂-is}
 use Rattle.magnetar_field.proofs.Xor.{zero-⊕, ⊕-four}
 use Rattle.magnetar_field.proofs.Tabulation.{tabulate-ext}
-use Rattle.magnetar_r1cs.specs.Matrix.{Entry, sumOver, rowTotal}
-use Rattle.magnetar_r1cs.specs.Packed.{loginPart}
-use Rattle.magnetar_r1cs.specs.Sum.{sumBelow, blocks}
-use Rattle.magnetar_r1cs.specs.Table.{addedAt}
+use Rattle.magnetar_matrix.specs.Matrix.{Entry, sumOver, rowTotal}
+use Rattle.magnetar_matrix.specs.Packed.{loginPart}
+use Rattle.magnetar_matrix.specs.Sum.{sumBelow, blocks}
+use Rattle.magnetar_matrix.specs.Table.{addedAt}
 use Rattle.magnetar_r1cs.specs.Flips.{flip, flipTotal, flipBlock}
 use Rattle.magnetar_r1cs.proofs.Split.{blocks-ext}
 use Rattle.magnetar_inplace.specs.LoginSteps.{inReach}

@@ -14,10 +14,11 @@ use Rattle.magnetar_layout.specs.Every.{every}
 use Rattle.magnetar_layout.specs.Tests.{noted, Sized}
 use Rattle.magnetar_layout.proofs.Noted.{noted-clear}
 use Rattle.magnetar_layout.proofs.SizeLaws.{not-bad}
-use Rattle.magnetar_r1cs.specs.Matrix.{rowTotal, share, times, timesAt, bitValued}
-use Rattle.magnetar_r1cs.specs.Sum.{blocks}
-use Rattle.magnetar_r1cs.specs.Lent.{matrixOf}
-use Rattle.magnetar_r1cs.specs.Entries.{Flagged, flaggedOf, packedRefusal, packedTable, packedOut}
+use Rattle.magnetar_matrix.specs.Matrix.{rowTotal, share, times, timesAt, bitValued}
+use Rattle.magnetar_matrix.specs.Sum.{blocks}
+use Rattle.magnetar_matrix.specs.Lent.{matrixOf}
+use Rattle.magnetar_matrix.specs.Packed.{packedTable}
+use Rattle.magnetar_r1cs.specs.Entries.{Flagged, flaggedOf, packedRefusal, packedOut}
 use Rattle.magnetar_r1cs.proofs.Split.{blocks-ext, assigned}
 use Rattle.magnetar_inplace.specs.declared.records.Entry.{Entry}
 use Rattle.magnetar_inplace.specs.Records.{entriesOfRecords, lentOf}

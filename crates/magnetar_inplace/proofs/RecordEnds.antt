@@ -14,18 +14,18 @@ use Rattle.magnetar_field.specs.Words.{elements, words}
 use Rattle.magnetar_field.specs.Tabulate.{tabulate}
 use Rattle.magnetar_field.specs.Sizes.{log₂}
 use Rattle.magnetar_field.specs.Gf128.{_⊗_}
-use Rattle.magnetar_field.specs.EqTable.{eqTable, eqAt}
-use Rattle.magnetar_field.specs.Entries.{eqRefusal, eqOut, tableWords, Answer, answered}
-use Rattle.magnetar_field.proofs.EqTables.{eqTable-length, eqTable-get}
+use Rattle.magnetar_multilinear.specs.EqTable.{eqTable, eqAt}
+use Rattle.magnetar_multilinear.specs.Entries.{eqRefusal, eqOut, tableWords, Answer, answered}
+use Rattle.magnetar_multilinear.proofs.EqTables.{eqTable-length, eqTable-get}
 use Rattle.magnetar_layout.specs.Every.{every}
 use Rattle.magnetar_layout.specs.Tests.{noted, Sized}
 use Rattle.magnetar_layout.proofs.Noted.{noted-clear}
 use Rattle.magnetar_layout.proofs.EveryLaws.{both}
 use Rattle.magnetar_layout.proofs.SizeLaws.{not-bad}
-use Rattle.magnetar_r1cs.specs.Matrix.{Entry as Cell, rowTotal, sumOver, share, isBit, swapped, times, timesAt, transpose, mleTable, mleAt, binary}
-use Rattle.magnetar_r1cs.specs.Lent.{matrixOf}
+use Rattle.magnetar_matrix.specs.Matrix.{Entry as Cell, rowTotal, sumOver, share, isBit, swapped, times, timesAt, transpose, mleTable, mleAt, binary}
+use Rattle.magnetar_matrix.specs.Lent.{matrixOf}
 use Rattle.magnetar_r1cs.specs.Entries.{Flagged, flaggedOf, binaryRefusal, applyRefusal, applyOut, tableRefusal, tableOut, tableScratch, atRefusal, atAnswer, atScratch}
-use Rattle.magnetar_r1cs.specs.Table.{Point}
+use Rattle.magnetar_matrix.specs.Table.{Point}
 use Rattle.magnetar_r1cs.proofs.Lone.{inside, sum-ext}
 use Rattle.magnetar_r1cs.proofs.Points.{point-of, point-size}
 use Rattle.magnetar_inplace.specs.declared.records.Entry.{Entry}

@@ -15,14 +15,14 @@ use Rattle.magnetar_field.proofs.Elements.{words-elements}
 use Rattle.magnetar_layout.specs.Every.{every}
 use Rattle.magnetar_layout.specs.Tests.{Tests, note, noted, allBelow, loneTests, batchTests}
 use Rattle.magnetar_layout.proofs.Noted.{note-kept}
-use Rattle.magnetar_r1cs.specs.Matrix as matrix
-use Rattle.magnetar_r1cs.specs.Matrix.{rowTotal, sumOver}
+use Rattle.magnetar_matrix.specs.Matrix as matrix
+use Rattle.magnetar_matrix.specs.Matrix.{rowTotal, sumOver}
 use Rattle.magnetar_field.specs.Gf128.{_⊕_}
 use Rattle.magnetar_field.proofs.Xor.{⊕-zero, ⊕-assoc}
-use Rattle.magnetar_r1cs.specs.Lent.{entriesOf, matrixOf}
-use Rattle.magnetar_r1cs.specs.Table.{addedAt, raised}
-use Rattle.magnetar_r1cs.proofs.TableLaws.{elements-words, added-length, raised-length, raised-get, raised-is, raised-zeros}
-use Rattle.magnetar_r1cs.proofs.Walked.{walked-start, walked-more, walked-end}
+use Rattle.magnetar_matrix.specs.Lent.{entriesOf, matrixOf}
+use Rattle.magnetar_matrix.specs.Table.{addedAt, raised}
+use Rattle.magnetar_matrix.proofs.TableLaws.{elements-words, added-length, raised-length, raised-get, raised-is, raised-zeros}
+use Rattle.magnetar_matrix.proofs.Walked.{walked-start, walked-more, walked-end}
 use Rattle.magnetar_inplace.specs.declared.records.Entry.{Entry}
 use Rattle.magnetar_inplace.specs.Records.{entryOf, entriesOfRecords, lentOf}
 use Rattle.magnetar_inplace.specs.LoginSteps.{packedBatchTests}

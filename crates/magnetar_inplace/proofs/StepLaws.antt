@@ -9,7 +9,7 @@ use lib.Seq.{take-all}
 use borrow.Author.Tests.{le-leb, lt-leb}
 use borrow.Rule.Slice.PartMut.{putMid}
 use Rattle.magnetar_field.specs.Words.{elements}
-use Rattle.magnetar_field.specs.Entries.{eqOut}
+use Rattle.magnetar_multilinear.specs.Entries.{eqOut}
 use Rattle.magnetar_inplace.specs.Steps.{front, between, builtBehind, clearedTo}
 
 -- what lies from k on

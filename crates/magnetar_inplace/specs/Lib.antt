@@ -1,4 +1,3 @@
-pub mod Drawn
 pub mod Records
 pub mod Steps
 pub mod LoginSteps

@@ -7,8 +7,8 @@ use Prim.Native.Nat.{ℕ, zero, suc, _+_, _-_, _*_}
 use lib.Dec.{eqb, ltb, leb}
 use Rattle.magnetar_field.specs.Tabulate.{tabulate}
 use Rattle.magnetar_layout.specs.Tests.{Tests, sizeTests, rowsTests, colsTests, countTests}
-use Rattle.magnetar_r1cs.specs.Matrix.{Entry, isBit}
-use Rattle.magnetar_r1cs.specs.Packed.{packedBit, loginPart, loginWords}
+use Rattle.magnetar_matrix.specs.Matrix.{Entry, isBit}
+use Rattle.magnetar_matrix.specs.Packed.{packedBit, loginPart, loginWords}
 use Rattle.magnetar_inplace.specs.Steps.{clearedTo, addedTo}
 
 -- z = (w, 1, x) of login u of the packed words ws

@@ -7,10 +7,10 @@ use lib.Dec.{eqb, ltb, leb}
 use lib.ListN.{length, drop, replicate}
 use Rattle.magnetar_field.specs.Sizes.{log₂}
 use Rattle.magnetar_layout.specs.Tests.{Tests, sizeTests, rowsTests, colsTests, countTests}
-use Rattle.magnetar_r1cs.specs.Matrix.{Entry}
-use Rattle.magnetar_r1cs.specs.Packed.{loginPart, loginWords}
-use Rattle.magnetar_r1cs.specs.Sum.{sumBelow}
-use Rattle.magnetar_r1cs.specs.Table.{addedAt}
+use Rattle.magnetar_matrix.specs.Matrix.{Entry}
+use Rattle.magnetar_matrix.specs.Packed.{loginPart, loginWords}
+use Rattle.magnetar_matrix.specs.Sum.{sumBelow}
+use Rattle.magnetar_matrix.specs.Table.{addedAt}
 use Rattle.magnetar_r1cs.specs.Flips.{flip}
 use Rattle.magnetar_inplace.specs.LoginSteps.{inReach}
 

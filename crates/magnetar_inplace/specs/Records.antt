@@ -2,8 +2,8 @@
 -- Assumes nothing.
 use mathlib.Core.List.{List, map}
 use Prim.Native.Nat.{ℕ}
-use Rattle.magnetar_r1cs.specs.Matrix as matrix
-use Rattle.magnetar_r1cs.specs.Lent.{Lent, lent, entry}
+use Rattle.magnetar_matrix.specs.Matrix as matrix
+use Rattle.magnetar_matrix.specs.Lent.{Lent, lent, entry}
 use Rattle.magnetar_inplace.specs.declared.records.Entry.{Entry}
 
 -- the entry that a record is

@@ -9,10 +9,10 @@ use lib.ListN.{length, getD, take, drop, replicate}
 use Rattle.magnetar_field.specs.Gf128.{_⊗_}
 use Rattle.magnetar_field.specs.Sizes.{log₂}
 use Rattle.magnetar_field.specs.Words.{elements, words}
-use Rattle.magnetar_field.specs.Entries.{eqOut}
+use Rattle.magnetar_multilinear.specs.Entries.{eqOut}
 use Rattle.magnetar_layout.specs.Tests.{Tests, columnTests, rowTests, countTests}
-use Rattle.magnetar_r1cs.specs.Matrix.{Entry}
-use Rattle.magnetar_r1cs.specs.Table.{addedAt}
+use Rattle.magnetar_matrix.specs.Matrix.{Entry}
+use Rattle.magnetar_matrix.specs.Table.{addedAt}
 
 -- the entry lies inside n rows and m columns
 abbrev pub liesIn : ℕ → ℕ → Entry → Bool

@@ -7,8 +7,8 @@ ghost use lib.ListN.{getD};
 ghost use Rattle.magnetar_field.specs.Gf128.{value};
 ghost use Rattle.magnetar_field.specs.Words.{elements};
 ghost use Rattle.magnetar_layout.specs.Tests.{noted};
-ghost use Rattle.magnetar_r1cs.specs.Matrix.{share};
-ghost use Rattle.magnetar_r1cs.specs.Packed.{packedBit, loginPart};
+ghost use Rattle.magnetar_matrix.specs.Matrix.{share};
+ghost use Rattle.magnetar_matrix.specs.Packed.{packedBit, loginPart};
 ghost use Rattle.magnetar_inplace.specs.Records.{entryOf};
 ghost use Rattle.magnetar_inplace.specs.Steps.{addedTo};
 ghost use Rattle.magnetar_inplace.specs.LoginSteps.{loginZ, bitUpTo, inReach, packedBatchTests, clearedBlocks, addedBlocks, addedLogins, packedRoomTests};
@@ -18,8 +18,8 @@ use magnetar_field::gf128;
 use magnetar_field::gf128::Gf128;
 use magnetar_field::words;
 use magnetar_layout::tests;
+use magnetar_matrix::step;
 use magnetar_r1cs::r1cs;
-use magnetar_r1cs::walk;
 
 // Carries a flag on where the record's value is 0 or 1 and its column does not exceed w.
 pub(crate) fn has_bit_upto(acc: bool, w: usize, e: Entry) -> bool
@@ -120,7 +120,7 @@ pub(crate) fn add_login(
     let v = Gf128 { lo: e.lo, hi: e.hi };
     let f = z_at(packed, x, w, u, e.col);
     let at = u * n + e.row;
-    steps::add_to(k, at, walk::scale(f, v), out);
+    steps::add_to(k, at, step::scale(f, v), out);
 }
 
 // Adds a record's shares of the products of q logins.

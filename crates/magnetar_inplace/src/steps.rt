@@ -7,22 +7,22 @@ ghost use lib.ListN.{take};
 ghost use Prim.Native.Nat.{_+_, _*_};
 ghost use Rattle.magnetar_field.specs.Gf128.{value, _⊕_};
 ghost use Rattle.magnetar_field.specs.Words.{elements};
-ghost use Rattle.magnetar_field.specs.Entries.{eqOut, answer, answered};
+ghost use Rattle.magnetar_multilinear.specs.Entries.{eqOut, answer, answered};
 ghost use Rattle.magnetar_layout.specs.Tests.{noted};
-ghost use Rattle.magnetar_r1cs.specs.Matrix.{share, isBit, swapped};
+ghost use Rattle.magnetar_matrix.specs.Matrix.{share, isBit, swapped};
 ghost use Rattle.magnetar_r1cs.specs.Entries.{flaggedOf, flagged};
 ghost use Rattle.magnetar_inplace.specs.Records.{entryOf};
 ghost use Rattle.magnetar_inplace.specs.Steps.{liesIn, loneOf, recordTests6, applyTests, tableTests, atTests, clearedTo, addedTo, front, between, builtBehind, pairShare};
 use crate::records::Entry;
-use magnetar_field::eq::EqBits;
 use magnetar_field::gf128;
 use magnetar_field::gf128::Evaluated;
 use magnetar_field::gf128::Gf128;
 use magnetar_field::sizes;
 use magnetar_field::words;
 use magnetar_layout::tests;
+use magnetar_matrix::step;
+use magnetar_multilinear::eq::EqBits;
 use magnetar_r1cs::r1cs::Flag;
-use magnetar_r1cs::walk;
 
 // Carries a flag on where the record lies inside its matrix.
 pub(crate) fn lies_in(acc: bool, rows: usize, cols: usize, e: Entry) -> bool
@@ -152,7 +152,7 @@ pub fn add_to(n: usize, k: usize, v: Gf128, out: &mut [u64])
 {
     if n <= out.len() / 2 {
         let end = 2 * n;
-        walk::add_at(&mut out[..end], k, v);
+        step::add_at(&mut out[..end], k, v);
     }
 }
 
@@ -161,7 +161,7 @@ pub(crate) fn add_share(n: usize, z: &[u64], out: &mut [u64], e: Entry)
     ensures { λ _. ⌜ now (out .exit) ≡ addedTo n (e .row) (share (elements (now (z .entry))) (entryOf e)) (now (out .entry)) ⌝ }
 {
     let v = Gf128 { lo: e.lo, hi: e.hi };
-    add_to(n, e.row, walk::scale(v, words::get(z, e.col)), out);
+    add_to(n, e.row, step::scale(v, words::get(z, e.col)), out);
 }
 
 // The refusals of `eval_mle_table`, for a point of p words, room of out words and scratch of s words.
@@ -264,7 +264,7 @@ pub(crate) fn add_column(m: usize, n: usize, s: &mut [u64], out: &mut [u64], e: 
         × (now (out .exit) ≡ addedTo m (e .col) (share (elements (take (2 * n) (now (s .entry)))) (swapped (entryOf e))) (now (out .entry))) ⌝ }
 {
     let v = Gf128 { lo: e.lo, hi: e.hi };
-    add_to(m, e.col, walk::scale(v, get_front(n, s, e.row)), out);
+    add_to(m, e.col, step::scale(v, get_front(n, s, e.row)), out);
 }
 
 // Adds a record's value times the factors at its row, of the first n elements, and at its column, of the m behind them.
@@ -274,7 +274,7 @@ pub(crate) fn add_pair(acc: Gf128, n: usize, m: usize, s: &mut [u64], e: Entry) 
     let v = Gf128 { lo: e.lo, hi: e.hi };
     let a = get_front(n, s, e.row);
     let b = get_between(n, m, s, e.col);
-    gf128::add(acc, walk::scale(v, gf128::mul(a, b)))
+    gf128::add(acc, step::scale(v, gf128::mul(a, b)))
 }
 
 // The element 0.

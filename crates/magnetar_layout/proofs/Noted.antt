@@ -11,7 +11,7 @@ use Rattle.magnetar_field.specs.Refusal.{unlessRefused}
 use Rattle.magnetar_field.specs.declared.gf128.Gf128.{Gf128}
 use Rattle.magnetar_field.specs.declared.gf128.Evaluated.the-variants.{Value, Refused}
 use Rattle.magnetar_field.specs.Gf128.{value}
-use Rattle.magnetar_field.specs.Entries.{answer, answered}
+use Rattle.magnetar_multilinear.specs.Entries.{answer, answered}
 use Rattle.magnetar_layout.proofs.EveryLaws.{both}
 use Rattle.magnetar_layout.specs.Tests.{Tests, note, noted}
 

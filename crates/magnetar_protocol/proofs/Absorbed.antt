@@ -10,7 +10,7 @@ use borrow.Author.Tests.{ltb-true, ltb-false}
 use lib.Dec.{ltb}
 use lib.ListN.{length, replicate}
 use Rattle.magnetar_hash.specs.Bytes.{ascii}
-use Rattle.magnetar_r1cs.specs.Batch.{Relation}
+use Rattle.magnetar_matrix.specs.Batch.{Relation}
 use Rattle.magnetar_theory.specs.Absorbed.{absorbedCount}
 use Rattle.magnetar_protocol.specs.Shape.{logLogins, logBin, logFld, logCols, beforeTerminals, beforeInner, beforeEnd, proofElements}
 use Rattle.magnetar_protocol.specs.Draws.{drawCount}

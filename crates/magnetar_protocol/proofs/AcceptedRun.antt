@@ -8,13 +8,13 @@ use native.Mathlib.Omega.{arith}
 use lib.ListN.{length, getD, take, drop, length-drop}
 use lib.Seq.{getD-drop}
 use Rattle.magnetar_field.specs.Gf128.{_⊕_, _⊗_}
-use Rattle.magnetar_field.specs.Multilinear.{mle}
-use Rattle.magnetar_sumcheck.specs.Order.{eqPoints}
-use Rattle.magnetar_sumcheck.specs.Outer.{outerEnd}
-use Rattle.magnetar_sumcheck.specs.Inner.{innerEnd}
-use Rattle.magnetar_sumcheck.proofs.Verifier.{passes-checks, running-is}
-use Rattle.magnetar_sumcheck.proofs.Protocol.{element-mle, element-eqPoints}
-use Rattle.magnetar_r1cs.specs.Batch.{Relation}
+use Rattle.magnetar_multilinear.specs.Multilinear.{mle}
+use Rattle.magnetar_round.specs.Order.{eqPoints}
+use Rattle.magnetar_round.specs.Outer.{outerEnd}
+use Rattle.magnetar_round.specs.Inner.{innerEnd}
+use Rattle.magnetar_round.proofs.Verifier.{passes-checks, running-is}
+use Rattle.magnetar_round.proofs.Protocol.{element-mle, element-eqPoints}
+use Rattle.magnetar_matrix.specs.Batch.{Relation}
 use Rattle.magnetar_theory.specs.SumCheck.{Checks, running as runningE}
 use Rattle.magnetar_theory.specs.EqTable.{eqTable as eqTableE, dot as dotE, eqProduct}
 use Rattle.magnetar_theory.specs.Run.{Accepted, terminals as terminalsE, segSum, combo, inner}

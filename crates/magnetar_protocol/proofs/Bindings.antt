@@ -16,19 +16,19 @@ use lib.Seq.{length-take-le, getD-take, getD-drop}
 use Rattle.magnetar_field.specs.Gf128.{_⊕_, _⊗_}
 use Rattle.magnetar_field.specs.Tabulate.{tabulate}
 use Rattle.magnetar_field.specs.Doubling.{doubled}
-use Rattle.magnetar_field.specs.EqTable.{eqAt, eqTable}
-use Rattle.magnetar_field.specs.Multilinear.{dot, mle, line, insertZero, bindVar}
+use Rattle.magnetar_multilinear.specs.EqTable.{eqAt, eqTable}
+use Rattle.magnetar_multilinear.specs.Multilinear.{dot, mle, line, insertZero, bindVar}
 use Rattle.magnetar_field.proofs.Xor.{xor, ⊕-lt, ⊕-four, ⊕-zero, ⊕-comm, ⊕-assoc}
 use Rattle.magnetar_field.proofs.Product.{⊗-comm, ⊗-left-comm, ⊗-⊕, ⊗-lt}
 use Rattle.magnetar_field.proofs.Tabulation.{tabulate-length, tabulate-get, tabulate-out, tabulate-ext}
-use Rattle.magnetar_field.proofs.Extension.{mle-snoc, mle-nil, dot-nil}
+use Rattle.magnetar_multilinear.proofs.Extension.{mle-snoc, mle-nil, dot-nil}
 use Rattle.magnetar_field.proofs.Polynomial.{AllBelow}
-use Rattle.magnetar_field.proofs.EqTables.{eqTable-length, eqTable-get, scaled-one, scaled-cons}
-use Rattle.magnetar_field.proofs.Evaluating.{bindVar-length}
-use Rattle.magnetar_sumcheck.specs.Order.{nextVar, fewer}
-use Rattle.magnetar_sumcheck.specs.Messages.{Outer, outerStart, outerVar, outerFold}
-use Rattle.magnetar_r1cs.specs.Sum.{sumBelow}
-use Rattle.magnetar_r1cs.specs.Batch.{Batch, bitOf, foldedAt, folded, claimValue}
+use Rattle.magnetar_multilinear.proofs.EqTables.{eqTable-length, eqTable-get, scaled-one, scaled-cons}
+use Rattle.magnetar_multilinear.proofs.Evaluating.{bindVar-length}
+use Rattle.magnetar_round.specs.Order.{nextVar, fewer}
+use Rattle.magnetar_round.specs.Messages.{Outer, outerStart, outerVar, outerFold}
+use Rattle.magnetar_matrix.specs.Sum.{sumBelow}
+use Rattle.magnetar_matrix.specs.Batch.{Batch, bitOf, foldedAt, folded, claimValue}
 use Rattle.magnetar_protocol.specs.RunSizes.{Elements}
 use Rattle.magnetar_protocol.proofs.ClaimValues.{sum-times}
 use Rattle.magnetar_protocol.proofs.HonestBelow.{tabulate-below, sum-lt}

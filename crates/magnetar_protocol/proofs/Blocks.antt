@@ -10,9 +10,9 @@ use lib.Dec.{eqb, lit<}
 use lib.ListN.{length, drop}
 use borrow.Author.Tests.{ne-eqb}
 use Rattle.magnetar_field.specs.Gf128.{_⊕_, _⊗_}
-use Rattle.magnetar_field.specs.EqTable.{eqAt}
-use Rattle.magnetar_field.specs.Multilinear.{mle}
-use Rattle.magnetar_r1cs.specs.Batch.{Relation}
+use Rattle.magnetar_multilinear.specs.EqTable.{eqAt}
+use Rattle.magnetar_multilinear.specs.Multilinear.{mle}
+use Rattle.magnetar_matrix.specs.Batch.{Relation}
 use Rattle.magnetar_layout.specs.Layout.{localVars, suffix}
 use Rattle.magnetar_protocol.specs.Shape.{logLogins}
 use Rattle.magnetar_protocol.specs.Proof.{binMessages, fldMessages, valueZ, segmentValues}

@@ -6,7 +6,7 @@ use Prim.Native.Nat.{ℕ, _+_, _-_, _<_}
 use native.Mathlib.Omega.{arith}
 use lib.ListN.{length, getD, take, drop, length-append, length-reverse}
 use lib.Seq.{take-at, drop-at, drop-drop}
-use Rattle.magnetar_r1cs.specs.Batch.{Relation, Batch, claimValue}
+use Rattle.magnetar_matrix.specs.Batch.{Relation, Batch, claimValue}
 use Rattle.magnetar_layout.specs.Layout.{offset, localVars}
 use Rattle.magnetar_protocol.specs.Shape.{logLogins, logCols}
 use Rattle.magnetar_protocol.specs.Draws.{Draws, loginPoint, lowPoint}

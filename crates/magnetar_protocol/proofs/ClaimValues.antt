@@ -8,18 +8,18 @@ use lib.ListN.{length, getD, take, drop, length-map, length-drop}
 use lib.Seq.{getD-take, getD-drop, length-take-le}
 use Rattle.magnetar_field.specs.Gf128.{_⊕_, _⊗_}
 use Rattle.magnetar_field.specs.Sizes.{log₂}
-use Rattle.magnetar_field.specs.EqTable.{eqAt, eqTable}
+use Rattle.magnetar_multilinear.specs.EqTable.{eqAt, eqTable}
 use Rattle.magnetar_field.proofs.Product.{⊗-⊕, ⊗-zero}
-use Rattle.magnetar_field.proofs.EqTables.{eqTable-length, eqTable-get}
-use Rattle.magnetar_r1cs.specs.Sum.{sumBelow}
-use Rattle.magnetar_r1cs.specs.Batch.{Batch, bitOf, claimValue}
+use Rattle.magnetar_multilinear.proofs.EqTables.{eqTable-length, eqTable-get}
+use Rattle.magnetar_matrix.specs.Sum.{sumBelow}
+use Rattle.magnetar_matrix.specs.Batch.{Batch, bitOf, claimValue}
 use Rattle.magnetar_theory.specs.EqTable.{eqTable as eqTableE, dot as dotE}
 use Rattle.magnetar_theory.specs.Segment.{Segment}
 use Rattle.magnetar_theory.specs.Gf128.{Element, element, sum, product, gf128}
 use Rattle.magnetar_theory.proofs.Gf128.{element-⊗}
-use Rattle.magnetar_sumcheck.specs.Sum.{sumTo}
-use Rattle.magnetar_sumcheck.proofs.OuterRound.{sumF}
-use Rattle.magnetar_sumcheck.proofs.OuterRun.{element-eqTable, element-sum}
+use Rattle.magnetar_round.specs.Sum.{sumTo}
+use Rattle.magnetar_round.proofs.OuterRound.{sumF}
+use Rattle.magnetar_round.proofs.OuterRun.{element-eqTable, element-sum}
 use Rattle.magnetar_protocol.specs.Theory.{els, batchE, segmentsE}
 use Rattle.magnetar_protocol.proofs.Elements.{els-at}
 

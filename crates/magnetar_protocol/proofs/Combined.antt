@@ -5,10 +5,10 @@ use mathlib.Core.List.{List, [], _∷_, map}
 use Prim.Native.Nat.{ℕ, zero, suc, _^_, _<_}
 use lib.ListN.{length, getD, replicate, length-map}
 use lib.Seq.{ext-getD}
-use Rattle.magnetar_field.specs.Multilinear.{dot}
+use Rattle.magnetar_multilinear.specs.Multilinear.{dot}
 use Rattle.magnetar_field.proofs.Tabulation.{tabulate-length, tabulate-get}
-use Rattle.magnetar_r1cs.specs.Matrix.{Matrix, mleTable}
-use Rattle.magnetar_r1cs.specs.Batch.{Relation}
+use Rattle.magnetar_matrix.specs.Matrix.{Matrix, mleTable}
+use Rattle.magnetar_matrix.specs.Batch.{Relation}
 use Rattle.magnetar_theory.specs.SumCheck.{addPoly}
 use Rattle.magnetar_theory.specs.EqTable.{eqTable as eqTableE, dot as dotE, scale}
 use Rattle.magnetar_theory.specs.Matrix.{fold, columns}
@@ -16,7 +16,7 @@ use Rattle.magnetar_theory.specs.Run.{six, combo}
 use Rattle.magnetar_theory.specs.Gf128.{Element, element, sum, gf128}
 use Rattle.magnetar_theory.proofs.Gf128.{gf128Laws}
 use Rattle.magnetar_theory.proofs.Matrix.{length-fold, length-columns}
-use Rattle.magnetar_sumcheck.proofs.EqPairs.{getD-scale}
+use Rattle.magnetar_round.proofs.EqPairs.{getD-scale}
 use Rattle.magnetar_protocol.specs.Theory.{els, logHalf, entriesE, relationE}
 use Rattle.magnetar_protocol.specs.Draws.{Draws}
 use Rattle.magnetar_protocol.specs.Checks.{combined}

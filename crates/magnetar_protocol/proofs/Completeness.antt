@@ -5,7 +5,7 @@ use mathlib.Core.List.{List, _++_}
 use Prim.Native.Nat.{ℕ}
 use lib.ListN.{length}
 use Rattle.magnetar_field.proofs.Tabulation.{tabulate-get}
-use Rattle.magnetar_r1cs.specs.Batch.{Relation, Batch, Good}
+use Rattle.magnetar_matrix.specs.Batch.{Relation, Batch, Good}
 use Rattle.magnetar_theory.specs.Run.{Accepted, Words}
 use Rattle.magnetar_theory.specs.Gf128.{gf128}
 use Rattle.magnetar_theory.proofs.Whole.{complete}

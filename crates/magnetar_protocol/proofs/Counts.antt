@@ -17,8 +17,8 @@ use Rattle.magnetar_hash.specs.Parts.{sha3Domain}
 use Rattle.magnetar_hash.specs.declared.transcript.Transcript.{Transcript}
 use Rattle.magnetar_hash.specs.Transcript.{element, drawn}
 use Rattle.magnetar_hash.proofs.Squeeze.{length-squeezed, get-squeezed}
-use Rattle.magnetar_r1cs.specs.Batch.{Relation}
-use Rattle.magnetar_r1cs.proofs.Digits.{value-lt}
+use Rattle.magnetar_matrix.specs.Batch.{Relation}
+use Rattle.magnetar_matrix.proofs.Digits.{value-lt}
 use Rattle.magnetar_protocol.specs.Proof.{part}
 use Rattle.magnetar_protocol.specs.Draws.{drawCount}
 use Rattle.magnetar_protocol.specs.Schedule.{Event, absorb, draw, rounds, singles, schedule, afterInner}

@@ -6,7 +6,7 @@ use Prim.Native.Nat.{ℕ, zero, suc, _^_, _<_}
 use lib.ListN.{getD, take, drop, List·getD-map}
 use lib.Pow.{pow-pos}
 use Rattle.magnetar_field.specs.Gf128.{_⊗_}
-use Rattle.magnetar_field.specs.Multilinear.{dot}
+use Rattle.magnetar_multilinear.specs.Multilinear.{dot}
 use Rattle.magnetar_field.proofs.Product.{⊗-lt}
 use Rattle.magnetar_field.proofs.Xor.{⊕-lt}
 use Rattle.magnetar_theory.specs.EqTable.{dot as dotE}

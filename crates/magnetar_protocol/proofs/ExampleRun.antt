@@ -11,8 +11,8 @@ use lib.ListN.{length, getD}
 use Rattle.magnetar_field.specs.Gf128.{_⊕_, _⊗_, sumTimes, timesX}
 use Rattle.magnetar_field.specs.Sizes.{log₂, halvings}
 use Rattle.magnetar_layout.specs.Every.{every}
-use Rattle.magnetar_r1cs.specs.Matrix.{sumOver, rowTotal, share, timesAt}
-use Rattle.magnetar_r1cs.specs.Batch.{bitOf, assignment, Satisfied, Good}
+use Rattle.magnetar_matrix.specs.Matrix.{sumOver, rowTotal, share, timesAt}
+use Rattle.magnetar_matrix.specs.Batch.{bitOf, assignment, Satisfied, Good}
 use Rattle.magnetar_layout.specs.Layout.{nextMultiple, offsetsFrom, offsets, endFrom, layoutEnd, isLength, within, outside}
 use Rattle.magnetar_protocol.specs.Run.{ClaimsTrue}
 use Rattle.magnetar_protocol.specs.RunSizes.{SizedRelation, SizedBatch, SizedRun}

@@ -8,17 +8,17 @@ use Rattle.magnetar_field.specs.Gf128.{_⊕_, _⊗_, sumTimes, timesX}
 use Rattle.magnetar_field.specs.Sizes.{log₂, halvings}
 use Rattle.magnetar_field.specs.Tabulate.{tabulate}
 use Rattle.magnetar_field.specs.Polynomial.{eval}
-use Rattle.magnetar_field.specs.EqTable.{eqFactor, eqAt, eqTable}
-use Rattle.magnetar_field.specs.Multilinear.{dot, mle, line, insertZero, bindVar}
-use Rattle.magnetar_sumcheck.specs.Sum.{sumTo, total}
-use Rattle.magnetar_sumcheck.specs.Round.{checkSum, holds, running}
-use Rattle.magnetar_sumcheck.specs.Order.{eqPoints, nextVar, at₀, at₁, slope}
-use Rattle.magnetar_sumcheck.specs.Outer.{outerEnd, coefficient₀, coefficient₁, coefficient₂, weighted, timesEq, outerMessage, dropVar}
-use Rattle.magnetar_sumcheck.specs.Inner.{innerEnd, innerSums, innerMessage}
-use Rattle.magnetar_sumcheck.specs.Messages.{outerNext, outerFold, outerStart, outerMessages, innerMessages}
-use Rattle.magnetar_r1cs.specs.Sum.{sumBelow, blocks}
-use Rattle.magnetar_r1cs.specs.Matrix.{Matrix, System, sumOver, rowTotal, share, timesAt, times, transpose, mleTable}
-use Rattle.magnetar_r1cs.specs.Batch.{Relation, bitOf, assignment, foldedAt, folded, claimValue}
+use Rattle.magnetar_multilinear.specs.EqTable.{eqFactor, eqAt, eqTable}
+use Rattle.magnetar_multilinear.specs.Multilinear.{dot, mle, line, insertZero, bindVar}
+use Rattle.magnetar_round.specs.Sum.{sumTo, total}
+use Rattle.magnetar_round.specs.Round.{checkSum, holds, running}
+use Rattle.magnetar_round.specs.Order.{eqPoints, nextVar, at₀, at₁, slope}
+use Rattle.magnetar_round.specs.Outer.{outerEnd, coefficient₀, coefficient₁, coefficient₂, weighted, timesEq, outerMessage, dropVar}
+use Rattle.magnetar_round.specs.Inner.{innerEnd, innerSums, innerMessage}
+use Rattle.magnetar_round.specs.Messages.{outerNext, outerFold, outerStart, outerMessages, innerMessages}
+use Rattle.magnetar_matrix.specs.Sum.{sumBelow, blocks}
+use Rattle.magnetar_matrix.specs.Matrix.{Matrix, System, sumOver, rowTotal, share, timesAt, times, transpose, mleTable}
+use Rattle.magnetar_matrix.specs.Batch.{Relation, bitOf, assignment, foldedAt, folded, claimValue}
 use Rattle.magnetar_layout.specs.Layout.{nextMultiple, offsetsFrom, offsets}
 use Rattle.magnetar_protocol.specs.Shape.{proofElements}
 use Rattle.magnetar_protocol.specs.Proof.{binMessages, fldMessages, terminals, innerRounds, valueZ, segmentValues}

@@ -10,8 +10,8 @@ use Rattle.magnetar_field.specs.Gf128.{_⊕_, _⊗_}
 use Rattle.magnetar_field.specs.Sizes.{log₂}
 use Rattle.magnetar_field.proofs.Xor.{⊕-lt, ⊕-self, eq-of-⊕}
 use Rattle.magnetar_field.proofs.Product.{⊗-lt}
-use Rattle.magnetar_r1cs.specs.Matrix.{System, timesAt}
-use Rattle.magnetar_r1cs.specs.Batch.{Relation, Batch, assignment, Satisfied, Good}
+use Rattle.magnetar_matrix.specs.Matrix.{System, timesAt}
+use Rattle.magnetar_matrix.specs.Batch.{Relation, Batch, assignment, Satisfied, Good}
 use Rattle.magnetar_theory.specs.Tau.{Zeros}
 use Rattle.magnetar_theory.specs.Matrix.{apply, applyAll}
 use Rattle.magnetar_theory.specs.Outer.{rowValues}

@@ -5,15 +5,15 @@ use Prim.Native.Nat.{ℕ, zero, suc, _^_, _<_}
 use lib.ListN.{length, getD, take, drop}
 use lib.Pow.{pow-pos}
 use Rattle.magnetar_field.specs.Tabulate.{tabulate}
-use Rattle.magnetar_field.specs.Multilinear.{mle}
+use Rattle.magnetar_multilinear.specs.Multilinear.{mle}
 use Rattle.magnetar_field.proofs.Polynomial.{AllBelow}
 use Rattle.magnetar_field.proofs.Product.{⊗-lt}
 use Rattle.magnetar_field.proofs.Xor.{⊕-lt}
-use Rattle.magnetar_sumcheck.specs.Messages.{innerMessages}
-use Rattle.magnetar_sumcheck.proofs.Verifier.{MessagesBelow}
-use Rattle.magnetar_sumcheck.proofs.Protocol.{outer-below, inner-below}
-use Rattle.magnetar_r1cs.specs.Sum.{sumBelow}
-use Rattle.magnetar_r1cs.specs.Batch.{Relation, Batch, claimValue}
+use Rattle.magnetar_round.specs.Messages.{innerMessages}
+use Rattle.magnetar_round.proofs.Verifier.{MessagesBelow}
+use Rattle.magnetar_round.proofs.Protocol.{outer-below, inner-below}
+use Rattle.magnetar_matrix.specs.Sum.{sumBelow}
+use Rattle.magnetar_matrix.specs.Batch.{Relation, Batch, claimValue}
 use Rattle.magnetar_protocol.specs.Shape.{logLogins}
 use Rattle.magnetar_protocol.specs.Draws.{Draws}
 use Rattle.magnetar_protocol.specs.Checks.{combined}

@@ -8,13 +8,13 @@ use native.Mathlib.Omega.{arith}
 use lib.ListN.{length, getD, take, drop, length-append, length-drop, take-append-drop, List·getD-append}
 use lib.Seq.{drop-at, getD-drop, length-take-le}
 use Rattle.magnetar_field.specs.Tabulate.{tabulate}
-use Rattle.magnetar_field.specs.Multilinear.{mle}
+use Rattle.magnetar_multilinear.specs.Multilinear.{mle}
 use Rattle.magnetar_field.proofs.Tabulation.{tabulate-length}
-use Rattle.magnetar_sumcheck.specs.Outer.{outerMessage, timesEq}
-use Rattle.magnetar_sumcheck.specs.Inner.{innerMessage, innerSums}
-use Rattle.magnetar_sumcheck.specs.Messages.{Outer, outerNext, outerFold, outerMessages, innerMessages}
-use Rattle.magnetar_field.specs.Multilinear.{bindVar}
-use Rattle.magnetar_r1cs.specs.Batch.{Relation, Batch}
+use Rattle.magnetar_round.specs.Outer.{outerMessage, timesEq}
+use Rattle.magnetar_round.specs.Inner.{innerMessage, innerSums}
+use Rattle.magnetar_round.specs.Messages.{Outer, outerNext, outerFold, outerMessages, innerMessages}
+use Rattle.magnetar_multilinear.specs.Multilinear.{bindVar}
+use Rattle.magnetar_matrix.specs.Batch.{Relation, Batch}
 use Rattle.magnetar_protocol.specs.Shape.{logLogins, logBin, logFld, logCols, beforeTerminals, beforeInner, beforeEnd, proofElements}
 use Rattle.magnetar_protocol.specs.Proof.{part, binMessages, fldMessages, terminal, innerRounds, valueZ, segmentValues}
 use Rattle.magnetar_protocol.specs.Draws.{Draws}

@@ -8,15 +8,15 @@ use lib.ListN.{length, getD, length-append, length-map}
 use lib.Dec.{lit<}
 use lib.Pow.{pow-add}
 use Rattle.magnetar_field.specs.Sizes.{log₂}
-use Rattle.magnetar_field.specs.Multilinear.{mle}
+use Rattle.magnetar_multilinear.specs.Multilinear.{mle}
 use Rattle.magnetar_field.proofs.Tabulation.{tabulate-get}
-use Rattle.magnetar_sumcheck.specs.Messages.{Outer, outerStart, innerMessages}
-use Rattle.magnetar_sumcheck.proofs.OuterRun as O
-use Rattle.magnetar_sumcheck.proofs.OuterRun.{start-stands}
-use Rattle.magnetar_sumcheck.proofs.InnerRun as I
-use Rattle.magnetar_sumcheck.proofs.Protocol.{element-mle}
-use Rattle.magnetar_r1cs.specs.Matrix.{Matrix, System}
-use Rattle.magnetar_r1cs.specs.Batch.{Relation, Batch}
+use Rattle.magnetar_round.specs.Messages.{Outer, outerStart, innerMessages}
+use Rattle.magnetar_round.proofs.OuterRun as O
+use Rattle.magnetar_round.proofs.OuterRun.{start-stands}
+use Rattle.magnetar_round.proofs.InnerRun as I
+use Rattle.magnetar_round.proofs.Protocol.{element-mle}
+use Rattle.magnetar_matrix.specs.Matrix.{Matrix, System}
+use Rattle.magnetar_matrix.specs.Batch.{Relation, Batch}
 use Rattle.magnetar_theory.specs.SumCheck.{honest}
 use Rattle.magnetar_theory.specs.Table.{tableRounds}
 use Rattle.magnetar_theory.specs.Cells.{outerCells, innerCells}

@@ -11,9 +11,9 @@ use lib.Dec.{ltb}
 use lib.ListN.{length, getD, length-append, length-map, length-reverse, List·getD-append}
 use lib.Seq.{ext-getD, getD-append-add}
 use Rattle.magnetar_field.proofs.Tabulation.{tabulate-length, tabulate-get}
-use Rattle.magnetar_r1cs.specs.Sum.{blocks}
-use Rattle.magnetar_r1cs.specs.Matrix.{Matrix, times, timesAt}
-use Rattle.magnetar_r1cs.specs.Batch.{Relation, Batch, assignment, bitOf, foldedAt, folded}
+use Rattle.magnetar_matrix.specs.Sum.{blocks}
+use Rattle.magnetar_matrix.specs.Matrix.{Matrix, times, timesAt}
+use Rattle.magnetar_matrix.specs.Batch.{Relation, Batch, assignment, bitOf, foldedAt, folded}
 use Rattle.magnetar_theory.specs.Field.{Field, Laws}
 use Rattle.magnetar_theory.specs.SumCheck.{total}
 use Rattle.magnetar_theory.specs.EqTable.{eqTable as eqTableE, dot as dotE}

@@ -11,7 +11,7 @@ use lib.ListN.{length, getD, take, drop, length-map, length-take, length-drop}
 use lib.Seq.{getD-take, getD-drop}
 use Rattle.magnetar_field.specs.Sizes.{log₂}
 use Rattle.magnetar_layout.specs.Every.{every}
-use Rattle.magnetar_r1cs.specs.Batch.{Relation, Batch, bitOf}
+use Rattle.magnetar_matrix.specs.Batch.{Relation, Batch, bitOf}
 use Rattle.magnetar_layout.specs.Layout.{nextMultiple, offsetsFrom, endFrom, offsets, layoutEnd, isLength, within, outside}
 use Rattle.magnetar_theory.specs.Tau.{Zeros}
 use Rattle.magnetar_theory.specs.Segment.{Segment, offset, Laid}

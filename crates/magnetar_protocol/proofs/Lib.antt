@@ -33,3 +33,5 @@ pub mod ProverRun
 pub mod RealRuns
 pub mod Splits
 pub mod Absorbed
+pub mod Within
+pub mod Finding

@@ -10,17 +10,17 @@ use lib.ListN.{length, getD, getD-replicate}
 use lib.Pow.{pow-pos}
 use borrow.Author.Tests.{eqb-true, eqb-false}
 use Rattle.magnetar_field.specs.Gf128.{_⊗_}
-use Rattle.magnetar_field.specs.EqTable.{eqTable}
+use Rattle.magnetar_multilinear.specs.EqTable.{eqTable}
 use Rattle.magnetar_field.proofs.Xor.{⊕-lt}
 use Rattle.magnetar_field.proofs.Product.{⊗-lt}
 use Rattle.magnetar_field.proofs.Tabulation.{tabulate-get}
-use Rattle.magnetar_r1cs.specs.Matrix.{Entry, Matrix, sumOver, rowTotal, share, timesAt, times, swapped, transpose, mleTable}
+use Rattle.magnetar_matrix.specs.Matrix.{Entry, Matrix, sumOver, rowTotal, share, timesAt, times, swapped, transpose, mleTable}
 use Rattle.magnetar_theory.specs.EqTable.{eqTable as eqTableE}
 use Rattle.magnetar_theory.specs.Matrix.{addAt, apply, columns}
 use Rattle.magnetar_theory.specs.Gf128.{Element, element, sum, product, gf128}
 use Rattle.magnetar_theory.proofs.Gf128.{element-⊕, element-⊗, gf128Laws}
 use Rattle.magnetar_theory.proofs.Matrix.{length-apply}
-use Rattle.magnetar_sumcheck.proofs.OuterRun.{element-eqTable}
+use Rattle.magnetar_round.proofs.OuterRun.{element-eqTable}
 use Rattle.magnetar_protocol.specs.Theory.{els, entryE, entriesE}
 use Rattle.magnetar_protocol.proofs.Elements.{els-at}
 

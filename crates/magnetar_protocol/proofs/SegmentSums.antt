@@ -9,15 +9,15 @@ use lib.ListN.{length, getD, drop, drop-of-length-le, length-drop}
 use lib.Seq.{drop-cons}
 use lib.Pow.{pow-pos, pow-mono, pow-add}
 use Rattle.magnetar_field.specs.Sizes.{log₂}
-use Rattle.magnetar_field.specs.EqTable.{eqAt, eqTable}
-use Rattle.magnetar_field.proofs.EqTables.{eqTable-get}
-use Rattle.magnetar_r1cs.specs.Batch.{Relation}
+use Rattle.magnetar_multilinear.specs.EqTable.{eqAt, eqTable}
+use Rattle.magnetar_multilinear.proofs.EqTables.{eqTable-get}
+use Rattle.magnetar_matrix.specs.Batch.{Relation}
 use Rattle.magnetar_layout.specs.Layout.{offsets, offset, localVars, suffix}
 use Rattle.magnetar_theory.specs.EqTable.{eqTable as eqTableE}
 use Rattle.magnetar_theory.specs.Run.{segSum}
 use Rattle.magnetar_theory.specs.Gf128.{Element, element, sum, product, gf128}
 use Rattle.magnetar_theory.proofs.Gf128.{element-⊕, element-⊗}
-use Rattle.magnetar_sumcheck.proofs.OuterRun.{element-eqTable}
+use Rattle.magnetar_round.proofs.OuterRun.{element-eqTable}
 use Rattle.magnetar_protocol.specs.Theory.{els, logHalf, segmentsE}
 use Rattle.magnetar_protocol.specs.Draws.{Draws, lowPoint}
 use Rattle.magnetar_protocol.specs.Checks.{segmentSum}

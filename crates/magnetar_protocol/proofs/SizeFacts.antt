@@ -8,7 +8,7 @@ use native.Mathlib.Omega.{arith}
 use lib.ListN.{length, getD, take, drop, length-drop, take-append-drop}
 use lib.Seq.{length-take-le, drop-drop, take-all, take-suc}
 use Rattle.magnetar_field.specs.Sizes.{log₂}
-use Rattle.magnetar_r1cs.specs.Batch.{Relation}
+use Rattle.magnetar_matrix.specs.Batch.{Relation}
 use Rattle.magnetar_theory.specs.Lists.{drawn}
 use Rattle.magnetar_theory.specs.Gf128.{element, gf128}
 use Rattle.magnetar_protocol.specs.Shape.{logLogins, logBin, logFld, logCols}

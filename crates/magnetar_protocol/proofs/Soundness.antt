@@ -7,7 +7,7 @@ use Prim.Native.Nat.{ℕ, zero, suc, _+_, _*_, _≤_, _<_, max}
 use native.Mathlib.Omega.{arith}
 use lib.ListN.{length, getD, take, length-map}
 use lib.Seq.{length-take-le}
-use Rattle.magnetar_r1cs.specs.Batch.{Relation, Batch, Good}
+use Rattle.magnetar_matrix.specs.Batch.{Relation, Batch, Good}
 use Rattle.magnetar_theory.specs.Lists.{lists, DrawInList, drawn, wordsOf}
 use Rattle.magnetar_theory.specs.Run.{Accepted, trueValue as trueValueE, Draws as DrawsE}
 use Rattle.magnetar_theory.specs.Count.{naturalSum}

@@ -10,12 +10,12 @@ use native.Mathlib.Nat.{mul-suc}
 use lib.ListN.{length, getD, take, drop, replicate, length-append}
 use lib.Seq.{take-at, drop-at, drop-append-add}
 use Rattle.magnetar_hash.specs.Bytes.{ascii}
-use Rattle.magnetar_sumcheck.specs.Outer.{outerMessage, timesEq}
-use Rattle.magnetar_sumcheck.specs.Inner.{innerMessage, innerSums}
-use Rattle.magnetar_sumcheck.specs.Messages.{Outer, outerNext, outerFold, outerMessages, innerMessages}
+use Rattle.magnetar_round.specs.Outer.{outerMessage, timesEq}
+use Rattle.magnetar_round.specs.Inner.{innerMessage, innerSums}
+use Rattle.magnetar_round.specs.Messages.{Outer, outerNext, outerFold, outerMessages, innerMessages}
 use Rattle.magnetar_field.specs.Tabulate.{tabulate}
-use Rattle.magnetar_field.specs.Multilinear.{bindVar}
-use Rattle.magnetar_r1cs.specs.Batch.{Relation}
+use Rattle.magnetar_multilinear.specs.Multilinear.{bindVar}
+use Rattle.magnetar_matrix.specs.Batch.{Relation}
 use Rattle.magnetar_protocol.specs.Shape.{logCols}
 use Rattle.magnetar_protocol.specs.Proof.{part}
 use Rattle.magnetar_protocol.specs.Schedule.{Event, absorb, draw, numbered, rounds, singles}

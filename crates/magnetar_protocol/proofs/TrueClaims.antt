@@ -7,7 +7,7 @@ use native.Mathlib.Omega.{arith}
 use lib.ListN.{length, getD, take, drop, length-map, length-drop, length-reverse}
 use lib.Seq.{length-take-le}
 use Rattle.magnetar_field.specs.Sizes.{log₂}
-use Rattle.magnetar_r1cs.specs.Batch.{Relation, Batch}
+use Rattle.magnetar_matrix.specs.Batch.{Relation, Batch}
 use Rattle.magnetar_layout.specs.Layout.{offsets, offset}
 use Rattle.magnetar_theory.specs.EqTable.{eqTable as eqTableE, dot as dotE}
 use Rattle.magnetar_theory.specs.Matrix.{AllLength}

@@ -12,13 +12,13 @@ use lib.ListN.{length, length-append}
 use borrow.Author.Tests.{ltb-true, ltb-false, eqb-true, eq-eqb}
 use Rattle.magnetar_field.specs.Gf128.{_⊕_, _⊗_}
 use Rattle.magnetar_field.specs.Tabulate.{tabulate}
-use Rattle.magnetar_field.specs.Multilinear.{mle}
+use Rattle.magnetar_multilinear.specs.Multilinear.{mle}
 use Rattle.magnetar_field.proofs.Tabulation.{tabulate-length}
-use Rattle.magnetar_sumcheck.specs.Round.{passes, running}
-use Rattle.magnetar_sumcheck.specs.Order.{eqPoints}
-use Rattle.magnetar_sumcheck.specs.Outer.{outerEnd}
-use Rattle.magnetar_sumcheck.specs.Inner.{innerEnd}
-use Rattle.magnetar_r1cs.specs.Batch.{Relation}
+use Rattle.magnetar_round.specs.Round.{passes, running}
+use Rattle.magnetar_round.specs.Order.{eqPoints}
+use Rattle.magnetar_round.specs.Outer.{outerEnd}
+use Rattle.magnetar_round.specs.Inner.{innerEnd}
+use Rattle.magnetar_matrix.specs.Batch.{Relation}
 use Rattle.magnetar_protocol.specs.Shape.{logLogins, logBin, logFld, logCols}
 use Rattle.magnetar_protocol.specs.Proof.{part, binMessages, fldMessages, terminal, innerRounds, valueZ, segmentValues}
 use Rattle.magnetar_protocol.specs.Draws.{Draws, loginPoint, lowPoint, topElement}

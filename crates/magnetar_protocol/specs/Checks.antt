@@ -7,14 +7,14 @@ use lib.Dec.{eqb}
 use lib.ListN.{getD, take, drop}
 use Rattle.magnetar_field.specs.Gf128.{_⊕_, _⊗_}
 use Rattle.magnetar_field.specs.Tabulate.{tabulate}
-use Rattle.magnetar_field.specs.EqTable.{eqAt}
-use Rattle.magnetar_field.specs.Multilinear.{dot, mle}
-use Rattle.magnetar_sumcheck.specs.Round.{holds, running}
-use Rattle.magnetar_sumcheck.specs.Order.{eqPoints}
-use Rattle.magnetar_sumcheck.specs.Outer.{outerEnd}
-use Rattle.magnetar_sumcheck.specs.Inner.{innerEnd}
-use Rattle.magnetar_r1cs.specs.Matrix.{mleTable}
-use Rattle.magnetar_r1cs.specs.Batch.{Relation}
+use Rattle.magnetar_multilinear.specs.EqTable.{eqAt}
+use Rattle.magnetar_multilinear.specs.Multilinear.{dot, mle}
+use Rattle.magnetar_round.specs.Round.{holds, running}
+use Rattle.magnetar_round.specs.Order.{eqPoints}
+use Rattle.magnetar_round.specs.Outer.{outerEnd}
+use Rattle.magnetar_round.specs.Inner.{innerEnd}
+use Rattle.magnetar_matrix.specs.Matrix.{mleTable}
+use Rattle.magnetar_matrix.specs.Batch.{Relation}
 use Rattle.magnetar_layout.specs.Layout.{localVars, suffix}
 use Rattle.magnetar_protocol.specs.Shape.{logLogins, logBin, logFld, logCols}
 use Rattle.magnetar_protocol.specs.Proof.{binMessages, fldMessages, terminals, terminal, innerRounds, valueZ, segmentValues}

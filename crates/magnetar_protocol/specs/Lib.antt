@@ -1,9 +1,11 @@
 pub mod Shape
+pub mod Rooms
 pub mod Proof
 pub mod Draws
 pub mod Schedule
 pub mod Play
 pub mod Checks
+pub mod Found
 pub mod Run
 pub mod RunSizes
 pub mod Theory

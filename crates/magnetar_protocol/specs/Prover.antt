@@ -6,11 +6,11 @@ use mathlib.Core.List.{List, [], _∷_, _++_}
 use Prim.Native.Nat.{ℕ, _/_}
 use lib.ListN.{length, take, drop}
 use Rattle.magnetar_field.specs.Tabulate.{tabulate}
-use Rattle.magnetar_field.specs.Multilinear.{mle}
-use Rattle.magnetar_sumcheck.specs.Messages.{outerStart, outerMessages, innerMessages}
-use Rattle.magnetar_r1cs.specs.Sum.{blocks}
-use Rattle.magnetar_r1cs.specs.Matrix.{Matrix, System, times}
-use Rattle.magnetar_r1cs.specs.Batch.{Relation, Batch, assignment, folded}
+use Rattle.magnetar_multilinear.specs.Multilinear.{mle}
+use Rattle.magnetar_round.specs.Messages.{outerStart, outerMessages, innerMessages}
+use Rattle.magnetar_matrix.specs.Sum.{blocks}
+use Rattle.magnetar_matrix.specs.Matrix.{Matrix, System, times}
+use Rattle.magnetar_matrix.specs.Batch.{Relation, Batch, assignment, folded}
 use Rattle.magnetar_protocol.specs.Shape.{logLogins}
 use Rattle.magnetar_protocol.specs.Draws.{Draws, drawsOf, loginPoint, lowPoint}
 use Rattle.magnetar_protocol.specs.Checks.{combined}

@@ -4,7 +4,7 @@ use mathlib.Core.Path.{_≡_}
 use mathlib.Core.List.{List, _++_}
 use Prim.Native.Nat.{ℕ, _+_, _-_, _<_}
 use lib.ListN.{length, getD, take, drop}
-use Rattle.magnetar_r1cs.specs.Batch.{Relation, Batch, claimValue}
+use Rattle.magnetar_matrix.specs.Batch.{Relation, Batch, claimValue}
 use Rattle.magnetar_layout.specs.Layout.{offset, localVars}
 use Rattle.magnetar_protocol.specs.Shape.{logLogins, logCols}
 use Rattle.magnetar_protocol.specs.Proof.{segmentValues}

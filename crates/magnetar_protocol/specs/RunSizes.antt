@@ -8,8 +8,8 @@ use lib.Dec.{ltb}
 use lib.ListN.{length, getD}
 use Rattle.magnetar_field.specs.Sizes.{log₂}
 use Rattle.magnetar_layout.specs.Every.{every}
-use Rattle.magnetar_r1cs.specs.Matrix.{Matrix, System}
-use Rattle.magnetar_r1cs.specs.Batch.{Relation, Batch, bitOf}
+use Rattle.magnetar_matrix.specs.Matrix.{Matrix, System}
+use Rattle.magnetar_matrix.specs.Batch.{Relation, Batch, bitOf}
 use Rattle.magnetar_layout.specs.Layout.{LayoutFits}
 use Rattle.magnetar_protocol.specs.Shape.{proofElements}
 use Rattle.magnetar_protocol.specs.Draws.{drawCount}

@@ -9,8 +9,8 @@ use Prim.Native.String.{String}
 use lib.Dec.{ltb}
 use lib.ListN.{length, replicate}
 use Rattle.magnetar_hash.specs.Bytes.{ascii}
-use Rattle.magnetar_r1cs.specs.Matrix.{Matrix}
-use Rattle.magnetar_r1cs.specs.Batch.{Relation}
+use Rattle.magnetar_matrix.specs.Matrix.{Matrix}
+use Rattle.magnetar_matrix.specs.Batch.{Relation}
 use Rattle.magnetar_protocol.specs.Shape.{logLogins, logBin, logFld, logCols, beforeTerminals, beforeInner, beforeEnd}
 
 -- n elements of the proof, from place i on, are absorbed under a label; or an element is drawn under a label

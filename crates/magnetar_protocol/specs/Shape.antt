@@ -3,7 +3,7 @@
 use Prim.Native.Nat.{ℕ, _+_, _*_}
 use lib.ListN.{length}
 use Rattle.magnetar_field.specs.Sizes.{log₂}
-use Rattle.magnetar_r1cs.specs.Batch.{Relation}
+use Rattle.magnetar_matrix.specs.Batch.{Relation}
 
 -- shared rounds: one for each bit of a login's number
 abbrev pub logLogins : Relation → ℕ

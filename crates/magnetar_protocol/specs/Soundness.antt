@@ -6,7 +6,7 @@ use mathlib.Core.Bool.{true}
 use mathlib.Core.List.{List, map, List·Memᴰ}
 use Prim.Native.Nat.{ℕ, _/_, _<_, _≤_}
 use lib.ListN.{length, getD, take}
-use Rattle.magnetar_r1cs.specs.Batch.{Relation, Batch, bitOf}
+use Rattle.magnetar_matrix.specs.Batch.{Relation, Batch, bitOf}
 use Rattle.magnetar_layout.specs.Layout.{outside}
 use Rattle.magnetar_theory.specs.Lists.{lists}
 use Rattle.magnetar_theory.specs.Absorbed.{absorbedCount}

@@ -8,13 +8,13 @@ use Prim.Native.String.{String}
 use lib.ListN.{length, getD, take, drop}
 use Rattle.magnetar_field.specs.Gf128.{value}
 use Rattle.magnetar_field.specs.Tabulate.{tabulate}
-use Rattle.magnetar_field.specs.Multilinear.{mle, bindVar}
+use Rattle.magnetar_multilinear.specs.Multilinear.{mle, bindVar}
 use Rattle.magnetar_hash.specs.Bytes.{ascii}
 use Rattle.magnetar_hash.specs.declared.transcript.Transcript.{Transcript}
 use Rattle.magnetar_hash.specs.Transcript as transcript
-use Rattle.magnetar_sumcheck.specs.Inner.{innerMessage}
-use Rattle.magnetar_sumcheck.specs.Messages.{Outer, outerStart, outerNext, outerFold}
-use Rattle.magnetar_r1cs.specs.Batch.{Relation}
+use Rattle.magnetar_round.specs.Inner.{innerMessage}
+use Rattle.magnetar_round.specs.Messages.{Outer, outerStart, outerNext, outerFold}
+use Rattle.magnetar_matrix.specs.Batch.{Relation}
 use Rattle.magnetar_layout.specs.Layout.{offset, localVars}
 use Rattle.magnetar_protocol.specs.Shape.{logLogins, logBin, logFld, logCols}
 use Rattle.magnetar_protocol.specs.Schedule.{numbered}

@@ -4,8 +4,8 @@
 use mathlib.Core.List.{List, [], _∷_, map}
 use Prim.Native.Nat.{ℕ, _-_, _/_}
 use Rattle.magnetar_field.specs.Sizes.{log₂}
-use Rattle.magnetar_r1cs.specs.Matrix.{Entry, Matrix, System}
-use Rattle.magnetar_r1cs.specs.Batch.{Relation, Batch}
+use Rattle.magnetar_matrix.specs.Matrix.{Entry, Matrix, System}
+use Rattle.magnetar_matrix.specs.Batch.{Relation, Batch}
 use Rattle.magnetar_layout.specs.Layout.{offsets}
 use Rattle.magnetar_theory.specs.Matrix.{Entry as EntryE}
 use Rattle.magnetar_theory.specs.Segment.{Segment}

@@ -1,1 +1,3 @@
 // Virtual Spartan: the run of prover and verifier. Its definitions and theorems are in specs/ and proofs/.
+pub mod first;
+pub mod rooms;

@@ -21,18 +21,18 @@ use Rattle.magnetar_layout.proofs.EveryLaws.{both}
 use Rattle.magnetar_layout.specs.Tests.{Sized}
 use Rattle.magnetar_field.specs.Sizes.{log₂}
 use Rattle.magnetar_r1cs.proofs.Points.{log-most}
-use Rattle.magnetar_r1cs.specs.Sum.{sumBelow, blocks}
-use Rattle.magnetar_r1cs.specs.Matrix.{Entry, sumOver, rowTotal, share, timesAt, isBit, bitValued}
-use Rattle.magnetar_r1cs.specs.Batch.{assignment}
-use Rattle.magnetar_r1cs.specs.Packed.{loginWords, packedBit, loginPart, unpacked}
-use Rattle.magnetar_r1cs.specs.Lent.{Lent, entry, entriesOf, matrixOf}
-use Rattle.magnetar_r1cs.specs.Table.{raised}
+use Rattle.magnetar_matrix.specs.Sum.{sumBelow, blocks}
+use Rattle.magnetar_matrix.specs.Matrix.{Entry, sumOver, rowTotal, share, timesAt, isBit, bitValued}
+use Rattle.magnetar_matrix.specs.Batch.{assignment}
+use Rattle.magnetar_matrix.specs.Packed.{loginWords, packedBit, loginPart, unpacked}
+use Rattle.magnetar_matrix.specs.Lent.{Lent, entry, entriesOf, matrixOf}
+use Rattle.magnetar_matrix.specs.Table.{raised}
 use Rattle.magnetar_r1cs.specs.Masks.{bitsBelow, maskAt, masks}
 use Rattle.magnetar_r1cs.specs.Flips.{flipAt, flip, flipTotal, flipBlock}
-use Rattle.magnetar_r1cs.proofs.Digits.{bit-lt, ⊗-bit}
-use Rattle.magnetar_r1cs.proofs.LoginParts.{part-is, sum-ext}
+use Rattle.magnetar_matrix.proofs.Digits.{bit-lt, ⊗-bit}
+use Rattle.magnetar_matrix.proofs.LoginParts.{part-is, sum-ext}
 use Rattle.magnetar_r1cs.proofs.Split.{z-bit, z-public, assigned, blocks-ext}
-use Rattle.magnetar_r1cs.proofs.Carried.{raised-tabulate}
+use Rattle.magnetar_matrix.proofs.Carried.{raised-tabulate}
 
 -- ---- a bit at its place
 place-fits : (b t : ℕ) → b < 2 → t < 64 → b * 2 ^ t < 2 ^ 64

@@ -1,16 +1,8 @@
 pub mod Flags
-pub mod Digits
-pub mod TableLaws
 pub mod Lone
 pub mod Points
 pub mod Parts
-pub mod LoginParts
-pub mod Blocks
-pub mod Carried
 pub mod Split
 pub mod Flipped
 pub mod MaskBits
-pub mod Verdicts
-pub mod Walked
-pub mod MarkedRows
 pub mod MaskExamples

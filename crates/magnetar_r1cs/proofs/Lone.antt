@@ -9,10 +9,10 @@ use lib.Dec.{ltb}
 use lib.ListN.{length}
 use borrow.Author.Tests.{not-false, eqb-true, ltb-true, lt-ltb}
 use Rattle.magnetar_layout.specs.Every.{every}
-use Rattle.magnetar_r1cs.specs.Matrix.{Entry, sumOver}
-use Rattle.magnetar_r1cs.specs.Lent.{Lent, entriesOf}
-use Rattle.magnetar_r1cs.specs.Packed.{loginWords}
-use Rattle.magnetar_r1cs.specs.Table.{Equal}
+use Rattle.magnetar_matrix.specs.Matrix.{Entry, sumOver}
+use Rattle.magnetar_matrix.specs.Lent.{Lent, entriesOf}
+use Rattle.magnetar_matrix.specs.Packed.{loginWords}
+use Rattle.magnetar_matrix.specs.Table.{Equal}
 use Rattle.magnetar_r1cs.specs.Entries.{matrixTests}
 use Rattle.magnetar_layout.specs.Tests.{noted, allBelow, counted, placed, loneTests, batchTests, Sized}
 use Rattle.magnetar_layout.proofs.EveryLaws.{both}

@@ -13,13 +13,13 @@ use lib.ListN.{length, getD, length-append, List·getD-append}
 use lib.Seq.{getD-append-add}
 use Rattle.magnetar_field.specs.Tabulate.{tabulate}
 use Rattle.magnetar_field.proofs.Tabulation.{tabulate-length, tabulate-get}
-use Rattle.magnetar_r1cs.specs.Sum.{blocks}
-use Rattle.magnetar_r1cs.specs.Matrix.{timesAt, bitValued}
-use Rattle.magnetar_r1cs.specs.Batch.{assignment}
-use Rattle.magnetar_r1cs.specs.Packed.{unpacked}
-use Rattle.magnetar_r1cs.specs.Lent.{Lent, matrixOf}
+use Rattle.magnetar_matrix.specs.Sum.{blocks}
+use Rattle.magnetar_matrix.specs.Matrix.{timesAt, bitValued}
+use Rattle.magnetar_matrix.specs.Batch.{assignment}
+use Rattle.magnetar_matrix.specs.Packed.{unpacked}
+use Rattle.magnetar_matrix.specs.Lent.{Lent, matrixOf}
 use Rattle.magnetar_r1cs.specs.Masks.{bitsBelow, maskAt, masks}
-use Rattle.magnetar_r1cs.proofs.LoginParts.{part-ends}
+use Rattle.magnetar_matrix.proofs.LoginParts.{part-ends}
 use Rattle.magnetar_r1cs.proofs.Flipped.{bits-lt, output-lt, login-below}
 
 -- ---- a number by its bits

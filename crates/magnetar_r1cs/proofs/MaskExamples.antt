@@ -10,11 +10,11 @@ use Rattle.magnetar_layout.specs.Every.{every}
 use Rattle.magnetar_layout.specs.Lent.{Lent, lent}
 use Rattle.magnetar_layout.specs.Login.{loginWords}
 use Rattle.magnetar_layout.specs.Tests.{note, isSize}
-use Rattle.magnetar_r1cs.specs.Sum.{blocks}
-use Rattle.magnetar_r1cs.specs.Matrix.{sumOver, rowTotal, share, timesAt, bitValued}
-use Rattle.magnetar_r1cs.specs.Batch.{assignment}
-use Rattle.magnetar_r1cs.specs.Packed.{packedBit, loginPart, unpacked}
-use Rattle.magnetar_r1cs.specs.Lent.{entriesOf, matrixOf}
+use Rattle.magnetar_matrix.specs.Sum.{blocks}
+use Rattle.magnetar_matrix.specs.Matrix.{sumOver, rowTotal, share, timesAt, bitValued}
+use Rattle.magnetar_matrix.specs.Batch.{assignment}
+use Rattle.magnetar_matrix.specs.Packed.{packedBit, loginPart, unpacked}
+use Rattle.magnetar_matrix.specs.Lent.{entriesOf, matrixOf}
 use Rattle.magnetar_r1cs.specs.Masks.{bitsBelow, maskAt, masks}
 use Rattle.magnetar_r1cs.specs.Entries.{masksRefusal}
 

@@ -13,13 +13,13 @@ use mathlib.Core.Bool.{true}
 use borrow.Author.Tests.{eq-eqb, le-ltb, ltb-true}
 use Rattle.magnetar_field.specs.Sizes.{log₂}
 use Rattle.magnetar_field.specs.Words.{elements, words}
-use Rattle.magnetar_field.specs.EqTable.{eqTable, eqAt}
-use Rattle.magnetar_field.specs.Entries.{eqRefusal, eqOut, tableWords}
+use Rattle.magnetar_multilinear.specs.EqTable.{eqTable, eqAt}
+use Rattle.magnetar_multilinear.specs.Entries.{eqRefusal, eqOut, tableWords}
 use Rattle.magnetar_field.specs.Gf128.{_⊗_}
 use Rattle.magnetar_field.proofs.Elements.{elements-length}
-use Rattle.magnetar_field.proofs.EqTables.{eqTable-length, eqTable-get}
-use Rattle.magnetar_r1cs.specs.Matrix.{Entry}
-use Rattle.magnetar_r1cs.specs.Table.{Point, cross}
+use Rattle.magnetar_multilinear.proofs.EqTables.{eqTable-length, eqTable-get}
+use Rattle.magnetar_matrix.specs.Matrix.{Entry}
+use Rattle.magnetar_matrix.specs.Table.{Point, cross}
 use Rattle.magnetar_layout.proofs.EveryLaws.{both}
 use Rattle.magnetar_r1cs.proofs.Lone.{inside}
 use Rattle.magnetar_layout.specs.Tests.{Sized}

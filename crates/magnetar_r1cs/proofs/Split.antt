@@ -15,15 +15,14 @@ use Rattle.magnetar_field.specs.Gf128.{_⊕_, _⊗_}
 use Rattle.magnetar_field.specs.Tabulate.{tabulate}
 use Rattle.magnetar_field.proofs.Xor.{⊕-zero, zero-⊕, ⊕-four}
 use Rattle.magnetar_field.proofs.Tabulation.{tabulate-length, tabulate-get, tabulate-ext}
-use Rattle.magnetar_r1cs.specs.Sum.{blocks}
+use Rattle.magnetar_matrix.specs.Sum.{blocks}
 use Rattle.magnetar_layout.specs.Every.{every}
-use Rattle.magnetar_r1cs.specs.Matrix.{Entry, sumOver, rowTotal, share, timesAt, times, isBit}
-use Rattle.magnetar_r1cs.specs.Batch.{assignment}
-use Rattle.magnetar_r1cs.specs.Packed.{packedBit, loginPart, unpacked}
-use Rattle.magnetar_r1cs.specs.Lent.{Lent, entriesOf, matrixOf}
-use Rattle.magnetar_r1cs.specs.Table.{publicShare, bitShare, loginTotal, loginBlock, Equal}
+use Rattle.magnetar_matrix.specs.Matrix.{Entry, sumOver, rowTotal, share, timesAt, times, isBit}
+use Rattle.magnetar_matrix.specs.Batch.{assignment}
+use Rattle.magnetar_matrix.specs.Packed.{packedBit, loginPart, unpacked, packedTable}
+use Rattle.magnetar_matrix.specs.Lent.{Lent, entriesOf, matrixOf}
+use Rattle.magnetar_matrix.specs.Table.{publicShare, bitShare, loginTotal, loginBlock, Equal}
 use Rattle.magnetar_layout.specs.Tests.{allBelow}
-use Rattle.magnetar_r1cs.specs.Entries.{packedTable}
 
 -- ---- one entry
 public-at : (w : ℕ) (x : List ℕ) (e : Entry) → w ≤ e .col → publicShare w x e ≡ e .value ⊗ getD (1 ∷ x) (e .col - w) 0

@@ -8,15 +8,13 @@ use lib.ListN.{drop, replicate}
 use Rattle.magnetar_field.specs.Refusal.{unlessRefused}
 use Rattle.magnetar_field.specs.Sizes.{log₂}
 use Rattle.magnetar_field.specs.Words.{elements, words}
-use Rattle.magnetar_field.specs.Entries.{Answer, answered}
+use Rattle.magnetar_multilinear.specs.Entries.{Answer, answered}
 use Rattle.magnetar_r1cs.specs.declared.r1cs.Flag.{Flag}
 use Rattle.magnetar_r1cs.specs.declared.r1cs.Flag.the-variants.{Yes, No, Refused}
-use Rattle.magnetar_r1cs.specs.Sum.{blocks}
-use Rattle.magnetar_r1cs.specs.Matrix.{Matrix, times, mleTable, mleAt, bitValued}
-use Rattle.magnetar_r1cs.specs.Batch.{assignment}
+use Rattle.magnetar_matrix.specs.Matrix.{times, mleTable, mleAt, bitValued}
 use Rattle.magnetar_r1cs.specs.Masks.{masks}
-use Rattle.magnetar_r1cs.specs.Packed.{unpacked}
-use Rattle.magnetar_r1cs.specs.Lent.{Lent, matrixOf}
+use Rattle.magnetar_matrix.specs.Packed.{packedTable, unpacked}
+use Rattle.magnetar_matrix.specs.Lent.{Lent, matrixOf}
 use Rattle.magnetar_layout.specs.Tests.{Tests, noted, sizeTests, packedTests, rowsTests, colsTests, counted, placed, batchTests, lengthTest, roomTest, loneTests}
 
 -- ---- `apply`: the matrix a, the vector z, the output out
@@ -75,10 +73,6 @@ binaryRefusal a = noted 0 (loneTests a)
 -- ---- `apply_simd_packed`: the matrix a, the packed words ws of q logins with w columns, the public words x, the output out
 unfoldable pub packedRefusal : Lent → List ℕ → List ℕ → ℕ → ℕ → List ℕ → ℕ
 packedRefusal a ws x q w out = noted 0 (batchTests a ws x q w ++ roomTest (q * (2 * a .rows)) out)
-
--- the products of each login, one behind the other
-unfoldable pub packedTable : Matrix → List ℕ → List ℕ → ℕ → ℕ → List ℕ
-packedTable m ws x q w = blocks (λ u. times m (assignment (unpacked q w ws) x u)) q
 
 abbrev pub packedOut : Lent → List ℕ → List ℕ → ℕ → ℕ → List ℕ → List ℕ
 packedOut a ws x q w out =

@@ -5,9 +5,9 @@ use mathlib.Core.List.{List}
 use Prim.Native.Nat.{ℕ, _+_, _*_, _%_, _^_}
 use lib.Dec.{ltb}
 use Rattle.magnetar_field.specs.Tabulate.{tabulate}
-use Rattle.magnetar_r1cs.specs.Sum.{sumBelow}
-use Rattle.magnetar_r1cs.specs.Matrix.{Entry, rowTotal}
-use Rattle.magnetar_r1cs.specs.Packed.{packedBit, loginPart}
+use Rattle.magnetar_matrix.specs.Sum.{sumBelow}
+use Rattle.magnetar_matrix.specs.Matrix.{Entry, rowTotal}
+use Rattle.magnetar_matrix.specs.Packed.{packedBit, loginPart}
 
 -- bit t, where the value is odd and z = (bits of ws, 1) is set at column c
 unfoldable pub flipAt : ℕ → List ℕ → ℕ → ℕ → ℕ → ℕ

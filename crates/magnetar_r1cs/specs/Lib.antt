@@ -1,10 +1,3 @@
-pub mod Sum
-pub mod Matrix
-pub mod Batch
-pub mod Packed
-pub mod RowCheck
-pub mod Lent
-pub mod Table
 pub mod Masks
 pub mod Flips
 pub mod Entries

@@ -3,9 +3,9 @@
 use mathlib.Core.List.{List, []}
 use Prim.Native.Nat.{ℕ, zero, suc, _+_, _*_, _^_}
 use Rattle.magnetar_field.specs.Tabulate.{tabulate}
-use Rattle.magnetar_r1cs.specs.Sum.{blocks}
-use Rattle.magnetar_r1cs.specs.Matrix.{Matrix, timesAt}
-use Rattle.magnetar_r1cs.specs.Batch.{Batch, assignment}
+use Rattle.magnetar_matrix.specs.Sum.{blocks}
+use Rattle.magnetar_matrix.specs.Matrix.{Matrix, timesAt}
+use Rattle.magnetar_matrix.specs.Batch.{Batch, assignment}
 
 -- the number whose bit t is f t, for each t below n
 unfoldable pub bitsBelow : (ℕ → ℕ) → ℕ → ℕ

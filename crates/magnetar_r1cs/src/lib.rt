@@ -1,4 +1,4 @@
-// The lower half of the batch layer: sparse matrices and their products with a packed batch. specs/ also defines the row check.
-pub mod masks;
+// Sparse matrices and their products with a packed batch, and masks.
+mod masks;
 pub mod r1cs;
-pub mod walk;
+mod walk;

@@ -1,15 +1,15 @@
 // The walk that gathers the outputs of several logins, 0 or 1 each, as the bits of one word for each row.
 use crate::r1cs;
-use crate::walk;
 use magnetar_field::words;
+use magnetar_matrix::step;
 ghost use mathlib.Core.Path.{_≡_};
 ghost use Prim.Native.Nat.{_+_, _*_, _^_, _<_, _≤_};
 ghost use lib.ListN.{length};
-ghost use Rattle.magnetar_r1cs.specs.Sum.{blocks};
-ghost use Rattle.magnetar_r1cs.specs.Matrix.{rowTotal};
-ghost use Rattle.magnetar_r1cs.specs.Packed.{loginWords};
-ghost use Rattle.magnetar_r1cs.specs.Lent.{entriesOf};
-ghost use Rattle.magnetar_r1cs.specs.Table.{addedAt, raised, Equal};
+ghost use Rattle.magnetar_matrix.specs.Sum.{blocks};
+ghost use Rattle.magnetar_matrix.specs.Matrix.{rowTotal};
+ghost use Rattle.magnetar_matrix.specs.Packed.{loginWords};
+ghost use Rattle.magnetar_matrix.specs.Lent.{entriesOf};
+ghost use Rattle.magnetar_matrix.specs.Table.{addedAt, raised, Equal};
 ghost use Rattle.magnetar_r1cs.specs.Flips.{flipAt, flip, flipBlock};
 
 // 2^k.
@@ -46,7 +46,7 @@ fn add_flip(out: &mut [u64], r: usize, c: usize, lo: u64, w: usize, login: &[u64
         return;
     }
     if c < w {
-        add_word(out, r, placed(walk::bit_at(login, c), t));
+        add_word(out, r, placed(step::bit_at(login, c), t));
         return;
     }
     add_word(out, r, placed(1, t));

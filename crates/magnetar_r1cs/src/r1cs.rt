@@ -1,12 +1,12 @@
 // Sparse matrices, lent as four number slices: row, column, low word and high word of each entry.
 use crate::masks;
 use crate::walk;
-use magnetar_field::eq::EqBits;
 use magnetar_field::gf128::Evaluated;
 use magnetar_field::gf128::Gf128;
 use magnetar_field::sizes;
 use magnetar_field::words;
 use magnetar_layout::tests;
+use magnetar_multilinear::eq::EqBits;
 ghost use mathlib.Core.Path.{_≡_};
 ghost use mathlib.Core.Bool.{true, _&&_};
 ghost use lib.Dec.{leb};
@@ -17,13 +17,13 @@ ghost use lib.ListN.{length, take, drop, replicate};
 ghost use Rattle.magnetar_field.specs.Gf128.{value};
 ghost use Rattle.magnetar_field.specs.Tabulate.{tabulate};
 ghost use Rattle.magnetar_field.specs.Words.{elements, words, overlaid};
-ghost use Rattle.magnetar_field.specs.EqTable.{eqTable};
-ghost use Rattle.magnetar_field.specs.Entries.{answer};
-ghost use Rattle.magnetar_r1cs.specs.Matrix.{sumOver, rowTotal, share, isBit, binary, bitValued};
-ghost use Rattle.magnetar_r1cs.specs.Lent.{lent, entriesOf, matrixOf};
-ghost use Rattle.magnetar_r1cs.specs.Table.{raised, publicShare, bitShare, cross, loginBlock, Equal, Point};
-ghost use Rattle.magnetar_r1cs.specs.Sum.{blocks};
-ghost use Rattle.magnetar_r1cs.specs.Packed.{loginWords};
+ghost use Rattle.magnetar_multilinear.specs.EqTable.{eqTable};
+ghost use Rattle.magnetar_multilinear.specs.Entries.{answer};
+ghost use Rattle.magnetar_matrix.specs.Matrix.{sumOver, rowTotal, share, isBit, binary, bitValued};
+ghost use Rattle.magnetar_matrix.specs.Lent.{lent, entriesOf, matrixOf};
+ghost use Rattle.magnetar_matrix.specs.Table.{raised, publicShare, bitShare, cross, loginBlock, Equal, Point};
+ghost use Rattle.magnetar_matrix.specs.Sum.{blocks};
+ghost use Rattle.magnetar_matrix.specs.Packed.{loginWords};
 ghost use Rattle.magnetar_layout.specs.Tests.{allBelow, noted, batchTests};
 ghost use Rattle.magnetar_r1cs.specs.Entries.{applyRefusal, applyOut, tableRefusal, tableOut, tableScratch, atAnswer, atScratch, flagged, flaggedOf, binaryRefusal, packedRefusal, packedOut, matrixTests, masksRefusal, masksOut};
 

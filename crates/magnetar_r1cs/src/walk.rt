@@ -2,35 +2,17 @@
 use magnetar_field::gf128;
 use magnetar_field::gf128::Gf128;
 use magnetar_field::words;
+use magnetar_matrix::step;
 ghost use mathlib.Core.Path.{_≡_};
 ghost use Prim.Native.Nat.{_+_, _<_, _≤_};
 ghost use Rattle.magnetar_field.specs.Gf128.{value, _⊗_};
 ghost use Rattle.magnetar_field.specs.Words.{elements};
 ghost use mathlib.Core.Bool.{true};
 ghost use Rattle.magnetar_layout.specs.Every.{every};
-ghost use Rattle.magnetar_r1cs.specs.Matrix.{sumOver, rowTotal, share, isBit};
-ghost use Rattle.magnetar_r1cs.specs.Packed.{packedBit};
-ghost use Rattle.magnetar_r1cs.specs.Lent.{entry, entriesOf};
-ghost use Rattle.magnetar_r1cs.specs.Table.{addedIn, addedAt, raised, publicShare, bitShare, cross, Equal};
+ghost use Rattle.magnetar_matrix.specs.Matrix.{sumOver, rowTotal, share, isBit};
+ghost use Rattle.magnetar_matrix.specs.Lent.{entry, entriesOf};
+ghost use Rattle.magnetar_matrix.specs.Table.{addedAt, raised, publicShare, bitShare, cross, Equal};
 ghost use Rattle.magnetar_layout.specs.Tests.{allBelow};
-
-// Adds e to the element at index k, where there is one.
-pub fn add_at(out: &mut [u64], k: usize, e: Gf128)
-    ensures { λ _. ⌜ now (out .exit) ≡ addedIn (now (out .entry)) k (value e) ⌝ }
-{
-    let v = words::get(out, k);
-    words::put(out, k, gf128::add(v, e));
-}
-
-// v times e, by a mask where v is 0 or 1.
-pub fn scale(v: Gf128, e: Gf128) -> Gf128
-    ensures { λ r. ⌜ value r ≡ value v ⊗ value e ⌝ }
-{
-    if gf128::is_bit(v) {
-        return gf128::mul_bit(e, v);
-    }
-    gf128::mul(v, e)
-}
 
 // v times the bit, by a mask.
 pub(crate) fn select(v: Gf128, bit: u64) -> Gf128
@@ -40,23 +22,11 @@ pub(crate) fn select(v: Gf128, bit: u64) -> Gf128
     gf128::mul_bit(v, Gf128 { lo: bit, hi: 0 })
 }
 
-// The bit at column c of a login's words, 0 where they have no such column.
-pub fn bit_at(login: &[u64], c: usize) -> u64
-    ensures { λ r. ⌜ r ≡ packedBit (now (login .entry)) c ⌝ }
-    ensures { λ r. ⌜ r < 2 ⌝ }
-{
-    let k = c / 64;
-    if k < login.len() {
-        return (login[k] >> (c % 64)) % 2;
-    }
-    0
-}
-
 // An entry's share of a product: the value v times the factor at index c, at row r.
 fn add_share(out: &mut [u64], r: usize, c: usize, v: Gf128, factors: &[u64])
     ensures { λ _. ⌜ elements (now (out .exit)) ≡ addedAt (elements (now (out .entry))) r (share (elements (now (factors .entry))) (entry r c (v .lo) (v .hi))) ⌝ }
 {
-    add_at(out, r, scale(v, words::get(factors, c)));
+    step::add_at(out, r, step::scale(v, words::get(factors, c)));
 }
 
 // Adds the product of the entries with the factors.
@@ -87,12 +57,12 @@ fn add_public_share(out: &mut [u64], r: usize, c: usize, v: Gf128, w: usize, x: 
     ensures { λ _. ⌜ elements (now (out .exit)) ≡ addedAt (elements (now (out .entry))) r (publicShare w (elements (now (x .entry))) (entry r c (v .lo) (v .hi))) ⌝ }
 {
     if c == w {
-        add_at(out, r, v);
+        step::add_at(out, r, v);
         return;
     }
     if c > w {
         let k = c - w - 1;
-        add_at(out, r, scale(v, words::get(x, k)));
+        step::add_at(out, r, step::scale(v, words::get(x, k)));
     }
 }
 
@@ -125,7 +95,7 @@ fn add_bit_share(out: &mut [u64], r: usize, c: usize, v: Gf128, w: usize, login:
     ensures { λ _. ⌜ elements (now (out .exit)) ≡ addedAt (elements (now (out .entry))) r (bitShare w (now (login .entry)) (entry r c (v .lo) (v .hi))) ⌝ }
 {
     if c < w {
-        add_at(out, r, select(v, bit_at(login, c)));
+        step::add_at(out, r, select(v, step::bit_at(login, c)));
     }
 }
 
@@ -176,7 +146,7 @@ pub(crate) fn sum_products(
         let at = n + col[i];
         sum = gf128::add(
             sum,
-            scale(
+            step::scale(
                 v,
                 gf128::mul(words::get(factors, row[i]), words::get(factors, at)),
             ),

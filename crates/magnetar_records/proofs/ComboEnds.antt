@@ -11,12 +11,12 @@ use lib.Seq.{take-at, drop-at, take-all}
 use borrow.Author.Tests.{eqb-true, ltb-false, le-leb}
 use Rattle.magnetar_field.specs.Sizes.{log₂}
 use Rattle.magnetar_field.specs.Words.{elements, overlaid}
-use Rattle.magnetar_field.specs.EqTable.{scaledTable}
+use Rattle.magnetar_multilinear.specs.EqTable.{scaledTable}
 use Rattle.magnetar_field.proofs.Elements.{overlaid-same}
 use Rattle.magnetar_layout.specs.Tests.{noted, Sized}
 use Rattle.magnetar_layout.proofs.Noted.{noted-clear, noted-rest}
-use Rattle.magnetar_r1cs.specs.Matrix.{rowTotal, share, swapped}
-use Rattle.magnetar_r1cs.proofs.Walked.{entries-swapped}
+use Rattle.magnetar_matrix.specs.Matrix.{rowTotal, share, swapped}
+use Rattle.magnetar_matrix.proofs.Walked.{entries-swapped}
 use Rattle.magnetar_r1cs.proofs.Points.{log-most}
 use Rattle.magnetar_batch.specs.Systems.{Lent3, counted3, placed3, shapeTests6, systemsTests, pointTests}
 use Rattle.magnetar_batch.specs.Columns.{column}

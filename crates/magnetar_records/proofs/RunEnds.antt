@@ -20,7 +20,7 @@ use Rattle.magnetar_protocol.specs.Schedule.{outline, schedule}
 use Rattle.magnetar_protocol.specs.Play.{Played, playedFrom}
 use Rattle.magnetar_protocol.specs.Checks.{combined}
 use Rattle.magnetar_protocol.specs.RealRun.{verifierDraws}
-use Rattle.magnetar_checks.specs.declared.found.Found.{Found}
+use Rattle.magnetar_protocol.specs.declared.first.Found.{Found}
 use Rattle.magnetar_checks.specs.Outer.{outerFound}
 use Rattle.magnetar_checks.specs.End.{endRefusal, endFound, endRoom}
 use Rattle.magnetar_spartan.specs.Rules.{Rules, rules, relationOf}

@@ -8,7 +8,7 @@ use lib.ListN.{take, drop, replicate}
 use borrow.Author.Tests.{ne-eqb, eq-eqb}
 use Rattle.magnetar_hash.specs.declared.transcript.Transcript.{Transcript}
 use Rattle.magnetar_hash.specs.declared.transcript.TranscriptAnswer.{TranscriptAnswer}
-use Rattle.magnetar_checks.specs.declared.found.Found.{Found}
+use Rattle.magnetar_protocol.specs.declared.first.Found.{Found}
 use Rattle.magnetar_checks.specs.Outer.{outerFound}
 use Rattle.magnetar_checks.specs.End.{endFound, endRoom}
 use Rattle.magnetar_checks.specs.Claims.{claimsOut}

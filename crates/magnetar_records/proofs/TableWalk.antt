@@ -11,16 +11,16 @@ use borrow.Rule.Slice.PartMut.{putMid}
 use Rattle.magnetar_field.specs.Gf128.{_⊗_}
 use Rattle.magnetar_field.specs.Sizes.{log₂}
 use Rattle.magnetar_field.specs.Words.{elements, words, overlaid}
-use Rattle.magnetar_field.specs.EqTable.{scaledTable}
-use Rattle.magnetar_field.specs.Entries.{eqRefusal, scaledOut, tableWords}
-use Rattle.magnetar_field.proofs.Refusals.{eq-none}
-use Rattle.magnetar_field.proofs.EqTables.{scaled-length}
+use Rattle.magnetar_multilinear.specs.EqTable.{scaledTable}
+use Rattle.magnetar_multilinear.specs.Entries.{eqRefusal, scaledOut, tableWords}
+use Rattle.magnetar_multilinear.proofs.Refusals.{eq-none}
+use Rattle.magnetar_multilinear.proofs.EqTables.{scaled-length}
 use Rattle.magnetar_field.proofs.Elements.{elements-length}
 use Rattle.magnetar_batch.specs.Columns.{sixTable}
-use Rattle.magnetar_r1cs.specs.Matrix as matrix
-use Rattle.magnetar_r1cs.specs.Matrix.{rowTotal, share, swapped}
-use Rattle.magnetar_r1cs.specs.Table.{addedAt, raised}
-use Rattle.magnetar_r1cs.proofs.TableLaws.{added-length, raised-length}
+use Rattle.magnetar_matrix.specs.Matrix as matrix
+use Rattle.magnetar_matrix.specs.Matrix.{rowTotal, share, swapped}
+use Rattle.magnetar_matrix.specs.Table.{addedAt, raised}
+use Rattle.magnetar_matrix.proofs.TableLaws.{added-length, raised-length}
 use Rattle.magnetar_inplace.specs.Steps.{between, clearedTo}
 use Rattle.magnetar_inplace.proofs.RecordLaws.{one-added, raised-none, raised-more, words-length, front-read, zeros-cleared, cleared-words}
 use Rattle.magnetar_inplace.proofs.StepLaws.{rest-is, behind-is, cleared-none}

@@ -13,11 +13,11 @@ use Rattle.magnetar_hash.specs.declared.transcript.TranscriptAnswer.{Transcript
 use Rattle.magnetar_protocol.specs.Draws.{drawCount}
 use Rattle.magnetar_protocol.specs.Schedule.{outline, schedule}
 use Rattle.magnetar_protocol.specs.Play.{playedFrom}
-use Rattle.magnetar_checks.specs.declared.found.Found.{Found}
+use Rattle.magnetar_protocol.specs.declared.first.Found.{Found}
 use Rattle.magnetar_checks.specs.Outer.{outerFound}
 use Rattle.magnetar_checks.specs.End.{endFound, endRoom}
 use Rattle.magnetar_checks.specs.Claims.{claimsOut}
-use Rattle.magnetar_r1cs.specs.Matrix.{Entry}
+use Rattle.magnetar_matrix.specs.Matrix.{Entry}
 use Rattle.magnetar_inplace.specs.Steps.{clearedTo}
 use Rattle.magnetar_spartan.specs.Outcome.{Verified}
 use Rattle.magnetar_records.specs.Steps.{padded, tableMade}

@@ -9,8 +9,8 @@ use lib.ListN.{length, getD, take, drop, replicate}
 use Rattle.magnetar_field.specs.Gf128.{_⊗_}
 use Rattle.magnetar_field.specs.Sizes.{log₂}
 use Rattle.magnetar_field.specs.Words.{elements, overlaid}
-use Rattle.magnetar_field.specs.Entries.{scaledOut}
-use Rattle.magnetar_r1cs.specs.Matrix.{Entry}
+use Rattle.magnetar_multilinear.specs.Entries.{scaledOut}
+use Rattle.magnetar_matrix.specs.Matrix.{Entry}
 use Rattle.magnetar_inplace.specs.Steps.{addedTo, between, clearedTo}
 
 -- the entry's value times the element at its row, of the n behind the first m, added to the element at its column

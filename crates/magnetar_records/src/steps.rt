@@ -7,13 +7,13 @@ ghost use Rattle.magnetar_field.specs.Words.{elements, overlaid};
 ghost use Rattle.magnetar_inplace.specs.Records.{entryOf};
 ghost use Rattle.magnetar_inplace.specs.Steps.{clearedTo};
 ghost use Rattle.magnetar_records.specs.Steps.{columnAdded, eqBehind, clearedBehind, padded, pointIn};
-use magnetar_field::eq;
 use magnetar_field::gf128::Gf128;
 use magnetar_field::sizes;
 use magnetar_field::words;
 use magnetar_inplace::records::Entry;
 use magnetar_inplace::steps;
-use magnetar_r1cs::walk;
+use magnetar_matrix::step;
+use magnetar_multilinear::eq;
 
 // Adds a record's value times the element at its row, of the n behind the first m, to the element at its column.
 pub(crate) fn add_column(m: usize, n: usize, s: &mut [u64], e: Entry)
@@ -21,7 +21,7 @@ pub(crate) fn add_column(m: usize, n: usize, s: &mut [u64], e: Entry)
 {
     let v = Gf128 { lo: e.lo, hi: e.hi };
     let f = steps::get_between(m, n, s, e.row);
-    steps::add_to(m, e.col, walk::scale(v, f), s);
+    steps::add_to(m, e.col, step::scale(v, f), s);
 }
 
 // The logarithm to the base 2.

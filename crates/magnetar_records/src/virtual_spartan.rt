@@ -17,7 +17,7 @@ use magnetar_hash::transcript::Transcript;
 use magnetar_inplace::records;
 use magnetar_inplace::records::Entry;
 use magnetar_inplace::steps as walks;
-use magnetar_inplace::transcript;
+use magnetar_transcript::transcript;
 
 // The combined table at the words d of the draws, in front of s.
 pub fn combine_at(

@@ -14,11 +14,12 @@ use Rattle.magnetar_field.proofs.Tabulation.{tabulate-length}
 use Rattle.magnetar_layout.specs.Lent.{Lent}
 use Rattle.magnetar_layout.specs.Login.{loginWords}
 use Rattle.magnetar_layout.specs.Tests.{Sized}
-use Rattle.magnetar_r1cs.specs.Lent.{matrixOf}
-use Rattle.magnetar_r1cs.specs.Matrix.{times}
-use Rattle.magnetar_r1cs.specs.Sum.{blocks}
-use Rattle.magnetar_r1cs.specs.Entries.{packedTable, packedOut}
-use Rattle.magnetar_r1cs.proofs.TableLaws.{elements-words}
+use Rattle.magnetar_matrix.specs.Lent.{matrixOf}
+use Rattle.magnetar_matrix.specs.Matrix.{times}
+use Rattle.magnetar_matrix.specs.Sum.{blocks}
+use Rattle.magnetar_matrix.specs.Packed.{packedTable}
+use Rattle.magnetar_r1cs.specs.Entries.{packedOut}
+use Rattle.magnetar_matrix.proofs.TableLaws.{elements-words}
 use Rattle.magnetar_protocol.specs.RealRun.{productTables}
 use Rattle.magnetar_rounds.specs.Entries.{tableAt, blockWords, tablesOf}
 use Rattle.magnetar_rounds.proofs.Slots.{take-of-drop, mid-length, mid-before, mid-behind, mid-at, mid-back, fore-length, fore-back}

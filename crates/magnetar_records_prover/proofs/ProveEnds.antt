@@ -14,10 +14,10 @@ use Rattle.magnetar_field.specs.Words.{elements, words, overlaid}
 use Rattle.magnetar_field.proofs.Elements.{words-length, elements-length}
 use Rattle.magnetar_hash.specs.declared.transcript.Transcript.{Transcript}
 use Rattle.magnetar_field.proofs.Tabulation.{tabulate-length}
-use Rattle.magnetar_r1cs.specs.Batch.{folded, foldedAt}
-use Rattle.magnetar_r1cs.specs.Packed.{unpacked}
+use Rattle.magnetar_matrix.specs.Batch.{folded, foldedAt}
+use Rattle.magnetar_matrix.specs.Packed.{unpacked}
 use Rattle.magnetar_r1cs.proofs.Points.{log-most}
-use Rattle.magnetar_r1cs.proofs.TableLaws.{elements-words}
+use Rattle.magnetar_matrix.proofs.TableLaws.{elements-words}
 use Rattle.magnetar_batch.specs.Systems.{system}
 use Rattle.magnetar_checks.specs.Claims.{claimsOut}
 use Rattle.magnetar_checks.proofs.Pieces.{elements-take}

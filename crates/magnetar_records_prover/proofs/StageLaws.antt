@@ -14,8 +14,8 @@ use Rattle.magnetar_field.proofs.Elements.{words-length, elements-length}
 use Rattle.magnetar_hash.specs.declared.transcript.Transcript.{Transcript}
 use Rattle.magnetar_layout.specs.Login.{loginWords}
 use Rattle.magnetar_layout.specs.Tests.{sizeTests, packedTests, lengthTest, roomTest, Sized}
-use Rattle.magnetar_r1cs.specs.Batch.{folded, foldedAt}
-use Rattle.magnetar_r1cs.specs.Packed.{unpacked}
+use Rattle.magnetar_matrix.specs.Batch.{folded, foldedAt}
+use Rattle.magnetar_matrix.specs.Packed.{unpacked}
 use Rattle.magnetar_field.proofs.Tabulation.{tabulate-length}
 use Rattle.magnetar_batch.specs.Entries.{foldInRefusal, foldInOut}
 use Rattle.magnetar_batch.proofs.Rooms.{back-part, back-put}

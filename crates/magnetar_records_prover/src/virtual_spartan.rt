@@ -19,9 +19,9 @@ use magnetar_hash::transcript::TranscriptAnswer;
 use magnetar_inplace::records;
 use magnetar_inplace::records::Entry;
 use magnetar_inplace::steps as walks;
-use magnetar_inplace::transcript;
 use magnetar_records::stages as shared;
 use magnetar_records::virtual_spartan as table;
+use magnetar_transcript::transcript;
 
 // The first part: the products, the outer rounds and the combined table, for a run with k segments.
 fn first(

@@ -9,16 +9,16 @@ use lib.ListN.{length, getD, take, drop}
 use lib.Seq.{length-take-le, take-at, drop-drop}
 use borrow.Rule.Slice.PartMut.{putMid}
 use Rattle.magnetar_field.specs.Words.{elements, words}
-use Rattle.magnetar_field.specs.EqTable.{eqTable}
-use Rattle.magnetar_field.specs.Entries.{eqOut}
+use Rattle.magnetar_multilinear.specs.EqTable.{eqTable}
+use Rattle.magnetar_multilinear.specs.Entries.{eqOut}
 use Rattle.magnetar_field.proofs.Elements.{elements-length, elements-drop, words-length}
-use Rattle.magnetar_field.proofs.EqTables.{eqTable-length}
+use Rattle.magnetar_multilinear.proofs.EqTables.{eqTable-length}
 use Rattle.magnetar_hash.specs.declared.transcript.Transcript.{Transcript}
 use Rattle.magnetar_protocol.specs.Schedule.{numbered}
-use Rattle.magnetar_r1cs.specs.Table.{Point}
+use Rattle.magnetar_matrix.specs.Table.{Point}
 use Rattle.magnetar_r1cs.proofs.Points.{eq-built}
-use Rattle.magnetar_r1cs.proofs.TableLaws.{elements-words}
-use Rattle.magnetar_sumcheck.specs.Messages.{outerStart}
+use Rattle.magnetar_matrix.proofs.TableLaws.{elements-words}
+use Rattle.magnetar_round.specs.Messages.{outerStart}
 use Rattle.magnetar_rounds.specs.Entries.{tableAt}
 use Rattle.magnetar_rounds.specs.Held.{outerIn, heardOne, Said, saidIn, saidEach, threeIn, Begun}
 use Rattle.magnetar_rounds.proofs.Slots.{part-size, part-is, fore-back, fore-length, mid-front, mid-at}

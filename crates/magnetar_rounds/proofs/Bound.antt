@@ -8,10 +8,10 @@ use lib.ListN.{length, take, drop}
 use lib.Seq.{length-take-le, drop-drop}
 use borrow.Rule.Slice.PartMut.{putMid}
 use Rattle.magnetar_field.specs.Words.{elements}
-use Rattle.magnetar_field.specs.Multilinear.{bindVar}
-use Rattle.magnetar_field.specs.Entries.{bindOut}
+use Rattle.magnetar_multilinear.specs.Multilinear.{bindVar}
+use Rattle.magnetar_multilinear.specs.Entries.{bindOut}
 use Rattle.magnetar_sumcheck.specs.Entries.{dropOut}
-use Rattle.magnetar_sumcheck.specs.Outer.{dropVar}
+use Rattle.magnetar_round.specs.Outer.{dropVar}
 use Rattle.magnetar_rounds.specs.Entries.{tableAt}
 use Rattle.magnetar_rounds.specs.Held.{Table}
 use Rattle.magnetar_rounds.proofs.Slots.{part-is, part-size, mid-length, mid-before, mid-behind, mid-in, fore-length, fore-in, fore-back, fore-behind}

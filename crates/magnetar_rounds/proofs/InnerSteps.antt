@@ -8,11 +8,11 @@ use native.Mathlib.Omega.{arith}
 use lib.ListN.{length, take}
 use Rattle.magnetar_field.specs.Gf128.{value}
 use Rattle.magnetar_field.specs.Words.{elements, words}
-use Rattle.magnetar_field.specs.Multilinear.{bindVar}
+use Rattle.magnetar_multilinear.specs.Multilinear.{bindVar}
 use Rattle.magnetar_hash.specs.Bytes.{wordBytes, ascii}
 use Rattle.magnetar_hash.specs.declared.transcript.Transcript.{Transcript}
 use Rattle.magnetar_hash.specs.Transcript as transcript
-use Rattle.magnetar_sumcheck.specs.Inner.{innerMessage, innerSums}
+use Rattle.magnetar_round.specs.Inner.{innerMessage, innerSums}
 use Rattle.magnetar_protocol.specs.Stepwise.{Steps, InnerSteps, innerStep, innerSteps}
 use Rattle.magnetar_rounds.specs.Entries.{tableAt}
 use Rattle.magnetar_rounds.specs.Held.{innerIn, Table}

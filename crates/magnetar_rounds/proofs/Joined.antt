@@ -12,7 +12,7 @@ use Rattle.magnetar_field.proofs.Log2.{log₂-pow}
 use Rattle.magnetar_field.specs.Words.{elements}
 use Rattle.magnetar_hash.specs.Bytes.{ascii}
 use Rattle.magnetar_hash.specs.declared.transcript.Transcript.{Transcript}
-use Rattle.magnetar_sumcheck.specs.Messages.{Outer, outerStart}
+use Rattle.magnetar_round.specs.Messages.{Outer, outerStart}
 use Rattle.magnetar_protocol.specs.Schedule.{outline}
 use Rattle.magnetar_protocol.specs.Stepwise.{Steps, RowSteps, Tables, askTimes, sharedSteps, rowSteps, tauSteps, outerBegin, binRows, fldRows, outerSteps, terminalsLeft, outerAll}
 use Rattle.magnetar_protocol.proofs.StepLaws.{row-rounds}

@@ -11,7 +11,7 @@ use Rattle.magnetar_field.proofs.Log2.{log₂-pow}
 use Rattle.magnetar_field.specs.Words.{elements}
 use Rattle.magnetar_hash.specs.Bytes.{ascii}
 use Rattle.magnetar_hash.specs.declared.transcript.Transcript.{Transcript}
-use Rattle.magnetar_sumcheck.specs.Messages.{Outer}
+use Rattle.magnetar_round.specs.Messages.{Outer}
 use Rattle.magnetar_protocol.specs.Stepwise.{Steps, OuterSteps, Tables, askTimes, sharedSteps, rowSteps}
 use Rattle.magnetar_rounds.specs.Held.{stepsIn, outerIn, rowIn, saidIn, saidEach, threeIn, Begun}
 use Rattle.magnetar_rounds.specs.Shared.{sharedIn}

@@ -17,7 +17,7 @@ use Rattle.magnetar_hash.specs.Bytes.{wordBytes}
 use Rattle.magnetar_hash.specs.declared.transcript.Transcript.{Transcript}
 use Rattle.magnetar_hash.specs.Transcript as transcript
 use Rattle.magnetar_protocol.specs.Stepwise.{Steps, say, ask}
-use Rattle.magnetar_r1cs.proofs.TableLaws.{elements-words}
+use Rattle.magnetar_matrix.proofs.TableLaws.{elements-words}
 use Rattle.magnetar_rounds.specs.Held.{stepsIn, heardOne}
 use Rattle.magnetar_rounds.proofs.Slots.{mid-upto, mid-at, part-is}
 

@@ -13,18 +13,18 @@ use borrow.Rule.Slice.PartMut.{putMid}
 use Rattle.magnetar_field.specs.Sizes.{log₂}
 use Rattle.magnetar_field.specs.Tabulate.{tabulate}
 use Rattle.magnetar_field.specs.Words.{elements, words}
-use Rattle.magnetar_field.specs.EqTable.{eqTable}
-use Rattle.magnetar_field.specs.Multilinear.{dot, mle}
+use Rattle.magnetar_multilinear.specs.EqTable.{eqTable}
+use Rattle.magnetar_multilinear.specs.Multilinear.{dot, mle}
 use Rattle.magnetar_field.proofs.Elements.{elements-drop, elements-length, words-length}
-use Rattle.magnetar_field.proofs.EqTables.{eqTable-length}
+use Rattle.magnetar_multilinear.proofs.EqTables.{eqTable-length}
 use Rattle.magnetar_field.proofs.Tabulation.{tabulate-length, tabulate-get}
 use Rattle.magnetar_hash.specs.declared.transcript.Transcript.{Transcript}
 use Rattle.magnetar_protocol.specs.Schedule.{numbered}
 use Rattle.magnetar_layout.specs.Layout.{offset, localVars}
 use Rattle.magnetar_layout.specs.Entries.{layoutRefusal, segmentPart}
-use Rattle.magnetar_r1cs.specs.Table.{Point}
+use Rattle.magnetar_matrix.specs.Table.{Point}
 use Rattle.magnetar_layout.proofs.Readings.{part-is}
-use Rattle.magnetar_r1cs.proofs.TableLaws.{elements-words}
+use Rattle.magnetar_matrix.proofs.TableLaws.{elements-words}
 use Rattle.magnetar_rounds.specs.Entries.{tableAt}
 use Rattle.magnetar_rounds.specs.Held.{Local, segmentIn, Said, saidIn, saidEach, heardOne}
 use Rattle.magnetar_rounds.proofs.Slots.{part-size, mid-before, mid-at}

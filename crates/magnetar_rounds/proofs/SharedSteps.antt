@@ -10,13 +10,13 @@ use lib.ListN.{length, getD, take, drop, length-drop, drop-of-length-le}
 use lib.Seq.{length-take-le, take-take, take-append-le, getD-take, getD-drop}
 use Rattle.magnetar_field.specs.Gf128.{value, _⊕_, _⊗_}
 use Rattle.magnetar_field.specs.Words.{elements, words}
-use Rattle.magnetar_field.specs.Multilinear.{bindVar}
+use Rattle.magnetar_multilinear.specs.Multilinear.{bindVar}
 use Rattle.magnetar_hash.specs.Bytes.{wordBytes}
 use Rattle.magnetar_hash.specs.declared.transcript.Transcript.{Transcript}
 use Rattle.magnetar_hash.specs.Transcript as transcript
-use Rattle.magnetar_sumcheck.specs.Order.{nextVar}
-use Rattle.magnetar_sumcheck.specs.Outer.{dropVar}
-use Rattle.magnetar_sumcheck.specs.Messages.{Outer, outerNext, outerFold}
+use Rattle.magnetar_round.specs.Order.{nextVar}
+use Rattle.magnetar_round.specs.Outer.{dropVar}
+use Rattle.magnetar_round.specs.Messages.{Outer, outerNext, outerFold}
 use Rattle.magnetar_protocol.specs.Schedule.{numbered}
 use Rattle.magnetar_protocol.specs.Stepwise.{Steps, OuterSteps, sharedStep, sharedSteps}
 use Rattle.magnetar_rounds.specs.Entries.{tableAt}

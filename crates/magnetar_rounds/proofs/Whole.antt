@@ -11,16 +11,16 @@ use lib.Seq.{take-at}
 use borrow.Author.Tests.{eq-eqb, lt-ltb, le-ltb}
 use Rattle.magnetar_field.specs.Sizes.{log₂}
 use Rattle.magnetar_field.specs.Words.{elements, words}
-use Rattle.magnetar_field.specs.Multilinear.{bindVar}
-use Rattle.magnetar_field.specs.Entries.{bindRefusal, bindOut}
+use Rattle.magnetar_multilinear.specs.Multilinear.{bindVar}
+use Rattle.magnetar_multilinear.specs.Entries.{bindRefusal, bindOut}
 use Rattle.magnetar_field.proofs.Log2.{log₂-pow}
 use Rattle.magnetar_field.proofs.Elements.{elements-length, words-length}
 use Rattle.magnetar_field.proofs.Tabulation.{tabulate-length}
-use Rattle.magnetar_field.proofs.Refusals.{bind-none}
-use Rattle.magnetar_r1cs.proofs.TableLaws.{elements-words}
+use Rattle.magnetar_multilinear.proofs.Refusals.{bind-none}
+use Rattle.magnetar_matrix.proofs.TableLaws.{elements-words}
 use Rattle.magnetar_sumcheck.specs.Entries.{isTable, dropRefusal, dropOut, innerRefusal, innerOut, outerRefusal, outerOut}
-use Rattle.magnetar_sumcheck.specs.Inner.{innerMessage}
-use Rattle.magnetar_sumcheck.specs.Outer.{outerMessage, dropVar}
+use Rattle.magnetar_round.specs.Inner.{innerMessage}
+use Rattle.magnetar_round.specs.Outer.{outerMessage, dropVar}
 
 pub is-table : (v w n : ℕ) → w ≡ 2 * 2 ^ n → v < n → n < 62 → isTable v w ≡ true
 unfolding isTable

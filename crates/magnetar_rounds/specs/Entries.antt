@@ -11,7 +11,7 @@ use Rattle.magnetar_field.specs.Words.{elements, words, overlaid}
 use Rattle.magnetar_hash.specs.declared.transcript.Transcript.{Transcript}
 use Rattle.magnetar_protocol.specs.Schedule.{outline}
 use Rattle.magnetar_protocol.specs.Stepwise.{Steps, Tables, begin, tauSteps, outerAll, innerAll}
-use Rattle.magnetar_r1cs.specs.Batch.{Relation}
+use Rattle.magnetar_matrix.specs.Batch.{Relation}
 use Rattle.magnetar_layout.specs.Tests.{Tests, noted, isSize, columnTests, publicTests, layoutTests, roomTest}
 use Rattle.magnetar_rounds.specs.declared.answer.RoundsAnswer.{RoundsAnswer}
 

@@ -6,9 +6,9 @@ use mathlib.Core.List.{List}
 use Prim.Native.Nat.{ℕ, _+_, _*_, _/_, _^_, _≤_, _<_}
 use lib.ListN.{take, drop}
 use Rattle.magnetar_field.specs.Words.{elements}
-use Rattle.magnetar_field.specs.Multilinear.{bindVar}
+use Rattle.magnetar_multilinear.specs.Multilinear.{bindVar}
 use Rattle.magnetar_hash.specs.declared.transcript.Transcript.{Transcript}
-use Rattle.magnetar_sumcheck.specs.Outer.{outerMessage, dropVar}
+use Rattle.magnetar_round.specs.Outer.{outerMessage, dropVar}
 use Rattle.magnetar_protocol.specs.Stepwise.{OuterSteps}
 use Rattle.magnetar_rounds.specs.Entries.{tableAt}
 use Rattle.magnetar_rounds.specs.Held.{stepsIn, outerIn}

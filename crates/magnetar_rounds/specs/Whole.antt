@@ -7,7 +7,7 @@ use Prim.Native.Nat.{ℕ, _+_, _*_, _^_, _≤_}
 use lib.ListN.{getD, take, drop}
 use Rattle.magnetar_hash.specs.Bytes.{ascii}
 use Rattle.magnetar_hash.specs.declared.transcript.Transcript.{Transcript}
-use Rattle.magnetar_sumcheck.specs.Messages.{outerStart}
+use Rattle.magnetar_round.specs.Messages.{outerStart}
 use Rattle.magnetar_rounds.specs.Held.{stepsIn, outerIn}
 use Rattle.magnetar_protocol.specs.Stepwise.{Steps, OuterSteps, Tables, begin, askTimes, sayEach, sharedSteps, rowSteps}
 

@@ -1,10 +1,10 @@
 // The outer sum-check. A block has the four tables e, a, b, c of a system one behind the other, w words each; while the tables
 // shrink they stay at the front of their w words.
 use magnetar_field::gf128::Gf128;
-use magnetar_field::multilinear;
 use magnetar_field::words;
 use magnetar_hash::transcript;
 use magnetar_hash::transcript::Transcript;
+use magnetar_multilinear::multilinear;
 use magnetar_schedule::events;
 use magnetar_sumcheck::engine;
 use magnetar_sumcheck::public;
@@ -16,8 +16,8 @@ ghost use Rattle.magnetar_field.specs.Gf128.{value, _⊕_, _⊗_};
 ghost use Rattle.magnetar_field.specs.Words.{elements, words};
 ghost use Rattle.magnetar_hash.specs.Transcript.{element};
 ghost use Rattle.magnetar_protocol.specs.Stepwise.{rowStep, rowSteps};
-ghost use Rattle.magnetar_field.specs.Multilinear.{bindVar};
-ghost use Rattle.magnetar_sumcheck.specs.Outer.{outerMessage, dropVar};
+ghost use Rattle.magnetar_multilinear.specs.Multilinear.{bindVar};
+ghost use Rattle.magnetar_round.specs.Outer.{outerMessage, dropVar};
 ghost use Rattle.magnetar_rounds.specs.Entries.{tableAt};
 ghost use Rattle.magnetar_rounds.specs.Held.{Table, Rows, rowIn};
 

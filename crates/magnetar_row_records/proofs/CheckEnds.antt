@@ -12,17 +12,18 @@ use borrow.Author.Tests.{eqb-true, eqb-false, ne-eqb, ltb-true, ltb-false, lt-lt
 use Rattle.magnetar_field.specs.Words.{elements}
 use Rattle.magnetar_layout.specs.Tests.{Tests}
 use Rattle.magnetar_layout.proofs.Noted.{noted-clear, done}
-use Rattle.magnetar_r1cs.specs.Matrix as matrix
-use Rattle.magnetar_r1cs.specs.Lent.{Lent, entriesOf}
-use Rattle.magnetar_r1cs.specs.Packed.{unpacked}
-use Rattle.magnetar_r1cs.specs.RowCheck.{rowVerdict}
-use Rattle.magnetar_r1cs.proofs.Verdicts.{first-le, first-before, first-not}
+use Rattle.magnetar_matrix.specs.Matrix as matrix
+use Rattle.magnetar_matrix.specs.Lent.{Lent, entriesOf}
+use Rattle.magnetar_matrix.specs.Packed.{unpacked}
+use Rattle.magnetar_matrix.specs.RowCheck.{rowVerdict}
+use Rattle.magnetar_matrix.proofs.Verdicts.{first-le, first-before, first-not}
 use Rattle.magnetar_batch.specs.Systems.{Lent3, systemsTests}
 use Rattle.magnetar_batch.specs.Check.{Outcome, relation, batchSizes, checkRefusal, checkAnswer, checkScratch}
 use Rattle.magnetar_batch.specs.Check.Outcome.{judged}
 use Rattle.magnetar_batch.specs.Rows.{loginRow, loginOf}
 use Rattle.magnetar_batch.proofs.SystemLaws.{Fits6, fits6, front-none, rest-none}
-use Rattle.magnetar_batch.proofs.RowLaws.{Below, Found, judged-bin, judged-fld, judged-good}
+use Rattle.magnetar_matrix.proofs.FirstRow.{Below}
+use Rattle.magnetar_batch.proofs.RowLaws.{Found, judged-bin, judged-fld, judged-good}
 use Rattle.magnetar_batch.proofs.CheckLaws.{check-done}
 use Rattle.magnetar_batch.proofs.CheckLaws as core
 use Rattle.magnetar_inplace.specs.declared.records.Entry.{Entry}

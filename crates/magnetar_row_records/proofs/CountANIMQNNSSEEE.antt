@@ -53,7 +53,7 @@ use Rattle.magnetar_inplace.proofs.records.Entry.Laws as T′
 use Rattle.magnetar_row_records.specs.declared.steps.Seen.{Seen}
 use Rattle.magnetar_row_records.proofs.steps.Seen as B
 use Rattle.magnetar_row_records.proofs.steps.Seen.Laws as B′
-use Rattle.magnetar_inplace.proofs.Again.{LentAgain, lends-again, comes-back}
+use Rattle.magnetar_transcript.proofs.Again.{LentAgain, lends-again, comes-back}
 
 -- ---- the function and its callee
 abbrev pub turn : Name → Code

@@ -13,10 +13,11 @@ use Rattle.magnetar_field.specs.Words.{words}
 use Rattle.magnetar_field.specs.Tabulate.{tabulate}
 use Rattle.magnetar_field.proofs.Elements.{words-length}
 use Rattle.magnetar_field.proofs.Tabulation.{tabulate-length}
-use Rattle.magnetar_r1cs.specs.Matrix.{Entry, rowTotal, share}
-use Rattle.magnetar_r1cs.specs.Packed.{loginPart}
+use Rattle.magnetar_matrix.specs.Matrix.{Entry, rowTotal, share}
+use Rattle.magnetar_matrix.specs.Packed.{loginPart}
 use Rattle.magnetar_batch.specs.Rows.{zOf, rowOf, loginRow}
-use Rattle.magnetar_batch.proofs.RowLaws.{Below, row-is, row-le}
+use Rattle.magnetar_matrix.proofs.FirstRow.{Below}
+use Rattle.magnetar_batch.proofs.RowLaws.{row-is, row-le}
 use Rattle.magnetar_inplace.specs.LoginSteps.{loginZ}
 use Rattle.magnetar_inplace.proofs.RecordLaws.{cleared-added}
 use Rattle.magnetar_row_records.specs.Steps.{behind, productIn, twiceOf, threeIn, rowIn, Walked, loginDone, systemDone}

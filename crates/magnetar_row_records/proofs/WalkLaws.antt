@@ -12,9 +12,9 @@ use lib.Seq.{take-at, drop-at, length-take-le}
 use borrow.Author.Tests.{leb-true, le-leb, lt-leb, lt-ltb, le-ltb, ne-eqb}
 use borrow.Rule.Slice.PartMut.{putMid}
 use Rattle.magnetar_field.specs.Words.{elements}
-use Rattle.magnetar_r1cs.specs.Matrix.{Entry, share}
-use Rattle.magnetar_r1cs.specs.RowCheck.{firstNot}
-use Rattle.magnetar_batch.specs.Rows.{holdsAt}
+use Rattle.magnetar_matrix.specs.Matrix.{Entry, share}
+use Rattle.magnetar_matrix.specs.RowCheck.{firstNot}
+use Rattle.magnetar_matrix.specs.RowCheck.{holdsAt}
 use Rattle.magnetar_inplace.specs.LoginSteps.{loginZ}
 use Rattle.magnetar_inplace.specs.Steps.{clearedTo, addedTo, addedAll}
 use Rattle.magnetar_inplace.proofs.StepLaws.{rest-is, behind-is}

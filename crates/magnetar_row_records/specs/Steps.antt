@@ -6,12 +6,12 @@ use Prim.Native.Nat.{ℕ, zero, suc, _*_, min, max}
 use lib.Dec.{eqb, ltb, leb}
 use lib.ListN.{length, take, drop}
 use Rattle.magnetar_field.specs.Words.{elements}
-use Rattle.magnetar_r1cs.specs.Matrix.{Entry, share}
-use Rattle.magnetar_r1cs.specs.RowCheck.{firstNot}
-use Rattle.magnetar_r1cs.specs.RowCheck.Verdict.{good, bin, fld}
+use Rattle.magnetar_matrix.specs.Matrix.{Entry, share}
+use Rattle.magnetar_matrix.specs.RowCheck.{firstNot}
+use Rattle.magnetar_matrix.specs.RowCheck.Verdict.{good, bin, fld}
 use Rattle.magnetar_batch.specs.Check.{Outcome}
 use Rattle.magnetar_batch.specs.Check.Outcome.{judged, refused}
-use Rattle.magnetar_batch.specs.Rows.{holdsAt}
+use Rattle.magnetar_matrix.specs.RowCheck.{holdsAt}
 use Rattle.magnetar_inplace.specs.LoginSteps.{loginZ}
 use Rattle.magnetar_inplace.specs.Steps.{clearedTo, addedTo, addedAll}
 use Rattle.magnetar_row_records.specs.declared.steps.Seen.{Seen}

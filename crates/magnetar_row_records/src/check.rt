@@ -5,7 +5,7 @@ ghost use Prim.Native.Nat.{_*_};
 ghost use lib.Dec.{eqb};
 ghost use lib.ListN.{length};
 ghost use Rattle.magnetar_field.specs.Words.{elements};
-ghost use Rattle.magnetar_r1cs.specs.Matrix.{share};
+ghost use Rattle.magnetar_matrix.specs.Matrix.{share};
 ghost use Rattle.magnetar_batch.specs.Systems.{system};
 ghost use Rattle.magnetar_batch.specs.Check.{outcome, checkRefusal, checkAnswer, checkScratch};
 ghost use Rattle.magnetar_inplace.specs.Records.{entriesOfRecords, lentOf};

@@ -3,20 +3,20 @@ ghost use mathlib.Core.Path.{_≡_};
 ghost use Prim.Native.Nat.{_*_, _/_, _≤_, min, max};
 ghost use lib.Dec.{eqb};
 ghost use Rattle.magnetar_field.specs.Words.{elements};
-ghost use Rattle.magnetar_r1cs.specs.Matrix.{share};
+ghost use Rattle.magnetar_matrix.specs.Matrix.{share};
 ghost use Rattle.magnetar_batch.specs.Check.{outcome};
 ghost use Rattle.magnetar_inplace.specs.Records.{entryOf};
 ghost use Rattle.magnetar_inplace.specs.LoginSteps.{loginZ};
 ghost use Rattle.magnetar_inplace.specs.Steps.{clearedTo, addedTo};
 ghost use Rattle.magnetar_row_records.specs.Steps.{behind, twiceOf, rowIn, nothing, seenIn, answerOf};
-use magnetar_batch::check;
 use magnetar_batch::check::RowCheck;
 use magnetar_field::gf128::Gf128;
 use magnetar_field::sizes;
 use magnetar_inplace::logins;
 use magnetar_inplace::records::Entry;
 use magnetar_inplace::steps;
-use magnetar_r1cs::walk;
+use magnetar_matrix::rows;
+use magnetar_matrix::step;
 
 // The first failing row: 1 for bin, 2 for fld, 0 for none; the login and the row.
 pub(crate) struct Seen {
@@ -52,7 +52,7 @@ fn add_share(n: usize, u: usize, w: usize, packed: &[u64], x: &[u64], s: &mut [u
 {
     let v = Gf128 { lo: e.lo, hi: e.hi };
     let f = logins::z_at(packed, x, w, u, e.col);
-    steps::add_to(n, e.row, walk::scale(f, v), s);
+    steps::add_to(n, e.row, step::scale(f, v), s);
 }
 
 // The same, behind the first m elements.
@@ -102,7 +102,7 @@ fn first_row(s: &[u64], n: usize) -> usize
         return n;
     }
     let end = 6 * n;
-    check::first_failing(&s[0..end], n)
+    rows::first_failing(&s[0..end], n)
 }
 
 // Nothing was found yet.

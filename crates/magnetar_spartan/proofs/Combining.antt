@@ -18,7 +18,7 @@ use Rattle.magnetar_checks.specs.Outer.{runTests}
 use Rattle.magnetar_checks.proofs.Pieces.{elements-take}
 use Rattle.magnetar_layout.specs.Tests.{Tests, note, noted, isSize, Sized}
 use Rattle.magnetar_layout.proofs.Noted.{Clear}
-use Rattle.magnetar_r1cs.specs.Batch.{Relation}
+use Rattle.magnetar_matrix.specs.Batch.{Relation}
 use Rattle.magnetar_batch.specs.Systems.{systemOf, combinedTable, systemsTests, pointTests}
 use Rattle.magnetar_batch.specs.Entries.{comboRefusal, comboWords, comboIn, behindWords}
 use Rattle.magnetar_protocol.specs.Draws.{Draws, drawsOf}

@@ -12,11 +12,11 @@ use Rattle.magnetar_field.specs.Words.{elements, words}
 use Rattle.magnetar_field.proofs.Elements.{elements-length, elements-below}
 use Rattle.magnetar_field.proofs.Tabulation.{tabulate-length, tabulate-get, tabulate-out}
 use Rattle.magnetar_hash.specs.declared.transcript.Transcript.{Transcript}
-use Rattle.magnetar_r1cs.specs.Batch.{Relation, Batch, Good, bitOf}
-use Rattle.magnetar_r1cs.specs.Packed.{packedBit, loginPart, unpacked}
-use Rattle.magnetar_r1cs.specs.Lent.{matrixOf}
-use Rattle.magnetar_r1cs.proofs.TableLaws.{elements-words}
-use Rattle.magnetar_r1cs.proofs.LoginParts.{bit-unpacked}
+use Rattle.magnetar_matrix.specs.Batch.{Relation, Batch, Good, bitOf}
+use Rattle.magnetar_matrix.specs.Packed.{packedBit, loginPart, unpacked}
+use Rattle.magnetar_matrix.specs.Lent.{matrixOf}
+use Rattle.magnetar_matrix.proofs.TableLaws.{elements-words}
+use Rattle.magnetar_matrix.proofs.LoginParts.{bit-unpacked}
 use Rattle.magnetar_batch.specs.Systems.{systemOf}
 use Rattle.magnetar_protocol.specs.Run.{claims, verdict, ClaimsTrue}
 use Rattle.magnetar_protocol.specs.RunSizes.{SizedRelation, SizedBatch}

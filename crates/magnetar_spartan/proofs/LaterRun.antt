@@ -18,11 +18,11 @@ use Rattle.magnetar_field.proofs.Tabulation.{tabulate-of, tabulate-length}
 use Rattle.magnetar_hash.specs.declared.transcript.Transcript.{Transcript}
 use Rattle.magnetar_layout.specs.Login.{loginWords}
 use Rattle.magnetar_layout.specs.Tests.{sizeTests, packedTests, columnTests, publicTests, layoutTests, lengthTest, roomTest, Sized}
-use Rattle.magnetar_r1cs.specs.Batch.{Relation, Batch, folded, foldedAt}
-use Rattle.magnetar_r1cs.specs.Lent.{matrixOf}
-use Rattle.magnetar_r1cs.specs.Packed.{unpacked}
+use Rattle.magnetar_matrix.specs.Batch.{Relation, Batch, folded, foldedAt}
+use Rattle.magnetar_matrix.specs.Lent.{matrixOf}
+use Rattle.magnetar_matrix.specs.Packed.{unpacked}
 use Rattle.magnetar_r1cs.proofs.Points.{log-most}
-use Rattle.magnetar_r1cs.proofs.TableLaws.{elements-words}
+use Rattle.magnetar_matrix.proofs.TableLaws.{elements-words}
 use Rattle.magnetar_batch.specs.Systems.{systemOf}
 use Rattle.magnetar_batch.specs.Entries.{foldInRefusal, foldInOut}
 use Rattle.magnetar_batch.proofs.Rooms.{back-part, back-put}

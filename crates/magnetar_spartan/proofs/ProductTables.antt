@@ -11,9 +11,10 @@ use Rattle.magnetar_field.specs.Words.{elements, words}
 use Rattle.magnetar_layout.specs.Lent.{Lent}
 use Rattle.magnetar_layout.specs.Login.{loginWords}
 use Rattle.magnetar_layout.specs.Tests.{roomTest, batchTests, Sized}
-use Rattle.magnetar_r1cs.specs.Lent.{matrixOf}
-use Rattle.magnetar_r1cs.specs.Entries.{packedRefusal, packedTable, packedOut}
-use Rattle.magnetar_r1cs.proofs.TableLaws.{elements-words}
+use Rattle.magnetar_matrix.specs.Lent.{matrixOf}
+use Rattle.magnetar_matrix.specs.Packed.{packedTable}
+use Rattle.magnetar_r1cs.specs.Entries.{packedRefusal, packedOut}
+use Rattle.magnetar_matrix.proofs.TableLaws.{elements-words}
 use Rattle.magnetar_batch.specs.Systems.{systemOf}
 use Rattle.magnetar_protocol.specs.Prover.{productTable}
 use Rattle.magnetar_protocol.specs.RealRun.{productTables}

@@ -11,9 +11,9 @@ use Rattle.magnetar_spartan.proofs.Chains.{halves}
 use Rattle.magnetar_layout.specs.Lent.{Lent}
 use Rattle.magnetar_layout.specs.Layout.{LayoutFits}
 use Rattle.magnetar_layout.specs.Tests.{Sized}
-use Rattle.magnetar_r1cs.specs.Lent.{entriesOf, matrixOf}
+use Rattle.magnetar_matrix.specs.Lent.{entriesOf, matrixOf}
 use Rattle.magnetar_r1cs.proofs.Lone.{all-inside}
-use Rattle.magnetar_r1cs.proofs.Walked.{entries-end}
+use Rattle.magnetar_matrix.proofs.Walked.{entries-end}
 use Rattle.magnetar_protocol.specs.RunSizes.{Power, SizedMatrix, SizedSystem, SizedRelation}
 use Rattle.magnetar_spartan.specs.Rules.{Rules, relationOf}
 use Rattle.magnetar_batch.specs.Systems.{Lent3, systemOf}

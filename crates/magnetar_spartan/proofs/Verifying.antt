@@ -10,8 +10,8 @@ use borrow.Author.Tests.{ne-eqb}
 use Rattle.magnetar_field.specs.Words.{elements, words, overlaid}
 use Rattle.magnetar_field.proofs.Elements.{words-length, overlaid-same}
 use Rattle.magnetar_hash.specs.declared.transcript.Transcript.{Transcript}
-use Rattle.magnetar_r1cs.specs.Batch.{Relation}
-use Rattle.magnetar_r1cs.specs.Lent.{matrixOf}
+use Rattle.magnetar_matrix.specs.Batch.{Relation}
+use Rattle.magnetar_matrix.specs.Lent.{matrixOf}
 use Rattle.magnetar_batch.specs.Systems.{systemOf}
 use Rattle.magnetar_protocol.specs.Shape.{logLogins}
 use Rattle.magnetar_protocol.specs.Proof.{innerRounds, valueZ, terminals}

@@ -7,7 +7,7 @@ use Prim.Native.Nat.{ℕ, _-_, _*_, _/_}
 use lib.ListN.{take}
 use Rattle.magnetar_field.specs.Words.{elements, words}
 use Rattle.magnetar_hash.specs.declared.transcript.Transcript.{Transcript}
-use Rattle.magnetar_r1cs.specs.Batch.{Relation, folded}
+use Rattle.magnetar_matrix.specs.Batch.{Relation, folded}
 use Rattle.magnetar_protocol.specs.Shape.{logCols, beforeInner}
 use Rattle.magnetar_protocol.specs.Draws.{drawCount, drawsOf, loginPoint}
 use Rattle.magnetar_protocol.specs.Schedule.{outline}

@@ -8,8 +8,8 @@ use Rattle.magnetar_field.specs.Words.{elements, words}
 use Rattle.magnetar_hash.specs.declared.transcript.Transcript.{Transcript}
 use Rattle.magnetar_hash.specs.declared.transcript.TranscriptAnswer.{TranscriptAnswer}
 use Rattle.magnetar_layout.specs.Tests.{noted}
-use Rattle.magnetar_r1cs.specs.Batch.{Batch}
-use Rattle.magnetar_r1cs.specs.Packed.{unpacked}
+use Rattle.magnetar_matrix.specs.Batch.{Batch}
+use Rattle.magnetar_matrix.specs.Packed.{unpacked}
 use Rattle.magnetar_protocol.specs.Run.{verdict, claims}
 use Rattle.magnetar_protocol.specs.Prover.{proverWords, proverClaims}
 use Rattle.magnetar_protocol.specs.RealRun.{verifierDraws, verifierTranscript, proverDraws, proverTranscript}

@@ -4,6 +4,7 @@ use magnetar_batch::systems;
 use magnetar_field::sizes;
 use magnetar_layout::layout;
 use magnetar_layout::tests;
+use magnetar_protocol::rooms;
 use magnetar_r1cs::r1cs;
 ghost use mathlib.Core.Path.{_≡_};
 ghost use mathlib.Core.Bool.{not};
@@ -193,16 +194,7 @@ pub(crate) fn verifier_room(m: usize, rb: usize, rf: usize) -> usize
     requires { ⌜ (m ≤ 65536) × (rb ≤ 65536) × (rf ≤ 65536) ⌝ }
     ensures { λ r. ⌜ r ≡ 4 * m + 4 * max rb rf ⌝ }
 {
-    4 * m + 4 * sizes::larger(rb, rf)
-}
-
-// q times the rows of both systems.
-fn positions(q: usize, rb: usize, rf: usize) -> usize
-    requires { ⌜ (rb ≤ 65536) × (rf ≤ 65536) × (q ≤ 4096) ⌝ }
-    ensures { λ r. ⌜ r ≡ q * (rb + rf) ⌝ }
-    ensures { λ r. ⌜ r ≤ 536870912 ⌝ }
-{
-    q * (rb + rf)
+    rooms::verifier_room(m, rb, rf)
 }
 
 // The prover's scratch.
@@ -210,7 +202,7 @@ pub(crate) fn prover_room(m: usize, q: usize, rb: usize, rf: usize) -> usize
     requires { ⌜ (m ≤ 65536) × (rb ≤ 65536) × (rf ≤ 65536) × (q ≤ 4096) ⌝ }
     ensures { λ r. ⌜ r ≡ 8 * (q * (rb + rf)) + 8 * m + 4 * max rb rf + 4 * q ⌝ }
 {
-    8 * positions(q, rb, rf) + 8 * m + 4 * sizes::larger(rb, rf) + 4 * q
+    rooms::prover_room(m, q, rb, rf)
 }
 
 // 14.

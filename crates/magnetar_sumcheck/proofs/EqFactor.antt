@@ -11,13 +11,13 @@ use lib.Seq.{drop-cons, getD-append-add, getD-take, getD-drop, length-take-le}
 use borrow.Author.Tests.{ltb-true, ltb-false}
 use Rattle.magnetar_field.specs.Gf128.{_⊕_, _⊗_}
 use Rattle.magnetar_field.specs.Tabulate.{tabulate}
-use Rattle.magnetar_field.specs.Multilinear.{insertZero}
+use Rattle.magnetar_multilinear.specs.Multilinear.{insertZero}
 use Rattle.magnetar_field.specs.Words.{elements, words}
 use Rattle.magnetar_field.proofs.Elements.{elements-length, rejoin}
 use Rattle.magnetar_field.proofs.Making.{Made, made-get, made-more}
-use Rattle.magnetar_field.proofs.Bound.{place-ge}
-use Rattle.magnetar_sumcheck.specs.Order.{at₀, at₁, slope, point, placeOf, eqPoints}
-use Rattle.magnetar_sumcheck.specs.Outer.{dropVar}
+use Rattle.magnetar_multilinear.proofs.Bound.{place-ge}
+use Rattle.magnetar_round.specs.Order.{at₀, at₁, slope, point, placeOf, eqPoints}
+use Rattle.magnetar_round.specs.Outer.{dropVar}
 use Rattle.magnetar_sumcheck.specs.Entries.{isTable, dropRefusal, dropOut}
 
 -- ---- the table in place

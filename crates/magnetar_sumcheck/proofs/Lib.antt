@@ -1,15 +1,4 @@
-pub mod Hom
-pub mod Verifier
-pub mod Tables
-pub mod Pairs
-pub mod EqPairs
-pub mod OuterRound
-pub mod OuterRun
-pub mod InnerRun
 pub mod Steps
 pub mod Message
 pub mod Refusals
-pub mod Horner
 pub mod EqFactor
-pub mod Protocol
-pub mod Values

@@ -14,10 +14,10 @@ use Rattle.magnetar_field.proofs.Elements.{elements-length, words-length}
 use Rattle.magnetar_field.proofs.Xor.{xor}
 use Rattle.magnetar_field.proofs.Product.{⊗-⊕, ⊕-⊗, ⊗-assoc}
 use Rattle.magnetar_sumcheck.specs.declared.engine.Sums.{Sums}
-use Rattle.magnetar_sumcheck.specs.Sum.{sumTo}
-use Rattle.magnetar_sumcheck.specs.Order.{at₀, at₁, slope}
-use Rattle.magnetar_sumcheck.specs.Outer.{coefficient₀, coefficient₁, coefficient₂, atOne, weighted, timesEq, outerMessage}
-use Rattle.magnetar_sumcheck.specs.Inner.{innerSums, innerMessage}
+use Rattle.magnetar_round.specs.Sum.{sumTo}
+use Rattle.magnetar_round.specs.Order.{at₀, at₁, slope}
+use Rattle.magnetar_round.specs.Outer.{coefficient₀, coefficient₁, coefficient₂, atOne, weighted, timesEq, outerMessage}
+use Rattle.magnetar_round.specs.Inner.{innerSums, innerMessage}
 use Rattle.magnetar_sumcheck.specs.Sums.{sums, outerSums, innerSumsAt}
 use Rattle.magnetar_sumcheck.specs.Entries.{outerRefusal, outerOut, innerRefusal, innerOut}
 use Rattle.magnetar_sumcheck.proofs.Steps.{sum-add, sum-same}

@@ -8,12 +8,12 @@ use native.Mathlib.Numerals.{add-one}
 use native.Mathlib.Omega.{arith}
 use lib.ListN.{getD}
 use Rattle.magnetar_field.specs.Gf128.{value, _⊕_, _⊗_}
-use Rattle.magnetar_field.specs.Multilinear.{insertZero}
+use Rattle.magnetar_multilinear.specs.Multilinear.{insertZero}
 use Rattle.magnetar_field.proofs.Xor.{xor}
 use Rattle.magnetar_sumcheck.specs.declared.engine.Sums.{Sums}
-use Rattle.magnetar_sumcheck.specs.Sum.{sumTo}
-use Rattle.magnetar_sumcheck.specs.Order.{at₀, at₁, slope}
-use Rattle.magnetar_sumcheck.specs.Outer.{coefficient₀, coefficient₂, atOne, weighted}
+use Rattle.magnetar_round.specs.Sum.{sumTo}
+use Rattle.magnetar_round.specs.Order.{at₀, at₁, slope}
+use Rattle.magnetar_round.specs.Outer.{coefficient₀, coefficient₂, atOne, weighted}
 use Rattle.magnetar_sumcheck.specs.Sums.{sums, outerSums, innerSumsAt}
 
 -- ---- places

@@ -8,8 +8,8 @@ use lib.ListN.{length, drop}
 use Rattle.magnetar_field.specs.Refusal.{refuse, unlessRefused}
 use Rattle.magnetar_field.specs.Sizes.{log₂, powerOfTwo}
 use Rattle.magnetar_field.specs.Words.{elements, words}
-use Rattle.magnetar_sumcheck.specs.Outer.{outerMessage, dropVar}
-use Rattle.magnetar_sumcheck.specs.Inner.{innerMessage}
+use Rattle.magnetar_round.specs.Outer.{outerMessage, dropVar}
+use Rattle.magnetar_round.specs.Inner.{innerMessage}
 
 -- w words are a table that has a variable v
 unfoldable pub isTable : ℕ → ℕ → Bool

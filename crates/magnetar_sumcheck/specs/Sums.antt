@@ -5,9 +5,9 @@ use mathlib.Core.List.{List, [], _∷_}
 use Prim.Native.Nat.{ℕ}
 use Rattle.magnetar_field.specs.Gf128.{value, _⊗_}
 use Rattle.magnetar_sumcheck.specs.declared.engine.Sums.{Sums}
-use Rattle.magnetar_sumcheck.specs.Sum.{sumTo}
-use Rattle.magnetar_sumcheck.specs.Order.{at₀, at₁, slope}
-use Rattle.magnetar_sumcheck.specs.Outer.{coefficient₀, atOne, coefficient₂, weighted}
+use Rattle.magnetar_round.specs.Sum.{sumTo}
+use Rattle.magnetar_round.specs.Order.{at₀, at₁, slope}
+use Rattle.magnetar_round.specs.Outer.{coefficient₀, atOne, coefficient₂, weighted}
 
 -- the three sums as numbers
 unfoldable pub sums : Sums → List ℕ

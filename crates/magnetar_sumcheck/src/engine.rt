@@ -7,21 +7,15 @@ use magnetar_field::gf128;
 use magnetar_field::gf128::Gf128;
 use magnetar_field::sizes;
 use magnetar_field::words;
-use magnetar_hash::transcript;
-use magnetar_hash::transcript::Transcript;
+use magnetar_round::verify;
 ghost use mathlib.Core.Path.{_≡_};
 ghost use mathlib.Core.List.{[], _∷_, _++_};
 ghost use Prim.Native.Nat.{_+_, _*_, _/_, _^_, _<_, _≤_};
-ghost use lib.Dec.{eqb};
 ghost use lib.ListN.{length, getD, drop};
 ghost use Rattle.magnetar_field.specs.Gf128.{value, _⊕_, _⊗_};
-ghost use Rattle.magnetar_field.specs.Polynomial.{eval};
 ghost use Rattle.magnetar_field.specs.Words.{elements, words};
-ghost use Rattle.magnetar_field.specs.Multilinear.{insertZero};
-ghost use Rattle.magnetar_sumcheck.specs.Round.{checkSum, holds, nextClaim};
-ghost use Rattle.magnetar_sumcheck.specs.Capture.{nextTranscript, nextChallenge};
-ghost use Rattle.magnetar_sumcheck.specs.Outer.{timesEq, outerEnd};
-ghost use Rattle.magnetar_sumcheck.specs.Inner.{innerEnd};
+ghost use Rattle.magnetar_multilinear.specs.Multilinear.{insertZero};
+ghost use Rattle.magnetar_round.specs.Outer.{timesEq};
 ghost use Rattle.magnetar_sumcheck.specs.Sums.{sums, outerSums, innerSumsAt};
 ghost use Rattle.magnetar_sumcheck.specs.Entries.{isTable, outerRefusal, outerOut, innerRefusal, innerOut};
 
@@ -181,13 +175,13 @@ fn put_four(out: &mut [u64], a: Gf128, b: Gf128, c: Gf128, d: Gf128)
 }
 
 // Stores three elements at the front of out.
-fn put_three(out: &mut [u64], a: Gf128, b: Gf128, c: Gf128)
+fn put_three(out: &mut [u64], x: Gf128, y: Gf128, z: Gf128)
     requires { ⌜ 6 ≤ length (now out) ⌝ }
-    ensures { λ _. ⌜ now (out .exit) ≡ words (value a ∷ value b ∷ value c ∷ []) ++ drop 6 (now (out .entry)) ⌝ }
+    ensures { λ _. ⌜ now (out .exit) ≡ words (value x ∷ value y ∷ value z ∷ []) ++ drop 6 (now (out .entry)) ⌝ }
 {
-    words::put(out, 0, a);
-    words::put(out, 1, b);
-    words::put(out, 2, c);
+    words::put(out, 0, x);
+    words::put(out, 1, y);
+    words::put(out, 2, z);
 }
 
 // k times 1 + t.
@@ -267,13 +261,6 @@ pub fn outer_message(
 
 // ---- The inner sum-check.
 
-// acc + t z.
-fn multiply_add(acc: Gf128, t: Gf128, z: Gf128) -> Gf128
-    ensures { λ r. ⌜ value r ≡ value acc ⊕ value t ⊗ value z ⌝ }
-{
-    gf128::add(acc, gf128::mul(t, z))
-}
-
 // The sums with those of a pair, whose entries stand at lo and hi. Three products.
 fn inner_pair(s: Sums, t: &[u64], z: &[u64], lo: usize, hi: usize) -> Sums
     ensures zero { λ r. ⌜ value (r .zero) ≡ value (s .zero) ⊕ getD (elements (now (t .entry))) lo 0 ⊗ getD (elements (now (z .entry))) lo 0 ⌝ }
@@ -281,9 +268,9 @@ fn inner_pair(s: Sums, t: &[u64], z: &[u64], lo: usize, hi: usize) -> Sums
     ensures top { λ r. ⌜ value (r .top) ≡ value (s .top) ⊕ (getD (elements (now (t .entry))) lo 0 ⊕ getD (elements (now (t .entry))) hi 0) ⊗ (getD (elements (now (z .entry))) lo 0 ⊕ getD (elements (now (z .entry))) hi 0) ⌝ }
 {
     Sums {
-        zero: multiply_add(s.zero, words::get(t, lo), words::get(z, lo)),
-        one: multiply_add(s.one, words::get(t, hi), words::get(z, hi)),
-        top: multiply_add(s.top, slope(t, lo, hi), slope(z, lo, hi)),
+        zero: verify::multiply_add(s.zero, words::get(t, lo), words::get(z, lo)),
+        one: verify::multiply_add(s.one, words::get(t, hi), words::get(z, hi)),
+        top: verify::multiply_add(s.top, slope(t, lo, hi), slope(z, lo, hi)),
     }
 }
 
@@ -352,114 +339,4 @@ pub fn inner_message(out: &mut [u64], t: &[u64], z: &[u64], v: usize) -> u32
     let s = inner_sums(t, z, v, t.len() / 4);
     put_inner(out, s);
     0
-}
-
-// ---- The verifier.
-
-// What a round leaves: whether the message was right, and the running claim.
-pub struct Round {
-    pub holds: bool,
-    pub claim: Gf128,
-}
-
-// The sum of the coefficients but the first: the message's value at 0 plus its value at 1.
-fn check_sum(msg: &[u64]) -> Gf128
-    ensures { λ r. ⌜ value r ≡ checkSum (elements (now (msg .entry))) ⌝ }
-{
-    let mut acc = Gf128 { lo: 0, hi: 0 };
-    let mut i = msg.len() / 2;
-    while i > 1 {
-        i -= 1;
-        acc = gf128::add(words::get(msg, i), acc);
-    }
-    acc
-}
-
-// Whether the message is right for the running claim.
-pub fn sum_holds(msg: &[u64], claim: Gf128) -> bool
-    ensures { λ r. ⌜ r ≡ holds (elements (now (msg .entry))) (value claim) ⌝ }
-{
-    gf128::equal(check_sum(msg), claim)
-}
-
-// The message's value at r: the next running claim. A product for each coefficient.
-pub fn eval_message(msg: &[u64], r: Gf128) -> Gf128
-    ensures { λ o. ⌜ value o ≡ eval (elements (now (msg .entry))) (value r) ⌝ }
-{
-    let mut acc = Gf128 { lo: 0, hi: 0 };
-    let mut i = msg.len() / 2;
-    while i > 0 {
-        i -= 1;
-        acc = multiply_add(words::get(msg, i), r, acc);
-    }
-    acc
-}
-
-// A round with the challenge r from outside: the check, and the next running claim. A wrong message leaves the claim.
-pub fn round_external(msg: &[u64], claim: Gf128, r: Gf128) -> Round
-    ensures holds { λ o. ⌜ o .holds ≡ holds (elements (now (msg .entry))) (value claim) ⌝ }
-    ensures claim { λ o. ⌜ value (o .claim) ≡ nextClaim (value claim) (elements (now (msg .entry))) (value r) ⌝ }
-{
-    if sum_holds(msg, claim) {
-        let next = eval_message(msg, r);
-        return Round {
-            holds: true,
-            claim: next,
-        };
-    }
-    Round {
-        holds: false,
-        claim: claim,
-    }
-}
-
-// The terminal identity of the outer sum-check: the running claim is e (a b + c), with eq(tau, r) for e. Two products.
-pub fn outer_finish(running: Gf128, e: Gf128, a: Gf128, b: Gf128, c: Gf128) -> bool
-    ensures { λ r. ⌜ r ≡ eqb (outerEnd (value e) (value a) (value b) (value c)) (value running) ⌝ }
-{
-    gf128::equal(gf128::mul(e, multiply_add(c, a, b)), running)
-}
-
-// The terminal identity of the inner sum-check: the running claim is t z. One product.
-pub fn inner_finish(running: Gf128, t: Gf128, z: Gf128) -> bool
-    ensures { λ r. ⌜ r ≡ eqb (innerEnd (value t) (value z)) (value running) ⌝ }
-{
-    gf128::equal(gf128::mul(t, z), running)
-}
-
-// What a round leaves that draws for itself: whether the message was right, the running claim, the challenge (0 where the message
-// was wrong), and the transcript.
-pub struct Captured {
-    pub holds: bool,
-    pub claim: Gf128,
-    pub challenge: Gf128,
-    pub transcript: Transcript,
-}
-
-// A round that draws its challenge: the check first; then the message is absorbed and the challenge drawn, both under the label. A
-// wrong message leaves the claim and the transcript.
-pub fn round_capturing(msg: &[u64], claim: Gf128, t: Transcript, label: &[u8]) -> Captured
-    ensures holds { λ o. ⌜ o .holds ≡ holds (elements (now (msg .entry))) (value claim) ⌝ }
-    ensures transcript { λ o. ⌜ o .transcript ≡ nextTranscript t (now (label .entry)) (now (msg .entry)) (value claim) ⌝ }
-    ensures challenge { λ o. ⌜ o .challenge ≡ nextChallenge t (now (label .entry)) (now (msg .entry)) (value claim) ⌝ }
-    ensures claim { λ o. ⌜ value (o .claim) ≡ nextClaim (value claim) (elements (now (msg .entry))) (value (o .challenge)) ⌝ }
-{
-    if sum_holds(msg, claim) {
-        let absorbed = transcript::absorb_words(t, label, msg);
-        let next = transcript::draw(absorbed, label);
-        let r = transcript::element(next);
-        let value = eval_message(msg, r);
-        return Captured {
-            holds: true,
-            claim: value,
-            challenge: r,
-            transcript: next,
-        };
-    }
-    Captured {
-        holds: false,
-        claim: claim,
-        challenge: Gf128 { lo: 0, hi: 0 },
-        transcript: t,
-    }
 }

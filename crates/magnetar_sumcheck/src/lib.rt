@@ -1,3 +1,3 @@
-// The sum-check layer of magnetar: the rounds of Spartan's outer and inner sum-checks, at both ends.
+// The prover's messages of Spartan's outer and inner sum-checks, and the public factors.
 pub mod engine;
 pub mod public;

@@ -11,8 +11,8 @@ ghost use lib.ListN.{length, getD, set, drop};
 ghost use Rattle.magnetar_field.specs.Gf128.{value, _⊕_, _⊗_};
 ghost use Rattle.magnetar_field.specs.Tabulate.{tabulate};
 ghost use Rattle.magnetar_field.specs.Words.{elements};
-ghost use Rattle.magnetar_field.specs.Entries.{answer, answered};
-ghost use Rattle.magnetar_sumcheck.specs.Order.{slope, point, placeOf, eqPoints};
+ghost use Rattle.magnetar_multilinear.specs.Entries.{answer, answered};
+ghost use Rattle.magnetar_round.specs.Order.{slope, point, placeOf, eqPoints};
 ghost use Rattle.magnetar_sumcheck.specs.Entries.{dropRefusal, dropOut, pointsRefusal};
 
 // The eq table without variable v, at the table's front: where v is 0 plus where v is 1, since the two factors add up to 1. The

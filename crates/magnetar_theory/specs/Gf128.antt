@@ -1,4 +1,4 @@
--- GF(2^128) as a field: the numbers below 2^128 with the sum and the product of magnetar_field; and the element that a number
+-- GF(2^128) as a field: the numbers below 2^128 with the sum and the product of magnetar_multilinear; and the element that a number
 -- stands for, by which lists of numbers become lists of elements.
 -- Assumes nothing.
 use mathlib.Core.Bool.{Bool}

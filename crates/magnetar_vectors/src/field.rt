@@ -8,14 +8,14 @@ use crate::text::print_code;
 use crate::text::print_line;
 use crate::text::print_refusal;
 use crate::text::{self};
-use magnetar_field::eq::EqBits;
-use magnetar_field::eq::{self};
 use magnetar_field::gf128::Evaluated;
 use magnetar_field::gf128::Gf128;
 use magnetar_field::gf128::{self};
-use magnetar_field::multilinear;
 use magnetar_field::sizes;
 use magnetar_field::words;
+use magnetar_multilinear::eq::EqBits;
+use magnetar_multilinear::eq::{self};
+use magnetar_multilinear::multilinear;
 
 // The queries by name: its letters, the last one lowest.
 const ADD: u64 = 0x616464;

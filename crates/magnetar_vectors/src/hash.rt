@@ -10,8 +10,8 @@ use magnetar_field::words;
 use magnetar_hash::sha3;
 use magnetar_hash::transcript::Transcript;
 use magnetar_hash::transcript::{self};
-use magnetar_sumcheck::engine::Captured;
-use magnetar_sumcheck::engine::{self};
+use magnetar_round::verify::Captured;
+use magnetar_round::verify::{self};
 
 // The queries by name: its last eight letters, the last one lowest.
 const SHA3: u64 = 0x73686133;
@@ -296,7 +296,7 @@ fn print_captured(o: Captured) {
 fn captured(op: u64, t: Transcript, label: &[u8], nums: &[u64]) -> bool {
     if op == CAPTURE {
         let claim = words::get(text::nth(nums, 3, 1), 0);
-        print_captured(engine::round_capturing(list(nums, 3), claim, t, label));
+        print_captured(verify::round_capturing(list(nums, 3), claim, t, label));
         return true;
     }
     false

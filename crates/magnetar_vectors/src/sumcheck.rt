@@ -9,12 +9,13 @@ use crate::text::print_bool;
 use crate::text::print_code;
 use crate::text::print_line;
 use crate::text::{self};
-use magnetar_field::eq::EqBits;
 use magnetar_field::gf128::Evaluated;
 use magnetar_field::gf128::Gf128;
-use magnetar_field::multilinear;
 use magnetar_field::words;
-use magnetar_sumcheck::engine::Round;
+use magnetar_multilinear::eq::EqBits;
+use magnetar_multilinear::multilinear;
+use magnetar_round::verify::Round;
+use magnetar_round::verify::{self};
 use magnetar_sumcheck::engine::{self};
 use magnetar_sumcheck::public;
 
@@ -157,7 +158,7 @@ fn outer_message(s: Run, w: &[u64], n: usize, v: usize, t: Gf128, r: Gf128) -> R
     let k = s.k;
     let claim = s.claim;
     let code = message(&mut msg, w, n, v, k, t);
-    let o = engine::round_external(&msg, claim, r);
+    let o = verify::round_external(&msg, claim, r);
     print_message(&msg, o);
     carried(s, o, public::eq_next(k, t, r), code == 0)
 }
@@ -212,7 +213,7 @@ fn outer_end(s: Run, e: Gf128, a: Gf128, b: Gf128, c: Gf128) {
     print_element(a);
     print_element(b);
     print_element(c);
-    print_good(s.good, engine::outer_finish(claim, e, a, b, c));
+    print_good(s.good, verify::outer_finish(claim, e, a, b, c));
 }
 
 fn print_good(a: bool, b: bool) {
@@ -268,7 +269,7 @@ fn inner_message(s: Run, t: &[u64], z: &[u64], v: usize, r: Gf128) -> Run {
     let k = s.k;
     let claim = s.claim;
     let code = engine::inner_message(&mut msg, t, z, v);
-    let o = engine::round_external(&msg, claim, r);
+    let o = verify::round_external(&msg, claim, r);
     print_message(&msg, o);
     carried(s, o, k, code == 0)
 }
@@ -317,7 +318,7 @@ fn inner_end(s: Run, t: Gf128, z: Gf128) {
     print(b"= 4");
     print_element(t);
     print_element(z);
-    print_good(s.good, engine::inner_finish(claim, t, z));
+    print_good(s.good, verify::inner_finish(claim, t, z));
 }
 
 // inner HIGH 2 CLAIM T Z R
@@ -405,11 +406,11 @@ fn checks(op: u64, nums: &[u64]) -> bool {
     let x = nth(nums, 0, 1);
     if op == ROUND {
         print(b"= ");
-        print_round(engine::round_external(p, words::get(x, 0), words::get(x, 1)));
+        print_round(verify::round_external(p, words::get(x, 0), words::get(x, 1)));
         return true;
     }
     if op == OUTEREND {
-        print_bool(engine::outer_finish(
+        print_bool(verify::outer_finish(
             words::get(p, 0),
             words::get(p, 1),
             words::get(p, 2),
@@ -419,7 +420,7 @@ fn checks(op: u64, nums: &[u64]) -> bool {
         return true;
     }
     if op == INNEREND {
-        print_bool(engine::inner_finish(words::get(p, 0), words::get(p, 1), words::get(p, 2)));
+        print_bool(verify::inner_finish(words::get(p, 0), words::get(p, 1), words::get(p, 2)));
         return true;
     }
     false

@@ -9,7 +9,7 @@ use denote.Ref.{now}
 use Rattle.magnetar_layout.specs.Tests.{Tests, noted, sizeTests, packedTests, publicTests, Sized}
 use Rattle.magnetar_layout.proofs.SizeLaws.{not-bad}
 use Rattle.magnetar_layout.proofs.Noted.{noted-front, noted-late, noted-clear}
-use Rattle.magnetar_r1cs.proofs.LoginParts.{product-most, words-most}
+use Rattle.magnetar_matrix.proofs.LoginParts.{product-most, words-most}
 use Rattle.magnetar_batch.proofs.RowLaws.{over}
 use borrow.Author.Needs.{needs}
 use Rattle.magnetar_batch.proofs.check.batch_sizes.Statement.{statement}

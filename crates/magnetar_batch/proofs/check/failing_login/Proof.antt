@@ -7,11 +7,12 @@ use lib.Dec.{eqb}
 use lib.ListN.{length}
 use denote.Ref.{now}
 use Rattle.magnetar_field.specs.Words.{elements}
-use Rattle.magnetar_r1cs.specs.Lent.{entriesOf}
-use Rattle.magnetar_r1cs.specs.Packed.{loginWords}
-use Rattle.magnetar_r1cs.proofs.LoginParts.{part-of, part-is, words-most}
+use Rattle.magnetar_matrix.specs.Lent.{entriesOf}
+use Rattle.magnetar_matrix.specs.Packed.{loginWords}
+use Rattle.magnetar_matrix.proofs.LoginParts.{part-of, part-is, words-most}
 use Rattle.magnetar_batch.specs.Rows.{loginRow}
-use Rattle.magnetar_batch.proofs.RowLaws.{Below, below-start, login-found, login-more, login-none}
+use Rattle.magnetar_matrix.proofs.FirstRow.{Below, below-start}
+use Rattle.magnetar_batch.proofs.RowLaws.{login-found, login-more, login-none}
 use borrow.Author.Needs.{needs}
 use Rattle.magnetar_batch.proofs.check.failing_login.Statement.{statement}
 use Rattle.magnetar_batch.proofs.check.failing_login.Tie as tie

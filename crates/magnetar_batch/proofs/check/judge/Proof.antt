@@ -6,7 +6,7 @@ use native.Mathlib.Omega.{arith}
 use lib.Seq.{length-take-le}
 use denote.Ref.{now}
 use Rattle.magnetar_field.specs.Words.{elements}
-use Rattle.magnetar_r1cs.specs.Lent.{lent}
+use Rattle.magnetar_matrix.specs.Lent.{lent}
 use Rattle.magnetar_batch.specs.Systems.{Lent3, system}
 use Rattle.magnetar_batch.specs.Check.{judged}
 use Rattle.magnetar_batch.proofs.RowLaws.{judged-bin, judged-fld, judged-good, whole-kept}

@@ -7,7 +7,7 @@ use native.Mathlib.Omega.{arith}
 use lib.ListN.{length, take}
 use lib.Seq.{length-take-le}
 use denote.Ref.{now}
-use Rattle.magnetar_r1cs.specs.Lent.{lent}
+use Rattle.magnetar_matrix.specs.Lent.{lent}
 use Rattle.magnetar_r1cs.proofs.Lone.{flipped}
 use Rattle.magnetar_batch.specs.Systems.{Lent3, system}
 use Rattle.magnetar_batch.specs.Check.{outcome}

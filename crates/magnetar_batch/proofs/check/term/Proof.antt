@@ -6,7 +6,7 @@ use native.Mathlib.Omega.{arith}
 use denote.Ref.{now}
 use Rattle.magnetar_field.specs.Words.{elements}
 use Rattle.magnetar_field.proofs.Product.{⊗-one}
-use Rattle.magnetar_r1cs.proofs.Digits.{value-lt, ⊗-digit}
+use Rattle.magnetar_matrix.proofs.Digits.{value-lt, ⊗-digit}
 use Rattle.magnetar_batch.proofs.RowLaws.{z-bit, z-one, z-public}
 use borrow.Author.Needs.{needs}
 use Rattle.magnetar_batch.proofs.check.term.Statement.{statement}

@@ -13,7 +13,7 @@ use lib.ListN.{length, take, drop}
 use mathlib.Core.List.{_++_}
 use lib.Seq.{length-take-le}
 use denote.Ref.{now}
-use Rattle.magnetar_r1cs.specs.Lent.{lent}
+use Rattle.magnetar_matrix.specs.Lent.{lent}
 use Rattle.magnetar_batch.specs.Systems.{Lent3, system}
 use Rattle.magnetar_batch.specs.Entries.{behindWords}
 use Rattle.magnetar_batch.proofs.SystemLaws.{Fits6, fits6}

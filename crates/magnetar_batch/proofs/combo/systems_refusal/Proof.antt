@@ -3,7 +3,7 @@
 use mathlib.Core.Path.{_≡_}
 use mathlib.Core.List.{_++_}
 use denote.Ref.{now}
-use Rattle.magnetar_r1cs.specs.Lent.{lent}
+use Rattle.magnetar_matrix.specs.Lent.{lent}
 use Rattle.magnetar_layout.specs.Tests.{noted, columnTests}
 use Rattle.magnetar_batch.specs.Systems.{Lent3, system, rows3, cols3, counted3, placed3, systemsTests}
 use Rattle.magnetar_batch.proofs.SystemLaws.{linked}

@@ -7,7 +7,7 @@ use native.Mathlib.Omega.{arith}
 use lib.ListN.{length}
 use Rattle.magnetar_field.specs.Gf128.{value}
 use Rattle.magnetar_field.specs.Words.{elements}
-use Rattle.magnetar_r1cs.specs.Table.{raised}
+use Rattle.magnetar_matrix.specs.Table.{raised}
 use Rattle.magnetar_batch.proofs.Selected.{upTo, columns-start, columns-more, columns-end}
 use borrow.Author.Needs.{needs}
 use Rattle.magnetar_batch.proofs.fold.add_login.Statement.{statement}

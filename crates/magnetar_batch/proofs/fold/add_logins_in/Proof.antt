@@ -6,10 +6,10 @@ use native.Mathlib.Omega.{arith}
 use lib.ListN.{length, drop}
 use denote.Ref.{now}
 use Rattle.magnetar_field.specs.Words.{elements}
-use Rattle.magnetar_r1cs.specs.Packed.{loginWords}
-use Rattle.magnetar_r1cs.specs.Table.{raised}
+use Rattle.magnetar_matrix.specs.Packed.{loginWords}
+use Rattle.magnetar_matrix.specs.Table.{raised}
 use Rattle.magnetar_batch.specs.Fold.{foldSum}
-use Rattle.magnetar_r1cs.proofs.LoginParts.{part-of, part-is, words-most}
+use Rattle.magnetar_matrix.proofs.LoginParts.{part-of, part-is, words-most}
 use Rattle.magnetar_batch.proofs.Folds.{logins-start, logins-more, factor-kept}
 use borrow.Author.Needs.{needs}
 use Rattle.magnetar_batch.proofs.fold.add_logins_in.Statement.{statement}

@@ -5,7 +5,7 @@ use Prim.Native.Nat.{ℕ}
 use native.Mathlib.Omega.{arith}
 use lib.ListN.{length, replicate}
 use denote.Ref.{now}
-use Rattle.magnetar_r1cs.proofs.TableLaws.{cleared-raised, elements-words}
+use Rattle.magnetar_matrix.proofs.TableLaws.{cleared-raised, elements-words}
 use borrow.Author.Needs.{needs}
 use Rattle.magnetar_batch.proofs.fold.fold_in.Statement.{statement}
 use Rattle.magnetar_batch.proofs.fold.fold_in.Tie as tie

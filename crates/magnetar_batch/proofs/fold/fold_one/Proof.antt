@@ -6,8 +6,8 @@ use native.Mathlib.Omega.{arith}
 use lib.ListN.{length, replicate, length-drop}
 use denote.Ref.{now}
 use Rattle.magnetar_field.specs.Words.{elements}
-use Rattle.magnetar_field.specs.EqTable.{eqTable}
-use Rattle.magnetar_field.specs.Entries.{tableWords}
+use Rattle.magnetar_multilinear.specs.EqTable.{eqTable}
+use Rattle.magnetar_multilinear.specs.Entries.{tableWords}
 use Rattle.magnetar_batch.specs.Fold.{foldSum}
 use Rattle.magnetar_batch.proofs.Rooms.{finished}
 use Rattle.magnetar_batch.proofs.Folds.{one-slice}

@@ -12,12 +12,12 @@ use denote.Ref.{now}
 use Rattle.magnetar_field.specs.Sizes.{log₂}
 use Rattle.magnetar_field.specs.Words.{elements, words}
 use Rattle.magnetar_layout.specs.Tests.{Tests, noted, sizeTests, packedTests, lengthTest, roomTest, Sized}
-use Rattle.magnetar_r1cs.specs.Packed.{loginWords, unpacked}
-use Rattle.magnetar_r1cs.specs.Batch.{folded}
+use Rattle.magnetar_matrix.specs.Packed.{loginWords, unpacked}
+use Rattle.magnetar_matrix.specs.Batch.{folded}
 use Rattle.magnetar_layout.proofs.SizeLaws.{not-bad, sized-wider}
 use Rattle.magnetar_r1cs.proofs.Points.{point-of, point-size, log-most}
 use Rattle.magnetar_layout.proofs.Noted.{noted-front, noted-late, noted-clear, turned, done}
-use Rattle.magnetar_r1cs.proofs.LoginParts.{product-most, words-most}
+use Rattle.magnetar_matrix.proofs.LoginParts.{product-most, words-most}
 use Rattle.magnetar_batch.specs.Entries.{foldInRefusal}
 use Rattle.magnetar_batch.proofs.Folds.{fold-is}
 use borrow.Author.Needs.{needs}

@@ -11,13 +11,13 @@ use denote.Ref.{now}
 use Rattle.magnetar_field.specs.Sizes.{log₂}
 use Rattle.magnetar_layout.specs.Tests.{Tests, noted, lengthTest, roomTest, Sized}
 use Rattle.magnetar_r1cs.proofs.Points.{point-of, log-most}
-use Rattle.magnetar_r1cs.specs.Packed.{loginWords}
+use Rattle.magnetar_matrix.specs.Packed.{loginWords}
 use Rattle.magnetar_layout.specs.Tests.{sizeTests, packedTests}
 use Rattle.magnetar_batch.specs.Entries.{foldRefusal}
 use Rattle.magnetar_layout.proofs.Noted.{noted-front, noted-late, noted-clear, turned, done}
 use Rattle.magnetar_layout.proofs.SizeLaws.{not-bad, sized-wider}
-use Rattle.magnetar_r1cs.proofs.TableLaws.{in-front}
-use Rattle.magnetar_r1cs.proofs.LoginParts.{product-most, words-most}
+use Rattle.magnetar_matrix.proofs.TableLaws.{in-front}
+use Rattle.magnetar_matrix.proofs.LoginParts.{product-most, words-most}
 use Rattle.magnetar_batch.proofs.Folds.{fold-is}
 use Rattle.magnetar_r1cs.proofs.Points.{point-size}
 use lib.Dec.{lit≤}

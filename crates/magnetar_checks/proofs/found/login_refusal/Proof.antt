@@ -17,7 +17,7 @@ note-requires-2 : tie.Need-note-requires-2
 note-requires-2 c κs = search needs
 
 returns : tie.Need-returns
-returns c = cc
+returns c = rw (c .note2 .ensures, c .before .is-size2 .ensures, c .before .before .note .ensures, c .before .before .before .is-size .ensures)
 
 pub login-refusal-spec : {M : Type 1} → statement M
 login-refusal-spec =

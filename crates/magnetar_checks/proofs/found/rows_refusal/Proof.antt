@@ -4,14 +4,14 @@ use mathlib.Core.Path.{_≡_}
 use mathlib.Core.Bool.{not}
 use native.Mathlib.Omega.{arith}
 use Rattle.magnetar_layout.specs.Tests.{note, isSize}
-use Rattle.magnetar_r1cs.proofs.Blocks.{product-fits}
+use Rattle.magnetar_matrix.proofs.Blocks.{product-fits}
 use Rattle.magnetar_checks.proofs.Guards.{rows-refused, rows-passed, rows-given}
 use borrow.Author.Needs.{needs}
 use Rattle.magnetar_checks.proofs.found.rows_refusal.Statement.{statement}
 use Rattle.magnetar_checks.proofs.found.rows_refusal.Tie as tie
 
 alone : (c : tie.After-note) → let x = c .before .before .args in c .note .result ≡ note 4 (not (isSize 1 65536 (x .n))) (x .z)
-alone c = cc
+alone c = rw (c .note .ensures, c .before .is-size .ensures)
 
 is-size-requires : tie.Need-is-size-requires
 is-size-requires c κs = search needs

@@ -8,7 +8,8 @@ use lib.ListN.{getD}
 use Rattle.magnetar_field.specs.Gf128.{value}
 use Rattle.magnetar_field.specs.Words.{elements}
 use Rattle.magnetar_protocol.specs.Proof.{part}
-use Rattle.magnetar_checks.specs.Steps.{nothing, sharedBin, sharedFld}
+use Rattle.magnetar_protocol.specs.Found.{nothing}
+use Rattle.magnetar_checks.specs.Steps.{sharedBin, sharedFld}
 use Rattle.magnetar_checks.proofs.Pieces.{part-get, part-length}
 use Rattle.magnetar_checks.proofs.RoundLaws.{Sharing, sharing-start, sharing-more, sharing-end, bin-length, fld-length, bin-get, fld-get}
 use borrow.Author.Needs.{needs}

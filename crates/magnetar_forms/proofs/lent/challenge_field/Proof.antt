@@ -51,9 +51,9 @@ use Rattle.magnetar_hash.proofs.transcript.Transcript.Laws as lTranscript
 use Rattle.magnetar_hash.specs.declared.transcript.DrawAnswer.{DrawAnswer}
 use Rattle.magnetar_hash.proofs.transcript.DrawAnswer as mDrawAnswer
 use Rattle.magnetar_hash.proofs.transcript.DrawAnswer.Laws as lDrawAnswer
-use Rattle.magnetar_inplace.specs.declared.transcript.Drawn.{Drawn}
-use Rattle.magnetar_inplace.proofs.transcript.Drawn as mDrawn
-use Rattle.magnetar_inplace.proofs.transcript.Drawn.Laws as lDrawn
+use Rattle.magnetar_transcript.specs.declared.transcript.Drawn.{Drawn}
+use Rattle.magnetar_transcript.proofs.transcript.Drawn as mDrawn
+use Rattle.magnetar_transcript.proofs.transcript.Drawn.Laws as lDrawn
 use types.SemTy.{Body}
 use types.Share.{parts, arr-parts}
 use lib.ListN.{take}
@@ -64,11 +64,11 @@ use base.Fml.{flent}
 use denote.Memory.{cellAt, partAt, mem, shares}
 use denote.ArrayMemory.{array-apart, array-whole}
 use denote.Lend.{lends-ref, ref-back, lends-shr-slice}
-use Rattle.magnetar_inplace.proofs.Local.{into, out, rest, cut, mend, room-of}
-use Rattle.magnetar_inplace.proofs.transcript.challenge_field as g1
-use Rattle.magnetar_inplace.proofs.transcript.challenge_field.Symbol as g1-def
-use Rattle.magnetar_inplace.proofs.transcript.challenge_field.Symbol.{name as #g1}
-use Rattle.magnetar_inplace.proofs.transcript.challenge_field.Met as g1-thm
+use Rattle.magnetar_transcript.proofs.Local.{into, out, rest, cut, mend, room-of}
+use Rattle.magnetar_transcript.proofs.transcript.challenge_field as g1
+use Rattle.magnetar_transcript.proofs.transcript.challenge_field.Symbol as g1-def
+use Rattle.magnetar_transcript.proofs.transcript.challenge_field.Symbol.{name as #g1}
+use Rattle.magnetar_transcript.proofs.transcript.challenge_field.Met as g1-thm
 use Rattle.magnetar_forms.proofs.lent.drew as g2
 use Rattle.magnetar_forms.proofs.lent.drew.Symbol as g2-def
 use Rattle.magnetar_forms.proofs.lent.drew.Symbol.{name as #g2}
@@ -166,5 +166,5 @@ challenge-field-spec 𝓤 H 𝓜 𝓖 𝓡 =
     entered 𝓤 H (tripleOf 𝓤 H (𝓖 .A) f.signature (f.spec 𝓤 H (𝓖 .A) (𝓜 .mem) (𝓡 .run)))
     (tables 𝓤 H 𝓜 𝓡 code.env .C) (tables 𝓤 H 𝓜 𝓡 code.env .Λ) #f code.function (code.unfolded 𝓤 H 𝓜 𝓡)
     (meets 𝓤 H (𝓖 .A) (givenOf 𝓤 H 𝓜 𝓖) (𝓜 .mem) (𝓡 .run) (tablesOf 𝓤 H 𝓜 (tables 𝓤 H 𝓜 𝓡 code.env))
-    (cited 𝓤 H (Callee-g1 𝓤 H (𝓖 .A) (𝓜 .mem) (𝓡 .run)) 𝓜 𝓡 code.env #g1 g1-def.routine code.calls-magnetar-inplace·transcript·challenge-field (g1-thm.met 𝓤 H 𝓜 𝓖 𝓡))
+    (cited 𝓤 H (Callee-g1 𝓤 H (𝓖 .A) (𝓜 .mem) (𝓡 .run)) 𝓜 𝓡 code.env #g1 g1-def.routine code.calls-magnetar-transcript·transcript·challenge-field (g1-thm.met 𝓤 H 𝓜 𝓖 𝓡))
     (cited 𝓤 H (Callee-g2 𝓤 H (𝓖 .A) (𝓜 .mem) (𝓡 .run)) 𝓜 𝓡 code.env #g2 g2-def.routine code.calls-magnetar-forms·lent·drew (g2-thm.met 𝓤 H 𝓜 𝓖 𝓡)))

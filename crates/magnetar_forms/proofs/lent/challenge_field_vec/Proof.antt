@@ -61,12 +61,12 @@ use base.Fml.{flent}
 use denote.Memory.{cellAt, partAt, mem, shares}
 use denote.ArrayMemory.{array-apart, array-whole}
 use denote.Lend.{lends-ref, ref-back, lends-shr-slice}
-use Rattle.magnetar_inplace.proofs.Local.{into, out, rest, cut, mend, room-of}
-use Rattle.magnetar_inplace.proofs.Again.{LentAgain, lends-again, comes-back}
-use Rattle.magnetar_inplace.proofs.transcript.challenge_field_vec as g1
-use Rattle.magnetar_inplace.proofs.transcript.challenge_field_vec.Symbol as g1-def
-use Rattle.magnetar_inplace.proofs.transcript.challenge_field_vec.Symbol.{name as #g1}
-use Rattle.magnetar_inplace.proofs.transcript.challenge_field_vec.Met as g1-thm
+use Rattle.magnetar_transcript.proofs.Local.{into, out, rest, cut, mend, room-of}
+use Rattle.magnetar_transcript.proofs.Again.{LentAgain, lends-again, comes-back}
+use Rattle.magnetar_transcript.proofs.transcript.challenge_field_vec as g1
+use Rattle.magnetar_transcript.proofs.transcript.challenge_field_vec.Symbol as g1-def
+use Rattle.magnetar_transcript.proofs.transcript.challenge_field_vec.Symbol.{name as #g1}
+use Rattle.magnetar_transcript.proofs.transcript.challenge_field_vec.Met as g1-thm
 use Rattle.magnetar_forms.proofs.lent.with as g2
 use Rattle.magnetar_forms.proofs.lent.with.Symbol as g2-def
 use Rattle.magnetar_forms.proofs.lent.with.Symbol.{name as #g2}
@@ -193,5 +193,5 @@ challenge-field-vec-spec 𝓤 H 𝓜 𝓖 𝓡 =
     entered 𝓤 H (tripleOf 𝓤 H (𝓖 .A) f.signature (f.spec 𝓤 H (𝓖 .A) (𝓜 .mem) (𝓡 .run)))
     (tables 𝓤 H 𝓜 𝓡 code.env .C) (tables 𝓤 H 𝓜 𝓡 code.env .Λ) #f code.function (code.unfolded 𝓤 H 𝓜 𝓡)
     (meets 𝓤 H (𝓖 .A) (givenOf 𝓤 H 𝓜 𝓖) (𝓜 .mem) (𝓡 .run) (tablesOf 𝓤 H 𝓜 (tables 𝓤 H 𝓜 𝓡 code.env))
-    (cited 𝓤 H (Callee-g1 𝓤 H (𝓖 .A) (𝓜 .mem) (𝓡 .run)) 𝓜 𝓡 code.env #g1 g1-def.routine code.calls-magnetar-inplace·transcript·challenge-field-vec (g1-thm.met 𝓤 H 𝓜 𝓖 𝓡))
+    (cited 𝓤 H (Callee-g1 𝓤 H (𝓖 .A) (𝓜 .mem) (𝓡 .run)) 𝓜 𝓡 code.env #g1 g1-def.routine code.calls-magnetar-transcript·transcript·challenge-field-vec (g1-thm.met 𝓤 H 𝓜 𝓖 𝓡))
     (cited 𝓤 H (Callee-g2 𝓤 H (𝓖 .A) (𝓜 .mem) (𝓡 .run)) 𝓜 𝓡 code.env #g2 g2-def.routine code.calls-magnetar-forms·lent·with (g2-thm.met 𝓤 H 𝓜 𝓖 𝓡)))

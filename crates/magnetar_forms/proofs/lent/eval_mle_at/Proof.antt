@@ -61,8 +61,8 @@ use base.Fml.{flent}
 use denote.Memory.{cellAt, partAt, mem, shares}
 use denote.ArrayMemory.{array-apart, array-whole}
 use denote.Lend.{lends-ref, ref-back, lends-shr-slice}
-use Rattle.magnetar_inplace.proofs.Local.{into, out, rest, cut, mend, room-of}
-use Rattle.magnetar_inplace.proofs.Again.{LentAgain, lends-again, comes-back}
+use Rattle.magnetar_transcript.proofs.Local.{into, out, rest, cut, mend, room-of}
+use Rattle.magnetar_transcript.proofs.Again.{LentAgain, lends-again, comes-back}
 use Rattle.magnetar_inplace.proofs.records.eval_mle_at as g1
 use Rattle.magnetar_inplace.proofs.records.eval_mle_at.Symbol as g1-def
 use Rattle.magnetar_inplace.proofs.records.eval_mle_at.Symbol.{name as #g1}

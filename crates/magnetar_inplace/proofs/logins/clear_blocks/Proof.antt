@@ -4,7 +4,7 @@ use mathlib.Core.Path.{sym, _∙_}
 use native.Mathlib.Omega.{arith}
 use Rattle.magnetar_inplace.specs.LoginSteps.{clearedBlocks}
 use Rattle.magnetar_inplace.proofs.LoginLaws.{reach}
-use Rattle.magnetar_r1cs.proofs.Blocks.{product-fits}
+use Rattle.magnetar_matrix.proofs.Blocks.{product-fits}
 use borrow.Author.Needs.{needs}
 use Rattle.magnetar_inplace.proofs.logins.clear_blocks.Statement.{statement}
 use Rattle.magnetar_inplace.proofs.logins.clear_blocks.Tie as tie

@@ -5,8 +5,8 @@ use native.Mathlib.Omega.{arith}
 use Prim.Native.Nat.{_-_, _*_, _≤_}
 use lib.ListN.{length}
 use Rattle.magnetar_field.specs.Words.{elements}
-use Rattle.magnetar_r1cs.specs.Matrix.{share}
-use Rattle.magnetar_r1cs.proofs.Blocks.{product-fits}
+use Rattle.magnetar_matrix.specs.Matrix.{share}
+use Rattle.magnetar_matrix.proofs.Blocks.{product-fits}
 use Rattle.magnetar_inplace.specs.Records.{entryOf}
 use Rattle.magnetar_inplace.specs.LoginSteps.{loginZ, addedBlocks}
 use Rattle.magnetar_inplace.proofs.LoginLaws.{blocks-none, blocks-one}

@@ -9,9 +9,9 @@ use lib.Dec.{eqb, ltb}
 use Rattle.magnetar_layout.specs.Tests.{Tests, noted, sizeTests, rowTests, colsTests, countTests}
 use Rattle.magnetar_layout.proofs.Noted.{noted-front, noted-late, noted-clear}
 use Rattle.magnetar_layout.proofs.SizeLaws.{not-bad}
-use Rattle.magnetar_r1cs.specs.Packed.{loginWords}
-use Rattle.magnetar_r1cs.proofs.LoginParts.{product-most, words-most}
-use Rattle.magnetar_r1cs.proofs.Blocks.{product-fits}
+use Rattle.magnetar_matrix.specs.Packed.{loginWords}
+use Rattle.magnetar_matrix.proofs.LoginParts.{product-most, words-most}
+use Rattle.magnetar_matrix.proofs.Blocks.{product-fits}
 use Rattle.magnetar_inplace.specs.LoginSteps.{packedRoomTests}
 use borrow.Author.Needs.{needs}
 use Rattle.magnetar_inplace.proofs.logins.packed_refusal.Statement.{statement}

@@ -2,7 +2,7 @@
 -- Assumes nothing.
 use mathlib.Core.Path.{sym, _∙_}
 use native.Mathlib.Omega.{arith}
-use Rattle.magnetar_r1cs.proofs.Blocks.{product-fits}
+use Rattle.magnetar_matrix.proofs.Blocks.{product-fits}
 use Rattle.magnetar_inplace.specs.MaskSteps.{clearedMasks}
 use Rattle.magnetar_inplace.proofs.LoginLaws.{reach}
 use borrow.Author.Needs.{needs}

@@ -4,7 +4,7 @@ use mathlib.Core.Path.{_≡_, refl, _∙_}
 use native.Mathlib.Omega.{arith}
 use Prim.Native.Nat.{_-_, _≤_}
 use lib.ListN.{length}
-use Rattle.magnetar_r1cs.proofs.Blocks.{product-fits}
+use Rattle.magnetar_matrix.proofs.Blocks.{product-fits}
 use Rattle.magnetar_inplace.specs.Records.{entryOf}
 use Rattle.magnetar_inplace.specs.MaskSteps.{flips, flipped}
 use Rattle.magnetar_inplace.proofs.MaskLaws.{flipped-none, flipped-one}

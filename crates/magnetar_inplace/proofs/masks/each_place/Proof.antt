@@ -4,8 +4,8 @@ use mathlib.Core.Path.{_≡_, refl, ap, _∙_}
 use native.Mathlib.Omega.{arith}
 use Prim.Native.Nat.{ℕ, _+_, _-_, _*_, _≤_, _<_}
 use Rattle.magnetar_field.specs.Gf128.{_⊕_}
-use Rattle.magnetar_r1cs.specs.Packed.{loginPart}
-use Rattle.magnetar_r1cs.specs.Sum.{sumBelow}
+use Rattle.magnetar_matrix.specs.Packed.{loginPart}
+use Rattle.magnetar_matrix.specs.Sum.{sumBelow}
 use Rattle.magnetar_r1cs.specs.Flips.{flip}
 use Rattle.magnetar_r1cs.proofs.Flipped.{login-below}
 use Rattle.magnetar_inplace.specs.Records.{entryOf}

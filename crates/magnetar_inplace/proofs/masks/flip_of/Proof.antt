@@ -3,7 +3,7 @@
 use mathlib.Core.Path.{_∙_}
 use native.Mathlib.Omega.{arith}
 use denote.Ref.{now}
-use Rattle.magnetar_r1cs.specs.Packed.{loginPart}
+use Rattle.magnetar_matrix.specs.Packed.{loginPart}
 use Rattle.magnetar_r1cs.proofs.Flipped.{flip-none, flip-bit, flip-one, flip-entry}
 use borrow.Author.Needs.{needs}
 use Rattle.magnetar_inplace.proofs.masks.flip_of.Statement.{statement}

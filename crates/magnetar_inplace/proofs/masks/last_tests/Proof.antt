@@ -1,7 +1,7 @@
 -- `magnetar_inplace::masks::last_tests` meets its contract.
 -- Assumes nothing.
 use native.Mathlib.Omega.{arith}
-use Rattle.magnetar_r1cs.proofs.Blocks.{product-fits}
+use Rattle.magnetar_matrix.proofs.Blocks.{product-fits}
 use Rattle.magnetar_inplace.proofs.MaskLaws.{lows-most}
 use borrow.Author.Needs.{needs}
 use Rattle.magnetar_inplace.proofs.masks.last_tests.Statement.{statement}

@@ -3,7 +3,7 @@
 use native.Mathlib.Omega.{arith}
 use Prim.Native.Nat.{_*_}
 use borrow.Author.Tests.{le-leb, lt-leb}
-use Rattle.magnetar_r1cs.proofs.Blocks.{product-fits}
+use Rattle.magnetar_matrix.proofs.Blocks.{product-fits}
 use Rattle.magnetar_inplace.specs.MaskSteps.{flips}
 use Rattle.magnetar_inplace.proofs.masks.mask_of.Statement.{statement}
 use Rattle.magnetar_inplace.proofs.masks.mask_of.Tie as tie

@@ -29,7 +29,7 @@ use mathlib.Core.List.{map}
 use Prim.Native.Nat.{_*_}
 use lib.ListN.{take}
 use Rattle.magnetar_field.specs.Words.{elements}
-use Rattle.magnetar_r1cs.specs.Matrix.{share, swapped}
+use Rattle.magnetar_matrix.specs.Matrix.{share, swapped}
 use Rattle.magnetar_inplace.specs.Records.{entryOf, entriesOfRecords}
 use Rattle.magnetar_inplace.specs.Steps.{addedTo, addedAll}
 use Rattle.magnetar_inplace.proofs.RecordLaws.{added-more, added-end}

@@ -25,7 +25,7 @@ use Rattle.magnetar_inplace.proofs.records.add_flips.Key.{name as #f}
 use Rattle.magnetar_inplace.proofs.records.add_flips as f
 use Rattle.magnetar_inplace.proofs.records.add_flips.Statement as stated
 use Rattle.magnetar_inplace.proofs.records.add_flips.Code as code
-use Rattle.magnetar_r1cs.specs.Matrix as matrix
+use Rattle.magnetar_matrix.specs.Matrix as matrix
 use Rattle.magnetar_inplace.specs.Records.{entryOf, entriesOfRecords}
 use Rattle.magnetar_inplace.specs.MaskSteps.{flips, flippedIn, flippedAll}
 use Rattle.magnetar_inplace.proofs.MaskLaws.{flipped-more, flipped-end}

@@ -25,9 +25,9 @@ use Rattle.magnetar_inplace.proofs.records.add_packed.Key.{name as #f}
 use Rattle.magnetar_inplace.proofs.records.add_packed as f
 use Rattle.magnetar_inplace.proofs.records.add_packed.Statement as stated
 use Rattle.magnetar_inplace.proofs.records.add_packed.Code as code
-use Rattle.magnetar_r1cs.specs.Matrix as matrix
+use Rattle.magnetar_matrix.specs.Matrix as matrix
 use Rattle.magnetar_field.specs.Words.{elements}
-use Rattle.magnetar_r1cs.specs.Matrix.{share}
+use Rattle.magnetar_matrix.specs.Matrix.{share}
 use Rattle.magnetar_inplace.specs.Records.{entryOf, entriesOfRecords}
 use Rattle.magnetar_inplace.specs.LoginSteps.{loginZ, addedLogins, addedPacked}
 use Rattle.magnetar_inplace.proofs.LoginLaws.{packed-more, packed-end}

@@ -26,7 +26,7 @@ use Rattle.magnetar_inplace.proofs.records.add_product as f
 use Rattle.magnetar_inplace.proofs.records.add_product.Statement as stated
 use Rattle.magnetar_inplace.proofs.records.add_product.Code as code
 use Rattle.magnetar_field.specs.Words.{elements}
-use Rattle.magnetar_r1cs.specs.Matrix.{share}
+use Rattle.magnetar_matrix.specs.Matrix.{share}
 use Rattle.magnetar_inplace.specs.Records.{entryOf, entriesOfRecords}
 use Rattle.magnetar_inplace.specs.Steps.{addedTo, addedAll}
 use Rattle.magnetar_inplace.proofs.RecordLaws.{added-more, added-end}

@@ -27,7 +27,7 @@ use Rattle.magnetar_inplace.proofs.records.all_bits.Statement as stated
 use Rattle.magnetar_inplace.proofs.records.all_bits.Code as code
 use mathlib.Core.Bool.{_&&_}
 use Rattle.magnetar_layout.specs.Every.{every}
-use Rattle.magnetar_r1cs.specs.Matrix.{isBit}
+use Rattle.magnetar_matrix.specs.Matrix.{isBit}
 use Rattle.magnetar_inplace.specs.Records.{entryOf, entriesOfRecords}
 use Rattle.magnetar_inplace.proofs.RecordLaws.{carried, carried-end}
 

@@ -47,7 +47,7 @@ use denote.Triple.Clauses.{Lasts, lasts, atExit}
 use denote.Exit.{yes}
 use Rattle.magnetar_inplace.proofs.RecordEnds.{at-ends}
 use Rattle.magnetar_field.specs.Gf128.{value}
-use Rattle.magnetar_field.specs.Entries.{answer}
+use Rattle.magnetar_multilinear.specs.Entries.{answer}
 use Rattle.magnetar_inplace.specs.declared.records.Entry.{Entry}
 use Rattle.magnetar_inplace.proofs.records.Entry as mEntry
 use Rattle.magnetar_inplace.proofs.records.Entry.Laws as lEntry
@@ -57,8 +57,8 @@ use Rattle.magnetar_field.proofs.gf128.Evaluated.Laws as lEvaluated
 use Rattle.magnetar_field.specs.declared.gf128.Gf128.{Gf128}
 use Rattle.magnetar_field.proofs.gf128.Gf128 as mGf128
 use Rattle.magnetar_field.proofs.gf128.Gf128.Laws as lGf128
-use Rattle.magnetar_inplace.proofs.Locals.{tidy, bare, kept, dies, alloc, hide, free-all}
-use Rattle.magnetar_inplace.proofs.Again.{LentAgain, lends-again, comes-back}
+use Rattle.magnetar_transcript.proofs.Locals.{tidy, bare, kept, dies, alloc, hide, free-all}
+use Rattle.magnetar_transcript.proofs.Again.{LentAgain, lends-again, comes-back}
 use Rattle.magnetar_inplace.proofs.records.all_inside as g1
 use Rattle.magnetar_inplace.proofs.records.all_inside.Symbol as g1-def
 use Rattle.magnetar_inplace.proofs.records.all_inside.Symbol.{name as #g1}

@@ -53,8 +53,8 @@ use Rattle.magnetar_inplace.proofs.records.Entry.Laws as lEntry
 use Rattle.magnetar_field.specs.declared.gf128.Gf128.{Gf128}
 use Rattle.magnetar_field.proofs.gf128.Gf128 as mGf128
 use Rattle.magnetar_field.proofs.gf128.Gf128.Laws as lGf128
-use Rattle.magnetar_inplace.proofs.Locals.{tidy, bare, kept, dies, alloc, hide, free-all}
-use Rattle.magnetar_inplace.proofs.Again.{LentAgain, lends-again, comes-back}
+use Rattle.magnetar_transcript.proofs.Locals.{tidy, bare, kept, dies, alloc, hide, free-all}
+use Rattle.magnetar_transcript.proofs.Again.{LentAgain, lends-again, comes-back}
 use Rattle.magnetar_inplace.proofs.steps.eq_front as g1
 use Rattle.magnetar_inplace.proofs.steps.eq_front.Symbol as g1-def
 use Rattle.magnetar_inplace.proofs.steps.eq_front.Symbol.{name as #g1}

@@ -25,11 +25,11 @@ use Rattle.magnetar_inplace.proofs.records.sum_pairs.Key.{name as #f}
 use Rattle.magnetar_inplace.proofs.records.sum_pairs as f
 use Rattle.magnetar_inplace.proofs.records.sum_pairs.Statement as stated
 use Rattle.magnetar_inplace.proofs.records.sum_pairs.Code as code
-use Rattle.magnetar_r1cs.specs.Matrix as matrix
+use Rattle.magnetar_matrix.specs.Matrix as matrix
 use Rattle.magnetar_field.specs.declared.gf128.Gf128.{Gf128}
 use Rattle.magnetar_field.specs.Gf128.{value, _⊕_}
 use Rattle.magnetar_field.proofs.Xor.{zero-⊕}
-use Rattle.magnetar_r1cs.specs.Matrix.{sumOver}
+use Rattle.magnetar_matrix.specs.Matrix.{sumOver}
 use Rattle.magnetar_inplace.specs.Records.{entryOf, entriesOfRecords}
 use Rattle.magnetar_inplace.specs.Steps.{pairShare}
 use Rattle.magnetar_inplace.proofs.RecordLaws.{summed-more, summed-end}

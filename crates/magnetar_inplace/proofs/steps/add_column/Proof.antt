@@ -1,7 +1,7 @@
 -- `magnetar_inplace::steps::add_column` meets its contract.
 -- Assumes nothing.
 use mathlib.Core.Path.{refl}
-use Rattle.magnetar_r1cs.specs.Matrix.{share}
+use Rattle.magnetar_matrix.specs.Matrix.{share}
 use Rattle.magnetar_inplace.specs.Steps.{front}
 use borrow.Author.Needs.{needs}
 use Rattle.magnetar_inplace.proofs.steps.add_column.Statement.{statement}

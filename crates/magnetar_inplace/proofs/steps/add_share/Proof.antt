@@ -1,6 +1,6 @@
 -- `magnetar_inplace::steps::add_share` meets its contract.
 -- Assumes nothing.
-use Rattle.magnetar_r1cs.specs.Matrix.{share}
+use Rattle.magnetar_matrix.specs.Matrix.{share}
 use borrow.Author.Needs.{needs}
 use Rattle.magnetar_inplace.proofs.steps.add_share.Statement.{statement}
 use Rattle.magnetar_inplace.proofs.steps.add_share.Tie as tie

@@ -8,7 +8,7 @@ use Prim.Native.Nat.{_*_}
 use lib.ListN.{length}
 use denote.Ref.{now}
 use Rattle.magnetar_field.specs.Words.{elements}
-use Rattle.magnetar_r1cs.proofs.TableLaws.{added-in}
+use Rattle.magnetar_matrix.proofs.TableLaws.{added-in}
 use Rattle.magnetar_inplace.specs.Steps.{addedTo}
 use Rattle.magnetar_inplace.proofs.RecordLaws.{added-words}
 use borrow.Author.Needs.{needs}

@@ -3,7 +3,7 @@
 use mathlib.Core.Path.{sym}
 use native.Mathlib.Omega.{arith}
 use denote.Ref.{now}
-use Rattle.magnetar_r1cs.proofs.TableLaws.{added-zero}
+use Rattle.magnetar_matrix.proofs.TableLaws.{added-zero}
 use Rattle.magnetar_r1cs.proofs.Flipped.{flip-none, flip-bit, flip-one}
 use borrow.Author.Needs.{needs}
 use Rattle.magnetar_r1cs.proofs.masks.add_flip.Statement.{statement}

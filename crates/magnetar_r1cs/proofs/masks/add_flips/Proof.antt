@@ -5,9 +5,9 @@ use Prim.Native.Nat.{_-_}
 use native.Mathlib.Omega.{arith}
 use lib.ListN.{length, getD}
 use denote.Ref.{now}
-use Rattle.magnetar_r1cs.specs.Lent.{entriesOf}
+use Rattle.magnetar_matrix.specs.Lent.{entriesOf}
 use Rattle.magnetar_r1cs.specs.Flips.{flip}
-use Rattle.magnetar_r1cs.proofs.Walked.{Walked, walked-start, walked-more, walked-end, entry-at, entries-end}
+use Rattle.magnetar_matrix.proofs.Walked.{Walked, walked-start, walked-more, walked-end, entry-at, entries-end}
 use Rattle.magnetar_r1cs.proofs.Flipped.{flip-entry}
 use borrow.Author.Needs.{needs}
 use Rattle.magnetar_r1cs.proofs.masks.add_flips.Statement.{statement}

@@ -5,7 +5,7 @@ use native.Mathlib.Omega.{arith}
 use lib.Seq.{set-out}
 use denote.Ref.{now}
 use Rattle.magnetar_field.specs.Gf128.{_⊕_}
-use Rattle.magnetar_r1cs.specs.Table.{addedAt}
+use Rattle.magnetar_matrix.specs.Table.{addedAt}
 use borrow.Author.Needs.{needs}
 use Rattle.magnetar_r1cs.proofs.masks.add_word.Statement.{statement}
 use Rattle.magnetar_r1cs.proofs.masks.add_word.Tie as tie

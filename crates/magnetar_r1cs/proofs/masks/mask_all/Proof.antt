@@ -6,10 +6,10 @@ use Prim.Native.Nat.{_+_, _*_, _-_, _≤_}
 use native.Mathlib.Omega.{arith}
 use lib.ListN.{length, take}
 use denote.Ref.{now}
-use Rattle.magnetar_r1cs.specs.Sum.{blocks}
-use Rattle.magnetar_r1cs.specs.Lent.{entriesOf}
+use Rattle.magnetar_matrix.specs.Sum.{blocks}
+use Rattle.magnetar_matrix.specs.Lent.{entriesOf}
 use Rattle.magnetar_r1cs.specs.Flips.{flipBlock}
-use Rattle.magnetar_r1cs.proofs.Blocks.{Block, block-of, mid-length, blocks-start, blocks-more, blocks-end}
+use Rattle.magnetar_matrix.proofs.Blocks.{Block, block-of, mid-length, blocks-start, blocks-more, blocks-end}
 use Rattle.magnetar_r1cs.proofs.Flipped.{rows-of}
 use borrow.Author.Needs.{needs}
 use Rattle.magnetar_r1cs.proofs.masks.mask_all.Statement.{statement}

@@ -6,10 +6,10 @@ use native.Mathlib.Omega.{arith}
 use lib.ListN.{length, replicate}
 use denote.Ref.{now}
 use Rattle.magnetar_field.specs.Tabulate.{tabulate}
-use Rattle.magnetar_r1cs.specs.Packed.{loginWords}
-use Rattle.magnetar_r1cs.specs.Lent.{entriesOf}
+use Rattle.magnetar_matrix.specs.Packed.{loginWords}
+use Rattle.magnetar_matrix.specs.Lent.{entriesOf}
 use Rattle.magnetar_r1cs.specs.Flips.{flipTotal, flipBlock}
-use Rattle.magnetar_r1cs.proofs.LoginParts.{Part, part-of, words-most}
+use Rattle.magnetar_matrix.proofs.LoginParts.{Part, part-of, words-most}
 use Rattle.magnetar_r1cs.proofs.Flipped.{rows-start, rows-more, login-below}
 use borrow.Author.Needs.{needs}
 use Rattle.magnetar_r1cs.proofs.masks.mask_rows.Statement.{statement}

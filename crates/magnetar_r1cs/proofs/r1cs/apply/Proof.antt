@@ -1,9 +1,9 @@
 -- `magnetar_r1cs::r1cs::apply` meets its contract.
 -- Assumes nothing.
-use Rattle.magnetar_r1cs.proofs.TableLaws.{in-front}
+use Rattle.magnetar_matrix.proofs.TableLaws.{in-front}
 use Rattle.magnetar_r1cs.proofs.Lone.{Lone}
 use denote.Ref.{now}
-use Rattle.magnetar_r1cs.specs.Lent.{Lent, lent, matrixOf}
+use Rattle.magnetar_matrix.specs.Lent.{Lent, lent, matrixOf}
 use mathlib.Core.Path.{_≡_, refl, sym, _∙_}
 use mathlib.Core.List.{_++_}
 use Prim.Native.Nat.{_*_, _≤_}
@@ -11,7 +11,7 @@ use native.Mathlib.Omega.{arith}
 use lib.ListN.{length}
 use lib.Seq.{length-take-le}
 use borrow.Author.Tests.{ltb-false}
-use Rattle.magnetar_r1cs.specs.Matrix.{times, timesAt}
+use Rattle.magnetar_matrix.specs.Matrix.{times, timesAt}
 use Rattle.magnetar_layout.specs.Tests.{Tests, noted, loneTests, lengthTest, roomTest}
 use Rattle.magnetar_r1cs.specs.Entries.{applyRefusal}
 use Rattle.magnetar_layout.proofs.Noted.{noted-front, noted-late, noted-clear, turned, done}

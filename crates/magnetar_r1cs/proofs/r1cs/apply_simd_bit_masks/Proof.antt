@@ -13,11 +13,11 @@ use Rattle.magnetar_field.specs.Sizes.{log₂}
 use Rattle.magnetar_layout.specs.Tests.{Tests, noted, roomTest}
 use Rattle.magnetar_layout.proofs.Noted.{noted-front, noted-late, noted-clear, turned, done}
 use Rattle.magnetar_layout.proofs.Room.{room-short, room-enough}
-use Rattle.magnetar_r1cs.specs.Matrix.{bitValued}
-use Rattle.magnetar_r1cs.specs.Lent.{Lent, lent, matrixOf}
+use Rattle.magnetar_matrix.specs.Matrix.{bitValued}
+use Rattle.magnetar_matrix.specs.Lent.{Lent, lent, matrixOf}
 use Rattle.magnetar_r1cs.specs.Entries.{matrixTests, maskTests, maskCount, masksRefusal}
 use Rattle.magnetar_r1cs.proofs.Lone.{Batched, masked}
-use Rattle.magnetar_r1cs.proofs.Blocks.{product-fits}
+use Rattle.magnetar_matrix.proofs.Blocks.{product-fits}
 use Rattle.magnetar_r1cs.proofs.Flipped.{Powers, powers-of, masks-in-front}
 use borrow.Author.Needs.{needs}
 use Rattle.magnetar_r1cs.proofs.r1cs.apply_simd_bit_masks.Statement.{statement}

@@ -6,15 +6,15 @@ use Prim.Native.Nat.{ℕ, _*_}
 use native.Mathlib.Omega.{arith}
 use lib.Seq.{length-take-le}
 use denote.Ref.{now}
-use Rattle.magnetar_r1cs.specs.Lent.{Lent, lent, matrixOf}
+use Rattle.magnetar_matrix.specs.Lent.{Lent, lent, matrixOf}
 use Rattle.magnetar_layout.specs.Tests.{Tests, noted, roomTest, batchTests}
 use Rattle.magnetar_field.specs.Words.{elements}
-use Rattle.magnetar_r1cs.specs.Matrix.{bitValued}
+use Rattle.magnetar_matrix.specs.Matrix.{bitValued}
 use Rattle.magnetar_r1cs.specs.Entries.{packedRefusal}
 use Rattle.magnetar_layout.proofs.Noted.{noted-front, noted-late, turned, done}
 use Rattle.magnetar_r1cs.proofs.Flags.{flag-refused, flag-yes, flag-no}
 use Rattle.magnetar_r1cs.proofs.Lone.{Batched, batched}
-use Rattle.magnetar_r1cs.proofs.Blocks.{product-fits}
+use Rattle.magnetar_matrix.proofs.Blocks.{product-fits}
 use Rattle.magnetar_r1cs.proofs.Split.{packed-is}
 use Rattle.magnetar_layout.proofs.Room.{room-short, room-enough}
 use borrow.Author.Needs.{needs}

@@ -5,14 +5,14 @@ use mathlib.Core.List.{_++_}
 use Prim.Native.Nat.{_+_, _*_, _≤_}
 use native.Mathlib.Omega.{arith}
 use denote.Ref.{now}
-use Rattle.magnetar_r1cs.specs.Lent.{Lent, lent}
+use Rattle.magnetar_matrix.specs.Lent.{Lent, lent}
 use Rattle.magnetar_layout.specs.Tests.{Tests, noted}
 use Rattle.magnetar_layout.proofs.Noted.{noted-front, noted-late, noted-clear}
 use lib.ListN.{drop}
 use Rattle.magnetar_layout.specs.Tests.{sizeTests, packedTests, publicTests, rowTests, rowsTests, colsTests, counted, placed}
 use Rattle.magnetar_layout.proofs.SizeLaws.{not-bad}
-use Rattle.magnetar_r1cs.proofs.LoginParts.{product-most, words-most}
-use Rattle.magnetar_r1cs.proofs.Blocks.{product-fits}
+use Rattle.magnetar_matrix.proofs.LoginParts.{product-most, words-most}
+use Rattle.magnetar_matrix.proofs.Blocks.{product-fits}
 use borrow.Author.Needs.{needs}
 use Rattle.magnetar_r1cs.proofs.r1cs.batch_refusal.Statement.{statement}
 use Rattle.magnetar_r1cs.proofs.r1cs.batch_refusal.Tie as tie

@@ -2,7 +2,7 @@
 -- Assumes nothing.
 use native.Mathlib.Omega.{arith}
 use denote.Ref.{now}
-use Rattle.magnetar_r1cs.proofs.Carried.{kept-words}
+use Rattle.magnetar_matrix.proofs.Carried.{kept-words}
 use borrow.Author.Needs.{needs}
 use Rattle.magnetar_r1cs.proofs.r1cs.bit_part.Statement.{statement}
 use Rattle.magnetar_r1cs.proofs.r1cs.bit_part.Tie as tie

@@ -6,7 +6,7 @@ use native.Mathlib.Omega.{arith}
 use lib.ListN.{length, getD, length-set}
 use lib.Seq.{paste-zero}
 use denote.Ref.{now}
-use Rattle.magnetar_r1cs.proofs.Carried.{carriedTo, carry-more, carry-full, carry-short}
+use Rattle.magnetar_matrix.proofs.Carried.{carriedTo, carry-more, carry-full, carry-short}
 use borrow.Author.Needs.{needs}
 use Rattle.magnetar_r1cs.proofs.r1cs.carry.Statement.{statement}
 use Rattle.magnetar_r1cs.proofs.r1cs.carry.Tie as tie

@@ -12,12 +12,12 @@ use lib.Seq.{length-take-le}
 use borrow.Author.Tests.{ltb-false, eqb-true, not-false}
 use denote.Ref.{now}
 use Rattle.magnetar_field.specs.Sizes.{log₂}
-use Rattle.magnetar_r1cs.specs.Lent.{Lent, lent, matrixOf}
+use Rattle.magnetar_matrix.specs.Lent.{Lent, lent, matrixOf}
 use Rattle.magnetar_layout.specs.Tests.{Tests, noted, loneTests, lengthTest, roomTest}
 use Rattle.magnetar_layout.proofs.Noted.{noted-front, noted-late, noted-clear, turned, done, refused, found}
 use Rattle.magnetar_r1cs.proofs.Lone.{Lone, lone}
 use Rattle.magnetar_r1cs.proofs.Points.{point-of, log-most}
-use Rattle.magnetar_r1cs.specs.Matrix.{mleAt}
+use Rattle.magnetar_matrix.specs.Matrix.{mleAt}
 use Rattle.magnetar_r1cs.specs.Entries.{atRefusal}
 use borrow.Author.Needs.{needs}
 use Rattle.magnetar_r1cs.proofs.r1cs.eval_mle_at.Statement.{statement}

@@ -1,10 +1,10 @@
 -- `magnetar_r1cs::r1cs::is_binary` meets its contract.
 -- Assumes nothing.
 use denote.Ref.{now}
-use Rattle.magnetar_r1cs.specs.Lent.{Lent, lent, matrixOf}
+use Rattle.magnetar_matrix.specs.Lent.{Lent, lent, matrixOf}
 use mathlib.Core.Path.{sym, _∙_}
 use borrow.Author.Tests.{ne-eqb}
-use Rattle.magnetar_r1cs.specs.Matrix.{binary}
+use Rattle.magnetar_matrix.specs.Matrix.{binary}
 use Rattle.magnetar_r1cs.specs.Entries.{binaryRefusal}
 use Rattle.magnetar_r1cs.proofs.Lone.{lone}
 use borrow.Author.Needs.{needs}

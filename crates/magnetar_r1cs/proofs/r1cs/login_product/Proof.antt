@@ -7,10 +7,10 @@ use Prim.Native.Nat.{ℕ}
 use lib.Seq.{length-take-le}
 use denote.Ref.{now}
 use Rattle.magnetar_field.specs.Words.{elements, words}
-use Rattle.magnetar_r1cs.specs.Matrix.{rowTotal}
-use Rattle.magnetar_r1cs.specs.Lent.{entriesOf}
-use Rattle.magnetar_r1cs.specs.Table.{raised, bitShare}
-use Rattle.magnetar_r1cs.proofs.Carried.{after-carry}
+use Rattle.magnetar_matrix.specs.Matrix.{rowTotal}
+use Rattle.magnetar_matrix.specs.Lent.{entriesOf}
+use Rattle.magnetar_matrix.specs.Table.{raised, bitShare}
+use Rattle.magnetar_matrix.proofs.Carried.{after-carry}
 use borrow.Author.Needs.{needs}
 use Rattle.magnetar_r1cs.proofs.r1cs.login_product.Statement.{statement}
 use Rattle.magnetar_r1cs.proofs.r1cs.login_product.Tie as tie

@@ -1,7 +1,7 @@
 -- `magnetar_r1cs::r1cs::login_words` meets its contract.
 -- Assumes nothing.
 use native.Mathlib.Omega.{arith}
-use Rattle.magnetar_r1cs.specs.Packed.{loginWords}
+use Rattle.magnetar_matrix.specs.Packed.{loginWords}
 use borrow.Author.Needs.{needs}
 use Rattle.magnetar_r1cs.proofs.r1cs.login_words.Statement.{statement}
 use Rattle.magnetar_r1cs.proofs.r1cs.login_words.Tie as tie

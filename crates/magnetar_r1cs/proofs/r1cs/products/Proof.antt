@@ -9,12 +9,12 @@ use lib.ListN.{length}
 use lib.Seq.{length-take-le, length-front}
 use denote.Ref.{now}
 use Rattle.magnetar_field.specs.Words.{elements}
-use Rattle.magnetar_r1cs.specs.Packed.{loginWords}
-use Rattle.magnetar_r1cs.specs.Lent.{entriesOf}
-use Rattle.magnetar_r1cs.specs.Table.{loginBlock}
-use Rattle.magnetar_r1cs.proofs.LoginParts.{Part, part-of, part-ends, words-most}
-use Rattle.magnetar_r1cs.proofs.Blocks.{Block, block-of}
-use Rattle.magnetar_r1cs.proofs.Carried.{Filling, publicRows, public-is, filling-start, filling-end, rest-long, next-login}
+use Rattle.magnetar_matrix.specs.Packed.{loginWords}
+use Rattle.magnetar_matrix.specs.Lent.{entriesOf}
+use Rattle.magnetar_matrix.specs.Table.{loginBlock}
+use Rattle.magnetar_matrix.proofs.LoginParts.{Part, part-of, part-ends, words-most}
+use Rattle.magnetar_matrix.proofs.Blocks.{Block, block-of}
+use Rattle.magnetar_matrix.proofs.Carried.{Filling, publicRows, public-is, filling-start, filling-end, rest-long, next-login}
 use borrow.Author.Needs.{needs}
 use Rattle.magnetar_r1cs.proofs.r1cs.products.Statement.{statement}
 use Rattle.magnetar_r1cs.proofs.r1cs.products.Tie as tie

@@ -2,7 +2,7 @@
 -- Assumes nothing.
 use native.Mathlib.Omega.{arith}
 use denote.Ref.{now}
-use Rattle.magnetar_r1cs.proofs.TableLaws.{cleared-raised}
+use Rattle.magnetar_matrix.proofs.TableLaws.{cleared-raised}
 use borrow.Author.Needs.{needs}
 use Rattle.magnetar_r1cs.proofs.r1cs.public_part.Statement.{statement}
 use Rattle.magnetar_r1cs.proofs.r1cs.public_part.Tie as tie

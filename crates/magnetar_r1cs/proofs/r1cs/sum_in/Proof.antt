@@ -2,7 +2,7 @@
 -- Assumes nothing.
 use Rattle.magnetar_r1cs.proofs.Parts.{both-length}
 use Rattle.magnetar_r1cs.proofs.Parts.{behind, both-parts}
-use Rattle.magnetar_r1cs.proofs.TableLaws.{elements-append}
+use Rattle.magnetar_matrix.proofs.TableLaws.{elements-append}
 use denote.Ref.{now}
 use Prim.Native.Nat.{_*_}
 use lib.Seq.{length-take-le}

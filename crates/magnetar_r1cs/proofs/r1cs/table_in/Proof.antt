@@ -5,7 +5,7 @@ use lib.ListN.{replicate}
 use mathlib.Core.Path.{_≡_, ap, _∙_}
 use lib.ListN.{length}
 use denote.Ref.{now}
-use Rattle.magnetar_r1cs.proofs.TableLaws.{elements-words}
+use Rattle.magnetar_matrix.proofs.TableLaws.{elements-words}
 use borrow.Author.Needs.{needs}
 use Rattle.magnetar_r1cs.proofs.r1cs.table_in.Statement.{statement}
 use Rattle.magnetar_r1cs.proofs.r1cs.table_in.Tie as tie

@@ -3,7 +3,7 @@
 use mathlib.Core.Path.{sym}
 use native.Mathlib.Omega.{arith}
 use denote.Ref.{now}
-use Rattle.magnetar_r1cs.proofs.TableLaws.{added-in, added-zero, bit-some, bit-none}
+use Rattle.magnetar_matrix.proofs.TableLaws.{added-in, added-zero, bit-some, bit-none}
 use borrow.Author.Needs.{needs}
 use Rattle.magnetar_r1cs.proofs.walk.add_bit_share.Statement.{statement}
 use Rattle.magnetar_r1cs.proofs.walk.add_bit_share.Tie as tie

@@ -6,9 +6,9 @@ use native.Mathlib.Omega.{arith}
 use lib.ListN.{length}
 use denote.Ref.{now}
 use Rattle.magnetar_field.specs.Words.{elements}
-use Rattle.magnetar_r1cs.specs.Matrix.{share}
-use Rattle.magnetar_r1cs.specs.Lent.{entriesOf}
-use Rattle.magnetar_r1cs.proofs.Walked.{Walked, walked-start, walked-more, walked-end, entry-at, entries-end}
+use Rattle.magnetar_matrix.specs.Matrix.{share}
+use Rattle.magnetar_matrix.specs.Lent.{entriesOf}
+use Rattle.magnetar_matrix.proofs.Walked.{Walked, walked-start, walked-more, walked-end, entry-at, entries-end}
 use borrow.Author.Needs.{needs}
 use Rattle.magnetar_r1cs.proofs.walk.add_product.Statement.{statement}
 use Rattle.magnetar_r1cs.proofs.walk.add_product.Tie as tie

@@ -4,8 +4,8 @@ use mathlib.Core.Path.{sym}
 use native.Mathlib.Omega.{arith}
 use denote.Ref.{now}
 use Rattle.magnetar_field.specs.Words.{elements}
-use Rattle.magnetar_r1cs.proofs.Digits.{value-lt}
-use Rattle.magnetar_r1cs.proofs.TableLaws.{added-in, added-zero, public-one, public-x, public-none}
+use Rattle.magnetar_matrix.proofs.Digits.{value-lt}
+use Rattle.magnetar_matrix.proofs.TableLaws.{added-in, added-zero, public-one, public-x, public-none}
 use borrow.Author.Needs.{needs}
 use Rattle.magnetar_r1cs.proofs.walk.add_public_share.Statement.{statement}
 use Rattle.magnetar_r1cs.proofs.walk.add_public_share.Tie as tie

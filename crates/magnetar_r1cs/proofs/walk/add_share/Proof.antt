@@ -1,7 +1,7 @@
 -- `magnetar_r1cs::walk::add_share` meets its contract.
 -- Assumes nothing.
-use Rattle.magnetar_r1cs.specs.Matrix.{share}
-use Rattle.magnetar_r1cs.proofs.TableLaws.{added-in}
+use Rattle.magnetar_matrix.specs.Matrix.{share}
+use Rattle.magnetar_matrix.proofs.TableLaws.{added-in}
 use borrow.Author.Needs.{needs}
 use Rattle.magnetar_r1cs.proofs.walk.add_share.Statement.{statement}
 use Rattle.magnetar_r1cs.proofs.walk.add_share.Tie as tie

@@ -5,10 +5,10 @@ use Prim.Native.Nat.{_-_}
 use native.Mathlib.Omega.{arith}
 use lib.ListN.{length}
 use borrow.Author.Tests.{not-true, not-false}
-use Rattle.magnetar_r1cs.specs.Matrix.{isBit}
-use Rattle.magnetar_r1cs.specs.Lent.{entriesOf}
+use Rattle.magnetar_matrix.specs.Matrix.{isBit}
+use Rattle.magnetar_matrix.specs.Lent.{entriesOf}
 use Rattle.magnetar_layout.proofs.EveryLaws.{Left}
-use Rattle.magnetar_r1cs.proofs.Walked.{tested-more, tested-not, tested-end, entry-at, entries-end}
+use Rattle.magnetar_matrix.proofs.Walked.{tested-more, tested-not, tested-end, entry-at, entries-end}
 use borrow.Author.Needs.{needs}
 use Rattle.magnetar_r1cs.proofs.walk.all_bits.Statement.{statement}
 use Rattle.magnetar_r1cs.proofs.walk.all_bits.Tie as tie

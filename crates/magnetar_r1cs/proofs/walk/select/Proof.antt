@@ -3,7 +3,7 @@
 use Prim.Native.Nat.{_+_, _*_, _^_}
 use native.Mathlib.Omega.{arith}
 use mathlib.Core.Path.{_≡_, _∙_}
-use Rattle.magnetar_r1cs.proofs.Digits.{value-lt, ⊗-digit}
+use Rattle.magnetar_matrix.proofs.Digits.{value-lt, ⊗-digit}
 use borrow.Author.Needs.{needs}
 use Rattle.magnetar_r1cs.proofs.walk.select.Statement.{statement}
 use Rattle.magnetar_r1cs.proofs.walk.select.Tie as tie

@@ -8,9 +8,9 @@ use native.Mathlib.Omega.{arith}
 use lib.ListN.{length, getD}
 use Rattle.magnetar_field.specs.Gf128.{value}
 use Rattle.magnetar_field.specs.Words.{elements}
-use Rattle.magnetar_r1cs.specs.Table.{cross}
-use Rattle.magnetar_r1cs.specs.Lent.{entriesOf}
-use Rattle.magnetar_r1cs.proofs.Walked.{Summed, summed-start, summed-more, summed-end, entry-at, entries-end}
+use Rattle.magnetar_matrix.specs.Table.{cross}
+use Rattle.magnetar_matrix.specs.Lent.{entriesOf}
+use Rattle.magnetar_matrix.proofs.Walked.{Summed, summed-start, summed-more, summed-end, entry-at, entries-end}
 use borrow.Author.Needs.{needs}
 use Rattle.magnetar_r1cs.proofs.walk.sum_products.Statement.{statement}
 use Rattle.magnetar_r1cs.proofs.walk.sum_products.Tie as tie

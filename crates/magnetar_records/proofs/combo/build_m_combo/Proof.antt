@@ -49,8 +49,8 @@ use Rattle.magnetar_records.proofs.ComboEnds.{combo-ends}
 use Rattle.magnetar_inplace.specs.declared.records.Entry.{Entry}
 use Rattle.magnetar_inplace.proofs.records.Entry as mEntry
 use Rattle.magnetar_inplace.proofs.records.Entry.Laws as lEntry
-use Rattle.magnetar_inplace.proofs.Locals.{tidy, bare, kept, dies, alloc, hide, free-all}
-use Rattle.magnetar_inplace.proofs.Again.{LentAgain, lends-again, comes-back}
+use Rattle.magnetar_transcript.proofs.Locals.{tidy, bare, kept, dies, alloc, hide, free-all}
+use Rattle.magnetar_transcript.proofs.Again.{LentAgain, lends-again, comes-back}
 use Rattle.magnetar_records.proofs.combo.refused as g1
 use Rattle.magnetar_records.proofs.combo.refused.Symbol as g1-def
 use Rattle.magnetar_records.proofs.combo.refused.Symbol.{name as #g1}

@@ -49,7 +49,7 @@ use Rattle.magnetar_records.proofs.RunEnds.{verify-refused}
 use Rattle.magnetar_inplace.specs.declared.records.Entry.{Entry}
 use Rattle.magnetar_inplace.proofs.records.Entry as mEntry
 use Rattle.magnetar_inplace.proofs.records.Entry.Laws as lEntry
-use Rattle.magnetar_inplace.proofs.Locals.{tidy, bare, kept, dies, alloc, hide, free-all}
+use Rattle.magnetar_transcript.proofs.Locals.{tidy, bare, kept, dies, alloc, hide, free-all}
 use Rattle.magnetar_inplace.proofs.records.all_six as g1
 use Rattle.magnetar_inplace.proofs.records.all_six.Symbol as g1-def
 use Rattle.magnetar_inplace.proofs.records.all_six.Symbol.{name as #g1}

@@ -55,8 +55,8 @@ use Rattle.magnetar_inplace.proofs.records.Entry.Laws as lEntry
 use Rattle.magnetar_hash.specs.declared.transcript.TranscriptAnswer.{TranscriptAnswer}
 use Rattle.magnetar_hash.proofs.transcript.TranscriptAnswer as mTranscriptAnswer
 use Rattle.magnetar_hash.proofs.transcript.TranscriptAnswer.Laws as lTranscriptAnswer
-use Rattle.magnetar_inplace.proofs.Locals.{tidy, bare, kept, dies, alloc, hide, free-all}
-use Rattle.magnetar_inplace.proofs.Again.{LentAgain, lends-again, comes-back}
+use Rattle.magnetar_transcript.proofs.Locals.{tidy, bare, kept, dies, alloc, hide, free-all}
+use Rattle.magnetar_transcript.proofs.Again.{LentAgain, lends-again, comes-back}
 use Rattle.magnetar_records.proofs.virtual_spartan.combine as g1
 use Rattle.magnetar_records.proofs.virtual_spartan.combine.Symbol as g1-def
 use Rattle.magnetar_records.proofs.virtual_spartan.combine.Symbol.{name as #g1}
@@ -65,14 +65,14 @@ use Rattle.magnetar_records.proofs.stages.finish as g2
 use Rattle.magnetar_records.proofs.stages.finish.Symbol as g2-def
 use Rattle.magnetar_records.proofs.stages.finish.Symbol.{name as #g2}
 use Rattle.magnetar_records.proofs.stages.finish.Met as g2-thm
-use Rattle.magnetar_inplace.proofs.transcript.after as g3
-use Rattle.magnetar_inplace.proofs.transcript.after.Symbol as g3-def
-use Rattle.magnetar_inplace.proofs.transcript.after.Symbol.{name as #g3}
-use Rattle.magnetar_inplace.proofs.transcript.after.Met as g3-thm
-use Rattle.magnetar_inplace.proofs.transcript.number as g4
-use Rattle.magnetar_inplace.proofs.transcript.number.Symbol as g4-def
-use Rattle.magnetar_inplace.proofs.transcript.number.Symbol.{name as #g4}
-use Rattle.magnetar_inplace.proofs.transcript.number.Met as g4-thm
+use Rattle.magnetar_transcript.proofs.transcript.after as g3
+use Rattle.magnetar_transcript.proofs.transcript.after.Symbol as g3-def
+use Rattle.magnetar_transcript.proofs.transcript.after.Symbol.{name as #g3}
+use Rattle.magnetar_transcript.proofs.transcript.after.Met as g3-thm
+use Rattle.magnetar_transcript.proofs.transcript.number as g4
+use Rattle.magnetar_transcript.proofs.transcript.number.Symbol as g4-def
+use Rattle.magnetar_transcript.proofs.transcript.number.Symbol.{name as #g4}
+use Rattle.magnetar_transcript.proofs.transcript.number.Met as g4-thm
 use Rattle.magnetar_records.proofs.virtual_spartan.verify_in.Key.{name as #f}
 use Rattle.magnetar_records.proofs.virtual_spartan.verify_in as f
 use Rattle.magnetar_records.proofs.virtual_spartan.verify_in.Statement as stated
@@ -303,5 +303,5 @@ verify-in-spec 𝓤 H 𝓜 𝓖 𝓡 =
     (meets 𝓤 H (𝓖 .A) (givenOf 𝓤 H 𝓜 𝓖) (𝓜 .mem) (𝓡 .run) (tablesOf 𝓤 H 𝓜 (tables 𝓤 H 𝓜 𝓡 code.env))
     (cited 𝓤 H (Callee-g1 𝓤 H (𝓖 .A) (𝓜 .mem) (𝓡 .run)) 𝓜 𝓡 code.env #g1 g1-def.routine code.calls-magnetar-records·virtual-spartan·combine (g1-thm.met 𝓤 H 𝓜 𝓖 𝓡))
     (cited 𝓤 H (Callee-g2 𝓤 H (𝓖 .A) (𝓜 .mem) (𝓡 .run)) 𝓜 𝓡 code.env #g2 g2-def.routine code.calls-magnetar-records·stages·finish (g2-thm.met 𝓤 H 𝓜 𝓖 𝓡))
-    (cited 𝓤 H (Callee-g3 𝓤 H (𝓖 .A) (𝓜 .mem) (𝓡 .run)) 𝓜 𝓡 code.env #g3 g3-def.routine code.calls-magnetar-inplace·transcript·after (g3-thm.met 𝓤 H 𝓜 𝓖 𝓡))
-    (cited 𝓤 H (Callee-g4 𝓤 H (𝓖 .A) (𝓜 .mem) (𝓡 .run)) 𝓜 𝓡 code.env #g4 g4-def.routine code.calls-magnetar-inplace·transcript·number (g4-thm.met 𝓤 H 𝓜 𝓖 𝓡)))
+    (cited 𝓤 H (Callee-g3 𝓤 H (𝓖 .A) (𝓜 .mem) (𝓡 .run)) 𝓜 𝓡 code.env #g3 g3-def.routine code.calls-magnetar-transcript·transcript·after (g3-thm.met 𝓤 H 𝓜 𝓖 𝓡))
+    (cited 𝓤 H (Callee-g4 𝓤 H (𝓖 .A) (𝓜 .mem) (𝓡 .run)) 𝓜 𝓡 code.env #g4 g4-def.routine code.calls-magnetar-transcript·transcript·number (g4-thm.met 𝓤 H 𝓜 𝓖 𝓡)))

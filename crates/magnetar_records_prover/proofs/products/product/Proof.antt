@@ -51,8 +51,8 @@ use Rattle.magnetar_inplace.proofs.records.Entry.Laws as lEntry
 use Rattle.magnetar_r1cs.specs.declared.r1cs.Flag.{Flag}
 use Rattle.magnetar_r1cs.proofs.r1cs.Flag as mFlag
 use Rattle.magnetar_r1cs.proofs.r1cs.Flag.Laws as lFlag
-use Rattle.magnetar_inplace.proofs.Locals.{tidy, bare, kept, dies, alloc, hide, free-all}
-use Rattle.magnetar_inplace.proofs.Again.{LentAgain, lends-again, comes-back}
+use Rattle.magnetar_transcript.proofs.Locals.{tidy, bare, kept, dies, alloc, hide, free-all}
+use Rattle.magnetar_transcript.proofs.Again.{LentAgain, lends-again, comes-back}
 use Rattle.magnetar_records_prover.proofs.products.half as g1
 use Rattle.magnetar_records_prover.proofs.products.half.Symbol as g1-def
 use Rattle.magnetar_records_prover.proofs.products.half.Symbol.{name as #g1}

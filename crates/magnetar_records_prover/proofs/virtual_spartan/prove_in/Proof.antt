@@ -55,8 +55,8 @@ use Rattle.magnetar_hash.proofs.transcript.Transcript.Laws as lTranscript
 use Rattle.magnetar_records_prover.specs.declared.stages.OuterDraws.{OuterDraws}
 use Rattle.magnetar_records_prover.proofs.stages.OuterDraws as mOuterDraws
 use Rattle.magnetar_records_prover.proofs.stages.OuterDraws.Laws as lOuterDraws
-use Rattle.magnetar_inplace.proofs.Locals.{tidy, bare, kept, dies, alloc, hide, free-all}
-use Rattle.magnetar_inplace.proofs.Again.{LentAgain, lends-again, comes-back}
+use Rattle.magnetar_transcript.proofs.Locals.{tidy, bare, kept, dies, alloc, hide, free-all}
+use Rattle.magnetar_transcript.proofs.Again.{LentAgain, lends-again, comes-back}
 use Rattle.magnetar_records_prover.proofs.virtual_spartan.first as g1
 use Rattle.magnetar_records_prover.proofs.virtual_spartan.first.Symbol as g1-def
 use Rattle.magnetar_records_prover.proofs.virtual_spartan.first.Symbol.{name as #g1}

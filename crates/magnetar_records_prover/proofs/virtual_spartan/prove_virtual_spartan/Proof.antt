@@ -54,20 +54,20 @@ use Rattle.magnetar_inplace.proofs.records.Entry.Laws as lEntry
 use Rattle.magnetar_hash.specs.declared.transcript.TranscriptAnswer.{TranscriptAnswer}
 use Rattle.magnetar_hash.proofs.transcript.TranscriptAnswer as mTranscriptAnswer
 use Rattle.magnetar_hash.proofs.transcript.TranscriptAnswer.Laws as lTranscriptAnswer
-use Rattle.magnetar_inplace.proofs.Locals.{tidy, bare, kept, dies, alloc, hide, free-all}
-use Rattle.magnetar_inplace.proofs.Again.{LentAgain, lends-again, comes-back}
+use Rattle.magnetar_transcript.proofs.Locals.{tidy, bare, kept, dies, alloc, hide, free-all}
+use Rattle.magnetar_transcript.proofs.Again.{LentAgain, lends-again, comes-back}
 use Rattle.magnetar_records_prover.proofs.virtual_spartan.prove as g1
 use Rattle.magnetar_records_prover.proofs.virtual_spartan.prove.Symbol as g1-def
 use Rattle.magnetar_records_prover.proofs.virtual_spartan.prove.Symbol.{name as #g1}
 use Rattle.magnetar_records_prover.proofs.virtual_spartan.prove.Met as g1-thm
-use Rattle.magnetar_inplace.proofs.transcript.after as g2
-use Rattle.magnetar_inplace.proofs.transcript.after.Symbol as g2-def
-use Rattle.magnetar_inplace.proofs.transcript.after.Symbol.{name as #g2}
-use Rattle.magnetar_inplace.proofs.transcript.after.Met as g2-thm
-use Rattle.magnetar_inplace.proofs.transcript.number as g3
-use Rattle.magnetar_inplace.proofs.transcript.number.Symbol as g3-def
-use Rattle.magnetar_inplace.proofs.transcript.number.Symbol.{name as #g3}
-use Rattle.magnetar_inplace.proofs.transcript.number.Met as g3-thm
+use Rattle.magnetar_transcript.proofs.transcript.after as g2
+use Rattle.magnetar_transcript.proofs.transcript.after.Symbol as g2-def
+use Rattle.magnetar_transcript.proofs.transcript.after.Symbol.{name as #g2}
+use Rattle.magnetar_transcript.proofs.transcript.after.Met as g2-thm
+use Rattle.magnetar_transcript.proofs.transcript.number as g3
+use Rattle.magnetar_transcript.proofs.transcript.number.Symbol as g3-def
+use Rattle.magnetar_transcript.proofs.transcript.number.Symbol.{name as #g3}
+use Rattle.magnetar_transcript.proofs.transcript.number.Met as g3-thm
 use Rattle.magnetar_records_prover.proofs.virtual_spartan.prove_virtual_spartan.Key.{name as #f}
 use Rattle.magnetar_records_prover.proofs.virtual_spartan.prove_virtual_spartan as f
 use Rattle.magnetar_records_prover.proofs.virtual_spartan.prove_virtual_spartan.Statement as stated
@@ -340,5 +340,5 @@ prove-virtual-spartan-spec 𝓤 H 𝓜 𝓖 𝓡 =
     (tables 𝓤 H 𝓜 𝓡 code.env .C) (tables 𝓤 H 𝓜 𝓡 code.env .Λ) #f code.function (code.unfolded 𝓤 H 𝓜 𝓡)
     (meets 𝓤 H (𝓖 .A) (givenOf 𝓤 H 𝓜 𝓖) (𝓜 .mem) (𝓡 .run) (tablesOf 𝓤 H 𝓜 (tables 𝓤 H 𝓜 𝓡 code.env))
     (cited 𝓤 H (Callee-g1 𝓤 H (𝓖 .A) (𝓜 .mem) (𝓡 .run)) 𝓜 𝓡 code.env #g1 g1-def.routine code.calls-magnetar-records-prover·virtual-spartan·prove (g1-thm.met 𝓤 H 𝓜 𝓖 𝓡))
-    (cited 𝓤 H (Callee-g2 𝓤 H (𝓖 .A) (𝓜 .mem) (𝓡 .run)) 𝓜 𝓡 code.env #g2 g2-def.routine code.calls-magnetar-inplace·transcript·after (g2-thm.met 𝓤 H 𝓜 𝓖 𝓡))
-    (cited 𝓤 H (Callee-g3 𝓤 H (𝓖 .A) (𝓜 .mem) (𝓡 .run)) 𝓜 𝓡 code.env #g3 g3-def.routine code.calls-magnetar-inplace·transcript·number (g3-thm.met 𝓤 H 𝓜 𝓖 𝓡)))
+    (cited 𝓤 H (Callee-g2 𝓤 H (𝓖 .A) (𝓜 .mem) (𝓡 .run)) 𝓜 𝓡 code.env #g2 g2-def.routine code.calls-magnetar-transcript·transcript·after (g2-thm.met 𝓤 H 𝓜 𝓖 𝓡))
+    (cited 𝓤 H (Callee-g3 𝓤 H (𝓖 .A) (𝓜 .mem) (𝓡 .run)) 𝓜 𝓡 code.env #g3 g3-def.routine code.calls-magnetar-transcript·transcript·number (g3-thm.met 𝓤 H 𝓜 𝓖 𝓡)))

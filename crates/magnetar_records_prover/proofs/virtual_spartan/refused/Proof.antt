@@ -52,7 +52,7 @@ use Rattle.magnetar_inplace.proofs.records.Entry.Laws as lEntry
 use Rattle.magnetar_hash.specs.declared.transcript.Transcript.{Transcript}
 use Rattle.magnetar_hash.proofs.transcript.Transcript as mTranscript
 use Rattle.magnetar_hash.proofs.transcript.Transcript.Laws as lTranscript
-use Rattle.magnetar_inplace.proofs.Locals.{tidy, bare, kept, dies, alloc, hide, free-all}
+use Rattle.magnetar_transcript.proofs.Locals.{tidy, bare, kept, dies, alloc, hide, free-all}
 use Rattle.magnetar_records.proofs.stages.counter as g1
 use Rattle.magnetar_records.proofs.stages.counter.Symbol as g1-def
 use Rattle.magnetar_records.proofs.stages.counter.Symbol.{name as #g1}

@@ -8,7 +8,7 @@ use lib.ListN.{take, drop}
 use lib.Seq.{length-take-le}
 use denote.Ref.{now}
 use Rattle.magnetar_field.specs.Words.{elements, words}
-use Rattle.magnetar_sumcheck.specs.Inner.{innerMessage}
+use Rattle.magnetar_round.specs.Inner.{innerMessage}
 use Rattle.magnetar_rounds.proofs.Slots.{part-is, part-size}
 use Rattle.magnetar_rounds.proofs.Whole.{inner-told}
 use borrow.Author.Needs.{needs}

@@ -6,7 +6,7 @@ use Rattle.magnetar_rounds.proofs.InnerSteps.{inner-stepped, inner-thre
 use Rattle.magnetar_rounds.proofs.Said.{drawn-more, said-more, said-there}
 use Rattle.magnetar_rounds.proofs.Slots.{part-size}
 use Rattle.magnetar_rounds.specs.Entries.{tableAt}
-use Rattle.magnetar_sumcheck.specs.Inner.{innerMessage}
+use Rattle.magnetar_round.specs.Inner.{innerMessage}
 use borrow.Author.Needs.{needs}
 use denote.Ref.{now}
 use lib.ListN.{length}

@@ -8,7 +8,7 @@ use Rattle.magnetar_rounds.proofs.RowSteps.{outer-four, row-done}
 use Rattle.magnetar_rounds.proofs.Said.{said-more, said-there}
 use Rattle.magnetar_rounds.proofs.Slots.{part-size}
 use Rattle.magnetar_rounds.specs.Entries.{tableAt}
-use Rattle.magnetar_sumcheck.specs.Outer.{dropVar, outerMessage}
+use Rattle.magnetar_round.specs.Outer.{dropVar, outerMessage}
 use borrow.Author.Needs.{needs}
 use denote.Ref.{now}
 use lib.ListN.{length}

@@ -25,8 +25,8 @@ use Rattle.magnetar_row_records.proofs.check.add_product.Statement as s
 use Rattle.magnetar_row_records.proofs.check.add_product.Code as code
 use Rattle.magnetar_field.specs.Words.{elements}
 use Rattle.magnetar_inplace.specs.Records.{entryOf, entriesOfRecords}
-use Rattle.magnetar_r1cs.specs.Matrix as matrix
-use Rattle.magnetar_r1cs.specs.Matrix.{share}
+use Rattle.magnetar_matrix.specs.Matrix as matrix
+use Rattle.magnetar_matrix.specs.Matrix.{share}
 use Rattle.magnetar_inplace.specs.Steps.{addedTo, addedAll}
 use Rattle.magnetar_row_records.specs.Steps.{behind}
 use Rattle.magnetar_inplace.specs.LoginSteps.{loginZ}

@@ -51,8 +51,8 @@ use Rattle.magnetar_inplace.proofs.records.Entry.Laws as lEntry
 use Rattle.magnetar_row_records.specs.declared.steps.Seen.{Seen}
 use Rattle.magnetar_row_records.proofs.steps.Seen as mSeen
 use Rattle.magnetar_row_records.proofs.steps.Seen.Laws as lSeen
-use Rattle.magnetar_inplace.proofs.Locals.{tidy, bare, kept, dies, alloc, hide, free-all}
-use Rattle.magnetar_inplace.proofs.Again.{LentAgain, lends-again, comes-back}
+use Rattle.magnetar_transcript.proofs.Locals.{tidy, bare, kept, dies, alloc, hide, free-all}
+use Rattle.magnetar_transcript.proofs.Again.{LentAgain, lends-again, comes-back}
 use Rattle.magnetar_inplace.proofs.steps.is_none as g1
 use Rattle.magnetar_inplace.proofs.steps.is_none.Symbol as g1-def
 use Rattle.magnetar_inplace.proofs.steps.is_none.Symbol.{name as #g1}

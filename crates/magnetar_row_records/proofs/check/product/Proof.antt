@@ -52,8 +52,8 @@ use Rattle.magnetar_inplace.specs.LoginSteps.{loginZ}
 use Rattle.magnetar_inplace.specs.declared.records.Entry.{Entry}
 use Rattle.magnetar_inplace.proofs.records.Entry as mEntry
 use Rattle.magnetar_inplace.proofs.records.Entry.Laws as lEntry
-use Rattle.magnetar_inplace.proofs.Locals.{tidy, bare, kept, dies, alloc, hide, free-all}
-use Rattle.magnetar_inplace.proofs.Again.{LentAgain, lends-again, comes-back}
+use Rattle.magnetar_transcript.proofs.Locals.{tidy, bare, kept, dies, alloc, hide, free-all}
+use Rattle.magnetar_transcript.proofs.Again.{LentAgain, lends-again, comes-back}
 use Rattle.magnetar_row_records.proofs.steps.clear_behind as g1
 use Rattle.magnetar_row_records.proofs.steps.clear_behind.Symbol as g1-def
 use Rattle.magnetar_row_records.proofs.steps.clear_behind.Symbol.{name as #g1}

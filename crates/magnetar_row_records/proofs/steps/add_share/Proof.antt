@@ -1,6 +1,6 @@
 -- `magnetar_row_records::steps::add_share` meets its contract.
 -- Assumes nothing.
-use Rattle.magnetar_r1cs.specs.Matrix.{share}
+use Rattle.magnetar_matrix.specs.Matrix.{share}
 use Rattle.magnetar_field.proofs.Product.{⊗-comm}
 use borrow.Author.Needs.{needs}
 use Rattle.magnetar_row_records.proofs.steps.add_share.Statement.{statement}

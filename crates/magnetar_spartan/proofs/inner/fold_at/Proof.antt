@@ -5,8 +5,8 @@ use mathlib.Core.Path.{_≡_, ap, _∙_}
 use Prim.Native.Nat.{_*_}
 use native.Mathlib.Omega.{arith}
 use lib.ListN.{length}
-use Rattle.magnetar_r1cs.specs.Batch.{folded}
-use Rattle.magnetar_r1cs.specs.Packed.{unpacked}
+use Rattle.magnetar_matrix.specs.Batch.{folded}
+use Rattle.magnetar_matrix.specs.Packed.{unpacked}
 use Rattle.magnetar_spartan.proofs.LaterRun.{fold-front, fold-behind, logins-few}
 use borrow.Author.Needs.{needs}
 use Rattle.magnetar_spartan.proofs.inner.fold_at.Statement.{statement}

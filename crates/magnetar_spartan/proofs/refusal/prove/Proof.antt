@@ -81,7 +81,7 @@ note-requires-2 : tie.Need-note-requires-2
 note-requires-2 c κs = search needs
 
 middle : (c : tie.After-note2) → c .note2 .result ≡ noted 0 (second (start (c .before .before .before .before)))
-middle c = cc
+middle c = rw (c .note2 .ensures, c .before .note .ensures, c .before .before .login-words .ensures)
 
 returns-2 : tie.Need-returns-2
 returns-2 c =

@@ -6,7 +6,7 @@ use mathlib.Core.List.{[], _∷_}
 use native.Mathlib.Omega.{arith}
 use lib.Dec.{eqb}
 use Rattle.magnetar_layout.specs.Tests.{noted, isSize}
-use Rattle.magnetar_r1cs.proofs.Blocks.{product-fits}
+use Rattle.magnetar_matrix.proofs.Blocks.{product-fits}
 use Rattle.magnetar_spartan.proofs.Chains.{number-stays, none-before, rows-passed}
 use borrow.Author.Needs.{needs}
 use Rattle.magnetar_spartan.proofs.refusal.system_rows.Statement.{statement}
@@ -16,7 +16,7 @@ abbrev start : tie.After-note3 → tie.Start
 start c = c .before .before .before .before
 
 early : (c : tie.After-note3) → let x = start c .args in c .note3 .result ≡ noted (x .z) ((4, not (isSize 1 65536 (x .a))) ∷ (4, not (eqb (x .b) (x .a))) ∷ (4, not (eqb (x .c) (x .a))) ∷ [])
-early c = cc
+early c = rw (c .note3 .ensures, c .before .note2 .ensures, c .before .before .note .ensures, c .before .before .before .is-size .ensures)
 
 is-size-requires : tie.Need-is-size-requires
 is-size-requires c κs = search needs

@@ -5,7 +5,7 @@ use mathlib.Core.Path.{_≡_}
 use Prim.Native.Nat.{_≤_, _-_}
 use native.Mathlib.Omega.{arith}
 use Rattle.magnetar_field.specs.Words.{elements}
-use Rattle.magnetar_sumcheck.specs.Sum as Sum
+use Rattle.magnetar_round.specs.Sum as Sum
 use Rattle.magnetar_sumcheck.specs.Sums.{sums, innerSumsAt}
 use Rattle.magnetar_sumcheck.proofs.Steps.{at-end}
 use borrow.Author.Needs.{needs}

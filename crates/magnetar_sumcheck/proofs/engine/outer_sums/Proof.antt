@@ -1,8 +1,8 @@
 -- `magnetar_sumcheck::engine::outer_sums` meets its contract.
 -- Assumes nothing.
 use denote.Ref.{now}
-use Rattle.magnetar_sumcheck.specs.Sum as Sum
-use Rattle.magnetar_sumcheck.specs.Outer as Outer
+use Rattle.magnetar_round.specs.Sum as Sum
+use Rattle.magnetar_round.specs.Outer as Outer
 use Rattle.magnetar_sumcheck.proofs.Steps.{at-end}
 use mathlib.Core.Path.{_≡_}
 use Prim.Native.Nat.{_≤_, _-_}

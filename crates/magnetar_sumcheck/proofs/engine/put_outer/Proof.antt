@@ -1,6 +1,6 @@
 -- `magnetar_sumcheck::engine::put_outer` meets its contract.
 -- Assumes nothing.
-use Rattle.magnetar_sumcheck.specs.Outer.{timesEq}
+use Rattle.magnetar_round.specs.Outer.{timesEq}
 use Rattle.magnetar_sumcheck.proofs.Message.{timesEq-first, timesEq-next}
 use borrow.Author.Needs.{needs}
 use Rattle.magnetar_sumcheck.proofs.engine.put_outer.Statement.{statement}

@@ -25,8 +25,8 @@ returns c =
     let p2 = p3 .before .before .before .before in
     let p1 = p2 .before .before .before .before in
     let s = p1 .before .before .before in
-    let x = s .args in
-    rw (p3 .put3 .ensures, p2 .put2 .ensures, p1 .put .ensures) (put-three (now (x .out)) (value (x .a)) (value (x .b)) (value (x .c)) (s .pre))
+    let a = s .args in
+    rw (p3 .put3 .ensures, p2 .put2 .ensures, p1 .put .ensures) (put-three (now (a .out)) (value (a .x)) (value (a .y)) (value (a .z)) (s .pre))
 
 pub put-three-spec : {M : Type 1} → statement M
 put-three-spec =

@@ -10,7 +10,7 @@ use Rattle.magnetar_field.specs.Words.{elements}
 use Rattle.magnetar_field.specs.Tabulate.{tabulate}
 use Rattle.magnetar_field.proofs.Elements.{elements-length}
 use Rattle.magnetar_field.proofs.Making.{Made, made-none}
-use Rattle.magnetar_sumcheck.specs.Order.{slope}
+use Rattle.magnetar_round.specs.Order.{slope}
 use Rattle.magnetar_sumcheck.proofs.EqFactor.{dropped-more}
 use Rattle.magnetar_sumcheck.proofs.Steps.{at-end}
 use borrow.Author.Needs.{needs}

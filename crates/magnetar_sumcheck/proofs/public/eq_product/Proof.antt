@@ -8,7 +8,7 @@ use lib.ListN.{getD}
 use Rattle.magnetar_field.specs.Gf128.{value}
 use Rattle.magnetar_field.specs.Words.{elements}
 use Rattle.magnetar_field.proofs.Elements.{elements-length}
-use Rattle.magnetar_sumcheck.specs.Order.{point}
+use Rattle.magnetar_round.specs.Order.{point}
 use Rattle.magnetar_sumcheck.proofs.EqFactor.{Multiplied, multiplied-start, multiplied-more, multiplied-end, point-at, length-point}
 use borrow.Author.Needs.{needs}
 use Rattle.magnetar_sumcheck.proofs.public.eq_product.Statement.{statement}

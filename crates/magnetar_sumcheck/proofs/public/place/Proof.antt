@@ -1,7 +1,7 @@
 -- `magnetar_sumcheck::public::place` meets its contract.
 -- Assumes nothing.
 use borrow.Author.Tests.{lt-ltb, le-ltb}
-use Rattle.magnetar_sumcheck.specs.Order.{placeOf}
+use Rattle.magnetar_round.specs.Order.{placeOf}
 use borrow.Author.Needs.{needs}
 use Rattle.magnetar_sumcheck.proofs.public.place.Statement.{statement}
 use Rattle.magnetar_sumcheck.proofs.public.place.Tie as tie

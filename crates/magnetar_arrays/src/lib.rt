@@ -1,0 +1,2 @@
+// The entries over records, with arrays of records by value.
+pub mod lent;

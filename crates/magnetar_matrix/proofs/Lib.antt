@@ -1,0 +1,9 @@
+pub mod Digits
+pub mod TableLaws
+pub mod LoginParts
+pub mod Blocks
+pub mod Carried
+pub mod Verdicts
+pub mod FirstRow
+pub mod Walked
+pub mod MarkedRows

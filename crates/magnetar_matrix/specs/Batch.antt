@@ -1,0 +1,63 @@
+-- A batch of logins, the relation that it is to keep, and what it means that it is good (Spartan, 2: (A z) o (B z) = C z with
+-- z = (w, 1, x)).
+-- Assumes nothing.
+use mathlib.Core.Path.{_≡_}
+use mathlib.Core.Bool.{Bool}
+use mathlib.Core.List.{List, [], _∷_, _++_}
+use Prim.Native.Nat.{ℕ, _+_, _<_}
+use lib.Dec.{eqb}
+use lib.ListN.{getD}
+use Rattle.magnetar_field.specs.Gf128.{_⊗_}
+use Rattle.magnetar_field.specs.Tabulate.{tabulate}
+use Rattle.magnetar_multilinear.specs.EqTable.{eqAt}
+use Rattle.magnetar_matrix.specs.Sum.{sumBelow}
+use Rattle.magnetar_matrix.specs.Matrix.{System, timesAt}
+
+-- the witness bits of each login, 0 or 1
+abbrev pub Batch : Type 0
+Batch = List (List ℕ)
+
+-- two systems over m columns, for q logins, and the lengths of the segments of the witness columns
+pub record Relation : Type 0 where
+  pub m : ℕ
+  pub q : ℕ
+  pub bin : System
+  pub fld : System
+  pub lengths : List ℕ
+
+-- the bit of login u at column y
+unfoldable pub bitOf : Batch → ℕ → ℕ → ℕ
+bitOf b u y = getD (getD b u []) y 0
+
+-- z = (w, 1, x) of login u, x being the public columns
+unfoldable pub assignment : Batch → List ℕ → ℕ → List ℕ
+assignment b x u = getD b u [] ++ (1 ∷ x)
+
+-- row i of the system holds for z
+unfoldable pub rowHolds : System → List ℕ → ℕ → Bool
+rowHolds s z i = eqb (timesAt (s .a) z i ⊗ timesAt (s .b) z i) (timesAt (s .c) z i)
+
+-- each row of the system holds for each of the q logins
+unfoldable pub Satisfied : System → ℕ → Batch → List ℕ → Type 0
+Satisfied s q b x =
+    (u i : ℕ) → u < q → i < s .a .rows
+    → timesAt (s .a) (assignment b x u) i ⊗ timesAt (s .b) (assignment b x u) i ≡ timesAt (s .c) (assignment b x u) i
+
+-- the batch keeps the rules
+pub record Good (r : Relation) (b : Batch) (x : List ℕ) : Type 0 where
+  pub bin : Satisfied (r .bin) (r .q) b x
+  pub fld : Satisfied (r .fld) (r .q) b x
+
+-- the batch folded at the point p, column y: the sum over the logins u of eq(p, u) times the bit
+unfoldable pub foldedAt : ℕ → Batch → List ℕ → ℕ → ℕ
+foldedAt q b p y = sumBelow q (λ u. eqAt p u ⊗ bitOf b u y)
+
+-- the folded vector of w columns
+unfoldable pub folded : ℕ → ℕ → Batch → List ℕ → List ℕ
+folded q w b p = tabulate (foldedAt q b p) w
+
+-- what a true claim on a segment says: the sum over logins u and positions k of eq(p, u) eq(l, k) times the bit of
+-- login u at column offset + k
+unfoldable pub claimValue : ℕ → Batch → List ℕ → List ℕ → ℕ → ℕ → ℕ
+claimValue q b p l offset len =
+    sumBelow q (λ u. sumBelow len (λ k. eqAt p u ⊗ (eqAt l k ⊗ bitOf b u (offset + k))))

@@ -1,0 +1,7 @@
+pub mod Sum
+pub mod Matrix
+pub mod Batch
+pub mod Packed
+pub mod RowCheck
+pub mod Lent
+pub mod Table

@@ -1,0 +1,27 @@
+-- The batch as packed words: each login has two words of 64 bits for each 128 columns or part of 128, the lowest column in
+-- the lowest bit of its first word. Bits at or past w belong to no column.
+-- Assumes nothing.
+use mathlib.Core.List.{List}
+use Prim.Native.Nat.{ℕ, _*_, _/_, _%_, _^_}
+use lib.ListN.{getD, take, drop}
+use Rattle.magnetar_field.specs.Tabulate.{tabulate}
+unfoldable pub use Rattle.magnetar_layout.specs.Login.{loginWords}
+use Rattle.magnetar_matrix.specs.Sum.{blocks}
+use Rattle.magnetar_matrix.specs.Matrix.{Matrix, times}
+use Rattle.magnetar_matrix.specs.Batch.{Batch, assignment}
+
+-- the bit at column y of a login's words: bit y mod 64 of word y / 64
+unfoldable pub packedBit : List ℕ → ℕ → ℕ
+packedBit ws y = getD ws (y / 64) 0 / 2 ^ (y % 64) % 2
+
+-- the words of login u
+unfoldable pub loginPart : ℕ → List ℕ → ℕ → List ℕ
+loginPart w ws u = take (loginWords w) (drop (u * loginWords w) ws)
+
+-- the batch of q logins with w columns that the words hold
+unfoldable pub unpacked : ℕ → ℕ → List ℕ → Batch
+unpacked q w ws = tabulate (λ u. tabulate (packedBit (loginPart w ws u)) w) q
+
+-- the products of a matrix with each login, one behind the other
+unfoldable pub packedTable : Matrix → List ℕ → List ℕ → ℕ → ℕ → List ℕ
+packedTable m ws x q w = blocks (λ u. times m (assignment (unpacked q w ws) x u)) q

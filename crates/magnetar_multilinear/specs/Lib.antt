@@ -1,0 +1,4 @@
+pub mod EqTable
+pub mod Multilinear
+pub mod Binding
+pub mod Entries

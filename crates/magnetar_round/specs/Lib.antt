@@ -1,0 +1,7 @@
+pub mod Sum
+pub mod Round
+pub mod Capture
+pub mod Order
+pub mod Outer
+pub mod Inner
+pub mod Messages

@@ -1,0 +1,130 @@
+// The verifier's side of a round: the sum of a message is checked, and the next running claim is the message's value at the challenge.
+use magnetar_field::gf128;
+use magnetar_field::gf128::Gf128;
+use magnetar_field::words;
+use magnetar_hash::transcript;
+use magnetar_hash::transcript::Transcript;
+ghost use mathlib.Core.Path.{_≡_};
+ghost use lib.Dec.{eqb};
+ghost use Rattle.magnetar_field.specs.Gf128.{value, _⊕_, _⊗_};
+ghost use Rattle.magnetar_field.specs.Polynomial.{eval};
+ghost use Rattle.magnetar_field.specs.Words.{elements};
+ghost use Rattle.magnetar_round.specs.Round.{checkSum, holds, nextClaim};
+ghost use Rattle.magnetar_round.specs.Capture.{nextTranscript, nextChallenge};
+ghost use Rattle.magnetar_round.specs.Outer.{outerEnd};
+ghost use Rattle.magnetar_round.specs.Inner.{innerEnd};
+
+// acc + t z.
+pub fn multiply_add(acc: Gf128, t: Gf128, z: Gf128) -> Gf128
+    ensures { λ r. ⌜ value r ≡ value acc ⊕ value t ⊗ value z ⌝ }
+{
+    gf128::add(acc, gf128::mul(t, z))
+}
+
+// What a round leaves: whether the message was right, and the running claim.
+pub struct Round {
+    pub holds: bool,
+    pub claim: Gf128,
+}
+
+// The sum of the coefficients but the first: the message's value at 0 plus its value at 1.
+fn check_sum(msg: &[u64]) -> Gf128
+    ensures { λ r. ⌜ value r ≡ checkSum (elements (now (msg .entry))) ⌝ }
+{
+    let mut acc = Gf128 { lo: 0, hi: 0 };
+    let mut i = msg.len() / 2;
+    while i > 1 {
+        i -= 1;
+        acc = gf128::add(words::get(msg, i), acc);
+    }
+    acc
+}
+
+// Whether the message is right for the running claim.
+pub fn sum_holds(msg: &[u64], claim: Gf128) -> bool
+    ensures { λ r. ⌜ r ≡ holds (elements (now (msg .entry))) (value claim) ⌝ }
+{
+    gf128::equal(check_sum(msg), claim)
+}
+
+// The message's value at r: the next running claim. A product for each coefficient.
+pub fn eval_message(msg: &[u64], r: Gf128) -> Gf128
+    ensures { λ o. ⌜ value o ≡ eval (elements (now (msg .entry))) (value r) ⌝ }
+{
+    let mut acc = Gf128 { lo: 0, hi: 0 };
+    let mut i = msg.len() / 2;
+    while i > 0 {
+        i -= 1;
+        acc = multiply_add(words::get(msg, i), r, acc);
+    }
+    acc
+}
+
+// A round with the challenge r from outside: the check, and the next running claim. A wrong message leaves the claim.
+pub fn round_external(msg: &[u64], claim: Gf128, r: Gf128) -> Round
+    ensures holds { λ o. ⌜ o .holds ≡ holds (elements (now (msg .entry))) (value claim) ⌝ }
+    ensures claim { λ o. ⌜ value (o .claim) ≡ nextClaim (value claim) (elements (now (msg .entry))) (value r) ⌝ }
+{
+    if sum_holds(msg, claim) {
+        let next = eval_message(msg, r);
+        return Round {
+            holds: true,
+            claim: next,
+        };
+    }
+    Round {
+        holds: false,
+        claim: claim,
+    }
+}
+
+// The terminal identity of the outer sum-check: the running claim is e (a b + c), with eq(tau, r) for e. Two products.
+pub fn outer_finish(running: Gf128, e: Gf128, a: Gf128, b: Gf128, c: Gf128) -> bool
+    ensures { λ r. ⌜ r ≡ eqb (outerEnd (value e) (value a) (value b) (value c)) (value running) ⌝ }
+{
+    gf128::equal(gf128::mul(e, multiply_add(c, a, b)), running)
+}
+
+// The terminal identity of the inner sum-check: the running claim is t z. One product.
+pub fn inner_finish(running: Gf128, t: Gf128, z: Gf128) -> bool
+    ensures { λ r. ⌜ r ≡ eqb (innerEnd (value t) (value z)) (value running) ⌝ }
+{
+    gf128::equal(gf128::mul(t, z), running)
+}
+
+// What a round leaves that draws for itself: whether the message was right, the running claim, the challenge (0 where the message
+// was wrong), and the transcript.
+pub struct Captured {
+    pub holds: bool,
+    pub claim: Gf128,
+    pub challenge: Gf128,
+    pub transcript: Transcript,
+}
+
+// A round that draws its challenge: the check first; then the message is absorbed and the challenge drawn, both under the label. A
+// wrong message leaves the claim and the transcript.
+pub fn round_capturing(msg: &[u64], claim: Gf128, t: Transcript, label: &[u8]) -> Captured
+    ensures holds { λ o. ⌜ o .holds ≡ holds (elements (now (msg .entry))) (value claim) ⌝ }
+    ensures transcript { λ o. ⌜ o .transcript ≡ nextTranscript t (now (label .entry)) (now (msg .entry)) (value claim) ⌝ }
+    ensures challenge { λ o. ⌜ o .challenge ≡ nextChallenge t (now (label .entry)) (now (msg .entry)) (value claim) ⌝ }
+    ensures claim { λ o. ⌜ value (o .claim) ≡ nextClaim (value claim) (elements (now (msg .entry))) (value (o .challenge)) ⌝ }
+{
+    if sum_holds(msg, claim) {
+        let absorbed = transcript::absorb_words(t, label, msg);
+        let next = transcript::draw(absorbed, label);
+        let r = transcript::element(next);
+        let value = eval_message(msg, r);
+        return Captured {
+            holds: true,
+            claim: value,
+            challenge: r,
+            transcript: next,
+        };
+    }
+    Captured {
+        holds: false,
+        claim: claim,
+        challenge: Gf128 { lo: 0, hi: 0 },
+        transcript: t,
+    }
+}
