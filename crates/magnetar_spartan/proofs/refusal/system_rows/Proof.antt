@@ -16,7 +16,7 @@ abbrev start : tie.After-note3 → tie.Start
 start c = c .before .before .before .before
 
 early : (c : tie.After-note3) → let x = start c .args in c .note3 .result ≡ noted (x .z) ((4, not (isSize 1 65536 (x .a))) ∷ (4, not (eqb (x .b) (x .a))) ∷ (4, not (eqb (x .c) (x .a))) ∷ [])
-early c = rw (c .note3 .ensures, c .before .note2 .ensures, c .before .before .note .ensures, c .before .before .before .is-size .ensures)
+early c = cc
 
 is-size-requires : tie.Need-is-size-requires
 is-size-requires c κs = search needs
