@@ -1,8 +1,8 @@
 #!/usr/bin/env python3
 # Writes proofs/F/Proof.antt for a function of calls in a row, from its MIR:  thin.py CRATE F [--final TERM] [--requires TYPE] [--part TERM].. [--ask N=TERM].. [--use LINE]..   (F: MODULE::NAME)
 # Nobody has to trust it: the checker checks what it writes. tools/walks.sh has the calls that this repository makes.
-#   parameters: &[T], &mut [number], &STRUCT and &mut STRUCT (read and stored whole, `*t`, and passed on), and numbers, bools, arrays and structs by value.  T: a number or a struct of plain data; for STRUCT also an array
-#   body: calls of functions whose contracts each have one `ensures` fact (and --ask for each call N whose callee requires one fact); results by value are kept in locals, passed on and returned; `s.len()` of a slice; an enum only as the result of the last call, and not beside a branch, which is too dear for the checker
+#   parameters: &[T], &mut [number], &STRUCT and &mut STRUCT (read and stored whole, `*t`, or a field at a time, and passed on), and numbers, bools, arrays and structs by value.  T: a number or a struct of plain data; for STRUCT also an array
+#   body: calls of functions whose contracts each have one `ensures` fact (and --ask for each call N whose callee requires one fact); results by value and their fields are kept in locals, made into structs, passed on and returned; `s.len()` of a slice; an enum only as the result of the last call, and not beside a branch, which is too dear for the checker
 #   a local that is lent to a call: `&mut u` of a struct, `&es` of an array of structs, and `&es[..n]` with --part TERM, a proof of n ≤ its length (`pre`); one for all of them, or one for each in their order
 #   one kind of branch: `if B { .. } else { .. }` on a bool of a local, not within another, each way ending with a value and not with a call that is lent a &mut slice; each way through has its own --final, in order, and knows b1: B ≡ true, or ≡ false (way1, where parameter 1 is lent to be changed)
 #   TERM may cite e1, e2, ..: what call 1, 2, .. ensures (numbered as they stand; what follows a branch is numbered once for each way); r1, r2, .. the results; `pre`, with --requires TYPE
@@ -48,7 +48,8 @@ def all_calls(ss):
     for x in ss:
         if isinstance(x, list) and x[0] == 'call': yield x
         if isinstance(x, list) and x[0] == 'if': yield from all_calls(flat(x[2])); yield from all_calls(flat(x[3]))
-uv = lambda j: f'u{j}' + ('′' if j in (8, 16, 32, 64) else '')      # u8, .. are types
+uv = lambda j: f'u{j}' + ('′' if j in (8, 16, 32, 64) else '')      # u8, .. are types, and w8, .. widths
+wv = lambda j: f'w{j}' + ('′' if j in (8, 16, 32, 64) else '')
 letter = lambda t: 'abcdefghijklmnopqrstuvwxyz'[t]
 structs = []
 def sname(t):
@@ -69,6 +70,12 @@ def info(t):            # of a type by value
         return dict(row=f'(Array {e["row"]} {n})', den=f'(List {e["den"]})', makes=f'(array-makes 𝓤 H A W {e["row"]} {e["makes"]} {n})', lawful=f'(array-lawful 𝓤 H A W {e["row"]} {e["lawful"]} {n})', typed=f'array-lawful 𝓤 H A W {e["row"]} {e["lawful"]} {n} .typed', vals=f'(array-vals {e["vals"]})',
             tells=f'(array-tells {e["row"]} {e["vals"]} {e["tells"]} {n})', val=f'array-val {e["vals"]}', copy=f'(array-copy 𝓤 H A W {e["row"]} {e["copy"]} {n})', mir=f'(tyArray {e["mir"]} {n})')
     raise Exception(t)
+def members(t):         # of a struct: the names of its fields, as its source has them, and their types
+    c, *way, n = t[1][1].strip('"').split('::')
+    text = open(f'crates/{c}/src/{"/".join(way) or "lib"}.rt').read()
+    names = re.findall(r'^\s*(?:pub )?(\w+):', re.search(r'struct %s \{([^}]*)\}' % n, text)[1], re.M)
+    at_ = [i for i, x in enumerate(toks) if x == t[1][1] and toks[i-1] == 'pair' and toks[i+2] == 'fields'][0]
+    return list(zip([f'«{x}»' if '_' in x else x for x in names], cons(parse(at_ + 1)[0][1])))
 params = []             # (kind, lifetime, info)
 for j in range(1, m + 1):
     t = locs[j]
@@ -95,10 +102,10 @@ def argv_(j):
 binders = []; wargs = []; ev = []; evargs = []
 for j in idx:
     a = f'a {nest(j-1)}'
-    if K(j) == 'S': binders.append(f'(s{j} : RefT (List {IN(j)["den"]}))'); wargs.append(f'({a})'); ev.append(f'(w{j} : Is ({rowAt(j)}) s{j} (v{j} ∷ []))'); evargs.append(f'(are {nest(j-1)})')
+    if K(j) == 'S': binders.append(f'(s{j} : RefT (List {IN(j)["den"]}))'); wargs.append(f'({a})'); ev.append(f'({wv(j)} : Is ({rowAt(j)}) s{j} (v{j} ∷ []))'); evargs.append(f'(are {nest(j-1)})')
     if K(j) == 'M': binders.append(f'(b{j} o{j} : ℕ) (γ{j} : GName) (ys{j} : List {IN(j)["den"]})'); wargs += [f'({a} .ptr .0)', f'({a} .ptr .1)', f'({a} .name)', f'({a} .now)']; ev.append(f'(room{j} : Room {IN(j)["row"]} (length ys{j}))'); evargs.append(f'(are {nest(j-1)} .0 .1)')
     if K(j) in 'RP': binders.append(f'(b{j} o{j} : ℕ) (γ{j} : GName) (h{j} : {IN(j)["den"]})'); wargs += [f'({a} .ptr .0)', f'({a} .ptr .1)', f'({a} .name)', f'({a} .now)']
-    if K(j) == 'V': binders.append(f'(n{j} : {IN(j)["den"]}) ({uv(j)} : Val)'); wargs += [f'({a})', f'(only ({IN(j)["vals"]} ({a})))']; ev.append(f'(w{j} : Is {IN(j)["row"]} n{j} ({uv(j)} ∷ []))'); evargs.append(f'(are {nest(j-1)})')
+    if K(j) == 'V': binders.append(f'(n{j} : {IN(j)["den"]}) ({uv(j)} : Val)'); wargs += [f'({a})', f'(only ({IN(j)["vals"]} ({a})))']; ev.append(f'({wv(j)} : Is {IN(j)["row"]} n{j} ({uv(j)} ∷ []))'); evargs.append(f'(are {nest(j-1)})')
 stays = []; gos = []; spell = []; tells = []
 for j in idx:
     n = LF(j); r = IN(j)['row']; k = K(j)
@@ -141,10 +148,10 @@ k('hide ! (λ died die. '); k.close += 1
 filled = set(); env = {}         # env: local -> ('S', j) | ('again', j) | ('val', den, u, is, info)
 k('params1 ! $ ')
 for j in idx:
-    wt = {'S': f'(shr-slice-lawful 𝓤 H A W (named {LF(j)}) {κ(LF(j) or 0)} {IN(j)["row"]} .typed s{j} (v{j} ∷ []) w{j} .0)', 'M': f'(tt, (tt, (record {{ fits = room{j} .0 }}, tt)))', 'R': '(tt, tt)', 'P': '(tt, tt)', 'V': f'({IN(j).get("typed")} n{j} _ w{j} .0)'}[K(j)]
+    wt = {'S': f'(shr-slice-lawful 𝓤 H A W (named {LF(j)}) {κ(LF(j) or 0)} {IN(j)["row"]} .typed s{j} (v{j} ∷ []) {wv(j)} .0)', 'M': f'(tt, (tt, (record {{ fits = room{j} .0 }}, tt)))', 'R': '(tt, tt)', 'P': '(tt, tt)', 'V': f'({IN(j).get("typed")} n{j} _ {wv(j)} .0)'}[K(j)]
     k(f'pass1 ! (init ! {k.p(f"c{j}")} refl {wt}) $ '); filled.add(j)
     if K(j) in 'SP': env[j] = (K(j), j)
-    if K(j) == 'V': env[j] = ('val', f'n{j}', uv(j), f'w{j}', IN(j))
+    if K(j) == 'V': env[j] = ('val', f'n{j}', uv(j), f'{wv(j)}', IN(j))
 k(f'pass0 ! $ {NL}')
 k.mv('owns')
 for j in idx:
@@ -194,12 +201,36 @@ def closed(j):
         k.mv(f'cell{j}', f'own{j}', f'obor{j}'); k(f'shuts ! tt {I["row"]} {is_open} ({h}) ({u} ∷ []) b{j} o{j} $ {NL}'); k.c = [f'tok{LF(j)}'] + k.c[3:]
     cur[j] = (h, None, None, False)
 place = lambda p: (int(p[1]), cons(p[2]))
+# the fields of a struct: the value at a field of e, and the struct of such values, which is e where all of them are e's own
+def member(t, e, f):
+    name, ft = members(t)[f]; n = sname(t); I = info(ft); h = f'({e[1]} .{name})' if ft[0] == 'tyNamed' else f'(m{n}.the-type .to {e[1]} {nest(f)})'
+    return ('val', h, f'({I["val"]} {h})', f'(LL.owed m{n}.the-type l{n}.the-laws {e[1]} _ {e[3]} {nest(f)})', I, (e, n, f), f'{e[1]} .{name}')
+def together(t, es):
+    n = sname(t); I = info(t)
+    if all(x[5] == (es[0][5][0], n, f) for f, x in enumerate(es)): return es[0][5][0]
+    h = '(record { ' + '; '.join(f'{name} = {x[6]}' for (name, _), x in zip(members(t), es)) + ' })'
+    return ('val', h, f'({I["val"]} {h})', f'(LL.owes m{n}.the-type l{n}.the-laws {h} {tup([x[3] for x in es])})', I)
+def spelt_out(Q):        # the local's machine value, as its type spells it
+    _, h, u, w, I = env[Q][:5]; v = f'({I["val"]} {h})'
+    if u == v: return env[Q]
+    k(f"rewrite ! {k.p(f'c{Q}')} (λ (w : Val). ‵ (fat fullShare ({tyT(locs[Q])}) l{sub(Q)} 0 w)) (ap only ({I['tells']} {h} _ {w})) refl $ ")
+    env[Q] = ('val', h, v, f'(subst (Is {I["row"]} {h}) ({I["tells"]} {h} _ {w}) {w})', I)
+    return env[Q]
+def operand(Q, w2):      # a local, a field of one, or a field behind a reference: how it is read, and its value
+    if not w2: return rd(Q), env[Q]
+    f = int(w2[-1][1]); assert w2[-1][0] == 'field'; part = f'(sub ! {f} refl (whole !))'
+    if len(w2) == 1: e = spelt_out(Q); return f'(load ! (from ! (fld ! refl (stop !))) (look-in ! {k.p(f"c{Q}")} {part}))', member(locs[Q], e, f)
+    assert len(w2) == 2 and w2[0][0] == 'deref'; opened(Q)
+    return f'(load ! (from ! (hop ! (look ! {k.p(f"c{Q}")} refl) (fld ! refl (stop !)))) (look-in ! {k.p(f"cell{Q}")} {part}))', fields_of(Q)[f]
+def fields_of(j):        # what the fields behind a reference hold
+    t = locs[j][3]; return stored.get(j) or [member(t, ('val',) + cur[j][:3] + (IN(j),), f) for f in range(len(members(t)))]
+def takes(P_, rv_, e, asg): k(f'{asg} ! {rv_} {wr(P_, "(" + e[4]["typed"] + f" {e[1]} _ {e[3]} .0)")} $ {NL}'); env[P_] = e
 def rd(L_): return f'(load ! (from ! (stop !)) (look ! {k.p(f"c{L_}")} refl))'
 def wr(L_, wt):
     how = 'store' if L_ in filled else 'init'; filled.add(L_)
     return f'(from ! (stop !)) ({how} ! {k.p(f"c{L_}")} refl {wt})'
 bound = f'(({κs}, {qs}, tt, a, at), tt)'
-ncall = 0; nif = 0
+ncall = 0; nif = 0; stored = {}          # stored: what the fields behind a reference hold
 def one(s, last):
     asg = "assigns-last" if last else "assigns"; lst_ = "-last" if last else ""
     if s[0] == 'assign':
@@ -214,13 +245,18 @@ def one(s, last):
             assert K(Q) == 'M' and len(w2) == 2
             k(f'{asg} ! (addr ! (from ! (fld ! refl (hop ! (look-in ! {k.p(f"c{Q}")} (sub ! 0 refl (whole !))) (stop !))))) {wr(P_, "(tt, tt)")} $ {NL}')
         elif rv[0] == 'aggregate':
-            ops = cons(rv[1]); L1, _ = place(ops[0][1])
+            ops = cons(rv[1])
+            if locs[P_][0] == 'tyNamed':         # a struct of locals and their fields
+                rs = [operand(*place(o_[1])) for o_ in ops]; e = together(locs[P_], [x for _, x in rs]); al = '(no-more !)'
+                for r_, _ in reversed(rs): al = f'(and-then ! {r_} {al})'
+                takes(P_, f'(agg ! {al})', e, asg); return
+            L1, _ = place(ops[0][1])
             if ops[1][0] == 'int':               # all of a local array
                 Q = env[L1][1]
                 k(f'{asg} ! (agg ! (and-then ! {rd(L1)} (and-then ! (lit ! tt) (no-more !)))) {wr(P_, "(tt, (tt, (record { fits = lit< tt }, tt)))")} $ {NL}'); env[P_] = ('lendS', Q, ops[1][2], locs[Q][1]); return
             Q, w2 = place(ops[1][1])
             if not w2:                           # the front of a local array
-                _, h_, u_, w_, I = env[Q]
+                _, h_, u_, w_, I = env[Q][:5]
                 k(f"rewrite ! {k.p(f'c{Q}')} (λ (w : Val). ‵ (fat fullShare ({tyT(locs[Q])}) l{sub(Q)} 0 w)) (ap only ({w_} .0)) refl $ "); env[Q] = ('val', h_, f'({I["val"]} {h_})', f'(refl, {w_} .1)', I)
                 k(f'{asg} ! (agg ! (and-then ! {rd(L1)} (and-then ! {rd(Q)} (no-more !)))) {wr(P_, f"(tt, (tt, (record {{ fits = {w_} .1 }}, tt)))")} $ {NL}'); Q_ = env[L1][1]; env[P_] = ('lendS', Q_, locs[Q_][2][1], locs[Q_][1], h_); return
             assert K(Q) == 'M'
@@ -235,13 +271,21 @@ def one(s, last):
             k(f'{asg} ! (of-opd ! (lit ! tt)) {wr(P_, "(tt, record { fits = lit< tt })")} $ {NL}'); env[P_] = ('val', nn, f'(vint w{wd} {nn})', '(refl, lit< tt)', info(['tyInt', wd]))
         elif rv[0] == 'rvOpd' and rv[1][0] == 'copy':
             Q, w2 = place(rv[1][1])
-            if way:                              # *p = local
+            if len(way) == 2:                    # (*p).f = local, or a field of one
+                assert K(P_) == 'R' and way[0][0] == 'deref'; f = int(way[1][1]); opened(P_)
+                r_, e = operand(Q, w2)
+                k(f'{asg} ! (of-opd ! {r_}) (from ! (hop ! (look ! {k.p(f"c{P_}")} refl) (fld ! refl (stop !)))) (store-in ! {k.p(f"cell{P_}")} (sub ! {f} refl (whole !)) ({e[4]["typed"]} {e[1]} _ {e[3]} .0)) $ {NL}')
+                stored[P_] = [e if i == f else x for i, x in enumerate(fields_of(P_))]
+                cur[P_] = together(locs[P_][3], stored[P_])[1:4] + (True,)
+            elif way:                            # *p = local
                 assert K(P_) == 'R' and not w2; e = env[Q]; assert e[0] == 'val'; opened(P_)
                 k(f'{asg} ! (of-opd ! {rd(Q)}) (from ! (hop ! (look ! {k.p(f"c{P_}")} refl) (stop !))) (store-raw ! {k.p(f"cell{P_}")} refl ({e[4]["typed"]} {e[1]} _ {e[3]} .0)) $ {NL}')
-                cur[P_] = (e[1], e[2], e[3], True)
+                cur[P_] = (e[1], e[2], e[3], True); stored.pop(P_, None)
+            elif len(w2) == 2 or w2 and locs[Q][0] == 'tyNamed':        # local = (*p).f, or a local's field
+                r_, e = operand(Q, w2); takes(P_, f'(of-opd ! {r_})', e, asg)
             elif w2 and w2[0][0] == 'field':     # local = s.len()
                 assert w2 == [['field', '1']] and K(Q) in 'SM'
-                n_, f_ = (f'(length (s{Q} .now))', f'(w{Q} .0 .1 .0)') if K(Q) == 'S' else (f'(length ys{Q})', f'(room{Q} .0)')
+                n_, f_ = (f'(length (s{Q} .now))', f'({wv(Q)} .0 .1 .0)') if K(Q) == 'S' else (f'(length ys{Q})', f'(room{Q} .0)')
                 k(f'{asg} ! (of-opd ! (load ! (from ! (fld ! refl (stop !))) (look-in ! {k.p(f"c{Q}")} (sub ! 1 refl (whole !))))) {wr(P_, f"(tt, record {{ fits = {f_} }})")} $ {NL}')
                 env[P_] = ('val', n_, f'(vint w64 {n_})', f'(refl, {f_})', info(['tyInt', '64']))
             elif w2:                             # local = *p
@@ -289,7 +333,7 @@ def one(s, last):
             klist.append(f'({ν} ∷ [])'); qlist.append('fullShare')
             items.append((f'G{t}', own(δ), ν)); dens.append(f'ref{j} {δ} ({l_})'); vals_.append(f'v{j} ∷ []'); build.append((f'G{t}', None)); ws.append((kind, (j, ν, δ, t, n)))
         elif e[0] in ('lend', 'lendS'):
-            Q_ = e[1]; _, h_, u_, w_, I = env[Q_]; n = len(klist); ν = f'ν{c_}{letter(t)}'; δ = f'δ{c_}{letter(t)}'; at_ = f'l{sub(Q_)} 0'
+            Q_ = e[1]; _, h_, u_, w_, I = env[Q_][:5]; n = len(klist); ν = f'ν{c_}{letter(t)}'; δ = f'δ{c_}{letter(t)}'; at_ = f'l{sub(Q_)} 0'
             k(f'{NL}lft-new ! tt (λ {ν}. '); k.close += 1; k.c.insert(0, ν)
             k(f'owned ! {I["row"]} (Is {I["row"]}) {I["makes"]} ({h_}) _ {w_} $ '); k.c.insert(0, 'own'); k.mv(f'c{Q_}', 'own')
             k(f'use1 W (‵ (cellAt fullShare ({I["row"]} .mir) ({u_} ∷ []) {at_})) (W .laws .at-raw fullShare ({tyT(locs[Q_])}) {at_} ({u_})) $ into ! {I["row"]} fullShare ({h_}) ({u_} ∷ []) {at_} $ {NL}')
@@ -368,7 +412,7 @@ def one(s, last):
             k.c = [f'O{j}', f'tok{LF(j)}'] + k.c[3:]
             cur[j] = (nl, None, None, False)
         if kind in ('L', 'A'):
-            Q_, ν, δ, _, *more = w_; _, h_, u_, w0, I = env[Q_]; at_ = f'l{sub(Q_)} 0'; wn = f'w{c_}{letter(t)}'
+            Q_, ν, δ, _, *more = w_; _, h_, u_, w0, I = env[Q_][:5]; at_ = f'l{sub(Q_)} 0'; wn = f'w{c_}{letter(t)}'
             k.mv(ν); k('lft-end ! tt $ ')
             if kind == 'L':
                 nl = f'(ws{c_} {nest(t)})'; k.mv(ν, f'L{t}', f'fin{t}')
@@ -460,7 +504,7 @@ use ghost.Atoms.{{Atoms, sem}}
 use contract.Monad.{{Fun, fact}}
 use contract.Running.{{givenOf, tables, tablesOf}}
 use types.Kit.{{Given, ‵, raw, _⊛_, ⋆, some, later, _$_, _∵_, !, qed, by, move, keep, drop, use1, use2, use3, split, join, pick, fsplit, fsplit3, fjoin, fjoin3, feqL, feqI, rewrite, atRet, suffices, frame, await, done}}
-use types.Part.{{agg, whole, sub, look-in}}
+use types.Part.{{agg, whole, sub, look-in, store-in}}
 use types.Run.{{look, look-raw, init, store, store-raw, stop, hop, fld, from, load, unit-lit, of-opd, addr, and-then, no-more, lit, true-lit, false-lit, assigns, assigns-last, land, land-last, first, branches, skips, exec, returns, enter, alloc0, params1, pass1, pass0}}
 use types.Tokens.{{lft-new, lft-end}}
 use sound.WpLaws.{{FmC, fmOf, WpFn-mono}}

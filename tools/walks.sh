@@ -102,12 +102,12 @@ thin combo::build_m_combo --use "$ends.ComboEnds.{combo-ends}" \
 thin virtual_spartan::combine_at
 thin virtual_spartan::combine
 thin virtual_spartan::verify_in --use "$ends.StageLaws.{run-left}" \
-  --final 'run-left n4 n5 n7 n8 (s6 .now) (s15 .now) (s16 .now) h1 ys2 _ (ws1 .0) r2 (ws2 .0) (ws2 .1 .0) r3 r4 e1 e2 e3 e4'
+  --final 'run-left n4 n5 n7 n8 (s6 .now) (s15 .now) (s16 .now) h1 ys2 _ (ws1 .0) r2 (ws2 .0) (ws2 .1 .0) e1 e2'
 thin virtual_spartan::verify_unless --final 'rw (← e1, b1) e2' --final 'rw (← e1, b1) refl'
 thin virtual_spartan::refused --use "$ends.RunEnds.{verify-refused}" \
   --final "verify-refused $(six 4) n1 n2 (s3 .now) (s22 .now) (s23 .now) n24 n25 n26 r1 r2 e1 e2"
 thin virtual_spartan::verify_virtual_spartan --use "$ends.RunEnds.{verify-ends}" \
-  --final "verify-ends $(six 7) n4 n5 (s6 .now) (s25 .now) (s26 .now) h1 ys2 ys3 r2 r1 e1 e2 r3 (ws3 .1 .0) (ws3 .1 .1 .0) (ws3 .1 .1 .1 .0) e3"
+  --final "verify-ends $(six 7) n4 n5 (s6 .now) (s25 .now) (s26 .now) h1 ys2 ys3 r1 e1 r2 (ws2 .1 .0) (ws2 .1 .1 .0) (ws2 .1 .1 .1 .0) e2"
 
 # magnetar_records_prover: the prover
 crate magnetar_records_prover
@@ -121,10 +121,10 @@ thin virtual_spartan::prove_unless --use "$ends.EntryEnds.{unless-some, unless-n
   --final "unless-some n1 (same n8 n9 n5 n6 (s7 .now) $(alone 10) (s16 .now) (s17 .now) ys2 ys3 ys4 n18) (s16 .now) (s17 .now) ys2 ys3 ys4 n18 r2 (ws2 .0) (ws2 .1 .0) (ws2 .1 .1 .0) r1 e1 b1 e2" \
   --final "unless-none n1 (same n8 n9 n5 n6 (s7 .now) $(alone 10) (s16 .now) (s17 .now) ys2 ys3 ys4 n18) (s16 .now) (s17 .now) ys2 ys3 ys4 n18 r1 e1 b1"
 thin virtual_spartan::refused --use "$ends.EntryEnds.{prove-refused}" \
-  --final "prove-refused $(six 4) n1 n2 (s3 .now) (s22 .now) (s23 .now) (n24 .«squeeze_ctr») r1 n25 n26 n27 r2 r3 e1 e2 e3"
+  --final "prove-refused $(six 4) n1 n2 (s3 .now) (s22 .now) (s23 .now) (n24 .«squeeze_ctr») n25 n26 n27 r1 r2 e1 e2"
 thin virtual_spartan::prove --use "$ends.EntryEnds.{prove-ends}" \
   --final "prove-ends $(six 7) n4 n5 (s6 .now) (s25 .now) (s26 .now) n27 ys1 ys2 ys3 r1 e1 r2 (ws2 .1 .0) (ws2 .1 .1 .0) (ws2 .1 .1 .1 .0) r3 e2 e3"
-thin virtual_spartan::prove_virtual_spartan --final 'rw (e2, e3) e1'
+thin virtual_spartan::prove_virtual_spartan --final e1
 
 # magnetar_arrays, magnetar_arrays_prover: arrays of records lent. three F FINAL: F lends three of six and calls F_in, which lends the others
 three() { thin ${1}_in --final "$2"; thin $1 --final e1; }

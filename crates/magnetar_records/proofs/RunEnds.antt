@@ -161,11 +161,11 @@ module _ (n₁ m₁ : ℕ) (ab : List Entry) (n₂ m₂ : ℕ) (bb : List Entry)
       e ∙ (rw (i, bare-is x w n c s, counted-is n₁ m₁ ab n₂ m₂ bb n₃ m₃ cb n₄ m₄ af n₅ m₅ bf n₆ m₆ cf 0)
       (first-refusal-is (early x) (placesOf R) (afterwards w n c s) refl refl) ∙ whole-is x w n c s)
 
-  module _ (x w : List ℕ) (t : Transcript) (c s : List ℕ) (k n : ℕ) (en : n ≡ t .«squeeze_ctr»)
-      (e : k ≡ noted 0 (verifyTests R x w n (length c) (length s))) where
+  module _ (x w : List ℕ) (t : Transcript) (c s : List ℕ) (k : ℕ)
+      (e : k ≡ noted 0 (verifyTests R x w (t .«squeeze_ctr») (length c) (length s))) where
     refusal-is : k ≡ verifyRefusal R x w t c s
     unfolding verifyRefusal
-    refusal-is = e ∙ rw en
+    refusal-is = e
 
     verify-back : eqb k 0 ≡ false → inPlace k t c s ≡ verifyOutcome R x w t c s
     verify-back b = core.verify-refused R x w t c s k refusal-is (λ z. some k z b)

@@ -68,9 +68,9 @@ pub finish-ends : (m q b f : ℕ) (ns x w d₀ s c : List ℕ) (t : Transcript) 
 finish-ends m q b f ns x w d₀ s c t a c′ s′ s″ h e g = rw (← h) (e .0, e .1, g ∙ ap (clearedTo (roomElements m b f)) (e .2))
 
 -- ---- the verifier in place
-pub run-left : (m q b f : ℕ) (ns x w : List ℕ) (t : Transcript) (c u u′ : List ℕ) (a : TranscriptAnswer) (c′ s′ : List ℕ) (v : Transcript) (k : ℕ) → u′ ≡ u
+pub run-left : (m q b f : ℕ) (ns x w : List ℕ) (t : Transcript) (c u u′ : List ℕ) (a : TranscriptAnswer) (c′ s′ : List ℕ) → u′ ≡ u
     → (a ≡ stopAnswer m q b f ns w t (stopOf m q b f ns x w (drawnOver m q b f ns w t (noDraws m q b f)) u′))
     × (c′ ≡ stopClaims m q b f ns w (drawnOver m q b f ns w t (noDraws m q b f)) (stopOf m q b f ns x w (drawnOver m q b f ns w t (noDraws m q b f)) u′) c)
-    × (s′ ≡ clearedTo (roomElements m b f) (stopRoom m q b f ns x w (drawnOver m q b f ns w t (noDraws m q b f)) u′)) → v ≡ a .transcript → k ≡ a .code
-    → inPlace k v c′ s′ ≡ verifyLeft m q b f ns x w t c u
-run-left m q b f ns x w t c u u′ a c′ s′ v k hu e hv hk = rw (hk, hv, e .0, e .1, e .2, hu)
+    × (s′ ≡ clearedTo (roomElements m b f) (stopRoom m q b f ns x w (drawnOver m q b f ns w t (noDraws m q b f)) u′))
+    → inPlace (a .code) (a .transcript) c′ s′ ≡ verifyLeft m q b f ns x w t c u
+run-left m q b f ns x w t c u u′ a c′ s′ hu e = rw (e .0, e .1, e .2, hu)

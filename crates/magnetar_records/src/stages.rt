@@ -18,13 +18,6 @@ use magnetar_inplace::steps as walks;
 use magnetar_schedule::play;
 use magnetar_spartan::virtual_spartan;
 
-// The transcript's counter.
-pub fn counter(t: Transcript) -> u64
-    ensures { λ r. ⌜ r ≡ t .«squeeze_ctr» ⌝ }
-{
-    t.squeeze_ctr
-}
-
 // The words of the draws of a run.
 pub(crate) fn drawn(
     m: usize,

@@ -17,7 +17,6 @@ use magnetar_hash::transcript::Transcript;
 use magnetar_inplace::records;
 use magnetar_inplace::records::Entry;
 use magnetar_inplace::steps as walks;
-use magnetar_transcript::transcript;
 
 // The combined table at the words d of the draws, in front of s.
 pub fn combine_at(
@@ -86,6 +85,10 @@ fn verify_in(
 ) -> u32
     ensures { λ r. ⌜ inPlace r (now (t .exit)) (now (claims .exit)) (now (scratch .exit)) ≡ verifyLeft m q rb rf (now (lens .entry)) (now (x .entry)) (now (proof .entry)) (now (t .entry)) (now (claims .entry)) (runTable m q rb rf (now (lens .entry)) (now (proof .entry)) (now (t .entry)) (entriesOfRecords (now (ab .entry))) (entriesOfRecords (now (bb .entry))) (entriesOfRecords (now (cb .entry))) (entriesOfRecords (now (af .entry))) (entriesOfRecords (now (bf .entry))) (entriesOfRecords (now (cf .entry))) (now (scratch .entry))) ⌝ }
 {
+    let u = Transcript {
+        state: t.state,
+        squeeze_ctr: t.squeeze_ctr,
+    };
     combine(
         scratch,
         m,
@@ -100,11 +103,13 @@ fn verify_in(
         bf,
         cf,
         proof,
-        *t,
+        u,
     );
-    let a = stages::finish(claims, scratch, m, q, rb, rf, lens, x, proof, *t);
-    *t = transcript::after(a);
-    transcript::number(a)
+    let a = stages::finish(claims, scratch, m, q, rb, rf, lens, x, proof, u);
+    let n = a.transcript;
+    t.state = n.state;
+    t.squeeze_ctr = n.squeeze_ctr;
+    a.code
 }
 
 // The same unless n is a refusal, which comes back with nothing changed.
@@ -270,7 +275,7 @@ pub fn verify_virtual_spartan(
 ) -> u32
     ensures { λ r. ⌜ inPlace r (now (t .exit)) (now (claims .exit)) (now (scratch .exit)) ≡ verifyOutcome (rules m q (now (lens .entry)) (system (lentOf abrows abcols (now (ab .entry))) (lentOf bbrows bbcols (now (bb .entry))) (lentOf cbrows cbcols (now (cb .entry)))) (system (lentOf afrows afcols (now (af .entry))) (lentOf bfrows bfcols (now (bf .entry))) (lentOf cfrows cfcols (now (cf .entry))))) (now (x .entry)) (now (proof .entry)) (now (t .entry)) (now (claims .entry)) (now (scratch .entry)) ⌝ }
 {
-    let c = stages::counter(*t);
+    let c = t.squeeze_ctr;
     let n = refused(
         m,
         q,

@@ -79,11 +79,11 @@ module _ (n₁ m₁ : ℕ) (ab : List Entry) (n₂ m₂ : ℕ) (bb : List Entry)
   unfolding lentOf
   whole-is n w c s = refl
 
-  pub prove-refused : (n′ n w c s : ℕ) (within : Bool) (k : ℕ) → n ≡ n′ → within ≡ insideOf n₁ m₁ ab n₂ m₂ bb n₃ m₃ cb n₄ m₄ af n₅ m₅ bf n₆ m₆ cf
-      → k ≡ firstRefusalOf (noted 0 (proveTests bare ws x n w c s)) (noted 0 (recordTests6 (length ab) (length bb) (length cb) (length af) (length bf) (length cf) within)) → k ≡ noted 0 (proveTests R ws x n′ w c s)
-  prove-refused n′ n w c s within k j i e =
+  pub prove-refused : (n w c s : ℕ) (within : Bool) (k : ℕ) → within ≡ insideOf n₁ m₁ ab n₂ m₂ bb n₃ m₃ cb n₄ m₄ af n₅ m₅ bf n₆ m₆ cf
+      → k ≡ firstRefusalOf (noted 0 (proveTests bare ws x n w c s)) (noted 0 (recordTests6 (length ab) (length bb) (length cb) (length af) (length bf) (length cf) within)) → k ≡ noted 0 (proveTests R ws x n w c s)
+  prove-refused n w c s within k i e =
       e ∙ (rw (i, bare-is n w c s, counted-is n₁ m₁ ab n₂ m₂ bb n₃ m₃ cb n₄ m₄ af n₅ m₅ bf n₆ m₆ cf 0)
-      (first-refusal-is early (placesOf R) (afterwards n w c s) refl refl) ∙ (whole-is n w c s ∙ ap (λ (y : ℕ). noted 0 (proveTests R ws x y w c s)) j))
+      (first-refusal-is early (placesOf R) (afterwards n w c s) refl refl) ∙ whole-is n w c s)
 
   module _ (t : Transcript) (w c s : List ℕ) (k : ℕ)
       (e : k ≡ noted 0 (proveTests R ws x (t .«squeeze_ctr») (length w) (length c) (length s))) where

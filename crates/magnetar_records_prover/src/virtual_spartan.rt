@@ -19,9 +19,7 @@ use magnetar_hash::transcript::TranscriptAnswer;
 use magnetar_inplace::records;
 use magnetar_inplace::records::Entry;
 use magnetar_inplace::steps as walks;
-use magnetar_records::stages as shared;
 use magnetar_records::virtual_spartan as table;
-use magnetar_transcript::transcript;
 
 // The first part: the products, the outer rounds and the combined table, for a run with k segments.
 fn first(
@@ -179,7 +177,7 @@ fn refused(
 ) -> u32
     ensures { λ r. ⌜ r ≡ noted 0 (proveTests (rules m q (now (lens .entry)) (system (lentOf abrows abcols (now (ab .entry))) (lentOf bbrows bbcols (now (bb .entry))) (lentOf cbrows cbcols (now (cb .entry)))) (system (lentOf afrows afcols (now (af .entry))) (lentOf bfrows bfcols (now (bf .entry))) (lentOf cfrows cfcols (now (cf .entry))))) (now (packed .entry)) (now (x .entry)) (t .«squeeze_ctr») words claims scratch) ⌝ }
 {
-    let n = shared::counter(t);
+    let n = t.squeeze_ctr;
     let inside = records::all_six(
         abrows,
         abcols,
@@ -350,6 +348,10 @@ pub fn prove_virtual_spartan(
 ) -> u32
     ensures { λ r. ⌜ provedInPlace r (now (t .exit)) (now (proof .exit)) (now (claims .exit)) (now (scratch .exit)) ≡ proveOutcome (rules m q (now (lens .entry)) (system (lentOf abrows abcols (now (ab .entry))) (lentOf bbrows bbcols (now (bb .entry))) (lentOf cbrows cbcols (now (cb .entry)))) (system (lentOf afrows afcols (now (af .entry))) (lentOf bfrows bfcols (now (bf .entry))) (lentOf cfrows cfcols (now (cf .entry))))) (now (packed .entry)) (now (x .entry)) (now (t .entry)) (now (proof .entry)) (now (claims .entry)) (now (scratch .entry)) ⌝ }
 {
+    let u = Transcript {
+        state: t.state,
+        squeeze_ctr: t.squeeze_ctr,
+    };
     let a = prove(
         proof,
         claims,
@@ -377,8 +379,10 @@ pub fn prove_virtual_spartan(
         cf,
         packed,
         x,
-        *t,
+        u,
     );
-    *t = transcript::after(a);
-    transcript::number(a)
+    let n = a.transcript;
+    t.state = n.state;
+    t.squeeze_ctr = n.squeeze_ctr;
+    a.code
 }

@@ -19,7 +19,7 @@ use ghost.Atoms.{Atoms, sem}
 use contract.Monad.{Fun, fact}
 use contract.Running.{givenOf, tables, tablesOf}
 use types.Kit.{Given, ‵, raw, _⊛_, ⋆, some, later, _$_, _∵_, !, qed, by, move, keep, drop, use1, use2, use3, split, join, pick, fsplit, fsplit3, fjoin, fjoin3, feqL, feqI, rewrite, atRet, suffices, frame, await, done}
-use types.Part.{agg, whole, sub, look-in}
+use types.Part.{agg, whole, sub, look-in, store-in}
 use types.Run.{look, look-raw, init, store, store-raw, stop, hop, fld, from, load, unit-lit, of-opd, addr, and-then, no-more, lit, true-lit, false-lit, assigns, assigns-last, land, land-last, first, branches, skips, exec, returns, enter, alloc0, params1, pass1, pass0}
 use types.Tokens.{lft-new, lft-end}
 use sound.WpLaws.{FmC, fmOf, WpFn-mono}
@@ -53,18 +53,14 @@ use Rattle.magnetar_hash.specs.declared.transcript.Transcript.{Transcript}
 use Rattle.magnetar_hash.proofs.transcript.Transcript as mTranscript
 use Rattle.magnetar_hash.proofs.transcript.Transcript.Laws as lTranscript
 use Rattle.magnetar_transcript.proofs.Locals.{tidy, bare, kept, dies, alloc, hide, free-all}
-use Rattle.magnetar_records.proofs.stages.counter as g1
-use Rattle.magnetar_records.proofs.stages.counter.Symbol as g1-def
-use Rattle.magnetar_records.proofs.stages.counter.Symbol.{name as #g1}
-use Rattle.magnetar_records.proofs.stages.counter.Met as g1-thm
-use Rattle.magnetar_inplace.proofs.records.all_six as g2
-use Rattle.magnetar_inplace.proofs.records.all_six.Symbol as g2-def
-use Rattle.magnetar_inplace.proofs.records.all_six.Symbol.{name as #g2}
-use Rattle.magnetar_inplace.proofs.records.all_six.Met as g2-thm
-use Rattle.magnetar_records_prover.proofs.refusal.prove as g3
-use Rattle.magnetar_records_prover.proofs.refusal.prove.Symbol as g3-def
-use Rattle.magnetar_records_prover.proofs.refusal.prove.Symbol.{name as #g3}
-use Rattle.magnetar_records_prover.proofs.refusal.prove.Met as g3-thm
+use Rattle.magnetar_inplace.proofs.records.all_six as g1
+use Rattle.magnetar_inplace.proofs.records.all_six.Symbol as g1-def
+use Rattle.magnetar_inplace.proofs.records.all_six.Symbol.{name as #g1}
+use Rattle.magnetar_inplace.proofs.records.all_six.Met as g1-thm
+use Rattle.magnetar_records_prover.proofs.refusal.prove as g2
+use Rattle.magnetar_records_prover.proofs.refusal.prove.Symbol as g2-def
+use Rattle.magnetar_records_prover.proofs.refusal.prove.Symbol.{name as #g2}
+use Rattle.magnetar_records_prover.proofs.refusal.prove.Met as g2-thm
 use Rattle.magnetar_records_prover.proofs.virtual_spartan.refused.Key.{name as #f}
 use Rattle.magnetar_records_prover.proofs.virtual_spartan.refused as f
 use Rattle.magnetar_records_prover.proofs.virtual_spartan.refused.Statement as stated
@@ -91,10 +87,7 @@ Callee-g1 𝓤 H A mem run = tripleOf 𝓤 H A g1.signature (g1.spec 𝓤 H A me
 abbrev Callee-g2 : {M : Type 1} (𝓤 : URA M) (H : Heap 𝓤) (A : Atoms 𝓤) (mem : Memory → SProp 𝓤) (run : Routine → Fun 𝓤) → Contract 𝓤
 Callee-g2 𝓤 H A mem run = tripleOf 𝓤 H A g2.signature (g2.spec 𝓤 H A mem run)
 
-abbrev Callee-g3 : {M : Type 1} (𝓤 : URA M) (H : Heap 𝓤) (A : Atoms 𝓤) (mem : Memory → SProp 𝓤) (run : Routine → Fun 𝓤) → Contract 𝓤
-Callee-g3 𝓤 H A mem run = tripleOf 𝓤 H A g3.signature (g3.spec 𝓤 H A mem run)
-
-module _ {M : Type 1} (𝓤 : URA M) (H : Heap 𝓤) (A : Atoms 𝓤) (W : Given 𝓤 H A) (at-mem : Memory → SProp 𝓤) (run : Routine → Fun 𝓤) (κ₀ κ₁ κ₂ κ₃ κ₄ κ₅ κ₆ κ₇ κ₈ : Lft) (q₀ q₁ q₂ q₃ q₄ q₅ q₆ q₇ q₈ : Share) (n1 : ℕ) (u1 : Val) (n2 : ℕ) (u2 : Val) (s3 : RefT (List ℕ)) (n4 : ℕ) (u4 : Val) (n5 : ℕ) (u5 : Val) (s6 : RefT (List Entry)) (n7 : ℕ) (u7 : Val) (n8 : ℕ) (u8 : Val) (s9 : RefT (List Entry)) (n10 : ℕ) (u10 : Val) (n11 : ℕ) (u11 : Val) (s12 : RefT (List Entry)) (n13 : ℕ) (u13 : Val) (n14 : ℕ) (u14 : Val) (s15 : RefT (List Entry)) (n16 : ℕ) (u16 : Val) (n17 : ℕ) (u17 : Val) (s18 : RefT (List Entry)) (n19 : ℕ) (u19 : Val) (n20 : ℕ) (u20 : Val) (s21 : RefT (List Entry)) (s22 : RefT (List ℕ)) (s23 : RefT (List ℕ)) (n24 : Transcript) (u24 : Val) (n25 : ℕ) (u25 : Val) (n26 : ℕ) (u26 : Val) (n27 : ℕ) (u27 : Val) where
+module _ {M : Type 1} (𝓤 : URA M) (H : Heap 𝓤) (A : Atoms 𝓤) (W : Given 𝓤 H A) (at-mem : Memory → SProp 𝓤) (run : Routine → Fun 𝓤) (κ₀ κ₁ κ₂ κ₃ κ₄ κ₅ κ₆ κ₇ κ₈ : Lft) (q₀ q₁ q₂ q₃ q₄ q₅ q₆ q₇ q₈ : Share) (n1 : ℕ) (u1 : Val) (n2 : ℕ) (u2 : Val) (s3 : RefT (List ℕ)) (n4 : ℕ) (u4 : Val) (n5 : ℕ) (u5 : Val) (s6 : RefT (List Entry)) (n7 : ℕ) (u7 : Val) (n8 : ℕ) (u8′ : Val) (s9 : RefT (List Entry)) (n10 : ℕ) (u10 : Val) (n11 : ℕ) (u11 : Val) (s12 : RefT (List Entry)) (n13 : ℕ) (u13 : Val) (n14 : ℕ) (u14 : Val) (s15 : RefT (List Entry)) (n16 : ℕ) (u16′ : Val) (n17 : ℕ) (u17 : Val) (s18 : RefT (List Entry)) (n19 : ℕ) (u19 : Val) (n20 : ℕ) (u20 : Val) (s21 : RefT (List Entry)) (s22 : RefT (List ℕ)) (s23 : RefT (List ℕ)) (n24 : Transcript) (u24 : Val) (n25 : ℕ) (u25 : Val) (n26 : ℕ) (u26 : Val) (n27 : ℕ) (u27 : Val) where
   abbrev v1 : Val
   v1 = u1
 
@@ -123,7 +116,7 @@ module _ {M : Type 1} (𝓤 : URA M) (H : Heap 𝓤) (A : Atoms 𝓤) (W : Given
   v7 = u7
 
   abbrev v8 : Val
-  v8 = u8
+  v8 = u8′
 
   abbrev v9 : Val
   v9 = sliceVal (s9 .ptr) (length (s9 .now))
@@ -156,7 +149,7 @@ module _ {M : Type 1} (𝓤 : URA M) (H : Heap 𝓤) (A : Atoms 𝓤) (W : Given
   O15 = ShrSlice (named 4) κ₄ mEntry.the-row .own s15 (v15 ∷ [])
 
   abbrev v16 : Val
-  v16 = u16
+  v16 = u16′
 
   abbrev v17 : Val
   v17 = u17
@@ -215,24 +208,19 @@ module _ {M : Type 1} (𝓤 : URA M) (H : Heap 𝓤) (A : Atoms 𝓤) (W : Given
   abbrev Post : Val → SProp 𝓤
   Post = walkOf 𝓤 H A f.ended stayed (f.clauses 𝓤 H A at-mem run) .post (((κ₀, (κ₁, (κ₂, (κ₃, (κ₄, (κ₅, (κ₆, (κ₇, (κ₈, tt))))))))), (q₀, (q₁, (q₂, (q₃, (q₄, (q₅, (q₆, (q₇, (q₈, tt))))))))), tt, a, at), tt)
 
-  module _ (C : Calls 𝓤 H) (Λ : Loops 𝓤 H) (fm : FmC 𝓤 H (W .laws) C) (known-g1 : Triple 𝓤 (C #g1) (Callee-g1 𝓤 H A at-mem run)) (known-g2 : Triple 𝓤 (C #g2) (Callee-g2 𝓤 H A at-mem run)) (known-g3 : Triple 𝓤 (C #g3) (Callee-g3 𝓤 H A at-mem run)) (w1 : Is u64 n1 (u1 ∷ [])) (w2 : Is u64 n2 (u2 ∷ [])) (w3 : Is (ShrSlice (named 0) κ₀ u64) s3 (v3 ∷ [])) (w4 : Is u64 n4 (u4 ∷ [])) (w5 : Is u64 n5 (u5 ∷ [])) (w6 : Is (ShrSlice (named 1) κ₁ mEntry.the-row) s6 (v6 ∷ [])) (w7 : Is u64 n7 (u7 ∷ [])) (w8 : Is u64 n8 (u8 ∷ [])) (w9 : Is (ShrSlice (named 2) κ₂ mEntry.the-row) s9 (v9 ∷ [])) (w10 : Is u64 n10 (u10 ∷ [])) (w11 : Is u64 n11 (u11 ∷ [])) (w12 : Is (ShrSlice (named 3) κ₃ mEntry.the-row) s12 (v12 ∷ [])) (w13 : Is u64 n13 (u13 ∷ [])) (w14 : Is u64 n14 (u14 ∷ [])) (w15 : Is (ShrSlice (named 4) κ₄ mEntry.the-row) s15 (v15 ∷ [])) (w16 : Is u64 n16 (u16 ∷ [])) (w17 : Is u64 n17 (u17 ∷ [])) (w18 : Is (ShrSlice (named 5) κ₅ mEntry.the-row) s18 (v18 ∷ [])) (w19 : Is u64 n19 (u19 ∷ [])) (w20 : Is u64 n20 (u20 ∷ [])) (w21 : Is (ShrSlice (named 6) κ₆ mEntry.the-row) s21 (v21 ∷ [])) (w22 : Is (ShrSlice (named 7) κ₇ u64) s22 (v22 ∷ [])) (w23 : Is (ShrSlice (named 8) κ₈ u64) s23 (v23 ∷ [])) (w24 : Is mTranscript.the-row n24 (u24 ∷ [])) (w25 : Is u64 n25 (u25 ∷ [])) (w26 : Is u64 n26 (u26 ∷ [])) (w27 : Is u64 n27 (u27 ∷ [])) where
+  module _ (C : Calls 𝓤 H) (Λ : Loops 𝓤 H) (fm : FmC 𝓤 H (W .laws) C) (known-g1 : Triple 𝓤 (C #g1) (Callee-g1 𝓤 H A at-mem run)) (known-g2 : Triple 𝓤 (C #g2) (Callee-g2 𝓤 H A at-mem run)) (w1 : Is u64 n1 (u1 ∷ [])) (w2 : Is u64 n2 (u2 ∷ [])) (w3 : Is (ShrSlice (named 0) κ₀ u64) s3 (v3 ∷ [])) (w4 : Is u64 n4 (u4 ∷ [])) (w5 : Is u64 n5 (u5 ∷ [])) (w6 : Is (ShrSlice (named 1) κ₁ mEntry.the-row) s6 (v6 ∷ [])) (w7 : Is u64 n7 (u7 ∷ [])) (w8′ : Is u64 n8 (u8′ ∷ [])) (w9 : Is (ShrSlice (named 2) κ₂ mEntry.the-row) s9 (v9 ∷ [])) (w10 : Is u64 n10 (u10 ∷ [])) (w11 : Is u64 n11 (u11 ∷ [])) (w12 : Is (ShrSlice (named 3) κ₃ mEntry.the-row) s12 (v12 ∷ [])) (w13 : Is u64 n13 (u13 ∷ [])) (w14 : Is u64 n14 (u14 ∷ [])) (w15 : Is (ShrSlice (named 4) κ₄ mEntry.the-row) s15 (v15 ∷ [])) (w16′ : Is u64 n16 (u16′ ∷ [])) (w17 : Is u64 n17 (u17 ∷ [])) (w18 : Is (ShrSlice (named 5) κ₅ mEntry.the-row) s18 (v18 ∷ [])) (w19 : Is u64 n19 (u19 ∷ [])) (w20 : Is u64 n20 (u20 ∷ [])) (w21 : Is (ShrSlice (named 6) κ₆ mEntry.the-row) s21 (v21 ∷ [])) (w22 : Is (ShrSlice (named 7) κ₇ u64) s22 (v22 ∷ [])) (w23 : Is (ShrSlice (named 8) κ₈ u64) s23 (v23 ∷ [])) (w24 : Is mTranscript.the-row n24 (u24 ∷ [])) (w25 : Is u64 n25 (u25 ∷ [])) (w26 : Is u64 n26 (u26 ∷ [])) (w27 : Is u64 n27 (u27 ∷ [])) where
     walk : ent 𝓤 (onEntry 𝓤 H A f.signature (κ₀, (κ₁, (κ₂, (κ₃, (κ₄, (κ₅, (κ₆, (κ₇, (κ₈, tt))))))))) (q₀, (q₁, (q₂, (q₃, (q₄, (q₅, (q₆, (q₇, (q₈, tt))))))))) a at) (WpFn 𝓤 H C Λ code.function (v1 ∷ v2 ∷ v3 ∷ v4 ∷ v5 ∷ v6 ∷ v7 ∷ v8 ∷ v9 ∷ v10 ∷ v11 ∷ v12 ∷ v13 ∷ v14 ∷ v15 ∷ v16 ∷ v17 ∷ v18 ∷ v19 ∷ v20 ∷ v21 ∷ v22 ∷ v23 ∷ v24 ∷ v25 ∷ v26 ∷ v27 ∷ []) Post)
     walk =
         qed W ((‵ (flft κ₀ q₀) ⊛ ‵ (flft κ₁ q₁) ⊛ ‵ (flft κ₂ q₂) ⊛ ‵ (flft κ₃ q₃) ⊛ ‵ (flft κ₄ q₄) ⊛ ‵ (flft κ₅ q₅) ⊛ ‵ (flft κ₆ q₆) ⊛ ‵ (flft κ₇ q₇) ⊛ ‵ (flft κ₈ q₈) ⊛ ‵ ftrue) ∷ ‵ (owns (u64 ∷ u64 ∷ ShrSlice (named 0) κ₀ u64 ∷ u64 ∷ u64 ∷ ShrSlice (named 1) κ₁ mEntry.the-row ∷ u64 ∷ u64 ∷ ShrSlice (named 2) κ₂ mEntry.the-row ∷ u64 ∷ u64 ∷ ShrSlice (named 3) κ₃ mEntry.the-row ∷ u64 ∷ u64 ∷ ShrSlice (named 4) κ₄ mEntry.the-row ∷ u64 ∷ u64 ∷ ShrSlice (named 5) κ₅ mEntry.the-row ∷ u64 ∷ u64 ∷ ShrSlice (named 6) κ₆ mEntry.the-row ∷ ShrSlice (named 7) κ₇ u64 ∷ ShrSlice (named 8) κ₈ u64 ∷ mTranscript.the-row ∷ u64 ∷ u64 ∷ u64 ∷ []) a at) ∷ []) ∵ enter ! C Λ code.function (v1 ∷ v2 ∷ v3 ∷ v4 ∷ v5 ∷ v6 ∷ v7 ∷ v8 ∷ v9 ∷ v10 ∷ v11 ∷ v12 ∷ v13 ∷ v14 ∷ v15 ∷ v16 ∷ v17 ∷ v18 ∷ v19 ∷ v20 ∷ v21 ∷ v22 ∷ v23 ∷ v24 ∷ v25 ∷ v26 ∷ v27 ∷ []) _ $
-        nothing ! $ alloc ! (λ l₀. alloc ! (λ l₁. alloc ! (λ l₂. alloc ! (λ l₃. alloc ! (λ l₄. alloc ! (λ l₅. alloc ! (λ l₆. alloc ! (λ l₇. alloc ! (λ l₈. alloc ! (λ l₉. alloc ! (λ l₁₀. alloc ! (λ l₁₁. alloc ! (λ l₁₂. alloc ! (λ l₁₃. alloc ! (λ l₁₄. alloc ! (λ l₁₅. alloc ! (λ l₁₆. alloc ! (λ l₁₇. alloc ! (λ l₁₈. alloc ! (λ l₁₉. alloc ! (λ l₂₀. alloc ! (λ l₂₁. alloc ! (λ l₂₂. alloc ! (λ l₂₃. alloc ! (λ l₂₄. alloc ! (λ l₂₅. alloc ! (λ l₂₆. alloc ! (λ l₂₇. alloc ! (λ l₂₈. alloc ! (λ l₂₉. alloc ! (λ l₃₀. alloc ! (λ l₃₁. alloc ! (λ l₃₂. alloc ! (λ l₃₃. alloc ! (λ l₃₄. alloc ! (λ l₃₅. alloc0 ! $ hide ! (λ died die. params1 ! $ pass1 ! (init ! 35 refl (uint-lawful 𝓤 H A W w64 .typed n1 _ w1 .0)) $ pass1 ! (init ! 34 refl (uint-lawful 𝓤 H A W w64 .typed n2 _ w2 .0)) $ pass1 ! (init ! 33 refl (shr-slice-lawful 𝓤 H A W (named 0) κ₀ u64 .typed s3 (v3 ∷ []) w3 .0)) $ pass1 ! (init ! 32 refl (uint-lawful 𝓤 H A W w64 .typed n4 _ w4 .0)) $ pass1 ! (init ! 31 refl (uint-lawful 𝓤 H A W w64 .typed n5 _ w5 .0)) $ pass1 ! (init ! 30 refl (shr-slice-lawful 𝓤 H A W (named 1) κ₁ mEntry.the-row .typed s6 (v6 ∷ []) w6 .0)) $ pass1 ! (init ! 29 refl (uint-lawful 𝓤 H A W w64 .typed n7 _ w7 .0)) $ pass1 ! (init ! 28 refl (uint-lawful 𝓤 H A W w64 .typed n8 _ w8 .0)) $ pass1 ! (init ! 27 refl (shr-slice-lawful 𝓤 H A W (named 2) κ₂ mEntry.the-row .typed s9 (v9 ∷ []) w9 .0)) $ pass1 ! (init ! 26 refl (uint-lawful 𝓤 H A W w64 .typed n10 _ w10 .0)) $ pass1 ! (init ! 25 refl (uint-lawful 𝓤 H A W w64 .typed n11 _ w11 .0)) $ pass1 ! (init ! 24 refl (shr-slice-lawful 𝓤 H A W (named 3) κ₃ mEntry.the-row .typed s12 (v12 ∷ []) w12 .0)) $ pass1 ! (init ! 23 refl (uint-lawful 𝓤 H A W w64 .typed n13 _ w13 .0)) $ pass1 ! (init ! 22 refl (uint-lawful 𝓤 H A W w64 .typed n14 _ w14 .0)) $ pass1 ! (init ! 21 refl (shr-slice-lawful 𝓤 H A W (named 4) κ₄ mEntry.the-row .typed s15 (v15 ∷ []) w15 .0)) $ pass1 ! (init ! 20 refl (uint-lawful 𝓤 H A W w64 .typed n16 _ w16 .0)) $ pass1 ! (init ! 19 refl (uint-lawful 𝓤 H A W w64 .typed n17 _ w17 .0)) $ pass1 ! (init ! 18 refl (shr-slice-lawful 𝓤 H A W (named 5) κ₅ mEntry.the-row .typed s18 (v18 ∷ []) w18 .0)) $ pass1 ! (init ! 17 refl (uint-lawful 𝓤 H A W w64 .typed n19 _ w19 .0)) $ pass1 ! (init ! 16 refl (uint-lawful 𝓤 H A W w64 .typed n20 _ w20 .0)) $ pass1 ! (init ! 15 refl (shr-slice-lawful 𝓤 H A W (named 6) κ₆ mEntry.the-row .typed s21 (v21 ∷ []) w21 .0)) $ pass1 ! (init ! 14 refl (shr-slice-lawful 𝓤 H A W (named 7) κ₇ u64 .typed s22 (v22 ∷ []) w22 .0)) $ pass1 ! (init ! 13 refl (shr-slice-lawful 𝓤 H A W (named 8) κ₈ u64 .typed s23 (v23 ∷ []) w23 .0)) $ pass1 ! (init ! 12 refl (LL.lawful mTranscript.the-type lTranscript.the-laws 𝓤 H A W .typed n24 _ w24 .0)) $ pass1 ! (init ! 11 refl (uint-lawful 𝓤 H A W w64 .typed n25 _ w25 .0)) $ pass1 ! (init ! 10 refl (uint-lawful 𝓤 H A W w64 .typed n26 _ w26 .0)) $ pass1 ! (init ! 9 refl (uint-lawful 𝓤 H A W w64 .typed n27 _ w27 .0)) $ pass0 ! $
+        nothing ! $ alloc ! (λ l₀. alloc ! (λ l₁. alloc ! (λ l₂. alloc ! (λ l₃. alloc ! (λ l₄. alloc ! (λ l₅. alloc ! (λ l₆. alloc ! (λ l₇. alloc ! (λ l₈. alloc ! (λ l₉. alloc ! (λ l₁₀. alloc ! (λ l₁₁. alloc ! (λ l₁₂. alloc ! (λ l₁₃. alloc ! (λ l₁₄. alloc ! (λ l₁₅. alloc ! (λ l₁₆. alloc ! (λ l₁₇. alloc ! (λ l₁₈. alloc ! (λ l₁₉. alloc ! (λ l₂₀. alloc ! (λ l₂₁. alloc ! (λ l₂₂. alloc ! (λ l₂₃. alloc ! (λ l₂₄. alloc ! (λ l₂₅. alloc ! (λ l₂₆. alloc ! (λ l₂₇. alloc ! (λ l₂₈. alloc ! (λ l₂₉. alloc ! (λ l₃₀. alloc ! (λ l₃₁. alloc ! (λ l₃₂. alloc ! (λ l₃₃. alloc ! (λ l₃₄. alloc ! (λ l₃₅. alloc0 ! $ hide ! (λ died die. params1 ! $ pass1 ! (init ! 35 refl (uint-lawful 𝓤 H A W w64 .typed n1 _ w1 .0)) $ pass1 ! (init ! 34 refl (uint-lawful 𝓤 H A W w64 .typed n2 _ w2 .0)) $ pass1 ! (init ! 33 refl (shr-slice-lawful 𝓤 H A W (named 0) κ₀ u64 .typed s3 (v3 ∷ []) w3 .0)) $ pass1 ! (init ! 32 refl (uint-lawful 𝓤 H A W w64 .typed n4 _ w4 .0)) $ pass1 ! (init ! 31 refl (uint-lawful 𝓤 H A W w64 .typed n5 _ w5 .0)) $ pass1 ! (init ! 30 refl (shr-slice-lawful 𝓤 H A W (named 1) κ₁ mEntry.the-row .typed s6 (v6 ∷ []) w6 .0)) $ pass1 ! (init ! 29 refl (uint-lawful 𝓤 H A W w64 .typed n7 _ w7 .0)) $ pass1 ! (init ! 28 refl (uint-lawful 𝓤 H A W w64 .typed n8 _ w8′ .0)) $ pass1 ! (init ! 27 refl (shr-slice-lawful 𝓤 H A W (named 2) κ₂ mEntry.the-row .typed s9 (v9 ∷ []) w9 .0)) $ pass1 ! (init ! 26 refl (uint-lawful 𝓤 H A W w64 .typed n10 _ w10 .0)) $ pass1 ! (init ! 25 refl (uint-lawful 𝓤 H A W w64 .typed n11 _ w11 .0)) $ pass1 ! (init ! 24 refl (shr-slice-lawful 𝓤 H A W (named 3) κ₃ mEntry.the-row .typed s12 (v12 ∷ []) w12 .0)) $ pass1 ! (init ! 23 refl (uint-lawful 𝓤 H A W w64 .typed n13 _ w13 .0)) $ pass1 ! (init ! 22 refl (uint-lawful 𝓤 H A W w64 .typed n14 _ w14 .0)) $ pass1 ! (init ! 21 refl (shr-slice-lawful 𝓤 H A W (named 4) κ₄ mEntry.the-row .typed s15 (v15 ∷ []) w15 .0)) $ pass1 ! (init ! 20 refl (uint-lawful 𝓤 H A W w64 .typed n16 _ w16′ .0)) $ pass1 ! (init ! 19 refl (uint-lawful 𝓤 H A W w64 .typed n17 _ w17 .0)) $ pass1 ! (init ! 18 refl (shr-slice-lawful 𝓤 H A W (named 5) κ₅ mEntry.the-row .typed s18 (v18 ∷ []) w18 .0)) $ pass1 ! (init ! 17 refl (uint-lawful 𝓤 H A W w64 .typed n19 _ w19 .0)) $ pass1 ! (init ! 16 refl (uint-lawful 𝓤 H A W w64 .typed n20 _ w20 .0)) $ pass1 ! (init ! 15 refl (shr-slice-lawful 𝓤 H A W (named 6) κ₆ mEntry.the-row .typed s21 (v21 ∷ []) w21 .0)) $ pass1 ! (init ! 14 refl (shr-slice-lawful 𝓤 H A W (named 7) κ₇ u64 .typed s22 (v22 ∷ []) w22 .0)) $ pass1 ! (init ! 13 refl (shr-slice-lawful 𝓤 H A W (named 8) κ₈ u64 .typed s23 (v23 ∷ []) w23 .0)) $ pass1 ! (init ! 12 refl (LL.lawful mTranscript.the-type lTranscript.the-laws 𝓤 H A W .typed n24 _ w24 .0)) $ pass1 ! (init ! 11 refl (uint-lawful 𝓤 H A W w64 .typed n25 _ w25 .0)) $ pass1 ! (init ! 10 refl (uint-lawful 𝓤 H A W w64 .typed n26 _ w26 .0)) $ pass1 ! (init ! 9 refl (uint-lawful 𝓤 H A W w64 .typed n27 _ w27 .0)) $ pass0 ! $
         move ! (38 ∷ []) $ fsplit ! $ move ! (1 ∷ []) $ fsplit ! $ move ! (1 ∷ []) $ fsplit ! $ move ! (1 ∷ []) $ fsplit ! $ move ! (1 ∷ []) $ fsplit ! $ move ! (1 ∷ []) $ fsplit ! $ move ! (1 ∷ []) $ fsplit ! $ move ! (1 ∷ []) $ fsplit ! $ move ! (1 ∷ []) $ fsplit ! $ move ! (1 ∷ []) $ fsplit ! $ move ! (1 ∷ []) $ fsplit ! $ move ! (1 ∷ []) $ fsplit ! $ move ! (1 ∷ []) $ fsplit ! $ move ! (1 ∷ []) $ fsplit ! $ move ! (1 ∷ []) $ fsplit ! $ move ! (1 ∷ []) $ fsplit ! $ move ! (1 ∷ []) $ fsplit ! $ move ! (1 ∷ []) $ fsplit ! $ move ! (1 ∷ []) $ fsplit ! $ move ! (1 ∷ []) $ fsplit ! $ move ! (1 ∷ []) $ fsplit ! $ move ! (1 ∷ []) $ fsplit ! $ move ! (1 ∷ []) $ fsplit ! $ move ! (1 ∷ []) $ fsplit ! $ move ! (1 ∷ []) $ fsplit ! $ move ! (1 ∷ []) $ fsplit ! $ move ! (1 ∷ []) $ fsplit ! $ move ! (1 ∷ []) $ drop ! $ move ! (64 ∷ []) $ split ! $ move ! (1 ∷ []) $ split ! $ move ! (1 ∷ []) $ split ! $ move ! (1 ∷ []) $ split ! $ move ! (1 ∷ []) $ split ! $ move ! (1 ∷ []) $ split ! $ move ! (1 ∷ []) $ split ! $ move ! (1 ∷ []) $ split ! $ move ! (1 ∷ []) $ split ! $ move ! (1 ∷ []) $ drop ! $ tidy W (_ ∷ _ ∷ _ ∷ _ ∷ _ ∷ _ ∷ _ ∷ _ ∷ _ ∷ _ ∷ _ ∷ _ ∷ _ ∷ _ ∷ _ ∷ _ ∷ _ ∷ _ ∷ _ ∷ _ ∷ _ ∷ _ ∷ _ ∷ _ ∷ _ ∷ _ ∷ _ ∷ _ ∷ _ ∷ _ ∷ _ ∷ _ ∷ _ ∷ _ ∷ _ ∷ _ ∷ _ ∷ _ ∷ _ ∷ _ ∷ _ ∷ _ ∷ _ ∷ _ ∷ _ ∷ _ ∷ _ ∷ _ ∷ _ ∷ _ ∷ _ ∷ _ ∷ _ ∷ _ ∷ _ ∷ _ ∷ _ ∷ _ ∷ _ ∷ _ ∷ _ ∷ _ ∷ _ ∷ _ ∷ _ ∷ _ ∷ _ ∷ _ ∷ _ ∷ _ ∷ _ ∷ _ ∷ _ ∷ []) $
-        tidy W (_ ∷ _ ∷ _ ∷ _ ∷ _ ∷ _ ∷ _ ∷ _ ∷ _ ∷ _ ∷ _ ∷ _ ∷ _ ∷ _ ∷ _ ∷ _ ∷ _ ∷ _ ∷ _ ∷ _ ∷ _ ∷ _ ∷ _ ∷ _ ∷ _ ∷ _ ∷ _ ∷ _ ∷ _ ∷ _ ∷ _ ∷ _ ∷ _ ∷ _ ∷ _ ∷ _ ∷ _ ∷ _ ∷ _ ∷ _ ∷ _ ∷ _ ∷ _ ∷ _ ∷ _ ∷ _ ∷ _ ∷ _ ∷ _ ∷ _ ∷ _ ∷ _ ∷ _ ∷ _ ∷ _ ∷ _ ∷ _ ∷ _ ∷ _ ∷ _ ∷ _ ∷ _ ∷ _ ∷ _ ∷ _ ∷ _ ∷ _ ∷ _ ∷ _ ∷ _ ∷ _ ∷ _ ∷ _ ∷ []) $ nothing ! $
+        rewrite ! 48 (λ (w : Val). ‵ (fat fullShare (lTranscript.mir) l₂₄ 0 w)) (ap only ((LL.tells mTranscript.the-type lTranscript.the-laws) n24 _ w24)) refl $ assigns ! (of-opd ! (load ! (from ! (fld ! refl (stop !))) (look-in ! 48 (sub ! 1 refl (whole !))))) (from ! (stop !)) (init ! 44 refl (uint-lawful 𝓤 H A W w64 .typed (mTranscript.the-type .to n24 .1 .0) _ (LL.owed mTranscript.the-type lTranscript.the-laws n24 _ (subst (Is mTranscript.the-row n24) ((LL.tells mTranscript.the-type lTranscript.the-laws) n24 _ w24) w24) .1 .0) .0)) $
+        move ! (30 ∷ []) $ use1 W (‵ (O6) ⊛ ‵ (O6)) (shr-slice-copy 𝓤 H A W (named 1) κ₁ mEntry.the-row .twice s6 (v6 ∷ [])) $ split ! $ move ! (29 ∷ []) $ use1 W (‵ (O9) ⊛ ‵ (O9)) (shr-slice-copy 𝓤 H A W (named 2) κ₂ mEntry.the-row .twice s9 (v9 ∷ [])) $ split ! $ move ! (28 ∷ []) $ use1 W (‵ (O12) ⊛ ‵ (O12)) (shr-slice-copy 𝓤 H A W (named 3) κ₃ mEntry.the-row .twice s12 (v12 ∷ [])) $ split ! $ move ! (27 ∷ []) $ use1 W (‵ (O15) ⊛ ‵ (O15)) (shr-slice-copy 𝓤 H A W (named 4) κ₄ mEntry.the-row .twice s15 (v15 ∷ [])) $ split ! $ move ! (26 ∷ []) $ use1 W (‵ (O18) ⊛ ‵ (O18)) (shr-slice-copy 𝓤 H A W (named 5) κ₅ mEntry.the-row .twice s18 (v18 ∷ [])) $ split ! $ move ! (25 ∷ []) $ use1 W (‵ (O21) ⊛ ‵ (O21)) (shr-slice-copy 𝓤 H A W (named 6) κ₆ mEntry.the-row .twice s21 (v21 ∷ [])) $ split ! $ tidy W (_ ∷ _ ∷ _ ∷ _ ∷ _ ∷ _ ∷ _ ∷ _ ∷ _ ∷ _ ∷ _ ∷ _ ∷ _ ∷ _ ∷ _ ∷ _ ∷ _ ∷ _ ∷ _ ∷ _ ∷ _ ∷ _ ∷ _ ∷ _ ∷ _ ∷ _ ∷ _ ∷ _ ∷ _ ∷ _ ∷ _ ∷ _ ∷ _ ∷ _ ∷ _ ∷ _ ∷ _ ∷ _ ∷ _ ∷ _ ∷ _ ∷ _ ∷ _ ∷ _ ∷ _ ∷ _ ∷ _ ∷ _ ∷ _ ∷ _ ∷ _ ∷ _ ∷ _ ∷ _ ∷ _ ∷ _ ∷ _ ∷ _ ∷ _ ∷ _ ∷ _ ∷ _ ∷ _ ∷ _ ∷ _ ∷ _ ∷ _ ∷ _ ∷ _ ∷ _ ∷ _ ∷ _ ∷ _ ∷ _ ∷ _ ∷ _ ∷ _ ∷ _ ∷ _ ∷ []) $ nothing ! $ move ! (15 ∷ 0 ∷ []) $ join ! $ move ! (15 ∷ 0 ∷ []) $ join ! $ move ! (15 ∷ 0 ∷ []) $ join ! $ move ! (15 ∷ 0 ∷ []) $ join ! $ move ! (15 ∷ 0 ∷ []) $ join ! $ move ! (15 ∷ 0 ∷ []) $ join ! $ move ! (3 ∷ 1 ∷ []) $ join ! $ move ! (4 ∷ 0 ∷ []) $ join ! $ move ! (5 ∷ 0 ∷ []) $ join ! $ move ! (6 ∷ 0 ∷ []) $ join ! $ move ! (7 ∷ 0 ∷ []) $ join ! $ move ! (1 ∷ 0 ∷ []) $ join ! $
         -- call 1
-        use1 W (raw (Callee-g1 𝓤 H A at-mem run .pre ((tt, tt, tt, (n24, tt), (u24 ∷ [], tt)), tt))) (qed W ((‵ ftrue) ∷ []) ∵ nothing ! $ owned ! mTranscript.the-row (Is mTranscript.the-row) (LL.makes mTranscript.the-type lTranscript.the-plain 𝓤 H A) (n24) _ w24 $ fjoin ! $ move ! (1 ∷ 0 ∷ []) $ join ! $ nothing ! $ move ! (1 ∷ 0 ∷ []) $ frame ! $ done !) $
-        calls-at ! fm (Callee-g1 𝓤 H A at-mem run) known-g1 ((tt, tt, tt, (n24, tt), (u24 ∷ [], tt)), tt) (and-then ! (load ! (from ! (stop !)) (look ! 49 refl)) (no-more !)) (λ z1.
-        use1 W (later (some (λ (r1 : ℕ). ((‵ ftrue) ⊛ ‵ (u64 .own r1 (z1 ∷ []))) ⊛ some (λ (ws : Lasts g1.ended tt (n24, tt)). ‵ (lasts g1.ended tt (n24, tt) ws) ⊛ raw (g1.clauses 𝓤 H A at-mem run tt (n24, tt) .ensures tt r1 (atExit g1.ended tt (n24, tt) ws)))))) (id⊢ 𝓤 _) $ await ! tt $ pick ! (λ r1. split ! $ move ! (1 ∷ []) $ pick ! (λ ws1. split ! $ move ! (1 ∷ []) $ heard ! _ (λ e1.
-        drop ! $ split ! $ move ! (1 ∷ []) $ peeks ! u64 (Is u64) (shows 𝓤 H A u64) r1 (z1 ∷ []) (λ i1. drop ! $ land ! (from ! (stop !)) (init ! 45 refl (uint-lawful 𝓤 H A W w64 .typed r1 _ i1 .0)) $
-        tidy W (_ ∷ _ ∷ _ ∷ _ ∷ _ ∷ _ ∷ _ ∷ _ ∷ _ ∷ _ ∷ _ ∷ _ ∷ _ ∷ _ ∷ _ ∷ _ ∷ _ ∷ _ ∷ _ ∷ _ ∷ _ ∷ _ ∷ _ ∷ _ ∷ _ ∷ _ ∷ _ ∷ _ ∷ _ ∷ _ ∷ _ ∷ _ ∷ _ ∷ _ ∷ _ ∷ _ ∷ _ ∷ _ ∷ _ ∷ _ ∷ _ ∷ _ ∷ _ ∷ _ ∷ _ ∷ _ ∷ _ ∷ _ ∷ _ ∷ _ ∷ _ ∷ _ ∷ _ ∷ _ ∷ _ ∷ _ ∷ _ ∷ _ ∷ _ ∷ _ ∷ _ ∷ _ ∷ _ ∷ _ ∷ _ ∷ _ ∷ _ ∷ _ ∷ _ ∷ _ ∷ _ ∷ _ ∷ _ ∷ _ ∷ []) $ drop ! $ move ! (30 ∷ []) $ use1 W (‵ (O6) ⊛ ‵ (O6)) (shr-slice-copy 𝓤 H A W (named 1) κ₁ mEntry.the-row .twice s6 (v6 ∷ [])) $ split ! $ move ! (29 ∷ []) $ use1 W (‵ (O9) ⊛ ‵ (O9)) (shr-slice-copy 𝓤 H A W (named 2) κ₂ mEntry.the-row .twice s9 (v9 ∷ [])) $ split ! $ move ! (28 ∷ []) $ use1 W (‵ (O12) ⊛ ‵ (O12)) (shr-slice-copy 𝓤 H A W (named 3) κ₃ mEntry.the-row .twice s12 (v12 ∷ [])) $ split ! $ move ! (27 ∷ []) $ use1 W (‵ (O15) ⊛ ‵ (O15)) (shr-slice-copy 𝓤 H A W (named 4) κ₄ mEntry.the-row .twice s15 (v15 ∷ [])) $ split ! $ move ! (26 ∷ []) $ use1 W (‵ (O18) ⊛ ‵ (O18)) (shr-slice-copy 𝓤 H A W (named 5) κ₅ mEntry.the-row .twice s18 (v18 ∷ [])) $ split ! $ move ! (25 ∷ []) $ use1 W (‵ (O21) ⊛ ‵ (O21)) (shr-slice-copy 𝓤 H A W (named 6) κ₆ mEntry.the-row .twice s21 (v21 ∷ [])) $ split ! $ tidy W (_ ∷ _ ∷ _ ∷ _ ∷ _ ∷ _ ∷ _ ∷ _ ∷ _ ∷ _ ∷ _ ∷ _ ∷ _ ∷ _ ∷ _ ∷ _ ∷ _ ∷ _ ∷ _ ∷ _ ∷ _ ∷ _ ∷ _ ∷ _ ∷ _ ∷ _ ∷ _ ∷ _ ∷ _ ∷ _ ∷ _ ∷ _ ∷ _ ∷ _ ∷ _ ∷ _ ∷ _ ∷ _ ∷ _ ∷ _ ∷ _ ∷ _ ∷ _ ∷ _ ∷ _ ∷ _ ∷ _ ∷ _ ∷ _ ∷ _ ∷ _ ∷ _ ∷ _ ∷ _ ∷ _ ∷ _ ∷ _ ∷ _ ∷ _ ∷ _ ∷ _ ∷ _ ∷ _ ∷ _ ∷ _ ∷ _ ∷ _ ∷ _ ∷ _ ∷ _ ∷ _ ∷ _ ∷ _ ∷ _ ∷ _ ∷ _ ∷ _ ∷ _ ∷ _ ∷ []) $ nothing ! $ move ! (15 ∷ 0 ∷ []) $ join ! $ move ! (15 ∷ 0 ∷ []) $ join ! $ move ! (15 ∷ 0 ∷ []) $ join ! $ move ! (15 ∷ 0 ∷ []) $ join ! $ move ! (15 ∷ 0 ∷ []) $ join ! $ move ! (15 ∷ 0 ∷ []) $ join ! $ move ! (3 ∷ 1 ∷ []) $ join ! $ move ! (4 ∷ 0 ∷ []) $ join ! $ move ! (5 ∷ 0 ∷ []) $ join ! $ move ! (6 ∷ 0 ∷ []) $ join ! $ move ! (7 ∷ 0 ∷ []) $ join ! $ move ! (1 ∷ 0 ∷ []) $ join ! $
-        -- call 2
-        use1 W (raw (Callee-g2 𝓤 H A at-mem run .pre (((κ₁, (κ₂, (κ₃, (κ₄, (κ₅, (κ₆, tt)))))), (q₁, (q₂, (q₃, (q₄, (q₅, (q₆, tt)))))), tt, (n4, (n5, (s6, (n7, (n8, (s9, (n10, (n11, (s12, (n13, (n14, (s15, (n16, (n17, (s18, (n19, (n20, (s21, tt)))))))))))))))))), (u4 ∷ [], (u5 ∷ [], (v6 ∷ [], (u7 ∷ [], (u8 ∷ [], (v9 ∷ [], (u10 ∷ [], (u11 ∷ [], (v12 ∷ [], (u13 ∷ [], (u14 ∷ [], (v15 ∷ [], (u16 ∷ [], (u17 ∷ [], (v18 ∷ [], (u19 ∷ [], (u20 ∷ [], (v21 ∷ [], tt))))))))))))))))))), tt))) (qed W ((‵ (flft κ₁ q₁) ⊛ ‵ (flft κ₂ q₂) ⊛ ‵ (flft κ₃ q₃) ⊛ ‵ (flft κ₄ q₄) ⊛ ‵ (flft κ₅ q₅) ⊛ ‵ (flft κ₆ q₆) ⊛ ‵ ftrue) ∷ ‵ (ShrSlice (named 0) κ₁ mEntry.the-row .own s6 (v6 ∷ [])) ∷ ‵ (ShrSlice (named 1) κ₂ mEntry.the-row .own s9 (v9 ∷ [])) ∷ ‵ (ShrSlice (named 2) κ₃ mEntry.the-row .own s12 (v12 ∷ [])) ∷ ‵ (ShrSlice (named 3) κ₄ mEntry.the-row .own s15 (v15 ∷ [])) ∷ ‵ (ShrSlice (named 4) κ₅ mEntry.the-row .own s18 (v18 ∷ [])) ∷ ‵ (ShrSlice (named 5) κ₆ mEntry.the-row .own s21 (v21 ∷ [])) ∷ []) ∵ nothing ! $ move ! (7 ∷ 0 ∷ []) $ fjoin ! $ owned ! u64 (Is u64) (uint-makes 𝓤 H A W w64) (n20) _ w20 $ fjoin ! $ owned ! u64 (Is u64) (uint-makes 𝓤 H A W w64) (n19) _ w19 $ fjoin ! $ move ! (6 ∷ 0 ∷ []) $ fjoin ! $ owned ! u64 (Is u64) (uint-makes 𝓤 H A W w64) (n17) _ w17 $ fjoin ! $ owned ! u64 (Is u64) (uint-makes 𝓤 H A W w64) (n16) _ w16 $ fjoin ! $ move ! (5 ∷ 0 ∷ []) $ fjoin ! $ owned ! u64 (Is u64) (uint-makes 𝓤 H A W w64) (n14) _ w14 $ fjoin ! $ owned ! u64 (Is u64) (uint-makes 𝓤 H A W w64) (n13) _ w13 $ fjoin ! $ move ! (4 ∷ 0 ∷ []) $ fjoin ! $ owned ! u64 (Is u64) (uint-makes 𝓤 H A W w64) (n11) _ w11 $ fjoin ! $ owned ! u64 (Is u64) (uint-makes 𝓤 H A W w64) (n10) _ w10 $ fjoin ! $ move ! (3 ∷ 0 ∷ []) $ fjoin ! $ owned ! u64 (Is u64) (uint-makes 𝓤 H A W w64) (n8) _ w8 $ fjoin ! $ owned ! u64 (Is u64) (uint-makes 𝓤 H A W w64) (n7) _ w7 $ fjoin ! $ move ! (2 ∷ 0 ∷ []) $ fjoin ! $ owned ! u64 (Is u64) (uint-makes 𝓤 H A W w64) (n5) _ w5 $ fjoin ! $ owned ! u64 (Is u64) (uint-makes 𝓤 H A W w64) (n4) _ w4 $ fjoin ! $ move ! (1 ∷ 0 ∷ []) $ join ! $ nothing ! $ move ! (1 ∷ 0 ∷ []) $ frame ! $ done !) $
-        calls-at ! fm (Callee-g2 𝓤 H A at-mem run) known-g2 (((κ₁, (κ₂, (κ₃, (κ₄, (κ₅, (κ₆, tt)))))), (q₁, (q₂, (q₃, (q₄, (q₅, (q₆, tt)))))), tt, (n4, (n5, (s6, (n7, (n8, (s9, (n10, (n11, (s12, (n13, (n14, (s15, (n16, (n17, (s18, (n19, (n20, (s21, tt)))))))))))))))))), (u4 ∷ [], (u5 ∷ [], (v6 ∷ [], (u7 ∷ [], (u8 ∷ [], (v9 ∷ [], (u10 ∷ [], (u11 ∷ [], (v12 ∷ [], (u13 ∷ [], (u14 ∷ [], (v15 ∷ [], (u16 ∷ [], (u17 ∷ [], (v18 ∷ [], (u19 ∷ [], (u20 ∷ [], (v21 ∷ [], tt))))))))))))))))))), tt) (and-then ! (load ! (from ! (stop !)) (look ! 63 refl)) (and-then ! (load ! (from ! (stop !)) (look ! 62 refl)) (and-then ! (load ! (from ! (stop !)) (look ! 61 refl)) (and-then ! (load ! (from ! (stop !)) (look ! 60 refl)) (and-then ! (load ! (from ! (stop !)) (look ! 59 refl)) (and-then ! (load ! (from ! (stop !)) (look ! 58 refl)) (and-then ! (load ! (from ! (stop !)) (look ! 57 refl)) (and-then ! (load ! (from ! (stop !)) (look ! 56 refl)) (and-then ! (load ! (from ! (stop !)) (look ! 55 refl)) (and-then ! (load ! (from ! (stop !)) (look ! 54 refl)) (and-then ! (load ! (from ! (stop !)) (look ! 53 refl)) (and-then ! (load ! (from ! (stop !)) (look ! 52 refl)) (and-then ! (load ! (from ! (stop !)) (look ! 51 refl)) (and-then ! (load ! (from ! (stop !)) (look ! 50 refl)) (and-then ! (load ! (from ! (stop !)) (look ! 49 refl)) (and-then ! (load ! (from ! (stop !)) (look ! 48 refl)) (and-then ! (load ! (from ! (stop !)) (look ! 47 refl)) (and-then ! (load ! (from ! (stop !)) (look ! 46 refl)) (no-more !))))))))))))))))))) (λ z2.
-        use1 W (later (some (λ (r2 : Bool). ((‵ (flft κ₁ q₁) ⊛ ‵ (flft κ₂ q₂) ⊛ ‵ (flft κ₃ q₃) ⊛ ‵ (flft κ₄ q₄) ⊛ ‵ (flft κ₅ q₅) ⊛ ‵ (flft κ₆ q₆) ⊛ ‵ ftrue) ⊛ ‵ (bool .own r2 (z2 ∷ []))) ⊛ some (λ (ws : Lasts g2.ended (κ₁, (κ₂, (κ₃, (κ₄, (κ₅, (κ₆, tt)))))) (n4, (n5, (s6, (n7, (n8, (s9, (n10, (n11, (s12, (n13, (n14, (s15, (n16, (n17, (s18, (n19, (n20, (s21, tt))))))))))))))))))). ‵ (lasts g2.ended (κ₁, (κ₂, (κ₃, (κ₄, (κ₅, (κ₆, tt)))))) (n4, (n5, (s6, (n7, (n8, (s9, (n10, (n11, (s12, (n13, (n14, (s15, (n16, (n17, (s18, (n19, (n20, (s21, tt)))))))))))))))))) ws) ⊛ raw (g2.clauses 𝓤 H A at-mem run (κ₁, (κ₂, (κ₃, (κ₄, (κ₅, (κ₆, tt)))))) (n4, (n5, (s6, (n7, (n8, (s9, (n10, (n11, (s12, (n13, (n14, (s15, (n16, (n17, (s18, (n19, (n20, (s21, tt)))))))))))))))))) .ensures tt r2 (atExit g2.ended (κ₁, (κ₂, (κ₃, (κ₄, (κ₅, (κ₆, tt)))))) (n4, (n5, (s6, (n7, (n8, (s9, (n10, (n11, (s12, (n13, (n14, (s15, (n16, (n17, (s18, (n19, (n20, (s21, tt)))))))))))))))))) ws)))))) (id⊢ 𝓤 _) $ await ! tt $ pick ! (λ r2. split ! $ move ! (1 ∷ []) $ pick ! (λ ws2. split ! $ move ! (1 ∷ []) $ heard ! _ (λ e2.
-        drop ! $ split ! $ move ! (1 ∷ []) $ peeks ! bool (Is bool) (shows 𝓤 H A bool) r2 (z2 ∷ []) (λ i2. drop ! $ land ! (from ! (stop !)) (init ! 38 refl (bool-lawful 𝓤 H A W .typed r2 _ i2 .0)) $
+        use1 W (raw (Callee-g1 𝓤 H A at-mem run .pre (((κ₁, (κ₂, (κ₃, (κ₄, (κ₅, (κ₆, tt)))))), (q₁, (q₂, (q₃, (q₄, (q₅, (q₆, tt)))))), tt, (n4, (n5, (s6, (n7, (n8, (s9, (n10, (n11, (s12, (n13, (n14, (s15, (n16, (n17, (s18, (n19, (n20, (s21, tt)))))))))))))))))), (u4 ∷ [], (u5 ∷ [], (v6 ∷ [], (u7 ∷ [], (u8′ ∷ [], (v9 ∷ [], (u10 ∷ [], (u11 ∷ [], (v12 ∷ [], (u13 ∷ [], (u14 ∷ [], (v15 ∷ [], (u16′ ∷ [], (u17 ∷ [], (v18 ∷ [], (u19 ∷ [], (u20 ∷ [], (v21 ∷ [], tt))))))))))))))))))), tt))) (qed W ((‵ (flft κ₁ q₁) ⊛ ‵ (flft κ₂ q₂) ⊛ ‵ (flft κ₃ q₃) ⊛ ‵ (flft κ₄ q₄) ⊛ ‵ (flft κ₅ q₅) ⊛ ‵ (flft κ₆ q₆) ⊛ ‵ ftrue) ∷ ‵ (ShrSlice (named 0) κ₁ mEntry.the-row .own s6 (v6 ∷ [])) ∷ ‵ (ShrSlice (named 1) κ₂ mEntry.the-row .own s9 (v9 ∷ [])) ∷ ‵ (ShrSlice (named 2) κ₃ mEntry.the-row .own s12 (v12 ∷ [])) ∷ ‵ (ShrSlice (named 3) κ₄ mEntry.the-row .own s15 (v15 ∷ [])) ∷ ‵ (ShrSlice (named 4) κ₅ mEntry.the-row .own s18 (v18 ∷ [])) ∷ ‵ (ShrSlice (named 5) κ₆ mEntry.the-row .own s21 (v21 ∷ [])) ∷ []) ∵ nothing ! $ move ! (7 ∷ 0 ∷ []) $ fjoin ! $ owned ! u64 (Is u64) (uint-makes 𝓤 H A W w64) (n20) _ w20 $ fjoin ! $ owned ! u64 (Is u64) (uint-makes 𝓤 H A W w64) (n19) _ w19 $ fjoin ! $ move ! (6 ∷ 0 ∷ []) $ fjoin ! $ owned ! u64 (Is u64) (uint-makes 𝓤 H A W w64) (n17) _ w17 $ fjoin ! $ owned ! u64 (Is u64) (uint-makes 𝓤 H A W w64) (n16) _ w16′ $ fjoin ! $ move ! (5 ∷ 0 ∷ []) $ fjoin ! $ owned ! u64 (Is u64) (uint-makes 𝓤 H A W w64) (n14) _ w14 $ fjoin ! $ owned ! u64 (Is u64) (uint-makes 𝓤 H A W w64) (n13) _ w13 $ fjoin ! $ move ! (4 ∷ 0 ∷ []) $ fjoin ! $ owned ! u64 (Is u64) (uint-makes 𝓤 H A W w64) (n11) _ w11 $ fjoin ! $ owned ! u64 (Is u64) (uint-makes 𝓤 H A W w64) (n10) _ w10 $ fjoin ! $ move ! (3 ∷ 0 ∷ []) $ fjoin ! $ owned ! u64 (Is u64) (uint-makes 𝓤 H A W w64) (n8) _ w8′ $ fjoin ! $ owned ! u64 (Is u64) (uint-makes 𝓤 H A W w64) (n7) _ w7 $ fjoin ! $ move ! (2 ∷ 0 ∷ []) $ fjoin ! $ owned ! u64 (Is u64) (uint-makes 𝓤 H A W w64) (n5) _ w5 $ fjoin ! $ owned ! u64 (Is u64) (uint-makes 𝓤 H A W w64) (n4) _ w4 $ fjoin ! $ move ! (1 ∷ 0 ∷ []) $ join ! $ nothing ! $ move ! (1 ∷ 0 ∷ []) $ frame ! $ done !) $
+        calls-at ! fm (Callee-g1 𝓤 H A at-mem run) known-g1 (((κ₁, (κ₂, (κ₃, (κ₄, (κ₅, (κ₆, tt)))))), (q₁, (q₂, (q₃, (q₄, (q₅, (q₆, tt)))))), tt, (n4, (n5, (s6, (n7, (n8, (s9, (n10, (n11, (s12, (n13, (n14, (s15, (n16, (n17, (s18, (n19, (n20, (s21, tt)))))))))))))))))), (u4 ∷ [], (u5 ∷ [], (v6 ∷ [], (u7 ∷ [], (u8′ ∷ [], (v9 ∷ [], (u10 ∷ [], (u11 ∷ [], (v12 ∷ [], (u13 ∷ [], (u14 ∷ [], (v15 ∷ [], (u16′ ∷ [], (u17 ∷ [], (v18 ∷ [], (u19 ∷ [], (u20 ∷ [], (v21 ∷ [], tt))))))))))))))))))), tt) (and-then ! (load ! (from ! (stop !)) (look ! 63 refl)) (and-then ! (load ! (from ! (stop !)) (look ! 62 refl)) (and-then ! (load ! (from ! (stop !)) (look ! 61 refl)) (and-then ! (load ! (from ! (stop !)) (look ! 60 refl)) (and-then ! (load ! (from ! (stop !)) (look ! 59 refl)) (and-then ! (load ! (from ! (stop !)) (look ! 58 refl)) (and-then ! (load ! (from ! (stop !)) (look ! 57 refl)) (and-then ! (load ! (from ! (stop !)) (look ! 56 refl)) (and-then ! (load ! (from ! (stop !)) (look ! 55 refl)) (and-then ! (load ! (from ! (stop !)) (look ! 54 refl)) (and-then ! (load ! (from ! (stop !)) (look ! 53 refl)) (and-then ! (load ! (from ! (stop !)) (look ! 52 refl)) (and-then ! (load ! (from ! (stop !)) (look ! 51 refl)) (and-then ! (load ! (from ! (stop !)) (look ! 50 refl)) (and-then ! (load ! (from ! (stop !)) (look ! 49 refl)) (and-then ! (load ! (from ! (stop !)) (look ! 48 refl)) (and-then ! (load ! (from ! (stop !)) (look ! 47 refl)) (and-then ! (load ! (from ! (stop !)) (look ! 46 refl)) (no-more !))))))))))))))))))) (λ z1.
+        use1 W (later (some (λ (r1 : Bool). ((‵ (flft κ₁ q₁) ⊛ ‵ (flft κ₂ q₂) ⊛ ‵ (flft κ₃ q₃) ⊛ ‵ (flft κ₄ q₄) ⊛ ‵ (flft κ₅ q₅) ⊛ ‵ (flft κ₆ q₆) ⊛ ‵ ftrue) ⊛ ‵ (bool .own r1 (z1 ∷ []))) ⊛ some (λ (ws : Lasts g1.ended (κ₁, (κ₂, (κ₃, (κ₄, (κ₅, (κ₆, tt)))))) (n4, (n5, (s6, (n7, (n8, (s9, (n10, (n11, (s12, (n13, (n14, (s15, (n16, (n17, (s18, (n19, (n20, (s21, tt))))))))))))))))))). ‵ (lasts g1.ended (κ₁, (κ₂, (κ₃, (κ₄, (κ₅, (κ₆, tt)))))) (n4, (n5, (s6, (n7, (n8, (s9, (n10, (n11, (s12, (n13, (n14, (s15, (n16, (n17, (s18, (n19, (n20, (s21, tt)))))))))))))))))) ws) ⊛ raw (g1.clauses 𝓤 H A at-mem run (κ₁, (κ₂, (κ₃, (κ₄, (κ₅, (κ₆, tt)))))) (n4, (n5, (s6, (n7, (n8, (s9, (n10, (n11, (s12, (n13, (n14, (s15, (n16, (n17, (s18, (n19, (n20, (s21, tt)))))))))))))))))) .ensures tt r1 (atExit g1.ended (κ₁, (κ₂, (κ₃, (κ₄, (κ₅, (κ₆, tt)))))) (n4, (n5, (s6, (n7, (n8, (s9, (n10, (n11, (s12, (n13, (n14, (s15, (n16, (n17, (s18, (n19, (n20, (s21, tt)))))))))))))))))) ws)))))) (id⊢ 𝓤 _) $ await ! tt $ pick ! (λ r1. split ! $ move ! (1 ∷ []) $ pick ! (λ ws1. split ! $ move ! (1 ∷ []) $ heard ! _ (λ e1.
+        drop ! $ split ! $ move ! (1 ∷ []) $ peeks ! bool (Is bool) (shows 𝓤 H A bool) r1 (z1 ∷ []) (λ i1. drop ! $ land ! (from ! (stop !)) (init ! 38 refl (bool-lawful 𝓤 H A W .typed r1 _ i1 .0)) $
         tidy W (_ ∷ _ ∷ _ ∷ _ ∷ _ ∷ _ ∷ _ ∷ _ ∷ _ ∷ _ ∷ _ ∷ _ ∷ _ ∷ _ ∷ _ ∷ _ ∷ _ ∷ _ ∷ _ ∷ _ ∷ _ ∷ _ ∷ _ ∷ _ ∷ _ ∷ _ ∷ _ ∷ _ ∷ _ ∷ _ ∷ _ ∷ _ ∷ _ ∷ _ ∷ _ ∷ _ ∷ _ ∷ _ ∷ _ ∷ _ ∷ _ ∷ _ ∷ _ ∷ _ ∷ _ ∷ _ ∷ _ ∷ _ ∷ _ ∷ _ ∷ _ ∷ _ ∷ _ ∷ _ ∷ _ ∷ _ ∷ _ ∷ _ ∷ _ ∷ _ ∷ _ ∷ _ ∷ _ ∷ _ ∷ _ ∷ _ ∷ _ ∷ _ ∷ []) $ split ! $ move ! (1 ∷ []) $ split ! $ move ! (1 ∷ []) $ split ! $ move ! (1 ∷ []) $ split ! $ move ! (1 ∷ []) $ split ! $ move ! (1 ∷ []) $ split ! $ move ! (1 ∷ []) $ drop ! $ assigns ! (of-opd ! (load ! (from ! (fld ! refl (stop !))) (look-in ! 66 (sub ! 1 refl (whole !))))) (from ! (stop !)) (init ! 42 refl (tt, record { fits = (w6 .0 .1 .0) })) $
         assigns ! (of-opd ! (load ! (from ! (fld ! refl (stop !))) (look-in ! 63 (sub ! 1 refl (whole !))))) (from ! (stop !)) (init ! 41 refl (tt, record { fits = (w9 .0 .1 .0) })) $
         assigns ! (of-opd ! (load ! (from ! (fld ! refl (stop !))) (look-in ! 60 (sub ! 1 refl (whole !))))) (from ! (stop !)) (init ! 40 refl (tt, record { fits = (w12 .0 .1 .0) })) $
@@ -240,23 +228,23 @@ module _ {M : Type 1} (𝓤 : URA M) (H : Heap 𝓤) (A : Atoms 𝓤) (W : Given
         assigns ! (of-opd ! (load ! (from ! (fld ! refl (stop !))) (look-in ! 54 (sub ! 1 refl (whole !))))) (from ! (stop !)) (init ! 38 refl (tt, record { fits = (w18 .0 .1 .0) })) $
         assigns ! (of-opd ! (load ! (from ! (fld ! refl (stop !))) (look-in ! 51 (sub ! 1 refl (whole !))))) (from ! (stop !)) (init ! 37 refl (tt, record { fits = (w21 .0 .1 .0) })) $
         move ! (33 ∷ []) $ use1 W (‵ (O3) ⊛ ‵ (O3)) (shr-slice-copy 𝓤 H A W (named 0) κ₀ u64 .twice s3 (v3 ∷ [])) $ split ! $ move ! (22 ∷ []) $ use1 W (‵ (O22) ⊛ ‵ (O22)) (shr-slice-copy 𝓤 H A W (named 7) κ₇ u64 .twice s22 (v22 ∷ [])) $ split ! $ move ! (23 ∷ []) $ use1 W (‵ (O23) ⊛ ‵ (O23)) (shr-slice-copy 𝓤 H A W (named 8) κ₈ u64 .twice s23 (v23 ∷ [])) $ split ! $ tidy W (_ ∷ _ ∷ _ ∷ _ ∷ _ ∷ _ ∷ _ ∷ _ ∷ _ ∷ _ ∷ _ ∷ _ ∷ _ ∷ _ ∷ _ ∷ _ ∷ _ ∷ _ ∷ _ ∷ _ ∷ _ ∷ _ ∷ _ ∷ _ ∷ _ ∷ _ ∷ _ ∷ _ ∷ _ ∷ _ ∷ _ ∷ _ ∷ _ ∷ _ ∷ _ ∷ _ ∷ _ ∷ _ ∷ _ ∷ _ ∷ _ ∷ _ ∷ _ ∷ _ ∷ _ ∷ _ ∷ _ ∷ _ ∷ _ ∷ _ ∷ _ ∷ _ ∷ _ ∷ _ ∷ _ ∷ _ ∷ _ ∷ _ ∷ _ ∷ _ ∷ _ ∷ _ ∷ _ ∷ _ ∷ _ ∷ _ ∷ _ ∷ _ ∷ _ ∷ _ ∷ _ ∷ _ ∷ _ ∷ _ ∷ _ ∷ _ ∷ []) $ nothing ! $ move ! (19 ∷ 0 ∷ []) $ join ! $ move ! (19 ∷ 0 ∷ []) $ join ! $ move ! (19 ∷ 0 ∷ []) $ join ! $ move ! (3 ∷ 1 ∷ []) $ join ! $ move ! (4 ∷ 0 ∷ []) $ join ! $ move ! (1 ∷ 0 ∷ []) $ join ! $
-        -- call 3
-        use1 W (raw (Callee-g3 𝓤 H A at-mem run .pre (((κ₀, (κ₇, (κ₈, tt))), (q₀, (q₇, (q₈, tt))), tt, (n1, (n2, (s3, (n4, (n5, ((length (s6 .now)), (n7, (n8, ((length (s9 .now)), (n10, (n11, ((length (s12 .now)), (n13, (n14, ((length (s15 .now)), (n16, (n17, ((length (s18 .now)), (n19, (n20, ((length (s21 .now)), (r2, (s22, (s23, (r1, (n25, (n26, (n27, tt)))))))))))))))))))))))))))), (u1 ∷ [], (u2 ∷ [], (v3 ∷ [], (u4 ∷ [], (u5 ∷ [], ((vint w64 (length (s6 .now))) ∷ [], (u7 ∷ [], (u8 ∷ [], ((vint w64 (length (s9 .now))) ∷ [], (u10 ∷ [], (u11 ∷ [], ((vint w64 (length (s12 .now))) ∷ [], (u13 ∷ [], (u14 ∷ [], ((vint w64 (length (s15 .now))) ∷ [], (u16 ∷ [], (u17 ∷ [], ((vint w64 (length (s18 .now))) ∷ [], (u19 ∷ [], (u20 ∷ [], ((vint w64 (length (s21 .now))) ∷ [], (z2 ∷ [], (v22 ∷ [], (v23 ∷ [], (z1 ∷ [], (u25 ∷ [], (u26 ∷ [], (u27 ∷ [], tt))))))))))))))))))))))))))))), tt))) (qed W ((‵ (flft κ₀ q₀) ⊛ ‵ (flft κ₇ q₇) ⊛ ‵ (flft κ₈ q₈) ⊛ ‵ ftrue) ∷ ‵ (ShrSlice (named 0) κ₀ u64 .own s3 (v3 ∷ [])) ∷ ‵ (ShrSlice (named 1) κ₇ u64 .own s22 (v22 ∷ [])) ∷ ‵ (ShrSlice (named 2) κ₈ u64 .own s23 (v23 ∷ [])) ∷ []) ∵ nothing ! $ owned ! u64 (Is u64) (uint-makes 𝓤 H A W w64) (n27) _ w27 $ fjoin ! $ owned ! u64 (Is u64) (uint-makes 𝓤 H A W w64) (n26) _ w26 $ fjoin ! $ owned ! u64 (Is u64) (uint-makes 𝓤 H A W w64) (n25) _ w25 $ fjoin ! $ owned ! u64 (Is u64) (uint-makes 𝓤 H A W w64) (r1) _ i1 $ fjoin ! $ move ! (4 ∷ 0 ∷ []) $ fjoin ! $ move ! (3 ∷ 0 ∷ []) $ fjoin ! $ owned ! bool (Is bool) (bool-makes 𝓤 H A W) (r2) _ i2 $ fjoin ! $ owned ! u64 (Is u64) (uint-makes 𝓤 H A W w64) ((length (s21 .now))) _ (refl, (w21 .0 .1 .0)) $ fjoin ! $ owned ! u64 (Is u64) (uint-makes 𝓤 H A W w64) (n20) _ w20 $ fjoin ! $ owned ! u64 (Is u64) (uint-makes 𝓤 H A W w64) (n19) _ w19 $ fjoin ! $ owned ! u64 (Is u64) (uint-makes 𝓤 H A W w64) ((length (s18 .now))) _ (refl, (w18 .0 .1 .0)) $ fjoin ! $ owned ! u64 (Is u64) (uint-makes 𝓤 H A W w64) (n17) _ w17 $ fjoin ! $ owned ! u64 (Is u64) (uint-makes 𝓤 H A W w64) (n16) _ w16 $ fjoin ! $ owned ! u64 (Is u64) (uint-makes 𝓤 H A W w64) ((length (s15 .now))) _ (refl, (w15 .0 .1 .0)) $ fjoin ! $ owned ! u64 (Is u64) (uint-makes 𝓤 H A W w64) (n14) _ w14 $ fjoin ! $ owned ! u64 (Is u64) (uint-makes 𝓤 H A W w64) (n13) _ w13 $ fjoin ! $ owned ! u64 (Is u64) (uint-makes 𝓤 H A W w64) ((length (s12 .now))) _ (refl, (w12 .0 .1 .0)) $ fjoin ! $ owned ! u64 (Is u64) (uint-makes 𝓤 H A W w64) (n11) _ w11 $ fjoin ! $ owned ! u64 (Is u64) (uint-makes 𝓤 H A W w64) (n10) _ w10 $ fjoin ! $ owned ! u64 (Is u64) (uint-makes 𝓤 H A W w64) ((length (s9 .now))) _ (refl, (w9 .0 .1 .0)) $ fjoin ! $ owned ! u64 (Is u64) (uint-makes 𝓤 H A W w64) (n8) _ w8 $ fjoin ! $ owned ! u64 (Is u64) (uint-makes 𝓤 H A W w64) (n7) _ w7 $ fjoin ! $ owned ! u64 (Is u64) (uint-makes 𝓤 H A W w64) ((length (s6 .now))) _ (refl, (w6 .0 .1 .0)) $ fjoin ! $ owned ! u64 (Is u64) (uint-makes 𝓤 H A W w64) (n5) _ w5 $ fjoin ! $ owned ! u64 (Is u64) (uint-makes 𝓤 H A W w64) (n4) _ w4 $ fjoin ! $ move ! (2 ∷ 0 ∷ []) $ fjoin ! $ owned ! u64 (Is u64) (uint-makes 𝓤 H A W w64) (n2) _ w2 $ fjoin ! $ owned ! u64 (Is u64) (uint-makes 𝓤 H A W w64) (n1) _ w1 $ fjoin ! $ move ! (1 ∷ 0 ∷ []) $ join ! $ nothing ! $ move ! (1 ∷ 0 ∷ []) $ frame ! $ done !) $
-        calls-at ! fm (Callee-g3 𝓤 H A at-mem run) known-g3 (((κ₀, (κ₇, (κ₈, tt))), (q₀, (q₇, (q₈, tt))), tt, (n1, (n2, (s3, (n4, (n5, ((length (s6 .now)), (n7, (n8, ((length (s9 .now)), (n10, (n11, ((length (s12 .now)), (n13, (n14, ((length (s15 .now)), (n16, (n17, ((length (s18 .now)), (n19, (n20, ((length (s21 .now)), (r2, (s22, (s23, (r1, (n25, (n26, (n27, tt)))))))))))))))))))))))))))), (u1 ∷ [], (u2 ∷ [], (v3 ∷ [], (u4 ∷ [], (u5 ∷ [], ((vint w64 (length (s6 .now))) ∷ [], (u7 ∷ [], (u8 ∷ [], ((vint w64 (length (s9 .now))) ∷ [], (u10 ∷ [], (u11 ∷ [], ((vint w64 (length (s12 .now))) ∷ [], (u13 ∷ [], (u14 ∷ [], ((vint w64 (length (s15 .now))) ∷ [], (u16 ∷ [], (u17 ∷ [], ((vint w64 (length (s18 .now))) ∷ [], (u19 ∷ [], (u20 ∷ [], ((vint w64 (length (s21 .now))) ∷ [], (z2 ∷ [], (v22 ∷ [], (v23 ∷ [], (z1 ∷ [], (u25 ∷ [], (u26 ∷ [], (u27 ∷ [], tt))))))))))))))))))))))))))))), tt) (and-then ! (load ! (from ! (stop !)) (look ! 69 refl)) (and-then ! (load ! (from ! (stop !)) (look ! 68 refl)) (and-then ! (load ! (from ! (stop !)) (look ! 67 refl)) (and-then ! (load ! (from ! (stop !)) (look ! 66 refl)) (and-then ! (load ! (from ! (stop !)) (look ! 65 refl)) (and-then ! (load ! (from ! (stop !)) (look ! 40 refl)) (and-then ! (load ! (from ! (stop !)) (look ! 63 refl)) (and-then ! (load ! (from ! (stop !)) (look ! 62 refl)) (and-then ! (load ! (from ! (stop !)) (look ! 39 refl)) (and-then ! (load ! (from ! (stop !)) (look ! 60 refl)) (and-then ! (load ! (from ! (stop !)) (look ! 59 refl)) (and-then ! (load ! (from ! (stop !)) (look ! 38 refl)) (and-then ! (load ! (from ! (stop !)) (look ! 57 refl)) (and-then ! (load ! (from ! (stop !)) (look ! 56 refl)) (and-then ! (load ! (from ! (stop !)) (look ! 37 refl)) (and-then ! (load ! (from ! (stop !)) (look ! 54 refl)) (and-then ! (load ! (from ! (stop !)) (look ! 53 refl)) (and-then ! (load ! (from ! (stop !)) (look ! 36 refl)) (and-then ! (load ! (from ! (stop !)) (look ! 51 refl)) (and-then ! (load ! (from ! (stop !)) (look ! 50 refl)) (and-then ! (load ! (from ! (stop !)) (look ! 35 refl)) (and-then ! (load ! (from ! (stop !)) (look ! 41 refl)) (and-then ! (load ! (from ! (stop !)) (look ! 48 refl)) (and-then ! (load ! (from ! (stop !)) (look ! 47 refl)) (and-then ! (load ! (from ! (stop !)) (look ! 42 refl)) (and-then ! (load ! (from ! (stop !)) (look ! 45 refl)) (and-then ! (load ! (from ! (stop !)) (look ! 44 refl)) (and-then ! (load ! (from ! (stop !)) (look ! 43 refl)) (no-more !))))))))))))))))))))))))))))) (λ z3.
-        use1 W (later (some (λ (r3 : ℕ). ((‵ (flft κ₀ q₀) ⊛ ‵ (flft κ₇ q₇) ⊛ ‵ (flft κ₈ q₈) ⊛ ‵ ftrue) ⊛ ‵ (u32 .own r3 (z3 ∷ []))) ⊛ some (λ (ws : Lasts g3.ended (κ₀, (κ₇, (κ₈, tt))) (n1, (n2, (s3, (n4, (n5, ((length (s6 .now)), (n7, (n8, ((length (s9 .now)), (n10, (n11, ((length (s12 .now)), (n13, (n14, ((length (s15 .now)), (n16, (n17, ((length (s18 .now)), (n19, (n20, ((length (s21 .now)), (r2, (s22, (s23, (r1, (n25, (n26, (n27, tt))))))))))))))))))))))))))))). ‵ (lasts g3.ended (κ₀, (κ₇, (κ₈, tt))) (n1, (n2, (s3, (n4, (n5, ((length (s6 .now)), (n7, (n8, ((length (s9 .now)), (n10, (n11, ((length (s12 .now)), (n13, (n14, ((length (s15 .now)), (n16, (n17, ((length (s18 .now)), (n19, (n20, ((length (s21 .now)), (r2, (s22, (s23, (r1, (n25, (n26, (n27, tt)))))))))))))))))))))))))))) ws) ⊛ raw (g3.clauses 𝓤 H A at-mem run (κ₀, (κ₇, (κ₈, tt))) (n1, (n2, (s3, (n4, (n5, ((length (s6 .now)), (n7, (n8, ((length (s9 .now)), (n10, (n11, ((length (s12 .now)), (n13, (n14, ((length (s15 .now)), (n16, (n17, ((length (s18 .now)), (n19, (n20, ((length (s21 .now)), (r2, (s22, (s23, (r1, (n25, (n26, (n27, tt)))))))))))))))))))))))))))) .ensures tt r3 (atExit g3.ended (κ₀, (κ₇, (κ₈, tt))) (n1, (n2, (s3, (n4, (n5, ((length (s6 .now)), (n7, (n8, ((length (s9 .now)), (n10, (n11, ((length (s12 .now)), (n13, (n14, ((length (s15 .now)), (n16, (n17, ((length (s18 .now)), (n19, (n20, ((length (s21 .now)), (r2, (s22, (s23, (r1, (n25, (n26, (n27, tt)))))))))))))))))))))))))))) ws)))))) (id⊢ 𝓤 _) $ await ! tt $ pick ! (λ r3. split ! $ move ! (1 ∷ []) $ pick ! (λ ws3. split ! $ move ! (1 ∷ []) $ heard ! _ (λ e3.
-        drop ! $ split ! $ move ! (1 ∷ []) $ peeks ! u32 (Is u32) (shows 𝓤 H A u32) r3 (z3 ∷ []) (λ i3. drop ! $ land ! (from ! (stop !)) (init ! 70 refl (uint-lawful 𝓤 H A W w32 .typed r3 _ i3 .0)) $
+        -- call 2
+        use1 W (raw (Callee-g2 𝓤 H A at-mem run .pre (((κ₀, (κ₇, (κ₈, tt))), (q₀, (q₇, (q₈, tt))), tt, (n1, (n2, (s3, (n4, (n5, ((length (s6 .now)), (n7, (n8, ((length (s9 .now)), (n10, (n11, ((length (s12 .now)), (n13, (n14, ((length (s15 .now)), (n16, (n17, ((length (s18 .now)), (n19, (n20, ((length (s21 .now)), (r1, (s22, (s23, ((mTranscript.the-type .to n24 .1 .0), (n25, (n26, (n27, tt)))))))))))))))))))))))))))), (u1 ∷ [], (u2 ∷ [], (v3 ∷ [], (u4 ∷ [], (u5 ∷ [], ((vint w64 (length (s6 .now))) ∷ [], (u7 ∷ [], (u8′ ∷ [], ((vint w64 (length (s9 .now))) ∷ [], (u10 ∷ [], (u11 ∷ [], ((vint w64 (length (s12 .now))) ∷ [], (u13 ∷ [], (u14 ∷ [], ((vint w64 (length (s15 .now))) ∷ [], (u16′ ∷ [], (u17 ∷ [], ((vint w64 (length (s18 .now))) ∷ [], (u19 ∷ [], (u20 ∷ [], ((vint w64 (length (s21 .now))) ∷ [], (z1 ∷ [], (v22 ∷ [], (v23 ∷ [], (((vint w64) (mTranscript.the-type .to n24 .1 .0)) ∷ [], (u25 ∷ [], (u26 ∷ [], (u27 ∷ [], tt))))))))))))))))))))))))))))), tt))) (qed W ((‵ (flft κ₀ q₀) ⊛ ‵ (flft κ₇ q₇) ⊛ ‵ (flft κ₈ q₈) ⊛ ‵ ftrue) ∷ ‵ (ShrSlice (named 0) κ₀ u64 .own s3 (v3 ∷ [])) ∷ ‵ (ShrSlice (named 1) κ₇ u64 .own s22 (v22 ∷ [])) ∷ ‵ (ShrSlice (named 2) κ₈ u64 .own s23 (v23 ∷ [])) ∷ []) ∵ nothing ! $ owned ! u64 (Is u64) (uint-makes 𝓤 H A W w64) (n27) _ w27 $ fjoin ! $ owned ! u64 (Is u64) (uint-makes 𝓤 H A W w64) (n26) _ w26 $ fjoin ! $ owned ! u64 (Is u64) (uint-makes 𝓤 H A W w64) (n25) _ w25 $ fjoin ! $ owned ! u64 (Is u64) (uint-makes 𝓤 H A W w64) ((mTranscript.the-type .to n24 .1 .0)) _ (LL.owed mTranscript.the-type lTranscript.the-laws n24 _ (subst (Is mTranscript.the-row n24) ((LL.tells mTranscript.the-type lTranscript.the-laws) n24 _ w24) w24) .1 .0) $ fjoin ! $ move ! (4 ∷ 0 ∷ []) $ fjoin ! $ move ! (3 ∷ 0 ∷ []) $ fjoin ! $ owned ! bool (Is bool) (bool-makes 𝓤 H A W) (r1) _ i1 $ fjoin ! $ owned ! u64 (Is u64) (uint-makes 𝓤 H A W w64) ((length (s21 .now))) _ (refl, (w21 .0 .1 .0)) $ fjoin ! $ owned ! u64 (Is u64) (uint-makes 𝓤 H A W w64) (n20) _ w20 $ fjoin ! $ owned ! u64 (Is u64) (uint-makes 𝓤 H A W w64) (n19) _ w19 $ fjoin ! $ owned ! u64 (Is u64) (uint-makes 𝓤 H A W w64) ((length (s18 .now))) _ (refl, (w18 .0 .1 .0)) $ fjoin ! $ owned ! u64 (Is u64) (uint-makes 𝓤 H A W w64) (n17) _ w17 $ fjoin ! $ owned ! u64 (Is u64) (uint-makes 𝓤 H A W w64) (n16) _ w16′ $ fjoin ! $ owned ! u64 (Is u64) (uint-makes 𝓤 H A W w64) ((length (s15 .now))) _ (refl, (w15 .0 .1 .0)) $ fjoin ! $ owned ! u64 (Is u64) (uint-makes 𝓤 H A W w64) (n14) _ w14 $ fjoin ! $ owned ! u64 (Is u64) (uint-makes 𝓤 H A W w64) (n13) _ w13 $ fjoin ! $ owned ! u64 (Is u64) (uint-makes 𝓤 H A W w64) ((length (s12 .now))) _ (refl, (w12 .0 .1 .0)) $ fjoin ! $ owned ! u64 (Is u64) (uint-makes 𝓤 H A W w64) (n11) _ w11 $ fjoin ! $ owned ! u64 (Is u64) (uint-makes 𝓤 H A W w64) (n10) _ w10 $ fjoin ! $ owned ! u64 (Is u64) (uint-makes 𝓤 H A W w64) ((length (s9 .now))) _ (refl, (w9 .0 .1 .0)) $ fjoin ! $ owned ! u64 (Is u64) (uint-makes 𝓤 H A W w64) (n8) _ w8′ $ fjoin ! $ owned ! u64 (Is u64) (uint-makes 𝓤 H A W w64) (n7) _ w7 $ fjoin ! $ owned ! u64 (Is u64) (uint-makes 𝓤 H A W w64) ((length (s6 .now))) _ (refl, (w6 .0 .1 .0)) $ fjoin ! $ owned ! u64 (Is u64) (uint-makes 𝓤 H A W w64) (n5) _ w5 $ fjoin ! $ owned ! u64 (Is u64) (uint-makes 𝓤 H A W w64) (n4) _ w4 $ fjoin ! $ move ! (2 ∷ 0 ∷ []) $ fjoin ! $ owned ! u64 (Is u64) (uint-makes 𝓤 H A W w64) (n2) _ w2 $ fjoin ! $ owned ! u64 (Is u64) (uint-makes 𝓤 H A W w64) (n1) _ w1 $ fjoin ! $ move ! (1 ∷ 0 ∷ []) $ join ! $ nothing ! $ move ! (1 ∷ 0 ∷ []) $ frame ! $ done !) $
+        calls-at ! fm (Callee-g2 𝓤 H A at-mem run) known-g2 (((κ₀, (κ₇, (κ₈, tt))), (q₀, (q₇, (q₈, tt))), tt, (n1, (n2, (s3, (n4, (n5, ((length (s6 .now)), (n7, (n8, ((length (s9 .now)), (n10, (n11, ((length (s12 .now)), (n13, (n14, ((length (s15 .now)), (n16, (n17, ((length (s18 .now)), (n19, (n20, ((length (s21 .now)), (r1, (s22, (s23, ((mTranscript.the-type .to n24 .1 .0), (n25, (n26, (n27, tt)))))))))))))))))))))))))))), (u1 ∷ [], (u2 ∷ [], (v3 ∷ [], (u4 ∷ [], (u5 ∷ [], ((vint w64 (length (s6 .now))) ∷ [], (u7 ∷ [], (u8′ ∷ [], ((vint w64 (length (s9 .now))) ∷ [], (u10 ∷ [], (u11 ∷ [], ((vint w64 (length (s12 .now))) ∷ [], (u13 ∷ [], (u14 ∷ [], ((vint w64 (length (s15 .now))) ∷ [], (u16′ ∷ [], (u17 ∷ [], ((vint w64 (length (s18 .now))) ∷ [], (u19 ∷ [], (u20 ∷ [], ((vint w64 (length (s21 .now))) ∷ [], (z1 ∷ [], (v22 ∷ [], (v23 ∷ [], (((vint w64) (mTranscript.the-type .to n24 .1 .0)) ∷ [], (u25 ∷ [], (u26 ∷ [], (u27 ∷ [], tt))))))))))))))))))))))))))))), tt) (and-then ! (load ! (from ! (stop !)) (look ! 69 refl)) (and-then ! (load ! (from ! (stop !)) (look ! 68 refl)) (and-then ! (load ! (from ! (stop !)) (look ! 67 refl)) (and-then ! (load ! (from ! (stop !)) (look ! 66 refl)) (and-then ! (load ! (from ! (stop !)) (look ! 65 refl)) (and-then ! (load ! (from ! (stop !)) (look ! 40 refl)) (and-then ! (load ! (from ! (stop !)) (look ! 63 refl)) (and-then ! (load ! (from ! (stop !)) (look ! 62 refl)) (and-then ! (load ! (from ! (stop !)) (look ! 39 refl)) (and-then ! (load ! (from ! (stop !)) (look ! 60 refl)) (and-then ! (load ! (from ! (stop !)) (look ! 59 refl)) (and-then ! (load ! (from ! (stop !)) (look ! 38 refl)) (and-then ! (load ! (from ! (stop !)) (look ! 57 refl)) (and-then ! (load ! (from ! (stop !)) (look ! 56 refl)) (and-then ! (load ! (from ! (stop !)) (look ! 37 refl)) (and-then ! (load ! (from ! (stop !)) (look ! 54 refl)) (and-then ! (load ! (from ! (stop !)) (look ! 53 refl)) (and-then ! (load ! (from ! (stop !)) (look ! 36 refl)) (and-then ! (load ! (from ! (stop !)) (look ! 51 refl)) (and-then ! (load ! (from ! (stop !)) (look ! 50 refl)) (and-then ! (load ! (from ! (stop !)) (look ! 35 refl)) (and-then ! (load ! (from ! (stop !)) (look ! 41 refl)) (and-then ! (load ! (from ! (stop !)) (look ! 48 refl)) (and-then ! (load ! (from ! (stop !)) (look ! 47 refl)) (and-then ! (load ! (from ! (stop !)) (look ! 42 refl)) (and-then ! (load ! (from ! (stop !)) (look ! 45 refl)) (and-then ! (load ! (from ! (stop !)) (look ! 44 refl)) (and-then ! (load ! (from ! (stop !)) (look ! 43 refl)) (no-more !))))))))))))))))))))))))))))) (λ z2.
+        use1 W (later (some (λ (r2 : ℕ). ((‵ (flft κ₀ q₀) ⊛ ‵ (flft κ₇ q₇) ⊛ ‵ (flft κ₈ q₈) ⊛ ‵ ftrue) ⊛ ‵ (u32 .own r2 (z2 ∷ []))) ⊛ some (λ (ws : Lasts g2.ended (κ₀, (κ₇, (κ₈, tt))) (n1, (n2, (s3, (n4, (n5, ((length (s6 .now)), (n7, (n8, ((length (s9 .now)), (n10, (n11, ((length (s12 .now)), (n13, (n14, ((length (s15 .now)), (n16, (n17, ((length (s18 .now)), (n19, (n20, ((length (s21 .now)), (r1, (s22, (s23, ((mTranscript.the-type .to n24 .1 .0), (n25, (n26, (n27, tt))))))))))))))))))))))))))))). ‵ (lasts g2.ended (κ₀, (κ₇, (κ₈, tt))) (n1, (n2, (s3, (n4, (n5, ((length (s6 .now)), (n7, (n8, ((length (s9 .now)), (n10, (n11, ((length (s12 .now)), (n13, (n14, ((length (s15 .now)), (n16, (n17, ((length (s18 .now)), (n19, (n20, ((length (s21 .now)), (r1, (s22, (s23, ((mTranscript.the-type .to n24 .1 .0), (n25, (n26, (n27, tt)))))))))))))))))))))))))))) ws) ⊛ raw (g2.clauses 𝓤 H A at-mem run (κ₀, (κ₇, (κ₈, tt))) (n1, (n2, (s3, (n4, (n5, ((length (s6 .now)), (n7, (n8, ((length (s9 .now)), (n10, (n11, ((length (s12 .now)), (n13, (n14, ((length (s15 .now)), (n16, (n17, ((length (s18 .now)), (n19, (n20, ((length (s21 .now)), (r1, (s22, (s23, ((mTranscript.the-type .to n24 .1 .0), (n25, (n26, (n27, tt)))))))))))))))))))))))))))) .ensures tt r2 (atExit g2.ended (κ₀, (κ₇, (κ₈, tt))) (n1, (n2, (s3, (n4, (n5, ((length (s6 .now)), (n7, (n8, ((length (s9 .now)), (n10, (n11, ((length (s12 .now)), (n13, (n14, ((length (s15 .now)), (n16, (n17, ((length (s18 .now)), (n19, (n20, ((length (s21 .now)), (r1, (s22, (s23, ((mTranscript.the-type .to n24 .1 .0), (n25, (n26, (n27, tt)))))))))))))))))))))))))))) ws)))))) (id⊢ 𝓤 _) $ await ! tt $ pick ! (λ r2. split ! $ move ! (1 ∷ []) $ pick ! (λ ws2. split ! $ move ! (1 ∷ []) $ heard ! _ (λ e2.
+        drop ! $ split ! $ move ! (1 ∷ []) $ peeks ! u32 (Is u32) (shows 𝓤 H A u32) r2 (z2 ∷ []) (λ i2. drop ! $ land ! (from ! (stop !)) (init ! 70 refl (uint-lawful 𝓤 H A W w32 .typed r2 _ i2 .0)) $
         tidy W (_ ∷ _ ∷ _ ∷ _ ∷ _ ∷ _ ∷ _ ∷ _ ∷ _ ∷ _ ∷ _ ∷ _ ∷ _ ∷ _ ∷ _ ∷ _ ∷ _ ∷ _ ∷ _ ∷ _ ∷ _ ∷ _ ∷ _ ∷ _ ∷ _ ∷ _ ∷ _ ∷ _ ∷ _ ∷ _ ∷ _ ∷ _ ∷ _ ∷ _ ∷ _ ∷ _ ∷ _ ∷ _ ∷ _ ∷ _ ∷ _ ∷ _ ∷ _ ∷ _ ∷ _ ∷ _ ∷ _ ∷ _ ∷ _ ∷ _ ∷ _ ∷ _ ∷ _ ∷ _ ∷ _ ∷ _ ∷ _ ∷ _ ∷ _ ∷ _ ∷ _ ∷ _ ∷ _ ∷ _ ∷ _ ∷ _ ∷ _ ∷ _ ∷ _ ∷ _ ∷ _ ∷ []) $ split ! $ move ! (1 ∷ []) $ split ! $ move ! (1 ∷ []) $ split ! $ move ! (1 ∷ []) $ drop ! $ tidy W (_ ∷ _ ∷ _ ∷ _ ∷ _ ∷ _ ∷ _ ∷ _ ∷ _ ∷ _ ∷ _ ∷ _ ∷ _ ∷ _ ∷ _ ∷ _ ∷ _ ∷ _ ∷ _ ∷ _ ∷ _ ∷ _ ∷ _ ∷ _ ∷ _ ∷ _ ∷ _ ∷ _ ∷ _ ∷ _ ∷ _ ∷ _ ∷ _ ∷ _ ∷ _ ∷ _ ∷ _ ∷ _ ∷ _ ∷ _ ∷ _ ∷ _ ∷ _ ∷ _ ∷ _ ∷ _ ∷ _ ∷ _ ∷ _ ∷ _ ∷ _ ∷ _ ∷ _ ∷ _ ∷ _ ∷ _ ∷ _ ∷ _ ∷ _ ∷ _ ∷ _ ∷ _ ∷ _ ∷ _ ∷ _ ∷ _ ∷ _ ∷ _ ∷ _ ∷ _ ∷ _ ∷ _ ∷ _ ∷ []) $ returns ! (look ! 72 refl) $ move ! (36 ∷ []) $ use1 W (dies ((tyInt w32, l₀) ∷ (tyInt w64, l₁) ∷ (tyInt w64, l₂) ∷ (sliceTy (tyRef (named 0) imm (tyInt w64)), l₃) ∷ (tyInt w64, l₄) ∷ (tyInt w64, l₅) ∷ (sliceTy (tyRef (named 1) imm (pointee (mEntry.the-row .written))), l₆) ∷ (tyInt w64, l₇) ∷ (tyInt w64, l₈) ∷ (sliceTy (tyRef (named 2) imm (pointee (mEntry.the-row .written))), l₉) ∷ (tyInt w64, l₁₀) ∷ (tyInt w64, l₁₁) ∷ (sliceTy (tyRef (named 3) imm (pointee (mEntry.the-row .written))), l₁₂) ∷ (tyInt w64, l₁₃) ∷ (tyInt w64, l₁₄) ∷ (sliceTy (tyRef (named 4) imm (pointee (mEntry.the-row .written))), l₁₅) ∷ (tyInt w64, l₁₆) ∷ (tyInt w64, l₁₇) ∷ (sliceTy (tyRef (named 5) imm (pointee (mEntry.the-row .written))), l₁₈) ∷ (tyInt w64, l₁₉) ∷ (tyInt w64, l₂₀) ∷ (sliceTy (tyRef (named 6) imm (pointee (mEntry.the-row .written))), l₂₁) ∷ (sliceTy (tyRef (named 7) imm (tyInt w64)), l₂₂) ∷ (sliceTy (tyRef (named 8) imm (tyInt w64)), l₂₃) ∷ (lTranscript.mir, l₂₄) ∷ (tyInt w64, l₂₅) ∷ (tyInt w64, l₂₆) ∷ (tyInt w64, l₂₇) ∷ (tyInt w64, l₂₈) ∷ (tyBool, l₂₉) ∷ (tyInt w64, l₃₀) ∷ (tyInt w64, l₃₁) ∷ (tyInt w64, l₃₂) ∷ (tyInt w64, l₃₃) ∷ (tyInt w64, l₃₄) ∷ (tyInt w64, l₃₅) ∷ []) (‵ ftrue)) die $ free-all ! 36 ((tyInt w32, l₀) ∷ (tyInt w64, l₁) ∷ (tyInt w64, l₂) ∷ (sliceTy (tyRef (named 0) imm (tyInt w64)), l₃) ∷ (tyInt w64, l₄) ∷ (tyInt w64, l₅) ∷ (sliceTy (tyRef (named 1) imm (pointee (mEntry.the-row .written))), l₆) ∷ (tyInt w64, l₇) ∷ (tyInt w64, l₈) ∷ (sliceTy (tyRef (named 2) imm (pointee (mEntry.the-row .written))), l₉) ∷ (tyInt w64, l₁₀) ∷ (tyInt w64, l₁₁) ∷ (sliceTy (tyRef (named 3) imm (pointee (mEntry.the-row .written))), l₁₂) ∷ (tyInt w64, l₁₃) ∷ (tyInt w64, l₁₄) ∷ (sliceTy (tyRef (named 4) imm (pointee (mEntry.the-row .written))), l₁₅) ∷ (tyInt w64, l₁₆) ∷ (tyInt w64, l₁₇) ∷ (sliceTy (tyRef (named 5) imm (pointee (mEntry.the-row .written))), l₁₈) ∷ (tyInt w64, l₁₉) ∷ (tyInt w64, l₂₀) ∷ (sliceTy (tyRef (named 6) imm (pointee (mEntry.the-row .written))), l₂₁) ∷ (sliceTy (tyRef (named 7) imm (tyInt w64)), l₂₂) ∷ (sliceTy (tyRef (named 8) imm (tyInt w64)), l₂₃) ∷ (lTranscript.mir, l₂₄) ∷ (tyInt w64, l₂₅) ∷ (tyInt w64, l₂₆) ∷ (tyInt w64, l₂₇) ∷ (tyInt w64, l₂₈) ∷ (tyBool, l₂₉) ∷ (tyInt w64, l₃₀) ∷ (tyInt w64, l₃₁) ∷ (tyInt w64, l₃₂) ∷ (tyInt w64, l₃₃) ∷ (tyInt w64, l₃₄) ∷ (tyInt w64, l₃₅) ∷ []) (kept _ ∷ kept _ ∷ kept _ ∷ kept _ ∷ kept _ ∷ kept _ ∷ kept _ ∷ kept _ ∷ kept _ ∷ kept _ ∷ kept _ ∷ kept _ ∷ kept _ ∷ kept _ ∷ kept _ ∷ kept _ ∷ kept _ ∷ kept _ ∷ kept _ ∷ kept _ ∷ kept _ ∷ kept _ ∷ kept _ ∷ kept _ ∷ kept _ ∷ kept _ ∷ kept _ ∷ kept _ ∷ kept _ ∷ kept _ ∷ kept _ ∷ kept _ ∷ kept _ ∷ kept _ ∷ kept _ ∷ kept _ ∷ []) refl $
-        suffices ! _ (ends-at 𝓤 H A f.ended stayed (f.clauses 𝓤 H A at-mem run) W (((κ₀, (κ₁, (κ₂, (κ₃, (κ₄, (κ₅, (κ₆, (κ₇, (κ₈, tt))))))))), (q₀, (q₁, (q₂, (q₃, (q₄, (q₅, (q₆, (q₇, (q₈, tt))))))))), tt, a, at), tt) z3 r3 (tt, (tt, (tt, (tt, (tt, (tt, (tt, (tt, (tt, (tt, (tt, (tt, (tt, (tt, (tt, (tt, (tt, (tt, (tt, (tt, (tt, (tt, (tt, (tt, (tt, (tt, (tt, tt))))))))))))))))))))))))))) (tt, (tt, (tt, (tt, (tt, (tt, (tt, (tt, (tt, (tt, (tt, (tt, (tt, (tt, (tt, (tt, (tt, (tt, (tt, (tt, (tt, (tt, (tt, (tt, (tt, (tt, (tt, tt)))))))))))))))))))))))))))) $ says ! (prove-refused n4 n5 (s6 .now) n7 n8 (s9 .now) n10 n11 (s12 .now) n13 n14 (s15 .now) n16 n17 (s18 .now) n19 n20 (s21 .now) n1 n2 (s3 .now) (s22 .now) (s23 .now) (n24 .«squeeze_ctr») r1 n25 n26 n27 r2 r3 e1 e2 e3) $
-        nothing ! $ move ! (1 ∷ 0 ∷ []) $ join ! $ move ! (1 ∷ 0 ∷ []) $ join ! $ move ! (5 ∷ 0 ∷ []) $ join ! $ move ! (5 ∷ 0 ∷ []) $ join ! $ move ! (5 ∷ 0 ∷ []) $ join ! $ move ! (5 ∷ 0 ∷ []) $ join ! $ move ! (5 ∷ 0 ∷ []) $ join ! $ move ! (5 ∷ 0 ∷ []) $ join ! $ move ! (1 ∷ 0 ∷ []) $ join ! $ nothing ! $ move ! (11 ∷ 0 ∷ []) $ fjoin ! $ move ! (11 ∷ 0 ∷ []) $ fjoin ! $ move ! (11 ∷ 0 ∷ []) $ fjoin ! $ move ! (11 ∷ 0 ∷ []) $ fjoin ! $ move ! (2 ∷ 0 ∷ []) $ fjoin ! $ move ! (2 ∷ 0 ∷ []) $ fjoin ! $ move ! (3 ∷ 0 ∷ []) $ fjoin ! $ move ! (8 ∷ 0 ∷ []) $ fjoin ! $ move ! (8 ∷ 0 ∷ []) $ fjoin ! $ move ! (3 ∷ 0 ∷ []) $ fjoin ! $ move ! (7 ∷ 0 ∷ []) $ fjoin ! $ move ! (7 ∷ 0 ∷ []) $ fjoin ! $ move ! (3 ∷ 0 ∷ []) $ fjoin ! $ move ! (6 ∷ 0 ∷ []) $ fjoin ! $ move ! (6 ∷ 0 ∷ []) $ fjoin ! $ move ! (3 ∷ 0 ∷ []) $ fjoin ! $ move ! (5 ∷ 0 ∷ []) $ fjoin ! $ move ! (5 ∷ 0 ∷ []) $ fjoin ! $ move ! (3 ∷ 0 ∷ []) $ fjoin ! $ move ! (4 ∷ 0 ∷ []) $ fjoin ! $ move ! (4 ∷ 0 ∷ []) $ fjoin ! $ move ! (3 ∷ 0 ∷ []) $ fjoin ! $ move ! (3 ∷ 0 ∷ []) $ fjoin ! $ move ! (3 ∷ 0 ∷ []) $ fjoin ! $ move ! (2 ∷ 0 ∷ []) $ fjoin ! $ move ! (2 ∷ 0 ∷ []) $ fjoin ! $ move ! (2 ∷ 0 ∷ []) $ fjoin ! $ keep ! (1 ∷ 0 ∷ []) $ frame ! $ frame ! $ owned ! u32 (Is u32) (uint-makes 𝓤 H A W w32) r3 _ i3 $ done !))))))))))))))))))))))))))))))))))))))))))))))))))))
+        suffices ! _ (ends-at 𝓤 H A f.ended stayed (f.clauses 𝓤 H A at-mem run) W (((κ₀, (κ₁, (κ₂, (κ₃, (κ₄, (κ₅, (κ₆, (κ₇, (κ₈, tt))))))))), (q₀, (q₁, (q₂, (q₃, (q₄, (q₅, (q₆, (q₇, (q₈, tt))))))))), tt, a, at), tt) z2 r2 (tt, (tt, (tt, (tt, (tt, (tt, (tt, (tt, (tt, (tt, (tt, (tt, (tt, (tt, (tt, (tt, (tt, (tt, (tt, (tt, (tt, (tt, (tt, (tt, (tt, (tt, (tt, tt))))))))))))))))))))))))))) (tt, (tt, (tt, (tt, (tt, (tt, (tt, (tt, (tt, (tt, (tt, (tt, (tt, (tt, (tt, (tt, (tt, (tt, (tt, (tt, (tt, (tt, (tt, (tt, (tt, (tt, (tt, tt)))))))))))))))))))))))))))) $ says ! (prove-refused n4 n5 (s6 .now) n7 n8 (s9 .now) n10 n11 (s12 .now) n13 n14 (s15 .now) n16 n17 (s18 .now) n19 n20 (s21 .now) n1 n2 (s3 .now) (s22 .now) (s23 .now) (n24 .«squeeze_ctr») n25 n26 n27 r1 r2 e1 e2) $
+        nothing ! $ move ! (1 ∷ 0 ∷ []) $ join ! $ move ! (1 ∷ 0 ∷ []) $ join ! $ move ! (5 ∷ 0 ∷ []) $ join ! $ move ! (5 ∷ 0 ∷ []) $ join ! $ move ! (5 ∷ 0 ∷ []) $ join ! $ move ! (5 ∷ 0 ∷ []) $ join ! $ move ! (5 ∷ 0 ∷ []) $ join ! $ move ! (5 ∷ 0 ∷ []) $ join ! $ move ! (1 ∷ 0 ∷ []) $ join ! $ nothing ! $ move ! (11 ∷ 0 ∷ []) $ fjoin ! $ move ! (11 ∷ 0 ∷ []) $ fjoin ! $ move ! (11 ∷ 0 ∷ []) $ fjoin ! $ move ! (11 ∷ 0 ∷ []) $ fjoin ! $ move ! (2 ∷ 0 ∷ []) $ fjoin ! $ move ! (2 ∷ 0 ∷ []) $ fjoin ! $ move ! (3 ∷ 0 ∷ []) $ fjoin ! $ move ! (8 ∷ 0 ∷ []) $ fjoin ! $ move ! (8 ∷ 0 ∷ []) $ fjoin ! $ move ! (3 ∷ 0 ∷ []) $ fjoin ! $ move ! (7 ∷ 0 ∷ []) $ fjoin ! $ move ! (7 ∷ 0 ∷ []) $ fjoin ! $ move ! (3 ∷ 0 ∷ []) $ fjoin ! $ move ! (6 ∷ 0 ∷ []) $ fjoin ! $ move ! (6 ∷ 0 ∷ []) $ fjoin ! $ move ! (3 ∷ 0 ∷ []) $ fjoin ! $ move ! (5 ∷ 0 ∷ []) $ fjoin ! $ move ! (5 ∷ 0 ∷ []) $ fjoin ! $ move ! (3 ∷ 0 ∷ []) $ fjoin ! $ move ! (4 ∷ 0 ∷ []) $ fjoin ! $ move ! (4 ∷ 0 ∷ []) $ fjoin ! $ move ! (3 ∷ 0 ∷ []) $ fjoin ! $ move ! (3 ∷ 0 ∷ []) $ fjoin ! $ move ! (3 ∷ 0 ∷ []) $ fjoin ! $ move ! (2 ∷ 0 ∷ []) $ fjoin ! $ move ! (2 ∷ 0 ∷ []) $ fjoin ! $ move ! (2 ∷ 0 ∷ []) $ fjoin ! $ keep ! (1 ∷ 0 ∷ []) $ frame ! $ frame ! $ owned ! u32 (Is u32) (uint-makes 𝓤 H A W w32) r2 _ i2 $ done !)))))))))))))))))))))))))))))))))))))))))))))))
 
 module _ {M : Type 1} (𝓤 : URA M) (H : Heap 𝓤) (A : Atoms 𝓤) (W : Given 𝓤 H A) (mem : Memory → SProp 𝓤) (run : Routine → Fun 𝓤) where
-  walks : (C : Calls 𝓤 H) (Λ : Loops 𝓤 H) → FmC 𝓤 H (W .laws) C → Triple 𝓤 (C #g1) (Callee-g1 𝓤 H A mem run) → Triple 𝓤 (C #g2) (Callee-g2 𝓤 H A mem run) → Triple 𝓤 (C #g3) (Callee-g3 𝓤 H A mem run) → Walks 𝓤 H A f.ended stayed (WpFn 𝓤 H C Λ code.function) (f.clauses 𝓤 H A mem run)
-  walks C Λ fm known-g1 known-g2 known-g3 = walked 𝓤 H A f.ended stayed (f.clauses 𝓤 H A mem run) (WpFn 𝓤 H C Λ code.function) (λ κs. ((uint-vals w64), ((uint-vals w64), (slice-vals, ((uint-vals w64), ((uint-vals w64), (slice-vals, ((uint-vals w64), ((uint-vals w64), (slice-vals, ((uint-vals w64), ((uint-vals w64), (slice-vals, ((uint-vals w64), ((uint-vals w64), (slice-vals, ((uint-vals w64), ((uint-vals w64), (slice-vals, ((uint-vals w64), ((uint-vals w64), (slice-vals, (slice-vals, (slice-vals, ((LL.vals mTranscript.the-type lTranscript.the-laws), ((uint-vals w64), ((uint-vals w64), ((uint-vals w64), tt)))))))))))))))))))))))))))) (λ κs. ((uint-tells w64), ((uint-tells w64), (shr-slice-tells (named 0) (κs .0) u64, ((uint-tells w64), ((uint-tells w64), (shr-slice-tells (named 1) (κs .1 .0) mEntry.the-row, ((uint-tells w64), ((uint-tells w64), (shr-slice-tells (named 2) (κs .1 .1 .0) mEntry.the-row, ((uint-tells w64), ((uint-tells w64), (shr-slice-tells (named 3) (κs .1 .1 .1 .0) mEntry.the-row, ((uint-tells w64), ((uint-tells w64), (shr-slice-tells (named 4) (κs .1 .1 .1 .1 .0) mEntry.the-row, ((uint-tells w64), ((uint-tells w64), (shr-slice-tells (named 5) (κs .1 .1 .1 .1 .1 .0) mEntry.the-row, ((uint-tells w64), ((uint-tells w64), (shr-slice-tells (named 6) (κs .1 .1 .1 .1 .1 .1 .0) mEntry.the-row, (shr-slice-tells (named 7) (κs .1 .1 .1 .1 .1 .1 .1 .0) u64, (shr-slice-tells (named 8) (κs .1 .1 .1 .1 .1 .1 .1 .1 .0) u64, ((LL.tells mTranscript.the-type lTranscript.the-laws), ((uint-tells w64), ((uint-tells w64), ((uint-tells w64), tt))))))))))))))))))))))))))))
-      (λ κs qs bounds a g are. via 𝓤 _ (fst∗ 𝓤 _ (emp 𝓤)) (walk 𝓤 H A W mem run (κs .0) (κs .1 .0) (κs .1 .1 .0) (κs .1 .1 .1 .0) (κs .1 .1 .1 .1 .0) (κs .1 .1 .1 .1 .1 .0) (κs .1 .1 .1 .1 .1 .1 .0) (κs .1 .1 .1 .1 .1 .1 .1 .0) (κs .1 .1 .1 .1 .1 .1 .1 .1 .0) (qs .0) (qs .1 .0) (qs .1 .1 .0) (qs .1 .1 .1 .0) (qs .1 .1 .1 .1 .0) (qs .1 .1 .1 .1 .1 .0) (qs .1 .1 .1 .1 .1 .1 .0) (qs .1 .1 .1 .1 .1 .1 .1 .0) (qs .1 .1 .1 .1 .1 .1 .1 .1 .0) (a .0) (only ((uint-vals w64) (a .0))) (a .1 .0) (only ((uint-vals w64) (a .1 .0))) (a .1 .1 .0) (a .1 .1 .1 .0) (only ((uint-vals w64) (a .1 .1 .1 .0))) (a .1 .1 .1 .1 .0) (only ((uint-vals w64) (a .1 .1 .1 .1 .0))) (a .1 .1 .1 .1 .1 .0) (a .1 .1 .1 .1 .1 .1 .0) (only ((uint-vals w64) (a .1 .1 .1 .1 .1 .1 .0))) (a .1 .1 .1 .1 .1 .1 .1 .0) (only ((uint-vals w64) (a .1 .1 .1 .1 .1 .1 .1 .0))) (a .1 .1 .1 .1 .1 .1 .1 .1 .0) (a .1 .1 .1 .1 .1 .1 .1 .1 .1 .0) (only ((uint-vals w64) (a .1 .1 .1 .1 .1 .1 .1 .1 .1 .0))) (a .1 .1 .1 .1 .1 .1 .1 .1 .1 .1 .0) (only ((uint-vals w64) (a .1 .1 .1 .1 .1 .1 .1 .1 .1 .1 .0))) (a .1 .1 .1 .1 .1 .1 .1 .1 .1 .1 .1 .0) (a .1 .1 .1 .1 .1 .1 .1 .1 .1 .1 .1 .1 .0) (only ((uint-vals w64) (a .1 .1 .1 .1 .1 .1 .1 .1 .1 .1 .1 .1 .0))) (a .1 .1 .1 .1 .1 .1 .1 .1 .1 .1 .1 .1 .1 .0) (only ((uint-vals w64) (a .1 .1 .1 .1 .1 .1 .1 .1 .1 .1 .1 .1 .1 .0))) (a .1 .1 .1 .1 .1 .1 .1 .1 .1 .1 .1 .1 .1 .1 .0) (a .1 .1 .1 .1 .1 .1 .1 .1 .1 .1 .1 .1 .1 .1 .1 .0) (only ((uint-vals w64) (a .1 .1 .1 .1 .1 .1 .1 .1 .1 .1 .1 .1 .1 .1 .1 .0))) (a .1 .1 .1 .1 .1 .1 .1 .1 .1 .1 .1 .1 .1 .1 .1 .1 .0) (only ((uint-vals w64) (a .1 .1 .1 .1 .1 .1 .1 .1 .1 .1 .1 .1 .1 .1 .1 .1 .0))) (a .1 .1 .1 .1 .1 .1 .1 .1 .1 .1 .1 .1 .1 .1 .1 .1 .1 .0) (a .1 .1 .1 .1 .1 .1 .1 .1 .1 .1 .1 .1 .1 .1 .1 .1 .1 .1 .0) (only ((uint-vals w64) (a .1 .1 .1 .1 .1 .1 .1 .1 .1 .1 .1 .1 .1 .1 .1 .1 .1 .1 .0))) (a .1 .1 .1 .1 .1 .1 .1 .1 .1 .1 .1 .1 .1 .1 .1 .1 .1 .1 .1 .0) (only ((uint-vals w64) (a .1 .1 .1 .1 .1 .1 .1 .1 .1 .1 .1 .1 .1 .1 .1 .1 .1 .1 .1 .0))) (a .1 .1 .1 .1 .1 .1 .1 .1 .1 .1 .1 .1 .1 .1 .1 .1 .1 .1 .1 .1 .0) (a .1 .1 .1 .1 .1 .1 .1 .1 .1 .1 .1 .1 .1 .1 .1 .1 .1 .1 .1 .1 .1 .0) (a .1 .1 .1 .1 .1 .1 .1 .1 .1 .1 .1 .1 .1 .1 .1 .1 .1 .1 .1 .1 .1 .1 .0) (a .1 .1 .1 .1 .1 .1 .1 .1 .1 .1 .1 .1 .1 .1 .1 .1 .1 .1 .1 .1 .1 .1 .1 .0) (only ((LL.vals mTranscript.the-type lTranscript.the-laws) (a .1 .1 .1 .1 .1 .1 .1 .1 .1 .1 .1 .1 .1 .1 .1 .1 .1 .1 .1 .1 .1 .1 .1 .0))) (a .1 .1 .1 .1 .1 .1 .1 .1 .1 .1 .1 .1 .1 .1 .1 .1 .1 .1 .1 .1 .1 .1 .1 .1 .0) (only ((uint-vals w64) (a .1 .1 .1 .1 .1 .1 .1 .1 .1 .1 .1 .1 .1 .1 .1 .1 .1 .1 .1 .1 .1 .1 .1 .1 .0))) (a .1 .1 .1 .1 .1 .1 .1 .1 .1 .1 .1 .1 .1 .1 .1 .1 .1 .1 .1 .1 .1 .1 .1 .1 .1 .0) (only ((uint-vals w64) (a .1 .1 .1 .1 .1 .1 .1 .1 .1 .1 .1 .1 .1 .1 .1 .1 .1 .1 .1 .1 .1 .1 .1 .1 .1 .0))) (a .1 .1 .1 .1 .1 .1 .1 .1 .1 .1 .1 .1 .1 .1 .1 .1 .1 .1 .1 .1 .1 .1 .1 .1 .1 .1 .0) (only ((uint-vals w64) (a .1 .1 .1 .1 .1 .1 .1 .1 .1 .1 .1 .1 .1 .1 .1 .1 .1 .1 .1 .1 .1 .1 .1 .1 .1 .1 .0))) C Λ fm known-g1 known-g2 known-g3 (are .0) (are .1 .0) (are .1 .1 .0) (are .1 .1 .1 .0) (are .1 .1 .1 .1 .0) (are .1 .1 .1 .1 .1 .0) (are .1 .1 .1 .1 .1 .1 .0) (are .1 .1 .1 .1 .1 .1 .1 .0) (are .1 .1 .1 .1 .1 .1 .1 .1 .0) (are .1 .1 .1 .1 .1 .1 .1 .1 .1 .0) (are .1 .1 .1 .1 .1 .1 .1 .1 .1 .1 .0) (are .1 .1 .1 .1 .1 .1 .1 .1 .1 .1 .1 .0) (are .1 .1 .1 .1 .1 .1 .1 .1 .1 .1 .1 .1 .0) (are .1 .1 .1 .1 .1 .1 .1 .1 .1 .1 .1 .1 .1 .0) (are .1 .1 .1 .1 .1 .1 .1 .1 .1 .1 .1 .1 .1 .1 .0) (are .1 .1 .1 .1 .1 .1 .1 .1 .1 .1 .1 .1 .1 .1 .1 .0) (are .1 .1 .1 .1 .1 .1 .1 .1 .1 .1 .1 .1 .1 .1 .1 .1 .0) (are .1 .1 .1 .1 .1 .1 .1 .1 .1 .1 .1 .1 .1 .1 .1 .1 .1 .0) (are .1 .1 .1 .1 .1 .1 .1 .1 .1 .1 .1 .1 .1 .1 .1 .1 .1 .1 .0) (are .1 .1 .1 .1 .1 .1 .1 .1 .1 .1 .1 .1 .1 .1 .1 .1 .1 .1 .1 .0) (are .1 .1 .1 .1 .1 .1 .1 .1 .1 .1 .1 .1 .1 .1 .1 .1 .1 .1 .1 .1 .0) (are .1 .1 .1 .1 .1 .1 .1 .1 .1 .1 .1 .1 .1 .1 .1 .1 .1 .1 .1 .1 .1 .0) (are .1 .1 .1 .1 .1 .1 .1 .1 .1 .1 .1 .1 .1 .1 .1 .1 .1 .1 .1 .1 .1 .1 .0) (are .1 .1 .1 .1 .1 .1 .1 .1 .1 .1 .1 .1 .1 .1 .1 .1 .1 .1 .1 .1 .1 .1 .1 .0) (are .1 .1 .1 .1 .1 .1 .1 .1 .1 .1 .1 .1 .1 .1 .1 .1 .1 .1 .1 .1 .1 .1 .1 .1 .0) (are .1 .1 .1 .1 .1 .1 .1 .1 .1 .1 .1 .1 .1 .1 .1 .1 .1 .1 .1 .1 .1 .1 .1 .1 .1 .0) (are .1 .1 .1 .1 .1 .1 .1 .1 .1 .1 .1 .1 .1 .1 .1 .1 .1 .1 .1 .1 .1 .1 .1 .1 .1 .1 .0)))
+  walks : (C : Calls 𝓤 H) (Λ : Loops 𝓤 H) → FmC 𝓤 H (W .laws) C → Triple 𝓤 (C #g1) (Callee-g1 𝓤 H A mem run) → Triple 𝓤 (C #g2) (Callee-g2 𝓤 H A mem run) → Walks 𝓤 H A f.ended stayed (WpFn 𝓤 H C Λ code.function) (f.clauses 𝓤 H A mem run)
+  walks C Λ fm known-g1 known-g2 = walked 𝓤 H A f.ended stayed (f.clauses 𝓤 H A mem run) (WpFn 𝓤 H C Λ code.function) (λ κs. ((uint-vals w64), ((uint-vals w64), (slice-vals, ((uint-vals w64), ((uint-vals w64), (slice-vals, ((uint-vals w64), ((uint-vals w64), (slice-vals, ((uint-vals w64), ((uint-vals w64), (slice-vals, ((uint-vals w64), ((uint-vals w64), (slice-vals, ((uint-vals w64), ((uint-vals w64), (slice-vals, ((uint-vals w64), ((uint-vals w64), (slice-vals, (slice-vals, (slice-vals, ((LL.vals mTranscript.the-type lTranscript.the-laws), ((uint-vals w64), ((uint-vals w64), ((uint-vals w64), tt)))))))))))))))))))))))))))) (λ κs. ((uint-tells w64), ((uint-tells w64), (shr-slice-tells (named 0) (κs .0) u64, ((uint-tells w64), ((uint-tells w64), (shr-slice-tells (named 1) (κs .1 .0) mEntry.the-row, ((uint-tells w64), ((uint-tells w64), (shr-slice-tells (named 2) (κs .1 .1 .0) mEntry.the-row, ((uint-tells w64), ((uint-tells w64), (shr-slice-tells (named 3) (κs .1 .1 .1 .0) mEntry.the-row, ((uint-tells w64), ((uint-tells w64), (shr-slice-tells (named 4) (κs .1 .1 .1 .1 .0) mEntry.the-row, ((uint-tells w64), ((uint-tells w64), (shr-slice-tells (named 5) (κs .1 .1 .1 .1 .1 .0) mEntry.the-row, ((uint-tells w64), ((uint-tells w64), (shr-slice-tells (named 6) (κs .1 .1 .1 .1 .1 .1 .0) mEntry.the-row, (shr-slice-tells (named 7) (κs .1 .1 .1 .1 .1 .1 .1 .0) u64, (shr-slice-tells (named 8) (κs .1 .1 .1 .1 .1 .1 .1 .1 .0) u64, ((LL.tells mTranscript.the-type lTranscript.the-laws), ((uint-tells w64), ((uint-tells w64), ((uint-tells w64), tt))))))))))))))))))))))))))))
+      (λ κs qs bounds a g are. via 𝓤 _ (fst∗ 𝓤 _ (emp 𝓤)) (walk 𝓤 H A W mem run (κs .0) (κs .1 .0) (κs .1 .1 .0) (κs .1 .1 .1 .0) (κs .1 .1 .1 .1 .0) (κs .1 .1 .1 .1 .1 .0) (κs .1 .1 .1 .1 .1 .1 .0) (κs .1 .1 .1 .1 .1 .1 .1 .0) (κs .1 .1 .1 .1 .1 .1 .1 .1 .0) (qs .0) (qs .1 .0) (qs .1 .1 .0) (qs .1 .1 .1 .0) (qs .1 .1 .1 .1 .0) (qs .1 .1 .1 .1 .1 .0) (qs .1 .1 .1 .1 .1 .1 .0) (qs .1 .1 .1 .1 .1 .1 .1 .0) (qs .1 .1 .1 .1 .1 .1 .1 .1 .0) (a .0) (only ((uint-vals w64) (a .0))) (a .1 .0) (only ((uint-vals w64) (a .1 .0))) (a .1 .1 .0) (a .1 .1 .1 .0) (only ((uint-vals w64) (a .1 .1 .1 .0))) (a .1 .1 .1 .1 .0) (only ((uint-vals w64) (a .1 .1 .1 .1 .0))) (a .1 .1 .1 .1 .1 .0) (a .1 .1 .1 .1 .1 .1 .0) (only ((uint-vals w64) (a .1 .1 .1 .1 .1 .1 .0))) (a .1 .1 .1 .1 .1 .1 .1 .0) (only ((uint-vals w64) (a .1 .1 .1 .1 .1 .1 .1 .0))) (a .1 .1 .1 .1 .1 .1 .1 .1 .0) (a .1 .1 .1 .1 .1 .1 .1 .1 .1 .0) (only ((uint-vals w64) (a .1 .1 .1 .1 .1 .1 .1 .1 .1 .0))) (a .1 .1 .1 .1 .1 .1 .1 .1 .1 .1 .0) (only ((uint-vals w64) (a .1 .1 .1 .1 .1 .1 .1 .1 .1 .1 .0))) (a .1 .1 .1 .1 .1 .1 .1 .1 .1 .1 .1 .0) (a .1 .1 .1 .1 .1 .1 .1 .1 .1 .1 .1 .1 .0) (only ((uint-vals w64) (a .1 .1 .1 .1 .1 .1 .1 .1 .1 .1 .1 .1 .0))) (a .1 .1 .1 .1 .1 .1 .1 .1 .1 .1 .1 .1 .1 .0) (only ((uint-vals w64) (a .1 .1 .1 .1 .1 .1 .1 .1 .1 .1 .1 .1 .1 .0))) (a .1 .1 .1 .1 .1 .1 .1 .1 .1 .1 .1 .1 .1 .1 .0) (a .1 .1 .1 .1 .1 .1 .1 .1 .1 .1 .1 .1 .1 .1 .1 .0) (only ((uint-vals w64) (a .1 .1 .1 .1 .1 .1 .1 .1 .1 .1 .1 .1 .1 .1 .1 .0))) (a .1 .1 .1 .1 .1 .1 .1 .1 .1 .1 .1 .1 .1 .1 .1 .1 .0) (only ((uint-vals w64) (a .1 .1 .1 .1 .1 .1 .1 .1 .1 .1 .1 .1 .1 .1 .1 .1 .0))) (a .1 .1 .1 .1 .1 .1 .1 .1 .1 .1 .1 .1 .1 .1 .1 .1 .1 .0) (a .1 .1 .1 .1 .1 .1 .1 .1 .1 .1 .1 .1 .1 .1 .1 .1 .1 .1 .0) (only ((uint-vals w64) (a .1 .1 .1 .1 .1 .1 .1 .1 .1 .1 .1 .1 .1 .1 .1 .1 .1 .1 .0))) (a .1 .1 .1 .1 .1 .1 .1 .1 .1 .1 .1 .1 .1 .1 .1 .1 .1 .1 .1 .0) (only ((uint-vals w64) (a .1 .1 .1 .1 .1 .1 .1 .1 .1 .1 .1 .1 .1 .1 .1 .1 .1 .1 .1 .0))) (a .1 .1 .1 .1 .1 .1 .1 .1 .1 .1 .1 .1 .1 .1 .1 .1 .1 .1 .1 .1 .0) (a .1 .1 .1 .1 .1 .1 .1 .1 .1 .1 .1 .1 .1 .1 .1 .1 .1 .1 .1 .1 .1 .0) (a .1 .1 .1 .1 .1 .1 .1 .1 .1 .1 .1 .1 .1 .1 .1 .1 .1 .1 .1 .1 .1 .1 .0) (a .1 .1 .1 .1 .1 .1 .1 .1 .1 .1 .1 .1 .1 .1 .1 .1 .1 .1 .1 .1 .1 .1 .1 .0) (only ((LL.vals mTranscript.the-type lTranscript.the-laws) (a .1 .1 .1 .1 .1 .1 .1 .1 .1 .1 .1 .1 .1 .1 .1 .1 .1 .1 .1 .1 .1 .1 .1 .0))) (a .1 .1 .1 .1 .1 .1 .1 .1 .1 .1 .1 .1 .1 .1 .1 .1 .1 .1 .1 .1 .1 .1 .1 .1 .0) (only ((uint-vals w64) (a .1 .1 .1 .1 .1 .1 .1 .1 .1 .1 .1 .1 .1 .1 .1 .1 .1 .1 .1 .1 .1 .1 .1 .1 .0))) (a .1 .1 .1 .1 .1 .1 .1 .1 .1 .1 .1 .1 .1 .1 .1 .1 .1 .1 .1 .1 .1 .1 .1 .1 .1 .0) (only ((uint-vals w64) (a .1 .1 .1 .1 .1 .1 .1 .1 .1 .1 .1 .1 .1 .1 .1 .1 .1 .1 .1 .1 .1 .1 .1 .1 .1 .0))) (a .1 .1 .1 .1 .1 .1 .1 .1 .1 .1 .1 .1 .1 .1 .1 .1 .1 .1 .1 .1 .1 .1 .1 .1 .1 .1 .0) (only ((uint-vals w64) (a .1 .1 .1 .1 .1 .1 .1 .1 .1 .1 .1 .1 .1 .1 .1 .1 .1 .1 .1 .1 .1 .1 .1 .1 .1 .1 .0))) C Λ fm known-g1 known-g2 (are .0) (are .1 .0) (are .1 .1 .0) (are .1 .1 .1 .0) (are .1 .1 .1 .1 .0) (are .1 .1 .1 .1 .1 .0) (are .1 .1 .1 .1 .1 .1 .0) (are .1 .1 .1 .1 .1 .1 .1 .0) (are .1 .1 .1 .1 .1 .1 .1 .1 .0) (are .1 .1 .1 .1 .1 .1 .1 .1 .1 .0) (are .1 .1 .1 .1 .1 .1 .1 .1 .1 .1 .0) (are .1 .1 .1 .1 .1 .1 .1 .1 .1 .1 .1 .0) (are .1 .1 .1 .1 .1 .1 .1 .1 .1 .1 .1 .1 .0) (are .1 .1 .1 .1 .1 .1 .1 .1 .1 .1 .1 .1 .1 .0) (are .1 .1 .1 .1 .1 .1 .1 .1 .1 .1 .1 .1 .1 .1 .0) (are .1 .1 .1 .1 .1 .1 .1 .1 .1 .1 .1 .1 .1 .1 .1 .0) (are .1 .1 .1 .1 .1 .1 .1 .1 .1 .1 .1 .1 .1 .1 .1 .1 .0) (are .1 .1 .1 .1 .1 .1 .1 .1 .1 .1 .1 .1 .1 .1 .1 .1 .1 .0) (are .1 .1 .1 .1 .1 .1 .1 .1 .1 .1 .1 .1 .1 .1 .1 .1 .1 .1 .0) (are .1 .1 .1 .1 .1 .1 .1 .1 .1 .1 .1 .1 .1 .1 .1 .1 .1 .1 .1 .0) (are .1 .1 .1 .1 .1 .1 .1 .1 .1 .1 .1 .1 .1 .1 .1 .1 .1 .1 .1 .1 .0) (are .1 .1 .1 .1 .1 .1 .1 .1 .1 .1 .1 .1 .1 .1 .1 .1 .1 .1 .1 .1 .1 .0) (are .1 .1 .1 .1 .1 .1 .1 .1 .1 .1 .1 .1 .1 .1 .1 .1 .1 .1 .1 .1 .1 .1 .0) (are .1 .1 .1 .1 .1 .1 .1 .1 .1 .1 .1 .1 .1 .1 .1 .1 .1 .1 .1 .1 .1 .1 .1 .0) (are .1 .1 .1 .1 .1 .1 .1 .1 .1 .1 .1 .1 .1 .1 .1 .1 .1 .1 .1 .1 .1 .1 .1 .1 .0) (are .1 .1 .1 .1 .1 .1 .1 .1 .1 .1 .1 .1 .1 .1 .1 .1 .1 .1 .1 .1 .1 .1 .1 .1 .1 .0) (are .1 .1 .1 .1 .1 .1 .1 .1 .1 .1 .1 .1 .1 .1 .1 .1 .1 .1 .1 .1 .1 .1 .1 .1 .1 .1 .0)))
 
-  meets : (𝓣 : Tables 𝓤 H) → Triple 𝓤 (𝓣 .C #g1) (Callee-g1 𝓤 H A mem run) → Triple 𝓤 (𝓣 .C #g2) (Callee-g2 𝓤 H A mem run) → Triple 𝓤 (𝓣 .C #g3) (Callee-g3 𝓤 H A mem run) → Meets 𝓤 H A f.signature (WpFn 𝓤 H (𝓣 .C) (𝓣 .Λ) code.function) (f.spec 𝓤 H A mem run)
-  meets 𝓣 known-g1 known-g2 known-g3 = walk-meets 𝓤 H A f.ended stayed W (goes-none 𝓤 H A W 9 (λ _. u64) yes (λ κs x f. refl), (goes-none 𝓤 H A W 9 (λ _. u64) yes (λ κs x f. refl), (goes-none-slice 𝓤 H A W 9 (0 ∷ []) tt (plain (λ _. u64)) yes, (goes-none 𝓤 H A W 9 (λ _. u64) yes (λ κs x f. refl), (goes-none 𝓤 H A W 9 (λ _. u64) yes (λ κs x f. refl), (goes-none-slice 𝓤 H A W 9 (1 ∷ []) tt (plain (λ _. mEntry.the-row)) yes, (goes-none 𝓤 H A W 9 (λ _. u64) yes (λ κs x f. refl), (goes-none 𝓤 H A W 9 (λ _. u64) yes (λ κs x f. refl), (goes-none-slice 𝓤 H A W 9 (2 ∷ []) tt (plain (λ _. mEntry.the-row)) yes, (goes-none 𝓤 H A W 9 (λ _. u64) yes (λ κs x f. refl), (goes-none 𝓤 H A W 9 (λ _. u64) yes (λ κs x f. refl), (goes-none-slice 𝓤 H A W 9 (3 ∷ []) tt (plain (λ _. mEntry.the-row)) yes, (goes-none 𝓤 H A W 9 (λ _. u64) yes (λ κs x f. refl), (goes-none 𝓤 H A W 9 (λ _. u64) yes (λ κs x f. refl), (goes-none-slice 𝓤 H A W 9 (4 ∷ []) tt (plain (λ _. mEntry.the-row)) yes, (goes-none 𝓤 H A W 9 (λ _. u64) yes (λ κs x f. refl), (goes-none 𝓤 H A W 9 (λ _. u64) yes (λ κs x f. refl), (goes-none-slice 𝓤 H A W 9 (5 ∷ []) tt (plain (λ _. mEntry.the-row)) yes, (goes-none 𝓤 H A W 9 (λ _. u64) yes (λ κs x f. refl), (goes-none 𝓤 H A W 9 (λ _. u64) yes (λ κs x f. refl), (goes-none-slice 𝓤 H A W 9 (6 ∷ []) tt (plain (λ _. mEntry.the-row)) yes, (goes-none-slice 𝓤 H A W 9 (7 ∷ []) tt (plain (λ _. u64)) yes, (goes-none-slice 𝓤 H A W 9 (8 ∷ []) tt (plain (λ _. u64)) yes, (goes-none 𝓤 H A W 9 (λ _. mTranscript.the-row) yes (λ κs x f. refl), (goes-none 𝓤 H A W 9 (λ _. u64) yes (λ κs x f. refl), (goes-none 𝓤 H A W 9 (λ _. u64) yes (λ κs x f. refl), (goes-none 𝓤 H A W 9 (λ _. u64) yes (λ κs x f. refl), tt))))))))))))))))))))))))))) (f.clauses 𝓤 H A mem run)
-      (WpFn 𝓤 H (𝓣 .C) (𝓣 .Λ) code.function) (WpFn-mono 𝓤 H (W .laws) 𝓣 code.function) (walks (𝓣 .C) (𝓣 .Λ) (fmOf 𝓤 H (W .laws) 𝓣) known-g1 known-g2 known-g3)
+  meets : (𝓣 : Tables 𝓤 H) → Triple 𝓤 (𝓣 .C #g1) (Callee-g1 𝓤 H A mem run) → Triple 𝓤 (𝓣 .C #g2) (Callee-g2 𝓤 H A mem run) → Meets 𝓤 H A f.signature (WpFn 𝓤 H (𝓣 .C) (𝓣 .Λ) code.function) (f.spec 𝓤 H A mem run)
+  meets 𝓣 known-g1 known-g2 = walk-meets 𝓤 H A f.ended stayed W (goes-none 𝓤 H A W 9 (λ _. u64) yes (λ κs x f. refl), (goes-none 𝓤 H A W 9 (λ _. u64) yes (λ κs x f. refl), (goes-none-slice 𝓤 H A W 9 (0 ∷ []) tt (plain (λ _. u64)) yes, (goes-none 𝓤 H A W 9 (λ _. u64) yes (λ κs x f. refl), (goes-none 𝓤 H A W 9 (λ _. u64) yes (λ κs x f. refl), (goes-none-slice 𝓤 H A W 9 (1 ∷ []) tt (plain (λ _. mEntry.the-row)) yes, (goes-none 𝓤 H A W 9 (λ _. u64) yes (λ κs x f. refl), (goes-none 𝓤 H A W 9 (λ _. u64) yes (λ κs x f. refl), (goes-none-slice 𝓤 H A W 9 (2 ∷ []) tt (plain (λ _. mEntry.the-row)) yes, (goes-none 𝓤 H A W 9 (λ _. u64) yes (λ κs x f. refl), (goes-none 𝓤 H A W 9 (λ _. u64) yes (λ κs x f. refl), (goes-none-slice 𝓤 H A W 9 (3 ∷ []) tt (plain (λ _. mEntry.the-row)) yes, (goes-none 𝓤 H A W 9 (λ _. u64) yes (λ κs x f. refl), (goes-none 𝓤 H A W 9 (λ _. u64) yes (λ κs x f. refl), (goes-none-slice 𝓤 H A W 9 (4 ∷ []) tt (plain (λ _. mEntry.the-row)) yes, (goes-none 𝓤 H A W 9 (λ _. u64) yes (λ κs x f. refl), (goes-none 𝓤 H A W 9 (λ _. u64) yes (λ κs x f. refl), (goes-none-slice 𝓤 H A W 9 (5 ∷ []) tt (plain (λ _. mEntry.the-row)) yes, (goes-none 𝓤 H A W 9 (λ _. u64) yes (λ κs x f. refl), (goes-none 𝓤 H A W 9 (λ _. u64) yes (λ κs x f. refl), (goes-none-slice 𝓤 H A W 9 (6 ∷ []) tt (plain (λ _. mEntry.the-row)) yes, (goes-none-slice 𝓤 H A W 9 (7 ∷ []) tt (plain (λ _. u64)) yes, (goes-none-slice 𝓤 H A W 9 (8 ∷ []) tt (plain (λ _. u64)) yes, (goes-none 𝓤 H A W 9 (λ _. mTranscript.the-row) yes (λ κs x f. refl), (goes-none 𝓤 H A W 9 (λ _. u64) yes (λ κs x f. refl), (goes-none 𝓤 H A W 9 (λ _. u64) yes (λ κs x f. refl), (goes-none 𝓤 H A W 9 (λ _. u64) yes (λ κs x f. refl), tt))))))))))))))))))))))))))) (f.clauses 𝓤 H A mem run)
+      (WpFn 𝓤 H (𝓣 .C) (𝓣 .Λ) code.function) (WpFn-mono 𝓤 H (W .laws) 𝓣 code.function) (walks (𝓣 .C) (𝓣 .Λ) (fmOf 𝓤 H (W .laws) 𝓣) known-g1 known-g2)
 
 pub refused-spec : {M : Type 1} → stated.statement M
 unfolding code.routine tablesOf
@@ -264,6 +252,5 @@ refused-spec 𝓤 H 𝓜 𝓖 𝓡 =
     entered 𝓤 H (tripleOf 𝓤 H (𝓖 .A) f.signature (f.spec 𝓤 H (𝓖 .A) (𝓜 .mem) (𝓡 .run)))
     (tables 𝓤 H 𝓜 𝓡 code.env .C) (tables 𝓤 H 𝓜 𝓡 code.env .Λ) #f code.function (code.unfolded 𝓤 H 𝓜 𝓡)
     (meets 𝓤 H (𝓖 .A) (givenOf 𝓤 H 𝓜 𝓖) (𝓜 .mem) (𝓡 .run) (tablesOf 𝓤 H 𝓜 (tables 𝓤 H 𝓜 𝓡 code.env))
-    (cited 𝓤 H (Callee-g1 𝓤 H (𝓖 .A) (𝓜 .mem) (𝓡 .run)) 𝓜 𝓡 code.env #g1 g1-def.routine code.calls-magnetar-records·stages·counter (g1-thm.met 𝓤 H 𝓜 𝓖 𝓡))
-    (cited 𝓤 H (Callee-g2 𝓤 H (𝓖 .A) (𝓜 .mem) (𝓡 .run)) 𝓜 𝓡 code.env #g2 g2-def.routine code.calls-magnetar-inplace·records·all-six (g2-thm.met 𝓤 H 𝓜 𝓖 𝓡))
-    (cited 𝓤 H (Callee-g3 𝓤 H (𝓖 .A) (𝓜 .mem) (𝓡 .run)) 𝓜 𝓡 code.env #g3 g3-def.routine code.calls-magnetar-records-prover·refusal·prove (g3-thm.met 𝓤 H 𝓜 𝓖 𝓡)))
+    (cited 𝓤 H (Callee-g1 𝓤 H (𝓖 .A) (𝓜 .mem) (𝓡 .run)) 𝓜 𝓡 code.env #g1 g1-def.routine code.calls-magnetar-inplace·records·all-six (g1-thm.met 𝓤 H 𝓜 𝓖 𝓡))
+    (cited 𝓤 H (Callee-g2 𝓤 H (𝓖 .A) (𝓜 .mem) (𝓡 .run)) 𝓜 𝓡 code.env #g2 g2-def.routine code.calls-magnetar-records-prover·refusal·prove (g2-thm.met 𝓤 H 𝓜 𝓖 𝓡)))

@@ -19,7 +19,7 @@ use ghost.Atoms.{Atoms, sem}
 use contract.Monad.{Fun, fact}
 use contract.Running.{givenOf, tables, tablesOf}
 use types.Kit.{Given, ‵, raw, _⊛_, ⋆, some, later, _$_, _∵_, !, qed, by, move, keep, drop, use1, use2, use3, split, join, pick, fsplit, fsplit3, fjoin, fjoin3, feqL, feqI, rewrite, atRet, suffices, frame, await, done}
-use types.Part.{agg, whole, sub, look-in}
+use types.Part.{agg, whole, sub, look-in, store-in}
 use types.Run.{look, look-raw, init, store, store-raw, stop, hop, fld, from, load, unit-lit, of-opd, addr, and-then, no-more, lit, true-lit, false-lit, assigns, assigns-last, land, land-last, first, branches, skips, exec, returns, enter, alloc0, params1, pass1, pass0}
 use types.Tokens.{lft-new, lft-end}
 use sound.WpLaws.{FmC, fmOf, WpFn-mono}
@@ -57,14 +57,6 @@ use Rattle.magnetar_hash.proofs.transcript.challenge_field_vec as g1
 use Rattle.magnetar_hash.proofs.transcript.challenge_field_vec.Symbol as g1-def
 use Rattle.magnetar_hash.proofs.transcript.challenge_field_vec.Symbol.{name as #g1}
 use Rattle.magnetar_hash.proofs.transcript.challenge_field_vec.Met as g1-thm
-use Rattle.magnetar_transcript.proofs.transcript.after as g2
-use Rattle.magnetar_transcript.proofs.transcript.after.Symbol as g2-def
-use Rattle.magnetar_transcript.proofs.transcript.after.Symbol.{name as #g2}
-use Rattle.magnetar_transcript.proofs.transcript.after.Met as g2-thm
-use Rattle.magnetar_transcript.proofs.transcript.number as g3
-use Rattle.magnetar_transcript.proofs.transcript.number.Symbol as g3-def
-use Rattle.magnetar_transcript.proofs.transcript.number.Symbol.{name as #g3}
-use Rattle.magnetar_transcript.proofs.transcript.number.Met as g3-thm
 use Rattle.magnetar_transcript.proofs.transcript.challenge_field_vec.Key.{name as #f}
 use Rattle.magnetar_transcript.proofs.transcript.challenge_field_vec as f
 use Rattle.magnetar_transcript.proofs.transcript.challenge_field_vec.Statement as stated
@@ -87,12 +79,6 @@ stayed = (stay-ref (0 ∷ []) tt (plain (λ _. mTranscript.the-row)), (stay-none
 
 abbrev Callee-g1 : {M : Type 1} (𝓤 : URA M) (H : Heap 𝓤) (A : Atoms 𝓤) (mem : Memory → SProp 𝓤) (run : Routine → Fun 𝓤) → Contract 𝓤
 Callee-g1 𝓤 H A mem run = tripleOf 𝓤 H A g1.signature (g1.spec 𝓤 H A mem run)
-
-abbrev Callee-g2 : {M : Type 1} (𝓤 : URA M) (H : Heap 𝓤) (A : Atoms 𝓤) (mem : Memory → SProp 𝓤) (run : Routine → Fun 𝓤) → Contract 𝓤
-Callee-g2 𝓤 H A mem run = tripleOf 𝓤 H A g2.signature (g2.spec 𝓤 H A mem run)
-
-abbrev Callee-g3 : {M : Type 1} (𝓤 : URA M) (H : Heap 𝓤) (A : Atoms 𝓤) (mem : Memory → SProp 𝓤) (run : Routine → Fun 𝓤) → Contract 𝓤
-Callee-g3 𝓤 H A mem run = tripleOf 𝓤 H A g3.signature (g3.spec 𝓤 H A mem run)
 
 module _ {M : Type 1} (𝓤 : URA M) (H : Heap 𝓤) (A : Atoms 𝓤) (W : Given 𝓤 H A) (at-mem : Memory → SProp 𝓤) (run : Routine → Fun 𝓤) (κ₀ κ₁ κ₂ : Lft) (q₀ q₁ q₂ : Share) (b1 o1 : ℕ) (γ1 : GName) (h1 : Transcript) (s2 : RefT (List ℕ)) (n3 : ℕ) (u3 : Val) (b4 o4 : ℕ) (γ4 : GName) (ys4 : List ℕ) where
   abbrev ref1 : GName → Transcript → RefT Transcript
@@ -147,50 +133,43 @@ module _ {M : Type 1} (𝓤 : URA M) (H : Heap 𝓤) (A : Atoms 𝓤) (W : Given
   abbrev Post : Val → SProp 𝓤
   Post = walkOf 𝓤 H A f.ended stayed (f.clauses 𝓤 H A at-mem run) .post (((κ₀, (κ₁, (κ₂, tt))), (q₀, (q₁, (q₂, tt))), tt, a, at), tt)
 
-  module _ (C : Calls 𝓤 H) (Λ : Loops 𝓤 H) (fm : FmC 𝓤 H (W .laws) C) (known-g1 : Triple 𝓤 (C #g1) (Callee-g1 𝓤 H A at-mem run)) (known-g2 : Triple 𝓤 (C #g2) (Callee-g2 𝓤 H A at-mem run)) (known-g3 : Triple 𝓤 (C #g3) (Callee-g3 𝓤 H A at-mem run)) (w2 : Is (ShrSlice (named 1) κ₁ u8) s2 (v2 ∷ [])) (w3 : Is u64 n3 (u3 ∷ [])) (room4 : Room u64 (length ys4)) where
+  module _ (C : Calls 𝓤 H) (Λ : Loops 𝓤 H) (fm : FmC 𝓤 H (W .laws) C) (known-g1 : Triple 𝓤 (C #g1) (Callee-g1 𝓤 H A at-mem run)) (w2 : Is (ShrSlice (named 1) κ₁ u8) s2 (v2 ∷ [])) (w3 : Is u64 n3 (u3 ∷ [])) (room4 : Room u64 (length ys4)) where
     walk : ent 𝓤 (onEntry 𝓤 H A f.signature (κ₀, (κ₁, (κ₂, tt))) (q₀, (q₁, (q₂, tt))) a at) (WpFn 𝓤 H C Λ code.function (v1 ∷ v2 ∷ v3 ∷ v4 ∷ []) Post)
     walk =
         qed W ((‵ (flft κ₀ q₀) ⊛ ‵ (flft κ₁ q₁) ⊛ ‵ (flft κ₂ q₂) ⊛ ‵ ftrue) ∷ ‵ (owns (MutRef (named 0) κ₀ mTranscript.the-row ∷ ShrSlice (named 1) κ₁ u8 ∷ u64 ∷ MutSlice (named 2) κ₂ u64 ∷ []) a at) ∷ []) ∵ enter ! C Λ code.function (v1 ∷ v2 ∷ v3 ∷ v4 ∷ []) _ $
-        nothing ! $ alloc ! (λ l₀. alloc ! (λ l₁. alloc ! (λ l₂. alloc ! (λ l₃. alloc ! (λ l₄. alloc ! (λ l₅. alloc ! (λ l₆. alloc ! (λ l₇. alloc ! (λ l₈. alloc0 ! $ hide ! (λ died die. params1 ! $ pass1 ! (init ! 8 refl (tt, tt)) $ pass1 ! (init ! 7 refl (shr-slice-lawful 𝓤 H A W (named 1) κ₁ u8 .typed s2 (v2 ∷ []) w2 .0)) $ pass1 ! (init ! 6 refl (uint-lawful 𝓤 H A W w64 .typed n3 _ w3 .0)) $ pass1 ! (init ! 5 refl (tt, (tt, (record { fits = room4 .0 }, tt)))) $ pass0 ! $
-        move ! (11 ∷ []) $ fsplit ! $ move ! (1 ∷ []) $ fsplit ! $ move ! (1 ∷ []) $ fsplit ! $ move ! (1 ∷ []) $ fsplit ! $ move ! (1 ∷ []) $ drop ! $ move ! (14 ∷ []) $ split ! $ move ! (1 ∷ []) $ split ! $ move ! (1 ∷ []) $ split ! $ move ! (1 ∷ []) $ drop ! $ tidy W (_ ∷ _ ∷ _ ∷ _ ∷ _ ∷ _ ∷ _ ∷ _ ∷ _ ∷ _ ∷ _ ∷ _ ∷ _ ∷ _ ∷ _ ∷ _ ∷ _ ∷ []) $
+        nothing ! $ alloc ! (λ l₀. alloc ! (λ l₁. alloc ! (λ l₂. alloc ! (λ l₃. alloc ! (λ l₄. alloc ! (λ l₅. alloc ! (λ l₆. alloc ! (λ l₇. alloc ! (λ l₈. alloc ! (λ l₉. alloc ! (λ l₁₀. alloc ! (λ l₁₁. alloc0 ! $ hide ! (λ died die. params1 ! $ pass1 ! (init ! 11 refl (tt, tt)) $ pass1 ! (init ! 10 refl (shr-slice-lawful 𝓤 H A W (named 1) κ₁ u8 .typed s2 (v2 ∷ []) w2 .0)) $ pass1 ! (init ! 9 refl (uint-lawful 𝓤 H A W w64 .typed n3 _ w3 .0)) $ pass1 ! (init ! 8 refl (tt, (tt, (record { fits = room4 .0 }, tt)))) $ pass0 ! $
+        move ! (14 ∷ []) $ fsplit ! $ move ! (1 ∷ []) $ fsplit ! $ move ! (1 ∷ []) $ fsplit ! $ move ! (1 ∷ []) $ fsplit ! $ move ! (1 ∷ []) $ drop ! $ move ! (17 ∷ []) $ split ! $ move ! (1 ∷ []) $ split ! $ move ! (1 ∷ []) $ split ! $ move ! (1 ∷ []) $ drop ! $ tidy W (_ ∷ _ ∷ _ ∷ _ ∷ _ ∷ _ ∷ _ ∷ _ ∷ _ ∷ _ ∷ _ ∷ _ ∷ _ ∷ _ ∷ _ ∷ _ ∷ _ ∷ _ ∷ _ ∷ _ ∷ []) $
         move ! (6 ∷ []) $ fsplit3 ! $ drop ! $ move ! (0 ∷ 1 ∷ 4 ∷ []) $ opens ! tt mTranscript.the-row {h = h1} b1 o1 (λ vs. spelt ! mTranscript.the-row (Is mTranscript.the-row) (shows 𝓤 H A mTranscript.the-row) (LL.vals mTranscript.the-type lTranscript.the-laws) (LL.tells mTranscript.the-type lTranscript.the-laws) fullShare (h1) vs b1 o1 $ move ! (1 ∷ []) $ peeks ! mTranscript.the-row (Is mTranscript.the-row) (shows 𝓤 H A mTranscript.the-row) (h1) (LL.val mTranscript.the-type lTranscript.the-laws (h1) ∷ []) (λ w1o1. drop ! $
-        assigns ! (of-opd ! (load ! (from ! (hop ! (look ! 17 refl) (stop !))) (look-raw ! 0 refl))) (from ! (stop !)) (init ! 12 refl (LL.lawful mTranscript.the-type lTranscript.the-laws 𝓤 H A W .typed h1 _ w1o1 .0)) $
-        assigns ! (addr ! (from ! (fld ! refl (hop ! (look-in ! 14 (sub ! 0 refl (whole !))) (stop !))))) (from ! (stop !)) (init ! 11 refl (tt, tt)) $
-        assigns ! (agg ! (and-then ! (load ! (from ! (stop !)) (look ! 11 refl)) (and-then ! (load ! (from ! (fld ! refl (stop !))) (look-in ! 14 (sub ! 1 refl (whole !)))) (no-more !)))) (from ! (stop !)) (init ! 10 refl (tt, (tt, (record { fits = room4 .0 }, tt)))) $
+        assigns ! (of-opd ! (load ! (from ! (hop ! (look ! 20 refl) (fld ! refl (stop !)))) (look-in ! 0 (sub ! 0 refl (whole !))))) (from ! (stop !)) (init ! 13 refl (array-lawful 𝓤 H A W u8 (uint-lawful 𝓤 H A W w8) 32 .typed (mTranscript.the-type .to h1 .0) _ (LL.owed mTranscript.the-type lTranscript.the-laws h1 _ w1o1 .0) .0)) $
+        assigns ! (of-opd ! (load ! (from ! (hop ! (look ! 20 refl) (fld ! refl (stop !)))) (look-in ! 0 (sub ! 1 refl (whole !))))) (from ! (stop !)) (init ! 12 refl (uint-lawful 𝓤 H A W w64 .typed (mTranscript.the-type .to h1 .1 .0) _ (LL.owed mTranscript.the-type lTranscript.the-laws h1 _ w1o1 .1 .0) .0)) $
+        assigns ! (agg ! (and-then ! (load ! (from ! (stop !)) (look ! 13 refl)) (and-then ! (load ! (from ! (stop !)) (look ! 12 refl)) (no-more !)))) (from ! (stop !)) (init ! 16 refl (LL.lawful mTranscript.the-type lTranscript.the-laws 𝓤 H A W .typed h1 _ w1o1 .0)) $
+        assigns ! (addr ! (from ! (fld ! refl (hop ! (look-in ! 17 (sub ! 0 refl (whole !))) (stop !))))) (from ! (stop !)) (init ! 11 refl (tt, tt)) $
+        assigns ! (agg ! (and-then ! (load ! (from ! (stop !)) (look ! 11 refl)) (and-then ! (load ! (from ! (fld ! refl (stop !))) (look-in ! 17 (sub ! 1 refl (whole !)))) (no-more !)))) (from ! (stop !)) (init ! 10 refl (tt, (tt, (record { fits = room4 .0 }, tt)))) $
         move ! (8 ∷ []) $ use1 W (‵ (O2) ⊛ ‵ (O2)) (shr-slice-copy 𝓤 H A W (named 1) κ₁ u8 .twice s2 (v2 ∷ [])) $ split ! $
-        lft-new ! tt (λ ν1d. move ! (9 ∷ 7 ∷ []) $ use2 W (later (some (λ (δ : GName). ‵ (MutSlice (named 1) (ν1d ∷ []) u64 .own (ref4 δ (ys4)) (v4 ∷ [])) ⊛ ‵ (Lent4 ν1d δ (ys4))))) (lends4 (named 1) ν1d (ys4) (refl)) $ await ! tt $ pick ! (λ δ1d. split ! $ tidy W (_ ∷ _ ∷ _ ∷ _ ∷ _ ∷ _ ∷ _ ∷ _ ∷ _ ∷ _ ∷ _ ∷ _ ∷ _ ∷ _ ∷ _ ∷ _ ∷ _ ∷ _ ∷ _ ∷ _ ∷ _ ∷ []) $ nothing ! $ move ! (3 ∷ 0 ∷ []) $ join ! $ move ! (9 ∷ 0 ∷ []) $ join ! $ move ! (3 ∷ 1 ∷ []) $ join ! $ move ! (1 ∷ 0 ∷ []) $ join ! $
+        lft-new ! tt (λ ν1d. move ! (9 ∷ 7 ∷ []) $ use2 W (later (some (λ (δ : GName). ‵ (MutSlice (named 1) (ν1d ∷ []) u64 .own (ref4 δ (ys4)) (v4 ∷ [])) ⊛ ‵ (Lent4 ν1d δ (ys4))))) (lends4 (named 1) ν1d (ys4) (refl)) $ await ! tt $ pick ! (λ δ1d. split ! $ tidy W (_ ∷ _ ∷ _ ∷ _ ∷ _ ∷ _ ∷ _ ∷ _ ∷ _ ∷ _ ∷ _ ∷ _ ∷ _ ∷ _ ∷ _ ∷ _ ∷ _ ∷ _ ∷ _ ∷ _ ∷ _ ∷ _ ∷ _ ∷ _ ∷ []) $ nothing ! $ move ! (3 ∷ 0 ∷ []) $ join ! $ move ! (9 ∷ 0 ∷ []) $ join ! $ move ! (3 ∷ 1 ∷ []) $ join ! $ move ! (1 ∷ 0 ∷ []) $ join ! $
         -- call 1
         use1 W (raw (Callee-g1 𝓤 H A at-mem run .pre (((κ₁, ((ν1d ∷ []), tt)), (q₁, (fullShare, tt)), tt, (h1, (s2, (n3, (ref4 δ1d (ys4), tt)))), ((LL.val mTranscript.the-type lTranscript.the-laws (h1)) ∷ [], (v2 ∷ [], (u3 ∷ [], (v4 ∷ [], tt))))), tt))) (qed W ((‵ (flft κ₁ q₁) ⊛ ‵ (flft (ν1d ∷ []) fullShare) ⊛ ‵ ftrue) ∷ ‵ (ShrSlice (named 0) κ₁ u8 .own s2 (v2 ∷ [])) ∷ ‵ (MutSlice (named 1) (ν1d ∷ []) u64 .own (ref4 δ1d (ys4)) (v4 ∷ [])) ∷ []) ∵ nothing ! $ move ! (3 ∷ 0 ∷ []) $ fjoin ! $ owned ! u64 (Is u64) (uint-makes 𝓤 H A W w64) (n3) _ w3 $ fjoin ! $ move ! (2 ∷ 0 ∷ []) $ fjoin ! $ owned ! mTranscript.the-row (Is mTranscript.the-row) (LL.makes mTranscript.the-type lTranscript.the-plain 𝓤 H A) (h1) _ w1o1 $ fjoin ! $ move ! (1 ∷ 0 ∷ []) $ join ! $ nothing ! $ move ! (1 ∷ 0 ∷ []) $ frame ! $ done !) $
-        calls-at ! fm (Callee-g1 𝓤 H A at-mem run) known-g1 (((κ₁, ((ν1d ∷ []), tt)), (q₁, (fullShare, tt)), tt, (h1, (s2, (n3, (ref4 δ1d (ys4), tt)))), ((LL.val mTranscript.the-type lTranscript.the-laws (h1)) ∷ [], (v2 ∷ [], (u3 ∷ [], (v4 ∷ [], tt))))), tt) (and-then ! (load ! (from ! (stop !)) (look ! 11 refl)) (and-then ! (load ! (from ! (stop !)) (look ! 15 refl)) (and-then ! (load ! (from ! (stop !)) (look ! 14 refl)) (and-then ! (load ! (from ! (stop !)) (look ! 9 refl)) (no-more !))))) (λ z1.
+        calls-at ! fm (Callee-g1 𝓤 H A at-mem run) known-g1 (((κ₁, ((ν1d ∷ []), tt)), (q₁, (fullShare, tt)), tt, (h1, (s2, (n3, (ref4 δ1d (ys4), tt)))), ((LL.val mTranscript.the-type lTranscript.the-laws (h1)) ∷ [], (v2 ∷ [], (u3 ∷ [], (v4 ∷ [], tt))))), tt) (and-then ! (load ! (from ! (stop !)) (look ! 15 refl)) (and-then ! (load ! (from ! (stop !)) (look ! 18 refl)) (and-then ! (load ! (from ! (stop !)) (look ! 17 refl)) (and-then ! (load ! (from ! (stop !)) (look ! 9 refl)) (no-more !))))) (λ z1.
         use1 W (later (some (λ (r1 : TranscriptAnswer). ((‵ (flft κ₁ q₁) ⊛ ‵ (flft (ν1d ∷ []) fullShare) ⊛ ‵ ftrue) ⊛ ‵ (mTranscriptAnswer.the-row .own r1 (z1 ∷ []))) ⊛ some (λ (ws : Lasts g1.ended (κ₁, ((ν1d ∷ []), tt)) (h1, (s2, (n3, (ref4 δ1d (ys4), tt))))). ‵ (lasts g1.ended (κ₁, ((ν1d ∷ []), tt)) (h1, (s2, (n3, (ref4 δ1d (ys4), tt)))) ws) ⊛ raw (g1.clauses 𝓤 H A at-mem run (κ₁, ((ν1d ∷ []), tt)) (h1, (s2, (n3, (ref4 δ1d (ys4), tt)))) .ensures tt r1 (atExit g1.ended (κ₁, ((ν1d ∷ []), tt)) (h1, (s2, (n3, (ref4 δ1d (ys4), tt)))) ws)))))) (id⊢ 𝓤 _) $ await ! tt $ pick ! (λ r1. split ! $ move ! (1 ∷ []) $ pick ! (λ ws1. split ! $ move ! (1 ∷ []) $ heard ! _ (λ e1.
-        fsplit ! $ drop ! $ fsplit ! $ drop ! $ fsplit ! $ drop ! $ fsplit ! $ fsplit ! $ move ! (1 ∷ []) $ feqL ! (λ same1d. move ! (1 ∷ []) $ drop ! $ move ! (1 ∷ []) $ split ! $ move ! (1 ∷ []) $ peeks ! mTranscriptAnswer.the-row (Is mTranscriptAnswer.the-row) (shows 𝓤 H A mTranscriptAnswer.the-row) r1 (z1 ∷ []) (λ i1. drop ! $ land ! (from ! (stop !)) (init ! 13 refl (LL.lawful mTranscriptAnswer.the-type lTranscriptAnswer.the-laws 𝓤 H A W .typed r1 _ i1 .0)) $
-        tidy W (_ ∷ _ ∷ _ ∷ _ ∷ _ ∷ _ ∷ _ ∷ _ ∷ _ ∷ _ ∷ _ ∷ _ ∷ _ ∷ _ ∷ _ ∷ _ ∷ _ ∷ _ ∷ _ ∷ []) $ split ! $ move ! (1 ∷ []) $ split ! $ move ! (1 ∷ []) $ drop ! $ lft-end ! tt $ move ! (0 ∷ 3 ∷ 2 ∷ []) $ use3 W (later (‵ (O4 (ws1 .1 .1 .1 .0)) ⊛ ‵ (flft κ₂ q₂))) (backs4 (named 1) ν1d δ1d (ys4) (ws1 .1 .1 .1 .0) (refl) room4 same1d) $ await ! tt $ split ! $
-        tidy W (_ ∷ _ ∷ _ ∷ _ ∷ _ ∷ _ ∷ _ ∷ _ ∷ _ ∷ _ ∷ _ ∷ _ ∷ _ ∷ _ ∷ _ ∷ _ ∷ _ ∷ _ ∷ _ ∷ []) $ nothing ! $
-        -- call 2
-        use1 W (raw (Callee-g2 𝓤 H A at-mem run .pre ((tt, tt, tt, (r1, tt), (z1 ∷ [], tt)), tt))) (qed W ((‵ ftrue) ∷ []) ∵ nothing ! $ owned ! mTranscriptAnswer.the-row (Is mTranscriptAnswer.the-row) (LL.makes mTranscriptAnswer.the-type lTranscriptAnswer.the-plain 𝓤 H A) (r1) _ i1 $ fjoin ! $ move ! (1 ∷ 0 ∷ []) $ join ! $ nothing ! $ move ! (1 ∷ 0 ∷ []) $ frame ! $ done !) $
-        calls-at ! fm (Callee-g2 𝓤 H A at-mem run) known-g2 ((tt, tt, tt, (r1, tt), (z1 ∷ [], tt)), tt) (and-then ! (load ! (from ! (stop !)) (look ! 14 refl)) (no-more !)) (λ z2.
-        use1 W (later (some (λ (r2 : Transcript). ((‵ ftrue) ⊛ ‵ (mTranscript.the-row .own r2 (z2 ∷ []))) ⊛ some (λ (ws : Lasts g2.ended tt (r1, tt)). ‵ (lasts g2.ended tt (r1, tt) ws) ⊛ raw (g2.clauses 𝓤 H A at-mem run tt (r1, tt) .ensures tt r2 (atExit g2.ended tt (r1, tt) ws)))))) (id⊢ 𝓤 _) $ await ! tt $ pick ! (λ r2. split ! $ move ! (1 ∷ []) $ pick ! (λ ws2. split ! $ move ! (1 ∷ []) $ heard ! _ (λ e2.
-        drop ! $ split ! $ move ! (1 ∷ []) $ peeks ! mTranscript.the-row (Is mTranscript.the-row) (shows 𝓤 H A mTranscript.the-row) r2 (z2 ∷ []) (λ i2. drop ! $ land ! (from ! (stop !)) (store ! 13 refl (LL.lawful mTranscript.the-type lTranscript.the-laws 𝓤 H A W .typed r2 _ i2 .0)) $
-        tidy W (_ ∷ _ ∷ _ ∷ _ ∷ _ ∷ _ ∷ _ ∷ _ ∷ _ ∷ _ ∷ _ ∷ _ ∷ _ ∷ _ ∷ _ ∷ _ ∷ _ ∷ _ ∷ _ ∷ _ ∷ []) $ drop ! $ assigns ! (of-opd ! (load ! (from ! (stop !)) (look ! 12 refl))) (from ! (hop ! (look ! 17 refl) (stop !))) (store-raw ! 4 refl (LL.lawful mTranscript.the-type lTranscript.the-laws 𝓤 H A W .typed r2 _ i2 .0)) $
-        tidy W (_ ∷ _ ∷ _ ∷ _ ∷ _ ∷ _ ∷ _ ∷ _ ∷ _ ∷ _ ∷ _ ∷ _ ∷ _ ∷ _ ∷ _ ∷ _ ∷ _ ∷ _ ∷ _ ∷ []) $ nothing ! $
-        -- call 3
-        use1 W (raw (Callee-g3 𝓤 H A at-mem run .pre ((tt, tt, tt, (r1, tt), (z1 ∷ [], tt)), tt))) (qed W ((‵ ftrue) ∷ []) ∵ nothing ! $ owned ! mTranscriptAnswer.the-row (Is mTranscriptAnswer.the-row) (LL.makes mTranscriptAnswer.the-type lTranscriptAnswer.the-plain 𝓤 H A) (r1) _ i1 $ fjoin ! $ move ! (1 ∷ 0 ∷ []) $ join ! $ nothing ! $ move ! (1 ∷ 0 ∷ []) $ frame ! $ done !) $
-        calls-at ! fm (Callee-g3 𝓤 H A at-mem run) known-g3 ((tt, tt, tt, (r1, tt), (z1 ∷ [], tt)), tt) (and-then ! (load ! (from ! (stop !)) (look ! 14 refl)) (no-more !)) (λ z3.
-        use1 W (later (some (λ (r3 : ℕ). ((‵ ftrue) ⊛ ‵ (u32 .own r3 (z3 ∷ []))) ⊛ some (λ (ws : Lasts g3.ended tt (r1, tt)). ‵ (lasts g3.ended tt (r1, tt) ws) ⊛ raw (g3.clauses 𝓤 H A at-mem run tt (r1, tt) .ensures tt r3 (atExit g3.ended tt (r1, tt) ws)))))) (id⊢ 𝓤 _) $ await ! tt $ pick ! (λ r3. split ! $ move ! (1 ∷ []) $ pick ! (λ ws3. split ! $ move ! (1 ∷ []) $ heard ! _ (λ e3.
-        drop ! $ split ! $ move ! (1 ∷ []) $ peeks ! u32 (Is u32) (shows 𝓤 H A u32) r3 (z3 ∷ []) (λ i3. drop ! $ land ! (from ! (stop !)) (init ! 19 refl (uint-lawful 𝓤 H A W w32 .typed r3 _ i3 .0)) $
-        tidy W (_ ∷ _ ∷ _ ∷ _ ∷ _ ∷ _ ∷ _ ∷ _ ∷ _ ∷ _ ∷ _ ∷ _ ∷ _ ∷ _ ∷ _ ∷ _ ∷ _ ∷ _ ∷ _ ∷ _ ∷ []) $ drop ! $ owned ! mTranscript.the-row (Is mTranscript.the-row) (LL.makes mTranscript.the-type lTranscript.the-plain 𝓤 H A) (r2) _ i2 $ move ! (5 ∷ 0 ∷ 6 ∷ 7 ∷ 8 ∷ []) $ closes ! tt mTranscript.the-row (r2) (z2 ∷ []) b1 o1 $ feqI ! (List Val) (vptr b1 o1 ∷ []) (vptr b1 o1 ∷ []) refl $ fjoin3 ! $
-        tidy W (_ ∷ _ ∷ _ ∷ _ ∷ _ ∷ _ ∷ _ ∷ _ ∷ _ ∷ _ ∷ _ ∷ _ ∷ _ ∷ _ ∷ _ ∷ _ ∷ _ ∷ []) $ returns ! (look ! 16 refl) $ move ! (7 ∷ []) $ use1 W (dies ((tyInt w32, l₀) ∷ (tyRef (named 0) mut (pointee (mTranscript.the-row .written)), l₁) ∷ (sliceTy (tyRef (named 1) imm (tyInt w8)), l₂) ∷ (tyInt w64, l₃) ∷ (sliceTy (tyRef (named 2) mut (tyInt w64)), l₄) ∷ (lTranscriptAnswer.mir, l₅) ∷ (lTranscript.mir, l₆) ∷ (tyRef erased mut (tyInt w64), l₇) ∷ (sliceTy (tyRef erased mut (tyInt w64)), l₈) ∷ []) (‵ ftrue)) die $ free-all ! 7 ((tyInt w32, l₀) ∷ (tyRef (named 0) mut (pointee (mTranscript.the-row .written)), l₁) ∷ (sliceTy (tyRef (named 1) imm (tyInt w8)), l₂) ∷ (tyInt w64, l₃) ∷ (sliceTy (tyRef (named 2) mut (tyInt w64)), l₄) ∷ (lTranscriptAnswer.mir, l₅) ∷ (lTranscript.mir, l₆) ∷ (tyRef erased mut (tyInt w64), l₇) ∷ (sliceTy (tyRef erased mut (tyInt w64)), l₈) ∷ []) (kept _ ∷ kept _ ∷ kept _ ∷ kept _ ∷ kept _ ∷ kept _ ∷ kept _ ∷ kept _ ∷ kept _ ∷ []) refl $
-        suffices ! _ (ends-at 𝓤 H A f.ended stayed (f.clauses 𝓤 H A at-mem run) W (((κ₀, (κ₁, (κ₂, tt))), (q₀, (q₁, (q₂, tt))), tt, a, at), tt) z3 r3 (r2, (tt, (tt, (ws1 .1 .1 .1 .0, tt)))) (tt, (tt, (tt, (same1d, tt))))) $ says ! ((cc, cc, cc)) $
-        nothing ! $ move ! (4 ∷ 0 ∷ []) $ join ! $ move ! (4 ∷ 0 ∷ []) $ join ! $ move ! (2 ∷ 0 ∷ []) $ join ! $ nothing ! $ move ! (3 ∷ 0 ∷ []) $ fjoin ! $ move ! (4 ∷ 0 ∷ []) $ fjoin ! $ move ! (3 ∷ 0 ∷ []) $ fjoin ! $ move ! (2 ∷ 0 ∷ []) $ fjoin ! $ keep ! (1 ∷ 0 ∷ []) $ frame ! $ frame ! $ owned ! u32 (Is u32) (uint-makes 𝓤 H A W w32) r3 _ i3 $ done !))))))))))))))))))))))))))))))
+        fsplit ! $ drop ! $ fsplit ! $ drop ! $ fsplit ! $ drop ! $ fsplit ! $ fsplit ! $ move ! (1 ∷ []) $ feqL ! (λ same1d. move ! (1 ∷ []) $ drop ! $ move ! (1 ∷ []) $ split ! $ move ! (1 ∷ []) $ peeks ! mTranscriptAnswer.the-row (Is mTranscriptAnswer.the-row) (shows 𝓤 H A mTranscriptAnswer.the-row) r1 (z1 ∷ []) (λ i1. drop ! $ land ! (from ! (stop !)) (init ! 15 refl (LL.lawful mTranscriptAnswer.the-type lTranscriptAnswer.the-laws 𝓤 H A W .typed r1 _ i1 .0)) $
+        tidy W (_ ∷ _ ∷ _ ∷ _ ∷ _ ∷ _ ∷ _ ∷ _ ∷ _ ∷ _ ∷ _ ∷ _ ∷ _ ∷ _ ∷ _ ∷ _ ∷ _ ∷ _ ∷ _ ∷ _ ∷ _ ∷ _ ∷ []) $ split ! $ move ! (1 ∷ []) $ split ! $ move ! (1 ∷ []) $ drop ! $ lft-end ! tt $ move ! (0 ∷ 3 ∷ 2 ∷ []) $ use3 W (later (‵ (O4 (ws1 .1 .1 .1 .0)) ⊛ ‵ (flft κ₂ q₂))) (backs4 (named 1) ν1d δ1d (ys4) (ws1 .1 .1 .1 .0) (refl) room4 same1d) $ await ! tt $ split ! $
+        rewrite ! 15 (λ (w : Val). ‵ (fat fullShare (lTranscriptAnswer.mir) l₆ 0 w)) (ap only ((LL.tells mTranscriptAnswer.the-type lTranscriptAnswer.the-laws) r1 _ i1)) refl $ assigns ! (of-opd ! (load ! (from ! (fld ! refl (stop !))) (look-in ! 15 (sub ! 1 refl (whole !))))) (from ! (stop !)) (init ! 14 refl (LL.lawful mTranscript.the-type lTranscript.the-laws 𝓤 H A W .typed (r1 .transcript) _ (LL.owed mTranscriptAnswer.the-type lTranscriptAnswer.the-laws r1 _ (subst (Is mTranscriptAnswer.the-row r1) ((LL.tells mTranscriptAnswer.the-type lTranscriptAnswer.the-laws) r1 _ i1) i1) .1 .0) .0)) $
+        assigns ! (of-opd ! (load ! (from ! (fld ! refl (stop !))) (look-in ! 14 (sub ! 0 refl (whole !))))) (from ! (hop ! (look ! 20 refl) (fld ! refl (stop !)))) (store-in ! 4 (sub ! 0 refl (whole !)) (array-lawful 𝓤 H A W u8 (uint-lawful 𝓤 H A W w8) 32 .typed (mTranscript.the-type .to (r1 .transcript) .0) _ (LL.owed mTranscript.the-type lTranscript.the-laws (r1 .transcript) _ (LL.owed mTranscriptAnswer.the-type lTranscriptAnswer.the-laws r1 _ (subst (Is mTranscriptAnswer.the-row r1) ((LL.tells mTranscriptAnswer.the-type lTranscriptAnswer.the-laws) r1 _ i1) i1) .1 .0) .0) .0)) $
+        assigns ! (of-opd ! (load ! (from ! (fld ! refl (stop !))) (look-in ! 14 (sub ! 1 refl (whole !))))) (from ! (hop ! (look ! 20 refl) (fld ! refl (stop !)))) (store-in ! 4 (sub ! 1 refl (whole !)) (uint-lawful 𝓤 H A W w64 .typed (mTranscript.the-type .to (r1 .transcript) .1 .0) _ (LL.owed mTranscript.the-type lTranscript.the-laws (r1 .transcript) _ (LL.owed mTranscriptAnswer.the-type lTranscriptAnswer.the-laws r1 _ (subst (Is mTranscriptAnswer.the-row r1) ((LL.tells mTranscriptAnswer.the-type lTranscriptAnswer.the-laws) r1 _ i1) i1) .1 .0) .1 .0) .0)) $
+        assigns ! (of-opd ! (load ! (from ! (fld ! refl (stop !))) (look-in ! 15 (sub ! 0 refl (whole !))))) (from ! (stop !)) (init ! 21 refl (uint-lawful 𝓤 H A W w32 .typed (mTranscriptAnswer.the-type .to r1 .0) _ (LL.owed mTranscriptAnswer.the-type lTranscriptAnswer.the-laws r1 _ (subst (Is mTranscriptAnswer.the-row r1) ((LL.tells mTranscriptAnswer.the-type lTranscriptAnswer.the-laws) r1 _ i1) i1) .0) .0)) $
+        owned ! mTranscript.the-row (Is mTranscript.the-row) (LL.makes mTranscript.the-type lTranscript.the-plain 𝓤 H A) ((r1 .transcript)) _ (LL.owed mTranscriptAnswer.the-type lTranscriptAnswer.the-laws r1 _ (subst (Is mTranscriptAnswer.the-row r1) ((LL.tells mTranscriptAnswer.the-type lTranscriptAnswer.the-laws) r1 _ i1) i1) .1 .0) $ move ! (5 ∷ 0 ∷ 6 ∷ 7 ∷ 8 ∷ []) $ closes ! tt mTranscript.the-row ((r1 .transcript)) ((LL.val mTranscript.the-type lTranscript.the-laws (r1 .transcript)) ∷ []) b1 o1 $ feqI ! (List Val) (vptr b1 o1 ∷ []) (vptr b1 o1 ∷ []) refl $ fjoin3 ! $
+        tidy W (_ ∷ _ ∷ _ ∷ _ ∷ _ ∷ _ ∷ _ ∷ _ ∷ _ ∷ _ ∷ _ ∷ _ ∷ _ ∷ _ ∷ _ ∷ _ ∷ _ ∷ _ ∷ _ ∷ _ ∷ []) $ returns ! (look ! 19 refl) $ move ! (7 ∷ []) $ use1 W (dies ((tyInt w32, l₀) ∷ (tyRef (named 0) mut (pointee (mTranscript.the-row .written)), l₁) ∷ (sliceTy (tyRef (named 1) imm (tyInt w8)), l₂) ∷ (tyInt w64, l₃) ∷ (sliceTy (tyRef (named 2) mut (tyInt w64)), l₄) ∷ (lTranscript.mir, l₅) ∷ (lTranscriptAnswer.mir, l₆) ∷ (lTranscript.mir, l₇) ∷ (tyArray (tyInt w8) 32, l₈) ∷ (tyInt w64, l₉) ∷ (tyRef erased mut (tyInt w64), l₁₀) ∷ (sliceTy (tyRef erased mut (tyInt w64)), l₁₁) ∷ []) (‵ ftrue)) die $ free-all ! 7 ((tyInt w32, l₀) ∷ (tyRef (named 0) mut (pointee (mTranscript.the-row .written)), l₁) ∷ (sliceTy (tyRef (named 1) imm (tyInt w8)), l₂) ∷ (tyInt w64, l₃) ∷ (sliceTy (tyRef (named 2) mut (tyInt w64)), l₄) ∷ (lTranscript.mir, l₅) ∷ (lTranscriptAnswer.mir, l₆) ∷ (lTranscript.mir, l₇) ∷ (tyArray (tyInt w8) 32, l₈) ∷ (tyInt w64, l₉) ∷ (tyRef erased mut (tyInt w64), l₁₀) ∷ (sliceTy (tyRef erased mut (tyInt w64)), l₁₁) ∷ []) (kept _ ∷ kept _ ∷ kept _ ∷ kept _ ∷ kept _ ∷ kept _ ∷ kept _ ∷ kept _ ∷ kept _ ∷ kept _ ∷ kept _ ∷ kept _ ∷ []) refl $
+        suffices ! _ (ends-at 𝓤 H A f.ended stayed (f.clauses 𝓤 H A at-mem run) W (((κ₀, (κ₁, (κ₂, tt))), (q₀, (q₁, (q₂, tt))), tt, a, at), tt) ((vint w32) (mTranscriptAnswer.the-type .to r1 .0)) (mTranscriptAnswer.the-type .to r1 .0) ((r1 .transcript), (tt, (tt, (ws1 .1 .1 .1 .0, tt)))) (tt, (tt, (tt, (same1d, tt))))) $ says ! ((cc, cc, cc)) $
+        nothing ! $ move ! (4 ∷ 0 ∷ []) $ join ! $ move ! (4 ∷ 0 ∷ []) $ join ! $ move ! (2 ∷ 0 ∷ []) $ join ! $ nothing ! $ move ! (3 ∷ 0 ∷ []) $ fjoin ! $ move ! (4 ∷ 0 ∷ []) $ fjoin ! $ move ! (3 ∷ 0 ∷ []) $ fjoin ! $ move ! (2 ∷ 0 ∷ []) $ fjoin ! $ keep ! (1 ∷ 0 ∷ []) $ frame ! $ frame ! $ owned ! u32 (Is u32) (uint-makes 𝓤 H A W w32) (mTranscriptAnswer.the-type .to r1 .0) _ (LL.owed mTranscriptAnswer.the-type lTranscriptAnswer.the-laws r1 _ (subst (Is mTranscriptAnswer.the-row r1) ((LL.tells mTranscriptAnswer.the-type lTranscriptAnswer.the-laws) r1 _ i1) i1) .0) $ done !)))))))))))))))))))))))
 
 module _ {M : Type 1} (𝓤 : URA M) (H : Heap 𝓤) (A : Atoms 𝓤) (W : Given 𝓤 H A) (mem : Memory → SProp 𝓤) (run : Routine → Fun 𝓤) where
-  walks : (C : Calls 𝓤 H) (Λ : Loops 𝓤 H) → FmC 𝓤 H (W .laws) C → Triple 𝓤 (C #g1) (Callee-g1 𝓤 H A mem run) → Triple 𝓤 (C #g2) (Callee-g2 𝓤 H A mem run) → Triple 𝓤 (C #g3) (Callee-g3 𝓤 H A mem run) → Walks 𝓤 H A f.ended stayed (WpFn 𝓤 H C Λ code.function) (f.clauses 𝓤 H A mem run)
-  walks C Λ fm known-g1 known-g2 known-g3 = walked 𝓤 H A f.ended stayed (f.clauses 𝓤 H A mem run) (WpFn 𝓤 H C Λ code.function) (λ κs. (ptr-vals, (slice-vals, ((uint-vals w64), (slice-vals, tt))))) (λ κs. (mut-tells (named 0) (κs .0) mTranscript.the-row, (shr-slice-tells (named 1) (κs .1 .0) u8, ((uint-tells w64), (mut-slice-tells (named 2) (κs .1 .1 .0) u64, tt)))))
-      (λ κs qs bounds a g are. via 𝓤 _ (fst∗ 𝓤 _ (emp 𝓤)) (walk 𝓤 H A W mem run (κs .0) (κs .1 .0) (κs .1 .1 .0) (qs .0) (qs .1 .0) (qs .1 .1 .0) (a .0 .ptr .0) (a .0 .ptr .1) (a .0 .name) (a .0 .now) (a .1 .0) (a .1 .1 .0) (only ((uint-vals w64) (a .1 .1 .0))) (a .1 .1 .1 .0 .ptr .0) (a .1 .1 .1 .0 .ptr .1) (a .1 .1 .1 .0 .name) (a .1 .1 .1 .0 .now) C Λ fm known-g1 known-g2 known-g3 (are .1 .0) (are .1 .1 .0) (are .1 .1 .1 .0 .0 .1)))
+  walks : (C : Calls 𝓤 H) (Λ : Loops 𝓤 H) → FmC 𝓤 H (W .laws) C → Triple 𝓤 (C #g1) (Callee-g1 𝓤 H A mem run) → Walks 𝓤 H A f.ended stayed (WpFn 𝓤 H C Λ code.function) (f.clauses 𝓤 H A mem run)
+  walks C Λ fm known-g1 = walked 𝓤 H A f.ended stayed (f.clauses 𝓤 H A mem run) (WpFn 𝓤 H C Λ code.function) (λ κs. (ptr-vals, (slice-vals, ((uint-vals w64), (slice-vals, tt))))) (λ κs. (mut-tells (named 0) (κs .0) mTranscript.the-row, (shr-slice-tells (named 1) (κs .1 .0) u8, ((uint-tells w64), (mut-slice-tells (named 2) (κs .1 .1 .0) u64, tt)))))
+      (λ κs qs bounds a g are. via 𝓤 _ (fst∗ 𝓤 _ (emp 𝓤)) (walk 𝓤 H A W mem run (κs .0) (κs .1 .0) (κs .1 .1 .0) (qs .0) (qs .1 .0) (qs .1 .1 .0) (a .0 .ptr .0) (a .0 .ptr .1) (a .0 .name) (a .0 .now) (a .1 .0) (a .1 .1 .0) (only ((uint-vals w64) (a .1 .1 .0))) (a .1 .1 .1 .0 .ptr .0) (a .1 .1 .1 .0 .ptr .1) (a .1 .1 .1 .0 .name) (a .1 .1 .1 .0 .now) C Λ fm known-g1 (are .1 .0) (are .1 .1 .0) (are .1 .1 .1 .0 .0 .1)))
 
-  meets : (𝓣 : Tables 𝓤 H) → Triple 𝓤 (𝓣 .C #g1) (Callee-g1 𝓤 H A mem run) → Triple 𝓤 (𝓣 .C #g2) (Callee-g2 𝓤 H A mem run) → Triple 𝓤 (𝓣 .C #g3) (Callee-g3 𝓤 H A mem run) → Meets 𝓤 H A f.signature (WpFn 𝓤 H (𝓣 .C) (𝓣 .Λ) code.function) (f.spec 𝓤 H A mem run)
-  meets 𝓣 known-g1 known-g2 known-g3 = walk-meets 𝓤 H A f.ended stayed W (goes-ref 𝓤 H A W 3 0 tt (plain (λ _. mTranscript.the-row)), (goes-none-slice 𝓤 H A W 3 (1 ∷ []) tt (plain (λ _. u8)) yes, (goes-none 𝓤 H A W 3 (λ _. u64) yes (λ κs x f. refl), (goes-slice 𝓤 H A W 3 2 tt (plain (λ _. u64)), tt)))) (f.clauses 𝓤 H A mem run)
-      (WpFn 𝓤 H (𝓣 .C) (𝓣 .Λ) code.function) (WpFn-mono 𝓤 H (W .laws) 𝓣 code.function) (walks (𝓣 .C) (𝓣 .Λ) (fmOf 𝓤 H (W .laws) 𝓣) known-g1 known-g2 known-g3)
+  meets : (𝓣 : Tables 𝓤 H) → Triple 𝓤 (𝓣 .C #g1) (Callee-g1 𝓤 H A mem run) → Meets 𝓤 H A f.signature (WpFn 𝓤 H (𝓣 .C) (𝓣 .Λ) code.function) (f.spec 𝓤 H A mem run)
+  meets 𝓣 known-g1 = walk-meets 𝓤 H A f.ended stayed W (goes-ref 𝓤 H A W 3 0 tt (plain (λ _. mTranscript.the-row)), (goes-none-slice 𝓤 H A W 3 (1 ∷ []) tt (plain (λ _. u8)) yes, (goes-none 𝓤 H A W 3 (λ _. u64) yes (λ κs x f. refl), (goes-slice 𝓤 H A W 3 2 tt (plain (λ _. u64)), tt)))) (f.clauses 𝓤 H A mem run)
+      (WpFn 𝓤 H (𝓣 .C) (𝓣 .Λ) code.function) (WpFn-mono 𝓤 H (W .laws) 𝓣 code.function) (walks (𝓣 .C) (𝓣 .Λ) (fmOf 𝓤 H (W .laws) 𝓣) known-g1)
 
 pub challenge-field-vec-spec : {M : Type 1} → stated.statement M
 unfolding code.routine tablesOf
@@ -198,6 +177,4 @@ challenge-field-vec-spec 𝓤 H 𝓜 𝓖 𝓡 =
     entered 𝓤 H (tripleOf 𝓤 H (𝓖 .A) f.signature (f.spec 𝓤 H (𝓖 .A) (𝓜 .mem) (𝓡 .run)))
     (tables 𝓤 H 𝓜 𝓡 code.env .C) (tables 𝓤 H 𝓜 𝓡 code.env .Λ) #f code.function (code.unfolded 𝓤 H 𝓜 𝓡)
     (meets 𝓤 H (𝓖 .A) (givenOf 𝓤 H 𝓜 𝓖) (𝓜 .mem) (𝓡 .run) (tablesOf 𝓤 H 𝓜 (tables 𝓤 H 𝓜 𝓡 code.env))
-    (cited 𝓤 H (Callee-g1 𝓤 H (𝓖 .A) (𝓜 .mem) (𝓡 .run)) 𝓜 𝓡 code.env #g1 g1-def.routine code.calls-magnetar-hash·transcript·challenge-field-vec (g1-thm.met 𝓤 H 𝓜 𝓖 𝓡))
-    (cited 𝓤 H (Callee-g2 𝓤 H (𝓖 .A) (𝓜 .mem) (𝓡 .run)) 𝓜 𝓡 code.env #g2 g2-def.routine code.calls-magnetar-transcript·transcript·after (g2-thm.met 𝓤 H 𝓜 𝓖 𝓡))
-    (cited 𝓤 H (Callee-g3 𝓤 H (𝓖 .A) (𝓜 .mem) (𝓡 .run)) 𝓜 𝓡 code.env #g3 g3-def.routine code.calls-magnetar-transcript·transcript·number (g3-thm.met 𝓤 H 𝓜 𝓖 𝓡)))
+    (cited 𝓤 H (Callee-g1 𝓤 H (𝓖 .A) (𝓜 .mem) (𝓡 .run)) 𝓜 𝓡 code.env #g1 g1-def.routine code.calls-magnetar-hash·transcript·challenge-field-vec (g1-thm.met 𝓤 H 𝓜 𝓖 𝓡)))
