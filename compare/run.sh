@@ -2,7 +2,8 @@
 # Compares this repository with the published Rust on the same inputs (docs/COMPARISON.md).
 #   compare/run.sh ORACLE                 the full run: fixed seeds, some minutes on two cores
 #   compare/run.sh ORACLE SECONDS SEED    random inputs from the seed for so many seconds
-# ORACLE is a folder that holds the Rust built in release mode: target/release/libmagnetar_*.rlib, libopen_spartan.rlib and deps.
+# ORACLE is a folder that holds the Rust built in release mode: in target/release libmagnetar_*.rlib, libopen_spartan.rlib,
+# libscripted_spartan.rlib and libscripted_hash.rlib (the same files over a transcript that hands out given elements), and deps.
 # Needs rt and the rustc that built the Rust. Ends with 1 where something differs that is not on the list.
 set -euo pipefail
 oracle=$(cd "${1:?usage: run.sh ORACLE [SECONDS SEED]}" && pwd)

@@ -15,7 +15,8 @@ FIELD = "add mul square inv pow mulbit isbit chain eqchar2 eq fused eqat evalmle
 HASH = "sha3 sha3rep parts partslens new newlens absorb absorbfield absorbwords absorbu64 absorbdigest draw rawdraw draws drawvec rawdrawvec febytes digest"
 SUMCHECK = "outer inner round capture outerend innerend eqpoints eqnext outermsg innermsg dropvar"
 MATRIX = "isbinary apply packed table at foldinst foldw layout reading segment"
-LINES = {"combo": 2, "masks": 1, "check": 2, "prove": 4, "verify": 3}
+# How many lines an answer has; that of `checks` says it itself.
+LINES = {"combo": 2, "masks": 1, "check": 2, "prove": 4, "verify": 3, "checks": None}
 
 
 def lines(crate, name):
@@ -34,42 +35,51 @@ def thousands(n):
     return f"{n:,}"
 
 
-def equal_lists(case, matrices):
-    """Whether the four lists of each of the first matrices of a case are of one length."""
-    numbers, at, lists = [int(n, 0) for n in case.split()[1:]], 0, []
-    while at < len(numbers):
-        lists.append(numbers[at])
-        at += 1 + numbers[at]
-    return all(len(set(lists[5 * k + 5 : 5 * k + 9])) == 1 for k in range(matrices))
+def number(answer):
+    """The number of a refusal, 0 where the line tells none."""
+    return int(answer.split()[1]) if answer.startswith("!") else 0
+
+
+def found(answers):
+    """The number that `checks` found, and how many lines it wrote: a number in the first line ends it, one in the second leaves out the claims."""
+    told = [int(answer.split()[1]) for answer in answers[:2]]
+    if told[0]:
+        return told[0], 1
+    return told[1], 3 if told[1] else 4
 
 
 def relations():
-    """The queries on relations: all, those that records can be asked too, and how the runs end."""
-    told, answers, at, cases = None, lines("magnetar_cases", "stdout"), 0, 0
-    all_, records, codes = collections.Counter(), collections.Counter(), collections.defaultdict(collections.Counter)
+    """The queries on relations: all, those that the core alone was asked, and how the runs end."""
+    answers, at, cases = lines("magnetar_cases", "stdout"), 0, 0
+    all_, alone, codes = collections.Counter(), collections.Counter(), collections.defaultdict(collections.Counter)
     for query in lines("magnetar_cases", "stdin"):
         op = query.split()[0]
         if op == "case":
-            told, cases = query, cases + 1
+            cases += 1
         elif op == "#":
             at += 1
         else:
             all_[op] += 1
-            records[op] += equal_lists(told, 1 if op == "masks" else 6)
-            codes[op][int(answers[at].split()[1]) if answers[at].startswith("!") else 0] += 1
-            at += LINES[op]
+            if answers[at] == "alone":
+                alone[op] += 1
+                at += 1
+            code, length = found(answers[at:]) if op == "checks" else (number(answers[at]), LINES[op])
+            codes[op][code] += 1
+            at += length
     assert at == len(answers)
-    return cases, all_, records, codes
+    return cases, all_, alone, codes
 
 
 def rows():
-    found = ops("magnetar_vectors")
-    parts = [sum(found[name] for name in names.split()) for names in (FIELD, HASH, SUMCHECK, MATRIX)]
-    assert sum(parts) == sum(found.values()), found
+    singly = ops("magnetar_vectors")
+    parts = [sum(singly[name] for name in names.split()) for names in (FIELD, HASH, SUMCHECK, MATRIX)]
+    assert sum(parts) == sum(singly.values()), singly
     yield f"| `magnetar_vectors` | {thousands(sum(parts))}: field {parts[0]}, hash {parts[1]}, sum-checks {parts[2]}, matrices, folds and layouts {parts[3]} |"
-    cases, found, records, codes = relations()
-    yield f"| `magnetar_cases` | {thousands(sum(found.values()))} on {cases} relations: {of(found, LINES)} |"
-    yield f"| of these also over records | {thousands(sum(records.values()))}: {of(records, LINES)}; the others have a matrix whose four lists differ in length |"
+    cases, asked, alone, codes = relations()
+    yield f"| `magnetar_cases` | {thousands(sum(asked.values()))} on {cases} relations: {of(asked, LINES)} |"
+    both = [name for name in LINES if name != "checks"]
+    records = {name: asked[name] - alone[name] for name in both}
+    yield f"| of these also over records | {thousands(sum(records.values()))}: {of(records, both)}; the other {sum(alone.values())} of these kinds are answered after a line `alone`: a matrix has four lists of unequal length, or more than 64 entries |"
     forms = ops("magnetar_forms")
     assert set(forms) == TRANSCRIPTS | MATRICES
     names = "absorb absorbfield absorbu64 absorbdigest draw drawvec isbinary apply packed table at".split()
@@ -78,8 +88,11 @@ def rows():
     early = {op: sum(n for code, n in codes[op].items() if 1 <= code <= 16) for op in codes}
     late = {code: n for code, n in verify.items() if code > 16}
     assert set(late) == set(range(21, 30)) and max(prove) == 15
-    yield f"| of the {found['prove']} runs of the prover | {prove[0]} proofs; {early['prove']} refused with 1 to 15 |"
-    yield f"| of the {found['verify']} runs of the verifier | {verify[0]} accepted; {early['verify']} refused with 1 to 16; {sum(late.values())} refused with 21 to 29, each number at least {min(late.values())} times |"
+    yield f"| of the {asked['prove']} runs of the prover | {prove[0]} proofs; {early['prove']} refused with 1 to 15 |"
+    yield f"| of the {asked['verify']} runs of the verifier | {verify[0]} accepted; {early['verify']} refused with 1 to 16; {sum(late.values())} refused with 21 to 29, each number at least {min(late.values())} times |"
+    given = codes["checks"]
+    assert set(given) == {0} | set(range(21, 30))
+    yield f"| of the {asked['checks']} runs of the verifier's checks with given draws | {given[0]} find nothing; the others find each number from 21 to 29 |"
 
 
 def main():

@@ -1,9 +1,9 @@
 #!/usr/bin/env python3
 """Writes the queries of the test program and their recorded answers (docs/VECTORS.md).
 
-    make.py ORACLE FIELDOPS SUMOPS
+    make.py DRIVER FIELDOPS SUMOPS
 
-ORACLE, FIELDOPS and SUMOPS are commands that answer queries by the published Rust: ORACLE `mul`, `eq` and `evalmle` and
+DRIVER, FIELDOPS and SUMOPS are commands that answer queries by the published Rust: DRIVER `mul`, `eq` and `evalmle` and
 those on parts, transcripts, matrices, folds and layouts, FIELDOPS the rest of the field, SUMOPS the sum-check. Hashes of
 bytes are Python's hashlib's.
 What the Rust does not answer (refusals, and the words of a lent slice that a call leaves alone) is put together here
@@ -77,10 +77,10 @@ class Lines:
 class Sheet(Lines):
     """Queries on single functions, and the commands that answer them."""
 
-    def __init__(self, oracle, fieldops, sumops):
+    def __init__(self, driver, fieldops, sumops):
         super().__init__()
         self.section = {}
-        self.commands = {"oracle": Rust(oracle, "ops"), "fieldops": Rust(fieldops), "sumops": Rust(sumops)}
+        self.commands = {"driver": Rust(driver, "ops"), "fieldops": Rust(fieldops), "sumops": Rust(sumops)}
 
     def note(self, text):
         self.section = {}
@@ -123,7 +123,7 @@ def elements(sheet):
     pairs += [tuple(some(2)) for _ in range(150)]
     pairs += [(1 << i, 1 << (127 - i)) for i in range(0, 128, 9)] + [(1 << i, 1 << (128 - i)) for i in range(1, 128, 9)]
     for a, b in pairs:
-        sheet.rust("oracle", f"mul {listed([a, b])}")
+        sheet.rust("driver", f"mul {listed([a, b])}")
     sheet.note("logarithms of sizes, rounded down, and whether they are powers of two")
     for n in sorted({0, 3, 5, 2**64 - 1} | {2**k + d for k in (0, 1, 2, 5, 16, 32, 62, 63) for d in (-1, 0, 1)}):
         sheet.said(f"log2 {n}", f"= {max(n, 1).bit_length() - 1}")
@@ -137,11 +137,11 @@ def elements(sheet):
     sheet.note("squares, inverses, and products with inverses, which are 1")
     for a in EDGES + some(10):
         sheet.rust("fieldops", f"square {listed([a])}")
-        sheet.rust("oracle", f"mul {listed([a, a])}")
+        sheet.rust("driver", f"mul {listed([a, a])}")
         if a:
             low, high = sheet.now("fieldops", f"inv {listed([a])}")
             sheet.rust("fieldops", f"inv {listed([a])}")
-            sheet.rust("oracle", f"mul 4 {' '.join(words([a]))} {low} {high}")
+            sheet.rust("driver", f"mul 4 {' '.join(words([a]))} {low} {high}")
     sheet.note("the inverse of 0 is 0; the Rust panics")
     sheet.said(f"inv {listed([0])}", f"= {listed([0])}")
     sheet.note("powers")
@@ -165,7 +165,7 @@ def tables(sheet):
     sheet.note("eq tables of 0 to 6 elements")
     for n in range(7):
         for point in [some(n), [DICE.getrandbits(1) for _ in range(n)], [DICE.choice(EDGES) for _ in range(n)]]:
-            sheet.rust("oracle", f"eq {listed(point)}")
+            sheet.rust("driver", f"eq {listed(point)}")
             sheet.rust("fieldops", f"fused {listed(point)}")
             bits = [str(DICE.getrandbits(1)) for _ in range(n)]
             sheet.rust("fieldops", f"eqat {listed(point)} {' '.join([str(n)] + bits)}")
@@ -175,7 +175,7 @@ def tables(sheet):
     sheet.note("evaluations in 0 to 6 variables")
     for n in range(7):
         for point in [some(n), [DICE.getrandbits(1) for _ in range(n)], [DICE.choice(EDGES) for _ in range(n)]]:
-            sheet.rust("oracle", f"evalmle {listed(some(2**n))} {listed(point)}")
+            sheet.rust("driver", f"evalmle {listed(some(2**n))} {listed(point)}")
     sheet.note("each variable of tables of 1 to 4 variables bound")
     for n in range(1, 5):
         for var in range(n):
@@ -197,7 +197,7 @@ def edges(sheet):
         point = listed(some(n))
         need = 2 << n
         for lent in [0, need - 1, need, need + 1, need + 5]:
-            code, after = room(need, sheet.now("oracle", f"eq {point}"), lent)
+            code, after = room(need, sheet.now("driver", f"eq {point}"), lent)
             sheet.said(f"eqroom {lent} {point}", " ".join(["=", code, str(len(after))] + after))
     sheet.note("eq: a point of an odd number of words, or of over 20 elements, is refused with 11, and before 15")
     for count, code in [(1, 11), (3, 11), (39, 11), (40, 15), (41, 11), (42, 11)]:
@@ -215,7 +215,7 @@ def edges(sheet):
     for n in range(4):
         values, point = listed(some(2**n)), listed(some(n))
         need = 2 << n
-        value = " ".join(sheet.now("oracle", f"evalmle {values} {point}"))
+        value = " ".join(sheet.now("driver", f"evalmle {values} {point}"))
         for lent in [0, need - 1, need, need + 3]:
             if lent < need:
                 answer, after = "! 15", [MARK] * lent
@@ -296,12 +296,12 @@ def hashes(sheet):
         sheet.said(f"sha3rep {n} a3", f"= {hashlib.sha3_256(bytes([0xa3]) * n).hexdigest()}")
     sheet.note("hashes of parts")
     for lens in [[], [0], [1], [0, 0], [3, 0, 5], [32, 6, 4, 100], [135], [136, 136], [119], [120], [121]]:
-        sheet.rust("oracle", " ".join(["parts"] + [hexed(random_bytes(n)) for n in lens]))
+        sheet.rust("driver", " ".join(["parts"] + [hexed(random_bytes(n)) for n in lens]))
     sheet.note("parts: lengths that do not add up to the bytes are refused with 17, and no hash is given")
     for total, lens in [(0, []), (5, [5]), (5, [2, 3]), (5, [0, 5, 0]), (300, [150, 0, 150])]:
         data = random_bytes(total)
         parts = [hexed(data[sum(lens[:i]) : sum(lens[: i + 1])]) for i in range(len(lens))]
-        (digest,) = sheet.commands["oracle"].ask(" ".join(["parts"] + parts)).split()[1:]
+        (digest,) = sheet.commands["driver"].ask(" ".join(["parts"] + parts)).split()[1:]
         sheet.said(f"partslens {hexed(data)} {counted(lens)}", f"= {digest}")
     wrong = [(0, [1]), (5, []), (5, [4]), (5, [6]), (5, [2, 2]), (5, [2, 4]), (5, [2**64 - 1, 6]), (0, [2**63, 2**63])]
     for total, lens in wrong:
@@ -309,13 +309,13 @@ def hashes(sheet):
     sheet.note("new transcripts: 0 to 3 public parts, empty ones too")
     for protocol in [b"", b"magnetar/virtual-spartan/v1"]:
         for lens in [[], [0], [1], [300], [0, 0], [8, 0], [0, 8], [16, 32], [0, 0, 0], [5, 0, 7], [135, 136, 137]]:
-            sheet.rust("oracle", " ".join(["new", hexed(protocol)] + [hexed(random_bytes(n)) for n in lens]))
+            sheet.rust("driver", " ".join(["new", hexed(protocol)] + [hexed(random_bytes(n)) for n in lens]))
     for total, lens in wrong:
         sheet.said(f"newlens 6162 {hexed(random_bytes(total))} {counted(lens)}", f"! 17 {'00' * 32} 0")
     for lens in [[], [0], [5], [3, 0, 7]]:
         data = bytes(range(sum(lens)))
         cut = [data[sum(lens[:i]) : sum(lens[: i + 1])] for i in range(len(lens))]
-        answer = sheet.commands["oracle"].ask(" ".join(["new 6162"] + [hexed(part) for part in cut]))
+        answer = sheet.commands["driver"].ask(" ".join(["new 6162"] + [hexed(part) for part in cut]))
         sheet.said(f"newlens 6162 {hexed(data)} {counted(lens)}", answer)
 
 
@@ -328,28 +328,28 @@ def little(words_, size=8):
 
 
 def transcripts(sheet):
-    oracle = sheet.commands["oracle"]
+    driver = sheet.commands["driver"]
 
     def absorbed(state, counter, label, data):
-        return oracle.ask(f"absorb {state} {counter} {label} {hexed(data)}")
+        return driver.ask(f"absorb {state} {counter} {label} {hexed(data)}")
 
     def drawn(state, counter, label, n):
         """The words of n draws, and the transcript after them."""
         out = []
         for _ in range(n):
-            _, low, high, state, counter = oracle.ask(f"draw {state} {counter} {label}").split()[1:]
+            _, low, high, state, counter = driver.ask(f"draw {state} {counter} {label}").split()[1:]
             out += [low, high]
         return out, state, counter
 
     sheet.note("a chain of absorptions of 0 to 300 bytes and draws, each from the transcript that the last one left")
-    state, counter = sheet.rust("oracle", f"new {hexed(b'chain')} {hexed(random_bytes(20))}")
+    state, counter = sheet.rust("driver", f"new {hexed(b'chain')} {hexed(random_bytes(20))}")
     labels = [hexed(s) for s in [b"", b"a", b"tau", b"vspartan/round", b"x" * 60]]
     lengths = [0, 1, 2, 7, 8, 9, 15, 16, 17, 31, 32, 33, 55, 56, 57, 64, 100, 135, 136, 137, 200, 255, 256, 272, 299, 300]
     for k, n in enumerate(lengths):
         label = labels[k % len(labels)]
-        state, counter = sheet.rust("oracle", f"absorb {state} {counter} {label} {hexed(random_bytes(n))}")
+        state, counter = sheet.rust("driver", f"absorb {state} {counter} {label} {hexed(random_bytes(n))}")
         for _ in range(k % 4):
-            _, _, _, state, counter = sheet.rust("oracle", f"draw {state} {counter} {label}")
+            _, _, _, state, counter = sheet.rust("driver", f"draw {state} {counter} {label}")
         sheet.said(f"digest {state} {counter}", f"= {state}")
     sheet.note("elements, words, a word and a hash absorbed: as their bytes are")
     label = labels[2]
@@ -375,14 +375,14 @@ def transcripts(sheet):
         sheet.said(f"draws {state} 0 {label} {n}", f"= 2 {out[-2]} {out[-1]} {after} {end}")
     counter = str(LIMIT - 4)
     for _ in range(4):
-        _, _, _, state, counter = sheet.rust("oracle", f"draw {state} {counter} {label}")
+        _, _, _, state, counter = sheet.rust("driver", f"draw {state} {counter} {label}")
     assert counter == str(LIMIT)
     for high in [LIMIT, LIMIT + 1, 2**63, 2**64 - 1]:
         sheet.said(f"draw {state} {high} {label}", f"! 14 {state} {high}")
     for high in [LIMIT - 1, LIMIT, LIMIT + 1, 2**63]:
-        sheet.said(f"rawdraw {state} {high} {label}", oracle.ask(f"draw {state} {high} {label}"))
+        sheet.said(f"rawdraw {state} {high} {label}", driver.ask(f"draw {state} {high} {label}"))
     sheet.note("an absorption sets the counter to 0, whatever it was")
-    state, counter = sheet.rust("oracle", f"absorb {state} {LIMIT} {label} 00")
+    state, counter = sheet.rust("driver", f"absorb {state} {LIMIT} {label} 00")
     sheet.note("several draws at once: words past the draws stay; 14 at the entry alone, then 15")
     for first in [0, 7, LIMIT - 2, LIMIT - 1]:
         for n, lent in [(0, 0), (0, 3), (1, 2), (1, 3), (3, 6), (3, 10)]:
@@ -487,7 +487,7 @@ def sumchecks(sheet):
             sheet.rust("sumops", f"round {listed(message)} {listed([claim ^ wrong] + some(1))}")
     captures(sheet)
     sheet.note("terminal values: true ones, and damaged in each; a factor of 0")
-    product = lambda x, y: element(sheet.now("oracle", f"mul {listed([x, y])}"))
+    product = lambda x, y: element(sheet.now("driver", f"mul {listed([x, y])}"))
     for e, a, b, c in [some(4), some(4), [0] + some(3), some(1) + [0] + some(2), some(3) + [0]]:
         values = [product(e, product(a, b) ^ c), e, a, b, c]
         sheet.rust("sumops", f"outerend {listed(values)}")
@@ -533,7 +533,7 @@ def lent_rounds(sheet):
         return " ".join(["=", str(code), str(lent)] + found + [MARK] * (lent - len(found)))
 
     def eq(point):
-        return sheet.now("oracle", f"eq {brief(point)}")
+        return sheet.now("driver", f"eq {brief(point)}")
 
     def small(n):
         return [DICE.getrandbits(9) for _ in range(n)]
@@ -589,7 +589,7 @@ def lent_rounds(sheet):
 
 
 class Matrix:
-    """A matrix, in the words of the test program and in those of ORACLE."""
+    """A matrix, in the words of the test program and in those of DRIVER."""
 
     def __init__(self, rows, cols, entries):
         self.rows, self.cols, self.entries = rows, cols, entries
@@ -600,8 +600,8 @@ class Matrix:
         return " ".join([str(self.rows), str(self.cols)] + [counted(numbers) for numbers in (row, col, low, high)])
 
     def told(self, sheet):
-        """Tells ORACLE, which then answers queries on this matrix."""
-        pipe = sheet.commands["oracle"].run.stdin
+        """Tells DRIVER, which then answers queries on this matrix."""
+        pipe = sheet.commands["driver"].run.stdin
         pipe.write(f"matrix {self.rows} {self.cols} {len(self.entries)}\n")
         for row, col, value in self.entries:
             pipe.write(f"{row} {col} {value % 2**64} {value >> 64}\n")
@@ -646,21 +646,21 @@ def matrices(sheet):
             m.told(sheet)
             r, c = rows.bit_length() - 1, cols.bit_length() - 1
             z, p, x = brief(some(cols)), brief(some(r)), brief(some(c))
-            found = sheet.now("oracle", f"apply {z}")
+            found = sheet.now("driver", f"apply {z}")
             sheet.said(f"apply {2 * rows} 0 {m.text()} {z}", lent(found, 0))
             sheet.said(f"apply {2 * rows + 3} 0 {m.text()} {z}", lent(found, 3))
             sheet.said(f"apply {2 * rows - 1} 0 {m.text()} {z}", untouched(2 * rows - 1, 15))
-            found = sheet.now("oracle", f"table {p}")
+            found = sheet.now("driver", f"table {p}")
             sheet.said(f"table {2 * cols} {2 * rows} {m.text()} {p}", lent(found, 0), scratch(2 * rows, 0))
             sheet.said(f"table {2 * cols + 1} {2 * rows + 2} {m.text()} {p}", lent(found, 1), scratch(2 * rows, 2))
             for short in [(2 * cols - 1, 2 * rows), (2 * cols, 2 * rows - 1)]:
                 sheet.said(f"table {short[0]} {short[1]} {m.text()} {p}", untouched(short[0], 15), untouched(short[1]))
-            value = " ".join(sheet.now("oracle", f"at {p} {x}"))
+            value = " ".join(sheet.now("driver", f"at {p} {x}"))
             need = 2 * (rows + cols)
             sheet.said(f"at 0 {need} {m.text()} {p} {x}", f"= 2 {value}", scratch(need, 0))
             sheet.said(f"at 0 {need + 1} {m.text()} {p} {x}", f"= 2 {value}", scratch(need, 1))
             sheet.said(f"at 0 {need - 1} {m.text()} {p} {x}", "! 15", untouched(need - 1))
-            sheet.said(f"isbinary 0 0 {m.text()}", sheet.commands["oracle"].ask("isbinary"))
+            sheet.said(f"isbinary 0 0 {m.text()}", sheet.commands["driver"].ask("isbinary"))
     sheet.note("vectors and points of another length are refused with 11, before 15")
     m = any_matrix(4, 8, 5, element_)
     for n in [0, 7, 9]:
@@ -685,6 +685,12 @@ def matrices(sheet):
         sheet.said(f"apply 0 0 {rows} {cols} {lists} 0", untouched(0, 11 if code is None else code))
         sheet.said(f"table 0 0 {rows} {cols} {lists} 1 1", untouched(0, 11 if code is None else code), untouched(0))
         sheet.said(f"at 0 0 {rows} {cols} {lists} 1 1 0", f"! {11 if code is None else code}", untouched(0))
+    sheet.note("the most rows and columns, an entry in the last place: a bit, no bit; a column more is refused with 7")
+    for value in (1, 2):
+        m = Matrix(65536, 65536, [(65535, 65535, value)])
+        m.told(sheet)
+        sheet.said(f"isbinary 0 0 {m.text()}", sheet.commands["driver"].ask("isbinary"))
+    sheet.said(f"isbinary 0 0 {Matrix(65536, 65536, [(65535, 65536, 1)]).text()}", "! 7")
     batches(sheet)
     layouts(sheet)
 
@@ -705,7 +711,7 @@ def batches(sheet):
                 m.entries += [(DICE.randrange(rows), DICE.randrange(w + 1, 2 * w), 5)]
             m.told(sheet)
             pk, x = brief(packed_words(q, w)), brief([DICE.getrandbits(9) for _ in range(w - 1)])
-            flag, _, *found = sheet.commands["oracle"].ask(f"packed {q} {w} {pk} {x}").split()[1:]
+            flag, _, *found = sheet.commands["driver"].ask(f"packed {q} {w} {pk} {x}").split()[1:]
             for extra in [0, 3]:
                 after = " ".join(["=", str(len(found) + extra)] + found + [MARK] * extra)
                 sheet.said(f"packed {len(found) + extra} 0 {m.text()} {pk} {x} 2 {q} {w}", f"= {flag}", after)
@@ -725,7 +731,7 @@ def batches(sheet):
     sheet.said(f"foldw 4 4 2 2 {brief([1, 3])} {brief([2])}", lent(words([1, 2]), 0), scratch(4, 0))
     for w, q in [(1, 1), (1, 2), (2, 4), (32, 2), (64, 2), (64, 8), (128, 2), (256, 1), (256, 4)]:
         pk, p = brief(packed_words(q, w)), brief(some(q.bit_length() - 1))
-        found = sheet.now("oracle", f"foldw {q} {w} {pk} {p}")
+        found = sheet.now("driver", f"foldw {q} {w} {pk} {p}")
         sheet.said(f"foldw {2 * w} {2 * q} {q} {w} {pk} {p}", lent(found, 0), scratch(2 * q, 0))
         sheet.said(f"foldw {2 * w + 3} {2 * q + 1} {q} {w} {pk} {p}", lent(found, 3), scratch(2 * q, 1))
         for short in [(2 * w - 1, 2 * q), (2 * w, 2 * q - 1)]:
@@ -738,7 +744,7 @@ def batches(sheet):
     sheet.note("folds of a vector over logins")
     for n in range(6):
         v, p = brief(some(2**n)), brief(some(n))
-        value = " ".join(sheet.now("oracle", f"foldinst {v} {p}"))
+        value = " ".join(sheet.now("driver", f"foldinst {v} {p}"))
         need = 2 << n
         sheet.said(f"foldinst 0 {need} {v} {p}", f"= 2 {value}", scratch(need, 0))
         sheet.said(f"foldinst 0 {need + 1} {v} {p}", f"= 2 {value}", scratch(need, 1))
@@ -758,7 +764,7 @@ def layouts(sheet):
     good = [(1, []), (1, [1]), (2, [1, 1]), (16, [4, 1, 8]), (16, [8, 1, 4]), (16, [1, 2, 4, 1]), (64, [1] * 64), (256, [2, 16, 1, 64, 128]),
             (32768, [1, 4096, 16384]), (32768, [32768])]
     for w, lens in good:
-        answer = sheet.commands["oracle"].ask(" ".join(["layout", str(w)] + [str(n) for n in lens]))
+        answer = sheet.commands["driver"].ask(" ".join(["layout", str(w)] + [str(n) for n in lens]))
         offsets = [int(n) for n in answer[3:-1].split(", ") if n]
         sheet.said(f"layout {len(lens)} {w} {counted(lens)}", sized(offsets, 0))
         sheet.said(f"layout {len(lens) + 2} {w} {counted(lens)}", sized(offsets, 2))

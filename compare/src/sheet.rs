@@ -75,7 +75,8 @@ impl Sheet {
         self.asked.push(Asked { function, by, told: told.to_string(), query, answer });
     }
 
-    /// Asks all and compares each answer. A program copies lines that begin with #, so that each answer is found again.
+    /// Asks all and compares each answer. A program copies lines that begin with #, so that each answer is found again. A line `alone`
+    /// says that a relation's matrices are no records, so that only the core was asked: it is no part of the answer.
     pub fn flush(&mut self) {
         if let Some(forms) = &mut self.forms {
             forms.flush();
@@ -100,7 +101,7 @@ impl Sheet {
         for line in written.lines() {
             if let Some(n) = line.strip_prefix("# ") {
                 at = n.parse::<usize>().ok().filter(|&n| n < found.len());
-            } else if let Some(i) = at {
+            } else if let Some(i) = at.filter(|_| line != "alone") {
                 found[i].push(line.trim_end());
             }
         }

@@ -1,4 +1,5 @@
-// The same calls over records, on words of their own: each says whether all that it hands back is what the core did.
+// The same calls over records, on words of their own: each says whether all that it hands back is what the core did. Where a matrix
+// cannot be records each writes a line `alone`, and nothing is compared.
 use crate::text::MARK;
 use crate::text::at;
 use crate::text::nth;
@@ -23,7 +24,8 @@ fn record(row: &[usize], col: &[usize], lo: &[u64], hi: &[u64], i: usize) -> Ent
     }
 }
 
-// The first 64 entries as records; past the end stand zeros, which add nothing.
+// The first 64 entries as records; past the end stand zeros, which add nothing. Whole arrays are lent: only a matrix of 64 entries
+// shows that a walk comes to the last record (docs/VECTORS.md).
 fn records(row: &[usize], col: &[usize], lo: &[u64], hi: &[u64]) -> [Entry; 64] {
     let none = record(row, col, lo, hi, row.len());
     let mut es = [none; 64];
@@ -92,6 +94,7 @@ fn same_answer(a: TranscriptAnswer, b: TranscriptAnswer) -> bool {
 // The masks of the first matrix.
 pub(crate) fn masks(nums: &[u64], given: &[u64], sizes: &[usize], code: u32, out: &[u64]) -> bool {
     if !fits(sizes, 5) {
+        text::alone();
         return true;
     }
     let mut room = [MARK; 2048];
@@ -157,6 +160,7 @@ pub(crate) fn combo(
     scratch: &[u64],
 ) -> bool {
     if !all_fit(sizes) {
+        text::alone();
         return true;
     }
     let mut room = [MARK; 2048];
@@ -220,6 +224,7 @@ pub(crate) fn verify(
     scratch: &[u64],
 ) -> bool {
     if !all_fit(sizes) {
+        text::alone();
         return true;
     }
     let mut room = [MARK; 256];
@@ -306,6 +311,7 @@ fn checked(given: &[u64], sizes: &[usize], scratch: &mut [u64]) -> RowCheck {
 // The row check.
 pub(crate) fn check(given: &[u64], sizes: &[usize], r: RowCheck, scratch: &[u64]) -> bool {
     if !all_fit(sizes) {
+        text::alone();
         return true;
     }
     let mut words = text::room();
@@ -366,6 +372,7 @@ pub(crate) fn prove(
     scratch: &[u64],
 ) -> bool {
     if !all_fit(sizes) {
+        text::alone();
         return true;
     }
     let mut told = [MARK; 2048];

@@ -1,6 +1,6 @@
 // Replays queries on a whole relation: reads the relation with its batch, calls the function that a line names and writes all
-// that the call hands back (docs/VECTORS.md), after a line `differ` where the same call over records hands back something else. A line
-// that begins with # is copied.
+// that the call hands back (docs/VECTORS.md), after a line `differ` where the same call over records hands back something else, and
+// after a line `alone` where it cannot be asked of records. A line that begins with # is copied.
 mod again;
 mod checks;
 mod rowcheck;
@@ -69,7 +69,7 @@ fn run(input: &mut [u8], nums: &mut [u64], given: &mut [u64], sizes: &mut [usize
 fn main() {
     let mut input = text::mebibyte();
     let mut nums = [0u64; 1024];
-    let mut given = [0u64; 4096];
-    let mut sizes = [0usize; 4096];
+    let mut given = [0u64; 9216];
+    let mut sizes = [0usize; 9216];
     run(&mut input, &mut nums, &mut given, &mut sizes);
 }

@@ -201,9 +201,9 @@ pub(crate) fn mebibyte() -> [u8; 1048576] {
     [0; 1048576]
 }
 
-// Room for the scratch of the largest run, each word marked.
-pub(crate) fn room() -> [u64; 20480] {
-    [MARK; 20480]
+// Room for the scratch of the largest run, that of 4,096 logins, each word marked.
+pub(crate) fn room() -> [u64; 81944] {
+    [MARK; 81944]
 }
 
 // The numbers after the count at index i, as many as it says.
@@ -300,6 +300,11 @@ pub(crate) fn same_bytes(s: &[u8], t: &[u8]) -> bool {
 
 pub(crate) fn print(s: &[u8]) {
     io::write_all(STDOUT_FILENO, s);
+}
+
+// A line where a query cannot be asked of records.
+pub(crate) fn alone() {
+    print(b"alone\n");
 }
 
 // A line where two ways of a call do not agree.

@@ -1,4 +1,5 @@
-// A local lent to the functions of `magnetar_inplace`: a transcript that is changed in place, and the first n records of an array.
+// A local lent: a transcript to the functions of `magnetar_transcript`, which change it in place, and the first n records of an array to
+// those of `magnetar_inplace`.
 // These functions are proved by walks (tools/thin.py).
 ghost use mathlib.Core.Path.{_≡_};
 ghost use Prim.Native.Nat.{_≤_};
