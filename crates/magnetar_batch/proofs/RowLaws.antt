@@ -19,7 +19,7 @@ use Rattle.magnetar_matrix.specs.Matrix.{Entry, rowTotal, share, timesAt}
 use Rattle.magnetar_matrix.specs.Lent.{Lent, entriesOf, matrixOf}
 use Rattle.magnetar_matrix.specs.Batch.{assignment, rowHolds}
 use Rattle.magnetar_matrix.specs.Table.{raised}
-use Rattle.magnetar_matrix.specs.Packed.{packedBit, loginPart, unpacked}
+use Rattle.magnetar_matrix.specs.Packed.{packedBit, loginPart, unpacked, zOf}
 use Rattle.magnetar_matrix.specs.RowCheck.{firstNot, failingRow, failingLogin, rowVerdict, holdsAt}
 use Rattle.magnetar_matrix.specs.RowCheck.Verdict.{good, bin, fld}
 use Rattle.magnetar_batch.specs.Check.{relation}
@@ -27,7 +27,7 @@ use Rattle.magnetar_matrix.proofs.Verdicts.{first-le}
 use Rattle.magnetar_matrix.proofs.FirstRow.{first-ext, Below, below-more, first-is, first-end}
 use Rattle.magnetar_matrix.proofs.TableLaws.{elements-words, cleared-raised}
 use Rattle.magnetar_batch.specs.Systems.{Lent3, systemOf}
-use Rattle.magnetar_batch.specs.Rows.{zOf, rowOf, loginRow, loginOf}
+use Rattle.magnetar_batch.specs.Rows.{rowOf, loginRow, loginOf}
 
 -- ---- z at a column
 module _ (w : ℕ) (ws x : List ℕ) (c : ℕ) where

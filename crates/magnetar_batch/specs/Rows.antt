@@ -1,17 +1,12 @@
 -- What the row check computes for a login. Only private contracts cite these definitions.
 -- Assumes nothing.
-use mathlib.Core.List.{List, _∷_, _++_}
+use mathlib.Core.List.{List}
 use Prim.Native.Nat.{ℕ}
 use lib.Dec.{eqb}
 use Rattle.magnetar_field.specs.Gf128.{_⊗_}
-use Rattle.magnetar_field.specs.Tabulate.{tabulate}
 use Rattle.magnetar_matrix.specs.Matrix.{Entry, rowTotal, share}
-use Rattle.magnetar_matrix.specs.Packed.{packedBit, loginPart}
+use Rattle.magnetar_matrix.specs.Packed.{loginPart, zOf}
 use Rattle.magnetar_matrix.specs.RowCheck.{firstNot}
-
--- z = (bits, 1, x) of a login with the words ws and w columns
-unfoldable pub zOf : ℕ → List ℕ → List ℕ → List ℕ
-zOf w ws x = tabulate (packedBit ws) w ++ (1 ∷ x)
 
 -- the first of n rows that does not hold for z, or n
 unfoldable pub rowOf : List Entry → List Entry → List Entry → ℕ → List ℕ → ℕ

@@ -10,7 +10,7 @@ use Rattle.magnetar_field.specs.Tabulate.{tabulate}
 use Rattle.magnetar_multilinear.specs.Multilinear.{dot}
 use Rattle.magnetar_matrix.specs.Matrix.{System, mleTable}
 use Rattle.magnetar_matrix.specs.Lent.{Lent, matrixOf}
-use Rattle.magnetar_layout.specs.Tests.{Tests, columnTests, rowTests, colsTests, counted, placed, lengthTest}
+use Rattle.magnetar_layout.specs.Tests.{Tests, columnTests, loneRowTests, matrixColumnTests, counted, placed, lengthTest}
 
 -- a system as it is lent
 pub record Lent3 : Type 0 where
@@ -18,6 +18,7 @@ pub record Lent3 : Type 0 where
   pub b : Lent
   pub c : Lent
 
+-- such a system from its three matrices
 abbrev pub system : Lent → Lent → Lent → Lent3
 system a b c = record { a = a; b = b; c = c }
 
@@ -32,26 +33,32 @@ combinedTable m s t al p r =
     ∷ getD (mleTable (t .a) r) y 0 ∷ getD (mleTable (t .b) r) y 0 ∷ getD (mleTable (t .c) r) y 0 ∷ [])) m
 
 -- ---- the tests of a system: 4, 5, 6 and 7
+-- 4: each of three row counts, and that they are equal
 abbrev pub rowTests3 : ℕ → ℕ → ℕ → Tests
-rowTests3 a b c = rowTests a ++ (rowTests b ++ (rowTests c ++ ((4, not (eqb b a)) ∷ (4, not (eqb c a)) ∷ [])))
+rowTests3 a b c = loneRowTests a ++ (loneRowTests b ++ (loneRowTests c ++ ((4, not (eqb b a)) ∷ (4, not (eqb c a)) ∷ [])))
 
+-- 5: each of three column counts is m
 abbrev pub colTests3 : ℕ → ℕ → ℕ → ℕ → Tests
-colTests3 m a b c = colsTests m a ++ (colsTests m b ++ colsTests m c)
+colTests3 m a b c = matrixColumnTests m a ++ (matrixColumnTests m b ++ matrixColumnTests m c)
 
 -- 1, 4 and 5 of both systems over m columns: the six row counts, the six column counts
 abbrev pub shapeTests6 : (m a b c d e f a′ b′ c′ d′ e′ f′ : ℕ) → Tests
 shapeTests6 m a b c d e f a′ b′ c′ d′ e′ f′ =
     columnTests m ++ (rowTests3 a b c ++ (rowTests3 d e f ++ (colTests3 m a′ b′ c′ ++ colTests3 m d′ e′ f′)))
 
+-- 4 of a lent system
 abbrev pub rows3 : Lent3 → Tests
 rows3 s = rowTests3 (s .a .rows) (s .b .rows) (s .c .rows)
 
+-- 5 of a lent system over m columns
 abbrev pub cols3 : ℕ → Lent3 → Tests
 cols3 m s = colTests3 m (s .a .cols) (s .b .cols) (s .c .cols)
 
+-- 6 of a lent system
 abbrev pub counted3 : Lent3 → Tests
 counted3 s = counted (s .a) ++ (counted (s .b) ++ counted (s .c))
 
+-- 7 of a lent system
 abbrev pub placed3 : Lent3 → Tests
 placed3 s = placed (s .a) ++ (placed (s .b) ++ placed (s .c))
 

@@ -20,12 +20,12 @@ ghost use Rattle.magnetar_field.specs.Tabulate.{tabulate};
 ghost use Rattle.magnetar_matrix.specs.Matrix.{rowTotal, share};
 ghost use Rattle.magnetar_matrix.specs.Lent.{lent, entriesOf};
 ghost use Rattle.magnetar_matrix.specs.Table.{raised, Equal};
-ghost use Rattle.magnetar_matrix.specs.Packed.{loginWords, unpacked};
+ghost use Rattle.magnetar_matrix.specs.Packed.{loginWords, unpacked, zOf};
 ghost use Rattle.magnetar_matrix.specs.RowCheck.{rowVerdict};
 ghost use Rattle.magnetar_layout.specs.Tests.{noted};
 ghost use Rattle.magnetar_batch.specs.Systems.{system};
 ghost use Rattle.magnetar_batch.specs.Check.{judged, outcome, relation, batchSizes, checkAnswer, checkScratch};
-ghost use Rattle.magnetar_batch.specs.Rows.{zOf, rowOf, loginRow, loginOf};
+ghost use Rattle.magnetar_batch.specs.Rows.{rowOf, loginRow, loginOf};
 
 // Good, the login and row of the first failing row of a system, or the number of a refusal.
 pub enum RowCheck {
@@ -393,7 +393,7 @@ fn judge(
     RowCheck::Good
 }
 
-// 1 to 3, and 4 for q logins of n and k rows.
+// 1 to 3, and 4 of n and k rows, alone and for q logins.
 pub fn batch_sizes(m: usize, q: usize, n: usize, k: usize, packed: &[u64], x: &[u64]) -> u32
     ensures { λ r. ⌜ r ≡ noted 0 (batchSizes m q n k (now (packed .entry)) (now (x .entry))) ⌝ }
 {
@@ -404,7 +404,9 @@ pub fn batch_sizes(m: usize, q: usize, n: usize, k: usize, packed: &[u64], x: &[
     }
     let z = tests::note(0, 2, packed.len() != q * r1cs::login_words(m / 2));
     let z = tests::note(z, 3, x.len() != m - 2);
+    let z = tests::note(z, 4, !tests::is_size(1, 65536, n));
     let z = tests::note(z, 4, n > 1048576 / q);
+    let z = tests::note(z, 4, !tests::is_size(1, 65536, k));
     tests::note(z, 4, k > 1048576 / q)
 }
 

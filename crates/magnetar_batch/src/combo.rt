@@ -193,7 +193,7 @@ fn combine(
 }
 
 // 1, 4, 5, 6 and 7 of both systems.
-pub fn systems_refusal(
+pub(crate) fn systems_refusal(
     m: usize,
     abrows: usize,
     abcols: usize,

@@ -174,7 +174,8 @@ fn fold_one(packed: &[u64], q: usize, w: usize, point: &[u64], s: &mut [u64])
     room::clear_behind(s, k);
 }
 
-// The same fold within one slice: the folded vector in its first 2w words, and the next 2q words 0. 15: s is shorter.
+// The same fold within one slice: the folded vector in its first 2w words, and the next 2q words 0. 1: w or q; 2: the
+// packed words; 11: the point; 15: s is shorter.
 pub fn fold_packed_in(packed: &[u64], q: usize, w: usize, point: &[u64], s: &mut [u64]) -> u32
     ensures answer { λ r. ⌜ r ≡ foldInRefusal (now (packed .entry)) q w (now (point .entry)) (now (s .entry)) ⌝ }
     ensures folded { λ _. ⌜ now (s .exit) ≡ foldInOut (now (packed .entry)) q w (now (point .entry)) (now (s .entry)) ⌝ }

@@ -6,7 +6,7 @@ ghost use Rattle.magnetar_layout.specs.Tests.{noted, countTests, placeTests};
 ghost use Rattle.magnetar_batch.specs.Systems.{rowTests3, colTests3, shapeTests6};
 
 // 4: the rows, alone and against each other.
-pub fn rows3(z: u32, a: usize, b: usize, c: usize) -> u32
+pub(crate) fn rows3(z: u32, a: usize, b: usize, c: usize) -> u32
     ensures { λ r. ⌜ r ≡ noted z (rowTests3 a b c) ⌝ }
 {
     let z = tests::note(z, 4, !tests::is_size(1, 65536, a));

@@ -17,5 +17,4 @@ pub mod Log2
 pub mod Mask
 pub mod Elements
 pub mod Tabulation
-pub mod Doublings
 pub mod Making

@@ -1,11 +1,11 @@
 -- The logarithm to the base 2 by halving.
 -- Assumes nothing.
-use mathlib.Core.Path.{_≡_, refl, _∙_}
-use Prim.Native.Nat.{ℕ, zero, suc, _+_, _/_, _^_, _≤_, _<_}
-use native.Mathlib.Nat.{pow-suc, zero-add, lt-of-not-le}
+use mathlib.Core.Path.{_≡_, refl, ap, _∙_}
+use Prim.Native.Nat.{ℕ, zero, suc, _+_, _-_, _*_, _/_, _%_, _^_, _≤_, _<_}
+use native.Mathlib.Nat.{pow-suc, zero-add, lt-of-not-le, mod-eq-of-lt, mul-mod-right}
 use native.Mathlib.Omega.{arith}
 use borrow.Author.Tests.{lt-ltb, le-ltb}
-use lib.Pow.{pow-mono, pow-pos}
+use lib.Pow.{pow-mono, pow-pos, pow-lt, pow-add}
 use Rattle.magnetar_field.specs.Sizes.{halvings, log₂}
 
 -- below 2, nothing is left to halve
@@ -82,6 +82,16 @@ log₂-lt (suc n) h = small (log₂ (suc n)) (log₂-is (suc n) (omega arith) h 
   where
     small : (k : ℕ) → 2 ^ k ≤ suc n → k < 64
     small k l = lt-of-not-le (λ b. omega (arith, pow-mono {i = 64} {j = k} b, h))
+
+-- ---- the powers of two that a word of 64 bits holds, and those that it does not
+pub power-is : (k : ℕ) → k < 64 → 2 ^ k % 2 ^ 64 ≡ 2 ^ k
+power-is k h = mod-eq-of-lt (pow-lt h)
+
+pub power-past : (k : ℕ) → 64 ≤ k → 2 ^ k % 2 ^ 64 ≡ 0
+power-past k h =
+    let e : k ≡ 64 + (k - 64) = omega arith in
+    let p : 2 ^ k ≡ 2 ^ 64 * 2 ^ (k - 64) = ap (λ (j : ℕ). 2 ^ j) e ∙ pow-add 2 64 (k - 64) in
+    ap (λ (n : ℕ). n % 2 ^ 64) p ∙ mul-mod-right (2 ^ 64) (2 ^ (k - 64))
 
 -- the number of variables of a table that half n words hold
 pub log₂-half : (n : ℕ) → n < 2 ^ 64 → log₂ (n / 2) < 63

@@ -5,4 +5,3 @@ pub mod Refusal
 pub mod Sizes
 pub mod Tabulate
 pub mod Words
-pub mod Doubling

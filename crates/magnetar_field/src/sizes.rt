@@ -1,6 +1,6 @@
-// Powers of two, and the larger and the least of two sizes.
+// Powers of two, and the larger and the smaller of two sizes.
 ghost use mathlib.Core.Path.{_≡_};
-ghost use Prim.Native.Nat.{_^_, _<_, max, min};
+ghost use Prim.Native.Nat.{_%_, _^_, _≤_, max, min};
 ghost use Rattle.magnetar_field.specs.Sizes.{log₂, powerOfTwo};
 
 // The logarithm to the base 2, rounded down; that of 0 is 0.
@@ -16,6 +16,13 @@ pub fn log2(n: usize) -> usize
     k
 }
 
+// The same, with its bound, for callers that compute with it.
+pub fn log(n: usize) -> usize
+    ensures { λ r. ⌜ (r ≡ log₂ n) × (r ≤ 63) ⌝ }
+{
+    log2(n)
+}
+
 // Whether n is a power of two.
 pub fn is_power_of_two(n: usize) -> bool
     ensures { λ r. ⌜ r ≡ powerOfTwo n ⌝ }
@@ -23,12 +30,14 @@ pub fn is_power_of_two(n: usize) -> bool
     n == power_of_two(log2(n))
 }
 
-// 2^k.
-fn power_of_two(k: usize) -> usize
-    requires { ⌜ k < 64 ⌝ }
-    ensures { λ r. ⌜ r ≡ 2 ^ k ⌝ }
+// 2^k modulo 2^64: 0 where k is 64 or more.
+pub fn power_of_two(k: usize) -> usize
+    ensures { λ r. ⌜ r ≡ 2 ^ k % 2 ^ 64 ⌝ }
 {
-    1 << k
+    if k < 64 {
+        return 1 << k;
+    }
+    0
 }
 
 // The larger of two sizes.
@@ -38,9 +47,9 @@ pub fn larger(a: usize, b: usize) -> usize
     if a < b { b } else { a }
 }
 
-// The least of two sizes.
+// The smaller of two sizes.
 pub fn least(a: usize, b: usize) -> usize
-    ensures { λ r. ⌜ r ≡ min a b ⌝ }
+    ensures { λ r. ⌜ (r ≡ min a b) × (r ≤ b) ⌝ }
 {
     if a < b { a } else { b }
 }

@@ -28,9 +28,9 @@ parts [] bs = []
 parts (n ∷ ns) bs = take n bs ∷ parts ns (drop n bs)
 
 -- the sum of lengths
-unfoldable pub sum : List ℕ → ℕ
-sum [] = 0
-sum (n ∷ ns) = n + sum ns
+unfoldable pub totalLength : List ℕ → ℕ
+totalLength [] = 0
+totalLength (n ∷ ns) = n + totalLength ns
 
 -- 32 bytes 0, in the place of a hash that is refused
 abbrev pub noDigest : List ℕ
@@ -39,4 +39,4 @@ noDigest = replicate 32 0
 -- the answer of a hash of parts: 17 where the lengths don't add up to the bytes
 unfoldable pub domainAnswer : List ℕ → List ℕ → DigestAnswer
 domainAnswer bs ns =
-    cond (eqb (sum ns) (length bs)) (record { code = 0; digest = sha3Domain (parts ns bs) }) (record { code = 17; digest = noDigest })
+    cond (eqb (totalLength ns) (length bs)) (record { code = 0; digest = sha3Domain (parts ns bs) }) (record { code = 17; digest = noDigest })

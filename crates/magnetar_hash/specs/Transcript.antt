@@ -7,7 +7,7 @@ use lib.Dec.{eqb, ltb}
 use lib.ListN.{length, take, drop}
 use Rattle.magnetar_field.specs.declared.gf128.Gf128.{Gf128}
 use Rattle.magnetar_hash.specs.Bytes.{leBytes, number, wordBytes, ascii}
-use Rattle.magnetar_hash.specs.Parts.{sha3Domain, parts, sum, noDigest}
+use Rattle.magnetar_hash.specs.Parts.{sha3Domain, parts, totalLength, noDigest}
 use Rattle.magnetar_hash.specs.declared.transcript.Transcript.{Transcript}
 use Rattle.magnetar_hash.specs.declared.transcript.TranscriptAnswer.{TranscriptAnswer}
 use Rattle.magnetar_hash.specs.declared.transcript.DrawAnswer.{DrawAnswer}
@@ -55,7 +55,7 @@ noElement = record { lo = 0; hi = 0 }
 -- the answer of a new transcript: 17 where the lengths don't add up to the public bytes
 unfoldable pub newAnswer : List ℕ → List ℕ → List ℕ → TranscriptAnswer
 newAnswer protocol public lens =
-    cond (eqb (sum lens) (length public)) (record { code = 0; transcript = begun protocol (parts lens public) })
+    cond (eqb (totalLength lens) (length public)) (record { code = 0; transcript = begun protocol (parts lens public) })
     (record { code = 17; transcript = fresh noDigest })
 
 -- the answer of absorbed elements: 11 where the words are none, their count being odd

@@ -7,7 +7,7 @@ ghost use lib.Dec.{eqb};
 ghost use Rattle.magnetar_hash.specs.Bytes.{leBytes, wordBytes};
 ghost use Rattle.magnetar_hash.specs.Sha3 as spec;
 ghost use Rattle.magnetar_hash.specs.Sponge.{Fed, Ready};
-ghost use Rattle.magnetar_hash.specs.Parts.{framed, parts, sum, serializeParts, domainAnswer};
+ghost use Rattle.magnetar_hash.specs.Parts.{framed, parts, totalLength, serializeParts, domainAnswer};
 use crate::sponge;
 
 // SHA3-256 of bytes.
@@ -48,7 +48,7 @@ pub(crate) fn feed_words_part(s: &mut [u64; 25], fill: usize, words: &[u64]) -> 
 
 // Whether the lengths add up to `size`. No sum is made, so none can be too large.
 pub(crate) fn add_up(lens: &[usize], size: usize) -> bool
-    ensures { λ r. ⌜ r ≡ eqb (sum (now (lens .entry))) size ⌝ }
+    ensures { λ r. ⌜ r ≡ eqb (totalLength (now (lens .entry))) size ⌝ }
 {
     let mut left = size;
     let mut i = 0;
@@ -65,7 +65,7 @@ pub(crate) fn add_up(lens: &[usize], size: usize) -> bool
 
 // The parts are taken in, one after the other.
 pub(crate) fn feed_parts(s: &mut [u64; 25], fill: usize, bytes: &[u8], lens: &[usize]) -> usize
-    requires { ⌜ Ready (now s) fill × (sum (now lens) ≡ length (now bytes)) ⌝ }
+    requires { ⌜ Ready (now s) fill × (totalLength (now lens) ≡ length (now bytes)) ⌝ }
     ensures { λ r. ⌜ Fed (now (s .entry)) fill (framed (parts (now (lens .entry)) (now (bytes .entry)))) (now (s .exit)) r ⌝ }
 {
     let mut n = fill;
@@ -82,7 +82,7 @@ pub(crate) fn feed_parts(s: &mut [u64; 25], fill: usize, bytes: &[u8], lens: &[u
 
 // The count of the parts is taken in, then the parts.
 fn serialize_parts(s: &mut [u64; 25], fill: usize, bytes: &[u8], lens: &[usize]) -> usize
-    requires { ⌜ Ready (now s) fill × (sum (now lens) ≡ length (now bytes)) ⌝ }
+    requires { ⌜ Ready (now s) fill × (totalLength (now lens) ≡ length (now bytes)) ⌝ }
     ensures { λ r. ⌜ Fed (now (s .entry)) fill (serializeParts (parts (now (lens .entry)) (now (bytes .entry)))) (now (s .exit)) r ⌝ }
 {
     let n = sponge::feed_word(s, fill, lens.len() as u64);

@@ -5,7 +5,7 @@ ghost use mathlib.Core.List.{[], _∷_, _++_};
 ghost use lib.ListN.{length, getD, drop};
 ghost use Rattle.magnetar_field.specs.Gf128.{value};
 ghost use Rattle.magnetar_hash.specs.Bytes.{leBytes, wordBytes};
-ghost use Rattle.magnetar_hash.specs.Parts.{framed, parts, sum};
+ghost use Rattle.magnetar_hash.specs.Parts.{framed, parts, totalLength};
 ghost use Rattle.magnetar_hash.specs.Sponge.{Fed, Ready};
 ghost use Rattle.magnetar_hash.specs.Transcript as spec;
 use crate::sha3;
@@ -79,7 +79,7 @@ pub fn new(protocol: &[u8], public: &[u8], lens: &[usize]) -> TranscriptAnswer
 }
 
 fn begin(protocol: &[u8], public: &[u8], lens: &[usize]) -> Transcript
-    requires { ⌜ sum (now lens) ≡ length (now public) ⌝ }
+    requires { ⌜ totalLength (now lens) ≡ length (now public) ⌝ }
     ensures { λ r. ⌜ r ≡ spec.begun (now (protocol .entry)) (parts (now (lens .entry)) (now (public .entry))) ⌝ }
 {
     let mut s = [0u64; 25];

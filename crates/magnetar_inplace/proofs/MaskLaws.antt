@@ -25,7 +25,8 @@ use Rattle.magnetar_matrix.specs.Table.{addedAt}
 use Rattle.magnetar_r1cs.specs.Flips.{flip, flipTotal, flipBlock}
 use Rattle.magnetar_r1cs.proofs.Split.{blocks-ext}
 use Rattle.magnetar_inplace.specs.LoginSteps.{inReach}
-use Rattle.magnetar_inplace.specs.MaskSteps.{placesFit, flips, flipped, flippedIn, flippedAll, clearedWords, clearedMasks}
+use Rattle.magnetar_inplace.specs.MaskSteps.{placesFit, flips, flipped, flippedIn, flippedAll, clearedMasks}
+use Rattle.magnetar_inplace.specs.Steps.{clearedWords}
 use Rattle.magnetar_inplace.proofs.LoginLaws.{reach, reached, blocked, blocked-length, spread, one-length, spread-zeros}
 
 -- ---- a table in front of other words
@@ -84,7 +85,7 @@ module _ (d w n : ℕ) (f : ℕ → Entry → ℕ) where
 
   pub masks-flipped : (es : List Entry) (out : List ℕ) → d ≤ 4096 → w ≤ 32768 → n ≤ 65536 → 0 < n → d * n ≤ length out
       → flippedAll d w n f es (clearedMasks d w n out) ≡ blocks (λ u. tabulate (rowTotal (f u) es) n) d ++ drop (d * n) out
-  unfolding clearedMasks clearedWords
+  unfolding clearedMasks
   masks-flipped es out hd hw hn h0 h =
       rw (reached d w n 0 hd hw hn h0, le-leb (d * n) (length out) h, all-flipped es (replicate (d * n) 0) (drop (d * n) out) (length-replicate (d * n) 0), spread-zeros d w n f es hd hw hn)
 
@@ -129,7 +130,6 @@ blocks-flipped w ws es d c n h =
 
 -- ---- what the steps owe
 pub words-cleared : (k : ℕ) (out t : List ℕ) → k ≤ length out → t ≡ replicate (length (take k out)) 0 → t ++ drop k out ≡ clearedWords k out
-unfolding clearedWords
 words-cleared k out t h e = rw (le-leb _ _ h, e, length-take-le k out h)
 
 pub lows-most : (q v : ℕ) → 0 < q → q ≤ 4096 → 2 ^ (log₂ q - v) ≤ 4096

@@ -14,16 +14,16 @@ use Rattle.magnetar_layout.specs.Every.{every}
 use Rattle.magnetar_layout.specs.Tests.{noted, Sized}
 use Rattle.magnetar_layout.proofs.Noted.{noted-clear}
 use Rattle.magnetar_layout.proofs.SizeLaws.{not-bad}
-use Rattle.magnetar_matrix.specs.Matrix.{rowTotal, share, times, timesAt, bitValued}
+use Rattle.magnetar_matrix.specs.Matrix.{rowTotal, share, times, timesAt, bitValued, bitUpTo}
 use Rattle.magnetar_matrix.specs.Sum.{blocks}
 use Rattle.magnetar_matrix.specs.Lent.{matrixOf}
-use Rattle.magnetar_matrix.specs.Packed.{packedTable}
+use Rattle.magnetar_matrix.specs.Packed.{packedTable, zOf}
 use Rattle.magnetar_r1cs.specs.Entries.{Flagged, flaggedOf, packedRefusal, packedOut}
 use Rattle.magnetar_r1cs.proofs.Split.{blocks-ext, assigned}
 use Rattle.magnetar_inplace.specs.declared.records.Entry.{Entry}
 use Rattle.magnetar_inplace.specs.Records.{entriesOfRecords, lentOf}
 use Rattle.magnetar_inplace.specs.Steps.{liesIn}
-use Rattle.magnetar_inplace.specs.LoginSteps.{loginZ, bitUpTo, packedBatchTests, packedRoomTests, clearedBlocks, addedPacked}
+use Rattle.magnetar_inplace.specs.LoginSteps.{loginZ, packedBatchTests, packedRoomTests, clearedBlocks, addedPacked}
 use Rattle.magnetar_inplace.proofs.RecordLaws.{matrix-of, batch-same}
 use Rattle.magnetar_inplace.proofs.RecordEnds.{turned-back, went-on}
 use Rattle.magnetar_inplace.proofs.LoginLaws.{packed-added, twice-in}
@@ -37,7 +37,7 @@ module _ (n m : ℕ) (es : List Entry) (ws x : List ℕ) (q w : ℕ) where
   products = blocks (λ u. tabulate (rowTotal (share (loginZ w ws (elements x) u)) (entriesOfRecords es)) n) q
 
   products-are : products ≡ packedTable (matrixOf (lentOf n m es)) ws (elements x) q w
-  unfolding packedTable times timesAt loginZ
+  unfolding packedTable times timesAt loginZ zOf
   products-are =
       rw (matrix-of n m es)
       (blocks-ext _ _ q (λ u h. ap (λ (z : List ℕ). tabulate (rowTotal (share z) (entriesOfRecords es)) n) (sym (assigned q w ws (elements x) u h))))

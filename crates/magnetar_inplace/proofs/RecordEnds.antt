@@ -30,7 +30,7 @@ use Rattle.magnetar_r1cs.proofs.Lone.{inside, sum-ext}
 use Rattle.magnetar_r1cs.proofs.Points.{point-of, point-size}
 use Rattle.magnetar_inplace.specs.declared.records.Entry.{Entry}
 use Rattle.magnetar_inplace.specs.Records.{entriesOfRecords, lentOf}
-use Rattle.magnetar_inplace.specs.Steps.{liesIn, loneOf, applyTests, tableTests, atTests, clearedTo, addedAll, front, between, builtBehind, pairShare}
+use Rattle.magnetar_inplace.specs.Steps.{liesIn, loneOf, applyTests, tableTests, atTests, clearedTo, addedAll, front, between, behind, pairShare}
 use Rattle.magnetar_inplace.proofs.RecordLaws.{lone-same, matrix-of, cleared-added, words-length, front-cleared, front-read}
 
 -- ---- `is_binary`
@@ -173,8 +173,8 @@ module _ (n m : ℕ) (r c t : List ℕ) (en : length r ≡ n) (em : length c ≡
   pair-is e = rw (first-is (e .row), second-is (e .col))
 
 -- a table behind another
-behind-table : (n : ℕ) (p t s u : List ℕ) → length t ≡ n → eqOut p s ≡ u → builtBehind n p (words t ++ s) ≡ words t ++ u
-unfolding builtBehind
+behind-table : (n : ℕ) (p t s u : List ℕ) → length t ≡ n → eqOut p s ≡ u → behind n (eqOut p) (words t ++ s) ≡ words t ++ u
+unfolding behind
 behind-table n p t s u l e =
     let w : length (words t) ≡ 2 * n = words-length t ∙ ap (λ (i : ℕ). 2 * i) l in
     let b : 2 * n ≤ length (words t ++ s) = rw length-append (omega (arith, w)) in
@@ -231,7 +231,7 @@ module _ (n m : ℕ) (es : List Entry) (r c s : List ℕ) (within go : Bool) (k 
   at-is = rw (matrix-of n m es)
 
   at-end : (b : Bool) (s₁ : List ℕ) (v : ℕ) (a : Answer) → go ≡ b
-      → (v ≡ cond b (sumOver (pairShare n m (builtBehind n c (eqOut r s))) (entriesOfRecords es)) 0) × (s₁ ≡ cond b (clearedTo (n + m) (builtBehind n c (eqOut r s))) s)
+      → (v ≡ cond b (sumOver (pairShare n m (behind n (eqOut c) (eqOut r s))) (entriesOfRecords es)) 0) × (s₁ ≡ cond b (clearedTo (n + m) (behind n (eqOut c) (eqOut r s))) s)
       → a ≡ answered k v → (a ≡ atAnswer (lentOf n m es) r c s) × (s₁ ≡ atScratch (lentOf n m es) r c s)
   at-end false s₁ v a b e₁ e₂ = (e₂ ∙ rw (← at-refusal, ← g, b), e₁ .1 ∙ turned-back _ _ go at-refusal g b)
   at-end true s₁ v a b e₁ e₂ =
@@ -241,7 +241,7 @@ module _ (n m : ℕ) (es : List Entry) (r c s : List ℕ) (within go : Bool) (k 
       let D = drop (2 * m) (drop (2 * n) s) in
       let lr : length R ≡ n = eq-size 1 n r (f .rows-size) (f .rows-point) in
       let lc : length C ≡ m = eq-size 2 m c (f .cols-size) (f .cols-point) in
-      let w : builtBehind n c (eqOut r s) ≡ words R ++ (words C ++ D) = rw (eq-in-front 1 n r s (f .rows-size) (f .rows-point) (omega (arith, f .scratch))) (behind-table n c R (drop (2 * n) s) _ lr (eq-in-front 2 m c (drop (2 * n) s) (f .cols-size) (f .cols-point) (rw length-drop (omega (arith, f .scratch))))) in
+      let w : behind n (eqOut c) (eqOut r s) ≡ words R ++ (words C ++ D) = rw (eq-in-front 1 n r s (f .rows-size) (f .rows-point) (omega (arith, f .scratch))) (behind-table n c R (drop (2 * n) s) _ lr (eq-in-front 2 m c (drop (2 * n) s) (f .cols-size) (f .cols-point) (rw length-drop (omega (arith, f .scratch))))) in
       let pn : n ≡ 2 ^ length (elements r) = point-size 1 n r (f .rows-size) (f .rows-point) in
       let pm : m ≡ 2 ^ length (elements c) = point-size 2 m c (f .cols-size) (f .cols-point) in
       let x : v ≡ mleAt (matrixOf (lentOf n m es)) (elements r) (elements c) = e₁ .0 ∙ (rw w (sum-ext (inside n m) _ _ (entriesOfRecords es) (f .placed) (λ e h. pair-is n m R C D lr lc e ∙ at-places n m (elements r) (elements c) pn pm e h)) ∙ at-is) in
@@ -250,14 +250,14 @@ module _ (n m : ℕ) (es : List Entry) (r c s : List ℕ) (within go : Bool) (k 
       (e₂ ∙ rw (x, at-refusal), y ∙ (at-scratch ∙ went-on _ _ go at-refusal g b))
 
   pub at-ends : (s₁ : List ℕ) (v : ℕ) (a : Answer)
-      → (v ≡ cond go (sumOver (pairShare n m (builtBehind n c (eqOut r s))) (entriesOfRecords es)) 0) × (s₁ ≡ cond go (clearedTo (n + m) (builtBehind n c (eqOut r s))) s)
+      → (v ≡ cond go (sumOver (pairShare n m (behind n (eqOut c) (eqOut r s))) (entriesOfRecords es)) 0) × (s₁ ≡ cond go (clearedTo (n + m) (behind n (eqOut c) (eqOut r s))) s)
       → a ≡ answered k v → (a ≡ atAnswer (lentOf n m es) r c s) × (s₁ ≡ atScratch (lentOf n m es) r c s)
   at-ends s₁ v a e₁ e₂ = at-end go s₁ v a refl e₁ e₂
 
 -- what the sum at two points leaves, call by call
 module _ (n m v : ℕ) (es : List Entry) (r c s : List ℕ) (go : Bool) where
   abbrev tables : List ℕ
-  tables = builtBehind n c (eqOut r s)
+  tables = behind n (eqOut c) (eqOut r s)
 
   abbrev Leaves : List ℕ → Type 0
   Leaves t = (v ≡ cond go (sumOver (pairShare n m tables) (entriesOfRecords es)) 0) × (t ≡ cond go (clearedTo (n + m) tables) s)
@@ -265,8 +265,8 @@ module _ (n m v : ℕ) (es : List Entry) (r c s : List ℕ) (go : Bool) where
   pub sum-none : go ≡ false → v ≡ 0 → Leaves s
   sum-none b e = rw b (e, refl)
 
-  pub sum-some : (s₁ s₂ s₃ s₄ : List ℕ) → go ≡ true → s₁ ≡ eqOut r s → s₂ ≡ builtBehind n c s₁
+  pub sum-some : (s₁ s₂ s₃ s₄ : List ℕ) → go ≡ true → s₁ ≡ eqOut r s → s₂ ≡ behind n (eqOut c) s₁
       → (v ≡ sumOver (pairShare n m s₂) (entriesOfRecords es)) × (s₃ ≡ s₂) → s₄ ≡ clearedTo (n + m) s₃ → Leaves s₄
   sum-some s₁ s₂ s₃ s₄ b e₁ e₂ e₃ e₄ =
-      let w : s₂ ≡ tables = e₂ ∙ ap (builtBehind n c) e₁ in
+      let w : s₂ ≡ tables = e₂ ∙ ap (behind n (eqOut c)) e₁ in
       rw b (e₃ .0 ∙ ap (λ (t : List ℕ). sumOver (pairShare n m t) (entriesOfRecords es)) w, e₄ ∙ ap (clearedTo (n + m)) (e₃ .1 ∙ w))

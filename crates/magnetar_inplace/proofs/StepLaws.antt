@@ -10,7 +10,7 @@ use borrow.Author.Tests.{le-leb, lt-leb}
 use borrow.Rule.Slice.PartMut.{putMid}
 use Rattle.magnetar_field.specs.Words.{elements}
 use Rattle.magnetar_multilinear.specs.Entries.{eqOut}
-use Rattle.magnetar_inplace.specs.Steps.{front, between, builtBehind, clearedTo}
+use Rattle.magnetar_inplace.specs.Steps.{front, between, behind, clearedTo}
 
 -- what lies from k on
 pub rest-is : (k : ℕ) (s : List ℕ) → take (length s - k) (drop k s) ≡ drop k s
@@ -22,8 +22,8 @@ behind-is k s t =
     rw (e, append-nil)
 
 pub built-behind : (n : ℕ) (p s t : List ℕ) → 2 * n ≤ length s → t ≡ eqOut p (take (length s - 2 * n) (drop (2 * n) s))
-    → putMid (2 * n) (length s - 2 * n) s t ≡ builtBehind n p s
-unfolding builtBehind
+    → putMid (2 * n) (length s - 2 * n) s t ≡ behind n (eqOut p) s
+unfolding behind
 built-behind n p s t h e = behind-is (2 * n) s t ∙ rw (le-leb (2 * n) (length s) h, e, rest-is (2 * n) s)
 
 pub front-all : (n k : ℕ) (s : List ℕ) → length s ≤ 2 * n → getD (elements s) k 0 ≡ front n s k
@@ -44,6 +44,6 @@ pub cleared-none : (n : ℕ) (s : List ℕ) → length s < 2 * n → s ≡ clear
 unfolding clearedTo
 cleared-none n s h = rw (lt-leb (2 * n) (length s) h)
 
-pub built-none : (n : ℕ) (p s : List ℕ) → length s < 2 * n → s ≡ builtBehind n p s
-unfolding builtBehind
+pub built-none : (n : ℕ) (p s : List ℕ) → length s < 2 * n → s ≡ behind n (eqOut p) s
+unfolding behind
 built-none n p s h = rw (lt-leb (2 * n) (length s) h)

@@ -3,35 +3,30 @@
 -- Assumes nothing.
 use mathlib.Core.Bool.{Bool, not, cond, _&&_}
 use mathlib.Core.List.{List, [], _∷_, _++_}
-use Prim.Native.Nat.{ℕ, zero, suc, _+_, _-_, _*_}
-use lib.Dec.{eqb, ltb, leb}
-use Rattle.magnetar_field.specs.Tabulate.{tabulate}
-use Rattle.magnetar_layout.specs.Tests.{Tests, sizeTests, rowsTests, colsTests, countTests}
-use Rattle.magnetar_matrix.specs.Matrix.{Entry, isBit}
-use Rattle.magnetar_matrix.specs.Packed.{packedBit, loginPart, loginWords}
+use Prim.Native.Nat.{ℕ, zero, suc, _+_, _*_}
+use lib.Dec.{ltb, leb}
+use Rattle.magnetar_layout.specs.Tests.{Tests, mostLogins, mostRows, sizeTests, packedTestsOf, publicTestsOf, rowsTests, matrixColumnTests, countTests, roomTestOf}
+use Rattle.magnetar_matrix.specs.Matrix.{Entry}
+use Rattle.magnetar_matrix.specs.Packed.{loginPart, zOf}
 use Rattle.magnetar_inplace.specs.Steps.{clearedTo, addedTo}
 
 -- z = (w, 1, x) of login u of the packed words ws
 unfoldable pub loginZ : ℕ → List ℕ → List ℕ → ℕ → List ℕ
-loginZ w ws x u = tabulate (packedBit (loginPart w ws u)) w ++ (1 ∷ x)
-
--- the value is 0 or 1 and the column does not exceed w
-abbrev pub bitUpTo : ℕ → Entry → Bool
-bitUpTo w e = isBit e && leb (e .col) w
+loginZ w ws x u = zOf w (loginPart w ws u) x
 
 -- q logins of w columns and n rows, and row r, are within the limits
 abbrev pub inReach : ℕ → ℕ → ℕ → ℕ → Bool
-inReach q w n r = leb q 4096 && (leb w 32768 && (leb n 65536 && ltb r n))
+inReach q w n r = leb q mostLogins && (leb w 32768 && (leb n mostRows && ltb r n))
 
 -- the refusals of n rows and m columns with k records for q logins of w columns, with p packed and x public words
 abbrev pub packedBatchTests : ℕ → ℕ → ℕ → Bool → ℕ → ℕ → ℕ → ℕ → Tests
 packedBatchTests n m k inside p x q w =
-    sizeTests (2 * w) q ++ ((2, not (eqb p (q * loginWords w))) ∷ (3, not (eqb x (2 * w - 2))) ∷ []) ++ rowsTests q n
-    ++ colsTests (2 * w) m ++ countTests k k k k ++ (7, not inside) ∷ []
+    sizeTests (2 * w) q ++ (packedTestsOf w q p ++ publicTestsOf (2 * w) x) ++ rowsTests q n
+    ++ matrixColumnTests (2 * w) m ++ countTests k k k k ++ (7, not inside) ∷ []
 
 -- 15 of q logins with n rows, for room of out words
 abbrev pub packedRoomTests : ℕ → ℕ → ℕ → Tests
-packedRoomTests q n out = (15, ltb out (q * (2 * n))) ∷ []
+packedRoomTests q n out = roomTestOf (q * (2 * n)) out
 
 -- the first q * n elements are 0
 unfoldable pub clearedBlocks : ℕ → ℕ → ℕ → List ℕ → List ℕ

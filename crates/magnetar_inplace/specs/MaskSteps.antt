@@ -3,27 +3,27 @@
 use mathlib.Core.Bool.{Bool, not, cond, _&&_}
 use mathlib.Core.List.{List, [], _∷_, _++_}
 use Prim.Native.Nat.{ℕ, zero, suc, _+_, _-_, _*_, _^_}
-use lib.Dec.{eqb, ltb, leb}
-use lib.ListN.{length, drop, replicate}
+use lib.Dec.{ltb, leb}
 use Rattle.magnetar_field.specs.Sizes.{log₂}
-use Rattle.magnetar_layout.specs.Tests.{Tests, sizeTests, rowsTests, colsTests, countTests}
+use Rattle.magnetar_layout.specs.Tests.{Tests, mostLogins, sizeTests, packedTestsOf, rowsTests, matrixColumnTests, countTests, roomTestOf}
 use Rattle.magnetar_matrix.specs.Matrix.{Entry}
-use Rattle.magnetar_matrix.specs.Packed.{loginPart, loginWords}
+use Rattle.magnetar_matrix.specs.Packed.{loginPart}
 use Rattle.magnetar_matrix.specs.Sum.{sumBelow}
 use Rattle.magnetar_matrix.specs.Table.{addedAt}
 use Rattle.magnetar_r1cs.specs.Flips.{flip}
+use Rattle.magnetar_inplace.specs.Steps.{clearedWords}
 use Rattle.magnetar_inplace.specs.LoginSteps.{inReach}
 
 -- the last of them: 7, 12, 13 and 15
 abbrev pub lastOf : ℕ → Bool → Bool → ℕ → ℕ → ℕ → Tests
 lastOf n inside bits q v out =
-    (7, not inside) ∷ (12, not bits) ∷ (13, ltb (log₂ q) v) ∷ (13, ltb 6 v) ∷ (15, ltb out (2 ^ (log₂ q - v) * n)) ∷ []
+    (7, not inside) ∷ (12, not bits) ∷ (13, ltb (log₂ q) v) ∷ (13, ltb 6 v) ∷ roomTestOf (2 ^ (log₂ q - v) * n) out
 
 -- the refusals of n rows and m columns with k records for q logins of w columns, with p packed words, the number v and room of
 -- out words
 abbrev pub maskOf : ℕ → ℕ → ℕ → Bool → Bool → ℕ → ℕ → ℕ → ℕ → ℕ → Tests
 maskOf n m k inside bits p q w v out =
-    sizeTests (2 * w) q ++ (2, not (eqb p (q * loginWords w))) ∷ [] ++ rowsTests q n ++ colsTests (2 * w) m ++ countTests k k k k
+    sizeTests (2 * w) q ++ packedTestsOf w q p ++ rowsTests q n ++ matrixColumnTests (2 * w) m ++ countTests k k k k
     ++ lastOf n inside bits q v out
 
 -- how many bits a mask has: 2^v, none where v is over 6
@@ -32,7 +32,7 @@ places v = cond (leb v 6) (2 ^ v) 0
 
 -- c bits for each of d numbers low are within the limits
 abbrev pub placesFit : ℕ → ℕ → Bool
-placesFit c d = leb c 64 && leb (c * d) 4096
+placesFit c d = leb c 64 && leb (c * d) mostLogins
 
 -- the bits of the c logins low, d + low, .. that an entry flips; none past the limits
 unfoldable pub flips : ℕ → List ℕ → ℕ → ℕ → ℕ → Entry → ℕ
@@ -51,10 +51,6 @@ flippedIn d w n f e out = cond (inReach d w n (e .row)) (flipped n f e d out) ou
 unfoldable pub flippedAll : ℕ → ℕ → ℕ → (ℕ → Entry → ℕ) → List Entry → List ℕ → List ℕ
 flippedAll d w n f [] out = out
 flippedAll d w n f (e ∷ es) out = flippedAll d w n f es (flippedIn d w n f e out)
-
--- the first k words are 0; as they were where they are fewer
-unfoldable pub clearedWords : ℕ → List ℕ → List ℕ
-clearedWords k out = cond (leb k (length out)) (replicate k 0 ++ drop k out) out
 
 -- the first d blocks of n words are 0, within the limits
 unfoldable pub clearedMasks : ℕ → ℕ → ℕ → List ℕ → List ℕ

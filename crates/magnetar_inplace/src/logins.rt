@@ -7,15 +7,16 @@ ghost use lib.ListN.{getD};
 ghost use Rattle.magnetar_field.specs.Gf128.{value};
 ghost use Rattle.magnetar_field.specs.Words.{elements};
 ghost use Rattle.magnetar_layout.specs.Tests.{noted};
-ghost use Rattle.magnetar_matrix.specs.Matrix.{share};
+ghost use Rattle.magnetar_matrix.specs.Matrix.{share, bitUpTo};
 ghost use Rattle.magnetar_matrix.specs.Packed.{packedBit, loginPart};
 ghost use Rattle.magnetar_inplace.specs.Records.{entryOf};
 ghost use Rattle.magnetar_inplace.specs.Steps.{addedTo};
-ghost use Rattle.magnetar_inplace.specs.LoginSteps.{loginZ, bitUpTo, inReach, packedBatchTests, clearedBlocks, addedBlocks, addedLogins, packedRoomTests};
+ghost use Rattle.magnetar_inplace.specs.LoginSteps.{loginZ, inReach, packedBatchTests, clearedBlocks, addedBlocks, addedLogins, packedRoomTests};
 use crate::records::Entry;
 use crate::steps;
 use magnetar_field::gf128;
 use magnetar_field::gf128::Gf128;
+use magnetar_field::sizes;
 use magnetar_field::words;
 use magnetar_layout::tests;
 use magnetar_matrix::step;
@@ -72,20 +73,14 @@ fn login_start(u: usize, k: usize, n: usize) -> usize
     u * k
 }
 
-// The bit of login u at column c; 0 where there is no word of it.
-pub fn login_bit(packed: &[u64], w: usize, u: usize, c: usize) -> u64
+// The bit of login u at column c, by the part of the packed words that is its own; 0 where there is no word of it.
+pub(crate) fn login_bit(packed: &[u64], w: usize, u: usize, c: usize) -> u64
     ensures { λ r. ⌜ (r ≡ packedBit (loginPart w (now (packed .entry)) u) c) × (r < 2) ⌝ }
 {
     let k = r1cs::login_words(w);
-    let j = c / 64;
-    if j >= k {
-        return 0;
-    }
     let a = login_start(u, k, packed.len());
-    if j < packed.len() - a {
-        return (packed[a + j] >> (c % 64)) % 2;
-    }
-    0
+    let b = a + sizes::least(k, packed.len() - a);
+    step::bit_at(&packed[a..b], c)
 }
 
 // Login u's z at column c.

@@ -5,15 +5,16 @@ ghost use Rattle.magnetar_field.specs.Sizes.{log₂};
 ghost use Rattle.magnetar_layout.specs.Tests.{noted};
 ghost use Rattle.magnetar_matrix.specs.Packed.{loginPart};
 ghost use Rattle.magnetar_matrix.specs.Sum.{sumBelow};
-ghost use Rattle.magnetar_matrix.specs.Table.{addedAt};
 ghost use Rattle.magnetar_r1cs.specs.Flips.{flip};
 ghost use Rattle.magnetar_inplace.specs.Records.{entryOf};
-ghost use Rattle.magnetar_inplace.specs.MaskSteps.{maskOf, lastOf, places, flips, flipped, flippedIn, clearedWords, clearedMasks};
+ghost use Rattle.magnetar_inplace.specs.MaskSteps.{maskOf, lastOf, places, flips, flipped, flippedIn, clearedMasks};
+ghost use Rattle.magnetar_inplace.specs.Steps.{clearedWords};
 use crate::logins;
 use crate::records::Entry;
 use magnetar_field::sizes;
 use magnetar_field::words;
 use magnetar_layout::tests;
+use magnetar_matrix::step;
 use magnetar_r1cs::r1cs;
 
 // 2^(log2 q - v).
@@ -22,17 +23,9 @@ pub(crate) fn lows(q: usize, v: usize) -> usize
 {
     let s = sizes::log2(q);
     if v < s {
-        return power(s - v);
+        return sizes::power_of_two(s - v);
     }
     1
-}
-
-// 2^k.
-fn power(k: usize) -> usize
-    requires { ⌜ k < 64 ⌝ }
-    ensures { λ r. ⌜ r ≡ 2 ^ k ⌝ }
-{
-    1 << k
 }
 
 // 2^v, 0 where v is over 6.
@@ -40,17 +33,9 @@ pub(crate) fn places_of(v: usize) -> usize
     ensures { λ r. ⌜ r ≡ places v ⌝ }
 {
     if v <= 6 {
-        return power(v);
+        return sizes::power_of_two(v);
     }
     0
-}
-
-// The bit at place t.
-fn placed(bit: u64, t: usize) -> u64
-    requires { ⌜ (bit < 2) × (t < 64) ⌝ }
-    ensures { λ r. ⌜ r ≡ bit * 2 ^ t ⌝ }
-{
-    bit << t
 }
 
 // The bit at place t that a record flips for login u.
@@ -62,9 +47,9 @@ fn flip_of(packed: &[u64], w: usize, u: usize, t: usize, e: Entry) -> u64
         return 0;
     }
     if e.col < w {
-        return placed(logins::login_bit(packed, w, u, e.col), t);
+        return step::shifted(logins::login_bit(packed, w, u, e.col), t);
     }
-    placed(1, t)
+    step::shifted(1, t)
 }
 
 // The bits that a record flips for the c logins low, d + low, ..
@@ -95,15 +80,6 @@ fn mask_of(packed: &[u64], w: usize, d: usize, c: usize, low: usize, e: Entry) -
     0
 }
 
-// Adds the bits of a word to the word at index k, where there is one.
-fn add_word(out: &mut [u64], k: usize, word: u64)
-    ensures { λ _. ⌜ now (out .exit) ≡ addedAt (now (out .entry)) k word ⌝ }
-{
-    if k < out.len() {
-        out[k] = out[k] ^ word;
-    }
-}
-
 // Flips a record's bits in each of the d blocks of n words.
 fn each_low(packed: &[u64], w: usize, d: usize, c: usize, n: usize, out: &mut [u64], e: Entry)
     requires { ⌜ (d ≤ 4096) × (w ≤ 32768) × (n ≤ 65536) × (e .row < n) ⌝ }
@@ -112,7 +88,7 @@ fn each_low(packed: &[u64], w: usize, d: usize, c: usize, n: usize, out: &mut [u
     let mut low = 0;
     while low < d {
         let at = low * n + e.row;
-        add_word(out, at, mask_of(packed, w, d, c, low, e));
+        step::add_word(out, at, mask_of(packed, w, d, c, low, e));
         low += 1;
     }
 }

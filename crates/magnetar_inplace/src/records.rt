@@ -1,5 +1,5 @@
 // Matrices lent as slices of entry records. Each function is that of `magnetar_r1cs::r1cs` with its name; it calls, for one
-// record after the other, a function on that record's numbers.
+// record after the other, a step on that record.
 ghost use mathlib.Core.Path.{_≡_};
 ghost use mathlib.Core.Bool.{true, false, cond, _&&_};
 ghost use mathlib.Core.List.{map};
@@ -9,12 +9,12 @@ ghost use Rattle.magnetar_field.specs.Gf128.{value};
 ghost use Rattle.magnetar_multilinear.specs.Entries.{answer, eqOut};
 ghost use Rattle.magnetar_field.specs.Words.{elements};
 ghost use Rattle.magnetar_layout.specs.Every.{every};
-ghost use Rattle.magnetar_matrix.specs.Matrix.{share, isBit, binary, bitValued, swapped, sumOver};
+ghost use Rattle.magnetar_matrix.specs.Matrix.{share, isBit, bitUpTo, binary, bitValued, swapped, sumOver};
 ghost use Rattle.magnetar_matrix.specs.Lent.{matrixOf};
 ghost use Rattle.magnetar_r1cs.specs.Entries.{applyRefusal, applyOut, binaryRefusal, flagged, flaggedOf, tableRefusal, tableOut, tableScratch, atAnswer, atScratch, packedRefusal, packedOut, masksRefusal, masksOut};
 ghost use Rattle.magnetar_inplace.specs.Records.{entriesOfRecords, lentOf};
-ghost use Rattle.magnetar_inplace.specs.Steps.{liesIn, addedAll, pairShare, builtBehind, clearedTo};
-ghost use Rattle.magnetar_inplace.specs.LoginSteps.{loginZ, bitUpTo, clearedBlocks, addedPacked};
+ghost use Rattle.magnetar_inplace.specs.Steps.{liesIn, addedAll, pairShare, behind, clearedTo};
+ghost use Rattle.magnetar_inplace.specs.LoginSteps.{loginZ, clearedBlocks, addedPacked};
 ghost use Rattle.magnetar_inplace.specs.MaskSteps.{flips, flippedAll};
 use crate::logins;
 use crate::masks;
@@ -32,7 +32,7 @@ pub struct Entry {
 }
 
 // Every record lies inside.
-pub fn all_inside(es: &[Entry], rows: usize, cols: usize) -> bool
+fn all_inside(es: &[Entry], rows: usize, cols: usize) -> bool
     ensures { λ r. ⌜ r ≡ every (liesIn rows cols) (entriesOfRecords (now (es .entry))) ⌝ }
 {
     let mut acc = true;
@@ -191,8 +191,8 @@ fn sum_pairs(es: &[Entry], n: usize, m: usize, s: &mut [u64]) -> Gf128
 
 // The same with the eq tables of the points r and c for factors, which are made in s and cleared; 0 where it is not to go.
 fn sum_at(go: bool, es: &[Entry], n: usize, m: usize, r: &[u64], c: &[u64], s: &mut [u64]) -> Gf128
-    ensures { λ v. ⌜ (value v ≡ cond go (sumOver (pairShare n m (builtBehind n (now (c .entry)) (eqOut (now (r .entry)) (now (s .entry))))) (entriesOfRecords (now (es .entry)))) 0)
-        × (now (s .exit) ≡ cond go (clearedTo (n + m) (builtBehind n (now (c .entry)) (eqOut (now (r .entry)) (now (s .entry))))) (now (s .entry))) ⌝ }
+    ensures { λ v. ⌜ (value v ≡ cond go (sumOver (pairShare n m (behind n (eqOut (now (c .entry))) (eqOut (now (r .entry)) (now (s .entry))))) (entriesOfRecords (now (es .entry)))) 0)
+        × (now (s .exit) ≡ cond go (clearedTo (n + m) (behind n (eqOut (now (c .entry))) (eqOut (now (r .entry)) (now (s .entry))))) (now (s .entry))) ⌝ }
 {
     if go {
         steps::eq_front(r, s);

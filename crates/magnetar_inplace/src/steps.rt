@@ -12,7 +12,7 @@ ghost use Rattle.magnetar_layout.specs.Tests.{noted};
 ghost use Rattle.magnetar_matrix.specs.Matrix.{share, isBit, swapped};
 ghost use Rattle.magnetar_r1cs.specs.Entries.{flaggedOf, flagged};
 ghost use Rattle.magnetar_inplace.specs.Records.{entryOf};
-ghost use Rattle.magnetar_inplace.specs.Steps.{liesIn, loneOf, recordTests6, applyTests, tableTests, atTests, clearedTo, addedTo, front, between, builtBehind, pairShare};
+ghost use Rattle.magnetar_inplace.specs.Steps.{liesIn, loneOf, recordTests6, applyTests, tableTests, atTests, clearedTo, addedTo, front, between, behind, pairShare};
 use crate::records::Entry;
 use magnetar_field::gf128;
 use magnetar_field::gf128::Evaluated;
@@ -215,7 +215,7 @@ pub(crate) fn eq_front(point: &[u64], s: &mut [u64])
 
 // The eq table of a point, behind n elements.
 pub(crate) fn eq_behind(n: usize, point: &[u64], s: &mut [u64])
-    ensures { λ _. ⌜ now (s .exit) ≡ builtBehind n (now (point .entry)) (now (s .entry)) ⌝ }
+    ensures { λ _. ⌜ now (s .exit) ≡ behind n (eqOut (now (point .entry))) (now (s .entry)) ⌝ }
 {
     if n <= s.len() / 2 {
         let k = 2 * n;

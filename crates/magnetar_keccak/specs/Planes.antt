@@ -1,4 +1,4 @@
--- What the functions of the round say to each other. No public contract cites it.
+-- What the contracts of the round's private functions cite. No public contract cites it.
 -- Assumes nothing.
 use mathlib.Core.Path.{_≡_}
 use mathlib.Core.List.{List}

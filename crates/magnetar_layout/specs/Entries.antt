@@ -12,13 +12,16 @@ use Rattle.magnetar_layout.specs.declared.layout.Reading.the-variants.{N
 use Rattle.magnetar_layout.specs.Layout.{offsets, offset}
 use Rattle.magnetar_layout.specs.Tests.{noted, columnTests, layoutTests, lengthTest, roomTest}
 
--- ---- `SegmentLayout::build`: segments of the lengths ns in w columns
+-- ---- segments of the lengths ns in w columns
+-- `layout::refusal`: 1, 8, 9 and 10
 unfoldable pub layoutRefusal : ℕ → List ℕ → ℕ
 layoutRefusal w ns = noted 0 (columnTests (2 * w) ++ layoutTests w ns)
 
+-- `SegmentLayout::build`: the same, and 15 where there is less room than segments
 unfoldable pub buildRefusal : ℕ → List ℕ → List ℕ → ℕ
 buildRefusal w ns out = noted 0 (columnTests (2 * w) ++ layoutTests w ns ++ roomTest (length ns) out)
 
+-- the output: the offsets, then what stood behind them
 abbrev pub buildOut : ℕ → List ℕ → List ℕ → List ℕ
 buildOut w ns out = unlessRefused (buildRefusal w ns out) (offsets ns ++ drop (length ns) out) out
 
@@ -28,6 +31,7 @@ pub data Read : Type 0 where
   noSegment : Read
   refusal : ℕ → Read
 
+-- the reading that a value of the code's enum is
 abbrev pub read : Reading → Read
 read (Number n) = number n
 read NoSegment = noSegment
@@ -38,17 +42,20 @@ abbrev pub readOf : ℕ → List ℕ → ℕ → ℕ → Read
 readOf w ns i v =
     unlessRefused (layoutRefusal w ns) (cond (ltb i (length ns)) (number v) noSegment) (refusal (layoutRefusal w ns))
 
--- `witness_vars`
+-- `witness_vars`: 1 where 2w is no column count
 unfoldable pub varsRefusal : ℕ → ℕ
 varsRefusal w = noted 0 (columnTests (2 * w))
 
+-- how many variables number the w columns, unless they are refused
 abbrev pub varsOf : ℕ → Read
 varsOf w = unlessRefused (varsRefusal w) (number (log₂ w)) (refusal (varsRefusal w))
 
 -- ---- `segment`: the part of the folded words v that segment i has, or an empty part
+-- 1, 8 to 10, and 11 where the words are not two for each column
 unfoldable pub segmentRefusal : ℕ → List ℕ → List ℕ → ℕ
 segmentRefusal w ns v = noted 0 (columnTests (2 * w) ++ layoutTests w ns ++ lengthTest (2 * w) v)
 
+-- the words of its columns; none where there is a refusal or no such segment
 unfoldable pub segmentPart : ℕ → List ℕ → ℕ → List ℕ → List ℕ
 segmentPart w ns i v =
     unlessRefused (segmentRefusal w ns v)

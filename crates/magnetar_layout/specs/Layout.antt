@@ -23,9 +23,11 @@ unfoldable pub endFrom : ℕ → List ℕ → ℕ
 endFrom c [] = c
 endFrom c (n ∷ ns) = endFrom (nextMultiple c n + n) ns
 
+-- the offsets of the segments, the first at 0
 unfoldable pub offsets : List ℕ → List ℕ
 offsets ns = offsetsFrom 0 ns
 
+-- where the last segment ends
 unfoldable pub layoutEnd : List ℕ → ℕ
 layoutEnd ns = endFrom 0 ns
 
@@ -41,6 +43,7 @@ pub record LayoutFits (w : ℕ) (ns : List ℕ) : Type 0 where
   pub ends : layoutEnd ns ≤ w
 
 -- ---- the readings of segment i
+-- the column where it starts
 abbrev pub offset : List ℕ → ℕ → ℕ
 offset ns i = getD (offsets ns) i 0
 

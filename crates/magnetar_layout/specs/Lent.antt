@@ -3,6 +3,7 @@
 use mathlib.Core.List.{List}
 use Prim.Native.Nat.{ℕ}
 
+-- a matrix as it is lent: its row and column counts, and the four slices
 pub record Lent : Type 0 where
   pub rows : ℕ
   pub cols : ℕ
@@ -11,5 +12,6 @@ pub record Lent : Type 0 where
   pub lo : List ℕ
   pub hi : List ℕ
 
+-- such a matrix from its six parts
 abbrev pub lent : ℕ → ℕ → List ℕ → List ℕ → List ℕ → List ℕ → Lent
 lent n m r c l h = record { rows = n; cols = m; row = r; col = c; lo = l; hi = h }

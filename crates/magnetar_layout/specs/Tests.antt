@@ -39,65 +39,111 @@ pub record Sized (least most n : ℕ) : Type 0 where
 abbrev pub allBelow : ℕ → List ℕ → Bool
 allBelow n s = every (λ x. ltb x n) s
 
--- 1: the columns m, and the logins q
-abbrev pub columnTests : ℕ → Tests
-columnTests m = (1, not (isSize 2 65536 m)) ∷ []
+-- ---- the limits of document 01
+-- the most columns m that z = (w, 1, x) may have
+abbrev pub mostColumns : ℕ
+mostColumns = 65536
 
+-- the most logins q of a batch
+abbrev pub mostLogins : ℕ
+mostLogins = 4096
+
+-- the most rows of a matrix
+abbrev pub mostRows : ℕ
+mostRows = 65536
+
+-- the most rows of all logins of a batch together
+abbrev pub mostBatchRows : ℕ
+mostBatchRows = 1048576
+
+-- the most entries of a matrix
+abbrev pub mostEntries : ℕ
+mostEntries = 1048576
+
+-- the most segments of a layout
+abbrev pub mostSegments : ℕ
+mostSegments = 64
+
+-- ---- the tests; those whose names end in `Of` take how many words there are, the others the words
+-- 1: the columns m
+abbrev pub columnTests : ℕ → Tests
+columnTests m = (1, not (isSize 2 mostColumns m)) ∷ []
+
+-- 1: the columns m, and the logins q
 abbrev pub sizeTests : ℕ → ℕ → Tests
-sizeTests m q = (1, not (isSize 2 65536 m)) ∷ (1, not (isSize 1 4096 q)) ∷ []
+sizeTests m q = (1, not (isSize 2 mostColumns m)) ∷ (1, not (isSize 1 mostLogins q)) ∷ []
 
 -- 2: the packed words of q logins with w columns
+abbrev pub packedTestsOf : ℕ → ℕ → ℕ → Tests
+packedTestsOf w q p = (2, not (eqb p (q * loginWords w))) ∷ []
+
+-- 2, of the packed words ws
 abbrev pub packedTests : ℕ → ℕ → List ℕ → Tests
-packedTests w q ws = (2, not (eqb (length ws) (q * loginWords w))) ∷ []
+packedTests w q ws = packedTestsOf w q (length ws)
 
 -- 3: the public words
+abbrev pub publicTestsOf : ℕ → ℕ → Tests
+publicTestsOf m k = (3, not (eqb k (m - 2))) ∷ []
+
+-- 3, of the public words x
 abbrev pub publicTests : ℕ → List ℕ → Tests
-publicTests m x = (3, not (eqb (length x) (m - 2))) ∷ []
+publicTests m x = publicTestsOf m (length x)
+
+-- 4: the rows of a matrix
+abbrev pub loneRowTests : ℕ → Tests
+loneRowTests n = (4, not (isSize 1 mostRows n)) ∷ []
 
 -- 4: the rows of a matrix, alone and for q logins
-abbrev pub rowTests : ℕ → Tests
-rowTests n = (4, not (isSize 1 65536 n)) ∷ []
-
 abbrev pub rowsTests : ℕ → ℕ → Tests
-rowsTests q n = (4, not (isSize 1 65536 n)) ∷ (4, ltb 1048576 (q * n)) ∷ []
+rowsTests q n = (4, not (isSize 1 mostRows n)) ∷ (4, ltb mostBatchRows (q * n)) ∷ []
 
--- 5: the columns of a matrix
-abbrev pub colsTests : ℕ → ℕ → Tests
-colsTests m n = (5, not (eqb n m)) ∷ []
+-- 5: a matrix's columns n, where m are wanted
+abbrev pub matrixColumnTests : ℕ → ℕ → Tests
+matrixColumnTests m n = (5, not (eqb n m)) ∷ []
 
--- 6: how many entries there are
+-- 6: how many entries there are, by the lengths of the four slices
 abbrev pub countTests : ℕ → ℕ → ℕ → ℕ → Tests
 countTests r c l h =
-    (6, ltb 1048576 r) ∷ (6, not (eqb c r)) ∷ (6, not (eqb l r)) ∷ (6, not (eqb h r)) ∷ []
+    (6, ltb mostEntries r) ∷ (6, not (eqb c r)) ∷ (6, not (eqb l r)) ∷ (6, not (eqb h r)) ∷ []
 
 -- 7: every entry lies inside its matrix
 abbrev pub placeTests : ℕ → ℕ → List ℕ → List ℕ → Tests
 placeTests rows cols row col = (7, not (allBelow rows row)) ∷ (7, not (allBelow cols col)) ∷ []
 
+-- 6 of a lent matrix
 abbrev pub counted : Lent → Tests
 counted a = countTests (length (a .row)) (length (a .col)) (length (a .lo)) (length (a .hi))
 
+-- 7 of a lent matrix
 abbrev pub placed : Lent → Tests
 placed a = placeTests (a .rows) (a .cols) (a .row) (a .col)
 
--- 8, 9, 10: the layout over w columns
+-- 8, 9, 10: the layout of segments of the lengths ns over w columns
 abbrev pub layoutTests : ℕ → List ℕ → Tests
-layoutTests w ns = (8, not (every (isLength w) ns)) ∷ (9, ltb w (layoutEnd ns)) ∷ (10, ltb 64 (length ns)) ∷ []
+layoutTests w ns = (8, not (every (isLength w) ns)) ∷ (9, ltb w (layoutEnd ns)) ∷ (10, ltb mostSegments (length ns)) ∷ []
 
--- 11: words that are not as many as wanted
+-- 11: words that are not as many as the n that are wanted
+abbrev pub lengthTestOf : ℕ → ℕ → Tests
+lengthTestOf n k = (11, not (eqb k n)) ∷ []
+
+-- 11, of the words s
 abbrev pub lengthTest : ℕ → List ℕ → Tests
-lengthTest n s = (11, not (eqb (length s) n)) ∷ []
+lengthTest n s = lengthTestOf n (length s)
 
--- 15: fewer words lent than are wanted
+-- 15: fewer words lent than the n that are wanted
+abbrev pub roomTestOf : ℕ → ℕ → Tests
+roomTestOf n k = (15, ltb k n) ∷ []
+
+-- 15, of the words s
 abbrev pub roomTest : ℕ → List ℕ → Tests
-roomTest n s = (15, ltb (length s) n) ∷ []
+roomTest n s = roomTestOf n (length s)
 
 -- a matrix alone: m is its columns
 abbrev pub loneTests : Lent → Tests
-loneTests a = columnTests (a .cols) ++ rowTests (a .rows) ++ counted a ++ placed a
+loneTests a = columnTests (a .cols) ++ loneRowTests (a .rows) ++ counted a ++ placed a
 
 -- a matrix for the packed words ws of q logins with w columns and the public words x
 abbrev pub batchTests : Lent → List ℕ → List ℕ → ℕ → ℕ → Tests
 batchTests a ws x q w =
-    sizeTests (2 * w) q ++ packedTests w q ws ++ publicTests (2 * w) x ++ rowsTests q (a .rows) ++ colsTests (2 * w) (a .cols)
+    sizeTests (2 * w) q ++ packedTests w q ws ++ publicTests (2 * w) x ++ rowsTests q (a .rows) ++ matrixColumnTests (2 * w) (a .cols)
     ++ counted a ++ placed a

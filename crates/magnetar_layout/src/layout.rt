@@ -149,7 +149,7 @@ pub fn suffix_bits(w: usize, lens: &[usize], i: usize) -> Reading
     Reading::NoSegment
 }
 
-// The offset of segment i divided by its length: the number that its suffix bits have on it.
+// The offset of segment i divided by its length: the value of a column's bits above those of the segment.
 pub fn b_i(w: usize, lens: &[usize], i: usize) -> Reading
     ensures { λ r. ⌜ read r ≡ readOf w (now (lens .entry)) i (suffix (now (lens .entry)) i) ⌝ }
 {

@@ -89,7 +89,7 @@ pub fn lone(rows: usize, cols: usize, row: &[usize], col: &[usize], lo: &[u64], 
 }
 
 // A segment of w columns may have the length n.
-pub fn is_length(w: usize, n: usize) -> bool
+fn is_length(w: usize, n: usize) -> bool
     ensures { λ r. ⌜ r ≡ isLength w n ⌝ }
 {
     if n == 0 {
@@ -102,7 +102,7 @@ pub fn is_length(w: usize, n: usize) -> bool
 }
 
 // 8: each segment may have its length.
-pub fn all_lengths(w: usize, lens: &[usize]) -> bool
+pub(crate) fn all_lengths(w: usize, lens: &[usize]) -> bool
     ensures { λ r. ⌜ r ≡ every (isLength w) (now (lens .entry)) ⌝ }
 {
     let mut i = 0;

@@ -1,10 +1,11 @@
--- The matrix that is lent as four number slices, entry k being row k, column k and the value with the words lo k and hi k.
+-- The matrix that a lent one (`Lent` of `magnetar_layout`) is.
 -- Assumes nothing.
 use mathlib.Core.List.{List, [], _∷_}
 use Prim.Native.Nat.{ℕ, _+_, _*_, _^_}
 pub use Rattle.magnetar_layout.specs.Lent.{Lent, lent}
 use Rattle.magnetar_matrix.specs.Matrix.{Entry, Matrix}
 
+-- an entry from its row, its column, and the low and the high word of its value
 abbrev pub entry : ℕ → ℕ → ℕ → ℕ → Entry
 entry r c l h = record { row = r; col = c; value = h * 2 ^ 64 + l }
 

@@ -11,11 +11,13 @@ use Rattle.magnetar_field.specs.Tabulate.{tabulate}
 use Rattle.magnetar_multilinear.specs.EqTable.{eqAt, eqTable}
 use Rattle.magnetar_layout.specs.Every.{every}
 
+-- an entry: its row, its column, and its value, an element
 pub record Entry : Type 0 where
   pub row : ℕ
   pub col : ℕ
   pub value : ℕ
 
+-- a matrix: how many rows and columns it has, and its entries
 pub record Matrix : Type 0 where
   pub rows : ℕ
   pub cols : ℕ
@@ -48,6 +50,7 @@ timesAt m z i = rowTotal (share z) (m .entries) i
 unfoldable pub times : Matrix → List ℕ → List ℕ
 times m z = tabulate (timesAt m z) (m .rows)
 
+-- the entry with its row and column exchanged
 abbrev pub swapped : Entry → Entry
 swapped e = record { row = e .col; col = e .row; value = e .value }
 
@@ -72,7 +75,11 @@ isBit e = ltb (e .value) 2
 unfoldable pub binary : Matrix → Bool
 binary m = every isBit (m .entries)
 
+-- the value is 0 or 1 and the column does not exceed w
+abbrev pub bitUpTo : ℕ → Entry → Bool
+bitUpTo w e = isBit e && leb (e .col) w
+
 -- the packed flag: each value is 0 or 1 and no column exceeds w, so that M z is 0 or 1 in each row where z is (bits, 1, ..) with w
 -- bits
 unfoldable pub bitValued : ℕ → Matrix → Bool
-bitValued w m = every (λ e. isBit e && leb (e .col) w) (m .entries)
+bitValued w m = every (bitUpTo w) (m .entries)

@@ -1,7 +1,7 @@
 -- The batch as packed words: each login has two words of 64 bits for each 128 columns or part of 128, the lowest column in
 -- the lowest bit of its first word. Bits at or past w belong to no column.
 -- Assumes nothing.
-use mathlib.Core.List.{List}
+use mathlib.Core.List.{List, _∷_, _++_}
 use Prim.Native.Nat.{ℕ, _*_, _/_, _%_, _^_}
 use lib.ListN.{getD, take, drop}
 use Rattle.magnetar_field.specs.Tabulate.{tabulate}
@@ -17,6 +17,10 @@ packedBit ws y = getD ws (y / 64) 0 / 2 ^ (y % 64) % 2
 -- the words of login u
 unfoldable pub loginPart : ℕ → List ℕ → ℕ → List ℕ
 loginPart w ws u = take (loginWords w) (drop (u * loginWords w) ws)
+
+-- z = (bits, 1, x) of a login with the words ws and w columns
+unfoldable pub zOf : ℕ → List ℕ → List ℕ → List ℕ
+zOf w ws x = tabulate (packedBit ws) w ++ (1 ∷ x)
 
 -- the batch of q logins with w columns that the words hold
 unfoldable pub unpacked : ℕ → ℕ → List ℕ → Batch

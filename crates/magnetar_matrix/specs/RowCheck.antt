@@ -27,6 +27,7 @@ pub data Verdict : Type 0 where
   good : Verdict
   bin fld : ℕ → ℕ → Verdict
 
+-- the verdict on a batch and its public columns
 unfoldable pub rowVerdict : Relation → Batch → List ℕ → Verdict
 rowVerdict r b x =
     cond (eqb (failingLogin (r .bin) (r .q) b x) (r .q))

@@ -5,7 +5,8 @@ ghost use mathlib.Core.Path.{_≡_};
 ghost use Rattle.magnetar_field.specs.Words.{elements};
 ghost use Rattle.magnetar_matrix.specs.RowCheck.{firstNot, holdsAt};
 
-// The first row that does not hold of n rows, or n; past the end of s stands 0.
+// The first row that does not hold of n rows, or n. s holds the products A z, B z and C z, n elements each, one behind the other; past
+// its end stands 0.
 pub fn first_failing(s: &[u64], n: usize) -> usize
     ensures { λ r. ⌜ r ≡ firstNot (holdsAt (elements (now (s .entry))) n) n ⌝ }
 {

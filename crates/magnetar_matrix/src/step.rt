@@ -3,10 +3,10 @@ use magnetar_field::gf128;
 use magnetar_field::gf128::Gf128;
 use magnetar_field::words;
 ghost use mathlib.Core.Path.{_≡_};
-ghost use Prim.Native.Nat.{_<_};
+ghost use Prim.Native.Nat.{_*_, _%_, _^_, _<_};
 ghost use Rattle.magnetar_field.specs.Gf128.{value, _⊗_};
 ghost use Rattle.magnetar_matrix.specs.Packed.{packedBit};
-ghost use Rattle.magnetar_matrix.specs.Table.{addedIn};
+ghost use Rattle.magnetar_matrix.specs.Table.{addedIn, addedAt};
 
 // Adds e to the element at index k, where there is one.
 pub fn add_at(out: &mut [u64], k: usize, e: Gf128)
@@ -14,6 +14,25 @@ pub fn add_at(out: &mut [u64], k: usize, e: Gf128)
 {
     let v = words::get(out, k);
     words::put(out, k, gf128::add(v, e));
+}
+
+// Adds the bits of a word to the word at index k, where there is one.
+pub fn add_word(out: &mut [u64], k: usize, word: u64)
+    ensures { λ _. ⌜ now (out .exit) ≡ addedAt (now (out .entry)) k word ⌝ }
+{
+    if k < out.len() {
+        out[k] = out[k] ^ word;
+    }
+}
+
+// A word moved up by t bits, without those past its end.
+pub fn shifted(word: u64, t: usize) -> u64
+    ensures { λ r. ⌜ r ≡ word * 2 ^ t % 2 ^ 64 ⌝ }
+{
+    if t < 64 {
+        return word << t;
+    }
+    0
 }
 
 // v times e, by a mask where v is 0 or 1.

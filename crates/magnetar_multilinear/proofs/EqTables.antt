@@ -14,8 +14,8 @@ use lib.Seq.{drop-cons}
 use lib.Pow.{pow-pos}
 use Rattle.magnetar_field.specs.Gf128.{_⊕_, _⊗_}
 use Rattle.magnetar_field.specs.Tabulate.{tabulate}
-use Rattle.magnetar_multilinear.specs.EqTable.{eqFactor, odd, eqAt, eqBits, eqTable, scaledTable}
-use Rattle.magnetar_field.specs.Doubling.{doubled}
+use Rattle.magnetar_multilinear.specs.EqTable.{eqFactor, odd, eqAt, eqAtBits, eqTable, scaledTable}
+use Rattle.magnetar_multilinear.specs.Doubling.{doubled}
 use Rattle.magnetar_field.proofs.Product.{⊗-comm, ⊗-left-comm, ⊗-⊕, ⊗-one, one-⊗, ⊗-lt}
 use Rattle.magnetar_field.proofs.Tabulation.{tabulate-length, tabulate-get, tabulate-of, tabulate-ext}
 
@@ -103,16 +103,16 @@ unfolding eqTable tabulate eqAt
 eqTable-nil = refl
 
 -- ---- eq at bits, the last variable first
-pub eqBits-none : (p : List ℕ) (bs : List Bool) (n : ℕ) → length p ≡ n → length bs ≡ n → eqBits (drop n p) (drop n bs) ≡ 1
-unfolding eqBits
-eqBits-none p bs n e f = rw (drop-of-length-le p {i = n} (omega arith))
+pub eqAtBits-none : (p : List ℕ) (bs : List Bool) (n : ℕ) → length p ≡ n → length bs ≡ n → eqAtBits (drop n p) (drop n bs) ≡ 1
+unfolding eqAtBits
+eqAtBits-none p bs n e f = rw (drop-of-length-le p {i = n} (omega arith))
 
-eqBits-cons : (p : List ℕ) (bs : List Bool) (j : ℕ) → j < length p → j < length bs
-    → eqFactor (getD p j 0) (getD bs j false) ⊗ eqBits (drop (suc j) p) (drop (suc j) bs) ≡ eqBits (drop j p) (drop j bs)
-unfolding eqBits
-eqBits-cons p bs j h g = rw (drop-cons p j 0 h, drop-cons bs j false g)
+eqAtBits-cons : (p : List ℕ) (bs : List Bool) (j : ℕ) → j < length p → j < length bs
+    → eqFactor (getD p j 0) (getD bs j false) ⊗ eqAtBits (drop (suc j) p) (drop (suc j) bs) ≡ eqAtBits (drop j p) (drop j bs)
+unfolding eqAtBits
+eqAtBits-cons p bs j h g = rw (drop-cons p j 0 h, drop-cons bs j false g)
 
-pub eqBits-more : (p : List ℕ) (bs : List Bool) (j acc : ℕ) → 0 < j → j ≤ length p → j ≤ length bs → acc ≡ eqBits (drop j p) (drop j bs)
-    → eqFactor (getD p (j - 1) 0) (getD bs (j - 1) false) ⊗ acc ≡ eqBits (drop (j - 1) p) (drop (j - 1) bs)
-eqBits-more p bs zero acc pos h g e = absurd (omega arith)
-eqBits-more p bs (suc j) acc pos h g e = rw (sub-one, e) (eqBits-cons p bs j h g)
+pub eqAtBits-more : (p : List ℕ) (bs : List Bool) (j acc : ℕ) → 0 < j → j ≤ length p → j ≤ length bs → acc ≡ eqAtBits (drop j p) (drop j bs)
+    → eqFactor (getD p (j - 1) 0) (getD bs (j - 1) false) ⊗ acc ≡ eqAtBits (drop (j - 1) p) (drop (j - 1) bs)
+eqAtBits-more p bs zero acc pos h g e = absurd (omega arith)
+eqAtBits-more p bs (suc j) acc pos h g e = rw (sub-one, e) (eqAtBits-cons p bs j h g)

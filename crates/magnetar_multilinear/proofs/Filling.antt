@@ -10,7 +10,7 @@ use lib.Pow.{pow-mono}
 use lib.ListN.{length, getD, set, take, drop, drop-of-length-le}
 use lib.Seq.{take-all, take-suc-set, drop-cons}
 use Rattle.magnetar_multilinear.specs.EqTable.{scaledTable}
-use Rattle.magnetar_field.specs.Doubling.{doubled}
+use Rattle.magnetar_multilinear.specs.Doubling.{doubled}
 use Rattle.magnetar_multilinear.proofs.EqTables.{scaled-nil, scaled-cons}
 
 pub record Filled (c n : ℕ) (p t : List ℕ) (m j : ℕ) : Type 0 where

@@ -1,3 +1,4 @@
+pub mod Doublings
 pub mod EqTables
 pub mod Filling
 pub mod Refusals

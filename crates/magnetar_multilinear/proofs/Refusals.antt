@@ -7,7 +7,7 @@ use Prim.Native.Nat.{ℕ, _*_, _/_, _%_, _^_, _≤_, _<_}
 use lib.ListN.{length}
 use borrow.Author.Tests.{ne-eqb, eq-eqb, lt-ltb, le-ltb}
 use Rattle.magnetar_field.specs.Sizes.{log₂}
-use Rattle.magnetar_multilinear.specs.Entries.{eqRefusal, eqBitsRefusal, mleRefusal, bindRefusal, tableWords}
+use Rattle.magnetar_multilinear.specs.Entries.{eqRefusal, eqAtBitsRefusal, mleRefusal, bindRefusal, tableWords}
 
 module _ (p out : List ℕ) where
   pub eq-odd : (length p % 2 ≡ 0 → ⊥) → eqRefusal p out ≡ 11
@@ -27,12 +27,12 @@ module _ (p out : List ℕ) where
   eq-none even fits room = simp (eq-eqb _ _ even, le-ltb _ _ fits, le-ltb _ _ room)
 
 module _ (p : List ℕ) (b : List Bool) where
-  pub bits-other : (length p ≡ 2 * length b → ⊥) → eqBitsRefusal p b ≡ 11
-  unfolding eqBitsRefusal
+  pub bits-other : (length p ≡ 2 * length b → ⊥) → eqAtBitsRefusal p b ≡ 11
+  unfolding eqAtBitsRefusal
   bits-other n = simp (ne-eqb _ _ n)
 
-  pub bits-none : length p ≡ 2 * length b → eqBitsRefusal p b ≡ 0
-  unfolding eqBitsRefusal
+  pub bits-none : length p ≡ 2 * length b → eqAtBitsRefusal p b ≡ 0
+  unfolding eqAtBitsRefusal
   bits-none e = simp (eq-eqb _ _ e)
 
 module _ (t p s : List ℕ) where

@@ -19,6 +19,7 @@ pub data Answer : Type 0 where
   element : ℕ → Answer
   refusal : ℕ → Answer
 
+-- the answer that a value of the code's enum is
 abbrev pub answer : Evaluated → Answer
 answer (Value e) = element (value e)
 answer (Refused n) = refusal n
@@ -36,9 +37,11 @@ abbrev pub tableWords : List ℕ → ℕ
 tableWords p = 2 * 2 ^ (length p / 2)
 
 -- ---- `EqBits::build`, `eq_build_fused`: point p, output out
+-- 11: no point; 15: less room than the table's words
 unfoldable pub eqRefusal : List ℕ → List ℕ → ℕ
 eqRefusal p out = refuse 11 (noPoint p) (refuse 15 (ltb (length out) (tableWords p)) 0)
 
+-- the output: the words of the table, then what stood behind them
 abbrev pub eqOut : List ℕ → List ℕ → List ℕ
 eqOut p out = unlessRefused (eqRefusal p out) (words (eqTable (elements p)) ++ drop (tableWords p) out) out
 
@@ -47,23 +50,27 @@ abbrev pub scaledOut : List ℕ → ℕ → List ℕ → List ℕ
 scaledOut p c out = unlessRefused (eqRefusal p out) (words (scaledTable c (elements p)) ++ drop (tableWords p) out) out
 
 -- ---- `eq_table`: point p, bits b
-unfoldable pub eqBitsRefusal : List ℕ → List Bool → ℕ
-eqBitsRefusal p b = refuse 11 (not (eqb (length p) (2 * length b))) 0
+-- 11: not a bit for each element of the point
+unfoldable pub eqAtBitsRefusal : List ℕ → List Bool → ℕ
+eqAtBitsRefusal p b = refuse 11 (not (eqb (length p) (2 * length b))) 0
 
 -- ---- `eval_mle`: values t, point p, scratch s
+-- 11: no point, or not a value for each entry of its table; 15: less scratch than values
 unfoldable pub mleRefusal : List ℕ → List ℕ → List ℕ → ℕ
 mleRefusal t p s =
     refuse 11 (noPoint p || not (eqb (length t) (tableWords p)))
     (refuse 15 (ltb (length s) (length t)) 0)
 
+-- the scratch: zeros, as many as there are value words, then what stood behind them
 abbrev pub mleScratch : List ℕ → List ℕ → List ℕ → List ℕ
 mleScratch t p s = unlessRefused (mleRefusal t p s) (replicate (length t) 0 ++ drop (length t) s) s
 
 -- ---- `bind_var`, `fold_pairs`: table t, variable v, element r
--- the words are no table of 2^n elements, or v is none of its n variables
+-- 11: the words are no table of 2^n elements, or v is none of its n variables
 unfoldable pub bindRefusal : List ℕ → ℕ → ℕ
 bindRefusal t v =
     refuse 11 (not (eqb (length t) (2 * 2 ^ log₂ (length t / 2))) || not (ltb v (log₂ (length t / 2)))) 0
 
+-- the table: the words of the bound table in its first half, its second half as it was
 abbrev pub bindOut : List ℕ → ℕ → ℕ → List ℕ
 bindOut t v r = unlessRefused (bindRefusal t v) (words (bindVar v r (elements t)) ++ drop (length t / 2) t) t

@@ -23,10 +23,10 @@ eqAt [] i = 1
 eqAt (r ∷ p) i = eqFactor r (odd i) ⊗ eqAt p (i / 2)
 
 -- eq at a point given by its bits, the first one that of variable 0
-unfoldable pub eqBits : List ℕ → List Bool → ℕ
-eqBits [] bs = 1
-eqBits (r ∷ p) [] = 1
-eqBits (r ∷ p) (b ∷ bs) = eqFactor r b ⊗ eqBits p bs
+unfoldable pub eqAtBits : List ℕ → List Bool → ℕ
+eqAtBits [] bs = 1
+eqAtBits (r ∷ p) [] = 1
+eqAtBits (r ∷ p) (b ∷ bs) = eqFactor r b ⊗ eqAtBits p bs
 
 -- eq(p, 0), eq(p, 1), .., an entry for each number of as many bits as p has elements
 unfoldable pub eqTable : List ℕ → List ℕ

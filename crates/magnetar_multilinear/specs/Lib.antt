@@ -1,3 +1,4 @@
+pub mod Doubling
 pub mod EqTable
 pub mod Multilinear
 pub mod Binding

@@ -9,9 +9,9 @@ ghost use Prim.Native.Nat.{_+_, _*_, _^_, _≤_, _<_};
 ghost use lib.ListN.{length, take};
 ghost use Rattle.magnetar_field.specs.Gf128.{value};
 ghost use Rattle.magnetar_field.specs.Words.{elements};
-ghost use Rattle.magnetar_multilinear.specs.EqTable.{eqFactor, eqBits, scaledTable};
-ghost use Rattle.magnetar_field.specs.Doubling.{splitEntry, doubled};
-ghost use Rattle.magnetar_multilinear.specs.Entries.{answer, answered, eqRefusal, eqOut, scaledOut, eqBitsRefusal};
+ghost use Rattle.magnetar_multilinear.specs.EqTable.{eqFactor, eqAtBits, scaledTable};
+ghost use Rattle.magnetar_multilinear.specs.Doubling.{splitEntry, doubled};
+ghost use Rattle.magnetar_multilinear.specs.Entries.{answer, answered, eqRefusal, eqOut, scaledOut, eqAtBitsRefusal};
 
 // The factor of one variable.
 pub fn eq_char2(x: Gf128, b: bool) -> Gf128
@@ -23,7 +23,7 @@ pub fn eq_char2(x: Gf128, b: bool) -> Gf128
 // The value of eq at the point and the bits, bit 0 that of the point's first element.
 // 11: not as many bits as the point has elements.
 pub fn eq_table(point: &[u64], bits: &[bool]) -> Evaluated
-    ensures { λ r. ⌜ answer r ≡ answered (eqBitsRefusal (now (point .entry)) (now (bits .entry))) (eqBits (elements (now (point .entry))) (now (bits .entry))) ⌝ }
+    ensures { λ r. ⌜ answer r ≡ answered (eqAtBitsRefusal (now (point .entry)) (now (bits .entry))) (eqAtBits (elements (now (point .entry))) (now (bits .entry))) ⌝ }
 {
     if point.len() % 2 != 0 {
         return Evaluated::Refused(11);
@@ -87,7 +87,7 @@ pub(crate) fn table_words(n: usize) -> usize
 // The product of the factors of all n variables.
 fn eq_product(point: &[u64], bits: &[bool], n: usize) -> Gf128
     requires { ⌜ (length (now point) ≡ 2 * n) × (length (now bits) ≡ n) ⌝ }
-    ensures { λ r. ⌜ value r ≡ eqBits (elements (now (point .entry))) (now (bits .entry)) ⌝ }
+    ensures { λ r. ⌜ value r ≡ eqAtBits (elements (now (point .entry))) (now (bits .entry)) ⌝ }
 {
     let mut acc = ONE;
     let mut j = n;

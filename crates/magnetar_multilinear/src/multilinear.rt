@@ -94,20 +94,12 @@ fn bind(t: &mut [u64], pairs: usize, v: usize, r: Gf128)
     requires { ⌜ BindFits (length (now t)) pairs v ⌝ }
     ensures { λ _. ⌜ elements (now (t .exit)) ≡ bindVar v (value r) (take (2 * pairs) (elements (now (t .entry)))) ++ drop pairs (elements (now (t .entry))) ⌝ }
 {
-    let block = power_of_two(v);
+    let block = sizes::power_of_two(v);
     let mut i = 0;
     while i < pairs {
         bind_entry(t, i, insert_zero(i, block), block, r);
         i += 1;
     }
-}
-
-// 2^k.
-fn power_of_two(k: usize) -> usize
-    requires { ⌜ k < 64 ⌝ }
-    ensures { λ r. ⌜ r ≡ 2 ^ k ⌝ }
-{
-    1 << k
 }
 
 // i with the bit 0 put in at the place of block, a power of two.

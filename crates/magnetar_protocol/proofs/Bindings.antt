@@ -15,7 +15,7 @@ use lib.Pow.{pow-pos}
 use lib.Seq.{length-take-le, getD-take, getD-drop}
 use Rattle.magnetar_field.specs.Gf128.{_⊕_, _⊗_}
 use Rattle.magnetar_field.specs.Tabulate.{tabulate}
-use Rattle.magnetar_field.specs.Doubling.{doubled}
+use Rattle.magnetar_multilinear.specs.Doubling.{doubled}
 use Rattle.magnetar_multilinear.specs.EqTable.{eqAt, eqTable}
 use Rattle.magnetar_multilinear.specs.Multilinear.{dot, mle, line, insertZero, bindVar}
 use Rattle.magnetar_field.proofs.Xor.{xor, ⊕-lt, ⊕-four, ⊕-zero, ⊕-comm, ⊕-assoc}

@@ -1,7 +1,7 @@
 -- The walk for the masks: the words that it leaves are the masks of the outputs.
 -- Assumes nothing.
 use mathlib.Core.Path.{_≡_, refl, sym, _∙_}
-use mathlib.Core.Bool.{Bool, true, false, cond, _&&_}
+use mathlib.Core.Bool.{Bool, true, false, cond}
 use mathlib.Core.List.{List, [], _∷_, _++_}
 use Prim.Native.Nat.{ℕ, zero, suc, _+_, _-_, _*_, _%_, _^_, _≤_, _<_}
 use native.Mathlib.Nat.{mod-eq-of-lt, one-mul, mul-one, zero-mul, mul-zero, mul-le-mul-right, suc-mul, pow-suc, le-trans}
@@ -22,7 +22,7 @@ use Rattle.magnetar_layout.specs.Tests.{Sized}
 use Rattle.magnetar_field.specs.Sizes.{log₂}
 use Rattle.magnetar_r1cs.proofs.Points.{log-most}
 use Rattle.magnetar_matrix.specs.Sum.{sumBelow, blocks}
-use Rattle.magnetar_matrix.specs.Matrix.{Entry, sumOver, rowTotal, share, timesAt, isBit, bitValued}
+use Rattle.magnetar_matrix.specs.Matrix.{Entry, sumOver, rowTotal, share, timesAt, isBit, bitUpTo, bitValued}
 use Rattle.magnetar_matrix.specs.Batch.{assignment}
 use Rattle.magnetar_matrix.specs.Packed.{loginWords, packedBit, loginPart, unpacked}
 use Rattle.magnetar_matrix.specs.Lent.{Lent, entry, entriesOf, matrixOf}
@@ -38,7 +38,7 @@ use Rattle.magnetar_matrix.proofs.Carried.{raised-tabulate}
 place-fits : (b t : ℕ) → b < 2 → t < 64 → b * 2 ^ t < 2 ^ 64
 place-fits b t h l = bit-cases (λ (x : ℕ). x * 2 ^ t < 2 ^ 64) (rw zero-mul (pow-pos 64)) (rw one-mul (pow-lt l)) b h
 
-pub placed-is : (b t : ℕ) → b < 2 → t < 64 → b * 2 ^ t % 2 ^ 64 ≡ b * 2 ^ t
+placed-is : (b t : ℕ) → b < 2 → t < 64 → b * 2 ^ t % 2 ^ 64 ≡ b * 2 ^ t
 placed-is b t h l = mod-eq-of-lt (place-fits b t h l)
 
 -- ---- the share of an entry
@@ -47,13 +47,13 @@ module _ (w : ℕ) (ws : List ℕ) (t c l : ℕ) where
   unfolding flipAt
   flip-none e = rw (e, mul-zero, zero-mul)
 
-  pub flip-bit : (l % 2 ≡ 0 → ⊥) → c < w → packedBit ws c * 2 ^ t ≡ flipAt w ws t c l
+  pub flip-bit : t < 64 → (l % 2 ≡ 0 → ⊥) → c < w → packedBit ws c * 2 ^ t % 2 ^ 64 ≡ flipAt w ws t c l
   unfolding flipAt
-  flip-bit n h = let e : l % 2 ≡ 1 = omega arith in rw (lt-ltb c w h, e, mul-one)
+  flip-bit s n h = let e : l % 2 ≡ 1 = omega arith in rw (placed-is (packedBit ws c) t (bit-lt ws c) s, lt-ltb c w h, e, mul-one)
 
-  pub flip-one : (l % 2 ≡ 0 → ⊥) → w ≤ c → 1 * 2 ^ t ≡ flipAt w ws t c l
+  pub flip-one : t < 64 → (l % 2 ≡ 0 → ⊥) → w ≤ c → 1 * 2 ^ t % 2 ^ 64 ≡ flipAt w ws t c l
   unfolding flipAt
-  flip-one n h = let e : l % 2 ≡ 1 = omega arith in rw (le-ltb c w h, e, mul-one)
+  flip-one s n h = let e : l % 2 ≡ 1 = omega arith in rw (placed-is 1 t (omega arith) s, le-ltb c w h, e, mul-one)
 
 pub flip-entry : (w : ℕ) (ws : List ℕ) (t r c l h : ℕ) → flipAt w ws t c l ≡ flip w ws t (entry r c l h)
 unfolding flip flipAt
@@ -110,20 +110,20 @@ module _ (w : ℕ) (ws : List ℕ) where
           let e : c - w ≡ 0 = omega (arith, ltb-false c w t) in
           z-public w [] ws c (ltb-false c w t) ∙ rw e
 
-  share-is : (e : Entry) → (isBit e && leb (e .col) w) ≡ true → share z e ≡ bitOrOne (e .col) * e .value
+  share-is : (e : Entry) → bitUpTo w e ≡ true → share z e ≡ bitOrOne (e .col) * e .value
   unfolding share
   share-is e t =
       let k = both (isBit e) (leb (e .col) w) t in
       let v : e .value < 2 = ltb-true (e .value) 2 (k .0) in
       rw (z-at (e .col) (leb-true (e .col) w (k .1))) (sym (⊗-bit (bitOrOne (e .col)) (e .value) (one-lt (e .col)) (le-trans v (pow-mono {i = 1} {j = 128} (omega arith)))))
 
-  share-lt : (e : Entry) → (isBit e && leb (e .col) w) ≡ true → share z e < 2
+  share-lt : (e : Entry) → bitUpTo w e ≡ true → share z e < 2
   share-lt e t =
       let k = both (isBit e) (leb (e .col) w) t in
       let v : e .value < 2 = ltb-true (e .value) 2 (k .0) in
       rw (share-is e t) (bit-cases (λ (x : ℕ). x * e .value < 2) (rw zero-mul (omega arith)) (rw one-mul v) (bitOrOne (e .col)) (one-lt (e .col)))
 
-  flip-is : (t : ℕ) (e : Entry) → (isBit e && leb (e .col) w) ≡ true → flip w ws t e ≡ share z e * 2 ^ t
+  flip-is : (t : ℕ) (e : Entry) → bitUpTo w e ≡ true → flip w ws t e ≡ share z e * 2 ^ t
   unfolding flip flipAt
   flip-is t e p =
       let k = both (isBit e) (leb (e .col) w) p in
@@ -171,7 +171,7 @@ module _ (a : Lent) (ws : List ℕ) (q w d n : ℕ) (bits : bitValued w (matrixO
   abbrev es : List Entry
   es = entriesOf (a .row) (a .col) (a .lo) (a .hi)
 
-  every-bit : every (λ e. isBit e && leb (e .col) w) es ≡ true
+  every-bit : every (bitUpTo w) es ≡ true
   every-bit = unfold bitValued matrixOf in bits
 
   output-is : (u r : ℕ) → u < q → timesAt (matrixOf a) (assignment (unpacked q w ws) [] u) r ≡ rowTotal (share (z w (loginPart w ws u))) es r
@@ -179,12 +179,12 @@ module _ (a : Lent) (ws : List ℕ) (q w d n : ℕ) (bits : bitValued w (matrixO
   output-is u r h = rw (assigned q w ws [] u h)
 
   pub output-lt : (u r : ℕ) → u < q → timesAt (matrixOf a) (assignment (unpacked q w ws) [] u) r < 2
-  output-lt u r h = rw (output-is u r h) (row-lt (share (z w (loginPart w ws u))) (λ e. isBit e && leb (e .col) w) es r every-bit (share-lt w (loginPart w ws u)))
+  output-lt u r h = rw (output-is u r h) (row-lt (share (z w (loginPart w ws u))) (bitUpTo w) es r every-bit (share-lt w (loginPart w ws u)))
 
   flips-are : (u t r : ℕ) → u < q → rowTotal (flip w (loginPart w ws u) t) es r ≡ timesAt (matrixOf a) (assignment (unpacked q w ws) [] u) r * 2 ^ t
   flips-are u t r h =
       rw (output-is u r h)
-      (row-place (flip w (loginPart w ws u) t) (share (z w (loginPart w ws u))) t (λ e. isBit e && leb (e .col) w) es r every-bit
+      (row-place (flip w (loginPart w ws u) t) (share (z w (loginPart w ws u))) t (bitUpTo w) es r every-bit
       (share-lt w (loginPart w ws u)) (flip-is w (loginPart w ws u) t))
 
   mask-is : (low r : ℕ) → low < d → flipTotal w ws es d low n r ≡ maskAt (matrixOf a) (unpacked q w ws) d n low r

@@ -15,39 +15,47 @@ use Rattle.magnetar_matrix.specs.Matrix.{times, mleTable, mleAt, bitValued}
 use Rattle.magnetar_r1cs.specs.Masks.{masks}
 use Rattle.magnetar_matrix.specs.Packed.{packedTable, unpacked}
 use Rattle.magnetar_matrix.specs.Lent.{Lent, matrixOf}
-use Rattle.magnetar_layout.specs.Tests.{Tests, noted, sizeTests, packedTests, rowsTests, colsTests, counted, placed, batchTests, lengthTest, roomTest, loneTests}
+use Rattle.magnetar_layout.specs.Tests.{Tests, noted, sizeTests, packedTests, rowsTests, matrixColumnTests, counted, placed, batchTests, lengthTest, roomTest, loneTests}
 
 -- ---- `apply`: the matrix a, the vector z, the output out
+-- those of a matrix alone; 11: z; 15: the output
 unfoldable pub applyRefusal : Lent → List ℕ → List ℕ → ℕ
 applyRefusal a z out = noted 0 (loneTests a ++ lengthTest (2 * a .cols) z ++ roomTest (2 * a .rows) out)
 
+-- the output: the words of the product, then what stood behind them
 abbrev pub applyOut : Lent → List ℕ → List ℕ → List ℕ
 applyOut a z out =
     unlessRefused (applyRefusal a z out) (words (times (matrixOf a) (elements z)) ++ drop (2 * a .rows) out) out
 
 -- ---- `eval_mle_table`: the matrix a, the row point r, the output out, the scratch s
+-- those of a matrix alone; 11: the point; 15: the output or the scratch
 unfoldable pub tableRefusal : Lent → List ℕ → List ℕ → List ℕ → ℕ
 tableRefusal a r out s =
     noted 0 (loneTests a ++ lengthTest (2 * log₂ (a .rows)) r ++ roomTest (2 * a .cols) out ++ roomTest (2 * a .rows) s)
 
+-- the output: the words of the table, then what stood behind them
 abbrev pub tableOut : Lent → List ℕ → List ℕ → List ℕ → List ℕ
 tableOut a r out s =
     unlessRefused (tableRefusal a r out s) (words (mleTable (matrixOf a) (elements r)) ++ drop (2 * a .cols) out) out
 
+-- the scratch: zeros, two for each row, then what stood behind them
 abbrev pub tableScratch : Lent → List ℕ → List ℕ → List ℕ → List ℕ
 tableScratch a r out s =
     unlessRefused (tableRefusal a r out s) (replicate (2 * a .rows) 0 ++ drop (2 * a .rows) s) s
 
 -- ---- `eval_mle_at`: the matrix a, the row point r, the column point c, the scratch s
+-- those of a matrix alone; 11: the points; 15: the scratch
 unfoldable pub atRefusal : Lent → List ℕ → List ℕ → List ℕ → ℕ
 atRefusal a r c s =
     noted 0
     (loneTests a ++ lengthTest (2 * log₂ (a .rows)) r ++ lengthTest (2 * log₂ (a .cols)) c
     ++ roomTest (2 * (a .rows + a .cols)) s)
 
+-- the value of the extension, or the refusal
 abbrev pub atAnswer : Lent → List ℕ → List ℕ → List ℕ → Answer
 atAnswer a r c s = answered (atRefusal a r c s) (mleAt (matrixOf a) (elements r) (elements c))
 
+-- the scratch: zeros, two for each row and column, then what stood behind them
 abbrev pub atScratch : Lent → List ℕ → List ℕ → List ℕ → List ℕ
 atScratch a r c s =
     unlessRefused (atRefusal a r c s) (replicate (2 * (a .rows + a .cols)) 0 ++ drop (2 * (a .rows + a .cols)) s) s
@@ -57,6 +65,7 @@ pub data Flagged : Type 0 where
   flag : Bool → Flagged
   refusal : ℕ → Flagged
 
+-- the answer that a value of the code's enum is
 abbrev pub flagged : Flag → Flagged
 flagged Yes = flag true
 flagged No = flag false
@@ -67,13 +76,16 @@ abbrev pub flaggedOf : ℕ → Bool → Flagged
 flaggedOf n b = unlessRefused n (flag b) (refusal n)
 
 -- ---- `is_binary`: the matrix a
+-- those of a matrix alone
 unfoldable pub binaryRefusal : Lent → ℕ
 binaryRefusal a = noted 0 (loneTests a)
 
 -- ---- `apply_simd_packed`: the matrix a, the packed words ws of q logins with w columns, the public words x, the output out
+-- those of a matrix for a batch; 15: the output
 unfoldable pub packedRefusal : Lent → List ℕ → List ℕ → ℕ → ℕ → List ℕ → ℕ
 packedRefusal a ws x q w out = noted 0 (batchTests a ws x q w ++ roomTest (q * (2 * a .rows)) out)
 
+-- the output: the words of the products, one login behind the other, then what stood behind them
 abbrev pub packedOut : Lent → List ℕ → List ℕ → ℕ → ℕ → List ℕ → List ℕ
 packedOut a ws x q w out =
     unlessRefused (packedRefusal a ws x q w out)
@@ -83,7 +95,7 @@ packedOut a ws x q w out =
 -- the tests of `apply_simd_packed` but those of the public words and the room
 abbrev pub matrixTests : Lent → List ℕ → ℕ → ℕ → Tests
 matrixTests a ws q w =
-    sizeTests (2 * w) q ++ packedTests w q ws ++ rowsTests q (a .rows) ++ colsTests (2 * w) (a .cols) ++ counted a ++ placed a
+    sizeTests (2 * w) q ++ packedTests w q ws ++ rowsTests q (a .rows) ++ matrixColumnTests (2 * w) (a .cols) ++ counted a ++ placed a
 
 -- 12: some output may be neither 0 nor 1; 13: v is over log2 q, or over 6
 abbrev pub maskTests : Lent → ℕ → ℕ → ℕ → Tests
@@ -93,9 +105,11 @@ maskTests a q w v = (12, not (bitValued w (matrixOf a))) ∷ (13, ltb (log₂ q)
 abbrev pub maskCount : Lent → ℕ → ℕ → ℕ
 maskCount a q v = 2 ^ (log₂ q - v) * a .rows
 
+-- the tests of the matrix, then 12 and 13, then 15: the output
 unfoldable pub masksRefusal : Lent → List ℕ → ℕ → ℕ → ℕ → List ℕ → ℕ
 masksRefusal a ws q w v out = noted 0 (matrixTests a ws q w ++ maskTests a q w v ++ roomTest (maskCount a q v) out)
 
+-- the output: the masks, then what stood behind them
 abbrev pub masksOut : Lent → List ℕ → ℕ → ℕ → ℕ → List ℕ → List ℕ
 masksOut a ws q w v out =
     unlessRefused (masksRefusal a ws q w v out)

@@ -13,6 +13,7 @@ use Rattle.magnetar_matrix.specs.Packed.{packedBit, loginPart}
 unfoldable pub flipAt : ℕ → List ℕ → ℕ → ℕ → ℕ → ℕ
 flipAt w ws t c value = cond (ltb c w) (packedBit ws c) 1 * (value % 2) * 2 ^ t
 
+-- the same of an entry
 unfoldable pub flip : ℕ → List ℕ → ℕ → Entry → ℕ
 flip w ws t e = flipAt w ws t (e .col) (e .value)
 

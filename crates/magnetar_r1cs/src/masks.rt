@@ -3,7 +3,7 @@ use crate::r1cs;
 use magnetar_field::words;
 use magnetar_matrix::step;
 ghost use mathlib.Core.Path.{_≡_};
-ghost use Prim.Native.Nat.{_+_, _*_, _^_, _<_, _≤_};
+ghost use Prim.Native.Nat.{_+_, _*_, _<_, _≤_};
 ghost use lib.ListN.{length};
 ghost use Rattle.magnetar_matrix.specs.Sum.{blocks};
 ghost use Rattle.magnetar_matrix.specs.Matrix.{rowTotal};
@@ -11,31 +11,6 @@ ghost use Rattle.magnetar_matrix.specs.Packed.{loginWords};
 ghost use Rattle.magnetar_matrix.specs.Lent.{entriesOf};
 ghost use Rattle.magnetar_matrix.specs.Table.{addedAt, raised, Equal};
 ghost use Rattle.magnetar_r1cs.specs.Flips.{flipAt, flip, flipBlock};
-
-// 2^k.
-pub(crate) fn power(k: usize) -> usize
-    requires { ⌜ k < 64 ⌝ }
-    ensures { λ r. ⌜ r ≡ 2 ^ k ⌝ }
-{
-    1 << k
-}
-
-// The bit at place t.
-fn placed(bit: u64, t: usize) -> u64
-    requires { ⌜ (bit < 2) × (t < 64) ⌝ }
-    ensures { λ r. ⌜ r ≡ bit * 2 ^ t ⌝ }
-{
-    bit << t
-}
-
-// Adds the bits of a word to the word at index k, where there is one.
-fn add_word(out: &mut [u64], k: usize, word: u64)
-    ensures { λ _. ⌜ now (out .exit) ≡ addedAt (now (out .entry)) k word ⌝ }
-{
-    if k < out.len() {
-        out[k] = out[k] ^ word;
-    }
-}
 
 // The share of an entry at row r and column c whose value has the low word lo, at place t.
 fn add_flip(out: &mut [u64], r: usize, c: usize, lo: u64, w: usize, login: &[u64], t: usize)
@@ -46,10 +21,10 @@ fn add_flip(out: &mut [u64], r: usize, c: usize, lo: u64, w: usize, login: &[u64
         return;
     }
     if c < w {
-        add_word(out, r, placed(step::bit_at(login, c), t));
+        step::add_word(out, r, step::shifted(step::bit_at(login, c), t));
         return;
     }
-    add_word(out, r, placed(1, t));
+    step::add_word(out, r, step::shifted(1, t));
 }
 
 // Adds a login's outputs at place t.

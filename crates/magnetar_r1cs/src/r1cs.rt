@@ -473,8 +473,8 @@ pub fn apply_simd_bit_masks(
     if n != 0 {
         return n;
     }
-    let d = masks::power(s - v);
-    let c = masks::power(v);
+    let d = sizes::power_of_two(s - v);
+    let c = sizes::power_of_two(v);
     let end = d * rows;
     if out.len() < end {
         return 15;

@@ -8,12 +8,11 @@ use lib.ListN.{length}
 use Rattle.magnetar_layout.specs.Tests.{Tests, noted}
 use Rattle.magnetar_layout.proofs.Noted.{noted-append}
 use Rattle.magnetar_batch.specs.Systems.{Lent3, system, counted3, placed3, shapeTests6, systemsTests}
-use Rattle.magnetar_batch.specs.Check.{batchSizes, checkRefusal}
+use Rattle.magnetar_batch.specs.Check.{batchSizes, checkRoomTests, checkRefusal}
 use Rattle.magnetar_inplace.specs.declared.records.Entry.{Entry}
 use Rattle.magnetar_inplace.specs.Records.{lentOf}
 use Rattle.magnetar_inplace.specs.Steps.{recordTests6}
 use Rattle.magnetar_inplace.proofs.SixLaws.{insideOf, counted-is}
-use Rattle.magnetar_row_records.specs.Numbers.{checkRoomTests}
 
 -- ---- a group of tests among others
 module _ (a b l : Tests) where

@@ -14,13 +14,14 @@ use Rattle.magnetar_field.specs.Tabulate.{tabulate}
 use Rattle.magnetar_field.proofs.Elements.{words-length}
 use Rattle.magnetar_field.proofs.Tabulation.{tabulate-length}
 use Rattle.magnetar_matrix.specs.Matrix.{Entry, rowTotal, share}
-use Rattle.magnetar_matrix.specs.Packed.{loginPart}
-use Rattle.magnetar_batch.specs.Rows.{zOf, rowOf, loginRow}
+use Rattle.magnetar_matrix.specs.Packed.{loginPart, zOf}
+use Rattle.magnetar_batch.specs.Rows.{rowOf, loginRow}
 use Rattle.magnetar_matrix.proofs.FirstRow.{Below}
 use Rattle.magnetar_batch.proofs.RowLaws.{row-is, row-le}
 use Rattle.magnetar_inplace.specs.LoginSteps.{loginZ}
 use Rattle.magnetar_inplace.proofs.RecordLaws.{cleared-added}
-use Rattle.magnetar_row_records.specs.Steps.{behind, productIn, twiceOf, threeIn, rowIn, Walked, loginDone, systemDone}
+use Rattle.magnetar_inplace.specs.Steps.{behind}
+use Rattle.magnetar_row_records.specs.Steps.{productIn, twiceOf, threeIn, rowIn, Walked, loginDone, systemDone}
 use Rattle.magnetar_row_records.proofs.WalkLaws.{seen-here, seen-none, done-some, done-none}
 
 -- ---- words in front of others
@@ -80,7 +81,7 @@ module _ (n : ℕ) (z : List ℕ) (a b c : List Entry) where
 
 -- a login's z
 z-is : (w : ℕ) (ws x : List ℕ) (u : ℕ) → loginZ w ws x u ≡ zOf w (loginPart w ws u) x
-unfolding zOf loginZ
+unfolding loginZ
 z-is w ws x u = refl
 
 -- ---- one login

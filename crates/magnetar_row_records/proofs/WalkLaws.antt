@@ -16,10 +16,10 @@ use Rattle.magnetar_matrix.specs.Matrix.{Entry, share}
 use Rattle.magnetar_matrix.specs.RowCheck.{firstNot}
 use Rattle.magnetar_matrix.specs.RowCheck.{holdsAt}
 use Rattle.magnetar_inplace.specs.LoginSteps.{loginZ}
-use Rattle.magnetar_inplace.specs.Steps.{clearedTo, addedTo, addedAll}
+use Rattle.magnetar_inplace.specs.Steps.{clearedTo, addedTo, addedAll, behind}
 use Rattle.magnetar_inplace.proofs.StepLaws.{rest-is, behind-is}
 use Rattle.magnetar_row_records.specs.declared.steps.Seen.{Seen}
-use Rattle.magnetar_row_records.specs.Steps.{behind, productIn, twiceOf, threeIn, rowIn, nothing, seenIn, Walked, from, loginDone, systemDone, bothSeen, bothWords}
+use Rattle.magnetar_row_records.specs.Steps.{productIn, twiceOf, threeIn, rowIn, nothing, seenIn, Walked, from, loginDone, systemDone, bothSeen, bothWords}
 
 -- ---- what is behind the first m elements
 pub behind-some : (m : ℕ) (g : List ℕ → List ℕ) (s t : List ℕ) → 2 * m ≤ length s → t ≡ g (take (length s - 2 * m) (drop (2 * m) s))

@@ -1,10 +1,10 @@
 -- What the walk of the row check does, call by call. Only private contracts cite these definitions.
 -- Assumes nothing.
 use mathlib.Core.Bool.{cond}
-use mathlib.Core.List.{List, [], _∷_, _++_}
+use mathlib.Core.List.{List}
 use Prim.Native.Nat.{ℕ, zero, suc, _*_, min, max}
 use lib.Dec.{eqb, ltb, leb}
-use lib.ListN.{length, take, drop}
+use lib.ListN.{length, take}
 use Rattle.magnetar_field.specs.Words.{elements}
 use Rattle.magnetar_matrix.specs.Matrix.{Entry, share}
 use Rattle.magnetar_matrix.specs.RowCheck.{firstNot}
@@ -13,12 +13,8 @@ use Rattle.magnetar_batch.specs.Check.{Outcome}
 use Rattle.magnetar_batch.specs.Check.Outcome.{judged, refused}
 use Rattle.magnetar_matrix.specs.RowCheck.{holdsAt}
 use Rattle.magnetar_inplace.specs.LoginSteps.{loginZ}
-use Rattle.magnetar_inplace.specs.Steps.{clearedTo, addedTo, addedAll}
+use Rattle.magnetar_inplace.specs.Steps.{clearedTo, addedAll, behind}
 use Rattle.magnetar_row_records.specs.declared.steps.Seen.{Seen}
-
--- g of what is behind the first m elements; nothing where they are fewer
-unfoldable pub behind : ℕ → (List ℕ → List ℕ) → List ℕ → List ℕ
-behind m g s = cond (leb (2 * m) (length s)) (take (2 * m) s ++ g (drop (2 * m) s)) s
 
 -- the product of the entries with z in the first n elements
 abbrev pub productIn : ℕ → List ℕ → List Entry → List ℕ → List ℕ
@@ -50,6 +46,7 @@ pub record Walked : Type 0 where
   pub found : Seen
   pub left : List ℕ
 
+-- such a state of the walk
 abbrev pub from : Seen → List ℕ → Walked
 from r s = record { found = r; left = s }
 
@@ -68,9 +65,11 @@ abbrev pub bothDone : (q w n k : ℕ) → (ws x : List ℕ) → (ab bb cb af bf 
 bothDone q w n k ws x ab bb cb af bf cf s =
     systemDone 2 k w ws x af bf cf q (systemDone 1 n w ws x ab bb cb q (from nothing s))
 
+-- what was found
 abbrev pub bothSeen : (q w n k : ℕ) → (ws x : List ℕ) → (ab bb cb af bf cf : List Entry) → List ℕ → Seen
 bothSeen q w n k ws x ab bb cb af bf cf s = bothDone q w n k ws x ab bb cb af bf cf s .found
 
+-- the words: zeros in the place of the products
 abbrev pub bothWords : (q w n k : ℕ) → (ws x : List ℕ) → (ab bb cb af bf cf : List Entry) → List ℕ → List ℕ
 bothWords q w n k ws x ab bb cb af bf cf s = clearedTo (3 * max n k) (bothDone q w n k ws x ab bb cb af bf cf s .left)
 

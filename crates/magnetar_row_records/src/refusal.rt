@@ -2,10 +2,9 @@
 ghost use mathlib.Core.Path.{_≡_};
 ghost use mathlib.Core.List.{_++_};
 ghost use Rattle.magnetar_layout.specs.Tests.{noted};
-ghost use Rattle.magnetar_batch.specs.Check.{batchSizes};
+ghost use Rattle.magnetar_batch.specs.Check.{batchSizes, checkRoomTests};
 ghost use Rattle.magnetar_batch.specs.Systems.{shapeTests6};
 ghost use Rattle.magnetar_inplace.specs.Steps.{recordTests6};
-ghost use Rattle.magnetar_row_records.specs.Numbers.{checkRoomTests};
 use magnetar_batch::check as core;
 use magnetar_batch::systems;
 use magnetar_field::sizes;

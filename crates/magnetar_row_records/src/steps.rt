@@ -1,14 +1,14 @@
 // What the row check over entry records does with one record and with a login's products.
 ghost use mathlib.Core.Path.{_≡_};
-ghost use Prim.Native.Nat.{_*_, _/_, _≤_, min, max};
+ghost use Prim.Native.Nat.{_*_, _/_, max};
 ghost use lib.Dec.{eqb};
 ghost use Rattle.magnetar_field.specs.Words.{elements};
 ghost use Rattle.magnetar_matrix.specs.Matrix.{share};
 ghost use Rattle.magnetar_batch.specs.Check.{outcome};
 ghost use Rattle.magnetar_inplace.specs.Records.{entryOf};
 ghost use Rattle.magnetar_inplace.specs.LoginSteps.{loginZ};
-ghost use Rattle.magnetar_inplace.specs.Steps.{clearedTo, addedTo};
-ghost use Rattle.magnetar_row_records.specs.Steps.{behind, twiceOf, rowIn, nothing, seenIn, answerOf};
+ghost use Rattle.magnetar_inplace.specs.Steps.{clearedTo, addedTo, behind};
+ghost use Rattle.magnetar_row_records.specs.Steps.{twiceOf, rowIn, nothing, seenIn, answerOf};
 use magnetar_batch::check::RowCheck;
 use magnetar_field::gf128::Gf128;
 use magnetar_field::sizes;
@@ -25,18 +25,11 @@ pub(crate) struct Seen {
     row: usize,
 }
 
-// The smaller of two numbers.
-fn least(a: usize, b: usize) -> usize
-    ensures { λ r. ⌜ (r ≡ min a b) × (r ≤ b) ⌝ }
-{
-    if a < b { a } else { b }
-}
-
 // Twice n, which is at most 65536.
 pub(crate) fn twice(n: usize) -> usize
     ensures { λ r. ⌜ r ≡ twiceOf n ⌝ }
 {
-    2 * least(n, 65536)
+    2 * sizes::least(n, 65536)
 }
 
 // Half of m.

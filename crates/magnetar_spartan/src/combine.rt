@@ -1,6 +1,6 @@
 // The six matrices of both systems at the draws: for both ends of a run. The matrices A, B, C of bin are ab, bb, cb, those of fld af, bf, cf.
-use crate::refusal;
 use magnetar_batch::combo;
+use magnetar_field::sizes;
 ghost use mathlib.Core.Path.{_≡_};
 ghost use Prim.Native.Nat.{_+_, _*_, _≤_, max};
 ghost use mathlib.Core.List.{[]};
@@ -18,10 +18,10 @@ ghost use Rattle.magnetar_spartan.specs.Ready.{Ready};
 pub(crate) fn draw_words(m: usize, q: usize, rb: usize, rf: usize) -> usize
     ensures { λ r. ⌜ r ≡ 2 * drawCount (outline m q rb rf []) ⌝ }
 {
-    let s = refusal::log(q);
-    let b = refusal::log(rb);
-    let f = refusal::log(rf);
-    let n = refusal::log(m);
+    let s = sizes::log(q);
+    let b = sizes::log(rb);
+    let f = sizes::log(rf);
+    let n = sizes::log(m);
     2 * (s + b + (s + f + (s + (b + (f + (6 + n))))))
 }
 
@@ -89,9 +89,9 @@ pub(crate) fn combine(
         (system (lent abrows abcols (now (abrow .entry)) (now (abcol .entry)) (now (ablo .entry)) (now (abhi .entry))) (lent bbrows bbcols (now (bbrow .entry)) (now (bbcol .entry)) (now (bblo .entry)) (now (bbhi .entry))) (lent cbrows cbcols (now (cbrow .entry)) (now (cbcol .entry)) (now (cblo .entry)) (now (cbhi .entry))))
         (system (lent afrows afcols (now (afrow .entry)) (now (afcol .entry)) (now (aflo .entry)) (now (afhi .entry))) (lent bfrows bfcols (now (bfrow .entry)) (now (bfcol .entry)) (now (bflo .entry)) (now (bfhi .entry))) (lent cfrows cfcols (now (cfrow .entry)) (now (cfcol .entry)) (now (cflo .entry)) (now (cfhi .entry)))))) (elements (now (draws .entry)))) ⌝ }
 {
-    let l = refusal::log(q);
-    let b = refusal::log(abrows);
-    let f = refusal::log(afrows);
+    let l = sizes::log(q);
+    let b = sizes::log(abrows);
+    let f = sizes::log(afrows);
     let i = 2 * (l + b + (l + f) + l);
     let j = i + 2 * b;
     let k = j + 2 * f;

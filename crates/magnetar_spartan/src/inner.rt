@@ -1,7 +1,7 @@
 // The second part of a proving run. The matrices A, B, C of bin are ab, bb, cb, those of fld af, bf, cf.
 use crate::combine;
-use crate::refusal;
 use magnetar_batch::fold;
+use magnetar_field::sizes;
 use magnetar_field::words;
 use magnetar_hash::transcript::Transcript;
 use magnetar_rounds::inner;
@@ -87,9 +87,9 @@ fn finish(
     ensures proof { λ _. ⌜ now (proof .exit) ≡ take (2 * beforeInner (outline m q rb rf (now (lens .entry)))) (now (proof .entry)) ++ words (innerPlayed (outline m 1 1 1 (now (lens .entry))) (now (x .entry)) (now (s .entry)) t .said) ⌝ }
     ensures draws { λ _. ⌜ now (draws .exit) ≡ take (2 * (drawCount (outline m q rb rf (now (lens .entry))) - logCols (outline m q rb rf (now (lens .entry))))) (now (draws .entry)) ++ words (innerPlayed (outline m 1 1 1 (now (lens .entry))) (now (x .entry)) (now (s .entry)) t .played .draws) ⌝ }
 {
-    let l = refusal::log(q);
-    let b = refusal::log(rb);
-    let f = refusal::log(rf);
+    let l = sizes::log(q);
+    let b = sizes::log(rb);
+    let f = sizes::log(rf);
     let a = 2 * (8 * l + 4 * b + 4 * f + 6);
     let k = 2 * (l + b + (l + f) + l + b + f + 6);
     let r = inner::inner_rounds(m, lens, x, &mut proof[a..], &mut draws[k..], s, t);
@@ -159,9 +159,9 @@ pub(crate) fn later(
         (system (lent abrows abcols (now (abrow .entry)) (now (abcol .entry)) (now (ablo .entry)) (now (abhi .entry))) (lent bbrows bbcols (now (bbrow .entry)) (now (bbcol .entry)) (now (bblo .entry)) (now (bbhi .entry))) (lent cbrows cbcols (now (cbrow .entry)) (now (cbcol .entry)) (now (cblo .entry)) (now (cbhi .entry))))
         (system (lent afrows afcols (now (afrow .entry)) (now (afcol .entry)) (now (aflo .entry)) (now (afhi .entry))) (lent bfrows bfcols (now (bfrow .entry)) (now (bfcol .entry)) (now (bflo .entry)) (now (bfhi .entry))) (lent cfrows cfcols (now (cfrow .entry)) (now (cfcol .entry)) (now (cflo .entry)) (now (cfhi .entry))))) (now (packed .entry)) (now (x .entry)) (now (draws .entry)) t ⌝ }
 {
-    let l = refusal::log(q);
-    let b = refusal::log(abrows);
-    let f = refusal::log(afrows);
+    let l = sizes::log(q);
+    let b = sizes::log(abrows);
+    let f = sizes::log(afrows);
     let w = m / 2;
     let k = l + b + (l + f);
     combine::combine(

@@ -159,23 +159,15 @@ pub(crate) fn rules(
 
 // ---- How many words are wanted, l being the number of segments.
 
-// The logarithm to the base 2.
-pub(crate) fn log(n: usize) -> usize
-    ensures { λ r. ⌜ r ≡ log₂ n ⌝ }
-    ensures { λ r. ⌜ r ≤ 63 ⌝ }
-{
-    sizes::log2(n)
-}
-
 // The proof.
 pub(crate) fn proof_words(m: usize, q: usize, rb: usize, rf: usize, l: usize) -> usize
     requires { ⌜ l ≤ 64 ⌝ }
     ensures { λ r. ⌜ r ≡ 2 * (8 * log₂ q + 4 * log₂ rb + 4 * log₂ rf + 6 + 3 * log₂ m + 1 + l) ⌝ }
 {
-    let s = log(q);
-    let b = log(rb);
-    let f = log(rf);
-    let n = log(m);
+    let s = sizes::log(q);
+    let b = sizes::log(rb);
+    let f = sizes::log(rf);
+    let n = sizes::log(m);
     2 * (8 * s + 4 * b + 4 * f + 6 + 3 * n + 1 + l)
 }
 
@@ -184,8 +176,8 @@ pub(crate) fn claim_words(m: usize, q: usize, l: usize) -> usize
     requires { ⌜ (1 ≤ log₂ m) × (l ≤ 64) ⌝ }
     ensures { λ r. ⌜ r ≡ 2 * (log₂ q + (log₂ m - 1) + l) ⌝ }
 {
-    let s = log(q);
-    let n = log(m);
+    let s = sizes::log(q);
+    let n = sizes::log(m);
     2 * (s + (n - 1) + l)
 }
 

@@ -10,7 +10,7 @@ use Rattle.magnetar_matrix.specs.Matrix.{share}
 use Rattle.magnetar_matrix.specs.Lent.{entriesOf}
 use Rattle.magnetar_matrix.proofs.TableLaws.{added-in}
 use Rattle.magnetar_matrix.proofs.Walked.{Walked, walked-start, walked-more, walked-end, entry-at, entries-end}
-use Rattle.magnetar_batch.specs.Rows.{zOf}
+use Rattle.magnetar_matrix.specs.Packed.{zOf}
 use borrow.Author.Needs.{needs}
 use Rattle.magnetar_batch.proofs.check.add_terms.Statement.{statement}
 use Rattle.magnetar_batch.proofs.check.add_terms.Tie as tie

@@ -1,8 +1,11 @@
 -- `magnetar_inplace::logins::login_bit` meets its contract.
 -- Assumes nothing.
-use native.Mathlib.Omega.{arith}
+use mathlib.Core.Path.{ap, _∙_}
+use mathlib.Core.List.{List}
+use Prim.Native.Nat.{ℕ, _+_}
 use denote.Ref.{now}
-use Rattle.magnetar_inplace.proofs.LoginLaws.{login-bit-is, login-bit-past, login-bit-missing}
+use Rattle.magnetar_matrix.specs.Packed.{packedBit}
+use Rattle.magnetar_inplace.proofs.LoginLaws.{part-cut}
 use borrow.Author.Needs.{needs}
 use Rattle.magnetar_inplace.proofs.logins.login_bit.Statement.{statement}
 use Rattle.magnetar_inplace.proofs.logins.login_bit.Tie as tie
@@ -10,50 +13,54 @@ use Rattle.magnetar_inplace.proofs.logins.login_bit.Tie as tie
 login-words-requires : tie.Need-login-words-requires
 login-words-requires c κs = search needs
 
-returns : tie.Need-returns
-returns c =
-    let x = c .before .before .before .args in
-    (login-bit-past (x .w) (now (x .packed)) (x .u) (x .c) _ (c .before .login-words .ensures) (omega arith), omega arith)
-
 login-start-requires : tie.Need-login-start-requires
 login-start-requires c κs = search needs
 
-sub-if2 : tie.Need-sub-if2
-sub-if2 c = omega arith
+sub-least : tie.Need-sub-least
+sub-least c = search needs
 
-add-result : tie.Need-add-result
-add-result c = omega arith
+least-requires : tie.Need-least-requires
+least-requires c κs = search needs
 
-mul-result : tie.Need-mul-result
-mul-result c = search needs
+add-b : tie.Need-add-b
+add-b c = search needs
 
-shared-slice-read-result : tie.Need-shared-slice-read-result
-shared-slice-read-result c = search needs
+mul-bit-at : tie.Need-mul-bit-at
+mul-bit-at c = search needs
 
-shr-result : tie.Need-shr-result
-shr-result c = search needs
+sub-bit-at : tie.Need-sub-bit-at
+sub-bit-at c = search needs
 
-returns-2 : tie.Need-returns-2
-returns-2 c =
-    let x = c .before .before .before .before .before .before .args in
-    (login-bit-is (x .w) (now (x .packed)) (x .u) (x .c) _ (c .before .before .before .before .login-words .ensures) (c .before .before .login-start .result) (omega arith) (omega arith), omega arith)
+part-bit-at-start : tie.Need-part-bit-at-start
+part-bit-at-start c = search needs
 
-returns-3 : tie.Need-returns-3
-returns-3 c =
-    let x = c .before .before .before .before .before .args in
-    (login-bit-missing (x .w) (now (x .packed)) (x .u) (x .c) _ (c .before .before .before .login-words .ensures) (omega arith) (omega arith), omega arith)
+part-bit-at-end : tie.Need-part-bit-at-end
+part-bit-at-end c = search needs
+
+bit-at-requires : tie.Need-bit-at-requires
+bit-at-requires c κs = search needs
+
+returns : tie.Need-returns
+returns c =
+    let m = c .before .before in
+    let k = m .before .before .login-words in
+    let a = m .before .login-start in
+    let x = m .before .before .before .before .args in
+    let p = part-cut (x .w) (now (x .packed)) (x .u) (k .result) (a .result) (a .result + m .least .result) (k .ensures) (a .ensures) (ap (λ (i : ℕ). a .result + i) (m .least .ensures .0)) in
+    (c .bit-at .ensures .0 ∙ ap (λ (l : List ℕ). packedBit l (x .c)) p, c .bit-at .ensures .1)
 
 pub login-bit-spec : {M : Type 1} → statement M
 login-bit-spec =
     tie.close
     (tie.spec
     login-words-requires
-    returns
     login-start-requires
-    sub-if2
-    add-result
-    mul-result
-    shared-slice-read-result
-    shr-result
-    returns-2
-    returns-3)
+    sub-least
+    least-requires
+    add-b
+    mul-bit-at
+    sub-bit-at
+    part-bit-at-start
+    part-bit-at-end
+    bit-at-requires
+    returns)

@@ -6,7 +6,7 @@ use mathlib.Core.List.{[], _∷_, _++_}
 use Prim.Native.Nat.{_*_, _-_, _≤_}
 use native.Mathlib.Omega.{arith}
 use lib.Dec.{eqb, ltb}
-use Rattle.magnetar_layout.specs.Tests.{Tests, noted, sizeTests, rowTests, colsTests, countTests}
+use Rattle.magnetar_layout.specs.Tests.{Tests, noted, sizeTests, loneRowTests, matrixColumnTests, countTests}
 use Rattle.magnetar_layout.proofs.Noted.{noted-front, noted-late, noted-clear}
 use Rattle.magnetar_layout.proofs.SizeLaws.{not-bad}
 use Rattle.magnetar_matrix.specs.Packed.{loginWords}
@@ -24,12 +24,12 @@ first s = sizeTests (2 * s .args .w) (s .args .q)
 abbrev second : tie.Start → Tests
 second s =
     let x = s .args in
-    (2, not (eqb (x .p) (x .q * loginWords (x .w)))) ∷ (3, not (eqb (x .x) (2 * x .w - 2))) ∷ rowTests (x .rows)
+    (2, not (eqb (x .p) (x .q * loginWords (x .w)))) ∷ (3, not (eqb (x .x) (2 * x .w - 2))) ∷ loneRowTests (x .rows)
 
 abbrev third : tie.Start → Tests
 third s =
     let x = s .args in
-    (4, ltb 1048576 (x .q * x .rows)) ∷ (colsTests (2 * x .w) (x .cols) ++ countTests (x .n) (x .n) (x .n) (x .n) ++ (7, not (x .inside)) ∷ [] ++ packedRoomTests (x .q) (x .rows) (x .out))
+    (4, ltb 1048576 (x .q * x .rows)) ∷ (matrixColumnTests (2 * x .w) (x .cols) ++ countTests (x .n) (x .n) (x .n) (x .n) ++ (7, not (x .inside)) ∷ [] ++ packedRoomTests (x .q) (x .rows) (x .out))
 
 early : (c : tie.After-note2) → c .note2 .result ≡ noted 0 (first (c .before .before .before .before))
 early c = rw (c .note2 .ensures, c .before .is-size .ensures, c .before .before .note .ensures, c .before .before .before .is-half .ensures)

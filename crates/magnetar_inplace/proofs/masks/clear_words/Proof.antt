@@ -6,7 +6,6 @@ use lib.Seq.{length-take-le}
 use lib.ListN.{length}
 use borrow.Author.Tests.{lt-leb}
 use denote.Ref.{now}
-use Rattle.magnetar_inplace.specs.MaskSteps.{clearedWords}
 use Rattle.magnetar_inplace.proofs.MaskLaws.{words-cleared}
 use borrow.Author.Needs.{needs}
 use Rattle.magnetar_inplace.proofs.masks.clear_words.Statement.{statement}
@@ -25,10 +24,11 @@ same-length : tie.Need-same-length
 same-length c = search needs
 
 returns : tie.Need-returns
-returns c = words-cleared _ _ _ (omega arith) (c .before .before .clear .ensures)
+returns c =
+    let x = c .before .before .before .before .before .before .args in
+    words-cleared (x .k) (now (x .out)) _ (omega arith) (c .before .before .clear .ensures)
 
 returns-2 : tie.Need-returns-2
-unfolding clearedWords
 returns-2 c =
     let x = c .before .before .args in
     rw (lt-leb (x .k) (length (now (x .out))) (omega arith))

@@ -18,25 +18,25 @@ returns c =
 login-bit-requires : tie.Need-login-bit-requires
 login-bit-requires c κs = search needs
 
-placed-requires : tie.Need-placed-requires
-placed-requires c κs = search needs
+shifted-requires : tie.Need-shifted-requires
+shifted-requires c κs = search needs
 
 returns-2 : tie.Need-returns-2
 returns-2 c =
     let x = c .before .before .before .before .before .before .before .args in
     let p = loginPart (x .w) (now (x .packed)) (x .u) in
-    rw (c .placed .ensures, c .before .login-bit .ensures .0)
-    (flip-bit (x .w) p (x .t) (x .e .col) (x .e .lo) (omega arith) (omega arith) ∙ flip-entry (x .w) p (x .t) (x .e .row) (x .e .col) (x .e .lo) (x .e .hi))
+    rw (c .shifted .ensures, c .before .login-bit .ensures .0)
+    (flip-bit (x .w) p (x .t) (x .e .col) (x .e .lo) (omega arith) (omega arith) (omega arith) ∙ flip-entry (x .w) p (x .t) (x .e .row) (x .e .col) (x .e .lo) (x .e .hi))
 
-placed-requires-2 : tie.Need-placed-requires-2
-placed-requires-2 c κs = search needs
+shifted-requires-2 : tie.Need-shifted-requires-2
+shifted-requires-2 c κs = search needs
 
 returns-3 : tie.Need-returns-3
 returns-3 c =
     let x = c .before .before .before .before .before .before .args in
     let p = loginPart (x .w) (now (x .packed)) (x .u) in
-    rw (c .placed2 .ensures)
-    (flip-one (x .w) p (x .t) (x .e .col) (x .e .lo) (omega arith) (omega arith) ∙ flip-entry (x .w) p (x .t) (x .e .row) (x .e .col) (x .e .lo) (x .e .hi))
+    rw (c .shifted2 .ensures)
+    (flip-one (x .w) p (x .t) (x .e .col) (x .e .lo) (omega arith) (omega arith) (omega arith) ∙ flip-entry (x .w) p (x .t) (x .e .row) (x .e .col) (x .e .lo) (x .e .hi))
 
 pub flip-of-spec : {M : Type 1} → statement M
 flip-of-spec =
@@ -44,7 +44,7 @@ flip-of-spec =
     (tie.spec
     returns
     login-bit-requires
-    placed-requires
+    shifted-requires
     returns-2
-    placed-requires-2
+    shifted-requires-2
     returns-3)

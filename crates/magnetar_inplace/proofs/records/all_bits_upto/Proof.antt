@@ -27,7 +27,7 @@ use Rattle.magnetar_inplace.proofs.records.all_bits_upto.Statement as s
 use Rattle.magnetar_inplace.proofs.records.all_bits_upto.Code as code
 use mathlib.Core.Bool.{_&&_}
 use Rattle.magnetar_layout.specs.Every.{every}
-use Rattle.magnetar_inplace.specs.LoginSteps.{bitUpTo}
+use Rattle.magnetar_matrix.specs.Matrix.{bitUpTo}
 use Rattle.magnetar_inplace.specs.Records.{entryOf, entriesOfRecords}
 use Rattle.magnetar_inplace.proofs.RecordLaws.{carried, carried-end}
 

@@ -23,7 +23,14 @@ places-requires : tie.Need-places-requires
 places-requires c κs = search needs
 
 returns : tie.Need-returns
-returns c = cc
+returns c = rw (
+  c .places .ensures,
+  c .before .counts .ensures,
+  c .before .before .note2 .ensures,
+  c .before .before .before .is-size2 .ensures,
+  c .before .before .before .before .note .ensures,
+  c .before .before .before .before .before .is-size .ensures,
+)
 
 pub lone-spec : {M : Type 1} → statement M
 lone-spec =

@@ -7,21 +7,21 @@ use native.Mathlib.Omega.{arith}
 use lib.ListN.{drop}
 use Rattle.magnetar_field.specs.Gf128.{value}
 use Rattle.magnetar_field.specs.Words.{elements}
-use Rattle.magnetar_multilinear.specs.EqTable.{eqBits}
+use Rattle.magnetar_multilinear.specs.EqTable.{eqAtBits}
 use Rattle.magnetar_field.proofs.Elements.{elements-length}
-use Rattle.magnetar_multilinear.proofs.EqTables.{eqBits-none, eqBits-more}
+use Rattle.magnetar_multilinear.proofs.EqTables.{eqAtBits-none, eqAtBits-more}
 use borrow.Author.Needs.{needs}
 use Rattle.magnetar_multilinear.proofs.eq.eq_product.Statement.{statement}
 use Rattle.magnetar_multilinear.proofs.eq.eq_product.Tie as tie
 
 abbrev Inv-loop : tie.InvT-loop
-Inv-loop point bits n acc₀ j₀ acc j = (j ≤ n) × (value acc ≡ eqBits (drop j (elements point)) (drop j bits))
+Inv-loop point bits n acc₀ j₀ acc j = (j ≤ n) × (value acc ≡ eqAtBits (drop j (elements point)) (drop j bits))
 
 abbrev μ-loop : tie.MeasureT-loop
 μ-loop point bits n acc₀ j₀ acc j = j
 
 loop-holds : tie.Need-loop-holds Inv-loop μ-loop
-loop-holds c = (search needs, sym (eqBits-none _ _ _ (rw elements-length (omega arith)) (c .before .before .pre .1)))
+loop-holds c = (search needs, sym (eqAtBits-none _ _ _ (rw elements-length (omega arith)) (c .before .before .pre .1)))
 
 sub-j : tie.Need-sub-j Inv-loop μ-loop
 sub-j c = search needs
@@ -45,7 +45,7 @@ loop-again : tie.Need-loop-again Inv-loop μ-loop
 loop-again c =
     let l = c .before .before .before .before .before .loop in
     let x = c .before .before .before .before .before .before .before .before in
-    let g = eqBits-more (elements (now (x .args .point))) (now (x .args .bits)) (l .j) (value (l .acc)) (omega arith) (rw elements-length (omega arith)) (omega arith) (l .inv .1) in
+    let g = eqAtBits-more (elements (now (x .args .point))) (now (x .args .bits)) (l .j) (value (l .acc)) (omega arith) (rw elements-length (omega arith)) (omega arith) (l .inv .1) in
     (search needs, rw (c .mul .ensures, c .before .eq-char2 .ensures, c .before .before .before .get .ensures) g)
 
 returns : tie.Need-returns Inv-loop μ-loop

@@ -8,7 +8,7 @@ use denote.Ref.{now}
 use Rattle.magnetar_field.specs.Gf128.{value}
 use Rattle.magnetar_field.specs.Words.{elements}
 use Rattle.magnetar_field.proofs.Elements.{elements-length}
-use Rattle.magnetar_field.proofs.Doublings.{Split, split-none, split-more, split-all}
+use Rattle.magnetar_multilinear.proofs.Doublings.{Split, split-none, split-more, split-all}
 use borrow.Author.Needs.{needs}
 use Rattle.magnetar_multilinear.proofs.eq.expand.Statement.{statement}
 use Rattle.magnetar_multilinear.proofs.eq.expand.Tie as tie

@@ -1,6 +1,6 @@
 -- `magnetar_multilinear::multilinear::bind` meets its contract.
 -- Assumes nothing.
-use mathlib.Core.Path.{_≡_, refl}
+use mathlib.Core.Path.{_≡_, refl, _∙_}
 use Prim.Native.Nat.{_≤_, _-_, _^_}
 use native.Mathlib.Omega.{arith}
 use lib.ListN.{length}
@@ -8,6 +8,7 @@ use lib.Pow.{pow-pos, pow-lt}
 use Rattle.magnetar_field.specs.Gf128.{value}
 use Rattle.magnetar_field.specs.Words.{elements}
 use Rattle.magnetar_field.proofs.Elements.{elements-length}
+use Rattle.magnetar_field.proofs.Log2.{power-is}
 use Rattle.magnetar_field.proofs.Making.{Made}
 use Rattle.magnetar_multilinear.proofs.Bound.{boundAt, place-lt, bound-start, bound-more, bound-end}
 use borrow.Author.Needs.{needs}
@@ -21,10 +22,12 @@ abbrev μ-loop : tie.MeasureT-loop
 μ-loop t₀ pairs v r block i₀ t i = pairs - i
 
 power-of-two-requires : tie.Need-power-of-two-requires Inv-loop μ-loop
-power-of-two-requires c κs = omega (arith, c .before .pre .small)
+power-of-two-requires c κs = search needs
 
 loop-holds : tie.Need-loop-holds Inv-loop μ-loop
-loop-holds c = (search needs, search needs, refl, bound-start _ _ _)
+loop-holds c =
+    let s = c .before .before in
+    (search needs, c .power-of-two .ensures ∙ power-is (s .args .v) (omega (arith, s .pre .small)), refl, bound-start _ _ _)
 
 insert-zero-requires : tie.Need-insert-zero-requires Inv-loop μ-loop
 insert-zero-requires c κs =

@@ -26,7 +26,7 @@ least-requires c κs = search needs
 loop-holds : tie.Need-loop-holds Inv-loop μ-loop
 loop-holds c =
     let x = (c .before .before .before .args) in
-    (omega arith, omega arith, sym (dot-none (now (x .xs)) (now (x .ys)) (c .least .result) (c .least .ensures)))
+    (omega arith, omega arith, sym (dot-none (now (x .xs)) (now (x .ys)) (c .least .result) (c .least .ensures .0)))
 
 sub-j : tie.Need-sub-j Inv-loop μ-loop
 sub-j c = search needs

@@ -52,8 +52,8 @@ unfolding proverScratch
 returns c =
     let p = c .before in
     let n = p .before in
-    let e = p .positions .ensures .0 ∙ ap₂ _*_ (n .before .before .least2 .ensures) (ap₂ _+_ (n .before .least3 .ensures) (n .least4 .ensures)) in
-    omega (arith, e, c .larger .ensures, n .least4 .ensures, n .before .least3 .ensures, n .before .before .least2 .ensures, n .before .before .before .least .ensures)
+    let e = p .positions .ensures .0 ∙ ap₂ _*_ (n .before .before .least2 .ensures .0) (ap₂ _+_ (n .before .least3 .ensures .0) (n .least4 .ensures .0)) in
+    omega (arith, e, c .larger .ensures, n .least4 .ensures .0, n .before .least3 .ensures .0, n .before .before .least2 .ensures .0, n .before .before .before .least .ensures .0)
 
 pub prover-room-spec : {M : Type 1} → statement M
 prover-room-spec =

@@ -16,20 +16,20 @@ least-requires-3 : tie.Need-least-requires-3
 least-requires-3 c κs = search needs
 
 mul-result : tie.Need-mul-result
-mul-result c = omega (arith, c .before .before .least .ensures)
+mul-result c = omega (arith, c .before .before .least .ensures .0)
 
 larger-requires : tie.Need-larger-requires
 larger-requires c κs = search needs
 
 mul-result-2 : tie.Need-mul-result-2
-mul-result-2 c = omega (arith, c .larger .ensures, c .before .least3 .ensures, c .before .before .least2 .ensures)
+mul-result-2 c = omega (arith, c .larger .ensures, c .before .least3 .ensures .0, c .before .before .least2 .ensures .0)
 
 add-result : tie.Need-add-result
-add-result c = omega (arith, c .larger .ensures, c .before .least3 .ensures, c .before .before .least2 .ensures, c .before .before .before .least .ensures)
+add-result c = omega (arith, c .larger .ensures, c .before .least3 .ensures .0, c .before .before .least2 .ensures .0, c .before .before .before .least .ensures .0)
 
 returns : tie.Need-returns
 unfolding verifierScratch
-returns c = rw (c .larger .ensures, c .before .least3 .ensures, c .before .before .least2 .ensures, c .before .before .before .least .ensures)
+returns c = rw (c .larger .ensures, c .before .least3 .ensures .0, c .before .before .least2 .ensures .0, c .before .before .before .least .ensures .0)
 
 pub verifier-room-spec : {M : Type 1} → statement M
 verifier-room-spec =

@@ -17,8 +17,8 @@ returns c =
 bit-at-requires : tie.Need-bit-at-requires
 bit-at-requires c κs = search needs
 
-placed-requires : tie.Need-placed-requires
-placed-requires c κs = search needs
+shifted-requires : tie.Need-shifted-requires
+shifted-requires c κs = search needs
 
 add-word-requires : tie.Need-add-word-requires
 add-word-requires c κs = search needs
@@ -29,10 +29,10 @@ same-length c = search needs
 returns-2 : tie.Need-returns-2
 returns-2 c =
     let x = c .before .before .before .before .before .before .before .before .before .before .args in
-    rw (c .before .before .add-word .ensures, c .before .before .before .placed .ensures, c .before .before .before .before .bit-at .ensures .0, flip-bit (x .w) (now (x .login)) (x .t) (x .c) (x .lo) (omega arith) (omega arith))
+    rw (c .before .before .add-word .ensures, c .before .before .before .shifted .ensures, c .before .before .before .before .bit-at .ensures .0, flip-bit (x .w) (now (x .login)) (x .t) (x .c) (x .lo) (omega arith) (omega arith) (omega arith))
 
-placed-requires-2 : tie.Need-placed-requires-2
-placed-requires-2 c κs = search needs
+shifted-requires-2 : tie.Need-shifted-requires-2
+shifted-requires-2 c κs = search needs
 
 add-word-requires-2 : tie.Need-add-word-requires-2
 add-word-requires-2 c κs = search needs
@@ -43,7 +43,7 @@ same-length-2 c = search needs
 returns-3 : tie.Need-returns-3
 returns-3 c =
     let x = c .before .before .before .before .before .before .before .before .before .args in
-    rw (c .before .before .add-word2 .ensures, c .before .before .before .placed2 .ensures, flip-one (x .w) (now (x .login)) (x .t) (x .c) (x .lo) (omega arith) (omega arith))
+    rw (c .before .before .add-word2 .ensures, c .before .before .before .shifted2 .ensures, flip-one (x .w) (now (x .login)) (x .t) (x .c) (x .lo) (omega arith) (omega arith) (omega arith))
 
 pub add-flip-spec : {M : Type 1} → statement M
 add-flip-spec =
@@ -51,11 +51,11 @@ add-flip-spec =
     (tie.spec
     returns
     bit-at-requires
-    placed-requires
+    shifted-requires
     add-word-requires
     same-length
     returns-2
-    placed-requires-2
+    shifted-requires-2
     add-word-requires-2
     same-length-2
     returns-3)

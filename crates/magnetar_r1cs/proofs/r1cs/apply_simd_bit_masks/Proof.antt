@@ -10,6 +10,7 @@ use lib.Seq.{length-take-le}
 use borrow.Author.Tests.{ltb-false, not-false}
 use denote.Ref.{now}
 use Rattle.magnetar_field.specs.Sizes.{log₂}
+use Rattle.magnetar_field.proofs.Log2.{power-is}
 use Rattle.magnetar_layout.specs.Tests.{Tests, noted, roomTest}
 use Rattle.magnetar_layout.proofs.Noted.{noted-front, noted-late, noted-clear, turned, done}
 use Rattle.magnetar_layout.proofs.Room.{room-short, room-enough}
@@ -57,14 +58,20 @@ fits c =
     record { bits = not-false _ (k .0); most = h; powers = powers-of (s .args .q) (s .args .v) (ok (c .before .before .before .before .before .before) .logins) h (ltb-false _ _ (k .1 .1 .0)) }
 
 -- the two powers
-low-is : (c : tie.After-power2) → let x = c .before .before .before .before .before .before .before .before .before .before .before .before .before .before .before .before .args in c .before .power .result ≡ 2 ^ (log₂ (x .q) - x .v)
-low-is c = c .before .power .ensures ∙ ap (λ (k : ℕ). 2 ^ (k - c .before .before .before .before .before .before .before .before .before .before .before .before .before .before .before .before .args .v)) (c .before .before .before .before .before .before .before .log2 .ensures)
+low-small : (c : tie.Else2) → c .before .before .before .before .before .log2 .result - c .before .before .before .before .before .before .before .before .before .before .before .before .before .before .args .v < 64
+low-small c = omega (arith, c .before .before .before .before .before .log2 .ensures, fits c .powers .small)
 
-low-most : (c : tie.After-power2) → c .before .power .result ≤ 4096
+high-is : (c : tie.After-power-of-two2) → c .power-of-two2 .result ≡ 2 ^ c .before .before .before .before .before .before .before .before .before .before .before .before .before .before .before .before .args .v
+high-is c = c .power-of-two2 .ensures ∙ power-is _ (omega (arith, fits (c .before .before) .most, fits (c .before .before) .powers .small))
+
+low-is : (c : tie.After-power-of-two2) → let x = c .before .before .before .before .before .before .before .before .before .before .before .before .before .before .before .before .args in c .before .power-of-two .result ≡ 2 ^ (log₂ (x .q) - x .v)
+low-is c = c .before .power-of-two .ensures ∙ power-is _ (low-small (c .before .before)) ∙ ap (λ (k : ℕ). 2 ^ (k - c .before .before .before .before .before .before .before .before .before .before .before .before .before .before .before .before .args .v)) (c .before .before .before .before .before .before .before .log2 .ensures)
+
+low-most : (c : tie.After-power-of-two2) → c .before .power-of-two .result ≤ 4096
 low-most c = rw (low-is c) (fits (c .before .before) .powers .lows)
 
-all-logins : (c : tie.After-power2) → c .power2 .result * c .before .power .result ≡ c .before .before .before .before .before .before .before .before .before .before .before .before .before .before .before .before .args .q
-all-logins c = rw (low-is c, c .power2 .ensures) (fits (c .before .before) .powers .all)
+all-logins : (c : tie.After-power-of-two2) → c .power-of-two2 .result * c .before .power-of-two .result ≡ c .before .before .before .before .before .before .before .before .before .before .before .before .before .before .before .before .args .q
+all-logins c = rw (low-is c, high-is c) (fits (c .before .before) .powers .all)
 
 matrix-refusal-requires : tie.Need-matrix-refusal-requires
 matrix-refusal-requires c κs = search needs
@@ -98,17 +105,17 @@ returns-2 c =
     let e = noted-late (first s) (second s ++ third s) _ _ (c .before .before .before .before .before .before .before .matrix-refusal .ensures) (c .before .before .before .before .before .before .if1 .left) (noted-front (second s) (third s) _ (late (c .before)) (c .if2 .taken)) in
     (e, turned _ _ e (c .if2 .taken))
 
-sub-power : tie.Need-sub-power
-sub-power c = rw (c .before .before .before .before .before .log2 .ensures) (fits c .most)
+sub-power-of-two : tie.Need-sub-power-of-two
+sub-power-of-two c = rw (c .before .before .before .before .before .log2 .ensures) (fits c .most)
 
-power-requires : tie.Need-power-requires
-power-requires c κs = omega (arith, c .before .before .before .before .before .log2 .ensures, fits c .powers .small)
+power-of-two-requires : tie.Need-power-of-two-requires
+power-of-two-requires c κs = search needs
 
-power-requires-2 : tie.Need-power-requires-2
-power-requires-2 c κs = omega (arith, fits (c .before) .most, fits (c .before) .powers .small)
+power-of-two-requires-2 : tie.Need-power-of-two-requires-2
+power-of-two-requires-2 c κs = search needs
 
 mul-end : tie.Need-mul-end
-mul-end c = omega (arith, product-fits (c .before .power .result) (c .before .before .before .before .before .before .before .before .before .before .before .before .before .before .before .before .args .rows) (low-most c) (omega (arith, ok (c .before .before .before .before .before .before .before .before) .rows-size .high)))
+mul-end c = omega (arith, product-fits (c .before .power-of-two .result) (c .before .before .before .before .before .before .before .before .before .before .before .before .before .before .before .before .args .rows) (low-most c) (omega (arith, ok (c .before .before .before .before .before .before .before .before) .rows-size .high)))
 
 returns-3 : tie.Need-returns-3
 unfolding masksRefusal
@@ -129,7 +136,7 @@ mask-all-requires : tie.Need-mask-all-requires
 mask-all-requires c κs =
     let o = ok (c .before .before .before .before .before .before .before .before .before .before) in
     let p = c .before .before in
-    (o .entries .equal, (o .half, o .logins .high, rw (p .power2 .ensures) (fits (c .before .before .before .before) .powers .logins), all-logins p, low-most p, o .rows-size .high, o .packed, length-take-le _ _ (omega arith)))
+    (o .entries .equal, (o .half, o .logins .high, rw (high-is p) (fits (c .before .before .before .before) .powers .logins), all-logins p, low-most p, o .rows-size .high, o .packed, length-take-le _ _ (omega arith)))
 
 same-length : tie.Need-same-length
 same-length c = search needs
@@ -142,7 +149,7 @@ returns-4 c =
     let k = c .before .before .before .before in
     let t : maskCount (mat s) (x .q) (x .v) ≤ length (now (x .out)) = rw (← low-is (k .before)) (k .if3 .left) in
     let e : _≡_ {A = ℕ} 0 (noted 0 (first s ++ second s ++ third s)) = noted-late (first s) (second s ++ third s) _ _ (c .before .before .before .before .before .before .before .before .before .before .before .before .before .before .matrix-refusal .ensures) (c .before .before .before .before .before .before .before .before .before .before .before .before .before .if1 .left) (noted-late (second s) (third s) _ _ (late (c .before .before .before .before .before .before .before .before)) (c .before .before .before .before .before .before .before .if2 .left) (room-enough (maskCount (mat s) (x .q) (x .v)) (now (x .out)) t)) in
-    let g = masks-in-front (mat s) (now (x .packed)) (now (x .out)) _ (x .q) (x .w) (x .v) _ _ (low-is (k .before)) (k .before .power2 .ensures) (fits (c .before .before .before .before .before .before .before) .powers) (fits (c .before .before .before .before .before .before .before) .bits) (c .before .before .mask-all .ensures) in
+    let g = masks-in-front (mat s) (now (x .packed)) (now (x .out)) _ (x .q) (x .w) (x .v) _ _ (low-is (k .before)) (high-is (k .before)) (fits (c .before .before .before .before .before .before .before) .powers) (fits (c .before .before .before .before .before .before .before) .bits) (c .before .before .mask-all .ensures) in
     (e, g ∙ done _ _ e refl)
 
 pub apply-simd-bit-masks-spec : {M : Type 1} → statement M
@@ -157,9 +164,9 @@ apply-simd-bit-masks-spec =
     note-requires-2
     note-requires-3
     returns-2
-    sub-power
-    power-requires
-    power-requires-2
+    sub-power-of-two
+    power-of-two-requires
+    power-of-two-requires-2
     mul-end
     returns-3
     slice-relend-prefix-mask-all

@@ -9,7 +9,7 @@ use Rattle.magnetar_matrix.specs.Lent.{Lent, lent}
 use Rattle.magnetar_layout.specs.Tests.{Tests, noted}
 use Rattle.magnetar_layout.proofs.Noted.{noted-front, noted-late, noted-clear}
 use lib.ListN.{drop}
-use Rattle.magnetar_layout.specs.Tests.{sizeTests, packedTests, publicTests, rowTests, rowsTests, colsTests, counted, placed}
+use Rattle.magnetar_layout.specs.Tests.{sizeTests, packedTests, publicTests, loneRowTests, rowsTests, matrixColumnTests, counted, placed}
 use Rattle.magnetar_layout.proofs.SizeLaws.{not-bad}
 use Rattle.magnetar_matrix.proofs.LoginParts.{product-most, words-most}
 use Rattle.magnetar_matrix.proofs.Blocks.{product-fits}
@@ -25,10 +25,10 @@ abbrev first : tie.Start → Tests
 first s = sizeTests (2 * s .args .w) (s .args .q)
 
 abbrev second : tie.Start → Tests
-second s = packedTests (s .args .w) (s .args .q) (now (s .args .packed)) ++ publicTests (2 * s .args .w) (now (s .args .x)) ++ rowTests (s .args .rows)
+second s = packedTests (s .args .w) (s .args .q) (now (s .args .packed)) ++ publicTests (2 * s .args .w) (now (s .args .x)) ++ loneRowTests (s .args .rows)
 
 abbrev third : tie.Start → Tests
-third s = drop 1 (rowsTests (s .args .q) (s .args .rows)) ++ colsTests (2 * s .args .w) (s .args .cols) ++ counted (mat s) ++ placed (mat s)
+third s = drop 1 (rowsTests (s .args .q) (s .args .rows)) ++ matrixColumnTests (2 * s .args .w) (s .args .cols) ++ counted (mat s) ++ placed (mat s)
 
 early : (c : tie.After-note2) → c .note2 .result ≡ noted 0 (first (c .before .before .before .before .before .before .before .before .before .before))
 early c = rw (c .note2 .ensures, c .before .is-size .ensures, c .before .before .note .ensures, c .before .before .before .is-half .ensures)

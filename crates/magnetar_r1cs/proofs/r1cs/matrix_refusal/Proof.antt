@@ -6,7 +6,7 @@ use Prim.Native.Nat.{_*_, _≤_}
 use native.Mathlib.Omega.{arith}
 use lib.ListN.{drop}
 use denote.Ref.{now}
-use Rattle.magnetar_layout.specs.Tests.{Tests, noted, sizeTests, packedTests, rowTests, rowsTests, colsTests, counted, placed}
+use Rattle.magnetar_layout.specs.Tests.{Tests, noted, sizeTests, packedTests, loneRowTests, rowsTests, matrixColumnTests, counted, placed}
 use Rattle.magnetar_layout.proofs.Noted.{noted-front, noted-late, noted-clear}
 use Rattle.magnetar_layout.proofs.SizeLaws.{not-bad}
 use Rattle.magnetar_matrix.specs.Lent.{Lent, lent}
@@ -24,10 +24,10 @@ abbrev first : tie.Start → Tests
 first s = sizeTests (2 * s .args .w) (s .args .q)
 
 abbrev second : tie.Start → Tests
-second s = packedTests (s .args .w) (s .args .q) (now (s .args .packed)) ++ rowTests (s .args .rows)
+second s = packedTests (s .args .w) (s .args .q) (now (s .args .packed)) ++ loneRowTests (s .args .rows)
 
 abbrev third : tie.Start → Tests
-third s = drop 1 (rowsTests (s .args .q) (s .args .rows)) ++ colsTests (2 * s .args .w) (s .args .cols) ++ counted (mat s) ++ placed (mat s)
+third s = drop 1 (rowsTests (s .args .q) (s .args .rows)) ++ matrixColumnTests (2 * s .args .w) (s .args .cols) ++ counted (mat s) ++ placed (mat s)
 
 early : (c : tie.After-note2) → c .note2 .result ≡ noted 0 (first (c .before .before .before .before .before .before .before .before .before))
 early c = rw (c .note2 .ensures, c .before .is-size .ensures, c .before .before .note .ensures, c .before .before .before .is-half .ensures)

@@ -27,8 +27,7 @@ use Rattle.magnetar_field.specs.Words.{elements}
 use Rattle.magnetar_inplace.specs.Records.{entryOf, entriesOfRecords}
 use Rattle.magnetar_matrix.specs.Matrix as matrix
 use Rattle.magnetar_matrix.specs.Matrix.{share}
-use Rattle.magnetar_inplace.specs.Steps.{addedTo, addedAll}
-use Rattle.magnetar_row_records.specs.Steps.{behind}
+use Rattle.magnetar_inplace.specs.Steps.{addedTo, addedAll, behind}
 use Rattle.magnetar_inplace.specs.LoginSteps.{loginZ}
 use Rattle.magnetar_row_records.proofs.WalkLaws.{added-more, added-end}
 

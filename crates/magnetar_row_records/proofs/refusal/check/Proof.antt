@@ -4,9 +4,8 @@ use mathlib.Core.List.{_++_}
 use denote.Ref.{now}
 use Rattle.magnetar_layout.specs.Tests.{Tests}
 use Rattle.magnetar_layout.proofs.Noted.{noted-front, noted-late}
-use Rattle.magnetar_batch.specs.Check.{batchSizes}
+use Rattle.magnetar_batch.specs.Check.{batchSizes, checkRoomTests}
 use Rattle.magnetar_batch.proofs.SystemLaws.{linked}
-use Rattle.magnetar_row_records.specs.Numbers.{checkRoomTests}
 use Rattle.magnetar_batch.specs.Systems.{shapeTests6}
 use Rattle.magnetar_inplace.specs.Steps.{recordTests6}
 use borrow.Author.Needs.{needs}

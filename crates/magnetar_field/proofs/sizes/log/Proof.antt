@@ -1,10 +1,10 @@
--- `magnetar_spartan::refusal::log` meets its contract.
+-- `magnetar_field::sizes::log` meets its contract.
 -- Assumes nothing.
 use native.Mathlib.Omega.{arith}
 use Rattle.magnetar_field.proofs.Log2.{log₂-lt}
 use borrow.Author.Needs.{needs}
-use Rattle.magnetar_spartan.proofs.refusal.log.Statement.{statement}
-use Rattle.magnetar_spartan.proofs.refusal.log.Tie as tie
+use Rattle.magnetar_field.proofs.sizes.log.Statement.{statement}
+use Rattle.magnetar_field.proofs.sizes.log.Tie as tie
 
 log2-requires : tie.Need-log2-requires
 log2-requires c κs = search needs

@@ -8,7 +8,7 @@ use native.Mathlib.Numerals.{add-one, sub-one}
 use native.Mathlib.Omega.{arith}
 use lib.ListN.{length, getD, set, take, drop, length-take}
 use lib.Seq.{take-take, take-set-le, take-set-lt, getD-take, drop-cons}
-use Rattle.magnetar_field.specs.Doubling.{doubled, splitEntry}
+use Rattle.magnetar_multilinear.specs.Doubling.{doubled, splitEntry}
 
 drop-two : (l : List ℕ) (j a b : ℕ) → suc j < length l
     → drop j (set (set l j a) (suc j) b) ≡ a ∷ (b ∷ drop (suc (suc j)) l)

@@ -1,14 +1,14 @@
--- `magnetar_r1cs::masks::add_word` meets its contract.
+-- `magnetar_matrix::step::add_word` meets its contract.
 -- Assumes nothing.
 use mathlib.Core.Path.{refl, sym}
 use native.Mathlib.Omega.{arith}
 use lib.Seq.{set-out}
 use denote.Ref.{now}
 use Rattle.magnetar_field.specs.Gf128.{_⊕_}
 use Rattle.magnetar_matrix.specs.Table.{addedAt}
 use borrow.Author.Needs.{needs}
-use Rattle.magnetar_r1cs.proofs.masks.add_word.Statement.{statement}
-use Rattle.magnetar_r1cs.proofs.masks.add_word.Tie as tie
+use Rattle.magnetar_matrix.proofs.step.add_word.Statement.{statement}
+use Rattle.magnetar_matrix.proofs.step.add_word.Tie as tie
 
 mul-out : tie.Need-mul-out
 mul-out c = search needs
