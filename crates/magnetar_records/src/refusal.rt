@@ -9,7 +9,6 @@ ghost use Rattle.magnetar_inplace.specs.Steps.{recordTests6};
 ghost use Rattle.magnetar_spartan.specs.Rules.{rules};
 ghost use Rattle.magnetar_spartan.specs.Refusals.{verifyTests};
 ghost use Rattle.magnetar_records.specs.Numbers.{firstRefusalOf, pointsOf};
-use crate::steps;
 use magnetar_batch::systems;
 use magnetar_field::sizes;
 use magnetar_inplace::steps as walks;
@@ -47,8 +46,8 @@ fn points(
     ensures { λ r. ⌜ r ≡ noted 0 (pointsOf m nb nf al pb pf scratch out) ⌝ }
 {
     let z = tests::note(0, 11, al != 12);
-    let z = tests::note(z, 11, pb != 2 * steps::log(nb));
-    let z = tests::note(z, 11, pf != 2 * steps::log(nf));
+    let z = tests::note(z, 11, pb != 2 * sizes::log(nb));
+    let z = tests::note(z, 11, pf != 2 * sizes::log(nf));
     let z = tests::note(z, 15, scratch < 2 * m + 2 * sizes::larger(nb, nf));
     tests::note(z, 15, out < 2 * m)
 }

@@ -39,9 +39,9 @@ pub(crate) fn drawn(
 fn bin_at(q: usize, rb: usize, rf: usize) -> usize
     ensures { λ r. ⌜ (r ≡ binAt q rb rf) × (r ≤ 1000) ⌝ }
 {
-    let l = steps::log(q);
-    let b = steps::log(rb);
-    let f = steps::log(rf);
+    let l = sizes::log(q);
+    let b = sizes::log(rb);
+    let f = sizes::log(rf);
     2 * (l + b + (l + f) + l)
 }
 
@@ -57,7 +57,7 @@ pub(crate) fn bin_point(q: usize, rb: usize, rf: usize, d: [u64; 256]) -> [u64; 
 pub(crate) fn fld_point(q: usize, rb: usize, rf: usize, d: [u64; 256]) -> [u64; 32]
     ensures { λ r. ⌜ r ≡ window 32 (fldAt q rb rf) d ⌝ }
 {
-    let k = bin_at(q, rb, rf) + 2 * steps::log(rb);
+    let k = bin_at(q, rb, rf) + 2 * sizes::log(rb);
     window32(k, d)
 }
 
@@ -65,8 +65,8 @@ pub(crate) fn fld_point(q: usize, rb: usize, rf: usize, d: [u64; 256]) -> [u64; 
 pub(crate) fn run_alphas(q: usize, rb: usize, rf: usize, d: [u64; 256]) -> [u64; 12]
     ensures { λ r. ⌜ r ≡ window 12 (alphasAt q rb rf) d ⌝ }
 {
-    let k = bin_at(q, rb, rf) + 2 * steps::log(rb) + 2 * steps::log(rf);
-    let a = steps::least(k, 244);
+    let k = bin_at(q, rb, rf) + 2 * sizes::log(rb) + 2 * sizes::log(rf);
+    let a = sizes::least(k, 244);
     let e = a + 12;
     steps::alphas12(&d[a..e])
 }
@@ -75,7 +75,7 @@ pub(crate) fn run_alphas(q: usize, rb: usize, rf: usize, d: [u64; 256]) -> [u64;
 fn window32(k: usize, d: [u64; 256]) -> [u64; 32]
     ensures { λ r. ⌜ r ≡ window 32 k d ⌝ }
 {
-    let a = steps::least(k, 224);
+    let a = sizes::least(k, 224);
     let e = a + 32;
     steps::point32(&d[a..e])
 }
@@ -131,10 +131,10 @@ fn clear_room(m: usize, rb: usize, rf: usize, s: &mut [u64])
 pub fn draw_words(m: usize, q: usize, rb: usize, rf: usize) -> usize
     ensures { λ r. ⌜ r ≡ 2 * drawCount (outline m q rb rf []) ⌝ }
 {
-    let s = steps::log(q);
-    let b = steps::log(rb);
-    let f = steps::log(rf);
-    let n = steps::log(m);
+    let s = sizes::log(q);
+    let b = sizes::log(rb);
+    let f = sizes::log(rf);
+    let n = sizes::log(m);
     2 * (s + b + (s + f + (s + (b + (f + (6 + n))))))
 }
 
@@ -155,7 +155,7 @@ pub(crate) fn finish(
         × (now (claims .exit) ≡ stopClaims m q rb rf (now (lens .entry)) (now (proof .entry)) (drawnOver m q rb rf (now (lens .entry)) (now (proof .entry)) t (noDraws m q rb rf)) (stopOf m q rb rf (now (lens .entry)) (now (x .entry)) (now (proof .entry)) (drawnOver m q rb rf (now (lens .entry)) (now (proof .entry)) t (noDraws m q rb rf)) (now (s .entry))) (now (claims .entry)))
         × (now (s .exit) ≡ clearedTo (roomElements m rb rf) (stopRoom m q rb rf (now (lens .entry)) (now (x .entry)) (now (proof .entry)) (drawnOver m q rb rf (now (lens .entry)) (now (proof .entry)) t (noDraws m q rb rf)) (now (s .entry)))) ⌝ }
 {
-    let k = steps::least(draw_words(m, q, rb, rf), 256);
+    let k = sizes::least(draw_words(m, q, rb, rf), 256);
     let mut draws = [0u64; 256];
     let a = checks(claims, s, &mut draws[0..k], m, q, rb, rf, lens, x, proof, t);
     clear_room(m, rb, rf, s);

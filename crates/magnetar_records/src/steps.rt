@@ -24,26 +24,12 @@ pub(crate) fn add_column(m: usize, n: usize, s: &mut [u64], e: Entry)
     steps::add_to(m, e.col, step::scale(v, f), s);
 }
 
-// The logarithm to the base 2.
-pub fn log(n: usize) -> usize
-    ensures { λ r. ⌜ (r ≡ log₂ n) × (r ≤ 63) ⌝ }
-{
-    sizes::log2(n)
-}
-
-// The smaller of two numbers.
-pub fn least(a: usize, b: usize) -> usize
-    ensures { λ r. ⌜ (r ≡ min a b) × (r ≤ b) ⌝ }
-{
-    if a < b { a } else { b }
-}
-
 // Puts alpha k times the eq table of the row point p, for n rows, behind the first m elements.
 pub(crate) fn eq_behind(s: &mut [u64], m: usize, n: usize, al: [u64; 12], k: usize, p: [u64; 32])
     ensures { λ _. ⌜ now (s .exit) ≡ eqBehind m (getD (elements al) k 0) (pointIn n p) (now (s .entry)) ⌝ }
 {
     let c = words::get(&al, k);
-    let l = least(2 * log(n), 32);
+    let l = sizes::least(2 * sizes::log(n), 32);
     if m <= s.len() / 2 {
         let a = 2 * m;
         let _done = eq::eq_build_scaled(&p[0..l], c, &mut s[a..]);

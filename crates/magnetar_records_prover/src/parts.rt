@@ -7,14 +7,13 @@ ghost use lib.ListN.{length, take, drop, replicate};
 ghost use Rattle.magnetar_records_prover.specs.Parts.{productWords, placeOf, sizeOf, copied, proofWordsOf, claimWordsOf, proverRoomWords};
 use magnetar_field::sizes;
 use magnetar_field::words;
-use magnetar_records::steps;
 
 // How many words one product has: 2 for each login and row.
 pub(crate) fn product_words(q: usize, n: usize) -> usize
     ensures { λ r. ⌜ (r ≡ productWords q n) × (r ≤ 1073741824) ⌝ }
 {
-    let l = steps::least(q, 4096);
-    let k = steps::least(n, 65536);
+    let l = sizes::least(q, 4096);
+    let k = sizes::least(n, 65536);
     2 * (l * k)
 }
 
@@ -53,7 +52,7 @@ pub(crate) fn copy_table(s: &mut [u64], k: usize, q: usize, rb: usize, rf: usize
     if k < 4 {
         copy_to(s, k * b, b);
     } else {
-        copy_to(s, 4 * b + (steps::least(k, 7) - 4) * f, f);
+        copy_to(s, 4 * b + (sizes::least(k, 7) - 4) * f, f);
     }
 }
 
@@ -61,11 +60,11 @@ pub(crate) fn copy_table(s: &mut [u64], k: usize, q: usize, rb: usize, rf: usize
 pub(crate) fn proof_words(m: usize, q: usize, rb: usize, rf: usize, k: usize) -> usize
     ensures { λ r. ⌜ r ≡ proofWordsOf m q rb rf k ⌝ }
 {
-    let s = steps::log(q);
-    let b = steps::log(rb);
-    let f = steps::log(rf);
-    let n = steps::log(m);
-    let l = steps::least(k, 64);
+    let s = sizes::log(q);
+    let b = sizes::log(rb);
+    let f = sizes::log(rf);
+    let n = sizes::log(m);
+    let l = sizes::least(k, 64);
     2 * (8 * s + 4 * b + 4 * f + 6 + 3 * n + 1 + l)
 }
 
@@ -83,9 +82,9 @@ fn less_one(n: usize) -> usize
 pub(crate) fn claim_words(m: usize, q: usize, k: usize) -> usize
     ensures { λ r. ⌜ r ≡ claimWordsOf m q k ⌝ }
 {
-    let s = steps::log(q);
-    let n = steps::log(m);
-    let l = steps::least(k, 64);
+    let s = sizes::log(q);
+    let n = sizes::log(m);
+    let l = sizes::least(k, 64);
     2 * (s + less_one(n) + l)
 }
 
@@ -93,10 +92,10 @@ pub(crate) fn claim_words(m: usize, q: usize, k: usize) -> usize
 fn room_words(m: usize, q: usize, rb: usize, rf: usize) -> usize
     ensures { λ r. ⌜ r ≡ proverRoomWords m q rb rf ⌝ }
 {
-    let l = steps::least(q, 4096);
-    let b = steps::least(rb, 65536);
-    let f = steps::least(rf, 65536);
-    let n = steps::least(m, 65536);
+    let l = sizes::least(q, 4096);
+    let b = sizes::least(rb, 65536);
+    let f = sizes::least(rf, 65536);
+    let n = sizes::least(m, 65536);
     4 * product_words(q, rb) + 4 * product_words(q, rf) + 8 * n + 4 * sizes::larger(b, f) + 4 * l
 }
 
@@ -104,6 +103,6 @@ fn room_words(m: usize, q: usize, rb: usize, rf: usize) -> usize
 pub(crate) fn clear_room(s: &mut [u64], m: usize, q: usize, rb: usize, rf: usize)
     ensures { λ _. ⌜ now (s .exit) ≡ replicate (min (proverRoomWords m q rb rf) (length (now (s .entry)))) 0 ++ drop (min (proverRoomWords m q rb rf) (length (now (s .entry)))) (now (s .entry)) ⌝ }
 {
-    let n = steps::least(room_words(m, q, rb, rf), s.len());
+    let n = sizes::least(room_words(m, q, rb, rf), s.len());
     words::clear(&mut s[0..n]);
 }

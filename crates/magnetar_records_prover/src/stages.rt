@@ -13,11 +13,11 @@ ghost use Rattle.magnetar_records_prover.specs.Stages.{OuterDone, outerR
 use crate::parts;
 use magnetar_batch::fold;
 use magnetar_checks::claims;
+use magnetar_field::sizes;
 use magnetar_field::words;
 use magnetar_hash::transcript::Transcript;
 use magnetar_hash::transcript::TranscriptAnswer;
 use magnetar_records::stages;
-use magnetar_records::steps;
 use magnetar_rounds::inner;
 use magnetar_rounds::rounds;
 
@@ -56,8 +56,8 @@ pub(crate) fn outer(
 ) -> OuterDraws
     ensures { λ r. ⌜ OuterDone m q rb rf k (now (s .entry)) (now (proof .entry)) t (r .«transcript») (r .«draws») (now (proof .exit)) × (now (s .exit) ≡ outerRoom m q rb rf k (now (s .entry)) (now (proof .entry)) t) ⌝ }
 {
-    let i = steps::least(parts::proof_words(m, q, rb, rf, k), proof.len());
-    let d = steps::least(stages::draw_words(m, q, rb, rf), 256);
+    let i = sizes::least(parts::proof_words(m, q, rb, rf, k), proof.len());
+    let d = sizes::least(stages::draw_words(m, q, rb, rf), 256);
     let mut draws = [0u64; 256];
     let a = rounds::outer_rounds(q, rb, rf, &mut proof[0..i], &mut draws[0..d], s, t);
     let u = a.transcript;
@@ -112,11 +112,11 @@ fn fold_behind(
 )
     ensures { λ _. ⌜ (FoldReady q (m / 2) (log₂ q) (loginAt q rb rf) (length (now (packed .entry))) (length d) (length (now (s .entry))) → FoldLeft q (m / 2) (log₂ q) (loginAt q rb rf) (now (packed .entry)) d (now (s .entry)) (now (s .exit))) ⌝ }
 {
-    let l = steps::log(q);
-    let b = steps::log(rb);
-    let f = steps::log(rf);
+    let l = sizes::log(q);
+    let b = sizes::log(rb);
+    let f = sizes::log(rf);
     let k = l + b + (l + f);
-    let n = steps::least(l, 16);
+    let n = sizes::least(l, 16);
     let e = 2 * n;
     let w = m / 2;
     let mut point = [0u64; 32];
@@ -138,11 +138,11 @@ fn inner_part(
 ) -> Transcript
     ensures { λ r. ⌜ (InnerReady m (now (lens .entry)) (length (now (x .entry))) (t .«squeeze_ctr») → InnerLeft m q rb rf (now (lens .entry)) (now (proof .entry)) (now (draws .entry)) (now (s .entry)) (innerPlayed (outline m 1 1 1 (now (lens .entry))) (now (x .entry)) (now (s .entry)) t) r (now (proof .exit)) (now (draws .exit)) (now (s .exit))) ⌝ }
 {
-    let l = steps::log(q);
-    let b = steps::log(rb);
-    let f = steps::log(rf);
-    let a = steps::least(2 * (8 * l + 4 * b + 4 * f + 6), proof.len());
-    let k = steps::least(2 * (l + b + (l + f) + l + b + f + 6), draws.len());
+    let l = sizes::log(q);
+    let b = sizes::log(rb);
+    let f = sizes::log(rf);
+    let a = sizes::least(2 * (8 * l + 4 * b + 4 * f + 6), proof.len());
+    let k = sizes::least(2 * (l + b + (l + f) + l + b + f + 6), draws.len());
     let r = inner::inner_rounds(m, lens, x, &mut proof[a..], &mut draws[k..], s, t);
     r.transcript
 }
@@ -186,9 +186,9 @@ fn end(
         → EndLeft m q rb rf (now (lens .entry)) (now (proof .entry)) d (now (claims .entry)) (now (s .entry)) (innerPlayed (outline m 1 1 1 (now (lens .entry))) (now (x .entry)) (now (s .entry)) t) r (now (proof .exit)) (now (claims .exit)) (now (s .exit))) ⌝ }
 {
     let k = lens.len();
-    let i = steps::least(parts::proof_words(m, q, rb, rf, k), proof.len());
-    let c = steps::least(parts::claim_words(m, q, k), claims.len());
-    let n = steps::least(stages::draw_words(m, q, rb, rf), 256);
+    let i = sizes::least(parts::proof_words(m, q, rb, rf, k), proof.len());
+    let c = sizes::least(parts::claim_words(m, q, k), claims.len());
+    let n = sizes::least(stages::draw_words(m, q, rb, rf), 256);
     let mut draws = d;
     end_in(
         &mut proof[0..i],
