@@ -14,7 +14,8 @@ use Rattle.magnetar_field.specs.Gf128.{_⊕_, _⊗_}
 use Rattle.magnetar_field.specs.Tabulate.{tabulate}
 use Rattle.magnetar_multilinear.specs.Multilinear.{mle}
 use Rattle.magnetar_field.proofs.Tabulation.{tabulate-length}
-use Rattle.magnetar_round.specs.Round.{passes, running}
+use Rattle.magnetar_round.specs.Round.{running}
+use Rattle.magnetar_round.proofs.Verifier.{passes}
 use Rattle.magnetar_round.specs.Order.{eqPoints}
 use Rattle.magnetar_round.specs.Outer.{outerEnd}
 use Rattle.magnetar_round.specs.Inner.{innerEnd}
