@@ -39,12 +39,12 @@ use Rattle.magnetar_checks.proofs.OuterPhases.{eqb-comm}
 
 -- ---- with the matrices combined, they are the verifier's
 pub end-combined : (r : Relation) (x w : List ℕ) (d : Draws)
-    → endChecks r x w d (combined r d) ≡ innerChecks r x w d ++ identityCheck r x w d
+    → endChecks r x w d (combined r d) ≡ innerChecks r w d (combined r d) ++ identityCheck r w d x
 unfolding endChecks innerChecks
 end-combined r x w d =
     sym (append-assoc (tabulate (λ i. check 27 (roundHolds (innerClaim r w d) (innerRounds r w) (d .inner) i) (afterAlphas r + 2 * i)) (logCols r))
     (check 28 (eqb (running (innerClaim r w d) (innerRounds r w) (d .inner)) (innerEnd (mle (combined r d) (d .inner)) (valueZ r w))) (afterInner r) ∷ [])
-    (identityCheck r x w d))
+    (identityCheck r w d x))
 
 -- ---- the columns
 pub record Cols (m c : ℕ) : Type 0 where
@@ -68,7 +68,7 @@ cols m c P e = go c (P .power ∙ ap (λ (k : ℕ). 2 ^ k) (sym e)) most
 
 -- ---- phase by phase
 segments-are : (r : Relation) (D : Draws) (low : List ℕ) (i : ℕ) (vs : List ℕ) → lowPoint r D ≡ low
-    → segmentSum r D i vs ≡ segmentsAt (r .lengths) low i vs
+    → segmentSum (r .lengths) (lowPoint r D) i vs ≡ segmentsAt (r .lengths) low i vs
 unfolding segmentSum segmentsAt
 segments-are r D low i [] e = refl
 segments-are r D low i (v ∷ vs) e =
@@ -106,11 +106,11 @@ module _ (r : Relation) (x w d t : List ℕ) (exact : length w ≡ proofElements
   sums = segmentsAt (r .lengths) (lowDraws s b f c (r .lengths) x w d t) 0
       (part (terminalsAt s b f c (r .lengths) x w d t + 6 + 3 * c + 1) (length (r .lengths)) w)
 
-  sum-is : segmentSum r D 0 (segmentValues r w) ≡ sums
+  sum-is : segmentSum (r .lengths) (lowPoint r D) 0 (segmentValues r w) ≡ sums
   sum-is = segments-are r D (lowDraws s b f c (r .lengths) x w d t) 0 (segmentValues r w) low-is
       ∙ ap (segmentsAt (r .lengths) (lowDraws s b f c (r .lengths) x w d t) 0) values-are
 
-  identity-is : identityCheck r x w D
+  identity-is : identityCheck r w D x
       ≡ check 29 (identical (getD d (alphasAt s b f c (r .lengths) x w d t + 6 + (c - 1)) 0) sums
       (mle (1 ∷ x) (lowDraws s b f c (r .lengths) x w d t)) (vz s b f c (r .lengths) x w d t))
       (eventsBefore s b f c (r .lengths) x w d t + 2 * c + 1) ∷ []

@@ -34,7 +34,7 @@ endChecks r x w d table =
       passes = eqb (running (innerClaim r w d) (innerRounds r w) (d .inner)) (innerEnd (mle table (d .inner)) (valueZ r w));
       events = afterInner r;
     }
-    ∷ identityCheck r x w d
+    ∷ identityCheck r w d x
 
 -- ---- `end_checks`: a relation by its sizes; the public words x, the words of a proof and of draws, and the room s
 unfoldable pub endRefusal : Relation → (x proof draws s : List ℕ) → ℕ

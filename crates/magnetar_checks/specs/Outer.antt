@@ -31,7 +31,7 @@ proofTests r proof = (16, not (eqb (length proof) (2 * proofElements r))) ∷ []
 
 -- the checks 21 to 26
 unfoldable pub outerChecks : Relation → List ℕ → Draws → List Check
-outerChecks r w D = sharedChecks r [] w D 0 (logLogins r) ++ (rowChecks r [] w D ++ terminalChecks r [] w D)
+outerChecks r w D = sharedChecks r w D 0 (logLogins r) ++ (rowChecks r w D ++ terminalChecks r w D)
 
 -- ---- `outer_checks`: a relation r by its sizes, the words of a proof and of draws
 unfoldable pub outerChecksRefusal : Relation → List ℕ → List ℕ → ℕ

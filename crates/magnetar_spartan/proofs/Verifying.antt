@@ -65,25 +65,25 @@ module _ (R : Rules) (w : List ℕ) (t : Transcript) where
       count = unfold systemOf matrixOf in refl
 
 -- ---- the checks of the rounds read no public column
-shared-free : (r : Relation) (x y w : List ℕ) (D : Draws) (i n : ℕ) → sharedChecks r x w D i n ≡ sharedChecks r y w D i n
+shared-free : (r : Relation) (x y w : List ℕ) (D : Draws) (i n : ℕ) → sharedChecks r w D i n ≡ sharedChecks r y w D i n
 unfolding sharedChecks
 shared-free r x y w D i zero = refl
 shared-free r x y w D i (suc n) = rw (shared-free r x y w D (suc i) n)
 
 module _ (R : Rules) (x w : List ℕ) (D : Draws) where
-  pub outer-is : sharedChecks (sizesOf R) [] w D 0 (logLogins (sizesOf R)) ++ (rowChecks (sizesOf R) [] w D ++ terminalChecks (sizesOf R) [] w D)
+  pub outer-is : sharedChecks (sizesOf R) w D 0 (logLogins (sizesOf R)) ++ (rowChecks (sizesOf R) w D ++ terminalChecks (sizesOf R) w D)
       ≡ outerChecks (relationOf R) x w D
   outer-is =
-      outlines (λ (r : Relation). sharedChecks r [] w D 0 (logLogins r) ++ (rowChecks r [] w D ++ terminalChecks r [] w D))
+      outlines (λ (r : Relation). sharedChecks r w D 0 (logLogins r) ++ (rowChecks r w D ++ terminalChecks r w D))
       ∙ sym (ap₂ _++_ (shared-outlined (relationOf R) [] w D 0 (logLogins (relationOf R)))
       (ap₂ _++_ (rows-outlined (relationOf R) [] w D) (terminals-outlined (relationOf R) [] w D)))
       ∙ ap₂ _++_ (shared-free (relationOf R) [] x w D 0 (logLogins (relationOf R)))
       (ap₂ _++_ rows-free terminals-free)
     where
-      rows-free : rowChecks (relationOf R) [] w D ≡ rowChecks (relationOf R) x w D
+      rows-free : rowChecks (relationOf R) w D ≡ rowChecks (relationOf R) w D
       rows-free = unfold rowChecks in refl
 
-      terminals-free : terminalChecks (relationOf R) [] w D ≡ terminalChecks (relationOf R) x w D
+      terminals-free : terminalChecks (relationOf R) w D ≡ terminalChecks (relationOf R) w D
       terminals-free = unfold terminalChecks in refl
 
       outlines : (f : Relation → List Check) → f (sizesOf R) ≡ f (outlined (relationOf R))
