@@ -474,17 +474,17 @@ def sumchecks(sheet):
         found = answers[0].split()[2:10]
         message = [element(found[i : i + 2]) for i in range(0, 8, 2)]
         for spoiled in [message] + [[c ^ (DICE.getrandbits(128) if i == k else 0) for i, c in enumerate(message)] for k in range(4)]:
-            sheet.rust("sumops", f"round {listed(spoiled)} {listed([claim] + some(1))}")
+            sheet.rust("sumops", f"round {len(spoiled)} {listed(spoiled)} {listed([claim] + some(1))}")
         for r in [0, 1]:
-            sheet.rust("sumops", f"round {listed(message)} {listed([claim, r])}")
-        sheet.rust("sumops", f"round {listed(message)} {listed([claim ^ 1] + some(1))}")
+            sheet.rust("sumops", f"round {len(message)} {listed(message)} {listed([claim, r])}")
+        sheet.rust("sumops", f"round {len(message)} {listed(message)} {listed([claim ^ 1] + some(1))}")
     for degree in range(6):
         message = some(degree + 1)
         claim = 0
         for c in message[1:]:
             claim ^= c
         for wrong in [0, 1 << 64]:
-            sheet.rust("sumops", f"round {listed(message)} {listed([claim ^ wrong] + some(1))}")
+            sheet.rust("sumops", f"round {len(message)} {listed(message)} {listed([claim ^ wrong] + some(1))}")
     captures(sheet)
     sheet.note("terminal values: true ones, and damaged in each; a factor of 0")
     product = lambda x, y: element(sheet.now("driver", f"mul {listed([x, y])}"))
@@ -520,12 +520,36 @@ def captures(sheet):
         claim = 0
         for c in message[1:]:
             claim ^= c
-        at = f"{dice.randbytes(32).hex()} {dice.choice([0, 1, 7, 2**32 - 1, 2**32, 2**64 - 1])} {hexed([b'', b'vs-inner', b'c' * 130][degree % 3])}"
+        state, counter = dice.randbytes(32).hex(), dice.choice([0, 1, 7, 2**32 - 1, 2**32, 2**64 - 1])
+        at = f"{state} {counter} {hexed([b'', b'vs-inner', b'c' * 130][degree % 3])}"
         for wrong in [0, 1, 1 << 127]:
-            sheet.rust("sumops", f"capture {at} {listed(message)} {listed([claim ^ wrong])}")
-    zero = f"{'00' * 32} 0 {hexed(b'vs-inner')}"
-    sheet.rust("sumops", f"capture {zero} {brief([0, 0, 0])} {brief([0])}")
-    sheet.rust("sumops", f"capture {zero} {brief([0, 0, 0])} {brief([1])}")
+            query = f"capture {at} {len(message)} {listed(message)} {listed([claim ^ wrong])}"
+            if counter < 2**32:
+                sheet.rust("sumops", query)
+            else:
+                sheet.said(query, f"! 14 {listed([claim ^ wrong, 0])} {state} {counter}")
+    zero, label = "00" * 32, hexed(b"vs-inner")
+    sheet.rust("sumops", f"capture {zero} 0 {label} 3 {brief([0, 0, 0])} {brief([0])}")
+    sheet.rust("sumops", f"capture {zero} 0 {label} 3 {brief([0, 0, 0])} {brief([1])}")
+    sheet.note("a message that is not of the coefficients wanted is refused with 11, and then a counter of 2^32 or more with 14")
+    for message, claim in [
+        ("3 0", 0),
+        ("0 2 7 0", 0),
+        ("1 1 7", 0),
+        ("4 6 5 0 0 0 9 0", 9),
+        ("4 9 0 0 0 0 0 0 0 0 1", 0),
+        (f"{2**63 + 1} 2 7 0", 0),
+        (f"{2**64 - 1} 2 7 0", 0),
+    ]:
+        sheet.said(f"round {message} {brief([claim, 1])}", f"! 11 {listed([claim])}")
+    for counter, message, claim, code in [
+        (0, "4 6 0 0 0 0 0 0", 0, 11),
+        (0, "1 1 7", 0, 11),
+        (2**32, "3 5 0 0 0 0 0", 3, 11),
+        (2**32, "3 6 0 0 0 0 0 0", 0, 14),
+        (2**64 - 1, "3 6 0 0 0 0 0 0", 1, 14),
+    ]:
+        sheet.said(f"capture {zero} {counter} {label} {message} {brief([claim])}", f"! {code} {listed([claim, 0])} {zero} {counter}")
 
 
 def lent_rounds(sheet):

@@ -31,7 +31,7 @@ fn bytes(word: &str) -> Vec<u8> {
 
 fn answer(op: &str, words: &mut &[u64]) -> String {
     let high = words[0] as usize;
-    if ["outer", "inner", "eqpoints"].contains(&op) {
+    if ["outer", "inner", "round", "eqpoints"].contains(&op) {
         *words = &words[1..];
     }
     let first = list(words);
@@ -69,12 +69,12 @@ fn answer(op: &str, words: &mut &[u64]) -> String {
     }
 }
 
-/// T L MSG 2 CLAIM
+/// T L N MSG 2 CLAIM
 fn captured(rest: &str) -> String {
     let found: Vec<&str> = rest.splitn(4, ' ').collect();
     let (state, label) = (bytes(found[0]).try_into().unwrap(), String::from_utf8(bytes(found[2])).unwrap());
     let words = numbers(found[3]);
-    let words = &mut &words[..];
+    let words = &mut &words[1..];
     capture(&(state, number(found[1])), &label, &list(words), list(words)[0])
 }
 

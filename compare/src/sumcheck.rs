@@ -30,10 +30,17 @@ fn inner(sheet: &mut Sheet, high: usize, t: &[Gf128], z: &[Gf128], r: &[Gf128], 
 
 /// One message of any degree, with the challenge from outside and drawn.
 fn round(sheet: &mut Sheet, message: &[Gf128], claim: Gf128, r: Gf128, t: &State, label: &str) {
-    let query = format!("round {} {}", elements(message), elements(&[claim, r]));
+    let n = message.len();
+    let query = format!("round {n} {} {}", elements(message), elements(&[claim, r]));
     sheet.ask("engine::round_external", Rust, query, vec![engine::round(message, claim, r)]);
-    let query = format!("capture {} {} {}", hash::on(t, label), elements(message), elements(&[claim]));
-    sheet.ask("engine::round_capturing", Rust, query, vec![engine::capture(t, label, message, claim)]);
+    let query = format!("capture {} {n} {} {}", hash::on(t, label), elements(message), elements(&[claim]));
+    if t.1 < 1 << 32 {
+        sheet.ask("engine::round_capturing", Rust, query, vec![engine::capture(t, label, message, claim)]);
+    } else {
+        sheet.ask("engine::round_capturing", Document, query, vec![format!("! 14 {} {}", elements(&[claim, ZERO]), state(t))]);
+    }
+    let wanted = format!("round {} {} {}", n + 1, elements(message), elements(&[claim, r]));
+    sheet.ask("engine::round_external", Document, wanted, vec![format!("! 11 {}", elements(&[claim]))]);
 }
 
 fn end(sheet: &mut Sheet, outer: bool, values: &[Gf128]) {

@@ -102,25 +102,25 @@ module _ (s b f c l proof draws out : ℕ) where
   claims-segments h = rw (lt-ltb 64 l h)
 
   pub claims-words : (dw ow pw y₁ y₂ y₃ : ℕ) → l ≤ 64 → dw ≡ 2 * drawTotal s b f c → ow ≡ 2 * (s + (c - 1) + l) → pw ≡ 2 * proofTotal s b f c l
-      → y₁ ≡ note 11 (ltb draws dw) 0 → y₂ ≡ note 15 (ltb out ow) y₁ → y₃ ≡ note 16 (not (eqb proof pw)) y₂
+      → y₁ ≡ note 11 (not (eqb draws dw)) 0 → y₂ ≡ note 15 (ltb out ow) y₁ → y₃ ≡ note 16 (not (eqb proof pw)) y₂
       → y₃ ≡ claimsRefusalOf s b f c l proof draws out
   unfolding claimsRefusalOf note
   claims-words dw ow pw y₁ y₂ y₃ h ed eo ep e₁ e₂ e₃ = rw (e₃, e₂, e₁, ed, eo, ep, le-ltb 64 l h)
 
   pub record ClaimsGiven : Type 0 where
     pub few : l ≤ 64
-    pub drawn : 2 * drawTotal s b f c ≤ draws
+    pub drawn : draws ≡ 2 * drawTotal s b f c
     pub room : 2 * (s + (c - 1) + l) ≤ out
     pub exact : proof ≡ 2 * proofTotal s b f c l
 
   pub claims-given : claimsRefusalOf s b f c l proof draws out ≡ 0 → ClaimsGiven
   unfolding claimsRefusalOf
   claims-given e =
-      let k = noted-clear 0 ((10, ltb 64 l) ∷ (11, ltb draws (2 * drawTotal s b f c)) ∷ (15, ltb out (2 * (s + (c - 1) + l)))
+      let k = noted-clear 0 ((10, ltb 64 l) ∷ (11, not (eqb draws (2 * drawTotal s b f c))) ∷ (15, ltb out (2 * (s + (c - 1) + l)))
       ∷ (16, not (eqb proof (2 * proofTotal s b f c l))) ∷ []) refl e .1 in
       record {
         few = ltb-false 64 l (k .0);
-        drawn = ltb-false draws (2 * drawTotal s b f c) (k .1 .0);
+        drawn = eqb-true draws (2 * drawTotal s b f c) (not-false (eqb draws (2 * drawTotal s b f c)) (k .1 .0));
         room = ltb-false out (2 * (s + (c - 1) + l)) (k .1 .1 .0);
         exact = eqb-true proof (2 * proofTotal s b f c l) (not-false (eqb proof (2 * proofTotal s b f c l)) (k .1 .1 .1 .0));
       }
@@ -170,7 +170,7 @@ module _ (m q rb rf : ℕ) (ns p d out : List ℕ) (s b f c n z : ℕ) (es : s �
   unfolding claimsOut
   claims-written h front ew e =
       let g = claims-fit h in
-      let drawn : 2 * drawTotal (log₂ q) (log₂ rb) (log₂ rf) (log₂ m) ≤ length d = rw (es, eb, ef, ec) at (g .drawn) in
+      let drawn : length d ≡ 2 * drawTotal (log₂ q) (log₂ rb) (log₂ rf) (log₂ m) = rw (es, eb, ef, ec) at (g .drawn) in
       let exact : length p ≡ 2 * proofTotal (log₂ q) (log₂ rb) (log₂ rf) (log₂ m) (length ns) = rw (es, eb, ef, ec) at (g .exact) in
       let t = claims-tabled (outline m q rb rf ns) (elements p) (elements d) (omega (arith, drawn, elements-length d))
       (omega (arith, exact, elements-length p)) in

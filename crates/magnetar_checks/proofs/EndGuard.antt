@@ -19,7 +19,6 @@ use Rattle.magnetar_layout.specs.Entries.{layoutRefusal}
 use Rattle.magnetar_layout.proofs.Noted.{noted-clear, noted-front, noted-rest, noted-late}
 use Rattle.magnetar_layout.proofs.SizeLaws.{sized}
 use Rattle.magnetar_layout.proofs.Laid.{sound}
-use Rattle.magnetar_protocol.specs.RunSizes.{Power}
 use Rattle.magnetar_protocol.specs.Schedule.{outline}
 use Rattle.magnetar_protocol.specs.declared.first.Found.{Found}
 use Rattle.magnetar_protocol.specs.Found.{firstFound}
@@ -30,9 +29,6 @@ use Rattle.magnetar_checks.specs.Outer.{drawTests, proofTests}
 use Rattle.magnetar_checks.specs.End.{endRefusal, endFound, endRoom}
 use Rattle.magnetar_checks.proofs.Pieces.{elements-take}
 use Rattle.magnetar_checks.proofs.EndPhases.{cols, end-is, end-finds}
-
-pub power-of : (m : ℕ) → isSize 2 65536 m ≡ true → Power 2 65536 m
-power-of m h = let z = sized 2 65536 m h in record { low = z .low; high = z .high; power = z .power }
 
 -- ---- 1, 3 and 4
 pub record FrontGiven (m q rb rf x : ℕ) : Type 0 where
@@ -47,7 +43,7 @@ front-given m q rb rf x z e h =
 -- ---- the later tests
 module _ (m s b f c : ℕ) (ns : List ℕ) (proof draws room : ℕ) (size : isSize 2 65536 m ≡ true) where
   abbrev late : Tests
-  late = (11, ltb draws (2 * drawTotal s b f c)) ∷ (15, ltb room (4 * m)) ∷ (16, not (eqb proof (2 * proofTotal s b f c (length ns)))) ∷ []
+  late = (11, not (eqb draws (2 * drawTotal s b f c))) ∷ (15, ltb room (4 * m)) ∷ (16, not (eqb proof (2 * proofTotal s b f c (length ns)))) ∷ []
 
   rest : endRefusalOf m s b f c ns proof draws room ≡ noted 0 (layoutTests (m / 2) ns ++ late)
   unfolding endRefusalOf
@@ -55,13 +51,13 @@ module _ (m s b f c : ℕ) (ns : List ℕ) (proof draws room : ℕ) (size : isSi
 
   layout-is : layoutRefusal (m / 2) ns ≡ noted 0 (layoutTests (m / 2) ns)
   unfolding layoutRefusal note
-  layout-is = rw (cols m (log₂ m) (power-of m size) refl .even, size)
+  layout-is = rw (cols m (log₂ m) (sized 2 65536 m size) refl .even, size)
 
   pub end-layout : (z : ℕ) → z ≡ layoutRefusal (m / 2) ns → (z ≡ 0 → ⊥) → z ≡ endRefusalOf m s b f c ns proof draws room
   end-layout z e h = noted-front (layoutTests (m / 2) ns) late z (e ∙ layout-is) h ∙ sym rest
 
   pub end-words : (z dw pw y₁ y₂ y₃ : ℕ) → z ≡ layoutRefusal (m / 2) ns → z ≡ 0 → dw ≡ 2 * drawTotal s b f c
-      → pw ≡ 2 * proofTotal s b f c (length ns) → y₁ ≡ note 11 (ltb draws dw) 0 → y₂ ≡ note 15 (ltb room (4 * m)) y₁
+      → pw ≡ 2 * proofTotal s b f c (length ns) → y₁ ≡ note 11 (not (eqb draws dw)) 0 → y₂ ≡ note 15 (ltb room (4 * m)) y₁
       → y₃ ≡ note 16 (not (eqb proof pw)) y₂ → y₃ ≡ endRefusalOf m s b f c ns proof draws room
   end-words z dw pw y₁ y₂ y₃ e h ed ep e₁ e₂ e₃ =
       noted-late (layoutTests (m / 2) ns) late z y₃ (e ∙ layout-is) h (rw (e₃, e₂, e₁, ed, ep)) ∙ sym rest
@@ -69,7 +65,7 @@ module _ (m s b f c : ℕ) (ns : List ℕ) (proof draws room : ℕ) (size : isSi
   not-refused : not (every (isLength (m / 2)) ns) ≡ false → ltb (m / 2) (layoutEnd ns) ≡ false → ltb 64 (length ns) ≡ false
       → layoutRefusal (m / 2) ns ≡ 0
   unfolding layoutRefusal note
-  not-refused h₁ h₂ h₃ = rw (cols m (log₂ m) (power-of m size) refl .even, size, h₁, h₂, h₃)
+  not-refused h₁ h₂ h₃ = rw (cols m (log₂ m) (sized 2 65536 m size) refl .even, size, h₁, h₂, h₃)
 
   pub few-of : layoutRefusal (m / 2) ns ≡ 0 → length ns ≤ 64
   unfolding layoutRefusal
@@ -78,7 +74,7 @@ module _ (m s b f c : ℕ) (ns : List ℕ) (proof draws room : ℕ) (size : isSi
   pub record EndGiven : Type 0 where
     pub layout : LayoutFits (m / 2) ns
     pub few : length ns ≤ 64
-    pub drawn : 2 * drawTotal s b f c ≤ draws
+    pub drawn : draws ≡ 2 * drawTotal s b f c
     pub fits : 4 * m ≤ room
     pub exact : proof ≡ 2 * proofTotal s b f c (length ns)
 
@@ -90,7 +86,7 @@ module _ (m s b f c : ℕ) (ns : List ℕ) (proof draws room : ℕ) (size : isSi
       record {
         layout = sound (m / 2) ns (not-refused (k .0) (k .1 .0) (k .1 .1 .0));
         few = ltb-false 64 (length ns) (k .1 .1 .0);
-        drawn = ltb-false draws (2 * drawTotal s b f c) (a .0);
+        drawn = eqb-true draws (2 * drawTotal s b f c) (not-false (eqb draws (2 * drawTotal s b f c)) (a .0));
         fits = ltb-false room (4 * m) (a .1 .0);
         exact = eqb-true proof (2 * proofTotal s b f c (length ns)) (not-false (eqb proof (2 * proofTotal s b f c (length ns))) (a .1 .1 .0));
       }
@@ -138,7 +134,7 @@ module _ (m q rb rf : ℕ) (ns x p d room : List ℕ) (s b f c z : ℕ) (es : s 
   end-fits h ls lb lf =
       let g = given h in
       record {
-        columns = power-of m (front .size);
+        columns = sized 2 65536 m (front .size);
         logins = ls;
         bin = lb;
         fld = lf;
@@ -160,7 +156,7 @@ module _ (m q rb rf : ℕ) (ns x p d room : List ℕ) (s b f c z : ℕ) (es : s 
   unfolding endFound endRoom
   end-answered h r out e o =
       let g = given h in
-      let k = cols m c (power-of m (front .size)) ec in
+      let k = cols m c (sized 2 65536 m (front .size)) ec in
       let n : 4 * m ≡ 2 * (2 * m) = omega arith in
       let t : take m (elements (take (4 * m) room)) ≡ take m (elements room) =
       rw (n, elements-take (2 * m) room) (take-take m (2 * m) (elements room) (omega arith)) in

@@ -24,27 +24,18 @@ use Rattle.magnetar_protocol.specs.Shape.{logLogins, logBin, logFld, logCols, b
 use Rattle.magnetar_protocol.specs.Proof.{part, terminals, innerRounds, valueZ, segmentValues}
 use Rattle.magnetar_protocol.specs.Draws.{Draws, drawsOf, lowPoint, topElement}
 use Rattle.magnetar_protocol.specs.Checks.{Check, roundHolds, innerClaim, combined, segmentSum, innerChecks, identityCheck}
-use Rattle.magnetar_protocol.specs.RunSizes.{Power}
+use Rattle.magnetar_layout.specs.Tests.{Sized}
 use Rattle.magnetar_protocol.specs.Schedule.{afterAlphas, afterInner}
 use Rattle.magnetar_protocol.proofs.Phases.{Numbered, numbered-append, numbered-tabulate}
 use Rattle.magnetar_protocol.specs.declared.first.Found.{Found}
 use Rattle.magnetar_protocol.specs.Found.{firstFound}
 use Rattle.magnetar_protocol.specs.Found.{check, nothing, nextFound, after}
 use Rattle.magnetar_checks.specs.Steps.{messages, roundChecks}
-use Rattle.magnetar_checks.specs.EndSteps.{segmentsAt, identical, alphasAt, terminalsAt, eventsBefore, innerDraws, firstClaim, lastClaim, vz, lowDraws, roundPhase, endPhases}
+use Rattle.magnetar_checks.specs.EndSteps.{identical, alphasAt, terminalsAt, eventsBefore, innerDraws, firstClaim, lastClaim, vz, lowDraws, roundPhase, endPhases}
 use Rattle.magnetar_checks.specs.End.{endChecks}
 use Rattle.magnetar_checks.proofs.Pieces.{part-get}
 use Rattle.magnetar_protocol.proofs.Finding.{after-append, after-two, finds}
 use Rattle.magnetar_checks.proofs.OuterPhases.{eqb-comm}
-
--- ---- with the matrices combined, they are the verifier's
-pub end-combined : (r : Relation) (x w : List ℕ) (d : Draws)
-    → endChecks r x w d (combined r d) ≡ innerChecks r x w d ++ identityCheck r x w d
-unfolding endChecks innerChecks
-end-combined r x w d =
-    sym (append-assoc (tabulate (λ i. check 27 (roundHolds (innerClaim r w d) (innerRounds r w) (d .inner) i) (afterAlphas r + 2 * i)) (logCols r))
-    (check 28 (eqb (running (innerClaim r w d) (innerRounds r w) (d .inner)) (innerEnd (mle (combined r d) (d .inner)) (valueZ r w))) (afterInner r) ∷ [])
-    (identityCheck r x w d))
 
 -- ---- the columns
 pub record Cols (m c : ℕ) : Type 0 where
@@ -53,7 +44,7 @@ pub record Cols (m c : ℕ) : Type 0 where
   pub half : c - 1 ≡ log₂ (m / 2)
   pub even : 2 * (m / 2) ≡ m
 
-pub cols : (m c : ℕ) → Power 2 65536 m → c ≡ log₂ m → Cols m c
+pub cols : (m c : ℕ) → Sized 2 65536 m → c ≡ log₂ m → Cols m c
 cols m c P e = go c (P .power ∙ ap (λ (k : ℕ). 2 ^ k) (sym e)) most
   where
     most : c ≤ 16
@@ -67,13 +58,6 @@ cols m c P e = go c (P .power ∙ ap (λ (k : ℕ). 2 ^ k) (sym e)) most
         record { pos = omega arith; small = l; half = rw (d, h) (sym (log₂-pow k (omega arith))); even = omega (arith, p, h, two-pow-succ k) }
 
 -- ---- phase by phase
-segments-are : (r : Relation) (D : Draws) (low : List ℕ) (i : ℕ) (vs : List ℕ) → lowPoint r D ≡ low
-    → segmentSum r D i vs ≡ segmentsAt (r .lengths) low i vs
-unfolding segmentSum segmentsAt
-segments-are r D low i [] e = refl
-segments-are r D low i (v ∷ vs) e =
-    ap₂ (λ (l : List ℕ) (y : ℕ). eqAt (drop (localVars (r .lengths) i) l) (suffix (r .lengths) i) ⊗ v ⊕ y) e (segments-are r D low (suc i) vs e)
-
 module _ (r : Relation) (x w d t : List ℕ) (exact : length w ≡ proofElements r) (some : 0 < logCols r) where
   abbrev D : Draws
   D = drawsOf r d
@@ -103,14 +87,13 @@ module _ (r : Relation) (x w d t : List ℕ) (exact : length w ≡ proofElements
   values-are = sym (take-all (length (r .lengths)) (drop (beforeEnd r + 1) w) (rw length-drop (omega arith)))
 
   abbrev sums : ℕ
-  sums = segmentsAt (r .lengths) (lowDraws s b f c (r .lengths) x w d t) 0
+  sums = segmentSum (r .lengths) (lowDraws s b f c (r .lengths) x w d t) 0
       (part (terminalsAt s b f c (r .lengths) x w d t + 6 + 3 * c + 1) (length (r .lengths)) w)
 
-  sum-is : segmentSum r D 0 (segmentValues r w) ≡ sums
-  sum-is = segments-are r D (lowDraws s b f c (r .lengths) x w d t) 0 (segmentValues r w) low-is
-      ∙ ap (segmentsAt (r .lengths) (lowDraws s b f c (r .lengths) x w d t) 0) values-are
+  sum-is : segmentSum (r .lengths) (lowPoint r D) 0 (segmentValues r w) ≡ sums
+  sum-is = ap₂ (λ (low vs : List ℕ). segmentSum (r .lengths) low 0 vs) low-is values-are
 
-  identity-is : identityCheck r x w D
+  identity-is : identityCheck r w D x
       ≡ check 29 (identical (getD d (alphasAt s b f c (r .lengths) x w d t + 6 + (c - 1)) 0) sums
       (mle (1 ∷ x) (lowDraws s b f c (r .lengths) x w d t)) (vz s b f c (r .lengths) x w d t))
       (eventsBefore s b f c (r .lengths) x w d t + 2 * c + 1) ∷ []
@@ -118,9 +101,12 @@ module _ (r : Relation) (x w d t : List ℕ) (exact : length w ≡ proofElements
   identity-is = rw (top-is, sum-is, low-is)
 
   pub end-is : endChecks r x w D t ≡ endPhases s b f c (r .lengths) x w d t
-  unfolding endChecks endPhases roundChecks messages innerClaim innerRounds terminals drawsOf valueZ
+  unfolding endChecks innerChecks endPhases roundChecks messages innerClaim innerRounds terminals drawsOf valueZ
   end-is =
-      ap₂ (λ (y : Bool) (l : List Check). roundPhase s b f c (r .lengths) x w d t
+      append-assoc (roundPhase s b f c (r .lengths) x w d t)
+      (check 28 (eqb (lastClaim s b f c (r .lengths) x w d t) (innerEnd (mle t (innerDraws s b f c (r .lengths) x w d t)) (vz s b f c (r .lengths) x w d t)))
+      (eventsBefore s b f c (r .lengths) x w d t + 2 * c) ∷ []) (identityCheck r w D x)
+      ∙ ap₂ (λ (y : Bool) (l : List Check). roundPhase s b f c (r .lengths) x w d t
       ++ (check 28 y (eventsBefore s b f c (r .lengths) x w d t + 2 * c) ∷ l))
       (eqb-comm (lastClaim s b f c (r .lengths) x w d t) (innerEnd (mle t (innerDraws s b f c (r .lengths) x w d t)) (vz s b f c (r .lengths) x w d t)))
       identity-is
@@ -141,7 +127,7 @@ module _ (s b f c : ℕ) (ns x w d t : List ℕ) where
       → claim ≡ lastClaim s b f c ns x w d t → tv ≡ mle t (innerDraws s b f c ns x w d t) → pv ≡ mle (1 ∷ x) (lowDraws s b f c ns x w d t)
       → y ≡ eqb (innerEnd tv (vz s b f c ns x w d t)) claim
       → z ≡ identical (getD d (alphasAt s b f c ns x w d t + 6 + (c - 1)) 0)
-      (segmentsAt ns (lowDraws s b f c ns x w d t) 0 (part (terminalsAt s b f c ns x w d t + 6 + 3 * c + 1) (length ns) w)) pv (vz s b f c ns x w d t)
+      (segmentSum ns (lowDraws s b f c ns x w d t) 0 (part (terminalsAt s b f c ns x w d t + 6 + 3 * c + 1) (length ns) w)) pv (vz s b f c ns x w d t)
       → f₂ ≡ nextFound f₁ (check 28 y (eventsBefore s b f c ns x w d t + 2 * c))
       → f₃ ≡ nextFound f₂ (check 29 z (eventsBefore s b f c ns x w d t + 2 * c + 1)) → f₃ ≡ after nothing (endPhases s b f c ns x w d t)
   unfolding endPhases

@@ -20,14 +20,10 @@ use Rattle.magnetar_field.proofs.Product.{one-⊗}
 use Rattle.magnetar_layout.specs.Tests.{Sized}
 use Rattle.magnetar_r1cs.proofs.Points.{log-most, point-of, eq-built}
 use Rattle.magnetar_matrix.proofs.TableLaws.{elements-words}
-use Rattle.magnetar_protocol.specs.RunSizes.{Power}
 use Rattle.magnetar_checks.proofs.Pieces.{elements-take}
 
-pub sized-of : (m : ℕ) → Power 2 65536 m → Sized 2 65536 m
-sized-of m P = record { low = P .low; high = P .high; power = P .power }
-
 -- ---- the table in front of its eq table
-pub table-is : (m : ℕ) (s point u post : List ℕ) → Power 2 65536 m → length s ≡ 4 * m → length point ≡ 2 * log₂ m
+pub table-is : (m : ℕ) (s point u post : List ℕ) → Sized 2 65536 m → length s ≡ 4 * m → length point ≡ 2 * log₂ m
     → u ≡ eqOut point (take (4 * m - 2 * m) (drop (2 * m) s))
     → dot (elements (take (2 * m - 0) (take (2 * m) s ++ (u ++ post))))
     (elements (take (4 * m - 2 * m) (drop (2 * m) (take (2 * m) s ++ (u ++ post))))) ≡ mle (take m (elements s)) (elements point)
@@ -51,7 +47,7 @@ table-is m s point u post P ls lp e =
     room = simp (length-take, length-drop) (omega arith)
 
     built : u ≡ words (eqTable (elements point))
-    built = e ∙ eq-built point (take (4 * m - 2 * m) (drop (2 * m) s)) (point-of 2 m point (take (4 * m - 2 * m) (drop (2 * m) s)) (sized-of m P) lp room)
+    built = e ∙ eq-built point (take (4 * m - 2 * m) (drop (2 * m) s)) (point-of 2 m point (take (4 * m - 2 * m) (drop (2 * m) s)) P lp room)
 
     power : 2 ^ (length point / 2) ≡ m
     power = let k : length point / 2 ≡ log₂ m = omega arith in rw k (sym (P .power))
@@ -70,7 +66,7 @@ unfolding dot
 first-and-rest x [] h k = absurd (omega arith)
 first-and-rest x (v ∷ t) h k = ap (λ (y : ℕ). y ⊕ dot x t) (sym (one-⊗ v k))
 
-pub public-is : (m : ℕ) (s x low u post : List ℕ) → Power 2 65536 m → length s ≡ 4 * m → length x ≡ m - 2 → length low ≡ 2 * (log₂ m - 1)
+pub public-is : (m : ℕ) (s x low u post : List ℕ) → Sized 2 65536 m → length s ≡ 4 * m → length x ≡ m - 2 → length low ≡ 2 * (log₂ m - 1)
     → u ≡ eqOut low (take (m - 0) (drop 0 s))
     → getD (elements (u ++ post)) 0 0 ⊕ dot (elements x) (elements (take (m - 2) (drop 2 (u ++ post)))) ≡ mle (1 ∷ elements x) (elements low)
 unfolding mle

@@ -20,7 +20,7 @@ use Rattle.magnetar_field.proofs.Product.{⊗-lt, ⊗-one, one-⊗, ⊗-assoc}
 use Rattle.magnetar_multilinear.proofs.EqTables.{eqAt-lt, eqAt-cons}
 use Rattle.magnetar_layout.specs.Layout.{LayoutFits, nextMultiple, localVars, suffix}
 use Rattle.magnetar_layout.proofs.Laid.{Laid, laid-start, laid-more, laid-offset, laid-within, offset-within, each-size}
-use Rattle.magnetar_checks.specs.EndSteps.{segmentsAt}
+use Rattle.magnetar_protocol.specs.Checks.{segmentSum}
 
 -- ---- the factors of the first j elements are in acc, and the number halved j times is left
 pub record Times (p : List ℕ) (k acc rest j : ℕ) : Type 0 where
@@ -53,18 +53,18 @@ times-end p k acc rest j t h =
 -- ---- the segments: the first i values are in acc, and the walk over the layout stands at c
 pub record Segments (ns low vs : List ℕ) (acc c i : ℕ) : Type 0 where
   pub laid : Laid ns c i
-  pub left : acc ⊕ segmentsAt ns low i (drop i vs) ≡ segmentsAt ns low 0 vs
+  pub left : acc ⊕ segmentSum ns low i (drop i vs) ≡ segmentSum ns low 0 vs
 
 pub segments-start : (ns low vs : List ℕ) → Segments ns low vs 0 0 0
-segments-start ns low vs = record { laid = laid-start ns; left = zero-⊕ (segmentsAt ns low 0 vs) }
+segments-start ns low vs = record { laid = laid-start ns; left = zero-⊕ (segmentSum ns low 0 vs) }
 
 segments-cons : (ns low : List ℕ) (i v : ℕ) (vs : List ℕ)
-    → segmentsAt ns low i (v ∷ vs) ≡ eqAt (drop (localVars ns i) low) (suffix ns i) ⊗ v ⊕ segmentsAt ns low (suc i) vs
-unfolding segmentsAt
+    → segmentSum ns low i (v ∷ vs) ≡ eqAt (drop (localVars ns i) low) (suffix ns i) ⊗ v ⊕ segmentSum ns low (suc i) vs
+unfolding segmentSum
 segments-cons ns low i v vs = refl
 
-segments-nil : (ns low : List ℕ) (i : ℕ) → segmentsAt ns low i [] ≡ 0
-unfolding segmentsAt
+segments-nil : (ns low : List ℕ) (i : ℕ) → segmentSum ns low i [] ≡ 0
+unfolding segmentSum
 segments-nil ns low i = refl
 
 -- what a segment of the walk is: its length is a power of two, and it lies within w
@@ -113,20 +113,20 @@ pub segments-more : (w : ℕ) (ns low vs : List ℕ) (acc c i k v acc′ c′ : 
 segments-more w ns low vs acc c i k v acc′ c′ S g h lv ek ev ea ec = record {
   laid = subst (λ (o : ℕ). Laid ns o (i + 1)) (sym walked) (laid-more ns c i (g .laid) h);
   left = rw (add-one i) (
-      ap (λ (y : ℕ). y ⊕ segmentsAt ns low (suc i) (drop (suc i) vs)) (ea ∙ ap₂ (λ (y z : ℕ). acc ⊕ eqAt (drop (log₂ (getD ns i 0)) low) y ⊗ z)
+      ap (λ (y : ℕ). y ⊕ segmentSum ns low (suc i) (drop (suc i) vs)) (ea ∙ ap₂ (λ (y z : ℕ). acc ⊕ eqAt (drop (log₂ (getD ns i 0)) low) y ⊗ z)
       (sym (place-is ns c i k (g .laid) h (each-size w ns i (S .lengths) h .least) ek)) ev)
-      ∙ ⊕-assoc acc (eqAt (drop (localVars ns i) low) (suffix ns i) ⊗ getD vs i 0) (segmentsAt ns low (suc i) (drop (suc i) vs))
+      ∙ ⊕-assoc acc (eqAt (drop (localVars ns i) low) (suffix ns i) ⊗ getD vs i 0) (segmentSum ns low (suc i) (drop (suc i) vs))
       ∙ ap (λ (y : ℕ). acc ⊕ y) (sym (segments-cons ns low i (getD vs i 0) (drop (suc i) vs))
-      ∙ ap (segmentsAt ns low i) (sym (drop-cons vs i 0 (rw lv h))))
+      ∙ ap (segmentSum ns low i) (sym (drop-cons vs i 0 (rw lv h))))
       ∙ g .left);
 }
   where
     walked : c′ ≡ nextMultiple c (getD ns i 0) + getD ns i 0
     walked = ec ∙ ap (λ (j : ℕ). j * getD ns i 0 + getD ns i 0) ek ∙ ap (λ (o : ℕ). o + getD ns i 0) (multiple-is c (getD ns i 0))
 
-pub segments-end : (ns low vs : List ℕ) (acc c i : ℕ) → Segments ns low vs acc c i → length vs ≤ i → acc ≡ segmentsAt ns low 0 vs
+pub segments-end : (ns low vs : List ℕ) (acc c i : ℕ) → Segments ns low vs acc c i → length vs ≤ i → acc ≡ segmentSum ns low 0 vs
 segments-end ns low vs acc c i g h =
-    sym (⊕-zero acc) ∙ ap (λ (y : ℕ). acc ⊕ y) (sym (ap (segmentsAt ns low i) (drop-of-length-le vs {i = i} h) ∙ segments-nil ns low i)) ∙ g .left
+    sym (⊕-zero acc) ∙ ap (λ (y : ℕ). acc ⊕ y) (sym (ap (segmentSum ns low i) (drop-of-length-le vs {i = i} h) ∙ segments-nil ns low i)) ∙ g .left
 
 -- the high part of the low point
 pub behind : (a l : ℕ) (s : List ℕ) → a ≡ 2 * l → elements (take (length s - a) (drop a s)) ≡ drop l (elements s)

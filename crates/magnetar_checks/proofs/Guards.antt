@@ -47,23 +47,23 @@ module _ (s b f c l proof draws : ℕ) where
   unfolding refusalOf note
   refused-segments h = rw (lt-ltb 64 l h)
 
-  pub refused-words : (y z dw pw : ℕ) → l ≤ 64 → dw ≡ 2 * drawTotal s b f c → pw ≡ 2 * proofTotal s b f c l → y ≡ note 11 (ltb draws dw) 0
+  pub refused-words : (y z dw pw : ℕ) → l ≤ 64 → dw ≡ 2 * drawTotal s b f c → pw ≡ 2 * proofTotal s b f c l → y ≡ note 11 (not (eqb draws dw)) 0
       → z ≡ note 16 (not (eqb proof pw)) y → z ≡ refusalOf s b f c l proof draws
   unfolding refusalOf note
   refused-words y z dw pw h ed ep ey ez = rw (ez, ey, ed, ep, le-ltb 64 l h)
 
 pub record Given (s b f c l proof draws : ℕ) : Type 0 where
   pub few : l ≤ 64
-  pub drawn : 2 * drawTotal s b f c ≤ draws
+  pub drawn : draws ≡ 2 * drawTotal s b f c
   pub exact : proof ≡ 2 * proofTotal s b f c l
 
 pub given : (s b f c l proof draws z : ℕ) → z ≡ refusalOf s b f c l proof draws → z ≡ 0 → Given s b f c l proof draws
 unfolding refusalOf
 given s b f c l proof draws z e h =
-    let k = noted-clear 0 ((10, ltb 64 l) ∷ (11, ltb draws (2 * drawTotal s b f c)) ∷ (16, not (eqb proof (2 * proofTotal s b f c l))) ∷ []) refl
+    let k = noted-clear 0 ((10, ltb 64 l) ∷ (11, not (eqb draws (2 * drawTotal s b f c))) ∷ (16, not (eqb proof (2 * proofTotal s b f c l))) ∷ []) refl
     (sym e ∙ h) .1 in
     record {
       few = ltb-false 64 l (k .0);
-      drawn = ltb-false draws (2 * drawTotal s b f c) (k .1 .0);
+      drawn = eqb-true draws (2 * drawTotal s b f c) (not-false (eqb draws (2 * drawTotal s b f c)) (k .1 .0));
       exact = eqb-true proof (2 * proofTotal s b f c l) (not-false (eqb proof (2 * proofTotal s b f c l)) (k .1 .1 .0));
     }

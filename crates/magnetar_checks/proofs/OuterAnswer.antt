@@ -52,5 +52,5 @@ module _ (m q b f : ℕ) (ns p d : List ℕ) where
         rw (← same, h, e, es, eb, ef)
         (outer-found (outline m q b f ns) (elements p) (elements d) (omega (arith, enough, elements-length d)))
       where
-        enough : 2 * ((log₂ q + log₂ b) + ((log₂ q + log₂ f) + (log₂ q + (log₂ b + (log₂ f + (6 + log₂ m)))))) ≤ length d
+        enough : length d ≡ 2 * ((log₂ q + log₂ b) + ((log₂ q + log₂ f) + (log₂ q + (log₂ b + (log₂ f + (6 + log₂ m))))))
         enough = rw (es, eb, ef, ec) at (given s₁ b₁ f₁ c₁ (length ns) (length p) (length d) z ez h .drawn)

@@ -98,40 +98,40 @@ module _ (r : Relation) (w d : List ℕ) (long : drawCount r ≤ length d) where
   unfolding drawsOf
   fld-rs = refl
 
-  shared-is : (i n : ℕ) → i + n ≤ s → sharedChecks r [] w D i n
+  shared-is : (i n : ℕ) → i + n ≤ s → sharedChecks r w D i n
       ≡ bothChecks (taus s b f w d) (sharedBin s w) (sharedFld s w) (sharedDraws s b f w d) i n
   unfolding sharedChecks bothChecks
   shared-is i zero h = refl
   shared-is i (suc n) h =
       let j : i < s = omega arith in
-      let p : binRound r [] w D i ≡ roundHolds 0 (sharedBin s w) (sharedDraws s b f w d) i =
+      let p : binRound r w D i ≡ roundHolds 0 (sharedBin s w) (sharedDraws s b f w d) i =
       ap₂ (λ (x : List (List ℕ)) (y : List ℕ). roundHolds 0 x y i) bin-ms bin-rs
       ∙ round-front 0 (sharedBin s w) (messages (8 * s) 4 b w) (sharedDraws s b f w d) (binDraws s b f w d) i (rw (bin-length s w) j) (rw shared-length (omega arith)) in
-      let q : fldRound r [] w D i ≡ roundHolds 0 (sharedFld s w) (sharedDraws s b f w d) i =
+      let q : fldRound r w D i ≡ roundHolds 0 (sharedFld s w) (sharedDraws s b f w d) i =
       ap₂ (λ (x : List (List ℕ)) (y : List ℕ). roundHolds 0 x y i) fld-ms fld-rs
       ∙ round-front 0 (sharedFld s w) (messages (8 * s + 4 * b) 4 f w) (sharedDraws s b f w d) (fldDraws s b f w d) i (rw (fld-length s w) j) (rw shared-length (omega arith)) in
       ap₂ (λ (x : Bool) (l : List Check). check 21 x (afterTaus r + 2 * suc i) ∷ l) p
       (ap₂ (λ (x : Bool) (l : List Check). check 22 x (afterTaus r + 2 * suc i) ∷ l) q (shared-is (suc i) n (omega arith)))
 
-  rows-are : rowChecks r [] w D ≡ binPhase s b f w d ++ fldPhase s b f w d
+  rows-are : rowChecks r w D ≡ binPhase s b f w d ++ fldPhase s b f w d
   unfolding rowChecks roundChecks
   rows-are =
       ap₂ _++_
-      (tabulate-ext (λ i. check 23 (binRound r [] w D (s + i)) (afterShared r + 2 * suc i))
+      (tabulate-ext (λ i. check 23 (binRound r w D (s + i)) (afterShared r + 2 * suc i))
       (λ i. check 23 (roundHolds (binShared s b f w d) (messages (8 * s) 4 b w) (binDraws s b f w d) i) (taus s b f w d + 2 * s + 2 + 2 * i)) b
       (λ i h. ap₂ (check 23) (bin-at i) (omega arith)))
-      (tabulate-ext (λ i. check 24 (fldRound r [] w D (s + i)) (afterBin r + 2 * suc i))
+      (tabulate-ext (λ i. check 24 (fldRound r w D (s + i)) (afterBin r + 2 * suc i))
       (λ i. check 24 (roundHolds (fldShared s b f w d) (messages (8 * s + 4 * b) 4 f w) (fldDraws s b f w d) i)
       (taus s b f w d + 2 * s + 2 * b + 2 + 2 * i)) f
       (λ i h. ap₂ (check 24) (fld-at i) (omega arith)))
     where
-      bin-at : (i : ℕ) → binRound r [] w D (s + i) ≡ roundHolds (binShared s b f w d) (messages (8 * s) 4 b w) (binDraws s b f w d) i
+      bin-at : (i : ℕ) → binRound r w D (s + i) ≡ roundHolds (binShared s b f w d) (messages (8 * s) 4 b w) (binDraws s b f w d) i
       bin-at i =
           ap₂ (λ (x : List (List ℕ)) (y : List ℕ). roundHolds 0 x y (s + i)) bin-ms bin-rs
           ∙ round-behind 0 (sharedBin s w) (messages (8 * s) 4 b w) (sharedDraws s b f w d) (binDraws s b f w d) s i (bin-length s w) shared-length
 
       fld-at : (i : ℕ)
-          → fldRound r [] w D (s + i) ≡ roundHolds (fldShared s b f w d) (messages (8 * s + 4 * b) 4 f w) (fldDraws s b f w d) i
+          → fldRound r w D (s + i) ≡ roundHolds (fldShared s b f w d) (messages (8 * s + 4 * b) 4 f w) (fldDraws s b f w d) i
       fld-at i =
           ap₂ (λ (x : List (List ℕ)) (y : List ℕ). roundHolds 0 x y (s + i)) fld-ms fld-rs
           ∙ round-behind 0 (sharedFld s w) (messages (8 * s + 4 * b) 4 f w) (sharedDraws s b f w d) (fldDraws s b f w d) s i (fld-length s w)
@@ -162,7 +162,7 @@ module _ (r : Relation) (w d : List ℕ) (long : drawCount r ≤ length d) where
       (fld-length s w ∙ sym shared-length))
       (omega arith) (omega arith) (omega arith)
 
-  terminals-are : terminalChecks r [] w D ≡ terminalPhase s b f w d
+  terminals-are : terminalChecks r w D ≡ terminalPhase s b f w d
   unfolding terminalChecks
   terminals-are =
       ap₂ (λ (x : Bool) (l : List Check). check 25 x (taus s b f w d + 2 * s + 2 * b + 2 * f) ∷ l) bin-end

@@ -18,5 +18,5 @@ claimAt s n k j v w d i =
 unfoldable pub claimsRefusalOf : (s b f c l proof draws out : ℕ) → ℕ
 claimsRefusalOf s b f c l proof draws out =
     tests.noted 0
-    ((10, ltb 64 l) ∷ (11, ltb draws (2 * drawTotal s b f c)) ∷ (15, ltb out (2 * (s + (c - 1) + l)))
+    ((10, ltb 64 l) ∷ (11, not (eqb draws (2 * drawTotal s b f c))) ∷ (15, ltb out (2 * (s + (c - 1) + l)))
     ∷ (16, not (eqb proof (2 * proofTotal s b f c l))) ∷ [])

@@ -1,40 +1,22 @@
 -- The outcome of `end_checks`: the checks 27, 28 and 29, with a table in place of the six matrices combined at the row points.
 -- Assumes nothing.
-use mathlib.Core.List.{List, _∷_, _++_}
-use Prim.Native.Nat.{ℕ, _+_, _*_, _/_}
-use lib.Dec.{eqb}
+use mathlib.Core.List.{List, _++_}
+use Prim.Native.Nat.{ℕ, _*_, _/_}
 use lib.ListN.{take, drop, replicate}
 use Rattle.magnetar_field.specs.Refusal.{unlessRefused}
-use Rattle.magnetar_field.specs.Tabulate.{tabulate}
 use Rattle.magnetar_field.specs.Words.{elements}
-use Rattle.magnetar_multilinear.specs.Multilinear.{mle}
-use Rattle.magnetar_round.specs.Round.{running}
-use Rattle.magnetar_round.specs.Inner.{innerEnd}
 use Rattle.magnetar_matrix.specs.Batch.{Relation}
 use Rattle.magnetar_layout.specs.Tests.{noted, sizeTests, publicTests, rowsTests, layoutTests, roomTest}
-use Rattle.magnetar_protocol.specs.Shape.{logCols}
-use Rattle.magnetar_protocol.specs.Proof.{innerRounds, valueZ}
 use Rattle.magnetar_protocol.specs.Draws.{Draws, drawsOf}
-use Rattle.magnetar_protocol.specs.Schedule.{outline, afterAlphas, afterInner}
-use Rattle.magnetar_protocol.specs.Checks.{Check, roundHolds, innerClaim, identityCheck}
+use Rattle.magnetar_protocol.specs.Schedule.{outline}
+use Rattle.magnetar_protocol.specs.Checks.{Check, innerChecks, identityCheck}
 use Rattle.magnetar_protocol.specs.declared.first.Found.{Found}
 use Rattle.magnetar_protocol.specs.Found.{firstFound, unlessBad}
 use Rattle.magnetar_checks.specs.Outer.{drawTests, proofTests}
 
 -- the checks of the inner rounds, of the claim that they leave, and of v_z
 unfoldable pub endChecks : Relation → (x w : List ℕ) → Draws → (table : List ℕ) → List Check
-endChecks r x w d table =
-    tabulate (λ i. record {
-      refusal = 27;
-      passes = roundHolds (innerClaim r w d) (innerRounds r w) (d .inner) i;
-      events = afterAlphas r + 2 * i;
-    }) (logCols r)
-    ++ record {
-      refusal = 28;
-      passes = eqb (running (innerClaim r w d) (innerRounds r w) (d .inner)) (innerEnd (mle table (d .inner)) (valueZ r w));
-      events = afterInner r;
-    }
-    ∷ identityCheck r x w d
+endChecks r x w d table = innerChecks r w d table ++ identityCheck r w d x
 
 -- ---- `end_checks`: a relation by its sizes; the public words x, the words of a proof and of draws, and the room s
 unfoldable pub endRefusal : Relation → (x proof draws s : List ℕ) → ℕ

@@ -19,19 +19,21 @@ use Rattle.magnetar_protocol.specs.Found.{firstFound, unlessBad}
 abbrev pub runTests : (m q b f : ℕ) → Tests
 runTests m q b f = sizeTests m q ++ (rowsTests q b ++ rowsTests q f)
 
--- 10: over 64 segments; 11: fewer words of draws than a run draws; 16: not the words of a proof
+-- 10: over 64 segments
 abbrev pub segmentTests : List ℕ → Tests
 segmentTests ns = (10, ltb 64 (length ns)) ∷ []
 
+-- 11: not the words of as many elements as a run draws
 abbrev pub drawTests : Relation → List ℕ → Tests
-drawTests r draws = (11, ltb (length draws) (2 * drawCount r)) ∷ []
+drawTests r draws = (11, not (eqb (length draws) (2 * drawCount r))) ∷ []
 
+-- 16: not the words of a proof
 abbrev pub proofTests : Relation → List ℕ → Tests
 proofTests r proof = (16, not (eqb (length proof) (2 * proofElements r))) ∷ []
 
 -- the checks 21 to 26
 unfoldable pub outerChecks : Relation → List ℕ → Draws → List Check
-outerChecks r w D = sharedChecks r [] w D 0 (logLogins r) ++ (rowChecks r [] w D ++ terminalChecks r [] w D)
+outerChecks r w D = sharedChecks r w D 0 (logLogins r) ++ (rowChecks r w D ++ terminalChecks r w D)
 
 -- ---- `outer_checks`: a relation r by its sizes, the words of a proof and of draws
 unfoldable pub outerChecksRefusal : Relation → List ℕ → List ℕ → ℕ
@@ -40,6 +42,7 @@ outerChecksRefusal r proof draws =
     (runTests (r .m) (r .q) (r .bin .a .rows) (r .fld .a .rows)
     ++ (segmentTests (r .lengths) ++ (drawTests r draws ++ proofTests r proof)))
 
+-- the first check that does not pass, unless a test refuses
 unfoldable pub outerFound : (m q rowsBin rowsFld : ℕ) → List ℕ → List ℕ → List ℕ → Found
 outerFound m q b f ns proof draws =
     unlessBad (outerChecksRefusal (outline m q b f ns) proof draws)

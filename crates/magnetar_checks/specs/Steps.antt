@@ -14,11 +14,12 @@ use Rattle.magnetar_protocol.specs.Proof.{part}
 use Rattle.magnetar_protocol.specs.Checks.{Check, roundHolds}
 use Rattle.magnetar_protocol.specs.Found.{check}
 
--- ---- how many elements are drawn, and are in a proof with l segments, with the logarithms s, b, f, c of the logins, the rows of bin
--- and fld, and the columns
+-- ---- with the logarithms s, b, f, c of the logins, the rows of bin and fld, and the columns
+-- how many elements are drawn
 abbrev pub drawTotal : (s b f c : ℕ) → ℕ
 drawTotal s b f c = s + b + (s + f + (s + (b + (f + (6 + c)))))
 
+-- and are in a proof with l segments
 abbrev pub proofTotal : (s b f c l : ℕ) → ℕ
 proofTotal s b f c l = 8 * s + 4 * b + 4 * f + 6 + 3 * c + 1 + l
 
@@ -26,7 +27,7 @@ proofTotal s b f c l = 8 * s + 4 * b + 4 * f + 6 + 3 * c + 1 + l
 unfoldable pub refusalOf : (s b f c l proof draws : ℕ) → ℕ
 refusalOf s b f c l proof draws =
     tests.noted 0
-    ((10, ltb 64 l) ∷ (11, ltb draws (2 * drawTotal s b f c)) ∷ (16, not (eqb proof (2 * proofTotal s b f c l))) ∷ [])
+    ((10, ltb 64 l) ∷ (11, not (eqb draws (2 * drawTotal s b f c))) ∷ (16, not (eqb proof (2 * proofTotal s b f c l))) ∷ [])
 
 -- ---- the rounds of one sum-check
 -- n messages of so many elements, one behind the other from place i on
@@ -38,10 +39,11 @@ unfoldable pub roundChecks : (code events c : ℕ) → List (List ℕ) → List 
 roundChecks code events c ms rs n = tabulate (λ j. check code (roundHolds c ms rs j) (events + 2 * j)) n
 
 -- ---- the shared rounds of both systems
--- the messages of bin and of fld
+-- the messages of bin
 unfoldable pub sharedBin : ℕ → List ℕ → List (List ℕ)
 sharedBin n w = tabulate (λ j. part (8 * j) 4 w) n
 
+-- and of fld
 unfoldable pub sharedFld : ℕ → List ℕ → List (List ℕ)
 sharedFld n w = tabulate (λ j. part (8 * j + 4) 4 w) n
 
@@ -61,41 +63,51 @@ terminalHolds c tau rows shared w i =
 
 -- ---- the outer checks, with the logarithms s, b, f of the logins and the rows: all of them, phase by phase
 module _ (s b f : ℕ) (w d : List ℕ) where
-  -- the places of the shared challenges, which is how many events the taus are, and of the row challenges
+  -- the place of the shared challenges, which is how many events the taus are
   abbrev pub taus : ℕ
   taus = s + b + (s + f)
 
+  -- the shared challenges
   abbrev pub sharedDraws : List ℕ
   sharedDraws = part taus s d
 
+  -- the row challenges of bin
   abbrev pub binDraws : List ℕ
   binDraws = part (taus + s) b d
 
+  -- and of fld
   abbrev pub fldDraws : List ℕ
   fldDraws = part (taus + s + b) f d
 
-  -- the running claims after the shared rounds, and after the row rounds
+  -- the running claim of bin after the shared rounds
   abbrev pub binShared : ℕ
   binShared = running 0 (sharedBin s w) sharedDraws
 
+  -- and of fld
   abbrev pub fldShared : ℕ
   fldShared = running 0 (sharedFld s w) sharedDraws
 
+  -- the running claim of bin after its row rounds
   abbrev pub binEnd : ℕ
   binEnd = running binShared (messages (8 * s) 4 b w) binDraws
 
+  -- and of fld
   abbrev pub fldEnd : ℕ
   fldEnd = running fldShared (messages (8 * s + 4 * b) 4 f w) fldDraws
 
+  -- the checks of the shared rounds
   abbrev pub sharedPhase : List Check
   sharedPhase = bothChecks taus (sharedBin s w) (sharedFld s w) sharedDraws 0 s
 
+  -- of the row rounds of bin
   abbrev pub binPhase : List Check
   binPhase = roundChecks 23 (taus + 2 * s + 2) binShared (messages (8 * s) 4 b w) binDraws b
 
+  -- of those of fld
   abbrev pub fldPhase : List Check
   fldPhase = roundChecks 24 (taus + 2 * s + 2 * b + 2) fldShared (messages (8 * s + 4 * b) 4 f w) fldDraws f
 
+  -- of the terminals
   abbrev pub terminalPhase : List Check
   terminalPhase =
       check 25 (terminalHolds binEnd (part 0 (s + b) d) binDraws sharedDraws w (8 * s + 4 * b + 4 * f)) (taus + 2 * s + 2 * b + 2 * f)
@@ -103,5 +115,6 @@ module _ (s b f : ℕ) (w d : List ℕ) where
       (taus + 2 * s + 2 * b + 2 * f)
       ∷ []
 
+  -- all of them
   unfoldable pub outerPhases : List Check
   outerPhases = sharedPhase ++ ((binPhase ++ fldPhase) ++ terminalPhase)

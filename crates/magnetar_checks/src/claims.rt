@@ -77,7 +77,7 @@ fn claims_refusal(
     if l > 64 {
         return 10;
     }
-    let z = tests::note(0, 11, draws < found::draw_words(s, b, f, c));
+    let z = tests::note(0, 11, draws != found::draw_words(s, b, f, c));
     let z = tests::note(z, 15, out < 2 * (s + low + l));
     tests::note(z, 16, proof != found::proof_words(s, b, f, c, l))
 }
@@ -124,7 +124,7 @@ fn less_one(n: usize) -> usize
 
 // Writes the claims of a run over q logins with m columns, rb rows of bin and rf rows of fld, and these segment lengths, as words at the
 // front of claims: r_inst, the shared challenges reversed; r_low, the inner challenges but the last; the segment values.
-// 1: no such columns or logins; 4: no such rows; 10: over 64 segments; 11: fewer words of draws than a run draws; 15: too little room; 16:
+// 1: no such columns or logins; 4: no such rows; 10: over 64 segments; 11: not the words of as many draws as a run makes; 15: too little room; 16:
 // not the words of a proof.
 pub fn write_claims(
     m: usize,

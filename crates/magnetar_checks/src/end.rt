@@ -24,11 +24,11 @@ ghost use Rattle.magnetar_multilinear.specs.EqTable.{eqAt};
 ghost use Rattle.magnetar_multilinear.specs.Multilinear.{mle};
 ghost use Rattle.magnetar_field.specs.Words.{elements};
 ghost use Rattle.magnetar_layout.specs.Layout.{LayoutFits};
-ghost use Rattle.magnetar_layout.specs.Tests.{noted, isSize};
-ghost use Rattle.magnetar_protocol.specs.RunSizes.{Power};
+ghost use Rattle.magnetar_layout.specs.Tests.{noted, isSize, Sized};
+ghost use Rattle.magnetar_protocol.specs.Checks.{segmentSum};
 ghost use Rattle.magnetar_protocol.specs.Proof.{part};
 ghost use Rattle.magnetar_protocol.specs.Found.{nothing, after};
-ghost use Rattle.magnetar_checks.specs.EndSteps.{segmentsAt, identical, roundPhase, lastClaim, lowDraws, vz, alphasAt, terminalsAt, endPhases, EndFits, frontTests, endRefusalOf};
+ghost use Rattle.magnetar_checks.specs.EndSteps.{identical, roundPhase, lastClaim, lowDraws, vz, alphasAt, terminalsAt, endPhases, EndFits, frontTests, endRefusalOf};
 ghost use Rattle.magnetar_checks.specs.End.{endFound, endRoom};
 
 // ---- eq at a number, and the segment values.
@@ -62,7 +62,7 @@ fn add_segment(acc: Gf128, low: &[u64], n: usize, k: usize, v: Gf128) -> Gf128
 fn segment_sum(w: usize, lens: &[usize], low: &[u64], values: &[u64]) -> Gf128
     requires { ⌜ LayoutFits w (now lens) ⌝ }
     requires { ⌜ (length (now low) ≡ 2 * log₂ w) × (length (now values) ≡ 2 * length (now lens)) ⌝ }
-    ensures { λ r. ⌜ value r ≡ segmentsAt (now (lens .entry)) (elements (now (low .entry))) 0 (elements (now (values .entry))) ⌝ }
+    ensures { λ r. ⌜ value r ≡ segmentSum (now (lens .entry)) (elements (now (low .entry))) 0 (elements (now (values .entry))) ⌝ }
 {
     let mut acc = gf128::ZERO;
     let mut c = 0;
@@ -81,7 +81,7 @@ fn segment_sum(w: usize, lens: &[usize], low: &[u64], values: &[u64]) -> Gf128
 
 // The value at the point of the table in the front half of s, whose other half is room for the eq table.
 fn table_value(s: &mut [u64], point: &[u64], m: usize) -> Gf128
-    requires { ⌜ Power 2 65536 m ⌝ }
+    requires { ⌜ Sized 2 65536 m ⌝ }
     requires { ⌜ (length (now s) ≡ 4 * m) × (length (now point) ≡ 2 * log₂ m) ⌝ }
     ensures { λ r. ⌜ value r ≡ mle (take m (elements (now (s .entry)))) (elements (now (point .entry))) ⌝ }
 {
@@ -93,7 +93,7 @@ fn table_value(s: &mut [u64], point: &[u64], m: usize) -> Gf128
 
 // The value at the low point of the public half (1, x), with the eq table at the front of s.
 fn public_value(s: &mut [u64], x: &[u64], low: &[u64], m: usize) -> Gf128
-    requires { ⌜ Power 2 65536 m ⌝ }
+    requires { ⌜ Sized 2 65536 m ⌝ }
     requires { ⌜ (length (now s) ≡ 4 * m) × (length (now x) ≡ m - 2) × (length (now low) ≡ 2 * (log₂ m - 1)) ⌝ }
     ensures { λ r. ⌜ value r ≡ mle (1 ∷ elements (now (x .entry))) (elements (now (low .entry))) ⌝ }
 {
@@ -140,7 +140,7 @@ fn identity_holds(
     c: usize,
 ) -> bool
     requires { ⌜ EndFits m s b f c (now lens) (m - 2) (length (now proof)) (length (now draws)) ⌝ }
-    ensures { λ r. ⌜ r ≡ identical (getD (elements (now (draws .entry))) (alphasAt s b f c [] [] [] [] [] + 6 + (c - 1)) 0) (segmentsAt (now (lens .entry)) (lowDraws s b f c [] [] [] (elements (now (draws .entry))) []) 0 (part (terminalsAt s b f c [] [] [] [] [] + 6 + 3 * c + 1) (length (now (lens .entry))) (elements (now (proof .entry))))) (value p) (vz s b f c [] [] (elements (now (proof .entry))) [] []) ⌝ }
+    ensures { λ r. ⌜ r ≡ identical (getD (elements (now (draws .entry))) (alphasAt s b f c [] [] [] [] [] + 6 + (c - 1)) 0) (segmentSum (now (lens .entry)) (lowDraws s b f c [] [] [] (elements (now (draws .entry))) []) 0 (part (terminalsAt s b f c [] [] [] [] [] + 6 + 3 * c + 1) (length (now (lens .entry))) (elements (now (proof .entry))))) (value p) (vz s b f c [] [] (elements (now (proof .entry))) [] []) ⌝ }
 {
     let k = s + b + (s + f) + s + b + f + 6;
     let i = 8 * s + 4 * b + 4 * f + 6 + 3 * c;
@@ -217,7 +217,7 @@ fn end_refusal(
     if z != 0 {
         return z;
     }
-    let z = tests::note(0, 11, draws < found::draw_words(s, b, f, c));
+    let z = tests::note(0, 11, draws != found::draw_words(s, b, f, c));
     let z = tests::note(z, 15, room < 4 * m);
     tests::note(z, 16, proof != found::proof_words(s, b, f, c, lens.len()))
 }
@@ -226,7 +226,7 @@ fn end_refusal(
 // public words x and the table of m elements at the front of s in place of the six matrices combined at the row points: the first that
 // does not pass, in the order of the run.
 // 1: no such columns or logins; 3: not the words of m / 2 - 1 public columns; 4: no such rows; 8, 9, 10: no such layout over m / 2 columns;
-// 11: fewer words of draws than a run draws; 15: s shorter than 4 m words; 16: not the words of a proof. These stop it before any event.
+// 11: not the words of as many draws as a run makes; 15: s shorter than 4 m words; 16: not the words of a proof. These stop it before any event.
 // Otherwise the first 4 m words of s are left zero.
 pub fn end_checks(
     m: usize,

@@ -203,7 +203,7 @@ fn outer_phases(proof: &[u64], draws: &[u64], s: usize, b: usize, f: usize) -> F
 
 // The checks 21 to 26 of a run over q logins with m columns, rb rows of bin and rf rows of fld, and these segment lengths: the
 // first that does not pass, in the order of the run.
-// 1: no such columns or logins; 4: no such rows; 10: over 64 segments; 11: fewer words of draws than a run draws; 16: not the words of a
+// 1: no such columns or logins; 4: no such rows; 10: over 64 segments; 11: not the words of as many draws as a run makes; 16: not the words of a
 // proof. These stop it before any event.
 pub fn outer_checks(
     m: usize,
@@ -247,6 +247,6 @@ fn outer_refusal(
     if l > 64 {
         return 10;
     }
-    let z = tests::note(0, 11, draws < found::draw_words(s, b, f, c));
+    let z = tests::note(0, 11, draws != found::draw_words(s, b, f, c));
     tests::note(z, 16, proof != found::proof_words(s, b, f, c, l))
 }

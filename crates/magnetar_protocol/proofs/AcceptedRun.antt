@@ -110,13 +110,13 @@ module _ (r : Relation) (x w : List ℕ) (D : Draws) (R : SizedRelation r) (C : 
   unfolding segmentValues
   values-length = length-drop (beforeEnd r + 1) w ∙ omega arith
 
-  pub identity-is : element ((1 ⊕ topElement r D) ⊗ segmentSum r D 0 (segmentValues r w) ⊕ topElement r D ⊗ mle (1 ∷ x) (lowPoint r D))
+  pub identity-is : element ((1 ⊕ topElement r D) ⊗ segmentSum (r .lengths) (lowPoint r D) 0 (segmentValues r w) ⊕ topElement r D ⊗ mle (1 ∷ x) (lowPoint r D))
       ≡ sum (product (sum (element 1) (element (topElement r D)))
       (segSum gf128 ((relationE r) .segs) (els (lowPoint r D)) ((wordsE r w) .values)))
       (product (element (topElement r D)) (dotE gf128 (eqTableE gf128 (els (lowPoint r D))) (publicE x)))
   identity-is =
       element-⊕ _ _ ∙ ap₂ sum
-      (element-⊗ (1 ⊕ topElement r D) (segmentSum r D 0 (segmentValues r w)) ∙ ap₂ product (element-⊕ 1 (topElement r D))
+      (element-⊗ (1 ⊕ topElement r D) (segmentSum (r .lengths) (lowPoint r D) 0 (segmentValues r w)) ∙ ap₂ product (element-⊕ 1 (topElement r D))
       (sym (ap (segSum gf128 ((relationE r) .segs) (els (lowPoint r D))) (values-of r w cols)
       ∙ segments-sum r D R C (segmentValues r w) values-length)))
       (element-⊗ (topElement r D) (mle (1 ∷ x) (lowPoint r D))

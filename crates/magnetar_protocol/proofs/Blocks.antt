@@ -18,7 +18,7 @@ use Rattle.magnetar_protocol.specs.Shape.{logLogins}
 use Rattle.magnetar_protocol.specs.Proof.{binMessages, fldMessages, valueZ, segmentValues}
 use Rattle.magnetar_protocol.specs.Draws.{Draws, drawsOf, lowPoint, topElement}
 use Rattle.magnetar_protocol.specs.Schedule.{outline, schedule, afterTaus, afterInner}
-use Rattle.magnetar_protocol.specs.Checks.{Check, binRound, fldRound, segmentSum, firstRefusal, firstStop, checks, sharedChecks, rowChecks, terminalChecks, innerChecks, identityCheck}
+use Rattle.magnetar_protocol.specs.Checks.{Check, combined, binRound, fldRound, firstRefusal, firstStop, checks, sharedChecks, rowChecks, terminalChecks, innerChecks, identityCheck}
 use Rattle.magnetar_protocol.specs.Run.{verdict, claims}
 use Rattle.magnetar_protocol.specs.RealRun.{stop}
 use Rattle.magnetar_protocol.proofs.Phases.{Numbered, numbered-append, orElse, first-append, shared-numbered, rows-numbered, terminals-numbered, inner-numbered}
@@ -50,27 +50,27 @@ stop-none (c ∷ cs) n h e = step (c .passes) (c .refusal) (c .events) (firstRef
 module _ (r : Relation) (x w : List ℕ) (D : Draws) where
   -- the outer rounds and the terminals
   abbrev pub outerChecks : List Check
-  outerChecks = sharedChecks r x w D 0 (logLogins r) ++ (rowChecks r x w D ++ terminalChecks r x w D)
+  outerChecks = sharedChecks r w D 0 (logLogins r) ++ (rowChecks r w D ++ terminalChecks r w D)
 
   -- the inner rounds and the identity of the segments
   abbrev pub laterChecks : List Check
-  laterChecks = innerChecks r x w D ++ identityCheck r x w D
+  laterChecks = innerChecks r w D (combined r D) ++ identityCheck r w D x
 
   pub checks-are : checks r x w D ≡ outerChecks ++ laterChecks
   unfolding checks
   checks-are =
-      ap (λ (l : List Check). sharedChecks r x w D 0 (logLogins r) ++ l)
-      (sym (append-assoc (rowChecks r x w D) (terminalChecks r x w D) laterChecks))
-      ∙ sym (append-assoc (sharedChecks r x w D 0 (logLogins r)) (rowChecks r x w D ++ terminalChecks r x w D) laterChecks)
+      ap (λ (l : List Check). sharedChecks r w D 0 (logLogins r) ++ l)
+      (sym (append-assoc (rowChecks r w D) (terminalChecks r w D) laterChecks))
+      ∙ sym (append-assoc (sharedChecks r w D 0 (logLogins r)) (rowChecks r w D ++ terminalChecks r w D) laterChecks)
 
   pub outer-numbered : Numbered outerChecks
   outer-numbered =
-      numbered-append (sharedChecks r x w D 0 (logLogins r)) (rowChecks r x w D ++ terminalChecks r x w D)
+      numbered-append (sharedChecks r w D 0 (logLogins r)) (rowChecks r w D ++ terminalChecks r w D)
       (shared-numbered r x w D 0 (logLogins r))
-      (numbered-append (rowChecks r x w D) (terminalChecks r x w D) (rows-numbered r x w D) (terminals-numbered r x w D))
+      (numbered-append (rowChecks r w D) (terminalChecks r w D) (rows-numbered r x w D) (terminals-numbered r x w D))
 
   pub later-numbered : Numbered laterChecks
-  later-numbered = numbered-append (innerChecks r x w D) (identityCheck r x w D) (inner-numbered r x w D) (unfold identityCheck in (lit< tt, tt))
+  later-numbered = numbered-append (innerChecks r w D (combined r D)) (identityCheck r w D x) (inner-numbered r x w D) (unfold identityCheck in (lit< tt, tt))
 
   pub refusal-blocks : firstRefusal (checks r x w D) ≡ orElse (firstRefusal outerChecks) (firstRefusal laterChecks)
   refusal-blocks = ap firstRefusal checks-are ∙ first-append outerChecks laterChecks outer-numbered
@@ -118,32 +118,22 @@ module _ (r : Relation) where
   claims-outlined w d = refl
 
   module _ (x w : List ℕ) (D : Draws) where
-    pub shared-outlined : (i n : ℕ) → sharedChecks r x w D i n ≡ sharedChecks (outlined r) x w D i n
+    pub shared-outlined : (i n : ℕ) → sharedChecks r w D i n ≡ sharedChecks (outlined r) w D i n
     unfolding sharedChecks binMessages fldMessages
     shared-outlined i zero = refl
     shared-outlined i (suc n) = λ j.
-        record { refusal = 21; passes = binRound r x w D i; events = afterTaus r + 2 * suc i }
-        ∷ record { refusal = 22; passes = fldRound r x w D i; events = afterTaus r + 2 * suc i }
+        record { refusal = 21; passes = binRound r w D i; events = afterTaus r + 2 * suc i }
+        ∷ record { refusal = 22; passes = fldRound r w D i; events = afterTaus r + 2 * suc i }
         ∷ shared-outlined (suc i) n j
 
-    pub rows-outlined : rowChecks r x w D ≡ rowChecks (outlined r) x w D
+    pub rows-outlined : rowChecks r w D ≡ rowChecks (outlined r) w D
     unfolding rowChecks binMessages fldMessages
     rows-outlined = refl
 
-    pub terminals-outlined : terminalChecks r x w D ≡ terminalChecks (outlined r) x w D
+    pub terminals-outlined : terminalChecks r w D ≡ terminalChecks (outlined r) w D
     unfolding terminalChecks binMessages fldMessages
     terminals-outlined = refl
 
-    pub sum-outlined : (i : ℕ) (vs : List ℕ) → segmentSum r D i vs ≡ segmentSum (outlined r) D i vs
-    unfolding segmentSum lowPoint
-    sum-outlined i [] = refl
-    sum-outlined i (v ∷ vs) = ap (λ (s : ℕ). eqAt (drop (localVars (r .lengths) i) (lowPoint r D)) (suffix (r .lengths) i) ⊗ v ⊕ s)
-        (sum-outlined (suc i) vs)
-
-    pub identity-outlined : identityCheck r x w D ≡ identityCheck (outlined r) x w D
+    pub identity-outlined : identityCheck r w D x ≡ identityCheck (outlined r) w D x
     unfolding identityCheck lowPoint topElement valueZ segmentValues
-    identity-outlined = ap (λ (s : ℕ). record {
-      refusal = 29;
-      passes = eqb ((1 ⊕ topElement r D) ⊗ s ⊕ topElement r D ⊗ mle (1 ∷ x) (lowPoint r D)) (valueZ r w);
-      events = afterInner r + 1;
-    } ∷ []) (sum-outlined 0 (segmentValues r w))
+    identity-outlined = refl

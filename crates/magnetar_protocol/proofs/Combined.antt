@@ -9,7 +9,7 @@ use Rattle.magnetar_multilinear.specs.Multilinear.{dot}
 use Rattle.magnetar_field.proofs.Tabulation.{tabulate-length, tabulate-get}
 use Rattle.magnetar_matrix.specs.Matrix.{Matrix, mleTable}
 use Rattle.magnetar_matrix.specs.Batch.{Relation}
-use Rattle.magnetar_theory.specs.SumCheck.{addPoly}
+use Rattle.magnetar_theory.specs.SumCheck.{addLists}
 use Rattle.magnetar_theory.specs.EqTable.{eqTable as eqTableE, dot as dotE, scale}
 use Rattle.magnetar_theory.specs.Matrix.{fold, columns}
 use Rattle.magnetar_theory.specs.Run.{six, combo}
@@ -30,9 +30,9 @@ getD-zeros zero i = refl
 getD-zeros (suc n) zero = refl
 getD-zeros (suc n) (suc i) = getD-zeros n i
 
-getD-add : (p q : List Element) (i : ℕ) → getD (addPoly gf128 p q) i (element 0) ≡ sum (getD p i (element 0)) (getD q i (element 0))
+getD-add : (p q : List Element) (i : ℕ) → getD (addLists gf128 p q) i (element 0) ≡ sum (getD p i (element 0)) (getD q i (element 0))
 getD-add [] q i = zero-sum (getD q i (element 0))
-getD-add (c ∷ p) [] i = sym (gf128Laws .laws .add-zero (getD (c ∷ p) i (element 0)))
+getD-add (c ∷ p) [] i = sym (gf128Laws .is-ring .add-zero (getD (c ∷ p) i (element 0)))
 getD-add (c ∷ p) (d ∷ q) zero = refl
 getD-add (c ∷ p) (d ∷ q) (suc i) = getD-add p q i
 

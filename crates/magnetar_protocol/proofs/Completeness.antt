@@ -11,7 +11,7 @@ use Rattle.magnetar_theory.specs.Gf128.{gf128}
 use Rattle.magnetar_theory.proofs.Whole.{complete}
 use Rattle.magnetar_protocol.specs.Draws.{Draws, drawsOf, loginPoint, lowPoint}
 use Rattle.magnetar_protocol.specs.Run.{verdict, claims, trueValue, ClaimsTrue}
-use Rattle.magnetar_protocol.specs.RunSizes.{SizedRun, Sized}
+use Rattle.magnetar_protocol.specs.RunSizes.{SizedRun, SizedProof}
 use Rattle.magnetar_protocol.specs.Theory.{relationE, publicE, batchE, drawsE}
 use Rattle.magnetar_protocol.specs.Soundness.{NoBitOutside}
 use Rattle.magnetar_protocol.specs.Prover.{trueValues, honestWords, proverWords, proverClaims, CompleteRun}
@@ -27,7 +27,7 @@ use Rattle.magnetar_protocol.proofs.ClaimParts.{values-true}
 
 module _ (r : Relation) (b : Batch) (x d : List ℕ) (S : SizedRun r b x d) where
   -- the words are as many as document 01 says, and elements
-  pub prover-sized : Sized r b x (proverWords r b x d) d
+  pub prover-sized : SizedProof r b x (proverWords r b x d) d
   unfolding proverWords
   prover-sized = record {
     run = S;

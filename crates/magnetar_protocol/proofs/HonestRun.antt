@@ -144,7 +144,7 @@ module _ (r : Relation) (b : Batch) (x : List ℕ) (D : Draws) (R : SizedRelatio
       inner-messages : map els (innerMessages (combined r D) (foldedZ r b x D) (D .inner))
           ≡ honest gf128 (tableRounds gf128 (innerCells gf128)) (record {
             tops = 0;
-            rows = length
+            lows = length
                 (inner gf128 (drawsE r D));
             cells = zipInner gf128
                 (combo gf128 (relationE r) (els (D .rowBin)) (els (D .rowFld)) (els (D .alphas)))
@@ -155,7 +155,7 @@ module _ (r : Relation) (b : Batch) (x : List ℕ) (D : Draws) (R : SizedRelatio
           (omega (arith, inner-long)) (combined-length r D R) (foldedZ-length r b x D R B C px)
           ∙ (λ i. honest gf128 (tableRounds gf128 (innerCells gf128)) (record {
             tops = 0;
-            rows = length
+            lows = length
                 (inner gf128 (drawsE r D));
             cells = zipInner gf128 (combined-is r D R i) (folded-is r b x D R B C px i);
           })

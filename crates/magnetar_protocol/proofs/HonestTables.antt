@@ -84,13 +84,13 @@ module _ (F : Field) (L : Laws F) where
   infixl 60 _⊕_
   infixl 70 _⊗_
   none : (k : K) → 𝟎 ≡ 𝟎 ⊗ k
-  none k = simp (ring, L .laws)
+  none k = simp (ring, L .is-ring)
 
   one : (k : K) → 𝟏 ⊗ k ≡ k
-  one k = simp (ring, L .laws)
+  one k = simp (ring, L .is-ring)
 
   more : (e t k : K) → e ⊗ k ⊕ t ⊗ k ≡ (e ⊕ t) ⊗ k
-  more e t k = simp (ring, L .laws)
+  more e t k = simp (ring, L .is-ring)
 
 -- the weighted sum of what all logins share, behind their n bits
 shared-half : (n j : ℕ) (X es : List Element) (ws : List (List Element)) → AllLength gf128 n ws → length ws ≡ length es

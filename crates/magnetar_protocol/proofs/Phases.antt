@@ -48,24 +48,24 @@ first-append (c ∷ cs) ds h = step (c .passes) (c .refusal) (firstRefusal (cs +
     step false n both a b l e = rw (ne-eqb n 0 (λ z. omega arith))
 
 module _ (r : Relation) (x w : List ℕ) (D : Draws) where
-  pub shared-numbered : (i n : ℕ) → Numbered (sharedChecks r x w D i n)
+  pub shared-numbered : (i n : ℕ) → Numbered (sharedChecks r w D i n)
   unfolding sharedChecks
   shared-numbered i zero = tt
   shared-numbered i (suc n) = (lit< tt, (lit< tt, shared-numbered (suc i) n))
 
-  pub rows-numbered : Numbered (rowChecks r x w D)
+  pub rows-numbered : Numbered (rowChecks r w D)
   unfolding rowChecks
   rows-numbered =
-      numbered-append (tabulate (λ i. record { refusal = 23; passes = binRound r x w D (logLogins r + i); events = afterShared r + 2 * suc i }) (logBin r))
-      (tabulate (λ i. record { refusal = 24; passes = fldRound r x w D (logLogins r + i); events = afterBin r + 2 * suc i }) (logFld r))
-      (numbered-tabulate 22 (λ i. binRound r x w D (logLogins r + i)) (λ i. afterShared r + 2 * suc i) (logBin r))
-      (numbered-tabulate 23 (λ i. fldRound r x w D (logLogins r + i)) (λ i. afterBin r + 2 * suc i) (logFld r))
+      numbered-append (tabulate (λ i. record { refusal = 23; passes = binRound r w D (logLogins r + i); events = afterShared r + 2 * suc i }) (logBin r))
+      (tabulate (λ i. record { refusal = 24; passes = fldRound r w D (logLogins r + i); events = afterBin r + 2 * suc i }) (logFld r))
+      (numbered-tabulate 22 (λ i. binRound r w D (logLogins r + i)) (λ i. afterShared r + 2 * suc i) (logBin r))
+      (numbered-tabulate 23 (λ i. fldRound r w D (logLogins r + i)) (λ i. afterBin r + 2 * suc i) (logFld r))
 
-  pub terminals-numbered : Numbered (terminalChecks r x w D)
+  pub terminals-numbered : Numbered (terminalChecks r w D)
   unfolding terminalChecks
   terminals-numbered = (lit< tt, (lit< tt, tt))
 
-  pub inner-numbered : Numbered (innerChecks r x w D)
+  pub inner-numbered : Numbered (innerChecks r w D (combined r D))
   unfolding innerChecks
   inner-numbered =
       numbered-append (tabulate (λ i. record { refusal = 27; passes = innerRound i; events = afterAlphas r + 2 * i }) (logCols r))

@@ -27,7 +27,7 @@ use Rattle.magnetar_protocol.proofs.Elements.{els-at}
 -- entry i after v is added at entry k
 added-here : (k : ℕ) (v : Element) (t : List Element) → k < length t → getD (addAt gf128 k v t) k (element 0) ≡ sum v (getD t k (element 0))
 added-here k v [] h = absurd (omega arith)
-added-here zero v (x ∷ t) h = gf128Laws .laws .add-comm x v
+added-here zero v (x ∷ t) h = gf128Laws .is-ring .add-comm x v
 added-here (suc k) v (x ∷ t) h = added-here k v t (omega arith)
 
 added-elsewhere : (k i : ℕ) (v : Element) (t : List Element) → (k ≡ i → ⊥) → getD (addAt gf128 k v t) i (element 0) ≡ getD t i (element 0)
@@ -38,7 +38,7 @@ added-elsewhere (suc k) zero v (x ∷ t) n = refl
 added-elsewhere (suc k) (suc i) v (x ∷ t) n = added-elsewhere k i v t (λ e. n (ap suc e))
 
 pub zero-sum : (y : Element) → y ≡ sum (element 0) y
-zero-sum y = sym (gf128Laws .laws .add-zero y) ∙ gf128Laws .laws .add-comm y (element 0)
+zero-sum y = sym (gf128Laws .is-ring .add-zero y) ∙ gf128Laws .is-ring .add-comm y (element 0)
 
 added : (k i : ℕ) (v : Element) (t : List Element) → i < length t
     → getD (addAt gf128 k v t) i (element 0) ≡ sum (cond (eqb k i) v (element 0)) (getD t i (element 0))

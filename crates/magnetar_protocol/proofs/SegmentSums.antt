@@ -56,7 +56,7 @@ place-at low k o n h l e f p =
 module _ (r : Relation) (D : Draws) (R : SizedRelation r) (C : Cut r D) where
   sum-from : (i : ℕ) (vs : List ℕ) → i + length vs ≡ length (r .lengths)
       → segSum gf128 (segmentsE (drop i (offsets (r .lengths))) (drop i (r .lengths))) (els (lowPoint r D)) (els vs)
-      ≡ element (segmentSum r D i vs)
+      ≡ element (segmentSum (r .lengths) (lowPoint r D) i vs)
   unfolding segmentSum
   sum-from i [] h = nothing i (omega arith)
     where
@@ -68,7 +68,7 @@ module _ (r : Relation) (D : Draws) (R : SizedRelation r) (C : Cut r D) where
       (drop-cons (offsets (r .lengths)) i 0 (many (omega arith))) (drop-cons (r .lengths) i 0 (omega arith))
       ∙ ap₂ sum (ap (λ (e : Element). product e (element v)) (first i (omega arith)) ∙ sym (element-⊗ _ v))
       (sum-from (suc i) vs (omega arith))
-      ∙ sym (element-⊕ _ (segmentSum r D (suc i) vs))
+      ∙ sym (element-⊕ _ (segmentSum (r .lengths) (lowPoint r D) (suc i) vs))
     where
       many : i < length (r .lengths) → i < length (offsets (r .lengths))
       many k = unfold offsets in rw (offsets-length 0 (r .lengths)) k
@@ -83,5 +83,5 @@ module _ (r : Relation) (D : Draws) (R : SizedRelation r) (C : Cut r D) where
           (omega (arith, p .ends, half-pow r R)) (p .size .least)
 
   pub segments-sum : (vs : List ℕ) → length vs ≡ length (r .lengths)
-      → segSum gf128 (segmentsE (offsets (r .lengths)) (r .lengths)) (els (lowPoint r D)) (els vs) ≡ element (segmentSum r D 0 vs)
+      → segSum gf128 (segmentsE (offsets (r .lengths)) (r .lengths)) (els (lowPoint r D)) (els vs) ≡ element (segmentSum (r .lengths) (lowPoint r D) 0 vs)
   segments-sum vs h = sum-from 0 vs (omega arith)

@@ -22,7 +22,7 @@ use Rattle.magnetar_protocol.specs.Proof.{segmentValues}
 use Rattle.magnetar_protocol.specs.Draws.{Draws, drawCount, drawsOf}
 use Rattle.magnetar_protocol.specs.Run.{verdict, claims, ClaimsTrue}
 use Rattle.magnetar_protocol.specs.Theory.{els, logHalf, relationE, publicE, batchE, drawsE}
-use Rattle.magnetar_protocol.specs.RunSizes.{SizedRelation, Elements, Sized}
+use Rattle.magnetar_protocol.specs.RunSizes.{SizedRelation, Elements, SizedProof}
 use Rattle.magnetar_protocol.specs.Soundness.{NoBitOutside, badDraws, absorbedBefore, BadDraw}
 use Rattle.magnetar_protocol.proofs.Elements.{map-take, els-at}
 use Rattle.magnetar_protocol.proofs.SizeFacts.{cols-suc, Cut, cut, flat}
@@ -101,7 +101,7 @@ module _ (r : Relation) (b : Batch) (x w d : List ℕ) where
 
   -- Demand 3, first half: where the verifier accepts, no bit is set outside the segments and every claim is true of the batch,
   -- the batch is good, or some draw lies in its list, which has at most three elements.
-  pub soundness : Sized r b x w d → verdict r x w d ≡ 0 → NoBitOutside r b → ClaimsTrue r b (claims r w d) → Good r b x ⊎ BadDraw r b x w d
+  pub soundness : SizedProof r b x w d → verdict r x w d ≡ 0 → NoBitOutside r b → ClaimsTrue r b (claims r w d) → Good r b x ⊎ BadDraw r b x w d
   unfolding verdict claims
   soundness S v stray true = go found
     where

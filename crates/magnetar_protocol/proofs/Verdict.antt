@@ -14,7 +14,8 @@ use Rattle.magnetar_field.specs.Gf128.{_⊕_, _⊗_}
 use Rattle.magnetar_field.specs.Tabulate.{tabulate}
 use Rattle.magnetar_multilinear.specs.Multilinear.{mle}
 use Rattle.magnetar_field.proofs.Tabulation.{tabulate-length}
-use Rattle.magnetar_round.specs.Round.{passes, running}
+use Rattle.magnetar_round.specs.Round.{running}
+use Rattle.magnetar_round.proofs.Verifier.{passes}
 use Rattle.magnetar_round.specs.Order.{eqPoints}
 use Rattle.magnetar_round.specs.Outer.{outerEnd}
 use Rattle.magnetar_round.specs.Inner.{innerEnd}
@@ -37,23 +38,23 @@ pub record Holds (r : Relation) (x w : List ℕ) (D : Draws) : Type 0 where
       ≡ outerEnd (eqPoints (D .tauFld) (D .rowFld ++ loginPoint D)) (terminal r w 3) (terminal r w 4) (terminal r w 5)
   pub inner : passes (innerClaim r w D) (innerRounds r w) (D .inner) ≡ true
   pub inner-end : running (innerClaim r w D) (innerRounds r w) (D .inner) ≡ innerEnd (mle (combined r D) (D .inner)) (valueZ r w)
-  pub identity : (1 ⊕ topElement r D) ⊗ segmentSum r D 0 (segmentValues r w) ⊕ topElement r D ⊗ mle (1 ∷ x) (lowPoint r D) ≡ valueZ r w
+  pub identity : (1 ⊕ topElement r D) ⊗ segmentSum (r .lengths) (lowPoint r D) 0 (segmentValues r w) ⊕ topElement r D ⊗ mle (1 ∷ x) (lowPoint r D) ≡ valueZ r w
 
 module _ (r : Relation) (x w : List ℕ) (D : Draws) where
   -- ---- the shared rounds
-  shared-pass : (i n : ℕ) (rest : List Check) → firstRefusal (sharedChecks r x w D i n ++ rest) ≡ 0
-      → ((j : ℕ) → j < n → (binRound r x w D (i + j) ≡ true) × (fldRound r x w D (i + j) ≡ true)) × (firstRefusal rest ≡ 0)
+  shared-pass : (i n : ℕ) (rest : List Check) → firstRefusal (sharedChecks r w D i n ++ rest) ≡ 0
+      → ((j : ℕ) → j < n → (binRound r w D (i + j) ≡ true) × (fldRound r w D (i + j) ≡ true)) × (firstRefusal rest ≡ 0)
   unfolding sharedChecks
   shared-pass i zero rest e = ((λ j h. absurd (omega arith)), e)
   shared-pass i (suc n) rest e =
-      let a = one-passes 20 (binRound r x w D i) (afterTaus r + 2 * suc i) _ e in
-      let b = one-passes 21 (fldRound r x w D i) (afterTaus r + 2 * suc i) (sharedChecks r x w D (suc i) n ++ rest) (a .1) in
+      let a = one-passes 20 (binRound r w D i) (afterTaus r + 2 * suc i) _ e in
+      let b = one-passes 21 (fldRound r w D i) (afterTaus r + 2 * suc i) (sharedChecks r w D (suc i) n ++ rest) (a .1) in
       let c = shared-pass (suc i) n rest (b .1) in
       (at i n (a .0) (b .0) (c .0), c .1)
     where
-      at : (i n : ℕ) → binRound r x w D i ≡ true → fldRound r x w D i ≡ true
-          → ((j : ℕ) → j < n → (binRound r x w D (suc i + j) ≡ true) × (fldRound r x w D (suc i + j) ≡ true))
-          → (j : ℕ) → j < suc n → (binRound r x w D (i + j) ≡ true) × (fldRound r x w D (i + j) ≡ true)
+      at : (i n : ℕ) → binRound r w D i ≡ true → fldRound r w D i ≡ true
+          → ((j : ℕ) → j < n → (binRound r w D (suc i + j) ≡ true) × (fldRound r w D (suc i + j) ≡ true))
+          → (j : ℕ) → j < suc n → (binRound r w D (i + j) ≡ true) × (fldRound r w D (i + j) ≡ true)
       at i n a b c zero h = rw (zero-right i) (a, b)
         where
           zero-right : (i : ℕ) → i + 0 ≡ i
@@ -63,25 +64,25 @@ module _ (r : Relation) (x w : List ℕ) (D : Draws) where
           suc-right : (i j : ℕ) → i + suc j ≡ suc i + j
           suc-right i j = omega arith
 
-  pass-shared : (i n : ℕ) (rest : List Check) → ((j : ℕ) → j < n → (binRound r x w D (i + j) ≡ true) × (fldRound r x w D (i + j) ≡ true))
+  pass-shared : (i n : ℕ) (rest : List Check) → ((j : ℕ) → j < n → (binRound r w D (i + j) ≡ true) × (fldRound r w D (i + j) ≡ true))
       → firstRefusal rest ≡ 0
-      → firstRefusal (sharedChecks r x w D i n ++ rest) ≡ 0
+      → firstRefusal (sharedChecks r w D i n ++ rest) ≡ 0
   unfolding sharedChecks
   pass-shared i zero rest h e = e
   pass-shared i (suc n) rest h e =
-      passes-one 20 (binRound r x w D i) (afterTaus r + 2 * suc i)
-      (record { refusal = 22; passes = fldRound r x w D i; events = afterTaus r + 2 * suc i } ∷ (sharedChecks r x w D (suc i) n ++ rest))
+      passes-one 20 (binRound r w D i) (afterTaus r + 2 * suc i)
+      (record { refusal = 22; passes = fldRound r w D i; events = afterTaus r + 2 * suc i } ∷ (sharedChecks r w D (suc i) n ++ rest))
       (here i n h .0)
-      (passes-one 21 (fldRound r x w D i) (afterTaus r + 2 * suc i) (sharedChecks r x w D (suc i) n ++ rest) (here i n h .1)
+      (passes-one 21 (fldRound r w D i) (afterTaus r + 2 * suc i) (sharedChecks r w D (suc i) n ++ rest) (here i n h .1)
       (pass-shared (suc i) n rest (later i n h) e))
     where
-      here : (i n : ℕ) → ((j : ℕ) → j < suc n → (binRound r x w D (i + j) ≡ true) × (fldRound r x w D (i + j) ≡ true))
-          → (binRound r x w D i ≡ true) × (fldRound r x w D i ≡ true)
-      here i n h = subst (λ (k : ℕ). (binRound r x w D k ≡ true) × (fldRound r x w D k ≡ true)) (omega arith) (h 0 (omega arith))
+      here : (i n : ℕ) → ((j : ℕ) → j < suc n → (binRound r w D (i + j) ≡ true) × (fldRound r w D (i + j) ≡ true))
+          → (binRound r w D i ≡ true) × (fldRound r w D i ≡ true)
+      here i n h = subst (λ (k : ℕ). (binRound r w D k ≡ true) × (fldRound r w D k ≡ true)) (omega arith) (h 0 (omega arith))
 
-      later : (i n : ℕ) → ((j : ℕ) → j < suc n → (binRound r x w D (i + j) ≡ true) × (fldRound r x w D (i + j) ≡ true))
-          → (j : ℕ) → j < n → (binRound r x w D (suc i + j) ≡ true) × (fldRound r x w D (suc i + j) ≡ true)
-      later i n h j k = subst (λ (k : ℕ). (binRound r x w D k ≡ true) × (fldRound r x w D k ≡ true)) (omega arith) (h (suc j) (omega arith))
+      later : (i n : ℕ) → ((j : ℕ) → j < suc n → (binRound r w D (i + j) ≡ true) × (fldRound r w D (i + j) ≡ true))
+          → (j : ℕ) → j < n → (binRound r w D (suc i + j) ≡ true) × (fldRound r w D (suc i + j) ≡ true)
+      later i n h j k = subst (λ (k : ℕ). (binRound r w D k ≡ true) × (fldRound r w D k ≡ true)) (omega arith) (h (suc j) (omega arith))
 
   -- ---- all checks in one row
   abbrev tab : ℕ → (ℕ → Bool) → (ℕ → ℕ) → ℕ → List Check
@@ -112,7 +113,7 @@ module _ (r : Relation) (x w : List ℕ) (D : Draws) where
   innerLast = eqb (running (innerClaim r w D) (innerRounds r w) (D .inner)) (innerEnd (mle (combined r D) (D .inner)) (valueZ r w))
 
   identical : Bool
-  identical = eqb ((1 ⊕ topElement r D) ⊗ segmentSum r D 0 (segmentValues r w) ⊕ topElement r D ⊗ mle (1 ∷ x) (lowPoint r D)) (valueZ r w)
+  identical = eqb ((1 ⊕ topElement r D) ⊗ segmentSum (r .lengths) (lowPoint r D) 0 (segmentValues r w) ⊕ topElement r D ⊗ mle (1 ∷ x) (lowPoint r D)) (valueZ r w)
 
   abbrev fromInner : List Check
   fromInner = tab 27 innerRound atInner (logCols r) ++ (record { refusal = 28; passes = innerLast; events = afterInner r } ∷ record { refusal = 29; passes = identical; events = afterInner r + 1 }
@@ -122,19 +123,19 @@ module _ (r : Relation) (x w : List ℕ) (D : Draws) where
   fromEnds = record { refusal = 25; passes = binEnd; events = afterOuter r } ∷ record { refusal = 26; passes = fldEnd; events = afterOuter r } ∷ fromInner
 
   abbrev fromRows : List Check
-  fromRows = tab 23 (λ i. binRound r x w D (logLogins r + i)) atBin (logBin r)
-      ++ (tab 24 (λ i. fldRound r x w D (logLogins r + i)) atFld (logFld r) ++ fromEnds)
+  fromRows = tab 23 (λ i. binRound r w D (logLogins r + i)) atBin (logBin r)
+      ++ (tab 24 (λ i. fldRound r w D (logLogins r + i)) atFld (logFld r) ++ fromEnds)
 
-  opened : checks r x w D ≡ sharedChecks r x w D 0 (logLogins r) ++ fromRows
+  opened : checks r x w D ≡ sharedChecks r w D 0 (logLogins r) ++ fromRows
   unfolding checks rowChecks terminalChecks innerChecks identityCheck binEnd fldEnd innerLast identical
-  opened = ap (λ (l : List Check). sharedChecks r x w D 0 (logLogins r) ++ l)
-      (ap (λ (l : List Check). tab 23 (λ i. binRound r x w D (logLogins r + i)) atBin (logBin r)
-      ++ tab 24 (λ i. fldRound r x w D (logLogins r + i)) atFld (logFld r) ++ (record { refusal = 25; passes = binEnd; events = afterOuter r }
+  opened = ap (λ (l : List Check). sharedChecks r w D 0 (logLogins r) ++ l)
+      (ap (λ (l : List Check). tab 23 (λ i. binRound r w D (logLogins r + i)) atBin (logBin r)
+      ++ tab 24 (λ i. fldRound r w D (logLogins r + i)) atFld (logFld r) ++ (record { refusal = 25; passes = binEnd; events = afterOuter r }
       ∷ record { refusal = 26; passes = fldEnd; events = afterOuter r } ∷ l))
       (append-assoc (tab 27 innerRound atInner (logCols r)) (record { refusal = 28; passes = innerLast; events = afterInner r } ∷ [])
       (record { refusal = 29; passes = identical; events = afterInner r + 1 } ∷ []))
-      ∙ append-assoc (tab 23 (λ i. binRound r x w D (logLogins r + i)) atBin (logBin r))
-      (tab 24 (λ i. fldRound r x w D (logLogins r + i)) atFld (logFld r)) fromEnds)
+      ∙ append-assoc (tab 23 (λ i. binRound r w D (logLogins r + i)) atBin (logBin r))
+      (tab 24 (λ i. fldRound r w D (logLogins r + i)) atFld (logFld r)) fromEnds)
 
   -- ---- sizes
   bin-length : length (binMessages r w) ≡ logLogins r + logBin r
@@ -173,9 +174,9 @@ module _ (r : Relation) (x w : List ℕ) (D : Draws) where
     unfolding binEnd fldEnd innerLast identical
     holds-of e =
         let a = shared-pass 0 (logLogins r) fromRows (subst (λ (l : List Check). firstRefusal l ≡ 0) opened e) in
-        let b = all-pass 22 (λ i. binRound r x w D (logLogins r + i)) atBin (logBin r)
-        (tab 24 (λ i. fldRound r x w D (logLogins r + i)) atFld (logFld r) ++ fromEnds) (a .1) in
-        let c = all-pass 23 (λ i. fldRound r x w D (logLogins r + i)) atFld (logFld r) fromEnds (b .1) in
+        let b = all-pass 22 (λ i. binRound r w D (logLogins r + i)) atBin (logBin r)
+        (tab 24 (λ i. fldRound r w D (logLogins r + i)) atFld (logFld r) ++ fromEnds) (a .1) in
+        let c = all-pass 23 (λ i. fldRound r w D (logLogins r + i)) atFld (logFld r) fromEnds (b .1) in
         let p = one-passes 24 binEnd (afterOuter r) (record { refusal = 26; passes = fldEnd; events = afterOuter r } ∷ fromInner) (c .1) in
         let q = one-passes 25 fldEnd (afterOuter r) fromInner (p .1) in
         let g = all-pass 26 innerRound atInner (logCols r) (record { refusal = 28; passes = innerLast; events = afterInner r }
@@ -184,11 +185,11 @@ module _ (r : Relation) (x w : List ℕ) (D : Draws) where
         let z = one-passes 28 identical (afterInner r + 1) [] (t .1) in
         record {
           bin = rounds-pass 0 (binMessages r w) (D .shared ++ D .rowBin) (bin-length ∙ sym bin-count)
-              (λ i h. either (binRound r x w D) (logLogins r) (logBin r)
-              (λ j k. subst (λ (n : ℕ). binRound r x w D n ≡ true) (zero-add j) (a .0 j k .0)) (b .0) i (rw bin-count at h));
+              (λ i h. either (binRound r w D) (logLogins r) (logBin r)
+              (λ j k. subst (λ (n : ℕ). binRound r w D n ≡ true) (zero-add j) (a .0 j k .0)) (b .0) i (rw bin-count at h));
           fld = rounds-pass 0 (fldMessages r w) (D .shared ++ D .rowFld) (fld-length ∙ sym fld-count)
-              (λ i h. either (fldRound r x w D) (logLogins r) (logFld r)
-              (λ j k. subst (λ (n : ℕ). fldRound r x w D n ≡ true) (zero-add j) (a .0 j k .1)) (c .0) i (rw fld-count at h));
+              (λ i h. either (fldRound r w D) (logLogins r) (logFld r)
+              (λ j k. subst (λ (n : ℕ). fldRound r w D n ≡ true) (zero-add j) (a .0 j k .1)) (c .0) i (rw fld-count at h));
           bin-end = eqb-true _ _ (p .0);
           fld-end = eqb-true _ _ (q .0);
           inner = rounds-pass (innerClaim r w D) (innerRounds r w) (D .inner) (inner-length ∙ sym (C .inner))
@@ -203,13 +204,13 @@ module _ (r : Relation) (x w : List ℕ) (D : Draws) where
         subst (λ (l : List Check). firstRefusal l ≡ 0) (sym opened)
         (pass-shared 0 (logLogins r) fromRows
         (λ j k. (
-          subst (λ (n : ℕ). binRound r x w D n ≡ true) (sym (zero-add j)) (bin-at j (omega arith)),
+          subst (λ (n : ℕ). binRound r w D n ≡ true) (sym (zero-add j)) (bin-at j (omega arith)),
           subst
-              (λ (n : ℕ). fldRound r x w D n ≡ true) (sym (zero-add j)) (fld-at j (omega arith)),
+              (λ (n : ℕ). fldRound r w D n ≡ true) (sym (zero-add j)) (fld-at j (omega arith)),
         ))
-        (pass-all 22 (λ i. binRound r x w D (logLogins r + i)) atBin (logBin r)
-        (tab 24 (λ i. fldRound r x w D (logLogins r + i)) atFld (logFld r) ++ fromEnds) (λ j k. bin-at (logLogins r + j) (omega arith))
-        (pass-all 23 (λ i. fldRound r x w D (logLogins r + i)) atFld (logFld r) fromEnds (λ j k. fld-at (logLogins r + j) (omega arith))
+        (pass-all 22 (λ i. binRound r w D (logLogins r + i)) atBin (logBin r)
+        (tab 24 (λ i. fldRound r w D (logLogins r + i)) atFld (logFld r) ++ fromEnds) (λ j k. bin-at (logLogins r + j) (omega arith))
+        (pass-all 23 (λ i. fldRound r w D (logLogins r + i)) atFld (logFld r) fromEnds (λ j k. fld-at (logLogins r + j) (omega arith))
         (passes-one 24 binEnd (afterOuter r) (record { refusal = 26; passes = fldEnd; events = afterOuter r } ∷ fromInner) (eq-eqb _ _ (H .bin-end))
         (passes-one 25 fldEnd (afterOuter r) fromInner (eq-eqb _ _ (H .fld-end))
         (pass-all 26 innerRound atInner (logCols r) (record { refusal = 28; passes = innerLast; events = afterInner r } ∷ record { refusal = 29; passes = identical; events = afterInner r + 1 } ∷ [])
@@ -217,10 +218,10 @@ module _ (r : Relation) (x w : List ℕ) (D : Draws) where
         (passes-one 27 innerLast (afterInner r) (record { refusal = 29; passes = identical; events = afterInner r + 1 } ∷ []) (eq-eqb _ _ (H .inner-end))
         (passes-one 28 identical (afterInner r + 1) [] (eq-eqb _ _ (H .identity)) nothing))))))))
       where
-        bin-at : (i : ℕ) → i < logLogins r + logBin r → binRound r x w D i ≡ true
+        bin-at : (i : ℕ) → i < logLogins r + logBin r → binRound r w D i ≡ true
         bin-at i h = pass-rounds 0 (binMessages r w) (D .shared ++ D .rowBin) (H .bin) i (rw bin-count h)
 
-        fld-at : (i : ℕ) → i < logLogins r + logFld r → fldRound r x w D i ≡ true
+        fld-at : (i : ℕ) → i < logLogins r + logFld r → fldRound r w D i ≡ true
         fld-at i h = pass-rounds 0 (fldMessages r w) (D .shared ++ D .rowFld) (H .fld) i (rw fld-count h)
 
         nothing : firstRefusal [] ≡ 0

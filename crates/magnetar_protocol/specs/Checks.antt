@@ -42,17 +42,17 @@ combined r d =
     ∷ getD (mleTable (r .bin .c) (d .rowBin)) y 0 ∷ getD (mleTable (r .fld .a) (d .rowFld)) y 0
     ∷ getD (mleTable (r .fld .b) (d .rowFld)) y 0 ∷ getD (mleTable (r .fld .c) (d .rowFld)) y 0 ∷ [])) (r .m)
 
--- the segment values, each times eq(high part of the column point, number of the segment's place)
-unfoldable pub segmentSum : Relation → Draws → ℕ → List ℕ → ℕ
-segmentSum r d i [] = 0
-segmentSum r d i (v ∷ vs) =
-    eqAt (drop (localVars (r .lengths) i) (lowPoint r d)) (suffix (r .lengths) i) ⊗ v ⊕ segmentSum r d (suc i) vs
+-- the values vs of the segments of lengths ns from segment i on, each times eq(high part of the low point, number of the segment's place)
+unfoldable pub segmentSum : (ns low : List ℕ) → ℕ → List ℕ → ℕ
+segmentSum ns low i [] = 0
+segmentSum ns low i (v ∷ vs) = eqAt (drop (localVars ns i) low) (suffix ns i) ⊗ v ⊕ segmentSum ns low (suc i) vs
 
-module _ (r : Relation) (x w : List ℕ) (d : Draws) where
-  -- round i of the outer sum-check of each system
+module _ (r : Relation) (w : List ℕ) (d : Draws) where
+  -- round i of the outer sum-check of bin
   abbrev pub binRound : ℕ → Bool
   binRound i = roundHolds 0 (binMessages r w) (d .shared ++ d .rowBin) i
 
+  -- and of fld
   abbrev pub fldRound : ℕ → Bool
   fldRound i = roundHolds 0 (fldMessages r w) (d .shared ++ d .rowFld) i
 
@@ -64,6 +64,7 @@ module _ (r : Relation) (x w : List ℕ) (d : Draws) where
       ∷ record { refusal = 22; passes = fldRound i; events = afterTaus r + 2 * suc i }
       ∷ sharedChecks (suc i) n
 
+  -- the row rounds of bin, and then those of fld
   unfoldable pub rowChecks : List Check
   rowChecks =
       tabulate (λ i. record { refusal = 23; passes = binRound (logLogins r + i); events = afterShared r + 2 * suc i }) (logBin r)
@@ -86,8 +87,9 @@ module _ (r : Relation) (x w : List ℕ) (d : Draws) where
       }
       ∷ []
 
-  unfoldable pub innerChecks : List Check
-  innerChecks =
+  -- the inner rounds, and the claim that they leave: it is the combined table at the point of the challenges times v_z
+  unfoldable pub innerChecks : (table : List ℕ) → List Check
+  innerChecks table =
       tabulate (λ i. record {
         refusal = 27;
         passes = roundHolds (innerClaim r w d) (innerRounds r w) (d .inner) i;
@@ -95,25 +97,27 @@ module _ (r : Relation) (x w : List ℕ) (d : Draws) where
       }) (logCols r)
       ++ record {
         refusal = 28;
-        passes = eqb (running (innerClaim r w d) (innerRounds r w) (d .inner)) (innerEnd (mle (combined r d) (d .inner)) (valueZ r w));
+        passes = eqb (running (innerClaim r w d) (innerRounds r w) (d .inner)) (innerEnd (mle table (d .inner)) (valueZ r w));
         events = afterInner r;
       }
       ∷ []
 
   -- v_z is (1 + top) times the segment sum plus top times the public half (1, x) at the low point
-  unfoldable pub identityCheck : List Check
-  identityCheck =
+  unfoldable pub identityCheck : (x : List ℕ) → List Check
+  identityCheck x =
       record {
         refusal = 29;
-        passes = eqb ((1 ⊕ topElement r d) ⊗ segmentSum r d 0 (segmentValues r w) ⊕ topElement r d ⊗ mle (1 ∷ x) (lowPoint r d))
+        passes = eqb ((1 ⊕ topElement r d) ⊗ segmentSum (r .lengths) (lowPoint r d) 0 (segmentValues r w) ⊕ topElement r d ⊗ mle (1 ∷ x) (lowPoint r d))
             (valueZ r w);
         events = afterInner r + 1;
       }
       ∷ []
 
-  -- all of them
-  unfoldable pub checks : List Check
-  checks = sharedChecks 0 (logLogins r) ++ (rowChecks ++ (terminalChecks ++ (innerChecks ++ identityCheck)))
+-- all of them, with the public columns x
+unfoldable pub checks : Relation → (x w : List ℕ) → Draws → List Check
+checks r x w d =
+    sharedChecks r w d 0 (logLogins r)
+    ++ (rowChecks r w d ++ (terminalChecks r w d ++ (innerChecks r w d (combined r d) ++ identityCheck r w d x)))
 
 -- the number of the first check that does not pass, or 0
 unfoldable pub firstRefusal : List Check → ℕ

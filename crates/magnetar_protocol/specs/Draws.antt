@@ -7,6 +7,7 @@ use lib.ListN.{take, drop, getD}
 use Rattle.magnetar_matrix.specs.Batch.{Relation}
 use Rattle.magnetar_protocol.specs.Shape.{logLogins, logBin, logFld, logCols}
 
+-- the draws by what they are drawn for
 pub record Draws : Type 0 where
   pub tauBin : List ℕ
   pub tauFld : List ℕ

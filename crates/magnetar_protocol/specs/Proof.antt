@@ -12,12 +12,13 @@ use Rattle.magnetar_protocol.specs.Shape.{logLogins, logBin, logFld, log
 abbrev pub part : ℕ → ℕ → List ℕ → List ℕ
 part i n w = take n (drop i w)
 
--- the messages of the outer sum-check of each system: the shared rounds, then its row rounds
+-- the messages of the outer sum-check of bin: the shared rounds, then its row rounds
 unfoldable pub binMessages : Relation → List ℕ → List (List ℕ)
 binMessages r w =
     tabulate (λ i. part (8 * i) 4 w) (logLogins r)
     ++ tabulate (λ i. part (8 * logLogins r + 4 * i) 4 w) (logBin r)
 
+-- and of fld
 unfoldable pub fldMessages : Relation → List ℕ → List (List ℕ)
 fldMessages r w =
     tabulate (λ i. part (8 * i + 4) 4 w) (logLogins r)
@@ -27,6 +28,7 @@ fldMessages r w =
 unfoldable pub terminals : Relation → List ℕ → List ℕ
 terminals r w = part (beforeTerminals r) 6 w
 
+-- one of them
 abbrev pub terminal : Relation → List ℕ → ℕ → ℕ
 terminal r w i = getD w (beforeTerminals r + i) 0
 
@@ -34,9 +36,10 @@ terminal r w i = getD w (beforeTerminals r + i) 0
 unfoldable pub innerRounds : Relation → List ℕ → List (List ℕ)
 innerRounds r w = tabulate (λ i. part (beforeInner r + 3 * i) 3 w) (logCols r)
 
--- the claimed value of the folded z at the column point, and of each segment
+-- v_z: the claimed value of the folded z at the column point
 unfoldable pub valueZ : Relation → List ℕ → ℕ
 valueZ r w = getD w (beforeEnd r) 0
 
+-- the claimed values of the segments
 unfoldable pub segmentValues : Relation → List ℕ → List ℕ
 segmentValues r w = drop (beforeEnd r + 1) w

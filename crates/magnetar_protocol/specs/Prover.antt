@@ -1,5 +1,5 @@
 -- The honest prover's words and claims, with the draws as plain elements: each message is the exact polynomial of its round, and
--- so uses only the draws before it.
+-- so uses only the draws before it (`magnetar_round` specs/Messages; proofs/HonestRun `words-are` says the same of all words in the theory).
 -- Assumes nothing.
 use mathlib.Core.Path.{_≡_}
 use mathlib.Core.List.{List, [], _∷_, _++_}
@@ -42,9 +42,11 @@ module _ (r : Relation) (b : Batch) (x : List ℕ) where
     outerRounds s tau rows =
         outerMessages (outerStart (logLogins r) tau (productTable (s .a)) (productTable (s .b)) (productTable (s .c))) (d .shared ++ rows)
 
+    -- of bin
     abbrev pub binRounds : List (List ℕ)
     binRounds = outerRounds (r .bin) (d .tauBin) (d .rowBin)
 
+    -- of fld
     abbrev pub fldRounds : List (List ℕ)
     fldRounds = outerRounds (r .fld) (d .tauFld) (d .rowFld)
 
@@ -63,6 +65,7 @@ module _ (r : Relation) (b : Batch) (x : List ℕ) where
     unfoldable pub foldedZ : List ℕ
     foldedZ = folded (r .q) (r .m / 2) b (loginPoint d) ++ (1 ∷ x)
 
+    -- all words of the proof: shared rounds, row rounds of bin and of fld, terminals, inner rounds, v_z, segment values
     unfoldable pub honestWords : List ℕ
     honestWords =
         inTurn (take (logLogins r) binRounds) (take (logLogins r) fldRounds)

@@ -52,10 +52,11 @@ unfoldable pub proving : Relation → Batch → List ℕ → Transcript → Step
 proving r b x t =
     innerAll r (combined r (outerDraws r b x t)) (folded (r .q) (r .m / 2) b (loginPoint (outerDraws r b x t))) x (outerProving r b x t)
 
--- the elements that it draws, and its transcript at the end; its words are `proverWords` at these draws (proofs/ProverRun)
+-- the elements that it draws; its words are `proverWords` at these draws (proofs/ProverRun)
 unfoldable pub proverDraws : Relation → Batch → List ℕ → Transcript → List ℕ
 proverDraws r b x t = proving r b x t .played .draws
 
+-- its transcript at the end
 unfoldable pub proverTranscript : Relation → Batch → List ℕ → Transcript → Transcript
 proverTranscript r b x t = proving r b x t .played .transcript
 

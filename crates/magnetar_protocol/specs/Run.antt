@@ -25,13 +25,15 @@ trueValue r b d i =
     claimValue (r .q) b (loginPoint d) (take (localVars (r .lengths) i) (lowPoint r d)) (offset (r .lengths) i) (getD (r .lengths) i 0)
 
 -- ---- what a list of claims says
--- its parts: r_inst, r_low, and the segment values
+-- its first part: r_inst
 abbrev pub instOf : Relation → List ℕ → List ℕ
 instOf r c = take (logLogins r) c
 
+-- then r_low
 abbrev pub lowOf : Relation → List ℕ → List ℕ
 lowOf r c = take (logCols r - 1) (drop (logLogins r) c)
 
+-- then the segment values
 abbrev pub valuesOf : Relation → List ℕ → List ℕ
 valuesOf r c = drop (logLogins r + (logCols r - 1)) c
 

@@ -6,19 +6,13 @@ use mathlib.Core.List.{List, []}
 use Prim.Native.Nat.{ℕ, suc, _*_, _/_, _^_, _≤_, _<_}
 use lib.Dec.{ltb}
 use lib.ListN.{length, getD}
-use Rattle.magnetar_field.specs.Sizes.{log₂}
 use Rattle.magnetar_layout.specs.Every.{every}
 use Rattle.magnetar_matrix.specs.Matrix.{Matrix, System}
 use Rattle.magnetar_matrix.specs.Batch.{Relation, Batch, bitOf}
 use Rattle.magnetar_layout.specs.Layout.{LayoutFits}
+use Rattle.magnetar_layout.specs.Tests.{Sized}
 use Rattle.magnetar_protocol.specs.Shape.{proofElements}
 use Rattle.magnetar_protocol.specs.Draws.{drawCount}
-
--- n is a power of two from least to most
-pub record Power (least most n : ℕ) : Type 0 where
-  pub low : least ≤ n
-  pub high : n ≤ most
-  pub power : n ≡ 2 ^ log₂ n
 
 -- a matrix of n rows and m columns with its entries inside
 pub record SizedMatrix (n m : ℕ) (a : Matrix) : Type 0 where
@@ -29,15 +23,16 @@ pub record SizedMatrix (n m : ℕ) (a : Matrix) : Type 0 where
 
 -- three matrices with the same rows, over m columns, for q logins
 pub record SizedSystem (m q : ℕ) (s : System) : Type 0 where
-  pub rows : Power 1 65536 (s .a .rows)
+  pub rows : Sized 1 65536 (s .a .rows)
   pub total : q * s .a .rows ≤ 1048576
   pub a : SizedMatrix (s .a .rows) m (s .a)
   pub b : SizedMatrix (s .a .rows) m (s .b)
   pub c : SizedMatrix (s .a .rows) m (s .c)
 
+-- powers of two within their bounds, two systems, and at most 64 segments that fit the witness columns
 pub record SizedRelation (r : Relation) : Type 0 where
-  pub columns : Power 2 65536 (r .m)
-  pub logins : Power 1 4096 (r .q)
+  pub columns : Sized 2 65536 (r .m)
+  pub logins : Sized 1 4096 (r .q)
   pub bin : SizedSystem (r .m) (r .q) (r .bin)
   pub fld : SizedSystem (r .m) (r .q) (r .fld)
   pub layout : LayoutFits (r .m / 2) (r .lengths)
@@ -49,9 +44,13 @@ pub record SizedBatch (r : Relation) (b : Batch) : Type 0 where
   pub columns : (u : ℕ) → u < r .q → length (getD b u []) ≡ r .m / 2
   pub bits : (u y : ℕ) → bitOf b u y < 2
 
+-- every number is below n
+abbrev pub EachBelow : ℕ → List ℕ → Type 0
+EachBelow n l = (i : ℕ) → getD l i 0 < n
+
 -- every number is an element
 abbrev pub Elements : List ℕ → Type 0
-Elements l = (i : ℕ) → getD l i 0 < 2 ^ 128
+Elements l = EachBelow (2 ^ 128) l
 
 -- what both ends are given: the public columns x, and the draws d
 pub record SizedRun (r : Relation) (b : Batch) (x d : List ℕ) : Type 0 where
@@ -63,7 +62,7 @@ pub record SizedRun (r : Relation) (b : Batch) (x d : List ℕ) : Type 0 where
   pub elements-d : Elements d
 
 -- and what the verifier is given besides: the proof's elements w
-pub record Sized (r : Relation) (b : Batch) (x w d : List ℕ) : Type 0 where
+pub record SizedProof (r : Relation) (b : Batch) (x w d : List ℕ) : Type 0 where
   pub run : SizedRun r b x d
   pub words : length w ≡ proofElements r
   pub elements-w : Elements w

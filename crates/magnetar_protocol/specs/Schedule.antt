@@ -53,30 +53,35 @@ schedule r =
     ++ (absorb (ascii "vs-vz") (beforeEnd r) 1
     ∷ singles (numbered "vs-seg-") (beforeEnd r + 1) 0 (length (r .lengths))))))))))
 
--- how many events there are up to and with the draws of tau, the shared rounds, the bin row rounds, the fld row rounds, the draws of
--- the alphas, and the inner rounds
+-- how many events there are up to and with the draws of tau
 abbrev pub afterTaus : Relation → ℕ
 afterTaus r = logLogins r + logBin r + (logLogins r + logFld r)
 
+-- the shared rounds
 abbrev pub afterShared : Relation → ℕ
 afterShared r = afterTaus r + 2 * logLogins r
 
+-- the bin row rounds
 abbrev pub afterBin : Relation → ℕ
 afterBin r = afterShared r + 2 * logBin r
 
+-- the fld row rounds
 abbrev pub afterOuter : Relation → ℕ
 afterOuter r = afterBin r + 2 * logFld r
 
+-- the terminals and the draws of the alphas
 abbrev pub afterAlphas : Relation → ℕ
 afterAlphas r = afterOuter r + 12
 
+-- the inner rounds
 abbrev pub afterInner : Relation → ℕ
 afterInner r = afterAlphas r + 2 * logCols r
 
--- a relation with these sizes and segments, and no entries: the schedule, the proof's parts and the rounds depend on no more
+-- a matrix of n rows and m columns without entries
 abbrev pub blank : ℕ → ℕ → Matrix
 blank n m = record { rows = n; cols = m; entries = [] }
 
+-- a relation with these sizes and segments, and no entries: the schedule, the proof's parts and the rounds depend on no more
 abbrev pub outline : (m q rowsBin rowsFld : ℕ) → List ℕ → Relation
 outline m q b f ns =
     record {

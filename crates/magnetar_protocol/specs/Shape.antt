@@ -9,10 +9,11 @@ use Rattle.magnetar_matrix.specs.Batch.{Relation}
 abbrev pub logLogins : Relation → ℕ
 logLogins r = log₂ (r .q)
 
--- row rounds of the two systems
+-- row rounds of bin
 abbrev pub logBin : Relation → ℕ
 logBin r = log₂ (r .bin .a .rows)
 
+-- and of fld
 abbrev pub logFld : Relation → ℕ
 logFld r = log₂ (r .fld .a .rows)
 
@@ -20,15 +21,18 @@ logFld r = log₂ (r .fld .a .rows)
 abbrev pub logCols : Relation → ℕ
 logCols r = log₂ (r .m)
 
--- the elements before the six terminals, before the inner rounds, before v_z, and in all
+-- the elements before the six terminals
 abbrev pub beforeTerminals : Relation → ℕ
 beforeTerminals r = 8 * logLogins r + 4 * logBin r + 4 * logFld r
 
+-- before the inner rounds
 abbrev pub beforeInner : Relation → ℕ
 beforeInner r = beforeTerminals r + 6
 
+-- before v_z
 abbrev pub beforeEnd : Relation → ℕ
 beforeEnd r = beforeInner r + 3 * logCols r
 
+-- and in all
 abbrev pub proofElements : Relation → ℕ
 proofElements r = beforeEnd r + 1 + length (r .lengths)

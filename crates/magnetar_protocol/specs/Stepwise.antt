@@ -25,6 +25,7 @@ pub record Steps : Type 0 where
   pub played : Played
   pub said : List ℕ
 
+-- nothing said or drawn so far
 abbrev pub begin : Transcript → Steps
 begin t = record { played = start t; said = [] }
 
@@ -76,6 +77,7 @@ pub record RowSteps : Type 0 where
   pub steps : Steps
   pub held : Outer
 
+-- it is folded by the element drawn last
 abbrev pub foldedOne : Steps → RowSteps → RowSteps
 foldedOne s p = record { steps = s; held = outerFold (answerOf s) (p .held) }
 
@@ -103,6 +105,7 @@ bound s p = record { steps = s; table = bindVar 0 (answerOf s) (p .table); z = b
 unfoldable pub innerStep : InnerSteps → InnerSteps
 innerStep p = bound (ask (ascii "vs-inner") (say (ascii "vs-inner") (innerMessage 0 (p .table) (p .z)) (p .steps))) p
 
+-- n inner rounds
 unfoldable pub innerSteps : ℕ → InnerSteps → InnerSteps
 innerSteps zero p = p
 innerSteps (suc n) p = innerSteps n (innerStep p)
@@ -132,7 +135,7 @@ module _ (r : Relation) where
       fld = outerStart (logLogins r) (drop (logLogins r + logBin r) (p .played .draws)) (T .fld-a) (T .fld-b) (T .fld-c);
     }
 
-    -- the row rounds of bin, and of fld
+    -- the row rounds of bin
     unfoldable pub binRows : OuterSteps → OuterSteps
     binRows q = record {
       steps = rowSteps "vs-out-rowbin-" 0 (logBin r) (record { steps = q .steps; held = q .bin }) .steps;
@@ -140,6 +143,7 @@ module _ (r : Relation) where
       fld = q .fld;
     }
 
+    -- and of fld
     unfoldable pub fldRows : OuterSteps → OuterSteps
     fldRows q = record {
       steps = rowSteps "vs-out-rowfld-" 0 (logFld r) (record { steps = q .steps; held = q .fld }) .steps;
@@ -157,11 +161,13 @@ module _ (r : Relation) where
         getD (q .bin .a) 0 0 ∷ getD (q .bin .b) 0 0 ∷ getD (q .bin .c) 0 0 ∷ getD (q .fld .a) 0 0 ∷ getD (q .fld .b) 0 0
         ∷ getD (q .fld .c) 0 0 ∷ []
 
+    -- the outer rounds, the terminals and the alphas, after the taus
     unfoldable pub outerAll : Steps → Steps
     outerAll p = askTimes 6 (ascii "vs-alpha") (sayEach "vs-terminal-" 0 (terminalsLeft (outerSteps p)) (outerSteps p .steps))
 
   -- the inner rounds, v_z and the segment values, with the combined table t, the folded witness columns f and the public columns x
   module _ (t f x : List ℕ) where
+    -- all inner rounds
     unfoldable pub innerRun : Steps → InnerSteps
     innerRun p = innerSteps (logCols r) (record { steps = p; table = t; z = f ++ (1 ∷ x) })
 
@@ -178,5 +184,6 @@ module _ (r : Relation) where
     ended low q =
         sayEach "vs-seg-" 0 (tabulate (segmentValue low) (length (r .lengths))) (say (ascii "vs-vz") (getD (q .z) 0 0 ∷ []) (q .steps))
 
+    -- the inner rounds, v_z and the segment values
     unfoldable pub innerAll : Steps → Steps
     innerAll p = ended (lowDraws (length (p .played .draws)) (innerRun p .steps)) (innerRun p)

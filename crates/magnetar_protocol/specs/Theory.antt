@@ -19,12 +19,15 @@ use Rattle.magnetar_protocol.specs.Draws.{Draws, lowPoint, topElement}
 abbrev pub els : List ℕ → List Element
 els t = map element t
 
+-- an entry of a matrix
 abbrev pub entryE : Entry → EntryE gf128
 entryE e = record { row = e .row; col = e .col; val = element (e .value) }
 
+-- the entries of a matrix
 abbrev pub entriesE : Matrix → List (EntryE gf128)
 entriesE m = map entryE (m .entries)
 
+-- a system
 abbrev pub systemE : System → SystemE gf128
 systemE s = record { A = entriesE (s .a); B = entriesE (s .b); C = entriesE (s .c); logRows = log₂ (s .a .rows) }
 
@@ -38,6 +41,7 @@ segmentsE (o ∷ os) (n ∷ ns) = record { logLen = log₂ n; number = o / n } �
 abbrev pub logHalf : Relation → ℕ
 logHalf r = logCols r - 1
 
+-- a relation
 abbrev pub relationE : Relation → RelationE gf128
 relationE r = record {
   bin = systemE (r .bin);
@@ -50,9 +54,11 @@ relationE r = record {
 abbrev pub publicE : List ℕ → List Element
 publicE x = els (1 ∷ x)
 
+-- a batch
 abbrev pub batchE : Batch → List (List Element)
 batchE b = map els b
 
+-- the draws
 abbrev pub drawsE : Relation → Draws → DrawsE gf128
 drawsE r d = record {
   tauBin = els (d .tauBin);
@@ -65,5 +71,6 @@ drawsE r d = record {
   last = element (topElement r d);
 }
 
+-- the proof, taken apart
 abbrev pub wordsE : Relation → List ℕ → WordsE gf128
 wordsE r w = wordsOf gf128 (logLogins r) (relationE r) (els w)

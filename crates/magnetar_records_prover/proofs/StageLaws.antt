@@ -24,7 +24,7 @@ use Rattle.magnetar_protocol.specs.Draws.{drawCount}
 use Rattle.magnetar_protocol.specs.Schedule.{outline}
 use Rattle.magnetar_protocol.specs.Stepwise.{Steps}
 use Rattle.magnetar_rounds.specs.Entries.{outerRoundsRefusal, outerPlayed, blockWords, innerRoundsRefusal, innerPlayed, answerFor, proofFor, drawsFor, scratchFor}
-use Rattle.magnetar_rounds.specs.declared.answer.RoundsAnswer.{RoundsAnswer}
+use Rattle.magnetar_hash.specs.declared.transcript.TranscriptAnswer.{TranscriptAnswer}
 use Rattle.magnetar_checks.specs.Claims.{claimsOut}
 use Rattle.magnetar_spartan.specs.Ready.{FoldReady, InnerReady}
 use Rattle.magnetar_spartan.proofs.Chains.{halves}
@@ -98,7 +98,7 @@ module _ (m q rb rf l b f a k : ℕ) (ns x w d s : List ℕ) (t : Transcript) (e
   abbrev Z : ℕ
   Z = innerRoundsRefusal m ns x (take (length w - a) (drop a w)) (take (length d - k) (drop k d)) s t
 
-  pub inner-ends : (A : RoundsAnswer) (w′ d′ s′ : List ℕ) → A ≡ answerFor Z P t → w′ ≡ proofFor Z P (take (length w - a) (drop a w))
+  pub inner-ends : (A : TranscriptAnswer) (w′ d′ s′ : List ℕ) → A ≡ answerFor Z P t → w′ ≡ proofFor Z P (take (length w - a) (drop a w))
       → d′ ≡ drawsFor Z P (take (length d - k) (drop k d)) → s′ ≡ scratchFor Z (6 * m) s → InnerReady m ns (length x) (t .«squeeze_ctr»)
       → InnerLeft m q rb rf ns w d s P (A .transcript) (putMid a (length w - a) w w′) (putMid k (length d - k) d d′) s′
   inner-ends A w′ d′ s′ eA ew ed es I hw hd hs =
@@ -223,7 +223,7 @@ module _ (m q b f : ℕ) (ns ws x w d c s : List ℕ) (t : Transcript)
           (ends .0, ends .1, ends .2, cleared ∙ (ap (λ (i : ℕ). replicate i 0 ++ drop i s₂) e ∙ ap (λ (v : List ℕ). replicate (proverRoomWords m q b f) 0 ++ v) rest-is′))
 
 -- ---- the outer rounds
-pub outer-ends : (m q b f k i n : ℕ) (w s : List ℕ) (t : Transcript) (A : RoundsAnswer) (u : Transcript) (w′ d′ s′ : List ℕ)
+pub outer-ends : (m q b f k i n : ℕ) (w s : List ℕ) (t : Transcript) (A : TranscriptAnswer) (u : Transcript) (w′ d′ s′ : List ℕ)
     → i ≡ min (proofWordsOf m q b f k) (length w) → n ≡ drawWordsOf m q b f
     → A ≡ answerFor (outerRoundsRefusal q b f (take (i - 0) (drop 0 w)) (take (n - 0) (drop 0 (replicate 256 0))) s t) (outerPlayed q b f s t) t
     → w′ ≡ proofFor (outerRoundsRefusal q b f (take (i - 0) (drop 0 w)) (take (n - 0) (drop 0 (replicate 256 0))) s t) (outerPlayed q b f s t) (take (i - 0) (drop 0 w))

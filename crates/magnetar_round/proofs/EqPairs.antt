@@ -29,7 +29,7 @@ module _ (F : Field) (L : Laws F) where
   infixl 60 _⊕_
   infixl 70 _⊗_
   zero-product : (k : K) → 𝟎 ≡ k ⊗ 𝟎
-  zero-product k = simp (ring, L .laws)
+  zero-product k = simp (ring, L .is-ring)
 
   pub getD-scale : (k : K) (t : List K) (i : ℕ) → getD (scale F k t) i 𝟎 ≡ k ⊗ getD t i 𝟎
   getD-scale k [] i = zero-product k

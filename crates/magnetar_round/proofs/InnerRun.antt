@@ -13,7 +13,7 @@ use Rattle.magnetar_field.specs.Gf128.{_⊕_, _⊗_}
 use Rattle.magnetar_field.specs.Tabulate.{tabulate}
 use Rattle.magnetar_multilinear.specs.Multilinear.{line, insertZero, bindVar}
 use Rattle.magnetar_theory.specs.Field.{Field, Laws}
-use Rattle.magnetar_theory.specs.SumCheck.{addPoly, honest}
+use Rattle.magnetar_theory.specs.SumCheck.{addLists, honest}
 use Rattle.magnetar_theory.specs.Table.{tableRounds, pairs, polyAll, mixAll}
 use Rattle.magnetar_theory.specs.Cells.{lineAt, InnerCell, innerCells}
 use Rattle.magnetar_theory.specs.Inner.{zipInner}
@@ -40,7 +40,7 @@ module _ (F : Field) (L : Laws F) where
   infixl 60 _⊕_
   infixl 70 _⊗_
   one-sum : (x : K) → x ≡ x ⊕ 𝟎
-  one-sum x = simp (ring, L .laws)
+  one-sum x = simp (ring, L .is-ring)
 
   abbrev innerPair : (t₀ t₁ z₀ z₁ : ℕ → K) → ℕ → InnerCell F × InnerCell F
   innerPair t₀ t₁ z₀ z₁ i = (record { t = t₀ i; z = z₀ i }, record { t = t₁ i; z = z₁ i })
@@ -51,7 +51,7 @@ module _ (F : Field) (L : Laws F) where
   unfolding tabulate
   inner-poly zero t₀ t₁ z₀ z₁ = λ i. one-sum (t₀ 0 ⊗ z₀ 0) i ∷ one-sum (t₀ 0 ⊗ (z₀ 0 ⊕ z₁ 0) ⊕ (t₀ 0 ⊕ t₁ 0) ⊗ z₀ 0) i ∷ one-sum
       ((t₀ 0 ⊕ t₁ 0) ⊗ (z₀ 0 ⊕ z₁ 0)) i ∷ []
-  inner-poly (suc n) t₀ t₁ z₀ z₁ = ap (addPoly F (innerCells F .line (record { t = t₀ 0; z = z₀ 0 }) (record { t = t₁ 0; z = z₁ 0 })))
+  inner-poly (suc n) t₀ t₁ z₀ z₁ = ap (addLists F (innerCells F .line (record { t = t₀ 0; z = z₀ 0 }) (record { t = t₁ 0; z = z₁ 0 })))
       (inner-poly n (λ i. t₀ (suc i)) (λ i. t₁ (suc i)) (λ i. z₀ (suc i)) (λ i. z₁ (suc i)))
 
 -- ---- the cells of two tables
@@ -182,11 +182,11 @@ module _ (b n : ℕ) (t z : List ℕ) (lt : length t ≡ 2 ^ suc n) (lz : length
 -- ---- all rounds
 pub messages-are : (b : ℕ) (rs t z : List ℕ) (n : ℕ) → length rs ≤ n → length t ≡ 2 ^ n → length z ≡ 2 ^ n
     → map els (innerMessages t z rs) ≡ honest gf128 (tableRounds gf128
-    (innerCells gf128)) (record { tops = 0; rows = b; cells = zipInner gf128 (els t) (els z) }) (els rs)
+    (innerCells gf128)) (record { tops = 0; lows = b; cells = zipInner gf128 (els t) (els z) }) (els rs)
 unfolding innerMessages
 messages-are b [] t z n h lt lz = refl
 messages-are b (r ∷ rs) t z zero h lt lz = absurd (omega arith)
 messages-are b (r ∷ rs) t z (suc n) h lt lz = ap₂ _∷_ (next-is b n t z lt lz)
     (messages-are b rs (bindVar 0 r t) (bindVar 0 r z) n (omega arith) (length-bound n r t lt) (length-bound n r z lz)
-    ∙ ap (λ (c : List (InnerCell gf128)). honest gf128 (tableRounds gf128 (innerCells gf128)) (record { tops = 0; rows = b; cells = c })
+    ∙ ap (λ (c : List (InnerCell gf128)). honest gf128 (tableRounds gf128 (innerCells gf128)) (record { tops = 0; lows = b; cells = c })
     (els rs)) (sym (fold-is b n t z lt lz r)))

@@ -9,3 +9,4 @@ pub mod InnerRun
 pub mod Horner
 pub mod Protocol
 pub mod Values
+pub mod Wanted

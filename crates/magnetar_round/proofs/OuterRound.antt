@@ -5,7 +5,7 @@ use mathlib.Core.List.{List, [], _∷_}
 use Prim.Native.Nat.{ℕ, zero, suc}
 use Rattle.magnetar_field.specs.Tabulate.{tabulate}
 use Rattle.magnetar_theory.specs.Field.{Field, Laws}
-use Rattle.magnetar_theory.specs.SumCheck.{addPoly}
+use Rattle.magnetar_theory.specs.SumCheck.{addLists}
 use Rattle.magnetar_theory.specs.Table.{polyAll}
 use Rattle.magnetar_theory.specs.Cells.{lineAt, OuterCell, outerCells}
 use Rattle.magnetar_theory.proofs.Ring.{ring}
@@ -60,40 +60,40 @@ module _ (F : Field) where
     pair-poly k t e a₀ a₁ b₀ b₁ c₀ c₁ = λ i. p₀ i ∷ p₁ i ∷ p₂ i ∷ p₃ i ∷ []
       where
         p₀ : k ⊗ ((𝟏 ⊕ t) ⊗ e) ⊗ (a₀ ⊗ b₀ ⊕ c₀) ≡ k ⊗ ((𝟏 ⊕ t) ⊗ (e ⊗ (a₀ ⊗ b₀ ⊕ c₀)))
-        p₀ = simp (ring, L .laws)
+        p₀ = simp (ring, L .is-ring)
 
         p₁ : k ⊗ ((𝟏 ⊕ t) ⊗ e) ⊗ (a₀ ⊗ (b₀ ⊕ b₁) ⊕ (a₀ ⊕ a₁) ⊗ b₀ ⊕ (c₀ ⊕ c₁)) ⊕ (k ⊗ ((𝟏 ⊕ t) ⊗ e) ⊕ k ⊗ (t ⊗ e)) ⊗ (a₀ ⊗ b₀ ⊕ c₀)
             ≡ k ⊗ ((𝟏 ⊕ t) ⊗ (e ⊗ (a₀ ⊗ (b₀ ⊕ b₁) ⊕ (a₀ ⊕ a₁) ⊗ b₀ ⊕ (c₀ ⊕ c₁))) ⊕ e ⊗ (a₀ ⊗ b₀ ⊕ c₀))
-        p₁ = simp (ring, L .laws)
+        p₁ = simp (ring, L .is-ring)
 
         p₂ : k ⊗ ((𝟏 ⊕ t) ⊗ e) ⊗ ((a₀ ⊕ a₁) ⊗ (b₀ ⊕ b₁)) ⊕ (k ⊗ ((𝟏 ⊕ t) ⊗ e) ⊕ k ⊗ (t ⊗ e)) ⊗ (a₀ ⊗ (b₀ ⊕ b₁) ⊕ (a₀ ⊕ a₁) ⊗ b₀ ⊕ (c₀ ⊕ c₁))
             ≡ k ⊗ ((𝟏 ⊕ t) ⊗ (e ⊗ ((a₀ ⊕ a₁) ⊗ (b₀ ⊕ b₁))) ⊕ e ⊗ (a₀ ⊗ (b₀ ⊕ b₁) ⊕ (a₀ ⊕ a₁) ⊗ b₀ ⊕ (c₀ ⊕ c₁)))
-        p₂ = simp (ring, L .laws)
+        p₂ = simp (ring, L .is-ring)
 
         p₃ : (k ⊗ ((𝟏 ⊕ t) ⊗ e) ⊕ k ⊗ (t ⊗ e)) ⊗ ((a₀ ⊕ a₁) ⊗ (b₀ ⊕ b₁)) ≡ k ⊗ (e ⊗ ((a₀ ⊕ a₁) ⊗ (b₀ ⊕ b₁)))
-        p₃ = simp (ring, L .laws)
+        p₃ = simp (ring, L .is-ring)
 
-    timesEq-add : (k t x y z u v w : K) → addPoly F (timesEqF k t x y z) (timesEqF k t u v w) ≡ timesEqF k t (x ⊕ u) (y ⊕ v) (z ⊕ w)
+    timesEq-add : (k t x y z u v w : K) → addLists F (timesEqF k t x y z) (timesEqF k t u v w) ≡ timesEqF k t (x ⊕ u) (y ⊕ v) (z ⊕ w)
     timesEq-add k t x y z u v w = λ i. p₀ i ∷ p₁ i ∷ p₂ i ∷ p₃ i ∷ []
       where
         p₀ : k ⊗ ((𝟏 ⊕ t) ⊗ x) ⊕ k ⊗ ((𝟏 ⊕ t) ⊗ u) ≡ k ⊗ ((𝟏 ⊕ t) ⊗ (x ⊕ u))
-        p₀ = simp (ring, L .laws)
+        p₀ = simp (ring, L .is-ring)
 
         p₁ : k ⊗ ((𝟏 ⊕ t) ⊗ y ⊕ x) ⊕ k ⊗ ((𝟏 ⊕ t) ⊗ v ⊕ u) ≡ k ⊗ ((𝟏 ⊕ t) ⊗ (y ⊕ v) ⊕ (x ⊕ u))
-        p₁ = simp (ring, L .laws)
+        p₁ = simp (ring, L .is-ring)
 
         p₂ : k ⊗ ((𝟏 ⊕ t) ⊗ z ⊕ y) ⊕ k ⊗ ((𝟏 ⊕ t) ⊗ w ⊕ v) ≡ k ⊗ ((𝟏 ⊕ t) ⊗ (z ⊕ w) ⊕ (y ⊕ v))
-        p₂ = simp (ring, L .laws)
+        p₂ = simp (ring, L .is-ring)
 
         p₃ : k ⊗ z ⊕ k ⊗ w ≡ k ⊗ (z ⊕ w)
-        p₃ = simp (ring, L .laws)
+        p₃ = simp (ring, L .is-ring)
 
     -- the weight's line at r
     pub weight-line : (k t e r : K) → lineAt F r (k ⊗ ((𝟏 ⊕ t) ⊗ e)) (k ⊗ (t ⊗ e)) ≡ k ⊗ (𝟏 ⊕ t ⊕ r) ⊗ e
-    weight-line k t e r = simp (ring, L .laws, lineAt)
+    weight-line k t e r = simp (ring, L .is-ring, lineAt)
 
     one-sum : (x : K) → x ≡ x ⊕ 𝟎
-    one-sum x = simp (ring, L .laws)
+    one-sum x = simp (ring, L .is-ring)
 
     -- the polynomial of the round, over one pair at least
     pub outer-poly : (n : ℕ) (k t : K) (e a₀ a₁ b₀ b₁ c₀ c₁ : ℕ → K)
@@ -105,7 +105,7 @@ module _ (F : Field) where
         ∙ (λ i. timesEqF k t (one-sum (q₀ k t e a₀ a₁ b₀ b₁ c₀ c₁ 0) i) (one-sum (q₁ k t e a₀ a₁ b₀ b₁ c₀ c₁ 0) i)
         (one-sum (q₂ k t e a₀ a₁ b₀ b₁ c₀ c₁ 0) i))
     outer-poly (suc n) k t e a₀ a₁ b₀ b₁ c₀ c₁ =
-        ap₂ (addPoly F) (pair-poly k t (e 0) (a₀ 0) (a₁ 0) (b₀ 0) (b₁ 0) (c₀ 0) (c₁ 0))
+        ap₂ (addLists F) (pair-poly k t (e 0) (a₀ 0) (a₁ 0) (b₀ 0) (b₁ 0) (c₀ 0) (c₁ 0))
         (outer-poly n k t (λ i. e (suc i)) (λ i. a₀ (suc i)) (λ i. a₁ (suc i)) (λ i. b₀ (suc i)) (λ i. b₁ (suc i)) (λ i. c₀ (suc i))
         (λ i. c₁ (suc i)))
         ∙ timesEq-add k t _ _ _ _ _ _

@@ -69,9 +69,9 @@ element-eqTable p = ext-getD (element 0) (els (tabulate (eqAt p) (2 ^ length p))
 -- ---- sums
 sum-front : (f : ℕ → ℕ) (n : ℕ) → element (sumTo f (suc n)) ≡ sum (element (f 0)) (element (sumTo (λ i. f (suc i)) n))
 unfolding sumTo
-sum-front f zero = element-⊕ 0 (f 0) ∙ gf128Laws .laws .add-comm (element 0) (element (f 0))
+sum-front f zero = element-⊕ 0 (f 0) ∙ gf128Laws .is-ring .add-comm (element 0) (element (f 0))
 sum-front f (suc n) = element-⊕ (sumTo f (suc n)) (f (suc n)) ∙ ap (λ (x : Element). sum x (element (f (suc n)))) (sum-front f n)
-    ∙ gf128Laws .laws .add-assoc (element (f 0)) (element (sumTo (λ i. f (suc i)) n)) (element (f (suc n)))
+    ∙ gf128Laws .is-ring .add-assoc (element (f 0)) (element (sumTo (λ i. f (suc i)) n)) (element (f (suc n)))
     ∙ ap (sum (element (f 0))) (sym (element-⊕ (sumTo (λ i. f (suc i)) n) (f (suc n))))
 
 pub element-sum : (f : ℕ → ℕ) (g : ℕ → Element) (n : ℕ) → ((i : ℕ) → i < n → element (f i) ≡ g i) → element (sumTo f n) ≡ sumF gf128 g n
@@ -83,7 +83,7 @@ element-sum f g (suc n) h = sum-front f n ∙ ap₂ sum (h 0 (omega arith)) (ele
 -- ---- the state that a prover's tables stand for
 pub record Stands (S : Outer) (T : State gf128 (outerCells gf128)) : Type 0 where
   pub tops : T .tops ≡ S .high
-  pub rows : Left (S .high) (T .rows) (length (S .tau))
+  pub lows : Left (S .high) (T .lows) (length (S .tau))
   pub cells : T .cells ≡ zipOuter gf128 (els (S .a)) (els (S .b)) (els (S .c)) (scale gf128 (element (S .k))
       (eqTableE gf128 (els (S .tau))))
   pub eq : els (S .e) ≡ eqTableE gf128 (els (S .tau))
@@ -202,10 +202,10 @@ module _ (S : Outer) (T : State gf128 (outerCells gf128)) (C : Stands S T) (n : 
       ∙ sym (size (S .a) (C .size-a))) (size (S .c) (C .size-c) ∙ sym (size (S .a) (C .size-a)))
       (length-weights ∙ sym (size (S .a) (C .size-a))) ∙ size (S .a) (C .size-a)
 
-  pairs-of : pairs gf128 (outerCells gf128) (T .tops) (T .rows) (T .cells) ≡ tabulate pairOf (2 ^ n)
+  pairs-of : pairs gf128 (outerCells gf128) (T .tops) (T .lows) (T .cells) ≡ tabulate pairOf (2 ^ n)
   unfolding lo hi
-  pairs-of = ap (λ (s : ℕ). pairs gf128 (outerCells gf128) s (T .rows) (T .cells)) (C .tops)
-      ∙ pairs-are gf128 (outerCells gf128) (S .high) (T .rows) n (T .cells) (subst (Left (S .high) (T .rows)) left (C .rows)) length-cells
+  pairs-of = ap (λ (s : ℕ). pairs gf128 (outerCells gf128) s (T .lows) (T .cells)) (C .tops)
+      ∙ pairs-are gf128 (outerCells gf128) (S .high) (T .lows) n (T .cells) (subst (Left (S .high) (T .lows)) left (C .lows)) length-cells
       ∙ tabulate-ext _ pairOf (2 ^ n) (λ i h. λ j. (full₀ i h j, full₁ i h j))
     where
       full₀ : (i : ℕ) → i < 2 ^ n → getD (T .cells) (insertZero (nextVar (S .high) (suc n)) i) (outerCells gf128 .none) ≡ pairOf i .0
@@ -244,7 +244,7 @@ module _ (S : Outer) (T : State gf128 (outerCells gf128)) (C : Stands S T) (n : 
   element-tau = ap (λ (w : ℕ). element (getD (S .tau) w 0)) var-is ∙ sym (getD-map element (S .tau) (nextVar (S .high) (suc n)) 0)
 
   both-halves : (t e : Element) → sum (product (sum (element 1) t) e) (product t e) ≡ e
-  both-halves t e = simp (ring, gf128Laws .laws)
+  both-halves t e = simp (ring, gf128Laws .is-ring)
 
   dropped : (i : ℕ) → i < 2 ^ n → element (getD (dropVar (outerVar S) (S .e)) i 0) ≡ rest i
   unfolding dropVar rest lo hi tau v
@@ -412,7 +412,7 @@ module _ (S : Outer) (T : State gf128 (outerCells gf128)) (C : Stands S T) (n : 
   zip-after r = zipOuter gf128 (els (bindVar (outerVar S) r (S .a))) (els (bindVar (outerVar S) r (S .b)))
       (els (bindVar (outerVar S) r (S .c))) (weights-after r)
 
-  cells-after : (r : ℕ) → mixAll gf128 (outerCells gf128) (element r) (pairs gf128 (outerCells gf128) (T .tops) (T .rows) (T .cells))
+  cells-after : (r : ℕ) → mixAll gf128 (outerCells gf128) (element r) (pairs gf128 (outerCells gf128) (T .tops) (T .lows) (T .cells))
       ≡ zip-after r
   unfolding zip-after
   cells-after r = ap (mixAll gf128 (outerCells gf128) (element r)) pairs-of ∙ mixed (element r) pairOf (2 ^ n)
@@ -466,8 +466,8 @@ module _ (S : Outer) (T : State gf128 (outerCells gf128)) (C : Stands S T) (n : 
   unfolding outerFold
   fold-stands r = record {
     tops = ap less (C .tops) ∙ less-fewer (S .high);
-    rows = subst (Left (fewer (S .high)) (T .rows)) (sym length-rest)
-        (left-less (S .high) (T .rows) n (subst (Left (S .high) (T .rows)) left (C .rows)));
+    lows = subst (Left (fewer (S .high)) (T .lows)) (sym length-rest)
+        (left-less (S .high) (T .lows) n (subst (Left (S .high) (T .lows)) left (C .lows)));
     cells = cells-after r ∙ after r;
     eq = eq-rest ∙ ap (eqTableE gf128) (sym tau-rest);
     size-a = length-bound r (S .a) (C .size-a) ∙ ap (λ (m : ℕ). 2 ^ m) (sym length-rest);
@@ -500,7 +500,7 @@ messages-are (r ∷ rs) S T C h = ap₂ _∷_ (next-is S T C (length (S .tau) - 
 -- at the start
 one-scale : (t : List Element) → scale gf128 (element 1) t ≡ t
 one-scale [] = refl
-one-scale (x ∷ t) = ap₂ _∷_ (one-mul gf128 (gf128Laws .laws) x) (one-scale t)
+one-scale (x ∷ t) = ap₂ _∷_ (one-mul gf128 (gf128Laws .is-ring) x) (one-scale t)
 
 pub start-stands : (s b : ℕ) (tau ta tb tc : List ℕ) → length tau ≡ s + b → length ta ≡ 2 ^ length tau → length tb ≡ 2 ^ length tau
     → length tc ≡ 2 ^ length tau
@@ -508,7 +508,7 @@ pub start-stands : (s b : ℕ) (tau ta tb tc : List ℕ) → length tau ≡ s + 
 unfolding outerStart
 start-stands s b tau ta tb tc l h k m = record {
   tops = refl;
-  rows = whole s l;
+  lows = whole s l;
   cells = ap (zipOuter gf128 (els ta) (els tb) (els tc)) (sym (one-scale (eqTableE gf128 (els tau))));
   eq = element-eqTable tau;
   size-a = h;

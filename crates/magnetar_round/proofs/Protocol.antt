@@ -30,12 +30,12 @@ use Rattle.magnetar_theory.proofs.Outer.{outer-sound, outer-complete}
 use Rattle.magnetar_theory.proofs.Inner.{inner-sound, inner-complete}
 use Rattle.magnetar_theory.proofs.Gf128.{element-⊕, element-⊗, element-inj, gf128Laws}
 use Rattle.magnetar_round.specs.Sum.{sumTo}
-use Rattle.magnetar_round.specs.Round.{passes, running}
+use Rattle.magnetar_round.specs.Round.{running}
 use Rattle.magnetar_round.specs.Order.{point, eqPoints}
 use Rattle.magnetar_round.specs.Outer.{timesEq, outerMessage, outerEnd}
 use Rattle.magnetar_round.specs.Inner.{innerSums, innerMessage, innerEnd}
 use Rattle.magnetar_round.specs.Messages.{Outer, outerNext, outerFold, outerStart, outerMessages, innerMessages}
-use Rattle.magnetar_round.proofs.Verifier.{MessagesBelow, passes-checks, checks-passes, running-is}
+use Rattle.magnetar_round.proofs.Verifier.{passes, MessagesBelow, passes-checks, checks-passes, running-is}
 use Rattle.magnetar_round.proofs.OuterRun as O
 use Rattle.magnetar_round.proofs.OuterRun.{element-eqTable, start-stands}
 use Rattle.magnetar_round.proofs.InnerRun as I
@@ -264,7 +264,7 @@ module _ (t z rs : List ℕ) (lt : length t ≡ 2 ^ length rs) (lz : length z �
   inner-end = element-⊗ (mle t rs) (mle z rs) ∙ ap₂ product (element-mle t rs) (element-mle z rs)
 
   abbrev pub innerBegin : State gf128 (innerCells gf128)
-  innerBegin = record { tops = 0; rows = length (els rs); cells = zipInner gf128 (els t) (els z) }
+  innerBegin = record { tops = 0; lows = length (els rs); cells = zipInner gf128 (els t) (els z) }
 
   -- if all checks pass and the end is true, the claim is the sum, or a challenge is in its list
   pub inner-accepted : (v : ℕ) (ms : List (List ℕ)) → passes v ms rs ≡ true → running v ms rs ≡ innerEnd (mle t rs) (mle z rs)

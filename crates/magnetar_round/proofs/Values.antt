@@ -119,7 +119,7 @@ module _ (S : Outer) (T : State gf128 (outerCells gf128)) (C : Stands S T) (n : 
 -- ---- the inner sum-check
 module _ (n : ℕ) (t z : List ℕ) (lt : length t ≡ 2 ^ suc n) (lz : length z ≡ 2 ^ suc n) where
   abbrev state : State gf128 (innerCells gf128)
-  state = record { tops = 0; rows = n; cells = zipInner gf128 (els t) (els z) }
+  state = record { tops = 0; lows = n; cells = zipInner gf128 (els t) (els z) }
 
   inner-value : (t z : List ℕ) → sumTerms gf128 (innerCells gf128) (zipInner gf128 (els t) (els z)) ≡ element (dot t z)
   inner-value t z = sum-dot gf128 gf128Laws (els t) (els z) ∙ sym (element-dot t z)

@@ -1,7 +1,7 @@
 -- The verifier's rounds over numbers are those of the theory: the checks pass for the numbers where they hold for their elements.
 -- Assumes nothing.
 use mathlib.Core.Path.{_≡_, refl, sym, ap, _∙_}
-use mathlib.Core.Bool.{true, false, false≢true, and-eq-true-iff}
+use mathlib.Core.Bool.{Bool, true, false, _&&_, false≢true, and-eq-true-iff}
 use mathlib.Core.List.{List, [], _∷_, map}
 use Prim.Native.Nat.{ℕ, _^_, _<_}
 use borrow.Author.Tests.{eqb-true, eq-eqb}
@@ -10,8 +10,15 @@ use Rattle.magnetar_field.proofs.Polynomial.{AllBelow, eval-lt}
 use Rattle.magnetar_theory.specs.SumCheck.{Checks, checkSum as checkSumE, running as runningE}
 use Rattle.magnetar_theory.specs.Gf128.{Element, element, gf128}
 use Rattle.magnetar_theory.proofs.Gf128.{element-inj}
-use Rattle.magnetar_round.specs.Round.{checkSum, holds, nextClaim, passes, running}
+use Rattle.magnetar_round.specs.Round.{checkSum, holds, nextClaim, running}
 use Rattle.magnetar_round.proofs.Hom.{element-checkSum, element-eval, checkSum-lt}
+
+-- whether every message is right, each for the claim that the rounds before it leave; a message for each challenge
+unfoldable pub passes : ℕ → List (List ℕ) → List ℕ → Bool
+passes c [] [] = true
+passes c [] (r ∷ rs) = false
+passes c (m ∷ ms) [] = false
+passes c (m ∷ ms) (r ∷ rs) = holds m c && passes (eval m r) ms rs
 
 -- every coefficient is an element
 abbrev pub MessagesBelow : List (List ℕ) → Type 0

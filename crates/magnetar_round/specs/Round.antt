@@ -1,7 +1,7 @@
 -- A round of the verifier, for messages of any degree: a message is the list of a polynomial's coefficients, that of 1 first. It is
 -- right where its values at 0 and at 1 add up to the running claim, and its value at the challenge is the next running claim.
 -- Assumes nothing.
-use mathlib.Core.Bool.{Bool, true, false, _&&_, cond}
+use mathlib.Core.Bool.{Bool, cond}
 use mathlib.Core.List.{List, [], _∷_}
 use Prim.Native.Nat.{ℕ}
 use lib.Dec.{eqb}
@@ -20,13 +20,6 @@ holds m c = eqb (checkSum m) c
 -- the running claim after a round with the message m and the challenge r; a wrong message leaves it
 unfoldable pub nextClaim : ℕ → List ℕ → ℕ → ℕ
 nextClaim c m r = cond (holds m c) (eval m r) c
-
--- whether every message is right, each for the claim that the rounds before it leave; a message for each challenge
-unfoldable pub passes : ℕ → List (List ℕ) → List ℕ → Bool
-passes c [] [] = true
-passes c [] (r ∷ rs) = false
-passes c (m ∷ ms) [] = false
-passes c (m ∷ ms) (r ∷ rs) = holds m c && passes (eval m r) ms rs
 
 -- the running claim after all rounds
 unfoldable pub running : ℕ → List (List ℕ) → List ℕ → ℕ

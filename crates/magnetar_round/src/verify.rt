@@ -9,8 +9,8 @@ ghost use lib.Dec.{eqb};
 ghost use Rattle.magnetar_field.specs.Gf128.{value, _⊕_, _⊗_};
 ghost use Rattle.magnetar_field.specs.Polynomial.{eval};
 ghost use Rattle.magnetar_field.specs.Words.{elements};
-ghost use Rattle.magnetar_round.specs.Round.{checkSum, holds, nextClaim};
-ghost use Rattle.magnetar_round.specs.Capture.{nextTranscript, nextChallenge};
+ghost use Rattle.magnetar_round.specs.Round.{checkSum, holds};
+ghost use Rattle.magnetar_round.specs.Outcome.{isMessage, leftBy, roundOutcome, capturedBy, undrawn, captureOutcome};
 ghost use Rattle.magnetar_round.specs.Outer.{outerEnd};
 ghost use Rattle.magnetar_round.specs.Inner.{innerEnd};
 
@@ -21,8 +21,9 @@ pub fn multiply_add(acc: Gf128, t: Gf128, z: Gf128) -> Gf128
     gf128::add(acc, gf128::mul(t, z))
 }
 
-// What a round leaves: whether the message was right, and the running claim.
+// What a round leaves: the number of its refusal or 0, whether the message was right, and the running claim.
 pub struct Round {
+    pub code: u32,
     pub holds: bool,
     pub claim: Gf128,
 }
@@ -40,14 +41,24 @@ fn check_sum(msg: &[u64]) -> Gf128
     acc
 }
 
-// Whether the message is right for the running claim.
+// Whether the message is of n coefficients.
+fn is_message(msg: &[u64], n: usize) -> bool
+    ensures { λ r. ⌜ r ≡ isMessage n (now (msg .entry)) ⌝ }
+{
+    if msg.len() % 2 != 0 {
+        return false;
+    }
+    msg.len() / 2 == n
+}
+
+// Whether the message is right for the running claim. Total: a message of any number of coefficients; an odd last word is none.
 pub fn sum_holds(msg: &[u64], claim: Gf128) -> bool
     ensures { λ r. ⌜ r ≡ holds (elements (now (msg .entry))) (value claim) ⌝ }
 {
     gf128::equal(check_sum(msg), claim)
 }
 
-// The message's value at r: the next running claim. A product for each coefficient.
+// The message's value at r: the next running claim. A product for each coefficient. Total, as `sum_holds` is.
 pub fn eval_message(msg: &[u64], r: Gf128) -> Gf128
     ensures { λ o. ⌜ value o ≡ eval (elements (now (msg .entry))) (value r) ⌝ }
 {
@@ -60,19 +71,28 @@ pub fn eval_message(msg: &[u64], r: Gf128) -> Gf128
     acc
 }
 
-// A round with the challenge r from outside: the check, and the next running claim. A wrong message leaves the claim.
-pub fn round_external(msg: &[u64], claim: Gf128, r: Gf128) -> Round
-    ensures holds { λ o. ⌜ o .holds ≡ holds (elements (now (msg .entry))) (value claim) ⌝ }
-    ensures claim { λ o. ⌜ value (o .claim) ≡ nextClaim (value claim) (elements (now (msg .entry))) (value r) ⌝ }
+// A round with the challenge r from outside, whose message has n coefficients: the check, and the next running claim. A wrong message
+// leaves the claim, and so does one that is refused with 11.
+pub fn round_external(msg: &[u64], n: usize, claim: Gf128, r: Gf128) -> Round
+    ensures { λ o. ⌜ leftBy o ≡ roundOutcome n (now (msg .entry)) (value claim) (value r) ⌝ }
 {
+    if !is_message(msg, n) {
+        return Round {
+            code: 11,
+            holds: false,
+            claim: claim,
+        };
+    }
     if sum_holds(msg, claim) {
         let next = eval_message(msg, r);
         return Round {
+            code: 0,
             holds: true,
             claim: next,
         };
     }
     Round {
+        code: 0,
         holds: false,
         claim: claim,
     }
@@ -92,36 +112,56 @@ pub fn inner_finish(running: Gf128, t: Gf128, z: Gf128) -> bool
     gf128::equal(gf128::mul(t, z), running)
 }
 
-// What a round leaves that draws for itself: whether the message was right, the running claim, the challenge (0 where the message
-// was wrong), and the transcript.
+// What a round leaves that draws for itself: the number of its refusal or 0, whether the message was right, the running claim, the
+// challenge (0 where nothing was drawn), and the transcript.
 pub struct Captured {
+    pub code: u32,
     pub holds: bool,
     pub claim: Gf128,
     pub challenge: Gf128,
     pub transcript: Transcript,
 }
 
-// A round that draws its challenge: the check first; then the message is absorbed and the challenge drawn, both under the label. A
-// wrong message leaves the claim and the transcript.
-pub fn round_capturing(msg: &[u64], claim: Gf128, t: Transcript, label: &[u8]) -> Captured
-    ensures holds { λ o. ⌜ o .holds ≡ holds (elements (now (msg .entry))) (value claim) ⌝ }
-    ensures transcript { λ o. ⌜ o .transcript ≡ nextTranscript t (now (label .entry)) (now (msg .entry)) (value claim) ⌝ }
-    ensures challenge { λ o. ⌜ o .challenge ≡ nextChallenge t (now (label .entry)) (now (msg .entry)) (value claim) ⌝ }
-    ensures claim { λ o. ⌜ value (o .claim) ≡ nextClaim (value claim) (elements (now (msg .entry))) (value (o .challenge)) ⌝ }
+// A round that draws its challenge, whose message has n coefficients: the check first; then the message is absorbed and the challenge
+// drawn, both under the label. A wrong message leaves the claim and the transcript, and so does one that is refused with 11, and a
+// counter of 2^32 or more (14).
+pub fn round_capturing(
+    msg: &[u64],
+    n: usize,
+    claim: Gf128,
+    t: Transcript,
+    label: &[u8],
+) -> Captured
+    ensures { λ o. ⌜ capturedBy o ≡ captureOutcome n (now (msg .entry)) (value claim) t (now (label .entry)) ⌝ }
 {
+    if !is_message(msg, n) {
+        return left(11, claim, t);
+    }
+    if t.squeeze_ctr >= 4294967296 {
+        return left(14, claim, t);
+    }
     if sum_holds(msg, claim) {
         let absorbed = transcript::absorb_words(t, label, msg);
         let next = transcript::draw(absorbed, label);
         let r = transcript::element(next);
         let value = eval_message(msg, r);
         return Captured {
+            code: 0,
             holds: true,
             claim: value,
             challenge: r,
             transcript: next,
         };
     }
+    left(0, claim, t)
+}
+
+// What is left where nothing is drawn.
+fn left(code: u32, claim: Gf128, t: Transcript) -> Captured
+    ensures { λ o. ⌜ capturedBy o ≡ undrawn code (value claim) t ⌝ }
+{
     Captured {
+        code: code,
         holds: false,
         claim: claim,
         challenge: Gf128 { lo: 0, hi: 0 },

@@ -13,11 +13,11 @@ use Rattle.magnetar_protocol.specs.Schedule.{outline}
 use Rattle.magnetar_protocol.specs.Stepwise.{Steps, Tables, begin, tauSteps, outerAll, innerAll}
 use Rattle.magnetar_matrix.specs.Batch.{Relation}
 use Rattle.magnetar_layout.specs.Tests.{Tests, noted, isSize, columnTests, publicTests, layoutTests, roomTest}
-use Rattle.magnetar_rounds.specs.declared.answer.RoundsAnswer.{RoundsAnswer}
+use Rattle.magnetar_hash.specs.declared.transcript.TranscriptAnswer.{TranscriptAnswer}
 
 -- what a run leaves, unless it is refused with z: the answer, the proof's words, the words of the draws, and the scratch of so many
 -- words
-abbrev pub answerFor : ℕ → Steps → Transcript → RoundsAnswer
+abbrev pub answerFor : ℕ → Steps → Transcript → TranscriptAnswer
 answerFor z p t = record { code = z; transcript = unlessRefused z (p .played .transcript) t }
 
 abbrev pub proofFor : ℕ → Steps → List ℕ → List ℕ

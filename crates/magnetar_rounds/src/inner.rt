@@ -1,5 +1,4 @@
 // The inner sum-check.
-use crate::answer::RoundsAnswer;
 use crate::guard;
 use magnetar_field::gf128::Gf128;
 use magnetar_field::gf128::ONE;
@@ -7,6 +6,7 @@ use magnetar_field::sizes;
 use magnetar_field::words;
 use magnetar_hash::transcript;
 use magnetar_hash::transcript::Transcript;
+use magnetar_hash::transcript::TranscriptAnswer;
 use magnetar_layout::layout;
 use magnetar_multilinear::eq::EqBits;
 use magnetar_multilinear::multilinear;
@@ -284,7 +284,7 @@ pub fn inner_rounds(
     draws: &mut [u64],
     s: &mut [u64],
     t: Transcript,
-) -> RoundsAnswer
+) -> TranscriptAnswer
     ensures answer { λ r. ⌜ r ≡ answerFor (innerRoundsRefusal m (now (lens .entry)) (now (x .entry)) (now (proof .entry)) (now (draws .entry)) (now (s .entry)) t) (innerPlayed (outline m 1 1 1 (now (lens .entry))) (now (x .entry)) (now (s .entry)) t) t ⌝ }
     ensures proof { λ _. ⌜ now (proof .exit) ≡ proofFor (innerRoundsRefusal m (now (lens .entry)) (now (x .entry)) (now (proof .entry)) (now (draws .entry)) (now (s .entry)) t) (innerPlayed (outline m 1 1 1 (now (lens .entry))) (now (x .entry)) (now (s .entry)) t) (now (proof .entry)) ⌝ }
     ensures draws { λ _. ⌜ now (draws .exit) ≡ drawsFor (innerRoundsRefusal m (now (lens .entry)) (now (x .entry)) (now (proof .entry)) (now (draws .entry)) (now (s .entry)) t) (innerPlayed (outline m 1 1 1 (now (lens .entry))) (now (x .entry)) (now (s .entry)) t) (now (draws .entry)) ⌝ }
@@ -292,7 +292,7 @@ pub fn inner_rounds(
 {
     let z = guard::of_inner(m, lens, x, proof, draws, s, t);
     if z != 0 {
-        return RoundsAnswer {
+        return TranscriptAnswer {
             code: z,
             transcript: t,
         };
@@ -312,7 +312,7 @@ pub fn inner_rounds(
         &mut s[..e],
         t,
     );
-    RoundsAnswer {
+    TranscriptAnswer {
         code: 0,
         transcript: u,
     }

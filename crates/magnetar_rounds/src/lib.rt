@@ -1,5 +1,4 @@
 // The rounds of the prover, within one lent scratch slice.
-pub mod answer;
 mod ends;
 mod guard;
 pub mod inner;

@@ -1,7 +1,6 @@
 // The outer rounds from first to last: taus, eq tables, shared rounds, row rounds, terminals and alphas. The logins and the rows of bin
 // and fld have the logarithms l, b and f; the block of bin, four tables of wb words, is at the front of s, that of fld, four tables of
 // wf words, behind it.
-use crate::answer::RoundsAnswer;
 use crate::ends;
 use crate::guard;
 use crate::outer;
@@ -12,6 +11,7 @@ use magnetar_field::gf128::ONE;
 use magnetar_field::sizes;
 use magnetar_field::words;
 use magnetar_hash::transcript::Transcript;
+use magnetar_hash::transcript::TranscriptAnswer;
 ghost use mathlib.Core.Path.{_≡_};
 ghost use Prim.Native.Nat.{_+_, _*_, _^_, _<_};
 ghost use lib.ListN.{length, take, drop, replicate};
@@ -181,7 +181,7 @@ pub fn outer_rounds(
     draws: &mut [u64],
     s: &mut [u64],
     t: Transcript,
-) -> RoundsAnswer
+) -> TranscriptAnswer
     ensures answer { λ r. ⌜ r ≡ answerFor (outerRoundsRefusal q rb rf (now (proof .entry)) (now (draws .entry)) (now (s .entry)) t) (outerPlayed q rb rf (now (s .entry)) t) t ⌝ }
     ensures proof { λ _. ⌜ now (proof .exit) ≡ proofFor (outerRoundsRefusal q rb rf (now (proof .entry)) (now (draws .entry)) (now (s .entry)) t) (outerPlayed q rb rf (now (s .entry)) t) (now (proof .entry)) ⌝ }
     ensures draws { λ _. ⌜ now (draws .exit) ≡ drawsFor (outerRoundsRefusal q rb rf (now (proof .entry)) (now (draws .entry)) (now (s .entry)) t) (outerPlayed q rb rf (now (s .entry)) t) (now (draws .entry)) ⌝ }
@@ -189,7 +189,7 @@ pub fn outer_rounds(
 {
     let z = guard::of_outer(q, rb, rf, proof, draws, s, t);
     if z != 0 {
-        return RoundsAnswer {
+        return TranscriptAnswer {
             code: z,
             transcript: t,
         };
@@ -213,7 +213,7 @@ pub fn outer_rounds(
         &mut s[..e],
         t,
     );
-    RoundsAnswer {
+    TranscriptAnswer {
         code: 0,
         transcript: u,
     }

@@ -2,16 +2,18 @@
 -- Assumes nothing.
 use mathlib.Core.Path.{_≡_, refl, sym, ap, _∙_, subst}
 use mathlib.Core.Bool.{Bool, true, false}
-use mathlib.Core.List.{List, []}
+use mathlib.Core.List.{List, [], _∷_, _++_}
 use Prim.Native.Nat.{ℕ, suc, _*_, _/_, _<_, _≤_}
 use native.Mathlib.Omega.{arith}
 use lib.Dec.{ltb}
 use lib.ListN.{length, getD, take, drop}
-use borrow.Author.Tests.{ltb-true, ltb-false}
+use borrow.Author.Tests.{ltb-true, ltb-false, le-ltb}
 use Rattle.magnetar_field.specs.Words.{elements, words}
-use Rattle.magnetar_field.proofs.Elements.{elements-length, elements-below}
+use Rattle.magnetar_field.proofs.Elements.{elements-length, elements-below, words-length}
 use Rattle.magnetar_field.proofs.Tabulation.{tabulate-length, tabulate-get, tabulate-out}
 use Rattle.magnetar_hash.specs.declared.transcript.Transcript.{Transcript}
+use Rattle.magnetar_layout.specs.Tests.{Tests}
+use Rattle.magnetar_layout.proofs.Noted.{Clear, noted-clear}
 use Rattle.magnetar_matrix.specs.Batch.{Relation, Batch, Good, bitOf}
 use Rattle.magnetar_matrix.specs.Packed.{packedBit, loginPart, unpacked}
 use Rattle.magnetar_matrix.specs.Lent.{matrixOf}
@@ -27,11 +29,12 @@ use Rattle.magnetar_protocol.proofs.Stepwise.{proving-length}
 use Rattle.magnetar_protocol.proofs.ProverRun.{proving-words}
 use Rattle.magnetar_protocol.proofs.RealRuns.{completeness-run}
 use Rattle.magnetar_spartan.specs.Rules.{Rules, relationOf}
-use Rattle.magnetar_spartan.specs.Refusals.{claimWords, proofWords}
+use Rattle.magnetar_spartan.specs.Refusals.{ruleTests, counterTests, roomOf, wordTests, claimWords, proofWords, verifierRoom, proverRoom, verifyTests, proveTests}
 use Rattle.magnetar_spartan.specs.Outcome.{batchOf, verifyRefusal, verifyVerdict, verifyOutcome, proveRefusal, proveDraws, proveOutcome}
 use Rattle.magnetar_spartan.specs.Theorems.{AreWords, writtenProof, CompleteCall}
 use Rattle.magnetar_spartan.proofs.SizedRules.{sized-relation}
-use Rattle.magnetar_spartan.proofs.Ended.{Verifiable, verifiable}
+use Rattle.magnetar_spartan.proofs.Ended.{Provable, provable, clear-front, clear-back}
+use Rattle.magnetar_spartan.proofs.Combining.{noted-none, same-fine}
 use Rattle.magnetar_spartan.proofs.Sound.{front, claims-size, returned-words, returned}
 
 -- ---- packed words hold a batch of the relation's sizes
@@ -67,6 +70,10 @@ module _ (q w : ℕ) (ws : List ℕ) where
 pub sized-batch : (R : Rules) (ws : List ℕ) → SizedBatch (relationOf R) (batchOf R ws)
 sized-batch R ws = record { logins = many (R .q) (R .m / 2) ws; columns = wide (R .q) (R .m / 2) ws; bits = bits-below (R .q) (R .m / 2) ws }
 
+clear-join : (a b : Tests) → Clear a → Clear b → Clear (a ++ b)
+clear-join [] b p q = q
+clear-join (t ∷ a) b p q = (p .0, clear-join a b (p .1) q)
+
 module _ (R : Rules) (ws x : List ℕ) (t : Transcript) (w c s : List ℕ) where
   abbrev handed : List ℕ
   handed = writtenProof R ws x t w c s
@@ -97,6 +104,54 @@ module _ (R : Rules) (ws x : List ℕ) (t : Transcript) (w c s : List ℕ) where
   claims-handed hp h =
       rw hp (front (proverClaims (relationOf R) (batchOf R ws) (proverDraws (relationOf R) (batchOf R ws) (elements x) t)) (drop (claimWords R) c) (claimWords R) h)
 
+  -- the verifier's tests 1 to 14 are among the prover's, and its 15 and 16 are these three
+  unrefused : (p c′ s′ : List ℕ) → proveRefusal R ws x t w c s ≡ 0 → claimWords R ≤ length c′ → verifierRoom R ≤ length s′
+      → length p ≡ proofWords R → verifyRefusal R x p t c′ s′ ≡ 0
+  unfolding proveRefusal verifyRefusal
+  unrefused p c′ s′ hp hc hs hw =
+      let n = t .«squeeze_ctr» in
+      let k = noted-clear 0 (proveTests R ws x n (length w) (length c) (length s)) refl hp .1 in
+      let rest : Tests = counterTests n ++ (roomOf (proofWords R) (length w) ++ (roomOf (claimWords R) (length c) ++ roomOf (proverRoom R) (length s))) in
+      let others : Tests = counterTests n ++ (roomOf (claimWords R) (length c′) ++ (roomOf (verifierRoom R) (length s′) ++ wordTests (proofWords R) p)) in
+      let rules = clear-front (ruleTests R) rest (k .1 .1 .1 .1) in
+      let counter = clear-back (ruleTests R) rest (k .1 .1 .1 .1) .0 in
+      noted-none (verifyTests R x p n (length c′) (length s′)) (
+        k .0,
+        (
+          k .1 .0,
+          (
+            k .1 .1 .1 .0,
+            clear-join (ruleTests R) others rules
+                (counter, (le-ltb (length c′) (claimWords R) hc, (le-ltb (length s′) (verifierRoom R) hs, (same-fine (length p) (proofWords R) hw, tt)))),
+          ),
+        ),
+      )
+
+  -- the words of the written proof are those that the prover sent, as many as a proof has
+  module _ (wx : AreWords x) (hp : proveRefusal R ws x t w c s ≡ 0) where
+    able : Provable R ws x (length w) (length c) (length s) (t .«squeeze_ctr»)
+    able = provable R ws x (t .«squeeze_ctr») (length w) (length c) (length s) (unfold proveRefusal in hp)
+
+    relation : SizedRelation (relationOf R)
+    relation = sized-relation R (able .ready .columns) (able .ready .logins) (able .ready .fine)
+
+    public : suc (length (elements x)) ≡ R .m / 2
+    public = omega (arith, elements-length x, able .public, able .ready .columns .low)
+
+    size : proofWords R ≡ 2 * length said
+    size = unfold sentWords systemOf matrixOf in ap (λ (n : ℕ). 2 * n)
+        (sym (proving-length (relationOf R) (batchOf R ws) (elements x) t)
+        ∙ ap length (proving-words (relationOf R) (batchOf R ws) (elements x) t relation (sized-batch R ws) public (elements-below x wx)))
+
+    written : length handed ≡ proofWords R
+    written = ap length (handed-is hp size) ∙ words-length said ∙ sym size
+
+  -- A verifier with room enough for the claims and its scratch is refused by none of 1 to 17 what the prover has written.
+  pub verify-unrefused : (c′ s′ : List ℕ) → AreWords x → proveRefusal R ws x t w c s ≡ 0
+      → claimWords R ≤ length c′ → verifierRoom R ≤ length s′
+      → verifyRefusal R x (writtenProof R ws x t w c s) t c′ s′ ≡ 0
+  verify-unrefused c′ s′ wx hp hc hs = unrefused handed c′ s′ hp hc hs (written wx hp)
+
   -- Wherever neither end is refused by 1 to 16: of a good batch with no bit outside the segments the verifier accepts what the prover has
   -- written, and both ends agree.
   pub verify-complete : (c′ s′ : List ℕ) → AreWords x
@@ -112,24 +167,11 @@ module _ (R : Rules) (ws x : List ℕ) (t : Transcript) (w c s : List ℕ) where
       b : Batch
       b = batchOf R ws
 
-      fits : Verifiable R x handed (length c′) (length s′)
-      fits = verifiable R x handed (t .«squeeze_ctr») (length c′) (length s′) (unfold verifyRefusal in hv)
-
-      relation : SizedRelation r
-      relation = sized-relation R (fits .ready .columns) (fits .ready .logins) (fits .ready .fine)
-
-      public : suc (length (elements x)) ≡ R .m / 2
-      public = omega (arith, elements-length x, fits .public, fits .ready .columns .low)
-
       agrees : Agrees r b (elements x) t
-      agrees = completeness-run r b (elements x) t relation (sized-batch R ws) public (elements-below x wx) good stray
-
-      size : proofWords R ≡ 2 * length said
-      size = unfold sentWords systemOf matrixOf in ap (λ (n : ℕ). 2 * n)
-          (sym (proving-length r b (elements x) t) ∙ ap length (proving-words r b (elements x) t relation (sized-batch R ws) public (elements-below x wx)))
+      agrees = completeness-run r b (elements x) t (relation wx hp) (sized-batch R ws) (public wx hp) (elements-below x wx) good stray
 
       given : elements handed ≡ said
-      given = ap elements (handed-is hp size) ∙ elements-words said
+      given = ap elements (handed-is hp (size wx hp)) ∙ elements-words said
 
       accepted : verifyOutcome R x handed t c′ s′ .code ≡ 0
       accepted = accepted-of handed c′ s′ hv given (agrees .accepted)
@@ -147,3 +189,11 @@ module _ (R : Rules) (ws x : List ℕ) (t : Transcript) (w c s : List ℕ) where
 
       ends : verifyOutcome R x handed t c′ s′ .transcript ≡ proveOutcome R ws x t w c s .transcript
       ends = transcripts handed c′ s′ hv given hp (agrees .same-transcript)
+
+  -- Both in one: where the prover is not refused, and the verifier has room enough, a good batch with no bit outside the segments is
+  -- accepted, and both ends agree.
+  pub verify-accepts : (c′ s′ : List ℕ) → AreWords x → proveRefusal R ws x t w c s ≡ 0
+      → claimWords R ≤ length c′ → verifierRoom R ≤ length s′
+      → Good (relationOf R) (batchOf R ws) (elements x) → NoBitOutside (relationOf R) (batchOf R ws)
+      → CompleteCall R ws x t w c s c′ s′
+  verify-accepts c′ s′ wx hp hc hs = verify-complete c′ s′ wx hp (verify-unrefused c′ s′ wx hp hc hs)

@@ -36,7 +36,7 @@ use Rattle.magnetar_protocol.specs.Stepwise.{Steps, begin, innerRun, segmentVal
 use Rattle.magnetar_protocol.proofs.Splits.{combined-split, logins-split}
 use Rattle.magnetar_protocol.proofs.Stepwise.{goes-inner, inner-drawn-length, inner-said-length}
 use Rattle.magnetar_rounds.specs.Entries.{counterTest, innerRoundsRefusal, innerPlayed, answerFor, proofFor, drawsFor}
-use Rattle.magnetar_rounds.specs.declared.answer.RoundsAnswer.{RoundsAnswer}
+use Rattle.magnetar_hash.specs.declared.transcript.TranscriptAnswer.{TranscriptAnswer}
 use Rattle.magnetar_spartan.specs.Rules.{Rules, relationOf}
 use Rattle.magnetar_spartan.specs.Ready.{Ready, FoldReady, InnerReady}
 use Rattle.magnetar_spartan.specs.Outcome.{batchOf}
@@ -139,14 +139,14 @@ module _ (m q rb rf l b f : ℕ) (ns x w d s : List ℕ) (t : Transcript) (el : 
   unfolding innerPlayed
   said-many = inner-said-many (outline m 1 1 1 ns) (elements (take (2 * m) s)) (elements (take m (drop (2 * m) s))) (elements x) t
 
-  pub finish-left : (A : RoundsAnswer) (w′ d′ : List ℕ) → A ≡ answerFor z P t → w′ ≡ proofFor z P W → d′ ≡ drawsFor z P D
+  pub finish-left : (A : TranscriptAnswer) (w′ d′ : List ℕ) → A ≡ answerFor z P t → w′ ≡ proofFor z P W → d′ ≡ drawsFor z P D
       → (A .transcript ≡ P .played .transcript)
       × ((putMid a (length w - a) w w′ ≡ take (2 * beforeInner (outline m q rb rf ns)) w ++ words (P .said))
       × (putMid k (length d - k) d d′ ≡ take (2 * (drawCount (outline m q rb rf ns) - logCols (outline m q rb rf ns))) d ++ words (P .played .draws)))
   finish-left A w′ d′ eA ew ed =
       let pw : a ≡ 2 * beforeInner (outline m q rb rf ns) = omega (arith, el, eb, ef) in
       let pd : k ≡ 2 * (drawCount (outline m q rb rf ns) - logCols (outline m q rb rf ns)) = omega (arith, el, eb, ef) in (
-        ap (λ (y : RoundsAnswer). y .transcript) eA ∙ rw fine,
+        ap (λ (y : TranscriptAnswer). y .transcript) eA ∙ rw fine,
         (
           laid-behind w w′ (words (P .said)) a z (omega (arith, pw, hw)) fine ew (rw words-length (omega (arith, pw, hw, said-many))) ∙ ap (λ (n : ℕ). take n w ++ words (P .said)) pw,
           laid-behind d d′ (words (P .played .draws)) k z (omega (arith, pd, hd)) fine ed (rw words-length (omega (arith, pd, hd, drawn-many))) ∙ ap (λ (n : ℕ). take n d ++ words (P .played .draws)) pd,

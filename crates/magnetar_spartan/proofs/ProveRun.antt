@@ -29,7 +29,7 @@ use Rattle.magnetar_protocol.proofs.Blocks.{claims-outlined}
 use Rattle.magnetar_protocol.proofs.Stepwise.{outer-proving-said, outer-proving-count}
 use Rattle.magnetar_protocol.proofs.ProverRun.{proving-words, proving-claims}
 use Rattle.magnetar_rounds.specs.Entries.{tablesIn, counterTest, answerFor, proofFor, drawsFor, countTests, totalTests, outerDrawn, outerSaid, blockWords, tablesOf, outerRoundsRefusal, outerPlayed}
-use Rattle.magnetar_rounds.specs.declared.answer.RoundsAnswer.{RoundsAnswer}
+use Rattle.magnetar_hash.specs.declared.transcript.TranscriptAnswer.{TranscriptAnswer}
 use Rattle.magnetar_rounds.specs.Whole.{outerWhole}
 use Rattle.magnetar_rounds.proofs.Joined.{whole-is}
 use Rattle.magnetar_checks.specs.Outer.{runTests, segmentTests, drawTests, proofTests}
@@ -140,7 +140,7 @@ module _ (R : Rules) (P : Ready R) (ws x : List ℕ) (t : Transcript) where
   unfolding systemOf matrixOf
   drawn-front d h = laid (O .played .draws) d (drawsBefore R) (ap (λ (n : ℕ). 2 * n) (outer-proving-count r b (elements x) t)) (omega (arith, h))
 
-  pub outer-left : (a : RoundsAnswer) (w w′ d d′ s : List ℕ) → length w ≡ proofWords R → length d ≡ 2 * drawCount o
+  pub outer-left : (a : TranscriptAnswer) (w w′ d d′ s : List ℕ) → length w ≡ proofWords R → length d ≡ 2 * drawCount o
       → blockWords (R .q) (R .bin .a .rows) (R .fld .a .rows) ≤ length s → t .«squeeze_ctr» < 2 ^ 32
       → tablesOf (R .q) (R .bin .a .rows) (R .fld .a .rows) s ≡ productTables r b (elements x)
       → a ≡ answerFor (outerRoundsRefusal (R .q) (R .bin .a .rows) (R .fld .a .rows) w d s t) (outerPlayed (R .q) (R .bin .a .rows) (R .fld .a .rows) s t) t
@@ -151,7 +151,7 @@ module _ (R : Rules) (P : Ready R) (ws x : List ℕ) (t : Transcript) where
   outer-left a w w′ d d′ s hw hd hs ht e ha hp hq =
       let z = outer-none w d s hw hd hs ht in
       let p = outer-is s e in
-      (ap (λ (y : RoundsAnswer). y .transcript) ha ∙ rw (z, p) refl, rw (hp, z, p) (said-front w hw), rw (hq, z, p) (drawn-front d hd))
+      (ap (λ (y : TranscriptAnswer). y .transcript) ha ∙ rw (z, p) refl, rw (hp, z, p) (said-front w hw), rw (hq, z, p) (drawn-front d hd))
 
   -- ---- the whole run
   module _ (u : Transcript) (w d : List ℕ) (L : OuterLeft R ws x t u w d) where
@@ -161,7 +161,7 @@ module _ (R : Rules) (P : Ready R) (ws x : List ℕ) (t : Transcript) where
     unfolding claimsRefusal
     claims-none w′ d′ c hw hd hc =
         noted-none (runTests (R .m) (R .q) (R .bin .a .rows) (R .fld .a .rows) ++ (segmentTests (R .lengths) ++ (drawTests o d′ ++ (roomTest (2 * claimCount o) c ++ proofTests o w′))))
-        (sizes-fine R P (segmentTests (R .lengths) ++ (drawTests o d′ ++ (roomTest (2 * claimCount o) c ++ proofTests o w′))) (most-fine 64 (length (R .lengths)) (P .fine .segments), (most-fine (length d′) (2 * drawCount o) (omega (arith, hd)), (most-fine (length c) (2 * claimCount o) (omega (arith, hc)), (same-fine (length w′) (2 * proofElements o) hw, tt)))))
+        (sizes-fine R P (segmentTests (R .lengths) ++ (drawTests o d′ ++ (roomTest (2 * claimCount o) c ++ proofTests o w′))) (most-fine 64 (length (R .lengths)) (P .fine .segments), (same-fine (length d′) (2 * drawCount o) hd, (most-fine (length c) (2 * claimCount o) (omega (arith, hc)), (same-fine (length w′) (2 * proofElements o) hw, tt)))))
 
     pub run-left : (v : Transcript) (w′ d′ c c′ : List ℕ) → SizedRelation r → SizedBatch r b → suc (length (elements x)) ≡ R .m / 2
         → Elements (elements x) → v ≡ laterTranscript R ws x d u → w′ ≡ laterProof R ws x d u w → d′ ≡ laterDraws R ws x d u

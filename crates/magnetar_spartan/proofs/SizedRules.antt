@@ -14,7 +14,7 @@ use Rattle.magnetar_layout.specs.Tests.{Sized}
 use Rattle.magnetar_matrix.specs.Lent.{entriesOf, matrixOf}
 use Rattle.magnetar_r1cs.proofs.Lone.{all-inside}
 use Rattle.magnetar_matrix.proofs.Walked.{entries-end}
-use Rattle.magnetar_protocol.specs.RunSizes.{Power, SizedMatrix, SizedSystem, SizedRelation}
+use Rattle.magnetar_protocol.specs.RunSizes.{SizedMatrix, SizedSystem, SizedRelation}
 use Rattle.magnetar_spartan.specs.Rules.{Rules, relationOf}
 use Rattle.magnetar_batch.specs.Systems.{Lent3, systemOf}
 use Rattle.magnetar_spartan.specs.Ready.{FineMatrix, FineSystem, Fine}
@@ -24,9 +24,6 @@ entries-few : (r c l h : List ℕ) → length (entriesOf r c l h) ≤ length r
 entries-few r c l h =
     let e : length (drop (length r) (entriesOf r c l h)) ≡ 0 = ap length (entries-end r c l h (length r) (omega arith)) in
     omega (arith, sym (length-drop (length r) (entriesOf r c l h)) ∙ e)
-
-power-of : {least most n : ℕ} → Sized least most n → Power least most n
-power-of z = record { low = z .low; high = z .high; power = z .power }
 
 sized-matrix : (n m : ℕ) (a : Lent) → FineMatrix n m a → SizedMatrix n m (matrixOf a)
 unfolding matrixOf
@@ -40,7 +37,7 @@ sized-matrix n m a f = record {
 sized-system : (m q : ℕ) (s : Lent3) → FineSystem m q s → SizedSystem m q (systemOf s)
 unfolding matrixOf systemOf
 sized-system m q s f = record {
-  rows = power-of (f .rows);
+  rows = f .rows;
   total = f .total;
   a = sized-matrix (s .a .rows) m (s .a) (f .a);
   b = sized-matrix (s .a .rows) m (s .b) (f .b);
@@ -52,8 +49,8 @@ sound-layout R z f = record { small = omega (arith, z .high); power = half-power
 
 pub sized-relation : (R : Rules) → Sized 2 65536 (R .m) → Sized 1 4096 (R .q) → Fine R → SizedRelation (relationOf R)
 sized-relation R z y f = record {
-  columns = power-of z;
-  logins = power-of y;
+  columns = z;
+  logins = y;
   bin = sized-system (R .m) (R .q) (R .bin) (f .bin);
   fld = sized-system (R .m) (R .q) (R .fld) (f .fld);
   layout = sound-layout R z f;

@@ -52,8 +52,8 @@ module _ (R : Rules) (P : Ready R) (x w d : List ℕ) (t : Transcript) (claim ro
   parts : drawsOf o (elements d) ≡ drawsOf (relationOf R) D
   parts = ap (drawsOf o) els ∙ sym (draws-is R D)
 
-  draws-fit : 2 * drawCount o ≤ length d
-  draws-fit = omega (arith, L .draws)
+  draws-fit : length d ≡ 2 * drawCount o
+  draws-fit = L .draws
 
   proof-fits : length w ≡ 2 * proofElements o
   proof-fits = L .proof
@@ -63,7 +63,7 @@ module _ (R : Rules) (P : Ready R) (x w d : List ℕ) (t : Transcript) (claim ro
   unfolding outerChecksRefusal
   outer-none =
       noted-none (runTests (R .m) (R .q) (R .bin .a .rows) (R .fld .a .rows) ++ (segmentTests (R .lengths) ++ (drawTests o d ++ proofTests o w)))
-      (sizes-fine R P (segmentTests (R .lengths) ++ (drawTests o d ++ proofTests o w)) (most-fine 64 (length (R .lengths)) (P .fine .segments), (most-fine (length d) (2 * drawCount o) draws-fit, (same-fine (length w) (2 * proofElements o) proof-fits, tt))))
+      (sizes-fine R P (segmentTests (R .lengths) ++ (drawTests o d ++ proofTests o w)) (most-fine 64 (length (R .lengths)) (P .fine .segments), (same-fine (length d) (2 * drawCount o) draws-fit, (same-fine (length w) (2 * proofElements o) proof-fits, tt))))
 
   outer-checks-are : checked.outerChecks o (elements w) (drawsOf o (elements d)) ≡ outerOf R x w t
   unfolding checked.outerChecks
@@ -98,7 +98,7 @@ module _ (R : Rules) (P : Ready R) (x w d : List ℕ) (t : Transcript) (claim ro
                         (
                           most-fine 64 (length (R .lengths)) (P .fine .segments),
                           (
-                            most-fine (length d) (2 * drawCount o) draws-fit,
+                            same-fine (length d) (2 * drawCount o) draws-fit,
                             (
                               most-fine (length s) (4 * R .m) h,
                               (same-fine (length w) (2 * proofElements o) proof-fits, tt),
@@ -151,7 +151,7 @@ module _ (R : Rules) (P : Ready R) (x w d : List ℕ) (t : Transcript) (claim ro
   unfolding claimsRefusal
   claims-none c h =
       noted-none (runTests (R .m) (R .q) (R .bin .a .rows) (R .fld .a .rows) ++ (segmentTests (R .lengths) ++ (drawTests o d ++ (roomTest (2 * claimCount o) c ++ proofTests o w))))
-      (sizes-fine R P (segmentTests (R .lengths) ++ (drawTests o d ++ (roomTest (2 * claimCount o) c ++ proofTests o w))) (most-fine 64 (length (R .lengths)) (P .fine .segments), (most-fine (length d) (2 * drawCount o) draws-fit, (most-fine (length c) (2 * claimCount o) (omega (arith, h)), (same-fine (length w) (2 * proofElements o) proof-fits, tt)))))
+      (sizes-fine R P (segmentTests (R .lengths) ++ (drawTests o d ++ (roomTest (2 * claimCount o) c ++ proofTests o w))) (most-fine 64 (length (R .lengths)) (P .fine .segments), (same-fine (length d) (2 * drawCount o) draws-fit, (most-fine (length c) (2 * claimCount o) (omega (arith, h)), (same-fine (length w) (2 * proofElements o) proof-fits, tt)))))
 
   claims-is : claims o (elements w) (elements d) ≡ claims (relationOf R) (elements w) D
   claims-is = ap (claims o (elements w)) els ∙ ap (λ (r : Relation). claims r (elements w) D) (sym (sizes-are R)) ∙ sym (claims-outlined (relationOf R) (elements w) D)

@@ -18,14 +18,13 @@ use Rattle.magnetar_protocol.specs.Proof.{innerRounds, valueZ, terminals}
 use Rattle.magnetar_protocol.specs.Draws.{Draws, drawsOf, drawCount}
 use Rattle.magnetar_protocol.specs.Schedule.{Event, schedule, outline}
 use Rattle.magnetar_protocol.specs.Play.{Played, playedFrom}
-use Rattle.magnetar_protocol.specs.Checks.{Check, firstRefusal, firstStop, sharedChecks, rowChecks, terminalChecks, innerClaim, combined}
+use Rattle.magnetar_protocol.specs.Checks.{Check, firstRefusal, firstStop, sharedChecks, rowChecks, terminalChecks, innerChecks, innerClaim, combined}
 use Rattle.magnetar_protocol.specs.Run.{verdict}
 use Rattle.magnetar_protocol.specs.RealRun.{verifierDraws, verifierTranscript, stop}
 use Rattle.magnetar_protocol.proofs.Phases.{Numbered}
 use Rattle.magnetar_protocol.proofs.Counts.{heard-count, schedule-length}
 use Rattle.magnetar_protocol.proofs.Blocks.{outerChecks, laterChecks, later-numbered, verdict-blocks, run-stop-blocks, stop-append, stop-accepted, outlined, schedule-outlined, draws-outlined, shared-outlined, rows-outlined, terminals-outlined, identity-outlined}
 use Rattle.magnetar_checks.specs.End.{endChecks}
-use Rattle.magnetar_checks.proofs.EndPhases.{end-combined}
 use Rattle.magnetar_spartan.specs.Rules.{Rules, relationOf}
 use Rattle.magnetar_field.proofs.Log2.{log₂-lt}
 use Rattle.magnetar_spartan.specs.Ready.{Ready}
@@ -64,28 +63,15 @@ module _ (R : Rules) (w : List ℕ) (t : Transcript) where
       count : drawCount (relationOf R) ≡ drawCount (sizesOf R)
       count = unfold systemOf matrixOf in refl
 
--- ---- the checks of the rounds read no public column
-shared-free : (r : Relation) (x y w : List ℕ) (D : Draws) (i n : ℕ) → sharedChecks r x w D i n ≡ sharedChecks r y w D i n
-unfolding sharedChecks
-shared-free r x y w D i zero = refl
-shared-free r x y w D i (suc n) = rw (shared-free r x y w D (suc i) n)
-
+-- ---- the outer checks
 module _ (R : Rules) (x w : List ℕ) (D : Draws) where
-  pub outer-is : sharedChecks (sizesOf R) [] w D 0 (logLogins (sizesOf R)) ++ (rowChecks (sizesOf R) [] w D ++ terminalChecks (sizesOf R) [] w D)
+  pub outer-is : sharedChecks (sizesOf R) w D 0 (logLogins (sizesOf R)) ++ (rowChecks (sizesOf R) w D ++ terminalChecks (sizesOf R) w D)
       ≡ outerChecks (relationOf R) x w D
   outer-is =
-      outlines (λ (r : Relation). sharedChecks r [] w D 0 (logLogins r) ++ (rowChecks r [] w D ++ terminalChecks r [] w D))
-      ∙ sym (ap₂ _++_ (shared-outlined (relationOf R) [] w D 0 (logLogins (relationOf R)))
-      (ap₂ _++_ (rows-outlined (relationOf R) [] w D) (terminals-outlined (relationOf R) [] w D)))
-      ∙ ap₂ _++_ (shared-free (relationOf R) [] x w D 0 (logLogins (relationOf R)))
-      (ap₂ _++_ rows-free terminals-free)
+      outlines (λ (r : Relation). sharedChecks r w D 0 (logLogins r) ++ (rowChecks r w D ++ terminalChecks r w D))
+      ∙ sym (ap₂ _++_ (shared-outlined (relationOf R) x w D 0 (logLogins (relationOf R)))
+      (ap₂ _++_ (rows-outlined (relationOf R) x w D) (terminals-outlined (relationOf R) x w D)))
     where
-      rows-free : rowChecks (relationOf R) [] w D ≡ rowChecks (relationOf R) x w D
-      rows-free = unfold rowChecks in refl
-
-      terminals-free : terminalChecks (relationOf R) [] w D ≡ terminalChecks (relationOf R) x w D
-      terminals-free = unfold terminalChecks in refl
-
       outlines : (f : Relation → List Check) → f (sizesOf R) ≡ f (outlined (relationOf R))
       outlines f = ap f (sym (sizes-are R))
 
@@ -158,14 +144,14 @@ module _ (R : Rules) (x w : List ℕ) (t : Transcript) where
 
 -- ---- the later checks, over a table that is the combined one
 end-outlined : (r : Relation) (x w : List ℕ) (D : Draws) (T : List ℕ) → endChecks r x w D T ≡ endChecks (outlined r) x w D T
-unfolding endChecks innerClaim innerRounds valueZ terminals
+unfolding endChecks innerChecks innerClaim innerRounds valueZ terminals
 end-outlined r x w D T = rw (identity-outlined r x w D)
 
 pub later-is : (R : Rules) (x w : List ℕ) (D : Draws) (T : List ℕ) → T ≡ combined (relationOf R) D
     → endChecks (sizesOf R) x w D T ≡ laterChecks (relationOf R) x w D
 later-is R x w D T e =
     ap (λ (r : Relation). endChecks r x w D T) (sym (sizes-are R)) ∙ sym (end-outlined (relationOf R) x w D T)
-    ∙ ap (endChecks (relationOf R) x w D) e ∙ end-combined (relationOf R) x w D
+    ∙ unfold endChecks in ap (endChecks (relationOf R) x w D) e
 
 -- ---- a schedule is short
 pub schedule-small : (R : Rules) → Ready R → length (schedule (sizesOf R)) ≤ 65536

@@ -3,18 +3,19 @@
 -- Assumes nothing.
 use mathlib.Core.Path.{_≡_}
 use mathlib.Core.List.{List}
-use Prim.Native.Nat.{ℕ, _^_, _<_}
-use lib.ListN.{getD, take}
+use Prim.Native.Nat.{_^_}
+use lib.ListN.{take}
 use Rattle.magnetar_field.specs.Words.{elements}
 use Rattle.magnetar_hash.specs.declared.transcript.Transcript.{Transcript}
 use Rattle.magnetar_protocol.specs.Run.{ClaimsTrue}
+use Rattle.magnetar_protocol.specs.RunSizes.{EachBelow}
 use Rattle.magnetar_spartan.specs.Rules.{Rules, relationOf}
 use Rattle.magnetar_spartan.specs.Refusals.{claimWords, proofWords}
 use Rattle.magnetar_spartan.specs.Outcome.{batchOf, verifyOutcome, proveOutcome}
 
 -- every number is a word
 abbrev pub AreWords : List ℕ → Type 0
-AreWords l = (i : ℕ) → getD l i 0 < 2 ^ 64
+AreWords l = EachBelow (2 ^ 64) l
 
 -- a call of the prover: rules R, packed words ws, public words x, transcript t, and the buffers w, c, s for proof, claims and scratch
 module _ (R : Rules) (ws x : List ℕ) (t : Transcript) (w c s : List ℕ) where

@@ -171,7 +171,7 @@ module _ (F : Field) where
         λ h₆. ap (badChallenges F (tableRounds F (innerCells F))
         (record {
           tops = 0;
-          rows = suc (R .logHalf);
+          lows = suc (R .logHalf);
           cells = zipInner F
               (combo F R (take (R .bin .logRows) (p₃ p)) (take (R .fld .logRows) (p₄ p)) (take 6 (p₅ p)))
               (folded F R x ws (take s (p₂ p)));

@@ -25,7 +25,7 @@ module _ (F : Field) where
     Found c ds al = (k : ℕ) × (k < length al) × List·Memᴰ (getD al k 𝟎) (lastRoots F c ds (take k al))
 
     regroup : (c a d s : K) → (c ⊕ a ⊗ d) ⊕ s ≡ c ⊕ (a ⊗ d ⊕ s)
-    regroup c a d s = L .laws .add-assoc c (a ⊗ d) s
+    regroup c a d s = L .is-ring .add-assoc c (a ⊗ d) s
 
     -- a polynomial whose second coefficient is not zero is not zero
     sloped : (c d : K) → same d 𝟎 ≡ false → allZero F (c ∷ d ∷ []) ≡ false
@@ -39,17 +39,17 @@ module _ (F : Field) where
     slope-root c d a h = go (same d 𝟎) refl
       where
         alone : (c a : K) → c ⊕ a ⊗ 𝟎 ≡ c
-        alone c a = simp (ring, L .laws)
+        alone c a = simp (ring, L .is-ring)
 
         go : (b : Bool) → same d 𝟎 ≡ b → ((c ≡ 𝟎) × (d ≡ 𝟎)) ⊎ List·Memᴰ a (cond b [] (roots (c ∷ d ∷ [])))
-        go true e = let z : d ≡ 𝟎 = L .laws .same-true d 𝟎 e in inl (sym (alone c a) ∙ ap (λ (v : K). c ⊕ a ⊗ v) (sym z) ∙ h, z)
+        go true e = let z : d ≡ 𝟎 = L .is-ring .same-true d 𝟎 e in inl (sym (alone c a) ∙ ap (λ (v : K). c ⊕ a ⊗ v) (sym z) ∙ h, z)
         go false e = inr (L .root-listed (c ∷ d ∷ []) a (sloped c d e) (eval-line F L c d a ∙ h))
 
     last-root : (c d a : K) (ds : List K) → Zeros F ds → c ⊕ a ⊗ d ≡ 𝟎 → ((c ≡ 𝟎) × (d ≡ 𝟎)) ⊎ List·Memᴰ a (lastRoots F c (d ∷ ds) [])
     last-root c d a ds z h = rw (all-zero F L ds z) (slope-root c d a h)
 
     search-last : (al ds : List K) (c : K) → length al ≡ length ds → c ⊕ dot F al ds ≡ 𝟎 → ((c ≡ 𝟎) × Zeros F ds) ⊎ Found c ds al
-    search-last [] [] c l e = inl (sym (L .laws .add-zero c) ∙ e, tt)
+    search-last [] [] c l e = inl (sym (L .is-ring .add-zero c) ∙ e, tt)
     search-last [] (d ∷ ds) c l e = absurd (omega arith)
     search-last (a ∷ al) [] c l e = absurd (omega arith)
     search-last (a ∷ al) (d ∷ ds) c l e = go (search-last al ds (c ⊕ a ⊗ d) (omega arith) (regroup c a d (dot F al ds) ∙ e))
@@ -77,22 +77,22 @@ module _ (F : Field) where
     dot-diffs [] vs ts l = zero-sum
       where
         zero-sum : 𝟎 ≡ 𝟎 ⊕ 𝟎
-        zero-sum = simp (ring, L .laws)
-    dot-diffs (a ∷ al) [] [] l = simp (ring, L .laws)
+        zero-sum = simp (ring, L .is-ring)
+    dot-diffs (a ∷ al) [] [] l = simp (ring, L .is-ring)
     dot-diffs (a ∷ al) [] (t ∷ ts) l = absurd (omega arith)
     dot-diffs (a ∷ al) (v ∷ vs) [] l = absurd (omega arith)
     dot-diffs (a ∷ al) (v ∷ vs) (t ∷ ts) l = ap (λ (w : K). a ⊗ (v ⊕ t) ⊕ w) (dot-diffs al vs ts (omega arith))
         ∙ terms a v t (dot F al vs) (dot F al ts)
       where
         terms : (a v t p q : K) → a ⊗ (v ⊕ t) ⊕ (p ⊕ q) ≡ (a ⊗ v ⊕ p) ⊕ (a ⊗ t ⊕ q)
-        terms a v t p q = simp (ring, L .laws)
+        terms a v t p q = simp (ring, L .is-ring)
 
     pub alpha-sound : (al vs ts : List K) → length al ≡ length vs → length vs ≡ length ts → dot F al vs ≡ dot F al ts → (vs ≡ ts)
         ⊎ BadAlpha F vs ts al
     alpha-sound al vs ts l k e = go (search-last al (diffs F vs ts) 𝟎 (l ∙ sym (length-diffs vs ts k)) zero-dot)
       where
         double : (x : K) → 𝟎 ⊕ (x ⊕ x) ≡ 𝟎
-        double x = simp (ring, L .laws)
+        double x = simp (ring, L .is-ring)
 
         zero-dot : 𝟎 ⊕ dot F al (diffs F vs ts) ≡ 𝟎
         zero-dot = ap (λ (w : K). 𝟎 ⊕ w) (dot-diffs al vs ts k ∙ ap (λ (w : K). w ⊕ dot F al ts) e) ∙ double (dot F al ts)

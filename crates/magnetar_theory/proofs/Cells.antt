@@ -13,21 +13,21 @@ module _ (F : Field) where
   infixl 70 _⊗_
   module _ (L : Laws F) where
     pub mix-zero : (x y : K) → lineAt F 𝟎 x y ≡ x
-    mix-zero x y = simp (ring, L .laws, lineAt)
+    mix-zero x y = simp (ring, L .is-ring, lineAt)
 
     pub mix-one : (x y : K) → lineAt F 𝟏 x y ≡ y
-    mix-one x y = simp (ring, L .laws, lineAt)
+    mix-one x y = simp (ring, L .is-ring, lineAt)
 
     cubic-is : (e e′ a a′ b b′ c c′ r : K) → eval F (cubic F e e′ a a′ b b′ c c′) r
         ≡ (e ⊕ r ⊗ e′) ⊗ ((a ⊕ r ⊗ a′) ⊗ (b ⊕ r ⊗ b′) ⊕ (c ⊕ r ⊗ c′))
-    cubic-is e e′ a a′ b b′ c c′ r = simp (ring, L .laws, eval)
+    cubic-is e e′ a a′ b b′ c c′ r = simp (ring, L .is-ring, eval)
 
     quadratic-is : (t t′ z z′ r : K) → eval F (quadratic F t t′ z z′) r ≡ (t ⊕ r ⊗ t′) ⊗ (z ⊕ r ⊗ z′)
-    quadratic-is t t′ z z′ r = simp (ring, L .laws, eval)
+    quadratic-is t t′ z z′ r = simp (ring, L .is-ring, eval)
 
     pub outerCellLaws : CellLaws F (outerCells F)
     outerCellLaws = record {
-      none-zero = simp (ring, L .laws);
+      none-zero = simp (ring, L .is-ring);
       line-term = λ x y r. cubic-is (x .e) (x .e ⊕ y .e) (x .a) (x .a ⊕ y .a) (x .b) (x .b ⊕ y .b) (x .c) (x .c ⊕ y .c) r;
       mix-zero = λ x y i. record {
         a = mix-zero (x .a) (y .a) i;
@@ -47,7 +47,7 @@ module _ (F : Field) where
 
     pub innerCellLaws : CellLaws F (innerCells F)
     innerCellLaws = record {
-      none-zero = simp (ring, L .laws);
+      none-zero = simp (ring, L .is-ring);
       line-term = λ x y r. quadratic-is (x .t) (x .t ⊕ y .t) (x .z) (x .z ⊕ y .z) r;
       mix-zero = λ x y i. record { t = mix-zero (x .t) (y .t) i; z = mix-zero (x .z) (y .z) i };
       mix-one = λ x y i. record { t = mix-one (x .t) (y .t) i; z = mix-one (x .z) (y .z) i };

@@ -59,10 +59,10 @@ module _ (F : Field) (X : Cells F) where
         ∙ ap₂ (mixLists F r) (map-take f (2 ^ (s + b)) t) (map-drop f (2 ^ (s + b)) t)
 
     pub run : (rs : List K) (S : State F X) → map f ((bindAll F (tableRounds F X) rs S) .cells)
-        ≡ bindRun F (S .tops) (S .rows) rs (map f (S .cells))
+        ≡ bindRun F (S .tops) (S .lows) rs (map f (S .cells))
     run [] S = refl
     run (r ∷ rs) S = run rs (tableRounds F X .bind r S)
-        ∙ ap (bindRun F (less (S .tops)) (S .rows) rs) (next (S .tops) (S .rows) r (S .cells))
+        ∙ ap (bindRun F (less (S .tops)) (S .lows) rs) (next (S .tops) (S .lows) r (S .cells))
 
     pub first-column : (t : List C) → f (firstCell t) ≡ first F (map f t)
     first-column [] = D .at-none
@@ -96,13 +96,13 @@ module _ (F : Field) (X : Cells F) where
   )
 
   low-end : (b : ℕ) (cs : List K) (t : List C) → length t ≤ 2 ^ length cs
-      → length ((bindAll F (tableRounds F X) cs (record { tops = 0; rows = b; cells = t })) .cells) ≤ 1
+      → length ((bindAll F (tableRounds F X) cs (record { tops = 0; lows = b; cells = t })) .cells) ≤ 1
   low-end b [] t h = h
   low-end b (c ∷ cs) t h = low-end b cs (mixAll F X c (lowPairs F X t))
       (omega (arith, length-mixAll c (lowPairs F X t), length-low t (2 ^ length cs) (omega (arith, two-pow-succ (length cs)))))
 
   pub run-end : (rs cs : List K) (t : List C) → length t ≤ 2 ^ (length rs + length cs)
-      → length ((bindAll F (tableRounds F X) (rs ++ cs) (record { tops = length rs; rows = length cs; cells = t })) .cells) ≤ 1
+      → length ((bindAll F (tableRounds F X) (rs ++ cs) (record { tops = length rs; lows = length cs; cells = t })) .cells) ≤ 1
   run-end [] cs t h = low-end (length cs) cs t (rw zero-add at h)
   run-end (r ∷ rs) cs t h = run-end rs cs (mixAll F X r (pairs F X (suc (length rs)) (length cs) t))
       (length-top r t (2 ^ (length rs + length cs)) (rw (suc-add, two-pow-succ) at h))
@@ -110,13 +110,13 @@ module _ (F : Field) (X : Cells F) where
   module _ (L : Laws F) (XL : CellLaws F X) where
     pub last-value : (t : List C) → length t ≤ 1 → sumTerms F X t ≡ term (firstCell t)
     last-value [] h = sym (XL .none-zero)
-    last-value (x ∷ []) h = L .laws .add-zero (term x)
+    last-value (x ∷ []) h = L .is-ring .add-zero (term x)
     last-value (x ∷ y ∷ t) h = absurd (omega arith)
 
     -- the columns of the last cell are the columns' sums against the eq table
     pub column-end : (f : C → K) → Column f → (rs cs : List K) (t : List C)
-        → f (firstCell ((bindAll F (tableRounds F X) (rs ++ cs) (record { tops = length rs; rows = length cs; cells = t })) .cells))
+        → f (firstCell ((bindAll F (tableRounds F X) (rs ++ cs) (record { tops = length rs; lows = length cs; cells = t })) .cells))
         ≡ dot F (eqTable F (cs ++ reverse rs)) (map f t)
     column-end f D rs cs t = first-column f D ((bindAll F (tableRounds F X) (rs ++ cs)
-        (record { tops = length rs; rows = length cs; cells = t })) .cells)
-        ∙ ap (first F) (run f D (rs ++ cs) (record { tops = length rs; rows = length cs; cells = t })) ∙ bind-run F L rs cs (map f t)
+        (record { tops = length rs; lows = length cs; cells = t })) .cells)
+        ∙ ap (first F) (run f D (rs ++ cs) (record { tops = length rs; lows = length cs; cells = t })) ∙ bind-run F L rs cs (map f t)

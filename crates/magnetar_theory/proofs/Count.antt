@@ -138,12 +138,12 @@ module _ (F : Field) where
 
       abbrev innerOf : (sh rb rf al e : List K) → List K
       innerOf sh rb rf al e = badChallenges F (tableRounds F (innerCells F))
-          (record { tops = 0; rows = suc (R .logHalf); cells = zipInner F (combo F R rb rf al) (folded F R x ws sh) }) e
+          (record { tops = 0; lows = suc (R .logHalf); cells = zipInner F (combo F R rb rf al) (folded F R x ws sh) }) e
           (words F (8 * s + 4 * R .bin .logRows + 4 * R .fld .logRows + 6 + 3 * length e) 3 w)
 
       inner-two : (sh rb rf al e : List K) → length (innerOf sh rb rf al e) ≤ 2
       inner-two sh rb rf al e = bad-few F L s R x ws w (innerCells F) 2 (λ a b. omega arith)
-          (record { tops = 0; rows = suc (R .logHalf); cells = zipInner F (combo F R rb rf al) (folded F R x ws sh) }) e
+          (record { tops = 0; lows = suc (R .logHalf); cells = zipInner F (combo F R rb rf al) (folded F R x ws sh) }) e
           (words F (8 * s + 4 * R .bin .logRows + 4 * R .fld .logRows + 6 + 3 * length e) 3 w)
           (words-few F L s R x ws w (8 * s + 4 * R .bin .logRows + 4 * R .fld .logRows + 6 + 3 * length e) 3)
 

@@ -26,7 +26,7 @@ module _ (F : Field) where
 
   module _ (L : Laws F) where
     times-zero : (k : K) → 𝟎 ≡ k ⊗ 𝟎
-    times-zero k = simp (ring, L .laws)
+    times-zero k = simp (ring, L .is-ring)
 
     at-spread : (p : K) (t : List K) (i : ℕ) → getD (spread F p t) i 𝟎 ≡ factor p (i % 2) ⊗ getD t (i / 2) 𝟎
     at-spread p [] i = times-zero (factor p (i % 2))

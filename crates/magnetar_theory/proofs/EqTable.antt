@@ -22,10 +22,10 @@ module _ (F : Field) where
 
   module _ (L : Laws F) where
     two-terms : (p e x y d : K) → (𝟏 ⊕ p) ⊗ e ⊗ x ⊕ (p ⊗ e ⊗ y ⊕ d) ≡ e ⊗ lineAt F p x y ⊕ d
-    two-terms p e x y d = simp (ring, L .laws, lineAt)
+    two-terms p e x y d = simp (ring, L .is-ring, lineAt)
 
     one-term : (p e x : K) → (𝟏 ⊕ p) ⊗ e ⊗ x ⊕ 𝟎 ≡ e ⊗ lineAt F p x 𝟎 ⊕ 𝟎
-    one-term p e x = simp (ring, L .laws, lineAt)
+    one-term p e x = simp (ring, L .is-ring, lineAt)
 
     pub dot-spread : (p : K) (e t : List K) → dot F (spread F p e) t ≡ dot F e (bindLow F p t)
     dot-spread p [] t = refl
@@ -36,7 +36,7 @@ module _ (F : Field) where
 
     first-is : (t : List K) → first F t ≡ dot F (𝟏 ∷ []) t
     first-is [] = refl
-    first-is (x ∷ t) = simp (ring, L .laws, dot)
+    first-is (x ∷ t) = simp (ring, L .is-ring, dot)
 
     -- all variables, lowest first
     pub bind-low : (b : ℕ) (rs : List K) (t : List K) → first F (bindRun F 0 b rs t) ≡ dot F (eqTable F rs) t
@@ -49,7 +49,7 @@ module _ (F : Field) where
 
     pub spread-scale : (p k : K) (t : List K) → spread F p (scale F k t) ≡ scale F k (spread F p t)
     spread-scale p k [] = refl
-    spread-scale p k (x ∷ t) = λ i. mul-left-comm F (L .laws) (𝟏 ⊕ p) k x i ∷ mul-left-comm F (L .laws) p k x i ∷ spread-scale p k t i
+    spread-scale p k (x ∷ t) = λ i. mul-left-comm F (L .is-ring) (𝟏 ⊕ p) k x i ∷ mul-left-comm F (L .is-ring) p k x i ∷ spread-scale p k t i
 
     -- one more element at the end: the table once with 1 + r and once with r
     pub eqTable-snoc : (ps : List K) (r : K) → eqTable F (ps ++ (r ∷ [])) ≡ scale F (𝟏 ⊕ r) (eqTable F ps) ++ scale F r (eqTable F ps)
@@ -71,23 +71,23 @@ module _ (F : Field) where
         twice (x ∷ t) = omega (arith, twice t)
 
     pub add-zero-left : (x : K) → x ≡ 𝟎 ⊕ x
-    add-zero-left x = simp (ring, L .laws)
+    add-zero-left x = simp (ring, L .is-ring)
 
     pub dot-append : (e f t : List K) → dot F (e ++ f) t ≡ dot F e (take (length e) t) ⊕ dot F f (drop (length e) t)
     dot-append [] f t = add-zero-left (dot F f t)
     dot-append (e ∷ es) f [] = add-zero-left 𝟎 ∙ ap (λ (w : K). 𝟎 ⊕ w) (sym (dot-nil f))
     dot-append (e ∷ es) f (x ∷ t) = ap (λ (w : K). e ⊗ x ⊕ w) (dot-append es f t)
-        ∙ sym (L .laws .add-assoc (e ⊗ x) (dot F es (take (length es) t)) (dot F f (drop (length es) t)))
+        ∙ sym (L .is-ring .add-assoc (e ⊗ x) (dot F es (take (length es) t)) (dot F f (drop (length es) t)))
 
     mix-terms : (r e x y c d : K) → ((𝟏 ⊕ r) ⊗ e ⊗ x ⊕ c) ⊕ (r ⊗ e ⊗ y ⊕ d) ≡ e ⊗ lineAt F r x y ⊕ (c ⊕ d)
-    mix-terms r e x y c d = simp (ring, L .laws, lineAt)
+    mix-terms r e x y c d = simp (ring, L .is-ring, lineAt)
 
     dot-zero : (k e d : K) → 𝟎 ≡ k ⊗ e ⊗ 𝟎 ⊕ 𝟎
-    dot-zero k e d = simp (ring, L .laws)
+    dot-zero k e d = simp (ring, L .is-ring)
 
     dot-scales : (r : K) (e xs ys : List K) → dot F (scale F (𝟏 ⊕ r) e) xs ⊕ dot F (scale F r e) ys ≡ dot F e (mixLists F r xs ys)
-    dot-scales r [] xs ys = L .laws .add-zero 𝟎
-    dot-scales r (e ∷ es) [] [] = L .laws .add-zero 𝟎
+    dot-scales r [] xs ys = L .is-ring .add-zero 𝟎
+    dot-scales r (e ∷ es) [] [] = L .is-ring .add-zero 𝟎
     dot-scales r (e ∷ es) [] (y ∷ ys) = ap (λ (w : K). w ⊕ (r ⊗ e ⊗ y ⊕ dot F (scale F r es) ys)) (dot-zero (𝟏 ⊕ r) e 𝟎)
         ∙ mix-terms r e 𝟎 y 𝟎 (dot F (scale F r es) ys)
         ∙ ap (λ (w : K). e ⊗ lineAt F r 𝟎 y ⊕ (w ⊕ dot F (scale F r es) ys)) (sym (dot-nil (scale F (𝟏 ⊕ r) es)))
@@ -124,23 +124,23 @@ module _ (F : Field) where
         size = simp (length-append, length-reverse) (omega arith)
 
     pub dot-scale : (k : K) (e t : List K) → dot F e (scale F k t) ≡ k ⊗ dot F e t
-    dot-scale k [] t = simp (ring, L .laws, dot)
-    dot-scale k (e ∷ es) [] = simp (ring, L .laws, dot)
+    dot-scale k [] t = simp (ring, L .is-ring, dot)
+    dot-scale k (e ∷ es) [] = simp (ring, L .is-ring, dot)
     dot-scale k (e ∷ es) (x ∷ t) = ap (λ (w : K). e ⊗ (k ⊗ x) ⊕ w) (dot-scale k es t) ∙ step e x (dot F es t)
       where
         step : (e x d : K) → e ⊗ (k ⊗ x) ⊕ k ⊗ d ≡ k ⊗ (e ⊗ x ⊕ d)
-        step e x d = simp (ring, L .laws)
+        step e x d = simp (ring, L .is-ring)
 
     bind-spread : (r p : K) (t : List K) → bindLow F r (spread F p t) ≡ scale F (𝟏 ⊕ p ⊕ r) t
     bind-spread r p [] = refl
     bind-spread r p (x ∷ t) = λ i. step x i ∷ bind-spread r p t i
       where
         step : (x : K) → lineAt F r ((𝟏 ⊕ p) ⊗ x) (p ⊗ x) ≡ (𝟏 ⊕ p ⊕ r) ⊗ x
-        step x = simp (ring, L .laws, lineAt)
+        step x = simp (ring, L .is-ring, lineAt)
 
     -- the eq table of a point at a point is the product
     pub eq-eq : (ps rs : List K) → length ps ≡ length rs → dot F (eqTable F rs) (eqTable F ps) ≡ eqProduct F ps rs
-    eq-eq [] [] h = simp (ring, L .laws, dot)
+    eq-eq [] [] h = simp (ring, L .is-ring, dot)
     eq-eq [] (r ∷ rs) h = absurd (omega arith)
     eq-eq (p ∷ ps) [] h = absurd (omega arith)
     eq-eq (p ∷ ps) (r ∷ rs) h = dot-spread r (eqTable F rs) (spread F p (eqTable F ps))

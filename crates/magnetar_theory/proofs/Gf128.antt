@@ -111,7 +111,7 @@ all-zero (c ∷ p) z = ap₂ _&&_ (eq-eqb (number c) (number (element 0)) (z .0 
 pub gf128Laws : Laws gf128
 unfolding rootsOf
 gf128Laws = record {
-  laws = gf128Ring;
+  is-ring = gf128Ring;
   root-listed = λ p r h e. subst (λ (x : Element). List·Memᴰ x (map element (roots (map number p)))) (element-number r)
       (element-mem (number r) (root-in (map number p) (number r) (number-lt r) (sym (number-eval p r) ∙ ap number e ∙ number-zero)));
   roots-few = λ c p h. few c p (roots-few (number c ∷ map number p) (numbers-below (c ∷ p))

@@ -57,7 +57,7 @@ module _ (F : Field) where
 
     module _ (t z rs : List K) (lt : length t ≡ 2 ^ length rs) (lz : length z ≡ length t) where
       abbrev pub begin : State F (innerCells F)
-      begin = record { tops = 0; rows = length rs; cells = zipInner F t z }
+      begin = record { tops = 0; lows = length rs; cells = zipInner F t z }
 
       end-value : (tableRounds F (innerCells F) .value) (bindAll F (tableRounds F (innerCells F)) rs begin)
           ≡ dot F (eqTable F rs) t ⊗ dot F (eqTable F rs) z

@@ -13,7 +13,7 @@ use lib.Seq.{take-append-le, take-append-add, getD-append-add, length-take-le, t
 use borrow.Author.Tests.{ltb-true, ltb-false, lt-ltb, le-ltb}
 use Rattle.magnetar_theory.specs.Field.{Field, Laws}
 use Rattle.magnetar_theory.specs.SumCheck.{badChallenges, bindAll, BadChallenge}
-use Rattle.magnetar_theory.proofs.SumCheck.{few, length-addPoly}
+use Rattle.magnetar_theory.proofs.SumCheck.{few, length-addLists}
 use Rattle.magnetar_theory.specs.Table.{Cells, tableRounds, State, polyAll, pairs}
 use Rattle.magnetar_theory.specs.Cells.{InnerCell, outerCells, innerCells}
 use Rattle.magnetar_theory.specs.Tau.{Zeros}
@@ -117,7 +117,7 @@ module _ (F : Field) where
     length-polyAll : (X : Cells F) (n : ℕ) → ((a b : X .C) → length (X .line a b) ≤ n) → (ps : List (X .C × X .C))
         → length (polyAll F X ps) ≤ n
     length-polyAll X n h [] = omega arith
-    length-polyAll X n h (p ∷ ps) = length-addPoly F L (X .line (p .0) (p .1)) (polyAll F X ps) n (h (p .0) (p .1))
+    length-polyAll X n h (p ∷ ps) = length-addLists F L (X .line (p .0) (p .1)) (polyAll F X ps) n (h (p .0) (p .1))
         (length-polyAll X n h ps)
 
     pub bad-few : (X : Cells F) (n : ℕ) → ((a b : X .C) → length (X .line a b) ≤ suc n) → (S : State F X) (e m : List K) → length m ≤ suc n
@@ -126,7 +126,7 @@ module _ (F : Field) where
         (at-state (bindAll F (tableRounds F X) e S))
       where
         at-state : (T : State F X) → length (tableRounds F X .poly T) ≤ suc n
-        at-state T = length-polyAll X (suc n) h (pairs F X (T .tops) (T .rows) (T .cells))
+        at-state T = length-polyAll X (suc n) h (pairs F X (T .tops) (T .lows) (T .cells))
 
     pub words-few : (i n : ℕ) → length (words F i n w) ≤ n
     words-few i n = omega (arith, length-take n (drop i w))
@@ -162,7 +162,7 @@ module _ (F : Field) where
         λ al e. omega (
           arith,
           bad-few (innerCells F) 2 (λ a b. omega arith)
-              (record { tops = 0; rows = suc (R .logHalf); cells = zipInner F (combo F R rb rf al) (folded F R x ws sh) }) e
+              (record { tops = 0; lows = suc (R .logHalf); cells = zipInner F (combo F R rb rf al) (folded F R x ws sh) }) e
               (words F (8 * s + 4 * R .bin .logRows + 4 * R .fld .logRows + 6 + 3 * length e) 3 w)
               (words-few (8 * s + 4 * R .bin .logRows + 4 * R .fld .logRows + 6 + 3 * length e) 3),
         )
@@ -222,15 +222,15 @@ module _ (F : Field) where
         go (inr h) = inr (row-part Y taus r (Y .logRows) o′ l h)
 
     inner-part : (t : List (InnerCell F)) (n o : ℕ) (e : List K) → length e ≡ n
-        → BadChallenge F (tableRounds F (innerCells F)) (record { tops = 0; rows = length e; cells = t }) (rounds F n 3 3 (drop o w)) e
-        → DrawInList F (λ p. badChallenges F (tableRounds F (innerCells F)) (record { tops = 0; rows = n; cells = t }) p
+        → BadChallenge F (tableRounds F (innerCells F)) (record { tops = 0; lows = length e; cells = t }) (rounds F n 3 3 (drop o w)) e
+        → DrawInList F (λ p. badChallenges F (tableRounds F (innerCells F)) (record { tops = 0; lows = n; cells = t }) p
         (words F (o + 3 * length p) 3 w)) e
     inner-part t n o e l (i, k, m) = (
       i,
       k,
       rw (length-take-le i e (omega arith))
           (subst₂ (λ (r : ℕ) (g : List K). List·Memᴰ (getD e i 𝟎)
-          (badChallenges F (tableRounds F (innerCells F)) (record { tops = 0; rows = r; cells = t }) (take i e) g)) l
+          (badChallenges F (tableRounds F (innerCells F)) (record { tops = 0; lows = r; cells = t }) (take i e) g)) l
           (message n 3 3 i o (o + 3 * i) (omega arith) (omega arith)) m),
     )
 

@@ -8,7 +8,7 @@ use lib.ListN.{length, getD, replicate, length-replicate}
 use lib.Seq.{take-at, drop-at}
 use Rattle.magnetar_theory.specs.Field.{Field, Laws}
 use Rattle.magnetar_theory.proofs.Ring.{ring}
-use Rattle.magnetar_theory.specs.SumCheck.{addPoly}
+use Rattle.magnetar_theory.specs.SumCheck.{addLists}
 use Rattle.magnetar_theory.specs.EqTable.{spread, eqTable, dot, scale}
 use Rattle.magnetar_theory.proofs.EqTable.{spread-append, spread-scale, length-scale, length-eqTable, dot-nil, dot-append, dot-scale, add-zero-left}
 use Rattle.magnetar_theory.specs.Matrix.{Entry, addAt, apply, columns, applyAll, fold, AllLength}
@@ -22,7 +22,7 @@ module _ (F : Field) where
     pub dot-comm : (s t : List K) → dot F s t ≡ dot F t s
     dot-comm [] t = sym (dot-nil F t)
     dot-comm (x ∷ s) [] = refl
-    dot-comm (x ∷ s) (y ∷ t) = ap₂ _⊕_ (L .laws .mul-comm x y) (dot-comm s t)
+    dot-comm (x ∷ s) (y ∷ t) = ap₂ _⊕_ (L .is-ring .mul-comm x y) (dot-comm s t)
 
     dot-replicate : (n : ℕ) (e : List K) → dot F e (replicate n 𝟎) ≡ 𝟎
     dot-replicate n [] = refl
@@ -30,21 +30,21 @@ module _ (F : Field) where
     dot-replicate (suc n) (x ∷ e) = ap (λ (w : K). x ⊗ 𝟎 ⊕ w) (dot-replicate n e) ∙ none x
       where
         none : (x : K) → x ⊗ 𝟎 ⊕ 𝟎 ≡ 𝟎
-        none x = simp (ring, L .laws)
+        none x = simp (ring, L .is-ring)
 
     dot-addAt : (e t : List K) (i : ℕ) (v : K) → length e ≡ length t → dot F e (addAt F i v t) ≡ getD e i 𝟎 ⊗ v ⊕ dot F e t
-    dot-addAt [] [] i v l = simp (ring, L .laws)
+    dot-addAt [] [] i v l = simp (ring, L .is-ring)
     dot-addAt [] (y ∷ t) i v l = absurd (omega arith)
     dot-addAt (x ∷ e) [] i v l = absurd (omega arith)
     dot-addAt (x ∷ e) (y ∷ t) zero v l = here x y v (dot F e t)
       where
         here : (x y v d : K) → x ⊗ (y ⊕ v) ⊕ d ≡ x ⊗ v ⊕ (x ⊗ y ⊕ d)
-        here x y v d = simp (ring, L .laws)
+        here x y v d = simp (ring, L .is-ring)
     dot-addAt (x ∷ e) (y ∷ t) (suc i) v l = ap (λ (w : K). x ⊗ y ⊕ w) (dot-addAt e t i v (omega arith))
         ∙ there (x ⊗ y) (getD e i 𝟎 ⊗ v) (dot F e t)
       where
         there : (a b d : K) → a ⊕ (b ⊕ d) ≡ b ⊕ (a ⊕ d)
-        there a b d = simp (ring, L .laws)
+        there a b d = simp (ring, L .is-ring)
 
     length-addAt : (t : List K) (i : ℕ) (v : K) → length (addAt F i v t) ≡ length t
     length-addAt [] i v = refl
@@ -68,7 +68,7 @@ module _ (F : Field) where
         ∙ sym (dot-addAt z (columns F n M e) (m .col) (m .val ⊗ getD e (m .row) 𝟎) (k ∙ sym (length-columns n M e)))
       where
         swap : (a b c : K) → a ⊗ (b ⊗ c) ≡ c ⊗ (b ⊗ a)
-        swap a b c = simp (ring, L .laws)
+        swap a b c = simp (ring, L .is-ring)
 
     -- the eq table of a joined point: for each entry of the high part, the low part scaled by it
     abbrev pub blocks : List K → List K → List K
@@ -84,7 +84,7 @@ module _ (F : Field) where
       where
         ones : (t : List K) → t ≡ blocks t (𝟏 ∷ [])
         ones [] = refl
-        ones (x ∷ t) = ap₂ _∷_ (sym (L .laws .mul-one x)) (ones t)
+        ones (x ∷ t) = ap₂ _∷_ (sym (L .is-ring .mul-one x)) (ones t)
     eqTable-append (p ∷ ps) qs = ap (spread F p) (eqTable-append ps qs) ∙ blocks-spread (eqTable F qs) (eqTable F ps) p
 
     pub dot-scale-left : (k : K) (e t : List K) → dot F (scale F k e) t ≡ k ⊗ dot F e t
@@ -104,14 +104,14 @@ module _ (F : Field) where
         size : length (apply F R M z) ≡ length (scale F u e)
         size = length-apply R M z ∙ sym h ∙ sym (length-scale F L u e)
 
-    dot-add : (e s t : List K) → dot F e (addPoly F s t) ≡ dot F e s ⊕ dot F e t
+    dot-add : (e s t : List K) → dot F e (addLists F s t) ≡ dot F e s ⊕ dot F e t
     dot-add [] s t = add-zero-left F L 𝟎
     dot-add (x ∷ e) [] t = add-zero-left F L (dot F (x ∷ e) t)
-    dot-add (x ∷ e) (y ∷ s) [] = sym (L .laws .add-zero (dot F (x ∷ e) (y ∷ s)))
+    dot-add (x ∷ e) (y ∷ s) [] = sym (L .is-ring .add-zero (dot F (x ∷ e) (y ∷ s)))
     dot-add (x ∷ e) (y ∷ s) (w ∷ t) = ap (λ (v : K). x ⊗ (y ⊕ w) ⊕ v) (dot-add e s t) ∙ terms x y w (dot F e s) (dot F e t)
       where
         terms : (a v t p q : K) → a ⊗ (v ⊕ t) ⊕ (p ⊕ q) ≡ (a ⊗ v ⊕ p) ⊕ (a ⊗ t ⊕ q)
-        terms a v t p q = simp (ring, L .laws)
+        terms a v t p q = simp (ring, L .is-ring)
 
     pub dot-fold : (n : ℕ) (t es : List K) (zs : List (List K)) → dot F t (fold F n es zs) ≡ dot F es (map (λ (z : List K). dot F z t) zs)
     dot-fold n t [] zs = dot-replicate n t
@@ -119,7 +119,7 @@ module _ (F : Field) where
     dot-fold n t (e ∷ es) (z ∷ zs) = dot-add t (scale F e z) (fold F n es zs)
         ∙ ap₂ _⊕_ (dot-scale F L e t z ∙ ap (λ (w : K). e ⊗ w) (dot-comm t z)) (dot-fold n t es zs)
 
-    length-add : (n : ℕ) (s t : List K) → length s ≡ n → length t ≡ n → length (addPoly F s t) ≡ n
+    length-add : (n : ℕ) (s t : List K) → length s ≡ n → length t ≡ n → length (addLists F s t) ≡ n
     length-add n [] t h k = k
     length-add n (x ∷ s) [] h k = h
     length-add zero (x ∷ s) (y ∷ t) h k = absurd (omega arith)

@@ -74,7 +74,7 @@ module _ (F : Field) where
     dot-zeros (x ∷ e) (y ∷ t) z = ap₂ (λ (u v : K). x ⊗ u ⊕ v) (z .0) (dot-zeros e t (z .1)) ∙ none x
       where
         none : (x : K) → x ⊗ 𝟎 ⊕ 𝟎 ≡ 𝟎
-        none x = simp (ring, L .laws)
+        none x = simp (ring, L .is-ring)
 
     colA : Column F (outerCells F) (λ x. x .a)
     colA = record { at-none = refl; at-mix = λ r x y. refl }

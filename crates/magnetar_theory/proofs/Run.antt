@@ -45,7 +45,7 @@ module _ (F : Field) where
     inner-bad : BadChallenge F (tableRounds F (innerCells F))
         (record {
           tops = 0;
-          rows = length (inner F D);
+          lows = length (inner F D);
           cells = zipInner F (combo F R (D .rowBin) (D .rowFld) (D .alpha))
               (folded F R x ws (D .shared));
         }) (W .innerMs) (inner F D) → Bad R x ws D W
@@ -56,27 +56,27 @@ module _ (F : Field) where
     linear [] k f g ws = none k
       where
         none : (k : K) → 𝟎 ≡ k ⊗ 𝟎 ⊕ 𝟎
-        none k = simp (ring, L .laws)
+        none k = simp (ring, L .is-ring)
     linear (e ∷ es) k f g [] = none k
       where
         none : (k : K) → 𝟎 ≡ k ⊗ 𝟎 ⊕ 𝟎
-        none k = simp (ring, L .laws)
+        none k = simp (ring, L .is-ring)
     linear (e ∷ es) k f g (w ∷ ws) = ap (λ (v : K). e ⊗ (k ⊗ f w ⊕ g w) ⊕ v) (linear es k f g ws)
         ∙ terms e k (f w) (g w) (dot F es (map f ws)) (dot F es (map g ws))
       where
         terms : (e k a b p q : K) → e ⊗ (k ⊗ a ⊕ b) ⊕ (k ⊗ p ⊕ q) ≡ k ⊗ (e ⊗ a ⊕ p) ⊕ (e ⊗ b ⊕ q)
-        terms e k a b p q = simp (ring, L .laws)
+        terms e k a b p q = simp (ring, L .is-ring)
 
     constant : (es : List K) (k : K) (ws : List (List K)) → length ws ≡ length es → dot F es (map (λ (w : List K). k) ws) ≡ total F es ⊗ k
     constant [] k ws h = none k
       where
         none : (k : K) → 𝟎 ≡ 𝟎 ⊗ k
-        none k = simp (ring, L .laws)
+        none k = simp (ring, L .is-ring)
     constant (e ∷ es) k [] h = absurd (omega arith)
     constant (e ∷ es) k (w ∷ ws) h = ap (λ (v : K). e ⊗ k ⊕ v) (constant es k ws (omega arith)) ∙ terms e k (total F es)
       where
         terms : (e k s : K) → e ⊗ k ⊕ s ⊗ k ≡ (e ⊕ s) ⊗ k
-        terms e k s = simp (ring, L .laws)
+        terms e k s = simp (ring, L .is-ring)
 
     nothing : (es : List K) (ws : List (List K)) → dot F es (map (λ (w : List K). 𝟎) ws) ≡ 𝟎
     nothing [] ws = refl
@@ -84,7 +84,7 @@ module _ (F : Field) where
     nothing (e ∷ es) (w ∷ ws) = ap (λ (v : K). e ⊗ 𝟎 ⊕ v) (nothing es ws) ∙ none e
       where
         none : (e : K) → e ⊗ 𝟎 ⊕ 𝟎 ≡ 𝟎
-        none e = simp (ring, L .laws)
+        none e = simp (ring, L .is-ring)
 
     -- the sums over the segments, login by login
     sums : (gs : List Segment) (r es : List K) (ws : List (List K)) → dot F es (map (λ (w : List K). bySegments F gs r w) ws)
@@ -152,7 +152,7 @@ module _ (F : Field) where
           ∙ unit (D .last ⊗ dot F (eqTable F (D .low)) x))
         where
           unit : (k : K) → 𝟏 ⊗ k ≡ k
-          unit k = simp (ring, L .laws)
+          unit k = simp (ring, L .is-ring)
 
       -- one true terminal, by the columns and by the rows
       terminal : (Y : System F) (M : List (Entry F)) (r : List K) → length r ≡ Y .logRows
@@ -231,7 +231,7 @@ module _ (F : Field) where
             go : (dot F (D .alpha) (terminals F W) ≡ dot F (combo F R (D .rowBin) (D .rowFld) (D .alpha)) (folded F R x ws (D .shared)))
                 ⊎ BadChallenge F (tableRounds F (innerCells F)) (record {
                   tops = 0;
-                  rows = length (inner F D);
+                  lows = length (inner F D);
                   cells = zipInner F
                       (combo F R (D .rowBin) (D .rowFld) (D .alpha)) (folded F R x ws (D .shared));
                 }) (W .innerMs) (inner F D)

@@ -41,11 +41,11 @@ module _ (F : Field) where
     dot-split zero e t = sym (start (dot F e t))
       where
         start : (x : K) → 𝟎 ⊕ x ≡ x
-        start x = simp (ring, L .laws)
-    dot-split (suc n) [] t = sym (L .laws .add-zero 𝟎)
-    dot-split (suc n) (x ∷ e) [] = sym (ap (λ (w : K). 𝟎 ⊕ w) (dot-nil F (drop n e)) ∙ L .laws .add-zero 𝟎)
+        start x = simp (ring, L .is-ring)
+    dot-split (suc n) [] t = sym (L .is-ring .add-zero 𝟎)
+    dot-split (suc n) (x ∷ e) [] = sym (ap (λ (w : K). 𝟎 ⊕ w) (dot-nil F (drop n e)) ∙ L .is-ring .add-zero 𝟎)
     dot-split (suc n) (x ∷ e) (y ∷ t) = ap (λ (w : K). x ⊗ y ⊕ w) (dot-split n e t)
-        ∙ sym (L .laws .add-assoc (x ⊗ y) (dot F (take n e) (take n t)) (dot F (drop n e) (drop n t)))
+        ∙ sym (L .is-ring .add-assoc (x ⊗ y) (dot F (take n e) (take n t)) (dot F (drop n e) (drop n t)))
 
     block : (us e : List K) (b : ℕ) → b < length us → take (length e) (drop (b * length e) (blocks F L us e)) ≡ scale F (getD us b 𝟎) e
     block [] e b h = absurd (omega arith)
@@ -106,7 +106,7 @@ module _ (F : Field) where
         ok = fits (g .logLen) (g .number) (length r) q
 
         clean : (x : K) → 𝟎 ⊕ x ≡ x
-        clean x = simp (ring, L .laws)
+        clean x = simp (ring, L .is-ring)
 
         step : dot F (drop c E) (drop c w) ≡ 𝟎 ⊕ dot F (drop (offset g) E) (drop (offset g) w)
             → dot F (drop (offset g) E) (drop (offset g) w)
@@ -129,11 +129,11 @@ module _ (F : Field) where
 
     -- the entries of an eq table sum to one
     pub eq-total : (r : List K) → total F (eqTable F r) ≡ 𝟏
-    eq-total [] = L .laws .add-zero 𝟏
+    eq-total [] = L .is-ring .add-zero 𝟏
     eq-total (p ∷ r) = both (eqTable F r) ∙ eq-total r
       where
         pair : (p e s : K) → (𝟏 ⊕ p) ⊗ e ⊕ (p ⊗ e ⊕ s) ≡ e ⊕ s
-        pair p e s = simp (ring, L .laws)
+        pair p e s = simp (ring, L .is-ring)
 
         both : (t : List K) → total F (spread F p t) ≡ total F t
         both [] = refl

@@ -9,7 +9,7 @@ use native.Mathlib.Omega.{arith}
 use lib.ListN.{length}
 use Rattle.magnetar_theory.specs.Field.{Field, Laws, eval, allZero}
 use Rattle.magnetar_theory.proofs.Ring.{ring}
-use Rattle.magnetar_theory.specs.SumCheck.{Rounds, total, checkSum, Checks, running, addPoly, rootsOfDiff, bindAll, BadChallenge, honest}
+use Rattle.magnetar_theory.specs.SumCheck.{Rounds, total, checkSum, Checks, running, addLists, rootsOfDiff, bindAll, BadChallenge, honest}
 
 module _ (F : Field) where
   open Field F using (K, 𝟎, 𝟏, _⊕_, _⊗_, same, roots)
@@ -28,25 +28,25 @@ module _ (F : Field) (L : Laws F) where
 
   infixl 60 _⊕_
   infixl 70 _⊗_
-  pub eval-addPoly : (p q : List K) (x : K) → eval F (addPoly F p q) x ≡ eval F p x ⊕ eval F q x
-  eval-addPoly [] q x = simp (ring, L .laws)
-  eval-addPoly (c ∷ p) [] x = simp (ring, L .laws)
-  eval-addPoly (c ∷ p) (d ∷ q) x = rw (eval-addPoly p q x) (simp (ring, L .laws))
+  pub eval-addLists : (p q : List K) (x : K) → eval F (addLists F p q) x ≡ eval F p x ⊕ eval F q x
+  eval-addLists [] q x = simp (ring, L .is-ring)
+  eval-addLists (c ∷ p) [] x = simp (ring, L .is-ring)
+  eval-addLists (c ∷ p) (d ∷ q) x = rw (eval-addLists p q x) (simp (ring, L .is-ring))
 
   -- p(0) is the first coefficient, and p(1) the sum of all
   pub eval-zero : (p : List K) (c : K) → eval F (c ∷ p) 𝟎 ≡ c
-  eval-zero p c = simp (ring, L .laws, eval)
+  eval-zero p c = simp (ring, L .is-ring, eval)
 
   pub eval-one : (p : List K) → eval F p 𝟏 ≡ total F p
   eval-one [] = refl
-  eval-one (c ∷ p) = rw (eval, eval-one p) (simp (ring, L .laws))
+  eval-one (c ∷ p) = rw (eval, eval-one p) (simp (ring, L .is-ring))
 
   pub checkSum-is : (p : List K) → checkSum F p ≡ eval F p 𝟎 ⊕ eval F p 𝟏
-  checkSum-is [] = simp (ring, L .laws, eval)
-  checkSum-is (c ∷ p) = rw (eval-zero p c, eval-one (c ∷ p)) (simp (ring, L .laws))
+  checkSum-is [] = simp (ring, L .is-ring, eval)
+  checkSum-is (c ∷ p) = rw (eval-zero p c, eval-one (c ∷ p)) (simp (ring, L .is-ring))
 
   pub eq-of-sum-zero : (x y : K) → x ⊕ y ≡ 𝟎 → x ≡ y
-  eq-of-sum-zero x y h = sym (L .laws .add-zero x) ∙ ap (λ (w : K). x ⊕ w) (sym h) ∙ simp (ring, L .laws)
+  eq-of-sum-zero x y h = sym (L .is-ring .add-zero x) ∙ ap (λ (w : K). x ⊕ w) (sym h) ∙ simp (ring, L .is-ring)
 
   -- a polynomial whose coefficients are all zero is zero everywhere
   pub eval-allZero : (p : List K) (x : K) → allZero F p ≡ true → eval F p x ≡ 𝟎
@@ -54,27 +54,27 @@ module _ (F : Field) (L : Laws F) where
   eval-allZero (c ∷ p) x h = go (same c 𝟎) refl h (eval-allZero p x)
     where
       go : (b : Bool) → same c 𝟎 ≡ b → (b && allZero F p) ≡ true → (allZero F p ≡ true → eval F p x ≡ 𝟎) → eval F (c ∷ p) x ≡ 𝟎
-      go true e h ih = rw (eval, ih h, L .laws .same-true c 𝟎 e) (simp (ring, L .laws))
+      go true e h ih = rw (eval, ih h, L .is-ring .same-true c 𝟎 e) (simp (ring, L .is-ring))
       go false e h ih = absurd (false≢true h)
 
   -- two polynomials: the same values everywhere, or each point where they agree is listed
   pub agree : (p q : List K) → ((x : K) → eval F p x ≡ eval F q x) ⊎ ((r : K) → eval F p r ≡ eval F q r → List·Memᴰ r (rootsOfDiff F p q))
-  agree p q = go (allZero F (addPoly F p q)) refl
+  agree p q = go (allZero F (addLists F p q)) refl
     where
-      go : (b : Bool) → allZero F (addPoly F p q) ≡ b → ((x : K) → eval F p x ≡ eval F q x)
-          ⊎ ((r : K) → eval F p r ≡ eval F q r → List·Memᴰ r (cond b [] (roots (addPoly F p q))))
-      go true e = inl (λ x. eq-of-sum-zero _ _ (sym (eval-addPoly p q x) ∙ eval-allZero (addPoly F p q) x e))
-      go false e = inr (λ r h. L .root-listed (addPoly F p q) r e (eval-addPoly p q r ∙ rw h (L .laws .add-self (eval F q r))))
+      go : (b : Bool) → allZero F (addLists F p q) ≡ b → ((x : K) → eval F p x ≡ eval F q x)
+          ⊎ ((r : K) → eval F p r ≡ eval F q r → List·Memᴰ r (cond b [] (roots (addLists F p q))))
+      go true e = inl (λ x. eq-of-sum-zero _ _ (sym (eval-addLists p q x) ∙ eval-allZero (addLists F p q) x e))
+      go false e = inr (λ r h. L .root-listed (addLists F p q) r e (eval-addLists p q r ∙ rw h (L .is-ring .add-self (eval F q r))))
 
-  pub length-addPoly : (p q : List K) (n : ℕ) → length p ≤ n → length q ≤ n → length (addPoly F p q) ≤ n
-  length-addPoly [] q n h k = k
-  length-addPoly (c ∷ p) [] n h k = h
-  length-addPoly (c ∷ p) (d ∷ q) zero h k = absurd (omega arith)
-  length-addPoly (c ∷ p) (d ∷ q) (suc n) h k = omega (arith, length-addPoly p q n (omega arith) (omega arith))
+  pub length-addLists : (p q : List K) (n : ℕ) → length p ≤ n → length q ≤ n → length (addLists F p q) ≤ n
+  length-addLists [] q n h k = k
+  length-addLists (c ∷ p) [] n h k = h
+  length-addLists (c ∷ p) (d ∷ q) zero h k = absurd (omega arith)
+  length-addLists (c ∷ p) (d ∷ q) (suc n) h k = omega (arith, length-addLists p q n (omega arith) (omega arith))
 
   -- two polynomials of at most d + 1 coefficients: the list has at most d elements
   pub few : (p q : List K) (d : ℕ) → length p ≤ suc d → length q ≤ suc d → length (rootsOfDiff F p q) ≤ d
-  few p q d h k = go (addPoly F p q) (length-addPoly p q (suc d) h k)
+  few p q d h k = go (addLists F p q) (length-addLists p q (suc d) h k)
     where
       go : (s : List K) → length s ≤ suc d → length (cond (allZero F s) [] (roots s)) ≤ d
       go [] h = omega arith

@@ -7,7 +7,7 @@ use Prim.Native.Nat.{ℕ, zero, suc, _+_, _^_}
 use lib.ListN.{take, drop}
 use Rattle.magnetar_theory.specs.Field.{Field, Laws, eval}
 use Rattle.magnetar_theory.proofs.Ring.{ring}
-use Rattle.magnetar_theory.proofs.SumCheck.{RoundLaws, eval-addPoly}
+use Rattle.magnetar_theory.proofs.SumCheck.{RoundLaws, eval-addLists}
 use Rattle.magnetar_theory.specs.Table.{Cells, lowPairs, pairUp, pairs, mixAll, polyAll, sumTerms, tableRounds}
 
 module _ (F : Field) (X : Cells F) where
@@ -27,7 +27,7 @@ module _ (F : Field) (X : Cells F) where
     polyAll-value [] r = refl
     polyAll-value (p ∷ ps) r = rw (
       polyAll,
-      eval-addPoly F L (line (p .0) (p .1)) (polyAll F X ps) r,
+      eval-addLists F L (line (p .0) (p .1)) (polyAll F X ps) r,
       polyAll-value ps r,
       XL .line-term
           (p .0) (p .1) r,
@@ -39,25 +39,25 @@ module _ (F : Field) (X : Cells F) where
     sumPairs (p ∷ ps) = term (p .0) ⊕ (term (p .1) ⊕ sumPairs ps)
 
     mixed-sum : (ps : List (C × C)) → sumTerms F X (mixAll F X 𝟎 ps) ⊕ sumTerms F X (mixAll F X 𝟏 ps) ≡ sumPairs ps
-    mixed-sum [] = simp (ring, L .laws)
+    mixed-sum [] = simp (ring, L .is-ring)
     mixed-sum (p ∷ ps) = rw (sumTerms, sumPairs, ← mixed-sum ps, XL .mix-zero (p .0) (p .1), XL .mix-one (p .0) (p .1))
-        (simp (ring, L .laws))
+        (simp (ring, L .is-ring))
 
     low-sum : (t : List C) → sumPairs (lowPairs F X t) ≡ sumTerms F X t
     low-sum [] = refl
-    low-sum (x ∷ []) = rw (XL .none-zero) (simp (ring, L .laws))
+    low-sum (x ∷ []) = rw (XL .none-zero) (simp (ring, L .is-ring))
     low-sum (x ∷ y ∷ t) = rw (low-sum t) refl
 
     up-sum : (xs ys : List C) → sumPairs (pairUp F X xs ys) ≡ sumTerms F X xs ⊕ sumTerms F X ys
-    up-sum [] [] = simp (ring, L .laws)
-    up-sum [] (y ∷ ys) = rw (up-sum [] ys, XL .none-zero) (simp (ring, L .laws))
-    up-sum (x ∷ xs) [] = rw (up-sum xs [], XL .none-zero) (simp (ring, L .laws))
-    up-sum (x ∷ xs) (y ∷ ys) = rw (up-sum xs ys) (simp (ring, L .laws))
+    up-sum [] [] = simp (ring, L .is-ring)
+    up-sum [] (y ∷ ys) = rw (up-sum [] ys, XL .none-zero) (simp (ring, L .is-ring))
+    up-sum (x ∷ xs) [] = rw (up-sum xs [], XL .none-zero) (simp (ring, L .is-ring))
+    up-sum (x ∷ xs) (y ∷ ys) = rw (up-sum xs ys) (simp (ring, L .is-ring))
 
     halves-sum : (h : ℕ) (t : List C) → sumTerms F X (take h t) ⊕ sumTerms F X (drop h t) ≡ sumTerms F X t
-    halves-sum zero t = simp (ring, L .laws)
-    halves-sum (suc h) [] = simp (ring, L .laws)
-    halves-sum (suc h) (x ∷ t) = rw (sumTerms, ← halves-sum h t) (simp (ring, L .laws))
+    halves-sum zero t = simp (ring, L .is-ring)
+    halves-sum (suc h) [] = simp (ring, L .is-ring)
+    halves-sum (suc h) (x ∷ t) = rw (sumTerms, ← halves-sum h t) (simp (ring, L .is-ring))
 
     pairs-sum : (s b : ℕ) (t : List C) → sumPairs (pairs F X s b t) ≡ sumTerms F X t
     pairs-sum zero b t = low-sum t
@@ -65,11 +65,11 @@ module _ (F : Field) (X : Cells F) where
 
     pub tableLaws : RoundLaws F (tableRounds F X)
     tableLaws = record {
-      poly-value = λ S r. polyAll-value (pairs F X (S .tops) (S .rows) (S .cells)) r;
+      poly-value = λ S r. polyAll-value (pairs F X (S .tops) (S .lows) (S .cells)) r;
       poly-sum = λ S. rw (
-        polyAll-value (pairs F X (S .tops) (S .rows) (S .cells)) 𝟎,
+        polyAll-value (pairs F X (S .tops) (S .lows) (S .cells)) 𝟎,
         polyAll-value
-            (pairs F X (S .tops) (S .rows) (S .cells)) 𝟏,
+            (pairs F X (S .tops) (S .lows) (S .cells)) 𝟏,
       )
-          (mixed-sum (pairs F X (S .tops) (S .rows) (S .cells)) ∙ pairs-sum (S .tops) (S .rows) (S .cells));
+          (mixed-sum (pairs F X (S .tops) (S .lows) (S .cells)) ∙ pairs-sum (S .tops) (S .lows) (S .cells));
     }

@@ -26,7 +26,7 @@ module _ (F : Field) where
     zeros (c ∷ t) h = go (same c 𝟎) refl h (zeros t)
       where
         go : (b : Bool) → same c 𝟎 ≡ b → (b && allZero F t) ≡ true → (allZero F t ≡ true → Zeros F t) → Zeros F (c ∷ t)
-        go true e h ih = (L .laws .same-true c 𝟎 e, ih h)
+        go true e h ih = (L .is-ring .same-true c 𝟎 e, ih h)
         go false e h ih = absurd (false≢true h)
 
     pub same-zero : (c : K) → c ≡ 𝟎 → same c 𝟎 ≡ true
@@ -34,14 +34,14 @@ module _ (F : Field) where
       where
         go : (b : Bool) → same c 𝟎 ≡ b → b ≡ true
         go true e = refl
-        go false e = absurd (L .laws .same-false c 𝟎 e h)
+        go false e = absurd (L .is-ring .same-false c 𝟎 e h)
 
     pub all-zero : (t : List K) → Zeros F t → allZero F t ≡ true
     all-zero [] z = refl
     all-zero (c ∷ t) z = ap₂ _&&_ (same-zero c (z .0)) (all-zero t (z .1))
 
     pub eval-line : (c d r : K) → eval F (c ∷ d ∷ []) r ≡ c ⊕ r ⊗ d
-    eval-line c d r = simp (ring, L .laws, eval)
+    eval-line c d r = simp (ring, L .is-ring, eval)
 
     -- a root of c + d r is listed, or both are zero
     pub line-root : (c d r : K) → c ⊕ r ⊗ d ≡ 𝟎 → ((c ≡ 𝟎) × (d ≡ 𝟎)) ⊎ List·Memᴰ r (lineRoots F c d)
@@ -81,7 +81,7 @@ module _ (F : Field) where
     tau-sound [] (x ∷ []) h e = inl (one x ∙ e, tt)
       where
         one : (x : K) → x ≡ 𝟏 ⊗ x ⊕ 𝟎
-        one x = simp (ring, L .laws)
+        one x = simp (ring, L .is-ring)
     tau-sound [] (x ∷ y ∷ t) h e = absurd (omega arith)
     tau-sound (p ∷ taus) t h e = go (tau-sound taus (bindLow F p t)
         (length-bindLow p t (2 ^ length taus) (omega (arith, two-pow-succ (length taus)))) (sym (dot-spread F L p (eqTable F taus) t) ∙ e))

@@ -10,17 +10,17 @@ use Rattle.magnetar_theory.proofs.Run.{whole-complete}
 use Rattle.magnetar_theory.specs.Lists.{lists, wordsOf, DrawInList, drawn}
 use Rattle.magnetar_theory.proofs.Lists.{few-lists, flat-sound, hit-map}
 use Rattle.magnetar_theory.proofs.Absorbed.{absorbed-lists}
-use Rattle.magnetar_theory.specs.Gf128.{gf128}
+use Rattle.magnetar_theory.specs.Gf128.{Element, gf128}
 use Rattle.magnetar_theory.proofs.Gf128.{gf128Laws}
-use Rattle.magnetar_theory.specs.Whole.{E, Good, listOf}
+use Rattle.magnetar_theory.specs.Whole.{Good, listOf}
 
-module _ (R : Relation gf128) (x : List E) (ws : List (List E)) where
+module _ (R : Relation gf128) (x : List Element) (ws : List (List Element)) where
   -- no list has more than three elements
-  pub list-sizes : (s : ℕ) (w p : List E) → length (lists gf128 s R x ws w p) ≤ 3
+  pub list-sizes : (s : ℕ) (w p : List Element) → length (lists gf128 s R x ws w p) ≤ 3
   list-sizes s w p = few-lists gf128 gf128Laws s R x ws w p
 
   -- an accepted run whose segment values are true: the batch is good, or some draw is in its list
-  pub sound : (w : List E) (D : Draws gf128) → Sizes gf128 R x ws D → Accepted gf128 R x D (wordsOf gf128 (length (D .shared)) R w)
+  pub sound : (w : List Element) (D : Draws gf128) → Sizes gf128 R x ws D → Accepted gf128 R x D (wordsOf gf128 (length (D .shared)) R w)
       → (wordsOf gf128 (length (D .shared)) R w) .values ≡ map (trueValue gf128 D ws) (R .segs)
       → Good R x ws ⊎ DrawInList gf128 (listOf R x ws (length (D .shared)) w) (drawn gf128 D)
   sound w D S H T = go (flat-sound gf128 gf128Laws R x ws w D S H T)

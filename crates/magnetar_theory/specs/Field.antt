@@ -1,5 +1,6 @@
--- A field of characteristic two, as a record of its operations and a record of its laws, and the polynomials over it. The
--- theory holds over every such field; Gf128 is the one that it is used at.
+-- What the theory asks of GF(2^128), as a record of operations and a record of laws, and the polynomials over it: a commutative ring of
+-- characteristic two in which the roots of a polynomial that is not zero are listed and few. Every finite field of characteristic two is
+-- one; no inverse is asked for. The theory holds over every such ring, and is used at Gf128 alone.
 -- Assumes nothing.
 use mathlib.Core.Path.{_≡_}
 use mathlib.Core.Bool.{Bool, true, false, _&&_}
@@ -45,8 +46,8 @@ module _ (F : Field) where
     pub same-true : (x y : K) → same x y ≡ true → x ≡ y
     pub same-false : (x y : K) → same x y ≡ false → ¬ (x ≡ y)
 
-  -- what the theory needs of a field besides: the roots of a polynomial that is not zero are listed, fewer than its coefficients
+  -- such a ring in which the roots of a polynomial that is not zero are listed, fewer than its coefficients
   pub record Laws : Type 0 where
-    pub laws : Ring
+    pub is-ring : Ring
     pub root-listed : (p : List K) (r : K) → allZero p ≡ false → eval p r ≡ 𝟎 → List·Memᴰ r (roots p)
     pub roots-few : (c : K) (p : List K) → allZero (c ∷ p) ≡ false → length (roots (c ∷ p)) ≤ length p

@@ -1,4 +1,4 @@
--- GF(2^128) as a field: the numbers below 2^128 with the sum and the product of magnetar_multilinear; and the element that a number
+-- GF(2^128) as such a ring: the numbers below 2^128 with the sum and the product of magnetar_field; and the element that a number
 -- stands for, by which lists of numbers become lists of elements.
 -- Assumes nothing.
 use mathlib.Core.Bool.{Bool}
@@ -39,6 +39,6 @@ same x y = eqb (number x) (number y)
 unfoldable pub rootsOf : List Element → List Element
 rootsOf p = map element (roots (map number p))
 
--- the field
+-- the ring that the theory is used at
 abbrev pub gf128 : Field
 gf128 = record { K = Element; 𝟎 = element 0; 𝟏 = element 1; _⊕_ = sum; _⊗_ = product; same = same; roots = rootsOf }

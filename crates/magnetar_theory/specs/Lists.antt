@@ -58,7 +58,7 @@ module _ (F : Field) where
         λ rf. section 6 (alphaList F (sixAt (8 * s + 4 * R .bin .logRows + 4 * R .fld .logRows) w) (trueTerminals F R x ws sh rb rf))
         -- the inner rounds
         λ al e. badChallenges F (tableRounds F (innerCells F))
-        (record { tops = 0; rows = suc (R .logHalf); cells = zipInner F (combo F R rb rf al) (folded F R x ws sh) }) e
+        (record { tops = 0; lows = suc (R .logHalf); cells = zipInner F (combo F R rb rf al) (folded F R x ws sh) }) e
         (words (8 * s + 4 * R .bin .logRows + 4 * R .fld .logRows + 6 + 3 * length e) 3 w)
 
     -- the list of the draw that comes after the given draws; where the batch keeps the first system, the lists follow the second

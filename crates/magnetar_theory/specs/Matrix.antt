@@ -5,7 +5,7 @@ use mathlib.Core.List.{List, [], _∷_, _++_}
 use Prim.Native.Nat.{ℕ, zero, suc}
 use lib.ListN.{length, getD, replicate}
 use Rattle.magnetar_theory.specs.Field.{Field}
-use Rattle.magnetar_theory.specs.SumCheck.{addPoly}
+use Rattle.magnetar_theory.specs.SumCheck.{addLists}
 use Rattle.magnetar_theory.specs.EqTable.{scale}
 
 module _ (F : Field) where
@@ -44,7 +44,7 @@ module _ (F : Field) where
   abbrev pub fold : ℕ → List K → List (List K) → List K
   fold n [] zs = replicate n 𝟎
   fold n (e ∷ es) [] = replicate n 𝟎
-  fold n (e ∷ es) (z ∷ zs) = addPoly F (scale F e z) (fold n es zs)
+  fold n (e ∷ es) (z ∷ zs) = addLists F (scale F e z) (fold n es zs)
 
   -- every vector has n entries
   abbrev pub AllLength : ℕ → List (List K) → Type 0

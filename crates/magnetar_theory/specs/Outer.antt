@@ -29,4 +29,4 @@ module _ (F : Field) where
 
   -- the state at the start, with s high variables and n low ones
   abbrev pub start : (a b c taus : List K) → ℕ → ℕ → State F (outerCells F)
-  start a b c taus s n = record { tops = s; rows = n; cells = zipOuter a b c (eqTable F taus) }
+  start a b c taus s n = record { tops = s; lows = n; cells = zipOuter a b c (eqTable F taus) }

@@ -176,7 +176,7 @@ module _ (F : Field) where
       innerMs = honest F (tableRounds F (innerCells F))
           (record {
             tops = 0;
-            rows = length (inner D);
+            lows = length (inner D);
             cells = zipInner F (combo R (D .rowBin) (D .rowFld) (D .alpha))
                 (folded R x ws (D .shared));
           }) (inner D);

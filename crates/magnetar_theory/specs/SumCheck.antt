@@ -43,15 +43,15 @@ module _ (F : Field) where
   running c (m ∷ ms) [] = c
   running c (m ∷ ms) (r ∷ rs) = running (eval F m r) ms rs
 
-  -- the sum of two polynomials
-  abbrev pub addPoly : List K → List K → List K
-  addPoly [] q = q
-  addPoly (c ∷ p) [] = c ∷ p
-  addPoly (c ∷ p) (d ∷ q) = (c ⊕ d) ∷ addPoly p q
+  -- the sum of two lists entry by entry: of two polynomials, or of two vectors
+  abbrev pub addLists : List K → List K → List K
+  addLists [] q = q
+  addLists (c ∷ p) [] = c ∷ p
+  addLists (c ∷ p) (d ∷ q) = (c ⊕ d) ∷ addLists p q
 
   -- the roots of p + q if the two differ, and none if they do not
   abbrev pub rootsOfDiff : List K → List K → List K
-  rootsOfDiff p q = cond (allZero F (addPoly p q)) [] (roots (addPoly p q))
+  rootsOfDiff p q = cond (allZero F (addLists p q)) [] (roots (addLists p q))
 
   module _ (G : Rounds F) where
     open Rounds G using (St, value, bind, poly)

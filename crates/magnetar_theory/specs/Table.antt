@@ -5,7 +5,7 @@ use mathlib.Core.List.{List, [], _∷_}
 use Prim.Native.Nat.{ℕ, zero, suc, _+_, _^_}
 use lib.ListN.{take, drop}
 use Rattle.magnetar_theory.specs.Field.{Field}
-use Rattle.magnetar_theory.specs.SumCheck.{Rounds, addPoly}
+use Rattle.magnetar_theory.specs.SumCheck.{Rounds, addLists}
 
 -- What a table holds: a zero, the cell at r on the line through two, what a cell adds to the sum, and that as a polynomial in r
 pub record Cells (F : Field) : Type 1 where
@@ -56,7 +56,7 @@ module _ (F : Field) (X : Cells F) where
   -- the sum of the pairs' polynomials
   abbrev pub polyAll : List (C × C) → List K
   polyAll [] = []
-  polyAll (p ∷ ps) = addPoly F (line (p .0) (p .1)) (polyAll ps)
+  polyAll (p ∷ ps) = addLists F (line (p .0) (p .1)) (polyAll ps)
 
   -- the sum of the cells' terms
   abbrev pub sumTerms : List C → K
@@ -66,7 +66,7 @@ module _ (F : Field) (X : Cells F) where
   -- the high variables that are left, the low ones at the start, and the table
   pub record State : Type 0 where
     pub tops : ℕ
-    pub rows : ℕ
+    pub lows : ℕ
     pub cells : List C
 
   -- the sum-check over tables
@@ -74,6 +74,6 @@ module _ (F : Field) (X : Cells F) where
   tableRounds = record {
     St = State;
     value = λ S. sumTerms (S .cells);
-    bind = λ r S. record { tops = less (S .tops); rows = S .rows; cells = mixAll r (pairs (S .tops) (S .rows) (S .cells)) };
-    poly = λ S. polyAll (pairs (S .tops) (S .rows) (S .cells));
+    bind = λ r S. record { tops = less (S .tops); lows = S .lows; cells = mixAll r (pairs (S .tops) (S .lows) (S .cells)) };
+    poly = λ S. polyAll (pairs (S .tops) (S .lows) (S .cells));
   }

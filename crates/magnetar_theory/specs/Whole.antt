@@ -7,17 +7,13 @@ use Rattle.magnetar_theory.specs.Tau.{Zeros}
 use Rattle.magnetar_theory.specs.Run.{Relation, residues, vectors}
 use Rattle.magnetar_theory.specs.Lists.{lists}
 use Rattle.magnetar_theory.specs.Absorbed.{absorbedCount}
-use Rattle.magnetar_theory.specs.Gf128.{gf128}
+use Rattle.magnetar_theory.specs.Gf128.{Element, gf128}
 
--- the elements
-abbrev pub E : Type 0
-E = gf128 .K
-
-module _ (R : Relation gf128) (x : List E) (ws : List (List E)) where
+module _ (R : Relation gf128) (x : List Element) (ws : List (List Element)) where
   -- every row of both systems holds for every login
   abbrev pub Good : Type 0
   Good = Zeros gf128 (residues gf128 (R .bin) (vectors gf128 ws x)) × Zeros gf128 (residues gf128 (R .fld) (vectors gf128 ws x))
 
   -- the list of a draw, from the words absorbed before it and the draws before it
-  abbrev pub listOf : ℕ → List E → List E → List E
+  abbrev pub listOf : ℕ → List Element → List Element → List Element
   listOf s w earlier = lists gf128 s R x ws (take (absorbedCount s (R .bin .logRows) (R .fld .logRows) (length earlier)) w) earlier

@@ -279,10 +279,9 @@ fn drawn(op: u64, t: Transcript, label: &[u8], nums: &[u64]) -> bool {
     false
 }
 
-// What a round leaves that draws its challenge: whether the message is right, the claim, the challenge and the transcript.
+// What a round leaves that draws its challenge: its refusal or whether the message is right, the claim, the challenge and the transcript.
 fn print_captured(o: Captured) {
-    print(b"= ");
-    text::print_truth(o.holds);
+    text::print_judged(o.code, o.holds);
     print(b" 4");
     text::print_word(o.claim.lo);
     text::print_word(o.claim.hi);
@@ -292,11 +291,17 @@ fn print_captured(o: Captured) {
     print_state(o.transcript);
 }
 
-// capture S C L MSG 2 CLAIM, or says that it is none.
+// capture S C L N MSG 2 CLAIM, or says that it is none.
 fn captured(op: u64, t: Transcript, label: &[u8], nums: &[u64]) -> bool {
     if op == CAPTURE {
-        let claim = words::get(text::nth(nums, 3, 1), 0);
-        print_captured(verify::round_capturing(list(nums, 3), claim, t, label));
+        let claim = words::get(text::nth(nums, 4, 1), 0);
+        print_captured(verify::round_capturing(
+            list(nums, 4),
+            text::size(at(nums, 3)),
+            claim,
+            t,
+            label,
+        ));
         return true;
     }
     false

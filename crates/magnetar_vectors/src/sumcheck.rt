@@ -65,8 +65,7 @@ fn print_element(e: Gf128) {
     text::print_word(e.hi);
 }
 
-fn print_round(o: Round) {
-    text::print_truth(o.holds);
+fn print_claim(o: Round) {
     print(b" 2");
     print_element(o.claim);
     print(b"\n");
@@ -76,7 +75,15 @@ fn print_message(msg: &[u64], o: Round) {
     print(b"= ");
     text::print_words(msg);
     print(b" ");
-    print_round(o);
+    text::print_truth(o.holds);
+    print_claim(o);
+}
+
+// round N MSG 4 CLAIM R
+fn round(n: usize, msg: &[u64], x: &[u64]) {
+    let o = verify::round_external(msg, n, words::get(x, 0), words::get(x, 1));
+    text::print_judged(o.code, o.holds);
+    print_claim(o);
 }
 
 // Which variable of those that are left round i of n binds: the highest in the first `high` rounds, then the lowest.
@@ -158,7 +165,7 @@ fn outer_message(s: Run, w: &[u64], n: usize, v: usize, t: Gf128, r: Gf128) -> R
     let k = s.k;
     let claim = s.claim;
     let code = message(&mut msg, w, n, v, k, t);
-    let o = verify::round_external(&msg, claim, r);
+    let o = verify::round_external(&msg, 4, claim, r);
     print_message(&msg, o);
     carried(s, o, public::eq_next(k, t, r), code == 0)
 }
@@ -269,7 +276,7 @@ fn inner_message(s: Run, t: &[u64], z: &[u64], v: usize, r: Gf128) -> Run {
     let k = s.k;
     let claim = s.claim;
     let code = engine::inner_message(&mut msg, t, z, v);
-    let o = verify::round_external(&msg, claim, r);
+    let o = verify::round_external(&msg, 3, claim, r);
     print_message(&msg, o);
     carried(s, o, k, code == 0)
 }
@@ -400,13 +407,11 @@ fn lent(op: u64, nums: &[u64], out: &mut [u64]) -> bool {
     false
 }
 
-// Answers a query of the verifier, or says that it is none. The elements are one list after the message, or the only list.
+// Answers a query of the verifier, or says that it is none. The elements are the only list, but for `round`.
 fn checks(op: u64, nums: &[u64]) -> bool {
     let p = nth(nums, 0, 0);
-    let x = nth(nums, 0, 1);
     if op == ROUND {
-        print(b"= ");
-        print_round(verify::round_external(p, words::get(x, 0), words::get(x, 1)));
+        round(text::count(nums, 0), nth(nums, 1, 0), nth(nums, 1, 1));
         return true;
     }
     if op == OUTEREND {

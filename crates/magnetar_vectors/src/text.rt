@@ -445,6 +445,17 @@ pub(crate) fn print_refusal(code: u32) {
     print(b"\n");
 }
 
+// The number of a refusal, or whether a message is right.
+pub(crate) fn print_judged(code: u32, holds: bool) {
+    if code != 0 {
+        print(b"! ");
+        print_number(wide(code));
+        return;
+    }
+    print(b"= ");
+    print_truth(holds);
+}
+
 // What a call answered, and the lent words after it.
 pub(crate) fn print_code(code: u32, s: &[u64]) {
     print(b"= ");

@@ -3,7 +3,8 @@
 use denote.Ref.{now}
 use mathlib.Core.Path.{sym, _∙_}
 use native.Mathlib.Omega.{arith}
-use Rattle.magnetar_checks.proofs.EndGuard.{power-of, few-of, end-layout, end-words}
+use Rattle.magnetar_layout.proofs.SizeLaws.{sized}
+use Rattle.magnetar_checks.proofs.EndGuard.{few-of, end-layout, end-words}
 use borrow.Author.Needs.{needs}
 use Rattle.magnetar_checks.proofs.end.end_refusal.Statement.{statement}
 use Rattle.magnetar_checks.proofs.end.end_refusal.Tie as tie
@@ -24,7 +25,7 @@ note-requires : tie.Need-note-requires
 note-requires c κs = search needs
 
 mul-note : tie.Need-mul-note
-mul-note c = omega (arith, power-of _ (c .before .before .before .before .before .pre .4) .high)
+mul-note c = omega (arith, sized 2 65536 _ (c .before .before .before .before .before .pre .4) .high)
 
 note-requires-2 : tie.Need-note-requires-2
 note-requires-2 c κs = search needs
