@@ -132,25 +132,25 @@ section a b o n m k v hn hm within after = go (ltb k n) refl
 
 -- ---- the numbers of specs/Soundness, section by section
 module _ (s g h : ℕ) where
-  heard-is : (k K b d : ℕ) → suc k - (g + s + (h + s)) ≡ K → K - s ≡ b → b - (g + h) ≡ d
+  absorbed-is : (k K b d : ℕ) → suc k - (g + s + (h + s)) ≡ K → K - s ≡ b → b - (g + h) ≡ d
       → absorbedCount s g h k ≡ 8 * min s K + 4 * min (g + h) b + 6 * min 1 d + 3 * (d - 6)
-  heard-is k K b d e₁ e₂ e₃ = rw (e₁, e₂, e₃) refl
+  absorbed-is k K b d e₁ e₂ e₃ = rw (e₁, e₂, e₃) refl
 
   at-tau : (k : ℕ) → k < s + g + (s + h) → 0 ≡ absorbedCount s g h k
-  at-tau k l = sym (heard-is k 0 0 0 (omega arith) (omega arith) (omega arith) ∙ omega arith)
+  at-tau k l = sym (absorbed-is k 0 0 0 (omega arith) (omega arith) (omega arith) ∙ omega arith)
 
   at-shared : (k j : ℕ) → k ≡ s + g + (s + h + j) → j < s → 8 * suc j ≡ absorbedCount s g h k
-  at-shared k j e l = sym (heard-is k (suc j) 0 0 (omega arith) (omega arith) (omega arith) ∙ omega arith)
+  at-shared k j e l = sym (absorbed-is k (suc j) 0 0 (omega arith) (omega arith) (omega arith) ∙ omega arith)
 
   at-rows : (k j : ℕ) → k ≡ s + g + (s + h + (s + j)) → j < g + h → 8 * s + 4 * suc j ≡ absorbedCount s g h k
-  at-rows k j e l = sym (heard-is k (s + suc j) (suc j) 0 (omega arith) (omega arith) (omega arith) ∙ omega arith)
+  at-rows k j e l = sym (absorbed-is k (s + suc j) (suc j) 0 (omega arith) (omega arith) (omega arith) ∙ omega arith)
 
   at-alphas : (k j : ℕ) → k ≡ s + g + (s + h + (s + (g + (h + j)))) → j < 6 → 8 * s + 4 * g + 4 * h + 6 ≡ absorbedCount s g h k
-  at-alphas k j e l = sym (heard-is k (s + (g + h + suc j)) (g + h + suc j) (suc j) (omega arith) (omega arith) (omega arith) ∙ omega arith)
+  at-alphas k j e l = sym (absorbed-is k (s + (g + h + suc j)) (g + h + suc j) (suc j) (omega arith) (omega arith) (omega arith) ∙ omega arith)
 
   at-inner : (k j : ℕ) → k ≡ s + g + (s + h + (s + (g + (h + (6 + j))))) → 8 * s + 4 * g + 4 * h + 6 + 3 * suc j ≡ absorbedCount s g h k
   at-inner k j e =
-      sym (heard-is k (s + (g + h + (6 + suc j))) (g + h + (6 + suc j)) (6 + suc j) (omega arith) (omega arith) (omega arith) ∙ omega arith)
+      sym (absorbed-is k (s + (g + h + (6 + suc j))) (g + h + (6 + suc j)) (6 + suc j) (omega arith) (omega arith) (omega arith) ∙ omega arith)
 
 module _ (r : Relation) where
   abbrev s : ℕ

@@ -102,8 +102,8 @@ module _ (r : Relation) where
   schedule-draws =
       simp (drawsIn-append, drawsIn-replicate, drawsIn-rounds, drawsIn-singles) (omega arith)
 
-  pub heard-count : (w : List ℕ) (t : Transcript) → length (playedFrom w (schedule r) t .draws) ≡ drawCount r
-  heard-count w t = play-count w (schedule r) (start t) ∙ omega (arith, schedule-draws)
+  pub played-count : (w : List ℕ) (t : Transcript) → length (playedFrom w (schedule r) t .draws) ≡ drawCount r
+  played-count w t = play-count w (schedule r) (start t) ∙ omega (arith, schedule-draws)
 
 -- ---- bounds
 number-lt : (bs : List ℕ) → ((i : ℕ) → i < length bs → getD bs i 0 < 256) → number bs < 2 ^ (8 * length bs)
@@ -146,15 +146,15 @@ all-drawn w [] p h = h
 all-drawn w (absorb l i n ∷ es) p h = all-drawn w es (absorbing l (part i n w) p) h
 all-drawn w (draw l ∷ es) p h = all-drawn w es (drawing l p) (both (p .draws) (_ ∷ []) h (drawn-lt (p .transcript) l, tt))
 
-pub heard-elements : (w : List ℕ) (es : List Event) (t : Transcript) → Elements (playedFrom w es t .draws)
-heard-elements w es t = elements-of (playedFrom w es t .draws) (all-drawn w es (start t) tt)
+pub played-elements : (w : List ℕ) (es : List Event) (t : Transcript) → Elements (playedFrom w es t .draws)
+played-elements w es t = elements-of (playedFrom w es t .draws) (all-drawn w es (start t) tt)
 
 -- ---- the verifier's draws
 module _ (r : Relation) (w : List ℕ) (t : Transcript) where
   pub verifier-count : length (verifierDraws r w t) ≡ drawCount r
   unfolding verifierDraws
-  verifier-count = heard-count r w t
+  verifier-count = played-count r w t
 
   pub verifier-elements : Elements (verifierDraws r w t)
   unfolding verifierDraws
-  verifier-elements = heard-elements w (schedule r) t
+  verifier-elements = played-elements w (schedule r) t

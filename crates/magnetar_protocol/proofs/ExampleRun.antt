@@ -111,7 +111,7 @@ small-laid u (suc (suc y)) h k o = absurd (omega arith)
 pub small-complete : CompleteRun small smallBatch (5 ∷ []) smallDraws
 small-complete = completeness small smallBatch (5 ∷ []) smallDraws small-sized small-good small-laid
 
--- and the theorem on an accepted run speaks of these words: all that it asks for holds of them
+-- and the theorem on an accepted run speaks of these words: all that it draws holds of them
 pub small-sound : Good small smallBatch (5 ∷ []) ⊎ BadDraw small smallBatch (5 ∷ []) (proverWords small smallBatch (5 ∷ []) smallDraws) smallDraws
 small-sound = soundness small smallBatch (5 ∷ []) (proverWords small smallBatch (5 ∷ []) smallDraws) smallDraws
     (prover-sized small smallBatch (5 ∷ []) smallDraws small-sized) (small-complete .accepted) small-laid

@@ -40,7 +40,7 @@ use Rattle.magnetar_protocol.proofs.HonestParts.{outer-count, segment-p
 use Rattle.magnetar_protocol.proofs.HonestBelow.{elements-of, both, tabulate-below}
 use Rattle.magnetar_protocol.proofs.StepLaws.{folds, messages-append, binds}
 use Rattle.magnetar_protocol.proofs.Bindings.{binds-left, left-a, left-b, left-c, segment-is, folded-elements}
-use Rattle.magnetar_protocol.proofs.Stepwise.{shared, tau-bin-length, tau-fld-length, shared-length, row-bin-length, row-fld-length, alpha-length, leftOf, binAtStart, fldAtStart, ends-bin, ends-fld, outerSaid, inner-of, inner-of-length, lastSaid, proving-said, proving-count, proving-elements, outer-parts, parts, parts-are}
+use Rattle.magnetar_protocol.proofs.Stepwise.{shared, tau-bin-length, tau-fld-length, shared-length, row-bin-length, row-fld-length, alpha-length, leftOf, binAtStart, fldAtStart, ends-bin, ends-fld, outerSent, inner-of, inner-of-length, lastSent, proving-sent, proving-count, proving-elements, outer-parts, parts, parts-are}
 
 -- ---- the products are elements
 sum-over-lt : (f : Entry → ℕ) (es : List Entry) → ((e : Entry) → f e < 2 ^ 128) → sumOver f es < 2 ^ 128
@@ -211,29 +211,29 @@ module _ (r : Relation) (b : Batch) (x : List ℕ) (t : Transcript) where
     values-are = tabulate-ext _ (trueValue r b D) (length (r .lengths)) value-is
 
     -- ---- all words
-    last-same : lastSaid r b x t (D .inner)
+    last-same : lastSent r b x t (D .inner)
         ≡ joined (innerMessages (combined r D) (foldedZ r b x D) (D .inner)) ++ (mle (foldedZ r b x D) (D .inner) ∷ trueValues r b D)
     unfolding foldedZ lowPoint
     last-same =
-        (λ j. said (combined-same j) (point-same j))
+        (λ j. sent (combined-same j) (point-same j))
         ∙ ap₂ (λ (v : ℕ) (l : List ℕ). joined (innerMessages (combined r D) (foldedZ r b x D) (D .inner)) ++ (v ∷ l)) z-is values-are
       where
-        said : List ℕ → List ℕ → List ℕ
-        said c p =
+        sent : List ℕ → List ℕ → List ℕ
+        sent c p =
             joined (innerMessages c (folded (r .q) (r .m / 2) b p ++ (1 ∷ x)) (D .inner))
             ++ (getD (binds (D .inner) (folded (r .q) (r .m / 2) b p ++ (1 ∷ x))) 0 0
             ∷ tabulate (segmentValue r c (folded (r .q) (r .m / 2) b p) x (take (logCols r - 1) (D .inner))) (length (r .lengths)))
 
-    words-same : outerSaid r (productTables r b x) t (lastSaid r b x t (inner-of r b x t)) ≡ honestWords r b x D
+    words-same : outerSent r (productTables r b x) t (lastSent r b x t (inner-of r b x t)) ≡ honestWords r b x D
     unfolding honestWords
     words-same = λ j.
         inTurn (sym bin-first j) (sym fld-first j)
         ++ (joined (sym bin-later j) ++ (joined (sym fld-later j) ++ (left-same j ++ last-same j)))
 
     -- the words of the run are the honest words at its draws
-    pub proving-words : proving r b x t .said ≡ proverWords r b x (proverDraws r b x t)
+    pub proving-words : proving r b x t .sent ≡ proverWords r b x (proverDraws r b x t)
     unfolding proverWords proverDraws
-    proving-words = proving-said r b x t ∙ words-same ∙ ap (honestWords r b x) (sym (parts-are r b x t))
+    proving-words = proving-sent r b x t ∙ words-same ∙ ap (honestWords r b x) (sym (parts-are r b x t))
 
   -- ---- the draws
   pub prover-count : length (proverDraws r b x t) ≡ drawCount r
@@ -252,7 +252,7 @@ module _ (r : Relation) (b : Batch) (x : List ℕ) (t : Transcript) where
 
   -- and so are those that are read from the words and draws of the run
   pub proving-claims : SizedRelation r → SizedBatch r b → suc (length x) ≡ r .m / 2 → Elements x
-      → claims r (proving r b x t .said) (proving r b x t .played .draws) ≡ proverClaims r b (proverDraws r b x t)
+      → claims r (proving r b x t .sent) (proving r b x t .played .draws) ≡ proverClaims r b (proverDraws r b x t)
   proving-claims R B px ex =
       let e : proving r b x t .played .draws ≡ proverDraws r b x t = unfold proverDraws in refl in
       ap₂ (claims r) (proving-words R B px ex) e ∙ prover-claims

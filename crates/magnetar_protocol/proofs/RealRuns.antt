@@ -21,7 +21,7 @@ use Rattle.magnetar_protocol.proofs.Soundness.{soundness, all-lists}
 use Rattle.magnetar_protocol.proofs.Completeness.{completeness}
 use Rattle.magnetar_protocol.proofs.Counts.{verifier-count, verifier-elements}
 use Rattle.magnetar_protocol.proofs.Blocks.{stop-accepted}
-use Rattle.magnetar_protocol.proofs.Stepwise.{hears-the-same}
+use Rattle.magnetar_protocol.proofs.Stepwise.{plays-the-same}
 use Rattle.magnetar_protocol.proofs.ProverRun.{proving-words, prover-count, prover-elements}
 
 -- Where a verifier accepts whose draws are those of its transcript, no bit is set outside the segments and every returned claim is
@@ -77,11 +77,11 @@ completeness-run r b x t R B px ex g stray = record {
       elements-d = prover-elements r b x t;
     }) g stray
 
-    hears : playedFrom (sentWords r b x t) (schedule r) t ≡ proving r b x t .played
-    hears = unfold sentWords in (ap (λ (w : List ℕ). playedFrom w (schedule r) t) (sym (proving-words r b x t R B px ex)) ∙ hears-the-same r b x t)
+    plays : playedFrom (sentWords r b x t) (schedule r) t ≡ proving r b x t .played
+    plays = unfold sentWords in (ap (λ (w : List ℕ). playedFrom w (schedule r) t) (sym (proving-words r b x t R B px ex)) ∙ plays-the-same r b x t)
 
     drawn : verifierDraws r (sentWords r b x t) t ≡ proverDraws r b x t
-    drawn = unfold verifierDraws proverDraws in ap (λ (p : Played). p .draws) hears
+    drawn = unfold verifierDraws proverDraws in ap (λ (p : Played). p .draws) plays
 
     accepts : verdict r x (sentWords r b x t) (verifierDraws r (sentWords r b x t) t) ≡ 0
     accepts = ap (verdict r x (sentWords r b x t)) drawn ∙ unfold sentWords in convinced .accepted
@@ -94,4 +94,4 @@ completeness-run r b x t R B px ex g stray = record {
         (ap (λ (n : ℕ). playedFrom (sentWords r b x t) (take n (schedule r)) t .transcript)
         (stop-accepted r x (sentWords r b x t) (verifierDraws r (sentWords r b x t) t) accepts)
         ∙ ap (λ (es : List Event). playedFrom (sentWords r b x t) es t .transcript) (take-length (schedule r))
-        ∙ ap (λ (p : Played). p .transcript) hears)
+        ∙ ap (λ (p : Played). p .transcript) plays)

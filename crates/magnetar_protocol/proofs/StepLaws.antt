@@ -1,5 +1,5 @@
 -- The prover's steps: what each of them draws, says and makes of the transcript, which is what the schedule makes of it when the
--- proof holds what is said. And its steps behind others.
+-- proof holds what is sent. And its steps behind others.
 -- Assumes nothing.
 use mathlib.Core.Path.{_≡_, refl, sym, ap, ap₂, _∙_, subst}
 use mathlib.Core.List.{List, [], _∷_, _++_, append-nil, append-assoc}
@@ -21,77 +21,77 @@ use Rattle.magnetar_protocol.specs.Proof.{part}
 use Rattle.magnetar_protocol.specs.Schedule.{Event, absorb, draw, numbered, rounds, singles}
 use Rattle.magnetar_protocol.specs.Play.{play, absorbing}
 use Rattle.magnetar_protocol.specs.Prover.{joined, inTurn}
-use Rattle.magnetar_protocol.specs.Stepwise.{Steps, begin, say, ask, answerOf, askTimes, sayEach, OuterSteps, sharedStep, sharedSteps, RowSteps, rowStep, rowSteps, InnerSteps, innerStep, innerSteps, innerRun, segmentValue, lowDraws, ended, innerAll}
+use Rattle.magnetar_protocol.specs.Stepwise.{Steps, begin, send, drawOne, lastDrawn, drawTimes, sendEach, OuterSteps, sharedStep, sharedSteps, RowSteps, rowStep, rowSteps, InnerSteps, innerStep, innerSteps, innerRun, segmentValue, lowDraws, ended, innerAll}
 use Rattle.magnetar_protocol.proofs.Counts.{play-append, onto}
 
 -- ---- steps from p to q that draw rs and say v, along the events es
 pub record Goes (es : List Event) (p q : Steps) (rs v : List ℕ) : Type 0 where
   pub draws : q .played .draws ≡ p .played .draws ++ rs
-  pub said : q .said ≡ p .said ++ v
-  pub hears : (w post : List ℕ) → w ≡ q .said ++ post → play w es (p .played) ≡ q .played
+  pub sent : q .sent ≡ p .sent ++ v
+  pub plays : (w post : List ℕ) → w ≡ q .sent ++ post → play w es (p .played) ≡ q .played
 
 pub goes-none : (p : Steps) → Goes [] p p [] []
 unfolding play
-goes-none p = record { draws = sym (append-nil (p .played .draws)); said = sym (append-nil (p .said)); hears = λ w post h. refl }
+goes-none p = record { draws = sym (append-nil (p .played .draws)); sent = sym (append-nil (p .sent)); plays = λ w post h. refl }
 
 pub goes-then : {es fs : List Event} {p q s : Steps} {rs v rs′ v′ : List ℕ} → Goes es p q rs v → Goes fs q s rs′ v′
     → Goes (es ++ fs) p s (rs ++ rs′) (v ++ v′)
 goes-then {es} {fs} {p} {q} {s} {rs} {v} {rs′} {v′} a b = record {
   draws = b .draws ∙ ap (λ (l : List ℕ). l ++ rs′) (a .draws) ∙ append-assoc (p .played .draws) rs rs′;
-  said = b .said ∙ ap (λ (l : List ℕ). l ++ v′) (a .said) ∙ append-assoc (p .said) v v′;
-  hears = λ w post h. play-append w es fs (p .played)
-      ∙ ap (play w fs) (a .hears w (v′ ++ post) (h ∙ ap (λ (l : List ℕ). l ++ post) (b .said) ∙ append-assoc (q .said) v′ post))
-      ∙ b .hears w post h;
+  sent = b .sent ∙ ap (λ (l : List ℕ). l ++ v′) (a .sent) ∙ append-assoc (p .sent) v v′;
+  plays = λ w post h. play-append w es fs (p .played)
+      ∙ ap (play w fs) (a .plays w (v′ ++ post) (h ∙ ap (λ (l : List ℕ). l ++ post) (b .sent) ∙ append-assoc (q .sent) v′ post))
+      ∙ b .plays w post h;
 }
 
--- what is said is found at its place
+-- what is sent is found at its place
 there : (u v post : List ℕ) (i n : ℕ) → length u ≡ i → length v ≡ n → part i n ((u ++ v) ++ post) ≡ v
 there u v post i n hu hv =
     ap (λ (l : List ℕ). take n (drop i l)) (append-assoc u v post) ∙ ap (take n) (drop-at u (v ++ post) i hu) ∙ take-at v post n hv
 
-pub goes-say : (l v : List ℕ) (i n : ℕ) (p : Steps) → length (p .said) ≡ i → length v ≡ n → Goes (absorb l i n ∷ []) p (say l v p) [] v
+pub goes-send : (l v : List ℕ) (i n : ℕ) (p : Steps) → length (p .sent) ≡ i → length v ≡ n → Goes (absorb l i n ∷ []) p (send l v p) [] v
 unfolding play
-goes-say l v i n p hi hn = record {
+goes-send l v i n p hi hn = record {
   draws = sym (append-nil (p .played .draws));
-  said = refl;
-  hears = λ w post h. ap (λ (e : List ℕ). absorbing l e (p .played)) (ap (part i n) h ∙ there (p .said) v post i n hi hn);
+  sent = refl;
+  plays = λ w post h. ap (λ (e : List ℕ). absorbing l e (p .played)) (ap (part i n) h ∙ there (p .sent) v post i n hi hn);
 }
 
-pub goes-ask : (l : List ℕ) (p : Steps) → Goes (draw l ∷ []) p (ask l p) (answerOf (ask l p) ∷ []) []
+pub goes-draw : (l : List ℕ) (p : Steps) → Goes (draw l ∷ []) p (drawOne l p) (lastDrawn (drawOne l p) ∷ []) []
 unfolding play
-goes-ask l p = record { draws = refl; said = sym (append-nil (p .said)); hears = λ w post h. refl }
+goes-draw l p = record { draws = refl; sent = sym (append-nil (p .sent)); plays = λ w post h. refl }
 
 -- a message of a round, and its challenge
-pub goes-round : (l v : List ℕ) (i n : ℕ) (p : Steps) → length (p .said) ≡ i → length v ≡ n
-    → Goes (absorb l i n ∷ draw l ∷ []) p (ask l (say l v p)) (answerOf (ask l (say l v p)) ∷ []) v
+pub goes-round : (l v : List ℕ) (i n : ℕ) (p : Steps) → length (p .sent) ≡ i → length v ≡ n
+    → Goes (absorb l i n ∷ draw l ∷ []) p (drawOne l (send l v p)) (lastDrawn (drawOne l (send l v p)) ∷ []) v
 goes-round l v i n p hi hn =
-    subst (λ (u : List ℕ). Goes (absorb l i n ∷ draw l ∷ []) p (ask l (say l v p)) (answerOf (ask l (say l v p)) ∷ []) u) (append-nil v)
-    (goes-then (goes-say l v i n p hi hn) (goes-ask l (say l v p)))
+    subst (λ (u : List ℕ). Goes (absorb l i n ∷ draw l ∷ []) p (drawOne l (send l v p)) (lastDrawn (drawOne l (send l v p)) ∷ []) u) (append-nil v)
+    (goes-then (goes-send l v i n p hi hn) (goes-draw l (send l v p)))
 
--- ---- elements that are said one at a time
-pub goes-each : (label : String) (first i : ℕ) (vs : List ℕ) (p : Steps) → length (p .said) ≡ first + i
-    → Goes (singles (numbered label) first i (length vs)) p (sayEach label i vs p) [] vs
-unfolding singles sayEach
+-- ---- elements that are sent one at a time
+pub goes-each : (label : String) (first i : ℕ) (vs : List ℕ) (p : Steps) → length (p .sent) ≡ first + i
+    → Goes (singles (numbered label) first i (length vs)) p (sendEach label i vs p) [] vs
+unfolding singles sendEach
 goes-each label first i [] p h = goes-none p
 goes-each label first i (v ∷ vs) p h =
-    goes-then (goes-say (numbered label i) (v ∷ []) (first + i) 1 p h refl)
-    (goes-each label first (suc i) vs (say (numbered label i) (v ∷ []) p) (length-append (p .said) (v ∷ []) ∙ more first i h))
+    goes-then (goes-send (numbered label i) (v ∷ []) (first + i) 1 p h refl)
+    (goes-each label first (suc i) vs (send (numbered label i) (v ∷ []) p) (length-append (p .sent) (v ∷ []) ∙ more first i h))
   where
     more : {n : ℕ} (first i : ℕ) → n ≡ first + i → n + 1 ≡ first + suc i
     more first i e = omega arith
 
 -- ---- n draws
-pub record Asks (es : List Event) (p q : Steps) (n : ℕ) : Type 0 where
+pub record DrawsMany (es : List Event) (p q : Steps) (n : ℕ) : Type 0 where
   pub rs : List ℕ
   pub count : length rs ≡ n
   pub goes : Goes es p q rs []
 
-pub asks : (n : ℕ) (l : List ℕ) (p : Steps) → Asks (replicate n (draw l)) p (askTimes n l p) n
-unfolding askTimes
-asks zero l p = record { rs = []; count = refl; goes = goes-none p }
-asks (suc n) l p =
-    let a : Asks (replicate n (draw l)) (ask l p) (askTimes n l (ask l p)) n = asks n l (ask l p) in
-    record { rs = answerOf (ask l p) ∷ a .rs; count = ap suc (a .count); goes = goes-then (goes-ask l p) (a .goes) }
+pub draws-many : (n : ℕ) (l : List ℕ) (p : Steps) → DrawsMany (replicate n (draw l)) p (drawTimes n l p) n
+unfolding drawTimes
+draws-many zero l p = record { rs = []; count = refl; goes = goes-none p }
+draws-many (suc n) l p =
+    let a : DrawsMany (replicate n (draw l)) (drawOne l p) (drawTimes n l (drawOne l p)) n = draws-many n l (drawOne l p) in
+    record { rs = lastDrawn (drawOne l p) ∷ a .rs; count = ap suc (a .count); goes = goes-then (goes-draw l p) (a .goes) }
 
 -- ---- the outer rounds
 -- what a prover holds after rounds with the challenges rs
@@ -126,20 +126,20 @@ placed u v first size i h k = length-append u v ∙ omega (arith, mul-suc size i
 both-length : (p : OuterSteps) → length (outerNext (p .bin) ++ outerNext (p .fld)) ≡ 8
 both-length p = length-append (outerNext (p .bin)) (outerNext (p .fld)) ∙ ap₂ _+_ (next-length (p .bin)) (next-length (p .fld))
 
-pub shared-rounds : (first i n : ℕ) (p : OuterSteps) → length (p .steps .said) ≡ first + 8 * i
+pub shared-rounds : (first i n : ℕ) (p : OuterSteps) → length (p .steps .sent) ≡ first + 8 * i
     → SharedRounds (rounds (numbered "vs-out-shared-") first 8 i n) p (sharedSteps i n p) n
 unfolding rounds sharedSteps sharedStep outerMessages inTurn
 shared-rounds first i zero p h = record { rs = []; count = refl; goes = goes-none (p .steps); bin = refl; fld = refl }
 shared-rounds first i (suc n) p h =
     let b : SharedRounds (rounds (numbered "vs-out-shared-") first 8 (suc i) n) (sharedStep i p) (sharedSteps (suc i) n (sharedStep i p)) n =
     shared-rounds first (suc i) n (sharedStep i p)
-    (placed (p .steps .said) (outerNext (p .bin) ++ outerNext (p .fld)) first 8 i h (both-length p))
+    (placed (p .steps .sent) (outerNext (p .bin) ++ outerNext (p .fld)) first 8 i h (both-length p))
     in
     record {
-      rs = answerOf (sharedStep i p .steps) ∷ b .rs;
+      rs = lastDrawn (sharedStep i p .steps) ∷ b .rs;
       count = ap suc (b .count);
       goes = subst (λ (u : List ℕ). Goes (rounds (numbered "vs-out-shared-") first 8 i (suc n)) (p .steps) (sharedSteps i (suc n) p .steps)
-          (answerOf (sharedStep i p .steps) ∷ b .rs) u)
+          (lastDrawn (sharedStep i p .steps) ∷ b .rs) u)
           (append-assoc (outerNext (p .bin)) (outerNext (p .fld))
           (inTurn (outerMessages (sharedStep i p .bin) (b .rs)) (outerMessages (sharedStep i p .fld) (b .rs))))
           (goes-then (goes-round (numbered "vs-out-shared-" i) (outerNext (p .bin) ++ outerNext (p .fld)) (first + 8 * i) 8 (p .steps) h (both-length p))
@@ -154,16 +154,16 @@ pub record RowRounds (es : List Event) (p q : RowSteps) (n : ℕ) : Type 0 where
   pub goes : Goes es (p .steps) (q .steps) rs (joined (outerMessages (p .held) rs))
   pub held : q .held ≡ folds rs (p .held)
 
-pub row-rounds : (label : String) (first i n : ℕ) (p : RowSteps) → length (p .steps .said) ≡ first + 4 * i
+pub row-rounds : (label : String) (first i n : ℕ) (p : RowSteps) → length (p .steps .sent) ≡ first + 4 * i
     → RowRounds (rounds (numbered label) first 4 i n) p (rowSteps label i n p) n
 unfolding rounds rowSteps rowStep outerMessages joined
 row-rounds label first i zero p h = record { rs = []; count = refl; goes = goes-none (p .steps); held = refl }
 row-rounds label first i (suc n) p h =
     let b : RowRounds (rounds (numbered label) first 4 (suc i) n) (rowStep label i p) (rowSteps label (suc i) n (rowStep label i p)) n =
-    row-rounds label first (suc i) n (rowStep label i p) (placed (p .steps .said) (outerNext (p .held)) first 4 i h (next-length (p .held)))
+    row-rounds label first (suc i) n (rowStep label i p) (placed (p .steps .sent) (outerNext (p .held)) first 4 i h (next-length (p .held)))
     in
     record {
-      rs = answerOf (rowStep label i p .steps) ∷ b .rs;
+      rs = lastDrawn (rowStep label i p .steps) ∷ b .rs;
       count = ap suc (b .count);
       goes = goes-then (goes-round (numbered label i) (outerNext (p .held)) (first + 4 * i) 4 (p .steps) h (next-length (p .held))) (b .goes);
       held = b .held;
@@ -185,17 +185,17 @@ pub record InnerRounds (es : List Event) (p q : InnerSteps) (n : ℕ) : Type 0 w
   pub goes : Goes es (p .steps) (q .steps) rs (joined (innerMessages (p .table) (p .z) rs))
   pub z : q .z ≡ binds rs (p .z)
 
-pub inner-rounds : (first i n : ℕ) (p : InnerSteps) → length (p .steps .said) ≡ first + 3 * i
+pub inner-rounds : (first i n : ℕ) (p : InnerSteps) → length (p .steps .sent) ≡ first + 3 * i
     → InnerRounds (rounds (λ _. ascii "vs-inner") first 3 i n) p (innerSteps n p) n
 unfolding rounds innerSteps innerStep innerMessages joined
 inner-rounds first i zero p h = record { rs = []; count = refl; goes = goes-none (p .steps); z = refl }
 inner-rounds first i (suc n) p h =
     let b : InnerRounds (rounds (λ _. ascii "vs-inner") first 3 (suc i) n) (innerStep p) (innerSteps n (innerStep p)) n =
     inner-rounds first (suc i) n (innerStep p)
-    (placed (p .steps .said) (innerMessage 0 (p .table) (p .z)) first 3 i h (inner-length (p .table) (p .z)))
+    (placed (p .steps .sent) (innerMessage 0 (p .table) (p .z)) first 3 i h (inner-length (p .table) (p .z)))
     in
     record {
-      rs = answerOf (innerStep p .steps) ∷ b .rs;
+      rs = lastDrawn (innerStep p .steps) ∷ b .rs;
       count = ap suc (b .count);
       goes = goes-then (goes-round (ascii "vs-inner") (innerMessage 0 (p .table) (p .z)) (first + 3 * i) 3 (p .steps) h
           (inner-length (p .table) (p .z))) (b .goes);
@@ -205,31 +205,31 @@ inner-rounds first i (suc n) p h =
 -- ---- steps behind others
 -- p, and behind it the steps q
 abbrev pub behind : Steps → Steps → Steps
-behind p q = record { played = onto (p .played .draws) (q .played); said = p .said ++ q .said }
+behind p q = record { played = onto (p .played .draws) (q .played); sent = p .sent ++ q .sent }
 
 abbrev behindInner : Steps → InnerSteps → InnerSteps
 behindInner p q = record { steps = behind p (q .steps); table = q .table; z = q .z }
 
-say-behind : (l v : List ℕ) (p q : Steps) → say l v (behind p q) ≡ behind p (say l v q)
-say-behind l v p q = λ j. record {
+send-behind : (l v : List ℕ) (p q : Steps) → send l v (behind p q) ≡ behind p (send l v q)
+send-behind l v p q = λ j. record {
   played = absorbing l v (onto (p .played .draws) (q .played));
-  said = append-assoc (p .said) (q .said) v j;
+  sent = append-assoc (p .sent) (q .sent) v j;
 }
 
-ask-behind : (l : List ℕ) (p q : Steps) → ask l (behind p q) ≡ behind p (ask l q)
-ask-behind l p q = λ j. record {
+draw-behind : (l : List ℕ) (p q : Steps) → drawOne l (behind p q) ≡ behind p (drawOne l q)
+draw-behind l p q = λ j. record {
   played = record {
-    transcript = ask l q .played .transcript;
-    draws = append-assoc (p .played .draws) (q .played .draws) (answerOf (ask l q) ∷ []) j;
+    transcript = drawOne l q .played .transcript;
+    draws = append-assoc (p .played .draws) (q .played .draws) (lastDrawn (drawOne l q) ∷ []) j;
   };
-  said = p .said ++ q .said;
+  sent = p .sent ++ q .sent;
 }
 
 inner-behind : (p : Steps) (q : InnerSteps) → innerStep (behindInner p q) ≡ behindInner p (innerStep q)
 unfolding innerStep
 inner-behind p q = λ j. record {
-  steps = ((ap (ask (ascii "vs-inner")) (say-behind (ascii "vs-inner") (innerMessage 0 (q .table) (q .z)) p (q .steps)))
-      ∙ ask-behind (ascii "vs-inner") p (say (ascii "vs-inner") (innerMessage 0 (q .table) (q .z)) (q .steps))) j;
+  steps = ((ap (drawOne (ascii "vs-inner")) (send-behind (ascii "vs-inner") (innerMessage 0 (q .table) (q .z)) p (q .steps)))
+      ∙ draw-behind (ascii "vs-inner") p (send (ascii "vs-inner") (innerMessage 0 (q .table) (q .z)) (q .steps))) j;
   table = innerStep q .table;
   z = innerStep q .z;
 }
@@ -239,18 +239,18 @@ unfolding innerSteps
 rounds-behind zero p q = refl
 rounds-behind (suc n) p q = ap (innerSteps n) (inner-behind p q) ∙ rounds-behind n p (innerStep q)
 
-pub each-behind : (label : String) (i : ℕ) (vs : List ℕ) (p q : Steps) → sayEach label i vs (behind p q) ≡ behind p (sayEach label i vs q)
-unfolding sayEach
+pub each-behind : (label : String) (i : ℕ) (vs : List ℕ) (p q : Steps) → sendEach label i vs (behind p q) ≡ behind p (sendEach label i vs q)
+unfolding sendEach
 each-behind label i [] p q = refl
 each-behind label i (v ∷ vs) p q =
-    ap (sayEach label (suc i) vs) (say-behind (numbered label i) (v ∷ []) p q)
-    ∙ each-behind label (suc i) vs p (say (numbered label i) (v ∷ []) q)
+    ap (sendEach label (suc i) vs) (send-behind (numbered label i) (v ∷ []) p q)
+    ∙ each-behind label (suc i) vs p (send (numbered label i) (v ∷ []) q)
 
 -- every run is behind its beginning
 pub behind-none : (p : Steps) → p ≡ behind p (begin (p .played .transcript))
 behind-none p = λ j. record {
   played = record { transcript = p .played .transcript; draws = sym (append-nil (p .played .draws)) j };
-  said = sym (append-nil (p .said)) j;
+  sent = sym (append-nil (p .sent)) j;
 }
 
 -- the inner rounds, v_z and the segment values behind any other steps
@@ -268,10 +268,10 @@ module _ (r : Relation) (t f x : List ℕ) where
   ended-behind : (low : List ℕ) (p : Steps) (q : InnerSteps) → ended r t f x low (behindInner p q) ≡ behind p (ended r t f x low q)
   unfolding ended
   ended-behind low p q =
-      ap (sayEach "vs-seg-" 0 (tabulate (segmentValue r t f x low) (length (r .lengths))))
-      (say-behind (ascii "vs-vz") (getD (q .z) 0 0 ∷ []) p (q .steps))
+      ap (sendEach "vs-seg-" 0 (tabulate (segmentValue r t f x low) (length (r .lengths))))
+      (send-behind (ascii "vs-vz") (getD (q .z) 0 0 ∷ []) p (q .steps))
       ∙ each-behind "vs-seg-" 0 (tabulate (segmentValue r t f x low) (length (r .lengths))) p
-      (say (ascii "vs-vz") (getD (q .z) 0 0 ∷ []) (q .steps))
+      (send (ascii "vs-vz") (getD (q .z) 0 0 ∷ []) (q .steps))
 
   pub inner-all-behind : (p q : Steps) → innerAll r t f x (behind p q) ≡ behind p (innerAll r t f x q)
   unfolding innerAll

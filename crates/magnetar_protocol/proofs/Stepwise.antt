@@ -1,4 +1,4 @@
--- The prover's run step by step goes along the schedule: what it says, what it draws, and that a verifier who is given its words hears
+-- The prover's run step by step goes along the schedule: what it sends, what it draws, and that a verifier who is given its words hears
 -- the same.
 -- Assumes nothing.
 use mathlib.Core.Path.{_≡_, refl, sym, ap, ap₂, _∙_, subst, subst₂}
@@ -20,26 +20,26 @@ use Rattle.magnetar_protocol.specs.Schedule.{Event, absorb, draw, number
 use Rattle.magnetar_protocol.specs.Play.{Played, playedFrom}
 use Rattle.magnetar_protocol.specs.Checks.{combined}
 use Rattle.magnetar_protocol.specs.Prover.{joined, inTurn}
-use Rattle.magnetar_protocol.specs.Stepwise.{Steps, begin, say, askTimes, sayEach, OuterSteps, sharedSteps, RowSteps, rowSteps, InnerSteps, Tables, tauSteps, outerBegin, binRows, fldRows, outerSteps, terminalsLeft, outerAll, innerRun, segmentValue, lowDraws, ended, innerAll}
+use Rattle.magnetar_protocol.specs.Stepwise.{Steps, begin, send, drawTimes, sendEach, OuterSteps, sharedSteps, RowSteps, rowSteps, InnerSteps, Tables, tauSteps, outerBegin, binRows, fldRows, outerSteps, terminalsLeft, outerAll, innerRun, segmentValue, lowDraws, ended, innerAll}
 use Rattle.magnetar_protocol.specs.RunSizes.{Elements}
 use Rattle.magnetar_protocol.specs.RealRun.{productTables, outerProving, outerDraws, proving}
-use Rattle.magnetar_protocol.proofs.Counts.{heard-count, heard-elements}
+use Rattle.magnetar_protocol.proofs.Counts.{played-count, played-elements}
 use Rattle.magnetar_protocol.proofs.Chunks.{joined-length, inTurn-length, past}
 use Rattle.magnetar_protocol.proofs.HonestParts.{outer-each, outer-count, inner-each, inner-count}
-use Rattle.magnetar_protocol.proofs.StepLaws.{Goes, goes-none, goes-then, goes-say, goes-each, Asks, asks, folds, SharedRounds, shared-rounds, RowRounds, row-rounds, InnerRounds, inner-rounds, binds, behind, inner-all-after}
+use Rattle.magnetar_protocol.proofs.StepLaws.{Goes, goes-none, goes-then, goes-send, goes-each, DrawsMany, draws-many, folds, SharedRounds, shared-rounds, RowRounds, row-rounds, InnerRounds, inner-rounds, binds, behind, inner-all-after}
 
 -- where steps that start at n elements end
-ends : {es : List Event} {p q : Steps} {rs v : List ℕ} (n k : ℕ) → Goes es p q rs v → length (p .said) ≡ n → length v ≡ k
-    → length (q .said) ≡ n + k
-ends {es} {p} {q} {rs} {v} n k g h l = ap length (g .said) ∙ length-append (p .said) v ∙ ap₂ _+_ h l
+ends : {es : List Event} {p q : Steps} {rs v : List ℕ} (n k : ℕ) → Goes es p q rs v → length (p .sent) ≡ n → length v ≡ k
+    → length (q .sent) ≡ n + k
+ends {es} {p} {q} {rs} {v} n k g h l = ap length (g .sent) ∙ length-append (p .sent) v ∙ ap₂ _+_ h l
 
 -- ---- the run up to the alphas, with any tables
 module _ (r : Relation) (T : Tables) (t : Transcript) where
   abbrev P₁ : Steps
-  P₁ = askTimes (logLogins r + logBin r) (ascii "vs-tau-bin") (begin t)
+  P₁ = drawTimes (logLogins r + logBin r) (ascii "vs-tau-bin") (begin t)
 
   abbrev P₂ : Steps
-  P₂ = askTimes (logLogins r + logFld r) (ascii "vs-tau-fld") P₁
+  P₂ = drawTimes (logLogins r + logFld r) (ascii "vs-tau-fld") P₁
 
   abbrev O₀ : OuterSteps
   O₀ = outerBegin r T P₂
@@ -54,31 +54,31 @@ module _ (r : Relation) (T : Tables) (t : Transcript) where
   O₃ = fldRows r T O₂
 
   abbrev P₄ : Steps
-  P₄ = sayEach "vs-terminal-" 0 (terminalsLeft r T O₃) (O₃ .steps)
+  P₄ = sendEach "vs-terminal-" 0 (terminalsLeft r T O₃) (O₃ .steps)
 
   abbrev P₅ : Steps
-  P₅ = askTimes 6 (ascii "vs-alpha") P₄
+  P₅ = drawTimes 6 (ascii "vs-alpha") P₄
 
   outer-is : outerAll r T (tauSteps r t) ≡ P₅
   unfolding outerAll outerSteps tauSteps
   outer-is = refl
 
   -- ---- the parts
-  taus-bin : Asks (replicate (logLogins r + logBin r) (draw (ascii "vs-tau-bin"))) (begin t) P₁ (logLogins r + logBin r)
-  taus-bin = asks (logLogins r + logBin r) (ascii "vs-tau-bin") (begin t)
+  taus-bin : DrawsMany (replicate (logLogins r + logBin r) (draw (ascii "vs-tau-bin"))) (begin t) P₁ (logLogins r + logBin r)
+  taus-bin = draws-many (logLogins r + logBin r) (ascii "vs-tau-bin") (begin t)
 
-  taus-fld : Asks (replicate (logLogins r + logFld r) (draw (ascii "vs-tau-fld"))) P₁ P₂ (logLogins r + logFld r)
-  taus-fld = asks (logLogins r + logFld r) (ascii "vs-tau-fld") P₁
+  taus-fld : DrawsMany (replicate (logLogins r + logFld r) (draw (ascii "vs-tau-fld"))) P₁ P₂ (logLogins r + logFld r)
+  taus-fld = draws-many (logLogins r + logFld r) (ascii "vs-tau-fld") P₁
 
-  said₂ : length (P₂ .said) ≡ 0
-  said₂ = ends 0 0 (taus-fld .goes) (ends 0 0 (taus-bin .goes) refl refl) refl
+  sent₂ : length (P₂ .sent) ≡ 0
+  sent₂ = ends 0 0 (taus-fld .goes) (ends 0 0 (taus-bin .goes) refl refl) refl
 
-  said₀ : length (O₀ .steps .said) ≡ 0 + 8 * 0
+  sent₀ : length (O₀ .steps .sent) ≡ 0 + 8 * 0
   unfolding outerBegin
-  said₀ = said₂
+  sent₀ = sent₂
 
   shareds : SharedRounds (rounds (numbered "vs-out-shared-") 0 8 0 (logLogins r)) O₀ O₁ (logLogins r)
-  shareds = shared-rounds 0 0 (logLogins r) O₀ said₀
+  shareds = shared-rounds 0 0 (logLogins r) O₀ sent₀
 
   abbrev binStart : RowSteps
   binStart = record { steps = O₁ .steps; held = O₁ .bin }
@@ -91,38 +91,38 @@ module _ (r : Relation) (T : Tables) (t : Transcript) where
   fours : (A : Outer) (rs : List ℕ) (n : ℕ) → length rs ≡ n → length (joined (outerMessages A rs)) ≡ 4 * n
   fours A rs n h = joined-length 4 (outerMessages A rs) (outer-each A rs) ∙ ap (λ (k : ℕ). 4 * k) (outer-count A rs ∙ h)
 
-  said₃ : length (O₁ .steps .said) ≡ 0 + 8 * 0 + 8 * logLogins r
-  said₃ = ends (0 + 8 * 0) (8 * logLogins r) (shareds .goes) said₀ (turns (O₀ .bin) (O₀ .fld) (shareds .rs) (logLogins r) (shareds .count))
+  sent₃ : length (O₁ .steps .sent) ≡ 0 + 8 * 0 + 8 * logLogins r
+  sent₃ = ends (0 + 8 * 0) (8 * logLogins r) (shareds .goes) sent₀ (turns (O₀ .bin) (O₀ .fld) (shareds .rs) (logLogins r) (shareds .count))
 
   rows-bin : RowRounds (rounds (numbered "vs-out-rowbin-") (8 * logLogins r) 4 0 (logBin r)) binStart
       (rowSteps "vs-out-rowbin-" 0 (logBin r) binStart) (logBin r)
-  rows-bin = row-rounds "vs-out-rowbin-" (8 * logLogins r) 0 (logBin r) binStart (said₃ ∙ omega arith)
+  rows-bin = row-rounds "vs-out-rowbin-" (8 * logLogins r) 0 (logBin r) binStart (sent₃ ∙ omega arith)
 
-  said₄ : length (O₂ .steps .said) ≡ 8 * logLogins r + 4 * logBin r
+  sent₄ : length (O₂ .steps .sent) ≡ 8 * logLogins r + 4 * logBin r
   unfolding binRows
-  said₄ = ends (8 * logLogins r) (4 * logBin r) (rows-bin .goes) (said₃ ∙ omega arith) (fours (O₁ .bin) (rows-bin .rs) (logBin r) (rows-bin .count))
+  sent₄ = ends (8 * logLogins r) (4 * logBin r) (rows-bin .goes) (sent₃ ∙ omega arith) (fours (O₁ .bin) (rows-bin .rs) (logBin r) (rows-bin .count))
 
   abbrev fldStart : RowSteps
   fldStart = record { steps = O₂ .steps; held = O₂ .fld }
 
   rows-fld : RowRounds (rounds (numbered "vs-out-rowfld-") (8 * logLogins r + 4 * logBin r) 4 0 (logFld r)) fldStart
       (rowSteps "vs-out-rowfld-" 0 (logFld r) fldStart) (logFld r)
-  rows-fld = row-rounds "vs-out-rowfld-" (8 * logLogins r + 4 * logBin r) 0 (logFld r) fldStart (said₄ ∙ omega arith)
+  rows-fld = row-rounds "vs-out-rowfld-" (8 * logLogins r + 4 * logBin r) 0 (logFld r) fldStart (sent₄ ∙ omega arith)
 
-  said₅ : length (O₃ .steps .said) ≡ beforeTerminals r
+  sent₅ : length (O₃ .steps .sent) ≡ beforeTerminals r
   unfolding fldRows
-  said₅ = ends (8 * logLogins r + 4 * logBin r) (4 * logFld r) (rows-fld .goes) said₄ (fours (O₂ .fld) (rows-fld .rs) (logFld r) (rows-fld .count))
+  sent₅ = ends (8 * logLogins r + 4 * logBin r) (4 * logFld r) (rows-fld .goes) sent₄ (fours (O₂ .fld) (rows-fld .rs) (logFld r) (rows-fld .count))
 
   ending : Goes (singles (numbered "vs-terminal-") (beforeTerminals r) 0 6) (O₃ .steps) P₄ [] (terminalsLeft r T O₃)
   unfolding terminalsLeft
-  ending = goes-each "vs-terminal-" (beforeTerminals r) 0 (terminalsLeft r T O₃) (O₃ .steps) (said₅ ∙ sym (add-zero (beforeTerminals r)))
+  ending = goes-each "vs-terminal-" (beforeTerminals r) 0 (terminalsLeft r T O₃) (O₃ .steps) (sent₅ ∙ sym (add-zero (beforeTerminals r)))
 
-  alphas : Asks (replicate 6 (draw (ascii "vs-alpha"))) P₄ P₅ 6
-  alphas = asks 6 (ascii "vs-alpha") P₄
+  alphas : DrawsMany (replicate 6 (draw (ascii "vs-alpha"))) P₄ P₅ 6
+  alphas = draws-many 6 (ascii "vs-alpha") P₄
 
-  said₆ : length (P₅ .said) ≡ beforeInner r
+  sent₆ : length (P₅ .sent) ≡ beforeInner r
   unfolding terminalsLeft
-  said₆ = ends (beforeTerminals r + 6) 0 (alphas .goes) (ends (beforeTerminals r) 6 ending said₅ refl) refl ∙ add-zero (beforeInner r)
+  sent₆ = ends (beforeTerminals r + 6) 0 (alphas .goes) (ends (beforeTerminals r) 6 ending sent₅ refl) refl ∙ add-zero (beforeInner r)
 
   -- ---- what the provers of the two systems hold
   pub tau-bin : List ℕ
@@ -211,25 +211,25 @@ module _ (r : Relation) (T : Tables) (t : Transcript) where
   abbrev pub outerDrawn : List ℕ → List ℕ
   outerDrawn ds = tau-bin ++ (tau-fld ++ (shared ++ (row-bin ++ (row-fld ++ (alpha ++ ds)))))
 
-  abbrev pub outerSaid : List ℕ → List ℕ
-  outerSaid v =
+  abbrev pub outerSent : List ℕ → List ℕ
+  outerSent v =
       inTurn (outerMessages binAtStart shared) (outerMessages fldAtStart shared)
       ++ (joined (outerMessages (folds shared binAtStart) row-bin)
       ++ (joined (outerMessages (folds shared fldAtStart) row-fld)
       ++ (leftOf ends-bin ends-fld ++ v)))
 
-  said-as : (A C A₁ C₁ : Outer) (l v : List ℕ) → A ≡ binAtStart → C ≡ fldAtStart → A₁ ≡ folds shared binAtStart → C₁ ≡ folds shared fldAtStart
+  sent-as : (A C A₁ C₁ : Outer) (l v : List ℕ) → A ≡ binAtStart → C ≡ fldAtStart → A₁ ≡ folds shared binAtStart → C₁ ≡ folds shared fldAtStart
       → l ≡ leftOf ends-bin ends-fld
       → inTurn (outerMessages A shared) (outerMessages C shared)
-      ++ (joined (outerMessages A₁ row-bin) ++ (joined (outerMessages C₁ row-fld) ++ (l ++ v))) ≡ outerSaid v
-  said-as A C A₁ C₁ l v e f g h k = λ j. inTurn (outerMessages (e j) shared) (outerMessages (f j) shared)
+      ++ (joined (outerMessages A₁ row-bin) ++ (joined (outerMessages C₁ row-fld) ++ (l ++ v))) ≡ outerSent v
+  sent-as A C A₁ C₁ l v e f g h k = λ j. inTurn (outerMessages (e j) shared) (outerMessages (f j) shared)
       ++ (joined (outerMessages (g j) row-bin) ++ (joined (outerMessages (h j) row-fld) ++ (k j ++ v)))
 
-  goes-outer : {es : List Event} {q : Steps} {ds v : List ℕ} → Goes es P₅ q ds v → Goes (outerEvents es) (begin t) q (outerDrawn ds) (outerSaid v)
+  goes-outer : {es : List Event} {q : Steps} {ds v : List ℕ} → Goes es P₅ q ds v → Goes (outerEvents es) (begin t) q (outerDrawn ds) (outerSent v)
   unfolding outerBegin binRows fldRows tau-bin tau-fld shared row-bin row-fld alpha
   goes-outer {es} {q} {ds} {v} g =
       subst (λ (u : List ℕ). Goes (outerEvents es) (begin t) q (outerDrawn ds) u)
-      (said-as (O₀ .bin) (O₀ .fld) (O₁ .bin) (O₂ .fld) (terminalsLeft r T O₃) v bin₀ fld₀ bin₁ fld₂ left-is)
+      (sent-as (O₀ .bin) (O₀ .fld) (O₁ .bin) (O₂ .fld) (terminalsLeft r T O₃) v bin₀ fld₀ bin₁ fld₂ left-is)
       (goes-then (taus-bin .goes) (goes-then (taus-fld .goes) (goes-then (shareds .goes) (goes-then (rows-bin .goes)
       (goes-then (rows-fld .goes) (goes-then ending (goes-then (alphas .goes) g)))))))
 
@@ -258,14 +258,14 @@ module _ (r : Relation) (T : Tables) (t : Transcript) where
   unfolding alpha
   alpha-length = alphas .count
 
-  outer-goes : Goes (outerEvents []) (begin t) (outerAll r T (tauSteps r t)) (outerDrawn []) (outerSaid [])
-  outer-goes = subst (λ (q : Steps). Goes (outerEvents []) (begin t) q (outerDrawn []) (outerSaid [])) (sym outer-is) (goes-outer (goes-none P₅))
+  outer-goes : Goes (outerEvents []) (begin t) (outerAll r T (tauSteps r t)) (outerDrawn []) (outerSent [])
+  outer-goes = subst (λ (q : Steps). Goes (outerEvents []) (begin t) q (outerDrawn []) (outerSent [])) (sym outer-is) (goes-outer (goes-none P₅))
 
   pub outer-draws : outerAll r T (tauSteps r t) .played .draws ≡ outerDrawn []
   outer-draws = outer-goes .draws
 
-  pub outer-said-length : length (outerAll r T (tauSteps r t) .said) ≡ beforeInner r
-  outer-said-length = ap (λ (q : Steps). length (q .said)) outer-is ∙ said₆
+  pub outer-sent-length : length (outerAll r T (tauSteps r t) .sent) ≡ beforeInner r
+  outer-sent-length = ap (λ (q : Steps). length (q .sent)) outer-is ∙ sent₆
 
   drawn-length : (ds : List ℕ) → length (outerDrawn ds)
       ≡ (logLogins r + logBin r) + ((logLogins r + logFld r) + (logLogins r + (logBin r + (logFld r + (6 + length ds)))))
@@ -325,8 +325,8 @@ module _ (r : Relation) (T : Tables) (t : Transcript) where
       at₆ : drop (logLogins r + logBin r + (logLogins r + logFld r) + logLogins r + logBin r + logFld r + 6) (outerDrawn ds) ≡ ds
       at₆ = past (logLogins r + logBin r + (logLogins r + logFld r) + logLogins r + logBin r + logFld r) 6 (outerDrawn ds) alpha ds at₅ alpha-length
 
--- ---- the inner rounds, v_z and the segment values, behind steps that said n elements
-module _ (r : Relation) (c f x : List ℕ) (p : Steps) (n : ℕ) (h : length (p .said) ≡ n) where
+-- ---- the inner rounds, v_z and the segment values, behind steps that sent n elements
+module _ (r : Relation) (c f x : List ℕ) (p : Steps) (n : ℕ) (h : length (p .sent) ≡ n) where
   abbrev I₀ : InnerSteps
   I₀ = record { steps = p; table = c; z = f ++ (1 ∷ x) }
 
@@ -347,8 +347,8 @@ module _ (r : Relation) (c f x : List ℕ) (p : Steps) (n : ℕ) (h : length (p 
   unfolding inner-drawn
   inner-drawn-length = inners .count
 
-  rounds-said : length (I₁ .steps .said) ≡ n + 3 * logCols r
-  rounds-said = ends n (3 * logCols r) (inners .goes) h
+  rounds-sent : length (I₁ .steps .sent) ≡ n + 3 * logCols r
+  rounds-sent = ends n (3 * logCols r) (inners .goes) h
       (joined-length 3 (innerMessages c (f ++ (1 ∷ x)) (inners .rs)) (inner-each c (f ++ (1 ∷ x)) (inners .rs))
       ∙ ap (λ (k : ℕ). 3 * k) (inner-count c (f ++ (1 ∷ x)) (inners .rs) ∙ inners .count))
 
@@ -356,19 +356,19 @@ module _ (r : Relation) (c f x : List ℕ) (p : Steps) (n : ℕ) (h : length (p 
   low = lowDraws r c f x (length (p .played .draws)) (I₁ .steps)
 
   abbrev P₆ : Steps
-  P₆ = say (ascii "vs-vz") (getD (I₁ .z) 0 0 ∷ []) (I₁ .steps)
+  P₆ = send (ascii "vs-vz") (getD (I₁ .z) 0 0 ∷ []) (I₁ .steps)
 
   abbrev segs : List ℕ
   segs = tabulate (segmentValue r c f x low) (length (r .lengths))
 
   vz : Goes (absorb (ascii "vs-vz") (n + 3 * logCols r) 1 ∷ []) (I₁ .steps) P₆ [] (getD (I₁ .z) 0 0 ∷ [])
-  vz = goes-say (ascii "vs-vz") (getD (I₁ .z) 0 0 ∷ []) (n + 3 * logCols r) 1 (I₁ .steps) rounds-said refl
+  vz = goes-send (ascii "vs-vz") (getD (I₁ .z) 0 0 ∷ []) (n + 3 * logCols r) 1 (I₁ .steps) rounds-sent refl
 
   each : Goes (singles (numbered "vs-seg-") (n + 3 * logCols r + 1) 0 (length (r .lengths))) P₆ (innerAll r c f x p) [] segs
   unfolding innerAll ended
-  each = subst (λ (k : ℕ). Goes (singles (numbered "vs-seg-") (n + 3 * logCols r + 1) 0 k) P₆ (sayEach "vs-seg-" 0 segs P₆) [] segs)
+  each = subst (λ (k : ℕ). Goes (singles (numbered "vs-seg-") (n + 3 * logCols r + 1) 0 k) P₆ (sendEach "vs-seg-" 0 segs P₆) [] segs)
       (tabulate-length (segmentValue r c f x low) (length (r .lengths)))
-      (goes-each "vs-seg-" (n + 3 * logCols r + 1) 0 segs P₆ (ends (n + 3 * logCols r) 1 vz rounds-said refl ∙ sym (add-zero (n + 3 * logCols r + 1))))
+      (goes-each "vs-seg-" (n + 3 * logCols r + 1) 0 segs P₆ (ends (n + 3 * logCols r) 1 vz rounds-sent refl ∙ sym (add-zero (n + 3 * logCols r + 1))))
 
   pub low-is : low ≡ take (logCols r - 1) inner-drawn
   unfolding lowDraws inner-drawn
@@ -379,13 +379,13 @@ module _ (r : Relation) (c f x : List ℕ) (p : Steps) (n : ℕ) (h : length (p 
   innerEvents = rounds (λ _. ascii "vs-inner") n 3 0 (logCols r)
       ++ (absorb (ascii "vs-vz") (n + 3 * logCols r) 1 ∷ singles (numbered "vs-seg-") (n + 3 * logCols r + 1) 0 (length (r .lengths)))
 
-  -- what is said, from the draws
-  abbrev pub innerSaid : List ℕ
-  innerSaid =
+  -- what is sent, from the draws
+  abbrev pub innerSent : List ℕ
+  innerSent =
       joined (innerMessages c (f ++ (1 ∷ x)) inner-drawn)
       ++ (getD (binds inner-drawn (f ++ (1 ∷ x))) 0 0 ∷ tabulate (segmentValue r c f x (take (logCols r - 1) inner-drawn)) (length (r .lengths)))
 
-  pub goes-inner : Goes innerEvents p (innerAll r c f x p) inner-drawn innerSaid
+  pub goes-inner : Goes innerEvents p (innerAll r c f x p) inner-drawn innerSent
   unfolding inner-drawn
   goes-inner =
       subst₂ (λ (ds v : List ℕ). Goes innerEvents p (innerAll r c f x p) ds v) (append-nil (inners .rs))
@@ -393,9 +393,9 @@ module _ (r : Relation) (c f x : List ℕ) (p : Steps) (n : ℕ) (h : length (p 
       ++ (getD (inners .z j) 0 0 ∷ tabulate (segmentValue r c f x (low-is j)) (length (r .lengths))))
       (goes-then (inners .goes) (goes-then vz each))
 
-  pub inner-said-length : length innerSaid ≡ 3 * logCols r + 1 + length (r .lengths)
+  pub inner-sent-length : length innerSent ≡ 3 * logCols r + 1 + length (r .lengths)
   unfolding inner-drawn
-  inner-said-length =
+  inner-sent-length =
       length-append (joined (innerMessages c (f ++ (1 ∷ x)) (inners .rs))) _
       ∙ ap₂ _+_ (joined-length 3 (innerMessages c (f ++ (1 ∷ x)) (inners .rs)) (inner-each c (f ++ (1 ∷ x)) (inners .rs))
       ∙ ap (λ (k : ℕ). 3 * k) (inner-count c (f ++ (1 ∷ x)) (inners .rs) ∙ inners .count))
@@ -416,9 +416,9 @@ module _ (r : Relation) (b : Batch) (x : List ℕ) (t : Transcript) where
   abbrev f : List ℕ
   f = folded (r .q) (r .m / 2) b (loginPoint (outerDraws r b x t))
 
-  outer-proving-length : length (outerProving r b x t .said) ≡ beforeInner r
+  outer-proving-length : length (outerProving r b x t .sent) ≡ beforeInner r
   unfolding outerProving
-  outer-proving-length = outer-said-length r T t
+  outer-proving-length = outer-sent-length r T t
 
   pub inner-of : List ℕ
   inner-of = inner-drawn r c f x (outerProving r b x t) (beforeInner r) outer-proving-length
@@ -428,12 +428,12 @@ module _ (r : Relation) (b : Batch) (x : List ℕ) (t : Transcript) where
   inner-of-length = inner-drawn-length r c f x (outerProving r b x t) (beforeInner r) outer-proving-length
 
   -- v_z and the segment values, from the draws of the inner rounds
-  abbrev pub lastSaid : List ℕ → List ℕ
-  lastSaid ds =
+  abbrev pub lastSent : List ℕ → List ℕ
+  lastSent ds =
       joined (innerMessages c (f ++ (1 ∷ x)) ds)
       ++ (getD (binds ds (f ++ (1 ∷ x))) 0 0 ∷ tabulate (segmentValue r c f x (take (logCols r - 1) ds)) (length (r .lengths)))
 
-  goes-proving : Goes (schedule r) (begin t) (proving r b x t) (outerDrawn r T t inner-of) (outerSaid r T t (lastSaid inner-of))
+  goes-proving : Goes (schedule r) (begin t) (proving r b x t) (outerDrawn r T t inner-of) (outerSent r T t (lastSent inner-of))
   unfolding schedule proving outerProving inner-of outerAll outerSteps tauSteps
   goes-proving = goes-outer r T t (goes-inner r c f x (outerProving r b x t) (beforeInner r) outer-proving-length)
 
@@ -441,35 +441,35 @@ module _ (r : Relation) (b : Batch) (x : List ℕ) (t : Transcript) where
   pub proving-draws : proving r b x t .played .draws ≡ outerDrawn r T t inner-of
   proving-draws = goes-proving .draws
 
-  pub proving-said : proving r b x t .said ≡ outerSaid r T t (lastSaid inner-of)
-  proving-said = goes-proving .said
+  pub proving-sent : proving r b x t .sent ≡ outerSent r T t (lastSent inner-of)
+  proving-sent = goes-proving .sent
 
-  -- the verifier that is given the words hears the same
-  pub hears-the-same : playedFrom (proving r b x t .said) (schedule r) t ≡ proving r b x t .played
-  hears-the-same = goes-proving .hears (proving r b x t .said) [] (sym (append-nil (proving r b x t .said)))
+  -- the verifier that is given the words plays the same
+  pub plays-the-same : playedFrom (proving r b x t .sent) (schedule r) t ≡ proving r b x t .played
+  plays-the-same = goes-proving .plays (proving r b x t .sent) [] (sym (append-nil (proving r b x t .sent)))
 
   -- the words are as many as document 01 says, the draws as many as the schedule says
-  pub proving-length : length (proving r b x t .said) ≡ proofElements r
+  pub proving-length : length (proving r b x t .sent) ≡ proofElements r
   unfolding proving
   proving-length =
       ends (beforeInner r) (3 * logCols r + 1 + length (r .lengths))
       (goes-inner r c f x (outerProving r b x t) (beforeInner r) outer-proving-length) outer-proving-length
-      (inner-said-length r c f x (outerProving r b x t) (beforeInner r) outer-proving-length)
+      (inner-sent-length r c f x (outerProving r b x t) (beforeInner r) outer-proving-length)
       ∙ omega arith
 
   pub proving-count : length (proving r b x t .played .draws) ≡ drawCount r
-  proving-count = ap (λ (p : Played). length (p .draws)) (sym hears-the-same) ∙ heard-count r (proving r b x t .said) t
+  proving-count = ap (λ (p : Played). length (p .draws)) (sym plays-the-same) ∙ played-count r (proving r b x t .sent) t
 
   pub proving-elements : Elements (proving r b x t .played .draws)
-  proving-elements = subst (λ (p : Played). Elements (p .draws)) hears-the-same (heard-elements (proving r b x t .said) (schedule r) t)
+  proving-elements = subst (λ (p : Played). Elements (p .draws)) plays-the-same (played-elements (proving r b x t .sent) (schedule r) t)
 
   -- the run up to the alphas comes first
   pub proving-after : proving r b x t ≡ behind (outerProving r b x t) (innerAll r c f x (begin (outerProving r b x t .played .transcript)))
   unfolding proving
   proving-after = inner-all-after r c f x (outerProving r b x t)
 
-  pub outer-proving-said : length (outerProving r b x t .said) ≡ beforeInner r
-  outer-proving-said = outer-proving-length
+  pub outer-proving-sent : length (outerProving r b x t .sent) ≡ beforeInner r
+  outer-proving-sent = outer-proving-length
 
   pub outer-proving-count : length (outerProving r b x t .played .draws) ≡ drawCount r - logCols r
   unfolding outerProving

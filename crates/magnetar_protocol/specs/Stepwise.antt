@@ -1,4 +1,4 @@
--- The prover's run step by step, as its functions make it: what it says is absorbed and added to the proof, and what it asks for is
+-- The prover's run step by step, as its functions make it: what it sends is absorbed and added to the proof, and what it draws is
 -- drawn. `proofs/Stepwise` and `proofs/ProverRun` show that its words are `proverWords` at its draws and that the schedule, played on them,
 -- makes the same draws.
 -- Assumes nothing.
@@ -23,33 +23,33 @@ use Rattle.magnetar_protocol.specs.Play.{Played, start, absorbing, drawi
 -- the run so far: the transcript with the draws, and the proof's elements
 pub record Steps : Type 0 where
   pub played : Played
-  pub said : List ℕ
+  pub sent : List ℕ
 
--- nothing said or drawn so far
+-- nothing sent or drawn so far
 abbrev pub begin : Transcript → Steps
-begin t = record { played = start t; said = [] }
+begin t = record { played = start t; sent = [] }
 
--- elements are said: absorbed under a label, and added to the proof
-abbrev pub say : List ℕ → List ℕ → Steps → Steps
-say label v p = record { played = absorbing label v (p .played); said = p .said ++ v }
+-- elements are sent: absorbed under a label, and added to the proof
+abbrev pub send : List ℕ → List ℕ → Steps → Steps
+send label v p = record { played = absorbing label v (p .played); sent = p .sent ++ v }
 
--- an element is asked for
-abbrev pub ask : List ℕ → Steps → Steps
-ask label p = record { played = drawing label (p .played); said = p .said }
+-- an element is drawn
+abbrev pub drawOne : List ℕ → Steps → Steps
+drawOne label p = record { played = drawing label (p .played); sent = p .sent }
 
 -- the element that was drawn last
-abbrev pub answerOf : Steps → ℕ
-answerOf p = value (transcript.element (p .played .transcript))
+abbrev pub lastDrawn : Steps → ℕ
+lastDrawn p = value (transcript.element (p .played .transcript))
 
--- n elements are asked for
-unfoldable pub askTimes : ℕ → List ℕ → Steps → Steps
-askTimes zero label p = p
-askTimes (suc n) label p = askTimes n label (ask label p)
+-- n elements are drawn
+unfoldable pub drawTimes : ℕ → List ℕ → Steps → Steps
+drawTimes zero label p = p
+drawTimes (suc n) label p = drawTimes n label (drawOne label p)
 
--- elements are said one at a time, from number i on
-unfoldable pub sayEach : String → ℕ → List ℕ → Steps → Steps
-sayEach label i [] p = p
-sayEach label i (v ∷ vs) p = sayEach label (suc i) vs (say (numbered label i) (v ∷ []) p)
+-- elements are sent one at a time, from number i on
+unfoldable pub sendEach : String → ℕ → List ℕ → Steps → Steps
+sendEach label i [] p = p
+sendEach label i (v ∷ vs) p = sendEach label (suc i) vs (send (numbered label i) (v ∷ []) p)
 
 -- ---- the outer rounds
 -- the run, and what the prover of each system holds
@@ -60,12 +60,12 @@ pub record OuterSteps : Type 0 where
 
 -- both are folded by the element drawn last
 abbrev pub foldedBoth : Steps → OuterSteps → OuterSteps
-foldedBoth s p = record { steps = s; bin = outerFold (answerOf s) (p .bin); fld = outerFold (answerOf s) (p .fld) }
+foldedBoth s p = record { steps = s; bin = outerFold (lastDrawn s) (p .bin); fld = outerFold (lastDrawn s) (p .fld) }
 
--- shared round i: both messages are said at once
+-- shared round i: both messages are sent at once
 unfoldable pub sharedStep : ℕ → OuterSteps → OuterSteps
 sharedStep i p =
-    foldedBoth (ask (numbered "vs-out-shared-" i) (say (numbered "vs-out-shared-" i) (outerNext (p .bin) ++ outerNext (p .fld)) (p .steps))) p
+    foldedBoth (drawOne (numbered "vs-out-shared-" i) (send (numbered "vs-out-shared-" i) (outerNext (p .bin) ++ outerNext (p .fld)) (p .steps))) p
 
 -- n shared rounds from round i on
 unfoldable pub sharedSteps : (i n : ℕ) → OuterSteps → OuterSteps
@@ -79,11 +79,11 @@ pub record RowSteps : Type 0 where
 
 -- it is folded by the element drawn last
 abbrev pub foldedOne : Steps → RowSteps → RowSteps
-foldedOne s p = record { steps = s; held = outerFold (answerOf s) (p .held) }
+foldedOne s p = record { steps = s; held = outerFold (lastDrawn s) (p .held) }
 
 -- row round i of one system
 unfoldable pub rowStep : String → ℕ → RowSteps → RowSteps
-rowStep label i p = foldedOne (ask (numbered label i) (say (numbered label i) (outerNext (p .held)) (p .steps))) p
+rowStep label i p = foldedOne (drawOne (numbered label i) (send (numbered label i) (outerNext (p .held)) (p .steps))) p
 
 -- n row rounds from round i on
 unfoldable pub rowSteps : String → (i n : ℕ) → RowSteps → RowSteps
@@ -99,11 +99,11 @@ pub record InnerSteps : Type 0 where
 
 -- both tables with their lowest variable bound to the element drawn last
 abbrev pub bound : Steps → InnerSteps → InnerSteps
-bound s p = record { steps = s; table = bindVar 0 (answerOf s) (p .table); z = bindVar 0 (answerOf s) (p .z) }
+bound s p = record { steps = s; table = bindVar 0 (lastDrawn s) (p .table); z = bindVar 0 (lastDrawn s) (p .z) }
 
 -- an inner round, which binds the lowest variable
 unfoldable pub innerStep : InnerSteps → InnerSteps
-innerStep p = bound (ask (ascii "vs-inner") (say (ascii "vs-inner") (innerMessage 0 (p .table) (p .z)) (p .steps))) p
+innerStep p = bound (drawOne (ascii "vs-inner") (send (ascii "vs-inner") (innerMessage 0 (p .table) (p .z)) (p .steps))) p
 
 -- n inner rounds
 unfoldable pub innerSteps : ℕ → InnerSteps → InnerSteps
@@ -123,7 +123,7 @@ pub record Tables : Type 0 where
 module _ (r : Relation) where
   -- the two taus
   unfoldable pub tauSteps : Transcript → Steps
-  tauSteps t = askTimes (logLogins r + logFld r) (ascii "vs-tau-fld") (askTimes (logLogins r + logBin r) (ascii "vs-tau-bin") (begin t))
+  tauSteps t = drawTimes (logLogins r + logFld r) (ascii "vs-tau-fld") (drawTimes (logLogins r + logBin r) (ascii "vs-tau-bin") (begin t))
 
   -- the outer rounds, the terminals and the alphas
   module _ (T : Tables) where
@@ -163,7 +163,7 @@ module _ (r : Relation) where
 
     -- the outer rounds, the terminals and the alphas, after the taus
     unfoldable pub outerAll : Steps → Steps
-    outerAll p = askTimes 6 (ascii "vs-alpha") (sayEach "vs-terminal-" 0 (terminalsLeft (outerSteps p)) (outerSteps p .steps))
+    outerAll p = drawTimes 6 (ascii "vs-alpha") (sendEach "vs-terminal-" 0 (terminalsLeft (outerSteps p)) (outerSteps p .steps))
 
   -- the inner rounds, v_z and the segment values, with the combined table t, the folded witness columns f and the public columns x
   module _ (t f x : List ℕ) where
@@ -179,10 +179,10 @@ module _ (r : Relation) where
     unfoldable pub lowDraws : ℕ → Steps → List ℕ
     lowDraws n p = take (logCols r - 1) (drop n (p .played .draws))
 
-    -- v_z and the segment values are said
+    -- v_z and the segment values are sent
     unfoldable pub ended : List ℕ → InnerSteps → Steps
     ended low q =
-        sayEach "vs-seg-" 0 (tabulate (segmentValue low) (length (r .lengths))) (say (ascii "vs-vz") (getD (q .z) 0 0 ∷ []) (q .steps))
+        sendEach "vs-seg-" 0 (tabulate (segmentValue low) (length (r .lengths))) (send (ascii "vs-vz") (getD (q .z) 0 0 ∷ []) (q .steps))
 
     -- the inner rounds, v_z and the segment values
     unfoldable pub innerAll : Steps → Steps

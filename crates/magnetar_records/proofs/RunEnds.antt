@@ -27,7 +27,7 @@ use Rattle.magnetar_spartan.specs.Rules.{Rules, rules, relationOf}
 use Rattle.magnetar_spartan.specs.Refusals.{verifyTests, systemRows, counterTests, roomOf, wordTests, proofWords, claimWords, verifierRoom}
 use Rattle.magnetar_spartan.specs.Ready.{Ready, VerifyReady}
 use Rattle.magnetar_spartan.specs.Outcome.{verifyRefusal, verifyOutcome}
-use Rattle.magnetar_spartan.proofs.Verifying.{sizesOf, heard-all, drawn-words, schedule-small}
+use Rattle.magnetar_spartan.proofs.Verifying.{sizesOf, played-all, drawn-words, schedule-small}
 use Rattle.magnetar_spartan.proofs.VerifyRun.{Left, out-outer, out-later, out-none}
 use Rattle.magnetar_spartan.proofs.Ended.{Verifiable, verifiable, draws-small}
 use Rattle.magnetar_spartan.proofs.Ended as core
@@ -201,7 +201,7 @@ module _ (n₁ m₁ : ℕ) (ab : List Entry) (n₂ m₂ : ℕ) (bb : List Entry)
 
       words-are : W ≡ words (verifierDraws (relationOf R) (elements w) t)
       unfolding verifierDraws lentOf
-      words-are = ap (λ (p : Played). words (p .draws)) (heard-all R (elements w) t 65536 (schedule-small R (ok .ready)))
+      words-are = ap (λ (p : Played). words (p .draws)) (played-all R (elements w) t 65536 (schedule-small R (ok .ready)))
 
       same : D ≡ W
       same = draws-are ∙ sym words-are

@@ -33,10 +33,10 @@ use Rattle.magnetar_spartan.specs.Refusals.{proofWords, claimWords, proverRoom}
 use Rattle.magnetar_spartan.specs.Ready.{Ready}
 use Rattle.magnetar_spartan.specs.Outcome.{batchOf, proveRefusal, proveOutcome}
 use Rattle.magnetar_spartan.specs.Later.{drawsBefore, proofBefore, laterTranscript, laterProof, laterDraws, OuterLeft}
-use Rattle.magnetar_spartan.proofs.Chains.{halves}
+use Rattle.magnetar_rounds.proofs.Guarded.{even-size as halves}
 use Rattle.magnetar_spartan.proofs.Complete.{sized-batch}
 use Rattle.magnetar_spartan.proofs.Ended.{Provable, provable, draws-small, prove-through}
-use Rattle.magnetar_spartan.proofs.LaterRun.{inner-ready, inner-drawn-many, inner-said-many, later-left}
+use Rattle.magnetar_spartan.proofs.LaterRun.{inner-ready, inner-drawn-many, inner-sent-many, later-left}
 use Rattle.magnetar_spartan.proofs.ProveRun.{ProveLeft, blocks-fit, outer-left, outer-counter, run-left}
 use Rattle.magnetar_spartan.proofs.SizedRules.{sized-relation}
 use Rattle.magnetar_inplace.specs.declared.records.Entry.{Entry}
@@ -141,7 +141,7 @@ module _ (R : Rules) (ws x w c s : List ℕ) (t : Transcript) (ok : Provable R w
   unless-long (suc z) v d = rw (ne-eqb (suc z) 0 (λ h. omega arith)) refl
 
   w₁-long : length w₁ ≡ proofWords R
-  w₁-long = unless-long Z (words (O .said)) w₀ ∙ w₀-long
+  w₁-long = unless-long Z (words (O .sent)) w₀ ∙ w₀-long
 
   pub d₁-long : length d₁ ≡ 2 * drawCount (outline m q b f ns)
   d₁-long = unless-long Z (words (O .played .draws)) d₀ ∙ d₀-long
@@ -239,10 +239,10 @@ module _ (R : Rules) (ws x w c s : List ℕ) (t : Transcript) (ok : Provable R w
     played-is = rw (side-front, side-behind, elements-words F, drawn-same)
 
     -- the words of the proof and of the draws
-    said-is : saidAll q b f w₂ p ≡ take (proofBefore R) w₁ ++ words (p .said)
+    said-is : saidAll q b f w₂ p ≡ take (proofBefore R) w₁ ++ words (p .sent)
     said-is =
         let e : saidBefore q b f ≡ proofBefore R = omega arith in
-        ap (λ (v : List ℕ). v ++ words (p .said)) (take-append-le (saidBefore q b f) w₁ (drop (min (proofWordsOf m q b f (length ns)) (length w)) w) (omega (arith, w₁-long)) ∙ ap (λ (i : ℕ). take i w₁) e)
+        ap (λ (v : List ℕ). v ++ words (p .sent)) (take-append-le (saidBefore q b f) w₁ (drop (min (proofWordsOf m q b f (length ns)) (length w)) w) (omega (arith, w₁-long)) ∙ ap (λ (i : ℕ). take i w₁) e)
 
     drawn-is : drawnAll q b f d₂ p ≡ take (drawsBefore R) d₁ ++ words (p .played .draws)
     drawn-is =
@@ -256,19 +256,19 @@ module _ (R : Rules) (ws x w c s : List ℕ) (t : Transcript) (ok : Provable R w
         (ap₂ (λ (i j : ℕ). elements (take i (drop j side))) even four ∙ (ap elements side-behind ∙ elements-words F))
         (p .played .transcript) w₁ (saidAll q b f w₂ p) (drawnAll q b f d₂ p)
         (ap (λ (y : Steps). y .played .transcript) (sym played-is))
-        (said-is ∙ ap (λ (y : Steps). take (proofBefore R) w₁ ++ words (y .said)) (sym played-is))
+        (said-is ∙ ap (λ (y : Steps). take (proofBefore R) w₁ ++ words (y .sent)) (sym played-is))
         (drawn-is ∙ ap (λ (y : Steps). take (drawsBefore R) d₁ ++ words (y .played .draws)) (sym played-is))
 
-    said-many : length (p .said) ≡ 3 * log₂ m + 1 + length ns
-    said-many = inner-said-many (outline m 1 1 1 ns) (elements (take (2 * m) S₂)) (folded q (m / 2) (unpacked q (m / 2) ws) (reverse (take (log₂ q) (drop (loginAt q b f) (elements d₂))))) (elements x) u₁
+    said-many : length (p .sent) ≡ 3 * log₂ m + 1 + length ns
+    said-many = inner-sent-many (outline m 1 1 1 ns) (elements (take (2 * m) S₂)) (folded q (m / 2) (unpacked q (m / 2) ws) (reverse (take (log₂ q) (drop (loginAt q b f) (elements d₂))))) (elements x) u₁
 
     drawn-many : length (p .played .draws) ≡ log₂ m
     drawn-many = inner-drawn-many (outline m 1 1 1 ns) (elements (take (2 * m) S₂)) (folded q (m / 2) (unpacked q (m / 2) ws) (reverse (take (log₂ q) (drop (loginAt q b f) (elements d₂))))) (elements x) u₁
 
     said-long : length (saidAll q b f w₂ p) ≡ proofWords R
     said-long =
-        length-append (take (saidBefore q b f) w₂) (words (p .said))
-        ∙ omega (arith, length-take-le (saidBefore q b f) w₂ (omega (arith, w₂-long, ok .proof)), words-length (p .said), said-many)
+        length-append (take (saidBefore q b f) w₂) (words (p .sent))
+        ∙ omega (arith, length-take-le (saidBefore q b f) w₂ (omega (arith, w₂-long, ok .proof)), words-length (p .sent), said-many)
 
     drawn-long : length (drawnAll q b f d₂ p) ≡ 2 * drawCount (outline m q b f ns)
     drawn-long =

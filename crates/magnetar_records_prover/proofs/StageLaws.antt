@@ -27,7 +27,7 @@ use Rattle.magnetar_rounds.specs.Entries.{outerRoundsRefusal, outerPlayed, bloc
 use Rattle.magnetar_hash.specs.declared.transcript.TranscriptAnswer.{TranscriptAnswer}
 use Rattle.magnetar_checks.specs.Claims.{claimsOut}
 use Rattle.magnetar_spartan.specs.Ready.{FoldReady, InnerReady}
-use Rattle.magnetar_spartan.proofs.Chains.{halves}
+use Rattle.magnetar_rounds.proofs.Guarded.{even-size as halves}
 use Rattle.magnetar_spartan.proofs.Combining.{noted-none, size-fine, same-fine, most-fine}
 use Rattle.magnetar_spartan.proofs.LaterRun.{point-reversed, logins-few, fold-front, fold-behind, inner-none, finish-left}
 use Rattle.magnetar_records_prover.specs.Parts.{proofWordsOf, claimWordsOf, proverRoomWords}
@@ -113,7 +113,7 @@ module _ (m q rb rf l b f a k : ℕ) (ns x w d s : List ℕ) (t : Transcript) (e
       let pw : 2 * beforeInner (outline m q rb rf ns) ≡ saidBefore q rb rf = omega arith in
       let pd : 2 * (drawCount (outline m q rb rf ns) - logCols (outline m q rb rf ns)) ≡ drawnBefore q rb rf = omega arith in (
         r .0,
-        rw (ea) (r .1 .0) ∙ ap (λ (n : ℕ). take n w ++ words (P .said)) pw,
+        rw (ea) (r .1 .0) ∙ ap (λ (n : ℕ). take n w ++ words (P .sent)) pw,
         rw (ek) (r .1 .1) ∙ ap (λ (n : ℕ). take n d ++ words (P .played .draws)) pd,
         es ∙ rw z,
       )
@@ -147,7 +147,7 @@ module _ (m q b f i k n : ℕ) (ns w d c s : List ℕ) (p : Steps) (x y : ℕ) (
       let lw : length (take i w) ≡ 2 * proofElements (outline m q b f ns) = length-take-le i w (omega (arith, fi, E .proof)) ∙ omega (arith, fi, segments) in
       let ld : length (take n d) ≡ 2 * drawCount (outline m q b f ns) = length-take-le n d (omega (arith, fn, E .drawn, E .draws)) ∙ fn in
       let r = (rw (front-part i w, front-part n d, front-part k c) at h) (E .inner) lw ld (E .scratch) in
-      let sw : saidAll q b f (take i w) p ≡ saidAll q b f w p = ap (λ (v : List ℕ). v ++ words (p .said)) (take-take (saidBefore q b f) i w (omega (arith, fi))) in
+      let sw : saidAll q b f (take i w) p ≡ saidAll q b f w p = ap (λ (v : List ℕ). v ++ words (p .sent)) (take-take (saidBefore q b f) i w (omega (arith, fi))) in
       let sd : drawnAll q b f (take n d) p ≡ drawnAll q b f d p = ap (λ (v : List ℕ). v ++ words (p .played .draws)) (take-take (drawnBefore q b f) n d (omega (arith, fn))) in (
         r .0,
         front-put i w w′ ∙ (ap (λ (v : List ℕ). v ++ drop i w) (r .1 ∙ sw) ∙ ap (λ (j : ℕ). saidAll q b f w p ++ drop j w) fi),

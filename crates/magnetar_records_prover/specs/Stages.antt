@@ -61,7 +61,7 @@ FoldLeft q w n k ws d s s′ =
 -- ---- the inner rounds, with the steps p
 -- the words of the proof and of the draws when they have ended
 abbrev pub saidAll : (q b f : ℕ) → (w : List ℕ) → Steps → List ℕ
-saidAll q b f w p = take (saidBefore q b f) w ++ words (p .said)
+saidAll q b f w p = take (saidBefore q b f) w ++ words (p .sent)
 
 abbrev pub drawnAll : (q b f : ℕ) → (d : List ℕ) → Steps → List ℕ
 drawnAll q b f d p = take (drawnBefore q b f) d ++ words (p .played .draws)

@@ -125,13 +125,7 @@ pub struct Captured {
 // A round that draws its challenge, whose message has n coefficients: the check first; then the message is absorbed and the challenge
 // drawn, both under the label. A wrong message leaves the claim and the transcript, and so does one that is refused with 11, and a
 // counter of 2^32 or more (14).
-pub fn round_capturing(
-    msg: &[u64],
-    n: usize,
-    claim: Gf128,
-    t: Transcript,
-    label: &[u8],
-) -> Captured
+pub fn round_capturing(msg: &[u64], n: usize, claim: Gf128, t: Transcript, label: &[u8]) -> Captured
     ensures { λ o. ⌜ capturedBy o ≡ captureOutcome n (now (msg .entry)) (value claim) t (now (label .entry)) ⌝ }
 {
     if !is_message(msg, n) {

@@ -1,4 +1,4 @@
--- The eq table of a tau in its place, and the terminals said one at a time.
+-- The eq table of a tau in its place, and the terminals sent one at a time.
 -- Assumes nothing.
 use mathlib.Core.Path.{_≡_, refl, sym, ap, ap₂, _∙_}
 use mathlib.Core.List.{List, [], _∷_, _++_}
@@ -20,9 +20,9 @@ use Rattle.magnetar_r1cs.proofs.Points.{eq-built}
 use Rattle.magnetar_matrix.proofs.TableLaws.{elements-words}
 use Rattle.magnetar_round.specs.Messages.{outerStart}
 use Rattle.magnetar_rounds.specs.Entries.{tableAt}
-use Rattle.magnetar_rounds.specs.Held.{outerIn, heardOne, Said, saidIn, saidEach, threeIn, Begun}
+use Rattle.magnetar_rounds.specs.Held.{outerIn, absorbedOne, Sent, sentIn, sentEach, threeIn, Begun}
 use Rattle.magnetar_rounds.proofs.Slots.{part-size, part-is, fore-back, fore-length, mid-front, mid-at}
-use Rattle.magnetar_rounds.proofs.Said.{elements-take, table-first}
+use Rattle.magnetar_rounds.proofs.Sent.{elements-take, table-first}
 
 -- the eq table of x elements from o on, in the first w words of s
 module _ (draws s last : List ℕ) (o x w : ℕ) (few : x ≤ 20) (room : 2 * (o + x) ≤ length draws) (fits : w ≤ length s) (size : w ≡ 2 * 2 ^ x) where
@@ -121,13 +121,13 @@ begun-outer high w tau s₀ s h =
 
 -- ---- the terminals
 each-one : (label : String) (i j k m n x y : ℕ) (vs : List ℕ) (t u : Transcript) (proof p′ : List ℕ) → j ≡ suc i → m ≡ n → x ≡ y
-    → u ≡ heardOne t (numbered label i) x → take n (elements p′) ≡ take k (elements proof) ++ (x ∷ [])
-    → saidEach label j vs (saidIn m u p′) ≡ saidEach label i (y ∷ vs) (saidIn k t proof)
-unfolding saidEach
+    → u ≡ absorbedOne t (numbered label i) x → take n (elements p′) ≡ take k (elements proof) ++ (x ∷ [])
+    → sentEach label j vs (sentIn m u p′) ≡ sentEach label i (y ∷ vs) (sentIn k t proof)
+unfolding sentEach
 each-one label i j k m n x y vs t u proof p′ a b c e f =
-    ap₂ (λ (q : ℕ) (p : Said). saidEach label q vs p) a
-    (ap₂ (λ (v : Transcript) (l : List ℕ). record { transcript = v; said = l })
-    (e ∙ ap (heardOne t (numbered label i)) c) (ap (λ (q : ℕ). take q (elements p′)) b ∙ (f ∙ ap (λ (v : ℕ). take k (elements proof) ++ (v ∷ [])) c)))
+    ap₂ (λ (q : ℕ) (p : Sent). sentEach label q vs p) a
+    (ap₂ (λ (v : Transcript) (l : List ℕ). record { transcript = v; sent = l })
+    (e ∙ ap (absorbedOne t (numbered label i)) c) (ap (λ (q : ℕ). take q (elements p′)) b ∙ (f ∙ ap (λ (v : ℕ). take k (elements proof) ++ (v ∷ [])) c)))
 
 module _ (label : String) (i p w : ℕ) (s p₀ p₁ p₂ p₃ : List ℕ) (t u v r : Transcript) (even : w % 2 ≡ 0) where
   at-a : getD (elements s) (w / 2) 0 ≡ getD (tableAt w 2 s) 0 0
@@ -139,29 +139,29 @@ module _ (label : String) (i p w : ℕ) (s p₀ p₁ p₂ p₃ : List ℕ) (t u 
   at-c : getD (elements s) (w + w / 2) 0 ≡ getD (tableAt (3 * w) 2 s) 0 0
   at-c = sym (table-first s (3 * w) (w + w / 2) 2 (omega (arith, even)) (omega arith))
 
-  none : (j : ℕ) (q : Said) → saidEach label j [] q ≡ q
-  unfolding saidEach
+  none : (j : ℕ) (q : Sent) → sentEach label j [] q ≡ q
+  unfolding sentEach
   none j q = refl
 
-  pub three-said : u ≡ heardOne t (numbered label i) (getD (elements s) (w / 2) 0)
+  pub three-sent : u ≡ absorbedOne t (numbered label i) (getD (elements s) (w / 2) 0)
       → take (p + 1) (elements p₁) ≡ take p (elements p₀) ++ (getD (elements s) (w / 2) 0 ∷ [])
-      → v ≡ heardOne u (numbered label (i + 1)) (getD (elements s) w 0)
+      → v ≡ absorbedOne u (numbered label (i + 1)) (getD (elements s) w 0)
       → take (p + 1 + 1) (elements p₂) ≡ take (p + 1) (elements p₁) ++ (getD (elements s) w 0 ∷ [])
-      → r ≡ heardOne v (numbered label (i + 2)) (getD (elements s) (w + w / 2) 0)
+      → r ≡ absorbedOne v (numbered label (i + 2)) (getD (elements s) (w + w / 2) 0)
       → take (p + 2 + 1) (elements p₃) ≡ take (p + 2) (elements p₂) ++ (getD (elements s) (w + w / 2) 0 ∷ [])
-      → saidIn (p + 3) r p₃ ≡ saidEach label i (threeIn w s) (saidIn p t p₀)
-  three-said a b c d e f =
-      sym (none (suc (i + 2)) (saidIn (p + 3) r p₃))
+      → sentIn (p + 3) r p₃ ≡ sentEach label i (threeIn w s) (sentIn p t p₀)
+  three-sent a b c d e f =
+      sym (none (suc (i + 2)) (sentIn (p + 3) r p₃))
       ∙ (each-one label (i + 2) (suc (i + 2)) (p + 2) (p + 3) (p + 2 + 1) (getD (elements s) (w + w / 2) 0) (getD (tableAt (3 * w) 2 s) 0 0) [] v r p₂ p₃ refl (omega arith) at-c e f
       ∙ (each-one label (i + 1) (i + 2) (p + 1) (p + 2) (p + 1 + 1) (getD (elements s) w 0) (getD (tableAt (2 * w) 2 s) 0 0) (getD (tableAt (3 * w) 2 s) 0 0 ∷ []) u v p₁ p₂ (omega arith) (omega arith) at-b c d
       ∙ each-one label i (i + 1) p (p + 1) (p + 1) (getD (elements s) (w / 2) 0) (getD (tableAt w 2 s) 0 0) (getD (tableAt (2 * w) 2 s) 0 0 ∷ getD (tableAt (3 * w) 2 s) 0 0 ∷ []) t u p₀ p₁ (omega arith) refl at-a a b))
 
 -- both blocks
-pub six-said : (label : String) (p b f : ℕ) (bin fld p₀ p₁ p₂ : List ℕ) (t u r : Transcript)
-    → saidIn (p + 3) u p₁ ≡ saidEach label 0 (threeIn b bin) (saidIn p t p₀)
-    → saidIn (p + 3 + 3) r p₂ ≡ saidEach label 3 (threeIn f fld) (saidIn (p + 3) u p₁)
-    → saidIn (p + 6) r p₂ ≡ saidEach label 0 (threeIn b bin ++ threeIn f fld) (saidIn p t p₀)
-unfolding saidEach
-six-said label p b f bin fld p₀ p₁ p₂ t u r e g =
+pub six-sent : (label : String) (p b f : ℕ) (bin fld p₀ p₁ p₂ : List ℕ) (t u r : Transcript)
+    → sentIn (p + 3) u p₁ ≡ sentEach label 0 (threeIn b bin) (sentIn p t p₀)
+    → sentIn (p + 3 + 3) r p₂ ≡ sentEach label 3 (threeIn f fld) (sentIn (p + 3) u p₁)
+    → sentIn (p + 6) r p₂ ≡ sentEach label 0 (threeIn b bin ++ threeIn f fld) (sentIn p t p₀)
+unfolding sentEach
+six-sent label p b f bin fld p₀ p₁ p₂ t u r e g =
     let q : p + 6 ≡ p + 3 + 3 = omega arith in
-    ap (λ (k : ℕ). saidIn k r p₂) q ∙ (g ∙ ap (saidEach label 3 (threeIn f fld)) e)
+    ap (λ (k : ℕ). sentIn k r p₂) q ∙ (g ∙ ap (sentEach label 3 (threeIn f fld)) e)

@@ -12,7 +12,7 @@ use Rattle.magnetar_field.specs.Words.{elements, words}
 use Rattle.magnetar_field.proofs.Elements.{words-length}
 use Rattle.magnetar_rounds.specs.Shared.{Dropped, Folded}
 use Rattle.magnetar_rounds.proofs.Slots.{take-of-drop, part-is, mid-length, mid-front, mid-upto, mid-at, fore-length, fore-in, fore-back}
-use Rattle.magnetar_rounds.proofs.Said.{elements-take, elements-after}
+use Rattle.magnetar_rounds.proofs.Sent.{elements-take, elements-after}
 
 -- what is lent of the second block
 module _ (s t : List ℕ) (q n : ℕ) (size : length s ≡ q + n) (one : length t ≡ q) where
@@ -93,8 +93,8 @@ module _ (proof t u v w : List ℕ) (p : ℕ) (room : 2 * p + 16 ≤ length proo
       ∙ (append-assoc (take (2 * p) proof) t u
       ∙ ap (λ (l : List ℕ). take (2 * p) proof ++ l) (ap₂ (λ (x y : List ℕ). x ++ y) is so ∙ words-join v w)))
 
-  pub both-said : take (p + 8) (elements p₂) ≡ take p (elements proof) ++ (v ++ w)
-  both-said =
+  pub both-sent : take (p + 8) (elements p₂) ≡ take p (elements proof) ++ (v ++ w)
+  both-sent =
       let e : 2 * (p + 8) ≡ 2 * p + 8 + 8 = omega arith in
       elements-take (p + 8) p₂
       ∙ (ap (λ (i : ℕ). elements (take i p₂)) e

@@ -15,7 +15,7 @@ use Rattle.magnetar_hash.specs.Bytes.{ascii}
 use Rattle.magnetar_hash.specs.declared.transcript.Transcript.{Transcript}
 use Rattle.magnetar_layout.specs.Layout.{offset, localVars}
 use Rattle.magnetar_protocol.specs.Schedule.{outline}
-use Rattle.magnetar_protocol.specs.Stepwise.{InnerSteps, begin, say, sayEach, innerSteps, innerRun, segmentValue, lowDraws, ended, innerAll}
+use Rattle.magnetar_protocol.specs.Stepwise.{InnerSteps, begin, send, sendEach, innerSteps, innerRun, segmentValue, lowDraws, ended, innerAll}
 use Rattle.magnetar_rounds.specs.Held.{Locals, segmentIn, innerEnded, innerWhole}
 use Rattle.magnetar_rounds.specs.Entries.{tableAt, innerPlayed}
 use Rattle.magnetar_rounds.proofs.Slots.{take-of-drop}
@@ -39,7 +39,7 @@ ends-same : (m q b f : ℕ) (ns t c x : List ℕ) (k : ℕ) (p : InnerSteps) →
     → innerEnded ns c p ≡ ended (outline m q b f ns) t c x (take k (p .steps .played .draws)) p
 unfolding innerEnded ended
 ends-same m q b f ns t c x k p few =
-    ap (λ (vs : List ℕ). sayEach "vs-seg-" 0 vs (say (ascii "vs-vz") (getD (p .z) 0 0 ∷ []) (p .steps)))
+    ap (λ (vs : List ℕ). sendEach "vs-seg-" 0 vs (send (ascii "vs-vz") (getD (p .z) 0 0 ∷ []) (p .steps)))
     (tabulate-ext (segmentIn ns c (p .steps .played .draws)) (segmentValue (outline m q b f ns) t c x (take k (p .steps .played .draws))) (length ns)
     (λ i h. value-is m q b f ns t c x k (p .steps .played .draws) i (few i h)))
 

@@ -71,7 +71,7 @@ sizes-of m ns x e =
 pub record InnerFits (m : ℕ) (ns x proof draws s : List ℕ) : Type 0 where
   pub sizes : Sizes m ns x
   pub drawn : 2 * log₂ m ≤ length draws
-  pub said : 2 * (3 * log₂ m + 1 + length ns) ≤ length proof
+  pub sent : 2 * (3 * log₂ m + 1 + length ns) ≤ length proof
   pub scratch : 6 * m ≤ length s
 
 pub inner-fits : (m : ℕ) (ns x proof draws s : List ℕ) (t : Transcript) → innerRoundsRefusal m ns x proof draws s t ≡ 0 → InnerFits m ns x proof draws s
@@ -81,7 +81,7 @@ inner-fits m ns x proof draws s t e =
     record {
       sizes = sizes-of m ns x (noted-good (k .0) (k .1 .0) (k .1 .1 .0) (k .1 .1 .1 .0) (k .1 .1 .1 .1 .0));
       drawn = ltb-false _ _ (k .1 .1 .1 .1 .1 .1 .0);
-      said = ltb-false _ _ (k .1 .1 .1 .1 .1 .1 .1 .0);
+      sent = ltb-false _ _ (k .1 .1 .1 .1 .1 .1 .1 .0);
       scratch = ltb-false _ _ (k .1 .1 .1 .1 .1 .1 .1 .1 .0);
     }
   where

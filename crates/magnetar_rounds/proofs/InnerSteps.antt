@@ -16,7 +16,7 @@ use Rattle.magnetar_round.specs.Inner.{innerMessage, innerSums}
 use Rattle.magnetar_protocol.specs.Stepwise.{Steps, InnerSteps, innerStep, innerSteps}
 use Rattle.magnetar_rounds.specs.Entries.{tableAt}
 use Rattle.magnetar_rounds.specs.Held.{innerIn, Table}
-use Rattle.magnetar_rounds.proofs.Said.{round-said}
+use Rattle.magnetar_rounds.proofs.Sent.{round-sent}
 
 pub inner-three : (v : ℕ) (t z : List ℕ) → length (innerMessage v t z) ≡ 3
 unfolding innerMessage innerSums
@@ -36,7 +36,7 @@ pub inner-stepped : (m n k d c : ℕ) (t u : Transcript) (proof p′ draws d′ 
 unfolding innerStep
 inner-stepped m n k d c t u proof p′ draws d′ s s′ e f g h a b =
     let q = g ∙ ap (λ (x : Transcript). value (transcript.element x)) e in
-    inner-eq (round-said (ascii "vs-inner") t u proof p′ draws d′ (innerMessage 0 (tableAt 0 n s) (tableAt (2 * m) n s)) k 3 d c e f g h)
+    inner-eq (round-sent (ascii "vs-inner") t u proof p′ draws d′ (innerMessage 0 (tableAt 0 n s) (tableAt (2 * m) n s)) k 3 d c e f g h)
     (a ∙ ap (λ (x : ℕ). bindVar 0 x (tableAt 0 n s)) q) (b ∙ ap (λ (x : ℕ). bindVar 0 x (tableAt (2 * m) n s)) q)
 
 -- ---- the loop: what is left of the rounds, made from where the run stands, is all of them from the start

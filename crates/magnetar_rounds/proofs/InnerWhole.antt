@@ -13,21 +13,21 @@ use Rattle.magnetar_field.proofs.Elements.{elements-length}
 use Rattle.magnetar_hash.specs.Bytes.{ascii}
 use Rattle.magnetar_hash.specs.declared.transcript.Transcript.{Transcript}
 use Rattle.magnetar_protocol.specs.Schedule.{numbered}
-use Rattle.magnetar_protocol.specs.Stepwise.{Steps, InnerSteps, begin, say, sayEach, innerSteps}
+use Rattle.magnetar_protocol.specs.Stepwise.{Steps, InnerSteps, begin, send, sendEach, innerSteps}
 use Rattle.magnetar_rounds.specs.Entries.{tableAt}
-use Rattle.magnetar_rounds.specs.Held.{stepsIn, innerIn, Locals, segmentIn, Said, saidIn, saidEach, heardOne, innerEnded, innerWhole}
+use Rattle.magnetar_rounds.specs.Held.{stepsIn, innerIn, Locals, segmentIn, Sent, sentIn, sentEach, absorbedOne, innerEnded, innerWhole}
 use Rattle.magnetar_rounds.proofs.Slots.{take-of-drop, fore-back}
-use Rattle.magnetar_rounds.proofs.Said.{steps-eq}
+use Rattle.magnetar_rounds.proofs.Sent.{steps-eq}
 use Rattle.magnetar_rounds.proofs.InnerSteps.{inner-eq}
 
--- what is said, with the draws beside it
-abbrev pub beside : List ℕ → Said → Steps
-beside d p = record { played = record { transcript = p .transcript; draws = d }; said = p .said }
+-- what is sent, with the draws beside it
+abbrev pub beside : List ℕ → Sent → Steps
+beside d p = record { played = record { transcript = p .transcript; draws = d }; sent = p .sent }
 
-pub each-beside : (label : String) (i : ℕ) (vs d : List ℕ) (p : Said) → sayEach label i vs (beside d p) ≡ beside d (saidEach label i vs p)
-unfolding sayEach saidEach
+pub each-beside : (label : String) (i : ℕ) (vs d : List ℕ) (p : Sent) → sendEach label i vs (beside d p) ≡ beside d (sentEach label i vs p)
+unfolding sendEach sentEach
 each-beside label i [] d p = refl
-each-beside label i (v ∷ vs) d p = each-beside label (suc i) vs d (record { transcript = heardOne (p .transcript) (numbered label i) v; said = p .said ++ (v ∷ []) })
+each-beside label i (v ∷ vs) d p = each-beside label (suc i) vs d (record { transcript = absorbedOne (p .transcript) (numbered label i) v; sent = p .sent ++ (v ∷ []) })
 
 pub locals-wider : (w : ℕ) (ns : List ℕ) (a b : ℕ) → a ≤ b → Locals w ns a → Locals w ns b
 locals-wider w ns a b h l = record {
@@ -35,7 +35,7 @@ locals-wider w ns a b h l = record {
 }
 
 ended-is : (ns f : List ℕ) (q : InnerSteps) → innerEnded ns f q
-    ≡ sayEach "vs-seg-" 0 (tabulate (segmentIn ns f (q .steps .played .draws)) (length ns)) (say (ascii "vs-vz") (getD (q .z) 0 0 ∷ []) (q .steps))
+    ≡ sendEach "vs-seg-" 0 (tabulate (segmentIn ns f (q .steps .played .draws)) (length ns)) (send (ascii "vs-vz") (getD (q .z) 0 0 ∷ []) (q .steps))
 unfolding innerEnded
 ended-is ns f q = refl
 
@@ -76,15 +76,15 @@ module _ (k w : ℕ) (ns x s₀ s₁ s₂ p₀ p₁ p₂ p₃ d₀ d₁ : List �
 
   pub whole-is : tableAt 0 (4 * w) s₁ ≡ table → tableAt (4 * w) (4 * w) s₁ ≡ columns ++ (1 ∷ x) → tableAt (8 * w) (2 * w) s₁ ≡ columns
       → ends ≡ innerSteps k (innerIn (2 * w) (2 * (2 * w)) 0 0 t p₀ d₀ (take (8 * w) s₁))
-      → v ≡ heardOne u (ascii "vs-vz") (getD (tableAt (4 * w) 2 (s₂ ++ drop (8 * w) s₁)) 0 0)
+      → v ≡ absorbedOne u (ascii "vs-vz") (getD (tableAt (4 * w) 2 (s₂ ++ drop (8 * w) s₁)) 0 0)
       → take (3 * k + 1) (elements p₂) ≡ take (3 * k) (elements p₁) ++ (getD (tableAt (4 * w) 2 (s₂ ++ drop (8 * w) s₁)) 0 0 ∷ [])
-      → saidIn (3 * k + 1 + length ns) r p₃ ≡ saidEach "vs-seg-" 0 (tabulate (segmentIn ns (tableAt 0 (2 * w) (take (12 * w - 8 * w) (drop (8 * w) (s₂ ++ drop (8 * w) s₁)))) (elements d₁)) (length ns)) (saidIn (3 * k + 1) v p₂)
+      → sentIn (3 * k + 1 + length ns) r p₃ ≡ sentEach "vs-seg-" 0 (tabulate (segmentIn ns (tableAt 0 (2 * w) (take (12 * w - 8 * w) (drop (8 * w) (s₂ ++ drop (8 * w) s₁)))) (elements d₁)) (length ns)) (sentIn (3 * k + 1) v p₂)
       → stepsIn (3 * k + 1 + length ns) k r p₃ d₁ ≡ innerWhole k ns table columns x t
   unfolding innerWhole
   whole-is a b c e f g h =
       ap (beside (take k (elements d₁))) h
-      ∙ (sym (each-beside "vs-seg-" 0 _ (take k (elements d₁)) (saidIn (3 * k + 1) v p₂))
-      ∙ (ap₂ (λ (l : List ℕ) (p : Steps). sayEach "vs-seg-" 0 l p) values said
+      ∙ (sym (each-beside "vs-seg-" 0 _ (take k (elements d₁)) (sentIn (3 * k + 1) v p₂))
+      ∙ (ap₂ (λ (l : List ℕ) (p : Steps). sendEach "vs-seg-" 0 l p) values sent
       ∙ (sym (ended-is ns columns ends)
       ∙ ap (innerEnded ns columns) (e ∙ ap (innerSteps k) (begins a b)))))
     where
@@ -92,5 +92,5 @@ module _ (k w : ℕ) (ns x s₀ s₁ s₂ p₀ p₁ p₂ p₃ d₀ d₁ : List �
           ≡ tabulate (segmentIn ns columns (take k (elements d₁))) (length ns)
       values = ap₂ (λ (l m : List ℕ). tabulate (segmentIn ns l m) (length ns)) (copy-there c) (sym all-drawn)
 
-      said : stepsIn (3 * k + 1) k v p₂ d₁ ≡ say (ascii "vs-vz") (getD (tableAt (2 * (2 * w)) 2 s₂) 0 0 ∷ []) (stepsIn (3 * k) k u p₁ d₁)
-      said = steps-eq (f ∙ ap (heardOne u (ascii "vs-vz")) (sym z-there)) refl (g ∙ ap (λ (y : ℕ). take (3 * k) (elements p₁) ++ (y ∷ [])) (sym z-there))
+      sent : stepsIn (3 * k + 1) k v p₂ d₁ ≡ send (ascii "vs-vz") (getD (tableAt (2 * (2 * w)) 2 s₂) 0 0 ∷ []) (stepsIn (3 * k) k u p₁ d₁)
+      sent = steps-eq (f ∙ ap (absorbedOne u (ascii "vs-vz")) (sym z-there)) refl (g ∙ ap (λ (y : ℕ). take (3 * k) (elements p₁) ++ (y ∷ [])) (sym z-there))

@@ -14,13 +14,13 @@ use Rattle.magnetar_hash.specs.Bytes.{ascii}
 use Rattle.magnetar_hash.specs.declared.transcript.Transcript.{Transcript}
 use Rattle.magnetar_round.specs.Messages.{Outer, outerStart}
 use Rattle.magnetar_protocol.specs.Schedule.{outline}
-use Rattle.magnetar_protocol.specs.Stepwise.{Steps, RowSteps, Tables, askTimes, sharedSteps, rowSteps, tauSteps, outerBegin, binRows, fldRows, outerSteps, terminalsLeft, outerAll}
+use Rattle.magnetar_protocol.specs.Stepwise.{Steps, RowSteps, Tables, drawTimes, sharedSteps, rowSteps, tauSteps, outerBegin, binRows, fldRows, outerSteps, terminalsLeft, outerAll}
 use Rattle.magnetar_protocol.proofs.StepLaws.{row-rounds}
 use Rattle.magnetar_rounds.specs.Entries.{tableAt, tablesIn}
-use Rattle.magnetar_rounds.specs.Held.{stepsIn, outerIn, rowIn, saidIn, saidEach, threeIn, Begun}
+use Rattle.magnetar_rounds.specs.Held.{stepsIn, outerIn, rowIn, sentIn, sentEach, threeIn, Begun}
 use Rattle.magnetar_rounds.specs.Shared.{sharedIn}
 use Rattle.magnetar_rounds.specs.Whole.{tausOf, beginOf, binOf, fldOf, endOf, outerWhole}
-use Rattle.magnetar_rounds.proofs.Drawn.{asked-saying}
+use Rattle.magnetar_rounds.proofs.Drawn.{drawn-sending}
 use Rattle.magnetar_rounds.proofs.Begun.{begun-outer}
 use Rattle.magnetar_rounds.proofs.InnerWhole.{beside, each-beside}
 
@@ -45,7 +45,7 @@ whole-is m q rb rf ns T t = refl
 pub rows-keep : (label : String) (n k : ℕ) (p : RowSteps) → k ≡ length (p .steps .played .draws)
     → take k (rowSteps label 0 n p .steps .played .draws) ≡ p .steps .played .draws
 rows-keep label n k p h =
-    let g = row-rounds label (length (p .steps .said)) 0 n p (omega arith) in
+    let g = row-rounds label (length (p .steps .sent)) 0 n p (omega arith) in
     ap (take k) (g .goes .draws) ∙ take-at (p .steps .played .draws) (g .rs) k (sym h)
 
 -- the tau of a system are read off the same elements
@@ -153,15 +153,15 @@ module _ (l b f wb wf : ℕ) (lb : l + b < 62) (lf : l + f < 62) where
       ≡ sharedSteps 0 l (sharedIn 0 (l + b + (l + f)) l b f 0 (l + b) 1 1 wb wf wb wf u p0 d1 s1)
       → rowIn a2 e2 o2 k3 wb 2 t3 p3 d3 bin3 ≡ rowSteps "vs-out-rowbin-" 0 b (rowIn a1 e1 0 kb wb (2 * 2 ^ b) t2 p2 d2 (take (4 * wb) s2))
       → rowIn a3 e3 o3 k4 wf 2 t4 p4 d4 fld4 ≡ rowSteps "vs-out-rowfld-" 0 f (rowIn a2 e2 (l + b) kf wf (2 * 2 ^ f) t3 p3 d3 (drop (4 * wb) s2))
-      → saidIn (a3 + 6) t5 p5 ≡ saidEach "vs-terminal-" 0 (threeIn wb bin3 ++ threeIn wf fld4) (saidIn a3 t4 p4)
-      → stepsIn 0 (e3 + 6) t6 [] d6 ≡ askTimes 6 (ascii "vs-alpha") (stepsIn 0 e3 t5 [] d4)
+      → sentIn (a3 + 6) t5 p5 ≡ sentEach "vs-terminal-" 0 (threeIn wb bin3 ++ threeIn wf fld4) (sentIn a3 t4 p4)
+      → stepsIn 0 (e3 + 6) t6 [] d6 ≡ drawTimes 6 (ascii "vs-alpha") (stepsIn 0 e3 t5 [] d4)
       → stepsIn (a3 + 6) (e3 + 6) t6 p5 d6 ≡ outerWhole l b f (tablesIn wb wf bin0 fld0) t
   unfolding outerWhole
   joined a1 e1 a2 e2 a3 e3 o2 o3 kb kf k3 k4 t u t2 t3 t4 t5 t6 p0 d1 bin0 fld0 s1 p2 d2 s2 p3 d3 bin3 p4 d4 fld4 p5 d6 he h12 hs h0 hb hf h2 h3 h4 h5 h6 =
-      asked-saying 6 (a3 + 6) e3 (e3 + 6) (ascii "vs-alpha") t5 t6 p5 d4 d6 h6
-      ∙ ap (askTimes 6 (ascii "vs-alpha"))
+      drawn-sending 6 (a3 + 6) e3 (e3 + 6) (ascii "vs-alpha") t5 t6 p5 d4 d6 h6
+      ∙ ap (drawTimes 6 (ascii "vs-alpha"))
       (ap (beside (take e3 (elements d4))) h5
-      ∙ sym (each-beside "vs-terminal-" 0 (threeIn wb bin3 ++ threeIn wf fld4) (take e3 (elements d4)) (saidIn a3 t4 p4)))
+      ∙ sym (each-beside "vs-terminal-" 0 (threeIn wb bin3 ++ threeIn wf fld4) (take e3 (elements d4)) (sentIn a3 t4 p4)))
       ∙ ap endOf
       (fld-rows a1 e1 a2 e2 a3 e3 o2 o3 kb kf k3 k4 t2 t3 t4 p2 d2 s2 p3 d3 bin3 p4 d4 fld4 he h12 hs h3 h4
       ∙ ap (fldOf f)

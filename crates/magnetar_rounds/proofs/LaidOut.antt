@@ -13,7 +13,7 @@ use Rattle.magnetar_field.proofs.Elements.{elements-length, elements-stored, ov
 use Rattle.magnetar_rounds.specs.Entries.{tableAt}
 use Rattle.magnetar_rounds.specs.Held.{pasted}
 use Rattle.magnetar_rounds.proofs.Slots.{put-length, put-before, put-behind, put-in, put-at, put-from}
-use Rattle.magnetar_rounds.proofs.Said.{elements-take, elements-join}
+use Rattle.magnetar_rounds.proofs.Sent.{elements-take, elements-join}
 
 -- ---- the copy
 pub copied-more : (n i : ℕ) (s₀ s : List ℕ) → s ≡ paste s₀ (2 * n) s₀ i → i < n → 3 * n ≤ length s₀

@@ -1,7 +1,7 @@
 pub mod Slots
 pub mod Whole
 pub mod Bound
-pub mod Said
+pub mod Sent
 pub mod InnerSteps
 pub mod LaidOut
 pub mod Segments

@@ -16,7 +16,7 @@ use Rattle.magnetar_layout.proofs.Noted.{noted-clear}
 use Rattle.magnetar_layout.proofs.SizeLaws.{not-bad}
 use Rattle.magnetar_r1cs.proofs.Points.{log-most}
 use Rattle.magnetar_rounds.specs.Whole.{Blocks}
-use Rattle.magnetar_rounds.specs.Entries.{counterTest, countTests, totalTests, outerDrawn, outerSaid, blockWords, outerRoundsRefusal}
+use Rattle.magnetar_rounds.specs.Entries.{counterTest, countTests, totalTests, outerDrawn, outerSent, blockWords, outerRoundsRefusal}
 
 pub record Counts (q rb rf : ℕ) : Type 0 where
   pub logins : Sized 1 4096 q
@@ -51,13 +51,13 @@ totals-of q rb rf e =
 pub record OuterFits (q rb rf : ℕ) (proof draws s : List ℕ) : Type 0 where
   pub totals : Totals q rb rf
   pub drawn : 2 * outerDrawn (log₂ q) (log₂ rb) (log₂ rf) ≤ length draws
-  pub said : 2 * outerSaid (log₂ q) (log₂ rb) (log₂ rf) ≤ length proof
+  pub sent : 2 * outerSent (log₂ q) (log₂ rb) (log₂ rf) ≤ length proof
   pub scratch : blockWords q rb rf ≤ length s
 
 pub outer-fits : (q rb rf : ℕ) (proof draws s : List ℕ) (t : Transcript) → outerRoundsRefusal q rb rf proof draws s t ≡ 0 → OuterFits q rb rf proof draws s
 unfolding outerRoundsRefusal
 outer-fits q rb rf proof draws s t e =
-    let k = noted-clear 0 (countTests q rb rf ++ totalTests q rb rf ++ (counterTest t ++ (roomTest (2 * outerDrawn (log₂ q) (log₂ rb) (log₂ rf)) draws ++ roomTest (2 * outerSaid (log₂ q) (log₂ rb) (log₂ rf)) proof ++ roomTest (blockWords q rb rf) s))) refl e .1 in
+    let k = noted-clear 0 (countTests q rb rf ++ totalTests q rb rf ++ (counterTest t ++ (roomTest (2 * outerDrawn (log₂ q) (log₂ rb) (log₂ rf)) draws ++ roomTest (2 * outerSent (log₂ q) (log₂ rb) (log₂ rf)) proof ++ roomTest (blockWords q rb rf) s))) refl e .1 in
     record {
       totals = record {
         counts = record { logins = not-bad (k .0); bin = not-bad (k .1 .0); fld = not-bad (k .1 .1 .0) };
@@ -65,7 +65,7 @@ outer-fits q rb rf proof draws s t e =
         fld = ltb-false _ _ (k .1 .1 .1 .1 .0);
       };
       drawn = ltb-false _ _ (k .1 .1 .1 .1 .1 .1 .0);
-      said = ltb-false _ _ (k .1 .1 .1 .1 .1 .1 .1 .0);
+      sent = ltb-false _ _ (k .1 .1 .1 .1 .1 .1 .1 .0);
       scratch = ltb-false _ _ (k .1 .1 .1 .1 .1 .1 .1 .1 .0);
     }
 
@@ -91,7 +91,7 @@ size q n l b e g y z = ap₂ (λ (i j : ℕ). i * j) (y .power ∙ ap (λ (k : �
 
 -- the sizes that the rounds ask for
 pub blocks-of : (q rb rf l b f : ℕ) → l ≡ log₂ q → b ≡ log₂ rb → f ≡ log₂ rf → Totals q rb rf
-    → Blocks l b f (2 * (q * rb)) (2 * (q * rf)) (2 * outerSaid l b f) (2 * outerDrawn l b f) (blockWords q rb rf)
+    → Blocks l b f (2 * (q * rb)) (2 * (q * rf)) (2 * outerSent l b f) (2 * outerDrawn l b f) (blockWords q rb rf)
 blocks-of q rb rf l b f el eb ef z =
     let x = size q rb l b el eb (z .counts .logins) (z .counts .bin) in
     let y = size q rf l f el ef (z .counts .logins) (z .counts .fld) in
@@ -109,7 +109,7 @@ blocks-of q rb rf l b f el eb ef z =
 
 -- the same of the slices that are lent
 pub blocks-lent : {q rb rf l b f wb wf p d s : ℕ} → l ≡ log₂ q → b ≡ log₂ rb → f ≡ log₂ rf → wb ≡ 2 * (q * rb) → wf ≡ 2 * (q * rf)
-    → p ≡ 2 * outerSaid l b f → d ≡ 2 * outerDrawn l b f → s ≡ blockWords q rb rf → Totals q rb rf → Blocks l b f wb wf p d s
+    → p ≡ 2 * outerSent l b f → d ≡ 2 * outerDrawn l b f → s ≡ blockWords q rb rf → Totals q rb rf → Blocks l b f wb wf p d s
 blocks-lent {q} {rb} {rf} {l} {b} {f} el eb ef eu ev ep ed es z =
     let x = blocks-of q rb rf l b f el eb ef z in
     record {

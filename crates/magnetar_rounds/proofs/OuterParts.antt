@@ -12,12 +12,12 @@ use Rattle.magnetar_field.specs.Words.{elements}
 use Rattle.magnetar_hash.specs.Bytes.{ascii}
 use Rattle.magnetar_hash.specs.declared.transcript.Transcript.{Transcript}
 use Rattle.magnetar_round.specs.Messages.{Outer}
-use Rattle.magnetar_protocol.specs.Stepwise.{Steps, OuterSteps, Tables, askTimes, sharedSteps, rowSteps}
-use Rattle.magnetar_rounds.specs.Held.{stepsIn, outerIn, rowIn, saidIn, saidEach, threeIn, Begun}
+use Rattle.magnetar_protocol.specs.Stepwise.{Steps, OuterSteps, Tables, drawTimes, sharedSteps, rowSteps}
+use Rattle.magnetar_rounds.specs.Held.{stepsIn, outerIn, rowIn, sentIn, sentEach, threeIn, Begun}
 use Rattle.magnetar_rounds.specs.Shared.{sharedIn}
 use Rattle.magnetar_rounds.specs.Entries.{tablesIn, blockWords, tablesOf, outerPlayed}
 use Rattle.magnetar_rounds.specs.Whole.{tausOf, beginOf, binOf, fldOf, endOf, leftIn, outerWhole}
-use Rattle.magnetar_rounds.proofs.Drawn.{asked-saying}
+use Rattle.magnetar_rounds.proofs.Drawn.{drawn-sending}
 use Rattle.magnetar_rounds.proofs.InnerWhole.{beside, each-beside}
 use Rattle.magnetar_rounds.proofs.Blocks.{lent-behind, both-front, both-behind}
 use Rattle.magnetar_rounds.proofs.Joined.{whole-is, first-joined, bin-rows, fld-rows, tau-eq}
@@ -73,14 +73,14 @@ module _ (l b f wb wf : ℕ) (lb : l + b < 62) (lf : l + f < 62) where
 
   -- ---- the terminals and the alphas
   pub end-left : (a d kb kf : ℕ) (t4 t5 t6 : Transcript) (p4 d4 s4 p5 d6 fld : List ℕ) → fld ≡ drop (4 * wb) s4
-      → saidIn (a + 6) t5 p5 ≡ saidEach "vs-terminal-" 0 (threeIn wb (take (4 * wb) s4) ++ threeIn wf fld) (saidIn a t4 p4)
-      → stepsIn 0 (d + 6) t6 [] d6 ≡ askTimes 6 (ascii "vs-alpha") (stepsIn 0 d t5 [] d4)
+      → sentIn (a + 6) t5 p5 ≡ sentEach "vs-terminal-" 0 (threeIn wb (take (4 * wb) s4) ++ threeIn wf fld) (sentIn a t4 p4)
+      → stepsIn 0 (d + 6) t6 [] d6 ≡ drawTimes 6 (ascii "vs-alpha") (stepsIn 0 d t5 [] d4)
       → stepsIn (a + 6) (d + 6) t6 p5 d6 ≡ endOf (leftIn a d kb kf wb wf t4 p4 d4 s4)
   end-left a d kb kf t4 t5 t6 p4 d4 s4 p5 d6 fld e h5 h6 =
-      asked-saying 6 (a + 6) d (d + 6) (ascii "vs-alpha") t5 t6 p5 d4 d6 h6
-      ∙ ap (askTimes 6 (ascii "vs-alpha"))
-      (ap (beside (take d (elements d4))) (h5 ∙ ap (λ (s : List ℕ). saidEach "vs-terminal-" 0 (threeIn wb (take (4 * wb) s4) ++ threeIn wf s) (saidIn a t4 p4)) e)
-      ∙ sym (each-beside "vs-terminal-" 0 (threeIn wb (take (4 * wb) s4) ++ threeIn wf (drop (4 * wb) s4)) (take d (elements d4)) (saidIn a t4 p4)))
+      drawn-sending 6 (a + 6) d (d + 6) (ascii "vs-alpha") t5 t6 p5 d4 d6 h6
+      ∙ ap (drawTimes 6 (ascii "vs-alpha"))
+      (ap (beside (take d (elements d4))) (h5 ∙ ap (λ (s : List ℕ). sentEach "vs-terminal-" 0 (threeIn wb (take (4 * wb) s4) ++ threeIn wf s) (sentIn a t4 p4)) e)
+      ∙ sym (each-beside "vs-terminal-" 0 (threeIn wb (take (4 * wb) s4) ++ threeIn wf (drop (4 * wb) s4)) (take d (elements d4)) (sentIn a t4 p4)))
 
   -- ---- one after the other
   pub all-left : (S : OuterSteps) (a d kb kf ka kc : ℕ) (T : Tables) (t t4 : Transcript) (p4 d4 s4 : List ℕ) (E : Steps)

@@ -25,7 +25,7 @@ use Rattle.magnetar_protocol.specs.Stepwise.{Steps, RowSteps, rowStep, rowSteps
 use Rattle.magnetar_rounds.specs.Entries.{tableAt}
 use Rattle.magnetar_rounds.specs.Held.{outerIn, rowIn, Rows}
 use Rattle.magnetar_rounds.proofs.Slots.{take-of-drop}
-use Rattle.magnetar_rounds.proofs.Said.{round-said}
+use Rattle.magnetar_rounds.proofs.Sent.{round-sent}
 
 pub outer-four : (v k t : ℕ) (e a b c : List ℕ) → length (outerMessage v k t e a b c) ≡ 4
 unfolding outerMessage timesEq
@@ -85,19 +85,19 @@ pub row-stepped : (label : String) (i y p d o k k′ τ w n : ℕ) (t u : Transc
     → tableAt (3 * w) (n / 2) s′ ≡ bindVar 0 (value (transcript.element u)) (tableAt (3 * w) n s)
     → rowIn (p + 4) (d + 1) (o + 1) k′ w (n / 2) u p′ d′ s′ ≡ rowStep label i (rowIn p d o k w n t proof draws s)
 unfolding rowStep
-row-stepped label i y p d o k k′ τ w n t u proof p′ draws d′ s s′ size few room long tau heard said drawn next e a b c =
+row-stepped label i y p d o k k′ τ w n t u proof p′ draws d′ s s′ size few room long tau transcript-is sent drawn next e a b c =
     let x : log₂ (n / 2) ≡ suc y = vars-of n (suc y) size few in
     let z : log₂ (n / 2 / 2) ≡ y = vars-half n y size few in
     let g = first-tau y o (elements draws) ∙ sym tau in
     let m = next-is k τ w n (take (suc y) (drop o (elements draws))) s g in
     rw (x, z) (row-eq
-    (round-said (numbered label i) t u proof p′ draws d′ (outerNext (outerIn 0 (take (suc y) (drop o (elements draws))) k w n s)) p 4 d (value (transcript.element u))
-    (heard ∙ ap (λ (l : List ℕ). transcript.drawn (transcript.absorbed t (numbered label i) (wordBytes (words l))) (numbered label i)) (sym m))
-    (said ∙ ap (λ (l : List ℕ). take p (elements proof) ++ l) (sym m)) refl drawn)
+    (round-sent (numbered label i) t u proof p′ draws d′ (outerNext (outerIn 0 (take (suc y) (drop o (elements draws))) k w n s)) p 4 d (value (transcript.element u))
+    (transcript-is ∙ ap (λ (l : List ℕ). transcript.drawn (transcript.absorbed t (numbered label i) (wordBytes (words l))) (numbered label i)) (sym m))
+    (sent ∙ ap (λ (l : List ℕ). take p (elements proof) ++ l) (sym m)) refl drawn)
     (fold-is k k′ (value (transcript.element u)) τ w n (take (suc y) (drop o (elements draws))) (take y (drop (o + 1) (elements d′))) s s′ g
     (tau-left y o d (value (transcript.element u)) (elements draws) (elements d′) room long drawn) next e a b c
     ∙ ap (λ (v : Transcript). outerFold (value (transcript.element v)) (outerIn 0 (take (suc y) (drop o (elements draws))) k w n s))
-    (heard ∙ ap (λ (l : List ℕ). transcript.drawn (transcript.absorbed t (numbered label i) (wordBytes (words l))) (numbered label i)) (sym m))))
+    (transcript-is ∙ ap (λ (l : List ℕ). transcript.drawn (transcript.absorbed t (numbered label i) (wordBytes (words l))) (numbered label i)) (sym m))))
 
 -- ---- what stays in a block
 pub front-same : (w m : ℕ) (x y : List ℕ) → m ≤ w → take w x ≡ take w y → take m x ≡ take m y
@@ -121,7 +121,7 @@ pub row-done : (label : String) (i p d o k k′ τ w n : ℕ) (t u : Transcript)
     → tableAt (2 * w) (n / 2) s′ ≡ bindVar 0 (value (transcript.element u)) (tableAt (2 * w) n s₁)
     → tableAt (3 * w) (n / 2) s′ ≡ bindVar 0 (value (transcript.element u)) (tableAt (3 * w) n s₁)
     → rowIn (p + 4) (d + 1) (o + 1) k′ w (n / 2) u p′ d′ s′ ≡ rowStep label i (rowIn p d o k w n t proof draws s)
-row-done label i p d o k k′ τ w n t u proof p′ draws d′ s s₁ s′ r fits long tau heard said drawn next e kept front a b c =
+row-done label i p d o k k′ τ w n t u proof p′ draws d′ s s₁ s′ r fits long tau transcript-is sent drawn next e kept front a b c =
     go (r .table .vars) (r .table .var) (r .table .few) (r .table .size)
   where
     at : (j : ℕ) → w ≤ j → bindVar 0 (value (transcript.element u)) (tableAt j n s₁) ≡ bindVar 0 (value (transcript.element u)) (tableAt j n s)
@@ -131,7 +131,7 @@ row-done label i p d o k k′ τ w n t u proof p′ draws d′ s s₁ s′ r fit
     go zero h f z = absurd (omega arith)
     go (suc y) h f z =
         let v : log₂ (n / 2) ≡ suc y = vars-of n (suc y) z f in
-        row-stepped label i y p d o k k′ τ w n t u proof p′ draws d′ s s′ z f (omega (arith, r .before, v)) long tau heard said drawn next
+        row-stepped label i y p d o k k′ τ w n t u proof p′ draws d′ s s′ z f (omega (arith, r .before, v)) long tau transcript-is sent drawn next
         (ap elements (front-same w (n / 2) s′ s₁ (omega arith) front) ∙ e)
         (a ∙ at w (omega arith)) (b ∙ at (2 * w) (omega arith)) (c ∙ at (3 * w) (omega arith))
 

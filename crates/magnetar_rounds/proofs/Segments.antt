@@ -26,9 +26,9 @@ use Rattle.magnetar_matrix.specs.Table.{Point}
 use Rattle.magnetar_layout.proofs.Readings.{part-is}
 use Rattle.magnetar_matrix.proofs.TableLaws.{elements-words}
 use Rattle.magnetar_rounds.specs.Entries.{tableAt}
-use Rattle.magnetar_rounds.specs.Held.{Local, segmentIn, Said, saidIn, saidEach, heardOne}
+use Rattle.magnetar_rounds.specs.Held.{Local, segmentIn, Sent, sentIn, sentEach, absorbedOne}
 use Rattle.magnetar_rounds.proofs.Slots.{part-size, mid-before, mid-at}
-use Rattle.magnetar_rounds.proofs.Said.{elements-take}
+use Rattle.magnetar_rounds.proofs.Sent.{elements-take}
 
 pub segment-is : (w : ℕ) (ns : List ℕ) (i : ℕ) (s : List ℕ) → layoutRefusal w ns ≡ 0 → i < length ns → 2 * w ≤ length s
     → elements (segmentPart w ns i (take (2 * w) s)) ≡ take (getD ns i 0) (drop (offset ns i) (tableAt 0 (2 * w) s))
@@ -75,24 +75,24 @@ module _ (w n k i : ℕ) (ns d s t : List ℕ) (log : k ≡ log₂ n) (here : n 
       ap₂ (λ (f e : List ℕ). dot (take (getD ns i 0) (drop (offset ns i) f)) e) columns-kept
       (ap elements (mid-at s t (2 * w) (2 * n) h long ∙ is) ∙ (elements-words (eqTable (elements (take (2 * k) d))) ∙ ap eqTable point-is))
 
--- ---- the loop: what is left, said from where the run stands, is all of them
-pub record Each (label : String) (vs : List ℕ) (start : Said) (i : ℕ) (at : Said) : Type 0 where
-  pub left : saidEach label i (drop i vs) at ≡ saidEach label 0 vs start
+-- ---- the loop: what is left, sent from where the run stands, is all of them
+pub record Each (label : String) (vs : List ℕ) (start : Sent) (i : ℕ) (at : Sent) : Type 0 where
+  pub left : sentEach label i (drop i vs) at ≡ sentEach label 0 vs start
 
-each-step : (label : String) (i v : ℕ) (vs : List ℕ) (p : Said) → saidEach label i (v ∷ vs) p
-    ≡ saidEach label (suc i) vs (record { transcript = heardOne (p .transcript) (numbered label i) v; said = p .said ++ (v ∷ []) })
-unfolding saidEach
+each-step : (label : String) (i v : ℕ) (vs : List ℕ) (p : Sent) → sentEach label i (v ∷ vs) p
+    ≡ sentEach label (suc i) vs (record { transcript = absorbedOne (p .transcript) (numbered label i) v; sent = p .sent ++ (v ∷ []) })
+unfolding sentEach
 each-step label i v vs p = refl
 
-pub each-more : (label : String) (f : ℕ → ℕ) (n i k : ℕ) (start : Said) (t u : Transcript) (proof p′ : List ℕ)
-    → Each label (tabulate f n) start i (saidIn (k + i) t proof) → i < n → u ≡ heardOne t (numbered label i) (f i)
-    → take (k + i + 1) (elements p′) ≡ take (k + i) (elements proof) ++ (f i ∷ []) → Each label (tabulate f n) start (i + 1) (saidIn (k + (i + 1)) u p′)
+pub each-more : (label : String) (f : ℕ → ℕ) (n i k : ℕ) (start : Sent) (t u : Transcript) (proof p′ : List ℕ)
+    → Each label (tabulate f n) start i (sentIn (k + i) t proof) → i < n → u ≡ absorbedOne t (numbered label i) (f i)
+    → take (k + i + 1) (elements p′) ≡ take (k + i) (elements proof) ++ (f i ∷ []) → Each label (tabulate f n) start (i + 1) (sentIn (k + (i + 1)) u p′)
 each-more label f n i k start t u proof p′ r h e g = record {
   left =
-      ap (λ (j : ℕ). saidEach label j (drop j (tabulate f n)) (saidIn (k + (i + 1)) u p′)) (add-one i)
-      ∙ (ap (saidEach label (suc i) (drop (suc i) (tabulate f n))) same
-      ∙ (sym (each-step label i (f i) (drop (suc i) (tabulate f n)) (saidIn (k + i) t proof))
-      ∙ (ap (λ (l : List ℕ). saidEach label i l (saidIn (k + i) t proof)) (sym now) ∙ r .left)));
+      ap (λ (j : ℕ). sentEach label j (drop j (tabulate f n)) (sentIn (k + (i + 1)) u p′)) (add-one i)
+      ∙ (ap (sentEach label (suc i) (drop (suc i) (tabulate f n))) same
+      ∙ (sym (each-step label i (f i) (drop (suc i) (tabulate f n)) (sentIn (k + i) t proof))
+      ∙ (ap (λ (l : List ℕ). sentEach label i l (sentIn (k + i) t proof)) (sym now) ∙ r .left)));
 }
   where
     now : drop i (tabulate f n) ≡ f i ∷ drop (suc i) (tabulate f n)
@@ -101,17 +101,17 @@ each-more label f n i k start t u proof p′ r h e g = record {
     place : k + (i + 1) ≡ k + i + 1
     place = omega arith
 
-    same : saidIn (k + (i + 1)) u p′ ≡ record { transcript = heardOne t (numbered label i) (f i); said = take (k + i) (elements proof) ++ (f i ∷ []) }
-    same = ap₂ (λ (x : Transcript) (l : List ℕ). record { transcript = x; said = l }) e (ap (λ (j : ℕ). take j (elements p′)) place ∙ g)
+    same : sentIn (k + (i + 1)) u p′ ≡ record { transcript = absorbedOne t (numbered label i) (f i); sent = take (k + i) (elements proof) ++ (f i ∷ []) }
+    same = ap₂ (λ (x : Transcript) (l : List ℕ). record { transcript = x; sent = l }) e (ap (λ (j : ℕ). take j (elements p′)) place ∙ g)
 
-pub each-end : (label : String) (f : ℕ → ℕ) (n i : ℕ) (start at : Said) → Each label (tabulate f n) start i at → i ≡ n → at ≡ saidEach label 0 (tabulate f n) start
-unfolding saidEach
+pub each-end : (label : String) (f : ℕ → ℕ) (n i : ℕ) (start at : Sent) → Each label (tabulate f n) start i at → i ≡ n → at ≡ sentEach label 0 (tabulate f n) start
+unfolding sentEach
 each-end label f n i start at r e = (rw (drop-of-length-le (tabulate f n) {i = i} (rw tabulate-length (omega arith))) at (r .left))
 
-pub each-start-at : (label : String) (vs : List ℕ) (k : ℕ) (t : Transcript) (proof : List ℕ) → Each label vs (saidIn k t proof) 0 (saidIn (k + 0) t proof)
-each-start-at label vs k t proof = record { left = ap (λ (j : ℕ). saidEach label 0 vs (saidIn j t proof)) (add-zero k) }
+pub each-start-at : (label : String) (vs : List ℕ) (k : ℕ) (t : Transcript) (proof : List ℕ) → Each label vs (sentIn k t proof) 0 (sentIn (k + 0) t proof)
+each-start-at label vs k t proof = record { left = ap (λ (j : ℕ). sentEach label 0 vs (sentIn j t proof)) (add-zero k) }
 
-pub each-done : (label : String) (f : ℕ → ℕ) (n i k : ℕ) (start : Said) (t : Transcript) (proof : List ℕ) → Each label (tabulate f n) start i (saidIn (k + i) t proof)
-    → i ≡ n → saidIn (k + n) t proof ≡ saidEach label 0 (tabulate f n) start
+pub each-done : (label : String) (f : ℕ → ℕ) (n i k : ℕ) (start : Sent) (t : Transcript) (proof : List ℕ) → Each label (tabulate f n) start i (sentIn (k + i) t proof)
+    → i ≡ n → sentIn (k + n) t proof ≡ sentEach label 0 (tabulate f n) start
 each-done label f n i k start t proof r e =
-    ap (λ (j : ℕ). saidIn (k + j) t proof) (sym e) ∙ each-end label f n i start (saidIn (k + i) t proof) r e
+    ap (λ (j : ℕ). sentIn (k + j) t proof) (sym e) ∙ each-end label f n i start (sentIn (k + i) t proof) r e

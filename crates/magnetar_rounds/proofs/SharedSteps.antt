@@ -23,7 +23,7 @@ use Rattle.magnetar_rounds.specs.Entries.{tableAt}
 use Rattle.magnetar_rounds.specs.Held.{stepsIn, outerIn, Table}
 use Rattle.magnetar_rounds.specs.Shared.{messageIn, Dropped, Folded, sharedIn, Shared}
 use Rattle.magnetar_rounds.proofs.Slots.{take-of-drop}
-use Rattle.magnetar_rounds.proofs.Said.{round-said}
+use Rattle.magnetar_rounds.proofs.Sent.{round-sent}
 use Rattle.magnetar_rounds.proofs.RowSteps.{outer-eq, front-same, back-same}
 
 next-high : (y v k τ w n : ℕ) (tau s : List ℕ) → length tau - 1 ≡ v → getD tau v 0 ≡ τ → outerNext (outerIn (suc y) tau k w n s) ≡ messageIn v k τ w n s
@@ -99,11 +99,11 @@ both-stepped : (i p d : ℕ) (t u : Transcript) (proof p′ draws d′ m : List 
     → S′ ≡ outerFold (value (transcript.element u)) S → T′ ≡ outerFold (value (transcript.element u)) T
     → _≡_ {A = OuterSteps} (record { steps = stepsIn (p + 8) (d + 1) u p′ d′; bin = S′; fld = T′ }) (sharedStep i (record { steps = stepsIn p d t proof draws; bin = S; fld = T }))
 unfolding sharedStep
-both-stepped i p d t u proof p′ draws d′ m S T S′ T′ e heard said drawn f g =
-    let k = heard ∙ ap (λ (l : List ℕ). transcript.drawn (transcript.absorbed t (numbered "vs-out-shared-" i) (wordBytes (words l))) (numbered "vs-out-shared-" i)) (sym e) in
+both-stepped i p d t u proof p′ draws d′ m S T S′ T′ e transcript-is sent drawn f g =
+    let k = transcript-is ∙ ap (λ (l : List ℕ). transcript.drawn (transcript.absorbed t (numbered "vs-out-shared-" i) (wordBytes (words l))) (numbered "vs-out-shared-" i)) (sym e) in
     steps-eq
-    (round-said (numbered "vs-out-shared-" i) t u proof p′ draws d′ (outerNext S ++ outerNext T) p 8 d (value (transcript.element u)) k
-    (said ∙ ap (λ (l : List ℕ). take p (elements proof) ++ l) (sym e)) refl drawn)
+    (round-sent (numbered "vs-out-shared-" i) t u proof p′ draws d′ (outerNext S ++ outerNext T) p 8 d (value (transcript.element u)) k
+    (sent ∙ ap (λ (l : List ℕ). take p (elements proof) ++ l) (sym e)) refl drawn)
     (f ∙ ap (λ (v : Transcript). outerFold (value (transcript.element v)) S) k)
     (g ∙ ap (λ (v : Transcript). outerFold (value (transcript.element v)) T) k)
 
@@ -119,8 +119,8 @@ pub shared-done : (i h b f o q p d kb kb′ kf kf′ ub uf wb nb wf nf : ℕ) (t
     → Folded (h + b - 1) (value (transcript.element u)) wb nb (take (4 * wb) s₁) (take (4 * wb) s′)
     → Folded (h + f - 1) (value (transcript.element u)) wf nf (drop (4 * wb) s₁) (drop (4 * wb) s′)
     → sharedIn (p + 8) (d + 1) (h - 1) b f o q kb′ kf′ wb wf (nb / 2) (nf / 2) u p′ d′ s′ ≡ sharedStep i (sharedIn p d h b f o q kb kf wb wf nb nf t proof draws s)
-shared-done i h b f o q p d kb kb′ kf kf′ ub uf wb nb wf nf t u proof p′ draws d′ s s₁ s′ B F fb ff long tb tf heard said drawn nextb nextf Db Df Gb Gf =
-    go (h - 1) (h + b - 1) (h + f - 1) (omega (arith, B .some)) (omega (arith, B .some)) (omega (arith, B .some)) (omega (arith, B .some)) (omega (arith, B .some)) tb tf heard said Db Df Gb Gf
+shared-done i h b f o q p d kb kb′ kf kf′ ub uf wb nb wf nf t u proof p′ draws d′ s s₁ s′ B F fb ff long tb tf transcript-is sent drawn nextb nextf Db Df Gb Gf =
+    go (h - 1) (h + b - 1) (h + f - 1) (omega (arith, B .some)) (omega (arith, B .some)) (omega (arith, B .some)) (omega (arith, B .some)) (omega (arith, B .some)) tb tf transcript-is sent Db Df Gb Gf
   where
     go : (y v w : ℕ) → h ≡ suc y → h + b ≡ suc v → h + f ≡ suc w → h - 1 + b ≡ v → h - 1 + f ≡ w
         → ub ≡ getD (elements draws) (o + v) 0 → uf ≡ getD (elements draws) (q + w) 0
@@ -130,7 +130,7 @@ shared-done i h b f o q p d kb kb′ kf kf′ ub uf wb nb wf nf t u proof p′ d
         → Folded v (value (transcript.element u)) wb nb (take (4 * wb) s₁) (take (4 * wb) s′)
         → Folded w (value (transcript.element u)) wf nf (drop (4 * wb) s₁) (drop (4 * wb) s′)
         → sharedIn (p + 8) (d + 1) (h - 1) b f o q kb′ kf′ wb wf (nb / 2) (nf / 2) u p′ d′ s′ ≡ sharedStep i (sharedIn p d h b f o q kb kf wb wf nb nf t proof draws s)
-    go y v w eh eb ef lb lf tb tf heard said Db Df Gb Gf =
+    go y v w eh eb ef lb lf tb tf transcript-is sent Db Df Gb Gf =
         let z : h - 1 ≡ y = omega (arith, eh) in
         let rb : o + suc v ≤ d = omega (arith, B .before, eb) in
         let rf : q + suc w ≤ d = omega (arith, F .before, ef) in
@@ -143,7 +143,7 @@ shared-done i h b f o q p d kb kb′ kf kf′ ub uf wb nb wf nf t u proof p′ d
         (ap₂ (λ (x y : List ℕ). x ++ y)
         (high-next y v o d kb kb′ ub wb nb (value (transcript.element u)) (elements draws) (elements d′) (take (4 * wb) s) (take (4 * wb) s₁) (take (4 * wb) s′) rb long fb tb drawn nextb Db Gb)
         (high-next y w q d kf kf′ uf wf nf (value (transcript.element u)) (elements draws) (elements d′) (drop (4 * wb) s) (drop (4 * wb) s₁) (drop (4 * wb) s′) rf long ff tf drawn nextf Df Gf))
-        heard said drawn
+        transcript-is sent drawn
         (high-fold y v o d kb kb′ ub wb nb (value (transcript.element u)) (elements draws) (elements d′) (take (4 * wb) s) (take (4 * wb) s₁) (take (4 * wb) s′) rb long fb tb drawn nextb Db Gb)
         (high-fold y w q d kf kf′ uf wf nf (value (transcript.element u)) (elements draws) (elements d′) (drop (4 * wb) s) (drop (4 * wb) s₁) (drop (4 * wb) s′) rf long ff tf drawn nextf Df Gf))
 

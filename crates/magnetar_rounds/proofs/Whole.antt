@@ -88,14 +88,14 @@ module _ (t : List ℕ) (v n : ℕ) (size : length t ≡ 2 * 2 ^ n) (var : v < n
 nothing-left : (out : List ℕ) (n : ℕ) → length out ≡ n → drop n out ≡ []
 nothing-left out n l = drop-of-length-le out {i = n} (omega arith)
 
-pub inner-told : (out t z : List ℕ) (n : ℕ) → length out ≡ 6 → length t ≡ 2 * 2 ^ n → length z ≡ length t → 0 < n → n < 62
+pub inner-written : (out t z : List ℕ) (n : ℕ) → length out ≡ 6 → length t ≡ 2 * 2 ^ n → length z ≡ length t → 0 < n → n < 62
     → innerOut out t z 0 ≡ words (innerMessage 0 (elements t) (elements z))
 unfolding innerRefusal
-inner-told out t z n l size same some few =
+inner-written out t z n l size same some few =
     rw (is-table 0 (length t) n size some few, eq-eqb (length z) (length t) same, le-ltb (length out) 6 (omega arith), nothing-left out 6 l, append-nil)
 
-pub outer-told : (out e a b c : List ℕ) (v k t n : ℕ) → length out ≡ 8 → length a ≡ 2 * 2 ^ n → length b ≡ length a → length c ≡ length a
+pub outer-written : (out e a b c : List ℕ) (v k t n : ℕ) → length out ≡ 8 → length a ≡ 2 * 2 ^ n → length b ≡ length a → length c ≡ length a
     → length e ≡ length a / 2 → v < n → n < 62 → outerOut out e a b c v k t ≡ words (outerMessage v k t (elements e) (elements a) (elements b) (elements c))
 unfolding outerRefusal
-outer-told out e a b c v k t n l size sb sc se var few =
+outer-written out e a b c v k t n l size sb sc se var few =
     rw (is-table v (length a) n size var few, eq-eqb (length b) (length a) sb, eq-eqb (length c) (length a) sc, eq-eqb (length e) (length a / 2) se, le-ltb (length out) 8 (omega arith), nothing-left out 8 l, append-nil)

@@ -15,17 +15,20 @@ use Rattle.magnetar_matrix.specs.Batch.{Relation}
 use Rattle.magnetar_layout.specs.Tests.{Tests, noted, isSize, columnTests, publicTests, layoutTests, roomTest}
 use Rattle.magnetar_hash.specs.declared.transcript.TranscriptAnswer.{TranscriptAnswer}
 
--- what a run leaves, unless it is refused with z: the answer, the proof's words, the words of the draws, and the scratch of so many
--- words
+-- ---- what a run leaves, unless it is refused with z
+-- the answer
 abbrev pub answerFor : ℕ → Steps → Transcript → TranscriptAnswer
 answerFor z p t = record { code = z; transcript = unlessRefused z (p .played .transcript) t }
 
+-- the words of the proof
 abbrev pub proofFor : ℕ → Steps → List ℕ → List ℕ
-proofFor z p proof = unlessRefused z (overlaid (words (p .said)) proof) proof
+proofFor z p proof = unlessRefused z (overlaid (words (p .sent)) proof) proof
 
+-- the words of the draws
 abbrev pub drawsFor : ℕ → Steps → List ℕ → List ℕ
 drawsFor z p draws = unlessRefused z (overlaid (words (p .played .draws)) draws) draws
 
+-- the scratch, of which n words are wanted
 abbrev pub scratchFor : ℕ → ℕ → List ℕ → List ℕ
 scratchFor z n s = unlessRefused z (replicate n 0 ++ drop n s) s
 
@@ -46,30 +49,33 @@ unfoldable pub innerPlayed : Relation → (x s : List ℕ) → Transcript → St
 innerPlayed r x s t = innerAll r (elements (take (2 * r .m) s)) (elements (take (r .m) (drop (2 * r .m) s))) (elements x) (begin t)
 
 -- ---- `outer_rounds`: q logins, rb rows of bin and rf rows of fld
--- 1: the logins; 4: the rows, alone and for all logins
+-- 1: the logins; 4: the rows, alone
 abbrev pub countTests : (q rb rf : ℕ) → Tests
 countTests q rb rf = (1, not (isSize 1 4096 q)) ∷ (4, not (isSize 1 65536 rb)) ∷ (4, not (isSize 1 65536 rf)) ∷ []
 
+-- 4: the rows for all logins
 abbrev pub totalTests : (q rb rf : ℕ) → Tests
 totalTests q rb rf = (4, ltb 1048576 (q * rb)) ∷ (4, ltb 1048576 (q * rf)) ∷ []
 
--- the elements that are drawn, and those that are said
+-- the elements that are drawn
 abbrev pub outerDrawn : (l b f : ℕ) → ℕ
 outerDrawn l b f = l + b + (l + f) + l + b + f + 6
 
-abbrev pub outerSaid : (l b f : ℕ) → ℕ
-outerSaid l b f = 8 * l + 4 * b + 4 * f + 6
+-- and those that are sent
+abbrev pub outerSent : (l b f : ℕ) → ℕ
+outerSent l b f = 8 * l + 4 * b + 4 * f + 6
 
 -- the words of both blocks
 abbrev pub blockWords : (q rb rf : ℕ) → ℕ
 blockWords q rb rf = 8 * (q * rb) + 8 * (q * rf)
 
+-- the number of its refusal, or 0
 unfoldable pub outerRoundsRefusal : (q rb rf : ℕ) → (proof draws s : List ℕ) → Transcript → ℕ
 outerRoundsRefusal q rb rf proof draws s t =
     noted 0
     (countTests q rb rf ++ totalTests q rb rf
     ++ (counterTest t
-    ++ (roomTest (2 * outerDrawn (log₂ q) (log₂ rb) (log₂ rf)) draws ++ roomTest (2 * outerSaid (log₂ q) (log₂ rb) (log₂ rf)) proof
+    ++ (roomTest (2 * outerDrawn (log₂ q) (log₂ rb) (log₂ rf)) draws ++ roomTest (2 * outerSent (log₂ q) (log₂ rb) (log₂ rf)) proof
     ++ roomTest (blockWords q rb rf) s)))
 
 -- the table of n words at word i

@@ -16,14 +16,14 @@ use Rattle.magnetar_layout.specs.Layout.{offset, localVars}
 use Rattle.magnetar_hash.specs.Bytes.{wordBytes, ascii}
 use Rattle.magnetar_hash.specs.Transcript.{absorbed}
 use Rattle.magnetar_protocol.specs.Schedule.{numbered}
-use Rattle.magnetar_protocol.specs.Stepwise.{Steps, InnerSteps, RowSteps, begin, say, sayEach, innerSteps}
+use Rattle.magnetar_protocol.specs.Stepwise.{Steps, InnerSteps, RowSteps, begin, send, sendEach, innerSteps}
 use Rattle.magnetar_rounds.specs.Entries.{tableAt}
 
--- the transcript t, with the first a elements of the proof said and the first d elements drawn
+-- the transcript t, with the first a elements of the proof sent and the first d elements drawn
 abbrev pub stepsIn : (a d : ℕ) → Transcript → (proof draws : List ℕ) → Steps
 stepsIn a d t proof draws = record {
   played = record { transcript = t; draws = take d (elements draws) };
-  said = take a (elements proof);
+  sent = take a (elements proof);
 }
 
 -- an inner round of m columns with tables of n words: the combined table at the front of s, z behind its 2m words
@@ -61,21 +61,22 @@ pub record Locals (w : ℕ) (ns : List ℕ) (words : ℕ) : Type 0 where
   pub each : (i : ℕ) → i < length ns → Local w (getD ns i 0) words
 
 -- one element is absorbed
-abbrev pub heardOne : Transcript → List ℕ → ℕ → Transcript
-heardOne t label v = absorbed t label (wordBytes (words (v ∷ [])))
+abbrev pub absorbedOne : Transcript → List ℕ → ℕ → Transcript
+absorbedOne t label v = absorbed t label (wordBytes (words (v ∷ [])))
 
--- the transcript, and what is said
-pub record Said : Type 0 where
+-- the transcript, and what is sent
+pub record Sent : Type 0 where
   pub transcript : Transcript
-  pub said : List ℕ
+  pub sent : List ℕ
 
-abbrev pub saidIn : ℕ → Transcript → List ℕ → Said
-saidIn a t proof = record { transcript = t; said = take a (elements proof) }
+-- the same, with the first a elements of the proof
+abbrev pub sentIn : ℕ → Transcript → List ℕ → Sent
+sentIn a t proof = record { transcript = t; sent = take a (elements proof) }
 
--- elements are said one at a time, from number i on
-unfoldable pub saidEach : String → ℕ → List ℕ → Said → Said
-saidEach label i [] p = p
-saidEach label i (v ∷ vs) p = saidEach label (suc i) vs (record { transcript = heardOne (p .transcript) (numbered label i) v; said = p .said ++ (v ∷ []) })
+-- elements are sent one at a time, from number i on
+unfoldable pub sentEach : String → ℕ → List ℕ → Sent → Sent
+sentEach label i [] p = p
+sentEach label i (v ∷ vs) p = sentEach label (suc i) vs (record { transcript = absorbedOne (p .transcript) (numbered label i) v; sent = p .sent ++ (v ∷ []) })
 
 -- the first entries of the tables a, b, c of a block whose tables are w words apart
 abbrev pub threeIn : ℕ → List ℕ → List ℕ
@@ -86,11 +87,12 @@ pub record Begun (w : ℕ) (tau s₀ s : List ℕ) : Type 0 where
   pub table : tableAt 0 w s ≡ eqTable tau
   pub rest : drop w s ≡ drop w s₀
 
--- the inner rounds, v_z and the segment values
+-- v_z and the segment values, after the inner rounds
 unfoldable pub innerEnded : List ℕ → List ℕ → InnerSteps → Steps
 innerEnded ns f q =
-    sayEach "vs-seg-" 0 (tabulate (segmentIn ns f (q .steps .played .draws)) (length ns)) (say (ascii "vs-vz") (getD (q .z) 0 0 ∷ []) (q .steps))
+    sendEach "vs-seg-" 0 (tabulate (segmentIn ns f (q .steps .played .draws)) (length ns)) (send (ascii "vs-vz") (getD (q .z) 0 0 ∷ []) (q .steps))
 
+-- k inner rounds, v_z and the segment values
 unfoldable pub innerWhole : ℕ → (ns t f x : List ℕ) → Transcript → Steps
 innerWhole k ns t f x u = innerEnded ns f (innerSteps k (record { steps = begin u; table = t; z = f ++ (1 ∷ x) }))
 

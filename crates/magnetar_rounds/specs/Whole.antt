@@ -9,11 +9,11 @@ use Rattle.magnetar_hash.specs.Bytes.{ascii}
 use Rattle.magnetar_hash.specs.declared.transcript.Transcript.{Transcript}
 use Rattle.magnetar_round.specs.Messages.{outerStart}
 use Rattle.magnetar_rounds.specs.Held.{stepsIn, outerIn}
-use Rattle.magnetar_protocol.specs.Stepwise.{Steps, OuterSteps, Tables, begin, askTimes, sayEach, sharedSteps, rowSteps}
+use Rattle.magnetar_protocol.specs.Stepwise.{Steps, OuterSteps, Tables, begin, drawTimes, sendEach, sharedSteps, rowSteps}
 
 -- the two taus
 abbrev pub tausOf : (l b f : ℕ) → Transcript → Steps
-tausOf l b f t = askTimes (l + f) (ascii "vs-tau-fld") (askTimes (l + b) (ascii "vs-tau-bin") (begin t))
+tausOf l b f t = drawTimes (l + f) (ascii "vs-tau-fld") (drawTimes (l + b) (ascii "vs-tau-bin") (begin t))
 
 -- what both provers hold after them
 abbrev pub beginOf : (l b : ℕ) → Tables → Steps → OuterSteps
@@ -23,7 +23,7 @@ beginOf l b T p = record {
   fld = outerStart l (drop (l + b) (p .played .draws)) (T .fld-a) (T .fld-b) (T .fld-c);
 }
 
--- the row rounds of bin, and of fld
+-- the row rounds of bin
 abbrev pub binOf : ℕ → OuterSteps → OuterSteps
 binOf b q = record {
   steps = rowSteps "vs-out-rowbin-" 0 b (record { steps = q .steps; held = q .bin }) .steps;
@@ -31,6 +31,7 @@ binOf b q = record {
   fld = q .fld;
 }
 
+-- and of fld
 abbrev pub fldOf : ℕ → OuterSteps → OuterSteps
 fldOf f q = record {
   steps = rowSteps "vs-out-rowfld-" 0 f (record { steps = q .steps; held = q .fld }) .steps;
@@ -38,15 +39,17 @@ fldOf f q = record {
   fld = rowSteps "vs-out-rowfld-" 0 f (record { steps = q .steps; held = q .fld }) .held;
 }
 
--- the first entries of the tables that are left, and the alphas
+-- the first entries of the tables that are left
 abbrev pub leftOf : OuterSteps → List ℕ
 leftOf q =
     getD (q .bin .a) 0 0 ∷ getD (q .bin .b) 0 0 ∷ getD (q .bin .c) 0 0 ∷ getD (q .fld .a) 0 0 ∷ getD (q .fld .b) 0 0 ∷ getD (q .fld .c) 0 0
     ∷ []
 
+-- the terminals and the alphas
 abbrev pub endOf : OuterSteps → Steps
-endOf q = askTimes 6 (ascii "vs-alpha") (sayEach "vs-terminal-" 0 (leftOf q) (q .steps))
+endOf q = drawTimes 6 (ascii "vs-alpha") (sendEach "vs-terminal-" 0 (leftOf q) (q .steps))
 
+-- all of it
 unfoldable pub outerWhole : (l b f : ℕ) → Tables → Transcript → Steps
 outerWhole l b f T t = endOf (fldOf f (binOf b (sharedSteps 0 l (beginOf l b T (tausOf l b f t)))))
 

@@ -9,14 +9,14 @@ ghost use Prim.Native.Nat.{_+_, _*_, _%_, _^_, _<_, _≤_};
 ghost use lib.ListN.{length, getD, take, drop};
 ghost use Rattle.magnetar_field.specs.Words.{elements};
 ghost use Rattle.magnetar_hash.specs.Bytes.{ascii};
-ghost use Rattle.magnetar_protocol.specs.Stepwise.{begin, askTimes};
+ghost use Rattle.magnetar_protocol.specs.Stepwise.{begin, drawTimes};
 ghost use Rattle.magnetar_protocol.specs.Schedule.{numbered};
-ghost use Rattle.magnetar_rounds.specs.Held.{stepsIn, heardOne, saidIn, saidEach, threeIn, Begun};
+ghost use Rattle.magnetar_rounds.specs.Held.{stepsIn, absorbedOne, sentIn, sentEach, threeIn, Begun};
 
 // The tau of the sb variables of bin and of the sf variables of fld are the first draws.
 pub(crate) fn taus(sb: usize, sf: usize, draws: &mut [u64], t: Transcript) -> Transcript
     requires { ⌜ (sb ≤ 20) × (sf ≤ 20) × (2 * (sb + sf) ≤ length (now draws)) ⌝ }
-    ensures { λ r. ⌜ stepsIn 0 (sb + sf) r [] (now (draws .exit)) ≡ askTimes sf (ascii "vs-tau-fld") (askTimes sb (ascii "vs-tau-bin") (begin t)) ⌝ }
+    ensures { λ r. ⌜ stepsIn 0 (sb + sf) r [] (now (draws .exit)) ≡ drawTimes sf (ascii "vs-tau-fld") (drawTimes sb (ascii "vs-tau-bin") (begin t)) ⌝ }
 {
     let a = 2 * sb;
     let e = a + 2 * sf;
@@ -49,8 +49,8 @@ pub(crate) fn begin_tables(sb: usize, sf: usize, wb: usize, wf: usize, draws: &[
     begin_table(sb, sf, wf, draws, &mut s[a..e]);
 }
 
-// Element k of s is said as terminal i behind p elements.
-fn say_terminal(
+// Element k of s is sent as terminal i behind p elements.
+fn send_terminal(
     i: usize,
     p: usize,
     k: usize,
@@ -59,8 +59,8 @@ fn say_terminal(
     t: Transcript,
 ) -> Transcript
     requires { ⌜ (p < 1024) × (2 * p + 2 ≤ length (now proof)) ⌝ }
-    ensures heard { λ r. ⌜ r ≡ heardOne t (numbered "vs-terminal-" i) (getD (elements (now (s .entry))) k 0) ⌝ }
-    ensures said { λ _. ⌜ take (p + 1) (elements (now (proof .exit))) ≡ take p (elements (now (proof .entry))) ++ (getD (elements (now (s .entry))) k 0 ∷ []) ⌝ }
+    ensures transcript { λ r. ⌜ r ≡ absorbedOne t (numbered "vs-terminal-" i) (getD (elements (now (s .entry))) k 0) ⌝ }
+    ensures sent { λ _. ⌜ take (p + 1) (elements (now (proof .exit))) ≡ take p (elements (now (proof .entry))) ++ (getD (elements (now (s .entry))) k 0 ∷ []) ⌝ }
 {
     let v = words::get(s, k);
     words::put(proof, p, v);
@@ -69,8 +69,8 @@ fn say_terminal(
     events::terminal(t, i, &proof[a..e])
 }
 
-// The first entries of the tables a, b, c of a block are said as terminals i, i + 1 and i + 2 behind p elements.
-fn say_block(
+// The first entries of the tables a, b, c of a block are sent as terminals i, i + 1 and i + 2 behind p elements.
+fn send_block(
     i: usize,
     p: usize,
     w: usize,
@@ -79,17 +79,17 @@ fn say_block(
     t: Transcript,
 ) -> Transcript
     requires { ⌜ (i < 64) × (p < 1000) × (2 * (p + 3) ≤ length (now proof)) × (w % 2 ≡ 0) × (w ≤ 2097152) ⌝ }
-    ensures { λ r. ⌜ saidIn (p + 3) r (now (proof .exit)) ≡ saidEach "vs-terminal-" i (threeIn w (now (s .entry))) (saidIn p t (now (proof .entry))) ⌝ }
+    ensures { λ r. ⌜ sentIn (p + 3) r (now (proof .exit)) ≡ sentEach "vs-terminal-" i (threeIn w (now (s .entry))) (sentIn p t (now (proof .entry))) ⌝ }
 {
     let h = w / 2;
     let k = w + h;
-    let u = say_terminal(i, p, h, proof, s, t);
-    let v = say_terminal(i + 1, p + 1, w, proof, s, u);
-    let r = say_terminal(i + 2, p + 2, k, proof, s, v);
+    let u = send_terminal(i, p, h, proof, s, t);
+    let v = send_terminal(i + 1, p + 1, w, proof, s, u);
+    let r = send_terminal(i + 2, p + 2, k, proof, s, v);
     r
 }
 
-// The six terminals, of the blocks of bin and of fld, are said behind p elements.
+// The six terminals, of the blocks of bin and of fld, are sent behind p elements.
 pub(crate) fn terminals(
     p: usize,
     wb: usize,
@@ -100,17 +100,17 @@ pub(crate) fn terminals(
     t: Transcript,
 ) -> Transcript
     requires { ⌜ (p < 512) × (2 * (p + 6) ≤ length (now proof)) × (wb % 2 ≡ 0) × (wb ≤ 2097152) × (wf % 2 ≡ 0) × (wf ≤ 2097152) ⌝ }
-    ensures { λ r. ⌜ saidIn (p + 6) r (now (proof .exit)) ≡ saidEach "vs-terminal-" 0 (threeIn wb (now (bin .entry)) ++ threeIn wf (now (fld .entry))) (saidIn p t (now (proof .entry))) ⌝ }
+    ensures { λ r. ⌜ sentIn (p + 6) r (now (proof .exit)) ≡ sentEach "vs-terminal-" 0 (threeIn wb (now (bin .entry)) ++ threeIn wf (now (fld .entry))) (sentIn p t (now (proof .entry))) ⌝ }
 {
-    let u = say_block(0, p, wb, proof, bin, t);
-    let r = say_block(3, p + 3, wf, proof, fld, u);
+    let u = send_block(0, p, wb, proof, bin, t);
+    let r = send_block(3, p + 3, wf, proof, fld, u);
     r
 }
 
 // The six alphas are drawn behind d elements.
-pub(crate) fn ask_alphas(d: usize, draws: &mut [u64], t: Transcript) -> Transcript
+pub(crate) fn draw_alphas(d: usize, draws: &mut [u64], t: Transcript) -> Transcript
     requires { ⌜ (d < 1024) × (2 * d + 12 ≤ length (now draws)) ⌝ }
-    ensures { λ r. ⌜ stepsIn 0 (d + 6) r [] (now (draws .exit)) ≡ askTimes 6 (ascii "vs-alpha") (stepsIn 0 d t [] (now (draws .entry))) ⌝ }
+    ensures { λ r. ⌜ stepsIn 0 (d + 6) r [] (now (draws .exit)) ≡ drawTimes 6 (ascii "vs-alpha") (stepsIn 0 d t [] (now (draws .entry))) ⌝ }
 {
     let a = 2 * d;
     let e = a + 12;

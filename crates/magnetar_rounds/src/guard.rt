@@ -7,7 +7,7 @@ ghost use mathlib.Core.Path.{_≡_};
 ghost use mathlib.Core.List.{_++_};
 ghost use Prim.Native.Nat.{_*_, _/_, _<_, _≤_};
 ghost use Rattle.magnetar_layout.specs.Tests.{noted, columnTests, publicTests, layoutTests};
-ghost use Rattle.magnetar_rounds.specs.Entries.{counterTest, innerRoundsRefusal, countTests, totalTests, outerDrawn, outerSaid, blockWords, outerRoundsRefusal};
+ghost use Rattle.magnetar_rounds.specs.Entries.{counterTest, innerRoundsRefusal, countTests, totalTests, outerDrawn, outerSent, blockWords, outerRoundsRefusal};
 
 // 1, 3, 8, 9 and 10.
 fn of_sizes(m: usize, lens: &[usize], x: &[u64]) -> u32
@@ -76,10 +76,10 @@ pub(crate) fn drawn_words(l: usize, b: usize, f: usize) -> usize
     2 * (l + b + (l + f) + l + b + f + 6)
 }
 
-// The words of what is said in them.
-pub(crate) fn said_words(l: usize, b: usize, f: usize) -> usize
+// The words of what is sent in them.
+pub(crate) fn sent_words(l: usize, b: usize, f: usize) -> usize
     requires { ⌜ (l < 64) × (b < 64) × (f < 64) ⌝ }
-    ensures { λ r. ⌜ r ≡ 2 * outerSaid l b f ⌝ }
+    ensures { λ r. ⌜ r ≡ 2 * outerSent l b f ⌝ }
 {
     2 * (8 * l + 4 * b + 4 * f + 6)
 }
@@ -120,7 +120,7 @@ pub(crate) fn of_outer(
     let b = sizes::log2(rb);
     let f = sizes::log2(rf);
     let d = drawn_words(l, b, f);
-    let a = said_words(l, b, f);
+    let a = sent_words(l, b, f);
     let e = block_words(q, rb, rf);
     let y = of_counter(t);
     let y = tests::note(y, 15, draws.len() < d);

@@ -29,7 +29,7 @@ ghost use Rattle.magnetar_protocol.specs.Schedule.{numbered, outline};
 ghost use Rattle.magnetar_round.specs.Inner.{innerMessage};
 ghost use Rattle.magnetar_protocol.specs.Stepwise.{innerStep, innerSteps};
 ghost use Rattle.magnetar_rounds.specs.Entries.{tableAt, answerFor, proofFor, drawsFor, scratchFor, innerRoundsRefusal, innerPlayed};
-ghost use Rattle.magnetar_rounds.specs.Held.{stepsIn, innerIn, Table, Local, Locals, segmentIn, pasted, heardOne, saidIn, saidEach, innerWhole};
+ghost use Rattle.magnetar_rounds.specs.Held.{stepsIn, innerIn, Table, Local, Locals, segmentIn, pasted, absorbedOne, sentIn, sentEach, innerWhole};
 
 // The message of a round, from the tables of n words at the front of s and at word 2m.
 fn message(out: &mut [u64], s: &[u64], m: usize, n: usize)
@@ -145,11 +145,11 @@ fn lay_out(w: usize, x: &[u64], s: &mut [u64])
     put_public(x, &mut s[b..c]);
 }
 
-// v_z, which is element 2w of s, is said behind k elements.
-fn say_z(k: usize, w: usize, proof: &mut [u64], s: &[u64], t: Transcript) -> Transcript
+// v_z, which is element 2w of s, is sent behind k elements.
+fn send_z(k: usize, w: usize, proof: &mut [u64], s: &[u64], t: Transcript) -> Transcript
     requires { ⌜ (k < 1024) × (2 * k + 2 ≤ length (now proof)) × (w ≤ 32768) × (4 * w + 2 ≤ length (now s)) ⌝ }
-    ensures heard { λ r. ⌜ r ≡ heardOne t (ascii "vs-vz") (getD (tableAt (4 * w) 2 (now (s .entry))) 0 0) ⌝ }
-    ensures said { λ _. ⌜ take (k + 1) (elements (now (proof .exit))) ≡ take k (elements (now (proof .entry))) ++ (getD (tableAt (4 * w) 2 (now (s .entry))) 0 0 ∷ []) ⌝ }
+    ensures transcript { λ r. ⌜ r ≡ absorbedOne t (ascii "vs-vz") (getD (tableAt (4 * w) 2 (now (s .entry))) 0 0) ⌝ }
+    ensures sent { λ _. ⌜ take (k + 1) (elements (now (proof .exit))) ≡ take k (elements (now (proof .entry))) ++ (getD (tableAt (4 * w) 2 (now (s .entry))) 0 0 ∷ []) ⌝ }
 {
     let z = words::get(s, 2 * w);
     words::put(proof, k, z);
@@ -192,8 +192,8 @@ fn segment_value(w: usize, lens: &[usize], i: usize, draws: &[u64], s: &mut [u64
     segment_dot(w, lens, i, n, s)
 }
 
-// The value of segment i is said behind p elements.
-fn say_segment(
+// The value of segment i is sent behind p elements.
+fn send_segment(
     p: usize,
     w: usize,
     lens: &[usize],
@@ -205,8 +205,8 @@ fn say_segment(
 ) -> Transcript
     requires { ⌜ (p < 1024) × (2 * p + 2 ≤ length (now proof)) × (w ≤ 32768) × (layoutRefusal w (now lens) ≡ 0) × (i < length (now lens)) × (length (now s) ≡ 4 * w) ⌝ }
     requires { ⌜ Local w (getD (now lens) i 0) (length (now draws)) ⌝ }
-    ensures heard { λ r. ⌜ r ≡ heardOne t (numbered "vs-seg-" i) (segmentIn (now (lens .entry)) (tableAt 0 (2 * w) (now (s .entry))) (elements (now (draws .entry))) i) ⌝ }
-    ensures said { λ _. ⌜ take (p + 1) (elements (now (proof .exit))) ≡ take p (elements (now (proof .entry))) ++ (segmentIn (now (lens .entry)) (tableAt 0 (2 * w) (now (s .entry))) (elements (now (draws .entry))) i ∷ []) ⌝ }
+    ensures transcript { λ r. ⌜ r ≡ absorbedOne t (numbered "vs-seg-" i) (segmentIn (now (lens .entry)) (tableAt 0 (2 * w) (now (s .entry))) (elements (now (draws .entry))) i) ⌝ }
+    ensures sent { λ _. ⌜ take (p + 1) (elements (now (proof .exit))) ≡ take p (elements (now (proof .entry))) ++ (segmentIn (now (lens .entry)) (tableAt 0 (2 * w) (now (s .entry))) (elements (now (draws .entry))) i ∷ []) ⌝ }
     ensures kept { λ _. ⌜ tableAt 0 (2 * w) (now (s .exit)) ≡ tableAt 0 (2 * w) (now (s .entry)) ⌝ }
 {
     let v = segment_value(w, lens, i, draws, s);
@@ -216,8 +216,8 @@ fn say_segment(
     events::segment(t, i, &proof[a..e])
 }
 
-// The values of all segments are said behind k elements.
-fn say_segments(
+// The values of all segments are sent behind k elements.
+fn send_segments(
     k: usize,
     w: usize,
     lens: &[usize],
@@ -228,13 +228,13 @@ fn say_segments(
 ) -> Transcript
     requires { ⌜ (k < 512) × (length (now lens) ≤ 64) × (2 * (k + length (now lens)) ≤ length (now proof)) × (w ≤ 32768) × (layoutRefusal w (now lens) ≡ 0) × (length (now s) ≡ 4 * w) ⌝ }
     requires { ⌜ Locals w (now lens) (length (now draws)) ⌝ }
-    ensures { λ r. ⌜ saidIn (k + length (now (lens .entry))) r (now (proof .exit)) ≡ saidEach "vs-seg-" 0 (tabulate (segmentIn (now (lens .entry)) (tableAt 0 (2 * w) (now (s .entry))) (elements (now (draws .entry)))) (length (now (lens .entry)))) (saidIn k t (now (proof .entry))) ⌝ }
+    ensures { λ r. ⌜ sentIn (k + length (now (lens .entry))) r (now (proof .exit)) ≡ sentEach "vs-seg-" 0 (tabulate (segmentIn (now (lens .entry)) (tableAt 0 (2 * w) (now (s .entry))) (elements (now (draws .entry)))) (length (now (lens .entry)))) (sentIn k t (now (proof .entry))) ⌝ }
 {
     let mut i = 0;
     let mut u = t;
     while i < lens.len() {
         let p = k + i;
-        let v = say_segment(p, w, lens, i, proof, draws, s, u);
+        let v = send_segment(p, w, lens, i, proof, draws, s, u);
         u = v;
         i += 1;
     }
@@ -266,8 +266,8 @@ fn run(
     let p = 3 * k;
     let q = p + 1;
     let u = rounds(k, m, proof, draws, &mut s[..a], t);
-    let v = say_z(p, w, proof, s, u);
-    let r = say_segments(q, w, lens, proof, draws, &mut s[a..e], v);
+    let v = send_z(p, w, proof, s, u);
+    let r = send_segments(q, w, lens, proof, draws, &mut s[a..e], v);
     words::clear(s);
     r
 }

@@ -22,7 +22,7 @@ ghost use Rattle.magnetar_rounds.specs.Entries.{tableAt};
 ghost use Rattle.magnetar_rounds.specs.Held.{Table, Rows, rowIn};
 
 // The message of a round that binds variable v of the tables of n words, e being without it already.
-fn tell(out: &mut [u64], s: &[u64], w: usize, n: usize, v: usize, k: Gf128, t: Gf128)
+fn send_message(out: &mut [u64], s: &[u64], w: usize, n: usize, v: usize, k: Gf128, t: Gf128)
     requires { ⌜ (length (now s) ≡ 4 * w) × (w ≤ 2097152) × (n ≤ w) × (length (now out) ≡ 8) ⌝ }
     requires { ⌜ Table v n ⌝ }
     ensures { λ _. ⌜ now (out .exit) ≡ words (outerMessage v (value k) (value t) (tableAt 0 (n / 2) (now (s .entry))) (tableAt w n (now (s .entry))) (tableAt (2 * w) n (now (s .entry))) (tableAt (3 * w) n (now (s .entry)))) ⌝ }
@@ -48,12 +48,12 @@ pub(crate) fn message(
 )
     requires { ⌜ (length (now s) ≡ 4 * w) × (w ≤ 2097152) × (n ≤ w) × (length (now out) ≡ 8) ⌝ }
     requires { ⌜ Table v n ⌝ }
-    ensures told { λ _. ⌜ now (out .exit) ≡ words (outerMessage v (value k) (value t) (dropVar v (tableAt 0 n (now (s .entry)))) (tableAt w n (now (s .entry))) (tableAt (2 * w) n (now (s .entry))) (tableAt (3 * w) n (now (s .entry)))) ⌝ }
+    ensures written { λ _. ⌜ now (out .exit) ≡ words (outerMessage v (value k) (value t) (dropVar v (tableAt 0 n (now (s .entry)))) (tableAt w n (now (s .entry))) (tableAt (2 * w) n (now (s .entry))) (tableAt (3 * w) n (now (s .entry)))) ⌝ }
     ensures dropped { λ _. ⌜ tableAt 0 (n / 2) (now (s .exit)) ≡ dropVar v (tableAt 0 n (now (s .entry))) ⌝ }
     ensures kept { λ _. ⌜ drop w (now (s .exit)) ≡ drop w (now (s .entry)) ⌝ }
 {
     let _done = public::drop_var(&mut s[..n], v);
-    tell(out, s, w, n, v, k, t);
+    send_message(out, s, w, n, v, k, t);
 }
 
 // Binds variable v of a, b and c.

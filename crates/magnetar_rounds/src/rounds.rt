@@ -120,7 +120,7 @@ fn rows(
     }
 }
 
-// The terminals are said, and the alphas drawn.
+// The terminals are sent, and the alphas drawn.
 fn end(
     l: usize,
     b: usize,
@@ -139,7 +139,7 @@ fn end(
     let d = l + b + (l + f) + l + b + f;
     let c = 4 * wb;
     let u = ends::terminals(p, wb, wf, proof, &s[..c], &s[c..], t);
-    ends::ask_alphas(d, draws, u)
+    ends::draw_alphas(d, draws, u)
 }
 
 // All of it; the blocks are cleared.
@@ -170,7 +170,7 @@ fn run(
 }
 
 // The outer rounds of q logins with rb rows of bin and rf rows of fld. The products of bin are in the second to fourth table of 2 q rb
-// words of s, those of fld in the second to fourth table of 2 q rf words behind its first 8 q rb. What is said goes to the front of
+// words of s, those of fld in the second to fourth table of 2 q rf words behind its first 8 q rb. What is sent goes to the front of
 // proof, what is drawn to the front of draws; the 8 q (rb + rf) words of s are cleared.
 // 1: no such logins; 4: no such rows; 14: a counter of 2^32 or more; 15: too little room.
 pub fn outer_rounds(
@@ -197,7 +197,7 @@ pub fn outer_rounds(
     let l = sizes::log2(q);
     let b = sizes::log2(rb);
     let f = sizes::log2(rf);
-    let a = guard::said_words(l, b, f);
+    let a = guard::sent_words(l, b, f);
     let d = guard::drawn_words(l, b, f);
     let e = guard::block_words(q, rb, rf);
     let wb = guard::table_words(q, rb);

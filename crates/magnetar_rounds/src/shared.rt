@@ -18,7 +18,7 @@ ghost use Rattle.magnetar_rounds.specs.Held.{Table};
 ghost use Rattle.magnetar_rounds.specs.Shared.{messageIn, Dropped, Folded, sharedIn, Shared};
 
 // The messages of both systems, behind p elements.
-fn tell_both(
+fn send_messages(
     p: usize,
     wb: usize,
     nb: usize,
@@ -35,7 +35,7 @@ fn tell_both(
 )
     requires { ⌜ (length (now s) ≡ 4 * wb + 4 * wf) × (wb ≤ 2097152) × (wf ≤ 2097152) × (nb ≤ wb) × (nf ≤ wf) × (p < 1024) × (2 * p + 16 ≤ length (now proof)) ⌝ }
     requires { ⌜ Table vb nb × Table vf nf ⌝ }
-    ensures said { λ _. ⌜ take (p + 8) (elements (now (proof .exit))) ≡ take p (elements (now (proof .entry))) ++ (messageIn vb (value kb) (value ub) wb nb (take (4 * wb) (now (s .entry))) ++ messageIn vf (value kf) (value uf) wf nf (drop (4 * wb) (now (s .entry)))) ⌝ }
+    ensures sent { λ _. ⌜ take (p + 8) (elements (now (proof .exit))) ≡ take p (elements (now (proof .entry))) ++ (messageIn vb (value kb) (value ub) wb nb (take (4 * wb) (now (s .entry))) ++ messageIn vf (value kf) (value uf) wf nf (drop (4 * wb) (now (s .entry)))) ⌝ }
     ensures there { λ _. ⌜ take 16 (drop (2 * p) (now (proof .exit))) ≡ words (messageIn vb (value kb) (value ub) wb nb (take (4 * wb) (now (s .entry))) ++ messageIn vf (value kf) (value uf) wf nf (drop (4 * wb) (now (s .entry)))) ⌝ }
     ensures bin { λ _. ⌜ Dropped vb wb nb (take (4 * wb) (now (s .entry))) (take (4 * wb) (now (s .exit))) ⌝ }
     ensures fld { λ _. ⌜ Dropped vf wf nf (drop (4 * wb) (now (s .entry))) (drop (4 * wb) (now (s .exit))) ⌝ }
@@ -147,7 +147,7 @@ fn shared_round(
     let vf = h + f - 1;
     let ub = words::get(draws, o + vb);
     let uf = words::get(draws, q + vf);
-    tell_both(p, wb, nb, vb, kb, ub, wf, nf, vf, kf, uf, proof, s);
+    send_messages(p, wb, nb, vb, kb, ub, wf, nf, vf, kf, uf, proof, s);
     let a = 2 * p;
     let e = a + 16;
     let u = events::shared_round(t, i, &proof[a..e]);

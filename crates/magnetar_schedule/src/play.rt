@@ -15,6 +15,9 @@ use magnetar_field::sizes;
 use magnetar_hash::transcript;
 use magnetar_hash::transcript::Transcript;
 
+// As many events as no schedule has: of q up to 4096, m and rows up to 65536, and 64 segments. `play` up to here plays all of them.
+pub const ALL_EVENTS: usize = 65536;
+
 // The transcript, how many words are written, the place of the next element to absorb, and how many events are left.
 struct Stage {
     transcript: Transcript,

@@ -13,6 +13,7 @@ use Rattle.magnetar_layout.specs.Entries.{layoutRefusal}
 use Rattle.magnetar_layout.specs.Login.{loginWords}
 use Rattle.magnetar_layout.proofs.Noted.{note-kept, noted-kept, note-clear, noted-append}
 use Rattle.magnetar_layout.proofs.SizeLaws.{not-bad}
+use Rattle.magnetar_rounds.proofs.Guarded.{even-size}
 
 -- a login of at most 32768 columns has at most 512 words
 pub login-most : (w : ℕ) → w ≤ 32768 → loginWords w ≤ 512
@@ -54,14 +55,6 @@ eight a b c d e f g h k {z₁} {z₂} {z₃} {z₄} {z₅} {z₆} {z₇} {z₈} 
     ∙ behind z₅ z₆ f (g ++ (h ++ k)) p₆ ∙ behind z₆ z₇ g (h ++ k) p₇ ∙ behind z₇ z₈ h k p₈
 
 -- ---- a size that passes
--- an even number
-pub halves : (m : ℕ) → Sized 2 65536 m → 2 * (m / 2) ≡ m
-halves m z = go (log₂ m) (z .power)
-  where
-    go : (k : ℕ) → m ≡ 2 ^ k → 2 * (m / 2) ≡ m
-    go zero e = absurd (omega (arith, z .low))
-    go (suc k) e = omega (arith, two-pow-succ k)
-
 pub size-passes : (n : ℕ) → Sized 2 65536 n → note 1 (not (isSize 2 65536 n)) 0 ≡ 0
 unfolding isSize note
 size-passes n z = rw (le-leb 2 n (z .low), le-leb n 65536 (z .high), eq-eqb n (2 ^ log₂ n) (z .power))
@@ -69,10 +62,10 @@ size-passes n z = rw (le-leb 2 n (z .low), le-leb n 65536 (z .high), eq-eqb n (2
 -- the layout's own refusal, where the columns are a size
 pub layout-tests : (m : ℕ) (ns : List ℕ) → Sized 2 65536 m → layoutRefusal (m / 2) ns ≡ noted 0 (layoutTests (m / 2) ns)
 unfolding layoutRefusal
-layout-tests m ns z = ap (λ (n : ℕ). noted n (layoutTests (m / 2) ns)) (size-passes (2 * (m / 2)) (subst (Sized 2 65536) (sym (halves m z)) z))
+layout-tests m ns z = ap (λ (n : ℕ). noted n (layoutTests (m / 2) ns)) (size-passes (2 * (m / 2)) (subst (Sized 2 65536) (sym (even-size m z)) z))
 
 -- so many columns have a variable
-pub log-least : (m : ℕ) → Sized 2 65536 m → 1 ≤ log₂ m
+pub log-least : {most : ℕ} (m : ℕ) → Sized 2 most m → 1 ≤ log₂ m
 log-least m z = go (log₂ m) (z .power)
   where
     go : (k : ℕ) → m ≡ 2 ^ k → 1 ≤ k

@@ -78,21 +78,21 @@ module _ (R : Rules) (ws x : List ℕ) (t : Transcript) (w c s : List ℕ) where
   abbrev handed : List ℕ
   handed = writtenProof R ws x t w c s
 
-  abbrev said : List ℕ
-  said = sentWords (relationOf R) (batchOf R ws) (elements x) t
+  abbrev sent : List ℕ
+  sent = sentWords (relationOf R) (batchOf R ws) (elements x) t
 
-  handed-is : proveRefusal R ws x t w c s ≡ 0 → proofWords R ≡ 2 * length said → handed ≡ words said
+  handed-is : proveRefusal R ws x t w c s ≡ 0 → proofWords R ≡ 2 * length sent → handed ≡ words sent
   unfolding proveOutcome proveDraws sentWords
   handed-is hp h =
       rw hp (front (proverWords (relationOf R) (batchOf R ws) (elements x) (proverDraws (relationOf R) (batchOf R ws) (elements x) t)) (drop (proofWords R) w) (proofWords R) h)
 
-  accepted-of : (p c′ s′ : List ℕ) → verifyRefusal R x p t c′ s′ ≡ 0 → elements p ≡ said
-      → verdict (relationOf R) (elements x) said (verifierDraws (relationOf R) said t) ≡ 0 → verifyOutcome R x p t c′ s′ .code ≡ 0
+  accepted-of : (p c′ s′ : List ℕ) → verifyRefusal R x p t c′ s′ ≡ 0 → elements p ≡ sent
+      → verdict (relationOf R) (elements x) sent (verifierDraws (relationOf R) sent t) ≡ 0 → verifyOutcome R x p t c′ s′ .code ≡ 0
   unfolding verifyOutcome verifyVerdict
   accepted-of p c′ s′ hv e a = rw (hv, e) a
 
-  transcripts : (p c′ s′ : List ℕ) → verifyRefusal R x p t c′ s′ ≡ 0 → elements p ≡ said → proveRefusal R ws x t w c s ≡ 0
-      → verifierTranscript (relationOf R) (elements x) said t ≡ proverTranscript (relationOf R) (batchOf R ws) (elements x) t
+  transcripts : (p c′ s′ : List ℕ) → verifyRefusal R x p t c′ s′ ≡ 0 → elements p ≡ sent → proveRefusal R ws x t w c s ≡ 0
+      → verifierTranscript (relationOf R) (elements x) sent t ≡ proverTranscript (relationOf R) (batchOf R ws) (elements x) t
       → verifyOutcome R x p t c′ s′ .transcript ≡ proveOutcome R ws x t w c s .transcript
   unfolding verifyOutcome proveOutcome
   transcripts p c′ s′ hv e hp a = rw (hv, hp, e) a
@@ -138,13 +138,13 @@ module _ (R : Rules) (ws x : List ℕ) (t : Transcript) (w c s : List ℕ) where
     public : suc (length (elements x)) ≡ R .m / 2
     public = omega (arith, elements-length x, able .public, able .ready .columns .low)
 
-    size : proofWords R ≡ 2 * length said
+    size : proofWords R ≡ 2 * length sent
     size = unfold sentWords systemOf matrixOf in ap (λ (n : ℕ). 2 * n)
         (sym (proving-length (relationOf R) (batchOf R ws) (elements x) t)
         ∙ ap length (proving-words (relationOf R) (batchOf R ws) (elements x) t relation (sized-batch R ws) public (elements-below x wx)))
 
     written : length handed ≡ proofWords R
-    written = ap length (handed-is hp size) ∙ words-length said ∙ sym size
+    written = ap length (handed-is hp size) ∙ words-length sent ∙ sym size
 
   -- A verifier with room enough for the claims and its scratch is refused by none of 1 to 17 what the prover has written.
   pub verify-unrefused : (c′ s′ : List ℕ) → AreWords x → proveRefusal R ws x t w c s ≡ 0
@@ -159,7 +159,7 @@ module _ (R : Rules) (ws x : List ℕ) (t : Transcript) (w c s : List ℕ) where
       → Good (relationOf R) (batchOf R ws) (elements x) → NoBitOutside (relationOf R) (batchOf R ws)
       → CompleteCall R ws x t w c s c′ s′
   verify-complete c′ s′ wx hp hv good stray =
-      record { accepted = accepted; same-claims = same; true-claims = subst (ClaimsTrue r b) (sym (returned R x handed t c′ s′ accepted ∙ told)) (agrees .true-claims); same-transcript = ends }
+      record { accepted = accepted; same-claims = same; true-claims = subst (ClaimsTrue r b) (sym (returned R x handed t c′ s′ accepted ∙ claims-given)) (agrees .true-claims); same-transcript = ends }
     where
       r : Relation
       r = relationOf R
@@ -170,22 +170,22 @@ module _ (R : Rules) (ws x : List ℕ) (t : Transcript) (w c s : List ℕ) where
       agrees : Agrees r b (elements x) t
       agrees = completeness-run r b (elements x) t (relation wx hp) (sized-batch R ws) (public wx hp) (elements-below x wx) good stray
 
-      given : elements handed ≡ said
-      given = ap elements (handed-is hp (size wx hp)) ∙ elements-words said
+      given : elements handed ≡ sent
+      given = ap elements (handed-is hp (size wx hp)) ∙ elements-words sent
 
       accepted : verifyOutcome R x handed t c′ s′ .code ≡ 0
       accepted = accepted-of handed c′ s′ hv given (agrees .accepted)
 
-      told : claims r (elements handed) (verifierDraws r (elements handed) t) ≡ claims r said (verifierDraws r said t)
-      told = ap (λ (l : List ℕ). claims r l (verifierDraws r l t)) given
+      claims-given : claims r (elements handed) (verifierDraws r (elements handed) t) ≡ claims r sent (verifierDraws r sent t)
+      claims-given = ap (λ (l : List ℕ). claims r l (verifierDraws r l t)) given
 
-      heard-claims : claims r (elements handed) (verifierDraws r (elements handed) t) ≡ proverClaims r b (proverDraws r b (elements x) t)
-      heard-claims = told ∙ agrees .same-claims
+      verifier-claims : claims r (elements handed) (verifierDraws r (elements handed) t) ≡ proverClaims r b (proverDraws r b (elements x) t)
+      verifier-claims = claims-given ∙ agrees .same-claims
 
       same : take (claimWords R) (verifyOutcome R x handed t c′ s′ .claims) ≡ take (claimWords R) (proveOutcome R ws x t w c s .claims)
       same =
-          returned-words R x handed t c′ s′ accepted ∙ ap words heard-claims
-          ∙ sym (claims-handed hp (claims-size R x handed t c′ s′ accepted ∙ ap (λ (l : List ℕ). 2 * length l) heard-claims))
+          returned-words R x handed t c′ s′ accepted ∙ ap words verifier-claims
+          ∙ sym (claims-handed hp (claims-size R x handed t c′ s′ accepted ∙ ap (λ (l : List ℕ). 2 * length l) verifier-claims))
 
       ends : verifyOutcome R x handed t c′ s′ .transcript ≡ proveOutcome R ws x t w c s .transcript
       ends = transcripts handed c′ s′ hv given hp (agrees .same-transcript)

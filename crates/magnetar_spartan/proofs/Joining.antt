@@ -27,15 +27,15 @@ module _ (R : Rules) (ws x : List ℕ) (t : Transcript) where
   abbrev whole : Steps
   whole = proving (relationOf R) (batchOf R ws) (elements x) t
 
-  module _ (w d : List ℕ) (u : Transcript) (said : take (proofBefore R) w ≡ words (outer .said))
-      (drawn : take (drawsBefore R) d ≡ words (outer .played .draws)) (heard : u ≡ outer .played .transcript) where
+  module _ (w d : List ℕ) (u : Transcript) (sent : take (proofBefore R) w ≡ words (outer .sent))
+      (drawn : take (drawsBefore R) d ≡ words (outer .played .draws)) (transcript-is : u ≡ outer .played .transcript) where
     abbrev later : Steps
     later = laterSteps R ws x (elements (take (drawsBefore R) d)) u
 
     whole-is : behind outer later ≡ whole
     unfolding laterSteps
     whole-is =
-        ap (λ (v : Transcript). behind outer (laterSteps R ws x (elements (take (drawsBefore R) d)) v)) heard
+        ap (λ (v : Transcript). behind outer (laterSteps R ws x (elements (take (drawsBefore R) d)) v)) transcript-is
         ∙ ap (λ (D : List ℕ). behind outer (innerAll (relationOf R) (combined (relationOf R) (drawsOf (relationOf R) D))
         (folded (R .q) (R .m / 2) (batchOf R ws) (loginPoint (drawsOf (relationOf R) D))) (elements x) (begin (outer .played .transcript))))
         (ap elements drawn ∙ elements-words (outer .played .draws))
@@ -44,10 +44,10 @@ module _ (R : Rules) (ws x : List ℕ) (t : Transcript) where
     pub joined-transcript : laterTranscript R ws x d u ≡ whole .played .transcript
     joined-transcript = ap (λ (p : Steps). p .played .transcript) whole-is
 
-    pub joined-proof : laterProof R ws x d u w ≡ words (whole .said)
+    pub joined-proof : laterProof R ws x d u w ≡ words (whole .sent)
     joined-proof =
-        ap (λ (l : List ℕ). l ++ words (later .said)) said ∙ sym (words-append (outer .said) (later .said))
-        ∙ ap (λ (p : Steps). words (p .said)) whole-is
+        ap (λ (l : List ℕ). l ++ words (later .sent)) sent ∙ sym (words-append (outer .sent) (later .sent))
+        ∙ ap (λ (p : Steps). words (p .sent)) whole-is
 
     pub joined-draws : laterDraws R ws x d u ≡ words (whole .played .draws)
     joined-draws =

@@ -34,14 +34,14 @@ use Rattle.magnetar_protocol.specs.Schedule.{outline}
 use Rattle.magnetar_protocol.specs.Checks.{combined}
 use Rattle.magnetar_protocol.specs.Stepwise.{Steps, begin, innerRun, segmentValue, lowDraws, ended, innerAll}
 use Rattle.magnetar_protocol.proofs.Splits.{combined-split, logins-split}
-use Rattle.magnetar_protocol.proofs.Stepwise.{goes-inner, inner-drawn-length, inner-said-length}
+use Rattle.magnetar_protocol.proofs.Stepwise.{goes-inner, inner-drawn-length, inner-sent-length}
 use Rattle.magnetar_rounds.specs.Entries.{counterTest, innerRoundsRefusal, innerPlayed, answerFor, proofFor, drawsFor}
 use Rattle.magnetar_hash.specs.declared.transcript.TranscriptAnswer.{TranscriptAnswer}
 use Rattle.magnetar_spartan.specs.Rules.{Rules, relationOf}
 use Rattle.magnetar_spartan.specs.Ready.{Ready, FoldReady, InnerReady}
 use Rattle.magnetar_spartan.specs.Outcome.{batchOf}
 use Rattle.magnetar_spartan.specs.Later.{outlineOf, drawsBefore, proofBefore, laterSteps, laterTranscript, laterProof, laterDraws}
-use Rattle.magnetar_spartan.proofs.Chains.{halves}
+use Rattle.magnetar_rounds.proofs.Guarded.{even-size}
 use Rattle.magnetar_spartan.proofs.Combining.{noted-none, size-fine, same-fine, most-fine, true-fine}
 
 -- ---- the point of the logins: n draws from place k on, the last one first
@@ -95,8 +95,8 @@ module _ (r : Relation) (c f x : List ℕ) (t : Transcript) where
   pub inner-drawn-many : length (innerAll r c f x (begin t) .played .draws) ≡ logCols r
   inner-drawn-many = ap length (goes-inner r c f x (begin t) 0 refl .draws) ∙ inner-drawn-length r c f x (begin t) 0 refl
 
-  pub inner-said-many : length (innerAll r c f x (begin t) .said) ≡ 3 * logCols r + 1 + length (r .lengths)
-  inner-said-many = ap length (goes-inner r c f x (begin t) 0 refl .said) ∙ inner-said-length r c f x (begin t) 0 refl
+  pub inner-sent-many : length (innerAll r c f x (begin t) .sent) ≡ 3 * logCols r + 1 + length (r .lengths)
+  inner-sent-many = ap length (goes-inner r c f x (begin t) 0 refl .sent) ∙ inner-sent-length r c f x (begin t) 0 refl
 
 pub inner-none : (m : ℕ) (ns x proof draws s : List ℕ) (t : Transcript) → InnerReady m ns (length x) (t .«squeeze_ctr») → 2 * log₂ m ≤ length draws
     → 2 * (3 * log₂ m + 1 + length ns) ≤ length proof → 6 * m ≤ length s → innerRoundsRefusal m ns x proof draws s t ≡ 0
@@ -135,20 +135,20 @@ module _ (m q rb rf l b f : ℕ) (ns x w d s : List ℕ) (t : Transcript) (el : 
   unfolding innerPlayed
   drawn-many = inner-drawn-many (outline m 1 1 1 ns) (elements (take (2 * m) s)) (elements (take m (drop (2 * m) s))) (elements x) t
 
-  said-many : length (P .said) ≡ 3 * log₂ m + 1 + length ns
+  sent-many : length (P .sent) ≡ 3 * log₂ m + 1 + length ns
   unfolding innerPlayed
-  said-many = inner-said-many (outline m 1 1 1 ns) (elements (take (2 * m) s)) (elements (take m (drop (2 * m) s))) (elements x) t
+  sent-many = inner-sent-many (outline m 1 1 1 ns) (elements (take (2 * m) s)) (elements (take m (drop (2 * m) s))) (elements x) t
 
   pub finish-left : (A : TranscriptAnswer) (w′ d′ : List ℕ) → A ≡ answerFor z P t → w′ ≡ proofFor z P W → d′ ≡ drawsFor z P D
       → (A .transcript ≡ P .played .transcript)
-      × ((putMid a (length w - a) w w′ ≡ take (2 * beforeInner (outline m q rb rf ns)) w ++ words (P .said))
+      × ((putMid a (length w - a) w w′ ≡ take (2 * beforeInner (outline m q rb rf ns)) w ++ words (P .sent))
       × (putMid k (length d - k) d d′ ≡ take (2 * (drawCount (outline m q rb rf ns) - logCols (outline m q rb rf ns))) d ++ words (P .played .draws)))
   finish-left A w′ d′ eA ew ed =
       let pw : a ≡ 2 * beforeInner (outline m q rb rf ns) = omega (arith, el, eb, ef) in
       let pd : k ≡ 2 * (drawCount (outline m q rb rf ns) - logCols (outline m q rb rf ns)) = omega (arith, el, eb, ef) in (
         ap (λ (y : TranscriptAnswer). y .transcript) eA ∙ rw fine,
         (
-          laid-behind w w′ (words (P .said)) a z (omega (arith, pw, hw)) fine ew (rw words-length (omega (arith, pw, hw, said-many))) ∙ ap (λ (n : ℕ). take n w ++ words (P .said)) pw,
+          laid-behind w w′ (words (P .sent)) a z (omega (arith, pw, hw)) fine ew (rw words-length (omega (arith, pw, hw, sent-many))) ∙ ap (λ (n : ℕ). take n w ++ words (P .sent)) pw,
           laid-behind d d′ (words (P .played .draws)) k z (omega (arith, pd, hd)) fine ed (rw words-length (omega (arith, pd, hd, drawn-many))) ∙ ap (λ (n : ℕ). take n d ++ words (P .played .draws)) pd,
         ),
       )
@@ -158,7 +158,7 @@ pub fold-ready : (R : Rules) → Ready R → (l b f ws d s s′ : ℕ) → l ≡
     → l ≤ 63 → b ≤ 63 → f ≤ 63 → ws ≡ R .q * loginWords (R .m / 2) → d ≡ 2 * drawCount (outlineOf R)
     → 6 * R .m + 2 * max (R .bin .a .rows) (R .fld .a .rows) + 2 * R .q ≤ s → s′ ≡ s → FoldReady (R .q) (R .m / 2) l (l + b + (l + f)) ws d s′
 fold-ready R P l b f ws d s s′ el eb ef ll lb lf hw hd hs same = record {
-  columns = rw (halves (R .m) (P .columns)) (P .columns);
+  columns = rw (even-size (R .m) (P .columns)) (P .columns);
   logins = P .logins;
   packed = hw;
   point = el;
@@ -218,7 +218,7 @@ module _ (R : Rules) (ready : Ready R) (ws x d : List ℕ) (t : Transcript) (hd 
     P′ = innerPlayed (outline (R .m) 1 1 1 (R .lengths)) x s′ t
 
     four : 4 * (R .m / 2) ≡ 2 * R .m
-    four = omega (arith, halves (R .m) (ready .columns))
+    four = omega (arith, even-size (R .m) (ready .columns))
 
     front-is : elements (take (2 * R .m) s′) ≡ combined r (drawsOf r before)
     front-is =
@@ -226,7 +226,7 @@ module _ (R : Rules) (ready : Ready R) (ws x d : List ℕ) (t : Transcript) (hd 
         ∙ elements-take (R .m) s ∙ table ∙ table-is
 
     columns-are : elements (take (R .m) (drop (2 * R .m) s′)) ≡ folded (R .q) (R .m / 2) (batchOf R ws) (loginPoint (drawsOf r before))
-    columns-are = ap₂ (λ (i k : ℕ). elements (take i (drop k s′))) (sym (halves (R .m) (ready .columns))) (sym four) ∙ (columns ∙ rw (el, eb, ef) (ap (folded (R .q) (R .m / 2) (batchOf R ws)) point-is))
+    columns-are = ap₂ (λ (i k : ℕ). elements (take i (drop k s′))) (sym (even-size (R .m) (ready .columns))) (sym four) ∙ (columns ∙ rw (el, eb, ef) (ap (folded (R .q) (R .m / 2) (batchOf R ws)) point-is))
 
     steps-are : P′ ≡ laterSteps R ws x before t
     unfolding innerPlayed laterSteps
@@ -235,13 +235,13 @@ module _ (R : Rules) (ready : Ready R) (ws x d : List ℕ) (t : Transcript) (hd 
         any : (c f : List ℕ) → innerAll (outline (R .m) 1 1 1 (R .lengths)) c f (elements x) (begin t) ≡ innerAll r c f (elements x) (begin t)
         any c f = unfold innerAll innerRun segmentValue lowDraws ended in refl
 
-    pub later-left : (u : Transcript) (w w′ d′ : List ℕ) → u ≡ P′ .played .transcript → w′ ≡ take (proofBefore R) w ++ words (P′ .said)
+    pub later-left : (u : Transcript) (w w′ d′ : List ℕ) → u ≡ P′ .played .transcript → w′ ≡ take (proofBefore R) w ++ words (P′ .sent)
         → d′ ≡ take (drawsBefore R) d ++ words (P′ .played .draws)
         → (u ≡ laterTranscript R ws x d t) × ((w′ ≡ laterProof R ws x d t w) × (d′ ≡ laterDraws R ws x d t))
     later-left u w w′ d′ eu ew ed = (
       eu ∙ ap (λ (p : Steps). p .played .transcript) steps-are,
       (
-        ew ∙ ap (λ (p : Steps). take (proofBefore R) w ++ words (p .said)) steps-are,
+        ew ∙ ap (λ (p : Steps). take (proofBefore R) w ++ words (p .sent)) steps-are,
         ed ∙ ap (λ (p : Steps). take (drawsBefore R) d ++ words (p .played .draws)) steps-are,
       ),
     )

@@ -24,7 +24,7 @@ use Rattle.magnetar_rounds.proofs.Blocks.{both-front, both-behind}
 use Rattle.magnetar_spartan.specs.Rules.{Rules, relationOf}
 use Rattle.magnetar_spartan.specs.Ready.{FineMatrix, BatchReady}
 use Rattle.magnetar_spartan.specs.Outcome.{batchOf}
-use Rattle.magnetar_spartan.proofs.Chains.{halves}
+use Rattle.magnetar_rounds.proofs.Guarded.{even-size}
 use Rattle.magnetar_spartan.proofs.Combining.{noted-none, size-fine, same-fine, most-fine, true-fine}
 
 -- ---- one matrix
@@ -34,7 +34,7 @@ room-is q n = mul-left-comm q 2 n
 module _ (m q : ℕ) (a : Lent) (ws x out : List ℕ) (p : BatchReady m q (length ws) (length x)) (z : Sized 1 65536 (a .rows))
     (f : FineMatrix (a .rows) m a) (h : q * a .rows ≤ 1048576) (l : 2 * (q * a .rows) ≤ length out) where
   even : 2 * (m / 2) ≡ m
-  even = halves m (p .columns)
+  even = even-size m (p .columns)
 
   pub product-none : packedRefusal a ws x q (m / 2) out ≡ 0
   unfolding packedRefusal

@@ -23,12 +23,12 @@ use Rattle.magnetar_protocol.specs.Draws.{drawCount}
 use Rattle.magnetar_protocol.specs.Run.{claims}
 use Rattle.magnetar_protocol.specs.RunSizes.{SizedRelation, SizedBatch, Elements}
 use Rattle.magnetar_protocol.specs.Prover.{proverWords, proverClaims}
-use Rattle.magnetar_protocol.specs.Stepwise.{Steps, Tables, tauSteps, outerAll, askTimes, sayEach, outerSteps, fldRows, binRows, outerBegin, terminalsLeft}
+use Rattle.magnetar_protocol.specs.Stepwise.{Steps, Tables, tauSteps, outerAll, drawTimes, sendEach, outerSteps, fldRows, binRows, outerBegin, terminalsLeft}
 use Rattle.magnetar_protocol.specs.RealRun.{productTables, outerProving, proving, proverDraws, proverTranscript}
 use Rattle.magnetar_protocol.proofs.Blocks.{claims-outlined}
-use Rattle.magnetar_protocol.proofs.Stepwise.{outer-proving-said, outer-proving-count}
+use Rattle.magnetar_protocol.proofs.Stepwise.{outer-proving-sent, outer-proving-count}
 use Rattle.magnetar_protocol.proofs.ProverRun.{proving-words, proving-claims}
-use Rattle.magnetar_rounds.specs.Entries.{tablesIn, counterTest, answerFor, proofFor, drawsFor, countTests, totalTests, outerDrawn, outerSaid, blockWords, tablesOf, outerRoundsRefusal, outerPlayed}
+use Rattle.magnetar_rounds.specs.Entries.{tablesIn, counterTest, answerFor, proofFor, drawsFor, countTests, totalTests, outerDrawn, outerSent, blockWords, tablesOf, outerRoundsRefusal, outerPlayed}
 use Rattle.magnetar_hash.specs.declared.transcript.TranscriptAnswer.{TranscriptAnswer}
 use Rattle.magnetar_rounds.specs.Whole.{outerWhole}
 use Rattle.magnetar_rounds.proofs.Joined.{whole-is}
@@ -68,7 +68,7 @@ tables-there q rb rf p s T l e = rw (take-at p s (blockWords q rb rf) l) e
 
 -- absorbing sets the counter to 0: behind the terminals and the alphas it is 6
 counter-left : (r : Relation) (T : Tables) (p : Steps) → outerAll r T p .played .transcript .«squeeze_ctr» ≡ 6
-unfolding outerAll askTimes sayEach terminalsLeft drawn absorbed
+unfolding outerAll drawTimes sendEach terminalsLeft drawn absorbed
 counter-left r T p = refl
 
 pub outer-counter : (R : Rules) (ws x : List ℕ) (t u : Transcript) (w d : List ℕ) → OuterLeft R ws x t u w d → u .«squeeze_ctr» < 2 ^ 32
@@ -100,7 +100,7 @@ module _ (R : Rules) (P : Ready R) (ws x : List ℕ) (t : Transcript) where
       → t .«squeeze_ctr» < 2 ^ 32 → outerRoundsRefusal (R .q) (R .bin .a .rows) (R .fld .a .rows) w d s t ≡ 0
   unfolding outerRoundsRefusal
   outer-none w d s hw hd hs ht =
-      noted-none (countTests (R .q) (R .bin .a .rows) (R .fld .a .rows) ++ totalTests (R .q) (R .bin .a .rows) (R .fld .a .rows) ++ (counterTest t ++ (roomTest (2 * outerDrawn (log₂ (R .q)) (log₂ (R .bin .a .rows)) (log₂ (R .fld .a .rows))) d ++ roomTest (2 * outerSaid (log₂ (R .q)) (log₂ (R .bin .a .rows)) (log₂ (R .fld .a .rows))) w ++ roomTest (blockWords (R .q) (R .bin .a .rows) (R .fld .a .rows)) s))) (
+      noted-none (countTests (R .q) (R .bin .a .rows) (R .fld .a .rows) ++ totalTests (R .q) (R .bin .a .rows) (R .fld .a .rows) ++ (counterTest t ++ (roomTest (2 * outerDrawn (log₂ (R .q)) (log₂ (R .bin .a .rows)) (log₂ (R .fld .a .rows))) d ++ roomTest (2 * outerSent (log₂ (R .q)) (log₂ (R .bin .a .rows)) (log₂ (R .fld .a .rows))) w ++ roomTest (blockWords (R .q) (R .bin .a .rows) (R .fld .a .rows)) s))) (
         size-fine 1 4096 (R .q) (P .logins),
         (
           size-fine 1 65536 (R .bin .a .rows) (P .fine .bin .rows),
@@ -131,10 +131,10 @@ module _ (R : Rules) (P : Ready R) (ws x : List ℕ) (t : Transcript) where
       ∙ ap (λ (T : Tables). outerWhole (log₂ (R .q)) (log₂ (R .bin .a .rows)) (log₂ (R .fld .a .rows)) T t) e
       ∙ sym (outer-all r (productTables r b (elements x)) t)
 
-  -- the words of what was said and drawn stand in front
-  said-front : (w : List ℕ) → length w ≡ proofWords R → take (proofBefore R) (overlaid (words (O .said)) w) ≡ words (O .said)
+  -- the words of what was sent and drawn stand in front
+  sent-front : (w : List ℕ) → length w ≡ proofWords R → take (proofBefore R) (overlaid (words (O .sent)) w) ≡ words (O .sent)
   unfolding systemOf matrixOf
-  said-front w h = laid (O .said) w (proofBefore R) (ap (λ (n : ℕ). 2 * n) (outer-proving-said r b (elements x) t)) (omega (arith, h))
+  sent-front w h = laid (O .sent) w (proofBefore R) (ap (λ (n : ℕ). 2 * n) (outer-proving-sent r b (elements x) t)) (omega (arith, h))
 
   drawn-front : (d : List ℕ) → length d ≡ 2 * drawCount o → take (drawsBefore R) (overlaid (words (O .played .draws)) d) ≡ words (O .played .draws)
   unfolding systemOf matrixOf
@@ -151,7 +151,7 @@ module _ (R : Rules) (P : Ready R) (ws x : List ℕ) (t : Transcript) where
   outer-left a w w′ d d′ s hw hd hs ht e ha hp hq =
       let z = outer-none w d s hw hd hs ht in
       let p = outer-is s e in
-      (ap (λ (y : TranscriptAnswer). y .transcript) ha ∙ rw (z, p) refl, rw (hp, z, p) (said-front w hw), rw (hq, z, p) (drawn-front d hd))
+      (ap (λ (y : TranscriptAnswer). y .transcript) ha ∙ rw (z, p) refl, rw (hp, z, p) (sent-front w hw), rw (hq, z, p) (drawn-front d hd))
 
   -- ---- the whole run
   module _ (u : Transcript) (w d : List ℕ) (L : OuterLeft R ws x t u w d) where
@@ -170,16 +170,16 @@ module _ (R : Rules) (P : Ready R) (ws x : List ℕ) (t : Transcript) where
         → ProveLeft R ws x t v w′ c′
     unfolding claimsOut proverTranscript proveDraws OuterLeft
     run-left v w′ d′ c c′ sr sb px ex hv hw hd lw ld lc hc =
-        let said : w′ ≡ words (proving r b (elements x) t .said) = hw ∙ joined-proof R ws x t w d u (L .1) (L .2) (L .0) in
+        let sent : w′ ≡ words (proving r b (elements x) t .sent) = hw ∙ joined-proof R ws x t w d u (L .1) (L .2) (L .0) in
         let drawn : d′ ≡ words (proving r b (elements x) t .played .draws) = hd ∙ joined-draws R ws x t w d u (L .1) (L .2) (L .0) in
-        let es = ap elements said ∙ elements-words (proving r b (elements x) t .said) in
+        let es = ap elements sent ∙ elements-words (proving r b (elements x) t .sent) in
         let ed = ap elements drawn ∙ elements-words (proving r b (elements x) t .played .draws) in
         let cl : claims o (elements w′) (elements d′) ≡ proverClaims r b (proverDraws r b (elements x) t) =
         ap₂ (claims o) es ed
-        ∙ ap (λ (k : Relation). claims k (proving r b (elements x) t .said) (proving r b (elements x) t .played .draws)) (sym (sizes-are R))
-        ∙ sym (claims-outlined r (proving r b (elements x) t .said) (proving r b (elements x) t .played .draws))
+        ∙ ap (λ (k : Relation). claims k (proving r b (elements x) t .sent) (proving r b (elements x) t .played .draws)) (sym (sizes-are R))
+        ∙ sym (claims-outlined r (proving r b (elements x) t .sent) (proving r b (elements x) t .played .draws))
         ∙ proving-claims r b (elements x) t sr sb px ex in (
           hv ∙ joined-transcript R ws x t w d u (L .1) (L .2) (L .0),
-          said ∙ ap words (proving-words r b (elements x) t sr sb px ex),
+          sent ∙ ap words (proving-words r b (elements x) t sr sb px ex),
           hc ∙ rw (claims-none w′ d′ c lw ld lc, cl, drop-of-length-le c {i = 2 * claimCount o} (omega (arith, lc)), append-nil),
         )

@@ -7,7 +7,7 @@ use native.Mathlib.Nat.{le-trans}
 use native.Mathlib.Omega.{arith}
 use lib.ListN.{length, drop, length-drop}
 use Rattle.magnetar_layout.proofs.Laid.{half-power}
-use Rattle.magnetar_spartan.proofs.Chains.{halves}
+use Rattle.magnetar_rounds.proofs.Guarded.{even-size}
 use Rattle.magnetar_layout.specs.Lent.{Lent}
 use Rattle.magnetar_layout.specs.Layout.{LayoutFits}
 use Rattle.magnetar_layout.specs.Tests.{Sized}
@@ -45,7 +45,7 @@ sized-system m q s f = record {
 }
 
 pub sound-layout : (R : Rules) → Sized 2 65536 (R .m) → Fine R → LayoutFits (R .m / 2) (R .lengths)
-sound-layout R z f = record { small = omega (arith, z .high); power = half-power (R .m / 2) (omega (arith, z .low)) (omega (arith, z .high)) (rw (halves (R .m) z) (z .power)); lengths = f .lengths; ends = f .ends }
+sound-layout R z f = record { small = omega (arith, z .high); power = half-power (R .m / 2) (omega (arith, z .low)) (omega (arith, z .high)) (rw (even-size (R .m) z) (z .power)); lengths = f .lengths; ends = f .ends }
 
 pub sized-relation : (R : Rules) → Sized 2 65536 (R .m) → Sized 1 4096 (R .q) → Fine R → SizedRelation (relationOf R)
 sized-relation R z y f = record {

@@ -22,7 +22,7 @@ use Rattle.magnetar_protocol.specs.Checks.{Check, firstRefusal, firstStop, shar
 use Rattle.magnetar_protocol.specs.Run.{verdict}
 use Rattle.magnetar_protocol.specs.RealRun.{verifierDraws, verifierTranscript, stop}
 use Rattle.magnetar_protocol.proofs.Phases.{Numbered}
-use Rattle.magnetar_protocol.proofs.Counts.{heard-count, schedule-length}
+use Rattle.magnetar_protocol.proofs.Counts.{played-count, schedule-length}
 use Rattle.magnetar_protocol.proofs.Blocks.{outerChecks, laterChecks, later-numbered, verdict-blocks, run-stop-blocks, stop-append, stop-accepted, outlined, schedule-outlined, draws-outlined, shared-outlined, rows-outlined, terminals-outlined, identity-outlined}
 use Rattle.magnetar_checks.specs.End.{endChecks}
 use Rattle.magnetar_spartan.specs.Rules.{Rules, relationOf}
@@ -47,9 +47,9 @@ draws-is R d = draws-outlined (relationOf R) d ∙ ap (λ (r : Relation). drawsO
 -- ---- the draws
 module _ (R : Rules) (w : List ℕ) (t : Transcript) where
   -- the whole schedule
-  pub heard-all : (k : ℕ) → length (schedule (sizesOf R)) ≤ k
+  pub played-all : (k : ℕ) → length (schedule (sizesOf R)) ≤ k
       → playedFrom w (take k (schedule (sizesOf R))) t ≡ playedFrom w (schedule (relationOf R)) t
-  heard-all k h = ap (λ (es : List Event). playedFrom w es t) (take-all k (schedule (sizesOf R)) h ∙ sym (schedule-is R))
+  played-all k h = ap (λ (es : List Event). playedFrom w es t) (take-all k (schedule (sizesOf R)) h ∙ sym (schedule-is R))
 
   pub drawn-words : (k : ℕ) (d d′ : List ℕ) → length (schedule (sizesOf R)) ≤ k → length d ≡ 2 * drawCount (sizesOf R)
       → d′ ≡ overlaid (words (playedFrom w (take k (schedule (sizesOf R))) t .draws)) d → d′ ≡ words (verifierDraws (relationOf R) w t)
@@ -57,8 +57,8 @@ module _ (R : Rules) (w : List ℕ) (t : Transcript) where
   drawn-words k d d′ h l e =
       let c : length (words (playedFrom w (schedule (relationOf R)) t .draws)) ≡ length d =
       words-length (playedFrom w (schedule (relationOf R)) t .draws)
-      ∙ ap (λ (n : ℕ). 2 * n) (heard-count (relationOf R) w t ∙ count) ∙ sym l in
-      e ∙ rw (heard-all k h) (overlaid-same (words (playedFrom w (schedule (relationOf R)) t .draws)) d (sym c))
+      ∙ ap (λ (n : ℕ). 2 * n) (played-count (relationOf R) w t ∙ count) ∙ sym l in
+      e ∙ rw (played-all k h) (overlaid-same (words (playedFrom w (schedule (relationOf R)) t .draws)) d (sym c))
     where
       count : drawCount (relationOf R) ≡ drawCount (sizesOf R)
       count = unfold systemOf matrixOf in refl
@@ -140,7 +140,7 @@ module _ (R : Rules) (x w : List ℕ) (t : Transcript) where
       )
     where
       whole : (k : ℕ) → length (schedule (sizesOf R)) ≤ k → after k ≡ playedFrom (elements w) (schedule rel) t .transcript
-      whole k h = ap (λ (p : Played). p .transcript) (heard-all R (elements w) t k h)
+      whole k h = ap (λ (p : Played). p .transcript) (played-all R (elements w) t k h)
 
 -- ---- the later checks, over a table that is the combined one
 end-outlined : (r : Relation) (x w : List ℕ) (D : Draws) (T : List ℕ) → endChecks r x w D T ≡ endChecks (outlined r) x w D T

@@ -21,10 +21,11 @@ use Rattle.magnetar_spartan.specs.Outcome.{batchOf}
 abbrev pub outlineOf : Rules → Relation
 outlineOf R = outline (R .m) (R .q) (R .bin .a .rows) (R .fld .a .rows) (R .lengths)
 
--- how many words of the draws and of the proof come before it
+-- how many words of the draws come before it
 abbrev pub drawsBefore : Rules → ℕ
 drawsBefore R = 2 * (drawCount (outlineOf R) - logCols (outlineOf R))
 
+-- and of the proof
 abbrev pub proofBefore : Rules → ℕ
 proofBefore R = 2 * beforeInner (outlineOf R)
 
@@ -34,19 +35,21 @@ laterSteps R ws x d t =
     innerAll (relationOf R) (combined (relationOf R) (drawsOf (relationOf R) d))
     (folded (R .q) (R .m / 2) (batchOf R ws) (loginPoint (drawsOf (relationOf R) d))) (elements x) (begin t)
 
--- what it leaves, with the words d of all draws: the transcript, the words w of the proof, and the draws
+-- what it leaves, with the words d of all draws: the transcript
 abbrev pub laterTranscript : Rules → (ws x d : List ℕ) → Transcript → Transcript
 laterTranscript R ws x d t = laterSteps R ws x (elements (take (drawsBefore R) d)) t .played .transcript
 
+-- the words w of the proof
 abbrev pub laterProof : Rules → (ws x d : List ℕ) → Transcript → List ℕ → List ℕ
-laterProof R ws x d t w = take (proofBefore R) w ++ words (laterSteps R ws x (elements (take (drawsBefore R) d)) t .said)
+laterProof R ws x d t w = take (proofBefore R) w ++ words (laterSteps R ws x (elements (take (drawsBefore R) d)) t .sent)
 
+-- the words of the draws
 abbrev pub laterDraws : Rules → (ws x d : List ℕ) → Transcript → List ℕ
 laterDraws R ws x d t = take (drawsBefore R) d ++ words (laterSteps R ws x (elements (take (drawsBefore R) d)) t .played .draws)
 
--- what the first part has left: the transcript u, and the words of what was said and drawn at the front of the proof w and of the draws d
+-- what the first part has left: the transcript u, and the words of what was sent and drawn at the front of the proof w and of the draws d
 unfoldable pub OuterLeft : Rules → (ws x : List ℕ) → Transcript → Transcript → (w d : List ℕ) → Type 0
 OuterLeft R ws x t u w d =
     (u ≡ outerProving (relationOf R) (batchOf R ws) (elements x) t .played .transcript)
-    × (take (proofBefore R) w ≡ words (outerProving (relationOf R) (batchOf R ws) (elements x) t .said))
+    × (take (proofBefore R) w ≡ words (outerProving (relationOf R) (batchOf R ws) (elements x) t .sent))
     × (take (drawsBefore R) d ≡ words (outerProving (relationOf R) (batchOf R ws) (elements x) t .played .draws))

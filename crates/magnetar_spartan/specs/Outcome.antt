@@ -17,12 +17,14 @@ use Rattle.magnetar_spartan.specs.Rules.{Rules, relationOf}
 use Rattle.magnetar_spartan.specs.Refusals.{verifyTests, proveTests, proofWords, claimWords, verifierRoom, proverRoom}
 
 -- ---- the verifier
+-- the number, the transcript, and what the claims buffer and the scratch hold
 pub record Verified : Type 0 where
   pub code : ℕ
   pub transcript : Transcript
   pub claims : List ℕ
   pub scratch : List ℕ
 
+-- the same of what the function returns
 abbrev pub verified : TranscriptAnswer → List ℕ → List ℕ → Verified
 verified a c s = record { code = a .code; transcript = a .transcript; claims = c; scratch = s }
 
@@ -53,6 +55,7 @@ verifyOutcome R x w t c s =
     (record { code = verifyRefusal R x w t c s; transcript = t; claims = c; scratch = s })
 
 -- ---- the prover
+-- the number, the transcript, and what the proof buffer, the claims buffer and the scratch hold
 pub record Proved : Type 0 where
   pub code : ℕ
   pub transcript : Transcript
@@ -60,6 +63,7 @@ pub record Proved : Type 0 where
   pub claims : List ℕ
   pub scratch : List ℕ
 
+-- the same of what the function returns
 abbrev pub proved : TranscriptAnswer → List ℕ → List ℕ → List ℕ → Proved
 proved a w c s = record { code = a .code; transcript = a .transcript; proof = w; claims = c; scratch = s }
 

@@ -28,6 +28,7 @@ pub record FineMatrix (n m : ℕ) (a : Lent) : Type 0 where
   pub rows-inside : allBelow (a .rows) (a .row) ≡ true
   pub cols-inside : allBelow (a .cols) (a .col) ≡ true
 
+-- three matrices of the same rows over m columns, for q logins
 pub record FineSystem (m q : ℕ) (s : Lent3) : Type 0 where
   pub rows : Sized 1 65536 (s .a .rows)
   pub total : q * s .a .rows ≤ 1048576
@@ -35,6 +36,7 @@ pub record FineSystem (m q : ℕ) (s : Lent3) : Type 0 where
   pub b : FineMatrix (s .a .rows) m (s .b)
   pub c : FineMatrix (s .a .rows) m (s .c)
 
+-- both systems, and a layout over the witness columns
 pub record Fine (R : Rules) : Type 0 where
   pub bin : FineSystem (R .m) (R .q) (R .bin)
   pub fld : FineSystem (R .m) (R .q) (R .fld)
@@ -42,6 +44,7 @@ pub record Fine (R : Rules) : Type 0 where
   pub ends : layoutEnd (R .lengths) ≤ R .m / 2
   pub segments : length (R .lengths) ≤ 64
 
+-- the rules whole
 pub record Ready (R : Rules) : Type 0 where
   pub columns : Sized 2 65536 (R .m)
   pub logins : Sized 1 4096 (R .q)

@@ -17,6 +17,7 @@ abbrev pub systemRows : (q a b c : ℕ) → Tests
 systemRows q a b c =
     (4, not (isSize 1 65536 a)) ∷ (4, not (eqb b a)) ∷ (4, not (eqb c a)) ∷ (4, ltb 1048576 (q * a)) ∷ []
 
+-- the same of a system as it is lent
 abbrev pub rowsOf : ℕ → Lent3 → Tests
 rowsOf q s = systemRows q (s .a .rows) (s .b .rows) (s .c .rows)
 

@@ -5,6 +5,7 @@ use Prim.Native.Nat.{ℕ}
 use Rattle.magnetar_matrix.specs.Batch.{Relation}
 use Rattle.magnetar_batch.specs.Systems.{Lent3, systemOf}
 
+-- the columns, the logins, the segment lengths and both systems
 pub record Rules : Type 0 where
   pub m : ℕ
   pub q : ℕ
@@ -12,6 +13,7 @@ pub record Rules : Type 0 where
   pub bin : Lent3
   pub fld : Lent3
 
+-- from the parameters of an entry
 abbrev pub rules : ℕ → ℕ → List ℕ → Lent3 → Lent3 → Rules
 rules m q ns bin fld = record { m = m; q = q; lengths = ns; bin = bin; fld = fld }
 

@@ -84,7 +84,7 @@ fn finish(
     requires { ⌜ InnerReady m (now lens) (length (now x)) (t .«squeeze_ctr») ⌝ }
     requires { ⌜ (length (now proof) ≡ 2 * proofElements (outline m q rb rf (now lens))) × (length (now draws) ≡ 2 * drawCount (outline m q rb rf (now lens))) × (6 * m ≤ length (now s)) ⌝ }
     ensures transcript { λ r. ⌜ r ≡ innerPlayed (outline m 1 1 1 (now (lens .entry))) (now (x .entry)) (now (s .entry)) t .played .transcript ⌝ }
-    ensures proof { λ _. ⌜ now (proof .exit) ≡ take (2 * beforeInner (outline m q rb rf (now (lens .entry)))) (now (proof .entry)) ++ words (innerPlayed (outline m 1 1 1 (now (lens .entry))) (now (x .entry)) (now (s .entry)) t .said) ⌝ }
+    ensures proof { λ _. ⌜ now (proof .exit) ≡ take (2 * beforeInner (outline m q rb rf (now (lens .entry)))) (now (proof .entry)) ++ words (innerPlayed (outline m 1 1 1 (now (lens .entry))) (now (x .entry)) (now (s .entry)) t .sent) ⌝ }
     ensures draws { λ _. ⌜ now (draws .exit) ≡ take (2 * (drawCount (outline m q rb rf (now (lens .entry))) - logCols (outline m q rb rf (now (lens .entry))))) (now (draws .entry)) ++ words (innerPlayed (outline m 1 1 1 (now (lens .entry))) (now (x .entry)) (now (s .entry)) t .played .draws) ⌝ }
 {
     let l = sizes::log(q);

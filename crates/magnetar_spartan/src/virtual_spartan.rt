@@ -109,7 +109,17 @@ fn verify_in(
 {
     // All challenges are drawn before any check. The outcome is that of checking in document 01's order all the same: the transcript of a
     // refused run is played again up to the failing check.
-    let heard = play::play(m, q, abrows, afrows, lens, proof, draws, t, 65536);
+    let ended = play::play(
+        m,
+        q,
+        abrows,
+        afrows,
+        lens,
+        proof,
+        draws,
+        t,
+        play::ALL_EVENTS,
+    );
     let first = outer::outer_checks(m, q, abrows, afrows, lens, proof, draws);
     if first.code != 0 {
         return stopped(m, q, abrows, afrows, lens, proof, t, first);
@@ -164,7 +174,7 @@ fn verify_in(
     claims::write_claims(m, q, abrows, afrows, lens, proof, draws, claims);
     TranscriptAnswer {
         code: 0,
-        transcript: heard,
+        transcript: ended,
     }
 }
 

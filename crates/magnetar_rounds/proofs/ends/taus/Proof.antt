@@ -1,7 +1,7 @@
 -- `magnetar_rounds::ends::taus` meets its contract.
 -- Assumes nothing.
 use Rattle.magnetar_hash.specs.Bytes.{ascii}
-use Rattle.magnetar_rounds.proofs.Drawn.{asked-both}
+use Rattle.magnetar_rounds.proofs.Drawn.{drawn-both-times}
 use borrow.Author.Needs.{needs}
 use denote.Ref.{now}
 use lib.Seq.{length-take-le}
@@ -48,7 +48,7 @@ same-length c = search needs
 
 returns : tie.Need-returns
 returns c = let x = c .before .before .before .before .before .before .before .before .before .args in
-    asked-both (now (x .draws)) (c .before .before .before .before .before .before .tau-bin .last .1 .0) (c .before .before .tau-fld .last .1 .0) (x .t) (c .before .before .before .before .before .before .tau-bin .result) (c .before .before .tau-fld .result) (ascii "vs-tau-bin") (ascii "vs-tau-fld") (x .sb) (x .sf) (omega arith) (c .before .before .before .before .before .before .tau-bin .ensures .0) (c .before .before .before .before .before .before .tau-bin .ensures .1) (c .before .before .tau-fld .ensures .0) (c .before .before .tau-fld .ensures .1)
+    drawn-both-times (now (x .draws)) (c .before .before .before .before .before .before .tau-bin .last .1 .0) (c .before .before .tau-fld .last .1 .0) (x .t) (c .before .before .before .before .before .before .tau-bin .result) (c .before .before .tau-fld .result) (ascii "vs-tau-bin") (ascii "vs-tau-fld") (x .sb) (x .sf) (omega arith) (c .before .before .before .before .before .before .tau-bin .ensures .0) (c .before .before .before .before .before .before .tau-bin .ensures .1) (c .before .before .tau-fld .ensures .0) (c .before .before .tau-fld .ensures .1)
 
 pub taus-spec : {M : Type 1} → statement M
 taus-spec =

@@ -55,10 +55,10 @@ mul-e : tie.Need-mul-e
 mul-e c = let x = c .before .before .before .before .before .before .before .before .before .before .before .args in let f = inner-fits (x .m) (now (x .lens)) (now (x .x)) (now (x .proof)) (now (x .draws)) (now (x .s)) (x .t) (sym (c .before .before .of-inner .ensures) ∙ c .before .if1 .left) in let z = f .sizes in let k = c .log2 .ensures in omega (arith, k, z .few, z .segments, z .columns .high)
 
 slice-relend-prefix-run : tie.Need-slice-relend-prefix-run
-slice-relend-prefix-run c = let x = c .before .before .before .before .before .before .before .before .before .before .before .args in let f = inner-fits (x .m) (now (x .lens)) (now (x .x)) (now (x .proof)) (now (x .draws)) (now (x .s)) (x .t) (sym (c .before .before .of-inner .ensures) ∙ c .before .if1 .left) in let z = f .sizes in let k = c .log2 .ensures in omega (arith, k, f .said)
+slice-relend-prefix-run c = let x = c .before .before .before .before .before .before .before .before .before .before .before .args in let f = inner-fits (x .m) (now (x .lens)) (now (x .x)) (now (x .proof)) (now (x .draws)) (now (x .s)) (x .t) (sym (c .before .before .of-inner .ensures) ∙ c .before .if1 .left) in let z = f .sizes in let k = c .log2 .ensures in omega (arith, k, f .sent)
 
 slice-aggregate-run : tie.Need-slice-aggregate-run
-slice-aggregate-run c = let x = c .before .before .before .before .before .before .before .before .before .before .before .before .args in let f = inner-fits (x .m) (now (x .lens)) (now (x .x)) (now (x .proof)) (now (x .draws)) (now (x .s)) (x .t) (sym (c .before .before .before .of-inner .ensures) ∙ c .before .before .if1 .left) in let z = f .sizes in let k = c .before .log2 .ensures in sym (length-take-le _ _ (omega (arith, k, f .said)))
+slice-aggregate-run c = let x = c .before .before .before .before .before .before .before .before .before .before .before .before .args in let f = inner-fits (x .m) (now (x .lens)) (now (x .x)) (now (x .proof)) (now (x .draws)) (now (x .s)) (x .t) (sym (c .before .before .before .of-inner .ensures) ∙ c .before .before .if1 .left) in let z = f .sizes in let k = c .before .log2 .ensures in sym (length-take-le _ _ (omega (arith, k, f .sent)))
 
 slice-relend-prefix-run-2 : tie.Need-slice-relend-prefix-run-2
 slice-relend-prefix-run-2 c = let x = c .before .before .before .before .before .before .before .before .before .before .before .before .args in let f = inner-fits (x .m) (now (x .lens)) (now (x .x)) (now (x .proof)) (now (x .draws)) (now (x .s)) (x .t) (sym (c .before .before .before .of-inner .ensures) ∙ c .before .before .if1 .left) in let z = f .sizes in let k = c .before .log2 .ensures in omega (arith, k, f .drawn)
@@ -75,7 +75,7 @@ slice-aggregate-run-3 c = let x = c .before .before .before .before .before .bef
 run-requires : tie.Need-run-requires
 run-requires c κs = let x = c .before .before .before .before .before .before .before .before .before .before .before .before .before .before .args in let f = inner-fits (x .m) (now (x .lens)) (now (x .x)) (now (x .proof)) (now (x .draws)) (now (x .s)) (x .t) (sym (c .before .before .before .before .before .of-inner .ensures) ∙ c .before .before .before .before .if1 .left) in let z = f .sizes in let k = c .before .before .before .log2 .ensures in let r = ready (x .m) (now (x .lens)) (now (x .x)) (c .before .before .before .log2 .result) k z in
     let l : length (take (6 * x .m) (now (x .s))) ≡ 12 * (x .m / 2) = length-take-le (6 * x .m) (now (x .s)) (f .scratch) ∙ omega (arith, r .double) in
-    ((l, r .some, r .most, omega (arith, z .public, r .double, z .columns .low), r .rounds, r .few), ((length-take-le (2 * c .before .before .before .log2 .result) (now (x .draws)) (omega (arith, k, f .drawn)), z .segments, length-take-le (2 * (3 * c .before .before .before .log2 .result + 1 + length (now (x .lens)))) (now (x .proof)) (omega (arith, k, f .said)), z .layout), (r .power, r .locals)))
+    ((l, r .some, r .most, omega (arith, z .public, r .double, z .columns .low), r .rounds, r .few), ((length-take-le (2 * c .before .before .before .log2 .result) (now (x .draws)) (omega (arith, k, f .drawn)), z .segments, length-take-le (2 * (3 * c .before .before .before .log2 .result + 1 + length (now (x .lens)))) (now (x .proof)) (omega (arith, k, f .sent)), z .layout), (r .power, r .locals)))
 
 same-length-4 : tie.Need-same-length-4
 same-length-4 c = search needs
@@ -90,12 +90,12 @@ returns-2 : tie.Need-returns-2
 returns-2 c = let x = c .before .before .before .before .before .before .before .before .before .before .before .before .before .before .before .before .before .before .before .before .before .args in let f = inner-fits (x .m) (now (x .lens)) (now (x .x)) (now (x .proof)) (now (x .draws)) (now (x .s)) (x .t) (sym (c .before .before .before .before .before .before .before .before .before .before .before .before .of-inner .ensures) ∙ c .before .before .before .before .before .before .before .before .before .before .before .if1 .left) in let z = f .sizes in let k = c .before .before .before .before .before .before .before .before .before .before .log2 .ensures in let r = ready (x .m) (now (x .lens)) (now (x .x)) (c .before .before .before .before .before .before .before .before .before .before .log2 .result) k z in
     let e : _≡_ {A = ℕ} 0 (innerRoundsRefusal (x .m) (now (x .lens)) (now (x .x)) (now (x .proof)) (now (x .draws)) (now (x .s)) (x .t)) = sym (sym (c .before .before .before .before .before .before .before .before .before .before .before .before .of-inner .ensures) ∙ c .before .before .before .before .before .before .before .before .before .before .before .if1 .left) in
     let q = c .before .before .before .before .before .before .run .ensures .0 ∙ entered (x .m) (x .m / 2) 1 1 1 (c .before .before .before .before .before .before .before .before .before .before .log2 .result) (now (x .lens)) (now (x .x)) (now (x .s)) (x .t) k refl (r .double) (r .locals) in
-    let a : length (c .before .before .before .before .before .before .run .last .1 .1 .1 .1 .0) ≡ (2 * (3 * c .before .before .before .before .before .before .before .before .before .before .log2 .result + 1 + length (now (x .lens)))) = c .before .before .before .before .before .before .run .kept .1 .1 .1 .1 .0 ∙ length-take-le _ _ (omega (arith, k, f .said)) in
+    let a : length (c .before .before .before .before .before .before .run .last .1 .1 .1 .1 .0) ≡ (2 * (3 * c .before .before .before .before .before .before .before .before .before .before .log2 .result + 1 + length (now (x .lens)))) = c .before .before .before .before .before .before .run .kept .1 .1 .1 .1 .0 ∙ length-take-le _ _ (omega (arith, k, f .sent)) in
     let d : length (c .before .before .before .before .before .before .run .last .1 .1 .1 .1 .1 .0) ≡ 2 * c .before .before .before .before .before .before .before .before .before .before .log2 .result = c .before .before .before .before .before .before .run .kept .1 .1 .1 .1 .1 .0 ∙ length-take-le _ _ (omega (arith, k, f .drawn)) in
     let l : length (take (6 * x .m) (now (x .s))) ≡ 6 * x .m = length-take-le _ _ (f .scratch) in (
       ap₂ (λ (n : ℕ) (u : Transcript). record { code = n; transcript = u }) e (ap (λ (p : Steps). p .played .transcript) q ∙ done _ (x .t) e refl),
       (
-        laid-over (c .before .before .before .before .before .before .run .last .1 .1 .1 .1 .0) (now (x .proof)) (2 * (3 * c .before .before .before .before .before .before .before .before .before .before .log2 .result + 1 + length (now (x .lens)))) (3 * c .before .before .before .before .before .before .before .before .before .before .log2 .result + 1 + length (now (x .lens))) refl a (omega (arith, k, f .said)) (λ i. omega (arith, c .before .before .before .before .slice-known4 .given i)) ∙ (ap (λ (p : Steps). overlaid (words (p .said)) (now (x .proof))) q ∙ done _ (now (x .proof)) e refl),
+        laid-over (c .before .before .before .before .before .before .run .last .1 .1 .1 .1 .0) (now (x .proof)) (2 * (3 * c .before .before .before .before .before .before .before .before .before .before .log2 .result + 1 + length (now (x .lens)))) (3 * c .before .before .before .before .before .before .before .before .before .before .log2 .result + 1 + length (now (x .lens))) refl a (omega (arith, k, f .sent)) (λ i. omega (arith, c .before .before .before .before .slice-known4 .given i)) ∙ (ap (λ (p : Steps). overlaid (words (p .sent)) (now (x .proof))) q ∙ done _ (now (x .proof)) e refl),
         (
           laid-over (c .before .before .before .before .before .before .run .last .1 .1 .1 .1 .1 .0) (now (x .draws)) (2 * c .before .before .before .before .before .before .before .before .before .before .log2 .result) (c .before .before .before .before .before .before .before .before .before .before .log2 .result) refl d (omega (arith, k, f .drawn)) (λ i. omega (arith, c .before .before .slice-known5 .given i)) ∙ (ap (λ (p : Steps). overlaid (words (p .played .draws)) (now (x .draws))) q ∙ done _ (now (x .draws)) e refl),
           rw (c .before .before .before .before .before .before .run .ensures .1, l) (done _ (now (x .s)) e refl),

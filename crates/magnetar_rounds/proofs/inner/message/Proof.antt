@@ -10,7 +10,7 @@ use denote.Ref.{now}
 use Rattle.magnetar_field.specs.Words.{elements, words}
 use Rattle.magnetar_round.specs.Inner.{innerMessage}
 use Rattle.magnetar_rounds.proofs.Slots.{part-is, part-size}
-use Rattle.magnetar_rounds.proofs.Whole.{inner-told}
+use Rattle.magnetar_rounds.proofs.Whole.{inner-written}
 use borrow.Author.Needs.{needs}
 use Rattle.magnetar_rounds.proofs.inner.message.Statement.{statement}
 use Rattle.magnetar_rounds.proofs.inner.message.Tie as tie
@@ -51,7 +51,7 @@ returns c =
     let l = length-take-le (x .n) (now (x .s)) (omega arith) in
     let k = part-size (now (x .s)) (2 * x .m) (x .n) (omega arith) in
     c .before .before .inner-message .ensures .1
-    ∙ (inner-told (now (x .out)) (take (x .n) (now (x .s))) (take (2 * x .m + x .n - 2 * x .m) (drop (2 * x .m) (now (x .s)))) (w .vars) (p .1 .1) (l ∙ w .size) (k ∙ sym l) (w .var) (w .few)
+    ∙ (inner-written (now (x .out)) (take (x .n) (now (x .s))) (take (2 * x .m + x .n - 2 * x .m) (drop (2 * x .m) (now (x .s)))) (w .vars) (p .1 .1) (l ∙ w .size) (k ∙ sym l) (w .var) (w .few)
     ∙ ap (λ (z : List ℕ). words (innerMessage 0 (elements (take (x .n) (now (x .s)))) (elements z))) (part-is (now (x .s)) (2 * x .m) (x .n)))
 
 pub message-spec : {M : Type 1} → statement M

@@ -3,7 +3,7 @@
 use Prim.Native.Nat.{_*_, _+_, _≤_}
 use Rattle.magnetar_field.specs.Gf128.{value}
 use Rattle.magnetar_rounds.proofs.InnerSteps.{inner-stepped, inner-three}
-use Rattle.magnetar_rounds.proofs.Said.{drawn-more, said-more, said-there}
+use Rattle.magnetar_rounds.proofs.Sent.{drawn-more, sent-more, sent-there}
 use Rattle.magnetar_rounds.proofs.Slots.{part-size}
 use Rattle.magnetar_rounds.specs.Entries.{tableAt}
 use Rattle.magnetar_round.specs.Inner.{innerMessage}
@@ -76,11 +76,11 @@ returns c = let s = c .before .before .before .before .before .before .before .b
     let k : 6 * x .i ≡ 2 * (3 * x .i) = omega arith in
     let r : 6 * x .i + 6 ≤ length (now (x .proof)) = s .pre .1 .1 .1 in
     let q : 2 * x .i + 2 ≤ length (now (x .draws)) = s .pre .1 .1 .2 in
-    let told = c .before .before .before .before .before .before .before .before .before .before .before .before .before .before .message .ensures in
-    let there = said-there (now (x .proof)) (c .before .before .before .before .before .before .before .before .before .before .before .before .before .before .message .last .0) m (6 * x .i) 6 (3 * x .i) 3 k refl r (inner-three 0 _ _) told in
+    let written = c .before .before .before .before .before .before .before .before .before .before .before .before .before .before .message .ensures in
+    let there = sent-there (now (x .proof)) (c .before .before .before .before .before .before .before .before .before .before .before .before .before .before .message .last .0) m (6 * x .i) 6 (3 * x .i) 3 k refl r (inner-three 0 _ _) written in
     inner-stepped (x .m) (x .n) (3 * x .i) (x .i) (value (c .before .before .before .before .before .before .before .before .element .result)) (x .t) (c .before .before .before .before .before .before .before .before .before .inner-round .result) (now (x .proof)) _ (now (x .draws)) (c .before .before .before .before .before .before .put .last .0) (now (x .s)) (c .before .before .bind .last .0)
     (c .before .before .before .before .before .before .before .before .before .inner-round .ensures ∙ rw there)
-    (said-more (now (x .proof)) (c .before .before .before .before .before .before .before .before .before .before .before .before .before .before .message .last .0) m (6 * x .i) 6 (3 * x .i) 3 k refl r (inner-three 0 _ _) told)
+    (sent-more (now (x .proof)) (c .before .before .before .before .before .before .before .before .before .before .before .before .before .before .message .last .0) m (6 * x .i) 6 (3 * x .i) 3 k refl r (inner-three 0 _ _) written)
     (ap value (c .before .before .before .before .before .before .before .before .element .ensures))
     (drawn-more (now (x .draws)) (c .before .before .before .before .before .before .put .last .0) (x .i) (value (c .before .before .before .before .before .before .before .before .element .result)) (c .before .before .before .before .before .before .put .ensures) q)
     (c .before .before .bind .ensures .0) (c .before .before .bind .ensures .1)

@@ -44,34 +44,34 @@ rounds-requires c κs = let x = c .before .before .before .before .before .befor
     let q : 8 * x .w ≡ 4 * (2 * x .w) = omega arith in
     ((l ∙ q, omega arith, omega arith, omega arith, omega arith), p .1 .1 .0)
 
-say-z-requires : tie.Need-say-z-requires
-say-z-requires c κs = search needs
+send-z-requires : tie.Need-send-z-requires
+send-z-requires c κs = search needs
 
-mul-say-segments : tie.Need-mul-say-segments
-mul-say-segments c = omega (arith, c .before .before .before .before .before .before .before .before .before .before .before .before .before .before .before .before .before .before .before .before .before .before .before .before .before .before .pre .0 .2)
+mul-send-segments : tie.Need-mul-send-segments
+mul-send-segments c = omega (arith, c .before .before .before .before .before .before .before .before .before .before .before .before .before .before .before .before .before .before .before .before .before .before .before .before .before .before .pre .0 .2)
 
-sub-say-segments : tie.Need-sub-say-segments
-sub-say-segments c = search needs
+sub-send-segments : tie.Need-sub-send-segments
+sub-send-segments c = search needs
 
-part-say-segments-start : tie.Need-part-say-segments-start
-part-say-segments-start c = search needs
+part-send-segments-start : tie.Need-part-send-segments-start
+part-send-segments-start c = search needs
 
-part-say-segments-end : tie.Need-part-say-segments-end
-part-say-segments-end c = let x = c .before .before .before .before .before .before .before .before .before .before .before .before .before .before .before .before .before .before .before .before .before .before .before .before .before .before .args in
+part-send-segments-end : tie.Need-part-send-segments-end
+part-send-segments-end c = let x = c .before .before .before .before .before .before .before .before .before .before .before .before .before .before .before .before .before .before .before .before .before .before .before .before .before .before .args in
     let p = c .before .before .before .before .before .before .before .before .before .before .before .before .before .before .before .before .before .before .before .before .before .before .before .before .before .before .pre in
     let l : length (c .before .before .before .before .before .before .before .before .before .before .before .before .before .before .before .before .before .before .before .lay-out .last .1 .1 .0) ≡ 12 * x .w = c .before .before .before .before .before .before .before .before .before .before .before .before .before .before .before .before .before .before .before .lay-out .kept .1 .1 .0 ∙ p .0 .0 in
     let f : length (c .before .before .before .before .before .before .before .before .before .before .before .before .before .rounds .last .1 .1 .1 .1 .0) ≡ 8 * x .w = c .before .before .before .before .before .before .before .before .before .before .before .before .before .rounds .kept .1 .1 .1 .1 .0 ∙ length-take-le _ _ (omega (arith, l)) in
     let g : length (c .before .before .before .before .before .before .before .before .before .before .before .before .before .rounds .last .1 .1 .1 .1 .0 ++ drop (8 * x .w) (c .before .before .before .before .before .before .before .before .before .before .before .before .before .before .before .before .before .before .before .lay-out .last .1 .1 .0)) ≡ 12 * x .w = fore-length (c .before .before .before .before .before .before .before .before .before .before .before .before .before .before .before .before .before .before .before .lay-out .last .1 .1 .0) (c .before .before .before .before .before .before .before .before .before .before .before .before .before .rounds .last .1 .1 .1 .1 .0) (8 * x .w) (omega (arith, l)) f ∙ l in
     omega (arith, g)
 
-say-segments-requires : tie.Need-say-segments-requires
-say-segments-requires c κs = let x = c .before .before .before .before .before .before .before .before .before .before .before .before .before .before .before .before .before .before .before .before .before .before .before .before .before .before .before .args in
+send-segments-requires : tie.Need-send-segments-requires
+send-segments-requires c κs = let x = c .before .before .before .before .before .before .before .before .before .before .before .before .before .before .before .before .before .before .before .before .before .before .before .before .before .before .before .args in
     let p = c .before .before .before .before .before .before .before .before .before .before .before .before .before .before .before .before .before .before .before .before .before .before .before .before .before .before .before .pre in
     let l : length (c .before .before .before .before .before .before .before .before .before .before .before .before .before .before .before .before .before .before .before .before .lay-out .last .1 .1 .0) ≡ 12 * x .w = c .before .before .before .before .before .before .before .before .before .before .before .before .before .before .before .before .before .before .before .before .lay-out .kept .1 .1 .0 ∙ p .0 .0 in
     let f : length (c .before .before .before .before .before .before .before .before .before .before .before .before .before .before .rounds .last .1 .1 .1 .1 .0) ≡ 8 * x .w = c .before .before .before .before .before .before .before .before .before .before .before .before .before .before .rounds .kept .1 .1 .1 .1 .0 ∙ length-take-le _ _ (omega (arith, l)) in
     let g : length (c .before .before .before .before .before .before .before .before .before .before .before .before .before .before .rounds .last .1 .1 .1 .1 .0 ++ drop (8 * x .w) (c .before .before .before .before .before .before .before .before .before .before .before .before .before .before .before .before .before .before .before .before .lay-out .last .1 .1 .0)) ≡ 12 * x .w = fore-length (c .before .before .before .before .before .before .before .before .before .before .before .before .before .before .before .before .before .before .before .before .lay-out .last .1 .1 .0) (c .before .before .before .before .before .before .before .before .before .before .before .before .before .before .rounds .last .1 .1 .1 .1 .0) (8 * x .w) (omega (arith, l)) f ∙ l in
     let d : length (c .before .before .before .before .before .before .before .before .before .before .before .before .before .before .rounds .last .1 .1 .1 .0) ≡ 2 * x .k = c .before .before .before .before .before .before .before .before .before .before .before .before .before .before .rounds .kept .1 .1 .1 .0 ∙ p .1 .0 .0 in
-    let h : length (c .before .before .before .before .before .say-z .last .1 .1 .0) ≡ length (now (x .proof)) = c .before .before .before .before .before .say-z .kept .1 .1 .0 ∙ c .before .before .before .before .before .before .before .before .before .before .before .before .before .before .rounds .kept .1 .1 .0 in
+    let h : length (c .before .before .before .before .before .send-z .last .1 .1 .0) ≡ length (now (x .proof)) = c .before .before .before .before .before .send-z .kept .1 .1 .0 ∙ c .before .before .before .before .before .before .before .before .before .before .before .before .before .before .rounds .kept .1 .1 .0 in
     let i : 12 * x .w - 8 * x .w ≡ 4 * x .w = omega arith in
     ((omega (arith, p .0 .5), p .1 .0 .1, omega (arith, h, p .1 .0 .2), p .0 .2, p .1 .0 .3, part-length _ (8 * x .w) (12 * x .w) (omega (arith, g)) ∙ i), locals-wider (x .w) (now (x .lens)) (2 * x .k - 2) _ (omega (arith, d)) (p .1 .1 .1))
 
@@ -90,8 +90,8 @@ same-length-3 c = let x = c .before .before .before .before .before .before .bef
     let l : length (c .before .before .before .before .before .before .before .before .before .before .before .before .before .before .before .before .before .before .before .before .before .before .before .before .before .before .before .before .before .lay-out .last .1 .1 .0) ≡ 12 * x .w = c .before .before .before .before .before .before .before .before .before .before .before .before .before .before .before .before .before .before .before .before .before .before .before .before .before .before .before .before .before .lay-out .kept .1 .1 .0 ∙ p .0 .0 in
     let f : length (c .before .before .before .before .before .before .before .before .before .before .before .before .before .before .before .before .before .before .before .before .before .before .before .rounds .last .1 .1 .1 .1 .0) ≡ 8 * x .w = c .before .before .before .before .before .before .before .before .before .before .before .before .before .before .before .before .before .before .before .before .before .before .before .rounds .kept .1 .1 .1 .1 .0 ∙ length-take-le _ _ (omega (arith, l)) in
     let g : length (c .before .before .before .before .before .before .before .before .before .before .before .before .before .before .before .before .before .before .before .before .before .before .before .rounds .last .1 .1 .1 .1 .0 ++ drop (8 * x .w) (c .before .before .before .before .before .before .before .before .before .before .before .before .before .before .before .before .before .before .before .before .before .before .before .before .before .before .before .before .before .lay-out .last .1 .1 .0)) ≡ 12 * x .w = fore-length (c .before .before .before .before .before .before .before .before .before .before .before .before .before .before .before .before .before .before .before .before .before .before .before .before .before .before .before .before .before .lay-out .last .1 .1 .0) (c .before .before .before .before .before .before .before .before .before .before .before .before .before .before .before .before .before .before .before .before .before .before .before .rounds .last .1 .1 .1 .1 .0) (8 * x .w) (omega (arith, l)) f ∙ l in
-    let k : length (c .before .before .before .before .before .before .before .before .say-segments .last .1 .1 .1 .1 .1 .0) ≡ 12 * x .w - 8 * x .w = c .before .before .before .before .before .before .before .before .say-segments .kept .1 .1 .1 .1 .1 .0 ∙ part-length _ (8 * x .w) (12 * x .w) (omega (arith, g)) in
-    let e = put-length (c .before .before .before .before .before .before .before .before .before .before .before .before .before .before .before .before .before .before .before .before .before .before .before .rounds .last .1 .1 .1 .1 .0 ++ drop (8 * x .w) (c .before .before .before .before .before .before .before .before .before .before .before .before .before .before .before .before .before .before .before .before .before .before .before .before .before .before .before .before .before .lay-out .last .1 .1 .0)) (c .before .before .before .before .before .before .before .before .say-segments .last .1 .1 .1 .1 .1 .0) (8 * x .w) (12 * x .w) (omega arith) (omega (arith, g)) k ∙ (g ∙ sym (p .0 .0)) in
+    let k : length (c .before .before .before .before .before .before .before .before .send-segments .last .1 .1 .1 .1 .1 .0) ≡ 12 * x .w - 8 * x .w = c .before .before .before .before .before .before .before .before .send-segments .kept .1 .1 .1 .1 .1 .0 ∙ part-length _ (8 * x .w) (12 * x .w) (omega (arith, g)) in
+    let e = put-length (c .before .before .before .before .before .before .before .before .before .before .before .before .before .before .before .before .before .before .before .before .before .before .before .rounds .last .1 .1 .1 .1 .0 ++ drop (8 * x .w) (c .before .before .before .before .before .before .before .before .before .before .before .before .before .before .before .before .before .before .before .before .before .before .before .before .before .before .before .before .before .lay-out .last .1 .1 .0)) (c .before .before .before .before .before .before .before .before .send-segments .last .1 .1 .1 .1 .1 .0) (8 * x .w) (12 * x .w) (omega arith) (omega (arith, g)) k ∙ (g ∙ sym (p .0 .0)) in
     c .before .before .clear .kept .0 ∙ e
 
 returns : tie.Need-returns
@@ -101,12 +101,12 @@ returns c = let x = c .before .before .before .before .before .before .before .b
     let f : length (c .before .before .before .before .before .before .before .before .before .before .before .before .before .before .before .before .before .before .before .before .before .before .before .rounds .last .1 .1 .1 .1 .0) ≡ 8 * x .w = c .before .before .before .before .before .before .before .before .before .before .before .before .before .before .before .before .before .before .before .before .before .before .before .rounds .kept .1 .1 .1 .1 .0 ∙ length-take-le _ _ (omega (arith, l)) in
     let g : length (c .before .before .before .before .before .before .before .before .before .before .before .before .before .before .before .before .before .before .before .before .before .before .before .rounds .last .1 .1 .1 .1 .0 ++ drop (8 * x .w) (c .before .before .before .before .before .before .before .before .before .before .before .before .before .before .before .before .before .before .before .before .before .before .before .before .before .before .before .before .before .lay-out .last .1 .1 .0)) ≡ 12 * x .w = fore-length (c .before .before .before .before .before .before .before .before .before .before .before .before .before .before .before .before .before .before .before .before .before .before .before .before .before .before .before .before .before .lay-out .last .1 .1 .0) (c .before .before .before .before .before .before .before .before .before .before .before .before .before .before .before .before .before .before .before .before .before .before .before .rounds .last .1 .1 .1 .1 .0) (8 * x .w) (omega (arith, l)) f ∙ l in
     let d : length (c .before .before .before .before .before .before .before .before .before .before .before .before .before .before .before .before .before .before .before .before .before .before .before .rounds .last .1 .1 .1 .0) ≡ 2 * x .k = c .before .before .before .before .before .before .before .before .before .before .before .before .before .before .before .before .before .before .before .before .before .before .before .rounds .kept .1 .1 .1 .0 ∙ p .1 .0 .0 in
-    let k : length (c .before .before .before .before .before .before .before .before .say-segments .last .1 .1 .1 .1 .1 .0) ≡ 12 * x .w - 8 * x .w = c .before .before .before .before .before .before .before .before .say-segments .kept .1 .1 .1 .1 .1 .0 ∙ part-length _ (8 * x .w) (12 * x .w) (omega (arith, g)) in
-    let e = put-length (c .before .before .before .before .before .before .before .before .before .before .before .before .before .before .before .before .before .before .before .before .before .before .before .rounds .last .1 .1 .1 .1 .0 ++ drop (8 * x .w) (c .before .before .before .before .before .before .before .before .before .before .before .before .before .before .before .before .before .before .before .before .before .before .before .before .before .before .before .before .before .lay-out .last .1 .1 .0)) (c .before .before .before .before .before .before .before .before .say-segments .last .1 .1 .1 .1 .1 .0) (8 * x .w) (12 * x .w) (omega arith) (omega (arith, g)) k ∙ (g ∙ sym (p .0 .0)) in
+    let k : length (c .before .before .before .before .before .before .before .before .send-segments .last .1 .1 .1 .1 .1 .0) ≡ 12 * x .w - 8 * x .w = c .before .before .before .before .before .before .before .before .send-segments .kept .1 .1 .1 .1 .1 .0 ∙ part-length _ (8 * x .w) (12 * x .w) (omega (arith, g)) in
+    let e = put-length (c .before .before .before .before .before .before .before .before .before .before .before .before .before .before .before .before .before .before .before .before .before .before .before .rounds .last .1 .1 .1 .1 .0 ++ drop (8 * x .w) (c .before .before .before .before .before .before .before .before .before .before .before .before .before .before .before .before .before .before .before .before .before .before .before .before .before .before .before .before .before .lay-out .last .1 .1 .0)) (c .before .before .before .before .before .before .before .before .send-segments .last .1 .1 .1 .1 .1 .0) (8 * x .w) (12 * x .w) (omega arith) (omega (arith, g)) k ∙ (g ∙ sym (p .0 .0)) in
     let a = c .before .before .before .before .before .before .before .before .before .before .before .before .before .before .before .before .before .before .before .before .before .before .before .before .before .before .before .before .before .lay-out in
     let b = c .before .before .before .before .before .before .before .before .before .before .before .before .before .before .before .before .before .before .before .before .before .before .before .rounds in (
-      whole-is (x .k) (x .w) (now (x .lens)) (elements (now (x .x))) (now (x .s)) (a .last .1 .1 .0) (b .last .1 .1 .1 .1 .0) (now (x .proof)) (b .last .1 .1 .0) (c .before .before .before .before .before .before .before .before .before .before .before .before .before .before .say-z .last .1 .1 .0) (c .before .before .before .before .before .before .before .before .say-segments .last .1 .1 .1 .0) (now (x .draws)) (b .last .1 .1 .1 .0) (x .t) (b .result) (c .before .before .before .before .before .before .before .before .before .before .before .before .before .before .say-z .result) (c .before .before .before .before .before .before .before .before .say-segments .result) l (p .0 .1) f d
-          (a .ensures .0) (a .ensures .1 .0) (a .ensures .1 .1) (b .ensures) (c .before .before .before .before .before .before .before .before .before .before .before .before .before .before .say-z .ensures .0) (c .before .before .before .before .before .before .before .before .before .before .before .before .before .before .say-z .ensures .1) (c .before .before .before .before .before .before .before .before .say-segments .ensures),
+      whole-is (x .k) (x .w) (now (x .lens)) (elements (now (x .x))) (now (x .s)) (a .last .1 .1 .0) (b .last .1 .1 .1 .1 .0) (now (x .proof)) (b .last .1 .1 .0) (c .before .before .before .before .before .before .before .before .before .before .before .before .before .before .send-z .last .1 .1 .0) (c .before .before .before .before .before .before .before .before .send-segments .last .1 .1 .1 .0) (now (x .draws)) (b .last .1 .1 .1 .0) (x .t) (b .result) (c .before .before .before .before .before .before .before .before .before .before .before .before .before .before .send-z .result) (c .before .before .before .before .before .before .before .before .send-segments .result) l (p .0 .1) f d
+          (a .ensures .0) (a .ensures .1 .0) (a .ensures .1 .1) (b .ensures) (c .before .before .before .before .before .before .before .before .before .before .before .before .before .before .send-z .ensures .0) (c .before .before .before .before .before .before .before .before .before .before .before .before .before .before .send-z .ensures .1) (c .before .before .before .before .before .before .before .before .send-segments .ensures),
       c .before .before .clear .ensures ∙ ap (λ (n : ℕ). replicate n 0) e,
     )
 
@@ -123,12 +123,12 @@ run-spec =
     slice-relend-prefix-rounds
     slice-aggregate-rounds
     rounds-requires
-    say-z-requires
-    mul-say-segments
-    sub-say-segments
-    part-say-segments-start
-    part-say-segments-end
-    say-segments-requires
+    send-z-requires
+    mul-send-segments
+    sub-send-segments
+    part-send-segments-start
+    part-send-segments-end
+    send-segments-requires
     clear-requires
     same-length
     same-length-2

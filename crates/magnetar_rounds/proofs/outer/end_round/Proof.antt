@@ -1,7 +1,7 @@
 -- `magnetar_rounds::outer::end_round` meets its contract.
 -- Assumes nothing.
 use Rattle.magnetar_field.specs.Gf128.{value}
-use Rattle.magnetar_rounds.proofs.Said.{drawn-more}
+use Rattle.magnetar_rounds.proofs.Sent.{drawn-more}
 use borrow.Author.Needs.{needs}
 use denote.Ref.{now}
 use mathlib.Core.Path.{_∙_, ap}

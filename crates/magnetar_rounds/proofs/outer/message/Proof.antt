@@ -20,8 +20,8 @@ slice-aggregate-drop-var c = sym (length-take-le _ _ (omega arith))
 drop-var-requires : tie.Need-drop-var-requires
 drop-var-requires c κs = search needs
 
-tell-requires : tie.Need-tell-requires
-tell-requires c κs = search needs
+send-message-requires : tie.Need-send-message-requires
+send-message-requires c κs = search needs
 
 same-length : tie.Need-same-length
 same-length c = search needs
@@ -35,7 +35,7 @@ returns c = let x = c .before .before .before .before .before .before .before .b
     let h : x .n ≤ length (now (x .s)) = omega arith in
     let f = eq-behind (now (x .s)) (x .n) (x .v) (p .1) h (c .before .before .before .before .before .before .before .drop-var .last .0) (c .before .before .before .before .before .before .before .drop-var .ensures .1) in
     let g = eq-dropped (now (x .s)) (x .n) (x .v) (p .1) h (c .before .before .before .before .before .before .before .drop-var .last .0) (c .before .before .before .before .before .before .before .drop-var .ensures .1) in (
-      c .before .before .tell .ensures ∙ rw (g, f (x .w) (x .n) (omega arith), f (2 * x .w) (x .n) (omega arith), f (3 * x .w) (x .n) (omega arith)),
+      c .before .before .send-message .ensures ∙ rw (g, f (x .w) (x .n) (omega arith), f (2 * x .w) (x .n) (omega arith), f (3 * x .w) (x .n) (omega arith)),
       (g, eq-rest (now (x .s)) (x .n) (x .v) (p .1) h (c .before .before .before .before .before .before .before .drop-var .last .0) (c .before .before .before .before .before .before .before .drop-var .ensures .1) (x .w) (omega arith)),
     )
 
@@ -46,7 +46,7 @@ message-spec =
     slice-relend-prefix-drop-var
     slice-aggregate-drop-var
     drop-var-requires
-    tell-requires
+    send-message-requires
     same-length
     same-length-2
     returns)

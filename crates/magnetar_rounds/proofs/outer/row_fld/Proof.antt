@@ -5,7 +5,7 @@ use Rattle.magnetar_field.proofs.Elements.{elements-length}
 use Rattle.magnetar_field.specs.Gf128.{value}
 use Rattle.magnetar_field.specs.Words.{elements}
 use Rattle.magnetar_rounds.proofs.RowSteps.{outer-four, row-done}
-use Rattle.magnetar_rounds.proofs.Said.{said-more, said-there}
+use Rattle.magnetar_rounds.proofs.Sent.{sent-more, sent-there}
 use Rattle.magnetar_rounds.proofs.Slots.{part-size}
 use Rattle.magnetar_rounds.specs.Entries.{tableAt}
 use Rattle.magnetar_round.specs.Outer.{dropVar, outerMessage}
@@ -74,11 +74,11 @@ returns c = let x = c .before .before .before .before .before .before .before .b
     let m = outerMessage 0 (value (x .k)) (value (c .before .before .before .before .before .before .before .before .before .before .before .before .before .before .before .before .before .get .result)) (dropVar 0 (tableAt 0 (x .n) (now (x .s)))) (tableAt (x .w) (x .n) (now (x .s))) (tableAt (2 * x .w) (x .n) (now (x .s))) (tableAt (3 * x .w) (x .n) (now (x .s))) in
     let g = c .before .before .before .before .before .before .before .before .before .before .before .before .before .before .message .ensures in
     let h = c .before .before .before .before .end-round .ensures in
-    let there = said-there (now (x .proof)) (c .before .before .before .before .before .before .before .before .before .before .before .before .before .before .message .last .0) m (2 * x .p) 8 (x .p) 4 refl refl (p .0 .4) (outer-four 0 _ _ _ _ _ _) (g .0) in
+    let there = sent-there (now (x .proof)) (c .before .before .before .before .before .before .before .before .before .before .before .before .before .before .message .last .0) m (2 * x .p) 8 (x .p) 4 refl refl (p .0 .4) (outer-four 0 _ _ _ _ _ _) (g .0) in
     let l : x .d ≤ length (elements (now (x .draws))) = rw elements-length (omega (arith, p .0 .5)) in
     row-done "vs-out-rowfld-" (x .i) (x .p) (x .d) (x .o) (value (x .k)) (value (c .before .before .before .before .end-round .result)) (value (c .before .before .before .before .before .before .before .before .before .before .before .before .before .before .before .before .before .get .result)) (x .w) (x .n) (x .t) (c .before .before .before .before .before .before .before .fld-round .result) (now (x .proof)) _ (now (x .draws)) (c .before .before .before .before .end-round .last .1 .1 .1 .1 .1 .1 .0) (now (x .s)) (c .before .before .before .before .before .before .before .before .before .before .before .before .before .before .message .last .1 .0) (c .before .before .before .before .end-round .last .1 .1 .1 .1 .1 .1 .1 .0)
     (p .1) (p .0 .2) l (c .before .before .before .before .before .before .before .before .before .before .before .before .before .before .before .before .before .get .ensures) (c .before .before .before .before .before .before .before .fld-round .ensures ∙ rw there)
-    (said-more (now (x .proof)) (c .before .before .before .before .before .before .before .before .before .before .before .before .before .before .message .last .0) m (2 * x .p) 8 (x .p) 4 refl refl (p .0 .4) (outer-four 0 _ _ _ _ _ _) (g .0))
+    (sent-more (now (x .proof)) (c .before .before .before .before .before .before .before .before .before .before .before .before .before .before .message .last .0) m (2 * x .p) 8 (x .p) 4 refl refl (p .0 .4) (outer-four 0 _ _ _ _ _ _) (g .0))
     (h .1 .0) (h .0) (g .1 .0) (g .1 .1) (h .1 .1 .1 .1 .1) (h .1 .1 .0) (h .1 .1 .1 .0) (h .1 .1 .1 .1 .0)
 
 pub row-fld-spec : {M : Type 1} → statement M

@@ -65,8 +65,8 @@ part-terminals-end c = search needs
 terminals-requires : tie.Need-terminals-requires
 terminals-requires c κs = search needs
 
-ask-alphas-requires : tie.Need-ask-alphas-requires
-ask-alphas-requires c κs = search needs
+draw-alphas-requires : tie.Need-draw-alphas-requires
+draw-alphas-requires c κs = search needs
 
 same-length : tie.Need-same-length
 same-length c = search needs
@@ -75,7 +75,7 @@ same-length-2 : tie.Need-same-length-2
 same-length-2 c = search needs
 
 returns : tie.Need-returns
-returns c = end-left (c .before .before .before .before .before .before .before .before .before .before .before .before .before .args .l) (c .before .before .before .before .before .before .before .before .before .before .before .before .before .args .b) (c .before .before .before .before .before .before .before .before .before .before .before .before .before .args .f) (c .before .before .before .before .before .before .before .before .before .before .before .before .before .args .wb) (c .before .before .before .before .before .before .before .before .before .before .before .before .before .args .wf) (omega (arith, c .before .before .before .before .before .before .before .before .before .before .before .before .before .pre .bin-few)) (omega (arith, c .before .before .before .before .before .before .before .before .before .before .before .before .before .pre .fld-few)) (8 * c .before .before .before .before .before .before .before .before .before .before .before .before .before .args .l + 4 * c .before .before .before .before .before .before .before .before .before .before .before .before .before .args .b + 4 * c .before .before .before .before .before .before .before .before .before .before .before .before .before .args .f) (c .before .before .before .before .before .before .before .before .before .before .before .before .before .args .l + c .before .before .before .before .before .before .before .before .before .before .before .before .before .args .b + (c .before .before .before .before .before .before .before .before .before .before .before .before .before .args .l + c .before .before .before .before .before .before .before .before .before .before .before .before .before .args .f) + c .before .before .before .before .before .before .before .before .before .before .before .before .before .args .l + c .before .before .before .before .before .before .before .before .before .before .before .before .before .args .b + c .before .before .before .before .before .before .before .before .before .before .before .before .before .args .f) 1 1 (c .before .before .before .before .before .before .before .before .before .before .before .before .before .args .t) (c .before .before .before .before .before .before .terminals .result) (c .before .before .ask-alphas .result) (now (c .before .before .before .before .before .before .before .before .before .before .before .before .before .args .proof)) (now (c .before .before .before .before .before .before .before .before .before .before .before .before .before .args .draws)) (now (c .before .before .before .before .before .before .before .before .before .before .before .before .before .args .s)) (c .before .before .before .before .before .before .terminals .last .1 .1 .1 .0) (c .before .before .ask-alphas .last .1 .0) _ (take-all (length (now (c .before .before .before .before .before .before .before .before .before .before .before .before .before .args .s)) - 4 * c .before .before .before .before .before .before .before .before .before .before .before .before .before .args .wb) (drop (4 * c .before .before .before .before .before .before .before .before .before .before .before .before .before .args .wb) (now (c .before .before .before .before .before .before .before .before .before .before .before .before .before .args .s))) (omega (arith, length-drop (4 * c .before .before .before .before .before .before .before .before .before .before .before .before .before .args .wb) (now (c .before .before .before .before .before .before .before .before .before .before .before .before .before .args .s))))) (c .before .before .before .before .before .before .terminals .ensures) (c .before .before .ask-alphas .ensures)
+returns c = end-left (c .before .before .before .before .before .before .before .before .before .before .before .before .before .args .l) (c .before .before .before .before .before .before .before .before .before .before .before .before .before .args .b) (c .before .before .before .before .before .before .before .before .before .before .before .before .before .args .f) (c .before .before .before .before .before .before .before .before .before .before .before .before .before .args .wb) (c .before .before .before .before .before .before .before .before .before .before .before .before .before .args .wf) (omega (arith, c .before .before .before .before .before .before .before .before .before .before .before .before .before .pre .bin-few)) (omega (arith, c .before .before .before .before .before .before .before .before .before .before .before .before .before .pre .fld-few)) (8 * c .before .before .before .before .before .before .before .before .before .before .before .before .before .args .l + 4 * c .before .before .before .before .before .before .before .before .before .before .before .before .before .args .b + 4 * c .before .before .before .before .before .before .before .before .before .before .before .before .before .args .f) (c .before .before .before .before .before .before .before .before .before .before .before .before .before .args .l + c .before .before .before .before .before .before .before .before .before .before .before .before .before .args .b + (c .before .before .before .before .before .before .before .before .before .before .before .before .before .args .l + c .before .before .before .before .before .before .before .before .before .before .before .before .before .args .f) + c .before .before .before .before .before .before .before .before .before .before .before .before .before .args .l + c .before .before .before .before .before .before .before .before .before .before .before .before .before .args .b + c .before .before .before .before .before .before .before .before .before .before .before .before .before .args .f) 1 1 (c .before .before .before .before .before .before .before .before .before .before .before .before .before .args .t) (c .before .before .before .before .before .before .terminals .result) (c .before .before .draw-alphas .result) (now (c .before .before .before .before .before .before .before .before .before .before .before .before .before .args .proof)) (now (c .before .before .before .before .before .before .before .before .before .before .before .before .before .args .draws)) (now (c .before .before .before .before .before .before .before .before .before .before .before .before .before .args .s)) (c .before .before .before .before .before .before .terminals .last .1 .1 .1 .0) (c .before .before .draw-alphas .last .1 .0) _ (take-all (length (now (c .before .before .before .before .before .before .before .before .before .before .before .before .before .args .s)) - 4 * c .before .before .before .before .before .before .before .before .before .before .before .before .before .args .wb) (drop (4 * c .before .before .before .before .before .before .before .before .before .before .before .before .before .args .wb) (now (c .before .before .before .before .before .before .before .before .before .before .before .before .before .args .s))) (omega (arith, length-drop (4 * c .before .before .before .before .before .before .before .before .before .before .before .before .before .args .wb) (now (c .before .before .before .before .before .before .before .before .before .before .before .before .before .args .s))))) (c .before .before .before .before .before .before .terminals .ensures) (c .before .before .draw-alphas .ensures)
 
 pub end-spec : {M : Type 1} → statement M
 end-spec =
@@ -99,7 +99,7 @@ end-spec =
     part-terminals-start
     part-terminals-end
     terminals-requires
-    ask-alphas-requires
+    draw-alphas-requires
     same-length
     same-length-2
     returns)

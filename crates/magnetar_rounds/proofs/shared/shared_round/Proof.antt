@@ -42,8 +42,8 @@ add-get-2 c = search needs
 get-requires-2 : tie.Need-get-requires-2
 get-requires-2 c κs = search needs
 
-tell-both-requires : tie.Need-tell-both-requires
-tell-both-requires c κs = let p = c .before .before .before .before .before .before .before .before .before .pre in ((p .0 .0, p .0 .1, p .0 .2, p .0 .3, p .0 .4, p .0 .5, p .0 .6), (high-table (p .1 .0), high-table (p .1 .1)))
+send-messages-requires : tie.Need-send-messages-requires
+send-messages-requires c κs = let p = c .before .before .before .before .before .before .before .before .before .pre in ((p .0 .0, p .0 .1, p .0 .2, p .0 .3, p .0 .4, p .0 .5, p .0 .6), (high-table (p .1 .0), high-table (p .1 .1)))
 
 mul-a : tie.Need-mul-a
 mul-a c = search needs
@@ -67,7 +67,7 @@ shared-round-requires : tie.Need-shared-round-requires
 shared-round-requires c κs = search needs
 
 end-both-requires : tie.Need-end-both-requires
-end-both-requires c κs = let p = c .before .before .before .before .before .before .before .before .before .before .before .before .before .before .before .before .before .before .before .pre in ((c .before .before .before .before .before .before .before .before .before .tell-both .kept .1 .1 .1 .1 .1 .1 .1 .1 .1 .1 .1 .1 .0 ∙ p .0 .0, p .0 .1, p .0 .2, p .0 .3, p .0 .4, p .0 .7), (high-table (p .1 .0), high-table (p .1 .1)))
+end-both-requires c κs = let p = c .before .before .before .before .before .before .before .before .before .before .before .before .before .before .before .before .before .before .before .pre in ((c .before .before .before .before .before .before .before .before .before .send-messages .kept .1 .1 .1 .1 .1 .1 .1 .1 .1 .1 .1 .1 .0 ∙ p .0 .0, p .0 .1, p .0 .2, p .0 .3, p .0 .4, p .0 .7), (high-table (p .1 .0), high-table (p .1 .1)))
 
 same-length : tie.Need-same-length
 same-length c = search needs
@@ -83,16 +83,16 @@ returns c = let x = c .before .before .before .before .before .before .before .b
     let p = c .before .before .before .before .before .before .before .before .before .before .before .before .before .before .before .before .before .before .before .before .before .before .before .before .pre in
     let ub = value (c .before .before .before .before .before .before .before .before .before .before .before .before .before .before .before .before .before .before .before .get .result) in
     let uf = value (c .before .before .before .before .before .before .before .before .before .before .before .before .before .before .before .before .before .get2 .result) in
-    let p₁ = c .before .before .before .before .before .before .before .before .before .before .before .before .before .before .tell-both .last .1 .1 .1 .1 .1 .1 .1 .1 .1 .1 .1 .0 in
-    let s₁ = c .before .before .before .before .before .before .before .before .before .before .before .before .before .before .tell-both .last .1 .1 .1 .1 .1 .1 .1 .1 .1 .1 .1 .1 .0 in
+    let p₁ = c .before .before .before .before .before .before .before .before .before .before .before .before .before .before .send-messages .last .1 .1 .1 .1 .1 .1 .1 .1 .1 .1 .1 .0 in
+    let s₁ = c .before .before .before .before .before .before .before .before .before .before .before .before .before .before .send-messages .last .1 .1 .1 .1 .1 .1 .1 .1 .1 .1 .1 .1 .0 in
     let u = c .before .before .before .before .before .before .before .shared-round .result in
-    let g = c .before .before .before .before .before .before .before .before .before .before .before .before .before .before .tell-both .ensures in
+    let g = c .before .before .before .before .before .before .before .before .before .before .before .before .before .before .send-messages .ensures in
     let h = c .before .before .before .before .end-both .ensures in
     let l : x .d ≤ length (elements (now (x .draws))) = rw elements-length (omega (arith, p .0 .7)) in
-    let heard = c .before .before .before .before .before .before .before .shared-round .ensures ∙ ap (λ (w : List ℕ). transcript.drawn (transcript.absorbed (x .t) (numbered "vs-out-shared-" (x .i)) (wordBytes w)) (numbered "vs-out-shared-" (x .i))) (part-is p₁ (2 * x .p) 16 ∙ g .1 .0) in
+    let transcript-is = c .before .before .before .before .before .before .before .shared-round .ensures ∙ ap (λ (w : List ℕ). transcript.drawn (transcript.absorbed (x .t) (numbered "vs-out-shared-" (x .i)) (wordBytes w)) (numbered "vs-out-shared-" (x .i))) (part-is p₁ (2 * x .p) 16 ∙ g .1 .0) in
     rw (h .0)
     (shared-done (x .i) (x .h) (x .b) (x .f) (x .o) (x .q) (x .p) (x .d) (value (x .kb)) (value (c .before .before .before .before .end-both .result .kb)) (value (x .kf)) (value (c .before .before .before .before .end-both .result .kf)) ub uf (x .wb) (x .nb) (x .wf) (x .nf) (x .t) u (now (x .proof)) p₁ (now (x .draws)) (c .before .before .before .before .end-both .last .1 .1 .1 .1 .1 .1 .1 .1 .1 .1 .1 .0) (now (x .s)) s₁ (c .before .before .before .before .end-both .last .1 .1 .1 .1 .1 .1 .1 .1 .1 .1 .1 .1 .0)
-    (p .1 .0) (p .1 .1) (p .0 .3) (p .0 .4) l (c .before .before .before .before .before .before .before .before .before .before .before .before .before .before .before .before .before .before .before .get .ensures) (c .before .before .before .before .before .before .before .before .before .before .before .before .before .before .before .before .before .get2 .ensures) heard (g .0) (h .1 .1 .1 .0) (h .1 .0) (h .1 .1 .0) (g .1 .1 .0) (g .1 .1 .1) (h .1 .1 .1 .1 .0) (h .1 .1 .1 .1 .1))
+    (p .1 .0) (p .1 .1) (p .0 .3) (p .0 .4) l (c .before .before .before .before .before .before .before .before .before .before .before .before .before .before .before .before .before .before .before .get .ensures) (c .before .before .before .before .before .before .before .before .before .before .before .before .before .before .before .before .before .get2 .ensures) transcript-is (g .0) (h .1 .1 .1 .0) (h .1 .0) (h .1 .1 .0) (g .1 .1 .0) (g .1 .1 .1) (h .1 .1 .1 .1 .0) (h .1 .1 .1 .1 .1))
 
 pub shared-round-spec : {M : Type 1} → statement M
 shared-round-spec =
@@ -106,7 +106,7 @@ shared-round-spec =
     get-requires
     add-get-2
     get-requires-2
-    tell-both-requires
+    send-messages-requires
     mul-a
     add-e
     mul-shared-round

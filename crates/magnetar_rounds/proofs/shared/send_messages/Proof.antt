@@ -1,9 +1,9 @@
--- `magnetar_rounds::shared::tell_both` meets its contract.
+-- `magnetar_rounds::shared::send_messages` meets its contract.
 -- Assumes nothing.
 use Prim.Native.Nat.{_*_, _+_, ℕ}
 use Rattle.magnetar_field.specs.Gf128.{value}
 use Rattle.magnetar_field.specs.Words.{words}
-use Rattle.magnetar_rounds.proofs.Blocks.{behind-dropped, both-said, both-there, front-dropped, lent-behind, rest-length}
+use Rattle.magnetar_rounds.proofs.Blocks.{behind-dropped, both-sent, both-there, front-dropped, lent-behind, rest-length}
 use Rattle.magnetar_rounds.proofs.RowSteps.{outer-four}
 use Rattle.magnetar_rounds.proofs.Slots.{mid-length, part-size}
 use Rattle.magnetar_rounds.specs.Shared.{messageIn}
@@ -14,8 +14,8 @@ use lib.Seq.{length-take-le}
 use mathlib.Core.List.{List}
 use mathlib.Core.Path.{_∙_, _≡_, ap, sym}
 use native.Mathlib.Omega.{arith}
-use Rattle.magnetar_rounds.proofs.shared.tell_both.Statement.{statement}
-use Rattle.magnetar_rounds.proofs.shared.tell_both.Tie as tie
+use Rattle.magnetar_rounds.proofs.shared.send_messages.Statement.{statement}
+use Rattle.magnetar_rounds.proofs.shared.send_messages.Tie as tie
 
 mul-a : tie.Need-mul-a
 mul-a c = search needs
@@ -105,7 +105,7 @@ returns c = let x = c .before .before .before .before .before .before .before .b
     let v = messageIn (x .vb) (value (x .kb)) (value (x .ub)) (x .wb) (x .nb) (take (4 * x .wb) (now (x .s))) in
     let w = messageIn (x .vf) (value (x .kf)) (value (x .uf)) (x .wf) (x .nf) (drop (4 * x .wb) (now (x .s))) in
     let so : c .before .before .before .before .message2 .last .0 ≡ words w = g .0 ∙ ap (λ (l : List ℕ). words (messageIn (x .vf) (value (x .kf)) (value (x .uf)) (x .wf) (x .nf) l)) lent in (
-      both-said (now (x .proof)) (c .before .before .before .before .before .before .before .before .before .before .before .message .last .0) (c .before .before .before .before .message2 .last .0) v w (x .p) (p .0 .6) (outer-four (x .vb) _ _ _ _ _ _) (outer-four (x .vf) _ _ _ _ _ _) (f .0) so,
+      both-sent (now (x .proof)) (c .before .before .before .before .before .before .before .before .before .before .before .message .last .0) (c .before .before .before .before .message2 .last .0) v w (x .p) (p .0 .6) (outer-four (x .vb) _ _ _ _ _ _) (outer-four (x .vf) _ _ _ _ _ _) (f .0) so,
       (
         both-there (now (x .proof)) (c .before .before .before .before .before .before .before .before .before .before .before .message .last .0) (c .before .before .before .before .message2 .last .0) v w (x .p) (p .0 .6) (outer-four (x .vb) _ _ _ _ _ _) (outer-four (x .vf) _ _ _ _ _ _) (f .0) so,
         (
@@ -115,8 +115,8 @@ returns c = let x = c .before .before .before .before .before .before .before .b
       ),
     )
 
-pub tell-both-spec : {M : Type 1} → statement M
-tell-both-spec =
+pub send-messages-spec : {M : Type 1} → statement M
+send-messages-spec =
     tie.close
     (tie.spec
     mul-a

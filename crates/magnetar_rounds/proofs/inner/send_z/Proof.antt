@@ -1,19 +1,19 @@
--- `magnetar_rounds::inner::say_z` meets its contract.
+-- `magnetar_rounds::inner::send_z` meets its contract.
 -- Assumes nothing.
 use Prim.Native.Nat.{_*_, ℕ}
 use Rattle.magnetar_field.specs.Gf128.{value}
 use Rattle.magnetar_field.specs.Words.{elements}
 use Rattle.magnetar_hash.specs.Bytes.{ascii}
-use Rattle.magnetar_rounds.proofs.Said.{drawn-more, one-heard, table-first}
-use Rattle.magnetar_rounds.specs.Held.{heardOne}
+use Rattle.magnetar_rounds.proofs.Sent.{drawn-more, one-absorbed, table-first}
+use Rattle.magnetar_rounds.specs.Held.{absorbedOne}
 use borrow.Author.Needs.{needs}
 use denote.Ref.{now}
 use lib.ListN.{take}
 use mathlib.Core.List.{[], _++_, _∷_}
 use mathlib.Core.Path.{_∙_, ap, sym}
 use native.Mathlib.Omega.{arith}
-use Rattle.magnetar_rounds.proofs.inner.say_z.Statement.{statement}
-use Rattle.magnetar_rounds.proofs.inner.say_z.Tie as tie
+use Rattle.magnetar_rounds.proofs.inner.send_z.Statement.{statement}
+use Rattle.magnetar_rounds.proofs.inner.send_z.Tie as tie
 
 mul-get : tie.Need-mul-get
 mul-get c = search needs
@@ -51,12 +51,12 @@ same-length c = search needs
 returns : tie.Need-returns
 returns c = let x = c .before .before .before .before .before .before .before .before .before .before .args in
     let v = c .before .before .before .before .before .before .before .get .ensures ∙ sym (table-first (now (x .s)) (4 * x .w) (2 * x .w) 2 (omega arith) (omega arith)) in (
-      one-heard (ascii "vs-vz") (x .t) (c .value-z .result) (now (x .proof)) (c .before .before .before .before .before .put .last .0) (x .k) (value (c .before .before .before .before .before .before .before .get .result)) (c .before .before .before .before .before .put .ensures) (omega arith) (c .value-z .ensures) ∙ ap (heardOne (x .t) (ascii "vs-vz")) v,
+      one-absorbed (ascii "vs-vz") (x .t) (c .value-z .result) (now (x .proof)) (c .before .before .before .before .before .put .last .0) (x .k) (value (c .before .before .before .before .before .before .before .get .result)) (c .before .before .before .before .before .put .ensures) (omega arith) (c .value-z .ensures) ∙ ap (absorbedOne (x .t) (ascii "vs-vz")) v,
       drawn-more (now (x .proof)) (c .before .before .before .before .before .put .last .0) (x .k) (value (c .before .before .before .before .before .before .before .get .result)) (c .before .before .before .before .before .put .ensures) (omega arith) ∙ ap (λ (e : ℕ). take (x .k) (elements (now (x .proof))) ++ (e ∷ [])) v,
     )
 
-pub say-z-spec : {M : Type 1} → statement M
-say-z-spec =
+pub send-z-spec : {M : Type 1} → statement M
+send-z-spec =
     tie.close
     (tie.spec
     mul-get

@@ -1,19 +1,19 @@
--- `magnetar_rounds::inner::say_segment` meets its contract.
+-- `magnetar_rounds::inner::send_segment` meets its contract.
 -- Assumes nothing.
 use Prim.Native.Nat.{ℕ}
 use Rattle.magnetar_field.specs.Gf128.{value}
 use Rattle.magnetar_field.specs.Words.{elements}
 use Rattle.magnetar_protocol.specs.Schedule.{numbered}
-use Rattle.magnetar_rounds.proofs.Said.{drawn-more, one-heard}
-use Rattle.magnetar_rounds.specs.Held.{heardOne}
+use Rattle.magnetar_rounds.proofs.Sent.{drawn-more, one-absorbed}
+use Rattle.magnetar_rounds.specs.Held.{absorbedOne}
 use borrow.Author.Needs.{needs}
 use denote.Ref.{now}
 use lib.ListN.{take}
 use mathlib.Core.List.{[], _++_, _∷_}
 use mathlib.Core.Path.{_∙_, ap}
 use native.Mathlib.Omega.{arith}
-use Rattle.magnetar_rounds.proofs.inner.say_segment.Statement.{statement}
-use Rattle.magnetar_rounds.proofs.inner.say_segment.Tie as tie
+use Rattle.magnetar_rounds.proofs.inner.send_segment.Statement.{statement}
+use Rattle.magnetar_rounds.proofs.inner.send_segment.Tie as tie
 
 segment-value-requires : tie.Need-segment-value-requires
 segment-value-requires c κs = search needs
@@ -51,15 +51,15 @@ same-length-2 c = search needs
 returns : tie.Need-returns
 returns c = let x = c .before .before .before .before .before .before .before .before .before .before .before .before .before .before .before .args in
     let v = c .before .before .before .before .before .before .before .before .before .segment-value .ensures .0 in (
-      one-heard (numbered "vs-seg-" (x .i)) (x .t) (c .segment .result) (now (x .proof)) (c .before .before .before .before .before .put .last .0) (x .p) (value (c .before .before .before .before .before .before .before .before .before .segment-value .result)) (c .before .before .before .before .before .put .ensures) (omega arith) (c .segment .ensures) ∙ ap (heardOne (x .t) (numbered "vs-seg-" (x .i))) v,
+      one-absorbed (numbered "vs-seg-" (x .i)) (x .t) (c .segment .result) (now (x .proof)) (c .before .before .before .before .before .put .last .0) (x .p) (value (c .before .before .before .before .before .before .before .before .before .segment-value .result)) (c .before .before .before .before .before .put .ensures) (omega arith) (c .segment .ensures) ∙ ap (absorbedOne (x .t) (numbered "vs-seg-" (x .i))) v,
       (
         drawn-more (now (x .proof)) (c .before .before .before .before .before .put .last .0) (x .p) (value (c .before .before .before .before .before .before .before .before .before .segment-value .result)) (c .before .before .before .before .before .put .ensures) (omega arith) ∙ ap (λ (e : ℕ). take (x .p) (elements (now (x .proof))) ++ (e ∷ [])) v,
         c .before .before .before .before .before .before .before .before .before .segment-value .ensures .1,
       ),
     )
 
-pub say-segment-spec : {M : Type 1} → statement M
-say-segment-spec =
+pub send-segment-spec : {M : Type 1} → statement M
+send-segment-spec =
     tie.close
     (tie.spec
     segment-value-requires

@@ -1,4 +1,4 @@
--- What is said and drawn, as the slices hold it.
+-- What is sent and drawn, as the slices hold it.
 -- Assumes nothing.
 use mathlib.Core.Path.{_≡_, refl, sym, ap, _∙_}
 use mathlib.Core.List.{List, [], _∷_, _++_}
@@ -16,9 +16,9 @@ use Rattle.magnetar_field.proofs.Elements.{elements-length, elements-stored, el
 use Rattle.magnetar_hash.specs.Bytes.{wordBytes}
 use Rattle.magnetar_hash.specs.declared.transcript.Transcript.{Transcript}
 use Rattle.magnetar_hash.specs.Transcript as transcript
-use Rattle.magnetar_protocol.specs.Stepwise.{Steps, say, ask}
+use Rattle.magnetar_protocol.specs.Stepwise.{Steps, send, drawOne}
 use Rattle.magnetar_matrix.proofs.TableLaws.{elements-words}
-use Rattle.magnetar_rounds.specs.Held.{stepsIn, heardOne}
+use Rattle.magnetar_rounds.specs.Held.{stepsIn, absorbedOne}
 use Rattle.magnetar_rounds.proofs.Slots.{mid-upto, mid-at, part-is}
 
 two-suc : (i : ℕ) → 2 * suc i ≡ suc (suc (2 * i))
@@ -40,23 +40,23 @@ elements-after (suc k) (x ∷ []) vs e = absurd (omega arith)
 elements-after (suc k) (x ∷ (y ∷ s)) vs e = ap (λ (l : List ℕ). (y * 2 ^ 64 + x) ∷ l) (elements-after k s vs (omega arith))
 
 pub steps-eq : {t u : Transcript} {d e a b : List ℕ} → t ≡ u → d ≡ e → a ≡ b
-    → _≡_ {A = Steps} (record { played = record { transcript = t; draws = d }; said = a }) (record { played = record { transcript = u; draws = e }; said = b })
+    → _≡_ {A = Steps} (record { played = record { transcript = t; draws = d }; sent = a }) (record { played = record { transcript = u; draws = e }; sent = b })
 steps-eq {t} {u} {d} {e} {a} {b} p q r =
-    ap (λ (x : Transcript). record { played = record { transcript = x; draws = d }; said = a }) p
-    ∙ (ap (λ (x : List ℕ). record { played = record { transcript = u; draws = x }; said = a }) q
-    ∙ ap (λ (x : List ℕ). record { played = record { transcript = u; draws = e }; said = x }) r)
+    ap (λ (x : Transcript). record { played = record { transcript = x; draws = d }; sent = a }) p
+    ∙ (ap (λ (x : List ℕ). record { played = record { transcript = u; draws = x }; sent = a }) q
+    ∙ ap (λ (x : List ℕ). record { played = record { transcript = u; draws = e }; sent = x }) r)
 
 -- the words of n elements, put behind those of k
 module _ (proof t msg : List ℕ) (p w k n : ℕ) (at : p ≡ 2 * k) (size : w ≡ 2 * n) (room : p + w ≤ length proof) (many : length msg ≡ n)
     (is : t ≡ words msg) where
-  told : length t ≡ w
-  told = rw is (words-length msg ∙ omega arith)
+  long : length t ≡ w
+  long = rw is (words-length msg ∙ omega arith)
 
-  pub said-more : take (k + n) (elements (putMid p (p + w - p) proof t)) ≡ take k (elements proof) ++ msg
-  said-more =
+  pub sent-more : take (k + n) (elements (putMid p (p + w - p) proof t)) ≡ take k (elements proof) ++ msg
+  sent-more =
       elements-take (k + n) (putMid p (p + w - p) proof t)
       ∙ (ap (λ (i : ℕ). elements (take i (putMid p (p + w - p) proof t))) ends
-      ∙ (ap elements (mid-upto proof t p w room told)
+      ∙ (ap elements (mid-upto proof t p w room long)
       ∙ (ap (λ (x : List ℕ). elements (take p proof ++ x)) is
       ∙ (elements-after k (take p proof) msg (length-take-le p proof (omega arith) ∙ at)
       ∙ ap (λ (x : List ℕ). x ++ msg) (ap (λ (i : ℕ). elements (take i proof)) at ∙ sym (elements-take k proof))))))
@@ -65,24 +65,24 @@ module _ (proof t msg : List ℕ) (p w k n : ℕ) (at : p ≡ 2 * k) (size : w �
       ends = omega arith
 
   -- and they are heard
-  pub said-there : take (p + w - p) (drop p (putMid p (p + w - p) proof t)) ≡ words msg
-  said-there = part-is (putMid p (p + w - p) proof t) p w ∙ (mid-at proof t p w room told ∙ is)
+  pub sent-there : take (p + w - p) (drop p (putMid p (p + w - p) proof t)) ≡ words msg
+  sent-there = part-is (putMid p (p + w - p) proof t) p w ∙ (mid-at proof t p w room long ∙ is)
 
 -- an element put behind d others
 pub drawn-more : (draws last : List ℕ) (d v : ℕ) → last ≡ stored draws d v → 2 * d + 2 ≤ length draws → take (d + 1) (elements last) ≡ take d (elements draws) ++ (v ∷ [])
 drawn-more draws last d v e h =
     rw (e, elements-stored draws d v, add-one) (take-suc-set (elements draws) d v (rw elements-length (omega arith)))
 
--- a message is said, and a challenge is asked for
-pub round-said : (label : List ℕ) (t u : Transcript) (proof p′ draws d′ msg : List ℕ) (k n d c : ℕ)
+-- a message is sent, and a challenge is drawn
+pub round-sent : (label : List ℕ) (t u : Transcript) (proof p′ draws d′ msg : List ℕ) (k n d c : ℕ)
     → u ≡ transcript.drawn (transcript.absorbed t label (wordBytes (words msg))) label
     → take (k + n) (elements p′) ≡ take k (elements proof) ++ msg
     → c ≡ value (transcript.element u) → take (d + 1) (elements d′) ≡ take d (elements draws) ++ (c ∷ [])
-    → stepsIn (k + n) (d + 1) u p′ d′ ≡ ask label (say label msg (stepsIn k d t proof draws))
-round-said label t u proof p′ draws d′ msg k n d c e f g h =
+    → stepsIn (k + n) (d + 1) u p′ d′ ≡ drawOne label (send label msg (stepsIn k d t proof draws))
+round-sent label t u proof p′ draws d′ msg k n d c e f g h =
     steps-eq e (h ∙ ap (λ (x : ℕ). take d (elements draws) ++ (x ∷ [])) (g ∙ ap (λ (x : Transcript). value (transcript.element x)) e)) f
 
--- ---- one element said
+-- ---- one element sent
 pub elements-join : (k : ℕ) (s t : List ℕ) → length s ≡ 2 * k → elements (s ++ t) ≡ elements s ++ elements t
 unfolding elements
 elements-join zero [] t e = refl
@@ -108,9 +108,9 @@ stored-there s k v h =
     here : drop (2 * k) (set s (2 * k) (v % 2 ^ 64)) ≡ set (drop (2 * k) s) 0 (v % 2 ^ 64)
     here = ap (λ (i : ℕ). drop (2 * k) (set s i (v % 2 ^ 64))) (sym (add-zero (2 * k))) ∙ drop-set-add (2 * k) s 0 (v % 2 ^ 64)
 
-pub one-heard : (label : List ℕ) (t u : Transcript) (proof p′ : List ℕ) (k v : ℕ) → p′ ≡ stored proof k v → 2 * k + 2 ≤ length proof
-    → u ≡ transcript.absorbed t label (wordBytes (take (2 * k + 2 - 2 * k) (drop (2 * k) p′))) → u ≡ heardOne t label v
-one-heard label t u proof p′ k v e h f =
+pub one-absorbed : (label : List ℕ) (t u : Transcript) (proof p′ : List ℕ) (k v : ℕ) → p′ ≡ stored proof k v → 2 * k + 2 ≤ length proof
+    → u ≡ transcript.absorbed t label (wordBytes (take (2 * k + 2 - 2 * k) (drop (2 * k) p′))) → u ≡ absorbedOne t label v
+one-absorbed label t u proof p′ k v e h f =
     f ∙ ap (λ (x : List ℕ). transcript.absorbed t label (wordBytes x)) (part-is p′ (2 * k) 2 ∙ (ap (λ (x : List ℕ). take 2 (drop (2 * k) x)) e ∙ stored-there proof k v h))
 
 -- the first element of a table

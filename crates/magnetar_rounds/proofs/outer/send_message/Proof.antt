@@ -1,17 +1,17 @@
--- `magnetar_rounds::outer::tell` meets its contract.
+-- `magnetar_rounds::outer::send_message` meets its contract.
 -- Assumes nothing.
 use Prim.Native.Nat.{_*_, _+_, _-_, _/_, ℕ}
 use Rattle.magnetar_field.specs.Gf128.{value}
 use Rattle.magnetar_rounds.proofs.Slots.{part-is, part-size}
-use Rattle.magnetar_rounds.proofs.Whole.{outer-told}
+use Rattle.magnetar_rounds.proofs.Whole.{outer-written}
 use borrow.Author.Needs.{needs}
 use denote.Ref.{now}
 use lib.ListN.{drop, length, take}
 use lib.Seq.{length-take-le}
 use mathlib.Core.Path.{_∙_, _≡_, ap, sym}
 use native.Mathlib.Omega.{arith}
-use Rattle.magnetar_rounds.proofs.outer.tell.Statement.{statement}
-use Rattle.magnetar_rounds.proofs.outer.tell.Tie as tie
+use Rattle.magnetar_rounds.proofs.outer.send_message.Statement.{statement}
+use Rattle.magnetar_rounds.proofs.outer.send_message.Tie as tie
 
 mul-b : tie.Need-mul-b
 mul-b c = search needs
@@ -82,11 +82,11 @@ returns c = let x = c .before .before .before .before .before .before .before .b
     let d = part-size (now (x .s)) (3 * x .w) (x .n) (omega arith) in
     let e : length (take (x .n / 2) (now (x .s))) ≡ x .n / 2 = length-take-le (x .n / 2) (now (x .s)) (omega arith) in
     c .before .before .outer-message .ensures .1
-    ∙ (outer-told (now (x .out)) (take (x .n / 2) (now (x .s))) (take (x .w + x .n - x .w) (drop (x .w) (now (x .s)))) (take (2 * x .w + x .n - 2 * x .w) (drop (2 * x .w) (now (x .s)))) (take (3 * x .w + x .n - 3 * x .w) (drop (3 * x .w) (now (x .s)))) (x .v) (value (x .k)) (value (x .t)) (w .vars) (p .0 .3) (a ∙ w .size) (b ∙ sym a) (d ∙ sym a) (e ∙ ap (λ (i : ℕ). i / 2) (sym a)) (w .var) (w .few)
+    ∙ (outer-written (now (x .out)) (take (x .n / 2) (now (x .s))) (take (x .w + x .n - x .w) (drop (x .w) (now (x .s)))) (take (2 * x .w + x .n - 2 * x .w) (drop (2 * x .w) (now (x .s)))) (take (3 * x .w + x .n - 3 * x .w) (drop (3 * x .w) (now (x .s)))) (x .v) (value (x .k)) (value (x .t)) (w .vars) (p .0 .3) (a ∙ w .size) (b ∙ sym a) (d ∙ sym a) (e ∙ ap (λ (i : ℕ). i / 2) (sym a)) (w .var) (w .few)
     ∙ rw (part-is (now (x .s)) (x .w) (x .n), part-is (now (x .s)) (2 * x .w) (x .n), part-is (now (x .s)) (3 * x .w) (x .n)))
 
-pub tell-spec : {M : Type 1} → statement M
-tell-spec =
+pub send-message-spec : {M : Type 1} → statement M
+send-message-spec =
     tie.close
     (tie.spec
     mul-b

@@ -1,19 +1,19 @@
--- `magnetar_rounds::ends::say_terminal` meets its contract.
+-- `magnetar_rounds::ends::send_terminal` meets its contract.
 -- Assumes nothing.
 use Prim.Native.Nat.{ℕ}
 use Rattle.magnetar_field.specs.Gf128.{value}
 use Rattle.magnetar_field.specs.Words.{elements}
 use Rattle.magnetar_protocol.specs.Schedule.{numbered}
-use Rattle.magnetar_rounds.proofs.Said.{drawn-more, one-heard}
-use Rattle.magnetar_rounds.specs.Held.{heardOne}
+use Rattle.magnetar_rounds.proofs.Sent.{drawn-more, one-absorbed}
+use Rattle.magnetar_rounds.specs.Held.{absorbedOne}
 use borrow.Author.Needs.{needs}
 use denote.Ref.{now}
 use lib.ListN.{take}
 use mathlib.Core.List.{[], _++_, _∷_}
 use mathlib.Core.Path.{_∙_, ap}
 use native.Mathlib.Omega.{arith}
-use Rattle.magnetar_rounds.proofs.ends.say_terminal.Statement.{statement}
-use Rattle.magnetar_rounds.proofs.ends.say_terminal.Tie as tie
+use Rattle.magnetar_rounds.proofs.ends.send_terminal.Statement.{statement}
+use Rattle.magnetar_rounds.proofs.ends.send_terminal.Tie as tie
 
 get-requires : tie.Need-get-requires
 get-requires c κs = search needs
@@ -48,12 +48,12 @@ same-length c = search needs
 returns : tie.Need-returns
 returns c = let x = c .before .before .before .before .before .before .before .before .before .before .args in
     let v = c .before .before .before .before .before .before .before .get .ensures in (
-      one-heard (numbered "vs-terminal-" (x .i)) (x .t) (c .terminal .result) (now (x .proof)) (c .before .before .before .before .before .put .last .0) (x .p) (value (c .before .before .before .before .before .before .before .get .result)) (c .before .before .before .before .before .put .ensures) (omega arith) (c .terminal .ensures) ∙ ap (heardOne (x .t) (numbered "vs-terminal-" (x .i))) v,
+      one-absorbed (numbered "vs-terminal-" (x .i)) (x .t) (c .terminal .result) (now (x .proof)) (c .before .before .before .before .before .put .last .0) (x .p) (value (c .before .before .before .before .before .before .before .get .result)) (c .before .before .before .before .before .put .ensures) (omega arith) (c .terminal .ensures) ∙ ap (absorbedOne (x .t) (numbered "vs-terminal-" (x .i))) v,
       drawn-more (now (x .proof)) (c .before .before .before .before .before .put .last .0) (x .p) (value (c .before .before .before .before .before .before .before .get .result)) (c .before .before .before .before .before .put .ensures) (omega arith) ∙ ap (λ (e : ℕ). take (x .p) (elements (now (x .proof))) ++ (e ∷ [])) v,
     )
 
-pub say-terminal-spec : {M : Type 1} → statement M
-say-terminal-spec =
+pub send-terminal-spec : {M : Type 1} → statement M
+send-terminal-spec =
     tie.close
     (tie.spec
     get-requires

@@ -1,14 +1,14 @@
--- `magnetar_rounds::ends::ask_alphas` meets its contract.
+-- `magnetar_rounds::ends::draw_alphas` meets its contract.
 -- Assumes nothing.
 use Rattle.magnetar_hash.specs.Bytes.{ascii}
-use Rattle.magnetar_rounds.proofs.Drawn.{asked-in}
+use Rattle.magnetar_rounds.proofs.Drawn.{drawn-times-in}
 use borrow.Author.Needs.{needs}
 use denote.Ref.{now}
 use mathlib.Core.List.{[]}
 use mathlib.Core.Path.{refl}
 use native.Mathlib.Omega.{arith}
-use Rattle.magnetar_rounds.proofs.ends.ask_alphas.Statement.{statement}
-use Rattle.magnetar_rounds.proofs.ends.ask_alphas.Tie as tie
+use Rattle.magnetar_rounds.proofs.ends.draw_alphas.Statement.{statement}
+use Rattle.magnetar_rounds.proofs.ends.draw_alphas.Tie as tie
 
 mul-a : tie.Need-mul-a
 mul-a c = search needs
@@ -36,10 +36,10 @@ same-length c = search needs
 
 returns : tie.Need-returns
 returns c = let x = c .before .before .before .before .before .args in
-    asked-in (now (x .draws)) (c .before .before .alphas .last .1 .0) (ascii "vs-alpha") (x .t) (c .before .before .alphas .result) (x .d) 12 6 refl (omega arith) (c .before .before .alphas .ensures .0) (c .before .before .alphas .ensures .1) 0 []
+    drawn-times-in (now (x .draws)) (c .before .before .alphas .last .1 .0) (ascii "vs-alpha") (x .t) (c .before .before .alphas .result) (x .d) 12 6 refl (omega arith) (c .before .before .alphas .ensures .0) (c .before .before .alphas .ensures .1) 0 []
 
-pub ask-alphas-spec : {M : Type 1} → statement M
-ask-alphas-spec =
+pub draw-alphas-spec : {M : Type 1} → statement M
+draw-alphas-spec =
     tie.close
     (tie.spec
     mul-a
