@@ -89,14 +89,6 @@ fn add_logins(packed: &[u64], q: usize, w: usize, factors: &[u64], out: &mut [u6
     }
 }
 
-// Sets s to the eq table of the point.
-fn eq_in(point: &[u64], s: &mut [u64])
-    requires { ⌜ Point (now point) (now s) ⌝ }
-    ensures { λ _. ⌜ now (s .exit) ≡ words (eqTable (elements (now (point .entry)))) ⌝ }
-{
-    let _done = EqBits::build(point, s);
-}
-
 // The folded vector of w columns; s is room for the eq table of q elements, and is left 0.
 fn fold_in(packed: &[u64], q: usize, w: usize, point: &[u64], out: &mut [u64], s: &mut [u64])
     requires { ⌜ (w ≤ 32768) × (q ≤ 4096) × (length (now packed) ≡ q * loginWords w) ⌝ }
@@ -105,7 +97,7 @@ fn fold_in(packed: &[u64], q: usize, w: usize, point: &[u64], out: &mut [u64], s
     ensures { λ _. ⌜ now (out .exit) ≡ words (tabulate (foldSum w (now (packed .entry)) (eqTable (elements (now (point .entry)))) q) (length (now (out .entry)) / 2)) ⌝ }
     ensures { λ _. ⌜ now (s .exit) ≡ replicate (length (now (s .entry))) 0 ⌝ }
 {
-    eq_in(point, s);
+    let _done = EqBits::build(point, s);
     words::clear(out);
     add_logins(packed, q, w, s, out);
     words::clear(s);

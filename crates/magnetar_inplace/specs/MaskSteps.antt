@@ -3,13 +3,14 @@
 use mathlib.Core.Bool.{Bool, not, cond, _&&_}
 use mathlib.Core.List.{List, [], _∷_, _++_}
 use Prim.Native.Nat.{ℕ, zero, suc, _+_, _-_, _*_, _^_}
-use lib.Dec.{ltb, leb}
+use lib.Dec.{leb}
 use Rattle.magnetar_field.specs.Sizes.{log₂}
 use Rattle.magnetar_layout.specs.Tests.{Tests, mostLogins, sizeTests, packedTestsOf, rowsTests, matrixColumnTests, countTests, roomTestOf}
 use Rattle.magnetar_matrix.specs.Matrix.{Entry}
 use Rattle.magnetar_matrix.specs.Packed.{loginPart}
 use Rattle.magnetar_matrix.specs.Sum.{sumBelow}
 use Rattle.magnetar_matrix.specs.Table.{addedAt}
+use Rattle.magnetar_r1cs.specs.Entries.{maskTestsOf}
 use Rattle.magnetar_r1cs.specs.Flips.{flip}
 use Rattle.magnetar_inplace.specs.Steps.{clearedWords}
 use Rattle.magnetar_inplace.specs.LoginSteps.{inReach}
@@ -17,7 +18,7 @@ use Rattle.magnetar_inplace.specs.LoginSteps.{inReach}
 -- the last of them: 7, 12, 13 and 15
 abbrev pub lastOf : ℕ → Bool → Bool → ℕ → ℕ → ℕ → Tests
 lastOf n inside bits q v out =
-    (7, not inside) ∷ (12, not bits) ∷ (13, ltb (log₂ q) v) ∷ (13, ltb 6 v) ∷ roomTestOf (2 ^ (log₂ q - v) * n) out
+    (7, not inside) ∷ (maskTestsOf bits q v ++ roomTestOf (2 ^ (log₂ q - v) * n) out)
 
 -- the refusals of n rows and m columns with k records for q logins of w columns, with p packed words, the number v and room of
 -- out words

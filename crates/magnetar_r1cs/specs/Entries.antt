@@ -97,9 +97,13 @@ abbrev pub matrixTests : Lent → List ℕ → ℕ → ℕ → Tests
 matrixTests a ws q w =
     sizeTests (2 * w) q ++ packedTests w q ws ++ rowsTests q (a .rows) ++ matrixColumnTests (2 * w) (a .cols) ++ counted a ++ placed a
 
--- 12: some output may be neither 0 nor 1; 13: v is over log2 q, or over 6
+-- 12: some output may be neither 0 nor 1, where bits is not true; 13: v is over log2 q, or over 6
+abbrev pub maskTestsOf : Bool → ℕ → ℕ → Tests
+maskTestsOf bits q v = (12, not bits) ∷ (13, ltb (log₂ q) v) ∷ (13, ltb 6 v) ∷ []
+
+-- 12 and 13 of the matrix a for logins of w columns
 abbrev pub maskTests : Lent → ℕ → ℕ → ℕ → Tests
-maskTests a q w v = (12, not (bitValued w (matrixOf a))) ∷ (13, ltb (log₂ q) v) ∷ (13, ltb 6 v) ∷ []
+maskTests a q w v = maskTestsOf (bitValued w (matrixOf a)) q v
 
 -- how many masks there are
 abbrev pub maskCount : Lent → ℕ → ℕ → ℕ

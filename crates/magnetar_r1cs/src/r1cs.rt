@@ -80,14 +80,6 @@ pub fn apply(
     0
 }
 
-// Sets s to the eq table of the point.
-pub(crate) fn eq_in(point: &[u64], s: &mut [u64])
-    requires { ⌜ Point (now point) (now s) ⌝ }
-    ensures { λ _. ⌜ now (s .exit) ≡ words (eqTable (elements (now (point .entry)))) ⌝ }
-{
-    let _done = EqBits::build(point, s);
-}
-
 // The table of the extension at the row point; s is room for the eq table, and is left 0.
 fn table_in(
     row: &[usize],
@@ -104,7 +96,7 @@ fn table_in(
     ensures { λ _. ⌜ now (out .exit) ≡ words (tabulate (rowTotal (share (eqTable (elements (now (point .entry))))) (entriesOf (now (col .entry)) (now (row .entry)) (now (lo .entry)) (now (hi .entry)))) (length (now (out .entry)) / 2)) ⌝ }
     ensures { λ _. ⌜ now (s .exit) ≡ replicate (length (now (s .entry))) 0 ⌝ }
 {
-    eq_in(point, s);
+    let _done = EqBits::build(point, s);
     product(col, row, lo, hi, s, out);
     words::clear(s);
 }
@@ -169,8 +161,8 @@ fn sum_in(
     ensures { λ _. ⌜ now (s .exit) ≡ replicate (length (now (s .entry))) 0 ⌝ }
 {
     let k = 2 * n;
-    eq_in(r, &mut s[..k]);
-    eq_in(c, &mut s[k..]);
+    let _rows = EqBits::build(r, &mut s[..k]);
+    let _cols = EqBits::build(c, &mut s[k..]);
     let v = walk::sum_products(row, col, lo, hi, s, n);
     words::clear(s);
     v

@@ -19,9 +19,7 @@ ghost use lib.ListN.{length, getD, take, drop, replicate};
 ghost use Rattle.magnetar_field.specs.Gf128.{value};
 ghost use Rattle.magnetar_field.specs.Words.{elements, words};
 ghost use Rattle.magnetar_multilinear.specs.Multilinear.{dot, bindVar};
-ghost use Rattle.magnetar_multilinear.specs.EqTable.{eqTable};
 ghost use Rattle.magnetar_field.specs.Tabulate.{tabulate};
-ghost use Rattle.magnetar_matrix.specs.Table.{Point};
 ghost use Rattle.magnetar_hash.specs.Bytes.{ascii};
 ghost use Rattle.magnetar_layout.specs.Layout.{offset};
 ghost use Rattle.magnetar_layout.specs.Entries.{layoutRefusal};
@@ -158,14 +156,6 @@ fn send_z(k: usize, w: usize, proof: &mut [u64], s: &[u64], t: Transcript) -> Tr
     events::value_z(t, &proof[a..e])
 }
 
-// Sets s to the eq table of the point.
-fn eq_in(point: &[u64], s: &mut [u64])
-    requires { ⌜ Point (now point) (now s) ⌝ }
-    ensures { λ _. ⌜ now (s .exit) ≡ words (eqTable (elements (now (point .entry)))) ⌝ }
-{
-    let _done = EqBits::build(point, s);
-}
-
 // The sum of products of segment i of the w folded columns at the front of s with the n elements behind them.
 fn segment_dot(w: usize, lens: &[usize], i: usize, n: usize, s: &[u64]) -> Gf128
     requires { ⌜ (w ≤ 32768) × (layoutRefusal w (now lens) ≡ 0) × (i < length (now lens)) × (n ≤ w) × (length (now s) ≡ 4 * w) ⌝ }
@@ -188,7 +178,7 @@ fn segment_value(w: usize, lens: &[usize], i: usize, draws: &[u64], s: &mut [u64
     let k = 2 * sizes::log2(n);
     let a = 2 * w;
     let e = a + 2 * n;
-    eq_in(&draws[..k], &mut s[a..e]);
+    let _done = EqBits::build(&draws[..k], &mut s[a..e]);
     segment_dot(w, lens, i, n, s)
 }
 

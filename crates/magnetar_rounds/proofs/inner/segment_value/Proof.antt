@@ -6,6 +6,7 @@ use borrow.Author.Needs.{needs}
 use denote.Ref.{now}
 use lib.ListN.{getD, length}
 use lib.Seq.{length-take-le}
+use Rattle.magnetar_r1cs.proofs.Points.{eq-built}
 use mathlib.Core.Path.{_∙_, refl, sym}
 use native.Mathlib.Omega.{arith}
 use Rattle.magnetar_rounds.proofs.inner.segment_value.Statement.{statement}
@@ -32,23 +33,23 @@ mul-e c = let l = c .before .before .before .before .before .pre .1 in omega (ar
 add-e : tie.Need-add-e
 add-e c = let l = c .before .before .before .before .before .pre .1 in omega (arith, l .most)
 
-slice-aggregate-eq-in : tie.Need-slice-aggregate-eq-in
-slice-aggregate-eq-in c = let l = c .before .before .before .before .before .before .pre .1 in sym (length-take-le _ _ (omega (arith, c .before .log2 .ensures, l .drawn)))
+slice-aggregate-build : tie.Need-slice-aggregate-build
+slice-aggregate-build c = let l = c .before .before .before .before .before .before .pre .1 in sym (length-take-le _ _ (omega (arith, c .before .log2 .ensures, l .drawn)))
 
-mul-eq-in : tie.Need-mul-eq-in
-mul-eq-in c = search needs
+mul-build : tie.Need-mul-build
+mul-build c = search needs
 
-sub-eq-in : tie.Need-sub-eq-in
-sub-eq-in c = search needs
+sub-build : tie.Need-sub-build
+sub-build c = search needs
 
-part-eq-in-start : tie.Need-part-eq-in-start
-part-eq-in-start c = search needs
+part-build-start : tie.Need-part-build-start
+part-build-start c = search needs
 
-part-eq-in-end : tie.Need-part-eq-in-end
-part-eq-in-end c = let l = c .before .before .before .before .before .before .pre .1 in omega (arith, l .most)
+part-build-end : tie.Need-part-build-end
+part-build-end c = let l = c .before .before .before .before .before .before .pre .1 in omega (arith, l .most)
 
-eq-in-requires : tie.Need-eq-in-requires
-eq-in-requires c κs = let x = c .before .before .before .before .before .before .before .args in local-point (x .w) (getD (now (x .lens)) (x .i) 0) (c .before .before .log2 .result) (now (x .draws)) (now (x .s)) (c .before .before .log2 .ensures) (c .before .before .before .before .before .before .before .pre .1) (omega (arith, c .before .before .before .before .before .before .before .pre .1 .most))
+build-requires : tie.Need-build-requires
+build-requires c κs = search needs
 
 segment-dot-requires : tie.Need-segment-dot-requires
 segment-dot-requires c κs = let l = c .before .before .before .before .before .before .before .before .before .before .before .pre .1 in (omega arith, c .before .before .before .before .before .before .before .before .before .before .before .pre .0 .1, c .before .before .before .before .before .before .before .before .before .before .before .pre .0 .2, l .most, omega arith)
@@ -57,10 +58,17 @@ same-length : tie.Need-same-length
 same-length c = search needs
 
 returns : tie.Need-returns
-returns c = let x = c .before .before .before .before .before .before .before .before .before .before .before .before .args in
-    let h : 2 * x .w + 2 * getD (now (x .lens)) (x .i) 0 ≤ length (now (x .s)) = omega (arith, c .before .before .before .before .before .before .before .before .before .before .before .before .pre .1 .most) in (
-      c .segment-dot .ensures ∙ segment-sum (x .w) (getD (now (x .lens)) (x .i) 0) (c .before .before .before .before .before .before .before .log2 .result) (x .i) (now (x .lens)) (now (x .draws)) (now (x .s)) (c .before .before .before .before .eq-in .last .1 .0) (c .before .before .before .before .before .before .before .log2 .ensures) refl (c .before .before .before .before .before .before .before .before .before .before .before .before .pre .1) h (c .before .before .before .before .eq-in .ensures),
-      columns-kept (x .w) (getD (now (x .lens)) (x .i) 0) (c .before .before .before .before .before .before .before .log2 .result) (x .i) (now (x .lens)) (now (x .draws)) (now (x .s)) (c .before .before .before .before .eq-in .last .1 .0) (c .before .before .before .before .before .before .before .log2 .ensures) refl (c .before .before .before .before .before .before .before .before .before .before .before .before .pre .1) h (c .before .before .before .before .eq-in .ensures),
+returns c =
+    let b = c .before .before .before .before in
+    let g = b .before .before .before .log2 in
+    let s = b .before .before .before .before .before .before .before .before in
+    let x = s .args in
+    let n = getD (now (x .lens)) (x .i) 0 in
+    let h : 2 * x .w + 2 * n ≤ length (now (x .s)) = omega (arith, s .pre .1 .most) in
+    let point = local-point (x .w) n (g .result) (now (x .draws)) (now (x .s)) (g .ensures) (s .pre .1) (omega (arith, s .pre .1 .most)) in
+    let built = b .build .ensures .1 ∙ eq-built _ _ point in (
+      c .segment-dot .ensures ∙ segment-sum (x .w) n (g .result) (x .i) (now (x .lens)) (now (x .draws)) (now (x .s)) (b .build .last .1 .0) (g .ensures) refl (s .pre .1) h built,
+      columns-kept (x .w) n (g .result) (x .i) (now (x .lens)) (now (x .draws)) (now (x .s)) (b .build .last .1 .0) (g .ensures) refl (s .pre .1) h built,
     )
 
 pub segment-value-spec : {M : Type 1} → statement M
@@ -74,12 +82,12 @@ segment-value-spec =
     mul-a
     mul-e
     add-e
-    slice-aggregate-eq-in
-    mul-eq-in
-    sub-eq-in
-    part-eq-in-start
-    part-eq-in-end
-    eq-in-requires
+    slice-aggregate-build
+    mul-build
+    sub-build
+    part-build-start
+    part-build-end
+    build-requires
     segment-dot-requires
     same-length
     returns)
