@@ -1,7 +1,10 @@
-// How many words of scratch a run wants lent. A size past document 01's limit counts as the limit.
+// How many words of scratch a run wants lent, where a size past document 01's limit counts as the limit; and how many words its draws have.
 use magnetar_field::sizes;
 ghost use mathlib.Core.Path.{_≡_};
 ghost use Prim.Native.Nat.{_+_, _*_, _≤_};
+ghost use mathlib.Core.List.{[]};
+ghost use Rattle.magnetar_protocol.specs.Draws.{drawCount};
+ghost use Rattle.magnetar_protocol.specs.Schedule.{outline};
 ghost use Rattle.magnetar_protocol.specs.Rooms.{verifierScratch, proverScratch};
 
 // The verifier's, with m columns and the row counts rb and rf of bin and fld.
@@ -32,4 +35,15 @@ pub fn prover_room(m: usize, q: usize, rb: usize, rf: usize) -> usize
     let b = sizes::least(rb, 65536);
     let f = sizes::least(rf, 65536);
     8 * positions(l, b, f) + 8 * c + 4 * sizes::larger(b, f) + 4 * l
+}
+
+// How many words the draws of a run have.
+pub fn draw_words(m: usize, q: usize, rb: usize, rf: usize) -> usize
+    ensures { λ r. ⌜ r ≡ 2 * drawCount (outline m q rb rf []) ⌝ }
+{
+    let s = sizes::log(q);
+    let b = sizes::log(rb);
+    let f = sizes::log(rf);
+    let n = sizes::log(m);
+    2 * (s + b + (s + f + (s + (b + (f + (6 + n))))))
 }

@@ -1,10 +1,7 @@
 // The stages of a run that see no matrix.
 ghost use mathlib.Core.Path.{_≡_};
-ghost use Prim.Native.Nat.{_+_, _*_, _≤_};
-ghost use mathlib.Core.List.{[]};
+ghost use Prim.Native.Nat.{_+_, _≤_};
 ghost use lib.ListN.{replicate};
-ghost use Rattle.magnetar_protocol.specs.Draws.{drawCount};
-ghost use Rattle.magnetar_protocol.specs.Schedule.{outline};
 ghost use Rattle.magnetar_inplace.specs.Steps.{clearedTo};
 ghost use Rattle.magnetar_records.specs.Stages.{drawnOver, stopOf, stopAnswer, stopClaims, stopRoom, noDraws, binAt, fldAt, alphasAt, window, roomElements};
 use crate::steps;
@@ -15,6 +12,7 @@ use magnetar_field::sizes;
 use magnetar_hash::transcript::Transcript;
 use magnetar_hash::transcript::TranscriptAnswer;
 use magnetar_inplace::steps as walks;
+use magnetar_protocol::rooms;
 use magnetar_schedule::play;
 use magnetar_spartan::virtual_spartan;
 
@@ -127,17 +125,6 @@ fn clear_room(m: usize, rb: usize, rf: usize, s: &mut [u64])
     }
 }
 
-// How many words the draws of a run have.
-pub fn draw_words(m: usize, q: usize, rb: usize, rf: usize) -> usize
-    ensures { λ r. ⌜ r ≡ 2 * drawCount (outline m q rb rf []) ⌝ }
-{
-    let s = sizes::log(q);
-    let b = sizes::log(rb);
-    let f = sizes::log(rf);
-    let n = sizes::log(m);
-    2 * (s + b + (s + f + (s + (b + (f + (6 + n))))))
-}
-
 // The checks and the claims; the scratch is 0 at exit.
 pub(crate) fn finish(
     claims: &mut [u64],
@@ -155,7 +142,7 @@ pub(crate) fn finish(
         × (now (claims .exit) ≡ stopClaims m q rb rf (now (lens .entry)) (now (proof .entry)) (drawnOver m q rb rf (now (lens .entry)) (now (proof .entry)) t (noDraws m q rb rf)) (stopOf m q rb rf (now (lens .entry)) (now (x .entry)) (now (proof .entry)) (drawnOver m q rb rf (now (lens .entry)) (now (proof .entry)) t (noDraws m q rb rf)) (now (s .entry))) (now (claims .entry)))
         × (now (s .exit) ≡ clearedTo (roomElements m rb rf) (stopRoom m q rb rf (now (lens .entry)) (now (x .entry)) (now (proof .entry)) (drawnOver m q rb rf (now (lens .entry)) (now (proof .entry)) t (noDraws m q rb rf)) (now (s .entry)))) ⌝ }
 {
-    let k = sizes::least(draw_words(m, q, rb, rf), 256);
+    let k = sizes::least(rooms::draw_words(m, q, rb, rf), 256);
     let mut draws = [0u64; 256];
     let a = checks(claims, s, &mut draws[0..k], m, q, rb, rf, lens, x, proof, t);
     clear_room(m, rb, rf, s);

@@ -17,7 +17,7 @@ use magnetar_field::sizes;
 use magnetar_field::words;
 use magnetar_hash::transcript::Transcript;
 use magnetar_hash::transcript::TranscriptAnswer;
-use magnetar_records::stages;
+use magnetar_protocol::rooms;
 use magnetar_rounds::inner;
 use magnetar_rounds::rounds;
 
@@ -57,7 +57,7 @@ pub(crate) fn outer(
     ensures { λ r. ⌜ OuterDone m q rb rf k (now (s .entry)) (now (proof .entry)) t (r .«transcript») (r .«draws») (now (proof .exit)) × (now (s .exit) ≡ outerRoom m q rb rf k (now (s .entry)) (now (proof .entry)) t) ⌝ }
 {
     let i = sizes::least(parts::proof_words(m, q, rb, rf, k), proof.len());
-    let d = sizes::least(stages::draw_words(m, q, rb, rf), 256);
+    let d = sizes::least(rooms::draw_words(m, q, rb, rf), 256);
     let mut draws = [0u64; 256];
     let a = rounds::outer_rounds(q, rb, rf, &mut proof[0..i], &mut draws[0..d], s, t);
     let u = a.transcript;
@@ -188,7 +188,7 @@ fn end(
     let k = lens.len();
     let i = sizes::least(parts::proof_words(m, q, rb, rf, k), proof.len());
     let c = sizes::least(parts::claim_words(m, q, k), claims.len());
-    let n = sizes::least(stages::draw_words(m, q, rb, rf), 256);
+    let n = sizes::least(rooms::draw_words(m, q, rb, rf), 256);
     let mut draws = d;
     end_in(
         &mut proof[0..i],

@@ -3,7 +3,6 @@ use magnetar_batch::combo;
 use magnetar_field::sizes;
 ghost use mathlib.Core.Path.{_≡_};
 ghost use Prim.Native.Nat.{_+_, _*_, _≤_, max};
-ghost use mathlib.Core.List.{[]};
 ghost use lib.ListN.{length, take, drop};
 ghost use Rattle.magnetar_field.specs.Words.{elements};
 ghost use Rattle.magnetar_layout.specs.Lent.{lent};
@@ -13,17 +12,6 @@ ghost use Rattle.magnetar_protocol.specs.Schedule.{outline};
 ghost use Rattle.magnetar_protocol.specs.Checks.{combined};
 ghost use Rattle.magnetar_spartan.specs.Rules.{rules, relationOf};
 ghost use Rattle.magnetar_spartan.specs.Ready.{Ready};
-
-// How many words the draws of a run have.
-pub(crate) fn draw_words(m: usize, q: usize, rb: usize, rf: usize) -> usize
-    ensures { λ r. ⌜ r ≡ 2 * drawCount (outline m q rb rf []) ⌝ }
-{
-    let s = sizes::log(q);
-    let b = sizes::log(rb);
-    let f = sizes::log(rf);
-    let n = sizes::log(m);
-    2 * (s + b + (s + f + (s + (b + (f + (6 + n))))))
-}
 
 // n words of s from word a on.
 pub(crate) fn part<'a>(s: &'a [u64], a: usize, n: usize) -> &'a [u64]

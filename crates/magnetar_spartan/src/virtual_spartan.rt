@@ -9,6 +9,7 @@ use magnetar_field::words;
 use magnetar_hash::transcript::Transcript;
 use magnetar_hash::transcript::TranscriptAnswer;
 use magnetar_protocol::first::Found;
+use magnetar_protocol::rooms;
 use magnetar_schedule::play;
 ghost use mathlib.Core.Path.{_≡_};
 ghost use lib.ListN.{length, take};
@@ -286,7 +287,7 @@ pub fn verify_virtual_spartan(
     }
     let k = refusal::claim_words(m, q, lens.len());
     let n = refusal::verifier_room(m, abrows, afrows);
-    let d = combine::draw_words(m, q, abrows, afrows);
+    let d = rooms::draw_words(m, q, abrows, afrows);
     let mut draws = [0u64; 256];
     let a = verify_in(
         &mut claims[..k],
@@ -449,7 +450,7 @@ pub fn prove_virtual_spartan(
     let w = refusal::proof_words(m, q, abrows, afrows, lens.len());
     let k = refusal::claim_words(m, q, lens.len());
     let n = refusal::prover_room(m, q, abrows, afrows);
-    let d = combine::draw_words(m, q, abrows, afrows);
+    let d = rooms::draw_words(m, q, abrows, afrows);
     let mut draws = [0u64; 256];
     let u = proving::prove_in(
         &mut proof[..w],
