@@ -18,7 +18,7 @@ use Rattle.magnetar_matrix.specs.Batch.{Relation}
 use Rattle.magnetar_theory.specs.SumCheck.{Checks, running as runningE}
 use Rattle.magnetar_theory.specs.EqTable.{eqTable as eqTableE, dot as dotE, eqProduct}
 use Rattle.magnetar_theory.specs.Run.{Accepted, terminals as terminalsE, segSum, combo, inner}
-use Rattle.magnetar_theory.specs.Gf128.{Element, element, sum, product, gf128}
+use Rattle.magnetar_theory.specs.Gf128.{Element, element, elementSum, elementProduct, gf128}
 use Rattle.magnetar_theory.proofs.Gf128.{element-⊕, element-⊗}
 use Rattle.magnetar_protocol.specs.Shape.{logCols, beforeTerminals, beforeEnd, proofElements}
 use Rattle.magnetar_protocol.specs.Proof.{binMessages, fldMessages, terminals, terminal, innerRounds, valueZ, segmentValues}
@@ -57,14 +57,14 @@ module _ (r : Relation) (w : List ℕ) (long : length w ≡ proofElements r) whe
 -- the terminal equation's right side
 pub end-is : (tau point login : List ℕ) (a b c : ℕ)
     → element (outerEnd (eqPoints tau (point ++ reverse login)) a b c)
-    ≡ product (eqProduct gf128 (els tau) (els point ++ reverse (els login))) (sum (product (element a) (element b)) (element c))
+    ≡ elementProduct (eqProduct gf128 (els tau) (els point ++ reverse (els login))) (elementSum (elementProduct (element a) (element b)) (element c))
 unfolding outerEnd
 end-is tau point login a b c =
     element-⊗ (eqPoints tau (point ++ reverse login)) (a ⊗ b ⊕ c)
-    ∙ ap₂ product (element-eqPoints tau (point ++ reverse login)
+    ∙ ap₂ elementProduct (element-eqPoints tau (point ++ reverse login)
     ∙ ap (eqProduct gf128 (els tau)) (map-append element point (reverse login)
     ∙ ap (λ (l : List Element). els point ++ l) (map-reverse element login)))
-    (element-⊕ (a ⊗ b) c ∙ ap (λ (e : Element). sum e (element c)) (element-⊗ a b))
+    (element-⊕ (a ⊗ b) c ∙ ap (λ (e : Element). elementSum e (element c)) (element-⊗ a b))
 
 module _ (r : Relation) (x w : List ℕ) (D : Draws) (R : SizedRelation r) (C : Cut r D) (long : length w ≡ proofElements r) where
   cols : logCols r ≡ suc (logHalf r)
@@ -83,27 +83,27 @@ module _ (r : Relation) (x w : List ℕ) (D : Draws) (R : SizedRelation r) (C : 
       ∷ terminal-is r w 4 i ∷ terminal-is r w 5 i ∷ []))
 
   pub bin-end-is : element (outerEnd (eqPoints (D .tauBin) (D .rowBin ++ loginPoint D)) (terminal r w 0) (terminal r w 1) (terminal r w 2))
-      ≡ product (eqProduct gf128 (els (D .tauBin)) (els (D .rowBin) ++ reverse (els (D .shared))))
-      (sum (product ((wordsE r w) .ab) ((wordsE r w) .bb)) ((wordsE r w) .cb))
+      ≡ elementProduct (eqProduct gf128 (els (D .tauBin)) (els (D .rowBin) ++ reverse (els (D .shared))))
+      (elementSum (elementProduct ((wordsE r w) .ab) ((wordsE r w) .bb)) ((wordsE r w) .cb))
   unfolding loginPoint
   bin-end-is = end-is (D .tauBin) (D .rowBin) (D .shared) (terminal r w 0) (terminal r w 1) (terminal r w 2)
-      ∙ (λ i. product (eqProduct gf128 (els (D .tauBin)) (els (D .rowBin) ++ reverse (els (D .shared))))
-      (sum (product (sym ab-is i) (sym (terminal-is r w 1) i)) (sym (terminal-is r w 2) i)))
+      ∙ (λ i. elementProduct (eqProduct gf128 (els (D .tauBin)) (els (D .rowBin) ++ reverse (els (D .shared))))
+      (elementSum (elementProduct (sym ab-is i) (sym (terminal-is r w 1) i)) (sym (terminal-is r w 2) i)))
 
   pub fld-end-is : element (outerEnd (eqPoints (D .tauFld) (D .rowFld ++ loginPoint D)) (terminal r w 3) (terminal r w 4) (terminal r w 5))
-      ≡ product (eqProduct gf128 (els (D .tauFld)) (els (D .rowFld) ++ reverse (els (D .shared))))
-      (sum (product ((wordsE r w) .af) ((wordsE r w) .bf)) ((wordsE r w) .cf))
+      ≡ elementProduct (eqProduct gf128 (els (D .tauFld)) (els (D .rowFld) ++ reverse (els (D .shared))))
+      (elementSum (elementProduct ((wordsE r w) .af) ((wordsE r w) .bf)) ((wordsE r w) .cf))
   unfolding loginPoint
   fld-end-is = end-is (D .tauFld) (D .rowFld) (D .shared) (terminal r w 3) (terminal r w 4) (terminal r w 5)
-      ∙ (λ i. product (eqProduct gf128 (els (D .tauFld)) (els (D .rowFld) ++ reverse (els (D .shared))))
-      (sum (product (sym (terminal-is r w 3) i) (sym (terminal-is r w 4) i)) (sym (terminal-is r w 5) i)))
+      ∙ (λ i. elementProduct (eqProduct gf128 (els (D .tauFld)) (els (D .rowFld) ++ reverse (els (D .shared))))
+      (elementSum (elementProduct (sym (terminal-is r w 3) i) (sym (terminal-is r w 4) i)) (sym (terminal-is r w 5) i)))
 
   pub inner-end-is : element (innerEnd (mle (combined r D) (D .inner)) (valueZ r w))
-      ≡ product (dotE gf128 (eqTableE gf128 (inner gf128 (drawsE r D)))
+      ≡ elementProduct (dotE gf128 (eqTableE gf128 (inner gf128 (drawsE r D)))
       (combo gf128 (relationE r) (els (D .rowBin)) (els (D .rowFld)) (els (D .alphas)))) ((wordsE r w) .vz)
   unfolding innerEnd
   inner-end-is = element-⊗ (mle (combined r D) (D .inner)) (valueZ r w)
-      ∙ ap₂ product (element-mle (combined r D) (D .inner)
+      ∙ ap₂ elementProduct (element-mle (combined r D) (D .inner)
       ∙ ap₂ (λ (p t : List Element). dotE gf128 (eqTableE gf128 p) t) (sym (inner-is r R D C)) (combined-is r D R)) (sym (vz-is r w cols))
 
   values-length : length (segmentValues r w) ≡ length (r .lengths)
@@ -111,16 +111,16 @@ module _ (r : Relation) (x w : List ℕ) (D : Draws) (R : SizedRelation r) (C : 
   values-length = length-drop (beforeEnd r + 1) w ∙ omega arith
 
   pub identity-is : element ((1 ⊕ topElement r D) ⊗ segmentSum (r .lengths) (lowPoint r D) 0 (segmentValues r w) ⊕ topElement r D ⊗ mle (1 ∷ x) (lowPoint r D))
-      ≡ sum (product (sum (element 1) (element (topElement r D)))
+      ≡ elementSum (elementProduct (elementSum (element 1) (element (topElement r D)))
       (segSum gf128 ((relationE r) .segs) (els (lowPoint r D)) ((wordsE r w) .values)))
-      (product (element (topElement r D)) (dotE gf128 (eqTableE gf128 (els (lowPoint r D))) (publicE x)))
+      (elementProduct (element (topElement r D)) (dotE gf128 (eqTableE gf128 (els (lowPoint r D))) (publicE x)))
   identity-is =
-      element-⊕ _ _ ∙ ap₂ sum
-      (element-⊗ (1 ⊕ topElement r D) (segmentSum (r .lengths) (lowPoint r D) 0 (segmentValues r w)) ∙ ap₂ product (element-⊕ 1 (topElement r D))
+      element-⊕ _ _ ∙ ap₂ elementSum
+      (element-⊗ (1 ⊕ topElement r D) (segmentSum (r .lengths) (lowPoint r D) 0 (segmentValues r w)) ∙ ap₂ elementProduct (element-⊕ 1 (topElement r D))
       (sym (ap (segSum gf128 ((relationE r) .segs) (els (lowPoint r D))) (values-of r w cols)
       ∙ segments-sum r D R C (segmentValues r w) values-length)))
       (element-⊗ (topElement r D) (mle (1 ∷ x) (lowPoint r D))
-      ∙ ap (product (element (topElement r D))) (element-mle (1 ∷ x) (lowPoint r D)))
+      ∙ ap (elementProduct (element (topElement r D))) (element-mle (1 ∷ x) (lowPoint r D)))
 
   pub accepted : Holds r x w D → Accepted gf128 (relationE r) (publicE x) (drawsE r D) (wordsE r w)
   accepted H = record {

@@ -15,7 +15,7 @@ use Rattle.magnetar_matrix.specs.Sum.{sumBelow}
 use Rattle.magnetar_matrix.specs.Batch.{Batch, bitOf, claimValue}
 use Rattle.magnetar_theory.specs.EqTable.{eqTable as eqTableE, dot as dotE}
 use Rattle.magnetar_theory.specs.Segment.{Segment}
-use Rattle.magnetar_theory.specs.Gf128.{Element, element, sum, product, gf128}
+use Rattle.magnetar_theory.specs.Gf128.{Element, element, elementSum, elementProduct, gf128}
 use Rattle.magnetar_theory.proofs.Gf128.{element-⊗}
 use Rattle.magnetar_round.specs.Sum.{sumTo}
 use Rattle.magnetar_round.proofs.OuterRound.{sumF}
@@ -43,13 +43,13 @@ sum-ext zero f g h = refl
 sum-ext (suc m) f g h = ap₂ _⊕_ (sum-ext m f g h) (h m)
 
 dot-sum : (e t : List Element) (n : ℕ) → length e ≡ n → length t ≡ n
-    → dotE gf128 e t ≡ sumF gf128 (λ i. product (getD e i (element 0)) (getD t i (element 0))) n
+    → dotE gf128 e t ≡ sumF gf128 (λ i. elementProduct (getD e i (element 0)) (getD t i (element 0))) n
 dot-sum [] t zero h k = refl
 dot-sum [] t (suc n) h k = absurd (omega arith)
 dot-sum (x ∷ e) [] zero h k = absurd (omega arith)
 dot-sum (x ∷ e) [] (suc n) h k = absurd (omega arith)
 dot-sum (x ∷ e) (y ∷ t) zero h k = absurd (omega arith)
-dot-sum (x ∷ e) (y ∷ t) (suc n) h k = ap (sum (product x y)) (dot-sum e t n (omega arith) (omega arith))
+dot-sum (x ∷ e) (y ∷ t) (suc n) h k = ap (elementSum (elementProduct x y)) (dot-sum e t n (omega arith) (omega arith))
 
 -- entry i of a mapped list, whatever the defaults
 pub map-at : {A B : Type 0} (f : A → B) (l : List A) (i : ℕ) (d : B) (e : A) → i < length l → getD (map f l) i d ≡ f (getD l i e)
@@ -64,8 +64,8 @@ pub eq-dot : (p : List ℕ) (t : List Element) (n : ℕ) (f : ℕ → ℕ) → n
 eq-dot p t n f h k e =
     ap (λ (l : List Element). dotE gf128 l t) (sym (element-eqTable p))
     ∙ dot-sum (els (eqTable p)) t n (length-map (eqTable p) element ∙ eqTable-length p ∙ sym h) k
-    ∙ sym (sumBelow-is n (λ i. eqAt p i ⊗ f i) (λ i. product (getD (els (eqTable p)) i (element 0)) (getD t i (element 0)))
-    (λ i l. element-⊗ (eqAt p i) (f i) ∙ ap₂ product (ap element (sym (eqTable-get p i (rw h at l))) ∙ sym (els-at (eqTable p) i))
+    ∙ sym (sumBelow-is n (λ i. eqAt p i ⊗ f i) (λ i. elementProduct (getD (els (eqTable p)) i (element 0)) (getD t i (element 0)))
+    (λ i l. element-⊗ (eqAt p i) (f i) ∙ ap₂ elementProduct (ap element (sym (eqTable-get p i (rw h at l))) ∙ sym (els-at (eqTable p) i))
     (sym (e i l))))
 
 -- the claim on the n columns from o on

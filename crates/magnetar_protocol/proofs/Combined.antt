@@ -13,7 +13,7 @@ use Rattle.magnetar_theory.specs.SumCheck.{addLists}
 use Rattle.magnetar_theory.specs.EqTable.{eqTable as eqTableE, dot as dotE, scale}
 use Rattle.magnetar_theory.specs.Matrix.{fold, columns}
 use Rattle.magnetar_theory.specs.Run.{six, combo}
-use Rattle.magnetar_theory.specs.Gf128.{Element, element, sum, gf128}
+use Rattle.magnetar_theory.specs.Gf128.{Element, element, elementSum, gf128}
 use Rattle.magnetar_theory.proofs.Gf128.{gf128Laws}
 use Rattle.magnetar_theory.proofs.Matrix.{length-fold, length-columns}
 use Rattle.magnetar_round.proofs.EqPairs.{getD-scale}
@@ -30,7 +30,7 @@ getD-zeros zero i = refl
 getD-zeros (suc n) zero = refl
 getD-zeros (suc n) (suc i) = getD-zeros n i
 
-getD-add : (p q : List Element) (i : ℕ) → getD (addLists gf128 p q) i (element 0) ≡ sum (getD p i (element 0)) (getD q i (element 0))
+getD-add : (p q : List Element) (i : ℕ) → getD (addLists gf128 p q) i (element 0) ≡ elementSum (getD p i (element 0)) (getD q i (element 0))
 getD-add [] q i = zero-sum (getD q i (element 0))
 getD-add (c ∷ p) [] i = sym (gf128Laws .is-ring .add-zero (getD (c ∷ p) i (element 0)))
 getD-add (c ∷ p) (d ∷ q) zero = refl
@@ -42,7 +42,7 @@ pub fold-at : (n : ℕ) (es : List Element) (zs : List (List Element)) (i : ℕ)
 fold-at n [] zs i = getD-zeros n i
 fold-at n (e ∷ es) [] i = getD-zeros n i
 fold-at n (e ∷ es) (z ∷ zs) i =
-    getD-add (scale gf128 e z) (fold gf128 n es zs) i ∙ ap₂ sum (getD-scale gf128 gf128Laws e z i) (fold-at n es zs i)
+    getD-add (scale gf128 e z) (fold gf128 n es zs) i ∙ ap₂ elementSum (getD-scale gf128 gf128Laws e z i) (fold-at n es zs i)
 
 module _ (r : Relation) (D : Draws) (R : SizedRelation r) where
   abbrev n : ℕ

@@ -10,7 +10,7 @@ use Rattle.magnetar_multilinear.specs.Multilinear.{dot}
 use Rattle.magnetar_field.proofs.Product.{⊗-lt}
 use Rattle.magnetar_field.proofs.Xor.{⊕-lt}
 use Rattle.magnetar_theory.specs.EqTable.{dot as dotE}
-use Rattle.magnetar_theory.specs.Gf128.{element, sum, gf128}
+use Rattle.magnetar_theory.specs.Gf128.{element, elementSum, gf128}
 use Rattle.magnetar_theory.proofs.Gf128.{element-⊕, element-⊗}
 use Rattle.magnetar_protocol.specs.Theory.{els}
 
@@ -42,7 +42,7 @@ pub element-dot : (s t : List ℕ) → element (dot s t) ≡ dotE gf128 (els s) 
 unfolding dot
 element-dot [] t = refl
 element-dot (x ∷ s) [] = refl
-element-dot (x ∷ s) (y ∷ t) = element-⊕ (x ⊗ y) (dot s t) ∙ ap₂ sum (element-⊗ x y) (element-dot s t)
+element-dot (x ∷ s) (y ∷ t) = element-⊕ (x ⊗ y) (dot s t) ∙ ap₂ elementSum (element-⊗ x y) (element-dot s t)
 
 pub dot-lt : (s t : List ℕ) → dot s t < 2 ^ 128
 unfolding dot

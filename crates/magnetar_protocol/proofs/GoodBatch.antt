@@ -17,7 +17,7 @@ use Rattle.magnetar_theory.specs.Matrix.{apply, applyAll}
 use Rattle.magnetar_theory.specs.Outer.{rowValues}
 use Rattle.magnetar_theory.specs.Run.{vectors}
 use Rattle.magnetar_theory.specs.Whole.{Good as GoodE}
-use Rattle.magnetar_theory.specs.Gf128.{Element, element, sum, product, gf128}
+use Rattle.magnetar_theory.specs.Gf128.{Element, element, elementSum, elementProduct, gf128}
 use Rattle.magnetar_theory.proofs.Gf128.{element-⊕, element-⊗, element-inj, gf128Laws}
 use Rattle.magnetar_theory.proofs.Matrix.{length-apply}
 use Rattle.magnetar_protocol.specs.Theory.{els, entriesE, relationE, publicE, batchE}
@@ -42,10 +42,10 @@ join-rows [] (y ∷ b) c a′ b′ c′ h k = absurd (omega arith)
 join-rows (x ∷ a) [] c a′ b′ c′ h k = absurd (omega arith)
 join-rows (x ∷ a) (y ∷ b) [] a′ b′ c′ h k = absurd (omega arith)
 join-rows (x ∷ a) (y ∷ b) (z ∷ c) a′ b′ c′ h k =
-    ap (λ (l : List Element). sum (product x y) z ∷ l) (join-rows a b c a′ b′ c′ (omega arith) (omega arith))
+    ap (λ (l : List Element). elementSum (elementProduct x y) z ∷ l) (join-rows a b c a′ b′ c′ (omega arith) (omega arith))
 
 abbrev rowAt : List Element → List Element → List Element → ℕ → Element
-rowAt a b c i = sum (product (getD a i (element 0)) (getD b i (element 0))) (getD c i (element 0))
+rowAt a b c i = elementSum (elementProduct (getD a i (element 0)) (getD b i (element 0))) (getD c i (element 0))
 
 rows-zero : (a b c : List Element) → length b ≡ length a → length c ≡ length a → Zeros gf128 (rowValues gf128 a b c)
     → (i : ℕ) → i < length a → rowAt a b c i ≡ element 0
@@ -70,7 +70,7 @@ module _ (s : System) (n : ℕ) where
       (apply gf128 n (entriesE (s .c)) (els z)) i
       ≡ element (timesAt (s .a) z i ⊗ timesAt (s .b) z i ⊕ timesAt (s .c) z i)
   row-is z i h =
-      ap₂ sum (ap₂ product (times-at n (s .a) z i h) (times-at n (s .b) z i h) ∙ sym (element-⊗ (timesAt (s .a) z i) (timesAt (s .b) z i)))
+      ap₂ elementSum (ap₂ elementProduct (times-at n (s .a) z i h) (times-at n (s .b) z i h) ∙ sym (element-⊗ (timesAt (s .a) z i) (timesAt (s .b) z i)))
       (times-at n (s .c) z i h)
       ∙ sym (element-⊕ (timesAt (s .a) z i ⊗ timesAt (s .b) z i) (timesAt (s .c) z i))
 

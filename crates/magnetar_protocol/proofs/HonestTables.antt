@@ -19,7 +19,7 @@ use Rattle.magnetar_theory.specs.SumCheck.{total}
 use Rattle.magnetar_theory.specs.EqTable.{eqTable as eqTableE, dot as dotE}
 use Rattle.magnetar_theory.specs.Matrix.{apply, applyAll, fold, AllLength}
 use Rattle.magnetar_theory.specs.Run.{vectors, folded as foldedE}
-use Rattle.magnetar_theory.specs.Gf128.{Element, element, sum, product, gf128}
+use Rattle.magnetar_theory.specs.Gf128.{Element, element, elementSum, elementProduct, gf128}
 use Rattle.magnetar_theory.proofs.Ring.{ring}
 use Rattle.magnetar_theory.proofs.Gf128.{gf128Laws}
 use Rattle.magnetar_theory.proofs.Matrix.{length-apply, length-fold}
@@ -95,11 +95,11 @@ module _ (F : Field) (L : Laws F) where
 -- the weighted sum of what all logins share, behind their n bits
 shared-half : (n j : ℕ) (X es : List Element) (ws : List (List Element)) → AllLength gf128 n ws → length ws ≡ length es
     → dotE gf128 es (map (λ (z : List Element). getD z (n + j) (element 0)) (vectors gf128 ws X))
-    ≡ product (total gf128 es) (getD X j (element 0))
+    ≡ elementProduct (total gf128 es) (getD X j (element 0))
 shared-half n j X [] ws a h = none gf128 gf128Laws (getD X j (element 0))
 shared-half n j X (e ∷ es) [] a h = absurd (omega arith)
 shared-half n j X (e ∷ es) (w ∷ ws) a h =
-    ap₂ sum (ap (product e) (behind n j w X (a .0))) (shared-half n j X es ws (a .1) (omega arith))
+    ap₂ elementSum (ap (elementProduct e) (behind n j w X (a .0))) (shared-half n j X es ws (a .1) (omega arith))
     ∙ more gf128 gf128Laws e (total gf128 es) (getD X j (element 0))
   where
     behind : (n j : ℕ) (w X : List Element) → length w ≡ n → getD (w ++ X) (n + j) (element 0) ≡ getD X j (element 0)
@@ -173,7 +173,7 @@ module _ (r : Relation) (b : Batch) (x : List ℕ) (D : Draws) (R : SizedRelatio
       ∙ shared-half half j (publicE x) (eqTableE gf128 (els point)) (batchE b) bits
       (length-map b els ∙ B .logins ∙ logins-pow ∙ ap (λ (k : ℕ). 2 ^ k) (sym (length-map point element))
       ∙ sym (length-eqTable gf128 gf128Laws (els point)))
-      ∙ ap (λ (e : Element). product e (getD (publicE x) j (element 0))) (eq-total gf128 gf128Laws (els point))
+      ∙ ap (λ (e : Element). elementProduct e (getD (publicE x) j (element 0))) (eq-total gf128 gf128Laws (els point))
       ∙ one gf128 gf128Laws (getD (publicE x) j (element 0)) ∙ els-at (1 ∷ x) j
 
   pub folded-is : els (foldedZ r b x D) ≡ foldedE gf128 (relationE r) (publicE x) (batchE b) (els (D .shared))

@@ -17,7 +17,7 @@ use Rattle.magnetar_field.proofs.Tabulation.{tabulate-get}
 use Rattle.magnetar_matrix.specs.Matrix.{Entry, Matrix, sumOver, rowTotal, share, timesAt, times, swapped, transpose, mleTable}
 use Rattle.magnetar_theory.specs.EqTable.{eqTable as eqTableE}
 use Rattle.magnetar_theory.specs.Matrix.{addAt, apply, columns}
-use Rattle.magnetar_theory.specs.Gf128.{Element, element, sum, product, gf128}
+use Rattle.magnetar_theory.specs.Gf128.{Element, element, elementSum, elementProduct, gf128}
 use Rattle.magnetar_theory.proofs.Gf128.{element-⊕, element-⊗, gf128Laws}
 use Rattle.magnetar_theory.proofs.Matrix.{length-apply}
 use Rattle.magnetar_round.proofs.OuterRun.{element-eqTable}
@@ -25,7 +25,7 @@ use Rattle.magnetar_protocol.specs.Theory.{els, entryE, entriesE}
 use Rattle.magnetar_protocol.proofs.Elements.{els-at}
 
 -- entry i after v is added at entry k
-added-here : (k : ℕ) (v : Element) (t : List Element) → k < length t → getD (addAt gf128 k v t) k (element 0) ≡ sum v (getD t k (element 0))
+added-here : (k : ℕ) (v : Element) (t : List Element) → k < length t → getD (addAt gf128 k v t) k (element 0) ≡ elementSum v (getD t k (element 0))
 added-here k v [] h = absurd (omega arith)
 added-here zero v (x ∷ t) h = gf128Laws .is-ring .add-comm x v
 added-here (suc k) v (x ∷ t) h = added-here k v t (omega arith)
@@ -37,15 +37,15 @@ added-elsewhere zero (suc i) v (x ∷ t) n = refl
 added-elsewhere (suc k) zero v (x ∷ t) n = refl
 added-elsewhere (suc k) (suc i) v (x ∷ t) n = added-elsewhere k i v t (λ e. n (ap suc e))
 
-pub zero-sum : (y : Element) → y ≡ sum (element 0) y
+pub zero-sum : (y : Element) → y ≡ elementSum (element 0) y
 zero-sum y = sym (gf128Laws .is-ring .add-zero y) ∙ gf128Laws .is-ring .add-comm y (element 0)
 
 added : (k i : ℕ) (v : Element) (t : List Element) → i < length t
-    → getD (addAt gf128 k v t) i (element 0) ≡ sum (cond (eqb k i) v (element 0)) (getD t i (element 0))
+    → getD (addAt gf128 k v t) i (element 0) ≡ elementSum (cond (eqb k i) v (element 0)) (getD t i (element 0))
 added k i v t h = go (eqb k i) refl
   where
-    go : (p : Bool) → eqb k i ≡ p → getD (addAt gf128 k v t) i (element 0) ≡ sum (cond p v (element 0)) (getD t i (element 0))
-    go true e = subst (λ (j : ℕ). getD (addAt gf128 k v t) j (element 0) ≡ sum v (getD t j (element 0))) (eqb-true k i e)
+    go : (p : Bool) → eqb k i ≡ p → getD (addAt gf128 k v t) i (element 0) ≡ elementSum (cond p v (element 0)) (getD t i (element 0))
+    go true e = subst (λ (j : ℕ). getD (addAt gf128 k v t) j (element 0) ≡ elementSum v (getD t j (element 0))) (eqb-true k i e)
         (added-here k v t (omega (arith, eqb-true k i e)))
     go false e = added-elsewhere k i v t (eqb-false k i e) ∙ zero-sum (getD t i (element 0))
 
@@ -59,16 +59,16 @@ pub apply-at : (n : ℕ) (es : List Entry) (z : List ℕ) (i : ℕ) → i < n
 unfolding rowTotal sumOver share
 apply-at n [] z i h = getD-replicate n i (element 0) (element 0) h
 apply-at n (e ∷ es) z i h =
-    added (e .row) i (product (element (e .value)) (getD (els z) (e .col) (element 0))) (apply gf128 n (map entryE es) (els z)) small
-    ∙ ap₂ sum (sym (element-cond (eqb (e .row) i) (e .value ⊗ getD z (e .col) 0)
+    added (e .row) i (elementProduct (element (e .value)) (getD (els z) (e .col) (element 0))) (apply gf128 n (map entryE es) (els z)) small
+    ∙ ap₂ elementSum (sym (element-cond (eqb (e .row) i) (e .value ⊗ getD z (e .col) 0)
     ∙ ap (λ (v : Element). cond (eqb (e .row) i) v (element 0)) value)) (apply-at n es z i h)
     ∙ sym (element-⊕ (cond (eqb (e .row) i) (e .value ⊗ getD z (e .col) 0) 0) (rowTotal (share z) es i))
   where
     small : i < length (apply gf128 n (map entryE es) (els z))
     small = rw (length-apply gf128 gf128Laws n (map entryE es) (els z)) h
 
-    value : element (e .value ⊗ getD z (e .col) 0) ≡ product (element (e .value)) (getD (els z) (e .col) (element 0))
-    value = element-⊗ (e .value) (getD z (e .col) 0) ∙ ap (product (element (e .value))) (sym (els-at z (e .col)))
+    value : element (e .value ⊗ getD z (e .col) 0) ≡ elementProduct (element (e .value)) (getD (els z) (e .col) (element 0))
+    value = element-⊗ (e .value) (getD z (e .col) 0) ∙ ap (elementProduct (element (e .value))) (sym (els-at z (e .col)))
 
 pub times-at : (n : ℕ) (m : Matrix) (z : List ℕ) (i : ℕ) → i < n
     → getD (apply gf128 n (entriesE m) (els z)) i (element 0) ≡ element (timesAt m z i)
@@ -79,7 +79,7 @@ times-at n m z i h = apply-at n (m .entries) z i h
 pub columns-swapped : (n : ℕ) (es : List Entry) (e : List Element)
     → columns gf128 n (map entryE es) e ≡ apply gf128 n (map entryE (map swapped es)) e
 columns-swapped n [] e = refl
-columns-swapped n (x ∷ es) e = ap (addAt gf128 (x .col) (product (element (x .value)) (getD e (x .row) (element 0))))
+columns-swapped n (x ∷ es) e = ap (addAt gf128 (x .col) (elementProduct (element (x .value)) (getD e (x .row) (element 0))))
     (columns-swapped n es e)
 
 -- entry y of the table of the matrix at the row point p, of n columns

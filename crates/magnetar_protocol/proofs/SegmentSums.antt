@@ -15,7 +15,7 @@ use Rattle.magnetar_matrix.specs.Batch.{Relation}
 use Rattle.magnetar_layout.specs.Layout.{offsets, offset, localVars, suffix}
 use Rattle.magnetar_theory.specs.EqTable.{eqTable as eqTableE}
 use Rattle.magnetar_theory.specs.Run.{segSum}
-use Rattle.magnetar_theory.specs.Gf128.{Element, element, sum, product, gf128}
+use Rattle.magnetar_theory.specs.Gf128.{Element, element, elementSum, elementProduct, gf128}
 use Rattle.magnetar_theory.proofs.Gf128.{element-⊕, element-⊗}
 use Rattle.magnetar_round.proofs.OuterRun.{element-eqTable}
 use Rattle.magnetar_protocol.specs.Theory.{els, logHalf, segmentsE}
@@ -66,7 +66,7 @@ module _ (r : Relation) (D : Draws) (R : SizedRelation r) (C : Cut r D) where
   sum-from i (v ∷ vs) h =
       ap₂ (λ (os ns : List ℕ). segSum gf128 (segmentsE os ns) (els (lowPoint r D)) (element v ∷ els vs))
       (drop-cons (offsets (r .lengths)) i 0 (many (omega arith))) (drop-cons (r .lengths) i 0 (omega arith))
-      ∙ ap₂ sum (ap (λ (e : Element). product e (element v)) (first i (omega arith)) ∙ sym (element-⊗ _ v))
+      ∙ ap₂ elementSum (ap (λ (e : Element). elementProduct e (element v)) (first i (omega arith)) ∙ sym (element-⊗ _ v))
       (sum-from (suc i) vs (omega arith))
       ∙ sym (element-⊕ _ (segmentSum (r .lengths) (lowPoint r D) (suc i) vs))
     where

@@ -19,13 +19,13 @@ pub data Event : Type 0 where
   draw : List ℕ → Event
 
 -- the decimal digits of a number below 10^k, in ASCII
-unfoldable pub digits : ℕ → ℕ → List ℕ
-digits zero n = []
-digits (suc k) n = cond (ltb n 10) ((48 + n) ∷ []) (digits k (n / 10) ++ ((48 + n % 10) ∷ []))
+unfoldable pub decimal : ℕ → ℕ → List ℕ
+decimal zero n = []
+decimal (suc k) n = cond (ltb n 10) ((48 + n) ∷ []) (decimal k (n / 10) ++ ((48 + n % 10) ∷ []))
 
 -- a label with a number behind it
 unfoldable pub numbered : String → ℕ → List ℕ
-numbered label i = ascii label ++ digits 20 i
+numbered label i = ascii label ++ decimal 20 i
 
 -- n rounds from round i on: each absorbs its message of so many elements, the first message being at `first`, and draws its
 -- challenge, both under its label

@@ -12,7 +12,7 @@ use Rattle.magnetar_field.proofs.Xor.{⊕-lt}
 use Rattle.magnetar_theory.specs.Field.{eval as evalE}
 use Rattle.magnetar_theory.specs.SumCheck.{total as totalE, checkSum as checkSumE}
 use Rattle.magnetar_theory.specs.Cells.{lineAt}
-use Rattle.magnetar_theory.specs.Gf128.{element, sum, product, gf128}
+use Rattle.magnetar_theory.specs.Gf128.{element, elementSum, elementProduct, gf128}
 use Rattle.magnetar_theory.proofs.Gf128.{element-⊕, element-⊗}
 use Rattle.magnetar_round.specs.Sum.{total}
 use Rattle.magnetar_round.specs.Round.{checkSum}
@@ -20,7 +20,7 @@ use Rattle.magnetar_round.specs.Round.{checkSum}
 pub element-total : (m : List ℕ) → element (total m) ≡ totalE gf128 (map element m)
 unfolding total
 element-total [] = refl
-element-total (c ∷ m) = element-⊕ c (total m) ∙ ap (sum (element c)) (element-total m)
+element-total (c ∷ m) = element-⊕ c (total m) ∙ ap (elementSum (element c)) (element-total m)
 
 pub element-checkSum : (m : List ℕ) → element (checkSum m) ≡ checkSumE gf128 (map element m)
 unfolding checkSum total
@@ -31,12 +31,12 @@ pub element-eval : (m : List ℕ) (r : ℕ) → element (eval m r) ≡ evalE gf1
 unfolding eval
 element-eval [] r = refl
 element-eval (c ∷ m) r =
-    element-⊕ c (r ⊗ eval m r) ∙ ap (sum (element c)) (element-⊗ r (eval m r) ∙ ap (product (element r)) (element-eval m r))
+    element-⊕ c (r ⊗ eval m r) ∙ ap (elementSum (element c)) (element-⊗ r (eval m r) ∙ ap (elementProduct (element r)) (element-eval m r))
 
 -- the line through two entries
 pub element-line : (r a b : ℕ) → element (line r a b) ≡ lineAt gf128 (element r) (element a) (element b)
 unfolding line
-element-line r a b = element-⊕ a (r ⊗ (a ⊕ b)) ∙ ap (sum (element a)) (element-⊗ r (a ⊕ b) ∙ ap (product (element r)) (element-⊕ a b))
+element-line r a b = element-⊕ a (r ⊗ (a ⊕ b)) ∙ ap (elementSum (element a)) (element-⊗ r (a ⊕ b) ∙ ap (elementProduct (element r)) (element-⊕ a b))
 
 pub total-lt : (m : List ℕ) → AllBelow (2 ^ 128) m → total m < 2 ^ 128
 unfolding total

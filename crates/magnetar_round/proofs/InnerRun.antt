@@ -17,7 +17,7 @@ use Rattle.magnetar_theory.specs.SumCheck.{addLists, honest}
 use Rattle.magnetar_theory.specs.Table.{tableRounds, pairs, polyAll, mixAll}
 use Rattle.magnetar_theory.specs.Cells.{lineAt, InnerCell, innerCells}
 use Rattle.magnetar_theory.specs.Inner.{zipInner}
-use Rattle.magnetar_theory.specs.Gf128.{Element, element, sum, product, gf128}
+use Rattle.magnetar_theory.specs.Gf128.{Element, element, elementSum, elementProduct, gf128}
 use Rattle.magnetar_theory.proofs.Ring.{ring}
 use Rattle.magnetar_theory.proofs.Gf128.{element-⊕, element-⊗, gf128Laws}
 use Rattle.magnetar_round.specs.Sum.{sumTo}
@@ -84,7 +84,7 @@ lo t i = element (at₀ 0 t i)
 hi : List ℕ → ℕ → Element
 hi t i = element (at₁ 0 t i)
 
-element-slope : (t : List ℕ) (i : ℕ) → element (slope 0 t i) ≡ sum (lo t i) (hi t i)
+element-slope : (t : List ℕ) (i : ℕ) → element (slope 0 t i) ≡ elementSum (lo t i) (hi t i)
 unfolding slope lo hi
 element-slope t i = element-⊕ (at₀ 0 t i) (at₁ 0 t i)
 
@@ -128,27 +128,27 @@ module _ (b n : ℕ) (t z : List ℕ) (lt : length t ≡ 2 ^ suc n) (lz : length
   next-is = ap (λ (m : ℕ). els (innerSums 0 t z m)) (half n t lt) ∙ (λ i. c₀ i ∷ c₁ i ∷ c₂ i ∷ [])
       ∙ sym (ap (polyAll gf128 (innerCells gf128)) pairs-of ∙ poly (2 ^ n - 1) (2 ^ n) (omega (arith, pow-pos n)))
     where
-      c₀ : element (sumTo (λ i. at₀ 0 t i ⊗ at₀ 0 z i) (2 ^ n)) ≡ sumF gf128 (λ i. product (lo t i) (lo z i)) (2 ^ n)
-      c₀ = unfold lo in element-sum (λ i. at₀ 0 t i ⊗ at₀ 0 z i) (λ i. product (lo t i) (lo z i)) (2 ^ n)
+      c₀ : element (sumTo (λ i. at₀ 0 t i ⊗ at₀ 0 z i) (2 ^ n)) ≡ sumF gf128 (λ i. elementProduct (lo t i) (lo z i)) (2 ^ n)
+      c₀ = unfold lo in element-sum (λ i. at₀ 0 t i ⊗ at₀ 0 z i) (λ i. elementProduct (lo t i) (lo z i)) (2 ^ n)
           (λ i h. element-⊗ (at₀ 0 t i) (at₀ 0 z i))
 
       c₁ : element (sumTo (λ i. at₀ 0 t i ⊗ slope 0 z i ⊕ slope 0 t i ⊗ at₀ 0 z i) (2 ^ n))
-          ≡ sumF gf128 (λ i. sum (product (lo t i) (sum (lo z i) (hi z i))) (product (sum (lo t i) (hi t i)) (lo z i))) (2 ^ n)
+          ≡ sumF gf128 (λ i. elementSum (elementProduct (lo t i) (elementSum (lo z i) (hi z i))) (elementProduct (elementSum (lo t i) (hi t i)) (lo z i))) (2 ^ n)
       c₁ = unfold lo in element-sum (λ i. at₀ 0 t i ⊗ slope 0 z i ⊕ slope 0 t i ⊗ at₀ 0 z i)
-          (λ i. sum (product (lo t i) (sum (lo z i) (hi z i))) (product (sum (lo t i) (hi t i)) (lo z i))) (2 ^ n)
+          (λ i. elementSum (elementProduct (lo t i) (elementSum (lo z i) (hi z i))) (elementProduct (elementSum (lo t i) (hi t i)) (lo z i))) (2 ^ n)
           (λ i h. element-⊕ (at₀ 0 t i ⊗ slope 0 z i) (slope 0 t i ⊗ at₀ 0 z i)
-          ∙ ap₂ sum (element-⊗ (at₀ 0 t i) (slope 0 z i) ∙ ap (product (lo t i)) (element-slope z i))
-          (element-⊗ (slope 0 t i) (at₀ 0 z i) ∙ ap (λ (w : Element). product w (lo z i)) (element-slope t i)))
+          ∙ ap₂ elementSum (element-⊗ (at₀ 0 t i) (slope 0 z i) ∙ ap (elementProduct (lo t i)) (element-slope z i))
+          (element-⊗ (slope 0 t i) (at₀ 0 z i) ∙ ap (λ (w : Element). elementProduct w (lo z i)) (element-slope t i)))
 
       c₂ : element (sumTo (λ i. slope 0 t i ⊗ slope 0 z i) (2 ^ n))
-          ≡ sumF gf128 (λ i. product (sum (lo t i) (hi t i)) (sum (lo z i) (hi z i))) (2 ^ n)
-      c₂ = element-sum (λ i. slope 0 t i ⊗ slope 0 z i) (λ i. product (sum (lo t i) (hi t i)) (sum (lo z i) (hi z i))) (2 ^ n)
-          (λ i h. element-⊗ (slope 0 t i) (slope 0 z i) ∙ ap₂ product (element-slope t i) (element-slope z i))
+          ≡ sumF gf128 (λ i. elementProduct (elementSum (lo t i) (hi t i)) (elementSum (lo z i) (hi z i))) (2 ^ n)
+      c₂ = element-sum (λ i. slope 0 t i ⊗ slope 0 z i) (λ i. elementProduct (elementSum (lo t i) (hi t i)) (elementSum (lo z i) (hi z i))) (2 ^ n)
+          (λ i h. element-⊗ (slope 0 t i) (slope 0 z i) ∙ ap₂ elementProduct (element-slope t i) (element-slope z i))
 
       poly : (m k : ℕ) → k ≡ suc m → polyAll gf128 (innerCells gf128) (tabulate pairOf k)
-          ≡ sumF gf128 (λ i. product (lo t i) (lo z i)) k ∷ sumF gf128
-          (λ i. sum (product (lo t i) (sum (lo z i) (hi z i))) (product (sum (lo t i) (hi t i)) (lo z i))) k ∷ sumF gf128
-          (λ i. product (sum (lo t i) (hi t i)) (sum (lo z i) (hi z i))) k ∷ []
+          ≡ sumF gf128 (λ i. elementProduct (lo t i) (lo z i)) k ∷ sumF gf128
+          (λ i. elementSum (elementProduct (lo t i) (elementSum (lo z i) (hi z i))) (elementProduct (elementSum (lo t i) (hi t i)) (lo z i))) k ∷ sumF gf128
+          (λ i. elementProduct (elementSum (lo t i) (hi t i)) (elementSum (lo z i) (hi z i))) k ∷ []
       poly m k e = rw e (inner-poly gf128 gf128Laws m (lo t) (hi t) (lo z) (hi z))
 
   -- the fold binds the state's lowest variable

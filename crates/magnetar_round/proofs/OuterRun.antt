@@ -20,7 +20,7 @@ use Rattle.magnetar_theory.specs.Table.{State, tableRounds, less, pairs, polyAl
 use Rattle.magnetar_theory.specs.Cells.{lineAt, OuterCell, outerCells}
 use Rattle.magnetar_theory.specs.EqTable.{scale, eqTable as eqTableE}
 use Rattle.magnetar_theory.specs.Outer.{zipOuter, start}
-use Rattle.magnetar_theory.specs.Gf128.{Element, element, sum, product, gf128}
+use Rattle.magnetar_theory.specs.Gf128.{Element, element, elementSum, elementProduct, gf128}
 use Rattle.magnetar_theory.proofs.Ring.{ring, one-mul}
 use Rattle.magnetar_theory.proofs.EqTable.{length-eqTable, length-scale}
 use Rattle.magnetar_theory.proofs.EqEntry.{factor, eqAt as eqAtE, eq-index}
@@ -49,7 +49,7 @@ element-eqAt : (p : List ℕ) (i : ℕ) → element (eqAt p i) ≡ eqAtE gf128 (
 unfolding eqAt
 element-eqAt [] i = refl
 element-eqAt (x ∷ p) i = element-⊗ (eqFactor x (odd i)) (eqAt p (i / 2))
-    ∙ ap₂ product (bit-factor x (i % 2) (omega arith)) (element-eqAt p (i / 2))
+    ∙ ap₂ elementProduct (bit-factor x (i % 2) (omega arith)) (element-eqAt p (i / 2))
 
 pub element-eqTable : (p : List ℕ) → els (eqTable p) ≡ eqTableE gf128 (els p)
 unfolding eqTable
@@ -67,17 +67,17 @@ element-eqTable p = ext-getD (element 0) (els (tabulate (eqAt p) (2 ^ length p))
     small i h = rw count at h
 
 -- ---- sums
-sum-front : (f : ℕ → ℕ) (n : ℕ) → element (sumTo f (suc n)) ≡ sum (element (f 0)) (element (sumTo (λ i. f (suc i)) n))
+sum-front : (f : ℕ → ℕ) (n : ℕ) → element (sumTo f (suc n)) ≡ elementSum (element (f 0)) (element (sumTo (λ i. f (suc i)) n))
 unfolding sumTo
 sum-front f zero = element-⊕ 0 (f 0) ∙ gf128Laws .is-ring .add-comm (element 0) (element (f 0))
-sum-front f (suc n) = element-⊕ (sumTo f (suc n)) (f (suc n)) ∙ ap (λ (x : Element). sum x (element (f (suc n)))) (sum-front f n)
+sum-front f (suc n) = element-⊕ (sumTo f (suc n)) (f (suc n)) ∙ ap (λ (x : Element). elementSum x (element (f (suc n)))) (sum-front f n)
     ∙ gf128Laws .is-ring .add-assoc (element (f 0)) (element (sumTo (λ i. f (suc i)) n)) (element (f (suc n)))
-    ∙ ap (sum (element (f 0))) (sym (element-⊕ (sumTo (λ i. f (suc i)) n) (f (suc n))))
+    ∙ ap (elementSum (element (f 0))) (sym (element-⊕ (sumTo (λ i. f (suc i)) n) (f (suc n))))
 
 pub element-sum : (f : ℕ → ℕ) (g : ℕ → Element) (n : ℕ) → ((i : ℕ) → i < n → element (f i) ≡ g i) → element (sumTo f n) ≡ sumF gf128 g n
 unfolding sumTo
 element-sum f g zero h = refl
-element-sum f g (suc n) h = sum-front f n ∙ ap₂ sum (h 0 (omega arith)) (element-sum (λ i. f (suc i)) (λ i. g (suc i)) n
+element-sum f g (suc n) h = sum-front f n ∙ ap₂ elementSum (h 0 (omega arith)) (element-sum (λ i. f (suc i)) (λ i. g (suc i)) n
     (λ i k. h (suc i) (omega arith)))
 
 -- ---- the state that a prover's tables stand for
@@ -184,17 +184,17 @@ module _ (S : Outer) (T : State gf128 (outerCells gf128)) (C : Stands S T) (n : 
       (size (S .c) (C .size-c) ∙ sym (size (S .a) (C .size-a))) (length-weights ∙ sym (size (S .a) (C .size-a)))
 
   weight₀ : (i : ℕ) → i < 2 ^ n → getD weights (insertZero (nextVar (S .high) (suc n)) i) (element 0)
-      ≡ product (element (S .k)) (product (sum (element 1) tau) (rest i))
+      ≡ elementProduct (element (S .k)) (elementProduct (elementSum (element 1) tau) (rest i))
   unfolding weights rest tau v
   weight₀ i h = getD-scale gf128 gf128Laws (element (S .k)) (eqTableE gf128 (els (S .tau))) (insertZero (nextVar (S .high) (suc n)) i)
-      ∙ ap (product (element (S .k))) (eq-pair₀ gf128 gf128Laws (S .high) n (els (S .tau)) i (length-map (S .tau) element ∙ left) h)
+      ∙ ap (elementProduct (element (S .k))) (eq-pair₀ gf128 gf128Laws (S .high) n (els (S .tau)) i (length-map (S .tau) element ∙ left) h)
 
   weight₁ : (i : ℕ) → i < 2 ^ n → getD weights (insertZero (nextVar (S .high) (suc n)) i + 2 ^ nextVar (S .high) (suc n)) (element 0)
-      ≡ product (element (S .k)) (product tau (rest i))
+      ≡ elementProduct (element (S .k)) (elementProduct tau (rest i))
   unfolding weights rest tau v
   weight₁ i h = getD-scale gf128 gf128Laws (element (S .k)) (eqTableE gf128 (els (S .tau)))
       (insertZero (nextVar (S .high) (suc n)) i + 2 ^ nextVar (S .high) (suc n))
-      ∙ ap (product (element (S .k))) (eq-pair₁ gf128 gf128Laws (S .high) n (els (S .tau)) i (length-map (S .tau) element ∙ left) h)
+      ∙ ap (elementProduct (element (S .k))) (eq-pair₁ gf128 gf128Laws (S .high) n (els (S .tau)) i (length-map (S .tau) element ∙ left) h)
 
   length-cells : length (T .cells) ≡ 2 ^ suc n
   unfolding weights
@@ -235,22 +235,22 @@ module _ (S : Outer) (T : State gf128 (outerCells gf128)) (C : Stands S T) (n : 
   element-at₁ t i = ap (λ (w : ℕ). element (getD t (insertZero w i + 2 ^ w) 0)) var-is
       ∙ sym (getD-map element t (insertZero (nextVar (S .high) (suc n)) i + 2 ^ nextVar (S .high) (suc n)) 0)
 
-  element-slope : (t : List ℕ) (i : ℕ) → element (slope (outerVar S) t i) ≡ sum (lo t i) (hi t i)
+  element-slope : (t : List ℕ) (i : ℕ) → element (slope (outerVar S) t i) ≡ elementSum (lo t i) (hi t i)
   unfolding slope
-  element-slope t i = element-⊕ (at₀ (outerVar S) t i) (at₁ (outerVar S) t i) ∙ ap₂ sum (element-at₀ t i) (element-at₁ t i)
+  element-slope t i = element-⊕ (at₀ (outerVar S) t i) (at₁ (outerVar S) t i) ∙ ap₂ elementSum (element-at₀ t i) (element-at₁ t i)
 
   element-tau : element (outerTau S) ≡ tau
   unfolding tau v
   element-tau = ap (λ (w : ℕ). element (getD (S .tau) w 0)) var-is ∙ sym (getD-map element (S .tau) (nextVar (S .high) (suc n)) 0)
 
-  both-halves : (t e : Element) → sum (product (sum (element 1) t) e) (product t e) ≡ e
+  both-halves : (t e : Element) → elementSum (elementProduct (elementSum (element 1) t) e) (elementProduct t e) ≡ e
   both-halves t e = simp (ring, gf128Laws .is-ring)
 
   dropped : (i : ℕ) → i < 2 ^ n → element (getD (dropVar (outerVar S) (S .e)) i 0) ≡ rest i
   unfolding dropVar rest lo hi tau v
   dropped i h = ap element (tabulate-get (slope (outerVar S) (S .e)) (length (S .e) / 2) i 0 (rw (half (S .e) size-e) h))
       ∙ element-slope (S .e) i
-      ∙ ap₂ sum (ap (λ (t : List Element). getD t (insertZero (nextVar (S .high) (suc n)) i) (element 0)) (C .eq)
+      ∙ ap₂ elementSum (ap (λ (t : List Element). getD t (insertZero (nextVar (S .high) (suc n)) i) (element 0)) (C .eq)
       ∙ eq-pair₀ gf128 gf128Laws (S .high) n (els (S .tau)) i (length-map (S .tau) element ∙ left) h)
       (ap (λ (t : List Element). getD t (insertZero (nextVar (S .high) (suc n)) i + 2 ^ nextVar (S .high) (suc n)) (element 0)) (C .eq)
       ∙ eq-pair₁ gf128 gf128Laws (S .high) n (els (S .tau)) i (length-map (S .tau) element ∙ left) h)
@@ -262,56 +262,56 @@ module _ (S : Outer) (T : State gf128 (outerCells gf128)) (C : Stands S T) (n : 
 
   -- ---- the message
   element-first : (i : ℕ) → element (coefficient₀ (outerVar S) (S .a) (S .b) (S .c) i)
-      ≡ sum (product (lo (S .a) i) (lo (S .b) i)) (lo (S .c) i)
+      ≡ elementSum (elementProduct (lo (S .a) i) (lo (S .b) i)) (lo (S .c) i)
   unfolding coefficient₀
   element-first i = element-⊕ (at₀ (outerVar S) (S .a) i ⊗ at₀ (outerVar S) (S .b) i) (at₀ (outerVar S) (S .c) i)
-      ∙ ap₂ sum (element-⊗ (at₀ (outerVar S) (S .a) i) (at₀ (outerVar S) (S .b) i)
-      ∙ ap₂ product (element-at₀ (S .a) i) (element-at₀ (S .b) i)) (element-at₀ (S .c) i)
+      ∙ ap₂ elementSum (element-⊗ (at₀ (outerVar S) (S .a) i) (at₀ (outerVar S) (S .b) i)
+      ∙ ap₂ elementProduct (element-at₀ (S .a) i) (element-at₀ (S .b) i)) (element-at₀ (S .c) i)
 
   element-second : (i : ℕ) → element (coefficient₁ (outerVar S) (S .a) (S .b) (S .c) i)
-      ≡ sum (sum (product (lo (S .a) i) (sum (lo (S .b) i) (hi (S .b) i))) (product (sum (lo (S .a) i) (hi (S .a) i)) (lo (S .b) i)))
-      (sum (lo (S .c) i) (hi (S .c) i))
+      ≡ elementSum (elementSum (elementProduct (lo (S .a) i) (elementSum (lo (S .b) i) (hi (S .b) i))) (elementProduct (elementSum (lo (S .a) i) (hi (S .a) i)) (lo (S .b) i)))
+      (elementSum (lo (S .c) i) (hi (S .c) i))
   unfolding coefficient₁
   element-second i = element-⊕ (at₀ (outerVar S) (S .a) i ⊗ slope (outerVar S) (S .b) i ⊕ slope (outerVar S) (S .a) i ⊗ at₀ (outerVar S)
       (S .b) i) (slope (outerVar S) (S .c) i)
-      ∙ ap₂ sum (element-⊕ (at₀ (outerVar S) (S .a) i ⊗ slope (outerVar S) (S .b) i)
+      ∙ ap₂ elementSum (element-⊕ (at₀ (outerVar S) (S .a) i ⊗ slope (outerVar S) (S .b) i)
       (slope (outerVar S) (S .a) i ⊗ at₀ (outerVar S) (S .b) i)
-      ∙ ap₂ sum (element-⊗ (at₀ (outerVar S) (S .a) i) (slope (outerVar S) (S .b) i)
-      ∙ ap₂ product (element-at₀ (S .a) i) (element-slope (S .b) i))
-      (element-⊗ (slope (outerVar S) (S .a) i) (at₀ (outerVar S) (S .b) i) ∙ ap₂ product (element-slope (S .a) i) (element-at₀ (S .b) i)))
+      ∙ ap₂ elementSum (element-⊗ (at₀ (outerVar S) (S .a) i) (slope (outerVar S) (S .b) i)
+      ∙ ap₂ elementProduct (element-at₀ (S .a) i) (element-slope (S .b) i))
+      (element-⊗ (slope (outerVar S) (S .a) i) (at₀ (outerVar S) (S .b) i) ∙ ap₂ elementProduct (element-slope (S .a) i) (element-at₀ (S .b) i)))
       (element-slope (S .c) i)
 
   element-third : (i : ℕ) → element (coefficient₂ (outerVar S) (S .a) (S .b) i)
-      ≡ product (sum (lo (S .a) i) (hi (S .a) i)) (sum (lo (S .b) i) (hi (S .b) i))
+      ≡ elementProduct (elementSum (lo (S .a) i) (hi (S .a) i)) (elementSum (lo (S .b) i) (hi (S .b) i))
   unfolding coefficient₂
   element-third i = element-⊗ (slope (outerVar S) (S .a) i) (slope (outerVar S) (S .b) i)
-      ∙ ap₂ product (element-slope (S .a) i) (element-slope (S .b) i)
+      ∙ ap₂ elementProduct (element-slope (S .a) i) (element-slope (S .b) i)
 
   element-weighted : (f : ℕ → ℕ) (g : ℕ → Element) → ((i : ℕ) → element (f i) ≡ g i)
       → element (weighted (dropVar (outerVar S) (S .e)) f (length (dropVar (outerVar S) (S .e))))
-      ≡ sumF gf128 (λ i. product (rest i) (g i)) (2 ^ n)
+      ≡ sumF gf128 (λ i. elementProduct (rest i) (g i)) (2 ^ n)
   unfolding weighted
   element-weighted f g h = ap (λ (m : ℕ). element (sumTo (λ i. getD (dropVar (outerVar S) (S .e)) i 0 ⊗ f i) m)) length-dropped
-      ∙ element-sum (λ i. getD (dropVar (outerVar S) (S .e)) i 0 ⊗ f i) (λ i. product (rest i) (g i)) (2 ^ n)
-      (λ i k. element-⊗ (getD (dropVar (outerVar S) (S .e)) i 0) (f i) ∙ ap₂ product (dropped i k) (h i))
+      ∙ element-sum (λ i. getD (dropVar (outerVar S) (S .e)) i 0 ⊗ f i) (λ i. elementProduct (rest i) (g i)) (2 ^ n)
+      (λ i k. element-⊗ (getD (dropVar (outerVar S) (S .e)) i 0) (f i) ∙ ap₂ elementProduct (dropped i k) (h i))
 
   element-timesEq : (k t x y z : ℕ) → els (timesEq k t x y z) ≡ timesEqF gf128 (element k) (element t) (element x) (element y) (element z)
   unfolding timesEq
   element-timesEq k t x y z = λ i. p₀ i ∷ p₁ i ∷ p₂ i ∷ element-⊗ k z i ∷ []
     where
-      line₁ : (x y : ℕ) → element ((1 ⊕ t) ⊗ x ⊕ y) ≡ sum (product (sum (element 1) (element t)) (element x)) (element y)
-      line₁ x y = element-⊕ ((1 ⊕ t) ⊗ x) y ∙ ap (λ (w : Element). sum w (element y)) (element-⊗ (1 ⊕ t) x
-          ∙ ap (λ (w : Element). product w (element x)) (element-⊕ 1 t))
+      line₁ : (x y : ℕ) → element ((1 ⊕ t) ⊗ x ⊕ y) ≡ elementSum (elementProduct (elementSum (element 1) (element t)) (element x)) (element y)
+      line₁ x y = element-⊕ ((1 ⊕ t) ⊗ x) y ∙ ap (λ (w : Element). elementSum w (element y)) (element-⊗ (1 ⊕ t) x
+          ∙ ap (λ (w : Element). elementProduct w (element x)) (element-⊕ 1 t))
 
-      p₀ : element (k ⊗ ((1 ⊕ t) ⊗ x)) ≡ product (element k) (product (sum (element 1) (element t)) (element x))
-      p₀ = element-⊗ k ((1 ⊕ t) ⊗ x) ∙ ap (product (element k)) (element-⊗ (1 ⊕ t) x
-          ∙ ap (λ (w : Element). product w (element x)) (element-⊕ 1 t))
+      p₀ : element (k ⊗ ((1 ⊕ t) ⊗ x)) ≡ elementProduct (element k) (elementProduct (elementSum (element 1) (element t)) (element x))
+      p₀ = element-⊗ k ((1 ⊕ t) ⊗ x) ∙ ap (elementProduct (element k)) (element-⊗ (1 ⊕ t) x
+          ∙ ap (λ (w : Element). elementProduct w (element x)) (element-⊕ 1 t))
 
-      p₁ : element (k ⊗ ((1 ⊕ t) ⊗ y ⊕ x)) ≡ product (element k) (sum (product (sum (element 1) (element t)) (element y)) (element x))
-      p₁ = element-⊗ k ((1 ⊕ t) ⊗ y ⊕ x) ∙ ap (product (element k)) (line₁ y x)
+      p₁ : element (k ⊗ ((1 ⊕ t) ⊗ y ⊕ x)) ≡ elementProduct (element k) (elementSum (elementProduct (elementSum (element 1) (element t)) (element y)) (element x))
+      p₁ = element-⊗ k ((1 ⊕ t) ⊗ y ⊕ x) ∙ ap (elementProduct (element k)) (line₁ y x)
 
-      p₂ : element (k ⊗ ((1 ⊕ t) ⊗ z ⊕ y)) ≡ product (element k) (sum (product (sum (element 1) (element t)) (element z)) (element y))
-      p₂ = element-⊗ k ((1 ⊕ t) ⊗ z ⊕ y) ∙ ap (product (element k)) (line₁ z y)
+      p₂ : element (k ⊗ ((1 ⊕ t) ⊗ z ⊕ y)) ≡ elementProduct (element k) (elementSum (elementProduct (elementSum (element 1) (element t)) (element z)) (element y))
+      p₂ = element-⊗ k ((1 ⊕ t) ⊗ z ⊕ y) ∙ ap (elementProduct (element k)) (line₁ z y)
 
   positive : (m : ℕ) × (2 ^ n ≡ suc m)
   positive = (2 ^ n - 1, omega (arith, pow-pos n))
@@ -359,10 +359,10 @@ module _ (S : Outer) (T : State gf128 (outerCells gf128)) (C : Stands S T) (n : 
   mixed r g zero = refl
   mixed r g (suc m) = ap (λ (t : List (OuterCell gf128)). outerCells gf128 .mix r (g 0 .0) (g 0 .1) ∷ t) (mixed r (λ i. g (suc i)) m)
 
-  element-k : (r : ℕ) → element (S .k ⊗ (1 ⊕ outerTau S ⊕ r)) ≡ product (element (S .k)) (sum (sum (element 1) tau) (element r))
+  element-k : (r : ℕ) → element (S .k ⊗ (1 ⊕ outerTau S ⊕ r)) ≡ elementProduct (element (S .k)) (elementSum (elementSum (element 1) tau) (element r))
   element-k r = element-⊗ (S .k) (1 ⊕ outerTau S ⊕ r)
-      ∙ ap (product (element (S .k))) (element-⊕ (1 ⊕ outerTau S) r
-      ∙ ap (λ (w : Element). sum w (element r)) (element-⊕ 1 (outerTau S) ∙ ap (sum (element 1)) element-tau))
+      ∙ ap (elementProduct (element (S .k))) (element-⊕ (1 ⊕ outerTau S) r
+      ∙ ap (λ (w : Element). elementSum w (element r)) (element-⊕ 1 (outerTau S) ∙ ap (elementSum (element 1)) element-tau))
 
   tau-rest : els (without (outerVar S) (S .tau)) ≡ without (nextVar (S .high) (suc n)) (els (S .tau))
   unfolding v
@@ -401,11 +401,11 @@ module _ (S : Outer) (T : State gf128 (outerCells gf128)) (C : Stands S T) (n : 
       (eqTableE gf128 (without (nextVar (S .high) (suc n)) (els (S .tau)))) ∙ count-rest
 
   weight-after : (r i : ℕ) → getD (weights-after r) i (element 0)
-      ≡ product (product (element (S .k)) (sum (sum (element 1) tau) (element r))) (rest i)
+      ≡ elementProduct (elementProduct (element (S .k)) (elementSum (elementSum (element 1) tau) (element r))) (rest i)
   unfolding weights-after rest v
   weight-after r i = getD-scale gf128 gf128Laws (element (S .k ⊗ (1 ⊕ outerTau S ⊕ r)))
       (eqTableE gf128 (without (nextVar (S .high) (suc n)) (els (S .tau)))) i
-      ∙ ap (λ (w : Element). product w (getD (eqTableE gf128 (without (nextVar (S .high) (suc n)) (els (S .tau)))) i (element 0)))
+      ∙ ap (λ (w : Element). elementProduct w (getD (eqTableE gf128 (without (nextVar (S .high) (suc n)) (els (S .tau)))) i (element 0)))
       (element-k r)
 
   zip-after : ℕ → List (OuterCell gf128)

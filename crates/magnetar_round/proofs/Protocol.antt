@@ -24,7 +24,7 @@ use Rattle.magnetar_theory.specs.EqTable.{eqTable as eqTableE, dot as dotE, eqP
 use Rattle.magnetar_theory.specs.Outer.{rowValues, start}
 use Rattle.magnetar_theory.specs.Inner.{zipInner}
 use Rattle.magnetar_theory.specs.Tau.{Zeros, BadTau}
-use Rattle.magnetar_theory.specs.Gf128.{Element, element, sum, product, gf128}
+use Rattle.magnetar_theory.specs.Gf128.{Element, element, elementSum, elementProduct, gf128}
 use Rattle.magnetar_theory.proofs.Matrix.{dot-comm}
 use Rattle.magnetar_theory.proofs.Outer.{outer-sound, outer-complete}
 use Rattle.magnetar_theory.proofs.Inner.{inner-sound, inner-complete}
@@ -48,7 +48,7 @@ pub element-dot : (s t : List ℕ) → element (dot s t) ≡ dotE gf128 (els s) 
 unfolding dot
 element-dot [] t = refl
 element-dot (x ∷ s) [] = refl
-element-dot (x ∷ s) (y ∷ t) = element-⊕ (x ⊗ y) (dot s t) ∙ ap₂ sum (element-⊗ x y) (element-dot s t)
+element-dot (x ∷ s) (y ∷ t) = element-⊕ (x ⊗ y) (dot s t) ∙ ap₂ elementSum (element-⊗ x y) (element-dot s t)
 
 pub dot-lt : (s t : List ℕ) → dot s t < 2 ^ 128
 unfolding dot
@@ -66,8 +66,8 @@ unfolding eqPoints
 element-eqPoints [] qs = refl
 element-eqPoints (p ∷ ps) [] = refl
 element-eqPoints (p ∷ ps) (q ∷ qs) =
-    element-⊗ (1 ⊕ p ⊕ q) (eqPoints ps qs) ∙ ap₂ product (element-⊕ (1 ⊕ p) q
-    ∙ ap (λ (x : Element). sum x (element q)) (element-⊕ 1 p)) (element-eqPoints ps qs)
+    element-⊗ (1 ⊕ p ⊕ q) (eqPoints ps qs) ∙ ap₂ elementProduct (element-⊕ (1 ⊕ p) q
+    ∙ ap (λ (x : Element). elementSum x (element q)) (element-⊕ 1 p)) (element-eqPoints ps qs)
 
 els-append : (s t : List ℕ) → els (s ++ t) ≡ els s ++ els t
 els-append [] t = refl
@@ -145,8 +145,8 @@ abbrev pub Rows : (a b c : List ℕ) → Type 0
 Rows a b c = Zeros gf128 (rowValues gf128 (els a) (els b) (els c))
 
 -- the rows hold as numbers where they hold as elements
-row-is : (x y z : ℕ) → sum (product (element x) (element y)) (element z) ≡ element (x ⊗ y ⊕ z)
-row-is x y z = sym (element-⊕ (x ⊗ y) z ∙ ap (λ (w : Element). sum w (element z)) (element-⊗ x y))
+row-is : (x y z : ℕ) → elementSum (elementProduct (element x) (element y)) (element z) ≡ element (x ⊗ y ⊕ z)
+row-is x y z = sym (element-⊕ (x ⊗ y) z ∙ ap (λ (w : Element). elementSum w (element z)) (element-⊗ x y))
 
 pub rows-of : (a b c : List ℕ) → length b ≡ length a → length c ≡ length a
     → ((i : ℕ) → i < length a → getD a i 0 ⊗ getD b i 0 ≡ getD c i 0) → Rows a b c
@@ -175,14 +175,14 @@ module _ (tau a b c rs cs : List ℕ) (Z : OuterSizes tau a b c rs cs) where
   tau-length = length-map tau element ∙ Z .size-tau ∙ ap₂ _+_ (sym (length-map rs element)) (sym (length-map cs element))
 
   end-is : element (trueEnd tau a b c rs cs)
-      ≡ product (eqProduct gf128 (els tau) (els cs ++ reverse (els rs)))
-      (sum (product (dotE gf128 (eqTableE gf128 (els cs ++ reverse (els rs))) (els a))
+      ≡ elementProduct (eqProduct gf128 (els tau) (els cs ++ reverse (els rs)))
+      (elementSum (elementProduct (dotE gf128 (eqTableE gf128 (els cs ++ reverse (els rs))) (els a))
       (dotE gf128 (eqTableE gf128 (els cs ++ reverse (els rs))) (els b)))
       (dotE gf128 (eqTableE gf128 (els cs ++ reverse (els rs))) (els c)))
   unfolding outerEnd
   end-is = element-⊗ (eqPoints tau p) (mle a p ⊗ mle b p ⊕ mle c p)
-      ∙ ap₂ product (element-eqPoints tau p ∙ ap (eqProduct gf128 (els tau)) (els-point rs cs))
-      (element-⊕ (mle a p ⊗ mle b p) (mle c p) ∙ ap₂ sum (element-⊗ (mle a p) (mle b p) ∙ ap₂ product (at a) (at b)) (at c))
+      ∙ ap₂ elementProduct (element-eqPoints tau p ∙ ap (eqProduct gf128 (els tau)) (els-point rs cs))
+      (element-⊕ (mle a p ⊗ mle b p) (mle c p) ∙ ap₂ elementSum (element-⊗ (mle a p) (mle b p) ∙ ap₂ elementProduct (at a) (at b)) (at c))
     where
       p : List ℕ
       p = point (length rs) (rs ++ cs)
@@ -239,8 +239,8 @@ module _ (tau a b c rs cs : List ℕ) (Z : OuterSizes tau a b c rs cs) where
     where
       done : Checks gf128 (element 0) (honest gf128 (tableRounds gf128 (outerCells gf128)) begin (els rs ++ els cs)) (els rs ++ els cs)
           × (runningE gf128 (element 0) (honest gf128 (tableRounds gf128 (outerCells gf128)) begin (els rs ++ els cs)) (els rs ++ els cs)
-          ≡ product (eqProduct gf128 (els tau) (els cs ++ reverse (els rs)))
-          (sum (product (dotE gf128 (eqTableE gf128 (els cs ++ reverse (els rs))) (els a))
+          ≡ elementProduct (eqProduct gf128 (els tau) (els cs ++ reverse (els rs)))
+          (elementSum (elementProduct (dotE gf128 (eqTableE gf128 (els cs ++ reverse (els rs))) (els a))
           (dotE gf128 (eqTableE gf128 (els cs ++ reverse (els rs))) (els b)))
           (dotE gf128 (eqTableE gf128 (els cs ++ reverse (els rs))) (els c))))
       done = outer-complete gf128 gf128Laws (els a) (els b) (els c) (els tau) (els rs) (els cs) (els-length a (Z .size-a))
@@ -259,9 +259,9 @@ module _ (t z rs : List ℕ) (lt : length t ≡ 2 ^ length rs) (lz : length z �
   inner-same = length-map z element ∙ lz ∙ sym lt ∙ sym (length-map t element)
 
   inner-end : element (innerEnd (mle t rs) (mle z rs))
-      ≡ product (dotE gf128 (eqTableE gf128 (els rs)) (els t)) (dotE gf128 (eqTableE gf128 (els rs)) (els z))
+      ≡ elementProduct (dotE gf128 (eqTableE gf128 (els rs)) (els t)) (dotE gf128 (eqTableE gf128 (els rs)) (els z))
   unfolding innerEnd
-  inner-end = element-⊗ (mle t rs) (mle z rs) ∙ ap₂ product (element-mle t rs) (element-mle z rs)
+  inner-end = element-⊗ (mle t rs) (mle z rs) ∙ ap₂ elementProduct (element-mle t rs) (element-mle z rs)
 
   abbrev pub innerBegin : State gf128 (innerCells gf128)
   innerBegin = record { tops = 0; lows = length (els rs); cells = zipInner gf128 (els t) (els z) }
@@ -295,5 +295,5 @@ module _ (t z rs : List ℕ) (lt : length t ≡ 2 ^ length rs) (lz : length z �
     where
       done : Checks gf128 (dotE gf128 (els t) (els z)) (honest gf128 (tableRounds gf128 (innerCells gf128)) innerBegin (els rs)) (els rs)
           × (runningE gf128 (dotE gf128 (els t) (els z)) (honest gf128 (tableRounds gf128 (innerCells gf128)) innerBegin (els rs)) (els rs)
-          ≡ product (dotE gf128 (eqTableE gf128 (els rs)) (els t)) (dotE gf128 (eqTableE gf128 (els rs)) (els z)))
+          ≡ elementProduct (dotE gf128 (eqTableE gf128 (els rs)) (els t)) (dotE gf128 (eqTableE gf128 (els rs)) (els z)))
       done = inner-complete gf128 gf128Laws (els t) (els z) (els rs) inner-length inner-same

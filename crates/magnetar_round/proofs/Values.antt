@@ -18,7 +18,7 @@ use Rattle.magnetar_theory.specs.Cells.{outerCells, innerCells}
 use Rattle.magnetar_theory.specs.EqTable.{scale, eqTable as eqTableE, dot as dotE}
 use Rattle.magnetar_theory.specs.Outer.{rowValues}
 use Rattle.magnetar_theory.specs.Inner.{zipInner}
-use Rattle.magnetar_theory.specs.Gf128.{Element, element, sum, product, gf128}
+use Rattle.magnetar_theory.specs.Gf128.{Element, element, elementSum, elementProduct, gf128}
 use Rattle.magnetar_theory.proofs.SumCheck.{checkSum-is}
 use Rattle.magnetar_theory.proofs.Table.{tableLaws}
 use Rattle.magnetar_theory.proofs.Cells.{outerCellLaws, innerCellLaws}
@@ -47,22 +47,22 @@ dot-sum : (e : List ℕ) (rows : List Element) (f : ℕ → ℕ) → length rows
     → ((i : ℕ) → i < length e → element (f i) ≡ getD rows i (element 0))
     → element (weighted e f (length e)) ≡ dotE gf128 (els e) rows
 unfolding weighted
-dot-sum e rows f l h = element-sum (λ i. getD e i 0 ⊗ f i) (λ i. product (element (getD e i 0)) (getD rows i (element 0))) (length e)
-    (λ i k. element-⊗ (getD e i 0) (f i) ∙ ap (product (element (getD e i 0))) (h i k)) ∙ go e rows l
+dot-sum e rows f l h = element-sum (λ i. getD e i 0 ⊗ f i) (λ i. elementProduct (element (getD e i 0)) (getD rows i (element 0))) (length e)
+    (λ i k. element-⊗ (getD e i 0) (f i) ∙ ap (elementProduct (element (getD e i 0))) (h i k)) ∙ go e rows l
   where
     go : (e : List ℕ) (rows : List Element) → length rows ≡ length e
-        → sumF gf128 (λ i. product (element (getD e i 0)) (getD rows i (element 0))) (length e) ≡ dotE gf128 (els e) rows
+        → sumF gf128 (λ i. elementProduct (element (getD e i 0)) (getD rows i (element 0))) (length e) ≡ dotE gf128 (els e) rows
     go [] [] l = refl
     go [] (y ∷ rows) l = absurd (omega arith)
     go (x ∷ e) [] l = absurd (omega arith)
-    go (x ∷ e) (y ∷ rows) l = ap (sum (product (element x) y)) (go e rows (omega arith))
+    go (x ∷ e) (y ∷ rows) l = ap (elementSum (elementProduct (element x) y)) (go e rows (omega arith))
 
 row-at : (a b c : List ℕ) (i : ℕ) → length b ≡ length a → length c ≡ length a → i < length a
     → element (getD a i 0 ⊗ getD b i 0 ⊕ getD c i 0) ≡ getD (rowValues gf128 (els a) (els b) (els c)) i (element 0)
 row-at [] b c i h k l = absurd (omega arith)
 row-at (x ∷ a) [] c i h k l = absurd (omega arith)
 row-at (x ∷ a) (y ∷ b) [] i h k l = absurd (omega arith)
-row-at (x ∷ a) (y ∷ b) (z ∷ c) zero h k l = element-⊕ (x ⊗ y) z ∙ ap (λ (w : Element). sum w (element z)) (element-⊗ x y)
+row-at (x ∷ a) (y ∷ b) (z ∷ c) zero h k l = element-⊕ (x ⊗ y) z ∙ ap (λ (w : Element). elementSum w (element z)) (element-⊗ x y)
 row-at (x ∷ a) (y ∷ b) (z ∷ c) (suc i) h k l = row-at a b c i (omega arith) (omega arith) (omega arith)
 
 length-rows : (a b c : List ℕ) → length b ≡ length a → length c ≡ length a → length (rowValues gf128 (els a) (els b) (els c)) ≡ length a
@@ -77,7 +77,7 @@ pub value-is : (S : Outer) (T : State gf128 (outerCells gf128)) → Stands S T �
 unfolding outerValue
 value-is S T C =
     element-⊗ (S .k) (weighted (S .e) (λ i. getD (S .a) i 0 ⊗ getD (S .b) i 0 ⊕ getD (S .c) i 0) (length (S .e)))
-    ∙ ap (product (element (S .k))) (dot-sum (S .e) (rowValues gf128 (els (S .a)) (els (S .b)) (els (S .c)))
+    ∙ ap (elementProduct (element (S .k))) (dot-sum (S .e) (rowValues gf128 (els (S .a)) (els (S .b)) (els (S .c)))
     (λ i. getD (S .a) i 0 ⊗ getD (S .b) i 0 ⊕ getD (S .c) i 0)
     (length-rows (S .a) (S .b) (S .c) lb lc ∙ sym le) (λ i h. row-at (S .a) (S .b) (S .c) i lb lc (rw le at h))
     ∙ ap (λ (e : List Element). dotE gf128 e (rowValues gf128 (els (S .a)) (els (S .b)) (els (S .c)))) (C .eq))

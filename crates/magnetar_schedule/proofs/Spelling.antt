@@ -7,7 +7,7 @@ use native.Mathlib.Omega.{arith}
 use lib.ListN.{length, getD, set, take, drop, length-set, length-drop, drop-of-length-le}
 use lib.Seq.{drop-cons, drop-set-lt, getD-set-same, take-suc, take-length, take-all}
 use borrow.Author.Tests.{lt-ltb, le-ltb}
-use Rattle.magnetar_protocol.specs.Schedule.{digits}
+use Rattle.magnetar_protocol.specs.Schedule.{decimal}
 
 -- a cell is written in front of what begins behind it
 drop-written : (out : List ℕ) (at x : ℕ) → at < length out → drop at (set out at x) ≡ x ∷ drop (suc at) out
@@ -25,7 +25,7 @@ pub record Spelt (n : ℕ) (out : List ℕ) (rest at : ℕ) : Type 0 where
   pub most : at ≤ 47
   pub size : length out ≡ 48
   pub small : rest < 10 ^ suc left
-  pub whole : digits (suc left) rest ++ drop (suc at) out ≡ digits 20 n
+  pub whole : decimal (suc left) rest ++ drop (suc at) out ≡ decimal 20 n
 
 pub spelt-start : (n : ℕ) (out : List ℕ) → n < 2 ^ 64 → length out ≡ 48 → Spelt n out n 47
 spelt-start n out h l =
@@ -35,15 +35,15 @@ spelt-start n out h l =
       most = omega arith;
       size = l;
       small = omega arith;
-      whole = ap (λ (r : List ℕ). digits 20 n ++ r) (drop-of-length-le out {i = 48} (omega arith)) ∙ append-nil (digits 20 n);
+      whole = ap (λ (r : List ℕ). decimal 20 n ++ r) (drop-of-length-le out {i = 48} (omega arith)) ∙ append-nil (decimal 20 n);
     }
 
-digits-more : (k n : ℕ) → 9 < n → digits (suc k) n ≡ digits k (n / 10) ++ ((48 + n % 10) ∷ [])
-unfolding digits
+digits-more : (k n : ℕ) → 9 < n → decimal (suc k) n ≡ decimal k (n / 10) ++ ((48 + n % 10) ∷ [])
+unfolding decimal
 digits-more k n h = rw (le-ltb n 10 (omega arith))
 
-digits-one : (k n : ℕ) → n ≤ 9 → digits (suc k) n ≡ (48 + n) ∷ []
-unfolding digits
+digits-one : (k n : ℕ) → n ≤ 9 → decimal (suc k) n ≡ (48 + n) ∷ []
+unfolding decimal
 digits-one k n h = rw (lt-ltb n 10 (omega arith))
 
 pub spelt-more
@@ -57,7 +57,7 @@ spelt-more {n} {rest} {at} {out} s h = go (s .left) (s .place) (s .small) (s .wh
         : (k : ℕ)
         → at ≡ 28 + k
         → rest < 10 ^ suc k
-        → digits (suc k) rest ++ drop (suc at) out ≡ digits 20 n
+        → decimal (suc k) rest ++ drop (suc at) out ≡ decimal 20 n
         → Spelt n (set out at (48 + rest % 10)) (rest / 10) (at - 1)
     go zero e b w = absurd (omega arith)
     go (suc k) e b w =
@@ -75,8 +75,8 @@ spelt-more {n} {rest} {at} {out} s h = go (s .left) (s .place) (s .small) (s .wh
           size = rw length-set size;
           small = omega arith;
           whole =
-              ap (λ (r : List ℕ). digits (suc k) (rest / 10) ++ r) d
-              ∙ sym (append-assoc (digits (suc k) (rest / 10)) (x ∷ []) (drop (suc at) out))
+              ap (λ (r : List ℕ). decimal (suc k) (rest / 10) ++ r) d
+              ∙ sym (append-assoc (decimal (suc k) (rest / 10)) (x ∷ []) (drop (suc at) out))
               ∙ ap (λ (r : List ℕ). r ++ drop (suc at) out) (sym (digits-more (suc k) rest h))
               ∙ w;
         }
@@ -86,12 +86,12 @@ pub spelt-end
     : {n rest at : ℕ} {out : List ℕ}
     → Spelt n out rest at
     → rest ≤ 9
-    → (28 ≤ at) × (at ≤ 48) × (drop at (set out at (48 + rest)) ≡ digits 20 n)
+    → (28 ≤ at) × (at ≤ 48) × (drop at (set out at (48 + rest)) ≡ decimal 20 n)
 spelt-end {n} {rest} {at} {out} s h =
     let place : at ≡ 28 + s .left = s .place in
     let most : at ≤ 47 = s .most in
     let size : length out ≡ 48 = s .size in
-    let d : drop at (set out at (48 + rest)) ≡ digits (suc (s .left)) rest ++ drop (suc at) out =
+    let d : drop at (set out at (48 + rest)) ≡ decimal (suc (s .left)) rest ++ drop (suc at) out =
     drop-written out at (48 + rest) (omega arith) ∙ ap (λ (r : List ℕ). r ++ drop (suc at) out) (sym (digits-one (s .left) rest h)) in
     (omega arith, omega arith, d ∙ s .whole)
 

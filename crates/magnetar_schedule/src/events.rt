@@ -5,14 +5,14 @@ ghost use Prim.Native.Nat.{_*_, _/_, _≤_};
 ghost use lib.ListN.{length, drop};
 ghost use Rattle.magnetar_hash.specs.Bytes.{wordBytes, ascii};
 ghost use Rattle.magnetar_hash.specs.Transcript.{absorbed, drawn, drawnTimes, drawnWords};
-ghost use Rattle.magnetar_protocol.specs.Schedule.{digits, numbered};
+ghost use Rattle.magnetar_protocol.specs.Schedule.{decimal, numbered};
 use magnetar_hash::transcript;
 use magnetar_hash::transcript::Transcript;
 
 // Writes the decimal digits of n at the end of `out`, and answers where they begin.
 fn put_digits(out: &mut [u8], n: usize) -> usize
     requires { ⌜ length (now out) ≡ 48 ⌝ }
-    ensures { λ r. ⌜ (28 ≤ r) × (r ≤ 48) × (drop r (now (out .exit)) ≡ digits 20 n) ⌝ }
+    ensures { λ r. ⌜ (28 ≤ r) × (r ≤ 48) × (drop r (now (out .exit)) ≡ decimal 20 n) ⌝ }
 {
     let mut rest = n;
     let mut at: usize = 47;
@@ -43,7 +43,7 @@ fn put_prefix(out: &mut [u8], prefix: &[u8], end: usize) -> usize
 // Writes the label at the end of `out`, and answers where it begins.
 fn put_label(out: &mut [u8], prefix: &[u8], i: usize) -> usize
     requires { ⌜ (length (now out) ≡ 48) × (length (now prefix) ≤ 28) ⌝ }
-    ensures { λ r. ⌜ (r ≤ 48) × (drop r (now (out .exit)) ≡ now (prefix .entry) ++ digits 20 i) ⌝ }
+    ensures { λ r. ⌜ (r ≤ 48) × (drop r (now (out .exit)) ≡ now (prefix .entry) ++ decimal 20 i) ⌝ }
 {
     let end = put_digits(out, i);
     put_prefix(out, prefix, end)
@@ -52,7 +52,7 @@ fn put_label(out: &mut [u8], prefix: &[u8], i: usize) -> usize
 // Words are absorbed under a label with a number behind it.
 pub(crate) fn absorb_numbered(t: Transcript, prefix: &[u8], i: usize, words: &[u64]) -> Transcript
     requires { ⌜ length (now prefix) ≤ 28 ⌝ }
-    ensures { λ r. ⌜ r ≡ absorbed t (now (prefix .entry) ++ digits 20 i) (wordBytes (now (words .entry))) ⌝ }
+    ensures { λ r. ⌜ r ≡ absorbed t (now (prefix .entry) ++ decimal 20 i) (wordBytes (now (words .entry))) ⌝ }
 {
     let mut label = [0u8; 48];
     let at = put_label(&mut label, prefix, i);
@@ -62,7 +62,7 @@ pub(crate) fn absorb_numbered(t: Transcript, prefix: &[u8], i: usize, words: &[u
 // A draw under a label with a number behind it.
 pub(crate) fn draw_numbered(t: Transcript, prefix: &[u8], i: usize) -> Transcript
     requires { ⌜ length (now prefix) ≤ 28 ⌝ }
-    ensures { λ r. ⌜ r ≡ drawn t (now (prefix .entry) ++ digits 20 i) ⌝ }
+    ensures { λ r. ⌜ r ≡ drawn t (now (prefix .entry) ++ decimal 20 i) ⌝ }
 {
     let mut label = [0u8; 48];
     let at = put_label(&mut label, prefix, i);
@@ -72,7 +72,7 @@ pub(crate) fn draw_numbered(t: Transcript, prefix: &[u8], i: usize) -> Transcrip
 // A round: its message is absorbed and its challenge drawn, both under its label.
 fn round(t: Transcript, prefix: &[u8], i: usize, words: &[u64]) -> Transcript
     requires { ⌜ length (now prefix) ≤ 28 ⌝ }
-    ensures { λ r. ⌜ r ≡ drawn (absorbed t (now (prefix .entry) ++ digits 20 i) (wordBytes (now (words .entry)))) (now (prefix .entry) ++ digits 20 i) ⌝ }
+    ensures { λ r. ⌜ r ≡ drawn (absorbed t (now (prefix .entry) ++ decimal 20 i) (wordBytes (now (words .entry)))) (now (prefix .entry) ++ decimal 20 i) ⌝ }
 {
     let u = absorb_numbered(t, prefix, i, words);
     draw_numbered(u, prefix, i)

@@ -7,7 +7,7 @@ ghost use Rattle.magnetar_field.specs.Gf128.{value};
 ghost use Rattle.magnetar_field.specs.Words.{elements, words, overlaid};
 ghost use Rattle.magnetar_hash.specs.Bytes.{ascii};
 ghost use Rattle.magnetar_hash.specs.Transcript.{element};
-ghost use Rattle.magnetar_protocol.specs.Schedule.{absorb, draw, digits, rounds, singles, schedule, outline};
+ghost use Rattle.magnetar_protocol.specs.Schedule.{absorb, draw, decimal, rounds, singles, schedule, outline};
 ghost use Rattle.magnetar_protocol.specs.Play.{playedFrom};
 ghost use Rattle.magnetar_schedule.specs.Stages.{Adds, Plays, OuterPlays, InnerPlays};
 use crate::events;
@@ -70,7 +70,7 @@ fn draw_one(s: Stage, label: &[u8], out: &mut [u64]) -> Stage
 // A draw under a label with a number behind it, where an event is left.
 fn draw_next(s: Stage, prefix: &[u8], i: usize, out: &mut [u64]) -> Stage
     requires { ⌜ length (now prefix) ≤ 28 ⌝ }
-    ensures { λ r. ⌜ ((w : List ℕ) (next : ℕ) → Plays w (draw (now (prefix .entry) ++ digits 20 i) ∷ []) next next s (now (out .entry)) r (now (out .exit))) ⌝ }
+    ensures { λ r. ⌜ ((w : List ℕ) (next : ℕ) → Plays w (draw (now (prefix .entry) ++ decimal 20 i) ∷ []) next next s (now (out .entry)) r (now (out .exit))) ⌝ }
 {
     if s.left == 0 {
         return s;
@@ -111,7 +111,7 @@ fn absorb_one(s: Stage, label: &[u8], k: usize, proof: &[u64]) -> Stage
 // The next elements are absorbed under a label with a number behind it, where an event is left.
 fn absorb_next(s: Stage, prefix: &[u8], i: usize, k: usize, proof: &[u64]) -> Stage
     requires { ⌜ length (now prefix) ≤ 28 ⌝ }
-    ensures { λ r. ⌜ ((next : ℕ) (out : List ℕ) → Plays (elements (now (proof .entry))) (absorb (now (prefix .entry) ++ digits 20 i) next k ∷ []) next (next + k) s out r out) ⌝ }
+    ensures { λ r. ⌜ ((next : ℕ) (out : List ℕ) → Plays (elements (now (proof .entry))) (absorb (now (prefix .entry) ++ decimal 20 i) next k ∷ []) next (next + k) s out r out) ⌝ }
 {
     if s.left == 0 {
         return s;
@@ -147,7 +147,7 @@ fn draw_times(s: Stage, label: &[u8], n: usize, out: &mut [u64]) -> Stage
 fn round(s: Stage, prefix: &[u8], i: usize, k: usize, proof: &[u64], out: &mut [u64]) -> Stage
     requires { ⌜ length (now prefix) ≤ 28 ⌝ }
     ensures { λ r. ⌜ ((next : ℕ) → Plays (elements (now (proof .entry)))
-        (absorb (now (prefix .entry) ++ digits 20 i) next k ∷ draw (now (prefix .entry) ++ digits 20 i) ∷ [])
+        (absorb (now (prefix .entry) ++ decimal 20 i) next k ∷ draw (now (prefix .entry) ++ decimal 20 i) ∷ [])
         next (next + k) s (now (out .entry)) r (now (out .exit))) ⌝ }
 {
     let a = absorb_next(s, prefix, i, k, proof);
@@ -157,7 +157,7 @@ fn round(s: Stage, prefix: &[u8], i: usize, k: usize, proof: &[u64], out: &mut [
 // n rounds.
 fn play_rounds(s: Stage, prefix: &[u8], k: usize, n: usize, proof: &[u64], out: &mut [u64]) -> Stage
     requires { ⌜ length (now prefix) ≤ 28 ⌝ }
-    ensures { λ r. ⌜ ((first : ℕ) → Plays (elements (now (proof .entry))) (rounds (λ i. now (prefix .entry) ++ digits 20 i) first k 0 n)
+    ensures { λ r. ⌜ ((first : ℕ) → Plays (elements (now (proof .entry))) (rounds (λ i. now (prefix .entry) ++ decimal 20 i) first k 0 n)
         first (first + k * n) s (now (out .entry)) r (now (out .exit))) ⌝ }
 {
     let mut u = s;
@@ -197,7 +197,7 @@ fn inner_rounds(s: Stage, n: usize, proof: &[u64], out: &mut [u64]) -> Stage
 // n elements are absorbed one by one.
 fn play_singles(s: Stage, prefix: &[u8], n: usize, proof: &[u64]) -> Stage
     requires { ⌜ length (now prefix) ≤ 28 ⌝ }
-    ensures { λ r. ⌜ ((first : ℕ) (out : List ℕ) → Plays (elements (now (proof .entry))) (singles (λ i. now (prefix .entry) ++ digits 20 i) first 0 n)
+    ensures { λ r. ⌜ ((first : ℕ) (out : List ℕ) → Plays (elements (now (proof .entry))) (singles (λ i. now (prefix .entry) ++ decimal 20 i) first 0 n)
         first (first + n) s out r out) ⌝ }
 {
     let mut u = s;

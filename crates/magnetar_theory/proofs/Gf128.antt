@@ -17,7 +17,7 @@ use Rattle.magnetar_field.proofs.Product.{⊗-assoc, ⊗-comm, ⊗-⊕, ⊗-one
 use Rattle.magnetar_field.proofs.Polynomial.{AllBelow}
 use Rattle.magnetar_field.proofs.Roots.{root-in, roots-few}
 use Rattle.magnetar_theory.specs.Field.{Ring, Laws, eval, allZero}
-use Rattle.magnetar_theory.specs.Gf128.{Element, number, element, sum, product, same, rootsOf, gf128}
+use Rattle.magnetar_theory.specs.Gf128.{Element, number, element, elementSum, elementProduct, same, rootsOf, gf128}
 
 -- ---- numbers and elements
 pub number-lt : (x : Element) → number x < 2 ^ 128
@@ -41,12 +41,12 @@ element-number x = same-number (element (number x)) x (number-of (number x) (num
 pub element-inj : (m n : ℕ) → m < 2 ^ 128 → n < 2 ^ 128 → element m ≡ element n → m ≡ n
 element-inj m n h k e = sym (number-of m h) ∙ ap number e ∙ number-of n k
 
-pub number-sum : (x y : Element) → number (sum x y) ≡ number x ⊕ number y
-unfolding sum
+pub number-sum : (x y : Element) → number (elementSum x y) ≡ number x ⊕ number y
+unfolding elementSum
 number-sum x y = number-of (number x ⊕ number y) (⊕-lt 128 (number x) (number y) (number-lt x) (number-lt y))
 
-pub number-product : (x y : Element) → number (product x y) ≡ number x ⊗ number y
-unfolding product
+pub number-product : (x y : Element) → number (elementProduct x y) ≡ number x ⊗ number y
+unfolding elementProduct
 number-product x y = number-of (number x ⊗ number y) (⊗-lt (number x) (number y))
 
 pub number-zero : number (element 0) ≡ 0
@@ -58,15 +58,15 @@ unfolding number element
 number-one = refl
 
 -- ---- the homomorphism
-pub element-⊕ : (a b : ℕ) → element (a ⊕ b) ≡ sum (element a) (element b)
+pub element-⊕ : (a b : ℕ) → element (a ⊕ b) ≡ elementSum (element a) (element b)
 element-⊕ a b =
-    same-number (element (a ⊕ b)) (sum (element a) (element b))
+    same-number (element (a ⊕ b)) (elementSum (element a) (element b))
     (number-element (a ⊕ b) ∙ ⊕-mod a b 128 ∙ sym (ap₂ _⊕_ (number-element a) (number-element b))
     ∙ sym (number-sum (element a) (element b)))
 
-pub element-⊗ : (a b : ℕ) → element (a ⊗ b) ≡ product (element a) (element b)
+pub element-⊗ : (a b : ℕ) → element (a ⊗ b) ≡ elementProduct (element a) (element b)
 element-⊗ a b =
-    same-number (element (a ⊗ b)) (product (element a) (element b))
+    same-number (element (a ⊗ b)) (elementProduct (element a) (element b))
     (number-of (a ⊗ b) (⊗-lt a b) ∙ sym (⊗-mod a b) ∙ ⊗-comm a (b % 2 ^ 128) ∙ sym (⊗-mod (b % 2 ^ 128) a)
     ∙ ⊗-comm (b % 2 ^ 128) (a % 2 ^ 128)
     ∙ sym (ap₂ _⊗_ (number-element a) (number-element b)) ∙ sym (number-product (element a) (element b)))
@@ -96,7 +96,7 @@ number-eval : (p : List Element) (r : Element) → number (eval gf128 p r) ≡ e
 unfolding evalN
 number-eval [] r = number-zero
 number-eval (c ∷ p) r =
-    number-sum c (product r (eval gf128 p r)) ∙ ap (λ (n : ℕ). number c ⊕ n) (number-product r (eval gf128 p r)
+    number-sum c (elementProduct r (eval gf128 p r)) ∙ ap (λ (n : ℕ). number c ⊕ n) (number-product r (eval gf128 p r)
     ∙ ap (λ (n : ℕ). number r ⊗ n) (number-eval p r))
 
 element-mem : {l : List ℕ} (n : ℕ) → List·Memᴰ n l → List·Memᴰ (element n) (map element l)

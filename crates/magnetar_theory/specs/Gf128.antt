@@ -24,12 +24,12 @@ unfoldable pub element : ℕ → Element
 element n = (n % 2 ^ 128, mod-lt n (pow-pos 128))
 
 -- the sum
-unfoldable pub sum : Element → Element → Element
-sum x y = element (number x ⊕ number y)
+unfoldable pub elementSum : Element → Element → Element
+elementSum x y = element (number x ⊕ number y)
 
 -- the product
-unfoldable pub product : Element → Element → Element
-product x y = element (number x ⊗ number y)
+unfoldable pub elementProduct : Element → Element → Element
+elementProduct x y = element (number x ⊗ number y)
 
 -- the test for equality
 unfoldable pub same : Element → Element → Bool
@@ -41,4 +41,4 @@ rootsOf p = map element (roots (map number p))
 
 -- the ring that the theory is used at
 abbrev pub gf128 : Field
-gf128 = record { K = Element; 𝟎 = element 0; 𝟏 = element 1; _⊕_ = sum; _⊗_ = product; same = same; roots = rootsOf }
+gf128 = record { K = Element; 𝟎 = element 0; 𝟏 = element 1; _⊕_ = elementSum; _⊗_ = elementProduct; same = same; roots = rootsOf }

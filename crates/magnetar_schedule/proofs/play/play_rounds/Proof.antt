@@ -4,7 +4,7 @@ use mathlib.Core.List.{_++_}
 use Prim.Native.Nat.{_-_, _≤_}
 use lib.ListN.{length}
 use Rattle.magnetar_field.specs.Words.{elements}
-use Rattle.magnetar_protocol.specs.Schedule.{digits}
+use Rattle.magnetar_protocol.specs.Schedule.{decimal}
 use native.Mathlib.Omega.{arith}
 use Rattle.magnetar_schedule.proofs.Turns.{Rounds, rounds-start, rounds-more, rounds-end}
 use borrow.Author.Needs.{needs}
@@ -13,7 +13,7 @@ use Rattle.magnetar_schedule.proofs.play.play_rounds.Tie as tie
 
 abbrev Inv-loop : tie.InvT-loop
 Inv-loop prefix k n proof out₀ u₀ i₀ out u i =
-    (length prefix ≤ 28) × Rounds (elements proof) (λ j. prefix ++ digits 20 j) k n u₀ out₀ i u out
+    (length prefix ≤ 28) × Rounds (elements proof) (λ j. prefix ++ decimal 20 j) k n u₀ out₀ i u out
 
 abbrev μ-loop : tie.MeasureT-loop
 μ-loop prefix k n proof out₀ u₀ i₀ out u i = n - i

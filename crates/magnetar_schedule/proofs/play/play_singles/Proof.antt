@@ -4,7 +4,7 @@ use mathlib.Core.List.{_++_}
 use Prim.Native.Nat.{_-_, _≤_}
 use lib.ListN.{length}
 use Rattle.magnetar_field.specs.Words.{elements}
-use Rattle.magnetar_protocol.specs.Schedule.{digits}
+use Rattle.magnetar_protocol.specs.Schedule.{decimal}
 use native.Mathlib.Omega.{arith}
 use Rattle.magnetar_schedule.proofs.Turns.{Singles, singles-start, singles-more, singles-end}
 use borrow.Author.Needs.{needs}
@@ -12,7 +12,7 @@ use Rattle.magnetar_schedule.proofs.play.play_singles.Statement.{statem
 use Rattle.magnetar_schedule.proofs.play.play_singles.Tie as tie
 
 abbrev Inv-loop : tie.InvT-loop
-Inv-loop prefix n proof u₀ i₀ u i = (length prefix ≤ 28) × Singles (elements proof) (λ j. prefix ++ digits 20 j) n u₀ i u
+Inv-loop prefix n proof u₀ i₀ u i = (length prefix ≤ 28) × Singles (elements proof) (λ j. prefix ++ decimal 20 j) n u₀ i u
 
 abbrev μ-loop : tie.MeasureT-loop
 μ-loop prefix n proof u₀ i₀ u i = n - i
