@@ -44,12 +44,19 @@ def flat(b):
     while isinstance(b, list) and b[0] == 'seq': out.append(b[1]); b = b[2]
     return out + [b]
 stms = flat(body)
+def in_struct(x):        # a field of a struct is read or stored somewhere
+    if not isinstance(x, list): return False
+    if x[:1] == ['place']:
+        t = locs[int(x[1])]; way = cons(x[2])
+        return len(way) > 0 and way[-1][0] == 'field' and 'tyNamed' in (t[0], t[3][0] if t[0] == 'tyRef' else '')
+    return any(map(in_struct, x))
+by_fields = in_struct(body)
 def all_calls(ss):
     for x in ss:
         if isinstance(x, list) and x[0] == 'call': yield x
         if isinstance(x, list) and x[0] == 'if': yield from all_calls(flat(x[2])); yield from all_calls(flat(x[3]))
 uv = lambda j: f'u{j}' + ('′' if j in (8, 16, 32, 64) else '')      # u8, .. are types, and w8, .. widths
-wv = lambda j: f'w{j}' + ('′' if j in (8, 16, 32, 64) else '')
+wv = lambda j: f'w{j}' + ('′' if by_fields and j in (8, 16, 32, 64) else '')
 letter = lambda t: 'abcdefghijklmnopqrstuvwxyz'[t]
 structs = []
 def sname(t):
@@ -504,7 +511,7 @@ use ghost.Atoms.{{Atoms, sem}}
 use contract.Monad.{{Fun, fact}}
 use contract.Running.{{givenOf, tables, tablesOf}}
 use types.Kit.{{Given, ‵, raw, _⊛_, ⋆, some, later, _$_, _∵_, !, qed, by, move, keep, drop, use1, use2, use3, split, join, pick, fsplit, fsplit3, fjoin, fjoin3, feqL, feqI, rewrite, atRet, suffices, frame, await, done}}
-use types.Part.{{agg, whole, sub, look-in, store-in}}
+use types.Part.{{agg, whole, sub, look-in{', store-in' if by_fields else ''}}}
 use types.Run.{{look, look-raw, init, store, store-raw, stop, hop, fld, from, load, unit-lit, of-opd, addr, and-then, no-more, lit, true-lit, false-lit, assigns, assigns-last, land, land-last, first, branches, skips, exec, returns, enter, alloc0, params1, pass1, pass0}}
 use types.Tokens.{{lft-new, lft-end}}
 use sound.WpLaws.{{FmC, fmOf, WpFn-mono}}
