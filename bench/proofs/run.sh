@@ -1,7 +1,7 @@
 #!/usr/bin/env bash
 # Times the provers and verifiers of both sides in one program.
 #   bench/proofs/run.sh ORACLE [all]
-# With `all` also the two sizes at which the Rust's prover takes some 37 and 550 seconds.
+# With `all` also the two sizes at which the Rust's prover takes minutes.
 source "$(dirname "$0")/../linked.sh"
 rustc --edition 2021 -C opt-level=3 --crate-type rlib --crate-name magnetar -o target/bench/libmagnetar.rlib bindings/rust/src/lib.rs \
     -L native=target/staticlib
