@@ -1,16 +1,17 @@
 -- The outcomes of the entries: which refusal applies, in rising order, and what each lent slice holds at exit.
 -- Assumes nothing.
-use mathlib.Core.List.{List, [], _∷_, _++_}
-use Prim.Native.Nat.{ℕ, _+_, _*_, max}
-use lib.Dec.{ltb}
+use mathlib.Core.List.{List, _++_}
+use Prim.Native.Nat.{ℕ, _+_, _*_}
 use lib.ListN.{length, drop, replicate}
 use Rattle.magnetar_field.specs.Refusal.{unlessRefused}
 use Rattle.magnetar_field.specs.Sizes.{log₂}
 use Rattle.magnetar_field.specs.Words.{elements, words}
 use Rattle.magnetar_matrix.specs.Batch.{folded}
 use Rattle.magnetar_matrix.specs.Packed.{unpacked}
-use Rattle.magnetar_batch.specs.Systems.{Lent3, systemOf, combinedTable, systemsTests, pointTests}
-use Rattle.magnetar_layout.specs.Tests.{noted, sizeTests, packedTests, lengthTest, roomTest}
+use Rattle.magnetar_layout.specs.Tests.{noted, columnTests, sizeTests, packedTests, lengthTest, roomTest}
+use Rattle.magnetar_relation.specs.Rules.{Rules, relationOf}
+use Rattle.magnetar_relation.specs.RuleTests.{ruleTests}
+use Rattle.magnetar_batch.specs.Systems.{combinedTable, pointTests, tableRoom, tableRoomTests}
 
 -- ---- `fold_packed_w`: the packed words ws of q logins with w columns, the point p, the output out, the scratch
 -- 1 and 2; 11: the point; 15: the output or the scratch
@@ -40,38 +41,35 @@ foldInOut ws q w p slice =
     unlessRefused (foldInRefusal ws q w p slice)
     (words (folded q w (unpacked q w ws) (elements p)) ++ (replicate (2 * q) 0 ++ drop (2 * w + 2 * q) slice)) slice
 
--- ---- `combine_in`: m columns, the systems s and t, the alphas al, the row points p and r, and how many words are lent
--- 1, 4 to 7; 11: the alphas and the points; 15: the lent words
-unfoldable pub comboRefusal : ℕ → Lent3 → Lent3 → List ℕ → List ℕ → List ℕ → ℕ → ℕ
-comboRefusal m s t al p r room = noted 0 (systemsTests m s t ++ pointTests m (s .a .rows) (t .a .rows) al p r room)
+-- ---- `build_m_combo`: the rules R as they are lent for one login, the alphas al, the row points p and r, the output out, the scratch
+-- 1, 4 to 7; 11: the alphas and the points; 15: the scratch or the output
+unfoldable pub comboRefusal : Rules → (al p r : List ℕ) → (out scratch : ℕ) → ℕ
+comboRefusal R al p r out scratch =
+    noted 0 (columnTests (R .m) ++ (ruleTests R ++ (pointTests (R .shapes .bin .a .rows) (R .shapes .fld .a .rows) (length al) (length p) (length r)
+    ++ tableRoomTests (R .m) (R .shapes .bin .a .rows) (R .shapes .fld .a .rows) scratch out)))
 
 -- the words of the combined table
-unfoldable pub comboWords : ℕ → Lent3 → Lent3 → List ℕ → List ℕ → List ℕ → List ℕ
-comboWords m s t al p r = words (combinedTable m (systemOf s) (systemOf t) (elements al) (elements p) (elements r))
+unfoldable pub comboWords : Rules → (al p r : List ℕ) → List ℕ
+comboWords R al p r =
+    words (combinedTable (R .m) (relationOf R .bin) (relationOf R .fld) (elements al) (elements p) (elements r))
 
--- as many words as the larger eq table has
-abbrev pub behindWords : Lent3 → Lent3 → ℕ
-behindWords s t = 2 * max (s .a .rows) (t .a .rows)
+-- how many words the table and the larger eq table have
+abbrev pub comboRoom : Rules → ℕ
+comboRoom R = tableRoom (R .m) (R .shapes .bin .a .rows) (R .shapes .fld .a .rows)
 
--- the lent words at exit: the table, zeros in the place of the eq table, the rest
-unfoldable pub comboIn : ℕ → Lent3 → Lent3 → List ℕ → List ℕ → List ℕ → List ℕ → List ℕ
-comboIn m s t al p r lentWords =
-    unlessRefused (comboRefusal m s t al p r (length lentWords))
-    (comboWords m s t al p r ++ (replicate (behindWords s t) 0 ++ drop (2 * m + behindWords s t) lentWords)) lentWords
+-- the number, and what the output and the scratch hold
+pub record Combined : Type 0 where
+  pub code : ℕ
+  pub out : List ℕ
+  pub scratch : List ℕ
 
--- ---- `build_m_combo`: the same, with how many words the output and the scratch have
--- 1, 4 to 7; 11: the alphas and the points; 15: the scratch or the output
-unfoldable pub mComboRefusal : ℕ → Lent3 → Lent3 → List ℕ → List ℕ → List ℕ → ℕ → ℕ → ℕ
-mComboRefusal m s t al p r out scratch =
-    noted 0 (systemsTests m s t ++ (pointTests m (s .a .rows) (t .a .rows) al p r scratch ++ ((15, ltb out (2 * m)) ∷ [])))
+-- the same of what the function returns and leaves
+abbrev pub combined : ℕ → (out scratch : List ℕ) → Combined
+combined n o s = record { code = n; out = o; scratch = s }
 
--- the output: the words of the table, then what stood behind them
-unfoldable pub mComboOut : ℕ → Lent3 → Lent3 → List ℕ → List ℕ → List ℕ → List ℕ → ℕ → List ℕ
-mComboOut m s t al p r out scratch =
-    unlessRefused (mComboRefusal m s t al p r (length out) scratch) (comboWords m s t al p r ++ drop (2 * m) out) out
-
--- the scratch: zeros in the place of the table and of the eq table, the rest
-unfoldable pub mComboScratch : ℕ → Lent3 → Lent3 → List ℕ → List ℕ → List ℕ → ℕ → List ℕ → List ℕ
-mComboScratch m s t al p r out scratch =
-    unlessRefused (mComboRefusal m s t al p r out (length scratch))
-    (replicate (2 * m + behindWords s t) 0 ++ drop (2 * m + behindWords s t) scratch) scratch
+-- the outcome: the words of the table in front of the output, and zeros in the place of the scratch's table and eq table
+unfoldable pub comboOutcome : Rules → (al p r out scratch : List ℕ) → Combined
+comboOutcome R al p r out scratch =
+    unlessRefused (comboRefusal R al p r (length out) (length scratch))
+    (combined 0 (comboWords R al p r ++ drop (2 * R .m) out) (replicate (comboRoom R) 0 ++ drop (comboRoom R) scratch))
+    (combined (comboRefusal R al p r (length out) (length scratch)) out scratch)

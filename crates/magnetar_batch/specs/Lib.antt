@@ -1,6 +1,6 @@
 pub mod Fold
 pub mod Systems
-pub mod Columns
-pub mod Rows
+pub mod TableSteps
 pub mod Entries
 pub mod Check
+pub mod CheckSteps

@@ -1,0 +1,82 @@
+-- How the row check goes, call by call: what the loops over number slices and the walks over records leave alike. Only private contracts,
+-- and those of the steps that both forms call, cite these definitions.
+-- Assumes nothing.
+use mathlib.Core.Bool.{cond}
+use mathlib.Core.List.{List}
+use Prim.Native.Nat.{ℕ, zero, suc, _*_, min, max}
+use lib.Dec.{eqb, ltb, leb}
+use lib.ListN.{length, take}
+use Rattle.magnetar_field.specs.Words.{elements}
+use Rattle.magnetar_matrix.specs.Matrix.{Matrix, System, Entry, share}
+use Rattle.magnetar_matrix.specs.Batch.{Relation}
+use Rattle.magnetar_matrix.specs.RowCheck.{firstNot, holdsAt}
+use Rattle.magnetar_matrix.specs.RowCheck.Verdict.{good, bin, fld}
+use Rattle.magnetar_relation.specs.Steps.{loginZ, clearedTo, addedTo, behind}
+use Rattle.magnetar_relation.specs.Told.{walked}
+use Rattle.magnetar_batch.specs.declared.check.Failing.{Failing}
+use Rattle.magnetar_batch.specs.Check.{Outcome}
+use Rattle.magnetar_batch.specs.Check.Outcome.{judged, refused}
+
+-- the entry's share of the product with z added at its row, to the n elements behind the first m
+unfoldable pub shareAdded : (m n : ℕ) → List ℕ → Entry → List ℕ → List ℕ
+shareAdded m n z e s = behind m (addedTo n (e .row) (share z e)) s
+
+-- the product of the matrix with z in the n elements behind the first m
+abbrev pub productBehind : (m n : ℕ) → List ℕ → Matrix → List ℕ → List ℕ
+productBehind m n z a s = walked (shareAdded m n z) (a .entries) (behind m (clearedTo n) s)
+
+-- twice n; larger numbers than a matrix has rows are cut
+abbrev pub twiceOf : ℕ → ℕ
+twiceOf n = 2 * min n 65536
+
+-- the three products of a system, one behind the other
+unfoldable pub threeIn : List ℕ → System → List ℕ → List ℕ
+threeIn z t s =
+    productBehind (twiceOf (t .a .rows)) (t .a .rows) z (t .c) (productBehind (t .a .rows) (t .a .rows) z (t .b) (productBehind 0 (t .a .rows) z (t .a) s))
+
+-- the first of n rows that does not hold, or n; n where there is no room for three products
+unfoldable pub rowIn : ℕ → List ℕ → ℕ
+rowIn n s = cond (leb (6 * n) (length s)) (firstNot (holdsAt (elements (take (6 * n) s)) n) n) n
+
+-- nothing was found
+abbrev pub nothing : Failing
+nothing = record { system = 0; login = 0; row = 0 }
+
+-- the first row of system k that does not hold for login u, or r
+unfoldable pub failingIn : Failing → (k u n : ℕ) → List ℕ → Failing
+failingIn r k u n s = cond (ltb (rowIn n s) n) (record { system = k; login = u; row = rowIn n s }) r
+
+-- ---- the walk over the logins
+-- what was found, and the words
+pub record Judged : Type 0 where
+  pub found : Failing
+  pub left : List ℕ
+
+-- such a state of the walk
+abbrev pub from : Failing → List ℕ → Judged
+from r s = record { found = r; left = s }
+
+-- after login u, with z, of system k; as it was where something was found before
+unfoldable pub loginDone : (k : ℕ) → (z : List ℕ) → System → ℕ → Judged → Judged
+loginDone k z t u p =
+    cond (eqb (p .found .system) 0) (from (failingIn (p .found) k u (t .a .rows) (threeIn z t (p .left))) (threeIn z t (p .left))) p
+
+-- after u logins of it
+unfoldable pub systemDone : (k w : ℕ) → (ws x : List ℕ) → System → ℕ → Judged → Judged
+systemDone k w ws x t zero p = p
+systemDone k w ws x t (suc u) p = loginDone k (loginZ w ws x u) t u (systemDone k w ws x t u p)
+
+-- after the logins of both systems, with w witness columns
+abbrev pub bothDone : Relation → (w : ℕ) → (ws x s : List ℕ) → Judged
+bothDone R w ws x s = systemDone 2 w ws x (R .fld) (R .q) (systemDone 1 w ws x (R .bin) (R .q) (from nothing s))
+
+-- the words: zeros in the place of the products
+abbrev pub bothWords : Relation → (w : ℕ) → (ws x s : List ℕ) → List ℕ
+bothWords R w ws x s = clearedTo (3 * max (R .bin .a .rows) (R .fld .a .rows)) (bothDone R w ws x s .left)
+
+-- the answer: a refusal, or what was found
+unfoldable pub answerOf : ℕ → Failing → Outcome
+answerOf n r =
+    cond (eqb n 0)
+    (judged (cond (eqb (r .system) 0) good (cond (eqb (r .system) 1) (bin (r .login) (r .row)) (fld (r .login) (r .row)))))
+    (refused n)

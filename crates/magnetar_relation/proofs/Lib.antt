@@ -1,0 +1,4 @@
+pub mod TableWords
+pub mod StepLaws
+pub mod ToldLaws
+pub mod RuleLaws

@@ -1,0 +1,2 @@
+-- What the tests 4 to 7 leave of a relation.
+-- Assumes nothing.
