@@ -7,19 +7,15 @@ use Prim.Native.Nat.{ℕ, _-_, _*_, _/_}
 use lib.ListN.{take}
 use Rattle.magnetar_field.specs.Words.{elements, words}
 use Rattle.magnetar_hash.specs.declared.transcript.Transcript.{Transcript}
-use Rattle.magnetar_matrix.specs.Batch.{Relation, folded}
+use Rattle.magnetar_matrix.specs.Batch.{folded}
 use Rattle.magnetar_protocol.specs.Shape.{logCols, beforeInner}
 use Rattle.magnetar_protocol.specs.Draws.{drawCount, drawsOf, loginPoint}
-use Rattle.magnetar_protocol.specs.Schedule.{outline}
 use Rattle.magnetar_protocol.specs.Checks.{combined}
 use Rattle.magnetar_protocol.specs.Stepwise.{Steps, begin, innerAll}
 use Rattle.magnetar_protocol.specs.RealRun.{outerProving}
-use Rattle.magnetar_spartan.specs.Rules.{Rules, relationOf}
+use Rattle.magnetar_relation.specs.Rules.{Rules, relationOf}
+use Rattle.magnetar_spartan.specs.Refusals.{outlineOf}
 use Rattle.magnetar_spartan.specs.Outcome.{batchOf}
-
--- the sizes of the rules
-abbrev pub outlineOf : Rules → Relation
-outlineOf R = outline (R .m) (R .q) (R .bin .a .rows) (R .fld .a .rows) (R .lengths)
 
 -- how many words of the draws come before it
 abbrev pub drawsBefore : Rules → ℕ

@@ -1,4 +1,3 @@
-pub mod Rules
 pub mod Refusals
 pub mod Ready
 pub mod Outcome

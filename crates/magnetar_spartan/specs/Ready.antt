@@ -8,47 +8,16 @@ use lib.ListN.{length}
 use Rattle.magnetar_field.specs.Sizes.{log₂}
 use Rattle.magnetar_layout.specs.Every.{every}
 use Rattle.magnetar_layout.specs.Layout.{isLength, layoutEnd}
-use Rattle.magnetar_layout.specs.Lent.{Lent}
 use Rattle.magnetar_layout.specs.Login.{loginWords}
-use Rattle.magnetar_layout.specs.Tests.{allBelow, Sized}
-use Rattle.magnetar_batch.specs.Systems.{Lent3}
+use Rattle.magnetar_layout.specs.Tests.{Sized}
+use Rattle.magnetar_relation.specs.Rules.{Rules, relationOf}
+use Rattle.magnetar_protocol.specs.RunSizes.{SizedRelation}
 use Rattle.magnetar_protocol.specs.Draws.{drawCount}
-use Rattle.magnetar_protocol.specs.Schedule.{outline}
-use Rattle.magnetar_spartan.specs.Rules.{Rules}
-use Rattle.magnetar_spartan.specs.Refusals.{proofWords, claimWords, verifierRoom, proverRoom}
+use Rattle.magnetar_spartan.specs.Refusals.{outlineOf, proofWords, claimWords, verifierRoom, proverRoom}
 
--- a matrix of n rows and m columns
-pub record FineMatrix (n m : ℕ) (a : Lent) : Type 0 where
-  pub rows : a .rows ≡ n
-  pub cols : a .cols ≡ m
-  pub few : length (a .row) ≤ 1048576
-  pub col : length (a .col) ≡ length (a .row)
-  pub lo : length (a .lo) ≡ length (a .row)
-  pub hi : length (a .hi) ≡ length (a .row)
-  pub rows-inside : allBelow (a .rows) (a .row) ≡ true
-  pub cols-inside : allBelow (a .cols) (a .col) ≡ true
-
--- three matrices of the same rows over m columns, for q logins
-pub record FineSystem (m q : ℕ) (s : Lent3) : Type 0 where
-  pub rows : Sized 1 65536 (s .a .rows)
-  pub total : q * s .a .rows ≤ 1048576
-  pub a : FineMatrix (s .a .rows) m (s .a)
-  pub b : FineMatrix (s .a .rows) m (s .b)
-  pub c : FineMatrix (s .a .rows) m (s .c)
-
--- both systems, and a layout over the witness columns
-pub record Fine (R : Rules) : Type 0 where
-  pub bin : FineSystem (R .m) (R .q) (R .bin)
-  pub fld : FineSystem (R .m) (R .q) (R .fld)
-  pub lengths : every (isLength (R .m / 2)) (R .lengths) ≡ true
-  pub ends : layoutEnd (R .lengths) ≤ R .m / 2
-  pub segments : length (R .lengths) ≤ 64
-
--- the rules whole
-pub record Ready (R : Rules) : Type 0 where
-  pub columns : Sized 2 65536 (R .m)
-  pub logins : Sized 1 4096 (R .q)
-  pub fine : Fine R
+-- the rules whole: sizes within the limits, both systems with their entries inside, and a layout over the witness columns
+abbrev pub Ready : Rules → Type 0
+Ready R = SizedRelation (relationOf R)
 
 -- q logins of m columns with so many packed words ws and public words x
 pub record BatchReady (m q ws x : ℕ) : Type 0 where
@@ -63,7 +32,7 @@ pub record VerifyReady (R : Rules) (x w c s d : ℕ) : Type 0 where
   pub proof : w ≡ proofWords R
   pub claims : c ≡ claimWords R
   pub scratch : s ≡ verifierRoom R
-  pub draws : d ≡ 2 * drawCount (outline (R .m) (R .q) (R .bin .a .rows) (R .fld .a .rows) (R .lengths))
+  pub draws : d ≡ 2 * drawCount (outlineOf R)
 
 -- the words that the prover is lent: packed words ws, public words x, proof w, claims c, scratch s and draws d
 pub record ProveReady (R : Rules) (ws x w c s d : ℕ) : Type 0 where
@@ -72,7 +41,7 @@ pub record ProveReady (R : Rules) (ws x w c s d : ℕ) : Type 0 where
   pub proof : w ≡ proofWords R
   pub claims : c ≡ claimWords R
   pub scratch : s ≡ proverRoom R
-  pub draws : d ≡ 2 * drawCount (outline (R .m) (R .q) (R .bin .a .rows) (R .fld .a .rows) (R .lengths))
+  pub draws : d ≡ 2 * drawCount (outlineOf R)
 
 -- a fold of packed words ws of q logins with w columns at a point of n draws from place k of the d words of draws on, within s words
 -- that have 4w words in front

@@ -6,26 +6,16 @@ use Prim.Native.Nat.{ℕ, _+_, _-_, _*_, _/_, _^_, max}
 use lib.Dec.{eqb, ltb}
 use lib.ListN.{length}
 use Rattle.magnetar_field.specs.Sizes.{log₂}
-use Rattle.magnetar_layout.specs.Tests.{Tests, isSize, sizeTests, packedTests, publicTests, layoutTests}
-use Rattle.magnetar_batch.specs.Systems.{Lent3, cols3, counted3, placed3}
+use Rattle.magnetar_layout.specs.Tests.{Tests, sizeTests, packedTests, publicTests, layoutTests}
+use Rattle.magnetar_matrix.specs.Batch.{Relation}
+use Rattle.magnetar_relation.specs.Rules.{Rules}
+use Rattle.magnetar_relation.specs.RuleTests.{ruleTests}
 use Rattle.magnetar_protocol.specs.Shape.{proofElements}
 use Rattle.magnetar_protocol.specs.Schedule.{outline}
-use Rattle.magnetar_spartan.specs.Rules.{Rules}
-
--- 4: the rows of the three matrices of a system, for q logins
-abbrev pub systemRows : (q a b c : ℕ) → Tests
-systemRows q a b c =
-    (4, not (isSize 1 65536 a)) ∷ (4, not (eqb b a)) ∷ (4, not (eqb c a)) ∷ (4, ltb 1048576 (q * a)) ∷ []
-
--- the same of a system as it is lent
-abbrev pub rowsOf : ℕ → Lent3 → Tests
-rowsOf q s = systemRows q (s .a .rows) (s .b .rows) (s .c .rows)
 
 -- 4 to 10: the rules
-abbrev pub ruleTests : Rules → Tests
-ruleTests R =
-    rowsOf (R .q) (R .bin) ++ rowsOf (R .q) (R .fld) ++ cols3 (R .m) (R .bin) ++ cols3 (R .m) (R .fld) ++ counted3 (R .bin)
-    ++ counted3 (R .fld) ++ placed3 (R .bin) ++ placed3 (R .fld) ++ layoutTests (R .m / 2) (R .lengths)
+abbrev pub rulesTests : Rules → Tests
+rulesTests R = ruleTests R ++ layoutTests (R .m / 2) (R .lengths)
 
 -- 14: the transcript's counter
 abbrev pub counterTests : ℕ → Tests
@@ -39,10 +29,21 @@ roomOf n words = (15, ltb words n) ∷ []
 abbrev pub wordTests : ℕ → List ℕ → Tests
 wordTests n w = (16, not (eqb (length w) n)) ∷ []
 
+-- ---- the row counts
+abbrev pub rowsBin : Rules → ℕ
+rowsBin R = R .shapes .bin .a .rows
+
+abbrev pub rowsFld : Rules → ℕ
+rowsFld R = R .shapes .fld .a .rows
+
+-- the sizes of the relation, without its entries
+abbrev pub outlineOf : Rules → Relation
+outlineOf R = outline (R .m) (R .q) (rowsBin R) (rowsFld R) (R .lengths)
+
 -- ---- how many words are wanted
 -- the proof
 abbrev pub proofWords : Rules → ℕ
-proofWords R = 2 * proofElements (outline (R .m) (R .q) (R .bin .a .rows) (R .fld .a .rows) (R .lengths))
+proofWords R = 2 * proofElements (outlineOf R)
 
 -- the claims
 abbrev pub claimWords : Rules → ℕ
@@ -50,21 +51,21 @@ claimWords R = 2 * (log₂ (R .q) + (log₂ (R .m) - 1) + length (R .lengths))
 
 -- the verifier's scratch: 4m + 4 times the larger row count
 abbrev pub verifierRoom : Rules → ℕ
-verifierRoom R = 4 * R .m + 4 * max (R .bin .a .rows) (R .fld .a .rows)
+verifierRoom R = 4 * R .m + 4 * max (rowsBin R) (rowsFld R)
 
 -- the prover's scratch: 8q times both row counts, 8m, 4 times the larger row count, and 4q
 abbrev pub proverRoom : Rules → ℕ
 proverRoom R =
-    8 * (R .q * (R .bin .a .rows + R .fld .a .rows)) + 8 * R .m + 4 * max (R .bin .a .rows) (R .fld .a .rows) + 4 * R .q
+    8 * (R .q * (rowsBin R + rowsFld R)) + 8 * R .m + 4 * max (rowsBin R) (rowsFld R) + 4 * R .q
 
 -- ---- the verifier: public words x, proof words w, transcript's counter n, and how many words of claims and of scratch are lent
 abbrev pub verifyTests : Rules → (x w : List ℕ) → (n claims scratch : ℕ) → Tests
 verifyTests R x w n c s =
-    sizeTests (R .m) (R .q) ++ (publicTests (R .m) x ++ (ruleTests R ++ (counterTests n ++ (roomOf (claimWords R) c
+    sizeTests (R .m) (R .q) ++ (publicTests (R .m) x ++ (rulesTests R ++ (counterTests n ++ (roomOf (claimWords R) c
     ++ (roomOf (verifierRoom R) s ++ wordTests (proofWords R) w)))))
 
 -- ---- the prover: packed words ws, public words x, transcript's counter n, and how many words of proof, claims and scratch are lent
 abbrev pub proveTests : Rules → (ws x : List ℕ) → (n proof claims scratch : ℕ) → Tests
 proveTests R ws x n w c s =
-    sizeTests (R .m) (R .q) ++ (packedTests (R .m / 2) (R .q) ws ++ (publicTests (R .m) x ++ (ruleTests R ++ (counterTests n
+    sizeTests (R .m) (R .q) ++ (packedTests (R .m / 2) (R .q) ws ++ (publicTests (R .m) x ++ (rulesTests R ++ (counterTests n
     ++ (roomOf (proofWords R) w ++ (roomOf (claimWords R) c ++ roomOf (proverRoom R) s))))))

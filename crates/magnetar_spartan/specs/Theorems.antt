@@ -9,7 +9,7 @@ use Rattle.magnetar_field.specs.Words.{elements}
 use Rattle.magnetar_hash.specs.declared.transcript.Transcript.{Transcript}
 use Rattle.magnetar_protocol.specs.Run.{ClaimsTrue}
 use Rattle.magnetar_protocol.specs.RunSizes.{EachBelow}
-use Rattle.magnetar_spartan.specs.Rules.{Rules, relationOf}
+use Rattle.magnetar_relation.specs.Rules.{Rules, relationOf}
 use Rattle.magnetar_spartan.specs.Refusals.{claimWords, proofWords}
 use Rattle.magnetar_spartan.specs.Outcome.{batchOf, verifyOutcome, proveOutcome}
 
