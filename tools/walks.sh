@@ -1,12 +1,27 @@
 #!/bin/sh
-# Writes anew the proofs of magnetar_transcript, magnetar_inplace, magnetar_row_records, magnetar_forms, magnetar_records, magnetar_records_prover, magnetar_arrays and magnetar_arrays_prover
-# that tools/thin.py, tools/each.py and tools/count.py write. Run it in the repository's root after a change of a walked function's code or contract, then `rt fmt` and `rt check` of
-# the crate. Nobody has to trust the tools: the checker checks what they write.
+# Writes anew the proofs that tools/thin.py, tools/each.py and tools/count.py write, of all crates that have any or of those named:
+#   tools/walks.sh [--check] [CRATE..]        in the repository's root
+# Run it after a change of a walked function's code or contract, then `rt check` of the crate. With --check nothing is written: it says
+# which of these proofs are not what the tools write, and then fails. Nobody has to trust the tools: the checker checks what they write.
 set -e
-crate() { c=$1; p=crates/$c/proofs; ends=Rattle.$c.proofs; }
-each() { out=$1; shift; python3 tools/each.py $c magnetar_inplace::records::Entry 32 row,col,lo,hi "$@" > $p/$out.new && mv $p/$out.new $p/$out.antt; }
-count() { out=$1; python3 tools/count.py $c magnetar_inplace::records::Entry $3 $2 > $p/$out.new && mv $p/$out.new $p/$out.antt; }
-thin() { f=$1; shift; d=$p/$(echo $f | sed 's/::/\//'); mkdir -p $d; python3 tools/thin.py $c $f "$@" > $d/new && mv $d/new $d/Proof.antt; }
+check=; if [ "$1" = --check ]; then check=yes; shift; fi
+named=" $* "
+new=$(mktemp -d)
+trap 'rm -r "$new"' EXIT
+: > "$new/crates.txt"                # `rt fmt` formats what stands beside it
+# the proofs of this crate, and its MIR, are asked for only where it is named
+crate() {
+  c=$1; p=$new/crates/$c/proofs; ends=Rattle.$c.proofs
+  case "$named" in "  " | *" $c "*) on=yes ;; *) on=; return ;; esac
+  mkdir -p "$p"; rt mir "$c" > "$new/mir" 2> "$new/said" || { cat "$new/said" >&2; exit 1; }
+}
+each() { [ "$on" ] || return 0; out=$1; shift; python3 tools/each.py "$c" magnetar_inplace::records::Entry 32 row,col,lo,hi "$@" > "$p/$out.antt"; }
+count() { [ "$on" ] || return 0; python3 tools/count.py "$c" magnetar_inplace::records::Entry "$3" "$2" > "$p/$1.antt"; }
+thin() {
+  [ "$on" ] || return 0
+  f=$1; shift; d=$p/$(echo "$f" | sed 's/::/\//g'); mkdir -p "$d"
+  MIR=$new/mir python3 tools/thin.py "$c" "$f" "$@" > "$d/Proof.antt"
+}
 # six matrices among the parameters, the first at parameter $1: with their sizes, or their entries alone
 six() { for i in 0 3 6 9 12 15; do echo "n$(($1 + i)) n$(($1 + i + 1)) (s$(($1 + i + 2)) .now)"; done | paste -sd ' ' -; }
 alone() { for i in 0 1 2 3 4 5; do echo "(s$(($1 + i)) .now)"; done | paste -sd ' ' -; }
@@ -135,3 +150,12 @@ three lent::verified 'rw (e2 .0, e2 .1) e1'
 three lent::checked e1
 crate magnetar_arrays_prover
 three prover::proved 'rw (e2 .0, e2 .1) e1'
+
+# ---- what was written, in the layout, takes the place of what stands there, or is compared with it
+(cd "$new" && rt fmt > said)
+bad=
+for f in $(cd "$new" && find crates -name '*.antt' | sort); do
+  cmp -s "$new/$f" "$f" && continue
+  if [ "$check" ]; then echo "$f is not what the tools write"; bad=yes; else mkdir -p "$(dirname "$f")"; cp "$new/$f" "$f"; echo "$f"; fi
+done
+[ -z "$bad" ]
