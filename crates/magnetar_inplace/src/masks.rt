@@ -6,9 +6,9 @@ ghost use Rattle.magnetar_layout.specs.Tests.{noted};
 ghost use Rattle.magnetar_matrix.specs.Packed.{loginPart};
 ghost use Rattle.magnetar_matrix.specs.Sum.{sumBelow};
 ghost use Rattle.magnetar_r1cs.specs.Flips.{flip};
+ghost use Rattle.magnetar_relation.specs.Steps.{clearedWords};
 ghost use Rattle.magnetar_inplace.specs.Records.{entryOf};
 ghost use Rattle.magnetar_inplace.specs.MaskSteps.{maskOf, lastOf, places, flips, flipped, flippedIn, clearedMasks};
-ghost use Rattle.magnetar_inplace.specs.Steps.{clearedWords};
 use crate::logins;
 use crate::records::Entry;
 use magnetar_field::sizes;
@@ -16,6 +16,7 @@ use magnetar_field::words;
 use magnetar_layout::tests;
 use magnetar_matrix::step;
 use magnetar_r1cs::r1cs;
+use magnetar_relation::login;
 
 // 2^(log2 q - v).
 pub(crate) fn lows(q: usize, v: usize) -> usize
@@ -47,7 +48,7 @@ fn flip_of(packed: &[u64], w: usize, u: usize, t: usize, e: Entry) -> u64
         return 0;
     }
     if e.col < w {
-        return step::shifted(logins::login_bit(packed, w, u, e.col), t);
+        return step::shifted(login::login_bit(packed, w, u, e.col), t);
     }
     step::shifted(1, t)
 }
