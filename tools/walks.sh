@@ -39,6 +39,9 @@ packed=$ends.PackedEnds
 masks=$ends.MaskEnds
 ends=$ends.RecordEnds
 value='Rattle.magnetar_field.specs.Gf128.{value}'
+walks=Rattle.magnetar_inplace.proofs.WalkLaws
+words='Rattle.magnetar_field.specs.Words.{elements}'
+entries='Rattle.magnetar_inplace.specs.Records.{entriesOfRecords}'
 
 # the laws for loops over records, by shape
 each EachNNbool NN bool
@@ -46,12 +49,13 @@ each Eachbool "" bool
 each EachNSM NSM
 each EachNNMM NNMM
 each EachNbool N bool
-each EachSSNNNM SSNNNM
 each EachSNNNNM SNNNNM
 each EachNNMGf128 NNM magnetar_field::gf128::Gf128:lo,hi
+each EachVIbool VI@magnetar_relation::shapes::Shapes bool
+each EachNNNNMI NNNNMI
+each EachNNSSNNNMI NNSSNNNMI
 
 # calls in a row
-thin records::all_six
 thin records::is_binary --use "$ends.{binary-ends}" --use 'Rattle.magnetar_r1cs.specs.Entries.{flagged}' \
   --final 'binary-ends n1 n2 (s3 .now) r1 r3 r2 (flagged r4) e1 e2 e3 e4'
 thin records::apply --use "$ends.{apply-done, apply-back}" \
@@ -65,8 +69,11 @@ thin records::sum_at --use "$ends.{sum-some, sum-none}" --use "$value" \
   --final 'sum-none n3 n4 (value r5) (s2 .now) (s5 .now) (s6 .now) ys7 n1 b1 e5'
 thin records::eval_mle_at --use "$ends.{at-ends}" --use "$value" --use 'Rattle.magnetar_multilinear.specs.Entries.{answer}' \
   --final 'at-ends n1 n2 (s3 .now) (s4 .now) (s5 .now) ys6 r1 r3 r2 e1 e2 e3 (ws4 .1 .1 .1 .1 .1 .1 .0) (value r4) (answer r5) e4 e5'
+thin walks::rules_refusal --use "$walks.{rules-ends}" --final 'rules-ends n1 n2 n3 (s4 .now) r1 r2 e1 e2'
+thin walks::write_products --use "$walks.{write-ends}" --use "$words" --use "$entries" \
+  --final 'write-ends n6 n7 n8 n2 n3 (s4 .now) (elements (s5 .now)) (entriesOfRecords (s1 .now)) ys9 (ws1 .1 .1 .1 .0) (ws2 .1 .1 .1 .1 .1 .1 .1 .1 .0) e1 e2'
 thin records::write_packed --use "$packed.{write-some, write-none}" \
-  --final 'write-some (s2 .now) (s3 .now) (s4 .now) ys8 n5 n6 n7 n1 r3 (ws1 .1 .1 .1 .0) (ws2 .1 .1 .1 .1 .1 .1 .0) b1 e1 e2 e3' \
+  --final 'write-some (s2 .now) (s3 .now) (s4 .now) ys8 n5 n6 n7 n1 r2 (ws1 .1 .1 .1 .1 .1 .1 .1 .1 .0) b1 e1 e2' \
   --final 'write-none (s2 .now) (s3 .now) (s4 .now) ys8 n5 n6 n7 n1 false b1 refl'
 thin records::apply_simd_packed --use "$packed.{packed-ends}" --use 'Rattle.magnetar_r1cs.specs.Entries.{flagged}' \
   --final 'packed-ends n1 n2 (s3 .now) (s4 .now) (s5 .now) ys8 n6 n7 r1 r3 r2 e1 e2 e3 (ws4 .1 .1 .1 .1 .1 .1 .1 .0) r4 (flagged r5) e4 e5'

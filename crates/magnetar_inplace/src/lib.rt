@@ -1,4 +1,5 @@
 // Above the core: a matrix, or the matrices of a relation, lent as a slice of entry records.
+mod login;
 pub mod logins;
 mod masks;
 pub mod records;

@@ -198,15 +198,7 @@ pub(crate) fn add_column(m: usize, n: usize, s: &mut [u64], out: &mut [u64], e: 
 }
 
 // Adds a record's value times the element at its row, of the n behind the first m, at its column, where its index i is from a to b.
-pub(crate) fn add_within(
-    m: usize,
-    n: usize,
-    a: usize,
-    b: usize,
-    t: &mut [u64],
-    i: usize,
-    e: Entry,
-)
+pub(crate) fn add_within(m: usize, n: usize, a: usize, b: usize, t: &mut [u64], i: usize, e: Entry)
     ensures { λ _. ⌜ now (t .exit) ≡ cond (leb a i && ltb i b) (columnAdded m n (entryOf e) (now (t .entry))) (now (t .entry)) ⌝ }
 {
     if a <= i {
