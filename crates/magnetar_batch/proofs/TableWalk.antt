@@ -20,11 +20,15 @@ use Rattle.magnetar_matrix.specs.Matrix.{Entry, System, rowTotal, share, swappe
 use Rattle.magnetar_matrix.specs.Batch.{Relation}
 use Rattle.magnetar_matrix.specs.Table.{addedAt, raised}
 use Rattle.magnetar_matrix.proofs.TableLaws.{added-length, raised-length}
+use Rattle.magnetar_relation.specs.declared.shapes.SystemShape.{SystemShape}
+use Rattle.magnetar_relation.specs.declared.shapes.Shapes.{Shapes}
+use Rattle.magnetar_relation.specs.Rules.{matrixAt, entriesIn, systemAt}
 use Rattle.magnetar_relation.specs.Steps.{between, clearedTo, columnAdded}
 use Rattle.magnetar_relation.specs.Told.{walked}
 use Rattle.magnetar_relation.proofs.TableWords.{one-added, raised-none, raised-more, words-length, front-read, zeros-cleared, cleared-words}
 use Rattle.magnetar_relation.proofs.StepLaws.{rest-is, behind-is, cleared-none}
-use Rattle.magnetar_batch.specs.TableSteps.{eqBehind, clearedBehind, pointIn, systemAdded, tableMade}
+use Rattle.magnetar_relation.proofs.RangeLaws.{same-drop, system-cut}
+use Rattle.magnetar_batch.specs.TableSteps.{eqBehind, clearedBehind, pointIn, matrixAdded, systemAdded, tableMade}
 
 -- ---- the steps' parts of the words
 pub eq-behind-some : (m c : ℕ) (p s t : List ℕ) → 2 * m ≤ length s → t ≡ scaledOut p c (take (length s - 2 * m) (drop (2 * m) s))
@@ -200,3 +204,27 @@ table-made R al p r s wp wr h =
     let g₁ = system-held m al 0 p (R .bin) j (replicate m 0) rest (clearedTo m s) wp (omega arith) (held-start m j s h) in
     let g₂ = system-held m al 3 r (R .fld) j _ rest _ wr (omega arith) g₁ in
     held-end m (max n k) _ rest _ g₂
+
+-- ---- the calls in a row
+-- three matrices, from places that were cut where the entries es end
+pub system-added : (m : ℕ) (al : List ℕ) (k : ℕ) (p : List ℕ) (t : SystemShape) (a : ℕ) (es : List Entry) (h b c : ℕ) → h ≡ length es
+    → b ≡ min (a + t .a .entries) h → c ≡ min (b + t .b .entries) h → (s s₁ s₂ s₃ : List ℕ)
+    → s₁ ≡ matrixAdded m (t .a .rows) al k p (matrixAt (t .a) a es) s → s₂ ≡ matrixAdded m (t .a .rows) al (k + 1) p (matrixAt (t .b) b es) s₁
+    → s₃ ≡ matrixAdded m (t .a .rows) al (k + 2) p (matrixAt (t .c) c es) s₂ → s₃ ≡ systemAdded m al k p (systemAt t a es) s
+system-added m al k p t a es h b c eh eb ec s s₁ s₂ s₃ e₁ e₂ e₃ =
+    let d₂ = same-drop b (a + t .a .entries) es (omega (arith, eh, eb)) in
+    let d₃ = same-drop c (a + t .a .entries + t .b .entries) es (omega (arith, eh, eb, ec)) in
+    rw (e₃, e₂, e₁, d₃, d₂)
+
+-- both systems
+pub both-added : (m : ℕ) (sh : Shapes) (es : List Entry) (al p r : List ℕ) (h a : ℕ) → h ≡ length es → a ≡ min (0 + entriesIn (sh .bin)) h
+    → (s s₁ s₂ s₃ s₄ : List ℕ) → s₁ ≡ clearedTo m s → s₂ ≡ systemAdded m al 0 p (systemAt (sh .bin) 0 es) s₁
+    → s₃ ≡ systemAdded m al 3 r (systemAt (sh .fld) a es) s₂ → s₄ ≡ clearedBehind m (max (sh .bin .a .rows) (sh .fld .a .rows)) s₃
+    → s₄ ≡ clearedBehind m (max (sh .bin .a .rows) (sh .fld .a .rows))
+    (systemAdded m al 3 r (systemAt (sh .fld) (entriesIn (sh .bin)) es) (systemAdded m al 0 p (systemAt (sh .bin) 0 es) (clearedTo m s)))
+both-added m sh es al p r h a eh ea s s₁ s₂ s₃ s₄ e₁ e₂ e₃ e₄ =
+    let j = max (sh .bin .a .rows) (sh .fld .a .rows) in
+    let f = systemAt (sh .fld) (entriesIn (sh .bin)) es in
+    let b = systemAt (sh .bin) 0 es in
+    let c : systemAt (sh .fld) a es ≡ f = system-cut (sh .fld) (entriesIn (sh .bin)) a es (omega (arith, eh, ea)) in
+    e₄ ∙ ap (clearedBehind m j) (e₃ ∙ (ap (λ (t : System). systemAdded m al 3 r t s₂) c ∙ ap (systemAdded m al 3 r f) (e₂ ∙ ap (systemAdded m al 0 p b) e₁)))
