@@ -81,38 +81,43 @@ thin records::apply_simd_bit_masks --use "$masks.{masks-done, masks-back}" \
   --final 'masks-done n1 n2 (s3 .now) (s4 .now) ys8 n5 n6 n7 r1 r2 r4 r3 r5 r6 e1 e2 e3 e4 e5 e6 (ws7 .1 .1 .1 .0) (ws8 .1 .1 .1 .1 .1 .1 .0) b1 e7 e8' \
   --final 'masks-back n1 n2 (s3 .now) (s4 .now) ys8 n5 n6 n7 r1 r2 r4 r3 r5 r6 e1 e2 e3 e4 e5 e6 b1'
 
+# magnetar_batch: the row check and the combined table over records
+crate magnetar_batch
+entries='Rattle.magnetar_inplace.specs.Records.{entriesOfRecords}'
+walks=Rattle.magnetar_inplace.proofs.WalkLaws
+
 # the row check
 failing=magnetar_batch::check::Failing
-check=Rattle.magnetar_inplace.proofs.CheckWalk
+check=$ends.CheckWalk
 zs='Rattle.magnetar_relation.specs.Steps.{loginZ}'
 in='Rattle.magnetar_inplace.specs.Ranges.{systemIn}'
-core=Rattle.magnetar_batch.proofs
+core=$ends
 over='Rattle.magnetar_relation.specs.Rules.{rulesOver}'
 long="$walks.{records-length}"
 each EachMNNNNNNSSI MNNNNNNSSI
 count CountANIMQNNNNNNSSE ANIMQNNNNNNSSE $failing
-thin check::product --use "$check.{product-ends}" --use "$entries" --use "$words" --use "$zs" \
+thin check_records::product --use "$check.{product-ends}" --use "$entries" --use "$words" --use "$zs" \
   --final 'product-ends n3 n4 (loginZ n6 (s9 .now) (elements (s10 .now)) n5) n7 n8 (entriesOfRecords (s1 .now)) ys2 (ws1 .0) (ws2 .1 .0) e1 e2'
-thin check::check_login --use "$core.RowWalk.{login-ends}" --use "$entries" --use "$words" --use "$zs" --use "$in" \
+thin check_records::check_login --use "$core.RowWalk.{login-ends}" --use "$entries" --use "$words" --use "$zs" --use "$in" \
   --final 'login-ends n1 n2 n3 (loginZ n10 (s11 .now) (elements (s12 .now)) n3) (systemIn n5 n6 n7 n8 n9 (entriesOfRecords (s13 .now))) ys4 (ws2 .1 .0) (ws3 .1 .0) (ws4 .1 .0) (ws5 .1 .1 .1 .0) r5 r1 e1 e2 e3 e4 e5'
-thin check::login_unless --use "$core.RowWalk.{unless-some, unless-none}" --use "$entries" --use "$words" --use "$zs" --use "$in" \
+thin check_records::login_unless --use "$core.RowWalk.{unless-some, unless-none}" --use "$entries" --use "$words" --use "$zs" --use "$in" \
   --final 'unless-some n2 (loginZ n10 (s11 .now) (elements (s12 .now)) n3) (systemIn n5 n6 n7 n8 n9 (entriesOfRecords (s13 .now))) n3 n1 r2 ys4 (ws2 .1 .1 .1 .0) (sym e1 ∙ b1) e2' \
   --final 'unless-none n2 (loginZ n10 (s11 .now) (elements (s12 .now)) n3) (systemIn n5 n6 n7 n8 n9 (entriesOfRecords (s13 .now))) n3 n1 ys4 (sym e1 ∙ b1)'
-thin check::judge --use "$check.{judge-ends}" --use "$entries" --use "$words" --use "$long" \
+thin check_records::judge --use "$check.{judge-ends}" --use "$entries" --use "$words" --use "$long" \
   --final 'judge-ends n3 n4 n5 (entriesOfRecords (s6 .now)) _ (records-length (s6 .now)) n7 (s8 .now) (elements (s9 .now)) ys2 (ws4 .1 .1 .0) (ws5 .1 .1 .0) (ws6 .1 .0) r1 e1 r3 r4 r5 e3 n1 r2 e2 e4 e5 e6'
-thin check::row_check --use "$core.CheckEnds.{check-by, check-ends}" --use "$entries" --use "$over" --use 'Rattle.magnetar_batch.specs.Check.{outcome}' --use 'mathlib.Core.List.{[]}' \
+thin check_records::row_check --use "$core.CheckEnds.{check-by, check-ends}" --use "$entries" --use "$over" --use 'Rattle.magnetar_batch.specs.Check.{outcome}' --use 'mathlib.Core.List.{[]}' \
   --final 'let R = rulesOver n2 n3 [] n4 (entriesOfRecords (s5 .now)) in check-ends R (s6 .now) (s7 .now) ys1 r2 (check-by R (s6 .now) (s7 .now) _ r1 r2 e1 e2) r3 e3 r4 (ws4 .1 .0) (outcome r5) e4 e5'
 
 # the combined table
-combo=Rattle.magnetar_inplace.proofs.ComboWalk
-thin combo::add_matrix --use "$combo.{matrix-ends}" --use "$entries" \
+combo=$ends.ComboWalk
+thin combo_records::add_matrix --use "$combo.{matrix-ends}" --use "$entries" \
   --final 'matrix-ends n3 n4 n5 n6 n7 n8 n9 (entriesOfRecords (s1 .now)) ys2 (ws1 .0) (ws2 .1 .1 .1 .1 .1 .0) e1 e2'
-thin combo::add_system --final 'rw (e3, e2, e1)'
-thin combo::combine --use "$combo.{combine-ends}" --use "$entries" --use "$long" \
+thin combo_records::add_system --final 'rw (e3, e2, e1)'
+thin combo_records::combine --use "$combo.{combine-ends}" --use "$entries" --use "$long" \
   --final 'combine-ends n2 n3 (entriesOfRecords (s7 .now)) _ (records-length (s7 .now)) n4 n5 n6 ys1 (ws2 .1 .0) (ws3 .1 .0) (ws4 .1 .0) (ws5 .0) r1 e1 e2 e3 e4 e5'
-thin combo::fill --final '(cc, cc)'
-thin combo::fill_unless --final '(refl, rw (← e1, b1) (e2 .0), rw (← e1, b1) (e2 .1))' --final '(refl, rw (← e1, b1) refl, rw (← e1, b1) refl)'
-thin combo::build_m_combo --use "$core.ComboEnds.{combo-by, combo-ends}" --use "$entries" --use "$over" --use 'mathlib.Core.List.{[]}' \
+thin combo_records::fill --final '(cc, cc)'
+thin combo_records::fill_unless --final '(refl, rw (← e1, b1) (e2 .0), rw (← e1, b1) (e2 .1))' --final '(refl, rw (← e1, b1) refl, rw (← e1, b1) refl)'
+thin combo_records::build_m_combo --use "$core.ComboEnds.{combo-by, combo-ends}" --use "$entries" --use "$over" --use 'mathlib.Core.List.{[]}' \
   --final 'let R = rulesOver n3 1 [] n4 (entriesOfRecords (s5 .now)) in combo-ends R (s6 .now) (s7 .now) (s8 .now) ys1 ys2 r2 (combo-by R (s6 .now) (s7 .now) (s8 .now) _ _ r1 r2 e1 e2) r3 (ws3 .1 .0) (ws3 .1 .1 .0) e3'
 
 # magnetar_forms: locals lent to the thin functions

@@ -9,3 +9,7 @@ pub mod ComboEnds
 pub mod RowWalk
 pub mod SystemWalk
 pub mod CheckEnds
+pub mod CheckWalk
+pub mod ComboWalk
+pub mod EachMNNNNNNSSI
+pub mod CountANIMQNNNNNNSSE

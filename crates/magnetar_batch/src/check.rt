@@ -12,6 +12,7 @@ use magnetar_relation::shapes::Shapes;
 use magnetar_relation::shapes::SystemShape;
 use magnetar_relation::step;
 ghost use mathlib.Core.Path.{_≡_};
+ghost use mathlib.Core.Bool.{cond};
 ghost use mathlib.Core.List.{[]};
 ghost use Prim.Native.Nat.{_*_, _/_, max};
 ghost use lib.Dec.{eqb};
@@ -43,14 +44,14 @@ pub struct Failing {
 }
 
 // Twice n, which is at most 65536.
-pub fn twice(n: usize) -> usize
+pub(crate) fn twice(n: usize) -> usize
     ensures { λ r. ⌜ r ≡ twiceOf n ⌝ }
 {
     2 * sizes::least(n, 65536)
 }
 
 // Half of m.
-pub fn half(m: usize) -> usize
+pub(crate) fn half(m: usize) -> usize
     ensures { λ r. ⌜ r ≡ m / 2 ⌝ }
 {
     m / 2
@@ -87,7 +88,7 @@ fn add_share_of(
 }
 
 // The same of login u.
-pub fn add_share(
+pub(crate) fn add_share(
     s: &mut [u64],
     m: usize,
     n: usize,
@@ -108,7 +109,7 @@ pub fn add_share(
 }
 
 // Clears n elements behind the first m, where there are as many.
-pub fn clear_behind(s: &mut [u64], m: usize, n: usize)
+pub(crate) fn clear_behind(s: &mut [u64], m: usize, n: usize)
     ensures { λ _. ⌜ now (s .exit) ≡ behind m (clearedTo n) (now (s .entry)) ⌝ }
 {
     if m <= s.len() / 2 {
@@ -118,7 +119,7 @@ pub fn clear_behind(s: &mut [u64], m: usize, n: usize)
 }
 
 // Clears three products of the larger row count, where there are as many.
-pub fn clear_room(s: &mut [u64], nb: usize, nf: usize)
+pub(crate) fn clear_room(s: &mut [u64], nb: usize, nf: usize)
     ensures { λ _. ⌜ now (s .exit) ≡ clearedTo (3 * max nb nf) (now (s .entry)) ⌝ }
 {
     let k = sizes::larger(nb, nf);
@@ -139,7 +140,7 @@ fn first_row(s: &[u64], n: usize) -> usize
 }
 
 // Nothing was found.
-pub fn none() -> Failing
+pub(crate) fn none() -> Failing
     ensures { λ r. ⌜ r ≡ nothing ⌝ }
 {
     Failing {
@@ -150,14 +151,14 @@ pub fn none() -> Failing
 }
 
 // Nothing was found yet.
-pub fn is_nothing(r: Failing) -> bool
+pub(crate) fn is_nothing(r: Failing) -> bool
     ensures { λ b. ⌜ b ≡ eqb (r .system) 0 ⌝ }
 {
     r.system == 0
 }
 
 // The first row of system k that does not hold for login u, or r.
-pub fn first_bad(r: Failing, k: usize, u: usize, s: &mut [u64], n: usize) -> Failing
+pub(crate) fn first_bad(r: Failing, k: usize, u: usize, s: &mut [u64], n: usize) -> Failing
     ensures { λ a. ⌜ (a ≡ failingIn r k u n (now (s .entry))) × (now (s .exit) ≡ now (s .entry)) ⌝ }
 {
     let i = first_row(s, n);
@@ -172,7 +173,7 @@ pub fn first_bad(r: Failing, k: usize, u: usize, s: &mut [u64], n: usize) -> Fai
 }
 
 // What was found, unless n is a refusal.
-pub fn answer(n: u32, r: Failing) -> RowCheck
+pub(crate) fn answer(n: u32, r: Failing) -> RowCheck
     ensures { λ a. ⌜ outcome a ≡ answerOf n r ⌝ }
 {
     if n != 0 {
@@ -188,7 +189,7 @@ pub fn answer(n: u32, r: Failing) -> RowCheck
 }
 
 // 1, 2 and 3; z, the number that 4 to 7 gave; 15: words of scratch.
-pub fn refusal(
+pub(crate) fn refusal(
     z: u32,
     m: usize,
     q: usize,
@@ -396,4 +397,23 @@ pub fn row_check(
     }
     let r = judge(scratch, q, half(m), sh, row, col, lo, hi, packed, x);
     answer(0, r)
+}
+
+// The number of logins; 0 where n is a refusal.
+pub(crate) fn logins_unless(n: u32, q: usize) -> usize
+    ensures { λ r. ⌜ r ≡ cond (eqb n 0) q 0 ⌝ }
+{
+    if n != 0 {
+        return 0;
+    }
+    q
+}
+
+// Clears three products of the larger row count, unless n is a refusal.
+pub(crate) fn clear_unless(n: u32, s: &mut [u64], nb: usize, nf: usize)
+    ensures { λ _. ⌜ now (s .exit) ≡ cond (eqb n 0) (clearedTo (3 * max nb nf) (now (s .entry))) (now (s .entry)) ⌝ }
+{
+    if n == 0 {
+        clear_room(s, nb, nf);
+    }
 }

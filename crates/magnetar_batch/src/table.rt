@@ -15,7 +15,7 @@ ghost use Rattle.magnetar_batch.specs.Entries.{comboTestsBy};
 ghost use Rattle.magnetar_batch.specs.TableSteps.{eqBehind, clearedBehind, padded, pointIn};
 
 // Puts alpha k times the eq table of the row point p, for n rows, behind the first m elements.
-pub fn eq_behind(s: &mut [u64], m: usize, n: usize, al: [u64; 12], k: usize, p: [u64; 32])
+pub(crate) fn eq_behind(s: &mut [u64], m: usize, n: usize, al: [u64; 12], k: usize, p: [u64; 32])
     ensures { λ _. ⌜ now (s .exit) ≡ eqBehind m (getD (elements al) k 0) (pointIn n p) (now (s .entry)) ⌝ }
 {
     let c = words::get(&al, k);
@@ -27,7 +27,7 @@ pub fn eq_behind(s: &mut [u64], m: usize, n: usize, al: [u64; 12], k: usize, p: 
 }
 
 // Clears as many elements behind the first m as the larger row count.
-pub fn clear_behind(s: &mut [u64], m: usize, nb: usize, nf: usize)
+pub(crate) fn clear_behind(s: &mut [u64], m: usize, nb: usize, nf: usize)
     ensures { λ _. ⌜ now (s .exit) ≡ clearedBehind m (max nb nf) (now (s .entry)) ⌝ }
 {
     let k = sizes::larger(nb, nf);
@@ -60,7 +60,7 @@ pub fn point32(p: &[u64]) -> [u64; 32]
 }
 
 // Moves the first m elements of s to out, and leaves 0 in their place.
-pub fn move_table(m: usize, s: &mut [u64], out: &mut [u64])
+pub(crate) fn move_table(m: usize, s: &mut [u64], out: &mut [u64])
     ensures { λ _. ⌜ (now (out .exit) ≡ overlaid (take (2 * m) (now (s .entry))) (now (out .entry))) × (now (s .exit) ≡ clearedTo m (now (s .entry))) ⌝ }
 {
     if m <= s.len() / 2 {
@@ -84,7 +84,7 @@ fn is_over(m: usize, k: usize, room: usize) -> bool
 }
 
 // 1; z, the number that 4 to 7 gave; 11: words of the alphas and of the points; 15: words of scratch and of output.
-pub fn refusal(
+pub(crate) fn refusal(
     z: u32,
     m: usize,
     nb: usize,

@@ -6,8 +6,6 @@ pub mod MaskLaws
 pub mod MaskEnds
 pub mod WalkLaws
 pub mod RangeLaws
-pub mod CheckWalk
-pub mod ComboWalk
 pub mod EachNNbool
 pub mod Eachbool
 pub mod EachNSM
@@ -18,5 +16,3 @@ pub mod EachSNNNNM
 pub mod EachVIbool
 pub mod EachNNNNMI
 pub mod EachNNSSNNNMI
-pub mod EachMNNNNNNSSI
-pub mod CountANIMQNNNNNNSSE
