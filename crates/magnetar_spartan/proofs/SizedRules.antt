@@ -67,19 +67,26 @@ fits m ns z c = record {
 }
 
 -- every test of the rules has a number
-pub rules-numbered : (R : Rules) (rest : Tests) → numbered rest ≡ true → numbered (rulesTests R ++ rest) ≡ true
+pub rule-numbered : (R : Rules) → numbered (ruleTests R) ≡ true
 unfolding ruleTestsBy
-rules-numbered R rest h =
-    numbered-join (rulesTests R) rest (numbered-join (ruleTests R) (layoutTests (R .m / 2) (R .lengths))
-    (numbered-join (numberTests (total (R .shapes)) (R .numbers)) _ (each (total (R .shapes)) (R .numbers)) refl) refl) h
+rule-numbered R = numbered-join (numberTests (total (R .shapes)) (R .numbers)) _ (each (total (R .shapes)) (R .numbers)) refl
   where
     each : (n : ℕ) (ks : List ℕ) → numbered (numberTests n ks) ≡ true
     each n [] = refl
     each n (k ∷ ks) = each n ks
 
-pub ready : (R : Rules) → Clear (sizeTests (R .m) (R .q)) → Clear (ruleTests R) → Clear (layoutTests (R .m / 2) (R .lengths)) → Ready R
+pub rules-numbered : (R : Rules) (rest : Tests) → numbered rest ≡ true → numbered (rulesTests R ++ rest) ≡ true
+rules-numbered R rest h =
+    numbered-join (rulesTests R) rest (numbered-join (ruleTests R) (layoutTests (R .m / 2) (R .lengths)) (rule-numbered R) refl) h
+
+-- both systems
+pub record Systems (R : Rules) : Type 0 where
+  pub bin : SizedSystem (R .m) (R .q) (relationOf R .bin)
+  pub fld : SizedSystem (R .m) (R .q) (relationOf R .fld)
+
+pub systems : (R : Rules) → Clear (ruleTests R) → Systems R
 unfolding ruleTestsBy inRelation
-ready R a b c =
+systems R b =
     let B = R .shapes .bin in
     let F = R .shapes .fld in
     let r = relationOf R in
@@ -98,12 +105,19 @@ ready R a b c =
     let c₀ = clear-back numbers inside (clear-back (mostTests F) (numbers ++ inside) c₁) in
     let i = both (inSystem (r .bin)) (inSystem (r .fld)) (not-false _ (c₀ .0)) in
     record {
-      columns = not-bad (a .0);
-      logins = not-bad (a .1 .0);
       bin = sized-system (R .m) (R .q) 0 B (R .entries) (clear-front (rowTests (R .q) B) p₅ b) (clear-front (colTests (R .m) B) p₃ c₄)
           (clear-front (mostTests B) p₁ c₂) (i .0);
       fld = sized-system (R .m) (R .q) (entriesIn B) F (R .entries) (clear-front (rowTests (R .q) F) p₄ c₅) (clear-front (colTests (R .m) F) p₂ c₃)
           (clear-front (mostTests F) (numbers ++ inside) c₁) (i .1);
+    }
+
+pub ready : (R : Rules) → Clear (sizeTests (R .m) (R .q)) → Clear (ruleTests R) → Clear (layoutTests (R .m / 2) (R .lengths)) → Ready R
+ready R a b c =
+    let s = systems R b in record {
+      columns = not-bad (a .0);
+      logins = not-bad (a .1 .0);
+      bin = s .bin;
+      fld = s .fld;
       layout = fits (R .m) (R .lengths) (not-bad (a .0)) c;
       segments = ltb-false 64 (length (R .lengths)) (c .1 .1 .0);
     }

@@ -3,5 +3,5 @@ mod combine;
 mod inner;
 mod products;
 mod proving;
-pub mod refusal;
+mod refusal;
 pub mod virtual_spartan;
