@@ -2,6 +2,8 @@ pub mod Chains
 pub mod Fine
 pub mod SizedRules
 pub mod ByNumbers
+pub mod StageLaws
+pub mod Room
 pub mod Verifying
 pub mod Combining
 pub mod ProductTables
@@ -10,5 +12,6 @@ pub mod LaterRun
 pub mod Joining
 pub mod ProveRun
 pub mod Ended
+pub mod VerifyEnds
 pub mod Sound
 pub mod Complete

@@ -2,5 +2,6 @@ pub mod Refusals
 pub mod Numbers
 pub mod Ready
 pub mod Outcome
+pub mod Stages
 pub mod Theorems
 pub mod Later

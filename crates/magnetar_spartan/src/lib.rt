@@ -4,4 +4,5 @@ mod inner;
 mod products;
 mod proving;
 mod refusal;
+mod stages;
 pub mod virtual_spartan;
