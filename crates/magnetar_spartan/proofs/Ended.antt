@@ -54,20 +54,21 @@ verifiable R x w n c s e =
       proof = eqb-true (length w) (proofWords R) (not-false _ (b .1 .1 .1 .0));
     }
 
+-- at most 4096 logins have at most 12 variables
+pub log-few : {n : ℕ} → Sized 1 4096 n → log₂ n ≤ 12
+log-few {n} z = below (log₂ n) (rw (← z .power) (z .high))
+  where
+    below : (k : ℕ) → 2 ^ k ≤ 4096 → k ≤ 12
+    below k h = let b : k < 13 = lt-of-not-le (λ l. omega (arith, h, pow-mono {i = 13} {j = k} l)) in omega arith
+
 -- as many draws as fit the room for them
 pub draws-small : (R : Rules) → Ready R → 2 * drawCount (outlineOf R) ≤ 256
 draws-small R P =
-    let q = log₂-small (R .q) (P .logins) in
+    let q = log-few (P .logins) in
     let m = log-most (R .m) (P .columns .high) (P .columns .power) in
     let b = log-most (rowsBin R) (P .bin .rows .high) (P .bin .rows .power) in
     let f = log-most (rowsFld R) (P .fld .rows .high) (P .fld .rows .power) in
     omega (arith, q, m, b, f)
-  where
-    log₂-small : (n : ℕ) → Sized 1 4096 n → log₂ n ≤ 12
-    log₂-small n z = below (log₂ n) (rw (← z .power) (z .high))
-      where
-        below : (k : ℕ) → 2 ^ k ≤ 4096 → k ≤ 12
-        below k h = let b : k < 13 = lt-of-not-le (λ l. omega (arith, h, pow-mono {i = 13} {j = k} l)) in omega arith
 
 -- ---- parts that were lent come back
 pub most : {a b c : ℕ} → a ≡ b → b ≤ c → a ≤ c

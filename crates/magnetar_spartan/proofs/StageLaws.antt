@@ -2,18 +2,20 @@
 -- Assumes nothing.
 use mathlib.Core.Path.{_≡_, ap, _∙_}
 use mathlib.Core.List.{List}
-use Prim.Native.Nat.{ℕ, _-_, _*_, min}
+use Prim.Native.Nat.{ℕ, _+_, _-_, _*_, min}
 use native.Mathlib.Omega.{arith}
-use lib.ListN.{take}
+use lib.ListN.{take, drop}
 use borrow.Author.Tests.{ne-eqb, eq-eqb}
 use Rattle.magnetar_hash.specs.declared.transcript.Transcript.{Transcript}
 use Rattle.magnetar_hash.specs.declared.transcript.TranscriptAnswer.{TranscriptAnswer}
 use Rattle.magnetar_matrix.specs.Batch.{Relation}
 use Rattle.magnetar_protocol.specs.declared.first.Found.{Found}
 use Rattle.magnetar_protocol.specs.Draws.{drawCount}
+use Rattle.magnetar_batch.specs.TableSteps.{padded}
 use Rattle.magnetar_relation.specs.Steps.{clearedTo}
 use Rattle.magnetar_spartan.specs.declared.stages.Begun.{Begun}
 use Rattle.magnetar_spartan.specs.Outcome.{verified}
+use Rattle.magnetar_spartan.specs.Table.{window}
 use Rattle.magnetar_spartan.specs.Stages.{drawnWords, playedTo, drawnOf, outerAt, endAt, endRoomAt, claimsAt, begun, firstOf, stoppedAt, checkedAt, roomElements, cleared, finished}
 
 -- a part of the words
@@ -63,3 +65,9 @@ pub finish-is : (o : Relation) (x w : List ℕ) (t : Transcript) (g : Begun) (c 
     → verified a c′ s′ ≡ checkedAt o x w (drawnOf o (g .draws)) t (g .ended) (g .found) c s → s″ ≡ clearedTo (roomElements o) s′
     → verified a c′ s″ ≡ finished o x w t g c s
 finish-is o x w t g c s a c′ s′ s″ e h = rw h (ap (cleared o) e)
+
+-- ---- words out of the draws
+pub window-is : (n k a : ℕ) (d r : List ℕ) → a ≡ min k (256 - n) → r ≡ padded n (take (a + n - a) (drop a d)) → r ≡ window n k d
+window-is n k a d r h e =
+    let w : a + n - a ≡ n = omega arith in
+    e ∙ rw (w, h)

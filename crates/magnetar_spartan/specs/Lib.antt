@@ -3,5 +3,6 @@ pub mod Numbers
 pub mod Ready
 pub mod Outcome
 pub mod Stages
+pub mod Table
 pub mod Theorems
 pub mod Later
