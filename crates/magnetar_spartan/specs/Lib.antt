@@ -2,7 +2,7 @@ pub mod Refusals
 pub mod Numbers
 pub mod Ready
 pub mod Outcome
-pub mod Stages
 pub mod Table
+pub mod Stages
 pub mod Theorems
 pub mod Later
