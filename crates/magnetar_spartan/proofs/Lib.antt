@@ -3,11 +3,8 @@ pub mod Fine
 pub mod SizedRules
 pub mod Verifying
 pub mod Combining
-pub mod ProductTables
 pub mod VerifyRun
-pub mod LaterRun
-pub mod Joining
-pub mod ProveRun
 pub mod Ended
 pub mod Sound
 pub mod Complete
+pub mod LaterLaws

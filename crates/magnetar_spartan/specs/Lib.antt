@@ -2,4 +2,4 @@ pub mod Refusals
 pub mod Ready
 pub mod Outcome
 pub mod Theorems
-pub mod Later
+pub mod Proving

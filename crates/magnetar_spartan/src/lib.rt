@@ -1,7 +1,4 @@
 // Virtual Spartan: the refusals of both ends, the prover and the verifier of a batch.
 mod combine;
-mod inner;
-mod products;
-mod proving;
 pub mod refusal;
 pub mod virtual_spartan;
