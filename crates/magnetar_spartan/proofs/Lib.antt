@@ -1,6 +1,7 @@
 pub mod Chains
 pub mod Fine
 pub mod SizedRules
+pub mod ByNumbers
 pub mod Verifying
 pub mod Combining
 pub mod VerifyRun

@@ -1,4 +1,5 @@
 pub mod Refusals
+pub mod Numbers
 pub mod Ready
 pub mod Outcome
 pub mod Theorems

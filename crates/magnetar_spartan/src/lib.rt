@@ -1,4 +1,4 @@
 // Virtual Spartan: the refusals of both ends, the prover and the verifier of a batch.
 mod combine;
-pub mod refusal;
+mod refusal;
 pub mod virtual_spartan;
