@@ -3,8 +3,6 @@
 use mathlib.Core.Path.{_≡_, refl, sym, ap, ap₂, _∙_, subst}
 use mathlib.Core.List.{List, _++_, reverse, append-assoc}
 use Prim.Native.Nat.{ℕ, _+_, _-_, _*_, _/_, _^_, _≤_, _<_, min}
-use lib.Pow.{pow-mono}
-use native.Mathlib.Nat.{lt-of-not-le}
 use native.Mathlib.Omega.{arith}
 use lib.ListN.{length, getD, take, drop, replicate, length-append, length-drop, length-replicate}
 use lib.Seq.{take-at, drop-at, take-all, drop-append-add, drop-drop, length-take-le}
@@ -19,7 +17,8 @@ use Rattle.magnetar_field.proofs.Tabulation.{tabulate-of, tabulate-length}
 use Rattle.magnetar_hash.specs.declared.transcript.Transcript.{Transcript}
 use Rattle.magnetar_hash.specs.declared.transcript.TranscriptAnswer.{TranscriptAnswer}
 use Rattle.magnetar_layout.specs.Login.{loginWords}
-use Rattle.magnetar_layout.specs.Tests.{sizeTests, packedTests, columnTests, publicTests, layoutTests, lengthTest, roomTest, Sized}
+use Rattle.magnetar_layout.specs.Tests.{Tests, sizeTests, packedTests, columnTests, publicTests, layoutTests, lengthTest, roomTest, Sized}
+use Rattle.magnetar_layout.proofs.Noted.{Clear}
 use Rattle.magnetar_matrix.specs.Batch.{Relation, Batch, folded, foldedAt}
 use Rattle.magnetar_matrix.specs.Packed.{unpacked}
 use Rattle.magnetar_matrix.proofs.TableLaws.{elements-words}
@@ -45,6 +44,8 @@ use Rattle.magnetar_spartan.specs.Refusals.{outlineOf, rowsBin, rowsFld,
 use Rattle.magnetar_spartan.specs.Ready.{Ready, FoldReady}
 use Rattle.magnetar_spartan.specs.Proving.{RunReady, FoldLeft, loginAt, saidBefore, drawnBefore, saidAll, drawnAll, EndLeft, laterPlayed}
 use Rattle.magnetar_spartan.proofs.Fine.{noted-none, size-fine, same-fine, most-fine, true-fine}
+use Rattle.magnetar_spartan.proofs.SizedRules.{sizes-fine, layout-fine}
+use Rattle.magnetar_spartan.proofs.Ended.{draws-small}
 
 -- ---- words behind a front
 -- the words from k on, where the first n are others
@@ -138,31 +139,14 @@ module _ (q w n k : ℕ) (ws d s p u : List ℕ) (lp : length p ≡ 2 * n)
     rest-is,
   )
 
-pub log-few : {n : ℕ} → Sized 1 4096 n → log₂ n ≤ 12
-log-few {n} z = below (log₂ n) (rw (← z .power) (z .high))
-  where
-    below : (k : ℕ) → 2 ^ k ≤ 4096 → k ≤ 12
-    below k h = let b : k < 13 = lt-of-not-le (λ l. omega (arith, h, pow-mono {i = 13} {j = k} l)) in omega arith
-
 -- at the point of the logins
 pub fold-left : (q w l n k K : ℕ) (ws d s s′ : List ℕ) → l ≡ log₂ q → n ≡ min l 16 → k ≡ K
     → (FoldReady q w n k (length ws) (length d) (length s) → FoldLeft q w n k ws d s s′)
     → FoldReady q w (log₂ q) K (length ws) (length d) (length s) → FoldLeft q w (log₂ q) K ws d s s′
 fold-left q w l n k K ws d s s′ el en ek h F =
-    let e : n ≡ log₂ q = omega (arith, el, en, log-few (F .logins)) in
+    let few = log-most q (omega (arith, F .logins .high)) (F .logins .power) in
+    let e : n ≡ log₂ q = omega (arith, el, en, few) in
     (rw (e, ek) at h) F
-
--- ---- what the rules leave
-module _ (R : Rules) (P : Ready R) where
-  pub draws-small : 2 * drawCount (outlineOf R) ≤ 256
-  draws-small =
-      let m = log-most (R .m) (P .columns .high) (P .columns .power) in
-      let b = log-most (rowsBin R) (P .bin .rows .high) (P .bin .rows .power) in
-      let f = log-most (rowsFld R) (P .fld .rows .high) (P .fld .rows .power) in
-      omega (arith, log-few (P .logins), m, b, f)
-
-  even : 2 * (R .m / 2) ≡ R .m
-  even = even-size (R .m) (P .columns)
 
 -- ---- the inner rounds and the claims
 module _ (r : Relation) (c f x : List ℕ) (t : Transcript) where
@@ -197,22 +181,19 @@ module _ (R : Rules) (ws : ℕ) (x w d c s : List ℕ) (t : Transcript)
   inner-none : (W D : List ℕ) → 2 * log₂ m ≤ length D → 2 * (3 * log₂ m + 1 + length ns) ≤ length W → innerRoundsRefusal m ns x W D s t ≡ 0
   unfolding innerRoundsRefusal
   inner-none W D hd hw =
-      let P = ok .ready in
-      noted-none (columnTests m ++ publicTests m x ++ layoutTests (m / 2) ns
-      ++ (counterTest t ++ (roomTest (2 * log₂ m) D ++ roomTest (2 * (3 * log₂ m + 1 + length ns)) W ++ roomTest (6 * m) s)))
-      (size-fine 2 65536 m (P .columns), (same-fine (length x) (m - 2) (ok .public), (true-fine _ (P .layout .lengths), (most-fine _ _ (P .layout .ends),
-      (most-fine 64 (length ns) (P .segments), (true-fine _ (lt-ltb (t .«squeeze_ctr») (2 ^ 32) (ok .counter)), (most-fine (length D) (2 * log₂ m) hd,
-      (most-fine (length W) _ hw, (most-fine (length s) (6 * m) (omega (arith, ok .scratch)), tt)))))))))
+      let rooms : Tests = counterTest t ++ (roomTest (2 * log₂ m) D ++ roomTest (2 * (3 * log₂ m + 1 + length ns)) W ++ roomTest (6 * m) s) in
+      let enough : Clear rooms = (true-fine _ (lt-ltb (t .«squeeze_ctr») (2 ^ 32) (ok .counter)), (most-fine (length D) (2 * log₂ m) hd,
+      (most-fine (length W) _ hw, (most-fine (length s) (6 * m) (omega (arith, ok .scratch)), tt)))) in
+      noted-none (columnTests m ++ publicTests m x ++ layoutTests (m / 2) ns ++ rooms)
+      (size-fine 2 65536 m (ok .ready .columns), (same-fine (length x) (m - 2) (ok .public), layout-fine R (ok .ready) rooms enough))
 
   claims-none : (W D : List ℕ) → length W ≡ proofWords R → length D ≡ 2 * drawCount o
       → claimsRefusal m (R .q) (rowsBin R) (rowsFld R) ns W D c ≡ 0
   unfolding claimsRefusal
   claims-none W D hw hd =
-      let P = ok .ready in
-      noted-none (runTests m (R .q) (rowsBin R) (rowsFld R) ++ (segmentTests ns ++ (drawTests o D ++ (roomTest (2 * claimCount o) c ++ proofTests o W))))
-      (size-fine 2 65536 m (P .columns), (size-fine 1 4096 (R .q) (P .logins), (size-fine 1 65536 (rowsBin R) (P .bin .rows), (most-fine 1048576 _ (P .bin .total),
-      (size-fine 1 65536 (rowsFld R) (P .fld .rows), (most-fine 1048576 _ (P .fld .total), (most-fine 64 (length ns) (P .segments),
-      (same-fine (length D) (2 * drawCount o) hd, (most-fine (length c) (2 * claimCount o) (ok .claims), (same-fine (length W) (2 * proofElements o) hw, tt))))))))))
+      let tests : Tests = segmentTests ns ++ (drawTests o D ++ (roomTest (2 * claimCount o) c ++ proofTests o W)) in
+      noted-none (runTests m (R .q) (rowsBin R) (rowsFld R) ++ tests) (sizes-fine R (ok .ready) tests (most-fine 64 (length ns) (ok .ready .segments),
+      (same-fine (length D) (2 * drawCount o) hd, (most-fine (length c) (2 * claimCount o) (ok .claims), (same-fine (length W) (2 * proofElements o) hw, tt)))))
 
   said-room : saidBefore R + 2 * (3 * log₂ m + 1 + length ns) ≤ length w
   said-room = omega (arith, ok .proof)
@@ -304,7 +285,7 @@ module _ (R : Rules) (ws x w d c s : List ℕ) (t : Transcript)
   k = loginAt (R .q) (rowsBin R) (rowsFld R)
 
   two : 2 * (R .m / 2) ≡ R .m
-  two = even R (ok .ready)
+  two = even-size (R .m) (ok .ready .columns)
 
   four : 4 * (R .m / 2) ≡ 2 * R .m
   four = omega (arith, two)

@@ -4,3 +4,4 @@ pub mod Ready
 pub mod Outcome
 pub mod Theorems
 pub mod Proving
+pub mod Products
