@@ -20,6 +20,7 @@ use Rattle.magnetar_hash.specs.Transcript.{absorbed, drawn}
 use Rattle.magnetar_layout.specs.Every.{every}
 use Rattle.magnetar_layout.specs.Tests.{roomTest}
 use Rattle.magnetar_matrix.specs.Batch.{Relation, Batch, folded}
+use Rattle.magnetar_matrix.specs.Packed.{packedTable}
 use Rattle.magnetar_matrix.proofs.TableLaws.{elements-words}
 use Rattle.magnetar_checks.proofs.Pieces.{elements-take}
 use Rattle.magnetar_protocol.specs.Shape.{logLogins, logBin, logFld, logCols}
@@ -27,7 +28,7 @@ use Rattle.magnetar_protocol.specs.Draws.{Draws, drawCount, drawsOf, loginPoint
 use Rattle.magnetar_protocol.specs.Checks.{combined}
 use Rattle.magnetar_protocol.specs.Run.{claims}
 use Rattle.magnetar_protocol.specs.RunSizes.{SizedMatrix, Elements}
-use Rattle.magnetar_protocol.specs.Prover.{proverWords, proverClaims}
+use Rattle.magnetar_protocol.specs.Prover.{productTable, proverWords, proverClaims}
 use Rattle.magnetar_protocol.specs.Stepwise.{Steps, Tables, begin, tauSteps, outerAll, drawTimes, sendEach, outerSteps, fldRows, binRows, outerBegin, terminalsLeft, innerAll, innerRun, segmentValue, lowDraws, ended}
 use Rattle.magnetar_protocol.specs.RealRun.{productTables, outerProving, proving, proverDraws, proverTranscript}
 use Rattle.magnetar_protocol.proofs.Blocks.{claims-outlined}
@@ -43,7 +44,7 @@ use Rattle.magnetar_spartan.specs.Refusals.{outlineOf, rowsBin, rowsFld,
 use Rattle.magnetar_spartan.specs.Ready.{Ready}
 use Rattle.magnetar_spartan.specs.Outcome.{batchOf, proveDraws, proveRefusal, proveOutcome, proved}
 use Rattle.magnetar_spartan.specs.Proving.{bare, RunReady, outerNumber, OuterDone, saidBefore, drawnBefore, saidAll, drawnAll, laterPlayed, LaterLeft}
-use Rattle.magnetar_spartan.specs.Products.{Products}
+use Rattle.magnetar_spartan.specs.Products.{tablesWanted, Products}
 use Rattle.magnetar_spartan.proofs.Fine.{noted-none, size-fine, most-fine, true-fine}
 use Rattle.magnetar_spartan.proofs.Ended.{draws-small}
 use Rattle.magnetar_spartan.proofs.Complete.{sized-batch}
@@ -144,11 +145,15 @@ module _ (R : Rules) (ws x w c s : List ℕ) (t : Transcript)
           (most-fine (length w) _ (omega (arith, ok .proof)), (most-fine (length s₁) _ (omega (arith, P .long, ok .scratch, blocks)), tt)))))))),
         )
 
+    wanted : tablesWanted R ws x ≡ productTables r B (elements x)
+    unfolding productTable packedTable
+    wanted = refl
+
     played-is : outerPlayed q b f s₁ t ≡ O
     unfolding outerPlayed outerProving
     played-is =
         sym (whole-is 2 q b f [] (tablesOf q b f s₁) t)
-        ∙ ap (λ (T : Tables). outerWhole (log₂ q) (log₂ b) (log₂ f) T t) (P .tables)
+        ∙ ap (λ (T : Tables). outerWhole (log₂ q) (log₂ b) (log₂ f) T t) (P .tables ∙ wanted)
         ∙ sym (outer-all r (productTables r B (elements x)) t)
 
     module _ (u : Transcript) (d v s₂ : List ℕ) (done : OuterDone q b f w s₁ t u d v s₂) where
