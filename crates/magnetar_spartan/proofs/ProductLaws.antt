@@ -32,7 +32,7 @@ use Rattle.magnetar_relation.specs.Rules.{Rules, relationOf, systemAt, entriesI
 use Rattle.magnetar_relation.proofs.RangeLaws.{same-drop, range-is}
 use Rattle.magnetar_spartan.specs.declared.products.Part.{Part}
 use Rattle.magnetar_spartan.specs.Refusals.{rowsBin, rowsFld}
-use Rattle.magnetar_spartan.specs.Products.{productWords, partIn, partOf, matrixIn, matrixNo, wordsNo, placeNo, tableOf, copied, Placed, ProductsReady, ProductLeft, tablesWanted, Products, ProductsLeft}
+use Rattle.magnetar_spartan.specs.Products.{productWords, partIn, partOf, matrixIn, matrixNo, wordsBin, wordsFld, wordsNo, slot, placeNo, tableOf, copied, Placed, ProductsReady, ProductLeft, tablesWanted, Products, ProductsLeft}
 
 -- ---- the copying loop
 set-behind : (xs ys : List ℕ) (i v : ℕ) → set (xs ++ ys) (length xs + i) v ≡ xs ++ set ys i v
@@ -124,9 +124,6 @@ record PartIs (h : Part) (es : List Entry) (a : Matrix) (p : ℕ) : Type 0 where
   entries : take (h .to - h .from) (drop (h .from) es) ≡ a .entries
   place : h .place ≡ p
 
-abbrev slot : ℕ → ℕ
-slot k = cond (ltb k 2) 1 (cond (ltb k 3) 2 3)
-
 slot-fits : (k w : ℕ) → (w ≤ slot k * w) × (slot k * w + w ≤ 4 * w)
 slot-fits k w = go (ltb k 2) (ltb k 3)
   where
@@ -166,3 +163,249 @@ part-in k q t p i i′ es e = go (ltb k 2) (ltb k 3)
       entries = there (i + t .a .entries + t .b .entries) l (t .c .entries) (min (l + t .c .entries) h) (omega (arith, e)) refl;
       place = refl;
     }
+
+-- ---- a table's words
+blocks-length : (f : ℕ → List ℕ) (n k : ℕ) → ((u : ℕ) → length (f u) ≡ k) → length (blocks f n) ≡ n * k
+unfolding blocks
+blocks-length f zero k h = sym (zero-mul k)
+blocks-length f (suc n) k h = length-append (blocks f n) (f n) ∙ ap₂ _+_ (blocks-length f n k h) (h n) ∙ omega (arith, suc-mul n k)
+
+table-words : (a : Matrix) (ws x : List ℕ) (q w n : ℕ) → a .rows ≡ n → length (words (packedTable a ws x q w)) ≡ 2 * (q * n)
+unfolding packedTable times
+table-words a ws x q w n e =
+    words-length (packedTable a ws x q w) ∙ ap (λ (i : ℕ). 2 * i) (blocks-length _ q n (λ u. tabulate-length _ (a .rows) ∙ e))
+
+-- it sees the rows and the entries alone
+table-same : (a : Matrix) (n m : ℕ) (es : List Entry) (ws x : List ℕ) (q w : ℕ) → n ≡ a .rows → es ≡ a .entries
+    → packedTable (record { rows = n; cols = m; entries = es }) ws x q w ≡ packedTable a ws x q w
+unfolding packedTable times timesAt
+table-same a n m es ws x q w e f = rw (e, f)
+
+-- ---- table k of the rules
+module _ (k : ℕ) (R : Rules) (ws x s : List ℕ) (ok : ProductsReady R (length ws) (length x) (length s)) where
+  abbrev a : Matrix
+  a = matrixNo k (relationOf R)
+
+  bin-words : productWords (R .q) (rowsBin R) ≡ wordsBin R
+  bin-words =
+      let i : min (R .q) 4096 ≡ R .q = omega (arith, ok .logins .high) in
+      let j : min (rowsBin R) 65536 ≡ rowsBin R = omega (arith, ok .bin .rows .high) in
+      rw (i, j)
+
+  fld-words : productWords (R .q) (rowsFld R) ≡ wordsFld R
+  fld-words =
+      let i : min (R .q) 4096 ≡ R .q = omega (arith, ok .logins .high) in
+      let j : min (rowsFld R) 65536 ≡ rowsFld R = omega (arith, ok .fld .rows .high) in
+      rw (i, j)
+
+  part-is : PartIs (partOf k (R .q) (R .shapes) (length (R .entries))) (R .entries) a (placeNo k R)
+  part-is = go (ltb k 4)
+    where
+      go : (b : Bool) → PartIs (cond b (partIn k (R .q) (R .shapes .bin) 0 0 (length (R .entries)))
+          (partIn (k - 4) (R .q) (R .shapes .fld) (4 * productWords (R .q) (rowsBin R)) (min (0 + entriesIn (R .shapes .bin)) (length (R .entries))) (length (R .entries))))
+          (R .entries) (cond b (matrixIn k (relationOf R .bin)) (matrixIn (k - 4) (relationOf R .fld)))
+          (cond b (slot k * cond b (wordsBin R) (wordsFld R)) (4 * wordsBin R + slot (k - 4) * cond b (wordsBin R) (wordsFld R)))
+      go true =
+          let e : 0 + slot k * productWords (R .q) (rowsBin R) ≡ slot k * wordsBin R = rw (bin-words, zero-add) in
+          subst (PartIs _ (R .entries) (matrixIn k (relationOf R .bin))) e (part-in k (R .q) (R .shapes .bin) 0 0 0 (R .entries) (omega arith))
+      go false =
+          let e : 4 * productWords (R .q) (rowsBin R) + slot (k - 4) * productWords (R .q) (rowsFld R) ≡ 4 * wordsBin R + slot (k - 4) * wordsFld R = rw (bin-words, fld-words) in
+          subst (PartIs _ (R .entries) (matrixIn (k - 4) (relationOf R .fld))) e
+          (part-in (k - 4) (R .q) (R .shapes .fld) (4 * productWords (R .q) (rowsBin R)) (entriesIn (R .shapes .bin)) _ (R .entries) (rw zero-add))
+
+  -- the rows are the system's, and the table is within the words
+  record Fits (a : Matrix) (w p : ℕ) : Type 0 where
+    n : ℕ
+    rows : a .rows ≡ n
+    size : Sized 1 65536 n
+    most : R .q * n ≤ 1048576
+    words-are : w ≡ 2 * (R .q * n)
+    free : w ≤ p
+    room : p + w ≤ length s
+
+  rows-in : (j m q : ℕ) (t : System) → SizedSystem m q t → matrixIn j t .rows ≡ t .a .rows
+  rows-in j m q t Z = go (ltb j 2) (ltb j 3)
+    where
+      go : (b c : Bool) → cond b (t .a) (cond c (t .b) (t .c)) .rows ≡ t .a .rows
+      go true c = refl
+      go false true = Z .b .rows
+      go false false = Z .c .rows
+
+  fits : Fits a (wordsNo k R) (placeNo k R)
+  fits = go (ltb k 4)
+    where
+      go : (b : Bool) → Fits (cond b (matrixIn k (relationOf R .bin)) (matrixIn (k - 4) (relationOf R .fld))) (cond b (wordsBin R) (wordsFld R))
+          (cond b (slot k * cond b (wordsBin R) (wordsFld R)) (4 * wordsBin R + slot (k - 4) * cond b (wordsBin R) (wordsFld R)))
+      go true =
+          let f = slot-fits k (wordsBin R) in record {
+            n = rowsBin R;
+            rows = rows-in k (R .m) (R .q) (relationOf R .bin) (ok .bin);
+            size = ok .bin .rows;
+            most = ok .bin .total;
+            words-are = refl;
+            free = f .0;
+            room = omega (arith, f .1, ok .room);
+          }
+      go false =
+          let f = slot-fits (k - 4) (wordsFld R) in record {
+            n = rowsFld R;
+            rows = rows-in (k - 4) (R .m) (R .q) (relationOf R .fld) (ok .fld);
+            size = ok .fld .rows;
+            most = ok .fld .total;
+            words-are = refl;
+            free = omega (arith, f .0);
+            room = omega (arith, f .1, ok .room);
+          }
+
+  -- the words of the table, however the columns are counted
+  abbrev h : Part
+  h = partOf k (R .q) (R .shapes) (length (R .entries))
+
+  abbrev made : ℕ → Matrix
+  made m = record { rows = h .rows; cols = m; entries = take (h .to - h .from) (drop (h .from) (R .entries)) }
+
+  abbrev T : List ℕ
+  T = tableOf R ws x a
+
+  made-is : (m : ℕ) → tableOf R ws x (made m) ≡ T
+  made-is m = table-same a (h .rows) m (take (h .to - h .from) (drop (h .from) (R .entries))) ws (elements x) (R .q) (R .m / 2) (part-is .rows) (part-is .entries)
+
+  even : 2 * (R .m / 2) ≡ R .m
+  even = even-size (R .m) (ok .columns)
+
+  rows-are : h .rows ≡ fits .n
+  rows-are = part-is .rows ∙ fits .rows
+
+  T-long : length (words T) ≡ wordsNo k R
+  T-long = table-words a ws (elements x) (R .q) (R .m / 2) (fits .n) (fits .rows) ∙ sym (fits .words-are)
+
+  twice : R .q * (2 * h .rows) ≡ wordsNo k R
+  twice = ap (λ (i : ℕ). R .q * (2 * i)) rows-are ∙ (mul-left-comm (R .q) 2 (fits .n) ∙ sym (fits .words-are))
+
+  -- made in its place by a loop over ranges
+  pub there : (p : ℕ) (u : List ℕ) → p ≡ h .place
+      → u ≡ rangeOut (made (2 * (R .m / 2))) ws x (R .q) (R .m / 2) (take (length s - p) (drop p s))
+      → Placed (wordsNo k R) (placeNo k R) T s (putMid p (length s - p) s u)
+  there p u ep eu =
+      let e : p ≡ placeNo k R = ep ∙ part-is .place in
+      let room : R .q * (2 * h .rows) ≤ length (drop (placeNo k R) s) = rw (length-drop, twice) (omega (arith, fits .room)) in
+      let r = range-left (made (2 * (R .m / 2))) ws x (R .q) (R .m / 2) (drop (placeNo k R) s) (subst (Sized 2 65536) (sym even) (ok .columns)) (ok .logins) (ok .packed)
+      (ok .public ∙ ap (λ (i : ℕ). i - 2) (sym even)) (subst (Sized 1 65536) (sym rows-are) (fits .size)) (rw rows-are (fits .most)) room in
+      let g : u ≡ words T ++ drop (wordsNo k R) (drop (placeNo k R) s) =
+      eu ∙ (ap (λ (i : ℕ). rangeOut (made (2 * (R .m / 2))) ws x (R .q) (R .m / 2) (take (length s - i) (drop i s))) e
+      ∙ (ap (rangeOut (made (2 * (R .m / 2))) ws x (R .q) (R .m / 2)) (back-part s (placeNo k R))
+      ∙ (r ∙ ap₂ (λ (l : List ℕ) (i : ℕ). words l ++ drop i (drop (placeNo k R) s)) (made-is (2 * (R .m / 2))) twice))) in
+      subst (λ (i : ℕ). Placed (wordsNo k R) (placeNo k R) T s (putMid i (length s - i) s u)) (sym e)
+      (placed-there (wordsNo k R) (placeNo k R) T s T-long (fits .free) (fits .room) u g)
+
+  -- made in front by a walk over records, and copied
+  pub moved-there : (u : List ℕ) (p n : ℕ) → p ≡ h .place → n ≡ productWords (R .q) (h .rows) → u ≡ words (tableOf R ws x (made (R .m))) ++ drop (R .q * (2 * h .rows)) s
+      → Placed (wordsNo k R) (placeNo k R) T s (copied p n u)
+  moved-there u p n ep en eu =
+      let e : p ≡ placeNo k R = ep ∙ part-is .place in
+      let f : n ≡ wordsNo k R = en ∙ (ap (productWords (R .q)) rows-are ∙ (uncut (R .q) (fits .n) (ok .logins .high) (fits .size .high) ∙ sym (fits .words-are))) in
+      rw (e, f) (placed-copied (wordsNo k R) (placeNo k R) T s T-long (fits .free) (fits .room) u
+      (eu ∙ ap₂ (λ (l : List ℕ) (i : ℕ). words l ++ drop i s) (made-is (R .m)) twice))
+    where
+      uncut : (q n : ℕ) → q ≤ 4096 → n ≤ 65536 → productWords q n ≡ 2 * (q * n)
+      uncut q n a b =
+          let i : min q 4096 ≡ q = omega arith in
+          let j : min n 65536 ≡ n = omega arith in
+          rw (i, j)
+
+-- ---- all six
+module _ (R : Rules) (ws x s₀ s₁ s₂ s₃ s₄ s₅ s₆ : List ℕ) (p₁ : ProductLeft 5 R ws x s₀ s₁) (p₂ : ProductLeft 6 R ws x s₁ s₂) (p₃ : ProductLeft 7 R ws x s₂ s₃)
+    (p₄ : ProductLeft 1 R ws x s₃ s₄) (p₅ : ProductLeft 2 R ws x s₄ s₅) (p₆ : ProductLeft 3 R ws x s₅ s₆) where
+  module _ (ok : ProductsReady R (length ws) (length x) (length s₀)) where
+    abbrev B : ℕ
+    B = wordsBin R
+
+    abbrev F : ℕ
+    F = wordsFld R
+
+    more : (u v : List ℕ) → length v ≡ length u → ProductsReady R (length ws) (length x) (length u) → ProductsReady R (length ws) (length x) (length v)
+    more u v e = subst (ProductsReady R (length ws) (length x)) (sym e)
+
+    af : Placed F (4 * B + 1 * F) (tableOf R ws x (relationOf R .fld .a)) s₀ s₁
+    af = p₁ ok
+
+    ok₁ : ProductsReady R (length ws) (length x) (length s₁)
+    ok₁ = more s₀ s₁ (af .long) ok
+
+    bf : Placed F (4 * B + 2 * F) (tableOf R ws x (relationOf R .fld .b)) s₁ s₂
+    bf = p₂ ok₁
+
+    ok₂ : ProductsReady R (length ws) (length x) (length s₂)
+    ok₂ = more s₁ s₂ (bf .long) ok₁
+
+    cf : Placed F (4 * B + 3 * F) (tableOf R ws x (relationOf R .fld .c)) s₂ s₃
+    cf = p₃ ok₂
+
+    ok₃ : ProductsReady R (length ws) (length x) (length s₃)
+    ok₃ = more s₂ s₃ (cf .long) ok₂
+
+    ab : Placed B (1 * B) (tableOf R ws x (relationOf R .bin .a)) s₃ s₄
+    ab = p₄ ok₃
+
+    ok₄ : ProductsReady R (length ws) (length x) (length s₄)
+    ok₄ = more s₃ s₄ (ab .long) ok₃
+
+    bb : Placed B (2 * B) (tableOf R ws x (relationOf R .bin .b)) s₄ s₅
+    bb = p₅ ok₄
+
+    cb : Placed B (3 * B) (tableOf R ws x (relationOf R .bin .c)) s₅ s₆
+    cb = p₆ (more s₄ s₅ (bb .long) ok₄)
+
+    -- the tables of fld are behind those of bin
+    from-bin : (o : ℕ) → 4 * B ≤ o → take F (drop o s₆) ≡ take F (drop o s₃)
+    from-bin o h = cb .behind o F (omega arith) ∙ (bb .behind o F (omega arith) ∙ ab .behind o F (omega arith))
+
+    at-ab : tableAt B B s₆ ≡ tableOf R ws x (relationOf R .bin .a)
+    at-ab =
+        let e : 1 * B ≡ B = omega arith in
+        ap elements (cb .before B B (omega arith) (omega arith) ∙ bb .before B B (omega arith) (omega arith)) ∙ (ap (λ (i : ℕ). tableAt i B s₄) (sym e) ∙ ab .here)
+
+    at-bb : tableAt (2 * B) B s₆ ≡ tableOf R ws x (relationOf R .bin .b)
+    at-bb = ap elements (cb .before (2 * B) B (omega arith) (omega arith)) ∙ bb .here
+
+    at-af : tableAt (4 * B + F) F s₆ ≡ tableOf R ws x (relationOf R .fld .a)
+    at-af =
+        let e : 4 * B + 1 * F ≡ 4 * B + F = omega arith in
+        ap elements (from-bin (4 * B + F) (omega arith) ∙ (cf .before (4 * B + F) F (omega arith) (omega arith) ∙ bf .before (4 * B + F) F (omega arith) (omega arith)))
+        ∙ (ap (λ (i : ℕ). tableAt i F s₁) (sym e) ∙ af .here)
+
+    at-bf : tableAt (4 * B + 2 * F) F s₆ ≡ tableOf R ws x (relationOf R .fld .b)
+    at-bf = ap elements (from-bin (4 * B + 2 * F) (omega arith) ∙ cf .before (4 * B + 2 * F) F (omega arith) (omega arith)) ∙ bf .here
+
+    at-cf : tableAt (4 * B + 3 * F) F s₆ ≡ tableOf R ws x (relationOf R .fld .c)
+    at-cf = ap elements (from-bin (4 * B + 3 * F) (omega arith)) ∙ cf .here
+
+    -- read off both blocks
+    abbrev W : ℕ
+    W = blockWords (R .q) (rowsBin R) (rowsFld R)
+
+    bin-at : (i : ℕ) → i + B ≤ 4 * B → tableAt i B (take (4 * B) (take W s₆)) ≡ tableAt i B s₆
+    bin-at i h = ap elements (take-of-drop (take W s₆) i B (4 * B) h ∙ take-of-drop s₆ i B W (omega arith))
+
+    fld-at : (i : ℕ) → i + F ≤ 4 * F → tableAt i F (drop (4 * B) (take W s₆)) ≡ tableAt (4 * B + i) F s₆
+    fld-at i h = ap (λ (u : List ℕ). elements (take F u)) (drop-drop i (4 * B) (take W s₆)) ∙ ap elements (take-of-drop s₆ (4 * B + i) F W (omega arith))
+
+    tables-are : tablesOf (R .q) (rowsBin R) (rowsFld R) s₆ ≡ tablesWanted R ws x
+    tables-are = λ j. record {
+      bin-a = (bin-at B (omega arith) ∙ at-ab) j;
+      bin-b = (bin-at (2 * B) (omega arith) ∙ at-bb) j;
+      bin-c = (bin-at (3 * B) (omega arith) ∙ cb .here) j;
+      fld-a = (fld-at F (omega arith) ∙ at-af) j;
+      fld-b = (fld-at (2 * F) (omega arith) ∙ at-bf) j;
+      fld-c = (fld-at (3 * F) (omega arith) ∙ at-cf) j;
+    }
+
+    six : Products R ws x s₀ s₆
+    six = record {
+      long = cb .long ∙ (bb .long ∙ (ab .long ∙ (cf .long ∙ (bf .long ∙ af .long))));
+      rest = cb .rest W (omega arith) ∙ (bb .rest W (omega arith) ∙ (ab .rest W (omega arith) ∙ (cf .rest W (omega arith) ∙ (bf .rest W (omega arith) ∙ af .rest W (omega arith)))));
+      tables = tables-are;
+    }
+
+  pub six-left : ProductsLeft R ws x s₀ s₆
+  six-left ok = six ok

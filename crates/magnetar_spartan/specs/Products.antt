@@ -49,14 +49,22 @@ matrixIn k s = cond (ltb k 2) (s .a) (cond (ltb k 3) (s .b) (s .c))
 abbrev pub matrixNo : ℕ → Relation → Matrix
 matrixNo k r = cond (ltb k 4) (matrixIn k (r .bin)) (matrixIn (k - 4) (r .fld))
 
--- the words of its table, and where they begin
+-- the words of a table of bin, and of fld
+abbrev pub wordsBin : Rules → ℕ
+wordsBin R = 2 * (R .q * rowsBin R)
+
+abbrev pub wordsFld : Rules → ℕ
+wordsFld R = 2 * (R .q * rowsFld R)
+
+-- the words of table k, and where they begin
 abbrev pub wordsNo : ℕ → Rules → ℕ
-wordsNo k R = cond (ltb k 4) (2 * (R .q * rowsBin R)) (2 * (R .q * rowsFld R))
+wordsNo k R = cond (ltb k 4) (wordsBin R) (wordsFld R)
+
+abbrev pub slot : ℕ → ℕ
+slot k = cond (ltb k 2) 1 (cond (ltb k 3) 2 3)
 
 abbrev pub placeNo : ℕ → Rules → ℕ
-placeNo k R =
-    cond (ltb k 4) (cond (ltb k 2) 1 (cond (ltb k 3) 2 3) * wordsNo k R)
-    (4 * (2 * (R .q * rowsBin R)) + cond (ltb (k - 4) 2) 1 (cond (ltb (k - 4) 3) 2 3) * wordsNo k R)
+placeNo k R = cond (ltb k 4) (slot k * wordsNo k R) (4 * wordsBin R + slot (k - 4) * wordsNo k R)
 
 -- the products of the matrix a
 abbrev pub tableOf : Rules → (ws x : List ℕ) → Matrix → List ℕ
