@@ -2,10 +2,15 @@ pub mod Chains
 pub mod Fine
 pub mod SizedRules
 pub mod ByNumbers
+pub mod StageLaws
+pub mod Room
 pub mod Verifying
-pub mod Combining
 pub mod VerifyRun
 pub mod Ended
+pub mod DrawnTable
+pub mod VerifyEnds
 pub mod Sound
 pub mod Complete
 pub mod LaterLaws
+pub mod ProductLaws
+pub mod ProveRun

@@ -1,4 +1,5 @@
 // Virtual Spartan: the refusals of both ends, the prover and the verifier of a batch.
 mod combine;
 mod refusal;
+mod stages;
 pub mod virtual_spartan;
