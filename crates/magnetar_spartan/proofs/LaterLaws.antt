@@ -42,7 +42,7 @@ use Rattle.magnetar_checks.proofs.ClaimLaws.{reverse-get, reverse-size}
 use Rattle.magnetar_relation.specs.Rules.{Rules, relationOf}
 use Rattle.magnetar_spartan.specs.Refusals.{outlineOf, rowsBin, rowsFld, proofWords, claimWords, proverRoom}
 use Rattle.magnetar_spartan.specs.Ready.{Ready, FoldReady}
-use Rattle.magnetar_spartan.specs.Proving.{RunReady, FoldLeft, loginAt, saidBefore, drawnBefore, saidAll, drawnAll, EndLeft, laterPlayed}
+use Rattle.magnetar_spartan.specs.Proving.{RunReady, FoldLeft, loginAt, saidBefore, drawnBefore, saidAll, drawnAll, InnerDone, EndLeft, laterPlayed}
 use Rattle.magnetar_spartan.proofs.Fine.{noted-none, size-fine, same-fine, most-fine, true-fine}
 use Rattle.magnetar_spartan.proofs.SizedRules.{sizes-fine, layout-fine}
 use Rattle.magnetar_spartan.proofs.Ended.{draws-small}
@@ -63,13 +63,10 @@ unfolding overlaid
 laid-front v s n e h = rw (take-all (length s) v (omega arith), e)
 
 -- words laid over those behind the first a of s, up to word n
-pub laid-behind : (s u v : List ℕ) (a n : ℕ) → u ≡ overlaid v (take (length s - a) (drop a s)) → a + length v ≡ n → n ≤ length s
-    → putMid a (length s - a) s u ≡ (take a s ++ v) ++ drop n s
-laid-behind s u v a n g l h =
-    back-put s u a
-    ∙ (ap (λ (y : List ℕ). take a s ++ y) (g ∙ (ap (overlaid v) (back-part s a)
-    ∙ (laid-front v (drop a s) (length v) refl (rw length-drop (omega arith)) ∙ ap (λ (y : List ℕ). v ++ y) (drop-drop (length v) a s ∙ ap (λ (i : ℕ). drop i s) l))))
-    ∙ sym (append-assoc (take a s) v (drop n s)))
+laid-behind : (s v : List ℕ) (a n : ℕ) → a + length v ≡ n → n ≤ length s → take a s ++ overlaid v (drop a s) ≡ (take a s ++ v) ++ drop n s
+laid-behind s v a n e h =
+    ap (λ (y : List ℕ). take a s ++ y) (laid-front v (drop a s) (length v) refl (rw length-drop (omega arith)) ∙ ap (λ (y : List ℕ). v ++ y) (drop-drop (length v) a s ∙ ap (λ (i : ℕ). drop i s) e))
+    ∙ sym (append-assoc (take a s) v (drop n s))
 
 -- room behind the first k of l words
 room-behind : {n k l a : ℕ} → k ≡ a → a + n ≤ l → n ≤ l - k
@@ -149,6 +146,14 @@ fold-left q w l n k K ws d s s′ el en ek h F =
     (rw (e, ek) at h) F
 
 -- ---- the inner rounds and the claims
+pub inner-done : (m : ℕ) (ns x w d s : List ℕ) (a k i j : ℕ) (t : Transcript) (A : TranscriptAnswer) (w′ d′ s′ : List ℕ) → i ≡ min a (length w) → j ≡ min k (length d)
+    → let W = take (length w - i) (drop i w) in let D = take (length d - j) (drop j d) in
+    let z = innerRoundsRefusal m ns x W D s t in let p = innerPlayed (outline m 1 1 1 ns) x s t in
+    A ≡ answerFor z p t → w′ ≡ proofFor z p W → d′ ≡ drawsFor z p D → s′ ≡ scratchFor z (6 * m) s
+    → InnerDone m ns x w d s (min a (length w)) (min k (length d)) t (A .transcript) (putMid i (length w - i) w w′) (putMid j (length d - j) d d′) s′
+inner-done m ns x w d s a k i j t A w′ d′ s′ ei ej eA ew ed es =
+    rw (← ei, ← ej, back-put w w′ i, back-put d d′ j, eA, ew, ed, es, back-part w i, back-part d j) (refl, refl, refl, refl)
+
 module _ (r : Relation) (c f x : List ℕ) (t : Transcript) where
   pub inner-drawn-many : length (innerAll r c f x (begin t) .played .draws) ≡ logCols r
   inner-drawn-many = ap length (goes-inner r c f x (begin t) 0 refl .draws) ∙ inner-drawn-length r c f x (begin t) 0 refl
@@ -201,82 +206,53 @@ module _ (R : Rules) (ws : ℕ) (x w d c s : List ℕ) (t : Transcript)
   drawn-room : drawnBefore R + 2 * log₂ m ≤ length d
   drawn-room = omega (arith, ld, draws-small R (ok .ready))
 
-  -- from place a of the proof and place k of the draws on; the claims read i words of the proof and n of the draws
-  module _ (a k i n : ℕ) (ea : a ≡ min (saidBefore R) (length w)) (ek : k ≡ min (drawnBefore R) 256)
+  -- the claims read i words of the proof and n of the draws
+  module _ (a k i n : ℕ) (ea : a ≡ saidBefore R) (ek : k ≡ drawnBefore R)
       (ei : i ≡ min (2 * (8 * log₂ (R .q) + 4 * log₂ (rowsBin R) + 4 * log₂ (rowsFld R) + 6 + 3 * log₂ m + 1 + min (length ns) 64)) (length w))
       (en : n ≡ min (2 * drawCount o) 256) where
-    abbrev W : List ℕ
-    W = take (length w - a) (drop a w)
+    a-is : min a (length w) ≡ saidBefore R
+    a-is = omega (arith, ea, said-room)
 
-    abbrev D : List ℕ
-    D = take (length d - k) (drop k d)
+    k-is : min k (length d) ≡ drawnBefore R
+    k-is = omega (arith, ek, drawn-room)
 
-    abbrev Z : ℕ
-    Z = innerRoundsRefusal m ns x W D s t
+    i-is : i - 0 ≡ proofWords R
+    i-is = none-less (omega (arith, ei, ok .proof, ok .ready .segments))
 
-    a-is : a ≡ saidBefore R
-    a-is = omega (arith, ea, ok .proof)
+    n-is : n - 0 ≡ 2 * drawCount o
+    n-is = none-less (omega (arith, en, draws-small R (ok .ready)))
 
-    k-is : k ≡ drawnBefore R
-    k-is = omega (arith, ek, draws-small R (ok .ready))
+    unrefused : innerRoundsRefusal m ns x (drop (min a (length w)) w) (drop (min k (length d)) d) s t ≡ 0
+    unrefused = inner-none (drop (min a (length w)) w) (drop (min k (length d)) d) (rw length-drop (room-behind k-is drawn-room)) (rw length-drop (room-behind a-is said-room))
 
-    i-is : i ≡ proofWords R
-    i-is = omega (arith, ei, ok .proof, ok .ready .segments)
+    said-long : length (saidAll R w P) ≡ proofWords R
+    said-long =
+        length-append (take (saidBefore R) w) (words (P .sent))
+        ∙ omega (arith, length-take-le (saidBefore R) w (omega (arith, said-room)), words-length (P .sent), sent-many)
 
-    n-is : n ≡ 2 * drawCount o
-    n-is = omega (arith, en, draws-small R (ok .ready))
+    drawn-long : length (drawnAll R d P) ≡ 2 * drawCount o
+    drawn-long =
+        length-append (take (drawnBefore R) d) (words (P .played .draws))
+        ∙ omega (arith, length-take-le (drawnBefore R) d (omega (arith, drawn-room)), words-length (P .played .draws), drawn-many)
 
-    Z-none : Z ≡ 0
-    Z-none = inner-none W D (rw (back-part d k, length-drop) (room-behind k-is drawn-room)) (rw (back-part w a, length-drop) (room-behind a-is said-room))
+    module _ (u : Transcript) (w′ d′ s′ : List ℕ) (done : InnerDone m ns x w d s (min a (length w)) (min k (length d)) t u w′ d′ s′) where
+      w-is : w′ ≡ saidAll R w P ++ drop (proofWords R) w
+      w-is =
+          done .1 ∙ rw (unrefused, a-is)
+          (laid-behind w (words (P .sent)) (saidBefore R) (proofWords R) (rw (words-length, sent-many) (omega arith)) (ok .proof))
 
-    module _ (A : TranscriptAnswer) (w′ d′ s′ : List ℕ) (eA : A ≡ answerFor Z P t) (ew : w′ ≡ proofFor Z P W) (ed : d′ ≡ drawsFor Z P D)
-        (es : s′ ≡ scratchFor Z (6 * m) s) where
-      abbrev w₁ : List ℕ
-      w₁ = putMid a (length w - a) w w′
+      d-is : d′ ≡ drawnAll R d P ++ drop (2 * drawCount o) d
+      d-is =
+          done .2 ∙ rw (unrefused, k-is)
+          (laid-behind d (words (P .played .draws)) (drawnBefore R) (2 * drawCount o) (rw (words-length, drawn-many) (omega arith)) (omega (arith, drawn-room)))
 
-      abbrev d₁ : List ℕ
-      d₁ = putMid k (length d - k) d d′
-
-      w₁-is : w₁ ≡ saidAll R w P ++ drop (proofWords R) w
-      w₁-is =
-          laid-behind w w′ (words (P .sent)) a (proofWords R) (ew ∙ rw Z-none) (rw (words-length, sent-many) (omega (arith, a-is))) (ok .proof)
-          ∙ ap (λ (j : ℕ). (take j w ++ words (P .sent)) ++ drop (proofWords R) w) a-is
-
-      d₁-is : d₁ ≡ drawnAll R d P ++ drop (2 * drawCount o) d
-      d₁-is =
-          laid-behind d d′ (words (P .played .draws)) k (2 * drawCount o) (ed ∙ rw Z-none) (rw (words-length, drawn-many) (omega (arith, k-is)))
-          (omega (arith, ld, draws-small R (ok .ready)))
-          ∙ ap (λ (j : ℕ). (take j d ++ words (P .played .draws)) ++ drop (2 * drawCount o) d) k-is
-
-      said-long : length (saidAll R w P) ≡ proofWords R
-      said-long =
-          length-append (take (saidBefore R) w) (words (P .sent))
-          ∙ omega (arith, length-take-le (saidBefore R) w (omega (arith, ok .proof)), words-length (P .sent), sent-many)
-
-      drawn-long : length (drawnAll R d P) ≡ 2 * drawCount o
-      drawn-long =
-          length-append (take (drawnBefore R) d) (words (P .played .draws))
-          ∙ omega (arith, length-take-le (drawnBefore R) d (omega (arith, ld, draws-small R (ok .ready))), words-length (P .played .draws), drawn-many)
-
-      said-front : take (i - 0) (drop 0 w₁) ≡ saidAll R w P
-      said-front =
-          let e : i - 0 ≡ proofWords R = none-less i-is in
-          rw (e, w₁-is) (take-at (saidAll R w P) (drop (proofWords R) w) (proofWords R) said-long)
-
-      drawn-front : take (n - 0) (drop 0 d₁) ≡ drawnAll R d P
-      drawn-front =
-          let e : n - 0 ≡ 2 * drawCount o = none-less n-is in
-          rw (e, d₁-is) (take-at (drawnAll R d P) (drop (2 * drawCount o) d) (2 * drawCount o) drawn-long)
-
-      pub end-left : (c′ : List ℕ) → c′ ≡ claimsOut m (R .q) (rowsBin R) (rowsFld R) ns (take (i - 0) (drop 0 w₁)) (take (n - 0) (drop 0 d₁)) c
-          → EndLeft R w d c s (6 * m) P (A .transcript) w₁ c′ s′
+      pub end-left : (c′ : List ℕ) → c′ ≡ claimsOut m (R .q) (rowsBin R) (rowsFld R) ns (take (i - 0) (drop 0 w′)) (take (n - 0) (drop 0 d′)) c
+          → EndLeft R w d c s (6 * m) P u w′ c′ s′
       unfolding claimsOut
-      end-left c′ ec = (
-        ap (λ (y : TranscriptAnswer). y .transcript) eA ∙ rw Z-none,
-        w₁-is,
-        ec ∙ rw (said-front, drawn-front, claims-none (saidAll R w P) (drawnAll R d P) said-long drawn-long),
-        es ∙ rw Z-none,
-      )
+      end-left c′ ec =
+          let sw : take (i - 0) (drop 0 w′) ≡ saidAll R w P = rw (i-is, w-is) (take-at (saidAll R w P) (drop (proofWords R) w) (proofWords R) said-long) in
+          let sd : take (n - 0) (drop 0 d′) ≡ drawnAll R d P = rw (n-is, d-is) (take-at (drawnAll R d P) (drop (2 * drawCount o) d) (2 * drawCount o) drawn-long) in
+          (done .0 ∙ rw unrefused, w-is, ec ∙ rw (sw, sd, claims-none (saidAll R w P) (drawnAll R d P) said-long drawn-long), done .3 ∙ rw unrefused)
 
 -- ---- the whole second part
 module _ (R : Rules) (ws x w d c s : List ℕ) (t : Transcript)
@@ -337,7 +313,7 @@ module _ (R : Rules) (ws x w d c s : List ℕ) (t : Transcript)
 
     module _ (u : Transcript) (w′ c′ s₂ : List ℕ)
         (ends : EndLeft R w d c s₁ (6 * R .m) (innerPlayed (outline (R .m) 1 1 1 (R .lengths)) x s₁ t) u w′ c′ s₂)
-        (N : ℕ) (eN : N ≡ min (proverScratch (R .m) (R .q) (rowsBin R) (rowsFld R)) (length s₂)) where
+        (N g : ℕ) (eN : N ≡ min g (length s₂)) (eg : g ≡ proverScratch (R .m) (R .q) (rowsBin R) (rowsFld R)) where
       s₂-long : length s₂ ≡ length s
       s₂-long =
           ap length (ends .3) ∙ (length-append (replicate (6 * R .m) 0) (drop (6 * R .m) s₁)
@@ -346,7 +322,7 @@ module _ (R : Rules) (ws x w d c s : List ℕ) (t : Transcript)
       N-is : N ≡ n
       N-is =
           let r = prover-within (R .m) (R .q) (rowsBin R) (rowsFld R) (ok .ready .columns .high) (ok .ready .logins .high) (ok .ready .bin .rows .high) (ok .ready .fld .rows .high) in
-          eN ∙ least r (omega (arith, s₂-long, ok .scratch))
+          eN ∙ least (eg ∙ r) (omega (arith, s₂-long, ok .scratch))
         where
           least : {a b l : ℕ} → a ≡ b → b ≤ l → min a l ≡ b
           least e h = omega arith

@@ -17,8 +17,9 @@ use Rattle.magnetar_relation.specs.Rules.{Rules}
 use Rattle.magnetar_protocol.specs.Shape.{logCols, beforeInner}
 use Rattle.magnetar_protocol.specs.Draws.{drawCount}
 use Rattle.magnetar_protocol.specs.Run.{claims}
+use Rattle.magnetar_protocol.specs.Schedule.{outline}
 use Rattle.magnetar_protocol.specs.Stepwise.{Steps, begin, innerAll}
-use Rattle.magnetar_rounds.specs.Entries.{proofFor, drawsFor, scratchFor, blockWords, outerRoundsRefusal, outerPlayed}
+use Rattle.magnetar_rounds.specs.Entries.{proofFor, drawsFor, scratchFor, blockWords, outerRoundsRefusal, outerPlayed, innerRoundsRefusal, innerPlayed}
 use Rattle.magnetar_spartan.specs.Refusals.{outlineOf, rowsBin, rowsFld, proofWords, claimWords, proverRoom}
 use Rattle.magnetar_spartan.specs.Ready.{Ready}
 
@@ -79,7 +80,16 @@ saidAll R w p = take (saidBefore R) w ++ words (p .sent)
 abbrev pub drawnAll : Rules → (d : List ℕ) → Steps → List ℕ
 drawnAll R d p = take (drawnBefore R) d ++ words (p .played .draws)
 
--- what it leaves: the transcript u, the proof w′, the claims c′, and the scratch s′, of which n words are 0
+-- the inner rounds from word a of the proof w and word k of the draws d on, with the table and the folded columns in front of s: the
+-- transcript u, and w′, d′, s′
+abbrev pub InnerDone : (m : ℕ) → (ns x w d s : List ℕ) → (a k : ℕ) → Transcript → Transcript → (w′ d′ s′ : List ℕ) → Type 0
+InnerDone m ns x w d s a k t u w′ d′ s′ =
+    let z = innerRoundsRefusal m ns x (drop a w) (drop k d) s t in
+    let p = innerPlayed (outline m 1 1 1 ns) x s t in
+    (u ≡ unlessRefused z (p .played .transcript) t) × (w′ ≡ take a w ++ proofFor z p (drop a w)) × (d′ ≡ take k d ++ drawsFor z p (drop k d))
+    × (s′ ≡ scratchFor z (6 * m) s)
+
+-- what is left: the transcript u, the proof w′, the claims c′, and the scratch s′, of which n words are 0
 abbrev pub EndLeft : Rules → (w d c s : List ℕ) → (n : ℕ) → Steps → Transcript → (w′ c′ s′ : List ℕ) → Type 0
 EndLeft R w d c s n p u w′ c′ s′ =
     (u ≡ p .played .transcript) × (w′ ≡ saidAll R w p ++ drop (proofWords R) w)
