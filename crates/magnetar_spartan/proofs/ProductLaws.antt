@@ -9,7 +9,7 @@ use native.Mathlib.Omega.{arith}
 use lib.Dec.{leb, ltb}
 use lib.ListN.{length, getD, set, take, drop, length-append, length-drop, take-append-drop, List·getD-append}
 use lib.Seq.{take-at, drop-drop, getD-take, length-take-le}
-use borrow.Author.Tests.{le-leb, lt-leb}
+use borrow.Author.Tests.{le-leb, lt-leb, lt-ltb, le-ltb}
 use borrow.Rule.Slice.PartMut.{putMid}
 use Rattle.magnetar_field.specs.Words.{elements, words}
 use Rattle.magnetar_field.proofs.Elements.{words-length, copy-more}
@@ -72,6 +72,27 @@ and-false false = refl
 pub copied-long : (a n : ℕ) (s : List ℕ) → length s < a + n → s ≡ copied a n s
 unfolding copied
 copied-long a n s h = rw (lt-leb (a + n) (length s) h, and-false (leb n a))
+
+-- ---- a table's place, rows and entries
+module _ (k q : ℕ) (t : SystemShape) (p i h w j l : ℕ) (ew : w ≡ productWords q (t .a .rows)) (ej : j ≡ min (i + t .a .entries) h) where
+  abbrev Is : (place rows first last : ℕ) → Type 0
+  Is place rows first last = _≡_ {A = Part} (record { place = place; rows = rows; from = first; to = last }) (partIn k q t p i h)
+
+  pub part-a : k < 2 → Is (p + w) (t .a .rows) i j
+  part-a g = rw (lt-ltb k 2 g, ew, ej)
+
+  pub part-b : 2 ≤ k → l ≡ min (j + t .b .entries) h → k < 3 → Is (p + 2 * w) (t .b .rows) j l
+  part-b f el g = rw (le-ltb k 2 f, lt-ltb k 3 g, ew, el, ej)
+
+  pub part-c : 2 ≤ k → l ≡ min (j + t .b .entries) h → 3 ≤ k → (e : ℕ) → e ≡ min (l + t .c .entries) h → Is (p + 3 * w) (t .c .rows) l e
+  part-c f el g e ee = rw (le-ltb k 2 f, le-ltb k 3 g, ew, ee, el, ej)
+
+module _ (k q : ℕ) (s : Shapes) (h : ℕ) (r : Part) where
+  pub part-bin : k < 4 → r ≡ partIn k q (s .bin) 0 0 h → r ≡ partOf k q s h
+  part-bin g e = rw (lt-ltb k 4 g) e
+
+  pub part-fld : 4 ≤ k → (w i : ℕ) → w ≡ productWords q (s .bin .a .rows) → i ≡ min (0 + entriesIn (s .bin)) h → r ≡ partIn (k - 4) q (s .fld) (4 * w) i h → r ≡ partOf k q s h
+  part-fld g w i ew ei e = rw (le-ltb k 4 g) (e ∙ ap₂ (λ (a b : ℕ). partIn (k - 4) q (s .fld) (4 * a) b h) ew ei)
 
 -- ---- one table t of n words at place p of s, in whose place the words made stand
 module _ (n p : ℕ) (t s made : List ℕ) (l : length (words t) ≡ n) (long : length made ≡ length s) (same : (o : ℕ) → n ≤ o → drop o made ≡ drop o s)
@@ -282,21 +303,29 @@ module _ (k : ℕ) (R : Rules) (ws x s : List ℕ) (ok : ProductsReady R (length
   twice : R .q * (2 * h .rows) ≡ wordsNo k R
   twice = ap (λ (i : ℕ). R .q * (2 * i)) rows-are ∙ (mul-left-comm (R .q) 2 (fits .n) ∙ sym (fits .words-are))
 
+  pub no-room : (g : Part) → g ≡ h → length s < g .place → ⊥
+  no-room g e l =
+      let f : g .place ≡ placeNo k R = ap (λ (y : Part). y .place) e ∙ part-is .place in
+      omega (arith, f, l, fits .room)
+
   -- made in its place by a loop over ranges
-  pub there : (p : ℕ) (u : List ℕ) → p ≡ h .place
-      → u ≡ rangeOut (made (2 * (R .m / 2))) ws x (R .q) (R .m / 2) (take (length s - p) (drop p s))
-      → Placed (wordsNo k R) (placeNo k R) T s (putMid p (length s - p) s u)
-  there p u ep eu =
-      let e : p ≡ placeNo k R = ep ∙ part-is .place in
+  pub there : (g : Part) → g ≡ h → (u : List ℕ)
+      → u ≡ rangeOut (record { rows = g .rows; cols = 2 * (R .m / 2); entries = take (g .to - g .from) (drop (g .from) (R .entries)) }) ws x (R .q) (R .m / 2) (take (length s - g .place) (drop (g .place) s))
+      → Placed (wordsNo k R) (placeNo k R) T s (putMid (g .place) (length s - g .place) s u)
+  there g eg u eu =
+      let M = made (2 * (R .m / 2)) in
+      let e : g .place ≡ placeNo k R = ap (λ (y : Part). y .place) eg ∙ part-is .place in
       let room : R .q * (2 * h .rows) ≤ length (drop (placeNo k R) s) = rw (length-drop, twice) (omega (arith, fits .room)) in
-      let r = range-left (made (2 * (R .m / 2))) ws x (R .q) (R .m / 2) (drop (placeNo k R) s) (subst (Sized 2 65536) (sym even) (ok .columns)) (ok .logins) (ok .packed)
+      let r = range-left M ws x (R .q) (R .m / 2) (drop (placeNo k R) s) (subst (Sized 2 65536) (sym even) (ok .columns)) (ok .logins) (ok .packed)
       (ok .public ∙ ap (λ (i : ℕ). i - 2) (sym even)) (subst (Sized 1 65536) (sym rows-are) (fits .size)) (rw rows-are (fits .most)) room in
-      let g : u ≡ words T ++ drop (wordsNo k R) (drop (placeNo k R) s) =
-      eu ∙ (ap (λ (i : ℕ). rangeOut (made (2 * (R .m / 2))) ws x (R .q) (R .m / 2) (take (length s - i) (drop i s))) e
-      ∙ (ap (rangeOut (made (2 * (R .m / 2))) ws x (R .q) (R .m / 2)) (back-part s (placeNo k R))
-      ∙ (r ∙ ap₂ (λ (l : List ℕ) (i : ℕ). words l ++ drop i (drop (placeNo k R) s)) (made-is (2 * (R .m / 2))) twice))) in
+      let f : u ≡ words T ++ drop (wordsNo k R) (drop (placeNo k R) s) =
+      eu ∙ (ap (λ (y : Part). rangeOut (record { rows = y .rows; cols = 2 * (R .m / 2); entries = take (y .to - y .from) (drop (y .from) (R .entries)) }) ws x (R .q) (R .m / 2)
+      (take (length s - g .place) (drop (g .place) s))) eg
+      ∙ (ap (λ (i : ℕ). rangeOut M ws x (R .q) (R .m / 2) (take (length s - i) (drop i s))) e
+      ∙ (ap (rangeOut M ws x (R .q) (R .m / 2)) (back-part s (placeNo k R))
+      ∙ (r ∙ ap₂ (λ (l : List ℕ) (i : ℕ). words l ++ drop i (drop (placeNo k R) s)) (made-is (2 * (R .m / 2))) twice)))) in
       subst (λ (i : ℕ). Placed (wordsNo k R) (placeNo k R) T s (putMid i (length s - i) s u)) (sym e)
-      (placed-there (wordsNo k R) (placeNo k R) T s T-long (fits .free) (fits .room) u g)
+      (placed-there (wordsNo k R) (placeNo k R) T s T-long (fits .free) (fits .room) u f)
 
   -- made in front by a walk over records, and copied
   pub moved-there : (u : List ℕ) (p n : ℕ) → p ≡ h .place → n ≡ productWords (R .q) (h .rows) → u ≡ words (tableOf R ws x (made (R .m))) ++ drop (R .q * (2 * h .rows)) s
