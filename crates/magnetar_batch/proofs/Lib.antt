@@ -6,3 +6,6 @@ pub mod Groups
 pub mod TableWalk
 pub mod ColumnLaws
 pub mod ComboEnds
+pub mod RowWalk
+pub mod SystemWalk
+pub mod CheckEnds
