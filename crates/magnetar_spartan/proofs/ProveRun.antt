@@ -3,7 +3,7 @@
 use mathlib.Core.Path.{_≡_, refl, sym, ap, ap₂, _∙_, subst}
 use mathlib.Core.Bool.{true}
 use mathlib.Core.List.{List, [], _∷_, _++_, reverse, append-assoc}
-use Prim.Native.Nat.{ℕ, suc, _+_, _-_, _*_, _/_, _^_, _≤_, _<_}
+use Prim.Native.Nat.{ℕ, suc, _+_, _-_, _*_, _/_, _^_, _≤_, _<_, max}
 use native.Mathlib.Nat.{mul-add}
 use native.Mathlib.Omega.{arith}
 use lib.Dec.{eqb}
@@ -18,7 +18,7 @@ use Rattle.magnetar_hash.specs.declared.transcript.Transcript.{Transcript}
 use Rattle.magnetar_hash.specs.declared.transcript.TranscriptAnswer.{TranscriptAnswer}
 use Rattle.magnetar_hash.specs.Transcript.{absorbed, drawn}
 use Rattle.magnetar_layout.specs.Every.{every}
-use Rattle.magnetar_layout.specs.Tests.{roomTest}
+use Rattle.magnetar_layout.specs.Tests.{noted, roomTest}
 use Rattle.magnetar_matrix.specs.Batch.{Relation, Batch, folded}
 use Rattle.magnetar_matrix.specs.Packed.{packedTable}
 use Rattle.magnetar_matrix.proofs.TableLaws.{elements-words}
@@ -40,13 +40,19 @@ use Rattle.magnetar_rounds.specs.Entries.{counterTest, countTests, totalTests, 
 use Rattle.magnetar_rounds.specs.Whole.{outerWhole}
 use Rattle.magnetar_rounds.proofs.Joined.{whole-is}
 use Rattle.magnetar_relation.specs.Rules.{Rules, relationOf}
+use Rattle.magnetar_relation.specs.RuleTests.{ruleTests}
 use Rattle.magnetar_spartan.specs.Refusals.{outlineOf, rowsBin, rowsFld, proofWords, claimWords, proverRoom}
+use Rattle.magnetar_spartan.specs.Numbers.{proveTestsBy}
 use Rattle.magnetar_spartan.specs.Ready.{Ready}
+use Rattle.magnetar_spartan.specs.Table.{tableAt}
 use Rattle.magnetar_spartan.specs.Outcome.{batchOf, proveDraws, proveRefusal, proveOutcome, proved}
 use Rattle.magnetar_spartan.specs.Proving.{bare, RunReady, outerNumber, OuterDone, saidBefore, drawnBefore, saidAll, drawnAll, laterPlayed, LaterLeft}
-use Rattle.magnetar_spartan.specs.Products.{tablesWanted, Products}
+use Rattle.magnetar_spartan.specs.Products.{tablesWanted, Products, ProductsLeft}
 use Rattle.magnetar_spartan.proofs.Fine.{noted-none, size-fine, most-fine, true-fine}
-use Rattle.magnetar_spartan.proofs.Ended.{draws-small}
+use Rattle.magnetar_spartan.proofs.ByNumbers.{prove-by}
+use Rattle.magnetar_spartan.proofs.Ended.{provable, draws-small}
+use Rattle.magnetar_spartan.proofs.Room.{Beyond}
+use Rattle.magnetar_spartan.proofs.DrawnTable.{drawn-combined, drawn-beyond}
 use Rattle.magnetar_spartan.proofs.Complete.{sized-batch}
 use Rattle.magnetar_spartan.proofs.LaterLaws.{behind-front, laid-front}
 
@@ -175,7 +181,7 @@ module _ (R : Rules) (ws x w c s : List ℕ) (t : Transcript)
       unfolding outerProving
       counter-is = ap (λ (y : Transcript). y .«squeeze_ctr») u-is ∙ counter-left r (productTables r B (elements x)) (tauSteps r t)
 
-      d-long : length d ≡ 256
+      pub d-long : length d ≡ 256
       d-long =
           ap length d-is ∙ (length-append (words (O .played .draws)) (drop (drawnBefore R) z₀)
           ∙ omega (arith, drawn-long, length-drop (drawnBefore R) z₀, length-replicate {A = ℕ} 256 0, small))
@@ -197,10 +203,10 @@ module _ (R : Rules) (ws x w c s : List ℕ) (t : Transcript)
       abbrev pub D : List ℕ
       D = words (O .played .draws) ++ replicate (2 * logCols o) 0
 
-      D-long : length D ≡ 2 * drawCount o
+      pub D-long : length D ≡ 2 * drawCount o
       D-long = length-append (words (O .played .draws)) (replicate (2 * logCols o) 0) ∙ omega (arith, drawn-long, length-replicate {A = ℕ} (2 * logCols o) 0)
 
-      D-over : d ≡ overlaid D z₀
+      pub D-over : d ≡ overlaid D z₀
       D-over =
           d-is ∙ (ap (λ (l : List ℕ). words (O .played .draws) ++ l) (zeros (drawnBefore R) (2 * logCols o) 256 (omega (arith, small)))
           ∙ (sym (append-assoc (words (O .played .draws)) (replicate (2 * logCols o) 0) (drop (drawnBefore R + 2 * logCols o) z₀))
@@ -289,3 +295,41 @@ module _ (R : Rules) (ws x w c s : List ℕ) (t : Transcript)
             let ec : c′ ≡ words (proverClaims r B (proverDraws r B (elements x) t)) ++ drop (claimWords R) c = e .2 ∙ ap (λ (l : List ℕ). words l ++ drop (claimWords R) c) cl in
             let es : s′ ≡ replicate (proverRoom R) 0 ++ drop (proverRoom R) s = e .3 ∙ ap (λ (l : List ℕ). replicate (proverRoom R) 0 ++ l) (rest ∙ s₂-rest) in
             rw (z, eu, ew, ec, es)
+
+-- ---- the whole prover: y is the number of 4 to 7, z that of all tests
+abbrev pub unlaid : Rules → Rules
+unlaid R = record { m = R .m; q = R .q; lengths = []; shapes = R .shapes; numbers = R .numbers; entries = R .entries }
+
+module _ (R : Rules) (ws x w c s : List ℕ) (t : Transcript) (y z : ℕ) (hy : y ≡ noted 0 (ruleTests R))
+    (hz : z ≡ noted 0 (proveTestsBy y (outlineOf R) (length ws) (length x) (t .«squeeze_ctr») (length w) (length c) (length s))) where
+  number : z ≡ proveRefusal R ws x t w c s
+  unfolding proveRefusal
+  number = hz ∙ prove-by R y hy ws x (t .«squeeze_ctr») (length w) (length c) (length s)
+
+  -- turned back
+  pub prove-back : (z ≡ 0 → ⊥) → proved (record { code = z; transcript = t }) w c s ≡ proveOutcome R ws x t w c s
+  unfolding proveOutcome
+  prove-back h = rw (← number, ne-eqb z 0 h)
+
+  -- run through: the products, the outer rounds, the combined table, and what is behind it
+  pub prove-ends : z ≡ 0 → (s₁ s₂ s₃ : List ℕ) (u u′ : Transcript) (d v w′ c′ s′ : List ℕ) → ProductsLeft (unlaid R) ws x s s₁
+      → OuterDone (R .q) (rowsBin R) (rowsFld R) w s₁ t u d v s₂ → s₃ ≡ tableAt (relationOf R) d s₂
+      → Elements (elements x) × (length d ≡ 256 → LaterLeft (bare (R .m) (R .q) (rowsBin R) (rowsFld R) (R .lengths)) ws x v d c s₃ u u′ w′ c′ s′)
+      → proved (record { code = 0; transcript = u′ }) w′ c′ s′ ≡ proveOutcome R ws x t w c s
+  unfolding proveRefusal
+  prove-ends h s₁ s₂ s₃ u u′ d v w′ c′ s′ products done combined later =
+      let none : proveRefusal R ws x t w c s ≡ 0 = sym number ∙ h in
+      let p = provable R ws x (t .«squeeze_ctr») (length w) (length c) (length s) none in
+      let ok : RunReady R (length ws) (length x) (length w) (length c) (length s) (t .«squeeze_ctr») =
+      record { ready = p .ready; packed = p .packed; public = p .public; proof = p .proof; claims = p .claims; scratch = p .scratch; counter = p .counter } in
+      let P = products (record { columns = p .ready .columns; logins = p .ready .logins; bin = p .ready .bin; fld = p .ready .fld; packed = p .packed; public = p .public;
+        room = omega (arith, p .scratch, mul-add (R .q) (rowsBin R) (rowsFld R)) }) in
+      let Q : Products R ws x s s₁ = record { long = P .long; rest = P .rest; tables = P .tables } in
+      let enough : 2 * R .m + 2 * max (rowsBin R) (rowsFld R) ≤ length s₂ = omega (arith, s₂-long R ws x w c s t ok s₁ Q u d v s₂ done, p .scratch) in
+      let drawn = D R ws x w c s t ok s₁ Q u d v s₂ done in
+      let many = D-long R ws x w c s t ok s₁ Q u d v s₂ done in
+      let e : s₃ ≡ tableAt (relationOf R) (overlaid drawn (replicate 256 0)) s₂ =
+      combined ∙ ap (λ (l : List ℕ). tableAt (relationOf R) l s₂) (D-over R ws x w c s t ok s₁ Q u d v s₂ done) in
+      let b : Beyond (proverRoom R) s₂ s₃ = subst (Beyond (proverRoom R) s₂) (sym e) (drawn-beyond R (p .ready) drawn s₂ many enough (proverRoom R) (omega arith)) in
+      run-is R ws x w c s t ok s₁ Q u d v s₂ done s₃ (ap (λ (l : List ℕ). take (R .m) (elements l)) e ∙ drawn-combined R (p .ready) drawn s₂ many enough) (b .long) (b .rest)
+      (later .0) none u′ w′ c′ s′ (later .1 (d-long R ws x w c s t ok s₁ Q u d v s₂ done))
