@@ -86,19 +86,22 @@ failing=magnetar_batch::check::Failing
 check=Rattle.magnetar_inplace.proofs.CheckWalk
 zs='Rattle.magnetar_relation.specs.Steps.{loginZ}'
 in='Rattle.magnetar_inplace.specs.Ranges.{systemIn}'
-core=Rattle.magnetar_batch.proofs.WalkLaws
+core=Rattle.magnetar_batch.proofs
+over='Rattle.magnetar_relation.specs.Rules.{rulesOver}'
 long="$walks.{records-length}"
 each EachMNNNNNNSSI MNNNNNNSSI
 count CountANIMQNNNNNNSSE ANIMQNNNNNNSSE $failing
 thin check::product --use "$check.{product-ends}" --use "$entries" --use "$words" --use "$zs" \
   --final 'product-ends n3 n4 (loginZ n6 (s9 .now) (elements (s10 .now)) n5) n7 n8 (entriesOfRecords (s1 .now)) ys2 (ws1 .0) (ws2 .1 .0) e1 e2'
-thin check::check_login --use "$check.{login-ends}" --use "$entries" --use "$words" --use "$zs" \
-  --final 'login-ends n5 (loginZ n10 (s11 .now) (elements (s12 .now)) n3) n6 n7 n8 n9 (entriesOfRecords (s13 .now)) n1 n2 n3 r1 ys4 (ws2 .1 .0) (ws3 .1 .0) (ws4 .1 .0) (ws5 .1 .1 .1 .0) r5 e1 e2 e3 e4 e5'
-thin check::login_unless --use "$core.{unless-some, unless-none}" --use "$entries" --use "$words" --use "$zs" --use "$in" \
+thin check::check_login --use "$core.RowWalk.{login-ends}" --use "$entries" --use "$words" --use "$zs" --use "$in" \
+  --final 'login-ends n1 n2 n3 (loginZ n10 (s11 .now) (elements (s12 .now)) n3) (systemIn n5 n6 n7 n8 n9 (entriesOfRecords (s13 .now))) ys4 (ws2 .1 .0) (ws3 .1 .0) (ws4 .1 .0) (ws5 .1 .1 .1 .0) r5 r1 e1 e2 e3 e4 e5'
+thin check::login_unless --use "$core.RowWalk.{unless-some, unless-none}" --use "$entries" --use "$words" --use "$zs" --use "$in" \
   --final 'unless-some n2 (loginZ n10 (s11 .now) (elements (s12 .now)) n3) (systemIn n5 n6 n7 n8 n9 (entriesOfRecords (s13 .now))) n3 n1 r2 ys4 (ws2 .1 .1 .1 .0) (sym e1 ∙ b1) e2' \
   --final 'unless-none n2 (loginZ n10 (s11 .now) (elements (s12 .now)) n3) (systemIn n5 n6 n7 n8 n9 (entriesOfRecords (s13 .now))) n3 n1 ys4 (sym e1 ∙ b1)'
 thin check::judge --use "$check.{judge-ends}" --use "$entries" --use "$words" --use "$long" \
   --final 'judge-ends n3 n4 n5 (entriesOfRecords (s6 .now)) _ (records-length (s6 .now)) n7 (s8 .now) (elements (s9 .now)) ys2 (ws4 .1 .1 .0) (ws5 .1 .1 .0) (ws6 .1 .0) r1 e1 r3 r4 r5 e3 n1 r2 e2 e4 e5 e6'
+thin check::row_check --use "$core.CheckEnds.{check-by, check-ends}" --use "$entries" --use "$over" --use 'Rattle.magnetar_batch.specs.Check.{outcome}' --use 'mathlib.Core.List.{[]}' \
+  --final 'let R = rulesOver n2 n3 [] n4 (entriesOfRecords (s5 .now)) in check-ends R (s6 .now) (s7 .now) ys1 r2 (check-by R (s6 .now) (s7 .now) _ r1 r2 e1 e2) r3 e3 r4 (ws4 .1 .0) (outcome r5) e4 e5'
 
 # the combined table
 combo=Rattle.magnetar_inplace.proofs.ComboWalk
@@ -109,6 +112,8 @@ thin combo::combine --use "$combo.{combine-ends}" --use "$entries" --use "$long"
   --final 'combine-ends n2 n3 (entriesOfRecords (s7 .now)) _ (records-length (s7 .now)) n4 n5 n6 ys1 (ws2 .1 .0) (ws3 .1 .0) (ws4 .1 .0) (ws5 .0) r1 e1 e2 e3 e4 e5'
 thin combo::fill --final '(cc, cc)'
 thin combo::fill_unless --final '(refl, rw (← e1, b1) (e2 .0), rw (← e1, b1) (e2 .1))' --final '(refl, rw (← e1, b1) refl, rw (← e1, b1) refl)'
+thin combo::build_m_combo --use "$core.ComboEnds.{combo-by, combo-ends}" --use "$entries" --use "$over" --use 'mathlib.Core.List.{[]}' \
+  --final 'let R = rulesOver n3 1 [] n4 (entriesOfRecords (s5 .now)) in combo-ends R (s6 .now) (s7 .now) (s8 .now) ys1 ys2 r2 (combo-by R (s6 .now) (s7 .now) (s8 .now) _ _ r1 r2 e1 e2) r3 (ws3 .1 .0) (ws3 .1 .1 .0) e3'
 
 # magnetar_forms: locals lent to the thin functions
 crate magnetar_forms
@@ -119,25 +124,15 @@ thin lent::challenge_field_vec --final '(cc, cc, cc)'
 thin lent::is_binary --requires 'n4 ≤ 32' --part pre
 for g in apply eval_mle_table eval_mle_at apply_simd_packed; do thin lent::$g --requires 'n4 ≤ 32' --part pre --final e1; done
 
-# magnetar_records: the combined table and the verifier
-crate magnetar_records
-each EachNNM NNM
-thin combo::add_matrix
-thin combo::combine
-thin combo::fill --final '(cc, cc)'
-thin combo::fill_unless --final '(refl, rw (← e1, b1) (e2 .0), rw (← e1, b1) (e2 .1))' --final '(refl, rw (← e1, b1) refl, rw (← e1, b1) refl)'
-thin combo::refused --use "$ends.ComboEnds.{combo-refused}" --final "combo-refused $(six 2) n1 (s20 .now) (s21 .now) (s22 .now) n23 n24 r1 r2 e1 e2"
-thin combo::build_m_combo --use "$ends.ComboEnds.{combo-ends}" \
-  --final "combo-ends $(six 4) n3 (s22 .now) (s23 .now) (s24 .now) ys1 ys2 r1 e1 r2 (ws2 .1 .0) (ws2 .1 .1 .0) e2"
-thin virtual_spartan::combine_at
-thin virtual_spartan::combine
-thin virtual_spartan::verify_in --use "$ends.StageLaws.{run-left}" \
-  --final 'run-left n4 n5 n7 n8 (s6 .now) (s15 .now) (s16 .now) h1 ys2 _ (ws1 .0) r2 (ws2 .0) (ws2 .1 .0) e1 e2'
-thin virtual_spartan::verify_unless --final 'rw (← e1, b1) e2' --final 'rw (← e1, b1) refl'
-thin virtual_spartan::refused --use "$ends.RunEnds.{verify-refused}" \
-  --final "verify-refused $(six 4) n1 n2 (s3 .now) (s22 .now) (s23 .now) n24 n25 n26 r1 r2 e1 e2"
-thin virtual_spartan::verify_virtual_spartan --use "$ends.RunEnds.{verify-ends}" \
-  --final "verify-ends $(six 7) n4 n5 (s6 .now) (s25 .now) (s26 .now) h1 ys2 ys3 r1 e1 r2 (ws2 .1 .0) (ws2 .1 .1 .0) (ws2 .1 .1 .1 .0) e2"
+# magnetar_spartan: the verifier over one slice of records
+crate magnetar_spartan
+over='--use Rattle.magnetar_relation.specs.Rules.{rulesOver} --use Rattle.magnetar_inplace.specs.Records.{entriesOfRecords}'
+thin records::combine_at --final 'e4 ∙ rw (e1, e2, e3)'
+thin records::combine_unless --final 'rw (← e1, b1) e2' --final 'rw (← e1, b1) refl'
+thin records::verify_with --use "$ends.VerifyEnds.{verify-ends}" $over \
+  --final 'λ h. verify-ends (rulesOver n4 n5 (s6 .now) n7 (entriesOfRecords (s8 .now))) (s9 .now) (s10 .now) n11 ys2 ys3 n1 r1 h e1 r6 (ws6 .1 .0) (ws6 .1 .1 .0) r2 (ws5 .1 .0) e2 (rw (← e3, ← e4) e5) e6'
+thin records::verify_virtual_spartan --use "$ends.ByNumbers.{over-free}" $over \
+  --final 'e2 (e1 ∙ over-free n4 n5 (s6 .now) n7 (entriesOfRecords (s8 .now)))'
 
 # magnetar_records_prover: the prover
 crate magnetar_records_prover
