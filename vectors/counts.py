@@ -79,7 +79,7 @@ def rows():
     yield f"| `magnetar_cases` | {thousands(sum(asked.values()))} on {cases} relations: {of(asked, LINES)} |"
     both = [name for name in LINES if name != "checks"]
     records = {name: asked[name] - alone[name] for name in both}
-    yield f"| of these also over records | {thousands(sum(records.values()))}: {of(records, both)}; the other {sum(alone.values())} of these kinds are answered after a line `alone`: a matrix has four lists of unequal length, or more than 64 entries |"
+    yield f"| of these also over records | {thousands(sum(records.values()))}: {of(records, both)}; the other {sum(alone.values())} of these kinds are answered after a line `alone`: the four lists are of unequal length, or of more than 384 entries |"
     forms = ops("magnetar_forms")
     assert set(forms) == TRANSCRIPTS | MATRICES
     names = "absorb absorbfield absorbu64 absorbdigest draw drawvec isbinary apply packed table at".split()

@@ -283,7 +283,7 @@ pub extern "C" fn magnetar_verify_virtual_spartan(
 ) -> MagnetarAnswer
     ensures { λ r. ⌜ verified (across.answer r) (now (claims .exit)) (now (scratch .exit))
         ≡ verifyOutcome (rules m q (now (lens .entry)) sh (now (row .entry)) (now (col .entry)) (now (lo .entry)) (now (hi .entry)))
-            (now (x .entry)) (now (proof .entry)) (across.transcript t) (now (claims .entry)) (now (scratch .entry)) ⌝ }
+        (now (x .entry)) (now (proof .entry)) (across.transcript t) (now (claims .entry)) (now (scratch .entry)) ⌝ }
 {
     answer_out(virtual_spartan::verify_virtual_spartan(
         claims,
@@ -322,7 +322,7 @@ pub extern "C" fn magnetar_prove_virtual_spartan(
 ) -> MagnetarAnswer
     ensures { λ r. ⌜ proved (across.answer r) (now (proof .exit)) (now (claims .exit)) (now (scratch .exit))
         ≡ proveOutcome (rules m q (now (lens .entry)) sh (now (row .entry)) (now (col .entry)) (now (lo .entry)) (now (hi .entry)))
-            (now (packed .entry)) (now (x .entry)) (across.transcript t) (now (proof .entry)) (now (claims .entry)) (now (scratch .entry)) ⌝ }
+        (now (packed .entry)) (now (x .entry)) (across.transcript t) (now (proof .entry)) (now (claims .entry)) (now (scratch .entry)) ⌝ }
 {
     answer_out(virtual_spartan::prove_virtual_spartan(
         proof,
@@ -357,10 +357,8 @@ pub extern "C" fn magnetar_row_check(
     x: &[u64],
 ) -> MagnetarRowCheck
     ensures { λ r. ⌜ (let o = checkOutcome (rules m q [] sh (now (row .entry)) (now (col .entry)) (now (lo .entry)) (now (hi .entry)))
-            (now (packed .entry)) (now (x .entry)) (now (scratch .entry)) in
+        (now (packed .entry)) (now (x .entry)) (now (scratch .entry)) in
         (r ≡ across.crossed (o .answer)) × (now (scratch .exit) ≡ o .scratch)) ⌝ }
 {
-    check_out(check::row_check(
-        scratch, m, q, sh, row, col, lo, hi, packed, x,
-    ))
+    check_out(check::row_check(scratch, m, q, sh, row, col, lo, hi, packed, x))
 }
