@@ -49,10 +49,10 @@ impl Rules {
     }
 
     /// The matrices A, B, C of both systems, joined.
-    pub fn join(bin: &[Matrix; 3], fld: &[Matrix; 3]) -> Rules {
+    pub fn join(bin: [&Matrix; 3], fld: [&Matrix; 3]) -> Rules {
         let mut r = Rules::default();
-        let mut shape = |system: &[Matrix; 3]| {
-            let [a, b, c] = system.each_ref().map(|m| r.push(m));
+        let mut shape = |system: [&Matrix; 3]| {
+            let [a, b, c] = system.map(|m| r.push(m));
             SystemShape { a, b, c }
         };
         let shapes = Shapes { bin: shape(bin), fld: shape(fld) };
@@ -91,7 +91,7 @@ fn log(n: usize) -> usize {
 impl Relation {
     /// With A, B, C of bin and of fld, whose entries are copied once.
     pub fn new(m: usize, q: usize, segments: Vec<usize>, bin: &[Matrix; 3], fld: &[Matrix; 3]) -> Relation {
-        Relation { m, q, segments, rules: Rules::join(bin, fld) }
+        Relation { m, q, segments, rules: Rules::join(bin.each_ref(), fld.each_ref()) }
     }
 
     /// The rows of bin and of fld.
