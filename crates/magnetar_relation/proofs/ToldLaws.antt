@@ -3,23 +3,49 @@
 use mathlib.Core.Path.{_≡_, refl, sym, ap, _∙_}
 use mathlib.Core.Bool.{Bool, true, false, cond, _&&_}
 use mathlib.Core.List.{List, [], _∷_, _++_}
-use Prim.Native.Nat.{ℕ, zero, suc, _+_, _-_, _<_, _≤_}
+use Prim.Native.Nat.{ℕ, zero, suc, _+_, _-_, _<_, _≤_, min}
 use native.Mathlib.Omega.{arith}
+use native.Mathlib.Nat.{zero-add, le-of-suc-le-suc}
 use native.Mathlib.Numerals.{add-one}
-use lib.ListN.{length, getD, take, drop, length-drop, take-append-drop}
+use lib.ListN.{length, getD, take, drop, length-drop, take-append-drop, drop-of-length-le}
 use lib.Seq.{drop-drop, length-take-le, take-all}
 use lib.Dec.{ltb, leb}
 use borrow.Author.Tests.{lt-ltb, le-ltb, le-leb, lt-leb}
 use Rattle.magnetar_layout.specs.Every.{every}
 use Rattle.magnetar_matrix.specs.Matrix.{Entry}
 use Rattle.magnetar_matrix.specs.Lent.{entry, entriesOf}
-use Rattle.magnetar_matrix.specs.Table.{Equal}
-use Rattle.magnetar_matrix.proofs.Walked.{entry-at}
 use Rattle.magnetar_relation.specs.declared.shapes.Shape.{Shape}
 use Rattle.magnetar_relation.specs.declared.shapes.Shapes.{Shapes}
 use Rattle.magnetar_relation.specs.Rules.{entriesIn, systemAt, liesIn, inSystem, relationOf, rulesOver, inRelation}
 use Rattle.magnetar_relation.specs.RuleTests.{total}
 use Rattle.magnetar_relation.specs.Told.{shapeIn, shapeAt, liesAt, everyFrom, walked, walkedWithin}
+
+-- ---- how many entries four slices hold
+abbrev pub held : (r c l h : List ℕ) → ℕ
+held r c l h = min (min (length r) (length c)) (min (length l) (length h))
+
+pub entries-held : (r c l h : List ℕ) → length (entriesOf r c l h) ≡ held r c l h
+unfolding entriesOf
+entries-held [] c l h = omega arith
+entries-held (x ∷ r) [] l h = omega arith
+entries-held (x ∷ r) (y ∷ c) [] h = omega arith
+entries-held (x ∷ r) (y ∷ c) (z ∷ l) [] = omega arith
+entries-held (x ∷ r) (y ∷ c) (z ∷ l) (u ∷ h) = let e = entries-held r c l h in omega (arith, e)
+
+held-suc : (r c l h : List ℕ) (i : ℕ) → i < length r → i < length c → i < length l → i < length h
+    → drop i (entriesOf r c l h) ≡ entry (getD r i 0) (getD c i 0) (getD l i 0) (getD h i 0) ∷ drop (suc i) (entriesOf r c l h)
+unfolding entriesOf
+held-suc [] c l h i a b d e = absurd (omega arith)
+held-suc (x ∷ r) [] l h i a b d e = absurd (omega arith)
+held-suc (x ∷ r) (y ∷ c) [] h i a b d e = absurd (omega arith)
+held-suc (x ∷ r) (y ∷ c) (z ∷ l) [] i a b d e = absurd (omega arith)
+held-suc (x ∷ r) (y ∷ c) (z ∷ l) (u ∷ h) zero a b d e = refl
+held-suc (x ∷ r) (y ∷ c) (z ∷ l) (u ∷ h) (suc i) a b d e =
+    held-suc r c l h i (le-of-suc-le-suc a) (le-of-suc-le-suc b) (le-of-suc-le-suc d) (le-of-suc-le-suc e)
+
+pub entry-held : (r c l h : List ℕ) (i : ℕ) → i < length r → i < length c → i < length l → i < length h
+    → drop i (entriesOf r c l h) ≡ entry (getD r i 0) (getD c i 0) (getD l i 0) (getD h i 0) ∷ drop (i + 1) (entriesOf r c l h)
+entry-held r c l h i a b d e = rw add-one (held-suc r c l h i a b d e)
 
 -- ---- a flag that goes round
 and-assoc : (a b c : Bool) → ((a && b) && c) ≡ (a && (b && c))
@@ -38,6 +64,20 @@ module _ (p : ℕ → Entry → Bool) (i : ℕ) (b : Bool) where
   pub carried-end : (r : Bool) → (r && everyFrom p i []) ≡ b → r ≡ b
   unfolding everyFrom
   carried-end r h = sym (and-true r) ∙ h
+
+-- ---- the entries that four slices hold, as far as each of them reaches
+module _ (p : ℕ → Entry → Bool) (b : Bool) where
+  -- one turn of a loop that carries the flag
+  pub told-more : (r c l h : List ℕ) (i : ℕ) (a a′ : Bool) → i < length r → i < length c → i < length l → i < length h
+      → a′ ≡ (a && p i (entry (getD r i 0) (getD c i 0) (getD l i 0) (getD h i 0)))
+      → (a && everyFrom p i (drop i (entriesOf r c l h))) ≡ b → (a′ && everyFrom p (i + 1) (drop (i + 1) (entriesOf r c l h))) ≡ b
+  told-more r c l h i a a′ u v w x q e =
+      carried p i b (entry (getD r i 0) (getD c i 0) (getD l i 0) (getD h i 0)) (drop (i + 1) (entriesOf r c l h)) a a′ q
+      (ap (λ (es : List Entry). a && everyFrom p i es) (sym (entry-held r c l h i u v w x)) ∙ e)
+
+  pub told-end : (r c l h : List ℕ) (i : ℕ) (a : Bool) → held r c l h ≤ i → (a && everyFrom p i (drop i (entriesOf r c l h))) ≡ b → a ≡ b
+  told-end r c l h i a u e =
+      carried-end p i b a (ap (λ (es : List Entry). a && everyFrom p i es) (sym (drop-of-length-le (entriesOf r c l h) {i = i} (rw (entries-held r c l h) u))) ∙ e)
 
 -- ---- entries told their index are those of six matrices, one behind the other
 add-zero : (i : ℕ) → i + 0 ≡ i
@@ -58,7 +98,6 @@ from-same p q i [] h = refl
 from-same p q i (x ∷ xs) h =
     rw (h i x (omega arith) (omega arith), from-same p q (suc i) xs (λ j e a b. h j e (omega arith) (omega arith)))
 
-
 -- the entries of a matrix of the shape h from place a on lie inside it
 abbrev inside : Shape → ℕ → List Entry → Bool
 inside h a es = every (liesIn (h .rows) (h .cols)) (take (h .entries) (drop a es))
@@ -75,11 +114,19 @@ one-matrix p h a b es eb le same =
     ∙ rw (n, d, from-same p (liesIn (h .rows) (h .cols)) a (take k (drop a es)) (λ j e u v. same j e u (omega (arith, n, v)))))
 
 module _ (s : Shapes) (j : ℕ) where
-  abbrev ea eb ec fa fb : ℕ
+  abbrev ea : ℕ
   ea = s .bin .a .entries
+
+  abbrev eb : ℕ
   eb = ea + s .bin .b .entries
+
+  abbrev ec : ℕ
   ec = eb + s .bin .c .entries
+
+  abbrev fa : ℕ
   fa = ec + s .fld .a .entries
+
+  abbrev fb : ℕ
   fb = fa + s .fld .b .entries
 
   at1 : j < ea → shapeAt s j ≡ s .bin .a
@@ -127,6 +174,36 @@ module _ (s : Shapes) (j : ℕ) where
 lies-same : (s : Shapes) (h : Shape) (j : ℕ) (e : Entry) → shapeAt s j ≡ h → liesAt s j e ≡ liesIn (h .rows) (h .cols) e
 lies-same s h j e q = rw q
 
+and-all : (a b c d : Bool) → (a && (b && (c && d))) ≡ ((a && (b && c)) && d)
+and-all true true true d = refl
+and-all true true false d = refl
+and-all true false c d = refl
+and-all false b c d = refl
+
+-- all entries told their index lie inside: those of each matrix do
+pub told-six : (s : Shapes) (es : List Entry) → length es ≡ total s
+    → everyFrom (liesAt s) 0 es ≡ (inSystem (systemAt (s .bin) 0 es) && inSystem (systemAt (s .fld) (entriesIn (s .bin)) es))
+told-six s es l =
+    let p = liesAt s in
+    let k₁ = s .bin .a .entries in
+    let k₂ = k₁ + s .bin .b .entries in
+    let k₃ = k₂ + s .bin .c .entries in
+    let k₄ = k₃ + s .fld .a .entries in
+    let k₅ = k₄ + s .fld .b .entries in
+    let d : length (drop k₅ es) ≤ s .fld .c .entries = rw length-drop (omega arith) in
+    let t : take (s .fld .c .entries) (drop k₅ es) ≡ drop k₅ es = take-all (s .fld .c .entries) (drop k₅ es) d in
+    one-matrix p (s .bin .a) 0 k₁ es (omega arith) (omega arith) (λ j e u v. lies-same s (s .bin .a) j e (at1 s j v))
+    ∙ rw (
+      one-matrix p (s .bin .b) k₁ k₂ es refl (omega arith) (λ j e u v. lies-same s (s .bin .b) j e (at2 s j u v)),
+      one-matrix p (s .bin .c) k₂ k₃ es refl (omega arith) (λ j e u v. lies-same s (s .bin .c) j e (at3 s j u v)),
+      one-matrix p (s .fld .a) k₃ k₄ es refl (omega arith) (λ j e u v. lies-same s (s .fld .a) j e (at4 s j u v)),
+      one-matrix p (s .fld .b) k₄ k₅ es refl (omega arith) (λ j e u v. lies-same s (s .fld .b) j e (at5 s j u v)),
+      zero-add k₁,
+      from-same p (liesIn (s .fld .c .rows) (s .fld .c .cols)) k₅ (drop k₅ es) (λ j e u v. lies-same s (s .fld .c) j e (at6 s j u)),
+      t,
+    )
+    (and-all (inside (s .bin .a) 0 es) (inside (s .bin .b) k₁ es) (inside (s .bin .c) k₂ es)
+    (inside (s .fld .a) k₃ es && (inside (s .fld .b) k₄ es && every (liesIn (s .fld .c .rows) (s .fld .c .cols)) (drop k₅ es))))
 
 -- ---- a walk that passes over the others is a walk over the part
 pub within-more : (g : Entry → List ℕ → List ℕ) (a b i : ℕ) (e : Entry) (es : List Entry) (t t′ : List ℕ) → t′ ≡ cond (leb a i && ltb i b) (g e t) t
@@ -184,16 +261,25 @@ within-is g a k es t = within-from g a (a + k) a k 0 es t (omega arith) refl
 abbrev pub rangeOf : (r c l h : List ℕ) → ℕ → ℕ → List Entry
 rangeOf r c l h a b = take (b - a) (drop a (entriesOf r c l h))
 
-module _ (g : Entry → List ℕ → List ℕ) (r c l h : List ℕ) (q : Equal r c l h) (b : ℕ) (bound : b ≤ length r) (whole : List ℕ) where
-  pub range-more : (i : ℕ) (t t′ : List ℕ) → i < b → walked g (rangeOf r c l h i b) t ≡ whole
+module _ (g : Entry → List ℕ → List ℕ) (r c l h : List ℕ) (b : ℕ) (whole : List ℕ) where
+  -- one turn of a loop over them
+  pub range-more : (i : ℕ) (t t′ : List ℕ) → i < b → i < length r → i < length c → i < length l → i < length h
+      → walked g (rangeOf r c l h i b) t ≡ whole
       → t′ ≡ g (entry (getD r i 0) (getD c i 0) (getD l i 0) (getD h i 0)) t → walked g (rangeOf r c l h (i + 1) b) t′ ≡ whole
-  range-more i t t′ u inv e =
+  range-more i t t′ u u₁ u₂ u₃ u₄ inv e =
       let n : b - i ≡ suc (b - (i + 1)) = omega arith in
-      rw e (walked-step g (b - (i + 1)) (entry (getD r i 0) (getD c i 0) (getD l i 0) (getD h i 0)) (drop (i + 1) (entriesOf r c l h)) t)
-      ∙ (ap (λ (k : ℕ). walked g (take k (entry (getD r i 0) (getD c i 0) (getD l i 0) (getD h i 0) ∷ drop (i + 1) (entriesOf r c l h))) t) (sym n)
-      ∙ (ap (λ (es : List Entry). walked g (take (b - i) es) t) (sym (entry-at r c l h i q (omega arith))) ∙ inv))
+      let x = entry (getD r i 0) (getD c i 0) (getD l i 0) (getD h i 0) in
+      rw e (walked-step g (b - (i + 1)) x (drop (i + 1) (entriesOf r c l h)) t)
+      ∙ (ap (λ (k : ℕ). walked g (take k (x ∷ drop (i + 1) (entriesOf r c l h))) t) (sym n)
+      ∙ (ap (λ (es : List Entry). walked g (take (b - i) es) t) (sym (entry-held r c l h i u₁ u₂ u₃ u₄)) ∙ inv))
 
+  -- the loop's end, at b or where some slice ends
   pub range-end : (i : ℕ) (t : List ℕ) → b ≤ i → walked g (rangeOf r c l h i b) t ≡ whole → t ≡ whole
   range-end i t u inv =
       let n : b - i ≡ 0 = omega arith in
       walked-none g (drop i (entriesOf r c l h)) t ∙ (ap (λ (k : ℕ). walked g (take k (drop i (entriesOf r c l h))) t) (sym n) ∙ inv)
+
+  pub range-past : (i : ℕ) (t : List ℕ) → held r c l h ≤ i → walked g (rangeOf r c l h i b) t ≡ whole → t ≡ whole
+  range-past i t u inv =
+      let d : drop i (entriesOf r c l h) ≡ [] = drop-of-length-le (entriesOf r c l h) {i = i} (rw (entries-held r c l h) u) in
+      walked-none g [] t ∙ (take-none g (b - i) t ∙ (ap (λ (es : List Entry). walked g (take (b - i) es) t) (sym d) ∙ inv))

@@ -62,7 +62,7 @@ fn shapes(m: usize, q: usize, s: Shapes) -> u32
 
 // How many entries a system has.
 fn entries_in(t: SystemShape) -> usize
-    requires { ⌜ noted 0 (mostTests t) ≡ 0 ⌝ }
+    requires { ⌜ (t .a .entries ≤ 1048576) × (t .b .entries ≤ 1048576) × (t .c .entries ≤ 1048576) ⌝ }
     ensures { λ r. ⌜ (r ≡ entriesIn t) × (r ≤ 3145728) ⌝ }
 {
     t.a.entries + t.b.entries + t.c.entries

@@ -1,86 +1,88 @@
 -- `magnetar_relation::rules::all_inside` meets its contract.
 -- Assumes nothing.
+use denote.Ref.{now}
+use Rattle.magnetar_relation.proofs.ToldLaws.{held, told-more, told-end}
+use native.Mathlib.Omega.{arith}
+use mathlib.Core.Path.{_≡_, refl}
+use mathlib.Core.Bool.{_&&_}
+use Prim.Native.Nat.{_-_}
+use lib.ListN.{drop}
+use Rattle.magnetar_matrix.specs.Lent.{entriesOf}
+use Rattle.magnetar_relation.specs.Told.{liesAt, everyFrom}
 use borrow.Author.Needs.{needs}
 use Rattle.magnetar_relation.proofs.rules.all_inside.Statement.{statement}
 use Rattle.magnetar_relation.proofs.rules.all_inside.Tie as tie
-use Rattle.magnetar_relation.proofs.rules.all_inside.Reads as reads
-use Rattle.magnetar_relation.proofs.rules.all_inside.Lts as lts
-use Rattle.magnetar_field.proofs.sizes.least.Reads as least-reads
-use Rattle.magnetar_relation.proofs.rules.lies_at.Reads as lies-at-reads
 
 abbrev Inv-loop : tie.InvT-loop
-Inv-loop s row col lo hi n acc₀ i₀ acc i = ?
+Inv-loop s row col lo hi n acc₀ i₀ acc i =
+    (acc && everyFrom (liesAt s) i (drop i (entriesOf row col lo hi))) ≡ everyFrom (liesAt s) 0 (entriesOf row col lo hi)
 
 abbrev μ-loop : tie.MeasureT-loop
-μ-loop s row col lo hi n acc₀ i₀ acc i = ?
+μ-loop s row col lo hi n acc₀ i₀ acc i = n - i
 
--- src/rules.rt:158:9
+-- the loop goes as far as every slice reaches
+least-all : (c : tie.After-least3 Inv-loop μ-loop) → let x = c .before .before .before .before .before .before .before .args in
+    c .least3 .result ≡ held (now (x .row)) (now (x .col)) (now (x .lo)) (now (x .hi))
+least-all c = rw (c .least3 .ensures .0, c .before .least2 .ensures .0, c .before .before .least .ensures .0)
+
 least-requires : tie.Need-least-requires Inv-loop μ-loop
 least-requires c κs = search needs
 
--- src/rules.rt:159:9
 least-requires-2 : tie.Need-least-requires-2 Inv-loop μ-loop
 least-requires-2 c κs = search needs
 
--- src/rules.rt:157:9
 least-requires-3 : tie.Need-least-requires-3 Inv-loop μ-loop
 least-requires-3 c κs = search needs
 
--- src/rules.rt:163:5
 loop-holds : tie.Need-loop-holds Inv-loop μ-loop
-loop-holds c = search needs
+loop-holds c = refl
 
--- src/rules.rt:164:34
 mul-lies-at : tie.Need-mul-lies-at Inv-loop μ-loop
 mul-lies-at c = search needs
 
--- src/rules.rt:164:34
 shared-slice-read-lies-at : tie.Need-shared-slice-read-lies-at Inv-loop μ-loop
 shared-slice-read-lies-at c = search needs
 
--- src/rules.rt:164:42
 mul-lies-at-2 : tie.Need-mul-lies-at-2 Inv-loop μ-loop
 mul-lies-at-2 c = search needs
 
--- src/rules.rt:164:42
 shared-slice-read-lies-at-2 : tie.Need-shared-slice-read-lies-at-2 Inv-loop μ-loop
 shared-slice-read-lies-at-2 c = search needs
 
--- src/rules.rt:164:50
 mul-lies-at-3 : tie.Need-mul-lies-at-3 Inv-loop μ-loop
 mul-lies-at-3 c = search needs
 
--- src/rules.rt:164:50
 shared-slice-read-lies-at-3 : tie.Need-shared-slice-read-lies-at-3 Inv-loop μ-loop
 shared-slice-read-lies-at-3 c = search needs
 
--- src/rules.rt:164:57
 mul-lies-at-4 : tie.Need-mul-lies-at-4 Inv-loop μ-loop
 mul-lies-at-4 c = search needs
 
--- src/rules.rt:164:57
 shared-slice-read-lies-at-4 : tie.Need-shared-slice-read-lies-at-4 Inv-loop μ-loop
 shared-slice-read-lies-at-4 c = search needs
 
--- src/rules.rt:164:9
 lies-at-requires : tie.Need-lies-at-requires Inv-loop μ-loop
 lies-at-requires c κs = search needs
 
--- src/rules.rt:165:9
 add-i : tie.Need-add-i Inv-loop μ-loop
 add-i c = search needs
 
--- src/rules.rt:163:5
 loop-less : tie.Need-loop-less Inv-loop μ-loop
 loop-less c = search needs
 
--- src/rules.rt:163:5
 loop-again : tie.Need-loop-again Inv-loop μ-loop
-loop-again c = search needs
+loop-again c =
+    let x = c .before .before .before .before .before .before .before .before .before .before .before .before .before .before .args in
+    let l = c .before .before .before .before .before .before .loop in
+    let n = least-all (c .before .before .before .before .before .before .before) in
+    told-more (liesAt (x .s)) _ (now (x .row)) (now (x .col)) (now (x .lo)) (now (x .hi)) (l .i) (l .acc) _ (omega (arith, n)) (omega (arith, n)) (omega (arith, n)) (omega (arith, n))
+    (c .lies-at .ensures) (l .inv)
 
--- src/rules.rt:154:1
 returns : tie.Need-returns Inv-loop μ-loop
-returns c = search needs
+returns c =
+    let x = c .before .before .before .before .before .before .before .before .before .args in
+    told-end (liesAt (x .s)) _ (now (x .row)) (now (x .col)) (now (x .lo)) (now (x .hi)) (c .before .loop .i) (c .before .loop .acc)
+    (omega (arith, least-all (c .before .before))) (c .before .loop .inv)
 
 pub all-inside-spec : {M : Type 1} → statement M
 all-inside-spec =

@@ -1,46 +1,51 @@
 -- `magnetar_relation::rules::refusal` meets its contract.
 -- Assumes nothing.
+use mathlib.Core.Path.{_≡_, sym, _∙_}
+use mathlib.Core.Bool.{not}
+use mathlib.Core.List.{[], _∷_, _++_}
+use Rattle.magnetar_layout.specs.Tests.{Tests}
+use Rattle.magnetar_layout.proofs.Noted.{noted-front, noted-late}
+use Rattle.magnetar_relation.specs.RuleTests.{shapeTests, numberTests, total, ruleTestsBy}
+use Rattle.magnetar_relation.proofs.RuleLaws.{Few, shapes-few}
 use borrow.Author.Needs.{needs}
 use Rattle.magnetar_relation.proofs.rules.refusal.Statement.{statement}
 use Rattle.magnetar_relation.proofs.rules.refusal.Tie as tie
-use Rattle.magnetar_relation.proofs.rules.refusal.Reads as reads
-use Rattle.magnetar_relation.proofs.rules.refusal.Lts as lts
-use Rattle.magnetar_layout.proofs.tests.note.Reads as note-reads
-use Rattle.magnetar_relation.proofs.rules.entries_in.Reads as entries-in-reads
-use Rattle.magnetar_relation.proofs.rules.numbers.Reads as numbers-reads
-use Rattle.magnetar_relation.proofs.rules.shapes.Reads as shapes-reads
 
--- src/rules.rt:94:9
+-- the tests behind those of the shapes
+abbrev rest : tie.Start → Tests
+rest s = let x = s .args in numberTests (total (x .s)) (x .r ∷ x .c ∷ x .l ∷ x .h ∷ []) ++ ((7, not (x .inside)) ∷ [])
+
+small : (c : tie.Else1) → let s = c .before .before .args .s in Few (s .bin) × Few (s .fld)
+small c = let x = c .before .before .args in shapes-few (x .m) (x .q) (x .s) (sym (c .before .shapes .ensures) ∙ c .if1 .left)
+
 shapes-requires : tie.Need-shapes-requires
 shapes-requires c κs = search needs
 
--- src/rules.rt:96:9
 returns : tie.Need-returns
-returns c = ?
+unfolding ruleTestsBy
+returns c = let x = c .before .before .args in noted-front (shapeTests (x .m) (x .q) (x .s)) (rest (c .before .before)) _ (c .before .shapes .ensures) (c .if1 .taken)
 
--- src/rules.rt:100:13
 entries-in-requires : tie.Need-entries-in-requires
-entries-in-requires c κs = ?
+entries-in-requires c κs = let k = small (c .before .before) .0 in (k .a, k .b, k .c)
 
--- src/rules.rt:100:29
 entries-in-requires-2 : tie.Need-entries-in-requires-2
-entries-in-requires-2 c κs = ?
+entries-in-requires-2 c κs = let k = small (c .before .before .before) .1 in (k .a, k .b, k .c)
 
--- src/rules.rt:100:13
 add-n : tie.Need-add-n
 add-n c = search needs
 
--- src/rules.rt:101:9
 numbers-requires : tie.Need-numbers-requires
 numbers-requires c κs = search needs
 
--- src/rules.rt:102:5
 note-requires : tie.Need-note-requires
 note-requires c κs = search needs
 
--- src/rules.rt:82:1
 returns-2 : tie.Need-returns-2
-returns-2 c = ?
+unfolding ruleTestsBy
+returns-2 c =
+    let x = c .before .before .before .before .before .before .before .before .args in
+    noted-late (shapeTests (x .m) (x .q) (x .s)) (rest (c .before .before .before .before .before .before .before .before)) _ _ (c .before .before .before .before .before .before .before .shapes .ensures) (c .before .before .before .before .before .before .if1 .left)
+    (rw (c .note .ensures, c .before .numbers .ensures, c .before .before .entries-in2 .ensures .0, c .before .before .before .entries-in .ensures .0))
 
 pub refusal-spec : {M : Type 1} → statement M
 refusal-spec =

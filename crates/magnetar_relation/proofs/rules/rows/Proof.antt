@@ -1,44 +1,52 @@
 -- `magnetar_relation::rules::rows` meets its contract.
 -- Assumes nothing.
+use mathlib.Core.Path.{_≡_, sym, _∙_}
+use mathlib.Core.Bool.{not}
+use mathlib.Core.List.{[], _∷_}
+use lib.Dec.{eqb}
+use Rattle.magnetar_layout.specs.Tests.{noted, isSize, Sized}
+use Rattle.magnetar_relation.proofs.RuleLaws.{number-stays, none-before, rows-passed, over}
 use borrow.Author.Needs.{needs}
 use Rattle.magnetar_relation.proofs.rules.rows.Statement.{statement}
 use Rattle.magnetar_relation.proofs.rules.rows.Tie as tie
-use Rattle.magnetar_relation.proofs.rules.rows.Reads as reads
-use Rattle.magnetar_relation.proofs.rules.rows.Lts as lts
-use Rattle.magnetar_layout.proofs.tests.is_size.Reads as is-size-reads
-use Rattle.magnetar_layout.proofs.tests.note.Reads as note-reads
 
--- src/rules.rt:22:32
+abbrev start : tie.After-note3 → tie.Start
+start c = c .before .before .before .before .before .before
+
+-- the first three tests
+early : (c : tie.After-note3) → let t = start c .args .t in
+    c .note3 .result ≡ noted (start c .args .z) ((4, not (isSize 1 65536 (t .a .rows))) ∷ (4, not (eqb (t .b .rows) (t .a .rows))) ∷ (4, not (eqb (t .c .rows) (t .a .rows))) ∷ [])
+early c = cc
+
+size : (c : tie.Else1) → Sized 1 65536 (start (c .before) .args .t .a .rows)
+size c = rows-passed _ _ _ _ (sym (early (c .before)) ∙ c .if1 .left)
+
 is-size-requires : tie.Need-is-size-requires
 is-size-requires c κs = search needs
 
--- src/rules.rt:22:9
 note-requires : tie.Need-note-requires
 note-requires c κs = search needs
 
--- src/rules.rt:23:9
 note-requires-2 : tie.Need-note-requires-2
 note-requires-2 c κs = search needs
 
--- src/rules.rt:24:9
 note-requires-3 : tie.Need-note-requires-3
 note-requires-3 c κs = search needs
 
--- src/rules.rt:26:9
 returns : tie.Need-returns
-returns c = ?
+returns c = number-stays _ _ 4 _ (early (c .before)) (c .if1 .taken)
 
--- src/rules.rt:28:27
 div-note : tie.Need-div-note
-div-note c = ?
+div-note c = size c .low
 
--- src/rules.rt:28:5
 note-requires-4 : tie.Need-note-requires-4
 note-requires-4 c κs = search needs
 
--- src/rules.rt:18:1
 returns-2 : tie.Need-returns-2
-returns-2 c = ?
+returns-2 c =
+    let t = start (c .before .before) .args in
+    let e = over (t .q) (t .t .a .rows) 1048576 (size (c .before) .low) in
+    none-before _ _ _ 4 _ (rw (← e) (c .note4 .ensures)) (early (c .before .before)) (c .before .if1 .left)
 
 pub rows-spec : {M : Type 1} → statement M
 rows-spec =
