@@ -4,6 +4,7 @@ use crate::lent;
 use crate::text::MARK;
 use crate::text::at;
 use crate::text::at_size;
+use crate::text::first_sizes;
 use crate::text::{self};
 use crate::told;
 use magnetar_batch::check::RowCheck;
@@ -68,16 +69,12 @@ fn same_answer(a: TranscriptAnswer, b: TranscriptAnswer) -> bool {
 
 // The masks of the first matrix.
 pub(crate) fn masks(nums: &[u64], given: &[u64], sizes: &[usize], code: u32, out: &[u64]) -> bool {
-    let a = told::first(sizes);
-    let n = a.entries;
     if count(given, sizes) > 384 {
         text::alone();
         return true;
     }
-    if n > 384 {
-        text::alone();
-        return true;
-    }
+    let a = told::first(sizes);
+    let n = first_sizes(told::row(sizes), a.entries).len();
     let mut room = [MARK; 2048];
     let o = text::front(&mut room, out.len());
     let c = lent::masks(

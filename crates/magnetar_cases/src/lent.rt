@@ -1,8 +1,8 @@
-// The first n records of an array and a transcript by value, lent to the entries over records.
+// The first n records of an array, and a transcript by value, lent to the entries over records.
 // These functions are proved by walks (tools/thin.py).
 ghost use mathlib.Core.Path.{_≡_};
 ghost use mathlib.Core.List.{[]};
-ghost use Prim.Native.Nat.{_≤_};
+ghost use Prim.Native.Nat.{min};
 ghost use lib.ListN.{take};
 ghost use Rattle.magnetar_r1cs.specs.Entries.{masksRefusal, masksOut};
 ghost use Rattle.magnetar_relation.specs.Rules.{rulesOver};
@@ -11,6 +11,7 @@ ghost use Rattle.magnetar_batch.specs.Entries.{combined, comboOutcome};
 ghost use Rattle.magnetar_spartan.specs.Outcome.{verified, verifyOutcome, proved, proveOutcome};
 ghost use Rattle.magnetar_inplace.specs.Records.{lentOf, entriesOfRecords};
 use magnetar_batch::check::RowCheck;
+use magnetar_field::sizes;
 use magnetar_hash::transcript::Transcript;
 use magnetar_hash::transcript::TranscriptAnswer;
 use magnetar_inplace::check;
@@ -32,11 +33,12 @@ pub(crate) fn masks(
     v: usize,
     out: &mut [u64],
 ) -> u32
-    requires { ⌜ n ≤ 384 ⌝ }
-    ensures { λ r. ⌜ (r ≡ masksRefusal (lentOf rows cols (take n es)) (now (packed .entry)) q w v (now (out .entry)))
-        × (now (out .exit) ≡ masksOut (lentOf rows cols (take n es)) (now (packed .entry)) q w v (now (out .entry))) ⌝ }
+    ensures { λ r. ⌜ (r ≡ masksRefusal (lentOf rows cols (take (min n 384) es)) (now (packed .entry)) q w v (now (out .entry)))
+        × (now (out .exit) ≡ masksOut (lentOf rows cols (take (min n 384) es)) (now (packed .entry)) q w v (now (out .entry))) ⌝ }
 {
-    records::apply_simd_bit_masks(rows, cols, &es[..n], packed, q, w, v, out)
+    let most = 384;
+    let k = sizes::least(n, most);
+    records::apply_simd_bit_masks(rows, cols, &es[..k], packed, q, w, v, out)
 }
 
 // The combined table.
@@ -51,12 +53,13 @@ pub(crate) fn combo(
     pb: &[u64],
     pf: &[u64],
 ) -> u32
-    requires { ⌜ n ≤ 384 ⌝ }
     ensures { λ r. ⌜ combined r (now (out .exit)) (now (scratch .exit))
-        ≡ comboOutcome (rulesOver m 1 [] sh (entriesOfRecords (take n es))) (now (alphas .entry)) (now (pb .entry)) (now (pf .entry))
+        ≡ comboOutcome (rulesOver m 1 [] sh (entriesOfRecords (take (min n 384) es))) (now (alphas .entry)) (now (pb .entry)) (now (pf .entry))
             (now (out .entry)) (now (scratch .entry)) ⌝ }
 {
-    combo::build_m_combo(out, scratch, m, sh, &es[..n], alphas, pb, pf)
+    let most = 384;
+    let k = sizes::least(n, most);
+    combo::build_m_combo(out, scratch, m, sh, &es[..k], alphas, pb, pf)
 }
 
 // The row check.
@@ -70,11 +73,12 @@ pub(crate) fn check(
     packed: &[u64],
     x: &[u64],
 ) -> RowCheck
-    requires { ⌜ n ≤ 384 ⌝ }
     ensures { λ r. ⌜ checked r (now (scratch .exit))
-        ≡ checkOutcome (rulesOver m q [] sh (entriesOfRecords (take n es))) (now (packed .entry)) (now (x .entry)) (now (scratch .entry)) ⌝ }
+        ≡ checkOutcome (rulesOver m q [] sh (entriesOfRecords (take (min n 384) es))) (now (packed .entry)) (now (x .entry)) (now (scratch .entry)) ⌝ }
 {
-    check::row_check(scratch, m, q, sh, &es[..n], packed, x)
+    let most = 384;
+    let k = sizes::least(n, most);
+    check::row_check(scratch, m, q, sh, &es[..k], packed, x)
 }
 
 // A number with a transcript.
@@ -101,11 +105,12 @@ pub(crate) fn verify(
     x: &[u64],
     proof: &[u64],
 ) -> TranscriptAnswer
-    requires { ⌜ n ≤ 384 ⌝ }
     ensures { λ r. ⌜ verified r (now (claims .exit)) (now (scratch .exit))
-        ≡ verifyOutcome (rulesOver m q (now (lens .entry)) sh (entriesOfRecords (take n es))) (now (x .entry)) (now (proof .entry)) t
+        ≡ verifyOutcome (rulesOver m q (now (lens .entry)) sh (entriesOfRecords (take (min n 384) es))) (now (x .entry)) (now (proof .entry)) t
             (now (claims .entry)) (now (scratch .entry)) ⌝ }
 {
+    let most = 384;
+    let k = sizes::least(n, most);
     let mut u = t;
     let code = ends::verify_virtual_spartan(
         &mut u,
@@ -115,7 +120,7 @@ pub(crate) fn verify(
         q,
         lens,
         sh,
-        &es[..n],
+        &es[..k],
         x,
         proof,
     );
@@ -137,11 +142,12 @@ pub(crate) fn prove(
     packed: &[u64],
     x: &[u64],
 ) -> TranscriptAnswer
-    requires { ⌜ n ≤ 384 ⌝ }
     ensures { λ r. ⌜ proved r (now (proof .exit)) (now (claims .exit)) (now (scratch .exit))
-        ≡ proveOutcome (rulesOver m q (now (lens .entry)) sh (entriesOfRecords (take n es))) (now (packed .entry)) (now (x .entry)) t
+        ≡ proveOutcome (rulesOver m q (now (lens .entry)) sh (entriesOfRecords (take (min n 384) es))) (now (packed .entry)) (now (x .entry)) t
             (now (proof .entry)) (now (claims .entry)) (now (scratch .entry)) ⌝ }
 {
+    let most = 384;
+    let k = sizes::least(n, most);
     let mut u = t;
     let code = ends::prove_virtual_spartan(
         &mut u,
@@ -152,7 +158,7 @@ pub(crate) fn prove(
         q,
         lens,
         sh,
-        &es[..n],
+        &es[..k],
         packed,
         x,
     );
