@@ -4,12 +4,13 @@
 # Nobody has to trust it: the checker checks what it writes. tools/walks.sh has the calls that this repository makes.
 # ACC is the type of the value that goes round and is the result:  u64  bool  or  CRATE::MODULE..::NAME, a struct whose fields are u64
 # SHAPE has a letter for each parameter:  A  r: ACC, at which the value starts      Q  q: u64, to which the loop counts      N  n: u64
-#   S  s: &[u64]      E  es: &[RECORD]      M  out: &mut [u64]      and an I where step is passed the number u
+#   S  s: &[u64]      E  es: &[RECORD]      M  out: &mut [u64]      V  v: STRUCT, a struct by value (SHAPE@CRATE::MODULE..::STRUCT)      and an I where step is passed the number u
 # The code is   let mut acc = r; let mut u = 0; while u < q { acc = step(<acc for r, u for I, the other parameters but q, in order>); u += 1; } acc
 import sys, walk
 from walk import C, LINE, sub, κ, q, arr, sp, lst, nest, tup, prod, split, where
 crate, rec, acc, shape = sys.argv[1:5]
 home, recpath, rec = split(crate, rec)
+shape, _, vstruct = shape.partition('@')
 again = where(crate, 'magnetar_transcript')[1]
 accuse = ''
 if acc == 'u64': row, den, mty, makes, typed, vals, tells = 'u64', 'ℕ', 'tyInt w64', '(uint-makes 𝓤 H A W w64)', 'uint-lawful 𝓤 H A W w64 .typed', '(uint-vals w64)', 'uint-tells w64'
@@ -19,12 +20,17 @@ else:
     row, mty, makes, typed = 'B.the-row', 'B′.mir', '(LL.makes B.the-type B′.the-plain 𝓤 H A)', 'LL.lawful B.the-type B′.the-laws 𝓤 H A W .typed'
     vals, tells = '(LL.vals B.the-type B′.the-laws)', 'LL.tells B.the-type B′.the-laws'
     accuse = f'use {ah[0]}.declared.{apath}.{{{den}}}\nuse {ah[1]}.{apath} as B\nuse {ah[1]}.{apath}.Laws as B′\n'
+V_ = dict(row='', den='', mir='', makes='', typed='', vals='', tells='', use='')      # of a V
+if vstruct:
+    vh, vpath, vn = split(crate, vstruct)
+    V_ = dict(row='D.the-row', den=vn, mir='D′.mir', makes='(LL.makes D.the-type D′.the-plain 𝓤 H A)', typed='LL.lawful D.the-type D′.the-laws 𝓤 H A W .typed', vals='(LL.vals D.the-type D′.the-laws)', tells='LL.tells D.the-type D′.the-laws',
+        use=f'use {vh[0]}.declared.{vpath}.{{{vn}}}\nuse {vh[1]}.{vpath} as D\nuse {vh[1]}.{vpath}.Laws as D′\n')
 P = [x for x in shape if x != 'I']   # kinds
 m = len(P); idx = list(range(1, m + 1))
 assert P.count('A') == 1 and P.count('Q') == 1
 K = lambda j: P[j-1]
 a_ = P.index('A') + 1; q_ = P.index('Q') + 1
-Ms = [j for j in idx if K(j) == 'M']; Ss = [j for j in idx if K(j) in 'SE']; Ns = [j for j in idx if K(j) in 'NQ']
+Ms = [j for j in idx if K(j) == 'M']; Ss = [j for j in idx if K(j) in 'SE']; Ns = [j for j in idx if K(j) in 'NQ']; Vs = [j for j in idx if K(j) == 'V']
 sl = [j for j in idx if K(j) in 'SEM']
 seq = []                             # what step is passed: 'R', 'I', or a parameter's number
 for n_, x in enumerate(shape):
@@ -50,7 +56,7 @@ def ty(k):
     j = int(k[1:])
     if k[0] == 'a': return 'tyRef erased mut (tyInt w64)'
     if k[0] == 'b': return 'sliceTy (tyRef erased mut (tyInt w64))'
-    return {'A': mty, 'N': 'tyInt w64', 'Q': 'tyInt w64'}.get(K(j)) or f'sliceTy (tyRef (named {lft[j]}) {"mut" if K(j) == "M" else "imm"} {mir_el[j]})'
+    return {'A': mty, 'V': V_['mir'], 'N': 'tyInt w64', 'Q': 'tyInt w64'}.get(K(j)) or f'sliceTy (tyRef (named {lft[j]}) {"mut" if K(j) == "M" else "imm"} {mir_el[j]})'
 pl, cp, cpf = walk.places(loc)
 
 # ---- the MIR
@@ -63,18 +69,18 @@ body = f'seq (assign {pl("acc")} (rvOpd {cp(f"p{a_}")})) (seq (assign {pl("i")} 
 
 # ---- names
 pj = lambda j: nest(j - 1)           # parameter j among the arguments
-tyP = lambda j: {'A': den, 'N': 'ℕ', 'Q': 'ℕ'}.get(K(j)) or f'RefT ({lden[j]})'
+tyP = lambda j: {'A': den, 'V': V_['den'], 'N': 'ℕ', 'Q': 'ℕ'}.get(K(j)) or f'RefT ({lden[j]})'
 argT = prod([tyP(j) for j in idx]); gargT = prod([den if j == 'R' else 'ℕ' if j == 'I' else tyP(j) for j in seq])
 invT = 'Arg → ℕ → ' + 'List ℕ → ' * len(Ms) + f'{den} → Type 0'
-def slot(j): return {'A': f'plain (λ _. {row})', 'N': 'plain (λ _. u64)', 'Q': 'plain (λ _. u64)'}.get(K(j)) or f'{"mut" if K(j) == "M" else "shr"}SliceOf ({lft[j]} ∷ []) tt (plain (λ _. {elt[j]}))'
+def slot(j): return {'A': f'plain (λ _. {row})', 'V': f'plain (λ _. {V_["row"]})', 'N': 'plain (λ _. u64)', 'Q': 'plain (λ _. u64)'}.get(K(j)) or f'{"mut" if K(j) == "M" else "shr"}SliceOf ({lft[j]} ∷ []) tt (plain (λ _. {elt[j]}))'
 slots = [slot(j) for j in idx]; cslots = [f'plain (λ _. {row})' if j == 'R' else 'plain (λ _. u64)' if j == 'I' else slot(j) for j in seq]
-def by(j, shr, mut_, num, a): return {'S': shr, 'E': shr, 'M': mut_, 'N': num, 'Q': num, 'A': a}[K(j)]
-stays = [by(j, f'stay-none-slice ({lft.get(j)} ∷ []) tt (plain (λ _. {elt.get(j)})) yes', f'stay-slice ({lft.get(j)} ∷ []) tt (plain (λ _. u64))', 'stay-none (λ _. u64) yes', f'stay-none (λ _. {row}) yes') for j in idx]
-gos = [by(j, f'goes-none-slice 𝓤 H A W {L} ({lft.get(j)} ∷ []) tt (plain (λ _. {elt.get(j)})) yes', f'goes-slice 𝓤 H A W {L} {lft.get(j)} tt (plain (λ _. u64))', f'goes-none 𝓤 H A W {L} (λ _. u64) yes (λ κs x f. refl)', f'goes-none 𝓤 H A W {L} (λ _. {row}) yes (λ κs x f. refl)') for j in idx]
+def by(j, shr, mut_, num, a, v): return {'S': shr, 'E': shr, 'M': mut_, 'N': num, 'Q': num, 'A': a, 'V': v}[K(j)]
+stays = [by(j, f'stay-none-slice ({lft.get(j)} ∷ []) tt (plain (λ _. {elt.get(j)})) yes', f'stay-slice ({lft.get(j)} ∷ []) tt (plain (λ _. u64))', 'stay-none (λ _. u64) yes', f'stay-none (λ _. {row}) yes', f'stay-none (λ _. {V_["row"]}) yes') for j in idx]
+gos = [by(j, f'goes-none-slice 𝓤 H A W {L} ({lft.get(j)} ∷ []) tt (plain (λ _. {elt.get(j)})) yes', f'goes-slice 𝓤 H A W {L} {lft.get(j)} tt (plain (λ _. u64))', f'goes-none 𝓤 H A W {L} (λ _. u64) yes (λ κs x f. refl)', f'goes-none 𝓤 H A W {L} (λ _. {row}) yes (λ κs x f. refl)', f'goes-none 𝓤 H A W {L} (λ _. {V_["row"]}) yes (λ κs x f. refl)') for j in idx]
 
 o = []
 w = o.append
-w(f'''-- The law for a loop that counts, of the shape {shape}: a function with the parameters {', '.join({'A': f'p{j}: {acc}', 'S': f'p{j}: &[u64]', 'E': f'p{j}: &[{rec}]', 'M': f'p{j}: &mut [u64]', 'N': f'p{j}: u64', 'Q': f'p{j}: u64'}[K(j)] for j in idx)}, and the code
+w(f'''-- The law for a loop that counts, of the shape {shape}: a function with the parameters {', '.join({'A': f'p{j}: {acc}', 'S': f'p{j}: &[u64]', 'E': f'p{j}: &[{rec}]', 'M': f'p{j}: &mut [u64]', 'N': f'p{j}: u64', 'Q': f'p{j}: u64', 'V': f'p{j}: {V_["den"]}'}[K(j)] for j in idx)}, and the code
 --     let mut acc = p{a_}; let mut u = 0; while u < p{q_} {{ acc = step({', '.join('acc' if j == 'R' else 'u' if j == 'I' else f'p{j}' for j in seq)}); u += 1; }} acc
 -- meets its contract c, where step meets its contract d, and Inv, which speaks of u, of what the `&mut` slices hold and of acc, is carried from c's `requires` through d's contract to c's `ensures`. Written by tools/count.py.
 --     function k       the MIR, with k for the callee's key.        ended, stepped       the signatures, of the function and of the callee
@@ -126,7 +132,7 @@ use denote.Triple.Walked.{{needs, Stays, stay-none, stay-slice, stay-none-slice,
 use {home[0]}.declared.{recpath}.{{{rec}}}
 use {home[1]}.{recpath} as T
 use {home[1]}.{recpath}.Laws as T′
-{accuse}use {again}.Again.{{LentAgain, lends-again, comes-back}}
+{accuse}{V_['use']}use {again}.Again.{{LentAgain, lends-again, comes-back}}
 
 {walk.stated(turn, rest, L, [ty(k) for k in order], body, L, slots, cslots, row, stays, argT, gargT)}
 {walk.fits}
@@ -167,10 +173,10 @@ pub record Holds {{M : Type 1}} (𝓤 : URA M) (c : Clauses 𝓤 ended) (d : Cla
 # ---- the walk
 mods = f'(k : Name) (c : Clauses 𝓤 ended) (d : Clauses 𝓤 stepped) (Inv : {invT}) (hold : Holds 𝓤 c d Inv)'
 κs = tup([κ(j) for j in sl]); qs = tup([q(j) for j in sl])
-pv = [by(j, f'(s{sub(j)} : RefT ({lden.get(j)}))', f'(b{sub(j)} o{sub(j)} : ℕ) (γ{sub(j)} : GName) (ys{sub(j)} : List ℕ)', f'(n{sub(j)} : ℕ)', f'(n{sub(j)} : {den})') for j in idx]
-val = lambda j: by(j, f'sliceVal (s{sub(j)} .ptr) (length (s{sub(j)} .now))', f'sliceVal (b{sub(j)}, o{sub(j)}) (length ys{sub(j)})', f'vint w64 n{sub(j)}', f'only ({vals} n{sub(j)})')
-src0 = lambda j: by(j, f's{sub(j)}', f'ref{sub(j)} γ{sub(j)} ys{sub(j)}', f'n{sub(j)}', f'n{sub(j)}')
-rowAt = lambda j: by(j, f'ShrSlice (named {lft.get(j)}) {κ(j)} {elt.get(j)}', f'MutSlice (named {lft.get(j)}) {κ(j)} u64', 'u64', row)
+pv = [by(j, f'(s{sub(j)} : RefT ({lden.get(j)}))', f'(b{sub(j)} o{sub(j)} : ℕ) (γ{sub(j)} : GName) (ys{sub(j)} : List ℕ)', f'(n{sub(j)} : ℕ)', f'(n{sub(j)} : {den})', f'(n{sub(j)} : {V_["den"]})') for j in idx]
+val = lambda j: by(j, f'sliceVal (s{sub(j)} .ptr) (length (s{sub(j)} .now))', f'sliceVal (b{sub(j)}, o{sub(j)}) (length ys{sub(j)})', f'vint w64 n{sub(j)}', f'only ({vals} n{sub(j)})', f'only ({V_["vals"]} n{sub(j)})')
+src0 = lambda j: by(j, f's{sub(j)}', f'ref{sub(j)} γ{sub(j)} ys{sub(j)}', f'n{sub(j)}', f'n{sub(j)}', f'n{sub(j)}')
+rowAt = lambda j: by(j, f'ShrSlice (named {lft.get(j)}) {κ(j)} {elt.get(j)}', f'MutSlice (named {lft.get(j)}) {κ(j)} u64', 'u64', row, V_['row'])
 w(f'''module _ {{M : Type 1}} (𝓤 : URA M) (H : Heap 𝓤) (A : Atoms 𝓤) (W : Given 𝓤 H A) {mods} ({' '.join(κ(j) for j in sl)} : Lft) ({' '.join(q(j) for j in sl)} : Share) {' '.join(pv)} where''')
 for j in idx: w(walk.value(j, val(j), K(j) == 'M'))
 w(f'''  abbrev a : Arg
@@ -186,11 +192,11 @@ for j in sl: w(walk.lent(j, 'u64', lft[j], clft[j]) if K(j) == 'M' else walk.sha
 # Post and exits
 Zlen = arr(f'length {Z[j]} ≡ length {Y[j]}' for j in Ms)
 alive = walk.alive_of((κ(j), q(j)) for j in sl)
-fits_arrow = arr([f'n{sub(j)} < 2 ^ 64' for j in Ns] + [f'Is {row} n{sub(a_)} (v{sub(a_)} ∷ [])'])
-nf = ' '.join([f'f{sub(j)}' for j in Ns] + [f'p{sub(a_)}'])
+fits_arrow = arr([f'n{sub(j)} < 2 ^ 64' for j in Ns] + [f'Is {row} n{sub(a_)} (v{sub(a_)} ∷ [])'] + [f'Is {V_["row"]} n{sub(j)} (v{sub(j)} ∷ [])' for j in Vs])
+nf = ' '.join([f'f{sub(j)}' for j in Ns] + [f'p{sub(j)}' for j in [a_] + Vs])
 es_ = ' '.join(f'e{sub(j)}' for j in Ms); lens_ = ' '.join(f'len{sub(j)}' for j in Ms)
 exctx = lst([alive] + [f'‵ (O{sub(j)} {Z[j]})' if K(j) == 'M' else f'‵ O{sub(j)}' for j in sl])
-own1 = lambda j: f'owned ! {row} (Is {row}) {makes} n{sub(j)} _ p{sub(j)}' if K(j) == 'A' else f'owned ! u64 (Is u64) (uint-makes 𝓤 H A W w64) n{sub(j)} _ (refl, f{sub(j)})'
+own1 = lambda j: f'owned ! {row} (Is {row}) {makes} n{sub(j)} _ p{sub(j)}' if K(j) == 'A' else f'owned ! {V_["row"]} (Is {V_["row"]}) {V_["makes"]} n{sub(j)} _ p{sub(j)}' if K(j) == 'V' else f'owned ! u64 (Is u64) (uint-makes 𝓤 H A W w64) n{sub(j)} _ (refl, f{sub(j)})'
 k = C(['alive'] + [f'O{j}' for j in sl])
 k.owns([(f'O{j}', None if j in lft else own1(j)) for j in idx])
 k.mv('alive', 'acc')
@@ -231,7 +237,7 @@ rx = f'x .{1 + NM}'; ux = f'x .{2 + NM}'; isx = f'x .{3 + 2 * NM}'; mostx = f'x 
 ls = ' '.join(f'l{sub(loc[x])}' for x in order)
 l = lambda x: f'l{sub(loc[x])}'
 En = lst(f'({ty(x)}, {l(x)})' for x in order)
-given = [' '.join(f'(room{sub(j)} : Room u64 (length ys{sub(j)}))' for j in Ms), ' '.join(f'(f{sub(j)} : n{sub(j)} < 2 ^ 64)' for j in Ns), f'(p{sub(a_)} : Is {row} n{sub(a_)} (v{sub(a_)} ∷ []))', ' '.join(f'(p{sub(j)} : Is ({rowAt(j)}) s{sub(j)} (v{sub(j)} ∷ []))' for j in Ss), f'({ls} : ℕ)']
+given = [' '.join(f'(room{sub(j)} : Room u64 (length ys{sub(j)}))' for j in Ms), ' '.join(f'(f{sub(j)} : n{sub(j)} < 2 ^ 64)' for j in Ns), f'(p{sub(a_)} : Is {row} n{sub(a_)} (v{sub(a_)} ∷ []))', ' '.join(f'(p{sub(j)} : Is {V_["row"]} n{sub(j)} (v{sub(j)} ∷ []))' for j in Vs), ' '.join(f'(p{sub(j)} : Is ({rowAt(j)}) s{sub(j)} (v{sub(j)} ∷ []))' for j in Ss), f'({ls} : ℕ)']
 w(f'''    -- where the loop is: the number, what the slices hold, the value that goes round, and what is known of them
 {walk.begun(Xf, pre, ' '.join(given), En)}''')
 filled = {**{f'p{j}': f'v{sub(j)}' for j in idx}, 'acc': 'u', 'i': '(vint w64 i)'}
@@ -288,14 +294,14 @@ for x in reversed(order): k.c += ['c_' + x, 'd_' + x]
 k.c += ['alive', 'owns']
 k('params1 ! $ ')
 for j in idx:
-    wt = by(j, f'(shr-slice-lawful 𝓤 H A W (named {lft.get(j)}) {κ(j)} {elt.get(j)} .typed s{sub(j)} (v{sub(j)} ∷ []) p{sub(j)} .0)', f'(tt, (tt, (record {{ fits = room{sub(j)} .0 }}, tt)))', f'(tt, record {{ fits = f{sub(j)} }})', f'({typed} n{sub(j)} _ p{sub(j)} .0)')
+    wt = by(j, f'(shr-slice-lawful 𝓤 H A W (named {lft.get(j)}) {κ(j)} {elt.get(j)} .typed s{sub(j)} (v{sub(j)} ∷ []) p{sub(j)} .0)', f'(tt, (tt, (record {{ fits = room{sub(j)} .0 }}, tt)))', f'(tt, record {{ fits = f{sub(j)} }})', f'({typed} n{sub(j)} _ p{sub(j)} .0)', f'({V_["typed"]} n{sub(j)} _ p{sub(j)} .0)')
     k(f'pass1 ! (init ! {k.p(f"c_p{j}")} refl {wt}) $ ')
 k(f'pass0 ! $ {LINE}')
 k.asg(f'(of-opd ! {k.word(f"p{a_}")})', 'acc', f'({typed} n{sub(a_)} _ p{sub(a_)} .0)')
 k.asg('(of-opd ! (lit ! tt))', 'i', '(tt, record { fits = lit< tt })')
 k.splits('owns', [f'O{j}' for j in idx], 'fsplit')
 k.splits('alive', [f'tok{j}' for j in sl])
-fa = ' '.join([f'room{sub(j)}' for j in Ms] + [f'f{sub(j)}' for j in Ns] + [f'p{sub(a_)}'] + [f'p{sub(j)}' for j in Ss])
+fa = ' '.join([f'room{sub(j)}' for j in Ms] + [f'f{sub(j)}' for j in Ns] + [f'p{sub(j)}' for j in [a_] + Vs + Ss])
 x0 = '(' + ', '.join(['0'] + [f'ys{sub(j)}' for j in Ms] + [f'n{sub(a_)}', f'v{sub(a_)}'] + ['refl' for j in Ms] + [f'p{sub(a_)}', 'none-less n', 'inv']) + ')'
 k(f'keep ! ({k.keeps(inames)}) $ first ! $ blocks ! $ {LINE}loops ! 𝓣 (≺ 𝓣 known {fa} {ls}) (by-number left) (I 𝓣 known {fa} {ls}) (λ x. by ! (turn-by 𝓣 known {fa} {ls} x (ltb (x .0) n) refl)) {x0}' + ')' * NL)
 w(f'''    walk : (𝓣 : Tables 𝓤 H) → Triple 𝓤 (𝓣 .C k) ({pre}) → Inv a 0{sp(Y[j] for j in Ms)} n{sub(a_)} → {arr(f'Room u64 (length ys{sub(j)})' for j in Ms)}{fits_arrow}{arr(f'Is ({rowAt(j)}) s{sub(j)} (v{sub(j)} ∷ [])' for j in Ss)}
@@ -308,8 +314,8 @@ wargs = []
 for j in idx:
     wargs += [f'(a {pj(j)} .ptr .0)', f'(a {pj(j)} .ptr .1)', f'(a {pj(j)} .name)', f'(a {pj(j)} .now)'] if K(j) == 'M' else [ap(j)]
 kargs = ' '.join(f'(κs {nest(t)})' for t in range(L)); qargs = ' '.join(f'(qs {nest(t)})' for t in range(L))
-are = [f'(are {pj(j)} .0 .1)' for j in Ms] + [f'(are {pj(j)} .1)' for j in Ns] + [f'(are {pj(a_)})'] + [f'(are {pj(j)})' for j in Ss]
-spell = tup([by(j, 'slice-vals', 'slice-vals', 'uint-vals w64', vals) for j in idx])
-tell = tup([by(j, f'shr-slice-tells (named {lft.get(j)}) (κs {nest(lft.get(j, 0))}) {elt.get(j)}', f'mut-slice-tells (named {lft.get(j)}) (κs {nest(lft.get(j, 0))}) u64', 'uint-tells w64', tells) for j in idx])
+are = [f'(are {pj(j)} .0 .1)' for j in Ms] + [f'(are {pj(j)} .1)' for j in Ns] + [f'(are {pj(j)})' for j in [a_] + Vs + Ss]
+spell = tup([by(j, 'slice-vals', 'slice-vals', 'uint-vals w64', vals, V_['vals']) for j in idx])
+tell = tup([by(j, f'shr-slice-tells (named {lft.get(j)}) (κs {nest(lft.get(j, 0))}) {elt.get(j)}', f'mut-slice-tells (named {lft.get(j)}) (κs {nest(lft.get(j, 0))}) u64', 'uint-tells w64', tells, V_['tells']) for j in idx])
 w(walk.ended('count-meets', spell, tell, f"{kargs} {qargs} {' '.join(wargs)} g 𝓣 known inv {' '.join(are)}", gos, mods, pre))
 print('\n'.join(o))

@@ -7,7 +7,7 @@
 #   one kind of branch: `if B { .. } else { .. }` on a bool of a local, not within another, each way ending with a value and not with a call that is lent a &mut slice; each way through has its own --final, in order, and knows b1: B ≡ true, or ≡ false (way1, where parameter 1 is lent to be changed)
 #   TERM may cite e1, e2, ..: what call 1, 2, .. ensures (numbered as they stand; what follows a branch is numbered once for each way); r1, r2, .. the results; `pre`, with --requires TYPE
 #   and the parameters: s1 (a &[T], `s1 .now`), ys1 (what a &mut [T] holds on entry), h1 (behind a &mut STRUCT), n1 (by value); ws1 .1 .0 for what call 1's argument 1 holds after it
-import sys, subprocess, re
+import os, sys, subprocess, re
 from walk import C as Context, sub, κ, q, lst, tup, prod, nest, where
 argv = sys.argv[1:]
 crate, fname = argv[0], argv[1]
@@ -21,7 +21,7 @@ while i < len(argv):
     elif argv[i] == '--ask': n, t = argv[i+1].split('=', 1); asks[int(n)] = t; i += 2
     elif argv[i] == '--use': uses.append(argv[i+1]); i += 2
     else: raise Exception(argv[i])
-mir = subprocess.run(['rt', 'mir', crate], capture_output=True, text=True).stdout
+mir = open(os.environ['MIR']).read() if 'MIR' in os.environ else subprocess.run(['rt', 'mir', crate], capture_output=True, text=True).stdout
 toks = re.findall(r'"[^"]*"|[()]|[^\s()]+', mir)
 def parse(pos):
     if toks[pos] == '(':

@@ -1,12 +1,27 @@
 #!/bin/sh
-# Writes anew the proofs of magnetar_transcript, magnetar_inplace, magnetar_row_records, magnetar_forms, magnetar_records, magnetar_records_prover, magnetar_arrays and magnetar_arrays_prover
-# that tools/thin.py, tools/each.py and tools/count.py write. Run it in the repository's root after a change of a walked function's code or contract, then `rt fmt` and `rt check` of
-# the crate. Nobody has to trust the tools: the checker checks what they write.
+# Writes anew the proofs that tools/thin.py, tools/each.py and tools/count.py write, of all crates that have any or of those named:
+#   tools/walks.sh [--check] [CRATE..]        in the repository's root
+# Run it after a change of a walked function's code or contract, then `rt check` of the crate. With --check nothing is written: it says
+# which of these proofs are not what the tools write, and then fails. Nobody has to trust the tools: the checker checks what they write.
 set -e
-crate() { c=$1; p=crates/$c/proofs; ends=Rattle.$c.proofs; }
-each() { out=$1; shift; python3 tools/each.py $c magnetar_inplace::records::Entry 32 row,col,lo,hi "$@" > $p/$out.new && mv $p/$out.new $p/$out.antt; }
-count() { out=$1; python3 tools/count.py $c magnetar_inplace::records::Entry $3 $2 > $p/$out.new && mv $p/$out.new $p/$out.antt; }
-thin() { f=$1; shift; d=$p/$(echo $f | sed 's/::/\//'); mkdir -p $d; python3 tools/thin.py $c $f "$@" > $d/new && mv $d/new $d/Proof.antt; }
+check=; if [ "$1" = --check ]; then check=yes; shift; fi
+named=" $* "
+new=$(mktemp -d)
+trap 'rm -r "$new"' EXIT
+: > "$new/crates.txt"                # `rt fmt` formats what stands beside it
+# the proofs of this crate, and its MIR, are asked for only where it is named
+crate() {
+  c=$1; p=$new/crates/$c/proofs; ends=Rattle.$c.proofs
+  case "$named" in "  " | *" $c "*) on=yes ;; *) on=; return ;; esac
+  mkdir -p "$p"; rt mir "$c" > "$new/mir" 2> "$new/said" || { cat "$new/said" >&2; exit 1; }
+}
+each() { [ "$on" ] || return 0; out=$1; shift; python3 tools/each.py "$c" magnetar_inplace::records::Entry 32 row,col,lo,hi "$@" > "$p/$out.antt"; }
+count() { [ "$on" ] || return 0; python3 tools/count.py "$c" magnetar_inplace::records::Entry "$3" "$2" > "$p/$1.antt"; }
+thin() {
+  [ "$on" ] || return 0
+  f=$1; shift; d=$p/$(echo "$f" | sed 's/::/\//g'); mkdir -p "$d"
+  MIR=$new/mir python3 tools/thin.py "$c" "$f" "$@" > "$d/Proof.antt"
+}
 # six matrices among the parameters, the first at parameter $1: with their sizes, or their entries alone
 six() { for i in 0 3 6 9 12 15; do echo "n$(($1 + i)) n$(($1 + i + 1)) (s$(($1 + i + 2)) .now)"; done | paste -sd ' ' -; }
 alone() { for i in 0 1 2 3 4 5; do echo "(s$(($1 + i)) .now)"; done | paste -sd ' ' -; }
@@ -24,6 +39,9 @@ packed=$ends.PackedEnds
 masks=$ends.MaskEnds
 ends=$ends.RecordEnds
 value='Rattle.magnetar_field.specs.Gf128.{value}'
+walks=Rattle.magnetar_inplace.proofs.WalkLaws
+words='Rattle.magnetar_field.specs.Words.{elements}'
+entries='Rattle.magnetar_inplace.specs.Records.{entriesOfRecords}'
 
 # the laws for loops over records, by shape
 each EachNNbool NN bool
@@ -31,12 +49,13 @@ each Eachbool "" bool
 each EachNSM NSM
 each EachNNMM NNMM
 each EachNbool N bool
-each EachSSNNNM SSNNNM
 each EachSNNNNM SNNNNM
 each EachNNMGf128 NNM magnetar_field::gf128::Gf128:lo,hi
+each EachVIbool VI@magnetar_relation::shapes::Shapes bool
+each EachNNNNMI NNNNMI
+each EachNNSSNNNMI NNSSNNNMI
 
 # calls in a row
-thin records::all_six
 thin records::is_binary --use "$ends.{binary-ends}" --use 'Rattle.magnetar_r1cs.specs.Entries.{flagged}' \
   --final 'binary-ends n1 n2 (s3 .now) r1 r3 r2 (flagged r4) e1 e2 e3 e4'
 thin records::apply --use "$ends.{apply-done, apply-back}" \
@@ -50,8 +69,11 @@ thin records::sum_at --use "$ends.{sum-some, sum-none}" --use "$value" \
   --final 'sum-none n3 n4 (value r5) (s2 .now) (s5 .now) (s6 .now) ys7 n1 b1 e5'
 thin records::eval_mle_at --use "$ends.{at-ends}" --use "$value" --use 'Rattle.magnetar_multilinear.specs.Entries.{answer}' \
   --final 'at-ends n1 n2 (s3 .now) (s4 .now) (s5 .now) ys6 r1 r3 r2 e1 e2 e3 (ws4 .1 .1 .1 .1 .1 .1 .0) (value r4) (answer r5) e4 e5'
+thin walks::rules_refusal --use "$walks.{rules-ends}" --final 'rules-ends n1 n2 n3 (s4 .now) r1 r2 e1 e2'
+thin walks::write_products --use "$walks.{write-ends}" --use "$words" --use "$entries" \
+  --final 'write-ends n6 n7 n8 n2 n3 (s4 .now) (elements (s5 .now)) (entriesOfRecords (s1 .now)) ys9 (ws1 .1 .1 .1 .0) (ws2 .1 .1 .1 .1 .1 .1 .1 .1 .0) e1 e2'
 thin records::write_packed --use "$packed.{write-some, write-none}" \
-  --final 'write-some (s2 .now) (s3 .now) (s4 .now) ys8 n5 n6 n7 n1 r3 (ws1 .1 .1 .1 .0) (ws2 .1 .1 .1 .1 .1 .1 .0) b1 e1 e2 e3' \
+  --final 'write-some (s2 .now) (s3 .now) (s4 .now) ys8 n5 n6 n7 n1 r2 (ws1 .1 .1 .1 .1 .1 .1 .1 .1 .0) b1 e1 e2' \
   --final 'write-none (s2 .now) (s3 .now) (s4 .now) ys8 n5 n6 n7 n1 false b1 refl'
 thin records::apply_simd_packed --use "$packed.{packed-ends}" --use 'Rattle.magnetar_r1cs.specs.Entries.{flagged}' \
   --final 'packed-ends n1 n2 (s3 .now) (s4 .now) (s5 .now) ys8 n6 n7 r1 r3 r2 e1 e2 e3 (ws4 .1 .1 .1 .1 .1 .1 .1 .0) r4 (flagged r5) e4 e5'
@@ -135,3 +157,12 @@ three lent::verified 'rw (e2 .0, e2 .1) e1'
 three lent::checked e1
 crate magnetar_arrays_prover
 three prover::proved 'rw (e2 .0, e2 .1) e1'
+
+# ---- what was written, in the layout, takes the place of what stands there, or is compared with it
+(cd "$new" && rt fmt > said)
+bad=
+for f in $(cd "$new" && find crates -name '*.antt' | sort); do
+  cmp -s "$new/$f" "$f" && continue
+  if [ "$check" ]; then echo "$f is not what the tools write"; bad=yes; else mkdir -p "$(dirname "$f")"; cp "$new/$f" "$f"; echo "$f"; fi
+done
+[ -z "$bad" ]

@@ -24,9 +24,10 @@ use Rattle.magnetar_matrix.specs.Table.{addedAt}
 use Rattle.magnetar_matrix.proofs.LoginParts.{part-ends}
 use Rattle.magnetar_r1cs.proofs.Split.{z-bit, z-public}
 use Rattle.magnetar_matrix.proofs.TableLaws.{added-length, added-here, added-there}
-use Rattle.magnetar_inplace.specs.Steps.{addedTo}
-use Rattle.magnetar_inplace.specs.LoginSteps.{loginZ, inReach, clearedBlocks, addedBlocks, addedLogins, addedPacked}
-use Rattle.magnetar_inplace.proofs.RecordLaws.{one-added, zeros-cleared}
+use Rattle.magnetar_relation.specs.Steps.{addedTo, loginZ}
+use Rattle.magnetar_relation.specs.Told.{walked}
+use Rattle.magnetar_inplace.specs.LoginSteps.{inReach, clearedBlocks, addedBlocks, addedLogins}
+use Rattle.magnetar_relation.proofs.TableWords.{one-added, zeros-cleared}
 
 -- ---- where a login's words start
 pub start-fits : (u k : ℕ) → u ≤ 4294967295 → k ≤ 4294967295 → u * k < 2 ^ 64
@@ -212,11 +213,11 @@ module _ (q w n : ℕ) (f : ℕ → Entry → ℕ) where
   one-words e true t r l = blocked-words n f e (q * n) q t r l
   one-words e false t r l = refl
 
-  spread-words : (es : List Entry) (t r : List ℕ) → length t ≡ q * n → addedPacked q w n f es (words t ++ r) ≡ words (spread es t) ++ r
-  unfolding addedPacked addedLogins
+  spread-words : (es : List Entry) (t r : List ℕ) → length t ≡ q * n → walked (addedLogins q w n f) es (words t ++ r) ≡ words (spread es t) ++ r
+  unfolding walked addedLogins
   spread-words [] t r l = refl
   spread-words (e ∷ es) t r l =
-      ap (addedPacked q w n f es) (one-words e (inReach q w n (e .row)) t r l)
+      ap (walked (addedLogins q w n f) es) (one-words e (inReach q w n (e .row)) t r l)
       ∙ spread-words es (cond (inReach q w n (e .row)) (blocked n f e q t) t) r (one-length e (inReach q w n (e .row)) t ∙ l)
 
   module _ (hq : q ≤ 4096) (hw : w ≤ 32768) (hn : n ≤ 65536) (u i : ℕ) (hu : u < q) (hi : i < n) where
@@ -264,7 +265,7 @@ spread-zeros q w n f es hq hw hn =
     blocks-of (λ u. rowTotal (f u) es) n q (spread q w n f es z) (spread-length q w n f es z ∙ lz) (λ u i hu hi. let e : u * n + n ≤ q * n = part-ends n q u hu in let k : u * n + i < q * n = omega (arith, e, hi) in spread-at q w n f hq hw hn u i hu hi es z (rw lz k) ∙ rw (getD-replicate {A = ℕ} (q * n) (u * n + i) 0 0 k) (zero-⊕ (rowTotal (f u) es i)))
 
 pub packed-added : (q w n : ℕ) (f : ℕ → Entry → ℕ) (es : List Entry) (out : List ℕ) → q ≤ 4096 → w ≤ 32768 → n ≤ 65536 → 0 < n → 2 * (q * n) ≤ length out
-    → addedPacked q w n f es (clearedBlocks q w n out) ≡ words (blocks (λ u. tabulate (rowTotal (f u) es) n) q) ++ drop (2 * (q * n)) out
+    → walked (addedLogins q w n f) es (clearedBlocks q w n out) ≡ words (blocks (λ u. tabulate (rowTotal (f u) es) n) q) ++ drop (2 * (q * n)) out
 unfolding clearedBlocks
 packed-added q w n f es out hq hw hn h0 h =
     let z : List ℕ = replicate (q * n) 0 in
@@ -273,12 +274,3 @@ packed-added q w n f es out hq hw hn h0 h =
 pub twice-in : (q n : ℕ) → q * (2 * n) ≡ 2 * (q * n)
 twice-in zero n = zero-mul (2 * n) ∙ sym (ap (λ (k : ℕ). 2 * k) (zero-mul n))
 twice-in (suc q) n = let e = twice-in q n in omega (arith, e, suc-mul q (2 * n), suc-mul q n)
-
-pub packed-more : (q w n : ℕ) (f : ℕ → Entry → ℕ) (e : Entry) (es : List Entry) (out out′ : List ℕ) → out′ ≡ addedLogins q w n f e out
-    → addedPacked q w n f es out′ ≡ addedPacked q w n f (e ∷ es) out
-unfolding addedPacked
-packed-more q w n f e es out out′ h = ap (addedPacked q w n f es) h
-
-pub packed-end : (q w n : ℕ) (f : ℕ → Entry → ℕ) (out : List ℕ) → out ≡ addedPacked q w n f [] out
-unfolding addedPacked
-packed-end q w n f out = refl

@@ -23,7 +23,7 @@ use Rattle.magnetar_r1cs.specs.Entries.{maskCount, masksRefusal, masksOut}
 use Rattle.magnetar_r1cs.proofs.Flipped.{powers-of, masks-in-front}
 use Rattle.magnetar_inplace.specs.declared.records.Entry.{Entry}
 use Rattle.magnetar_inplace.specs.Records.{entriesOfRecords, lentOf}
-use Rattle.magnetar_inplace.specs.Steps.{liesIn}
+use Rattle.magnetar_relation.specs.Rules.{liesIn}
 use Rattle.magnetar_matrix.specs.Matrix.{bitUpTo}
 use Rattle.magnetar_inplace.specs.MaskSteps.{maskOf, places, placesFit, flips, flippedAll, clearedMasks}
 use Rattle.magnetar_inplace.proofs.RecordLaws.{entries-are, map-length, inside-both, note-both}

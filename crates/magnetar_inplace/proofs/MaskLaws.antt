@@ -26,7 +26,7 @@ use Rattle.magnetar_r1cs.specs.Flips.{flip, flipTotal, flipBlock}
 use Rattle.magnetar_r1cs.proofs.Split.{blocks-ext}
 use Rattle.magnetar_inplace.specs.LoginSteps.{inReach}
 use Rattle.magnetar_inplace.specs.MaskSteps.{placesFit, flips, flipped, flippedIn, flippedAll, clearedMasks}
-use Rattle.magnetar_inplace.specs.Steps.{clearedWords}
+use Rattle.magnetar_relation.specs.Steps.{clearedWords}
 use Rattle.magnetar_inplace.proofs.LoginLaws.{reach, reached, blocked, blocked-length, spread, one-length, spread-zeros}
 
 -- ---- a table in front of other words

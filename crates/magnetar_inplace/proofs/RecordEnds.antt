@@ -30,8 +30,11 @@ use Rattle.magnetar_r1cs.proofs.Lone.{inside, sum-ext}
 use Rattle.magnetar_r1cs.proofs.Points.{point-of, point-size}
 use Rattle.magnetar_inplace.specs.declared.records.Entry.{Entry}
 use Rattle.magnetar_inplace.specs.Records.{entriesOfRecords, lentOf}
-use Rattle.magnetar_inplace.specs.Steps.{liesIn, loneOf, applyTests, tableTests, atTests, clearedTo, addedAll, front, between, behind, pairShare}
-use Rattle.magnetar_inplace.proofs.RecordLaws.{lone-same, matrix-of, cleared-added, words-length, front-cleared, front-read}
+use Rattle.magnetar_relation.specs.Rules.{liesIn}
+use Rattle.magnetar_relation.specs.Steps.{clearedTo, addedAll, front, between, behind}
+use Rattle.magnetar_inplace.specs.Steps.{loneOf, applyTests, tableTests, atTests, pairShare}
+use Rattle.magnetar_relation.proofs.TableWords.{cleared-added, words-length, front-cleared, front-read}
+use Rattle.magnetar_inplace.proofs.RecordLaws.{lone-same, matrix-of}
 
 -- ---- `is_binary`
 binary-refusal : (n m : ℕ) (es : List Entry)

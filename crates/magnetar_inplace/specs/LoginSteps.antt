@@ -1,4 +1,4 @@
--- What the walk over entry records does for a batch of logins, record by record. Only private contracts, and that of `z_at`, cite
+-- What the walk over entry records does for a batch of logins, record by record. Private contracts, and that of `write_products`, cite
 -- these definitions.
 -- Assumes nothing.
 use mathlib.Core.Bool.{Bool, not, cond, _&&_}
@@ -6,13 +6,9 @@ use mathlib.Core.List.{List, [], _∷_, _++_}
 use Prim.Native.Nat.{ℕ, zero, suc, _+_, _*_}
 use lib.Dec.{ltb, leb}
 use Rattle.magnetar_layout.specs.Tests.{Tests, mostLogins, mostRows, sizeTests, packedTestsOf, publicTestsOf, rowsTests, matrixColumnTests, countTests, roomTestOf}
-use Rattle.magnetar_matrix.specs.Matrix.{Entry}
-use Rattle.magnetar_matrix.specs.Packed.{loginPart, zOf}
-use Rattle.magnetar_inplace.specs.Steps.{clearedTo, addedTo}
-
--- z = (w, 1, x) of login u of the packed words ws
-unfoldable pub loginZ : ℕ → List ℕ → List ℕ → ℕ → List ℕ
-loginZ w ws x u = zOf w (loginPart w ws u) x
+use Rattle.magnetar_matrix.specs.Matrix.{Entry, share}
+use Rattle.magnetar_relation.specs.Steps.{loginZ, clearedTo, addedTo}
+use Rattle.magnetar_relation.specs.Told.{walked}
 
 -- q logins of w columns and n rows, and row r, are within the limits
 abbrev pub inReach : ℕ → ℕ → ℕ → ℕ → Bool
@@ -41,7 +37,6 @@ addedBlocks k n f e (suc u) out = addedTo k (u * n + e .row) (f u e) (addedBlock
 unfoldable pub addedLogins : ℕ → ℕ → ℕ → (ℕ → Entry → ℕ) → Entry → List ℕ → List ℕ
 addedLogins q w n f e out = cond (inReach q w n (e .row)) (addedBlocks (q * n) n f e q out) out
 
--- one entry after the other
-unfoldable pub addedPacked : ℕ → ℕ → ℕ → (ℕ → Entry → ℕ) → List Entry → List ℕ → List ℕ
-addedPacked q w n f [] out = out
-addedPacked q w n f (e ∷ es) out = addedPacked q w n f es (addedLogins q w n f e out)
+-- the products of the entries with the logins' z, one login behind the other, in the place of the first q * n elements
+unfoldable pub productsIn : (q w n : ℕ) → (ws x : List ℕ) → List Entry → List ℕ → List ℕ
+productsIn q w n ws x es out = walked (addedLogins q w n (λ u. share (loginZ w ws x u))) es (clearedBlocks q w n out)

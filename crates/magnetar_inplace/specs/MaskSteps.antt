@@ -12,7 +12,7 @@ use Rattle.magnetar_matrix.specs.Sum.{sumBelow}
 use Rattle.magnetar_matrix.specs.Table.{addedAt}
 use Rattle.magnetar_r1cs.specs.Entries.{maskTestsOf}
 use Rattle.magnetar_r1cs.specs.Flips.{flip}
-use Rattle.magnetar_inplace.specs.Steps.{clearedWords}
+use Rattle.magnetar_relation.specs.Steps.{clearedWords}
 use Rattle.magnetar_inplace.specs.LoginSteps.{inReach}
 
 -- the last of them: 7, 12, 13 and 15

@@ -1,5 +1,7 @@
-// Thin functions above the core: matrices lent as slices of entry records.
+// Above the core: a matrix, or the matrices of a relation, lent as a slice of entry records.
+mod login;
 pub mod logins;
 mod masks;
 pub mod records;
 pub mod steps;
+pub mod walks;

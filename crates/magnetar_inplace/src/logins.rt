@@ -1,26 +1,23 @@
-// A login's bits and its z, and what `records::apply_simd_packed` does with one record, for each login of a batch.
+// What the products of a batch's logins take of one record, for each login.
 ghost use mathlib.Core.Path.{_≡_};
-ghost use mathlib.Core.Bool.{_&&_};
+ghost use mathlib.Core.Bool.{cond, _&&_};
 ghost use mathlib.Core.List.{_++_};
-ghost use Prim.Native.Nat.{_+_, _*_, _<_, _≤_, min};
-ghost use lib.ListN.{getD};
-ghost use Rattle.magnetar_field.specs.Gf128.{value};
+ghost use Prim.Native.Nat.{_+_, _*_, _<_, _≤_};
+ghost use lib.Dec.{leb, ltb};
 ghost use Rattle.magnetar_field.specs.Words.{elements};
 ghost use Rattle.magnetar_layout.specs.Tests.{noted};
 ghost use Rattle.magnetar_matrix.specs.Matrix.{share, bitUpTo};
-ghost use Rattle.magnetar_matrix.specs.Packed.{packedBit, loginPart};
 ghost use Rattle.magnetar_inplace.specs.Records.{entryOf};
-ghost use Rattle.magnetar_inplace.specs.Steps.{addedTo};
-ghost use Rattle.magnetar_inplace.specs.LoginSteps.{loginZ, inReach, packedBatchTests, clearedBlocks, addedBlocks, addedLogins, packedRoomTests};
+ghost use Rattle.magnetar_relation.specs.Steps.{addedTo, loginZ};
+ghost use Rattle.magnetar_inplace.specs.LoginSteps.{inReach, packedBatchTests, clearedBlocks, addedBlocks, addedLogins, packedRoomTests};
+use crate::login;
 use crate::records::Entry;
-use crate::steps;
 use magnetar_field::gf128;
 use magnetar_field::gf128::Gf128;
-use magnetar_field::sizes;
-use magnetar_field::words;
 use magnetar_layout::tests;
 use magnetar_matrix::step;
 use magnetar_r1cs::r1cs;
+use magnetar_relation::step as table;
 
 // Carries a flag on where the record's value is 0 or 1 and its column does not exceed w.
 pub(crate) fn has_bit_upto(acc: bool, w: usize, e: Entry) -> bool
@@ -51,53 +48,6 @@ pub(crate) fn in_reach(q: usize, w: usize, n: usize, r: usize) -> bool
     r < n
 }
 
-// Where the words of login u start among n words, k for each login; n where that is past them.
-fn login_start(u: usize, k: usize, n: usize) -> usize
-    ensures { λ r. ⌜ r ≡ min (u * k) n ⌝ }
-{
-    if u <= 4294967295 {
-        if k <= 4294967295 {
-            let a = u * k;
-            if a < n {
-                return a;
-            }
-            return n;
-        }
-    }
-    if k == 0 {
-        return 0;
-    }
-    if u > n / k {
-        return n;
-    }
-    u * k
-}
-
-// The bit of login u at column c, by the part of the packed words that is its own; 0 where there is no word of it.
-pub(crate) fn login_bit(packed: &[u64], w: usize, u: usize, c: usize) -> u64
-    ensures { λ r. ⌜ (r ≡ packedBit (loginPart w (now (packed .entry)) u) c) × (r < 2) ⌝ }
-{
-    let k = r1cs::login_words(w);
-    let a = login_start(u, k, packed.len());
-    let b = a + sizes::least(k, packed.len() - a);
-    step::bit_at(&packed[a..b], c)
-}
-
-// Login u's z at column c.
-pub fn z_at(packed: &[u64], x: &[u64], w: usize, u: usize, c: usize) -> Gf128
-    ensures { λ r. ⌜ value r ≡ getD (loginZ w (now (packed .entry)) (elements (now (x .entry))) u) c 0 ⌝ }
-{
-    if c < w {
-        let b = login_bit(packed, w, u, c);
-        return Gf128 { lo: b, hi: 0 };
-    }
-    if c == w {
-        return Gf128 { lo: 1, hi: 0 };
-    }
-    let k = c - w - 1;
-    words::get(x, k)
-}
-
 // Adds a record's share of login u's product to block u of n elements, k in all.
 pub(crate) fn add_login(
     packed: &[u64],
@@ -113,9 +63,9 @@ pub(crate) fn add_login(
     ensures { λ _. ⌜ now (out .exit) ≡ addedTo k (u * n + e .row) (share (loginZ w (now (packed .entry)) (elements (now (x .entry))) u) (entryOf e)) (now (out .entry)) ⌝ }
 {
     let v = Gf128 { lo: e.lo, hi: e.hi };
-    let f = z_at(packed, x, w, u, e.col);
+    let f = login::z_at(packed, x, w, u, e.col);
     let at = u * n + e.row;
-    steps::add_to(k, at, step::scale(f, v), out);
+    table::add_to(k, at, step::scale(f, v), out);
 }
 
 // Adds a record's shares of the products of q logins.
@@ -132,19 +82,33 @@ fn each_login(packed: &[u64], x: &[u64], q: usize, w: usize, n: usize, out: &mut
 }
 
 // The same where they are within the limits.
-pub(crate) fn add_logins(
+fn add_logins(packed: &[u64], x: &[u64], q: usize, w: usize, n: usize, out: &mut [u64], e: Entry)
+    ensures { λ _. ⌜ now (out .exit) ≡ addedLogins q w n (λ u. share (loginZ w (now (packed .entry)) (elements (now (x .entry))) u)) (entryOf e) (now (out .entry)) ⌝ }
+{
+    if in_reach(q, w, n, e.row) {
+        each_login(packed, x, q, w, n, out, e);
+    }
+}
+
+// The same of the record with the index i, where this is from a to b.
+pub(crate) fn add_within(
+    a: usize,
+    b: usize,
     packed: &[u64],
     x: &[u64],
     q: usize,
     w: usize,
     n: usize,
     out: &mut [u64],
+    i: usize,
     e: Entry,
 )
-    ensures { λ _. ⌜ now (out .exit) ≡ addedLogins q w n (λ u. share (loginZ w (now (packed .entry)) (elements (now (x .entry))) u)) (entryOf e) (now (out .entry)) ⌝ }
+    ensures { λ _. ⌜ now (out .exit) ≡ cond (leb a i && ltb i b) (addedLogins q w n (λ u. share (loginZ w (now (packed .entry)) (elements (now (x .entry))) u)) (entryOf e) (now (out .entry))) (now (out .entry)) ⌝ }
 {
-    if in_reach(q, w, n, e.row) {
-        each_login(packed, x, q, w, n, out, e);
+    if a <= i {
+        if i < b {
+            add_logins(packed, x, q, w, n, out, e);
+        }
     }
 }
 
@@ -153,7 +117,7 @@ pub(crate) fn clear_blocks(q: usize, w: usize, n: usize, out: &mut [u64])
     ensures { λ _. ⌜ now (out .exit) ≡ clearedBlocks q w n (now (out .entry)) ⌝ }
 {
     if in_reach(q, w, n, 0) {
-        steps::clear_front(q * n, out);
+        table::clear_front(q * n, out);
     }
 }
 

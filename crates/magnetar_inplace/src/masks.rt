@@ -6,9 +6,10 @@ ghost use Rattle.magnetar_layout.specs.Tests.{noted};
 ghost use Rattle.magnetar_matrix.specs.Packed.{loginPart};
 ghost use Rattle.magnetar_matrix.specs.Sum.{sumBelow};
 ghost use Rattle.magnetar_r1cs.specs.Flips.{flip};
+ghost use Rattle.magnetar_relation.specs.Steps.{clearedWords};
 ghost use Rattle.magnetar_inplace.specs.Records.{entryOf};
 ghost use Rattle.magnetar_inplace.specs.MaskSteps.{maskOf, lastOf, places, flips, flipped, flippedIn, clearedMasks};
-ghost use Rattle.magnetar_inplace.specs.Steps.{clearedWords};
+use crate::login;
 use crate::logins;
 use crate::records::Entry;
 use magnetar_field::sizes;
@@ -47,7 +48,7 @@ fn flip_of(packed: &[u64], w: usize, u: usize, t: usize, e: Entry) -> u64
         return 0;
     }
     if e.col < w {
-        return step::shifted(logins::login_bit(packed, w, u, e.col), t);
+        return step::shifted(login::login_bit(packed, w, u, e.col), t);
     }
     step::shifted(1, t)
 }

@@ -1,4 +1,4 @@
-// Matrices lent as slices of entry records. Each function is that of `magnetar_r1cs::r1cs` with its name; it calls, for one
+// A matrix lent as a slice of entry records. Each function is that of `magnetar_r1cs::r1cs` with its name; it calls, for one
 // record after the other, a step on that record.
 ghost use mathlib.Core.Path.{_≡_};
 ghost use mathlib.Core.Bool.{true, false, cond, _&&_};
@@ -12,16 +12,20 @@ ghost use Rattle.magnetar_layout.specs.Every.{every};
 ghost use Rattle.magnetar_matrix.specs.Matrix.{share, isBit, bitUpTo, binary, bitValued, swapped, sumOver};
 ghost use Rattle.magnetar_matrix.specs.Lent.{matrixOf};
 ghost use Rattle.magnetar_r1cs.specs.Entries.{applyRefusal, applyOut, binaryRefusal, flagged, flaggedOf, tableRefusal, tableOut, tableScratch, atAnswer, atScratch, packedRefusal, packedOut, masksRefusal, masksOut};
+ghost use Rattle.magnetar_relation.specs.Rules.{liesIn};
+ghost use Rattle.magnetar_relation.specs.Steps.{addedAll, behind, clearedTo};
 ghost use Rattle.magnetar_inplace.specs.Records.{entriesOfRecords, lentOf};
-ghost use Rattle.magnetar_inplace.specs.Steps.{liesIn, addedAll, pairShare, behind, clearedTo};
-ghost use Rattle.magnetar_inplace.specs.LoginSteps.{loginZ, clearedBlocks, addedPacked};
+ghost use Rattle.magnetar_inplace.specs.Steps.{pairShare};
+ghost use Rattle.magnetar_inplace.specs.LoginSteps.{productsIn};
 ghost use Rattle.magnetar_inplace.specs.MaskSteps.{flips, flippedAll};
 use crate::logins;
 use crate::masks;
 use crate::steps;
+use crate::walks;
 use magnetar_field::gf128::Evaluated;
 use magnetar_field::gf128::Gf128;
 use magnetar_r1cs::r1cs::Flag;
+use magnetar_relation::step as table;
 
 // An entry of a matrix: its place, and the low and high word of its value.
 pub struct Entry {
@@ -32,7 +36,7 @@ pub struct Entry {
 }
 
 // Every record lies inside.
-fn all_inside(es: &[Entry], rows: usize, cols: usize) -> bool
+fn lone_inside(es: &[Entry], rows: usize, cols: usize) -> bool
     ensures { λ r. ⌜ r ≡ every (liesIn rows cols) (entriesOfRecords (now (es .entry))) ⌝ }
 {
     let mut acc = true;
@@ -42,38 +46,6 @@ fn all_inside(es: &[Entry], rows: usize, cols: usize) -> bool
         i += 1;
     }
     acc
-}
-
-// Every record of six slices lies inside its matrix.
-pub fn all_six(
-    abrows: usize,
-    abcols: usize,
-    ab: &[Entry],
-    bbrows: usize,
-    bbcols: usize,
-    bb: &[Entry],
-    cbrows: usize,
-    cbcols: usize,
-    cb: &[Entry],
-    afrows: usize,
-    afcols: usize,
-    af: &[Entry],
-    bfrows: usize,
-    bfcols: usize,
-    bf: &[Entry],
-    cfrows: usize,
-    cfcols: usize,
-    cf: &[Entry],
-) -> bool
-    ensures { λ r. ⌜ r ≡ every (liesIn abrows abcols) (entriesOfRecords (now (ab .entry))) && (every (liesIn bbrows bbcols) (entriesOfRecords (now (bb .entry))) && (every (liesIn cbrows cbcols) (entriesOfRecords (now (cb .entry))) && (every (liesIn afrows afcols) (entriesOfRecords (now (af .entry))) && (every (liesIn bfrows bfcols) (entriesOfRecords (now (bf .entry))) && (every (liesIn cfrows cfcols) (entriesOfRecords (now (cf .entry)))))))) ⌝ }
-{
-    let i0 = all_inside(ab, abrows, abcols);
-    let i1 = all_inside(bb, bbrows, bbcols);
-    let i2 = all_inside(cb, cbrows, cbcols);
-    let i3 = all_inside(af, afrows, afcols);
-    let i4 = all_inside(bf, bfrows, bfcols);
-    let i5 = all_inside(cf, cfrows, cfcols);
-    steps::all6(i0, i1, i2, i3, i4, i5)
 }
 
 // Every value is 0 or 1.
@@ -104,7 +76,7 @@ fn add_product(es: &[Entry], n: usize, z: &[u64], out: &mut [u64])
 pub fn is_binary(rows: usize, cols: usize, es: &[Entry]) -> Flag
     ensures { λ r. ⌜ flagged r ≡ flaggedOf (binaryRefusal (lentOf rows cols (now (es .entry)))) (binary (matrixOf (lentOf rows cols (now (es .entry))))) ⌝ }
 {
-    let inside = all_inside(es, rows, cols);
+    let inside = lone_inside(es, rows, cols);
     let n = steps::lone(rows, cols, es.len(), inside);
     let bits = all_bits(es);
     steps::flag_unless(n, bits)
@@ -115,11 +87,11 @@ pub fn apply(rows: usize, cols: usize, es: &[Entry], z: &[u64], out: &mut [u64])
     ensures { λ r. ⌜ (r ≡ applyRefusal (lentOf rows cols (now (es .entry))) (now (z .entry)) (now (out .entry)))
         × (now (out .exit) ≡ applyOut (lentOf rows cols (now (es .entry))) (now (z .entry)) (now (out .entry))) ⌝ }
 {
-    let inside = all_inside(es, rows, cols);
+    let inside = lone_inside(es, rows, cols);
     let n = steps::apply_refusal(rows, cols, es.len(), inside, z.len(), out.len());
     let go = steps::is_none(n);
     if go {
-        steps::clear_front(rows, out);
+        table::clear_front(rows, out);
         add_product(es, rows, z, out);
         n
     } else {
@@ -128,7 +100,7 @@ pub fn apply(rows: usize, cols: usize, es: &[Entry], z: &[u64], out: &mut [u64])
 }
 
 // Adds the transpose's product of the records with the first n elements of s to the first m elements of out.
-fn add_columns(es: &[Entry], m: usize, n: usize, s: &mut [u64], out: &mut [u64])
+fn lone_columns(es: &[Entry], m: usize, n: usize, s: &mut [u64], out: &mut [u64])
     ensures { λ _. ⌜ (now (s .exit) ≡ now (s .entry))
         × (now (out .exit) ≡ addedAll m (share (elements (take (2 * n) (now (s .entry))))) (map swapped (entriesOfRecords (now (es .entry)))) (now (out .entry))) ⌝ }
 {
@@ -153,7 +125,7 @@ pub fn eval_mle_table(
         × (now (out .exit) ≡ tableOut (lentOf rows cols (now (es .entry))) (now (point .entry)) (now (out .entry)) (now (scratch .entry)))
         × (now (scratch .exit) ≡ tableScratch (lentOf rows cols (now (es .entry))) (now (point .entry)) (now (out .entry)) (now (scratch .entry))) ⌝ }
 {
-    let inside = all_inside(es, rows, cols);
+    let inside = lone_inside(es, rows, cols);
     let n = steps::table_refusal(
         rows,
         cols,
@@ -166,9 +138,9 @@ pub fn eval_mle_table(
     let go = steps::is_none(n);
     if go {
         steps::eq_front(point, scratch);
-        steps::clear_front(cols, out);
-        add_columns(es, cols, rows, scratch, out);
-        steps::clear_front(rows, scratch);
+        table::clear_front(cols, out);
+        lone_columns(es, cols, rows, scratch, out);
+        table::clear_front(rows, scratch);
         n
     } else {
         n
@@ -218,7 +190,7 @@ pub fn eval_mle_at(
     ensures { λ v. ⌜ (answer v ≡ atAnswer (lentOf rows cols (now (es .entry))) (now (r .entry)) (now (c .entry)) (now (scratch .entry)))
         × (now (scratch .exit) ≡ atScratch (lentOf rows cols (now (es .entry))) (now (r .entry)) (now (c .entry)) (now (scratch .entry))) ⌝ }
 {
-    let inside = all_inside(es, rows, cols);
+    let inside = lone_inside(es, rows, cols);
     let n = steps::at_refusal(
         rows,
         cols,
@@ -246,25 +218,6 @@ fn all_bits_upto(es: &[Entry], w: usize) -> bool
     acc
 }
 
-// Adds the products of q logins of w columns, n rows each, to the blocks of out.
-fn add_packed(
-    es: &[Entry],
-    packed: &[u64],
-    x: &[u64],
-    q: usize,
-    w: usize,
-    n: usize,
-    out: &mut [u64],
-)
-    ensures { λ _. ⌜ now (out .exit) ≡ addedPacked q w n (λ u. share (loginZ w (now (packed .entry)) (elements (now (x .entry))) u)) (entriesOfRecords (now (es .entry))) (now (out .entry)) ⌝ }
-{
-    let mut i = 0;
-    while i < es.len() {
-        logins::add_logins(packed, x, q, w, n, out, es[i]);
-        i += 1;
-    }
-}
-
 // Sets the blocks to the products, and says whether all of them are 0 or 1; nothing where it is not to go.
 fn write_packed(
     go: bool,
@@ -277,11 +230,12 @@ fn write_packed(
     out: &mut [u64],
 ) -> bool
     ensures { λ b. ⌜ (b ≡ cond go (every (bitUpTo w) (entriesOfRecords (now (es .entry)))) false)
-        × (now (out .exit) ≡ cond go (addedPacked q w n (λ u. share (loginZ w (now (packed .entry)) (elements (now (x .entry))) u)) (entriesOfRecords (now (es .entry))) (clearedBlocks q w n (now (out .entry)))) (now (out .entry))) ⌝ }
+        × (now (out .exit) ≡ cond go (productsIn q w n (now (packed .entry)) (elements (now (x .entry))) (entriesOfRecords (now (es .entry))) (now (out .entry))) (now (out .entry))) ⌝ }
 {
+    let first = 0;
+    let end = es.len();
     if go {
-        logins::clear_blocks(q, w, n, out);
-        add_packed(es, packed, x, q, w, n, out);
+        walks::write_products(es, first, end, packed, x, q, w, n, out);
         let b = all_bits_upto(es, w);
         b
     } else {
@@ -304,7 +258,7 @@ pub fn apply_simd_packed(
     ensures { λ r. ⌜ (flagged r ≡ flaggedOf (packedRefusal (lentOf rows cols (now (es .entry))) (now (packed .entry)) (now (x .entry)) q w (now (out .entry))) (bitValued w (matrixOf (lentOf rows cols (now (es .entry))))))
         × (now (out .exit) ≡ packedOut (lentOf rows cols (now (es .entry))) (now (packed .entry)) (now (x .entry)) q w (now (out .entry))) ⌝ }
 {
-    let inside = all_inside(es, rows, cols);
+    let inside = lone_inside(es, rows, cols);
     let n = logins::packed_refusal(
         rows,
         cols,
@@ -348,7 +302,7 @@ pub fn apply_simd_bit_masks(
     ensures { λ r. ⌜ (r ≡ masksRefusal (lentOf rows cols (now (es .entry))) (now (packed .entry)) q w v (now (out .entry)))
         × (now (out .exit) ≡ masksOut (lentOf rows cols (now (es .entry))) (now (packed .entry)) q w v (now (out .entry))) ⌝ }
 {
-    let inside = all_inside(es, rows, cols);
+    let inside = lone_inside(es, rows, cols);
     let bits = all_bits_upto(es, w);
     let n = masks::masks_refusal(
         rows,

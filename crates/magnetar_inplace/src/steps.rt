@@ -1,8 +1,8 @@
 // What the functions over entry records do with one record, and the rest of their work on numbers and words.
 ghost use mathlib.Core.Path.{_≡_};
-ghost use mathlib.Core.Bool.{_&&_};
+ghost use mathlib.Core.Bool.{cond, _&&_};
 ghost use mathlib.Core.List.{_++_};
-ghost use lib.Dec.{eqb};
+ghost use lib.Dec.{eqb, leb, ltb};
 ghost use lib.ListN.{take};
 ghost use Prim.Native.Nat.{_+_, _*_};
 ghost use Rattle.magnetar_field.specs.Gf128.{value, _⊕_};
@@ -12,7 +12,10 @@ ghost use Rattle.magnetar_layout.specs.Tests.{noted};
 ghost use Rattle.magnetar_matrix.specs.Matrix.{share, isBit, swapped};
 ghost use Rattle.magnetar_r1cs.specs.Entries.{flaggedOf, flagged};
 ghost use Rattle.magnetar_inplace.specs.Records.{entryOf};
-ghost use Rattle.magnetar_inplace.specs.Steps.{liesIn, loneOf, recordTests6, applyTests, tableTests, atTests, clearedTo, addedTo, front, between, behind, pairShare};
+ghost use Rattle.magnetar_relation.specs.Rules.{liesIn};
+ghost use Rattle.magnetar_relation.specs.Steps.{clearedTo, addedTo, behind, columnAdded};
+ghost use Rattle.magnetar_relation.specs.Told.{liesAt};
+ghost use Rattle.magnetar_inplace.specs.Steps.{loneOf, applyTests, tableTests, atTests, pairShare};
 use crate::records::Entry;
 use magnetar_field::gf128;
 use magnetar_field::gf128::Evaluated;
@@ -23,6 +26,9 @@ use magnetar_layout::tests;
 use magnetar_matrix::step;
 use magnetar_multilinear::eq::EqBits;
 use magnetar_r1cs::r1cs::Flag;
+use magnetar_relation::rules;
+use magnetar_relation::shapes::Shapes;
+use magnetar_relation::step as table;
 
 // Carries a flag on where the record lies inside its matrix.
 pub(crate) fn lies_in(acc: bool, rows: usize, cols: usize, e: Entry) -> bool
@@ -35,6 +41,13 @@ pub(crate) fn lies_in(acc: bool, rows: usize, cols: usize, e: Entry) -> bool
         return e.col < cols;
     }
     false
+}
+
+// Carries a flag on where record i lies inside its matrix, of the six.
+pub(crate) fn lies_at(acc: bool, s: Shapes, i: usize, e: Entry) -> bool
+    ensures { λ r. ⌜ r ≡ acc && liesAt s i (entryOf e) ⌝ }
+{
+    rules::lies_at(acc, s, i, e.row, e.col, e.lo, e.hi)
 }
 
 // Carries a flag on where the record's value is 0 or 1.
@@ -55,46 +68,6 @@ pub(crate) fn lone(rows: usize, cols: usize, n: usize, inside: bool) -> u32
     let z = tests::note(z, 4, !tests::is_size(1, 65536, rows));
     let z = tests::counts(z, n, n, n, n);
     tests::note(z, 7, !inside)
-}
-
-// 6 and 7 of six slices of records, by their lengths, after an earlier number z.
-pub fn records6(
-    z: u32,
-    ab: usize,
-    bb: usize,
-    cb: usize,
-    af: usize,
-    bf: usize,
-    cf: usize,
-    inside: bool,
-) -> u32
-    ensures { λ r. ⌜ r ≡ noted z (recordTests6 ab bb cb af bf cf inside) ⌝ }
-{
-    let z = tests::counts(z, ab, ab, ab, ab);
-    let z = tests::counts(z, bb, bb, bb, bb);
-    let z = tests::counts(z, cb, cb, cb, cb);
-    let z = tests::counts(z, af, af, af, af);
-    let z = tests::counts(z, bf, bf, bf, bf);
-    let z = tests::counts(z, cf, cf, cf, cf);
-    tests::note(z, 7, !inside)
-}
-
-// Whether all six flags are set.
-pub(crate) fn all6(a: bool, b: bool, c: bool, d: bool, e: bool, f: bool) -> bool
-    ensures { λ r. ⌜ r ≡ a && (b && (c && (d && (e && f)))) ⌝ }
-{
-    if a {
-        if b {
-            if c {
-                if d {
-                    if e {
-                        return f;
-                    }
-                }
-            }
-        }
-    }
-    false
 }
 
 // Nothing is refused.
@@ -136,32 +109,12 @@ pub(crate) fn apply_refusal(
     tests::note(n, 15, out < 2 * rows)
 }
 
-// Clears the first n elements, where there are as many.
-pub fn clear_front(n: usize, out: &mut [u64])
-    ensures { λ _. ⌜ now (out .exit) ≡ clearedTo n (now (out .entry)) ⌝ }
-{
-    if n <= out.len() / 2 {
-        let end = 2 * n;
-        words::clear(&mut out[..end]);
-    }
-}
-
-// Adds v to element k of the first n, where there are as many.
-pub fn add_to(n: usize, k: usize, v: Gf128, out: &mut [u64])
-    ensures { λ _. ⌜ now (out .exit) ≡ addedTo n k (value v) (now (out .entry)) ⌝ }
-{
-    if n <= out.len() / 2 {
-        let end = 2 * n;
-        step::add_at(&mut out[..end], k, v);
-    }
-}
-
 // Adds a record's share of the product with the vector z, at its row, to the first n elements.
 pub(crate) fn add_share(n: usize, z: &[u64], out: &mut [u64], e: Entry)
     ensures { λ _. ⌜ now (out .exit) ≡ addedTo n (e .row) (share (elements (now (z .entry))) (entryOf e)) (now (out .entry)) ⌝ }
 {
     let v = Gf128 { lo: e.lo, hi: e.hi };
-    add_to(n, e.row, step::scale(v, words::get(z, e.col)), out);
+    table::add_to(n, e.row, step::scale(v, words::get(z, e.col)), out);
 }
 
 // The refusals of `eval_mle_table`, for a point of p words, room of out words and scratch of s words.
@@ -223,29 +176,6 @@ pub(crate) fn eq_behind(n: usize, point: &[u64], s: &mut [u64])
     }
 }
 
-// Element k of the first n; 0 past their end.
-pub(crate) fn get_front(n: usize, s: &[u64], k: usize) -> Gf128
-    ensures { λ r. ⌜ value r ≡ front n (now (s .entry)) k ⌝ }
-{
-    if n <= s.len() / 2 {
-        let end = 2 * n;
-        return words::get(&s[..end], k);
-    }
-    words::get(s, k)
-}
-
-// Element k of the m behind the first n; 0 past their end.
-pub fn get_between(n: usize, m: usize, s: &[u64], k: usize) -> Gf128
-    ensures { λ r. ⌜ value r ≡ between n m (now (s .entry)) k ⌝ }
-{
-    if n <= s.len() / 2 {
-        let a = 2 * n;
-        let end = s.len();
-        return get_front(m, &s[a..end], k);
-    }
-    Gf128 { lo: 0, hi: 0 }
-}
-
 // Clears the first n + m elements, where there are as many.
 pub(crate) fn clear_both(n: usize, m: usize, s: &mut [u64])
     ensures { λ _. ⌜ now (s .exit) ≡ clearedTo (n + m) (now (s .entry)) ⌝ }
@@ -253,7 +183,7 @@ pub(crate) fn clear_both(n: usize, m: usize, s: &mut [u64])
     let k = s.len() / 2;
     if n <= k {
         if m <= k - n {
-            clear_front(n + m, s);
+            table::clear_front(n + m, s);
         }
     }
 }
@@ -264,7 +194,18 @@ pub(crate) fn add_column(m: usize, n: usize, s: &mut [u64], out: &mut [u64], e: 
         × (now (out .exit) ≡ addedTo m (e .col) (share (elements (take (2 * n) (now (s .entry)))) (swapped (entryOf e))) (now (out .entry))) ⌝ }
 {
     let v = Gf128 { lo: e.lo, hi: e.hi };
-    add_to(m, e.col, step::scale(v, get_front(n, s, e.row)), out);
+    table::add_to(m, e.col, step::scale(v, table::get_front(n, s, e.row)), out);
+}
+
+// Adds a record's value times the element at its row, of the n behind the first m, at its column, where its index i is from a to b.
+pub(crate) fn add_within(m: usize, n: usize, a: usize, b: usize, t: &mut [u64], i: usize, e: Entry)
+    ensures { λ _. ⌜ now (t .exit) ≡ cond (leb a i && ltb i b) (columnAdded m n (entryOf e) (now (t .entry))) (now (t .entry)) ⌝ }
+{
+    if a <= i {
+        if i < b {
+            table::add_column(m, n, t, e.row, e.col, e.lo, e.hi);
+        }
+    }
 }
 
 // Adds a record's value times the factors at its row, of the first n elements, and at its column, of the m behind them.
@@ -272,8 +213,8 @@ pub(crate) fn add_pair(acc: Gf128, n: usize, m: usize, s: &mut [u64], e: Entry) 
     ensures { λ r. ⌜ (value r ≡ value acc ⊕ pairShare n m (now (s .entry)) (entryOf e)) × (now (s .exit) ≡ now (s .entry)) ⌝ }
 {
     let v = Gf128 { lo: e.lo, hi: e.hi };
-    let a = get_front(n, s, e.row);
-    let b = get_between(n, m, s, e.col);
+    let a = table::get_front(n, s, e.row);
+    let b = table::get_between(n, m, s, e.col);
     gf128::add(acc, step::scale(v, gf128::mul(a, b)))
 }
 

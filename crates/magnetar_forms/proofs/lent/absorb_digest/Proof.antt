@@ -20,7 +20,7 @@ use contract.Monad.{Fun, fact}
 use contract.Running.{givenOf, tables, tablesOf}
 use types.Kit.{Given, ‵, raw, _⊛_, ⋆, some, later, _$_, _∵_, !, qed, by, move, keep, drop, use1, use2, use3, split, join, pick, fsplit, fsplit3, fjoin, fjoin3, feqL, feqI, rewrite, atRet, suffices, frame, await, done}
 use types.Part.{agg, whole, sub, look-in}
-use types.Run.{look, look-raw, init, store, store-raw, forget, stop, hop, fld, from, load, unit-lit, of-opd, addr, and-then, no-more, lit, true-lit, false-lit, assigns, assigns-last, land, land-last, first, branches, skips, exec, returns, enter, alloc1, alloc0, params1, pass1, pass0, free1, free0}
+use types.Run.{look, look-raw, init, store, store-raw, stop, hop, fld, from, load, unit-lit, of-opd, addr, and-then, no-more, lit, true-lit, false-lit, assigns, assigns-last, land, land-last, first, branches, skips, exec, returns, enter, alloc0, params1, pass1, pass0}
 use types.Tokens.{lft-new, lft-end}
 use sound.WpLaws.{FmC, fmOf, WpFn-mono}
 use denote.RattleType.{owns}
@@ -59,6 +59,7 @@ use denote.Memory.{cellAt, partAt, mem, shares}
 use denote.ArrayMemory.{array-apart, array-whole}
 use denote.Lend.{lends-ref, ref-back, lends-shr-slice}
 use Rattle.magnetar_transcript.proofs.Local.{into, out, rest, cut, mend, room-of}
+use Rattle.magnetar_transcript.proofs.Locals.{tidy, bare, kept, dies, alloc, hide, free-all}
 use Rattle.magnetar_transcript.proofs.transcript.absorb_digest as g1
 use Rattle.magnetar_transcript.proofs.transcript.absorb_digest.Symbol as g1-def
 use Rattle.magnetar_transcript.proofs.transcript.absorb_digest.Symbol.{name as #g1}
@@ -121,25 +122,24 @@ module _ {M : Type 1} (𝓤 : URA M) (H : Heap 𝓤) (A : Atoms 𝓤) (W : Given
     walk : ent 𝓤 (onEntry 𝓤 H A f.signature (κ₀, (κ₁, tt)) (q₀, (q₁, tt)) a at) (WpFn 𝓤 H C Λ code.function (v1 ∷ v2 ∷ v3 ∷ []) Post)
     walk =
         qed W ((‵ (flft κ₀ q₀) ⊛ ‵ (flft κ₁ q₁) ⊛ ‵ ftrue) ∷ ‵ (owns (mTranscript.the-row ∷ ShrSlice (named 0) κ₀ u8 ∷ ShrRef (named 1) κ₁ (Array u8 32) ∷ []) a at) ∷ []) ∵ enter ! C Λ code.function (v1 ∷ v2 ∷ v3 ∷ []) _ $
-        alloc1 ! (λ l₀. alloc1 ! (λ l₁. alloc1 ! (λ l₂. alloc1 ! (λ l₃. alloc1 ! (λ l₄. alloc1 ! (λ l₅. alloc1 ! (λ l₆. alloc0 ! $ params1 ! $ pass1 ! (init ! 10 refl (LL.lawful mTranscript.the-type lTranscript.the-laws 𝓤 H A W .typed n1 _ w1 .0)) $ pass1 ! (init ! 8 refl (shr-slice-lawful 𝓤 H A W (named 0) κ₀ u8 .typed s2 (v2 ∷ []) w2 .0)) $ pass1 ! (init ! 6 refl (tt, tt)) $ pass0 ! $
-        move ! (15 ∷ []) $ fsplit ! $ move ! (1 ∷ []) $ fsplit ! $ move ! (1 ∷ []) $ fsplit ! $ move ! (1 ∷ []) $ move ! (18 ∷ []) $ split ! $ move ! (1 ∷ []) $ split ! $ move ! (1 ∷ []) $
-        assigns ! (of-opd ! (load ! (from ! (stop !)) (look ! 17 refl))) (from ! (stop !)) (init ! 11 refl (LL.lawful mTranscript.the-type lTranscript.the-laws 𝓤 H A W .typed n1 _ w1 .0)) $
-        assigns ! (addr ! (from ! (stop !))) (from ! (stop !)) (init ! 7 refl (tt, tt)) $
-        lft-new ! tt (λ ν1a. owned ! mTranscript.the-row (Is mTranscript.the-row) (LL.makes mTranscript.the-type lTranscript.the-plain 𝓤 H A) (n1) _ w1 $ move ! (13 ∷ 0 ∷ []) $ use1 W (‵ (cellAt fullShare (mTranscript.the-row .mir) (u1 ∷ []) l₄ 0)) (W .laws .at-raw fullShare (lTranscript.mir) l₄ 0 (u1)) $ into ! mTranscript.the-row fullShare (n1) (u1 ∷ []) l₄ 0 $
+        nothing ! $ alloc ! (λ l₀. alloc ! (λ l₁. alloc ! (λ l₂. alloc ! (λ l₃. alloc ! (λ l₄. alloc ! (λ l₅. alloc ! (λ l₆. alloc0 ! $ hide ! (λ died die. params1 ! $ pass1 ! (init ! 6 refl (LL.lawful mTranscript.the-type lTranscript.the-laws 𝓤 H A W .typed n1 _ w1 .0)) $ pass1 ! (init ! 5 refl (shr-slice-lawful 𝓤 H A W (named 0) κ₀ u8 .typed s2 (v2 ∷ []) w2 .0)) $ pass1 ! (init ! 4 refl (tt, tt)) $ pass0 ! $
+        move ! (9 ∷ []) $ fsplit ! $ move ! (1 ∷ []) $ fsplit ! $ move ! (1 ∷ []) $ fsplit ! $ move ! (1 ∷ []) $ drop ! $ move ! (11 ∷ []) $ split ! $ move ! (1 ∷ []) $ split ! $ move ! (1 ∷ []) $ drop ! $ tidy W (_ ∷ _ ∷ _ ∷ _ ∷ _ ∷ _ ∷ _ ∷ _ ∷ _ ∷ _ ∷ _ ∷ _ ∷ _ ∷ []) $
+        assigns ! (of-opd ! (load ! (from ! (stop !)) (look ! 11 refl))) (from ! (stop !)) (init ! 8 refl (LL.lawful mTranscript.the-type lTranscript.the-laws 𝓤 H A W .typed n1 _ w1 .0)) $
+        assigns ! (addr ! (from ! (stop !))) (from ! (stop !)) (init ! 6 refl (tt, tt)) $
+        lft-new ! tt (λ ν1a. owned ! mTranscript.the-row (Is mTranscript.the-row) (LL.makes mTranscript.the-type lTranscript.the-plain 𝓤 H A) (n1) _ w1 $ move ! (10 ∷ 0 ∷ []) $ use1 W (‵ (cellAt fullShare (mTranscript.the-row .mir) (u1 ∷ []) l₄ 0)) (W .laws .at-raw fullShare (lTranscript.mir) l₄ 0 (u1)) $ into ! mTranscript.the-row fullShare (n1) (u1 ∷ []) l₄ 0 $
         use1 W (later (some (λ (δ : GName). ‵ (MutRef (named 0) (ν1a ∷ []) mTranscript.the-row .own (record { ptr = (l₄, 0); name = δ; now = n1 }) (vptr l₄ 0 ∷ [])) ⊛ ‵ (flent (ν1a ∷ []) (Body (mem mTranscript.the-row) l₄ 0 δ))))) (lends-ref 𝓤 H A W mTranscript.the-row (named 0) (ν1a ∷ []) (n1) l₄ 0) $ await ! tt $ pick ! (λ δ1a. split ! $
-        move ! (8 ∷ []) $ use1 W (‵ (O2) ⊛ ‵ (O2)) (shr-slice-copy 𝓤 H A W (named 0) κ₀ u8 .twice s2 (v2 ∷ [])) $ split ! $ move ! (9 ∷ []) $ use1 W (‵ (O3 h3) ⊛ ‵ (O3 h3)) (shr-copy 𝓤 H A W (named 1) κ₁ (Array u8 32) .twice (ref3 γ3 h3) (v3 ∷ [])) $ split ! $ nothing ! $ move ! (9 ∷ 0 ∷ []) $ join ! $ move ! (9 ∷ 0 ∷ []) $ join ! $ move ! (7 ∷ 0 ∷ []) $ join ! $ move ! (3 ∷ 1 ∷ []) $ join ! $ move ! (4 ∷ 0 ∷ []) $ join ! $ move ! (1 ∷ 0 ∷ []) $ join ! $
+        move ! (6 ∷ []) $ use1 W (‵ (O2) ⊛ ‵ (O2)) (shr-slice-copy 𝓤 H A W (named 0) κ₀ u8 .twice s2 (v2 ∷ [])) $ split ! $ move ! (7 ∷ []) $ use1 W (‵ (O3 h3) ⊛ ‵ (O3 h3)) (shr-copy 𝓤 H A W (named 1) κ₁ (Array u8 32) .twice (ref3 γ3 h3) (v3 ∷ [])) $ split ! $ tidy W (_ ∷ _ ∷ _ ∷ _ ∷ _ ∷ _ ∷ _ ∷ _ ∷ _ ∷ _ ∷ _ ∷ _ ∷ _ ∷ _ ∷ _ ∷ _ ∷ _ ∷ []) $ nothing ! $ move ! (8 ∷ 0 ∷ []) $ join ! $ move ! (8 ∷ 0 ∷ []) $ join ! $ move ! (7 ∷ 0 ∷ []) $ join ! $ move ! (3 ∷ 1 ∷ []) $ join ! $ move ! (4 ∷ 0 ∷ []) $ join ! $ move ! (1 ∷ 0 ∷ []) $ join ! $
         -- call 1
         use1 W (raw (Callee-g1 𝓤 H A at-mem run .pre ((((ν1a ∷ []), (κ₀, (κ₁, tt))), (fullShare, (q₀, (q₁, tt))), tt, (record { ptr = (l₄, 0); name = δ1a; now = n1 }, (s2, (ref3 γ3 h3, tt))), (vptr l₄ 0 ∷ [], (v2 ∷ [], (v3 ∷ [], tt)))), tt))) (qed W ((‵ (flft (ν1a ∷ []) fullShare) ⊛ ‵ (flft κ₀ q₀) ⊛ ‵ (flft κ₁ q₁) ⊛ ‵ ftrue) ∷ ‵ (MutRef (named 0) (ν1a ∷ []) mTranscript.the-row .own (record { ptr = (l₄, 0); name = δ1a; now = n1 }) (vptr l₄ 0 ∷ [])) ∷ ‵ (ShrSlice (named 1) κ₀ u8 .own s2 (v2 ∷ [])) ∷ ‵ (ShrRef (named 2) κ₁ (Array u8 32) .own (ref3 γ3 h3) (v3 ∷ [])) ∷ []) ∵ nothing ! $ move ! (4 ∷ 0 ∷ []) $ fjoin ! $ move ! (3 ∷ 0 ∷ []) $ fjoin ! $ move ! (2 ∷ 0 ∷ []) $ fjoin ! $ move ! (1 ∷ 0 ∷ []) $ join ! $ nothing ! $ move ! (1 ∷ 0 ∷ []) $ frame ! $ done !) $
-        calls-at ! fm (Callee-g1 𝓤 H A at-mem run) known-g1 ((((ν1a ∷ []), (κ₀, (κ₁, tt))), (fullShare, (q₀, (q₁, tt))), tt, (record { ptr = (l₄, 0); name = δ1a; now = n1 }, (s2, (ref3 γ3 h3, tt))), (vptr l₄ 0 ∷ [], (v2 ∷ [], (v3 ∷ [], tt)))), tt) (and-then ! (load ! (from ! (stop !)) (look ! 7 refl)) (and-then ! (load ! (from ! (stop !)) (look ! 14 refl)) (and-then ! (load ! (from ! (stop !)) (look ! 12 refl)) (no-more !)))) (λ z1.
+        calls-at ! fm (Callee-g1 𝓤 H A at-mem run) known-g1 ((((ν1a ∷ []), (κ₀, (κ₁, tt))), (fullShare, (q₀, (q₁, tt))), tt, (record { ptr = (l₄, 0); name = δ1a; now = n1 }, (s2, (ref3 γ3 h3, tt))), (vptr l₄ 0 ∷ [], (v2 ∷ [], (v3 ∷ [], tt)))), tt) (and-then ! (load ! (from ! (stop !)) (look ! 6 refl)) (and-then ! (load ! (from ! (stop !)) (look ! 9 refl)) (and-then ! (load ! (from ! (stop !)) (look ! 8 refl)) (no-more !)))) (λ z1.
         use1 W (later (some (λ (r1 : Unit {0}). ((‵ (flft (ν1a ∷ []) fullShare) ⊛ ‵ (flft κ₀ q₀) ⊛ ‵ (flft κ₁ q₁) ⊛ ‵ ftrue) ⊛ ‵ (unit .own r1 (z1 ∷ []))) ⊛ some (λ (ws : Lasts g1.ended ((ν1a ∷ []), (κ₀, (κ₁, tt))) (record { ptr = (l₄, 0); name = δ1a; now = n1 }, (s2, (ref3 γ3 h3, tt)))). ‵ (lasts g1.ended ((ν1a ∷ []), (κ₀, (κ₁, tt))) (record { ptr = (l₄, 0); name = δ1a; now = n1 }, (s2, (ref3 γ3 h3, tt))) ws) ⊛ raw (g1.clauses 𝓤 H A at-mem run ((ν1a ∷ []), (κ₀, (κ₁, tt))) (record { ptr = (l₄, 0); name = δ1a; now = n1 }, (s2, (ref3 γ3 h3, tt))) .ensures tt r1 (atExit g1.ended ((ν1a ∷ []), (κ₀, (κ₁, tt))) (record { ptr = (l₄, 0); name = δ1a; now = n1 }, (s2, (ref3 γ3 h3, tt))) ws)))))) (id⊢ 𝓤 _) $ await ! tt $ pick ! (λ r1. split ! $ move ! (1 ∷ []) $ pick ! (λ ws1. split ! $ move ! (1 ∷ []) $ heard ! _ (λ e1.
-        fsplit ! $ move ! (1 ∷ []) $ fsplit ! $ move ! (1 ∷ []) $ fsplit ! $ move ! (4 ∷ []) $ split ! $ move ! (1 ∷ []) $ feqL ! (λ i1. land ! (from ! (stop !)) (init ! 13 refl (subst (λ (t : Val). Trueᴮ (hasTy tyUnit t) × WT t) (sym (ap only i1)) (tt, tt))) $
-        split ! $ move ! (1 ∷ []) $ split ! $ move ! (1 ∷ []) $ split ! $ move ! (1 ∷ []) $ move ! (3 ∷ []) $ lft-end ! tt $ move ! (0 ∷ 10 ∷ 7 ∷ []) $ use3 W (later (‵ (partAt mTranscript.the-row fullShare ((ws1 .0)) l₄ 0))) (ref-back 𝓤 H A W mTranscript.the-row (ν1a ∷ []) δ1a ((ws1 .0)) l₄ 0) $ await ! tt $
+        fsplit ! $ move ! (1 ∷ []) $ drop ! $ move ! (1 ∷ []) $ split ! $ move ! (1 ∷ []) $ feqL ! (λ i1. land ! (from ! (stop !)) (init ! 8 refl (subst (λ (t : Val). Trueᴮ (hasTy tyUnit t) × WT t) (sym (ap only i1)) (tt, tt))) $
+        tidy W (_ ∷ _ ∷ _ ∷ _ ∷ _ ∷ _ ∷ _ ∷ _ ∷ _ ∷ _ ∷ _ ∷ _ ∷ _ ∷ []) $ split ! $ move ! (1 ∷ []) $ split ! $ move ! (1 ∷ []) $ split ! $ move ! (1 ∷ []) $ drop ! $ move ! (2 ∷ []) $ lft-end ! tt $ move ! (0 ∷ 6 ∷ 3 ∷ []) $ use3 W (later (‵ (partAt mTranscript.the-row fullShare ((ws1 .0)) l₄ 0))) (ref-back 𝓤 H A W mTranscript.the-row (ν1a ∷ []) δ1a ((ws1 .0)) l₄ 0) $ await ! tt $
         out ! mTranscript.the-row fullShare ((ws1 .0)) l₄ 0 (λ vs. spelt ! mTranscript.the-row (Is mTranscript.the-row) (shows 𝓤 H A mTranscript.the-row) (LL.vals mTranscript.the-type lTranscript.the-laws) (LL.tells mTranscript.the-type lTranscript.the-laws) fullShare ((ws1 .0)) vs l₄ 0 $ move ! (1 ∷ []) $ peeks ! mTranscript.the-row (Is mTranscript.the-row) (shows 𝓤 H A mTranscript.the-row) ((ws1 .0)) (LL.val mTranscript.the-type lTranscript.the-laws ((ws1 .0)) ∷ []) (λ w1a. drop ! $ use1 W (‵ (fat fullShare (lTranscript.mir) l₄ 0 (LL.val mTranscript.the-type lTranscript.the-laws ((ws1 .0))))) (W .laws .raw-at fullShare (lTranscript.mir) l₄ 0 (LL.val mTranscript.the-type lTranscript.the-laws ((ws1 .0)))) $
-        assigns ! (of-opd ! (load ! (from ! (stop !)) (look ! 0 refl))) (from ! (stop !)) (init ! 23 refl (LL.lawful mTranscript.the-type lTranscript.the-laws 𝓤 H A W .typed (ws1 .0) _ w1a .0)) $
-        returns ! (look ! 23 refl) $ forget ! 23 refl $ forget ! 21 refl $ forget ! 19 refl $ forget ! 17 refl $ forget ! 0 refl $ forget ! 14 refl $ forget ! 12 refl $
-        move ! (23 ∷ 24 ∷ []) $ free1 ! $ move ! (21 ∷ 22 ∷ []) $ free1 ! $ move ! (19 ∷ 20 ∷ []) $ free1 ! $ move ! (17 ∷ 18 ∷ []) $ free1 ! $ move ! (0 ∷ 16 ∷ []) $ free1 ! $ move ! (13 ∷ 14 ∷ []) $ free1 ! $ move ! (11 ∷ 12 ∷ []) $ free1 ! $ free0 ! $
+        assigns ! (of-opd ! (load ! (from ! (stop !)) (look ! 0 refl))) (from ! (stop !)) (init ! 12 refl (LL.lawful mTranscript.the-type lTranscript.the-laws 𝓤 H A W .typed (ws1 .0) _ w1a .0)) $
+        tidy W (_ ∷ _ ∷ _ ∷ _ ∷ _ ∷ _ ∷ _ ∷ _ ∷ _ ∷ _ ∷ _ ∷ _ ∷ _ ∷ []) $ returns ! (look ! 12 refl) $ move ! (1 ∷ 2 ∷ 3 ∷ 4 ∷ 5 ∷ 6 ∷ 7 ∷ 8 ∷ 0 ∷ 9 ∷ 10 ∷ 11 ∷ 12 ∷ []) $ move ! (5 ∷ []) $ use1 W (dies ((lTranscript.mir, l₀) ∷ (lTranscript.mir, l₁) ∷ (sliceTy (tyRef (named 0) imm (tyInt w8)), l₂) ∷ (tyRef (named 1) imm (tyArray (tyInt w8) 32), l₃) ∷ (lTranscript.mir, l₄) ∷ (tyUnit, l₅) ∷ (tyRef erased mut (pointee (mTranscript.the-row .written)), l₆) ∷ []) (‵ ftrue)) die $ free-all ! 5 ((lTranscript.mir, l₀) ∷ (lTranscript.mir, l₁) ∷ (sliceTy (tyRef (named 0) imm (tyInt w8)), l₂) ∷ (tyRef (named 1) imm (tyArray (tyInt w8) 32), l₃) ∷ (lTranscript.mir, l₄) ∷ (tyUnit, l₅) ∷ (tyRef erased mut (pointee (mTranscript.the-row .written)), l₆) ∷ []) (kept _ ∷ kept _ ∷ kept _ ∷ kept _ ∷ kept _ ∷ kept _ ∷ kept _ ∷ []) refl $
         suffices ! _ (ends-at 𝓤 H A f.ended stayed (f.clauses 𝓤 H A at-mem run) W (((κ₀, (κ₁, tt)), (q₀, (q₁, tt)), tt, a, at), tt) (LL.val mTranscript.the-type lTranscript.the-laws ((ws1 .0))) (ws1 .0) (tt, (tt, (tt, tt))) (tt, (tt, (tt, tt)))) $ says ! (cc) $
-        nothing ! $ move ! (2 ∷ 0 ∷ []) $ join ! $ move ! (2 ∷ 0 ∷ []) $ join ! $ nothing ! $ move ! (6 ∷ 0 ∷ []) $ fjoin ! $ move ! (6 ∷ 0 ∷ []) $ fjoin ! $ move ! (8 ∷ 0 ∷ []) $ fjoin ! $ keep ! (1 ∷ 0 ∷ []) $ frame ! $ frame ! $ owned ! mTranscript.the-row (Is mTranscript.the-row) (LL.makes mTranscript.the-type lTranscript.the-plain 𝓤 H A) (ws1 .0) _ w1a $ done !))))))))))))))))
+        nothing ! $ move ! (1 ∷ 0 ∷ []) $ join ! $ move ! (1 ∷ 0 ∷ []) $ join ! $ nothing ! $ move ! (2 ∷ 0 ∷ []) $ fjoin ! $ move ! (2 ∷ 0 ∷ []) $ fjoin ! $ move ! (2 ∷ 0 ∷ []) $ fjoin ! $ keep ! (1 ∷ 0 ∷ []) $ frame ! $ frame ! $ owned ! mTranscript.the-row (Is mTranscript.the-row) (LL.makes mTranscript.the-type lTranscript.the-plain 𝓤 H A) (ws1 .0) _ w1a $ done !)))))))))))))))))
 
 module _ {M : Type 1} (𝓤 : URA M) (H : Heap 𝓤) (A : Atoms 𝓤) (W : Given 𝓤 H A) (mem : Memory → SProp 𝓤) (run : Routine → Fun 𝓤) where
   walks : (C : Calls 𝓤 H) (Λ : Loops 𝓤 H) → FmC 𝓤 H (W .laws) C → Triple 𝓤 (C #g1) (Callee-g1 𝓤 H A mem run) → Walks 𝓤 H A f.ended stayed (WpFn 𝓤 H C Λ code.function) (f.clauses 𝓤 H A mem run)

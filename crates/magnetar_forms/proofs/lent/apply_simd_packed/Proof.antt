@@ -20,7 +20,7 @@ use contract.Monad.{Fun, fact}
 use contract.Running.{givenOf, tables, tablesOf}
 use types.Kit.{Given, ‵, raw, _⊛_, ⋆, some, later, _$_, _∵_, !, qed, by, move, keep, drop, use1, use2, use3, split, join, pick, fsplit, fsplit3, fjoin, fjoin3, feqL, feqI, rewrite, atRet, suffices, frame, await, done}
 use types.Part.{agg, whole, sub, look-in}
-use types.Run.{look, look-raw, init, store, store-raw, forget, stop, hop, fld, from, load, unit-lit, of-opd, addr, and-then, no-more, lit, true-lit, false-lit, assigns, assigns-last, land, land-last, first, branches, skips, exec, returns, enter, alloc1, alloc0, params1, pass1, pass0, free1, free0}
+use types.Run.{look, look-raw, init, store, store-raw, stop, hop, fld, from, load, unit-lit, of-opd, addr, and-then, no-more, lit, true-lit, false-lit, assigns, assigns-last, land, land-last, first, branches, skips, exec, returns, enter, alloc0, params1, pass1, pass0}
 use types.Tokens.{lft-new, lft-end}
 use sound.WpLaws.{FmC, fmOf, WpFn-mono}
 use denote.RattleType.{owns}
@@ -62,6 +62,7 @@ use denote.Memory.{cellAt, partAt, mem, shares}
 use denote.ArrayMemory.{array-apart, array-whole}
 use denote.Lend.{lends-ref, ref-back, lends-shr-slice}
 use Rattle.magnetar_transcript.proofs.Local.{into, out, rest, cut, mend, room-of}
+use Rattle.magnetar_transcript.proofs.Locals.{tidy, bare, kept, dies, alloc, hide, free-all}
 use Rattle.magnetar_transcript.proofs.Again.{LentAgain, lends-again, comes-back}
 use Rattle.magnetar_inplace.proofs.records.apply_simd_packed as g1
 use Rattle.magnetar_inplace.proofs.records.apply_simd_packed.Symbol as g1-def
@@ -90,7 +91,7 @@ stayed = (stay-none (λ _. u64) yes, (stay-none (λ _. u64) yes, (stay-none (λ 
 abbrev Callee-g1 : {M : Type 1} (𝓤 : URA M) (H : Heap 𝓤) (A : Atoms 𝓤) (mem : Memory → SProp 𝓤) (run : Routine → Fun 𝓤) → Contract 𝓤
 Callee-g1 𝓤 H A mem run = tripleOf 𝓤 H A g1.signature (g1.spec 𝓤 H A mem run)
 
-module _ {M : Type 1} (𝓤 : URA M) (H : Heap 𝓤) (A : Atoms 𝓤) (W : Given 𝓤 H A) (at-mem : Memory → SProp 𝓤) (run : Routine → Fun 𝓤) (κ₀ κ₁ κ₂ : Lft) (q₀ q₁ q₂ : Share) (n1 : ℕ) (u1 : Val) (n2 : ℕ) (u2 : Val) (n3 : (List Entry)) (u3 : Val) (n4 : ℕ) (u4 : Val) (s5 : RefT (List ℕ)) (s6 : RefT (List ℕ)) (n7 : ℕ) (u7 : Val) (n8 : ℕ) (u8 : Val) (b9 o9 : ℕ) (γ9 : GName) (ys9 : List ℕ) where
+module _ {M : Type 1} (𝓤 : URA M) (H : Heap 𝓤) (A : Atoms 𝓤) (W : Given 𝓤 H A) (at-mem : Memory → SProp 𝓤) (run : Routine → Fun 𝓤) (κ₀ κ₁ κ₂ : Lft) (q₀ q₁ q₂ : Share) (n1 : ℕ) (u1 : Val) (n2 : ℕ) (u2 : Val) (n3 : (List Entry)) (u3 : Val) (n4 : ℕ) (u4 : Val) (s5 : RefT (List ℕ)) (s6 : RefT (List ℕ)) (n7 : ℕ) (u7 : Val) (n8 : ℕ) (u8′ : Val) (b9 o9 : ℕ) (γ9 : GName) (ys9 : List ℕ) where
   abbrev v1 : Val
   v1 = u1
 
@@ -119,7 +120,7 @@ module _ {M : Type 1} (𝓤 : URA M) (H : Heap 𝓤) (A : Atoms 𝓤) (W : Given
   v7 = u7
 
   abbrev v8 : Val
-  v8 = u8
+  v8 = u8′
 
   abbrev ref9 : GName → List ℕ → RefT (List ℕ)
   ref9 δ l = record { ptr = (b9, o9); name = δ; now = l }
@@ -155,35 +156,34 @@ module _ {M : Type 1} (𝓤 : URA M) (H : Heap 𝓤) (A : Atoms 𝓤) (W : Given
   abbrev Post : Val → SProp 𝓤
   Post = walkOf 𝓤 H A f.ended stayed (f.clauses 𝓤 H A at-mem run) .post (((κ₀, (κ₁, (κ₂, tt))), (q₀, (q₁, (q₂, tt))), tt, a, at), tt)
 
-  module _ (C : Calls 𝓤 H) (Λ : Loops 𝓤 H) (fm : FmC 𝓤 H (W .laws) C) (known-g1 : Triple 𝓤 (C #g1) (Callee-g1 𝓤 H A at-mem run)) (w1 : Is u64 n1 (u1 ∷ [])) (w2 : Is u64 n2 (u2 ∷ [])) (w3 : Is (Array mEntry.the-row 32) n3 (u3 ∷ [])) (w4 : Is u64 n4 (u4 ∷ [])) (w5 : Is (ShrSlice (named 0) κ₀ u64) s5 (v5 ∷ [])) (w6 : Is (ShrSlice (named 1) κ₁ u64) s6 (v6 ∷ [])) (w7 : Is u64 n7 (u7 ∷ [])) (w8 : Is u64 n8 (u8 ∷ [])) (room9 : Room u64 (length ys9)) where
+  module _ (C : Calls 𝓤 H) (Λ : Loops 𝓤 H) (fm : FmC 𝓤 H (W .laws) C) (known-g1 : Triple 𝓤 (C #g1) (Callee-g1 𝓤 H A at-mem run)) (w1 : Is u64 n1 (u1 ∷ [])) (w2 : Is u64 n2 (u2 ∷ [])) (w3 : Is (Array mEntry.the-row 32) n3 (u3 ∷ [])) (w4 : Is u64 n4 (u4 ∷ [])) (w5 : Is (ShrSlice (named 0) κ₀ u64) s5 (v5 ∷ [])) (w6 : Is (ShrSlice (named 1) κ₁ u64) s6 (v6 ∷ [])) (w7 : Is u64 n7 (u7 ∷ [])) (w8 : Is u64 n8 (u8′ ∷ [])) (room9 : Room u64 (length ys9)) where
     walk : (n4 ≤ 32) → ent 𝓤 (onEntry 𝓤 H A f.signature (κ₀, (κ₁, (κ₂, tt))) (q₀, (q₁, (q₂, tt))) a at) (WpFn 𝓤 H C Λ code.function (v1 ∷ v2 ∷ v3 ∷ v4 ∷ v5 ∷ v6 ∷ v7 ∷ v8 ∷ v9 ∷ []) Post)
     walk pre =
         qed W ((‵ (flft κ₀ q₀) ⊛ ‵ (flft κ₁ q₁) ⊛ ‵ (flft κ₂ q₂) ⊛ ‵ ftrue) ∷ ‵ (owns (u64 ∷ u64 ∷ (Array mEntry.the-row 32) ∷ u64 ∷ ShrSlice (named 0) κ₀ u64 ∷ ShrSlice (named 1) κ₁ u64 ∷ u64 ∷ u64 ∷ MutSlice (named 2) κ₂ u64 ∷ []) a at) ∷ []) ∵ enter ! C Λ code.function (v1 ∷ v2 ∷ v3 ∷ v4 ∷ v5 ∷ v6 ∷ v7 ∷ v8 ∷ v9 ∷ []) _ $
-        alloc1 ! (λ l₀. alloc1 ! (λ l₁. alloc1 ! (λ l₂. alloc1 ! (λ l₃. alloc1 ! (λ l₄. alloc1 ! (λ l₅. alloc1 ! (λ l₆. alloc1 ! (λ l₇. alloc1 ! (λ l₈. alloc1 ! (λ l₉. alloc1 ! (λ l₁₀. alloc1 ! (λ l₁₁. alloc1 ! (λ l₁₂. alloc1 ! (λ l₁₃. alloc1 ! (λ l₁₄. alloc0 ! $ params1 ! $ pass1 ! (init ! 26 refl (uint-lawful 𝓤 H A W w64 .typed n1 _ w1 .0)) $ pass1 ! (init ! 24 refl (uint-lawful 𝓤 H A W w64 .typed n2 _ w2 .0)) $ pass1 ! (init ! 22 refl (array-lawful 𝓤 H A W mEntry.the-row (LL.lawful mEntry.the-type lEntry.the-laws 𝓤 H A W) 32 .typed n3 _ w3 .0)) $ pass1 ! (init ! 20 refl (uint-lawful 𝓤 H A W w64 .typed n4 _ w4 .0)) $ pass1 ! (init ! 18 refl (shr-slice-lawful 𝓤 H A W (named 0) κ₀ u64 .typed s5 (v5 ∷ []) w5 .0)) $ pass1 ! (init ! 16 refl (shr-slice-lawful 𝓤 H A W (named 1) κ₁ u64 .typed s6 (v6 ∷ []) w6 .0)) $ pass1 ! (init ! 14 refl (uint-lawful 𝓤 H A W w64 .typed n7 _ w7 .0)) $ pass1 ! (init ! 12 refl (uint-lawful 𝓤 H A W w64 .typed n8 _ w8 .0)) $ pass1 ! (init ! 10 refl (tt, (tt, (record { fits = room9 .0 }, tt)))) $ pass0 ! $
-        move ! (31 ∷ []) $ fsplit ! $ move ! (1 ∷ []) $ fsplit ! $ move ! (1 ∷ []) $ fsplit ! $ move ! (1 ∷ []) $ fsplit ! $ move ! (1 ∷ []) $ fsplit ! $ move ! (1 ∷ []) $ fsplit ! $ move ! (1 ∷ []) $ fsplit ! $ move ! (1 ∷ []) $ fsplit ! $ move ! (1 ∷ []) $ fsplit ! $ move ! (1 ∷ []) $ move ! (40 ∷ []) $ split ! $ move ! (1 ∷ []) $ split ! $ move ! (1 ∷ []) $ split ! $ move ! (1 ∷ []) $
-        assigns ! (of-opd ! (load ! (from ! (stop !)) (look ! 36 refl))) (from ! (stop !)) (init ! 22 refl (array-lawful 𝓤 H A W mEntry.the-row (LL.lawful mEntry.the-type lEntry.the-laws 𝓤 H A W) 32 .typed n3 _ w3 .0)) $
-        assigns ! (addr ! (from ! (stop !))) (from ! (stop !)) (init ! 20 refl (tt, tt)) $
-        rewrite ! 34 (λ (w : Val). ‵ (fat fullShare (tyInt w64) l₄ 0 w)) (ap only (w4 .0)) refl $ assigns ! (agg ! (and-then ! (load ! (from ! (stop !)) (look ! 20 refl)) (and-then ! (load ! (from ! (stop !)) (look ! 34 refl)) (no-more !)))) (from ! (stop !)) (init ! 18 refl (tt, (tt, (record { fits = w4 .1 }, tt)))) $
-        assigns ! (addr ! (from ! (fld ! refl (hop ! (look-in ! 24 (sub ! 0 refl (whole !))) (stop !))))) (from ! (stop !)) (init ! 16 refl (tt, tt)) $
-        assigns ! (agg ! (and-then ! (load ! (from ! (stop !)) (look ! 16 refl)) (and-then ! (load ! (from ! (fld ! refl (stop !))) (look-in ! 24 (sub ! 1 refl (whole !)))) (no-more !)))) (from ! (stop !)) (init ! 14 refl (tt, (tt, (record { fits = room9 .0 }, tt)))) $
-        lft-new ! tt (λ ν1c. owned ! (Array mEntry.the-row 32) (Is (Array mEntry.the-row 32)) (array-makes 𝓤 H A W mEntry.the-row (LL.makes mEntry.the-type lEntry.the-plain 𝓤 H A) 32) (n3) _ w3 $ move ! (24 ∷ 0 ∷ []) $ use1 W (‵ (cellAt fullShare ((Array mEntry.the-row 32) .mir) (u3 ∷ []) l₁₀ 0)) (W .laws .at-raw fullShare (tyArray (lEntry.mir) 32) l₁₀ 0 (u3)) $ into ! (Array mEntry.the-row 32) fullShare (n3) (u3 ∷ []) l₁₀ 0 $
+        nothing ! $ alloc ! (λ l₀. alloc ! (λ l₁. alloc ! (λ l₂. alloc ! (λ l₃. alloc ! (λ l₄. alloc ! (λ l₅. alloc ! (λ l₆. alloc ! (λ l₇. alloc ! (λ l₈. alloc ! (λ l₉. alloc ! (λ l₁₀. alloc ! (λ l₁₁. alloc ! (λ l₁₂. alloc ! (λ l₁₃. alloc ! (λ l₁₄. alloc0 ! $ hide ! (λ died die. params1 ! $ pass1 ! (init ! 14 refl (uint-lawful 𝓤 H A W w64 .typed n1 _ w1 .0)) $ pass1 ! (init ! 13 refl (uint-lawful 𝓤 H A W w64 .typed n2 _ w2 .0)) $ pass1 ! (init ! 12 refl (array-lawful 𝓤 H A W mEntry.the-row (LL.lawful mEntry.the-type lEntry.the-laws 𝓤 H A W) 32 .typed n3 _ w3 .0)) $ pass1 ! (init ! 11 refl (uint-lawful 𝓤 H A W w64 .typed n4 _ w4 .0)) $ pass1 ! (init ! 10 refl (shr-slice-lawful 𝓤 H A W (named 0) κ₀ u64 .typed s5 (v5 ∷ []) w5 .0)) $ pass1 ! (init ! 9 refl (shr-slice-lawful 𝓤 H A W (named 1) κ₁ u64 .typed s6 (v6 ∷ []) w6 .0)) $ pass1 ! (init ! 8 refl (uint-lawful 𝓤 H A W w64 .typed n7 _ w7 .0)) $ pass1 ! (init ! 7 refl (uint-lawful 𝓤 H A W w64 .typed n8 _ w8 .0)) $ pass1 ! (init ! 6 refl (tt, (tt, (record { fits = room9 .0 }, tt)))) $ pass0 ! $
+        move ! (17 ∷ []) $ fsplit ! $ move ! (1 ∷ []) $ fsplit ! $ move ! (1 ∷ []) $ fsplit ! $ move ! (1 ∷ []) $ fsplit ! $ move ! (1 ∷ []) $ fsplit ! $ move ! (1 ∷ []) $ fsplit ! $ move ! (1 ∷ []) $ fsplit ! $ move ! (1 ∷ []) $ fsplit ! $ move ! (1 ∷ []) $ fsplit ! $ move ! (1 ∷ []) $ drop ! $ move ! (25 ∷ []) $ split ! $ move ! (1 ∷ []) $ split ! $ move ! (1 ∷ []) $ split ! $ move ! (1 ∷ []) $ drop ! $ tidy W (_ ∷ _ ∷ _ ∷ _ ∷ _ ∷ _ ∷ _ ∷ _ ∷ _ ∷ _ ∷ _ ∷ _ ∷ _ ∷ _ ∷ _ ∷ _ ∷ _ ∷ _ ∷ _ ∷ _ ∷ _ ∷ _ ∷ _ ∷ _ ∷ _ ∷ _ ∷ _ ∷ _ ∷ []) $
+        assigns ! (of-opd ! (load ! (from ! (stop !)) (look ! 24 refl))) (from ! (stop !)) (init ! 17 refl (array-lawful 𝓤 H A W mEntry.the-row (LL.lawful mEntry.the-type lEntry.the-laws 𝓤 H A W) 32 .typed n3 _ w3 .0)) $
+        assigns ! (addr ! (from ! (stop !))) (from ! (stop !)) (init ! 16 refl (tt, tt)) $
+        rewrite ! 23 (λ (w : Val). ‵ (fat fullShare (tyInt w64) l₄ 0 w)) (ap only (w4 .0)) refl $ assigns ! (agg ! (and-then ! (load ! (from ! (stop !)) (look ! 16 refl)) (and-then ! (load ! (from ! (stop !)) (look ! 23 refl)) (no-more !)))) (from ! (stop !)) (init ! 15 refl (tt, (tt, (record { fits = w4 .1 }, tt)))) $
+        assigns ! (addr ! (from ! (fld ! refl (hop ! (look-in ! 18 (sub ! 0 refl (whole !))) (stop !))))) (from ! (stop !)) (init ! 14 refl (tt, tt)) $
+        assigns ! (agg ! (and-then ! (load ! (from ! (stop !)) (look ! 14 refl)) (and-then ! (load ! (from ! (fld ! refl (stop !))) (look-in ! 18 (sub ! 1 refl (whole !)))) (no-more !)))) (from ! (stop !)) (init ! 13 refl (tt, (tt, (record { fits = room9 .0 }, tt)))) $
+        lft-new ! tt (λ ν1c. owned ! (Array mEntry.the-row 32) (Is (Array mEntry.the-row 32)) (array-makes 𝓤 H A W mEntry.the-row (LL.makes mEntry.the-type lEntry.the-plain 𝓤 H A) 32) (n3) _ w3 $ move ! (19 ∷ 0 ∷ []) $ use1 W (‵ (cellAt fullShare ((Array mEntry.the-row 32) .mir) (u3 ∷ []) l₁₀ 0)) (W .laws .at-raw fullShare (tyArray (lEntry.mir) 32) l₁₀ 0 (u3)) $ into ! (Array mEntry.the-row 32) fullShare (n3) (u3 ∷ []) l₁₀ 0 $
         use1 W (‵ (arr-parts (shares mEntry.the-row) 32 .part fullShare (n3) l₁₀ 0)) (array-apart 𝓤 H A W mEntry.the-row fullShare tt 32 (n3) l₁₀ 0) $ fsplit ! $ feqL ! (λ ln1c.
         use1 W (‵ (parts (mem mEntry.the-row) (shares mEntry.the-row) fullShare (take n4 (n3)) l₁₀ 0) ⊛ ‵ (rest mEntry.the-row fullShare n4 (n3) l₁₀ 0)) (cut 𝓤 H A mEntry.the-row fullShare n4 (n3) l₁₀ 0) $ split ! $ feqI ! ℕ (length (take n4 (n3))) (length (take n4 (n3))) refl $ fjoin ! $
         use1 W (later (some (λ (δ : GName). ‵ (ShrSlice (named 0) (ν1c ∷ []) mEntry.the-row .own (record { ptr = (l₁₀, 0); name = δ; now = (take n4 (n3)) }) (sliceVal (l₁₀, 0) (length (take n4 (n3))) ∷ [])) ⊛ ‵ (flent (ν1c ∷ []) (arr-parts (shares mEntry.the-row) (length (take n4 (n3))) .part fullShare (take n4 (n3)) l₁₀ 0))))) (lends-shr-slice 𝓤 H A W mEntry.the-row (named 0) (ν1c ∷ []) fullShare (take n4 (n3)) l₁₀ 0 (subst (Room mEntry.the-row) (sym (length-take-le n4 (n3) (subst (λ (m : ℕ). n4 ≤ m) (sym ln1c) (pre)))) (room-of mEntry.the-row n4 32 (pre) (lit< tt, lit< tt)))) $ await ! tt $ pick ! (λ δ1c. split ! $ rewrite ! 0 (λ (m : ℕ). ‵ (ShrSlice (named 0) (ν1c ∷ []) mEntry.the-row .own (record { ptr = (l₁₀, 0); name = δ1c; now = (take n4 (n3)) }) (sliceVal (l₁₀, 0) m ∷ []))) (length-take-le n4 (n3) (subst (λ (m : ℕ). n4 ≤ m) (sym ln1c) (pre))) refl $
-        move ! (13 ∷ []) $ use1 W (‵ (O5) ⊛ ‵ (O5)) (shr-slice-copy 𝓤 H A W (named 0) κ₀ u64 .twice s5 (v5 ∷ [])) $ split ! $ move ! (14 ∷ []) $ use1 W (‵ (O6) ⊛ ‵ (O6)) (shr-slice-copy 𝓤 H A W (named 1) κ₁ u64 .twice s6 (v6 ∷ [])) $ split ! $
-        lft-new ! tt (λ ν1h. move ! (14 ∷ 10 ∷ []) $ use2 W (later (some (λ (δ : GName). ‵ (MutSlice (named 3) (ν1h ∷ []) u64 .own (ref9 δ (ys9)) (v9 ∷ [])) ⊛ ‵ (Lent9 ν1h δ (ys9))))) (lends9 (named 3) ν1h (ys9) (refl)) $ await ! tt $ pick ! (λ δ1h. split ! $ nothing ! $ move ! (3 ∷ 0 ∷ []) $ join ! $ move ! (12 ∷ 0 ∷ []) $ join ! $ move ! (12 ∷ 0 ∷ []) $ join ! $ move ! (10 ∷ 0 ∷ []) $ join ! $ move ! (3 ∷ 1 ∷ []) $ join ! $ move ! (4 ∷ 0 ∷ []) $ join ! $ move ! (5 ∷ 0 ∷ []) $ join ! $ move ! (1 ∷ 0 ∷ []) $ join ! $
+        move ! (11 ∷ []) $ use1 W (‵ (O5) ⊛ ‵ (O5)) (shr-slice-copy 𝓤 H A W (named 0) κ₀ u64 .twice s5 (v5 ∷ [])) $ split ! $ move ! (12 ∷ []) $ use1 W (‵ (O6) ⊛ ‵ (O6)) (shr-slice-copy 𝓤 H A W (named 1) κ₁ u64 .twice s6 (v6 ∷ [])) $ split ! $
+        lft-new ! tt (λ ν1h. move ! (12 ∷ 9 ∷ []) $ use2 W (later (some (λ (δ : GName). ‵ (MutSlice (named 3) (ν1h ∷ []) u64 .own (ref9 δ (ys9)) (v9 ∷ [])) ⊛ ‵ (Lent9 ν1h δ (ys9))))) (lends9 (named 3) ν1h (ys9) (refl)) $ await ! tt $ pick ! (λ δ1h. split ! $ tidy W (_ ∷ _ ∷ _ ∷ _ ∷ _ ∷ _ ∷ _ ∷ _ ∷ _ ∷ _ ∷ _ ∷ _ ∷ _ ∷ _ ∷ _ ∷ _ ∷ _ ∷ _ ∷ _ ∷ _ ∷ _ ∷ _ ∷ _ ∷ _ ∷ _ ∷ _ ∷ _ ∷ _ ∷ _ ∷ _ ∷ _ ∷ _ ∷ _ ∷ _ ∷ []) $ nothing ! $ move ! (3 ∷ 0 ∷ []) $ join ! $ move ! (11 ∷ 0 ∷ []) $ join ! $ move ! (11 ∷ 0 ∷ []) $ join ! $ move ! (10 ∷ 0 ∷ []) $ join ! $ move ! (3 ∷ 1 ∷ []) $ join ! $ move ! (4 ∷ 0 ∷ []) $ join ! $ move ! (5 ∷ 0 ∷ []) $ join ! $ move ! (1 ∷ 0 ∷ []) $ join ! $
         -- call 1
-        use1 W (raw (Callee-g1 𝓤 H A at-mem run .pre ((((ν1c ∷ []), (κ₀, (κ₁, ((ν1h ∷ []), tt)))), (fullShare, (q₀, (q₁, (fullShare, tt)))), tt, (n1, (n2, (record { ptr = (l₁₀, 0); name = δ1c; now = (take n4 (n3)) }, (s5, (s6, (n7, (n8, (ref9 δ1h (ys9), tt)))))))), (u1 ∷ [], (u2 ∷ [], (sliceVal (l₁₀, 0) n4 ∷ [], (v5 ∷ [], (v6 ∷ [], (u7 ∷ [], (u8 ∷ [], (v9 ∷ [], tt))))))))), tt))) (qed W ((‵ (flft (ν1c ∷ []) fullShare) ⊛ ‵ (flft κ₀ q₀) ⊛ ‵ (flft κ₁ q₁) ⊛ ‵ (flft (ν1h ∷ []) fullShare) ⊛ ‵ ftrue) ∷ ‵ (ShrSlice (named 0) (ν1c ∷ []) mEntry.the-row .own (record { ptr = (l₁₀, 0); name = δ1c; now = (take n4 (n3)) }) (sliceVal (l₁₀, 0) n4 ∷ [])) ∷ ‵ (ShrSlice (named 1) κ₀ u64 .own s5 (v5 ∷ [])) ∷ ‵ (ShrSlice (named 2) κ₁ u64 .own s6 (v6 ∷ [])) ∷ ‵ (MutSlice (named 3) (ν1h ∷ []) u64 .own (ref9 δ1h (ys9)) (v9 ∷ [])) ∷ []) ∵ nothing ! $ move ! (5 ∷ 0 ∷ []) $ fjoin ! $ owned ! u64 (Is u64) (uint-makes 𝓤 H A W w64) (n8) _ w8 $ fjoin ! $ owned ! u64 (Is u64) (uint-makes 𝓤 H A W w64) (n7) _ w7 $ fjoin ! $ move ! (4 ∷ 0 ∷ []) $ fjoin ! $ move ! (3 ∷ 0 ∷ []) $ fjoin ! $ move ! (2 ∷ 0 ∷ []) $ fjoin ! $ owned ! u64 (Is u64) (uint-makes 𝓤 H A W w64) (n2) _ w2 $ fjoin ! $ owned ! u64 (Is u64) (uint-makes 𝓤 H A W w64) (n1) _ w1 $ fjoin ! $ move ! (1 ∷ 0 ∷ []) $ join ! $ nothing ! $ move ! (1 ∷ 0 ∷ []) $ frame ! $ done !) $
-        calls-at ! fm (Callee-g1 𝓤 H A at-mem run) known-g1 ((((ν1c ∷ []), (κ₀, (κ₁, ((ν1h ∷ []), tt)))), (fullShare, (q₀, (q₁, (fullShare, tt)))), tt, (n1, (n2, (record { ptr = (l₁₀, 0); name = δ1c; now = (take n4 (n3)) }, (s5, (s6, (n7, (n8, (ref9 δ1h (ys9), tt)))))))), (u1 ∷ [], (u2 ∷ [], (sliceVal (l₁₀, 0) n4 ∷ [], (v5 ∷ [], (v6 ∷ [], (u7 ∷ [], (u8 ∷ [], (v9 ∷ [], tt))))))))), tt) (and-then ! (load ! (from ! (stop !)) (look ! 39 refl)) (and-then ! (load ! (from ! (stop !)) (look ! 37 refl)) (and-then ! (load ! (from ! (stop !)) (look ! 18 refl)) (and-then ! (load ! (from ! (stop !)) (look ! 31 refl)) (and-then ! (load ! (from ! (stop !)) (look ! 29 refl)) (and-then ! (load ! (from ! (stop !)) (look ! 27 refl)) (and-then ! (load ! (from ! (stop !)) (look ! 25 refl)) (and-then ! (load ! (from ! (stop !)) (look ! 14 refl)) (no-more !))))))))) (λ z1.
+        use1 W (raw (Callee-g1 𝓤 H A at-mem run .pre ((((ν1c ∷ []), (κ₀, (κ₁, ((ν1h ∷ []), tt)))), (fullShare, (q₀, (q₁, (fullShare, tt)))), tt, (n1, (n2, (record { ptr = (l₁₀, 0); name = δ1c; now = (take n4 (n3)) }, (s5, (s6, (n7, (n8, (ref9 δ1h (ys9), tt)))))))), (u1 ∷ [], (u2 ∷ [], (sliceVal (l₁₀, 0) n4 ∷ [], (v5 ∷ [], (v6 ∷ [], (u7 ∷ [], (u8′ ∷ [], (v9 ∷ [], tt))))))))), tt))) (qed W ((‵ (flft (ν1c ∷ []) fullShare) ⊛ ‵ (flft κ₀ q₀) ⊛ ‵ (flft κ₁ q₁) ⊛ ‵ (flft (ν1h ∷ []) fullShare) ⊛ ‵ ftrue) ∷ ‵ (ShrSlice (named 0) (ν1c ∷ []) mEntry.the-row .own (record { ptr = (l₁₀, 0); name = δ1c; now = (take n4 (n3)) }) (sliceVal (l₁₀, 0) n4 ∷ [])) ∷ ‵ (ShrSlice (named 1) κ₀ u64 .own s5 (v5 ∷ [])) ∷ ‵ (ShrSlice (named 2) κ₁ u64 .own s6 (v6 ∷ [])) ∷ ‵ (MutSlice (named 3) (ν1h ∷ []) u64 .own (ref9 δ1h (ys9)) (v9 ∷ [])) ∷ []) ∵ nothing ! $ move ! (5 ∷ 0 ∷ []) $ fjoin ! $ owned ! u64 (Is u64) (uint-makes 𝓤 H A W w64) (n8) _ w8 $ fjoin ! $ owned ! u64 (Is u64) (uint-makes 𝓤 H A W w64) (n7) _ w7 $ fjoin ! $ move ! (4 ∷ 0 ∷ []) $ fjoin ! $ move ! (3 ∷ 0 ∷ []) $ fjoin ! $ move ! (2 ∷ 0 ∷ []) $ fjoin ! $ owned ! u64 (Is u64) (uint-makes 𝓤 H A W w64) (n2) _ w2 $ fjoin ! $ owned ! u64 (Is u64) (uint-makes 𝓤 H A W w64) (n1) _ w1 $ fjoin ! $ move ! (1 ∷ 0 ∷ []) $ join ! $ nothing ! $ move ! (1 ∷ 0 ∷ []) $ frame ! $ done !) $
+        calls-at ! fm (Callee-g1 𝓤 H A at-mem run) known-g1 ((((ν1c ∷ []), (κ₀, (κ₁, ((ν1h ∷ []), tt)))), (fullShare, (q₀, (q₁, (fullShare, tt)))), tt, (n1, (n2, (record { ptr = (l₁₀, 0); name = δ1c; now = (take n4 (n3)) }, (s5, (s6, (n7, (n8, (ref9 δ1h (ys9), tt)))))))), (u1 ∷ [], (u2 ∷ [], (sliceVal (l₁₀, 0) n4 ∷ [], (v5 ∷ [], (v6 ∷ [], (u7 ∷ [], (u8′ ∷ [], (v9 ∷ [], tt))))))))), tt) (and-then ! (load ! (from ! (stop !)) (look ! 25 refl)) (and-then ! (load ! (from ! (stop !)) (look ! 24 refl)) (and-then ! (load ! (from ! (stop !)) (look ! 15 refl)) (and-then ! (load ! (from ! (stop !)) (look ! 21 refl)) (and-then ! (load ! (from ! (stop !)) (look ! 20 refl)) (and-then ! (load ! (from ! (stop !)) (look ! 19 refl)) (and-then ! (load ! (from ! (stop !)) (look ! 18 refl)) (and-then ! (load ! (from ! (stop !)) (look ! 13 refl)) (no-more !))))))))) (λ z1.
         use1 W (later (some (λ (r1 : Flag). ((‵ (flft (ν1c ∷ []) fullShare) ⊛ ‵ (flft κ₀ q₀) ⊛ ‵ (flft κ₁ q₁) ⊛ ‵ (flft (ν1h ∷ []) fullShare) ⊛ ‵ ftrue) ⊛ ‵ (mFlag.the-row .own r1 (z1 ∷ []))) ⊛ some (λ (ws : Lasts g1.ended ((ν1c ∷ []), (κ₀, (κ₁, ((ν1h ∷ []), tt)))) (n1, (n2, (record { ptr = (l₁₀, 0); name = δ1c; now = (take n4 (n3)) }, (s5, (s6, (n7, (n8, (ref9 δ1h (ys9), tt))))))))). ‵ (lasts g1.ended ((ν1c ∷ []), (κ₀, (κ₁, ((ν1h ∷ []), tt)))) (n1, (n2, (record { ptr = (l₁₀, 0); name = δ1c; now = (take n4 (n3)) }, (s5, (s6, (n7, (n8, (ref9 δ1h (ys9), tt)))))))) ws) ⊛ raw (g1.clauses 𝓤 H A at-mem run ((ν1c ∷ []), (κ₀, (κ₁, ((ν1h ∷ []), tt)))) (n1, (n2, (record { ptr = (l₁₀, 0); name = δ1c; now = (take n4 (n3)) }, (s5, (s6, (n7, (n8, (ref9 δ1h (ys9), tt)))))))) .ensures tt r1 (atExit g1.ended ((ν1c ∷ []), (κ₀, (κ₁, ((ν1h ∷ []), tt)))) (n1, (n2, (record { ptr = (l₁₀, 0); name = δ1c; now = (take n4 (n3)) }, (s5, (s6, (n7, (n8, (ref9 δ1h (ys9), tt)))))))) ws)))))) (id⊢ 𝓤 _) $ await ! tt $ pick ! (λ r1. split ! $ move ! (1 ∷ []) $ pick ! (λ ws1. split ! $ move ! (1 ∷ []) $ heard ! _ (λ e1.
-        fsplit ! $ move ! (1 ∷ []) $ fsplit ! $ move ! (1 ∷ []) $ fsplit ! $ move ! (1 ∷ []) $ fsplit ! $ move ! (1 ∷ []) $ fsplit ! $ move ! (1 ∷ []) $ fsplit ! $ move ! (1 ∷ []) $ fsplit ! $ move ! (1 ∷ []) $ fsplit ! $ fsplit ! $ move ! (1 ∷ []) $ feqL ! (λ same1h. move ! (9 ∷ []) $ split ! $ move ! (1 ∷ []) $ peeks ! mFlag.the-row (Is mFlag.the-row) (shows 𝓤 H A mFlag.the-row) r1 (z1 ∷ []) (λ i1. drop ! $ land ! (from ! (stop !)) (init ! 50 refl (EL.lawful mFlag.the-type lFlag.the-laws 𝓤 H A W tt .typed r1 _ i1 .0)) $
-        split ! $ move ! (1 ∷ []) $ split ! $ move ! (1 ∷ []) $ split ! $ move ! (1 ∷ []) $ split ! $ move ! (1 ∷ []) $ move ! (4 ∷ []) $ lft-end ! tt $ move ! (0 ∷ 17 ∷ []) $ lent-back ! tt $ fsplit ! $ drop ! $ move ! (0 ∷ 17 ∷ []) $ use2 W (‵ (parts (mem mEntry.the-row) (shares mEntry.the-row) fullShare (n3) l₁₀ 0)) (mend 𝓤 H A mEntry.the-row fullShare n4 (n3) l₁₀ 0) $ feqI ! ℕ (length (n3)) 32 ln1c $ fjoin ! $ use1 W (‵ (partAt (Array mEntry.the-row 32) fullShare (n3) l₁₀ 0)) (array-whole 𝓤 H A W mEntry.the-row fullShare 32 (n3) l₁₀ 0) $
+        fsplit ! $ drop ! $ fsplit ! $ drop ! $ fsplit ! $ drop ! $ fsplit ! $ drop ! $ fsplit ! $ drop ! $ fsplit ! $ drop ! $ fsplit ! $ drop ! $ fsplit ! $ fsplit ! $ move ! (1 ∷ []) $ feqL ! (λ same1h. move ! (1 ∷ []) $ drop ! $ move ! (1 ∷ []) $ split ! $ move ! (1 ∷ []) $ peeks ! mFlag.the-row (Is mFlag.the-row) (shows 𝓤 H A mFlag.the-row) r1 (z1 ∷ []) (λ i1. drop ! $ land ! (from ! (stop !)) (init ! 27 refl (EL.lawful mFlag.the-type lFlag.the-laws 𝓤 H A W tt .typed r1 _ i1 .0)) $
+        tidy W (_ ∷ _ ∷ _ ∷ _ ∷ _ ∷ _ ∷ _ ∷ _ ∷ _ ∷ _ ∷ _ ∷ _ ∷ _ ∷ _ ∷ _ ∷ _ ∷ _ ∷ _ ∷ _ ∷ _ ∷ _ ∷ _ ∷ _ ∷ _ ∷ _ ∷ _ ∷ _ ∷ _ ∷ []) $ split ! $ move ! (1 ∷ []) $ split ! $ move ! (1 ∷ []) $ split ! $ move ! (1 ∷ []) $ split ! $ move ! (1 ∷ []) $ drop ! $ move ! (3 ∷ []) $ lft-end ! tt $ move ! (0 ∷ 8 ∷ []) $ lent-back ! tt $ fsplit ! $ drop ! $ move ! (0 ∷ 8 ∷ []) $ use2 W (‵ (parts (mem mEntry.the-row) (shares mEntry.the-row) fullShare (n3) l₁₀ 0)) (mend 𝓤 H A mEntry.the-row fullShare n4 (n3) l₁₀ 0) $ feqI ! ℕ (length (n3)) 32 ln1c $ fjoin ! $ use1 W (‵ (partAt (Array mEntry.the-row 32) fullShare (n3) l₁₀ 0)) (array-whole 𝓤 H A W mEntry.the-row fullShare 32 (n3) l₁₀ 0) $
         out ! (Array mEntry.the-row 32) fullShare (n3) l₁₀ 0 (λ vs. spelt ! (Array mEntry.the-row 32) (Is (Array mEntry.the-row 32)) (shows 𝓤 H A (Array mEntry.the-row 32)) (array-vals (LL.vals mEntry.the-type lEntry.the-laws)) (array-tells mEntry.the-row (LL.vals mEntry.the-type lEntry.the-laws) (LL.tells mEntry.the-type lEntry.the-laws) 32) fullShare (n3) vs l₁₀ 0 $ move ! (1 ∷ []) $ peeks ! (Array mEntry.the-row 32) (Is (Array mEntry.the-row 32)) (shows 𝓤 H A (Array mEntry.the-row 32)) (n3) (array-val (LL.vals mEntry.the-type lEntry.the-laws) (n3) ∷ []) (λ w1c. drop ! $ use1 W (‵ (fat fullShare (tyArray (lEntry.mir) 32) l₁₀ 0 (array-val (LL.vals mEntry.the-type lEntry.the-laws) (n3)))) (W .laws .raw-at fullShare (tyArray (lEntry.mir) 32) l₁₀ 0 (array-val (LL.vals mEntry.the-type lEntry.the-laws) (n3))) $
-        move ! (2 ∷ []) $ lft-end ! tt $ move ! (0 ∷ 14 ∷ 5 ∷ []) $ use3 W (later (‵ (O9 (ws1 .1 .1 .1 .1 .1 .1 .1 .0)) ⊛ ‵ (flft κ₂ q₂))) (backs9 (named 3) ν1h δ1h (ys9) (ws1 .1 .1 .1 .1 .1 .1 .1 .0) (refl) room9 same1h) $ await ! tt $ split ! $
-        returns ! (look ! 51 refl) $ forget ! 51 refl $ forget ! 49 refl $ forget ! 47 refl $ forget ! 45 refl $ forget ! 43 refl $ forget ! 41 refl $ forget ! 39 refl $ forget ! 37 refl $ forget ! 35 refl $ forget ! 33 refl $ forget ! 2 refl $ forget ! 30 refl $ forget ! 28 refl $ forget ! 26 refl $ forget ! 24 refl $
-        move ! (51 ∷ 52 ∷ []) $ free1 ! $ move ! (49 ∷ 50 ∷ []) $ free1 ! $ move ! (47 ∷ 48 ∷ []) $ free1 ! $ move ! (45 ∷ 46 ∷ []) $ free1 ! $ move ! (43 ∷ 44 ∷ []) $ free1 ! $ move ! (41 ∷ 42 ∷ []) $ free1 ! $ move ! (39 ∷ 40 ∷ []) $ free1 ! $ move ! (37 ∷ 38 ∷ []) $ free1 ! $ move ! (35 ∷ 36 ∷ []) $ free1 ! $ move ! (33 ∷ 34 ∷ []) $ free1 ! $ move ! (2 ∷ 32 ∷ []) $ free1 ! $ move ! (29 ∷ 30 ∷ []) $ free1 ! $ move ! (27 ∷ 28 ∷ []) $ free1 ! $ move ! (25 ∷ 26 ∷ []) $ free1 ! $ move ! (23 ∷ 24 ∷ []) $ free1 ! $ free0 ! $
+        move ! (1 ∷ []) $ lft-end ! tt $ move ! (0 ∷ 5 ∷ 4 ∷ []) $ use3 W (later (‵ (O9 (ws1 .1 .1 .1 .1 .1 .1 .1 .0)) ⊛ ‵ (flft κ₂ q₂))) (backs9 (named 3) ν1h δ1h (ys9) (ws1 .1 .1 .1 .1 .1 .1 .1 .0) (refl) room9 same1h) $ await ! tt $ split ! $
+        tidy W (_ ∷ _ ∷ _ ∷ _ ∷ _ ∷ _ ∷ _ ∷ _ ∷ _ ∷ _ ∷ _ ∷ _ ∷ _ ∷ _ ∷ _ ∷ _ ∷ _ ∷ _ ∷ _ ∷ _ ∷ _ ∷ _ ∷ _ ∷ _ ∷ _ ∷ _ ∷ _ ∷ _ ∷ []) $ returns ! (look ! 27 refl) $ move ! (0 ∷ 1 ∷ 3 ∷ 4 ∷ 5 ∷ 6 ∷ 7 ∷ 8 ∷ 9 ∷ 10 ∷ 11 ∷ 12 ∷ 13 ∷ 14 ∷ 15 ∷ 16 ∷ 17 ∷ 2 ∷ 18 ∷ 19 ∷ 20 ∷ 21 ∷ 22 ∷ 23 ∷ 24 ∷ 25 ∷ 26 ∷ 27 ∷ []) $ move ! (12 ∷ []) $ use1 W (dies ((lFlag.mir, l₀) ∷ (tyInt w64, l₁) ∷ (tyInt w64, l₂) ∷ (tyArray (lEntry.mir) 32, l₃) ∷ (tyInt w64, l₄) ∷ (sliceTy (tyRef (named 0) imm (tyInt w64)), l₅) ∷ (sliceTy (tyRef (named 1) imm (tyInt w64)), l₆) ∷ (tyInt w64, l₇) ∷ (tyInt w64, l₈) ∷ (sliceTy (tyRef (named 2) mut (tyInt w64)), l₉) ∷ (tyArray (lEntry.mir) 32, l₁₀) ∷ (tyRef erased imm (pointee ((Array mEntry.the-row 32) .written)), l₁₁) ∷ (sliceTy (tyRef erased imm (pointee (mEntry.the-row .written))), l₁₂) ∷ (tyRef erased mut (tyInt w64), l₁₃) ∷ (sliceTy (tyRef erased mut (tyInt w64)), l₁₄) ∷ []) (‵ ftrue)) die $ free-all ! 12 ((lFlag.mir, l₀) ∷ (tyInt w64, l₁) ∷ (tyInt w64, l₂) ∷ (tyArray (lEntry.mir) 32, l₃) ∷ (tyInt w64, l₄) ∷ (sliceTy (tyRef (named 0) imm (tyInt w64)), l₅) ∷ (sliceTy (tyRef (named 1) imm (tyInt w64)), l₆) ∷ (tyInt w64, l₇) ∷ (tyInt w64, l₈) ∷ (sliceTy (tyRef (named 2) mut (tyInt w64)), l₉) ∷ (tyArray (lEntry.mir) 32, l₁₀) ∷ (tyRef erased imm (pointee ((Array mEntry.the-row 32) .written)), l₁₁) ∷ (sliceTy (tyRef erased imm (pointee (mEntry.the-row .written))), l₁₂) ∷ (tyRef erased mut (tyInt w64), l₁₃) ∷ (sliceTy (tyRef erased mut (tyInt w64)), l₁₄) ∷ []) (kept _ ∷ kept _ ∷ kept _ ∷ kept _ ∷ kept _ ∷ kept _ ∷ kept _ ∷ kept _ ∷ kept _ ∷ kept _ ∷ kept _ ∷ kept _ ∷ kept _ ∷ kept _ ∷ kept _ ∷ []) refl $
         suffices ! _ (ends-at 𝓤 H A f.ended stayed (f.clauses 𝓤 H A at-mem run) W (((κ₀, (κ₁, (κ₂, tt))), (q₀, (q₁, (q₂, tt))), tt, a, at), tt) z1 r1 (tt, (tt, (tt, (tt, (tt, (tt, (tt, (tt, (ws1 .1 .1 .1 .1 .1 .1 .1 .0, tt))))))))) (tt, (tt, (tt, (tt, (tt, (tt, (tt, (tt, (same1h, tt)))))))))) $ says ! (e1) $
-        nothing ! $ move ! (2 ∷ 0 ∷ []) $ join ! $ move ! (3 ∷ 0 ∷ []) $ join ! $ move ! (3 ∷ 0 ∷ []) $ join ! $ nothing ! $ move ! (2 ∷ 0 ∷ []) $ fjoin ! $ move ! (15 ∷ 0 ∷ []) $ fjoin ! $ move ! (15 ∷ 0 ∷ []) $ fjoin ! $ move ! (11 ∷ 0 ∷ []) $ fjoin ! $ move ! (11 ∷ 0 ∷ []) $ fjoin ! $ move ! (13 ∷ 0 ∷ []) $ fjoin ! $ move ! (13 ∷ 0 ∷ []) $ fjoin ! $ move ! (13 ∷ 0 ∷ []) $ fjoin ! $ move ! (13 ∷ 0 ∷ []) $ fjoin ! $ keep ! (1 ∷ 0 ∷ []) $ frame ! $ frame ! $ owned ! mFlag.the-row (Is mFlag.the-row) (EL.makes mFlag.the-type lFlag.the-plain 𝓤 H A) r1 _ i1 $ done !))))))))))))))))))))))))))))
+        nothing ! $ move ! (2 ∷ 0 ∷ []) $ join ! $ move ! (2 ∷ 0 ∷ []) $ join ! $ move ! (2 ∷ 0 ∷ []) $ join ! $ nothing ! $ move ! (2 ∷ 0 ∷ []) $ fjoin ! $ move ! (4 ∷ 0 ∷ []) $ fjoin ! $ move ! (4 ∷ 0 ∷ []) $ fjoin ! $ move ! (2 ∷ 0 ∷ []) $ fjoin ! $ move ! (2 ∷ 0 ∷ []) $ fjoin ! $ move ! (2 ∷ 0 ∷ []) $ fjoin ! $ move ! (2 ∷ 0 ∷ []) $ fjoin ! $ move ! (2 ∷ 0 ∷ []) $ fjoin ! $ move ! (2 ∷ 0 ∷ []) $ fjoin ! $ keep ! (1 ∷ 0 ∷ []) $ frame ! $ frame ! $ owned ! mFlag.the-row (Is mFlag.the-row) (EL.makes mFlag.the-type lFlag.the-plain 𝓤 H A) r1 _ i1 $ done !)))))))))))))))))))))))))))))
 
 module _ {M : Type 1} (𝓤 : URA M) (H : Heap 𝓤) (A : Atoms 𝓤) (W : Given 𝓤 H A) (mem : Memory → SProp 𝓤) (run : Routine → Fun 𝓤) where
   walks : (C : Calls 𝓤 H) (Λ : Loops 𝓤 H) → FmC 𝓤 H (W .laws) C → Triple 𝓤 (C #g1) (Callee-g1 𝓤 H A mem run) → Walks 𝓤 H A f.ended stayed (WpFn 𝓤 H C Λ code.function) (f.clauses 𝓤 H A mem run)

@@ -20,7 +20,7 @@ use contract.Monad.{Fun, fact}
 use contract.Running.{givenOf, tables, tablesOf}
 use types.Kit.{Given, ‵, raw, _⊛_, ⋆, some, later, _$_, _∵_, !, qed, by, move, keep, drop, use1, use2, use3, split, join, pick, fsplit, fsplit3, fjoin, fjoin3, feqL, feqI, rewrite, atRet, suffices, frame, await, done}
 use types.Part.{agg, whole, sub, look-in}
-use types.Run.{look, look-raw, init, store, store-raw, forget, stop, hop, fld, from, load, unit-lit, of-opd, addr, and-then, no-more, lit, true-lit, false-lit, assigns, assigns-last, land, land-last, first, branches, skips, exec, returns, enter, alloc1, alloc0, params1, pass1, pass0, free1, free0}
+use types.Run.{look, look-raw, init, store, store-raw, stop, hop, fld, from, load, unit-lit, of-opd, addr, and-then, no-more, lit, true-lit, false-lit, assigns, assigns-last, land, land-last, first, branches, skips, exec, returns, enter, alloc0, params1, pass1, pass0}
 use types.Tokens.{lft-new, lft-end}
 use sound.WpLaws.{FmC, fmOf, WpFn-mono}
 use denote.RattleType.{owns}
@@ -59,6 +59,7 @@ use denote.Memory.{cellAt, partAt, mem, shares}
 use denote.ArrayMemory.{array-apart, array-whole}
 use denote.Lend.{lends-ref, ref-back, lends-shr-slice}
 use Rattle.magnetar_transcript.proofs.Local.{into, out, rest, cut, mend, room-of}
+use Rattle.magnetar_transcript.proofs.Locals.{tidy, bare, kept, dies, alloc, hide, free-all}
 use Rattle.magnetar_transcript.proofs.Again.{LentAgain, lends-again, comes-back}
 use Rattle.magnetar_inplace.proofs.records.eval_mle_table as g1
 use Rattle.magnetar_inplace.proofs.records.eval_mle_table.Symbol as g1-def
@@ -166,35 +167,34 @@ module _ {M : Type 1} (𝓤 : URA M) (H : Heap 𝓤) (A : Atoms 𝓤) (W : Given
     walk : (n4 ≤ 32) → ent 𝓤 (onEntry 𝓤 H A f.signature (κ₀, (κ₁, (κ₂, tt))) (q₀, (q₁, (q₂, tt))) a at) (WpFn 𝓤 H C Λ code.function (v1 ∷ v2 ∷ v3 ∷ v4 ∷ v5 ∷ v6 ∷ v7 ∷ []) Post)
     walk pre =
         qed W ((‵ (flft κ₀ q₀) ⊛ ‵ (flft κ₁ q₁) ⊛ ‵ (flft κ₂ q₂) ⊛ ‵ ftrue) ∷ ‵ (owns (u64 ∷ u64 ∷ (Array mEntry.the-row 32) ∷ u64 ∷ ShrSlice (named 0) κ₀ u64 ∷ MutSlice (named 1) κ₁ u64 ∷ MutSlice (named 2) κ₂ u64 ∷ []) a at) ∷ []) ∵ enter ! C Λ code.function (v1 ∷ v2 ∷ v3 ∷ v4 ∷ v5 ∷ v6 ∷ v7 ∷ []) _ $
-        alloc1 ! (λ l₀. alloc1 ! (λ l₁. alloc1 ! (λ l₂. alloc1 ! (λ l₃. alloc1 ! (λ l₄. alloc1 ! (λ l₅. alloc1 ! (λ l₆. alloc1 ! (λ l₇. alloc1 ! (λ l₈. alloc1 ! (λ l₉. alloc1 ! (λ l₁₀. alloc1 ! (λ l₁₁. alloc1 ! (λ l₁₂. alloc1 ! (λ l₁₃. alloc1 ! (λ l₁₄. alloc0 ! $ params1 ! $ pass1 ! (init ! 26 refl (uint-lawful 𝓤 H A W w64 .typed n1 _ w1 .0)) $ pass1 ! (init ! 24 refl (uint-lawful 𝓤 H A W w64 .typed n2 _ w2 .0)) $ pass1 ! (init ! 22 refl (array-lawful 𝓤 H A W mEntry.the-row (LL.lawful mEntry.the-type lEntry.the-laws 𝓤 H A W) 32 .typed n3 _ w3 .0)) $ pass1 ! (init ! 20 refl (uint-lawful 𝓤 H A W w64 .typed n4 _ w4 .0)) $ pass1 ! (init ! 18 refl (shr-slice-lawful 𝓤 H A W (named 0) κ₀ u64 .typed s5 (v5 ∷ []) w5 .0)) $ pass1 ! (init ! 16 refl (tt, (tt, (record { fits = room6 .0 }, tt)))) $ pass1 ! (init ! 14 refl (tt, (tt, (record { fits = room7 .0 }, tt)))) $ pass0 ! $
-        move ! (31 ∷ []) $ fsplit ! $ move ! (1 ∷ []) $ fsplit ! $ move ! (1 ∷ []) $ fsplit ! $ move ! (1 ∷ []) $ fsplit ! $ move ! (1 ∷ []) $ fsplit ! $ move ! (1 ∷ []) $ fsplit ! $ move ! (1 ∷ []) $ fsplit ! $ move ! (1 ∷ []) $ move ! (38 ∷ []) $ split ! $ move ! (1 ∷ []) $ split ! $ move ! (1 ∷ []) $ split ! $ move ! (1 ∷ []) $
-        assigns ! (of-opd ! (load ! (from ! (stop !)) (look ! 34 refl))) (from ! (stop !)) (init ! 24 refl (array-lawful 𝓤 H A W mEntry.the-row (LL.lawful mEntry.the-type lEntry.the-laws 𝓤 H A W) 32 .typed n3 _ w3 .0)) $
-        assigns ! (addr ! (from ! (stop !))) (from ! (stop !)) (init ! 22 refl (tt, tt)) $
-        rewrite ! 32 (λ (w : Val). ‵ (fat fullShare (tyInt w64) l₄ 0 w)) (ap only (w4 .0)) refl $ assigns ! (agg ! (and-then ! (load ! (from ! (stop !)) (look ! 22 refl)) (and-then ! (load ! (from ! (stop !)) (look ! 32 refl)) (no-more !)))) (from ! (stop !)) (init ! 20 refl (tt, (tt, (record { fits = w4 .1 }, tt)))) $
-        assigns ! (addr ! (from ! (fld ! refl (hop ! (look-in ! 28 (sub ! 0 refl (whole !))) (stop !))))) (from ! (stop !)) (init ! 18 refl (tt, tt)) $
-        assigns ! (agg ! (and-then ! (load ! (from ! (stop !)) (look ! 18 refl)) (and-then ! (load ! (from ! (fld ! refl (stop !))) (look-in ! 28 (sub ! 1 refl (whole !)))) (no-more !)))) (from ! (stop !)) (init ! 16 refl (tt, (tt, (record { fits = room6 .0 }, tt)))) $
-        assigns ! (addr ! (from ! (fld ! refl (hop ! (look-in ! 26 (sub ! 0 refl (whole !))) (stop !))))) (from ! (stop !)) (init ! 14 refl (tt, tt)) $
-        assigns ! (agg ! (and-then ! (load ! (from ! (stop !)) (look ! 14 refl)) (and-then ! (load ! (from ! (fld ! refl (stop !))) (look-in ! 26 (sub ! 1 refl (whole !)))) (no-more !)))) (from ! (stop !)) (init ! 12 refl (tt, (tt, (record { fits = room7 .0 }, tt)))) $
-        lft-new ! tt (λ ν1c. owned ! (Array mEntry.the-row 32) (Is (Array mEntry.the-row 32)) (array-makes 𝓤 H A W mEntry.the-row (LL.makes mEntry.the-type lEntry.the-plain 𝓤 H A) 32) (n3) _ w3 $ move ! (26 ∷ 0 ∷ []) $ use1 W (‵ (cellAt fullShare ((Array mEntry.the-row 32) .mir) (u3 ∷ []) l₈ 0)) (W .laws .at-raw fullShare (tyArray (lEntry.mir) 32) l₈ 0 (u3)) $ into ! (Array mEntry.the-row 32) fullShare (n3) (u3 ∷ []) l₈ 0 $
+        nothing ! $ alloc ! (λ l₀. alloc ! (λ l₁. alloc ! (λ l₂. alloc ! (λ l₃. alloc ! (λ l₄. alloc ! (λ l₅. alloc ! (λ l₆. alloc ! (λ l₇. alloc ! (λ l₈. alloc ! (λ l₉. alloc ! (λ l₁₀. alloc ! (λ l₁₁. alloc ! (λ l₁₂. alloc ! (λ l₁₃. alloc ! (λ l₁₄. alloc0 ! $ hide ! (λ died die. params1 ! $ pass1 ! (init ! 14 refl (uint-lawful 𝓤 H A W w64 .typed n1 _ w1 .0)) $ pass1 ! (init ! 13 refl (uint-lawful 𝓤 H A W w64 .typed n2 _ w2 .0)) $ pass1 ! (init ! 12 refl (array-lawful 𝓤 H A W mEntry.the-row (LL.lawful mEntry.the-type lEntry.the-laws 𝓤 H A W) 32 .typed n3 _ w3 .0)) $ pass1 ! (init ! 11 refl (uint-lawful 𝓤 H A W w64 .typed n4 _ w4 .0)) $ pass1 ! (init ! 10 refl (shr-slice-lawful 𝓤 H A W (named 0) κ₀ u64 .typed s5 (v5 ∷ []) w5 .0)) $ pass1 ! (init ! 9 refl (tt, (tt, (record { fits = room6 .0 }, tt)))) $ pass1 ! (init ! 8 refl (tt, (tt, (record { fits = room7 .0 }, tt)))) $ pass0 ! $
+        move ! (17 ∷ []) $ fsplit ! $ move ! (1 ∷ []) $ fsplit ! $ move ! (1 ∷ []) $ fsplit ! $ move ! (1 ∷ []) $ fsplit ! $ move ! (1 ∷ []) $ fsplit ! $ move ! (1 ∷ []) $ fsplit ! $ move ! (1 ∷ []) $ fsplit ! $ move ! (1 ∷ []) $ drop ! $ move ! (23 ∷ []) $ split ! $ move ! (1 ∷ []) $ split ! $ move ! (1 ∷ []) $ split ! $ move ! (1 ∷ []) $ drop ! $ tidy W (_ ∷ _ ∷ _ ∷ _ ∷ _ ∷ _ ∷ _ ∷ _ ∷ _ ∷ _ ∷ _ ∷ _ ∷ _ ∷ _ ∷ _ ∷ _ ∷ _ ∷ _ ∷ _ ∷ _ ∷ _ ∷ _ ∷ _ ∷ _ ∷ _ ∷ _ ∷ []) $
+        assigns ! (of-opd ! (load ! (from ! (stop !)) (look ! 22 refl))) (from ! (stop !)) (init ! 17 refl (array-lawful 𝓤 H A W mEntry.the-row (LL.lawful mEntry.the-type lEntry.the-laws 𝓤 H A W) 32 .typed n3 _ w3 .0)) $
+        assigns ! (addr ! (from ! (stop !))) (from ! (stop !)) (init ! 16 refl (tt, tt)) $
+        rewrite ! 21 (λ (w : Val). ‵ (fat fullShare (tyInt w64) l₄ 0 w)) (ap only (w4 .0)) refl $ assigns ! (agg ! (and-then ! (load ! (from ! (stop !)) (look ! 16 refl)) (and-then ! (load ! (from ! (stop !)) (look ! 21 refl)) (no-more !)))) (from ! (stop !)) (init ! 15 refl (tt, (tt, (record { fits = w4 .1 }, tt)))) $
+        assigns ! (addr ! (from ! (fld ! refl (hop ! (look-in ! 19 (sub ! 0 refl (whole !))) (stop !))))) (from ! (stop !)) (init ! 14 refl (tt, tt)) $
+        assigns ! (agg ! (and-then ! (load ! (from ! (stop !)) (look ! 14 refl)) (and-then ! (load ! (from ! (fld ! refl (stop !))) (look-in ! 19 (sub ! 1 refl (whole !)))) (no-more !)))) (from ! (stop !)) (init ! 13 refl (tt, (tt, (record { fits = room6 .0 }, tt)))) $
+        assigns ! (addr ! (from ! (fld ! refl (hop ! (look-in ! 18 (sub ! 0 refl (whole !))) (stop !))))) (from ! (stop !)) (init ! 12 refl (tt, tt)) $
+        assigns ! (agg ! (and-then ! (load ! (from ! (stop !)) (look ! 12 refl)) (and-then ! (load ! (from ! (fld ! refl (stop !))) (look-in ! 18 (sub ! 1 refl (whole !)))) (no-more !)))) (from ! (stop !)) (init ! 11 refl (tt, (tt, (record { fits = room7 .0 }, tt)))) $
+        lft-new ! tt (λ ν1c. owned ! (Array mEntry.the-row 32) (Is (Array mEntry.the-row 32)) (array-makes 𝓤 H A W mEntry.the-row (LL.makes mEntry.the-type lEntry.the-plain 𝓤 H A) 32) (n3) _ w3 $ move ! (19 ∷ 0 ∷ []) $ use1 W (‵ (cellAt fullShare ((Array mEntry.the-row 32) .mir) (u3 ∷ []) l₈ 0)) (W .laws .at-raw fullShare (tyArray (lEntry.mir) 32) l₈ 0 (u3)) $ into ! (Array mEntry.the-row 32) fullShare (n3) (u3 ∷ []) l₈ 0 $
         use1 W (‵ (arr-parts (shares mEntry.the-row) 32 .part fullShare (n3) l₈ 0)) (array-apart 𝓤 H A W mEntry.the-row fullShare tt 32 (n3) l₈ 0) $ fsplit ! $ feqL ! (λ ln1c.
         use1 W (‵ (parts (mem mEntry.the-row) (shares mEntry.the-row) fullShare (take n4 (n3)) l₈ 0) ⊛ ‵ (rest mEntry.the-row fullShare n4 (n3) l₈ 0)) (cut 𝓤 H A mEntry.the-row fullShare n4 (n3) l₈ 0) $ split ! $ feqI ! ℕ (length (take n4 (n3))) (length (take n4 (n3))) refl $ fjoin ! $
         use1 W (later (some (λ (δ : GName). ‵ (ShrSlice (named 0) (ν1c ∷ []) mEntry.the-row .own (record { ptr = (l₈, 0); name = δ; now = (take n4 (n3)) }) (sliceVal (l₈, 0) (length (take n4 (n3))) ∷ [])) ⊛ ‵ (flent (ν1c ∷ []) (arr-parts (shares mEntry.the-row) (length (take n4 (n3))) .part fullShare (take n4 (n3)) l₈ 0))))) (lends-shr-slice 𝓤 H A W mEntry.the-row (named 0) (ν1c ∷ []) fullShare (take n4 (n3)) l₈ 0 (subst (Room mEntry.the-row) (sym (length-take-le n4 (n3) (subst (λ (m : ℕ). n4 ≤ m) (sym ln1c) (pre)))) (room-of mEntry.the-row n4 32 (pre) (lit< tt, lit< tt)))) $ await ! tt $ pick ! (λ δ1c. split ! $ rewrite ! 0 (λ (m : ℕ). ‵ (ShrSlice (named 0) (ν1c ∷ []) mEntry.the-row .own (record { ptr = (l₈, 0); name = δ1c; now = (take n4 (n3)) }) (sliceVal (l₈, 0) m ∷ []))) (length-take-le n4 (n3) (subst (λ (m : ℕ). n4 ≤ m) (sym ln1c) (pre))) refl $
-        move ! (11 ∷ []) $ use1 W (‵ (O5) ⊛ ‵ (O5)) (shr-slice-copy 𝓤 H A W (named 0) κ₀ u64 .twice s5 (v5 ∷ [])) $ split ! $
-        lft-new ! tt (λ ν1e. move ! (13 ∷ 9 ∷ []) $ use2 W (later (some (λ (δ : GName). ‵ (MutSlice (named 2) (ν1e ∷ []) u64 .own (ref6 δ (ys6)) (v6 ∷ [])) ⊛ ‵ (Lent6 ν1e δ (ys6))))) (lends6 (named 2) ν1e (ys6) (refl)) $ await ! tt $ pick ! (λ δ1e. split ! $
-        lft-new ! tt (λ ν1f. move ! (14 ∷ 11 ∷ []) $ use2 W (later (some (λ (δ : GName). ‵ (MutSlice (named 3) (ν1f ∷ []) u64 .own (ref7 δ (ys7)) (v7 ∷ [])) ⊛ ‵ (Lent7 ν1f δ (ys7))))) (lends7 (named 3) ν1f (ys7) (refl)) $ await ! tt $ pick ! (λ δ1f. split ! $ nothing ! $ move ! (3 ∷ 0 ∷ []) $ join ! $ move ! (5 ∷ 0 ∷ []) $ join ! $ move ! (12 ∷ 0 ∷ []) $ join ! $ move ! (10 ∷ 0 ∷ []) $ join ! $ move ! (3 ∷ 1 ∷ []) $ join ! $ move ! (4 ∷ 0 ∷ []) $ join ! $ move ! (5 ∷ 0 ∷ []) $ join ! $ move ! (1 ∷ 0 ∷ []) $ join ! $
+        move ! (9 ∷ []) $ use1 W (‵ (O5) ⊛ ‵ (O5)) (shr-slice-copy 𝓤 H A W (named 0) κ₀ u64 .twice s5 (v5 ∷ [])) $ split ! $
+        lft-new ! tt (λ ν1e. move ! (11 ∷ 8 ∷ []) $ use2 W (later (some (λ (δ : GName). ‵ (MutSlice (named 2) (ν1e ∷ []) u64 .own (ref6 δ (ys6)) (v6 ∷ [])) ⊛ ‵ (Lent6 ν1e δ (ys6))))) (lends6 (named 2) ν1e (ys6) (refl)) $ await ! tt $ pick ! (λ δ1e. split ! $
+        lft-new ! tt (λ ν1f. move ! (12 ∷ 10 ∷ []) $ use2 W (later (some (λ (δ : GName). ‵ (MutSlice (named 3) (ν1f ∷ []) u64 .own (ref7 δ (ys7)) (v7 ∷ [])) ⊛ ‵ (Lent7 ν1f δ (ys7))))) (lends7 (named 3) ν1f (ys7) (refl)) $ await ! tt $ pick ! (λ δ1f. split ! $ tidy W (_ ∷ _ ∷ _ ∷ _ ∷ _ ∷ _ ∷ _ ∷ _ ∷ _ ∷ _ ∷ _ ∷ _ ∷ _ ∷ _ ∷ _ ∷ _ ∷ _ ∷ _ ∷ _ ∷ _ ∷ _ ∷ _ ∷ _ ∷ _ ∷ _ ∷ _ ∷ _ ∷ _ ∷ _ ∷ _ ∷ _ ∷ _ ∷ []) $ nothing ! $ move ! (3 ∷ 0 ∷ []) $ join ! $ move ! (5 ∷ 0 ∷ []) $ join ! $ move ! (11 ∷ 0 ∷ []) $ join ! $ move ! (10 ∷ 0 ∷ []) $ join ! $ move ! (3 ∷ 1 ∷ []) $ join ! $ move ! (4 ∷ 0 ∷ []) $ join ! $ move ! (5 ∷ 0 ∷ []) $ join ! $ move ! (1 ∷ 0 ∷ []) $ join ! $
         -- call 1
         use1 W (raw (Callee-g1 𝓤 H A at-mem run .pre ((((ν1c ∷ []), (κ₀, ((ν1e ∷ []), ((ν1f ∷ []), tt)))), (fullShare, (q₀, (fullShare, (fullShare, tt)))), tt, (n1, (n2, (record { ptr = (l₈, 0); name = δ1c; now = (take n4 (n3)) }, (s5, (ref6 δ1e (ys6), (ref7 δ1f (ys7), tt)))))), (u1 ∷ [], (u2 ∷ [], (sliceVal (l₈, 0) n4 ∷ [], (v5 ∷ [], (v6 ∷ [], (v7 ∷ [], tt))))))), tt))) (qed W ((‵ (flft (ν1c ∷ []) fullShare) ⊛ ‵ (flft κ₀ q₀) ⊛ ‵ (flft (ν1e ∷ []) fullShare) ⊛ ‵ (flft (ν1f ∷ []) fullShare) ⊛ ‵ ftrue) ∷ ‵ (ShrSlice (named 0) (ν1c ∷ []) mEntry.the-row .own (record { ptr = (l₈, 0); name = δ1c; now = (take n4 (n3)) }) (sliceVal (l₈, 0) n4 ∷ [])) ∷ ‵ (ShrSlice (named 1) κ₀ u64 .own s5 (v5 ∷ [])) ∷ ‵ (MutSlice (named 2) (ν1e ∷ []) u64 .own (ref6 δ1e (ys6)) (v6 ∷ [])) ∷ ‵ (MutSlice (named 3) (ν1f ∷ []) u64 .own (ref7 δ1f (ys7)) (v7 ∷ [])) ∷ []) ∵ nothing ! $ move ! (5 ∷ 0 ∷ []) $ fjoin ! $ move ! (4 ∷ 0 ∷ []) $ fjoin ! $ move ! (3 ∷ 0 ∷ []) $ fjoin ! $ move ! (2 ∷ 0 ∷ []) $ fjoin ! $ owned ! u64 (Is u64) (uint-makes 𝓤 H A W w64) (n2) _ w2 $ fjoin ! $ owned ! u64 (Is u64) (uint-makes 𝓤 H A W w64) (n1) _ w1 $ fjoin ! $ move ! (1 ∷ 0 ∷ []) $ join ! $ nothing ! $ move ! (1 ∷ 0 ∷ []) $ frame ! $ done !) $
-        calls-at ! fm (Callee-g1 𝓤 H A at-mem run) known-g1 ((((ν1c ∷ []), (κ₀, ((ν1e ∷ []), ((ν1f ∷ []), tt)))), (fullShare, (q₀, (fullShare, (fullShare, tt)))), tt, (n1, (n2, (record { ptr = (l₈, 0); name = δ1c; now = (take n4 (n3)) }, (s5, (ref6 δ1e (ys6), (ref7 δ1f (ys7), tt)))))), (u1 ∷ [], (u2 ∷ [], (sliceVal (l₈, 0) n4 ∷ [], (v5 ∷ [], (v6 ∷ [], (v7 ∷ [], tt))))))), tt) (and-then ! (load ! (from ! (stop !)) (look ! 37 refl)) (and-then ! (load ! (from ! (stop !)) (look ! 35 refl)) (and-then ! (load ! (from ! (stop !)) (look ! 20 refl)) (and-then ! (load ! (from ! (stop !)) (look ! 29 refl)) (and-then ! (load ! (from ! (stop !)) (look ! 16 refl)) (and-then ! (load ! (from ! (stop !)) (look ! 12 refl)) (no-more !))))))) (λ z1.
+        calls-at ! fm (Callee-g1 𝓤 H A at-mem run) known-g1 ((((ν1c ∷ []), (κ₀, ((ν1e ∷ []), ((ν1f ∷ []), tt)))), (fullShare, (q₀, (fullShare, (fullShare, tt)))), tt, (n1, (n2, (record { ptr = (l₈, 0); name = δ1c; now = (take n4 (n3)) }, (s5, (ref6 δ1e (ys6), (ref7 δ1f (ys7), tt)))))), (u1 ∷ [], (u2 ∷ [], (sliceVal (l₈, 0) n4 ∷ [], (v5 ∷ [], (v6 ∷ [], (v7 ∷ [], tt))))))), tt) (and-then ! (load ! (from ! (stop !)) (look ! 23 refl)) (and-then ! (load ! (from ! (stop !)) (look ! 22 refl)) (and-then ! (load ! (from ! (stop !)) (look ! 15 refl)) (and-then ! (load ! (from ! (stop !)) (look ! 19 refl)) (and-then ! (load ! (from ! (stop !)) (look ! 13 refl)) (and-then ! (load ! (from ! (stop !)) (look ! 11 refl)) (no-more !))))))) (λ z1.
         use1 W (later (some (λ (r1 : ℕ). ((‵ (flft (ν1c ∷ []) fullShare) ⊛ ‵ (flft κ₀ q₀) ⊛ ‵ (flft (ν1e ∷ []) fullShare) ⊛ ‵ (flft (ν1f ∷ []) fullShare) ⊛ ‵ ftrue) ⊛ ‵ (u32 .own r1 (z1 ∷ []))) ⊛ some (λ (ws : Lasts g1.ended ((ν1c ∷ []), (κ₀, ((ν1e ∷ []), ((ν1f ∷ []), tt)))) (n1, (n2, (record { ptr = (l₈, 0); name = δ1c; now = (take n4 (n3)) }, (s5, (ref6 δ1e (ys6), (ref7 δ1f (ys7), tt))))))). ‵ (lasts g1.ended ((ν1c ∷ []), (κ₀, ((ν1e ∷ []), ((ν1f ∷ []), tt)))) (n1, (n2, (record { ptr = (l₈, 0); name = δ1c; now = (take n4 (n3)) }, (s5, (ref6 δ1e (ys6), (ref7 δ1f (ys7), tt)))))) ws) ⊛ raw (g1.clauses 𝓤 H A at-mem run ((ν1c ∷ []), (κ₀, ((ν1e ∷ []), ((ν1f ∷ []), tt)))) (n1, (n2, (record { ptr = (l₈, 0); name = δ1c; now = (take n4 (n3)) }, (s5, (ref6 δ1e (ys6), (ref7 δ1f (ys7), tt)))))) .ensures tt r1 (atExit g1.ended ((ν1c ∷ []), (κ₀, ((ν1e ∷ []), ((ν1f ∷ []), tt)))) (n1, (n2, (record { ptr = (l₈, 0); name = δ1c; now = (take n4 (n3)) }, (s5, (ref6 δ1e (ys6), (ref7 δ1f (ys7), tt)))))) ws)))))) (id⊢ 𝓤 _) $ await ! tt $ pick ! (λ r1. split ! $ move ! (1 ∷ []) $ pick ! (λ ws1. split ! $ move ! (1 ∷ []) $ heard ! _ (λ e1.
-        fsplit ! $ move ! (1 ∷ []) $ fsplit ! $ move ! (1 ∷ []) $ fsplit ! $ move ! (1 ∷ []) $ fsplit ! $ move ! (1 ∷ []) $ fsplit ! $ fsplit ! $ move ! (1 ∷ []) $ feqL ! (λ same1e. move ! (1 ∷ []) $ fsplit ! $ fsplit ! $ move ! (1 ∷ []) $ feqL ! (λ same1f. move ! (7 ∷ []) $ split ! $ move ! (1 ∷ []) $ peeks ! u32 (Is u32) (shows 𝓤 H A u32) r1 (z1 ∷ []) (λ i1. drop ! $ land ! (from ! (stop !)) (init ! 46 refl (uint-lawful 𝓤 H A W w32 .typed r1 _ i1 .0)) $
-        split ! $ move ! (1 ∷ []) $ split ! $ move ! (1 ∷ []) $ split ! $ move ! (1 ∷ []) $ split ! $ move ! (1 ∷ []) $ move ! (4 ∷ []) $ lft-end ! tt $ move ! (0 ∷ 15 ∷ []) $ lent-back ! tt $ fsplit ! $ drop ! $ move ! (0 ∷ 15 ∷ []) $ use2 W (‵ (parts (mem mEntry.the-row) (shares mEntry.the-row) fullShare (n3) l₈ 0)) (mend 𝓤 H A mEntry.the-row fullShare n4 (n3) l₈ 0) $ feqI ! ℕ (length (n3)) 32 ln1c $ fjoin ! $ use1 W (‵ (partAt (Array mEntry.the-row 32) fullShare (n3) l₈ 0)) (array-whole 𝓤 H A W mEntry.the-row fullShare 32 (n3) l₈ 0) $
+        fsplit ! $ drop ! $ fsplit ! $ drop ! $ fsplit ! $ drop ! $ fsplit ! $ drop ! $ fsplit ! $ fsplit ! $ move ! (1 ∷ []) $ feqL ! (λ same1e. move ! (1 ∷ []) $ fsplit ! $ fsplit ! $ move ! (1 ∷ []) $ feqL ! (λ same1f. move ! (1 ∷ []) $ drop ! $ move ! (2 ∷ []) $ split ! $ move ! (1 ∷ []) $ peeks ! u32 (Is u32) (shows 𝓤 H A u32) r1 (z1 ∷ []) (λ i1. drop ! $ land ! (from ! (stop !)) (init ! 26 refl (uint-lawful 𝓤 H A W w32 .typed r1 _ i1 .0)) $
+        tidy W (_ ∷ _ ∷ _ ∷ _ ∷ _ ∷ _ ∷ _ ∷ _ ∷ _ ∷ _ ∷ _ ∷ _ ∷ _ ∷ _ ∷ _ ∷ _ ∷ _ ∷ _ ∷ _ ∷ _ ∷ _ ∷ _ ∷ _ ∷ _ ∷ _ ∷ _ ∷ _ ∷ []) $ split ! $ move ! (1 ∷ []) $ split ! $ move ! (1 ∷ []) $ split ! $ move ! (1 ∷ []) $ split ! $ move ! (1 ∷ []) $ drop ! $ move ! (3 ∷ []) $ lft-end ! tt $ move ! (0 ∷ 9 ∷ []) $ lent-back ! tt $ fsplit ! $ drop ! $ move ! (0 ∷ 9 ∷ []) $ use2 W (‵ (parts (mem mEntry.the-row) (shares mEntry.the-row) fullShare (n3) l₈ 0)) (mend 𝓤 H A mEntry.the-row fullShare n4 (n3) l₈ 0) $ feqI ! ℕ (length (n3)) 32 ln1c $ fjoin ! $ use1 W (‵ (partAt (Array mEntry.the-row 32) fullShare (n3) l₈ 0)) (array-whole 𝓤 H A W mEntry.the-row fullShare 32 (n3) l₈ 0) $
         out ! (Array mEntry.the-row 32) fullShare (n3) l₈ 0 (λ vs. spelt ! (Array mEntry.the-row 32) (Is (Array mEntry.the-row 32)) (shows 𝓤 H A (Array mEntry.the-row 32)) (array-vals (LL.vals mEntry.the-type lEntry.the-laws)) (array-tells mEntry.the-row (LL.vals mEntry.the-type lEntry.the-laws) (LL.tells mEntry.the-type lEntry.the-laws) 32) fullShare (n3) vs l₈ 0 $ move ! (1 ∷ []) $ peeks ! (Array mEntry.the-row 32) (Is (Array mEntry.the-row 32)) (shows 𝓤 H A (Array mEntry.the-row 32)) (n3) (array-val (LL.vals mEntry.the-type lEntry.the-laws) (n3) ∷ []) (λ w1c. drop ! $ use1 W (‵ (fat fullShare (tyArray (lEntry.mir) 32) l₈ 0 (array-val (LL.vals mEntry.the-type lEntry.the-laws) (n3)))) (W .laws .raw-at fullShare (tyArray (lEntry.mir) 32) l₈ 0 (array-val (LL.vals mEntry.the-type lEntry.the-laws) (n3))) $
-        move ! (3 ∷ []) $ lft-end ! tt $ move ! (0 ∷ 13 ∷ 7 ∷ []) $ use3 W (later (‵ (O6 (ws1 .1 .1 .1 .1 .0)) ⊛ ‵ (flft κ₁ q₁))) (backs6 (named 2) ν1e δ1e (ys6) (ws1 .1 .1 .1 .1 .0) (refl) room6 same1e) $ await ! tt $ split ! $
-        move ! (4 ∷ []) $ lft-end ! tt $ move ! (0 ∷ 12 ∷ 6 ∷ []) $ use3 W (later (‵ (O7 (ws1 .1 .1 .1 .1 .1 .0)) ⊛ ‵ (flft κ₂ q₂))) (backs7 (named 3) ν1f δ1f (ys7) (ws1 .1 .1 .1 .1 .1 .0) (refl) room7 same1f) $ await ! tt $ split ! $
-        returns ! (look ! 46 refl) $ forget ! 46 refl $ forget ! 44 refl $ forget ! 42 refl $ forget ! 40 refl $ forget ! 38 refl $ forget ! 36 refl $ forget ! 34 refl $ forget ! 32 refl $ forget ! 4 refl $ forget ! 29 refl $ forget ! 27 refl $ forget ! 25 refl $ forget ! 23 refl $ forget ! 21 refl $ forget ! 19 refl $
-        move ! (46 ∷ 47 ∷ []) $ free1 ! $ move ! (44 ∷ 45 ∷ []) $ free1 ! $ move ! (42 ∷ 43 ∷ []) $ free1 ! $ move ! (40 ∷ 41 ∷ []) $ free1 ! $ move ! (38 ∷ 39 ∷ []) $ free1 ! $ move ! (36 ∷ 37 ∷ []) $ free1 ! $ move ! (34 ∷ 35 ∷ []) $ free1 ! $ move ! (32 ∷ 33 ∷ []) $ free1 ! $ move ! (4 ∷ 31 ∷ []) $ free1 ! $ move ! (28 ∷ 29 ∷ []) $ free1 ! $ move ! (26 ∷ 27 ∷ []) $ free1 ! $ move ! (24 ∷ 25 ∷ []) $ free1 ! $ move ! (22 ∷ 23 ∷ []) $ free1 ! $ move ! (20 ∷ 21 ∷ []) $ free1 ! $ move ! (18 ∷ 19 ∷ []) $ free1 ! $ free0 ! $
+        move ! (2 ∷ []) $ lft-end ! tt $ move ! (0 ∷ 7 ∷ 5 ∷ []) $ use3 W (later (‵ (O6 (ws1 .1 .1 .1 .1 .0)) ⊛ ‵ (flft κ₁ q₁))) (backs6 (named 2) ν1e δ1e (ys6) (ws1 .1 .1 .1 .1 .0) (refl) room6 same1e) $ await ! tt $ split ! $
+        move ! (3 ∷ []) $ lft-end ! tt $ move ! (0 ∷ 6 ∷ 5 ∷ []) $ use3 W (later (‵ (O7 (ws1 .1 .1 .1 .1 .1 .0)) ⊛ ‵ (flft κ₂ q₂))) (backs7 (named 3) ν1f δ1f (ys7) (ws1 .1 .1 .1 .1 .1 .0) (refl) room7 same1f) $ await ! tt $ split ! $
+        tidy W (_ ∷ _ ∷ _ ∷ _ ∷ _ ∷ _ ∷ _ ∷ _ ∷ _ ∷ _ ∷ _ ∷ _ ∷ _ ∷ _ ∷ _ ∷ _ ∷ _ ∷ _ ∷ _ ∷ _ ∷ _ ∷ _ ∷ _ ∷ _ ∷ _ ∷ _ ∷ []) $ returns ! (look ! 25 refl) $ move ! (0 ∷ 1 ∷ 2 ∷ 3 ∷ 5 ∷ 6 ∷ 7 ∷ 8 ∷ 9 ∷ 10 ∷ 11 ∷ 12 ∷ 13 ∷ 14 ∷ 15 ∷ 16 ∷ 17 ∷ 4 ∷ 18 ∷ 19 ∷ 20 ∷ 21 ∷ 22 ∷ 23 ∷ 24 ∷ 25 ∷ []) $ move ! (10 ∷ []) $ use1 W (dies ((tyInt w32, l₀) ∷ (tyInt w64, l₁) ∷ (tyInt w64, l₂) ∷ (tyArray (lEntry.mir) 32, l₃) ∷ (tyInt w64, l₄) ∷ (sliceTy (tyRef (named 0) imm (tyInt w64)), l₅) ∷ (sliceTy (tyRef (named 1) mut (tyInt w64)), l₆) ∷ (sliceTy (tyRef (named 2) mut (tyInt w64)), l₇) ∷ (tyArray (lEntry.mir) 32, l₈) ∷ (tyRef erased imm (pointee ((Array mEntry.the-row 32) .written)), l₉) ∷ (sliceTy (tyRef erased imm (pointee (mEntry.the-row .written))), l₁₀) ∷ (tyRef erased mut (tyInt w64), l₁₁) ∷ (sliceTy (tyRef erased mut (tyInt w64)), l₁₂) ∷ (tyRef erased mut (tyInt w64), l₁₃) ∷ (sliceTy (tyRef erased mut (tyInt w64)), l₁₄) ∷ []) (‵ ftrue)) die $ free-all ! 10 ((tyInt w32, l₀) ∷ (tyInt w64, l₁) ∷ (tyInt w64, l₂) ∷ (tyArray (lEntry.mir) 32, l₃) ∷ (tyInt w64, l₄) ∷ (sliceTy (tyRef (named 0) imm (tyInt w64)), l₅) ∷ (sliceTy (tyRef (named 1) mut (tyInt w64)), l₆) ∷ (sliceTy (tyRef (named 2) mut (tyInt w64)), l₇) ∷ (tyArray (lEntry.mir) 32, l₈) ∷ (tyRef erased imm (pointee ((Array mEntry.the-row 32) .written)), l₉) ∷ (sliceTy (tyRef erased imm (pointee (mEntry.the-row .written))), l₁₀) ∷ (tyRef erased mut (tyInt w64), l₁₁) ∷ (sliceTy (tyRef erased mut (tyInt w64)), l₁₂) ∷ (tyRef erased mut (tyInt w64), l₁₃) ∷ (sliceTy (tyRef erased mut (tyInt w64)), l₁₄) ∷ []) (kept _ ∷ kept _ ∷ kept _ ∷ kept _ ∷ kept _ ∷ kept _ ∷ kept _ ∷ kept _ ∷ kept _ ∷ kept _ ∷ kept _ ∷ kept _ ∷ kept _ ∷ kept _ ∷ kept _ ∷ []) refl $
         suffices ! _ (ends-at 𝓤 H A f.ended stayed (f.clauses 𝓤 H A at-mem run) W (((κ₀, (κ₁, (κ₂, tt))), (q₀, (q₁, (q₂, tt))), tt, a, at), tt) z1 r1 (tt, (tt, (tt, (tt, (tt, (ws1 .1 .1 .1 .1 .0, (ws1 .1 .1 .1 .1 .1 .0, tt))))))) (tt, (tt, (tt, (tt, (tt, (same1e, (same1f, tt)))))))) $ says ! (e1) $
-        nothing ! $ move ! (2 ∷ 0 ∷ []) $ join ! $ move ! (3 ∷ 0 ∷ []) $ join ! $ move ! (4 ∷ 0 ∷ []) $ join ! $ nothing ! $ move ! (2 ∷ 0 ∷ []) $ fjoin ! $ move ! (2 ∷ 0 ∷ []) $ fjoin ! $ move ! (8 ∷ 0 ∷ []) $ fjoin ! $ move ! (10 ∷ 0 ∷ []) $ fjoin ! $ move ! (10 ∷ 0 ∷ []) $ fjoin ! $ move ! (10 ∷ 0 ∷ []) $ fjoin ! $ move ! (10 ∷ 0 ∷ []) $ fjoin ! $ keep ! (1 ∷ 0 ∷ []) $ frame ! $ frame ! $ owned ! u32 (Is u32) (uint-makes 𝓤 H A W w32) r1 _ i1 $ done !)))))))))))))))))))))))))))))))
+        nothing ! $ move ! (2 ∷ 0 ∷ []) $ join ! $ move ! (3 ∷ 0 ∷ []) $ join ! $ move ! (3 ∷ 0 ∷ []) $ join ! $ nothing ! $ move ! (2 ∷ 0 ∷ []) $ fjoin ! $ move ! (2 ∷ 0 ∷ []) $ fjoin ! $ move ! (2 ∷ 0 ∷ []) $ fjoin ! $ move ! (2 ∷ 0 ∷ []) $ fjoin ! $ move ! (2 ∷ 0 ∷ []) $ fjoin ! $ move ! (2 ∷ 0 ∷ []) $ fjoin ! $ move ! (2 ∷ 0 ∷ []) $ fjoin ! $ keep ! (1 ∷ 0 ∷ []) $ frame ! $ frame ! $ owned ! u32 (Is u32) (uint-makes 𝓤 H A W w32) r1 _ i1 $ done !))))))))))))))))))))))))))))))))
 
 module _ {M : Type 1} (𝓤 : URA M) (H : Heap 𝓤) (A : Atoms 𝓤) (W : Given 𝓤 H A) (mem : Memory → SProp 𝓤) (run : Routine → Fun 𝓤) where
   walks : (C : Calls 𝓤 H) (Λ : Loops 𝓤 H) → FmC 𝓤 H (W .laws) C → Triple 𝓤 (C #g1) (Callee-g1 𝓤 H A mem run) → Walks 𝓤 H A f.ended stayed (WpFn 𝓤 H C Λ code.function) (f.clauses 𝓤 H A mem run)

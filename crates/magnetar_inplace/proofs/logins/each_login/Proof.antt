@@ -8,7 +8,8 @@ use Rattle.magnetar_field.specs.Words.{elements}
 use Rattle.magnetar_matrix.specs.Matrix.{share}
 use Rattle.magnetar_matrix.proofs.Blocks.{product-fits}
 use Rattle.magnetar_inplace.specs.Records.{entryOf}
-use Rattle.magnetar_inplace.specs.LoginSteps.{loginZ, addedBlocks}
+use Rattle.magnetar_relation.specs.Steps.{loginZ}
+use Rattle.magnetar_inplace.specs.LoginSteps.{addedBlocks}
 use Rattle.magnetar_inplace.proofs.LoginLaws.{blocks-none, blocks-one}
 use borrow.Author.Needs.{needs}
 use Rattle.magnetar_inplace.proofs.logins.each_login.Statement.{statement}

@@ -28,8 +28,8 @@ use Rattle.magnetar_inplace.proofs.records.add_product.Code as code
 use Rattle.magnetar_field.specs.Words.{elements}
 use Rattle.magnetar_matrix.specs.Matrix.{share}
 use Rattle.magnetar_inplace.specs.Records.{entryOf, entriesOfRecords}
-use Rattle.magnetar_inplace.specs.Steps.{addedTo, addedAll}
-use Rattle.magnetar_inplace.proofs.RecordLaws.{added-more, added-end}
+use Rattle.magnetar_relation.specs.Steps.{addedTo, addedAll}
+use Rattle.magnetar_relation.proofs.TableWords.{added-more, added-end}
 
 -- what is left to add, to what the output holds, is what was to be added at the start
 abbrev Inv : each.Arg → List Entry → List ℕ → Type 0

@@ -55,10 +55,10 @@ use Rattle.magnetar_r1cs.proofs.r1cs.Flag as mFlag
 use Rattle.magnetar_r1cs.proofs.r1cs.Flag.Laws as lFlag
 use Rattle.magnetar_transcript.proofs.Locals.{tidy, bare, kept, dies, alloc, hide, free-all}
 use Rattle.magnetar_transcript.proofs.Again.{LentAgain, lends-again, comes-back}
-use Rattle.magnetar_inplace.proofs.records.all_inside as g1
-use Rattle.magnetar_inplace.proofs.records.all_inside.Symbol as g1-def
-use Rattle.magnetar_inplace.proofs.records.all_inside.Symbol.{name as #g1}
-use Rattle.magnetar_inplace.proofs.records.all_inside.Met as g1-thm
+use Rattle.magnetar_inplace.proofs.records.lone_inside as g1
+use Rattle.magnetar_inplace.proofs.records.lone_inside.Symbol as g1-def
+use Rattle.magnetar_inplace.proofs.records.lone_inside.Symbol.{name as #g1}
+use Rattle.magnetar_inplace.proofs.records.lone_inside.Met as g1-thm
 use Rattle.magnetar_inplace.proofs.logins.packed_refusal as g2
 use Rattle.magnetar_inplace.proofs.logins.packed_refusal.Symbol as g2-def
 use Rattle.magnetar_inplace.proofs.logins.packed_refusal.Symbol.{name as #g2}
@@ -238,7 +238,7 @@ apply-simd-packed-spec 𝓤 H 𝓜 𝓖 𝓡 =
     entered 𝓤 H (tripleOf 𝓤 H (𝓖 .A) f.signature (f.spec 𝓤 H (𝓖 .A) (𝓜 .mem) (𝓡 .run)))
     (tables 𝓤 H 𝓜 𝓡 code.env .C) (tables 𝓤 H 𝓜 𝓡 code.env .Λ) #f code.function (code.unfolded 𝓤 H 𝓜 𝓡)
     (meets 𝓤 H (𝓖 .A) (givenOf 𝓤 H 𝓜 𝓖) (𝓜 .mem) (𝓡 .run) (tablesOf 𝓤 H 𝓜 (tables 𝓤 H 𝓜 𝓡 code.env))
-    (cited 𝓤 H (Callee-g1 𝓤 H (𝓖 .A) (𝓜 .mem) (𝓡 .run)) 𝓜 𝓡 code.env #g1 g1-def.routine code.calls-magnetar-inplace·records·all-inside (g1-thm.met 𝓤 H 𝓜 𝓖 𝓡))
+    (cited 𝓤 H (Callee-g1 𝓤 H (𝓖 .A) (𝓜 .mem) (𝓡 .run)) 𝓜 𝓡 code.env #g1 g1-def.routine code.calls-magnetar-inplace·records·lone-inside (g1-thm.met 𝓤 H 𝓜 𝓖 𝓡))
     (cited 𝓤 H (Callee-g2 𝓤 H (𝓖 .A) (𝓜 .mem) (𝓡 .run)) 𝓜 𝓡 code.env #g2 g2-def.routine code.calls-magnetar-inplace·logins·packed-refusal (g2-thm.met 𝓤 H 𝓜 𝓖 𝓡))
     (cited 𝓤 H (Callee-g3 𝓤 H (𝓖 .A) (𝓜 .mem) (𝓡 .run)) 𝓜 𝓡 code.env #g3 g3-def.routine code.calls-magnetar-inplace·steps·is-none (g3-thm.met 𝓤 H 𝓜 𝓖 𝓡))
     (cited 𝓤 H (Callee-g4 𝓤 H (𝓖 .A) (𝓜 .mem) (𝓡 .run)) 𝓜 𝓡 code.env #g4 g4-def.routine code.calls-magnetar-inplace·records·write-packed (g4-thm.met 𝓤 H 𝓜 𝓖 𝓡))

@@ -51,10 +51,10 @@ use Rattle.magnetar_inplace.proofs.records.Entry as mEntry
 use Rattle.magnetar_inplace.proofs.records.Entry.Laws as lEntry
 use Rattle.magnetar_transcript.proofs.Locals.{tidy, bare, kept, dies, alloc, hide, free-all}
 use Rattle.magnetar_transcript.proofs.Again.{LentAgain, lends-again, comes-back}
-use Rattle.magnetar_inplace.proofs.records.all_inside as g1
-use Rattle.magnetar_inplace.proofs.records.all_inside.Symbol as g1-def
-use Rattle.magnetar_inplace.proofs.records.all_inside.Symbol.{name as #g1}
-use Rattle.magnetar_inplace.proofs.records.all_inside.Met as g1-thm
+use Rattle.magnetar_inplace.proofs.records.lone_inside as g1
+use Rattle.magnetar_inplace.proofs.records.lone_inside.Symbol as g1-def
+use Rattle.magnetar_inplace.proofs.records.lone_inside.Symbol.{name as #g1}
+use Rattle.magnetar_inplace.proofs.records.lone_inside.Met as g1-thm
 use Rattle.magnetar_inplace.proofs.steps.table_refusal as g2
 use Rattle.magnetar_inplace.proofs.steps.table_refusal.Symbol as g2-def
 use Rattle.magnetar_inplace.proofs.steps.table_refusal.Symbol.{name as #g2}
@@ -67,14 +67,14 @@ use Rattle.magnetar_inplace.proofs.steps.eq_front as g4
 use Rattle.magnetar_inplace.proofs.steps.eq_front.Symbol as g4-def
 use Rattle.magnetar_inplace.proofs.steps.eq_front.Symbol.{name as #g4}
 use Rattle.magnetar_inplace.proofs.steps.eq_front.Met as g4-thm
-use Rattle.magnetar_inplace.proofs.steps.clear_front as g5
-use Rattle.magnetar_inplace.proofs.steps.clear_front.Symbol as g5-def
-use Rattle.magnetar_inplace.proofs.steps.clear_front.Symbol.{name as #g5}
-use Rattle.magnetar_inplace.proofs.steps.clear_front.Met as g5-thm
-use Rattle.magnetar_inplace.proofs.records.add_columns as g6
-use Rattle.magnetar_inplace.proofs.records.add_columns.Symbol as g6-def
-use Rattle.magnetar_inplace.proofs.records.add_columns.Symbol.{name as #g6}
-use Rattle.magnetar_inplace.proofs.records.add_columns.Met as g6-thm
+use Rattle.magnetar_relation.proofs.step.clear_front as g5
+use Rattle.magnetar_relation.proofs.step.clear_front.Symbol as g5-def
+use Rattle.magnetar_relation.proofs.step.clear_front.Symbol.{name as #g5}
+use Rattle.magnetar_relation.proofs.step.clear_front.Met as g5-thm
+use Rattle.magnetar_inplace.proofs.records.lone_columns as g6
+use Rattle.magnetar_inplace.proofs.records.lone_columns.Symbol as g6-def
+use Rattle.magnetar_inplace.proofs.records.lone_columns.Symbol.{name as #g6}
+use Rattle.magnetar_inplace.proofs.records.lone_columns.Met as g6-thm
 use Rattle.magnetar_inplace.proofs.records.eval_mle_table.Key.{name as #f}
 use Rattle.magnetar_inplace.proofs.records.eval_mle_table as f
 use Rattle.magnetar_inplace.proofs.records.eval_mle_table.Statement as stated
@@ -289,9 +289,9 @@ eval-mle-table-spec 𝓤 H 𝓜 𝓖 𝓡 =
     entered 𝓤 H (tripleOf 𝓤 H (𝓖 .A) f.signature (f.spec 𝓤 H (𝓖 .A) (𝓜 .mem) (𝓡 .run)))
     (tables 𝓤 H 𝓜 𝓡 code.env .C) (tables 𝓤 H 𝓜 𝓡 code.env .Λ) #f code.function (code.unfolded 𝓤 H 𝓜 𝓡)
     (meets 𝓤 H (𝓖 .A) (givenOf 𝓤 H 𝓜 𝓖) (𝓜 .mem) (𝓡 .run) (tablesOf 𝓤 H 𝓜 (tables 𝓤 H 𝓜 𝓡 code.env))
-    (cited 𝓤 H (Callee-g1 𝓤 H (𝓖 .A) (𝓜 .mem) (𝓡 .run)) 𝓜 𝓡 code.env #g1 g1-def.routine code.calls-magnetar-inplace·records·all-inside (g1-thm.met 𝓤 H 𝓜 𝓖 𝓡))
+    (cited 𝓤 H (Callee-g1 𝓤 H (𝓖 .A) (𝓜 .mem) (𝓡 .run)) 𝓜 𝓡 code.env #g1 g1-def.routine code.calls-magnetar-inplace·records·lone-inside (g1-thm.met 𝓤 H 𝓜 𝓖 𝓡))
     (cited 𝓤 H (Callee-g2 𝓤 H (𝓖 .A) (𝓜 .mem) (𝓡 .run)) 𝓜 𝓡 code.env #g2 g2-def.routine code.calls-magnetar-inplace·steps·table-refusal (g2-thm.met 𝓤 H 𝓜 𝓖 𝓡))
     (cited 𝓤 H (Callee-g3 𝓤 H (𝓖 .A) (𝓜 .mem) (𝓡 .run)) 𝓜 𝓡 code.env #g3 g3-def.routine code.calls-magnetar-inplace·steps·is-none (g3-thm.met 𝓤 H 𝓜 𝓖 𝓡))
     (cited 𝓤 H (Callee-g4 𝓤 H (𝓖 .A) (𝓜 .mem) (𝓡 .run)) 𝓜 𝓡 code.env #g4 g4-def.routine code.calls-magnetar-inplace·steps·eq-front (g4-thm.met 𝓤 H 𝓜 𝓖 𝓡))
-    (cited 𝓤 H (Callee-g5 𝓤 H (𝓖 .A) (𝓜 .mem) (𝓡 .run)) 𝓜 𝓡 code.env #g5 g5-def.routine code.calls-magnetar-inplace·steps·clear-front (g5-thm.met 𝓤 H 𝓜 𝓖 𝓡))
-    (cited 𝓤 H (Callee-g6 𝓤 H (𝓖 .A) (𝓜 .mem) (𝓡 .run)) 𝓜 𝓡 code.env #g6 g6-def.routine code.calls-magnetar-inplace·records·add-columns (g6-thm.met 𝓤 H 𝓜 𝓖 𝓡)))
+    (cited 𝓤 H (Callee-g5 𝓤 H (𝓖 .A) (𝓜 .mem) (𝓡 .run)) 𝓜 𝓡 code.env #g5 g5-def.routine code.calls-magnetar-relation·step·clear-front (g5-thm.met 𝓤 H 𝓜 𝓖 𝓡))
+    (cited 𝓤 H (Callee-g6 𝓤 H (𝓖 .A) (𝓜 .mem) (𝓡 .run)) 𝓜 𝓡 code.env #g6 g6-def.routine code.calls-magnetar-inplace·records·lone-columns (g6-thm.met 𝓤 H 𝓜 𝓖 𝓡)))

@@ -32,7 +32,7 @@ use Rattle.magnetar_field.proofs.Xor.{zero-⊕}
 use Rattle.magnetar_matrix.specs.Matrix.{sumOver}
 use Rattle.magnetar_inplace.specs.Records.{entryOf, entriesOfRecords}
 use Rattle.magnetar_inplace.specs.Steps.{pairShare}
-use Rattle.magnetar_inplace.proofs.RecordLaws.{summed-more, summed-end}
+use Rattle.magnetar_relation.proofs.TableWords.{summed-more, summed-end}
 
 -- the share of an entry
 abbrev pairs : each.Arg → matrix.Entry → ℕ

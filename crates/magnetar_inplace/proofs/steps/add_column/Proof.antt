@@ -2,7 +2,7 @@
 -- Assumes nothing.
 use mathlib.Core.Path.{refl}
 use Rattle.magnetar_matrix.specs.Matrix.{share}
-use Rattle.magnetar_inplace.specs.Steps.{front}
+use Rattle.magnetar_relation.specs.Steps.{front}
 use borrow.Author.Needs.{needs}
 use Rattle.magnetar_inplace.proofs.steps.add_column.Statement.{statement}
 use Rattle.magnetar_inplace.proofs.steps.add_column.Tie as tie

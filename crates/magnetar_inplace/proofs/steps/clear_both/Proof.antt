@@ -3,7 +3,7 @@
 use Prim.Native.Nat.{_+_}
 use native.Mathlib.Omega.{arith}
 use denote.Ref.{now}
-use Rattle.magnetar_inplace.proofs.StepLaws.{cleared-none}
+use Rattle.magnetar_relation.proofs.StepLaws.{cleared-none}
 use borrow.Author.Needs.{needs}
 use Rattle.magnetar_inplace.proofs.steps.clear_both.Statement.{statement}
 use Rattle.magnetar_inplace.proofs.steps.clear_both.Tie as tie

@@ -2,7 +2,7 @@
 -- Assumes nothing.
 use native.Mathlib.Omega.{arith}
 use denote.Ref.{now}
-use Rattle.magnetar_inplace.proofs.StepLaws.{built-behind, built-none}
+use Rattle.magnetar_relation.proofs.StepLaws.{built-behind, built-none}
 use borrow.Author.Needs.{needs}
 use Rattle.magnetar_inplace.proofs.steps.eq_behind.Statement.{statement}
 use Rattle.magnetar_inplace.proofs.steps.eq_behind.Tie as tie

@@ -1,4 +1,4 @@
--- `magnetar_inplace::logins::z_at` meets its contract.
+-- `magnetar_inplace::login::z_at` meets its contract.
 -- Assumes nothing.
 use mathlib.Core.Path.{_∙_}
 use native.Mathlib.Omega.{arith}
@@ -6,8 +6,8 @@ use denote.Ref.{now}
 use Rattle.magnetar_inplace.proofs.LoginLaws.{low-word, z-is-bit, z-is-one, z-is-public}
 use Rattle.magnetar_field.specs.Words.{elements}
 use borrow.Author.Needs.{needs}
-use Rattle.magnetar_inplace.proofs.logins.z_at.Statement.{statement}
-use Rattle.magnetar_inplace.proofs.logins.z_at.Tie as tie
+use Rattle.magnetar_inplace.proofs.login.z_at.Statement.{statement}
+use Rattle.magnetar_inplace.proofs.login.z_at.Tie as tie
 
 login-bit-requires : tie.Need-login-bit-requires
 login-bit-requires c κs = search needs

@@ -1,10 +1,10 @@
--- `magnetar_inplace::logins::login_start` meets its contract.
+-- `magnetar_inplace::login::login_start` meets its contract.
 -- Assumes nothing.
 use native.Mathlib.Omega.{arith}
 use Rattle.magnetar_inplace.proofs.LoginLaws.{start-fits, start-none, start-past, start-in}
 use borrow.Author.Needs.{needs}
-use Rattle.magnetar_inplace.proofs.logins.login_start.Statement.{statement}
-use Rattle.magnetar_inplace.proofs.logins.login_start.Tie as tie
+use Rattle.magnetar_inplace.proofs.login.login_start.Statement.{statement}
+use Rattle.magnetar_inplace.proofs.login.login_start.Tie as tie
 
 mul-a : tie.Need-mul-a
 mul-a c = let x = c .before .before .args in omega (arith, start-fits (x .u) (x .k) (omega arith) (omega arith))

@@ -1,4 +1,4 @@
--- `magnetar_inplace::records::all_inside` meets its contract, by the law for a loop over records (`EachNNbool.antt`).
+-- `magnetar_inplace::records::lone_inside` meets its contract, by the law for a loop over records (`EachNNbool.antt`).
 -- Assumes nothing.
 use mathlib.Core.Path.{_≡_, refl, sym, _∙_, ap, subst}
 use Prim.Native.Nat.{ℕ}
@@ -21,14 +21,14 @@ use Rattle.magnetar_inplace.proofs.steps.lies_in as g
 use Rattle.magnetar_inplace.proofs.steps.lies_in.Symbol as g-def
 use Rattle.magnetar_inplace.proofs.steps.lies_in.Symbol.{name as #g}
 use Rattle.magnetar_inplace.proofs.steps.lies_in.Met as g-thm
-use Rattle.magnetar_inplace.proofs.records.all_inside.Key.{name as #f}
-use Rattle.magnetar_inplace.proofs.records.all_inside as f
-use Rattle.magnetar_inplace.proofs.records.all_inside.Statement as stated
-use Rattle.magnetar_inplace.proofs.records.all_inside.Code as code
+use Rattle.magnetar_inplace.proofs.records.lone_inside.Key.{name as #f}
+use Rattle.magnetar_inplace.proofs.records.lone_inside as f
+use Rattle.magnetar_inplace.proofs.records.lone_inside.Statement as stated
+use Rattle.magnetar_inplace.proofs.records.lone_inside.Code as code
 use mathlib.Core.Bool.{_&&_}
 use Rattle.magnetar_layout.specs.Every.{every}
 use Rattle.magnetar_inplace.specs.Records.{entryOf, entriesOfRecords}
-use Rattle.magnetar_inplace.specs.Steps.{liesIn}
+use Rattle.magnetar_relation.specs.Rules.{liesIn}
 use Rattle.magnetar_inplace.proofs.RecordLaws.{carried, carried-end}
 
 -- the flag, and what is left to test, are what was to be tested at the start
@@ -44,9 +44,9 @@ holds 𝓤 H A mem run = record {
   ends = λ κs a t r inv. factI 𝓤 _ _ (carried-end (liesIn (a .1 .0) (a .1 .1 .0)) _ r inv);
 }
 
-pub all-inside-spec : {M : Type 1} → stated.statement M
+pub lone-inside-spec : {M : Type 1} → stated.statement M
 unfolding code.routine tablesOf
-all-inside-spec 𝓤 H 𝓜 𝓖 𝓡 =
+lone-inside-spec 𝓤 H 𝓜 𝓖 𝓡 =
     entered 𝓤 H (tripleOf 𝓤 H (𝓖 .A) f.signature (f.spec 𝓤 H (𝓖 .A) (𝓜 .mem) (𝓡 .run)))
     (tables 𝓤 H 𝓜 𝓡 code.env .C) (tables 𝓤 H 𝓜 𝓡 code.env .Λ) #f code.function (code.unfolded 𝓤 H 𝓜 𝓡)
     (each.each-meets 𝓤 H (𝓖 .A) (givenOf 𝓤 H 𝓜 𝓖) #g (f.clauses 𝓤 H (𝓖 .A) (𝓜 .mem) (𝓡 .run)) (g.clauses 𝓤 H (𝓖 .A) (𝓜 .mem) (𝓡 .run)) Inv (holds 𝓤 H (𝓖 .A) (𝓜 .mem) (𝓡 .run)) (tablesOf 𝓤 H 𝓜 (tables 𝓤 H 𝓜 𝓡 code.env))

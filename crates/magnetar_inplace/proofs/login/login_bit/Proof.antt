@@ -1,4 +1,4 @@
--- `magnetar_inplace::logins::login_bit` meets its contract.
+-- `magnetar_inplace::login::login_bit` meets its contract.
 -- Assumes nothing.
 use mathlib.Core.Path.{ap, _∙_}
 use mathlib.Core.List.{List}
@@ -7,8 +7,8 @@ use denote.Ref.{now}
 use Rattle.magnetar_matrix.specs.Packed.{packedBit}
 use Rattle.magnetar_inplace.proofs.LoginLaws.{part-cut}
 use borrow.Author.Needs.{needs}
-use Rattle.magnetar_inplace.proofs.logins.login_bit.Statement.{statement}
-use Rattle.magnetar_inplace.proofs.logins.login_bit.Tie as tie
+use Rattle.magnetar_inplace.proofs.login.login_bit.Statement.{statement}
+use Rattle.magnetar_inplace.proofs.login.login_bit.Tie as tie
 
 login-words-requires : tie.Need-login-words-requires
 login-words-requires c κs = search needs

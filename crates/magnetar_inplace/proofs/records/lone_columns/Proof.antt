@@ -1,4 +1,4 @@
--- `magnetar_inplace::records::add_columns` meets its contract, by the law for a loop over records (`EachNNMM.antt`).
+-- `magnetar_inplace::records::lone_columns` meets its contract, by the law for a loop over records (`EachNNMM.antt`).
 -- Assumes nothing.
 use mathlib.Core.Path.{_≡_, refl, sym, _∙_, ap, subst}
 use Prim.Native.Nat.{ℕ}
@@ -21,18 +21,18 @@ use Rattle.magnetar_inplace.proofs.steps.add_column as g
 use Rattle.magnetar_inplace.proofs.steps.add_column.Symbol as g-def
 use Rattle.magnetar_inplace.proofs.steps.add_column.Symbol.{name as #g}
 use Rattle.magnetar_inplace.proofs.steps.add_column.Met as g-thm
-use Rattle.magnetar_inplace.proofs.records.add_columns.Key.{name as #f}
-use Rattle.magnetar_inplace.proofs.records.add_columns as f
-use Rattle.magnetar_inplace.proofs.records.add_columns.Statement as stated
-use Rattle.magnetar_inplace.proofs.records.add_columns.Code as code
+use Rattle.magnetar_inplace.proofs.records.lone_columns.Key.{name as #f}
+use Rattle.magnetar_inplace.proofs.records.lone_columns as f
+use Rattle.magnetar_inplace.proofs.records.lone_columns.Statement as stated
+use Rattle.magnetar_inplace.proofs.records.lone_columns.Code as code
 use mathlib.Core.List.{map}
 use Prim.Native.Nat.{_*_}
 use lib.ListN.{take}
 use Rattle.magnetar_field.specs.Words.{elements}
 use Rattle.magnetar_matrix.specs.Matrix.{share, swapped}
 use Rattle.magnetar_inplace.specs.Records.{entryOf, entriesOfRecords}
-use Rattle.magnetar_inplace.specs.Steps.{addedTo, addedAll}
-use Rattle.magnetar_inplace.proofs.RecordLaws.{added-more, added-end}
+use Rattle.magnetar_relation.specs.Steps.{addedTo, addedAll}
+use Rattle.magnetar_relation.proofs.TableWords.{added-more, added-end}
 
 -- the factors
 abbrev factors : each.Arg → List ℕ
@@ -55,9 +55,9 @@ holds 𝓤 H A mem run = record {
   ends = λ κs a t zs ws l₁ l₂ inv. factI 𝓤 _ _ (inv .0, added-end (a .1 .0) (share (factors a)) ws ∙ inv .1);
 }
 
-pub add-columns-spec : {M : Type 1} → stated.statement M
+pub lone-columns-spec : {M : Type 1} → stated.statement M
 unfolding code.routine tablesOf
-add-columns-spec 𝓤 H 𝓜 𝓖 𝓡 =
+lone-columns-spec 𝓤 H 𝓜 𝓖 𝓡 =
     entered 𝓤 H (tripleOf 𝓤 H (𝓖 .A) f.signature (f.spec 𝓤 H (𝓖 .A) (𝓜 .mem) (𝓡 .run)))
     (tables 𝓤 H 𝓜 𝓡 code.env .C) (tables 𝓤 H 𝓜 𝓡 code.env .Λ) #f code.function (code.unfolded 𝓤 H 𝓜 𝓡)
     (each.each-meets 𝓤 H (𝓖 .A) (givenOf 𝓤 H 𝓜 𝓖) #g (f.clauses 𝓤 H (𝓖 .A) (𝓜 .mem) (𝓡 .run)) (g.clauses 𝓤 H (𝓖 .A) (𝓜 .mem) (𝓡 .run)) Inv (holds 𝓤 H (𝓖 .A) (𝓜 .mem) (𝓡 .run)) (tablesOf 𝓤 H 𝓜 (tables 𝓤 H 𝓜 𝓡 code.env))
