@@ -42,10 +42,10 @@ def number(answer):
 
 def found(answers):
     """The number that `checks` found, and how many lines it wrote: a number in the first line ends it, one in the second leaves out the claims."""
-    told = [int(answer.split()[1]) for answer in answers[:2]]
-    if told[0]:
-        return told[0], 1
-    return told[1], 3 if told[1] else 4
+    told = lambda i: int(answers[i].split()[1])
+    if told(0):
+        return told(0), 1
+    return told(1), 3 if told(1) else 4
 
 
 def relations():
