@@ -1,4 +1,4 @@
--- `magnetar_rounds::outer::row_fld` meets its contract.
+-- `magnetar_rounds::outer::row` meets its contract.
 -- Assumes nothing.
 use Prim.Native.Nat.{_*_, _≤_}
 use Rattle.magnetar_field.proofs.Elements.{elements-length}
@@ -9,13 +9,14 @@ use Rattle.magnetar_rounds.proofs.Sent.{sent-more, sent-there}
 use Rattle.magnetar_rounds.proofs.Slots.{part-size}
 use Rattle.magnetar_rounds.specs.Entries.{tableAt}
 use Rattle.magnetar_round.specs.Outer.{dropVar, outerMessage}
+use Rattle.magnetar_schedule.specs.Labels.{rowLabel}
 use borrow.Author.Needs.{needs}
 use denote.Ref.{now}
 use lib.ListN.{length}
 use mathlib.Core.Path.{_∙_, refl}
 use native.Mathlib.Omega.{arith}
-use Rattle.magnetar_rounds.proofs.outer.row_fld.Statement.{statement}
-use Rattle.magnetar_rounds.proofs.outer.row_fld.Tie as tie
+use Rattle.magnetar_rounds.proofs.outer.row.Statement.{statement}
+use Rattle.magnetar_rounds.proofs.outer.row.Tie as tie
 
 get-requires : tie.Need-get-requires
 get-requires c κs = search needs
@@ -41,20 +42,20 @@ part-message-end c = search needs
 message-requires : tie.Need-message-requires
 message-requires c κs = let x = c .before .before .before .before .before .before .before .args in let p = c .before .before .before .before .before .before .before .pre in ((p .0 .0, p .0 .1, p .0 .2, part-size (now (x .proof)) (2 * x .p) 8 (p .0 .4)), p .1 .table)
 
-mul-fld-round : tie.Need-mul-fld-round
-mul-fld-round c = search needs
+mul-row-round : tie.Need-mul-row-round
+mul-row-round c = search needs
 
-sub-fld-round : tie.Need-sub-fld-round
-sub-fld-round c = search needs
+sub-row-round : tie.Need-sub-row-round
+sub-row-round c = search needs
 
-part-fld-round-start : tie.Need-part-fld-round-start
-part-fld-round-start c = search needs
+part-row-round-start : tie.Need-part-row-round-start
+part-row-round-start c = search needs
 
-part-fld-round-end : tie.Need-part-fld-round-end
-part-fld-round-end c = search needs
+part-row-round-end : tie.Need-part-row-round-end
+part-row-round-end c = search needs
 
-fld-round-requires : tie.Need-fld-round-requires
-fld-round-requires c κs = search needs
+row-round-requires : tie.Need-row-round-requires
+row-round-requires c κs = search needs
 
 end-round-requires : tie.Need-end-round-requires
 end-round-requires c κs = let p = c .before .before .before .before .before .before .before .before .before .before .before .before .before .before .before .before .before .pre in ((c .before .before .before .before .before .before .before .before .before .message .kept .1 .0 ∙ p .0 .0, p .0 .1, p .0 .2, p .0 .5), p .1 .table)
@@ -76,13 +77,13 @@ returns c = let x = c .before .before .before .before .before .before .before .b
     let h = c .before .before .before .before .end-round .ensures in
     let there = sent-there (now (x .proof)) (c .before .before .before .before .before .before .before .before .before .before .before .before .before .before .message .last .0) m (2 * x .p) 8 (x .p) 4 refl refl (p .0 .4) (outer-four 0 _ _ _ _ _ _) (g .0) in
     let l : x .d ≤ length (elements (now (x .draws))) = rw elements-length (omega (arith, p .0 .5)) in
-    row-done "vs-out-rowfld-" (x .i) (x .p) (x .d) (x .o) (value (x .k)) (value (c .before .before .before .before .end-round .result)) (value (c .before .before .before .before .before .before .before .before .before .before .before .before .before .before .before .before .before .get .result)) (x .w) (x .n) (x .t) (c .before .before .before .before .before .before .before .fld-round .result) (now (x .proof)) _ (now (x .draws)) (c .before .before .before .before .end-round .last .1 .1 .1 .1 .1 .1 .0) (now (x .s)) (c .before .before .before .before .before .before .before .before .before .before .before .before .before .before .message .last .1 .0) (c .before .before .before .before .end-round .last .1 .1 .1 .1 .1 .1 .1 .0)
-    (p .1) (p .0 .2) l (c .before .before .before .before .before .before .before .before .before .before .before .before .before .before .before .before .before .get .ensures) (c .before .before .before .before .before .before .before .fld-round .ensures ∙ rw there)
+    row-done (rowLabel (x .bin)) (x .i) (x .p) (x .d) (x .o) (value (x .k)) (value (c .before .before .before .before .end-round .result)) (value (c .before .before .before .before .before .before .before .before .before .before .before .before .before .before .before .before .before .get .result)) (x .w) (x .n) (x .t) (c .before .before .before .before .before .before .before .row-round .result) (now (x .proof)) _ (now (x .draws)) (c .before .before .before .before .end-round .last .1 .1 .1 .1 .1 .1 .0) (now (x .s)) (c .before .before .before .before .before .before .before .before .before .before .before .before .before .before .message .last .1 .0) (c .before .before .before .before .end-round .last .1 .1 .1 .1 .1 .1 .1 .0)
+    (p .1) (p .0 .2) l (c .before .before .before .before .before .before .before .before .before .before .before .before .before .before .before .before .before .get .ensures) (c .before .before .before .before .before .before .before .row-round .ensures ∙ rw there)
     (sent-more (now (x .proof)) (c .before .before .before .before .before .before .before .before .before .before .before .before .before .before .message .last .0) m (2 * x .p) 8 (x .p) 4 refl refl (p .0 .4) (outer-four 0 _ _ _ _ _ _) (g .0))
     (h .1 .0) (h .0) (g .1 .0) (g .1 .1) (h .1 .1 .1 .1 .1) (h .1 .1 .0) (h .1 .1 .1 .0) (h .1 .1 .1 .1 .0)
 
-pub row-fld-spec : {M : Type 1} → statement M
-row-fld-spec =
+pub row-spec : {M : Type 1} → statement M
+row-spec =
     tie.close
     (tie.spec
     get-requires
@@ -93,11 +94,11 @@ row-fld-spec =
     part-message-start
     part-message-end
     message-requires
-    mul-fld-round
-    sub-fld-round
-    part-fld-round-start
-    part-fld-round-end
-    fld-round-requires
+    mul-row-round
+    sub-row-round
+    part-row-round-start
+    part-row-round-end
+    row-round-requires
     end-round-requires
     same-length
     same-length-2
