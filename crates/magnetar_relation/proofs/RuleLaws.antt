@@ -17,7 +17,7 @@ use Rattle.magnetar_matrix.specs.Lent.{entriesOf}
 use Rattle.magnetar_relation.specs.declared.shapes.SystemShape.{SystemShape}
 use Rattle.magnetar_relation.specs.declared.shapes.Shapes.{Shapes}
 use Rattle.magnetar_relation.specs.Rules.{rules, rulesOver, relationOf, inRelation, entriesIn, systemAt, inSystem}
-use Rattle.magnetar_relation.specs.RuleTests.{mostTests, numberTests, shapeTests, total, ruleTestsBy, ruleTests}
+use Rattle.magnetar_relation.specs.RuleTests.{mostTests, numberTests, shapeTests, total, ruleTestsBy, ruleTests, given}
 use Rattle.magnetar_relation.specs.Told.{liesAt, everyFrom}
 use Rattle.magnetar_relation.proofs.ToldLaws.{told-six}
 
@@ -178,3 +178,19 @@ pub rules-told-over : (m q : ℕ) (ns : List ℕ) (s : Shapes) (es : List Entry)
     → z ≡ noted 0 (ruleTestsBy m q s (length es ∷ length es ∷ length es ∷ length es ∷ []) b) → z ≡ noted 0 (ruleTests (rulesOver m q ns s es))
 unfolding inRelation
 rules-told-over m q ns s es b z e f = f ∙ told m q s (length es) (length es) (length es) (length es) es (λ i j k n. i) b e
+
+-- the segment lengths do not matter
+pub lengths-free : (m q : ℕ) (ns : List ℕ) (s : Shapes) (row col lo hi : List ℕ) → ruleTests (rules m q [] s row col lo hi) ≡ ruleTests (rules m q ns s row col lo hi)
+unfolding inRelation
+lengths-free m q ns s row col lo hi = refl
+
+-- ---- a group of tests by the number that it gave
+pub given-is : (l : Tests) (z a : ℕ) → z ≡ noted 0 l → noted a (given z) ≡ noted a l
+unfolding note
+given-is l z zero e = e
+given-is l z (suc a) e = let h : suc a ≡ 0 → ⊥ = λ i. omega (arith, i) in note-kept z true (suc a) h ∙ sym (noted-kept (suc a) l h)
+
+pub given-group : (f l k : Tests) (z : ℕ) → z ≡ noted 0 l → noted 0 (f ++ (given z ++ k)) ≡ noted 0 (f ++ (l ++ k))
+given-group f l k z e =
+    noted-append 0 f (given z ++ k) ∙ (noted-append (noted 0 f) (given z) k ∙ (ap (λ (a : ℕ). noted a k) (given-is l z (noted 0 f) e)
+    ∙ (sym (noted-append (noted 0 f) l k) ∙ sym (noted-append 0 f (l ++ k)))))

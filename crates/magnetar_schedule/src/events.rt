@@ -5,6 +5,7 @@ ghost use Prim.Native.Nat.{_*_, _/_, _≤_};
 ghost use lib.ListN.{length, drop};
 ghost use Rattle.magnetar_hash.specs.Bytes.{wordBytes, ascii};
 ghost use Rattle.magnetar_hash.specs.Transcript.{absorbed, drawn, drawnTimes, drawnWords};
+ghost use Rattle.magnetar_schedule.specs.Labels.{rowLabel};
 ghost use Rattle.magnetar_protocol.specs.Schedule.{decimal, numbered};
 use magnetar_hash::transcript;
 use magnetar_hash::transcript::Transcript;
@@ -85,17 +86,13 @@ pub fn shared_round(t: Transcript, i: usize, words: &[u64]) -> Transcript
     round(t, b"vs-out-shared-", i, words)
 }
 
-// Row round i of bin.
-pub fn bin_round(t: Transcript, i: usize, words: &[u64]) -> Transcript
-    ensures { λ r. ⌜ r ≡ drawn (absorbed t (numbered "vs-out-rowbin-" i) (wordBytes (now (words .entry)))) (numbered "vs-out-rowbin-" i) ⌝ }
+// Row round i, of bin or of fld.
+pub fn row_round(t: Transcript, bin: bool, i: usize, words: &[u64]) -> Transcript
+    ensures { λ r. ⌜ r ≡ drawn (absorbed t (numbered (rowLabel bin) i) (wordBytes (now (words .entry)))) (numbered (rowLabel bin) i) ⌝ }
 {
-    round(t, b"vs-out-rowbin-", i, words)
-}
-
-// Row round i of fld.
-pub fn fld_round(t: Transcript, i: usize, words: &[u64]) -> Transcript
-    ensures { λ r. ⌜ r ≡ drawn (absorbed t (numbered "vs-out-rowfld-" i) (wordBytes (now (words .entry)))) (numbered "vs-out-rowfld-" i) ⌝ }
-{
+    if bin {
+        return round(t, b"vs-out-rowbin-", i, words);
+    }
     round(t, b"vs-out-rowfld-", i, words)
 }
 
