@@ -5,6 +5,7 @@ use crate::text::print;
 use crate::text::{self};
 use crate::told;
 use magnetar_batch::combo;
+use magnetar_batch::table;
 use magnetar_checks::claims;
 use magnetar_checks::end;
 use magnetar_checks::outer;
@@ -28,19 +29,19 @@ fn first(nums: &[u64], sizes: &[usize]) -> Found {
 }
 
 // The combined table, which the last checks read.
-fn combined(nums: &[u64], given: &[u64], sizes: &[usize], scratch: &mut [u64]) -> u32 {
-    combo::combine_in(
+fn combine(nums: &[u64], given: &[u64], sizes: &[usize], scratch: &mut [u64]) {
+    combo::combine(
         scratch,
         told::m(sizes),
         told::shapes(sizes),
+        table::alphas12(text::after(nums, 2, 2)),
+        table::point32(text::after(nums, 2, 3)),
+        table::point32(text::after(nums, 2, 4)),
         told::row(sizes),
         told::col(sizes),
         told::lo(given),
         told::hi(given),
-        text::after(nums, 2, 2),
-        text::after(nums, 2, 3),
-        text::after(nums, 2, 4),
-    )
+    );
 }
 
 fn last(nums: &[u64], given: &[u64], sizes: &[usize], scratch: &mut [u64]) -> Found {
@@ -81,11 +82,7 @@ fn print_found(f: Found) {
 
 // The checks of the end and the claims.
 fn ended(nums: &[u64], given: &[u64], sizes: &[usize], claims: &mut [u64], scratch: &mut [u64]) {
-    let z = combined(nums, given, sizes, scratch);
-    if z != 0 {
-        print(b"? the combined table is refused\n");
-        return;
-    }
+    combine(nums, given, sizes, scratch);
     let f = last(nums, given, sizes, scratch);
     print_found(f);
     if f.code == 0 {
