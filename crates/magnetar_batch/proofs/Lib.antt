@@ -2,8 +2,10 @@ pub mod Rooms
 pub mod SetBits
 pub mod Selected
 pub mod Folds
+pub mod Groups
+pub mod TableWalk
 pub mod ColumnLaws
-pub mod SystemLaws
-pub mod Combos
-pub mod RowLaws
-pub mod CheckLaws
+pub mod ComboEnds
+pub mod RowWalk
+pub mod SystemWalk
+pub mod CheckEnds

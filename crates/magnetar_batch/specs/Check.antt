@@ -8,9 +8,9 @@ use Rattle.magnetar_field.specs.Words.{elements}
 use Rattle.magnetar_matrix.specs.Packed.{unpacked}
 use Rattle.magnetar_matrix.specs.RowCheck.{Verdict, rowVerdict}
 use Rattle.magnetar_matrix.specs.RowCheck.Verdict.{good, bin, fld}
-use Rattle.magnetar_layout.specs.Tests.{Tests, noted, sizeTests, packedTests, publicTests, roomTestOf}
+use Rattle.magnetar_layout.specs.Tests.{Tests, noted, sizeTests, packedTests, packedTestsOf, publicTests, publicTestsOf, roomTestOf}
 use Rattle.magnetar_relation.specs.Rules.{Rules, relationOf}
-use Rattle.magnetar_relation.specs.RuleTests.{ruleTests}
+use Rattle.magnetar_relation.specs.RuleTests.{ruleTests, given}
 use Rattle.magnetar_batch.specs.declared.check.RowCheck.{RowCheck}
 use Rattle.magnetar_batch.specs.declared.check.RowCheck.the-variants as found
 
@@ -29,6 +29,11 @@ outcome (found.Refused n) = refused n
 -- 15: fewer words of scratch than three products of the larger of n and k rows have
 abbrev pub checkRoomTests : (n k room : ℕ) → Tests
 checkRoomTests n k room = roomTestOf (6 * max n k) room
+
+-- the refusals by numbers: z is the one that 4 to 7 gave, n and k are the rows, p, x and room how many words there are
+abbrev pub checkTestsBy : (z m q n k p x room : ℕ) → Tests
+checkTestsBy z m q n k p x room =
+    sizeTests m q ++ (packedTestsOf (m / 2) q p ++ (publicTestsOf m x ++ (given z ++ checkRoomTests n k room)))
 
 -- the words of three products of the larger row count
 abbrev pub checkRoom : Rules → ℕ

@@ -8,9 +8,9 @@ use Rattle.magnetar_field.specs.Sizes.{log₂}
 use Rattle.magnetar_field.specs.Words.{elements, words}
 use Rattle.magnetar_matrix.specs.Batch.{folded}
 use Rattle.magnetar_matrix.specs.Packed.{unpacked}
-use Rattle.magnetar_layout.specs.Tests.{noted, columnTests, sizeTests, packedTests, lengthTest, roomTest}
+use Rattle.magnetar_layout.specs.Tests.{Tests, noted, columnTests, sizeTests, packedTests, lengthTest, roomTest}
 use Rattle.magnetar_relation.specs.Rules.{Rules, relationOf}
-use Rattle.magnetar_relation.specs.RuleTests.{ruleTests}
+use Rattle.magnetar_relation.specs.RuleTests.{ruleTests, given}
 use Rattle.magnetar_batch.specs.Systems.{combinedTable, pointTests, tableRoom, tableRoomTests}
 
 -- ---- `fold_packed_w`: the packed words ws of q logins with w columns, the point p, the output out, the scratch
@@ -42,11 +42,19 @@ foldInOut ws q w p slice =
     (words (folded q w (unpacked q w ws) (elements p)) ++ (replicate (2 * q) 0 ++ drop (2 * w + 2 * q) slice)) slice
 
 -- ---- `build_m_combo`: the rules R as they are lent for one login, the alphas al, the row points p and r, the output out, the scratch
--- 1, 4 to 7; 11: the alphas and the points; 15: the scratch or the output
+-- 11: the alphas and the points for n and k rows; 15: the scratch or the output; by how many words there are
+abbrev pub comboRest : (m n k al p r out scratch : ℕ) → Tests
+comboRest m n k al p r out scratch = pointTests n k al p r ++ tableRoomTests m n k scratch out
+
+-- 1, 4 to 7, then these
 unfoldable pub comboRefusal : Rules → (al p r : List ℕ) → (out scratch : ℕ) → ℕ
 comboRefusal R al p r out scratch =
-    noted 0 (columnTests (R .m) ++ (ruleTests R ++ (pointTests (R .shapes .bin .a .rows) (R .shapes .fld .a .rows) (length al) (length p) (length r)
-    ++ tableRoomTests (R .m) (R .shapes .bin .a .rows) (R .shapes .fld .a .rows) scratch out)))
+    noted 0 (columnTests (R .m) ++ (ruleTests R
+    ++ comboRest (R .m) (R .shapes .bin .a .rows) (R .shapes .fld .a .rows) (length al) (length p) (length r) out scratch))
+
+-- the same by numbers, z being the one that 4 to 7 gave
+abbrev pub comboTestsBy : (z m n k al p r out scratch : ℕ) → Tests
+comboTestsBy z m n k al p r out scratch = columnTests m ++ (given z ++ comboRest m n k al p r out scratch)
 
 -- the words of the combined table
 unfoldable pub comboWords : Rules → (al p r : List ℕ) → List ℕ

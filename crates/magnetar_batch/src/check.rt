@@ -1,31 +1,31 @@
-// The plain row check: the rows of both systems, login after login.
-use crate::combo;
-use magnetar_field::gf128;
+// The plain row check: the rows of both systems, login after login. The steps are total, and those over records call them too.
 use magnetar_field::gf128::Gf128;
 use magnetar_field::sizes;
-use magnetar_field::words;
 use magnetar_layout::tests;
 use magnetar_matrix::rows;
-use magnetar_matrix::step;
+use magnetar_matrix::step as element;
 use magnetar_r1cs::r1cs;
+use magnetar_relation::login;
+use magnetar_relation::range;
+use magnetar_relation::rules;
+use magnetar_relation::shapes::Shapes;
+use magnetar_relation::shapes::SystemShape;
+use magnetar_relation::step;
 ghost use mathlib.Core.Path.{_≡_};
-ghost use mathlib.Core.Bool.{cond};
-ghost use mathlib.Core.List.{_++_};
-ghost use Prim.Native.Nat.{_+_, _*_, _/_, _≤_, _<_};
-ghost use lib.Dec.{ltb};
-ghost use lib.ListN.{length, getD};
-ghost use Rattle.magnetar_field.specs.Gf128.{value, _⊗_};
-ghost use Rattle.magnetar_field.specs.Words.{elements, words};
-ghost use Rattle.magnetar_field.specs.Tabulate.{tabulate};
-ghost use Rattle.magnetar_matrix.specs.Matrix.{rowTotal, share};
-ghost use Rattle.magnetar_matrix.specs.Lent.{lent, entriesOf};
-ghost use Rattle.magnetar_matrix.specs.Table.{raised, Equal};
-ghost use Rattle.magnetar_matrix.specs.Packed.{loginWords, unpacked, zOf};
-ghost use Rattle.magnetar_matrix.specs.RowCheck.{rowVerdict};
+ghost use mathlib.Core.List.{[]};
+ghost use Prim.Native.Nat.{_*_, _/_, max};
+ghost use lib.Dec.{eqb};
+ghost use lib.ListN.{take, drop};
+ghost use Rattle.magnetar_field.specs.Gf128.{value};
+ghost use Rattle.magnetar_field.specs.Words.{elements};
 ghost use Rattle.magnetar_layout.specs.Tests.{noted};
-ghost use Rattle.magnetar_batch.specs.Systems.{system};
-ghost use Rattle.magnetar_batch.specs.Check.{judged, outcome, relation, batchSizes, checkAnswer, checkScratch};
-ghost use Rattle.magnetar_batch.specs.Rows.{rowOf, loginRow, loginOf};
+ghost use Rattle.magnetar_matrix.specs.Lent.{entry, entriesOf};
+ghost use Rattle.magnetar_matrix.specs.Packed.{zOf};
+ghost use Rattle.magnetar_relation.specs.Rules.{rules, relationOf, systemAt};
+ghost use Rattle.magnetar_relation.specs.Steps.{clearedTo, addedTo, behind, loginZ};
+ghost use Rattle.magnetar_relation.specs.Told.{walked};
+ghost use Rattle.magnetar_batch.specs.Check.{outcome, checked, checkTestsBy, checkOutcome};
+ghost use Rattle.magnetar_batch.specs.CheckSteps.{shareAdded, twiceOf, threeIn, rowIn, nothing, failingIn, from, loginDone, systemDone, bothDone, bothWords, answerOf};
 
 // Good, the login and row of the first failing row of a system, or the number of a refusal.
 pub enum RowCheck {
@@ -35,379 +35,332 @@ pub enum RowCheck {
     Refused(u32),
 }
 
-// v times z at column c, z being the login's bits below w, then 1 and x. A product only with an element of x.
-fn term(v: Gf128, c: usize, w: usize, login: &[u64], x: &[u64]) -> Gf128
-    ensures { λ r. ⌜ value r ≡ value v ⊗ getD (zOf w (now (login .entry)) (elements (now (x .entry)))) c 0 ⌝ }
-{
-    if c < w {
-        return gf128::mul_bit(
-            v,
-            Gf128 {
-                lo: step::bit_at(login, c),
-                hi: 0,
-            },
-        );
-    }
-    if c == w {
-        return v;
-    }
-    let k = c - w - 1;
-    step::scale(v, words::get(x, k))
+// The first failing row: 1 for bin, 2 for fld, 0 for none; the login and the row.
+pub struct Failing {
+    pub system: usize,
+    pub login: usize,
+    pub row: usize,
 }
 
-// Adds the product of the entries with z.
-fn add_terms(
-    out: &mut [u64],
+// Twice n, which is at most 65536.
+pub fn twice(n: usize) -> usize
+    ensures { λ r. ⌜ r ≡ twiceOf n ⌝ }
+{
+    2 * sizes::least(n, 65536)
+}
+
+// Half of m.
+pub fn half(m: usize) -> usize
+    ensures { λ r. ⌜ r ≡ m / 2 ⌝ }
+{
+    m / 2
+}
+
+// Adds v at row i of the n elements behind the first m.
+fn add_behind(s: &mut [u64], m: usize, n: usize, i: usize, v: Gf128)
+    ensures { λ _. ⌜ now (s .exit) ≡ behind m (addedTo n i (value v)) (now (s .entry)) ⌝ }
+{
+    if m <= s.len() / 2 {
+        let a = 2 * m;
+        step::add_to(n, i, v, &mut s[a..]);
+    }
+}
+
+// Adds an entry's share of the product with the z of the login whose words these are, at its row, to the n elements behind the first m.
+fn add_share_of(
+    s: &mut [u64],
+    m: usize,
+    n: usize,
+    w: usize,
+    bits: &[u64],
+    x: &[u64],
+    row: usize,
+    col: usize,
+    lo: u64,
+    hi: u64,
+)
+    ensures { λ _. ⌜ now (s .exit) ≡ shareAdded m n (zOf w (now (bits .entry)) (elements (now (x .entry)))) (entry row col lo hi) (now (s .entry)) ⌝ }
+{
+    let v = Gf128 { lo: lo, hi: hi };
+    let f = login::z_of(bits, x, w, col);
+    add_behind(s, m, n, row, element::scale(f, v));
+}
+
+// The same of login u.
+pub fn add_share(
+    s: &mut [u64],
+    m: usize,
+    n: usize,
+    u: usize,
+    w: usize,
+    packed: &[u64],
+    x: &[u64],
+    row: usize,
+    col: usize,
+    lo: u64,
+    hi: u64,
+)
+    ensures { λ _. ⌜ now (s .exit) ≡ shareAdded m n (loginZ w (now (packed .entry)) (elements (now (x .entry))) u) (entry row col lo hi) (now (s .entry)) ⌝ }
+{
+    let v = Gf128 { lo: lo, hi: hi };
+    let f = login::z_at(packed, x, w, u, col);
+    add_behind(s, m, n, row, element::scale(f, v));
+}
+
+// Clears n elements behind the first m, where there are as many.
+pub fn clear_behind(s: &mut [u64], m: usize, n: usize)
+    ensures { λ _. ⌜ now (s .exit) ≡ behind m (clearedTo n) (now (s .entry)) ⌝ }
+{
+    if m <= s.len() / 2 {
+        let a = 2 * m;
+        step::clear_front(n, &mut s[a..]);
+    }
+}
+
+// Clears three products of the larger row count, where there are as many.
+pub fn clear_room(s: &mut [u64], nb: usize, nf: usize)
+    ensures { λ _. ⌜ now (s .exit) ≡ clearedTo (3 * max nb nf) (now (s .entry)) ⌝ }
+{
+    let k = sizes::larger(nb, nf);
+    if k <= s.len() / 6 {
+        step::clear_front(3 * k, s);
+    }
+}
+
+// The first row of n that does not hold, by the three products in front of s, or n.
+fn first_row(s: &[u64], n: usize) -> usize
+    ensures { λ r. ⌜ r ≡ rowIn n (now (s .entry)) ⌝ }
+{
+    if n > s.len() / 6 {
+        return n;
+    }
+    let end = 6 * n;
+    rows::first_failing(&s[0..end], n)
+}
+
+// Nothing was found.
+pub fn none() -> Failing
+    ensures { λ r. ⌜ r ≡ nothing ⌝ }
+{
+    Failing {
+        system: 0,
+        login: 0,
+        row: 0,
+    }
+}
+
+// Nothing was found yet.
+pub fn is_nothing(r: Failing) -> bool
+    ensures { λ b. ⌜ b ≡ eqb (r .system) 0 ⌝ }
+{
+    r.system == 0
+}
+
+// The first row of system k that does not hold for login u, or r.
+pub fn first_bad(r: Failing, k: usize, u: usize, s: &mut [u64], n: usize) -> Failing
+    ensures { λ a. ⌜ (a ≡ failingIn r k u n (now (s .entry))) × (now (s .exit) ≡ now (s .entry)) ⌝ }
+{
+    let i = first_row(s, n);
+    if i < n {
+        return Failing {
+            system: k,
+            login: u,
+            row: i,
+        };
+    }
+    r
+}
+
+// What was found, unless n is a refusal.
+pub fn answer(n: u32, r: Failing) -> RowCheck
+    ensures { λ a. ⌜ outcome a ≡ answerOf n r ⌝ }
+{
+    if n != 0 {
+        return RowCheck::Refused(n);
+    }
+    if r.system == 0 {
+        return RowCheck::Good;
+    }
+    if r.system == 1 {
+        return RowCheck::Bin(r.login, r.row);
+    }
+    RowCheck::Fld(r.login, r.row)
+}
+
+// 1, 2 and 3; z, the number that 4 to 7 gave; 15: words of scratch.
+pub fn refusal(
+    z: u32,
+    m: usize,
+    q: usize,
+    nb: usize,
+    nf: usize,
+    packed: usize,
+    x: usize,
+    scratch: usize,
+) -> u32
+    ensures { λ r. ⌜ r ≡ noted 0 (checkTestsBy z m q nb nf packed x scratch) ⌝ }
+{
+    let y = tests::note(0, 1, !tests::is_size(2, 65536, m));
+    let y = tests::note(y, 1, !tests::is_size(1, 4096, q));
+    if y != 0 {
+        return y;
+    }
+    let y = tests::note(0, 2, packed != q * r1cs::login_words(m / 2));
+    let y = tests::note(y, 3, x != m - 2);
+    let y = tests::note(y, z, true);
+    tests::note(y, 15, sizes::larger(nb, nf) > scratch / 6)
+}
+
+// Adds the shares of the k entries from place a on.
+fn add_shares(
+    s: &mut [u64],
+    m: usize,
+    n: usize,
+    w: usize,
+    bits: &[u64],
+    x: &[u64],
     row: &[usize],
     col: &[usize],
     lo: &[u64],
     hi: &[u64],
-    w: usize,
-    login: &[u64],
-    x: &[u64],
+    a: usize,
+    k: usize,
 )
-    requires { ⌜ Equal (now row) (now col) (now lo) (now hi) ⌝ }
-    ensures { λ _. ⌜ elements (now (out .exit)) ≡ raised (rowTotal (share (zOf w (now (login .entry)) (elements (now (x .entry))))) (entriesOf (now (row .entry)) (now (col .entry)) (now (lo .entry)) (now (hi .entry)))) (elements (now (out .entry))) ⌝ }
+    ensures { λ _. ⌜ now (s .exit) ≡ walked (shareAdded m n (zOf w (now (bits .entry)) (elements (now (x .entry))))) (take k (drop a (entriesOf (now (row .entry)) (now (col .entry)) (now (lo .entry)) (now (hi .entry))))) (now (s .entry)) ⌝ }
 {
-    let mut i = 0;
-    while i < row.len() {
-        let v = Gf128 {
-            lo: lo[i],
-            hi: hi[i],
-        };
-        let e = term(v, col[i], w, login, x);
-        step::add_at(out, row[i], e);
+    let e = range::after(a, k, r1cs::entries_held(row, col, lo, hi));
+    let mut i = a;
+    while i < e {
+        add_share_of(s, m, n, w, bits, x, row[i], col[i], lo[i], hi[i]);
         i += 1;
     }
 }
 
-// Sets out to the product, n rows.
+// The product of these entries with the login's z, in the n elements behind the first m.
 fn product(
-    out: &mut [u64],
+    s: &mut [u64],
+    m: usize,
     n: usize,
+    w: usize,
+    bits: &[u64],
+    x: &[u64],
     row: &[usize],
     col: &[usize],
     lo: &[u64],
     hi: &[u64],
-    w: usize,
-    login: &[u64],
-    x: &[u64],
+    a: usize,
+    k: usize,
 )
-    requires { ⌜ Equal (now row) (now col) (now lo) (now hi) ⌝ }
-    requires { ⌜ length (now out) ≡ 2 * n ⌝ }
-    ensures { λ _. ⌜ now (out .exit) ≡ words (tabulate (rowTotal (share (zOf w (now (login .entry)) (elements (now (x .entry))))) (entriesOf (now (row .entry)) (now (col .entry)) (now (lo .entry)) (now (hi .entry)))) n) ⌝ }
+    ensures { λ _. ⌜ now (s .exit) ≡ walked (shareAdded m n (zOf w (now (bits .entry)) (elements (now (x .entry))))) (take k (drop a (entriesOf (now (row .entry)) (now (col .entry)) (now (lo .entry)) (now (hi .entry))))) (behind m (clearedTo n) (now (s .entry))) ⌝ }
 {
-    words::clear(out);
-    add_terms(out, row, col, lo, hi, w, login, x);
+    clear_behind(s, m, n);
+    add_shares(s, m, n, w, bits, x, row, col, lo, hi, a, k);
 }
 
-// Two products, one behind the other.
-fn products2(
+// The products of the three matrices of system k, whose entries start at place a, with login u's z; the first row that does not hold, or r.
+fn check_login(
+    r: Failing,
+    k: usize,
+    u: usize,
     s: &mut [u64],
-    n: usize,
-    brow: &[usize],
-    bcol: &[usize],
-    blo: &[u64],
-    bhi: &[u64],
-    crow: &[usize],
-    ccol: &[usize],
-    clo: &[u64],
-    chi: &[u64],
+    t: SystemShape,
+    a: usize,
     w: usize,
-    login: &[u64],
+    bits: &[u64],
     x: &[u64],
-)
-    requires { ⌜ Equal (now brow) (now bcol) (now blo) (now bhi) ⌝ }
-    requires { ⌜ Equal (now crow) (now ccol) (now clo) (now chi) ⌝ }
-    requires { ⌜ length (now s) ≡ 4 * n ⌝ }
-    ensures { λ _. ⌜ now (s .exit) ≡ words (tabulate (rowTotal (share (zOf w (now (login .entry)) (elements (now (x .entry))))) (entriesOf (now (brow .entry)) (now (bcol .entry)) (now (blo .entry)) (now (bhi .entry)))) n) ++ words (tabulate (rowTotal (share (zOf w (now (login .entry)) (elements (now (x .entry))))) (entriesOf (now (crow .entry)) (now (ccol .entry)) (now (clo .entry)) (now (chi .entry)))) n) ⌝ }
+    row: &[usize],
+    col: &[usize],
+    lo: &[u64],
+    hi: &[u64],
+) -> Failing
+    ensures { λ f. ⌜ (let v = threeIn (zOf w (now (bits .entry)) (elements (now (x .entry)))) (systemAt t a (entriesOf (now (row .entry)) (now (col .entry)) (now (lo .entry)) (now (hi .entry)))) (now (s .entry)) in from f (now (s .exit)) ≡ from (failingIn r k u (t .a .rows) v) v) ⌝ }
 {
-    let k = 2 * n;
-    product(&mut s[..k], n, brow, bcol, blo, bhi, w, login, x);
-    product(&mut s[k..], n, crow, ccol, clo, chi, w, login, x);
+    let n = t.a.rows;
+    let h = r1cs::entries_held(row, col, lo, hi);
+    let b = range::after(a, t.a.entries, h);
+    let c = range::after(b, t.b.entries, h);
+    product(s, 0, n, w, bits, x, row, col, lo, hi, a, t.a.entries);
+    product(s, n, n, w, bits, x, row, col, lo, hi, b, t.b.entries);
+    product(s, twice(n), n, w, bits, x, row, col, lo, hi, c, t.c.entries);
+    first_bad(r, k, u, s, n)
 }
 
-// Three products, one behind the other.
-fn products3(
+// The same unless something was found before, by the login's part of the packed words.
+fn login_unless(
+    r: Failing,
+    k: usize,
+    u: usize,
     s: &mut [u64],
-    n: usize,
-    arow: &[usize],
-    acol: &[usize],
-    alo: &[u64],
-    ahi: &[u64],
-    brow: &[usize],
-    bcol: &[usize],
-    blo: &[u64],
-    bhi: &[u64],
-    crow: &[usize],
-    ccol: &[usize],
-    clo: &[u64],
-    chi: &[u64],
+    t: SystemShape,
+    a: usize,
     w: usize,
-    login: &[u64],
+    packed: &[u64],
     x: &[u64],
-)
-    requires { ⌜ Equal (now arow) (now acol) (now alo) (now ahi) ⌝ }
-    requires { ⌜ Equal (now brow) (now bcol) (now blo) (now bhi) ⌝ }
-    requires { ⌜ Equal (now crow) (now ccol) (now clo) (now chi) ⌝ }
-    requires { ⌜ length (now s) ≡ 6 * n ⌝ }
-    ensures { λ _. ⌜ now (s .exit) ≡ words (tabulate (rowTotal (share (zOf w (now (login .entry)) (elements (now (x .entry))))) (entriesOf (now (arow .entry)) (now (acol .entry)) (now (alo .entry)) (now (ahi .entry)))) n) ++ (words (tabulate (rowTotal (share (zOf w (now (login .entry)) (elements (now (x .entry))))) (entriesOf (now (brow .entry)) (now (bcol .entry)) (now (blo .entry)) (now (bhi .entry)))) n) ++ words (tabulate (rowTotal (share (zOf w (now (login .entry)) (elements (now (x .entry))))) (entriesOf (now (crow .entry)) (now (ccol .entry)) (now (clo .entry)) (now (chi .entry)))) n)) ⌝ }
+    row: &[usize],
+    col: &[usize],
+    lo: &[u64],
+    hi: &[u64],
+) -> Failing
+    ensures { λ f. ⌜ from f (now (s .exit)) ≡ loginDone k (loginZ w (now (packed .entry)) (elements (now (x .entry))) u) (systemAt t a (entriesOf (now (row .entry)) (now (col .entry)) (now (lo .entry)) (now (hi .entry)))) u (from r (now (s .entry))) ⌝ }
 {
-    let k = 2 * n;
-    product(&mut s[..k], n, arow, acol, alo, ahi, w, login, x);
-    products2(
-        &mut s[k..],
-        n,
-        brow,
-        bcol,
-        blo,
-        bhi,
-        crow,
-        ccol,
-        clo,
-        chi,
-        w,
-        login,
-        x,
-    );
+    if is_nothing(r) {
+        let j = r1cs::login_words(w);
+        let b = login::login_start(u, j, packed.len());
+        let e = b + sizes::least(j, packed.len() - b);
+        return check_login(r, k, u, s, t, a, w, &packed[b..e], x, row, col, lo, hi);
+    }
+    r
 }
 
-// The first row that does not hold for the login.
-fn failing_row(
+// System k for q logins, one after the other.
+fn check_system(
+    r: Failing,
+    k: usize,
     s: &mut [u64],
-    n: usize,
-    arow: &[usize],
-    acol: &[usize],
-    alo: &[u64],
-    ahi: &[u64],
-    brow: &[usize],
-    bcol: &[usize],
-    blo: &[u64],
-    bhi: &[u64],
-    crow: &[usize],
-    ccol: &[usize],
-    clo: &[u64],
-    chi: &[u64],
+    q: usize,
+    t: SystemShape,
+    a: usize,
     w: usize,
-    login: &[u64],
+    packed: &[u64],
     x: &[u64],
-) -> usize
-    requires { ⌜ Equal (now arow) (now acol) (now alo) (now ahi) ⌝ }
-    requires { ⌜ Equal (now brow) (now bcol) (now blo) (now bhi) ⌝ }
-    requires { ⌜ Equal (now crow) (now ccol) (now clo) (now chi) ⌝ }
-    requires { ⌜ (length (now s) ≡ 6 * n) × (n ≤ 65536) ⌝ }
-    ensures { λ r. ⌜ r ≡ rowOf (entriesOf (now (arow .entry)) (now (acol .entry)) (now (alo .entry)) (now (ahi .entry))) (entriesOf (now (brow .entry)) (now (bcol .entry)) (now (blo .entry)) (now (bhi .entry))) (entriesOf (now (crow .entry)) (now (ccol .entry)) (now (clo .entry)) (now (chi .entry))) n (zOf w (now (login .entry)) (elements (now (x .entry)))) ⌝ }
+    row: &[usize],
+    col: &[usize],
+    lo: &[u64],
+    hi: &[u64],
+) -> Failing
+    ensures { λ f. ⌜ from f (now (s .exit)) ≡ systemDone k w (now (packed .entry)) (elements (now (x .entry))) (systemAt t a (entriesOf (now (row .entry)) (now (col .entry)) (now (lo .entry)) (now (hi .entry)))) q (from r (now (s .entry))) ⌝ }
 {
-    products3(
-        s,
-        n,
-        arow,
-        acol,
-        alo,
-        ahi,
-        brow,
-        bcol,
-        blo,
-        bhi,
-        crow,
-        ccol,
-        clo,
-        chi,
-        w,
-        login,
-        x,
-    );
-    rows::first_failing(s, n)
+    let mut f = r;
+    let mut u = 0;
+    while u < q {
+        f = login_unless(f, k, u, s, t, a, w, packed, x, row, col, lo, hi);
+        u += 1;
+    }
+    f
 }
 
-// A login and a row.
-struct Failing {
-    login: usize,
-    row: usize,
-}
-
-// The first login with a row that does not hold, and that row; or q.
-fn failing_login(
+// Both systems for q logins of w witness columns; the products are 0 at exit.
+fn judge(
     s: &mut [u64],
-    n: usize,
-    arow: &[usize],
-    acol: &[usize],
-    alo: &[u64],
-    ahi: &[u64],
-    brow: &[usize],
-    bcol: &[usize],
-    blo: &[u64],
-    bhi: &[u64],
-    crow: &[usize],
-    ccol: &[usize],
-    clo: &[u64],
-    chi: &[u64],
     q: usize,
     w: usize,
+    sh: Shapes,
+    row: &[usize],
+    col: &[usize],
+    lo: &[u64],
+    hi: &[u64],
     packed: &[u64],
     x: &[u64],
 ) -> Failing
-    requires { ⌜ Equal (now arow) (now acol) (now alo) (now ahi) ⌝ }
-    requires { ⌜ Equal (now brow) (now bcol) (now blo) (now bhi) ⌝ }
-    requires { ⌜ Equal (now crow) (now ccol) (now clo) (now chi) ⌝ }
-    requires { ⌜ (length (now s) ≡ 6 * n) × (n ≤ 65536) ⌝ }
-    requires { ⌜ (w ≤ 32768) × (q ≤ 4096) × (length (now packed) ≡ q * loginWords w) ⌝ }
-    ensures { λ r. ⌜ r .login ≡ loginOf (entriesOf (now (arow .entry)) (now (acol .entry)) (now (alo .entry)) (now (ahi .entry))) (entriesOf (now (brow .entry)) (now (bcol .entry)) (now (blo .entry)) (now (bhi .entry))) (entriesOf (now (crow .entry)) (now (ccol .entry)) (now (clo .entry)) (now (chi .entry))) n w (now (packed .entry)) (elements (now (x .entry))) q ⌝ }
-    ensures { λ r. ⌜ r .row ≡ cond (ltb (r .login) q) (loginRow (entriesOf (now (arow .entry)) (now (acol .entry)) (now (alo .entry)) (now (ahi .entry))) (entriesOf (now (brow .entry)) (now (bcol .entry)) (now (blo .entry)) (now (bhi .entry))) (entriesOf (now (crow .entry)) (now (ccol .entry)) (now (clo .entry)) (now (chi .entry))) n w (now (packed .entry)) (elements (now (x .entry))) (r .login)) 0 ⌝ }
+    ensures { λ f. ⌜ (let R = relationOf (rules 0 q [] sh (now (row .entry)) (now (col .entry)) (now (lo .entry)) (now (hi .entry))) in (f ≡ bothDone R w (now (packed .entry)) (elements (now (x .entry))) (now (s .entry)) .found) × (now (s .exit) ≡ bothWords R w (now (packed .entry)) (elements (now (x .entry))) (now (s .entry)))) ⌝ }
 {
-    let k = r1cs::login_words(w);
-    let mut u = 0;
-    while u < q {
-        let a = u * k;
-        let b = a + k;
-        let r = failing_row(
-            s,
-            n,
-            arow,
-            acol,
-            alo,
-            ahi,
-            brow,
-            bcol,
-            blo,
-            bhi,
-            crow,
-            ccol,
-            clo,
-            chi,
-            w,
-            &packed[a..b],
-            x,
-        );
-        if r < n {
-            return Failing { login: u, row: r };
-        }
-        u += 1;
-    }
-    Failing { login: q, row: 0 }
-}
-
-// The verdict; s is room.
-fn judge(
-    s: &mut [u64],
-    m: usize,
-    q: usize,
-    w: usize,
-    abrows: usize,
-    abcols: usize,
-    abrow: &[usize],
-    abcol: &[usize],
-    ablo: &[u64],
-    abhi: &[u64],
-    bbrows: usize,
-    bbcols: usize,
-    bbrow: &[usize],
-    bbcol: &[usize],
-    bblo: &[u64],
-    bbhi: &[u64],
-    cbrows: usize,
-    cbcols: usize,
-    cbrow: &[usize],
-    cbcol: &[usize],
-    cblo: &[u64],
-    cbhi: &[u64],
-    afrows: usize,
-    afcols: usize,
-    afrow: &[usize],
-    afcol: &[usize],
-    aflo: &[u64],
-    afhi: &[u64],
-    bfrows: usize,
-    bfcols: usize,
-    bfrow: &[usize],
-    bfcol: &[usize],
-    bflo: &[u64],
-    bfhi: &[u64],
-    cfrows: usize,
-    cfcols: usize,
-    cfrow: &[usize],
-    cfcol: &[usize],
-    cflo: &[u64],
-    cfhi: &[u64],
-    packed: &[u64],
-    x: &[u64],
-) -> RowCheck
-    requires { ⌜ Equal (now abrow) (now abcol) (now ablo) (now abhi) ⌝ }
-    requires { ⌜ Equal (now bbrow) (now bbcol) (now bblo) (now bbhi) ⌝ }
-    requires { ⌜ Equal (now cbrow) (now cbcol) (now cblo) (now cbhi) ⌝ }
-    requires { ⌜ Equal (now afrow) (now afcol) (now aflo) (now afhi) ⌝ }
-    requires { ⌜ Equal (now bfrow) (now bfcol) (now bflo) (now bfhi) ⌝ }
-    requires { ⌜ Equal (now cfrow) (now cfcol) (now cflo) (now cfhi) ⌝ }
-    requires { ⌜ (6 * abrows ≤ length (now s)) × (6 * afrows ≤ length (now s)) × (abrows ≤ 65536) × (afrows ≤ 65536) ⌝ }
-    requires { ⌜ (w ≤ 32768) × (q ≤ 4096) × (length (now packed) ≡ q * loginWords w) ⌝ }
-    ensures { λ r. ⌜ outcome r ≡ judged (rowVerdict (relation m q (system (lent abrows abcols (now (abrow .entry)) (now (abcol .entry)) (now (ablo .entry)) (now (abhi .entry))) (lent bbrows bbcols (now (bbrow .entry)) (now (bbcol .entry)) (now (bblo .entry)) (now (bbhi .entry))) (lent cbrows cbcols (now (cbrow .entry)) (now (cbcol .entry)) (now (cblo .entry)) (now (cbhi .entry)))) (system (lent afrows afcols (now (afrow .entry)) (now (afcol .entry)) (now (aflo .entry)) (now (afhi .entry))) (lent bfrows bfcols (now (bfrow .entry)) (now (bfcol .entry)) (now (bflo .entry)) (now (bfhi .entry))) (lent cfrows cfcols (now (cfrow .entry)) (now (cfcol .entry)) (now (cflo .entry)) (now (cfhi .entry))))) (unpacked q w (now (packed .entry))) (elements (now (x .entry)))) ⌝ }
-{
-    let b = 6 * abrows;
-    let f = failing_login(
-        &mut s[..b],
-        abrows,
-        abrow,
-        abcol,
-        ablo,
-        abhi,
-        bbrow,
-        bbcol,
-        bblo,
-        bbhi,
-        cbrow,
-        cbcol,
-        cblo,
-        cbhi,
-        q,
-        w,
-        packed,
-        x,
-    );
-    if f.login < q {
-        return RowCheck::Bin(f.login, f.row);
-    }
-    let e = 6 * afrows;
-    let g = failing_login(
-        &mut s[..e],
-        afrows,
-        afrow,
-        afcol,
-        aflo,
-        afhi,
-        bfrow,
-        bfcol,
-        bflo,
-        bfhi,
-        cfrow,
-        cfcol,
-        cflo,
-        cfhi,
-        q,
-        w,
-        packed,
-        x,
-    );
-    if g.login < q {
-        return RowCheck::Fld(g.login, g.row);
-    }
-    RowCheck::Good
-}
-
-// 1 to 3, and 4 of n and k rows, alone and for q logins.
-pub fn batch_sizes(m: usize, q: usize, n: usize, k: usize, packed: &[u64], x: &[u64]) -> u32
-    ensures { λ r. ⌜ r ≡ noted 0 (batchSizes m q n k (now (packed .entry)) (now (x .entry))) ⌝ }
-{
-    let z = tests::note(0, 1, !tests::is_size(2, 65536, m));
-    let z = tests::note(z, 1, !tests::is_size(1, 4096, q));
-    if z != 0 {
-        return z;
-    }
-    let z = tests::note(0, 2, packed.len() != q * r1cs::login_words(m / 2));
-    let z = tests::note(z, 3, x.len() != m - 2);
-    let z = tests::note(z, 4, !tests::is_size(1, 65536, n));
-    let z = tests::note(z, 4, n > 1048576 / q);
-    let z = tests::note(z, 4, !tests::is_size(1, 65536, k));
-    tests::note(z, 4, k > 1048576 / q)
+    let b = sh.bin;
+    let f = sh.fld;
+    let a = range::past(b, 0, r1cs::entries_held(row, col, lo, hi));
+    let r = check_system(none(), 1, s, q, b, 0, w, packed, x, row, col, lo, hi);
+    let r = check_system(r, 2, s, q, f, a, w, packed, x, row, col, lo, hi);
+    clear_room(s, b.a.rows, f.a.rows);
+    r
 }
 
 // The plain row check: good, or the first failing row, bin before fld, then the lowest login, then the lowest row. 1 to 7; 15: the
@@ -416,142 +369,31 @@ pub fn row_check(
     scratch: &mut [u64],
     m: usize,
     q: usize,
-    abrows: usize,
-    abcols: usize,
-    abrow: &[usize],
-    abcol: &[usize],
-    ablo: &[u64],
-    abhi: &[u64],
-    bbrows: usize,
-    bbcols: usize,
-    bbrow: &[usize],
-    bbcol: &[usize],
-    bblo: &[u64],
-    bbhi: &[u64],
-    cbrows: usize,
-    cbcols: usize,
-    cbrow: &[usize],
-    cbcol: &[usize],
-    cblo: &[u64],
-    cbhi: &[u64],
-    afrows: usize,
-    afcols: usize,
-    afrow: &[usize],
-    afcol: &[usize],
-    aflo: &[u64],
-    afhi: &[u64],
-    bfrows: usize,
-    bfcols: usize,
-    bfrow: &[usize],
-    bfcol: &[usize],
-    bflo: &[u64],
-    bfhi: &[u64],
-    cfrows: usize,
-    cfcols: usize,
-    cfrow: &[usize],
-    cfcol: &[usize],
-    cflo: &[u64],
-    cfhi: &[u64],
+    sh: Shapes,
+    row: &[usize],
+    col: &[usize],
+    lo: &[u64],
+    hi: &[u64],
     packed: &[u64],
     x: &[u64],
 ) -> RowCheck
-    ensures answer { λ r. ⌜ outcome r ≡ checkAnswer m q (system (lent abrows abcols (now (abrow .entry)) (now (abcol .entry)) (now (ablo .entry)) (now (abhi .entry))) (lent bbrows bbcols (now (bbrow .entry)) (now (bbcol .entry)) (now (bblo .entry)) (now (bbhi .entry))) (lent cbrows cbcols (now (cbrow .entry)) (now (cbcol .entry)) (now (cblo .entry)) (now (cbhi .entry)))) (system (lent afrows afcols (now (afrow .entry)) (now (afcol .entry)) (now (aflo .entry)) (now (afhi .entry))) (lent bfrows bfcols (now (bfrow .entry)) (now (bfcol .entry)) (now (bflo .entry)) (now (bfhi .entry))) (lent cfrows cfcols (now (cfrow .entry)) (now (cfcol .entry)) (now (cflo .entry)) (now (cfhi .entry)))) (now (packed .entry)) (now (x .entry)) (length (now (scratch .entry))) ⌝ }
-    ensures cleared { λ _. ⌜ now (scratch .exit) ≡ checkScratch m q (system (lent abrows abcols (now (abrow .entry)) (now (abcol .entry)) (now (ablo .entry)) (now (abhi .entry))) (lent bbrows bbcols (now (bbrow .entry)) (now (bbcol .entry)) (now (bblo .entry)) (now (bbhi .entry))) (lent cbrows cbcols (now (cbrow .entry)) (now (cbcol .entry)) (now (cblo .entry)) (now (cbhi .entry)))) (system (lent afrows afcols (now (afrow .entry)) (now (afcol .entry)) (now (aflo .entry)) (now (afhi .entry))) (lent bfrows bfcols (now (bfrow .entry)) (now (bfcol .entry)) (now (bflo .entry)) (now (bfhi .entry))) (lent cfrows cfcols (now (cfrow .entry)) (now (cfcol .entry)) (now (cflo .entry)) (now (cfhi .entry)))) (now (packed .entry)) (now (x .entry)) (now (scratch .entry)) ⌝ }
+    ensures { λ r. ⌜ checked r (now (scratch .exit)) ≡ checkOutcome (rules m q [] sh (now (row .entry)) (now (col .entry)) (now (lo .entry)) (now (hi .entry))) (now (packed .entry)) (now (x .entry)) (now (scratch .entry)) ⌝ }
 {
-    let z = batch_sizes(m, q, abrows, afrows, packed, x);
-    if z != 0 {
-        return RowCheck::Refused(z);
-    }
-    let z = combo::systems_refusal(
-        m,
-        abrows,
-        abcols,
-        abrow,
-        abcol,
-        ablo,
-        abhi,
-        bbrows,
-        bbcols,
-        bbrow,
-        bbcol,
-        bblo,
-        bbhi,
-        cbrows,
-        cbcols,
-        cbrow,
-        cbcol,
-        cblo,
-        cbhi,
-        afrows,
-        afcols,
-        afrow,
-        afcol,
-        aflo,
-        afhi,
-        bfrows,
-        bfcols,
-        bfrow,
-        bfcol,
-        bflo,
-        bfhi,
-        cfrows,
-        cfcols,
-        cfrow,
-        cfcol,
-        cflo,
-        cfhi,
-    );
-    if z != 0 {
-        return RowCheck::Refused(z);
-    }
-    let end = 6 * sizes::larger(abrows, afrows);
-    if scratch.len() < end {
-        return RowCheck::Refused(15);
-    }
-    let r = judge(
-        &mut scratch[..end],
+    let b = sh.bin;
+    let f = sh.fld;
+    let n = refusal(
+        rules::refused(m, q, sh, row, col, lo, hi),
         m,
         q,
-        m / 2,
-        abrows,
-        abcols,
-        abrow,
-        abcol,
-        ablo,
-        abhi,
-        bbrows,
-        bbcols,
-        bbrow,
-        bbcol,
-        bblo,
-        bbhi,
-        cbrows,
-        cbcols,
-        cbrow,
-        cbcol,
-        cblo,
-        cbhi,
-        afrows,
-        afcols,
-        afrow,
-        afcol,
-        aflo,
-        afhi,
-        bfrows,
-        bfcols,
-        bfrow,
-        bfcol,
-        bflo,
-        bfhi,
-        cfrows,
-        cfcols,
-        cfrow,
-        cfcol,
-        cflo,
-        cfhi,
-        packed,
-        x,
+        b.a.rows,
+        f.a.rows,
+        packed.len(),
+        x.len(),
+        scratch.len(),
     );
-    words::clear(&mut scratch[..end]);
-    r
+    if n != 0 {
+        return RowCheck::Refused(n);
+    }
+    let r = judge(scratch, q, half(m), sh, row, col, lo, hi, packed, x);
+    answer(0, r)
 }

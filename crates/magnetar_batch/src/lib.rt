@@ -3,4 +3,4 @@ pub mod check;
 pub mod combo;
 pub mod fold;
 mod room;
-pub mod systems;
+pub mod table;

@@ -13,7 +13,7 @@ use Rattle.magnetar_matrix.specs.Matrix.{Entry, sumOver}
 use Rattle.magnetar_matrix.specs.Lent.{Lent, entriesOf}
 use Rattle.magnetar_matrix.specs.Packed.{loginWords}
 use Rattle.magnetar_matrix.specs.Table.{Equal}
-use Rattle.magnetar_r1cs.specs.Entries.{matrixTests}
+use Rattle.magnetar_r1cs.specs.Entries.{loginsTests, matrixTests}
 use Rattle.magnetar_layout.specs.Tests.{noted, allBelow, counted, placed, loneTests, batchTests, Sized}
 use Rattle.magnetar_layout.proofs.EveryLaws.{both}
 use Rattle.magnetar_layout.proofs.Noted.{Clear, noted-clear}
@@ -83,6 +83,19 @@ below-wider m n [] h e = refl
 below-wider m n (x ∷ s) h e =
     let k = both (ltb x m) (allBelow m s) e in
     and-true (lt-ltb x n (omega (arith, ltb-true x m (k .0)))) (below-wider m n s h (k .1))
+
+-- ---- rows for a batch
+pub record Logins (p k q w n : ℕ) : Type 0 where
+  pub half : w ≤ 32768
+  pub logins : Sized 1 4096 q
+  pub packed : p ≡ q * loginWords w
+  pub rows : Sized 1 65536 n
+
+pub logins-clear : (p k q w n : ℕ) → noted 0 (loginsTests p k q w n) ≡ 0 → Logins p k q w n
+logins-clear p k q w n e =
+    let c = noted-clear 0 (loginsTests p k q w n) refl e .1 in
+    let z = not-bad (c .0) in
+    record { half = omega (arith, z .high); logins = not-bad (c .1 .0); packed = eqb-true _ _ (not-false _ (c .1 .1 .0)); rows = not-bad (c .1 .1 .1 .1 .0) }
 
 -- ---- a matrix for a batch
 pub record Batched (a : Lent) (ws x : List ℕ) (q w : ℕ) : Type 0 where

@@ -1,6 +1,6 @@
 -- The product with z = (w, 1, x): the shares from the bits and from the public columns.
 -- Assumes nothing.
-use mathlib.Core.Path.{_≡_, refl, ap, _∙_}
+use mathlib.Core.Path.{_≡_, refl, sym, ap, _∙_}
 use mathlib.Core.Bool.{Bool, true, false, cond, _&&_}
 use mathlib.Core.List.{List, [], _∷_, _++_}
 use Prim.Native.Nat.{ℕ, zero, suc, _+_, _-_, _*_, _^_, _≤_, _<_}
@@ -17,7 +17,7 @@ use Rattle.magnetar_field.proofs.Xor.{⊕-zero, zero-⊕, ⊕-four}
 use Rattle.magnetar_field.proofs.Tabulation.{tabulate-length, tabulate-get, tabulate-ext}
 use Rattle.magnetar_matrix.specs.Sum.{blocks}
 use Rattle.magnetar_layout.specs.Every.{every}
-use Rattle.magnetar_matrix.specs.Matrix.{Entry, sumOver, rowTotal, share, timesAt, times, isBit}
+use Rattle.magnetar_matrix.specs.Matrix.{Entry, Matrix, sumOver, rowTotal, share, timesAt, times, isBit}
 use Rattle.magnetar_matrix.specs.Batch.{assignment}
 use Rattle.magnetar_matrix.specs.Packed.{packedBit, loginPart, unpacked, packedTable}
 use Rattle.magnetar_matrix.specs.Lent.{Lent, entriesOf, matrixOf}
@@ -90,14 +90,26 @@ pub assigned : (q w : ℕ) (ws x : List ℕ) (u : ℕ) → u < q → assignment 
 unfolding assignment unpacked
 assigned q w ws x u h = rw (tabulate-get (λ v. tabulate (packedBit (loginPart w ws v)) w) q u [] h)
 
+pub table-is : (a : Matrix) (ws x : List ℕ) (q w : ℕ) → blocks (loginBlock w x ws (a .entries) (a .rows)) q ≡ packedTable a ws x q w
+unfolding packedTable loginBlock times timesAt loginTotal
+table-is a ws x q w =
+    blocks-ext (loginBlock w x ws (a .entries) (a .rows)) (λ u. times a (assignment (unpacked q w ws) x u)) q
+    (λ u h. let ls = loginPart w ws u in
+    let z = tabulate (packedBit ls) w ++ (1 ∷ x) in
+    rw (assigned q w ws x u h)
+    (tabulate-ext (loginTotal w x ls (a .entries)) (timesAt a z) (a .rows)
+    (λ i b. total-⊕ (publicShare w x) (bitShare w ls) (share z) (a .entries) i (split-share w x ls))))
+
 pub packed-is : (a : Lent) (ws x : List ℕ) (q w : ℕ)
     → blocks (loginBlock w x ws (entriesOf (a .row) (a .col) (a .lo) (a .hi)) (a .rows)) q ≡ packedTable (matrixOf a) ws x q w
-unfolding packedTable loginBlock times timesAt matrixOf loginTotal
-packed-is a ws x q w =
-    blocks-ext (loginBlock w x ws (entriesOf (a .row) (a .col) (a .lo) (a .hi)) (a .rows)) (λ u. times (matrixOf a) (assignment (unpacked q w ws) x u)) q
-    (λ u h. rw (assigned q w ws x u h)
-    (tabulate-ext (loginTotal w x (loginPart w ws u) (entriesOf (a .row) (a .col) (a .lo) (a .hi))) (timesAt (matrixOf a) (tabulate (packedBit (loginPart w ws u)) w ++ (1 ∷ x))) (a .rows)
-    (λ i b. total-⊕ (publicShare w x) (bitShare w (loginPart w ws u)) (share (tabulate (packedBit (loginPart w ws u)) w ++ (1 ∷ x))) (entriesOf (a .row) (a .col) (a .lo) (a .hi)) i (split-share w x (loginPart w ws u)))))
+unfolding matrixOf
+packed-is a ws x q w = table-is (matrixOf a) ws x q w
+
+-- a table of products does not see how many columns there are
+pub same-table : (n k l : ℕ) (es : List Entry) (ws x : List ℕ) (q w : ℕ)
+    → packedTable (record { rows = n; cols = k; entries = es }) ws x q w ≡ packedTable (record { rows = n; cols = l; entries = es }) ws x q w
+same-table n k l es ws x q w =
+    sym (table-is (record { rows = n; cols = k; entries = es }) ws x q w) ∙ table-is (record { rows = n; cols = l; entries = es }) ws x q w
 
 -- ---- the flag
 shuffle : (a b c d : Bool) → ((a && b) && (c && d)) ≡ ((a && c) && (b && d))

@@ -4,18 +4,18 @@ use mathlib.Core.Bool.{Bool, true, false, not}
 use mathlib.Core.List.{List, [], _∷_, _++_}
 use Prim.Native.Nat.{ℕ, _+_, _-_, _*_, _^_}
 use lib.Dec.{ltb}
-use lib.ListN.{drop, replicate}
+use lib.ListN.{length, take, drop, replicate}
 use Rattle.magnetar_field.specs.Refusal.{unlessRefused}
 use Rattle.magnetar_field.specs.Sizes.{log₂}
 use Rattle.magnetar_field.specs.Words.{elements, words}
 use Rattle.magnetar_multilinear.specs.Entries.{Answer, answered}
 use Rattle.magnetar_r1cs.specs.declared.r1cs.Flag.{Flag}
 use Rattle.magnetar_r1cs.specs.declared.r1cs.Flag.the-variants.{Yes, No, Refused}
-use Rattle.magnetar_matrix.specs.Matrix.{times, mleTable, mleAt, bitValued}
+use Rattle.magnetar_matrix.specs.Matrix.{Matrix, times, mleTable, mleAt, bitValued}
 use Rattle.magnetar_r1cs.specs.Masks.{masks}
 use Rattle.magnetar_matrix.specs.Packed.{packedTable, unpacked}
-use Rattle.magnetar_matrix.specs.Lent.{Lent, matrixOf}
-use Rattle.magnetar_layout.specs.Tests.{Tests, noted, sizeTests, packedTests, rowsTests, matrixColumnTests, counted, placed, batchTests, lengthTest, roomTest, loneTests}
+use Rattle.magnetar_matrix.specs.Lent.{Lent, entriesOf, matrixOf}
+use Rattle.magnetar_layout.specs.Tests.{Tests, noted, sizeTests, packedTests, packedTestsOf, publicTestsOf, rowsTests, matrixColumnTests, counted, placed, batchTests, lengthTest, roomTest, loneTests}
 
 -- ---- `apply`: the matrix a, the vector z, the output out
 -- those of a matrix alone; 11: z; 15: the output
@@ -90,6 +90,26 @@ abbrev pub packedOut : Lent → List ℕ → List ℕ → ℕ → ℕ → List �
 packedOut a ws x q w out =
     unlessRefused (packedRefusal a ws x q w out)
     (words (packedTable (matrixOf a) ws (elements x) q w) ++ drop (q * (2 * a .rows)) out) out
+
+-- ---- `products_in`: the matrix a, whose entries are lent among others, the packed words ws of q logins with w columns, the public words
+-- x, the output out
+-- 1, 2, 3 and 4 of n rows for q logins of w columns, with p packed and k public words
+abbrev pub loginsTests : (p k q w n : ℕ) → Tests
+loginsTests p k q w n = sizeTests (2 * w) q ++ (packedTestsOf w q p ++ (publicTestsOf (2 * w) k ++ rowsTests q n))
+
+-- these, and 15: the output
+unfoldable pub rangeRefusal : (n : ℕ) → (ws x : List ℕ) → (q w : ℕ) → (out : List ℕ) → ℕ
+rangeRefusal n ws x q w out = noted 0 (loginsTests (length ws) (length x) q w n ++ roomTest (q * (2 * n)) out)
+
+-- a matrix of n rows and m columns: the entries from a to b of those that the four slices hold
+abbrev pub rangeMatrix : (n m a b : ℕ) → (row col lo hi : List ℕ) → Matrix
+rangeMatrix n m a b row col lo hi = record { rows = n; cols = m; entries = take (b - a) (drop a (entriesOf row col lo hi)) }
+
+-- the output: the words of the products, one login behind the other, then what stood behind them
+abbrev pub rangeOut : Matrix → (ws x : List ℕ) → (q w : ℕ) → (out : List ℕ) → List ℕ
+rangeOut a ws x q w out =
+    unlessRefused (rangeRefusal (a .rows) ws x q w out)
+    (words (packedTable a ws (elements x) q w) ++ drop (q * (2 * a .rows)) out) out
 
 -- ---- `apply_simd_bit_masks`: the matrix a, the packed words ws of q logins with w columns, the number v, the output out
 -- the tests of `apply_simd_packed` but those of the public words and the room

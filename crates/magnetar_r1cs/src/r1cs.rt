@@ -25,7 +25,7 @@ ghost use Rattle.magnetar_matrix.specs.Table.{raised, publicShare, bitShare, cr
 ghost use Rattle.magnetar_matrix.specs.Sum.{blocks};
 ghost use Rattle.magnetar_matrix.specs.Packed.{loginWords};
 ghost use Rattle.magnetar_layout.specs.Tests.{allBelow, noted, batchTests};
-ghost use Rattle.magnetar_r1cs.specs.Entries.{applyRefusal, applyOut, tableRefusal, tableOut, tableScratch, atAnswer, atScratch, flagged, flaggedOf, binaryRefusal, packedRefusal, packedOut, matrixTests, masksRefusal, masksOut};
+ghost use Rattle.magnetar_r1cs.specs.Entries.{applyRefusal, applyOut, tableRefusal, tableOut, tableScratch, atAnswer, atScratch, flagged, flaggedOf, binaryRefusal, packedRefusal, packedOut, loginsTests, rangeRefusal, rangeMatrix, rangeOut, matrixTests, masksRefusal, masksOut};
 
 // An answer: yes, no, or the number of a refusal.
 pub enum Flag {
@@ -339,6 +339,24 @@ fn bit_valued(row: &[usize], col: &[usize], lo: &[u64], hi: &[u64], w: usize) ->
     false
 }
 
+// 1, 2, 3 and 4 of n rows for q logins of w columns, with so many packed and public words.
+pub fn logins_refusal(packed: usize, x: usize, q: usize, w: usize, n: usize) -> u32
+    ensures { λ r. ⌜ r ≡ noted 0 (loginsTests packed x q w n) ⌝ }
+{
+    let z = tests::note(0, 1, !tests::is_half(w));
+    let z = tests::note(z, 1, !tests::is_size(1, 4096, q));
+    if z != 0 {
+        return z;
+    }
+    let z = tests::note(0, 2, packed != q * login_words(w));
+    let z = tests::note(z, 3, x != 2 * w - 2);
+    let z = tests::note(z, 4, !tests::is_size(1, 65536, n));
+    if z != 0 {
+        return z;
+    }
+    tests::note(0, 4, q * n > 1048576)
+}
+
 // 1, 2, 3, 4, 5, 6 and 7 of a matrix for q logins of w columns.
 pub(crate) fn batch_refusal(
     rows: usize,
@@ -354,19 +372,11 @@ pub(crate) fn batch_refusal(
 ) -> u32
     ensures { λ r. ⌜ r ≡ noted 0 (batchTests (lent rows cols (now (row .entry)) (now (col .entry)) (now (lo .entry)) (now (hi .entry))) (now (packed .entry)) (now (x .entry)) q w) ⌝ }
 {
-    let n = tests::note(0, 1, !tests::is_half(w));
-    let n = tests::note(n, 1, !tests::is_size(1, 4096, q));
+    let n = logins_refusal(packed.len(), x.len(), q, w, rows);
     if n != 0 {
         return n;
     }
-    let n = tests::note(0, 2, packed.len() != q * login_words(w));
-    let n = tests::note(n, 3, x.len() != 2 * w - 2);
-    let n = tests::note(n, 4, !tests::is_size(1, 65536, rows));
-    if n != 0 {
-        return n;
-    }
-    let n = tests::note(0, 4, q * rows > 1048576);
-    let n = tests::note(n, 5, cols != 2 * w);
+    let n = tests::note(0, 5, cols != 2 * w);
     let n = tests::counts(n, row.len(), col.len(), lo.len(), hi.len());
     tests::places(n, rows, cols, row, col)
 }
@@ -403,6 +413,59 @@ pub fn apply_simd_packed(
         return Flag::Yes;
     }
     Flag::No
+}
+
+// How many entries the four slices hold.
+pub fn entries_held(row: &[usize], col: &[usize], lo: &[u64], hi: &[u64]) -> usize
+    ensures { λ r. ⌜ (r ≡ length (entriesOf (now (row .entry)) (now (col .entry)) (now (lo .entry)) (now (hi .entry)))) × (r ≤ length (now (row .entry))) × (r ≤ length (now (col .entry))) × (r ≤ length (now (lo .entry))) × (r ≤ length (now (hi .entry))) ⌝ }
+{
+    let a = sizes::least(row.len(), col.len());
+    let b = sizes::least(lo.len(), hi.len());
+    sizes::least(a, b)
+}
+
+// The products of a batch's logins with a matrix of n rows, one behind the other; its entries are those from a to b. 1 to 4 as for
+// `apply_simd_packed`; 15: too little room.
+pub fn products_in(
+    row: &[usize],
+    col: &[usize],
+    lo: &[u64],
+    hi: &[u64],
+    a: usize,
+    b: usize,
+    packed: &[u64],
+    x: &[u64],
+    q: usize,
+    w: usize,
+    n: usize,
+    out: &mut [u64],
+) -> u32
+    ensures answer { λ r. ⌜ r ≡ rangeRefusal n (now (packed .entry)) (now (x .entry)) q w (now (out .entry)) ⌝ }
+    ensures products { λ _. ⌜ now (out .exit) ≡ rangeOut (rangeMatrix n (2 * w) a b (now (row .entry)) (now (col .entry)) (now (lo .entry)) (now (hi .entry))) (now (packed .entry)) (now (x .entry)) q w (now (out .entry)) ⌝ }
+{
+    let z = logins_refusal(packed.len(), x.len(), q, w, n);
+    if z != 0 {
+        return z;
+    }
+    let end = q * (2 * n);
+    if out.len() < end {
+        return 15;
+    }
+    let e = sizes::least(b, entries_held(row, col, lo, hi));
+    let s = sizes::least(a, e);
+    products(
+        &row[s..e],
+        &col[s..e],
+        &lo[s..e],
+        &hi[s..e],
+        packed,
+        x,
+        q,
+        w,
+        n,
+        &mut out[..end],
+    );
+    0
 }
 
 // 1, 2, 4, 5, 6 and 7 of a matrix for q logins of w columns.

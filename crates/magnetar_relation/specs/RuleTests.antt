@@ -1,7 +1,7 @@
 -- The refusals 4 to 7 of a relation as it is lent, as tests with their numbers: the first bad test gives the number of the refusal.
 -- Source: document 01, "Who can be turned back", Rule author.
 -- Assumes nothing.
-use mathlib.Core.Bool.{Bool, not}
+use mathlib.Core.Bool.{Bool, true, not}
 use mathlib.Core.List.{List, [], _∷_, _++_}
 use Prim.Native.Nat.{ℕ, _+_, _*_}
 use lib.Dec.{eqb, ltb}
@@ -45,3 +45,7 @@ ruleTestsBy m q s ks inside = shapeTests m q s ++ (numberTests (total s) ks ++ (
 -- the same of a relation as it is lent
 abbrev pub ruleTests : Rules → Tests
 ruleTests R = ruleTestsBy (R .m) (R .q) (R .shapes) (R .numbers) (inRelation (relationOf R))
+
+-- a number that other tests gave, as a test
+abbrev pub given : ℕ → Tests
+given z = (z, true) ∷ []

@@ -10,8 +10,8 @@ ghost use mathlib.Core.List.{[], _∷_};
 ghost use Prim.Native.Nat.{_≤_};
 ghost use Rattle.magnetar_layout.specs.Tests.{noted};
 ghost use Rattle.magnetar_matrix.specs.Lent.{entry, entriesOf};
-ghost use Rattle.magnetar_relation.specs.Rules.{entriesIn};
-ghost use Rattle.magnetar_relation.specs.RuleTests.{rowTests, colTests, mostTests, numberTests, shapeTests, total, ruleTestsBy};
+ghost use Rattle.magnetar_relation.specs.Rules.{entriesIn, rules};
+ghost use Rattle.magnetar_relation.specs.RuleTests.{rowTests, colTests, mostTests, numberTests, shapeTests, ruleTestsBy, ruleTests};
 ghost use Rattle.magnetar_relation.specs.Told.{shapeIn, shapeAt, liesAt, everyFrom};
 
 // 4: the rows of a system's matrices, for q logins, after an earlier number z.
@@ -165,4 +165,20 @@ pub fn all_inside(s: Shapes, row: &[usize], col: &[usize], lo: &[u64], hi: &[u64
         i += 1;
     }
     acc
+}
+
+// 4 to 7 of a relation as it is lent.
+pub fn refused(
+    m: usize,
+    q: usize,
+    s: Shapes,
+    row: &[usize],
+    col: &[usize],
+    lo: &[u64],
+    hi: &[u64],
+) -> u32
+    ensures { λ z. ⌜ z ≡ noted 0 (ruleTests (rules m q [] s (now (row .entry)) (now (col .entry)) (now (lo .entry)) (now (hi .entry)))) ⌝ }
+{
+    let inside = all_inside(s, row, col, lo, hi);
+    refusal(m, q, s, row.len(), col.len(), lo.len(), hi.len(), inside)
 }

@@ -2,7 +2,7 @@
 -- Assumes nothing.
 use native.Mathlib.Omega.{arith}
 use denote.Ref.{now}
-use Rattle.magnetar_batch.proofs.WalkLaws.{row-here, row-short}
+use Rattle.magnetar_batch.proofs.RowWalk.{row-here, row-short}
 use borrow.Author.Needs.{needs}
 use Rattle.magnetar_batch.proofs.check.first_row.Statement.{statement}
 use Rattle.magnetar_batch.proofs.check.first_row.Tie as tie

@@ -1,0 +1,128 @@
+-- `magnetar_r1cs::r1cs::logins_refusal` meets its contract.
+-- Assumes nothing.
+use mathlib.Core.Path.{_≡_, refl, sym, _∙_}
+use mathlib.Core.List.{[], _∷_, _++_}
+use Prim.Native.Nat.{ℕ, _*_, _≤_}
+use native.Mathlib.Omega.{arith}
+use lib.Dec.{ltb}
+use Rattle.magnetar_layout.specs.Tests.{Tests, noted, sizeTests, packedTestsOf, publicTestsOf, loneRowTests}
+use Rattle.magnetar_layout.proofs.Noted.{noted-front, noted-late, noted-clear}
+use Rattle.magnetar_layout.proofs.SizeLaws.{not-bad}
+use Rattle.magnetar_matrix.proofs.LoginParts.{product-most, words-most}
+use Rattle.magnetar_matrix.proofs.Blocks.{product-fits}
+use borrow.Author.Needs.{needs}
+use Rattle.magnetar_r1cs.proofs.r1cs.logins_refusal.Statement.{statement}
+use Rattle.magnetar_r1cs.proofs.r1cs.logins_refusal.Tie as tie
+
+-- the tests in three groups
+abbrev first : tie.Start → Tests
+first s = sizeTests (2 * s .args .w) (s .args .q)
+
+abbrev second : tie.Start → Tests
+second s = let x = s .args in packedTestsOf (x .w) (x .q) (x .packed) ++ (publicTestsOf (2 * x .w) (x .x) ++ loneRowTests (x .n))
+
+abbrev third : tie.Start → Tests
+third s = (4, ltb 1048576 (s .args .q * s .args .n)) ∷ []
+
+early : (c : tie.After-note2) → c .note2 .result ≡ noted 0 (first (c .before .before .before .before))
+early c = rw (c .note2 .ensures, c .before .is-size .ensures, c .before .before .note .ensures, c .before .before .before .is-half .ensures)
+
+middle : (c : tie.After-note5) → c .note5 .result ≡ noted 0 (second (c .before .before .before .before .before .before .before .before .before .before))
+middle c = rw (c .note5 .ensures, c .before .is-size2 .ensures, c .before .before .note4 .ensures, c .before .before .before .note3 .ensures, c .before .before .before .before .login-words .ensures)
+
+record Small (s : tie.Start) : Type 0 where
+  least : 1 ≤ s .args .w
+  half : s .args .w ≤ 32768
+  logins : s .args .q ≤ 4096
+
+small : (c : tie.Else1) → Small (c .before .before .before .before .before)
+small c =
+    let k = noted-clear 0 (first (c .before .before .before .before .before)) refl (sym (early (c .before)) ∙ c .if1 .left) .1 in
+    let z = not-bad (k .0) in
+    record { least = omega (arith, z .low); half = omega (arith, z .high); logins = not-bad (k .1 .0) .high }
+
+rows-most : (c : tie.Else2) → (c .before .before .before .before .before .before .before .before .before .before .before) .args .n ≤ 65536
+rows-most c = not-bad (noted-clear 0 (second (c .before .before .before .before .before .before .before .before .before .before .before)) refl (sym (middle (c .before)) ∙ c .if2 .left) .1 .1 .1 .0) .high
+
+is-half-requires : tie.Need-is-half-requires
+is-half-requires c κs = search needs
+
+note-requires : tie.Need-note-requires
+note-requires c κs = search needs
+
+is-size-requires : tie.Need-is-size-requires
+is-size-requires c κs = search needs
+
+note-requires-2 : tie.Need-note-requires-2
+note-requires-2 c κs = search needs
+
+returns : tie.Need-returns
+returns c = let s = (c .before .before .before .before .before) in noted-front (first s) (second s ++ third s) _ (early (c .before)) (c .if1 .taken)
+
+login-words-requires : tie.Need-login-words-requires
+login-words-requires c κs = search needs
+
+mul-note : tie.Need-mul-note
+mul-note c =
+    let k = small (c .before) in
+    omega (arith, product-most ((c .before .before .before .before .before .before) .args .q) (c .login-words .result) (k .logins) (rw (c .login-words .ensures) (words-most _ (k .half))))
+
+note-requires-3 : tie.Need-note-requires-3
+note-requires-3 c κs = search needs
+
+mul-note-2 : tie.Need-mul-note-2
+mul-note-2 c = omega (arith, small (c .before .before) .half)
+
+sub-note : tie.Need-sub-note
+sub-note c = omega (arith, small (c .before .before) .least)
+
+note-requires-4 : tie.Need-note-requires-4
+note-requires-4 c κs = search needs
+
+is-size-requires-2 : tie.Need-is-size-requires-2
+is-size-requires-2 c κs = search needs
+
+note-requires-5 : tie.Need-note-requires-5
+note-requires-5 c κs = search needs
+
+returns-2 : tie.Need-returns-2
+returns-2 c =
+    let s = (c .before .before .before .before .before .before .before .before .before .before .before) in
+    noted-late (first s) (second s ++ third s) _ _ (early (c .before .before .before .before .before .before .before)) (c .before .before .before .before .before .before .if1 .left)
+    (noted-front (second s) (third s) _ (middle (c .before)) (c .if2 .taken))
+
+mul-note-3 : tie.Need-mul-note-3
+mul-note-3 c =
+    let x = (c .before .before .before .before .before .before .before .before .before .before .before) .args in
+    omega (arith, product-fits (x .q) (x .n) (small (c .before .before .before .before .before .before) .logins) (omega (arith, rows-most c)))
+
+note-requires-6 : tie.Need-note-requires-6
+note-requires-6 c κs = search needs
+
+returns-3 : tie.Need-returns-3
+returns-3 c =
+    let s = (c .before .before .before .before .before .before .before .before .before .before .before .before) in
+    noted-late (first s) (second s ++ third s) _ _ (early (c .before .before .before .before .before .before .before .before)) (c .before .before .before .before .before .before .before .if1 .left)
+    (noted-late (second s) (third s) _ _ (middle (c .before .before)) (c .before .if2 .left) (c .note6 .ensures))
+
+pub logins-refusal-spec : {M : Type 1} → statement M
+logins-refusal-spec =
+    tie.close
+    (tie.spec
+    is-half-requires
+    note-requires
+    is-size-requires
+    note-requires-2
+    returns
+    login-words-requires
+    mul-note
+    note-requires-3
+    mul-note-2
+    sub-note
+    note-requires-4
+    is-size-requires-2
+    note-requires-5
+    returns-2
+    mul-note-3
+    note-requires-6
+    returns-3)
