@@ -4,7 +4,7 @@
 # Run it after a change of a walked function's code or contract, then `rt check` of the crate. With --check nothing is written: it says
 # which of these proofs are not what the tools write, and then fails. Nobody has to trust the tools: the checker checks what they write.
 set -e
-check=; if [ "$1" = --check ]; then check=yes; shift; fi
+compare=; if [ "$1" = --check ]; then compare=yes; shift; fi
 named=" $* "
 new=$(mktemp -d)
 trap 'rm -r "$new"' EXIT
@@ -81,26 +81,34 @@ thin records::apply_simd_bit_masks --use "$masks.{masks-done, masks-back}" \
   --final 'masks-done n1 n2 (s3 .now) (s4 .now) ys8 n5 n6 n7 r1 r2 r4 r3 r5 r6 e1 e2 e3 e4 e5 e6 (ws7 .1 .1 .1 .0) (ws8 .1 .1 .1 .1 .1 .1 .0) b1 e7 e8' \
   --final 'masks-back n1 n2 (s3 .now) (s4 .now) ys8 n5 n6 n7 r1 r2 r4 r3 r5 r6 e1 e2 e3 e4 e5 e6 b1'
 
-# magnetar_row_records: the row check
-crate magnetar_row_records
-entries='Rattle.magnetar_inplace.specs.Records.{entriesOfRecords}'
-words='Rattle.magnetar_field.specs.Words.{elements}'
-z='Rattle.magnetar_inplace.specs.LoginSteps.{loginZ}'
-each EachMNNNNSS MNNNNSS
-count CountANIMQNNSSEEE ANIMQNNSSEEE magnetar_row_records::steps::Seen
-thin check::product --use "$ends.WalkLaws.{product-ends}" --use "$entries" --use "$words" --use "$z" \
-  --final 'product-ends n3 n4 (loginZ n6 (s7 .now) (elements (s8 .now)) n5) (entriesOfRecords (s1 .now)) ys2 (ws1 .0) (ws2 .1 .0) e1 e2'
-thin check::check_login --use "$ends.WalkLaws.{login-ends}" --use "$entries" --use "$words" --use "$z" \
-  --final 'login-ends n1 n2 n3 n5 r1 (loginZ n6 (s7 .now) (elements (s8 .now)) n3) (entriesOfRecords (s9 .now)) (entriesOfRecords (s10 .now)) (entriesOfRecords (s11 .now)) ys4 (ws2 .1 .0) (ws3 .1 .0) (ws4 .1 .0) (ws5 .1 .1 .1 .0) r5 e1 e2 e3 e4 e5'
-thin check::login_unless --use "$ends.WalkLaws.{unless-some, unless-none}" --use "$entries" --use "$words" --use "$z" \
-  --final 'unless-some n2 n5 (loginZ n6 (s7 .now) (elements (s8 .now)) n3) (entriesOfRecords (s9 .now)) (entriesOfRecords (s10 .now)) (entriesOfRecords (s11 .now)) n3 n1 r2 ys4 (ws2 .1 .1 .1 .0) (sym e1 ∙ b1) e2' \
-  --final 'unless-none n2 n5 (loginZ n6 (s7 .now) (elements (s8 .now)) n3) (entriesOfRecords (s9 .now)) (entriesOfRecords (s10 .now)) (entriesOfRecords (s11 .now)) n3 n1 ys4 (sym e1 ∙ b1)'
-thin check::judge --use "$ends.WalkLaws.{judge-ends}" --use "$entries" --use "$words" \
-  --final 'judge-ends n2 n3 n4 n5 (s6 .now) (elements (s7 .now)) (entriesOfRecords (s8 .now)) (entriesOfRecords (s9 .now)) (entriesOfRecords (s10 .now)) (entriesOfRecords (s11 .now)) (entriesOfRecords (s12 .now)) (entriesOfRecords (s13 .now)) ys1 (ws2 .1 .1 .0) (ws3 .1 .1 .0) (ws4 .0) r1 r2 r3 e1 e2 e3 e4'
-thin check::judge_unless --final '(rw (← e1, b1) (e3 .0), rw (← e1, b1) (e3 .1))' --final '(rw (← e1, b1) e2, rw (← e1, b1) refl)'
-thin check::refused --use "$ends.NumberLaws.{refused-is}" --final "refused-is $(six 3) n1 n2 (s21 .now) (s22 .now) n23 r1 r2 e1 e2"
-thin check::row_check --use "$ends.CheckEnds.{check-ends}" --use 'Rattle.magnetar_batch.specs.Check.{outcome}' \
-  --final "check-ends $(six 4) n2 n3 (s22 .now) (s23 .now) ys1 r1 r2 r3 (ws3 .1 .0) (outcome r4) e1 e2 e3 e4"
+# the row check
+failing=magnetar_batch::check::Failing
+check=Rattle.magnetar_inplace.proofs.CheckWalk
+zs='Rattle.magnetar_relation.specs.Steps.{loginZ}'
+in='Rattle.magnetar_inplace.specs.Ranges.{systemIn}'
+core=Rattle.magnetar_batch.proofs.WalkLaws
+long="$walks.{records-length}"
+each EachMNNNNNNSSI MNNNNNNSSI
+count CountANIMQNNNNNNSSE ANIMQNNNNNNSSE $failing
+thin check::product --use "$check.{product-ends}" --use "$entries" --use "$words" --use "$zs" \
+  --final 'product-ends n3 n4 (loginZ n6 (s9 .now) (elements (s10 .now)) n5) n7 n8 (entriesOfRecords (s1 .now)) ys2 (ws1 .0) (ws2 .1 .0) e1 e2'
+thin check::check_login --use "$check.{login-ends}" --use "$entries" --use "$words" --use "$zs" \
+  --final 'login-ends n5 (loginZ n10 (s11 .now) (elements (s12 .now)) n3) n6 n7 n8 n9 (entriesOfRecords (s13 .now)) n1 n2 n3 r1 ys4 (ws2 .1 .0) (ws3 .1 .0) (ws4 .1 .0) (ws5 .1 .1 .1 .0) r5 e1 e2 e3 e4 e5'
+thin check::login_unless --use "$core.{unless-some, unless-none}" --use "$entries" --use "$words" --use "$zs" --use "$in" \
+  --final 'unless-some n2 (loginZ n10 (s11 .now) (elements (s12 .now)) n3) (systemIn n5 n6 n7 n8 n9 (entriesOfRecords (s13 .now))) n3 n1 r2 ys4 (ws2 .1 .1 .1 .0) (sym e1 ∙ b1) e2' \
+  --final 'unless-none n2 (loginZ n10 (s11 .now) (elements (s12 .now)) n3) (systemIn n5 n6 n7 n8 n9 (entriesOfRecords (s13 .now))) n3 n1 ys4 (sym e1 ∙ b1)'
+thin check::judge --use "$check.{judge-ends}" --use "$entries" --use "$words" --use "$long" \
+  --final 'judge-ends n3 n4 n5 (entriesOfRecords (s6 .now)) _ (records-length (s6 .now)) n7 (s8 .now) (elements (s9 .now)) ys2 (ws4 .1 .1 .0) (ws5 .1 .1 .0) (ws6 .1 .0) r1 e1 r3 r4 r5 e3 n1 r2 e2 e4 e5 e6'
+
+# the combined table
+combo=Rattle.magnetar_inplace.proofs.ComboWalk
+thin combo::add_matrix --use "$combo.{matrix-ends}" --use "$entries" \
+  --final 'matrix-ends n3 n4 n5 n6 n7 n8 n9 (entriesOfRecords (s1 .now)) ys2 (ws1 .0) (ws2 .1 .1 .1 .1 .1 .0) e1 e2'
+thin combo::add_system --final 'rw (e3, e2, e1)'
+thin combo::combine --use "$combo.{combine-ends}" --use "$entries" --use "$long" \
+  --final 'combine-ends n2 n3 (entriesOfRecords (s7 .now)) _ (records-length (s7 .now)) n4 n5 n6 ys1 (ws2 .1 .0) (ws3 .1 .0) (ws4 .1 .0) (ws5 .0) r1 e1 e2 e3 e4 e5'
+thin combo::fill --final '(cc, cc)'
+thin combo::fill_unless --final '(refl, rw (← e1, b1) (e2 .0), rw (← e1, b1) (e2 .1))' --final '(refl, rw (← e1, b1) refl, rw (← e1, b1) refl)'
 
 # magnetar_forms: locals lent to the thin functions
 crate magnetar_forms
@@ -158,6 +166,6 @@ for g in verify prove; do thin lent::$g --part '(e1 .1)' --final 'rw (← (e1 .0
 bad=
 for f in $(cd "$new" && find crates -name '*.antt' | sort); do
   cmp -s "$new/$f" "$f" && continue
-  if [ "$check" ]; then echo "$f is not what the tools write"; bad=yes; else mkdir -p "$(dirname "$f")"; cp "$new/$f" "$f"; echo "$f"; fi
+  if [ "$compare" ]; then echo "$f is not what the tools write"; bad=yes; else mkdir -p "$(dirname "$f")"; cp "$new/$f" "$f"; echo "$f"; fi
 done
 [ -z "$bad" ]

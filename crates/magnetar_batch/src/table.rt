@@ -5,7 +5,6 @@ use magnetar_field::words;
 use magnetar_layout::tests;
 use magnetar_multilinear::eq;
 ghost use mathlib.Core.Path.{_≡_};
-ghost use mathlib.Core.List.{_++_};
 ghost use Prim.Native.Nat.{_+_, _*_, max};
 ghost use lib.Dec.{ltb};
 ghost use lib.ListN.{getD, take};

@@ -5,6 +5,9 @@ pub mod PackedEnds
 pub mod MaskLaws
 pub mod MaskEnds
 pub mod WalkLaws
+pub mod RangeLaws
+pub mod CheckWalk
+pub mod ComboWalk
 pub mod EachNNbool
 pub mod Eachbool
 pub mod EachNSM
@@ -15,3 +18,5 @@ pub mod EachSNNNNM
 pub mod EachVIbool
 pub mod EachNNNNMI
 pub mod EachNNSSNNNMI
+pub mod EachMNNNNNNSSI
+pub mod CountANIMQNNNNNNSSE

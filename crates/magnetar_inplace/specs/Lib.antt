@@ -1,4 +1,5 @@
 pub mod Records
 pub mod Steps
+pub mod Ranges
 pub mod LoginSteps
 pub mod MaskSteps

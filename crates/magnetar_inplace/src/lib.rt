@@ -1,7 +1,10 @@
 // Above the core: a matrix, or the matrices of a relation, lent as a slice of entry records.
+pub mod check;
+pub mod combo;
 mod login;
 pub mod logins;
 mod masks;
+pub mod ranges;
 pub mod records;
 pub mod steps;
 pub mod walks;

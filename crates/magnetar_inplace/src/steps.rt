@@ -4,7 +4,7 @@ ghost use mathlib.Core.Bool.{cond, _&&_};
 ghost use mathlib.Core.List.{_++_};
 ghost use lib.Dec.{eqb, leb, ltb};
 ghost use lib.ListN.{take};
-ghost use Prim.Native.Nat.{_+_, _*_};
+ghost use Prim.Native.Nat.{_+_, _*_, max};
 ghost use Rattle.magnetar_field.specs.Gf128.{value, _⊕_};
 ghost use Rattle.magnetar_field.specs.Words.{elements};
 ghost use Rattle.magnetar_multilinear.specs.Entries.{eqOut, answer, answered};
@@ -17,6 +17,7 @@ ghost use Rattle.magnetar_relation.specs.Steps.{clearedTo, addedTo, behind, col
 ghost use Rattle.magnetar_relation.specs.Told.{liesAt};
 ghost use Rattle.magnetar_inplace.specs.Steps.{loneOf, applyTests, tableTests, atTests, pairShare};
 use crate::records::Entry;
+use magnetar_batch::check;
 use magnetar_field::gf128;
 use magnetar_field::gf128::Evaluated;
 use magnetar_field::gf128::Gf128;
@@ -75,6 +76,25 @@ pub fn is_none(n: u32) -> bool
     ensures { λ r. ⌜ r ≡ eqb n 0 ⌝ }
 {
     n == 0
+}
+
+// The number of logins; 0 where n is a refusal.
+pub(crate) fn logins_unless(n: u32, q: usize) -> usize
+    ensures { λ r. ⌜ r ≡ cond (eqb n 0) q 0 ⌝ }
+{
+    if n != 0 {
+        return 0;
+    }
+    q
+}
+
+// Clears three products of the larger row count, unless n is a refusal.
+pub(crate) fn clear_unless(n: u32, s: &mut [u64], nb: usize, nf: usize)
+    ensures { λ _. ⌜ now (s .exit) ≡ cond (eqb n 0) (clearedTo (3 * max nb nf) (now (s .entry))) (now (s .entry)) ⌝ }
+{
+    if n == 0 {
+        check::clear_room(s, nb, nf);
+    }
 }
 
 // The flag, unless n is a refusal.

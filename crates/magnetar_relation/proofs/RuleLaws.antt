@@ -4,7 +4,7 @@ use mathlib.Core.Path.{_≡_, refl, sym, ap, _∙_}
 use mathlib.Core.Bool.{Bool, true, not}
 use mathlib.Core.List.{List, [], _∷_, _++_}
 use Prim.Native.Nat.{ℕ, zero, suc, _+_, _*_, _/_, _≤_, _<_}
-use native.Mathlib.Nat.{mul-comm, suc-inj, div-lt-iff-lt-mul}
+use native.Mathlib.Nat.{div-lt-iff-lt-mul}
 use native.Mathlib.Omega.{arith}
 use lib.Dec.{eqb, ltb}
 use lib.ListN.{length}
@@ -14,9 +14,10 @@ use Rattle.magnetar_layout.proofs.Noted.{note-kept, note-clear, noted-clear, no
 use Rattle.magnetar_layout.proofs.SizeLaws.{not-bad}
 use Rattle.magnetar_matrix.specs.Matrix.{Entry}
 use Rattle.magnetar_matrix.specs.Lent.{entriesOf}
+use Rattle.magnetar_r1cs.proofs.Ranges.{entries-length}
 use Rattle.magnetar_relation.specs.declared.shapes.SystemShape.{SystemShape}
 use Rattle.magnetar_relation.specs.declared.shapes.Shapes.{Shapes}
-use Rattle.magnetar_relation.specs.Rules.{rules, rulesOver, relationOf, inRelation, entriesIn, systemAt, inSystem}
+use Rattle.magnetar_relation.specs.Rules.{rules, rulesOver, inRelation, entriesIn, systemAt}
 use Rattle.magnetar_relation.specs.RuleTests.{mostTests, numberTests, shapeTests, total, ruleTestsBy, ruleTests, given}
 use Rattle.magnetar_relation.specs.Told.{liesAt, everyFrom}
 use Rattle.magnetar_relation.proofs.ToldLaws.{told-six}
@@ -133,12 +134,7 @@ shapes-few m q s e =
 
 -- ---- 7, by telling each entry its index
 pub entries-equal : (r c l h : List ℕ) → length c ≡ length r → length l ≡ length r → length h ≡ length r → length (entriesOf r c l h) ≡ length r
-unfolding entriesOf
-entries-equal [] c l h p q s = refl
-entries-equal (x ∷ r) [] l h p q s = absurd (omega arith)
-entries-equal (x ∷ r) (y ∷ c) [] h p q s = absurd (omega arith)
-entries-equal (x ∷ r) (y ∷ c) (z ∷ l) [] p q s = absurd (omega arith)
-entries-equal (x ∷ r) (y ∷ c) (z ∷ l) (u ∷ h) p q s = ap suc (entries-equal r c l h (suc-inj p) (suc-inj q) (suc-inj s))
+entries-equal r c l h p q s = omega (arith, entries-length r c l h, p, q, s)
 
 -- the last test may be another one, where the same comes of it when no test before it was bad
 late : (a : Tests) (k : ℕ) (b d : Bool) → (noted 0 a ≡ 0 → b ≡ d) → noted 0 (a ++ ((k, b) ∷ [])) ≡ noted 0 (a ++ ((k, d) ∷ []))

@@ -5,7 +5,7 @@ use mathlib.Core.Bool.{Bool, true, false, cond, _&&_}
 use mathlib.Core.List.{List, [], _∷_, _++_}
 use Prim.Native.Nat.{ℕ, zero, suc, _+_, _-_, _<_, _≤_, min}
 use native.Mathlib.Omega.{arith}
-use native.Mathlib.Nat.{zero-add, le-of-suc-le-suc}
+use native.Mathlib.Nat.{zero-add}
 use native.Mathlib.Numerals.{add-one}
 use lib.ListN.{length, getD, take, drop, length-drop, take-append-drop, drop-of-length-le}
 use lib.Seq.{drop-drop, length-take-le, take-all}
@@ -14,9 +14,10 @@ use borrow.Author.Tests.{lt-ltb, le-ltb, le-leb, lt-leb}
 use Rattle.magnetar_layout.specs.Every.{every}
 use Rattle.magnetar_matrix.specs.Matrix.{Entry}
 use Rattle.magnetar_matrix.specs.Lent.{entry, entriesOf}
+use Rattle.magnetar_r1cs.proofs.Ranges.{entries-length, entry-in}
 use Rattle.magnetar_relation.specs.declared.shapes.Shape.{Shape}
 use Rattle.magnetar_relation.specs.declared.shapes.Shapes.{Shapes}
-use Rattle.magnetar_relation.specs.Rules.{entriesIn, systemAt, liesIn, inSystem, relationOf, rulesOver, inRelation}
+use Rattle.magnetar_relation.specs.Rules.{entriesIn, systemAt, liesIn, inSystem}
 use Rattle.magnetar_relation.specs.RuleTests.{total}
 use Rattle.magnetar_relation.specs.Told.{shapeIn, shapeAt, liesAt, everyFrom, walked, walkedWithin}
 
@@ -25,27 +26,11 @@ abbrev pub held : (r c l h : List ℕ) → ℕ
 held r c l h = min (min (length r) (length c)) (min (length l) (length h))
 
 pub entries-held : (r c l h : List ℕ) → length (entriesOf r c l h) ≡ held r c l h
-unfolding entriesOf
-entries-held [] c l h = omega arith
-entries-held (x ∷ r) [] l h = omega arith
-entries-held (x ∷ r) (y ∷ c) [] h = omega arith
-entries-held (x ∷ r) (y ∷ c) (z ∷ l) [] = omega arith
-entries-held (x ∷ r) (y ∷ c) (z ∷ l) (u ∷ h) = let e = entries-held r c l h in omega (arith, e)
-
-held-suc : (r c l h : List ℕ) (i : ℕ) → i < length r → i < length c → i < length l → i < length h
-    → drop i (entriesOf r c l h) ≡ entry (getD r i 0) (getD c i 0) (getD l i 0) (getD h i 0) ∷ drop (suc i) (entriesOf r c l h)
-unfolding entriesOf
-held-suc [] c l h i a b d e = absurd (omega arith)
-held-suc (x ∷ r) [] l h i a b d e = absurd (omega arith)
-held-suc (x ∷ r) (y ∷ c) [] h i a b d e = absurd (omega arith)
-held-suc (x ∷ r) (y ∷ c) (z ∷ l) [] i a b d e = absurd (omega arith)
-held-suc (x ∷ r) (y ∷ c) (z ∷ l) (u ∷ h) zero a b d e = refl
-held-suc (x ∷ r) (y ∷ c) (z ∷ l) (u ∷ h) (suc i) a b d e =
-    held-suc r c l h i (le-of-suc-le-suc a) (le-of-suc-le-suc b) (le-of-suc-le-suc d) (le-of-suc-le-suc e)
+entries-held r c l h = entries-length r c l h
 
 pub entry-held : (r c l h : List ℕ) (i : ℕ) → i < length r → i < length c → i < length l → i < length h
     → drop i (entriesOf r c l h) ≡ entry (getD r i 0) (getD c i 0) (getD l i 0) (getD h i 0) ∷ drop (i + 1) (entriesOf r c l h)
-entry-held r c l h i a b d e = rw add-one (held-suc r c l h i a b d e)
+entry-held r c l h i a b d e = entry-in r c l h i (rw (entries-length r c l h) (omega arith))
 
 -- ---- a flag that goes round
 and-assoc : (a b c : Bool) → ((a && b) && c) ≡ (a && (b && c))

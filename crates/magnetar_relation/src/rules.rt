@@ -11,7 +11,7 @@ ghost use Prim.Native.Nat.{_≤_};
 ghost use Rattle.magnetar_layout.specs.Tests.{noted};
 ghost use Rattle.magnetar_matrix.specs.Lent.{entry, entriesOf};
 ghost use Rattle.magnetar_relation.specs.Rules.{entriesIn, rules};
-ghost use Rattle.magnetar_relation.specs.RuleTests.{rowTests, colTests, mostTests, numberTests, shapeTests, total, ruleTestsBy, ruleTests};
+ghost use Rattle.magnetar_relation.specs.RuleTests.{rowTests, colTests, mostTests, numberTests, shapeTests, ruleTestsBy, ruleTests};
 ghost use Rattle.magnetar_relation.specs.Told.{shapeIn, shapeAt, liesAt, everyFrom};
 
 // 4: the rows of a system's matrices, for q logins, after an earlier number z.

@@ -90,7 +90,8 @@ returns c =
     let g = shareAdded (x .m) (x .n) (zOf (x .w) (now (x .bits)) (elements (now (x .x)))) in
     let l = c .before .loop in
     let es = entriesOf (now (x .row)) (now (x .col)) (now (x .lo)) (now (x .hi)) in
-    let e = c .before .before .after .ensures ∙ ap (λ (i : ℕ). min (x .a + x .k) i) (c .before .before .before .entries-held .ensures .0) in
+    let h = c .before .before .before .entries-held .ensures .0 in
+    let e = c .before .before .after .ensures ∙ ap (λ (i : ℕ). min (x .a + x .k) i) h in
     range-end g (now (x .row)) (now (x .col)) (now (x .lo)) (now (x .hi)) _ _ (l .i) (l .s) (omega arith) (l .inv .1)
     ∙ ap (λ (t : List Entry). walked g t (now (x .s))) (range-is es (x .a) (x .k) _ e)
 

@@ -38,7 +38,8 @@ same-length c = search needs
 
 returns : tie.Need-returns
 returns c =
-    let x = (c .before .before .before .before .before .before .before .before .before .before .before .before .before .before .before .before .before .before .before .before .before .before .before .before .before .before .before) .args in
+    let half = c .before .before .before .before .before .before .before .before .before .before .before .before .before in
+    let x = half .before .before .before .before .before .before .before .before .before .before .before .before .before .before .args in
     let es = entriesOf (now (x .row)) (now (x .col)) (now (x .lo)) (now (x .hi)) in
     let z = zOf (x .w) (now (x .bits)) (elements (now (x .x))) in
     let h = c .before .before .before .before .before .before .before .before .before .before .before .before .before .before .before .before .before .before .before .entries-held .ensures .0 in

@@ -23,12 +23,24 @@ same-length : tie.Need-same-length
 same-length c = search needs
 
 returns : tie.Need-returns
-returns c = let x = c .before .before .before .before .before .before .before .args in c .before .before .clear-front .ensures ∙ ap (λ (k : ℕ). clearedTo (3 * k) (now (x .s))) (c .before .before .before .before .before .larger .ensures)
+returns c =
+    let x = (c .before .before .before .before .before .before .before) .args in
+    let k = c .before .before .before .before .before .larger .ensures in
+    c .before .before .clear-front .ensures ∙ ap (λ (i : ℕ). clearedTo (3 * i) (now (x .s))) k
 
 returns-2 : tie.Need-returns-2
-returns-2 c = let x = c .before .before .before .args in cleared-none (3 * c .before .larger .result) (now (x .s)) (omega arith) ∙ ap (λ (k : ℕ). clearedTo (3 * k) (now (x .s))) (c .before .larger .ensures)
+returns-2 c =
+    let x = (c .before .before .before) .args in
+    let k = c .before .larger in
+    cleared-none (3 * k .result) (now (x .s)) (omega arith) ∙ ap (λ (i : ℕ). clearedTo (3 * i) (now (x .s))) (k .ensures)
 
 pub clear-room-spec : {M : Type 1} → statement M
 clear-room-spec =
     tie.close
-    (tie.spec larger-requires mul-clear-front clear-front-requires same-length returns returns-2)
+    (tie.spec
+    larger-requires
+    mul-clear-front
+    clear-front-requires
+    same-length
+    returns
+    returns-2)

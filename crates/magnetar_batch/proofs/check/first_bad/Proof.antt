@@ -14,13 +14,19 @@ same-length : tie.Need-same-length
 same-length c = search needs
 
 returns : tie.Need-returns
-returns c = let x = c .before .before .before .before .args in (failing-here (x .r) (x .k) (x .u) (x .n) (c .before .first-row .result) (now (x .s)) (c .before .first-row .ensures) (c .if1 .taken), refl)
+returns c =
+    let x = (c .before .before .before .before) .args in
+    let i = c .before .first-row in
+    (failing-here (x .r) (x .k) (x .u) (x .n) (i .result) (now (x .s)) (i .ensures) (c .if1 .taken), refl)
 
 same-length-2 : tie.Need-same-length-2
 same-length-2 c = search needs
 
 returns-2 : tie.Need-returns-2
-returns-2 c = let x = c .before .before .before .before .args in (failing-none (x .r) (x .k) (x .u) (x .n) (c .before .first-row .result) (now (x .s)) (c .before .first-row .ensures) (c .if1 .left), refl)
+returns-2 c =
+    let x = (c .before .before .before .before) .args in
+    let i = c .before .first-row in
+    (failing-none (x .r) (x .k) (x .u) (x .n) (i .result) (now (x .s)) (i .ensures) (c .if1 .left), refl)
 
 pub first-bad-spec : {M : Type 1} → statement M
 first-bad-spec = tie.close (tie.spec first-row-requires same-length returns same-length-2 returns-2)

@@ -1,8 +1,7 @@
 -- `magnetar_batch::check::row_check` meets its contract.
 -- Assumes nothing.
-use mathlib.Core.Path.{_≡_, _∙_}
+use mathlib.Core.Path.{_≡_}
 use mathlib.Core.List.{[]}
-use Prim.Native.Nat.{ℕ}
 use lib.ListN.{length}
 use denote.Ref.{now}
 use Rattle.magnetar_relation.specs.Rules.{Rules, rules}

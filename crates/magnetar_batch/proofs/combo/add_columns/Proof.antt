@@ -85,7 +85,8 @@ returns c =
     let x = (c .before .before .before .before .before .before .before .before .before) .args in
     let l = c .before .loop in
     let es = entriesOf (now (x .row)) (now (x .col)) (now (x .lo)) (now (x .hi)) in
-    let e = c .before .before .after .ensures ∙ ap (λ (i : ℕ). min (x .a + x .k) i) (c .before .before .before .entries-held .ensures .0) in
+    let h = c .before .before .before .entries-held .ensures .0 in
+    let e = c .before .before .after .ensures ∙ ap (λ (i : ℕ). min (x .a + x .k) i) h in
     range-end (columnAdded (x .m) (x .n)) (now (x .row)) (now (x .col)) (now (x .lo)) (now (x .hi)) _ _ (l .i) (l .s) (omega arith) (l .inv .1)
     ∙ ap (λ (t : List Entry). walked (columnAdded (x .m) (x .n)) t (now (x .s))) (range-is es (x .a) (x .k) _ e)
 

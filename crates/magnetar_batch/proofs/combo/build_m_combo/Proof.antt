@@ -1,8 +1,7 @@
 -- `magnetar_batch::combo::build_m_combo` meets its contract.
 -- Assumes nothing.
-use mathlib.Core.Path.{_≡_, _∙_}
+use mathlib.Core.Path.{_≡_}
 use mathlib.Core.List.{[]}
-use Prim.Native.Nat.{ℕ}
 use lib.ListN.{length}
 use denote.Ref.{now}
 use Rattle.magnetar_relation.specs.Rules.{Rules, rules}
@@ -58,15 +57,18 @@ same-length-2 c = search needs
 
 returns-2 : tie.Need-returns-2
 returns-2 c =
-    let s = (c .before .before .before .before .before .before .before .before .before .before .before .before .before .before .before .before .before .before .before .before .before .before .before .before .before .before .before .before) in
+    let half = c .before .before .before .before .before .before .before .before .before .before .before .before .before .before in
+    let s = half .before .before .before .before .before .before .before .before .before .before .before .before .before .before in
     let x = s .args in
     let e = c .before .before .before .before .move-table .ensures in
     let t = c .before .before .before .before .before .before .before .before .before .combine .ensures in
     let r = c .before .before .before .before .before .before .before .before .before .before .before .point322 .ensures in
     let p = c .before .before .before .before .before .before .before .before .before .before .before .before .point32 .ensures in
     let a = c .before .before .before .before .before .before .before .before .before .before .before .before .before .alphas12 .ensures in
+    let f = found (c .before .before .before .before .before .before .before .before .before .before .before .before .before .before .before) in
+    let n = c .before .before .before .before .before .before .before .before .before .before .before .before .before .before .if1 .left in
     combo-called (rel s) (now (x .alphas)) (now (x .pb)) (now (x .pf)) (now (x .out)) (now (x .scratch)) _
-    (found (c .before .before .before .before .before .before .before .before .before .before .before .before .before .before .before)) _ _ _ _ _ _ (c .before .before .before .before .before .before .before .before .before .before .before .before .before .before .if1 .left) a p r t e
+    f _ _ _ _ _ _ n a p r t e
 
 pub build-m-combo-spec : {M : Type 1} → statement M
 build-m-combo-spec =

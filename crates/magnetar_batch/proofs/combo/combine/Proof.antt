@@ -30,7 +30,8 @@ same-length c = search needs
 
 returns : tie.Need-returns
 returns c =
-    let x = (c .before .before .before .before .before .before .before .before .before .before .before .before .before .before .before .before .before .before .before .before .before .before .before .before .before) .args in
+    let half = c .before .before .before .before .before .before .before .before .before .before .before .before in
+    let x = half .before .before .before .before .before .before .before .before .before .before .before .before .before .args in
     let es = entriesOf (now (x .row)) (now (x .col)) (now (x .lo)) (now (x .hi)) in
     let h = c .before .before .before .before .before .before .before .before .before .before .before .before .before .before .before .before .before .entries-held .ensures .0 in
     let a = c .before .before .before .before .before .before .before .before .before .before .before .before .before .before .before .before .past .ensures in

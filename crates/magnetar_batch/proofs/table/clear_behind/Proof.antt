@@ -38,13 +38,22 @@ same-length : tie.Need-same-length
 same-length c = search needs
 
 returns : tie.Need-returns
-returns c = let x = c .before .before .before .before .before .before .before .before .args in behind-some (x .m) (c .before .before .before .before .before .before .larger .result) _ (now (x .s)) _ (c .before .before .before .before .before .before .larger .ensures) (omega arith) (c .before .before .clear .ensures)
+returns c =
+    let x = (c .before .before .before .before .before .before .before .before) .args in
+    let k = c .before .before .before .before .before .before .larger in
+    behind-some (x .m) (k .result) _ (now (x .s)) _ (k .ensures) (omega arith) (c .before .before .clear .ensures)
 
 returns-2 : tie.Need-returns-2
-returns-2 c = let x = c .before .before .before .before .args in behind-none (x .m) (c .before .before .larger .result) _ (now (x .s)) (c .before .before .larger .ensures) (omega arith)
+returns-2 c =
+    let x = (c .before .before .before .before) .args in
+    let k = c .before .before .larger in
+    behind-none (x .m) (k .result) _ (now (x .s)) (k .ensures) (omega arith)
 
 returns-3 : tie.Need-returns-3
-returns-3 c = let x = c .before .before .before .args in behind-none (x .m) (c .before .larger .result) _ (now (x .s)) (c .before .larger .ensures) (omega arith)
+returns-3 c =
+    let x = (c .before .before .before) .args in
+    let k = c .before .larger in
+    behind-none (x .m) (k .result) _ (now (x .s)) (k .ensures) (omega arith)
 
 pub clear-behind-spec : {M : Type 1} → statement M
 clear-behind-spec =

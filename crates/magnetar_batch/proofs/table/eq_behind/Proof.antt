@@ -54,10 +54,17 @@ same-length : tie.Need-same-length
 same-length c = search needs
 
 returns : tie.Need-returns
-returns c = let x = c .before .before .before .before .before .before .before .before .before .before .before .before .args in eq-behind-read (x .m) (x .n) (c .before .before .before .before .before .before .before .least .result) (c .before .before .before .before .before .before .before .before .log .result) (value (c .before .before .before .before .before .before .before .before .before .get .result)) (x .k) (x .t4) (x .t6) (now (x .s)) _ (omega arith) (c .before .before .before .before .before .before .before .least .ensures .0) (c .before .before .before .before .before .before .before .before .log .ensures .0) (c .before .before .before .before .before .before .before .before .before .get .ensures) (c .before .before .eq-build-scaled .ensures .1)
+returns c =
+    let x = (c .before .before .before .before .before .before .before .before .before .before .before .before) .args in
+    let l = c .before .before .before .before .before .before .before .least in
+    let j = c .before .before .before .before .before .before .before .before .log in
+    let v = c .before .before .before .before .before .before .before .before .before .get in
+    let e = c .before .before .eq-build-scaled .ensures .1 in
+    eq-behind-read (x .m) (x .n) (l .result) (j .result) (value (v .result)) (x .k) (x .t4) (x .t6) (now (x .s)) _
+    (omega arith) (l .ensures .0) (j .ensures .0) (v .ensures) e
 
 returns-2 : tie.Need-returns-2
-returns-2 c = let x = c .before .before .before .before .before .before .args in eq-behind-none (x .m) _ _ (now (x .s)) (omega arith)
+returns-2 c = let x = (c .before .before .before .before .before .before) .args in eq-behind-none (x .m) _ _ (now (x .s)) (omega arith)
 
 pub eq-behind-spec : {M : Type 1} → statement M
 eq-behind-spec =

@@ -44,7 +44,9 @@ same-length-2 : tie.Need-same-length-2
 same-length-2 c = search needs
 
 returns : tie.Need-returns
-returns c = let x = c .before .before .before .before .before .before .before .before .before .before .before .before .before .args in moved (x .m) (now (x .s)) _ _ (now (x .out)) (omega arith) (c .before .before .before .before .before .before .copy .ensures) (c .before .before .clear .ensures)
+returns c =
+    let x = (c .before .before .before .before .before .before .before .before .before .before .before .before .before) .args in
+    moved (x .m) (now (x .s)) _ _ (now (x .out)) (omega arith) (c .before .before .before .before .before .before .copy .ensures) (c .before .before .clear .ensures)
 
 same-length-3 : tie.Need-same-length-3
 same-length-3 c = search needs
@@ -53,7 +55,9 @@ same-length-4 : tie.Need-same-length-4
 same-length-4 c = search needs
 
 returns-2 : tie.Need-returns-2
-returns-2 c = let x = c .before .before .before .before .before .before .before .before .args in moved-none (x .m) (now (x .s)) _ (now (x .out)) (omega arith) (c .before .before .copy2 .ensures)
+returns-2 c =
+    let x = (c .before .before .before .before .before .before .before .before) .args in
+    moved-none (x .m) (now (x .s)) _ (now (x .out)) (omega arith) (c .before .before .copy2 .ensures)
 
 pub move-table-spec : {M : Type 1} → statement M
 move-table-spec =

@@ -1,0 +1,204 @@
+// The plain row check over one slice of entry records (`row_check`).
+ghost use mathlib.Core.Path.{_≡_};
+ghost use mathlib.Core.Bool.{cond, _&&_};
+ghost use mathlib.Core.List.{[]};
+ghost use lib.Dec.{eqb, leb, ltb};
+ghost use Rattle.magnetar_field.specs.Words.{elements};
+ghost use Rattle.magnetar_relation.specs.Rules.{relationOf, rulesOver};
+ghost use Rattle.magnetar_relation.specs.Steps.{loginZ};
+ghost use Rattle.magnetar_relation.specs.Told.{walkedWithin};
+ghost use Rattle.magnetar_batch.specs.CheckSteps.{shareAdded, productBehind, threeIn, nothing, failingIn, from, loginDone, systemDone, bothDone, bothWords};
+ghost use Rattle.magnetar_inplace.specs.Records.{entryOf, entriesOfRecords};
+ghost use Rattle.magnetar_inplace.specs.Ranges.{matrixIn, systemIn};
+use crate::ranges;
+use crate::records::Entry;
+use crate::steps;
+use magnetar_batch::check as core;
+use magnetar_batch::check::Failing;
+use magnetar_relation::shapes::Shapes;
+
+// Adds the share of the record with the index i of login u's product, where this is from a to b, to n elements behind the first m.
+fn share_within(
+    s: &mut [u64],
+    m: usize,
+    n: usize,
+    u: usize,
+    w: usize,
+    a: usize,
+    b: usize,
+    packed: &[u64],
+    x: &[u64],
+    i: usize,
+    e: Entry,
+)
+    ensures { λ _. ⌜ now (s .exit) ≡ cond (leb a i && ltb i b) (shareAdded m n (loginZ w (now (packed .entry)) (elements (now (x .entry))) u) (entryOf e) (now (s .entry))) (now (s .entry)) ⌝ }
+{
+    if a <= i {
+        if i < b {
+            core::add_share(s, m, n, u, w, packed, x, e.row, e.col, e.lo, e.hi);
+        }
+    }
+}
+
+// Adds the product of the records from a to b with login u's z to n elements behind the first m.
+fn add_product(
+    es: &[Entry],
+    s: &mut [u64],
+    m: usize,
+    n: usize,
+    u: usize,
+    w: usize,
+    a: usize,
+    b: usize,
+    packed: &[u64],
+    x: &[u64],
+)
+    ensures { λ _. ⌜ now (s .exit) ≡ walkedWithin (shareAdded m n (loginZ w (now (packed .entry)) (elements (now (x .entry))) u)) a b 0 (entriesOfRecords (now (es .entry))) (now (s .entry)) ⌝ }
+{
+    let mut i = 0;
+    while i < es.len() {
+        share_within(s, m, n, u, w, a, b, packed, x, i, es[i]);
+        i += 1;
+    }
+}
+
+// Sets n elements behind the first m to that product.
+fn product(
+    es: &[Entry],
+    s: &mut [u64],
+    m: usize,
+    n: usize,
+    u: usize,
+    w: usize,
+    a: usize,
+    b: usize,
+    packed: &[u64],
+    x: &[u64],
+)
+    ensures { λ _. ⌜ now (s .exit) ≡ productBehind m n (loginZ w (now (packed .entry)) (elements (now (x .entry))) u) (matrixIn n a b (entriesOfRecords (now (es .entry)))) (now (s .entry)) ⌝ }
+{
+    core::clear_behind(s, m, n);
+    add_product(es, s, m, n, u, w, a, b, packed, x);
+}
+
+// The first row of system k that does not hold for login u, or r. The system has n rows and the records from a to d.
+fn check_login(
+    r: Failing,
+    k: usize,
+    u: usize,
+    s: &mut [u64],
+    n: usize,
+    a: usize,
+    b: usize,
+    c: usize,
+    d: usize,
+    w: usize,
+    packed: &[u64],
+    x: &[u64],
+    es: &[Entry],
+) -> Failing
+    ensures { λ f. ⌜ (f ≡ failingIn r k u n (threeIn (loginZ w (now (packed .entry)) (elements (now (x .entry))) u) (systemIn n a b c d (entriesOfRecords (now (es .entry)))) (now (s .entry))))
+        × (now (s .exit) ≡ threeIn (loginZ w (now (packed .entry)) (elements (now (x .entry))) u) (systemIn n a b c d (entriesOfRecords (now (es .entry)))) (now (s .entry))) ⌝ }
+{
+    let none = 0;
+    let twice = core::twice(n);
+    product(es, s, none, n, u, w, a, b, packed, x);
+    product(es, s, n, n, u, w, b, c, packed, x);
+    product(es, s, twice, n, u, w, c, d, packed, x);
+    core::first_bad(r, k, u, s, n)
+}
+
+// The same unless r is a row that was found before.
+fn login_unless(
+    r: Failing,
+    k: usize,
+    u: usize,
+    s: &mut [u64],
+    n: usize,
+    a: usize,
+    b: usize,
+    c: usize,
+    d: usize,
+    w: usize,
+    packed: &[u64],
+    x: &[u64],
+    es: &[Entry],
+) -> Failing
+    ensures { λ f. ⌜ (f ≡ loginDone k (loginZ w (now (packed .entry)) (elements (now (x .entry))) u) (systemIn n a b c d (entriesOfRecords (now (es .entry)))) u (from r (now (s .entry))) .found)
+        × (now (s .exit) ≡ loginDone k (loginZ w (now (packed .entry)) (elements (now (x .entry))) u) (systemIn n a b c d (entriesOfRecords (now (es .entry)))) u (from r (now (s .entry))) .left) ⌝ }
+{
+    let go = core::is_nothing(r);
+    if go {
+        let f = check_login(r, k, u, s, n, a, b, c, d, w, packed, x, es);
+        f
+    } else {
+        r
+    }
+}
+
+// The first of q logins with a row that does not hold, after what was found before.
+fn check_system(
+    r: Failing,
+    k: usize,
+    s: &mut [u64],
+    q: usize,
+    n: usize,
+    a: usize,
+    b: usize,
+    c: usize,
+    d: usize,
+    w: usize,
+    packed: &[u64],
+    x: &[u64],
+    es: &[Entry],
+) -> Failing
+    ensures { λ f. ⌜ (f ≡ systemDone k w (now (packed .entry)) (elements (now (x .entry))) (systemIn n a b c d (entriesOfRecords (now (es .entry)))) q (from r (now (s .entry))) .found)
+        × (now (s .exit) ≡ systemDone k w (now (packed .entry)) (elements (now (x .entry))) (systemIn n a b c d (entriesOfRecords (now (es .entry)))) q (from r (now (s .entry))) .left) ⌝ }
+{
+    let mut acc = r;
+    let mut u = 0;
+    while u < q {
+        acc = login_unless(acc, k, u, s, n, a, b, c, d, w, packed, x, es);
+        u += 1;
+    }
+    acc
+}
+
+// Both systems, unless z is a refusal; the words are 0 at exit.
+fn judge(
+    z: u32,
+    s: &mut [u64],
+    m: usize,
+    q: usize,
+    sh: Shapes,
+    es: &[Entry],
+    w: usize,
+    packed: &[u64],
+    x: &[u64],
+) -> Failing
+    ensures { λ f. ⌜ (f ≡ cond (eqb z 0) (bothDone (relationOf (rulesOver m q [] sh (entriesOfRecords (now (es .entry))))) w (now (packed .entry)) (elements (now (x .entry))) (now (s .entry)) .found) nothing)
+        × (now (s .exit) ≡ cond (eqb z 0) (bothWords (relationOf (rulesOver m q [] sh (entriesOfRecords (now (es .entry))))) w (now (packed .entry)) (elements (now (x .entry))) (now (s .entry))) (now (s .entry))) ⌝ }
+{
+    let bin = 1;
+    let fld = 2;
+    let first = 0;
+    let tb = sh.bin;
+    let tf = sh.fld;
+    let hb = tb.a;
+    let hf = tf.a;
+    let nb = hb.rows;
+    let nf = hf.rows;
+    let g = ranges::ends_of(sh, es.len());
+    let a = g.bina;
+    let b = g.binb;
+    let c = g.binc;
+    let d = g.flda;
+    let e = g.fldb;
+    let f = g.fldc;
+    let l = steps::logins_unless(z, q);
+    let r = core::none();
+    let r = check_system(r, bin, s, l, nb, first, a, b, c, w, packed, x, es);
+    let r = check_system(r, fld, s, l, nf, c, d, e, f, w, packed, x, es);
+    steps::clear_unless(z, s, nb, nf);
+    r
+}
