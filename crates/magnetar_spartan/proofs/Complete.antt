@@ -2,7 +2,7 @@
 -- Assumes nothing.
 use mathlib.Core.Path.{_≡_, refl, sym, ap, _∙_, subst}
 use mathlib.Core.Bool.{Bool, true, false}
-use mathlib.Core.List.{List, [], _∷_, _++_}
+use mathlib.Core.List.{List, [], _++_}
 use Prim.Native.Nat.{ℕ, suc, _*_, _/_, _<_, _≤_}
 use native.Mathlib.Omega.{arith}
 use lib.Dec.{ltb}
@@ -13,13 +13,11 @@ use Rattle.magnetar_field.proofs.Elements.{elements-length, elements-below, wor
 use Rattle.magnetar_field.proofs.Tabulation.{tabulate-length, tabulate-get, tabulate-out}
 use Rattle.magnetar_hash.specs.declared.transcript.Transcript.{Transcript}
 use Rattle.magnetar_layout.specs.Tests.{Tests}
-use Rattle.magnetar_layout.proofs.Noted.{Clear, noted-clear}
+use Rattle.magnetar_layout.proofs.Noted.{noted-clear}
 use Rattle.magnetar_matrix.specs.Batch.{Relation, Batch, Good, bitOf}
 use Rattle.magnetar_matrix.specs.Packed.{packedBit, loginPart, unpacked}
-use Rattle.magnetar_matrix.specs.Lent.{matrixOf}
 use Rattle.magnetar_matrix.proofs.TableLaws.{elements-words}
 use Rattle.magnetar_matrix.proofs.LoginParts.{bit-unpacked}
-use Rattle.magnetar_batch.specs.Systems.{systemOf}
 use Rattle.magnetar_protocol.specs.Run.{claims, verdict, ClaimsTrue}
 use Rattle.magnetar_protocol.specs.RunSizes.{SizedRelation, SizedBatch}
 use Rattle.magnetar_protocol.specs.Soundness.{NoBitOutside}
@@ -28,13 +26,13 @@ use Rattle.magnetar_protocol.specs.RealRun.{verifierDraws, verifierTranscript, 
 use Rattle.magnetar_protocol.proofs.Stepwise.{proving-length}
 use Rattle.magnetar_protocol.proofs.ProverRun.{proving-words}
 use Rattle.magnetar_protocol.proofs.RealRuns.{completeness-run}
-use Rattle.magnetar_spartan.specs.Rules.{Rules, relationOf}
-use Rattle.magnetar_spartan.specs.Refusals.{ruleTests, counterTests, roomOf, wordTests, claimWords, proofWords, verifierRoom, proverRoom, verifyTests, proveTests}
+use Rattle.magnetar_relation.specs.Rules.{Rules, relationOf}
+use Rattle.magnetar_spartan.specs.Refusals.{rulesTests, counterTests, roomOf, wordTests, claimWords, proofWords, verifierRoom, proverRoom, verifyTests, proveTests}
 use Rattle.magnetar_spartan.specs.Outcome.{batchOf, verifyRefusal, verifyVerdict, verifyOutcome, proveRefusal, proveDraws, proveOutcome}
 use Rattle.magnetar_spartan.specs.Theorems.{AreWords, writtenProof, CompleteCall}
-use Rattle.magnetar_spartan.proofs.SizedRules.{sized-relation}
-use Rattle.magnetar_spartan.proofs.Ended.{Provable, provable, clear-front, clear-back}
-use Rattle.magnetar_spartan.proofs.Combining.{noted-none, same-fine}
+use Rattle.magnetar_spartan.proofs.SizedRules.{rules-numbered}
+use Rattle.magnetar_spartan.proofs.Ended.{Provable, provable}
+use Rattle.magnetar_spartan.proofs.Fine.{noted-none, clear-front, clear-back, clear-join, same-fine}
 use Rattle.magnetar_spartan.proofs.Sound.{front, claims-size, returned-words, returned}
 
 -- ---- packed words hold a batch of the relation's sizes
@@ -69,10 +67,6 @@ module _ (q w : ℕ) (ws : List ℕ) where
 
 pub sized-batch : (R : Rules) (ws : List ℕ) → SizedBatch (relationOf R) (batchOf R ws)
 sized-batch R ws = record { logins = many (R .q) (R .m / 2) ws; columns = wide (R .q) (R .m / 2) ws; bits = bits-below (R .q) (R .m / 2) ws }
-
-clear-join : (a b : Tests) → Clear a → Clear b → Clear (a ++ b)
-clear-join [] b p q = q
-clear-join (t ∷ a) b p q = (p .0, clear-join a b (p .1) q)
 
 module _ (R : Rules) (ws x : List ℕ) (t : Transcript) (w c s : List ℕ) where
   abbrev handed : List ℕ
@@ -110,18 +104,18 @@ module _ (R : Rules) (ws x : List ℕ) (t : Transcript) (w c s : List ℕ) where
   unfolding proveRefusal verifyRefusal
   unrefused p c′ s′ hp hc hs hw =
       let n = t .«squeeze_ctr» in
-      let k = noted-clear 0 (proveTests R ws x n (length w) (length c) (length s)) refl hp .1 in
+      let k = noted-clear 0 (proveTests R ws x n (length w) (length c) (length s)) (rules-numbered R _ refl) hp .1 in
       let rest : Tests = counterTests n ++ (roomOf (proofWords R) (length w) ++ (roomOf (claimWords R) (length c) ++ roomOf (proverRoom R) (length s))) in
       let others : Tests = counterTests n ++ (roomOf (claimWords R) (length c′) ++ (roomOf (verifierRoom R) (length s′) ++ wordTests (proofWords R) p)) in
-      let rules = clear-front (ruleTests R) rest (k .1 .1 .1 .1) in
-      let counter = clear-back (ruleTests R) rest (k .1 .1 .1 .1) .0 in
+      let rules = clear-front (rulesTests R) rest (k .1 .1 .1 .1) in
+      let counter = clear-back (rulesTests R) rest (k .1 .1 .1 .1) .0 in
       noted-none (verifyTests R x p n (length c′) (length s′)) (
         k .0,
         (
           k .1 .0,
           (
             k .1 .1 .1 .0,
-            clear-join (ruleTests R) others rules
+            clear-join (rulesTests R) others rules
                 (counter, (le-ltb (length c′) (claimWords R) hc, (le-ltb (length s′) (verifierRoom R) hs, (same-fine (length p) (proofWords R) hw, tt)))),
           ),
         ),
@@ -133,13 +127,13 @@ module _ (R : Rules) (ws x : List ℕ) (t : Transcript) (w c s : List ℕ) where
     able = provable R ws x (t .«squeeze_ctr») (length w) (length c) (length s) (unfold proveRefusal in hp)
 
     relation : SizedRelation (relationOf R)
-    relation = sized-relation R (able .ready .columns) (able .ready .logins) (able .ready .fine)
+    relation = able .ready
 
     public : suc (length (elements x)) ≡ R .m / 2
     public = omega (arith, elements-length x, able .public, able .ready .columns .low)
 
     size : proofWords R ≡ 2 * length sent
-    size = unfold sentWords systemOf matrixOf in ap (λ (n : ℕ). 2 * n)
+    size = unfold sentWords in ap (λ (n : ℕ). 2 * n)
         (sym (proving-length (relationOf R) (batchOf R ws) (elements x) t)
         ∙ ap length (proving-words (relationOf R) (batchOf R ws) (elements x) t relation (sized-batch R ws) public (elements-below x wx)))
 

@@ -1,47 +1,32 @@
 -- The outcomes of both ends: refused, or run through.
 -- Assumes nothing.
 use mathlib.Core.Path.{_≡_, refl, _∙_}
-use mathlib.Core.Bool.{Bool, true, false, cond}
-use mathlib.Core.List.{List, [], _∷_, _++_, append-nil}
+use mathlib.Core.List.{List, _++_}
 use Prim.Native.Nat.{ℕ, _+_, _-_, _*_, _/_, _^_, _≤_, _<_}
 use lib.Pow.{pow-mono}
 use native.Mathlib.Nat.{lt-of-not-le}
 use native.Mathlib.Omega.{arith}
-use lib.Dec.{eqb}
-use lib.ListN.{length, take, drop, replicate, length-append, length-take, length-drop, take-append-drop, drop-of-length-le}
+use lib.ListN.{length, take, drop, length-append, length-drop}
 use lib.Seq.{drop-at, length-take-le}
-use borrow.Author.Tests.{eq-eqb, ne-eqb, eqb-true, ltb-true, ltb-false, not-false}
+use borrow.Author.Tests.{ne-eqb, eqb-true, ltb-true, ltb-false, not-false}
 use Rattle.magnetar_field.specs.Sizes.{log₂}
-use Rattle.magnetar_field.specs.Words.{elements, words}
+use Rattle.magnetar_field.specs.Words.{words}
 use Rattle.magnetar_hash.specs.declared.transcript.Transcript.{Transcript}
-use Rattle.magnetar_hash.specs.declared.transcript.TranscriptAnswer.{TranscriptAnswer}
 use Rattle.magnetar_layout.specs.Login.{loginWords}
-use Rattle.magnetar_layout.specs.Tests.{Tests, noted, Sized}
+use Rattle.magnetar_layout.specs.Tests.{Tests, noted, Sized, sizeTests, layoutTests}
 use Rattle.magnetar_layout.proofs.Noted.{Clear, noted-clear}
-use Rattle.magnetar_layout.proofs.SizeLaws.{not-bad}
 use Rattle.magnetar_r1cs.proofs.Points.{log-most}
 use Rattle.magnetar_protocol.specs.Draws.{drawCount}
 use Rattle.magnetar_protocol.specs.Run.{claims}
-use Rattle.magnetar_protocol.specs.RealRun.{verifierDraws}
-use Rattle.magnetar_spartan.specs.Rules.{Rules, relationOf}
-use Rattle.magnetar_spartan.specs.Refusals.{ruleTests, counterTests, roomOf, wordTests, proofWords, claimWords, verifierRoom, proverRoom, verifyTests, proveTests}
+use Rattle.magnetar_relation.specs.Rules.{Rules}
+use Rattle.magnetar_relation.specs.RuleTests.{ruleTests}
+use Rattle.magnetar_spartan.specs.Refusals.{rowsBin, rowsFld, outlineOf, rulesTests, counterTests, roomOf, wordTests, proofWords, claimWords, verifierRoom, proverRoom, verifyTests, proveTests}
 use Rattle.magnetar_spartan.specs.Ready.{Ready}
-use Rattle.magnetar_spartan.specs.Outcome.{verified, proved, proveRefusal, proveOutcome, verifyRefusal, verifyVerdict, verifyClaims, verifyOutcome}
-use Rattle.magnetar_spartan.proofs.Fine.{fine}
-use Rattle.magnetar_spartan.proofs.Combining.{noted-none}
-use Rattle.magnetar_spartan.proofs.Verifying.{sizesOf}
-use Rattle.magnetar_spartan.proofs.VerifyRun.{Left}
-use Rattle.magnetar_spartan.proofs.ProveRun.{ProveLeft}
+use Rattle.magnetar_spartan.specs.Outcome.{verified, verifyRefusal, verifyOutcome}
+use Rattle.magnetar_spartan.proofs.Fine.{clear-front, clear-back}
+use Rattle.magnetar_spartan.proofs.SizedRules.{rules-numbered, ready}
 
 -- ---- what is left where no test is bad
-pub clear-front : (a b : Tests) → Clear (a ++ b) → Clear a
-clear-front [] b c = tt
-clear-front (t ∷ a) b c = (c .0, clear-front a b (c .1))
-
-pub clear-back : (a b : Tests) → Clear (a ++ b) → Clear b
-clear-back [] b c = c
-clear-back (t ∷ a) b c = clear-back a b (c .1)
-
 pub record Verifiable (R : Rules) (x w : List ℕ) (c s : ℕ) : Type 0 where
   pub ready : Ready R
   pub public : length x ≡ R .m - 2
@@ -49,37 +34,41 @@ pub record Verifiable (R : Rules) (x w : List ℕ) (c s : ℕ) : Type 0 where
   pub scratch : verifierRoom R ≤ s
   pub proof : length w ≡ proofWords R
 
+-- the rules among other tests
+rules-ready : (R : Rules) (rest : Tests) → Clear (sizeTests (R .m) (R .q)) → Clear (rulesTests R ++ rest) → Ready R
+rules-ready R rest a c =
+    let l = layoutTests (R .m / 2) (R .lengths) in
+    let b = clear-front (rulesTests R) rest c in
+    ready R a (clear-front (ruleTests R) l b) (clear-back (ruleTests R) l b)
+
 pub verifiable : (R : Rules) (x w : List ℕ) (n c s : ℕ) → noted 0 (verifyTests R x w n c s) ≡ 0 → Verifiable R x w c s
 verifiable R x w n c s e =
-    let k = noted-clear 0 (verifyTests R x w n c s) refl e .1 in
+    let k = noted-clear 0 (verifyTests R x w n c s) (rules-numbered R _ refl) e .1 in
     let rest : Tests = counterTests n ++ (roomOf (claimWords R) c ++ (roomOf (verifierRoom R) s ++ wordTests (proofWords R) w)) in
-    let b = clear-back (ruleTests R) rest (k .1 .1 .1) in
+    let b = clear-back (rulesTests R) rest (k .1 .1 .1) in
     record {
-      ready = record {
-        columns = not-bad (k .0);
-        logins = not-bad (k .1 .0);
-        fine = fine R (noted-none (ruleTests R) (clear-front (ruleTests R) rest (k .1 .1 .1)));
-      };
+      ready = rules-ready R rest (k .0, (k .1 .0, tt)) (k .1 .1 .1);
       public = eqb-true (length x) (R .m - 2) (not-false _ (k .1 .1 .0));
       claims = ltb-false c (claimWords R) (b .1 .0);
       scratch = ltb-false s (verifierRoom R) (b .1 .1 .0);
       proof = eqb-true (length w) (proofWords R) (not-false _ (b .1 .1 .1 .0));
     }
 
--- as many draws as fit the room for them
-pub draws-small : (R : Rules) → Ready R → 2 * drawCount (sizesOf R) ≤ 256
-draws-small R P =
-    let q = log₂-small (R .q) (P .logins) in
-    let m = log-most (R .m) (P .columns .high) (P .columns .power) in
-    let b = log-most (R .bin .a .rows) (P .fine .bin .rows .high) (P .fine .bin .rows .power) in
-    let f = log-most (R .fld .a .rows) (P .fine .fld .rows .high) (P .fine .fld .rows .power) in
-    omega (arith, q, m, b, f)
+-- at most 4096 logins have at most 12 variables
+pub log-few : {n : ℕ} → Sized 1 4096 n → log₂ n ≤ 12
+log-few {n} z = below (log₂ n) (rw (← z .power) (z .high))
   where
-    log₂-small : (n : ℕ) → Sized 1 4096 n → log₂ n ≤ 12
-    log₂-small n z = below (log₂ n) (rw (← z .power) (z .high))
-      where
-        below : (k : ℕ) → 2 ^ k ≤ 4096 → k ≤ 12
-        below k h = let b : k < 13 = lt-of-not-le (λ l. omega (arith, h, pow-mono {i = 13} {j = k} l)) in omega arith
+    below : (k : ℕ) → 2 ^ k ≤ 4096 → k ≤ 12
+    below k h = let b : k < 13 = lt-of-not-le (λ l. omega (arith, h, pow-mono {i = 13} {j = k} l)) in omega arith
+
+-- as many draws as fit the room for them
+pub draws-small : (R : Rules) → Ready R → 2 * drawCount (outlineOf R) ≤ 256
+draws-small R P =
+    let q = log-few (P .logins) in
+    let m = log-most (R .m) (P .columns .high) (P .columns .power) in
+    let b = log-most (rowsBin R) (P .bin .rows .high) (P .bin .rows .power) in
+    let f = log-most (rowsFld R) (P .fld .rows .high) (P .fld .rows .power) in
+    omega (arith, q, m, b, f)
 
 -- ---- parts that were lent come back
 pub most : {a b c : ℕ} → a ≡ b → b ≤ c → a ≤ c
@@ -98,29 +87,11 @@ same-words n s p q h l k =
     let e : length q ≡ n = k ∙ front-length n p (drop n s) l in
     rw (drop-at p (drop n s) n l) (length-append q (drop n s) ∙ rw (e, length-drop n s) (omega arith))
 
-part : (b : Bool) (k : ℕ) (n c : List ℕ) → cond b (n ++ drop k (take k c)) (take k c) ++ drop k c ≡ cond b (n ++ drop k c) c
-part true k n c = rw (none, append-nil)
-  where
-    none : drop k (take k c) ≡ []
-    none = drop-of-length-le (take k c) {i = k} (rw (length-take k c) (omega arith))
-part false k n c = take-append-drop k c
-
 module _ (R : Rules) (x w : List ℕ) (t : Transcript) (c s : List ℕ) where
   pub verify-refused : (z : ℕ) → z ≡ verifyRefusal R x w t c s → (z ≡ 0 → ⊥)
       → verified (record { code = z; transcript = t }) c s ≡ verifyOutcome R x w t c s
   unfolding verifyOutcome
   verify-refused z e h = rw (← e, ne-eqb z 0 h)
-
-  pub verify-through : (z : ℕ) → z ≡ verifyRefusal R x w t c s → z ≡ 0 → (a : TranscriptAnswer) (c′ : List ℕ) (k n : ℕ)
-      → k ≡ claimWords R → n ≡ verifierRoom R → Left R x w t a (take k c) c′ → (s′ r : List ℕ) → s′ ≡ replicate n 0 → r ≡ drop n s
-      → verified a (c′ ++ drop k c) (s′ ++ r) ≡ verifyOutcome R x w t c s
-  unfolding verifyOutcome verifyClaims
-  verify-through z e h a c′ k n hk hn l s′ r hs hr =
-      let y : eqb (verifyRefusal R x w t c s) 0 ≡ true = rw (← e) (eq-eqb z 0 h) in
-      let v = eqb (verifyVerdict R x w t) 0 in
-      let front-words = words (claims (relationOf R) (elements w) (verifierDraws (relationOf R) (elements w) t)) in
-      let f : c′ ++ drop k c ≡ cond v (front-words ++ drop (claimWords R) c) c = rw (l .2, ← hk) (part v k front-words c) in
-      rw (y, l .0, l .1, f, hs, hr, hn)
 
 -- ---- the prover
 -- with packed words ws and public words x, so many words of proof, claims and scratch, and the counter n
@@ -135,15 +106,11 @@ pub record Provable (R : Rules) (ws x : List ℕ) (w c s n : ℕ) : Type 0 where
 
 pub provable : (R : Rules) (ws x : List ℕ) (n w c s : ℕ) → noted 0 (proveTests R ws x n w c s) ≡ 0 → Provable R ws x w c s n
 provable R ws x n w c s e =
-    let k = noted-clear 0 (proveTests R ws x n w c s) refl e .1 in
+    let k = noted-clear 0 (proveTests R ws x n w c s) (rules-numbered R _ refl) e .1 in
     let rest : Tests = counterTests n ++ (roomOf (proofWords R) w ++ (roomOf (claimWords R) c ++ roomOf (proverRoom R) s)) in
-    let b = clear-back (ruleTests R) rest (k .1 .1 .1 .1) in
+    let b = clear-back (rulesTests R) rest (k .1 .1 .1 .1) in
     record {
-      ready = record {
-        columns = not-bad (k .0);
-        logins = not-bad (k .1 .0);
-        fine = fine R (noted-none (ruleTests R) (clear-front (ruleTests R) rest (k .1 .1 .1 .1)));
-      };
+      ready = rules-ready R rest (k .0, (k .1 .0, tt)) (k .1 .1 .1 .1);
       packed = eqb-true (length ws) (R .q * loginWords (R .m / 2)) (not-false _ (k .1 .1 .0));
       public = eqb-true (length x) (R .m - 2) (not-false _ (k .1 .1 .1 .0));
       proof = ltb-false w (proofWords R) (b .1 .0);
@@ -151,17 +118,3 @@ provable R ws x n w c s e =
       scratch = ltb-false s (proverRoom R) (b .1 .1 .1 .0);
       counter = ltb-true n (2 ^ 32) (not-false _ (b .0));
     }
-
-module _ (R : Rules) (ws x : List ℕ) (t : Transcript) (w c s : List ℕ) where
-  pub prove-refused : (z : ℕ) → z ≡ proveRefusal R ws x t w c s → (z ≡ 0 → ⊥)
-      → proved (record { code = z; transcript = t }) w c s ≡ proveOutcome R ws x t w c s
-  unfolding proveOutcome
-  prove-refused z e h = rw (← e, ne-eqb z 0 h)
-
-  pub prove-through : (z : ℕ) → z ≡ proveRefusal R ws x t w c s → z ≡ 0 → (u : Transcript) (w′ c′ : List ℕ) (i k n : ℕ)
-      → i ≡ proofWords R → k ≡ claimWords R → n ≡ proverRoom R → ProveLeft R ws x t u w′ c′ → (s′ r : List ℕ) → s′ ≡ replicate n 0 → r ≡ drop n s
-      → proved (record { code = 0; transcript = u }) (w′ ++ drop i w) (c′ ++ drop k c) (s′ ++ r) ≡ proveOutcome R ws x t w c s
-  unfolding proveOutcome
-  prove-through z e h u w′ c′ i k n hi hk hn l s′ r hs hr =
-      let y : eqb (proveRefusal R ws x t w c s) 0 ≡ true = rw (← e) (eq-eqb z 0 h) in
-      rw (y, l .0, l .1, l .2, hs, hr, hn, hi, hk)

@@ -14,9 +14,7 @@ use Rattle.magnetar_field.specs.Words.{elements, words}
 use Rattle.magnetar_field.proofs.Elements.{elements-length, elements-below, words-length}
 use Rattle.magnetar_hash.specs.declared.transcript.Transcript.{Transcript}
 use Rattle.magnetar_matrix.specs.Batch.{Batch, Good}
-use Rattle.magnetar_matrix.specs.Lent.{matrixOf}
 use Rattle.magnetar_matrix.proofs.TableLaws.{elements-words}
-use Rattle.magnetar_batch.specs.Systems.{systemOf}
 use Rattle.magnetar_protocol.specs.Shape.{beforeEnd, proofElements}
 use Rattle.magnetar_protocol.specs.Proof.{segmentValues}
 use Rattle.magnetar_protocol.specs.Draws.{drawsOf, drawCount}
@@ -28,11 +26,10 @@ use Rattle.magnetar_protocol.proofs.SizeFacts.{cut}
 use Rattle.magnetar_protocol.proofs.ClaimParts.{claims-length}
 use Rattle.magnetar_protocol.proofs.Counts.{verifier-count, verifier-elements}
 use Rattle.magnetar_protocol.proofs.Soundness.{soundness}
-use Rattle.magnetar_spartan.specs.Rules.{Rules, relationOf}
+use Rattle.magnetar_relation.specs.Rules.{Rules, relationOf}
 use Rattle.magnetar_spartan.specs.Refusals.{claimWords}
 use Rattle.magnetar_spartan.specs.Outcome.{verifyRefusal, verifyVerdict, verifyClaims, verifyOutcome}
 use Rattle.magnetar_spartan.specs.Theorems.{AreWords}
-use Rattle.magnetar_spartan.proofs.SizedRules.{sized-relation}
 use Rattle.magnetar_spartan.proofs.Ended.{Verifiable, verifiable}
 
 -- the words at the front
@@ -44,10 +41,9 @@ module _ (R : Rules) (x w : List ℕ) (t : Transcript) (c s : List ℕ) (none : 
   fits = verifiable R x w (t .«squeeze_ctr») (length c) (length s) (unfold verifyRefusal in none)
 
   relation : SizedRelation (relationOf R)
-  relation = sized-relation R (fits .ready .columns) (fits .ready .logins) (fits .ready .fine)
+  relation = fits .ready
 
   as-many : length (elements w) ≡ proofElements (relationOf R)
-  unfolding systemOf matrixOf
   as-many = elements-length w ∙ omega (arith, fits .proof)
 
   -- Wherever the verifier refuses by none of 1 to 16, whatever elements d stand in the place of the draws: where it accepts with them, no

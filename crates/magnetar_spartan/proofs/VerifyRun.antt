@@ -1,170 +1,158 @@
--- What the verifier leaves: stopped by an outer check, by a later one, or by none.
+-- What the checks of a verifying run leave: stopped by an outer check, by a later one, or by none.
 -- Assumes nothing.
-use mathlib.Core.Path.{_≡_, sym, ap, _∙_}
+use mathlib.Core.Path.{_≡_, refl, sym, ap, _∙_}
 use mathlib.Core.List.{List, _++_}
-use Prim.Native.Nat.{ℕ, _+_, _-_, _*_, _/_, _≤_}
+use Prim.Native.Nat.{ℕ, zero, suc, _+_, _-_, _*_, _/_, _≤_}
 use native.Mathlib.Omega.{arith}
 use lib.ListN.{length, take}
-use borrow.Author.Tests.{ne-eqb}
+use borrow.Author.Tests.{eq-eqb, ne-eqb}
 use Rattle.magnetar_field.specs.Words.{elements, words}
+use Rattle.magnetar_field.proofs.Elements.{words-length}
 use Rattle.magnetar_matrix.proofs.TableLaws.{elements-words}
 use Rattle.magnetar_hash.specs.declared.transcript.Transcript.{Transcript}
-use Rattle.magnetar_hash.specs.declared.transcript.TranscriptAnswer.{TranscriptAnswer}
 use Rattle.magnetar_layout.specs.Tests.{sizeTests, publicTests, rowsTests, layoutTests, roomTest}
 use Rattle.magnetar_matrix.specs.Batch.{Relation}
 use Rattle.magnetar_protocol.specs.Shape.{proofElements}
 use Rattle.magnetar_protocol.specs.Draws.{drawsOf, drawCount}
-use Rattle.magnetar_protocol.specs.Schedule.{schedule}
 use Rattle.magnetar_protocol.specs.Checks.{combined}
 use Rattle.magnetar_protocol.specs.Run.{claims}
 use Rattle.magnetar_protocol.specs.RealRun.{verifierDraws, verifierTranscript}
-use Rattle.magnetar_protocol.proofs.Blocks.{claims-outlined}
 use Rattle.magnetar_protocol.specs.declared.first.Found.{Found}
 use Rattle.magnetar_protocol.specs.Found.{firstFound}
+use Rattle.magnetar_protocol.proofs.Blocks.{claims-outlined}
+use Rattle.magnetar_protocol.proofs.Counts.{verifier-count}
 use Rattle.magnetar_checks.specs.Outer.{outerChecksRefusal, outerFound, runTests, segmentTests, drawTests, proofTests}
 use Rattle.magnetar_checks.specs.Outer as checked
 use Rattle.magnetar_checks.specs.End.{endRefusal, endFound}
 use Rattle.magnetar_checks.specs.Claims.{claimsRefusal, claimsOut, claimCount}
-use Rattle.magnetar_spartan.specs.Rules.{Rules, relationOf}
-use Rattle.magnetar_spartan.specs.Refusals.{claimWords}
-use Rattle.magnetar_spartan.specs.Ready.{Ready, VerifyReady}
-use Rattle.magnetar_spartan.specs.Outcome.{verifyVerdict, verifyClaims}
-use Rattle.magnetar_spartan.proofs.Combining.{noted-none, sizes-fine, size-fine, same-fine, most-fine, true-fine}
-use Rattle.magnetar_spartan.proofs.Verifying.{sizesOf, sizes-are, draws-is, outer-is, later-is, outerOf, laterOf, after, answer-outer, answer-later, answer-none}
+use Rattle.magnetar_relation.specs.Rules.{Rules, relationOf}
+use Rattle.magnetar_spartan.specs.Refusals.{rowsBin, rowsFld, outlineOf, proofWords, claimWords}
+use Rattle.magnetar_spartan.specs.Ready.{Ready}
+use Rattle.magnetar_spartan.specs.Outcome.{Verified, verifyVerdict, verifyClaims}
+use Rattle.magnetar_spartan.specs.Stages.{playedTo, outerAt, endAt, claimsAt, stoppedAt, checkedAt}
+use Rattle.magnetar_spartan.proofs.Fine.{noted-none, size-fine, same-fine, most-fine}
+use Rattle.magnetar_spartan.proofs.SizedRules.{sizes-fine, both-rows-fine, layout-fine}
+use Rattle.magnetar_spartan.proofs.Verifying.{sizes-are, draws-is, schedule-small, outer-is, later-is, outerOf, laterOf, answer-outer, answer-later, answer-none}
 
--- the answer a, and claims c that have become c′
-abbrev pub Left : Rules → (x w : List ℕ) → Transcript → TranscriptAnswer → (c c′ : List ℕ) → Type 0
-Left R x w t a c c′ =
-    (a .code ≡ verifyVerdict R x w t) × (a .transcript ≡ verifierTranscript (relationOf R) (elements x) (elements w) t)
-    × (c′ ≡ verifyClaims R x w t c)
-
-module _ (R : Rules) (P : Ready R) (x w d : List ℕ) (t : Transcript) (claim room : ℕ)
-    (L : VerifyReady R (length x) (length w) claim room (length d)) (drawn : d ≡ words (verifierDraws (relationOf R) (elements w) t)) where
+-- a run with the public words x, the proof's words w and the transcript t
+module _ (R : Rules) (P : Ready R) (x w : List ℕ) (t : Transcript) (public : length x ≡ R .m - 2) (proof : length w ≡ proofWords R) where
   abbrev o : Relation
-  o = sizesOf R
+  o = outlineOf R
 
   abbrev D : List ℕ
   D = verifierDraws (relationOf R) (elements w) t
 
+  -- the words of the draws
+  abbrev d : List ℕ
+  d = words D
+
   els : elements d ≡ D
-  els = ap elements drawn ∙ elements-words D
+  els = elements-words D
 
   parts : drawsOf o (elements d) ≡ drawsOf (relationOf R) D
   parts = ap (drawsOf o) els ∙ sym (draws-is R D)
 
-  draws-fit : length d ≡ 2 * drawCount o
-  draws-fit = L .draws
+  pub draws-many : length d ≡ 2 * drawCount o
+  draws-many = words-length D ∙ ap (λ (n : ℕ). 2 * n) (verifier-count (relationOf R) (elements w) t)
 
   proof-fits : length w ≡ 2 * proofElements o
-  proof-fits = L .proof
+  proof-fits = proof
 
   -- ---- the outer checks
   outer-none : outerChecksRefusal o w d ≡ 0
   unfolding outerChecksRefusal
   outer-none =
-      noted-none (runTests (R .m) (R .q) (R .bin .a .rows) (R .fld .a .rows) ++ (segmentTests (R .lengths) ++ (drawTests o d ++ proofTests o w)))
-      (sizes-fine R P (segmentTests (R .lengths) ++ (drawTests o d ++ proofTests o w)) (most-fine 64 (length (R .lengths)) (P .fine .segments), (same-fine (length d) (2 * drawCount o) draws-fit, (same-fine (length w) (2 * proofElements o) proof-fits, tt))))
+      let l = segmentTests (R .lengths) ++ (drawTests o d ++ proofTests o w) in
+      noted-none (runTests (R .m) (R .q) (rowsBin R) (rowsFld R) ++ l)
+      (sizes-fine R P l (most-fine 64 (length (R .lengths)) (P .segments), (same-fine _ _ draws-many, (same-fine _ _ proof-fits, tt))))
 
   outer-checks-are : checked.outerChecks o (elements w) (drawsOf o (elements d)) ≡ outerOf R x w t
   unfolding checked.outerChecks
   outer-checks-are = rw parts (outer-is R (elements x) (elements w) (drawsOf (relationOf R) D))
 
-  first-is : (f : Found) → f ≡ outerFound (R .m) (R .q) (R .bin .a .rows) (R .fld .a .rows) (R .lengths) w d → f ≡ firstFound (outerOf R x w t)
+  abbrev F : Found
+  F = outerAt o w d
+
+  first-is : F ≡ firstFound (outerOf R x w t)
   unfolding outerFound
-  first-is f e = e ∙ rw (outer-none, outer-checks-are)
+  first-is = rw (outer-none, outer-checks-are)
 
-  -- ---- the later checks
-  end-none : (s : List ℕ) → 4 * R .m ≤ length s → endRefusal o x w d s ≡ 0
-  unfolding endRefusal
-  end-none s h =
-      noted-none (sizeTests (R .m) (R .q) ++ (publicTests (R .m) x ++ (rowsTests (R .q) (R .bin .a .rows) ++ (rowsTests (R .q) (R .fld .a .rows) ++ (layoutTests (R .m / 2) (R .lengths) ++ (drawTests o d ++ (roomTest (4 * R .m) s ++ proofTests o w))))))) (
-        size-fine 2 65536 (R .m) (P .columns),
-        (
-          size-fine 1 4096 (R .q) (P .logins),
-          (
-            same-fine (length x) (R .m - 2) (L .public),
-            (
-              size-fine 1 65536 (R .bin .a .rows) (P .fine .bin .rows),
-              (
-                most-fine 1048576 _ (P .fine .bin .total),
-                (
-                  size-fine 1 65536 (R .fld .a .rows) (P .fine .fld .rows),
-                  (
-                    most-fine 1048576 _ (P .fine .fld .total),
-                    (
-                      true-fine _ (P .fine .lengths),
-                      (
-                        most-fine _ _ (P .fine .ends),
-                        (
-                          most-fine 64 (length (R .lengths)) (P .fine .segments),
-                          (
-                            same-fine (length d) (2 * drawCount o) draws-fit,
-                            (
-                              most-fine (length s) (4 * R .m) h,
-                              (same-fine (length w) (2 * proofElements o) proof-fits, tt),
-                            ),
-                          ),
-                        ),
-                      ),
-                    ),
-                  ),
-                ),
-              ),
-            ),
-          ),
-        ),
-      )
+  -- ---- the later checks, with a table in front of s, and claims c
+  module _ (c s : List ℕ) (hc : claimWords R ≤ length c) (hs : 4 * R .m ≤ length s)
+      (table : F .code ≡ 0 → take (R .m) (elements s) ≡ combined (relationOf R) (drawsOf (relationOf R) D)) where
+    end-none : endRefusal o x w d s ≡ 0
+    unfolding endRefusal
+    end-none =
+        let l = drawTests o d ++ (roomTest (4 * R .m) s ++ proofTests o w) in
+        let k = layoutTests (R .m / 2) (R .lengths) ++ l in
+        let rest = both-rows-fine R P k (layout-fine R P l (same-fine _ _ draws-many, (most-fine (length s) (4 * R .m) hs, (same-fine _ _ proof-fits, tt)))) in
+        noted-none (sizeTests (R .m) (R .q) ++ (publicTests (R .m) x ++ (rowsTests (R .q) (rowsBin R) ++ (rowsTests (R .q) (rowsFld R) ++ k))))
+        (size-fine 2 65536 (R .m) (P .columns), (size-fine 1 4096 (R .q) (P .logins), (same-fine (length x) (R .m - 2) public, rest)))
 
-  last-is : (f : Found) (s : List ℕ) → f ≡ endFound (R .m) (R .q) (R .bin .a .rows) (R .fld .a .rows) (R .lengths) x w d s → 4 * R .m ≤ length s
-      → take (R .m) (elements s) ≡ combined (relationOf R) (drawsOf (relationOf R) (elements d)) → f ≡ firstFound (laterOf R x w t)
-  unfolding endFound
-  last-is f s e h c =
-      e ∙ rw (end-none s h, parts, later-is R (elements x) (elements w) (drawsOf (relationOf R) D) (take (R .m) (elements s)) (c ∙ ap (λ (l : List ℕ). combined (relationOf R) (drawsOf (relationOf R) l)) els))
+    abbrev G : Found
+    G = endAt o x w d s
 
-  -- ---- what is left
-  kept : (n : ℕ) (c : List ℕ) → n ≡ verifyVerdict R x w t → (n ≡ 0 → ⊥) → c ≡ verifyClaims R x w t c
-  unfolding verifyClaims
-  kept n c e h = rw (← e, ne-eqb n 0 h)
+    last-is : F .code ≡ 0 → G ≡ firstFound (laterOf R x w t)
+    unfolding endFound
+    last-is z = rw (end-none, parts, later-is R (elements x) (elements w) (drawsOf (relationOf R) D) (take (R .m) (elements s)) (table z))
 
-  pub out-outer : (f : Found) (a : TranscriptAnswer) (c : List ℕ)
-      → f ≡ outerFound (R .m) (R .q) (R .bin .a .rows) (R .fld .a .rows) (R .lengths) w d → (f .code ≡ 0 → ⊥)
-      → (a .code ≡ f .code) × (a .transcript ≡ after R x w t (f .events)) → Left R x w t a c c
-  unfolding firstFound
-  out-outer f a c e h g =
-      let q = first-is f e in
-      let b = answer-outer R x w t (f .code) (f .events) (ap (λ (k : Found). k .code) q) (ap (λ (k : Found). k .events) q) h in
-      (g .0 ∙ b .0, g .1 ∙ b .1, kept (f .code) c (b .0) h)
+    claims-none : claimsRefusal (R .m) (R .q) (rowsBin R) (rowsFld R) (R .lengths) w d c ≡ 0
+    unfolding claimsRefusal
+    claims-none =
+        let l = segmentTests (R .lengths) ++ (drawTests o d ++ (roomTest (2 * claimCount o) c ++ proofTests o w)) in
+        let room = most-fine (length c) (2 * claimCount o) (omega (arith, hc)) in
+        noted-none (runTests (R .m) (R .q) (rowsBin R) (rowsFld R) ++ l)
+        (sizes-fine R P l (most-fine 64 (length (R .lengths)) (P .segments), (same-fine _ _ draws-many, (room, (same-fine _ _ proof-fits, tt)))))
 
-  pub out-later : (f l : Found) (a : TranscriptAnswer) (c s : List ℕ)
-      → f ≡ outerFound (R .m) (R .q) (R .bin .a .rows) (R .fld .a .rows) (R .lengths) w d → f .code ≡ 0
-      → l ≡ endFound (R .m) (R .q) (R .bin .a .rows) (R .fld .a .rows) (R .lengths) x w d s → 4 * R .m ≤ length s
-      → take (R .m) (elements s) ≡ combined (relationOf R) (drawsOf (relationOf R) (elements d)) → (l .code ≡ 0 → ⊥)
-      → (a .code ≡ l .code) × (a .transcript ≡ after R x w t (l .events)) → Left R x w t a c c
-  unfolding firstFound
-  out-later f l a c s e z k hs hc h g =
-      let q = first-is f e in
-      let p = last-is l s k hs hc in
-      let b = answer-later R x w t (l .code) (l .events) (sym (ap (λ (i : Found). i .code) q) ∙ z) (ap (λ (i : Found). i .code) p) (ap (λ (i : Found). i .events) p) h in
-      (g .0 ∙ b .0, g .1 ∙ b .1, kept (l .code) c (b .0) h)
+    claims-is : claims o (elements w) (elements d) ≡ claims (relationOf R) (elements w) D
+    claims-is =
+        ap (claims o (elements w)) els ∙ ap (λ (r : Relation). claims r (elements w) D) (sym (sizes-are R)) ∙ sym (claims-outlined (relationOf R) (elements w) D)
 
-  claims-none : (c : List ℕ) → claimWords R ≤ length c → claimsRefusal (R .m) (R .q) (R .bin .a .rows) (R .fld .a .rows) (R .lengths) w d c ≡ 0
-  unfolding claimsRefusal
-  claims-none c h =
-      noted-none (runTests (R .m) (R .q) (R .bin .a .rows) (R .fld .a .rows) ++ (segmentTests (R .lengths) ++ (drawTests o d ++ (roomTest (2 * claimCount o) c ++ proofTests o w))))
-      (sizes-fine R P (segmentTests (R .lengths) ++ (drawTests o d ++ (roomTest (2 * claimCount o) c ++ proofTests o w))) (most-fine 64 (length (R .lengths)) (P .fine .segments), (same-fine (length d) (2 * drawCount o) draws-fit, (most-fine (length c) (2 * claimCount o) (omega (arith, h)), (same-fine (length w) (2 * proofElements o) proof-fits, tt)))))
+    -- ---- what is left: the number, the transcript and the claims
+    abbrev pub Left : Verified → Type 0
+    Left v =
+        (v .code ≡ verifyVerdict R x w t) × (v .transcript ≡ verifierTranscript (relationOf R) (elements x) (elements w) t)
+        × (v .claims ≡ verifyClaims R x w t c)
 
-  claims-is : claims o (elements w) (elements d) ≡ claims (relationOf R) (elements w) D
-  claims-is = ap (claims o (elements w)) els ∙ ap (λ (r : Relation). claims r (elements w) D) (sym (sizes-are R)) ∙ sym (claims-outlined (relationOf R) (elements w) D)
+    abbrev Stopped : Found → Type 0
+    Stopped g = Left (stoppedAt o x w d t (playedTo o w t 65536) F g c s)
 
-  pub out-none : (f l : Found) (c c′ s : List ℕ) (u : Transcript) (k : ℕ)
-      → f ≡ outerFound (R .m) (R .q) (R .bin .a .rows) (R .fld .a .rows) (R .lengths) w d → f .code ≡ 0
-      → l ≡ endFound (R .m) (R .q) (R .bin .a .rows) (R .fld .a .rows) (R .lengths) x w d s → 4 * R .m ≤ length s
-      → take (R .m) (elements s) ≡ combined (relationOf R) (drawsOf (relationOf R) (elements d)) → l .code ≡ 0
-      → claimWords R ≤ length c → c′ ≡ claimsOut (R .m) (R .q) (R .bin .a .rows) (R .fld .a .rows) (R .lengths) w d c
-      → length (schedule o) ≤ k → u ≡ after R x w t k → Left R x w t (record { code = 0; transcript = u }) c c′
-  unfolding firstFound verifyClaims claimsOut
-  out-none f l c c′ s u k e z m hs hc y lc g hk hu =
-      let q = first-is f e in
-      let p = last-is l s m hs hc in
-      let b = answer-none R x w t k (sym (ap (λ (i : Found). i .code) q) ∙ z) (sym (ap (λ (i : Found). i .code) p) ∙ y) hk in
-      (b .0, hu ∙ b .1, g ∙ rw (claims-none c lc, ← b .0, claims-is))
+    kept : (n : ℕ) → n ≡ verifyVerdict R x w t → (n ≡ 0 → ⊥) → c ≡ verifyClaims R x w t c
+    unfolding verifyClaims
+    kept n e h = rw (← e, ne-eqb n 0 h)
+
+    written : 0 ≡ verifyVerdict R x w t → claimsAt o w d c ≡ verifyClaims R x w t c
+    unfolding verifyClaims claimsOut
+    written e = rw (claims-none, ← e, claims-is)
+
+    at-outer : (F .code ≡ 0 → ⊥) → Stopped F
+    unfolding firstFound
+    at-outer h =
+        let q = first-is in
+        let b = answer-outer R x w t (F .code) (F .events) (ap (λ (k : Found). k .code) q) (ap (λ (k : Found). k .events) q) h in
+        rw (ne-eqb (F .code) 0 h) (b .0, b .1, kept (F .code) (b .0) h)
+
+    at-later : F .code ≡ 0 → (G .code ≡ 0 → ⊥) → Stopped G
+    unfolding firstFound
+    at-later z h =
+        let q = first-is in
+        let p = last-is z in
+        let b = answer-later R x w t (G .code) (G .events) (sym (ap (λ (k : Found). k .code) q) ∙ z) (ap (λ (k : Found). k .code) p)
+        (ap (λ (k : Found). k .events) p) h in
+        rw (ne-eqb (G .code) 0 h) (b .0, b .1, kept (G .code) (b .0) h)
+
+    at-none : F .code ≡ 0 → G .code ≡ 0 → Stopped G
+    unfolding firstFound
+    at-none z e =
+        let q = first-is in
+        let p = last-is z in
+        let b = answer-none R x w t 65536 (sym (ap (λ (k : Found). k .code) q) ∙ z) (sym (ap (λ (k : Found). k .code) p) ∙ e) (schedule-small R P) in
+        rw (eq-eqb (G .code) 0 e, e) (b .0, b .1, written (b .0))
+
+    pub checks-leave : Left (checkedAt o x w d t (playedTo o w t 65536) F c s)
+    checks-leave = go (F .code) (G .code) refl refl
+      where
+        go : (i j : ℕ) → F .code ≡ i → G .code ≡ j → Left (checkedAt o x w d t (playedTo o w t 65536) F c s)
+        go (suc i) j e f = let h : F .code ≡ 0 → ⊥ = λ z. omega (arith, e, z) in rw (ne-eqb (F .code) 0 h) (at-outer h)
+        go zero (suc j) e f = let h : G .code ≡ 0 → ⊥ = λ z. omega (arith, f, z) in rw (eq-eqb (F .code) 0 e) (at-later e h)
+        go zero zero e f = rw (eq-eqb (F .code) 0 e) (at-none e f)

@@ -2,7 +2,7 @@
 -- Assumes nothing.
 use mathlib.Core.Path.{_≡_, refl, sym, ap, ap₂, _∙_}
 use mathlib.Core.List.{List, [], _++_, append-nil}
-use Prim.Native.Nat.{ℕ, zero, suc, _+_, _-_, _*_, _≤_}
+use Prim.Native.Nat.{ℕ, _+_, _*_, _≤_}
 use native.Mathlib.Omega.{arith}
 use lib.ListN.{length, take}
 use lib.Seq.{take-all}
@@ -11,12 +11,10 @@ use Rattle.magnetar_field.specs.Words.{elements, words, overlaid}
 use Rattle.magnetar_field.proofs.Elements.{words-length, overlaid-same}
 use Rattle.magnetar_hash.specs.declared.transcript.Transcript.{Transcript}
 use Rattle.magnetar_matrix.specs.Batch.{Relation}
-use Rattle.magnetar_matrix.specs.Lent.{matrixOf}
-use Rattle.magnetar_batch.specs.Systems.{systemOf}
 use Rattle.magnetar_protocol.specs.Shape.{logLogins}
 use Rattle.magnetar_protocol.specs.Proof.{innerRounds, valueZ, terminals}
 use Rattle.magnetar_protocol.specs.Draws.{Draws, drawsOf, drawCount}
-use Rattle.magnetar_protocol.specs.Schedule.{Event, schedule, outline}
+use Rattle.magnetar_protocol.specs.Schedule.{Event, schedule}
 use Rattle.magnetar_protocol.specs.Play.{Played, playedFrom}
 use Rattle.magnetar_protocol.specs.Checks.{Check, firstRefusal, firstStop, sharedChecks, rowChecks, terminalChecks, innerChecks, innerClaim, combined}
 use Rattle.magnetar_protocol.specs.Run.{verdict}
@@ -25,34 +23,30 @@ use Rattle.magnetar_protocol.proofs.Phases.{Numbered}
 use Rattle.magnetar_protocol.proofs.Counts.{played-count, schedule-length}
 use Rattle.magnetar_protocol.proofs.Blocks.{outerChecks, laterChecks, later-numbered, verdict-blocks, run-stop-blocks, stop-append, stop-accepted, outlined, schedule-outlined, draws-outlined, shared-outlined, rows-outlined, terminals-outlined, identity-outlined}
 use Rattle.magnetar_checks.specs.End.{endChecks}
-use Rattle.magnetar_spartan.specs.Rules.{Rules, relationOf}
+use Rattle.magnetar_relation.specs.Rules.{Rules, relationOf}
 use Rattle.magnetar_field.proofs.Log2.{log₂-lt}
+use Rattle.magnetar_spartan.specs.Refusals.{rowsBin, rowsFld, outlineOf}
 use Rattle.magnetar_spartan.specs.Ready.{Ready}
 use Rattle.magnetar_spartan.specs.Outcome.{verifyVerdict}
 
--- the sizes of the rules
-abbrev pub sizesOf : Rules → Relation
-sizesOf R = outline (R .m) (R .q) (R .bin .a .rows) (R .fld .a .rows) (R .lengths)
-
-pub sizes-are : (R : Rules) → outlined (relationOf R) ≡ sizesOf R
-unfolding systemOf matrixOf
+pub sizes-are : (R : Rules) → outlined (relationOf R) ≡ outlineOf R
 sizes-are R = refl
 
-pub schedule-is : (R : Rules) → schedule (relationOf R) ≡ schedule (sizesOf R)
+pub schedule-is : (R : Rules) → schedule (relationOf R) ≡ schedule (outlineOf R)
 schedule-is R = schedule-outlined (relationOf R) ∙ ap schedule (sizes-are R)
 
-pub draws-is : (R : Rules) (d : List ℕ) → drawsOf (relationOf R) d ≡ drawsOf (sizesOf R) d
+pub draws-is : (R : Rules) (d : List ℕ) → drawsOf (relationOf R) d ≡ drawsOf (outlineOf R) d
 draws-is R d = draws-outlined (relationOf R) d ∙ ap (λ (r : Relation). drawsOf r d) (sizes-are R)
 
 -- ---- the draws
 module _ (R : Rules) (w : List ℕ) (t : Transcript) where
   -- the whole schedule
-  pub played-all : (k : ℕ) → length (schedule (sizesOf R)) ≤ k
-      → playedFrom w (take k (schedule (sizesOf R))) t ≡ playedFrom w (schedule (relationOf R)) t
-  played-all k h = ap (λ (es : List Event). playedFrom w es t) (take-all k (schedule (sizesOf R)) h ∙ sym (schedule-is R))
+  pub played-all : (k : ℕ) → length (schedule (outlineOf R)) ≤ k
+      → playedFrom w (take k (schedule (outlineOf R))) t ≡ playedFrom w (schedule (relationOf R)) t
+  played-all k h = ap (λ (es : List Event). playedFrom w es t) (take-all k (schedule (outlineOf R)) h ∙ sym (schedule-is R))
 
-  pub drawn-words : (k : ℕ) (d d′ : List ℕ) → length (schedule (sizesOf R)) ≤ k → length d ≡ 2 * drawCount (sizesOf R)
-      → d′ ≡ overlaid (words (playedFrom w (take k (schedule (sizesOf R))) t .draws)) d → d′ ≡ words (verifierDraws (relationOf R) w t)
+  pub drawn-words : (k : ℕ) (d d′ : List ℕ) → length (schedule (outlineOf R)) ≤ k → length d ≡ 2 * drawCount (outlineOf R)
+      → d′ ≡ overlaid (words (playedFrom w (take k (schedule (outlineOf R))) t .draws)) d → d′ ≡ words (verifierDraws (relationOf R) w t)
   unfolding verifierDraws
   drawn-words k d d′ h l e =
       let c : length (words (playedFrom w (schedule (relationOf R)) t .draws)) ≡ length d =
@@ -60,19 +54,19 @@ module _ (R : Rules) (w : List ℕ) (t : Transcript) where
       ∙ ap (λ (n : ℕ). 2 * n) (played-count (relationOf R) w t ∙ count) ∙ sym l in
       e ∙ rw (played-all k h) (overlaid-same (words (playedFrom w (schedule (relationOf R)) t .draws)) d (sym c))
     where
-      count : drawCount (relationOf R) ≡ drawCount (sizesOf R)
-      count = unfold systemOf matrixOf in refl
+      count : drawCount (relationOf R) ≡ drawCount (outlineOf R)
+      count = refl
 
 -- ---- the outer checks
 module _ (R : Rules) (x w : List ℕ) (D : Draws) where
-  pub outer-is : sharedChecks (sizesOf R) w D 0 (logLogins (sizesOf R)) ++ (rowChecks (sizesOf R) w D ++ terminalChecks (sizesOf R) w D)
+  pub outer-is : sharedChecks (outlineOf R) w D 0 (logLogins (outlineOf R)) ++ (rowChecks (outlineOf R) w D ++ terminalChecks (outlineOf R) w D)
       ≡ outerChecks (relationOf R) x w D
   outer-is =
       outlines (λ (r : Relation). sharedChecks r w D 0 (logLogins r) ++ (rowChecks r w D ++ terminalChecks r w D))
       ∙ sym (ap₂ _++_ (shared-outlined (relationOf R) x w D 0 (logLogins (relationOf R)))
       (ap₂ _++_ (rows-outlined (relationOf R) x w D) (terminals-outlined (relationOf R) x w D)))
     where
-      outlines : (f : Relation → List Check) → f (sizesOf R) ≡ f (outlined (relationOf R))
+      outlines : (f : Relation → List Check) → f (outlineOf R) ≡ f (outlined (relationOf R))
       outlines f = ap f (sym (sizes-are R))
 
 -- ---- the answer
@@ -96,7 +90,7 @@ module _ (R : Rules) (x w : List ℕ) (t : Transcript) where
 
   -- the transcript after n events
   abbrev pub after : ℕ → Transcript
-  after n = playedFrom (elements w) (take n (schedule (sizesOf R))) t .transcript
+  after n = playedFrom (elements w) (take n (schedule (outlineOf R))) t .transcript
 
   -- what the run answers
   abbrev pub Answers : ℕ → Transcript → Type 0
@@ -129,17 +123,17 @@ module _ (R : Rules) (x w : List ℕ) (t : Transcript) where
       (a, stopped n b)
 
   -- every check passes
-  pub answer-none : (k : ℕ) → firstRefusal outerOf ≡ 0 → firstRefusal laterOf ≡ 0 → length (schedule (sizesOf R)) ≤ k → Answers 0 (after k)
+  pub answer-none : (k : ℕ) → firstRefusal outerOf ≡ 0 → firstRefusal laterOf ≡ 0 → length (schedule (outlineOf R)) ≤ k → Answers 0 (after k)
   unfolding verifyVerdict
   answer-none k z e h =
       let a : verdict rel (elements x) (elements w) drawn ≡ 0 = verdict-blocks rel (elements x) (elements w) drawn ∙ rw (z, e) in
-      let l : length (schedule (sizesOf R)) ≤ length (schedule rel) = rw (schedule-is R) (omega arith) in (
+      let l : length (schedule (outlineOf R)) ≤ length (schedule rel) = rw (schedule-is R) (omega arith) in (
         sym a,
         whole k h ∙ sym (whole (length (schedule rel)) l)
             ∙ stopped (length (schedule rel)) (sym (stop-accepted rel (elements x) (elements w) drawn a)),
       )
     where
-      whole : (k : ℕ) → length (schedule (sizesOf R)) ≤ k → after k ≡ playedFrom (elements w) (schedule rel) t .transcript
+      whole : (k : ℕ) → length (schedule (outlineOf R)) ≤ k → after k ≡ playedFrom (elements w) (schedule rel) t .transcript
       whole k h = ap (λ (p : Played). p .transcript) (played-all R (elements w) t k h)
 
 -- ---- the later checks, over a table that is the combined one
@@ -148,16 +142,16 @@ unfolding endChecks innerChecks innerClaim innerRounds valueZ terminals
 end-outlined r x w D T = rw (identity-outlined r x w D)
 
 pub later-is : (R : Rules) (x w : List ℕ) (D : Draws) (T : List ℕ) → T ≡ combined (relationOf R) D
-    → endChecks (sizesOf R) x w D T ≡ laterChecks (relationOf R) x w D
+    → endChecks (outlineOf R) x w D T ≡ laterChecks (relationOf R) x w D
 later-is R x w D T e =
     ap (λ (r : Relation). endChecks r x w D T) (sym (sizes-are R)) ∙ sym (end-outlined (relationOf R) x w D T)
     ∙ unfold endChecks in ap (endChecks (relationOf R) x w D) e
 
 -- ---- a schedule is short
-pub schedule-small : (R : Rules) → Ready R → length (schedule (sizesOf R)) ≤ 65536
+pub schedule-small : (R : Rules) → Ready R → length (schedule (outlineOf R)) ≤ 65536
 schedule-small R P =
     let q = log₂-lt (R .q) (omega (arith, P .logins .high)) in
     let m = log₂-lt (R .m) (omega (arith, P .columns .high)) in
-    let b = log₂-lt (R .bin .a .rows) (omega (arith, P .fine .bin .rows .high)) in
-    let f = log₂-lt (R .fld .a .rows) (omega (arith, P .fine .fld .rows .high)) in
-    rw (schedule-length (sizesOf R)) (omega (arith, q, m, b, f, P .fine .segments))
+    let b = log₂-lt (rowsBin R) (omega (arith, P .bin .rows .high)) in
+    let f = log₂-lt (rowsFld R) (omega (arith, P .fld .rows .high)) in
+    rw (schedule-length (outlineOf R)) (omega (arith, q, m, b, f, P .segments))

@@ -28,6 +28,10 @@ pub record Verified : Type 0 where
 abbrev pub verified : TranscriptAnswer → List ℕ → List ℕ → Verified
 verified a c s = record { code = a .code; transcript = a .transcript; claims = c; scratch = s }
 
+-- and of a number, where the transcript is lent
+abbrev pub verifiedInPlace : ℕ → Transcript → List ℕ → List ℕ → Verified
+verifiedInPlace n t c s = record { code = n; transcript = t; claims = c; scratch = s }
+
 -- the number of its refusal among 1 to 16, or 0
 unfoldable pub verifyRefusal : Rules → (x w : List ℕ) → Transcript → (c s : List ℕ) → ℕ
 verifyRefusal R x w t c s = noted 0 (verifyTests R x w (t .«squeeze_ctr») (length c) (length s))

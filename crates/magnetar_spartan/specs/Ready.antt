@@ -13,7 +13,7 @@ use Rattle.magnetar_layout.specs.Tests.{Sized}
 use Rattle.magnetar_relation.specs.Rules.{Rules, relationOf}
 use Rattle.magnetar_protocol.specs.RunSizes.{SizedRelation}
 use Rattle.magnetar_protocol.specs.Draws.{drawCount}
-use Rattle.magnetar_spartan.specs.Refusals.{outlineOf, proofWords, claimWords, verifierRoom, proverRoom}
+use Rattle.magnetar_spartan.specs.Refusals.{outlineOf, proofWords, claimWords, proverRoom}
 
 -- the rules whole: sizes within the limits, both systems with their entries inside, and a layout over the witness columns
 abbrev pub Ready : Rules → Type 0
@@ -25,14 +25,6 @@ pub record BatchReady (m q ws x : ℕ) : Type 0 where
   pub logins : Sized 1 4096 q
   pub packed : ws ≡ q * loginWords (m / 2)
   pub public : x ≡ m - 2
-
--- the words that the verifier is lent: public words x, proof words w, claims c, scratch s and draws d
-pub record VerifyReady (R : Rules) (x w c s d : ℕ) : Type 0 where
-  pub public : x ≡ R .m - 2
-  pub proof : w ≡ proofWords R
-  pub claims : c ≡ claimWords R
-  pub scratch : s ≡ verifierRoom R
-  pub draws : d ≡ 2 * drawCount (outlineOf R)
 
 -- the words that the prover is lent: packed words ws, public words x, proof w, claims c, scratch s and draws d
 pub record ProveReady (R : Rules) (ws x w c s d : ℕ) : Type 0 where

@@ -3,5 +3,6 @@ mod combine;
 mod inner;
 mod products;
 mod proving;
-pub mod refusal;
+mod refusal;
+mod stages;
 pub mod virtual_spartan;

@@ -1,64 +1,44 @@
 -- `magnetar_spartan::refusal::verify` meets its contract.
 -- Assumes nothing.
-use mathlib.Core.Path.{refl, sym, _∙_}
+use Prim.Native.Nat.{_/_}
+use mathlib.Core.Path.{_≡_}
 use mathlib.Core.List.{_++_}
-use Prim.Native.Nat.{_+_, _-_}
 use denote.Ref.{now}
-use Rattle.magnetar_layout.specs.Lent.{lent}
-use Rattle.magnetar_layout.specs.Tests.{Tests, sizeTests, publicTests, Sized}
-use Rattle.magnetar_layout.proofs.Noted.{noted-front, noted-late, noted-clear}
-use Rattle.magnetar_layout.proofs.SizeLaws.{not-bad}
-use Rattle.magnetar_spartan.specs.Rules.{Rules, rules}
-use Rattle.magnetar_batch.specs.Systems.{system}
-use Rattle.magnetar_spartan.specs.Refusals.{ruleTests, counterTests, roomOf, wordTests, proofWords, claimWords, verifierRoom}
+use Rattle.magnetar_layout.specs.Tests.{Tests, noted, sizeTests, publicTestsOf}
+use Rattle.magnetar_layout.proofs.Noted.{noted-front, noted-late}
+use Rattle.magnetar_matrix.specs.Batch.{Relation}
+use Rattle.magnetar_protocol.specs.Schedule.{outline}
+use Rattle.magnetar_spartan.specs.Numbers.{laidTests, verifyRooms}
 use Rattle.magnetar_spartan.proofs.Chains.{log-least}
-use Rattle.magnetar_spartan.specs.Ready.{Fine}
-use Rattle.magnetar_spartan.proofs.Fine.{fine}
+use Rattle.magnetar_spartan.proofs.ByNumbers.{Sizes, sizes-of, few-segments}
 use borrow.Author.Needs.{needs}
 use Rattle.magnetar_spartan.proofs.refusal.verify.Statement.{statement}
 use Rattle.magnetar_spartan.proofs.refusal.verify.Tie as tie
 
-abbrev start : tie.After-size-refusal → tie.Start
-start c = c .before .before .before .before .before .before .before .before .before .before .before .before .before .before .before .before .before .before .before .before .before .before .before .before .before .before .before .before
+abbrev o : tie.Start → Relation
+o s = let x = s .args in outline (x .m) (x .q) (x .rb) (x .rf) (now (x .lens))
 
-abbrev rel : tie.Start → Rules
-rel s =
-    let x = s .args in
-    rules (x .m) (x .q) (now (x .lens))
-    (system (lent (x .abrows) (x .abcols) (now (x .abrow)) (now (x .abcol)) (now (x .ablo)) (now (x .abhi)))
-    (lent (x .bbrows) (x .bbcols) (now (x .bbrow)) (now (x .bbcol)) (now (x .bblo)) (now (x .bbhi)))
-    (lent (x .cbrows) (x .cbcols) (now (x .cbrow)) (now (x .cbcol)) (now (x .cblo)) (now (x .cbhi))))
-    (system (lent (x .afrows) (x .afcols) (now (x .afrow)) (now (x .afcol)) (now (x .aflo)) (now (x .afhi)))
-    (lent (x .bfrows) (x .bfcols) (now (x .bfrow)) (now (x .bfcol)) (now (x .bflo)) (now (x .bfhi)))
-    (lent (x .cfrows) (x .cfcols) (now (x .cfrow)) (now (x .cfcol)) (now (x .cflo)) (now (x .cfhi))))
-
--- the tests in four groups
+-- the tests in three groups
 abbrev first : tie.Start → Tests
 first s = sizeTests (s .args .m) (s .args .q)
 
 abbrev second : tie.Start → Tests
-second s = publicTests (s .args .m) (now (s .args .x))
+second s = publicTestsOf (s .args .m) (s .args .x) ++ laidTests (s .args .z) (o s)
 
 abbrev third : tie.Start → Tests
-third s = ruleTests (rel s)
+third s = let x = s .args in verifyRooms (o s) (x .proof) (x .n) (x .claims) (x .scratch)
 
-abbrev fourth : tie.Start → Tests
-fourth s = counterTests (s .args .n) ++ (roomOf (claimWords (rel s)) (s .args .claims) ++ (roomOf (verifierRoom (rel s)) (s .args .scratch) ++ wordTests (proofWords (rel s)) (now (s .args .proof))))
+sizes : (c : tie.Else1) → Sizes ((c .before .before .before) .args .m) ((c .before .before .before) .args .q)
+sizes c = sizes-of _ _ _ (c .before .size-refusal .ensures) (c .if1 .left)
 
-record Sizes (s : tie.Start) : Type 0 where
-  columns : Sized 2 65536 (s .args .m)
-  logins : Sized 1 4096 (s .args .q)
-
-sizes : (c : tie.Else1) → Sizes (start (c .before))
-sizes c =
-    let k = noted-clear 0 (first (start (c .before))) refl (sym (c .before .size-refusal .ensures) ∙ c .if1 .left) .1 in
-    record { columns = not-bad (k .0); logins = not-bad (k .1 .0) }
+middle : (c : tie.After-segments) → c .segments .result ≡ noted 0 (second (c .before .before .before .before .before .before))
+middle c = rw (c .segments .ensures, c .before .note2 .ensures, c .before .before .note .ensures)
 
 size-refusal-requires : tie.Need-size-refusal-requires
 size-refusal-requires c κs = search needs
 
 returns : tie.Need-returns
-returns c = let s = start (c .before) in noted-front (first s) (second s ++ (third s ++ fourth s)) _ (c .before .size-refusal .ensures) (c .if1 .taken)
+returns c = noted-front (first (c .before .before .before)) (second (c .before .before .before) ++ third (c .before .before .before)) _ (c .before .size-refusal .ensures) (c .if1 .taken)
 
 sub-note : tie.Need-sub-note
 sub-note c = sizes c .columns .low
@@ -66,38 +46,35 @@ sub-note c = sizes c .columns .low
 note-requires : tie.Need-note-requires
 note-requires c κs = search needs
 
+note-requires-2 : tie.Need-note-requires-2
+note-requires-2 c κs = search needs
+
+segments-requires : tie.Need-segments-requires
+segments-requires c κs = sizes (c .before .before) .columns
+
 returns-2 : tie.Need-returns-2
 returns-2 c =
-    let s = start (c .before .before .before) in
-    noted-late (first s) (second s ++ (third s ++ fourth s)) _ _ (c .before .before .before .size-refusal .ensures) (c .before .before .if1 .left)
-    (noted-front (second s) (third s ++ fourth s) _ (c .before .note .ensures) (c .if2 .taken))
+    noted-late (first (c .before .before .before .before .before .before .before)) (second (c .before .before .before .before .before .before .before) ++ third (c .before .before .before .before .before .before .before)) _ _ (c .before .before .before .before .before .size-refusal .ensures) (c .before .before .before .before .if1 .left)
+    (noted-front (second (c .before .before .before .before .before .before .before)) (third (c .before .before .before .before .before .before .before)) _ (middle (c .before)) (c .if2 .taken))
 
-rules-requires : tie.Need-rules-requires
-rules-requires c κs = let z = sizes (c .before .before) in (z .columns, z .logins .high)
-
-ok : (c : tie.Else3) → Fine (rel (start (c .before .before .before .before .before)))
-ok c = let s = start (c .before .before .before .before .before) in fine (rel s) (sym (c .before .rules .ensures) ∙ c .if3 .left)
+verify-rooms-requires : tie.Need-verify-rooms-requires
+verify-rooms-requires c κs = (log-least _ (sizes (c .before .before .before .before) .columns), few-segments ((c .before .before .before .before .before .before .before) .args .m / 2) (c .before .before .note2 .result) _ (now ((c .before .before .before .before .before .before .before) .args .lens)) (c .before .segments .ensures) (c .if2 .left))
 
 returns-3 : tie.Need-returns-3
 returns-3 c =
-    let s = start (c .before .before .before .before .before) in
-    noted-late (first s) (second s ++ (third s ++ fourth s)) _ _ (c .before .before .before .before .before .size-refusal .ensures) (c .before .before .before .before .if1 .left)
-    (noted-late (second s) (third s ++ fourth s) _ _ (c .before .before .before .note .ensures) (c .before .before .if2 .left)
-    (noted-front (third s) (fourth s) _ (c .before .rules .ensures) (c .if3 .taken)))
-
-verify-rooms-requires : tie.Need-verify-rooms-requires
-verify-rooms-requires c κs =
-    let z = sizes (c .before .before .before .before) in
-    let p = ok c in
-    (z .columns .high, p .bin .rows .high, p .fld .rows .high, log-least _ (z .columns), p .segments)
-
-returns-4 : tie.Need-returns-4
-returns-4 c =
-    let s = start (c .before .before .before .before .before .before) in
-    noted-late (first s) (second s ++ (third s ++ fourth s)) _ _ (c .before .before .before .before .before .before .size-refusal .ensures) (c .before .before .before .before .before .if1 .left)
-    (noted-late (second s) (third s ++ fourth s) _ _ (c .before .before .before .before .note .ensures) (c .before .before .before .if2 .left)
-    (noted-late (third s) (fourth s) _ _ (c .before .before .rules .ensures) (c .before .if3 .left) (c .verify-rooms .ensures)))
+    noted-late (first (c .before .before .before .before .before .before .before .before)) (second (c .before .before .before .before .before .before .before .before) ++ third (c .before .before .before .before .before .before .before .before)) _ _ (c .before .before .before .before .before .before .size-refusal .ensures) (c .before .before .before .before .before .if1 .left)
+    (noted-late (second (c .before .before .before .before .before .before .before .before)) (third (c .before .before .before .before .before .before .before .before)) _ _ (middle (c .before .before)) (c .before .if2 .left) (c .verify-rooms .ensures))
 
 pub verify-spec : {M : Type 1} → statement M
 verify-spec =
-    tie.close (tie.spec size-refusal-requires returns sub-note note-requires returns-2 rules-requires returns-3 verify-rooms-requires returns-4)
+    tie.close
+    (tie.spec
+    size-refusal-requires
+    returns
+    sub-note
+    note-requires
+    note-requires-2
+    segments-requires
+    returns-2
+    verify-rooms-requires
+    returns-3)

@@ -1,0 +1,98 @@
+-- The refusals by numbers are those of the rules that are lent.
+-- Assumes nothing.
+use mathlib.Core.Path.{_≡_, refl, sym, ap, _∙_}
+use mathlib.Core.Bool.{true}
+use mathlib.Core.List.{List, _∷_, _++_}
+use Prim.Native.Nat.{ℕ, zero, suc, _/_, _≤_}
+use native.Mathlib.Omega.{arith}
+use lib.ListN.{length}
+use borrow.Author.Tests.{ltb-false}
+use Rattle.magnetar_layout.specs.Tests.{Tests, note, noted, sizeTests, packedTests, publicTests, layoutTests, Sized}
+use Rattle.magnetar_layout.proofs.Noted.{note-kept, noted-kept, noted-append, noted-clear}
+use Rattle.magnetar_layout.proofs.SizeLaws.{not-bad}
+use Rattle.magnetar_protocol.proofs.Within.{verifier-within, prover-within}
+use Rattle.magnetar_relation.specs.Rules.{Rules}
+use Rattle.magnetar_relation.specs.RuleTests.{ruleTests}
+use Rattle.magnetar_spartan.specs.Refusals.{rowsBin, rowsFld, outlineOf, counterTests, roomOf, wordTests, proofWords, claimWords, verifierRoom, proverRoom, verifyTests, proveTests}
+use Rattle.magnetar_spartan.specs.Numbers.{verifyRooms, proveRooms, verifyTestsBy, proveTestsBy}
+use Rattle.magnetar_spartan.proofs.SizedRules.{Systems, systems, rule-numbered}
+
+-- ---- what the first groups leave
+pub record Sizes (m q : ℕ) : Type 0 where
+  pub columns : Sized 2 65536 m
+  pub logins : Sized 1 4096 q
+
+pub sizes-of : (m q z : ℕ) → z ≡ noted 0 (sizeTests m q) → z ≡ 0 → Sizes m q
+sizes-of m q z e h =
+    let c = noted-clear 0 (sizeTests m q) refl (sym e ∙ h) .1 in
+    record { columns = not-bad (c .0); logins = not-bad (c .1 .0) }
+
+pub few-segments : (w y z : ℕ) (ns : List ℕ) → z ≡ noted y (layoutTests w ns) → z ≡ 0 → length ns ≤ 64
+few-segments w y z ns e h = ltb-false 64 (length ns) (noted-clear y (layoutTests w ns) refl (sym e ∙ h) .1 .1 .1 .0)
+
+-- ---- a group of tests by its number
+module _ (a b t k l : Tests) (z : ℕ) (e : z ≡ noted 0 b) (same : noted 0 a ≡ 0 → z ≡ 0 → k ≡ l) where
+  abbrev by : ℕ → ℕ
+  by y = noted (noted (note z true y) t) k
+
+  abbrev whole : ℕ → ℕ
+  whole y = noted (noted (noted y b) t) l
+
+  -- behind an earlier number
+  some : (y : ℕ) → (y ≡ 0 → ⊥) → by y ≡ whole y
+  some y h = rw (note-kept z true y h, noted-kept y t h, noted-kept y k h, noted-kept y b h, noted-kept y t h, noted-kept y l h)
+
+  -- behind none
+  none : (n : ℕ) → noted 0 a ≡ 0 → z ≡ n → by 0 ≡ whole 0
+  unfolding note
+  none zero h f = rw (same h f, ← e, f)
+  none (suc n) h f =
+      let g : z ≡ 0 → ⊥ = λ i. omega (arith, f, i) in
+      rw (← e, noted-kept z t g, noted-kept z k g, noted-kept z l g)
+
+  pub joined : noted 0 (a ++ (((z, true) ∷ t) ++ k)) ≡ noted 0 (a ++ ((b ++ t) ++ l))
+  joined = noted-append 0 a (((z, true) ∷ t) ++ k) ∙ (noted-append (note z true (noted 0 a)) t k ∙ (go (noted 0 a) refl ∙ sym apart))
+    where
+      go : (y : ℕ) → noted 0 a ≡ y → by (noted 0 a) ≡ whole (noted 0 a)
+      go zero h = rw h (none z h refl)
+      go (suc y) h = some (noted 0 a) (λ i. omega (arith, h, i))
+
+      apart : noted 0 (a ++ ((b ++ t) ++ l)) ≡ whole (noted 0 a)
+      apart = noted-append 0 a ((b ++ t) ++ l) ∙ (noted-append (noted 0 a) (b ++ t) l ∙ ap (λ (n : ℕ). noted n l) (noted-append (noted 0 a) b t))
+
+-- ---- both ends
+module _ (R : Rules) (z : ℕ) (e : z ≡ noted 0 (ruleTests R)) where
+  abbrev laid : Tests
+  laid = layoutTests (R .m / 2) (R .lengths)
+
+  both : z ≡ 0 → Systems R
+  both h = systems R (noted-clear 0 (ruleTests R) (rule-numbered R) (sym e ∙ h) .1)
+
+  pub verify-by : (x w : List ℕ) (n c s : ℕ)
+      → noted 0 (verifyTestsBy z (outlineOf R) (length x) (length w) n c s) ≡ noted 0 (verifyTests R x w n c s)
+  verify-by x w n c s =
+      joined (sizeTests (R .m) (R .q) ++ publicTests (R .m) x) (ruleTests R) laid (verifyRooms (outlineOf R) (length w) n c s)
+      (counterTests n ++ (roomOf (claimWords R) c ++ (roomOf (verifierRoom R) s ++ wordTests (proofWords R) w))) z e same
+    where
+      same : noted 0 (sizeTests (R .m) (R .q) ++ publicTests (R .m) x) ≡ 0 → z ≡ 0
+          → verifyRooms (outlineOf R) (length w) n c s ≡ counterTests n ++ (roomOf (claimWords R) c ++ (roomOf (verifierRoom R) s ++ wordTests (proofWords R) w))
+      same h f =
+          let k = noted-clear 0 (sizeTests (R .m) (R .q) ++ publicTests (R .m) x) refl h .1 in
+          let columns : Sized 2 65536 (R .m) = not-bad (k .0) in
+          let r = verifier-within (R .m) (rowsBin R) (rowsFld R) (columns .high) (both f .bin .rows .high) (both f .fld .rows .high) in
+          rw r
+
+  pub prove-by : (ws x : List ℕ) (n w c s : ℕ)
+      → noted 0 (proveTestsBy z (outlineOf R) (length ws) (length x) n w c s) ≡ noted 0 (proveTests R ws x n w c s)
+  prove-by ws x n w c s =
+      joined (sizeTests (R .m) (R .q) ++ (packedTests (R .m / 2) (R .q) ws ++ publicTests (R .m) x)) (ruleTests R) laid (proveRooms (outlineOf R) n w c s)
+      (counterTests n ++ (roomOf (proofWords R) w ++ (roomOf (claimWords R) c ++ roomOf (proverRoom R) s))) z e same
+    where
+      same : noted 0 (sizeTests (R .m) (R .q) ++ (packedTests (R .m / 2) (R .q) ws ++ publicTests (R .m) x)) ≡ 0 → z ≡ 0
+          → proveRooms (outlineOf R) n w c s ≡ counterTests n ++ (roomOf (proofWords R) w ++ (roomOf (claimWords R) c ++ roomOf (proverRoom R) s))
+      same h f =
+          let k = noted-clear 0 (sizeTests (R .m) (R .q) ++ (packedTests (R .m / 2) (R .q) ws ++ publicTests (R .m) x)) refl h .1 in
+          let columns : Sized 2 65536 (R .m) = not-bad (k .0) in
+          let logins : Sized 1 4096 (R .q) = not-bad (k .1 .0) in
+          let r = prover-within (R .m) (R .q) (rowsBin R) (rowsFld R) (columns .high) (logins .high) (both f .bin .rows .high) (both f .fld .rows .high) in
+          rw r

@@ -1,0 +1,173 @@
+-- How the verifier ends: what its stages gave is its outcome, the table being made in either form.
+-- Assumes nothing.
+use mathlib.Core.Path.{_≡_, refl, sym, ap, _∙_}
+use mathlib.Core.Bool.{Bool, true, false, cond, false≢true}
+use mathlib.Core.List.{List, _++_}
+use Prim.Native.Nat.{ℕ, _+_, _*_, _≤_, min, max}
+use native.Mathlib.Omega.{arith}
+use lib.Dec.{eqb}
+use lib.ListN.{length, take, drop, replicate, length-drop, length-replicate}
+use lib.Seq.{take-at}
+use borrow.Author.Tests.{le-leb, eq-eqb, eqb-true, eqb-false}
+use Rattle.magnetar_field.specs.Words.{elements, words, overlaid}
+use Rattle.magnetar_hash.specs.declared.transcript.Transcript.{Transcript}
+use Rattle.magnetar_hash.specs.declared.transcript.TranscriptAnswer.{TranscriptAnswer}
+use Rattle.magnetar_layout.specs.Tests.{noted}
+use Rattle.magnetar_matrix.proofs.TableLaws.{elements-words}
+use Rattle.magnetar_matrix.specs.Batch.{Relation}
+use Rattle.magnetar_protocol.specs.Draws.{drawCount, drawsOf}
+use Rattle.magnetar_protocol.specs.Play.{Played}
+use Rattle.magnetar_protocol.specs.Checks.{combined}
+use Rattle.magnetar_protocol.specs.RealRun.{verifierDraws}
+use Rattle.magnetar_protocol.specs.declared.first.Found.{Found}
+use Rattle.magnetar_checks.specs.End.{endRefusal, endRoom}
+use Rattle.magnetar_relation.specs.Rules.{Rules, relationOf}
+use Rattle.magnetar_relation.specs.RuleTests.{ruleTests}
+use Rattle.magnetar_relation.specs.Steps.{clearedTo}
+use Rattle.magnetar_spartan.specs.declared.stages.Begun.{Begun}
+use Rattle.magnetar_spartan.specs.Refusals.{rowsBin, rowsFld, outlineOf, verifierRoom}
+use Rattle.magnetar_spartan.specs.Numbers.{verifyTestsBy}
+use Rattle.magnetar_spartan.specs.Outcome.{verified, verifiedInPlace, verifyRefusal, verifyOutcome}
+use Rattle.magnetar_spartan.specs.Table.{tableAt}
+use Rattle.magnetar_spartan.specs.Stages.{drawnWords, playedTo, drawnOf, outerAt, begun, checkedAt, roomElements, finished}
+use Rattle.magnetar_spartan.proofs.Verifying.{played-all, schedule-small}
+use Rattle.magnetar_spartan.proofs.VerifyRun.{draws-many, checks-leave}
+use Rattle.magnetar_spartan.proofs.Ended.{Verifiable, verifiable, draws-small, verify-refused}
+use Rattle.magnetar_spartan.proofs.ByNumbers.{verify-by}
+use Rattle.magnetar_spartan.proofs.DrawnTable.{drawn-combined, drawn-beyond}
+use Rattle.magnetar_spartan.proofs.Room.{Beyond, in-front, over}
+
+-- ---- the room
+cleared-room : (k n : ℕ) (s u : List ℕ) → 2 * n ≡ k → k ≤ length s → Beyond k s u → clearedTo n u ≡ replicate k 0 ++ drop k s
+unfolding clearedTo
+cleared-room k n s u e h b =
+    let d : k ≤ length u = omega (arith, h, b .long) in
+    rw (e, le-leb k (length u) d, b .rest)
+
+-- ---- a run that nothing refuses before its checks
+module _ (R : Rules) (x w : List ℕ) (t : Transcript) (c s : List ℕ) (none : verifyRefusal R x w t c s ≡ 0) where
+  abbrev o : Relation
+  o = outlineOf R
+
+  pub fits : Verifiable R x w (length c) (length s)
+  unfolding verifyRefusal
+  fits = verifiable R x w (t .«squeeze_ctr») (length c) (length s) none
+
+  -- the draws
+  abbrev pub drawn : List ℕ
+  drawn = words (verifierDraws (relationOf R) (elements w) t)
+
+  pub drawn-long : length drawn ≡ 2 * drawCount o
+  drawn-long = draws-many R (fits .ready) x w t (fits .public) (fits .proof)
+
+  pub drawn-few : length drawn ≤ 256
+  drawn-few = omega (arith, drawn-long, draws-small R (fits .ready))
+
+  pub words-are : drawnWords o w t ≡ overlaid drawn (replicate 256 0)
+  unfolding verifierDraws
+  words-are = ap (λ (p : Played). overlaid (words (p .draws)) (replicate 256 0)) (played-all R (elements w) t 65536 (schedule-small R (fits .ready)))
+
+  pub draws-are : drawnOf o (drawnWords o w t) ≡ drawn
+  draws-are =
+      let k : min (2 * drawCount o) 256 ≡ length drawn = omega (arith, drawn-long, drawn-few) in
+      rw (words-are, over drawn drawn-few, k) (take-at drawn (drop (length drawn) (replicate 256 0)) (length drawn) refl)
+
+  abbrev F : Found
+  F = outerAt o w drawn
+
+  -- the table in front of u, where the checks come to it
+  module _ (u : List ℕ) (b : Beyond (verifierRoom R) s u)
+      (table : F .code ≡ 0 → take (R .m) (elements u) ≡ combined (relationOf R) (drawsOf (relationOf R) (verifierDraws (relationOf R) (elements w) t))) where
+    room : 4 * R .m ≤ length u
+    room = omega (arith, fits .scratch, b .long)
+
+    after-end : Beyond (verifierRoom R) s (replicate (4 * R .m) 0 ++ drop (4 * R .m) u)
+    after-end =
+        let l : length (replicate {A = ℕ} (4 * R .m) 0) ≡ 4 * R .m = length-replicate (4 * R .m) 0 in
+        let f = in-front (verifierRoom R) u (replicate (4 * R .m) 0) (drop (4 * R .m) u) (omega (arith, l)) (rw (l, length-drop) (omega (arith, room)))
+        (ap (λ (i : ℕ). drop i u) (sym l)) in
+        record { long = f .long ∙ b .long; rest = f .rest ∙ b .rest }
+
+    room-after : Beyond (verifierRoom R) s (checkedAt o x w drawn t (playedTo o w t 65536) F c u .scratch)
+    unfolding endRoom
+    room-after = go (eqb (F .code) 0) (eqb (endRefusal o x w drawn u) 0) refl refl
+      where
+        go : (p q : Bool) → eqb (F .code) 0 ≡ p → eqb (endRefusal o x w drawn u) 0 ≡ q
+            → Beyond (verifierRoom R) s (checkedAt o x w drawn t (playedTo o w t 65536) F c u .scratch)
+        go false q e f = rw e b
+        go true false e f = rw (e, f) b
+        go true true e f = rw (e, f) after-end
+
+    pub run-ends : finished o x w t (begun o w t) c u ≡ verifyOutcome R x w t c s
+    unfolding verifyOutcome
+    run-ends =
+        let l = checks-leave R (fits .ready) x w t (fits .public) (fits .proof) c u (fits .claims) room table in
+        let r = cleared-room (verifierRoom R) (roomElements o) s _ (omega arith) (fits .scratch) room-after in
+        rw (none, draws-are, ← l .0, ← l .1, ← l .2, r)
+
+-- ---- the whole verifier: y is the number of 4 to 7, z that of all tests before the checks
+module _ (R : Rules) (x w : List ℕ) (t : Transcript) (c s : List ℕ) (y z : ℕ) (hy : y ≡ noted 0 (ruleTests R))
+    (hz : z ≡ noted 0 (verifyTestsBy y (outlineOf R) (length x) (length w) (t .«squeeze_ctr») (length c) (length s))) where
+  number : z ≡ verifyRefusal R x w t c s
+  unfolding verifyRefusal
+  number = hz ∙ verify-by R y hy x w (t .«squeeze_ctr») (length c) (length s)
+
+  -- turned back
+  pub verify-back : (z ≡ 0 → ⊥) → verified (record { code = z; transcript = t }) c s ≡ verifyOutcome R x w t c s
+  verify-back h = verify-refused R x w t c s z number h
+
+  -- the combined table at the draws, in front of the scratch
+  abbrev pub verifyTable : List ℕ
+  verifyTable = tableAt (relationOf R) (drawnWords (outlineOf R) w t) s
+
+  -- run through: the table is there, unless the outer checks stop the run
+  pub verify-through : z ≡ 0 → (b : Bool) → (begun (outlineOf R) w t .found .code ≡ 0 → b ≡ true)
+      → finished (outlineOf R) x w t (begun (outlineOf R) w t) c (cond b verifyTable s) ≡ verifyOutcome R x w t c s
+  verify-through h b f = run-ends R x w t c s none (cond b verifyTable s) (beyond b) (λ i. front b (f (rw draws i)))
+    where
+      none : verifyRefusal R x w t c s ≡ 0
+      none = sym number ∙ h
+
+      D : List ℕ
+      D = drawn R x w t c s none
+
+      draws : drawnOf (outlineOf R) (drawnWords (outlineOf R) w t) ≡ D
+      draws = draws-are R x w t c s none
+
+      ok : Verifiable R x w (length c) (length s)
+      ok = fits R x w t c s none
+
+      enough : 2 * R .m + 2 * max (rowsBin R) (rowsFld R) ≤ length s
+      enough = omega (arith, ok .scratch)
+
+      is-table : verifyTable ≡ tableAt (relationOf R) (overlaid D (replicate 256 0)) s
+      is-table = ap (λ (l : List ℕ). tableAt (relationOf R) l s) (words-are R x w t c s none)
+
+      beyond : (i : Bool) → Beyond (verifierRoom R) s (cond i verifyTable s)
+      beyond true = rw is-table (drawn-beyond R (ok .ready) D s (drawn-long R x w t c s none) enough (verifierRoom R) (omega arith))
+      beyond false = record { long = refl; rest = refl }
+
+      front : (i : Bool) → i ≡ true
+          → take (R .m) (elements (cond i verifyTable s)) ≡ combined (relationOf R) (drawsOf (relationOf R) (verifierDraws (relationOf R) (elements w) t))
+      front true e =
+          rw is-table (drawn-combined R (ok .ready) D s (drawn-long R x w t c s none) enough
+          ∙ ap (λ (l : List ℕ). combined (relationOf R) (drawsOf (relationOf R) l)) (elements-words (verifierDraws (relationOf R) (elements w) t)))
+      front false e = absurd (false≢true e)
+
+  -- the core makes the table where the outer checks pass
+  pub verify-ends : (a : TranscriptAnswer) (g : Begun) (u c′ s′ : List ℕ) → z ≡ 0 → g ≡ begun (outlineOf R) w t
+      → u ≡ cond (eqb (g .found .code) 0) (tableAt (relationOf R) (g .draws) s) s → verified a c′ s′ ≡ finished (outlineOf R) x w t g c u
+      → verified a c′ s′ ≡ verifyOutcome R x w t c s
+  verify-ends a g u c′ s′ h hg hu e = e ∙ rw (hu, hg) (verify-through h (eqb (begun (outlineOf R) w t .found .code) 0) (λ i. eq-eqb _ 0 i))
+
+  -- the form over records makes it always
+  pub verify-ends-over : (n : ℕ) (u : Transcript) (c′ s′ : List ℕ)
+      → verifiedInPlace n u c′ s′ ≡ cond (eqb z 0) (finished (outlineOf R) x w t (begun (outlineOf R) w t) c verifyTable) (verifiedInPlace z t c s)
+      → verifiedInPlace n u c′ s′ ≡ verifyOutcome R x w t c s
+  verify-ends-over n u c′ s′ e = go (eqb z 0) refl e
+    where
+      go : (b : Bool) → eqb z 0 ≡ b
+          → verifiedInPlace n u c′ s′ ≡ cond b (finished (outlineOf R) x w t (begun (outlineOf R) w t) c verifyTable) (verifiedInPlace z t c s)
+          → verifiedInPlace n u c′ s′ ≡ verifyOutcome R x w t c s
+      go true h f = f ∙ verify-through (eqb-true z 0 h) true (λ i. refl)
+      go false h f = f ∙ verify-back (eqb-false z 0 h)

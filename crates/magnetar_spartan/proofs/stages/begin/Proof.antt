@@ -1,0 +1,56 @@
+-- `magnetar_spartan::stages::begin` meets its contract.
+-- Assumes nothing.
+use denote.Ref.{now}
+use Rattle.magnetar_matrix.specs.Batch.{Relation}
+use Rattle.magnetar_protocol.specs.Schedule.{outline}
+use Rattle.magnetar_spartan.proofs.StageLaws.{part-is, begun-is}
+use borrow.Author.Needs.{needs}
+use Rattle.magnetar_spartan.proofs.stages.begin.Statement.{statement}
+use Rattle.magnetar_spartan.proofs.stages.begin.Tie as tie
+
+abbrev o : tie.Start → Relation
+o s = let x = s .args in outline (x .m) (x .q) (x .rb) (x .rf) (now (x .lens))
+
+draw-words-requires : tie.Need-draw-words-requires
+draw-words-requires c κs = search needs
+
+least-requires : tie.Need-least-requires
+least-requires c κs = search needs
+
+slice-aggregate-play : tie.Need-slice-aggregate-play
+slice-aggregate-play c = search needs
+
+play-requires : tie.Need-play-requires
+play-requires c κs = search needs
+
+sub-outer-checks : tie.Need-sub-outer-checks
+sub-outer-checks c = search needs
+
+part-outer-checks-start : tie.Need-part-outer-checks-start
+part-outer-checks-start c = search needs
+
+part-outer-checks-end : tie.Need-part-outer-checks-end
+part-outer-checks-end c = search needs
+
+outer-checks-requires : tie.Need-outer-checks-requires
+outer-checks-requires c κs = search needs
+
+returns : tie.Need-returns
+returns c =
+    let x = (c .before .before .before .before .before .before .before .before .before .before) .args in
+    begun-is (o (c .before .before .before .before .before .before .before .before .before .before)) (now (x .proof)) (x .t) _ _ _ _ (c .before .before .before .before .play .ensures)
+    (part-is (o (c .before .before .before .before .before .before .before .before .before .before)) (c .before .before .before .before .before .before .before .draw-words .result) (c .before .before .before .before .before .before .least .result) _ (c .before .before .before .before .before .before .least .ensures .0) (c .before .before .before .before .before .before .before .draw-words .ensures)) (c .outer-checks .ensures)
+
+pub begin-spec : {M : Type 1} → statement M
+begin-spec =
+    tie.close
+    (tie.spec
+    draw-words-requires
+    least-requires
+    slice-aggregate-play
+    play-requires
+    sub-outer-checks
+    part-outer-checks-start
+    part-outer-checks-end
+    outer-checks-requires
+    returns)

@@ -1,0 +1,86 @@
+-- What the stages of a verifying run that see no matrix leave, by the relation's sizes o and the words w of the proof. Only the contracts of
+-- private functions speak of this.
+-- Assumes nothing.
+use mathlib.Core.Bool.{cond}
+use mathlib.Core.List.{List}
+use Prim.Native.Nat.{ℕ, _+_, _*_, min, max}
+use lib.Dec.{eqb}
+use lib.ListN.{take, replicate}
+use Rattle.magnetar_field.specs.Words.{elements, words, overlaid}
+use Rattle.magnetar_hash.specs.declared.transcript.Transcript.{Transcript}
+use Rattle.magnetar_matrix.specs.Batch.{Relation}
+use Rattle.magnetar_protocol.specs.Draws.{drawCount}
+use Rattle.magnetar_protocol.specs.Schedule.{schedule}
+use Rattle.magnetar_protocol.specs.Play.{playedFrom}
+use Rattle.magnetar_protocol.specs.declared.first.Found.{Found}
+use Rattle.magnetar_checks.specs.Outer.{outerFound}
+use Rattle.magnetar_checks.specs.End.{endFound, endRoom}
+use Rattle.magnetar_checks.specs.Claims.{claimsOut}
+use Rattle.magnetar_relation.specs.Steps.{clearedTo}
+use Rattle.magnetar_spartan.specs.declared.stages.Begun.{Begun}
+use Rattle.magnetar_spartan.specs.Outcome.{Verified}
+
+-- the words of the draws, in front of 256 words
+abbrev pub drawnWords : Relation → (w : List ℕ) → Transcript → List ℕ
+drawnWords o w t = overlaid (words (playedFrom (elements w) (take 65536 (schedule o)) t .draws)) (replicate 256 0)
+
+-- the transcript after n events
+abbrev pub playedTo : Relation → (w : List ℕ) → Transcript → ℕ → Transcript
+playedTo o w t n = playedFrom (elements w) (take n (schedule o)) t .transcript
+
+-- as many of the words d as a run has draws, at most 256
+abbrev pub drawnOf : Relation → (d : List ℕ) → List ℕ
+drawnOf o d = take (min (2 * drawCount o) 256) d
+
+-- ---- the checks, at the words d of the draws
+-- the outer checks
+abbrev pub outerAt : Relation → (w d : List ℕ) → Found
+outerAt o w d = outerFound (o .m) (o .q) (o .bin .a .rows) (o .fld .a .rows) (o .lengths) w d
+
+-- the later ones, with the public words x and the table in front of s; and what they leave of s
+abbrev pub endAt : Relation → (x w d s : List ℕ) → Found
+endAt o x w d s = endFound (o .m) (o .q) (o .bin .a .rows) (o .fld .a .rows) (o .lengths) x w d s
+
+abbrev pub endRoomAt : Relation → (x w d s : List ℕ) → List ℕ
+endRoomAt o x w d s = endRoom (o .m) (o .q) (o .bin .a .rows) (o .fld .a .rows) (o .lengths) x w d s
+
+-- the claims, over c
+abbrev pub claimsAt : Relation → (w d c : List ℕ) → List ℕ
+claimsAt o w d c = claimsOut (o .m) (o .q) (o .bin .a .rows) (o .fld .a .rows) (o .lengths) w d c
+
+-- ---- the first stage: the schedule is played, and the outer checks look at the draws
+abbrev pub begun : Relation → (w : List ℕ) → Transcript → Begun
+begun o w t = record {
+  draws = drawnWords o w t;
+  ended = playedTo o w t 65536;
+  found = outerAt o w (drawnOf o (drawnWords o w t));
+}
+
+-- ---- the second, from the findings f of the outer checks and the transcript u at the end
+-- the finding f, or l where f is none
+abbrev pub firstOf : Found → Found → Found
+firstOf f l = cond (eqb (f .code) 0) l f
+
+-- what is left where g is the first check that does not pass
+abbrev pub stoppedAt : Relation → (x w d : List ℕ) → (t u : Transcript) → (f g : Found) → (c s : List ℕ) → Verified
+stoppedAt o x w d t u f g c s = record {
+  code = g .code;
+  transcript = cond (eqb (g .code) 0) u (playedTo o w t (g .events));
+  claims = cond (eqb (g .code) 0) (claimsAt o w d c) c;
+  scratch = cond (eqb (f .code) 0) (endRoomAt o x w d s) s;
+}
+
+-- where the checks look at the words d of the draws, and at the table in front of s
+abbrev pub checkedAt : Relation → (x w d : List ℕ) → (t u : Transcript) → Found → (c s : List ℕ) → Verified
+checkedAt o x w d t u f c s = stoppedAt o x w d t u f (firstOf f (endAt o x w d s)) c s
+
+-- the verifier's scratch, in elements
+abbrev pub roomElements : Relation → ℕ
+roomElements o = 2 * o .m + 2 * max (o .bin .a .rows) (o .fld .a .rows)
+
+-- the same with the scratch cleared
+abbrev pub cleared : Relation → Verified → Verified
+cleared o v = record { code = v .code; transcript = v .transcript; claims = v .claims; scratch = clearedTo (roomElements o) (v .scratch) }
+
+abbrev pub finished : Relation → (x w : List ℕ) → Transcript → Begun → (c s : List ℕ) → Verified
+finished o x w t g c s = cleared o (checkedAt o x w (drawnOf o (g .draws)) t (g .ended) (g .found) c s)

@@ -1,0 +1,141 @@
+// The stages of a verifying run that see no matrix: the schedule and the outer checks; then, with the combined table in front of the
+// scratch, the other checks and the claims. sh are the shapes of the relation's matrices.
+use magnetar_checks::claims;
+use magnetar_checks::end;
+use magnetar_checks::outer;
+use magnetar_field::sizes;
+use magnetar_hash::transcript::Transcript;
+use magnetar_hash::transcript::TranscriptAnswer;
+use magnetar_protocol::first::Found;
+use magnetar_protocol::rooms;
+use magnetar_relation::step;
+use magnetar_schedule::play;
+ghost use mathlib.Core.Path.{_≡_};
+ghost use mathlib.Core.List.{[]};
+ghost use Rattle.magnetar_protocol.specs.Schedule.{outline};
+ghost use Rattle.magnetar_relation.specs.Steps.{clearedTo};
+ghost use Rattle.magnetar_spartan.specs.Outcome.{verified};
+ghost use Rattle.magnetar_spartan.specs.Stages.{playedTo, drawnOf, begun, checkedAt, roomElements, finished};
+
+// What the first stage hands on: the words of the draws, 0 behind them, the transcript at the end, and what the outer checks found.
+pub(crate) struct Begun {
+    pub draws: [u64; 256],
+    pub ended: Transcript,
+    pub found: Found,
+}
+
+// The first stage. All challenges are drawn before any check; the outcome is that of checking in document 01's order all the same, since
+// the transcript of a refused run is played again up to the failing check.
+pub(crate) fn begin(
+    m: usize,
+    q: usize,
+    rb: usize,
+    rf: usize,
+    lens: &[usize],
+    proof: &[u64],
+    t: Transcript,
+) -> Begun
+    ensures { λ r. ⌜ r ≡ begun (outline m q rb rf (now (lens .entry))) (now (proof .entry)) t ⌝ }
+{
+    let k = sizes::least(rooms::draw_words(m, q, rb, rf), 256);
+    let mut draws = [0u64; 256];
+    let ended = play::play(m, q, rb, rf, lens, proof, &mut draws, t, play::ALL_EVENTS);
+    let found = outer::outer_checks(m, q, rb, rf, lens, proof, &draws[0..k]);
+    Begun {
+        draws: draws,
+        ended: ended,
+        found: found,
+    }
+}
+
+// The answer of a run that a check stops: its transcript has played the events before that check.
+fn stopped(
+    m: usize,
+    q: usize,
+    rb: usize,
+    rf: usize,
+    lens: &[usize],
+    proof: &[u64],
+    t: Transcript,
+    found: Found,
+) -> TranscriptAnswer
+    ensures { λ r. ⌜ (r .code ≡ found .code) × (r .transcript ≡ playedTo (outline m q rb rf (now (lens .entry))) (now (proof .entry)) t (found .events)) ⌝ }
+{
+    let mut none = [0u64; 2];
+    let u = play::play(m, q, rb, rf, lens, proof, &mut none, t, found.events);
+    TranscriptAnswer {
+        code: found.code,
+        transcript: u,
+    }
+}
+
+// The answer of a run with the words d of the draws, whose outer checks found f and whose transcript ended as u, the table in front of s;
+// and its claims.
+fn checks(
+    claims: &mut [u64],
+    s: &mut [u64],
+    d: [u64; 256],
+    m: usize,
+    q: usize,
+    rb: usize,
+    rf: usize,
+    lens: &[usize],
+    x: &[u64],
+    proof: &[u64],
+    t: Transcript,
+    u: Transcript,
+    f: Found,
+) -> TranscriptAnswer
+    ensures { λ r. ⌜ verified r (now (claims .exit)) (now (s .exit)) ≡ (let o = outline m q rb rf (now (lens .entry)) in checkedAt o (now (x .entry)) (now (proof .entry)) (drawnOf o d) t u f (now (claims .entry)) (now (s .entry))) ⌝ }
+{
+    if f.code != 0 {
+        return stopped(m, q, rb, rf, lens, proof, t, f);
+    }
+    let k = sizes::least(rooms::draw_words(m, q, rb, rf), 256);
+    let l = end::end_checks(m, q, rb, rf, lens, x, proof, &d[0..k], s);
+    if l.code != 0 {
+        return stopped(m, q, rb, rf, lens, proof, t, l);
+    }
+    claims::write_claims(m, q, rb, rf, lens, proof, &d[0..k], claims);
+    TranscriptAnswer {
+        code: 0,
+        transcript: u,
+    }
+}
+
+// Clears the verifier's scratch.
+fn clear_room(m: usize, rb: usize, rf: usize, s: &mut [u64])
+    ensures { λ _. ⌜ now (s .exit) ≡ clearedTo (roomElements (outline m 0 rb rf [])) (now (s .entry)) ⌝ }
+{
+    let k = sizes::larger(rb, rf);
+    let h = s.len() / 4;
+    if m <= h {
+        if k <= h - m {
+            step::clear_front(2 * m + 2 * k, s);
+        }
+    }
+}
+
+// The second stage; the scratch is 0 at exit.
+pub(crate) fn finish(
+    claims: &mut [u64],
+    s: &mut [u64],
+    m: usize,
+    q: usize,
+    rb: usize,
+    rf: usize,
+    lens: &[usize],
+    x: &[u64],
+    proof: &[u64],
+    t: Transcript,
+    g: Begun,
+) -> TranscriptAnswer
+    ensures { λ r. ⌜ verified r (now (claims .exit)) (now (s .exit)) ≡ finished (outline m q rb rf (now (lens .entry))) (now (x .entry)) (now (proof .entry)) t g (now (claims .entry)) (now (s .entry)) ⌝ }
+{
+    let d = g.draws;
+    let u = g.ended;
+    let f = g.found;
+    let a = checks(claims, s, d, m, q, rb, rf, lens, x, proof, t, u, f);
+    clear_room(m, rb, rf, s);
+    a
+}
