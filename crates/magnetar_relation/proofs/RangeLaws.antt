@@ -1,4 +1,4 @@
--- Numbers cut where a list ends: parts of it, and the entries of a matrix and of a system.
+-- Numbers cut where a list ends: parts of it, and the entries of a system.
 -- Assumes nothing.
 use mathlib.Core.Path.{_≡_, refl, sym, ap, _∙_}
 use mathlib.Core.Bool.{Bool, true, false}
@@ -10,9 +10,8 @@ use lib.ListN.{length, take, drop, drop-of-length-le, length-drop}
 use lib.Seq.{take-all}
 use borrow.Author.Tests.{ltb-true, ltb-false}
 use Rattle.magnetar_matrix.specs.Matrix.{Entry}
-use Rattle.magnetar_relation.specs.declared.shapes.Shape.{Shape}
 use Rattle.magnetar_relation.specs.declared.shapes.SystemShape.{SystemShape}
-use Rattle.magnetar_relation.specs.Rules.{matrixAt, systemAt}
+use Rattle.magnetar_relation.specs.Rules.{systemAt}
 
 -- ---- parts of a list
 pub take-cut : {A : Type 0} (k : ℕ) (l : List A) → take (min k (length l)) l ≡ take k l
@@ -43,11 +42,7 @@ drop-cut x l = go (ltb (length l) x) refl
 pub same-drop : {A : Type 0} (i j : ℕ) (l : List A) → min i (length l) ≡ min j (length l) → drop i l ≡ drop j l
 same-drop i j l e = sym (drop-cut i l) ∙ (ap (λ (k : ℕ). drop k l) e ∙ drop-cut j l)
 
--- ---- a matrix and a system whose entries start at a place that was cut
-pub matrix-cut : (h : Shape) (a a′ : ℕ) (es : List Entry) → a′ ≡ min a (length es) → matrixAt h a′ es ≡ matrixAt h a es
-matrix-cut h a a′ es e =
-    ap (λ (l : List Entry). record { rows = h .rows; cols = h .cols; entries = take (h .entries) l }) (same-drop a′ a es (omega (arith, e)))
-
+-- ---- a system whose entries start at a place that was cut
 pub system-cut : (t : SystemShape) (a a′ : ℕ) (es : List Entry) → a′ ≡ min a (length es) → systemAt t a′ es ≡ systemAt t a es
 system-cut t a a′ es e = rw (
   same-drop a′ a es (omega (arith, e)),
