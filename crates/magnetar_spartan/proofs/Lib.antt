@@ -5,13 +5,12 @@ pub mod ByNumbers
 pub mod StageLaws
 pub mod Room
 pub mod Verifying
-pub mod ProductTables
 pub mod VerifyRun
-pub mod LaterRun
-pub mod Joining
-pub mod ProveRun
 pub mod Ended
 pub mod DrawnTable
 pub mod VerifyEnds
 pub mod Sound
 pub mod Complete
+pub mod LaterLaws
+pub mod ProductLaws
+pub mod ProveRun

@@ -1,185 +1,335 @@
--- What the prover leaves: the outer rounds of its products, the rest of the run behind them, and the claims.
+-- What the prover leaves, from what its calls leave: the products, the outer rounds over them, the combined table and what is behind it.
 -- Assumes nothing.
-use mathlib.Core.Path.{_≡_, refl, sym, ap, ap₂, _∙_}
-use mathlib.Core.List.{List, [], _++_, append-nil}
-use Prim.Native.Nat.{ℕ, suc, _+_, _-_, _*_, _/_, _^_, _≤_, _<_}
+use mathlib.Core.Path.{_≡_, refl, sym, ap, ap₂, _∙_, subst}
+use mathlib.Core.Bool.{true}
+use mathlib.Core.List.{List, [], _∷_, _++_, reverse, append-assoc}
+use Prim.Native.Nat.{ℕ, suc, _+_, _-_, _*_, _/_, _^_, _≤_, _<_, max}
 use native.Mathlib.Nat.{mul-add}
 use native.Mathlib.Omega.{arith}
-use lib.ListN.{length, take, drop, drop-of-length-le}
-use lib.Seq.{take-at, take-all}
-use borrow.Author.Tests.{lt-ltb}
+use lib.Dec.{eqb}
+use lib.ListN.{length, take, drop, replicate, length-append, length-drop, length-replicate, replicate-append-replicate}
+use lib.Pow.{split}
+use lib.Seq.{take-at, drop-at, take-append-le, drop-append-le, length-take-le}
+use borrow.Author.Tests.{lt-ltb, eq-eqb, ne-eqb}
 use Rattle.magnetar_field.specs.Sizes.{log₂}
 use Rattle.magnetar_field.specs.Words.{elements, words, overlaid}
-use Rattle.magnetar_field.proofs.Elements.{words-length}
+use Rattle.magnetar_field.proofs.Elements.{words-length, words-append, elements-length}
 use Rattle.magnetar_hash.specs.declared.transcript.Transcript.{Transcript}
+use Rattle.magnetar_hash.specs.declared.transcript.TranscriptAnswer.{TranscriptAnswer}
 use Rattle.magnetar_hash.specs.Transcript.{absorbed, drawn}
-use Rattle.magnetar_layout.specs.Tests.{roomTest}
-use Rattle.magnetar_matrix.specs.Batch.{Relation, Batch}
-use Rattle.magnetar_matrix.specs.Lent.{matrixOf}
+use Rattle.magnetar_layout.specs.Every.{every}
+use Rattle.magnetar_layout.specs.Tests.{noted, roomTest}
+use Rattle.magnetar_matrix.specs.Batch.{Relation, Batch, folded}
+use Rattle.magnetar_matrix.specs.Packed.{packedTable}
 use Rattle.magnetar_matrix.proofs.TableLaws.{elements-words}
-use Rattle.magnetar_batch.specs.Systems.{systemOf}
-use Rattle.magnetar_protocol.specs.Shape.{logLogins, logBin, logFld, proofElements}
-use Rattle.magnetar_protocol.specs.Draws.{drawCount}
+use Rattle.magnetar_checks.proofs.Pieces.{elements-take}
+use Rattle.magnetar_protocol.specs.Shape.{logLogins, logBin, logFld, logCols}
+use Rattle.magnetar_protocol.specs.Draws.{Draws, drawCount, drawsOf, loginPoint}
+use Rattle.magnetar_protocol.specs.Checks.{combined}
 use Rattle.magnetar_protocol.specs.Run.{claims}
-use Rattle.magnetar_protocol.specs.RunSizes.{SizedRelation, SizedBatch, Elements}
-use Rattle.magnetar_protocol.specs.Prover.{proverWords, proverClaims}
-use Rattle.magnetar_protocol.specs.Stepwise.{Steps, Tables, tauSteps, outerAll, drawTimes, sendEach, outerSteps, fldRows, binRows, outerBegin, terminalsLeft}
+use Rattle.magnetar_protocol.specs.RunSizes.{SizedMatrix, Elements}
+use Rattle.magnetar_protocol.specs.Prover.{productTable, proverWords, proverClaims}
+use Rattle.magnetar_protocol.specs.Stepwise.{Steps, Tables, begin, tauSteps, outerAll, drawTimes, sendEach, outerSteps, fldRows, binRows, outerBegin, terminalsLeft, innerAll, innerRun, segmentValue, lowDraws, ended}
 use Rattle.magnetar_protocol.specs.RealRun.{productTables, outerProving, proving, proverDraws, proverTranscript}
 use Rattle.magnetar_protocol.proofs.Blocks.{claims-outlined}
-use Rattle.magnetar_protocol.proofs.Stepwise.{outer-proving-sent, outer-proving-count}
+use Rattle.magnetar_protocol.proofs.Splits.{combined-split, logins-split}
+use Rattle.magnetar_protocol.proofs.StepLaws.{behind}
+use Rattle.magnetar_protocol.proofs.Stepwise.{proving-after, outer-proving-sent, outer-proving-count}
 use Rattle.magnetar_protocol.proofs.ProverRun.{proving-words, proving-claims}
-use Rattle.magnetar_rounds.specs.Entries.{tablesIn, counterTest, answerFor, proofFor, drawsFor, countTests, totalTests, outerDrawn, outerSent, blockWords, tablesOf, outerRoundsRefusal, outerPlayed}
-use Rattle.magnetar_hash.specs.declared.transcript.TranscriptAnswer.{TranscriptAnswer}
+use Rattle.magnetar_rounds.specs.Entries.{counterTest, countTests, totalTests, outerDrawn, outerSent, blockWords, tablesOf, outerRoundsRefusal, outerPlayed}
 use Rattle.magnetar_rounds.specs.Whole.{outerWhole}
 use Rattle.magnetar_rounds.proofs.Joined.{whole-is}
-use Rattle.magnetar_checks.specs.Outer.{runTests, segmentTests, drawTests, proofTests}
-use Rattle.magnetar_checks.specs.Claims.{claimsRefusal, claimsOut, claimCount}
-use Rattle.magnetar_spartan.specs.Rules.{Rules, relationOf}
-use Rattle.magnetar_spartan.specs.Refusals.{proofWords, claimWords, proverRoom}
+use Rattle.magnetar_relation.specs.Rules.{Rules, relationOf}
+use Rattle.magnetar_relation.specs.RuleTests.{ruleTests}
+use Rattle.magnetar_spartan.specs.Refusals.{outlineOf, rowsBin, rowsFld, proofWords, claimWords, proverRoom}
+use Rattle.magnetar_spartan.specs.Numbers.{proveTestsBy}
 use Rattle.magnetar_spartan.specs.Ready.{Ready}
-use Rattle.magnetar_spartan.specs.Outcome.{batchOf, proveDraws}
-use Rattle.magnetar_spartan.specs.Later.{drawsBefore, proofBefore, laterTranscript, laterProof, laterDraws, OuterLeft}
-use Rattle.magnetar_spartan.proofs.Combining.{noted-none, sizes-fine, size-fine, same-fine, most-fine, true-fine}
-use Rattle.magnetar_spartan.proofs.Verifying.{sizesOf, sizes-are}
-use Rattle.magnetar_spartan.proofs.Joining.{joined-transcript, joined-proof, joined-draws}
+use Rattle.magnetar_spartan.specs.Table.{tableAt}
+use Rattle.magnetar_spartan.specs.Outcome.{batchOf, proveDraws, proveRefusal, proveOutcome, proved}
+use Rattle.magnetar_spartan.specs.Proving.{bare, RunReady, outerNumber, OuterDone, saidBefore, drawnBefore, saidAll, drawnAll, laterPlayed, LaterLeft}
+use Rattle.magnetar_spartan.specs.Products.{tablesWanted, Products, ProductsLeft}
+use Rattle.magnetar_spartan.proofs.Fine.{noted-none, size-fine, most-fine, true-fine}
+use Rattle.magnetar_spartan.proofs.ByNumbers.{prove-by}
+use Rattle.magnetar_spartan.proofs.Ended.{provable, draws-small}
+use Rattle.magnetar_spartan.proofs.Room.{Beyond}
+use Rattle.magnetar_spartan.proofs.DrawnTable.{drawn-combined, drawn-beyond}
+use Rattle.magnetar_spartan.proofs.Complete.{sized-batch}
+use Rattle.magnetar_spartan.proofs.LaterLaws.{behind-front, laid-front}
 
--- the transcript v, the proof's words w and the claims c of a whole run
-abbrev pub ProveLeft : Rules → (ws x : List ℕ) → Transcript → Transcript → (w c : List ℕ) → Type 0
-ProveLeft R ws x t v w c =
-    (v ≡ proverTranscript (relationOf R) (batchOf R ws) (elements x) t)
-    × (w ≡ words (proverWords (relationOf R) (batchOf R ws) (elements x) (proveDraws R ws x t)))
-    × (c ≡ words (proverClaims (relationOf R) (batchOf R ws) (proveDraws R ws x t)))
-
--- a run's words in front of those that were lent
-laid : (v d : List ℕ) (n : ℕ) → 2 * length v ≡ n → n ≤ length d → take n (overlaid (words v) d) ≡ words v
-unfolding overlaid
-laid v d n e h =
-    let l : length (words v) ≡ n = words-length v ∙ e in
-    rw (take-all (length d) (words v) (omega (arith, l))) (take-at (words v) (drop (length (words v)) d) n l)
-
--- both blocks are within the prover's scratch
-pub blocks-fit : (R : Rules) {s : ℕ} → s ≡ proverRoom R → blockWords (R .q) (R .bin .a .rows) (R .fld .a .rows) ≤ s
-blocks-fit R e = omega (arith, e, mul-add (R .q) (R .bin .a .rows) (R .fld .a .rows))
-
--- the tables of words in front of others
-pub tables-there : (q rb rf : ℕ) (p s : List ℕ) (T : Tables) → length p ≡ blockWords q rb rf
-    → tablesIn (2 * (q * rb)) (2 * (q * rf)) (take (4 * (2 * (q * rb))) p) (drop (4 * (2 * (q * rb))) p) ≡ T → tablesOf q rb rf (p ++ s) ≡ T
-tables-there q rb rf p s T l e = rw (take-at p s (blockWords q rb rf) l) e
-
+-- ---- the outer rounds, of a relation
 -- absorbing sets the counter to 0: behind the terminals and the alphas it is 6
 counter-left : (r : Relation) (T : Tables) (p : Steps) → outerAll r T p .played .transcript .«squeeze_ctr» ≡ 6
 unfolding outerAll drawTimes sendEach terminalsLeft drawn absorbed
 counter-left r T p = refl
 
-pub outer-counter : (R : Rules) (ws x : List ℕ) (t u : Transcript) (w d : List ℕ) → OuterLeft R ws x t u w d → u .«squeeze_ctr» < 2 ^ 32
-unfolding OuterLeft outerProving
-outer-counter R ws x t u w d L =
-    let e : u .«squeeze_ctr» ≡ 6 = ap (λ (v : Transcript). v .«squeeze_ctr») (L .0) ∙ counter-left (relationOf R) (productTables (relationOf R) (batchOf R ws) (elements x)) (tauSteps (relationOf R) t) in
-    omega (arith, e)
-
--- the outer rounds, of a relation
 outer-all : (r : Relation) (T : Tables) (t : Transcript) → outerAll r T (tauSteps r t) ≡ outerWhole (logLogins r) (logBin r) (logFld r) T t
 unfolding outerWhole outerAll outerSteps fldRows binRows outerBegin tauSteps terminalsLeft
 outer-all r T t = refl
 
-module _ (R : Rules) (P : Ready R) (ws x : List ℕ) (t : Transcript) where
+-- ---- words
+elements-behind : (vs s : List ℕ) → elements (words vs ++ s) ≡ vs ++ elements s
+unfolding words elements
+elements-behind [] s = refl
+elements-behind (v ∷ vs) s = rw (split v 64, elements-behind vs s)
+
+-- zeros behind the first a, cut b further on
+drop-zeros : (a k n : ℕ) → n ≡ a + k → drop a (replicate {A = ℕ} n 0) ≡ replicate k 0
+drop-zeros a k n e =
+    ap (λ (i : ℕ). drop a (replicate i 0)) e
+    ∙ (ap (drop a) (sym (replicate-append-replicate a k 0)) ∙ drop-at (replicate a 0) (replicate k 0) a (length-replicate a 0))
+
+zeros : (a b n : ℕ) → a + b ≤ n → drop a (replicate {A = ℕ} n 0) ≡ replicate b 0 ++ drop (a + b) (replicate n 0)
+zeros a b n h =
+    drop-zeros a (b + (n - (a + b))) n (omega arith)
+    ∙ (sym (replicate-append-replicate b (n - (a + b)) 0)
+    ∙ ap (λ (l : List ℕ). replicate b 0 ++ l) (sym (drop-zeros (a + b) (n - (a + b)) n (omega arith))))
+
+-- the rules by their sizes are as ready
+pub bare-ready : (R : Rules) → Ready R → Ready (bare (R .m) (R .q) (rowsBin R) (rowsFld R) (R .lengths))
+unfolding every
+bare-ready R P =
+    let none : (n : ℕ) → SizedMatrix n (R .m) (record { rows = n; cols = R .m; entries = [] }) =
+    λ n. record { rows = refl; cols = refl; few = omega arith; inside = refl } in record {
+      columns = P .columns;
+      logins = P .logins;
+      bin = record { rows = P .bin .rows; total = P .bin .total; a = none (rowsBin R); b = none (rowsBin R); c = none (rowsBin R) };
+      fld = record { rows = P .fld .rows; total = P .fld .total; a = none (rowsFld R); b = none (rowsFld R); c = none (rowsFld R) };
+      layout = P .layout;
+      segments = P .segments;
+    }
+
+module _ (R : Rules) (ws x w c s : List ℕ) (t : Transcript)
+    (ok : RunReady R (length ws) (length x) (length w) (length c) (length s) (t .«squeeze_ctr»)) where
+  abbrev q : ℕ
+  q = R .q
+
+  abbrev b : ℕ
+  b = rowsBin R
+
+  abbrev f : ℕ
+  f = rowsFld R
+
   abbrev r : Relation
   r = relationOf R
 
-  abbrev b : Batch
-  b = batchOf R ws
-
   abbrev o : Relation
-  o = sizesOf R
+  o = outlineOf R
+
+  abbrev B : Batch
+  B = batchOf R ws
 
   abbrev O : Steps
-  O = outerProving r b (elements x) t
+  O = outerProving r B (elements x) t
 
-  -- ---- the outer rounds
-  outer-none : (w d s : List ℕ) → length w ≡ proofWords R → length d ≡ 2 * drawCount o → blockWords (R .q) (R .bin .a .rows) (R .fld .a .rows) ≤ length s
-      → t .«squeeze_ctr» < 2 ^ 32 → outerRoundsRefusal (R .q) (R .bin .a .rows) (R .fld .a .rows) w d s t ≡ 0
-  unfolding outerRoundsRefusal
-  outer-none w d s hw hd hs ht =
-      noted-none (countTests (R .q) (R .bin .a .rows) (R .fld .a .rows) ++ totalTests (R .q) (R .bin .a .rows) (R .fld .a .rows) ++ (counterTest t ++ (roomTest (2 * outerDrawn (log₂ (R .q)) (log₂ (R .bin .a .rows)) (log₂ (R .fld .a .rows))) d ++ roomTest (2 * outerSent (log₂ (R .q)) (log₂ (R .bin .a .rows)) (log₂ (R .fld .a .rows))) w ++ roomTest (blockWords (R .q) (R .bin .a .rows) (R .fld .a .rows)) s))) (
-        size-fine 1 4096 (R .q) (P .logins),
-        (
-          size-fine 1 65536 (R .bin .a .rows) (P .fine .bin .rows),
-          (
-            size-fine 1 65536 (R .fld .a .rows) (P .fine .fld .rows),
-            (
-              most-fine 1048576 _ (P .fine .bin .total),
-              (
-                most-fine 1048576 _ (P .fine .fld .total),
-                (
-                  true-fine _ (lt-ltb (t .«squeeze_ctr») (2 ^ 32) ht),
-                  (
-                    most-fine (length d) _ (omega (arith, hd)),
-                    (most-fine (length w) _ (omega (arith, hw)), (most-fine (length s) _ hs, tt)),
-                  ),
-                ),
-              ),
-            ),
-          ),
-        ),
-      )
+  abbrev z₀ : List ℕ
+  z₀ = replicate 256 0
 
-  outer-is : (s : List ℕ) → tablesOf (R .q) (R .bin .a .rows) (R .fld .a .rows) s ≡ productTables r b (elements x)
-      → outerPlayed (R .q) (R .bin .a .rows) (R .fld .a .rows) s t ≡ O
-  unfolding outerPlayed outerProving systemOf matrixOf
-  outer-is s e =
-      sym (whole-is 2 (R .q) (R .bin .a .rows) (R .fld .a .rows) [] (tablesOf (R .q) (R .bin .a .rows) (R .fld .a .rows) s) t)
-      ∙ ap (λ (T : Tables). outerWhole (log₂ (R .q)) (log₂ (R .bin .a .rows)) (log₂ (R .fld .a .rows)) T t) e
-      ∙ sym (outer-all r (productTables r b (elements x)) t)
+  small : 2 * drawCount o ≤ 256
+  small = draws-small R (ok .ready)
 
-  -- the words of what was sent and drawn stand in front
-  sent-front : (w : List ℕ) → length w ≡ proofWords R → take (proofBefore R) (overlaid (words (O .sent)) w) ≡ words (O .sent)
-  unfolding systemOf matrixOf
-  sent-front w h = laid (O .sent) w (proofBefore R) (ap (λ (n : ℕ). 2 * n) (outer-proving-sent r b (elements x) t)) (omega (arith, h))
+  sent-long : length (words (O .sent)) ≡ saidBefore R
+  sent-long = words-length (O .sent) ∙ ap (λ (n : ℕ). 2 * n) (outer-proving-sent r B (elements x) t)
 
-  drawn-front : (d : List ℕ) → length d ≡ 2 * drawCount o → take (drawsBefore R) (overlaid (words (O .played .draws)) d) ≡ words (O .played .draws)
-  unfolding systemOf matrixOf
-  drawn-front d h = laid (O .played .draws) d (drawsBefore R) (ap (λ (n : ℕ). 2 * n) (outer-proving-count r b (elements x) t)) (omega (arith, h))
+  drawn-long : length (words (O .played .draws)) ≡ drawnBefore R
+  drawn-long = words-length (O .played .draws) ∙ ap (λ (n : ℕ). 2 * n) (outer-proving-count r B (elements x) t)
 
-  pub outer-left : (a : TranscriptAnswer) (w w′ d d′ s : List ℕ) → length w ≡ proofWords R → length d ≡ 2 * drawCount o
-      → blockWords (R .q) (R .bin .a .rows) (R .fld .a .rows) ≤ length s → t .«squeeze_ctr» < 2 ^ 32
-      → tablesOf (R .q) (R .bin .a .rows) (R .fld .a .rows) s ≡ productTables r b (elements x)
-      → a ≡ answerFor (outerRoundsRefusal (R .q) (R .bin .a .rows) (R .fld .a .rows) w d s t) (outerPlayed (R .q) (R .bin .a .rows) (R .fld .a .rows) s t) t
-      → w′ ≡ proofFor (outerRoundsRefusal (R .q) (R .bin .a .rows) (R .fld .a .rows) w d s t) (outerPlayed (R .q) (R .bin .a .rows) (R .fld .a .rows) s t) w
-      → d′ ≡ drawsFor (outerRoundsRefusal (R .q) (R .bin .a .rows) (R .fld .a .rows) w d s t) (outerPlayed (R .q) (R .bin .a .rows) (R .fld .a .rows) s t) d
-      → OuterLeft R ws x t (a .transcript) w′ d′
-  unfolding OuterLeft
-  outer-left a w w′ d d′ s hw hd hs ht e ha hp hq =
-      let z = outer-none w d s hw hd hs ht in
-      let p = outer-is s e in
-      (ap (λ (y : TranscriptAnswer). y .transcript) ha ∙ rw (z, p) refl, rw (hp, z, p) (sent-front w hw), rw (hq, z, p) (drawn-front d hd))
+  -- ---- the outer rounds over the products
+  module _ (s₁ : List ℕ) (P : Products R ws x s s₁) where
+    blocks : blockWords q b f ≤ proverRoom R
+    blocks = omega (arith, mul-add q b f)
 
-  -- ---- the whole run
-  module _ (u : Transcript) (w d : List ℕ) (L : OuterLeft R ws x t u w d) where
-    -- the claims
-    claims-none : (w′ d′ c : List ℕ) → length w′ ≡ proofWords R → length d′ ≡ 2 * drawCount o → length c ≡ claimWords R
-        → claimsRefusal (R .m) (R .q) (R .bin .a .rows) (R .fld .a .rows) (R .lengths) w′ d′ c ≡ 0
-    unfolding claimsRefusal
-    claims-none w′ d′ c hw hd hc =
-        noted-none (runTests (R .m) (R .q) (R .bin .a .rows) (R .fld .a .rows) ++ (segmentTests (R .lengths) ++ (drawTests o d′ ++ (roomTest (2 * claimCount o) c ++ proofTests o w′))))
-        (sizes-fine R P (segmentTests (R .lengths) ++ (drawTests o d′ ++ (roomTest (2 * claimCount o) c ++ proofTests o w′))) (most-fine 64 (length (R .lengths)) (P .fine .segments), (same-fine (length d′) (2 * drawCount o) hd, (most-fine (length c) (2 * claimCount o) (omega (arith, hc)), (same-fine (length w′) (2 * proofElements o) hw, tt)))))
-
-    pub run-left : (v : Transcript) (w′ d′ c c′ : List ℕ) → SizedRelation r → SizedBatch r b → suc (length (elements x)) ≡ R .m / 2
-        → Elements (elements x) → v ≡ laterTranscript R ws x d u → w′ ≡ laterProof R ws x d u w → d′ ≡ laterDraws R ws x d u
-        → length w′ ≡ proofWords R → length d′ ≡ 2 * drawCount o → length c ≡ claimWords R
-        → c′ ≡ claimsOut (R .m) (R .q) (R .bin .a .rows) (R .fld .a .rows) (R .lengths) w′ d′ c
-        → ProveLeft R ws x t v w′ c′
-    unfolding claimsOut proverTranscript proveDraws OuterLeft
-    run-left v w′ d′ c c′ sr sb px ex hv hw hd lw ld lc hc =
-        let sent : w′ ≡ words (proving r b (elements x) t .sent) = hw ∙ joined-proof R ws x t w d u (L .1) (L .2) (L .0) in
-        let drawn : d′ ≡ words (proving r b (elements x) t .played .draws) = hd ∙ joined-draws R ws x t w d u (L .1) (L .2) (L .0) in
-        let es = ap elements sent ∙ elements-words (proving r b (elements x) t .sent) in
-        let ed = ap elements drawn ∙ elements-words (proving r b (elements x) t .played .draws) in
-        let cl : claims o (elements w′) (elements d′) ≡ proverClaims r b (proverDraws r b (elements x) t) =
-        ap₂ (claims o) es ed
-        ∙ ap (λ (k : Relation). claims k (proving r b (elements x) t .sent) (proving r b (elements x) t .played .draws)) (sym (sizes-are R))
-        ∙ sym (claims-outlined r (proving r b (elements x) t .sent) (proving r b (elements x) t .played .draws))
-        ∙ proving-claims r b (elements x) t sr sb px ex in (
-          hv ∙ joined-transcript R ws x t w d u (L .1) (L .2) (L .0),
-          sent ∙ ap words (proving-words r b (elements x) t sr sb px ex),
-          hc ∙ rw (claims-none w′ d′ c lw ld lc, cl, drop-of-length-le c {i = 2 * claimCount o} (omega (arith, lc)), append-nil),
+    none : outerNumber q b f w s₁ t ≡ 0
+    unfolding outerRoundsRefusal
+    none =
+        noted-none (countTests q b f ++ totalTests q b f ++ (counterTest t ++ (roomTest (2 * outerDrawn (log₂ q) (log₂ b) (log₂ f)) z₀
+        ++ roomTest (2 * outerSent (log₂ q) (log₂ b) (log₂ f)) w ++ roomTest (blockWords q b f) s₁))) (
+          size-fine 1 4096 q (ok .ready .logins),
+          (size-fine 1 65536 b (ok .ready .bin .rows), (size-fine 1 65536 f (ok .ready .fld .rows),
+          (most-fine 1048576 _ (ok .ready .bin .total), (most-fine 1048576 _ (ok .ready .fld .total),
+          (true-fine _ (lt-ltb (t .«squeeze_ctr») (2 ^ 32) (ok .counter)),
+          (most-fine (length z₀) (2 * outerDrawn (log₂ q) (log₂ b) (log₂ f)) (rw (length-replicate {A = ℕ} 256 0) (omega (arith, small))),
+          (most-fine (length w) _ (omega (arith, ok .proof)), (most-fine (length s₁) _ (omega (arith, P .long, ok .scratch, blocks)), tt)))))))),
         )
+
+    wanted : tablesWanted R ws x ≡ productTables r B (elements x)
+    unfolding productTable packedTable
+    wanted = refl
+
+    played-is : outerPlayed q b f s₁ t ≡ O
+    unfolding outerPlayed outerProving
+    played-is =
+        sym (whole-is 2 q b f [] (tablesOf q b f s₁) t)
+        ∙ ap (λ (T : Tables). outerWhole (log₂ q) (log₂ b) (log₂ f) T t) (P .tables ∙ wanted)
+        ∙ sym (outer-all r (productTables r B (elements x)) t)
+
+    module _ (u : Transcript) (d v s₂ : List ℕ) (done : OuterDone q b f w s₁ t u d v s₂) where
+      u-is : u ≡ O .played .transcript
+      u-is = done .0 ∙ rw (none, played-is)
+
+      d-is : d ≡ words (O .played .draws) ++ drop (drawnBefore R) z₀
+      d-is =
+          done .1 ∙ rw (none, played-is)
+          (laid-front (words (O .played .draws)) z₀ (drawnBefore R) drawn-long (rw (length-replicate {A = ℕ} 256 0) (omega (arith, small))))
+
+      v-is : v ≡ words (O .sent) ++ drop (saidBefore R) w
+      v-is = done .2 ∙ rw (none, played-is) (laid-front (words (O .sent)) w (saidBefore R) sent-long (omega (arith, ok .proof)))
+
+      s₂-is : s₂ ≡ replicate (blockWords q b f) 0 ++ drop (blockWords q b f) s
+      s₂-is = done .3 ∙ rw (none, P .rest)
+
+      counter-is : u .«squeeze_ctr» ≡ 6
+      unfolding outerProving
+      counter-is = ap (λ (y : Transcript). y .«squeeze_ctr») u-is ∙ counter-left r (productTables r B (elements x)) (tauSteps r t)
+
+      pub d-long : length d ≡ 256
+      d-long =
+          ap length d-is ∙ (length-append (words (O .played .draws)) (drop (drawnBefore R) z₀)
+          ∙ omega (arith, drawn-long, length-drop (drawnBefore R) z₀, length-replicate {A = ℕ} 256 0, small))
+
+      v-long : length v ≡ length w
+      v-long =
+          ap length v-is ∙ (length-append (words (O .sent)) (drop (saidBefore R) w)
+          ∙ omega (arith, sent-long, length-drop (saidBefore R) w, ok .proof))
+
+      pub s₂-long : length s₂ ≡ length s
+      s₂-long =
+          ap length s₂-is ∙ (length-append (replicate (blockWords q b f) 0) (drop (blockWords q b f) s)
+          ∙ omega (arith, length-replicate {A = ℕ} (blockWords q b f) 0, length-drop (blockWords q b f) s, blocks, ok .scratch))
+
+      s₂-rest : drop (proverRoom R) s₂ ≡ drop (proverRoom R) s
+      s₂-rest = ap (drop (proverRoom R)) s₂-is ∙ behind-front (blockWords q b f) (proverRoom R) (replicate (blockWords q b f) 0) s (length-replicate (blockWords q b f) 0) blocks
+
+      -- the words of all draws, those of the inner rounds being 0 so far
+      abbrev pub D : List ℕ
+      D = words (O .played .draws) ++ replicate (2 * logCols o) 0
+
+      pub D-long : length D ≡ 2 * drawCount o
+      D-long = length-append (words (O .played .draws)) (replicate (2 * logCols o) 0) ∙ omega (arith, drawn-long, length-replicate {A = ℕ} (2 * logCols o) 0)
+
+      pub D-over : d ≡ overlaid D z₀
+      D-over =
+          d-is ∙ (ap (λ (l : List ℕ). words (O .played .draws) ++ l) (zeros (drawnBefore R) (2 * logCols o) 256 (omega (arith, small)))
+          ∙ (sym (append-assoc (words (O .played .draws)) (replicate (2 * logCols o) 0) (drop (drawnBefore R + 2 * logCols o) z₀))
+          ∙ sym (laid-front D z₀ (drawnBefore R + 2 * logCols o) (D-long ∙ omega arith) (rw (length-replicate {A = ℕ} 256 0) (omega (arith, small))))))
+
+      D-elements : elements D ≡ O .played .draws ++ elements (replicate (2 * logCols o) 0)
+      D-elements = elements-behind (O .played .draws) (replicate (2 * logCols o) 0)
+
+      zeros-long : length (elements (replicate (2 * logCols o) 0)) ≡ logCols o
+      zeros-long = elements-length (replicate (2 * logCols o) 0) ∙ rw (length-replicate {A = ℕ} (2 * logCols o) 0) (omega arith)
+
+      -- ---- behind the combined table, which stands in front of s₃
+      module _ (s₃ : List ℕ) (table : take (R .m) (elements s₃) ≡ combined r (drawsOf r (elements D))) (long : length s₃ ≡ length s₂)
+          (rest : drop (proverRoom R) s₃ ≡ drop (proverRoom R) s₂) where
+        abbrev p : Steps
+        p = laterPlayed R ws x d s₃ u
+
+        abbrev E : Draws
+        E = drawsOf r (O .played .draws)
+
+        table-is : elements (take (2 * R .m) s₃) ≡ combined r E
+        table-is =
+            elements-take (R .m) s₃ ∙ (table ∙ (ap (λ (l : List ℕ). combined r (drawsOf r l)) D-elements
+            ∙ combined-split r (O .played .draws) (elements (replicate (2 * logCols o) 0)) (outer-proving-count r B (elements x) t) zeros-long))
+
+        abbrev k : ℕ
+        k = log₂ q + log₂ b + (log₂ q + log₂ f)
+
+        point-is : reverse (take (log₂ q) (drop k (elements d))) ≡ loginPoint E
+        unfolding loginPoint drawsOf
+        point-is =
+            let h : length (O .played .draws) ≡ drawCount o - logCols o = outer-proving-count r B (elements x) t in
+            let e : elements d ≡ O .played .draws ++ elements (drop (drawnBefore R) z₀) = ap elements d-is ∙ elements-behind (O .played .draws) (drop (drawnBefore R) z₀) in
+            ap reverse (ap (λ (l : List ℕ). take (log₂ q) (drop k l)) e ∙ (ap (take (log₂ q)) (drop-append-le k (O .played .draws) (elements (drop (drawnBefore R) z₀)) (omega (arith, h)))
+            ∙ take-append-le (log₂ q) (drop k (O .played .draws)) (elements (drop (drawnBefore R) z₀)) (rw length-drop (omega (arith, h)))))
+
+        abbrev inner : (T F : List ℕ) → Transcript → Steps
+        inner T F h = innerAll r T F (elements x) (begin h)
+
+        outlined : (T F : List ℕ) (h : Transcript) → innerAll o T F (elements x) (begin h) ≡ inner T F h
+        outlined T F h = unfold innerAll innerRun segmentValue lowDraws ended in refl
+
+        steps-are : p ≡ inner (combined r E) (folded q (R .m / 2) B (loginPoint E)) (O .played .transcript)
+        steps-are = rw (table-is, point-is, u-is) (outlined (combined r E) (folded q (R .m / 2) B (loginPoint E)) (O .played .transcript))
+
+        whole : behind O p ≡ proving r B (elements x) t
+        whole = ap (behind O) steps-are ∙ sym (proving-after r B (elements x) t)
+
+        said-is : saidAll R v p ≡ words (proving r B (elements x) t .sent)
+        said-is =
+            ap (λ (l : List ℕ). l ++ words (p .sent)) (ap (take (saidBefore R)) v-is ∙ take-at (words (O .sent)) (drop (saidBefore R) w) (saidBefore R) sent-long)
+            ∙ (sym (words-append (O .sent) (p .sent)) ∙ ap (λ (y : Steps). words (y .sent)) whole)
+
+        drawn-is : drawnAll R d p ≡ words (proving r B (elements x) t .played .draws)
+        drawn-is =
+            ap (λ (l : List ℕ). l ++ words (p .played .draws)) (ap (take (drawnBefore R)) d-is ∙ take-at (words (O .played .draws)) (drop (drawnBefore R) z₀) (drawnBefore R) drawn-long)
+            ∙ (sym (words-append (O .played .draws) (p .played .draws)) ∙ ap (λ (y : Steps). words (y .played .draws)) whole)
+
+        later-ready : RunReady (bare (R .m) q b f (R .lengths)) (length ws) (length x) (length v) (length c) (length s₃) (u .«squeeze_ctr»)
+        later-ready = record {
+          ready = bare-ready R (ok .ready);
+          packed = ok .packed;
+          public = ok .public;
+          proof = omega (arith, v-long, ok .proof);
+          claims = ok .claims;
+          scratch = omega (arith, long, s₂-long, ok .scratch);
+          counter = omega (arith, counter-is);
+        }
+
+        pub run-is : Elements (elements x) → proveRefusal R ws x t w c s ≡ 0 → (u′ : Transcript) (w′ c′ s′ : List ℕ)
+            → LaterLeft (bare (R .m) q b f (R .lengths)) ws x v d c s₃ u u′ w′ c′ s′
+            → proved (record { code = 0; transcript = u′ }) w′ c′ s′ ≡ proveOutcome R ws x t w c s
+        unfolding proveOutcome proverTranscript proveDraws
+        run-is word none u′ w′ c′ s′ L =
+            let e = L later-ready in
+            let px : suc (length (elements x)) ≡ R .m / 2 = rw elements-length (omega (arith, ok .public, ok .ready .columns .low)) in
+            let z : eqb (proveRefusal R ws x t w c s) 0 ≡ true = eq-eqb (proveRefusal R ws x t w c s) 0 none in
+            let eu : u′ ≡ proving r B (elements x) t .played .transcript = e .0 ∙ ap (λ (y : Steps). y .played .transcript) whole in
+            let ew : w′ ≡ words (proverWords r B (elements x) (proverDraws r B (elements x) t)) ++ drop (proofWords R) w =
+            e .1 ∙ ap₂ _++_ (said-is ∙ ap words (proving-words r B (elements x) t (ok .ready) (sized-batch R ws) px word))
+            (ap (drop (proofWords R)) v-is ∙ behind-front (saidBefore R) (proofWords R) (words (O .sent)) w sent-long (omega arith)) in
+            let cl : claims o (elements (saidAll R v p)) (elements (drawnAll R d p)) ≡ proverClaims r B (proverDraws r B (elements x) t) =
+            ap₂ (claims o) (ap elements said-is ∙ elements-words (proving r B (elements x) t .sent)) (ap elements drawn-is ∙ elements-words (proving r B (elements x) t .played .draws))
+            ∙ (sym (claims-outlined r (proving r B (elements x) t .sent) (proving r B (elements x) t .played .draws))
+            ∙ proving-claims r B (elements x) t (ok .ready) (sized-batch R ws) px word) in
+            let ec : c′ ≡ words (proverClaims r B (proverDraws r B (elements x) t)) ++ drop (claimWords R) c = e .2 ∙ ap (λ (l : List ℕ). words l ++ drop (claimWords R) c) cl in
+            let es : s′ ≡ replicate (proverRoom R) 0 ++ drop (proverRoom R) s = e .3 ∙ ap (λ (l : List ℕ). replicate (proverRoom R) 0 ++ l) (rest ∙ s₂-rest) in
+            rw (z, eu, ew, ec, es)
+
+-- ---- the whole prover: y is the number of 4 to 7, z that of all tests
+abbrev pub unlaid : Rules → Rules
+unlaid R = record { m = R .m; q = R .q; lengths = []; shapes = R .shapes; numbers = R .numbers; entries = R .entries }
+
+module _ (R : Rules) (ws x w c s : List ℕ) (t : Transcript) (y z : ℕ) (hy : y ≡ noted 0 (ruleTests R))
+    (hz : z ≡ noted 0 (proveTestsBy y (outlineOf R) (length ws) (length x) (t .«squeeze_ctr») (length w) (length c) (length s))) where
+  number : z ≡ proveRefusal R ws x t w c s
+  unfolding proveRefusal
+  number = hz ∙ prove-by R y hy ws x (t .«squeeze_ctr») (length w) (length c) (length s)
+
+  -- turned back
+  pub prove-back : (z ≡ 0 → ⊥) → proved (record { code = z; transcript = t }) w c s ≡ proveOutcome R ws x t w c s
+  unfolding proveOutcome
+  prove-back h = rw (← number, ne-eqb z 0 h)
+
+  -- run through: the products, the outer rounds, the combined table, and what is behind it
+  pub prove-ends : z ≡ 0 → (s₁ s₂ s₃ : List ℕ) (u u′ : Transcript) (d v w′ c′ s′ : List ℕ) → ProductsLeft (unlaid R) ws x s s₁
+      → OuterDone (R .q) (rowsBin R) (rowsFld R) w s₁ t u d v s₂ → s₃ ≡ tableAt (relationOf R) d s₂
+      → Elements (elements x) × (length d ≡ 256 → LaterLeft (bare (R .m) (R .q) (rowsBin R) (rowsFld R) (R .lengths)) ws x v d c s₃ u u′ w′ c′ s′)
+      → proved (record { code = 0; transcript = u′ }) w′ c′ s′ ≡ proveOutcome R ws x t w c s
+  unfolding proveRefusal
+  prove-ends h s₁ s₂ s₃ u u′ d v w′ c′ s′ products done combined later =
+      let none : proveRefusal R ws x t w c s ≡ 0 = sym number ∙ h in
+      let p = provable R ws x (t .«squeeze_ctr») (length w) (length c) (length s) none in
+      let ok : RunReady R (length ws) (length x) (length w) (length c) (length s) (t .«squeeze_ctr») =
+      record { ready = p .ready; packed = p .packed; public = p .public; proof = p .proof; claims = p .claims; scratch = p .scratch; counter = p .counter } in
+      let P = products (record { columns = p .ready .columns; logins = p .ready .logins; bin = p .ready .bin; fld = p .ready .fld; packed = p .packed; public = p .public;
+        room = omega (arith, p .scratch, mul-add (R .q) (rowsBin R) (rowsFld R)) }) in
+      let Q : Products R ws x s s₁ = record { long = P .long; rest = P .rest; tables = P .tables } in
+      let enough : 2 * R .m + 2 * max (rowsBin R) (rowsFld R) ≤ length s₂ = omega (arith, s₂-long R ws x w c s t ok s₁ Q u d v s₂ done, p .scratch) in
+      let drawn = D R ws x w c s t ok s₁ Q u d v s₂ done in
+      let many = D-long R ws x w c s t ok s₁ Q u d v s₂ done in
+      let e : s₃ ≡ tableAt (relationOf R) (overlaid drawn (replicate 256 0)) s₂ =
+      combined ∙ ap (λ (l : List ℕ). tableAt (relationOf R) l s₂) (D-over R ws x w c s t ok s₁ Q u d v s₂ done) in
+      let b : Beyond (proverRoom R) s₂ s₃ = subst (Beyond (proverRoom R) s₂) (sym e) (drawn-beyond R (p .ready) drawn s₂ many enough (proverRoom R) (omega arith)) in
+      run-is R ws x w c s t ok s₁ Q u d v s₂ done s₃ (ap (λ (l : List ℕ). take (R .m) (elements l)) e ∙ drawn-combined R (p .ready) drawn s₂ many enough) (b .long) (b .rest)
+      (later .0) none u′ w′ c′ s′ (later .1 (d-long R ws x w c s t ok s₁ Q u d v s₂ done))

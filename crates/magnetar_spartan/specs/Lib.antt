@@ -5,4 +5,5 @@ pub mod Outcome
 pub mod Stages
 pub mod Table
 pub mod Theorems
-pub mod Later
+pub mod Proving
+pub mod Products

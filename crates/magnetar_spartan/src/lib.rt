@@ -1,6 +1,5 @@
 // Virtual Spartan: the refusals of both ends, the prover and the verifier of a batch.
 mod combine;
-mod inner;
 mod products;
 mod proving;
 mod refusal;

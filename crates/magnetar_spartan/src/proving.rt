@@ -1,302 +1,173 @@
-// The prover: the products of the matrices, the outer rounds, the inner rounds, and the claims. The matrices A, B, C of bin are ab, bb, cb,
-// those of fld af, bf, cf.
-use crate::inner;
-use crate::products;
+// The parts of a proving run that see no matrix: the outer rounds, and what comes behind the combined table. rb and rf are the row counts
+// of bin and fld. Each is total: a size past its limit is cut.
+use crate::refusal;
+use magnetar_batch::fold;
 use magnetar_checks::claims;
+use magnetar_field::sizes;
+use magnetar_field::words;
 use magnetar_hash::transcript::Transcript;
+use magnetar_protocol::rooms;
+use magnetar_rounds::inner;
 use magnetar_rounds::rounds;
 ghost use mathlib.Core.Path.{_≡_};
-ghost use Prim.Native.Nat.{_+_, _-_, _*_, _/_, _^_, _≤_, _<_};
-ghost use lib.ListN.{length};
-ghost use Rattle.magnetar_field.specs.Words.{elements, words};
-ghost use Rattle.magnetar_layout.specs.Lent.{lent};
-ghost use Rattle.magnetar_layout.specs.Login.{loginWords};
-ghost use Rattle.magnetar_batch.specs.Systems.{system};
-ghost use Rattle.magnetar_protocol.specs.Shape.{proofElements};
-ghost use Rattle.magnetar_protocol.specs.Draws.{drawCount};
+ghost use Prim.Native.Nat.{ℕ, _+_, _-_, _*_, _/_, _≤_, min};
+ghost use lib.ListN.{length, getD};
+ghost use Rattle.magnetar_field.specs.Sizes.{log₂};
+ghost use Rattle.magnetar_field.specs.Tabulate.{tabulate};
+ghost use Rattle.magnetar_field.specs.Words.{elements};
+ghost use Rattle.magnetar_protocol.specs.RunSizes.{Elements};
 ghost use Rattle.magnetar_protocol.specs.Schedule.{outline};
-ghost use Rattle.magnetar_protocol.specs.Prover.{proverWords, proverClaims};
-ghost use Rattle.magnetar_protocol.specs.RealRun.{proverTranscript};
-ghost use Rattle.magnetar_spartan.specs.Rules.{rules, relationOf};
-ghost use Rattle.magnetar_spartan.specs.Ready.{Ready, ProveReady};
-ghost use Rattle.magnetar_spartan.specs.Outcome.{batchOf, proveDraws};
-ghost use Rattle.magnetar_spartan.specs.Later.{OuterLeft};
+ghost use Rattle.magnetar_rounds.specs.Entries.{innerPlayed};
+ghost use Rattle.magnetar_spartan.specs.Ready.{FoldReady};
+ghost use Rattle.magnetar_spartan.specs.Proving.{bare, RunReady, OuterDone, loginAt, FoldLeft, InnerDone, EndLeft, LaterLeft};
 
-// The first part of a proving run: the products, and the outer rounds over them.
-fn outer(
+// What the outer rounds hand on: the words of the draws, 0 behind them, and the transcript.
+pub(crate) struct OuterDraws {
+    pub draws: [u64; 256],
+    pub transcript: Transcript,
+}
+
+// The outer rounds over the products in front of s.
+pub(crate) fn outer(proof: &mut [u64], s: &mut [u64], q: usize, rb: usize, rf: usize, t: Transcript) -> OuterDraws
+    ensures { λ r. ⌜ OuterDone q rb rf (now (proof .entry)) (now (s .entry)) t (r .«transcript») (r .«draws») (now (proof .exit)) (now (s .exit)) ⌝ }
+{
+    let mut draws = [0u64; 256];
+    let a = rounds::outer_rounds(q, rb, rf, proof, &mut draws, s, t);
+    let u = a.transcript;
+    OuterDraws {
+        draws: draws,
+        transcript: u,
+    }
+}
+
+// The n draws from place k on, the last one first.
+fn login_point(draws: &[u64], k: usize, n: usize, out: &mut [u64])
+    requires { ⌜ (k ≤ 4096) × (n ≤ 16) × (length (now out) ≡ 2 * n) ⌝ }
+    ensures { λ _. ⌜ elements (now (out .exit)) ≡ tabulate (λ i. getD (elements (now (draws .entry))) (k + (n - 1 - i)) 0) n ⌝ }
+{
+    let mut i = 0;
+    while i < n {
+        words::put(out, i, words::get(draws, k + (n - 1 - i)));
+        i += 1;
+    }
+}
+
+// The batch folded at the point of the n draws from place k on, which is put into `point`, behind the first 4w words of s.
+fn fold_at(s: &mut [u64], q: usize, w: usize, n: usize, k: usize, packed: &[u64], draws: &[u64], point: &mut [u64])
+    requires { ⌜ (k ≤ 4096) × (n ≤ 16) × (length (now point) ≡ 2 * n) ⌝ }
+    ensures { λ _. ⌜ (FoldReady q w n k (length (now (packed .entry))) (length (now (draws .entry))) (length (now (s .entry))) → FoldLeft q w n k (now (packed .entry)) (now (draws .entry)) (now (s .entry)) (now (s .exit))) ⌝ }
+{
+    login_point(draws, k, n, point);
+    if w <= s.len() / 4 {
+        let a = 4 * w;
+        let _done = fold::fold_packed_in(packed, q, w, point, &mut s[a..]);
+    }
+}
+
+// The batch folded at the point of the logins, behind the combined table.
+fn fold_behind(s: &mut [u64], m: usize, q: usize, rb: usize, rf: usize, packed: &[u64], d: [u64; 256])
+    ensures { λ _. ⌜ (FoldReady q (m / 2) (log₂ q) (loginAt q rb rf) (length (now (packed .entry))) (length d) (length (now (s .entry))) → FoldLeft q (m / 2) (log₂ q) (loginAt q rb rf) (now (packed .entry)) d (now (s .entry)) (now (s .exit))) ⌝ }
+{
+    let l = sizes::log(q);
+    let b = sizes::log(rb);
+    let f = sizes::log(rf);
+    let k = l + b + (l + f);
+    let n = sizes::least(l, 16);
+    let e = 2 * n;
+    let w = m / 2;
+    let mut point = [0u64; 32];
+    fold_at(s, q, w, n, k, packed, &d, &mut point[0..e]);
+}
+
+// How many words of the proof come before the inner rounds.
+fn said_before(q: usize, rb: usize, rf: usize) -> usize
+    ensures { λ r. ⌜ r ≡ 2 * (8 * log₂ q + 4 * log₂ rb + 4 * log₂ rf + 6) ⌝ }
+{
+    let l = sizes::log(q);
+    let b = sizes::log(rb);
+    let f = sizes::log(rf);
+    2 * (8 * l + 4 * b + 4 * f + 6)
+}
+
+// And of the draws.
+fn drawn_before(q: usize, rb: usize, rf: usize) -> usize
+    ensures { λ r. ⌜ r ≡ 2 * (log₂ q + log₂ rb + (log₂ q + log₂ rf) + log₂ q + log₂ rb + log₂ rf + 6) ⌝ }
+{
+    let l = sizes::log(q);
+    let b = sizes::log(rb);
+    let f = sizes::log(rf);
+    2 * (l + b + (l + f) + l + b + f + 6)
+}
+
+// The inner rounds, v_z and the segment values, from word a of the proof and word k of the draws on.
+fn inner_part(
     proof: &mut [u64],
-    s: &mut [u64],
     draws: &mut [u64],
+    s: &mut [u64],
+    a: usize,
+    k: usize,
     m: usize,
-    q: usize,
     lens: &[usize],
-    abrows: usize,
-    abcols: usize,
-    abrow: &[usize],
-    abcol: &[usize],
-    ablo: &[u64],
-    abhi: &[u64],
-    bbrows: usize,
-    bbcols: usize,
-    bbrow: &[usize],
-    bbcol: &[usize],
-    bblo: &[u64],
-    bbhi: &[u64],
-    cbrows: usize,
-    cbcols: usize,
-    cbrow: &[usize],
-    cbcol: &[usize],
-    cblo: &[u64],
-    cbhi: &[u64],
-    afrows: usize,
-    afcols: usize,
-    afrow: &[usize],
-    afcol: &[usize],
-    aflo: &[u64],
-    afhi: &[u64],
-    bfrows: usize,
-    bfcols: usize,
-    bfrow: &[usize],
-    bfcol: &[usize],
-    bflo: &[u64],
-    bfhi: &[u64],
-    cfrows: usize,
-    cfcols: usize,
-    cfrow: &[usize],
-    cfcol: &[usize],
-    cflo: &[u64],
-    cfhi: &[u64],
-    packed: &[u64],
     x: &[u64],
     t: Transcript,
 ) -> Transcript
-    requires { ⌜ Ready (rules m q (now lens)
-        (system (lent abrows abcols (now abrow) (now abcol) (now ablo) (now abhi)) (lent bbrows bbcols (now bbrow) (now bbcol) (now bblo) (now bbhi)) (lent cbrows cbcols (now cbrow) (now cbcol) (now cblo) (now cbhi)))
-        (system (lent afrows afcols (now afrow) (now afcol) (now aflo) (now afhi)) (lent bfrows bfcols (now bfrow) (now bfcol) (now bflo) (now bfhi)) (lent cfrows cfcols (now cfrow) (now cfcol) (now cflo) (now cfhi)))) ⌝ }
-    requires { ⌜ (length (now packed) ≡ q * loginWords (m / 2)) × (length (now x) ≡ m - 2) × (length (now proof) ≡ 2 * proofElements (outline m q abrows afrows (now lens))) × (length (now draws) ≡ 2 * drawCount (outline m q abrows afrows (now lens))) × (8 * (q * abrows) + 8 * (q * afrows) ≤ length (now s)) × (t .«squeeze_ctr» < 2 ^ 32) ⌝ }
-    ensures { λ r. ⌜ OuterLeft (rules m q (now (lens .entry))
-        (system (lent abrows abcols (now (abrow .entry)) (now (abcol .entry)) (now (ablo .entry)) (now (abhi .entry))) (lent bbrows bbcols (now (bbrow .entry)) (now (bbcol .entry)) (now (bblo .entry)) (now (bbhi .entry))) (lent cbrows cbcols (now (cbrow .entry)) (now (cbcol .entry)) (now (cblo .entry)) (now (cbhi .entry))))
-        (system (lent afrows afcols (now (afrow .entry)) (now (afcol .entry)) (now (aflo .entry)) (now (afhi .entry))) (lent bfrows bfcols (now (bfrow .entry)) (now (bfcol .entry)) (now (bflo .entry)) (now (bfhi .entry))) (lent cfrows cfcols (now (cfrow .entry)) (now (cfcol .entry)) (now (cflo .entry)) (now (cfhi .entry))))) (now (packed .entry)) (now (x .entry)) t r (now (proof .exit)) (now (draws .exit)) ⌝ }
+    ensures { λ r. ⌜ InnerDone m (now (lens .entry)) (now (x .entry)) (now (proof .entry)) (now (draws .entry)) (now (s .entry)) (min a (length (now (proof .entry)))) (min k (length (now (draws .entry)))) t r (now (proof .exit)) (now (draws .exit)) (now (s .exit)) ⌝ }
 {
-    let n = 8 * (q * abrows) + 8 * (q * afrows);
-    products::products(
-        &mut s[..n],
-        m,
-        q,
-        lens,
-        abrows,
-        abcols,
-        abrow,
-        abcol,
-        ablo,
-        abhi,
-        bbrows,
-        bbcols,
-        bbrow,
-        bbcol,
-        bblo,
-        bbhi,
-        cbrows,
-        cbcols,
-        cbrow,
-        cbcol,
-        cblo,
-        cbhi,
-        afrows,
-        afcols,
-        afrow,
-        afcol,
-        aflo,
-        afhi,
-        bfrows,
-        bfcols,
-        bfrow,
-        bfcol,
-        bflo,
-        bfhi,
-        cfrows,
-        cfcols,
-        cfrow,
-        cfcol,
-        cflo,
-        cfhi,
-        packed,
-        x,
-    );
-    let a = rounds::outer_rounds(q, abrows, afrows, proof, draws, s, t);
-    a.transcript
+    let i = sizes::least(a, proof.len());
+    let j = sizes::least(k, draws.len());
+    let r = inner::inner_rounds(m, lens, x, &mut proof[i..], &mut draws[j..], s, t);
+    r.transcript
 }
 
-// The prover, where nothing refuses it.
-pub(crate) fn prove_in(
+// The same at their places, and the claims.
+fn end(
     proof: &mut [u64],
     claims: &mut [u64],
     s: &mut [u64],
-    draws: &mut [u64],
     m: usize,
     q: usize,
+    rb: usize,
+    rf: usize,
     lens: &[usize],
-    abrows: usize,
-    abcols: usize,
-    abrow: &[usize],
-    abcol: &[usize],
-    ablo: &[u64],
-    abhi: &[u64],
-    bbrows: usize,
-    bbcols: usize,
-    bbrow: &[usize],
-    bbcol: &[usize],
-    bblo: &[u64],
-    bbhi: &[u64],
-    cbrows: usize,
-    cbcols: usize,
-    cbrow: &[usize],
-    cbcol: &[usize],
-    cblo: &[u64],
-    cbhi: &[u64],
-    afrows: usize,
-    afcols: usize,
-    afrow: &[usize],
-    afcol: &[usize],
-    aflo: &[u64],
-    afhi: &[u64],
-    bfrows: usize,
-    bfcols: usize,
-    bfrow: &[usize],
-    bfcol: &[usize],
-    bflo: &[u64],
-    bfhi: &[u64],
-    cfrows: usize,
-    cfcols: usize,
-    cfrow: &[usize],
-    cfcol: &[usize],
-    cflo: &[u64],
-    cfhi: &[u64],
-    packed: &[u64],
     x: &[u64],
+    d: [u64; 256],
     t: Transcript,
 ) -> Transcript
-    requires { ⌜ Ready (rules m q (now lens)
-        (system (lent abrows abcols (now abrow) (now abcol) (now ablo) (now abhi)) (lent bbrows bbcols (now bbrow) (now bbcol) (now bblo) (now bbhi)) (lent cbrows cbcols (now cbrow) (now cbcol) (now cblo) (now cbhi)))
-        (system (lent afrows afcols (now afrow) (now afcol) (now aflo) (now afhi)) (lent bfrows bfcols (now bfrow) (now bfcol) (now bflo) (now bfhi)) (lent cfrows cfcols (now cfrow) (now cfcol) (now cflo) (now cfhi)))) ⌝ }
-    requires { ⌜ ProveReady (rules m q (now lens)
-        (system (lent abrows abcols (now abrow) (now abcol) (now ablo) (now abhi)) (lent bbrows bbcols (now bbrow) (now bbcol) (now bblo) (now bbhi)) (lent cbrows cbcols (now cbrow) (now cbcol) (now cblo) (now cbhi)))
-        (system (lent afrows afcols (now afrow) (now afcol) (now aflo) (now afhi)) (lent bfrows bfcols (now bfrow) (now bfcol) (now bflo) (now bfhi)) (lent cfrows cfcols (now cfrow) (now cfcol) (now cflo) (now cfhi)))) (length (now packed)) (length (now x)) (length (now proof)) (length (now claims)) (length (now s)) (length (now draws)) ⌝ }
-    requires { ⌜ t .«squeeze_ctr» < 2 ^ 32 ⌝ }
-    ensures transcript { λ r. ⌜ r ≡ proverTranscript (relationOf (rules m q (now (lens .entry))
-        (system (lent abrows abcols (now (abrow .entry)) (now (abcol .entry)) (now (ablo .entry)) (now (abhi .entry))) (lent bbrows bbcols (now (bbrow .entry)) (now (bbcol .entry)) (now (bblo .entry)) (now (bbhi .entry))) (lent cbrows cbcols (now (cbrow .entry)) (now (cbcol .entry)) (now (cblo .entry)) (now (cbhi .entry))))
-        (system (lent afrows afcols (now (afrow .entry)) (now (afcol .entry)) (now (aflo .entry)) (now (afhi .entry))) (lent bfrows bfcols (now (bfrow .entry)) (now (bfcol .entry)) (now (bflo .entry)) (now (bfhi .entry))) (lent cfrows cfcols (now (cfrow .entry)) (now (cfcol .entry)) (now (cflo .entry)) (now (cfhi .entry)))))) (batchOf (rules m q (now (lens .entry))
-        (system (lent abrows abcols (now (abrow .entry)) (now (abcol .entry)) (now (ablo .entry)) (now (abhi .entry))) (lent bbrows bbcols (now (bbrow .entry)) (now (bbcol .entry)) (now (bblo .entry)) (now (bbhi .entry))) (lent cbrows cbcols (now (cbrow .entry)) (now (cbcol .entry)) (now (cblo .entry)) (now (cbhi .entry))))
-        (system (lent afrows afcols (now (afrow .entry)) (now (afcol .entry)) (now (aflo .entry)) (now (afhi .entry))) (lent bfrows bfcols (now (bfrow .entry)) (now (bfcol .entry)) (now (bflo .entry)) (now (bfhi .entry))) (lent cfrows cfcols (now (cfrow .entry)) (now (cfcol .entry)) (now (cflo .entry)) (now (cfhi .entry))))) (now (packed .entry))) (elements (now (x .entry))) t ⌝ }
-    ensures proof { λ _. ⌜ now (proof .exit) ≡ words (proverWords (relationOf (rules m q (now (lens .entry))
-        (system (lent abrows abcols (now (abrow .entry)) (now (abcol .entry)) (now (ablo .entry)) (now (abhi .entry))) (lent bbrows bbcols (now (bbrow .entry)) (now (bbcol .entry)) (now (bblo .entry)) (now (bbhi .entry))) (lent cbrows cbcols (now (cbrow .entry)) (now (cbcol .entry)) (now (cblo .entry)) (now (cbhi .entry))))
-        (system (lent afrows afcols (now (afrow .entry)) (now (afcol .entry)) (now (aflo .entry)) (now (afhi .entry))) (lent bfrows bfcols (now (bfrow .entry)) (now (bfcol .entry)) (now (bflo .entry)) (now (bfhi .entry))) (lent cfrows cfcols (now (cfrow .entry)) (now (cfcol .entry)) (now (cflo .entry)) (now (cfhi .entry)))))) (batchOf (rules m q (now (lens .entry))
-        (system (lent abrows abcols (now (abrow .entry)) (now (abcol .entry)) (now (ablo .entry)) (now (abhi .entry))) (lent bbrows bbcols (now (bbrow .entry)) (now (bbcol .entry)) (now (bblo .entry)) (now (bbhi .entry))) (lent cbrows cbcols (now (cbrow .entry)) (now (cbcol .entry)) (now (cblo .entry)) (now (cbhi .entry))))
-        (system (lent afrows afcols (now (afrow .entry)) (now (afcol .entry)) (now (aflo .entry)) (now (afhi .entry))) (lent bfrows bfcols (now (bfrow .entry)) (now (bfcol .entry)) (now (bflo .entry)) (now (bfhi .entry))) (lent cfrows cfcols (now (cfrow .entry)) (now (cfcol .entry)) (now (cflo .entry)) (now (cfhi .entry))))) (now (packed .entry))) (elements (now (x .entry))) (proveDraws (rules m q (now (lens .entry))
-        (system (lent abrows abcols (now (abrow .entry)) (now (abcol .entry)) (now (ablo .entry)) (now (abhi .entry))) (lent bbrows bbcols (now (bbrow .entry)) (now (bbcol .entry)) (now (bblo .entry)) (now (bbhi .entry))) (lent cbrows cbcols (now (cbrow .entry)) (now (cbcol .entry)) (now (cblo .entry)) (now (cbhi .entry))))
-        (system (lent afrows afcols (now (afrow .entry)) (now (afcol .entry)) (now (aflo .entry)) (now (afhi .entry))) (lent bfrows bfcols (now (bfrow .entry)) (now (bfcol .entry)) (now (bflo .entry)) (now (bfhi .entry))) (lent cfrows cfcols (now (cfrow .entry)) (now (cfcol .entry)) (now (cflo .entry)) (now (cfhi .entry))))) (now (packed .entry)) (now (x .entry)) t)) ⌝ }
-    ensures claims { λ _. ⌜ now (claims .exit) ≡ words (proverClaims (relationOf (rules m q (now (lens .entry))
-        (system (lent abrows abcols (now (abrow .entry)) (now (abcol .entry)) (now (ablo .entry)) (now (abhi .entry))) (lent bbrows bbcols (now (bbrow .entry)) (now (bbcol .entry)) (now (bblo .entry)) (now (bbhi .entry))) (lent cbrows cbcols (now (cbrow .entry)) (now (cbcol .entry)) (now (cblo .entry)) (now (cbhi .entry))))
-        (system (lent afrows afcols (now (afrow .entry)) (now (afcol .entry)) (now (aflo .entry)) (now (afhi .entry))) (lent bfrows bfcols (now (bfrow .entry)) (now (bfcol .entry)) (now (bflo .entry)) (now (bfhi .entry))) (lent cfrows cfcols (now (cfrow .entry)) (now (cfcol .entry)) (now (cflo .entry)) (now (cfhi .entry)))))) (batchOf (rules m q (now (lens .entry))
-        (system (lent abrows abcols (now (abrow .entry)) (now (abcol .entry)) (now (ablo .entry)) (now (abhi .entry))) (lent bbrows bbcols (now (bbrow .entry)) (now (bbcol .entry)) (now (bblo .entry)) (now (bbhi .entry))) (lent cbrows cbcols (now (cbrow .entry)) (now (cbcol .entry)) (now (cblo .entry)) (now (cbhi .entry))))
-        (system (lent afrows afcols (now (afrow .entry)) (now (afcol .entry)) (now (aflo .entry)) (now (afhi .entry))) (lent bfrows bfcols (now (bfrow .entry)) (now (bfcol .entry)) (now (bflo .entry)) (now (bfhi .entry))) (lent cfrows cfcols (now (cfrow .entry)) (now (cfcol .entry)) (now (cflo .entry)) (now (cfhi .entry))))) (now (packed .entry))) (proveDraws (rules m q (now (lens .entry))
-        (system (lent abrows abcols (now (abrow .entry)) (now (abcol .entry)) (now (ablo .entry)) (now (abhi .entry))) (lent bbrows bbcols (now (bbrow .entry)) (now (bbcol .entry)) (now (bblo .entry)) (now (bbhi .entry))) (lent cbrows cbcols (now (cbrow .entry)) (now (cbcol .entry)) (now (cblo .entry)) (now (cbhi .entry))))
-        (system (lent afrows afcols (now (afrow .entry)) (now (afcol .entry)) (now (aflo .entry)) (now (afhi .entry))) (lent bfrows bfcols (now (bfrow .entry)) (now (bfcol .entry)) (now (bflo .entry)) (now (bfhi .entry))) (lent cfrows cfcols (now (cfrow .entry)) (now (cfcol .entry)) (now (cflo .entry)) (now (cfhi .entry))))) (now (packed .entry)) (now (x .entry)) t)) ⌝ }
+    ensures { λ r. ⌜ (let R = bare m q rb rf (now (lens .entry)) in (ws : ℕ) → RunReady R ws (length (now (x .entry))) (length (now (proof .entry))) (length (now (claims .entry))) (length (now (s .entry))) (t .«squeeze_ctr») → length d ≡ 256
+        → EndLeft R (now (proof .entry)) d (now (claims .entry)) (now (s .entry)) (6 * m) (innerPlayed (outline m 1 1 1 (now (lens .entry))) (now (x .entry)) (now (s .entry)) t) r (now (proof .exit)) (now (claims .exit)) (now (s .exit))) ⌝ }
 {
-    let u = outer(
-        proof,
-        s,
-        draws,
-        m,
-        q,
-        lens,
-        abrows,
-        abcols,
-        abrow,
-        abcol,
-        ablo,
-        abhi,
-        bbrows,
-        bbcols,
-        bbrow,
-        bbcol,
-        bblo,
-        bbhi,
-        cbrows,
-        cbcols,
-        cbrow,
-        cbcol,
-        cblo,
-        cbhi,
-        afrows,
-        afcols,
-        afrow,
-        afcol,
-        aflo,
-        afhi,
-        bfrows,
-        bfcols,
-        bfrow,
-        bfcol,
-        bflo,
-        bfhi,
-        cfrows,
-        cfcols,
-        cfrow,
-        cfcol,
-        cflo,
-        cfhi,
-        packed,
-        x,
-        t,
-    );
-    let v = inner::later(
-        proof,
-        s,
-        draws,
-        m,
-        q,
-        lens,
-        abrows,
-        abcols,
-        abrow,
-        abcol,
-        ablo,
-        abhi,
-        bbrows,
-        bbcols,
-        bbrow,
-        bbcol,
-        bblo,
-        bbhi,
-        cbrows,
-        cbcols,
-        cbrow,
-        cbcol,
-        cblo,
-        cbhi,
-        afrows,
-        afcols,
-        afrow,
-        afcol,
-        aflo,
-        afhi,
-        bfrows,
-        bfcols,
-        bfrow,
-        bfcol,
-        bflo,
-        bfhi,
-        cfrows,
-        cfcols,
-        cfrow,
-        cfcol,
-        cflo,
-        cfhi,
-        packed,
-        x,
-        u,
-    );
-    claims::write_claims(m, q, abrows, afrows, lens, proof, draws, claims);
-    v
+    let a = said_before(q, rb, rf);
+    let k = drawn_before(q, rb, rf);
+    let l = sizes::least(lens.len(), 64);
+    let i = sizes::least(refusal::proof_words(m, q, rb, rf, l), proof.len());
+    let n = sizes::least(rooms::draw_words(m, q, rb, rf), 256);
+    let mut draws = d;
+    let u = inner_part(proof, &mut draws, s, a, k, m, lens, x, t);
+    let _done = claims::write_claims(m, q, rb, rf, lens, &proof[0..i], &draws[0..n], claims);
+    u
+}
+
+// What comes behind the combined table: the folded columns, the inner rounds and the claims; the scratch is 0 at exit.
+pub(crate) fn later(
+    proof: &mut [u64],
+    claims: &mut [u64],
+    s: &mut [u64],
+    m: usize,
+    q: usize,
+    rb: usize,
+    rf: usize,
+    lens: &[usize],
+    packed: &[u64],
+    x: &[u64],
+    o: OuterDraws,
+) -> Transcript
+    ensures { λ r. ⌜ (Elements (elements (now (x .entry))) × (length (o .«draws») ≡ 256 → LaterLeft (bare m q rb rf (now (lens .entry))) (now (packed .entry)) (now (x .entry)) (now (proof .entry)) (o .«draws») (now (claims .entry)) (now (s .entry)) (o .«transcript») r (now (proof .exit)) (now (claims .exit)) (now (s .exit)))) ⌝ }
+{
+    let d = o.draws;
+    let t = o.transcript;
+    fold_behind(s, m, q, rb, rf, packed, d);
+    let u = end(proof, claims, s, m, q, rb, rf, lens, x, d, t);
+    let n = sizes::least(rooms::prover_room(m, q, rb, rf), s.len());
+    words::clear(&mut s[0..n]);
+    u
 }

@@ -34,7 +34,7 @@ fn segments(y: u32, m: usize, lens: &[usize]) -> u32
 }
 
 // How many words a proof has, with l segments.
-fn proof_words(m: usize, q: usize, rb: usize, rf: usize, l: usize) -> usize
+pub(crate) fn proof_words(m: usize, q: usize, rb: usize, rf: usize, l: usize) -> usize
     requires { ⌜ l ≤ 64 ⌝ }
     ensures { λ r. ⌜ r ≡ 2 * (8 * log₂ q + 4 * log₂ rb + 4 * log₂ rf + 6 + 3 * log₂ m + 1 + l) ⌝ }
 {

@@ -1,4 +1,4 @@
--- `magnetar_spartan::inner::login_point` meets its contract.
+-- `magnetar_spartan::proving::login_point` meets its contract.
 -- Assumes nothing.
 use denote.Ref.{now}
 use mathlib.Core.Path.{_≡_, refl, ap, _∙_}
@@ -10,10 +10,9 @@ use Rattle.magnetar_field.specs.Gf128.{value}
 use Rattle.magnetar_field.specs.Words.{elements}
 use Rattle.magnetar_field.proofs.Elements.{elements-length, elements-stored}
 use Rattle.magnetar_field.proofs.Making.{Made, made-none, made-more}
-use Rattle.magnetar_spartan.proofs.LaterRun.{point-reversed}
 use borrow.Author.Needs.{needs}
-use Rattle.magnetar_spartan.proofs.inner.login_point.Statement.{statement}
-use Rattle.magnetar_spartan.proofs.inner.login_point.Tie as tie
+use Rattle.magnetar_spartan.proofs.proving.login_point.Statement.{statement}
+use Rattle.magnetar_spartan.proofs.proving.login_point.Tie as tie
 
 abbrev Inv-loop : tie.InvT-loop
 Inv-loop draws k n out₀ i₀ out i = (i ≤ n) × (length out ≡ length out₀) × Made (λ j. getD (elements draws) (k + (n - 1 - j)) 0) (elements out₀) (elements out) i
@@ -67,7 +66,6 @@ returns c =
     let e : l .i ≡ x .n = omega arith in
     let h : length (elements (now (x .out))) ≤ x .n = rw elements-length (omega arith) in
     rw (l .inv .2 .list, e, drop-of-length-le (elements (now (x .out))) {i = x .n} h, append-nil)
-    (point-reversed (elements (now (x .draws))) (x .k) (x .n) (rw elements-length (omega arith)))
 
 pub login-point-spec : {M : Type 1} → statement M
 login-point-spec =

@@ -1,0 +1,338 @@
+-- The second part of a proving run, call by call: the folded columns, the inner rounds at their places, the claims, and the scratch cleared.
+-- Assumes nothing.
+use mathlib.Core.Path.{_≡_, refl, sym, ap, ap₂, _∙_, subst}
+use mathlib.Core.List.{List, _++_, reverse, append-assoc}
+use Prim.Native.Nat.{ℕ, _+_, _-_, _*_, _/_, _^_, _≤_, _<_, min}
+use native.Mathlib.Omega.{arith}
+use lib.ListN.{length, getD, take, drop, replicate, length-append, length-drop, length-replicate}
+use lib.Seq.{take-at, drop-at, take-all, drop-append-add, drop-drop, length-take-le}
+use borrow.Author.Tests.{lt-ltb}
+use borrow.Rule.Slice.PartMut.{putMid}
+use Rattle.magnetar_field.specs.Refusal.{unlessRefused}
+use Rattle.magnetar_field.specs.Sizes.{log₂}
+use Rattle.magnetar_field.specs.Tabulate.{tabulate}
+use Rattle.magnetar_field.specs.Words.{elements, words, overlaid}
+use Rattle.magnetar_field.proofs.Elements.{words-length, elements-length}
+use Rattle.magnetar_field.proofs.Tabulation.{tabulate-of, tabulate-length}
+use Rattle.magnetar_hash.specs.declared.transcript.Transcript.{Transcript}
+use Rattle.magnetar_hash.specs.declared.transcript.TranscriptAnswer.{TranscriptAnswer}
+use Rattle.magnetar_layout.specs.Login.{loginWords}
+use Rattle.magnetar_layout.specs.Tests.{Tests, sizeTests, packedTests, columnTests, publicTests, layoutTests, lengthTest, roomTest, Sized}
+use Rattle.magnetar_layout.proofs.Noted.{Clear}
+use Rattle.magnetar_matrix.specs.Batch.{Relation, Batch, folded, foldedAt}
+use Rattle.magnetar_matrix.specs.Packed.{unpacked}
+use Rattle.magnetar_matrix.proofs.TableLaws.{elements-words}
+use Rattle.magnetar_r1cs.proofs.Points.{log-most}
+use Rattle.magnetar_batch.specs.Entries.{foldInRefusal, foldInOut}
+use Rattle.magnetar_batch.proofs.Rooms.{back-part, back-put}
+use Rattle.magnetar_protocol.specs.Shape.{logCols, proofElements}
+use Rattle.magnetar_protocol.specs.Draws.{drawCount}
+use Rattle.magnetar_protocol.specs.Schedule.{outline}
+use Rattle.magnetar_protocol.specs.Rooms.{proverScratch}
+use Rattle.magnetar_protocol.specs.RunSizes.{SizedRelation}
+use Rattle.magnetar_protocol.specs.Stepwise.{Steps, begin, innerRun, segmentValue, lowDraws, ended, innerAll}
+use Rattle.magnetar_protocol.proofs.Stepwise.{goes-inner, inner-drawn-length, inner-sent-length}
+use Rattle.magnetar_protocol.proofs.Within.{prover-within}
+use Rattle.magnetar_rounds.specs.Entries.{counterTest, innerRoundsRefusal, innerPlayed, answerFor, proofFor, drawsFor, scratchFor}
+use Rattle.magnetar_rounds.proofs.Guarded.{even-size}
+use Rattle.magnetar_checks.specs.Outer.{runTests, segmentTests, drawTests, proofTests}
+use Rattle.magnetar_checks.specs.Claims.{claimsRefusal, claimsOut, claimCount}
+use Rattle.magnetar_checks.proofs.Pieces.{part-get}
+use Rattle.magnetar_checks.proofs.ClaimLaws.{reverse-get, reverse-size}
+use Rattle.magnetar_relation.specs.Rules.{Rules, relationOf}
+use Rattle.magnetar_spartan.specs.Refusals.{outlineOf, rowsBin, rowsFld, proofWords, claimWords, proverRoom}
+use Rattle.magnetar_spartan.specs.Ready.{Ready, FoldReady}
+use Rattle.magnetar_spartan.specs.Proving.{RunReady, FoldLeft, loginAt, saidBefore, drawnBefore, saidAll, drawnAll, InnerDone, EndLeft, laterPlayed}
+use Rattle.magnetar_spartan.proofs.Fine.{noted-none, size-fine, same-fine, most-fine, true-fine}
+use Rattle.magnetar_spartan.proofs.SizedRules.{sizes-fine, layout-fine}
+use Rattle.magnetar_spartan.proofs.Ended.{draws-small}
+
+-- ---- words behind a front
+-- the words from k on, where the first n are others
+pub behind-front : (n k : ℕ) (t s : List ℕ) → length t ≡ n → n ≤ k → drop k (t ++ drop n s) ≡ drop k s
+behind-front n k t s l h =
+    let q : n + (k - n) ≡ k = omega arith in
+    ap (λ (i : ℕ). drop i (t ++ drop n s)) (sym q) ∙ (past (k - n) ∙ (drop-drop (k - n) n s ∙ ap (λ (i : ℕ). drop i s) q))
+  where
+    past : (j : ℕ) → drop (n + j) (t ++ drop n s) ≡ drop j (drop n s)
+    past j = ap (λ (i : ℕ). drop (i + j) (t ++ drop n s)) (sym l) ∙ drop-append-add t (drop n s) j
+
+-- n words in front of s
+pub laid-front : (v s : List ℕ) (n : ℕ) → length v ≡ n → n ≤ length s → overlaid v s ≡ v ++ drop n s
+unfolding overlaid
+laid-front v s n e h = rw (take-all (length s) v (omega arith), e)
+
+-- words laid over those behind the first a of s, up to word n
+laid-behind : (s v : List ℕ) (a n : ℕ) → a + length v ≡ n → n ≤ length s → take a s ++ overlaid v (drop a s) ≡ (take a s ++ v) ++ drop n s
+laid-behind s v a n e h =
+    ap (λ (y : List ℕ). take a s ++ y) (laid-front v (drop a s) (length v) refl (rw length-drop (omega arith)) ∙ ap (λ (y : List ℕ). v ++ y) (drop-drop (length v) a s ∙ ap (λ (i : ℕ). drop i s) e))
+    ∙ sym (append-assoc (take a s) v (drop n s))
+
+-- room behind the first k of l words
+room-behind : {n k l a : ℕ} → k ≡ a → a + n ≤ l → n ≤ l - k
+room-behind e h = omega arith
+
+none-less : {i j : ℕ} → i ≡ j → i - 0 ≡ j
+none-less e = omega arith
+
+-- ---- the fold
+-- the point of the logins: n draws from place k on, the last one first
+point-reversed : (d : List ℕ) (k n : ℕ) → k + n ≤ length d → tabulate (λ i. getD d (k + (n - 1 - i)) 0) n ≡ reverse (take n (drop k d))
+point-reversed d k n h =
+    let l : length (take n (drop k d)) ≡ n = length-take-le n (drop k d) (rw length-drop (omega arith)) in
+    sym (tabulate-of (reverse (take n (drop k d))) (λ i. getD d (k + (n - 1 - i)) 0) n 0 (reverse-size (take n (drop k d)) n l)
+    (λ i g. reverse-get (take n (drop k d)) n i l g ∙ part-get k n (n - 1 - i) d (omega arith)))
+
+folded-length : (q w : ℕ) (b : Batch) (p : List ℕ) → length (folded q w b p) ≡ w
+unfolding folded
+folded-length q w b p = tabulate-length (foldedAt q b p) w
+
+module _ (q w n k : ℕ) (ws d s p u : List ℕ) (lp : length p ≡ 2 * n)
+    (ep : elements p ≡ tabulate (λ i. getD (elements d) (k + (n - 1 - i)) 0) n)
+    (eu : u ≡ foldInOut ws q w p (take (length s - 4 * w) (drop (4 * w) s))) (F : FoldReady q w n k (length ws) (length d) (length s)) where
+  abbrev f : List ℕ
+  f = folded q w (unpacked q w ws) (elements p)
+
+  none : foldInRefusal ws q w p (drop (4 * w) s) ≡ 0
+  unfolding foldInRefusal
+  none =
+      noted-none (sizeTests (2 * w) q ++ packedTests w q ws ++ lengthTest (2 * log₂ q) p ++ roomTest (2 * w + 2 * q) (drop (4 * w) s))
+      (size-fine 2 65536 (2 * w) (F .columns), (size-fine 1 4096 q (F .logins), (same-fine (length ws) (q * loginWords w) (F .packed),
+      (same-fine (length p) (2 * log₂ q) (omega (arith, lp, F .point)), (most-fine (length (drop (4 * w) s)) (2 * w + 2 * q) (rw length-drop (omega (arith, F .room))), tt)))))
+
+  f-long : length (words f) ≡ 2 * w
+  f-long = words-length f ∙ ap (λ (i : ℕ). 2 * i) (folded-length q w (unpacked q w ws) (elements p))
+
+  front-long : length (take (4 * w) s) ≡ 4 * w
+  front-long = length-take-le (4 * w) s (omega (arith, F .room))
+
+  abbrev new : List ℕ
+  new = putMid (4 * w) (length s - 4 * w) s u
+
+  abbrev rest : List ℕ
+  rest = replicate (2 * q) 0 ++ drop (2 * w + 2 * q) (drop (4 * w) s)
+
+  new-is : new ≡ take (4 * w) s ++ (words f ++ rest)
+  new-is = back-put s u (4 * w) ∙ ap (λ (y : List ℕ). take (4 * w) s ++ y) (eu ∙ rw (back-part s (4 * w), none))
+
+  behind-is : drop (4 * w) new ≡ words f ++ rest
+  behind-is = ap (drop (4 * w)) new-is ∙ drop-at (take (4 * w) s) (words f ++ rest) (4 * w) front-long
+
+  rest-is : drop (6 * w + 2 * q) new ≡ drop (6 * w + 2 * q) s
+  rest-is =
+      let a : 4 * w + (2 * w + 2 * q) ≡ 6 * w + 2 * q = omega arith in
+      let l : length (words f ++ replicate (2 * q) 0) ≡ 2 * w + 2 * q = length-append (words f) (replicate (2 * q) 0) ∙ ap₂ _+_ f-long (length-replicate (2 * q) 0) in
+      let e : drop (2 * w + 2 * q) (words f ++ rest) ≡ drop (2 * w + 2 * q) (drop (4 * w) s) =
+      ap (drop (2 * w + 2 * q)) (sym (append-assoc (words f) (replicate (2 * q) 0) (drop (2 * w + 2 * q) (drop (4 * w) s))))
+      ∙ drop-at (words f ++ replicate (2 * q) 0) (drop (2 * w + 2 * q) (drop (4 * w) s)) (2 * w + 2 * q) l in
+      ap (λ (i : ℕ). drop i new) (sym a) ∙ (sym (drop-drop (2 * w + 2 * q) (4 * w) new)
+      ∙ (ap (drop (2 * w + 2 * q)) behind-is ∙ (e ∙ (drop-drop (2 * w + 2 * q) (4 * w) s ∙ ap (λ (i : ℕ). drop i s) a))))
+
+  pub fold-ends : FoldLeft q w n k ws d s new
+  fold-ends = (
+    ap (take (4 * w)) new-is ∙ take-at (take (4 * w) s) (words f ++ rest) (4 * w) front-long,
+    ap (λ (y : List ℕ). elements (take (2 * w) y)) behind-is ∙ (ap elements (take-at (words f) rest (2 * w) f-long) ∙ (elements-words f
+        ∙ ap (folded q w (unpacked q w ws)) (ep ∙ point-reversed (elements d) k n (rw elements-length (omega (arith, F .drawn)))))),
+    rest-is,
+  )
+
+-- at the point of the logins
+pub fold-left : (q w l n k K : ℕ) (ws d s s′ : List ℕ) → l ≡ log₂ q → n ≡ min l 16 → k ≡ K
+    → (FoldReady q w n k (length ws) (length d) (length s) → FoldLeft q w n k ws d s s′)
+    → FoldReady q w (log₂ q) K (length ws) (length d) (length s) → FoldLeft q w (log₂ q) K ws d s s′
+fold-left q w l n k K ws d s s′ el en ek h F =
+    let few = log-most q (omega (arith, F .logins .high)) (F .logins .power) in
+    let e : n ≡ log₂ q = omega (arith, el, en, few) in
+    (rw (e, ek) at h) F
+
+-- ---- the inner rounds and the claims
+pub inner-done : (m : ℕ) (ns x w d s : List ℕ) (a k i j : ℕ) (t : Transcript) (A : TranscriptAnswer) (w′ d′ s′ : List ℕ) → i ≡ min a (length w) → j ≡ min k (length d)
+    → let W = take (length w - i) (drop i w) in let D = take (length d - j) (drop j d) in
+    let z = innerRoundsRefusal m ns x W D s t in let p = innerPlayed (outline m 1 1 1 ns) x s t in
+    A ≡ answerFor z p t → w′ ≡ proofFor z p W → d′ ≡ drawsFor z p D → s′ ≡ scratchFor z (6 * m) s
+    → InnerDone m ns x w d s (min a (length w)) (min k (length d)) t (A .transcript) (putMid i (length w - i) w w′) (putMid j (length d - j) d d′) s′
+inner-done m ns x w d s a k i j t A w′ d′ s′ ei ej eA ew ed es =
+    rw (← ei, ← ej, back-put w w′ i, back-put d d′ j, eA, ew, ed, es, back-part w i, back-part d j) (refl, refl, refl, refl)
+
+module _ (r : Relation) (c f x : List ℕ) (t : Transcript) where
+  pub inner-drawn-many : length (innerAll r c f x (begin t) .played .draws) ≡ logCols r
+  inner-drawn-many = ap length (goes-inner r c f x (begin t) 0 refl .draws) ∙ inner-drawn-length r c f x (begin t) 0 refl
+
+  pub inner-sent-many : length (innerAll r c f x (begin t) .sent) ≡ 3 * logCols r + 1 + length (r .lengths)
+  inner-sent-many = ap length (goes-inner r c f x (begin t) 0 refl .sent) ∙ inner-sent-length r c f x (begin t) 0 refl
+
+module _ (R : Rules) (ws : ℕ) (x w d c s : List ℕ) (t : Transcript)
+    (ok : RunReady R ws (length x) (length w) (length c) (length s) (t .«squeeze_ctr»)) (ld : length d ≡ 256) where
+  abbrev m : ℕ
+  m = R .m
+
+  abbrev ns : List ℕ
+  ns = R .lengths
+
+  abbrev o : Relation
+  o = outlineOf R
+
+  abbrev pub P : Steps
+  P = innerPlayed (outline m 1 1 1 ns) x s t
+
+  drawn-many : length (P .played .draws) ≡ log₂ m
+  unfolding innerPlayed
+  drawn-many = inner-drawn-many (outline m 1 1 1 ns) (elements (take (2 * m) s)) (elements (take m (drop (2 * m) s))) (elements x) t
+
+  sent-many : length (P .sent) ≡ 3 * log₂ m + 1 + length ns
+  unfolding innerPlayed
+  sent-many = inner-sent-many (outline m 1 1 1 ns) (elements (take (2 * m) s)) (elements (take m (drop (2 * m) s))) (elements x) t
+
+  inner-none : (W D : List ℕ) → 2 * log₂ m ≤ length D → 2 * (3 * log₂ m + 1 + length ns) ≤ length W → innerRoundsRefusal m ns x W D s t ≡ 0
+  unfolding innerRoundsRefusal
+  inner-none W D hd hw =
+      let rooms : Tests = counterTest t ++ (roomTest (2 * log₂ m) D ++ roomTest (2 * (3 * log₂ m + 1 + length ns)) W ++ roomTest (6 * m) s) in
+      let enough : Clear rooms = (true-fine _ (lt-ltb (t .«squeeze_ctr») (2 ^ 32) (ok .counter)), (most-fine (length D) (2 * log₂ m) hd,
+      (most-fine (length W) _ hw, (most-fine (length s) (6 * m) (omega (arith, ok .scratch)), tt)))) in
+      noted-none (columnTests m ++ publicTests m x ++ layoutTests (m / 2) ns ++ rooms)
+      (size-fine 2 65536 m (ok .ready .columns), (same-fine (length x) (m - 2) (ok .public), layout-fine R (ok .ready) rooms enough))
+
+  claims-none : (W D : List ℕ) → length W ≡ proofWords R → length D ≡ 2 * drawCount o
+      → claimsRefusal m (R .q) (rowsBin R) (rowsFld R) ns W D c ≡ 0
+  unfolding claimsRefusal
+  claims-none W D hw hd =
+      let tests : Tests = segmentTests ns ++ (drawTests o D ++ (roomTest (2 * claimCount o) c ++ proofTests o W)) in
+      noted-none (runTests m (R .q) (rowsBin R) (rowsFld R) ++ tests) (sizes-fine R (ok .ready) tests (most-fine 64 (length ns) (ok .ready .segments),
+      (same-fine (length D) (2 * drawCount o) hd, (most-fine (length c) (2 * claimCount o) (ok .claims), (same-fine (length W) (2 * proofElements o) hw, tt)))))
+
+  said-room : saidBefore R + 2 * (3 * log₂ m + 1 + length ns) ≤ length w
+  said-room = omega (arith, ok .proof)
+
+  drawn-room : drawnBefore R + 2 * log₂ m ≤ length d
+  drawn-room = omega (arith, ld, draws-small R (ok .ready))
+
+  -- the claims read i words of the proof and n of the draws
+  module _ (a k i n : ℕ) (ea : a ≡ saidBefore R) (ek : k ≡ drawnBefore R)
+      (ei : i ≡ min (2 * (8 * log₂ (R .q) + 4 * log₂ (rowsBin R) + 4 * log₂ (rowsFld R) + 6 + 3 * log₂ m + 1 + min (length ns) 64)) (length w))
+      (en : n ≡ min (2 * drawCount o) 256) where
+    a-is : min a (length w) ≡ saidBefore R
+    a-is = omega (arith, ea, said-room)
+
+    k-is : min k (length d) ≡ drawnBefore R
+    k-is = omega (arith, ek, drawn-room)
+
+    i-is : i - 0 ≡ proofWords R
+    i-is = none-less (omega (arith, ei, ok .proof, ok .ready .segments))
+
+    n-is : n - 0 ≡ 2 * drawCount o
+    n-is = none-less (omega (arith, en, draws-small R (ok .ready)))
+
+    unrefused : innerRoundsRefusal m ns x (drop (min a (length w)) w) (drop (min k (length d)) d) s t ≡ 0
+    unrefused = inner-none (drop (min a (length w)) w) (drop (min k (length d)) d) (rw length-drop (room-behind k-is drawn-room)) (rw length-drop (room-behind a-is said-room))
+
+    said-long : length (saidAll R w P) ≡ proofWords R
+    said-long =
+        length-append (take (saidBefore R) w) (words (P .sent))
+        ∙ omega (arith, length-take-le (saidBefore R) w (omega (arith, said-room)), words-length (P .sent), sent-many)
+
+    drawn-long : length (drawnAll R d P) ≡ 2 * drawCount o
+    drawn-long =
+        length-append (take (drawnBefore R) d) (words (P .played .draws))
+        ∙ omega (arith, length-take-le (drawnBefore R) d (omega (arith, drawn-room)), words-length (P .played .draws), drawn-many)
+
+    module _ (u : Transcript) (w′ d′ s′ : List ℕ) (done : InnerDone m ns x w d s (min a (length w)) (min k (length d)) t u w′ d′ s′) where
+      w-is : w′ ≡ saidAll R w P ++ drop (proofWords R) w
+      w-is =
+          done .1 ∙ rw (unrefused, a-is)
+          (laid-behind w (words (P .sent)) (saidBefore R) (proofWords R) (rw (words-length, sent-many) (omega arith)) (ok .proof))
+
+      d-is : d′ ≡ drawnAll R d P ++ drop (2 * drawCount o) d
+      d-is =
+          done .2 ∙ rw (unrefused, k-is)
+          (laid-behind d (words (P .played .draws)) (drawnBefore R) (2 * drawCount o) (rw (words-length, drawn-many) (omega arith)) (omega (arith, drawn-room)))
+
+      pub end-left : (c′ : List ℕ) → c′ ≡ claimsOut m (R .q) (rowsBin R) (rowsFld R) ns (take (i - 0) (drop 0 w′)) (take (n - 0) (drop 0 d′)) c
+          → EndLeft R w d c s (6 * m) P u w′ c′ s′
+      unfolding claimsOut
+      end-left c′ ec =
+          let sw : take (i - 0) (drop 0 w′) ≡ saidAll R w P = rw (i-is, w-is) (take-at (saidAll R w P) (drop (proofWords R) w) (proofWords R) said-long) in
+          let sd : take (n - 0) (drop 0 d′) ≡ drawnAll R d P = rw (n-is, d-is) (take-at (drawnAll R d P) (drop (2 * drawCount o) d) (2 * drawCount o) drawn-long) in
+          (done .0 ∙ rw unrefused, w-is, ec ∙ rw (sw, sd, claims-none (saidAll R w P) (drawnAll R d P) said-long drawn-long), done .3 ∙ rw unrefused)
+
+-- ---- the whole second part
+module _ (R : Rules) (ws x w d c s : List ℕ) (t : Transcript)
+    (ok : RunReady R (length ws) (length x) (length w) (length c) (length s) (t .«squeeze_ctr»)) (ld : length d ≡ 256) where
+  abbrev k : ℕ
+  k = loginAt (R .q) (rowsBin R) (rowsFld R)
+
+  two : 2 * (R .m / 2) ≡ R .m
+  two = even-size (R .m) (ok .ready .columns)
+
+  four : 4 * (R .m / 2) ≡ 2 * R .m
+  four = omega (arith, two)
+
+  pub fold-sizes : FoldReady (R .q) (R .m / 2) (log₂ (R .q)) k (length ws) (length d) (length s)
+  fold-sizes =
+      let h = draws-small R (ok .ready) in record {
+        columns = subst (Sized 2 65536) (sym two) (ok .ready .columns);
+        logins = ok .ready .logins;
+        packed = ok .packed;
+        point = refl;
+        place = omega (arith, h);
+        drawn = omega (arith, h, ld);
+        room = omega (arith, two, ok .scratch);
+      }
+
+  module _ (s₁ : List ℕ) (folds : FoldLeft (R .q) (R .m / 2) (log₂ (R .q)) k ws d s s₁) (same : length s₁ ≡ length s) where
+    pub end-sizes : RunReady R (length ws) (length x) (length w) (length c) (length s₁) (t .«squeeze_ctr»)
+    end-sizes = subst (λ (i : ℕ). RunReady R (length ws) (length x) (length w) (length c) i (t .«squeeze_ctr»)) (sym same) ok
+
+    abbrev columns : List ℕ
+    columns = folded (R .q) (R .m / 2) (unpacked (R .q) (R .m / 2) ws) (reverse (take (log₂ (R .q)) (drop k (elements d))))
+
+    front-is : take (2 * R .m) s₁ ≡ take (2 * R .m) s
+    front-is = ap (λ (i : ℕ). take i s₁) (sym four) ∙ (folds .0 ∙ ap (λ (i : ℕ). take i s) four)
+
+    columns-are : elements (take (R .m) (drop (2 * R .m) s₁)) ≡ columns
+    columns-are = ap₂ (λ (i j : ℕ). elements (take i (drop j s₁))) (sym two) (sym four) ∙ folds .1
+
+    -- the inner rounds see the columns and the lengths alone
+    outlined : (T F : List ℕ) → innerAll (outline (R .m) 1 1 1 (R .lengths)) T F (elements x) (begin t) ≡ innerAll (outlineOf R) T F (elements x) (begin t)
+    outlined T F = unfold innerAll innerRun segmentValue lowDraws ended in refl
+
+    steps-are : innerPlayed (outline (R .m) 1 1 1 (R .lengths)) x s₁ t ≡ laterPlayed R ws x d s t
+    unfolding innerPlayed
+    steps-are = rw (front-is, columns-are) (outlined (elements (take (2 * R .m) s)) columns)
+
+    -- the words behind the prover's scratch
+    abbrev n : ℕ
+    n = proverRoom R
+
+    from : (v : List ℕ) → drop n v ≡ drop (n - (6 * (R .m / 2) + 2 * R .q)) (drop (6 * (R .m / 2) + 2 * R .q) v)
+    from v =
+        let e : 6 * (R .m / 2) + 2 * R .q + (n - (6 * (R .m / 2) + 2 * R .q)) ≡ n = omega (arith, two) in
+        sym (drop-drop (n - (6 * (R .m / 2) + 2 * R .q)) (6 * (R .m / 2) + 2 * R .q) v ∙ ap (λ (i : ℕ). drop i v) e)
+
+    kept : drop n s₁ ≡ drop n s
+    kept = from s₁ ∙ (ap (drop (n - (6 * (R .m / 2) + 2 * R .q))) (folds .2) ∙ sym (from s))
+
+    module _ (u : Transcript) (w′ c′ s₂ : List ℕ)
+        (ends : EndLeft R w d c s₁ (6 * R .m) (innerPlayed (outline (R .m) 1 1 1 (R .lengths)) x s₁ t) u w′ c′ s₂)
+        (N g : ℕ) (eN : N ≡ min g (length s₂)) (eg : g ≡ proverScratch (R .m) (R .q) (rowsBin R) (rowsFld R)) where
+      s₂-long : length s₂ ≡ length s
+      s₂-long =
+          ap length (ends .3) ∙ (length-append (replicate (6 * R .m) 0) (drop (6 * R .m) s₁)
+          ∙ omega (arith, length-replicate {A = ℕ} (6 * R .m) 0, length-drop (6 * R .m) s₁, same, ok .scratch))
+
+      N-is : N ≡ n
+      N-is =
+          let r = prover-within (R .m) (R .q) (rowsBin R) (rowsFld R) (ok .ready .columns .high) (ok .ready .logins .high) (ok .ready .bin .rows .high) (ok .ready .fld .rows .high) in
+          eN ∙ least (eg ∙ r) (omega (arith, s₂-long, ok .scratch))
+        where
+          least : {a b l : ℕ} → a ≡ b → b ≤ l → min a l ≡ b
+          least e h = omega arith
+
+      pub later-ends : (z : List ℕ) → z ≡ replicate (length (take (N - 0) (drop 0 s₂))) 0
+          → EndLeft R w d c s n (laterPlayed R ws x d s t) u w′ c′ (putMid 0 (N - 0) s₂ z)
+      later-ends z ez =
+          let e : N - 0 ≡ n = none-less N-is in
+          let l : length (take n s₂) ≡ n = length-take-le n s₂ (omega (arith, s₂-long, ok .scratch)) in
+          let b : drop n s₂ ≡ drop n s =
+          ap (drop n) (ends .3) ∙ (behind-front (6 * R .m) n (replicate (6 * R .m) 0) s₁ (length-replicate (6 * R .m) 0) (omega arith) ∙ kept) in
+          let r : putMid 0 (N - 0) s₂ z ≡ replicate n 0 ++ drop n s = rw (ez, e, l, b) in
+          subst (λ (p : Steps). EndLeft R w d c s n p u w′ c′ (putMid 0 (N - 0) s₂ z)) steps-are (ends .0, ends .1, ends .2, r)

@@ -1,0 +1,65 @@
+-- `magnetar_spartan::proving::fold_at` meets its contract.
+-- Assumes nothing.
+use mathlib.Core.Path.{_∙_}
+use native.Mathlib.Omega.{arith}
+use denote.Ref.{now}
+use Rattle.magnetar_spartan.proofs.LaterLaws.{fold-ends}
+use borrow.Author.Needs.{needs}
+use Rattle.magnetar_spartan.proofs.proving.fold_at.Statement.{statement}
+use Rattle.magnetar_spartan.proofs.proving.fold_at.Tie as tie
+
+login-point-requires : tie.Need-login-point-requires
+login-point-requires c κs = search needs
+
+mul-a : tie.Need-mul-a
+mul-a c = search needs
+
+mul-fold-packed-in : tie.Need-mul-fold-packed-in
+mul-fold-packed-in c = search needs
+
+sub-fold-packed-in : tie.Need-sub-fold-packed-in
+sub-fold-packed-in c = search needs
+
+part-fold-packed-in-start : tie.Need-part-fold-packed-in-start
+part-fold-packed-in-start c = search needs
+
+part-fold-packed-in-end : tie.Need-part-fold-packed-in-end
+part-fold-packed-in-end c = search needs
+
+fold-packed-in-requires : tie.Need-fold-packed-in-requires
+fold-packed-in-requires c κs = search needs
+
+same-length : tie.Need-same-length
+same-length c = search needs
+
+same-length-2 : tie.Need-same-length-2
+same-length-2 c = search needs
+
+returns : tie.Need-returns
+returns c =
+    let x = c .before .before .before .before .before .before .before .before .before .before .before .before .before .before .args in
+    λ F. fold-ends (x .q) (x .w) (x .n) (x .k) (now (x .packed)) (now (x .draws)) (now (x .s)) (c .before .before .before .before .before .before .before .before .login-point .last .1 .1 .1 .0) _ (c .before .before .before .before .before .before .before .before .login-point .kept .1 .1 .1 .0 ∙ c .before .before .before .before .before .before .before .before .before .before .before .before .before .before .pre .2) (c .before .before .before .before .before .before .before .before .login-point .ensures) (c .before .before .fold-packed-in .ensures .1) F
+
+same-length-3 : tie.Need-same-length-3
+same-length-3 c = search needs
+
+returns-2 : tie.Need-returns-2
+returns-2 c =
+    λ F. absurd (omega (arith, F .room))
+
+pub fold-at-spec : {M : Type 1} → statement M
+fold-at-spec =
+    tie.close
+    (tie.spec
+    login-point-requires
+    mul-a
+    mul-fold-packed-in
+    sub-fold-packed-in
+    part-fold-packed-in-start
+    part-fold-packed-in-end
+    fold-packed-in-requires
+    same-length
+    same-length-2
+    returns
+    same-length-3
+    returns-2)
