@@ -86,19 +86,22 @@ failing=magnetar_batch::check::Failing
 check=Rattle.magnetar_inplace.proofs.CheckWalk
 zs='Rattle.magnetar_relation.specs.Steps.{loginZ}'
 in='Rattle.magnetar_inplace.specs.Ranges.{systemIn}'
-core=Rattle.magnetar_batch.proofs.WalkLaws
+core=Rattle.magnetar_batch.proofs
+over='Rattle.magnetar_relation.specs.Rules.{rulesOver}'
 long="$walks.{records-length}"
 each EachMNNNNNNSSI MNNNNNNSSI
 count CountANIMQNNNNNNSSE ANIMQNNNNNNSSE $failing
 thin check::product --use "$check.{product-ends}" --use "$entries" --use "$words" --use "$zs" \
   --final 'product-ends n3 n4 (loginZ n6 (s9 .now) (elements (s10 .now)) n5) n7 n8 (entriesOfRecords (s1 .now)) ys2 (ws1 .0) (ws2 .1 .0) e1 e2'
-thin check::check_login --use "$check.{login-ends}" --use "$entries" --use "$words" --use "$zs" \
-  --final 'login-ends n5 (loginZ n10 (s11 .now) (elements (s12 .now)) n3) n6 n7 n8 n9 (entriesOfRecords (s13 .now)) n1 n2 n3 r1 ys4 (ws2 .1 .0) (ws3 .1 .0) (ws4 .1 .0) (ws5 .1 .1 .1 .0) r5 e1 e2 e3 e4 e5'
-thin check::login_unless --use "$core.{unless-some, unless-none}" --use "$entries" --use "$words" --use "$zs" --use "$in" \
+thin check::check_login --use "$core.RowWalk.{login-ends}" --use "$entries" --use "$words" --use "$zs" --use "$in" \
+  --final 'login-ends n1 n2 n3 (loginZ n10 (s11 .now) (elements (s12 .now)) n3) (systemIn n5 n6 n7 n8 n9 (entriesOfRecords (s13 .now))) ys4 (ws2 .1 .0) (ws3 .1 .0) (ws4 .1 .0) (ws5 .1 .1 .1 .0) r5 r1 e1 e2 e3 e4 e5'
+thin check::login_unless --use "$core.RowWalk.{unless-some, unless-none}" --use "$entries" --use "$words" --use "$zs" --use "$in" \
   --final 'unless-some n2 (loginZ n10 (s11 .now) (elements (s12 .now)) n3) (systemIn n5 n6 n7 n8 n9 (entriesOfRecords (s13 .now))) n3 n1 r2 ys4 (ws2 .1 .1 .1 .0) (sym e1 ∙ b1) e2' \
   --final 'unless-none n2 (loginZ n10 (s11 .now) (elements (s12 .now)) n3) (systemIn n5 n6 n7 n8 n9 (entriesOfRecords (s13 .now))) n3 n1 ys4 (sym e1 ∙ b1)'
 thin check::judge --use "$check.{judge-ends}" --use "$entries" --use "$words" --use "$long" \
   --final 'judge-ends n3 n4 n5 (entriesOfRecords (s6 .now)) _ (records-length (s6 .now)) n7 (s8 .now) (elements (s9 .now)) ys2 (ws4 .1 .1 .0) (ws5 .1 .1 .0) (ws6 .1 .0) r1 e1 r3 r4 r5 e3 n1 r2 e2 e4 e5 e6'
+thin check::row_check --use "$core.CheckEnds.{check-by, check-ends}" --use "$entries" --use "$over" --use 'Rattle.magnetar_batch.specs.Check.{outcome}' --use 'mathlib.Core.List.{[]}' \
+  --final 'let R = rulesOver n2 n3 [] n4 (entriesOfRecords (s5 .now)) in check-ends R (s6 .now) (s7 .now) ys1 r2 (check-by R (s6 .now) (s7 .now) _ r1 r2 e1 e2) r3 e3 r4 (ws4 .1 .0) (outcome r5) e4 e5'
 
 # the combined table
 combo=Rattle.magnetar_inplace.proofs.ComboWalk
@@ -109,6 +112,8 @@ thin combo::combine --use "$combo.{combine-ends}" --use "$entries" --use "$long"
   --final 'combine-ends n2 n3 (entriesOfRecords (s7 .now)) _ (records-length (s7 .now)) n4 n5 n6 ys1 (ws2 .1 .0) (ws3 .1 .0) (ws4 .1 .0) (ws5 .0) r1 e1 e2 e3 e4 e5'
 thin combo::fill --final '(cc, cc)'
 thin combo::fill_unless --final '(refl, rw (← e1, b1) (e2 .0), rw (← e1, b1) (e2 .1))' --final '(refl, rw (← e1, b1) refl, rw (← e1, b1) refl)'
+thin combo::build_m_combo --use "$core.ComboEnds.{combo-by, combo-ends}" --use "$entries" --use "$over" --use 'mathlib.Core.List.{[]}' \
+  --final 'let R = rulesOver n3 1 [] n4 (entriesOfRecords (s5 .now)) in combo-ends R (s6 .now) (s7 .now) (s8 .now) ys1 ys2 r2 (combo-by R (s6 .now) (s7 .now) (s8 .now) _ _ r1 r2 e1 e2) r3 (ws3 .1 .0) (ws3 .1 .1 .0) e3'
 
 # magnetar_forms: locals lent to the thin functions
 crate magnetar_forms

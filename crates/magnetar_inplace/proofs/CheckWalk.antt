@@ -13,28 +13,16 @@ use Rattle.magnetar_relation.specs.Rules.{relationOf, rulesOver}
 use Rattle.magnetar_relation.specs.Steps.{loginZ, clearedTo, behind}
 use Rattle.magnetar_relation.specs.Told.{walked, walkedWithin}
 use Rattle.magnetar_batch.specs.declared.check.Failing.{Failing}
-use Rattle.magnetar_batch.specs.CheckSteps.{shareAdded, productBehind, twiceOf, threeIn, failingIn, nothing, Judged, from, loginDone, systemDone, bothDone, bothWords}
-use Rattle.magnetar_batch.proofs.WalkLaws as core
+use Rattle.magnetar_batch.specs.CheckSteps.{shareAdded, productBehind, threeIn, nothing, Judged, from, loginDone, systemDone, bothDone, bothWords}
 use Rattle.magnetar_inplace.specs.declared.ranges.Ends.{Ends}
 use Rattle.magnetar_inplace.specs.Ranges.{endsOf, partOf, matrixIn, systemIn}
 use Rattle.magnetar_inplace.proofs.WalkLaws.{within-part}
 use Rattle.magnetar_inplace.proofs.RangeLaws.{bin-a, bin-b, bin-c, fld-a, fld-b, fld-c}
 
--- ---- a product, and three
+-- ---- a product
 pub product-ends : (m n : ℕ) (z : List ℕ) (a b : ℕ) (es : List Entry) (s s₁ s₂ : List ℕ) → s₁ ≡ behind m (clearedTo n) s
     → s₂ ≡ walkedWithin (shareAdded m n z) a b 0 es s₁ → s₂ ≡ productBehind m n z (matrixIn n a b es) s
 product-ends m n z a b es s s₁ s₂ e f = f ∙ (within-part (shareAdded m n z) a b es s₁ ∙ ap (walked (shareAdded m n z) (partOf a b es)) e)
-
-pub login-ends : (n : ℕ) (z : List ℕ) (a b c d : ℕ) (es : List Entry) (r : Failing) (k u i : ℕ) (s s₁ s₂ s₃ s₄ : List ℕ) (f : Failing) → i ≡ twiceOf n
-    → s₁ ≡ productBehind 0 n z (matrixIn n a b es) s → s₂ ≡ productBehind n n z (matrixIn n b c es) s₁ → s₃ ≡ productBehind i n z (matrixIn n c d es) s₂
-    → (f ≡ failingIn r k u n s₃) × (s₄ ≡ s₃)
-    → (f ≡ failingIn r k u n (threeIn z (systemIn n a b c d es) s)) × (s₄ ≡ threeIn z (systemIn n a b c d es) s)
-unfolding threeIn
-login-ends n z a b c d es r k u i s s₁ s₂ s₃ s₄ f ei e₁ e₂ e₃ e =
-    let p = productBehind n n z (matrixIn n b c es) in
-    let q = productBehind (twiceOf n) n z (matrixIn n c d es) in
-    let h = e₃ ∙ (ap (λ (j : ℕ). productBehind j n z (matrixIn n c d es) s₂) ei ∙ ap q (e₂ ∙ ap p e₁)) in
-    (e .0 ∙ ap (failingIn r k u n) h, e .1 ∙ h)
 
 -- ---- of a system's matrices only the rows of the first and the entries count
 module _ (k w : ℕ) (ws x : List ℕ) (S T : System) (er : S .a .rows ≡ T .a .rows) (ea : S .a .entries ≡ T .a .entries) (eb : S .b .entries ≡ T .b .entries)
@@ -53,7 +41,7 @@ module _ (k w : ℕ) (ws x : List ℕ) (S T : System) (er : S .a .rows ≡ T .a 
   system-same (suc u) p =
       ap (loginDone k (loginZ w ws x u) S u) (system-same u p) ∙ login-same (loginZ w ws x u) u (systemDone k w ws x T u p)
 
--- ---- both systems
+-- ---- both systems, unless z is a refusal
 module _ (m q : ℕ) (sh : Shapes) (es : List Entry) (n : ℕ) (l : length es ≡ n) (w : ℕ) (ws x s s₁ s₂ s₃ : List ℕ) (e : Ends) (h : e ≡ endsOf sh n)
     (r r₁ r₂ : Failing) (e₀ : r ≡ nothing) where
   abbrev R : Relation
@@ -65,31 +53,35 @@ module _ (m q : ℕ) (sh : Shapes) (es : List Entry) (n : ℕ) (l : length es �
   abbrev T : System
   T = systemIn (sh .fld .a .rows) (e .binc) (e .flda) (e .fldb) (e .fldc) es
 
-  abbrev bin-after : ℕ → Judged
-  bin-after u = systemDone 1 w ws x S u (from r s)
-
-  abbrev fld-after : ℕ → Judged
-  fld-after u = systemDone 2 w ws x T u (from r₁ s₁)
-
   bin-same : (u : ℕ) (p : Judged) → systemDone 1 w ws x S u p ≡ systemDone 1 w ws x (R .bin) u p
   bin-same u p = system-same 1 w ws x S (R .bin) refl (bin-a es n l sh e h) (bin-b es n l sh e h) (bin-c es n l sh e h) u p
 
   fld-same : (u : ℕ) (p : Judged) → systemDone 2 w ws x T u p ≡ systemDone 2 w ws x (R .fld) u p
   fld-same u p = system-same 2 w ws x T (R .fld) refl (fld-a es n l sh e h) (fld-b es n l sh e h) (fld-c es n l sh e h) u p
 
-  -- after no login
-  left-none : (r₁ ≡ bin-after 0 .found) × (s₁ ≡ bin-after 0 .left) → (r₂ ≡ fld-after 0 .found) × (s₂ ≡ fld-after 0 .left) → (r₂ ≡ nothing) × (s₂ ≡ s)
-  unfolding systemDone
-  left-none a b = (b .0 ∙ (a .0 ∙ e₀), b .1 ∙ a .1)
+  -- after all logins, and after none
+  all-done : (i : ℕ) → i ≡ q → from r₁ s₁ ≡ systemDone 1 w ws x S i (from r s) → from r₂ s₂ ≡ systemDone 2 w ws x T i (from r₁ s₁)
+      → from r₂ s₂ ≡ bothDone R w ws x s
+  all-done i ei a b =
+      let c : from r₁ s₁ ≡ systemDone 1 w ws x (R .bin) q (from nothing s) = a ∙ rw (ei, e₀) (bin-same q (from nothing s)) in
+      b ∙ rw ei (fld-same q (from r₁ s₁) ∙ ap (systemDone 2 w ws x (R .fld) q) c)
 
-  pub judge-ends : (z i : ℕ) → i ≡ cond (eqb z 0) q 0 → (r₁ ≡ bin-after i .found) × (s₁ ≡ bin-after i .left) → (r₂ ≡ fld-after i .found) × (s₂ ≡ fld-after i .left)
+  none-done : (i : ℕ) → i ≡ 0 → from r₁ s₁ ≡ systemDone 1 w ws x S i (from r s) → from r₂ s₂ ≡ systemDone 2 w ws x T i (from r₁ s₁)
+      → from r₂ s₂ ≡ from nothing s
+  unfolding systemDone
+  none-done i ei a b = (rw ei at b) ∙ ((rw ei at a) ∙ ap (λ (f : Failing). from f s) e₀)
+
+  pub judge-ends : (z i : ℕ) → i ≡ cond (eqb z 0) q 0 → from r₁ s₁ ≡ systemDone 1 w ws x S i (from r s) → from r₂ s₂ ≡ systemDone 2 w ws x T i (from r₁ s₁)
       → s₃ ≡ cond (eqb z 0) (clearedTo (3 * max (sh .bin .a .rows) (sh .fld .a .rows)) s₂) s₂
       → (r₂ ≡ cond (eqb z 0) (bothDone R w ws x s .found) nothing) × (s₃ ≡ cond (eqb z 0) (bothWords R w ws x s) s)
   judge-ends z i = go (eqb z 0)
     where
-      go : (b : Bool) → i ≡ cond b q 0 → (r₁ ≡ bin-after i .found) × (s₁ ≡ bin-after i .left) → (r₂ ≡ fld-after i .found) × (s₂ ≡ fld-after i .left)
+      go : (b : Bool) → i ≡ cond b q 0 → from r₁ s₁ ≡ systemDone 1 w ws x S i (from r s) → from r₂ s₂ ≡ systemDone 2 w ws x T i (from r₁ s₁)
           → s₃ ≡ cond b (clearedTo (3 * max (sh .bin .a .rows) (sh .fld .a .rows)) s₂) s₂
           → (r₂ ≡ cond b (bothDone R w ws x s .found) nothing) × (s₃ ≡ cond b (bothWords R w ws x s) s)
       go true ei a b c =
-          core.judge-ends R w ws x s s₁ s₂ s₃ r r₁ r₂ e₀ (rw (ei, bin-same q (from r s)) at a) (rw (ei, fld-same q (from r₁ s₁)) at b) c
-      go false ei a b c = let d = left-none (rw ei at a) (rw ei at b) in (d .0, c ∙ d .1)
+          let d = all-done i ei a b in
+          (ap (λ (p : Judged). p .found) d, c ∙ ap (λ (p : Judged). clearedTo (3 * max (sh .bin .a .rows) (sh .fld .a .rows)) (p .left)) d)
+      go false ei a b c =
+          let d = none-done i ei a b in
+          (ap (λ (p : Judged). p .found) d, c ∙ ap (λ (p : Judged). p .left) d)

@@ -1,51 +1,16 @@
 -- Where the entries of each matrix lie among those of all six: the part between two ends is the matrix's.
 -- Assumes nothing.
-use mathlib.Core.Path.{_≡_, refl, sym, ap, _∙_}
-use mathlib.Core.Bool.{Bool, true, false}
+use mathlib.Core.Path.{_≡_, sym, ap, _∙_}
 use mathlib.Core.List.{List}
-use Prim.Native.Nat.{ℕ, _+_, _-_, min}
+use Prim.Native.Nat.{ℕ, _+_, min}
 use native.Mathlib.Omega.{arith}
-use lib.Dec.{ltb}
-use lib.ListN.{length, take, drop, length-drop, drop-of-length-le}
-use lib.Seq.{take-all}
-use borrow.Author.Tests.{ltb-true, ltb-false}
+use lib.ListN.{length, take, drop}
 use Rattle.magnetar_matrix.specs.Matrix.{Entry, System}
 use Rattle.magnetar_relation.specs.declared.shapes.Shapes.{Shapes}
 use Rattle.magnetar_relation.specs.Rules.{systemAt, entriesIn}
+use Rattle.magnetar_relation.proofs.RangeLaws.{same-drop, range-is}
 use Rattle.magnetar_inplace.specs.declared.ranges.Ends.{Ends}
 use Rattle.magnetar_inplace.specs.Ranges.{endsOf, partOf}
-
--- ---- places that are cut where a list ends
-module _ {A : Type 0} where
-  take-cut : (k : ℕ) (l : List A) → take (min k (length l)) l ≡ take k l
-  take-cut k l = go (ltb (length l) k) refl
-    where
-      go : (b : Bool) → ltb (length l) k ≡ b → take (min k (length l)) l ≡ take k l
-      go false t =
-          let m : min k (length l) ≡ k = omega (arith, ltb-false (length l) k t) in
-          rw m
-      go true t =
-          let h = ltb-true (length l) k t in
-          let m : min k (length l) ≡ length l = omega (arith, h) in
-          rw m (take-all (length l) l (omega arith) ∙ sym (take-all k l (omega (arith, h))))
-
-  drop-cut : (k : ℕ) (l : List A) → drop (min k (length l)) l ≡ drop k l
-  drop-cut k l = go (ltb (length l) k) refl
-    where
-      go : (b : Bool) → ltb (length l) k ≡ b → drop (min k (length l)) l ≡ drop k l
-      go false t =
-          let m : min k (length l) ≡ k = omega (arith, ltb-false (length l) k t) in
-          rw m
-      go true t =
-          let h = ltb-true (length l) k t in
-          let m : min k (length l) ≡ length l = omega (arith, h) in
-          rw m (drop-of-length-le l {i = length l} (omega arith) ∙ sym (drop-of-length-le l {i = k} (omega (arith, h))))
-
-  part-cut : (k c : ℕ) (l : List A) → take (min (k + c) (length l) - min k (length l)) (drop (min k (length l)) l) ≡ take c (drop k l)
-  part-cut k c l =
-      let d : List A = drop (min k (length l)) l in
-      let n : min (k + c) (length l) - min k (length l) ≡ min c (length d) = rw length-drop (omega arith) in
-      ap (λ (i : ℕ). take i d) n ∙ (take-cut c d ∙ ap (take c) (drop-cut k l))
 
 -- ---- the ends, one after the other
 cut-on : (k c n a : ℕ) → a ≡ min k n → min (a + c) n ≡ min (k + c) n
@@ -72,7 +37,9 @@ ends-made s n a b c d e f ea eb ec ed ee ef =
 -- ---- the entries of each matrix
 module _ (es : List Entry) (n : ℕ) (l : length es ≡ n) where
   part-at : (i c : ℕ) → partOf (min i n) (min (i + c) n) es ≡ take c (drop i es)
-  part-at i c = rw (← l) (part-cut i c es)
+  part-at i c =
+      let k = range-is es (min i n) c (min (i + c) n) (omega (arith, l)) in
+      k ∙ ap (take c) (same-drop (min i n) i es (omega (arith, l)))
 
   module _ (s : Shapes) (e : Ends) (h : e ≡ endsOf s n) where
     abbrev B : System

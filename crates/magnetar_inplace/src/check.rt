@@ -7,14 +7,17 @@ ghost use Rattle.magnetar_field.specs.Words.{elements};
 ghost use Rattle.magnetar_relation.specs.Rules.{relationOf, rulesOver};
 ghost use Rattle.magnetar_relation.specs.Steps.{loginZ};
 ghost use Rattle.magnetar_relation.specs.Told.{walkedWithin};
+ghost use Rattle.magnetar_batch.specs.Check.{checked, checkOutcome};
 ghost use Rattle.magnetar_batch.specs.CheckSteps.{shareAdded, productBehind, threeIn, nothing, failingIn, from, loginDone, systemDone, bothDone, bothWords};
 ghost use Rattle.magnetar_inplace.specs.Records.{entryOf, entriesOfRecords};
 ghost use Rattle.magnetar_inplace.specs.Ranges.{matrixIn, systemIn};
 use crate::ranges;
 use crate::records::Entry;
 use crate::steps;
+use crate::walks;
 use magnetar_batch::check as core;
 use magnetar_batch::check::Failing;
+use magnetar_batch::check::RowCheck;
 use magnetar_relation::shapes::Shapes;
 
 // Adds the share of the record with the index i of login u's product, where this is from a to b, to n elements behind the first m.
@@ -97,8 +100,7 @@ fn check_login(
     x: &[u64],
     es: &[Entry],
 ) -> Failing
-    ensures { λ f. ⌜ (f ≡ failingIn r k u n (threeIn (loginZ w (now (packed .entry)) (elements (now (x .entry))) u) (systemIn n a b c d (entriesOfRecords (now (es .entry)))) (now (s .entry))))
-        × (now (s .exit) ≡ threeIn (loginZ w (now (packed .entry)) (elements (now (x .entry))) u) (systemIn n a b c d (entriesOfRecords (now (es .entry)))) (now (s .entry))) ⌝ }
+    ensures { λ f. ⌜ (let v = threeIn (loginZ w (now (packed .entry)) (elements (now (x .entry))) u) (systemIn n a b c d (entriesOfRecords (now (es .entry)))) (now (s .entry)) in from f (now (s .exit)) ≡ from (failingIn r k u n v) v) ⌝ }
 {
     let none = 0;
     let twice = core::twice(n);
@@ -124,8 +126,7 @@ fn login_unless(
     x: &[u64],
     es: &[Entry],
 ) -> Failing
-    ensures { λ f. ⌜ (f ≡ loginDone k (loginZ w (now (packed .entry)) (elements (now (x .entry))) u) (systemIn n a b c d (entriesOfRecords (now (es .entry)))) u (from r (now (s .entry))) .found)
-        × (now (s .exit) ≡ loginDone k (loginZ w (now (packed .entry)) (elements (now (x .entry))) u) (systemIn n a b c d (entriesOfRecords (now (es .entry)))) u (from r (now (s .entry))) .left) ⌝ }
+    ensures { λ f. ⌜ from f (now (s .exit)) ≡ loginDone k (loginZ w (now (packed .entry)) (elements (now (x .entry))) u) (systemIn n a b c d (entriesOfRecords (now (es .entry)))) u (from r (now (s .entry))) ⌝ }
 {
     let go = core::is_nothing(r);
     if go {
@@ -152,8 +153,7 @@ fn check_system(
     x: &[u64],
     es: &[Entry],
 ) -> Failing
-    ensures { λ f. ⌜ (f ≡ systemDone k w (now (packed .entry)) (elements (now (x .entry))) (systemIn n a b c d (entriesOfRecords (now (es .entry)))) q (from r (now (s .entry))) .found)
-        × (now (s .exit) ≡ systemDone k w (now (packed .entry)) (elements (now (x .entry))) (systemIn n a b c d (entriesOfRecords (now (es .entry)))) q (from r (now (s .entry))) .left) ⌝ }
+    ensures { λ f. ⌜ from f (now (s .exit)) ≡ systemDone k w (now (packed .entry)) (elements (now (x .entry))) (systemIn n a b c d (entriesOfRecords (now (es .entry)))) q (from r (now (s .entry))) ⌝ }
 {
     let mut acc = r;
     let mut u = 0;
@@ -176,8 +176,8 @@ fn judge(
     packed: &[u64],
     x: &[u64],
 ) -> Failing
-    ensures { λ f. ⌜ (f ≡ cond (eqb z 0) (bothDone (relationOf (rulesOver m q [] sh (entriesOfRecords (now (es .entry))))) w (now (packed .entry)) (elements (now (x .entry))) (now (s .entry)) .found) nothing)
-        × (now (s .exit) ≡ cond (eqb z 0) (bothWords (relationOf (rulesOver m q [] sh (entriesOfRecords (now (es .entry))))) w (now (packed .entry)) (elements (now (x .entry))) (now (s .entry))) (now (s .entry))) ⌝ }
+    ensures { λ f. ⌜ (let R = relationOf (rulesOver m q [] sh (entriesOfRecords (now (es .entry)))) in (f ≡ cond (eqb z 0) (bothDone R w (now (packed .entry)) (elements (now (x .entry))) (now (s .entry)) .found) nothing)
+        × (now (s .exit) ≡ cond (eqb z 0) (bothWords R w (now (packed .entry)) (elements (now (x .entry))) (now (s .entry))) (now (s .entry)))) ⌝ }
 {
     let bin = 1;
     let fld = 2;
@@ -201,4 +201,30 @@ fn judge(
     let r = check_system(r, fld, s, l, nf, c, d, e, f, w, packed, x, es);
     steps::clear_unless(z, s, nb, nf);
     r
+}
+
+// The plain row check: good, or the first failing row, bin before fld, then the lowest login, then the lowest row. 1 to 7; 15: the
+// scratch is below 6R words, R being the larger row count. These words are 0 at exit.
+pub fn row_check(
+    scratch: &mut [u64],
+    m: usize,
+    q: usize,
+    sh: Shapes,
+    es: &[Entry],
+    packed: &[u64],
+    x: &[u64],
+) -> RowCheck
+    ensures { λ r. ⌜ checked r (now (scratch .exit)) ≡ checkOutcome (rulesOver m q [] sh (entriesOfRecords (now (es .entry)))) (now (packed .entry)) (now (x .entry)) (now (scratch .entry)) ⌝ }
+{
+    let tb = sh.bin;
+    let tf = sh.fld;
+    let hb = tb.a;
+    let hf = tf.a;
+    let nb = hb.rows;
+    let nf = hf.rows;
+    let z = walks::rules_refusal(m, q, sh, es);
+    let n = core::refusal(z, m, q, nb, nf, packed.len(), x.len(), scratch.len());
+    let w = core::half(m);
+    let f = judge(n, scratch, m, q, sh, es, w, packed, x);
+    core::answer(n, f)
 }

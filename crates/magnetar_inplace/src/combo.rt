@@ -8,6 +8,7 @@ ghost use lib.ListN.{take};
 ghost use Rattle.magnetar_field.specs.Words.{overlaid};
 ghost use Rattle.magnetar_relation.specs.Rules.{relationOf, rulesOver};
 ghost use Rattle.magnetar_relation.specs.Steps.{clearedTo};
+ghost use Rattle.magnetar_batch.specs.Entries.{combined, comboOutcome};
 ghost use Rattle.magnetar_batch.specs.TableSteps.{padded, matrixAdded, tableMade};
 ghost use Rattle.magnetar_inplace.specs.Records.{entriesOfRecords};
 ghost use Rattle.magnetar_inplace.specs.Ranges.{matrixIn};
@@ -15,7 +16,7 @@ use crate::ranges;
 use crate::records::Entry;
 use crate::steps;
 use crate::walks;
-use magnetar_batch::combo as core;
+use magnetar_batch::table as core;
 use magnetar_relation::shapes::Shapes;
 use magnetar_relation::step as table;
 
@@ -109,8 +110,7 @@ fn fill(
     pb: &[u64],
     pf: &[u64],
 )
-    ensures { λ _. ⌜ (now (out .exit) ≡ overlaid (take (2 * m) (tableMade (relationOf (rulesOver m 1 [] sh (entriesOfRecords (now (es .entry))))) (padded 12 (now (alphas .entry))) (padded 32 (now (pb .entry))) (padded 32 (now (pf .entry))) (now (s .entry)))) (now (out .entry)))
-        × (now (s .exit) ≡ clearedTo m (tableMade (relationOf (rulesOver m 1 [] sh (entriesOfRecords (now (es .entry))))) (padded 12 (now (alphas .entry))) (padded 32 (now (pb .entry))) (padded 32 (now (pf .entry))) (now (s .entry)))) ⌝ }
+    ensures { λ _. ⌜ (let t = tableMade (relationOf (rulesOver m 1 [] sh (entriesOfRecords (now (es .entry))))) (padded 12 (now (alphas .entry))) (padded 32 (now (pb .entry))) (padded 32 (now (pf .entry))) (now (s .entry)) in (now (out .exit) ≡ overlaid (take (2 * m) t) (now (out .entry))) × (now (s .exit) ≡ clearedTo m t)) ⌝ }
 {
     let a = core::alphas12(alphas);
     let p = core::point32(pb);
@@ -131,8 +131,8 @@ fn fill_unless(
     pb: &[u64],
     pf: &[u64],
 ) -> u32
-    ensures { λ r. ⌜ (r ≡ n) × (now (out .exit) ≡ cond (eqb n 0) (overlaid (take (2 * m) (tableMade (relationOf (rulesOver m 1 [] sh (entriesOfRecords (now (es .entry))))) (padded 12 (now (alphas .entry))) (padded 32 (now (pb .entry))) (padded 32 (now (pf .entry))) (now (s .entry)))) (now (out .entry))) (now (out .entry)))
-        × (now (s .exit) ≡ cond (eqb n 0) (clearedTo m (tableMade (relationOf (rulesOver m 1 [] sh (entriesOfRecords (now (es .entry))))) (padded 12 (now (alphas .entry))) (padded 32 (now (pb .entry))) (padded 32 (now (pf .entry))) (now (s .entry)))) (now (s .entry))) ⌝ }
+    ensures { λ r. ⌜ (let t = tableMade (relationOf (rulesOver m 1 [] sh (entriesOfRecords (now (es .entry))))) (padded 12 (now (alphas .entry))) (padded 32 (now (pb .entry))) (padded 32 (now (pf .entry))) (now (s .entry)) in (r ≡ n) × (now (out .exit) ≡ cond (eqb n 0) (overlaid (take (2 * m) t) (now (out .entry))) (now (out .entry)))
+        × (now (s .exit) ≡ cond (eqb n 0) (clearedTo m t) (now (s .entry)))) ⌝ }
 {
     let go = steps::is_none(n);
     if go {
@@ -141,4 +141,41 @@ fn fill_unless(
     } else {
         n
     }
+}
+
+// The six matrices at their row points, combined by the alphas, in the first 2m words of out; the 2m + 2R words of scratch, R being the
+// larger row count, are 0 at exit. 1, 4 to 7; 11: not twelve words of alphas, or a point that is not of its rows' length; 15: too little
+// room.
+pub fn build_m_combo(
+    out: &mut [u64],
+    scratch: &mut [u64],
+    m: usize,
+    sh: Shapes,
+    es: &[Entry],
+    alphas: &[u64],
+    pb: &[u64],
+    pf: &[u64],
+) -> u32
+    ensures { λ r. ⌜ combined r (now (out .exit)) (now (scratch .exit)) ≡ comboOutcome (rulesOver m 1 [] sh (entriesOfRecords (now (es .entry)))) (now (alphas .entry)) (now (pb .entry)) (now (pf .entry)) (now (out .entry)) (now (scratch .entry)) ⌝ }
+{
+    let one = 1;
+    let tb = sh.bin;
+    let tf = sh.fld;
+    let hb = tb.a;
+    let hf = tf.a;
+    let nb = hb.rows;
+    let nf = hf.rows;
+    let z = walks::rules_refusal(m, one, sh, es);
+    let n = core::refusal(
+        z,
+        m,
+        nb,
+        nf,
+        alphas.len(),
+        pb.len(),
+        pf.len(),
+        out.len(),
+        scratch.len(),
+    );
+    fill_unless(n, out, scratch, m, sh, es, alphas, pb, pf)
 }

@@ -1,7 +1,6 @@
 // Above the core: a matrix, or the matrices of a relation, lent as a slice of entry records.
 pub mod check;
 pub mod combo;
-mod login;
 pub mod logins;
 mod masks;
 pub mod ranges;

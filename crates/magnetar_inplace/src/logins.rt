@@ -10,13 +10,13 @@ ghost use Rattle.magnetar_matrix.specs.Matrix.{share, bitUpTo};
 ghost use Rattle.magnetar_inplace.specs.Records.{entryOf};
 ghost use Rattle.magnetar_relation.specs.Steps.{addedTo, loginZ};
 ghost use Rattle.magnetar_inplace.specs.LoginSteps.{inReach, packedBatchTests, clearedBlocks, addedBlocks, addedLogins, packedRoomTests};
-use crate::login;
 use crate::records::Entry;
 use magnetar_field::gf128;
 use magnetar_field::gf128::Gf128;
 use magnetar_layout::tests;
 use magnetar_matrix::step;
 use magnetar_r1cs::r1cs;
+use magnetar_relation::login;
 use magnetar_relation::step as table;
 
 // Carries a flag on where the record's value is 0 or 1 and its column does not exceed w.

@@ -9,7 +9,6 @@ ghost use Rattle.magnetar_r1cs.specs.Flips.{flip};
 ghost use Rattle.magnetar_relation.specs.Steps.{clearedWords};
 ghost use Rattle.magnetar_inplace.specs.Records.{entryOf};
 ghost use Rattle.magnetar_inplace.specs.MaskSteps.{maskOf, lastOf, places, flips, flipped, flippedIn, clearedMasks};
-use crate::login;
 use crate::logins;
 use crate::records::Entry;
 use magnetar_field::sizes;
@@ -17,6 +16,7 @@ use magnetar_field::words;
 use magnetar_layout::tests;
 use magnetar_matrix::step;
 use magnetar_r1cs::r1cs;
+use magnetar_relation::login;
 
 // 2^(log2 q - v).
 pub(crate) fn lows(q: usize, v: usize) -> usize

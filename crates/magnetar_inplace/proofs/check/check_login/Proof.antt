@@ -45,10 +45,11 @@ use denote.Triple.Table.{entered, cited}
 use denote.Triple.Walked.{says, needs, Stays, stay-ref, stay-none, stay-none-ref, stay-slice, stay-none-slice, walkOf, goes-ref, goes-none, goes-none-ref, goes-slice, goes-none-slice, Walks, ends-at, walked, walk-meets}
 use denote.Triple.Clauses.{Lasts, lasts, atExit}
 use denote.Exit.{yes}
-use Rattle.magnetar_inplace.proofs.CheckWalk.{login-ends}
+use Rattle.magnetar_batch.proofs.RowWalk.{login-ends}
 use Rattle.magnetar_inplace.specs.Records.{entriesOfRecords}
 use Rattle.magnetar_field.specs.Words.{elements}
 use Rattle.magnetar_relation.specs.Steps.{loginZ}
+use Rattle.magnetar_inplace.specs.Ranges.{systemIn}
 use Rattle.magnetar_batch.specs.declared.check.Failing.{Failing}
 use Rattle.magnetar_batch.proofs.check.Failing as mFailing
 use Rattle.magnetar_batch.proofs.check.Failing.Laws as lFailing
@@ -231,7 +232,7 @@ module _ {M : Type 1} (𝓤 : URA M) (H : Heap 𝓤) (A : Atoms 𝓤) (W : Given
         fsplit ! $ drop ! $ fsplit ! $ drop ! $ fsplit ! $ drop ! $ fsplit ! $ fsplit ! $ move ! (1 ∷ []) $ feqL ! (λ same5d. move ! (1 ∷ []) $ drop ! $ move ! (1 ∷ []) $ split ! $ move ! (1 ∷ []) $ peeks ! mFailing.the-row (Is mFailing.the-row) (shows 𝓤 H A mFailing.the-row) r5 (z5 ∷ []) (λ i5. drop ! $ land ! (from ! (stop !)) (init ! 43 refl (LL.lawful mFailing.the-type lFailing.the-laws 𝓤 H A W .typed r5 _ i5 .0)) $
         tidy W (_ ∷ _ ∷ _ ∷ _ ∷ _ ∷ _ ∷ _ ∷ _ ∷ _ ∷ _ ∷ _ ∷ _ ∷ _ ∷ _ ∷ _ ∷ _ ∷ _ ∷ _ ∷ _ ∷ _ ∷ _ ∷ _ ∷ _ ∷ _ ∷ _ ∷ _ ∷ _ ∷ _ ∷ _ ∷ _ ∷ _ ∷ _ ∷ _ ∷ _ ∷ _ ∷ _ ∷ _ ∷ _ ∷ _ ∷ _ ∷ _ ∷ _ ∷ _ ∷ _ ∷ []) $ split ! $ move ! (1 ∷ []) $ drop ! $ lft-end ! tt $ move ! (0 ∷ 2 ∷ 1 ∷ []) $ use3 W (later (‵ (O4 (ws5 .1 .1 .1 .0)) ⊛ ‵ (flft κ₀ q₀))) (backs4 (named 0) ν5d δ5d (ws4 .1 .0) (ws5 .1 .1 .1 .0) (same4b ∙ same3b ∙ same2b) room4 same5d) $ await ! tt $ split ! $
         tidy W (_ ∷ _ ∷ _ ∷ _ ∷ _ ∷ _ ∷ _ ∷ _ ∷ _ ∷ _ ∷ _ ∷ _ ∷ _ ∷ _ ∷ _ ∷ _ ∷ _ ∷ _ ∷ _ ∷ _ ∷ _ ∷ _ ∷ _ ∷ _ ∷ _ ∷ _ ∷ _ ∷ _ ∷ _ ∷ _ ∷ _ ∷ _ ∷ _ ∷ _ ∷ _ ∷ _ ∷ _ ∷ _ ∷ _ ∷ _ ∷ _ ∷ _ ∷ _ ∷ []) $ returns ! (look ! 42 refl) $ move ! (17 ∷ []) $ use1 W (dies ((lFailing.mir, l₀) ∷ (lFailing.mir, l₁) ∷ (tyInt w64, l₂) ∷ (tyInt w64, l₃) ∷ (sliceTy (tyRef (named 0) mut (tyInt w64)), l₄) ∷ (tyInt w64, l₅) ∷ (tyInt w64, l₆) ∷ (tyInt w64, l₇) ∷ (tyInt w64, l₈) ∷ (tyInt w64, l₉) ∷ (tyInt w64, l₁₀) ∷ (sliceTy (tyRef (named 1) imm (tyInt w64)), l₁₁) ∷ (sliceTy (tyRef (named 2) imm (tyInt w64)), l₁₂) ∷ (sliceTy (tyRef (named 3) imm (pointee (mEntry.the-row .written))), l₁₃) ∷ (tyInt w64, l₁₄) ∷ (tyInt w64, l₁₅) ∷ (tyUnit, l₁₆) ∷ (tyRef erased mut (tyInt w64), l₁₇) ∷ (sliceTy (tyRef erased mut (tyInt w64)), l₁₈) ∷ (tyRef erased mut (tyInt w64), l₁₉) ∷ (sliceTy (tyRef erased mut (tyInt w64)), l₂₀) ∷ (tyRef erased mut (tyInt w64), l₂₁) ∷ (sliceTy (tyRef erased mut (tyInt w64)), l₂₂) ∷ (tyRef erased mut (tyInt w64), l₂₃) ∷ (sliceTy (tyRef erased mut (tyInt w64)), l₂₄) ∷ []) (‵ ftrue)) die $ free-all ! 17 ((lFailing.mir, l₀) ∷ (lFailing.mir, l₁) ∷ (tyInt w64, l₂) ∷ (tyInt w64, l₃) ∷ (sliceTy (tyRef (named 0) mut (tyInt w64)), l₄) ∷ (tyInt w64, l₅) ∷ (tyInt w64, l₆) ∷ (tyInt w64, l₇) ∷ (tyInt w64, l₈) ∷ (tyInt w64, l₉) ∷ (tyInt w64, l₁₀) ∷ (sliceTy (tyRef (named 1) imm (tyInt w64)), l₁₁) ∷ (sliceTy (tyRef (named 2) imm (tyInt w64)), l₁₂) ∷ (sliceTy (tyRef (named 3) imm (pointee (mEntry.the-row .written))), l₁₃) ∷ (tyInt w64, l₁₄) ∷ (tyInt w64, l₁₅) ∷ (tyUnit, l₁₆) ∷ (tyRef erased mut (tyInt w64), l₁₇) ∷ (sliceTy (tyRef erased mut (tyInt w64)), l₁₈) ∷ (tyRef erased mut (tyInt w64), l₁₉) ∷ (sliceTy (tyRef erased mut (tyInt w64)), l₂₀) ∷ (tyRef erased mut (tyInt w64), l₂₁) ∷ (sliceTy (tyRef erased mut (tyInt w64)), l₂₂) ∷ (tyRef erased mut (tyInt w64), l₂₃) ∷ (sliceTy (tyRef erased mut (tyInt w64)), l₂₄) ∷ []) (kept _ ∷ kept _ ∷ kept _ ∷ kept _ ∷ kept _ ∷ kept _ ∷ kept _ ∷ kept _ ∷ kept _ ∷ kept _ ∷ kept _ ∷ kept _ ∷ kept _ ∷ kept _ ∷ kept _ ∷ kept _ ∷ kept _ ∷ kept _ ∷ kept _ ∷ kept _ ∷ kept _ ∷ kept _ ∷ kept _ ∷ kept _ ∷ kept _ ∷ []) refl $
-        suffices ! _ (ends-at 𝓤 H A f.ended stayed (f.clauses 𝓤 H A at-mem run) W (((κ₀, (κ₁, (κ₂, (κ₃, tt)))), (q₀, (q₁, (q₂, (q₃, tt)))), tt, a, at), tt) z5 r5 (tt, (tt, (tt, (ws5 .1 .1 .1 .0, (tt, (tt, (tt, (tt, (tt, (tt, (tt, (tt, (tt, tt))))))))))))) (tt, (tt, (tt, (same5d ∙ same4b ∙ same3b ∙ same2b, (tt, (tt, (tt, (tt, (tt, (tt, (tt, (tt, (tt, tt)))))))))))))) $ says ! (login-ends n5 (loginZ n10 (s11 .now) (elements (s12 .now)) n3) n6 n7 n8 n9 (entriesOfRecords (s13 .now)) n1 n2 n3 r1 ys4 (ws2 .1 .0) (ws3 .1 .0) (ws4 .1 .0) (ws5 .1 .1 .1 .0) r5 e1 e2 e3 e4 e5) $
+        suffices ! _ (ends-at 𝓤 H A f.ended stayed (f.clauses 𝓤 H A at-mem run) W (((κ₀, (κ₁, (κ₂, (κ₃, tt)))), (q₀, (q₁, (q₂, (q₃, tt)))), tt, a, at), tt) z5 r5 (tt, (tt, (tt, (ws5 .1 .1 .1 .0, (tt, (tt, (tt, (tt, (tt, (tt, (tt, (tt, (tt, tt))))))))))))) (tt, (tt, (tt, (same5d ∙ same4b ∙ same3b ∙ same2b, (tt, (tt, (tt, (tt, (tt, (tt, (tt, (tt, (tt, tt)))))))))))))) $ says ! (login-ends n1 n2 n3 (loginZ n10 (s11 .now) (elements (s12 .now)) n3) (systemIn n5 n6 n7 n8 n9 (entriesOfRecords (s13 .now))) ys4 (ws2 .1 .0) (ws3 .1 .0) (ws4 .1 .0) (ws5 .1 .1 .1 .0) r5 r1 e1 e2 e3 e4 e5) $
         nothing ! $ move ! (5 ∷ 0 ∷ []) $ join ! $ move ! (3 ∷ 0 ∷ []) $ join ! $ move ! (3 ∷ 0 ∷ []) $ join ! $ move ! (2 ∷ 0 ∷ []) $ join ! $ nothing ! $ move ! (5 ∷ 0 ∷ []) $ fjoin ! $ move ! (3 ∷ 0 ∷ []) $ fjoin ! $ move ! (3 ∷ 0 ∷ []) $ fjoin ! $ move ! (3 ∷ 0 ∷ []) $ fjoin ! $ move ! (3 ∷ 0 ∷ []) $ fjoin ! $ move ! (3 ∷ 0 ∷ []) $ fjoin ! $ move ! (3 ∷ 0 ∷ []) $ fjoin ! $ move ! (3 ∷ 0 ∷ []) $ fjoin ! $ move ! (3 ∷ 0 ∷ []) $ fjoin ! $ move ! (2 ∷ 0 ∷ []) $ fjoin ! $ move ! (2 ∷ 0 ∷ []) $ fjoin ! $ move ! (2 ∷ 0 ∷ []) $ fjoin ! $ move ! (2 ∷ 0 ∷ []) $ fjoin ! $ keep ! (1 ∷ 0 ∷ []) $ frame ! $ frame ! $ owned ! mFailing.the-row (Is mFailing.the-row) (LL.makes mFailing.the-type lFailing.the-plain 𝓤 H A) r5 _ i5 $ done !)))))))))))))))))))))))))))))))))))))))))))))))))))))))))))))))
 
 module _ {M : Type 1} (𝓤 : URA M) (H : Heap 𝓤) (A : Atoms 𝓤) (W : Given 𝓤 H A) (mem : Memory → SProp 𝓤) (run : Routine → Fun 𝓤) where

@@ -27,7 +27,7 @@ use Rattle.magnetar_matrix.specs.Matrix.{System}
 use Rattle.magnetar_relation.specs.Steps.{loginZ}
 use Rattle.magnetar_batch.specs.declared.check.Failing.{Failing}
 use Rattle.magnetar_batch.specs.CheckSteps.{Judged, from, loginDone, systemDone}
-use Rattle.magnetar_batch.proofs.WalkLaws.{system-start, system-more}
+use Rattle.magnetar_batch.proofs.RowWalk.{system-start, system-more}
 use Rattle.magnetar_inplace.specs.Records.{entriesOfRecords}
 use Rattle.magnetar_inplace.specs.Ranges.{systemIn}
 
@@ -55,15 +55,15 @@ abbrev next : count.Arg → ℕ → Failing → List ℕ → Judged
 next a i r zs = loginDone (a .1 .0) (loginZ (cols a) (packed a) (public a) i) (system a) i (from r zs)
 
 abbrev Inv : count.Arg → ℕ → List ℕ → Failing → Type 0
-Inv a i zs r = (r ≡ sofar a i .found) × (zs ≡ sofar a i .left)
+Inv a i zs r = from r zs ≡ sofar a i
 
 holds : {M : Type 1} (𝓤 : URA M) (H : Heap 𝓤) (A : Atoms 𝓤) (mem : Memory → SProp 𝓤) (run : Routine → Fun 𝓤) → count.Holds 𝓤 (f.clauses 𝓤 H A mem run) (g.clauses 𝓤 H A mem run) Inv
 holds 𝓤 H A mem run = record {
   ghost = λ κs x. tt;
   begins = λ κs a t. factI 𝓤 _ _ (system-start (a .1 .0) (cols a) (packed a) (public a) (system a) (start a));
   asks = λ κs a δ zs r i l h inv. id⊢ 𝓤 (emp 𝓤);
-  tells = λ κs a δ zs r i l h inv zs′ r′. fact-use 𝓤 ((r′ ≡ next a i r zs .found) × (zs′ ≡ next a i r zs .left)) (id⊢ 𝓤 _)
-      (λ said. factI 𝓤 _ _ (system-more (a .1 .0) (cols a) (packed a) (public a) (system a) i (start a) r r′ zs zs′ inv said));
+  tells = λ κs a δ zs r i l h inv zs′ r′. fact-use 𝓤 (from r′ zs′ ≡ next a i r zs) (id⊢ 𝓤 _)
+      (λ said. factI 𝓤 _ _ (system-more (a .1 .0) (cols a) (packed a) (public a) (system a) i (start a) (from r zs) (from r′ zs′) inv said));
   ends = λ κs a t zs r l inv. factI 𝓤 _ _ inv;
 }
 

@@ -45,7 +45,7 @@ use denote.Triple.Table.{entered, cited}
 use denote.Triple.Walked.{says, needs, Stays, stay-ref, stay-none, stay-none-ref, stay-slice, stay-none-slice, walkOf, goes-ref, goes-none, goes-none-ref, goes-slice, goes-none-slice, Walks, ends-at, walked, walk-meets}
 use denote.Triple.Clauses.{Lasts, lasts, atExit}
 use denote.Exit.{yes}
-use Rattle.magnetar_batch.proofs.WalkLaws.{unless-some, unless-none}
+use Rattle.magnetar_batch.proofs.RowWalk.{unless-some, unless-none}
 use Rattle.magnetar_inplace.specs.Records.{entriesOfRecords}
 use Rattle.magnetar_field.specs.Words.{elements}
 use Rattle.magnetar_relation.specs.Steps.{loginZ}

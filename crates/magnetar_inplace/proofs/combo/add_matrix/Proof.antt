@@ -52,10 +52,10 @@ use Rattle.magnetar_inplace.proofs.records.Entry as mEntry
 use Rattle.magnetar_inplace.proofs.records.Entry.Laws as lEntry
 use Rattle.magnetar_transcript.proofs.Locals.{tidy, bare, kept, dies, alloc, hide, free-all}
 use Rattle.magnetar_transcript.proofs.Again.{LentAgain, lends-again, comes-back}
-use Rattle.magnetar_batch.proofs.combo.eq_behind as g1
-use Rattle.magnetar_batch.proofs.combo.eq_behind.Symbol as g1-def
-use Rattle.magnetar_batch.proofs.combo.eq_behind.Symbol.{name as #g1}
-use Rattle.magnetar_batch.proofs.combo.eq_behind.Met as g1-thm
+use Rattle.magnetar_batch.proofs.table.eq_behind as g1
+use Rattle.magnetar_batch.proofs.table.eq_behind.Symbol as g1-def
+use Rattle.magnetar_batch.proofs.table.eq_behind.Symbol.{name as #g1}
+use Rattle.magnetar_batch.proofs.table.eq_behind.Met as g1-thm
 use Rattle.magnetar_inplace.proofs.walks.add_columns as g2
 use Rattle.magnetar_inplace.proofs.walks.add_columns.Symbol as g2-def
 use Rattle.magnetar_inplace.proofs.walks.add_columns.Symbol.{name as #g2}
@@ -193,5 +193,5 @@ add-matrix-spec 𝓤 H 𝓜 𝓖 𝓡 =
     entered 𝓤 H (tripleOf 𝓤 H (𝓖 .A) f.signature (f.spec 𝓤 H (𝓖 .A) (𝓜 .mem) (𝓡 .run)))
     (tables 𝓤 H 𝓜 𝓡 code.env .C) (tables 𝓤 H 𝓜 𝓡 code.env .Λ) #f code.function (code.unfolded 𝓤 H 𝓜 𝓡)
     (meets 𝓤 H (𝓖 .A) (givenOf 𝓤 H 𝓜 𝓖) (𝓜 .mem) (𝓡 .run) (tablesOf 𝓤 H 𝓜 (tables 𝓤 H 𝓜 𝓡 code.env))
-    (cited 𝓤 H (Callee-g1 𝓤 H (𝓖 .A) (𝓜 .mem) (𝓡 .run)) 𝓜 𝓡 code.env #g1 g1-def.routine code.calls-magnetar-batch·combo·eq-behind (g1-thm.met 𝓤 H 𝓜 𝓖 𝓡))
+    (cited 𝓤 H (Callee-g1 𝓤 H (𝓖 .A) (𝓜 .mem) (𝓡 .run)) 𝓜 𝓡 code.env #g1 g1-def.routine code.calls-magnetar-batch·table·eq-behind (g1-thm.met 𝓤 H 𝓜 𝓖 𝓡))
     (cited 𝓤 H (Callee-g2 𝓤 H (𝓖 .A) (𝓜 .mem) (𝓡 .run)) 𝓜 𝓡 code.env #g2 g2-def.routine code.calls-magnetar-inplace·walks·add-columns (g2-thm.met 𝓤 H 𝓜 𝓖 𝓡)))

@@ -77,10 +77,10 @@ use Rattle.magnetar_inplace.proofs.combo.add_system as g3
 use Rattle.magnetar_inplace.proofs.combo.add_system.Symbol as g3-def
 use Rattle.magnetar_inplace.proofs.combo.add_system.Symbol.{name as #g3}
 use Rattle.magnetar_inplace.proofs.combo.add_system.Met as g3-thm
-use Rattle.magnetar_batch.proofs.combo.clear_behind as g4
-use Rattle.magnetar_batch.proofs.combo.clear_behind.Symbol as g4-def
-use Rattle.magnetar_batch.proofs.combo.clear_behind.Symbol.{name as #g4}
-use Rattle.magnetar_batch.proofs.combo.clear_behind.Met as g4-thm
+use Rattle.magnetar_batch.proofs.table.clear_behind as g4
+use Rattle.magnetar_batch.proofs.table.clear_behind.Symbol as g4-def
+use Rattle.magnetar_batch.proofs.table.clear_behind.Symbol.{name as #g4}
+use Rattle.magnetar_batch.proofs.table.clear_behind.Met as g4-thm
 use Rattle.magnetar_inplace.proofs.combo.combine.Key.{name as #f}
 use Rattle.magnetar_inplace.proofs.combo.combine as f
 use Rattle.magnetar_inplace.proofs.combo.combine.Statement as stated
@@ -262,4 +262,4 @@ combine-spec 𝓤 H 𝓜 𝓖 𝓡 =
     (cited 𝓤 H (Callee-g1 𝓤 H (𝓖 .A) (𝓜 .mem) (𝓡 .run)) 𝓜 𝓡 code.env #g1 g1-def.routine code.calls-magnetar-inplace·ranges·ends-of (g1-thm.met 𝓤 H 𝓜 𝓖 𝓡))
     (cited 𝓤 H (Callee-g2 𝓤 H (𝓖 .A) (𝓜 .mem) (𝓡 .run)) 𝓜 𝓡 code.env #g2 g2-def.routine code.calls-magnetar-relation·step·clear-front (g2-thm.met 𝓤 H 𝓜 𝓖 𝓡))
     (cited 𝓤 H (Callee-g3 𝓤 H (𝓖 .A) (𝓜 .mem) (𝓡 .run)) 𝓜 𝓡 code.env #g3 g3-def.routine code.calls-magnetar-inplace·combo·add-system (g3-thm.met 𝓤 H 𝓜 𝓖 𝓡))
-    (cited 𝓤 H (Callee-g4 𝓤 H (𝓖 .A) (𝓜 .mem) (𝓡 .run)) 𝓜 𝓡 code.env #g4 g4-def.routine code.calls-magnetar-batch·combo·clear-behind (g4-thm.met 𝓤 H 𝓜 𝓖 𝓡)))
+    (cited 𝓤 H (Callee-g4 𝓤 H (𝓖 .A) (𝓜 .mem) (𝓡 .run)) 𝓜 𝓡 code.env #g4 g4-def.routine code.calls-magnetar-batch·table·clear-behind (g4-thm.met 𝓤 H 𝓜 𝓖 𝓡)))

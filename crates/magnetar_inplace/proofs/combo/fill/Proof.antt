@@ -53,22 +53,22 @@ use Rattle.magnetar_inplace.proofs.records.Entry as mEntry
 use Rattle.magnetar_inplace.proofs.records.Entry.Laws as lEntry
 use Rattle.magnetar_transcript.proofs.Locals.{tidy, bare, kept, dies, alloc, hide, free-all}
 use Rattle.magnetar_transcript.proofs.Again.{LentAgain, lends-again, comes-back}
-use Rattle.magnetar_batch.proofs.combo.alphas12 as g1
-use Rattle.magnetar_batch.proofs.combo.alphas12.Symbol as g1-def
-use Rattle.magnetar_batch.proofs.combo.alphas12.Symbol.{name as #g1}
-use Rattle.magnetar_batch.proofs.combo.alphas12.Met as g1-thm
-use Rattle.magnetar_batch.proofs.combo.point32 as g2
-use Rattle.magnetar_batch.proofs.combo.point32.Symbol as g2-def
-use Rattle.magnetar_batch.proofs.combo.point32.Symbol.{name as #g2}
-use Rattle.magnetar_batch.proofs.combo.point32.Met as g2-thm
+use Rattle.magnetar_batch.proofs.table.alphas12 as g1
+use Rattle.magnetar_batch.proofs.table.alphas12.Symbol as g1-def
+use Rattle.magnetar_batch.proofs.table.alphas12.Symbol.{name as #g1}
+use Rattle.magnetar_batch.proofs.table.alphas12.Met as g1-thm
+use Rattle.magnetar_batch.proofs.table.point32 as g2
+use Rattle.magnetar_batch.proofs.table.point32.Symbol as g2-def
+use Rattle.magnetar_batch.proofs.table.point32.Symbol.{name as #g2}
+use Rattle.magnetar_batch.proofs.table.point32.Met as g2-thm
 use Rattle.magnetar_inplace.proofs.combo.combine as g3
 use Rattle.magnetar_inplace.proofs.combo.combine.Symbol as g3-def
 use Rattle.magnetar_inplace.proofs.combo.combine.Symbol.{name as #g3}
 use Rattle.magnetar_inplace.proofs.combo.combine.Met as g3-thm
-use Rattle.magnetar_batch.proofs.combo.move_table as g4
-use Rattle.magnetar_batch.proofs.combo.move_table.Symbol as g4-def
-use Rattle.magnetar_batch.proofs.combo.move_table.Symbol.{name as #g4}
-use Rattle.magnetar_batch.proofs.combo.move_table.Met as g4-thm
+use Rattle.magnetar_batch.proofs.table.move_table as g4
+use Rattle.magnetar_batch.proofs.table.move_table.Symbol as g4-def
+use Rattle.magnetar_batch.proofs.table.move_table.Symbol.{name as #g4}
+use Rattle.magnetar_batch.proofs.table.move_table.Met as g4-thm
 use Rattle.magnetar_inplace.proofs.combo.fill.Key.{name as #f}
 use Rattle.magnetar_inplace.proofs.combo.fill as f
 use Rattle.magnetar_inplace.proofs.combo.fill.Statement as stated
@@ -254,7 +254,7 @@ fill-spec 𝓤 H 𝓜 𝓖 𝓡 =
     entered 𝓤 H (tripleOf 𝓤 H (𝓖 .A) f.signature (f.spec 𝓤 H (𝓖 .A) (𝓜 .mem) (𝓡 .run)))
     (tables 𝓤 H 𝓜 𝓡 code.env .C) (tables 𝓤 H 𝓜 𝓡 code.env .Λ) #f code.function (code.unfolded 𝓤 H 𝓜 𝓡)
     (meets 𝓤 H (𝓖 .A) (givenOf 𝓤 H 𝓜 𝓖) (𝓜 .mem) (𝓡 .run) (tablesOf 𝓤 H 𝓜 (tables 𝓤 H 𝓜 𝓡 code.env))
-    (cited 𝓤 H (Callee-g1 𝓤 H (𝓖 .A) (𝓜 .mem) (𝓡 .run)) 𝓜 𝓡 code.env #g1 g1-def.routine code.calls-magnetar-batch·combo·alphas12 (g1-thm.met 𝓤 H 𝓜 𝓖 𝓡))
-    (cited 𝓤 H (Callee-g2 𝓤 H (𝓖 .A) (𝓜 .mem) (𝓡 .run)) 𝓜 𝓡 code.env #g2 g2-def.routine code.calls-magnetar-batch·combo·point32 (g2-thm.met 𝓤 H 𝓜 𝓖 𝓡))
+    (cited 𝓤 H (Callee-g1 𝓤 H (𝓖 .A) (𝓜 .mem) (𝓡 .run)) 𝓜 𝓡 code.env #g1 g1-def.routine code.calls-magnetar-batch·table·alphas12 (g1-thm.met 𝓤 H 𝓜 𝓖 𝓡))
+    (cited 𝓤 H (Callee-g2 𝓤 H (𝓖 .A) (𝓜 .mem) (𝓡 .run)) 𝓜 𝓡 code.env #g2 g2-def.routine code.calls-magnetar-batch·table·point32 (g2-thm.met 𝓤 H 𝓜 𝓖 𝓡))
     (cited 𝓤 H (Callee-g3 𝓤 H (𝓖 .A) (𝓜 .mem) (𝓡 .run)) 𝓜 𝓡 code.env #g3 g3-def.routine code.calls-magnetar-inplace·combo·combine (g3-thm.met 𝓤 H 𝓜 𝓖 𝓡))
-    (cited 𝓤 H (Callee-g4 𝓤 H (𝓖 .A) (𝓜 .mem) (𝓡 .run)) 𝓜 𝓡 code.env #g4 g4-def.routine code.calls-magnetar-batch·combo·move-table (g4-thm.met 𝓤 H 𝓜 𝓖 𝓡)))
+    (cited 𝓤 H (Callee-g4 𝓤 H (𝓖 .A) (𝓜 .mem) (𝓡 .run)) 𝓜 𝓡 code.env #g4 g4-def.routine code.calls-magnetar-batch·table·move-table (g4-thm.met 𝓤 H 𝓜 𝓖 𝓡)))

@@ -48,7 +48,7 @@ same-length c = search needs
 
 returns : tie.Need-returns
 returns c = let x = c .before .before .before .before .before .before .before .before .before .args in
-    drawn-both-times (now (x .draws)) (c .before .before .before .before .before .before .tau .last .1 .0) (c .before .before .tau2 .last .1 .0) (x .t) (c .before .before .before .before .before .before .tau .result) (c .before .before .tau2 .result) (ascii "vs-tau") (ascii "vs-tau") (x .sb) (x .sf) (omega arith) (c .before .before .before .before .before .before .tau .ensures .0) (c .before .before .before .before .before .before .tau .ensures .1) (c .before .before .tau2 .ensures .0) (c .before .before .tau2 .ensures .1)
+    drawn-both-times (now (x .draws)) (c .before .before .before .before .before .before .tau .last .1 .0) (c .before .before .tau2 .last .1 .0) (x .t) (c .before .before .before .before .before .before .tau .result) (c .before .before .tau2 .result) (ascii "vs-tau-bin") (ascii "vs-tau-fld") (x .sb) (x .sf) (omega arith) (c .before .before .before .before .before .before .tau .ensures .0) (c .before .before .before .before .before .before .tau .ensures .1) (c .before .before .tau2 .ensures .0) (c .before .before .tau2 .ensures .1)
 
 pub taus-spec : {M : Type 1} → statement M
 taus-spec =
