@@ -124,16 +124,8 @@ thin lent::challenge_field_vec --final '(cc, cc, cc)'
 thin lent::is_binary --requires 'n4 ≤ 32' --part pre
 for g in apply eval_mle_table eval_mle_at apply_simd_packed; do thin lent::$g --requires 'n4 ≤ 32' --part pre --final e1; done
 
-# magnetar_records: the combined table and the verifier
+# magnetar_records: the verifier
 crate magnetar_records
-each EachNNM NNM
-thin combo::add_matrix
-thin combo::combine
-thin combo::fill --final '(cc, cc)'
-thin combo::fill_unless --final '(refl, rw (← e1, b1) (e2 .0), rw (← e1, b1) (e2 .1))' --final '(refl, rw (← e1, b1) refl, rw (← e1, b1) refl)'
-thin combo::refused --use "$ends.ComboEnds.{combo-refused}" --final "combo-refused $(six 2) n1 (s20 .now) (s21 .now) (s22 .now) n23 n24 r1 r2 e1 e2"
-thin combo::build_m_combo --use "$ends.ComboEnds.{combo-ends}" \
-  --final "combo-ends $(six 4) n3 (s22 .now) (s23 .now) (s24 .now) ys1 ys2 r1 e1 r2 (ws2 .1 .0) (ws2 .1 .1 .0) e2"
 thin virtual_spartan::combine_at
 thin virtual_spartan::combine
 thin virtual_spartan::verify_in --use "$ends.StageLaws.{run-left}" \

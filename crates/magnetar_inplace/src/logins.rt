@@ -135,19 +135,11 @@ pub(crate) fn packed_refusal(
 ) -> u32
     ensures { λ r. ⌜ r ≡ noted 0 (packedBatchTests rows cols n inside p x q w ++ packedRoomTests q rows out) ⌝ }
 {
-    let z = tests::note(0, 1, !tests::is_half(w));
-    let z = tests::note(z, 1, !tests::is_size(1, 4096, q));
+    let z = r1cs::logins_refusal(p, x, q, w, rows);
     if z != 0 {
         return z;
     }
-    let z = tests::note(0, 2, p != q * r1cs::login_words(w));
-    let z = tests::note(z, 3, x != 2 * w - 2);
-    let z = tests::note(z, 4, !tests::is_size(1, 65536, rows));
-    if z != 0 {
-        return z;
-    }
-    let z = tests::note(0, 4, q * rows > 1048576);
-    let z = tests::note(z, 5, cols != 2 * w);
+    let z = tests::note(0, 5, cols != 2 * w);
     let z = tests::counts(z, n, n, n, n);
     let z = tests::note(z, 7, !inside);
     tests::note(z, 15, out < q * (2 * rows))

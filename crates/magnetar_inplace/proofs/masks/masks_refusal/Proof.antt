@@ -52,7 +52,9 @@ small c =
     record { half = omega (arith, z .high); least = not-bad (k .1 .0) .low; logins = not-bad (k .1 .0) .high }
 
 rows-most : (c : tie.Else2) → c .before .before .before .before .before .before .before .before .before .before .args .rows ≤ 65536
-rows-most c = not-bad (noted-clear 0 (second (c .before .before .before .before .before .before .before .before .before .before)) refl (sym (middle (c .before)) ∙ c .if2 .left) .1 .1 .0) .high
+rows-most c =
+    let s = c .before .before .before .before .before .before .before .before .before .before in
+    not-bad (noted-clear 0 (second s) refl (sym (middle (c .before)) ∙ c .if2 .left) .1 .1 .0) .high
 
 is-half-requires : tie.Need-is-half-requires
 is-half-requires c κs = search needs
@@ -67,13 +69,16 @@ note-requires-2 : tie.Need-note-requires-2
 note-requires-2 c κs = search needs
 
 returns : tie.Need-returns
-returns c = noted-front (first (c .before .before .before .before .before)) (second (c .before .before .before .before .before) ++ third (c .before .before .before .before .before)) _ (early (c .before)) (c .if1 .taken)
+returns c = let s = c .before .before .before .before .before in noted-front (first s) (second s ++ third s) _ (early (c .before)) (c .if1 .taken)
 
 login-words-requires : tie.Need-login-words-requires
 login-words-requires c κs = search needs
 
 mul-note : tie.Need-mul-note
-mul-note c = omega (arith, product-most (c .before .before .before .before .before .before .args .q) (c .login-words .result) (small (c .before) .logins) (rw (c .login-words .ensures) (words-most _ (small (c .before) .half))))
+mul-note c =
+    let k = small (c .before) in
+    let q = c .before .before .before .before .before .before .args .q in
+    omega (arith, product-most q (c .login-words .result) (k .logins) (rw (c .login-words .ensures) (words-most _ (k .half))))
 
 note-requires-3 : tie.Need-note-requires-3
 note-requires-3 c κs = search needs
@@ -86,11 +91,14 @@ note-requires-4 c κs = search needs
 
 returns-2 : tie.Need-returns-2
 returns-2 c =
-    noted-late (first (c .before .before .before .before .before .before .before .before .before .before)) (second (c .before .before .before .before .before .before .before .before .before .before) ++ third (c .before .before .before .before .before .before .before .before .before .before)) _ _ (early (c .before .before .before .before .before .before)) (c .before .before .before .before .before .if1 .left)
-    (noted-front (second (c .before .before .before .before .before .before .before .before .before .before)) (third (c .before .before .before .before .before .before .before .before .before .before)) _ (middle (c .before)) (c .if2 .taken))
+    let s = c .before .before .before .before .before .before .before .before .before .before in
+    noted-late (first s) (second s ++ third s) _ _ (early (c .before .before .before .before .before .before)) (c .before .before .before .before .before .if1 .left)
+    (noted-front (second s) (third s) _ (middle (c .before)) (c .if2 .taken))
 
 mul-note-2 : tie.Need-mul-note-2
-mul-note-2 c = omega (arith, product-fits (c .before .before .before .before .before .before .before .before .before .before .args .q) (c .before .before .before .before .before .before .before .before .before .before .args .rows) (small (c .before .before .before .before .before) .logins) (omega (arith, rows-most c)))
+mul-note-2 c =
+    let x = c .before .before .before .before .before .before .before .before .before .before .args in
+    omega (arith, product-fits (x .q) (x .rows) (small (c .before .before .before .before .before) .logins) (omega (arith, rows-most c)))
 
 note-requires-5 : tie.Need-note-requires-5
 note-requires-5 c κs = search needs
@@ -111,8 +119,10 @@ last-tests-requires c κs =
 
 returns-3 : tie.Need-returns-3
 returns-3 c =
-    noted-late (first (c .before .before .before .before .before .before .before .before .before .before .before .before .before .before)) (second (c .before .before .before .before .before .before .before .before .before .before .before .before .before .before) ++ third (c .before .before .before .before .before .before .before .before .before .before .before .before .before .before)) _ _ (early (c .before .before .before .before .before .before .before .before .before .before)) (c .before .before .before .before .before .before .before .before .before .if1 .left)
-    (noted-late (second (c .before .before .before .before .before .before .before .before .before .before .before .before .before .before)) (third (c .before .before .before .before .before .before .before .before .before .before .before .before .before .before)) _ _ (middle (c .before .before .before .before .before)) (c .before .before .before .before .if2 .left) (late c))
+    let d = c .before .before .before .before .before .before .before .before .before in
+    let s = d .before .before .before .before .before in
+    noted-late (first s) (second s ++ third s) _ _ (early (d .before)) (d .if1 .left)
+    (noted-late (second s) (third s) _ _ (middle (c .before .before .before .before .before)) (c .before .before .before .before .if2 .left) (late c))
 
 pub masks-refusal-spec : {M : Type 1} → statement M
 masks-refusal-spec =

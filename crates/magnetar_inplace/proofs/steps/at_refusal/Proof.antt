@@ -68,7 +68,9 @@ note-requires-3 c κs = search needs
 returns-2 : tie.Need-returns-2
 returns-2 c =
     let x = c .before .before .before .before .before .before .before .args in
-    noted-late (loneOf (x .rows) (x .cols) (x .n) (x .inside)) (atTests (x .rows) (x .cols) (x .r) (x .c) (x .s)) _ _ (c .before .before .before .before .before .before .lone .ensures) (c .before .before .before .before .before .if1 .left) (rw (c .note3 .ensures, c .before .note2 .ensures, c .before .before .log22 .ensures, c .before .before .before .note .ensures, c .before .before .before .before .log2 .ensures))
+    let d = c .before .before .before .before in
+    noted-late (loneOf (x .rows) (x .cols) (x .n) (x .inside)) (atTests (x .rows) (x .cols) (x .r) (x .c) (x .s)) _ _ (d .before .before .lone .ensures)
+    (d .before .if1 .left) (rw (c .note3 .ensures, c .before .note2 .ensures, c .before .before .log22 .ensures, c .before .before .before .note .ensures, d .log2 .ensures))
 
 pub at-refusal-spec : {M : Type 1} → statement M
 at-refusal-spec =
