@@ -26,7 +26,7 @@ enum {
     MAGNETAR_PUBLIC = 3,          /* the public words are not m - 2 */
     MAGNETAR_ROWS = 4,            /* rows no power of two from 1 to 65,536, unequal within a system, or q times rows over 2^20 */
     MAGNETAR_COLUMNS = 5,         /* a matrix whose columns are not m */
-    MAGNETAR_ENTRIES = 6,         /* over 1,048,576 entries in a matrix, or its number slices are of unequal length */
+    MAGNETAR_ENTRIES = 6,         /* over 1,048,576 entries in a matrix, slices of unequal length, or counts that don't add up to it */
     MAGNETAR_OUTSIDE = 7,         /* an entry outside its matrix */
     MAGNETAR_SEGMENT = 8,         /* a segment's length is zero, no power of two, or over m / 2 */
     MAGNETAR_LAYOUT = 9,          /* the layout ends past m / 2 */
@@ -130,15 +130,21 @@ magnetar_answer magnetar_absorb_field(magnetar_transcript t, const uint8_t *labe
 /* An element is drawn under a label. 14: the counter is 2^32 or more. */
 magnetar_draw magnetar_challenge_field(magnetar_transcript t, const uint8_t *label, size_t label_len);
 
-/* ---- A batch of q logins under the rules of two systems, bin and fld. The rules are six matrices: A, B, C of bin are ab, bb, cb, those
- * of fld af, bf, cf. Entry i of a matrix has the row row[i], the column col[i] and the value of the words lo[i] and hi[i]; entries at one
- * place add up. x holds the words of the public elements. */
+/* ---- A batch of q logins under the rules of two systems, bin and fld. The rules are six matrices, A, B, C of each: their shapes, and
+ * their entries one behind the other in four slices, those of A, B, C of bin and then those of A, B, C of fld. Entry i has the row row[i],
+ * the column col[i] and the value of the words lo[i] and hi[i]; entries at one place add up. x holds the words of the public elements. */
 
-#define MAGNETAR_MATRIX_(p) \
-    size_t p##rows, size_t p##cols, const size_t *p##row, size_t p##row_len, const size_t *p##col, size_t p##col_len, \
-        const uint64_t *p##lo, size_t p##lo_len, const uint64_t *p##hi, size_t p##hi_len
-#define MAGNETAR_MATRICES_ \
-    MAGNETAR_MATRIX_(ab), MAGNETAR_MATRIX_(bb), MAGNETAR_MATRIX_(cb), MAGNETAR_MATRIX_(af), MAGNETAR_MATRIX_(bf), MAGNETAR_MATRIX_(cf)
+typedef struct {
+    size_t rows, cols, entries;
+} magnetar_shape;
+
+typedef struct {
+    magnetar_shape a, b, c;
+} magnetar_system_shape;
+
+typedef struct {
+    magnetar_system_shape bin, fld;
+} magnetar_shapes;
 
 /* Whether a batch keeps the rules, in plain: for each login z is its bits, a 1 and the public elements, and a row holds where the
  * product of A z and B z is C z. Words of a login are two for each 128 columns, the lowest bit that of column 0; bits past the columns
@@ -151,47 +157,43 @@ typedef struct {
 } magnetar_row_verdict;
 
 magnetar_row_verdict magnetar_row_check(
-    uint64_t *scratch, size_t scratch_len, size_t m, size_t q, MAGNETAR_MATRICES_, const uint64_t *packed, size_t packed_len,
-    const uint64_t *x, size_t x_len);
+    uint64_t *scratch, size_t scratch_len, size_t m, size_t q, magnetar_shapes shapes, const size_t *row, size_t row_len,
+    const size_t *col, size_t col_len, const uint64_t *lo, size_t lo_len, const uint64_t *hi, size_t hi_len,
+    const uint64_t *packed, size_t packed_len, const uint64_t *x, size_t x_len);
 
 /* Proves a batch, whether it is good or not, and gives the claims: the shared challenges, those of the columns but the last, and a value
  * for each segment. Refuses 1 to 10, 14 and 15. */
 magnetar_answer magnetar_prove_virtual_spartan(
     uint64_t *proof, size_t proof_len, uint64_t *claims, size_t claims_len, uint64_t *scratch, size_t scratch_len,
-    size_t m, size_t q, const size_t *lens, size_t lens_len, MAGNETAR_MATRICES_, const uint64_t *packed, size_t packed_len,
-    const uint64_t *x, size_t x_len, magnetar_transcript t);
+    size_t m, size_t q, const size_t *lens, size_t lens_len, magnetar_shapes shapes, const size_t *row, size_t row_len,
+    const size_t *col, size_t col_len, const uint64_t *lo, size_t lo_len, const uint64_t *hi, size_t hi_len,
+    const uint64_t *packed, size_t packed_len, const uint64_t *x, size_t x_len, magnetar_transcript t);
 
 /* The verdict on a proof, 0 where it is accepted, and then the same claims. Refuses 1, 3 to 10 and 14 to 16, and 21 to 29, after which
  * the scratch is cleared and the transcript has gone on. */
 magnetar_answer magnetar_verify_virtual_spartan(
     uint64_t *claims, size_t claims_len, uint64_t *scratch, size_t scratch_len,
-    size_t m, size_t q, const size_t *lens, size_t lens_len, MAGNETAR_MATRICES_, const uint64_t *x, size_t x_len,
-    const uint64_t *proof, size_t proof_len, magnetar_transcript t);
+    size_t m, size_t q, const size_t *lens, size_t lens_len, magnetar_shapes shapes, const size_t *row, size_t row_len,
+    const size_t *col, size_t col_len, const uint64_t *lo, size_t lo_len, const uint64_t *hi, size_t hi_len,
+    const uint64_t *x, size_t x_len, const uint64_t *proof, size_t proof_len, magnetar_transcript t);
 
 /* The same three with the rules in a struct. */
-typedef struct {
-    size_t rows, cols, entries;
-    const size_t *row, *col;
-    const uint64_t *lo, *hi;
-} magnetar_matrix;
-
 typedef struct {
     size_t m, q;
     const size_t *lens; /* of the segments */
     size_t segments;
-    magnetar_matrix matrix[6]; /* A, B, C of bin, then of fld */
+    magnetar_shapes shapes;
+    size_t entries; /* in each of the four slices */
+    const size_t *row, *col;
+    const uint64_t *lo, *hi;
 } magnetar_relation;
 
-#define MAGNETAR_LEND_(a) \
-    (a).rows, (a).cols, (a).row, (a).entries, (a).col, (a).entries, (a).lo, (a).entries, (a).hi, (a).entries
-#define MAGNETAR_LEND_ALL_(r) \
-    MAGNETAR_LEND_((r)->matrix[0]), MAGNETAR_LEND_((r)->matrix[1]), MAGNETAR_LEND_((r)->matrix[2]), \
-        MAGNETAR_LEND_((r)->matrix[3]), MAGNETAR_LEND_((r)->matrix[4]), MAGNETAR_LEND_((r)->matrix[5])
+#define MAGNETAR_LEND_(r) (r)->shapes, (r)->row, (r)->entries, (r)->col, (r)->entries, (r)->lo, (r)->entries, (r)->hi, (r)->entries
 
 static inline magnetar_row_verdict magnetar_check(const magnetar_relation *r, const uint64_t *packed, size_t packed_len,
                                                   const uint64_t *x, size_t x_len, uint64_t *scratch, size_t scratch_len)
 {
-    return magnetar_row_check(scratch, scratch_len, r->m, r->q, MAGNETAR_LEND_ALL_(r), packed, packed_len, x, x_len);
+    return magnetar_row_check(scratch, scratch_len, r->m, r->q, MAGNETAR_LEND_(r), packed, packed_len, x, x_len);
 }
 
 static inline magnetar_answer magnetar_prove(const magnetar_relation *r, const uint64_t *packed, size_t packed_len, const uint64_t *x,
@@ -199,7 +201,7 @@ static inline magnetar_answer magnetar_prove(const magnetar_relation *r, const u
                                              size_t claims_len, uint64_t *scratch, size_t scratch_len)
 {
     return magnetar_prove_virtual_spartan(proof, proof_len, claims, claims_len, scratch, scratch_len, r->m, r->q, r->lens, r->segments,
-                                          MAGNETAR_LEND_ALL_(r), packed, packed_len, x, x_len, t);
+                                          MAGNETAR_LEND_(r), packed, packed_len, x, x_len, t);
 }
 
 static inline magnetar_answer magnetar_verify(const magnetar_relation *r, const uint64_t *x, size_t x_len, const uint64_t *proof,
@@ -207,7 +209,37 @@ static inline magnetar_answer magnetar_verify(const magnetar_relation *r, const 
                                               uint64_t *scratch, size_t scratch_len)
 {
     return magnetar_verify_virtual_spartan(claims, claims_len, scratch, scratch_len, r->m, r->q, r->lens, r->segments,
-                                           MAGNETAR_LEND_ALL_(r), x, x_len, proof, proof_len, t);
+                                           MAGNETAR_LEND_(r), x, x_len, proof, proof_len, t);
+}
+
+/* Rules that are at hand as six matrices, A, B, C of bin, then of fld: copies their entries one behind the other into row, col, lo and hi,
+ * each with room for all of them, and sets the shapes, the slices and the number of entries of r. */
+typedef struct {
+    size_t rows, cols, entries;
+    const size_t *row, *col;
+    const uint64_t *lo, *hi;
+} magnetar_matrix;
+
+static inline void magnetar_join(magnetar_relation *r, const magnetar_matrix matrix[6], size_t *row, size_t *col, uint64_t *lo, uint64_t *hi)
+{
+    magnetar_shape *shape[6] = {&r->shapes.bin.a, &r->shapes.bin.b, &r->shapes.bin.c, &r->shapes.fld.a, &r->shapes.fld.b, &r->shapes.fld.c};
+    size_t n = 0;
+    for (size_t k = 0; k < 6; k++) {
+        shape[k]->rows = matrix[k].rows;
+        shape[k]->cols = matrix[k].cols;
+        shape[k]->entries = matrix[k].entries;
+        for (size_t i = 0; i < matrix[k].entries; i++, n++) {
+            row[n] = matrix[k].row[i];
+            col[n] = matrix[k].col[i];
+            lo[n] = matrix[k].lo[i];
+            hi[n] = matrix[k].hi[i];
+        }
+    }
+    r->entries = n;
+    r->row = row;
+    r->col = col;
+    r->lo = lo;
+    r->hi = hi;
 }
 
 #ifdef __cplusplus

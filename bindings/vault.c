@@ -16,22 +16,27 @@ static const size_t rules[] = {
 #include "vault.rules"
 };
 
-enum { RULES = sizeof rules / sizeof rules[0] };
+enum { RULES = sizeof rules / sizeof rules[0] / 4 };
 
-static size_t row[6][RULES], col[6][RULES], lens[SEGMENTS] = {8, 4, 8};
-static uint64_t lo[6][RULES], hi[6][RULES], scratch[SCRATCH];
+static size_t row[RULES], col[RULES], lens[SEGMENTS] = {8, 4, 8};
+static uint64_t lo[RULES], hi[RULES], scratch[SCRATCH];
 
+/* The rules sorted by their matrix, and then joined. */
 static magnetar_relation relation(void)
 {
-    magnetar_relation r = {M, Q, lens, SEGMENTS, {{0, 0, 0, 0, 0, 0, 0}}};
+    static size_t rows[6][RULES], cols[6][RULES];
+    static uint64_t values[6][RULES], zeros[RULES];
+    magnetar_matrix matrix[6];
     for (size_t k = 0; k < 6; k++)
-        r.matrix[k] = (magnetar_matrix){k < 3 ? BIN : FLD, M, 0, row[k], col[k], lo[k], hi[k]};
-    for (size_t i = 0; i < RULES; i += 4) {
-        size_t k = rules[i], n = r.matrix[k].entries++;
-        row[k][n] = rules[i + 1];
-        col[k][n] = rules[i + 2];
-        lo[k][n] = rules[i + 3];
+        matrix[k] = (magnetar_matrix){k < 3 ? BIN : FLD, M, 0, rows[k], cols[k], values[k], zeros};
+    for (size_t i = 0; i < RULES; i++) {
+        const size_t *rule = rules + 4 * i, k = rule[0], n = matrix[k].entries++;
+        rows[k][n] = rule[1];
+        cols[k][n] = rule[2];
+        values[k][n] = rule[3];
     }
+    magnetar_relation r = {.m = M, .q = Q, .lens = lens, .segments = SEGMENTS};
+    magnetar_join(&r, matrix, row, col, lo, hi);
     return r;
 }
 
@@ -124,6 +129,9 @@ int main(int argc, char **argv)
     printf(" %u", magnetar_verify(&r, x, PUBLIC - 2, proof, PROOF, t, claims, CLAIMS, scratch, SCRATCH).code);
     printf(" %u", magnetar_prove(&r, good, PACKED - 2, x, PUBLIC, t, proof, PROOF, claims, CLAIMS, scratch, SCRATCH).code);
     r.q = 3;
+    printf(" %u", magnetar_prove(&r, good, PACKED, x, PUBLIC, t, proof, PROOF, claims, CLAIMS, scratch, SCRATCH).code);
+    r.q = Q;
+    r.shapes.fld.c.entries++; /* one more than there are */
     printf(" %u\n", magnetar_prove(&r, good, PACKED, x, PUBLIC, t, proof, PROOF, claims, CLAIMS, scratch, SCRATCH).code);
     return 0;
 }

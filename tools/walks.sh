@@ -156,15 +156,10 @@ thin virtual_spartan::prove --use "$ends.EntryEnds.{prove-ends}" \
   --final "prove-ends $(six 7) n4 n5 (s6 .now) (s25 .now) (s26 .now) n27 ys1 ys2 ys3 r1 e1 r2 (ws2 .1 .0) (ws2 .1 .1 .0) (ws2 .1 .1 .1 .0) r3 e2 e3"
 thin virtual_spartan::prove_virtual_spartan --final e1
 
-# magnetar_arrays, magnetar_arrays_prover: arrays of records lent. three F FINAL: F lends three of six and calls F_in, which lends the others
-three() { thin ${1}_in --final "$2"; thin $1 --final e1; }
-crate magnetar_arrays
-thin lent::masks --final e1
-three lent::combined e1
-three lent::verified 'rw (e2 .0, e2 .1) e1'
-three lent::checked e1
-crate magnetar_arrays_prover
-three prover::proved 'rw (e2 .0, e2 .1) e1'
+# magnetar_cases: the first records of an array, and a transcript, lent to the entries over records
+crate magnetar_cases
+for g in masks combo check; do thin lent::$g --part '(e1 .1)' --final 'rw (← (e1 .0)) e2'; done
+for g in verify prove; do thin lent::$g --part '(e1 .1)' --final 'rw (← (e1 .0), e3 .0, e3 .1) e2'; done
 
 # ---- what was written, in the layout, takes the place of what stands there, or is compared with it
 (cd "$new" && rt fmt > said)

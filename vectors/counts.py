@@ -42,10 +42,10 @@ def number(answer):
 
 def found(answers):
     """The number that `checks` found, and how many lines it wrote: a number in the first line ends it, one in the second leaves out the claims."""
-    told = [int(answer.split()[1]) for answer in answers[:2]]
-    if told[0]:
-        return told[0], 1
-    return told[1], 3 if told[1] else 4
+    told = lambda i: int(answers[i].split()[1])
+    if told(0):
+        return told(0), 1
+    return told(1), 3 if told(1) else 4
 
 
 def relations():
@@ -79,7 +79,7 @@ def rows():
     yield f"| `magnetar_cases` | {thousands(sum(asked.values()))} on {cases} relations: {of(asked, LINES)} |"
     both = [name for name in LINES if name != "checks"]
     records = {name: asked[name] - alone[name] for name in both}
-    yield f"| of these also over records | {thousands(sum(records.values()))}: {of(records, both)}; the other {sum(alone.values())} of these kinds are answered after a line `alone`: a matrix has four lists of unequal length, or more than 64 entries |"
+    yield f"| of these also over records | {thousands(sum(records.values()))}: {of(records, both)}; the other {sum(alone.values())} of these kinds are answered after a line `alone`: the four lists are of unequal length, or of more than 384 entries |"
     forms = ops("magnetar_forms")
     assert set(forms) == TRANSCRIPTS | MATRICES
     names = "absorb absorbfield absorbu64 absorbdigest draw drawvec isbinary apply packed table at".split()

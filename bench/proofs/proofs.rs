@@ -74,13 +74,7 @@ fn relation(c: &Case) -> Relation {
         let entries: Vec<_> = c.entries[i].iter().map(|&(row, col, value)| (row, col, element(value))).collect();
         Matrix::new(c.rows[i / 3], c.m, &entries)
     };
-    Relation {
-        m: c.m,
-        q: c.q,
-        segments: c.lens.clone(),
-        bin: std::array::from_fn(matrix),
-        fld: std::array::from_fn(|i| matrix(3 + i)),
-    }
+    Relation::new(c.m, c.q, c.lens.clone(), &std::array::from_fn(matrix), &std::array::from_fn(|i| matrix(3 + i)))
 }
 
 // ---- The Rust's side.

@@ -3,7 +3,7 @@
 use crate::relation::Relation;
 use crate::rust::State;
 use crate::text::MARK;
-use magnetar::{sys, with_matrices};
+use magnetar::{lent, sys};
 
 fn sent(t: &State) -> sys::Transcript {
     sys::Transcript { state: t.0, squeeze_ctr: t.1 }
@@ -25,50 +25,26 @@ pub struct Outcome {
 
 pub fn verify(r: &Relation, t: &State, proof: &[u64], claims: usize, scratch: usize) -> Outcome {
     let (mut claims, mut scratch) = (vec![MARK; claims], vec![MARK; scratch]);
-    // SAFETY: here and below each pointer and length are of one slice, and what is written is borrowed as `&mut`.
-    let a = unsafe {
-        with_matrices!(
-            sys::magnetar_verify_virtual_spartan,
-            r.matrices.each_ref(),
-            (claims.as_mut_ptr(), claims.len(), scratch.as_mut_ptr(), scratch.len(), r.m, r.q, r.lens.as_ptr(), r.lens.len()),
-            (r.x.as_ptr(), r.x.len(), proof.as_ptr(), proof.len(), sent(t))
-        )
-    };
+    let a = lent::verify(&mut claims, &mut scratch, r.m, r.q, &r.lens, &r.rules(), &r.x, proof, sent(t));
     Outcome { code: a.code, transcript: back(a.transcript), proof: vec![], claims, scratch }
 }
 
 /// The row check: its number, the system (0 for none, 1 bin, 2 fld, 3 where it is refused), login and row; and the scratch.
 pub fn row_check(r: &Relation, scratch: usize) -> ((u32, u32, usize, usize), Vec<u64>) {
     let mut scratch = vec![MARK; scratch];
-    let a = unsafe {
-        with_matrices!(
-            sys::magnetar_row_check,
-            r.matrices.each_ref(),
-            (scratch.as_mut_ptr(), scratch.len(), r.m, r.q),
-            (r.packed.as_ptr(), r.packed.len(), r.x.as_ptr(), r.x.len())
-        )
-    };
+    let a = lent::row_check(&mut scratch, r.m, r.q, &r.rules(), &r.packed, &r.x);
     ((a.code, a.system, a.login, a.row), scratch)
 }
 
 pub fn prove(r: &Relation, t: &State, proof: usize, claims: usize, scratch: usize) -> Outcome {
     let (mut proof, mut claims, mut scratch) = (vec![MARK; proof], vec![MARK; claims], vec![MARK; scratch]);
-    let a = unsafe {
-        with_matrices!(
-            sys::magnetar_prove_virtual_spartan,
-            r.matrices.each_ref(),
-            (
-                proof.as_mut_ptr(), proof.len(), claims.as_mut_ptr(), claims.len(), scratch.as_mut_ptr(), scratch.len(),
-                r.m, r.q, r.lens.as_ptr(), r.lens.len()
-            ),
-            (r.packed.as_ptr(), r.packed.len(), r.x.as_ptr(), r.x.len(), sent(t))
-        )
-    };
+    let a = lent::prove(&mut proof, &mut claims, &mut scratch, r.m, r.q, &r.lens, &r.rules(), &r.packed, &r.x, sent(t));
     Outcome { code: a.code, transcript: back(a.transcript), proof, claims, scratch }
 }
 
 pub fn eq_table(point: &[u64], lent: usize) -> (u32, Vec<u64>) {
     let mut out = vec![MARK; lent];
+    // SAFETY: here and below each pointer and length are of one slice, and what is written is borrowed as `&mut`.
     let code = unsafe { sys::magnetar_eq_build_fused(point.as_ptr(), point.len(), out.as_mut_ptr(), out.len()) };
     (code, out)
 }

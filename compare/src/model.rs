@@ -72,7 +72,7 @@ pub fn relation(r: &Relation, logins: bool, batch: bool, public: bool) -> u32 {
         (3, public && r.x.len() != r.m - 2),
         (4, (0..6).any(|k| rows_bad(&matrices[k]) || unequal(k) || q * matrices[k].rows > MOST)),
         (5, matrices.iter().any(|m| m.cols != r.m)),
-        (6, matrices.iter().any(counts_bad)),
+        (6, matrices.iter().any(counts_bad) || r.told.iter().any(Option::is_some)),
         (7, matrices.iter().any(places_bad)),
     ])
 }

@@ -6,7 +6,9 @@ use crate::text;
 use magnetar_field::{mul, Gf128};
 use magnetar_spartan::{DualRelation, SegmentLayout, SparseMatrix};
 
-/// A matrix as it is lent: four lists that may be of unequal length.
+use magnetar::{Rules, Shapes};
+
+/// A matrix: four lists that may be of unequal length.
 pub use magnetar::Matrix;
 
 /// How matrices are made here, and their other forms.
@@ -63,8 +65,16 @@ pub struct Relation {
     pub lens: Vec<usize>,
     /// A, B, C of bin, then of fld
     pub matrices: [Matrix; 6],
+    /// what is told in the place of a matrix's number of entries; with these the numbers don't add up (`recut`)
+    pub told: [Option<usize>; 6],
     pub packed: Vec<u64>,
     pub x: Vec<u64>,
+}
+
+/// The length that most of a matrix's lists have.
+fn count(m: &Matrix) -> usize {
+    let lengths = [m.row.len(), m.col.len(), m.lo.len(), m.hi.len()];
+    lengths.into_iter().max_by_key(|n| lengths.iter().filter(|k| *k == n).count()).unwrap()
 }
 
 impl Relation {
@@ -74,6 +84,7 @@ impl Relation {
             q,
             lens,
             matrices: std::array::from_fn(|k| Matrix::empty(rows[k / 3], m)),
+            told: [None; 6],
             packed: vec![0; 2 * q * (m / 2).div_ceil(128)],
             x: vec![0; m - 2],
         }
@@ -81,6 +92,36 @@ impl Relation {
 
     pub fn rows(&self) -> [usize; 2] {
         [self.matrices[0].rows, self.matrices[3].rows]
+    }
+
+    /// As it is lent: the shapes, and the lists of all matrices one behind the other.
+    pub fn rules(&self) -> Rules {
+        let [a, b, c, d, e, f] = &self.matrices;
+        let mut rules = Rules::join([a, b, c], [d, e, f]);
+        let Shapes { bin, fld } = &mut rules.shapes;
+        for (k, s) in [&mut bin.a, &mut bin.b, &mut bin.c, &mut fld.a, &mut fld.b, &mut fld.c].into_iter().enumerate() {
+            s.entries = self.told[k].unwrap_or(count(&self.matrices[k]));
+        }
+        rules
+    }
+
+    /// Where the numbers of entries that are told add up to lists of one length, the matrices become what they say.
+    pub fn recut(&mut self) {
+        let counts: [usize; 6] = std::array::from_fn(|k| self.told[k].unwrap_or(count(&self.matrices[k])));
+        let rules = self.rules();
+        let n = rules.row.len();
+        let total: u128 = counts.iter().map(|&n| n as u128).sum();
+        if total != n as u128 || [rules.col.len(), rules.lo.len(), rules.hi.len()] != [n; 3] {
+            return;
+        }
+        let mut at = 0;
+        for (m, n) in self.matrices.iter_mut().zip(counts) {
+            let part = at..at + n;
+            (m.row, m.col) = (rules.row[part.clone()].to_vec(), rules.col[part.clone()].to_vec());
+            (m.lo, m.hi) = (rules.lo[part.clone()].to_vec(), rules.hi[part].to_vec());
+            at += n;
+        }
+        self.told = [None; 6];
     }
 
     /// Words of a login.
@@ -117,20 +158,17 @@ impl Relation {
 
     /// In the words of the test programs.
     pub fn text(&self) -> String {
-        let mut out = format!(
-            "case 2 {:#x} {:#x} {} {} {}",
-            self.m, self.q, text::sizes(&self.lens), text::list(&self.x), text::list(&self.packed),
-        );
-        for m in &self.matrices {
-            out.push_str(&format!(" 2 {}", m.text()));
-        }
-        out
+        let r = self.rules();
+        let shapes = [r.shapes.bin, r.shapes.fld].map(|t| [t.a, t.b, t.c].map(|s| [s.rows, s.cols, s.entries]).concat()).concat();
+        let sizes = [&[self.m, self.q][..], &self.lens].map(text::sizes);
+        let lists = [text::list(&self.x), text::list(&self.packed), text::sizes(&shapes), text::sizes(&r.row), text::sizes(&r.col)];
+        ["case".into(), sizes.join(" "), lists.join(" "), text::list(&r.lo), text::list(&r.hi)].join(" ")
     }
 
     /// How many numbers that text has.
     pub fn numbers(&self) -> usize {
-        let matrices: usize = self.matrices.iter().map(|m| 7 + 4 * m.row.len()).sum();
-        6 + self.lens.len() + self.x.len() + self.packed.len() + matrices
+        let entries: usize = self.matrices.iter().map(|m| m.row.len()).sum();
+        29 + self.lens.len() + self.x.len() + self.packed.len() + 4 * entries
     }
 }
 

@@ -264,10 +264,24 @@ fn boundaries(tally: &mut Tally) {
                 _ => r.matrices[k].hi.push(0),
             });
         }
+        for n in [1, 2, model::MOST, model::MOST + 1, usize::MAX] {
+            each(&|r| r.told[k] = Some(n));
+        }
         for row in 0..4 {
             for col in 0..6 {
                 each(&|r| r.matrices[k].put(row, col, Gf128(1)));
             }
+        }
+    }
+    // the same numbers in another matrix add up
+    for (from, to) in (0..6).flat_map(|k| (0..6).map(move |l| (k, l))) {
+        for n in [1, 2, usize::MAX] {
+            each(&|r| {
+                r.matrices[from].put(0, from % 4, Gf128(1));
+                r.told[from] = Some(0);
+                r.told[to] = Some(n);
+                r.recut();
+            });
         }
     }
     // 64 segments are taken and 65 are not; a length is looked at first, and where the layout ends

@@ -2,7 +2,7 @@
 use crate::forms::open;
 use crate::library::Outcome;
 use crate::matrix;
-use crate::model;
+use crate::model::{self, MOST};
 use crate::random::Random;
 use crate::relation::{self, Entries, Matrix, Relation, KINDS};
 use crate::runs;
@@ -147,7 +147,7 @@ pub fn damage(r: &mut Random, rel: &mut Relation) {
     let k = r.below(6);
     let [rb, rf] = rel.rows();
     let far = r.pick(&[0, 1, 2, 3, 131072, 1 << 40, usize::MAX]);
-    match r.below(16) {
+    match r.below(18) {
         0 => rel.m = far,
         1 => rel.q = far,
         2 => rel.packed.truncate(r.below(rel.packed.len().max(1))),
@@ -162,9 +162,12 @@ pub fn damage(r: &mut Random, rel: &mut Relation) {
         11 => rel.matrices[k].hi.push(0),
         12 => rel.matrices[k].put(if k < 3 { rb } else { rf }, 0, Gf128(0)),
         13 => rel.matrices[k].put(0, rel.m, Gf128(0)),
-        14 => rel.lens.push(r.pick(&[0, 3, rel.m, rel.m / 2, usize::MAX])),
+        14 => rel.told[k] = Some(rel.matrices[k].row.len().wrapping_add(r.pick(&[1, 2, usize::MAX, MOST]))),
+        15 => rel.told[k] = Some(r.pick(&[0, 1, MOST, MOST + 1, usize::MAX])),
+        16 => rel.lens.push(r.pick(&[0, 3, rel.m, rel.m / 2, usize::MAX])),
         _ => rel.lens.extend(vec![1; 66]),
     }
+    rel.recut();
 }
 
 /// All rules of one row over two columns and all bits of two logins, with the row check; every v for the masks.

@@ -16,7 +16,7 @@ fn relation() -> Relation {
     };
     let bin = [matrix(0, 16), matrix(1, 16), matrix(2, 16)];
     let fld = [matrix(3, 2), matrix(4, 2), matrix(5, 2)];
-    Relation { m: 64, q: 4, segments: vec![8, 4, 8], bin, fld }
+    Relation::new(64, 4, vec![8, 4, 8], &bin, &fld)
 }
 
 /// Whether n bits of the secret, from bit `from` on, are all 0.
@@ -95,5 +95,8 @@ fn main() {
     print!(" {}", code(verify(&r, &x[2..], &proof, &mut start.clone())));
     print!(" {}", code(prove(&r, &good[2..], &x, &mut start.clone())));
     r.q = 3;
+    print!(" {}", code(prove(&r, &good, &x, &mut start.clone())));
+    r.q = 4;
+    r.rules.shapes.fld.c.entries += 1;
     println!(" {}", code(prove(&r, &good, &x, &mut start.clone())));
 }

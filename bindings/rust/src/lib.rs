@@ -2,13 +2,14 @@
 //!
 //! Elements are of GF(2)[x] / (x^128 + x^7 + x^2 + x + 1). A table of 2^n elements is a slice of 2^(n+1) words, two an element, the
 //! low one first; entry i is the value at the bits of i, bit 0 that of variable 0.
+pub mod lent;
 mod refusal;
 mod run;
 pub mod sys;
 
 pub use refusal::Refusal;
-pub use run::{prove, row_check, verify, Claims, Failing, Matrix, Relation};
-pub use sys::{Element, Transcript};
+pub use run::{prove, row_check, verify, Claims, Failing, Matrix, Relation, Rules};
+pub use sys::{Element, Shape, Shapes, SystemShape, Transcript};
 
 /// The product.
 pub fn mul(a: Element, b: Element) -> Element {

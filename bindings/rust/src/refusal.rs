@@ -41,7 +41,7 @@ refusals! {
     Public = 3, "the public words are not m - 2";
     Rows = 4, "rows no power of two from 1 to 65,536, unequal within a system, or q times rows over 1,048,576";
     Columns = 5, "a matrix whose columns are not m";
-    Entries = 6, "over 1,048,576 entries in a matrix, or its number slices are of unequal length";
+    Entries = 6, "over 1,048,576 entries in a matrix, slices of unequal length, or counts that don't add up to it";
     Outside = 7, "an entry outside its matrix";
     Segment = 8, "a segment's length is zero, no power of two, or over m / 2";
     Layout = 9, "the layout ends past m / 2";

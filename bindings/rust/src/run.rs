@@ -1,6 +1,6 @@
 //! The row check, the prover and the verifier of a batch.
-use crate::sys::{self, Element, Transcript};
-use crate::Refusal;
+use crate::sys::{Element, Shape, Shapes, SystemShape, Transcript};
+use crate::{lent, Refusal};
 
 /// A sparse matrix: entry i has the row `row[i]`, the column `col[i]` and the value of the words `lo[i]` and `hi[i]`. Entries at one
 /// place add up.
@@ -27,14 +27,46 @@ impl Matrix {
     }
 }
 
-/// What both ends know: m columns, q logins, the lengths of the segments of the witness, and A, B, C of both systems.
+/// A, B, C of bin, then A, B, C of fld: their shapes, and their entries one behind the other. The library refuses lists of unequal
+/// length, and counts in the shapes that don't add up to it.
+#[derive(Clone, Debug, Default)]
+pub struct Rules {
+    pub shapes: Shapes,
+    pub row: Vec<usize>,
+    pub col: Vec<usize>,
+    pub lo: Vec<u64>,
+    pub hi: Vec<u64>,
+}
+
+impl Rules {
+    /// Appends a matrix's entries, and gives its shape.
+    fn push(&mut self, m: &Matrix) -> Shape {
+        self.row.extend(&m.row);
+        self.col.extend(&m.col);
+        self.lo.extend(&m.lo);
+        self.hi.extend(&m.hi);
+        Shape { rows: m.rows, cols: m.cols, entries: m.row.len() }
+    }
+
+    /// The matrices A, B, C of both systems, joined.
+    pub fn join(bin: [&Matrix; 3], fld: [&Matrix; 3]) -> Rules {
+        let mut r = Rules::default();
+        let mut shape = |system: [&Matrix; 3]| {
+            let [a, b, c] = system.map(|m| r.push(m));
+            SystemShape { a, b, c }
+        };
+        let shapes = Shapes { bin: shape(bin), fld: shape(fld) };
+        Rules { shapes, ..r }
+    }
+}
+
+/// What both ends know: m columns, q logins, the lengths of the segments of the witness, and the rules.
 #[derive(Clone, Debug, Default)]
 pub struct Relation {
     pub m: usize,
     pub q: usize,
     pub segments: Vec<usize>,
-    pub bin: [Matrix; 3],
-    pub fld: [Matrix; 3],
+    pub rules: Rules,
 }
 
 /// The words of elements: the shared challenges, those of the columns, and a value for each segment.
@@ -57,9 +89,20 @@ fn log(n: usize) -> usize {
 }
 
 impl Relation {
+    /// With A, B, C of bin and of fld, whose entries are copied once.
+    pub fn new(m: usize, q: usize, segments: Vec<usize>, bin: &[Matrix; 3], fld: &[Matrix; 3]) -> Relation {
+        Relation { m, q, segments, rules: Rules::join(bin.each_ref(), fld.each_ref()) }
+    }
+
+    /// The rows of bin and of fld.
+    fn rows(&self) -> [usize; 2] {
+        [self.rules.shapes.bin.a.rows, self.rules.shapes.fld.a.rows]
+    }
+
     /// The words of a proof.
     pub fn proof_words(&self) -> usize {
-        let outer = 8 * log(self.q) + 4 * log(self.bin[0].rows) + 4 * log(self.fld[0].rows);
+        let [rb, rf] = self.rows();
+        let outer = 8 * log(self.q) + 4 * log(rb) + 4 * log(rf);
         2 * (outer + 7 + 3 * log(self.m) + self.segments.len())
     }
 
@@ -68,14 +111,9 @@ impl Relation {
         2 * (log(self.q) + log(self.m).saturating_sub(1) + self.segments.len())
     }
 
-    /// A, B, C of bin, then of fld.
-    fn six(&self) -> [&Matrix; 6] {
-        let ([a, b, c], [d, e, f]) = (&self.bin, &self.fld);
-        [a, b, c, d, e, f]
-    }
-
     fn most_rows(&self) -> usize {
-        self.bin[0].rows.max(self.fld[0].rows)
+        let [rb, rf] = self.rows();
+        rb.max(rf)
     }
 
     /// The words of a batch: 2 q ceil(m / 256).
@@ -90,7 +128,8 @@ impl Relation {
 
     /// The words of the prover's scratch: 8 q (Rb + Rf) + 8 m + 4 max(Rb, Rf) + 4 q.
     pub fn prover_scratch(&self) -> Option<usize> {
-        let rows = self.bin[0].rows.checked_add(self.fld[0].rows)?;
+        let [rb, rf] = self.rows();
+        let rows = rb.checked_add(rf)?;
         let tables = self.q.checked_mul(rows)?.checked_add(self.m)?.checked_mul(8)?;
         self.most_rows().checked_add(self.q)?.checked_mul(4)?.checked_add(tables)
     }
@@ -107,25 +146,6 @@ impl Relation {
     }
 }
 
-/// A call of the library with six matrices between other arguments; for programs that lend words of their own.
-#[doc(hidden)]
-#[macro_export]
-macro_rules! with_matrices {
-    ($function:path, $six:expr, ($($before:expr),*), ($($after:expr),*)) => {{
-        let [a, b, c, d, e, f]: [&$crate::Matrix; 6] = $six;
-        $function(
-            $($before,)*
-            a.rows, a.cols, a.row.as_ptr(), a.row.len(), a.col.as_ptr(), a.col.len(), a.lo.as_ptr(), a.lo.len(), a.hi.as_ptr(), a.hi.len(),
-            b.rows, b.cols, b.row.as_ptr(), b.row.len(), b.col.as_ptr(), b.col.len(), b.lo.as_ptr(), b.lo.len(), b.hi.as_ptr(), b.hi.len(),
-            c.rows, c.cols, c.row.as_ptr(), c.row.len(), c.col.as_ptr(), c.col.len(), c.lo.as_ptr(), c.lo.len(), c.hi.as_ptr(), c.hi.len(),
-            d.rows, d.cols, d.row.as_ptr(), d.row.len(), d.col.as_ptr(), d.col.len(), d.lo.as_ptr(), d.lo.len(), d.hi.as_ptr(), d.hi.len(),
-            e.rows, e.cols, e.row.as_ptr(), e.row.len(), e.col.as_ptr(), e.col.len(), e.lo.as_ptr(), e.lo.len(), e.hi.as_ptr(), e.hi.len(),
-            f.rows, f.cols, f.row.as_ptr(), f.row.len(), f.col.as_ptr(), f.col.len(), f.lo.as_ptr(), f.lo.len(), f.hi.as_ptr(), f.hi.len(),
-            $($after),*
-        )
-    }};
-}
-
 /// A row that does not hold: the lowest row of the lowest login, bin before fld.
 #[derive(Clone, Copy, Debug, PartialEq, Eq)]
 pub struct Failing {
@@ -137,15 +157,7 @@ pub struct Failing {
 /// The first row that does not hold, or none; `packed` holds the bits of the logins, `x` the words of the public elements.
 pub fn row_check(r: &Relation, packed: &[u64], x: &[u64]) -> Result<Option<Failing>, Refusal> {
     let mut scratch = room(r.check_scratch());
-    // SAFETY: here and below each pointer and length are of one slice, and what is written is borrowed as `&mut`.
-    let found = unsafe {
-        with_matrices!(
-            sys::magnetar_row_check,
-            r.six(),
-            (scratch.as_mut_ptr(), scratch.len(), r.m, r.q),
-            (packed.as_ptr(), packed.len(), x.as_ptr(), x.len())
-        )
-    };
+    let found = lent::row_check(&mut scratch, r.m, r.q, &r.rules, packed, x);
     Refusal::check(found.code)?;
     Ok((found.system != 0).then_some(Failing { fld: found.system == 2, login: found.login, row: found.row }))
 }
@@ -155,17 +167,7 @@ pub fn prove(r: &Relation, packed: &[u64], x: &[u64], t: &mut Transcript) -> Res
     let mut proof = room(Some(r.proof_words()));
     let mut claims = room(Some(r.claim_words()));
     let mut scratch = room(r.prover_scratch());
-    let answer = unsafe {
-        with_matrices!(
-            sys::magnetar_prove_virtual_spartan,
-            r.six(),
-            (
-                proof.as_mut_ptr(), proof.len(), claims.as_mut_ptr(), claims.len(), scratch.as_mut_ptr(), scratch.len(),
-                r.m, r.q, r.segments.as_ptr(), r.segments.len()
-            ),
-            (packed.as_ptr(), packed.len(), x.as_ptr(), x.len(), *t)
-        )
-    };
+    let answer = lent::prove(&mut proof, &mut claims, &mut scratch, r.m, r.q, &r.segments, &r.rules, packed, x, *t);
     *t = answer.transcript;
     Refusal::check(answer.code)?;
     Ok((proof, r.claims(claims)))
@@ -175,14 +177,7 @@ pub fn prove(r: &Relation, packed: &[u64], x: &[u64], t: &mut Transcript) -> Res
 pub fn verify(r: &Relation, x: &[u64], proof: &[u64], t: &mut Transcript) -> Result<Claims, Refusal> {
     let mut claims = room(Some(r.claim_words()));
     let mut scratch = room(r.verifier_scratch());
-    let answer = unsafe {
-        with_matrices!(
-            sys::magnetar_verify_virtual_spartan,
-            r.six(),
-            (claims.as_mut_ptr(), claims.len(), scratch.as_mut_ptr(), scratch.len(), r.m, r.q, r.segments.as_ptr(), r.segments.len()),
-            (x.as_ptr(), x.len(), proof.as_ptr(), proof.len(), *t)
-        )
-    };
+    let answer = lent::verify(&mut claims, &mut scratch, r.m, r.q, &r.segments, &r.rules, x, proof, *t);
     *t = answer.transcript;
     Refusal::check(answer.code)?;
     Ok(r.claims(claims))

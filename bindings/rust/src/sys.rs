@@ -41,6 +41,31 @@ pub struct RowVerdict {
     pub row: usize,
 }
 
+/// A matrix: how many rows, columns and entries it has.
+#[repr(C)]
+#[derive(Clone, Copy, Debug, Default, PartialEq, Eq)]
+pub struct Shape {
+    pub rows: usize,
+    pub cols: usize,
+    pub entries: usize,
+}
+
+#[repr(C)]
+#[derive(Clone, Copy, Debug, Default, PartialEq, Eq)]
+pub struct SystemShape {
+    pub a: Shape,
+    pub b: Shape,
+    pub c: Shape,
+}
+
+/// The matrices of both systems. Their entries are lent one behind the other in four slices: A, B, C of bin, then A, B, C of fld.
+#[repr(C)]
+#[derive(Clone, Copy, Debug, Default, PartialEq, Eq)]
+pub struct Shapes {
+    pub bin: SystemShape,
+    pub fld: SystemShape,
+}
+
 #[link(name = "magnetar_c", kind = "static")]
 extern "C" {
     pub fn magnetar_mul(a: Element, b: Element) -> Element;
@@ -79,58 +104,38 @@ extern "C" {
         words: *const u64, words_len: usize,
     ) -> Answer;
     pub fn magnetar_challenge_field(t: Transcript, label: *const u8, label_len: usize) -> Draw;
-}
-
-/// Declares a function that is lent the six matrices between its other parameters: A, B, C of bin are ab, bb, cb, those of fld af, bf, cf.
-macro_rules! over_matrices {
-    (fn $name:ident($($before:ident: $b:ty),*; $($after:ident: $a:ty),*) -> $answer:ty) => {
-        #[link(name = "magnetar_c", kind = "static")]
-        extern "C" {
-            pub fn $name(
-                $($before: $b,)*
-                abrows: usize, abcols: usize,
-                abrow: *const usize, abrow_len: usize, abcol: *const usize, abcol_len: usize,
-                ablo: *const u64, ablo_len: usize, abhi: *const u64, abhi_len: usize,
-                bbrows: usize, bbcols: usize,
-                bbrow: *const usize, bbrow_len: usize, bbcol: *const usize, bbcol_len: usize,
-                bblo: *const u64, bblo_len: usize, bbhi: *const u64, bbhi_len: usize,
-                cbrows: usize, cbcols: usize,
-                cbrow: *const usize, cbrow_len: usize, cbcol: *const usize, cbcol_len: usize,
-                cblo: *const u64, cblo_len: usize, cbhi: *const u64, cbhi_len: usize,
-                afrows: usize, afcols: usize,
-                afrow: *const usize, afrow_len: usize, afcol: *const usize, afcol_len: usize,
-                aflo: *const u64, aflo_len: usize, afhi: *const u64, afhi_len: usize,
-                bfrows: usize, bfcols: usize,
-                bfrow: *const usize, bfrow_len: usize, bfcol: *const usize, bfcol_len: usize,
-                bflo: *const u64, bflo_len: usize, bfhi: *const u64, bfhi_len: usize,
-                cfrows: usize, cfcols: usize,
-                cfrow: *const usize, cfrow_len: usize, cfcol: *const usize, cfcol_len: usize,
-                cflo: *const u64, cflo_len: usize, cfhi: *const u64, cfhi_len: usize,
-                $($after: $a,)*
-            ) -> $answer;
-        }
-    };
-}
-
-over_matrices! {
-    fn magnetar_row_check(
-        scratch: *mut u64, scratch_len: usize, m: usize, q: usize;
-        packed: *const u64, packed_len: usize, x: *const u64, x_len: usize
-    ) -> RowVerdict
-}
-
-over_matrices! {
-    fn magnetar_prove_virtual_spartan(
-        proof: *mut u64, proof_len: usize, claims: *mut u64, claims_len: usize, scratch: *mut u64, scratch_len: usize,
-        m: usize, q: usize, lens: *const usize, lens_len: usize;
-        packed: *const u64, packed_len: usize, x: *const u64, x_len: usize, t: Transcript
-    ) -> Answer
-}
-
-over_matrices! {
-    fn magnetar_verify_virtual_spartan(
-        claims: *mut u64, claims_len: usize, scratch: *mut u64, scratch_len: usize,
-        m: usize, q: usize, lens: *const usize, lens_len: usize;
-        x: *const u64, x_len: usize, proof: *const u64, proof_len: usize, t: Transcript
-    ) -> Answer
+    pub fn magnetar_row_check(
+        scratch: *mut u64, scratch_len: usize,
+        m: usize, q: usize,
+        shapes: Shapes,
+        row: *const usize, row_len: usize, col: *const usize, col_len: usize,
+        lo: *const u64, lo_len: usize, hi: *const u64, hi_len: usize,
+        packed: *const u64, packed_len: usize,
+        x: *const u64, x_len: usize,
+    ) -> RowVerdict;
+    pub fn magnetar_prove_virtual_spartan(
+        proof: *mut u64, proof_len: usize,
+        claims: *mut u64, claims_len: usize,
+        scratch: *mut u64, scratch_len: usize,
+        m: usize, q: usize,
+        lens: *const usize, lens_len: usize,
+        shapes: Shapes,
+        row: *const usize, row_len: usize, col: *const usize, col_len: usize,
+        lo: *const u64, lo_len: usize, hi: *const u64, hi_len: usize,
+        packed: *const u64, packed_len: usize,
+        x: *const u64, x_len: usize,
+        t: Transcript,
+    ) -> Answer;
+    pub fn magnetar_verify_virtual_spartan(
+        claims: *mut u64, claims_len: usize,
+        scratch: *mut u64, scratch_len: usize,
+        m: usize, q: usize,
+        lens: *const usize, lens_len: usize,
+        shapes: Shapes,
+        row: *const usize, row_len: usize, col: *const usize, col_len: usize,
+        lo: *const u64, lo_len: usize, hi: *const u64, hi_len: usize,
+        x: *const u64, x_len: usize,
+        proof: *const u64, proof_len: usize,
+        t: Transcript,
+    ) -> Answer;
 }

@@ -14,7 +14,7 @@ fn relation(code: u32) {
         3 => print(b"the public words are not m - 2"),
         4 => print(b"a number of rows is no power of two, unequal or too large"),
         5 => print(b"a matrix has not m columns"),
-        6 => print(b"a matrix has too many entries, or slices of unequal length"),
+        6 => print(b"a matrix has too many entries, or slices or counts do not fit each other"),
         7 => print(b"an entry lies outside its matrix"),
         8 => print(b"a segment's length is no power of two up to m / 2"),
         9 => print(b"the segments end past m / 2"),

@@ -12,6 +12,9 @@ use magnetar_batch::check;
 use magnetar_batch::check::RowCheck;
 use magnetar_hash::transcript::Transcript;
 use magnetar_hash::transcript::TranscriptAnswer;
+use magnetar_relation::shapes::Shape;
+use magnetar_relation::shapes::Shapes;
+use magnetar_relation::shapes::SystemShape;
 use magnetar_spartan::virtual_spartan;
 
 const M: usize = 64;
@@ -22,32 +25,9 @@ const FLD: usize = 2;
 
 const SEGMENTS: [usize; 3] = [8, 4, 8];
 
-// The values: ones in bin and in C of fld.
-const AB_LO: [u64; 21] = [1; 21];
-
-const AB_HI: [u64; 21] = [0; 21];
-
-const BB_LO: [u64; 13] = [1; 13];
-
-const BB_HI: [u64; 13] = [0; 13];
-
-const CB_LO: [u64; 7] = [1; 7];
-
-const CB_HI: [u64; 7] = [0; 7];
-
-const AF_LO: [u64; 4] = [1, 1, 1, 2];
-
-const AF_HI: [u64; 4] = [0; 4];
-
-const BF_LO: [u64; 9] = [1, 2, 4, 8, 16, 32, 64, 128, 1];
-
-const BF_HI: [u64; 9] = [0; 9];
-
-const CF_LO: [u64; 1] = [1];
-
-const CF_HI: [u64; 1] = [0];
-
-const AB_ROW: [usize; 21] = [
+// The entries of A, B, C of bin, then of A, B, C of fld.
+const ROW: [usize; 55] = [
+    // A of bin
     0,
     0,
     1,
@@ -69,9 +49,49 @@ const AB_ROW: [usize; 21] = [
     8,
     8,
     8,
+    // B of bin
+    0,
+    0,
+    1,
+    1,
+    2,
+    2,
+    3,
+    3,
+    4,
+    5,
+    6,
+    7,
+    8,
+    // C of bin
+    0,
+    1,
+    2,
+    3,
+    4,
+    5,
+    6,
+    // A of fld
+    0,
+    0,
+    1,
+    1,
+    // B of fld
+    0,
+    0,
+    0,
+    0,
+    0,
+    0,
+    0,
+    0,
+    1,
+    // C of fld
+    1,
 ];
 
-const AB_COL: [usize; 21] = [
+const COL: [usize; 55] = [
+    // A of bin
     0,
     32,
     2,
@@ -93,73 +113,138 @@ const AB_COL: [usize; 21] = [
     6,
     7,
     9,
+    // B of bin
+    1,
+    32,
+    3,
+    32,
+    5,
+    32,
+    7,
+    32,
+    17,
+    19,
+    21,
+    22,
+    32,
+    // C of bin
+    16,
+    17,
+    18,
+    19,
+    20,
+    21,
+    22,
+    // A of fld
+    8,
+    32,
+    10,
+    11,
+    // B of fld
+    0,
+    1,
+    2,
+    3,
+    4,
+    5,
+    6,
+    7,
+    33,
+    // C of fld
+    34,
 ];
 
-const BB_ROW: [usize; 13] = [0, 0, 1, 1, 2, 2, 3, 3, 4, 5, 6, 7, 8];
+const LO: [u64; 55] = [
+    // A of bin
+    1,
+    1,
+    1,
+    1,
+    1,
+    1,
+    1,
+    1,
+    1,
+    1,
+    1,
+    1,
+    1,
+    1,
+    1,
+    1,
+    1,
+    1,
+    1,
+    1,
+    1,
+    // B of bin
+    1,
+    1,
+    1,
+    1,
+    1,
+    1,
+    1,
+    1,
+    1,
+    1,
+    1,
+    1,
+    1,
+    // C of bin
+    1,
+    1,
+    1,
+    1,
+    1,
+    1,
+    1,
+    // A of fld
+    1,
+    1,
+    1,
+    2,
+    // B of fld
+    1,
+    2,
+    4,
+    8,
+    16,
+    32,
+    64,
+    128,
+    1,
+    // C of fld
+    1,
+];
 
-const BB_COL: [usize; 13] = [1, 32, 3, 32, 5, 32, 7, 32, 17, 19, 21, 22, 32];
+const HI: [u64; 55] = [0; 55];
 
-const CB_ROW: [usize; 7] = [0, 1, 2, 3, 4, 5, 6];
+fn shape(rows: usize, entries: usize) -> Shape {
+    Shape {
+        rows,
+        cols: M,
+        entries,
+    }
+}
 
-const CB_COL: [usize; 7] = [16, 17, 18, 19, 20, 21, 22];
-
-const AF_ROW: [usize; 4] = [0, 0, 1, 1];
-
-const AF_COL: [usize; 4] = [8, 32, 10, 11];
-
-const BF_ROW: [usize; 9] = [0, 0, 0, 0, 0, 0, 0, 0, 1];
-
-const BF_COL: [usize; 9] = [0, 1, 2, 3, 4, 5, 6, 7, 33];
-
-const CF_ROW: [usize; 1] = [1];
-
-const CF_COL: [usize; 1] = [34];
+fn shapes() -> Shapes {
+    let bin = SystemShape {
+        a: shape(BIN, 21),
+        b: shape(BIN, 13),
+        c: shape(BIN, 7),
+    };
+    let fld = SystemShape {
+        a: shape(FLD, 4),
+        b: shape(FLD, 9),
+        c: shape(FLD, 1),
+    };
+    Shapes { bin, fld }
+}
 
 // The first row that fails.
 pub(crate) fn row_check(scratch: &mut [u64], q: usize, packed: &[u64], x: &[u64]) -> RowCheck {
-    check::row_check(
-        scratch,
-        M,
-        q,
-        BIN,
-        M,
-        &AB_ROW,
-        &AB_COL,
-        &AB_LO,
-        &AB_HI,
-        BIN,
-        M,
-        &BB_ROW,
-        &BB_COL,
-        &BB_LO,
-        &BB_HI,
-        BIN,
-        M,
-        &CB_ROW,
-        &CB_COL,
-        &CB_LO,
-        &CB_HI,
-        FLD,
-        M,
-        &AF_ROW,
-        &AF_COL,
-        &AF_LO,
-        &AF_HI,
-        FLD,
-        M,
-        &BF_ROW,
-        &BF_COL,
-        &BF_LO,
-        &BF_HI,
-        FLD,
-        M,
-        &CF_ROW,
-        &CF_COL,
-        &CF_LO,
-        &CF_HI,
-        packed,
-        x,
-    )
+    check::row_check(scratch, M, q, shapes(), &ROW, &COL, &LO, &HI, packed, x)
 }
 
 // The office's end.
@@ -179,42 +264,11 @@ pub(crate) fn prove(
         M,
         q,
         &SEGMENTS,
-        BIN,
-        M,
-        &AB_ROW,
-        &AB_COL,
-        &AB_LO,
-        &AB_HI,
-        BIN,
-        M,
-        &BB_ROW,
-        &BB_COL,
-        &BB_LO,
-        &BB_HI,
-        BIN,
-        M,
-        &CB_ROW,
-        &CB_COL,
-        &CB_LO,
-        &CB_HI,
-        FLD,
-        M,
-        &AF_ROW,
-        &AF_COL,
-        &AF_LO,
-        &AF_HI,
-        FLD,
-        M,
-        &BF_ROW,
-        &BF_COL,
-        &BF_LO,
-        &BF_HI,
-        FLD,
-        M,
-        &CF_ROW,
-        &CF_COL,
-        &CF_LO,
-        &CF_HI,
+        shapes(),
+        &ROW,
+        &COL,
+        &LO,
+        &HI,
         packed,
         x,
         t,
@@ -236,42 +290,11 @@ pub(crate) fn verify(
         M,
         q,
         &SEGMENTS,
-        BIN,
-        M,
-        &AB_ROW,
-        &AB_COL,
-        &AB_LO,
-        &AB_HI,
-        BIN,
-        M,
-        &BB_ROW,
-        &BB_COL,
-        &BB_LO,
-        &BB_HI,
-        BIN,
-        M,
-        &CB_ROW,
-        &CB_COL,
-        &CB_LO,
-        &CB_HI,
-        FLD,
-        M,
-        &AF_ROW,
-        &AF_COL,
-        &AF_LO,
-        &AF_HI,
-        FLD,
-        M,
-        &BF_ROW,
-        &BF_COL,
-        &BF_LO,
-        &BF_HI,
-        FLD,
-        M,
-        &CF_ROW,
-        &CF_COL,
-        &CF_LO,
-        &CF_HI,
+        shapes(),
+        &ROW,
+        &COL,
+        &LO,
+        &HI,
         x,
         proof,
         t,

@@ -5,7 +5,7 @@ use mathlib.Core.List.{List}
 use Prim.Native.Nat.{ℕ}
 use Rattle.magnetar_hash.specs.declared.transcript.Transcript.{Transcript}
 use Rattle.magnetar_hash.specs.declared.transcript.TranscriptAnswer.{TranscriptAnswer}
-use Rattle.magnetar_spartan.specs.Rules.{Rules}
+use Rattle.magnetar_relation.specs.Rules.{Rules}
 use Rattle.magnetar_spartan.specs.Outcome.{verified, verifyOutcome, proved, proveOutcome}
 
 -- a verifier's outcome from the answer a at the transcript t is that from the answer b at the transcript u

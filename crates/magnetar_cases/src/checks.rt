@@ -1,12 +1,11 @@
 // The verifier's checks with given elements in the place of the draws.
 use crate::text::MARK;
 use crate::text::at;
-use crate::text::nth;
-use crate::text::nth_sizes;
-use crate::text::number;
 use crate::text::print;
 use crate::text::{self};
+use crate::told;
 use magnetar_batch::combo;
+use magnetar_batch::table;
 use magnetar_checks::claims;
 use magnetar_checks::end;
 use magnetar_checks::outer;
@@ -19,84 +18,53 @@ const CHECKS: u64 = 0x636865636b73;
 
 fn first(nums: &[u64], sizes: &[usize]) -> Found {
     outer::outer_checks(
-        number(sizes, 0, 0),
-        number(sizes, 0, 1),
-        number(sizes, 4, 0),
-        number(sizes, 19, 0),
-        nth_sizes(sizes, 1),
+        told::m(sizes),
+        told::q(sizes),
+        told::rows_bin(sizes),
+        told::rows_fld(sizes),
+        told::lens(sizes),
         text::after(nums, 2, 0),
         text::after(nums, 2, 1),
     )
 }
 
 // The combined table, which the last checks read.
-fn combined(nums: &[u64], given: &[u64], sizes: &[usize], scratch: &mut [u64]) -> u32 {
-    combo::combine_in(
+fn combine(nums: &[u64], given: &[u64], sizes: &[usize], scratch: &mut [u64]) {
+    combo::combine(
         scratch,
-        number(sizes, 0, 0),
-        number(sizes, 4, 0),
-        number(sizes, 4, 1),
-        nth_sizes(sizes, 5),
-        nth_sizes(sizes, 6),
-        nth(given, 7),
-        nth(given, 8),
-        number(sizes, 9, 0),
-        number(sizes, 9, 1),
-        nth_sizes(sizes, 10),
-        nth_sizes(sizes, 11),
-        nth(given, 12),
-        nth(given, 13),
-        number(sizes, 14, 0),
-        number(sizes, 14, 1),
-        nth_sizes(sizes, 15),
-        nth_sizes(sizes, 16),
-        nth(given, 17),
-        nth(given, 18),
-        number(sizes, 19, 0),
-        number(sizes, 19, 1),
-        nth_sizes(sizes, 20),
-        nth_sizes(sizes, 21),
-        nth(given, 22),
-        nth(given, 23),
-        number(sizes, 24, 0),
-        number(sizes, 24, 1),
-        nth_sizes(sizes, 25),
-        nth_sizes(sizes, 26),
-        nth(given, 27),
-        nth(given, 28),
-        number(sizes, 29, 0),
-        number(sizes, 29, 1),
-        nth_sizes(sizes, 30),
-        nth_sizes(sizes, 31),
-        nth(given, 32),
-        nth(given, 33),
-        text::after(nums, 2, 2),
-        text::after(nums, 2, 3),
-        text::after(nums, 2, 4),
-    )
+        told::m(sizes),
+        told::shapes(sizes),
+        table::alphas12(text::after(nums, 2, 2)),
+        table::point32(text::after(nums, 2, 3)),
+        table::point32(text::after(nums, 2, 4)),
+        told::row(sizes),
+        told::col(sizes),
+        told::lo(given),
+        told::hi(given),
+    );
 }
 
 fn last(nums: &[u64], given: &[u64], sizes: &[usize], scratch: &mut [u64]) -> Found {
     end::end_checks(
-        number(sizes, 0, 0),
-        number(sizes, 0, 1),
-        number(sizes, 4, 0),
-        number(sizes, 19, 0),
-        nth_sizes(sizes, 1),
-        nth(given, 2),
+        told::m(sizes),
+        told::q(sizes),
+        told::rows_bin(sizes),
+        told::rows_fld(sizes),
+        told::lens(sizes),
+        told::x(given),
         text::after(nums, 2, 0),
         text::after(nums, 2, 1),
         scratch,
     )
 }
 
-fn told(nums: &[u64], sizes: &[usize], claims: &mut [u64]) -> u32 {
+fn claimed(nums: &[u64], sizes: &[usize], claims: &mut [u64]) -> u32 {
     claims::write_claims(
-        number(sizes, 0, 0),
-        number(sizes, 0, 1),
-        number(sizes, 4, 0),
-        number(sizes, 19, 0),
-        nth_sizes(sizes, 1),
+        told::m(sizes),
+        told::q(sizes),
+        told::rows_bin(sizes),
+        told::rows_fld(sizes),
+        told::lens(sizes),
         text::after(nums, 2, 0),
         text::after(nums, 2, 1),
         claims,
@@ -114,15 +82,11 @@ fn print_found(f: Found) {
 
 // The checks of the end and the claims.
 fn ended(nums: &[u64], given: &[u64], sizes: &[usize], claims: &mut [u64], scratch: &mut [u64]) {
-    let z = combined(nums, given, sizes, scratch);
-    if z != 0 {
-        print(b"? the combined table is refused\n");
-        return;
-    }
+    combine(nums, given, sizes, scratch);
     let f = last(nums, given, sizes, scratch);
     print_found(f);
     if f.code == 0 {
-        text::print_code(told(nums, sizes, claims), claims);
+        text::print_code(claimed(nums, sizes, claims), claims);
     }
 }
 

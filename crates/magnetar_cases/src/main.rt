@@ -3,10 +3,12 @@
 // after a line `alone` where it cannot be asked of records. A line that begins with # is copied.
 mod again;
 mod checks;
+mod lent;
 mod rowcheck;
 mod runs;
 mod tables;
 mod text;
+mod told;
 
 use crate::text::print;
 

@@ -1,62 +1,14 @@
 // The row check of a relation and its batch.
 use crate::again;
 use crate::text::at;
-use crate::text::nth;
-use crate::text::nth_sizes;
-use crate::text::number;
 use crate::text::print;
 use crate::text::{self};
+use crate::told;
 use magnetar_batch::check;
 use magnetar_batch::check::RowCheck;
 
 // The query by name: its letters, the last one lowest.
 const CHECK: u64 = 0x636865636b;
-
-fn checked(given: &[u64], sizes: &[usize], scratch: &mut [u64]) -> RowCheck {
-    check::row_check(
-        scratch,
-        number(sizes, 0, 0),
-        number(sizes, 0, 1),
-        number(sizes, 4, 0),
-        number(sizes, 4, 1),
-        nth_sizes(sizes, 5),
-        nth_sizes(sizes, 6),
-        nth(given, 7),
-        nth(given, 8),
-        number(sizes, 9, 0),
-        number(sizes, 9, 1),
-        nth_sizes(sizes, 10),
-        nth_sizes(sizes, 11),
-        nth(given, 12),
-        nth(given, 13),
-        number(sizes, 14, 0),
-        number(sizes, 14, 1),
-        nth_sizes(sizes, 15),
-        nth_sizes(sizes, 16),
-        nth(given, 17),
-        nth(given, 18),
-        number(sizes, 19, 0),
-        number(sizes, 19, 1),
-        nth_sizes(sizes, 20),
-        nth_sizes(sizes, 21),
-        nth(given, 22),
-        nth(given, 23),
-        number(sizes, 24, 0),
-        number(sizes, 24, 1),
-        nth_sizes(sizes, 25),
-        nth_sizes(sizes, 26),
-        nth(given, 27),
-        nth(given, 28),
-        number(sizes, 29, 0),
-        number(sizes, 29, 1),
-        nth_sizes(sizes, 30),
-        nth_sizes(sizes, 31),
-        nth(given, 32),
-        nth(given, 33),
-        nth(given, 3),
-        nth(given, 2),
-    )
-}
 
 // The login and the row.
 fn print_place(u: usize, i: usize) {
@@ -92,7 +44,18 @@ pub(crate) fn answered(op: u64, nums: &[u64], given: &[u64], sizes: &[usize]) ->
     if op == CHECK {
         let mut words = text::room();
         let part = text::front(&mut words, text::size(at(nums, 0)));
-        let r = checked(given, sizes, part);
+        let r = check::row_check(
+            part,
+            told::m(sizes),
+            told::q(sizes),
+            told::shapes(sizes),
+            told::row(sizes),
+            told::col(sizes),
+            told::lo(given),
+            told::hi(given),
+            told::packed(given),
+            told::x(given),
+        );
         text::agreed(again::check(given, sizes, r, part));
         print_verdict(r);
         text::print_cleared(part);

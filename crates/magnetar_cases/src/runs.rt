@@ -2,11 +2,9 @@
 use crate::again;
 use crate::text::MARK;
 use crate::text::at;
-use crate::text::nth;
-use crate::text::nth_sizes;
-use crate::text::number;
 use crate::text::print;
 use crate::text::{self};
+use crate::told;
 use libc::STDOUT_FILENO;
 use magnetar_hash::transcript::Transcript;
 use magnetar_hash::transcript::TranscriptAnswer;
@@ -81,47 +79,16 @@ fn proved(
         proof,
         claims,
         scratch,
-        number(sizes, 0, 0),
-        number(sizes, 0, 1),
-        nth_sizes(sizes, 1),
-        number(sizes, 4, 0),
-        number(sizes, 4, 1),
-        nth_sizes(sizes, 5),
-        nth_sizes(sizes, 6),
-        nth(given, 7),
-        nth(given, 8),
-        number(sizes, 9, 0),
-        number(sizes, 9, 1),
-        nth_sizes(sizes, 10),
-        nth_sizes(sizes, 11),
-        nth(given, 12),
-        nth(given, 13),
-        number(sizes, 14, 0),
-        number(sizes, 14, 1),
-        nth_sizes(sizes, 15),
-        nth_sizes(sizes, 16),
-        nth(given, 17),
-        nth(given, 18),
-        number(sizes, 19, 0),
-        number(sizes, 19, 1),
-        nth_sizes(sizes, 20),
-        nth_sizes(sizes, 21),
-        nth(given, 22),
-        nth(given, 23),
-        number(sizes, 24, 0),
-        number(sizes, 24, 1),
-        nth_sizes(sizes, 25),
-        nth_sizes(sizes, 26),
-        nth(given, 27),
-        nth(given, 28),
-        number(sizes, 29, 0),
-        number(sizes, 29, 1),
-        nth_sizes(sizes, 30),
-        nth_sizes(sizes, 31),
-        nth(given, 32),
-        nth(given, 33),
-        nth(given, 3),
-        nth(given, 2),
+        told::m(sizes),
+        told::q(sizes),
+        told::lens(sizes),
+        told::shapes(sizes),
+        told::row(sizes),
+        told::col(sizes),
+        told::lo(given),
+        told::hi(given),
+        told::packed(given),
+        told::x(given),
         t,
     )
 }
@@ -137,46 +104,15 @@ fn verified(
     virtual_spartan::verify_virtual_spartan(
         claims,
         scratch,
-        number(sizes, 0, 0),
-        number(sizes, 0, 1),
-        nth_sizes(sizes, 1),
-        number(sizes, 4, 0),
-        number(sizes, 4, 1),
-        nth_sizes(sizes, 5),
-        nth_sizes(sizes, 6),
-        nth(given, 7),
-        nth(given, 8),
-        number(sizes, 9, 0),
-        number(sizes, 9, 1),
-        nth_sizes(sizes, 10),
-        nth_sizes(sizes, 11),
-        nth(given, 12),
-        nth(given, 13),
-        number(sizes, 14, 0),
-        number(sizes, 14, 1),
-        nth_sizes(sizes, 15),
-        nth_sizes(sizes, 16),
-        nth(given, 17),
-        nth(given, 18),
-        number(sizes, 19, 0),
-        number(sizes, 19, 1),
-        nth_sizes(sizes, 20),
-        nth_sizes(sizes, 21),
-        nth(given, 22),
-        nth(given, 23),
-        number(sizes, 24, 0),
-        number(sizes, 24, 1),
-        nth_sizes(sizes, 25),
-        nth_sizes(sizes, 26),
-        nth(given, 27),
-        nth(given, 28),
-        number(sizes, 29, 0),
-        number(sizes, 29, 1),
-        nth_sizes(sizes, 30),
-        nth_sizes(sizes, 31),
-        nth(given, 32),
-        nth(given, 33),
-        nth(given, 2),
+        told::m(sizes),
+        told::q(sizes),
+        told::lens(sizes),
+        told::shapes(sizes),
+        told::row(sizes),
+        told::col(sizes),
+        told::lo(given),
+        told::hi(given),
+        told::x(given),
         proof,
         t,
     )
@@ -184,10 +120,10 @@ fn verified(
 
 // prove STATE CTR P C S: the prover with P words lent for the proof, C for the claims and S as scratch.
 fn prove(given: &[u64], sizes: &[usize], nums: &[u64], t: Transcript) {
-    let mut told = [MARK; 2048];
+    let mut sent = [MARK; 2048];
     let mut room = [MARK; 256];
     let mut words = text::room();
-    let proof = text::front(&mut told, text::size(at(nums, 2)));
+    let proof = text::front(&mut sent, text::size(at(nums, 2)));
     let claims = text::front(&mut room, text::size(at(nums, 3)));
     let scratch = text::front(&mut words, text::size(at(nums, 4)));
     let r = proved(given, sizes, t, proof, claims, scratch);

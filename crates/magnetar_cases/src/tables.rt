@@ -2,10 +2,10 @@
 use crate::again;
 use crate::text::MARK;
 use crate::text::at;
-use crate::text::nth;
-use crate::text::nth_sizes;
-use crate::text::number;
+use crate::text::first;
+use crate::text::first_sizes;
 use crate::text::{self};
+use crate::told;
 use magnetar_batch::combo;
 use magnetar_r1cs::r1cs;
 
@@ -14,66 +14,25 @@ const COMBO: u64 = 0x636f6d626f;
 
 const MASKS: u64 = 0x6d61736b73;
 
-fn combined(
-    nums: &[u64],
-    given: &[u64],
-    sizes: &[usize],
-    out: &mut [u64],
-    scratch: &mut [u64],
-) -> u32 {
-    combo::build_m_combo(
-        number(sizes, 0, 0),
-        number(sizes, 4, 0),
-        number(sizes, 4, 1),
-        nth_sizes(sizes, 5),
-        nth_sizes(sizes, 6),
-        nth(given, 7),
-        nth(given, 8),
-        number(sizes, 9, 0),
-        number(sizes, 9, 1),
-        nth_sizes(sizes, 10),
-        nth_sizes(sizes, 11),
-        nth(given, 12),
-        nth(given, 13),
-        number(sizes, 14, 0),
-        number(sizes, 14, 1),
-        nth_sizes(sizes, 15),
-        nth_sizes(sizes, 16),
-        nth(given, 17),
-        nth(given, 18),
-        number(sizes, 19, 0),
-        number(sizes, 19, 1),
-        nth_sizes(sizes, 20),
-        nth_sizes(sizes, 21),
-        nth(given, 22),
-        nth(given, 23),
-        number(sizes, 24, 0),
-        number(sizes, 24, 1),
-        nth_sizes(sizes, 25),
-        nth_sizes(sizes, 26),
-        nth(given, 27),
-        nth(given, 28),
-        number(sizes, 29, 0),
-        number(sizes, 29, 1),
-        nth_sizes(sizes, 30),
-        nth_sizes(sizes, 31),
-        nth(given, 32),
-        nth(given, 33),
-        text::after(nums, 2, 0),
-        text::after(nums, 2, 1),
-        text::after(nums, 2, 2),
-        out,
-        scratch,
-    )
-}
-
 // combo N S ALPHAS PB PF: the combined table of the relation, with N words lent for it and S as scratch.
 fn combo(nums: &[u64], given: &[u64], sizes: &[usize]) {
     let mut table = [MARK; 2048];
     let mut words = text::room();
     let room = text::front(&mut table, text::size(at(nums, 0)));
     let part = text::front(&mut words, text::size(at(nums, 1)));
-    let code = combined(nums, given, sizes, room, part);
+    let code = combo::build_m_combo(
+        room,
+        part,
+        told::m(sizes),
+        told::shapes(sizes),
+        told::row(sizes),
+        told::col(sizes),
+        told::lo(given),
+        told::hi(given),
+        text::after(nums, 2, 0),
+        text::after(nums, 2, 1),
+        text::after(nums, 2, 2),
+    );
     text::agreed(again::combo(nums, given, sizes, code, room, part));
     text::print_code(code, room);
     text::print_cleared(part);
@@ -83,14 +42,16 @@ fn combo(nums: &[u64], given: &[u64], sizes: &[usize]) {
 fn masks(nums: &[u64], given: &[u64], sizes: &[usize]) {
     let mut table = [MARK; 2048];
     let room = text::front(&mut table, text::size(at(nums, 0)));
+    let a = told::first(sizes);
+    let n = a.entries;
     let code = r1cs::apply_simd_bit_masks(
-        number(sizes, 4, 0),
-        number(sizes, 4, 1),
-        nth_sizes(sizes, 5),
-        nth_sizes(sizes, 6),
-        nth(given, 7),
-        nth(given, 8),
-        nth(given, 3),
+        a.rows,
+        a.cols,
+        first_sizes(told::row(sizes), n),
+        first_sizes(told::col(sizes), n),
+        first(told::lo(given), n),
+        first(told::hi(given), n),
+        told::packed(given),
         text::size(at(nums, 1)),
         text::size(at(nums, 2)),
         text::size(at(nums, 3)),

@@ -164,7 +164,7 @@ pub(crate) fn first(s: &[u64], n: usize) -> &[u64] {
 }
 
 // The same of sizes.
-fn first_sizes(s: &[usize], n: usize) -> &[usize] {
+pub(crate) fn first_sizes(s: &[usize], n: usize) -> &[usize] {
     if n < s.len() {
         return &s[0..n];
     }
@@ -261,11 +261,6 @@ fn skip_sizes(s: &[usize], k: usize) -> usize {
 // The same of sizes.
 pub(crate) fn nth_sizes(s: &[usize], k: usize) -> &[usize] {
     list_sizes(s, skip_sizes(s, k))
-}
-
-// The number at index i of the list number k.
-pub(crate) fn number(s: &[usize], k: usize, i: usize) -> usize {
-    at_size(nth_sizes(s, k), i)
 }
 
 // Whether the words are the same.

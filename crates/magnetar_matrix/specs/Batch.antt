@@ -29,9 +29,17 @@ pub record Relation : Type 0 where
 unfoldable pub bitOf : Batch → ℕ → ℕ → ℕ
 bitOf b u y = getD (getD b u []) y 0
 
+-- the public half (1, x) of login u: the column of 1, then the login's public columns, which all logins share
+abbrev pub publicHalf : List ℕ → ℕ → List ℕ
+publicHalf x u = 1 ∷ x
+
+-- the public halves of all logins folded at the point p: the eq values add up to 1, so it is the half that they share
+abbrev pub publicFolded : List ℕ → (p : List ℕ) → List ℕ
+publicFolded x p = publicHalf x 0
+
 -- z = (w, 1, x) of login u, x being the public columns
 unfoldable pub assignment : Batch → List ℕ → ℕ → List ℕ
-assignment b x u = getD b u [] ++ (1 ∷ x)
+assignment b x u = getD b u [] ++ publicHalf x u
 
 -- row i of the system holds for z
 unfoldable pub rowHolds : System → List ℕ → ℕ → Bool

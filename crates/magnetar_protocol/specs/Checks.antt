@@ -14,7 +14,7 @@ use Rattle.magnetar_round.specs.Order.{eqPoints}
 use Rattle.magnetar_round.specs.Outer.{outerEnd}
 use Rattle.magnetar_round.specs.Inner.{innerEnd}
 use Rattle.magnetar_matrix.specs.Matrix.{mleTable}
-use Rattle.magnetar_matrix.specs.Batch.{Relation}
+use Rattle.magnetar_matrix.specs.Batch.{Relation, publicFolded}
 use Rattle.magnetar_layout.specs.Layout.{localVars, suffix}
 use Rattle.magnetar_protocol.specs.Shape.{logLogins, logBin, logFld, logCols}
 use Rattle.magnetar_protocol.specs.Proof.{binMessages, fldMessages, terminals, terminal, innerRounds, valueZ, segmentValues}
@@ -107,7 +107,7 @@ module _ (r : Relation) (w : List ℕ) (d : Draws) where
   identityCheck x =
       record {
         refusal = 29;
-        passes = eqb ((1 ⊕ topElement r d) ⊗ segmentSum (r .lengths) (lowPoint r d) 0 (segmentValues r w) ⊕ topElement r d ⊗ mle (1 ∷ x) (lowPoint r d))
+        passes = eqb ((1 ⊕ topElement r d) ⊗ segmentSum (r .lengths) (lowPoint r d) 0 (segmentValues r w) ⊕ topElement r d ⊗ mle (publicFolded x (loginPoint d)) (lowPoint r d))
             (valueZ r w);
         events = afterInner r + 1;
       }

@@ -10,7 +10,7 @@ use Rattle.magnetar_multilinear.specs.Multilinear.{mle}
 use Rattle.magnetar_round.specs.Messages.{outerStart, outerMessages, innerMessages}
 use Rattle.magnetar_matrix.specs.Sum.{blocks}
 use Rattle.magnetar_matrix.specs.Matrix.{Matrix, System, times}
-use Rattle.magnetar_matrix.specs.Batch.{Relation, Batch, assignment, folded}
+use Rattle.magnetar_matrix.specs.Batch.{Relation, Batch, assignment, folded, publicFolded}
 use Rattle.magnetar_protocol.specs.Shape.{logLogins}
 use Rattle.magnetar_protocol.specs.Draws.{Draws, drawsOf, loginPoint, lowPoint}
 use Rattle.magnetar_protocol.specs.Checks.{combined}
@@ -63,7 +63,7 @@ module _ (r : Relation) (b : Batch) (x : List ℕ) where
 
     -- z folded over the logins: the folded bits, and the public half, which all logins share
     unfoldable pub foldedZ : List ℕ
-    foldedZ = folded (r .q) (r .m / 2) b (loginPoint d) ++ (1 ∷ x)
+    foldedZ = folded (r .q) (r .m / 2) b (loginPoint d) ++ publicFolded x (loginPoint d)
 
     -- all words of the proof: shared rounds, row rounds of bin and of fld, terminals, inner rounds, v_z, segment values
     unfoldable pub honestWords : List ℕ

@@ -20,8 +20,8 @@ pub(crate) fn taus(sb: usize, sf: usize, draws: &mut [u64], t: Transcript) -> Tr
 {
     let a = 2 * sb;
     let e = a + 2 * sf;
-    let u = events::tau_bin(t, &mut draws[..a]);
-    let r = events::tau_fld(u, &mut draws[a..e]);
+    let u = events::tau(t, &mut draws[..a], true);
+    let r = events::tau(u, &mut draws[a..e], false);
     r
 }
 

@@ -18,6 +18,7 @@ ghost use Rattle.magnetar_hash.specs.Transcript.{element};
 ghost use Rattle.magnetar_protocol.specs.Stepwise.{rowStep, rowSteps};
 ghost use Rattle.magnetar_multilinear.specs.Multilinear.{bindVar};
 ghost use Rattle.magnetar_round.specs.Outer.{outerMessage, dropVar};
+ghost use Rattle.magnetar_schedule.specs.Labels.{rowLabel};
 ghost use Rattle.magnetar_rounds.specs.Entries.{tableAt};
 ghost use Rattle.magnetar_rounds.specs.Held.{Table, Rows, rowIn};
 
@@ -108,9 +109,9 @@ fn end_round(
     public::eq_next(k, tau, r)
 }
 
-// Row round i of bin, with tables of n words: its tau is element o of the draws, its message goes behind p elements, its challenge
+// Row round i, of bin or of fld, with tables of n words: its tau is element o of the draws, its message goes behind p elements, its challenge
 // behind d.
-fn row_bin(
+fn row(
     i: usize,
     o: usize,
     p: usize,
@@ -122,16 +123,17 @@ fn row_bin(
     draws: &mut [u64],
     s: &mut [u64],
     t: Transcript,
+    bin: bool,
 ) -> Round
     requires { ⌜ (length (now s) ≡ 4 * w) × (w ≤ 2097152) × (n ≤ w) × (p < 1024) × (2 * p + 8 ≤ length (now proof)) × (2 * d + 2 ≤ length (now draws)) ⌝ }
     requires { ⌜ Rows n o d ⌝ }
-    ensures { λ r. ⌜ rowIn (p + 4) (d + 1) (o + 1) (value (r .k)) w (n / 2) (r .transcript) (now (proof .exit)) (now (draws .exit)) (now (s .exit)) ≡ rowStep "vs-out-rowbin-" i (rowIn p d o (value k) w n t (now (proof .entry)) (now (draws .entry)) (now (s .entry))) ⌝ }
+    ensures { λ r. ⌜ rowIn (p + 4) (d + 1) (o + 1) (value (r .k)) w (n / 2) (r .transcript) (now (proof .exit)) (now (draws .exit)) (now (s .exit)) ≡ rowStep (rowLabel bin) i (rowIn p d o (value k) w n t (now (proof .entry)) (now (draws .entry)) (now (s .entry))) ⌝ }
 {
     let tau = words::get(draws, o);
     let a = 2 * p;
     let e = a + 8;
     message(&mut proof[a..e], s, w, n, 0, k, tau);
-    let u = events::bin_round(t, i, &proof[a..e]);
+    let u = events::row_round(t, bin, i, &proof[a..e]);
     let y = end_round(d, w, n, 0, k, tau, draws, s, u);
     Round {
         transcript: u,
@@ -139,39 +141,8 @@ fn row_bin(
     }
 }
 
-// Row round i of fld, with tables of n words: its tau is element o of the draws, its message goes behind p elements, its challenge
-// behind d.
-fn row_fld(
-    i: usize,
-    o: usize,
-    p: usize,
-    d: usize,
-    w: usize,
-    n: usize,
-    k: Gf128,
-    proof: &mut [u64],
-    draws: &mut [u64],
-    s: &mut [u64],
-    t: Transcript,
-) -> Round
-    requires { ⌜ (length (now s) ≡ 4 * w) × (w ≤ 2097152) × (n ≤ w) × (p < 1024) × (2 * p + 8 ≤ length (now proof)) × (2 * d + 2 ≤ length (now draws)) ⌝ }
-    requires { ⌜ Rows n o d ⌝ }
-    ensures { λ r. ⌜ rowIn (p + 4) (d + 1) (o + 1) (value (r .k)) w (n / 2) (r .transcript) (now (proof .exit)) (now (draws .exit)) (now (s .exit)) ≡ rowStep "vs-out-rowfld-" i (rowIn p d o (value k) w n t (now (proof .entry)) (now (draws .entry)) (now (s .entry))) ⌝ }
-{
-    let tau = words::get(draws, o);
-    let a = 2 * p;
-    let e = a + 8;
-    message(&mut proof[a..e], s, w, n, 0, k, tau);
-    let u = events::fld_round(t, i, &proof[a..e]);
-    let y = end_round(d, w, n, 0, k, tau, draws, s, u);
-    Round {
-        transcript: u,
-        k: y,
-    }
-}
-
-// All x row rounds of bin, from tables of n = 2 2^x words on.
-pub(crate) fn rows_bin(
+// All x row rounds of bin, or of fld, from tables of n = 2 2^x words on.
+pub(crate) fn rows(
     x: usize,
     o: usize,
     p: usize,
@@ -183,52 +154,18 @@ pub(crate) fn rows_bin(
     draws: &mut [u64],
     s: &mut [u64],
     t: Transcript,
+    bin: bool,
 ) -> Round
     requires { ⌜ (length (now s) ≡ 4 * w) × (w ≤ 2097152) × (n ≤ w) × (x < 62) × (p < 512) × (d < 512) × (o + x ≤ d) × (2 * (p + 4 * x) ≤ length (now proof)) × (2 * (d + x) ≤ length (now draws)) ⌝ }
     requires { ⌜ n ≡ 2 * 2 ^ x ⌝ }
-    ensures { λ r. ⌜ rowIn (p + 4 * x) (d + x) (o + x) (value (r .k)) w 2 (r .transcript) (now (proof .exit)) (now (draws .exit)) (now (s .exit)) ≡ rowSteps "vs-out-rowbin-" 0 x (rowIn p d o (value k) w n t (now (proof .entry)) (now (draws .entry)) (now (s .entry))) ⌝ }
+    ensures { λ r. ⌜ rowIn (p + 4 * x) (d + x) (o + x) (value (r .k)) w 2 (r .transcript) (now (proof .exit)) (now (draws .exit)) (now (s .exit)) ≡ rowSteps (rowLabel bin) 0 x (rowIn p d o (value k) w n t (now (proof .entry)) (now (draws .entry)) (now (s .entry))) ⌝ }
 {
     let mut i = 0;
     let mut m = n;
     let mut y = k;
     let mut u = t;
     while i < x {
-        let r = row_bin(i, o + i, p + 4 * i, d + i, w, m, y, proof, draws, s, u);
-        u = r.transcript;
-        y = r.k;
-        m = m / 2;
-        i += 1;
-    }
-    Round {
-        transcript: u,
-        k: y,
-    }
-}
-
-// All x row rounds of fld, from tables of n = 2 2^x words on.
-pub(crate) fn rows_fld(
-    x: usize,
-    o: usize,
-    p: usize,
-    d: usize,
-    w: usize,
-    n: usize,
-    k: Gf128,
-    proof: &mut [u64],
-    draws: &mut [u64],
-    s: &mut [u64],
-    t: Transcript,
-) -> Round
-    requires { ⌜ (length (now s) ≡ 4 * w) × (w ≤ 2097152) × (n ≤ w) × (x < 62) × (p < 512) × (d < 512) × (o + x ≤ d) × (2 * (p + 4 * x) ≤ length (now proof)) × (2 * (d + x) ≤ length (now draws)) ⌝ }
-    requires { ⌜ n ≡ 2 * 2 ^ x ⌝ }
-    ensures { λ r. ⌜ rowIn (p + 4 * x) (d + x) (o + x) (value (r .k)) w 2 (r .transcript) (now (proof .exit)) (now (draws .exit)) (now (s .exit)) ≡ rowSteps "vs-out-rowfld-" 0 x (rowIn p d o (value k) w n t (now (proof .entry)) (now (draws .entry)) (now (s .entry))) ⌝ }
-{
-    let mut i = 0;
-    let mut m = n;
-    let mut y = k;
-    let mut u = t;
-    while i < x {
-        let r = row_fld(i, o + i, p + 4 * i, d + i, w, m, y, proof, draws, s, u);
+        let r = row(i, o + i, p + 4 * i, d + i, w, m, y, proof, draws, s, u, bin);
         u = r.transcript;
         y = r.k;
         m = m / 2;

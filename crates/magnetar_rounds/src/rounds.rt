@@ -95,9 +95,9 @@ fn rows(
     let z = c + 4 * wf;
     let nb = power_words(b);
     let nf = power_words(f);
-    let u = outer::rows_bin(b, 0, p, d, wb, nb, kb, proof, draws, &mut s[..c], t);
+    let u = outer::rows(b, 0, p, d, wb, nb, kb, proof, draws, &mut s[..c], t, true);
     let x = u.transcript;
-    let v = outer::rows_fld(
+    let v = outer::rows(
         f,
         m,
         p + 4 * b,
@@ -109,6 +109,7 @@ fn rows(
         draws,
         &mut s[c..z],
         x,
+        false,
     );
     let y = v.transcript;
     let g = u.k;

@@ -5,6 +5,7 @@ ghost use Prim.Native.Nat.{_*_, _/_, _≤_};
 ghost use lib.ListN.{length, drop};
 ghost use Rattle.magnetar_hash.specs.Bytes.{wordBytes, ascii};
 ghost use Rattle.magnetar_hash.specs.Transcript.{absorbed, drawn, drawnTimes, drawnWords};
+ghost use Rattle.magnetar_schedule.specs.Labels.{rowLabel, tauLabel};
 ghost use Rattle.magnetar_protocol.specs.Schedule.{decimal, numbered};
 use magnetar_hash::transcript;
 use magnetar_hash::transcript::Transcript;
@@ -85,17 +86,13 @@ pub fn shared_round(t: Transcript, i: usize, words: &[u64]) -> Transcript
     round(t, b"vs-out-shared-", i, words)
 }
 
-// Row round i of bin.
-pub fn bin_round(t: Transcript, i: usize, words: &[u64]) -> Transcript
-    ensures { λ r. ⌜ r ≡ drawn (absorbed t (numbered "vs-out-rowbin-" i) (wordBytes (now (words .entry)))) (numbered "vs-out-rowbin-" i) ⌝ }
+// Row round i, of bin or of fld.
+pub fn row_round(t: Transcript, bin: bool, i: usize, words: &[u64]) -> Transcript
+    ensures { λ r. ⌜ r ≡ drawn (absorbed t (numbered (rowLabel bin) i) (wordBytes (now (words .entry)))) (numbered (rowLabel bin) i) ⌝ }
 {
-    round(t, b"vs-out-rowbin-", i, words)
-}
-
-// Row round i of fld.
-pub fn fld_round(t: Transcript, i: usize, words: &[u64]) -> Transcript
-    ensures { λ r. ⌜ r ≡ drawn (absorbed t (numbered "vs-out-rowfld-" i) (wordBytes (now (words .entry)))) (numbered "vs-out-rowfld-" i) ⌝ }
-{
+    if bin {
+        return round(t, b"vs-out-rowbin-", i, words);
+    }
     round(t, b"vs-out-rowfld-", i, words)
 }
 
@@ -129,19 +126,14 @@ pub fn segment(t: Transcript, i: usize, words: &[u64]) -> Transcript
 }
 
 // The draws of the two tau and of the alphas, as many elements as `out` has room for.
-pub fn tau_bin(t: Transcript, out: &mut [u64]) -> Transcript
-    ensures { λ r. ⌜ (r ≡ drawnTimes (length (now (out .entry)) / 2) t (ascii "vs-tau-bin"))
-        × (now (out .exit) ≡ drawnWords (length (now (out .entry)) / 2) t (ascii "vs-tau-bin")
+pub fn tau(t: Transcript, out: &mut [u64], bin: bool) -> Transcript
+    ensures { λ r. ⌜ (r ≡ drawnTimes (length (now (out .entry)) / 2) t (ascii (tauLabel bin)))
+        × (now (out .exit) ≡ drawnWords (length (now (out .entry)) / 2) t (ascii (tauLabel bin))
         ++ drop (2 * (length (now (out .entry)) / 2)) (now (out .entry))) ⌝ }
 {
-    transcript::draw_vec(t, b"vs-tau-bin", out)
-}
-
-pub fn tau_fld(t: Transcript, out: &mut [u64]) -> Transcript
-    ensures { λ r. ⌜ (r ≡ drawnTimes (length (now (out .entry)) / 2) t (ascii "vs-tau-fld"))
-        × (now (out .exit) ≡ drawnWords (length (now (out .entry)) / 2) t (ascii "vs-tau-fld")
-        ++ drop (2 * (length (now (out .entry)) / 2)) (now (out .entry))) ⌝ }
-{
+    if bin {
+        return transcript::draw_vec(t, b"vs-tau-bin", out);
+    }
     transcript::draw_vec(t, b"vs-tau-fld", out)
 }
 

@@ -1,6 +1,7 @@
 -- `magnetar_c::magnetar_row_check` meets its contract.
 -- Assumes nothing.
 use mathlib.Core.Path.{ap, _∙_}
+use Rattle.magnetar_batch.specs.Check.{Checked}
 use Rattle.magnetar_c.specs.Across.{crossed}
 use borrow.Author.Needs.{needs}
 use Rattle.magnetar_c.proofs.magnetar_row_check.Statement.{statement}
@@ -17,8 +18,8 @@ same-length c = search needs
 
 returns : tie.Need-returns
 returns c =
-    let d = c .before .before .before in
-    (c .check-out .ensures ∙ ap crossed (d .row-check .ensures .0), d .row-check .ensures .1)
+    let e = c .before .before .before .row-check .ensures in
+    (c .check-out .ensures ∙ ap (λ (o : Checked). crossed (o .answer)) e, ap (λ (o : Checked). o .scratch) e)
 
 pub magnetar-row-check-spec : {M : Type 1} → statement M
 magnetar-row-check-spec =

@@ -8,19 +8,16 @@ use Rattle.magnetar_cases.proofs.again.records.Statement.{statement}
 use Rattle.magnetar_cases.proofs.again.records.Tie as tie
 
 abbrev Inv-loop : tie.InvT-loop
-Inv-loop row col lo hi es₀ i₀ es i = (length es ≡ 64) × (i ≤ 64)
+Inv-loop given sizes es₀ i₀ es i = (length es ≡ 384) × (i ≤ 384)
 
 abbrev μ-loop : tie.MeasureT-loop
-μ-loop row col lo hi es₀ i₀ es i = 64 - i
-
-record-requires : tie.Need-record-requires Inv-loop μ-loop
-record-requires c κs = search needs
+μ-loop given sizes es₀ i₀ es i = 384 - i
 
 loop-holds : tie.Need-loop-holds Inv-loop μ-loop
 loop-holds c = search needs
 
-record-requires-2 : tie.Need-record-requires-2 Inv-loop μ-loop
-record-requires-2 c κs = search needs
+record-requires : tie.Need-record-requires Inv-loop μ-loop
+record-requires c κs = search needs
 
 mul-es : tie.Need-mul-es Inv-loop μ-loop
 mul-es c = search needs
@@ -46,9 +43,8 @@ records-spec =
     (tie.spec
     Inv-loop
     μ-loop
-    record-requires
     loop-holds
-    record-requires-2
+    record-requires
     mul-es
     array-set-from-es
     add-i

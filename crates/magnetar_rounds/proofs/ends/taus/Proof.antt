@@ -19,36 +19,36 @@ mul-e c = search needs
 add-e : tie.Need-add-e
 add-e c = search needs
 
-slice-relend-prefix-tau-bin : tie.Need-slice-relend-prefix-tau-bin
-slice-relend-prefix-tau-bin c = search needs
+slice-relend-prefix-tau : tie.Need-slice-relend-prefix-tau
+slice-relend-prefix-tau c = search needs
 
-slice-aggregate-tau-bin : tie.Need-slice-aggregate-tau-bin
-slice-aggregate-tau-bin c = sym (length-take-le _ _ (omega arith))
+slice-aggregate-tau : tie.Need-slice-aggregate-tau
+slice-aggregate-tau c = sym (length-take-le _ _ (omega arith))
 
-tau-bin-requires : tie.Need-tau-bin-requires
-tau-bin-requires c κs = search needs
+tau-requires : tie.Need-tau-requires
+tau-requires c κs = search needs
 
-mul-tau-fld : tie.Need-mul-tau-fld
-mul-tau-fld c = search needs
+mul-tau : tie.Need-mul-tau
+mul-tau c = search needs
 
-sub-tau-fld : tie.Need-sub-tau-fld
-sub-tau-fld c = search needs
+sub-tau : tie.Need-sub-tau
+sub-tau c = search needs
 
-part-tau-fld-start : tie.Need-part-tau-fld-start
-part-tau-fld-start c = search needs
+part-tau-start : tie.Need-part-tau-start
+part-tau-start c = search needs
 
-part-tau-fld-end : tie.Need-part-tau-fld-end
-part-tau-fld-end c = search needs
+part-tau-end : tie.Need-part-tau-end
+part-tau-end c = search needs
 
-tau-fld-requires : tie.Need-tau-fld-requires
-tau-fld-requires c κs = search needs
+tau-requires-2 : tie.Need-tau-requires-2
+tau-requires-2 c κs = search needs
 
 same-length : tie.Need-same-length
 same-length c = search needs
 
 returns : tie.Need-returns
 returns c = let x = c .before .before .before .before .before .before .before .before .before .args in
-    drawn-both-times (now (x .draws)) (c .before .before .before .before .before .before .tau-bin .last .1 .0) (c .before .before .tau-fld .last .1 .0) (x .t) (c .before .before .before .before .before .before .tau-bin .result) (c .before .before .tau-fld .result) (ascii "vs-tau-bin") (ascii "vs-tau-fld") (x .sb) (x .sf) (omega arith) (c .before .before .before .before .before .before .tau-bin .ensures .0) (c .before .before .before .before .before .before .tau-bin .ensures .1) (c .before .before .tau-fld .ensures .0) (c .before .before .tau-fld .ensures .1)
+    drawn-both-times (now (x .draws)) (c .before .before .before .before .before .before .tau .last .1 .0) (c .before .before .tau2 .last .1 .0) (x .t) (c .before .before .before .before .before .before .tau .result) (c .before .before .tau2 .result) (ascii "vs-tau-bin") (ascii "vs-tau-fld") (x .sb) (x .sf) (omega arith) (c .before .before .before .before .before .before .tau .ensures .0) (c .before .before .before .before .before .before .tau .ensures .1) (c .before .before .tau2 .ensures .0) (c .before .before .tau2 .ensures .1)
 
 pub taus-spec : {M : Type 1} → statement M
 taus-spec =
@@ -57,13 +57,13 @@ taus-spec =
     mul-a
     mul-e
     add-e
-    slice-relend-prefix-tau-bin
-    slice-aggregate-tau-bin
-    tau-bin-requires
-    mul-tau-fld
-    sub-tau-fld
-    part-tau-fld-start
-    part-tau-fld-end
-    tau-fld-requires
+    slice-relend-prefix-tau
+    slice-aggregate-tau
+    tau-requires
+    mul-tau
+    sub-tau
+    part-tau-start
+    part-tau-end
+    tau-requires-2
     same-length
     returns)

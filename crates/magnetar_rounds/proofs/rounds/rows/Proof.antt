@@ -45,38 +45,38 @@ power-words-requires c κs = search needs
 power-words-requires-2 : tie.Need-power-words-requires-2
 power-words-requires-2 c κs = search needs
 
-slice-relend-prefix-rows-bin : tie.Need-slice-relend-prefix-rows-bin
-slice-relend-prefix-rows-bin c = search needs
+slice-relend-prefix-rows : tie.Need-slice-relend-prefix-rows
+slice-relend-prefix-rows c = search needs
 
-slice-aggregate-rows-bin : tie.Need-slice-aggregate-rows-bin
-slice-aggregate-rows-bin c = sym (length-take-le _ _ (omega (arith, c .before .before .before .before .before .before .before .before .pre .blocks)))
+slice-aggregate-rows : tie.Need-slice-aggregate-rows
+slice-aggregate-rows c = sym (length-take-le _ _ (omega (arith, c .before .before .before .before .before .before .before .before .pre .blocks)))
 
-rows-bin-requires : tie.Need-rows-bin-requires
-rows-bin-requires c κs = let p = c .before .before .before .before .before .before .before .before .pre in ((length-take-le _ _ (omega (arith, p .blocks)), p .bin-most, omega (arith, c .before .before .before .before .power-words .ensures, p .bin-words, pow-mono {i = c .before .before .before .before .before .before .before .before .args .b} {j = c .before .before .before .before .before .before .before .before .args .l + c .before .before .before .before .before .before .before .before .args .b} (omega arith)), omega (arith, p .bin-few), omega (arith, p .bin-few), omega (arith, p .bin-few, p .fld-few), omega arith, omega (arith, p .proof), omega (arith, p .draws)), c .before .before .before .before .power-words .ensures)
+rows-requires : tie.Need-rows-requires
+rows-requires c κs = let p = c .before .before .before .before .before .before .before .before .pre in ((length-take-le _ _ (omega (arith, p .blocks)), p .bin-most, omega (arith, c .before .before .before .before .power-words .ensures, p .bin-words, pow-mono {i = c .before .before .before .before .before .before .before .before .args .b} {j = c .before .before .before .before .before .before .before .before .args .l + c .before .before .before .before .before .before .before .before .args .b} (omega arith)), omega (arith, p .bin-few), omega (arith, p .bin-few), omega (arith, p .bin-few, p .fld-few), omega arith, omega (arith, p .proof), omega (arith, p .draws)), c .before .before .before .before .power-words .ensures)
 
-mul-rows-fld : tie.Need-mul-rows-fld
-mul-rows-fld c = search needs
+mul-rows : tie.Need-mul-rows
+mul-rows c = search needs
 
-add-rows-fld : tie.Need-add-rows-fld
-add-rows-fld c = search needs
+add-rows : tie.Need-add-rows
+add-rows c = search needs
 
-add-rows-fld-2 : tie.Need-add-rows-fld-2
-add-rows-fld-2 c = search needs
+add-rows-2 : tie.Need-add-rows-2
+add-rows-2 c = search needs
 
-mul-rows-fld-2 : tie.Need-mul-rows-fld-2
-mul-rows-fld-2 c = search needs
+mul-rows-2 : tie.Need-mul-rows-2
+mul-rows-2 c = search needs
 
-sub-rows-fld : tie.Need-sub-rows-fld
-sub-rows-fld c = search needs
+sub-rows : tie.Need-sub-rows
+sub-rows c = search needs
 
-part-rows-fld-start : tie.Need-part-rows-fld-start
-part-rows-fld-start c = search needs
+part-rows-start : tie.Need-part-rows-start
+part-rows-start c = search needs
 
-part-rows-fld-end : tie.Need-part-rows-fld-end
-part-rows-fld-end c = search needs
+part-rows-end : tie.Need-part-rows-end
+part-rows-end c = search needs
 
-rows-fld-requires : tie.Need-rows-fld-requires
-rows-fld-requires c κs = let p = c .before .before .before .before .before .before .before .before .before .before .before .before .before .before .before .before .before .before .before .pre in let one : length (c .before .before .before .before .before .before .before .before .before .before .rows-bin .last .1 .1 .1 .1 .1 .1 .1 .1 .1 .0) ≡ 4 * c .before .before .before .before .before .before .before .before .before .before .before .before .before .before .before .before .before .before .before .args .wb = c .before .before .before .before .before .before .before .before .before .before .rows-bin .kept .1 .1 .1 .1 .1 .1 .1 .1 .1 .0 ∙ length-take-le _ _ (omega (arith, c .before .before .before .before .before .before .before .before .before .before .before .before .before .before .before .before .before .before .before .pre .blocks)) in ((ap length (lent-behind (now (c .before .before .before .before .before .before .before .before .before .before .before .before .before .before .before .before .before .before .before .args .s)) (c .before .before .before .before .before .before .before .before .before .before .rows-bin .last .1 .1 .1 .1 .1 .1 .1 .1 .1 .0) (4 * c .before .before .before .before .before .before .before .before .before .before .before .before .before .before .before .before .before .before .before .args .wb) (4 * c .before .before .before .before .before .before .before .before .before .before .before .before .before .before .before .before .before .before .before .args .wf) (p .blocks) one) ∙ rest-length (now (c .before .before .before .before .before .before .before .before .before .before .before .before .before .before .before .before .before .before .before .args .s)) (c .before .before .before .before .before .before .before .before .before .before .rows-bin .last .1 .1 .1 .1 .1 .1 .1 .1 .1 .0) (4 * c .before .before .before .before .before .before .before .before .before .before .before .before .before .before .before .before .before .before .before .args .wb) (4 * c .before .before .before .before .before .before .before .before .before .before .before .before .before .before .before .before .before .before .before .args .wf) (p .blocks) one, p .fld-most, omega (arith, c .before .before .before .before .before .before .before .before .before .before .before .before .before .before .power-words2 .ensures, p .fld-words, pow-mono {i = c .before .before .before .before .before .before .before .before .before .before .before .before .before .before .before .before .before .before .before .args .f} {j = c .before .before .before .before .before .before .before .before .before .before .before .before .before .before .before .before .before .before .before .args .l + c .before .before .before .before .before .before .before .before .before .before .before .before .before .before .before .before .before .before .before .args .f} (omega arith)), omega (arith, p .fld-few), omega (arith, p .bin-few), omega (arith, p .bin-few, p .fld-few), omega arith, omega (arith, p .proof, c .before .before .before .before .before .before .before .before .before .before .rows-bin .kept .1 .1 .1 .1 .1 .1 .1 .0), omega (arith, p .draws, c .before .before .before .before .before .before .before .before .before .before .rows-bin .kept .1 .1 .1 .1 .1 .1 .1 .1 .0)), c .before .before .before .before .before .before .before .before .before .before .before .before .before .before .power-words2 .ensures)
+rows-requires-2 : tie.Need-rows-requires-2
+rows-requires-2 c κs = let p = c .before .before .before .before .before .before .before .before .before .before .before .before .before .before .before .before .before .before .before .pre in let one : length (c .before .before .before .before .before .before .before .before .before .before .rows .last .1 .1 .1 .1 .1 .1 .1 .1 .1 .0) ≡ 4 * c .before .before .before .before .before .before .before .before .before .before .before .before .before .before .before .before .before .before .before .args .wb = c .before .before .before .before .before .before .before .before .before .before .rows .kept .1 .1 .1 .1 .1 .1 .1 .1 .1 .0 ∙ length-take-le _ _ (omega (arith, c .before .before .before .before .before .before .before .before .before .before .before .before .before .before .before .before .before .before .before .pre .blocks)) in ((ap length (lent-behind (now (c .before .before .before .before .before .before .before .before .before .before .before .before .before .before .before .before .before .before .before .args .s)) (c .before .before .before .before .before .before .before .before .before .before .rows .last .1 .1 .1 .1 .1 .1 .1 .1 .1 .0) (4 * c .before .before .before .before .before .before .before .before .before .before .before .before .before .before .before .before .before .before .before .args .wb) (4 * c .before .before .before .before .before .before .before .before .before .before .before .before .before .before .before .before .before .before .before .args .wf) (p .blocks) one) ∙ rest-length (now (c .before .before .before .before .before .before .before .before .before .before .before .before .before .before .before .before .before .before .before .args .s)) (c .before .before .before .before .before .before .before .before .before .before .rows .last .1 .1 .1 .1 .1 .1 .1 .1 .1 .0) (4 * c .before .before .before .before .before .before .before .before .before .before .before .before .before .before .before .before .before .before .before .args .wb) (4 * c .before .before .before .before .before .before .before .before .before .before .before .before .before .before .before .before .before .before .before .args .wf) (p .blocks) one, p .fld-most, omega (arith, c .before .before .before .before .before .before .before .before .before .before .before .before .before .before .power-words2 .ensures, p .fld-words, pow-mono {i = c .before .before .before .before .before .before .before .before .before .before .before .before .before .before .before .before .before .before .before .args .f} {j = c .before .before .before .before .before .before .before .before .before .before .before .before .before .before .before .before .before .before .before .args .l + c .before .before .before .before .before .before .before .before .before .before .before .before .before .before .before .before .before .before .before .args .f} (omega arith)), omega (arith, p .fld-few), omega (arith, p .bin-few), omega (arith, p .bin-few, p .fld-few), omega arith, omega (arith, p .proof, c .before .before .before .before .before .before .before .before .before .before .rows .kept .1 .1 .1 .1 .1 .1 .1 .0), omega (arith, p .draws, c .before .before .before .before .before .before .before .before .before .before .rows .kept .1 .1 .1 .1 .1 .1 .1 .1 .0)), c .before .before .before .before .before .before .before .before .before .before .before .before .before .before .power-words2 .ensures)
 
 same-length : tie.Need-same-length
 same-length c = search needs
@@ -88,7 +88,7 @@ same-length-3 : tie.Need-same-length-3
 same-length-3 c = search needs
 
 returns : tie.Need-returns
-returns c = let p = c .before .before .before .before .before .before .before .before .before .before .before .before .before .before .before .before .before .before .before .before .before .before .before .before .before .before .before .before .before .pre in let one : length (c .before .before .before .before .before .before .before .before .before .before .before .before .before .before .before .before .before .before .before .before .rows-bin .last .1 .1 .1 .1 .1 .1 .1 .1 .1 .0) ≡ 4 * c .before .before .before .before .before .before .before .before .before .before .before .before .before .before .before .before .before .before .before .before .before .before .before .before .before .before .before .before .before .args .wb = c .before .before .before .before .before .before .before .before .before .before .before .before .before .before .before .before .before .before .before .before .rows-bin .kept .1 .1 .1 .1 .1 .1 .1 .1 .1 .0 ∙ length-take-le _ _ (omega (arith, c .before .before .before .before .before .before .before .before .before .before .before .before .before .before .before .before .before .before .before .before .before .before .before .before .before .before .before .before .before .pre .blocks)) in let two : length (c .before .before .before .before .before .before .before .before .before .rows-fld .last .1 .1 .1 .1 .1 .1 .1 .1 .1 .0) ≡ 4 * c .before .before .before .before .before .before .before .before .before .before .before .before .before .before .before .before .before .before .before .before .before .before .before .before .before .before .before .before .before .args .wf = c .before .before .before .before .before .before .before .before .before .rows-fld .kept .1 .1 .1 .1 .1 .1 .1 .1 .1 .0 ∙ (ap length (lent-behind (now (c .before .before .before .before .before .before .before .before .before .before .before .before .before .before .before .before .before .before .before .before .before .before .before .before .before .before .before .before .before .args .s)) (c .before .before .before .before .before .before .before .before .before .before .before .before .before .before .before .before .before .before .before .before .rows-bin .last .1 .1 .1 .1 .1 .1 .1 .1 .1 .0) (4 * c .before .before .before .before .before .before .before .before .before .before .before .before .before .before .before .before .before .before .before .before .before .before .before .before .before .before .before .before .before .args .wb) (4 * c .before .before .before .before .before .before .before .before .before .before .before .before .before .before .before .before .before .before .before .before .before .before .before .before .before .before .before .before .before .args .wf) (p .blocks) one) ∙ rest-length (now (c .before .before .before .before .before .before .before .before .before .before .before .before .before .before .before .before .before .before .before .before .before .before .before .before .before .before .before .before .before .args .s)) (c .before .before .before .before .before .before .before .before .before .before .before .before .before .before .before .before .before .before .before .before .rows-bin .last .1 .1 .1 .1 .1 .1 .1 .1 .1 .0) (4 * c .before .before .before .before .before .before .before .before .before .before .before .before .before .before .before .before .before .before .before .before .before .before .before .before .before .before .before .before .before .args .wb) (4 * c .before .before .before .before .before .before .before .before .before .before .before .before .before .before .before .before .before .before .before .before .before .before .before .before .before .before .before .before .before .args .wf) (p .blocks) one) in rows-left (c .before .before .before .before .before .before .before .before .before .before .before .before .before .before .before .before .before .before .before .before .before .before .before .before .before .before .before .before .before .args .l) (c .before .before .before .before .before .before .before .before .before .before .before .before .before .before .before .before .before .before .before .before .before .before .before .before .before .before .before .before .before .args .b) (c .before .before .before .before .before .before .before .before .before .before .before .before .before .before .before .before .before .before .before .before .before .before .before .before .before .before .before .before .before .args .f) (c .before .before .before .before .before .before .before .before .before .before .before .before .before .before .before .before .before .before .before .before .before .before .before .before .before .before .before .before .before .args .wb) (c .before .before .before .before .before .before .before .before .before .before .before .before .before .before .before .before .before .before .before .before .before .before .before .before .before .before .before .before .before .args .wf) (omega (arith, c .before .before .before .before .before .before .before .before .before .before .before .before .before .before .before .before .before .before .before .before .before .before .before .before .before .before .before .before .before .pre .bin-few)) (omega (arith, c .before .before .before .before .before .before .before .before .before .before .before .before .before .before .before .before .before .before .before .before .before .before .before .before .before .before .before .before .before .pre .fld-few)) _ _ (value (c .before .before .before .before .before .before .before .before .before .before .before .before .before .before .before .before .before .before .before .before .before .before .before .before .before .before .before .before .before .args .kb)) (value (c .before .before .before .before .before .before .before .before .before .before .before .before .before .before .before .before .before .before .before .before .before .before .before .before .before .before .before .before .before .args .kf)) _ _ (c .before .before .before .before .before .before .before .before .before .before .before .before .before .before .before .before .before .before .before .before .before .before .before .before .before .before .before .before .before .args .t) (c .before .before .before .before .before .before .before .before .before .before .before .before .before .before .before .before .before .before .before .before .rows-bin .result .transcript) (c .before .before .before .before .before .before .before .before .before .rows-fld .result .transcript) (now (c .before .before .before .before .before .before .before .before .before .before .before .before .before .before .before .before .before .before .before .before .before .before .before .before .before .before .before .before .before .args .proof)) (now (c .before .before .before .before .before .before .before .before .before .before .before .before .before .before .before .before .before .before .before .before .before .before .before .before .before .before .before .before .before .args .draws)) (now (c .before .before .before .before .before .before .before .before .before .before .before .before .before .before .before .before .before .before .before .before .before .before .before .before .before .before .before .before .before .args .s)) (c .before .before .before .before .before .before .before .before .before .before .before .before .before .before .before .before .before .before .before .before .rows-bin .last .1 .1 .1 .1 .1 .1 .1 .0) (c .before .before .before .before .before .before .before .before .before .before .before .before .before .before .before .before .before .before .before .before .rows-bin .last .1 .1 .1 .1 .1 .1 .1 .1 .0) (c .before .before .before .before .before .before .before .before .before .before .before .before .before .before .before .before .before .before .before .before .rows-bin .last .1 .1 .1 .1 .1 .1 .1 .1 .1 .0) (c .before .before .before .before .before .before .before .before .before .rows-fld .last .1 .1 .1 .1 .1 .1 .1 .0) (c .before .before .before .before .before .before .before .before .before .rows-fld .last .1 .1 .1 .1 .1 .1 .1 .1 .0) (c .before .before .before .before .before .before .before .before .before .rows-fld .last .1 .1 .1 .1 .1 .1 .1 .1 .1 .0) (c .before .before .before .before .before .before .before .before .before .before .before .before .before .before .before .before .before .before .before .before .before .before .before .before .before .power-words .ensures) (c .before .before .before .before .before .before .before .before .before .before .before .before .before .before .before .before .before .before .before .before .before .before .before .before .power-words2 .ensures) (p .blocks) one two (rw elements-length (omega (arith, p .draws))) (c .before .before .before .before .before .before .before .before .before .before .before .before .before .before .before .before .before .before .before .before .rows-bin .ensures) (c .before .before .before .before .before .before .before .before .before .rows-fld .ensures)
+returns c = let p = c .before .before .before .before .before .before .before .before .before .before .before .before .before .before .before .before .before .before .before .before .before .before .before .before .before .before .before .before .before .pre in let one : length (c .before .before .before .before .before .before .before .before .before .before .before .before .before .before .before .before .before .before .before .before .rows .last .1 .1 .1 .1 .1 .1 .1 .1 .1 .0) ≡ 4 * c .before .before .before .before .before .before .before .before .before .before .before .before .before .before .before .before .before .before .before .before .before .before .before .before .before .before .before .before .before .args .wb = c .before .before .before .before .before .before .before .before .before .before .before .before .before .before .before .before .before .before .before .before .rows .kept .1 .1 .1 .1 .1 .1 .1 .1 .1 .0 ∙ length-take-le _ _ (omega (arith, c .before .before .before .before .before .before .before .before .before .before .before .before .before .before .before .before .before .before .before .before .before .before .before .before .before .before .before .before .before .pre .blocks)) in let two : length (c .before .before .before .before .before .before .before .before .before .rows2 .last .1 .1 .1 .1 .1 .1 .1 .1 .1 .0) ≡ 4 * c .before .before .before .before .before .before .before .before .before .before .before .before .before .before .before .before .before .before .before .before .before .before .before .before .before .before .before .before .before .args .wf = c .before .before .before .before .before .before .before .before .before .rows2 .kept .1 .1 .1 .1 .1 .1 .1 .1 .1 .0 ∙ (ap length (lent-behind (now (c .before .before .before .before .before .before .before .before .before .before .before .before .before .before .before .before .before .before .before .before .before .before .before .before .before .before .before .before .before .args .s)) (c .before .before .before .before .before .before .before .before .before .before .before .before .before .before .before .before .before .before .before .before .rows .last .1 .1 .1 .1 .1 .1 .1 .1 .1 .0) (4 * c .before .before .before .before .before .before .before .before .before .before .before .before .before .before .before .before .before .before .before .before .before .before .before .before .before .before .before .before .before .args .wb) (4 * c .before .before .before .before .before .before .before .before .before .before .before .before .before .before .before .before .before .before .before .before .before .before .before .before .before .before .before .before .before .args .wf) (p .blocks) one) ∙ rest-length (now (c .before .before .before .before .before .before .before .before .before .before .before .before .before .before .before .before .before .before .before .before .before .before .before .before .before .before .before .before .before .args .s)) (c .before .before .before .before .before .before .before .before .before .before .before .before .before .before .before .before .before .before .before .before .rows .last .1 .1 .1 .1 .1 .1 .1 .1 .1 .0) (4 * c .before .before .before .before .before .before .before .before .before .before .before .before .before .before .before .before .before .before .before .before .before .before .before .before .before .before .before .before .before .args .wb) (4 * c .before .before .before .before .before .before .before .before .before .before .before .before .before .before .before .before .before .before .before .before .before .before .before .before .before .before .before .before .before .args .wf) (p .blocks) one) in rows-left (c .before .before .before .before .before .before .before .before .before .before .before .before .before .before .before .before .before .before .before .before .before .before .before .before .before .before .before .before .before .args .l) (c .before .before .before .before .before .before .before .before .before .before .before .before .before .before .before .before .before .before .before .before .before .before .before .before .before .before .before .before .before .args .b) (c .before .before .before .before .before .before .before .before .before .before .before .before .before .before .before .before .before .before .before .before .before .before .before .before .before .before .before .before .before .args .f) (c .before .before .before .before .before .before .before .before .before .before .before .before .before .before .before .before .before .before .before .before .before .before .before .before .before .before .before .before .before .args .wb) (c .before .before .before .before .before .before .before .before .before .before .before .before .before .before .before .before .before .before .before .before .before .before .before .before .before .before .before .before .before .args .wf) (omega (arith, c .before .before .before .before .before .before .before .before .before .before .before .before .before .before .before .before .before .before .before .before .before .before .before .before .before .before .before .before .before .pre .bin-few)) (omega (arith, c .before .before .before .before .before .before .before .before .before .before .before .before .before .before .before .before .before .before .before .before .before .before .before .before .before .before .before .before .before .pre .fld-few)) _ _ (value (c .before .before .before .before .before .before .before .before .before .before .before .before .before .before .before .before .before .before .before .before .before .before .before .before .before .before .before .before .before .args .kb)) (value (c .before .before .before .before .before .before .before .before .before .before .before .before .before .before .before .before .before .before .before .before .before .before .before .before .before .before .before .before .before .args .kf)) _ _ (c .before .before .before .before .before .before .before .before .before .before .before .before .before .before .before .before .before .before .before .before .before .before .before .before .before .before .before .before .before .args .t) (c .before .before .before .before .before .before .before .before .before .before .before .before .before .before .before .before .before .before .before .before .rows .result .transcript) (c .before .before .before .before .before .before .before .before .before .rows2 .result .transcript) (now (c .before .before .before .before .before .before .before .before .before .before .before .before .before .before .before .before .before .before .before .before .before .before .before .before .before .before .before .before .before .args .proof)) (now (c .before .before .before .before .before .before .before .before .before .before .before .before .before .before .before .before .before .before .before .before .before .before .before .before .before .before .before .before .before .args .draws)) (now (c .before .before .before .before .before .before .before .before .before .before .before .before .before .before .before .before .before .before .before .before .before .before .before .before .before .before .before .before .before .args .s)) (c .before .before .before .before .before .before .before .before .before .before .before .before .before .before .before .before .before .before .before .before .rows .last .1 .1 .1 .1 .1 .1 .1 .0) (c .before .before .before .before .before .before .before .before .before .before .before .before .before .before .before .before .before .before .before .before .rows .last .1 .1 .1 .1 .1 .1 .1 .1 .0) (c .before .before .before .before .before .before .before .before .before .before .before .before .before .before .before .before .before .before .before .before .rows .last .1 .1 .1 .1 .1 .1 .1 .1 .1 .0) (c .before .before .before .before .before .before .before .before .before .rows2 .last .1 .1 .1 .1 .1 .1 .1 .0) (c .before .before .before .before .before .before .before .before .before .rows2 .last .1 .1 .1 .1 .1 .1 .1 .1 .0) (c .before .before .before .before .before .before .before .before .before .rows2 .last .1 .1 .1 .1 .1 .1 .1 .1 .1 .0) (c .before .before .before .before .before .before .before .before .before .before .before .before .before .before .before .before .before .before .before .before .before .before .before .before .before .power-words .ensures) (c .before .before .before .before .before .before .before .before .before .before .before .before .before .before .before .before .before .before .before .before .before .before .before .before .power-words2 .ensures) (p .blocks) one two (rw elements-length (omega (arith, p .draws))) (c .before .before .before .before .before .before .before .before .before .before .before .before .before .before .before .before .before .before .before .before .rows .ensures) (c .before .before .before .before .before .before .before .before .before .rows2 .ensures)
 
 pub rows-spec : {M : Type 1} → statement M
 rows-spec =
@@ -104,17 +104,17 @@ rows-spec =
     add-z
     power-words-requires
     power-words-requires-2
-    slice-relend-prefix-rows-bin
-    slice-aggregate-rows-bin
-    rows-bin-requires
-    mul-rows-fld
-    add-rows-fld
-    add-rows-fld-2
-    mul-rows-fld-2
-    sub-rows-fld
-    part-rows-fld-start
-    part-rows-fld-end
-    rows-fld-requires
+    slice-relend-prefix-rows
+    slice-aggregate-rows
+    rows-requires
+    mul-rows
+    add-rows
+    add-rows-2
+    mul-rows-2
+    sub-rows
+    part-rows-start
+    part-rows-end
+    rows-requires-2
     same-length
     same-length-2
     same-length-3

@@ -1,2 +1,0 @@
-// The entries over records, with arrays of records by value.
-pub mod lent;
