@@ -5,7 +5,7 @@ use crate::refusal;
 use crate::stages;
 use magnetar_hash::transcript::Transcript;
 use magnetar_hash::transcript::TranscriptAnswer;
-use magnetar_inplace::combo;
+use magnetar_batch::combo_records as combo;
 use magnetar_inplace::records::Entry;
 use magnetar_inplace::steps;
 use magnetar_inplace::walks;

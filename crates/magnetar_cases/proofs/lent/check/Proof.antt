@@ -71,10 +71,10 @@ use Rattle.magnetar_field.proofs.sizes.least as g1
 use Rattle.magnetar_field.proofs.sizes.least.Symbol as g1-def
 use Rattle.magnetar_field.proofs.sizes.least.Symbol.{name as #g1}
 use Rattle.magnetar_field.proofs.sizes.least.Met as g1-thm
-use Rattle.magnetar_inplace.proofs.check.row_check as g2
-use Rattle.magnetar_inplace.proofs.check.row_check.Symbol as g2-def
-use Rattle.magnetar_inplace.proofs.check.row_check.Symbol.{name as #g2}
-use Rattle.magnetar_inplace.proofs.check.row_check.Met as g2-thm
+use Rattle.magnetar_batch.proofs.check_records.row_check as g2
+use Rattle.magnetar_batch.proofs.check_records.row_check.Symbol as g2-def
+use Rattle.magnetar_batch.proofs.check_records.row_check.Symbol.{name as #g2}
+use Rattle.magnetar_batch.proofs.check_records.row_check.Met as g2-thm
 use Rattle.magnetar_cases.proofs.lent.check.Key.{name as #f}
 use Rattle.magnetar_cases.proofs.lent.check as f
 use Rattle.magnetar_cases.proofs.lent.check.Statement as stated
@@ -217,4 +217,4 @@ check-spec 𝓤 H 𝓜 𝓖 𝓡 =
     (tables 𝓤 H 𝓜 𝓡 code.env .C) (tables 𝓤 H 𝓜 𝓡 code.env .Λ) #f code.function (code.unfolded 𝓤 H 𝓜 𝓡)
     (meets 𝓤 H (𝓖 .A) (givenOf 𝓤 H 𝓜 𝓖) (𝓜 .mem) (𝓡 .run) (tablesOf 𝓤 H 𝓜 (tables 𝓤 H 𝓜 𝓡 code.env))
     (cited 𝓤 H (Callee-g1 𝓤 H (𝓖 .A) (𝓜 .mem) (𝓡 .run)) 𝓜 𝓡 code.env #g1 g1-def.routine code.calls-magnetar-field·sizes·least (g1-thm.met 𝓤 H 𝓜 𝓖 𝓡))
-    (cited 𝓤 H (Callee-g2 𝓤 H (𝓖 .A) (𝓜 .mem) (𝓡 .run)) 𝓜 𝓡 code.env #g2 g2-def.routine code.calls-magnetar-inplace·check·row-check (g2-thm.met 𝓤 H 𝓜 𝓖 𝓡)))
+    (cited 𝓤 H (Callee-g2 𝓤 H (𝓖 .A) (𝓜 .mem) (𝓡 .run)) 𝓜 𝓡 code.env #g2 g2-def.routine code.calls-magnetar-batch·check-records·row-check (g2-thm.met 𝓤 H 𝓜 𝓖 𝓡)))

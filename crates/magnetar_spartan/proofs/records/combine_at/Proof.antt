@@ -65,10 +65,10 @@ use Rattle.magnetar_spartan.proofs.combine.fld_point as g3
 use Rattle.magnetar_spartan.proofs.combine.fld_point.Symbol as g3-def
 use Rattle.magnetar_spartan.proofs.combine.fld_point.Symbol.{name as #g3}
 use Rattle.magnetar_spartan.proofs.combine.fld_point.Met as g3-thm
-use Rattle.magnetar_inplace.proofs.combo.combine as g4
-use Rattle.magnetar_inplace.proofs.combo.combine.Symbol as g4-def
-use Rattle.magnetar_inplace.proofs.combo.combine.Symbol.{name as #g4}
-use Rattle.magnetar_inplace.proofs.combo.combine.Met as g4-thm
+use Rattle.magnetar_batch.proofs.combo_records.combine as g4
+use Rattle.magnetar_batch.proofs.combo_records.combine.Symbol as g4-def
+use Rattle.magnetar_batch.proofs.combo_records.combine.Symbol.{name as #g4}
+use Rattle.magnetar_batch.proofs.combo_records.combine.Met as g4-thm
 use Rattle.magnetar_spartan.proofs.records.combine_at.Key.{name as #f}
 use Rattle.magnetar_spartan.proofs.records.combine_at as f
 use Rattle.magnetar_spartan.proofs.records.combine_at.Statement as stated
@@ -212,4 +212,4 @@ combine-at-spec 𝓤 H 𝓜 𝓖 𝓡 =
     (cited 𝓤 H (Callee-g1 𝓤 H (𝓖 .A) (𝓜 .mem) (𝓡 .run)) 𝓜 𝓡 code.env #g1 g1-def.routine code.calls-magnetar-spartan·combine·run-alphas (g1-thm.met 𝓤 H 𝓜 𝓖 𝓡))
     (cited 𝓤 H (Callee-g2 𝓤 H (𝓖 .A) (𝓜 .mem) (𝓡 .run)) 𝓜 𝓡 code.env #g2 g2-def.routine code.calls-magnetar-spartan·combine·bin-point (g2-thm.met 𝓤 H 𝓜 𝓖 𝓡))
     (cited 𝓤 H (Callee-g3 𝓤 H (𝓖 .A) (𝓜 .mem) (𝓡 .run)) 𝓜 𝓡 code.env #g3 g3-def.routine code.calls-magnetar-spartan·combine·fld-point (g3-thm.met 𝓤 H 𝓜 𝓖 𝓡))
-    (cited 𝓤 H (Callee-g4 𝓤 H (𝓖 .A) (𝓜 .mem) (𝓡 .run)) 𝓜 𝓡 code.env #g4 g4-def.routine code.calls-magnetar-inplace·combo·combine (g4-thm.met 𝓤 H 𝓜 𝓖 𝓡)))
+    (cited 𝓤 H (Callee-g4 𝓤 H (𝓖 .A) (𝓜 .mem) (𝓡 .run)) 𝓜 𝓡 code.env #g4 g4-def.routine code.calls-magnetar-batch·combo-records·combine (g4-thm.met 𝓤 H 𝓜 𝓖 𝓡)))
