@@ -11,12 +11,12 @@ ghost use Rattle.magnetar_batch.specs.Check.{checked, checkOutcome};
 ghost use Rattle.magnetar_batch.specs.CheckSteps.{shareAdded, productBehind, threeIn, nothing, failingIn, from, loginDone, systemDone, bothDone, bothWords};
 ghost use Rattle.magnetar_inplace.specs.Records.{entryOf, entriesOfRecords};
 ghost use Rattle.magnetar_inplace.specs.Ranges.{matrixIn, systemIn};
-use magnetar_inplace::ranges;
-use magnetar_inplace::records::Entry;
-use magnetar_inplace::walks;
 use crate::check as core;
 use crate::check::Failing;
 use crate::check::RowCheck;
+use magnetar_inplace::ranges;
+use magnetar_inplace::records::Entry;
+use magnetar_inplace::walks;
 use magnetar_relation::shapes::Shapes;
 
 // Adds the share of the record with the index i of login u's product, where this is from a to b, to n elements behind the first m.

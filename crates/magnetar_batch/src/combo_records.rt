@@ -12,11 +12,11 @@ ghost use Rattle.magnetar_batch.specs.Entries.{combined, comboOutcome};
 ghost use Rattle.magnetar_batch.specs.TableSteps.{padded, matrixAdded, tableMade};
 ghost use Rattle.magnetar_inplace.specs.Records.{entriesOfRecords};
 ghost use Rattle.magnetar_inplace.specs.Ranges.{matrixIn};
+use crate::table as core;
 use magnetar_inplace::ranges;
 use magnetar_inplace::records::Entry;
 use magnetar_inplace::steps;
 use magnetar_inplace::walks;
-use crate::table as core;
 use magnetar_relation::shapes::Shapes;
 use magnetar_relation::step as table;
 

@@ -11,11 +11,11 @@ ghost use Rattle.magnetar_batch.specs.Entries.{combined, comboOutcome};
 ghost use Rattle.magnetar_spartan.specs.Outcome.{verified, verifyOutcome, proved, proveOutcome};
 ghost use Rattle.magnetar_inplace.specs.Records.{lentOf, entriesOfRecords};
 use magnetar_batch::check::RowCheck;
+use magnetar_batch::check_records as check;
+use magnetar_batch::combo_records as combo;
 use magnetar_field::sizes;
 use magnetar_hash::transcript::Transcript;
 use magnetar_hash::transcript::TranscriptAnswer;
-use magnetar_batch::check_records as check;
-use magnetar_batch::combo_records as combo;
 use magnetar_inplace::records;
 use magnetar_inplace::records::Entry;
 use magnetar_relation::shapes::Shapes;
@@ -55,7 +55,7 @@ pub(crate) fn combo(
 ) -> u32
     ensures { λ r. ⌜ combined r (now (out .exit)) (now (scratch .exit))
         ≡ comboOutcome (rulesOver m 1 [] sh (entriesOfRecords (take (min n 384) es))) (now (alphas .entry)) (now (pb .entry)) (now (pf .entry))
-            (now (out .entry)) (now (scratch .entry)) ⌝ }
+        (now (out .entry)) (now (scratch .entry)) ⌝ }
 {
     let most = 384;
     let k = sizes::least(n, most);
@@ -107,7 +107,7 @@ pub(crate) fn verify(
 ) -> TranscriptAnswer
     ensures { λ r. ⌜ verified r (now (claims .exit)) (now (scratch .exit))
         ≡ verifyOutcome (rulesOver m q (now (lens .entry)) sh (entriesOfRecords (take (min n 384) es))) (now (x .entry)) (now (proof .entry)) t
-            (now (claims .entry)) (now (scratch .entry)) ⌝ }
+        (now (claims .entry)) (now (scratch .entry)) ⌝ }
 {
     let most = 384;
     let k = sizes::least(n, most);
@@ -144,7 +144,7 @@ pub(crate) fn prove(
 ) -> TranscriptAnswer
     ensures { λ r. ⌜ proved r (now (proof .exit)) (now (claims .exit)) (now (scratch .exit))
         ≡ proveOutcome (rulesOver m q (now (lens .entry)) sh (entriesOfRecords (take (min n 384) es))) (now (packed .entry)) (now (x .entry)) t
-            (now (proof .entry)) (now (claims .entry)) (now (scratch .entry)) ⌝ }
+        (now (proof .entry)) (now (claims .entry)) (now (scratch .entry)) ⌝ }
 {
     let most = 384;
     let k = sizes::least(n, most);

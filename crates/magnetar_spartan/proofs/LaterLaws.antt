@@ -96,9 +96,16 @@ module _ (q w n k : ℕ) (ws d s p u : List ℕ) (lp : length p ≡ 2 * n)
   none : foldInRefusal ws q w p (drop (4 * w) s) ≡ 0
   unfolding foldInRefusal
   none =
-      noted-none (sizeTests (2 * w) q ++ packedTests w q ws ++ lengthTest (2 * log₂ q) p ++ roomTest (2 * w + 2 * q) (drop (4 * w) s))
-      (size-fine 2 65536 (2 * w) (F .columns), (size-fine 1 4096 q (F .logins), (same-fine (length ws) (q * loginWords w) (F .packed),
-      (same-fine (length p) (2 * log₂ q) (omega (arith, lp, F .point)), (most-fine (length (drop (4 * w) s)) (2 * w + 2 * q) (rw length-drop (omega (arith, F .room))), tt)))))
+      noted-none (sizeTests (2 * w) q ++ packedTests w q ws ++ lengthTest (2 * log₂ q) p ++ roomTest (2 * w + 2 * q) (drop (4 * w) s)) (
+        size-fine 2 65536 (2 * w) (F .columns),
+        (
+          size-fine 1 4096 q (F .logins),
+          (
+            same-fine (length ws) (q * loginWords w) (F .packed),
+            (same-fine (length p) (2 * log₂ q) (omega (arith, lp, F .point)), (most-fine (length (drop (4 * w) s)) (2 * w + 2 * q) (rw length-drop (omega (arith, F .room))), tt)),
+          ),
+        ),
+      )
 
   f-long : length (words f) ≡ 2 * w
   f-long = words-length f ∙ ap (λ (i : ℕ). 2 * i) (folded-length q w (unpacked q w ws) (elements p))
@@ -187,8 +194,13 @@ module _ (R : Rules) (ws : ℕ) (x w d c s : List ℕ) (t : Transcript)
   unfolding innerRoundsRefusal
   inner-none W D hd hw =
       let rooms : Tests = counterTest t ++ (roomTest (2 * log₂ m) D ++ roomTest (2 * (3 * log₂ m + 1 + length ns)) W ++ roomTest (6 * m) s) in
-      let enough : Clear rooms = (true-fine _ (lt-ltb (t .«squeeze_ctr») (2 ^ 32) (ok .counter)), (most-fine (length D) (2 * log₂ m) hd,
-      (most-fine (length W) _ hw, (most-fine (length s) (6 * m) (omega (arith, ok .scratch)), tt)))) in
+      let enough : Clear rooms = (
+        true-fine _ (lt-ltb (t .«squeeze_ctr») (2 ^ 32) (ok .counter)),
+        (
+          most-fine (length D) (2 * log₂ m) hd,
+          (most-fine (length W) _ hw, (most-fine (length s) (6 * m) (omega (arith, ok .scratch)), tt)),
+        ),
+      ) in
       noted-none (columnTests m ++ publicTests m x ++ layoutTests (m / 2) ns ++ rooms)
       (size-fine 2 65536 m (ok .ready .columns), (same-fine (length x) (m - 2) (ok .public), layout-fine R (ok .ready) rooms enough))
 
@@ -197,8 +209,10 @@ module _ (R : Rules) (ws : ℕ) (x w d c s : List ℕ) (t : Transcript)
   unfolding claimsRefusal
   claims-none W D hw hd =
       let tests : Tests = segmentTests ns ++ (drawTests o D ++ (roomTest (2 * claimCount o) c ++ proofTests o W)) in
-      noted-none (runTests m (R .q) (rowsBin R) (rowsFld R) ++ tests) (sizes-fine R (ok .ready) tests (most-fine 64 (length ns) (ok .ready .segments),
-      (same-fine (length D) (2 * drawCount o) hd, (most-fine (length c) (2 * claimCount o) (ok .claims), (same-fine (length W) (2 * proofElements o) hw, tt)))))
+      noted-none (runTests m (R .q) (rowsBin R) (rowsFld R) ++ tests) (sizes-fine R (ok .ready) tests (
+        most-fine 64 (length ns) (ok .ready .segments),
+        (same-fine (length D) (2 * drawCount o) hd, (most-fine (length c) (2 * claimCount o) (ok .claims), (same-fine (length W) (2 * proofElements o) hw, tt))),
+      ))
 
   said-room : saidBefore R + 2 * (3 * log₂ m + 1 + length ns) ≤ length w
   said-room = omega (arith, ok .proof)

@@ -144,11 +144,25 @@ module _ (R : Rules) (ws x w c s : List ℕ) (t : Transcript)
         noted-none (countTests q b f ++ totalTests q b f ++ (counterTest t ++ (roomTest (2 * outerDrawn (log₂ q) (log₂ b) (log₂ f)) z₀
         ++ roomTest (2 * outerSent (log₂ q) (log₂ b) (log₂ f)) w ++ roomTest (blockWords q b f) s₁))) (
           size-fine 1 4096 q (ok .ready .logins),
-          (size-fine 1 65536 b (ok .ready .bin .rows), (size-fine 1 65536 f (ok .ready .fld .rows),
-          (most-fine 1048576 _ (ok .ready .bin .total), (most-fine 1048576 _ (ok .ready .fld .total),
-          (true-fine _ (lt-ltb (t .«squeeze_ctr») (2 ^ 32) (ok .counter)),
-          (most-fine (length z₀) (2 * outerDrawn (log₂ q) (log₂ b) (log₂ f)) (rw (length-replicate {A = ℕ} 256 0) (omega (arith, small))),
-          (most-fine (length w) _ (omega (arith, ok .proof)), (most-fine (length s₁) _ (omega (arith, P .long, ok .scratch, blocks)), tt)))))))),
+          (
+            size-fine 1 65536 b (ok .ready .bin .rows),
+            (
+              size-fine 1 65536 f (ok .ready .fld .rows),
+              (
+                most-fine 1048576 _ (ok .ready .bin .total),
+                (
+                  most-fine 1048576 _ (ok .ready .fld .total),
+                  (
+                    true-fine _ (lt-ltb (t .«squeeze_ctr») (2 ^ 32) (ok .counter)),
+                    (
+                      most-fine (length z₀) (2 * outerDrawn (log₂ q) (log₂ b) (log₂ f)) (rw (length-replicate {A = ℕ} 256 0) (omega (arith, small))),
+                      (most-fine (length w) _ (omega (arith, ok .proof)), (most-fine (length s₁) _ (omega (arith, P .long, ok .scratch, blocks)), tt)),
+                    ),
+                  ),
+                ),
+              ),
+            ),
+          ),
         )
 
     wanted : tablesWanted R ws x ≡ productTables r B (elements x)
@@ -316,8 +330,15 @@ module _ (R : Rules) (ws x w c s : List ℕ) (t : Transcript) where
       let p = provable R ws x (t .«squeeze_ctr») (length w) (length c) (length s) none in
       let ok : RunReady R (length ws) (length x) (length w) (length c) (length s) (t .«squeeze_ctr») =
       record { ready = p .ready; packed = p .packed; public = p .public; proof = p .proof; claims = p .claims; scratch = p .scratch; counter = p .counter } in
-      let P = products (record { columns = p .ready .columns; logins = p .ready .logins; bin = p .ready .bin; fld = p .ready .fld; packed = p .packed; public = p .public;
-        room = omega (arith, p .scratch, mul-add (R .q) (rowsBin R) (rowsFld R)) }) in
+      let P = products (record {
+        columns = p .ready .columns;
+        logins = p .ready .logins;
+        bin = p .ready .bin;
+        fld = p .ready .fld;
+        packed = p .packed;
+        public = p .public;
+        room = omega (arith, p .scratch, mul-add (R .q) (rowsBin R) (rowsFld R));
+      }) in
       let Q : Products R ws x s s₁ = record { long = P .long; rest = P .rest; tables = P .tables } in
       let enough : 2 * R .m + 2 * max (rowsBin R) (rowsFld R) ≤ length s₂ = omega (arith, s₂-long R ws x w c s t ok s₁ Q u d v s₂ done, p .scratch) in
       let drawn = D R ws x w c s t ok s₁ Q u d v s₂ done in

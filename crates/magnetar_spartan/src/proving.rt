@@ -34,7 +34,14 @@ pub(crate) fn draws_of(o: OuterDraws) -> [u64; 256]
 }
 
 // The outer rounds over the products in front of s.
-pub(crate) fn outer(proof: &mut [u64], s: &mut [u64], q: usize, rb: usize, rf: usize, t: Transcript) -> OuterDraws
+pub(crate) fn outer(
+    proof: &mut [u64],
+    s: &mut [u64],
+    q: usize,
+    rb: usize,
+    rf: usize,
+    t: Transcript,
+) -> OuterDraws
     ensures { λ r. ⌜ OuterDone q rb rf (now (proof .entry)) (now (s .entry)) t (r .«transcript») (r .«draws») (now (proof .exit)) (now (s .exit)) ⌝ }
 {
     let mut draws = [0u64; 256];
@@ -82,7 +89,16 @@ fn login_point(draws: &[u64], k: usize, n: usize, out: &mut [u64])
 }
 
 // The batch folded at the point of the n draws from place k on, which is put into `point`, behind the first 4w words of s.
-fn fold_at(s: &mut [u64], q: usize, w: usize, n: usize, k: usize, packed: &[u64], draws: &[u64], point: &mut [u64])
+fn fold_at(
+    s: &mut [u64],
+    q: usize,
+    w: usize,
+    n: usize,
+    k: usize,
+    packed: &[u64],
+    draws: &[u64],
+    point: &mut [u64],
+)
     requires { ⌜ (k ≤ 4096) × (n ≤ 16) × (length (now point) ≡ 2 * n) ⌝ }
     ensures { λ _. ⌜ (FoldReady q w n k (length (now (packed .entry))) (length (now (draws .entry))) (length (now (s .entry))) → FoldLeft q w n k (now (packed .entry)) (now (draws .entry)) (now (s .entry)) (now (s .exit))) ⌝ }
 {
@@ -94,7 +110,15 @@ fn fold_at(s: &mut [u64], q: usize, w: usize, n: usize, k: usize, packed: &[u64]
 }
 
 // The batch folded at the point of the logins, behind the combined table.
-fn fold_behind(s: &mut [u64], m: usize, q: usize, rb: usize, rf: usize, packed: &[u64], d: [u64; 256])
+fn fold_behind(
+    s: &mut [u64],
+    m: usize,
+    q: usize,
+    rb: usize,
+    rf: usize,
+    packed: &[u64],
+    d: [u64; 256],
+)
     ensures { λ _. ⌜ (FoldReady q (m / 2) (log₂ q) (loginAt q rb rf) (length (now (packed .entry))) (length d) (length (now (s .entry))) → FoldLeft q (m / 2) (log₂ q) (loginAt q rb rf) (now (packed .entry)) d (now (s .entry)) (now (s .exit))) ⌝ }
 {
     let l = sizes::log(q);

@@ -3,9 +3,9 @@
 use crate::combine;
 use crate::refusal;
 use crate::stages;
+use magnetar_batch::combo_records as combo;
 use magnetar_hash::transcript::Transcript;
 use magnetar_hash::transcript::TranscriptAnswer;
-use magnetar_batch::combo_records as combo;
 use magnetar_inplace::records::Entry;
 use magnetar_inplace::steps;
 use magnetar_inplace::walks;

@@ -58,12 +58,14 @@ returns c =
     let p = now (x .x) in
     let w = now (x .proof) in
     let k = now (x .claims) in
-    let s = now (x .s) in
-    (elements-below p (λ i. omega (arith, c .before .before .before .before .before .before .before .before .before .before .before .before .before .before .before .before .before .before .before .before .before .before .shared-slice-known3 .given i)), λ ld ok.
-        let F = g .ensures (fold-sizes r ws p w (o .«draws») k s (o .«transcript») ok ld) in
-        let E = c .before .before .before .before .before .before .before .before .before .before .before .before .end .ensures (length ws) (end-sizes r ws p w (o .«draws») k s (o .«transcript») ok ld _ F (g .kept .0)) ld in
-        later-ends r ws p w (o .«draws») k s (o .«transcript») ok ld _ F (g .kept .0) _ _ _ _ E (n .result) _
-        (n .ensures .0) (c .before .before .before .before .before .prover-room .ensures) _ (c .before .before .clear .ensures))
+    let s = now (x .s) in (
+      elements-below p (λ i. omega (arith, c .before .before .before .before .before .before .before .before .before .before .before .before .before .before .before .before .before .before .before .before .before .before .shared-slice-known3 .given i)),
+      λ ld ok.
+          let F = g .ensures (fold-sizes r ws p w (o .«draws») k s (o .«transcript») ok ld) in
+          let E = c .before .before .before .before .before .before .before .before .before .before .before .before .end .ensures (length ws) (end-sizes r ws p w (o .«draws») k s (o .«transcript») ok ld _ F (g .kept .0)) ld in
+          later-ends r ws p w (o .«draws») k s (o .«transcript») ok ld _ F (g .kept .0) _ _ _ _ E (n .result) _
+          (n .ensures .0) (c .before .before .before .before .before .prover-room .ensures) _ (c .before .before .clear .ensures),
+    )
 
 pub later-spec : {M : Type 1} → statement M
 later-spec =
