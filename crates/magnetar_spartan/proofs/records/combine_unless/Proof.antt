@@ -78,7 +78,6 @@ is-no : (t : Bool) → Trueᴮ (not t) → t ≡ false
 is-no true a = absurd a
 is-no false _ = refl
 
-
 abbrev stayed : Stays (f.ended .signature .params) (f.ended .kept)
 stayed = (stay-none (λ _. u32) yes, (stay-slice (0 ∷ []) tt (plain (λ _. u64)), (stay-none (λ _. u64) yes, (stay-none (λ _. u64) yes, (stay-none (λ _. mShapes.the-row) yes, (stay-none (λ _. (Array u64 256)) yes, (stay-none-slice (1 ∷ []) tt (plain (λ _. mEntry.the-row)) yes, tt)))))))
 
@@ -148,37 +147,36 @@ module _ {M : Type 1} (𝓤 : URA M) (H : Heap 𝓤) (A : Atoms 𝓤) (W : Given
     walk : ent 𝓤 (onEntry 𝓤 H A f.signature (κ₀, (κ₁, tt)) (q₀, (q₁, tt)) a at) (WpFn 𝓤 H C Λ code.function (v1 ∷ v2 ∷ v3 ∷ v4 ∷ v5 ∷ v6 ∷ v7 ∷ []) Post)
     walk =
         qed W ((‵ (flft κ₀ q₀) ⊛ ‵ (flft κ₁ q₁) ⊛ ‵ ftrue) ∷ ‵ (owns (u32 ∷ MutSlice (named 0) κ₀ u64 ∷ u64 ∷ u64 ∷ mShapes.the-row ∷ (Array u64 256) ∷ ShrSlice (named 1) κ₁ mEntry.the-row ∷ []) a at) ∷ []) ∵ enter ! C Λ code.function (v1 ∷ v2 ∷ v3 ∷ v4 ∷ v5 ∷ v6 ∷ v7 ∷ []) _ $
-        nothing ! $ alloc ! (λ l₀. alloc ! (λ l₁. alloc ! (λ l₂. alloc ! (λ l₃. alloc ! (λ l₄. alloc ! (λ l₅. alloc ! (λ l₆. alloc ! (λ l₇. alloc ! (λ l₈. alloc ! (λ l₉. alloc ! (λ l₁₀. alloc ! (λ l₁₁. alloc ! (λ l₁₂. alloc ! (λ l₁₃. alloc0 ! $ hide ! (λ died die. params1 ! $ pass1 ! (init ! 13 refl (uint-lawful 𝓤 H A W w32 .typed n1 _ w1 .0)) $ pass1 ! (init ! 12 refl (tt, (tt, (record { fits = room2 .0 }, tt)))) $ pass1 ! (init ! 11 refl (uint-lawful 𝓤 H A W w64 .typed n3 _ w3 .0)) $ pass1 ! (init ! 10 refl (uint-lawful 𝓤 H A W w64 .typed n4 _ w4 .0)) $ pass1 ! (init ! 9 refl (LL.lawful mShapes.the-type lShapes.the-laws 𝓤 H A W .typed n5 _ w5 .0)) $ pass1 ! (init ! 8 refl (array-lawful 𝓤 H A W u64 (uint-lawful 𝓤 H A W w64) 256 .typed n6 _ w6 .0)) $ pass1 ! (init ! 7 refl (shr-slice-lawful 𝓤 H A W (named 1) κ₁ mEntry.the-row .typed s7 (v7 ∷ []) w7 .0)) $ pass0 ! $ 
-        move ! (16 ∷ []) $ fsplit ! $ move ! (1 ∷ []) $ fsplit ! $ move ! (1 ∷ []) $ fsplit ! $ move ! (1 ∷ []) $ fsplit ! $ move ! (1 ∷ []) $ fsplit ! $ move ! (1 ∷ []) $ fsplit ! $ move ! (1 ∷ []) $ fsplit ! $ move ! (1 ∷ []) $ drop ! $ move ! (22 ∷ []) $ split ! $ move ! (1 ∷ []) $ split ! $ move ! (1 ∷ []) $ drop ! $ tidy W (_ ∷ _ ∷ _ ∷ _ ∷ _ ∷ _ ∷ _ ∷ _ ∷ _ ∷ _ ∷ _ ∷ _ ∷ _ ∷ _ ∷ _ ∷ _ ∷ _ ∷ _ ∷ _ ∷ _ ∷ _ ∷ _ ∷ _ ∷ _ ∷ []) $ 
-        tidy W (_ ∷ _ ∷ _ ∷ _ ∷ _ ∷ _ ∷ _ ∷ _ ∷ _ ∷ _ ∷ _ ∷ _ ∷ _ ∷ _ ∷ _ ∷ _ ∷ _ ∷ _ ∷ _ ∷ _ ∷ _ ∷ _ ∷ _ ∷ _ ∷ []) $ nothing ! $ 
+        nothing ! $ alloc ! (λ l₀. alloc ! (λ l₁. alloc ! (λ l₂. alloc ! (λ l₃. alloc ! (λ l₄. alloc ! (λ l₅. alloc ! (λ l₆. alloc ! (λ l₇. alloc ! (λ l₈. alloc ! (λ l₉. alloc ! (λ l₁₀. alloc ! (λ l₁₁. alloc ! (λ l₁₂. alloc ! (λ l₁₃. alloc0 ! $ hide ! (λ died die. params1 ! $ pass1 ! (init ! 13 refl (uint-lawful 𝓤 H A W w32 .typed n1 _ w1 .0)) $ pass1 ! (init ! 12 refl (tt, (tt, (record { fits = room2 .0 }, tt)))) $ pass1 ! (init ! 11 refl (uint-lawful 𝓤 H A W w64 .typed n3 _ w3 .0)) $ pass1 ! (init ! 10 refl (uint-lawful 𝓤 H A W w64 .typed n4 _ w4 .0)) $ pass1 ! (init ! 9 refl (LL.lawful mShapes.the-type lShapes.the-laws 𝓤 H A W .typed n5 _ w5 .0)) $ pass1 ! (init ! 8 refl (array-lawful 𝓤 H A W u64 (uint-lawful 𝓤 H A W w64) 256 .typed n6 _ w6 .0)) $ pass1 ! (init ! 7 refl (shr-slice-lawful 𝓤 H A W (named 1) κ₁ mEntry.the-row .typed s7 (v7 ∷ []) w7 .0)) $ pass0 ! $
+        move ! (16 ∷ []) $ fsplit ! $ move ! (1 ∷ []) $ fsplit ! $ move ! (1 ∷ []) $ fsplit ! $ move ! (1 ∷ []) $ fsplit ! $ move ! (1 ∷ []) $ fsplit ! $ move ! (1 ∷ []) $ fsplit ! $ move ! (1 ∷ []) $ fsplit ! $ move ! (1 ∷ []) $ drop ! $ move ! (22 ∷ []) $ split ! $ move ! (1 ∷ []) $ split ! $ move ! (1 ∷ []) $ drop ! $ tidy W (_ ∷ _ ∷ _ ∷ _ ∷ _ ∷ _ ∷ _ ∷ _ ∷ _ ∷ _ ∷ _ ∷ _ ∷ _ ∷ _ ∷ _ ∷ _ ∷ _ ∷ _ ∷ _ ∷ _ ∷ _ ∷ _ ∷ _ ∷ _ ∷ []) $
+        tidy W (_ ∷ _ ∷ _ ∷ _ ∷ _ ∷ _ ∷ _ ∷ _ ∷ _ ∷ _ ∷ _ ∷ _ ∷ _ ∷ _ ∷ _ ∷ _ ∷ _ ∷ _ ∷ _ ∷ _ ∷ _ ∷ _ ∷ _ ∷ _ ∷ []) $ nothing ! $
         -- call 1
-        use1 W (raw (Callee-g1 𝓤 H A at-mem run .pre ((tt, tt, tt, (n1, tt), (u1 ∷ [], tt)), tt))) (qed W ((‵ ftrue) ∷ []) ∵ nothing ! $ owned ! u32 (Is u32) (uint-makes 𝓤 H A W w32) (n1) _ w1 $ fjoin ! $ move ! (1 ∷ 0 ∷ []) $ join ! $ nothing ! $ move ! (1 ∷ 0 ∷ []) $ frame ! $ done !) $ 
-        calls-at ! fm (Callee-g1 𝓤 H A at-mem run) known-g1 ((tt, tt, tt, (n1, tt), (u1 ∷ [], tt)), tt) (and-then ! (load ! (from ! (stop !)) (look ! 23 refl)) (no-more !)) (λ z1. 
-        use1 W (later (some (λ (r1 : Bool). ((‵ ftrue) ⊛ ‵ (bool .own r1 (z1 ∷ []))) ⊛ some (λ (ws : Lasts g1.ended tt (n1, tt)). ‵ (lasts g1.ended tt (n1, tt) ws) ⊛ raw (g1.clauses 𝓤 H A at-mem run tt (n1, tt) .ensures tt r1 (atExit g1.ended tt (n1, tt) ws)))))) (id⊢ 𝓤 _) $ await ! tt $ pick ! (λ r1. split ! $ move ! (1 ∷ []) $ pick ! (λ ws1. split ! $ move ! (1 ∷ []) $ heard ! _ (λ e1. 
-        drop ! $ split ! $ move ! (1 ∷ []) $ peeks ! bool (Is bool) (shows 𝓤 H A bool) r1 (z1 ∷ []) (λ i1. drop ! $ land ! (from ! (stop !)) (init ! 16 refl (bool-lawful 𝓤 H A W .typed r1 _ i1 .0)) $ 
-        tidy W (_ ∷ _ ∷ _ ∷ _ ∷ _ ∷ _ ∷ _ ∷ _ ∷ _ ∷ _ ∷ _ ∷ _ ∷ _ ∷ _ ∷ _ ∷ _ ∷ _ ∷ _ ∷ _ ∷ _ ∷ _ ∷ _ ∷ _ ∷ _ ∷ _ ∷ []) $ drop ! $ assigns ! (of-opd ! (load ! (from ! (stop !)) (look ! 15 refl))) (from ! (stop !)) (init ! 14 refl (bool-lawful 𝓤 H A W .typed r1 _ i1 .0)) $ 
-        rewrite ! 14 (λ (w : Val). ‵ (fat fullShare tyBool l₉ 0 w)) (ap only i1) refl $ first ! $ branches ! (load ! (from ! (stop !)) (look ! 14 refl)) 
-        (λ y1. let b1 : r1 ≡ true = is-yes (r1) y1 in assigns ! (addr ! (from ! (fld ! refl (hop ! (look-in ! 21 (sub ! 0 refl (whole !))) (stop !))))) (from ! (stop !)) (init ! 11 refl (tt, tt)) $ 
-        assigns ! (agg ! (and-then ! (load ! (from ! (stop !)) (look ! 11 refl)) (and-then ! (load ! (from ! (fld ! refl (stop !))) (look-in ! 21 (sub ! 1 refl (whole !)))) (no-more !)))) (from ! (stop !)) (init ! 10 refl (tt, (tt, (record { fits = room2 .0 }, tt)))) $ 
-        
-        lft-new ! tt (λ ν2a. move ! (8 ∷ 2 ∷ []) $ use2 W (later (some (λ (δ : GName). ‵ (MutSlice (named 0) (ν2a ∷ []) u64 .own (ref2 δ (ys2)) (v2 ∷ [])) ⊛ ‵ (Lent2 ν2a δ (ys2))))) (lends2 (named 0) ν2a (ys2) (refl)) $ await ! tt $ pick ! (λ δ2a. split ! $ move ! (4 ∷ []) $ use1 W (‵ (O7) ⊛ ‵ (O7)) (shr-slice-copy 𝓤 H A W (named 1) κ₁ mEntry.the-row .twice s7 (v7 ∷ [])) $ split ! $ tidy W (_ ∷ _ ∷ _ ∷ _ ∷ _ ∷ _ ∷ _ ∷ _ ∷ _ ∷ _ ∷ _ ∷ _ ∷ _ ∷ _ ∷ _ ∷ _ ∷ _ ∷ _ ∷ _ ∷ _ ∷ _ ∷ _ ∷ _ ∷ _ ∷ _ ∷ _ ∷ []) $ nothing ! $ move ! (6 ∷ 0 ∷ []) $ join ! $ move ! (5 ∷ 0 ∷ []) $ join ! $ move ! (3 ∷ 1 ∷ []) $ join ! $ move ! (1 ∷ 0 ∷ []) $ join ! $ 
+        use1 W (raw (Callee-g1 𝓤 H A at-mem run .pre ((tt, tt, tt, (n1, tt), (u1 ∷ [], tt)), tt))) (qed W ((‵ ftrue) ∷ []) ∵ nothing ! $ owned ! u32 (Is u32) (uint-makes 𝓤 H A W w32) (n1) _ w1 $ fjoin ! $ move ! (1 ∷ 0 ∷ []) $ join ! $ nothing ! $ move ! (1 ∷ 0 ∷ []) $ frame ! $ done !) $
+        calls-at ! fm (Callee-g1 𝓤 H A at-mem run) known-g1 ((tt, tt, tt, (n1, tt), (u1 ∷ [], tt)), tt) (and-then ! (load ! (from ! (stop !)) (look ! 23 refl)) (no-more !)) (λ z1.
+        use1 W (later (some (λ (r1 : Bool). ((‵ ftrue) ⊛ ‵ (bool .own r1 (z1 ∷ []))) ⊛ some (λ (ws : Lasts g1.ended tt (n1, tt)). ‵ (lasts g1.ended tt (n1, tt) ws) ⊛ raw (g1.clauses 𝓤 H A at-mem run tt (n1, tt) .ensures tt r1 (atExit g1.ended tt (n1, tt) ws)))))) (id⊢ 𝓤 _) $ await ! tt $ pick ! (λ r1. split ! $ move ! (1 ∷ []) $ pick ! (λ ws1. split ! $ move ! (1 ∷ []) $ heard ! _ (λ e1.
+        drop ! $ split ! $ move ! (1 ∷ []) $ peeks ! bool (Is bool) (shows 𝓤 H A bool) r1 (z1 ∷ []) (λ i1. drop ! $ land ! (from ! (stop !)) (init ! 16 refl (bool-lawful 𝓤 H A W .typed r1 _ i1 .0)) $
+        tidy W (_ ∷ _ ∷ _ ∷ _ ∷ _ ∷ _ ∷ _ ∷ _ ∷ _ ∷ _ ∷ _ ∷ _ ∷ _ ∷ _ ∷ _ ∷ _ ∷ _ ∷ _ ∷ _ ∷ _ ∷ _ ∷ _ ∷ _ ∷ _ ∷ _ ∷ []) $ drop ! $ assigns ! (of-opd ! (load ! (from ! (stop !)) (look ! 15 refl))) (from ! (stop !)) (init ! 14 refl (bool-lawful 𝓤 H A W .typed r1 _ i1 .0)) $
+        rewrite ! 14 (λ (w : Val). ‵ (fat fullShare tyBool l₉ 0 w)) (ap only i1) refl $ first ! $ branches ! (load ! (from ! (stop !)) (look ! 14 refl))
+        (λ y1. let b1 : r1 ≡ true = is-yes (r1) y1 in assigns ! (addr ! (from ! (fld ! refl (hop ! (look-in ! 21 (sub ! 0 refl (whole !))) (stop !))))) (from ! (stop !)) (init ! 11 refl (tt, tt)) $
+        assigns ! (agg ! (and-then ! (load ! (from ! (stop !)) (look ! 11 refl)) (and-then ! (load ! (from ! (fld ! refl (stop !))) (look-in ! 21 (sub ! 1 refl (whole !)))) (no-more !)))) (from ! (stop !)) (init ! 10 refl (tt, (tt, (record { fits = room2 .0 }, tt)))) $
+        lft-new ! tt (λ ν2a. move ! (8 ∷ 2 ∷ []) $ use2 W (later (some (λ (δ : GName). ‵ (MutSlice (named 0) (ν2a ∷ []) u64 .own (ref2 δ (ys2)) (v2 ∷ [])) ⊛ ‵ (Lent2 ν2a δ (ys2))))) (lends2 (named 0) ν2a (ys2) (refl)) $ await ! tt $ pick ! (λ δ2a. split ! $ move ! (4 ∷ []) $ use1 W (‵ (O7) ⊛ ‵ (O7)) (shr-slice-copy 𝓤 H A W (named 1) κ₁ mEntry.the-row .twice s7 (v7 ∷ [])) $ split ! $ tidy W (_ ∷ _ ∷ _ ∷ _ ∷ _ ∷ _ ∷ _ ∷ _ ∷ _ ∷ _ ∷ _ ∷ _ ∷ _ ∷ _ ∷ _ ∷ _ ∷ _ ∷ _ ∷ _ ∷ _ ∷ _ ∷ _ ∷ _ ∷ _ ∷ _ ∷ _ ∷ []) $ nothing ! $ move ! (6 ∷ 0 ∷ []) $ join ! $ move ! (5 ∷ 0 ∷ []) $ join ! $ move ! (3 ∷ 1 ∷ []) $ join ! $ move ! (1 ∷ 0 ∷ []) $ join ! $
         -- call 2
-        use1 W (raw (Callee-g2 𝓤 H A at-mem run .pre ((((ν2a ∷ []), (κ₁, tt)), (fullShare, (q₁, tt)), tt, (ref2 δ2a (ys2), (n3, (n4, (n5, (n6, (s7, tt)))))), (v2 ∷ [], (u3 ∷ [], (u4 ∷ [], (u5 ∷ [], (u6 ∷ [], (v7 ∷ [], tt))))))), tt))) (qed W ((‵ (flft (ν2a ∷ []) fullShare) ⊛ ‵ (flft κ₁ q₁) ⊛ ‵ ftrue) ∷ ‵ (MutSlice (named 0) (ν2a ∷ []) u64 .own (ref2 δ2a (ys2)) (v2 ∷ [])) ∷ ‵ (ShrSlice (named 1) κ₁ mEntry.the-row .own s7 (v7 ∷ [])) ∷ []) ∵ nothing ! $ move ! (3 ∷ 0 ∷ []) $ fjoin ! $ owned ! (Array u64 256) (Is (Array u64 256)) (array-makes 𝓤 H A W u64 (uint-makes 𝓤 H A W w64) 256) (n6) _ w6 $ fjoin ! $ owned ! mShapes.the-row (Is mShapes.the-row) (LL.makes mShapes.the-type lShapes.the-plain 𝓤 H A) (n5) _ w5 $ fjoin ! $ owned ! u64 (Is u64) (uint-makes 𝓤 H A W w64) (n4) _ w4 $ fjoin ! $ owned ! u64 (Is u64) (uint-makes 𝓤 H A W w64) (n3) _ w3 $ fjoin ! $ move ! (2 ∷ 0 ∷ []) $ fjoin ! $ move ! (1 ∷ 0 ∷ []) $ join ! $ nothing ! $ move ! (1 ∷ 0 ∷ []) $ frame ! $ done !) $ 
-        calls-at ! fm (Callee-g2 𝓤 H A at-mem run) known-g2 ((((ν2a ∷ []), (κ₁, tt)), (fullShare, (q₁, tt)), tt, (ref2 δ2a (ys2), (n3, (n4, (n5, (n6, (s7, tt)))))), (v2 ∷ [], (u3 ∷ [], (u4 ∷ [], (u5 ∷ [], (u6 ∷ [], (v7 ∷ [], tt))))))), tt) (and-then ! (load ! (from ! (stop !)) (look ! 9 refl)) (and-then ! (load ! (from ! (stop !)) (look ! 19 refl)) (and-then ! (load ! (from ! (stop !)) (look ! 18 refl)) (and-then ! (load ! (from ! (stop !)) (look ! 17 refl)) (and-then ! (load ! (from ! (stop !)) (look ! 16 refl)) (and-then ! (load ! (from ! (stop !)) (look ! 15 refl)) (no-more !))))))) (λ z2. 
-        use1 W (later (some (λ (r2 : Unit {0}). ((‵ (flft (ν2a ∷ []) fullShare) ⊛ ‵ (flft κ₁ q₁) ⊛ ‵ ftrue) ⊛ ‵ (unit .own r2 (z2 ∷ []))) ⊛ some (λ (ws : Lasts g2.ended ((ν2a ∷ []), (κ₁, tt)) (ref2 δ2a (ys2), (n3, (n4, (n5, (n6, (s7, tt))))))). ‵ (lasts g2.ended ((ν2a ∷ []), (κ₁, tt)) (ref2 δ2a (ys2), (n3, (n4, (n5, (n6, (s7, tt)))))) ws) ⊛ raw (g2.clauses 𝓤 H A at-mem run ((ν2a ∷ []), (κ₁, tt)) (ref2 δ2a (ys2), (n3, (n4, (n5, (n6, (s7, tt)))))) .ensures tt r2 (atExit g2.ended ((ν2a ∷ []), (κ₁, tt)) (ref2 δ2a (ys2), (n3, (n4, (n5, (n6, (s7, tt)))))) ws)))))) (id⊢ 𝓤 _) $ await ! tt $ pick ! (λ r2. split ! $ move ! (1 ∷ []) $ pick ! (λ ws2. split ! $ move ! (1 ∷ []) $ heard ! _ (λ e2. 
-        fsplit ! $ fsplit ! $ move ! (1 ∷ []) $ feqL ! (λ same2a. move ! (1 ∷ []) $ drop ! $ move ! (1 ∷ []) $ split ! $ move ! (1 ∷ []) $ feqL ! (λ i2. land ! (from ! (stop !)) (init ! 12 refl (subst (λ (t : Val). Trueᴮ (hasTy tyUnit t) × WT t) (sym (ap only i2)) (tt, tt))) $ 
-        tidy W (_ ∷ _ ∷ _ ∷ _ ∷ _ ∷ _ ∷ _ ∷ _ ∷ _ ∷ _ ∷ _ ∷ _ ∷ _ ∷ _ ∷ _ ∷ _ ∷ _ ∷ _ ∷ _ ∷ _ ∷ _ ∷ _ ∷ _ ∷ _ ∷ []) $ split ! $ move ! (1 ∷ []) $ split ! $ move ! (1 ∷ []) $ drop ! $ move ! (1 ∷ []) $ lft-end ! tt $ move ! (0 ∷ 4 ∷ 2 ∷ []) $ use3 W (later (‵ (O2 (ws2 .0)) ⊛ ‵ (flft κ₀ q₀))) (backs2 (named 0) ν2a δ2a (ys2) (ws2 .0) (refl) room2 same2a) $ await ! tt $ split ! $ 
-        assigns-last ! (of-opd ! (load ! (from ! (stop !)) (look ! 22 refl))) (from ! (stop !)) (init ! 13 refl (uint-lawful 𝓤 H A W w32 .typed n1 _ w1 .0)) $ 
-        exec ! C Λ ((tyInt w32, l₀) ∷ (tyInt w32, l₁) ∷ (sliceTy (tyRef (named 0) mut (tyInt w64)), l₂) ∷ (tyInt w64, l₃) ∷ (tyInt w64, l₄) ∷ (lShapes.mir, l₅) ∷ (tyArray (tyInt w64) 256, l₆) ∷ (sliceTy (tyRef (named 1) imm (pointee (mEntry.the-row .written))), l₇) ∷ (tyBool, l₈) ∷ (tyBool, l₉) ∷ (tyInt w32, l₁₀) ∷ (tyUnit, l₁₁) ∷ (tyRef erased mut (tyInt w64), l₁₂) ∷ (sliceTy (tyRef erased mut (tyInt w64)), l₁₃) ∷ []) Mir.t-4 (atRet ((tyInt w32, l₀) ∷ (tyInt w32, l₁) ∷ (sliceTy (tyRef (named 0) mut (tyInt w64)), l₂) ∷ (tyInt w64, l₃) ∷ (tyInt w64, l₄) ∷ (lShapes.mir, l₅) ∷ (tyArray (tyInt w64) 256, l₆) ∷ (sliceTy (tyRef (named 1) imm (pointee (mEntry.the-row .written))), l₇) ∷ (tyBool, l₈) ∷ (tyBool, l₉) ∷ (tyInt w32, l₁₀) ∷ (tyUnit, l₁₁) ∷ (tyRef erased mut (tyInt w64), l₁₂) ∷ (sliceTy (tyRef erased mut (tyInt w64)), l₁₃) ∷ []) Post) $ 
-        assigns ! (of-opd ! (load ! (from ! (stop !)) (look ! 13 refl))) (from ! (stop !)) (init ! 23 refl (uint-lawful 𝓤 H A W w32 .typed n1 _ w1 .0)) $ 
-        tidy W (_ ∷ _ ∷ _ ∷ _ ∷ _ ∷ _ ∷ _ ∷ _ ∷ _ ∷ _ ∷ _ ∷ _ ∷ _ ∷ _ ∷ _ ∷ _ ∷ _ ∷ _ ∷ _ ∷ _ ∷ _ ∷ _ ∷ _ ∷ _ ∷ []) $ returns ! (look ! 23 refl) $ move ! (9 ∷ []) $ use1 W (dies ((tyInt w32, l₀) ∷ (tyInt w32, l₁) ∷ (sliceTy (tyRef (named 0) mut (tyInt w64)), l₂) ∷ (tyInt w64, l₃) ∷ (tyInt w64, l₄) ∷ (lShapes.mir, l₅) ∷ (tyArray (tyInt w64) 256, l₆) ∷ (sliceTy (tyRef (named 1) imm (pointee (mEntry.the-row .written))), l₇) ∷ (tyBool, l₈) ∷ (tyBool, l₉) ∷ (tyInt w32, l₁₀) ∷ (tyUnit, l₁₁) ∷ (tyRef erased mut (tyInt w64), l₁₂) ∷ (sliceTy (tyRef erased mut (tyInt w64)), l₁₃) ∷ []) (‵ ftrue)) die $ free-all ! 9 ((tyInt w32, l₀) ∷ (tyInt w32, l₁) ∷ (sliceTy (tyRef (named 0) mut (tyInt w64)), l₂) ∷ (tyInt w64, l₃) ∷ (tyInt w64, l₄) ∷ (lShapes.mir, l₅) ∷ (tyArray (tyInt w64) 256, l₆) ∷ (sliceTy (tyRef (named 1) imm (pointee (mEntry.the-row .written))), l₇) ∷ (tyBool, l₈) ∷ (tyBool, l₉) ∷ (tyInt w32, l₁₀) ∷ (tyUnit, l₁₁) ∷ (tyRef erased mut (tyInt w64), l₁₂) ∷ (sliceTy (tyRef erased mut (tyInt w64)), l₁₃) ∷ []) (kept _ ∷ kept _ ∷ kept _ ∷ kept _ ∷ kept _ ∷ kept _ ∷ kept _ ∷ kept _ ∷ kept _ ∷ kept _ ∷ kept _ ∷ kept _ ∷ kept _ ∷ kept _ ∷ []) refl $ 
-        suffices ! _ (ends-at 𝓤 H A f.ended stayed (f.clauses 𝓤 H A at-mem run) W (((κ₀, (κ₁, tt)), (q₀, (q₁, tt)), tt, a, at), tt) u1 n1 (tt, (ws2 .0, (tt, (tt, (tt, (tt, (tt, tt))))))) (tt, (same2a, (tt, (tt, (tt, (tt, (tt, tt)))))))) $ says ! (rw (← e1, b1) e2) $ 
+        use1 W (raw (Callee-g2 𝓤 H A at-mem run .pre ((((ν2a ∷ []), (κ₁, tt)), (fullShare, (q₁, tt)), tt, (ref2 δ2a (ys2), (n3, (n4, (n5, (n6, (s7, tt)))))), (v2 ∷ [], (u3 ∷ [], (u4 ∷ [], (u5 ∷ [], (u6 ∷ [], (v7 ∷ [], tt))))))), tt))) (qed W ((‵ (flft (ν2a ∷ []) fullShare) ⊛ ‵ (flft κ₁ q₁) ⊛ ‵ ftrue) ∷ ‵ (MutSlice (named 0) (ν2a ∷ []) u64 .own (ref2 δ2a (ys2)) (v2 ∷ [])) ∷ ‵ (ShrSlice (named 1) κ₁ mEntry.the-row .own s7 (v7 ∷ [])) ∷ []) ∵ nothing ! $ move ! (3 ∷ 0 ∷ []) $ fjoin ! $ owned ! (Array u64 256) (Is (Array u64 256)) (array-makes 𝓤 H A W u64 (uint-makes 𝓤 H A W w64) 256) (n6) _ w6 $ fjoin ! $ owned ! mShapes.the-row (Is mShapes.the-row) (LL.makes mShapes.the-type lShapes.the-plain 𝓤 H A) (n5) _ w5 $ fjoin ! $ owned ! u64 (Is u64) (uint-makes 𝓤 H A W w64) (n4) _ w4 $ fjoin ! $ owned ! u64 (Is u64) (uint-makes 𝓤 H A W w64) (n3) _ w3 $ fjoin ! $ move ! (2 ∷ 0 ∷ []) $ fjoin ! $ move ! (1 ∷ 0 ∷ []) $ join ! $ nothing ! $ move ! (1 ∷ 0 ∷ []) $ frame ! $ done !) $
+        calls-at ! fm (Callee-g2 𝓤 H A at-mem run) known-g2 ((((ν2a ∷ []), (κ₁, tt)), (fullShare, (q₁, tt)), tt, (ref2 δ2a (ys2), (n3, (n4, (n5, (n6, (s7, tt)))))), (v2 ∷ [], (u3 ∷ [], (u4 ∷ [], (u5 ∷ [], (u6 ∷ [], (v7 ∷ [], tt))))))), tt) (and-then ! (load ! (from ! (stop !)) (look ! 9 refl)) (and-then ! (load ! (from ! (stop !)) (look ! 19 refl)) (and-then ! (load ! (from ! (stop !)) (look ! 18 refl)) (and-then ! (load ! (from ! (stop !)) (look ! 17 refl)) (and-then ! (load ! (from ! (stop !)) (look ! 16 refl)) (and-then ! (load ! (from ! (stop !)) (look ! 15 refl)) (no-more !))))))) (λ z2.
+        use1 W (later (some (λ (r2 : Unit {0}). ((‵ (flft (ν2a ∷ []) fullShare) ⊛ ‵ (flft κ₁ q₁) ⊛ ‵ ftrue) ⊛ ‵ (unit .own r2 (z2 ∷ []))) ⊛ some (λ (ws : Lasts g2.ended ((ν2a ∷ []), (κ₁, tt)) (ref2 δ2a (ys2), (n3, (n4, (n5, (n6, (s7, tt))))))). ‵ (lasts g2.ended ((ν2a ∷ []), (κ₁, tt)) (ref2 δ2a (ys2), (n3, (n4, (n5, (n6, (s7, tt)))))) ws) ⊛ raw (g2.clauses 𝓤 H A at-mem run ((ν2a ∷ []), (κ₁, tt)) (ref2 δ2a (ys2), (n3, (n4, (n5, (n6, (s7, tt)))))) .ensures tt r2 (atExit g2.ended ((ν2a ∷ []), (κ₁, tt)) (ref2 δ2a (ys2), (n3, (n4, (n5, (n6, (s7, tt)))))) ws)))))) (id⊢ 𝓤 _) $ await ! tt $ pick ! (λ r2. split ! $ move ! (1 ∷ []) $ pick ! (λ ws2. split ! $ move ! (1 ∷ []) $ heard ! _ (λ e2.
+        fsplit ! $ fsplit ! $ move ! (1 ∷ []) $ feqL ! (λ same2a. move ! (1 ∷ []) $ drop ! $ move ! (1 ∷ []) $ split ! $ move ! (1 ∷ []) $ feqL ! (λ i2. land ! (from ! (stop !)) (init ! 12 refl (subst (λ (t : Val). Trueᴮ (hasTy tyUnit t) × WT t) (sym (ap only i2)) (tt, tt))) $
+        tidy W (_ ∷ _ ∷ _ ∷ _ ∷ _ ∷ _ ∷ _ ∷ _ ∷ _ ∷ _ ∷ _ ∷ _ ∷ _ ∷ _ ∷ _ ∷ _ ∷ _ ∷ _ ∷ _ ∷ _ ∷ _ ∷ _ ∷ _ ∷ _ ∷ []) $ split ! $ move ! (1 ∷ []) $ split ! $ move ! (1 ∷ []) $ drop ! $ move ! (1 ∷ []) $ lft-end ! tt $ move ! (0 ∷ 4 ∷ 2 ∷ []) $ use3 W (later (‵ (O2 (ws2 .0)) ⊛ ‵ (flft κ₀ q₀))) (backs2 (named 0) ν2a δ2a (ys2) (ws2 .0) (refl) room2 same2a) $ await ! tt $ split ! $
+        assigns-last ! (of-opd ! (load ! (from ! (stop !)) (look ! 22 refl))) (from ! (stop !)) (init ! 13 refl (uint-lawful 𝓤 H A W w32 .typed n1 _ w1 .0)) $
+        exec ! C Λ ((tyInt w32, l₀) ∷ (tyInt w32, l₁) ∷ (sliceTy (tyRef (named 0) mut (tyInt w64)), l₂) ∷ (tyInt w64, l₃) ∷ (tyInt w64, l₄) ∷ (lShapes.mir, l₅) ∷ (tyArray (tyInt w64) 256, l₆) ∷ (sliceTy (tyRef (named 1) imm (pointee (mEntry.the-row .written))), l₇) ∷ (tyBool, l₈) ∷ (tyBool, l₉) ∷ (tyInt w32, l₁₀) ∷ (tyUnit, l₁₁) ∷ (tyRef erased mut (tyInt w64), l₁₂) ∷ (sliceTy (tyRef erased mut (tyInt w64)), l₁₃) ∷ []) Mir.t-4 (atRet ((tyInt w32, l₀) ∷ (tyInt w32, l₁) ∷ (sliceTy (tyRef (named 0) mut (tyInt w64)), l₂) ∷ (tyInt w64, l₃) ∷ (tyInt w64, l₄) ∷ (lShapes.mir, l₅) ∷ (tyArray (tyInt w64) 256, l₆) ∷ (sliceTy (tyRef (named 1) imm (pointee (mEntry.the-row .written))), l₇) ∷ (tyBool, l₈) ∷ (tyBool, l₉) ∷ (tyInt w32, l₁₀) ∷ (tyUnit, l₁₁) ∷ (tyRef erased mut (tyInt w64), l₁₂) ∷ (sliceTy (tyRef erased mut (tyInt w64)), l₁₃) ∷ []) Post) $
+        assigns ! (of-opd ! (load ! (from ! (stop !)) (look ! 13 refl))) (from ! (stop !)) (init ! 23 refl (uint-lawful 𝓤 H A W w32 .typed n1 _ w1 .0)) $
+        tidy W (_ ∷ _ ∷ _ ∷ _ ∷ _ ∷ _ ∷ _ ∷ _ ∷ _ ∷ _ ∷ _ ∷ _ ∷ _ ∷ _ ∷ _ ∷ _ ∷ _ ∷ _ ∷ _ ∷ _ ∷ _ ∷ _ ∷ _ ∷ _ ∷ []) $ returns ! (look ! 23 refl) $ move ! (9 ∷ []) $ use1 W (dies ((tyInt w32, l₀) ∷ (tyInt w32, l₁) ∷ (sliceTy (tyRef (named 0) mut (tyInt w64)), l₂) ∷ (tyInt w64, l₃) ∷ (tyInt w64, l₄) ∷ (lShapes.mir, l₅) ∷ (tyArray (tyInt w64) 256, l₆) ∷ (sliceTy (tyRef (named 1) imm (pointee (mEntry.the-row .written))), l₇) ∷ (tyBool, l₈) ∷ (tyBool, l₉) ∷ (tyInt w32, l₁₀) ∷ (tyUnit, l₁₁) ∷ (tyRef erased mut (tyInt w64), l₁₂) ∷ (sliceTy (tyRef erased mut (tyInt w64)), l₁₃) ∷ []) (‵ ftrue)) die $ free-all ! 9 ((tyInt w32, l₀) ∷ (tyInt w32, l₁) ∷ (sliceTy (tyRef (named 0) mut (tyInt w64)), l₂) ∷ (tyInt w64, l₃) ∷ (tyInt w64, l₄) ∷ (lShapes.mir, l₅) ∷ (tyArray (tyInt w64) 256, l₆) ∷ (sliceTy (tyRef (named 1) imm (pointee (mEntry.the-row .written))), l₇) ∷ (tyBool, l₈) ∷ (tyBool, l₉) ∷ (tyInt w32, l₁₀) ∷ (tyUnit, l₁₁) ∷ (tyRef erased mut (tyInt w64), l₁₂) ∷ (sliceTy (tyRef erased mut (tyInt w64)), l₁₃) ∷ []) (kept _ ∷ kept _ ∷ kept _ ∷ kept _ ∷ kept _ ∷ kept _ ∷ kept _ ∷ kept _ ∷ kept _ ∷ kept _ ∷ kept _ ∷ kept _ ∷ kept _ ∷ kept _ ∷ []) refl $
+        suffices ! _ (ends-at 𝓤 H A f.ended stayed (f.clauses 𝓤 H A at-mem run) W (((κ₀, (κ₁, tt)), (q₀, (q₁, tt)), tt, a, at), tt) u1 n1 (tt, (ws2 .0, (tt, (tt, (tt, (tt, (tt, tt))))))) (tt, (same2a, (tt, (tt, (tt, (tt, (tt, tt)))))))) $ says ! (rw (← e1, b1) e2) $
         nothing ! $ move ! (3 ∷ 0 ∷ []) $ join ! $ move ! (2 ∷ 0 ∷ []) $ join ! $ nothing ! $ move ! (3 ∷ 0 ∷ []) $ fjoin ! $ move ! (3 ∷ 0 ∷ []) $ fjoin ! $ move ! (3 ∷ 0 ∷ []) $ fjoin ! $ move ! (3 ∷ 0 ∷ []) $ fjoin ! $ move ! (3 ∷ 0 ∷ []) $ fjoin ! $ move ! (2 ∷ 0 ∷ []) $ fjoin ! $ move ! (2 ∷ 0 ∷ []) $ fjoin ! $ keep ! (1 ∷ 0 ∷ []) $ frame ! $ frame ! $ owned ! u32 (Is u32) (uint-makes 𝓤 H A W w32) n1 _ w1 $ done !)))))))))
-        (λ y1. let b1 : r1 ≡ false = is-no (r1) y1 in assigns-last ! (of-opd ! (load ! (from ! (stop !)) (look ! 22 refl))) (from ! (stop !)) (init ! 13 refl (uint-lawful 𝓤 H A W w32 .typed n1 _ w1 .0)) $ 
-        exec ! C Λ ((tyInt w32, l₀) ∷ (tyInt w32, l₁) ∷ (sliceTy (tyRef (named 0) mut (tyInt w64)), l₂) ∷ (tyInt w64, l₃) ∷ (tyInt w64, l₄) ∷ (lShapes.mir, l₅) ∷ (tyArray (tyInt w64) 256, l₆) ∷ (sliceTy (tyRef (named 1) imm (pointee (mEntry.the-row .written))), l₇) ∷ (tyBool, l₈) ∷ (tyBool, l₉) ∷ (tyInt w32, l₁₀) ∷ (tyUnit, l₁₁) ∷ (tyRef erased mut (tyInt w64), l₁₂) ∷ (sliceTy (tyRef erased mut (tyInt w64)), l₁₃) ∷ []) Mir.t-4 (atRet ((tyInt w32, l₀) ∷ (tyInt w32, l₁) ∷ (sliceTy (tyRef (named 0) mut (tyInt w64)), l₂) ∷ (tyInt w64, l₃) ∷ (tyInt w64, l₄) ∷ (lShapes.mir, l₅) ∷ (tyArray (tyInt w64) 256, l₆) ∷ (sliceTy (tyRef (named 1) imm (pointee (mEntry.the-row .written))), l₇) ∷ (tyBool, l₈) ∷ (tyBool, l₉) ∷ (tyInt w32, l₁₀) ∷ (tyUnit, l₁₁) ∷ (tyRef erased mut (tyInt w64), l₁₂) ∷ (sliceTy (tyRef erased mut (tyInt w64)), l₁₃) ∷ []) Post) $ 
-        assigns ! (of-opd ! (load ! (from ! (stop !)) (look ! 13 refl))) (from ! (stop !)) (init ! 23 refl (uint-lawful 𝓤 H A W w32 .typed n1 _ w1 .0)) $ 
-        tidy W (_ ∷ _ ∷ _ ∷ _ ∷ _ ∷ _ ∷ _ ∷ _ ∷ _ ∷ _ ∷ _ ∷ _ ∷ _ ∷ _ ∷ _ ∷ _ ∷ _ ∷ _ ∷ _ ∷ _ ∷ _ ∷ _ ∷ _ ∷ _ ∷ []) $ returns ! (look ! 23 refl) $ move ! (9 ∷ []) $ use1 W (dies ((tyInt w32, l₀) ∷ (tyInt w32, l₁) ∷ (sliceTy (tyRef (named 0) mut (tyInt w64)), l₂) ∷ (tyInt w64, l₃) ∷ (tyInt w64, l₄) ∷ (lShapes.mir, l₅) ∷ (tyArray (tyInt w64) 256, l₆) ∷ (sliceTy (tyRef (named 1) imm (pointee (mEntry.the-row .written))), l₇) ∷ (tyBool, l₈) ∷ (tyBool, l₉) ∷ (tyInt w32, l₁₀) ∷ (tyUnit, l₁₁) ∷ (tyRef erased mut (tyInt w64), l₁₂) ∷ (sliceTy (tyRef erased mut (tyInt w64)), l₁₃) ∷ []) (‵ ftrue)) die $ free-all ! 9 ((tyInt w32, l₀) ∷ (tyInt w32, l₁) ∷ (sliceTy (tyRef (named 0) mut (tyInt w64)), l₂) ∷ (tyInt w64, l₃) ∷ (tyInt w64, l₄) ∷ (lShapes.mir, l₅) ∷ (tyArray (tyInt w64) 256, l₆) ∷ (sliceTy (tyRef (named 1) imm (pointee (mEntry.the-row .written))), l₇) ∷ (tyBool, l₈) ∷ (tyBool, l₉) ∷ (tyInt w32, l₁₀) ∷ (tyUnit, l₁₁) ∷ (tyRef erased mut (tyInt w64), l₁₂) ∷ (sliceTy (tyRef erased mut (tyInt w64)), l₁₃) ∷ []) (kept _ ∷ kept _ ∷ kept _ ∷ kept _ ∷ kept _ ∷ kept _ ∷ kept _ ∷ kept _ ∷ kept _ ∷ kept _ ∷ kept _ ∷ bare ∷ bare ∷ bare ∷ []) refl $ 
-        suffices ! _ (ends-at 𝓤 H A f.ended stayed (f.clauses 𝓤 H A at-mem run) W (((κ₀, (κ₁, tt)), (q₀, (q₁, tt)), tt, a, at), tt) u1 n1 (tt, (ys2, (tt, (tt, (tt, (tt, (tt, tt))))))) (tt, (refl, (tt, (tt, (tt, (tt, (tt, tt)))))))) $ says ! (rw (← e1, b1) refl) $ 
+        (λ y1. let b1 : r1 ≡ false = is-no (r1) y1 in assigns-last ! (of-opd ! (load ! (from ! (stop !)) (look ! 22 refl))) (from ! (stop !)) (init ! 13 refl (uint-lawful 𝓤 H A W w32 .typed n1 _ w1 .0)) $
+        exec ! C Λ ((tyInt w32, l₀) ∷ (tyInt w32, l₁) ∷ (sliceTy (tyRef (named 0) mut (tyInt w64)), l₂) ∷ (tyInt w64, l₃) ∷ (tyInt w64, l₄) ∷ (lShapes.mir, l₅) ∷ (tyArray (tyInt w64) 256, l₆) ∷ (sliceTy (tyRef (named 1) imm (pointee (mEntry.the-row .written))), l₇) ∷ (tyBool, l₈) ∷ (tyBool, l₉) ∷ (tyInt w32, l₁₀) ∷ (tyUnit, l₁₁) ∷ (tyRef erased mut (tyInt w64), l₁₂) ∷ (sliceTy (tyRef erased mut (tyInt w64)), l₁₃) ∷ []) Mir.t-4 (atRet ((tyInt w32, l₀) ∷ (tyInt w32, l₁) ∷ (sliceTy (tyRef (named 0) mut (tyInt w64)), l₂) ∷ (tyInt w64, l₃) ∷ (tyInt w64, l₄) ∷ (lShapes.mir, l₅) ∷ (tyArray (tyInt w64) 256, l₆) ∷ (sliceTy (tyRef (named 1) imm (pointee (mEntry.the-row .written))), l₇) ∷ (tyBool, l₈) ∷ (tyBool, l₉) ∷ (tyInt w32, l₁₀) ∷ (tyUnit, l₁₁) ∷ (tyRef erased mut (tyInt w64), l₁₂) ∷ (sliceTy (tyRef erased mut (tyInt w64)), l₁₃) ∷ []) Post) $
+        assigns ! (of-opd ! (load ! (from ! (stop !)) (look ! 13 refl))) (from ! (stop !)) (init ! 23 refl (uint-lawful 𝓤 H A W w32 .typed n1 _ w1 .0)) $
+        tidy W (_ ∷ _ ∷ _ ∷ _ ∷ _ ∷ _ ∷ _ ∷ _ ∷ _ ∷ _ ∷ _ ∷ _ ∷ _ ∷ _ ∷ _ ∷ _ ∷ _ ∷ _ ∷ _ ∷ _ ∷ _ ∷ _ ∷ _ ∷ _ ∷ []) $ returns ! (look ! 23 refl) $ move ! (9 ∷ []) $ use1 W (dies ((tyInt w32, l₀) ∷ (tyInt w32, l₁) ∷ (sliceTy (tyRef (named 0) mut (tyInt w64)), l₂) ∷ (tyInt w64, l₃) ∷ (tyInt w64, l₄) ∷ (lShapes.mir, l₅) ∷ (tyArray (tyInt w64) 256, l₆) ∷ (sliceTy (tyRef (named 1) imm (pointee (mEntry.the-row .written))), l₇) ∷ (tyBool, l₈) ∷ (tyBool, l₉) ∷ (tyInt w32, l₁₀) ∷ (tyUnit, l₁₁) ∷ (tyRef erased mut (tyInt w64), l₁₂) ∷ (sliceTy (tyRef erased mut (tyInt w64)), l₁₃) ∷ []) (‵ ftrue)) die $ free-all ! 9 ((tyInt w32, l₀) ∷ (tyInt w32, l₁) ∷ (sliceTy (tyRef (named 0) mut (tyInt w64)), l₂) ∷ (tyInt w64, l₃) ∷ (tyInt w64, l₄) ∷ (lShapes.mir, l₅) ∷ (tyArray (tyInt w64) 256, l₆) ∷ (sliceTy (tyRef (named 1) imm (pointee (mEntry.the-row .written))), l₇) ∷ (tyBool, l₈) ∷ (tyBool, l₉) ∷ (tyInt w32, l₁₀) ∷ (tyUnit, l₁₁) ∷ (tyRef erased mut (tyInt w64), l₁₂) ∷ (sliceTy (tyRef erased mut (tyInt w64)), l₁₃) ∷ []) (kept _ ∷ kept _ ∷ kept _ ∷ kept _ ∷ kept _ ∷ kept _ ∷ kept _ ∷ kept _ ∷ kept _ ∷ kept _ ∷ kept _ ∷ bare ∷ bare ∷ bare ∷ []) refl $
+        suffices ! _ (ends-at 𝓤 H A f.ended stayed (f.clauses 𝓤 H A at-mem run) W (((κ₀, (κ₁, tt)), (q₀, (q₁, tt)), tt, a, at), tt) u1 n1 (tt, (ys2, (tt, (tt, (tt, (tt, (tt, tt))))))) (tt, (refl, (tt, (tt, (tt, (tt, (tt, tt)))))))) $ says ! (rw (← e1, b1) refl) $
         nothing ! $ move ! (1 ∷ 0 ∷ []) $ join ! $ move ! (1 ∷ 0 ∷ []) $ join ! $ nothing ! $ move ! (2 ∷ 0 ∷ []) $ fjoin ! $ move ! (2 ∷ 0 ∷ []) $ fjoin ! $ move ! (2 ∷ 0 ∷ []) $ fjoin ! $ move ! (2 ∷ 0 ∷ []) $ fjoin ! $ move ! (2 ∷ 0 ∷ []) $ fjoin ! $ move ! (2 ∷ 0 ∷ []) $ fjoin ! $ move ! (2 ∷ 0 ∷ []) $ fjoin ! $ keep ! (1 ∷ 0 ∷ []) $ frame ! $ frame ! $ owned ! u32 (Is u32) (uint-makes 𝓤 H A W w32) n1 _ w1 $ done !)
         ))))))))))))))))))))
 
