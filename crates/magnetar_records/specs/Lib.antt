@@ -1,4 +1,0 @@
-pub mod Steps
-pub mod Numbers
-pub mod Stages
-pub mod Outcome
