@@ -124,17 +124,15 @@ thin lent::challenge_field_vec --final '(cc, cc, cc)'
 thin lent::is_binary --requires 'n4 ≤ 32' --part pre
 for g in apply eval_mle_table eval_mle_at apply_simd_packed; do thin lent::$g --requires 'n4 ≤ 32' --part pre --final e1; done
 
-# magnetar_records: the verifier
-crate magnetar_records
-thin virtual_spartan::combine_at
-thin virtual_spartan::combine
-thin virtual_spartan::verify_in --use "$ends.StageLaws.{run-left}" \
-  --final 'run-left n4 n5 n7 n8 (s6 .now) (s15 .now) (s16 .now) h1 ys2 _ (ws1 .0) r2 (ws2 .0) (ws2 .1 .0) e1 e2'
-thin virtual_spartan::verify_unless --final 'rw (← e1, b1) e2' --final 'rw (← e1, b1) refl'
-thin virtual_spartan::refused --use "$ends.RunEnds.{verify-refused}" \
-  --final "verify-refused $(six 4) n1 n2 (s3 .now) (s22 .now) (s23 .now) n24 n25 n26 r1 r2 e1 e2"
-thin virtual_spartan::verify_virtual_spartan --use "$ends.RunEnds.{verify-ends}" \
-  --final "verify-ends $(six 7) n4 n5 (s6 .now) (s25 .now) (s26 .now) h1 ys2 ys3 r1 e1 r2 (ws2 .1 .0) (ws2 .1 .1 .0) (ws2 .1 .1 .1 .0) e2"
+# magnetar_spartan: the verifier over one slice of records
+crate magnetar_spartan
+over='--use Rattle.magnetar_relation.specs.Rules.{rulesOver} --use Rattle.magnetar_inplace.specs.Records.{entriesOfRecords}'
+thin records::combine_at --final 'e4 ∙ rw (e1, e2, e3)'
+thin records::combine_unless --final 'rw (← e1, b1) e2' --final 'rw (← e1, b1) refl'
+thin records::verify_with --use "$ends.VerifyEnds.{verify-ends}" $over \
+  --final 'λ h. verify-ends (rulesOver n4 n5 (s6 .now) n7 (entriesOfRecords (s8 .now))) (s9 .now) (s10 .now) n11 ys2 ys3 n1 r1 h e1 r6 (ws6 .1 .0) (ws6 .1 .1 .0) r2 (ws5 .1 .0) e2 (rw (← e3, ← e4) e5) e6'
+thin records::verify_virtual_spartan --use "$ends.ByNumbers.{over-free}" $over \
+  --final 'e2 (e1 ∙ over-free n4 n5 (s6 .now) n7 (entriesOfRecords (s8 .now)))'
 
 # magnetar_records_prover: the prover
 crate magnetar_records_prover

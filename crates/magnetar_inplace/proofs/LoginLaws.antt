@@ -167,7 +167,9 @@ blocks-of g n (suc q) t l h =
     let k : length t ≡ q * n + n = l ∙ suc-mul q n in
     let a : length (take (q * n) t) ≡ q * n = length-take-le (q * n) t (omega arith) in
     let d : length (drop (q * n) t) ≡ n = rw length-drop (omega arith) in
-    let x : take (q * n) t ≡ blocks (λ u. tabulate (g u) n) q = blocks-of g n q (take (q * n) t) a (λ u i hu hi. let e : u * n + n ≤ q * n = part-ends n q u hu in getD-take (q * n) t (u * n + i) 0 (omega (arith, e, hi)) ∙ h u i (omega arith) hi) in
+    let x : take (q * n) t ≡ blocks (λ u. tabulate (g u) n) q =
+    blocks-of g n q (take (q * n) t) a
+    (λ u i hu hi. let e : u * n + n ≤ q * n = part-ends n q u hu in getD-take (q * n) t (u * n + i) 0 (omega (arith, e, hi)) ∙ h u i (omega arith) hi) in
     let y : drop (q * n) t ≡ tabulate (g q) n = tabulate-of (drop (q * n) t) (g q) n 0 d (λ i hi. getD-drop (q * n) t i 0 ∙ h q i (omega arith) hi) in
     sym (take-append-drop (q * n) t) ∙ rw (x, y)
 
@@ -177,7 +179,9 @@ pub spread-zeros : (q w n : ℕ) (f : ℕ → Entry → ℕ) (es : List Entry) �
 spread-zeros q w n f es hq hw hn =
     let z : List ℕ = replicate (q * n) 0 in
     let lz : length z ≡ q * n = length-replicate (q * n) 0 in
-    blocks-of (λ u. rowTotal (f u) es) n q (spread q w n f es z) (spread-length q w n f es z ∙ lz) (λ u i hu hi. let e : u * n + n ≤ q * n = part-ends n q u hu in let k : u * n + i < q * n = omega (arith, e, hi) in spread-at q w n f hq hw hn u i hu hi es z (rw lz k) ∙ rw (getD-replicate {A = ℕ} (q * n) (u * n + i) 0 0 k) (zero-⊕ (rowTotal (f u) es i)))
+    blocks-of (λ u. rowTotal (f u) es) n q (spread q w n f es z) (spread-length q w n f es z ∙ lz)
+    (λ u i hu hi. let e : u * n + n ≤ q * n = part-ends n q u hu in let k : u * n + i < q * n = omega (arith, e, hi) in
+    spread-at q w n f hq hw hn u i hu hi es z (rw lz k) ∙ rw (getD-replicate {A = ℕ} (q * n) (u * n + i) 0 0 k) (zero-⊕ (rowTotal (f u) es i)))
 
 pub packed-added : (q w n : ℕ) (f : ℕ → Entry → ℕ) (es : List Entry) (out : List ℕ) → q ≤ 4096 → w ≤ 32768 → n ≤ 65536 → 0 < n → 2 * (q * n) ≤ length out
     → walked (addedLogins q w n f) es (clearedBlocks q w n out) ≡ words (blocks (λ u. tabulate (rowTotal (f u) es) n) q) ++ drop (2 * (q * n)) out

@@ -103,7 +103,10 @@ module _ (n m : ℕ) (es : List Entry) (ws out : List ℕ) (q w v : ℕ) (within
       let low : d ≤ 4096 = rw hd (p .lows) in
       let room : d * n ≤ length out = rw hd (h .room) in
       let a = masks-flipped d w n (flips w ws d c) (entriesOfRecords es) out low (h .half) (h .rows-size .high) (h .rows-size .low) room in
-      let s : out₂ ≡ blocks (flipBlock w ws (entriesOfRecords es) d c n) d ++ drop (d * n) out = e₂ ∙ (ap (flippedAll d w n (flips w ws d c) (entriesOfRecords es)) e₁ ∙ (a ∙ ap (λ (r : List ℕ). r ++ drop (d * n) out) (blocks-flipped w ws (entriesOfRecords es) d c n (places-fit h)))) in
+      let s : out₂ ≡ blocks (flipBlock w ws (entriesOfRecords es) d c n) d ++ drop (d * n) out =
+      e₂ ∙ (ap (flippedAll d w n (flips w ws d c) (entriesOfRecords es)) e₁
+      ∙ (a ∙ ap (λ (r : List ℕ). r ++ drop (d * n) out) (blocks-flipped w ws (entriesOfRecords es) d c n (places-fit h)))) in
       let f = masks-in-front (lentOf n m es) ws out (blocks (flipBlock w ws (entriesOfRecords es) d c n) d) q w v d c hd (places-are (h .most)) p (sym bits-are ∙ h .all-bits) blocks-are in
-      let u : out₂ ≡ masks (matrixOf (lentOf n m es)) (unpacked q w ws) (2 ^ (log₂ q - v)) (2 ^ v) ++ drop (maskCount (lentOf n m es) q v) out = s ∙ (ap (λ (r : List ℕ). blocks (flipBlock w ws (entriesOfRecords es) d c n) d ++ r) rest-is ∙ f) in
+      let u : out₂ ≡ masks (matrixOf (lentOf n m es)) (unpacked q w ws) (2 ^ (log₂ q - v)) (2 ^ v) ++ drop (maskCount (lentOf n m es) q v) out =
+      s ∙ (ap (λ (r : List ℕ). blocks (flipBlock w ws (entriesOfRecords es) d c n) d ++ r) rest-is ∙ f) in
       (masks-refusal, u ∙ went-on _ _ go masks-refusal g b)

@@ -109,5 +109,6 @@ module _ (es : List Entry) (ws x out : List ℕ) (q w n : ℕ) (go f : Bool) whe
   pub write-some : (out₁ : List ℕ) → go ≡ true → out₁ ≡ productsIn q w n ws (elements x) (take (length es - 0) (drop 0 (entriesOfRecords es))) out
       → f ≡ every (bitUpTo w) (entriesOfRecords es) → Leaves out₁
   write-some out₁ b e₁ e₂ =
-      let l : take (length es - 0) (drop 0 (entriesOfRecords es)) ≡ entriesOfRecords es = ap (λ (k : ℕ). take (k - 0) (drop 0 (entriesOfRecords es))) (sym (records-length es)) ∙ whole-part (entriesOfRecords es) in
+      let l : take (length es - 0) (drop 0 (entriesOfRecords es)) ≡ entriesOfRecords es =
+      ap (λ (k : ℕ). take (k - 0) (drop 0 (entriesOfRecords es))) (sym (records-length es)) ∙ whole-part (entriesOfRecords es) in
       rw b (e₂, e₁ ∙ ap (λ (p : List Cell). productsIn q w n ws (elements x) p out) l)

@@ -84,7 +84,8 @@ module _ (n m : ℕ) (es : List Entry) (z out : List ℕ) (inside go : Bool) (k 
       → out₂ ≡ addedAll n (share (elements z)) (entriesOfRecords es) out₁
       → (k ≡ applyRefusal (lentOf n m es) z out) × (out₂ ≡ applyOut (lentOf n m es) z out)
   apply-done out₁ out₂ b c a =
-      let e : out₂ ≡ words (times (matrixOf (lentOf n m es)) (elements z)) ++ drop (2 * lentOf n m es .rows) out = a ∙ (rw c (cleared-added n (share (elements z)) (entriesOfRecords es) out (apply-room b)) ∙ apply-product) in
+      let e : out₂ ≡ words (times (matrixOf (lentOf n m es)) (elements z)) ++ drop (2 * lentOf n m es .rows) out =
+      a ∙ (rw c (cleared-added n (share (elements z)) (entriesOfRecords es) out (apply-room b)) ∙ apply-product) in
       (apply-refusal, e ∙ went-on _ _ go apply-refusal g b)
 
 -- ---- the eq table of a point of the wanted length, in front of what is left of the words
@@ -146,7 +147,8 @@ module _ (n m : ℕ) (es : List Entry) (p out s : List ℕ) (inside go : Bool) (
       let l : length (eqTable (elements p)) ≡ n = eq-size 1 n p (f .rows-size) (f .point) in
       let w : s₁ ≡ words (eqTable (elements p)) ++ drop (2 * n) s = e₁ ∙ eq-in-front 1 n p s (f .rows-size) (f .point) (f .scratch) in
       let t : elements (take (2 * n) s₁) ≡ eqTable (elements p) = ap (λ (x : List ℕ). elements (take (2 * n) x)) w ∙ front-read n (eqTable (elements p)) (drop (2 * n) s) l in
-      let o : o₂ ≡ words (tabulate (rowTotal (share (eqTable (elements p))) (map swapped (entriesOfRecords es))) m) ++ drop (2 * m) out = c₂ ∙ rw (t, c₁) (cleared-added m (share (eqTable (elements p))) (map swapped (entriesOfRecords es)) out (f .room)) in
+      let o : o₂ ≡ words (tabulate (rowTotal (share (eqTable (elements p))) (map swapped (entriesOfRecords es))) m) ++ drop (2 * m) out =
+      c₂ ∙ rw (t, c₁) (cleared-added m (share (eqTable (elements p))) (map swapped (entriesOfRecords es)) out (f .room)) in
       let z : s₃ ≡ replicate (2 * n) 0 ++ drop (2 * n) s = e₃ ∙ rw (e₂, w) (front-cleared n (eqTable (elements p)) (drop (2 * n) s) l) in
       (table-refusal, o ∙ (table-is ∙ went-on _ _ go table-refusal g b), z ∙ (scratch-is ∙ went-on _ _ go table-refusal g b))
 
@@ -244,10 +246,14 @@ module _ (n m : ℕ) (es : List Entry) (r c s : List ℕ) (within go : Bool) (k 
       let D = drop (2 * m) (drop (2 * n) s) in
       let lr : length R ≡ n = eq-size 1 n r (f .rows-size) (f .rows-point) in
       let lc : length C ≡ m = eq-size 2 m c (f .cols-size) (f .cols-point) in
-      let w : behind n (eqOut c) (eqOut r s) ≡ words R ++ (words C ++ D) = rw (eq-in-front 1 n r s (f .rows-size) (f .rows-point) (omega (arith, f .scratch))) (behind-table n c R (drop (2 * n) s) _ lr (eq-in-front 2 m c (drop (2 * n) s) (f .cols-size) (f .cols-point) (rw length-drop (omega (arith, f .scratch))))) in
+      let w : behind n (eqOut c) (eqOut r s) ≡ words R ++ (words C ++ D) =
+      rw (eq-in-front 1 n r s (f .rows-size) (f .rows-point) (omega (arith, f .scratch)))
+      (behind-table n c R (drop (2 * n) s) _ lr (eq-in-front 2 m c (drop (2 * n) s) (f .cols-size) (f .cols-point) (rw length-drop (omega (arith, f .scratch))))) in
       let pn : n ≡ 2 ^ length (elements r) = point-size 1 n r (f .rows-size) (f .rows-point) in
       let pm : m ≡ 2 ^ length (elements c) = point-size 2 m c (f .cols-size) (f .cols-point) in
-      let x : v ≡ mleAt (matrixOf (lentOf n m es)) (elements r) (elements c) = e₁ .0 ∙ (rw w (sum-ext (inside n m) _ _ (entriesOfRecords es) (f .placed) (λ e h. pair-is n m R C D lr lc e ∙ at-places n m (elements r) (elements c) pn pm e h)) ∙ at-is) in
+      let x : v ≡ mleAt (matrixOf (lentOf n m es)) (elements r) (elements c) =
+      e₁ .0 ∙ (rw w (sum-ext (inside n m) _ _ (entriesOfRecords es) (f .placed)
+      (λ e h. pair-is n m R C D lr lc e ∙ at-places n m (elements r) (elements c) pn pm e h)) ∙ at-is) in
       let d : D ≡ drop (2 * (n + m)) s = drop-drop (2 * m) (2 * n) s ∙ ap (λ (j : ℕ). drop j s) (twice n m) in
       let y : s₁ ≡ replicate (2 * (n + m)) 0 ++ drop (2 * (n + m)) s = e₁ .1 ∙ rw (w, both-cleared n m R C D lr lc, d) in
       (e₂ ∙ rw (x, at-refusal), y ∙ (at-scratch ∙ went-on _ _ go at-refusal g b))

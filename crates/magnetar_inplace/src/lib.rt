@@ -1,7 +1,7 @@
 // Above the core: a matrix, or the matrices of a relation, lent as a slice of entry records.
 pub mod check;
 pub mod combo;
-pub mod logins;
+mod logins;
 mod masks;
 pub mod ranges;
 pub mod records;

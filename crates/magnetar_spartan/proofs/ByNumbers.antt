@@ -2,7 +2,7 @@
 -- Assumes nothing.
 use mathlib.Core.Path.{_≡_, refl, sym, ap, _∙_}
 use mathlib.Core.Bool.{true}
-use mathlib.Core.List.{List, _∷_, _++_}
+use mathlib.Core.List.{List, [], _∷_, _++_}
 use Prim.Native.Nat.{ℕ, zero, suc, _/_, _≤_}
 use native.Mathlib.Omega.{arith}
 use lib.ListN.{length}
@@ -11,7 +11,9 @@ use Rattle.magnetar_layout.specs.Tests.{Tests, note, noted, sizeTests, packedTe
 use Rattle.magnetar_layout.proofs.Noted.{note-kept, noted-kept, noted-append, noted-clear}
 use Rattle.magnetar_layout.proofs.SizeLaws.{not-bad}
 use Rattle.magnetar_protocol.proofs.Within.{verifier-within, prover-within}
-use Rattle.magnetar_relation.specs.Rules.{Rules}
+use Rattle.magnetar_matrix.specs.Matrix.{Entry}
+use Rattle.magnetar_relation.specs.declared.shapes.Shapes.{Shapes}
+use Rattle.magnetar_relation.specs.Rules.{Rules, rulesOver, inRelation}
 use Rattle.magnetar_relation.specs.RuleTests.{ruleTests}
 use Rattle.magnetar_spartan.specs.Refusals.{rowsBin, rowsFld, outlineOf, counterTests, roomOf, wordTests, proofWords, claimWords, verifierRoom, proverRoom, verifyTests, proveTests}
 use Rattle.magnetar_spartan.specs.Numbers.{verifyRooms, proveRooms, verifyTestsBy, proveTestsBy}
@@ -96,3 +98,9 @@ module _ (R : Rules) (z : ℕ) (e : z ≡ noted 0 (ruleTests R)) where
           let logins : Sized 1 4096 (R .q) = not-bad (k .1 .0) in
           let r = prover-within (R .m) (R .q) (rowsBin R) (rowsFld R) (columns .high) (logins .high) (both f .bin .rows .high) (both f .fld .rows .high) in
           rw r
+
+-- ---- the rules' own number does not depend on the segment lengths
+pub over-free : (m q : ℕ) (ns : List ℕ) (s : Shapes) (es : List Entry)
+    → noted 0 (ruleTests (rulesOver m q [] s es)) ≡ noted 0 (ruleTests (rulesOver m q ns s es))
+unfolding inRelation
+over-free m q ns s es = refl

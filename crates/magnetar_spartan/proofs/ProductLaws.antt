@@ -28,7 +28,12 @@ use Rattle.magnetar_rounds.proofs.Slots.{take-of-drop, mid-length, mid-before, 
 use Rattle.magnetar_rounds.proofs.Guarded.{even-size}
 use Rattle.magnetar_relation.specs.declared.shapes.SystemShape.{SystemShape}
 use Rattle.magnetar_relation.specs.declared.shapes.Shapes.{Shapes}
-use Rattle.magnetar_relation.specs.Rules.{Rules, relationOf, systemAt, entriesIn}
+use Rattle.magnetar_relation.specs.Rules.{Rules, rulesOver, relationOf, systemAt, entriesIn}
+use Rattle.magnetar_inplace.specs.declared.records.Entry.{Entry as Record}
+use Rattle.magnetar_inplace.specs.Records.{entriesOfRecords}
+use Rattle.magnetar_inplace.specs.LoginSteps.{productsIn}
+use Rattle.magnetar_inplace.proofs.PackedEnds.{products-in}
+use Rattle.magnetar_inplace.proofs.WalkLaws.{records-length}
 use Rattle.magnetar_relation.proofs.RangeLaws.{same-drop, range-is}
 use Rattle.magnetar_spartan.specs.declared.products.Part.{Part}
 use Rattle.magnetar_spartan.specs.Refusals.{rowsBin, rowsFld}
@@ -328,19 +333,38 @@ module _ (k : ℕ) (R : Rules) (ws x s : List ℕ) (ok : ProductsReady R (length
       (placed-there (wordsNo k R) (placeNo k R) T s T-long (fits .free) (fits .room) u f)
 
   -- made in front by a walk over records, and copied
-  pub moved-there : (u : List ℕ) (p n : ℕ) → p ≡ h .place → n ≡ productWords (R .q) (h .rows) → u ≡ words (tableOf R ws x (made (R .m))) ++ drop (R .q * (2 * h .rows)) s
-      → Placed (wordsNo k R) (placeNo k R) T s (copied p n u)
-  moved-there u p n ep en eu =
-      let e : p ≡ placeNo k R = ep ∙ part-is .place in
-      let f : n ≡ wordsNo k R = en ∙ (ap (productWords (R .q)) rows-are ∙ (uncut (R .q) (fits .n) (ok .logins .high) (fits .size .high) ∙ sym (fits .words-are))) in
-      rw (e, f) (placed-copied (wordsNo k R) (placeNo k R) T s T-long (fits .free) (fits .room) u
-      (eu ∙ ap₂ (λ (l : List ℕ) (i : ℕ). words l ++ drop i s) (made-is (R .m)) twice))
+  pub moved-there : (g : Part) → g ≡ h → (n : ℕ) → n ≡ productWords (R .q) (g .rows) → (u : List ℕ)
+      → u ≡ productsIn (R .q) (R .m / 2) (g .rows) ws (elements x) (take (g .to - g .from) (drop (g .from) (R .entries))) s
+      → Placed (wordsNo k R) (placeNo k R) T s (copied (g .place) n u)
+  moved-there g eg n en u eu =
+      let M = made (R .m) in
+      let e : g .place ≡ placeNo k R = ap (λ (y : Part). y .place) eg ∙ part-is .place in
+      let f : n ≡ wordsNo k R =
+      en ∙ (ap (λ (y : Part). productWords (R .q) (y .rows)) eg ∙ (ap (productWords (R .q)) rows-are ∙ (uncut (R .q) (fits .n) (ok .logins .high) (fits .size .high) ∙ sym (fits .words-are)))) in
+      let room : R .q * (2 * h .rows) ≤ length s = rw twice (omega (arith, fits .room)) in
+      let r = products-in M ws (elements x) (R .q) (R .m / 2) s (ok .logins .high) (omega (arith, ok .columns .high)) (subst (Sized 1 65536) (sym rows-are) (fits .size)) room in
+      let l : u ≡ words T ++ drop (wordsNo k R) s =
+      eu ∙ (ap (λ (y : Part). productsIn (R .q) (R .m / 2) (y .rows) ws (elements x) (take (y .to - y .from) (drop (y .from) (R .entries))) s) eg
+      ∙ (r ∙ ap₂ (λ (v : List ℕ) (i : ℕ). words v ++ drop i s) (made-is (R .m)) twice)) in
+      rw (e, f) (placed-copied (wordsNo k R) (placeNo k R) T s T-long (fits .free) (fits .room) u l)
     where
       uncut : (q n : ℕ) → q ≤ 4096 → n ≤ 65536 → productWords q n ≡ 2 * (q * n)
       uncut q n a b =
           let i : min q 4096 ≡ q = omega arith in
           let j : min n 65536 ≡ n = omega arith in
           rw (i, j)
+
+-- ---- a product over records, call by call
+pub product-ends : (k m q : ℕ) (sh : Shapes) (es : List Record) (ws x s : List ℕ) (g : Part) (w n : ℕ) (s₁ s₂ : List ℕ)
+    → g ≡ partOf k q sh (length es) → w ≡ m / 2
+    → s₁ ≡ productsIn q w (g .rows) ws (elements x) (take (g .to - g .from) (drop (g .from) (entriesOfRecords es))) s
+    → (n ≡ productWords q (g .rows)) × (n ≤ 1073741824) → s₂ ≡ copied (g .place) n s₁
+    → ProductLeft k (rulesOver m q [] sh (entriesOfRecords es)) ws x s s₂
+product-ends k m q sh es ws x s g w n s₁ s₂ eg ew e₁ en e₂ ok =
+    let R : Rules = rulesOver m q [] sh (entriesOfRecords es) in
+    subst (Placed (wordsNo k R) (placeNo k R) (tableOf R ws x (matrixNo k (relationOf R))) s) (sym e₂)
+    (moved-there k R ws x s ok g (eg ∙ ap (partOf k q sh) (sym (records-length es))) n (en .0) s₁
+    (e₁ ∙ ap (λ (i : ℕ). productsIn q i (g .rows) ws (elements x) (take (g .to - g .from) (drop (g .from) (entriesOfRecords es))) s) ew))
 
 -- ---- all six
 module _ (R : Rules) (ws x s₀ s₁ s₂ s₃ s₄ s₅ s₆ : List ℕ) (p₁ : ProductLeft 5 R ws x s₀ s₁) (p₂ : ProductLeft 6 R ws x s₁ s₂) (p₃ : ProductLeft 7 R ws x s₂ s₃)

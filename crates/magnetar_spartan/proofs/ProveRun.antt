@@ -1,7 +1,7 @@
 -- What the prover leaves, from what its calls leave: the products, the outer rounds over them, the combined table and what is behind it.
 -- Assumes nothing.
 use mathlib.Core.Path.{_≡_, refl, sym, ap, ap₂, _∙_, subst}
-use mathlib.Core.Bool.{true}
+use mathlib.Core.Bool.{Bool, true, false, cond}
 use mathlib.Core.List.{List, [], _∷_, _++_, reverse, append-assoc}
 use Prim.Native.Nat.{ℕ, suc, _+_, _-_, _*_, _/_, _^_, _≤_, _<_, max}
 use native.Mathlib.Nat.{mul-add}
@@ -10,7 +10,7 @@ use lib.Dec.{eqb}
 use lib.ListN.{length, take, drop, replicate, length-append, length-drop, length-replicate, replicate-append-replicate}
 use lib.Pow.{split}
 use lib.Seq.{take-at, drop-at, take-append-le, drop-append-le, length-take-le}
-use borrow.Author.Tests.{lt-ltb, eq-eqb, ne-eqb}
+use borrow.Author.Tests.{lt-ltb, eq-eqb, ne-eqb, eqb-true, eqb-false}
 use Rattle.magnetar_field.specs.Sizes.{log₂}
 use Rattle.magnetar_field.specs.Words.{elements, words, overlaid}
 use Rattle.magnetar_field.proofs.Elements.{words-length, words-append, elements-length}
@@ -45,7 +45,7 @@ use Rattle.magnetar_spartan.specs.Refusals.{outlineOf, rowsBin, rowsFld,
 use Rattle.magnetar_spartan.specs.Numbers.{proveTestsBy}
 use Rattle.magnetar_spartan.specs.Ready.{Ready}
 use Rattle.magnetar_spartan.specs.Table.{tableAt}
-use Rattle.magnetar_spartan.specs.Outcome.{batchOf, proveDraws, proveRefusal, proveOutcome, proved}
+use Rattle.magnetar_spartan.specs.Outcome.{batchOf, proveDraws, proveRefusal, proveOutcome, provedInPlace}
 use Rattle.magnetar_spartan.specs.Proving.{bare, RunReady, outerNumber, OuterDone, saidBefore, drawnBefore, saidAll, drawnAll, laterPlayed, LaterLeft}
 use Rattle.magnetar_spartan.specs.Products.{tablesWanted, Products, ProductsLeft}
 use Rattle.magnetar_spartan.proofs.Fine.{noted-none, size-fine, most-fine, true-fine}
@@ -278,7 +278,7 @@ module _ (R : Rules) (ws x w c s : List ℕ) (t : Transcript)
 
         pub run-is : Elements (elements x) → proveRefusal R ws x t w c s ≡ 0 → (u′ : Transcript) (w′ c′ s′ : List ℕ)
             → LaterLeft (bare (R .m) q b f (R .lengths)) ws x v d c s₃ u u′ w′ c′ s′
-            → proved (record { code = 0; transcript = u′ }) w′ c′ s′ ≡ proveOutcome R ws x t w c s
+            → provedInPlace 0 u′ w′ c′ s′ ≡ proveOutcome R ws x t w c s
         unfolding proveOutcome proverTranscript proveDraws
         run-is word none u′ w′ c′ s′ L =
             let e = L later-ready in
@@ -300,25 +300,19 @@ module _ (R : Rules) (ws x w c s : List ℕ) (t : Transcript)
 abbrev pub unlaid : Rules → Rules
 unlaid R = record { m = R .m; q = R .q; lengths = []; shapes = R .shapes; numbers = R .numbers; entries = R .entries }
 
-module _ (R : Rules) (ws x w c s : List ℕ) (t : Transcript) (y z : ℕ) (hy : y ≡ noted 0 (ruleTests R))
-    (hz : z ≡ noted 0 (proveTestsBy y (outlineOf R) (length ws) (length x) (t .«squeeze_ctr») (length w) (length c) (length s))) where
-  number : z ≡ proveRefusal R ws x t w c s
-  unfolding proveRefusal
-  number = hz ∙ prove-by R y hy ws x (t .«squeeze_ctr») (length w) (length c) (length s)
-
-  -- turned back
-  pub prove-back : (z ≡ 0 → ⊥) → proved (record { code = z; transcript = t }) w c s ≡ proveOutcome R ws x t w c s
+module _ (R : Rules) (ws x w c s : List ℕ) (t : Transcript) where
+  -- turned back with the number z
+  pub turned-back : (z : ℕ) → z ≡ proveRefusal R ws x t w c s → (z ≡ 0 → ⊥) → provedInPlace z t w c s ≡ proveOutcome R ws x t w c s
   unfolding proveOutcome
-  prove-back h = rw (← number, ne-eqb z 0 h)
+  turned-back z e h = rw (← e, ne-eqb z 0 h)
 
   -- run through: the products, the outer rounds, the combined table, and what is behind it
-  pub prove-ends : z ≡ 0 → (s₁ s₂ s₃ : List ℕ) (u u′ : Transcript) (d v w′ c′ s′ : List ℕ) → ProductsLeft (unlaid R) ws x s s₁
+  pub run-through : proveRefusal R ws x t w c s ≡ 0 → (s₁ s₂ s₃ : List ℕ) (u u′ : Transcript) (d v w′ c′ s′ : List ℕ) → ProductsLeft (unlaid R) ws x s s₁
       → OuterDone (R .q) (rowsBin R) (rowsFld R) w s₁ t u d v s₂ → s₃ ≡ tableAt (relationOf R) d s₂
       → Elements (elements x) × (length d ≡ 256 → LaterLeft (bare (R .m) (R .q) (rowsBin R) (rowsFld R) (R .lengths)) ws x v d c s₃ u u′ w′ c′ s′)
-      → proved (record { code = 0; transcript = u′ }) w′ c′ s′ ≡ proveOutcome R ws x t w c s
+      → provedInPlace 0 u′ w′ c′ s′ ≡ proveOutcome R ws x t w c s
   unfolding proveRefusal
-  prove-ends h s₁ s₂ s₃ u u′ d v w′ c′ s′ products done combined later =
-      let none : proveRefusal R ws x t w c s ≡ 0 = sym number ∙ h in
+  run-through none s₁ s₂ s₃ u u′ d v w′ c′ s′ products done table later =
       let p = provable R ws x (t .«squeeze_ctr») (length w) (length c) (length s) none in
       let ok : RunReady R (length ws) (length x) (length w) (length c) (length s) (t .«squeeze_ctr») =
       record { ready = p .ready; packed = p .packed; public = p .public; proof = p .proof; claims = p .claims; scratch = p .scratch; counter = p .counter } in
@@ -329,7 +323,43 @@ module _ (R : Rules) (ws x w c s : List ℕ) (t : Transcript) (y z : ℕ) (hy : 
       let drawn = D R ws x w c s t ok s₁ Q u d v s₂ done in
       let many = D-long R ws x w c s t ok s₁ Q u d v s₂ done in
       let e : s₃ ≡ tableAt (relationOf R) (overlaid drawn (replicate 256 0)) s₂ =
-      combined ∙ ap (λ (l : List ℕ). tableAt (relationOf R) l s₂) (D-over R ws x w c s t ok s₁ Q u d v s₂ done) in
+      table ∙ ap (λ (l : List ℕ). tableAt (relationOf R) l s₂) (D-over R ws x w c s t ok s₁ Q u d v s₂ done) in
       let b : Beyond (proverRoom R) s₂ s₃ = subst (Beyond (proverRoom R) s₂) (sym e) (drawn-beyond R (p .ready) drawn s₂ many enough (proverRoom R) (omega arith)) in
       run-is R ws x w c s t ok s₁ Q u d v s₂ done s₃ (ap (λ (l : List ℕ). take (R .m) (elements l)) e ∙ drawn-combined R (p .ready) drawn s₂ many enough) (b .long) (b .rest)
       (later .0) none u′ w′ c′ s′ (later .1 (d-long R ws x w c s t ok s₁ Q u d v s₂ done))
+
+module _ (R : Rules) (ws x w c s : List ℕ) (t : Transcript) (y z : ℕ) (hy : y ≡ noted 0 (ruleTests R))
+    (hz : z ≡ noted 0 (proveTestsBy y (outlineOf R) (length ws) (length x) (t .«squeeze_ctr») (length w) (length c) (length s))) where
+  pub number : z ≡ proveRefusal R ws x t w c s
+  unfolding proveRefusal
+  number = hz ∙ prove-by R y hy ws x (t .«squeeze_ctr») (length w) (length c) (length s)
+
+-- ---- the prover over records: nothing changes where its number n is a refusal
+pub products-some : (n : ℕ) (R : Rules) (ws x s s′ : List ℕ) (go : Bool) → go ≡ eqb n 0 → go ≡ true → ProductsLeft R ws x s s′
+    → (n ≡ 0 → ProductsLeft R ws x s s′) × ((n ≡ 0 → ⊥) → s′ ≡ s)
+products-some n R ws x s s′ go e b h = (λ z. h, λ k. absurd (k (eqb-true n 0 (sym e ∙ b))))
+
+pub products-none : (n : ℕ) (R : Rules) (ws x s : List ℕ) (go : Bool) → go ≡ eqb n 0 → go ≡ false
+    → (n ≡ 0 → ProductsLeft R ws x s s) × ((n ≡ 0 → ⊥) → s ≡ s)
+products-none n R ws x s go e b = (λ z. absurd (eqb-false n 0 (sym e ∙ b) z), λ k. refl)
+
+module _ (R : Rules) (ws x w c s : List ℕ) (t : Transcript) (n : ℕ) (s₁ s₂ s₃ : List ℕ) (u u′ : Transcript) (d d′ v w′ c′ s′ : List ℕ)
+    (products : (n ≡ 0 → ProductsLeft (unlaid R) ws x s s₁) × ((n ≡ 0 → ⊥) → s₁ ≡ s))
+    (done : (n ≡ 0 → OuterDone (R .q) (rowsBin R) (rowsFld R) w s₁ t u d v s₂) × ((n ≡ 0 → ⊥) → (u ≡ t) × (v ≡ w) × (s₂ ≡ s₁)))
+    (drawn-is : d′ ≡ d) (table : s₃ ≡ cond (eqb n 0) (tableAt (relationOf R) d′ s₂) s₂)
+    (later : (n ≡ 0 → Elements (elements x) × (length d ≡ 256 → LaterLeft (bare (R .m) (R .q) (rowsBin R) (rowsFld R) (R .lengths)) ws x v d c s₃ u u′ w′ c′ s′))
+    × ((n ≡ 0 → ⊥) → (u′ ≡ u) × (w′ ≡ v) × (c′ ≡ c) × (s′ ≡ s₃))) (e : n ≡ proveRefusal R ws x t w c s) where
+  pub unless-ends : provedInPlace n u′ w′ c′ s′ ≡ proveOutcome R ws x t w c s
+  unless-ends = go (eqb n 0) refl
+    where
+      go : (b : Bool) → eqb n 0 ≡ b → provedInPlace n u′ w′ c′ s′ ≡ proveOutcome R ws x t w c s
+      go true b =
+          let z : n ≡ 0 = eqb-true n 0 b in
+          ap (λ (i : ℕ). provedInPlace i u′ w′ c′ s′) z ∙ run-through R ws x w c s t (sym e ∙ z) s₁ s₂ s₃ u u′ d v w′ c′ s′ (products .0 z) (done .0 z)
+          (table ∙ (rw b (ap (λ (l : List ℕ). tableAt (relationOf R) l s₂) drawn-is))) (later .0 z)
+      go false b =
+          let k : n ≡ 0 → ⊥ = eqb-false n 0 b in
+          let o = done .1 k in
+          let l = later .1 k in
+          let es : s′ ≡ s = l .3 ∙ (table ∙ (rw b (o .2 ∙ products .1 k))) in
+          rw (l .0, o .0, l .1, o .1, l .2, es) (turned-back R ws x w c s t n e k)

@@ -4,7 +4,7 @@ use mathlib.Core.Path.{_≡_, ap, _∙_}
 use mathlib.Core.List.{List}
 use Prim.Native.Nat.{ℕ, _+_, _-_, _*_, min}
 use native.Mathlib.Omega.{arith}
-use lib.ListN.{take, drop}
+use lib.ListN.{take, drop, replicate}
 use borrow.Author.Tests.{ne-eqb, eq-eqb}
 use Rattle.magnetar_hash.specs.declared.transcript.Transcript.{Transcript}
 use Rattle.magnetar_hash.specs.declared.transcript.TranscriptAnswer.{TranscriptAnswer}
@@ -16,7 +16,7 @@ use Rattle.magnetar_relation.specs.Steps.{clearedTo}
 use Rattle.magnetar_spartan.specs.declared.stages.Begun.{Begun}
 use Rattle.magnetar_spartan.specs.Outcome.{verified}
 use Rattle.magnetar_spartan.specs.Table.{window}
-use Rattle.magnetar_spartan.specs.Stages.{drawnWords, playedTo, drawnOf, outerAt, endAt, endRoomAt, claimsAt, begun, firstOf, stoppedAt, checkedAt, roomElements, cleared, finished}
+use Rattle.magnetar_spartan.specs.Stages.{drawnWords, playedTo, drawnOf, outerAt, endAt, endRoomAt, claimsAt, begun, firstOf, stoppedAt, checkedAt, roomElements, cleared, finished, begunUnless, finishedUnless}
 
 -- a part of the words
 pub part-is : (o : Relation) (n k : ℕ) (d : List ℕ) → k ≡ min n 256 → n ≡ 2 * drawCount o → take (k - 0) d ≡ drawnOf o d
@@ -27,7 +27,8 @@ part-is o n k d e f =
 -- ---- the first stage
 pub begun-is : (o : Relation) (w : List ℕ) (t u : Transcript) (d p : List ℕ) (f : Found)
     → (u ≡ playedTo o w t 65536) × (d ≡ drawnWords o w t) → p ≡ drawnOf o d → f ≡ outerAt o w p
-    → record { draws = d; ended = u; found = f } ≡ begun o w t
+    → record { draws = d; ended = u; found = f } ≡ begunUnless 0 o w t
+unfolding begunUnless
 begun-is o w t u d p f e h g = rw (← e .0, ← e .1, ← h, ← g)
 
 -- ---- the checks, with the words d of the draws
@@ -63,8 +64,20 @@ module _ (o : Relation) (x w d : List ℕ) (t u : Transcript) (f : Found) (c s :
 -- the scratch is cleared at last
 pub finish-is : (o : Relation) (x w : List ℕ) (t : Transcript) (g : Begun) (c s : List ℕ) (a : TranscriptAnswer) (c′ s′ s″ : List ℕ)
     → verified a c′ s′ ≡ checkedAt o x w (drawnOf o (g .draws)) t (g .ended) (g .found) c s → s″ ≡ clearedTo (roomElements o) s′
-    → verified a c′ s″ ≡ finished o x w t g c s
+    → verified a c′ s″ ≡ finishedUnless 0 o x w t g c s
+unfolding finishedUnless
 finish-is o x w t g c s a c′ s′ s″ e h = rw h (ap (cleared o) e)
+
+-- ---- nothing is begun, and nothing changes
+pub begun-back : (n : ℕ) (o : Relation) (w : List ℕ) (t : Transcript) → (n ≡ 0 → ⊥)
+    → record { draws = replicate 256 0; ended = t; found = record { code = n; events = 0 } } ≡ begunUnless n o w t
+unfolding begunUnless
+begun-back n o w t h = rw (ne-eqb n 0 h)
+
+pub finish-back : (n : ℕ) (o : Relation) (x w : List ℕ) (t : Transcript) (g : Begun) (c s : List ℕ) → (n ≡ 0 → ⊥)
+    → verified (record { code = n; transcript = t }) c s ≡ finishedUnless n o x w t g c s
+unfolding finishedUnless
+finish-back n o x w t g c s h = rw (ne-eqb n 0 h)
 
 -- ---- words out of the draws
 pub window-is : (n k a : ℕ) (d r : List ℕ) → a ≡ min k (256 - n) → r ≡ padded n (take (a + n - a) (drop a d)) → r ≡ window n k d

@@ -3,12 +3,12 @@
 use mathlib.Core.Path.{_≡_, refl, sym, ap, _∙_}
 use mathlib.Core.Bool.{Bool, true, false, cond, false≢true}
 use mathlib.Core.List.{List, _++_}
-use Prim.Native.Nat.{ℕ, _+_, _*_, _≤_, min, max}
+use Prim.Native.Nat.{ℕ, zero, suc, _+_, _*_, _≤_, min, max}
 use native.Mathlib.Omega.{arith}
 use lib.Dec.{eqb}
 use lib.ListN.{length, take, drop, replicate, length-drop, length-replicate}
 use lib.Seq.{take-at}
-use borrow.Author.Tests.{le-leb, eq-eqb, eqb-true, eqb-false}
+use borrow.Author.Tests.{le-leb, eq-eqb, ne-eqb}
 use Rattle.magnetar_field.specs.Words.{elements, words, overlaid}
 use Rattle.magnetar_hash.specs.declared.transcript.Transcript.{Transcript}
 use Rattle.magnetar_hash.specs.declared.transcript.TranscriptAnswer.{TranscriptAnswer}
@@ -27,9 +27,9 @@ use Rattle.magnetar_relation.specs.Steps.{clearedTo}
 use Rattle.magnetar_spartan.specs.declared.stages.Begun.{Begun}
 use Rattle.magnetar_spartan.specs.Refusals.{rowsBin, rowsFld, outlineOf, verifierRoom}
 use Rattle.magnetar_spartan.specs.Numbers.{verifyTestsBy}
-use Rattle.magnetar_spartan.specs.Outcome.{verified, verifiedInPlace, verifyRefusal, verifyOutcome}
+use Rattle.magnetar_spartan.specs.Outcome.{verified, verifyRefusal, verifyOutcome}
 use Rattle.magnetar_spartan.specs.Table.{tableAt}
-use Rattle.magnetar_spartan.specs.Stages.{drawnWords, playedTo, drawnOf, outerAt, begun, checkedAt, roomElements, finished}
+use Rattle.magnetar_spartan.specs.Stages.{drawnWords, playedTo, drawnOf, outerAt, begun, checkedAt, roomElements, finished, begunUnless, finishedUnless}
 use Rattle.magnetar_spartan.proofs.Verifying.{played-all, schedule-small}
 use Rattle.magnetar_spartan.proofs.VerifyRun.{draws-many, checks-leave}
 use Rattle.magnetar_spartan.proofs.Ended.{Verifiable, verifiable, draws-small, verify-refused}
@@ -112,19 +112,26 @@ module _ (R : Rules) (x w : List ℕ) (t : Transcript) (c s : List ℕ) (y z : �
   unfolding verifyRefusal
   number = hz ∙ verify-by R y hy x w (t .«squeeze_ctr») (length c) (length s)
 
-  -- turned back
-  pub verify-back : (z ≡ 0 → ⊥) → verified (record { code = z; transcript = t }) c s ≡ verifyOutcome R x w t c s
-  verify-back h = verify-refused R x w t c s z number h
-
   -- the combined table at the draws, in front of the scratch
-  abbrev pub verifyTable : List ℕ
-  verifyTable = tableAt (relationOf R) (drawnWords (outlineOf R) w t) s
+  abbrev table : List ℕ
+  table = tableAt (relationOf R) (drawnWords (outlineOf R) w t) s
+
+  -- turned back
+  back : (a : TranscriptAnswer) (c′ s′ : List ℕ) (g : Begun) (u : List ℕ) → (z ≡ 0 → ⊥) → g ≡ begunUnless z (outlineOf R) w t
+      → u ≡ cond (eqb (g .found .code) 0) (tableAt (relationOf R) (g .draws) s) s → verified a c′ s′ ≡ finishedUnless z (outlineOf R) x w t g c u
+      → verified a c′ s′ ≡ verifyOutcome R x w t c s
+  unfolding begunUnless finishedUnless
+  back a c′ s′ g u h hg hu e =
+      let b = ne-eqb z 0 h in
+      e ∙ (rw (b, hu, hg, b, b) (verify-refused R x w t c s z number h))
 
   -- run through: the table is there, unless the outer checks stop the run
-  pub verify-through : z ≡ 0 → (b : Bool) → (begun (outlineOf R) w t .found .code ≡ 0 → b ≡ true)
-      → finished (outlineOf R) x w t (begun (outlineOf R) w t) c (cond b verifyTable s) ≡ verifyOutcome R x w t c s
-  verify-through h b f = run-ends R x w t c s none (cond b verifyTable s) (beyond b) (λ i. front b (f (rw draws i)))
+  through : z ≡ 0 → finished (outlineOf R) x w t (begun (outlineOf R) w t) c (cond (eqb (begun (outlineOf R) w t .found .code) 0) table s) ≡ verifyOutcome R x w t c s
+  through h = run-ends R x w t c s none (cond b table s) (beyond b) (λ i. front b (eq-eqb (begun (outlineOf R) w t .found .code) 0 (rw draws i)))
     where
+      b : Bool
+      b = eqb (begun (outlineOf R) w t .found .code) 0
+
       none : verifyRefusal R x w t c s ≡ 0
       none = sym number ∙ h
 
@@ -140,34 +147,34 @@ module _ (R : Rules) (x w : List ℕ) (t : Transcript) (c s : List ℕ) (y z : �
       enough : 2 * R .m + 2 * max (rowsBin R) (rowsFld R) ≤ length s
       enough = omega (arith, ok .scratch)
 
-      is-table : verifyTable ≡ tableAt (relationOf R) (overlaid D (replicate 256 0)) s
+      is-table : table ≡ tableAt (relationOf R) (overlaid D (replicate 256 0)) s
       is-table = ap (λ (l : List ℕ). tableAt (relationOf R) l s) (words-are R x w t c s none)
 
-      beyond : (i : Bool) → Beyond (verifierRoom R) s (cond i verifyTable s)
+      beyond : (i : Bool) → Beyond (verifierRoom R) s (cond i table s)
       beyond true = rw is-table (drawn-beyond R (ok .ready) D s (drawn-long R x w t c s none) enough (verifierRoom R) (omega arith))
       beyond false = record { long = refl; rest = refl }
 
       front : (i : Bool) → i ≡ true
-          → take (R .m) (elements (cond i verifyTable s)) ≡ combined (relationOf R) (drawsOf (relationOf R) (verifierDraws (relationOf R) (elements w) t))
+          → take (R .m) (elements (cond i table s)) ≡ combined (relationOf R) (drawsOf (relationOf R) (verifierDraws (relationOf R) (elements w) t))
       front true e =
           rw is-table (drawn-combined R (ok .ready) D s (drawn-long R x w t c s none) enough
           ∙ ap (λ (l : List ℕ). combined (relationOf R) (drawsOf (relationOf R) l)) (elements-words (verifierDraws (relationOf R) (elements w) t)))
       front false e = absurd (false≢true e)
 
-  -- the core makes the table where the outer checks pass
-  pub verify-ends : (a : TranscriptAnswer) (g : Begun) (u c′ s′ : List ℕ) → z ≡ 0 → g ≡ begun (outlineOf R) w t
-      → u ≡ cond (eqb (g .found .code) 0) (tableAt (relationOf R) (g .draws) s) s → verified a c′ s′ ≡ finished (outlineOf R) x w t g c u
+  done : (a : TranscriptAnswer) (c′ s′ : List ℕ) (g : Begun) (u : List ℕ) → z ≡ 0 → g ≡ begunUnless z (outlineOf R) w t
+      → u ≡ cond (eqb (g .found .code) 0) (tableAt (relationOf R) (g .draws) s) s → verified a c′ s′ ≡ finishedUnless z (outlineOf R) x w t g c u
       → verified a c′ s′ ≡ verifyOutcome R x w t c s
-  verify-ends a g u c′ s′ h hg hu e = e ∙ rw (hu, hg) (verify-through h (eqb (begun (outlineOf R) w t .found .code) 0) (λ i. eq-eqb _ 0 i))
+  unfolding begunUnless finishedUnless
+  done a c′ s′ g u h hg hu e = e ∙ rw (h, hu, hg, h) (through h)
 
-  -- the form over records makes it always
-  pub verify-ends-over : (n : ℕ) (u : Transcript) (c′ s′ : List ℕ)
-      → verifiedInPlace n u c′ s′ ≡ cond (eqb z 0) (finished (outlineOf R) x w t (begun (outlineOf R) w t) c verifyTable) (verifiedInPlace z t c s)
-      → verifiedInPlace n u c′ s′ ≡ verifyOutcome R x w t c s
-  verify-ends-over n u c′ s′ e = go (eqb z 0) refl e
+  -- the answer a, the claims c′ and the scratch s′, where the first stage gave g and the table was made, or not, in front of u
+  pub verify-ends : (a : TranscriptAnswer) (c′ s′ : List ℕ) (g : Begun) (u : List ℕ) → g ≡ begunUnless z (outlineOf R) w t
+      → u ≡ cond (eqb (g .found .code) 0) (tableAt (relationOf R) (g .draws) s) s → verified a c′ s′ ≡ finishedUnless z (outlineOf R) x w t g c u
+      → verified a c′ s′ ≡ verifyOutcome R x w t c s
+  verify-ends a c′ s′ g u = go z refl
     where
-      go : (b : Bool) → eqb z 0 ≡ b
-          → verifiedInPlace n u c′ s′ ≡ cond b (finished (outlineOf R) x w t (begun (outlineOf R) w t) c verifyTable) (verifiedInPlace z t c s)
-          → verifiedInPlace n u c′ s′ ≡ verifyOutcome R x w t c s
-      go true h f = f ∙ verify-through (eqb-true z 0 h) true (λ i. refl)
-      go false h f = f ∙ verify-back (eqb-false z 0 h)
+      go : (n : ℕ) → z ≡ n → g ≡ begunUnless z (outlineOf R) w t
+          → u ≡ cond (eqb (g .found .code) 0) (tableAt (relationOf R) (g .draws) s) s → verified a c′ s′ ≡ finishedUnless z (outlineOf R) x w t g c u
+          → verified a c′ s′ ≡ verifyOutcome R x w t c s
+      go zero h = done a c′ s′ g u h
+      go (suc n) h = back a c′ s′ g u (λ i. omega (arith, h, i))

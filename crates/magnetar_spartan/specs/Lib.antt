@@ -2,8 +2,8 @@ pub mod Refusals
 pub mod Numbers
 pub mod Ready
 pub mod Outcome
-pub mod Stages
 pub mod Table
+pub mod Stages
 pub mod Theorems
 pub mod Proving
 pub mod Products

@@ -71,6 +71,10 @@ pub record Proved : Type 0 where
 abbrev pub proved : TranscriptAnswer → List ℕ → List ℕ → List ℕ → Proved
 proved a w c s = record { code = a .code; transcript = a .transcript; proof = w; claims = c; scratch = s }
 
+-- and of a number, where the transcript is lent
+abbrev pub provedInPlace : ℕ → Transcript → List ℕ → List ℕ → List ℕ → Proved
+provedInPlace n t w c s = record { code = n; transcript = t; proof = w; claims = c; scratch = s }
+
 -- the batch that the packed words hold
 abbrev pub batchOf : Rules → List ℕ → Batch
 batchOf R ws = unpacked (R .q) (R .m / 2) ws

@@ -18,7 +18,7 @@ use Rattle.magnetar_checks.specs.End.{endFound, endRoom}
 use Rattle.magnetar_checks.specs.Claims.{claimsOut}
 use Rattle.magnetar_relation.specs.Steps.{clearedTo}
 use Rattle.magnetar_spartan.specs.declared.stages.Begun.{Begun}
-use Rattle.magnetar_spartan.specs.Outcome.{Verified}
+use Rattle.magnetar_spartan.specs.Outcome.{Verified, verifiedInPlace}
 
 -- the words of the draws, in front of 256 words
 abbrev pub drawnWords : Relation → (w : List ℕ) → Transcript → List ℕ
@@ -84,3 +84,10 @@ cleared o v = record { code = v .code; transcript = v .transcript; claims = v .c
 
 abbrev pub finished : Relation → (x w : List ℕ) → Transcript → Begun → (c s : List ℕ) → Verified
 finished o x w t g c s = cleared o (checkedAt o x w (drawnOf o (g .draws)) t (g .ended) (g .found) c s)
+
+-- ---- both, unless n is a refusal: then nothing is begun, and nothing changes
+unfoldable pub begunUnless : ℕ → Relation → (w : List ℕ) → Transcript → Begun
+begunUnless n o w t = cond (eqb n 0) (begun o w t) (record { draws = replicate 256 0; ended = t; found = record { code = n; events = 0 } })
+
+unfoldable pub finishedUnless : ℕ → Relation → (x w : List ℕ) → Transcript → Begun → (c s : List ℕ) → Verified
+finishedUnless n o x w t g c s = cond (eqb n 0) (finished o x w t g c s) (verifiedInPlace n t c s)

@@ -27,6 +27,12 @@ pub(crate) struct OuterDraws {
     pub transcript: Transcript,
 }
 
+pub(crate) fn draws_of(o: OuterDraws) -> [u64; 256]
+    ensures { λ r. ⌜ r ≡ o .«draws» ⌝ }
+{
+    o.draws
+}
+
 // The outer rounds over the products in front of s.
 pub(crate) fn outer(proof: &mut [u64], s: &mut [u64], q: usize, rb: usize, rf: usize, t: Transcript) -> OuterDraws
     ensures { λ r. ⌜ OuterDone q rb rf (now (proof .entry)) (now (s .entry)) t (r .«transcript») (r .«draws») (now (proof .exit)) (now (s .exit)) ⌝ }
@@ -38,6 +44,29 @@ pub(crate) fn outer(proof: &mut [u64], s: &mut [u64], q: usize, rb: usize, rf: u
         draws: draws,
         transcript: u,
     }
+}
+
+// The same unless n is a refusal; then nothing changes.
+pub(crate) fn outer_unless(
+    n: u32,
+    proof: &mut [u64],
+    s: &mut [u64],
+    q: usize,
+    rb: usize,
+    rf: usize,
+    t: Transcript,
+) -> OuterDraws
+    ensures { λ r. ⌜ ((n ≡ 0 → OuterDone q rb rf (now (proof .entry)) (now (s .entry)) t (r .«transcript») (r .«draws») (now (proof .exit)) (now (s .exit)))
+        × ((n ≡ 0 → ⊥) → (r .«transcript» ≡ t) × (now (proof .exit) ≡ now (proof .entry)) × (now (s .exit) ≡ now (s .entry)))) ⌝ }
+{
+    if n != 0 {
+        let draws = [0u64; 256];
+        return OuterDraws {
+            draws: draws,
+            transcript: t,
+        };
+    }
+    outer(proof, s, q, rb, rf, t)
 }
 
 // The n draws from place k on, the last one first.
@@ -170,4 +199,28 @@ pub(crate) fn later(
     let n = sizes::least(rooms::prover_room(m, q, rb, rf), s.len());
     words::clear(&mut s[0..n]);
     u
+}
+
+// The same unless n is a refusal; then nothing changes.
+pub(crate) fn later_unless(
+    n: u32,
+    proof: &mut [u64],
+    claims: &mut [u64],
+    s: &mut [u64],
+    m: usize,
+    q: usize,
+    rb: usize,
+    rf: usize,
+    lens: &[usize],
+    packed: &[u64],
+    x: &[u64],
+    o: OuterDraws,
+) -> Transcript
+    ensures { λ r. ⌜ ((n ≡ 0 → Elements (elements (now (x .entry))) × (length (o .«draws») ≡ 256 → LaterLeft (bare m q rb rf (now (lens .entry))) (now (packed .entry)) (now (x .entry)) (now (proof .entry)) (o .«draws») (now (claims .entry)) (now (s .entry)) (o .«transcript») r (now (proof .exit)) (now (claims .exit)) (now (s .exit))))
+        × ((n ≡ 0 → ⊥) → (r ≡ o .«transcript») × (now (proof .exit) ≡ now (proof .entry)) × (now (claims .exit) ≡ now (claims .entry)) × (now (s .exit) ≡ now (s .entry)))) ⌝ }
+{
+    if n != 0 {
+        return o.transcript;
+    }
+    later(proof, claims, s, m, q, rb, rf, lens, packed, x, o)
 }

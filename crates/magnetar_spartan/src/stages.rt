@@ -15,7 +15,7 @@ ghost use mathlib.Core.List.{[]};
 ghost use Rattle.magnetar_protocol.specs.Schedule.{outline};
 ghost use Rattle.magnetar_relation.specs.Steps.{clearedTo};
 ghost use Rattle.magnetar_spartan.specs.Outcome.{verified};
-ghost use Rattle.magnetar_spartan.specs.Stages.{playedTo, drawnOf, begun, checkedAt, roomElements, finished};
+ghost use Rattle.magnetar_spartan.specs.Stages.{playedTo, drawnOf, begunUnless, checkedAt, roomElements, finishedUnless};
 
 // What the first stage hands on: the words of the draws, 0 behind them, the transcript at the end, and what the outer checks found.
 pub(crate) struct Begun {
@@ -24,9 +24,23 @@ pub(crate) struct Begun {
     pub found: Found,
 }
 
-// The first stage. All challenges are drawn before any check; the outcome is that of checking in document 01's order all the same, since
-// the transcript of a refused run is played again up to the failing check.
+pub(crate) fn draws_of(g: Begun) -> [u64; 256]
+    ensures { λ r. ⌜ r ≡ g .draws ⌝ }
+{
+    g.draws
+}
+
+// 0 where the table is wanted: what refused the run, or the outer check that stops it.
+pub(crate) fn code_of(g: Begun) -> u32
+    ensures { λ r. ⌜ r ≡ g .found .code ⌝ }
+{
+    g.found.code
+}
+
+// The first stage, unless n is a refusal. All challenges are drawn before any check; the outcome is that of checking in document 01's order
+// all the same, since the transcript of a refused run is played again up to the failing check.
 pub(crate) fn begin(
+    n: u32,
     m: usize,
     q: usize,
     rb: usize,
@@ -35,10 +49,17 @@ pub(crate) fn begin(
     proof: &[u64],
     t: Transcript,
 ) -> Begun
-    ensures { λ r. ⌜ r ≡ begun (outline m q rb rf (now (lens .entry))) (now (proof .entry)) t ⌝ }
+    ensures { λ r. ⌜ r ≡ begunUnless n (outline m q rb rf (now (lens .entry))) (now (proof .entry)) t ⌝ }
 {
-    let k = sizes::least(rooms::draw_words(m, q, rb, rf), 256);
     let mut draws = [0u64; 256];
+    if n != 0 {
+        return Begun {
+            draws: draws,
+            ended: t,
+            found: Found { code: n, events: 0 },
+        };
+    }
+    let k = sizes::least(rooms::draw_words(m, q, rb, rf), 256);
     let ended = play::play(m, q, rb, rf, lens, proof, &mut draws, t, play::ALL_EVENTS);
     let found = outer::outer_checks(m, q, rb, rf, lens, proof, &draws[0..k]);
     Begun {
@@ -116,8 +137,9 @@ fn clear_room(m: usize, rb: usize, rf: usize, s: &mut [u64])
     }
 }
 
-// The second stage; the scratch is 0 at exit.
+// The second stage, unless n is a refusal; the scratch is 0 at exit.
 pub(crate) fn finish(
+    n: u32,
     claims: &mut [u64],
     s: &mut [u64],
     m: usize,
@@ -130,8 +152,14 @@ pub(crate) fn finish(
     t: Transcript,
     g: Begun,
 ) -> TranscriptAnswer
-    ensures { λ r. ⌜ verified r (now (claims .exit)) (now (s .exit)) ≡ finished (outline m q rb rf (now (lens .entry))) (now (x .entry)) (now (proof .entry)) t g (now (claims .entry)) (now (s .entry)) ⌝ }
+    ensures { λ r. ⌜ verified r (now (claims .exit)) (now (s .exit)) ≡ finishedUnless n (outline m q rb rf (now (lens .entry))) (now (x .entry)) (now (proof .entry)) t g (now (claims .entry)) (now (s .entry)) ⌝ }
 {
+    if n != 0 {
+        return TranscriptAnswer {
+            code: n,
+            transcript: t,
+        };
+    }
     let d = g.draws;
     let u = g.ended;
     let f = g.found;

@@ -48,17 +48,10 @@ pub fn verify_virtual_spartan(
         claims.len(),
         scratch.len(),
     );
-    if z != 0 {
-        return TranscriptAnswer {
-            code: z,
-            transcript: t,
-        };
-    }
-    let g = stages::begin(m, q, rb, rf, lens, proof, t);
-    let d = g.draws;
-    let f = g.found;
-    combine::combine_unless(f.code, scratch, m, q, sh, d, row, col, lo, hi);
-    stages::finish(claims, scratch, m, q, rb, rf, lens, x, proof, t, g)
+    let g = stages::begin(z, m, q, rb, rf, lens, proof, t);
+    let d = stages::draws_of(g);
+    combine::combine_unless(stages::code_of(g), scratch, m, q, sh, d, row, col, lo, hi);
+    stages::finish(z, claims, scratch, m, q, rb, rf, lens, x, proof, t, g)
 }
 
 // The prover: 0, the proof at the front of `out`, the claims r_inst, r_low and segment values at the front of `claims`, and the transcript

@@ -34,7 +34,9 @@ note-requires-5 : tie.Need-note-requires-5
 note-requires-5 c κs = search needs
 
 returns : tie.Need-returns
-returns c = rw (c .note5 .ensures, c .before .lows .ensures, c .before .before .note4 .ensures, c .before .before .before .note3 .ensures, c .before .before .before .before .log2 .ensures, c .before .before .before .before .before .note2 .ensures, c .before .before .before .before .before .before .note .ensures)
+returns c =
+    let d = c .before .before .before in
+    rw (c .note5 .ensures, c .before .lows .ensures, c .before .before .note4 .ensures, d .note3 .ensures, d .before .log2 .ensures, d .before .before .note2 .ensures, d .before .before .before .note .ensures)
 
 pub last-tests-spec : {M : Type 1} → statement M
 last-tests-spec =

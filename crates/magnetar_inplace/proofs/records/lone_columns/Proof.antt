@@ -51,7 +51,11 @@ holds 𝓤 H A mem run = record {
   begins = λ κs a t. factI 𝓤 _ _ (refl, refl);
   asks = λ κs a δ₁ δ₂ zs ws e es l₁ l₂ inv. id⊢ 𝓤 (emp 𝓤);
   tells = λ κs a δ₁ δ₂ zs ws e es l₁ l₂ inv zs′ ws′. fact-use 𝓤 ((zs′ ≡ zs) × (ws′ ≡ addedTo (a .1 .0) (e .col) (share (elements (take (2 * a .1 .1 .0) zs)) (swapped (entryOf e))) ws)) (id⊢ 𝓤 _)
-      (λ said. factI 𝓤 _ _ (said .0 ∙ inv .0, added-more (a .1 .0) (share (factors a)) (swapped (entryOf e)) (map swapped (entriesOfRecords es)) ws ws′ (said .1 ∙ ap (λ (z : List ℕ). addedTo (a .1 .0) (e .col) (share (elements (take (2 * a .1 .1 .0) z)) (swapped (entryOf e))) ws) (inv .0)) ∙ inv .1));
+      (λ said. factI 𝓤 _ _ (
+        said .0 ∙ inv .0,
+        added-more (a .1 .0) (share (factors a)) (swapped (entryOf e)) (map swapped (entriesOfRecords es)) ws ws′
+            (said .1 ∙ ap (λ (z : List ℕ). addedTo (a .1 .0) (e .col) (share (elements (take (2 * a .1 .1 .0) z)) (swapped (entryOf e))) ws) (inv .0)) ∙ inv .1,
+      ));
   ends = λ κs a t zs ws l₁ l₂ inv. factI 𝓤 _ _ (inv .0, added-end (a .1 .0) (share (factors a)) ws ∙ inv .1);
 }
 
@@ -60,5 +64,6 @@ unfolding code.routine tablesOf
 lone-columns-spec 𝓤 H 𝓜 𝓖 𝓡 =
     entered 𝓤 H (tripleOf 𝓤 H (𝓖 .A) f.signature (f.spec 𝓤 H (𝓖 .A) (𝓜 .mem) (𝓡 .run)))
     (tables 𝓤 H 𝓜 𝓡 code.env .C) (tables 𝓤 H 𝓜 𝓡 code.env .Λ) #f code.function (code.unfolded 𝓤 H 𝓜 𝓡)
-    (each.each-meets 𝓤 H (𝓖 .A) (givenOf 𝓤 H 𝓜 𝓖) #g (f.clauses 𝓤 H (𝓖 .A) (𝓜 .mem) (𝓡 .run)) (g.clauses 𝓤 H (𝓖 .A) (𝓜 .mem) (𝓡 .run)) Inv (holds 𝓤 H (𝓖 .A) (𝓜 .mem) (𝓡 .run)) (tablesOf 𝓤 H 𝓜 (tables 𝓤 H 𝓜 𝓡 code.env))
+    (each.each-meets 𝓤 H (𝓖 .A) (givenOf 𝓤 H 𝓜 𝓖) #g (f.clauses 𝓤 H (𝓖 .A) (𝓜 .mem) (𝓡 .run)) (g.clauses 𝓤 H (𝓖 .A) (𝓜 .mem) (𝓡 .run))
+    Inv (holds 𝓤 H (𝓖 .A) (𝓜 .mem) (𝓡 .run)) (tablesOf 𝓤 H 𝓜 (tables 𝓤 H 𝓜 𝓡 code.env))
     (cited 𝓤 H (tripleOf 𝓤 H (𝓖 .A) g.signature (g.spec 𝓤 H (𝓖 .A) (𝓜 .mem) (𝓡 .run))) 𝓜 𝓡 code.env #g g-def.routine code.calls-magnetar-inplace·steps·add-column (g-thm.met 𝓤 H 𝓜 𝓖 𝓡)))

@@ -40,7 +40,8 @@ holds 𝓤 H A mem run = record {
   ghost = λ κs x. tt;
   begins = λ κs a t. factI 𝓤 _ _ refl;
   asks = λ κs a r e es inv. id⊢ 𝓤 (emp 𝓤);
-  tells = λ κs a r e es inv r′. fact-use 𝓤 (r′ ≡ (r && liesIn (a .1 .0) (a .1 .1 .0) (entryOf e))) (id⊢ 𝓤 _) (λ said. factI 𝓤 _ _ (carried (liesIn (a .1 .0) (a .1 .1 .0)) _ (entryOf e) (entriesOfRecords es) r r′ said inv));
+  tells = λ κs a r e es inv r′. fact-use 𝓤 (r′ ≡ (r && liesIn (a .1 .0) (a .1 .1 .0) (entryOf e))) (id⊢ 𝓤 _)
+      (λ said. factI 𝓤 _ _ (carried (liesIn (a .1 .0) (a .1 .1 .0)) _ (entryOf e) (entriesOfRecords es) r r′ said inv));
   ends = λ κs a t r inv. factI 𝓤 _ _ (carried-end (liesIn (a .1 .0) (a .1 .1 .0)) _ r inv);
 }
 
@@ -49,5 +50,6 @@ unfolding code.routine tablesOf
 lone-inside-spec 𝓤 H 𝓜 𝓖 𝓡 =
     entered 𝓤 H (tripleOf 𝓤 H (𝓖 .A) f.signature (f.spec 𝓤 H (𝓖 .A) (𝓜 .mem) (𝓡 .run)))
     (tables 𝓤 H 𝓜 𝓡 code.env .C) (tables 𝓤 H 𝓜 𝓡 code.env .Λ) #f code.function (code.unfolded 𝓤 H 𝓜 𝓡)
-    (each.each-meets 𝓤 H (𝓖 .A) (givenOf 𝓤 H 𝓜 𝓖) #g (f.clauses 𝓤 H (𝓖 .A) (𝓜 .mem) (𝓡 .run)) (g.clauses 𝓤 H (𝓖 .A) (𝓜 .mem) (𝓡 .run)) Inv (holds 𝓤 H (𝓖 .A) (𝓜 .mem) (𝓡 .run)) (tablesOf 𝓤 H 𝓜 (tables 𝓤 H 𝓜 𝓡 code.env))
+    (each.each-meets 𝓤 H (𝓖 .A) (givenOf 𝓤 H 𝓜 𝓖) #g (f.clauses 𝓤 H (𝓖 .A) (𝓜 .mem) (𝓡 .run)) (g.clauses 𝓤 H (𝓖 .A) (𝓜 .mem) (𝓡 .run))
+    Inv (holds 𝓤 H (𝓖 .A) (𝓜 .mem) (𝓡 .run)) (tablesOf 𝓤 H 𝓜 (tables 𝓤 H 𝓜 𝓡 code.env))
     (cited 𝓤 H (tripleOf 𝓤 H (𝓖 .A) g.signature (g.spec 𝓤 H (𝓖 .A) (𝓜 .mem) (𝓡 .run))) 𝓜 𝓡 code.env #g g-def.routine code.calls-magnetar-inplace·steps·lies-in (g-thm.met 𝓤 H 𝓜 𝓖 𝓡)))

@@ -48,7 +48,11 @@ holds 𝓤 H A mem run = record {
   begins = λ κs a t. factI 𝓤 _ _ (refl, zero-⊕ (sumOver (pairs a) (entriesOfRecords (a .0 .now))));
   asks = λ κs a δ zs r e es l inv. id⊢ 𝓤 (emp 𝓤);
   tells = λ κs a δ zs r e es l inv zs′ r′. fact-use 𝓤 ((value r′ ≡ value r ⊕ pairShare (a .1 .0) (a .1 .1 .0) zs (entryOf e)) × (zs′ ≡ zs)) (id⊢ 𝓤 _)
-      (λ said. factI 𝓤 _ _ (said .1 ∙ inv .0, summed-more (pairs a) (entryOf e) (entriesOfRecords es) (value r) (value r′) _ (said .0 ∙ ap (λ (z : List ℕ). value r ⊕ pairShare (a .1 .0) (a .1 .1 .0) z (entryOf e)) (inv .0)) (inv .1)));
+      (λ said. factI 𝓤 _ _ (
+        said .1 ∙ inv .0,
+        summed-more (pairs a) (entryOf e) (entriesOfRecords es) (value r) (value r′) _
+            (said .0 ∙ ap (λ (z : List ℕ). value r ⊕ pairShare (a .1 .0) (a .1 .1 .0) z (entryOf e)) (inv .0)) (inv .1),
+      ));
   ends = λ κs a t zs r l inv. factI 𝓤 _ _ (summed-end (pairs a) (value r) _ (inv .1), inv .0);
 }
 
@@ -57,5 +61,6 @@ unfolding code.routine tablesOf
 sum-pairs-spec 𝓤 H 𝓜 𝓖 𝓡 =
     entered 𝓤 H (tripleOf 𝓤 H (𝓖 .A) f.signature (f.spec 𝓤 H (𝓖 .A) (𝓜 .mem) (𝓡 .run)))
     (tables 𝓤 H 𝓜 𝓡 code.env .C) (tables 𝓤 H 𝓜 𝓡 code.env .Λ) #f code.function (code.unfolded 𝓤 H 𝓜 𝓡)
-    (each.each-meets 𝓤 H (𝓖 .A) (givenOf 𝓤 H 𝓜 𝓖) #g (f.clauses 𝓤 H (𝓖 .A) (𝓜 .mem) (𝓡 .run)) (g.clauses 𝓤 H (𝓖 .A) (𝓜 .mem) (𝓡 .run)) Inv (holds 𝓤 H (𝓖 .A) (𝓜 .mem) (𝓡 .run)) (tablesOf 𝓤 H 𝓜 (tables 𝓤 H 𝓜 𝓡 code.env))
+    (each.each-meets 𝓤 H (𝓖 .A) (givenOf 𝓤 H 𝓜 𝓖) #g (f.clauses 𝓤 H (𝓖 .A) (𝓜 .mem) (𝓡 .run)) (g.clauses 𝓤 H (𝓖 .A) (𝓜 .mem) (𝓡 .run))
+    Inv (holds 𝓤 H (𝓖 .A) (𝓜 .mem) (𝓡 .run)) (tablesOf 𝓤 H 𝓜 (tables 𝓤 H 𝓜 𝓡 code.env))
     (cited 𝓤 H (tripleOf 𝓤 H (𝓖 .A) g.signature (g.spec 𝓤 H (𝓖 .A) (𝓜 .mem) (𝓡 .run))) 𝓜 𝓡 code.env #g g-def.routine code.calls-magnetar-inplace·steps·add-pair (g-thm.met 𝓤 H 𝓜 𝓖 𝓡)))

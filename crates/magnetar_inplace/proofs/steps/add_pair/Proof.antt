@@ -26,7 +26,9 @@ same-length c = search needs
 
 returns : tie.Need-returns
 unfolding pairShare
-returns c = (rw (c .add .ensures, c .before .scale .ensures, c .before .before .mul .ensures, c .before .before .before .get-between .ensures, c .before .before .before .before .before .get-front .ensures), refl)
+returns c =
+    let d = c .before .before .before in
+    (rw (c .add .ensures, c .before .scale .ensures, c .before .before .mul .ensures, d .get-between .ensures, d .before .before .get-front .ensures), refl)
 
 pub add-pair-spec : {M : Type 1} → statement M
 add-pair-spec =

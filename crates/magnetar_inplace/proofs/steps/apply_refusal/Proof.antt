@@ -38,7 +38,8 @@ note-requires-2 c κs = search needs
 returns-2 : tie.Need-returns-2
 returns-2 c =
     let x = c .before .before .before .before .args in
-    noted-late (loneOf (x .rows) (x .cols) (x .n) (x .inside)) (applyTests (x .rows) (x .cols) (x .z) (x .out)) _ _ (c .before .before .before .lone .ensures) (c .before .before .if1 .left) (rw (c .note2 .ensures, c .before .note .ensures))
+    noted-late (loneOf (x .rows) (x .cols) (x .n) (x .inside)) (applyTests (x .rows) (x .cols) (x .z) (x .out)) _ _
+    (c .before .before .before .lone .ensures) (c .before .before .if1 .left) (rw (c .note2 .ensures, c .before .note .ensures))
 
 pub apply-refusal-spec : {M : Type 1} → statement M
 apply-refusal-spec =

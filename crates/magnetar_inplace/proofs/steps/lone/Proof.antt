@@ -23,7 +23,9 @@ note-requires-3 : tie.Need-note-requires-3
 note-requires-3 c κs = search needs
 
 returns : tie.Need-returns
-returns c = rw (c .note3 .ensures, c .before .counts .ensures, c .before .before .note2 .ensures, c .before .before .before .is-size2 .ensures, c .before .before .before .before .note .ensures, c .before .before .before .before .before .is-size .ensures)
+returns c =
+    let d = c .before .before .before in
+    rw (c .note3 .ensures, c .before .counts .ensures, c .before .before .note2 .ensures, d .is-size2 .ensures, d .before .note .ensures, d .before .before .is-size .ensures)
 
 pub lone-spec : {M : Type 1} → statement M
 lone-spec =

@@ -57,7 +57,9 @@ note-requires-3 c κs = search needs
 returns-2 : tie.Need-returns-2
 returns-2 c =
     let x = c .before .before .before .before .before .before .args in
-    noted-late (loneOf (x .rows) (x .cols) (x .n) (x .inside)) (tableTests (x .rows) (x .cols) (x .p) (x .out) (x .s)) _ _ (c .before .before .before .before .before .lone .ensures) (c .before .before .before .before .if1 .left) (rw (c .note3 .ensures, c .before .note2 .ensures, c .before .before .note .ensures, c .before .before .before .log2 .ensures))
+    noted-late (loneOf (x .rows) (x .cols) (x .n) (x .inside)) (tableTests (x .rows) (x .cols) (x .p) (x .out) (x .s)) _ _
+    (c .before .before .before .before .before .lone .ensures) (c .before .before .before .before .if1 .left)
+    (rw (c .note3 .ensures, c .before .note2 .ensures, c .before .before .note .ensures, c .before .before .before .log2 .ensures))
 
 pub table-refusal-spec : {M : Type 1} → statement M
 table-refusal-spec =

@@ -39,7 +39,8 @@ holds 𝓤 H A mem run = record {
   ghost = λ κs x. tt;
   begins = λ κs a t. factI 𝓤 _ _ refl;
   asks = λ κs a r i e es inv. id⊢ 𝓤 (emp 𝓤);
-  tells = λ κs a r i e es inv r′. fact-use 𝓤 (r′ ≡ (r && liesAt (a .1 .0) i (entryOf e))) (id⊢ 𝓤 _) (λ said. factI 𝓤 _ _ (carried (liesAt (a .1 .0)) i _ (entryOf e) (entriesOfRecords es) r r′ said inv));
+  tells = λ κs a r i e es inv r′. fact-use 𝓤 (r′ ≡ (r && liesAt (a .1 .0) i (entryOf e))) (id⊢ 𝓤 _)
+      (λ said. factI 𝓤 _ _ (carried (liesAt (a .1 .0)) i _ (entryOf e) (entriesOfRecords es) r r′ said inv));
   ends = λ κs a t r i inv. factI 𝓤 _ _ (carried-end (liesAt (a .1 .0)) i _ r inv);
 }
 
@@ -48,5 +49,6 @@ unfolding code.routine tablesOf
 all-inside-spec 𝓤 H 𝓜 𝓖 𝓡 =
     entered 𝓤 H (tripleOf 𝓤 H (𝓖 .A) f.signature (f.spec 𝓤 H (𝓖 .A) (𝓜 .mem) (𝓡 .run)))
     (tables 𝓤 H 𝓜 𝓡 code.env .C) (tables 𝓤 H 𝓜 𝓡 code.env .Λ) #f code.function (code.unfolded 𝓤 H 𝓜 𝓡)
-    (each.each-meets 𝓤 H (𝓖 .A) (givenOf 𝓤 H 𝓜 𝓖) #g (f.clauses 𝓤 H (𝓖 .A) (𝓜 .mem) (𝓡 .run)) (g.clauses 𝓤 H (𝓖 .A) (𝓜 .mem) (𝓡 .run)) Inv (holds 𝓤 H (𝓖 .A) (𝓜 .mem) (𝓡 .run)) (tablesOf 𝓤 H 𝓜 (tables 𝓤 H 𝓜 𝓡 code.env))
+    (each.each-meets 𝓤 H (𝓖 .A) (givenOf 𝓤 H 𝓜 𝓖) #g (f.clauses 𝓤 H (𝓖 .A) (𝓜 .mem) (𝓡 .run)) (g.clauses 𝓤 H (𝓖 .A) (𝓜 .mem) (𝓡 .run))
+    Inv (holds 𝓤 H (𝓖 .A) (𝓜 .mem) (𝓡 .run)) (tablesOf 𝓤 H 𝓜 (tables 𝓤 H 𝓜 𝓡 code.env))
     (cited 𝓤 H (tripleOf 𝓤 H (𝓖 .A) g.signature (g.spec 𝓤 H (𝓖 .A) (𝓜 .mem) (𝓡 .run))) 𝓜 𝓡 code.env #g g-def.routine code.calls-magnetar-inplace·steps·lies-at (g-thm.met 𝓤 H 𝓜 𝓖 𝓡)))

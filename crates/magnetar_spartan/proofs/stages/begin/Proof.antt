@@ -3,13 +3,16 @@
 use denote.Ref.{now}
 use Rattle.magnetar_matrix.specs.Batch.{Relation}
 use Rattle.magnetar_protocol.specs.Schedule.{outline}
-use Rattle.magnetar_spartan.proofs.StageLaws.{part-is, begun-is}
+use Rattle.magnetar_spartan.proofs.StageLaws.{part-is, begun-is, begun-back}
 use borrow.Author.Needs.{needs}
 use Rattle.magnetar_spartan.proofs.stages.begin.Statement.{statement}
 use Rattle.magnetar_spartan.proofs.stages.begin.Tie as tie
 
 abbrev o : tie.Start → Relation
 o s = let x = s .args in outline (x .m) (x .q) (x .rb) (x .rf) (now (x .lens))
+
+returns : tie.Need-returns
+returns c = let x = (c .before .before .before) .args in begun-back (x .n) (o (c .before .before .before)) (now (x .proof)) (x .t) (c .if1 .taken)
 
 draw-words-requires : tie.Need-draw-words-requires
 draw-words-requires c κs = search needs
@@ -35,16 +38,17 @@ part-outer-checks-end c = search needs
 outer-checks-requires : tie.Need-outer-checks-requires
 outer-checks-requires c κs = search needs
 
-returns : tie.Need-returns
-returns c =
-    let x = (c .before .before .before .before .before .before .before .before .before .before) .args in
-    begun-is (o (c .before .before .before .before .before .before .before .before .before .before)) (now (x .proof)) (x .t) _ _ _ _ (c .before .before .before .before .play .ensures)
-    (part-is (o (c .before .before .before .before .before .before .before .before .before .before)) (c .before .before .before .before .before .before .before .draw-words .result) (c .before .before .before .before .before .before .least .result) _ (c .before .before .before .before .before .before .least .ensures .0) (c .before .before .before .before .before .before .before .draw-words .ensures)) (c .outer-checks .ensures)
+returns-2 : tie.Need-returns-2
+returns-2 c =
+    let x = (c .before .before .before .before .before .before .before .before .before .before .before) .args in
+    rw (c .before .before .before .before .before .before .before .before .if1 .left) (begun-is (o (c .before .before .before .before .before .before .before .before .before .before .before)) (now (x .proof)) (x .t) _ _ _ _ (c .before .before .before .before .play .ensures)
+    (part-is (o (c .before .before .before .before .before .before .before .before .before .before .before)) (c .before .before .before .before .before .before .before .draw-words .result) (c .before .before .before .before .before .before .least .result) _ (c .before .before .before .before .before .before .least .ensures .0) (c .before .before .before .before .before .before .before .draw-words .ensures)) (c .outer-checks .ensures))
 
 pub begin-spec : {M : Type 1} → statement M
 begin-spec =
     tie.close
     (tie.spec
+    returns
     draw-words-requires
     least-requires
     slice-aggregate-play
@@ -53,4 +57,4 @@ begin-spec =
     part-outer-checks-start
     part-outer-checks-end
     outer-checks-requires
-    returns)
+    returns-2)

@@ -1,11 +1,20 @@
 -- `magnetar_spartan::stages::finish` meets its contract.
 -- Assumes nothing.
 use denote.Ref.{now}
+use Rattle.magnetar_matrix.specs.Batch.{Relation}
 use Rattle.magnetar_protocol.specs.Schedule.{outline}
-use Rattle.magnetar_spartan.proofs.StageLaws.{finish-is}
+use Rattle.magnetar_spartan.proofs.StageLaws.{finish-is, finish-back}
 use borrow.Author.Needs.{needs}
 use Rattle.magnetar_spartan.proofs.stages.finish.Statement.{statement}
 use Rattle.magnetar_spartan.proofs.stages.finish.Tie as tie
+
+abbrev o : tie.Start → Relation
+o s = let x = s .args in outline (x .m) (x .q) (x .rb) (x .rf) (now (x .lens))
+
+returns : tie.Need-returns
+returns c =
+    let x = (c .before .before .before .before .before .before) .args in
+    finish-back (x .n) (o (c .before .before .before .before .before .before)) (now (x .x)) (now (x .proof)) (x .t) (x .g) (now (x .claims)) (now (x .s)) (c .if1 .taken)
 
 checks-requires : tie.Need-checks-requires
 checks-requires c κs = search needs
@@ -19,12 +28,12 @@ same-length c = search needs
 same-length-2 : tie.Need-same-length-2
 same-length-2 c = search needs
 
-returns : tie.Need-returns
-returns c =
-    let x = (c .before .before .before .before .before .before .before .before .before .before .before .before .before .before .before .before .before .before .before) .args in
-    finish-is (outline (x .m) (x .q) (x .rb) (x .rf) (now (x .lens))) (now (x .x)) (now (x .proof)) (x .t) (x .g) (now (x .claims)) (now (x .s))
-    _ _ _ _ (c .before .before .before .before .before .before .before .before .checks .ensures) (c .before .before .clear-room .ensures)
+returns-2 : tie.Need-returns-2
+returns-2 c =
+    let x = (c .before .before .before .before .before .before .before .before .before .before .before .before .before .before .before .before .before .before .before .before) .args in
+    rw (c .before .before .before .before .before .before .before .before .before .before .before .before .before .before .if1 .left) (finish-is (o (c .before .before .before .before .before .before .before .before .before .before .before .before .before .before .before .before .before .before .before .before)) (now (x .x)) (now (x .proof)) (x .t) (x .g) (now (x .claims)) (now (x .s)) _ _ _ _ (c .before .before .before .before .before .before .before .before .checks .ensures) (c .before .before .clear-room .ensures))
 
 pub finish-spec : {M : Type 1} → statement M
 finish-spec =
-    tie.close (tie.spec checks-requires clear-room-requires same-length same-length-2 returns)
+    tie.close
+    (tie.spec returns checks-requires clear-room-requires same-length same-length-2 returns-2)

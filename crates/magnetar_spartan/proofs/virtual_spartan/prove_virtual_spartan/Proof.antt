@@ -1,12 +1,13 @@
 -- `magnetar_spartan::virtual_spartan::prove_virtual_spartan` meets its contract.
 -- Assumes nothing.
-use mathlib.Core.Path.{_≡_, ap, _∙_}
+use mathlib.Core.Path.{_≡_, sym, ap, _∙_}
 use denote.Ref.{now}
 use Rattle.magnetar_layout.specs.Tests.{noted}
 use Rattle.magnetar_relation.specs.Rules.{Rules, rules}
 use Rattle.magnetar_relation.specs.RuleTests.{ruleTests}
 use Rattle.magnetar_relation.proofs.RuleLaws.{lengths-free}
-use Rattle.magnetar_spartan.proofs.ProveRun.{prove-back, prove-ends}
+use Rattle.magnetar_spartan.specs.Outcome.{proveRefusal}
+use Rattle.magnetar_spartan.proofs.ProveRun.{turned-back, run-through, number}
 use borrow.Author.Needs.{needs}
 use Rattle.magnetar_spartan.proofs.virtual_spartan.prove_virtual_spartan.Statement.{
   statement,
@@ -17,10 +18,16 @@ abbrev R : tie.Start → Rules
 R s = let x = s .args in rules (x .m) (x .q) (now (x .lens)) (x .sh) (now (x .row)) (now (x .col)) (now (x .lo)) (now (x .hi))
 
 -- 4 to 7
-number : (c : tie.After-refused) → c .refused .result ≡ noted 0 (ruleTests (R (c .before .before .before .before .before .before .before .before .before .before .before)))
-number c =
+rules-number : (c : tie.After-refused) → c .refused .result ≡ noted 0 (ruleTests (R (c .before .before .before .before .before .before .before .before .before .before .before)))
+rules-number c =
     let x = (c .before .before .before .before .before .before .before .before .before .before .before) .args in
     c .refused .ensures ∙ ap (noted 0) (lengths-free (x .m) (x .q) (now (x .lens)) (x .sh) (now (x .row)) (now (x .col)) (now (x .lo)) (now (x .hi)))
+
+-- of all tests
+all-number : (c : tie.After-prove) → let x = (c .before .before .before .before .before .before .before .before .before .before .before .before) .args in c .prove .result ≡ proveRefusal (R (c .before .before .before .before .before .before .before .before .before .before .before .before)) (now (x .packed)) (now (x .x)) (x .t) (now (x .out)) (now (x .claims)) (now (x .scratch))
+all-number c =
+    let x = (c .before .before .before .before .before .before .before .before .before .before .before .before) .args in
+    number (R (c .before .before .before .before .before .before .before .before .before .before .before .before)) (now (x .packed)) (now (x .x)) (now (x .out)) (now (x .claims)) (now (x .scratch)) (x .t) _ _ (rules-number (c .before)) (c .prove .ensures)
 
 refused-requires : tie.Need-refused-requires
 refused-requires c κs = search needs
@@ -31,9 +38,7 @@ prove-requires c κs = search needs
 returns : tie.Need-returns
 returns c =
     let x = (c .before .before .before .before .before .before .before .before .before .before .before .before .before) .args in
-    let z = c .before .prove in
-    prove-back (R (c .before .before .before .before .before .before .before .before .before .before .before .before .before)) (now (x .packed)) (now (x .x)) (now (x .out)) (now (x .claims)) (now (x .scratch)) (x .t) (c .before .before .refused .result) (z .result)
-    (number (c .before .before)) (z .ensures) (c .if1 .taken)
+    turned-back (R (c .before .before .before .before .before .before .before .before .before .before .before .before .before)) (now (x .packed)) (now (x .x)) (now (x .out)) (now (x .claims)) (now (x .scratch)) (x .t) (c .before .prove .result) (all-number (c .before)) (c .if1 .taken)
 
 products-requires : tie.Need-products-requires
 products-requires c κs = search needs
@@ -59,12 +64,10 @@ same-length-3 c = search needs
 returns-2 : tie.Need-returns-2
 returns-2 c =
     let x = (c .before .before .before .before .before .before .before .before .before .before .before .before .before .before .before .before .before .before .before .before .before .before .before .before .before .before .before .before .before .before .before .before .before .before .before .before .before .before .before) .args in
-    let z = c .before .before .before .before .before .before .before .before .before .before .before .before .before .before .before .before .before .before .before .before .before .before .before .before .before .before .before .prove in
     let o = c .before .before .before .before .before .before .before .before .before .before .before .before .before .before .before .before .before .before .before .outer in
     let u = c .before .before .before .before .before .before .later in
-    prove-ends (R (c .before .before .before .before .before .before .before .before .before .before .before .before .before .before .before .before .before .before .before .before .before .before .before .before .before .before .before .before .before .before .before .before .before .before .before .before .before .before .before)) (now (x .packed)) (now (x .x)) (now (x .out)) (now (x .claims)) (now (x .scratch)) (x .t) (c .before .before .before .before .before .before .before .before .before .before .before .before .before .before .before .before .before .before .before .before .before .before .before .before .before .before .before .before .refused .result) (z .result)
-    (number (c .before .before .before .before .before .before .before .before .before .before .before .before .before .before .before .before .before .before .before .before .before .before .before .before .before .before .before .before)) (z .ensures) (c .before .before .before .before .before .before .before .before .before .before .before .before .before .before .before .before .before .before .before .before .before .before .before .before .before .before .if1 .left) _ _ _ (o .result .«transcript») (u .result) (o .result .«draws») _ _ _ _
-    (c .before .before .before .before .before .before .before .before .before .before .before .before .before .before .before .before .before .before .before .before .before .before .before .before .products .ensures) (o .ensures) (c .before .before .before .before .before .before .before .before .before .before .before .before .combine-at .ensures) (u .ensures)
+    run-through (R (c .before .before .before .before .before .before .before .before .before .before .before .before .before .before .before .before .before .before .before .before .before .before .before .before .before .before .before .before .before .before .before .before .before .before .before .before .before .before .before)) (now (x .packed)) (now (x .x)) (now (x .out)) (now (x .claims)) (now (x .scratch)) (x .t) (sym (all-number (c .before .before .before .before .before .before .before .before .before .before .before .before .before .before .before .before .before .before .before .before .before .before .before .before .before .before .before)) ∙ c .before .before .before .before .before .before .before .before .before .before .before .before .before .before .before .before .before .before .before .before .before .before .before .before .before .before .if1 .left) _ _ _
+    (o .result .«transcript») (u .result) (o .result .«draws») _ _ _ _ (c .before .before .before .before .before .before .before .before .before .before .before .before .before .before .before .before .before .before .before .before .before .before .before .before .products .ensures) (o .ensures) (c .before .before .before .before .before .before .before .before .before .before .before .before .combine-at .ensures) (u .ensures)
 
 pub prove-virtual-spartan-spec : {M : Type 1} → statement M
 prove-virtual-spartan-spec =

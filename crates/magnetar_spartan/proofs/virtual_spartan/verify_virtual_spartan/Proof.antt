@@ -2,11 +2,11 @@
 -- Assumes nothing.
 use mathlib.Core.Path.{_≡_, ap, _∙_}
 use denote.Ref.{now}
-use Rattle.magnetar_layout.specs.Tests.{Tests, noted}
+use Rattle.magnetar_layout.specs.Tests.{noted}
 use Rattle.magnetar_relation.specs.Rules.{Rules, rules}
 use Rattle.magnetar_relation.specs.RuleTests.{ruleTests}
 use Rattle.magnetar_relation.proofs.RuleLaws.{lengths-free}
-use Rattle.magnetar_spartan.proofs.VerifyEnds.{verify-back, verify-ends}
+use Rattle.magnetar_spartan.proofs.VerifyEnds.{verify-ends}
 use borrow.Author.Needs.{needs}
 use Rattle.magnetar_spartan.proofs.virtual_spartan.verify_virtual_spartan.Statement.{
   statement,
@@ -28,14 +28,14 @@ refused-requires c κs = search needs
 verify-requires : tie.Need-verify-requires
 verify-requires c κs = search needs
 
-returns : tie.Need-returns
-returns c =
-    let x = (c .before .before .before .before .before .before .before .before .before .before .before .before) .args in
-    verify-back (R (c .before .before .before .before .before .before .before .before .before .before .before .before)) (now (x .x)) (now (x .proof)) (x .t) (now (x .claims)) (now (x .scratch)) (c .before .before .refused .result) (c .before .verify .result)
-    (number (c .before .before)) (c .before .verify .ensures) (c .if1 .taken)
-
 begin-requires : tie.Need-begin-requires
 begin-requires c κs = search needs
+
+draws-of-requires : tie.Need-draws-of-requires
+draws-of-requires c κs = search needs
+
+code-of-requires : tie.Need-code-of-requires
+code-of-requires c κs = search needs
 
 combine-unless-requires : tie.Need-combine-unless-requires
 combine-unless-requires c κs = search needs
@@ -49,11 +49,12 @@ same-length c = search needs
 same-length-2 : tie.Need-same-length-2
 same-length-2 c = search needs
 
-returns-2 : tie.Need-returns-2
-returns-2 c =
-    let x = (c .before .before .before .before .before .before .before .before .before .before .before .before .before .before .before .before .before .before .before .before .before .before .before .before .before .before) .args in
-    verify-ends (R (c .before .before .before .before .before .before .before .before .before .before .before .before .before .before .before .before .before .before .before .before .before .before .before .before .before .before)) (now (x .x)) (now (x .proof)) (x .t) (now (x .claims)) (now (x .scratch)) (c .before .before .before .before .before .before .before .before .before .before .before .before .before .before .before .before .refused .result) (c .before .before .before .before .before .before .before .before .before .before .before .before .before .before .before .verify .result)
-    (number (c .before .before .before .before .before .before .before .before .before .before .before .before .before .before .before .before)) (c .before .before .before .before .before .before .before .before .before .before .before .before .before .before .before .verify .ensures) (c .before .before .before .before .finish .result) (c .before .before .before .before .before .before .before .before .before .before .before .before .before .begin .result) _ _ _ (c .before .before .before .before .before .before .before .before .before .before .before .before .before .before .if1 .left) (c .before .before .before .before .before .before .before .before .before .before .before .before .before .begin .ensures) (c .before .before .before .before .before .before .before .before .before .combine-unless .ensures) (c .before .before .before .before .finish .ensures)
+returns : tie.Need-returns
+returns c =
+    let x = (c .before .before .before .before .before .before .before .before .before .before .before .before .before .before .before .before .before .before .before .before .before .before .before .before .before) .args in
+    verify-ends (R (c .before .before .before .before .before .before .before .before .before .before .before .before .before .before .before .before .before .before .before .before .before .before .before .before .before)) (now (x .x)) (now (x .proof)) (x .t) (now (x .claims)) (now (x .scratch)) (c .before .before .before .before .before .before .before .before .before .before .before .before .before .before .before .refused .result) (c .before .before .before .before .before .before .before .before .before .before .before .before .before .before .verify .result)
+    (number (c .before .before .before .before .before .before .before .before .before .before .before .before .before .before .before)) (c .before .before .before .before .before .before .before .before .before .before .before .before .before .before .verify .ensures) (c .before .before .before .before .finish .result) _ _ (c .before .before .before .before .before .before .before .before .before .before .before .before .before .begin .result) _ (c .before .before .before .before .before .before .before .before .before .before .before .before .before .begin .ensures) (rw (← c .before .before .before .before .before .before .before .before .before .before .before .code-of .ensures, ← c .before .before .before .before .before .before .before .before .before .before .before .before .draws-of .ensures) (c .before .before .before .before .before .before .before .before .before .combine-unless .ensures))
+    (c .before .before .before .before .finish .ensures)
 
 pub verify-virtual-spartan-spec : {M : Type 1} → statement M
 verify-virtual-spartan-spec =
@@ -61,10 +62,11 @@ verify-virtual-spartan-spec =
     (tie.spec
     refused-requires
     verify-requires
-    returns
     begin-requires
+    draws-of-requires
+    code-of-requires
     combine-unless-requires
     finish-requires
     same-length
     same-length-2
-    returns-2)
+    returns)

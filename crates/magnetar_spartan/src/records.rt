@@ -1,0 +1,125 @@
+// The verifier over one slice of entry records, those of A, B, C of bin, then of A, B, C of fld, one behind the other; the transcript in
+// place.
+use crate::combine;
+use crate::refusal;
+use crate::stages;
+use magnetar_hash::transcript::Transcript;
+use magnetar_hash::transcript::TranscriptAnswer;
+use magnetar_inplace::combo;
+use magnetar_inplace::records::Entry;
+use magnetar_inplace::steps;
+use magnetar_inplace::walks;
+use magnetar_relation::shapes::Shapes;
+ghost use mathlib.Core.Path.{_≡_};
+ghost use mathlib.Core.Bool.{cond};
+ghost use mathlib.Core.List.{[]};
+ghost use lib.Dec.{eqb};
+ghost use Rattle.magnetar_inplace.specs.Records.{entriesOfRecords};
+ghost use Rattle.magnetar_layout.specs.Tests.{noted};
+ghost use Rattle.magnetar_relation.specs.Rules.{rulesOver, relationOf};
+ghost use Rattle.magnetar_relation.specs.RuleTests.{ruleTests};
+ghost use Rattle.magnetar_spartan.specs.Outcome.{verified, verifiedInPlace, verifyOutcome};
+ghost use Rattle.magnetar_spartan.specs.Table.{tableAt};
+
+// The combined table at the words d of the draws, in front of s.
+pub(crate) fn combine_at(s: &mut [u64], m: usize, q: usize, sh: Shapes, d: [u64; 256], es: &[Entry])
+    ensures { λ _. ⌜ now (s .exit) ≡ tableAt (relationOf (rulesOver m q [] sh (entriesOfRecords (now (es .entry))))) d (now (s .entry)) ⌝ }
+{
+    let al = combine::run_alphas(q, sh, d);
+    let pb = combine::bin_point(q, sh, d);
+    let pf = combine::fld_point(q, sh, d);
+    combo::combine(s, m, sh, al, pb, pf, es);
+}
+
+// The same unless n is a refusal.
+fn combine_unless(
+    n: u32,
+    s: &mut [u64],
+    m: usize,
+    q: usize,
+    sh: Shapes,
+    d: [u64; 256],
+    es: &[Entry],
+) -> u32
+    ensures { λ _. ⌜ now (s .exit) ≡ cond (eqb n 0) (tableAt (relationOf (rulesOver m q [] sh (entriesOfRecords (now (es .entry))))) d (now (s .entry))) (now (s .entry)) ⌝ }
+{
+    let go = steps::is_none(n);
+    if go {
+        combine_at(s, m, q, sh, d, es);
+        n
+    } else {
+        n
+    }
+}
+
+// The verifier, z being the number of 4 to 7.
+fn verify_with(
+    z: u32,
+    claims: &mut [u64],
+    scratch: &mut [u64],
+    m: usize,
+    q: usize,
+    lens: &[usize],
+    sh: Shapes,
+    es: &[Entry],
+    x: &[u64],
+    proof: &[u64],
+    t: Transcript,
+) -> TranscriptAnswer
+    ensures { λ r. ⌜ (let R = rulesOver m q (now (lens .entry)) sh (entriesOfRecords (now (es .entry))) in z ≡ noted 0 (ruleTests R) → verified r (now (claims .exit)) (now (scratch .exit)) ≡ verifyOutcome R (now (x .entry)) (now (proof .entry)) t (now (claims .entry)) (now (scratch .entry))) ⌝ }
+{
+    let b = sh.bin;
+    let f = sh.fld;
+    let hb = b.a;
+    let hf = f.a;
+    let rb = hb.rows;
+    let rf = hf.rows;
+    let c = t.squeeze_ctr;
+    let n = refusal::verify(
+        z,
+        m,
+        q,
+        lens,
+        rb,
+        rf,
+        x.len(),
+        proof.len(),
+        c,
+        claims.len(),
+        scratch.len(),
+    );
+    let g = stages::begin(n, m, q, rb, rf, lens, proof, t);
+    let d = stages::draws_of(g);
+    let k = stages::code_of(g);
+    let _k = combine_unless(k, scratch, m, q, sh, d, es);
+    stages::finish(n, claims, scratch, m, q, rb, rf, lens, x, proof, t, g)
+}
+
+// The verifier: 0 where it accepts the proof for these rules, public words and transcript; the transcript moves on; the claims r_inst,
+// r_low and segment values stand at the front of `claims`. 1 to 10: the sizes and the rules; 14: the transcript's counter; 15: too little
+// room; 16: not as many words as a proof has; 21 to 29: the first check that does not pass.
+pub fn verify_virtual_spartan(
+    t: &mut Transcript,
+    claims: &mut [u64],
+    scratch: &mut [u64],
+    m: usize,
+    q: usize,
+    lens: &[usize],
+    sh: Shapes,
+    es: &[Entry],
+    x: &[u64],
+    proof: &[u64],
+) -> u32
+    ensures { λ r. ⌜ verifiedInPlace r (now (t .exit)) (now (claims .exit)) (now (scratch .exit)) ≡ verifyOutcome (rulesOver m q (now (lens .entry)) sh (entriesOfRecords (now (es .entry)))) (now (x .entry)) (now (proof .entry)) (now (t .entry)) (now (claims .entry)) (now (scratch .entry)) ⌝ }
+{
+    let u = Transcript {
+        state: t.state,
+        squeeze_ctr: t.squeeze_ctr,
+    };
+    let z = walks::rules_refusal(m, q, sh, es);
+    let a = verify_with(z, claims, scratch, m, q, lens, sh, es, x, proof, u);
+    let v = a.transcript;
+    t.state = v.state;
+    t.squeeze_ctr = v.squeeze_ctr;
+    a.code
+}
