@@ -97,6 +97,10 @@ fault upper-bits magnetar_batch/src/fold.rt 'return word % (1 << n);' 'return wo
 fault round-constant magnetar_keccak/src/keccak.rt 0x8000000080008000 0x8000000080008001
 # a label
 fault label magnetar_schedule/src/events.rt 'b"vs-vz"' 'b"vs-vx"'
+# numbers of entries that don't add up to the slices are let through
+fault counts magnetar_relation/src/rules.rt 'let n = entries_in(b) + entries_in(f);' 'let n = r;'
+# the entries of fld begin behind as many entries of C of bin as B has
+fault border magnetar_relation/src/range.rt 'after(c, t.c.entries, h)' 'after(c, t.b.entries, h)'
 # over records alone, the second matrix of a system takes the third one's alpha
-fault record-alpha magnetar_records/src/combo.rt 'add_matrix(bb, s, m, nb, al, k1, pb);' 'add_matrix(bb, s, m, nb, al, k2, pb);'
+fault record-alpha magnetar_inplace/src/combo.rt 'add_matrix(es, s, m, n, al, j, p, b, c);' 'add_matrix(es, s, m, n, al, k, p, b, c);'
 exit $missed
