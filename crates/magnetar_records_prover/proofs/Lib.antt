@@ -1,5 +1,0 @@
-pub mod PartLaws
-pub mod ProductLaws
-pub mod StageLaws
-pub mod ProveEnds
-pub mod EntryEnds
