@@ -82,9 +82,9 @@ if [ ${#wanted[@]} -eq 0 ]; then
     echo "no fault: $(tail -n 1 "$copy/said")"
 fi
 # round one is checked, row rounds and inner rounds are not checked
-fault later-rounds magnetar_checks/src/found.rt 'verify::sum_holds(msg, claim)' 'true'
+fault later-rounds magnetar_verifier/src/found.rt 'verify::sum_holds(msg, claim)' 'true'
 # the last identity compares low words only
-fault high-words magnetar_checks/src/end.rt 'gf128::equal(gf128::add(x, y), v)' $'let s = gf128::add(x, y);\n    s.lo == v.lo'
+fault high-words magnetar_verifier/src/end.rt 'gf128::equal(gf128::add(x, y), v)' $'let s = gf128::add(x, y);\n    s.lo == v.lo'
 # the remainder of a product forgets a bit
 fault remainder magnetar_field/src/gf128.rt '(t.w3 >> 57)' '(t.w3 >> 58)'
 # a counter of 2^32 is let through
@@ -102,5 +102,5 @@ fault counts magnetar_relation/src/rules.rt 'let n = entries_in(b) + entries_in(
 # the entries of fld begin behind as many entries of C of bin as B has
 fault border magnetar_relation/src/range.rt 'after(c, t.c.entries, h)' 'after(c, t.b.entries, h)'
 # over records alone, the second matrix of a system takes the third one's alpha
-fault record-alpha magnetar_inplace/src/combo.rt 'add_matrix(es, s, m, n, al, j, p, b, c);' 'add_matrix(es, s, m, n, al, k, p, b, c);'
+fault record-alpha magnetar_records/src/combo.rt 'add_matrix(es, s, m, n, al, j, p, b, c);' 'add_matrix(es, s, m, n, al, k, p, b, c);'
 exit $missed

@@ -15,8 +15,8 @@ crate() {
   case "$named" in "  " | *" $c "*) on=yes ;; *) on=; return ;; esac
   mkdir -p "$p"; rt mir "$c" > "$new/mir" 2> "$new/said" || { cat "$new/said" >&2; exit 1; }
 }
-each() { [ "$on" ] || return 0; out=$1; shift; python3 tools/each.py "$c" magnetar_inplace::records::Entry 32 row,col,lo,hi "$@" > "$p/$out.antt"; }
-count() { [ "$on" ] || return 0; python3 tools/count.py "$c" magnetar_inplace::records::Entry "$3" "$2" > "$p/$1.antt"; }
+each() { [ "$on" ] || return 0; out=$1; shift; python3 tools/each.py "$c" magnetar_records::records::Entry 32 row,col,lo,hi "$@" > "$p/$out.antt"; }
+count() { [ "$on" ] || return 0; python3 tools/count.py "$c" magnetar_records::records::Entry "$3" "$2" > "$p/$1.antt"; }
 thin() {
   [ "$on" ] || return 0
   f=$1; shift; d=$p/$(echo "$f" | sed 's/::/\//g'); mkdir -p "$d"
@@ -33,15 +33,15 @@ thin transcript::absorb_field --final '(cc, cc)'
 thin transcript::challenge_field --final '(cc, cc)'
 thin transcript::challenge_field_vec --final '(cc, cc, cc)'
 
-# magnetar_inplace: the record forms
-crate magnetar_inplace
+# magnetar_records: the record forms
+crate magnetar_records
 packed=$ends.PackedEnds
 masks=$ends.MaskEnds
 ends=$ends.RecordEnds
 value='Rattle.magnetar_field.specs.Gf128.{value}'
-walks=Rattle.magnetar_inplace.proofs.WalkLaws
+walks=Rattle.magnetar_records.proofs.WalkLaws
 words='Rattle.magnetar_field.specs.Words.{elements}'
-entries='Rattle.magnetar_inplace.specs.Records.{entriesOfRecords}'
+entries='Rattle.magnetar_records.specs.Records.{entriesOfRecords}'
 
 # the laws for loops over records, by shape
 each EachNNbool NN bool
@@ -83,14 +83,14 @@ thin records::apply_simd_bit_masks --use "$masks.{masks-done, masks-back}" \
 
 # magnetar_batch: the row check and the combined table over records
 crate magnetar_batch
-entries='Rattle.magnetar_inplace.specs.Records.{entriesOfRecords}'
-walks=Rattle.magnetar_inplace.proofs.WalkLaws
+entries='Rattle.magnetar_records.specs.Records.{entriesOfRecords}'
+walks=Rattle.magnetar_records.proofs.WalkLaws
 
 # the row check
 failing=magnetar_batch::check::Failing
 check=$ends.CheckWalk
 zs='Rattle.magnetar_relation.specs.Steps.{loginZ}'
-in='Rattle.magnetar_inplace.specs.Ranges.{systemIn}'
+in='Rattle.magnetar_records.specs.Ranges.{systemIn}'
 core=$ends
 over='Rattle.magnetar_relation.specs.Rules.{rulesOver}'
 long="$walks.{records-length}"
@@ -131,7 +131,7 @@ for g in apply eval_mle_table eval_mle_at apply_simd_packed; do thin lent::$g --
 
 # magnetar_spartan: the verifier over one slice of records
 crate magnetar_spartan
-over='--use Rattle.magnetar_relation.specs.Rules.{rulesOver} --use Rattle.magnetar_inplace.specs.Records.{entriesOfRecords}'
+over='--use Rattle.magnetar_relation.specs.Rules.{rulesOver} --use Rattle.magnetar_records.specs.Records.{entriesOfRecords}'
 thin records::combine_at --final 'e4 ∙ rw (e1, e2, e3)'
 thin records::combine_unless --final 'rw (← e1, b1) e2' --final 'rw (← e1, b1) refl'
 thin records::verify_with --use "$ends.VerifyEnds.{verify-ends}" $over \

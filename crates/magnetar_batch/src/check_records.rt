@@ -9,14 +9,14 @@ ghost use Rattle.magnetar_relation.specs.Steps.{loginZ};
 ghost use Rattle.magnetar_relation.specs.Told.{walkedWithin};
 ghost use Rattle.magnetar_batch.specs.Check.{checked, checkOutcome};
 ghost use Rattle.magnetar_batch.specs.CheckSteps.{shareAdded, productBehind, threeIn, nothing, failingIn, from, loginDone, systemDone, bothDone, bothWords};
-ghost use Rattle.magnetar_inplace.specs.Records.{entryOf, entriesOfRecords};
-ghost use Rattle.magnetar_inplace.specs.Ranges.{matrixIn, systemIn};
+ghost use Rattle.magnetar_records.specs.Records.{entryOf, entriesOfRecords};
+ghost use Rattle.magnetar_records.specs.Ranges.{matrixIn, systemIn};
 use crate::check as core;
 use crate::check::Failing;
 use crate::check::RowCheck;
-use magnetar_inplace::ranges;
-use magnetar_inplace::records::Entry;
-use magnetar_inplace::walks;
+use magnetar_records::ranges;
+use magnetar_records::records::Entry;
+use magnetar_records::walks;
 use magnetar_relation::shapes::Shapes;
 
 // Adds the share of the record with the index i of login u's product, where this is from a to b, to n elements behind the first m.

@@ -12,8 +12,8 @@ use magnetar_multilinear::eq;
 use magnetar_multilinear::multilinear;
 use magnetar_relation::shapes::Shapes;
 use magnetar_spartan::virtual_spartan;
-use magnetar_sumcheck::engine;
-use magnetar_sumcheck::public;
+use magnetar_sumcheck_prover::engine;
+use magnetar_sumcheck_prover::public;
 ghost use mathlib.Core.Path.{_≡_};
 ghost use mathlib.Core.List.{[]};
 ghost use lib.ListN.{length};
@@ -23,7 +23,7 @@ ghost use Rattle.magnetar_hash.specs.Transcript as spec;
 ghost use Rattle.magnetar_relation.specs.Rules.{rules};
 ghost use Rattle.magnetar_batch.specs.Check.{outcome, checkOutcome};
 ghost use Rattle.magnetar_spartan.specs.Outcome.{verified, verifyOutcome, proved, proveOutcome};
-ghost use Rattle.magnetar_sumcheck.specs.Entries.{outerRefusal, outerOut, innerRefusal, innerOut, dropRefusal, dropOut};
+ghost use Rattle.magnetar_sumcheck_prover.specs.Entries.{outerRefusal, outerOut, innerRefusal, innerOut, dropRefusal, dropOut};
 ghost use Rattle.magnetar_c.specs.Across as across;
 
 // An element: the low word first.

@@ -10,7 +10,7 @@ use crate::told;
 use magnetar_batch::check::RowCheck;
 use magnetar_hash::transcript::Transcript;
 use magnetar_hash::transcript::TranscriptAnswer;
-use magnetar_inplace::records::Entry;
+use magnetar_records::records::Entry;
 
 // The record at index i.
 fn record(given: &[u64], sizes: &[usize], i: usize) -> Entry {

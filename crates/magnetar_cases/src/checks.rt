@@ -6,10 +6,10 @@ use crate::text::{self};
 use crate::told;
 use magnetar_batch::combo;
 use magnetar_batch::table;
-use magnetar_checks::claims;
-use magnetar_checks::end;
-use magnetar_checks::outer;
 use magnetar_protocol::first::Found;
+use magnetar_verifier::claims;
+use magnetar_verifier::end;
+use magnetar_verifier::outer;
 
 // The query by name: its letters, the last one lowest.
 const CHECKS: u64 = 0x636865636b73;

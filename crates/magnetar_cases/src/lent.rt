@@ -9,15 +9,15 @@ ghost use Rattle.magnetar_relation.specs.Rules.{rulesOver};
 ghost use Rattle.magnetar_batch.specs.Check.{checked, checkOutcome};
 ghost use Rattle.magnetar_batch.specs.Entries.{combined, comboOutcome};
 ghost use Rattle.magnetar_spartan.specs.Outcome.{verified, verifyOutcome, proved, proveOutcome};
-ghost use Rattle.magnetar_inplace.specs.Records.{lentOf, entriesOfRecords};
+ghost use Rattle.magnetar_records.specs.Records.{lentOf, entriesOfRecords};
 use magnetar_batch::check::RowCheck;
 use magnetar_batch::check_records as check;
 use magnetar_batch::combo_records as combo;
 use magnetar_field::sizes;
 use magnetar_hash::transcript::Transcript;
 use magnetar_hash::transcript::TranscriptAnswer;
-use magnetar_inplace::records;
-use magnetar_inplace::records::Entry;
+use magnetar_records::records;
+use magnetar_records::records::Entry;
 use magnetar_relation::shapes::Shapes;
 use magnetar_spartan::records as ends;
 

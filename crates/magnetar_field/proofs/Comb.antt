@@ -65,7 +65,8 @@ joined-lt w v h = or-lt 64 _ _ (mod-lt (w * 2 ^ 4) (pow-pos 64)) (lt-of-le-of-lt
 -- one step of the comb, in words
 module _ (w0 w1 w2 w3 lx hx ly hy : ℕ) (h0 : w0 < 2 ^ 64) (h1 : w1 < 2 ^ 64) (h2 : w2 < 2 ^ 64) (h3 : w3 < 2 ^ 60)
     (bx : lx < 2 ^ 64) (cx : hx < 2 ^ 64) (by : ly < 2 ^ 64) (cy : hy < 2 ^ 64) where
-  pub comb-words : ((bitOr (w3 * 2 ^ 4 % 2 ^ 64) (w2 / 2 ^ 60) * 2 ^ 64 + (bitOr (w2 * 2 ^ 4 % 2 ^ 64) (w1 / 2 ^ 60) ⊕ hy)) * 2 ^ 64 + (bitOr (w1 * 2 ^ 4 % 2 ^ 64) (w0 / 2 ^ 60) ⊕ hx ⊕ ly)) * 2 ^ 64 + (w0 * 2 ^ 4 % 2 ^ 64 ⊕ lx)
+  pub comb-words : ((bitOr (w3 * 2 ^ 4 % 2 ^ 64) (w2 / 2 ^ 60) * 2 ^ 64 + (bitOr (w2 * 2 ^ 4 % 2 ^ 64) (w1 / 2 ^ 60) ⊕ hy)) * 2 ^ 64 + (bitOr (w1 * 2
+      ^ 4 % 2 ^ 64) (w0 / 2 ^ 60) ⊕ hx ⊕ ly)) * 2 ^ 64 + (w0 * 2 ^ 4 % 2 ^ 64 ⊕ lx)
       ≡ ((((w3 * 2 ^ 64 + w2) * 2 ^ 64 + w1) * 2 ^ 64 + w0) * 2 ^ 4) ⊕ (hx * 2 ^ 64 + lx) ⊕ (hy * 2 ^ 64 + ly) * 2 ^ 64
   comb-words =
       sym (ap (λ (x : ℕ). x ⊕ (hx * 2 ^ 64 + lx) ⊕ (hy * 2 ^ 64 + ly) * 2 ^ 64) (up w0 w1 w2 w3 h0 h1 h2 h3)

@@ -1,5 +1,5 @@
 // A local lent: a transcript to the functions of `magnetar_transcript`, which change it in place, and the first n records of an array to
-// those of `magnetar_inplace`.
+// those of `magnetar_records`.
 // These functions are proved by walks (tools/thin.py).
 ghost use mathlib.Core.Path.{_≡_};
 ghost use Prim.Native.Nat.{_≤_};
@@ -10,14 +10,14 @@ ghost use Rattle.magnetar_hash.specs.Transcript.{absorbed, fieldAnswer, drawAns
 ghost use Rattle.magnetar_matrix.specs.Matrix.{binary, bitValued};
 ghost use Rattle.magnetar_matrix.specs.Lent.{matrixOf};
 ghost use Rattle.magnetar_r1cs.specs.Entries.{applyRefusal, applyOut, binaryRefusal, flagged, flaggedOf, tableRefusal, tableOut, tableScratch, atAnswer, atScratch, packedRefusal, packedOut};
-ghost use Rattle.magnetar_inplace.specs.Records.{lentOf};
+ghost use Rattle.magnetar_records.specs.Records.{lentOf};
 use magnetar_field::gf128::Evaluated;
 use magnetar_hash::transcript::DrawAnswer;
 use magnetar_hash::transcript::Transcript;
 use magnetar_hash::transcript::TranscriptAnswer;
-use magnetar_inplace::records;
-use magnetar_inplace::records::Entry;
 use magnetar_r1cs::r1cs::Flag;
+use magnetar_records::records;
+use magnetar_records::records::Entry;
 use magnetar_transcript::transcript;
 use magnetar_transcript::transcript::Drawn;
 

@@ -1,5 +1,5 @@
 // Answers the queries of standard input, a line for each, through the core and through the forms of `magnetar_transcript` (the
-// transcript in place) and `magnetar_inplace` (matrices as records), and writes the answer where both agree, else `differ` and both.
+// transcript in place) and `magnetar_records` (matrices as records), and writes the answer where both agree, else `differ` and both.
 // The queries are those of `magnetar_vectors` on these functions, with the recorded answers (docs/VECTORS.md). A line that begins
 // with # is copied.
 mod hash;

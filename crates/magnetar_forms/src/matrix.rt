@@ -6,9 +6,9 @@ use crate::text::print;
 use crate::text::{self};
 use magnetar_field::gf128::Evaluated;
 use magnetar_field::gf128::Gf128;
-use magnetar_inplace::records::Entry;
 use magnetar_r1cs::r1cs::Flag;
 use magnetar_r1cs::r1cs::{self};
+use magnetar_records::records::Entry;
 
 // The queries by name: its last eight letters, the last one lowest.
 const APPLY: u64 = 0x6170706c79;

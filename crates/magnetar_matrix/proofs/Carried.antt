@@ -163,4 +163,5 @@ module _ (w n k u q : ℕ) (x ws s t : List ℕ) (es : List Entry) where
   next-login f h l e r =
       let p : take (2 * n) lent-part ≡ words (publicRows w x es n) = rw (rest-is s (u * (2 * n))) (f .next h) in
       rw (r, login-block w n k u x ws (take (2 * n) lent-part) es e p)
-      (filling-more (loginBlock w x ws es n) (publicRows w x es n) q (2 * n) s u f h l (words (loginBlock w x ws es n u)) (overlaid (take (2 * n) lent-part) (drop (2 * n) lent-part)) (block-length w n u x ws es) refl refl)
+      (filling-more (loginBlock w x ws es n) (publicRows w x es n) q (2 * n) s u f h l (words (loginBlock w x ws es n u)) (overlaid (take (2 * n)
+      lent-part) (drop (2 * n) lent-part)) (block-length w n u x ws es) refl refl)

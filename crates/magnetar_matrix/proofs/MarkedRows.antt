@@ -56,5 +56,7 @@ table =
 
 -- each case has the table's result
 pub marked : map (λ r. r .case) table ≡ map (λ r. r .result) table
-unfolding matrix table row _⊕_ _⊗_ timesX sumTimes eqTable eqAt eqFactor tabulate log₂ halvings sumBelow blocks sumOver rowTotal share timesAt times transpose mleTable every bitValued assignment bitOf foldedAt folded loginWords packedBit loginPart unpacked nextMultiple offsetsFrom endFrom offsets layoutEnd isLength note isSize packedTable layoutRefusal buildRefusal
+unfolding matrix table row _⊕_ _⊗_ timesX sumTimes eqTable eqAt eqFactor tabulate log₂ halvings sumBelow blocks sumOver rowTotal share timesAt times
+    transpose mleTable every bitValued assignment bitOf foldedAt folded loginWords packedBit loginPart unpacked nextMultiple offsetsFrom endFrom
+    offsets layoutEnd isLength note isSize packedTable layoutRefusal buildRefusal
 marked = refl

@@ -10,10 +10,10 @@ use Rattle.magnetar_field.specs.Tabulate.{tabulate}
 use Rattle.magnetar_field.proofs.Polynomial.{AllBelow, eval-lt}
 use Rattle.magnetar_field.proofs.Product.{⊗-lt}
 use Rattle.magnetar_field.proofs.Xor.{⊕-lt}
-use Rattle.magnetar_round.specs.Round.{running}
-use Rattle.magnetar_round.specs.Outer.{outerEnd}
-use Rattle.magnetar_round.specs.Inner.{innerEnd}
-use Rattle.magnetar_round.proofs.Verifier.{MessagesBelow, checks-passes, running-is}
+use Rattle.magnetar_sumcheck_verifier.specs.Round.{running}
+use Rattle.magnetar_sumcheck_verifier.specs.Outer.{outerEnd}
+use Rattle.magnetar_sumcheck_verifier.specs.Inner.{innerEnd}
+use Rattle.magnetar_sumcheck_verifier.proofs.Verifier.{MessagesBelow, checks-passes, running-is}
 use Rattle.magnetar_matrix.specs.Batch.{Relation}
 use Rattle.magnetar_theory.specs.SumCheck.{Checks, running as runningE}
 use Rattle.magnetar_theory.specs.Run.{Accepted}

@@ -9,11 +9,11 @@ use lib.ListN.{length, getD, take, drop, length-drop}
 use lib.Seq.{getD-drop}
 use Rattle.magnetar_field.specs.Gf128.{_⊕_, _⊗_}
 use Rattle.magnetar_multilinear.specs.Multilinear.{mle}
-use Rattle.magnetar_round.specs.Order.{eqPoints}
-use Rattle.magnetar_round.specs.Outer.{outerEnd}
-use Rattle.magnetar_round.specs.Inner.{innerEnd}
-use Rattle.magnetar_round.proofs.Verifier.{passes-checks, running-is}
-use Rattle.magnetar_round.proofs.Protocol.{element-mle, element-eqPoints}
+use Rattle.magnetar_sumcheck_verifier.specs.Order.{eqPoints}
+use Rattle.magnetar_sumcheck_verifier.specs.Outer.{outerEnd}
+use Rattle.magnetar_sumcheck_verifier.specs.Inner.{innerEnd}
+use Rattle.magnetar_sumcheck_verifier.proofs.Verifier.{passes-checks, running-is}
+use Rattle.magnetar_sumcheck_verifier.proofs.Protocol.{element-mle, element-eqPoints}
 use Rattle.magnetar_matrix.specs.Batch.{Relation}
 use Rattle.magnetar_theory.specs.SumCheck.{Checks, running as runningE}
 use Rattle.magnetar_theory.specs.EqTable.{eqTable as eqTableE, dot as dotE, eqProduct}

@@ -25,8 +25,8 @@ use Rattle.magnetar_multilinear.proofs.Extension.{mle-snoc, mle-nil, dot-nil}
 use Rattle.magnetar_field.proofs.Polynomial.{AllBelow}
 use Rattle.magnetar_multilinear.proofs.EqTables.{eqTable-length, eqTable-get, scaled-one, scaled-cons}
 use Rattle.magnetar_multilinear.proofs.Evaluating.{bindVar-length}
-use Rattle.magnetar_round.specs.Order.{nextVar, fewer}
-use Rattle.magnetar_round.specs.Messages.{Outer, outerStart, outerVar, outerFold}
+use Rattle.magnetar_sumcheck_verifier.specs.Order.{nextVar, fewer}
+use Rattle.magnetar_sumcheck_verifier.specs.Messages.{Outer, outerStart, outerVar, outerFold}
 use Rattle.magnetar_matrix.specs.Sum.{sumBelow}
 use Rattle.magnetar_matrix.specs.Batch.{Batch, bitOf, foldedAt, folded, claimValue}
 use Rattle.magnetar_protocol.specs.RunSizes.{Elements}

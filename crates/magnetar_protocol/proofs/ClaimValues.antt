@@ -17,9 +17,9 @@ use Rattle.magnetar_theory.specs.EqTable.{eqTable as eqTableE, dot as dotE}
 use Rattle.magnetar_theory.specs.Segment.{Segment}
 use Rattle.magnetar_theory.specs.Gf128.{Element, element, elementSum, elementProduct, gf128}
 use Rattle.magnetar_theory.proofs.Gf128.{element-⊗}
-use Rattle.magnetar_round.specs.Sum.{sumTo}
-use Rattle.magnetar_round.proofs.OuterRound.{sumF}
-use Rattle.magnetar_round.proofs.OuterRun.{element-eqTable, element-sum}
+use Rattle.magnetar_sumcheck_verifier.specs.Sum.{sumTo}
+use Rattle.magnetar_sumcheck_verifier.proofs.OuterRound.{sumF}
+use Rattle.magnetar_sumcheck_verifier.proofs.OuterRun.{element-eqTable, element-sum}
 use Rattle.magnetar_protocol.specs.Theory.{els, batchE, segmentsE}
 use Rattle.magnetar_protocol.proofs.Elements.{els-at}
 

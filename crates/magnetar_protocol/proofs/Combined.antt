@@ -16,7 +16,7 @@ use Rattle.magnetar_theory.specs.Run.{six, combo}
 use Rattle.magnetar_theory.specs.Gf128.{Element, element, elementSum, gf128}
 use Rattle.magnetar_theory.proofs.Gf128.{gf128Laws}
 use Rattle.magnetar_theory.proofs.Matrix.{length-fold, length-columns}
-use Rattle.magnetar_round.proofs.EqPairs.{getD-scale}
+use Rattle.magnetar_sumcheck_verifier.proofs.EqPairs.{getD-scale}
 use Rattle.magnetar_protocol.specs.Theory.{els, logHalf, entriesE, relationE}
 use Rattle.magnetar_protocol.specs.Draws.{Draws}
 use Rattle.magnetar_protocol.specs.Checks.{combined}

@@ -10,12 +10,12 @@ use Rattle.magnetar_field.specs.Tabulate.{tabulate}
 use Rattle.magnetar_field.specs.Polynomial.{eval}
 use Rattle.magnetar_multilinear.specs.EqTable.{eqFactor, eqAt, eqTable}
 use Rattle.magnetar_multilinear.specs.Multilinear.{dot, mle, line, insertZero, bindVar}
-use Rattle.magnetar_round.specs.Sum.{sumTo, total}
-use Rattle.magnetar_round.specs.Round.{checkSum, holds, running}
-use Rattle.magnetar_round.specs.Order.{eqPoints, nextVar, at₀, at₁, slope}
-use Rattle.magnetar_round.specs.Outer.{outerEnd, coefficient₀, coefficient₁, coefficient₂, weighted, timesEq, outerMessage, dropVar}
-use Rattle.magnetar_round.specs.Inner.{innerEnd, innerSums, innerMessage}
-use Rattle.magnetar_round.specs.Messages.{outerNext, outerFold, outerStart, outerMessages, innerMessages}
+use Rattle.magnetar_sumcheck_verifier.specs.Sum.{sumTo, total}
+use Rattle.magnetar_sumcheck_verifier.specs.Round.{checkSum, holds, running}
+use Rattle.magnetar_sumcheck_verifier.specs.Order.{eqPoints, nextVar, at₀, at₁, slope}
+use Rattle.magnetar_sumcheck_verifier.specs.Outer.{outerEnd, coefficient₀, coefficient₁, coefficient₂, weighted, timesEq, outerMessage, dropVar}
+use Rattle.magnetar_sumcheck_verifier.specs.Inner.{innerEnd, innerSums, innerMessage}
+use Rattle.magnetar_sumcheck_verifier.specs.Messages.{outerNext, outerFold, outerStart, outerMessages, innerMessages}
 use Rattle.magnetar_matrix.specs.Sum.{sumBelow, blocks}
 use Rattle.magnetar_matrix.specs.Matrix.{Matrix, System, sumOver, rowTotal, share, timesAt, times, transpose, mleTable}
 use Rattle.magnetar_matrix.specs.Batch.{Relation, bitOf, assignment, foldedAt, folded, claimValue}

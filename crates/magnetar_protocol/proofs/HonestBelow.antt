@@ -9,9 +9,9 @@ use Rattle.magnetar_multilinear.specs.Multilinear.{mle}
 use Rattle.magnetar_field.proofs.Polynomial.{AllBelow}
 use Rattle.magnetar_field.proofs.Product.{⊗-lt}
 use Rattle.magnetar_field.proofs.Xor.{⊕-lt}
-use Rattle.magnetar_round.specs.Messages.{innerMessages}
-use Rattle.magnetar_round.proofs.Verifier.{MessagesBelow}
-use Rattle.magnetar_round.proofs.Protocol.{outer-below, inner-below}
+use Rattle.magnetar_sumcheck_verifier.specs.Messages.{innerMessages}
+use Rattle.magnetar_sumcheck_verifier.proofs.Verifier.{MessagesBelow}
+use Rattle.magnetar_sumcheck_verifier.proofs.Protocol.{outer-below, inner-below}
 use Rattle.magnetar_matrix.specs.Sum.{sumBelow}
 use Rattle.magnetar_matrix.specs.Batch.{Relation, Batch, claimValue}
 use Rattle.magnetar_protocol.specs.Shape.{logLogins}

@@ -10,9 +10,9 @@ use lib.Seq.{drop-at, getD-drop, length-take-le}
 use Rattle.magnetar_field.specs.Tabulate.{tabulate}
 use Rattle.magnetar_multilinear.specs.Multilinear.{mle}
 use Rattle.magnetar_field.proofs.Tabulation.{tabulate-length}
-use Rattle.magnetar_round.specs.Outer.{outerMessage, timesEq}
-use Rattle.magnetar_round.specs.Inner.{innerMessage, innerSums}
-use Rattle.magnetar_round.specs.Messages.{Outer, outerNext, outerFold, outerMessages, innerMessages}
+use Rattle.magnetar_sumcheck_verifier.specs.Outer.{outerMessage, timesEq}
+use Rattle.magnetar_sumcheck_verifier.specs.Inner.{innerMessage, innerSums}
+use Rattle.magnetar_sumcheck_verifier.specs.Messages.{Outer, outerNext, outerFold, outerMessages, innerMessages}
 use Rattle.magnetar_multilinear.specs.Multilinear.{bindVar}
 use Rattle.magnetar_matrix.specs.Batch.{Relation, Batch}
 use Rattle.magnetar_protocol.specs.Shape.{logLogins, logBin, logFld, logCols, beforeTerminals, beforeInner, beforeEnd, proofElements}

@@ -10,11 +10,11 @@ use lib.Pow.{pow-add}
 use Rattle.magnetar_field.specs.Sizes.{log₂}
 use Rattle.magnetar_multilinear.specs.Multilinear.{mle}
 use Rattle.magnetar_field.proofs.Tabulation.{tabulate-get}
-use Rattle.magnetar_round.specs.Messages.{Outer, outerStart, innerMessages}
-use Rattle.magnetar_round.proofs.OuterRun as O
-use Rattle.magnetar_round.proofs.OuterRun.{start-stands}
-use Rattle.magnetar_round.proofs.InnerRun as I
-use Rattle.magnetar_round.proofs.Protocol.{element-mle}
+use Rattle.magnetar_sumcheck_verifier.specs.Messages.{Outer, outerStart, innerMessages}
+use Rattle.magnetar_sumcheck_verifier.proofs.OuterRun as O
+use Rattle.magnetar_sumcheck_verifier.proofs.OuterRun.{start-stands}
+use Rattle.magnetar_sumcheck_verifier.proofs.InnerRun as I
+use Rattle.magnetar_sumcheck_verifier.proofs.Protocol.{element-mle}
 use Rattle.magnetar_matrix.specs.Matrix.{Matrix, System}
 use Rattle.magnetar_matrix.specs.Batch.{Relation, Batch}
 use Rattle.magnetar_theory.specs.SumCheck.{honest}

@@ -8,8 +8,8 @@ use native.Mathlib.Omega.{arith}
 use lib.ListN.{length}
 use Rattle.magnetar_field.specs.Polynomial.{eval}
 use Rattle.magnetar_field.specs.Tabulate.{tabulate}
-use Rattle.magnetar_round.specs.Round.{holds, running}
-use Rattle.magnetar_round.proofs.Verifier.{passes}
+use Rattle.magnetar_sumcheck_verifier.specs.Round.{holds, running}
+use Rattle.magnetar_sumcheck_verifier.proofs.Verifier.{passes}
 use Rattle.magnetar_protocol.specs.Checks.{Check, roundHolds, firstRefusal}
 
 -- ---- all rounds of one sum-check

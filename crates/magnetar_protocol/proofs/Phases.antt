@@ -9,8 +9,8 @@ use lib.Dec.{eqb, lit<}
 use borrow.Author.Tests.{ne-eqb}
 use Rattle.magnetar_field.specs.Tabulate.{tabulate}
 use Rattle.magnetar_multilinear.specs.Multilinear.{mle}
-use Rattle.magnetar_round.specs.Round.{running}
-use Rattle.magnetar_round.specs.Inner.{innerEnd}
+use Rattle.magnetar_sumcheck_verifier.specs.Round.{running}
+use Rattle.magnetar_sumcheck_verifier.specs.Inner.{innerEnd}
 use Rattle.magnetar_matrix.specs.Batch.{Relation}
 use Rattle.magnetar_protocol.specs.Shape.{logLogins, logBin, logFld, logCols}
 use Rattle.magnetar_protocol.specs.Draws.{Draws}

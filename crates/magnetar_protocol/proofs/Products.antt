@@ -20,7 +20,7 @@ use Rattle.magnetar_theory.specs.Matrix.{addAt, apply, columns}
 use Rattle.magnetar_theory.specs.Gf128.{Element, element, elementSum, elementProduct, gf128}
 use Rattle.magnetar_theory.proofs.Gf128.{element-⊕, element-⊗, gf128Laws}
 use Rattle.magnetar_theory.proofs.Matrix.{length-apply}
-use Rattle.magnetar_round.proofs.OuterRun.{element-eqTable}
+use Rattle.magnetar_sumcheck_verifier.proofs.OuterRun.{element-eqTable}
 use Rattle.magnetar_protocol.specs.Theory.{els, entryE, entriesE}
 use Rattle.magnetar_protocol.proofs.Elements.{els-at}
 

@@ -18,7 +18,7 @@ use Rattle.magnetar_field.proofs.Polynomial.{AllBelow}
 use Rattle.magnetar_field.proofs.Product.{⊗-lt}
 use Rattle.magnetar_field.proofs.Xor.{⊕-lt}
 use Rattle.magnetar_hash.specs.declared.transcript.Transcript.{Transcript}
-use Rattle.magnetar_round.specs.Messages.{Outer, outerStart, outerMessages, innerMessages}
+use Rattle.magnetar_sumcheck_verifier.specs.Messages.{Outer, outerStart, outerMessages, innerMessages}
 use Rattle.magnetar_matrix.specs.Sum.{blocks}
 use Rattle.magnetar_matrix.specs.Matrix.{Entry, Matrix, System, sumOver, rowTotal, share, timesAt, times}
 use Rattle.magnetar_matrix.specs.Batch.{Relation, Batch, folded}

@@ -17,7 +17,7 @@ use Rattle.magnetar_theory.specs.EqTable.{eqTable as eqTableE}
 use Rattle.magnetar_theory.specs.Run.{segSum}
 use Rattle.magnetar_theory.specs.Gf128.{Element, element, elementSum, elementProduct, gf128}
 use Rattle.magnetar_theory.proofs.Gf128.{element-⊕, element-⊗}
-use Rattle.magnetar_round.proofs.OuterRun.{element-eqTable}
+use Rattle.magnetar_sumcheck_verifier.proofs.OuterRun.{element-eqTable}
 use Rattle.magnetar_protocol.specs.Theory.{els, logHalf, segmentsE}
 use Rattle.magnetar_protocol.specs.Draws.{Draws, lowPoint}
 use Rattle.magnetar_protocol.specs.Checks.{segmentSum}

@@ -10,9 +10,9 @@ use native.Mathlib.Nat.{mul-suc}
 use lib.ListN.{length, getD, take, drop, replicate, length-append}
 use lib.Seq.{take-at, drop-at, drop-append-add}
 use Rattle.magnetar_hash.specs.Bytes.{ascii}
-use Rattle.magnetar_round.specs.Outer.{outerMessage, timesEq}
-use Rattle.magnetar_round.specs.Inner.{innerMessage, innerSums}
-use Rattle.magnetar_round.specs.Messages.{Outer, outerNext, outerFold, outerMessages, innerMessages}
+use Rattle.magnetar_sumcheck_verifier.specs.Outer.{outerMessage, timesEq}
+use Rattle.magnetar_sumcheck_verifier.specs.Inner.{innerMessage, innerSums}
+use Rattle.magnetar_sumcheck_verifier.specs.Messages.{Outer, outerNext, outerFold, outerMessages, innerMessages}
 use Rattle.magnetar_field.specs.Tabulate.{tabulate}
 use Rattle.magnetar_multilinear.specs.Multilinear.{bindVar}
 use Rattle.magnetar_matrix.specs.Batch.{Relation}

@@ -12,7 +12,7 @@ use Rattle.magnetar_field.specs.Tabulate.{tabulate}
 use Rattle.magnetar_field.proofs.Tabulation.{tabulate-length}
 use Rattle.magnetar_hash.specs.Bytes.{ascii}
 use Rattle.magnetar_hash.specs.declared.transcript.Transcript.{Transcript}
-use Rattle.magnetar_round.specs.Messages.{Outer, outerStart, outerMessages, innerMessages}
+use Rattle.magnetar_sumcheck_verifier.specs.Messages.{Outer, outerStart, outerMessages, innerMessages}
 use Rattle.magnetar_matrix.specs.Batch.{Relation, Batch, folded}
 use Rattle.magnetar_protocol.specs.Shape.{logLogins, logBin, logFld, logCols, beforeTerminals, beforeInner, proofElements}
 use Rattle.magnetar_protocol.specs.Draws.{Draws, drawCount, drawsOf, loginPoint}

@@ -14,11 +14,11 @@ use Rattle.magnetar_field.specs.Gf128.{_⊕_, _⊗_}
 use Rattle.magnetar_field.specs.Tabulate.{tabulate}
 use Rattle.magnetar_multilinear.specs.Multilinear.{mle}
 use Rattle.magnetar_field.proofs.Tabulation.{tabulate-length}
-use Rattle.magnetar_round.specs.Round.{running}
-use Rattle.magnetar_round.proofs.Verifier.{passes}
-use Rattle.magnetar_round.specs.Order.{eqPoints}
-use Rattle.magnetar_round.specs.Outer.{outerEnd}
-use Rattle.magnetar_round.specs.Inner.{innerEnd}
+use Rattle.magnetar_sumcheck_verifier.specs.Round.{running}
+use Rattle.magnetar_sumcheck_verifier.proofs.Verifier.{passes}
+use Rattle.magnetar_sumcheck_verifier.specs.Order.{eqPoints}
+use Rattle.magnetar_sumcheck_verifier.specs.Outer.{outerEnd}
+use Rattle.magnetar_sumcheck_verifier.specs.Inner.{innerEnd}
 use Rattle.magnetar_matrix.specs.Batch.{Relation}
 use Rattle.magnetar_protocol.specs.Shape.{logLogins, logBin, logFld, logCols}
 use Rattle.magnetar_protocol.specs.Proof.{part, binMessages, fldMessages, terminal, innerRounds, valueZ, segmentValues}

@@ -9,10 +9,10 @@ use Rattle.magnetar_field.specs.Gf128.{_⊕_, _⊗_}
 use Rattle.magnetar_field.specs.Tabulate.{tabulate}
 use Rattle.magnetar_multilinear.specs.EqTable.{eqAt}
 use Rattle.magnetar_multilinear.specs.Multilinear.{dot, mle}
-use Rattle.magnetar_round.specs.Round.{holds, running}
-use Rattle.magnetar_round.specs.Order.{eqPoints}
-use Rattle.magnetar_round.specs.Outer.{outerEnd}
-use Rattle.magnetar_round.specs.Inner.{innerEnd}
+use Rattle.magnetar_sumcheck_verifier.specs.Round.{holds, running}
+use Rattle.magnetar_sumcheck_verifier.specs.Order.{eqPoints}
+use Rattle.magnetar_sumcheck_verifier.specs.Outer.{outerEnd}
+use Rattle.magnetar_sumcheck_verifier.specs.Inner.{innerEnd}
 use Rattle.magnetar_matrix.specs.Matrix.{mleTable}
 use Rattle.magnetar_matrix.specs.Batch.{Relation, publicFolded}
 use Rattle.magnetar_layout.specs.Layout.{localVars, suffix}

@@ -1,5 +1,5 @@
 -- The honest prover's words and claims, with the draws as plain elements: each message is the exact polynomial of its round, and
--- so uses only the draws before it (`magnetar_round` specs/Messages; proofs/HonestRun `words-are` says the same of all words in the theory).
+-- so uses only the draws before it (`magnetar_sumcheck_verifier` specs/Messages; proofs/HonestRun `words-are` says the same of all words in the theory).
 -- Assumes nothing.
 use mathlib.Core.Path.{_≡_}
 use mathlib.Core.List.{List, [], _∷_, _++_}
@@ -7,7 +7,7 @@ use Prim.Native.Nat.{ℕ, _/_}
 use lib.ListN.{length, take, drop}
 use Rattle.magnetar_field.specs.Tabulate.{tabulate}
 use Rattle.magnetar_multilinear.specs.Multilinear.{mle}
-use Rattle.magnetar_round.specs.Messages.{outerStart, outerMessages, innerMessages}
+use Rattle.magnetar_sumcheck_verifier.specs.Messages.{outerStart, outerMessages, innerMessages}
 use Rattle.magnetar_matrix.specs.Sum.{blocks}
 use Rattle.magnetar_matrix.specs.Matrix.{Matrix, System, times}
 use Rattle.magnetar_matrix.specs.Batch.{Relation, Batch, assignment, folded, publicFolded}

@@ -12,8 +12,8 @@ use Rattle.magnetar_multilinear.specs.Multilinear.{mle, bindVar}
 use Rattle.magnetar_hash.specs.Bytes.{ascii}
 use Rattle.magnetar_hash.specs.declared.transcript.Transcript.{Transcript}
 use Rattle.magnetar_hash.specs.Transcript as transcript
-use Rattle.magnetar_round.specs.Inner.{innerMessage}
-use Rattle.magnetar_round.specs.Messages.{Outer, outerStart, outerNext, outerFold}
+use Rattle.magnetar_sumcheck_verifier.specs.Inner.{innerMessage}
+use Rattle.magnetar_sumcheck_verifier.specs.Messages.{Outer, outerStart, outerNext, outerFold}
 use Rattle.magnetar_matrix.specs.Batch.{Relation}
 use Rattle.magnetar_layout.specs.Layout.{offset, localVars}
 use Rattle.magnetar_protocol.specs.Shape.{logLogins, logBin, logFld, logCols}

@@ -14,7 +14,7 @@ use Rattle.magnetar_r1cs.proofs.Points.{log-most}
 use Rattle.magnetar_matrix.specs.Matrix.{System}
 use Rattle.magnetar_matrix.specs.Batch.{Relation}
 use Rattle.magnetar_matrix.proofs.TableLaws.{elements-words}
-use Rattle.magnetar_checks.proofs.Pieces.{elements-take}
+use Rattle.magnetar_verifier.proofs.Pieces.{elements-take}
 use Rattle.magnetar_batch.specs.Systems.{combinedTable}
 use Rattle.magnetar_batch.specs.TableSteps.{pointIn}
 use Rattle.magnetar_batch.proofs.ColumnLaws.{Wide}

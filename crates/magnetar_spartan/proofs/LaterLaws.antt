@@ -33,12 +33,12 @@ use Rattle.magnetar_protocol.specs.RunSizes.{SizedRelation}
 use Rattle.magnetar_protocol.specs.Stepwise.{Steps, begin, innerRun, segmentValue, lowDraws, ended, innerAll}
 use Rattle.magnetar_protocol.proofs.Stepwise.{goes-inner, inner-drawn-length, inner-sent-length}
 use Rattle.magnetar_protocol.proofs.Within.{prover-within}
-use Rattle.magnetar_rounds.specs.Entries.{counterTest, innerRoundsRefusal, innerPlayed, answerFor, proofFor, drawsFor, scratchFor}
-use Rattle.magnetar_rounds.proofs.Guarded.{even-size}
-use Rattle.magnetar_checks.specs.Outer.{runTests, segmentTests, drawTests, proofTests}
-use Rattle.magnetar_checks.specs.Claims.{claimsRefusal, claimsOut, claimCount}
-use Rattle.magnetar_checks.proofs.Pieces.{part-get}
-use Rattle.magnetar_checks.proofs.ClaimLaws.{reverse-get, reverse-size}
+use Rattle.magnetar_prover.specs.Entries.{counterTest, innerRoundsRefusal, innerPlayed, answerFor, proofFor, drawsFor, scratchFor}
+use Rattle.magnetar_prover.proofs.Guarded.{even-size}
+use Rattle.magnetar_verifier.specs.Outer.{runTests, segmentTests, drawTests, proofTests}
+use Rattle.magnetar_verifier.specs.Claims.{claimsRefusal, claimsOut, claimCount}
+use Rattle.magnetar_verifier.proofs.Pieces.{part-get}
+use Rattle.magnetar_verifier.proofs.ClaimLaws.{reverse-get, reverse-size}
 use Rattle.magnetar_relation.specs.Rules.{Rules, relationOf}
 use Rattle.magnetar_spartan.specs.Refusals.{outlineOf, rowsBin, rowsFld, proofWords, claimWords, proverRoom}
 use Rattle.magnetar_spartan.specs.Ready.{Ready, FoldReady}

@@ -23,17 +23,17 @@ use Rattle.magnetar_r1cs.specs.Entries.{rangeMatrix, rangeOut}
 use Rattle.magnetar_r1cs.proofs.Ranges.{range-left}
 use Rattle.magnetar_batch.proofs.Rooms.{back-part, back-put}
 use Rattle.magnetar_protocol.specs.RunSizes.{SizedSystem}
-use Rattle.magnetar_rounds.specs.Entries.{tableAt, blockWords, tablesOf}
-use Rattle.magnetar_rounds.proofs.Slots.{take-of-drop, mid-length, mid-before, mid-behind, mid-at, mid-back, fore-length, fore-back}
-use Rattle.magnetar_rounds.proofs.Guarded.{even-size}
+use Rattle.magnetar_prover.specs.Entries.{tableAt, blockWords, tablesOf}
+use Rattle.magnetar_prover.proofs.Slots.{take-of-drop, mid-length, mid-before, mid-behind, mid-at, mid-back, fore-length, fore-back}
+use Rattle.magnetar_prover.proofs.Guarded.{even-size}
 use Rattle.magnetar_relation.specs.declared.shapes.SystemShape.{SystemShape}
 use Rattle.magnetar_relation.specs.declared.shapes.Shapes.{Shapes}
 use Rattle.magnetar_relation.specs.Rules.{Rules, rulesOver, relationOf, systemAt, entriesIn}
-use Rattle.magnetar_inplace.specs.declared.records.Entry.{Entry as Record}
-use Rattle.magnetar_inplace.specs.Records.{entriesOfRecords}
-use Rattle.magnetar_inplace.specs.LoginSteps.{productsIn}
-use Rattle.magnetar_inplace.proofs.PackedEnds.{products-in}
-use Rattle.magnetar_inplace.proofs.WalkLaws.{records-length}
+use Rattle.magnetar_records.specs.declared.records.Entry.{Entry as Record}
+use Rattle.magnetar_records.specs.Records.{entriesOfRecords}
+use Rattle.magnetar_records.specs.LoginSteps.{productsIn}
+use Rattle.magnetar_records.proofs.PackedEnds.{products-in}
+use Rattle.magnetar_records.proofs.WalkLaws.{records-length}
 use Rattle.magnetar_relation.proofs.RangeLaws.{same-drop, range-is}
 use Rattle.magnetar_spartan.specs.declared.products.Part.{Part}
 use Rattle.magnetar_spartan.specs.Refusals.{rowsBin, rowsFld}
@@ -315,7 +315,8 @@ module _ (k : ℕ) (R : Rules) (ws x s : List ℕ) (ok : ProductsReady R (length
 
   -- made in its place by a loop over ranges
   pub there : (g : Part) → g ≡ h → (u : List ℕ)
-      → u ≡ rangeOut (record { rows = g .rows; cols = 2 * (R .m / 2); entries = take (g .to - g .from) (drop (g .from) (R .entries)) }) ws x (R .q) (R .m / 2) (take (length s - g .place) (drop (g .place) s))
+      → u ≡ rangeOut (record { rows = g .rows; cols = 2 * (R .m / 2); entries = take (g .to - g .from) (drop (g .from) (R .entries)) }) ws x (R .q)
+      (R .m / 2) (take (length s - g .place) (drop (g .place) s))
       → Placed (wordsNo k R) (placeNo k R) T s (putMid (g .place) (length s - g .place) s u)
   there g eg u eu =
       let M = made (2 * (R .m / 2)) in

@@ -22,7 +22,7 @@ use Rattle.magnetar_layout.specs.Tests.{noted, roomTest}
 use Rattle.magnetar_matrix.specs.Batch.{Relation, Batch, folded}
 use Rattle.magnetar_matrix.specs.Packed.{packedTable}
 use Rattle.magnetar_matrix.proofs.TableLaws.{elements-words}
-use Rattle.magnetar_checks.proofs.Pieces.{elements-take}
+use Rattle.magnetar_verifier.proofs.Pieces.{elements-take}
 use Rattle.magnetar_protocol.specs.Shape.{logLogins, logBin, logFld, logCols}
 use Rattle.magnetar_protocol.specs.Draws.{Draws, drawCount, drawsOf, loginPoint}
 use Rattle.magnetar_protocol.specs.Checks.{combined}
@@ -36,9 +36,9 @@ use Rattle.magnetar_protocol.proofs.Splits.{combined-split, logins-split}
 use Rattle.magnetar_protocol.proofs.StepLaws.{behind}
 use Rattle.magnetar_protocol.proofs.Stepwise.{proving-after, outer-proving-sent, outer-proving-count}
 use Rattle.magnetar_protocol.proofs.ProverRun.{proving-words, proving-claims}
-use Rattle.magnetar_rounds.specs.Entries.{counterTest, countTests, totalTests, outerDrawn, outerSent, blockWords, tablesOf, outerRoundsRefusal, outerPlayed}
-use Rattle.magnetar_rounds.specs.Whole.{outerWhole}
-use Rattle.magnetar_rounds.proofs.Joined.{whole-is}
+use Rattle.magnetar_prover.specs.Entries.{counterTest, countTests, totalTests, outerDrawn, outerSent, blockWords, tablesOf, outerRoundsRefusal, outerPlayed}
+use Rattle.magnetar_prover.specs.Whole.{outerWhole}
+use Rattle.magnetar_prover.proofs.Joined.{whole-is}
 use Rattle.magnetar_relation.specs.Rules.{Rules, relationOf}
 use Rattle.magnetar_relation.specs.RuleTests.{ruleTests}
 use Rattle.magnetar_spartan.specs.Refusals.{outlineOf, rowsBin, rowsFld, proofWords, claimWords, proverRoom}

@@ -9,7 +9,7 @@ use lib.Dec.{eqb, ltb}
 use lib.ListN.{length, drop, length-take}
 use borrow.Author.Tests.{ltb-false, eqb-true, not-false}
 use Rattle.magnetar_layout.proofs.Laid.{half-power}
-use Rattle.magnetar_rounds.proofs.Guarded.{even-size}
+use Rattle.magnetar_prover.proofs.Guarded.{even-size}
 use Rattle.magnetar_layout.specs.Every.{every}
 use Rattle.magnetar_layout.specs.Layout.{LayoutFits, isLength, layoutEnd}
 use Rattle.magnetar_layout.specs.Tests.{Tests, Sized, sizeTests, rowsTests, layoutTests}
@@ -22,7 +22,7 @@ use Rattle.magnetar_relation.specs.declared.shapes.Shape.{Shape}
 use Rattle.magnetar_relation.specs.declared.shapes.SystemShape.{SystemShape}
 use Rattle.magnetar_relation.specs.Rules.{Rules, entriesIn, matrixAt, systemAt, relationOf, inMatrix, inSystem, inRelation}
 use Rattle.magnetar_relation.specs.RuleTests.{rowTests, colTests, mostTests, numberTests, total, ruleTestsBy, ruleTests}
-use Rattle.magnetar_checks.specs.Outer.{runTests}
+use Rattle.magnetar_verifier.specs.Outer.{runTests}
 use Rattle.magnetar_spartan.specs.Refusals.{rowsBin, rowsFld, rulesTests}
 use Rattle.magnetar_spartan.specs.Ready.{Ready}
 use Rattle.magnetar_spartan.proofs.Fine.{numbered-join, clear-front, clear-back, size-fine, most-fine, true-fine}

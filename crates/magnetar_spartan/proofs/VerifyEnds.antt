@@ -20,7 +20,7 @@ use Rattle.magnetar_protocol.specs.Play.{Played}
 use Rattle.magnetar_protocol.specs.Checks.{combined}
 use Rattle.magnetar_protocol.specs.RealRun.{verifierDraws}
 use Rattle.magnetar_protocol.specs.declared.first.Found.{Found}
-use Rattle.magnetar_checks.specs.End.{endRefusal, endRoom}
+use Rattle.magnetar_verifier.specs.End.{endRefusal, endRoom}
 use Rattle.magnetar_relation.specs.Rules.{Rules, relationOf}
 use Rattle.magnetar_relation.specs.RuleTests.{ruleTests}
 use Rattle.magnetar_relation.specs.Steps.{clearedTo}

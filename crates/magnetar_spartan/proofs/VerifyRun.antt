@@ -21,10 +21,10 @@ use Rattle.magnetar_protocol.specs.declared.first.Found.{Found}
 use Rattle.magnetar_protocol.specs.Found.{firstFound}
 use Rattle.magnetar_protocol.proofs.Blocks.{claims-outlined}
 use Rattle.magnetar_protocol.proofs.Counts.{verifier-count}
-use Rattle.magnetar_checks.specs.Outer.{outerChecksRefusal, outerFound, runTests, segmentTests, drawTests, proofTests}
-use Rattle.magnetar_checks.specs.Outer as checked
-use Rattle.magnetar_checks.specs.End.{endRefusal, endFound}
-use Rattle.magnetar_checks.specs.Claims.{claimsRefusal, claimsOut, claimCount}
+use Rattle.magnetar_verifier.specs.Outer.{outerChecksRefusal, outerFound, runTests, segmentTests, drawTests, proofTests}
+use Rattle.magnetar_verifier.specs.Outer as checked
+use Rattle.magnetar_verifier.specs.End.{endRefusal, endFound}
+use Rattle.magnetar_verifier.specs.Claims.{claimsRefusal, claimsOut, claimCount}
 use Rattle.magnetar_relation.specs.Rules.{Rules, relationOf}
 use Rattle.magnetar_spartan.specs.Refusals.{rowsBin, rowsFld, outlineOf, proofWords, claimWords}
 use Rattle.magnetar_spartan.specs.Ready.{Ready}

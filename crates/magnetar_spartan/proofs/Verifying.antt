@@ -22,7 +22,7 @@ use Rattle.magnetar_protocol.specs.RealRun.{verifierDraws, verifierTranscript, 
 use Rattle.magnetar_protocol.proofs.Phases.{Numbered}
 use Rattle.magnetar_protocol.proofs.Counts.{played-count, schedule-length}
 use Rattle.magnetar_protocol.proofs.Blocks.{outerChecks, laterChecks, later-numbered, verdict-blocks, run-stop-blocks, stop-append, stop-accepted, outlined, schedule-outlined, draws-outlined, shared-outlined, rows-outlined, terminals-outlined, identity-outlined}
-use Rattle.magnetar_checks.specs.End.{endChecks}
+use Rattle.magnetar_verifier.specs.End.{endChecks}
 use Rattle.magnetar_relation.specs.Rules.{Rules, relationOf}
 use Rattle.magnetar_field.proofs.Log2.{log₂-lt}
 use Rattle.magnetar_spartan.specs.Refusals.{rowsBin, rowsFld, outlineOf}

@@ -9,7 +9,7 @@ use Rattle.magnetar_layout.specs.Tests.{Tests, sizeTests, packedTestsOf, public
 use Rattle.magnetar_matrix.specs.Batch.{Relation}
 use Rattle.magnetar_protocol.specs.Shape.{proofElements}
 use Rattle.magnetar_protocol.specs.Rooms.{verifierScratch, proverScratch}
-use Rattle.magnetar_checks.specs.Claims.{claimCount}
+use Rattle.magnetar_verifier.specs.Claims.{claimCount}
 use Rattle.magnetar_spartan.specs.Refusals.{counterTests, roomOf}
 
 -- 4 to 10

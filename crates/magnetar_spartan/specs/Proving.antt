@@ -19,7 +19,7 @@ use Rattle.magnetar_protocol.specs.Draws.{drawCount}
 use Rattle.magnetar_protocol.specs.Run.{claims}
 use Rattle.magnetar_protocol.specs.Schedule.{outline}
 use Rattle.magnetar_protocol.specs.Stepwise.{Steps, begin, innerAll}
-use Rattle.magnetar_rounds.specs.Entries.{proofFor, drawsFor, scratchFor, blockWords, outerRoundsRefusal, outerPlayed, innerRoundsRefusal, innerPlayed}
+use Rattle.magnetar_prover.specs.Entries.{proofFor, drawsFor, scratchFor, blockWords, outerRoundsRefusal, outerPlayed, innerRoundsRefusal, innerPlayed}
 use Rattle.magnetar_spartan.specs.Refusals.{outlineOf, rowsBin, rowsFld, proofWords, claimWords, proverRoom}
 use Rattle.magnetar_spartan.specs.Ready.{Ready}
 

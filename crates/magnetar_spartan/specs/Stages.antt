@@ -13,9 +13,9 @@ use Rattle.magnetar_protocol.specs.Draws.{drawCount}
 use Rattle.magnetar_protocol.specs.Schedule.{schedule}
 use Rattle.magnetar_protocol.specs.Play.{playedFrom}
 use Rattle.magnetar_protocol.specs.declared.first.Found.{Found}
-use Rattle.magnetar_checks.specs.Outer.{outerFound}
-use Rattle.magnetar_checks.specs.End.{endFound, endRoom}
-use Rattle.magnetar_checks.specs.Claims.{claimsOut}
+use Rattle.magnetar_verifier.specs.Outer.{outerFound}
+use Rattle.magnetar_verifier.specs.End.{endFound, endRoom}
+use Rattle.magnetar_verifier.specs.Claims.{claimsOut}
 use Rattle.magnetar_relation.specs.Steps.{clearedTo}
 use Rattle.magnetar_spartan.specs.declared.stages.Begun.{Begun}
 use Rattle.magnetar_spartan.specs.Outcome.{Verified, verifiedInPlace}

@@ -2,13 +2,13 @@
 // of bin and fld. Each is total: a size past its limit is cut.
 use crate::refusal;
 use magnetar_batch::fold;
-use magnetar_checks::claims;
 use magnetar_field::sizes;
 use magnetar_field::words;
 use magnetar_hash::transcript::Transcript;
 use magnetar_protocol::rooms;
-use magnetar_rounds::inner;
-use magnetar_rounds::rounds;
+use magnetar_prover::inner;
+use magnetar_prover::rounds;
+use magnetar_verifier::claims;
 ghost use mathlib.Core.Path.{_≡_};
 ghost use Prim.Native.Nat.{ℕ, _+_, _-_, _*_, _/_, _≤_, min};
 ghost use lib.ListN.{length, getD};
@@ -17,7 +17,7 @@ ghost use Rattle.magnetar_field.specs.Tabulate.{tabulate};
 ghost use Rattle.magnetar_field.specs.Words.{elements};
 ghost use Rattle.magnetar_protocol.specs.RunSizes.{Elements};
 ghost use Rattle.magnetar_protocol.specs.Schedule.{outline};
-ghost use Rattle.magnetar_rounds.specs.Entries.{innerPlayed};
+ghost use Rattle.magnetar_prover.specs.Entries.{innerPlayed};
 ghost use Rattle.magnetar_spartan.specs.Ready.{FoldReady};
 ghost use Rattle.magnetar_spartan.specs.Proving.{bare, RunReady, OuterDone, loginAt, FoldLeft, InnerDone, EndLeft, LaterLeft};
 

@@ -1,8 +1,5 @@
 // The stages of a verifying run that see no matrix: the schedule and the outer checks; then, with the combined table in front of the
 // scratch, the other checks and the claims. sh are the shapes of the relation's matrices.
-use magnetar_checks::claims;
-use magnetar_checks::end;
-use magnetar_checks::outer;
 use magnetar_field::sizes;
 use magnetar_hash::transcript::Transcript;
 use magnetar_hash::transcript::TranscriptAnswer;
@@ -10,6 +7,9 @@ use magnetar_protocol::first::Found;
 use magnetar_protocol::rooms;
 use magnetar_relation::step;
 use magnetar_schedule::play;
+use magnetar_verifier::claims;
+use magnetar_verifier::end;
+use magnetar_verifier::outer;
 ghost use mathlib.Core.Path.{_≡_};
 ghost use mathlib.Core.List.{[]};
 ghost use Rattle.magnetar_protocol.specs.Schedule.{outline};

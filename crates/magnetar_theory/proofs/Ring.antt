@@ -58,4 +58,21 @@ module _ (F : Field) where
     pub one-mul : (x : K) → 𝟏 ⊗ x ≡ x
     one-mul x = mul-comm 𝟏 x ∙ mul-one x
 
-    pub ruleset ring = (add-assoc, add-comm, add-left-comm, add-zero, zero-add, add-self, add-self-left, mul-assoc, mul-comm, mul-left-comm, mul-one, one-mul, mul-zero, zero-mul, distrib, distrib-right)
+    pub ruleset ring = (
+      add-assoc,
+      add-comm,
+      add-left-comm,
+      add-zero,
+      zero-add,
+      add-self,
+      add-self-left,
+      mul-assoc,
+      mul-comm,
+      mul-left-comm,
+      mul-one,
+      one-mul,
+      mul-zero,
+      zero-mul,
+      distrib,
+      distrib-right,
+    )

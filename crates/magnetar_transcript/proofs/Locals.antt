@@ -66,7 +66,8 @@ module _ {M : Type 1} {𝓤 : URA M} {H : Heap 𝓤} {A : Atoms 𝓤} (W : Given
 
   paired : (d ds r rs x : SProp 𝓤) → ent 𝓤 (sep 𝓤 (sep 𝓤 (sep 𝓤 d ds) (sep 𝓤 r rs)) x) (sep 𝓤 (sep 𝓤 r d) (sep 𝓤 (sep 𝓤 ds rs) x))
   paired d ds r rs x =
-      qed W (((raw d ⊛ raw ds) ⊛ raw r ⊛ raw rs) ∷ raw x ∷ []) ∵ split ! $ split ! $ move ! (2 ∷ []) $ split ! $ move ! (0 ∷ 2 ∷ []) $ join ! $ move ! (2 ∷ 1 ∷ []) $ join ! $ move ! (0 ∷ 2 ∷ []) $ join ! $ move ! (1 ∷ []) $ done !
+      qed W (((raw d ⊛ raw ds) ⊛ raw r ⊛ raw rs) ∷ raw x ∷ []) ∵ split ! $ split ! $ move ! (2 ∷ []) $ split ! $ move ! (0 ∷ 2 ∷ []) $ join ! $ move
+      ! (2 ∷ 1 ∷ []) $ join ! $ move ! (0 ∷ 2 ∷ []) $ join ! $ move ! (1 ∷ []) $ done !
 
   to-room : (k : Kept) (e : Ty × ℕ) → ent 𝓤 (mean 𝓤 H A (cell k e)) (H .room (e .0) (e .1) zero)
   to-room bare e = id⊢ 𝓤 (H .room (e .0) (e .1) zero)

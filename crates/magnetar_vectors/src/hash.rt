@@ -10,8 +10,8 @@ use magnetar_field::words;
 use magnetar_hash::sha3;
 use magnetar_hash::transcript::Transcript;
 use magnetar_hash::transcript::{self};
-use magnetar_round::verify::Captured;
-use magnetar_round::verify::{self};
+use magnetar_sumcheck_verifier::verify::Captured;
+use magnetar_sumcheck_verifier::verify::{self};
 
 // The queries by name: its last eight letters, the last one lowest.
 const SHA3: u64 = 0x73686133;

@@ -14,10 +14,10 @@ use magnetar_field::gf128::Gf128;
 use magnetar_field::words;
 use magnetar_multilinear::eq::EqBits;
 use magnetar_multilinear::multilinear;
-use magnetar_round::verify::Round;
-use magnetar_round::verify::{self};
-use magnetar_sumcheck::engine::{self};
-use magnetar_sumcheck::public;
+use magnetar_sumcheck_prover::engine::{self};
+use magnetar_sumcheck_prover::public;
+use magnetar_sumcheck_verifier::verify::Round;
+use magnetar_sumcheck_verifier::verify::{self};
 
 // The queries by name: its last eight letters, the last one lowest.
 const OUTER: u64 = 0x6f75746572;

@@ -8,7 +8,8 @@ use Rattle.magnetar_forms.proofs.answer_all.Statement.{statement}
 use Rattle.magnetar_forms.proofs.answer_all.Tie as tie
 
 abbrev Inv-loop : tie.InvT-loop
-Inv-loop input nums₀ bytes₀ lens₀ x₀ y₀ from₀ nums bytes lens x y from = (length nums ≡ length nums₀) × (length bytes ≡ length bytes₀) × (length lens ≡ length lens₀) × (length x ≡ length x₀) × (length y ≡ length y₀) × (from ≤ length input)
+Inv-loop input nums₀ bytes₀ lens₀ x₀ y₀ from₀ nums bytes lens x y from = (length nums ≡ length nums₀) × (length bytes ≡ length bytes₀) × (length lens
+    ≡ length lens₀) × (length x ≡ length x₀) × (length y ≡ length y₀) × (from ≤ length input)
 
 abbrev μ-loop : tie.MeasureT-loop
 μ-loop input nums₀ bytes₀ lens₀ x₀ y₀ from₀ nums bytes lens x y from = length input - from

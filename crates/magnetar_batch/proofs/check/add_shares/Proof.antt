@@ -51,13 +51,23 @@ mul-add-share-of-3 : tie.Need-mul-add-share-of-3 Inv-loop μ-loop
 mul-add-share-of-3 c = search needs
 
 shared-slice-read-add-share-of-3 : tie.Need-shared-slice-read-add-share-of-3 Inv-loop μ-loop
-shared-slice-read-add-share-of-3 c = omega (arith, c .before .before .before .before .before .before .after .ensures, c .before .before .before .before .before .before .before .entries-held .ensures .3)
+shared-slice-read-add-share-of-3 c = omega (
+  arith,
+  c .before .before .before .before .before .before .after .ensures,
+  c .before .before .before
+      .before .before .before .before .entries-held .ensures .3,
+)
 
 mul-add-share-of-4 : tie.Need-mul-add-share-of-4 Inv-loop μ-loop
 mul-add-share-of-4 c = search needs
 
 shared-slice-read-add-share-of-4 : tie.Need-shared-slice-read-add-share-of-4 Inv-loop μ-loop
-shared-slice-read-add-share-of-4 c = omega (arith, c .before .before .before .before .before .before .before .after .ensures, c .before .before .before .before .before .before .before .before .entries-held .ensures .4)
+shared-slice-read-add-share-of-4 c = omega (
+  arith,
+  c .before .before .before .before .before .before .before .after .ensures,
+  c .before .before
+      .before .before .before .before .before .before .entries-held .ensures .4,
+)
 
 add-share-of-requires : tie.Need-add-share-of-requires Inv-loop μ-loop
 add-share-of-requires c κs = search needs

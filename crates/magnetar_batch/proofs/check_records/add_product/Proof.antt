@@ -15,7 +15,7 @@ use contract.Monad.{Fun, factI, fact-use}
 use contract.Running.{givenOf, tables, tablesOf}
 use denote.Triple.Spec.{tripleOf}
 use denote.Triple.Table.{entered, cited}
-use Rattle.magnetar_inplace.specs.declared.records.Entry.{Entry}
+use Rattle.magnetar_records.specs.declared.records.Entry.{Entry}
 use Rattle.magnetar_batch.proofs.EachMNNNNNNSSI as each
 use Rattle.magnetar_batch.proofs.check_records.share_within as g
 use Rattle.magnetar_batch.proofs.check_records.share_within.Symbol as g-def
@@ -33,7 +33,7 @@ use Rattle.magnetar_relation.specs.Steps.{loginZ}
 use Rattle.magnetar_batch.specs.CheckSteps.{shareAdded}
 use Rattle.magnetar_relation.specs.Told.{walkedWithin}
 use Rattle.magnetar_relation.proofs.ToldLaws.{within-more, within-end}
-use Rattle.magnetar_inplace.specs.Records.{entryOf, entriesOfRecords}
+use Rattle.magnetar_records.specs.Records.{entryOf, entriesOfRecords}
 
 -- what one entry does
 abbrev one : each.Arg → matrix.Entry → List ℕ → List ℕ

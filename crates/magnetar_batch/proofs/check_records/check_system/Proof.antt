@@ -28,8 +28,8 @@ use Rattle.magnetar_relation.specs.Steps.{loginZ}
 use Rattle.magnetar_batch.specs.declared.check.Failing.{Failing}
 use Rattle.magnetar_batch.specs.CheckSteps.{Judged, from, loginDone, systemDone}
 use Rattle.magnetar_batch.proofs.RowWalk.{system-start, system-more}
-use Rattle.magnetar_inplace.specs.Records.{entriesOfRecords}
-use Rattle.magnetar_inplace.specs.Ranges.{systemIn}
+use Rattle.magnetar_records.specs.Records.{entriesOfRecords}
+use Rattle.magnetar_records.specs.Ranges.{systemIn}
 
 -- the number of witness columns, the packed words, the public elements, the system, and the state at the start
 abbrev cols : count.Arg → ℕ
@@ -42,7 +42,8 @@ abbrev public : count.Arg → List ℕ
 public a = elements (a .1 .1 .1 .1 .1 .1 .1 .1 .1 .1 .1 .0 .now)
 
 abbrev system : count.Arg → System
-system a = systemIn (a .1 .1 .1 .1 .0) (a .1 .1 .1 .1 .1 .0) (a .1 .1 .1 .1 .1 .1 .0) (a .1 .1 .1 .1 .1 .1 .1 .0) (a .1 .1 .1 .1 .1 .1 .1 .1 .0) (entriesOfRecords (a .1 .1 .1 .1 .1 .1 .1 .1 .1 .1 .1 .1 .0 .now))
+system a = systemIn (a .1 .1 .1 .1 .0) (a .1 .1 .1 .1 .1 .0) (a .1 .1 .1 .1 .1 .1 .0) (a .1 .1 .1 .1 .1 .1 .1 .0) (a .1 .1 .1 .1 .1 .1 .1 .1 .0)
+    (entriesOfRecords (a .1 .1 .1 .1 .1 .1 .1 .1 .1 .1 .1 .1 .0 .now))
 
 abbrev start : count.Arg → Judged
 start a = from (a .0) (a .1 .1 .0 .now)

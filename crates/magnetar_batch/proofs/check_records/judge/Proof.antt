@@ -46,15 +46,15 @@ use denote.Triple.Walked.{says, needs, Stays, stay-ref, stay-none, stay-none-ref
 use denote.Triple.Clauses.{Lasts, lasts, atExit}
 use denote.Exit.{yes}
 use Rattle.magnetar_batch.proofs.CheckWalk.{judge-ends}
-use Rattle.magnetar_inplace.specs.Records.{entriesOfRecords}
+use Rattle.magnetar_records.specs.Records.{entriesOfRecords}
 use Rattle.magnetar_field.specs.Words.{elements}
-use Rattle.magnetar_inplace.proofs.WalkLaws.{records-length}
+use Rattle.magnetar_records.proofs.WalkLaws.{records-length}
 use Rattle.magnetar_relation.specs.declared.shapes.Shapes.{Shapes}
 use Rattle.magnetar_relation.proofs.shapes.Shapes as mShapes
 use Rattle.magnetar_relation.proofs.shapes.Shapes.Laws as lShapes
-use Rattle.magnetar_inplace.specs.declared.records.Entry.{Entry}
-use Rattle.magnetar_inplace.proofs.records.Entry as mEntry
-use Rattle.magnetar_inplace.proofs.records.Entry.Laws as lEntry
+use Rattle.magnetar_records.specs.declared.records.Entry.{Entry}
+use Rattle.magnetar_records.proofs.records.Entry as mEntry
+use Rattle.magnetar_records.proofs.records.Entry.Laws as lEntry
 use Rattle.magnetar_batch.specs.declared.check.Failing.{Failing}
 use Rattle.magnetar_batch.proofs.check.Failing as mFailing
 use Rattle.magnetar_batch.proofs.check.Failing.Laws as lFailing
@@ -64,15 +64,15 @@ use Rattle.magnetar_relation.proofs.shapes.SystemShape.Laws as lSystemShape
 use Rattle.magnetar_relation.specs.declared.shapes.Shape.{Shape}
 use Rattle.magnetar_relation.proofs.shapes.Shape as mShape
 use Rattle.magnetar_relation.proofs.shapes.Shape.Laws as lShape
-use Rattle.magnetar_inplace.specs.declared.ranges.Ends.{Ends}
-use Rattle.magnetar_inplace.proofs.ranges.Ends as mEnds
-use Rattle.magnetar_inplace.proofs.ranges.Ends.Laws as lEnds
+use Rattle.magnetar_records.specs.declared.ranges.Ends.{Ends}
+use Rattle.magnetar_records.proofs.ranges.Ends as mEnds
+use Rattle.magnetar_records.proofs.ranges.Ends.Laws as lEnds
 use Rattle.magnetar_transcript.proofs.Locals.{tidy, bare, kept, dies, alloc, hide, free-all}
 use Rattle.magnetar_transcript.proofs.Again.{LentAgain, lends-again, comes-back}
-use Rattle.magnetar_inplace.proofs.ranges.ends_of as g1
-use Rattle.magnetar_inplace.proofs.ranges.ends_of.Symbol as g1-def
-use Rattle.magnetar_inplace.proofs.ranges.ends_of.Symbol.{name as #g1}
-use Rattle.magnetar_inplace.proofs.ranges.ends_of.Met as g1-thm
+use Rattle.magnetar_records.proofs.ranges.ends_of as g1
+use Rattle.magnetar_records.proofs.ranges.ends_of.Symbol as g1-def
+use Rattle.magnetar_records.proofs.ranges.ends_of.Symbol.{name as #g1}
+use Rattle.magnetar_records.proofs.ranges.ends_of.Met as g1-thm
 use Rattle.magnetar_batch.proofs.check.logins_unless as g2
 use Rattle.magnetar_batch.proofs.check.logins_unless.Symbol as g2-def
 use Rattle.magnetar_batch.proofs.check.logins_unless.Symbol.{name as #g2}
@@ -107,7 +107,33 @@ is-no true a = absurd a
 is-no false _ = refl
 
 abbrev stayed : Stays (f.ended .signature .params) (f.ended .kept)
-stayed = (stay-none (λ _. u32) yes, (stay-slice (0 ∷ []) tt (plain (λ _. u64)), (stay-none (λ _. u64) yes, (stay-none (λ _. u64) yes, (stay-none (λ _. mShapes.the-row) yes, (stay-none-slice (1 ∷ []) tt (plain (λ _. mEntry.the-row)) yes, (stay-none (λ _. u64) yes, (stay-none-slice (2 ∷ []) tt (plain (λ _. u64)) yes, (stay-none-slice (3 ∷ []) tt (plain (λ _. u64)) yes, tt)))))))))
+stayed = (
+  stay-none (λ _. u32) yes,
+  (
+    stay-slice (0 ∷ []) tt (plain (λ _. u64)),
+    (
+      stay-none (λ _. u64) yes,
+      (
+        stay-none (λ _. u64) yes,
+        (
+          stay-none (λ
+              _. mShapes.the-row) yes,
+          (
+            stay-none-slice (1 ∷ []) tt (plain (λ _. mEntry.the-row)) yes,
+            (
+              stay-none (λ _. u64) yes,
+              (
+                stay-none-slice (2 ∷ []) tt
+                    (plain (λ _. u64)) yes,
+                (stay-none-slice (3 ∷ []) tt (plain (λ _. u64)) yes, tt),
+              ),
+            ),
+          ),
+        ),
+      ),
+    ),
+  ),
+)
 
 abbrev Callee-g1 : {M : Type 1} (𝓤 : URA M) (H : Heap 𝓤) (A : Atoms 𝓤) (mem : Memory → SProp 𝓤) (run : Routine → Fun 𝓤) → Contract 𝓤
 Callee-g1 𝓤 H A mem run = tripleOf 𝓤 H A g1.signature (g1.spec 𝓤 H A mem run)
@@ -124,7 +150,9 @@ Callee-g4 𝓤 H A mem run = tripleOf 𝓤 H A g4.signature (g4.spec 𝓤 H A me
 abbrev Callee-g5 : {M : Type 1} (𝓤 : URA M) (H : Heap 𝓤) (A : Atoms 𝓤) (mem : Memory → SProp 𝓤) (run : Routine → Fun 𝓤) → Contract 𝓤
 Callee-g5 𝓤 H A mem run = tripleOf 𝓤 H A g5.signature (g5.spec 𝓤 H A mem run)
 
-module _ {M : Type 1} (𝓤 : URA M) (H : Heap 𝓤) (A : Atoms 𝓤) (W : Given 𝓤 H A) (at-mem : Memory → SProp 𝓤) (run : Routine → Fun 𝓤) (κ₀ κ₁ κ₂ κ₃ : Lft) (q₀ q₁ q₂ q₃ : Share) (n1 : ℕ) (u1 : Val) (b2 o2 : ℕ) (γ2 : GName) (ys2 : List ℕ) (n3 : ℕ) (u3 : Val) (n4 : ℕ) (u4 : Val) (n5 : Shapes) (u5 : Val) (s6 : RefT (List Entry)) (n7 : ℕ) (u7 : Val) (s8 : RefT (List ℕ)) (s9 : RefT (List ℕ)) where
+module _ {M : Type 1} (𝓤 : URA M) (H : Heap 𝓤) (A : Atoms 𝓤) (W : Given 𝓤 H A) (at-mem : Memory → SProp 𝓤) (run : Routine → Fun 𝓤) (κ₀ κ₁ κ₂ κ₃ :
+    Lft) (q₀ q₁ q₂ q₃ : Share) (n1 : ℕ) (u1 : Val) (b2 o2 : ℕ) (γ2 : GName) (ys2 : List ℕ) (n3 : ℕ) (u3 : Val) (n4 : ℕ) (u4 : Val) (n5 : Shapes) (u5
+    : Val) (s6 : RefT (List Entry)) (n7 : ℕ) (u7 : Val) (s8 : RefT (List ℕ)) (s9 : RefT (List ℕ)) where
   abbrev v1 : Val
   v1 = u1
 
@@ -140,9 +168,11 @@ module _ {M : Type 1} (𝓤 : URA M) (H : Heap 𝓤) (A : Atoms 𝓤) (W : Given
   abbrev Lent2 : ℕ → GName → List ℕ → Fml
   Lent2 ν δ l = LentAgain u64 κ₀ (ν ∷ []) q₀ γ2 b2 o2 δ l
 
-  lends2 : (ℓ : Lifetime) (ν : ℕ) (l : List ℕ) → length l ≡ length ys2 → ent 𝓤 (⋆ 𝓤 H A (‵ (O2 l) ∷ ‵ (flft κ₀ q₀) ∷ [])) (⋆ 𝓤 H A (later (some (λ (δ : GName). ‵ (MutSlice ℓ (ν ∷ []) u64 .own (ref2 δ l) (v2 ∷ [])) ⊛ ‵ (Lent2 ν δ l))) ∷ []))
+  lends2 : (ℓ : Lifetime) (ν : ℕ) (l : List ℕ) → length l ≡ length ys2 → ent 𝓤 (⋆ 𝓤 H A (‵ (O2 l) ∷ ‵ (flft κ₀ q₀) ∷ [])) (⋆ 𝓤 H A (later (some (λ (δ
+      : GName). ‵ (MutSlice ℓ (ν ∷ []) u64 .own (ref2 δ l) (v2 ∷ [])) ⊛ ‵ (Lent2 ν δ l))) ∷ []))
   lends2 ℓ ν l e = subst (λ (t : ℕ). ent 𝓤 (⋆ 𝓤 H A (‵ (MutSlice (named 0) κ₀ u64 .own (ref2 γ2 l) (sliceVal (b2, o2) t ∷ [])) ∷ ‵ (flft κ₀ q₀) ∷ []))
-      (⋆ 𝓤 H A (later (some (λ (δ : GName). ‵ (MutSlice ℓ (ν ∷ []) u64 .own (ref2 δ l) (sliceVal (b2, o2) t ∷ [])) ⊛ ‵ (Lent2 ν δ l))) ∷ []))) e (lends-again u64 κ₀ (ν ∷ []) q₀ γ2 b2 o2 𝓤 H A W (named 0) ℓ l)
+      (⋆ 𝓤 H A (later (some (λ (δ : GName). ‵ (MutSlice ℓ (ν ∷ []) u64 .own (ref2 δ l) (sliceVal (b2, o2) t ∷ [])) ⊛ ‵ (Lent2 ν δ l))) ∷ []))) e
+      (lends-again u64 κ₀ (ν ∷ []) q₀ γ2 b2 o2 𝓤 H A W (named 0) ℓ l)
 
   backs2 : (ℓ : Lifetime) (ν : ℕ) (δ : GName) (l l′ : List ℕ) → length l ≡ length ys2 → Room u64 (length ys2) → length l′ ≡ length l
       → ent 𝓤 (⋆ 𝓤 H A (‵ (fdead (ν ∷ [])) ∷ ‵ (Lent2 ν δ l) ∷ ‵ (finally u64 δ l′) ∷ [])) (⋆ 𝓤 H A (later (‵ (O2 l′) ⊛ ‵ (flft κ₀ q₀)) ∷ []))
@@ -192,85 +222,999 @@ module _ {M : Type 1} (𝓤 : URA M) (H : Heap 𝓤) (A : Atoms 𝓤) (W : Given
   abbrev Post : Val → SProp 𝓤
   Post = walkOf 𝓤 H A f.ended stayed (f.clauses 𝓤 H A at-mem run) .post (((κ₀, (κ₁, (κ₂, (κ₃, tt)))), (q₀, (q₁, (q₂, (q₃, tt)))), tt, a, at), tt)
 
-  module _ (C : Calls 𝓤 H) (Λ : Loops 𝓤 H) (fm : FmC 𝓤 H (W .laws) C) (known-g1 : Triple 𝓤 (C #g1) (Callee-g1 𝓤 H A at-mem run)) (known-g2 : Triple 𝓤 (C #g2) (Callee-g2 𝓤 H A at-mem run)) (known-g3 : Triple 𝓤 (C #g3) (Callee-g3 𝓤 H A at-mem run)) (known-g4 : Triple 𝓤 (C #g4) (Callee-g4 𝓤 H A at-mem run)) (known-g5 : Triple 𝓤 (C #g5) (Callee-g5 𝓤 H A at-mem run)) (w1 : Is u32 n1 (u1 ∷ [])) (room2 : Room u64 (length ys2)) (w3 : Is u64 n3 (u3 ∷ [])) (w4 : Is u64 n4 (u4 ∷ [])) (w5 : Is mShapes.the-row n5 (u5 ∷ [])) (w6 : Is (ShrSlice (named 1) κ₁ mEntry.the-row) s6 (v6 ∷ [])) (w7 : Is u64 n7 (u7 ∷ [])) (w8′ : Is (ShrSlice (named 2) κ₂ u64) s8 (v8 ∷ [])) (w9 : Is (ShrSlice (named 3) κ₃ u64) s9 (v9 ∷ [])) where
+  module _ (C : Calls 𝓤 H) (Λ : Loops 𝓤 H) (fm : FmC 𝓤 H (W .laws) C) (known-g1 : Triple 𝓤 (C #g1) (Callee-g1 𝓤 H A at-mem run)) (known-g2 : Triple 𝓤
+      (C #g2) (Callee-g2 𝓤 H A at-mem run)) (known-g3 : Triple 𝓤 (C #g3) (Callee-g3 𝓤 H A at-mem run)) (known-g4 : Triple 𝓤 (C #g4) (Callee-g4 𝓤 H A
+      at-mem run)) (known-g5 : Triple 𝓤 (C #g5) (Callee-g5 𝓤 H A at-mem run)) (w1 : Is u32 n1 (u1 ∷ [])) (room2 : Room u64 (length ys2)) (w3 : Is u64
+      n3 (u3 ∷ [])) (w4 : Is u64 n4 (u4 ∷ [])) (w5 : Is mShapes.the-row n5 (u5 ∷ [])) (w6 : Is (ShrSlice (named 1) κ₁ mEntry.the-row) s6 (v6 ∷ []))
+      (w7 : Is u64 n7 (u7 ∷ [])) (w8′ : Is (ShrSlice (named 2) κ₂ u64) s8 (v8 ∷ [])) (w9 : Is (ShrSlice (named 3) κ₃ u64) s9 (v9 ∷ [])) where
     walk : ent 𝓤 (onEntry 𝓤 H A f.signature (κ₀, (κ₁, (κ₂, (κ₃, tt)))) (q₀, (q₁, (q₂, (q₃, tt)))) a at) (WpFn 𝓤 H C Λ code.function (v1 ∷ v2 ∷ v3 ∷ v4 ∷ v5 ∷ v6 ∷ v7 ∷ v8 ∷ v9 ∷ []) Post)
     walk =
-        qed W ((‵ (flft κ₀ q₀) ⊛ ‵ (flft κ₁ q₁) ⊛ ‵ (flft κ₂ q₂) ⊛ ‵ (flft κ₃ q₃) ⊛ ‵ ftrue) ∷ ‵ (owns (u32 ∷ MutSlice (named 0) κ₀ u64 ∷ u64 ∷ u64 ∷ mShapes.the-row ∷ ShrSlice (named 1) κ₁ mEntry.the-row ∷ u64 ∷ ShrSlice (named 2) κ₂ u64 ∷ ShrSlice (named 3) κ₃ u64 ∷ []) a at) ∷ []) ∵ enter ! C Λ code.function (v1 ∷ v2 ∷ v3 ∷ v4 ∷ v5 ∷ v6 ∷ v7 ∷ v8 ∷ v9 ∷ []) _ $
-        nothing ! $ alloc ! (λ l₀. alloc ! (λ l₁. alloc ! (λ l₂. alloc ! (λ l₃. alloc ! (λ l₄. alloc ! (λ l₅. alloc ! (λ l₆. alloc ! (λ l₇. alloc ! (λ l₈. alloc ! (λ l₉. alloc ! (λ l₁₀. alloc ! (λ l₁₁. alloc ! (λ l₁₂. alloc ! (λ l₁₃. alloc ! (λ l₁₄. alloc ! (λ l₁₅. alloc ! (λ l₁₆. alloc ! (λ l₁₇. alloc ! (λ l₁₈. alloc ! (λ l₁₉. alloc ! (λ l₂₀. alloc ! (λ l₂₁. alloc ! (λ l₂₂. alloc ! (λ l₂₃. alloc ! (λ l₂₄. alloc ! (λ l₂₅. alloc ! (λ l₂₆. alloc ! (λ l₂₇. alloc ! (λ l₂₈. alloc ! (λ l₂₉. alloc ! (λ l₃₀. alloc ! (λ l₃₁. alloc ! (λ l₃₂. alloc ! (λ l₃₃. alloc ! (λ l₃₄. alloc ! (λ l₃₅. alloc ! (λ l₃₆. alloc ! (λ l₃₇. alloc0 ! $ hide ! (λ died die. params1 ! $ pass1 ! (init ! 37 refl (uint-lawful 𝓤 H A W w32 .typed n1 _ w1 .0)) $ pass1 ! (init ! 36 refl (tt, (tt, (record { fits = room2 .0 }, tt)))) $ pass1 ! (init ! 35 refl (uint-lawful 𝓤 H A W w64 .typed n3 _ w3 .0)) $ pass1 ! (init ! 34 refl (uint-lawful 𝓤 H A W w64 .typed n4 _ w4 .0)) $ pass1 ! (init ! 33 refl (LL.lawful mShapes.the-type lShapes.the-laws 𝓤 H A W .typed n5 _ w5 .0)) $ pass1 ! (init ! 32 refl (shr-slice-lawful 𝓤 H A W (named 1) κ₁ mEntry.the-row .typed s6 (v6 ∷ []) w6 .0)) $ pass1 ! (init ! 31 refl (uint-lawful 𝓤 H A W w64 .typed n7 _ w7 .0)) $ pass1 ! (init ! 30 refl (shr-slice-lawful 𝓤 H A W (named 2) κ₂ u64 .typed s8 (v8 ∷ []) w8′ .0)) $ pass1 ! (init ! 29 refl (shr-slice-lawful 𝓤 H A W (named 3) κ₃ u64 .typed s9 (v9 ∷ []) w9 .0)) $ pass0 ! $
-        move ! (40 ∷ []) $ fsplit ! $ move ! (1 ∷ []) $ fsplit ! $ move ! (1 ∷ []) $ fsplit ! $ move ! (1 ∷ []) $ fsplit ! $ move ! (1 ∷ []) $ fsplit ! $ move ! (1 ∷ []) $ fsplit ! $ move ! (1 ∷ []) $ fsplit ! $ move ! (1 ∷ []) $ fsplit ! $ move ! (1 ∷ []) $ fsplit ! $ move ! (1 ∷ []) $ drop ! $ move ! (48 ∷ []) $ split ! $ move ! (1 ∷ []) $ split ! $ move ! (1 ∷ []) $ split ! $ move ! (1 ∷ []) $ split ! $ move ! (1 ∷ []) $ drop ! $ tidy W (_ ∷ _ ∷ _ ∷ _ ∷ _ ∷ _ ∷ _ ∷ _ ∷ _ ∷ _ ∷ _ ∷ _ ∷ _ ∷ _ ∷ _ ∷ _ ∷ _ ∷ _ ∷ _ ∷ _ ∷ _ ∷ _ ∷ _ ∷ _ ∷ _ ∷ _ ∷ _ ∷ _ ∷ _ ∷ _ ∷ _ ∷ _ ∷ _ ∷ _ ∷ _ ∷ _ ∷ _ ∷ _ ∷ _ ∷ _ ∷ _ ∷ _ ∷ _ ∷ _ ∷ _ ∷ _ ∷ _ ∷ _ ∷ _ ∷ _ ∷ _ ∷ _ ∷ []) $
+        qed W ((‵ (flft κ₀ q₀) ⊛ ‵ (flft κ₁ q₁) ⊛ ‵ (flft κ₂ q₂) ⊛ ‵ (flft κ₃ q₃) ⊛ ‵ ftrue) ∷ ‵ (owns (u32 ∷ MutSlice (named 0) κ₀ u64 ∷ u64 ∷ u64 ∷
+        mShapes.the-row ∷ ShrSlice (named 1) κ₁ mEntry.the-row ∷ u64 ∷ ShrSlice (named 2) κ₂ u64 ∷ ShrSlice (named 3) κ₃ u64 ∷ []) a at) ∷ []) ∵
+        enter ! C Λ code.function (v1 ∷ v2 ∷ v3 ∷ v4 ∷ v5 ∷ v6 ∷ v7 ∷ v8 ∷ v9 ∷ []) _ $
+        nothing ! $ alloc ! (λ l₀. alloc ! (λ l₁. alloc ! (λ l₂. alloc ! (λ l₃. alloc ! (λ l₄. alloc ! (λ l₅. alloc ! (λ l₆. alloc ! (λ l₇. alloc !
+        (λ l₈. alloc ! (λ l₉. alloc ! (λ l₁₀. alloc ! (λ l₁₁. alloc ! (λ l₁₂. alloc ! (λ l₁₃. alloc ! (λ l₁₄. alloc ! (λ l₁₅. alloc ! (λ l₁₆.
+        alloc ! (λ l₁₇. alloc ! (λ l₁₈. alloc ! (λ l₁₉. alloc ! (λ l₂₀. alloc ! (λ l₂₁. alloc ! (λ l₂₂. alloc ! (λ l₂₃. alloc ! (λ l₂₄. alloc !
+        (λ l₂₅. alloc ! (λ l₂₆. alloc ! (λ l₂₇. alloc ! (λ l₂₈. alloc ! (λ l₂₉. alloc ! (λ l₃₀. alloc ! (λ l₃₁. alloc ! (λ l₃₂. alloc ! (λ l₃₃.
+        alloc ! (λ l₃₄. alloc ! (λ l₃₅. alloc ! (λ l₃₆. alloc ! (λ l₃₇. alloc0 ! $ hide ! (λ died die. params1 ! $ pass1 ! (init ! 37 refl
+        (uint-lawful 𝓤 H A W w32 .typed n1 _ w1 .0)) $ pass1 ! (init ! 36 refl (tt, (tt, (record { fits = room2 .0 }, tt)))) $ pass1 ! (init ! 35
+        refl (uint-lawful 𝓤 H A W w64 .typed n3 _ w3 .0)) $ pass1 ! (init ! 34 refl (uint-lawful 𝓤 H A W w64 .typed n4 _ w4 .0)) $ pass1 ! (init
+        ! 33 refl (LL.lawful mShapes.the-type lShapes.the-laws 𝓤 H A W .typed n5 _ w5 .0)) $ pass1 ! (init ! 32 refl (shr-slice-lawful 𝓤 H A W
+        (named 1) κ₁ mEntry.the-row .typed s6 (v6 ∷ []) w6 .0)) $ pass1 ! (init ! 31 refl (uint-lawful 𝓤 H A W w64 .typed n7 _ w7 .0)) $ pass1 !
+        (init ! 30 refl (shr-slice-lawful 𝓤 H A W (named 2) κ₂ u64 .typed s8 (v8 ∷ []) w8′ .0)) $ pass1 ! (init ! 29 refl (shr-slice-lawful 𝓤 H A
+        W (named 3) κ₃ u64 .typed s9 (v9 ∷ []) w9 .0)) $ pass0 ! $
+        move ! (40 ∷ []) $ fsplit ! $ move ! (1 ∷ []) $ fsplit ! $ move ! (1 ∷ []) $ fsplit ! $ move ! (1 ∷ []) $ fsplit ! $ move ! (1 ∷ []) $ fsplit
+        ! $ move ! (1 ∷ []) $ fsplit ! $ move ! (1 ∷ []) $ fsplit ! $ move ! (1 ∷ []) $ fsplit ! $ move ! (1 ∷ []) $ fsplit ! $ move ! (1 ∷ []) $
+        drop ! $ move ! (48 ∷ []) $ split ! $ move ! (1 ∷ []) $ split ! $ move ! (1 ∷ []) $ split ! $ move ! (1 ∷ []) $ split ! $ move ! (1 ∷ [])
+        $ drop ! $ tidy W (_ ∷ _ ∷ _ ∷ _ ∷ _ ∷ _ ∷ _ ∷ _ ∷ _ ∷ _ ∷ _ ∷ _ ∷ _ ∷ _ ∷ _ ∷ _ ∷ _ ∷ _ ∷ _ ∷ _ ∷ _ ∷ _ ∷ _ ∷ _ ∷ _ ∷ _ ∷ _ ∷ _ ∷ _ ∷ _
+        ∷ _ ∷ _ ∷ _ ∷ _ ∷ _ ∷ _ ∷ _ ∷ _ ∷ _ ∷ _ ∷ _ ∷ _ ∷ _ ∷ _ ∷ _ ∷ _ ∷ _ ∷ _ ∷ _ ∷ _ ∷ _ ∷ _ ∷ []) $
         assigns ! (of-opd ! (lit ! tt)) (from ! (stop !)) (init ! 41 refl (tt, record { fits = lit< tt })) $
         assigns ! (of-opd ! (lit ! tt)) (from ! (stop !)) (init ! 40 refl (tt, record { fits = lit< tt })) $
         assigns ! (of-opd ! (lit ! tt)) (from ! (stop !)) (init ! 39 refl (tt, record { fits = lit< tt })) $
-        rewrite ! 46 (λ (w : Val). ‵ (fat fullShare (lShapes.mir) l₅ 0 w)) (ap only ((LL.tells mShapes.the-type lShapes.the-laws) n5 _ w5)) refl $ assigns ! (of-opd ! (load ! (from ! (fld ! refl (stop !))) (look-in ! 46 (sub ! 0 refl (whole !))))) (from ! (stop !)) (init ! 38 refl (LL.lawful mSystemShape.the-type lSystemShape.the-laws 𝓤 H A W .typed (n5 .bin) _ (LL.owed mShapes.the-type lShapes.the-laws n5 _ (subst (Is mShapes.the-row n5) ((LL.tells mShapes.the-type lShapes.the-laws) n5 _ w5) w5) .0) .0)) $
-        assigns ! (of-opd ! (load ! (from ! (fld ! refl (stop !))) (look-in ! 46 (sub ! 1 refl (whole !))))) (from ! (stop !)) (init ! 37 refl (LL.lawful mSystemShape.the-type lSystemShape.the-laws 𝓤 H A W .typed (n5 .fld) _ (LL.owed mShapes.the-type lShapes.the-laws n5 _ (subst (Is mShapes.the-row n5) ((LL.tells mShapes.the-type lShapes.the-laws) n5 _ w5) w5) .1 .0) .0)) $
-        assigns ! (of-opd ! (load ! (from ! (fld ! refl (stop !))) (look-in ! 38 (sub ! 0 refl (whole !))))) (from ! (stop !)) (init ! 36 refl (LL.lawful mShape.the-type lShape.the-laws 𝓤 H A W .typed ((n5 .bin) .a) _ (LL.owed mSystemShape.the-type lSystemShape.the-laws (n5 .bin) _ (LL.owed mShapes.the-type lShapes.the-laws n5 _ (subst (Is mShapes.the-row n5) ((LL.tells mShapes.the-type lShapes.the-laws) n5 _ w5) w5) .0) .0) .0)) $
-        assigns ! (of-opd ! (load ! (from ! (fld ! refl (stop !))) (look-in ! 37 (sub ! 0 refl (whole !))))) (from ! (stop !)) (init ! 35 refl (LL.lawful mShape.the-type lShape.the-laws 𝓤 H A W .typed ((n5 .fld) .a) _ (LL.owed mSystemShape.the-type lSystemShape.the-laws (n5 .fld) _ (LL.owed mShapes.the-type lShapes.the-laws n5 _ (subst (Is mShapes.the-row n5) ((LL.tells mShapes.the-type lShapes.the-laws) n5 _ w5) w5) .1 .0) .0) .0)) $
-        assigns ! (of-opd ! (load ! (from ! (fld ! refl (stop !))) (look-in ! 36 (sub ! 0 refl (whole !))))) (from ! (stop !)) (init ! 34 refl (uint-lawful 𝓤 H A W w64 .typed (mShape.the-type .to ((n5 .bin) .a) .0) _ (LL.owed mShape.the-type lShape.the-laws ((n5 .bin) .a) _ (LL.owed mSystemShape.the-type lSystemShape.the-laws (n5 .bin) _ (LL.owed mShapes.the-type lShapes.the-laws n5 _ (subst (Is mShapes.the-row n5) ((LL.tells mShapes.the-type lShapes.the-laws) n5 _ w5) w5) .0) .0) .0) .0)) $
-        assigns ! (of-opd ! (load ! (from ! (fld ! refl (stop !))) (look-in ! 35 (sub ! 0 refl (whole !))))) (from ! (stop !)) (init ! 33 refl (uint-lawful 𝓤 H A W w64 .typed (mShape.the-type .to ((n5 .fld) .a) .0) _ (LL.owed mShape.the-type lShape.the-laws ((n5 .fld) .a) _ (LL.owed mSystemShape.the-type lSystemShape.the-laws (n5 .fld) _ (LL.owed mShapes.the-type lShapes.the-laws n5 _ (subst (Is mShapes.the-row n5) ((LL.tells mShapes.the-type lShapes.the-laws) n5 _ w5) w5) .1 .0) .0) .0) .0)) $
+        rewrite ! 46 (λ (w : Val). ‵ (fat fullShare (lShapes.mir) l₅ 0 w)) (ap only ((LL.tells mShapes.the-type lShapes.the-laws) n5 _ w5)) refl $
+        assigns ! (of-opd ! (load ! (from ! (fld ! refl (stop !))) (look-in ! 46 (sub ! 0 refl (whole !))))) (from ! (stop !)) (init ! 38 refl
+        (LL.lawful mSystemShape.the-type lSystemShape.the-laws 𝓤 H A W .typed (n5 .bin) _ (LL.owed mShapes.the-type lShapes.the-laws n5 _ (subst
+        (Is mShapes.the-row n5) ((LL.tells mShapes.the-type lShapes.the-laws) n5 _ w5) w5) .0) .0)) $
+        assigns ! (of-opd ! (load ! (from ! (fld ! refl (stop !))) (look-in ! 46 (sub ! 1 refl (whole !))))) (from ! (stop !)) (init ! 37 refl
+        (LL.lawful mSystemShape.the-type lSystemShape.the-laws 𝓤 H A W .typed (n5 .fld) _ (LL.owed mShapes.the-type lShapes.the-laws n5 _ (subst
+        (Is mShapes.the-row n5) ((LL.tells mShapes.the-type lShapes.the-laws) n5 _ w5) w5) .1 .0) .0)) $
+        assigns ! (of-opd ! (load ! (from ! (fld ! refl (stop !))) (look-in ! 38 (sub ! 0 refl (whole !))))) (from ! (stop !)) (init ! 36 refl
+        (LL.lawful mShape.the-type lShape.the-laws 𝓤 H A W .typed ((n5 .bin) .a) _ (LL.owed mSystemShape.the-type lSystemShape.the-laws (n5 .bin)
+        _ (LL.owed mShapes.the-type lShapes.the-laws n5 _ (subst (Is mShapes.the-row n5) ((LL.tells mShapes.the-type lShapes.the-laws) n5 _ w5)
+        w5) .0) .0) .0)) $
+        assigns ! (of-opd ! (load ! (from ! (fld ! refl (stop !))) (look-in ! 37 (sub ! 0 refl (whole !))))) (from ! (stop !)) (init ! 35 refl
+        (LL.lawful mShape.the-type lShape.the-laws 𝓤 H A W .typed ((n5 .fld) .a) _ (LL.owed mSystemShape.the-type lSystemShape.the-laws (n5 .fld)
+        _ (LL.owed mShapes.the-type lShapes.the-laws n5 _ (subst (Is mShapes.the-row n5) ((LL.tells mShapes.the-type lShapes.the-laws) n5 _ w5)
+        w5) .1 .0) .0) .0)) $
+        assigns ! (of-opd ! (load ! (from ! (fld ! refl (stop !))) (look-in ! 36 (sub ! 0 refl (whole !))))) (from ! (stop !)) (init ! 34 refl
+        (uint-lawful 𝓤 H A W w64 .typed (mShape.the-type .to ((n5 .bin) .a) .0) _ (LL.owed mShape.the-type lShape.the-laws ((n5 .bin) .a) _
+        (LL.owed mSystemShape.the-type lSystemShape.the-laws (n5 .bin) _ (LL.owed mShapes.the-type lShapes.the-laws n5 _ (subst (Is
+        mShapes.the-row n5) ((LL.tells mShapes.the-type lShapes.the-laws) n5 _ w5) w5) .0) .0) .0) .0)) $
+        assigns ! (of-opd ! (load ! (from ! (fld ! refl (stop !))) (look-in ! 35 (sub ! 0 refl (whole !))))) (from ! (stop !)) (init ! 33 refl
+        (uint-lawful 𝓤 H A W w64 .typed (mShape.the-type .to ((n5 .fld) .a) .0) _ (LL.owed mShape.the-type lShape.the-laws ((n5 .fld) .a) _
+        (LL.owed mSystemShape.the-type lSystemShape.the-laws (n5 .fld) _ (LL.owed mShapes.the-type lShapes.the-laws n5 _ (subst (Is
+        mShapes.the-row n5) ((LL.tells mShapes.the-type lShapes.the-laws) n5 _ w5) w5) .1 .0) .0) .0) .0)) $
         assigns ! (of-opd ! (load ! (from ! (fld ! refl (stop !))) (look-in ! 45 (sub ! 1 refl (whole !))))) (from ! (stop !)) (init ! 21 refl (tt, record { fits = (w6 .0 .1 .0) })) $
-        tidy W (_ ∷ _ ∷ _ ∷ _ ∷ _ ∷ _ ∷ _ ∷ _ ∷ _ ∷ _ ∷ _ ∷ _ ∷ _ ∷ _ ∷ _ ∷ _ ∷ _ ∷ _ ∷ _ ∷ _ ∷ _ ∷ _ ∷ _ ∷ _ ∷ _ ∷ _ ∷ _ ∷ _ ∷ _ ∷ _ ∷ _ ∷ _ ∷ _ ∷ _ ∷ _ ∷ _ ∷ _ ∷ _ ∷ _ ∷ _ ∷ _ ∷ _ ∷ _ ∷ _ ∷ _ ∷ _ ∷ _ ∷ _ ∷ _ ∷ _ ∷ _ ∷ _ ∷ []) $ nothing ! $
+        tidy W (_ ∷ _ ∷ _ ∷ _ ∷ _ ∷ _ ∷ _ ∷ _ ∷ _ ∷ _ ∷ _ ∷ _ ∷ _ ∷ _ ∷ _ ∷ _ ∷ _ ∷ _ ∷ _ ∷ _ ∷ _ ∷ _ ∷ _ ∷ _ ∷ _ ∷ _ ∷ _ ∷ _ ∷ _ ∷ _ ∷ _ ∷ _ ∷ _ ∷ _
+        ∷ _ ∷ _ ∷ _ ∷ _ ∷ _ ∷ _ ∷ _ ∷ _ ∷ _ ∷ _ ∷ _ ∷ _ ∷ _ ∷ _ ∷ _ ∷ _ ∷ _ ∷ _ ∷ []) $ nothing ! $
         -- call 1
-        use1 W (raw (Callee-g1 𝓤 H A at-mem run .pre ((tt, tt, tt, (n5, ((length (s6 .now)), tt)), ((LL.val mShapes.the-type lShapes.the-laws n5) ∷ [], ((vint w64 (length (s6 .now))) ∷ [], tt))), tt))) (qed W ((‵ ftrue) ∷ []) ∵ nothing ! $ owned ! u64 (Is u64) (uint-makes 𝓤 H A W w64) ((length (s6 .now))) _ (refl, (w6 .0 .1 .0)) $ fjoin ! $ owned ! mShapes.the-row (Is mShapes.the-row) (LL.makes mShapes.the-type lShapes.the-plain 𝓤 H A) (n5) _ (subst (Is mShapes.the-row n5) ((LL.tells mShapes.the-type lShapes.the-laws) n5 _ w5) w5) $ fjoin ! $ move ! (1 ∷ 0 ∷ []) $ join ! $ nothing ! $ move ! (1 ∷ 0 ∷ []) $ frame ! $ done !) $
-        calls-at ! fm (Callee-g1 𝓤 H A at-mem run) known-g1 ((tt, tt, tt, (n5, ((length (s6 .now)), tt)), ((LL.val mShapes.the-type lShapes.the-laws n5) ∷ [], ((vint w64 (length (s6 .now))) ∷ [], tt))), tt) (and-then ! (load ! (from ! (stop !)) (look ! 47 refl)) (and-then ! (load ! (from ! (stop !)) (look ! 22 refl)) (no-more !))) (λ z1.
-        use1 W (later (some (λ (r1 : Ends). ((‵ ftrue) ⊛ ‵ (mEnds.the-row .own r1 (z1 ∷ []))) ⊛ some (λ (ws : Lasts g1.ended tt (n5, ((length (s6 .now)), tt))). ‵ (lasts g1.ended tt (n5, ((length (s6 .now)), tt)) ws) ⊛ raw (g1.clauses 𝓤 H A at-mem run tt (n5, ((length (s6 .now)), tt)) .ensures tt r1 (atExit g1.ended tt (n5, ((length (s6 .now)), tt)) ws)))))) (id⊢ 𝓤 _) $ await ! tt $ pick ! (λ r1. split ! $ move ! (1 ∷ []) $ pick ! (λ ws1. split ! $ move ! (1 ∷ []) $ heard ! _ (λ e1.
-        drop ! $ split ! $ move ! (1 ∷ []) $ peeks ! mEnds.the-row (Is mEnds.the-row) (shows 𝓤 H A mEnds.the-row) r1 (z1 ∷ []) (λ i1. drop ! $ land ! (from ! (stop !)) (init ! 33 refl (LL.lawful mEnds.the-type lEnds.the-laws 𝓤 H A W .typed r1 _ i1 .0)) $
-        tidy W (_ ∷ _ ∷ _ ∷ _ ∷ _ ∷ _ ∷ _ ∷ _ ∷ _ ∷ _ ∷ _ ∷ _ ∷ _ ∷ _ ∷ _ ∷ _ ∷ _ ∷ _ ∷ _ ∷ _ ∷ _ ∷ _ ∷ _ ∷ _ ∷ _ ∷ _ ∷ _ ∷ _ ∷ _ ∷ _ ∷ _ ∷ _ ∷ _ ∷ _ ∷ _ ∷ _ ∷ _ ∷ _ ∷ _ ∷ _ ∷ _ ∷ _ ∷ _ ∷ _ ∷ _ ∷ _ ∷ _ ∷ _ ∷ _ ∷ _ ∷ _ ∷ _ ∷ _ ∷ []) $ drop ! $ rewrite ! 32 (λ (w : Val). ‵ (fat fullShare (lEnds.mir) l₁₉ 0 w)) (ap only ((LL.tells mEnds.the-type lEnds.the-laws) r1 _ i1)) refl $ assigns ! (of-opd ! (load ! (from ! (fld ! refl (stop !))) (look-in ! 32 (sub ! 0 refl (whole !))))) (from ! (stop !)) (init ! 31 refl (uint-lawful 𝓤 H A W w64 .typed (mEnds.the-type .to r1 .0) _ (LL.owed mEnds.the-type lEnds.the-laws r1 _ (subst (Is mEnds.the-row r1) ((LL.tells mEnds.the-type lEnds.the-laws) r1 _ i1) i1) .0) .0)) $
-        assigns ! (of-opd ! (load ! (from ! (fld ! refl (stop !))) (look-in ! 32 (sub ! 1 refl (whole !))))) (from ! (stop !)) (init ! 30 refl (uint-lawful 𝓤 H A W w64 .typed (mEnds.the-type .to r1 .1 .0) _ (LL.owed mEnds.the-type lEnds.the-laws r1 _ (subst (Is mEnds.the-row r1) ((LL.tells mEnds.the-type lEnds.the-laws) r1 _ i1) i1) .1 .0) .0)) $
-        assigns ! (of-opd ! (load ! (from ! (fld ! refl (stop !))) (look-in ! 32 (sub ! 2 refl (whole !))))) (from ! (stop !)) (init ! 29 refl (uint-lawful 𝓤 H A W w64 .typed (mEnds.the-type .to r1 .1 .1 .0) _ (LL.owed mEnds.the-type lEnds.the-laws r1 _ (subst (Is mEnds.the-row r1) ((LL.tells mEnds.the-type lEnds.the-laws) r1 _ i1) i1) .1 .1 .0) .0)) $
-        assigns ! (of-opd ! (load ! (from ! (fld ! refl (stop !))) (look-in ! 32 (sub ! 3 refl (whole !))))) (from ! (stop !)) (init ! 28 refl (uint-lawful 𝓤 H A W w64 .typed (mEnds.the-type .to r1 .1 .1 .1 .0) _ (LL.owed mEnds.the-type lEnds.the-laws r1 _ (subst (Is mEnds.the-row r1) ((LL.tells mEnds.the-type lEnds.the-laws) r1 _ i1) i1) .1 .1 .1 .0) .0)) $
-        assigns ! (of-opd ! (load ! (from ! (fld ! refl (stop !))) (look-in ! 32 (sub ! 4 refl (whole !))))) (from ! (stop !)) (init ! 27 refl (uint-lawful 𝓤 H A W w64 .typed (mEnds.the-type .to r1 .1 .1 .1 .1 .0) _ (LL.owed mEnds.the-type lEnds.the-laws r1 _ (subst (Is mEnds.the-row r1) ((LL.tells mEnds.the-type lEnds.the-laws) r1 _ i1) i1) .1 .1 .1 .1 .0) .0)) $
-        assigns ! (of-opd ! (load ! (from ! (fld ! refl (stop !))) (look-in ! 32 (sub ! 5 refl (whole !))))) (from ! (stop !)) (init ! 26 refl (uint-lawful 𝓤 H A W w64 .typed (mEnds.the-type .to r1 .1 .1 .1 .1 .1 .0) _ (LL.owed mEnds.the-type lEnds.the-laws r1 _ (subst (Is mEnds.the-row r1) ((LL.tells mEnds.the-type lEnds.the-laws) r1 _ i1) i1) .1 .1 .1 .1 .1 .0) .0)) $
-        tidy W (_ ∷ _ ∷ _ ∷ _ ∷ _ ∷ _ ∷ _ ∷ _ ∷ _ ∷ _ ∷ _ ∷ _ ∷ _ ∷ _ ∷ _ ∷ _ ∷ _ ∷ _ ∷ _ ∷ _ ∷ _ ∷ _ ∷ _ ∷ _ ∷ _ ∷ _ ∷ _ ∷ _ ∷ _ ∷ _ ∷ _ ∷ _ ∷ _ ∷ _ ∷ _ ∷ _ ∷ _ ∷ _ ∷ _ ∷ _ ∷ _ ∷ _ ∷ _ ∷ _ ∷ _ ∷ _ ∷ _ ∷ _ ∷ _ ∷ _ ∷ _ ∷ _ ∷ []) $ nothing ! $
+        use1 W (raw (Callee-g1 𝓤 H A at-mem run .pre (
+          (
+            tt,
+            tt,
+            tt,
+            (n5, ((length (s6 .now)), tt)),
+            (
+              (LL.val mShapes.the-type lShapes.the-laws n5) ∷
+                  [],
+              ((vint w64 (length (s6 .now))) ∷ [], tt),
+            ),
+          ),
+          tt,
+        ))) (qed W ((‵ ftrue) ∷ []) ∵ nothing ! $ owned ! u64 (Is u64) (uint-makes 𝓤 H A W w64)
+        ((length (s6 .now))) _ (refl, (w6 .0 .1 .0)) $ fjoin ! $ owned ! mShapes.the-row (Is mShapes.the-row) (LL.makes mShapes.the-type
+        lShapes.the-plain 𝓤 H A) (n5) _ (subst (Is mShapes.the-row n5) ((LL.tells mShapes.the-type lShapes.the-laws) n5 _ w5) w5) $ fjoin ! $
+        move ! (1 ∷ 0 ∷ []) $ join ! $ nothing ! $ move ! (1 ∷ 0 ∷ []) $ frame ! $ done !) $
+        calls-at ! fm (Callee-g1 𝓤 H A at-mem run) known-g1 (
+          (
+            tt,
+            tt,
+            tt,
+            (n5, ((length (s6 .now)), tt)),
+            (
+              (LL.val mShapes.the-type lShapes.the-laws
+                  n5) ∷ [],
+              ((vint w64 (length (s6 .now))) ∷ [], tt),
+            ),
+          ),
+          tt,
+        ) (and-then ! (load ! (from ! (stop !)) (look ! 47 refl)) (and-then ! (load !
+        (from ! (stop !)) (look ! 22 refl)) (no-more !))) (λ z1.
+        use1 W (later (some (λ (r1 : Ends). ((‵ ftrue) ⊛ ‵ (mEnds.the-row .own r1 (z1 ∷ []))) ⊛ some (λ (ws : Lasts g1.ended tt (
+          n5,
+          (
+            (length (s6
+                .now)),
+            tt,
+          ),
+        )). ‵ (lasts g1.ended tt (n5, ((length (s6 .now)), tt)) ws) ⊛ raw (g1.clauses 𝓤 H A at-mem run tt (
+          n5,
+          (
+            (length (s6 .now)),
+            tt,
+          ),
+        ) .ensures tt r1 (atExit g1.ended tt (n5, ((length (s6 .now)), tt)) ws)))))) (id⊢ 𝓤 _) $ await ! tt $ pick ! (λ r1. split ! $ move !
+        (1 ∷ []) $ pick ! (λ ws1. split ! $ move ! (1 ∷ []) $ heard ! _ (λ e1.
+        drop ! $ split ! $ move ! (1 ∷ []) $ peeks ! mEnds.the-row (Is mEnds.the-row) (shows 𝓤 H A mEnds.the-row) r1 (z1 ∷ []) (λ i1. drop ! $ land !
+        (from ! (stop !)) (init ! 33 refl (LL.lawful mEnds.the-type lEnds.the-laws 𝓤 H A W .typed r1 _ i1 .0)) $
+        tidy W (_ ∷ _ ∷ _ ∷ _ ∷ _ ∷ _ ∷ _ ∷ _ ∷ _ ∷ _ ∷ _ ∷ _ ∷ _ ∷ _ ∷ _ ∷ _ ∷ _ ∷ _ ∷ _ ∷ _ ∷ _ ∷ _ ∷ _ ∷ _ ∷ _ ∷ _ ∷ _ ∷ _ ∷ _ ∷ _ ∷ _ ∷ _ ∷ _ ∷ _
+        ∷ _ ∷ _ ∷ _ ∷ _ ∷ _ ∷ _ ∷ _ ∷ _ ∷ _ ∷ _ ∷ _ ∷ _ ∷ _ ∷ _ ∷ _ ∷ _ ∷ _ ∷ _ ∷ _ ∷ []) $ drop ! $ rewrite ! 32 (λ (w : Val). ‵ (fat fullShare
+        (lEnds.mir) l₁₉ 0 w)) (ap only ((LL.tells mEnds.the-type lEnds.the-laws) r1 _ i1)) refl $ assigns ! (of-opd ! (load ! (from ! (fld ! refl
+        (stop !))) (look-in ! 32 (sub ! 0 refl (whole !))))) (from ! (stop !)) (init ! 31 refl (uint-lawful 𝓤 H A W w64 .typed (mEnds.the-type
+        .to r1 .0) _ (LL.owed mEnds.the-type lEnds.the-laws r1 _ (subst (Is mEnds.the-row r1) ((LL.tells mEnds.the-type lEnds.the-laws) r1 _ i1)
+        i1) .0) .0)) $
+        assigns ! (of-opd ! (load ! (from ! (fld ! refl (stop !))) (look-in ! 32 (sub ! 1 refl (whole !))))) (from ! (stop !)) (init ! 30 refl
+        (uint-lawful 𝓤 H A W w64 .typed (mEnds.the-type .to r1 .1 .0) _ (LL.owed mEnds.the-type lEnds.the-laws r1 _ (subst (Is mEnds.the-row r1)
+        ((LL.tells mEnds.the-type lEnds.the-laws) r1 _ i1) i1) .1 .0) .0)) $
+        assigns ! (of-opd ! (load ! (from ! (fld ! refl (stop !))) (look-in ! 32 (sub ! 2 refl (whole !))))) (from ! (stop !)) (init ! 29 refl
+        (uint-lawful 𝓤 H A W w64 .typed (mEnds.the-type .to r1 .1 .1 .0) _ (LL.owed mEnds.the-type lEnds.the-laws r1 _ (subst (Is mEnds.the-row
+        r1) ((LL.tells mEnds.the-type lEnds.the-laws) r1 _ i1) i1) .1 .1 .0) .0)) $
+        assigns ! (of-opd ! (load ! (from ! (fld ! refl (stop !))) (look-in ! 32 (sub ! 3 refl (whole !))))) (from ! (stop !)) (init ! 28 refl
+        (uint-lawful 𝓤 H A W w64 .typed (mEnds.the-type .to r1 .1 .1 .1 .0) _ (LL.owed mEnds.the-type lEnds.the-laws r1 _ (subst (Is
+        mEnds.the-row r1) ((LL.tells mEnds.the-type lEnds.the-laws) r1 _ i1) i1) .1 .1 .1 .0) .0)) $
+        assigns ! (of-opd ! (load ! (from ! (fld ! refl (stop !))) (look-in ! 32 (sub ! 4 refl (whole !))))) (from ! (stop !)) (init ! 27 refl
+        (uint-lawful 𝓤 H A W w64 .typed (mEnds.the-type .to r1 .1 .1 .1 .1 .0) _ (LL.owed mEnds.the-type lEnds.the-laws r1 _ (subst (Is
+        mEnds.the-row r1) ((LL.tells mEnds.the-type lEnds.the-laws) r1 _ i1) i1) .1 .1 .1 .1 .0) .0)) $
+        assigns ! (of-opd ! (load ! (from ! (fld ! refl (stop !))) (look-in ! 32 (sub ! 5 refl (whole !))))) (from ! (stop !)) (init ! 26 refl
+        (uint-lawful 𝓤 H A W w64 .typed (mEnds.the-type .to r1 .1 .1 .1 .1 .1 .0) _ (LL.owed mEnds.the-type lEnds.the-laws r1 _ (subst (Is
+        mEnds.the-row r1) ((LL.tells mEnds.the-type lEnds.the-laws) r1 _ i1) i1) .1 .1 .1 .1 .1 .0) .0)) $
+        tidy W (_ ∷ _ ∷ _ ∷ _ ∷ _ ∷ _ ∷ _ ∷ _ ∷ _ ∷ _ ∷ _ ∷ _ ∷ _ ∷ _ ∷ _ ∷ _ ∷ _ ∷ _ ∷ _ ∷ _ ∷ _ ∷ _ ∷ _ ∷ _ ∷ _ ∷ _ ∷ _ ∷ _ ∷ _ ∷ _ ∷ _ ∷ _ ∷ _ ∷ _
+        ∷ _ ∷ _ ∷ _ ∷ _ ∷ _ ∷ _ ∷ _ ∷ _ ∷ _ ∷ _ ∷ _ ∷ _ ∷ _ ∷ _ ∷ _ ∷ _ ∷ _ ∷ _ ∷ []) $ nothing ! $
         -- call 2
-        use1 W (raw (Callee-g2 𝓤 H A at-mem run .pre ((tt, tt, tt, (n1, (n4, tt)), (u1 ∷ [], (u4 ∷ [], tt))), tt))) (qed W ((‵ ftrue) ∷ []) ∵ nothing ! $ owned ! u64 (Is u64) (uint-makes 𝓤 H A W w64) (n4) _ w4 $ fjoin ! $ owned ! u32 (Is u32) (uint-makes 𝓤 H A W w32) (n1) _ w1 $ fjoin ! $ move ! (1 ∷ 0 ∷ []) $ join ! $ nothing ! $ move ! (1 ∷ 0 ∷ []) $ frame ! $ done !) $
-        calls-at ! fm (Callee-g2 𝓤 H A at-mem run) known-g2 ((tt, tt, tt, (n1, (n4, tt)), (u1 ∷ [], (u4 ∷ [], tt))), tt) (and-then ! (load ! (from ! (stop !)) (look ! 51 refl)) (and-then ! (load ! (from ! (stop !)) (look ! 48 refl)) (no-more !))) (λ z2.
-        use1 W (later (some (λ (r2 : ℕ). ((‵ ftrue) ⊛ ‵ (u64 .own r2 (z2 ∷ []))) ⊛ some (λ (ws : Lasts g2.ended tt (n1, (n4, tt))). ‵ (lasts g2.ended tt (n1, (n4, tt)) ws) ⊛ raw (g2.clauses 𝓤 H A at-mem run tt (n1, (n4, tt)) .ensures tt r2 (atExit g2.ended tt (n1, (n4, tt)) ws)))))) (id⊢ 𝓤 _) $ await ! tt $ pick ! (λ r2. split ! $ move ! (1 ∷ []) $ pick ! (λ ws2. split ! $ move ! (1 ∷ []) $ heard ! _ (λ e2.
+        use1 W (raw (Callee-g2 𝓤 H A at-mem run .pre ((tt, tt, tt, (n1, (n4, tt)), (u1 ∷ [], (u4 ∷ [], tt))), tt))) (qed W ((‵ ftrue) ∷ []) ∵ nothing
+        ! $ owned ! u64 (Is u64) (uint-makes 𝓤 H A W w64) (n4) _ w4 $ fjoin ! $ owned ! u32 (Is u32) (uint-makes 𝓤 H A W w32) (n1) _ w1 $ fjoin !
+        $ move ! (1 ∷ 0 ∷ []) $ join ! $ nothing ! $ move ! (1 ∷ 0 ∷ []) $ frame ! $ done !) $
+        calls-at ! fm (Callee-g2 𝓤 H A at-mem run) known-g2 ((tt, tt, tt, (n1, (n4, tt)), (u1 ∷ [], (u4 ∷ [], tt))), tt) (and-then ! (load ! (from !
+        (stop !)) (look ! 51 refl)) (and-then ! (load ! (from ! (stop !)) (look ! 48 refl)) (no-more !))) (λ z2.
+        use1 W (later (some (λ (r2 : ℕ). ((‵ ftrue) ⊛ ‵ (u64 .own r2 (z2 ∷ []))) ⊛ some (λ (ws : Lasts g2.ended tt (n1, (n4, tt))). ‵ (lasts g2.ended
+        tt (n1, (n4, tt)) ws) ⊛ raw (g2.clauses 𝓤 H A at-mem run tt (n1, (n4, tt)) .ensures tt r2 (atExit g2.ended tt (n1, (n4, tt)) ws))))))
+        (id⊢ 𝓤 _) $ await ! tt $ pick ! (λ r2. split ! $ move ! (1 ∷ []) $ pick ! (λ ws2. split ! $ move ! (1 ∷ []) $ heard ! _ (λ e2.
         drop ! $ split ! $ move ! (1 ∷ []) $ peeks ! u64 (Is u64) (shows 𝓤 H A u64) r2 (z2 ∷ []) (λ i2. drop ! $ land ! (from ! (stop !)) (init ! 26 refl (uint-lawful 𝓤 H A W w64 .typed r2 _ i2 .0)) $
-        tidy W (_ ∷ _ ∷ _ ∷ _ ∷ _ ∷ _ ∷ _ ∷ _ ∷ _ ∷ _ ∷ _ ∷ _ ∷ _ ∷ _ ∷ _ ∷ _ ∷ _ ∷ _ ∷ _ ∷ _ ∷ _ ∷ _ ∷ _ ∷ _ ∷ _ ∷ _ ∷ _ ∷ _ ∷ _ ∷ _ ∷ _ ∷ _ ∷ _ ∷ _ ∷ _ ∷ _ ∷ _ ∷ _ ∷ _ ∷ _ ∷ _ ∷ _ ∷ _ ∷ _ ∷ _ ∷ _ ∷ _ ∷ _ ∷ _ ∷ _ ∷ _ ∷ _ ∷ _ ∷ []) $ drop ! $ tidy W (_ ∷ _ ∷ _ ∷ _ ∷ _ ∷ _ ∷ _ ∷ _ ∷ _ ∷ _ ∷ _ ∷ _ ∷ _ ∷ _ ∷ _ ∷ _ ∷ _ ∷ _ ∷ _ ∷ _ ∷ _ ∷ _ ∷ _ ∷ _ ∷ _ ∷ _ ∷ _ ∷ _ ∷ _ ∷ _ ∷ _ ∷ _ ∷ _ ∷ _ ∷ _ ∷ _ ∷ _ ∷ _ ∷ _ ∷ _ ∷ _ ∷ _ ∷ _ ∷ _ ∷ _ ∷ _ ∷ _ ∷ _ ∷ _ ∷ _ ∷ _ ∷ _ ∷ []) $ nothing ! $
+        tidy W (_ ∷ _ ∷ _ ∷ _ ∷ _ ∷ _ ∷ _ ∷ _ ∷ _ ∷ _ ∷ _ ∷ _ ∷ _ ∷ _ ∷ _ ∷ _ ∷ _ ∷ _ ∷ _ ∷ _ ∷ _ ∷ _ ∷ _ ∷ _ ∷ _ ∷ _ ∷ _ ∷ _ ∷ _ ∷ _ ∷ _ ∷ _ ∷ _ ∷ _
+        ∷ _ ∷ _ ∷ _ ∷ _ ∷ _ ∷ _ ∷ _ ∷ _ ∷ _ ∷ _ ∷ _ ∷ _ ∷ _ ∷ _ ∷ _ ∷ _ ∷ _ ∷ _ ∷ _ ∷ []) $ drop ! $ tidy W (_ ∷ _ ∷ _ ∷ _ ∷ _ ∷ _ ∷ _ ∷ _ ∷ _ ∷
+        _ ∷ _ ∷ _ ∷ _ ∷ _ ∷ _ ∷ _ ∷ _ ∷ _ ∷ _ ∷ _ ∷ _ ∷ _ ∷ _ ∷ _ ∷ _ ∷ _ ∷ _ ∷ _ ∷ _ ∷ _ ∷ _ ∷ _ ∷ _ ∷ _ ∷ _ ∷ _ ∷ _ ∷ _ ∷ _ ∷ _ ∷ _ ∷ _ ∷ _ ∷ _
+        ∷ _ ∷ _ ∷ _ ∷ _ ∷ _ ∷ _ ∷ _ ∷ _ ∷ []) $ nothing ! $
         -- call 3
-        use1 W (raw (Callee-g3 𝓤 H A at-mem run .pre ((tt, tt, tt, tt, tt), tt))) (qed W ((‵ ftrue) ∷ []) ∵ nothing ! $ move ! (1 ∷ 0 ∷ []) $ join ! $ nothing ! $ move ! (1 ∷ 0 ∷ []) $ frame ! $ done !) $
+        use1 W (raw (Callee-g3 𝓤 H A at-mem run .pre ((tt, tt, tt, tt, tt), tt))) (qed W ((‵ ftrue) ∷ []) ∵ nothing ! $ move ! (1 ∷ 0 ∷ []) $ join !
+        $ nothing ! $ move ! (1 ∷ 0 ∷ []) $ frame ! $ done !) $
         calls-at ! fm (Callee-g3 𝓤 H A at-mem run) known-g3 ((tt, tt, tt, tt, tt), tt) (no-more !) (λ z3.
-        use1 W (later (some (λ (r3 : Failing). ((‵ ftrue) ⊛ ‵ (mFailing.the-row .own r3 (z3 ∷ []))) ⊛ some (λ (ws : Lasts g3.ended tt tt). ‵ (lasts g3.ended tt tt ws) ⊛ raw (g3.clauses 𝓤 H A at-mem run tt tt .ensures tt r3 (atExit g3.ended tt tt ws)))))) (id⊢ 𝓤 _) $ await ! tt $ pick ! (λ r3. split ! $ move ! (1 ∷ []) $ pick ! (λ ws3. split ! $ move ! (1 ∷ []) $ heard ! _ (λ e3.
-        drop ! $ split ! $ move ! (1 ∷ []) $ peeks ! mFailing.the-row (Is mFailing.the-row) (shows 𝓤 H A mFailing.the-row) r3 (z3 ∷ []) (λ i3. drop ! $ land ! (from ! (stop !)) (init ! 25 refl (LL.lawful mFailing.the-type lFailing.the-laws 𝓤 H A W .typed r3 _ i3 .0)) $
-        tidy W (_ ∷ _ ∷ _ ∷ _ ∷ _ ∷ _ ∷ _ ∷ _ ∷ _ ∷ _ ∷ _ ∷ _ ∷ _ ∷ _ ∷ _ ∷ _ ∷ _ ∷ _ ∷ _ ∷ _ ∷ _ ∷ _ ∷ _ ∷ _ ∷ _ ∷ _ ∷ _ ∷ _ ∷ _ ∷ _ ∷ _ ∷ _ ∷ _ ∷ _ ∷ _ ∷ _ ∷ _ ∷ _ ∷ _ ∷ _ ∷ _ ∷ _ ∷ _ ∷ _ ∷ _ ∷ _ ∷ _ ∷ _ ∷ _ ∷ _ ∷ _ ∷ _ ∷ _ ∷ []) $ drop ! $ assigns ! (addr ! (from ! (fld ! refl (hop ! (look-in ! 49 (sub ! 0 refl (whole !))) (stop !))))) (from ! (stop !)) (init ! 20 refl (tt, tt)) $
-        assigns ! (agg ! (and-then ! (load ! (from ! (stop !)) (look ! 20 refl)) (and-then ! (load ! (from ! (fld ! refl (stop !))) (look-in ! 49 (sub ! 1 refl (whole !)))) (no-more !)))) (from ! (stop !)) (init ! 19 refl (tt, (tt, (record { fits = room2 .0 }, tt)))) $
-        lft-new ! tt (λ ν4c. move ! (12 ∷ 4 ∷ []) $ use2 W (later (some (λ (δ : GName). ‵ (MutSlice (named 0) (ν4c ∷ []) u64 .own (ref2 δ (ys2)) (v2 ∷ [])) ⊛ ‵ (Lent2 ν4c δ (ys2))))) (lends2 (named 0) ν4c (ys2) (refl)) $ await ! tt $ pick ! (λ δ4c. split ! $ move ! (7 ∷ []) $ use1 W (‵ (O8) ⊛ ‵ (O8)) (shr-slice-copy 𝓤 H A W (named 2) κ₂ u64 .twice s8 (v8 ∷ [])) $ split ! $ move ! (8 ∷ []) $ use1 W (‵ (O9) ⊛ ‵ (O9)) (shr-slice-copy 𝓤 H A W (named 3) κ₃ u64 .twice s9 (v9 ∷ [])) $ split ! $ move ! (11 ∷ []) $ use1 W (‵ (O6) ⊛ ‵ (O6)) (shr-slice-copy 𝓤 H A W (named 1) κ₁ mEntry.the-row .twice s6 (v6 ∷ [])) $ split ! $ tidy W (_ ∷ _ ∷ _ ∷ _ ∷ _ ∷ _ ∷ _ ∷ _ ∷ _ ∷ _ ∷ _ ∷ _ ∷ _ ∷ _ ∷ _ ∷ _ ∷ _ ∷ _ ∷ _ ∷ _ ∷ _ ∷ _ ∷ _ ∷ _ ∷ _ ∷ _ ∷ _ ∷ _ ∷ _ ∷ _ ∷ _ ∷ _ ∷ _ ∷ _ ∷ _ ∷ _ ∷ _ ∷ _ ∷ _ ∷ _ ∷ _ ∷ _ ∷ _ ∷ _ ∷ _ ∷ _ ∷ _ ∷ _ ∷ _ ∷ _ ∷ _ ∷ _ ∷ _ ∷ _ ∷ _ ∷ _ ∷ []) $ nothing ! $ move ! (12 ∷ 0 ∷ []) $ join ! $ move ! (10 ∷ 0 ∷ []) $ join ! $ move ! (10 ∷ 0 ∷ []) $ join ! $ move ! (9 ∷ 0 ∷ []) $ join ! $ move ! (3 ∷ 1 ∷ []) $ join ! $ move ! (4 ∷ 0 ∷ []) $ join ! $ move ! (5 ∷ 0 ∷ []) $ join ! $ move ! (1 ∷ 0 ∷ []) $ join ! $
+        use1 W (later (some (λ (r3 : Failing). ((‵ ftrue) ⊛ ‵ (mFailing.the-row .own r3 (z3 ∷ []))) ⊛ some (λ (ws : Lasts g3.ended tt tt). ‵ (lasts
+        g3.ended tt tt ws) ⊛ raw (g3.clauses 𝓤 H A at-mem run tt tt .ensures tt r3 (atExit g3.ended tt tt ws)))))) (id⊢ 𝓤 _) $ await ! tt $ pick
+        ! (λ r3. split ! $ move ! (1 ∷ []) $ pick ! (λ ws3. split ! $ move ! (1 ∷ []) $ heard ! _ (λ e3.
+        drop ! $ split ! $ move ! (1 ∷ []) $ peeks ! mFailing.the-row (Is mFailing.the-row) (shows 𝓤 H A mFailing.the-row) r3 (z3 ∷ []) (λ i3. drop !
+        $ land ! (from ! (stop !)) (init ! 25 refl (LL.lawful mFailing.the-type lFailing.the-laws 𝓤 H A W .typed r3 _ i3 .0)) $
+        tidy W (_ ∷ _ ∷ _ ∷ _ ∷ _ ∷ _ ∷ _ ∷ _ ∷ _ ∷ _ ∷ _ ∷ _ ∷ _ ∷ _ ∷ _ ∷ _ ∷ _ ∷ _ ∷ _ ∷ _ ∷ _ ∷ _ ∷ _ ∷ _ ∷ _ ∷ _ ∷ _ ∷ _ ∷ _ ∷ _ ∷ _ ∷ _ ∷ _ ∷ _
+        ∷ _ ∷ _ ∷ _ ∷ _ ∷ _ ∷ _ ∷ _ ∷ _ ∷ _ ∷ _ ∷ _ ∷ _ ∷ _ ∷ _ ∷ _ ∷ _ ∷ _ ∷ _ ∷ _ ∷ []) $ drop ! $ assigns ! (addr ! (from ! (fld ! refl (hop !
+        (look-in ! 49 (sub ! 0 refl (whole !))) (stop !))))) (from ! (stop !)) (init ! 20 refl (tt, tt)) $
+        assigns ! (agg ! (and-then ! (load ! (from ! (stop !)) (look ! 20 refl)) (and-then ! (load ! (from ! (fld ! refl (stop !))) (look-in ! 49
+        (sub ! 1 refl (whole !)))) (no-more !)))) (from ! (stop !)) (init ! 19 refl (tt, (tt, (record { fits = room2 .0 }, tt)))) $
+        lft-new ! tt (λ ν4c. move ! (12 ∷ 4 ∷ []) $ use2 W (later (some (λ (δ : GName). ‵ (MutSlice (named 0) (ν4c ∷ []) u64 .own (ref2 δ (ys2)) (v2
+        ∷ [])) ⊛ ‵ (Lent2 ν4c δ (ys2))))) (lends2 (named 0) ν4c (ys2) (refl)) $ await ! tt $ pick ! (λ δ4c. split ! $ move ! (7 ∷ []) $ use1 W (‵
+        (O8) ⊛ ‵ (O8)) (shr-slice-copy 𝓤 H A W (named 2) κ₂ u64 .twice s8 (v8 ∷ [])) $ split ! $ move ! (8 ∷ []) $ use1 W (‵ (O9) ⊛ ‵ (O9))
+        (shr-slice-copy 𝓤 H A W (named 3) κ₃ u64 .twice s9 (v9 ∷ [])) $ split ! $ move ! (11 ∷ []) $ use1 W (‵ (O6) ⊛ ‵ (O6)) (shr-slice-copy 𝓤 H
+        A W (named 1) κ₁ mEntry.the-row .twice s6 (v6 ∷ [])) $ split ! $ tidy W (_ ∷ _ ∷ _ ∷ _ ∷ _ ∷ _ ∷ _ ∷ _ ∷ _ ∷ _ ∷ _ ∷ _ ∷ _ ∷ _ ∷ _ ∷ _ ∷
+        _ ∷ _ ∷ _ ∷ _ ∷ _ ∷ _ ∷ _ ∷ _ ∷ _ ∷ _ ∷ _ ∷ _ ∷ _ ∷ _ ∷ _ ∷ _ ∷ _ ∷ _ ∷ _ ∷ _ ∷ _ ∷ _ ∷ _ ∷ _ ∷ _ ∷ _ ∷ _ ∷ _ ∷ _ ∷ _ ∷ _ ∷ _ ∷ _ ∷ _ ∷ _
+        ∷ _ ∷ _ ∷ _ ∷ _ ∷ _ ∷ []) $ nothing ! $ move ! (12 ∷ 0 ∷ []) $ join ! $ move ! (10 ∷ 0 ∷ []) $ join ! $ move ! (10 ∷ 0 ∷ []) $ join ! $
+        move ! (9 ∷ 0 ∷ []) $ join ! $ move ! (3 ∷ 1 ∷ []) $ join ! $ move ! (4 ∷ 0 ∷ []) $ join ! $ move ! (5 ∷ 0 ∷ []) $ join ! $ move ! (1 ∷ 0
+        ∷ []) $ join ! $
         -- call 4
-        use1 W (raw (Callee-g4 𝓤 H A at-mem run .pre ((((ν4c ∷ []), (κ₂, (κ₃, (κ₁, tt)))), (fullShare, (q₂, (q₃, (q₁, tt)))), tt, (r3, (1, (ref2 δ4c (ys2), (r2, ((mShape.the-type .to ((n5 .bin) .a) .0), (0, ((mEnds.the-type .to r1 .0), ((mEnds.the-type .to r1 .1 .0), ((mEnds.the-type .to r1 .1 .1 .0), (n7, (s8, (s9, (s6, tt))))))))))))), (z3 ∷ [], ((vint w64 1) ∷ [], (v2 ∷ [], (z2 ∷ [], (((vint w64) (mShape.the-type .to ((n5 .bin) .a) .0)) ∷ [], ((vint w64 0) ∷ [], (((vint w64) (mEnds.the-type .to r1 .0)) ∷ [], (((vint w64) (mEnds.the-type .to r1 .1 .0)) ∷ [], (((vint w64) (mEnds.the-type .to r1 .1 .1 .0)) ∷ [], (u7 ∷ [], (v8 ∷ [], (v9 ∷ [], (v6 ∷ [], tt)))))))))))))), tt))) (qed W ((‵ (flft (ν4c ∷ []) fullShare) ⊛ ‵ (flft κ₂ q₂) ⊛ ‵ (flft κ₃ q₃) ⊛ ‵ (flft κ₁ q₁) ⊛ ‵ ftrue) ∷ ‵ (MutSlice (named 0) (ν4c ∷ []) u64 .own (ref2 δ4c (ys2)) (v2 ∷ [])) ∷ ‵ (ShrSlice (named 1) κ₂ u64 .own s8 (v8 ∷ [])) ∷ ‵ (ShrSlice (named 2) κ₃ u64 .own s9 (v9 ∷ [])) ∷ ‵ (ShrSlice (named 3) κ₁ mEntry.the-row .own s6 (v6 ∷ [])) ∷ []) ∵ nothing ! $ move ! (5 ∷ 0 ∷ []) $ fjoin ! $ move ! (4 ∷ 0 ∷ []) $ fjoin ! $ move ! (3 ∷ 0 ∷ []) $ fjoin ! $ owned ! u64 (Is u64) (uint-makes 𝓤 H A W w64) (n7) _ w7 $ fjoin ! $ owned ! u64 (Is u64) (uint-makes 𝓤 H A W w64) ((mEnds.the-type .to r1 .1 .1 .0)) _ (LL.owed mEnds.the-type lEnds.the-laws r1 _ (subst (Is mEnds.the-row r1) ((LL.tells mEnds.the-type lEnds.the-laws) r1 _ i1) i1) .1 .1 .0) $ fjoin ! $ owned ! u64 (Is u64) (uint-makes 𝓤 H A W w64) ((mEnds.the-type .to r1 .1 .0)) _ (LL.owed mEnds.the-type lEnds.the-laws r1 _ (subst (Is mEnds.the-row r1) ((LL.tells mEnds.the-type lEnds.the-laws) r1 _ i1) i1) .1 .0) $ fjoin ! $ owned ! u64 (Is u64) (uint-makes 𝓤 H A W w64) ((mEnds.the-type .to r1 .0)) _ (LL.owed mEnds.the-type lEnds.the-laws r1 _ (subst (Is mEnds.the-row r1) ((LL.tells mEnds.the-type lEnds.the-laws) r1 _ i1) i1) .0) $ fjoin ! $ owned ! u64 (Is u64) (uint-makes 𝓤 H A W w64) (0) _ (refl, lit< tt) $ fjoin ! $ owned ! u64 (Is u64) (uint-makes 𝓤 H A W w64) ((mShape.the-type .to ((n5 .bin) .a) .0)) _ (LL.owed mShape.the-type lShape.the-laws ((n5 .bin) .a) _ (LL.owed mSystemShape.the-type lSystemShape.the-laws (n5 .bin) _ (LL.owed mShapes.the-type lShapes.the-laws n5 _ (subst (Is mShapes.the-row n5) ((LL.tells mShapes.the-type lShapes.the-laws) n5 _ w5) w5) .0) .0) .0) $ fjoin ! $ owned ! u64 (Is u64) (uint-makes 𝓤 H A W w64) (r2) _ i2 $ fjoin ! $ move ! (2 ∷ 0 ∷ []) $ fjoin ! $ owned ! u64 (Is u64) (uint-makes 𝓤 H A W w64) (1) _ (refl, lit< tt) $ fjoin ! $ owned ! mFailing.the-row (Is mFailing.the-row) (LL.makes mFailing.the-type lFailing.the-plain 𝓤 H A) (r3) _ i3 $ fjoin ! $ move ! (1 ∷ 0 ∷ []) $ join ! $ nothing ! $ move ! (1 ∷ 0 ∷ []) $ frame ! $ done !) $
-        calls-at ! fm (Callee-g4 𝓤 H A at-mem run) known-g4 ((((ν4c ∷ []), (κ₂, (κ₃, (κ₁, tt)))), (fullShare, (q₂, (q₃, (q₁, tt)))), tt, (r3, (1, (ref2 δ4c (ys2), (r2, ((mShape.the-type .to ((n5 .bin) .a) .0), (0, ((mEnds.the-type .to r1 .0), ((mEnds.the-type .to r1 .1 .0), ((mEnds.the-type .to r1 .1 .1 .0), (n7, (s8, (s9, (s6, tt))))))))))))), (z3 ∷ [], ((vint w64 1) ∷ [], (v2 ∷ [], (z2 ∷ [], (((vint w64) (mShape.the-type .to ((n5 .bin) .a) .0)) ∷ [], ((vint w64 0) ∷ [], (((vint w64) (mEnds.the-type .to r1 .0)) ∷ [], (((vint w64) (mEnds.the-type .to r1 .1 .0)) ∷ [], (((vint w64) (mEnds.the-type .to r1 .1 .1 .0)) ∷ [], (u7 ∷ [], (v8 ∷ [], (v9 ∷ [], (v6 ∷ [], tt)))))))))))))), tt) (and-then ! (load ! (from ! (stop !)) (look ! 21 refl)) (and-then ! (load ! (from ! (stop !)) (look ! 38 refl)) (and-then ! (load ! (from ! (stop !)) (look ! 16 refl)) (and-then ! (load ! (from ! (stop !)) (look ! 22 refl)) (and-then ! (load ! (from ! (stop !)) (look ! 31 refl)) (and-then ! (load ! (from ! (stop !)) (look ! 36 refl)) (and-then ! (load ! (from ! (stop !)) (look ! 28 refl)) (and-then ! (load ! (from ! (stop !)) (look ! 27 refl)) (and-then ! (load ! (from ! (stop !)) (look ! 26 refl)) (and-then ! (load ! (from ! (stop !)) (look ! 41 refl)) (and-then ! (load ! (from ! (stop !)) (look ! 40 refl)) (and-then ! (load ! (from ! (stop !)) (look ! 39 refl)) (and-then ! (load ! (from ! (stop !)) (look ! 42 refl)) (no-more !)))))))))))))) (λ z4.
-        use1 W (later (some (λ (r4 : Failing). ((‵ (flft (ν4c ∷ []) fullShare) ⊛ ‵ (flft κ₂ q₂) ⊛ ‵ (flft κ₃ q₃) ⊛ ‵ (flft κ₁ q₁) ⊛ ‵ ftrue) ⊛ ‵ (mFailing.the-row .own r4 (z4 ∷ []))) ⊛ some (λ (ws : Lasts g4.ended ((ν4c ∷ []), (κ₂, (κ₃, (κ₁, tt)))) (r3, (1, (ref2 δ4c (ys2), (r2, ((mShape.the-type .to ((n5 .bin) .a) .0), (0, ((mEnds.the-type .to r1 .0), ((mEnds.the-type .to r1 .1 .0), ((mEnds.the-type .to r1 .1 .1 .0), (n7, (s8, (s9, (s6, tt)))))))))))))). ‵ (lasts g4.ended ((ν4c ∷ []), (κ₂, (κ₃, (κ₁, tt)))) (r3, (1, (ref2 δ4c (ys2), (r2, ((mShape.the-type .to ((n5 .bin) .a) .0), (0, ((mEnds.the-type .to r1 .0), ((mEnds.the-type .to r1 .1 .0), ((mEnds.the-type .to r1 .1 .1 .0), (n7, (s8, (s9, (s6, tt))))))))))))) ws) ⊛ raw (g4.clauses 𝓤 H A at-mem run ((ν4c ∷ []), (κ₂, (κ₃, (κ₁, tt)))) (r3, (1, (ref2 δ4c (ys2), (r2, ((mShape.the-type .to ((n5 .bin) .a) .0), (0, ((mEnds.the-type .to r1 .0), ((mEnds.the-type .to r1 .1 .0), ((mEnds.the-type .to r1 .1 .1 .0), (n7, (s8, (s9, (s6, tt))))))))))))) .ensures tt r4 (atExit g4.ended ((ν4c ∷ []), (κ₂, (κ₃, (κ₁, tt)))) (r3, (1, (ref2 δ4c (ys2), (r2, ((mShape.the-type .to ((n5 .bin) .a) .0), (0, ((mEnds.the-type .to r1 .0), ((mEnds.the-type .to r1 .1 .0), ((mEnds.the-type .to r1 .1 .1 .0), (n7, (s8, (s9, (s6, tt))))))))))))) ws)))))) (id⊢ 𝓤 _) $ await ! tt $ pick ! (λ r4. split ! $ move ! (1 ∷ []) $ pick ! (λ ws4. split ! $ move ! (1 ∷ []) $ heard ! _ (λ e4.
-        fsplit ! $ drop ! $ fsplit ! $ drop ! $ fsplit ! $ fsplit ! $ move ! (1 ∷ []) $ feqL ! (λ same4c. move ! (1 ∷ []) $ drop ! $ move ! (1 ∷ []) $ split ! $ move ! (1 ∷ []) $ peeks ! mFailing.the-row (Is mFailing.the-row) (shows 𝓤 H A mFailing.the-row) r4 (z4 ∷ []) (λ i4. drop ! $ land ! (from ! (stop !)) (init ! 21 refl (LL.lawful mFailing.the-type lFailing.the-laws 𝓤 H A W .typed r4 _ i4 .0)) $
-        tidy W (_ ∷ _ ∷ _ ∷ _ ∷ _ ∷ _ ∷ _ ∷ _ ∷ _ ∷ _ ∷ _ ∷ _ ∷ _ ∷ _ ∷ _ ∷ _ ∷ _ ∷ _ ∷ _ ∷ _ ∷ _ ∷ _ ∷ _ ∷ _ ∷ _ ∷ _ ∷ _ ∷ _ ∷ _ ∷ _ ∷ _ ∷ _ ∷ _ ∷ _ ∷ _ ∷ _ ∷ _ ∷ _ ∷ _ ∷ _ ∷ _ ∷ _ ∷ _ ∷ _ ∷ _ ∷ _ ∷ _ ∷ _ ∷ _ ∷ _ ∷ []) $ split ! $ move ! (1 ∷ []) $ split ! $ move ! (1 ∷ []) $ split ! $ move ! (1 ∷ []) $ split ! $ move ! (1 ∷ []) $ drop ! $ move ! (3 ∷ []) $ lft-end ! tt $ move ! (0 ∷ 8 ∷ 4 ∷ []) $ use3 W (later (‵ (O2 (ws4 .1 .1 .0)) ⊛ ‵ (flft κ₀ q₀))) (backs2 (named 0) ν4c δ4c (ys2) (ws4 .1 .1 .0) (refl) room2 same4c) $ await ! tt $ split ! $
+        use1 W (raw (Callee-g4 𝓤 H A at-mem run .pre (
+          (
+            ((ν4c ∷ []), (κ₂, (κ₃, (κ₁, tt)))),
+            (fullShare, (q₂, (q₃, (q₁, tt)))),
+            tt,
+            (
+              r3,
+              (
+                1,
+                (
+                  ref2 δ4c
+                      (ys2),
+                  (
+                    r2,
+                    (
+                      (mShape.the-type .to ((n5 .bin) .a) .0),
+                      (
+                        0,
+                        (
+                          (mEnds.the-type .to r1 .0),
+                          (
+                            (mEnds.the-type .to r1 .1 .0),
+                            (
+                              (mEnds.the-type
+                                  .to r1 .1 .1 .0),
+                              (n7, (s8, (s9, (s6, tt)))),
+                            ),
+                          ),
+                        ),
+                      ),
+                    ),
+                  ),
+                ),
+              ),
+            ),
+            (
+              z3 ∷ [],
+              (
+                (vint w64 1) ∷ [],
+                (
+                  v2 ∷ [],
+                  (
+                    z2 ∷ [],
+                    (
+                      ((vint w64) (mShape.the-type
+                          .to ((n5 .bin) .a) .0)) ∷ [],
+                      (
+                        (vint w64 0) ∷ [],
+                        (
+                          ((vint w64) (mEnds.the-type .to r1 .0)) ∷ [],
+                          (
+                            ((vint w64) (mEnds.the-type .to r1 .1
+                                .0)) ∷ [],
+                            (((vint w64) (mEnds.the-type .to r1 .1 .1 .0)) ∷ [], (u7 ∷ [], (v8 ∷ [], (v9 ∷ [], (v6 ∷ [], tt))))),
+                          ),
+                        ),
+                      ),
+                    ),
+                  ),
+                ),
+              ),
+            ),
+          ),
+          tt,
+        ))) (qed W
+        ((‵ (flft (ν4c ∷ []) fullShare) ⊛ ‵ (flft κ₂ q₂) ⊛ ‵ (flft κ₃ q₃) ⊛ ‵ (flft κ₁ q₁) ⊛ ‵ ftrue) ∷ ‵ (MutSlice (named 0) (ν4c ∷ []) u64 .own
+        (ref2 δ4c (ys2)) (v2 ∷ [])) ∷ ‵ (ShrSlice (named 1) κ₂ u64 .own s8 (v8 ∷ [])) ∷ ‵ (ShrSlice (named 2) κ₃ u64 .own s9 (v9 ∷ [])) ∷ ‵
+        (ShrSlice (named 3) κ₁ mEntry.the-row .own s6 (v6 ∷ [])) ∷ []) ∵ nothing ! $ move ! (5 ∷ 0 ∷ []) $ fjoin ! $ move ! (4 ∷ 0 ∷ []) $ fjoin
+        ! $ move ! (3 ∷ 0 ∷ []) $ fjoin ! $ owned ! u64 (Is u64) (uint-makes 𝓤 H A W w64) (n7) _ w7 $ fjoin ! $ owned ! u64 (Is u64) (uint-makes
+        𝓤 H A W w64) ((mEnds.the-type .to r1 .1 .1 .0)) _ (LL.owed mEnds.the-type lEnds.the-laws r1 _ (subst (Is mEnds.the-row r1) ((LL.tells
+        mEnds.the-type lEnds.the-laws) r1 _ i1) i1) .1 .1 .0) $ fjoin ! $ owned ! u64 (Is u64) (uint-makes 𝓤 H A W w64) ((mEnds.the-type .to r1
+        .1 .0)) _ (LL.owed mEnds.the-type lEnds.the-laws r1 _ (subst (Is mEnds.the-row r1) ((LL.tells mEnds.the-type lEnds.the-laws) r1 _ i1) i1)
+        .1 .0) $ fjoin ! $ owned ! u64 (Is u64) (uint-makes 𝓤 H A W w64) ((mEnds.the-type .to r1 .0)) _ (LL.owed mEnds.the-type lEnds.the-laws r1
+        _ (subst (Is mEnds.the-row r1) ((LL.tells mEnds.the-type lEnds.the-laws) r1 _ i1) i1) .0) $ fjoin ! $ owned ! u64 (Is u64) (uint-makes 𝓤
+        H A W w64) (0) _ (refl, lit< tt) $ fjoin ! $ owned ! u64 (Is u64) (uint-makes 𝓤 H A W w64) ((mShape.the-type .to ((n5 .bin) .a) .0)) _
+        (LL.owed mShape.the-type lShape.the-laws ((n5 .bin) .a) _ (LL.owed mSystemShape.the-type lSystemShape.the-laws (n5 .bin) _ (LL.owed
+        mShapes.the-type lShapes.the-laws n5 _ (subst (Is mShapes.the-row n5) ((LL.tells mShapes.the-type lShapes.the-laws) n5 _ w5) w5) .0) .0)
+        .0) $ fjoin ! $ owned ! u64 (Is u64) (uint-makes 𝓤 H A W w64) (r2) _ i2 $ fjoin ! $ move ! (2 ∷ 0 ∷ []) $ fjoin ! $ owned ! u64 (Is u64)
+        (uint-makes 𝓤 H A W w64) (1) _ (refl, lit< tt) $ fjoin ! $ owned ! mFailing.the-row (Is mFailing.the-row) (LL.makes mFailing.the-type
+        lFailing.the-plain 𝓤 H A) (r3) _ i3 $ fjoin ! $ move ! (1 ∷ 0 ∷ []) $ join ! $ nothing ! $ move ! (1 ∷ 0 ∷ []) $ frame ! $ done !) $
+        calls-at ! fm (Callee-g4 𝓤 H A at-mem run) known-g4 (
+          (
+            ((ν4c ∷ []), (κ₂, (κ₃, (κ₁, tt)))),
+            (fullShare, (q₂, (q₃, (q₁, tt)))),
+            tt,
+            (
+              r3,
+              (
+                1,
+                (
+                  ref2 δ4c (ys2),
+                  (
+                    r2,
+                    (
+                      (mShape.the-type .to ((n5 .bin) .a) .0),
+                      (
+                        0,
+                        (
+                          (mEnds.the-type .to r1 .0),
+                          (
+                            (mEnds.the-type .to r1 .1 .0),
+                            ((mEnds.the-type .to r1 .1 .1 .0), (n7, (s8, (s9, (s6, tt))))),
+                          ),
+                        ),
+                      ),
+                    ),
+                  ),
+                ),
+              ),
+            ),
+            (
+              z3 ∷ [],
+              (
+                (vint w64 1) ∷ [],
+                (
+                  v2 ∷ [],
+                  (
+                    z2 ∷ [],
+                    (
+                      ((vint w64)
+                          (mShape.the-type .to ((n5 .bin) .a) .0)) ∷ [],
+                      (
+                        (vint w64 0) ∷ [],
+                        (
+                          ((vint w64) (mEnds.the-type .to r1 .0)) ∷ [],
+                          (
+                            ((vint w64)
+                                (mEnds.the-type .to r1 .1 .0)) ∷ [],
+                            (
+                              ((vint w64) (mEnds.the-type .to r1 .1 .1 .0)) ∷ [],
+                              (
+                                u7 ∷ [],
+                                (
+                                  v8 ∷ [],
+                                  (
+                                    v9 ∷ [],
+                                    (
+                                      v6 ∷ [],
+                                      tt,
+                                    ),
+                                  ),
+                                ),
+                              ),
+                            ),
+                          ),
+                        ),
+                      ),
+                    ),
+                  ),
+                ),
+              ),
+            ),
+          ),
+          tt,
+        ) (and-then ! (load ! (from ! (stop !)) (look ! 21 refl)) (and-then ! (load ! (from ! (stop !)) (look ! 38 refl))
+        (and-then ! (load ! (from ! (stop !)) (look ! 16 refl)) (and-then ! (load ! (from ! (stop !)) (look ! 22 refl)) (and-then ! (load ! (from
+        ! (stop !)) (look ! 31 refl)) (and-then ! (load ! (from ! (stop !)) (look ! 36 refl)) (and-then ! (load ! (from ! (stop !)) (look ! 28
+        refl)) (and-then ! (load ! (from ! (stop !)) (look ! 27 refl)) (and-then ! (load ! (from ! (stop !)) (look ! 26 refl)) (and-then ! (load
+        ! (from ! (stop !)) (look ! 41 refl)) (and-then ! (load ! (from ! (stop !)) (look ! 40 refl)) (and-then ! (load ! (from ! (stop !)) (look
+        ! 39 refl)) (and-then ! (load ! (from ! (stop !)) (look ! 42 refl)) (no-more !)))))))))))))) (λ z4.
+        use1 W (later (some (λ (r4 : Failing). ((‵ (flft (ν4c ∷ []) fullShare) ⊛ ‵ (flft κ₂ q₂) ⊛ ‵ (flft κ₃ q₃) ⊛ ‵ (flft κ₁ q₁) ⊛ ‵ ftrue) ⊛ ‵
+        (mFailing.the-row .own r4 (z4 ∷ []))) ⊛ some (λ (ws : Lasts g4.ended ((ν4c ∷ []), (κ₂, (κ₃, (κ₁, tt)))) (
+          r3,
+          (
+            1,
+            (
+              ref2 δ4c (ys2),
+              (
+                r2,
+                (
+                  (mShape.the-type .to ((n5 .bin) .a) .0),
+                  (
+                    0,
+                    (
+                      (mEnds.the-type .to r1 .0),
+                      (
+                        (mEnds.the-type .to r1 .1 .0),
+                        (
+                          (mEnds.the-type .to r1 .1 .1
+                              .0),
+                          (n7, (s8, (s9, (s6, tt)))),
+                        ),
+                      ),
+                    ),
+                  ),
+                ),
+              ),
+            ),
+          ),
+        )). ‵ (lasts g4.ended ((ν4c ∷ []), (κ₂, (κ₃, (κ₁, tt)))) (
+          r3,
+          (
+            1,
+            (
+              ref2 δ4c (ys2),
+              (
+                r2,
+                (
+                  (mShape.the-type .to ((n5 .bin) .a) .0),
+                  (
+                    0,
+                    (
+                      (mEnds.the-type .to r1 .0),
+                      (
+                        (mEnds.the-type .to r1 .1 .0),
+                        (
+                          (mEnds.the-type .to r1 .1 .1
+                              .0),
+                          (n7, (s8, (s9, (s6, tt)))),
+                        ),
+                      ),
+                    ),
+                  ),
+                ),
+              ),
+            ),
+          ),
+        ) ws) ⊛ raw (g4.clauses 𝓤 H A at-mem run ((ν4c ∷ []), (κ₂, (κ₃, (κ₁, tt)))) (
+          r3,
+          (
+            1,
+            (
+              ref2 δ4c
+                  (ys2),
+              (
+                r2,
+                (
+                  (mShape.the-type .to ((n5 .bin) .a) .0),
+                  (
+                    0,
+                    (
+                      (mEnds.the-type .to r1 .0),
+                      (
+                        (mEnds.the-type .to r1 .1 .0),
+                        (
+                          (mEnds.the-type
+                              .to r1 .1 .1 .0),
+                          (n7, (s8, (s9, (s6, tt)))),
+                        ),
+                      ),
+                    ),
+                  ),
+                ),
+              ),
+            ),
+          ),
+        ) .ensures tt r4 (atExit g4.ended ((ν4c ∷ []), (κ₂, (κ₃, (κ₁, tt)))) (
+          r3,
+          (
+            1,
+            (
+              ref2
+                  δ4c (ys2),
+              (
+                r2,
+                (
+                  (mShape.the-type .to ((n5 .bin) .a) .0),
+                  (
+                    0,
+                    (
+                      (mEnds.the-type .to r1 .0),
+                      (
+                        (mEnds.the-type .to r1 .1 .0),
+                        ((mEnds.the-type .to r1 .1 .1 .0), (n7, (s8, (s9, (s6, tt))))),
+                      ),
+                    ),
+                  ),
+                ),
+              ),
+            ),
+          ),
+        ) ws)))))) (id⊢ 𝓤 _) $ await ! tt $ pick ! (λ r4. split ! $ move !
+        (1 ∷ []) $ pick ! (λ ws4. split ! $ move ! (1 ∷ []) $ heard ! _ (λ e4.
+        fsplit ! $ drop ! $ fsplit ! $ drop ! $ fsplit ! $ fsplit ! $ move ! (1 ∷ []) $ feqL ! (λ same4c. move ! (1 ∷ []) $ drop ! $ move ! (1 ∷ [])
+        $ split ! $ move ! (1 ∷ []) $ peeks ! mFailing.the-row (Is mFailing.the-row) (shows 𝓤 H A mFailing.the-row) r4 (z4 ∷ []) (λ i4. drop ! $
+        land ! (from ! (stop !)) (init ! 21 refl (LL.lawful mFailing.the-type lFailing.the-laws 𝓤 H A W .typed r4 _ i4 .0)) $
+        tidy W (_ ∷ _ ∷ _ ∷ _ ∷ _ ∷ _ ∷ _ ∷ _ ∷ _ ∷ _ ∷ _ ∷ _ ∷ _ ∷ _ ∷ _ ∷ _ ∷ _ ∷ _ ∷ _ ∷ _ ∷ _ ∷ _ ∷ _ ∷ _ ∷ _ ∷ _ ∷ _ ∷ _ ∷ _ ∷ _ ∷ _ ∷ _ ∷ _ ∷ _
+        ∷ _ ∷ _ ∷ _ ∷ _ ∷ _ ∷ _ ∷ _ ∷ _ ∷ _ ∷ _ ∷ _ ∷ _ ∷ _ ∷ _ ∷ _ ∷ _ ∷ []) $ split ! $ move ! (1 ∷ []) $ split ! $ move ! (1 ∷ []) $ split ! $
+        move ! (1 ∷ []) $ split ! $ move ! (1 ∷ []) $ drop ! $ move ! (3 ∷ []) $ lft-end ! tt $ move ! (0 ∷ 8 ∷ 4 ∷ []) $ use3 W (later (‵ (O2
+        (ws4 .1 .1 .0)) ⊛ ‵ (flft κ₀ q₀))) (backs2 (named 0) ν4c δ4c (ys2) (ws4 .1 .1 .0) (refl) room2 same4c) $ await ! tt $ split ! $
         assigns ! (addr ! (from ! (fld ! refl (hop ! (look-in ! 49 (sub ! 0 refl (whole !))) (stop !))))) (from ! (stop !)) (init ! 18 refl (tt, tt)) $
-        assigns ! (agg ! (and-then ! (load ! (from ! (stop !)) (look ! 18 refl)) (and-then ! (load ! (from ! (fld ! refl (stop !))) (look-in ! 49 (sub ! 1 refl (whole !)))) (no-more !)))) (from ! (stop !)) (init ! 17 refl (tt, (tt, (record { fits = room2 .0 }, tt)))) $
-        lft-new ! tt (λ ν5c. move ! (1 ∷ 2 ∷ []) $ use2 W (later (some (λ (δ : GName). ‵ (MutSlice (named 0) (ν5c ∷ []) u64 .own (ref2 δ (ws4 .1 .1 .0)) (v2 ∷ [])) ⊛ ‵ (Lent2 ν5c δ (ws4 .1 .1 .0))))) (lends2 (named 0) ν5c (ws4 .1 .1 .0) (same4c)) $ await ! tt $ pick ! (λ δ5c. split ! $ move ! (8 ∷ []) $ use1 W (‵ (O8) ⊛ ‵ (O8)) (shr-slice-copy 𝓤 H A W (named 2) κ₂ u64 .twice s8 (v8 ∷ [])) $ split ! $ move ! (9 ∷ []) $ use1 W (‵ (O9) ⊛ ‵ (O9)) (shr-slice-copy 𝓤 H A W (named 3) κ₃ u64 .twice s9 (v9 ∷ [])) $ split ! $ move ! (10 ∷ []) $ use1 W (‵ (O6) ⊛ ‵ (O6)) (shr-slice-copy 𝓤 H A W (named 1) κ₁ mEntry.the-row .twice s6 (v6 ∷ [])) $ split ! $ tidy W (_ ∷ _ ∷ _ ∷ _ ∷ _ ∷ _ ∷ _ ∷ _ ∷ _ ∷ _ ∷ _ ∷ _ ∷ _ ∷ _ ∷ _ ∷ _ ∷ _ ∷ _ ∷ _ ∷ _ ∷ _ ∷ _ ∷ _ ∷ _ ∷ _ ∷ _ ∷ _ ∷ _ ∷ _ ∷ _ ∷ _ ∷ _ ∷ _ ∷ _ ∷ _ ∷ _ ∷ _ ∷ _ ∷ _ ∷ _ ∷ _ ∷ _ ∷ _ ∷ _ ∷ _ ∷ _ ∷ _ ∷ _ ∷ _ ∷ _ ∷ _ ∷ _ ∷ _ ∷ _ ∷ _ ∷ _ ∷ []) $ nothing ! $ move ! (10 ∷ 0 ∷ []) $ join ! $ move ! (10 ∷ 0 ∷ []) $ join ! $ move ! (10 ∷ 0 ∷ []) $ join ! $ move ! (9 ∷ 0 ∷ []) $ join ! $ move ! (3 ∷ 1 ∷ []) $ join ! $ move ! (4 ∷ 0 ∷ []) $ join ! $ move ! (5 ∷ 0 ∷ []) $ join ! $ move ! (1 ∷ 0 ∷ []) $ join ! $
+        assigns ! (agg ! (and-then ! (load ! (from ! (stop !)) (look ! 18 refl)) (and-then ! (load ! (from ! (fld ! refl (stop !))) (look-in ! 49
+        (sub ! 1 refl (whole !)))) (no-more !)))) (from ! (stop !)) (init ! 17 refl (tt, (tt, (record { fits = room2 .0 }, tt)))) $
+        lft-new ! tt (λ ν5c. move ! (1 ∷ 2 ∷ []) $ use2 W (later (some (λ (δ : GName). ‵ (MutSlice (named 0) (ν5c ∷ []) u64 .own (ref2 δ (ws4 .1 .1
+        .0)) (v2 ∷ [])) ⊛ ‵ (Lent2 ν5c δ (ws4 .1 .1 .0))))) (lends2 (named 0) ν5c (ws4 .1 .1 .0) (same4c)) $ await ! tt $ pick ! (λ δ5c. split !
+        $ move ! (8 ∷ []) $ use1 W (‵ (O8) ⊛ ‵ (O8)) (shr-slice-copy 𝓤 H A W (named 2) κ₂ u64 .twice s8 (v8 ∷ [])) $ split ! $ move ! (9 ∷ []) $
+        use1 W (‵ (O9) ⊛ ‵ (O9)) (shr-slice-copy 𝓤 H A W (named 3) κ₃ u64 .twice s9 (v9 ∷ [])) $ split ! $ move ! (10 ∷ []) $ use1 W (‵ (O6) ⊛ ‵
+        (O6)) (shr-slice-copy 𝓤 H A W (named 1) κ₁ mEntry.the-row .twice s6 (v6 ∷ [])) $ split ! $ tidy W (_ ∷ _ ∷ _ ∷ _ ∷ _ ∷ _ ∷ _ ∷ _ ∷ _ ∷ _
+        ∷ _ ∷ _ ∷ _ ∷ _ ∷ _ ∷ _ ∷ _ ∷ _ ∷ _ ∷ _ ∷ _ ∷ _ ∷ _ ∷ _ ∷ _ ∷ _ ∷ _ ∷ _ ∷ _ ∷ _ ∷ _ ∷ _ ∷ _ ∷ _ ∷ _ ∷ _ ∷ _ ∷ _ ∷ _ ∷ _ ∷ _ ∷ _ ∷ _ ∷ _ ∷
+        _ ∷ _ ∷ _ ∷ _ ∷ _ ∷ _ ∷ _ ∷ _ ∷ _ ∷ _ ∷ _ ∷ _ ∷ []) $ nothing ! $ move ! (10 ∷ 0 ∷ []) $ join ! $ move ! (10 ∷ 0 ∷ []) $ join ! $ move !
+        (10 ∷ 0 ∷ []) $ join ! $ move ! (9 ∷ 0 ∷ []) $ join ! $ move ! (3 ∷ 1 ∷ []) $ join ! $ move ! (4 ∷ 0 ∷ []) $ join ! $ move ! (5 ∷ 0 ∷ [])
+        $ join ! $ move ! (1 ∷ 0 ∷ []) $ join ! $
         -- call 5
-        use1 W (raw (Callee-g4 𝓤 H A at-mem run .pre ((((ν5c ∷ []), (κ₂, (κ₃, (κ₁, tt)))), (fullShare, (q₂, (q₃, (q₁, tt)))), tt, (r4, (2, (ref2 δ5c (ws4 .1 .1 .0), (r2, ((mShape.the-type .to ((n5 .fld) .a) .0), ((mEnds.the-type .to r1 .1 .1 .0), ((mEnds.the-type .to r1 .1 .1 .1 .0), ((mEnds.the-type .to r1 .1 .1 .1 .1 .0), ((mEnds.the-type .to r1 .1 .1 .1 .1 .1 .0), (n7, (s8, (s9, (s6, tt))))))))))))), (z4 ∷ [], ((vint w64 2) ∷ [], (v2 ∷ [], (z2 ∷ [], (((vint w64) (mShape.the-type .to ((n5 .fld) .a) .0)) ∷ [], (((vint w64) (mEnds.the-type .to r1 .1 .1 .0)) ∷ [], (((vint w64) (mEnds.the-type .to r1 .1 .1 .1 .0)) ∷ [], (((vint w64) (mEnds.the-type .to r1 .1 .1 .1 .1 .0)) ∷ [], (((vint w64) (mEnds.the-type .to r1 .1 .1 .1 .1 .1 .0)) ∷ [], (u7 ∷ [], (v8 ∷ [], (v9 ∷ [], (v6 ∷ [], tt)))))))))))))), tt))) (qed W ((‵ (flft (ν5c ∷ []) fullShare) ⊛ ‵ (flft κ₂ q₂) ⊛ ‵ (flft κ₃ q₃) ⊛ ‵ (flft κ₁ q₁) ⊛ ‵ ftrue) ∷ ‵ (MutSlice (named 0) (ν5c ∷ []) u64 .own (ref2 δ5c (ws4 .1 .1 .0)) (v2 ∷ [])) ∷ ‵ (ShrSlice (named 1) κ₂ u64 .own s8 (v8 ∷ [])) ∷ ‵ (ShrSlice (named 2) κ₃ u64 .own s9 (v9 ∷ [])) ∷ ‵ (ShrSlice (named 3) κ₁ mEntry.the-row .own s6 (v6 ∷ [])) ∷ []) ∵ nothing ! $ move ! (5 ∷ 0 ∷ []) $ fjoin ! $ move ! (4 ∷ 0 ∷ []) $ fjoin ! $ move ! (3 ∷ 0 ∷ []) $ fjoin ! $ owned ! u64 (Is u64) (uint-makes 𝓤 H A W w64) (n7) _ w7 $ fjoin ! $ owned ! u64 (Is u64) (uint-makes 𝓤 H A W w64) ((mEnds.the-type .to r1 .1 .1 .1 .1 .1 .0)) _ (LL.owed mEnds.the-type lEnds.the-laws r1 _ (subst (Is mEnds.the-row r1) ((LL.tells mEnds.the-type lEnds.the-laws) r1 _ i1) i1) .1 .1 .1 .1 .1 .0) $ fjoin ! $ owned ! u64 (Is u64) (uint-makes 𝓤 H A W w64) ((mEnds.the-type .to r1 .1 .1 .1 .1 .0)) _ (LL.owed mEnds.the-type lEnds.the-laws r1 _ (subst (Is mEnds.the-row r1) ((LL.tells mEnds.the-type lEnds.the-laws) r1 _ i1) i1) .1 .1 .1 .1 .0) $ fjoin ! $ owned ! u64 (Is u64) (uint-makes 𝓤 H A W w64) ((mEnds.the-type .to r1 .1 .1 .1 .0)) _ (LL.owed mEnds.the-type lEnds.the-laws r1 _ (subst (Is mEnds.the-row r1) ((LL.tells mEnds.the-type lEnds.the-laws) r1 _ i1) i1) .1 .1 .1 .0) $ fjoin ! $ owned ! u64 (Is u64) (uint-makes 𝓤 H A W w64) ((mEnds.the-type .to r1 .1 .1 .0)) _ (LL.owed mEnds.the-type lEnds.the-laws r1 _ (subst (Is mEnds.the-row r1) ((LL.tells mEnds.the-type lEnds.the-laws) r1 _ i1) i1) .1 .1 .0) $ fjoin ! $ owned ! u64 (Is u64) (uint-makes 𝓤 H A W w64) ((mShape.the-type .to ((n5 .fld) .a) .0)) _ (LL.owed mShape.the-type lShape.the-laws ((n5 .fld) .a) _ (LL.owed mSystemShape.the-type lSystemShape.the-laws (n5 .fld) _ (LL.owed mShapes.the-type lShapes.the-laws n5 _ (subst (Is mShapes.the-row n5) ((LL.tells mShapes.the-type lShapes.the-laws) n5 _ w5) w5) .1 .0) .0) .0) $ fjoin ! $ owned ! u64 (Is u64) (uint-makes 𝓤 H A W w64) (r2) _ i2 $ fjoin ! $ move ! (2 ∷ 0 ∷ []) $ fjoin ! $ owned ! u64 (Is u64) (uint-makes 𝓤 H A W w64) (2) _ (refl, lit< tt) $ fjoin ! $ owned ! mFailing.the-row (Is mFailing.the-row) (LL.makes mFailing.the-type lFailing.the-plain 𝓤 H A) (r4) _ i4 $ fjoin ! $ move ! (1 ∷ 0 ∷ []) $ join ! $ nothing ! $ move ! (1 ∷ 0 ∷ []) $ frame ! $ done !) $
-        calls-at ! fm (Callee-g4 𝓤 H A at-mem run) known-g4 ((((ν5c ∷ []), (κ₂, (κ₃, (κ₁, tt)))), (fullShare, (q₂, (q₃, (q₁, tt)))), tt, (r4, (2, (ref2 δ5c (ws4 .1 .1 .0), (r2, ((mShape.the-type .to ((n5 .fld) .a) .0), ((mEnds.the-type .to r1 .1 .1 .0), ((mEnds.the-type .to r1 .1 .1 .1 .0), ((mEnds.the-type .to r1 .1 .1 .1 .1 .0), ((mEnds.the-type .to r1 .1 .1 .1 .1 .1 .0), (n7, (s8, (s9, (s6, tt))))))))))))), (z4 ∷ [], ((vint w64 2) ∷ [], (v2 ∷ [], (z2 ∷ [], (((vint w64) (mShape.the-type .to ((n5 .fld) .a) .0)) ∷ [], (((vint w64) (mEnds.the-type .to r1 .1 .1 .0)) ∷ [], (((vint w64) (mEnds.the-type .to r1 .1 .1 .1 .0)) ∷ [], (((vint w64) (mEnds.the-type .to r1 .1 .1 .1 .1 .0)) ∷ [], (((vint w64) (mEnds.the-type .to r1 .1 .1 .1 .1 .1 .0)) ∷ [], (u7 ∷ [], (v8 ∷ [], (v9 ∷ [], (v6 ∷ [], tt)))))))))))))), tt) (and-then ! (load ! (from ! (stop !)) (look ! 20 refl)) (and-then ! (load ! (from ! (stop !)) (look ! 37 refl)) (and-then ! (load ! (from ! (stop !)) (look ! 14 refl)) (and-then ! (load ! (from ! (stop !)) (look ! 22 refl)) (and-then ! (load ! (from ! (stop !)) (look ! 30 refl)) (and-then ! (load ! (from ! (stop !)) (look ! 26 refl)) (and-then ! (load ! (from ! (stop !)) (look ! 25 refl)) (and-then ! (load ! (from ! (stop !)) (look ! 24 refl)) (and-then ! (load ! (from ! (stop !)) (look ! 23 refl)) (and-then ! (load ! (from ! (stop !)) (look ! 41 refl)) (and-then ! (load ! (from ! (stop !)) (look ! 40 refl)) (and-then ! (load ! (from ! (stop !)) (look ! 39 refl)) (and-then ! (load ! (from ! (stop !)) (look ! 42 refl)) (no-more !)))))))))))))) (λ z5.
-        use1 W (later (some (λ (r5 : Failing). ((‵ (flft (ν5c ∷ []) fullShare) ⊛ ‵ (flft κ₂ q₂) ⊛ ‵ (flft κ₃ q₃) ⊛ ‵ (flft κ₁ q₁) ⊛ ‵ ftrue) ⊛ ‵ (mFailing.the-row .own r5 (z5 ∷ []))) ⊛ some (λ (ws : Lasts g4.ended ((ν5c ∷ []), (κ₂, (κ₃, (κ₁, tt)))) (r4, (2, (ref2 δ5c (ws4 .1 .1 .0), (r2, ((mShape.the-type .to ((n5 .fld) .a) .0), ((mEnds.the-type .to r1 .1 .1 .0), ((mEnds.the-type .to r1 .1 .1 .1 .0), ((mEnds.the-type .to r1 .1 .1 .1 .1 .0), ((mEnds.the-type .to r1 .1 .1 .1 .1 .1 .0), (n7, (s8, (s9, (s6, tt)))))))))))))). ‵ (lasts g4.ended ((ν5c ∷ []), (κ₂, (κ₃, (κ₁, tt)))) (r4, (2, (ref2 δ5c (ws4 .1 .1 .0), (r2, ((mShape.the-type .to ((n5 .fld) .a) .0), ((mEnds.the-type .to r1 .1 .1 .0), ((mEnds.the-type .to r1 .1 .1 .1 .0), ((mEnds.the-type .to r1 .1 .1 .1 .1 .0), ((mEnds.the-type .to r1 .1 .1 .1 .1 .1 .0), (n7, (s8, (s9, (s6, tt))))))))))))) ws) ⊛ raw (g4.clauses 𝓤 H A at-mem run ((ν5c ∷ []), (κ₂, (κ₃, (κ₁, tt)))) (r4, (2, (ref2 δ5c (ws4 .1 .1 .0), (r2, ((mShape.the-type .to ((n5 .fld) .a) .0), ((mEnds.the-type .to r1 .1 .1 .0), ((mEnds.the-type .to r1 .1 .1 .1 .0), ((mEnds.the-type .to r1 .1 .1 .1 .1 .0), ((mEnds.the-type .to r1 .1 .1 .1 .1 .1 .0), (n7, (s8, (s9, (s6, tt))))))))))))) .ensures tt r5 (atExit g4.ended ((ν5c ∷ []), (κ₂, (κ₃, (κ₁, tt)))) (r4, (2, (ref2 δ5c (ws4 .1 .1 .0), (r2, ((mShape.the-type .to ((n5 .fld) .a) .0), ((mEnds.the-type .to r1 .1 .1 .0), ((mEnds.the-type .to r1 .1 .1 .1 .0), ((mEnds.the-type .to r1 .1 .1 .1 .1 .0), ((mEnds.the-type .to r1 .1 .1 .1 .1 .1 .0), (n7, (s8, (s9, (s6, tt))))))))))))) ws)))))) (id⊢ 𝓤 _) $ await ! tt $ pick ! (λ r5. split ! $ move ! (1 ∷ []) $ pick ! (λ ws5. split ! $ move ! (1 ∷ []) $ heard ! _ (λ e5.
-        fsplit ! $ drop ! $ fsplit ! $ drop ! $ fsplit ! $ fsplit ! $ move ! (1 ∷ []) $ feqL ! (λ same5c. move ! (1 ∷ []) $ drop ! $ move ! (1 ∷ []) $ split ! $ move ! (1 ∷ []) $ peeks ! mFailing.the-row (Is mFailing.the-row) (shows 𝓤 H A mFailing.the-row) r5 (z5 ∷ []) (λ i5. drop ! $ land ! (from ! (stop !)) (init ! 20 refl (LL.lawful mFailing.the-type lFailing.the-laws 𝓤 H A W .typed r5 _ i5 .0)) $
-        tidy W (_ ∷ _ ∷ _ ∷ _ ∷ _ ∷ _ ∷ _ ∷ _ ∷ _ ∷ _ ∷ _ ∷ _ ∷ _ ∷ _ ∷ _ ∷ _ ∷ _ ∷ _ ∷ _ ∷ _ ∷ _ ∷ _ ∷ _ ∷ _ ∷ _ ∷ _ ∷ _ ∷ _ ∷ _ ∷ _ ∷ _ ∷ _ ∷ _ ∷ _ ∷ _ ∷ _ ∷ _ ∷ _ ∷ _ ∷ _ ∷ _ ∷ _ ∷ _ ∷ _ ∷ _ ∷ _ ∷ _ ∷ _ ∷ _ ∷ _ ∷ []) $ split ! $ move ! (1 ∷ []) $ split ! $ move ! (1 ∷ []) $ split ! $ move ! (1 ∷ []) $ split ! $ move ! (1 ∷ []) $ drop ! $ move ! (3 ∷ []) $ lft-end ! tt $ move ! (0 ∷ 8 ∷ 4 ∷ []) $ use3 W (later (‵ (O2 (ws5 .1 .1 .0)) ⊛ ‵ (flft κ₀ q₀))) (backs2 (named 0) ν5c δ5c (ws4 .1 .1 .0) (ws5 .1 .1 .0) (same4c) room2 same5c) $ await ! tt $ split ! $
+        use1 W (raw (Callee-g4 𝓤 H A at-mem run .pre (
+          (
+            ((ν5c ∷ []), (κ₂, (κ₃, (κ₁, tt)))),
+            (fullShare, (q₂, (q₃, (q₁, tt)))),
+            tt,
+            (
+              r4,
+              (
+                2,
+                (
+                  ref2 δ5c
+                      (ws4 .1 .1 .0),
+                  (
+                    r2,
+                    (
+                      (mShape.the-type .to ((n5 .fld) .a) .0),
+                      (
+                        (mEnds.the-type .to r1 .1 .1 .0),
+                        (
+                          (mEnds.the-type .to r1 .1 .1 .1 .0),
+                          ((mEnds.the-type .to r1 .1 .1 .1 .1 .0), ((mEnds.the-type .to r1 .1 .1 .1 .1 .1 .0), (n7, (s8, (s9, (s6, tt)))))),
+                        ),
+                      ),
+                    ),
+                  ),
+                ),
+              ),
+            ),
+            (
+              z4 ∷ [],
+              (
+                (vint w64 2) ∷ [],
+                (
+                  v2 ∷ [],
+                  (
+                    z2 ∷ [],
+                    (
+                      ((vint w64) (mShape.the-type .to ((n5 .fld) .a) .0)) ∷ [],
+                      (
+                        ((vint w64) (mEnds.the-type .to r1
+                            .1 .1 .0)) ∷ [],
+                        (
+                          ((vint w64) (mEnds.the-type .to r1 .1 .1 .1 .0)) ∷ [],
+                          (
+                            ((vint w64) (mEnds.the-type .to r1 .1 .1 .1 .1 .0)) ∷ [],
+                            (((vint w64) (mEnds.the-type .to r1 .1 .1 .1 .1 .1 .0)) ∷ [], (u7 ∷ [], (v8 ∷ [], (v9 ∷ [], (v6 ∷ [], tt))))),
+                          ),
+                        ),
+                      ),
+                    ),
+                  ),
+                ),
+              ),
+            ),
+          ),
+          tt,
+        ))) (qed W ((‵
+        (flft (ν5c ∷ []) fullShare) ⊛ ‵ (flft κ₂ q₂) ⊛ ‵ (flft κ₃ q₃) ⊛ ‵ (flft κ₁ q₁) ⊛ ‵ ftrue) ∷ ‵ (MutSlice (named 0) (ν5c ∷ []) u64 .own
+        (ref2 δ5c (ws4 .1 .1 .0)) (v2 ∷ [])) ∷ ‵ (ShrSlice (named 1) κ₂ u64 .own s8 (v8 ∷ [])) ∷ ‵ (ShrSlice (named 2) κ₃ u64 .own s9 (v9 ∷ []))
+        ∷ ‵ (ShrSlice (named 3) κ₁ mEntry.the-row .own s6 (v6 ∷ [])) ∷ []) ∵ nothing ! $ move ! (5 ∷ 0 ∷ []) $ fjoin ! $ move ! (4 ∷ 0 ∷ []) $
+        fjoin ! $ move ! (3 ∷ 0 ∷ []) $ fjoin ! $ owned ! u64 (Is u64) (uint-makes 𝓤 H A W w64) (n7) _ w7 $ fjoin ! $ owned ! u64 (Is u64)
+        (uint-makes 𝓤 H A W w64) ((mEnds.the-type .to r1 .1 .1 .1 .1 .1 .0)) _ (LL.owed mEnds.the-type lEnds.the-laws r1 _ (subst (Is
+        mEnds.the-row r1) ((LL.tells mEnds.the-type lEnds.the-laws) r1 _ i1) i1) .1 .1 .1 .1 .1 .0) $ fjoin ! $ owned ! u64 (Is u64) (uint-makes
+        𝓤 H A W w64) ((mEnds.the-type .to r1 .1 .1 .1 .1 .0)) _ (LL.owed mEnds.the-type lEnds.the-laws r1 _ (subst (Is mEnds.the-row r1)
+        ((LL.tells mEnds.the-type lEnds.the-laws) r1 _ i1) i1) .1 .1 .1 .1 .0) $ fjoin ! $ owned ! u64 (Is u64) (uint-makes 𝓤 H A W w64)
+        ((mEnds.the-type .to r1 .1 .1 .1 .0)) _ (LL.owed mEnds.the-type lEnds.the-laws r1 _ (subst (Is mEnds.the-row r1) ((LL.tells
+        mEnds.the-type lEnds.the-laws) r1 _ i1) i1) .1 .1 .1 .0) $ fjoin ! $ owned ! u64 (Is u64) (uint-makes 𝓤 H A W w64) ((mEnds.the-type .to
+        r1 .1 .1 .0)) _ (LL.owed mEnds.the-type lEnds.the-laws r1 _ (subst (Is mEnds.the-row r1) ((LL.tells mEnds.the-type lEnds.the-laws) r1 _
+        i1) i1) .1 .1 .0) $ fjoin ! $ owned ! u64 (Is u64) (uint-makes 𝓤 H A W w64) ((mShape.the-type .to ((n5 .fld) .a) .0)) _ (LL.owed
+        mShape.the-type lShape.the-laws ((n5 .fld) .a) _ (LL.owed mSystemShape.the-type lSystemShape.the-laws (n5 .fld) _ (LL.owed
+        mShapes.the-type lShapes.the-laws n5 _ (subst (Is mShapes.the-row n5) ((LL.tells mShapes.the-type lShapes.the-laws) n5 _ w5) w5) .1 .0)
+        .0) .0) $ fjoin ! $ owned ! u64 (Is u64) (uint-makes 𝓤 H A W w64) (r2) _ i2 $ fjoin ! $ move ! (2 ∷ 0 ∷ []) $ fjoin ! $ owned ! u64 (Is
+        u64) (uint-makes 𝓤 H A W w64) (2) _ (refl, lit< tt) $ fjoin ! $ owned ! mFailing.the-row (Is mFailing.the-row) (LL.makes
+        mFailing.the-type lFailing.the-plain 𝓤 H A) (r4) _ i4 $ fjoin ! $ move ! (1 ∷ 0 ∷ []) $ join ! $ nothing ! $ move ! (1 ∷ 0 ∷ []) $ frame
+        ! $ done !) $
+        calls-at ! fm (Callee-g4 𝓤 H A at-mem run) known-g4 (
+          (
+            ((ν5c ∷ []), (κ₂, (κ₃, (κ₁, tt)))),
+            (fullShare, (q₂, (q₃, (q₁, tt)))),
+            tt,
+            (
+              r4,
+              (
+                2,
+                (
+                  ref2 δ5c (ws4 .1 .1 .0),
+                  (
+                    r2,
+                    (
+                      (mShape.the-type .to ((n5 .fld) .a) .0),
+                      (
+                        (mEnds.the-type .to r1 .1 .1 .0),
+                        (
+                          (mEnds.the-type .to r1 .1 .1
+                              .1 .0),
+                          ((mEnds.the-type .to r1 .1 .1 .1 .1 .0), ((mEnds.the-type .to r1 .1 .1 .1 .1 .1 .0), (n7, (s8, (s9, (s6, tt)))))),
+                        ),
+                      ),
+                    ),
+                  ),
+                ),
+              ),
+            ),
+            (
+              z4 ∷
+                  [],
+              (
+                (vint w64 2) ∷ [],
+                (
+                  v2 ∷ [],
+                  (
+                    z2 ∷ [],
+                    (
+                      ((vint w64) (mShape.the-type .to ((n5 .fld) .a) .0)) ∷ [],
+                      (
+                        ((vint w64) (mEnds.the-type .to
+                            r1 .1 .1 .0)) ∷ [],
+                        (
+                          ((vint w64) (mEnds.the-type .to r1 .1 .1 .1 .0)) ∷ [],
+                          (
+                            ((vint w64) (mEnds.the-type .to r1 .1 .1 .1 .1 .0)) ∷ [],
+                            (((vint w64) (mEnds.the-type .to r1 .1 .1 .1 .1 .1 .0)) ∷ [], (u7 ∷ [], (v8 ∷ [], (v9 ∷ [], (v6 ∷ [], tt))))),
+                          ),
+                        ),
+                      ),
+                    ),
+                  ),
+                ),
+              ),
+            ),
+          ),
+          tt,
+        ) (and-then !
+        (load ! (from ! (stop !)) (look ! 20 refl)) (and-then ! (load ! (from ! (stop !)) (look ! 37 refl)) (and-then ! (load ! (from ! (stop !))
+        (look ! 14 refl)) (and-then ! (load ! (from ! (stop !)) (look ! 22 refl)) (and-then ! (load ! (from ! (stop !)) (look ! 30 refl))
+        (and-then ! (load ! (from ! (stop !)) (look ! 26 refl)) (and-then ! (load ! (from ! (stop !)) (look ! 25 refl)) (and-then ! (load ! (from
+        ! (stop !)) (look ! 24 refl)) (and-then ! (load ! (from ! (stop !)) (look ! 23 refl)) (and-then ! (load ! (from ! (stop !)) (look ! 41
+        refl)) (and-then ! (load ! (from ! (stop !)) (look ! 40 refl)) (and-then ! (load ! (from ! (stop !)) (look ! 39 refl)) (and-then ! (load
+        ! (from ! (stop !)) (look ! 42 refl)) (no-more !)))))))))))))) (λ z5.
+        use1 W (later (some (λ (r5 : Failing). ((‵ (flft (ν5c ∷ []) fullShare) ⊛ ‵ (flft κ₂ q₂) ⊛ ‵ (flft κ₃ q₃) ⊛ ‵ (flft κ₁ q₁) ⊛ ‵ ftrue) ⊛ ‵
+        (mFailing.the-row .own r5 (z5 ∷ []))) ⊛ some (λ (ws : Lasts g4.ended ((ν5c ∷ []), (κ₂, (κ₃, (κ₁, tt)))) (
+          r4,
+          (
+            2,
+            (
+              ref2 δ5c (ws4 .1 .1
+                  .0),
+              (
+                r2,
+                (
+                  (mShape.the-type .to ((n5 .fld) .a) .0),
+                  (
+                    (mEnds.the-type .to r1 .1 .1 .0),
+                    (
+                      (mEnds.the-type .to r1 .1 .1 .1 .0),
+                      ((mEnds.the-type .to r1 .1 .1 .1 .1 .0), ((mEnds.the-type .to r1 .1 .1 .1 .1 .1 .0), (n7, (s8, (s9, (s6, tt)))))),
+                    ),
+                  ),
+                ),
+              ),
+            ),
+          ),
+        )). ‵ (lasts
+        g4.ended ((ν5c ∷ []), (κ₂, (κ₃, (κ₁, tt)))) (
+          r4,
+          (
+            2,
+            (
+              ref2 δ5c (ws4 .1 .1 .0),
+              (
+                r2,
+                (
+                  (mShape.the-type .to ((n5 .fld) .a) .0),
+                  (
+                    (mEnds.the-type .to r1 .1 .1 .0),
+                    (
+                      (mEnds.the-type .to r1 .1 .1 .1 .0),
+                      (
+                        (mEnds.the-type .to r1 .1 .1 .1 .1 .0),
+                        (
+                          (mEnds.the-type .to r1
+                              .1 .1 .1 .1 .1 .0),
+                          (n7, (s8, (s9, (s6, tt)))),
+                        ),
+                      ),
+                    ),
+                  ),
+                ),
+              ),
+            ),
+          ),
+        ) ws) ⊛ raw (g4.clauses 𝓤 H A at-mem run ((ν5c ∷ []), (κ₂, (κ₃, (κ₁, tt)))) (
+          r4,
+          (
+            2,
+            (
+              ref2 δ5c (ws4 .1 .1 .0),
+              (
+                r2,
+                (
+                  (mShape.the-type .to ((n5 .fld) .a) .0),
+                  (
+                    (mEnds.the-type .to r1 .1 .1 .0),
+                    (
+                      (mEnds.the-type .to r1
+                          .1 .1 .1 .0),
+                      ((mEnds.the-type .to r1 .1 .1 .1 .1 .0), ((mEnds.the-type .to r1 .1 .1 .1 .1 .1 .0), (n7, (s8, (s9, (s6, tt)))))),
+                    ),
+                  ),
+                ),
+              ),
+            ),
+          ),
+        )
+        .ensures tt r5 (atExit g4.ended ((ν5c ∷ []), (κ₂, (κ₃, (κ₁, tt)))) (
+          r4,
+          (
+            2,
+            (
+              ref2 δ5c (ws4 .1 .1 .0),
+              (
+                r2,
+                (
+                  (mShape.the-type .to ((n5
+                      .fld) .a) .0),
+                  (
+                    (mEnds.the-type .to r1 .1 .1 .0),
+                    (
+                      (mEnds.the-type .to r1 .1 .1 .1 .0),
+                      (
+                        (mEnds.the-type .to r1 .1 .1 .1 .1 .0),
+                        ((mEnds.the-type .to r1 .1 .1 .1 .1 .1 .0), (n7, (s8, (s9, (s6, tt))))),
+                      ),
+                    ),
+                  ),
+                ),
+              ),
+            ),
+          ),
+        ) ws)))))) (id⊢ 𝓤 _) $ await ! tt $ pick ! (λ r5. split ! $
+        move ! (1 ∷ []) $ pick ! (λ ws5. split ! $ move ! (1 ∷ []) $ heard ! _ (λ e5.
+        fsplit ! $ drop ! $ fsplit ! $ drop ! $ fsplit ! $ fsplit ! $ move ! (1 ∷ []) $ feqL ! (λ same5c. move ! (1 ∷ []) $ drop ! $ move ! (1 ∷ [])
+        $ split ! $ move ! (1 ∷ []) $ peeks ! mFailing.the-row (Is mFailing.the-row) (shows 𝓤 H A mFailing.the-row) r5 (z5 ∷ []) (λ i5. drop ! $
+        land ! (from ! (stop !)) (init ! 20 refl (LL.lawful mFailing.the-type lFailing.the-laws 𝓤 H A W .typed r5 _ i5 .0)) $
+        tidy W (_ ∷ _ ∷ _ ∷ _ ∷ _ ∷ _ ∷ _ ∷ _ ∷ _ ∷ _ ∷ _ ∷ _ ∷ _ ∷ _ ∷ _ ∷ _ ∷ _ ∷ _ ∷ _ ∷ _ ∷ _ ∷ _ ∷ _ ∷ _ ∷ _ ∷ _ ∷ _ ∷ _ ∷ _ ∷ _ ∷ _ ∷ _ ∷ _ ∷ _
+        ∷ _ ∷ _ ∷ _ ∷ _ ∷ _ ∷ _ ∷ _ ∷ _ ∷ _ ∷ _ ∷ _ ∷ _ ∷ _ ∷ _ ∷ _ ∷ _ ∷ []) $ split ! $ move ! (1 ∷ []) $ split ! $ move ! (1 ∷ []) $ split ! $
+        move ! (1 ∷ []) $ split ! $ move ! (1 ∷ []) $ drop ! $ move ! (3 ∷ []) $ lft-end ! tt $ move ! (0 ∷ 8 ∷ 4 ∷ []) $ use3 W (later (‵ (O2
+        (ws5 .1 .1 .0)) ⊛ ‵ (flft κ₀ q₀))) (backs2 (named 0) ν5c δ5c (ws4 .1 .1 .0) (ws5 .1 .1 .0) (same4c) room2 same5c) $ await ! tt $ split ! $
         assigns ! (addr ! (from ! (fld ! refl (hop ! (look-in ! 49 (sub ! 0 refl (whole !))) (stop !))))) (from ! (stop !)) (init ! 15 refl (tt, tt)) $
-        assigns ! (agg ! (and-then ! (load ! (from ! (stop !)) (look ! 15 refl)) (and-then ! (load ! (from ! (fld ! refl (stop !))) (look-in ! 49 (sub ! 1 refl (whole !)))) (no-more !)))) (from ! (stop !)) (init ! 14 refl (tt, (tt, (record { fits = room2 .0 }, tt)))) $
-        lft-new ! tt (λ ν6b. move ! (1 ∷ 2 ∷ []) $ use2 W (later (some (λ (δ : GName). ‵ (MutSlice (named 0) (ν6b ∷ []) u64 .own (ref2 δ (ws5 .1 .1 .0)) (v2 ∷ [])) ⊛ ‵ (Lent2 ν6b δ (ws5 .1 .1 .0))))) (lends2 (named 0) ν6b (ws5 .1 .1 .0) (same5c ∙ same4c)) $ await ! tt $ pick ! (λ δ6b. split ! $ tidy W (_ ∷ _ ∷ _ ∷ _ ∷ _ ∷ _ ∷ _ ∷ _ ∷ _ ∷ _ ∷ _ ∷ _ ∷ _ ∷ _ ∷ _ ∷ _ ∷ _ ∷ _ ∷ _ ∷ _ ∷ _ ∷ _ ∷ _ ∷ _ ∷ _ ∷ _ ∷ _ ∷ _ ∷ _ ∷ _ ∷ _ ∷ _ ∷ _ ∷ _ ∷ _ ∷ _ ∷ _ ∷ _ ∷ _ ∷ _ ∷ _ ∷ _ ∷ _ ∷ _ ∷ _ ∷ _ ∷ _ ∷ _ ∷ _ ∷ _ ∷ _ ∷ _ ∷ _ ∷ []) $ nothing ! $ move ! (3 ∷ 0 ∷ []) $ join ! $ join ! $
+        assigns ! (agg ! (and-then ! (load ! (from ! (stop !)) (look ! 15 refl)) (and-then ! (load ! (from ! (fld ! refl (stop !))) (look-in ! 49
+        (sub ! 1 refl (whole !)))) (no-more !)))) (from ! (stop !)) (init ! 14 refl (tt, (tt, (record { fits = room2 .0 }, tt)))) $
+        lft-new ! tt (λ ν6b. move ! (1 ∷ 2 ∷ []) $ use2 W (later (some (λ (δ : GName). ‵ (MutSlice (named 0) (ν6b ∷ []) u64 .own (ref2 δ (ws5 .1 .1
+        .0)) (v2 ∷ [])) ⊛ ‵ (Lent2 ν6b δ (ws5 .1 .1 .0))))) (lends2 (named 0) ν6b (ws5 .1 .1 .0) (same5c ∙ same4c)) $ await ! tt $ pick ! (λ δ6b.
+        split ! $ tidy W (_ ∷ _ ∷ _ ∷ _ ∷ _ ∷ _ ∷ _ ∷ _ ∷ _ ∷ _ ∷ _ ∷ _ ∷ _ ∷ _ ∷ _ ∷ _ ∷ _ ∷ _ ∷ _ ∷ _ ∷ _ ∷ _ ∷ _ ∷ _ ∷ _ ∷ _ ∷ _ ∷ _ ∷ _ ∷ _ ∷
+        _ ∷ _ ∷ _ ∷ _ ∷ _ ∷ _ ∷ _ ∷ _ ∷ _ ∷ _ ∷ _ ∷ _ ∷ _ ∷ _ ∷ _ ∷ _ ∷ _ ∷ _ ∷ _ ∷ _ ∷ _ ∷ _ ∷ _ ∷ []) $ nothing ! $ move ! (3 ∷ 0 ∷ []) $ join
+        ! $ join ! $
         -- call 6
-        use1 W (raw (Callee-g5 𝓤 H A at-mem run .pre ((((ν6b ∷ []), tt), (fullShare, tt), tt, (n1, (ref2 δ6b (ws5 .1 .1 .0), ((mShape.the-type .to ((n5 .bin) .a) .0), ((mShape.the-type .to ((n5 .fld) .a) .0), tt)))), (u1 ∷ [], (v2 ∷ [], (((vint w64) (mShape.the-type .to ((n5 .bin) .a) .0)) ∷ [], (((vint w64) (mShape.the-type .to ((n5 .fld) .a) .0)) ∷ [], tt))))), tt))) (qed W ((‵ (flft (ν6b ∷ []) fullShare) ⊛ ‵ ftrue) ∷ ‵ (MutSlice (named 0) (ν6b ∷ []) u64 .own (ref2 δ6b (ws5 .1 .1 .0)) (v2 ∷ [])) ∷ []) ∵ nothing ! $ owned ! u64 (Is u64) (uint-makes 𝓤 H A W w64) ((mShape.the-type .to ((n5 .fld) .a) .0)) _ (LL.owed mShape.the-type lShape.the-laws ((n5 .fld) .a) _ (LL.owed mSystemShape.the-type lSystemShape.the-laws (n5 .fld) _ (LL.owed mShapes.the-type lShapes.the-laws n5 _ (subst (Is mShapes.the-row n5) ((LL.tells mShapes.the-type lShapes.the-laws) n5 _ w5) w5) .1 .0) .0) .0) $ fjoin ! $ owned ! u64 (Is u64) (uint-makes 𝓤 H A W w64) ((mShape.the-type .to ((n5 .bin) .a) .0)) _ (LL.owed mShape.the-type lShape.the-laws ((n5 .bin) .a) _ (LL.owed mSystemShape.the-type lSystemShape.the-laws (n5 .bin) _ (LL.owed mShapes.the-type lShapes.the-laws n5 _ (subst (Is mShapes.the-row n5) ((LL.tells mShapes.the-type lShapes.the-laws) n5 _ w5) w5) .0) .0) .0) $ fjoin ! $ move ! (2 ∷ 0 ∷ []) $ fjoin ! $ owned ! u32 (Is u32) (uint-makes 𝓤 H A W w32) (n1) _ w1 $ fjoin ! $ move ! (1 ∷ 0 ∷ []) $ join ! $ nothing ! $ move ! (1 ∷ 0 ∷ []) $ frame ! $ done !) $
-        calls-at ! fm (Callee-g5 𝓤 H A at-mem run) known-g5 ((((ν6b ∷ []), tt), (fullShare, tt), tt, (n1, (ref2 δ6b (ws5 .1 .1 .0), ((mShape.the-type .to ((n5 .bin) .a) .0), ((mShape.the-type .to ((n5 .fld) .a) .0), tt)))), (u1 ∷ [], (v2 ∷ [], (((vint w64) (mShape.the-type .to ((n5 .bin) .a) .0)) ∷ [], (((vint w64) (mShape.the-type .to ((n5 .fld) .a) .0)) ∷ [], tt))))), tt) (and-then ! (load ! (from ! (stop !)) (look ! 50 refl)) (and-then ! (load ! (from ! (stop !)) (look ! 14 refl)) (and-then ! (load ! (from ! (stop !)) (look ! 34 refl)) (and-then ! (load ! (from ! (stop !)) (look ! 33 refl)) (no-more !))))) (λ z6.
-        use1 W (later (some (λ (r6 : Unit {0}). ((‵ (flft (ν6b ∷ []) fullShare) ⊛ ‵ ftrue) ⊛ ‵ (unit .own r6 (z6 ∷ []))) ⊛ some (λ (ws : Lasts g5.ended ((ν6b ∷ []), tt) (n1, (ref2 δ6b (ws5 .1 .1 .0), ((mShape.the-type .to ((n5 .bin) .a) .0), ((mShape.the-type .to ((n5 .fld) .a) .0), tt))))). ‵ (lasts g5.ended ((ν6b ∷ []), tt) (n1, (ref2 δ6b (ws5 .1 .1 .0), ((mShape.the-type .to ((n5 .bin) .a) .0), ((mShape.the-type .to ((n5 .fld) .a) .0), tt)))) ws) ⊛ raw (g5.clauses 𝓤 H A at-mem run ((ν6b ∷ []), tt) (n1, (ref2 δ6b (ws5 .1 .1 .0), ((mShape.the-type .to ((n5 .bin) .a) .0), ((mShape.the-type .to ((n5 .fld) .a) .0), tt)))) .ensures tt r6 (atExit g5.ended ((ν6b ∷ []), tt) (n1, (ref2 δ6b (ws5 .1 .1 .0), ((mShape.the-type .to ((n5 .bin) .a) .0), ((mShape.the-type .to ((n5 .fld) .a) .0), tt)))) ws)))))) (id⊢ 𝓤 _) $ await ! tt $ pick ! (λ r6. split ! $ move ! (1 ∷ []) $ pick ! (λ ws6. split ! $ move ! (1 ∷ []) $ heard ! _ (λ e6.
-        fsplit ! $ drop ! $ fsplit ! $ fsplit ! $ move ! (1 ∷ []) $ feqL ! (λ same6b. move ! (1 ∷ []) $ drop ! $ move ! (1 ∷ []) $ split ! $ move ! (1 ∷ []) $ feqL ! (λ i6. land ! (from ! (stop !)) (init ! 17 refl (subst (λ (t : Val). Trueᴮ (hasTy tyUnit t) × WT t) (sym (ap only i6)) (tt, tt))) $
-        tidy W (_ ∷ _ ∷ _ ∷ _ ∷ _ ∷ _ ∷ _ ∷ _ ∷ _ ∷ _ ∷ _ ∷ _ ∷ _ ∷ _ ∷ _ ∷ _ ∷ _ ∷ _ ∷ _ ∷ _ ∷ _ ∷ _ ∷ _ ∷ _ ∷ _ ∷ _ ∷ _ ∷ _ ∷ _ ∷ _ ∷ _ ∷ _ ∷ _ ∷ _ ∷ _ ∷ _ ∷ _ ∷ _ ∷ _ ∷ _ ∷ _ ∷ _ ∷ _ ∷ _ ∷ _ ∷ _ ∷ _ ∷ _ ∷ _ ∷ _ ∷ _ ∷ _ ∷ _ ∷ []) $ split ! $ move ! (1 ∷ []) $ drop ! $ lft-end ! tt $ move ! (0 ∷ 2 ∷ 1 ∷ []) $ use3 W (later (‵ (O2 (ws6 .1 .0)) ⊛ ‵ (flft κ₀ q₀))) (backs2 (named 0) ν6b δ6b (ws5 .1 .1 .0) (ws6 .1 .0) (same5c ∙ same4c) room2 same6b) $ await ! tt $ split ! $
+        use1 W (raw (Callee-g5 𝓤 H A at-mem run .pre (
+          (
+            ((ν6b ∷ []), tt),
+            (fullShare, tt),
+            tt,
+            (
+              n1,
+              (
+                ref2 δ6b (ws5 .1 .1 .0),
+                (
+                  (mShape.the-type .to
+                      ((n5 .bin) .a) .0),
+                  ((mShape.the-type .to ((n5 .fld) .a) .0), tt),
+                ),
+              ),
+            ),
+            (
+              u1 ∷ [],
+              (
+                v2 ∷ [],
+                (
+                  ((vint w64) (mShape.the-type .to ((n5 .bin)
+                      .a) .0)) ∷ [],
+                  (((vint w64) (mShape.the-type .to ((n5 .fld) .a) .0)) ∷ [], tt),
+                ),
+              ),
+            ),
+          ),
+          tt,
+        ))) (qed W ((‵ (flft (ν6b ∷ []) fullShare) ⊛ ‵
+        ftrue) ∷ ‵ (MutSlice (named 0) (ν6b ∷ []) u64 .own (ref2 δ6b (ws5 .1 .1 .0)) (v2 ∷ [])) ∷ []) ∵ nothing ! $ owned ! u64 (Is u64)
+        (uint-makes 𝓤 H A W w64) ((mShape.the-type .to ((n5 .fld) .a) .0)) _ (LL.owed mShape.the-type lShape.the-laws ((n5 .fld) .a) _ (LL.owed
+        mSystemShape.the-type lSystemShape.the-laws (n5 .fld) _ (LL.owed mShapes.the-type lShapes.the-laws n5 _ (subst (Is mShapes.the-row n5)
+        ((LL.tells mShapes.the-type lShapes.the-laws) n5 _ w5) w5) .1 .0) .0) .0) $ fjoin ! $ owned ! u64 (Is u64) (uint-makes 𝓤 H A W w64)
+        ((mShape.the-type .to ((n5 .bin) .a) .0)) _ (LL.owed mShape.the-type lShape.the-laws ((n5 .bin) .a) _ (LL.owed mSystemShape.the-type
+        lSystemShape.the-laws (n5 .bin) _ (LL.owed mShapes.the-type lShapes.the-laws n5 _ (subst (Is mShapes.the-row n5) ((LL.tells
+        mShapes.the-type lShapes.the-laws) n5 _ w5) w5) .0) .0) .0) $ fjoin ! $ move ! (2 ∷ 0 ∷ []) $ fjoin ! $ owned ! u32 (Is u32) (uint-makes
+        𝓤 H A W w32) (n1) _ w1 $ fjoin ! $ move ! (1 ∷ 0 ∷ []) $ join ! $ nothing ! $ move ! (1 ∷ 0 ∷ []) $ frame ! $ done !) $
+        calls-at ! fm (Callee-g5 𝓤 H A at-mem run) known-g5 (
+          (
+            ((ν6b ∷ []), tt),
+            (fullShare, tt),
+            tt,
+            (
+              n1,
+              (
+                ref2 δ6b (ws5 .1 .1 .0),
+                (
+                  (mShape.the-type
+                      .to ((n5 .bin) .a) .0),
+                  ((mShape.the-type .to ((n5 .fld) .a) .0), tt),
+                ),
+              ),
+            ),
+            (
+              u1 ∷ [],
+              (
+                v2 ∷ [],
+                (
+                  ((vint w64) (mShape.the-type .to ((n5
+                      .bin) .a) .0)) ∷ [],
+                  (((vint w64) (mShape.the-type .to ((n5 .fld) .a) .0)) ∷ [], tt),
+                ),
+              ),
+            ),
+          ),
+          tt,
+        ) (and-then ! (load ! (from ! (stop !)) (look
+        ! 50 refl)) (and-then ! (load ! (from ! (stop !)) (look ! 14 refl)) (and-then ! (load ! (from ! (stop !)) (look ! 34 refl)) (and-then !
+        (load ! (from ! (stop !)) (look ! 33 refl)) (no-more !))))) (λ z6.
+        use1 W (later (some (λ (r6 : Unit {0}). ((‵ (flft (ν6b ∷ []) fullShare) ⊛ ‵ ftrue) ⊛ ‵ (unit .own r6 (z6 ∷ []))) ⊛ some (λ (ws : Lasts
+        g5.ended ((ν6b ∷ []), tt) (
+          n1,
+          (
+            ref2 δ6b (ws5 .1 .1 .0),
+            (
+              (mShape.the-type .to ((n5 .bin) .a) .0),
+              (
+                (mShape.the-type .to ((n5 .fld) .a)
+                    .0),
+                tt,
+              ),
+            ),
+          ),
+        )). ‵ (lasts g5.ended ((ν6b ∷ []), tt) (
+          n1,
+          (
+            ref2 δ6b (ws5 .1 .1 .0),
+            (
+              (mShape.the-type .to ((n5 .bin) .a) .0),
+              ((mShape.the-type .to ((n5 .fld) .a) .0), tt),
+            ),
+          ),
+        ) ws) ⊛ raw (g5.clauses 𝓤 H A at-mem run ((ν6b ∷ []), tt) (
+          n1,
+          (
+            ref2 δ6b (ws5 .1 .1 .0),
+            ((mShape.the-type .to ((n5 .bin) .a) .0), ((mShape.the-type .to ((n5 .fld) .a) .0), tt)),
+          ),
+        ) .ensures tt r6 (atExit g5.ended (
+          (ν6b ∷ []),
+          tt,
+        ) (n1, (ref2 δ6b (ws5 .1 .1 .0), ((mShape.the-type .to ((n5 .bin) .a) .0), ((mShape.the-type .to ((n5 .fld) .a) .0), tt)))) ws))))))
+        (id⊢ 𝓤 _) $ await ! tt $ pick ! (λ r6. split ! $ move ! (1 ∷ []) $ pick ! (λ ws6. split ! $ move ! (1 ∷ []) $ heard ! _ (λ e6.
+        fsplit ! $ drop ! $ fsplit ! $ fsplit ! $ move ! (1 ∷ []) $ feqL ! (λ same6b. move ! (1 ∷ []) $ drop ! $ move ! (1 ∷ []) $ split ! $ move !
+        (1 ∷ []) $ feqL ! (λ i6. land ! (from ! (stop !)) (init ! 17 refl (subst (λ (t : Val). Trueᴮ (hasTy tyUnit t) × WT t) (sym (ap only i6))
+        (tt, tt))) $
+        tidy W (_ ∷ _ ∷ _ ∷ _ ∷ _ ∷ _ ∷ _ ∷ _ ∷ _ ∷ _ ∷ _ ∷ _ ∷ _ ∷ _ ∷ _ ∷ _ ∷ _ ∷ _ ∷ _ ∷ _ ∷ _ ∷ _ ∷ _ ∷ _ ∷ _ ∷ _ ∷ _ ∷ _ ∷ _ ∷ _ ∷ _ ∷ _ ∷ _ ∷ _
+        ∷ _ ∷ _ ∷ _ ∷ _ ∷ _ ∷ _ ∷ _ ∷ _ ∷ _ ∷ _ ∷ _ ∷ _ ∷ _ ∷ _ ∷ _ ∷ _ ∷ _ ∷ _ ∷ _ ∷ []) $ split ! $ move ! (1 ∷ []) $ drop ! $ lft-end ! tt $
+        move ! (0 ∷ 2 ∷ 1 ∷ []) $ use3 W (later (‵ (O2 (ws6 .1 .0)) ⊛ ‵ (flft κ₀ q₀))) (backs2 (named 0) ν6b δ6b (ws5 .1 .1 .0) (ws6 .1 .0)
+        (same5c ∙ same4c) room2 same6b) $ await ! tt $ split ! $
         assigns ! (of-opd ! (load ! (from ! (stop !)) (look ! 22 refl))) (from ! (stop !)) (init ! 51 refl (LL.lawful mFailing.the-type lFailing.the-laws 𝓤 H A W .typed r5 _ i5 .0)) $
-        tidy W (_ ∷ _ ∷ _ ∷ _ ∷ _ ∷ _ ∷ _ ∷ _ ∷ _ ∷ _ ∷ _ ∷ _ ∷ _ ∷ _ ∷ _ ∷ _ ∷ _ ∷ _ ∷ _ ∷ _ ∷ _ ∷ _ ∷ _ ∷ _ ∷ _ ∷ _ ∷ _ ∷ _ ∷ _ ∷ _ ∷ _ ∷ _ ∷ _ ∷ _ ∷ _ ∷ _ ∷ _ ∷ _ ∷ _ ∷ _ ∷ _ ∷ _ ∷ _ ∷ _ ∷ _ ∷ _ ∷ _ ∷ _ ∷ _ ∷ _ ∷ _ ∷ _ ∷ []) $ returns ! (look ! 51 refl) $ move ! (13 ∷ []) $ use1 W (dies ((lFailing.mir, l₀) ∷ (tyInt w32, l₁) ∷ (sliceTy (tyRef (named 0) mut (tyInt w64)), l₂) ∷ (tyInt w64, l₃) ∷ (tyInt w64, l₄) ∷ (lShapes.mir, l₅) ∷ (sliceTy (tyRef (named 1) imm (pointee (mEntry.the-row .written))), l₆) ∷ (tyInt w64, l₇) ∷ (sliceTy (tyRef (named 2) imm (tyInt w64)), l₈) ∷ (sliceTy (tyRef (named 3) imm (tyInt w64)), l₉) ∷ (tyInt w64, l₁₀) ∷ (tyInt w64, l₁₁) ∷ (tyInt w64, l₁₂) ∷ (lSystemShape.mir, l₁₃) ∷ (lSystemShape.mir, l₁₄) ∷ (lShape.mir, l₁₅) ∷ (lShape.mir, l₁₆) ∷ (tyInt w64, l₁₇) ∷ (tyInt w64, l₁₈) ∷ (lEnds.mir, l₁₉) ∷ (tyInt w64, l₂₀) ∷ (tyInt w64, l₂₁) ∷ (tyInt w64, l₂₂) ∷ (tyInt w64, l₂₃) ∷ (tyInt w64, l₂₄) ∷ (tyInt w64, l₂₅) ∷ (tyInt w64, l₂₆) ∷ (lFailing.mir, l₂₇) ∷ (lFailing.mir, l₂₈) ∷ (lFailing.mir, l₂₉) ∷ (tyInt w64, l₃₀) ∷ (tyRef erased mut (tyInt w64), l₃₁) ∷ (sliceTy (tyRef erased mut (tyInt w64)), l₃₂) ∷ (tyRef erased mut (tyInt w64), l₃₃) ∷ (sliceTy (tyRef erased mut (tyInt w64)), l₃₄) ∷ (tyUnit, l₃₅) ∷ (tyRef erased mut (tyInt w64), l₃₆) ∷ (sliceTy (tyRef erased mut (tyInt w64)), l₃₇) ∷ []) (‵ ftrue)) die $ free-all ! 13 ((lFailing.mir, l₀) ∷ (tyInt w32, l₁) ∷ (sliceTy (tyRef (named 0) mut (tyInt w64)), l₂) ∷ (tyInt w64, l₃) ∷ (tyInt w64, l₄) ∷ (lShapes.mir, l₅) ∷ (sliceTy (tyRef (named 1) imm (pointee (mEntry.the-row .written))), l₆) ∷ (tyInt w64, l₇) ∷ (sliceTy (tyRef (named 2) imm (tyInt w64)), l₈) ∷ (sliceTy (tyRef (named 3) imm (tyInt w64)), l₉) ∷ (tyInt w64, l₁₀) ∷ (tyInt w64, l₁₁) ∷ (tyInt w64, l₁₂) ∷ (lSystemShape.mir, l₁₃) ∷ (lSystemShape.mir, l₁₄) ∷ (lShape.mir, l₁₅) ∷ (lShape.mir, l₁₆) ∷ (tyInt w64, l₁₇) ∷ (tyInt w64, l₁₈) ∷ (lEnds.mir, l₁₉) ∷ (tyInt w64, l₂₀) ∷ (tyInt w64, l₂₁) ∷ (tyInt w64, l₂₂) ∷ (tyInt w64, l₂₃) ∷ (tyInt w64, l₂₄) ∷ (tyInt w64, l₂₅) ∷ (tyInt w64, l₂₆) ∷ (lFailing.mir, l₂₇) ∷ (lFailing.mir, l₂₈) ∷ (lFailing.mir, l₂₉) ∷ (tyInt w64, l₃₀) ∷ (tyRef erased mut (tyInt w64), l₃₁) ∷ (sliceTy (tyRef erased mut (tyInt w64)), l₃₂) ∷ (tyRef erased mut (tyInt w64), l₃₃) ∷ (sliceTy (tyRef erased mut (tyInt w64)), l₃₄) ∷ (tyUnit, l₃₅) ∷ (tyRef erased mut (tyInt w64), l₃₆) ∷ (sliceTy (tyRef erased mut (tyInt w64)), l₃₇) ∷ []) (kept _ ∷ kept _ ∷ kept _ ∷ kept _ ∷ kept _ ∷ kept _ ∷ kept _ ∷ kept _ ∷ kept _ ∷ kept _ ∷ kept _ ∷ kept _ ∷ kept _ ∷ kept _ ∷ kept _ ∷ kept _ ∷ kept _ ∷ kept _ ∷ kept _ ∷ kept _ ∷ kept _ ∷ kept _ ∷ kept _ ∷ kept _ ∷ kept _ ∷ kept _ ∷ kept _ ∷ kept _ ∷ kept _ ∷ kept _ ∷ kept _ ∷ kept _ ∷ kept _ ∷ kept _ ∷ kept _ ∷ kept _ ∷ kept _ ∷ kept _ ∷ []) refl $
-        suffices ! _ (ends-at 𝓤 H A f.ended stayed (f.clauses 𝓤 H A at-mem run) W (((κ₀, (κ₁, (κ₂, (κ₃, tt)))), (q₀, (q₁, (q₂, (q₃, tt)))), tt, a, at), tt) z5 r5 (tt, (ws6 .1 .0, (tt, (tt, (tt, (tt, (tt, (tt, (tt, tt))))))))) (tt, (same6b ∙ same5c ∙ same4c, (tt, (tt, (tt, (tt, (tt, (tt, (tt, tt)))))))))) $ says ! (judge-ends n3 n4 n5 (entriesOfRecords (s6 .now)) _ (records-length (s6 .now)) n7 (s8 .now) (elements (s9 .now)) ys2 (ws4 .1 .1 .0) (ws5 .1 .1 .0) (ws6 .1 .0) r1 e1 r3 r4 r5 e3 n1 r2 e2 e4 e5 e6) $
-        nothing ! $ move ! (4 ∷ 0 ∷ []) $ join ! $ move ! (4 ∷ 0 ∷ []) $ join ! $ move ! (3 ∷ 0 ∷ []) $ join ! $ move ! (2 ∷ 0 ∷ []) $ join ! $ nothing ! $ move ! (4 ∷ 0 ∷ []) $ fjoin ! $ move ! (4 ∷ 0 ∷ []) $ fjoin ! $ move ! (4 ∷ 0 ∷ []) $ fjoin ! $ move ! (3 ∷ 0 ∷ []) $ fjoin ! $ move ! (3 ∷ 0 ∷ []) $ fjoin ! $ move ! (3 ∷ 0 ∷ []) $ fjoin ! $ move ! (3 ∷ 0 ∷ []) $ fjoin ! $ move ! (2 ∷ 0 ∷ []) $ fjoin ! $ move ! (2 ∷ 0 ∷ []) $ fjoin ! $ keep ! (1 ∷ 0 ∷ []) $ frame ! $ frame ! $ owned ! mFailing.the-row (Is mFailing.the-row) (LL.makes mFailing.the-type lFailing.the-plain 𝓤 H A) r5 _ i5 $ done !))))))))))))))))))))))))))))))))))))))))))))))))))))))))))))))))))))))))))))))
+        tidy W (_ ∷ _ ∷ _ ∷ _ ∷ _ ∷ _ ∷ _ ∷ _ ∷ _ ∷ _ ∷ _ ∷ _ ∷ _ ∷ _ ∷ _ ∷ _ ∷ _ ∷ _ ∷ _ ∷ _ ∷ _ ∷ _ ∷ _ ∷ _ ∷ _ ∷ _ ∷ _ ∷ _ ∷ _ ∷ _ ∷ _ ∷ _ ∷ _ ∷ _
+        ∷ _ ∷ _ ∷ _ ∷ _ ∷ _ ∷ _ ∷ _ ∷ _ ∷ _ ∷ _ ∷ _ ∷ _ ∷ _ ∷ _ ∷ _ ∷ _ ∷ _ ∷ _ ∷ []) $ returns ! (look ! 51 refl) $ move ! (13 ∷ []) $ use1 W
+        (dies ((lFailing.mir, l₀) ∷ (tyInt w32, l₁) ∷ (sliceTy (tyRef (named 0) mut (tyInt w64)), l₂) ∷ (tyInt w64, l₃) ∷ (tyInt w64, l₄) ∷
+        (lShapes.mir, l₅) ∷ (sliceTy (tyRef (named 1) imm (pointee (mEntry.the-row .written))), l₆) ∷ (tyInt w64, l₇) ∷ (
+          sliceTy (tyRef (named 2)
+              imm (tyInt w64)),
+          l₈,
+        ) ∷ (sliceTy (tyRef (named 3) imm (tyInt w64)), l₉) ∷ (tyInt w64, l₁₀) ∷ (tyInt w64, l₁₁) ∷ (tyInt w64, l₁₂) ∷
+        (lSystemShape.mir, l₁₃) ∷ (lSystemShape.mir, l₁₄) ∷ (lShape.mir, l₁₅) ∷ (lShape.mir, l₁₆) ∷ (tyInt w64, l₁₇) ∷ (tyInt w64, l₁₈) ∷
+        (lEnds.mir, l₁₉) ∷ (tyInt w64, l₂₀) ∷ (tyInt w64, l₂₁) ∷ (tyInt w64, l₂₂) ∷ (tyInt w64, l₂₃) ∷ (tyInt w64, l₂₄) ∷ (tyInt w64, l₂₅) ∷
+        (tyInt w64, l₂₆) ∷ (lFailing.mir, l₂₇) ∷ (lFailing.mir, l₂₈) ∷ (lFailing.mir, l₂₉) ∷ (tyInt w64, l₃₀) ∷ (
+          tyRef erased mut (tyInt w64),
+          l₃₁,
+        ) ∷ (sliceTy (tyRef erased mut (tyInt w64)), l₃₂) ∷ (tyRef erased mut (tyInt w64), l₃₃) ∷ (
+          sliceTy (tyRef erased mut (tyInt w64)),
+          l₃₄,
+        ) ∷ (tyUnit, l₃₅) ∷ (tyRef erased mut (tyInt w64), l₃₆) ∷ (sliceTy (tyRef erased mut (tyInt w64)), l₃₇) ∷ []) (‵ ftrue)) die $
+        free-all ! 13 ((lFailing.mir, l₀) ∷ (tyInt w32, l₁) ∷ (sliceTy (tyRef (named 0) mut (tyInt w64)), l₂) ∷ (tyInt w64, l₃) ∷ (tyInt w64, l₄)
+        ∷ (lShapes.mir, l₅) ∷ (sliceTy (tyRef (named 1) imm (pointee (mEntry.the-row .written))), l₆) ∷ (tyInt w64, l₇) ∷ (
+          sliceTy (tyRef (named
+              2) imm (tyInt w64)),
+          l₈,
+        ) ∷ (sliceTy (tyRef (named 3) imm (tyInt w64)), l₉) ∷ (tyInt w64, l₁₀) ∷ (tyInt w64, l₁₁) ∷ (tyInt w64, l₁₂) ∷
+        (lSystemShape.mir, l₁₃) ∷ (lSystemShape.mir, l₁₄) ∷ (lShape.mir, l₁₅) ∷ (lShape.mir, l₁₆) ∷ (tyInt w64, l₁₇) ∷ (tyInt w64, l₁₈) ∷
+        (lEnds.mir, l₁₉) ∷ (tyInt w64, l₂₀) ∷ (tyInt w64, l₂₁) ∷ (tyInt w64, l₂₂) ∷ (tyInt w64, l₂₃) ∷ (tyInt w64, l₂₄) ∷ (tyInt w64, l₂₅) ∷
+        (tyInt w64, l₂₆) ∷ (lFailing.mir, l₂₇) ∷ (lFailing.mir, l₂₈) ∷ (lFailing.mir, l₂₉) ∷ (tyInt w64, l₃₀) ∷ (
+          tyRef erased mut (tyInt w64),
+          l₃₁,
+        ) ∷ (sliceTy (tyRef erased mut (tyInt w64)), l₃₂) ∷ (tyRef erased mut (tyInt w64), l₃₃) ∷ (
+          sliceTy (tyRef erased mut (tyInt w64)),
+          l₃₄,
+        ) ∷ (tyUnit, l₃₅) ∷ (tyRef erased mut (tyInt w64), l₃₆) ∷ (sliceTy (tyRef erased mut (tyInt w64)), l₃₇) ∷ []) (kept _ ∷ kept _ ∷ kept
+        _ ∷ kept _ ∷ kept _ ∷ kept _ ∷ kept _ ∷ kept _ ∷ kept _ ∷ kept _ ∷ kept _ ∷ kept _ ∷ kept _ ∷ kept _ ∷ kept _ ∷ kept _ ∷ kept _ ∷ kept _
+        ∷ kept _ ∷ kept _ ∷ kept _ ∷ kept _ ∷ kept _ ∷ kept _ ∷ kept _ ∷ kept _ ∷ kept _ ∷ kept _ ∷ kept _ ∷ kept _ ∷ kept _ ∷ kept _ ∷ kept _ ∷
+        kept _ ∷ kept _ ∷ kept _ ∷ kept _ ∷ kept _ ∷ []) refl $
+        suffices ! _ (ends-at 𝓤 H A f.ended stayed (f.clauses 𝓤 H A at-mem run) W (
+          (
+            (κ₀, (κ₁, (κ₂, (κ₃, tt)))),
+            (q₀, (q₁, (q₂, (q₃, tt)))),
+            tt,
+            a,
+            at,
+          ),
+          tt,
+        ) z5 r5 (tt, (ws6 .1 .0, (tt, (tt, (tt, (tt, (tt, (tt, (tt, tt))))))))) (
+          tt,
+          (
+            same6b ∙ same5c ∙ same4c,
+            (
+              tt,
+              (
+                tt,
+                (
+                  tt,
+                  (
+                    tt,
+                    (
+                      tt,
+                      (tt, (tt, tt)),
+                    ),
+                  ),
+                ),
+              ),
+            ),
+          ),
+        )) $ says ! (judge-ends n3 n4 n5 (entriesOfRecords (s6 .now)) _ (records-length (s6 .now)) n7 (s8 .now) (elements (s9
+        .now)) ys2 (ws4 .1 .1 .0) (ws5 .1 .1 .0) (ws6 .1 .0) r1 e1 r3 r4 r5 e3 n1 r2 e2 e4 e5 e6) $
+        nothing ! $ move ! (4 ∷ 0 ∷ []) $ join ! $ move ! (4 ∷ 0 ∷ []) $ join ! $ move ! (3 ∷ 0 ∷ []) $ join ! $ move ! (2 ∷ 0 ∷ []) $ join ! $
+        nothing ! $ move ! (4 ∷ 0 ∷ []) $ fjoin ! $ move ! (4 ∷ 0 ∷ []) $ fjoin ! $ move ! (4 ∷ 0 ∷ []) $ fjoin ! $ move ! (3 ∷ 0 ∷ []) $ fjoin !
+        $ move ! (3 ∷ 0 ∷ []) $ fjoin ! $ move ! (3 ∷ 0 ∷ []) $ fjoin ! $ move ! (3 ∷ 0 ∷ []) $ fjoin ! $ move ! (2 ∷ 0 ∷ []) $ fjoin ! $ move !
+        (2 ∷ 0 ∷ []) $ fjoin ! $ keep ! (1 ∷ 0 ∷ []) $ frame ! $ frame ! $ owned ! mFailing.the-row (Is mFailing.the-row) (LL.makes
+        mFailing.the-type lFailing.the-plain 𝓤 H A) r5 _ i5 $ done !))))))))))))))))))))))))))))))))))))))))))))))))))))))))))))))))))))))))))))))
 
 module _ {M : Type 1} (𝓤 : URA M) (H : Heap 𝓤) (A : Atoms 𝓤) (W : Given 𝓤 H A) (mem : Memory → SProp 𝓤) (run : Routine → Fun 𝓤) where
-  walks : (C : Calls 𝓤 H) (Λ : Loops 𝓤 H) → FmC 𝓤 H (W .laws) C → Triple 𝓤 (C #g1) (Callee-g1 𝓤 H A mem run) → Triple 𝓤 (C #g2) (Callee-g2 𝓤 H A mem run) → Triple 𝓤 (C #g3) (Callee-g3 𝓤 H A mem run) → Triple 𝓤 (C #g4) (Callee-g4 𝓤 H A mem run) → Triple 𝓤 (C #g5) (Callee-g5 𝓤 H A mem run) → Walks 𝓤 H A f.ended stayed (WpFn 𝓤 H C Λ code.function) (f.clauses 𝓤 H A mem run)
-  walks C Λ fm known-g1 known-g2 known-g3 known-g4 known-g5 = walked 𝓤 H A f.ended stayed (f.clauses 𝓤 H A mem run) (WpFn 𝓤 H C Λ code.function) (λ κs. ((uint-vals w32), (slice-vals, ((uint-vals w64), ((uint-vals w64), ((LL.vals mShapes.the-type lShapes.the-laws), (slice-vals, ((uint-vals w64), (slice-vals, (slice-vals, tt)))))))))) (λ κs. ((uint-tells w32), (mut-slice-tells (named 0) (κs .0) u64, ((uint-tells w64), ((uint-tells w64), ((LL.tells mShapes.the-type lShapes.the-laws), (shr-slice-tells (named 1) (κs .1 .0) mEntry.the-row, ((uint-tells w64), (shr-slice-tells (named 2) (κs .1 .1 .0) u64, (shr-slice-tells (named 3) (κs .1 .1 .1 .0) u64, tt))))))))))
-      (λ κs qs bounds a g are. via 𝓤 _ (fst∗ 𝓤 _ (emp 𝓤)) (walk 𝓤 H A W mem run (κs .0) (κs .1 .0) (κs .1 .1 .0) (κs .1 .1 .1 .0) (qs .0) (qs .1 .0) (qs .1 .1 .0) (qs .1 .1 .1 .0) (a .0) (only ((uint-vals w32) (a .0))) (a .1 .0 .ptr .0) (a .1 .0 .ptr .1) (a .1 .0 .name) (a .1 .0 .now) (a .1 .1 .0) (only ((uint-vals w64) (a .1 .1 .0))) (a .1 .1 .1 .0) (only ((uint-vals w64) (a .1 .1 .1 .0))) (a .1 .1 .1 .1 .0) (only ((LL.vals mShapes.the-type lShapes.the-laws) (a .1 .1 .1 .1 .0))) (a .1 .1 .1 .1 .1 .0) (a .1 .1 .1 .1 .1 .1 .0) (only ((uint-vals w64) (a .1 .1 .1 .1 .1 .1 .0))) (a .1 .1 .1 .1 .1 .1 .1 .0) (a .1 .1 .1 .1 .1 .1 .1 .1 .0) C Λ fm known-g1 known-g2 known-g3 known-g4 known-g5 (are .0) (are .1 .0 .0 .1) (are .1 .1 .0) (are .1 .1 .1 .0) (are .1 .1 .1 .1 .0) (are .1 .1 .1 .1 .1 .0) (are .1 .1 .1 .1 .1 .1 .0) (are .1 .1 .1 .1 .1 .1 .1 .0) (are .1 .1 .1 .1 .1 .1 .1 .1 .0)))
+  walks : (C : Calls 𝓤 H) (Λ : Loops 𝓤 H) → FmC 𝓤 H (W .laws) C → Triple 𝓤 (C #g1) (Callee-g1 𝓤 H A mem run) → Triple 𝓤 (C #g2) (Callee-g2 𝓤 H A mem
+      run) → Triple 𝓤 (C #g3) (Callee-g3 𝓤 H A mem run) → Triple 𝓤 (C #g4) (Callee-g4 𝓤 H A mem run) → Triple 𝓤 (C #g5) (Callee-g5 𝓤 H A mem run) →
+      Walks 𝓤 H A f.ended stayed (WpFn 𝓤 H C Λ code.function) (f.clauses 𝓤 H A mem run)
+  walks C Λ fm known-g1 known-g2 known-g3 known-g4 known-g5 = walked 𝓤 H A f.ended stayed (f.clauses 𝓤 H A mem run) (WpFn 𝓤 H C Λ code.function) (λ
+      κs. (
+        (uint-vals w32),
+        (
+          slice-vals,
+          (
+            (uint-vals w64),
+            (
+              (uint-vals w64),
+              (
+                (LL.vals mShapes.the-type lShapes.the-laws),
+                (
+                  slice-vals,
+                  (
+                    (uint-vals
+                        w64),
+                    (slice-vals, (slice-vals, tt)),
+                  ),
+                ),
+              ),
+            ),
+          ),
+        ),
+      )) (λ κs. (
+        (uint-tells w32),
+        (
+          mut-slice-tells (named 0) (κs .0) u64,
+          (
+            (uint-tells w64),
+            (
+              (uint-tells
+                  w64),
+              (
+                (LL.tells mShapes.the-type lShapes.the-laws),
+                (
+                  shr-slice-tells (named 1) (κs .1 .0) mEntry.the-row,
+                  (
+                    (uint-tells w64),
+                    (
+                      shr-slice-tells
+                          (named 2) (κs .1 .1 .0) u64,
+                      (shr-slice-tells (named 3) (κs .1 .1 .1 .0) u64, tt),
+                    ),
+                  ),
+                ),
+              ),
+            ),
+          ),
+        ),
+      ))
+      (λ κs qs bounds a g are. via 𝓤 _ (fst∗ 𝓤 _ (emp 𝓤)) (walk 𝓤 H A W mem run (κs .0) (κs .1 .0) (κs .1 .1 .0) (κs .1 .1 .1 .0) (qs .0) (qs .1 .0)
+      (qs .1 .1 .0) (qs .1 .1 .1 .0) (a .0) (only ((uint-vals w32) (a .0))) (a .1 .0 .ptr .0) (a .1 .0 .ptr .1) (a .1 .0 .name) (a .1 .0 .now) (a
+      .1 .1 .0) (only ((uint-vals w64) (a .1 .1 .0))) (a .1 .1 .1 .0) (only ((uint-vals w64) (a .1 .1 .1 .0))) (a .1 .1 .1 .1 .0) (only ((LL.vals
+      mShapes.the-type lShapes.the-laws) (a .1 .1 .1 .1 .0))) (a .1 .1 .1 .1 .1 .0) (a .1 .1 .1 .1 .1 .1 .0) (only ((uint-vals w64) (a .1 .1 .1
+      .1 .1 .1 .0))) (a .1 .1 .1 .1 .1 .1 .1 .0) (a .1 .1 .1 .1 .1 .1 .1 .1 .0) C Λ fm known-g1 known-g2 known-g3 known-g4 known-g5 (are .0) (are
+      .1 .0 .0 .1) (are .1 .1 .0) (are .1 .1 .1 .0) (are .1 .1 .1 .1 .0) (are .1 .1 .1 .1 .1 .0) (are .1 .1 .1 .1 .1 .1 .0) (are .1 .1 .1 .1 .1
+      .1 .1 .0) (are .1 .1 .1 .1 .1 .1 .1 .1 .0)))
 
-  meets : (𝓣 : Tables 𝓤 H) → Triple 𝓤 (𝓣 .C #g1) (Callee-g1 𝓤 H A mem run) → Triple 𝓤 (𝓣 .C #g2) (Callee-g2 𝓤 H A mem run) → Triple 𝓤 (𝓣 .C #g3) (Callee-g3 𝓤 H A mem run) → Triple 𝓤 (𝓣 .C #g4) (Callee-g4 𝓤 H A mem run) → Triple 𝓤 (𝓣 .C #g5) (Callee-g5 𝓤 H A mem run) → Meets 𝓤 H A f.signature (WpFn 𝓤 H (𝓣 .C) (𝓣 .Λ) code.function) (f.spec 𝓤 H A mem run)
-  meets 𝓣 known-g1 known-g2 known-g3 known-g4 known-g5 = walk-meets 𝓤 H A f.ended stayed W (goes-none 𝓤 H A W 4 (λ _. u32) yes (λ κs x f. refl), (goes-slice 𝓤 H A W 4 0 tt (plain (λ _. u64)), (goes-none 𝓤 H A W 4 (λ _. u64) yes (λ κs x f. refl), (goes-none 𝓤 H A W 4 (λ _. u64) yes (λ κs x f. refl), (goes-none 𝓤 H A W 4 (λ _. mShapes.the-row) yes (λ κs x f. refl), (goes-none-slice 𝓤 H A W 4 (1 ∷ []) tt (plain (λ _. mEntry.the-row)) yes, (goes-none 𝓤 H A W 4 (λ _. u64) yes (λ κs x f. refl), (goes-none-slice 𝓤 H A W 4 (2 ∷ []) tt (plain (λ _. u64)) yes, (goes-none-slice 𝓤 H A W 4 (3 ∷ []) tt (plain (λ _. u64)) yes, tt))))))))) (f.clauses 𝓤 H A mem run)
+  meets : (𝓣 : Tables 𝓤 H) → Triple 𝓤 (𝓣 .C #g1) (Callee-g1 𝓤 H A mem run) → Triple 𝓤 (𝓣 .C #g2) (Callee-g2 𝓤 H A mem run) → Triple 𝓤 (𝓣 .C #g3)
+      (Callee-g3 𝓤 H A mem run) → Triple 𝓤 (𝓣 .C #g4) (Callee-g4 𝓤 H A mem run) → Triple 𝓤 (𝓣 .C #g5) (Callee-g5 𝓤 H A mem run) → Meets 𝓤 H A
+      f.signature (WpFn 𝓤 H (𝓣 .C) (𝓣 .Λ) code.function) (f.spec 𝓤 H A mem run)
+  meets 𝓣 known-g1 known-g2 known-g3 known-g4 known-g5 = walk-meets 𝓤 H A f.ended stayed W (
+    goes-none 𝓤 H A W 4 (λ _. u32) yes (λ κs x f. refl),
+    (
+      goes-slice 𝓤 H A W 4 0 tt (plain (λ _. u64)),
+      (
+        goes-none 𝓤 H A W 4 (λ _. u64) yes (λ κs x f. refl),
+        (
+          goes-none 𝓤 H A W 4 (λ _. u64) yes (λ κs
+              x f. refl),
+          (
+            goes-none 𝓤 H A W 4 (λ _. mShapes.the-row) yes (λ κs x f. refl),
+            (
+              goes-none-slice 𝓤 H A W 4 (1 ∷ []) tt (plain (λ _.
+                  mEntry.the-row)) yes,
+              (
+                goes-none 𝓤 H A W 4 (λ _. u64) yes (λ κs x f. refl),
+                (
+                  goes-none-slice 𝓤 H A W 4 (2 ∷ []) tt (plain (λ _. u64)) yes,
+                  (goes-none-slice 𝓤 H A W 4 (3 ∷ []) tt (plain (λ _. u64)) yes, tt),
+                ),
+              ),
+            ),
+          ),
+        ),
+      ),
+    ),
+  ) (f.clauses 𝓤 H A mem run)
       (WpFn 𝓤 H (𝓣 .C) (𝓣 .Λ) code.function) (WpFn-mono 𝓤 H (W .laws) 𝓣 code.function) (walks (𝓣 .C) (𝓣 .Λ) (fmOf 𝓤 H (W .laws) 𝓣) known-g1 known-g2 known-g3 known-g4 known-g5)
 
 pub judge-spec : {M : Type 1} → stated.statement M
@@ -279,7 +1223,7 @@ judge-spec 𝓤 H 𝓜 𝓖 𝓡 =
     entered 𝓤 H (tripleOf 𝓤 H (𝓖 .A) f.signature (f.spec 𝓤 H (𝓖 .A) (𝓜 .mem) (𝓡 .run)))
     (tables 𝓤 H 𝓜 𝓡 code.env .C) (tables 𝓤 H 𝓜 𝓡 code.env .Λ) #f code.function (code.unfolded 𝓤 H 𝓜 𝓡)
     (meets 𝓤 H (𝓖 .A) (givenOf 𝓤 H 𝓜 𝓖) (𝓜 .mem) (𝓡 .run) (tablesOf 𝓤 H 𝓜 (tables 𝓤 H 𝓜 𝓡 code.env))
-    (cited 𝓤 H (Callee-g1 𝓤 H (𝓖 .A) (𝓜 .mem) (𝓡 .run)) 𝓜 𝓡 code.env #g1 g1-def.routine code.calls-magnetar-inplace·ranges·ends-of (g1-thm.met 𝓤 H 𝓜 𝓖 𝓡))
+    (cited 𝓤 H (Callee-g1 𝓤 H (𝓖 .A) (𝓜 .mem) (𝓡 .run)) 𝓜 𝓡 code.env #g1 g1-def.routine code.calls-magnetar-records·ranges·ends-of (g1-thm.met 𝓤 H 𝓜 𝓖 𝓡))
     (cited 𝓤 H (Callee-g2 𝓤 H (𝓖 .A) (𝓜 .mem) (𝓡 .run)) 𝓜 𝓡 code.env #g2 g2-def.routine code.calls-magnetar-batch·check·logins-unless (g2-thm.met 𝓤 H 𝓜 𝓖 𝓡))
     (cited 𝓤 H (Callee-g3 𝓤 H (𝓖 .A) (𝓜 .mem) (𝓡 .run)) 𝓜 𝓡 code.env #g3 g3-def.routine code.calls-magnetar-batch·check·none (g3-thm.met 𝓤 H 𝓜 𝓖 𝓡))
     (cited 𝓤 H (Callee-g4 𝓤 H (𝓖 .A) (𝓜 .mem) (𝓡 .run)) 𝓜 𝓡 code.env #g4 g4-def.routine code.calls-magnetar-batch·check-records·check-system (g4-thm.met 𝓤 H 𝓜 𝓖 𝓡))

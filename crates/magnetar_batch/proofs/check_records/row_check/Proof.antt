@@ -46,16 +46,16 @@ use denote.Triple.Walked.{says, needs, Stays, stay-ref, stay-none, stay-none-ref
 use denote.Triple.Clauses.{Lasts, lasts, atExit}
 use denote.Exit.{yes}
 use Rattle.magnetar_batch.proofs.CheckEnds.{check-by, check-ends}
-use Rattle.magnetar_inplace.specs.Records.{entriesOfRecords}
+use Rattle.magnetar_records.specs.Records.{entriesOfRecords}
 use Rattle.magnetar_relation.specs.Rules.{rulesOver}
 use Rattle.magnetar_batch.specs.Check.{outcome}
 use mathlib.Core.List.{[]}
 use Rattle.magnetar_relation.specs.declared.shapes.Shapes.{Shapes}
 use Rattle.magnetar_relation.proofs.shapes.Shapes as mShapes
 use Rattle.magnetar_relation.proofs.shapes.Shapes.Laws as lShapes
-use Rattle.magnetar_inplace.specs.declared.records.Entry.{Entry}
-use Rattle.magnetar_inplace.proofs.records.Entry as mEntry
-use Rattle.magnetar_inplace.proofs.records.Entry.Laws as lEntry
+use Rattle.magnetar_records.specs.declared.records.Entry.{Entry}
+use Rattle.magnetar_records.proofs.records.Entry as mEntry
+use Rattle.magnetar_records.proofs.records.Entry.Laws as lEntry
 use Rattle.magnetar_batch.specs.declared.check.RowCheck.{RowCheck}
 use Rattle.magnetar_batch.proofs.check.RowCheck as mRowCheck
 use Rattle.magnetar_batch.proofs.check.RowCheck.Laws as lRowCheck
@@ -70,10 +70,10 @@ use Rattle.magnetar_batch.proofs.check.Failing as mFailing
 use Rattle.magnetar_batch.proofs.check.Failing.Laws as lFailing
 use Rattle.magnetar_transcript.proofs.Locals.{tidy, bare, kept, dies, alloc, hide, free-all}
 use Rattle.magnetar_transcript.proofs.Again.{LentAgain, lends-again, comes-back}
-use Rattle.magnetar_inplace.proofs.walks.rules_refusal as g1
-use Rattle.magnetar_inplace.proofs.walks.rules_refusal.Symbol as g1-def
-use Rattle.magnetar_inplace.proofs.walks.rules_refusal.Symbol.{name as #g1}
-use Rattle.magnetar_inplace.proofs.walks.rules_refusal.Met as g1-thm
+use Rattle.magnetar_records.proofs.walks.rules_refusal as g1
+use Rattle.magnetar_records.proofs.walks.rules_refusal.Symbol as g1-def
+use Rattle.magnetar_records.proofs.walks.rules_refusal.Symbol.{name as #g1}
+use Rattle.magnetar_records.proofs.walks.rules_refusal.Met as g1-thm
 use Rattle.magnetar_batch.proofs.check.refusal as g2
 use Rattle.magnetar_batch.proofs.check.refusal.Symbol as g2-def
 use Rattle.magnetar_batch.proofs.check.refusal.Symbol.{name as #g2}
@@ -108,7 +108,29 @@ is-no true a = absurd a
 is-no false _ = refl
 
 abbrev stayed : Stays (f.ended .signature .params) (f.ended .kept)
-stayed = (stay-slice (0 ∷ []) tt (plain (λ _. u64)), (stay-none (λ _. u64) yes, (stay-none (λ _. u64) yes, (stay-none (λ _. mShapes.the-row) yes, (stay-none-slice (1 ∷ []) tt (plain (λ _. mEntry.the-row)) yes, (stay-none-slice (2 ∷ []) tt (plain (λ _. u64)) yes, (stay-none-slice (3 ∷ []) tt (plain (λ _. u64)) yes, tt)))))))
+stayed = (
+  stay-slice (0 ∷ []) tt (plain (λ _. u64)),
+  (
+    stay-none (λ _. u64) yes,
+    (
+      stay-none (λ _. u64) yes,
+      (
+        stay-none (λ _. mShapes.the-row) yes,
+        (
+          stay-none-slice (1 ∷ []) tt (plain (λ _. mEntry.the-row)) yes,
+          (
+            stay-none-slice (2 ∷ []) tt (plain (λ _. u64)) yes,
+            (
+              stay-none-slice (3 ∷ []) tt
+                  (plain (λ _. u64)) yes,
+              tt,
+            ),
+          ),
+        ),
+      ),
+    ),
+  ),
+)
 
 abbrev Callee-g1 : {M : Type 1} (𝓤 : URA M) (H : Heap 𝓤) (A : Atoms 𝓤) (mem : Memory → SProp 𝓤) (run : Routine → Fun 𝓤) → Contract 𝓤
 Callee-g1 𝓤 H A mem run = tripleOf 𝓤 H A g1.signature (g1.spec 𝓤 H A mem run)
@@ -125,7 +147,9 @@ Callee-g4 𝓤 H A mem run = tripleOf 𝓤 H A g4.signature (g4.spec 𝓤 H A me
 abbrev Callee-g5 : {M : Type 1} (𝓤 : URA M) (H : Heap 𝓤) (A : Atoms 𝓤) (mem : Memory → SProp 𝓤) (run : Routine → Fun 𝓤) → Contract 𝓤
 Callee-g5 𝓤 H A mem run = tripleOf 𝓤 H A g5.signature (g5.spec 𝓤 H A mem run)
 
-module _ {M : Type 1} (𝓤 : URA M) (H : Heap 𝓤) (A : Atoms 𝓤) (W : Given 𝓤 H A) (at-mem : Memory → SProp 𝓤) (run : Routine → Fun 𝓤) (κ₀ κ₁ κ₂ κ₃ : Lft) (q₀ q₁ q₂ q₃ : Share) (b1 o1 : ℕ) (γ1 : GName) (ys1 : List ℕ) (n2 : ℕ) (u2 : Val) (n3 : ℕ) (u3 : Val) (n4 : Shapes) (u4 : Val) (s5 : RefT (List Entry)) (s6 : RefT (List ℕ)) (s7 : RefT (List ℕ)) where
+module _ {M : Type 1} (𝓤 : URA M) (H : Heap 𝓤) (A : Atoms 𝓤) (W : Given 𝓤 H A) (at-mem : Memory → SProp 𝓤) (run : Routine → Fun 𝓤) (κ₀ κ₁ κ₂ κ₃ :
+    Lft) (q₀ q₁ q₂ q₃ : Share) (b1 o1 : ℕ) (γ1 : GName) (ys1 : List ℕ) (n2 : ℕ) (u2 : Val) (n3 : ℕ) (u3 : Val) (n4 : Shapes) (u4 : Val) (s5 : RefT
+    (List Entry)) (s6 : RefT (List ℕ)) (s7 : RefT (List ℕ)) where
   abbrev ref1 : GName → List ℕ → RefT (List ℕ)
   ref1 δ l = record { ptr = (b1, o1); name = δ; now = l }
 
@@ -138,9 +162,11 @@ module _ {M : Type 1} (𝓤 : URA M) (H : Heap 𝓤) (A : Atoms 𝓤) (W : Given
   abbrev Lent1 : ℕ → GName → List ℕ → Fml
   Lent1 ν δ l = LentAgain u64 κ₀ (ν ∷ []) q₀ γ1 b1 o1 δ l
 
-  lends1 : (ℓ : Lifetime) (ν : ℕ) (l : List ℕ) → length l ≡ length ys1 → ent 𝓤 (⋆ 𝓤 H A (‵ (O1 l) ∷ ‵ (flft κ₀ q₀) ∷ [])) (⋆ 𝓤 H A (later (some (λ (δ : GName). ‵ (MutSlice ℓ (ν ∷ []) u64 .own (ref1 δ l) (v1 ∷ [])) ⊛ ‵ (Lent1 ν δ l))) ∷ []))
+  lends1 : (ℓ : Lifetime) (ν : ℕ) (l : List ℕ) → length l ≡ length ys1 → ent 𝓤 (⋆ 𝓤 H A (‵ (O1 l) ∷ ‵ (flft κ₀ q₀) ∷ [])) (⋆ 𝓤 H A (later (some (λ (δ
+      : GName). ‵ (MutSlice ℓ (ν ∷ []) u64 .own (ref1 δ l) (v1 ∷ [])) ⊛ ‵ (Lent1 ν δ l))) ∷ []))
   lends1 ℓ ν l e = subst (λ (t : ℕ). ent 𝓤 (⋆ 𝓤 H A (‵ (MutSlice (named 0) κ₀ u64 .own (ref1 γ1 l) (sliceVal (b1, o1) t ∷ [])) ∷ ‵ (flft κ₀ q₀) ∷ []))
-      (⋆ 𝓤 H A (later (some (λ (δ : GName). ‵ (MutSlice ℓ (ν ∷ []) u64 .own (ref1 δ l) (sliceVal (b1, o1) t ∷ [])) ⊛ ‵ (Lent1 ν δ l))) ∷ []))) e (lends-again u64 κ₀ (ν ∷ []) q₀ γ1 b1 o1 𝓤 H A W (named 0) ℓ l)
+      (⋆ 𝓤 H A (later (some (λ (δ : GName). ‵ (MutSlice ℓ (ν ∷ []) u64 .own (ref1 δ l) (sliceVal (b1, o1) t ∷ [])) ⊛ ‵ (Lent1 ν δ l))) ∷ []))) e
+      (lends-again u64 κ₀ (ν ∷ []) q₀ γ1 b1 o1 𝓤 H A W (named 0) ℓ l)
 
   backs1 : (ℓ : Lifetime) (ν : ℕ) (δ : GName) (l l′ : List ℕ) → length l ≡ length ys1 → Room u64 (length ys1) → length l′ ≡ length l
       → ent 𝓤 (⋆ 𝓤 H A (‵ (fdead (ν ∷ [])) ∷ ‵ (Lent1 ν δ l) ∷ ‵ (finally u64 δ l′) ∷ [])) (⋆ 𝓤 H A (later (‵ (O1 l′) ⊛ ‵ (flft κ₀ q₀)) ∷ []))
@@ -187,65 +213,623 @@ module _ {M : Type 1} (𝓤 : URA M) (H : Heap 𝓤) (A : Atoms 𝓤) (W : Given
   abbrev Post : Val → SProp 𝓤
   Post = walkOf 𝓤 H A f.ended stayed (f.clauses 𝓤 H A at-mem run) .post (((κ₀, (κ₁, (κ₂, (κ₃, tt)))), (q₀, (q₁, (q₂, (q₃, tt)))), tt, a, at), tt)
 
-  module _ (C : Calls 𝓤 H) (Λ : Loops 𝓤 H) (fm : FmC 𝓤 H (W .laws) C) (known-g1 : Triple 𝓤 (C #g1) (Callee-g1 𝓤 H A at-mem run)) (known-g2 : Triple 𝓤 (C #g2) (Callee-g2 𝓤 H A at-mem run)) (known-g3 : Triple 𝓤 (C #g3) (Callee-g3 𝓤 H A at-mem run)) (known-g4 : Triple 𝓤 (C #g4) (Callee-g4 𝓤 H A at-mem run)) (known-g5 : Triple 𝓤 (C #g5) (Callee-g5 𝓤 H A at-mem run)) (room1 : Room u64 (length ys1)) (w2 : Is u64 n2 (u2 ∷ [])) (w3 : Is u64 n3 (u3 ∷ [])) (w4 : Is mShapes.the-row n4 (u4 ∷ [])) (w5 : Is (ShrSlice (named 1) κ₁ mEntry.the-row) s5 (v5 ∷ [])) (w6 : Is (ShrSlice (named 2) κ₂ u64) s6 (v6 ∷ [])) (w7 : Is (ShrSlice (named 3) κ₃ u64) s7 (v7 ∷ [])) where
+  module _ (C : Calls 𝓤 H) (Λ : Loops 𝓤 H) (fm : FmC 𝓤 H (W .laws) C) (known-g1 : Triple 𝓤 (C #g1) (Callee-g1 𝓤 H A at-mem run)) (known-g2 : Triple 𝓤
+      (C #g2) (Callee-g2 𝓤 H A at-mem run)) (known-g3 : Triple 𝓤 (C #g3) (Callee-g3 𝓤 H A at-mem run)) (known-g4 : Triple 𝓤 (C #g4) (Callee-g4 𝓤 H A
+      at-mem run)) (known-g5 : Triple 𝓤 (C #g5) (Callee-g5 𝓤 H A at-mem run)) (room1 : Room u64 (length ys1)) (w2 : Is u64 n2 (u2 ∷ [])) (w3 : Is u64
+      n3 (u3 ∷ [])) (w4 : Is mShapes.the-row n4 (u4 ∷ [])) (w5 : Is (ShrSlice (named 1) κ₁ mEntry.the-row) s5 (v5 ∷ [])) (w6 : Is (ShrSlice (named 2)
+      κ₂ u64) s6 (v6 ∷ [])) (w7 : Is (ShrSlice (named 3) κ₃ u64) s7 (v7 ∷ [])) where
     walk : ent 𝓤 (onEntry 𝓤 H A f.signature (κ₀, (κ₁, (κ₂, (κ₃, tt)))) (q₀, (q₁, (q₂, (q₃, tt)))) a at) (WpFn 𝓤 H C Λ code.function (v1 ∷ v2 ∷ v3 ∷ v4 ∷ v5 ∷ v6 ∷ v7 ∷ []) Post)
     walk =
-        qed W ((‵ (flft κ₀ q₀) ⊛ ‵ (flft κ₁ q₁) ⊛ ‵ (flft κ₂ q₂) ⊛ ‵ (flft κ₃ q₃) ⊛ ‵ ftrue) ∷ ‵ (owns (MutSlice (named 0) κ₀ u64 ∷ u64 ∷ u64 ∷ mShapes.the-row ∷ ShrSlice (named 1) κ₁ mEntry.the-row ∷ ShrSlice (named 2) κ₂ u64 ∷ ShrSlice (named 3) κ₃ u64 ∷ []) a at) ∷ []) ∵ enter ! C Λ code.function (v1 ∷ v2 ∷ v3 ∷ v4 ∷ v5 ∷ v6 ∷ v7 ∷ []) _ $
-        nothing ! $ alloc ! (λ l₀. alloc ! (λ l₁. alloc ! (λ l₂. alloc ! (λ l₃. alloc ! (λ l₄. alloc ! (λ l₅. alloc ! (λ l₆. alloc ! (λ l₇. alloc ! (λ l₈. alloc ! (λ l₉. alloc ! (λ l₁₀. alloc ! (λ l₁₁. alloc ! (λ l₁₂. alloc ! (λ l₁₃. alloc ! (λ l₁₄. alloc ! (λ l₁₅. alloc ! (λ l₁₆. alloc ! (λ l₁₇. alloc ! (λ l₁₈. alloc ! (λ l₁₉. alloc ! (λ l₂₀. alloc ! (λ l₂₁. alloc ! (λ l₂₂. alloc0 ! $ hide ! (λ died die. params1 ! $ pass1 ! (init ! 22 refl (tt, (tt, (record { fits = room1 .0 }, tt)))) $ pass1 ! (init ! 21 refl (uint-lawful 𝓤 H A W w64 .typed n2 _ w2 .0)) $ pass1 ! (init ! 20 refl (uint-lawful 𝓤 H A W w64 .typed n3 _ w3 .0)) $ pass1 ! (init ! 19 refl (LL.lawful mShapes.the-type lShapes.the-laws 𝓤 H A W .typed n4 _ w4 .0)) $ pass1 ! (init ! 18 refl (shr-slice-lawful 𝓤 H A W (named 1) κ₁ mEntry.the-row .typed s5 (v5 ∷ []) w5 .0)) $ pass1 ! (init ! 17 refl (shr-slice-lawful 𝓤 H A W (named 2) κ₂ u64 .typed s6 (v6 ∷ []) w6 .0)) $ pass1 ! (init ! 16 refl (shr-slice-lawful 𝓤 H A W (named 3) κ₃ u64 .typed s7 (v7 ∷ []) w7 .0)) $ pass0 ! $
-        move ! (25 ∷ []) $ fsplit ! $ move ! (1 ∷ []) $ fsplit ! $ move ! (1 ∷ []) $ fsplit ! $ move ! (1 ∷ []) $ fsplit ! $ move ! (1 ∷ []) $ fsplit ! $ move ! (1 ∷ []) $ fsplit ! $ move ! (1 ∷ []) $ fsplit ! $ move ! (1 ∷ []) $ drop ! $ move ! (31 ∷ []) $ split ! $ move ! (1 ∷ []) $ split ! $ move ! (1 ∷ []) $ split ! $ move ! (1 ∷ []) $ split ! $ move ! (1 ∷ []) $ drop ! $ tidy W (_ ∷ _ ∷ _ ∷ _ ∷ _ ∷ _ ∷ _ ∷ _ ∷ _ ∷ _ ∷ _ ∷ _ ∷ _ ∷ _ ∷ _ ∷ _ ∷ _ ∷ _ ∷ _ ∷ _ ∷ _ ∷ _ ∷ _ ∷ _ ∷ _ ∷ _ ∷ _ ∷ _ ∷ _ ∷ _ ∷ _ ∷ _ ∷ _ ∷ _ ∷ _ ∷ []) $
-        rewrite ! 30 (λ (w : Val). ‵ (fat fullShare (lShapes.mir) l₄ 0 w)) (ap only ((LL.tells mShapes.the-type lShapes.the-laws) n4 _ w4)) refl $ assigns ! (of-opd ! (load ! (from ! (fld ! refl (stop !))) (look-in ! 30 (sub ! 0 refl (whole !))))) (from ! (stop !)) (init ! 26 refl (LL.lawful mSystemShape.the-type lSystemShape.the-laws 𝓤 H A W .typed (n4 .bin) _ (LL.owed mShapes.the-type lShapes.the-laws n4 _ (subst (Is mShapes.the-row n4) ((LL.tells mShapes.the-type lShapes.the-laws) n4 _ w4) w4) .0) .0)) $
-        assigns ! (of-opd ! (load ! (from ! (fld ! refl (stop !))) (look-in ! 30 (sub ! 1 refl (whole !))))) (from ! (stop !)) (init ! 25 refl (LL.lawful mSystemShape.the-type lSystemShape.the-laws 𝓤 H A W .typed (n4 .fld) _ (LL.owed mShapes.the-type lShapes.the-laws n4 _ (subst (Is mShapes.the-row n4) ((LL.tells mShapes.the-type lShapes.the-laws) n4 _ w4) w4) .1 .0) .0)) $
-        assigns ! (of-opd ! (load ! (from ! (fld ! refl (stop !))) (look-in ! 26 (sub ! 0 refl (whole !))))) (from ! (stop !)) (init ! 24 refl (LL.lawful mShape.the-type lShape.the-laws 𝓤 H A W .typed ((n4 .bin) .a) _ (LL.owed mSystemShape.the-type lSystemShape.the-laws (n4 .bin) _ (LL.owed mShapes.the-type lShapes.the-laws n4 _ (subst (Is mShapes.the-row n4) ((LL.tells mShapes.the-type lShapes.the-laws) n4 _ w4) w4) .0) .0) .0)) $
-        assigns ! (of-opd ! (load ! (from ! (fld ! refl (stop !))) (look-in ! 25 (sub ! 0 refl (whole !))))) (from ! (stop !)) (init ! 23 refl (LL.lawful mShape.the-type lShape.the-laws 𝓤 H A W .typed ((n4 .fld) .a) _ (LL.owed mSystemShape.the-type lSystemShape.the-laws (n4 .fld) _ (LL.owed mShapes.the-type lShapes.the-laws n4 _ (subst (Is mShapes.the-row n4) ((LL.tells mShapes.the-type lShapes.the-laws) n4 _ w4) w4) .1 .0) .0) .0)) $
-        assigns ! (of-opd ! (load ! (from ! (fld ! refl (stop !))) (look-in ! 24 (sub ! 0 refl (whole !))))) (from ! (stop !)) (init ! 22 refl (uint-lawful 𝓤 H A W w64 .typed (mShape.the-type .to ((n4 .bin) .a) .0) _ (LL.owed mShape.the-type lShape.the-laws ((n4 .bin) .a) _ (LL.owed mSystemShape.the-type lSystemShape.the-laws (n4 .bin) _ (LL.owed mShapes.the-type lShapes.the-laws n4 _ (subst (Is mShapes.the-row n4) ((LL.tells mShapes.the-type lShapes.the-laws) n4 _ w4) w4) .0) .0) .0) .0)) $
-        assigns ! (of-opd ! (load ! (from ! (fld ! refl (stop !))) (look-in ! 23 (sub ! 0 refl (whole !))))) (from ! (stop !)) (init ! 21 refl (uint-lawful 𝓤 H A W w64 .typed (mShape.the-type .to ((n4 .fld) .a) .0) _ (LL.owed mShape.the-type lShape.the-laws ((n4 .fld) .a) _ (LL.owed mSystemShape.the-type lSystemShape.the-laws (n4 .fld) _ (LL.owed mShapes.the-type lShapes.the-laws n4 _ (subst (Is mShapes.the-row n4) ((LL.tells mShapes.the-type lShapes.the-laws) n4 _ w4) w4) .1 .0) .0) .0) .0)) $
-        move ! (6 ∷ []) $ use1 W (‵ (O5) ⊛ ‵ (O5)) (shr-slice-copy 𝓤 H A W (named 1) κ₁ mEntry.the-row .twice s5 (v5 ∷ [])) $ split ! $ tidy W (_ ∷ _ ∷ _ ∷ _ ∷ _ ∷ _ ∷ _ ∷ _ ∷ _ ∷ _ ∷ _ ∷ _ ∷ _ ∷ _ ∷ _ ∷ _ ∷ _ ∷ _ ∷ _ ∷ _ ∷ _ ∷ _ ∷ _ ∷ _ ∷ _ ∷ _ ∷ _ ∷ _ ∷ _ ∷ _ ∷ _ ∷ _ ∷ _ ∷ _ ∷ _ ∷ _ ∷ []) $ nothing ! $ move ! (5 ∷ 0 ∷ []) $ join ! $ join ! $
+        qed W ((‵ (flft κ₀ q₀) ⊛ ‵ (flft κ₁ q₁) ⊛ ‵ (flft κ₂ q₂) ⊛ ‵ (flft κ₃ q₃) ⊛ ‵ ftrue) ∷ ‵ (owns (MutSlice (named 0) κ₀ u64 ∷ u64 ∷ u64 ∷
+        mShapes.the-row ∷ ShrSlice (named 1) κ₁ mEntry.the-row ∷ ShrSlice (named 2) κ₂ u64 ∷ ShrSlice (named 3) κ₃ u64 ∷ []) a at) ∷ []) ∵ enter
+        ! C Λ code.function (v1 ∷ v2 ∷ v3 ∷ v4 ∷ v5 ∷ v6 ∷ v7 ∷ []) _ $
+        nothing ! $ alloc ! (λ l₀. alloc ! (λ l₁. alloc ! (λ l₂. alloc ! (λ l₃. alloc ! (λ l₄. alloc ! (λ l₅. alloc ! (λ l₆. alloc ! (λ l₇. alloc !
+        (λ l₈. alloc ! (λ l₉. alloc ! (λ l₁₀. alloc ! (λ l₁₁. alloc ! (λ l₁₂. alloc ! (λ l₁₃. alloc ! (λ l₁₄. alloc ! (λ l₁₅. alloc ! (λ l₁₆.
+        alloc ! (λ l₁₇. alloc ! (λ l₁₈. alloc ! (λ l₁₉. alloc ! (λ l₂₀. alloc ! (λ l₂₁. alloc ! (λ l₂₂. alloc0 ! $ hide ! (λ died die. params1 !
+        $ pass1 ! (init ! 22 refl (tt, (tt, (record { fits = room1 .0 }, tt)))) $ pass1 ! (init ! 21 refl (uint-lawful 𝓤 H A W w64 .typed n2 _ w2
+        .0)) $ pass1 ! (init ! 20 refl (uint-lawful 𝓤 H A W w64 .typed n3 _ w3 .0)) $ pass1 ! (init ! 19 refl (LL.lawful mShapes.the-type
+        lShapes.the-laws 𝓤 H A W .typed n4 _ w4 .0)) $ pass1 ! (init ! 18 refl (shr-slice-lawful 𝓤 H A W (named 1) κ₁ mEntry.the-row .typed s5
+        (v5 ∷ []) w5 .0)) $ pass1 ! (init ! 17 refl (shr-slice-lawful 𝓤 H A W (named 2) κ₂ u64 .typed s6 (v6 ∷ []) w6 .0)) $ pass1 ! (init ! 16
+        refl (shr-slice-lawful 𝓤 H A W (named 3) κ₃ u64 .typed s7 (v7 ∷ []) w7 .0)) $ pass0 ! $
+        move ! (25 ∷ []) $ fsplit ! $ move ! (1 ∷ []) $ fsplit ! $ move ! (1 ∷ []) $ fsplit ! $ move ! (1 ∷ []) $ fsplit ! $ move ! (1 ∷ []) $ fsplit
+        ! $ move ! (1 ∷ []) $ fsplit ! $ move ! (1 ∷ []) $ fsplit ! $ move ! (1 ∷ []) $ drop ! $ move ! (31 ∷ []) $ split ! $ move ! (1 ∷ []) $
+        split ! $ move ! (1 ∷ []) $ split ! $ move ! (1 ∷ []) $ split ! $ move ! (1 ∷ []) $ drop ! $ tidy W (_ ∷ _ ∷ _ ∷ _ ∷ _ ∷ _ ∷ _ ∷ _ ∷ _ ∷
+        _ ∷ _ ∷ _ ∷ _ ∷ _ ∷ _ ∷ _ ∷ _ ∷ _ ∷ _ ∷ _ ∷ _ ∷ _ ∷ _ ∷ _ ∷ _ ∷ _ ∷ _ ∷ _ ∷ _ ∷ _ ∷ _ ∷ _ ∷ _ ∷ _ ∷ _ ∷ []) $
+        rewrite ! 30 (λ (w : Val). ‵ (fat fullShare (lShapes.mir) l₄ 0 w)) (ap only ((LL.tells mShapes.the-type lShapes.the-laws) n4 _ w4)) refl $
+        assigns ! (of-opd ! (load ! (from ! (fld ! refl (stop !))) (look-in ! 30 (sub ! 0 refl (whole !))))) (from ! (stop !)) (init ! 26 refl
+        (LL.lawful mSystemShape.the-type lSystemShape.the-laws 𝓤 H A W .typed (n4 .bin) _ (LL.owed mShapes.the-type lShapes.the-laws n4 _ (subst
+        (Is mShapes.the-row n4) ((LL.tells mShapes.the-type lShapes.the-laws) n4 _ w4) w4) .0) .0)) $
+        assigns ! (of-opd ! (load ! (from ! (fld ! refl (stop !))) (look-in ! 30 (sub ! 1 refl (whole !))))) (from ! (stop !)) (init ! 25 refl
+        (LL.lawful mSystemShape.the-type lSystemShape.the-laws 𝓤 H A W .typed (n4 .fld) _ (LL.owed mShapes.the-type lShapes.the-laws n4 _ (subst
+        (Is mShapes.the-row n4) ((LL.tells mShapes.the-type lShapes.the-laws) n4 _ w4) w4) .1 .0) .0)) $
+        assigns ! (of-opd ! (load ! (from ! (fld ! refl (stop !))) (look-in ! 26 (sub ! 0 refl (whole !))))) (from ! (stop !)) (init ! 24 refl
+        (LL.lawful mShape.the-type lShape.the-laws 𝓤 H A W .typed ((n4 .bin) .a) _ (LL.owed mSystemShape.the-type lSystemShape.the-laws (n4 .bin)
+        _ (LL.owed mShapes.the-type lShapes.the-laws n4 _ (subst (Is mShapes.the-row n4) ((LL.tells mShapes.the-type lShapes.the-laws) n4 _ w4)
+        w4) .0) .0) .0)) $
+        assigns ! (of-opd ! (load ! (from ! (fld ! refl (stop !))) (look-in ! 25 (sub ! 0 refl (whole !))))) (from ! (stop !)) (init ! 23 refl
+        (LL.lawful mShape.the-type lShape.the-laws 𝓤 H A W .typed ((n4 .fld) .a) _ (LL.owed mSystemShape.the-type lSystemShape.the-laws (n4 .fld)
+        _ (LL.owed mShapes.the-type lShapes.the-laws n4 _ (subst (Is mShapes.the-row n4) ((LL.tells mShapes.the-type lShapes.the-laws) n4 _ w4)
+        w4) .1 .0) .0) .0)) $
+        assigns ! (of-opd ! (load ! (from ! (fld ! refl (stop !))) (look-in ! 24 (sub ! 0 refl (whole !))))) (from ! (stop !)) (init ! 22 refl
+        (uint-lawful 𝓤 H A W w64 .typed (mShape.the-type .to ((n4 .bin) .a) .0) _ (LL.owed mShape.the-type lShape.the-laws ((n4 .bin) .a) _
+        (LL.owed mSystemShape.the-type lSystemShape.the-laws (n4 .bin) _ (LL.owed mShapes.the-type lShapes.the-laws n4 _ (subst (Is
+        mShapes.the-row n4) ((LL.tells mShapes.the-type lShapes.the-laws) n4 _ w4) w4) .0) .0) .0) .0)) $
+        assigns ! (of-opd ! (load ! (from ! (fld ! refl (stop !))) (look-in ! 23 (sub ! 0 refl (whole !))))) (from ! (stop !)) (init ! 21 refl
+        (uint-lawful 𝓤 H A W w64 .typed (mShape.the-type .to ((n4 .fld) .a) .0) _ (LL.owed mShape.the-type lShape.the-laws ((n4 .fld) .a) _
+        (LL.owed mSystemShape.the-type lSystemShape.the-laws (n4 .fld) _ (LL.owed mShapes.the-type lShapes.the-laws n4 _ (subst (Is
+        mShapes.the-row n4) ((LL.tells mShapes.the-type lShapes.the-laws) n4 _ w4) w4) .1 .0) .0) .0) .0)) $
+        move ! (6 ∷ []) $ use1 W (‵ (O5) ⊛ ‵ (O5)) (shr-slice-copy 𝓤 H A W (named 1) κ₁ mEntry.the-row .twice s5 (v5 ∷ [])) $ split ! $ tidy W (_ ∷ _
+        ∷ _ ∷ _ ∷ _ ∷ _ ∷ _ ∷ _ ∷ _ ∷ _ ∷ _ ∷ _ ∷ _ ∷ _ ∷ _ ∷ _ ∷ _ ∷ _ ∷ _ ∷ _ ∷ _ ∷ _ ∷ _ ∷ _ ∷ _ ∷ _ ∷ _ ∷ _ ∷ _ ∷ _ ∷ _ ∷ _ ∷ _ ∷ _ ∷ _ ∷ _ ∷
+        []) $ nothing ! $ move ! (5 ∷ 0 ∷ []) $ join ! $ join ! $
         -- call 1
-        use1 W (raw (Callee-g1 𝓤 H A at-mem run .pre (((κ₁, tt), (q₁, tt), tt, (n2, (n3, (n4, (s5, tt)))), (u2 ∷ [], (u3 ∷ [], ((LL.val mShapes.the-type lShapes.the-laws n4) ∷ [], (v5 ∷ [], tt))))), tt))) (qed W ((‵ (flft κ₁ q₁) ⊛ ‵ ftrue) ∷ ‵ (ShrSlice (named 0) κ₁ mEntry.the-row .own s5 (v5 ∷ [])) ∷ []) ∵ nothing ! $ move ! (2 ∷ 0 ∷ []) $ fjoin ! $ owned ! mShapes.the-row (Is mShapes.the-row) (LL.makes mShapes.the-type lShapes.the-plain 𝓤 H A) (n4) _ (subst (Is mShapes.the-row n4) ((LL.tells mShapes.the-type lShapes.the-laws) n4 _ w4) w4) $ fjoin ! $ owned ! u64 (Is u64) (uint-makes 𝓤 H A W w64) (n3) _ w3 $ fjoin ! $ owned ! u64 (Is u64) (uint-makes 𝓤 H A W w64) (n2) _ w2 $ fjoin ! $ move ! (1 ∷ 0 ∷ []) $ join ! $ nothing ! $ move ! (1 ∷ 0 ∷ []) $ frame ! $ done !) $
-        calls-at ! fm (Callee-g1 𝓤 H A at-mem run) known-g1 (((κ₁, tt), (q₁, tt), tt, (n2, (n3, (n4, (s5, tt)))), (u2 ∷ [], (u3 ∷ [], ((LL.val mShapes.the-type lShapes.the-laws n4) ∷ [], (v5 ∷ [], tt))))), tt) (and-then ! (load ! (from ! (stop !)) (look ! 32 refl)) (and-then ! (load ! (from ! (stop !)) (look ! 31 refl)) (and-then ! (load ! (from ! (stop !)) (look ! 30 refl)) (and-then ! (load ! (from ! (stop !)) (look ! 29 refl)) (no-more !))))) (λ z1.
-        use1 W (later (some (λ (r1 : ℕ). ((‵ (flft κ₁ q₁) ⊛ ‵ ftrue) ⊛ ‵ (u32 .own r1 (z1 ∷ []))) ⊛ some (λ (ws : Lasts g1.ended (κ₁, tt) (n2, (n3, (n4, (s5, tt))))). ‵ (lasts g1.ended (κ₁, tt) (n2, (n3, (n4, (s5, tt)))) ws) ⊛ raw (g1.clauses 𝓤 H A at-mem run (κ₁, tt) (n2, (n3, (n4, (s5, tt)))) .ensures tt r1 (atExit g1.ended (κ₁, tt) (n2, (n3, (n4, (s5, tt)))) ws)))))) (id⊢ 𝓤 _) $ await ! tt $ pick ! (λ r1. split ! $ move ! (1 ∷ []) $ pick ! (λ ws1. split ! $ move ! (1 ∷ []) $ heard ! _ (λ e1.
+        use1 W (raw (Callee-g1 𝓤 H A at-mem run .pre (
+          (
+            (κ₁, tt),
+            (q₁, tt),
+            tt,
+            (n2, (n3, (n4, (s5, tt)))),
+            (
+              u2 ∷ [],
+              (
+                u3 ∷ [],
+                (
+                  (LL.val
+                      mShapes.the-type lShapes.the-laws n4) ∷ [],
+                  (v5 ∷ [], tt),
+                ),
+              ),
+            ),
+          ),
+          tt,
+        ))) (qed W ((‵ (flft κ₁ q₁) ⊛ ‵ ftrue) ∷ ‵ (ShrSlice (named 0) κ₁
+        mEntry.the-row .own s5 (v5 ∷ [])) ∷ []) ∵ nothing ! $ move ! (2 ∷ 0 ∷ []) $ fjoin ! $ owned ! mShapes.the-row (Is mShapes.the-row)
+        (LL.makes mShapes.the-type lShapes.the-plain 𝓤 H A) (n4) _ (subst (Is mShapes.the-row n4) ((LL.tells mShapes.the-type lShapes.the-laws)
+        n4 _ w4) w4) $ fjoin ! $ owned ! u64 (Is u64) (uint-makes 𝓤 H A W w64) (n3) _ w3 $ fjoin ! $ owned ! u64 (Is u64) (uint-makes 𝓤 H A W
+        w64) (n2) _ w2 $ fjoin ! $ move ! (1 ∷ 0 ∷ []) $ join ! $ nothing ! $ move ! (1 ∷ 0 ∷ []) $ frame ! $ done !) $
+        calls-at ! fm (Callee-g1 𝓤 H A at-mem run) known-g1 (
+          (
+            (κ₁, tt),
+            (q₁, tt),
+            tt,
+            (n2, (n3, (n4, (s5, tt)))),
+            (
+              u2 ∷ [],
+              (
+                u3 ∷ [],
+                (
+                  (LL.val
+                      mShapes.the-type lShapes.the-laws n4) ∷ [],
+                  (v5 ∷ [], tt),
+                ),
+              ),
+            ),
+          ),
+          tt,
+        ) (and-then ! (load ! (from ! (stop !)) (look ! 32 refl)) (and-then !
+        (load ! (from ! (stop !)) (look ! 31 refl)) (and-then ! (load ! (from ! (stop !)) (look ! 30 refl)) (and-then ! (load ! (from ! (stop !))
+        (look ! 29 refl)) (no-more !))))) (λ z1.
+        use1 W (later (some (λ (r1 : ℕ). ((‵ (flft κ₁ q₁) ⊛ ‵ ftrue) ⊛ ‵ (u32 .own r1 (z1 ∷ []))) ⊛ some (λ (ws : Lasts g1.ended (κ₁, tt) (
+          n2,
+          (
+            n3,
+            (n4, (s5, tt)),
+          ),
+        )). ‵ (lasts g1.ended (κ₁, tt) (n2, (n3, (n4, (s5, tt)))) ws) ⊛ raw (g1.clauses 𝓤 H A at-mem run (κ₁, tt) (
+          n2,
+          (
+            n3,
+            (
+              n4,
+              (s5, tt),
+            ),
+          ),
+        ) .ensures tt r1 (atExit g1.ended (κ₁, tt) (n2, (n3, (n4, (s5, tt)))) ws)))))) (id⊢ 𝓤 _) $ await ! tt $ pick ! (λ r1. split ! $
+        move ! (1 ∷ []) $ pick ! (λ ws1. split ! $ move ! (1 ∷ []) $ heard ! _ (λ e1.
         drop ! $ split ! $ move ! (1 ∷ []) $ peeks ! u32 (Is u32) (shows 𝓤 H A u32) r1 (z1 ∷ []) (λ i1. drop ! $ land ! (from ! (stop !)) (init ! 20 refl (uint-lawful 𝓤 H A W w32 .typed r1 _ i1 .0)) $
-        tidy W (_ ∷ _ ∷ _ ∷ _ ∷ _ ∷ _ ∷ _ ∷ _ ∷ _ ∷ _ ∷ _ ∷ _ ∷ _ ∷ _ ∷ _ ∷ _ ∷ _ ∷ _ ∷ _ ∷ _ ∷ _ ∷ _ ∷ _ ∷ _ ∷ _ ∷ _ ∷ _ ∷ _ ∷ _ ∷ _ ∷ _ ∷ _ ∷ _ ∷ _ ∷ _ ∷ []) $ split ! $ move ! (1 ∷ []) $ drop ! $ assigns ! (of-opd ! (load ! (from ! (fld ! refl (stop !))) (look-in ! 28 (sub ! 1 refl (whole !))))) (from ! (stop !)) (init ! 16 refl (tt, record { fits = (w6 .0 .1 .0) })) $
+        tidy W (_ ∷ _ ∷ _ ∷ _ ∷ _ ∷ _ ∷ _ ∷ _ ∷ _ ∷ _ ∷ _ ∷ _ ∷ _ ∷ _ ∷ _ ∷ _ ∷ _ ∷ _ ∷ _ ∷ _ ∷ _ ∷ _ ∷ _ ∷ _ ∷ _ ∷ _ ∷ _ ∷ _ ∷ _ ∷ _ ∷ _ ∷ _ ∷ _ ∷ _
+        ∷ _ ∷ []) $ split ! $ move ! (1 ∷ []) $ drop ! $ assigns ! (of-opd ! (load ! (from ! (fld ! refl (stop !))) (look-in ! 28 (sub ! 1 refl
+        (whole !))))) (from ! (stop !)) (init ! 16 refl (tt, record { fits = (w6 .0 .1 .0) })) $
         assigns ! (of-opd ! (load ! (from ! (fld ! refl (stop !))) (look-in ! 27 (sub ! 1 refl (whole !))))) (from ! (stop !)) (init ! 15 refl (tt, record { fits = (w7 .0 .1 .0) })) $
         assigns ! (of-opd ! (load ! (from ! (fld ! refl (stop !))) (look-in ! 33 (sub ! 1 refl (whole !))))) (from ! (stop !)) (init ! 14 refl (tt, record { fits = (room1 .0) })) $
         tidy W (_ ∷ _ ∷ _ ∷ _ ∷ _ ∷ _ ∷ _ ∷ _ ∷ _ ∷ _ ∷ _ ∷ _ ∷ _ ∷ _ ∷ _ ∷ _ ∷ _ ∷ _ ∷ _ ∷ _ ∷ _ ∷ _ ∷ _ ∷ _ ∷ _ ∷ _ ∷ _ ∷ _ ∷ _ ∷ _ ∷ _ ∷ _ ∷ _ ∷ _ ∷ _ ∷ []) $ nothing ! $
         -- call 2
-        use1 W (raw (Callee-g2 𝓤 H A at-mem run .pre ((tt, tt, tt, (r1, (n2, (n3, ((mShape.the-type .to ((n4 .bin) .a) .0), ((mShape.the-type .to ((n4 .fld) .a) .0), ((length (s6 .now)), ((length (s7 .now)), ((length ys1), tt)))))))), (z1 ∷ [], (u2 ∷ [], (u3 ∷ [], (((vint w64) (mShape.the-type .to ((n4 .bin) .a) .0)) ∷ [], (((vint w64) (mShape.the-type .to ((n4 .fld) .a) .0)) ∷ [], ((vint w64 (length (s6 .now))) ∷ [], ((vint w64 (length (s7 .now))) ∷ [], ((vint w64 (length ys1)) ∷ [], tt))))))))), tt))) (qed W ((‵ ftrue) ∷ []) ∵ nothing ! $ owned ! u64 (Is u64) (uint-makes 𝓤 H A W w64) ((length ys1)) _ (refl, (room1 .0)) $ fjoin ! $ owned ! u64 (Is u64) (uint-makes 𝓤 H A W w64) ((length (s7 .now))) _ (refl, (w7 .0 .1 .0)) $ fjoin ! $ owned ! u64 (Is u64) (uint-makes 𝓤 H A W w64) ((length (s6 .now))) _ (refl, (w6 .0 .1 .0)) $ fjoin ! $ owned ! u64 (Is u64) (uint-makes 𝓤 H A W w64) ((mShape.the-type .to ((n4 .fld) .a) .0)) _ (LL.owed mShape.the-type lShape.the-laws ((n4 .fld) .a) _ (LL.owed mSystemShape.the-type lSystemShape.the-laws (n4 .fld) _ (LL.owed mShapes.the-type lShapes.the-laws n4 _ (subst (Is mShapes.the-row n4) ((LL.tells mShapes.the-type lShapes.the-laws) n4 _ w4) w4) .1 .0) .0) .0) $ fjoin ! $ owned ! u64 (Is u64) (uint-makes 𝓤 H A W w64) ((mShape.the-type .to ((n4 .bin) .a) .0)) _ (LL.owed mShape.the-type lShape.the-laws ((n4 .bin) .a) _ (LL.owed mSystemShape.the-type lSystemShape.the-laws (n4 .bin) _ (LL.owed mShapes.the-type lShapes.the-laws n4 _ (subst (Is mShapes.the-row n4) ((LL.tells mShapes.the-type lShapes.the-laws) n4 _ w4) w4) .0) .0) .0) $ fjoin ! $ owned ! u64 (Is u64) (uint-makes 𝓤 H A W w64) (n3) _ w3 $ fjoin ! $ owned ! u64 (Is u64) (uint-makes 𝓤 H A W w64) (n2) _ w2 $ fjoin ! $ owned ! u32 (Is u32) (uint-makes 𝓤 H A W w32) (r1) _ i1 $ fjoin ! $ move ! (1 ∷ 0 ∷ []) $ join ! $ nothing ! $ move ! (1 ∷ 0 ∷ []) $ frame ! $ done !) $
-        calls-at ! fm (Callee-g2 𝓤 H A at-mem run) known-g2 ((tt, tt, tt, (r1, (n2, (n3, ((mShape.the-type .to ((n4 .bin) .a) .0), ((mShape.the-type .to ((n4 .fld) .a) .0), ((length (s6 .now)), ((length (s7 .now)), ((length ys1), tt)))))))), (z1 ∷ [], (u2 ∷ [], (u3 ∷ [], (((vint w64) (mShape.the-type .to ((n4 .bin) .a) .0)) ∷ [], (((vint w64) (mShape.the-type .to ((n4 .fld) .a) .0)) ∷ [], ((vint w64 (length (s6 .now))) ∷ [], ((vint w64 (length (s7 .now))) ∷ [], ((vint w64 (length ys1)) ∷ [], tt))))))))), tt) (and-then ! (load ! (from ! (stop !)) (look ! 21 refl)) (and-then ! (load ! (from ! (stop !)) (look ! 33 refl)) (and-then ! (load ! (from ! (stop !)) (look ! 32 refl)) (and-then ! (load ! (from ! (stop !)) (look ! 23 refl)) (and-then ! (load ! (from ! (stop !)) (look ! 22 refl)) (and-then ! (load ! (from ! (stop !)) (look ! 17 refl)) (and-then ! (load ! (from ! (stop !)) (look ! 16 refl)) (and-then ! (load ! (from ! (stop !)) (look ! 15 refl)) (no-more !))))))))) (λ z2.
-        use1 W (later (some (λ (r2 : ℕ). ((‵ ftrue) ⊛ ‵ (u32 .own r2 (z2 ∷ []))) ⊛ some (λ (ws : Lasts g2.ended tt (r1, (n2, (n3, ((mShape.the-type .to ((n4 .bin) .a) .0), ((mShape.the-type .to ((n4 .fld) .a) .0), ((length (s6 .now)), ((length (s7 .now)), ((length ys1), tt))))))))). ‵ (lasts g2.ended tt (r1, (n2, (n3, ((mShape.the-type .to ((n4 .bin) .a) .0), ((mShape.the-type .to ((n4 .fld) .a) .0), ((length (s6 .now)), ((length (s7 .now)), ((length ys1), tt)))))))) ws) ⊛ raw (g2.clauses 𝓤 H A at-mem run tt (r1, (n2, (n3, ((mShape.the-type .to ((n4 .bin) .a) .0), ((mShape.the-type .to ((n4 .fld) .a) .0), ((length (s6 .now)), ((length (s7 .now)), ((length ys1), tt)))))))) .ensures tt r2 (atExit g2.ended tt (r1, (n2, (n3, ((mShape.the-type .to ((n4 .bin) .a) .0), ((mShape.the-type .to ((n4 .fld) .a) .0), ((length (s6 .now)), ((length (s7 .now)), ((length ys1), tt)))))))) ws)))))) (id⊢ 𝓤 _) $ await ! tt $ pick ! (λ r2. split ! $ move ! (1 ∷ []) $ pick ! (λ ws2. split ! $ move ! (1 ∷ []) $ heard ! _ (λ e2.
+        use1 W (raw (Callee-g2 𝓤 H A at-mem run .pre (
+          (
+            tt,
+            tt,
+            tt,
+            (
+              r1,
+              (
+                n2,
+                (
+                  n3,
+                  (
+                    (mShape.the-type .to ((n4 .bin) .a) .0),
+                    (
+                      (mShape.the-type .to
+                          ((n4 .fld) .a) .0),
+                      ((length (s6 .now)), ((length (s7 .now)), ((length ys1), tt))),
+                    ),
+                  ),
+                ),
+              ),
+            ),
+            (
+              z1 ∷ [],
+              (
+                u2 ∷ [],
+                (
+                  u3 ∷ [],
+                  (
+                    ((vint w64)
+                        (mShape.the-type .to ((n4 .bin) .a) .0)) ∷ [],
+                    (
+                      ((vint w64) (mShape.the-type .to ((n4 .fld) .a) .0)) ∷ [],
+                      (
+                        (vint w64 (length (s6 .now)))
+                            ∷ [],
+                        ((vint w64 (length (s7 .now))) ∷ [], ((vint w64 (length ys1)) ∷ [], tt)),
+                      ),
+                    ),
+                  ),
+                ),
+              ),
+            ),
+          ),
+          tt,
+        ))) (qed W ((‵ ftrue) ∷ []) ∵ nothing ! $ owned
+        ! u64 (Is u64) (uint-makes 𝓤 H A W w64) ((length ys1)) _ (refl, (room1 .0)) $ fjoin ! $ owned ! u64 (Is u64) (uint-makes 𝓤 H A W w64)
+        ((length (s7 .now))) _ (refl, (w7 .0 .1 .0)) $ fjoin ! $ owned ! u64 (Is u64) (uint-makes 𝓤 H A W w64) ((length (s6 .now))) _ (
+          refl,
+          (w6
+              .0 .1 .0),
+        ) $ fjoin ! $ owned ! u64 (Is u64) (uint-makes 𝓤 H A W w64) ((mShape.the-type .to ((n4 .fld) .a) .0)) _ (LL.owed mShape.the-type
+        lShape.the-laws ((n4 .fld) .a) _ (LL.owed mSystemShape.the-type lSystemShape.the-laws (n4 .fld) _ (LL.owed mShapes.the-type
+        lShapes.the-laws n4 _ (subst (Is mShapes.the-row n4) ((LL.tells mShapes.the-type lShapes.the-laws) n4 _ w4) w4) .1 .0) .0) .0) $ fjoin !
+        $ owned ! u64 (Is u64) (uint-makes 𝓤 H A W w64) ((mShape.the-type .to ((n4 .bin) .a) .0)) _ (LL.owed mShape.the-type lShape.the-laws ((n4
+        .bin) .a) _ (LL.owed mSystemShape.the-type lSystemShape.the-laws (n4 .bin) _ (LL.owed mShapes.the-type lShapes.the-laws n4 _ (subst (Is
+        mShapes.the-row n4) ((LL.tells mShapes.the-type lShapes.the-laws) n4 _ w4) w4) .0) .0) .0) $ fjoin ! $ owned ! u64 (Is u64) (uint-makes 𝓤
+        H A W w64) (n3) _ w3 $ fjoin ! $ owned ! u64 (Is u64) (uint-makes 𝓤 H A W w64) (n2) _ w2 $ fjoin ! $ owned ! u32 (Is u32) (uint-makes 𝓤 H
+        A W w32) (r1) _ i1 $ fjoin ! $ move ! (1 ∷ 0 ∷ []) $ join ! $ nothing ! $ move ! (1 ∷ 0 ∷ []) $ frame ! $ done !) $
+        calls-at ! fm (Callee-g2 𝓤 H A at-mem run) known-g2 (
+          (
+            tt,
+            tt,
+            tt,
+            (
+              r1,
+              (
+                n2,
+                (
+                  n3,
+                  (
+                    (mShape.the-type .to ((n4 .bin) .a) .0),
+                    (
+                      (mShape.the-type
+                          .to ((n4 .fld) .a) .0),
+                      ((length (s6 .now)), ((length (s7 .now)), ((length ys1), tt))),
+                    ),
+                  ),
+                ),
+              ),
+            ),
+            (
+              z1 ∷ [],
+              (
+                u2 ∷ [],
+                (
+                  u3 ∷ [],
+                  (
+                    ((vint w64)
+                        (mShape.the-type .to ((n4 .bin) .a) .0)) ∷ [],
+                    (
+                      ((vint w64) (mShape.the-type .to ((n4 .fld) .a) .0)) ∷ [],
+                      (
+                        (vint w64 (length (s6 .now)))
+                            ∷ [],
+                        ((vint w64 (length (s7 .now))) ∷ [], ((vint w64 (length ys1)) ∷ [], tt)),
+                      ),
+                    ),
+                  ),
+                ),
+              ),
+            ),
+          ),
+          tt,
+        ) (and-then ! (load ! (from ! (stop !)) (look !
+        21 refl)) (and-then ! (load ! (from ! (stop !)) (look ! 33 refl)) (and-then ! (load ! (from ! (stop !)) (look ! 32 refl)) (and-then !
+        (load ! (from ! (stop !)) (look ! 23 refl)) (and-then ! (load ! (from ! (stop !)) (look ! 22 refl)) (and-then ! (load ! (from ! (stop !))
+        (look ! 17 refl)) (and-then ! (load ! (from ! (stop !)) (look ! 16 refl)) (and-then ! (load ! (from ! (stop !)) (look ! 15 refl))
+        (no-more !))))))))) (λ z2.
+        use1 W (later (some (λ (r2 : ℕ). ((‵ ftrue) ⊛ ‵ (u32 .own r2 (z2 ∷ []))) ⊛ some (λ (ws : Lasts g2.ended tt (
+          r1,
+          (
+            n2,
+            (
+              n3,
+              (
+                (mShape.the-type
+                    .to ((n4 .bin) .a) .0),
+                ((mShape.the-type .to ((n4 .fld) .a) .0), ((length (s6 .now)), ((length (s7 .now)), ((length ys1), tt)))),
+              ),
+            ),
+          ),
+        )). ‵
+        (lasts g2.ended tt (
+          r1,
+          (
+            n2,
+            (
+              n3,
+              (
+                (mShape.the-type .to ((n4 .bin) .a) .0),
+                (
+                  (mShape.the-type .to ((n4 .fld) .a) .0),
+                  (
+                    (length (s6
+                        .now)),
+                    ((length (s7 .now)), ((length ys1), tt)),
+                  ),
+                ),
+              ),
+            ),
+          ),
+        ) ws) ⊛ raw (g2.clauses 𝓤 H A at-mem run tt (
+          r1,
+          (
+            n2,
+            (
+              n3,
+              (
+                (mShape.the-type .to
+                    ((n4 .bin) .a) .0),
+                ((mShape.the-type .to ((n4 .fld) .a) .0), ((length (s6 .now)), ((length (s7 .now)), ((length ys1), tt)))),
+              ),
+            ),
+          ),
+        )
+        .ensures tt r2 (atExit g2.ended tt (
+          r1,
+          (
+            n2,
+            (
+              n3,
+              (
+                (mShape.the-type .to ((n4 .bin) .a) .0),
+                (
+                  (mShape.the-type .to ((n4 .fld) .a) .0),
+                  ((length (s6 .now)), ((length (s7 .now)), ((length ys1), tt))),
+                ),
+              ),
+            ),
+          ),
+        ) ws)))))) (id⊢ 𝓤 _) $ await ! tt $ pick ! (λ r2. split ! $ move ! (1 ∷
+        []) $ pick ! (λ ws2. split ! $ move ! (1 ∷ []) $ heard ! _ (λ e2.
         drop ! $ split ! $ move ! (1 ∷ []) $ peeks ! u32 (Is u32) (shows 𝓤 H A u32) r2 (z2 ∷ []) (λ i2. drop ! $ land ! (from ! (stop !)) (init ! 20 refl (uint-lawful 𝓤 H A W w32 .typed r2 _ i2 .0)) $
-        tidy W (_ ∷ _ ∷ _ ∷ _ ∷ _ ∷ _ ∷ _ ∷ _ ∷ _ ∷ _ ∷ _ ∷ _ ∷ _ ∷ _ ∷ _ ∷ _ ∷ _ ∷ _ ∷ _ ∷ _ ∷ _ ∷ _ ∷ _ ∷ _ ∷ _ ∷ _ ∷ _ ∷ _ ∷ _ ∷ _ ∷ _ ∷ _ ∷ _ ∷ _ ∷ _ ∷ _ ∷ []) $ drop ! $ tidy W (_ ∷ _ ∷ _ ∷ _ ∷ _ ∷ _ ∷ _ ∷ _ ∷ _ ∷ _ ∷ _ ∷ _ ∷ _ ∷ _ ∷ _ ∷ _ ∷ _ ∷ _ ∷ _ ∷ _ ∷ _ ∷ _ ∷ _ ∷ _ ∷ _ ∷ _ ∷ _ ∷ _ ∷ _ ∷ _ ∷ _ ∷ _ ∷ _ ∷ _ ∷ _ ∷ []) $ nothing ! $
+        tidy W (_ ∷ _ ∷ _ ∷ _ ∷ _ ∷ _ ∷ _ ∷ _ ∷ _ ∷ _ ∷ _ ∷ _ ∷ _ ∷ _ ∷ _ ∷ _ ∷ _ ∷ _ ∷ _ ∷ _ ∷ _ ∷ _ ∷ _ ∷ _ ∷ _ ∷ _ ∷ _ ∷ _ ∷ _ ∷ _ ∷ _ ∷ _ ∷ _ ∷ _
+        ∷ _ ∷ _ ∷ []) $ drop ! $ tidy W (_ ∷ _ ∷ _ ∷ _ ∷ _ ∷ _ ∷ _ ∷ _ ∷ _ ∷ _ ∷ _ ∷ _ ∷ _ ∷ _ ∷ _ ∷ _ ∷ _ ∷ _ ∷ _ ∷ _ ∷ _ ∷ _ ∷ _ ∷ _ ∷ _ ∷ _ ∷
+        _ ∷ _ ∷ _ ∷ _ ∷ _ ∷ _ ∷ _ ∷ _ ∷ _ ∷ []) $ nothing ! $
         -- call 3
-        use1 W (raw (Callee-g3 𝓤 H A at-mem run .pre ((tt, tt, tt, (n2, tt), (u2 ∷ [], tt)), tt))) (qed W ((‵ ftrue) ∷ []) ∵ nothing ! $ owned ! u64 (Is u64) (uint-makes 𝓤 H A W w64) (n2) _ w2 $ fjoin ! $ move ! (1 ∷ 0 ∷ []) $ join ! $ nothing ! $ move ! (1 ∷ 0 ∷ []) $ frame ! $ done !) $
+        use1 W (raw (Callee-g3 𝓤 H A at-mem run .pre ((tt, tt, tt, (n2, tt), (u2 ∷ [], tt)), tt))) (qed W ((‵ ftrue) ∷ []) ∵ nothing ! $ owned ! u64
+        (Is u64) (uint-makes 𝓤 H A W w64) (n2) _ w2 $ fjoin ! $ move ! (1 ∷ 0 ∷ []) $ join ! $ nothing ! $ move ! (1 ∷ 0 ∷ []) $ frame ! $ done
+        !) $
         calls-at ! fm (Callee-g3 𝓤 H A at-mem run) known-g3 ((tt, tt, tt, (n2, tt), (u2 ∷ [], tt)), tt) (and-then ! (load ! (from ! (stop !)) (look ! 33 refl)) (no-more !)) (λ z3.
-        use1 W (later (some (λ (r3 : ℕ). ((‵ ftrue) ⊛ ‵ (u64 .own r3 (z3 ∷ []))) ⊛ some (λ (ws : Lasts g3.ended tt (n2, tt)). ‵ (lasts g3.ended tt (n2, tt) ws) ⊛ raw (g3.clauses 𝓤 H A at-mem run tt (n2, tt) .ensures tt r3 (atExit g3.ended tt (n2, tt) ws)))))) (id⊢ 𝓤 _) $ await ! tt $ pick ! (λ r3. split ! $ move ! (1 ∷ []) $ pick ! (λ ws3. split ! $ move ! (1 ∷ []) $ heard ! _ (λ e3.
+        use1 W (later (some (λ (r3 : ℕ). ((‵ ftrue) ⊛ ‵ (u64 .own r3 (z3 ∷ []))) ⊛ some (λ (ws : Lasts g3.ended tt (n2, tt)). ‵ (lasts g3.ended tt
+        (n2, tt) ws) ⊛ raw (g3.clauses 𝓤 H A at-mem run tt (n2, tt) .ensures tt r3 (atExit g3.ended tt (n2, tt) ws)))))) (id⊢ 𝓤 _) $ await ! tt $
+        pick ! (λ r3. split ! $ move ! (1 ∷ []) $ pick ! (λ ws3. split ! $ move ! (1 ∷ []) $ heard ! _ (λ e3.
         drop ! $ split ! $ move ! (1 ∷ []) $ peeks ! u64 (Is u64) (shows 𝓤 H A u64) r3 (z3 ∷ []) (λ i3. drop ! $ land ! (from ! (stop !)) (init ! 19 refl (uint-lawful 𝓤 H A W w64 .typed r3 _ i3 .0)) $
-        tidy W (_ ∷ _ ∷ _ ∷ _ ∷ _ ∷ _ ∷ _ ∷ _ ∷ _ ∷ _ ∷ _ ∷ _ ∷ _ ∷ _ ∷ _ ∷ _ ∷ _ ∷ _ ∷ _ ∷ _ ∷ _ ∷ _ ∷ _ ∷ _ ∷ _ ∷ _ ∷ _ ∷ _ ∷ _ ∷ _ ∷ _ ∷ _ ∷ _ ∷ _ ∷ _ ∷ _ ∷ []) $ drop ! $ assigns ! (addr ! (from ! (fld ! refl (hop ! (look-in ! 33 (sub ! 0 refl (whole !))) (stop !))))) (from ! (stop !)) (init ! 13 refl (tt, tt)) $
-        assigns ! (agg ! (and-then ! (load ! (from ! (stop !)) (look ! 13 refl)) (and-then ! (load ! (from ! (fld ! refl (stop !))) (look-in ! 33 (sub ! 1 refl (whole !)))) (no-more !)))) (from ! (stop !)) (init ! 12 refl (tt, (tt, (record { fits = room1 .0 }, tt)))) $
-        lft-new ! tt (λ ν4b. move ! (11 ∷ 5 ∷ []) $ use2 W (later (some (λ (δ : GName). ‵ (MutSlice (named 0) (ν4b ∷ []) u64 .own (ref1 δ (ys1)) (v1 ∷ [])) ⊛ ‵ (Lent1 ν4b δ (ys1))))) (lends1 (named 0) ν4b (ys1) (refl)) $ await ! tt $ pick ! (λ δ4b. split ! $ move ! (4 ∷ []) $ use1 W (‵ (O5) ⊛ ‵ (O5)) (shr-slice-copy 𝓤 H A W (named 1) κ₁ mEntry.the-row .twice s5 (v5 ∷ [])) $ split ! $ move ! (9 ∷ []) $ use1 W (‵ (O6) ⊛ ‵ (O6)) (shr-slice-copy 𝓤 H A W (named 2) κ₂ u64 .twice s6 (v6 ∷ [])) $ split ! $ move ! (10 ∷ []) $ use1 W (‵ (O7) ⊛ ‵ (O7)) (shr-slice-copy 𝓤 H A W (named 3) κ₃ u64 .twice s7 (v7 ∷ [])) $ split ! $ tidy W (_ ∷ _ ∷ _ ∷ _ ∷ _ ∷ _ ∷ _ ∷ _ ∷ _ ∷ _ ∷ _ ∷ _ ∷ _ ∷ _ ∷ _ ∷ _ ∷ _ ∷ _ ∷ _ ∷ _ ∷ _ ∷ _ ∷ _ ∷ _ ∷ _ ∷ _ ∷ _ ∷ _ ∷ _ ∷ _ ∷ _ ∷ _ ∷ _ ∷ _ ∷ _ ∷ _ ∷ _ ∷ _ ∷ _ ∷ []) $ nothing ! $ move ! (11 ∷ 0 ∷ []) $ join ! $ move ! (11 ∷ 0 ∷ []) $ join ! $ move ! (10 ∷ 0 ∷ []) $ join ! $ move ! (9 ∷ 0 ∷ []) $ join ! $ move ! (3 ∷ 1 ∷ []) $ join ! $ move ! (4 ∷ 0 ∷ []) $ join ! $ move ! (5 ∷ 0 ∷ []) $ join ! $ move ! (1 ∷ 0 ∷ []) $ join ! $
+        tidy W (_ ∷ _ ∷ _ ∷ _ ∷ _ ∷ _ ∷ _ ∷ _ ∷ _ ∷ _ ∷ _ ∷ _ ∷ _ ∷ _ ∷ _ ∷ _ ∷ _ ∷ _ ∷ _ ∷ _ ∷ _ ∷ _ ∷ _ ∷ _ ∷ _ ∷ _ ∷ _ ∷ _ ∷ _ ∷ _ ∷ _ ∷ _ ∷ _ ∷ _
+        ∷ _ ∷ _ ∷ []) $ drop ! $ assigns ! (addr ! (from ! (fld ! refl (hop ! (look-in ! 33 (sub ! 0 refl (whole !))) (stop !))))) (from ! (stop
+        !)) (init ! 13 refl (tt, tt)) $
+        assigns ! (agg ! (and-then ! (load ! (from ! (stop !)) (look ! 13 refl)) (and-then ! (load ! (from ! (fld ! refl (stop !))) (look-in ! 33
+        (sub ! 1 refl (whole !)))) (no-more !)))) (from ! (stop !)) (init ! 12 refl (tt, (tt, (record { fits = room1 .0 }, tt)))) $
+        lft-new ! tt (λ ν4b. move ! (11 ∷ 5 ∷ []) $ use2 W (later (some (λ (δ : GName). ‵ (MutSlice (named 0) (ν4b ∷ []) u64 .own (ref1 δ (ys1)) (v1
+        ∷ [])) ⊛ ‵ (Lent1 ν4b δ (ys1))))) (lends1 (named 0) ν4b (ys1) (refl)) $ await ! tt $ pick ! (λ δ4b. split ! $ move ! (4 ∷ []) $ use1 W (‵
+        (O5) ⊛ ‵ (O5)) (shr-slice-copy 𝓤 H A W (named 1) κ₁ mEntry.the-row .twice s5 (v5 ∷ [])) $ split ! $ move ! (9 ∷ []) $ use1 W (‵ (O6) ⊛ ‵
+        (O6)) (shr-slice-copy 𝓤 H A W (named 2) κ₂ u64 .twice s6 (v6 ∷ [])) $ split ! $ move ! (10 ∷ []) $ use1 W (‵ (O7) ⊛ ‵ (O7))
+        (shr-slice-copy 𝓤 H A W (named 3) κ₃ u64 .twice s7 (v7 ∷ [])) $ split ! $ tidy W (_ ∷ _ ∷ _ ∷ _ ∷ _ ∷ _ ∷ _ ∷ _ ∷ _ ∷ _ ∷ _ ∷ _ ∷ _ ∷ _ ∷
+        _ ∷ _ ∷ _ ∷ _ ∷ _ ∷ _ ∷ _ ∷ _ ∷ _ ∷ _ ∷ _ ∷ _ ∷ _ ∷ _ ∷ _ ∷ _ ∷ _ ∷ _ ∷ _ ∷ _ ∷ _ ∷ _ ∷ _ ∷ _ ∷ _ ∷ []) $ nothing ! $ move ! (11 ∷ 0 ∷
+        []) $ join ! $ move ! (11 ∷ 0 ∷ []) $ join ! $ move ! (10 ∷ 0 ∷ []) $ join ! $ move ! (9 ∷ 0 ∷ []) $ join ! $ move ! (3 ∷ 1 ∷ []) $ join
+        ! $ move ! (4 ∷ 0 ∷ []) $ join ! $ move ! (5 ∷ 0 ∷ []) $ join ! $ move ! (1 ∷ 0 ∷ []) $ join ! $
         -- call 4
-        use1 W (raw (Callee-g4 𝓤 H A at-mem run .pre ((((ν4b ∷ []), (κ₁, (κ₂, (κ₃, tt)))), (fullShare, (q₁, (q₂, (q₃, tt)))), tt, (r2, (ref1 δ4b (ys1), (n2, (n3, (n4, (s5, (r3, (s6, (s7, tt))))))))), (z2 ∷ [], (v1 ∷ [], (u2 ∷ [], (u3 ∷ [], ((LL.val mShapes.the-type lShapes.the-laws n4) ∷ [], (v5 ∷ [], (z3 ∷ [], (v6 ∷ [], (v7 ∷ [], tt)))))))))), tt))) (qed W ((‵ (flft (ν4b ∷ []) fullShare) ⊛ ‵ (flft κ₁ q₁) ⊛ ‵ (flft κ₂ q₂) ⊛ ‵ (flft κ₃ q₃) ⊛ ‵ ftrue) ∷ ‵ (MutSlice (named 0) (ν4b ∷ []) u64 .own (ref1 δ4b (ys1)) (v1 ∷ [])) ∷ ‵ (ShrSlice (named 1) κ₁ mEntry.the-row .own s5 (v5 ∷ [])) ∷ ‵ (ShrSlice (named 2) κ₂ u64 .own s6 (v6 ∷ [])) ∷ ‵ (ShrSlice (named 3) κ₃ u64 .own s7 (v7 ∷ [])) ∷ []) ∵ nothing ! $ move ! (5 ∷ 0 ∷ []) $ fjoin ! $ move ! (4 ∷ 0 ∷ []) $ fjoin ! $ owned ! u64 (Is u64) (uint-makes 𝓤 H A W w64) (r3) _ i3 $ fjoin ! $ move ! (3 ∷ 0 ∷ []) $ fjoin ! $ owned ! mShapes.the-row (Is mShapes.the-row) (LL.makes mShapes.the-type lShapes.the-plain 𝓤 H A) (n4) _ (subst (Is mShapes.the-row n4) ((LL.tells mShapes.the-type lShapes.the-laws) n4 _ w4) w4) $ fjoin ! $ owned ! u64 (Is u64) (uint-makes 𝓤 H A W w64) (n3) _ w3 $ fjoin ! $ owned ! u64 (Is u64) (uint-makes 𝓤 H A W w64) (n2) _ w2 $ fjoin ! $ move ! (2 ∷ 0 ∷ []) $ fjoin ! $ owned ! u32 (Is u32) (uint-makes 𝓤 H A W w32) (r2) _ i2 $ fjoin ! $ move ! (1 ∷ 0 ∷ []) $ join ! $ nothing ! $ move ! (1 ∷ 0 ∷ []) $ frame ! $ done !) $
-        calls-at ! fm (Callee-g4 𝓤 H A at-mem run) known-g4 ((((ν4b ∷ []), (κ₁, (κ₂, (κ₃, tt)))), (fullShare, (q₁, (q₂, (q₃, tt)))), tt, (r2, (ref1 δ4b (ys1), (n2, (n3, (n4, (s5, (r3, (s6, (s7, tt))))))))), (z2 ∷ [], (v1 ∷ [], (u2 ∷ [], (u3 ∷ [], ((LL.val mShapes.the-type lShapes.the-laws n4) ∷ [], (v5 ∷ [], (z3 ∷ [], (v6 ∷ [], (v7 ∷ [], tt)))))))))), tt) (and-then ! (load ! (from ! (stop !)) (look ! 16 refl)) (and-then ! (load ! (from ! (stop !)) (look ! 9 refl)) (and-then ! (load ! (from ! (stop !)) (look ! 29 refl)) (and-then ! (load ! (from ! (stop !)) (look ! 28 refl)) (and-then ! (load ! (from ! (stop !)) (look ! 27 refl)) (and-then ! (load ! (from ! (stop !)) (look ! 26 refl)) (and-then ! (load ! (from ! (stop !)) (look ! 15 refl)) (and-then ! (load ! (from ! (stop !)) (look ! 25 refl)) (and-then ! (load ! (from ! (stop !)) (look ! 24 refl)) (no-more !)))))))))) (λ z4.
-        use1 W (later (some (λ (r4 : Failing). ((‵ (flft (ν4b ∷ []) fullShare) ⊛ ‵ (flft κ₁ q₁) ⊛ ‵ (flft κ₂ q₂) ⊛ ‵ (flft κ₃ q₃) ⊛ ‵ ftrue) ⊛ ‵ (mFailing.the-row .own r4 (z4 ∷ []))) ⊛ some (λ (ws : Lasts g4.ended ((ν4b ∷ []), (κ₁, (κ₂, (κ₃, tt)))) (r2, (ref1 δ4b (ys1), (n2, (n3, (n4, (s5, (r3, (s6, (s7, tt)))))))))). ‵ (lasts g4.ended ((ν4b ∷ []), (κ₁, (κ₂, (κ₃, tt)))) (r2, (ref1 δ4b (ys1), (n2, (n3, (n4, (s5, (r3, (s6, (s7, tt))))))))) ws) ⊛ raw (g4.clauses 𝓤 H A at-mem run ((ν4b ∷ []), (κ₁, (κ₂, (κ₃, tt)))) (r2, (ref1 δ4b (ys1), (n2, (n3, (n4, (s5, (r3, (s6, (s7, tt))))))))) .ensures tt r4 (atExit g4.ended ((ν4b ∷ []), (κ₁, (κ₂, (κ₃, tt)))) (r2, (ref1 δ4b (ys1), (n2, (n3, (n4, (s5, (r3, (s6, (s7, tt))))))))) ws)))))) (id⊢ 𝓤 _) $ await ! tt $ pick ! (λ r4. split ! $ move ! (1 ∷ []) $ pick ! (λ ws4. split ! $ move ! (1 ∷ []) $ heard ! _ (λ e4.
-        fsplit ! $ drop ! $ fsplit ! $ fsplit ! $ move ! (1 ∷ []) $ feqL ! (λ same4b. move ! (1 ∷ []) $ drop ! $ move ! (1 ∷ []) $ split ! $ move ! (1 ∷ []) $ peeks ! mFailing.the-row (Is mFailing.the-row) (shows 𝓤 H A mFailing.the-row) r4 (z4 ∷ []) (λ i4. drop ! $ land ! (from ! (stop !)) (init ! 15 refl (LL.lawful mFailing.the-type lFailing.the-laws 𝓤 H A W .typed r4 _ i4 .0)) $
-        tidy W (_ ∷ _ ∷ _ ∷ _ ∷ _ ∷ _ ∷ _ ∷ _ ∷ _ ∷ _ ∷ _ ∷ _ ∷ _ ∷ _ ∷ _ ∷ _ ∷ _ ∷ _ ∷ _ ∷ _ ∷ _ ∷ _ ∷ _ ∷ _ ∷ _ ∷ _ ∷ _ ∷ _ ∷ _ ∷ _ ∷ _ ∷ _ ∷ _ ∷ []) $ split ! $ move ! (1 ∷ []) $ split ! $ move ! (1 ∷ []) $ split ! $ move ! (1 ∷ []) $ split ! $ move ! (1 ∷ []) $ drop ! $ move ! (3 ∷ []) $ lft-end ! tt $ move ! (0 ∷ 8 ∷ 4 ∷ []) $ use3 W (later (‵ (O1 (ws4 .1 .0)) ⊛ ‵ (flft κ₀ q₀))) (backs1 (named 0) ν4b δ4b (ys1) (ws4 .1 .0) (refl) room1 same4b) $ await ! tt $ split ! $
+        use1 W (raw (Callee-g4 𝓤 H A at-mem run .pre (
+          (
+            ((ν4b ∷ []), (κ₁, (κ₂, (κ₃, tt)))),
+            (fullShare, (q₁, (q₂, (q₃, tt)))),
+            tt,
+            (
+              r2,
+              (
+                ref1 δ4b
+                    (ys1),
+                (n2, (n3, (n4, (s5, (r3, (s6, (s7, tt))))))),
+              ),
+            ),
+            (
+              z2 ∷ [],
+              (
+                v1 ∷ [],
+                (
+                  u2 ∷ [],
+                  (
+                    u3 ∷ [],
+                    (
+                      (LL.val mShapes.the-type lShapes.the-laws
+                          n4) ∷ [],
+                      (v5 ∷ [], (z3 ∷ [], (v6 ∷ [], (v7 ∷ [], tt)))),
+                    ),
+                  ),
+                ),
+              ),
+            ),
+          ),
+          tt,
+        ))) (qed W ((‵ (flft (ν4b ∷ []) fullShare) ⊛ ‵ (flft κ₁ q₁) ⊛ ‵ (flft
+        κ₂ q₂) ⊛ ‵ (flft κ₃ q₃) ⊛ ‵ ftrue) ∷ ‵ (MutSlice (named 0) (ν4b ∷ []) u64 .own (ref1 δ4b (ys1)) (v1 ∷ [])) ∷ ‵ (ShrSlice (named 1) κ₁
+        mEntry.the-row .own s5 (v5 ∷ [])) ∷ ‵ (ShrSlice (named 2) κ₂ u64 .own s6 (v6 ∷ [])) ∷ ‵ (ShrSlice (named 3) κ₃ u64 .own s7 (v7 ∷ [])) ∷
+        []) ∵ nothing ! $ move ! (5 ∷ 0 ∷ []) $ fjoin ! $ move ! (4 ∷ 0 ∷ []) $ fjoin ! $ owned ! u64 (Is u64) (uint-makes 𝓤 H A W w64) (r3) _ i3
+        $ fjoin ! $ move ! (3 ∷ 0 ∷ []) $ fjoin ! $ owned ! mShapes.the-row (Is mShapes.the-row) (LL.makes mShapes.the-type lShapes.the-plain 𝓤 H
+        A) (n4) _ (subst (Is mShapes.the-row n4) ((LL.tells mShapes.the-type lShapes.the-laws) n4 _ w4) w4) $ fjoin ! $ owned ! u64 (Is u64)
+        (uint-makes 𝓤 H A W w64) (n3) _ w3 $ fjoin ! $ owned ! u64 (Is u64) (uint-makes 𝓤 H A W w64) (n2) _ w2 $ fjoin ! $ move ! (2 ∷ 0 ∷ []) $
+        fjoin ! $ owned ! u32 (Is u32) (uint-makes 𝓤 H A W w32) (r2) _ i2 $ fjoin ! $ move ! (1 ∷ 0 ∷ []) $ join ! $ nothing ! $ move ! (1 ∷ 0 ∷
+        []) $ frame ! $ done !) $
+        calls-at ! fm (Callee-g4 𝓤 H A at-mem run) known-g4 (
+          (
+            ((ν4b ∷ []), (κ₁, (κ₂, (κ₃, tt)))),
+            (fullShare, (q₁, (q₂, (q₃, tt)))),
+            tt,
+            (
+              r2,
+              (
+                ref1
+                    δ4b (ys1),
+                (n2, (n3, (n4, (s5, (r3, (s6, (s7, tt))))))),
+              ),
+            ),
+            (
+              z2 ∷ [],
+              (
+                v1 ∷ [],
+                (
+                  u2 ∷ [],
+                  (
+                    u3 ∷ [],
+                    (
+                      (LL.val mShapes.the-type
+                          lShapes.the-laws n4) ∷ [],
+                      (v5 ∷ [], (z3 ∷ [], (v6 ∷ [], (v7 ∷ [], tt)))),
+                    ),
+                  ),
+                ),
+              ),
+            ),
+          ),
+          tt,
+        ) (and-then ! (load ! (from ! (stop !)) (look ! 16
+        refl)) (and-then ! (load ! (from ! (stop !)) (look ! 9 refl)) (and-then ! (load ! (from ! (stop !)) (look ! 29 refl)) (and-then ! (load !
+        (from ! (stop !)) (look ! 28 refl)) (and-then ! (load ! (from ! (stop !)) (look ! 27 refl)) (and-then ! (load ! (from ! (stop !)) (look !
+        26 refl)) (and-then ! (load ! (from ! (stop !)) (look ! 15 refl)) (and-then ! (load ! (from ! (stop !)) (look ! 25 refl)) (and-then !
+        (load ! (from ! (stop !)) (look ! 24 refl)) (no-more !)))))))))) (λ z4.
+        use1 W (later (some (λ (r4 : Failing). ((‵ (flft (ν4b ∷ []) fullShare) ⊛ ‵ (flft κ₁ q₁) ⊛ ‵ (flft κ₂ q₂) ⊛ ‵ (flft κ₃ q₃) ⊛ ‵ ftrue) ⊛ ‵
+        (mFailing.the-row .own r4 (z4 ∷ []))) ⊛ some (λ (ws : Lasts g4.ended ((ν4b ∷ []), (κ₁, (κ₂, (κ₃, tt)))) (
+          r2,
+          (
+            ref1 δ4b (ys1),
+            (
+              n2,
+              (
+                n3,
+                (n4, (s5, (r3, (s6, (s7, tt))))),
+              ),
+            ),
+          ),
+        )). ‵ (lasts g4.ended ((ν4b ∷ []), (κ₁, (κ₂, (κ₃, tt)))) (
+          r2,
+          (
+            ref1 δ4b (ys1),
+            (
+              n2,
+              (
+                n3,
+                (
+                  n4,
+                  (
+                    s5,
+                    (r3, (s6, (s7, tt))),
+                  ),
+                ),
+              ),
+            ),
+          ),
+        ) ws) ⊛ raw (g4.clauses 𝓤 H A at-mem run ((ν4b ∷ []), (κ₁, (κ₂, (κ₃, tt)))) (
+          r2,
+          (
+            ref1 δ4b (ys1),
+            (
+              n2,
+              (
+                n3,
+                (
+                  n4,
+                  (s5, (r3, (s6, (s7, tt)))),
+                ),
+              ),
+            ),
+          ),
+        ) .ensures tt r4 (atExit g4.ended ((ν4b ∷ []), (κ₁, (κ₂, (κ₃, tt)))) (
+          r2,
+          (
+            ref1 δ4b (ys1),
+            (
+              n2,
+              (
+                n3,
+                (
+                  n4,
+                  (s5, (r3, (s6, (s7, tt)))),
+                ),
+              ),
+            ),
+          ),
+        ) ws)))))) (id⊢ 𝓤 _) $ await ! tt $ pick ! (λ r4. split ! $ move ! (1 ∷ []) $ pick ! (λ ws4. split ! $ move
+        ! (1 ∷ []) $ heard ! _ (λ e4.
+        fsplit ! $ drop ! $ fsplit ! $ fsplit ! $ move ! (1 ∷ []) $ feqL ! (λ same4b. move ! (1 ∷ []) $ drop ! $ move ! (1 ∷ []) $ split ! $ move !
+        (1 ∷ []) $ peeks ! mFailing.the-row (Is mFailing.the-row) (shows 𝓤 H A mFailing.the-row) r4 (z4 ∷ []) (λ i4. drop ! $ land ! (from !
+        (stop !)) (init ! 15 refl (LL.lawful mFailing.the-type lFailing.the-laws 𝓤 H A W .typed r4 _ i4 .0)) $
+        tidy W (_ ∷ _ ∷ _ ∷ _ ∷ _ ∷ _ ∷ _ ∷ _ ∷ _ ∷ _ ∷ _ ∷ _ ∷ _ ∷ _ ∷ _ ∷ _ ∷ _ ∷ _ ∷ _ ∷ _ ∷ _ ∷ _ ∷ _ ∷ _ ∷ _ ∷ _ ∷ _ ∷ _ ∷ _ ∷ _ ∷ _ ∷ _ ∷ _ ∷
+        []) $ split ! $ move ! (1 ∷ []) $ split ! $ move ! (1 ∷ []) $ split ! $ move ! (1 ∷ []) $ split ! $ move ! (1 ∷ []) $ drop ! $ move ! (3
+        ∷ []) $ lft-end ! tt $ move ! (0 ∷ 8 ∷ 4 ∷ []) $ use3 W (later (‵ (O1 (ws4 .1 .0)) ⊛ ‵ (flft κ₀ q₀))) (backs1 (named 0) ν4b δ4b (ys1)
+        (ws4 .1 .0) (refl) room1 same4b) $ await ! tt $ split ! $
         tidy W (_ ∷ _ ∷ _ ∷ _ ∷ _ ∷ _ ∷ _ ∷ _ ∷ _ ∷ _ ∷ _ ∷ _ ∷ _ ∷ _ ∷ _ ∷ _ ∷ _ ∷ _ ∷ _ ∷ _ ∷ _ ∷ _ ∷ _ ∷ _ ∷ _ ∷ _ ∷ _ ∷ _ ∷ _ ∷ _ ∷ _ ∷ _ ∷ _ ∷ _ ∷ _ ∷ []) $ nothing ! $
         -- call 5
-        use1 W (raw (Callee-g5 𝓤 H A at-mem run .pre ((tt, tt, tt, (r2, (r4, tt)), (z2 ∷ [], (z4 ∷ [], tt))), tt))) (qed W ((‵ ftrue) ∷ []) ∵ nothing ! $ owned ! mFailing.the-row (Is mFailing.the-row) (LL.makes mFailing.the-type lFailing.the-plain 𝓤 H A) (r4) _ i4 $ fjoin ! $ owned ! u32 (Is u32) (uint-makes 𝓤 H A W w32) (r2) _ i2 $ fjoin ! $ move ! (1 ∷ 0 ∷ []) $ join ! $ nothing ! $ move ! (1 ∷ 0 ∷ []) $ frame ! $ done !) $
-        calls-at ! fm (Callee-g5 𝓤 H A at-mem run) known-g5 ((tt, tt, tt, (r2, (r4, tt)), (z2 ∷ [], (z4 ∷ [], tt))), tt) (and-then ! (load ! (from ! (stop !)) (look ! 20 refl)) (and-then ! (load ! (from ! (stop !)) (look ! 18 refl)) (no-more !))) (λ z5.
-        use1 W (later (some (λ (r5 : RowCheck). ((‵ ftrue) ⊛ ‵ (mRowCheck.the-row .own r5 (z5 ∷ []))) ⊛ some (λ (ws : Lasts g5.ended tt (r2, (r4, tt))). ‵ (lasts g5.ended tt (r2, (r4, tt)) ws) ⊛ raw (g5.clauses 𝓤 H A at-mem run tt (r2, (r4, tt)) .ensures tt r5 (atExit g5.ended tt (r2, (r4, tt)) ws)))))) (id⊢ 𝓤 _) $ await ! tt $ pick ! (λ r5. split ! $ move ! (1 ∷ []) $ pick ! (λ ws5. split ! $ move ! (1 ∷ []) $ heard ! _ (λ e5.
-        drop ! $ split ! $ move ! (1 ∷ []) $ peeks ! mRowCheck.the-row (Is mRowCheck.the-row) (shows 𝓤 H A mRowCheck.the-row) r5 (z5 ∷ []) (λ i5. drop ! $ land ! (from ! (stop !)) (init ! 35 refl (EL.lawful mRowCheck.the-type lRowCheck.the-laws 𝓤 H A W tt .typed r5 _ i5 .0)) $
-        tidy W (_ ∷ _ ∷ _ ∷ _ ∷ _ ∷ _ ∷ _ ∷ _ ∷ _ ∷ _ ∷ _ ∷ _ ∷ _ ∷ _ ∷ _ ∷ _ ∷ _ ∷ _ ∷ _ ∷ _ ∷ _ ∷ _ ∷ _ ∷ _ ∷ _ ∷ _ ∷ _ ∷ _ ∷ _ ∷ _ ∷ _ ∷ _ ∷ _ ∷ _ ∷ _ ∷ _ ∷ []) $ drop ! $ tidy W (_ ∷ _ ∷ _ ∷ _ ∷ _ ∷ _ ∷ _ ∷ _ ∷ _ ∷ _ ∷ _ ∷ _ ∷ _ ∷ _ ∷ _ ∷ _ ∷ _ ∷ _ ∷ _ ∷ _ ∷ _ ∷ _ ∷ _ ∷ _ ∷ _ ∷ _ ∷ _ ∷ _ ∷ _ ∷ _ ∷ _ ∷ _ ∷ _ ∷ _ ∷ _ ∷ []) $ returns ! (look ! 34 refl) $ move ! (11 ∷ []) $ use1 W (dies ((lRowCheck.mir, l₀) ∷ (sliceTy (tyRef (named 0) mut (tyInt w64)), l₁) ∷ (tyInt w64, l₂) ∷ (tyInt w64, l₃) ∷ (lShapes.mir, l₄) ∷ (sliceTy (tyRef (named 1) imm (pointee (mEntry.the-row .written))), l₅) ∷ (sliceTy (tyRef (named 2) imm (tyInt w64)), l₆) ∷ (sliceTy (tyRef (named 3) imm (tyInt w64)), l₇) ∷ (lSystemShape.mir, l₈) ∷ (lSystemShape.mir, l₉) ∷ (lShape.mir, l₁₀) ∷ (lShape.mir, l₁₁) ∷ (tyInt w64, l₁₂) ∷ (tyInt w64, l₁₃) ∷ (tyInt w32, l₁₄) ∷ (tyInt w32, l₁₅) ∷ (tyInt w64, l₁₆) ∷ (lFailing.mir, l₁₇) ∷ (tyInt w64, l₁₈) ∷ (tyInt w64, l₁₉) ∷ (tyInt w64, l₂₀) ∷ (tyRef erased mut (tyInt w64), l₂₁) ∷ (sliceTy (tyRef erased mut (tyInt w64)), l₂₂) ∷ []) (‵ ftrue)) die $ free-all ! 11 ((lRowCheck.mir, l₀) ∷ (sliceTy (tyRef (named 0) mut (tyInt w64)), l₁) ∷ (tyInt w64, l₂) ∷ (tyInt w64, l₃) ∷ (lShapes.mir, l₄) ∷ (sliceTy (tyRef (named 1) imm (pointee (mEntry.the-row .written))), l₅) ∷ (sliceTy (tyRef (named 2) imm (tyInt w64)), l₆) ∷ (sliceTy (tyRef (named 3) imm (tyInt w64)), l₇) ∷ (lSystemShape.mir, l₈) ∷ (lSystemShape.mir, l₉) ∷ (lShape.mir, l₁₀) ∷ (lShape.mir, l₁₁) ∷ (tyInt w64, l₁₂) ∷ (tyInt w64, l₁₃) ∷ (tyInt w32, l₁₄) ∷ (tyInt w32, l₁₅) ∷ (tyInt w64, l₁₆) ∷ (lFailing.mir, l₁₇) ∷ (tyInt w64, l₁₈) ∷ (tyInt w64, l₁₉) ∷ (tyInt w64, l₂₀) ∷ (tyRef erased mut (tyInt w64), l₂₁) ∷ (sliceTy (tyRef erased mut (tyInt w64)), l₂₂) ∷ []) (kept _ ∷ kept _ ∷ kept _ ∷ kept _ ∷ kept _ ∷ kept _ ∷ kept _ ∷ kept _ ∷ kept _ ∷ kept _ ∷ kept _ ∷ kept _ ∷ kept _ ∷ kept _ ∷ kept _ ∷ kept _ ∷ kept _ ∷ kept _ ∷ kept _ ∷ kept _ ∷ kept _ ∷ kept _ ∷ kept _ ∷ []) refl $
-        suffices ! _ (ends-at 𝓤 H A f.ended stayed (f.clauses 𝓤 H A at-mem run) W (((κ₀, (κ₁, (κ₂, (κ₃, tt)))), (q₀, (q₁, (q₂, (q₃, tt)))), tt, a, at), tt) z5 r5 (ws4 .1 .0, (tt, (tt, (tt, (tt, (tt, (tt, tt))))))) (same4b, (tt, (tt, (tt, (tt, (tt, (tt, tt)))))))) $ says ! (let R = rulesOver n2 n3 [] n4 (entriesOfRecords (s5 .now)) in check-ends R (s6 .now) (s7 .now) ys1 r2 (check-by R (s6 .now) (s7 .now) _ r1 r2 e1 e2) r3 e3 r4 (ws4 .1 .0) (outcome r5) e4 e5) $
-        nothing ! $ move ! (3 ∷ 0 ∷ []) $ join ! $ move ! (3 ∷ 0 ∷ []) $ join ! $ move ! (3 ∷ 0 ∷ []) $ join ! $ move ! (2 ∷ 0 ∷ []) $ join ! $ nothing ! $ move ! (3 ∷ 0 ∷ []) $ fjoin ! $ move ! (3 ∷ 0 ∷ []) $ fjoin ! $ move ! (3 ∷ 0 ∷ []) $ fjoin ! $ move ! (3 ∷ 0 ∷ []) $ fjoin ! $ move ! (3 ∷ 0 ∷ []) $ fjoin ! $ move ! (3 ∷ 0 ∷ []) $ fjoin ! $ move ! (2 ∷ 0 ∷ []) $ fjoin ! $ keep ! (1 ∷ 0 ∷ []) $ frame ! $ frame ! $ owned ! mRowCheck.the-row (Is mRowCheck.the-row) (EL.makes mRowCheck.the-type lRowCheck.the-plain 𝓤 H A) r5 _ i5 $ done !))))))))))))))))))))))))))))))))))))))))))))))))))))
+        use1 W (raw (Callee-g5 𝓤 H A at-mem run .pre ((tt, tt, tt, (r2, (r4, tt)), (z2 ∷ [], (z4 ∷ [], tt))), tt))) (qed W ((‵ ftrue) ∷ []) ∵ nothing
+        ! $ owned ! mFailing.the-row (Is mFailing.the-row) (LL.makes mFailing.the-type lFailing.the-plain 𝓤 H A) (r4) _ i4 $ fjoin ! $ owned !
+        u32 (Is u32) (uint-makes 𝓤 H A W w32) (r2) _ i2 $ fjoin ! $ move ! (1 ∷ 0 ∷ []) $ join ! $ nothing ! $ move ! (1 ∷ 0 ∷ []) $ frame ! $
+        done !) $
+        calls-at ! fm (Callee-g5 𝓤 H A at-mem run) known-g5 ((tt, tt, tt, (r2, (r4, tt)), (z2 ∷ [], (z4 ∷ [], tt))), tt) (and-then ! (load ! (from !
+        (stop !)) (look ! 20 refl)) (and-then ! (load ! (from ! (stop !)) (look ! 18 refl)) (no-more !))) (λ z5.
+        use1 W (later (some (λ (r5 : RowCheck). ((‵ ftrue) ⊛ ‵ (mRowCheck.the-row .own r5 (z5 ∷ []))) ⊛ some (λ (ws : Lasts g5.ended tt (
+          r2,
+          (
+            r4,
+            tt,
+          ),
+        )). ‵ (lasts g5.ended tt (r2, (r4, tt)) ws) ⊛ raw (g5.clauses 𝓤 H A at-mem run tt (r2, (r4, tt)) .ensures tt r5 (atExit g5.ended tt
+        (r2, (r4, tt)) ws)))))) (id⊢ 𝓤 _) $ await ! tt $ pick ! (λ r5. split ! $ move ! (1 ∷ []) $ pick ! (λ ws5. split ! $ move ! (1 ∷ []) $
+        heard ! _ (λ e5.
+        drop ! $ split ! $ move ! (1 ∷ []) $ peeks ! mRowCheck.the-row (Is mRowCheck.the-row) (shows 𝓤 H A mRowCheck.the-row) r5 (z5 ∷ []) (λ i5.
+        drop ! $ land ! (from ! (stop !)) (init ! 35 refl (EL.lawful mRowCheck.the-type lRowCheck.the-laws 𝓤 H A W tt .typed r5 _ i5 .0)) $
+        tidy W (_ ∷ _ ∷ _ ∷ _ ∷ _ ∷ _ ∷ _ ∷ _ ∷ _ ∷ _ ∷ _ ∷ _ ∷ _ ∷ _ ∷ _ ∷ _ ∷ _ ∷ _ ∷ _ ∷ _ ∷ _ ∷ _ ∷ _ ∷ _ ∷ _ ∷ _ ∷ _ ∷ _ ∷ _ ∷ _ ∷ _ ∷ _ ∷ _ ∷ _
+        ∷ _ ∷ _ ∷ []) $ drop ! $ tidy W (_ ∷ _ ∷ _ ∷ _ ∷ _ ∷ _ ∷ _ ∷ _ ∷ _ ∷ _ ∷ _ ∷ _ ∷ _ ∷ _ ∷ _ ∷ _ ∷ _ ∷ _ ∷ _ ∷ _ ∷ _ ∷ _ ∷ _ ∷ _ ∷ _ ∷ _ ∷
+        _ ∷ _ ∷ _ ∷ _ ∷ _ ∷ _ ∷ _ ∷ _ ∷ _ ∷ []) $ returns ! (look ! 34 refl) $ move ! (11 ∷ []) $ use1 W (dies ((lRowCheck.mir, l₀) ∷ (
+          sliceTy
+              (tyRef (named 0) mut (tyInt w64)),
+          l₁,
+        ) ∷ (tyInt w64, l₂) ∷ (tyInt w64, l₃) ∷ (lShapes.mir, l₄) ∷ (
+          sliceTy (tyRef (named 1) imm (pointee
+              (mEntry.the-row .written))),
+          l₅,
+        ) ∷ (sliceTy (tyRef (named 2) imm (tyInt w64)), l₆) ∷ (sliceTy (tyRef (named 3) imm (tyInt w64)), l₇) ∷
+        (lSystemShape.mir, l₈) ∷ (lSystemShape.mir, l₉) ∷ (lShape.mir, l₁₀) ∷ (lShape.mir, l₁₁) ∷ (tyInt w64, l₁₂) ∷ (tyInt w64, l₁₃) ∷ (
+          tyInt
+              w32,
+          l₁₄,
+        ) ∷ (tyInt w32, l₁₅) ∷ (tyInt w64, l₁₆) ∷ (lFailing.mir, l₁₇) ∷ (tyInt w64, l₁₈) ∷ (tyInt w64, l₁₉) ∷ (tyInt w64, l₂₀) ∷ (
+          tyRef
+              erased mut (tyInt w64),
+          l₂₁,
+        ) ∷ (sliceTy (tyRef erased mut (tyInt w64)), l₂₂) ∷ []) (‵ ftrue)) die $ free-all ! 11 ((lRowCheck.mir, l₀) ∷
+        (sliceTy (tyRef (named 0) mut (tyInt w64)), l₁) ∷ (tyInt w64, l₂) ∷ (tyInt w64, l₃) ∷ (lShapes.mir, l₄) ∷ (
+          sliceTy (tyRef (named 1) imm
+              (pointee (mEntry.the-row .written))),
+          l₅,
+        ) ∷ (sliceTy (tyRef (named 2) imm (tyInt w64)), l₆) ∷ (
+          sliceTy (tyRef (named 3) imm (tyInt w64)),
+          l₇,
+        ) ∷ (lSystemShape.mir, l₈) ∷ (lSystemShape.mir, l₉) ∷ (lShape.mir, l₁₀) ∷ (lShape.mir, l₁₁) ∷ (tyInt w64, l₁₂) ∷ (tyInt w64, l₁₃) ∷
+        (tyInt w32, l₁₄) ∷ (tyInt w32, l₁₅) ∷ (tyInt w64, l₁₆) ∷ (lFailing.mir, l₁₇) ∷ (tyInt w64, l₁₈) ∷ (tyInt w64, l₁₉) ∷ (tyInt w64, l₂₀) ∷
+        (tyRef erased mut (tyInt w64), l₂₁) ∷ (sliceTy (tyRef erased mut (tyInt w64)), l₂₂) ∷ []) (kept _ ∷ kept _ ∷ kept _ ∷ kept _ ∷ kept _ ∷
+        kept _ ∷ kept _ ∷ kept _ ∷ kept _ ∷ kept _ ∷ kept _ ∷ kept _ ∷ kept _ ∷ kept _ ∷ kept _ ∷ kept _ ∷ kept _ ∷ kept _ ∷ kept _ ∷ kept _ ∷
+        kept _ ∷ kept _ ∷ kept _ ∷ []) refl $
+        suffices ! _ (ends-at 𝓤 H A f.ended stayed (f.clauses 𝓤 H A at-mem run) W (
+          (
+            (κ₀, (κ₁, (κ₂, (κ₃, tt)))),
+            (q₀, (q₁, (q₂, (q₃, tt)))),
+            tt,
+            a,
+            at,
+          ),
+          tt,
+        ) z5 r5 (ws4 .1 .0, (tt, (tt, (tt, (tt, (tt, (tt, tt))))))) (same4b, (tt, (tt, (tt, (tt, (tt, (tt, tt)))))))) $ says ! (let R =
+        rulesOver n2 n3 [] n4 (entriesOfRecords (s5 .now)) in check-ends R (s6 .now) (s7 .now) ys1 r2 (check-by R (s6 .now) (s7 .now) _ r1 r2 e1
+        e2) r3 e3 r4 (ws4 .1 .0) (outcome r5) e4 e5) $
+        nothing ! $ move ! (3 ∷ 0 ∷ []) $ join ! $ move ! (3 ∷ 0 ∷ []) $ join ! $ move ! (3 ∷ 0 ∷ []) $ join ! $ move ! (2 ∷ 0 ∷ []) $ join ! $
+        nothing ! $ move ! (3 ∷ 0 ∷ []) $ fjoin ! $ move ! (3 ∷ 0 ∷ []) $ fjoin ! $ move ! (3 ∷ 0 ∷ []) $ fjoin ! $ move ! (3 ∷ 0 ∷ []) $ fjoin !
+        $ move ! (3 ∷ 0 ∷ []) $ fjoin ! $ move ! (3 ∷ 0 ∷ []) $ fjoin ! $ move ! (2 ∷ 0 ∷ []) $ fjoin ! $ keep ! (1 ∷ 0 ∷ []) $ frame ! $ frame !
+        $ owned ! mRowCheck.the-row (Is mRowCheck.the-row) (EL.makes mRowCheck.the-type lRowCheck.the-plain 𝓤 H A) r5 _ i5 $ done
+        !))))))))))))))))))))))))))))))))))))))))))))))))))))
 
 module _ {M : Type 1} (𝓤 : URA M) (H : Heap 𝓤) (A : Atoms 𝓤) (W : Given 𝓤 H A) (mem : Memory → SProp 𝓤) (run : Routine → Fun 𝓤) where
-  walks : (C : Calls 𝓤 H) (Λ : Loops 𝓤 H) → FmC 𝓤 H (W .laws) C → Triple 𝓤 (C #g1) (Callee-g1 𝓤 H A mem run) → Triple 𝓤 (C #g2) (Callee-g2 𝓤 H A mem run) → Triple 𝓤 (C #g3) (Callee-g3 𝓤 H A mem run) → Triple 𝓤 (C #g4) (Callee-g4 𝓤 H A mem run) → Triple 𝓤 (C #g5) (Callee-g5 𝓤 H A mem run) → Walks 𝓤 H A f.ended stayed (WpFn 𝓤 H C Λ code.function) (f.clauses 𝓤 H A mem run)
-  walks C Λ fm known-g1 known-g2 known-g3 known-g4 known-g5 = walked 𝓤 H A f.ended stayed (f.clauses 𝓤 H A mem run) (WpFn 𝓤 H C Λ code.function) (λ κs. (slice-vals, ((uint-vals w64), ((uint-vals w64), ((LL.vals mShapes.the-type lShapes.the-laws), (slice-vals, (slice-vals, (slice-vals, tt)))))))) (λ κs. (mut-slice-tells (named 0) (κs .0) u64, ((uint-tells w64), ((uint-tells w64), ((LL.tells mShapes.the-type lShapes.the-laws), (shr-slice-tells (named 1) (κs .1 .0) mEntry.the-row, (shr-slice-tells (named 2) (κs .1 .1 .0) u64, (shr-slice-tells (named 3) (κs .1 .1 .1 .0) u64, tt))))))))
-      (λ κs qs bounds a g are. via 𝓤 _ (fst∗ 𝓤 _ (emp 𝓤)) (walk 𝓤 H A W mem run (κs .0) (κs .1 .0) (κs .1 .1 .0) (κs .1 .1 .1 .0) (qs .0) (qs .1 .0) (qs .1 .1 .0) (qs .1 .1 .1 .0) (a .0 .ptr .0) (a .0 .ptr .1) (a .0 .name) (a .0 .now) (a .1 .0) (only ((uint-vals w64) (a .1 .0))) (a .1 .1 .0) (only ((uint-vals w64) (a .1 .1 .0))) (a .1 .1 .1 .0) (only ((LL.vals mShapes.the-type lShapes.the-laws) (a .1 .1 .1 .0))) (a .1 .1 .1 .1 .0) (a .1 .1 .1 .1 .1 .0) (a .1 .1 .1 .1 .1 .1 .0) C Λ fm known-g1 known-g2 known-g3 known-g4 known-g5 (are .0 .0 .1) (are .1 .0) (are .1 .1 .0) (are .1 .1 .1 .0) (are .1 .1 .1 .1 .0) (are .1 .1 .1 .1 .1 .0) (are .1 .1 .1 .1 .1 .1 .0)))
+  walks : (C : Calls 𝓤 H) (Λ : Loops 𝓤 H) → FmC 𝓤 H (W .laws) C → Triple 𝓤 (C #g1) (Callee-g1 𝓤 H A mem run) → Triple 𝓤 (C #g2) (Callee-g2 𝓤 H A mem
+      run) → Triple 𝓤 (C #g3) (Callee-g3 𝓤 H A mem run) → Triple 𝓤 (C #g4) (Callee-g4 𝓤 H A mem run) → Triple 𝓤 (C #g5) (Callee-g5 𝓤 H A mem run) →
+      Walks 𝓤 H A f.ended stayed (WpFn 𝓤 H C Λ code.function) (f.clauses 𝓤 H A mem run)
+  walks C Λ fm known-g1 known-g2 known-g3 known-g4 known-g5 = walked 𝓤 H A f.ended stayed (f.clauses 𝓤 H A mem run) (WpFn 𝓤 H C Λ code.function) (λ
+      κs. (
+        slice-vals,
+        (
+          (uint-vals w64),
+          (
+            (uint-vals w64),
+            (
+              (LL.vals mShapes.the-type lShapes.the-laws),
+              (
+                slice-vals,
+                (
+                  slice-vals,
+                  (
+                    slice-vals,
+                    tt,
+                  ),
+                ),
+              ),
+            ),
+          ),
+        ),
+      )) (λ κs. (
+        mut-slice-tells (named 0) (κs .0) u64,
+        (
+          (uint-tells w64),
+          (
+            (uint-tells w64),
+            (
+              (LL.tells mShapes.the-type lShapes.the-laws),
+              (
+                shr-slice-tells (named 1) (κs .1 .0) mEntry.the-row,
+                (
+                  shr-slice-tells (named 2) (κs .1 .1 .0) u64,
+                  (
+                    shr-slice-tells (named 3) (κs .1 .1 .1 .0)
+                        u64,
+                    tt,
+                  ),
+                ),
+              ),
+            ),
+          ),
+        ),
+      ))
+      (λ κs qs bounds a g are. via 𝓤 _ (fst∗ 𝓤 _ (emp 𝓤)) (walk 𝓤 H A W mem run (κs .0) (κs .1 .0) (κs .1 .1 .0) (κs .1 .1 .1 .0) (qs .0) (qs .1 .0)
+      (qs .1 .1 .0) (qs .1 .1 .1 .0) (a .0 .ptr .0) (a .0 .ptr .1) (a .0 .name) (a .0 .now) (a .1 .0) (only ((uint-vals w64) (a .1 .0))) (a .1 .1
+      .0) (only ((uint-vals w64) (a .1 .1 .0))) (a .1 .1 .1 .0) (only ((LL.vals mShapes.the-type lShapes.the-laws) (a .1 .1 .1 .0))) (a .1 .1 .1
+      .1 .0) (a .1 .1 .1 .1 .1 .0) (a .1 .1 .1 .1 .1 .1 .0) C Λ fm known-g1 known-g2 known-g3 known-g4 known-g5 (are .0 .0 .1) (are .1 .0) (are
+      .1 .1 .0) (are .1 .1 .1 .0) (are .1 .1 .1 .1 .0) (are .1 .1 .1 .1 .1 .0) (are .1 .1 .1 .1 .1 .1 .0)))
 
-  meets : (𝓣 : Tables 𝓤 H) → Triple 𝓤 (𝓣 .C #g1) (Callee-g1 𝓤 H A mem run) → Triple 𝓤 (𝓣 .C #g2) (Callee-g2 𝓤 H A mem run) → Triple 𝓤 (𝓣 .C #g3) (Callee-g3 𝓤 H A mem run) → Triple 𝓤 (𝓣 .C #g4) (Callee-g4 𝓤 H A mem run) → Triple 𝓤 (𝓣 .C #g5) (Callee-g5 𝓤 H A mem run) → Meets 𝓤 H A f.signature (WpFn 𝓤 H (𝓣 .C) (𝓣 .Λ) code.function) (f.spec 𝓤 H A mem run)
-  meets 𝓣 known-g1 known-g2 known-g3 known-g4 known-g5 = walk-meets 𝓤 H A f.ended stayed W (goes-slice 𝓤 H A W 4 0 tt (plain (λ _. u64)), (goes-none 𝓤 H A W 4 (λ _. u64) yes (λ κs x f. refl), (goes-none 𝓤 H A W 4 (λ _. u64) yes (λ κs x f. refl), (goes-none 𝓤 H A W 4 (λ _. mShapes.the-row) yes (λ κs x f. refl), (goes-none-slice 𝓤 H A W 4 (1 ∷ []) tt (plain (λ _. mEntry.the-row)) yes, (goes-none-slice 𝓤 H A W 4 (2 ∷ []) tt (plain (λ _. u64)) yes, (goes-none-slice 𝓤 H A W 4 (3 ∷ []) tt (plain (λ _. u64)) yes, tt))))))) (f.clauses 𝓤 H A mem run)
+  meets : (𝓣 : Tables 𝓤 H) → Triple 𝓤 (𝓣 .C #g1) (Callee-g1 𝓤 H A mem run) → Triple 𝓤 (𝓣 .C #g2) (Callee-g2 𝓤 H A mem run) → Triple 𝓤 (𝓣 .C #g3)
+      (Callee-g3 𝓤 H A mem run) → Triple 𝓤 (𝓣 .C #g4) (Callee-g4 𝓤 H A mem run) → Triple 𝓤 (𝓣 .C #g5) (Callee-g5 𝓤 H A mem run) → Meets 𝓤 H A
+      f.signature (WpFn 𝓤 H (𝓣 .C) (𝓣 .Λ) code.function) (f.spec 𝓤 H A mem run)
+  meets 𝓣 known-g1 known-g2 known-g3 known-g4 known-g5 = walk-meets 𝓤 H A f.ended stayed W (
+    goes-slice 𝓤 H A W 4 0 tt (plain (λ _. u64)),
+    (
+      goes-none
+          𝓤 H A W 4 (λ _. u64) yes (λ κs x f. refl),
+      (
+        goes-none 𝓤 H A W 4 (λ _. u64) yes (λ κs x f. refl),
+        (
+          goes-none 𝓤 H A W 4 (λ _. mShapes.the-row)
+              yes (λ κs x f. refl),
+          (
+            goes-none-slice 𝓤 H A W 4 (1 ∷ []) tt (plain (λ _. mEntry.the-row)) yes,
+            (
+              goes-none-slice 𝓤 H A W 4 (2 ∷ []) tt (plain
+                  (λ _. u64)) yes,
+              (goes-none-slice 𝓤 H A W 4 (3 ∷ []) tt (plain (λ _. u64)) yes, tt),
+            ),
+          ),
+        ),
+      ),
+    ),
+  ) (f.clauses 𝓤 H A mem run)
       (WpFn 𝓤 H (𝓣 .C) (𝓣 .Λ) code.function) (WpFn-mono 𝓤 H (W .laws) 𝓣 code.function) (walks (𝓣 .C) (𝓣 .Λ) (fmOf 𝓤 H (W .laws) 𝓣) known-g1 known-g2 known-g3 known-g4 known-g5)
 
 pub row-check-spec : {M : Type 1} → stated.statement M
@@ -254,7 +838,7 @@ row-check-spec 𝓤 H 𝓜 𝓖 𝓡 =
     entered 𝓤 H (tripleOf 𝓤 H (𝓖 .A) f.signature (f.spec 𝓤 H (𝓖 .A) (𝓜 .mem) (𝓡 .run)))
     (tables 𝓤 H 𝓜 𝓡 code.env .C) (tables 𝓤 H 𝓜 𝓡 code.env .Λ) #f code.function (code.unfolded 𝓤 H 𝓜 𝓡)
     (meets 𝓤 H (𝓖 .A) (givenOf 𝓤 H 𝓜 𝓖) (𝓜 .mem) (𝓡 .run) (tablesOf 𝓤 H 𝓜 (tables 𝓤 H 𝓜 𝓡 code.env))
-    (cited 𝓤 H (Callee-g1 𝓤 H (𝓖 .A) (𝓜 .mem) (𝓡 .run)) 𝓜 𝓡 code.env #g1 g1-def.routine code.calls-magnetar-inplace·walks·rules-refusal (g1-thm.met 𝓤 H 𝓜 𝓖 𝓡))
+    (cited 𝓤 H (Callee-g1 𝓤 H (𝓖 .A) (𝓜 .mem) (𝓡 .run)) 𝓜 𝓡 code.env #g1 g1-def.routine code.calls-magnetar-records·walks·rules-refusal (g1-thm.met 𝓤 H 𝓜 𝓖 𝓡))
     (cited 𝓤 H (Callee-g2 𝓤 H (𝓖 .A) (𝓜 .mem) (𝓡 .run)) 𝓜 𝓡 code.env #g2 g2-def.routine code.calls-magnetar-batch·check·refusal (g2-thm.met 𝓤 H 𝓜 𝓖 𝓡))
     (cited 𝓤 H (Callee-g3 𝓤 H (𝓖 .A) (𝓜 .mem) (𝓡 .run)) 𝓜 𝓡 code.env #g3 g3-def.routine code.calls-magnetar-batch·check·half (g3-thm.met 𝓤 H 𝓜 𝓖 𝓡))
     (cited 𝓤 H (Callee-g4 𝓤 H (𝓖 .A) (𝓜 .mem) (𝓡 .run)) 𝓜 𝓡 code.env #g4 g4-def.routine code.calls-magnetar-batch·check-records·judge (g4-thm.met 𝓤 H 𝓜 𝓖 𝓡))

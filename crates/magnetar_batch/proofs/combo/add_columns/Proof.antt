@@ -54,7 +54,12 @@ mul-add-column-4 : tie.Need-mul-add-column-4 Inv-loop μ-loop
 mul-add-column-4 c = search needs
 
 shared-slice-read-add-column-4 : tie.Need-shared-slice-read-add-column-4 Inv-loop μ-loop
-shared-slice-read-add-column-4 c = omega (arith, c .before .before .before .before .before .before .before .after .ensures, c .before .before .before .before .before .before .before .before .entries-held .ensures .4)
+shared-slice-read-add-column-4 c = omega (
+  arith,
+  c .before .before .before .before .before .before .before .after .ensures,
+  c .before .before .before
+      .before .before .before .before .before .entries-held .ensures .4,
+)
 
 add-column-requires : tie.Need-add-column-requires Inv-loop μ-loop
 add-column-requires c κs = search needs

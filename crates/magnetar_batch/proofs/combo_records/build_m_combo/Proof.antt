@@ -46,15 +46,15 @@ use denote.Triple.Walked.{says, needs, Stays, stay-ref, stay-none, stay-none-ref
 use denote.Triple.Clauses.{Lasts, lasts, atExit}
 use denote.Exit.{yes}
 use Rattle.magnetar_batch.proofs.ComboEnds.{combo-by, combo-ends}
-use Rattle.magnetar_inplace.specs.Records.{entriesOfRecords}
+use Rattle.magnetar_records.specs.Records.{entriesOfRecords}
 use Rattle.magnetar_relation.specs.Rules.{rulesOver}
 use mathlib.Core.List.{[]}
 use Rattle.magnetar_relation.specs.declared.shapes.Shapes.{Shapes}
 use Rattle.magnetar_relation.proofs.shapes.Shapes as mShapes
 use Rattle.magnetar_relation.proofs.shapes.Shapes.Laws as lShapes
-use Rattle.magnetar_inplace.specs.declared.records.Entry.{Entry}
-use Rattle.magnetar_inplace.proofs.records.Entry as mEntry
-use Rattle.magnetar_inplace.proofs.records.Entry.Laws as lEntry
+use Rattle.magnetar_records.specs.declared.records.Entry.{Entry}
+use Rattle.magnetar_records.proofs.records.Entry as mEntry
+use Rattle.magnetar_records.proofs.records.Entry.Laws as lEntry
 use Rattle.magnetar_relation.specs.declared.shapes.SystemShape.{SystemShape}
 use Rattle.magnetar_relation.proofs.shapes.SystemShape as mSystemShape
 use Rattle.magnetar_relation.proofs.shapes.SystemShape.Laws as lSystemShape
@@ -63,10 +63,10 @@ use Rattle.magnetar_relation.proofs.shapes.Shape as mShape
 use Rattle.magnetar_relation.proofs.shapes.Shape.Laws as lShape
 use Rattle.magnetar_transcript.proofs.Locals.{tidy, bare, kept, dies, alloc, hide, free-all}
 use Rattle.magnetar_transcript.proofs.Again.{LentAgain, lends-again, comes-back}
-use Rattle.magnetar_inplace.proofs.walks.rules_refusal as g1
-use Rattle.magnetar_inplace.proofs.walks.rules_refusal.Symbol as g1-def
-use Rattle.magnetar_inplace.proofs.walks.rules_refusal.Symbol.{name as #g1}
-use Rattle.magnetar_inplace.proofs.walks.rules_refusal.Met as g1-thm
+use Rattle.magnetar_records.proofs.walks.rules_refusal as g1
+use Rattle.magnetar_records.proofs.walks.rules_refusal.Symbol as g1-def
+use Rattle.magnetar_records.proofs.walks.rules_refusal.Symbol.{name as #g1}
+use Rattle.magnetar_records.proofs.walks.rules_refusal.Met as g1-thm
 use Rattle.magnetar_batch.proofs.table.refusal as g2
 use Rattle.magnetar_batch.proofs.table.refusal.Symbol as g2-def
 use Rattle.magnetar_batch.proofs.table.refusal.Symbol.{name as #g2}
@@ -93,7 +93,26 @@ is-no true a = absurd a
 is-no false _ = refl
 
 abbrev stayed : Stays (f.ended .signature .params) (f.ended .kept)
-stayed = (stay-slice (0 ∷ []) tt (plain (λ _. u64)), (stay-slice (1 ∷ []) tt (plain (λ _. u64)), (stay-none (λ _. u64) yes, (stay-none (λ _. mShapes.the-row) yes, (stay-none-slice (2 ∷ []) tt (plain (λ _. mEntry.the-row)) yes, (stay-none-slice (3 ∷ []) tt (plain (λ _. u64)) yes, (stay-none-slice (4 ∷ []) tt (plain (λ _. u64)) yes, (stay-none-slice (5 ∷ []) tt (plain (λ _. u64)) yes, tt))))))))
+stayed = (
+  stay-slice (0 ∷ []) tt (plain (λ _. u64)),
+  (
+    stay-slice (1 ∷ []) tt (plain (λ _. u64)),
+    (
+      stay-none (λ _. u64) yes,
+      (
+        stay-none (λ _.
+            mShapes.the-row) yes,
+        (
+          stay-none-slice (2 ∷ []) tt (plain (λ _. mEntry.the-row)) yes,
+          (
+            stay-none-slice (3 ∷ []) tt (plain (λ _. u64)) yes,
+            (stay-none-slice (4 ∷ []) tt (plain (λ _. u64)) yes, (stay-none-slice (5 ∷ []) tt (plain (λ _. u64)) yes, tt)),
+          ),
+        ),
+      ),
+    ),
+  ),
+)
 
 abbrev Callee-g1 : {M : Type 1} (𝓤 : URA M) (H : Heap 𝓤) (A : Atoms 𝓤) (mem : Memory → SProp 𝓤) (run : Routine → Fun 𝓤) → Contract 𝓤
 Callee-g1 𝓤 H A mem run = tripleOf 𝓤 H A g1.signature (g1.spec 𝓤 H A mem run)
@@ -104,7 +123,9 @@ Callee-g2 𝓤 H A mem run = tripleOf 𝓤 H A g2.signature (g2.spec 𝓤 H A me
 abbrev Callee-g3 : {M : Type 1} (𝓤 : URA M) (H : Heap 𝓤) (A : Atoms 𝓤) (mem : Memory → SProp 𝓤) (run : Routine → Fun 𝓤) → Contract 𝓤
 Callee-g3 𝓤 H A mem run = tripleOf 𝓤 H A g3.signature (g3.spec 𝓤 H A mem run)
 
-module _ {M : Type 1} (𝓤 : URA M) (H : Heap 𝓤) (A : Atoms 𝓤) (W : Given 𝓤 H A) (at-mem : Memory → SProp 𝓤) (run : Routine → Fun 𝓤) (κ₀ κ₁ κ₂ κ₃ κ₄ κ₅ : Lft) (q₀ q₁ q₂ q₃ q₄ q₅ : Share) (b1 o1 : ℕ) (γ1 : GName) (ys1 : List ℕ) (b2 o2 : ℕ) (γ2 : GName) (ys2 : List ℕ) (n3 : ℕ) (u3 : Val) (n4 : Shapes) (u4 : Val) (s5 : RefT (List Entry)) (s6 : RefT (List ℕ)) (s7 : RefT (List ℕ)) (s8 : RefT (List ℕ)) where
+module _ {M : Type 1} (𝓤 : URA M) (H : Heap 𝓤) (A : Atoms 𝓤) (W : Given 𝓤 H A) (at-mem : Memory → SProp 𝓤) (run : Routine → Fun 𝓤) (κ₀ κ₁ κ₂ κ₃ κ₄ κ₅
+    : Lft) (q₀ q₁ q₂ q₃ q₄ q₅ : Share) (b1 o1 : ℕ) (γ1 : GName) (ys1 : List ℕ) (b2 o2 : ℕ) (γ2 : GName) (ys2 : List ℕ) (n3 : ℕ) (u3 : Val) (n4 :
+    Shapes) (u4 : Val) (s5 : RefT (List Entry)) (s6 : RefT (List ℕ)) (s7 : RefT (List ℕ)) (s8 : RefT (List ℕ)) where
   abbrev ref1 : GName → List ℕ → RefT (List ℕ)
   ref1 δ l = record { ptr = (b1, o1); name = δ; now = l }
 
@@ -117,9 +138,11 @@ module _ {M : Type 1} (𝓤 : URA M) (H : Heap 𝓤) (A : Atoms 𝓤) (W : Given
   abbrev Lent1 : ℕ → GName → List ℕ → Fml
   Lent1 ν δ l = LentAgain u64 κ₀ (ν ∷ []) q₀ γ1 b1 o1 δ l
 
-  lends1 : (ℓ : Lifetime) (ν : ℕ) (l : List ℕ) → length l ≡ length ys1 → ent 𝓤 (⋆ 𝓤 H A (‵ (O1 l) ∷ ‵ (flft κ₀ q₀) ∷ [])) (⋆ 𝓤 H A (later (some (λ (δ : GName). ‵ (MutSlice ℓ (ν ∷ []) u64 .own (ref1 δ l) (v1 ∷ [])) ⊛ ‵ (Lent1 ν δ l))) ∷ []))
+  lends1 : (ℓ : Lifetime) (ν : ℕ) (l : List ℕ) → length l ≡ length ys1 → ent 𝓤 (⋆ 𝓤 H A (‵ (O1 l) ∷ ‵ (flft κ₀ q₀) ∷ [])) (⋆ 𝓤 H A (later (some (λ (δ
+      : GName). ‵ (MutSlice ℓ (ν ∷ []) u64 .own (ref1 δ l) (v1 ∷ [])) ⊛ ‵ (Lent1 ν δ l))) ∷ []))
   lends1 ℓ ν l e = subst (λ (t : ℕ). ent 𝓤 (⋆ 𝓤 H A (‵ (MutSlice (named 0) κ₀ u64 .own (ref1 γ1 l) (sliceVal (b1, o1) t ∷ [])) ∷ ‵ (flft κ₀ q₀) ∷ []))
-      (⋆ 𝓤 H A (later (some (λ (δ : GName). ‵ (MutSlice ℓ (ν ∷ []) u64 .own (ref1 δ l) (sliceVal (b1, o1) t ∷ [])) ⊛ ‵ (Lent1 ν δ l))) ∷ []))) e (lends-again u64 κ₀ (ν ∷ []) q₀ γ1 b1 o1 𝓤 H A W (named 0) ℓ l)
+      (⋆ 𝓤 H A (later (some (λ (δ : GName). ‵ (MutSlice ℓ (ν ∷ []) u64 .own (ref1 δ l) (sliceVal (b1, o1) t ∷ [])) ⊛ ‵ (Lent1 ν δ l))) ∷ []))) e
+      (lends-again u64 κ₀ (ν ∷ []) q₀ γ1 b1 o1 𝓤 H A W (named 0) ℓ l)
 
   backs1 : (ℓ : Lifetime) (ν : ℕ) (δ : GName) (l l′ : List ℕ) → length l ≡ length ys1 → Room u64 (length ys1) → length l′ ≡ length l
       → ent 𝓤 (⋆ 𝓤 H A (‵ (fdead (ν ∷ [])) ∷ ‵ (Lent1 ν δ l) ∷ ‵ (finally u64 δ l′) ∷ [])) (⋆ 𝓤 H A (later (‵ (O1 l′) ⊛ ‵ (flft κ₀ q₀)) ∷ []))
@@ -139,9 +162,11 @@ module _ {M : Type 1} (𝓤 : URA M) (H : Heap 𝓤) (A : Atoms 𝓤) (W : Given
   abbrev Lent2 : ℕ → GName → List ℕ → Fml
   Lent2 ν δ l = LentAgain u64 κ₁ (ν ∷ []) q₁ γ2 b2 o2 δ l
 
-  lends2 : (ℓ : Lifetime) (ν : ℕ) (l : List ℕ) → length l ≡ length ys2 → ent 𝓤 (⋆ 𝓤 H A (‵ (O2 l) ∷ ‵ (flft κ₁ q₁) ∷ [])) (⋆ 𝓤 H A (later (some (λ (δ : GName). ‵ (MutSlice ℓ (ν ∷ []) u64 .own (ref2 δ l) (v2 ∷ [])) ⊛ ‵ (Lent2 ν δ l))) ∷ []))
+  lends2 : (ℓ : Lifetime) (ν : ℕ) (l : List ℕ) → length l ≡ length ys2 → ent 𝓤 (⋆ 𝓤 H A (‵ (O2 l) ∷ ‵ (flft κ₁ q₁) ∷ [])) (⋆ 𝓤 H A (later (some (λ (δ
+      : GName). ‵ (MutSlice ℓ (ν ∷ []) u64 .own (ref2 δ l) (v2 ∷ [])) ⊛ ‵ (Lent2 ν δ l))) ∷ []))
   lends2 ℓ ν l e = subst (λ (t : ℕ). ent 𝓤 (⋆ 𝓤 H A (‵ (MutSlice (named 1) κ₁ u64 .own (ref2 γ2 l) (sliceVal (b2, o2) t ∷ [])) ∷ ‵ (flft κ₁ q₁) ∷ []))
-      (⋆ 𝓤 H A (later (some (λ (δ : GName). ‵ (MutSlice ℓ (ν ∷ []) u64 .own (ref2 δ l) (sliceVal (b2, o2) t ∷ [])) ⊛ ‵ (Lent2 ν δ l))) ∷ []))) e (lends-again u64 κ₁ (ν ∷ []) q₁ γ2 b2 o2 𝓤 H A W (named 1) ℓ l)
+      (⋆ 𝓤 H A (later (some (λ (δ : GName). ‵ (MutSlice ℓ (ν ∷ []) u64 .own (ref2 δ l) (sliceVal (b2, o2) t ∷ [])) ⊛ ‵ (Lent2 ν δ l))) ∷ []))) e
+      (lends-again u64 κ₁ (ν ∷ []) q₁ γ2 b2 o2 𝓤 H A W (named 1) ℓ l)
 
   backs2 : (ℓ : Lifetime) (ν : ℕ) (δ : GName) (l l′ : List ℕ) → length l ≡ length ys2 → Room u64 (length ys2) → length l′ ≡ length l
       → ent 𝓤 (⋆ 𝓤 H A (‵ (fdead (ν ∷ [])) ∷ ‵ (Lent2 ν δ l) ∷ ‵ (finally u64 δ l′) ∷ [])) (⋆ 𝓤 H A (later (‵ (O2 l′) ⊛ ‵ (flft κ₁ q₁)) ∷ []))
@@ -191,60 +216,638 @@ module _ {M : Type 1} (𝓤 : URA M) (H : Heap 𝓤) (A : Atoms 𝓤) (W : Given
   abbrev Post : Val → SProp 𝓤
   Post = walkOf 𝓤 H A f.ended stayed (f.clauses 𝓤 H A at-mem run) .post (((κ₀, (κ₁, (κ₂, (κ₃, (κ₄, (κ₅, tt)))))), (q₀, (q₁, (q₂, (q₃, (q₄, (q₅, tt)))))), tt, a, at), tt)
 
-  module _ (C : Calls 𝓤 H) (Λ : Loops 𝓤 H) (fm : FmC 𝓤 H (W .laws) C) (known-g1 : Triple 𝓤 (C #g1) (Callee-g1 𝓤 H A at-mem run)) (known-g2 : Triple 𝓤 (C #g2) (Callee-g2 𝓤 H A at-mem run)) (known-g3 : Triple 𝓤 (C #g3) (Callee-g3 𝓤 H A at-mem run)) (room1 : Room u64 (length ys1)) (room2 : Room u64 (length ys2)) (w3 : Is u64 n3 (u3 ∷ [])) (w4 : Is mShapes.the-row n4 (u4 ∷ [])) (w5 : Is (ShrSlice (named 2) κ₂ mEntry.the-row) s5 (v5 ∷ [])) (w6 : Is (ShrSlice (named 3) κ₃ u64) s6 (v6 ∷ [])) (w7 : Is (ShrSlice (named 4) κ₄ u64) s7 (v7 ∷ [])) (w8′ : Is (ShrSlice (named 5) κ₅ u64) s8 (v8 ∷ [])) where
-    walk : ent 𝓤 (onEntry 𝓤 H A f.signature (κ₀, (κ₁, (κ₂, (κ₃, (κ₄, (κ₅, tt)))))) (q₀, (q₁, (q₂, (q₃, (q₄, (q₅, tt)))))) a at) (WpFn 𝓤 H C Λ code.function (v1 ∷ v2 ∷ v3 ∷ v4 ∷ v5 ∷ v6 ∷ v7 ∷ v8 ∷ []) Post)
+  module _ (C : Calls 𝓤 H) (Λ : Loops 𝓤 H) (fm : FmC 𝓤 H (W .laws) C) (known-g1 : Triple 𝓤 (C #g1) (Callee-g1 𝓤 H A at-mem run)) (known-g2 : Triple 𝓤
+      (C #g2) (Callee-g2 𝓤 H A at-mem run)) (known-g3 : Triple 𝓤 (C #g3) (Callee-g3 𝓤 H A at-mem run)) (room1 : Room u64 (length ys1)) (room2 : Room
+      u64 (length ys2)) (w3 : Is u64 n3 (u3 ∷ [])) (w4 : Is mShapes.the-row n4 (u4 ∷ [])) (w5 : Is (ShrSlice (named 2) κ₂ mEntry.the-row) s5 (v5 ∷
+      [])) (w6 : Is (ShrSlice (named 3) κ₃ u64) s6 (v6 ∷ [])) (w7 : Is (ShrSlice (named 4) κ₄ u64) s7 (v7 ∷ [])) (w8′ : Is (ShrSlice (named 5) κ₅
+      u64) s8 (v8 ∷ [])) where
+    walk : ent 𝓤 (onEntry 𝓤 H A f.signature (κ₀, (κ₁, (κ₂, (κ₃, (κ₄, (κ₅, tt)))))) (q₀, (q₁, (q₂, (q₃, (q₄, (q₅, tt)))))) a at) (WpFn 𝓤 H C Λ
+        code.function (v1 ∷ v2 ∷ v3 ∷ v4 ∷ v5 ∷ v6 ∷ v7 ∷ v8 ∷ []) Post)
     walk =
-        qed W ((‵ (flft κ₀ q₀) ⊛ ‵ (flft κ₁ q₁) ⊛ ‵ (flft κ₂ q₂) ⊛ ‵ (flft κ₃ q₃) ⊛ ‵ (flft κ₄ q₄) ⊛ ‵ (flft κ₅ q₅) ⊛ ‵ ftrue) ∷ ‵ (owns (MutSlice (named 0) κ₀ u64 ∷ MutSlice (named 1) κ₁ u64 ∷ u64 ∷ mShapes.the-row ∷ ShrSlice (named 2) κ₂ mEntry.the-row ∷ ShrSlice (named 3) κ₃ u64 ∷ ShrSlice (named 4) κ₄ u64 ∷ ShrSlice (named 5) κ₅ u64 ∷ []) a at) ∷ []) ∵ enter ! C Λ code.function (v1 ∷ v2 ∷ v3 ∷ v4 ∷ v5 ∷ v6 ∷ v7 ∷ v8 ∷ []) _ $
-        nothing ! $ alloc ! (λ l₀. alloc ! (λ l₁. alloc ! (λ l₂. alloc ! (λ l₃. alloc ! (λ l₄. alloc ! (λ l₅. alloc ! (λ l₆. alloc ! (λ l₇. alloc ! (λ l₈. alloc ! (λ l₉. alloc ! (λ l₁₀. alloc ! (λ l₁₁. alloc ! (λ l₁₂. alloc ! (λ l₁₃. alloc ! (λ l₁₄. alloc ! (λ l₁₅. alloc ! (λ l₁₆. alloc ! (λ l₁₇. alloc ! (λ l₁₈. alloc ! (λ l₁₉. alloc ! (λ l₂₀. alloc ! (λ l₂₁. alloc ! (λ l₂₂. alloc ! (λ l₂₃. alloc ! (λ l₂₄. alloc ! (λ l₂₅. alloc ! (λ l₂₆. alloc0 ! $ hide ! (λ died die. params1 ! $ pass1 ! (init ! 26 refl (tt, (tt, (record { fits = room1 .0 }, tt)))) $ pass1 ! (init ! 25 refl (tt, (tt, (record { fits = room2 .0 }, tt)))) $ pass1 ! (init ! 24 refl (uint-lawful 𝓤 H A W w64 .typed n3 _ w3 .0)) $ pass1 ! (init ! 23 refl (LL.lawful mShapes.the-type lShapes.the-laws 𝓤 H A W .typed n4 _ w4 .0)) $ pass1 ! (init ! 22 refl (shr-slice-lawful 𝓤 H A W (named 2) κ₂ mEntry.the-row .typed s5 (v5 ∷ []) w5 .0)) $ pass1 ! (init ! 21 refl (shr-slice-lawful 𝓤 H A W (named 3) κ₃ u64 .typed s6 (v6 ∷ []) w6 .0)) $ pass1 ! (init ! 20 refl (shr-slice-lawful 𝓤 H A W (named 4) κ₄ u64 .typed s7 (v7 ∷ []) w7 .0)) $ pass1 ! (init ! 19 refl (shr-slice-lawful 𝓤 H A W (named 5) κ₅ u64 .typed s8 (v8 ∷ []) w8′ .0)) $ pass0 ! $
-        move ! (29 ∷ []) $ fsplit ! $ move ! (1 ∷ []) $ fsplit ! $ move ! (1 ∷ []) $ fsplit ! $ move ! (1 ∷ []) $ fsplit ! $ move ! (1 ∷ []) $ fsplit ! $ move ! (1 ∷ []) $ fsplit ! $ move ! (1 ∷ []) $ fsplit ! $ move ! (1 ∷ []) $ fsplit ! $ move ! (1 ∷ []) $ drop ! $ move ! (36 ∷ []) $ split ! $ move ! (1 ∷ []) $ split ! $ move ! (1 ∷ []) $ split ! $ move ! (1 ∷ []) $ split ! $ move ! (1 ∷ []) $ split ! $ move ! (1 ∷ []) $ split ! $ move ! (1 ∷ []) $ drop ! $ tidy W (_ ∷ _ ∷ _ ∷ _ ∷ _ ∷ _ ∷ _ ∷ _ ∷ _ ∷ _ ∷ _ ∷ _ ∷ _ ∷ _ ∷ _ ∷ _ ∷ _ ∷ _ ∷ _ ∷ _ ∷ _ ∷ _ ∷ _ ∷ _ ∷ _ ∷ _ ∷ _ ∷ _ ∷ _ ∷ _ ∷ _ ∷ _ ∷ _ ∷ _ ∷ _ ∷ _ ∷ _ ∷ _ ∷ _ ∷ _ ∷ _ ∷ _ ∷ []) $
+        qed W ((‵ (flft κ₀ q₀) ⊛ ‵ (flft κ₁ q₁) ⊛ ‵ (flft κ₂ q₂) ⊛ ‵ (flft κ₃ q₃) ⊛ ‵ (flft κ₄ q₄) ⊛ ‵ (flft κ₅ q₅) ⊛ ‵ ftrue) ∷ ‵ (owns (MutSlice
+        (named 0) κ₀ u64 ∷ MutSlice (named 1) κ₁ u64 ∷ u64 ∷ mShapes.the-row ∷ ShrSlice (named 2) κ₂ mEntry.the-row ∷ ShrSlice (named 3) κ₃ u64 ∷
+        ShrSlice (named 4) κ₄ u64 ∷ ShrSlice (named 5) κ₅ u64 ∷ []) a at) ∷ []) ∵ enter ! C Λ code.function (v1 ∷ v2 ∷ v3 ∷ v4 ∷ v5 ∷ v6 ∷ v7 ∷
+        v8 ∷ []) _ $
+        nothing ! $ alloc ! (λ l₀. alloc ! (λ l₁. alloc ! (λ l₂. alloc ! (λ l₃. alloc ! (λ l₄. alloc ! (λ l₅. alloc ! (λ l₆. alloc ! (λ l₇. alloc !
+        (λ l₈. alloc ! (λ l₉. alloc ! (λ l₁₀. alloc ! (λ l₁₁. alloc ! (λ l₁₂. alloc ! (λ l₁₃. alloc ! (λ l₁₄. alloc ! (λ l₁₅. alloc ! (λ l₁₆.
+        alloc ! (λ l₁₇. alloc ! (λ l₁₈. alloc ! (λ l₁₉. alloc ! (λ l₂₀. alloc ! (λ l₂₁. alloc ! (λ l₂₂. alloc ! (λ l₂₃. alloc ! (λ l₂₄. alloc !
+        (λ l₂₅. alloc ! (λ l₂₆. alloc0 ! $ hide ! (λ died die. params1 ! $ pass1 ! (init ! 26 refl (tt, (tt, (record { fits = room1 .0 }, tt))))
+        $ pass1 ! (init ! 25 refl (tt, (tt, (record { fits = room2 .0 }, tt)))) $ pass1 ! (init ! 24 refl (uint-lawful 𝓤 H A W w64 .typed n3 _ w3
+        .0)) $ pass1 ! (init ! 23 refl (LL.lawful mShapes.the-type lShapes.the-laws 𝓤 H A W .typed n4 _ w4 .0)) $ pass1 ! (init ! 22 refl
+        (shr-slice-lawful 𝓤 H A W (named 2) κ₂ mEntry.the-row .typed s5 (v5 ∷ []) w5 .0)) $ pass1 ! (init ! 21 refl (shr-slice-lawful 𝓤 H A W
+        (named 3) κ₃ u64 .typed s6 (v6 ∷ []) w6 .0)) $ pass1 ! (init ! 20 refl (shr-slice-lawful 𝓤 H A W (named 4) κ₄ u64 .typed s7 (v7 ∷ []) w7
+        .0)) $ pass1 ! (init ! 19 refl (shr-slice-lawful 𝓤 H A W (named 5) κ₅ u64 .typed s8 (v8 ∷ []) w8′ .0)) $ pass0 ! $
+        move ! (29 ∷ []) $ fsplit ! $ move ! (1 ∷ []) $ fsplit ! $ move ! (1 ∷ []) $ fsplit ! $ move ! (1 ∷ []) $ fsplit ! $ move ! (1 ∷ []) $ fsplit
+        ! $ move ! (1 ∷ []) $ fsplit ! $ move ! (1 ∷ []) $ fsplit ! $ move ! (1 ∷ []) $ fsplit ! $ move ! (1 ∷ []) $ drop ! $ move ! (36 ∷ []) $
+        split ! $ move ! (1 ∷ []) $ split ! $ move ! (1 ∷ []) $ split ! $ move ! (1 ∷ []) $ split ! $ move ! (1 ∷ []) $ split ! $ move ! (1 ∷ [])
+        $ split ! $ move ! (1 ∷ []) $ drop ! $ tidy W (_ ∷ _ ∷ _ ∷ _ ∷ _ ∷ _ ∷ _ ∷ _ ∷ _ ∷ _ ∷ _ ∷ _ ∷ _ ∷ _ ∷ _ ∷ _ ∷ _ ∷ _ ∷ _ ∷ _ ∷ _ ∷ _ ∷ _
+        ∷ _ ∷ _ ∷ _ ∷ _ ∷ _ ∷ _ ∷ _ ∷ _ ∷ _ ∷ _ ∷ _ ∷ _ ∷ _ ∷ _ ∷ _ ∷ _ ∷ _ ∷ _ ∷ _ ∷ []) $
         assigns ! (of-opd ! (lit ! tt)) (from ! (stop !)) (init ! 32 refl (tt, record { fits = lit< tt })) $
-        rewrite ! 37 (λ (w : Val). ‵ (fat fullShare (lShapes.mir) l₄ 0 w)) (ap only ((LL.tells mShapes.the-type lShapes.the-laws) n4 _ w4)) refl $ assigns ! (of-opd ! (load ! (from ! (fld ! refl (stop !))) (look-in ! 37 (sub ! 0 refl (whole !))))) (from ! (stop !)) (init ! 31 refl (LL.lawful mSystemShape.the-type lSystemShape.the-laws 𝓤 H A W .typed (n4 .bin) _ (LL.owed mShapes.the-type lShapes.the-laws n4 _ (subst (Is mShapes.the-row n4) ((LL.tells mShapes.the-type lShapes.the-laws) n4 _ w4) w4) .0) .0)) $
-        assigns ! (of-opd ! (load ! (from ! (fld ! refl (stop !))) (look-in ! 37 (sub ! 1 refl (whole !))))) (from ! (stop !)) (init ! 30 refl (LL.lawful mSystemShape.the-type lSystemShape.the-laws 𝓤 H A W .typed (n4 .fld) _ (LL.owed mShapes.the-type lShapes.the-laws n4 _ (subst (Is mShapes.the-row n4) ((LL.tells mShapes.the-type lShapes.the-laws) n4 _ w4) w4) .1 .0) .0)) $
-        assigns ! (of-opd ! (load ! (from ! (fld ! refl (stop !))) (look-in ! 31 (sub ! 0 refl (whole !))))) (from ! (stop !)) (init ! 29 refl (LL.lawful mShape.the-type lShape.the-laws 𝓤 H A W .typed ((n4 .bin) .a) _ (LL.owed mSystemShape.the-type lSystemShape.the-laws (n4 .bin) _ (LL.owed mShapes.the-type lShapes.the-laws n4 _ (subst (Is mShapes.the-row n4) ((LL.tells mShapes.the-type lShapes.the-laws) n4 _ w4) w4) .0) .0) .0)) $
-        assigns ! (of-opd ! (load ! (from ! (fld ! refl (stop !))) (look-in ! 30 (sub ! 0 refl (whole !))))) (from ! (stop !)) (init ! 28 refl (LL.lawful mShape.the-type lShape.the-laws 𝓤 H A W .typed ((n4 .fld) .a) _ (LL.owed mSystemShape.the-type lSystemShape.the-laws (n4 .fld) _ (LL.owed mShapes.the-type lShapes.the-laws n4 _ (subst (Is mShapes.the-row n4) ((LL.tells mShapes.the-type lShapes.the-laws) n4 _ w4) w4) .1 .0) .0) .0)) $
-        assigns ! (of-opd ! (load ! (from ! (fld ! refl (stop !))) (look-in ! 29 (sub ! 0 refl (whole !))))) (from ! (stop !)) (init ! 27 refl (uint-lawful 𝓤 H A W w64 .typed (mShape.the-type .to ((n4 .bin) .a) .0) _ (LL.owed mShape.the-type lShape.the-laws ((n4 .bin) .a) _ (LL.owed mSystemShape.the-type lSystemShape.the-laws (n4 .bin) _ (LL.owed mShapes.the-type lShapes.the-laws n4 _ (subst (Is mShapes.the-row n4) ((LL.tells mShapes.the-type lShapes.the-laws) n4 _ w4) w4) .0) .0) .0) .0)) $
-        assigns ! (of-opd ! (load ! (from ! (fld ! refl (stop !))) (look-in ! 28 (sub ! 0 refl (whole !))))) (from ! (stop !)) (init ! 26 refl (uint-lawful 𝓤 H A W w64 .typed (mShape.the-type .to ((n4 .fld) .a) .0) _ (LL.owed mShape.the-type lShape.the-laws ((n4 .fld) .a) _ (LL.owed mSystemShape.the-type lSystemShape.the-laws (n4 .fld) _ (LL.owed mShapes.the-type lShapes.the-laws n4 _ (subst (Is mShapes.the-row n4) ((LL.tells mShapes.the-type lShapes.the-laws) n4 _ w4) w4) .1 .0) .0) .0) .0)) $
-        move ! (9 ∷ []) $ use1 W (‵ (O5) ⊛ ‵ (O5)) (shr-slice-copy 𝓤 H A W (named 2) κ₂ mEntry.the-row .twice s5 (v5 ∷ [])) $ split ! $ tidy W (_ ∷ _ ∷ _ ∷ _ ∷ _ ∷ _ ∷ _ ∷ _ ∷ _ ∷ _ ∷ _ ∷ _ ∷ _ ∷ _ ∷ _ ∷ _ ∷ _ ∷ _ ∷ _ ∷ _ ∷ _ ∷ _ ∷ _ ∷ _ ∷ _ ∷ _ ∷ _ ∷ _ ∷ _ ∷ _ ∷ _ ∷ _ ∷ _ ∷ _ ∷ _ ∷ _ ∷ _ ∷ _ ∷ _ ∷ _ ∷ _ ∷ _ ∷ _ ∷ []) $ nothing ! $ move ! (6 ∷ 0 ∷ []) $ join ! $ join ! $
+        rewrite ! 37 (λ (w : Val). ‵ (fat fullShare (lShapes.mir) l₄ 0 w)) (ap only ((LL.tells mShapes.the-type lShapes.the-laws) n4 _ w4)) refl $
+        assigns ! (of-opd ! (load ! (from ! (fld ! refl (stop !))) (look-in ! 37 (sub ! 0 refl (whole !))))) (from ! (stop !)) (init ! 31 refl
+        (LL.lawful mSystemShape.the-type lSystemShape.the-laws 𝓤 H A W .typed (n4 .bin) _ (LL.owed mShapes.the-type lShapes.the-laws n4 _ (subst
+        (Is mShapes.the-row n4) ((LL.tells mShapes.the-type lShapes.the-laws) n4 _ w4) w4) .0) .0)) $
+        assigns ! (of-opd ! (load ! (from ! (fld ! refl (stop !))) (look-in ! 37 (sub ! 1 refl (whole !))))) (from ! (stop !)) (init ! 30 refl
+        (LL.lawful mSystemShape.the-type lSystemShape.the-laws 𝓤 H A W .typed (n4 .fld) _ (LL.owed mShapes.the-type lShapes.the-laws n4 _ (subst
+        (Is mShapes.the-row n4) ((LL.tells mShapes.the-type lShapes.the-laws) n4 _ w4) w4) .1 .0) .0)) $
+        assigns ! (of-opd ! (load ! (from ! (fld ! refl (stop !))) (look-in ! 31 (sub ! 0 refl (whole !))))) (from ! (stop !)) (init ! 29 refl
+        (LL.lawful mShape.the-type lShape.the-laws 𝓤 H A W .typed ((n4 .bin) .a) _ (LL.owed mSystemShape.the-type lSystemShape.the-laws (n4 .bin)
+        _ (LL.owed mShapes.the-type lShapes.the-laws n4 _ (subst (Is mShapes.the-row n4) ((LL.tells mShapes.the-type lShapes.the-laws) n4 _ w4)
+        w4) .0) .0) .0)) $
+        assigns ! (of-opd ! (load ! (from ! (fld ! refl (stop !))) (look-in ! 30 (sub ! 0 refl (whole !))))) (from ! (stop !)) (init ! 28 refl
+        (LL.lawful mShape.the-type lShape.the-laws 𝓤 H A W .typed ((n4 .fld) .a) _ (LL.owed mSystemShape.the-type lSystemShape.the-laws (n4 .fld)
+        _ (LL.owed mShapes.the-type lShapes.the-laws n4 _ (subst (Is mShapes.the-row n4) ((LL.tells mShapes.the-type lShapes.the-laws) n4 _ w4)
+        w4) .1 .0) .0) .0)) $
+        assigns ! (of-opd ! (load ! (from ! (fld ! refl (stop !))) (look-in ! 29 (sub ! 0 refl (whole !))))) (from ! (stop !)) (init ! 27 refl
+        (uint-lawful 𝓤 H A W w64 .typed (mShape.the-type .to ((n4 .bin) .a) .0) _ (LL.owed mShape.the-type lShape.the-laws ((n4 .bin) .a) _
+        (LL.owed mSystemShape.the-type lSystemShape.the-laws (n4 .bin) _ (LL.owed mShapes.the-type lShapes.the-laws n4 _ (subst (Is
+        mShapes.the-row n4) ((LL.tells mShapes.the-type lShapes.the-laws) n4 _ w4) w4) .0) .0) .0) .0)) $
+        assigns ! (of-opd ! (load ! (from ! (fld ! refl (stop !))) (look-in ! 28 (sub ! 0 refl (whole !))))) (from ! (stop !)) (init ! 26 refl
+        (uint-lawful 𝓤 H A W w64 .typed (mShape.the-type .to ((n4 .fld) .a) .0) _ (LL.owed mShape.the-type lShape.the-laws ((n4 .fld) .a) _
+        (LL.owed mSystemShape.the-type lSystemShape.the-laws (n4 .fld) _ (LL.owed mShapes.the-type lShapes.the-laws n4 _ (subst (Is
+        mShapes.the-row n4) ((LL.tells mShapes.the-type lShapes.the-laws) n4 _ w4) w4) .1 .0) .0) .0) .0)) $
+        move ! (9 ∷ []) $ use1 W (‵ (O5) ⊛ ‵ (O5)) (shr-slice-copy 𝓤 H A W (named 2) κ₂ mEntry.the-row .twice s5 (v5 ∷ [])) $ split ! $ tidy W (_ ∷ _
+        ∷ _ ∷ _ ∷ _ ∷ _ ∷ _ ∷ _ ∷ _ ∷ _ ∷ _ ∷ _ ∷ _ ∷ _ ∷ _ ∷ _ ∷ _ ∷ _ ∷ _ ∷ _ ∷ _ ∷ _ ∷ _ ∷ _ ∷ _ ∷ _ ∷ _ ∷ _ ∷ _ ∷ _ ∷ _ ∷ _ ∷ _ ∷ _ ∷ _ ∷ _ ∷
+        _ ∷ _ ∷ _ ∷ _ ∷ _ ∷ _ ∷ _ ∷ []) $ nothing ! $ move ! (6 ∷ 0 ∷ []) $ join ! $ join ! $
         -- call 1
-        use1 W (raw (Callee-g1 𝓤 H A at-mem run .pre (((κ₂, tt), (q₂, tt), tt, (n3, (1, (n4, (s5, tt)))), (u3 ∷ [], ((vint w64 1) ∷ [], ((LL.val mShapes.the-type lShapes.the-laws n4) ∷ [], (v5 ∷ [], tt))))), tt))) (qed W ((‵ (flft κ₂ q₂) ⊛ ‵ ftrue) ∷ ‵ (ShrSlice (named 0) κ₂ mEntry.the-row .own s5 (v5 ∷ [])) ∷ []) ∵ nothing ! $ move ! (2 ∷ 0 ∷ []) $ fjoin ! $ owned ! mShapes.the-row (Is mShapes.the-row) (LL.makes mShapes.the-type lShapes.the-plain 𝓤 H A) (n4) _ (subst (Is mShapes.the-row n4) ((LL.tells mShapes.the-type lShapes.the-laws) n4 _ w4) w4) $ fjoin ! $ owned ! u64 (Is u64) (uint-makes 𝓤 H A W w64) (1) _ (refl, lit< tt) $ fjoin ! $ owned ! u64 (Is u64) (uint-makes 𝓤 H A W w64) (n3) _ w3 $ fjoin ! $ move ! (1 ∷ 0 ∷ []) $ join ! $ nothing ! $ move ! (1 ∷ 0 ∷ []) $ frame ! $ done !) $
-        calls-at ! fm (Callee-g1 𝓤 H A at-mem run) known-g1 (((κ₂, tt), (q₂, tt), tt, (n3, (1, (n4, (s5, tt)))), (u3 ∷ [], ((vint w64 1) ∷ [], ((LL.val mShapes.the-type lShapes.the-laws n4) ∷ [], (v5 ∷ [], tt))))), tt) (and-then ! (load ! (from ! (stop !)) (look ! 38 refl)) (and-then ! (load ! (from ! (stop !)) (look ! 32 refl)) (and-then ! (load ! (from ! (stop !)) (look ! 37 refl)) (and-then ! (load ! (from ! (stop !)) (look ! 36 refl)) (no-more !))))) (λ z1.
-        use1 W (later (some (λ (r1 : ℕ). ((‵ (flft κ₂ q₂) ⊛ ‵ ftrue) ⊛ ‵ (u32 .own r1 (z1 ∷ []))) ⊛ some (λ (ws : Lasts g1.ended (κ₂, tt) (n3, (1, (n4, (s5, tt))))). ‵ (lasts g1.ended (κ₂, tt) (n3, (1, (n4, (s5, tt)))) ws) ⊛ raw (g1.clauses 𝓤 H A at-mem run (κ₂, tt) (n3, (1, (n4, (s5, tt)))) .ensures tt r1 (atExit g1.ended (κ₂, tt) (n3, (1, (n4, (s5, tt)))) ws)))))) (id⊢ 𝓤 _) $ await ! tt $ pick ! (λ r1. split ! $ move ! (1 ∷ []) $ pick ! (λ ws1. split ! $ move ! (1 ∷ []) $ heard ! _ (λ e1.
+        use1 W (raw (Callee-g1 𝓤 H A at-mem run .pre (
+          (
+            (κ₂, tt),
+            (q₂, tt),
+            tt,
+            (n3, (1, (n4, (s5, tt)))),
+            (
+              u3 ∷ [],
+              (
+                (vint w64 1) ∷ [],
+                (
+                  (LL.val
+                      mShapes.the-type lShapes.the-laws n4) ∷ [],
+                  (v5 ∷ [], tt),
+                ),
+              ),
+            ),
+          ),
+          tt,
+        ))) (qed W ((‵ (flft κ₂ q₂) ⊛ ‵ ftrue) ∷ ‵ (ShrSlice (named 0) κ₂
+        mEntry.the-row .own s5 (v5 ∷ [])) ∷ []) ∵ nothing ! $ move ! (2 ∷ 0 ∷ []) $ fjoin ! $ owned ! mShapes.the-row (Is mShapes.the-row)
+        (LL.makes mShapes.the-type lShapes.the-plain 𝓤 H A) (n4) _ (subst (Is mShapes.the-row n4) ((LL.tells mShapes.the-type lShapes.the-laws)
+        n4 _ w4) w4) $ fjoin ! $ owned ! u64 (Is u64) (uint-makes 𝓤 H A W w64) (1) _ (refl, lit< tt) $ fjoin ! $ owned ! u64 (Is u64) (uint-makes
+        𝓤 H A W w64) (n3) _ w3 $ fjoin ! $ move ! (1 ∷ 0 ∷ []) $ join ! $ nothing ! $ move ! (1 ∷ 0 ∷ []) $ frame ! $ done !) $
+        calls-at ! fm (Callee-g1 𝓤 H A at-mem run) known-g1 (
+          (
+            (κ₂, tt),
+            (q₂, tt),
+            tt,
+            (n3, (1, (n4, (s5, tt)))),
+            (
+              u3 ∷ [],
+              (
+                (vint w64 1) ∷ [],
+                ((LL.val mShapes.the-type lShapes.the-laws n4) ∷ [], (v5 ∷ [], tt)),
+              ),
+            ),
+          ),
+          tt,
+        ) (and-then ! (load ! (from ! (stop !)) (look ! 38 refl))
+        (and-then ! (load ! (from ! (stop !)) (look ! 32 refl)) (and-then ! (load ! (from ! (stop !)) (look ! 37 refl)) (and-then ! (load ! (from
+        ! (stop !)) (look ! 36 refl)) (no-more !))))) (λ z1.
+        use1 W (later (some (λ (r1 : ℕ). ((‵ (flft κ₂ q₂) ⊛ ‵ ftrue) ⊛ ‵ (u32 .own r1 (z1 ∷ []))) ⊛ some (λ (ws : Lasts g1.ended (κ₂, tt) (
+          n3,
+          (
+            1,
+            (n4, (s5, tt)),
+          ),
+        )). ‵ (lasts g1.ended (κ₂, tt) (n3, (1, (n4, (s5, tt)))) ws) ⊛ raw (g1.clauses 𝓤 H A at-mem run (κ₂, tt) (
+          n3,
+          (
+            1,
+            (
+              n4,
+              (s5, tt),
+            ),
+          ),
+        ) .ensures tt r1 (atExit g1.ended (κ₂, tt) (n3, (1, (n4, (s5, tt)))) ws)))))) (id⊢ 𝓤 _) $ await ! tt $ pick ! (λ r1. split ! $
+        move ! (1 ∷ []) $ pick ! (λ ws1. split ! $ move ! (1 ∷ []) $ heard ! _ (λ e1.
         drop ! $ split ! $ move ! (1 ∷ []) $ peeks ! u32 (Is u32) (shows 𝓤 H A u32) r1 (z1 ∷ []) (λ i1. drop ! $ land ! (from ! (stop !)) (init ! 25 refl (uint-lawful 𝓤 H A W w32 .typed r1 _ i1 .0)) $
-        tidy W (_ ∷ _ ∷ _ ∷ _ ∷ _ ∷ _ ∷ _ ∷ _ ∷ _ ∷ _ ∷ _ ∷ _ ∷ _ ∷ _ ∷ _ ∷ _ ∷ _ ∷ _ ∷ _ ∷ _ ∷ _ ∷ _ ∷ _ ∷ _ ∷ _ ∷ _ ∷ _ ∷ _ ∷ _ ∷ _ ∷ _ ∷ _ ∷ _ ∷ _ ∷ _ ∷ _ ∷ _ ∷ _ ∷ _ ∷ _ ∷ _ ∷ _ ∷ []) $ split ! $ move ! (1 ∷ []) $ drop ! $ assigns ! (of-opd ! (load ! (from ! (fld ! refl (stop !))) (look-in ! 35 (sub ! 1 refl (whole !))))) (from ! (stop !)) (init ! 23 refl (tt, record { fits = (w6 .0 .1 .0) })) $
+        tidy W (_ ∷ _ ∷ _ ∷ _ ∷ _ ∷ _ ∷ _ ∷ _ ∷ _ ∷ _ ∷ _ ∷ _ ∷ _ ∷ _ ∷ _ ∷ _ ∷ _ ∷ _ ∷ _ ∷ _ ∷ _ ∷ _ ∷ _ ∷ _ ∷ _ ∷ _ ∷ _ ∷ _ ∷ _ ∷ _ ∷ _ ∷ _ ∷ _ ∷ _
+        ∷ _ ∷ _ ∷ _ ∷ _ ∷ _ ∷ _ ∷ _ ∷ _ ∷ []) $ split ! $ move ! (1 ∷ []) $ drop ! $ assigns ! (of-opd ! (load ! (from ! (fld ! refl (stop !)))
+        (look-in ! 35 (sub ! 1 refl (whole !))))) (from ! (stop !)) (init ! 23 refl (tt, record { fits = (w6 .0 .1 .0) })) $
         assigns ! (of-opd ! (load ! (from ! (fld ! refl (stop !))) (look-in ! 34 (sub ! 1 refl (whole !))))) (from ! (stop !)) (init ! 22 refl (tt, record { fits = (w7 .0 .1 .0) })) $
         assigns ! (of-opd ! (load ! (from ! (fld ! refl (stop !))) (look-in ! 33 (sub ! 1 refl (whole !))))) (from ! (stop !)) (init ! 21 refl (tt, record { fits = (w8′ .0 .1 .0) })) $
         assigns ! (of-opd ! (load ! (from ! (fld ! refl (stop !))) (look-in ! 40 (sub ! 1 refl (whole !))))) (from ! (stop !)) (init ! 20 refl (tt, record { fits = (room1 .0) })) $
         assigns ! (of-opd ! (load ! (from ! (fld ! refl (stop !))) (look-in ! 39 (sub ! 1 refl (whole !))))) (from ! (stop !)) (init ! 19 refl (tt, record { fits = (room2 .0) })) $
-        tidy W (_ ∷ _ ∷ _ ∷ _ ∷ _ ∷ _ ∷ _ ∷ _ ∷ _ ∷ _ ∷ _ ∷ _ ∷ _ ∷ _ ∷ _ ∷ _ ∷ _ ∷ _ ∷ _ ∷ _ ∷ _ ∷ _ ∷ _ ∷ _ ∷ _ ∷ _ ∷ _ ∷ _ ∷ _ ∷ _ ∷ _ ∷ _ ∷ _ ∷ _ ∷ _ ∷ _ ∷ _ ∷ _ ∷ _ ∷ _ ∷ _ ∷ _ ∷ []) $ nothing ! $
+        tidy W (_ ∷ _ ∷ _ ∷ _ ∷ _ ∷ _ ∷ _ ∷ _ ∷ _ ∷ _ ∷ _ ∷ _ ∷ _ ∷ _ ∷ _ ∷ _ ∷ _ ∷ _ ∷ _ ∷ _ ∷ _ ∷ _ ∷ _ ∷ _ ∷ _ ∷ _ ∷ _ ∷ _ ∷ _ ∷ _ ∷ _ ∷ _ ∷ _ ∷ _
+        ∷ _ ∷ _ ∷ _ ∷ _ ∷ _ ∷ _ ∷ _ ∷ _ ∷ []) $ nothing ! $
         -- call 2
-        use1 W (raw (Callee-g2 𝓤 H A at-mem run .pre ((tt, tt, tt, (r1, (n3, ((mShape.the-type .to ((n4 .bin) .a) .0), ((mShape.the-type .to ((n4 .fld) .a) .0), ((length (s6 .now)), ((length (s7 .now)), ((length (s8 .now)), ((length ys1), ((length ys2), tt))))))))), (z1 ∷ [], (u3 ∷ [], (((vint w64) (mShape.the-type .to ((n4 .bin) .a) .0)) ∷ [], (((vint w64) (mShape.the-type .to ((n4 .fld) .a) .0)) ∷ [], ((vint w64 (length (s6 .now))) ∷ [], ((vint w64 (length (s7 .now))) ∷ [], ((vint w64 (length (s8 .now))) ∷ [], ((vint w64 (length ys1)) ∷ [], ((vint w64 (length ys2)) ∷ [], tt)))))))))), tt))) (qed W ((‵ ftrue) ∷ []) ∵ nothing ! $ owned ! u64 (Is u64) (uint-makes 𝓤 H A W w64) ((length ys2)) _ (refl, (room2 .0)) $ fjoin ! $ owned ! u64 (Is u64) (uint-makes 𝓤 H A W w64) ((length ys1)) _ (refl, (room1 .0)) $ fjoin ! $ owned ! u64 (Is u64) (uint-makes 𝓤 H A W w64) ((length (s8 .now))) _ (refl, (w8′ .0 .1 .0)) $ fjoin ! $ owned ! u64 (Is u64) (uint-makes 𝓤 H A W w64) ((length (s7 .now))) _ (refl, (w7 .0 .1 .0)) $ fjoin ! $ owned ! u64 (Is u64) (uint-makes 𝓤 H A W w64) ((length (s6 .now))) _ (refl, (w6 .0 .1 .0)) $ fjoin ! $ owned ! u64 (Is u64) (uint-makes 𝓤 H A W w64) ((mShape.the-type .to ((n4 .fld) .a) .0)) _ (LL.owed mShape.the-type lShape.the-laws ((n4 .fld) .a) _ (LL.owed mSystemShape.the-type lSystemShape.the-laws (n4 .fld) _ (LL.owed mShapes.the-type lShapes.the-laws n4 _ (subst (Is mShapes.the-row n4) ((LL.tells mShapes.the-type lShapes.the-laws) n4 _ w4) w4) .1 .0) .0) .0) $ fjoin ! $ owned ! u64 (Is u64) (uint-makes 𝓤 H A W w64) ((mShape.the-type .to ((n4 .bin) .a) .0)) _ (LL.owed mShape.the-type lShape.the-laws ((n4 .bin) .a) _ (LL.owed mSystemShape.the-type lSystemShape.the-laws (n4 .bin) _ (LL.owed mShapes.the-type lShapes.the-laws n4 _ (subst (Is mShapes.the-row n4) ((LL.tells mShapes.the-type lShapes.the-laws) n4 _ w4) w4) .0) .0) .0) $ fjoin ! $ owned ! u64 (Is u64) (uint-makes 𝓤 H A W w64) (n3) _ w3 $ fjoin ! $ owned ! u32 (Is u32) (uint-makes 𝓤 H A W w32) (r1) _ i1 $ fjoin ! $ move ! (1 ∷ 0 ∷ []) $ join ! $ nothing ! $ move ! (1 ∷ 0 ∷ []) $ frame ! $ done !) $
-        calls-at ! fm (Callee-g2 𝓤 H A at-mem run) known-g2 ((tt, tt, tt, (r1, (n3, ((mShape.the-type .to ((n4 .bin) .a) .0), ((mShape.the-type .to ((n4 .fld) .a) .0), ((length (s6 .now)), ((length (s7 .now)), ((length (s8 .now)), ((length ys1), ((length ys2), tt))))))))), (z1 ∷ [], (u3 ∷ [], (((vint w64) (mShape.the-type .to ((n4 .bin) .a) .0)) ∷ [], (((vint w64) (mShape.the-type .to ((n4 .fld) .a) .0)) ∷ [], ((vint w64 (length (s6 .now))) ∷ [], ((vint w64 (length (s7 .now))) ∷ [], ((vint w64 (length (s8 .now))) ∷ [], ((vint w64 (length ys1)) ∷ [], ((vint w64 (length ys2)) ∷ [], tt)))))))))), tt) (and-then ! (load ! (from ! (stop !)) (look ! 26 refl)) (and-then ! (load ! (from ! (stop !)) (look ! 39 refl)) (and-then ! (load ! (from ! (stop !)) (look ! 28 refl)) (and-then ! (load ! (from ! (stop !)) (look ! 27 refl)) (and-then ! (load ! (from ! (stop !)) (look ! 24 refl)) (and-then ! (load ! (from ! (stop !)) (look ! 23 refl)) (and-then ! (load ! (from ! (stop !)) (look ! 22 refl)) (and-then ! (load ! (from ! (stop !)) (look ! 21 refl)) (and-then ! (load ! (from ! (stop !)) (look ! 20 refl)) (no-more !)))))))))) (λ z2.
-        use1 W (later (some (λ (r2 : ℕ). ((‵ ftrue) ⊛ ‵ (u32 .own r2 (z2 ∷ []))) ⊛ some (λ (ws : Lasts g2.ended tt (r1, (n3, ((mShape.the-type .to ((n4 .bin) .a) .0), ((mShape.the-type .to ((n4 .fld) .a) .0), ((length (s6 .now)), ((length (s7 .now)), ((length (s8 .now)), ((length ys1), ((length ys2), tt)))))))))). ‵ (lasts g2.ended tt (r1, (n3, ((mShape.the-type .to ((n4 .bin) .a) .0), ((mShape.the-type .to ((n4 .fld) .a) .0), ((length (s6 .now)), ((length (s7 .now)), ((length (s8 .now)), ((length ys1), ((length ys2), tt))))))))) ws) ⊛ raw (g2.clauses 𝓤 H A at-mem run tt (r1, (n3, ((mShape.the-type .to ((n4 .bin) .a) .0), ((mShape.the-type .to ((n4 .fld) .a) .0), ((length (s6 .now)), ((length (s7 .now)), ((length (s8 .now)), ((length ys1), ((length ys2), tt))))))))) .ensures tt r2 (atExit g2.ended tt (r1, (n3, ((mShape.the-type .to ((n4 .bin) .a) .0), ((mShape.the-type .to ((n4 .fld) .a) .0), ((length (s6 .now)), ((length (s7 .now)), ((length (s8 .now)), ((length ys1), ((length ys2), tt))))))))) ws)))))) (id⊢ 𝓤 _) $ await ! tt $ pick ! (λ r2. split ! $ move ! (1 ∷ []) $ pick ! (λ ws2. split ! $ move ! (1 ∷ []) $ heard ! _ (λ e2.
+        use1 W (raw (Callee-g2 𝓤 H A at-mem run .pre (
+          (
+            tt,
+            tt,
+            tt,
+            (
+              r1,
+              (
+                n3,
+                (
+                  (mShape.the-type .to ((n4 .bin) .a) .0),
+                  (
+                    (mShape.the-type .to ((n4
+                        .fld) .a) .0),
+                    ((length (s6 .now)), ((length (s7 .now)), ((length (s8 .now)), ((length ys1), ((length ys2), tt))))),
+                  ),
+                ),
+              ),
+            ),
+            (
+              z1 ∷ [],
+              (
+                u3 ∷
+                    [],
+                (
+                  ((vint w64) (mShape.the-type .to ((n4 .bin) .a) .0)) ∷ [],
+                  (
+                    ((vint w64) (mShape.the-type .to ((n4 .fld) .a) .0)) ∷ [],
+                    (
+                      (vint w64
+                          (length (s6 .now))) ∷ [],
+                      (
+                        (vint w64 (length (s7 .now))) ∷ [],
+                        (
+                          (vint w64 (length (s8 .now))) ∷ [],
+                          (
+                            (vint w64 (length ys1)) ∷ [],
+                            (
+                              (vint
+                                  w64 (length ys2)) ∷ [],
+                              tt,
+                            ),
+                          ),
+                        ),
+                      ),
+                    ),
+                  ),
+                ),
+              ),
+            ),
+          ),
+          tt,
+        ))) (qed W ((‵ ftrue) ∷ []) ∵ nothing ! $ owned ! u64 (Is u64) (uint-makes 𝓤 H A W w64) ((length
+        ys2)) _ (refl, (room2 .0)) $ fjoin ! $ owned ! u64 (Is u64) (uint-makes 𝓤 H A W w64) ((length ys1)) _ (refl, (room1 .0)) $ fjoin ! $
+        owned ! u64 (Is u64) (uint-makes 𝓤 H A W w64) ((length (s8 .now))) _ (refl, (w8′ .0 .1 .0)) $ fjoin ! $ owned ! u64 (Is u64) (uint-makes
+        𝓤 H A W w64) ((length (s7 .now))) _ (refl, (w7 .0 .1 .0)) $ fjoin ! $ owned ! u64 (Is u64) (uint-makes 𝓤 H A W w64) ((length (s6 .now)))
+        _ (refl, (w6 .0 .1 .0)) $ fjoin ! $ owned ! u64 (Is u64) (uint-makes 𝓤 H A W w64) ((mShape.the-type .to ((n4 .fld) .a) .0)) _ (LL.owed
+        mShape.the-type lShape.the-laws ((n4 .fld) .a) _ (LL.owed mSystemShape.the-type lSystemShape.the-laws (n4 .fld) _ (LL.owed
+        mShapes.the-type lShapes.the-laws n4 _ (subst (Is mShapes.the-row n4) ((LL.tells mShapes.the-type lShapes.the-laws) n4 _ w4) w4) .1 .0)
+        .0) .0) $ fjoin ! $ owned ! u64 (Is u64) (uint-makes 𝓤 H A W w64) ((mShape.the-type .to ((n4 .bin) .a) .0)) _ (LL.owed mShape.the-type
+        lShape.the-laws ((n4 .bin) .a) _ (LL.owed mSystemShape.the-type lSystemShape.the-laws (n4 .bin) _ (LL.owed mShapes.the-type
+        lShapes.the-laws n4 _ (subst (Is mShapes.the-row n4) ((LL.tells mShapes.the-type lShapes.the-laws) n4 _ w4) w4) .0) .0) .0) $ fjoin ! $
+        owned ! u64 (Is u64) (uint-makes 𝓤 H A W w64) (n3) _ w3 $ fjoin ! $ owned ! u32 (Is u32) (uint-makes 𝓤 H A W w32) (r1) _ i1 $ fjoin ! $
+        move ! (1 ∷ 0 ∷ []) $ join ! $ nothing ! $ move ! (1 ∷ 0 ∷ []) $ frame ! $ done !) $
+        calls-at ! fm (Callee-g2 𝓤 H A at-mem run) known-g2 (
+          (
+            tt,
+            tt,
+            tt,
+            (
+              r1,
+              (
+                n3,
+                (
+                  (mShape.the-type .to ((n4 .bin) .a) .0),
+                  (
+                    (mShape.the-type .to
+                        ((n4 .fld) .a) .0),
+                    ((length (s6 .now)), ((length (s7 .now)), ((length (s8 .now)), ((length ys1), ((length ys2), tt))))),
+                  ),
+                ),
+              ),
+            ),
+            (
+              z1 ∷ [],
+              (
+                u3 ∷ [],
+                (
+                  ((vint w64) (mShape.the-type .to ((n4 .bin) .a) .0)) ∷ [],
+                  (
+                    ((vint w64) (mShape.the-type .to ((n4 .fld) .a) .0)) ∷ [],
+                    (
+                      (vint
+                          w64 (length (s6 .now))) ∷ [],
+                      (
+                        (vint w64 (length (s7 .now))) ∷ [],
+                        (
+                          (vint w64 (length (s8 .now))) ∷ [],
+                          (
+                            (vint w64 (length ys1)) ∷ [],
+                            ((vint w64 (length ys2)) ∷ [], tt),
+                          ),
+                        ),
+                      ),
+                    ),
+                  ),
+                ),
+              ),
+            ),
+          ),
+          tt,
+        ) (and-then ! (load ! (from ! (stop !)) (look ! 26 refl)) (and-then ! (load ! (from !
+        (stop !)) (look ! 39 refl)) (and-then ! (load ! (from ! (stop !)) (look ! 28 refl)) (and-then ! (load ! (from ! (stop !)) (look ! 27
+        refl)) (and-then ! (load ! (from ! (stop !)) (look ! 24 refl)) (and-then ! (load ! (from ! (stop !)) (look ! 23 refl)) (and-then ! (load
+        ! (from ! (stop !)) (look ! 22 refl)) (and-then ! (load ! (from ! (stop !)) (look ! 21 refl)) (and-then ! (load ! (from ! (stop !)) (look
+        ! 20 refl)) (no-more !)))))))))) (λ z2.
+        use1 W (later (some (λ (r2 : ℕ). ((‵ ftrue) ⊛ ‵ (u32 .own r2 (z2 ∷ []))) ⊛ some (λ (ws : Lasts g2.ended tt (
+          r1,
+          (
+            n3,
+            (
+              (mShape.the-type .to
+                  ((n4 .bin) .a) .0),
+              (
+                (mShape.the-type .to ((n4 .fld) .a) .0),
+                (
+                  (length (s6 .now)),
+                  (
+                    (length (s7 .now)),
+                    (
+                      (length (s8 .now)),
+                      (
+                        (length
+                            ys1),
+                        ((length ys2), tt),
+                      ),
+                    ),
+                  ),
+                ),
+              ),
+            ),
+          ),
+        )). ‵ (lasts g2.ended tt (
+          r1,
+          (
+            n3,
+            (
+              (mShape.the-type .to ((n4 .bin) .a) .0),
+              (
+                (mShape.the-type .to ((n4
+                    .fld) .a) .0),
+                ((length (s6 .now)), ((length (s7 .now)), ((length (s8 .now)), ((length ys1), ((length ys2), tt))))),
+              ),
+            ),
+          ),
+        ) ws) ⊛ raw
+        (g2.clauses 𝓤 H A at-mem run tt (
+          r1,
+          (
+            n3,
+            (
+              (mShape.the-type .to ((n4 .bin) .a) .0),
+              (
+                (mShape.the-type .to ((n4 .fld) .a) .0),
+                (
+                  (length
+                      (s6 .now)),
+                  ((length (s7 .now)), ((length (s8 .now)), ((length ys1), ((length ys2), tt)))),
+                ),
+              ),
+            ),
+          ),
+        ) .ensures tt r2 (atExit g2.ended tt (
+          r1,
+          (
+            n3,
+            (
+              (mShape.the-type .to ((n4 .bin) .a) .0),
+              (
+                (mShape.the-type .to ((n4 .fld) .a) .0),
+                (
+                  (length (s6 .now)),
+                  (
+                    (length (s7 .now)),
+                    ((length (s8 .now)), ((length ys1), ((length ys2), tt))),
+                  ),
+                ),
+              ),
+            ),
+          ),
+        ) ws)))))) (id⊢ 𝓤 _) $ await ! tt $ pick ! (λ r2. split ! $ move ! (1 ∷ [])
+        $ pick ! (λ ws2. split ! $ move ! (1 ∷ []) $ heard ! _ (λ e2.
         drop ! $ split ! $ move ! (1 ∷ []) $ peeks ! u32 (Is u32) (shows 𝓤 H A u32) r2 (z2 ∷ []) (λ i2. drop ! $ land ! (from ! (stop !)) (init ! 25 refl (uint-lawful 𝓤 H A W w32 .typed r2 _ i2 .0)) $
-        tidy W (_ ∷ _ ∷ _ ∷ _ ∷ _ ∷ _ ∷ _ ∷ _ ∷ _ ∷ _ ∷ _ ∷ _ ∷ _ ∷ _ ∷ _ ∷ _ ∷ _ ∷ _ ∷ _ ∷ _ ∷ _ ∷ _ ∷ _ ∷ _ ∷ _ ∷ _ ∷ _ ∷ _ ∷ _ ∷ _ ∷ _ ∷ _ ∷ _ ∷ _ ∷ _ ∷ _ ∷ _ ∷ _ ∷ _ ∷ _ ∷ _ ∷ _ ∷ _ ∷ []) $ drop ! $ assigns ! (addr ! (from ! (fld ! refl (hop ! (look-in ! 40 (sub ! 0 refl (whole !))) (stop !))))) (from ! (stop !)) (init ! 18 refl (tt, tt)) $
-        assigns ! (agg ! (and-then ! (load ! (from ! (stop !)) (look ! 18 refl)) (and-then ! (load ! (from ! (fld ! refl (stop !))) (look-in ! 40 (sub ! 1 refl (whole !)))) (no-more !)))) (from ! (stop !)) (init ! 17 refl (tt, (tt, (record { fits = room1 .0 }, tt)))) $
+        tidy W (_ ∷ _ ∷ _ ∷ _ ∷ _ ∷ _ ∷ _ ∷ _ ∷ _ ∷ _ ∷ _ ∷ _ ∷ _ ∷ _ ∷ _ ∷ _ ∷ _ ∷ _ ∷ _ ∷ _ ∷ _ ∷ _ ∷ _ ∷ _ ∷ _ ∷ _ ∷ _ ∷ _ ∷ _ ∷ _ ∷ _ ∷ _ ∷ _ ∷ _
+        ∷ _ ∷ _ ∷ _ ∷ _ ∷ _ ∷ _ ∷ _ ∷ _ ∷ _ ∷ []) $ drop ! $ assigns ! (addr ! (from ! (fld ! refl (hop ! (look-in ! 40 (sub ! 0 refl (whole !)))
+        (stop !))))) (from ! (stop !)) (init ! 18 refl (tt, tt)) $
+        assigns ! (agg ! (and-then ! (load ! (from ! (stop !)) (look ! 18 refl)) (and-then ! (load ! (from ! (fld ! refl (stop !))) (look-in ! 40
+        (sub ! 1 refl (whole !)))) (no-more !)))) (from ! (stop !)) (init ! 17 refl (tt, (tt, (record { fits = room1 .0 }, tt)))) $
         assigns ! (addr ! (from ! (fld ! refl (hop ! (look-in ! 39 (sub ! 0 refl (whole !))) (stop !))))) (from ! (stop !)) (init ! 16 refl (tt, tt)) $
-        assigns ! (agg ! (and-then ! (load ! (from ! (stop !)) (look ! 16 refl)) (and-then ! (load ! (from ! (fld ! refl (stop !))) (look-in ! 39 (sub ! 1 refl (whole !)))) (no-more !)))) (from ! (stop !)) (init ! 15 refl (tt, (tt, (record { fits = room2 .0 }, tt)))) $
-        lft-new ! tt (λ ν3b. move ! (14 ∷ 7 ∷ []) $ use2 W (later (some (λ (δ : GName). ‵ (MutSlice (named 0) (ν3b ∷ []) u64 .own (ref1 δ (ys1)) (v1 ∷ [])) ⊛ ‵ (Lent1 ν3b δ (ys1))))) (lends1 (named 0) ν3b (ys1) (refl)) $ await ! tt $ pick ! (λ δ3b. split ! $
-        lft-new ! tt (λ ν3c. move ! (15 ∷ 9 ∷ []) $ use2 W (later (some (λ (δ : GName). ‵ (MutSlice (named 1) (ν3c ∷ []) u64 .own (ref2 δ (ys2)) (v2 ∷ [])) ⊛ ‵ (Lent2 ν3c δ (ys2))))) (lends2 (named 1) ν3c (ys2) (refl)) $ await ! tt $ pick ! (λ δ3c. split ! $ move ! (7 ∷ []) $ use1 W (‵ (O5) ⊛ ‵ (O5)) (shr-slice-copy 𝓤 H A W (named 2) κ₂ mEntry.the-row .twice s5 (v5 ∷ [])) $ split ! $ move ! (14 ∷ []) $ use1 W (‵ (O6) ⊛ ‵ (O6)) (shr-slice-copy 𝓤 H A W (named 3) κ₃ u64 .twice s6 (v6 ∷ [])) $ split ! $ move ! (15 ∷ []) $ use1 W (‵ (O7) ⊛ ‵ (O7)) (shr-slice-copy 𝓤 H A W (named 4) κ₄ u64 .twice s7 (v7 ∷ [])) $ split ! $ move ! (16 ∷ []) $ use1 W (‵ (O8) ⊛ ‵ (O8)) (shr-slice-copy 𝓤 H A W (named 5) κ₅ u64 .twice s8 (v8 ∷ [])) $ split ! $ tidy W (_ ∷ _ ∷ _ ∷ _ ∷ _ ∷ _ ∷ _ ∷ _ ∷ _ ∷ _ ∷ _ ∷ _ ∷ _ ∷ _ ∷ _ ∷ _ ∷ _ ∷ _ ∷ _ ∷ _ ∷ _ ∷ _ ∷ _ ∷ _ ∷ _ ∷ _ ∷ _ ∷ _ ∷ _ ∷ _ ∷ _ ∷ _ ∷ _ ∷ _ ∷ _ ∷ _ ∷ _ ∷ _ ∷ _ ∷ _ ∷ _ ∷ _ ∷ _ ∷ _ ∷ _ ∷ _ ∷ _ ∷ _ ∷ []) $ nothing ! $ move ! (16 ∷ 0 ∷ []) $ join ! $ move ! (16 ∷ 0 ∷ []) $ join ! $ move ! (16 ∷ 0 ∷ []) $ join ! $ move ! (15 ∷ 0 ∷ []) $ join ! $ move ! (11 ∷ 0 ∷ []) $ join ! $ move ! (13 ∷ 0 ∷ []) $ join ! $ move ! (3 ∷ 1 ∷ []) $ join ! $ move ! (4 ∷ 0 ∷ []) $ join ! $ move ! (5 ∷ 0 ∷ []) $ join ! $ move ! (6 ∷ 0 ∷ []) $ join ! $ move ! (7 ∷ 0 ∷ []) $ join ! $ move ! (1 ∷ 0 ∷ []) $ join ! $
+        assigns ! (agg ! (and-then ! (load ! (from ! (stop !)) (look ! 16 refl)) (and-then ! (load ! (from ! (fld ! refl (stop !))) (look-in ! 39
+        (sub ! 1 refl (whole !)))) (no-more !)))) (from ! (stop !)) (init ! 15 refl (tt, (tt, (record { fits = room2 .0 }, tt)))) $
+        lft-new ! tt (λ ν3b. move ! (14 ∷ 7 ∷ []) $ use2 W (later (some (λ (δ : GName). ‵ (MutSlice (named 0) (ν3b ∷ []) u64 .own (ref1 δ (ys1)) (v1
+        ∷ [])) ⊛ ‵ (Lent1 ν3b δ (ys1))))) (lends1 (named 0) ν3b (ys1) (refl)) $ await ! tt $ pick ! (λ δ3b. split ! $
+        lft-new ! tt (λ ν3c. move ! (15 ∷ 9 ∷ []) $ use2 W (later (some (λ (δ : GName). ‵ (MutSlice (named 1) (ν3c ∷ []) u64 .own (ref2 δ (ys2)) (v2
+        ∷ [])) ⊛ ‵ (Lent2 ν3c δ (ys2))))) (lends2 (named 1) ν3c (ys2) (refl)) $ await ! tt $ pick ! (λ δ3c. split ! $ move ! (7 ∷ []) $ use1 W (‵
+        (O5) ⊛ ‵ (O5)) (shr-slice-copy 𝓤 H A W (named 2) κ₂ mEntry.the-row .twice s5 (v5 ∷ [])) $ split ! $ move ! (14 ∷ []) $ use1 W (‵ (O6) ⊛ ‵
+        (O6)) (shr-slice-copy 𝓤 H A W (named 3) κ₃ u64 .twice s6 (v6 ∷ [])) $ split ! $ move ! (15 ∷ []) $ use1 W (‵ (O7) ⊛ ‵ (O7))
+        (shr-slice-copy 𝓤 H A W (named 4) κ₄ u64 .twice s7 (v7 ∷ [])) $ split ! $ move ! (16 ∷ []) $ use1 W (‵ (O8) ⊛ ‵ (O8)) (shr-slice-copy 𝓤 H
+        A W (named 5) κ₅ u64 .twice s8 (v8 ∷ [])) $ split ! $ tidy W (_ ∷ _ ∷ _ ∷ _ ∷ _ ∷ _ ∷ _ ∷ _ ∷ _ ∷ _ ∷ _ ∷ _ ∷ _ ∷ _ ∷ _ ∷ _ ∷ _ ∷ _ ∷ _ ∷
+        _ ∷ _ ∷ _ ∷ _ ∷ _ ∷ _ ∷ _ ∷ _ ∷ _ ∷ _ ∷ _ ∷ _ ∷ _ ∷ _ ∷ _ ∷ _ ∷ _ ∷ _ ∷ _ ∷ _ ∷ _ ∷ _ ∷ _ ∷ _ ∷ _ ∷ _ ∷ _ ∷ _ ∷ _ ∷ []) $ nothing ! $
+        move ! (16 ∷ 0 ∷ []) $ join ! $ move ! (16 ∷ 0 ∷ []) $ join ! $ move ! (16 ∷ 0 ∷ []) $ join ! $ move ! (15 ∷ 0 ∷ []) $ join ! $ move !
+        (11 ∷ 0 ∷ []) $ join ! $ move ! (13 ∷ 0 ∷ []) $ join ! $ move ! (3 ∷ 1 ∷ []) $ join ! $ move ! (4 ∷ 0 ∷ []) $ join ! $ move ! (5 ∷ 0 ∷
+        []) $ join ! $ move ! (6 ∷ 0 ∷ []) $ join ! $ move ! (7 ∷ 0 ∷ []) $ join ! $ move ! (1 ∷ 0 ∷ []) $ join ! $
         -- call 3
-        use1 W (raw (Callee-g3 𝓤 H A at-mem run .pre ((((ν3b ∷ []), ((ν3c ∷ []), (κ₂, (κ₃, (κ₄, (κ₅, tt)))))), (fullShare, (fullShare, (q₂, (q₃, (q₄, (q₅, tt)))))), tt, (r2, (ref1 δ3b (ys1), (ref2 δ3c (ys2), (n3, (n4, (s5, (s6, (s7, (s8, tt))))))))), (z2 ∷ [], (v1 ∷ [], (v2 ∷ [], (u3 ∷ [], ((LL.val mShapes.the-type lShapes.the-laws n4) ∷ [], (v5 ∷ [], (v6 ∷ [], (v7 ∷ [], (v8 ∷ [], tt)))))))))), tt))) (qed W ((‵ (flft (ν3b ∷ []) fullShare) ⊛ ‵ (flft (ν3c ∷ []) fullShare) ⊛ ‵ (flft κ₂ q₂) ⊛ ‵ (flft κ₃ q₃) ⊛ ‵ (flft κ₄ q₄) ⊛ ‵ (flft κ₅ q₅) ⊛ ‵ ftrue) ∷ ‵ (MutSlice (named 0) (ν3b ∷ []) u64 .own (ref1 δ3b (ys1)) (v1 ∷ [])) ∷ ‵ (MutSlice (named 1) (ν3c ∷ []) u64 .own (ref2 δ3c (ys2)) (v2 ∷ [])) ∷ ‵ (ShrSlice (named 2) κ₂ mEntry.the-row .own s5 (v5 ∷ [])) ∷ ‵ (ShrSlice (named 3) κ₃ u64 .own s6 (v6 ∷ [])) ∷ ‵ (ShrSlice (named 4) κ₄ u64 .own s7 (v7 ∷ [])) ∷ ‵ (ShrSlice (named 5) κ₅ u64 .own s8 (v8 ∷ [])) ∷ []) ∵ nothing ! $ move ! (7 ∷ 0 ∷ []) $ fjoin ! $ move ! (6 ∷ 0 ∷ []) $ fjoin ! $ move ! (5 ∷ 0 ∷ []) $ fjoin ! $ move ! (4 ∷ 0 ∷ []) $ fjoin ! $ owned ! mShapes.the-row (Is mShapes.the-row) (LL.makes mShapes.the-type lShapes.the-plain 𝓤 H A) (n4) _ (subst (Is mShapes.the-row n4) ((LL.tells mShapes.the-type lShapes.the-laws) n4 _ w4) w4) $ fjoin ! $ owned ! u64 (Is u64) (uint-makes 𝓤 H A W w64) (n3) _ w3 $ fjoin ! $ move ! (3 ∷ 0 ∷ []) $ fjoin ! $ move ! (2 ∷ 0 ∷ []) $ fjoin ! $ owned ! u32 (Is u32) (uint-makes 𝓤 H A W w32) (r2) _ i2 $ fjoin ! $ move ! (1 ∷ 0 ∷ []) $ join ! $ nothing ! $ move ! (1 ∷ 0 ∷ []) $ frame ! $ done !) $
-        calls-at ! fm (Callee-g3 𝓤 H A at-mem run) known-g3 ((((ν3b ∷ []), ((ν3c ∷ []), (κ₂, (κ₃, (κ₄, (κ₅, tt)))))), (fullShare, (fullShare, (q₂, (q₃, (q₄, (q₅, tt)))))), tt, (r2, (ref1 δ3b (ys1), (ref2 δ3c (ys2), (n3, (n4, (s5, (s6, (s7, (s8, tt))))))))), (z2 ∷ [], (v1 ∷ [], (v2 ∷ [], (u3 ∷ [], ((LL.val mShapes.the-type lShapes.the-laws n4) ∷ [], (v5 ∷ [], (v6 ∷ [], (v7 ∷ [], (v8 ∷ [], tt)))))))))), tt) (and-then ! (load ! (from ! (stop !)) (look ! 19 refl)) (and-then ! (load ! (from ! (stop !)) (look ! 12 refl)) (and-then ! (load ! (from ! (stop !)) (look ! 10 refl)) (and-then ! (load ! (from ! (stop !)) (look ! 33 refl)) (and-then ! (load ! (from ! (stop !)) (look ! 32 refl)) (and-then ! (load ! (from ! (stop !)) (look ! 31 refl)) (and-then ! (load ! (from ! (stop !)) (look ! 30 refl)) (and-then ! (load ! (from ! (stop !)) (look ! 29 refl)) (and-then ! (load ! (from ! (stop !)) (look ! 28 refl)) (no-more !)))))))))) (λ z3.
-        use1 W (later (some (λ (r3 : ℕ). ((‵ (flft (ν3b ∷ []) fullShare) ⊛ ‵ (flft (ν3c ∷ []) fullShare) ⊛ ‵ (flft κ₂ q₂) ⊛ ‵ (flft κ₃ q₃) ⊛ ‵ (flft κ₄ q₄) ⊛ ‵ (flft κ₅ q₅) ⊛ ‵ ftrue) ⊛ ‵ (u32 .own r3 (z3 ∷ []))) ⊛ some (λ (ws : Lasts g3.ended ((ν3b ∷ []), ((ν3c ∷ []), (κ₂, (κ₃, (κ₄, (κ₅, tt)))))) (r2, (ref1 δ3b (ys1), (ref2 δ3c (ys2), (n3, (n4, (s5, (s6, (s7, (s8, tt)))))))))). ‵ (lasts g3.ended ((ν3b ∷ []), ((ν3c ∷ []), (κ₂, (κ₃, (κ₄, (κ₅, tt)))))) (r2, (ref1 δ3b (ys1), (ref2 δ3c (ys2), (n3, (n4, (s5, (s6, (s7, (s8, tt))))))))) ws) ⊛ raw (g3.clauses 𝓤 H A at-mem run ((ν3b ∷ []), ((ν3c ∷ []), (κ₂, (κ₃, (κ₄, (κ₅, tt)))))) (r2, (ref1 δ3b (ys1), (ref2 δ3c (ys2), (n3, (n4, (s5, (s6, (s7, (s8, tt))))))))) .ensures tt r3 (atExit g3.ended ((ν3b ∷ []), ((ν3c ∷ []), (κ₂, (κ₃, (κ₄, (κ₅, tt)))))) (r2, (ref1 δ3b (ys1), (ref2 δ3c (ys2), (n3, (n4, (s5, (s6, (s7, (s8, tt))))))))) ws)))))) (id⊢ 𝓤 _) $ await ! tt $ pick ! (λ r3. split ! $ move ! (1 ∷ []) $ pick ! (λ ws3. split ! $ move ! (1 ∷ []) $ heard ! _ (λ e3.
-        fsplit ! $ drop ! $ fsplit ! $ fsplit ! $ move ! (1 ∷ []) $ feqL ! (λ same3b. move ! (1 ∷ []) $ fsplit ! $ fsplit ! $ move ! (1 ∷ []) $ feqL ! (λ same3c. move ! (1 ∷ []) $ drop ! $ move ! (2 ∷ []) $ split ! $ move ! (1 ∷ []) $ peeks ! u32 (Is u32) (shows 𝓤 H A u32) r3 (z3 ∷ []) (λ i3. drop ! $ land ! (from ! (stop !)) (init ! 38 refl (uint-lawful 𝓤 H A W w32 .typed r3 _ i3 .0)) $
-        tidy W (_ ∷ _ ∷ _ ∷ _ ∷ _ ∷ _ ∷ _ ∷ _ ∷ _ ∷ _ ∷ _ ∷ _ ∷ _ ∷ _ ∷ _ ∷ _ ∷ _ ∷ _ ∷ _ ∷ _ ∷ _ ∷ _ ∷ _ ∷ _ ∷ _ ∷ _ ∷ _ ∷ _ ∷ _ ∷ _ ∷ _ ∷ _ ∷ _ ∷ _ ∷ _ ∷ _ ∷ _ ∷ _ ∷ _ ∷ []) $ split ! $ move ! (1 ∷ []) $ split ! $ move ! (1 ∷ []) $ split ! $ move ! (1 ∷ []) $ split ! $ move ! (1 ∷ []) $ split ! $ move ! (1 ∷ []) $ split ! $ move ! (1 ∷ []) $ drop ! $ move ! (5 ∷ []) $ lft-end ! tt $ move ! (0 ∷ 13 ∷ 7 ∷ []) $ use3 W (later (‵ (O1 (ws3 .1 .0)) ⊛ ‵ (flft κ₀ q₀))) (backs1 (named 0) ν3b δ3b (ys1) (ws3 .1 .0) (refl) room1 same3b) $ await ! tt $ split ! $
-        move ! (6 ∷ []) $ lft-end ! tt $ move ! (0 ∷ 12 ∷ 7 ∷ []) $ use3 W (later (‵ (O2 (ws3 .1 .1 .0)) ⊛ ‵ (flft κ₁ q₁))) (backs2 (named 1) ν3c δ3c (ys2) (ws3 .1 .1 .0) (refl) room2 same3c) $ await ! tt $ split ! $
-        tidy W (_ ∷ _ ∷ _ ∷ _ ∷ _ ∷ _ ∷ _ ∷ _ ∷ _ ∷ _ ∷ _ ∷ _ ∷ _ ∷ _ ∷ _ ∷ _ ∷ _ ∷ _ ∷ _ ∷ _ ∷ _ ∷ _ ∷ _ ∷ _ ∷ _ ∷ _ ∷ _ ∷ _ ∷ _ ∷ _ ∷ _ ∷ _ ∷ _ ∷ _ ∷ _ ∷ _ ∷ _ ∷ _ ∷ _ ∷ _ ∷ _ ∷ _ ∷ []) $ returns ! (look ! 41 refl) $ move ! (14 ∷ []) $ use1 W (dies ((tyInt w32, l₀) ∷ (sliceTy (tyRef (named 0) mut (tyInt w64)), l₁) ∷ (sliceTy (tyRef (named 1) mut (tyInt w64)), l₂) ∷ (tyInt w64, l₃) ∷ (lShapes.mir, l₄) ∷ (sliceTy (tyRef (named 2) imm (pointee (mEntry.the-row .written))), l₅) ∷ (sliceTy (tyRef (named 3) imm (tyInt w64)), l₆) ∷ (sliceTy (tyRef (named 4) imm (tyInt w64)), l₇) ∷ (sliceTy (tyRef (named 5) imm (tyInt w64)), l₈) ∷ (tyInt w64, l₉) ∷ (lSystemShape.mir, l₁₀) ∷ (lSystemShape.mir, l₁₁) ∷ (lShape.mir, l₁₂) ∷ (lShape.mir, l₁₃) ∷ (tyInt w64, l₁₄) ∷ (tyInt w64, l₁₅) ∷ (tyInt w32, l₁₆) ∷ (tyInt w32, l₁₇) ∷ (tyInt w64, l₁₈) ∷ (tyInt w64, l₁₉) ∷ (tyInt w64, l₂₀) ∷ (tyInt w64, l₂₁) ∷ (tyInt w64, l₂₂) ∷ (tyRef erased mut (tyInt w64), l₂₃) ∷ (sliceTy (tyRef erased mut (tyInt w64)), l₂₄) ∷ (tyRef erased mut (tyInt w64), l₂₅) ∷ (sliceTy (tyRef erased mut (tyInt w64)), l₂₆) ∷ []) (‵ ftrue)) die $ free-all ! 14 ((tyInt w32, l₀) ∷ (sliceTy (tyRef (named 0) mut (tyInt w64)), l₁) ∷ (sliceTy (tyRef (named 1) mut (tyInt w64)), l₂) ∷ (tyInt w64, l₃) ∷ (lShapes.mir, l₄) ∷ (sliceTy (tyRef (named 2) imm (pointee (mEntry.the-row .written))), l₅) ∷ (sliceTy (tyRef (named 3) imm (tyInt w64)), l₆) ∷ (sliceTy (tyRef (named 4) imm (tyInt w64)), l₇) ∷ (sliceTy (tyRef (named 5) imm (tyInt w64)), l₈) ∷ (tyInt w64, l₉) ∷ (lSystemShape.mir, l₁₀) ∷ (lSystemShape.mir, l₁₁) ∷ (lShape.mir, l₁₂) ∷ (lShape.mir, l₁₃) ∷ (tyInt w64, l₁₄) ∷ (tyInt w64, l₁₅) ∷ (tyInt w32, l₁₆) ∷ (tyInt w32, l₁₇) ∷ (tyInt w64, l₁₈) ∷ (tyInt w64, l₁₉) ∷ (tyInt w64, l₂₀) ∷ (tyInt w64, l₂₁) ∷ (tyInt w64, l₂₂) ∷ (tyRef erased mut (tyInt w64), l₂₃) ∷ (sliceTy (tyRef erased mut (tyInt w64)), l₂₄) ∷ (tyRef erased mut (tyInt w64), l₂₅) ∷ (sliceTy (tyRef erased mut (tyInt w64)), l₂₆) ∷ []) (kept _ ∷ kept _ ∷ kept _ ∷ kept _ ∷ kept _ ∷ kept _ ∷ kept _ ∷ kept _ ∷ kept _ ∷ kept _ ∷ kept _ ∷ kept _ ∷ kept _ ∷ kept _ ∷ kept _ ∷ kept _ ∷ kept _ ∷ kept _ ∷ kept _ ∷ kept _ ∷ kept _ ∷ kept _ ∷ kept _ ∷ kept _ ∷ kept _ ∷ kept _ ∷ kept _ ∷ []) refl $
-        suffices ! _ (ends-at 𝓤 H A f.ended stayed (f.clauses 𝓤 H A at-mem run) W (((κ₀, (κ₁, (κ₂, (κ₃, (κ₄, (κ₅, tt)))))), (q₀, (q₁, (q₂, (q₃, (q₄, (q₅, tt)))))), tt, a, at), tt) z3 r3 (ws3 .1 .0, (ws3 .1 .1 .0, (tt, (tt, (tt, (tt, (tt, (tt, tt)))))))) (same3b, (same3c, (tt, (tt, (tt, (tt, (tt, (tt, tt))))))))) $ says ! (let R = rulesOver n3 1 [] n4 (entriesOfRecords (s5 .now)) in combo-ends R (s6 .now) (s7 .now) (s8 .now) ys1 ys2 r2 (combo-by R (s6 .now) (s7 .now) (s8 .now) _ _ r1 r2 e1 e2) r3 (ws3 .1 .0) (ws3 .1 .1 .0) e3) $
-        nothing ! $ move ! (5 ∷ 0 ∷ []) $ join ! $ move ! (5 ∷ 0 ∷ []) $ join ! $ move ! (5 ∷ 0 ∷ []) $ join ! $ move ! (5 ∷ 0 ∷ []) $ join ! $ move ! (2 ∷ 0 ∷ []) $ join ! $ move ! (3 ∷ 0 ∷ []) $ join ! $ nothing ! $ move ! (4 ∷ 0 ∷ []) $ fjoin ! $ move ! (4 ∷ 0 ∷ []) $ fjoin ! $ move ! (4 ∷ 0 ∷ []) $ fjoin ! $ move ! (4 ∷ 0 ∷ []) $ fjoin ! $ move ! (4 ∷ 0 ∷ []) $ fjoin ! $ move ! (4 ∷ 0 ∷ []) $ fjoin ! $ move ! (2 ∷ 0 ∷ []) $ fjoin ! $ move ! (2 ∷ 0 ∷ []) $ fjoin ! $ keep ! (1 ∷ 0 ∷ []) $ frame ! $ frame ! $ owned ! u32 (Is u32) (uint-makes 𝓤 H A W w32) r3 _ i3 $ done !)))))))))))))))))))))))))))))))))))))))))))))))))
+        use1 W (raw (Callee-g3 𝓤 H A at-mem run .pre (
+          (
+            ((ν3b ∷ []), ((ν3c ∷ []), (κ₂, (κ₃, (κ₄, (κ₅, tt)))))),
+            (
+              fullShare,
+              (
+                fullShare,
+                (
+                  q₂,
+                  (
+                    q₃,
+                    (
+                      q₄,
+                      (q₅, tt),
+                    ),
+                  ),
+                ),
+              ),
+            ),
+            tt,
+            (r2, (ref1 δ3b (ys1), (ref2 δ3c (ys2), (n3, (n4, (s5, (s6, (s7, (s8, tt))))))))),
+            (
+              z2 ∷ [],
+              (
+                v1 ∷ [],
+                (
+                  v2 ∷ [],
+                  (
+                    u3 ∷
+                        [],
+                    ((LL.val mShapes.the-type lShapes.the-laws n4) ∷ [], (v5 ∷ [], (v6 ∷ [], (v7 ∷ [], (v8 ∷ [], tt))))),
+                  ),
+                ),
+              ),
+            ),
+          ),
+          tt,
+        ))) (qed W ((‵ (flft
+        (ν3b ∷ []) fullShare) ⊛ ‵ (flft (ν3c ∷ []) fullShare) ⊛ ‵ (flft κ₂ q₂) ⊛ ‵ (flft κ₃ q₃) ⊛ ‵ (flft κ₄ q₄) ⊛ ‵ (flft κ₅ q₅) ⊛ ‵ ftrue) ∷ ‵
+        (MutSlice (named 0) (ν3b ∷ []) u64 .own (ref1 δ3b (ys1)) (v1 ∷ [])) ∷ ‵ (MutSlice (named 1) (ν3c ∷ []) u64 .own (ref2 δ3c (ys2)) (v2 ∷
+        [])) ∷ ‵ (ShrSlice (named 2) κ₂ mEntry.the-row .own s5 (v5 ∷ [])) ∷ ‵ (ShrSlice (named 3) κ₃ u64 .own s6 (v6 ∷ [])) ∷ ‵ (ShrSlice (named
+        4) κ₄ u64 .own s7 (v7 ∷ [])) ∷ ‵ (ShrSlice (named 5) κ₅ u64 .own s8 (v8 ∷ [])) ∷ []) ∵ nothing ! $ move ! (7 ∷ 0 ∷ []) $ fjoin ! $ move !
+        (6 ∷ 0 ∷ []) $ fjoin ! $ move ! (5 ∷ 0 ∷ []) $ fjoin ! $ move ! (4 ∷ 0 ∷ []) $ fjoin ! $ owned ! mShapes.the-row (Is mShapes.the-row)
+        (LL.makes mShapes.the-type lShapes.the-plain 𝓤 H A) (n4) _ (subst (Is mShapes.the-row n4) ((LL.tells mShapes.the-type lShapes.the-laws)
+        n4 _ w4) w4) $ fjoin ! $ owned ! u64 (Is u64) (uint-makes 𝓤 H A W w64) (n3) _ w3 $ fjoin ! $ move ! (3 ∷ 0 ∷ []) $ fjoin ! $ move ! (2 ∷
+        0 ∷ []) $ fjoin ! $ owned ! u32 (Is u32) (uint-makes 𝓤 H A W w32) (r2) _ i2 $ fjoin ! $ move ! (1 ∷ 0 ∷ []) $ join ! $ nothing ! $ move !
+        (1 ∷ 0 ∷ []) $ frame ! $ done !) $
+        calls-at ! fm (Callee-g3 𝓤 H A at-mem run) known-g3 (
+          (
+            ((ν3b ∷ []), ((ν3c ∷ []), (κ₂, (κ₃, (κ₄, (κ₅, tt)))))),
+            (
+              fullShare,
+              (
+                fullShare,
+                (
+                  q₂,
+                  (q₃, (q₄, (q₅, tt))),
+                ),
+              ),
+            ),
+            tt,
+            (r2, (ref1 δ3b (ys1), (ref2 δ3c (ys2), (n3, (n4, (s5, (s6, (s7, (s8, tt))))))))),
+            (
+              z2 ∷ [],
+              (
+                v1 ∷ [],
+                (
+                  v2 ∷
+                      [],
+                  (u3 ∷ [], ((LL.val mShapes.the-type lShapes.the-laws n4) ∷ [], (v5 ∷ [], (v6 ∷ [], (v7 ∷ [], (v8 ∷ [], tt)))))),
+                ),
+              ),
+            ),
+          ),
+          tt,
+        ) (and-then !
+        (load ! (from ! (stop !)) (look ! 19 refl)) (and-then ! (load ! (from ! (stop !)) (look ! 12 refl)) (and-then ! (load ! (from ! (stop !))
+        (look ! 10 refl)) (and-then ! (load ! (from ! (stop !)) (look ! 33 refl)) (and-then ! (load ! (from ! (stop !)) (look ! 32 refl))
+        (and-then ! (load ! (from ! (stop !)) (look ! 31 refl)) (and-then ! (load ! (from ! (stop !)) (look ! 30 refl)) (and-then ! (load ! (from
+        ! (stop !)) (look ! 29 refl)) (and-then ! (load ! (from ! (stop !)) (look ! 28 refl)) (no-more !)))))))))) (λ z3.
+        use1 W (later (some (λ (r3 : ℕ). ((‵ (flft (ν3b ∷ []) fullShare) ⊛ ‵ (flft (ν3c ∷ []) fullShare) ⊛ ‵ (flft κ₂ q₂) ⊛ ‵ (flft κ₃ q₃) ⊛ ‵ (flft
+        κ₄ q₄) ⊛ ‵ (flft κ₅ q₅) ⊛ ‵ ftrue) ⊛ ‵ (u32 .own r3 (z3 ∷ []))) ⊛ some (λ (ws : Lasts g3.ended (
+          (ν3b ∷ []),
+          (
+            (ν3c ∷ []),
+            (
+              κ₂,
+              (
+                κ₃,
+                (
+                  κ₄,
+                  (κ₅, tt),
+                ),
+              ),
+            ),
+          ),
+        ) (r2, (ref1 δ3b (ys1), (ref2 δ3c (ys2), (n3, (n4, (s5, (s6, (s7, (s8, tt)))))))))). ‵ (lasts g3.ended (
+          (ν3b ∷ []),
+          (
+            (ν3c ∷
+                []),
+            (κ₂, (κ₃, (κ₄, (κ₅, tt)))),
+          ),
+        ) (r2, (ref1 δ3b (ys1), (ref2 δ3c (ys2), (n3, (n4, (s5, (s6, (s7, (s8, tt))))))))) ws) ⊛ raw (g3.clauses
+        𝓤 H A at-mem run ((ν3b ∷ []), ((ν3c ∷ []), (κ₂, (κ₃, (κ₄, (κ₅, tt)))))) (
+          r2,
+          (
+            ref1 δ3b (ys1),
+            (
+              ref2 δ3c (ys2),
+              (
+                n3,
+                (
+                  n4,
+                  (
+                    s5,
+                    (
+                      s6,
+                      (
+                        s7,
+                        (s8, tt),
+                      ),
+                    ),
+                  ),
+                ),
+              ),
+            ),
+          ),
+        ) .ensures tt r3 (atExit g3.ended ((ν3b ∷ []), ((ν3c ∷ []), (κ₂, (κ₃, (κ₄, (κ₅, tt)))))) (
+          r2,
+          (
+            ref1 δ3b (ys1),
+            (
+              ref2 δ3c
+                  (ys2),
+              (n3, (n4, (s5, (s6, (s7, (s8, tt)))))),
+            ),
+          ),
+        ) ws)))))) (id⊢ 𝓤 _) $ await ! tt $ pick ! (λ r3. split ! $ move ! (1 ∷ []) $ pick ! (λ
+        ws3. split ! $ move ! (1 ∷ []) $ heard ! _ (λ e3.
+        fsplit ! $ drop ! $ fsplit ! $ fsplit ! $ move ! (1 ∷ []) $ feqL ! (λ same3b. move ! (1 ∷ []) $ fsplit ! $ fsplit ! $ move ! (1 ∷ []) $ feqL
+        ! (λ same3c. move ! (1 ∷ []) $ drop ! $ move ! (2 ∷ []) $ split ! $ move ! (1 ∷ []) $ peeks ! u32 (Is u32) (shows 𝓤 H A u32) r3 (z3 ∷ [])
+        (λ i3. drop ! $ land ! (from ! (stop !)) (init ! 38 refl (uint-lawful 𝓤 H A W w32 .typed r3 _ i3 .0)) $
+        tidy W (_ ∷ _ ∷ _ ∷ _ ∷ _ ∷ _ ∷ _ ∷ _ ∷ _ ∷ _ ∷ _ ∷ _ ∷ _ ∷ _ ∷ _ ∷ _ ∷ _ ∷ _ ∷ _ ∷ _ ∷ _ ∷ _ ∷ _ ∷ _ ∷ _ ∷ _ ∷ _ ∷ _ ∷ _ ∷ _ ∷ _ ∷ _ ∷ _ ∷ _
+        ∷ _ ∷ _ ∷ _ ∷ _ ∷ _ ∷ []) $ split ! $ move ! (1 ∷ []) $ split ! $ move ! (1 ∷ []) $ split ! $ move ! (1 ∷ []) $ split ! $ move ! (1 ∷ [])
+        $ split ! $ move ! (1 ∷ []) $ split ! $ move ! (1 ∷ []) $ drop ! $ move ! (5 ∷ []) $ lft-end ! tt $ move ! (0 ∷ 13 ∷ 7 ∷ []) $ use3 W
+        (later (‵ (O1 (ws3 .1 .0)) ⊛ ‵ (flft κ₀ q₀))) (backs1 (named 0) ν3b δ3b (ys1) (ws3 .1 .0) (refl) room1 same3b) $ await ! tt $ split ! $
+        move ! (6 ∷ []) $ lft-end ! tt $ move ! (0 ∷ 12 ∷ 7 ∷ []) $ use3 W (later (‵ (O2 (ws3 .1 .1 .0)) ⊛ ‵ (flft κ₁ q₁))) (backs2 (named 1) ν3c δ3c
+        (ys2) (ws3 .1 .1 .0) (refl) room2 same3c) $ await ! tt $ split ! $
+        tidy W (_ ∷ _ ∷ _ ∷ _ ∷ _ ∷ _ ∷ _ ∷ _ ∷ _ ∷ _ ∷ _ ∷ _ ∷ _ ∷ _ ∷ _ ∷ _ ∷ _ ∷ _ ∷ _ ∷ _ ∷ _ ∷ _ ∷ _ ∷ _ ∷ _ ∷ _ ∷ _ ∷ _ ∷ _ ∷ _ ∷ _ ∷ _ ∷ _ ∷ _
+        ∷ _ ∷ _ ∷ _ ∷ _ ∷ _ ∷ _ ∷ _ ∷ _ ∷ []) $ returns ! (look ! 41 refl) $ move ! (14 ∷ []) $ use1 W (dies ((tyInt w32, l₀) ∷ (
+          sliceTy (tyRef
+              (named 0) mut (tyInt w64)),
+          l₁,
+        ) ∷ (sliceTy (tyRef (named 1) mut (tyInt w64)), l₂) ∷ (tyInt w64, l₃) ∷ (lShapes.mir, l₄) ∷ (
+          sliceTy (tyRef
+              (named 2) imm (pointee (mEntry.the-row .written))),
+          l₅,
+        ) ∷ (sliceTy (tyRef (named 3) imm (tyInt w64)), l₆) ∷ (
+          sliceTy (tyRef (named 4) imm
+              (tyInt w64)),
+          l₇,
+        ) ∷ (sliceTy (tyRef (named 5) imm (tyInt w64)), l₈) ∷ (tyInt w64, l₉) ∷ (lSystemShape.mir, l₁₀) ∷ (lSystemShape.mir, l₁₁)
+        ∷ (lShape.mir, l₁₂) ∷ (lShape.mir, l₁₃) ∷ (tyInt w64, l₁₄) ∷ (tyInt w64, l₁₅) ∷ (tyInt w32, l₁₆) ∷ (tyInt w32, l₁₇) ∷ (tyInt w64, l₁₈) ∷
+        (tyInt w64, l₁₉) ∷ (tyInt w64, l₂₀) ∷ (tyInt w64, l₂₁) ∷ (tyInt w64, l₂₂) ∷ (tyRef erased mut (tyInt w64), l₂₃) ∷ (
+          sliceTy (tyRef erased
+              mut (tyInt w64)),
+          l₂₄,
+        ) ∷ (tyRef erased mut (tyInt w64), l₂₅) ∷ (sliceTy (tyRef erased mut (tyInt w64)), l₂₆) ∷ []) (‵ ftrue)) die $
+        free-all ! 14 ((tyInt w32, l₀) ∷ (sliceTy (tyRef (named 0) mut (tyInt w64)), l₁) ∷ (sliceTy (tyRef (named 1) mut (tyInt w64)), l₂) ∷
+        (tyInt w64, l₃) ∷ (lShapes.mir, l₄) ∷ (sliceTy (tyRef (named 2) imm (pointee (mEntry.the-row .written))), l₅) ∷ (
+          sliceTy (tyRef (named 3)
+              imm (tyInt w64)),
+          l₆,
+        ) ∷ (sliceTy (tyRef (named 4) imm (tyInt w64)), l₇) ∷ (sliceTy (tyRef (named 5) imm (tyInt w64)), l₈) ∷ (
+          tyInt w64,
+          l₉,
+        ) ∷ (lSystemShape.mir, l₁₀) ∷ (lSystemShape.mir, l₁₁) ∷ (lShape.mir, l₁₂) ∷ (lShape.mir, l₁₃) ∷ (tyInt w64, l₁₄) ∷ (tyInt w64, l₁₅) ∷
+        (tyInt w32, l₁₆) ∷ (tyInt w32, l₁₇) ∷ (tyInt w64, l₁₈) ∷ (tyInt w64, l₁₉) ∷ (tyInt w64, l₂₀) ∷ (tyInt w64, l₂₁) ∷ (tyInt w64, l₂₂) ∷
+        (tyRef erased mut (tyInt w64), l₂₃) ∷ (sliceTy (tyRef erased mut (tyInt w64)), l₂₄) ∷ (tyRef erased mut (tyInt w64), l₂₅) ∷ (
+          sliceTy
+              (tyRef erased mut (tyInt w64)),
+          l₂₆,
+        ) ∷ []) (kept _ ∷ kept _ ∷ kept _ ∷ kept _ ∷ kept _ ∷ kept _ ∷ kept _ ∷ kept _ ∷ kept _ ∷ kept _ ∷
+        kept _ ∷ kept _ ∷ kept _ ∷ kept _ ∷ kept _ ∷ kept _ ∷ kept _ ∷ kept _ ∷ kept _ ∷ kept _ ∷ kept _ ∷ kept _ ∷ kept _ ∷ kept _ ∷ kept _ ∷
+        kept _ ∷ kept _ ∷ []) refl $
+        suffices ! _ (ends-at 𝓤 H A f.ended stayed (f.clauses 𝓤 H A at-mem run) W (
+          (
+            (κ₀, (κ₁, (κ₂, (κ₃, (κ₄, (κ₅, tt)))))),
+            (
+              q₀,
+              (
+                q₁,
+                (
+                  q₂,
+                  (
+                    q₃,
+                    (
+                      q₄,
+                      (q₅, tt),
+                    ),
+                  ),
+                ),
+              ),
+            ),
+            tt,
+            a,
+            at,
+          ),
+          tt,
+        ) z3 r3 (ws3 .1 .0, (ws3 .1 .1 .0, (tt, (tt, (tt, (tt, (tt, (tt, tt)))))))) (
+          same3b,
+          (
+            same3c,
+            (
+              tt,
+              (
+                tt,
+                (
+                  tt,
+                  (tt, (tt, (tt, tt))),
+                ),
+              ),
+            ),
+          ),
+        )) $ says ! (let R = rulesOver n3 1 [] n4 (entriesOfRecords (s5 .now)) in combo-ends R (s6 .now) (s7 .now) (s8
+        .now) ys1 ys2 r2 (combo-by R (s6 .now) (s7 .now) (s8 .now) _ _ r1 r2 e1 e2) r3 (ws3 .1 .0) (ws3 .1 .1 .0) e3) $
+        nothing ! $ move ! (5 ∷ 0 ∷ []) $ join ! $ move ! (5 ∷ 0 ∷ []) $ join ! $ move ! (5 ∷ 0 ∷ []) $ join ! $ move ! (5 ∷ 0 ∷ []) $ join ! $ move
+        ! (2 ∷ 0 ∷ []) $ join ! $ move ! (3 ∷ 0 ∷ []) $ join ! $ nothing ! $ move ! (4 ∷ 0 ∷ []) $ fjoin ! $ move ! (4 ∷ 0 ∷ []) $ fjoin ! $ move
+        ! (4 ∷ 0 ∷ []) $ fjoin ! $ move ! (4 ∷ 0 ∷ []) $ fjoin ! $ move ! (4 ∷ 0 ∷ []) $ fjoin ! $ move ! (4 ∷ 0 ∷ []) $ fjoin ! $ move ! (2 ∷ 0
+        ∷ []) $ fjoin ! $ move ! (2 ∷ 0 ∷ []) $ fjoin ! $ keep ! (1 ∷ 0 ∷ []) $ frame ! $ frame ! $ owned ! u32 (Is u32) (uint-makes 𝓤 H A W w32)
+        r3 _ i3 $ done !)))))))))))))))))))))))))))))))))))))))))))))))))
 
 module _ {M : Type 1} (𝓤 : URA M) (H : Heap 𝓤) (A : Atoms 𝓤) (W : Given 𝓤 H A) (mem : Memory → SProp 𝓤) (run : Routine → Fun 𝓤) where
-  walks : (C : Calls 𝓤 H) (Λ : Loops 𝓤 H) → FmC 𝓤 H (W .laws) C → Triple 𝓤 (C #g1) (Callee-g1 𝓤 H A mem run) → Triple 𝓤 (C #g2) (Callee-g2 𝓤 H A mem run) → Triple 𝓤 (C #g3) (Callee-g3 𝓤 H A mem run) → Walks 𝓤 H A f.ended stayed (WpFn 𝓤 H C Λ code.function) (f.clauses 𝓤 H A mem run)
-  walks C Λ fm known-g1 known-g2 known-g3 = walked 𝓤 H A f.ended stayed (f.clauses 𝓤 H A mem run) (WpFn 𝓤 H C Λ code.function) (λ κs. (slice-vals, (slice-vals, ((uint-vals w64), ((LL.vals mShapes.the-type lShapes.the-laws), (slice-vals, (slice-vals, (slice-vals, (slice-vals, tt))))))))) (λ κs. (mut-slice-tells (named 0) (κs .0) u64, (mut-slice-tells (named 1) (κs .1 .0) u64, ((uint-tells w64), ((LL.tells mShapes.the-type lShapes.the-laws), (shr-slice-tells (named 2) (κs .1 .1 .0) mEntry.the-row, (shr-slice-tells (named 3) (κs .1 .1 .1 .0) u64, (shr-slice-tells (named 4) (κs .1 .1 .1 .1 .0) u64, (shr-slice-tells (named 5) (κs .1 .1 .1 .1 .1 .0) u64, tt)))))))))
-      (λ κs qs bounds a g are. via 𝓤 _ (fst∗ 𝓤 _ (emp 𝓤)) (walk 𝓤 H A W mem run (κs .0) (κs .1 .0) (κs .1 .1 .0) (κs .1 .1 .1 .0) (κs .1 .1 .1 .1 .0) (κs .1 .1 .1 .1 .1 .0) (qs .0) (qs .1 .0) (qs .1 .1 .0) (qs .1 .1 .1 .0) (qs .1 .1 .1 .1 .0) (qs .1 .1 .1 .1 .1 .0) (a .0 .ptr .0) (a .0 .ptr .1) (a .0 .name) (a .0 .now) (a .1 .0 .ptr .0) (a .1 .0 .ptr .1) (a .1 .0 .name) (a .1 .0 .now) (a .1 .1 .0) (only ((uint-vals w64) (a .1 .1 .0))) (a .1 .1 .1 .0) (only ((LL.vals mShapes.the-type lShapes.the-laws) (a .1 .1 .1 .0))) (a .1 .1 .1 .1 .0) (a .1 .1 .1 .1 .1 .0) (a .1 .1 .1 .1 .1 .1 .0) (a .1 .1 .1 .1 .1 .1 .1 .0) C Λ fm known-g1 known-g2 known-g3 (are .0 .0 .1) (are .1 .0 .0 .1) (are .1 .1 .0) (are .1 .1 .1 .0) (are .1 .1 .1 .1 .0) (are .1 .1 .1 .1 .1 .0) (are .1 .1 .1 .1 .1 .1 .0) (are .1 .1 .1 .1 .1 .1 .1 .0)))
+  walks : (C : Calls 𝓤 H) (Λ : Loops 𝓤 H) → FmC 𝓤 H (W .laws) C → Triple 𝓤 (C #g1) (Callee-g1 𝓤 H A mem run) → Triple 𝓤 (C #g2) (Callee-g2 𝓤 H A mem
+      run) → Triple 𝓤 (C #g3) (Callee-g3 𝓤 H A mem run) → Walks 𝓤 H A f.ended stayed (WpFn 𝓤 H C Λ code.function) (f.clauses 𝓤 H A mem run)
+  walks C Λ fm known-g1 known-g2 known-g3 = walked 𝓤 H A f.ended stayed (f.clauses 𝓤 H A mem run) (WpFn 𝓤 H C Λ code.function) (λ κs. (
+    slice-vals,
+    (slice-vals, ((uint-vals w64), ((LL.vals mShapes.the-type lShapes.the-laws), (slice-vals, (slice-vals, (slice-vals, (slice-vals, tt))))))),
+  )) (λ
+      κs. (
+        mut-slice-tells (named 0) (κs .0) u64,
+        (
+          mut-slice-tells (named 1) (κs .1 .0) u64,
+          (
+            (uint-tells w64),
+            (
+              (LL.tells mShapes.the-type
+                  lShapes.the-laws),
+              (
+                shr-slice-tells (named 2) (κs .1 .1 .0) mEntry.the-row,
+                (
+                  shr-slice-tells (named 3) (κs .1 .1 .1 .0) u64,
+                  (
+                    shr-slice-tells
+                        (named 4) (κs .1 .1 .1 .1 .0) u64,
+                    (shr-slice-tells (named 5) (κs .1 .1 .1 .1 .1 .0) u64, tt),
+                  ),
+                ),
+              ),
+            ),
+          ),
+        ),
+      ))
+      (λ κs qs bounds a g are. via 𝓤 _ (fst∗ 𝓤 _ (emp 𝓤)) (walk 𝓤 H A W mem run (κs .0) (κs .1 .0) (κs .1 .1 .0) (κs .1 .1 .1 .0) (κs .1 .1 .1 .1 .0)
+      (κs .1 .1 .1 .1 .1 .0) (qs .0) (qs .1 .0) (qs .1 .1 .0) (qs .1 .1 .1 .0) (qs .1 .1 .1 .1 .0) (qs .1 .1 .1 .1 .1 .0) (a .0 .ptr .0) (a .0
+      .ptr .1) (a .0 .name) (a .0 .now) (a .1 .0 .ptr .0) (a .1 .0 .ptr .1) (a .1 .0 .name) (a .1 .0 .now) (a .1 .1 .0) (only ((uint-vals w64) (a
+      .1 .1 .0))) (a .1 .1 .1 .0) (only ((LL.vals mShapes.the-type lShapes.the-laws) (a .1 .1 .1 .0))) (a .1 .1 .1 .1 .0) (a .1 .1 .1 .1 .1 .0)
+      (a .1 .1 .1 .1 .1 .1 .0) (a .1 .1 .1 .1 .1 .1 .1 .0) C Λ fm known-g1 known-g2 known-g3 (are .0 .0 .1) (are .1 .0 .0 .1) (are .1 .1 .0) (are
+      .1 .1 .1 .0) (are .1 .1 .1 .1 .0) (are .1 .1 .1 .1 .1 .0) (are .1 .1 .1 .1 .1 .1 .0) (are .1 .1 .1 .1 .1 .1 .1 .0)))
 
-  meets : (𝓣 : Tables 𝓤 H) → Triple 𝓤 (𝓣 .C #g1) (Callee-g1 𝓤 H A mem run) → Triple 𝓤 (𝓣 .C #g2) (Callee-g2 𝓤 H A mem run) → Triple 𝓤 (𝓣 .C #g3) (Callee-g3 𝓤 H A mem run) → Meets 𝓤 H A f.signature (WpFn 𝓤 H (𝓣 .C) (𝓣 .Λ) code.function) (f.spec 𝓤 H A mem run)
-  meets 𝓣 known-g1 known-g2 known-g3 = walk-meets 𝓤 H A f.ended stayed W (goes-slice 𝓤 H A W 6 0 tt (plain (λ _. u64)), (goes-slice 𝓤 H A W 6 1 tt (plain (λ _. u64)), (goes-none 𝓤 H A W 6 (λ _. u64) yes (λ κs x f. refl), (goes-none 𝓤 H A W 6 (λ _. mShapes.the-row) yes (λ κs x f. refl), (goes-none-slice 𝓤 H A W 6 (2 ∷ []) tt (plain (λ _. mEntry.the-row)) yes, (goes-none-slice 𝓤 H A W 6 (3 ∷ []) tt (plain (λ _. u64)) yes, (goes-none-slice 𝓤 H A W 6 (4 ∷ []) tt (plain (λ _. u64)) yes, (goes-none-slice 𝓤 H A W 6 (5 ∷ []) tt (plain (λ _. u64)) yes, tt)))))))) (f.clauses 𝓤 H A mem run)
+  meets : (𝓣 : Tables 𝓤 H) → Triple 𝓤 (𝓣 .C #g1) (Callee-g1 𝓤 H A mem run) → Triple 𝓤 (𝓣 .C #g2) (Callee-g2 𝓤 H A mem run) → Triple 𝓤 (𝓣 .C #g3)
+      (Callee-g3 𝓤 H A mem run) → Meets 𝓤 H A f.signature (WpFn 𝓤 H (𝓣 .C) (𝓣 .Λ) code.function) (f.spec 𝓤 H A mem run)
+  meets 𝓣 known-g1 known-g2 known-g3 = walk-meets 𝓤 H A f.ended stayed W (
+    goes-slice 𝓤 H A W 6 0 tt (plain (λ _. u64)),
+    (
+      goes-slice 𝓤 H A W 6 1 tt
+          (plain (λ _. u64)),
+      (
+        goes-none 𝓤 H A W 6 (λ _. u64) yes (λ κs x f. refl),
+        (
+          goes-none 𝓤 H A W 6 (λ _. mShapes.the-row) yes (λ κs x f. refl),
+          (
+            goes-none-slice 𝓤 H A W 6 (2 ∷ []) tt (plain (λ _. mEntry.the-row)) yes,
+            (
+              goes-none-slice 𝓤 H A W 6 (3 ∷ []) tt (plain (λ _. u64)) yes,
+              (goes-none-slice 𝓤 H A W 6 (4 ∷ []) tt (plain (λ _. u64)) yes, (goes-none-slice 𝓤 H A W 6 (5 ∷ []) tt (plain (λ _. u64)) yes, tt)),
+            ),
+          ),
+        ),
+      ),
+    ),
+  )
+      (f.clauses 𝓤 H A mem run)
       (WpFn 𝓤 H (𝓣 .C) (𝓣 .Λ) code.function) (WpFn-mono 𝓤 H (W .laws) 𝓣 code.function) (walks (𝓣 .C) (𝓣 .Λ) (fmOf 𝓤 H (W .laws) 𝓣) known-g1 known-g2 known-g3)
 
 pub build-m-combo-spec : {M : Type 1} → stated.statement M
@@ -253,6 +856,6 @@ build-m-combo-spec 𝓤 H 𝓜 𝓖 𝓡 =
     entered 𝓤 H (tripleOf 𝓤 H (𝓖 .A) f.signature (f.spec 𝓤 H (𝓖 .A) (𝓜 .mem) (𝓡 .run)))
     (tables 𝓤 H 𝓜 𝓡 code.env .C) (tables 𝓤 H 𝓜 𝓡 code.env .Λ) #f code.function (code.unfolded 𝓤 H 𝓜 𝓡)
     (meets 𝓤 H (𝓖 .A) (givenOf 𝓤 H 𝓜 𝓖) (𝓜 .mem) (𝓡 .run) (tablesOf 𝓤 H 𝓜 (tables 𝓤 H 𝓜 𝓡 code.env))
-    (cited 𝓤 H (Callee-g1 𝓤 H (𝓖 .A) (𝓜 .mem) (𝓡 .run)) 𝓜 𝓡 code.env #g1 g1-def.routine code.calls-magnetar-inplace·walks·rules-refusal (g1-thm.met 𝓤 H 𝓜 𝓖 𝓡))
+    (cited 𝓤 H (Callee-g1 𝓤 H (𝓖 .A) (𝓜 .mem) (𝓡 .run)) 𝓜 𝓡 code.env #g1 g1-def.routine code.calls-magnetar-records·walks·rules-refusal (g1-thm.met 𝓤 H 𝓜 𝓖 𝓡))
     (cited 𝓤 H (Callee-g2 𝓤 H (𝓖 .A) (𝓜 .mem) (𝓡 .run)) 𝓜 𝓡 code.env #g2 g2-def.routine code.calls-magnetar-batch·table·refusal (g2-thm.met 𝓤 H 𝓜 𝓖 𝓡))
     (cited 𝓤 H (Callee-g3 𝓤 H (𝓖 .A) (𝓜 .mem) (𝓡 .run)) 𝓜 𝓡 code.env #g3 g3-def.routine code.calls-magnetar-batch·combo-records·fill-unless (g3-thm.met 𝓤 H 𝓜 𝓖 𝓡)))

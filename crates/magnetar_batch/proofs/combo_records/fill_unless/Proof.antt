@@ -48,15 +48,15 @@ use denote.Exit.{yes}
 use Rattle.magnetar_relation.specs.declared.shapes.Shapes.{Shapes}
 use Rattle.magnetar_relation.proofs.shapes.Shapes as mShapes
 use Rattle.magnetar_relation.proofs.shapes.Shapes.Laws as lShapes
-use Rattle.magnetar_inplace.specs.declared.records.Entry.{Entry}
-use Rattle.magnetar_inplace.proofs.records.Entry as mEntry
-use Rattle.magnetar_inplace.proofs.records.Entry.Laws as lEntry
+use Rattle.magnetar_records.specs.declared.records.Entry.{Entry}
+use Rattle.magnetar_records.proofs.records.Entry as mEntry
+use Rattle.magnetar_records.proofs.records.Entry.Laws as lEntry
 use Rattle.magnetar_transcript.proofs.Locals.{tidy, bare, kept, dies, alloc, hide, free-all}
 use Rattle.magnetar_transcript.proofs.Again.{LentAgain, lends-again, comes-back}
-use Rattle.magnetar_inplace.proofs.steps.is_none as g1
-use Rattle.magnetar_inplace.proofs.steps.is_none.Symbol as g1-def
-use Rattle.magnetar_inplace.proofs.steps.is_none.Symbol.{name as #g1}
-use Rattle.magnetar_inplace.proofs.steps.is_none.Met as g1-thm
+use Rattle.magnetar_records.proofs.steps.is_none as g1
+use Rattle.magnetar_records.proofs.steps.is_none.Symbol as g1-def
+use Rattle.magnetar_records.proofs.steps.is_none.Symbol.{name as #g1}
+use Rattle.magnetar_records.proofs.steps.is_none.Met as g1-thm
 use Rattle.magnetar_batch.proofs.combo_records.fill as g2
 use Rattle.magnetar_batch.proofs.combo_records.fill.Symbol as g2-def
 use Rattle.magnetar_batch.proofs.combo_records.fill.Symbol.{name as #g2}
@@ -79,7 +79,30 @@ is-no true a = absurd a
 is-no false _ = refl
 
 abbrev stayed : Stays (f.ended .signature .params) (f.ended .kept)
-stayed = (stay-none (λ _. u32) yes, (stay-slice (0 ∷ []) tt (plain (λ _. u64)), (stay-slice (1 ∷ []) tt (plain (λ _. u64)), (stay-none (λ _. u64) yes, (stay-none (λ _. mShapes.the-row) yes, (stay-none-slice (2 ∷ []) tt (plain (λ _. mEntry.the-row)) yes, (stay-none-slice (3 ∷ []) tt (plain (λ _. u64)) yes, (stay-none-slice (4 ∷ []) tt (plain (λ _. u64)) yes, (stay-none-slice (5 ∷ []) tt (plain (λ _. u64)) yes, tt)))))))))
+stayed = (
+  stay-none (λ _. u32) yes,
+  (
+    stay-slice (0 ∷ []) tt (plain (λ _. u64)),
+    (
+      stay-slice (1 ∷ []) tt (plain (λ _. u64)),
+      (
+        stay-none (λ _. u64)
+            yes,
+        (
+          stay-none (λ _. mShapes.the-row) yes,
+          (
+            stay-none-slice (2 ∷ []) tt (plain (λ _. mEntry.the-row)) yes,
+            (
+              stay-none-slice (3 ∷ []) tt (plain
+                  (λ _. u64)) yes,
+              (stay-none-slice (4 ∷ []) tt (plain (λ _. u64)) yes, (stay-none-slice (5 ∷ []) tt (plain (λ _. u64)) yes, tt)),
+            ),
+          ),
+        ),
+      ),
+    ),
+  ),
+)
 
 abbrev Callee-g1 : {M : Type 1} (𝓤 : URA M) (H : Heap 𝓤) (A : Atoms 𝓤) (mem : Memory → SProp 𝓤) (run : Routine → Fun 𝓤) → Contract 𝓤
 Callee-g1 𝓤 H A mem run = tripleOf 𝓤 H A g1.signature (g1.spec 𝓤 H A mem run)
@@ -87,7 +110,9 @@ Callee-g1 𝓤 H A mem run = tripleOf 𝓤 H A g1.signature (g1.spec 𝓤 H A me
 abbrev Callee-g2 : {M : Type 1} (𝓤 : URA M) (H : Heap 𝓤) (A : Atoms 𝓤) (mem : Memory → SProp 𝓤) (run : Routine → Fun 𝓤) → Contract 𝓤
 Callee-g2 𝓤 H A mem run = tripleOf 𝓤 H A g2.signature (g2.spec 𝓤 H A mem run)
 
-module _ {M : Type 1} (𝓤 : URA M) (H : Heap 𝓤) (A : Atoms 𝓤) (W : Given 𝓤 H A) (at-mem : Memory → SProp 𝓤) (run : Routine → Fun 𝓤) (κ₀ κ₁ κ₂ κ₃ κ₄ κ₅ : Lft) (q₀ q₁ q₂ q₃ q₄ q₅ : Share) (n1 : ℕ) (u1 : Val) (b2 o2 : ℕ) (γ2 : GName) (ys2 : List ℕ) (b3 o3 : ℕ) (γ3 : GName) (ys3 : List ℕ) (n4 : ℕ) (u4 : Val) (n5 : Shapes) (u5 : Val) (s6 : RefT (List Entry)) (s7 : RefT (List ℕ)) (s8 : RefT (List ℕ)) (s9 : RefT (List ℕ)) where
+module _ {M : Type 1} (𝓤 : URA M) (H : Heap 𝓤) (A : Atoms 𝓤) (W : Given 𝓤 H A) (at-mem : Memory → SProp 𝓤) (run : Routine → Fun 𝓤) (κ₀ κ₁ κ₂ κ₃ κ₄ κ₅
+    : Lft) (q₀ q₁ q₂ q₃ q₄ q₅ : Share) (n1 : ℕ) (u1 : Val) (b2 o2 : ℕ) (γ2 : GName) (ys2 : List ℕ) (b3 o3 : ℕ) (γ3 : GName) (ys3 : List ℕ) (n4 : ℕ)
+    (u4 : Val) (n5 : Shapes) (u5 : Val) (s6 : RefT (List Entry)) (s7 : RefT (List ℕ)) (s8 : RefT (List ℕ)) (s9 : RefT (List ℕ)) where
   abbrev v1 : Val
   v1 = u1
 
@@ -103,9 +128,11 @@ module _ {M : Type 1} (𝓤 : URA M) (H : Heap 𝓤) (A : Atoms 𝓤) (W : Given
   abbrev Lent2 : ℕ → GName → List ℕ → Fml
   Lent2 ν δ l = LentAgain u64 κ₀ (ν ∷ []) q₀ γ2 b2 o2 δ l
 
-  lends2 : (ℓ : Lifetime) (ν : ℕ) (l : List ℕ) → length l ≡ length ys2 → ent 𝓤 (⋆ 𝓤 H A (‵ (O2 l) ∷ ‵ (flft κ₀ q₀) ∷ [])) (⋆ 𝓤 H A (later (some (λ (δ : GName). ‵ (MutSlice ℓ (ν ∷ []) u64 .own (ref2 δ l) (v2 ∷ [])) ⊛ ‵ (Lent2 ν δ l))) ∷ []))
+  lends2 : (ℓ : Lifetime) (ν : ℕ) (l : List ℕ) → length l ≡ length ys2 → ent 𝓤 (⋆ 𝓤 H A (‵ (O2 l) ∷ ‵ (flft κ₀ q₀) ∷ [])) (⋆ 𝓤 H A (later (some (λ (δ
+      : GName). ‵ (MutSlice ℓ (ν ∷ []) u64 .own (ref2 δ l) (v2 ∷ [])) ⊛ ‵ (Lent2 ν δ l))) ∷ []))
   lends2 ℓ ν l e = subst (λ (t : ℕ). ent 𝓤 (⋆ 𝓤 H A (‵ (MutSlice (named 0) κ₀ u64 .own (ref2 γ2 l) (sliceVal (b2, o2) t ∷ [])) ∷ ‵ (flft κ₀ q₀) ∷ []))
-      (⋆ 𝓤 H A (later (some (λ (δ : GName). ‵ (MutSlice ℓ (ν ∷ []) u64 .own (ref2 δ l) (sliceVal (b2, o2) t ∷ [])) ⊛ ‵ (Lent2 ν δ l))) ∷ []))) e (lends-again u64 κ₀ (ν ∷ []) q₀ γ2 b2 o2 𝓤 H A W (named 0) ℓ l)
+      (⋆ 𝓤 H A (later (some (λ (δ : GName). ‵ (MutSlice ℓ (ν ∷ []) u64 .own (ref2 δ l) (sliceVal (b2, o2) t ∷ [])) ⊛ ‵ (Lent2 ν δ l))) ∷ []))) e
+      (lends-again u64 κ₀ (ν ∷ []) q₀ γ2 b2 o2 𝓤 H A W (named 0) ℓ l)
 
   backs2 : (ℓ : Lifetime) (ν : ℕ) (δ : GName) (l l′ : List ℕ) → length l ≡ length ys2 → Room u64 (length ys2) → length l′ ≡ length l
       → ent 𝓤 (⋆ 𝓤 H A (‵ (fdead (ν ∷ [])) ∷ ‵ (Lent2 ν δ l) ∷ ‵ (finally u64 δ l′) ∷ [])) (⋆ 𝓤 H A (later (‵ (O2 l′) ⊛ ‵ (flft κ₀ q₀)) ∷ []))
@@ -125,9 +152,11 @@ module _ {M : Type 1} (𝓤 : URA M) (H : Heap 𝓤) (A : Atoms 𝓤) (W : Given
   abbrev Lent3 : ℕ → GName → List ℕ → Fml
   Lent3 ν δ l = LentAgain u64 κ₁ (ν ∷ []) q₁ γ3 b3 o3 δ l
 
-  lends3 : (ℓ : Lifetime) (ν : ℕ) (l : List ℕ) → length l ≡ length ys3 → ent 𝓤 (⋆ 𝓤 H A (‵ (O3 l) ∷ ‵ (flft κ₁ q₁) ∷ [])) (⋆ 𝓤 H A (later (some (λ (δ : GName). ‵ (MutSlice ℓ (ν ∷ []) u64 .own (ref3 δ l) (v3 ∷ [])) ⊛ ‵ (Lent3 ν δ l))) ∷ []))
+  lends3 : (ℓ : Lifetime) (ν : ℕ) (l : List ℕ) → length l ≡ length ys3 → ent 𝓤 (⋆ 𝓤 H A (‵ (O3 l) ∷ ‵ (flft κ₁ q₁) ∷ [])) (⋆ 𝓤 H A (later (some (λ (δ
+      : GName). ‵ (MutSlice ℓ (ν ∷ []) u64 .own (ref3 δ l) (v3 ∷ [])) ⊛ ‵ (Lent3 ν δ l))) ∷ []))
   lends3 ℓ ν l e = subst (λ (t : ℕ). ent 𝓤 (⋆ 𝓤 H A (‵ (MutSlice (named 1) κ₁ u64 .own (ref3 γ3 l) (sliceVal (b3, o3) t ∷ [])) ∷ ‵ (flft κ₁ q₁) ∷ []))
-      (⋆ 𝓤 H A (later (some (λ (δ : GName). ‵ (MutSlice ℓ (ν ∷ []) u64 .own (ref3 δ l) (sliceVal (b3, o3) t ∷ [])) ⊛ ‵ (Lent3 ν δ l))) ∷ []))) e (lends-again u64 κ₁ (ν ∷ []) q₁ γ3 b3 o3 𝓤 H A W (named 1) ℓ l)
+      (⋆ 𝓤 H A (later (some (λ (δ : GName). ‵ (MutSlice ℓ (ν ∷ []) u64 .own (ref3 δ l) (sliceVal (b3, o3) t ∷ [])) ⊛ ‵ (Lent3 ν δ l))) ∷ []))) e
+      (lends-again u64 κ₁ (ν ∷ []) q₁ γ3 b3 o3 𝓤 H A W (named 1) ℓ l)
 
   backs3 : (ℓ : Lifetime) (ν : ℕ) (δ : GName) (l l′ : List ℕ) → length l ≡ length ys3 → Room u64 (length ys3) → length l′ ≡ length l
       → ent 𝓤 (⋆ 𝓤 H A (‵ (fdead (ν ∷ [])) ∷ ‵ (Lent3 ν δ l) ∷ ‵ (finally u64 δ l′) ∷ [])) (⋆ 𝓤 H A (later (‵ (O3 l′) ⊛ ‵ (flft κ₁ q₁)) ∷ []))
@@ -177,54 +206,532 @@ module _ {M : Type 1} (𝓤 : URA M) (H : Heap 𝓤) (A : Atoms 𝓤) (W : Given
   abbrev Post : Val → SProp 𝓤
   Post = walkOf 𝓤 H A f.ended stayed (f.clauses 𝓤 H A at-mem run) .post (((κ₀, (κ₁, (κ₂, (κ₃, (κ₄, (κ₅, tt)))))), (q₀, (q₁, (q₂, (q₃, (q₄, (q₅, tt)))))), tt, a, at), tt)
 
-  module _ (C : Calls 𝓤 H) (Λ : Loops 𝓤 H) (fm : FmC 𝓤 H (W .laws) C) (known-g1 : Triple 𝓤 (C #g1) (Callee-g1 𝓤 H A at-mem run)) (known-g2 : Triple 𝓤 (C #g2) (Callee-g2 𝓤 H A at-mem run)) (w1 : Is u32 n1 (u1 ∷ [])) (room2 : Room u64 (length ys2)) (room3 : Room u64 (length ys3)) (w4 : Is u64 n4 (u4 ∷ [])) (w5 : Is mShapes.the-row n5 (u5 ∷ [])) (w6 : Is (ShrSlice (named 2) κ₂ mEntry.the-row) s6 (v6 ∷ [])) (w7 : Is (ShrSlice (named 3) κ₃ u64) s7 (v7 ∷ [])) (w8 : Is (ShrSlice (named 4) κ₄ u64) s8 (v8 ∷ [])) (w9 : Is (ShrSlice (named 5) κ₅ u64) s9 (v9 ∷ [])) where
-    walk : ent 𝓤 (onEntry 𝓤 H A f.signature (κ₀, (κ₁, (κ₂, (κ₃, (κ₄, (κ₅, tt)))))) (q₀, (q₁, (q₂, (q₃, (q₄, (q₅, tt)))))) a at) (WpFn 𝓤 H C Λ code.function (v1 ∷ v2 ∷ v3 ∷ v4 ∷ v5 ∷ v6 ∷ v7 ∷ v8 ∷ v9 ∷ []) Post)
+  module _ (C : Calls 𝓤 H) (Λ : Loops 𝓤 H) (fm : FmC 𝓤 H (W .laws) C) (known-g1 : Triple 𝓤 (C #g1) (Callee-g1 𝓤 H A at-mem run)) (known-g2 : Triple 𝓤
+      (C #g2) (Callee-g2 𝓤 H A at-mem run)) (w1 : Is u32 n1 (u1 ∷ [])) (room2 : Room u64 (length ys2)) (room3 : Room u64 (length ys3)) (w4 : Is u64
+      n4 (u4 ∷ [])) (w5 : Is mShapes.the-row n5 (u5 ∷ [])) (w6 : Is (ShrSlice (named 2) κ₂ mEntry.the-row) s6 (v6 ∷ [])) (w7 : Is (ShrSlice (named 3)
+      κ₃ u64) s7 (v7 ∷ [])) (w8 : Is (ShrSlice (named 4) κ₄ u64) s8 (v8 ∷ [])) (w9 : Is (ShrSlice (named 5) κ₅ u64) s9 (v9 ∷ [])) where
+    walk : ent 𝓤 (onEntry 𝓤 H A f.signature (κ₀, (κ₁, (κ₂, (κ₃, (κ₄, (κ₅, tt)))))) (q₀, (q₁, (q₂, (q₃, (q₄, (q₅, tt)))))) a at) (WpFn 𝓤 H C Λ
+        code.function (v1 ∷ v2 ∷ v3 ∷ v4 ∷ v5 ∷ v6 ∷ v7 ∷ v8 ∷ v9 ∷ []) Post)
     walk =
-        qed W ((‵ (flft κ₀ q₀) ⊛ ‵ (flft κ₁ q₁) ⊛ ‵ (flft κ₂ q₂) ⊛ ‵ (flft κ₃ q₃) ⊛ ‵ (flft κ₄ q₄) ⊛ ‵ (flft κ₅ q₅) ⊛ ‵ ftrue) ∷ ‵ (owns (u32 ∷ MutSlice (named 0) κ₀ u64 ∷ MutSlice (named 1) κ₁ u64 ∷ u64 ∷ mShapes.the-row ∷ ShrSlice (named 2) κ₂ mEntry.the-row ∷ ShrSlice (named 3) κ₃ u64 ∷ ShrSlice (named 4) κ₄ u64 ∷ ShrSlice (named 5) κ₅ u64 ∷ []) a at) ∷ []) ∵ enter ! C Λ code.function (v1 ∷ v2 ∷ v3 ∷ v4 ∷ v5 ∷ v6 ∷ v7 ∷ v8 ∷ v9 ∷ []) _ $
-        nothing ! $ alloc ! (λ l₀. alloc ! (λ l₁. alloc ! (λ l₂. alloc ! (λ l₃. alloc ! (λ l₄. alloc ! (λ l₅. alloc ! (λ l₆. alloc ! (λ l₇. alloc ! (λ l₈. alloc ! (λ l₉. alloc ! (λ l₁₀. alloc ! (λ l₁₁. alloc ! (λ l₁₂. alloc ! (λ l₁₃. alloc ! (λ l₁₄. alloc ! (λ l₁₅. alloc ! (λ l₁₆. alloc ! (λ l₁₇. alloc0 ! $ hide ! (λ died die. params1 ! $ pass1 ! (init ! 17 refl (uint-lawful 𝓤 H A W w32 .typed n1 _ w1 .0)) $ pass1 ! (init ! 16 refl (tt, (tt, (record { fits = room2 .0 }, tt)))) $ pass1 ! (init ! 15 refl (tt, (tt, (record { fits = room3 .0 }, tt)))) $ pass1 ! (init ! 14 refl (uint-lawful 𝓤 H A W w64 .typed n4 _ w4 .0)) $ pass1 ! (init ! 13 refl (LL.lawful mShapes.the-type lShapes.the-laws 𝓤 H A W .typed n5 _ w5 .0)) $ pass1 ! (init ! 12 refl (shr-slice-lawful 𝓤 H A W (named 2) κ₂ mEntry.the-row .typed s6 (v6 ∷ []) w6 .0)) $ pass1 ! (init ! 11 refl (shr-slice-lawful 𝓤 H A W (named 3) κ₃ u64 .typed s7 (v7 ∷ []) w7 .0)) $ pass1 ! (init ! 10 refl (shr-slice-lawful 𝓤 H A W (named 4) κ₄ u64 .typed s8 (v8 ∷ []) w8 .0)) $ pass1 ! (init ! 9 refl (shr-slice-lawful 𝓤 H A W (named 5) κ₅ u64 .typed s9 (v9 ∷ []) w9 .0)) $ pass0 ! $
-        move ! (20 ∷ []) $ fsplit ! $ move ! (1 ∷ []) $ fsplit ! $ move ! (1 ∷ []) $ fsplit ! $ move ! (1 ∷ []) $ fsplit ! $ move ! (1 ∷ []) $ fsplit ! $ move ! (1 ∷ []) $ fsplit ! $ move ! (1 ∷ []) $ fsplit ! $ move ! (1 ∷ []) $ fsplit ! $ move ! (1 ∷ []) $ fsplit ! $ move ! (1 ∷ []) $ drop ! $ move ! (28 ∷ []) $ split ! $ move ! (1 ∷ []) $ split ! $ move ! (1 ∷ []) $ split ! $ move ! (1 ∷ []) $ split ! $ move ! (1 ∷ []) $ split ! $ move ! (1 ∷ []) $ split ! $ move ! (1 ∷ []) $ drop ! $ tidy W (_ ∷ _ ∷ _ ∷ _ ∷ _ ∷ _ ∷ _ ∷ _ ∷ _ ∷ _ ∷ _ ∷ _ ∷ _ ∷ _ ∷ _ ∷ _ ∷ _ ∷ _ ∷ _ ∷ _ ∷ _ ∷ _ ∷ _ ∷ _ ∷ _ ∷ _ ∷ _ ∷ _ ∷ _ ∷ _ ∷ _ ∷ _ ∷ _ ∷ _ ∷ []) $
+        qed W ((‵ (flft κ₀ q₀) ⊛ ‵ (flft κ₁ q₁) ⊛ ‵ (flft κ₂ q₂) ⊛ ‵ (flft κ₃ q₃) ⊛ ‵ (flft κ₄ q₄) ⊛ ‵ (flft κ₅ q₅) ⊛ ‵ ftrue) ∷ ‵ (owns (u32 ∷
+        MutSlice (named 0) κ₀ u64 ∷ MutSlice (named 1) κ₁ u64 ∷ u64 ∷ mShapes.the-row ∷ ShrSlice (named 2) κ₂ mEntry.the-row ∷ ShrSlice (named 3)
+        κ₃ u64 ∷ ShrSlice (named 4) κ₄ u64 ∷ ShrSlice (named 5) κ₅ u64 ∷ []) a at) ∷ []) ∵ enter ! C Λ code.function (v1 ∷ v2 ∷ v3 ∷ v4 ∷ v5 ∷ v6
+        ∷ v7 ∷ v8 ∷ v9 ∷ []) _ $
+        nothing ! $ alloc ! (λ l₀. alloc ! (λ l₁. alloc ! (λ l₂. alloc ! (λ l₃. alloc ! (λ l₄. alloc ! (λ l₅. alloc ! (λ l₆. alloc ! (λ l₇. alloc !
+        (λ l₈. alloc ! (λ l₉. alloc ! (λ l₁₀. alloc ! (λ l₁₁. alloc ! (λ l₁₂. alloc ! (λ l₁₃. alloc ! (λ l₁₄. alloc ! (λ l₁₅. alloc ! (λ l₁₆.
+        alloc ! (λ l₁₇. alloc0 ! $ hide ! (λ died die. params1 ! $ pass1 ! (init ! 17 refl (uint-lawful 𝓤 H A W w32 .typed n1 _ w1 .0)) $ pass1 !
+        (init ! 16 refl (tt, (tt, (record { fits = room2 .0 }, tt)))) $ pass1 ! (init ! 15 refl (tt, (tt, (record { fits = room3 .0 }, tt)))) $
+        pass1 ! (init ! 14 refl (uint-lawful 𝓤 H A W w64 .typed n4 _ w4 .0)) $ pass1 ! (init ! 13 refl (LL.lawful mShapes.the-type
+        lShapes.the-laws 𝓤 H A W .typed n5 _ w5 .0)) $ pass1 ! (init ! 12 refl (shr-slice-lawful 𝓤 H A W (named 2) κ₂ mEntry.the-row .typed s6
+        (v6 ∷ []) w6 .0)) $ pass1 ! (init ! 11 refl (shr-slice-lawful 𝓤 H A W (named 3) κ₃ u64 .typed s7 (v7 ∷ []) w7 .0)) $ pass1 ! (init ! 10
+        refl (shr-slice-lawful 𝓤 H A W (named 4) κ₄ u64 .typed s8 (v8 ∷ []) w8 .0)) $ pass1 ! (init ! 9 refl (shr-slice-lawful 𝓤 H A W (named 5)
+        κ₅ u64 .typed s9 (v9 ∷ []) w9 .0)) $ pass0 ! $
+        move ! (20 ∷ []) $ fsplit ! $ move ! (1 ∷ []) $ fsplit ! $ move ! (1 ∷ []) $ fsplit ! $ move ! (1 ∷ []) $ fsplit ! $ move ! (1 ∷ []) $ fsplit
+        ! $ move ! (1 ∷ []) $ fsplit ! $ move ! (1 ∷ []) $ fsplit ! $ move ! (1 ∷ []) $ fsplit ! $ move ! (1 ∷ []) $ fsplit ! $ move ! (1 ∷ []) $
+        drop ! $ move ! (28 ∷ []) $ split ! $ move ! (1 ∷ []) $ split ! $ move ! (1 ∷ []) $ split ! $ move ! (1 ∷ []) $ split ! $ move ! (1 ∷ [])
+        $ split ! $ move ! (1 ∷ []) $ split ! $ move ! (1 ∷ []) $ drop ! $ tidy W (_ ∷ _ ∷ _ ∷ _ ∷ _ ∷ _ ∷ _ ∷ _ ∷ _ ∷ _ ∷ _ ∷ _ ∷ _ ∷ _ ∷ _ ∷ _
+        ∷ _ ∷ _ ∷ _ ∷ _ ∷ _ ∷ _ ∷ _ ∷ _ ∷ _ ∷ _ ∷ _ ∷ _ ∷ _ ∷ _ ∷ _ ∷ _ ∷ _ ∷ _ ∷ []) $
         tidy W (_ ∷ _ ∷ _ ∷ _ ∷ _ ∷ _ ∷ _ ∷ _ ∷ _ ∷ _ ∷ _ ∷ _ ∷ _ ∷ _ ∷ _ ∷ _ ∷ _ ∷ _ ∷ _ ∷ _ ∷ _ ∷ _ ∷ _ ∷ _ ∷ _ ∷ _ ∷ _ ∷ _ ∷ _ ∷ _ ∷ _ ∷ _ ∷ _ ∷ _ ∷ []) $ nothing ! $
         -- call 1
-        use1 W (raw (Callee-g1 𝓤 H A at-mem run .pre ((tt, tt, tt, (n1, tt), (u1 ∷ [], tt)), tt))) (qed W ((‵ ftrue) ∷ []) ∵ nothing ! $ owned ! u32 (Is u32) (uint-makes 𝓤 H A W w32) (n1) _ w1 $ fjoin ! $ move ! (1 ∷ 0 ∷ []) $ join ! $ nothing ! $ move ! (1 ∷ 0 ∷ []) $ frame ! $ done !) $
+        use1 W (raw (Callee-g1 𝓤 H A at-mem run .pre ((tt, tt, tt, (n1, tt), (u1 ∷ [], tt)), tt))) (qed W ((‵ ftrue) ∷ []) ∵ nothing ! $ owned ! u32
+        (Is u32) (uint-makes 𝓤 H A W w32) (n1) _ w1 $ fjoin ! $ move ! (1 ∷ 0 ∷ []) $ join ! $ nothing ! $ move ! (1 ∷ 0 ∷ []) $ frame ! $ done
+        !) $
         calls-at ! fm (Callee-g1 𝓤 H A at-mem run) known-g1 ((tt, tt, tt, (n1, tt), (u1 ∷ [], tt)), tt) (and-then ! (load ! (from ! (stop !)) (look ! 33 refl)) (no-more !)) (λ z1.
-        use1 W (later (some (λ (r1 : Bool). ((‵ ftrue) ⊛ ‵ (bool .own r1 (z1 ∷ []))) ⊛ some (λ (ws : Lasts g1.ended tt (n1, tt)). ‵ (lasts g1.ended tt (n1, tt) ws) ⊛ raw (g1.clauses 𝓤 H A at-mem run tt (n1, tt) .ensures tt r1 (atExit g1.ended tt (n1, tt) ws)))))) (id⊢ 𝓤 _) $ await ! tt $ pick ! (λ r1. split ! $ move ! (1 ∷ []) $ pick ! (λ ws1. split ! $ move ! (1 ∷ []) $ heard ! _ (λ e1.
+        use1 W (later (some (λ (r1 : Bool). ((‵ ftrue) ⊛ ‵ (bool .own r1 (z1 ∷ []))) ⊛ some (λ (ws : Lasts g1.ended tt (n1, tt)). ‵ (lasts g1.ended
+        tt (n1, tt) ws) ⊛ raw (g1.clauses 𝓤 H A at-mem run tt (n1, tt) .ensures tt r1 (atExit g1.ended tt (n1, tt) ws)))))) (id⊢ 𝓤 _) $ await !
+        tt $ pick ! (λ r1. split ! $ move ! (1 ∷ []) $ pick ! (λ ws1. split ! $ move ! (1 ∷ []) $ heard ! _ (λ e1.
         drop ! $ split ! $ move ! (1 ∷ []) $ peeks ! bool (Is bool) (shows 𝓤 H A bool) r1 (z1 ∷ []) (λ i1. drop ! $ land ! (from ! (stop !)) (init ! 24 refl (bool-lawful 𝓤 H A W .typed r1 _ i1 .0)) $
-        tidy W (_ ∷ _ ∷ _ ∷ _ ∷ _ ∷ _ ∷ _ ∷ _ ∷ _ ∷ _ ∷ _ ∷ _ ∷ _ ∷ _ ∷ _ ∷ _ ∷ _ ∷ _ ∷ _ ∷ _ ∷ _ ∷ _ ∷ _ ∷ _ ∷ _ ∷ _ ∷ _ ∷ _ ∷ _ ∷ _ ∷ _ ∷ _ ∷ _ ∷ _ ∷ _ ∷ []) $ drop ! $ assigns ! (of-opd ! (load ! (from ! (stop !)) (look ! 23 refl))) (from ! (stop !)) (init ! 22 refl (bool-lawful 𝓤 H A W .typed r1 _ i1 .0)) $
+        tidy W (_ ∷ _ ∷ _ ∷ _ ∷ _ ∷ _ ∷ _ ∷ _ ∷ _ ∷ _ ∷ _ ∷ _ ∷ _ ∷ _ ∷ _ ∷ _ ∷ _ ∷ _ ∷ _ ∷ _ ∷ _ ∷ _ ∷ _ ∷ _ ∷ _ ∷ _ ∷ _ ∷ _ ∷ _ ∷ _ ∷ _ ∷ _ ∷ _ ∷ _
+        ∷ _ ∷ []) $ drop ! $ assigns ! (of-opd ! (load ! (from ! (stop !)) (look ! 23 refl))) (from ! (stop !)) (init ! 22 refl (bool-lawful 𝓤 H
+        A W .typed r1 _ i1 .0)) $
         rewrite ! 22 (λ (w : Val). ‵ (fat fullShare tyBool l₁₁ 0 w)) (ap only i1) refl $ first ! $ branches ! (load ! (from ! (stop !)) (look ! 22 refl))
         (λ y1. let b1 : r1 ≡ true = is-yes (r1) y1 in assigns ! (addr ! (from ! (fld ! refl (hop ! (look-in ! 31 (sub ! 0 refl (whole !))) (stop !))))) (from ! (stop !)) (init ! 19 refl (tt, tt)) $
-        assigns ! (agg ! (and-then ! (load ! (from ! (stop !)) (look ! 19 refl)) (and-then ! (load ! (from ! (fld ! refl (stop !))) (look-in ! 31 (sub ! 1 refl (whole !)))) (no-more !)))) (from ! (stop !)) (init ! 18 refl (tt, (tt, (record { fits = room2 .0 }, tt)))) $
+        assigns ! (agg ! (and-then ! (load ! (from ! (stop !)) (look ! 19 refl)) (and-then ! (load ! (from ! (fld ! refl (stop !))) (look-in ! 31
+        (sub ! 1 refl (whole !)))) (no-more !)))) (from ! (stop !)) (init ! 18 refl (tt, (tt, (record { fits = room2 .0 }, tt)))) $
         assigns ! (addr ! (from ! (fld ! refl (hop ! (look-in ! 30 (sub ! 0 refl (whole !))) (stop !))))) (from ! (stop !)) (init ! 17 refl (tt, tt)) $
-        assigns ! (agg ! (and-then ! (load ! (from ! (stop !)) (look ! 17 refl)) (and-then ! (load ! (from ! (fld ! refl (stop !))) (look-in ! 30 (sub ! 1 refl (whole !)))) (no-more !)))) (from ! (stop !)) (init ! 16 refl (tt, (tt, (record { fits = room3 .0 }, tt)))) $
-        lft-new ! tt (λ ν2a. move ! (14 ∷ 6 ∷ []) $ use2 W (later (some (λ (δ : GName). ‵ (MutSlice (named 0) (ν2a ∷ []) u64 .own (ref2 δ (ys2)) (v2 ∷ [])) ⊛ ‵ (Lent2 ν2a δ (ys2))))) (lends2 (named 0) ν2a (ys2) (refl)) $ await ! tt $ pick ! (λ δ2a. split ! $
-        lft-new ! tt (λ ν2b. move ! (15 ∷ 8 ∷ []) $ use2 W (later (some (λ (δ : GName). ‵ (MutSlice (named 1) (ν2b ∷ []) u64 .own (ref3 δ (ys3)) (v3 ∷ [])) ⊛ ‵ (Lent3 ν2b δ (ys3))))) (lends3 (named 1) ν2b (ys3) (refl)) $ await ! tt $ pick ! (λ δ2b. split ! $ move ! (13 ∷ []) $ use1 W (‵ (O6) ⊛ ‵ (O6)) (shr-slice-copy 𝓤 H A W (named 2) κ₂ mEntry.the-row .twice s6 (v6 ∷ [])) $ split ! $ move ! (14 ∷ []) $ use1 W (‵ (O7) ⊛ ‵ (O7)) (shr-slice-copy 𝓤 H A W (named 3) κ₃ u64 .twice s7 (v7 ∷ [])) $ split ! $ move ! (15 ∷ []) $ use1 W (‵ (O8) ⊛ ‵ (O8)) (shr-slice-copy 𝓤 H A W (named 4) κ₄ u64 .twice s8 (v8 ∷ [])) $ split ! $ move ! (16 ∷ []) $ use1 W (‵ (O9) ⊛ ‵ (O9)) (shr-slice-copy 𝓤 H A W (named 5) κ₅ u64 .twice s9 (v9 ∷ [])) $ split ! $ tidy W (_ ∷ _ ∷ _ ∷ _ ∷ _ ∷ _ ∷ _ ∷ _ ∷ _ ∷ _ ∷ _ ∷ _ ∷ _ ∷ _ ∷ _ ∷ _ ∷ _ ∷ _ ∷ _ ∷ _ ∷ _ ∷ _ ∷ _ ∷ _ ∷ _ ∷ _ ∷ _ ∷ _ ∷ _ ∷ _ ∷ _ ∷ _ ∷ _ ∷ _ ∷ _ ∷ _ ∷ _ ∷ _ ∷ _ ∷ _ ∷ []) $ nothing ! $ move ! (15 ∷ 0 ∷ []) $ join ! $ move ! (15 ∷ 0 ∷ []) $ join ! $ move ! (15 ∷ 0 ∷ []) $ join ! $ move ! (15 ∷ 0 ∷ []) $ join ! $ move ! (11 ∷ 0 ∷ []) $ join ! $ move ! (13 ∷ 0 ∷ []) $ join ! $ move ! (3 ∷ 1 ∷ []) $ join ! $ move ! (4 ∷ 0 ∷ []) $ join ! $ move ! (5 ∷ 0 ∷ []) $ join ! $ move ! (6 ∷ 0 ∷ []) $ join ! $ move ! (7 ∷ 0 ∷ []) $ join ! $ move ! (1 ∷ 0 ∷ []) $ join ! $
+        assigns ! (agg ! (and-then ! (load ! (from ! (stop !)) (look ! 17 refl)) (and-then ! (load ! (from ! (fld ! refl (stop !))) (look-in ! 30
+        (sub ! 1 refl (whole !)))) (no-more !)))) (from ! (stop !)) (init ! 16 refl (tt, (tt, (record { fits = room3 .0 }, tt)))) $
+        lft-new ! tt (λ ν2a. move ! (14 ∷ 6 ∷ []) $ use2 W (later (some (λ (δ : GName). ‵ (MutSlice (named 0) (ν2a ∷ []) u64 .own (ref2 δ (ys2)) (v2
+        ∷ [])) ⊛ ‵ (Lent2 ν2a δ (ys2))))) (lends2 (named 0) ν2a (ys2) (refl)) $ await ! tt $ pick ! (λ δ2a. split ! $
+        lft-new ! tt (λ ν2b. move ! (15 ∷ 8 ∷ []) $ use2 W (later (some (λ (δ : GName). ‵ (MutSlice (named 1) (ν2b ∷ []) u64 .own (ref3 δ (ys3)) (v3
+        ∷ [])) ⊛ ‵ (Lent3 ν2b δ (ys3))))) (lends3 (named 1) ν2b (ys3) (refl)) $ await ! tt $ pick ! (λ δ2b. split ! $ move ! (13 ∷ []) $ use1 W
+        (‵ (O6) ⊛ ‵ (O6)) (shr-slice-copy 𝓤 H A W (named 2) κ₂ mEntry.the-row .twice s6 (v6 ∷ [])) $ split ! $ move ! (14 ∷ []) $ use1 W (‵ (O7)
+        ⊛ ‵ (O7)) (shr-slice-copy 𝓤 H A W (named 3) κ₃ u64 .twice s7 (v7 ∷ [])) $ split ! $ move ! (15 ∷ []) $ use1 W (‵ (O8) ⊛ ‵ (O8))
+        (shr-slice-copy 𝓤 H A W (named 4) κ₄ u64 .twice s8 (v8 ∷ [])) $ split ! $ move ! (16 ∷ []) $ use1 W (‵ (O9) ⊛ ‵ (O9)) (shr-slice-copy 𝓤 H
+        A W (named 5) κ₅ u64 .twice s9 (v9 ∷ [])) $ split ! $ tidy W (_ ∷ _ ∷ _ ∷ _ ∷ _ ∷ _ ∷ _ ∷ _ ∷ _ ∷ _ ∷ _ ∷ _ ∷ _ ∷ _ ∷ _ ∷ _ ∷ _ ∷ _ ∷ _ ∷
+        _ ∷ _ ∷ _ ∷ _ ∷ _ ∷ _ ∷ _ ∷ _ ∷ _ ∷ _ ∷ _ ∷ _ ∷ _ ∷ _ ∷ _ ∷ _ ∷ _ ∷ _ ∷ _ ∷ _ ∷ _ ∷ []) $ nothing ! $ move ! (15 ∷ 0 ∷ []) $ join ! $
+        move ! (15 ∷ 0 ∷ []) $ join ! $ move ! (15 ∷ 0 ∷ []) $ join ! $ move ! (15 ∷ 0 ∷ []) $ join ! $ move ! (11 ∷ 0 ∷ []) $ join ! $ move !
+        (13 ∷ 0 ∷ []) $ join ! $ move ! (3 ∷ 1 ∷ []) $ join ! $ move ! (4 ∷ 0 ∷ []) $ join ! $ move ! (5 ∷ 0 ∷ []) $ join ! $ move ! (6 ∷ 0 ∷ [])
+        $ join ! $ move ! (7 ∷ 0 ∷ []) $ join ! $ move ! (1 ∷ 0 ∷ []) $ join ! $
         -- call 2
-        use1 W (raw (Callee-g2 𝓤 H A at-mem run .pre ((((ν2a ∷ []), ((ν2b ∷ []), (κ₂, (κ₃, (κ₄, (κ₅, tt)))))), (fullShare, (fullShare, (q₂, (q₃, (q₄, (q₅, tt)))))), tt, (ref2 δ2a (ys2), (ref3 δ2b (ys3), (n4, (n5, (s6, (s7, (s8, (s9, tt)))))))), (v2 ∷ [], (v3 ∷ [], (u4 ∷ [], (u5 ∷ [], (v6 ∷ [], (v7 ∷ [], (v8 ∷ [], (v9 ∷ [], tt))))))))), tt))) (qed W ((‵ (flft (ν2a ∷ []) fullShare) ⊛ ‵ (flft (ν2b ∷ []) fullShare) ⊛ ‵ (flft κ₂ q₂) ⊛ ‵ (flft κ₃ q₃) ⊛ ‵ (flft κ₄ q₄) ⊛ ‵ (flft κ₅ q₅) ⊛ ‵ ftrue) ∷ ‵ (MutSlice (named 0) (ν2a ∷ []) u64 .own (ref2 δ2a (ys2)) (v2 ∷ [])) ∷ ‵ (MutSlice (named 1) (ν2b ∷ []) u64 .own (ref3 δ2b (ys3)) (v3 ∷ [])) ∷ ‵ (ShrSlice (named 2) κ₂ mEntry.the-row .own s6 (v6 ∷ [])) ∷ ‵ (ShrSlice (named 3) κ₃ u64 .own s7 (v7 ∷ [])) ∷ ‵ (ShrSlice (named 4) κ₄ u64 .own s8 (v8 ∷ [])) ∷ ‵ (ShrSlice (named 5) κ₅ u64 .own s9 (v9 ∷ [])) ∷ []) ∵ nothing ! $ move ! (7 ∷ 0 ∷ []) $ fjoin ! $ move ! (6 ∷ 0 ∷ []) $ fjoin ! $ move ! (5 ∷ 0 ∷ []) $ fjoin ! $ move ! (4 ∷ 0 ∷ []) $ fjoin ! $ owned ! mShapes.the-row (Is mShapes.the-row) (LL.makes mShapes.the-type lShapes.the-plain 𝓤 H A) (n5) _ w5 $ fjoin ! $ owned ! u64 (Is u64) (uint-makes 𝓤 H A W w64) (n4) _ w4 $ fjoin ! $ move ! (3 ∷ 0 ∷ []) $ fjoin ! $ move ! (2 ∷ 0 ∷ []) $ fjoin ! $ move ! (1 ∷ 0 ∷ []) $ join ! $ nothing ! $ move ! (1 ∷ 0 ∷ []) $ frame ! $ done !) $
-        calls-at ! fm (Callee-g2 𝓤 H A at-mem run) known-g2 ((((ν2a ∷ []), ((ν2b ∷ []), (κ₂, (κ₃, (κ₄, (κ₅, tt)))))), (fullShare, (fullShare, (q₂, (q₃, (q₄, (q₅, tt)))))), tt, (ref2 δ2a (ys2), (ref3 δ2b (ys3), (n4, (n5, (s6, (s7, (s8, (s9, tt)))))))), (v2 ∷ [], (v3 ∷ [], (u4 ∷ [], (u5 ∷ [], (v6 ∷ [], (v7 ∷ [], (v8 ∷ [], (v9 ∷ [], tt))))))))), tt) (and-then ! (load ! (from ! (stop !)) (look ! 13 refl)) (and-then ! (load ! (from ! (stop !)) (look ! 11 refl)) (and-then ! (load ! (from ! (stop !)) (look ! 24 refl)) (and-then ! (load ! (from ! (stop !)) (look ! 23 refl)) (and-then ! (load ! (from ! (stop !)) (look ! 22 refl)) (and-then ! (load ! (from ! (stop !)) (look ! 21 refl)) (and-then ! (load ! (from ! (stop !)) (look ! 20 refl)) (and-then ! (load ! (from ! (stop !)) (look ! 19 refl)) (no-more !))))))))) (λ z2.
-        use1 W (later (some (λ (r2 : Unit {0}). ((‵ (flft (ν2a ∷ []) fullShare) ⊛ ‵ (flft (ν2b ∷ []) fullShare) ⊛ ‵ (flft κ₂ q₂) ⊛ ‵ (flft κ₃ q₃) ⊛ ‵ (flft κ₄ q₄) ⊛ ‵ (flft κ₅ q₅) ⊛ ‵ ftrue) ⊛ ‵ (unit .own r2 (z2 ∷ []))) ⊛ some (λ (ws : Lasts g2.ended ((ν2a ∷ []), ((ν2b ∷ []), (κ₂, (κ₃, (κ₄, (κ₅, tt)))))) (ref2 δ2a (ys2), (ref3 δ2b (ys3), (n4, (n5, (s6, (s7, (s8, (s9, tt))))))))). ‵ (lasts g2.ended ((ν2a ∷ []), ((ν2b ∷ []), (κ₂, (κ₃, (κ₄, (κ₅, tt)))))) (ref2 δ2a (ys2), (ref3 δ2b (ys3), (n4, (n5, (s6, (s7, (s8, (s9, tt)))))))) ws) ⊛ raw (g2.clauses 𝓤 H A at-mem run ((ν2a ∷ []), ((ν2b ∷ []), (κ₂, (κ₃, (κ₄, (κ₅, tt)))))) (ref2 δ2a (ys2), (ref3 δ2b (ys3), (n4, (n5, (s6, (s7, (s8, (s9, tt)))))))) .ensures tt r2 (atExit g2.ended ((ν2a ∷ []), ((ν2b ∷ []), (κ₂, (κ₃, (κ₄, (κ₅, tt)))))) (ref2 δ2a (ys2), (ref3 δ2b (ys3), (n4, (n5, (s6, (s7, (s8, (s9, tt)))))))) ws)))))) (id⊢ 𝓤 _) $ await ! tt $ pick ! (λ r2. split ! $ move ! (1 ∷ []) $ pick ! (λ ws2. split ! $ move ! (1 ∷ []) $ heard ! _ (λ e2.
-        fsplit ! $ fsplit ! $ move ! (1 ∷ []) $ feqL ! (λ same2a. move ! (1 ∷ []) $ fsplit ! $ fsplit ! $ move ! (1 ∷ []) $ feqL ! (λ same2b. move ! (1 ∷ []) $ drop ! $ move ! (2 ∷ []) $ split ! $ move ! (1 ∷ []) $ feqL ! (λ i2. land ! (from ! (stop !)) (init ! 17 refl (subst (λ (t : Val). Trueᴮ (hasTy tyUnit t) × WT t) (sym (ap only i2)) (tt, tt))) $
-        tidy W (_ ∷ _ ∷ _ ∷ _ ∷ _ ∷ _ ∷ _ ∷ _ ∷ _ ∷ _ ∷ _ ∷ _ ∷ _ ∷ _ ∷ _ ∷ _ ∷ _ ∷ _ ∷ _ ∷ _ ∷ _ ∷ _ ∷ _ ∷ _ ∷ _ ∷ _ ∷ _ ∷ _ ∷ _ ∷ _ ∷ _ ∷ []) $ split ! $ move ! (1 ∷ []) $ split ! $ move ! (1 ∷ []) $ split ! $ move ! (1 ∷ []) $ split ! $ move ! (1 ∷ []) $ split ! $ move ! (1 ∷ []) $ split ! $ move ! (1 ∷ []) $ drop ! $ move ! (5 ∷ []) $ lft-end ! tt $ move ! (0 ∷ 13 ∷ 7 ∷ []) $ use3 W (later (‵ (O2 (ws2 .0)) ⊛ ‵ (flft κ₀ q₀))) (backs2 (named 0) ν2a δ2a (ys2) (ws2 .0) (refl) room2 same2a) $ await ! tt $ split ! $
-        move ! (6 ∷ []) $ lft-end ! tt $ move ! (0 ∷ 12 ∷ 7 ∷ []) $ use3 W (later (‵ (O3 (ws2 .1 .0)) ⊛ ‵ (flft κ₁ q₁))) (backs3 (named 1) ν2b δ2b (ys3) (ws2 .1 .0) (refl) room3 same2b) $ await ! tt $ split ! $
+        use1 W (raw (Callee-g2 𝓤 H A at-mem run .pre (
+          (
+            ((ν2a ∷ []), ((ν2b ∷ []), (κ₂, (κ₃, (κ₄, (κ₅, tt)))))),
+            (
+              fullShare,
+              (
+                fullShare,
+                (
+                  q₂,
+                  (
+                    q₃,
+                    (
+                      q₄,
+                      (q₅, tt),
+                    ),
+                  ),
+                ),
+              ),
+            ),
+            tt,
+            (ref2 δ2a (ys2), (ref3 δ2b (ys3), (n4, (n5, (s6, (s7, (s8, (s9, tt)))))))),
+            (
+              v2 ∷ [],
+              (
+                v3 ∷ [],
+                (
+                  u4 ∷ [],
+                  (
+                    u5 ∷ [],
+                    (v6 ∷ [], (v7 ∷ [], (v8 ∷ [], (v9 ∷ [], tt)))),
+                  ),
+                ),
+              ),
+            ),
+          ),
+          tt,
+        ))) (qed W ((‵ (flft (ν2a ∷ []) fullShare) ⊛ ‵ (flft (ν2b ∷ []) fullShare) ⊛ ‵
+        (flft κ₂ q₂) ⊛ ‵ (flft κ₃ q₃) ⊛ ‵ (flft κ₄ q₄) ⊛ ‵ (flft κ₅ q₅) ⊛ ‵ ftrue) ∷ ‵ (MutSlice (named 0) (ν2a ∷ []) u64 .own (ref2 δ2a (ys2))
+        (v2 ∷ [])) ∷ ‵ (MutSlice (named 1) (ν2b ∷ []) u64 .own (ref3 δ2b (ys3)) (v3 ∷ [])) ∷ ‵ (ShrSlice (named 2) κ₂ mEntry.the-row .own s6 (v6
+        ∷ [])) ∷ ‵ (ShrSlice (named 3) κ₃ u64 .own s7 (v7 ∷ [])) ∷ ‵ (ShrSlice (named 4) κ₄ u64 .own s8 (v8 ∷ [])) ∷ ‵ (ShrSlice (named 5) κ₅ u64
+        .own s9 (v9 ∷ [])) ∷ []) ∵ nothing ! $ move ! (7 ∷ 0 ∷ []) $ fjoin ! $ move ! (6 ∷ 0 ∷ []) $ fjoin ! $ move ! (5 ∷ 0 ∷ []) $ fjoin ! $
+        move ! (4 ∷ 0 ∷ []) $ fjoin ! $ owned ! mShapes.the-row (Is mShapes.the-row) (LL.makes mShapes.the-type lShapes.the-plain 𝓤 H A) (n5) _
+        w5 $ fjoin ! $ owned ! u64 (Is u64) (uint-makes 𝓤 H A W w64) (n4) _ w4 $ fjoin ! $ move ! (3 ∷ 0 ∷ []) $ fjoin ! $ move ! (2 ∷ 0 ∷ []) $
+        fjoin ! $ move ! (1 ∷ 0 ∷ []) $ join ! $ nothing ! $ move ! (1 ∷ 0 ∷ []) $ frame ! $ done !) $
+        calls-at ! fm (Callee-g2 𝓤 H A at-mem run) known-g2 (
+          (
+            ((ν2a ∷ []), ((ν2b ∷ []), (κ₂, (κ₃, (κ₄, (κ₅, tt)))))),
+            (
+              fullShare,
+              (
+                fullShare,
+                (
+                  q₂,
+                  (q₃, (q₄, (q₅, tt))),
+                ),
+              ),
+            ),
+            tt,
+            (ref2 δ2a (ys2), (ref3 δ2b (ys3), (n4, (n5, (s6, (s7, (s8, (s9, tt)))))))),
+            (
+              v2 ∷ [],
+              (
+                v3 ∷ [],
+                (
+                  u4 ∷ [],
+                  (u5 ∷ [], (v6 ∷ [], (v7 ∷ [], (v8 ∷ [], (v9 ∷ [], tt))))),
+                ),
+              ),
+            ),
+          ),
+          tt,
+        ) (and-then ! (load ! (from ! (stop !)) (look ! 13 refl)) (and-then !
+        (load ! (from ! (stop !)) (look ! 11 refl)) (and-then ! (load ! (from ! (stop !)) (look ! 24 refl)) (and-then ! (load ! (from ! (stop !))
+        (look ! 23 refl)) (and-then ! (load ! (from ! (stop !)) (look ! 22 refl)) (and-then ! (load ! (from ! (stop !)) (look ! 21 refl))
+        (and-then ! (load ! (from ! (stop !)) (look ! 20 refl)) (and-then ! (load ! (from ! (stop !)) (look ! 19 refl)) (no-more !))))))))) (λ z2.
+        use1 W (later (some (λ (r2 : Unit {0}). ((‵ (flft (ν2a ∷ []) fullShare) ⊛ ‵ (flft (ν2b ∷ []) fullShare) ⊛ ‵ (flft κ₂ q₂) ⊛ ‵ (flft κ₃ q₃) ⊛ ‵
+        (flft κ₄ q₄) ⊛ ‵ (flft κ₅ q₅) ⊛ ‵ ftrue) ⊛ ‵ (unit .own r2 (z2 ∷ []))) ⊛ some (λ (ws : Lasts g2.ended (
+          (ν2a ∷ []),
+          (
+            (ν2b ∷ []),
+            (
+              κ₂,
+              (
+                κ₃,
+                (κ₄, (κ₅, tt)),
+              ),
+            ),
+          ),
+        ) (ref2 δ2a (ys2), (ref3 δ2b (ys3), (n4, (n5, (s6, (s7, (s8, (s9, tt))))))))). ‵ (lasts g2.ended (
+          (ν2a ∷ []),
+          (
+            (ν2b ∷
+                []),
+            (κ₂, (κ₃, (κ₄, (κ₅, tt)))),
+          ),
+        ) (ref2 δ2a (ys2), (ref3 δ2b (ys3), (n4, (n5, (s6, (s7, (s8, (s9, tt)))))))) ws) ⊛ raw (g2.clauses 𝓤 H A
+        at-mem run ((ν2a ∷ []), ((ν2b ∷ []), (κ₂, (κ₃, (κ₄, (κ₅, tt)))))) (
+          ref2 δ2a (ys2),
+          (
+            ref3 δ2b (ys3),
+            (
+              n4,
+              (
+                n5,
+                (
+                  s6,
+                  (
+                    s7,
+                    (
+                      s8,
+                      (
+                        s9,
+                        tt,
+                      ),
+                    ),
+                  ),
+                ),
+              ),
+            ),
+          ),
+        ) .ensures tt r2 (atExit g2.ended ((ν2a ∷ []), ((ν2b ∷ []), (κ₂, (κ₃, (κ₄, (κ₅, tt)))))) (
+          ref2 δ2a (ys2),
+          (
+            ref3 δ2b (ys3),
+            (
+              n4,
+              (n5, (s6, (s7, (s8, (s9, tt))))),
+            ),
+          ),
+        ) ws)))))) (id⊢ 𝓤 _) $ await ! tt $ pick ! (λ r2. split ! $ move ! (1 ∷ []) $ pick ! (λ ws2. split ! $
+        move ! (1 ∷ []) $ heard ! _ (λ e2.
+        fsplit ! $ fsplit ! $ move ! (1 ∷ []) $ feqL ! (λ same2a. move ! (1 ∷ []) $ fsplit ! $ fsplit ! $ move ! (1 ∷ []) $ feqL ! (λ same2b. move !
+        (1 ∷ []) $ drop ! $ move ! (2 ∷ []) $ split ! $ move ! (1 ∷ []) $ feqL ! (λ i2. land ! (from ! (stop !)) (init ! 17 refl (subst (λ (t :
+        Val). Trueᴮ (hasTy tyUnit t) × WT t) (sym (ap only i2)) (tt, tt))) $
+        tidy W (_ ∷ _ ∷ _ ∷ _ ∷ _ ∷ _ ∷ _ ∷ _ ∷ _ ∷ _ ∷ _ ∷ _ ∷ _ ∷ _ ∷ _ ∷ _ ∷ _ ∷ _ ∷ _ ∷ _ ∷ _ ∷ _ ∷ _ ∷ _ ∷ _ ∷ _ ∷ _ ∷ _ ∷ _ ∷ _ ∷ _ ∷ []) $
+        split ! $ move ! (1 ∷ []) $ split ! $ move ! (1 ∷ []) $ split ! $ move ! (1 ∷ []) $ split ! $ move ! (1 ∷ []) $ split ! $ move ! (1 ∷ [])
+        $ split ! $ move ! (1 ∷ []) $ drop ! $ move ! (5 ∷ []) $ lft-end ! tt $ move ! (0 ∷ 13 ∷ 7 ∷ []) $ use3 W (later (‵ (O2 (ws2 .0)) ⊛ ‵
+        (flft κ₀ q₀))) (backs2 (named 0) ν2a δ2a (ys2) (ws2 .0) (refl) room2 same2a) $ await ! tt $ split ! $
+        move ! (6 ∷ []) $ lft-end ! tt $ move ! (0 ∷ 12 ∷ 7 ∷ []) $ use3 W (later (‵ (O3 (ws2 .1 .0)) ⊛ ‵ (flft κ₁ q₁))) (backs3 (named 1) ν2b δ2b
+        (ys3) (ws2 .1 .0) (refl) room3 same2b) $ await ! tt $ split ! $
         assigns-last ! (of-opd ! (load ! (from ! (stop !)) (look ! 32 refl))) (from ! (stop !)) (init ! 21 refl (uint-lawful 𝓤 H A W w32 .typed n1 _ w1 .0)) $
-        exec ! C Λ ((tyInt w32, l₀) ∷ (tyInt w32, l₁) ∷ (sliceTy (tyRef (named 0) mut (tyInt w64)), l₂) ∷ (sliceTy (tyRef (named 1) mut (tyInt w64)), l₃) ∷ (tyInt w64, l₄) ∷ (lShapes.mir, l₅) ∷ (sliceTy (tyRef (named 2) imm (pointee (mEntry.the-row .written))), l₆) ∷ (sliceTy (tyRef (named 3) imm (tyInt w64)), l₇) ∷ (sliceTy (tyRef (named 4) imm (tyInt w64)), l₈) ∷ (sliceTy (tyRef (named 5) imm (tyInt w64)), l₉) ∷ (tyBool, l₁₀) ∷ (tyBool, l₁₁) ∷ (tyInt w32, l₁₂) ∷ (tyUnit, l₁₃) ∷ (tyRef erased mut (tyInt w64), l₁₄) ∷ (sliceTy (tyRef erased mut (tyInt w64)), l₁₅) ∷ (tyRef erased mut (tyInt w64), l₁₆) ∷ (sliceTy (tyRef erased mut (tyInt w64)), l₁₇) ∷ []) Mir.t-4 (atRet ((tyInt w32, l₀) ∷ (tyInt w32, l₁) ∷ (sliceTy (tyRef (named 0) mut (tyInt w64)), l₂) ∷ (sliceTy (tyRef (named 1) mut (tyInt w64)), l₃) ∷ (tyInt w64, l₄) ∷ (lShapes.mir, l₅) ∷ (sliceTy (tyRef (named 2) imm (pointee (mEntry.the-row .written))), l₆) ∷ (sliceTy (tyRef (named 3) imm (tyInt w64)), l₇) ∷ (sliceTy (tyRef (named 4) imm (tyInt w64)), l₈) ∷ (sliceTy (tyRef (named 5) imm (tyInt w64)), l₉) ∷ (tyBool, l₁₀) ∷ (tyBool, l₁₁) ∷ (tyInt w32, l₁₂) ∷ (tyUnit, l₁₃) ∷ (tyRef erased mut (tyInt w64), l₁₄) ∷ (sliceTy (tyRef erased mut (tyInt w64)), l₁₅) ∷ (tyRef erased mut (tyInt w64), l₁₆) ∷ (sliceTy (tyRef erased mut (tyInt w64)), l₁₇) ∷ []) Post) $
+        exec ! C Λ ((tyInt w32, l₀) ∷ (tyInt w32, l₁) ∷ (sliceTy (tyRef (named 0) mut (tyInt w64)), l₂) ∷ (
+          sliceTy (tyRef (named 1) mut (tyInt w64)),
+          l₃,
+        ) ∷ (tyInt w64, l₄) ∷ (lShapes.mir, l₅) ∷ (sliceTy (tyRef (named 2) imm (pointee (mEntry.the-row .written))), l₆) ∷ (
+          sliceTy (tyRef
+              (named 3) imm (tyInt w64)),
+          l₇,
+        ) ∷ (sliceTy (tyRef (named 4) imm (tyInt w64)), l₈) ∷ (sliceTy (tyRef (named 5) imm (tyInt w64)), l₉) ∷
+        (tyBool, l₁₀) ∷ (tyBool, l₁₁) ∷ (tyInt w32, l₁₂) ∷ (tyUnit, l₁₃) ∷ (tyRef erased mut (tyInt w64), l₁₄) ∷ (
+          sliceTy (tyRef erased mut
+              (tyInt w64)),
+          l₁₅,
+        ) ∷ (tyRef erased mut (tyInt w64), l₁₆) ∷ (sliceTy (tyRef erased mut (tyInt w64)), l₁₇) ∷ []) Mir.t-4 (atRet ((
+          tyInt
+              w32,
+          l₀,
+        ) ∷ (tyInt w32, l₁) ∷ (sliceTy (tyRef (named 0) mut (tyInt w64)), l₂) ∷ (sliceTy (tyRef (named 1) mut (tyInt w64)), l₃) ∷ (
+          tyInt
+              w64,
+          l₄,
+        ) ∷ (lShapes.mir, l₅) ∷ (sliceTy (tyRef (named 2) imm (pointee (mEntry.the-row .written))), l₆) ∷ (
+          sliceTy (tyRef (named 3) imm
+              (tyInt w64)),
+          l₇,
+        ) ∷ (sliceTy (tyRef (named 4) imm (tyInt w64)), l₈) ∷ (sliceTy (tyRef (named 5) imm (tyInt w64)), l₉) ∷ (tyBool, l₁₀) ∷
+        (tyBool, l₁₁) ∷ (tyInt w32, l₁₂) ∷ (tyUnit, l₁₃) ∷ (tyRef erased mut (tyInt w64), l₁₄) ∷ (sliceTy (tyRef erased mut (tyInt w64)), l₁₅) ∷
+        (tyRef erased mut (tyInt w64), l₁₆) ∷ (sliceTy (tyRef erased mut (tyInt w64)), l₁₇) ∷ []) Post) $
         assigns ! (of-opd ! (load ! (from ! (stop !)) (look ! 21 refl))) (from ! (stop !)) (init ! 33 refl (uint-lawful 𝓤 H A W w32 .typed n1 _ w1 .0)) $
-        tidy W (_ ∷ _ ∷ _ ∷ _ ∷ _ ∷ _ ∷ _ ∷ _ ∷ _ ∷ _ ∷ _ ∷ _ ∷ _ ∷ _ ∷ _ ∷ _ ∷ _ ∷ _ ∷ _ ∷ _ ∷ _ ∷ _ ∷ _ ∷ _ ∷ _ ∷ _ ∷ _ ∷ _ ∷ _ ∷ _ ∷ _ ∷ _ ∷ _ ∷ _ ∷ []) $ returns ! (look ! 33 refl) $ move ! (15 ∷ []) $ use1 W (dies ((tyInt w32, l₀) ∷ (tyInt w32, l₁) ∷ (sliceTy (tyRef (named 0) mut (tyInt w64)), l₂) ∷ (sliceTy (tyRef (named 1) mut (tyInt w64)), l₃) ∷ (tyInt w64, l₄) ∷ (lShapes.mir, l₅) ∷ (sliceTy (tyRef (named 2) imm (pointee (mEntry.the-row .written))), l₆) ∷ (sliceTy (tyRef (named 3) imm (tyInt w64)), l₇) ∷ (sliceTy (tyRef (named 4) imm (tyInt w64)), l₈) ∷ (sliceTy (tyRef (named 5) imm (tyInt w64)), l₉) ∷ (tyBool, l₁₀) ∷ (tyBool, l₁₁) ∷ (tyInt w32, l₁₂) ∷ (tyUnit, l₁₃) ∷ (tyRef erased mut (tyInt w64), l₁₄) ∷ (sliceTy (tyRef erased mut (tyInt w64)), l₁₅) ∷ (tyRef erased mut (tyInt w64), l₁₆) ∷ (sliceTy (tyRef erased mut (tyInt w64)), l₁₇) ∷ []) (‵ ftrue)) die $ free-all ! 15 ((tyInt w32, l₀) ∷ (tyInt w32, l₁) ∷ (sliceTy (tyRef (named 0) mut (tyInt w64)), l₂) ∷ (sliceTy (tyRef (named 1) mut (tyInt w64)), l₃) ∷ (tyInt w64, l₄) ∷ (lShapes.mir, l₅) ∷ (sliceTy (tyRef (named 2) imm (pointee (mEntry.the-row .written))), l₆) ∷ (sliceTy (tyRef (named 3) imm (tyInt w64)), l₇) ∷ (sliceTy (tyRef (named 4) imm (tyInt w64)), l₈) ∷ (sliceTy (tyRef (named 5) imm (tyInt w64)), l₉) ∷ (tyBool, l₁₀) ∷ (tyBool, l₁₁) ∷ (tyInt w32, l₁₂) ∷ (tyUnit, l₁₃) ∷ (tyRef erased mut (tyInt w64), l₁₄) ∷ (sliceTy (tyRef erased mut (tyInt w64)), l₁₅) ∷ (tyRef erased mut (tyInt w64), l₁₆) ∷ (sliceTy (tyRef erased mut (tyInt w64)), l₁₇) ∷ []) (kept _ ∷ kept _ ∷ kept _ ∷ kept _ ∷ kept _ ∷ kept _ ∷ kept _ ∷ kept _ ∷ kept _ ∷ kept _ ∷ kept _ ∷ kept _ ∷ kept _ ∷ kept _ ∷ kept _ ∷ kept _ ∷ kept _ ∷ kept _ ∷ []) refl $
-        suffices ! _ (ends-at 𝓤 H A f.ended stayed (f.clauses 𝓤 H A at-mem run) W (((κ₀, (κ₁, (κ₂, (κ₃, (κ₄, (κ₅, tt)))))), (q₀, (q₁, (q₂, (q₃, (q₄, (q₅, tt)))))), tt, a, at), tt) u1 n1 (tt, (ws2 .0, (ws2 .1 .0, (tt, (tt, (tt, (tt, (tt, (tt, tt))))))))) (tt, (same2a, (same2b, (tt, (tt, (tt, (tt, (tt, (tt, tt)))))))))) $ says ! ((refl, rw (← e1, b1) (e2 .0), rw (← e1, b1) (e2 .1))) $
-        nothing ! $ move ! (5 ∷ 0 ∷ []) $ join ! $ move ! (5 ∷ 0 ∷ []) $ join ! $ move ! (5 ∷ 0 ∷ []) $ join ! $ move ! (5 ∷ 0 ∷ []) $ join ! $ move ! (2 ∷ 0 ∷ []) $ join ! $ move ! (3 ∷ 0 ∷ []) $ join ! $ nothing ! $ move ! (4 ∷ 0 ∷ []) $ fjoin ! $ move ! (4 ∷ 0 ∷ []) $ fjoin ! $ move ! (4 ∷ 0 ∷ []) $ fjoin ! $ move ! (4 ∷ 0 ∷ []) $ fjoin ! $ move ! (4 ∷ 0 ∷ []) $ fjoin ! $ move ! (4 ∷ 0 ∷ []) $ fjoin ! $ move ! (2 ∷ 0 ∷ []) $ fjoin ! $ move ! (2 ∷ 0 ∷ []) $ fjoin ! $ move ! (2 ∷ 0 ∷ []) $ fjoin ! $ keep ! (1 ∷ 0 ∷ []) $ frame ! $ frame ! $ owned ! u32 (Is u32) (uint-makes 𝓤 H A W w32) n1 _ w1 $ done !))))))))))))
-        (λ y1. let b1 : r1 ≡ false = is-no (r1) y1 in assigns-last ! (of-opd ! (load ! (from ! (stop !)) (look ! 32 refl))) (from ! (stop !)) (init ! 21 refl (uint-lawful 𝓤 H A W w32 .typed n1 _ w1 .0)) $
-        exec ! C Λ ((tyInt w32, l₀) ∷ (tyInt w32, l₁) ∷ (sliceTy (tyRef (named 0) mut (tyInt w64)), l₂) ∷ (sliceTy (tyRef (named 1) mut (tyInt w64)), l₃) ∷ (tyInt w64, l₄) ∷ (lShapes.mir, l₅) ∷ (sliceTy (tyRef (named 2) imm (pointee (mEntry.the-row .written))), l₆) ∷ (sliceTy (tyRef (named 3) imm (tyInt w64)), l₇) ∷ (sliceTy (tyRef (named 4) imm (tyInt w64)), l₈) ∷ (sliceTy (tyRef (named 5) imm (tyInt w64)), l₉) ∷ (tyBool, l₁₀) ∷ (tyBool, l₁₁) ∷ (tyInt w32, l₁₂) ∷ (tyUnit, l₁₃) ∷ (tyRef erased mut (tyInt w64), l₁₄) ∷ (sliceTy (tyRef erased mut (tyInt w64)), l₁₅) ∷ (tyRef erased mut (tyInt w64), l₁₆) ∷ (sliceTy (tyRef erased mut (tyInt w64)), l₁₇) ∷ []) Mir.t-4 (atRet ((tyInt w32, l₀) ∷ (tyInt w32, l₁) ∷ (sliceTy (tyRef (named 0) mut (tyInt w64)), l₂) ∷ (sliceTy (tyRef (named 1) mut (tyInt w64)), l₃) ∷ (tyInt w64, l₄) ∷ (lShapes.mir, l₅) ∷ (sliceTy (tyRef (named 2) imm (pointee (mEntry.the-row .written))), l₆) ∷ (sliceTy (tyRef (named 3) imm (tyInt w64)), l₇) ∷ (sliceTy (tyRef (named 4) imm (tyInt w64)), l₈) ∷ (sliceTy (tyRef (named 5) imm (tyInt w64)), l₉) ∷ (tyBool, l₁₀) ∷ (tyBool, l₁₁) ∷ (tyInt w32, l₁₂) ∷ (tyUnit, l₁₃) ∷ (tyRef erased mut (tyInt w64), l₁₄) ∷ (sliceTy (tyRef erased mut (tyInt w64)), l₁₅) ∷ (tyRef erased mut (tyInt w64), l₁₆) ∷ (sliceTy (tyRef erased mut (tyInt w64)), l₁₇) ∷ []) Post) $
+        tidy W (_ ∷ _ ∷ _ ∷ _ ∷ _ ∷ _ ∷ _ ∷ _ ∷ _ ∷ _ ∷ _ ∷ _ ∷ _ ∷ _ ∷ _ ∷ _ ∷ _ ∷ _ ∷ _ ∷ _ ∷ _ ∷ _ ∷ _ ∷ _ ∷ _ ∷ _ ∷ _ ∷ _ ∷ _ ∷ _ ∷ _ ∷ _ ∷ _ ∷ _
+        ∷ []) $ returns ! (look ! 33 refl) $ move ! (15 ∷ []) $ use1 W (dies ((tyInt w32, l₀) ∷ (tyInt w32, l₁) ∷ (
+          sliceTy (tyRef (named 0) mut
+              (tyInt w64)),
+          l₂,
+        ) ∷ (sliceTy (tyRef (named 1) mut (tyInt w64)), l₃) ∷ (tyInt w64, l₄) ∷ (lShapes.mir, l₅) ∷ (
+          sliceTy (tyRef (named 2) imm
+              (pointee (mEntry.the-row .written))),
+          l₆,
+        ) ∷ (sliceTy (tyRef (named 3) imm (tyInt w64)), l₇) ∷ (
+          sliceTy (tyRef (named 4) imm (tyInt w64)),
+          l₈,
+        ) ∷ (sliceTy (tyRef (named 5) imm (tyInt w64)), l₉) ∷ (tyBool, l₁₀) ∷ (tyBool, l₁₁) ∷ (tyInt w32, l₁₂) ∷ (tyUnit, l₁₃) ∷ (
+          tyRef erased
+              mut (tyInt w64),
+          l₁₄,
+        ) ∷ (sliceTy (tyRef erased mut (tyInt w64)), l₁₅) ∷ (tyRef erased mut (tyInt w64), l₁₆) ∷ (
+          sliceTy (tyRef erased mut
+              (tyInt w64)),
+          l₁₇,
+        ) ∷ []) (‵ ftrue)) die $ free-all ! 15 ((tyInt w32, l₀) ∷ (tyInt w32, l₁) ∷ (
+          sliceTy (tyRef (named 0) mut (tyInt w64)),
+          l₂,
+        ) ∷ (sliceTy (tyRef (named 1) mut (tyInt w64)), l₃) ∷ (tyInt w64, l₄) ∷ (lShapes.mir, l₅) ∷ (
+          sliceTy (tyRef (named 2) imm (pointee
+              (mEntry.the-row .written))),
+          l₆,
+        ) ∷ (sliceTy (tyRef (named 3) imm (tyInt w64)), l₇) ∷ (sliceTy (tyRef (named 4) imm (tyInt w64)), l₈) ∷
+        (sliceTy (tyRef (named 5) imm (tyInt w64)), l₉) ∷ (tyBool, l₁₀) ∷ (tyBool, l₁₁) ∷ (tyInt w32, l₁₂) ∷ (tyUnit, l₁₃) ∷ (
+          tyRef erased mut
+              (tyInt w64),
+          l₁₄,
+        ) ∷ (sliceTy (tyRef erased mut (tyInt w64)), l₁₅) ∷ (tyRef erased mut (tyInt w64), l₁₆) ∷ (
+          sliceTy (tyRef erased mut
+              (tyInt w64)),
+          l₁₇,
+        ) ∷ []) (kept _ ∷ kept _ ∷ kept _ ∷ kept _ ∷ kept _ ∷ kept _ ∷ kept _ ∷ kept _ ∷ kept _ ∷ kept _ ∷ kept _ ∷ kept _ ∷
+        kept _ ∷ kept _ ∷ kept _ ∷ kept _ ∷ kept _ ∷ kept _ ∷ []) refl $
+        suffices ! _ (ends-at 𝓤 H A f.ended stayed (f.clauses 𝓤 H A at-mem run) W (
+          (
+            (κ₀, (κ₁, (κ₂, (κ₃, (κ₄, (κ₅, tt)))))),
+            (
+              q₀,
+              (
+                q₁,
+                (
+                  q₂,
+                  (
+                    q₃,
+                    (
+                      q₄,
+                      (q₅, tt),
+                    ),
+                  ),
+                ),
+              ),
+            ),
+            tt,
+            a,
+            at,
+          ),
+          tt,
+        ) u1 n1 (tt, (ws2 .0, (ws2 .1 .0, (tt, (tt, (tt, (tt, (tt, (tt, tt))))))))) (
+          tt,
+          (
+            same2a,
+            (
+              same2b,
+              (
+                tt,
+                (
+                  tt,
+                  (tt, (tt, (tt, (tt, tt)))),
+                ),
+              ),
+            ),
+          ),
+        )) $ says ! ((refl, rw (← e1, b1) (e2 .0), rw (← e1, b1) (e2 .1))) $
+        nothing ! $ move ! (5 ∷ 0 ∷ []) $ join ! $ move ! (5 ∷ 0 ∷ []) $ join ! $ move ! (5 ∷ 0 ∷ []) $ join ! $ move ! (5 ∷ 0 ∷ []) $ join ! $ move
+        ! (2 ∷ 0 ∷ []) $ join ! $ move ! (3 ∷ 0 ∷ []) $ join ! $ nothing ! $ move ! (4 ∷ 0 ∷ []) $ fjoin ! $ move ! (4 ∷ 0 ∷ []) $ fjoin ! $ move
+        ! (4 ∷ 0 ∷ []) $ fjoin ! $ move ! (4 ∷ 0 ∷ []) $ fjoin ! $ move ! (4 ∷ 0 ∷ []) $ fjoin ! $ move ! (4 ∷ 0 ∷ []) $ fjoin ! $ move ! (2 ∷ 0
+        ∷ []) $ fjoin ! $ move ! (2 ∷ 0 ∷ []) $ fjoin ! $ move ! (2 ∷ 0 ∷ []) $ fjoin ! $ keep ! (1 ∷ 0 ∷ []) $ frame ! $ frame ! $ owned ! u32
+        (Is u32) (uint-makes 𝓤 H A W w32) n1 _ w1 $ done !))))))))))))
+        (λ y1. let b1 : r1 ≡ false = is-no (r1) y1 in assigns-last ! (of-opd ! (load ! (from ! (stop !)) (look ! 32 refl))) (from ! (stop !)) (init !
+        21 refl (uint-lawful 𝓤 H A W w32 .typed n1 _ w1 .0)) $
+        exec ! C Λ ((tyInt w32, l₀) ∷ (tyInt w32, l₁) ∷ (sliceTy (tyRef (named 0) mut (tyInt w64)), l₂) ∷ (
+          sliceTy (tyRef (named 1) mut (tyInt w64)),
+          l₃,
+        ) ∷ (tyInt w64, l₄) ∷ (lShapes.mir, l₅) ∷ (sliceTy (tyRef (named 2) imm (pointee (mEntry.the-row .written))), l₆) ∷ (
+          sliceTy (tyRef
+              (named 3) imm (tyInt w64)),
+          l₇,
+        ) ∷ (sliceTy (tyRef (named 4) imm (tyInt w64)), l₈) ∷ (sliceTy (tyRef (named 5) imm (tyInt w64)), l₉) ∷
+        (tyBool, l₁₀) ∷ (tyBool, l₁₁) ∷ (tyInt w32, l₁₂) ∷ (tyUnit, l₁₃) ∷ (tyRef erased mut (tyInt w64), l₁₄) ∷ (
+          sliceTy (tyRef erased mut
+              (tyInt w64)),
+          l₁₅,
+        ) ∷ (tyRef erased mut (tyInt w64), l₁₆) ∷ (sliceTy (tyRef erased mut (tyInt w64)), l₁₇) ∷ []) Mir.t-4 (atRet ((
+          tyInt
+              w32,
+          l₀,
+        ) ∷ (tyInt w32, l₁) ∷ (sliceTy (tyRef (named 0) mut (tyInt w64)), l₂) ∷ (sliceTy (tyRef (named 1) mut (tyInt w64)), l₃) ∷ (
+          tyInt
+              w64,
+          l₄,
+        ) ∷ (lShapes.mir, l₅) ∷ (sliceTy (tyRef (named 2) imm (pointee (mEntry.the-row .written))), l₆) ∷ (
+          sliceTy (tyRef (named 3) imm
+              (tyInt w64)),
+          l₇,
+        ) ∷ (sliceTy (tyRef (named 4) imm (tyInt w64)), l₈) ∷ (sliceTy (tyRef (named 5) imm (tyInt w64)), l₉) ∷ (tyBool, l₁₀) ∷
+        (tyBool, l₁₁) ∷ (tyInt w32, l₁₂) ∷ (tyUnit, l₁₃) ∷ (tyRef erased mut (tyInt w64), l₁₄) ∷ (sliceTy (tyRef erased mut (tyInt w64)), l₁₅) ∷
+        (tyRef erased mut (tyInt w64), l₁₆) ∷ (sliceTy (tyRef erased mut (tyInt w64)), l₁₇) ∷ []) Post) $
         assigns ! (of-opd ! (load ! (from ! (stop !)) (look ! 21 refl))) (from ! (stop !)) (init ! 33 refl (uint-lawful 𝓤 H A W w32 .typed n1 _ w1 .0)) $
-        tidy W (_ ∷ _ ∷ _ ∷ _ ∷ _ ∷ _ ∷ _ ∷ _ ∷ _ ∷ _ ∷ _ ∷ _ ∷ _ ∷ _ ∷ _ ∷ _ ∷ _ ∷ _ ∷ _ ∷ _ ∷ _ ∷ _ ∷ _ ∷ _ ∷ _ ∷ _ ∷ _ ∷ _ ∷ _ ∷ _ ∷ _ ∷ _ ∷ _ ∷ _ ∷ []) $ returns ! (look ! 33 refl) $ move ! (15 ∷ []) $ use1 W (dies ((tyInt w32, l₀) ∷ (tyInt w32, l₁) ∷ (sliceTy (tyRef (named 0) mut (tyInt w64)), l₂) ∷ (sliceTy (tyRef (named 1) mut (tyInt w64)), l₃) ∷ (tyInt w64, l₄) ∷ (lShapes.mir, l₅) ∷ (sliceTy (tyRef (named 2) imm (pointee (mEntry.the-row .written))), l₆) ∷ (sliceTy (tyRef (named 3) imm (tyInt w64)), l₇) ∷ (sliceTy (tyRef (named 4) imm (tyInt w64)), l₈) ∷ (sliceTy (tyRef (named 5) imm (tyInt w64)), l₉) ∷ (tyBool, l₁₀) ∷ (tyBool, l₁₁) ∷ (tyInt w32, l₁₂) ∷ (tyUnit, l₁₃) ∷ (tyRef erased mut (tyInt w64), l₁₄) ∷ (sliceTy (tyRef erased mut (tyInt w64)), l₁₅) ∷ (tyRef erased mut (tyInt w64), l₁₆) ∷ (sliceTy (tyRef erased mut (tyInt w64)), l₁₇) ∷ []) (‵ ftrue)) die $ free-all ! 15 ((tyInt w32, l₀) ∷ (tyInt w32, l₁) ∷ (sliceTy (tyRef (named 0) mut (tyInt w64)), l₂) ∷ (sliceTy (tyRef (named 1) mut (tyInt w64)), l₃) ∷ (tyInt w64, l₄) ∷ (lShapes.mir, l₅) ∷ (sliceTy (tyRef (named 2) imm (pointee (mEntry.the-row .written))), l₆) ∷ (sliceTy (tyRef (named 3) imm (tyInt w64)), l₇) ∷ (sliceTy (tyRef (named 4) imm (tyInt w64)), l₈) ∷ (sliceTy (tyRef (named 5) imm (tyInt w64)), l₉) ∷ (tyBool, l₁₀) ∷ (tyBool, l₁₁) ∷ (tyInt w32, l₁₂) ∷ (tyUnit, l₁₃) ∷ (tyRef erased mut (tyInt w64), l₁₄) ∷ (sliceTy (tyRef erased mut (tyInt w64)), l₁₅) ∷ (tyRef erased mut (tyInt w64), l₁₆) ∷ (sliceTy (tyRef erased mut (tyInt w64)), l₁₇) ∷ []) (kept _ ∷ kept _ ∷ kept _ ∷ kept _ ∷ kept _ ∷ kept _ ∷ kept _ ∷ kept _ ∷ kept _ ∷ kept _ ∷ kept _ ∷ kept _ ∷ kept _ ∷ bare ∷ bare ∷ bare ∷ bare ∷ bare ∷ []) refl $
-        suffices ! _ (ends-at 𝓤 H A f.ended stayed (f.clauses 𝓤 H A at-mem run) W (((κ₀, (κ₁, (κ₂, (κ₃, (κ₄, (κ₅, tt)))))), (q₀, (q₁, (q₂, (q₃, (q₄, (q₅, tt)))))), tt, a, at), tt) u1 n1 (tt, (ys2, (ys3, (tt, (tt, (tt, (tt, (tt, (tt, tt))))))))) (tt, (refl, (refl, (tt, (tt, (tt, (tt, (tt, (tt, tt)))))))))) $ says ! ((refl, rw (← e1, b1) refl, rw (← e1, b1) refl)) $
-        nothing ! $ move ! (1 ∷ 0 ∷ []) $ join ! $ move ! (1 ∷ 0 ∷ []) $ join ! $ move ! (1 ∷ 0 ∷ []) $ join ! $ move ! (1 ∷ 0 ∷ []) $ join ! $ move ! (1 ∷ 0 ∷ []) $ join ! $ move ! (1 ∷ 0 ∷ []) $ join ! $ nothing ! $ move ! (2 ∷ 0 ∷ []) $ fjoin ! $ move ! (2 ∷ 0 ∷ []) $ fjoin ! $ move ! (2 ∷ 0 ∷ []) $ fjoin ! $ move ! (2 ∷ 0 ∷ []) $ fjoin ! $ move ! (2 ∷ 0 ∷ []) $ fjoin ! $ move ! (2 ∷ 0 ∷ []) $ fjoin ! $ move ! (2 ∷ 0 ∷ []) $ fjoin ! $ move ! (2 ∷ 0 ∷ []) $ fjoin ! $ move ! (2 ∷ 0 ∷ []) $ fjoin ! $ keep ! (1 ∷ 0 ∷ []) $ frame ! $ frame ! $ owned ! u32 (Is u32) (uint-makes 𝓤 H A W w32) n1 _ w1 $ done !)
+        tidy W (_ ∷ _ ∷ _ ∷ _ ∷ _ ∷ _ ∷ _ ∷ _ ∷ _ ∷ _ ∷ _ ∷ _ ∷ _ ∷ _ ∷ _ ∷ _ ∷ _ ∷ _ ∷ _ ∷ _ ∷ _ ∷ _ ∷ _ ∷ _ ∷ _ ∷ _ ∷ _ ∷ _ ∷ _ ∷ _ ∷ _ ∷ _ ∷ _ ∷ _
+        ∷ []) $ returns ! (look ! 33 refl) $ move ! (15 ∷ []) $ use1 W (dies ((tyInt w32, l₀) ∷ (tyInt w32, l₁) ∷ (
+          sliceTy (tyRef (named 0) mut
+              (tyInt w64)),
+          l₂,
+        ) ∷ (sliceTy (tyRef (named 1) mut (tyInt w64)), l₃) ∷ (tyInt w64, l₄) ∷ (lShapes.mir, l₅) ∷ (
+          sliceTy (tyRef (named 2) imm
+              (pointee (mEntry.the-row .written))),
+          l₆,
+        ) ∷ (sliceTy (tyRef (named 3) imm (tyInt w64)), l₇) ∷ (
+          sliceTy (tyRef (named 4) imm (tyInt w64)),
+          l₈,
+        ) ∷ (sliceTy (tyRef (named 5) imm (tyInt w64)), l₉) ∷ (tyBool, l₁₀) ∷ (tyBool, l₁₁) ∷ (tyInt w32, l₁₂) ∷ (tyUnit, l₁₃) ∷ (
+          tyRef erased
+              mut (tyInt w64),
+          l₁₄,
+        ) ∷ (sliceTy (tyRef erased mut (tyInt w64)), l₁₅) ∷ (tyRef erased mut (tyInt w64), l₁₆) ∷ (
+          sliceTy (tyRef erased mut
+              (tyInt w64)),
+          l₁₇,
+        ) ∷ []) (‵ ftrue)) die $ free-all ! 15 ((tyInt w32, l₀) ∷ (tyInt w32, l₁) ∷ (
+          sliceTy (tyRef (named 0) mut (tyInt w64)),
+          l₂,
+        ) ∷ (sliceTy (tyRef (named 1) mut (tyInt w64)), l₃) ∷ (tyInt w64, l₄) ∷ (lShapes.mir, l₅) ∷ (
+          sliceTy (tyRef (named 2) imm (pointee
+              (mEntry.the-row .written))),
+          l₆,
+        ) ∷ (sliceTy (tyRef (named 3) imm (tyInt w64)), l₇) ∷ (sliceTy (tyRef (named 4) imm (tyInt w64)), l₈) ∷
+        (sliceTy (tyRef (named 5) imm (tyInt w64)), l₉) ∷ (tyBool, l₁₀) ∷ (tyBool, l₁₁) ∷ (tyInt w32, l₁₂) ∷ (tyUnit, l₁₃) ∷ (
+          tyRef erased mut
+              (tyInt w64),
+          l₁₄,
+        ) ∷ (sliceTy (tyRef erased mut (tyInt w64)), l₁₅) ∷ (tyRef erased mut (tyInt w64), l₁₆) ∷ (
+          sliceTy (tyRef erased mut
+              (tyInt w64)),
+          l₁₇,
+        ) ∷ []) (kept _ ∷ kept _ ∷ kept _ ∷ kept _ ∷ kept _ ∷ kept _ ∷ kept _ ∷ kept _ ∷ kept _ ∷ kept _ ∷ kept _ ∷ kept _ ∷
+        kept _ ∷ bare ∷ bare ∷ bare ∷ bare ∷ bare ∷ []) refl $
+        suffices ! _ (ends-at 𝓤 H A f.ended stayed (f.clauses 𝓤 H A at-mem run) W (
+          (
+            (κ₀, (κ₁, (κ₂, (κ₃, (κ₄, (κ₅, tt)))))),
+            (
+              q₀,
+              (
+                q₁,
+                (
+                  q₂,
+                  (
+                    q₃,
+                    (
+                      q₄,
+                      (q₅, tt),
+                    ),
+                  ),
+                ),
+              ),
+            ),
+            tt,
+            a,
+            at,
+          ),
+          tt,
+        ) u1 n1 (tt, (ys2, (ys3, (tt, (tt, (tt, (tt, (tt, (tt, tt))))))))) (
+          tt,
+          (
+            refl,
+            (
+              refl,
+              (
+                tt,
+                (
+                  tt,
+                  (
+                    tt,
+                    (
+                      tt,
+                      (tt, (tt, tt)),
+                    ),
+                  ),
+                ),
+              ),
+            ),
+          ),
+        )) $ says ! ((refl, rw (← e1, b1) refl, rw (← e1, b1) refl)) $
+        nothing ! $ move ! (1 ∷ 0 ∷ []) $ join ! $ move ! (1 ∷ 0 ∷ []) $ join ! $ move ! (1 ∷ 0 ∷ []) $ join ! $ move ! (1 ∷ 0 ∷ []) $ join ! $ move
+        ! (1 ∷ 0 ∷ []) $ join ! $ move ! (1 ∷ 0 ∷ []) $ join ! $ nothing ! $ move ! (2 ∷ 0 ∷ []) $ fjoin ! $ move ! (2 ∷ 0 ∷ []) $ fjoin ! $ move
+        ! (2 ∷ 0 ∷ []) $ fjoin ! $ move ! (2 ∷ 0 ∷ []) $ fjoin ! $ move ! (2 ∷ 0 ∷ []) $ fjoin ! $ move ! (2 ∷ 0 ∷ []) $ fjoin ! $ move ! (2 ∷ 0
+        ∷ []) $ fjoin ! $ move ! (2 ∷ 0 ∷ []) $ fjoin ! $ move ! (2 ∷ 0 ∷ []) $ fjoin ! $ keep ! (1 ∷ 0 ∷ []) $ frame ! $ frame ! $ owned ! u32
+        (Is u32) (uint-makes 𝓤 H A W w32) n1 _ w1 $ done !)
         ))))))))))))))))))))))))
 
 module _ {M : Type 1} (𝓤 : URA M) (H : Heap 𝓤) (A : Atoms 𝓤) (W : Given 𝓤 H A) (mem : Memory → SProp 𝓤) (run : Routine → Fun 𝓤) where
-  walks : (C : Calls 𝓤 H) (Λ : Loops 𝓤 H) → FmC 𝓤 H (W .laws) C → Triple 𝓤 (C #g1) (Callee-g1 𝓤 H A mem run) → Triple 𝓤 (C #g2) (Callee-g2 𝓤 H A mem run) → Walks 𝓤 H A f.ended stayed (WpFn 𝓤 H C Λ code.function) (f.clauses 𝓤 H A mem run)
-  walks C Λ fm known-g1 known-g2 = walked 𝓤 H A f.ended stayed (f.clauses 𝓤 H A mem run) (WpFn 𝓤 H C Λ code.function) (λ κs. ((uint-vals w32), (slice-vals, (slice-vals, ((uint-vals w64), ((LL.vals mShapes.the-type lShapes.the-laws), (slice-vals, (slice-vals, (slice-vals, (slice-vals, tt)))))))))) (λ κs. ((uint-tells w32), (mut-slice-tells (named 0) (κs .0) u64, (mut-slice-tells (named 1) (κs .1 .0) u64, ((uint-tells w64), ((LL.tells mShapes.the-type lShapes.the-laws), (shr-slice-tells (named 2) (κs .1 .1 .0) mEntry.the-row, (shr-slice-tells (named 3) (κs .1 .1 .1 .0) u64, (shr-slice-tells (named 4) (κs .1 .1 .1 .1 .0) u64, (shr-slice-tells (named 5) (κs .1 .1 .1 .1 .1 .0) u64, tt))))))))))
-      (λ κs qs bounds a g are. via 𝓤 _ (fst∗ 𝓤 _ (emp 𝓤)) (walk 𝓤 H A W mem run (κs .0) (κs .1 .0) (κs .1 .1 .0) (κs .1 .1 .1 .0) (κs .1 .1 .1 .1 .0) (κs .1 .1 .1 .1 .1 .0) (qs .0) (qs .1 .0) (qs .1 .1 .0) (qs .1 .1 .1 .0) (qs .1 .1 .1 .1 .0) (qs .1 .1 .1 .1 .1 .0) (a .0) (only ((uint-vals w32) (a .0))) (a .1 .0 .ptr .0) (a .1 .0 .ptr .1) (a .1 .0 .name) (a .1 .0 .now) (a .1 .1 .0 .ptr .0) (a .1 .1 .0 .ptr .1) (a .1 .1 .0 .name) (a .1 .1 .0 .now) (a .1 .1 .1 .0) (only ((uint-vals w64) (a .1 .1 .1 .0))) (a .1 .1 .1 .1 .0) (only ((LL.vals mShapes.the-type lShapes.the-laws) (a .1 .1 .1 .1 .0))) (a .1 .1 .1 .1 .1 .0) (a .1 .1 .1 .1 .1 .1 .0) (a .1 .1 .1 .1 .1 .1 .1 .0) (a .1 .1 .1 .1 .1 .1 .1 .1 .0) C Λ fm known-g1 known-g2 (are .0) (are .1 .0 .0 .1) (are .1 .1 .0 .0 .1) (are .1 .1 .1 .0) (are .1 .1 .1 .1 .0) (are .1 .1 .1 .1 .1 .0) (are .1 .1 .1 .1 .1 .1 .0) (are .1 .1 .1 .1 .1 .1 .1 .0) (are .1 .1 .1 .1 .1 .1 .1 .1 .0)))
+  walks : (C : Calls 𝓤 H) (Λ : Loops 𝓤 H) → FmC 𝓤 H (W .laws) C → Triple 𝓤 (C #g1) (Callee-g1 𝓤 H A mem run) → Triple 𝓤 (C #g2) (Callee-g2 𝓤 H A mem
+      run) → Walks 𝓤 H A f.ended stayed (WpFn 𝓤 H C Λ code.function) (f.clauses 𝓤 H A mem run)
+  walks C Λ fm known-g1 known-g2 = walked 𝓤 H A f.ended stayed (f.clauses 𝓤 H A mem run) (WpFn 𝓤 H C Λ code.function) (λ κs. (
+    (uint-vals w32),
+    (
+      slice-vals,
+      (
+        slice-vals,
+        (
+          (uint-vals w64),
+          (
+            (LL.vals mShapes.the-type lShapes.the-laws),
+            (
+              slice-vals,
+              (
+                slice-vals,
+                (
+                  slice-vals,
+                  (
+                    slice-vals,
+                    tt,
+                  ),
+                ),
+              ),
+            ),
+          ),
+        ),
+      ),
+    ),
+  )) (λ κs. (
+    (uint-tells w32),
+    (
+      mut-slice-tells (named 0) (κs .0) u64,
+      (
+        mut-slice-tells (named 1) (κs .1 .0) u64,
+        (
+          (uint-tells w64),
+          (
+            (LL.tells mShapes.the-type lShapes.the-laws),
+            (
+              shr-slice-tells (named 2) (κs .1 .1 .0) mEntry.the-row,
+              (
+                shr-slice-tells (named 3) (κs .1 .1 .1
+                    .0) u64,
+                (shr-slice-tells (named 4) (κs .1 .1 .1 .1 .0) u64, (shr-slice-tells (named 5) (κs .1 .1 .1 .1 .1 .0) u64, tt)),
+              ),
+            ),
+          ),
+        ),
+      ),
+    ),
+  ))
+      (λ κs qs bounds a g are. via 𝓤 _ (fst∗ 𝓤 _ (emp 𝓤)) (walk 𝓤 H A W mem run (κs .0) (κs .1 .0) (κs .1 .1 .0) (κs .1 .1 .1 .0) (κs .1 .1 .1 .1 .0)
+      (κs .1 .1 .1 .1 .1 .0) (qs .0) (qs .1 .0) (qs .1 .1 .0) (qs .1 .1 .1 .0) (qs .1 .1 .1 .1 .0) (qs .1 .1 .1 .1 .1 .0) (a .0) (only
+      ((uint-vals w32) (a .0))) (a .1 .0 .ptr .0) (a .1 .0 .ptr .1) (a .1 .0 .name) (a .1 .0 .now) (a .1 .1 .0 .ptr .0) (a .1 .1 .0 .ptr .1) (a
+      .1 .1 .0 .name) (a .1 .1 .0 .now) (a .1 .1 .1 .0) (only ((uint-vals w64) (a .1 .1 .1 .0))) (a .1 .1 .1 .1 .0) (only ((LL.vals
+      mShapes.the-type lShapes.the-laws) (a .1 .1 .1 .1 .0))) (a .1 .1 .1 .1 .1 .0) (a .1 .1 .1 .1 .1 .1 .0) (a .1 .1 .1 .1 .1 .1 .1 .0) (a .1 .1
+      .1 .1 .1 .1 .1 .1 .0) C Λ fm known-g1 known-g2 (are .0) (are .1 .0 .0 .1) (are .1 .1 .0 .0 .1) (are .1 .1 .1 .0) (are .1 .1 .1 .1 .0) (are
+      .1 .1 .1 .1 .1 .0) (are .1 .1 .1 .1 .1 .1 .0) (are .1 .1 .1 .1 .1 .1 .1 .0) (are .1 .1 .1 .1 .1 .1 .1 .1 .0)))
 
-  meets : (𝓣 : Tables 𝓤 H) → Triple 𝓤 (𝓣 .C #g1) (Callee-g1 𝓤 H A mem run) → Triple 𝓤 (𝓣 .C #g2) (Callee-g2 𝓤 H A mem run) → Meets 𝓤 H A f.signature (WpFn 𝓤 H (𝓣 .C) (𝓣 .Λ) code.function) (f.spec 𝓤 H A mem run)
-  meets 𝓣 known-g1 known-g2 = walk-meets 𝓤 H A f.ended stayed W (goes-none 𝓤 H A W 6 (λ _. u32) yes (λ κs x f. refl), (goes-slice 𝓤 H A W 6 0 tt (plain (λ _. u64)), (goes-slice 𝓤 H A W 6 1 tt (plain (λ _. u64)), (goes-none 𝓤 H A W 6 (λ _. u64) yes (λ κs x f. refl), (goes-none 𝓤 H A W 6 (λ _. mShapes.the-row) yes (λ κs x f. refl), (goes-none-slice 𝓤 H A W 6 (2 ∷ []) tt (plain (λ _. mEntry.the-row)) yes, (goes-none-slice 𝓤 H A W 6 (3 ∷ []) tt (plain (λ _. u64)) yes, (goes-none-slice 𝓤 H A W 6 (4 ∷ []) tt (plain (λ _. u64)) yes, (goes-none-slice 𝓤 H A W 6 (5 ∷ []) tt (plain (λ _. u64)) yes, tt))))))))) (f.clauses 𝓤 H A mem run)
+  meets : (𝓣 : Tables 𝓤 H) → Triple 𝓤 (𝓣 .C #g1) (Callee-g1 𝓤 H A mem run) → Triple 𝓤 (𝓣 .C #g2) (Callee-g2 𝓤 H A mem run) → Meets 𝓤 H A f.signature
+      (WpFn 𝓤 H (𝓣 .C) (𝓣 .Λ) code.function) (f.spec 𝓤 H A mem run)
+  meets 𝓣 known-g1 known-g2 = walk-meets 𝓤 H A f.ended stayed W (
+    goes-none 𝓤 H A W 6 (λ _. u32) yes (λ κs x f. refl),
+    (
+      goes-slice 𝓤 H A W 6 0 tt
+          (plain (λ _. u64)),
+      (
+        goes-slice 𝓤 H A W 6 1 tt (plain (λ _. u64)),
+        (
+          goes-none 𝓤 H A W 6 (λ _. u64) yes (λ κs x f. refl),
+          (
+            goes-none 𝓤 H A W 6
+                (λ _. mShapes.the-row) yes (λ κs x f. refl),
+            (
+              goes-none-slice 𝓤 H A W 6 (2 ∷ []) tt (plain (λ _. mEntry.the-row)) yes,
+              (
+                goes-none-slice 𝓤 H A W
+                    6 (3 ∷ []) tt (plain (λ _. u64)) yes,
+                (
+                  goes-none-slice 𝓤 H A W 6 (4 ∷ []) tt (plain (λ _. u64)) yes,
+                  (
+                    goes-none-slice 𝓤 H A W 6 (5 ∷ []) tt
+                        (plain (λ _. u64)) yes,
+                    tt,
+                  ),
+                ),
+              ),
+            ),
+          ),
+        ),
+      ),
+    ),
+  ) (f.clauses 𝓤 H A mem run)
       (WpFn 𝓤 H (𝓣 .C) (𝓣 .Λ) code.function) (WpFn-mono 𝓤 H (W .laws) 𝓣 code.function) (walks (𝓣 .C) (𝓣 .Λ) (fmOf 𝓤 H (W .laws) 𝓣) known-g1 known-g2)
 
 pub fill-unless-spec : {M : Type 1} → stated.statement M
@@ -233,5 +740,5 @@ fill-unless-spec 𝓤 H 𝓜 𝓖 𝓡 =
     entered 𝓤 H (tripleOf 𝓤 H (𝓖 .A) f.signature (f.spec 𝓤 H (𝓖 .A) (𝓜 .mem) (𝓡 .run)))
     (tables 𝓤 H 𝓜 𝓡 code.env .C) (tables 𝓤 H 𝓜 𝓡 code.env .Λ) #f code.function (code.unfolded 𝓤 H 𝓜 𝓡)
     (meets 𝓤 H (𝓖 .A) (givenOf 𝓤 H 𝓜 𝓖) (𝓜 .mem) (𝓡 .run) (tablesOf 𝓤 H 𝓜 (tables 𝓤 H 𝓜 𝓡 code.env))
-    (cited 𝓤 H (Callee-g1 𝓤 H (𝓖 .A) (𝓜 .mem) (𝓡 .run)) 𝓜 𝓡 code.env #g1 g1-def.routine code.calls-magnetar-inplace·steps·is-none (g1-thm.met 𝓤 H 𝓜 𝓖 𝓡))
+    (cited 𝓤 H (Callee-g1 𝓤 H (𝓖 .A) (𝓜 .mem) (𝓡 .run)) 𝓜 𝓡 code.env #g1 g1-def.routine code.calls-magnetar-records·steps·is-none (g1-thm.met 𝓤 H 𝓜 𝓖 𝓡))
     (cited 𝓤 H (Callee-g2 𝓤 H (𝓖 .A) (𝓜 .mem) (𝓡 .run)) 𝓜 𝓡 code.env #g2 g2-def.routine code.calls-magnetar-batch·combo-records·fill (g2-thm.met 𝓤 H 𝓜 𝓖 𝓡)))

@@ -60,7 +60,8 @@ loop-again c =
       search needs,
       omega arith,
       omega arith,
-      rw b (columns-more _ _ _ (l .k) _ _ _ (omega (arith, c .before .before .before .before .before .shared-slice-known2 .given (l .k))) (omega arith) (rw b at (l .inv .3)) (rw (c .before .before .before .before .kept .ensures, b) at (c .before .before .add-word .ensures))),
+      rw b (columns-more _ _ _ (l .k) _ _ _ (omega (arith, c .before .before .before .before .before .shared-slice-known2 .given (l .k))) (omega
+          arith) (rw b at (l .inv .3)) (rw (c .before .before .before .before .kept .ensures, b) at (c .before .before .add-word .ensures))),
     )
 
 same-length-2 : tie.Need-same-length-2 Inv-loop μ-loop

@@ -28,13 +28,16 @@ loop-holds : tie.Need-loop-holds Inv-loop μ-loop
 loop-holds c = (refl, search needs, c .login-words .ensures, rw (c .login-words .ensures) (words-most _ (c .before .before .before .before .pre .0)), logins-start _ _ _ _)
 
 mul-a : tie.Need-mul-a Inv-loop μ-loop
-mul-a c = let s = c .before .before .before .before .before .before in let l = c .before .loop in let p = part-of (s .args .w) _ _ (l .u) _ (s .pre .1) (l .inv .3) (l .inv .2) (s .pre .2) (c .loop-test .taken) in omega (arith, p .ends, p .small)
+mul-a c = let s = c .before .before .before .before .before .before in let l = c .before .loop in let p = part-of (s .args .w) _ _ (l .u) _ (s .pre
+    .1) (l .inv .3) (l .inv .2) (s .pre .2) (c .loop-test .taken) in omega (arith, p .ends, p .small)
 
 add-b : tie.Need-add-b Inv-loop μ-loop
-add-b c = let s = c .before .before .before .before .before .before in let l = c .before .loop in let p = part-of (s .args .w) _ _ (l .u) _ (s .pre .1) (l .inv .3) (l .inv .2) (s .pre .2) (c .loop-test .taken) in omega (arith, p .ends, p .small)
+add-b c = let s = c .before .before .before .before .before .before in let l = c .before .loop in let p = part-of (s .args .w) _ _ (l .u) _ (s .pre
+    .1) (l .inv .3) (l .inv .2) (s .pre .2) (c .loop-test .taken) in omega (arith, p .ends, p .small)
 
 mul-add-login : tie.Need-mul-add-login Inv-loop μ-loop
-mul-add-login c = let s = c .before .before .before .before .before .before in let l = c .before .loop in let p = part-of (s .args .w) _ _ (l .u) _ (s .pre .1) (l .inv .3) (l .inv .2) (s .pre .2) (c .loop-test .taken) in omega (arith, p .ends, p .small)
+mul-add-login c = let s = c .before .before .before .before .before .before in let l = c .before .loop in let p = part-of (s .args .w) _ _ (l .u) _
+    (s .pre .1) (l .inv .3) (l .inv .2) (s .pre .2) (c .loop-test .taken) in omega (arith, p .ends, p .small)
 
 sub-add-login : tie.Need-sub-add-login Inv-loop μ-loop
 sub-add-login c = search needs
@@ -43,7 +46,8 @@ part-add-login-start : tie.Need-part-add-login-start Inv-loop μ-loop
 part-add-login-start c = search needs
 
 part-add-login-end : tie.Need-part-add-login-end Inv-loop μ-loop
-part-add-login-end c = let s = c .before .before .before .before .before .before in let l = c .before .loop in let p = part-of (s .args .w) _ _ (l .u) _ (s .pre .1) (l .inv .3) (l .inv .2) (s .pre .2) (c .loop-test .taken) in omega (arith, p .ends, p .small)
+part-add-login-end c = let s = c .before .before .before .before .before .before in let l = c .before .loop in let p = part-of (s .args .w) _ _ (l
+    .u) _ (s .pre .1) (l .inv .3) (l .inv .2) (s .pre .2) (c .loop-test .taken) in omega (arith, p .ends, p .small)
 
 get-requires : tie.Need-get-requires Inv-loop μ-loop
 get-requires c κs = search needs

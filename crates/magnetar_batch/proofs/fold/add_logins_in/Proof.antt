@@ -28,10 +28,14 @@ loop-holds : tie.Need-loop-holds Inv-loop μ-loop
 loop-holds c = (refl, search needs, c .login-words .ensures, rw (c .login-words .ensures) (words-most _ (c .before .before .before .pre .0)), logins-start _ _ _ _)
 
 mul-a : tie.Need-mul-a Inv-loop μ-loop
-mul-a c = let p = part-of (c .before .before .before .before .before .args .w) _ _ (c .before .loop .v) _ (c .before .before .before .before .before .pre .1) (c .before .loop .inv .3) (c .before .loop .inv .2) (c .before .before .before .before .before .pre .2) (c .loop-test .taken) in omega (arith, p .ends, p .small)
+mul-a c = let p = part-of (c .before .before .before .before .before .args .w) _ _ (c .before .loop .v) _ (c .before .before .before .before .before
+    .pre .1) (c .before .loop .inv .3) (c .before .loop .inv .2) (c .before .before .before .before .before .pre .2) (c .loop-test .taken) in omega
+    (arith, p .ends, p .small)
 
 add-b : tie.Need-add-b Inv-loop μ-loop
-add-b c = let p = part-of (c .before .before .before .before .before .args .w) _ _ (c .before .loop .v) _ (c .before .before .before .before .before .pre .1) (c .before .loop .inv .3) (c .before .loop .inv .2) (c .before .before .before .before .before .pre .2) (c .loop-test .taken) in omega (arith, p .ends, p .small)
+add-b c = let p = part-of (c .before .before .before .before .before .args .w) _ _ (c .before .loop .v) _ (c .before .before .before .before .before
+    .pre .1) (c .before .loop .inv .3) (c .before .loop .inv .2) (c .before .before .before .before .before .pre .2) (c .loop-test .taken) in omega
+    (arith, p .ends, p .small)
 
 add-at : tie.Need-add-at Inv-loop μ-loop
 add-at c = search needs
@@ -40,7 +44,9 @@ get-requires : tie.Need-get-requires Inv-loop μ-loop
 get-requires c κs = search needs
 
 mul-add-login : tie.Need-mul-add-login Inv-loop μ-loop
-mul-add-login c = let p = part-of (c .before .before .before .before .before .before .before .args .w) _ _ (c .before .before .before .loop .v) _ (c .before .before .before .before .before .before .before .pre .1) (c .before .before .before .loop .inv .3) (c .before .before .before .loop .inv .2) (c .before .before .before .before .before .before .before .pre .2) (c .before .before .loop-test .taken) in omega (arith, p .ends, p .small)
+mul-add-login c = let p = part-of (c .before .before .before .before .before .before .before .args .w) _ _ (c .before .before .before .loop .v) _ (c
+    .before .before .before .before .before .before .before .pre .1) (c .before .before .before .loop .inv .3) (c .before .before .before .loop .inv
+    .2) (c .before .before .before .before .before .before .before .pre .2) (c .before .before .loop-test .taken) in omega (arith, p .ends, p .small)
 
 sub-add-login : tie.Need-sub-add-login Inv-loop μ-loop
 sub-add-login c = search needs
@@ -49,7 +55,14 @@ part-add-login-start : tie.Need-part-add-login-start Inv-loop μ-loop
 part-add-login-start c = search needs
 
 part-add-login-end : tie.Need-part-add-login-end Inv-loop μ-loop
-part-add-login-end c = let p = part-of (c .before .before .before .before .before .before .before .args .w) _ _ (c .before .before .before .loop .v) _ (c .before .before .before .before .before .before .before .pre .1) (c .before .before .before .loop .inv .3) (c .before .before .before .loop .inv .2) (c .before .before .before .before .before .before .before .pre .2) (c .before .before .loop-test .taken) in omega (arith, p .ends, p .small)
+part-add-login-end c = let p = part-of (c .before .before .before .before .before .before .before .args .w) _ _ (c .before .before .before .loop .v)
+    _ (c .before .before .before .before .before .before .before .pre .1) (c .before .before .before .loop .inv .3) (c .before .before .before .loop
+    .inv .2) (c .before .before .before .before .before .before .before .pre .2) (c .before .before .loop-test .taken) in omega (
+      arith,
+      p .ends,
+      p
+          .small,
+    )
 
 add-login-requires : tie.Need-add-login-requires Inv-loop μ-loop
 add-login-requires c κs = search needs
@@ -69,7 +82,12 @@ loop-again c =
       l .inv .2,
       l .inv .3,
       logins-more (x .w) _ _ (l .v) _ _ _ (l .inv .4)
-          (rw (part-is (x .w) (x .packed .now) (l .v) _ (l .inv .2), c .before .before .before .before .before .get .ensures, factor-kept (x .w) (x .packed .now) (l .v) (l .v) (elements (now (x .s))) (elements (l .s)) (l .inv .4)) at (c .before .before .add-login .ensures)),
+          (rw (
+            part-is (x .w) (x .packed .now) (l .v) _ (l .inv .2),
+            c .before .before .before .before .before .get .ensures,
+            factor-kept (x .w) (x
+                .packed .now) (l .v) (l .v) (elements (now (x .s))) (elements (l .s)) (l .inv .4),
+          ) at (c .before .before .add-login .ensures)),
     )
 
 same-length : tie.Need-same-length Inv-loop μ-loop

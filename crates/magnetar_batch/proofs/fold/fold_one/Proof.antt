@@ -36,9 +36,13 @@ add-logins-in-requires c κs = search needs
 clear-behind-requires : tie.Need-clear-behind-requires
 clear-behind-requires c κs =
     let x = (c .before .before .before .before .before .before .before .before .before .before .before .before .before .before .before .before .args) in
-    let a : length (c .before .before .before .before .before .before .before .before .before .before .before .clear .last .0) ≡ length (now (x .s)) = c .before .before .before .before .before .before .before .before .before .before .before .clear .kept .0 in
-    let b : length (c .before .before .before .before .before .before .before .eq-behind .last .0) ≡ length (c .before .before .before .before .before .before .before .before .before .before .before .clear .last .0) = c .before .before .before .before .before .before .before .eq-behind .kept .0 in
-    let d : length (c .before .before .before .add-logins-in .last .1 .1 .1 .0) ≡ length (c .before .before .before .before .before .before .before .eq-behind .last .0) = c .before .before .before .add-logins-in .kept .1 .1 .1 .0 in
+    let a : length (c .before .before .before .before .before .before .before .before .before .before .before .clear .last .0) ≡ length (now (x .s))
+    = c .before .before .before .before .before .before .before .before .before .before .before .clear .kept .0 in
+    let b : length (c .before .before .before .before .before .before .before .eq-behind .last .0) ≡ length (c .before .before .before .before
+    .before .before .before .before .before .before .before .clear .last .0) = c .before .before .before .before .before .before .before
+    .eq-behind .kept .0 in
+    let d : length (c .before .before .before .add-logins-in .last .1 .1 .1 .0) ≡ length (c .before .before .before .before .before .before .before
+    .eq-behind .last .0) = c .before .before .before .add-logins-in .kept .1 .1 .1 .0 in
     let r : length (now (x .s)) ≡ 2 * x .w + 2 * x .q = c .before .before .before .before .before .before .before .before .before .before .before .before .before .before .before .before .pre .1 .0 in
     omega (arith, a, b, d, r)
 
@@ -49,16 +53,30 @@ returns : tie.Need-returns
 returns c =
     let x = (c .before .before .before .before .before .before .before .before .before .before .before .before .before .before .before .before .before .before .before .args) in
     let p = c .before .before .before .before .before .before .before .before .before .before .before .before .before .before .before .before .before .before .before .pre .1 .1 in
-    let r : length (now (x .s)) ≡ 2 * x .w + 2 * x .q = c .before .before .before .before .before .before .before .before .before .before .before .before .before .before .before .before .before .before .before .pre .1 .0 in
+    let r : length (now (x .s)) ≡ 2 * x .w + 2 * x .q = c .before .before .before .before .before .before .before .before .before .before .before
+    .before .before .before .before .before .before .before .before .pre .1 .0 in
     let l = length-drop (2 * x .w) (now (x .s)) in
-    let a : length (c .before .before .before .before .before .before .before .before .before .before .before .before .before .before .clear .last .0) ≡ length (now (x .s)) = c .before .before .before .before .before .before .before .before .before .before .before .before .before .before .clear .kept .0 in
-    let b : length (c .before .before .before .before .before .before .before .before .before .before .eq-behind .last .0) ≡ length (c .before .before .before .before .before .before .before .before .before .before .before .before .before .before .clear .last .0) = c .before .before .before .before .before .before .before .before .before .before .eq-behind .kept .0 in
-    let d : length (c .before .before .before .before .before .before .add-logins-in .last .1 .1 .1 .0) ≡ length (c .before .before .before .before .before .before .before .before .before .before .eq-behind .last .0) = c .before .before .before .before .before .before .add-logins-in .kept .1 .1 .1 .0 in
-    let z : c .before .before .before .before .before .before .before .before .before .before .before .before .before .before .clear .last .0 ≡ replicate (2 * x .w + 2 * x .q) 0 = c .before .before .before .before .before .before .before .before .before .before .before .before .before .before .clear .ensures ∙ ap (λ (n : ℕ). replicate n 0) r in
+    let a : length (c .before .before .before .before .before .before .before .before .before .before .before .before .before .before .clear .last
+    .0) ≡ length (now (x .s)) = c .before .before .before .before .before .before .before .before .before .before .before .before .before .before
+    .clear .kept .0 in
+    let b : length (c .before .before .before .before .before .before .before .before .before .before .eq-behind .last .0) ≡ length (c .before
+    .before .before .before .before .before .before .before .before .before .before .before .before .before .clear .last .0) = c .before .before
+    .before .before .before .before .before .before .before .before .eq-behind .kept .0 in
+    let d : length (c .before .before .before .before .before .before .add-logins-in .last .1 .1 .1 .0) ≡ length (c .before .before .before .before
+    .before .before .before .before .before .before .eq-behind .last .0) = c .before .before .before .before .before .before .add-logins-in .kept
+    .1 .1 .1 .0 in
+    let z : c .before .before .before .before .before .before .before .before .before .before .before .before .before .before .clear .last .0 ≡
+    replicate (2 * x .w + 2 * x .q) 0 = c .before .before .before .before .before .before .before .before .before .before .before .before .before
+    .before .clear .ensures ∙ ap (λ (n : ℕ). replicate n 0) r in
     let k : 2 * x .w + tableWords (now (x .point)) ≡ 2 * x .w + 2 * x .q = omega (arith, p .room) in
-    finished (foldSum (x .w) (now (x .packed)) (eqTable (elements (now (x .point)))) (x .q)) (x .w) (x .q) (c .before .before .before .before .before .before .add-logins-in .last .1 .1 .1 .0) (c .before .before .clear-behind .last .0)
+    finished (foldSum (x .w) (now (x .packed)) (eqTable (elements (now (x .point)))) (x .q)) (x .w) (x .q) (c .before .before .before .before .before
+    .before .add-logins-in .last .1 .1 .1 .0) (c .before .before .clear-behind .last .0)
     (omega (arith, a, b, d, r)) (λ i. omega (arith, c .slice-known5 .given i))
-    (one-slice (x .w) (x .q) (2 * x .w + tableWords (now (x .point))) (now (x .packed)) (elements (now (x .point))) (c .before .before .before .before .before .before .before .before .before .before .before .before .before .before .clear .last .0) (c .before .before .before .before .before .before .before .before .before .before .eq-behind .last .0) (c .before .before .before .before .before .before .add-logins-in .last .1 .1 .1 .0) z k (c .before .before .before .before .before .before .before .before .before .before .eq-behind .ensures) (c .before .before .before .before .before .before .add-logins-in .ensures))
+    (one-slice (x .w) (x .q) (2 * x .w + tableWords (now (x .point))) (now (x .packed)) (elements (now (x .point))) (c .before .before .before
+    .before .before .before .before .before .before .before .before .before .before .before .clear .last .0) (c .before .before .before .before
+    .before .before .before .before .before .before .eq-behind .last .0) (c .before .before .before .before .before .before .add-logins-in .last
+    .1 .1 .1 .0) z k (c .before .before .before .before .before .before .before .before .before .before .eq-behind .ensures) (c .before .before
+    .before .before .before .before .add-logins-in .ensures))
     (c .before .before .clear-behind .ensures)
 
 pub fold-one-spec : {M : Type 1} → statement M

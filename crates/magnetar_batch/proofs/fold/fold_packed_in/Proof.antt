@@ -90,7 +90,11 @@ login-words-requires : tie.Need-login-words-requires
 login-words-requires c κs = search needs
 
 mul-note : tie.Need-mul-note
-mul-note c = let z = small (c .before) in omega (arith, product-most (c .before .before .before .before .before .before .before .before .before .args .q) (c .login-words .result) (z .logins .high) (rw (c .login-words .ensures) (words-most _ (z .half))))
+mul-note c = let z = small (c .before) in omega (
+  arith,
+  product-most (c .before .before .before .before .before .before .before .before .before .args
+      .q) (c .login-words .result) (z .logins .high) (rw (c .login-words .ensures) (words-most _ (z .half))),
+)
 
 note-requires-3 : tie.Need-note-requires-3
 note-requires-3 c κs = search needs
@@ -139,10 +143,19 @@ returns-3 c =
     let k = c .before .before .before .before in
     let s = k .before .before .before .before .before .before .before .before .before .before .before .before .before .before in
     let x = s .args in
-    let e = sym (k .if2 .left) ∙ noted-late (first s) (rest s) _ _ (early (k .before .before .before .before .before .before .before)) (k .before .before .before .before .before .before .if1 .left) (late (k .before)) in
+    let e = sym (k .if2 .left) ∙ noted-late (first s) (rest s) _ _ (early (k .before .before .before .before .before .before .before)) (k .before
+    .before .before .before .before .before .if1 .left) (late (k .before)) in
     let f = fits k in
-    let z = sized-wider 65536 (lit≤ tt) (small (k .before .before .before .before .before .before) .logins) in
-    (e, rw (c .before .before .fold-one .ensures, fold-is (x .q) (x .w) (now (x .packed)) (elements (now (x .point))) (point-size _ _ _ z (f .point)), append-assoc (words (folded (x .q) (x .w) (unpacked (x .q) (x .w) (now (x .packed))) (elements (now (x .point))))) (replicate (2 * x .q) 0) (drop (2 * x .w + 2 * x .q) (now (x .s)))) (done _ _ e refl))
+    let z = sized-wider 65536 (lit≤ tt) (small (k .before .before .before .before .before .before) .logins) in (
+      e,
+      rw (
+        c .before .before .fold-one .ensures,
+        fold-is (x .q) (x .w) (now (x .packed)) (elements (now (x .point))) (point-size _ _ _ z (f
+            .point)),
+        append-assoc (words (folded (x .q) (x .w) (unpacked (x .q) (x .w) (now (x .packed))) (elements (now (x .point))))) (replicate (2 *
+            x .q) 0) (drop (2 * x .w + 2 * x .q) (now (x .s))),
+      ) (done _ _ e refl),
+    )
 
 pub fold-packed-in-spec : {M : Type 1} → statement M
 fold-packed-in-spec =

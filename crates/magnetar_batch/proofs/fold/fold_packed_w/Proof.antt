@@ -36,7 +36,15 @@ early : (c : tie.After-note2) → c .note2 .result ≡ noted 0 (first (c .before
 early c = rw (c .note2 .ensures, c .before .is-size .ensures, c .before .before .note .ensures, c .before .before .before .is-half .ensures)
 
 late : (c : tie.After-note6) → c .note6 .result ≡ noted 0 (rest (c .before .before .before .before .before .before .before .before .before .before .before .before .before .before .before))
-late c = rw (c .note6 .ensures, c .before .note5 .ensures, c .before .before .note4 .ensures, c .before .before .before .log2 .ensures, c .before .before .before .before .note3 .ensures, c .before .before .before .before .before .login-words .ensures)
+late c = rw (
+  c .note6 .ensures,
+  c .before .note5 .ensures,
+  c .before .before .note4 .ensures,
+  c .before .before .before .log2 .ensures,
+  c .before
+      .before .before .before .note3 .ensures,
+  c .before .before .before .before .before .login-words .ensures,
+)
 
 -- what is known of the sizes, and once nothing is refused
 record Small (s : tie.Start) : Type 0 where
@@ -57,7 +65,8 @@ record Fits (s : tie.Start) : Type 0 where
 
 fits : (c : tie.Else2) → Fits (c .before .before .before .before .before .before .before .before .before .before .before .before .before .before .before .before)
 fits c =
-    let k = noted-clear 0 (rest (c .before .before .before .before .before .before .before .before .before .before .before .before .before .before .before .before)) refl (sym (late (c .before)) ∙ c .if2 .left) .1 in
+    let k = noted-clear 0 (rest (c .before .before .before .before .before .before .before .before .before .before .before .before .before .before
+    .before .before)) refl (sym (late (c .before)) ∙ c .if2 .left) .1 in
     record { packed = eqb-true _ _ (not-false _ (k .0)); point = eqb-true _ _ (not-false _ (k .1 .0)); out = ltb-false _ _ (k .1 .1 .0); scratch = ltb-false _ _ (k .1 .1 .1 .0) }
 
 is-half-requires : tie.Need-is-half-requires
@@ -75,14 +84,19 @@ note-requires-2 c κs = search needs
 returns : tie.Need-returns
 unfolding foldRefusal
 returns c =
-    let e = noted-front (first (c .before .before .before .before .before .before .before .before .before)) (rest (c .before .before .before .before .before .before .before .before .before)) _ (early (c .before)) (c .if1 .taken) in
+    let e = noted-front (first (c .before .before .before .before .before .before .before .before .before)) (rest (c .before .before .before .before
+    .before .before .before .before .before)) _ (early (c .before)) (c .if1 .taken) in
     (e, (turned _ _ e (c .if1 .taken), turned _ _ e (c .if1 .taken)))
 
 login-words-requires : tie.Need-login-words-requires
 login-words-requires c κs = search needs
 
 mul-note : tie.Need-mul-note
-mul-note c = let z = small (c .before) .logins in omega (arith, product-most (c .before .before .before .before .before .before .before .before .before .before .args .q) (c .login-words .result) (z .high) (rw (c .login-words .ensures) (words-most _ (small (c .before) .half))))
+mul-note c = let z = small (c .before) .logins in omega (
+  arith,
+  product-most (c .before .before .before .before .before .before .before .before
+      .before .before .args .q) (c .login-words .result) (z .high) (rw (c .login-words .ensures) (words-most _ (small (c .before) .half))),
+)
 
 note-requires-3 : tie.Need-note-requires-3
 note-requires-3 c κs = search needs
@@ -113,7 +127,10 @@ note-requires-6 c κs = search needs
 returns-2 : tie.Need-returns-2
 unfolding foldRefusal
 returns-2 c =
-    let e = noted-late (first (c .before .before .before .before .before .before .before .before .before .before .before .before .before .before .before .before)) (rest (c .before .before .before .before .before .before .before .before .before .before .before .before .before .before .before .before)) _ _ (early (c .before .before .before .before .before .before .before .before)) (c .before .before .before .before .before .before .before .if1 .left) (late (c .before)) in
+    let e = noted-late (first (c .before .before .before .before .before .before .before .before .before .before .before .before .before .before
+    .before .before)) (rest (c .before .before .before .before .before .before .before .before .before .before .before .before .before .before
+    .before .before)) _ _ (early (c .before .before .before .before .before .before .before .before)) (c .before .before .before .before .before
+    .before .before .if1 .left) (late (c .before)) in
     (e, (turned _ _ e (c .if2 .taken), turned _ _ e (c .if2 .taken)))
 
 mul-end : tie.Need-mul-end
@@ -152,7 +169,8 @@ returns-3 c =
     let s = c .before .before .before .before .before .before .before .before .before .before .before .before .before .before .before .before .before .before .before .before .before .before .before in
     let x = s .args in
     let k = c .before .before .before .before .before .before .before in
-    let e = sym (k .if2 .left) ∙ noted-late (first s) (rest s) _ _ (early (k .before .before .before .before .before .before .before .before)) (k .before .before .before .before .before .before .before .if1 .left) (late (k .before)) in
+    let e = sym (k .if2 .left) ∙ noted-late (first s) (rest s) _ _ (early (k .before .before .before .before .before .before .before .before)) (k
+    .before .before .before .before .before .before .before .if1 .left) (late (k .before)) in
     let f = fits k in
     let z = sized-wider 65536 (lit≤ tt) (small (k .before .before .before .before .before .before .before) .logins) in (
       e,

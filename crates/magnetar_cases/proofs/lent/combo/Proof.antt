@@ -48,9 +48,9 @@ use denote.Exit.{yes}
 use Rattle.magnetar_relation.specs.declared.shapes.Shapes.{Shapes}
 use Rattle.magnetar_relation.proofs.shapes.Shapes as mShapes
 use Rattle.magnetar_relation.proofs.shapes.Shapes.Laws as lShapes
-use Rattle.magnetar_inplace.specs.declared.records.Entry.{Entry}
-use Rattle.magnetar_inplace.proofs.records.Entry as mEntry
-use Rattle.magnetar_inplace.proofs.records.Entry.Laws as lEntry
+use Rattle.magnetar_records.specs.declared.records.Entry.{Entry}
+use Rattle.magnetar_records.proofs.records.Entry as mEntry
+use Rattle.magnetar_records.proofs.records.Entry.Laws as lEntry
 use types.SemTy.{Body}
 use types.Share.{parts, arr-parts}
 use lib.ListN.{take}
@@ -90,7 +90,30 @@ is-no true a = absurd a
 is-no false _ = refl
 
 abbrev stayed : Stays (f.ended .signature .params) (f.ended .kept)
-stayed = (stay-slice (0 ∷ []) tt (plain (λ _. u64)), (stay-slice (1 ∷ []) tt (plain (λ _. u64)), (stay-none (λ _. u64) yes, (stay-none (λ _. mShapes.the-row) yes, (stay-none (λ _. (Array mEntry.the-row 384)) yes, (stay-none (λ _. u64) yes, (stay-none-slice (2 ∷ []) tt (plain (λ _. u64)) yes, (stay-none-slice (3 ∷ []) tt (plain (λ _. u64)) yes, (stay-none-slice (4 ∷ []) tt (plain (λ _. u64)) yes, tt)))))))))
+stayed = (
+  stay-slice (0 ∷ []) tt (plain (λ _. u64)),
+  (
+    stay-slice (1 ∷ []) tt (plain (λ _. u64)),
+    (
+      stay-none (λ _. u64) yes,
+      (
+        stay-none (λ _.
+            mShapes.the-row) yes,
+        (
+          stay-none (λ _. (Array mEntry.the-row 384)) yes,
+          (
+            stay-none (λ _. u64) yes,
+            (
+              stay-none-slice (2 ∷ []) tt (plain (λ _.
+                  u64)) yes,
+              (stay-none-slice (3 ∷ []) tt (plain (λ _. u64)) yes, (stay-none-slice (4 ∷ []) tt (plain (λ _. u64)) yes, tt)),
+            ),
+          ),
+        ),
+      ),
+    ),
+  ),
+)
 
 abbrev Callee-g1 : {M : Type 1} (𝓤 : URA M) (H : Heap 𝓤) (A : Atoms 𝓤) (mem : Memory → SProp 𝓤) (run : Routine → Fun 𝓤) → Contract 𝓤
 Callee-g1 𝓤 H A mem run = tripleOf 𝓤 H A g1.signature (g1.spec 𝓤 H A mem run)
@@ -98,7 +121,9 @@ Callee-g1 𝓤 H A mem run = tripleOf 𝓤 H A g1.signature (g1.spec 𝓤 H A me
 abbrev Callee-g2 : {M : Type 1} (𝓤 : URA M) (H : Heap 𝓤) (A : Atoms 𝓤) (mem : Memory → SProp 𝓤) (run : Routine → Fun 𝓤) → Contract 𝓤
 Callee-g2 𝓤 H A mem run = tripleOf 𝓤 H A g2.signature (g2.spec 𝓤 H A mem run)
 
-module _ {M : Type 1} (𝓤 : URA M) (H : Heap 𝓤) (A : Atoms 𝓤) (W : Given 𝓤 H A) (at-mem : Memory → SProp 𝓤) (run : Routine → Fun 𝓤) (κ₀ κ₁ κ₂ κ₃ κ₄ : Lft) (q₀ q₁ q₂ q₃ q₄ : Share) (b1 o1 : ℕ) (γ1 : GName) (ys1 : List ℕ) (b2 o2 : ℕ) (γ2 : GName) (ys2 : List ℕ) (n3 : ℕ) (u3 : Val) (n4 : Shapes) (u4 : Val) (n5 : (List Entry)) (u5 : Val) (n6 : ℕ) (u6 : Val) (s7 : RefT (List ℕ)) (s8 : RefT (List ℕ)) (s9 : RefT (List ℕ)) where
+module _ {M : Type 1} (𝓤 : URA M) (H : Heap 𝓤) (A : Atoms 𝓤) (W : Given 𝓤 H A) (at-mem : Memory → SProp 𝓤) (run : Routine → Fun 𝓤) (κ₀ κ₁ κ₂ κ₃ κ₄ :
+    Lft) (q₀ q₁ q₂ q₃ q₄ : Share) (b1 o1 : ℕ) (γ1 : GName) (ys1 : List ℕ) (b2 o2 : ℕ) (γ2 : GName) (ys2 : List ℕ) (n3 : ℕ) (u3 : Val) (n4 : Shapes)
+    (u4 : Val) (n5 : (List Entry)) (u5 : Val) (n6 : ℕ) (u6 : Val) (s7 : RefT (List ℕ)) (s8 : RefT (List ℕ)) (s9 : RefT (List ℕ)) where
   abbrev ref1 : GName → List ℕ → RefT (List ℕ)
   ref1 δ l = record { ptr = (b1, o1); name = δ; now = l }
 
@@ -111,9 +136,11 @@ module _ {M : Type 1} (𝓤 : URA M) (H : Heap 𝓤) (A : Atoms 𝓤) (W : Given
   abbrev Lent1 : ℕ → GName → List ℕ → Fml
   Lent1 ν δ l = LentAgain u64 κ₀ (ν ∷ []) q₀ γ1 b1 o1 δ l
 
-  lends1 : (ℓ : Lifetime) (ν : ℕ) (l : List ℕ) → length l ≡ length ys1 → ent 𝓤 (⋆ 𝓤 H A (‵ (O1 l) ∷ ‵ (flft κ₀ q₀) ∷ [])) (⋆ 𝓤 H A (later (some (λ (δ : GName). ‵ (MutSlice ℓ (ν ∷ []) u64 .own (ref1 δ l) (v1 ∷ [])) ⊛ ‵ (Lent1 ν δ l))) ∷ []))
+  lends1 : (ℓ : Lifetime) (ν : ℕ) (l : List ℕ) → length l ≡ length ys1 → ent 𝓤 (⋆ 𝓤 H A (‵ (O1 l) ∷ ‵ (flft κ₀ q₀) ∷ [])) (⋆ 𝓤 H A (later (some (λ (δ
+      : GName). ‵ (MutSlice ℓ (ν ∷ []) u64 .own (ref1 δ l) (v1 ∷ [])) ⊛ ‵ (Lent1 ν δ l))) ∷ []))
   lends1 ℓ ν l e = subst (λ (t : ℕ). ent 𝓤 (⋆ 𝓤 H A (‵ (MutSlice (named 0) κ₀ u64 .own (ref1 γ1 l) (sliceVal (b1, o1) t ∷ [])) ∷ ‵ (flft κ₀ q₀) ∷ []))
-      (⋆ 𝓤 H A (later (some (λ (δ : GName). ‵ (MutSlice ℓ (ν ∷ []) u64 .own (ref1 δ l) (sliceVal (b1, o1) t ∷ [])) ⊛ ‵ (Lent1 ν δ l))) ∷ []))) e (lends-again u64 κ₀ (ν ∷ []) q₀ γ1 b1 o1 𝓤 H A W (named 0) ℓ l)
+      (⋆ 𝓤 H A (later (some (λ (δ : GName). ‵ (MutSlice ℓ (ν ∷ []) u64 .own (ref1 δ l) (sliceVal (b1, o1) t ∷ [])) ⊛ ‵ (Lent1 ν δ l))) ∷ []))) e
+      (lends-again u64 κ₀ (ν ∷ []) q₀ γ1 b1 o1 𝓤 H A W (named 0) ℓ l)
 
   backs1 : (ℓ : Lifetime) (ν : ℕ) (δ : GName) (l l′ : List ℕ) → length l ≡ length ys1 → Room u64 (length ys1) → length l′ ≡ length l
       → ent 𝓤 (⋆ 𝓤 H A (‵ (fdead (ν ∷ [])) ∷ ‵ (Lent1 ν δ l) ∷ ‵ (finally u64 δ l′) ∷ [])) (⋆ 𝓤 H A (later (‵ (O1 l′) ⊛ ‵ (flft κ₀ q₀)) ∷ []))
@@ -133,9 +160,11 @@ module _ {M : Type 1} (𝓤 : URA M) (H : Heap 𝓤) (A : Atoms 𝓤) (W : Given
   abbrev Lent2 : ℕ → GName → List ℕ → Fml
   Lent2 ν δ l = LentAgain u64 κ₁ (ν ∷ []) q₁ γ2 b2 o2 δ l
 
-  lends2 : (ℓ : Lifetime) (ν : ℕ) (l : List ℕ) → length l ≡ length ys2 → ent 𝓤 (⋆ 𝓤 H A (‵ (O2 l) ∷ ‵ (flft κ₁ q₁) ∷ [])) (⋆ 𝓤 H A (later (some (λ (δ : GName). ‵ (MutSlice ℓ (ν ∷ []) u64 .own (ref2 δ l) (v2 ∷ [])) ⊛ ‵ (Lent2 ν δ l))) ∷ []))
+  lends2 : (ℓ : Lifetime) (ν : ℕ) (l : List ℕ) → length l ≡ length ys2 → ent 𝓤 (⋆ 𝓤 H A (‵ (O2 l) ∷ ‵ (flft κ₁ q₁) ∷ [])) (⋆ 𝓤 H A (later (some (λ (δ
+      : GName). ‵ (MutSlice ℓ (ν ∷ []) u64 .own (ref2 δ l) (v2 ∷ [])) ⊛ ‵ (Lent2 ν δ l))) ∷ []))
   lends2 ℓ ν l e = subst (λ (t : ℕ). ent 𝓤 (⋆ 𝓤 H A (‵ (MutSlice (named 1) κ₁ u64 .own (ref2 γ2 l) (sliceVal (b2, o2) t ∷ [])) ∷ ‵ (flft κ₁ q₁) ∷ []))
-      (⋆ 𝓤 H A (later (some (λ (δ : GName). ‵ (MutSlice ℓ (ν ∷ []) u64 .own (ref2 δ l) (sliceVal (b2, o2) t ∷ [])) ⊛ ‵ (Lent2 ν δ l))) ∷ []))) e (lends-again u64 κ₁ (ν ∷ []) q₁ γ2 b2 o2 𝓤 H A W (named 1) ℓ l)
+      (⋆ 𝓤 H A (later (some (λ (δ : GName). ‵ (MutSlice ℓ (ν ∷ []) u64 .own (ref2 δ l) (sliceVal (b2, o2) t ∷ [])) ⊛ ‵ (Lent2 ν δ l))) ∷ []))) e
+      (lends-again u64 κ₁ (ν ∷ []) q₁ γ2 b2 o2 𝓤 H A W (named 1) ℓ l)
 
   backs2 : (ℓ : Lifetime) (ν : ℕ) (δ : GName) (l l′ : List ℕ) → length l ≡ length ys2 → Room u64 (length ys2) → length l′ ≡ length l
       → ent 𝓤 (⋆ 𝓤 H A (‵ (fdead (ν ∷ [])) ∷ ‵ (Lent2 ν δ l) ∷ ‵ (finally u64 δ l′) ∷ [])) (⋆ 𝓤 H A (later (‵ (O2 l′) ⊛ ‵ (flft κ₁ q₁)) ∷ []))
@@ -185,53 +214,513 @@ module _ {M : Type 1} (𝓤 : URA M) (H : Heap 𝓤) (A : Atoms 𝓤) (W : Given
   abbrev Post : Val → SProp 𝓤
   Post = walkOf 𝓤 H A f.ended stayed (f.clauses 𝓤 H A at-mem run) .post (((κ₀, (κ₁, (κ₂, (κ₃, (κ₄, tt))))), (q₀, (q₁, (q₂, (q₃, (q₄, tt))))), tt, a, at), tt)
 
-  module _ (C : Calls 𝓤 H) (Λ : Loops 𝓤 H) (fm : FmC 𝓤 H (W .laws) C) (known-g1 : Triple 𝓤 (C #g1) (Callee-g1 𝓤 H A at-mem run)) (known-g2 : Triple 𝓤 (C #g2) (Callee-g2 𝓤 H A at-mem run)) (room1 : Room u64 (length ys1)) (room2 : Room u64 (length ys2)) (w3 : Is u64 n3 (u3 ∷ [])) (w4 : Is mShapes.the-row n4 (u4 ∷ [])) (w5 : Is (Array mEntry.the-row 384) n5 (u5 ∷ [])) (w6 : Is u64 n6 (u6 ∷ [])) (w7 : Is (ShrSlice (named 2) κ₂ u64) s7 (v7 ∷ [])) (w8 : Is (ShrSlice (named 3) κ₃ u64) s8 (v8 ∷ [])) (w9 : Is (ShrSlice (named 4) κ₄ u64) s9 (v9 ∷ [])) where
+  module _ (C : Calls 𝓤 H) (Λ : Loops 𝓤 H) (fm : FmC 𝓤 H (W .laws) C) (known-g1 : Triple 𝓤 (C #g1) (Callee-g1 𝓤 H A at-mem run)) (known-g2 : Triple 𝓤
+      (C #g2) (Callee-g2 𝓤 H A at-mem run)) (room1 : Room u64 (length ys1)) (room2 : Room u64 (length ys2)) (w3 : Is u64 n3 (u3 ∷ [])) (w4 : Is
+      mShapes.the-row n4 (u4 ∷ [])) (w5 : Is (Array mEntry.the-row 384) n5 (u5 ∷ [])) (w6 : Is u64 n6 (u6 ∷ [])) (w7 : Is (ShrSlice (named 2) κ₂ u64)
+      s7 (v7 ∷ [])) (w8 : Is (ShrSlice (named 3) κ₃ u64) s8 (v8 ∷ [])) (w9 : Is (ShrSlice (named 4) κ₄ u64) s9 (v9 ∷ [])) where
     walk : ent 𝓤 (onEntry 𝓤 H A f.signature (κ₀, (κ₁, (κ₂, (κ₃, (κ₄, tt))))) (q₀, (q₁, (q₂, (q₃, (q₄, tt))))) a at) (WpFn 𝓤 H C Λ code.function (v1 ∷ v2 ∷ v3 ∷ v4 ∷ v5 ∷ v6 ∷ v7 ∷ v8 ∷ v9 ∷ []) Post)
     walk =
-        qed W ((‵ (flft κ₀ q₀) ⊛ ‵ (flft κ₁ q₁) ⊛ ‵ (flft κ₂ q₂) ⊛ ‵ (flft κ₃ q₃) ⊛ ‵ (flft κ₄ q₄) ⊛ ‵ ftrue) ∷ ‵ (owns (MutSlice (named 0) κ₀ u64 ∷ MutSlice (named 1) κ₁ u64 ∷ u64 ∷ mShapes.the-row ∷ (Array mEntry.the-row 384) ∷ u64 ∷ ShrSlice (named 2) κ₂ u64 ∷ ShrSlice (named 3) κ₃ u64 ∷ ShrSlice (named 4) κ₄ u64 ∷ []) a at) ∷ []) ∵ enter ! C Λ code.function (v1 ∷ v2 ∷ v3 ∷ v4 ∷ v5 ∷ v6 ∷ v7 ∷ v8 ∷ v9 ∷ []) _ $
-        nothing ! $ alloc ! (λ l₀. alloc ! (λ l₁. alloc ! (λ l₂. alloc ! (λ l₃. alloc ! (λ l₄. alloc ! (λ l₅. alloc ! (λ l₆. alloc ! (λ l₇. alloc ! (λ l₈. alloc ! (λ l₉. alloc ! (λ l₁₀. alloc ! (λ l₁₁. alloc ! (λ l₁₂. alloc ! (λ l₁₃. alloc ! (λ l₁₄. alloc ! (λ l₁₅. alloc ! (λ l₁₆. alloc ! (λ l₁₇. alloc ! (λ l₁₈. alloc0 ! $ hide ! (λ died die. params1 ! $ pass1 ! (init ! 18 refl (tt, (tt, (record { fits = room1 .0 }, tt)))) $ pass1 ! (init ! 17 refl (tt, (tt, (record { fits = room2 .0 }, tt)))) $ pass1 ! (init ! 16 refl (uint-lawful 𝓤 H A W w64 .typed n3 _ w3 .0)) $ pass1 ! (init ! 15 refl (LL.lawful mShapes.the-type lShapes.the-laws 𝓤 H A W .typed n4 _ w4 .0)) $ pass1 ! (init ! 14 refl (array-lawful 𝓤 H A W mEntry.the-row (LL.lawful mEntry.the-type lEntry.the-laws 𝓤 H A W) 384 .typed n5 _ w5 .0)) $ pass1 ! (init ! 13 refl (uint-lawful 𝓤 H A W w64 .typed n6 _ w6 .0)) $ pass1 ! (init ! 12 refl (shr-slice-lawful 𝓤 H A W (named 2) κ₂ u64 .typed s7 (v7 ∷ []) w7 .0)) $ pass1 ! (init ! 11 refl (shr-slice-lawful 𝓤 H A W (named 3) κ₃ u64 .typed s8 (v8 ∷ []) w8 .0)) $ pass1 ! (init ! 10 refl (shr-slice-lawful 𝓤 H A W (named 4) κ₄ u64 .typed s9 (v9 ∷ []) w9 .0)) $ pass0 ! $
-        move ! (21 ∷ []) $ fsplit ! $ move ! (1 ∷ []) $ fsplit ! $ move ! (1 ∷ []) $ fsplit ! $ move ! (1 ∷ []) $ fsplit ! $ move ! (1 ∷ []) $ fsplit ! $ move ! (1 ∷ []) $ fsplit ! $ move ! (1 ∷ []) $ fsplit ! $ move ! (1 ∷ []) $ fsplit ! $ move ! (1 ∷ []) $ fsplit ! $ move ! (1 ∷ []) $ drop ! $ move ! (29 ∷ []) $ split ! $ move ! (1 ∷ []) $ split ! $ move ! (1 ∷ []) $ split ! $ move ! (1 ∷ []) $ split ! $ move ! (1 ∷ []) $ split ! $ move ! (1 ∷ []) $ drop ! $ tidy W (_ ∷ _ ∷ _ ∷ _ ∷ _ ∷ _ ∷ _ ∷ _ ∷ _ ∷ _ ∷ _ ∷ _ ∷ _ ∷ _ ∷ _ ∷ _ ∷ _ ∷ _ ∷ _ ∷ _ ∷ _ ∷ _ ∷ _ ∷ _ ∷ _ ∷ _ ∷ _ ∷ _ ∷ _ ∷ _ ∷ _ ∷ _ ∷ _ ∷ _ ∷ []) $
-        assigns ! (of-opd ! (load ! (from ! (stop !)) (look ! 28 refl))) (from ! (stop !)) (init ! 23 refl (array-lawful 𝓤 H A W mEntry.the-row (LL.lawful mEntry.the-type lEntry.the-laws 𝓤 H A W) 384 .typed n5 _ w5 .0)) $
+        qed W ((‵ (flft κ₀ q₀) ⊛ ‵ (flft κ₁ q₁) ⊛ ‵ (flft κ₂ q₂) ⊛ ‵ (flft κ₃ q₃) ⊛ ‵ (flft κ₄ q₄) ⊛ ‵ ftrue) ∷ ‵ (owns (MutSlice (named 0) κ₀ u64 ∷
+        MutSlice (named 1) κ₁ u64 ∷ u64 ∷ mShapes.the-row ∷ (Array mEntry.the-row 384) ∷ u64 ∷ ShrSlice (named 2) κ₂ u64 ∷ ShrSlice (named 3) κ₃
+        u64 ∷ ShrSlice (named 4) κ₄ u64 ∷ []) a at) ∷ []) ∵ enter ! C Λ code.function (v1 ∷ v2 ∷ v3 ∷ v4 ∷ v5 ∷ v6 ∷ v7 ∷ v8 ∷ v9 ∷ []) _ $
+        nothing ! $ alloc ! (λ l₀. alloc ! (λ l₁. alloc ! (λ l₂. alloc ! (λ l₃. alloc ! (λ l₄. alloc ! (λ l₅. alloc ! (λ l₆. alloc ! (λ l₇. alloc !
+        (λ l₈. alloc ! (λ l₉. alloc ! (λ l₁₀. alloc ! (λ l₁₁. alloc ! (λ l₁₂. alloc ! (λ l₁₃. alloc ! (λ l₁₄. alloc ! (λ l₁₅. alloc ! (λ l₁₆.
+        alloc ! (λ l₁₇. alloc ! (λ l₁₈. alloc0 ! $ hide ! (λ died die. params1 ! $ pass1 ! (init ! 18 refl (
+          tt,
+          (
+            tt,
+            (
+              record { fits = room1 .0 },
+              tt,
+            ),
+          ),
+        )) $ pass1 ! (init ! 17 refl (tt, (tt, (record { fits = room2 .0 }, tt)))) $ pass1 ! (init ! 16 refl (uint-lawful 𝓤 H A W w64 .typed
+        n3 _ w3 .0)) $ pass1 ! (init ! 15 refl (LL.lawful mShapes.the-type lShapes.the-laws 𝓤 H A W .typed n4 _ w4 .0)) $ pass1 ! (init ! 14 refl
+        (array-lawful 𝓤 H A W mEntry.the-row (LL.lawful mEntry.the-type lEntry.the-laws 𝓤 H A W) 384 .typed n5 _ w5 .0)) $ pass1 ! (init ! 13
+        refl (uint-lawful 𝓤 H A W w64 .typed n6 _ w6 .0)) $ pass1 ! (init ! 12 refl (shr-slice-lawful 𝓤 H A W (named 2) κ₂ u64 .typed s7 (v7 ∷
+        []) w7 .0)) $ pass1 ! (init ! 11 refl (shr-slice-lawful 𝓤 H A W (named 3) κ₃ u64 .typed s8 (v8 ∷ []) w8 .0)) $ pass1 ! (init ! 10 refl
+        (shr-slice-lawful 𝓤 H A W (named 4) κ₄ u64 .typed s9 (v9 ∷ []) w9 .0)) $ pass0 ! $
+        move ! (21 ∷ []) $ fsplit ! $ move ! (1 ∷ []) $ fsplit ! $ move ! (1 ∷ []) $ fsplit ! $ move ! (1 ∷ []) $ fsplit ! $ move ! (1 ∷ []) $ fsplit
+        ! $ move ! (1 ∷ []) $ fsplit ! $ move ! (1 ∷ []) $ fsplit ! $ move ! (1 ∷ []) $ fsplit ! $ move ! (1 ∷ []) $ fsplit ! $ move ! (1 ∷ []) $
+        drop ! $ move ! (29 ∷ []) $ split ! $ move ! (1 ∷ []) $ split ! $ move ! (1 ∷ []) $ split ! $ move ! (1 ∷ []) $ split ! $ move ! (1 ∷ [])
+        $ split ! $ move ! (1 ∷ []) $ drop ! $ tidy W (_ ∷ _ ∷ _ ∷ _ ∷ _ ∷ _ ∷ _ ∷ _ ∷ _ ∷ _ ∷ _ ∷ _ ∷ _ ∷ _ ∷ _ ∷ _ ∷ _ ∷ _ ∷ _ ∷ _ ∷ _ ∷ _ ∷ _
+        ∷ _ ∷ _ ∷ _ ∷ _ ∷ _ ∷ _ ∷ _ ∷ _ ∷ _ ∷ _ ∷ _ ∷ []) $
+        assigns ! (of-opd ! (load ! (from ! (stop !)) (look ! 28 refl))) (from ! (stop !)) (init ! 23 refl (array-lawful 𝓤 H A W mEntry.the-row
+        (LL.lawful mEntry.the-type lEntry.the-laws 𝓤 H A W) 384 .typed n5 _ w5 .0)) $
         assigns ! (of-opd ! (lit ! tt)) (from ! (stop !)) (init ! 22 refl (tt, record { fits = lit< tt })) $
         tidy W (_ ∷ _ ∷ _ ∷ _ ∷ _ ∷ _ ∷ _ ∷ _ ∷ _ ∷ _ ∷ _ ∷ _ ∷ _ ∷ _ ∷ _ ∷ _ ∷ _ ∷ _ ∷ _ ∷ _ ∷ _ ∷ _ ∷ _ ∷ _ ∷ _ ∷ _ ∷ _ ∷ _ ∷ _ ∷ _ ∷ _ ∷ _ ∷ _ ∷ _ ∷ []) $ nothing ! $
         -- call 1
-        use1 W (raw (Callee-g1 𝓤 H A at-mem run .pre ((tt, tt, tt, (n6, (384, tt)), (u6 ∷ [], ((vint w64 384) ∷ [], tt))), tt))) (qed W ((‵ ftrue) ∷ []) ∵ nothing ! $ owned ! u64 (Is u64) (uint-makes 𝓤 H A W w64) (384) _ (refl, lit< tt) $ fjoin ! $ owned ! u64 (Is u64) (uint-makes 𝓤 H A W w64) (n6) _ w6 $ fjoin ! $ move ! (1 ∷ 0 ∷ []) $ join ! $ nothing ! $ move ! (1 ∷ 0 ∷ []) $ frame ! $ done !) $
-        calls-at ! fm (Callee-g1 𝓤 H A at-mem run) known-g1 ((tt, tt, tt, (n6, (384, tt)), (u6 ∷ [], ((vint w64 384) ∷ [], tt))), tt) (and-then ! (load ! (from ! (stop !)) (look ! 28 refl)) (and-then ! (load ! (from ! (stop !)) (look ! 23 refl)) (no-more !))) (λ z1.
-        use1 W (later (some (λ (r1 : ℕ). ((‵ ftrue) ⊛ ‵ (u64 .own r1 (z1 ∷ []))) ⊛ some (λ (ws : Lasts g1.ended tt (n6, (384, tt))). ‵ (lasts g1.ended tt (n6, (384, tt)) ws) ⊛ raw (g1.clauses 𝓤 H A at-mem run tt (n6, (384, tt)) .ensures tt r1 (atExit g1.ended tt (n6, (384, tt)) ws)))))) (id⊢ 𝓤 _) $ await ! tt $ pick ! (λ r1. split ! $ move ! (1 ∷ []) $ pick ! (λ ws1. split ! $ move ! (1 ∷ []) $ heard ! _ (λ e1.
+        use1 W (raw (Callee-g1 𝓤 H A at-mem run .pre ((tt, tt, tt, (n6, (384, tt)), (u6 ∷ [], ((vint w64 384) ∷ [], tt))), tt))) (qed W ((‵ ftrue) ∷
+        []) ∵ nothing ! $ owned ! u64 (Is u64) (uint-makes 𝓤 H A W w64) (384) _ (refl, lit< tt) $ fjoin ! $ owned ! u64 (Is u64) (uint-makes 𝓤 H
+        A W w64) (n6) _ w6 $ fjoin ! $ move ! (1 ∷ 0 ∷ []) $ join ! $ nothing ! $ move ! (1 ∷ 0 ∷ []) $ frame ! $ done !) $
+        calls-at ! fm (Callee-g1 𝓤 H A at-mem run) known-g1 ((tt, tt, tt, (n6, (384, tt)), (u6 ∷ [], ((vint w64 384) ∷ [], tt))), tt) (and-then !
+        (load ! (from ! (stop !)) (look ! 28 refl)) (and-then ! (load ! (from ! (stop !)) (look ! 23 refl)) (no-more !))) (λ z1.
+        use1 W (later (some (λ (r1 : ℕ). ((‵ ftrue) ⊛ ‵ (u64 .own r1 (z1 ∷ []))) ⊛ some (λ (ws : Lasts g1.ended tt (n6, (384, tt))). ‵ (lasts
+        g1.ended tt (n6, (384, tt)) ws) ⊛ raw (g1.clauses 𝓤 H A at-mem run tt (n6, (384, tt)) .ensures tt r1 (atExit g1.ended tt (n6, (384, tt))
+        ws)))))) (id⊢ 𝓤 _) $ await ! tt $ pick ! (λ r1. split ! $ move ! (1 ∷ []) $ pick ! (λ ws1. split ! $ move ! (1 ∷ []) $ heard ! _ (λ e1.
         drop ! $ split ! $ move ! (1 ∷ []) $ peeks ! u64 (Is u64) (shows 𝓤 H A u64) r1 (z1 ∷ []) (λ i1. drop ! $ land ! (from ! (stop !)) (init ! 22 refl (uint-lawful 𝓤 H A W w64 .typed r1 _ i1 .0)) $
-        tidy W (_ ∷ _ ∷ _ ∷ _ ∷ _ ∷ _ ∷ _ ∷ _ ∷ _ ∷ _ ∷ _ ∷ _ ∷ _ ∷ _ ∷ _ ∷ _ ∷ _ ∷ _ ∷ _ ∷ _ ∷ _ ∷ _ ∷ _ ∷ _ ∷ _ ∷ _ ∷ _ ∷ _ ∷ _ ∷ _ ∷ _ ∷ _ ∷ _ ∷ _ ∷ _ ∷ []) $ drop ! $ assigns ! (addr ! (from ! (fld ! refl (hop ! (look-in ! 32 (sub ! 0 refl (whole !))) (stop !))))) (from ! (stop !)) (init ! 20 refl (tt, tt)) $
-        assigns ! (agg ! (and-then ! (load ! (from ! (stop !)) (look ! 20 refl)) (and-then ! (load ! (from ! (fld ! refl (stop !))) (look-in ! 32 (sub ! 1 refl (whole !)))) (no-more !)))) (from ! (stop !)) (init ! 19 refl (tt, (tt, (record { fits = room1 .0 }, tt)))) $
+        tidy W (_ ∷ _ ∷ _ ∷ _ ∷ _ ∷ _ ∷ _ ∷ _ ∷ _ ∷ _ ∷ _ ∷ _ ∷ _ ∷ _ ∷ _ ∷ _ ∷ _ ∷ _ ∷ _ ∷ _ ∷ _ ∷ _ ∷ _ ∷ _ ∷ _ ∷ _ ∷ _ ∷ _ ∷ _ ∷ _ ∷ _ ∷ _ ∷ _ ∷ _
+        ∷ _ ∷ []) $ drop ! $ assigns ! (addr ! (from ! (fld ! refl (hop ! (look-in ! 32 (sub ! 0 refl (whole !))) (stop !))))) (from ! (stop !))
+        (init ! 20 refl (tt, tt)) $
+        assigns ! (agg ! (and-then ! (load ! (from ! (stop !)) (look ! 20 refl)) (and-then ! (load ! (from ! (fld ! refl (stop !))) (look-in ! 32
+        (sub ! 1 refl (whole !)))) (no-more !)))) (from ! (stop !)) (init ! 19 refl (tt, (tt, (record { fits = room1 .0 }, tt)))) $
         assigns ! (addr ! (from ! (fld ! refl (hop ! (look-in ! 31 (sub ! 0 refl (whole !))) (stop !))))) (from ! (stop !)) (init ! 18 refl (tt, tt)) $
-        assigns ! (agg ! (and-then ! (load ! (from ! (stop !)) (look ! 18 refl)) (and-then ! (load ! (from ! (fld ! refl (stop !))) (look-in ! 31 (sub ! 1 refl (whole !)))) (no-more !)))) (from ! (stop !)) (init ! 17 refl (tt, (tt, (record { fits = room2 .0 }, tt)))) $
+        assigns ! (agg ! (and-then ! (load ! (from ! (stop !)) (look ! 18 refl)) (and-then ! (load ! (from ! (fld ! refl (stop !))) (look-in ! 31
+        (sub ! 1 refl (whole !)))) (no-more !)))) (from ! (stop !)) (init ! 17 refl (tt, (tt, (record { fits = room2 .0 }, tt)))) $
         assigns ! (addr ! (from ! (stop !))) (from ! (stop !)) (init ! 16 refl (tt, tt)) $
-        rewrite ! 21 (λ (w : Val). ‵ (fat fullShare (tyInt w64) l₁₂ 0 w)) (ap only (i1 .0)) refl $ assigns ! (agg ! (and-then ! (load ! (from ! (stop !)) (look ! 16 refl)) (and-then ! (load ! (from ! (stop !)) (look ! 21 refl)) (no-more !)))) (from ! (stop !)) (init ! 15 refl (tt, (tt, (record { fits = i1 .1 }, tt)))) $
-        lft-new ! tt (λ ν2a. move ! (14 ∷ 5 ∷ []) $ use2 W (later (some (λ (δ : GName). ‵ (MutSlice (named 0) (ν2a ∷ []) u64 .own (ref1 δ (ys1)) (v1 ∷ [])) ⊛ ‵ (Lent1 ν2a δ (ys1))))) (lends1 (named 0) ν2a (ys1) (refl)) $ await ! tt $ pick ! (λ δ2a. split ! $
-        lft-new ! tt (λ ν2b. move ! (15 ∷ 7 ∷ []) $ use2 W (later (some (λ (δ : GName). ‵ (MutSlice (named 1) (ν2b ∷ []) u64 .own (ref2 δ (ys2)) (v2 ∷ [])) ⊛ ‵ (Lent2 ν2b δ (ys2))))) (lends2 (named 1) ν2b (ys2) (refl)) $ await ! tt $ pick ! (λ δ2b. split ! $
-        lft-new ! tt (λ ν2e. owned ! (Array mEntry.the-row 384) (Is (Array mEntry.the-row 384)) (array-makes 𝓤 H A W mEntry.the-row (LL.makes mEntry.the-type lEntry.the-plain 𝓤 H A) 384) (n5) _ w5 $ move ! (27 ∷ 0 ∷ []) $ use1 W (‵ (cellAt fullShare ((Array mEntry.the-row 384) .mir) (u5 ∷ []) l₁₀ 0)) (W .laws .at-raw fullShare (tyArray (lEntry.mir) 384) l₁₀ 0 (u5)) $ into ! (Array mEntry.the-row 384) fullShare (n5) (u5 ∷ []) l₁₀ 0 $
+        rewrite ! 21 (λ (w : Val). ‵ (fat fullShare (tyInt w64) l₁₂ 0 w)) (ap only (i1 .0)) refl $ assigns ! (agg ! (and-then ! (load ! (from ! (stop
+        !)) (look ! 16 refl)) (and-then ! (load ! (from ! (stop !)) (look ! 21 refl)) (no-more !)))) (from ! (stop !)) (init ! 15 refl (
+          tt,
+          (
+            tt,
+            (record { fits = i1 .1 }, tt),
+          ),
+        )) $
+        lft-new ! tt (λ ν2a. move ! (14 ∷ 5 ∷ []) $ use2 W (later (some (λ (δ : GName). ‵ (MutSlice (named 0) (ν2a ∷ []) u64 .own (ref1 δ (ys1)) (v1
+        ∷ [])) ⊛ ‵ (Lent1 ν2a δ (ys1))))) (lends1 (named 0) ν2a (ys1) (refl)) $ await ! tt $ pick ! (λ δ2a. split ! $
+        lft-new ! tt (λ ν2b. move ! (15 ∷ 7 ∷ []) $ use2 W (later (some (λ (δ : GName). ‵ (MutSlice (named 1) (ν2b ∷ []) u64 .own (ref2 δ (ys2)) (v2
+        ∷ [])) ⊛ ‵ (Lent2 ν2b δ (ys2))))) (lends2 (named 1) ν2b (ys2) (refl)) $ await ! tt $ pick ! (λ δ2b. split ! $
+        lft-new ! tt (λ ν2e. owned ! (Array mEntry.the-row 384) (Is (Array mEntry.the-row 384)) (array-makes 𝓤 H A W mEntry.the-row (LL.makes
+        mEntry.the-type lEntry.the-plain 𝓤 H A) 384) (n5) _ w5 $ move ! (27 ∷ 0 ∷ []) $ use1 W (‵ (cellAt fullShare ((Array mEntry.the-row 384)
+        .mir) (u5 ∷ []) l₁₀ 0)) (W .laws .at-raw fullShare (tyArray (lEntry.mir) 384) l₁₀ 0 (u5)) $ into ! (Array mEntry.the-row 384) fullShare
+        (n5) (u5 ∷ []) l₁₀ 0 $
         use1 W (‵ (arr-parts (shares mEntry.the-row) 384 .part fullShare (n5) l₁₀ 0)) (array-apart 𝓤 H A W mEntry.the-row fullShare tt 384 (n5) l₁₀ 0) $ fsplit ! $ feqL ! (λ ln2e.
-        use1 W (‵ (parts (mem mEntry.the-row) (shares mEntry.the-row) fullShare (take r1 (n5)) l₁₀ 0) ⊛ ‵ (rest mEntry.the-row fullShare r1 (n5) l₁₀ 0)) (cut 𝓤 H A mEntry.the-row fullShare r1 (n5) l₁₀ 0) $ split ! $ feqI ! ℕ (length (take r1 (n5))) (length (take r1 (n5))) refl $ fjoin ! $
-        use1 W (later (some (λ (δ : GName). ‵ (ShrSlice (named 2) (ν2e ∷ []) mEntry.the-row .own (record { ptr = (l₁₀, 0); name = δ; now = (take r1 (n5)) }) (sliceVal (l₁₀, 0) (length (take r1 (n5))) ∷ [])) ⊛ ‵ (flent (ν2e ∷ []) (arr-parts (shares mEntry.the-row) (length (take r1 (n5))) .part fullShare (take r1 (n5)) l₁₀ 0))))) (lends-shr-slice 𝓤 H A W mEntry.the-row (named 2) (ν2e ∷ []) fullShare (take r1 (n5)) l₁₀ 0 (subst (Room mEntry.the-row) (sym (length-take-le r1 (n5) (subst (λ (m : ℕ). r1 ≤ m) (sym ln2e) ((e1 .1))))) (room-of mEntry.the-row r1 384 ((e1 .1)) (lit< tt, lit< tt)))) $ await ! tt $ pick ! (λ δ2e. split ! $ rewrite ! 0 (λ (m : ℕ). ‵ (ShrSlice (named 2) (ν2e ∷ []) mEntry.the-row .own (record { ptr = (l₁₀, 0); name = δ2e; now = (take r1 (n5)) }) (sliceVal (l₁₀, 0) m ∷ []))) (length-take-le r1 (n5) (subst (λ (m : ℕ). r1 ≤ m) (sym ln2e) ((e1 .1)))) refl $
-        move ! (15 ∷ []) $ use1 W (‵ (O7) ⊛ ‵ (O7)) (shr-slice-copy 𝓤 H A W (named 2) κ₂ u64 .twice s7 (v7 ∷ [])) $ split ! $ move ! (16 ∷ []) $ use1 W (‵ (O8) ⊛ ‵ (O8)) (shr-slice-copy 𝓤 H A W (named 3) κ₃ u64 .twice s8 (v8 ∷ [])) $ split ! $ move ! (17 ∷ []) $ use1 W (‵ (O9) ⊛ ‵ (O9)) (shr-slice-copy 𝓤 H A W (named 4) κ₄ u64 .twice s9 (v9 ∷ [])) $ split ! $ tidy W (_ ∷ _ ∷ _ ∷ _ ∷ _ ∷ _ ∷ _ ∷ _ ∷ _ ∷ _ ∷ _ ∷ _ ∷ _ ∷ _ ∷ _ ∷ _ ∷ _ ∷ _ ∷ _ ∷ _ ∷ _ ∷ _ ∷ _ ∷ _ ∷ _ ∷ _ ∷ _ ∷ _ ∷ _ ∷ _ ∷ _ ∷ _ ∷ _ ∷ _ ∷ _ ∷ _ ∷ _ ∷ _ ∷ _ ∷ _ ∷ _ ∷ _ ∷ []) $ nothing ! $ move ! (17 ∷ 0 ∷ []) $ join ! $ move ! (17 ∷ 0 ∷ []) $ join ! $ move ! (17 ∷ 0 ∷ []) $ join ! $ move ! (10 ∷ 0 ∷ []) $ join ! $ move ! (12 ∷ 0 ∷ []) $ join ! $ move ! (14 ∷ 0 ∷ []) $ join ! $ move ! (3 ∷ 1 ∷ []) $ join ! $ move ! (4 ∷ 0 ∷ []) $ join ! $ move ! (5 ∷ 0 ∷ []) $ join ! $ move ! (7 ∷ 0 ∷ []) $ join ! $ move ! (8 ∷ 0 ∷ []) $ join ! $ move ! (1 ∷ 0 ∷ []) $ join ! $
+        use1 W (‵ (parts (mem mEntry.the-row) (shares mEntry.the-row) fullShare (take r1 (n5)) l₁₀ 0) ⊛ ‵ (rest mEntry.the-row fullShare r1 (n5) l₁₀
+        0)) (cut 𝓤 H A mEntry.the-row fullShare r1 (n5) l₁₀ 0) $ split ! $ feqI ! ℕ (length (take r1 (n5))) (length (take r1 (n5))) refl $ fjoin
+        ! $
+        use1 W (later (some (λ (δ : GName). ‵ (ShrSlice (named 2) (ν2e ∷ []) mEntry.the-row .own (record {
+          ptr = (l₁₀, 0);
+          name = δ;
+          now = (take r1
+              (n5));
+        }) (sliceVal (l₁₀, 0) (length (take r1 (n5))) ∷ [])) ⊛ ‵ (flent (ν2e ∷ []) (arr-parts (shares mEntry.the-row) (length (take r1
+        (n5))) .part fullShare (take r1 (n5)) l₁₀ 0))))) (lends-shr-slice 𝓤 H A W mEntry.the-row (named 2) (ν2e ∷ []) fullShare (take r1 (n5))
+        l₁₀ 0 (subst (Room mEntry.the-row) (sym (length-take-le r1 (n5) (subst (λ (m : ℕ). r1 ≤ m) (sym ln2e) ((e1 .1))))) (room-of
+        mEntry.the-row r1 384 ((e1 .1)) (lit< tt, lit< tt)))) $ await ! tt $ pick ! (λ δ2e. split ! $ rewrite ! 0 (λ (m : ℕ). ‵ (ShrSlice (named
+        2) (ν2e ∷ []) mEntry.the-row .own (record { ptr = (l₁₀, 0); name = δ2e; now = (take r1 (n5)) }) (sliceVal (l₁₀, 0) m ∷ [])))
+        (length-take-le r1 (n5) (subst (λ (m : ℕ). r1 ≤ m) (sym ln2e) ((e1 .1)))) refl $
+        move ! (15 ∷ []) $ use1 W (‵ (O7) ⊛ ‵ (O7)) (shr-slice-copy 𝓤 H A W (named 2) κ₂ u64 .twice s7 (v7 ∷ [])) $ split ! $ move ! (16 ∷ []) $ use1
+        W (‵ (O8) ⊛ ‵ (O8)) (shr-slice-copy 𝓤 H A W (named 3) κ₃ u64 .twice s8 (v8 ∷ [])) $ split ! $ move ! (17 ∷ []) $ use1 W (‵ (O9) ⊛ ‵ (O9))
+        (shr-slice-copy 𝓤 H A W (named 4) κ₄ u64 .twice s9 (v9 ∷ [])) $ split ! $ tidy W (_ ∷ _ ∷ _ ∷ _ ∷ _ ∷ _ ∷ _ ∷ _ ∷ _ ∷ _ ∷ _ ∷ _ ∷ _ ∷ _ ∷
+        _ ∷ _ ∷ _ ∷ _ ∷ _ ∷ _ ∷ _ ∷ _ ∷ _ ∷ _ ∷ _ ∷ _ ∷ _ ∷ _ ∷ _ ∷ _ ∷ _ ∷ _ ∷ _ ∷ _ ∷ _ ∷ _ ∷ _ ∷ _ ∷ _ ∷ _ ∷ _ ∷ _ ∷ []) $ nothing ! $ move !
+        (17 ∷ 0 ∷ []) $ join ! $ move ! (17 ∷ 0 ∷ []) $ join ! $ move ! (17 ∷ 0 ∷ []) $ join ! $ move ! (10 ∷ 0 ∷ []) $ join ! $ move ! (12 ∷ 0 ∷
+        []) $ join ! $ move ! (14 ∷ 0 ∷ []) $ join ! $ move ! (3 ∷ 1 ∷ []) $ join ! $ move ! (4 ∷ 0 ∷ []) $ join ! $ move ! (5 ∷ 0 ∷ []) $ join !
+        $ move ! (7 ∷ 0 ∷ []) $ join ! $ move ! (8 ∷ 0 ∷ []) $ join ! $ move ! (1 ∷ 0 ∷ []) $ join ! $
         -- call 2
-        use1 W (raw (Callee-g2 𝓤 H A at-mem run .pre ((((ν2a ∷ []), ((ν2b ∷ []), ((ν2e ∷ []), (κ₂, (κ₃, (κ₄, tt)))))), (fullShare, (fullShare, (fullShare, (q₂, (q₃, (q₄, tt)))))), tt, (ref1 δ2a (ys1), (ref2 δ2b (ys2), (n3, (n4, (record { ptr = (l₁₀, 0); name = δ2e; now = (take r1 (n5)) }, (s7, (s8, (s9, tt)))))))), (v1 ∷ [], (v2 ∷ [], (u3 ∷ [], (u4 ∷ [], (sliceVal (l₁₀, 0) r1 ∷ [], (v7 ∷ [], (v8 ∷ [], (v9 ∷ [], tt))))))))), tt))) (qed W ((‵ (flft (ν2a ∷ []) fullShare) ⊛ ‵ (flft (ν2b ∷ []) fullShare) ⊛ ‵ (flft (ν2e ∷ []) fullShare) ⊛ ‵ (flft κ₂ q₂) ⊛ ‵ (flft κ₃ q₃) ⊛ ‵ (flft κ₄ q₄) ⊛ ‵ ftrue) ∷ ‵ (MutSlice (named 0) (ν2a ∷ []) u64 .own (ref1 δ2a (ys1)) (v1 ∷ [])) ∷ ‵ (MutSlice (named 1) (ν2b ∷ []) u64 .own (ref2 δ2b (ys2)) (v2 ∷ [])) ∷ ‵ (ShrSlice (named 2) (ν2e ∷ []) mEntry.the-row .own (record { ptr = (l₁₀, 0); name = δ2e; now = (take r1 (n5)) }) (sliceVal (l₁₀, 0) r1 ∷ [])) ∷ ‵ (ShrSlice (named 3) κ₂ u64 .own s7 (v7 ∷ [])) ∷ ‵ (ShrSlice (named 4) κ₃ u64 .own s8 (v8 ∷ [])) ∷ ‵ (ShrSlice (named 5) κ₄ u64 .own s9 (v9 ∷ [])) ∷ []) ∵ nothing ! $ move ! (7 ∷ 0 ∷ []) $ fjoin ! $ move ! (6 ∷ 0 ∷ []) $ fjoin ! $ move ! (5 ∷ 0 ∷ []) $ fjoin ! $ move ! (4 ∷ 0 ∷ []) $ fjoin ! $ owned ! mShapes.the-row (Is mShapes.the-row) (LL.makes mShapes.the-type lShapes.the-plain 𝓤 H A) (n4) _ w4 $ fjoin ! $ owned ! u64 (Is u64) (uint-makes 𝓤 H A W w64) (n3) _ w3 $ fjoin ! $ move ! (3 ∷ 0 ∷ []) $ fjoin ! $ move ! (2 ∷ 0 ∷ []) $ fjoin ! $ move ! (1 ∷ 0 ∷ []) $ join ! $ nothing ! $ move ! (1 ∷ 0 ∷ []) $ frame ! $ done !) $
-        calls-at ! fm (Callee-g2 𝓤 H A at-mem run) known-g2 ((((ν2a ∷ []), ((ν2b ∷ []), ((ν2e ∷ []), (κ₂, (κ₃, (κ₄, tt)))))), (fullShare, (fullShare, (fullShare, (q₂, (q₃, (q₄, tt)))))), tt, (ref1 δ2a (ys1), (ref2 δ2b (ys2), (n3, (n4, (record { ptr = (l₁₀, 0); name = δ2e; now = (take r1 (n5)) }, (s7, (s8, (s9, tt)))))))), (v1 ∷ [], (v2 ∷ [], (u3 ∷ [], (u4 ∷ [], (sliceVal (l₁₀, 0) r1 ∷ [], (v7 ∷ [], (v8 ∷ [], (v9 ∷ [], tt))))))))), tt) (and-then ! (load ! (from ! (stop !)) (look ! 17 refl)) (and-then ! (load ! (from ! (stop !)) (look ! 15 refl)) (and-then ! (load ! (from ! (stop !)) (look ! 27 refl)) (and-then ! (load ! (from ! (stop !)) (look ! 26 refl)) (and-then ! (load ! (from ! (stop !)) (look ! 13 refl)) (and-then ! (load ! (from ! (stop !)) (look ! 23 refl)) (and-then ! (load ! (from ! (stop !)) (look ! 22 refl)) (and-then ! (load ! (from ! (stop !)) (look ! 21 refl)) (no-more !))))))))) (λ z2.
-        use1 W (later (some (λ (r2 : ℕ). ((‵ (flft (ν2a ∷ []) fullShare) ⊛ ‵ (flft (ν2b ∷ []) fullShare) ⊛ ‵ (flft (ν2e ∷ []) fullShare) ⊛ ‵ (flft κ₂ q₂) ⊛ ‵ (flft κ₃ q₃) ⊛ ‵ (flft κ₄ q₄) ⊛ ‵ ftrue) ⊛ ‵ (u32 .own r2 (z2 ∷ []))) ⊛ some (λ (ws : Lasts g2.ended ((ν2a ∷ []), ((ν2b ∷ []), ((ν2e ∷ []), (κ₂, (κ₃, (κ₄, tt)))))) (ref1 δ2a (ys1), (ref2 δ2b (ys2), (n3, (n4, (record { ptr = (l₁₀, 0); name = δ2e; now = (take r1 (n5)) }, (s7, (s8, (s9, tt))))))))). ‵ (lasts g2.ended ((ν2a ∷ []), ((ν2b ∷ []), ((ν2e ∷ []), (κ₂, (κ₃, (κ₄, tt)))))) (ref1 δ2a (ys1), (ref2 δ2b (ys2), (n3, (n4, (record { ptr = (l₁₀, 0); name = δ2e; now = (take r1 (n5)) }, (s7, (s8, (s9, tt)))))))) ws) ⊛ raw (g2.clauses 𝓤 H A at-mem run ((ν2a ∷ []), ((ν2b ∷ []), ((ν2e ∷ []), (κ₂, (κ₃, (κ₄, tt)))))) (ref1 δ2a (ys1), (ref2 δ2b (ys2), (n3, (n4, (record { ptr = (l₁₀, 0); name = δ2e; now = (take r1 (n5)) }, (s7, (s8, (s9, tt)))))))) .ensures tt r2 (atExit g2.ended ((ν2a ∷ []), ((ν2b ∷ []), ((ν2e ∷ []), (κ₂, (κ₃, (κ₄, tt)))))) (ref1 δ2a (ys1), (ref2 δ2b (ys2), (n3, (n4, (record { ptr = (l₁₀, 0); name = δ2e; now = (take r1 (n5)) }, (s7, (s8, (s9, tt)))))))) ws)))))) (id⊢ 𝓤 _) $ await ! tt $ pick ! (λ r2. split ! $ move ! (1 ∷ []) $ pick ! (λ ws2. split ! $ move ! (1 ∷ []) $ heard ! _ (λ e2.
-        fsplit ! $ fsplit ! $ move ! (1 ∷ []) $ feqL ! (λ same2a. move ! (1 ∷ []) $ fsplit ! $ fsplit ! $ move ! (1 ∷ []) $ feqL ! (λ same2b. move ! (1 ∷ []) $ drop ! $ move ! (2 ∷ []) $ split ! $ move ! (1 ∷ []) $ peeks ! u32 (Is u32) (shows 𝓤 H A u32) r2 (z2 ∷ []) (λ i2. drop ! $ land ! (from ! (stop !)) (init ! 32 refl (uint-lawful 𝓤 H A W w32 .typed r2 _ i2 .0)) $
-        tidy W (_ ∷ _ ∷ _ ∷ _ ∷ _ ∷ _ ∷ _ ∷ _ ∷ _ ∷ _ ∷ _ ∷ _ ∷ _ ∷ _ ∷ _ ∷ _ ∷ _ ∷ _ ∷ _ ∷ _ ∷ _ ∷ _ ∷ _ ∷ _ ∷ _ ∷ _ ∷ _ ∷ _ ∷ _ ∷ _ ∷ _ ∷ _ ∷ _ ∷ []) $ split ! $ move ! (1 ∷ []) $ split ! $ move ! (1 ∷ []) $ split ! $ move ! (1 ∷ []) $ split ! $ move ! (1 ∷ []) $ split ! $ move ! (1 ∷ []) $ split ! $ move ! (1 ∷ []) $ drop ! $ move ! (5 ∷ []) $ lft-end ! tt $ move ! (0 ∷ 14 ∷ 7 ∷ []) $ use3 W (later (‵ (O1 (ws2 .0)) ⊛ ‵ (flft κ₀ q₀))) (backs1 (named 0) ν2a δ2a (ys1) (ws2 .0) (refl) room1 same2a) $ await ! tt $ split ! $
-        move ! (6 ∷ []) $ lft-end ! tt $ move ! (0 ∷ 13 ∷ 7 ∷ []) $ use3 W (later (‵ (O2 (ws2 .1 .0)) ⊛ ‵ (flft κ₁ q₁))) (backs2 (named 1) ν2b δ2b (ys2) (ws2 .1 .0) (refl) room2 same2b) $ await ! tt $ split ! $
-        move ! (7 ∷ []) $ lft-end ! tt $ move ! (0 ∷ 11 ∷ []) $ lent-back ! tt $ fsplit ! $ drop ! $ move ! (0 ∷ 11 ∷ []) $ use2 W (‵ (parts (mem mEntry.the-row) (shares mEntry.the-row) fullShare (n5) l₁₀ 0)) (mend 𝓤 H A mEntry.the-row fullShare r1 (n5) l₁₀ 0) $ feqI ! ℕ (length (n5)) 384 ln2e $ fjoin ! $ use1 W (‵ (partAt (Array mEntry.the-row 384) fullShare (n5) l₁₀ 0)) (array-whole 𝓤 H A W mEntry.the-row fullShare 384 (n5) l₁₀ 0) $
-        out ! (Array mEntry.the-row 384) fullShare (n5) l₁₀ 0 (λ vs. spelt ! (Array mEntry.the-row 384) (Is (Array mEntry.the-row 384)) (shows 𝓤 H A (Array mEntry.the-row 384)) (array-vals (LL.vals mEntry.the-type lEntry.the-laws)) (array-tells mEntry.the-row (LL.vals mEntry.the-type lEntry.the-laws) (LL.tells mEntry.the-type lEntry.the-laws) 384) fullShare (n5) vs l₁₀ 0 $ move ! (1 ∷ []) $ peeks ! (Array mEntry.the-row 384) (Is (Array mEntry.the-row 384)) (shows 𝓤 H A (Array mEntry.the-row 384)) (n5) (array-val (LL.vals mEntry.the-type lEntry.the-laws) (n5) ∷ []) (λ w2e. drop ! $ use1 W (‵ (fat fullShare (tyArray (lEntry.mir) 384) l₁₀ 0 (array-val (LL.vals mEntry.the-type lEntry.the-laws) (n5)))) (W .laws .raw-at fullShare (tyArray (lEntry.mir) 384) l₁₀ 0 (array-val (LL.vals mEntry.the-type lEntry.the-laws) (n5))) $
-        tidy W (_ ∷ _ ∷ _ ∷ _ ∷ _ ∷ _ ∷ _ ∷ _ ∷ _ ∷ _ ∷ _ ∷ _ ∷ _ ∷ _ ∷ _ ∷ _ ∷ _ ∷ _ ∷ _ ∷ _ ∷ _ ∷ _ ∷ _ ∷ _ ∷ _ ∷ _ ∷ _ ∷ _ ∷ _ ∷ _ ∷ _ ∷ _ ∷ _ ∷ _ ∷ []) $ returns ! (look ! 33 refl) $ move ! (1 ∷ 2 ∷ 3 ∷ 4 ∷ 5 ∷ 6 ∷ 7 ∷ 8 ∷ 9 ∷ 10 ∷ 11 ∷ 12 ∷ 13 ∷ 14 ∷ 15 ∷ 16 ∷ 17 ∷ 18 ∷ 19 ∷ 20 ∷ 21 ∷ 22 ∷ 23 ∷ 0 ∷ 24 ∷ 25 ∷ 26 ∷ 27 ∷ 28 ∷ 29 ∷ 30 ∷ 31 ∷ 32 ∷ 33 ∷ []) $ move ! (14 ∷ []) $ use1 W (dies ((tyInt w32, l₀) ∷ (sliceTy (tyRef (named 0) mut (tyInt w64)), l₁) ∷ (sliceTy (tyRef (named 1) mut (tyInt w64)), l₂) ∷ (tyInt w64, l₃) ∷ (lShapes.mir, l₄) ∷ (tyArray (lEntry.mir) 384, l₅) ∷ (tyInt w64, l₆) ∷ (sliceTy (tyRef (named 2) imm (tyInt w64)), l₇) ∷ (sliceTy (tyRef (named 3) imm (tyInt w64)), l₈) ∷ (sliceTy (tyRef (named 4) imm (tyInt w64)), l₉) ∷ (tyArray (lEntry.mir) 384, l₁₀) ∷ (tyInt w64, l₁₁) ∷ (tyInt w64, l₁₂) ∷ (tyRef erased mut (tyInt w64), l₁₃) ∷ (sliceTy (tyRef erased mut (tyInt w64)), l₁₄) ∷ (tyRef erased mut (tyInt w64), l₁₅) ∷ (sliceTy (tyRef erased mut (tyInt w64)), l₁₆) ∷ (tyRef erased imm (pointee ((Array mEntry.the-row 384) .written)), l₁₇) ∷ (sliceTy (tyRef erased imm (pointee (mEntry.the-row .written))), l₁₈) ∷ []) (‵ ftrue)) die $ free-all ! 14 ((tyInt w32, l₀) ∷ (sliceTy (tyRef (named 0) mut (tyInt w64)), l₁) ∷ (sliceTy (tyRef (named 1) mut (tyInt w64)), l₂) ∷ (tyInt w64, l₃) ∷ (lShapes.mir, l₄) ∷ (tyArray (lEntry.mir) 384, l₅) ∷ (tyInt w64, l₆) ∷ (sliceTy (tyRef (named 2) imm (tyInt w64)), l₇) ∷ (sliceTy (tyRef (named 3) imm (tyInt w64)), l₈) ∷ (sliceTy (tyRef (named 4) imm (tyInt w64)), l₉) ∷ (tyArray (lEntry.mir) 384, l₁₀) ∷ (tyInt w64, l₁₁) ∷ (tyInt w64, l₁₂) ∷ (tyRef erased mut (tyInt w64), l₁₃) ∷ (sliceTy (tyRef erased mut (tyInt w64)), l₁₄) ∷ (tyRef erased mut (tyInt w64), l₁₅) ∷ (sliceTy (tyRef erased mut (tyInt w64)), l₁₆) ∷ (tyRef erased imm (pointee ((Array mEntry.the-row 384) .written)), l₁₇) ∷ (sliceTy (tyRef erased imm (pointee (mEntry.the-row .written))), l₁₈) ∷ []) (kept _ ∷ kept _ ∷ kept _ ∷ kept _ ∷ kept _ ∷ kept _ ∷ kept _ ∷ kept _ ∷ kept _ ∷ kept _ ∷ kept _ ∷ kept _ ∷ kept _ ∷ kept _ ∷ kept _ ∷ kept _ ∷ kept _ ∷ kept _ ∷ kept _ ∷ []) refl $
-        suffices ! _ (ends-at 𝓤 H A f.ended stayed (f.clauses 𝓤 H A at-mem run) W (((κ₀, (κ₁, (κ₂, (κ₃, (κ₄, tt))))), (q₀, (q₁, (q₂, (q₃, (q₄, tt))))), tt, a, at), tt) z2 r2 (ws2 .0, (ws2 .1 .0, (tt, (tt, (tt, (tt, (tt, (tt, (tt, tt))))))))) (same2a, (same2b, (tt, (tt, (tt, (tt, (tt, (tt, (tt, tt)))))))))) $ says ! (rw (← (e1 .0)) e2) $
-        nothing ! $ move ! (5 ∷ 0 ∷ []) $ join ! $ move ! (5 ∷ 0 ∷ []) $ join ! $ move ! (5 ∷ 0 ∷ []) $ join ! $ move ! (2 ∷ 0 ∷ []) $ join ! $ move ! (3 ∷ 0 ∷ []) $ join ! $ nothing ! $ move ! (4 ∷ 0 ∷ []) $ fjoin ! $ move ! (4 ∷ 0 ∷ []) $ fjoin ! $ move ! (4 ∷ 0 ∷ []) $ fjoin ! $ move ! (4 ∷ 0 ∷ []) $ fjoin ! $ move ! (4 ∷ 0 ∷ []) $ fjoin ! $ move ! (4 ∷ 0 ∷ []) $ fjoin ! $ move ! (4 ∷ 0 ∷ []) $ fjoin ! $ move ! (2 ∷ 0 ∷ []) $ fjoin ! $ move ! (2 ∷ 0 ∷ []) $ fjoin ! $ keep ! (1 ∷ 0 ∷ []) $ frame ! $ frame ! $ owned ! u32 (Is u32) (uint-makes 𝓤 H A W w32) r2 _ i2 $ done !)))))))))))))))))))))))))))))))))))))))))
+        use1 W (raw (Callee-g2 𝓤 H A at-mem run .pre (
+          (
+            ((ν2a ∷ []), ((ν2b ∷ []), ((ν2e ∷ []), (κ₂, (κ₃, (κ₄, tt)))))),
+            (
+              fullShare,
+              (
+                fullShare,
+                (fullShare, (q₂, (q₃, (q₄, tt)))),
+              ),
+            ),
+            tt,
+            (
+              ref1 δ2a (ys1),
+              (
+                ref2 δ2b (ys2),
+                (
+                  n3,
+                  (
+                    n4,
+                    (
+                      record {
+                        ptr = (l₁₀, 0);
+                        name = δ2e;
+                        now = (take r1
+                            (n5));
+                      },
+                      (s7, (s8, (s9, tt))),
+                    ),
+                  ),
+                ),
+              ),
+            ),
+            (
+              v1 ∷ [],
+              (
+                v2 ∷ [],
+                (
+                  u3 ∷ [],
+                  (
+                    u4 ∷ [],
+                    (
+                      sliceVal (l₁₀, 0) r1 ∷ [],
+                      (
+                        v7 ∷ [],
+                        (
+                          v8 ∷ [],
+                          (
+                            v9 ∷ [],
+                            tt,
+                          ),
+                        ),
+                      ),
+                    ),
+                  ),
+                ),
+              ),
+            ),
+          ),
+          tt,
+        ))) (qed W ((‵ (flft (ν2a ∷ []) fullShare) ⊛ ‵ (flft (ν2b ∷ []) fullShare) ⊛ ‵ (flft (ν2e ∷ []) fullShare) ⊛ ‵ (flft κ₂
+        q₂) ⊛ ‵ (flft κ₃ q₃) ⊛ ‵ (flft κ₄ q₄) ⊛ ‵ ftrue) ∷ ‵ (MutSlice (named 0) (ν2a ∷ []) u64 .own (ref1 δ2a (ys1)) (v1 ∷ [])) ∷ ‵ (MutSlice
+        (named 1) (ν2b ∷ []) u64 .own (ref2 δ2b (ys2)) (v2 ∷ [])) ∷ ‵ (ShrSlice (named 2) (ν2e ∷ []) mEntry.the-row .own (record {
+          ptr = (
+            l₁₀,
+            0,
+          );
+          name = δ2e;
+          now = (take r1 (n5));
+        }) (sliceVal (l₁₀, 0) r1 ∷ [])) ∷ ‵ (ShrSlice (named 3) κ₂ u64 .own s7 (v7 ∷ [])) ∷ ‵ (ShrSlice
+        (named 4) κ₃ u64 .own s8 (v8 ∷ [])) ∷ ‵ (ShrSlice (named 5) κ₄ u64 .own s9 (v9 ∷ [])) ∷ []) ∵ nothing ! $ move ! (7 ∷ 0 ∷ []) $ fjoin ! $
+        move ! (6 ∷ 0 ∷ []) $ fjoin ! $ move ! (5 ∷ 0 ∷ []) $ fjoin ! $ move ! (4 ∷ 0 ∷ []) $ fjoin ! $ owned ! mShapes.the-row (Is
+        mShapes.the-row) (LL.makes mShapes.the-type lShapes.the-plain 𝓤 H A) (n4) _ w4 $ fjoin ! $ owned ! u64 (Is u64) (uint-makes 𝓤 H A W w64)
+        (n3) _ w3 $ fjoin ! $ move ! (3 ∷ 0 ∷ []) $ fjoin ! $ move ! (2 ∷ 0 ∷ []) $ fjoin ! $ move ! (1 ∷ 0 ∷ []) $ join ! $ nothing ! $ move !
+        (1 ∷ 0 ∷ []) $ frame ! $ done !) $
+        calls-at ! fm (Callee-g2 𝓤 H A at-mem run) known-g2 (
+          (
+            ((ν2a ∷ []), ((ν2b ∷ []), ((ν2e ∷ []), (κ₂, (κ₃, (κ₄, tt)))))),
+            (
+              fullShare,
+              (
+                fullShare,
+                (fullShare, (q₂, (q₃, (q₄, tt)))),
+              ),
+            ),
+            tt,
+            (
+              ref1 δ2a (ys1),
+              (
+                ref2 δ2b (ys2),
+                (
+                  n3,
+                  (
+                    n4,
+                    (
+                      record {
+                        ptr = (l₁₀, 0);
+                        name = δ2e;
+                        now = (take r1
+                            (n5));
+                      },
+                      (s7, (s8, (s9, tt))),
+                    ),
+                  ),
+                ),
+              ),
+            ),
+            (
+              v1 ∷ [],
+              (
+                v2 ∷ [],
+                (
+                  u3 ∷ [],
+                  (
+                    u4 ∷ [],
+                    (
+                      sliceVal (l₁₀, 0) r1 ∷ [],
+                      (
+                        v7 ∷ [],
+                        (
+                          v8 ∷ [],
+                          (
+                            v9 ∷ [],
+                            tt,
+                          ),
+                        ),
+                      ),
+                    ),
+                  ),
+                ),
+              ),
+            ),
+          ),
+          tt,
+        ) (and-then ! (load ! (from ! (stop !)) (look ! 17 refl)) (and-then ! (load ! (from ! (stop !)) (look ! 15 refl))
+        (and-then ! (load ! (from ! (stop !)) (look ! 27 refl)) (and-then ! (load ! (from ! (stop !)) (look ! 26 refl)) (and-then ! (load ! (from
+        ! (stop !)) (look ! 13 refl)) (and-then ! (load ! (from ! (stop !)) (look ! 23 refl)) (and-then ! (load ! (from ! (stop !)) (look ! 22
+        refl)) (and-then ! (load ! (from ! (stop !)) (look ! 21 refl)) (no-more !))))))))) (λ z2.
+        use1 W (later (some (λ (r2 : ℕ). ((‵ (flft (ν2a ∷ []) fullShare) ⊛ ‵ (flft (ν2b ∷ []) fullShare) ⊛ ‵ (flft (ν2e ∷ []) fullShare) ⊛ ‵ (flft κ₂
+        q₂) ⊛ ‵ (flft κ₃ q₃) ⊛ ‵ (flft κ₄ q₄) ⊛ ‵ ftrue) ⊛ ‵ (u32 .own r2 (z2 ∷ []))) ⊛ some (λ (ws : Lasts g2.ended (
+          (ν2a ∷ []),
+          (
+            (ν2b ∷ []),
+            ((ν2e ∷ []), (κ₂, (κ₃, (κ₄, tt)))),
+          ),
+        ) (
+          ref1 δ2a (ys1),
+          (
+            ref2 δ2b (ys2),
+            (
+              n3,
+              (
+                n4,
+                (
+                  record {
+                    ptr = (l₁₀, 0);
+                    name = δ2e;
+                    now = (take r1
+                        (n5));
+                  },
+                  (s7, (s8, (s9, tt))),
+                ),
+              ),
+            ),
+          ),
+        )). ‵ (lasts g2.ended ((ν2a ∷ []), ((ν2b ∷ []), ((ν2e ∷ []), (κ₂, (κ₃, (κ₄, tt)))))) (
+          ref1 δ2a (ys1),
+          (ref2 δ2b (ys2), (n3, (n4, (record { ptr = (l₁₀, 0); name = δ2e; now = (take r1 (n5)) }, (s7, (s8, (s9, tt))))))),
+        ) ws) ⊛ raw (g2.clauses
+        𝓤 H A at-mem run ((ν2a ∷ []), ((ν2b ∷ []), ((ν2e ∷ []), (κ₂, (κ₃, (κ₄, tt)))))) (
+          ref1 δ2a (ys1),
+          (
+            ref2 δ2b (ys2),
+            (
+              n3,
+              (
+                n4,
+                (
+                  record {
+                    ptr
+                        = (l₁₀, 0);
+                    name = δ2e;
+                    now = (take r1 (n5));
+                  },
+                  (s7, (s8, (s9, tt))),
+                ),
+              ),
+            ),
+          ),
+        ) .ensures tt r2 (atExit g2.ended (
+          (ν2a ∷ []),
+          (
+            (ν2b ∷ []),
+            (
+              (ν2e
+                  ∷ []),
+              (κ₂, (κ₃, (κ₄, tt))),
+            ),
+          ),
+        ) (
+          ref1 δ2a (ys1),
+          (
+            ref2 δ2b (ys2),
+            (
+              n3,
+              (
+                n4,
+                (
+                  record { ptr = (l₁₀, 0); name = δ2e; now = (take r1 (n5)) },
+                  (s7, (s8, (s9, tt))),
+                ),
+              ),
+            ),
+          ),
+        ) ws)))))) (id⊢ 𝓤 _) $ await ! tt $ pick ! (λ r2. split ! $ move ! (1 ∷ []) $ pick ! (λ ws2. split ! $ move ! (1
+        ∷ []) $ heard ! _ (λ e2.
+        fsplit ! $ fsplit ! $ move ! (1 ∷ []) $ feqL ! (λ same2a. move ! (1 ∷ []) $ fsplit ! $ fsplit ! $ move ! (1 ∷ []) $ feqL ! (λ same2b. move !
+        (1 ∷ []) $ drop ! $ move ! (2 ∷ []) $ split ! $ move ! (1 ∷ []) $ peeks ! u32 (Is u32) (shows 𝓤 H A u32) r2 (z2 ∷ []) (λ i2. drop ! $
+        land ! (from ! (stop !)) (init ! 32 refl (uint-lawful 𝓤 H A W w32 .typed r2 _ i2 .0)) $
+        tidy W (_ ∷ _ ∷ _ ∷ _ ∷ _ ∷ _ ∷ _ ∷ _ ∷ _ ∷ _ ∷ _ ∷ _ ∷ _ ∷ _ ∷ _ ∷ _ ∷ _ ∷ _ ∷ _ ∷ _ ∷ _ ∷ _ ∷ _ ∷ _ ∷ _ ∷ _ ∷ _ ∷ _ ∷ _ ∷ _ ∷ _ ∷ _ ∷ _ ∷
+        []) $ split ! $ move ! (1 ∷ []) $ split ! $ move ! (1 ∷ []) $ split ! $ move ! (1 ∷ []) $ split ! $ move ! (1 ∷ []) $ split ! $ move ! (1
+        ∷ []) $ split ! $ move ! (1 ∷ []) $ drop ! $ move ! (5 ∷ []) $ lft-end ! tt $ move ! (0 ∷ 14 ∷ 7 ∷ []) $ use3 W (later (‵ (O1 (ws2 .0)) ⊛
+        ‵ (flft κ₀ q₀))) (backs1 (named 0) ν2a δ2a (ys1) (ws2 .0) (refl) room1 same2a) $ await ! tt $ split ! $
+        move ! (6 ∷ []) $ lft-end ! tt $ move ! (0 ∷ 13 ∷ 7 ∷ []) $ use3 W (later (‵ (O2 (ws2 .1 .0)) ⊛ ‵ (flft κ₁ q₁))) (backs2 (named 1) ν2b δ2b
+        (ys2) (ws2 .1 .0) (refl) room2 same2b) $ await ! tt $ split ! $
+        move ! (7 ∷ []) $ lft-end ! tt $ move ! (0 ∷ 11 ∷ []) $ lent-back ! tt $ fsplit ! $ drop ! $ move ! (0 ∷ 11 ∷ []) $ use2 W (‵ (parts (mem
+        mEntry.the-row) (shares mEntry.the-row) fullShare (n5) l₁₀ 0)) (mend 𝓤 H A mEntry.the-row fullShare r1 (n5) l₁₀ 0) $ feqI ! ℕ (length
+        (n5)) 384 ln2e $ fjoin ! $ use1 W (‵ (partAt (Array mEntry.the-row 384) fullShare (n5) l₁₀ 0)) (array-whole 𝓤 H A W mEntry.the-row
+        fullShare 384 (n5) l₁₀ 0) $
+        out ! (Array mEntry.the-row 384) fullShare (n5) l₁₀ 0 (λ vs. spelt ! (Array mEntry.the-row 384) (Is (Array mEntry.the-row 384)) (shows 𝓤 H A
+        (Array mEntry.the-row 384)) (array-vals (LL.vals mEntry.the-type lEntry.the-laws)) (array-tells mEntry.the-row (LL.vals mEntry.the-type
+        lEntry.the-laws) (LL.tells mEntry.the-type lEntry.the-laws) 384) fullShare (n5) vs l₁₀ 0 $ move ! (1 ∷ []) $ peeks ! (Array
+        mEntry.the-row 384) (Is (Array mEntry.the-row 384)) (shows 𝓤 H A (Array mEntry.the-row 384)) (n5) (array-val (LL.vals mEntry.the-type
+        lEntry.the-laws) (n5) ∷ []) (λ w2e. drop ! $ use1 W (‵ (fat fullShare (tyArray (lEntry.mir) 384) l₁₀ 0 (array-val (LL.vals
+        mEntry.the-type lEntry.the-laws) (n5)))) (W .laws .raw-at fullShare (tyArray (lEntry.mir) 384) l₁₀ 0 (array-val (LL.vals mEntry.the-type
+        lEntry.the-laws) (n5))) $
+        tidy W (_ ∷ _ ∷ _ ∷ _ ∷ _ ∷ _ ∷ _ ∷ _ ∷ _ ∷ _ ∷ _ ∷ _ ∷ _ ∷ _ ∷ _ ∷ _ ∷ _ ∷ _ ∷ _ ∷ _ ∷ _ ∷ _ ∷ _ ∷ _ ∷ _ ∷ _ ∷ _ ∷ _ ∷ _ ∷ _ ∷ _ ∷ _ ∷ _ ∷ _
+        ∷ []) $ returns ! (look ! 33 refl) $ move ! (1 ∷ 2 ∷ 3 ∷ 4 ∷ 5 ∷ 6 ∷ 7 ∷ 8 ∷ 9 ∷ 10 ∷ 11 ∷ 12 ∷ 13 ∷ 14 ∷ 15 ∷ 16 ∷ 17 ∷ 18 ∷ 19 ∷ 20 ∷
+        21 ∷ 22 ∷ 23 ∷ 0 ∷ 24 ∷ 25 ∷ 26 ∷ 27 ∷ 28 ∷ 29 ∷ 30 ∷ 31 ∷ 32 ∷ 33 ∷ []) $ move ! (14 ∷ []) $ use1 W (dies ((tyInt w32, l₀) ∷ (
+          sliceTy
+              (tyRef (named 0) mut (tyInt w64)),
+          l₁,
+        ) ∷ (sliceTy (tyRef (named 1) mut (tyInt w64)), l₂) ∷ (tyInt w64, l₃) ∷ (lShapes.mir, l₄) ∷ (
+          tyArray
+              (lEntry.mir) 384,
+          l₅,
+        ) ∷ (tyInt w64, l₆) ∷ (sliceTy (tyRef (named 2) imm (tyInt w64)), l₇) ∷ (
+          sliceTy (tyRef (named 3) imm (tyInt w64)),
+          l₈,
+        ) ∷ (sliceTy (tyRef (named 4) imm (tyInt w64)), l₉) ∷ (tyArray (lEntry.mir) 384, l₁₀) ∷ (tyInt w64, l₁₁) ∷ (tyInt w64, l₁₂) ∷ (
+          tyRef
+              erased mut (tyInt w64),
+          l₁₃,
+        ) ∷ (sliceTy (tyRef erased mut (tyInt w64)), l₁₄) ∷ (tyRef erased mut (tyInt w64), l₁₅) ∷ (
+          sliceTy (tyRef
+              erased mut (tyInt w64)),
+          l₁₆,
+        ) ∷ (tyRef erased imm (pointee ((Array mEntry.the-row 384) .written)), l₁₇) ∷ (
+          sliceTy (tyRef erased imm
+              (pointee (mEntry.the-row .written))),
+          l₁₈,
+        ) ∷ []) (‵ ftrue)) die $ free-all ! 14 ((tyInt w32, l₀) ∷ (
+          sliceTy (tyRef (named 0) mut (tyInt
+              w64)),
+          l₁,
+        ) ∷ (sliceTy (tyRef (named 1) mut (tyInt w64)), l₂) ∷ (tyInt w64, l₃) ∷ (lShapes.mir, l₄) ∷ (tyArray (lEntry.mir) 384, l₅) ∷
+        (tyInt w64, l₆) ∷ (sliceTy (tyRef (named 2) imm (tyInt w64)), l₇) ∷ (sliceTy (tyRef (named 3) imm (tyInt w64)), l₈) ∷ (
+          sliceTy (tyRef
+              (named 4) imm (tyInt w64)),
+          l₉,
+        ) ∷ (tyArray (lEntry.mir) 384, l₁₀) ∷ (tyInt w64, l₁₁) ∷ (tyInt w64, l₁₂) ∷ (
+          tyRef erased mut (tyInt w64),
+          l₁₃,
+        ) ∷ (sliceTy (tyRef erased mut (tyInt w64)), l₁₄) ∷ (tyRef erased mut (tyInt w64), l₁₅) ∷ (
+          sliceTy (tyRef erased mut (tyInt w64)),
+          l₁₆,
+        ) ∷ (tyRef erased imm (pointee ((Array mEntry.the-row 384) .written)), l₁₇) ∷ (
+          sliceTy (tyRef erased imm (pointee (mEntry.the-row
+              .written))),
+          l₁₈,
+        ) ∷ []) (kept _ ∷ kept _ ∷ kept _ ∷ kept _ ∷ kept _ ∷ kept _ ∷ kept _ ∷ kept _ ∷ kept _ ∷ kept _ ∷ kept _ ∷ kept _ ∷ kept
+        _ ∷ kept _ ∷ kept _ ∷ kept _ ∷ kept _ ∷ kept _ ∷ kept _ ∷ []) refl $
+        suffices ! _ (ends-at 𝓤 H A f.ended stayed (f.clauses 𝓤 H A at-mem run) W (
+          (
+            (κ₀, (κ₁, (κ₂, (κ₃, (κ₄, tt))))),
+            (
+              q₀,
+              (
+                q₁,
+                (
+                  q₂,
+                  (
+                    q₃,
+                    (
+                      q₄,
+                      tt,
+                    ),
+                  ),
+                ),
+              ),
+            ),
+            tt,
+            a,
+            at,
+          ),
+          tt,
+        ) z2 r2 (ws2 .0, (ws2 .1 .0, (tt, (tt, (tt, (tt, (tt, (tt, (tt, tt))))))))) (
+          same2a,
+          (
+            same2b,
+            (
+              tt,
+              (
+                tt,
+                (
+                  tt,
+                  (
+                    tt,
+                    (tt, (tt, (tt, tt))),
+                  ),
+                ),
+              ),
+            ),
+          ),
+        )) $ says ! (rw (← (e1 .0)) e2) $
+        nothing ! $ move ! (5 ∷ 0 ∷ []) $ join ! $ move ! (5 ∷ 0 ∷ []) $ join ! $ move ! (5 ∷ 0 ∷ []) $ join ! $ move ! (2 ∷ 0 ∷ []) $ join ! $ move
+        ! (3 ∷ 0 ∷ []) $ join ! $ nothing ! $ move ! (4 ∷ 0 ∷ []) $ fjoin ! $ move ! (4 ∷ 0 ∷ []) $ fjoin ! $ move ! (4 ∷ 0 ∷ []) $ fjoin ! $
+        move ! (4 ∷ 0 ∷ []) $ fjoin ! $ move ! (4 ∷ 0 ∷ []) $ fjoin ! $ move ! (4 ∷ 0 ∷ []) $ fjoin ! $ move ! (4 ∷ 0 ∷ []) $ fjoin ! $ move ! (2
+        ∷ 0 ∷ []) $ fjoin ! $ move ! (2 ∷ 0 ∷ []) $ fjoin ! $ keep ! (1 ∷ 0 ∷ []) $ frame ! $ frame ! $ owned ! u32 (Is u32) (uint-makes 𝓤 H A W
+        w32) r2 _ i2 $ done !)))))))))))))))))))))))))))))))))))))))))
 
 module _ {M : Type 1} (𝓤 : URA M) (H : Heap 𝓤) (A : Atoms 𝓤) (W : Given 𝓤 H A) (mem : Memory → SProp 𝓤) (run : Routine → Fun 𝓤) where
-  walks : (C : Calls 𝓤 H) (Λ : Loops 𝓤 H) → FmC 𝓤 H (W .laws) C → Triple 𝓤 (C #g1) (Callee-g1 𝓤 H A mem run) → Triple 𝓤 (C #g2) (Callee-g2 𝓤 H A mem run) → Walks 𝓤 H A f.ended stayed (WpFn 𝓤 H C Λ code.function) (f.clauses 𝓤 H A mem run)
-  walks C Λ fm known-g1 known-g2 = walked 𝓤 H A f.ended stayed (f.clauses 𝓤 H A mem run) (WpFn 𝓤 H C Λ code.function) (λ κs. (slice-vals, (slice-vals, ((uint-vals w64), ((LL.vals mShapes.the-type lShapes.the-laws), ((array-vals (LL.vals mEntry.the-type lEntry.the-laws)), ((uint-vals w64), (slice-vals, (slice-vals, (slice-vals, tt)))))))))) (λ κs. (mut-slice-tells (named 0) (κs .0) u64, (mut-slice-tells (named 1) (κs .1 .0) u64, ((uint-tells w64), ((LL.tells mShapes.the-type lShapes.the-laws), ((array-tells mEntry.the-row (LL.vals mEntry.the-type lEntry.the-laws) (LL.tells mEntry.the-type lEntry.the-laws) 384), ((uint-tells w64), (shr-slice-tells (named 2) (κs .1 .1 .0) u64, (shr-slice-tells (named 3) (κs .1 .1 .1 .0) u64, (shr-slice-tells (named 4) (κs .1 .1 .1 .1 .0) u64, tt))))))))))
-      (λ κs qs bounds a g are. via 𝓤 _ (fst∗ 𝓤 _ (emp 𝓤)) (walk 𝓤 H A W mem run (κs .0) (κs .1 .0) (κs .1 .1 .0) (κs .1 .1 .1 .0) (κs .1 .1 .1 .1 .0) (qs .0) (qs .1 .0) (qs .1 .1 .0) (qs .1 .1 .1 .0) (qs .1 .1 .1 .1 .0) (a .0 .ptr .0) (a .0 .ptr .1) (a .0 .name) (a .0 .now) (a .1 .0 .ptr .0) (a .1 .0 .ptr .1) (a .1 .0 .name) (a .1 .0 .now) (a .1 .1 .0) (only ((uint-vals w64) (a .1 .1 .0))) (a .1 .1 .1 .0) (only ((LL.vals mShapes.the-type lShapes.the-laws) (a .1 .1 .1 .0))) (a .1 .1 .1 .1 .0) (only ((array-vals (LL.vals mEntry.the-type lEntry.the-laws)) (a .1 .1 .1 .1 .0))) (a .1 .1 .1 .1 .1 .0) (only ((uint-vals w64) (a .1 .1 .1 .1 .1 .0))) (a .1 .1 .1 .1 .1 .1 .0) (a .1 .1 .1 .1 .1 .1 .1 .0) (a .1 .1 .1 .1 .1 .1 .1 .1 .0) C Λ fm known-g1 known-g2 (are .0 .0 .1) (are .1 .0 .0 .1) (are .1 .1 .0) (are .1 .1 .1 .0) (are .1 .1 .1 .1 .0) (are .1 .1 .1 .1 .1 .0) (are .1 .1 .1 .1 .1 .1 .0) (are .1 .1 .1 .1 .1 .1 .1 .0) (are .1 .1 .1 .1 .1 .1 .1 .1 .0)))
+  walks : (C : Calls 𝓤 H) (Λ : Loops 𝓤 H) → FmC 𝓤 H (W .laws) C → Triple 𝓤 (C #g1) (Callee-g1 𝓤 H A mem run) → Triple 𝓤 (C #g2) (Callee-g2 𝓤 H A mem
+      run) → Walks 𝓤 H A f.ended stayed (WpFn 𝓤 H C Λ code.function) (f.clauses 𝓤 H A mem run)
+  walks C Λ fm known-g1 known-g2 = walked 𝓤 H A f.ended stayed (f.clauses 𝓤 H A mem run) (WpFn 𝓤 H C Λ code.function) (λ κs. (
+    slice-vals,
+    (
+      slice-vals,
+      (
+        (uint-vals w64),
+        (
+          (LL.vals mShapes.the-type lShapes.the-laws),
+          (
+            (array-vals (LL.vals mEntry.the-type lEntry.the-laws)),
+            ((uint-vals w64), (slice-vals, (slice-vals, (slice-vals, tt)))),
+          ),
+        ),
+      ),
+    ),
+  )) (λ κs. (
+    mut-slice-tells (named 0) (κs .0) u64,
+    (
+      mut-slice-tells (named 1)
+          (κs .1 .0) u64,
+      (
+        (uint-tells w64),
+        (
+          (LL.tells mShapes.the-type lShapes.the-laws),
+          (
+            (array-tells mEntry.the-row (LL.vals mEntry.the-type
+                lEntry.the-laws) (LL.tells mEntry.the-type lEntry.the-laws) 384),
+            (
+              (uint-tells w64),
+              (
+                shr-slice-tells (named 2) (κs .1 .1 .0) u64,
+                (shr-slice-tells (named 3) (κs .1 .1 .1 .0) u64, (shr-slice-tells (named 4) (κs .1 .1 .1 .1 .0) u64, tt)),
+              ),
+            ),
+          ),
+        ),
+      ),
+    ),
+  ))
+      (λ κs qs bounds a g are. via 𝓤 _ (fst∗ 𝓤 _ (emp 𝓤)) (walk 𝓤 H A W mem run (κs .0) (κs .1 .0) (κs .1 .1 .0) (κs .1 .1 .1 .0) (κs .1 .1 .1 .1 .0)
+      (qs .0) (qs .1 .0) (qs .1 .1 .0) (qs .1 .1 .1 .0) (qs .1 .1 .1 .1 .0) (a .0 .ptr .0) (a .0 .ptr .1) (a .0 .name) (a .0 .now) (a .1 .0 .ptr
+      .0) (a .1 .0 .ptr .1) (a .1 .0 .name) (a .1 .0 .now) (a .1 .1 .0) (only ((uint-vals w64) (a .1 .1 .0))) (a .1 .1 .1 .0) (only ((LL.vals
+      mShapes.the-type lShapes.the-laws) (a .1 .1 .1 .0))) (a .1 .1 .1 .1 .0) (only ((array-vals (LL.vals mEntry.the-type lEntry.the-laws)) (a .1
+      .1 .1 .1 .0))) (a .1 .1 .1 .1 .1 .0) (only ((uint-vals w64) (a .1 .1 .1 .1 .1 .0))) (a .1 .1 .1 .1 .1 .1 .0) (a .1 .1 .1 .1 .1 .1 .1 .0) (a
+      .1 .1 .1 .1 .1 .1 .1 .1 .0) C Λ fm known-g1 known-g2 (are .0 .0 .1) (are .1 .0 .0 .1) (are .1 .1 .0) (are .1 .1 .1 .0) (are .1 .1 .1 .1 .0)
+      (are .1 .1 .1 .1 .1 .0) (are .1 .1 .1 .1 .1 .1 .0) (are .1 .1 .1 .1 .1 .1 .1 .0) (are .1 .1 .1 .1 .1 .1 .1 .1 .0)))
 
-  meets : (𝓣 : Tables 𝓤 H) → Triple 𝓤 (𝓣 .C #g1) (Callee-g1 𝓤 H A mem run) → Triple 𝓤 (𝓣 .C #g2) (Callee-g2 𝓤 H A mem run) → Meets 𝓤 H A f.signature (WpFn 𝓤 H (𝓣 .C) (𝓣 .Λ) code.function) (f.spec 𝓤 H A mem run)
-  meets 𝓣 known-g1 known-g2 = walk-meets 𝓤 H A f.ended stayed W (goes-slice 𝓤 H A W 5 0 tt (plain (λ _. u64)), (goes-slice 𝓤 H A W 5 1 tt (plain (λ _. u64)), (goes-none 𝓤 H A W 5 (λ _. u64) yes (λ κs x f. refl), (goes-none 𝓤 H A W 5 (λ _. mShapes.the-row) yes (λ κs x f. refl), (goes-none 𝓤 H A W 5 (λ _. (Array mEntry.the-row 384)) yes (λ κs x f. refl), (goes-none 𝓤 H A W 5 (λ _. u64) yes (λ κs x f. refl), (goes-none-slice 𝓤 H A W 5 (2 ∷ []) tt (plain (λ _. u64)) yes, (goes-none-slice 𝓤 H A W 5 (3 ∷ []) tt (plain (λ _. u64)) yes, (goes-none-slice 𝓤 H A W 5 (4 ∷ []) tt (plain (λ _. u64)) yes, tt))))))))) (f.clauses 𝓤 H A mem run)
+  meets : (𝓣 : Tables 𝓤 H) → Triple 𝓤 (𝓣 .C #g1) (Callee-g1 𝓤 H A mem run) → Triple 𝓤 (𝓣 .C #g2) (Callee-g2 𝓤 H A mem run) → Meets 𝓤 H A f.signature
+      (WpFn 𝓤 H (𝓣 .C) (𝓣 .Λ) code.function) (f.spec 𝓤 H A mem run)
+  meets 𝓣 known-g1 known-g2 = walk-meets 𝓤 H A f.ended stayed W (
+    goes-slice 𝓤 H A W 5 0 tt (plain (λ _. u64)),
+    (
+      goes-slice 𝓤 H A W 5 1 tt (plain (λ
+          _. u64)),
+      (
+        goes-none 𝓤 H A W 5 (λ _. u64) yes (λ κs x f. refl),
+        (
+          goes-none 𝓤 H A W 5 (λ _. mShapes.the-row) yes (λ κs x f. refl),
+          (
+            goes-none 𝓤
+                H A W 5 (λ _. (Array mEntry.the-row 384)) yes (λ κs x f. refl),
+            (
+              goes-none 𝓤 H A W 5 (λ _. u64) yes (λ κs x f. refl),
+              (
+                goes-none-slice 𝓤 H A W
+                    5 (2 ∷ []) tt (plain (λ _. u64)) yes,
+                (
+                  goes-none-slice 𝓤 H A W 5 (3 ∷ []) tt (plain (λ _. u64)) yes,
+                  (
+                    goes-none-slice 𝓤 H A W 5 (4 ∷ []) tt
+                        (plain (λ _. u64)) yes,
+                    tt,
+                  ),
+                ),
+              ),
+            ),
+          ),
+        ),
+      ),
+    ),
+  ) (f.clauses 𝓤 H A mem run)
       (WpFn 𝓤 H (𝓣 .C) (𝓣 .Λ) code.function) (WpFn-mono 𝓤 H (W .laws) 𝓣 code.function) (walks (𝓣 .C) (𝓣 .Λ) (fmOf 𝓤 H (W .laws) 𝓣) known-g1 known-g2)
 
 pub combo-spec : {M : Type 1} → stated.statement M

@@ -51,9 +51,9 @@ use Rattle.magnetar_hash.proofs.transcript.Transcript.Laws as lTranscript
 use Rattle.magnetar_relation.specs.declared.shapes.Shapes.{Shapes}
 use Rattle.magnetar_relation.proofs.shapes.Shapes as mShapes
 use Rattle.magnetar_relation.proofs.shapes.Shapes.Laws as lShapes
-use Rattle.magnetar_inplace.specs.declared.records.Entry.{Entry}
-use Rattle.magnetar_inplace.proofs.records.Entry as mEntry
-use Rattle.magnetar_inplace.proofs.records.Entry.Laws as lEntry
+use Rattle.magnetar_records.specs.declared.records.Entry.{Entry}
+use Rattle.magnetar_records.proofs.records.Entry as mEntry
+use Rattle.magnetar_records.proofs.records.Entry.Laws as lEntry
 use Rattle.magnetar_hash.specs.declared.transcript.TranscriptAnswer.{TranscriptAnswer}
 use Rattle.magnetar_hash.proofs.transcript.TranscriptAnswer as mTranscriptAnswer
 use Rattle.magnetar_hash.proofs.transcript.TranscriptAnswer.Laws as lTranscriptAnswer
@@ -100,7 +100,37 @@ is-no true a = absurd a
 is-no false _ = refl
 
 abbrev stayed : Stays (f.ended .signature .params) (f.ended .kept)
-stayed = (stay-none (λ _. mTranscript.the-row) yes, (stay-slice (0 ∷ []) tt (plain (λ _. u64)), (stay-slice (1 ∷ []) tt (plain (λ _. u64)), (stay-none (λ _. u64) yes, (stay-none (λ _. u64) yes, (stay-none-slice (2 ∷ []) tt (plain (λ _. u64)) yes, (stay-none (λ _. mShapes.the-row) yes, (stay-none (λ _. (Array mEntry.the-row 384)) yes, (stay-none (λ _. u64) yes, (stay-none-slice (3 ∷ []) tt (plain (λ _. u64)) yes, (stay-none-slice (4 ∷ []) tt (plain (λ _. u64)) yes, tt)))))))))))
+stayed = (
+  stay-none (λ _. mTranscript.the-row) yes,
+  (
+    stay-slice (0 ∷ []) tt (plain (λ _. u64)),
+    (
+      stay-slice (1 ∷ []) tt (plain (λ _. u64)),
+      (
+        stay-none (λ _. u64) yes,
+        (
+          stay-none (λ _. u64) yes,
+          (
+            stay-none-slice (2 ∷ []) tt (plain (λ _. u64)) yes,
+            (
+              stay-none (λ _. mShapes.the-row) yes,
+              (
+                stay-none (λ _. (Array mEntry.the-row 384)) yes,
+                (
+                  stay-none (λ _. u64) yes,
+                  (
+                    stay-none-slice (3 ∷ []) tt (plain (λ _. u64)) yes,
+                    (stay-none-slice (4 ∷ []) tt (plain (λ _. u64)) yes, tt),
+                  ),
+                ),
+              ),
+            ),
+          ),
+        ),
+      ),
+    ),
+  ),
+)
 
 abbrev Callee-g1 : {M : Type 1} (𝓤 : URA M) (H : Heap 𝓤) (A : Atoms 𝓤) (mem : Memory → SProp 𝓤) (run : Routine → Fun 𝓤) → Contract 𝓤
 Callee-g1 𝓤 H A mem run = tripleOf 𝓤 H A g1.signature (g1.spec 𝓤 H A mem run)
@@ -111,7 +141,10 @@ Callee-g2 𝓤 H A mem run = tripleOf 𝓤 H A g2.signature (g2.spec 𝓤 H A me
 abbrev Callee-g3 : {M : Type 1} (𝓤 : URA M) (H : Heap 𝓤) (A : Atoms 𝓤) (mem : Memory → SProp 𝓤) (run : Routine → Fun 𝓤) → Contract 𝓤
 Callee-g3 𝓤 H A mem run = tripleOf 𝓤 H A g3.signature (g3.spec 𝓤 H A mem run)
 
-module _ {M : Type 1} (𝓤 : URA M) (H : Heap 𝓤) (A : Atoms 𝓤) (W : Given 𝓤 H A) (at-mem : Memory → SProp 𝓤) (run : Routine → Fun 𝓤) (κ₀ κ₁ κ₂ κ₃ κ₄ : Lft) (q₀ q₁ q₂ q₃ q₄ : Share) (n1 : Transcript) (u1 : Val) (b2 o2 : ℕ) (γ2 : GName) (ys2 : List ℕ) (b3 o3 : ℕ) (γ3 : GName) (ys3 : List ℕ) (n4 : ℕ) (u4 : Val) (n5 : ℕ) (u5 : Val) (s6 : RefT (List ℕ)) (n7 : Shapes) (u7 : Val) (n8 : (List Entry)) (u8′ : Val) (n9 : ℕ) (u9 : Val) (s10 : RefT (List ℕ)) (s11 : RefT (List ℕ)) where
+module _ {M : Type 1} (𝓤 : URA M) (H : Heap 𝓤) (A : Atoms 𝓤) (W : Given 𝓤 H A) (at-mem : Memory → SProp 𝓤) (run : Routine → Fun 𝓤) (κ₀ κ₁ κ₂ κ₃ κ₄ :
+    Lft) (q₀ q₁ q₂ q₃ q₄ : Share) (n1 : Transcript) (u1 : Val) (b2 o2 : ℕ) (γ2 : GName) (ys2 : List ℕ) (b3 o3 : ℕ) (γ3 : GName) (ys3 : List ℕ) (n4 :
+    ℕ) (u4 : Val) (n5 : ℕ) (u5 : Val) (s6 : RefT (List ℕ)) (n7 : Shapes) (u7 : Val) (n8 : (List Entry)) (u8′ : Val) (n9 : ℕ) (u9 : Val) (s10 : RefT
+    (List ℕ)) (s11 : RefT (List ℕ)) where
   abbrev v1 : Val
   v1 = u1
 
@@ -127,9 +160,11 @@ module _ {M : Type 1} (𝓤 : URA M) (H : Heap 𝓤) (A : Atoms 𝓤) (W : Given
   abbrev Lent2 : ℕ → GName → List ℕ → Fml
   Lent2 ν δ l = LentAgain u64 κ₀ (ν ∷ []) q₀ γ2 b2 o2 δ l
 
-  lends2 : (ℓ : Lifetime) (ν : ℕ) (l : List ℕ) → length l ≡ length ys2 → ent 𝓤 (⋆ 𝓤 H A (‵ (O2 l) ∷ ‵ (flft κ₀ q₀) ∷ [])) (⋆ 𝓤 H A (later (some (λ (δ : GName). ‵ (MutSlice ℓ (ν ∷ []) u64 .own (ref2 δ l) (v2 ∷ [])) ⊛ ‵ (Lent2 ν δ l))) ∷ []))
+  lends2 : (ℓ : Lifetime) (ν : ℕ) (l : List ℕ) → length l ≡ length ys2 → ent 𝓤 (⋆ 𝓤 H A (‵ (O2 l) ∷ ‵ (flft κ₀ q₀) ∷ [])) (⋆ 𝓤 H A (later (some (λ (δ
+      : GName). ‵ (MutSlice ℓ (ν ∷ []) u64 .own (ref2 δ l) (v2 ∷ [])) ⊛ ‵ (Lent2 ν δ l))) ∷ []))
   lends2 ℓ ν l e = subst (λ (t : ℕ). ent 𝓤 (⋆ 𝓤 H A (‵ (MutSlice (named 0) κ₀ u64 .own (ref2 γ2 l) (sliceVal (b2, o2) t ∷ [])) ∷ ‵ (flft κ₀ q₀) ∷ []))
-      (⋆ 𝓤 H A (later (some (λ (δ : GName). ‵ (MutSlice ℓ (ν ∷ []) u64 .own (ref2 δ l) (sliceVal (b2, o2) t ∷ [])) ⊛ ‵ (Lent2 ν δ l))) ∷ []))) e (lends-again u64 κ₀ (ν ∷ []) q₀ γ2 b2 o2 𝓤 H A W (named 0) ℓ l)
+      (⋆ 𝓤 H A (later (some (λ (δ : GName). ‵ (MutSlice ℓ (ν ∷ []) u64 .own (ref2 δ l) (sliceVal (b2, o2) t ∷ [])) ⊛ ‵ (Lent2 ν δ l))) ∷ []))) e
+      (lends-again u64 κ₀ (ν ∷ []) q₀ γ2 b2 o2 𝓤 H A W (named 0) ℓ l)
 
   backs2 : (ℓ : Lifetime) (ν : ℕ) (δ : GName) (l l′ : List ℕ) → length l ≡ length ys2 → Room u64 (length ys2) → length l′ ≡ length l
       → ent 𝓤 (⋆ 𝓤 H A (‵ (fdead (ν ∷ [])) ∷ ‵ (Lent2 ν δ l) ∷ ‵ (finally u64 δ l′) ∷ [])) (⋆ 𝓤 H A (later (‵ (O2 l′) ⊛ ‵ (flft κ₀ q₀)) ∷ []))
@@ -149,9 +184,11 @@ module _ {M : Type 1} (𝓤 : URA M) (H : Heap 𝓤) (A : Atoms 𝓤) (W : Given
   abbrev Lent3 : ℕ → GName → List ℕ → Fml
   Lent3 ν δ l = LentAgain u64 κ₁ (ν ∷ []) q₁ γ3 b3 o3 δ l
 
-  lends3 : (ℓ : Lifetime) (ν : ℕ) (l : List ℕ) → length l ≡ length ys3 → ent 𝓤 (⋆ 𝓤 H A (‵ (O3 l) ∷ ‵ (flft κ₁ q₁) ∷ [])) (⋆ 𝓤 H A (later (some (λ (δ : GName). ‵ (MutSlice ℓ (ν ∷ []) u64 .own (ref3 δ l) (v3 ∷ [])) ⊛ ‵ (Lent3 ν δ l))) ∷ []))
+  lends3 : (ℓ : Lifetime) (ν : ℕ) (l : List ℕ) → length l ≡ length ys3 → ent 𝓤 (⋆ 𝓤 H A (‵ (O3 l) ∷ ‵ (flft κ₁ q₁) ∷ [])) (⋆ 𝓤 H A (later (some (λ (δ
+      : GName). ‵ (MutSlice ℓ (ν ∷ []) u64 .own (ref3 δ l) (v3 ∷ [])) ⊛ ‵ (Lent3 ν δ l))) ∷ []))
   lends3 ℓ ν l e = subst (λ (t : ℕ). ent 𝓤 (⋆ 𝓤 H A (‵ (MutSlice (named 1) κ₁ u64 .own (ref3 γ3 l) (sliceVal (b3, o3) t ∷ [])) ∷ ‵ (flft κ₁ q₁) ∷ []))
-      (⋆ 𝓤 H A (later (some (λ (δ : GName). ‵ (MutSlice ℓ (ν ∷ []) u64 .own (ref3 δ l) (sliceVal (b3, o3) t ∷ [])) ⊛ ‵ (Lent3 ν δ l))) ∷ []))) e (lends-again u64 κ₁ (ν ∷ []) q₁ γ3 b3 o3 𝓤 H A W (named 1) ℓ l)
+      (⋆ 𝓤 H A (later (some (λ (δ : GName). ‵ (MutSlice ℓ (ν ∷ []) u64 .own (ref3 δ l) (sliceVal (b3, o3) t ∷ [])) ⊛ ‵ (Lent3 ν δ l))) ∷ []))) e
+      (lends-again u64 κ₁ (ν ∷ []) q₁ γ3 b3 o3 𝓤 H A W (named 1) ℓ l)
 
   backs3 : (ℓ : Lifetime) (ν : ℕ) (δ : GName) (l l′ : List ℕ) → length l ≡ length ys3 → Room u64 (length ys3) → length l′ ≡ length l
       → ent 𝓤 (⋆ 𝓤 H A (‵ (fdead (ν ∷ [])) ∷ ‵ (Lent3 ν δ l) ∷ ‵ (finally u64 δ l′) ∷ [])) (⋆ 𝓤 H A (later (‵ (O3 l′) ⊛ ‵ (flft κ₁ q₁)) ∷ []))
@@ -204,66 +241,608 @@ module _ {M : Type 1} (𝓤 : URA M) (H : Heap 𝓤) (A : Atoms 𝓤) (W : Given
   abbrev Post : Val → SProp 𝓤
   Post = walkOf 𝓤 H A f.ended stayed (f.clauses 𝓤 H A at-mem run) .post (((κ₀, (κ₁, (κ₂, (κ₃, (κ₄, tt))))), (q₀, (q₁, (q₂, (q₃, (q₄, tt))))), tt, a, at), tt)
 
-  module _ (C : Calls 𝓤 H) (Λ : Loops 𝓤 H) (fm : FmC 𝓤 H (W .laws) C) (known-g1 : Triple 𝓤 (C #g1) (Callee-g1 𝓤 H A at-mem run)) (known-g2 : Triple 𝓤 (C #g2) (Callee-g2 𝓤 H A at-mem run)) (known-g3 : Triple 𝓤 (C #g3) (Callee-g3 𝓤 H A at-mem run)) (w1 : Is mTranscript.the-row n1 (u1 ∷ [])) (room2 : Room u64 (length ys2)) (room3 : Room u64 (length ys3)) (w4 : Is u64 n4 (u4 ∷ [])) (w5 : Is u64 n5 (u5 ∷ [])) (w6 : Is (ShrSlice (named 2) κ₂ u64) s6 (v6 ∷ [])) (w7 : Is mShapes.the-row n7 (u7 ∷ [])) (w8 : Is (Array mEntry.the-row 384) n8 (u8′ ∷ [])) (w9 : Is u64 n9 (u9 ∷ [])) (w10 : Is (ShrSlice (named 3) κ₃ u64) s10 (v10 ∷ [])) (w11 : Is (ShrSlice (named 4) κ₄ u64) s11 (v11 ∷ [])) where
-    walk : ent 𝓤 (onEntry 𝓤 H A f.signature (κ₀, (κ₁, (κ₂, (κ₃, (κ₄, tt))))) (q₀, (q₁, (q₂, (q₃, (q₄, tt))))) a at) (WpFn 𝓤 H C Λ code.function (v1 ∷ v2 ∷ v3 ∷ v4 ∷ v5 ∷ v6 ∷ v7 ∷ v8 ∷ v9 ∷ v10 ∷ v11 ∷ []) Post)
+  module _ (C : Calls 𝓤 H) (Λ : Loops 𝓤 H) (fm : FmC 𝓤 H (W .laws) C) (known-g1 : Triple 𝓤 (C #g1) (Callee-g1 𝓤 H A at-mem run)) (known-g2 : Triple 𝓤
+      (C #g2) (Callee-g2 𝓤 H A at-mem run)) (known-g3 : Triple 𝓤 (C #g3) (Callee-g3 𝓤 H A at-mem run)) (w1 : Is mTranscript.the-row n1 (u1 ∷ []))
+      (room2 : Room u64 (length ys2)) (room3 : Room u64 (length ys3)) (w4 : Is u64 n4 (u4 ∷ [])) (w5 : Is u64 n5 (u5 ∷ [])) (w6 : Is (ShrSlice (named
+      2) κ₂ u64) s6 (v6 ∷ [])) (w7 : Is mShapes.the-row n7 (u7 ∷ [])) (w8 : Is (Array mEntry.the-row 384) n8 (u8′ ∷ [])) (w9 : Is u64 n9 (u9 ∷ []))
+      (w10 : Is (ShrSlice (named 3) κ₃ u64) s10 (v10 ∷ [])) (w11 : Is (ShrSlice (named 4) κ₄ u64) s11 (v11 ∷ [])) where
+    walk : ent 𝓤 (onEntry 𝓤 H A f.signature (κ₀, (κ₁, (κ₂, (κ₃, (κ₄, tt))))) (q₀, (q₁, (q₂, (q₃, (q₄, tt))))) a at) (WpFn 𝓤 H C Λ code.function (v1 ∷
+        v2 ∷ v3 ∷ v4 ∷ v5 ∷ v6 ∷ v7 ∷ v8 ∷ v9 ∷ v10 ∷ v11 ∷ []) Post)
     walk =
-        qed W ((‵ (flft κ₀ q₀) ⊛ ‵ (flft κ₁ q₁) ⊛ ‵ (flft κ₂ q₂) ⊛ ‵ (flft κ₃ q₃) ⊛ ‵ (flft κ₄ q₄) ⊛ ‵ ftrue) ∷ ‵ (owns (mTranscript.the-row ∷ MutSlice (named 0) κ₀ u64 ∷ MutSlice (named 1) κ₁ u64 ∷ u64 ∷ u64 ∷ ShrSlice (named 2) κ₂ u64 ∷ mShapes.the-row ∷ (Array mEntry.the-row 384) ∷ u64 ∷ ShrSlice (named 3) κ₃ u64 ∷ ShrSlice (named 4) κ₄ u64 ∷ []) a at) ∷ []) ∵ enter ! C Λ code.function (v1 ∷ v2 ∷ v3 ∷ v4 ∷ v5 ∷ v6 ∷ v7 ∷ v8 ∷ v9 ∷ v10 ∷ v11 ∷ []) _ $
-        nothing ! $ alloc ! (λ l₀. alloc ! (λ l₁. alloc ! (λ l₂. alloc ! (λ l₃. alloc ! (λ l₄. alloc ! (λ l₅. alloc ! (λ l₆. alloc ! (λ l₇. alloc ! (λ l₈. alloc ! (λ l₉. alloc ! (λ l₁₀. alloc ! (λ l₁₁. alloc ! (λ l₁₂. alloc ! (λ l₁₃. alloc ! (λ l₁₄. alloc ! (λ l₁₅. alloc ! (λ l₁₆. alloc ! (λ l₁₇. alloc ! (λ l₁₈. alloc ! (λ l₁₉. alloc ! (λ l₂₀. alloc ! (λ l₂₁. alloc ! (λ l₂₂. alloc ! (λ l₂₃. alloc ! (λ l₂₄. alloc0 ! $ hide ! (λ died die. params1 ! $ pass1 ! (init ! 24 refl (LL.lawful mTranscript.the-type lTranscript.the-laws 𝓤 H A W .typed n1 _ w1 .0)) $ pass1 ! (init ! 23 refl (tt, (tt, (record { fits = room2 .0 }, tt)))) $ pass1 ! (init ! 22 refl (tt, (tt, (record { fits = room3 .0 }, tt)))) $ pass1 ! (init ! 21 refl (uint-lawful 𝓤 H A W w64 .typed n4 _ w4 .0)) $ pass1 ! (init ! 20 refl (uint-lawful 𝓤 H A W w64 .typed n5 _ w5 .0)) $ pass1 ! (init ! 19 refl (shr-slice-lawful 𝓤 H A W (named 2) κ₂ u64 .typed s6 (v6 ∷ []) w6 .0)) $ pass1 ! (init ! 18 refl (LL.lawful mShapes.the-type lShapes.the-laws 𝓤 H A W .typed n7 _ w7 .0)) $ pass1 ! (init ! 17 refl (array-lawful 𝓤 H A W mEntry.the-row (LL.lawful mEntry.the-type lEntry.the-laws 𝓤 H A W) 384 .typed n8 _ w8 .0)) $ pass1 ! (init ! 16 refl (uint-lawful 𝓤 H A W w64 .typed n9 _ w9 .0)) $ pass1 ! (init ! 15 refl (shr-slice-lawful 𝓤 H A W (named 3) κ₃ u64 .typed s10 (v10 ∷ []) w10 .0)) $ pass1 ! (init ! 14 refl (shr-slice-lawful 𝓤 H A W (named 4) κ₄ u64 .typed s11 (v11 ∷ []) w11 .0)) $ pass0 ! $
-        move ! (27 ∷ []) $ fsplit ! $ move ! (1 ∷ []) $ fsplit ! $ move ! (1 ∷ []) $ fsplit ! $ move ! (1 ∷ []) $ fsplit ! $ move ! (1 ∷ []) $ fsplit ! $ move ! (1 ∷ []) $ fsplit ! $ move ! (1 ∷ []) $ fsplit ! $ move ! (1 ∷ []) $ fsplit ! $ move ! (1 ∷ []) $ fsplit ! $ move ! (1 ∷ []) $ fsplit ! $ move ! (1 ∷ []) $ fsplit ! $ move ! (1 ∷ []) $ drop ! $ move ! (37 ∷ []) $ split ! $ move ! (1 ∷ []) $ split ! $ move ! (1 ∷ []) $ split ! $ move ! (1 ∷ []) $ split ! $ move ! (1 ∷ []) $ split ! $ move ! (1 ∷ []) $ drop ! $ tidy W (_ ∷ _ ∷ _ ∷ _ ∷ _ ∷ _ ∷ _ ∷ _ ∷ _ ∷ _ ∷ _ ∷ _ ∷ _ ∷ _ ∷ _ ∷ _ ∷ _ ∷ _ ∷ _ ∷ _ ∷ _ ∷ _ ∷ _ ∷ _ ∷ _ ∷ _ ∷ _ ∷ _ ∷ _ ∷ _ ∷ _ ∷ _ ∷ _ ∷ _ ∷ _ ∷ _ ∷ _ ∷ _ ∷ _ ∷ _ ∷ _ ∷ _ ∷ []) $
-        assigns ! (of-opd ! (load ! (from ! (stop !)) (look ! 33 refl))) (from ! (stop !)) (init ! 29 refl (array-lawful 𝓤 H A W mEntry.the-row (LL.lawful mEntry.the-type lEntry.the-laws 𝓤 H A W) 384 .typed n8 _ w8 .0)) $
+        qed W ((‵ (flft κ₀ q₀) ⊛ ‵ (flft κ₁ q₁) ⊛ ‵ (flft κ₂ q₂) ⊛ ‵ (flft κ₃ q₃) ⊛ ‵ (flft κ₄ q₄) ⊛ ‵ ftrue) ∷ ‵ (owns (mTranscript.the-row ∷
+        MutSlice (named 0) κ₀ u64 ∷ MutSlice (named 1) κ₁ u64 ∷ u64 ∷ u64 ∷ ShrSlice (named 2) κ₂ u64 ∷ mShapes.the-row ∷ (Array mEntry.the-row
+        384) ∷ u64 ∷ ShrSlice (named 3) κ₃ u64 ∷ ShrSlice (named 4) κ₄ u64 ∷ []) a at) ∷ []) ∵ enter ! C Λ code.function (v1 ∷ v2 ∷ v3 ∷ v4 ∷ v5
+        ∷ v6 ∷ v7 ∷ v8 ∷ v9 ∷ v10 ∷ v11 ∷ []) _ $
+        nothing ! $ alloc ! (λ l₀. alloc ! (λ l₁. alloc ! (λ l₂. alloc ! (λ l₃. alloc ! (λ l₄. alloc ! (λ l₅. alloc ! (λ l₆. alloc ! (λ l₇. alloc !
+        (λ l₈. alloc ! (λ l₉. alloc ! (λ l₁₀. alloc ! (λ l₁₁. alloc ! (λ l₁₂. alloc ! (λ l₁₃. alloc ! (λ l₁₄. alloc ! (λ l₁₅. alloc ! (λ l₁₆.
+        alloc ! (λ l₁₇. alloc ! (λ l₁₈. alloc ! (λ l₁₉. alloc ! (λ l₂₀. alloc ! (λ l₂₁. alloc ! (λ l₂₂. alloc ! (λ l₂₃. alloc ! (λ l₂₄. alloc0 !
+        $ hide ! (λ died die. params1 ! $ pass1 ! (init ! 24 refl (LL.lawful mTranscript.the-type lTranscript.the-laws 𝓤 H A W .typed n1 _ w1
+        .0)) $ pass1 ! (init ! 23 refl (tt, (tt, (record { fits = room2 .0 }, tt)))) $ pass1 ! (init ! 22 refl (
+          tt,
+          (
+            tt,
+            (
+              record {
+                fits = room3
+                    .0;
+              },
+              tt,
+            ),
+          ),
+        )) $ pass1 ! (init ! 21 refl (uint-lawful 𝓤 H A W w64 .typed n4 _ w4 .0)) $ pass1 ! (init ! 20 refl (uint-lawful 𝓤 H A W w64
+        .typed n5 _ w5 .0)) $ pass1 ! (init ! 19 refl (shr-slice-lawful 𝓤 H A W (named 2) κ₂ u64 .typed s6 (v6 ∷ []) w6 .0)) $ pass1 ! (init ! 18
+        refl (LL.lawful mShapes.the-type lShapes.the-laws 𝓤 H A W .typed n7 _ w7 .0)) $ pass1 ! (init ! 17 refl (array-lawful 𝓤 H A W
+        mEntry.the-row (LL.lawful mEntry.the-type lEntry.the-laws 𝓤 H A W) 384 .typed n8 _ w8 .0)) $ pass1 ! (init ! 16 refl (uint-lawful 𝓤 H A W
+        w64 .typed n9 _ w9 .0)) $ pass1 ! (init ! 15 refl (shr-slice-lawful 𝓤 H A W (named 3) κ₃ u64 .typed s10 (v10 ∷ []) w10 .0)) $ pass1 !
+        (init ! 14 refl (shr-slice-lawful 𝓤 H A W (named 4) κ₄ u64 .typed s11 (v11 ∷ []) w11 .0)) $ pass0 ! $
+        move ! (27 ∷ []) $ fsplit ! $ move ! (1 ∷ []) $ fsplit ! $ move ! (1 ∷ []) $ fsplit ! $ move ! (1 ∷ []) $ fsplit ! $ move ! (1 ∷ []) $ fsplit
+        ! $ move ! (1 ∷ []) $ fsplit ! $ move ! (1 ∷ []) $ fsplit ! $ move ! (1 ∷ []) $ fsplit ! $ move ! (1 ∷ []) $ fsplit ! $ move ! (1 ∷ []) $
+        fsplit ! $ move ! (1 ∷ []) $ fsplit ! $ move ! (1 ∷ []) $ drop ! $ move ! (37 ∷ []) $ split ! $ move ! (1 ∷ []) $ split ! $ move ! (1 ∷
+        []) $ split ! $ move ! (1 ∷ []) $ split ! $ move ! (1 ∷ []) $ split ! $ move ! (1 ∷ []) $ drop ! $ tidy W (_ ∷ _ ∷ _ ∷ _ ∷ _ ∷ _ ∷ _ ∷ _
+        ∷ _ ∷ _ ∷ _ ∷ _ ∷ _ ∷ _ ∷ _ ∷ _ ∷ _ ∷ _ ∷ _ ∷ _ ∷ _ ∷ _ ∷ _ ∷ _ ∷ _ ∷ _ ∷ _ ∷ _ ∷ _ ∷ _ ∷ _ ∷ _ ∷ _ ∷ _ ∷ _ ∷ _ ∷ _ ∷ _ ∷ _ ∷ _ ∷ _ ∷ _ ∷
+        []) $
+        assigns ! (of-opd ! (load ! (from ! (stop !)) (look ! 33 refl))) (from ! (stop !)) (init ! 29 refl (array-lawful 𝓤 H A W mEntry.the-row
+        (LL.lawful mEntry.the-type lEntry.the-laws 𝓤 H A W) 384 .typed n8 _ w8 .0)) $
         assigns ! (of-opd ! (lit ! tt)) (from ! (stop !)) (init ! 28 refl (tt, record { fits = lit< tt })) $
-        tidy W (_ ∷ _ ∷ _ ∷ _ ∷ _ ∷ _ ∷ _ ∷ _ ∷ _ ∷ _ ∷ _ ∷ _ ∷ _ ∷ _ ∷ _ ∷ _ ∷ _ ∷ _ ∷ _ ∷ _ ∷ _ ∷ _ ∷ _ ∷ _ ∷ _ ∷ _ ∷ _ ∷ _ ∷ _ ∷ _ ∷ _ ∷ _ ∷ _ ∷ _ ∷ _ ∷ _ ∷ _ ∷ _ ∷ _ ∷ _ ∷ _ ∷ _ ∷ []) $ nothing ! $
+        tidy W (_ ∷ _ ∷ _ ∷ _ ∷ _ ∷ _ ∷ _ ∷ _ ∷ _ ∷ _ ∷ _ ∷ _ ∷ _ ∷ _ ∷ _ ∷ _ ∷ _ ∷ _ ∷ _ ∷ _ ∷ _ ∷ _ ∷ _ ∷ _ ∷ _ ∷ _ ∷ _ ∷ _ ∷ _ ∷ _ ∷ _ ∷ _ ∷ _ ∷ _
+        ∷ _ ∷ _ ∷ _ ∷ _ ∷ _ ∷ _ ∷ _ ∷ _ ∷ []) $ nothing ! $
         -- call 1
-        use1 W (raw (Callee-g1 𝓤 H A at-mem run .pre ((tt, tt, tt, (n9, (384, tt)), (u9 ∷ [], ((vint w64 384) ∷ [], tt))), tt))) (qed W ((‵ ftrue) ∷ []) ∵ nothing ! $ owned ! u64 (Is u64) (uint-makes 𝓤 H A W w64) (384) _ (refl, lit< tt) $ fjoin ! $ owned ! u64 (Is u64) (uint-makes 𝓤 H A W w64) (n9) _ w9 $ fjoin ! $ move ! (1 ∷ 0 ∷ []) $ join ! $ nothing ! $ move ! (1 ∷ 0 ∷ []) $ frame ! $ done !) $
-        calls-at ! fm (Callee-g1 𝓤 H A at-mem run) known-g1 ((tt, tt, tt, (n9, (384, tt)), (u9 ∷ [], ((vint w64 384) ∷ [], tt))), tt) (and-then ! (load ! (from ! (stop !)) (look ! 33 refl)) (and-then ! (load ! (from ! (stop !)) (look ! 29 refl)) (no-more !))) (λ z1.
-        use1 W (later (some (λ (r1 : ℕ). ((‵ ftrue) ⊛ ‵ (u64 .own r1 (z1 ∷ []))) ⊛ some (λ (ws : Lasts g1.ended tt (n9, (384, tt))). ‵ (lasts g1.ended tt (n9, (384, tt)) ws) ⊛ raw (g1.clauses 𝓤 H A at-mem run tt (n9, (384, tt)) .ensures tt r1 (atExit g1.ended tt (n9, (384, tt)) ws)))))) (id⊢ 𝓤 _) $ await ! tt $ pick ! (λ r1. split ! $ move ! (1 ∷ []) $ pick ! (λ ws1. split ! $ move ! (1 ∷ []) $ heard ! _ (λ e1.
+        use1 W (raw (Callee-g1 𝓤 H A at-mem run .pre ((tt, tt, tt, (n9, (384, tt)), (u9 ∷ [], ((vint w64 384) ∷ [], tt))), tt))) (qed W ((‵ ftrue) ∷
+        []) ∵ nothing ! $ owned ! u64 (Is u64) (uint-makes 𝓤 H A W w64) (384) _ (refl, lit< tt) $ fjoin ! $ owned ! u64 (Is u64) (uint-makes 𝓤 H
+        A W w64) (n9) _ w9 $ fjoin ! $ move ! (1 ∷ 0 ∷ []) $ join ! $ nothing ! $ move ! (1 ∷ 0 ∷ []) $ frame ! $ done !) $
+        calls-at ! fm (Callee-g1 𝓤 H A at-mem run) known-g1 ((tt, tt, tt, (n9, (384, tt)), (u9 ∷ [], ((vint w64 384) ∷ [], tt))), tt) (and-then !
+        (load ! (from ! (stop !)) (look ! 33 refl)) (and-then ! (load ! (from ! (stop !)) (look ! 29 refl)) (no-more !))) (λ z1.
+        use1 W (later (some (λ (r1 : ℕ). ((‵ ftrue) ⊛ ‵ (u64 .own r1 (z1 ∷ []))) ⊛ some (λ (ws : Lasts g1.ended tt (n9, (384, tt))). ‵ (lasts
+        g1.ended tt (n9, (384, tt)) ws) ⊛ raw (g1.clauses 𝓤 H A at-mem run tt (n9, (384, tt)) .ensures tt r1 (atExit g1.ended tt (n9, (384, tt))
+        ws)))))) (id⊢ 𝓤 _) $ await ! tt $ pick ! (λ r1. split ! $ move ! (1 ∷ []) $ pick ! (λ ws1. split ! $ move ! (1 ∷ []) $ heard ! _ (λ e1.
         drop ! $ split ! $ move ! (1 ∷ []) $ peeks ! u64 (Is u64) (shows 𝓤 H A u64) r1 (z1 ∷ []) (λ i1. drop ! $ land ! (from ! (stop !)) (init ! 28 refl (uint-lawful 𝓤 H A W w64 .typed r1 _ i1 .0)) $
-        tidy W (_ ∷ _ ∷ _ ∷ _ ∷ _ ∷ _ ∷ _ ∷ _ ∷ _ ∷ _ ∷ _ ∷ _ ∷ _ ∷ _ ∷ _ ∷ _ ∷ _ ∷ _ ∷ _ ∷ _ ∷ _ ∷ _ ∷ _ ∷ _ ∷ _ ∷ _ ∷ _ ∷ _ ∷ _ ∷ _ ∷ _ ∷ _ ∷ _ ∷ _ ∷ _ ∷ _ ∷ _ ∷ _ ∷ _ ∷ _ ∷ _ ∷ _ ∷ _ ∷ []) $ drop ! $ assigns ! (of-opd ! (load ! (from ! (stop !)) (look ! 40 refl))) (from ! (stop !)) (init ! 26 refl (LL.lawful mTranscript.the-type lTranscript.the-laws 𝓤 H A W .typed n1 _ w1 .0)) $
+        tidy W (_ ∷ _ ∷ _ ∷ _ ∷ _ ∷ _ ∷ _ ∷ _ ∷ _ ∷ _ ∷ _ ∷ _ ∷ _ ∷ _ ∷ _ ∷ _ ∷ _ ∷ _ ∷ _ ∷ _ ∷ _ ∷ _ ∷ _ ∷ _ ∷ _ ∷ _ ∷ _ ∷ _ ∷ _ ∷ _ ∷ _ ∷ _ ∷ _ ∷ _
+        ∷ _ ∷ _ ∷ _ ∷ _ ∷ _ ∷ _ ∷ _ ∷ _ ∷ _ ∷ []) $ drop ! $ assigns ! (of-opd ! (load ! (from ! (stop !)) (look ! 40 refl))) (from ! (stop !))
+        (init ! 26 refl (LL.lawful mTranscript.the-type lTranscript.the-laws 𝓤 H A W .typed n1 _ w1 .0)) $
         assigns ! (addr ! (from ! (stop !))) (from ! (stop !)) (init ! 24 refl (tt, tt)) $
         assigns ! (addr ! (from ! (fld ! refl (hop ! (look-in ! 39 (sub ! 0 refl (whole !))) (stop !))))) (from ! (stop !)) (init ! 23 refl (tt, tt)) $
-        assigns ! (agg ! (and-then ! (load ! (from ! (stop !)) (look ! 23 refl)) (and-then ! (load ! (from ! (fld ! refl (stop !))) (look-in ! 39 (sub ! 1 refl (whole !)))) (no-more !)))) (from ! (stop !)) (init ! 22 refl (tt, (tt, (record { fits = room2 .0 }, tt)))) $
+        assigns ! (agg ! (and-then ! (load ! (from ! (stop !)) (look ! 23 refl)) (and-then ! (load ! (from ! (fld ! refl (stop !))) (look-in ! 39
+        (sub ! 1 refl (whole !)))) (no-more !)))) (from ! (stop !)) (init ! 22 refl (tt, (tt, (record { fits = room2 .0 }, tt)))) $
         assigns ! (addr ! (from ! (fld ! refl (hop ! (look-in ! 38 (sub ! 0 refl (whole !))) (stop !))))) (from ! (stop !)) (init ! 21 refl (tt, tt)) $
-        assigns ! (agg ! (and-then ! (load ! (from ! (stop !)) (look ! 21 refl)) (and-then ! (load ! (from ! (fld ! refl (stop !))) (look-in ! 38 (sub ! 1 refl (whole !)))) (no-more !)))) (from ! (stop !)) (init ! 20 refl (tt, (tt, (record { fits = room3 .0 }, tt)))) $
+        assigns ! (agg ! (and-then ! (load ! (from ! (stop !)) (look ! 21 refl)) (and-then ! (load ! (from ! (fld ! refl (stop !))) (look-in ! 38
+        (sub ! 1 refl (whole !)))) (no-more !)))) (from ! (stop !)) (init ! 20 refl (tt, (tt, (record { fits = room3 .0 }, tt)))) $
         assigns ! (addr ! (from ! (stop !))) (from ! (stop !)) (init ! 19 refl (tt, tt)) $
-        rewrite ! 27 (λ (w : Val). ‵ (fat fullShare (tyInt w64) l₁₄ 0 w)) (ap only (i1 .0)) refl $ assigns ! (agg ! (and-then ! (load ! (from ! (stop !)) (look ! 19 refl)) (and-then ! (load ! (from ! (stop !)) (look ! 27 refl)) (no-more !)))) (from ! (stop !)) (init ! 18 refl (tt, (tt, (record { fits = i1 .1 }, tt)))) $
-        lft-new ! tt (λ ν2a. owned ! mTranscript.the-row (Is mTranscript.the-row) (LL.makes mTranscript.the-type lTranscript.the-plain 𝓤 H A) (n1) _ w1 $ move ! (28 ∷ 0 ∷ []) $ use1 W (‵ (cellAt fullShare (mTranscript.the-row .mir) (u1 ∷ []) l₁₅ 0)) (W .laws .at-raw fullShare (lTranscript.mir) l₁₅ 0 (u1)) $ into ! mTranscript.the-row fullShare (n1) (u1 ∷ []) l₁₅ 0 $
-        use1 W (later (some (λ (δ : GName). ‵ (MutRef (named 0) (ν2a ∷ []) mTranscript.the-row .own (record { ptr = (l₁₅, 0); name = δ; now = n1 }) (vptr l₁₅ 0 ∷ [])) ⊛ ‵ (flent (ν2a ∷ []) (Body (mem mTranscript.the-row) l₁₅ 0 δ))))) (lends-ref 𝓤 H A W mTranscript.the-row (named 0) (ν2a ∷ []) (n1) l₁₅ 0) $ await ! tt $ pick ! (λ δ2a. split ! $
-        lft-new ! tt (λ ν2b. move ! (18 ∷ 8 ∷ []) $ use2 W (later (some (λ (δ : GName). ‵ (MutSlice (named 1) (ν2b ∷ []) u64 .own (ref2 δ (ys2)) (v2 ∷ [])) ⊛ ‵ (Lent2 ν2b δ (ys2))))) (lends2 (named 1) ν2b (ys2) (refl)) $ await ! tt $ pick ! (λ δ2b. split ! $
-        lft-new ! tt (λ ν2c. move ! (19 ∷ 10 ∷ []) $ use2 W (later (some (λ (δ : GName). ‵ (MutSlice (named 2) (ν2c ∷ []) u64 .own (ref3 δ (ys3)) (v3 ∷ [])) ⊛ ‵ (Lent3 ν2c δ (ys3))))) (lends3 (named 2) ν2c (ys3) (refl)) $ await ! tt $ pick ! (λ δ2c. split ! $ move ! (17 ∷ []) $ use1 W (‵ (O6) ⊛ ‵ (O6)) (shr-slice-copy 𝓤 H A W (named 2) κ₂ u64 .twice s6 (v6 ∷ [])) $ split ! $
-        lft-new ! tt (λ ν2h. owned ! (Array mEntry.the-row 384) (Is (Array mEntry.the-row 384)) (array-makes 𝓤 H A W mEntry.the-row (LL.makes mEntry.the-type lEntry.the-plain 𝓤 H A) 384) (n8) _ w8 $ move ! (36 ∷ 0 ∷ []) $ use1 W (‵ (cellAt fullShare ((Array mEntry.the-row 384) .mir) (u8′ ∷ []) l₁₂ 0)) (W .laws .at-raw fullShare (tyArray (lEntry.mir) 384) l₁₂ 0 (u8′)) $ into ! (Array mEntry.the-row 384) fullShare (n8) (u8′ ∷ []) l₁₂ 0 $
+        rewrite ! 27 (λ (w : Val). ‵ (fat fullShare (tyInt w64) l₁₄ 0 w)) (ap only (i1 .0)) refl $ assigns ! (agg ! (and-then ! (load ! (from ! (stop
+        !)) (look ! 19 refl)) (and-then ! (load ! (from ! (stop !)) (look ! 27 refl)) (no-more !)))) (from ! (stop !)) (init ! 18 refl (
+          tt,
+          (
+            tt,
+            (record { fits = i1 .1 }, tt),
+          ),
+        )) $
+        lft-new ! tt (λ ν2a. owned ! mTranscript.the-row (Is mTranscript.the-row) (LL.makes mTranscript.the-type lTranscript.the-plain 𝓤 H A) (n1) _
+        w1 $ move ! (28 ∷ 0 ∷ []) $ use1 W (‵ (cellAt fullShare (mTranscript.the-row .mir) (u1 ∷ []) l₁₅ 0)) (W .laws .at-raw fullShare
+        (lTranscript.mir) l₁₅ 0 (u1)) $ into ! mTranscript.the-row fullShare (n1) (u1 ∷ []) l₁₅ 0 $
+        use1 W (later (some (λ (δ : GName). ‵ (MutRef (named 0) (ν2a ∷ []) mTranscript.the-row .own (record { ptr = (l₁₅, 0); name = δ; now = n1 })
+        (vptr l₁₅ 0 ∷ [])) ⊛ ‵ (flent (ν2a ∷ []) (Body (mem mTranscript.the-row) l₁₅ 0 δ))))) (lends-ref 𝓤 H A W mTranscript.the-row (named 0)
+        (ν2a ∷ []) (n1) l₁₅ 0) $ await ! tt $ pick ! (λ δ2a. split ! $
+        lft-new ! tt (λ ν2b. move ! (18 ∷ 8 ∷ []) $ use2 W (later (some (λ (δ : GName). ‵ (MutSlice (named 1) (ν2b ∷ []) u64 .own (ref2 δ (ys2)) (v2
+        ∷ [])) ⊛ ‵ (Lent2 ν2b δ (ys2))))) (lends2 (named 1) ν2b (ys2) (refl)) $ await ! tt $ pick ! (λ δ2b. split ! $
+        lft-new ! tt (λ ν2c. move ! (19 ∷ 10 ∷ []) $ use2 W (later (some (λ (δ : GName). ‵ (MutSlice (named 2) (ν2c ∷ []) u64 .own (ref3 δ (ys3)) (v3
+        ∷ [])) ⊛ ‵ (Lent3 ν2c δ (ys3))))) (lends3 (named 2) ν2c (ys3) (refl)) $ await ! tt $ pick ! (λ δ2c. split ! $ move ! (17 ∷ []) $ use1 W
+        (‵ (O6) ⊛ ‵ (O6)) (shr-slice-copy 𝓤 H A W (named 2) κ₂ u64 .twice s6 (v6 ∷ [])) $ split ! $
+        lft-new ! tt (λ ν2h. owned ! (Array mEntry.the-row 384) (Is (Array mEntry.the-row 384)) (array-makes 𝓤 H A W mEntry.the-row (LL.makes
+        mEntry.the-type lEntry.the-plain 𝓤 H A) 384) (n8) _ w8 $ move ! (36 ∷ 0 ∷ []) $ use1 W (‵ (cellAt fullShare ((Array mEntry.the-row 384)
+        .mir) (u8′ ∷ []) l₁₂ 0)) (W .laws .at-raw fullShare (tyArray (lEntry.mir) 384) l₁₂ 0 (u8′)) $ into ! (Array mEntry.the-row 384) fullShare
+        (n8) (u8′ ∷ []) l₁₂ 0 $
         use1 W (‵ (arr-parts (shares mEntry.the-row) 384 .part fullShare (n8) l₁₂ 0)) (array-apart 𝓤 H A W mEntry.the-row fullShare tt 384 (n8) l₁₂ 0) $ fsplit ! $ feqL ! (λ ln2h.
-        use1 W (‵ (parts (mem mEntry.the-row) (shares mEntry.the-row) fullShare (take r1 (n8)) l₁₂ 0) ⊛ ‵ (rest mEntry.the-row fullShare r1 (n8) l₁₂ 0)) (cut 𝓤 H A mEntry.the-row fullShare r1 (n8) l₁₂ 0) $ split ! $ feqI ! ℕ (length (take r1 (n8))) (length (take r1 (n8))) refl $ fjoin ! $
-        use1 W (later (some (λ (δ : GName). ‵ (ShrSlice (named 4) (ν2h ∷ []) mEntry.the-row .own (record { ptr = (l₁₂, 0); name = δ; now = (take r1 (n8)) }) (sliceVal (l₁₂, 0) (length (take r1 (n8))) ∷ [])) ⊛ ‵ (flent (ν2h ∷ []) (arr-parts (shares mEntry.the-row) (length (take r1 (n8))) .part fullShare (take r1 (n8)) l₁₂ 0))))) (lends-shr-slice 𝓤 H A W mEntry.the-row (named 4) (ν2h ∷ []) fullShare (take r1 (n8)) l₁₂ 0 (subst (Room mEntry.the-row) (sym (length-take-le r1 (n8) (subst (λ (m : ℕ). r1 ≤ m) (sym ln2h) ((e1 .1))))) (room-of mEntry.the-row r1 384 ((e1 .1)) (lit< tt, lit< tt)))) $ await ! tt $ pick ! (λ δ2h. split ! $ rewrite ! 0 (λ (m : ℕ). ‵ (ShrSlice (named 4) (ν2h ∷ []) mEntry.the-row .own (record { ptr = (l₁₂, 0); name = δ2h; now = (take r1 (n8)) }) (sliceVal (l₁₂, 0) m ∷ []))) (length-take-le r1 (n8) (subst (λ (m : ℕ). r1 ≤ m) (sym ln2h) ((e1 .1)))) refl $
-        move ! (19 ∷ []) $ use1 W (‵ (O10) ⊛ ‵ (O10)) (shr-slice-copy 𝓤 H A W (named 3) κ₃ u64 .twice s10 (v10 ∷ [])) $ split ! $ move ! (20 ∷ []) $ use1 W (‵ (O11) ⊛ ‵ (O11)) (shr-slice-copy 𝓤 H A W (named 4) κ₄ u64 .twice s11 (v11 ∷ [])) $ split ! $ tidy W (_ ∷ _ ∷ _ ∷ _ ∷ _ ∷ _ ∷ _ ∷ _ ∷ _ ∷ _ ∷ _ ∷ _ ∷ _ ∷ _ ∷ _ ∷ _ ∷ _ ∷ _ ∷ _ ∷ _ ∷ _ ∷ _ ∷ _ ∷ _ ∷ _ ∷ _ ∷ _ ∷ _ ∷ _ ∷ _ ∷ _ ∷ _ ∷ _ ∷ _ ∷ _ ∷ _ ∷ _ ∷ _ ∷ _ ∷ _ ∷ _ ∷ _ ∷ _ ∷ _ ∷ _ ∷ _ ∷ _ ∷ _ ∷ _ ∷ _ ∷ _ ∷ _ ∷ []) $ nothing ! $ move ! (20 ∷ 0 ∷ []) $ join ! $ move ! (20 ∷ 0 ∷ []) $ join ! $ move ! (8 ∷ 0 ∷ []) $ join ! $ move ! (19 ∷ 0 ∷ []) $ join ! $ move ! (12 ∷ 0 ∷ []) $ join ! $ move ! (14 ∷ 0 ∷ []) $ join ! $ move ! (16 ∷ 0 ∷ []) $ join ! $ move ! (3 ∷ 1 ∷ []) $ join ! $ move ! (4 ∷ 0 ∷ []) $ join ! $ move ! (6 ∷ 0 ∷ []) $ join ! $ move ! (7 ∷ 0 ∷ []) $ join ! $ move ! (8 ∷ 0 ∷ []) $ join ! $ move ! (9 ∷ 0 ∷ []) $ join ! $ move ! (1 ∷ 0 ∷ []) $ join ! $
+        use1 W (‵ (parts (mem mEntry.the-row) (shares mEntry.the-row) fullShare (take r1 (n8)) l₁₂ 0) ⊛ ‵ (rest mEntry.the-row fullShare r1 (n8) l₁₂
+        0)) (cut 𝓤 H A mEntry.the-row fullShare r1 (n8) l₁₂ 0) $ split ! $ feqI ! ℕ (length (take r1 (n8))) (length (take r1 (n8))) refl $ fjoin
+        ! $
+        use1 W (later (some (λ (δ : GName). ‵ (ShrSlice (named 4) (ν2h ∷ []) mEntry.the-row .own (record {
+          ptr = (l₁₂, 0);
+          name = δ;
+          now = (take r1
+              (n8));
+        }) (sliceVal (l₁₂, 0) (length (take r1 (n8))) ∷ [])) ⊛ ‵ (flent (ν2h ∷ []) (arr-parts (shares mEntry.the-row) (length (take r1
+        (n8))) .part fullShare (take r1 (n8)) l₁₂ 0))))) (lends-shr-slice 𝓤 H A W mEntry.the-row (named 4) (ν2h ∷ []) fullShare (take r1 (n8))
+        l₁₂ 0 (subst (Room mEntry.the-row) (sym (length-take-le r1 (n8) (subst (λ (m : ℕ). r1 ≤ m) (sym ln2h) ((e1 .1))))) (room-of
+        mEntry.the-row r1 384 ((e1 .1)) (lit< tt, lit< tt)))) $ await ! tt $ pick ! (λ δ2h. split ! $ rewrite ! 0 (λ (m : ℕ). ‵ (ShrSlice (named
+        4) (ν2h ∷ []) mEntry.the-row .own (record { ptr = (l₁₂, 0); name = δ2h; now = (take r1 (n8)) }) (sliceVal (l₁₂, 0) m ∷ [])))
+        (length-take-le r1 (n8) (subst (λ (m : ℕ). r1 ≤ m) (sym ln2h) ((e1 .1)))) refl $
+        move ! (19 ∷ []) $ use1 W (‵ (O10) ⊛ ‵ (O10)) (shr-slice-copy 𝓤 H A W (named 3) κ₃ u64 .twice s10 (v10 ∷ [])) $ split ! $ move ! (20 ∷ []) $
+        use1 W (‵ (O11) ⊛ ‵ (O11)) (shr-slice-copy 𝓤 H A W (named 4) κ₄ u64 .twice s11 (v11 ∷ [])) $ split ! $ tidy W (_ ∷ _ ∷ _ ∷ _ ∷ _ ∷ _ ∷ _
+        ∷ _ ∷ _ ∷ _ ∷ _ ∷ _ ∷ _ ∷ _ ∷ _ ∷ _ ∷ _ ∷ _ ∷ _ ∷ _ ∷ _ ∷ _ ∷ _ ∷ _ ∷ _ ∷ _ ∷ _ ∷ _ ∷ _ ∷ _ ∷ _ ∷ _ ∷ _ ∷ _ ∷ _ ∷ _ ∷ _ ∷ _ ∷ _ ∷ _ ∷ _ ∷
+        _ ∷ _ ∷ _ ∷ _ ∷ _ ∷ _ ∷ _ ∷ _ ∷ _ ∷ _ ∷ _ ∷ []) $ nothing ! $ move ! (20 ∷ 0 ∷ []) $ join ! $ move ! (20 ∷ 0 ∷ []) $ join ! $ move ! (8 ∷
+        0 ∷ []) $ join ! $ move ! (19 ∷ 0 ∷ []) $ join ! $ move ! (12 ∷ 0 ∷ []) $ join ! $ move ! (14 ∷ 0 ∷ []) $ join ! $ move ! (16 ∷ 0 ∷ []) $
+        join ! $ move ! (3 ∷ 1 ∷ []) $ join ! $ move ! (4 ∷ 0 ∷ []) $ join ! $ move ! (6 ∷ 0 ∷ []) $ join ! $ move ! (7 ∷ 0 ∷ []) $ join ! $ move
+        ! (8 ∷ 0 ∷ []) $ join ! $ move ! (9 ∷ 0 ∷ []) $ join ! $ move ! (1 ∷ 0 ∷ []) $ join ! $
         -- call 2
-        use1 W (raw (Callee-g2 𝓤 H A at-mem run .pre ((((ν2a ∷ []), ((ν2b ∷ []), ((ν2c ∷ []), (κ₂, ((ν2h ∷ []), (κ₃, (κ₄, tt))))))), (fullShare, (fullShare, (fullShare, (q₂, (fullShare, (q₃, (q₄, tt))))))), tt, (record { ptr = (l₁₅, 0); name = δ2a; now = n1 }, (ref2 δ2b (ys2), (ref3 δ2c (ys3), (n4, (n5, (s6, (n7, (record { ptr = (l₁₂, 0); name = δ2h; now = (take r1 (n8)) }, (s10, (s11, tt)))))))))), (vptr l₁₅ 0 ∷ [], (v2 ∷ [], (v3 ∷ [], (u4 ∷ [], (u5 ∷ [], (v6 ∷ [], (u7 ∷ [], (sliceVal (l₁₂, 0) r1 ∷ [], (v10 ∷ [], (v11 ∷ [], tt))))))))))), tt))) (qed W ((‵ (flft (ν2a ∷ []) fullShare) ⊛ ‵ (flft (ν2b ∷ []) fullShare) ⊛ ‵ (flft (ν2c ∷ []) fullShare) ⊛ ‵ (flft κ₂ q₂) ⊛ ‵ (flft (ν2h ∷ []) fullShare) ⊛ ‵ (flft κ₃ q₃) ⊛ ‵ (flft κ₄ q₄) ⊛ ‵ ftrue) ∷ ‵ (MutRef (named 0) (ν2a ∷ []) mTranscript.the-row .own (record { ptr = (l₁₅, 0); name = δ2a; now = n1 }) (vptr l₁₅ 0 ∷ [])) ∷ ‵ (MutSlice (named 1) (ν2b ∷ []) u64 .own (ref2 δ2b (ys2)) (v2 ∷ [])) ∷ ‵ (MutSlice (named 2) (ν2c ∷ []) u64 .own (ref3 δ2c (ys3)) (v3 ∷ [])) ∷ ‵ (ShrSlice (named 3) κ₂ u64 .own s6 (v6 ∷ [])) ∷ ‵ (ShrSlice (named 4) (ν2h ∷ []) mEntry.the-row .own (record { ptr = (l₁₂, 0); name = δ2h; now = (take r1 (n8)) }) (sliceVal (l₁₂, 0) r1 ∷ [])) ∷ ‵ (ShrSlice (named 5) κ₃ u64 .own s10 (v10 ∷ [])) ∷ ‵ (ShrSlice (named 6) κ₄ u64 .own s11 (v11 ∷ [])) ∷ []) ∵ nothing ! $ move ! (8 ∷ 0 ∷ []) $ fjoin ! $ move ! (7 ∷ 0 ∷ []) $ fjoin ! $ move ! (6 ∷ 0 ∷ []) $ fjoin ! $ owned ! mShapes.the-row (Is mShapes.the-row) (LL.makes mShapes.the-type lShapes.the-plain 𝓤 H A) (n7) _ w7 $ fjoin ! $ move ! (5 ∷ 0 ∷ []) $ fjoin ! $ owned ! u64 (Is u64) (uint-makes 𝓤 H A W w64) (n5) _ w5 $ fjoin ! $ owned ! u64 (Is u64) (uint-makes 𝓤 H A W w64) (n4) _ w4 $ fjoin ! $ move ! (4 ∷ 0 ∷ []) $ fjoin ! $ move ! (3 ∷ 0 ∷ []) $ fjoin ! $ move ! (2 ∷ 0 ∷ []) $ fjoin ! $ move ! (1 ∷ 0 ∷ []) $ join ! $ nothing ! $ move ! (1 ∷ 0 ∷ []) $ frame ! $ done !) $
-        calls-at ! fm (Callee-g2 𝓤 H A at-mem run) known-g2 ((((ν2a ∷ []), ((ν2b ∷ []), ((ν2c ∷ []), (κ₂, ((ν2h ∷ []), (κ₃, (κ₄, tt))))))), (fullShare, (fullShare, (fullShare, (q₂, (fullShare, (q₃, (q₄, tt))))))), tt, (record { ptr = (l₁₅, 0); name = δ2a; now = n1 }, (ref2 δ2b (ys2), (ref3 δ2c (ys3), (n4, (n5, (s6, (n7, (record { ptr = (l₁₂, 0); name = δ2h; now = (take r1 (n8)) }, (s10, (s11, tt)))))))))), (vptr l₁₅ 0 ∷ [], (v2 ∷ [], (v3 ∷ [], (u4 ∷ [], (u5 ∷ [], (v6 ∷ [], (u7 ∷ [], (sliceVal (l₁₂, 0) r1 ∷ [], (v10 ∷ [], (v11 ∷ [], tt))))))))))), tt) (and-then ! (load ! (from ! (stop !)) (look ! 23 refl)) (and-then ! (load ! (from ! (stop !)) (look ! 21 refl)) (and-then ! (load ! (from ! (stop !)) (look ! 19 refl)) (and-then ! (load ! (from ! (stop !)) (look ! 34 refl)) (and-then ! (load ! (from ! (stop !)) (look ! 33 refl)) (and-then ! (load ! (from ! (stop !)) (look ! 32 refl)) (and-then ! (load ! (from ! (stop !)) (look ! 31 refl)) (and-then ! (load ! (from ! (stop !)) (look ! 17 refl)) (and-then ! (load ! (from ! (stop !)) (look ! 28 refl)) (and-then ! (load ! (from ! (stop !)) (look ! 27 refl)) (no-more !))))))))))) (λ z2.
-        use1 W (later (some (λ (r2 : ℕ). ((‵ (flft (ν2a ∷ []) fullShare) ⊛ ‵ (flft (ν2b ∷ []) fullShare) ⊛ ‵ (flft (ν2c ∷ []) fullShare) ⊛ ‵ (flft κ₂ q₂) ⊛ ‵ (flft (ν2h ∷ []) fullShare) ⊛ ‵ (flft κ₃ q₃) ⊛ ‵ (flft κ₄ q₄) ⊛ ‵ ftrue) ⊛ ‵ (u32 .own r2 (z2 ∷ []))) ⊛ some (λ (ws : Lasts g2.ended ((ν2a ∷ []), ((ν2b ∷ []), ((ν2c ∷ []), (κ₂, ((ν2h ∷ []), (κ₃, (κ₄, tt))))))) (record { ptr = (l₁₅, 0); name = δ2a; now = n1 }, (ref2 δ2b (ys2), (ref3 δ2c (ys3), (n4, (n5, (s6, (n7, (record { ptr = (l₁₂, 0); name = δ2h; now = (take r1 (n8)) }, (s10, (s11, tt))))))))))). ‵ (lasts g2.ended ((ν2a ∷ []), ((ν2b ∷ []), ((ν2c ∷ []), (κ₂, ((ν2h ∷ []), (κ₃, (κ₄, tt))))))) (record { ptr = (l₁₅, 0); name = δ2a; now = n1 }, (ref2 δ2b (ys2), (ref3 δ2c (ys3), (n4, (n5, (s6, (n7, (record { ptr = (l₁₂, 0); name = δ2h; now = (take r1 (n8)) }, (s10, (s11, tt)))))))))) ws) ⊛ raw (g2.clauses 𝓤 H A at-mem run ((ν2a ∷ []), ((ν2b ∷ []), ((ν2c ∷ []), (κ₂, ((ν2h ∷ []), (κ₃, (κ₄, tt))))))) (record { ptr = (l₁₅, 0); name = δ2a; now = n1 }, (ref2 δ2b (ys2), (ref3 δ2c (ys3), (n4, (n5, (s6, (n7, (record { ptr = (l₁₂, 0); name = δ2h; now = (take r1 (n8)) }, (s10, (s11, tt)))))))))) .ensures tt r2 (atExit g2.ended ((ν2a ∷ []), ((ν2b ∷ []), ((ν2c ∷ []), (κ₂, ((ν2h ∷ []), (κ₃, (κ₄, tt))))))) (record { ptr = (l₁₅, 0); name = δ2a; now = n1 }, (ref2 δ2b (ys2), (ref3 δ2c (ys3), (n4, (n5, (s6, (n7, (record { ptr = (l₁₂, 0); name = δ2h; now = (take r1 (n8)) }, (s10, (s11, tt)))))))))) ws)))))) (id⊢ 𝓤 _) $ await ! tt $ pick ! (λ r2. split ! $ move ! (1 ∷ []) $ pick ! (λ ws2. split ! $ move ! (1 ∷ []) $ heard ! _ (λ e2.
-        fsplit ! $ move ! (1 ∷ []) $ fsplit ! $ fsplit ! $ move ! (1 ∷ []) $ feqL ! (λ same2b. move ! (1 ∷ []) $ fsplit ! $ fsplit ! $ move ! (1 ∷ []) $ feqL ! (λ same2c. move ! (1 ∷ []) $ drop ! $ move ! (3 ∷ []) $ split ! $ move ! (1 ∷ []) $ peeks ! u32 (Is u32) (shows 𝓤 H A u32) r2 (z2 ∷ []) (λ i2. drop ! $ land ! (from ! (stop !)) (init ! 27 refl (uint-lawful 𝓤 H A W w32 .typed r2 _ i2 .0)) $
-        tidy W (_ ∷ _ ∷ _ ∷ _ ∷ _ ∷ _ ∷ _ ∷ _ ∷ _ ∷ _ ∷ _ ∷ _ ∷ _ ∷ _ ∷ _ ∷ _ ∷ _ ∷ _ ∷ _ ∷ _ ∷ _ ∷ _ ∷ _ ∷ _ ∷ _ ∷ _ ∷ _ ∷ _ ∷ _ ∷ _ ∷ _ ∷ _ ∷ _ ∷ _ ∷ _ ∷ _ ∷ _ ∷ _ ∷ _ ∷ _ ∷ _ ∷ _ ∷ []) $ split ! $ move ! (1 ∷ []) $ split ! $ move ! (1 ∷ []) $ split ! $ move ! (1 ∷ []) $ split ! $ move ! (1 ∷ []) $ split ! $ move ! (1 ∷ []) $ split ! $ move ! (1 ∷ []) $ split ! $ move ! (1 ∷ []) $ drop ! $ move ! (6 ∷ []) $ lft-end ! tt $ move ! (0 ∷ 17 ∷ 9 ∷ []) $ use3 W (later (‵ (partAt mTranscript.the-row fullShare ((ws2 .0)) l₁₅ 0))) (ref-back 𝓤 H A W mTranscript.the-row (ν2a ∷ []) δ2a ((ws2 .0)) l₁₅ 0) $ await ! tt $
-        out ! mTranscript.the-row fullShare ((ws2 .0)) l₁₅ 0 (λ vs. spelt ! mTranscript.the-row (Is mTranscript.the-row) (shows 𝓤 H A mTranscript.the-row) (LL.vals mTranscript.the-type lTranscript.the-laws) (LL.tells mTranscript.the-type lTranscript.the-laws) fullShare ((ws2 .0)) vs l₁₅ 0 $ move ! (1 ∷ []) $ peeks ! mTranscript.the-row (Is mTranscript.the-row) (shows 𝓤 H A mTranscript.the-row) ((ws2 .0)) (LL.val mTranscript.the-type lTranscript.the-laws ((ws2 .0)) ∷ []) (λ w2a. drop ! $ use1 W (‵ (fat fullShare (lTranscript.mir) l₁₅ 0 (LL.val mTranscript.the-type lTranscript.the-laws ((ws2 .0))))) (W .laws .raw-at fullShare (lTranscript.mir) l₁₅ 0 (LL.val mTranscript.the-type lTranscript.the-laws ((ws2 .0)))) $
-        move ! (6 ∷ []) $ lft-end ! tt $ move ! (0 ∷ 15 ∷ 8 ∷ []) $ use3 W (later (‵ (O2 (ws2 .1 .0)) ⊛ ‵ (flft κ₀ q₀))) (backs2 (named 1) ν2b δ2b (ys2) (ws2 .1 .0) (refl) room2 same2b) $ await ! tt $ split ! $
-        move ! (7 ∷ []) $ lft-end ! tt $ move ! (0 ∷ 14 ∷ 8 ∷ []) $ use3 W (later (‵ (O3 (ws2 .1 .1 .0)) ⊛ ‵ (flft κ₁ q₁))) (backs3 (named 2) ν2c δ2c (ys3) (ws2 .1 .1 .0) (refl) room3 same2c) $ await ! tt $ split ! $
-        move ! (7 ∷ []) $ lft-end ! tt $ move ! (0 ∷ 11 ∷ []) $ lent-back ! tt $ fsplit ! $ drop ! $ move ! (0 ∷ 11 ∷ []) $ use2 W (‵ (parts (mem mEntry.the-row) (shares mEntry.the-row) fullShare (n8) l₁₂ 0)) (mend 𝓤 H A mEntry.the-row fullShare r1 (n8) l₁₂ 0) $ feqI ! ℕ (length (n8)) 384 ln2h $ fjoin ! $ use1 W (‵ (partAt (Array mEntry.the-row 384) fullShare (n8) l₁₂ 0)) (array-whole 𝓤 H A W mEntry.the-row fullShare 384 (n8) l₁₂ 0) $
-        out ! (Array mEntry.the-row 384) fullShare (n8) l₁₂ 0 (λ vs. spelt ! (Array mEntry.the-row 384) (Is (Array mEntry.the-row 384)) (shows 𝓤 H A (Array mEntry.the-row 384)) (array-vals (LL.vals mEntry.the-type lEntry.the-laws)) (array-tells mEntry.the-row (LL.vals mEntry.the-type lEntry.the-laws) (LL.tells mEntry.the-type lEntry.the-laws) 384) fullShare (n8) vs l₁₂ 0 $ move ! (1 ∷ []) $ peeks ! (Array mEntry.the-row 384) (Is (Array mEntry.the-row 384)) (shows 𝓤 H A (Array mEntry.the-row 384)) (n8) (array-val (LL.vals mEntry.the-type lEntry.the-laws) (n8) ∷ []) (λ w2h. drop ! $ use1 W (‵ (fat fullShare (tyArray (lEntry.mir) 384) l₁₂ 0 (array-val (LL.vals mEntry.the-type lEntry.the-laws) (n8)))) (W .laws .raw-at fullShare (tyArray (lEntry.mir) 384) l₁₂ 0 (array-val (LL.vals mEntry.the-type lEntry.the-laws) (n8))) $
+        use1 W (raw (Callee-g2 𝓤 H A at-mem run .pre (
+          (
+            ((ν2a ∷ []), ((ν2b ∷ []), ((ν2c ∷ []), (κ₂, ((ν2h ∷ []), (κ₃, (κ₄, tt))))))),
+            (
+              fullShare,
+              (fullShare, (fullShare, (q₂, (fullShare, (q₃, (q₄, tt)))))),
+            ),
+            tt,
+            (
+              record { ptr = (l₁₅, 0); name = δ2a; now = n1 },
+              (
+                ref2 δ2b (ys2),
+                (ref3 δ2c (ys3), (n4, (n5, (s6, (n7, (record { ptr = (l₁₂, 0); name = δ2h; now = (take r1 (n8)) }, (s10, (s11, tt)))))))),
+              ),
+            ),
+            (
+              vptr l₁₅ 0
+                  ∷ [],
+              (v2 ∷ [], (v3 ∷ [], (u4 ∷ [], (u5 ∷ [], (v6 ∷ [], (u7 ∷ [], (sliceVal (l₁₂, 0) r1 ∷ [], (v10 ∷ [], (v11 ∷ [], tt))))))))),
+            ),
+          ),
+          tt,
+        )))
+        (qed W ((‵ (flft (ν2a ∷ []) fullShare) ⊛ ‵ (flft (ν2b ∷ []) fullShare) ⊛ ‵ (flft (ν2c ∷ []) fullShare) ⊛ ‵ (flft κ₂ q₂) ⊛ ‵ (flft (ν2h ∷
+        []) fullShare) ⊛ ‵ (flft κ₃ q₃) ⊛ ‵ (flft κ₄ q₄) ⊛ ‵ ftrue) ∷ ‵ (MutRef (named 0) (ν2a ∷ []) mTranscript.the-row .own (record {
+          ptr =
+              (l₁₅, 0);
+          name = δ2a;
+          now = n1;
+        }) (vptr l₁₅ 0 ∷ [])) ∷ ‵ (MutSlice (named 1) (ν2b ∷ []) u64 .own (ref2 δ2b (ys2)) (v2 ∷ [])) ∷ ‵
+        (MutSlice (named 2) (ν2c ∷ []) u64 .own (ref3 δ2c (ys3)) (v3 ∷ [])) ∷ ‵ (ShrSlice (named 3) κ₂ u64 .own s6 (v6 ∷ [])) ∷ ‵ (ShrSlice
+        (named 4) (ν2h ∷ []) mEntry.the-row .own (record { ptr = (l₁₂, 0); name = δ2h; now = (take r1 (n8)) }) (sliceVal (l₁₂, 0) r1 ∷ [])) ∷ ‵
+        (ShrSlice (named 5) κ₃ u64 .own s10 (v10 ∷ [])) ∷ ‵ (ShrSlice (named 6) κ₄ u64 .own s11 (v11 ∷ [])) ∷ []) ∵ nothing ! $ move ! (8 ∷ 0 ∷
+        []) $ fjoin ! $ move ! (7 ∷ 0 ∷ []) $ fjoin ! $ move ! (6 ∷ 0 ∷ []) $ fjoin ! $ owned ! mShapes.the-row (Is mShapes.the-row) (LL.makes
+        mShapes.the-type lShapes.the-plain 𝓤 H A) (n7) _ w7 $ fjoin ! $ move ! (5 ∷ 0 ∷ []) $ fjoin ! $ owned ! u64 (Is u64) (uint-makes 𝓤 H A W
+        w64) (n5) _ w5 $ fjoin ! $ owned ! u64 (Is u64) (uint-makes 𝓤 H A W w64) (n4) _ w4 $ fjoin ! $ move ! (4 ∷ 0 ∷ []) $ fjoin ! $ move ! (3
+        ∷ 0 ∷ []) $ fjoin ! $ move ! (2 ∷ 0 ∷ []) $ fjoin ! $ move ! (1 ∷ 0 ∷ []) $ join ! $ nothing ! $ move ! (1 ∷ 0 ∷ []) $ frame ! $ done !) $
+        calls-at ! fm (Callee-g2 𝓤 H A at-mem run) known-g2 (
+          (
+            ((ν2a ∷ []), ((ν2b ∷ []), ((ν2c ∷ []), (κ₂, ((ν2h ∷ []), (κ₃, (κ₄, tt))))))),
+            (fullShare, (fullShare, (fullShare, (q₂, (fullShare, (q₃, (q₄, tt))))))),
+            tt,
+            (
+              record { ptr = (l₁₅, 0); name = δ2a; now = n1 },
+              (
+                ref2 δ2b
+                    (ys2),
+                (ref3 δ2c (ys3), (n4, (n5, (s6, (n7, (record { ptr = (l₁₂, 0); name = δ2h; now = (take r1 (n8)) }, (s10, (s11, tt)))))))),
+              ),
+            ),
+            (
+              vptr
+                  l₁₅ 0 ∷ [],
+              (v2 ∷ [], (v3 ∷ [], (u4 ∷ [], (u5 ∷ [], (v6 ∷ [], (u7 ∷ [], (sliceVal (l₁₂, 0) r1 ∷ [], (v10 ∷ [], (v11 ∷ [], tt))))))))),
+            ),
+          ),
+          tt,
+        ) (and-then ! (load ! (from ! (stop !)) (look ! 23 refl)) (and-then ! (load ! (from ! (stop !)) (look ! 21 refl)) (and-then ! (load !
+        (from ! (stop !)) (look ! 19 refl)) (and-then ! (load ! (from ! (stop !)) (look ! 34 refl)) (and-then ! (load ! (from ! (stop !)) (look !
+        33 refl)) (and-then ! (load ! (from ! (stop !)) (look ! 32 refl)) (and-then ! (load ! (from ! (stop !)) (look ! 31 refl)) (and-then !
+        (load ! (from ! (stop !)) (look ! 17 refl)) (and-then ! (load ! (from ! (stop !)) (look ! 28 refl)) (and-then ! (load ! (from ! (stop !))
+        (look ! 27 refl)) (no-more !))))))))))) (λ z2.
+        use1 W (later (some (λ (r2 : ℕ). ((‵ (flft (ν2a ∷ []) fullShare) ⊛ ‵ (flft (ν2b ∷ []) fullShare) ⊛ ‵ (flft (ν2c ∷ []) fullShare) ⊛ ‵ (flft κ₂
+        q₂) ⊛ ‵ (flft (ν2h ∷ []) fullShare) ⊛ ‵ (flft κ₃ q₃) ⊛ ‵ (flft κ₄ q₄) ⊛ ‵ ftrue) ⊛ ‵ (u32 .own r2 (z2 ∷ []))) ⊛ some (λ (ws : Lasts
+        g2.ended ((ν2a ∷ []), ((ν2b ∷ []), ((ν2c ∷ []), (κ₂, ((ν2h ∷ []), (κ₃, (κ₄, tt))))))) (
+          record { ptr = (l₁₅, 0); name = δ2a; now = n1 },
+          (
+            ref2 δ2b (ys2),
+            (
+              ref3 δ2c (ys3),
+              (
+                n4,
+                (
+                  n5,
+                  (
+                    s6,
+                    (
+                      n7,
+                      (
+                        record { ptr = (l₁₂, 0); name = δ2h; now = (take r1 (n8)) },
+                        (
+                          s10,
+                          (
+                            s11,
+                            tt,
+                          ),
+                        ),
+                      ),
+                    ),
+                  ),
+                ),
+              ),
+            ),
+          ),
+        )). ‵ (lasts g2.ended ((ν2a ∷ []), ((ν2b ∷ []), ((ν2c ∷ []), (κ₂, ((ν2h ∷ []), (κ₃, (κ₄, tt))))))) (
+          record {
+            ptr = (l₁₅, 0);
+            name = δ2a;
+            now = n1;
+          },
+          (
+            ref2 δ2b (ys2),
+            (
+              ref3 δ2c (ys3),
+              (
+                n4,
+                (
+                  n5,
+                  (
+                    s6,
+                    (
+                      n7,
+                      (
+                        record {
+                          ptr = (l₁₂, 0);
+                          name = δ2h;
+                          now = (take r1 (n8));
+                        },
+                        (s10, (s11, tt)),
+                      ),
+                    ),
+                  ),
+                ),
+              ),
+            ),
+          ),
+        ) ws) ⊛ raw (g2.clauses 𝓤 H A at-mem run (
+          (ν2a ∷ []),
+          (
+            (ν2b ∷ []),
+            (
+              (ν2c ∷ []),
+              (
+                κ₂,
+                (
+                  (ν2h ∷ []),
+                  (
+                    κ₃,
+                    (
+                      κ₄,
+                      tt,
+                    ),
+                  ),
+                ),
+              ),
+            ),
+          ),
+        ) (
+          record { ptr = (l₁₅, 0); name = δ2a; now = n1 },
+          (
+            ref2 δ2b (ys2),
+            (
+              ref3 δ2c (ys3),
+              (
+                n4,
+                (
+                  n5,
+                  (
+                    s6,
+                    (
+                      n7,
+                      (
+                        record {
+                          ptr = (
+                            l₁₂,
+                            0,
+                          );
+                          name = δ2h;
+                          now = (take r1 (n8));
+                        },
+                        (s10, (s11, tt)),
+                      ),
+                    ),
+                  ),
+                ),
+              ),
+            ),
+          ),
+        ) .ensures tt r2 (atExit g2.ended (
+          (ν2a ∷ []),
+          (
+            (ν2b ∷ []),
+            (
+              (ν2c ∷ []),
+              (κ₂, ((ν2h ∷ []), (κ₃, (κ₄, tt)))),
+            ),
+          ),
+        ) (
+          record { ptr = (l₁₅, 0); name = δ2a; now = n1 },
+          (
+            ref2 δ2b (ys2),
+            (
+              ref3 δ2c (ys3),
+              (
+                n4,
+                (
+                  n5,
+                  (
+                    s6,
+                    (n7, (record { ptr = (l₁₂, 0); name = δ2h; now = (take r1 (n8)) }, (s10, (s11, tt)))),
+                  ),
+                ),
+              ),
+            ),
+          ),
+        ) ws)))))) (id⊢ 𝓤 _) $ await ! tt $ pick ! (λ
+        r2. split ! $ move ! (1 ∷ []) $ pick ! (λ ws2. split ! $ move ! (1 ∷ []) $ heard ! _ (λ e2.
+        fsplit ! $ move ! (1 ∷ []) $ fsplit ! $ fsplit ! $ move ! (1 ∷ []) $ feqL ! (λ same2b. move ! (1 ∷ []) $ fsplit ! $ fsplit ! $ move ! (1 ∷
+        []) $ feqL ! (λ same2c. move ! (1 ∷ []) $ drop ! $ move ! (3 ∷ []) $ split ! $ move ! (1 ∷ []) $ peeks ! u32 (Is u32) (shows 𝓤 H A u32)
+        r2 (z2 ∷ []) (λ i2. drop ! $ land ! (from ! (stop !)) (init ! 27 refl (uint-lawful 𝓤 H A W w32 .typed r2 _ i2 .0)) $
+        tidy W (_ ∷ _ ∷ _ ∷ _ ∷ _ ∷ _ ∷ _ ∷ _ ∷ _ ∷ _ ∷ _ ∷ _ ∷ _ ∷ _ ∷ _ ∷ _ ∷ _ ∷ _ ∷ _ ∷ _ ∷ _ ∷ _ ∷ _ ∷ _ ∷ _ ∷ _ ∷ _ ∷ _ ∷ _ ∷ _ ∷ _ ∷ _ ∷ _ ∷ _
+        ∷ _ ∷ _ ∷ _ ∷ _ ∷ _ ∷ _ ∷ _ ∷ _ ∷ []) $ split ! $ move ! (1 ∷ []) $ split ! $ move ! (1 ∷ []) $ split ! $ move ! (1 ∷ []) $ split ! $
+        move ! (1 ∷ []) $ split ! $ move ! (1 ∷ []) $ split ! $ move ! (1 ∷ []) $ split ! $ move ! (1 ∷ []) $ drop ! $ move ! (6 ∷ []) $ lft-end
+        ! tt $ move ! (0 ∷ 17 ∷ 9 ∷ []) $ use3 W (later (‵ (partAt mTranscript.the-row fullShare ((ws2 .0)) l₁₅ 0))) (ref-back 𝓤 H A W
+        mTranscript.the-row (ν2a ∷ []) δ2a ((ws2 .0)) l₁₅ 0) $ await ! tt $
+        out ! mTranscript.the-row fullShare ((ws2 .0)) l₁₅ 0 (λ vs. spelt ! mTranscript.the-row (Is mTranscript.the-row) (shows 𝓤 H A
+        mTranscript.the-row) (LL.vals mTranscript.the-type lTranscript.the-laws) (LL.tells mTranscript.the-type lTranscript.the-laws) fullShare
+        ((ws2 .0)) vs l₁₅ 0 $ move ! (1 ∷ []) $ peeks ! mTranscript.the-row (Is mTranscript.the-row) (shows 𝓤 H A mTranscript.the-row) ((ws2 .0))
+        (LL.val mTranscript.the-type lTranscript.the-laws ((ws2 .0)) ∷ []) (λ w2a. drop ! $ use1 W (‵ (fat fullShare (lTranscript.mir) l₁₅ 0
+        (LL.val mTranscript.the-type lTranscript.the-laws ((ws2 .0))))) (W .laws .raw-at fullShare (lTranscript.mir) l₁₅ 0 (LL.val
+        mTranscript.the-type lTranscript.the-laws ((ws2 .0)))) $
+        move ! (6 ∷ []) $ lft-end ! tt $ move ! (0 ∷ 15 ∷ 8 ∷ []) $ use3 W (later (‵ (O2 (ws2 .1 .0)) ⊛ ‵ (flft κ₀ q₀))) (backs2 (named 1) ν2b δ2b
+        (ys2) (ws2 .1 .0) (refl) room2 same2b) $ await ! tt $ split ! $
+        move ! (7 ∷ []) $ lft-end ! tt $ move ! (0 ∷ 14 ∷ 8 ∷ []) $ use3 W (later (‵ (O3 (ws2 .1 .1 .0)) ⊛ ‵ (flft κ₁ q₁))) (backs3 (named 2) ν2c δ2c
+        (ys3) (ws2 .1 .1 .0) (refl) room3 same2c) $ await ! tt $ split ! $
+        move ! (7 ∷ []) $ lft-end ! tt $ move ! (0 ∷ 11 ∷ []) $ lent-back ! tt $ fsplit ! $ drop ! $ move ! (0 ∷ 11 ∷ []) $ use2 W (‵ (parts (mem
+        mEntry.the-row) (shares mEntry.the-row) fullShare (n8) l₁₂ 0)) (mend 𝓤 H A mEntry.the-row fullShare r1 (n8) l₁₂ 0) $ feqI ! ℕ (length
+        (n8)) 384 ln2h $ fjoin ! $ use1 W (‵ (partAt (Array mEntry.the-row 384) fullShare (n8) l₁₂ 0)) (array-whole 𝓤 H A W mEntry.the-row
+        fullShare 384 (n8) l₁₂ 0) $
+        out ! (Array mEntry.the-row 384) fullShare (n8) l₁₂ 0 (λ vs. spelt ! (Array mEntry.the-row 384) (Is (Array mEntry.the-row 384)) (shows 𝓤 H A
+        (Array mEntry.the-row 384)) (array-vals (LL.vals mEntry.the-type lEntry.the-laws)) (array-tells mEntry.the-row (LL.vals mEntry.the-type
+        lEntry.the-laws) (LL.tells mEntry.the-type lEntry.the-laws) 384) fullShare (n8) vs l₁₂ 0 $ move ! (1 ∷ []) $ peeks ! (Array
+        mEntry.the-row 384) (Is (Array mEntry.the-row 384)) (shows 𝓤 H A (Array mEntry.the-row 384)) (n8) (array-val (LL.vals mEntry.the-type
+        lEntry.the-laws) (n8) ∷ []) (λ w2h. drop ! $ use1 W (‵ (fat fullShare (tyArray (lEntry.mir) 384) l₁₂ 0 (array-val (LL.vals
+        mEntry.the-type lEntry.the-laws) (n8)))) (W .laws .raw-at fullShare (tyArray (lEntry.mir) 384) l₁₂ 0 (array-val (LL.vals mEntry.the-type
+        lEntry.the-laws) (n8))) $
         assigns ! (of-opd ! (load ! (from ! (stop !)) (look ! 5 refl))) (from ! (stop !)) (init ! 19 refl (LL.lawful mTranscript.the-type lTranscript.the-laws 𝓤 H A W .typed (ws2 .0) _ w2a .0)) $
-        tidy W (_ ∷ _ ∷ _ ∷ _ ∷ _ ∷ _ ∷ _ ∷ _ ∷ _ ∷ _ ∷ _ ∷ _ ∷ _ ∷ _ ∷ _ ∷ _ ∷ _ ∷ _ ∷ _ ∷ _ ∷ _ ∷ _ ∷ _ ∷ _ ∷ _ ∷ _ ∷ _ ∷ _ ∷ _ ∷ _ ∷ _ ∷ _ ∷ _ ∷ _ ∷ _ ∷ _ ∷ _ ∷ _ ∷ _ ∷ _ ∷ _ ∷ _ ∷ []) $ nothing ! $
+        tidy W (_ ∷ _ ∷ _ ∷ _ ∷ _ ∷ _ ∷ _ ∷ _ ∷ _ ∷ _ ∷ _ ∷ _ ∷ _ ∷ _ ∷ _ ∷ _ ∷ _ ∷ _ ∷ _ ∷ _ ∷ _ ∷ _ ∷ _ ∷ _ ∷ _ ∷ _ ∷ _ ∷ _ ∷ _ ∷ _ ∷ _ ∷ _ ∷ _ ∷ _
+        ∷ _ ∷ _ ∷ _ ∷ _ ∷ _ ∷ _ ∷ _ ∷ _ ∷ []) $ nothing ! $
         -- call 3
-        use1 W (raw (Callee-g3 𝓤 H A at-mem run .pre ((tt, tt, tt, (r2, ((ws2 .0), tt)), (z2 ∷ [], ((LL.val mTranscript.the-type lTranscript.the-laws ((ws2 .0))) ∷ [], tt))), tt))) (qed W ((‵ ftrue) ∷ []) ∵ nothing ! $ owned ! mTranscript.the-row (Is mTranscript.the-row) (LL.makes mTranscript.the-type lTranscript.the-plain 𝓤 H A) ((ws2 .0)) _ w2a $ fjoin ! $ owned ! u32 (Is u32) (uint-makes 𝓤 H A W w32) (r2) _ i2 $ fjoin ! $ move ! (1 ∷ 0 ∷ []) $ join ! $ nothing ! $ move ! (1 ∷ 0 ∷ []) $ frame ! $ done !) $
-        calls-at ! fm (Callee-g3 𝓤 H A at-mem run) known-g3 ((tt, tt, tt, (r2, ((ws2 .0), tt)), (z2 ∷ [], ((LL.val mTranscript.the-type lTranscript.the-laws ((ws2 .0))) ∷ [], tt))), tt) (and-then ! (load ! (from ! (stop !)) (look ! 28 refl)) (and-then ! (load ! (from ! (stop !)) (look ! 20 refl)) (no-more !))) (λ z3.
-        use1 W (later (some (λ (r3 : TranscriptAnswer). ((‵ ftrue) ⊛ ‵ (mTranscriptAnswer.the-row .own r3 (z3 ∷ []))) ⊛ some (λ (ws : Lasts g3.ended tt (r2, ((ws2 .0), tt))). ‵ (lasts g3.ended tt (r2, ((ws2 .0), tt)) ws) ⊛ raw (g3.clauses 𝓤 H A at-mem run tt (r2, ((ws2 .0), tt)) .ensures tt r3 (atExit g3.ended tt (r2, ((ws2 .0), tt)) ws)))))) (id⊢ 𝓤 _) $ await ! tt $ pick ! (λ r3. split ! $ move ! (1 ∷ []) $ pick ! (λ ws3. split ! $ move ! (1 ∷ []) $ heard ! _ (λ e3.
-        drop ! $ split ! $ move ! (1 ∷ []) $ peeks ! mTranscriptAnswer.the-row (Is mTranscriptAnswer.the-row) (shows 𝓤 H A mTranscriptAnswer.the-row) r3 (z3 ∷ []) (λ i3. drop ! $ land ! (from ! (stop !)) (init ! 42 refl (LL.lawful mTranscriptAnswer.the-type lTranscriptAnswer.the-laws 𝓤 H A W .typed r3 _ i3 .0)) $
-        tidy W (_ ∷ _ ∷ _ ∷ _ ∷ _ ∷ _ ∷ _ ∷ _ ∷ _ ∷ _ ∷ _ ∷ _ ∷ _ ∷ _ ∷ _ ∷ _ ∷ _ ∷ _ ∷ _ ∷ _ ∷ _ ∷ _ ∷ _ ∷ _ ∷ _ ∷ _ ∷ _ ∷ _ ∷ _ ∷ _ ∷ _ ∷ _ ∷ _ ∷ _ ∷ _ ∷ _ ∷ _ ∷ _ ∷ _ ∷ _ ∷ _ ∷ _ ∷ _ ∷ []) $ drop ! $ tidy W (_ ∷ _ ∷ _ ∷ _ ∷ _ ∷ _ ∷ _ ∷ _ ∷ _ ∷ _ ∷ _ ∷ _ ∷ _ ∷ _ ∷ _ ∷ _ ∷ _ ∷ _ ∷ _ ∷ _ ∷ _ ∷ _ ∷ _ ∷ _ ∷ _ ∷ _ ∷ _ ∷ _ ∷ _ ∷ _ ∷ _ ∷ _ ∷ _ ∷ _ ∷ _ ∷ _ ∷ _ ∷ _ ∷ _ ∷ _ ∷ _ ∷ _ ∷ []) $ returns ! (look ! 41 refl) $ move ! (1 ∷ 2 ∷ 3 ∷ 4 ∷ 6 ∷ 7 ∷ 8 ∷ 9 ∷ 10 ∷ 11 ∷ 12 ∷ 13 ∷ 14 ∷ 15 ∷ 16 ∷ 17 ∷ 18 ∷ 19 ∷ 20 ∷ 21 ∷ 22 ∷ 23 ∷ 24 ∷ 25 ∷ 26 ∷ 27 ∷ 5 ∷ 28 ∷ 29 ∷ 0 ∷ 30 ∷ 31 ∷ 32 ∷ 33 ∷ 34 ∷ 35 ∷ 36 ∷ 37 ∷ 38 ∷ 39 ∷ 40 ∷ 41 ∷ []) $ move ! (16 ∷ []) $ use1 W (dies ((lTranscriptAnswer.mir, l₀) ∷ (lTranscript.mir, l₁) ∷ (sliceTy (tyRef (named 0) mut (tyInt w64)), l₂) ∷ (sliceTy (tyRef (named 1) mut (tyInt w64)), l₃) ∷ (tyInt w64, l₄) ∷ (tyInt w64, l₅) ∷ (sliceTy (tyRef (named 2) imm (tyInt w64)), l₆) ∷ (lShapes.mir, l₇) ∷ (tyArray (lEntry.mir) 384, l₈) ∷ (tyInt w64, l₉) ∷ (sliceTy (tyRef (named 3) imm (tyInt w64)), l₁₀) ∷ (sliceTy (tyRef (named 4) imm (tyInt w64)), l₁₁) ∷ (tyArray (lEntry.mir) 384, l₁₂) ∷ (tyInt w64, l₁₃) ∷ (tyInt w64, l₁₄) ∷ (lTranscript.mir, l₁₅) ∷ (tyInt w32, l₁₆) ∷ (tyRef erased mut (pointee (mTranscript.the-row .written)), l₁₇) ∷ (tyRef erased mut (tyInt w64), l₁₈) ∷ (sliceTy (tyRef erased mut (tyInt w64)), l₁₉) ∷ (tyRef erased mut (tyInt w64), l₂₀) ∷ (sliceTy (tyRef erased mut (tyInt w64)), l₂₁) ∷ (tyRef erased imm (pointee ((Array mEntry.the-row 384) .written)), l₂₂) ∷ (sliceTy (tyRef erased imm (pointee (mEntry.the-row .written))), l₂₃) ∷ (lTranscript.mir, l₂₄) ∷ []) (‵ ftrue)) die $ free-all ! 16 ((lTranscriptAnswer.mir, l₀) ∷ (lTranscript.mir, l₁) ∷ (sliceTy (tyRef (named 0) mut (tyInt w64)), l₂) ∷ (sliceTy (tyRef (named 1) mut (tyInt w64)), l₃) ∷ (tyInt w64, l₄) ∷ (tyInt w64, l₅) ∷ (sliceTy (tyRef (named 2) imm (tyInt w64)), l₆) ∷ (lShapes.mir, l₇) ∷ (tyArray (lEntry.mir) 384, l₈) ∷ (tyInt w64, l₉) ∷ (sliceTy (tyRef (named 3) imm (tyInt w64)), l₁₀) ∷ (sliceTy (tyRef (named 4) imm (tyInt w64)), l₁₁) ∷ (tyArray (lEntry.mir) 384, l₁₂) ∷ (tyInt w64, l₁₃) ∷ (tyInt w64, l₁₄) ∷ (lTranscript.mir, l₁₅) ∷ (tyInt w32, l₁₆) ∷ (tyRef erased mut (pointee (mTranscript.the-row .written)), l₁₇) ∷ (tyRef erased mut (tyInt w64), l₁₈) ∷ (sliceTy (tyRef erased mut (tyInt w64)), l₁₉) ∷ (tyRef erased mut (tyInt w64), l₂₀) ∷ (sliceTy (tyRef erased mut (tyInt w64)), l₂₁) ∷ (tyRef erased imm (pointee ((Array mEntry.the-row 384) .written)), l₂₂) ∷ (sliceTy (tyRef erased imm (pointee (mEntry.the-row .written))), l₂₃) ∷ (lTranscript.mir, l₂₄) ∷ []) (kept _ ∷ kept _ ∷ kept _ ∷ kept _ ∷ kept _ ∷ kept _ ∷ kept _ ∷ kept _ ∷ kept _ ∷ kept _ ∷ kept _ ∷ kept _ ∷ kept _ ∷ kept _ ∷ kept _ ∷ kept _ ∷ kept _ ∷ kept _ ∷ kept _ ∷ kept _ ∷ kept _ ∷ kept _ ∷ kept _ ∷ kept _ ∷ kept _ ∷ []) refl $
-        suffices ! _ (ends-at 𝓤 H A f.ended stayed (f.clauses 𝓤 H A at-mem run) W (((κ₀, (κ₁, (κ₂, (κ₃, (κ₄, tt))))), (q₀, (q₁, (q₂, (q₃, (q₄, tt))))), tt, a, at), tt) z3 r3 (tt, (ws2 .1 .0, (ws2 .1 .1 .0, (tt, (tt, (tt, (tt, (tt, (tt, (tt, (tt, tt))))))))))) (tt, (same2b, (same2c, (tt, (tt, (tt, (tt, (tt, (tt, (tt, (tt, tt)))))))))))) $ says ! (rw (← (e1 .0), e3 .0, e3 .1) e2) $
-        nothing ! $ move ! (5 ∷ 0 ∷ []) $ join ! $ move ! (5 ∷ 0 ∷ []) $ join ! $ move ! (5 ∷ 0 ∷ []) $ join ! $ move ! (2 ∷ 0 ∷ []) $ join ! $ move ! (3 ∷ 0 ∷ []) $ join ! $ nothing ! $ move ! (4 ∷ 0 ∷ []) $ fjoin ! $ move ! (4 ∷ 0 ∷ []) $ fjoin ! $ move ! (5 ∷ 0 ∷ []) $ fjoin ! $ move ! (5 ∷ 0 ∷ []) $ fjoin ! $ move ! (5 ∷ 0 ∷ []) $ fjoin ! $ move ! (4 ∷ 0 ∷ []) $ fjoin ! $ move ! (4 ∷ 0 ∷ []) $ fjoin ! $ move ! (4 ∷ 0 ∷ []) $ fjoin ! $ move ! (2 ∷ 0 ∷ []) $ fjoin ! $ move ! (2 ∷ 0 ∷ []) $ fjoin ! $ move ! (2 ∷ 0 ∷ []) $ fjoin ! $ keep ! (1 ∷ 0 ∷ []) $ frame ! $ frame ! $ owned ! mTranscriptAnswer.the-row (Is mTranscriptAnswer.the-row) (LL.makes mTranscriptAnswer.the-type lTranscriptAnswer.the-plain 𝓤 H A) r3 _ i3 $ done !))))))))))))))))))))))))))))))))))))))))))))))))))))))))
+        use1 W (raw (Callee-g3 𝓤 H A at-mem run .pre (
+          (
+            tt,
+            tt,
+            tt,
+            (r2, ((ws2 .0), tt)),
+            (
+              z2 ∷ [],
+              (
+                (LL.val mTranscript.the-type lTranscript.the-laws
+                    ((ws2 .0))) ∷ [],
+                tt,
+              ),
+            ),
+          ),
+          tt,
+        ))) (qed W ((‵ ftrue) ∷ []) ∵ nothing ! $ owned ! mTranscript.the-row (Is mTranscript.the-row) (LL.makes
+        mTranscript.the-type lTranscript.the-plain 𝓤 H A) ((ws2 .0)) _ w2a $ fjoin ! $ owned ! u32 (Is u32) (uint-makes 𝓤 H A W w32) (r2) _ i2 $
+        fjoin ! $ move ! (1 ∷ 0 ∷ []) $ join ! $ nothing ! $ move ! (1 ∷ 0 ∷ []) $ frame ! $ done !) $
+        calls-at ! fm (Callee-g3 𝓤 H A at-mem run) known-g3 (
+          (
+            tt,
+            tt,
+            tt,
+            (r2, ((ws2 .0), tt)),
+            (
+              z2 ∷ [],
+              (
+                (LL.val mTranscript.the-type
+                    lTranscript.the-laws ((ws2 .0))) ∷ [],
+                tt,
+              ),
+            ),
+          ),
+          tt,
+        ) (and-then ! (load ! (from ! (stop !)) (look ! 28 refl)) (and-then ! (load ! (from !
+        (stop !)) (look ! 20 refl)) (no-more !))) (λ z3.
+        use1 W (later (some (λ (r3 : TranscriptAnswer). ((‵ ftrue) ⊛ ‵ (mTranscriptAnswer.the-row .own r3 (z3 ∷ []))) ⊛ some (λ (ws : Lasts g3.ended
+        tt (r2, ((ws2 .0), tt))). ‵ (lasts g3.ended tt (r2, ((ws2 .0), tt)) ws) ⊛ raw (g3.clauses 𝓤 H A at-mem run tt (r2, ((ws2 .0), tt))
+        .ensures tt r3 (atExit g3.ended tt (r2, ((ws2 .0), tt)) ws)))))) (id⊢ 𝓤 _) $ await ! tt $ pick ! (λ r3. split ! $ move ! (1 ∷ []) $ pick
+        ! (λ ws3. split ! $ move ! (1 ∷ []) $ heard ! _ (λ e3.
+        drop ! $ split ! $ move ! (1 ∷ []) $ peeks ! mTranscriptAnswer.the-row (Is mTranscriptAnswer.the-row) (shows 𝓤 H A mTranscriptAnswer.the-row)
+        r3 (z3 ∷ []) (λ i3. drop ! $ land ! (from ! (stop !)) (init ! 42 refl (LL.lawful mTranscriptAnswer.the-type lTranscriptAnswer.the-laws 𝓤
+        H A W .typed r3 _ i3 .0)) $
+        tidy W (_ ∷ _ ∷ _ ∷ _ ∷ _ ∷ _ ∷ _ ∷ _ ∷ _ ∷ _ ∷ _ ∷ _ ∷ _ ∷ _ ∷ _ ∷ _ ∷ _ ∷ _ ∷ _ ∷ _ ∷ _ ∷ _ ∷ _ ∷ _ ∷ _ ∷ _ ∷ _ ∷ _ ∷ _ ∷ _ ∷ _ ∷ _ ∷ _ ∷ _
+        ∷ _ ∷ _ ∷ _ ∷ _ ∷ _ ∷ _ ∷ _ ∷ _ ∷ _ ∷ []) $ drop ! $ tidy W (_ ∷ _ ∷ _ ∷ _ ∷ _ ∷ _ ∷ _ ∷ _ ∷ _ ∷ _ ∷ _ ∷ _ ∷ _ ∷ _ ∷ _ ∷ _ ∷ _ ∷ _ ∷ _ ∷
+        _ ∷ _ ∷ _ ∷ _ ∷ _ ∷ _ ∷ _ ∷ _ ∷ _ ∷ _ ∷ _ ∷ _ ∷ _ ∷ _ ∷ _ ∷ _ ∷ _ ∷ _ ∷ _ ∷ _ ∷ _ ∷ _ ∷ _ ∷ []) $ returns ! (look ! 41 refl) $ move ! (1
+        ∷ 2 ∷ 3 ∷ 4 ∷ 6 ∷ 7 ∷ 8 ∷ 9 ∷ 10 ∷ 11 ∷ 12 ∷ 13 ∷ 14 ∷ 15 ∷ 16 ∷ 17 ∷ 18 ∷ 19 ∷ 20 ∷ 21 ∷ 22 ∷ 23 ∷ 24 ∷ 25 ∷ 26 ∷ 27 ∷ 5 ∷ 28 ∷ 29 ∷ 0 ∷
+        30 ∷ 31 ∷ 32 ∷ 33 ∷ 34 ∷ 35 ∷ 36 ∷ 37 ∷ 38 ∷ 39 ∷ 40 ∷ 41 ∷ []) $ move ! (16 ∷ []) $ use1 W (dies ((lTranscriptAnswer.mir, l₀) ∷
+        (lTranscript.mir, l₁) ∷ (sliceTy (tyRef (named 0) mut (tyInt w64)), l₂) ∷ (sliceTy (tyRef (named 1) mut (tyInt w64)), l₃) ∷ (
+          tyInt w64,
+          l₄,
+        ) ∷ (tyInt w64, l₅) ∷ (sliceTy (tyRef (named 2) imm (tyInt w64)), l₆) ∷ (lShapes.mir, l₇) ∷ (tyArray (lEntry.mir) 384, l₈) ∷ (
+          tyInt
+              w64,
+          l₉,
+        ) ∷ (sliceTy (tyRef (named 3) imm (tyInt w64)), l₁₀) ∷ (sliceTy (tyRef (named 4) imm (tyInt w64)), l₁₁) ∷ (
+          tyArray (lEntry.mir)
+              384,
+          l₁₂,
+        ) ∷ (tyInt w64, l₁₃) ∷ (tyInt w64, l₁₄) ∷ (lTranscript.mir, l₁₅) ∷ (tyInt w32, l₁₆) ∷ (
+          tyRef erased mut (pointee
+              (mTranscript.the-row .written)),
+          l₁₇,
+        ) ∷ (tyRef erased mut (tyInt w64), l₁₈) ∷ (sliceTy (tyRef erased mut (tyInt w64)), l₁₉) ∷ (
+          tyRef
+              erased mut (tyInt w64),
+          l₂₀,
+        ) ∷ (sliceTy (tyRef erased mut (tyInt w64)), l₂₁) ∷ (
+          tyRef erased imm (pointee ((Array mEntry.the-row 384)
+              .written)),
+          l₂₂,
+        ) ∷ (sliceTy (tyRef erased imm (pointee (mEntry.the-row .written))), l₂₃) ∷ (lTranscript.mir, l₂₄) ∷ []) (‵ ftrue)) die $
+        free-all ! 16 ((lTranscriptAnswer.mir, l₀) ∷ (lTranscript.mir, l₁) ∷ (sliceTy (tyRef (named 0) mut (tyInt w64)), l₂) ∷ (
+          sliceTy (tyRef
+              (named 1) mut (tyInt w64)),
+          l₃,
+        ) ∷ (tyInt w64, l₄) ∷ (tyInt w64, l₅) ∷ (sliceTy (tyRef (named 2) imm (tyInt w64)), l₆) ∷ (lShapes.mir, l₇)
+        ∷ (tyArray (lEntry.mir) 384, l₈) ∷ (tyInt w64, l₉) ∷ (sliceTy (tyRef (named 3) imm (tyInt w64)), l₁₀) ∷ (
+          sliceTy (tyRef (named 4) imm
+              (tyInt w64)),
+          l₁₁,
+        ) ∷ (tyArray (lEntry.mir) 384, l₁₂) ∷ (tyInt w64, l₁₃) ∷ (tyInt w64, l₁₄) ∷ (lTranscript.mir, l₁₅) ∷ (tyInt w32, l₁₆) ∷
+        (tyRef erased mut (pointee (mTranscript.the-row .written)), l₁₇) ∷ (tyRef erased mut (tyInt w64), l₁₈) ∷ (
+          sliceTy (tyRef erased mut
+              (tyInt w64)),
+          l₁₉,
+        ) ∷ (tyRef erased mut (tyInt w64), l₂₀) ∷ (sliceTy (tyRef erased mut (tyInt w64)), l₂₁) ∷ (
+          tyRef erased imm (pointee
+              ((Array mEntry.the-row 384) .written)),
+          l₂₂,
+        ) ∷ (sliceTy (tyRef erased imm (pointee (mEntry.the-row .written))), l₂₃) ∷ (
+          lTranscript.mir,
+          l₂₄,
+        ) ∷ []) (kept _ ∷ kept _ ∷ kept _ ∷ kept _ ∷ kept _ ∷ kept _ ∷ kept _ ∷ kept _ ∷ kept _ ∷ kept _ ∷ kept _ ∷ kept _ ∷ kept _ ∷ kept _ ∷
+        kept _ ∷ kept _ ∷ kept _ ∷ kept _ ∷ kept _ ∷ kept _ ∷ kept _ ∷ kept _ ∷ kept _ ∷ kept _ ∷ kept _ ∷ []) refl $
+        suffices ! _ (ends-at 𝓤 H A f.ended stayed (f.clauses 𝓤 H A at-mem run) W (
+          (
+            (κ₀, (κ₁, (κ₂, (κ₃, (κ₄, tt))))),
+            (
+              q₀,
+              (
+                q₁,
+                (
+                  q₂,
+                  (
+                    q₃,
+                    (
+                      q₄,
+                      tt,
+                    ),
+                  ),
+                ),
+              ),
+            ),
+            tt,
+            a,
+            at,
+          ),
+          tt,
+        ) z3 r3 (tt, (ws2 .1 .0, (ws2 .1 .1 .0, (tt, (tt, (tt, (tt, (tt, (tt, (tt, (tt, tt))))))))))) (
+          tt,
+          (
+            same2b,
+            (same2c, (tt, (tt, (tt, (tt, (tt, (tt, (tt, (tt, tt))))))))),
+          ),
+        )) $ says ! (rw (← (e1 .0), e3 .0, e3 .1) e2) $
+        nothing ! $ move ! (5 ∷ 0 ∷ []) $ join ! $ move ! (5 ∷ 0 ∷ []) $ join ! $ move ! (5 ∷ 0 ∷ []) $ join ! $ move ! (2 ∷ 0 ∷ []) $ join ! $ move
+        ! (3 ∷ 0 ∷ []) $ join ! $ nothing ! $ move ! (4 ∷ 0 ∷ []) $ fjoin ! $ move ! (4 ∷ 0 ∷ []) $ fjoin ! $ move ! (5 ∷ 0 ∷ []) $ fjoin ! $
+        move ! (5 ∷ 0 ∷ []) $ fjoin ! $ move ! (5 ∷ 0 ∷ []) $ fjoin ! $ move ! (4 ∷ 0 ∷ []) $ fjoin ! $ move ! (4 ∷ 0 ∷ []) $ fjoin ! $ move ! (4
+        ∷ 0 ∷ []) $ fjoin ! $ move ! (2 ∷ 0 ∷ []) $ fjoin ! $ move ! (2 ∷ 0 ∷ []) $ fjoin ! $ move ! (2 ∷ 0 ∷ []) $ fjoin ! $ keep ! (1 ∷ 0 ∷ [])
+        $ frame ! $ frame ! $ owned ! mTranscriptAnswer.the-row (Is mTranscriptAnswer.the-row) (LL.makes mTranscriptAnswer.the-type
+        lTranscriptAnswer.the-plain 𝓤 H A) r3 _ i3 $ done !))))))))))))))))))))))))))))))))))))))))))))))))))))))))
 
 module _ {M : Type 1} (𝓤 : URA M) (H : Heap 𝓤) (A : Atoms 𝓤) (W : Given 𝓤 H A) (mem : Memory → SProp 𝓤) (run : Routine → Fun 𝓤) where
-  walks : (C : Calls 𝓤 H) (Λ : Loops 𝓤 H) → FmC 𝓤 H (W .laws) C → Triple 𝓤 (C #g1) (Callee-g1 𝓤 H A mem run) → Triple 𝓤 (C #g2) (Callee-g2 𝓤 H A mem run) → Triple 𝓤 (C #g3) (Callee-g3 𝓤 H A mem run) → Walks 𝓤 H A f.ended stayed (WpFn 𝓤 H C Λ code.function) (f.clauses 𝓤 H A mem run)
-  walks C Λ fm known-g1 known-g2 known-g3 = walked 𝓤 H A f.ended stayed (f.clauses 𝓤 H A mem run) (WpFn 𝓤 H C Λ code.function) (λ κs. ((LL.vals mTranscript.the-type lTranscript.the-laws), (slice-vals, (slice-vals, ((uint-vals w64), ((uint-vals w64), (slice-vals, ((LL.vals mShapes.the-type lShapes.the-laws), ((array-vals (LL.vals mEntry.the-type lEntry.the-laws)), ((uint-vals w64), (slice-vals, (slice-vals, tt)))))))))))) (λ κs. ((LL.tells mTranscript.the-type lTranscript.the-laws), (mut-slice-tells (named 0) (κs .0) u64, (mut-slice-tells (named 1) (κs .1 .0) u64, ((uint-tells w64), ((uint-tells w64), (shr-slice-tells (named 2) (κs .1 .1 .0) u64, ((LL.tells mShapes.the-type lShapes.the-laws), ((array-tells mEntry.the-row (LL.vals mEntry.the-type lEntry.the-laws) (LL.tells mEntry.the-type lEntry.the-laws) 384), ((uint-tells w64), (shr-slice-tells (named 3) (κs .1 .1 .1 .0) u64, (shr-slice-tells (named 4) (κs .1 .1 .1 .1 .0) u64, tt))))))))))))
-      (λ κs qs bounds a g are. via 𝓤 _ (fst∗ 𝓤 _ (emp 𝓤)) (walk 𝓤 H A W mem run (κs .0) (κs .1 .0) (κs .1 .1 .0) (κs .1 .1 .1 .0) (κs .1 .1 .1 .1 .0) (qs .0) (qs .1 .0) (qs .1 .1 .0) (qs .1 .1 .1 .0) (qs .1 .1 .1 .1 .0) (a .0) (only ((LL.vals mTranscript.the-type lTranscript.the-laws) (a .0))) (a .1 .0 .ptr .0) (a .1 .0 .ptr .1) (a .1 .0 .name) (a .1 .0 .now) (a .1 .1 .0 .ptr .0) (a .1 .1 .0 .ptr .1) (a .1 .1 .0 .name) (a .1 .1 .0 .now) (a .1 .1 .1 .0) (only ((uint-vals w64) (a .1 .1 .1 .0))) (a .1 .1 .1 .1 .0) (only ((uint-vals w64) (a .1 .1 .1 .1 .0))) (a .1 .1 .1 .1 .1 .0) (a .1 .1 .1 .1 .1 .1 .0) (only ((LL.vals mShapes.the-type lShapes.the-laws) (a .1 .1 .1 .1 .1 .1 .0))) (a .1 .1 .1 .1 .1 .1 .1 .0) (only ((array-vals (LL.vals mEntry.the-type lEntry.the-laws)) (a .1 .1 .1 .1 .1 .1 .1 .0))) (a .1 .1 .1 .1 .1 .1 .1 .1 .0) (only ((uint-vals w64) (a .1 .1 .1 .1 .1 .1 .1 .1 .0))) (a .1 .1 .1 .1 .1 .1 .1 .1 .1 .0) (a .1 .1 .1 .1 .1 .1 .1 .1 .1 .1 .0) C Λ fm known-g1 known-g2 known-g3 (are .0) (are .1 .0 .0 .1) (are .1 .1 .0 .0 .1) (are .1 .1 .1 .0) (are .1 .1 .1 .1 .0) (are .1 .1 .1 .1 .1 .0) (are .1 .1 .1 .1 .1 .1 .0) (are .1 .1 .1 .1 .1 .1 .1 .0) (are .1 .1 .1 .1 .1 .1 .1 .1 .0) (are .1 .1 .1 .1 .1 .1 .1 .1 .1 .0) (are .1 .1 .1 .1 .1 .1 .1 .1 .1 .1 .0)))
+  walks : (C : Calls 𝓤 H) (Λ : Loops 𝓤 H) → FmC 𝓤 H (W .laws) C → Triple 𝓤 (C #g1) (Callee-g1 𝓤 H A mem run) → Triple 𝓤 (C #g2) (Callee-g2 𝓤 H A mem
+      run) → Triple 𝓤 (C #g3) (Callee-g3 𝓤 H A mem run) → Walks 𝓤 H A f.ended stayed (WpFn 𝓤 H C Λ code.function) (f.clauses 𝓤 H A mem run)
+  walks C Λ fm known-g1 known-g2 known-g3 = walked 𝓤 H A f.ended stayed (f.clauses 𝓤 H A mem run) (WpFn 𝓤 H C Λ code.function) (λ κs. (
+    (LL.vals
+        mTranscript.the-type lTranscript.the-laws),
+    (
+      slice-vals,
+      (
+        slice-vals,
+        (
+          (uint-vals w64),
+          (
+            (uint-vals w64),
+            (
+              slice-vals,
+              (
+                (LL.vals
+                    mShapes.the-type lShapes.the-laws),
+                (
+                  (array-vals (LL.vals mEntry.the-type lEntry.the-laws)),
+                  (
+                    (uint-vals w64),
+                    (
+                      slice-vals,
+                      (
+                        slice-vals,
+                        tt,
+                      ),
+                    ),
+                  ),
+                ),
+              ),
+            ),
+          ),
+        ),
+      ),
+    ),
+  )) (λ κs. (
+    (LL.tells mTranscript.the-type lTranscript.the-laws),
+    (
+      mut-slice-tells (named 0) (κs .0) u64,
+      (
+        mut-slice-tells (named 1)
+            (κs .1 .0) u64,
+        (
+          (uint-tells w64),
+          (
+            (uint-tells w64),
+            (
+              shr-slice-tells (named 2) (κs .1 .1 .0) u64,
+              (
+                (LL.tells mShapes.the-type
+                    lShapes.the-laws),
+                (
+                  (array-tells mEntry.the-row (LL.vals mEntry.the-type lEntry.the-laws) (LL.tells mEntry.the-type lEntry.the-laws) 384),
+                  ((uint-tells w64), (shr-slice-tells (named 3) (κs .1 .1 .1 .0) u64, (shr-slice-tells (named 4) (κs .1 .1 .1 .1 .0) u64, tt))),
+                ),
+              ),
+            ),
+          ),
+        ),
+      ),
+    ),
+  ))
+      (λ κs qs bounds a g are. via 𝓤 _ (fst∗ 𝓤 _ (emp 𝓤)) (walk 𝓤 H A W mem run (κs .0) (κs .1 .0) (κs .1 .1 .0) (κs .1 .1 .1 .0) (κs .1 .1 .1 .1 .0)
+      (qs .0) (qs .1 .0) (qs .1 .1 .0) (qs .1 .1 .1 .0) (qs .1 .1 .1 .1 .0) (a .0) (only ((LL.vals mTranscript.the-type lTranscript.the-laws) (a
+      .0))) (a .1 .0 .ptr .0) (a .1 .0 .ptr .1) (a .1 .0 .name) (a .1 .0 .now) (a .1 .1 .0 .ptr .0) (a .1 .1 .0 .ptr .1) (a .1 .1 .0 .name) (a .1
+      .1 .0 .now) (a .1 .1 .1 .0) (only ((uint-vals w64) (a .1 .1 .1 .0))) (a .1 .1 .1 .1 .0) (only ((uint-vals w64) (a .1 .1 .1 .1 .0))) (a .1
+      .1 .1 .1 .1 .0) (a .1 .1 .1 .1 .1 .1 .0) (only ((LL.vals mShapes.the-type lShapes.the-laws) (a .1 .1 .1 .1 .1 .1 .0))) (a .1 .1 .1 .1 .1 .1
+      .1 .0) (only ((array-vals (LL.vals mEntry.the-type lEntry.the-laws)) (a .1 .1 .1 .1 .1 .1 .1 .0))) (a .1 .1 .1 .1 .1 .1 .1 .1 .0) (only
+      ((uint-vals w64) (a .1 .1 .1 .1 .1 .1 .1 .1 .0))) (a .1 .1 .1 .1 .1 .1 .1 .1 .1 .0) (a .1 .1 .1 .1 .1 .1 .1 .1 .1 .1 .0) C Λ fm known-g1
+      known-g2 known-g3 (are .0) (are .1 .0 .0 .1) (are .1 .1 .0 .0 .1) (are .1 .1 .1 .0) (are .1 .1 .1 .1 .0) (are .1 .1 .1 .1 .1 .0) (are .1 .1
+      .1 .1 .1 .1 .0) (are .1 .1 .1 .1 .1 .1 .1 .0) (are .1 .1 .1 .1 .1 .1 .1 .1 .0) (are .1 .1 .1 .1 .1 .1 .1 .1 .1 .0) (are .1 .1 .1 .1 .1 .1
+      .1 .1 .1 .1 .0)))
 
-  meets : (𝓣 : Tables 𝓤 H) → Triple 𝓤 (𝓣 .C #g1) (Callee-g1 𝓤 H A mem run) → Triple 𝓤 (𝓣 .C #g2) (Callee-g2 𝓤 H A mem run) → Triple 𝓤 (𝓣 .C #g3) (Callee-g3 𝓤 H A mem run) → Meets 𝓤 H A f.signature (WpFn 𝓤 H (𝓣 .C) (𝓣 .Λ) code.function) (f.spec 𝓤 H A mem run)
-  meets 𝓣 known-g1 known-g2 known-g3 = walk-meets 𝓤 H A f.ended stayed W (goes-none 𝓤 H A W 5 (λ _. mTranscript.the-row) yes (λ κs x f. refl), (goes-slice 𝓤 H A W 5 0 tt (plain (λ _. u64)), (goes-slice 𝓤 H A W 5 1 tt (plain (λ _. u64)), (goes-none 𝓤 H A W 5 (λ _. u64) yes (λ κs x f. refl), (goes-none 𝓤 H A W 5 (λ _. u64) yes (λ κs x f. refl), (goes-none-slice 𝓤 H A W 5 (2 ∷ []) tt (plain (λ _. u64)) yes, (goes-none 𝓤 H A W 5 (λ _. mShapes.the-row) yes (λ κs x f. refl), (goes-none 𝓤 H A W 5 (λ _. (Array mEntry.the-row 384)) yes (λ κs x f. refl), (goes-none 𝓤 H A W 5 (λ _. u64) yes (λ κs x f. refl), (goes-none-slice 𝓤 H A W 5 (3 ∷ []) tt (plain (λ _. u64)) yes, (goes-none-slice 𝓤 H A W 5 (4 ∷ []) tt (plain (λ _. u64)) yes, tt))))))))))) (f.clauses 𝓤 H A mem run)
+  meets : (𝓣 : Tables 𝓤 H) → Triple 𝓤 (𝓣 .C #g1) (Callee-g1 𝓤 H A mem run) → Triple 𝓤 (𝓣 .C #g2) (Callee-g2 𝓤 H A mem run) → Triple 𝓤 (𝓣 .C #g3)
+      (Callee-g3 𝓤 H A mem run) → Meets 𝓤 H A f.signature (WpFn 𝓤 H (𝓣 .C) (𝓣 .Λ) code.function) (f.spec 𝓤 H A mem run)
+  meets 𝓣 known-g1 known-g2 known-g3 = walk-meets 𝓤 H A f.ended stayed W (
+    goes-none 𝓤 H A W 5 (λ _. mTranscript.the-row) yes (λ κs x f. refl),
+    (
+      goes-slice 𝓤 H A W 5 0 tt (plain (λ _. u64)),
+      (
+        goes-slice 𝓤 H A W 5 1 tt (plain (λ _. u64)),
+        (
+          goes-none 𝓤 H A W 5 (λ _. u64) yes (λ κs x f.
+              refl),
+          (
+            goes-none 𝓤 H A W 5 (λ _. u64) yes (λ κs x f. refl),
+            (
+              goes-none-slice 𝓤 H A W 5 (2 ∷ []) tt (plain (λ _. u64)) yes,
+              (
+                goes-none 𝓤 H A W
+                    5 (λ _. mShapes.the-row) yes (λ κs x f. refl),
+                (
+                  goes-none 𝓤 H A W 5 (λ _. (Array mEntry.the-row 384)) yes (λ κs x f. refl),
+                  (
+                    goes-none 𝓤 H A W
+                        5 (λ _. u64) yes (λ κs x f. refl),
+                    (
+                      goes-none-slice 𝓤 H A W 5 (3 ∷ []) tt (plain (λ _. u64)) yes,
+                      (
+                        goes-none-slice 𝓤 H A W 5 (4 ∷ []) tt (plain
+                            (λ _. u64)) yes,
+                        tt,
+                      ),
+                    ),
+                  ),
+                ),
+              ),
+            ),
+          ),
+        ),
+      ),
+    ),
+  ) (f.clauses 𝓤 H A mem run)
       (WpFn 𝓤 H (𝓣 .C) (𝓣 .Λ) code.function) (WpFn-mono 𝓤 H (W .laws) 𝓣 code.function) (walks (𝓣 .C) (𝓣 .Λ) (fmOf 𝓤 H (W .laws) 𝓣) known-g1 known-g2 known-g3)
 
 pub verify-spec : {M : Type 1} → stated.statement M

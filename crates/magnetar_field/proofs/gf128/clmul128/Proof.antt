@@ -10,7 +10,8 @@ use Rattle.magnetar_field.proofs.gf128.clmul128.Statement.{statement}
 use Rattle.magnetar_field.proofs.gf128.clmul128.Tie as tie
 
 abbrev Inv-loop : tie.InvT-loop
-Inv-loop b lo hi acc₀ i₀ acc i = (i ≤ 16) × Multiples (pairAt lo hi 1) lo hi 16 × (acc .w0 < 2 ^ 64) × (acc .w1 < 2 ^ 64) × (acc .w2 < 2 ^ 64) × Combed (pairAt lo hi 1) (b .lo) (b .hi) (wide acc) (acc .w3) i
+Inv-loop b lo hi acc₀ i₀ acc i = (i ≤ 16) × Multiples (pairAt lo hi 1) lo hi 16 × (acc .w0 < 2 ^ 64) × (acc .w1 < 2 ^ 64) × (acc .w2 < 2 ^ 64) ×
+    Combed (pairAt lo hi 1) (b .lo) (b .hi) (wide acc) (acc .w3) i
 
 abbrev μ-loop : tie.MeasureT-loop
 μ-loop b lo hi acc₀ i₀ acc i = i
@@ -80,7 +81,8 @@ loop-again c =
       s .words .0,
       s .words .1,
       s .words .2,
-      combed-more _ (x .b .lo) (x .b .hi) _ _ _ _ _ _ (l .i) (search needs) (search needs) (wide-lt (a .w0) (a .w1) (a .w2) (a .w3) (l .inv .2) (l .inv .3) (l .inv .4) r) t (l .inv .0) (l .inv .5) (s .small) (s .sum)
+      combed-more _ (x .b .lo) (x .b .hi) _ _ _ _ _ _ (l .i) (search needs) (search needs) (wide-lt (a .w0) (a .w1) (a .w2) (a .w3) (l .inv .2) (l
+          .inv .3) (l .inv .4) r) t (l .inv .0) (l .inv .5) (s .small) (s .sum)
           (m .multiple (j .result) (omega arith) ∙ rw (j .ensures)) (m .multiple (k .result) (omega arith) ∙ rw (k .ensures)),
     )
 

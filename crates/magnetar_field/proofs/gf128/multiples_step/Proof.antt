@@ -71,7 +71,8 @@ returns c =
     let x = s .args in
     let t = c .before .times-x .result in
     let m = c .add .result in
-    multiples-more _ (x .k) _ _ (t .lo) (t .hi) (m .lo) (m .hi) (append-word 64 (x .a .hi) (x .a .lo) (search needs) (search needs)) (s .pre .2) (s .pre .0) (s .pre .1) (c .before .times-x .ensures) (c .add .ensures)
+    multiples-more _ (x .k) _ _ (t .lo) (t .hi) (m .lo) (m .hi) (append-word 64 (x .a .hi) (x .a .lo) (search needs) (search needs)) (s .pre .2) (s
+    .pre .0) (s .pre .1) (c .before .times-x .ensures) (c .add .ensures)
 
 pub multiples-step-spec : {M : Type 1} → statement M
 multiples-step-spec =

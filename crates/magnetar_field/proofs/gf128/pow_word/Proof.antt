@@ -10,7 +10,8 @@ use Rattle.magnetar_field.proofs.gf128.pow_word.Statement.{statement}
 use Rattle.magnetar_field.proofs.gf128.pow_word.Tie as tie
 
 abbrev Inv-loop : tie.InvT-loop
-Inv-loop k q₀ rest₀ i₀ q rest i = (i ≤ 64) × (value (q .result) < 2 ^ 128) × (value (q .base) < 2 ^ 128) × Powering (value (q₀ .result)) (value (q₀ .base)) k (value (q .result)) (value (q .base)) rest i
+Inv-loop k q₀ rest₀ i₀ q rest i = (i ≤ 64) × (value (q .result) < 2 ^ 128) × (value (q .base) < 2 ^ 128) × Powering (value (q₀ .result)) (value (q₀
+    .base)) k (value (q .result)) (value (q .base)) rest i
 
 abbrev μ-loop : tie.MeasureT-loop
 μ-loop k q₀ rest₀ i₀ q rest i = 64 - i

@@ -98,7 +98,8 @@ Callee-g1 𝓤 H A mem run = tripleOf 𝓤 H A g1.signature (g1.spec 𝓤 H A me
 abbrev Callee-g2 : {M : Type 1} (𝓤 : URA M) (H : Heap 𝓤) (A : Atoms 𝓤) (mem : Memory → SProp 𝓤) (run : Routine → Fun 𝓤) → Contract 𝓤
 Callee-g2 𝓤 H A mem run = tripleOf 𝓤 H A g2.signature (g2.spec 𝓤 H A mem run)
 
-module _ {M : Type 1} (𝓤 : URA M) (H : Heap 𝓤) (A : Atoms 𝓤) (W : Given 𝓤 H A) (at-mem : Memory → SProp 𝓤) (run : Routine → Fun 𝓤) (κ₀ κ₁ : Lft) (q₀ q₁ : Share) (n1 : Transcript) (u1 : Val) (s2 : RefT (List ℕ)) (n3 : ℕ) (u3 : Val) (b4 o4 : ℕ) (γ4 : GName) (ys4 : List ℕ) where
+module _ {M : Type 1} (𝓤 : URA M) (H : Heap 𝓤) (A : Atoms 𝓤) (W : Given 𝓤 H A) (at-mem : Memory → SProp 𝓤) (run : Routine → Fun 𝓤) (κ₀ κ₁ : Lft) (q₀
+    q₁ : Share) (n1 : Transcript) (u1 : Val) (s2 : RefT (List ℕ)) (n3 : ℕ) (u3 : Val) (b4 o4 : ℕ) (γ4 : GName) (ys4 : List ℕ) where
   abbrev v1 : Val
   v1 = u1
 
@@ -123,9 +124,11 @@ module _ {M : Type 1} (𝓤 : URA M) (H : Heap 𝓤) (A : Atoms 𝓤) (W : Given
   abbrev Lent4 : ℕ → GName → List ℕ → Fml
   Lent4 ν δ l = LentAgain u64 κ₁ (ν ∷ []) q₁ γ4 b4 o4 δ l
 
-  lends4 : (ℓ : Lifetime) (ν : ℕ) (l : List ℕ) → length l ≡ length ys4 → ent 𝓤 (⋆ 𝓤 H A (‵ (O4 l) ∷ ‵ (flft κ₁ q₁) ∷ [])) (⋆ 𝓤 H A (later (some (λ (δ : GName). ‵ (MutSlice ℓ (ν ∷ []) u64 .own (ref4 δ l) (v4 ∷ [])) ⊛ ‵ (Lent4 ν δ l))) ∷ []))
+  lends4 : (ℓ : Lifetime) (ν : ℕ) (l : List ℕ) → length l ≡ length ys4 → ent 𝓤 (⋆ 𝓤 H A (‵ (O4 l) ∷ ‵ (flft κ₁ q₁) ∷ [])) (⋆ 𝓤 H A (later (some (λ (δ
+      : GName). ‵ (MutSlice ℓ (ν ∷ []) u64 .own (ref4 δ l) (v4 ∷ [])) ⊛ ‵ (Lent4 ν δ l))) ∷ []))
   lends4 ℓ ν l e = subst (λ (t : ℕ). ent 𝓤 (⋆ 𝓤 H A (‵ (MutSlice (named 1) κ₁ u64 .own (ref4 γ4 l) (sliceVal (b4, o4) t ∷ [])) ∷ ‵ (flft κ₁ q₁) ∷ []))
-      (⋆ 𝓤 H A (later (some (λ (δ : GName). ‵ (MutSlice ℓ (ν ∷ []) u64 .own (ref4 δ l) (sliceVal (b4, o4) t ∷ [])) ⊛ ‵ (Lent4 ν δ l))) ∷ []))) e (lends-again u64 κ₁ (ν ∷ []) q₁ γ4 b4 o4 𝓤 H A W (named 1) ℓ l)
+      (⋆ 𝓤 H A (later (some (λ (δ : GName). ‵ (MutSlice ℓ (ν ∷ []) u64 .own (ref4 δ l) (sliceVal (b4, o4) t ∷ [])) ⊛ ‵ (Lent4 ν δ l))) ∷ []))) e
+      (lends-again u64 κ₁ (ν ∷ []) q₁ γ4 b4 o4 𝓤 H A W (named 1) ℓ l)
 
   backs4 : (ℓ : Lifetime) (ν : ℕ) (δ : GName) (l l′ : List ℕ) → length l ≡ length ys4 → Room u64 (length ys4) → length l′ ≡ length l
       → ent 𝓤 (⋆ 𝓤 H A (‵ (fdead (ν ∷ [])) ∷ ‵ (Lent4 ν δ l) ∷ ‵ (finally u64 δ l′) ∷ [])) (⋆ 𝓤 H A (later (‵ (O4 l′) ⊛ ‵ (flft κ₁ q₁)) ∷ []))
@@ -145,46 +148,246 @@ module _ {M : Type 1} (𝓤 : URA M) (H : Heap 𝓤) (A : Atoms 𝓤) (W : Given
   abbrev Post : Val → SProp 𝓤
   Post = walkOf 𝓤 H A f.ended stayed (f.clauses 𝓤 H A at-mem run) .post (((κ₀, (κ₁, tt)), (q₀, (q₁, tt)), tt, a, at), tt)
 
-  module _ (C : Calls 𝓤 H) (Λ : Loops 𝓤 H) (fm : FmC 𝓤 H (W .laws) C) (known-g1 : Triple 𝓤 (C #g1) (Callee-g1 𝓤 H A at-mem run)) (known-g2 : Triple 𝓤 (C #g2) (Callee-g2 𝓤 H A at-mem run)) (w1 : Is mTranscript.the-row n1 (u1 ∷ [])) (w2 : Is (ShrSlice (named 0) κ₀ u8) s2 (v2 ∷ [])) (w3 : Is u64 n3 (u3 ∷ [])) (room4 : Room u64 (length ys4)) where
+  module _ (C : Calls 𝓤 H) (Λ : Loops 𝓤 H) (fm : FmC 𝓤 H (W .laws) C) (known-g1 : Triple 𝓤 (C #g1) (Callee-g1 𝓤 H A at-mem run)) (known-g2 : Triple 𝓤
+      (C #g2) (Callee-g2 𝓤 H A at-mem run)) (w1 : Is mTranscript.the-row n1 (u1 ∷ [])) (w2 : Is (ShrSlice (named 0) κ₀ u8) s2 (v2 ∷ [])) (w3 : Is u64
+      n3 (u3 ∷ [])) (room4 : Room u64 (length ys4)) where
     walk : ent 𝓤 (onEntry 𝓤 H A f.signature (κ₀, (κ₁, tt)) (q₀, (q₁, tt)) a at) (WpFn 𝓤 H C Λ code.function (v1 ∷ v2 ∷ v3 ∷ v4 ∷ []) Post)
     walk =
-        qed W ((‵ (flft κ₀ q₀) ⊛ ‵ (flft κ₁ q₁) ⊛ ‵ ftrue) ∷ ‵ (owns (mTranscript.the-row ∷ ShrSlice (named 0) κ₀ u8 ∷ u64 ∷ MutSlice (named 1) κ₁ u64 ∷ []) a at) ∷ []) ∵ enter ! C Λ code.function (v1 ∷ v2 ∷ v3 ∷ v4 ∷ []) _ $
-        nothing ! $ alloc ! (λ l₀. alloc ! (λ l₁. alloc ! (λ l₂. alloc ! (λ l₃. alloc ! (λ l₄. alloc ! (λ l₅. alloc ! (λ l₆. alloc ! (λ l₇. alloc ! (λ l₈. alloc ! (λ l₉. alloc ! (λ l₁₀. alloc0 ! $ hide ! (λ died die. params1 ! $ pass1 ! (init ! 10 refl (LL.lawful mTranscript.the-type lTranscript.the-laws 𝓤 H A W .typed n1 _ w1 .0)) $ pass1 ! (init ! 9 refl (shr-slice-lawful 𝓤 H A W (named 0) κ₀ u8 .typed s2 (v2 ∷ []) w2 .0)) $ pass1 ! (init ! 8 refl (uint-lawful 𝓤 H A W w64 .typed n3 _ w3 .0)) $ pass1 ! (init ! 7 refl (tt, (tt, (record { fits = room4 .0 }, tt)))) $ pass0 ! $
-        move ! (13 ∷ []) $ fsplit ! $ move ! (1 ∷ []) $ fsplit ! $ move ! (1 ∷ []) $ fsplit ! $ move ! (1 ∷ []) $ fsplit ! $ move ! (1 ∷ []) $ drop ! $ move ! (16 ∷ []) $ split ! $ move ! (1 ∷ []) $ split ! $ move ! (1 ∷ []) $ drop ! $ tidy W (_ ∷ _ ∷ _ ∷ _ ∷ _ ∷ _ ∷ _ ∷ _ ∷ _ ∷ _ ∷ _ ∷ _ ∷ _ ∷ _ ∷ _ ∷ _ ∷ _ ∷ _ ∷ []) $
+        qed W ((‵ (flft κ₀ q₀) ⊛ ‵ (flft κ₁ q₁) ⊛ ‵ ftrue) ∷ ‵ (owns (mTranscript.the-row ∷ ShrSlice (named 0) κ₀ u8 ∷ u64 ∷ MutSlice (named 1) κ₁
+        u64 ∷ []) a at) ∷ []) ∵ enter ! C Λ code.function (v1 ∷ v2 ∷ v3 ∷ v4 ∷ []) _ $
+        nothing ! $ alloc ! (λ l₀. alloc ! (λ l₁. alloc ! (λ l₂. alloc ! (λ l₃. alloc ! (λ l₄. alloc ! (λ l₅. alloc ! (λ l₆. alloc ! (λ l₇. alloc !
+        (λ l₈. alloc ! (λ l₉. alloc ! (λ l₁₀. alloc0 ! $ hide ! (λ died die. params1 ! $ pass1 ! (init ! 10 refl (LL.lawful mTranscript.the-type
+        lTranscript.the-laws 𝓤 H A W .typed n1 _ w1 .0)) $ pass1 ! (init ! 9 refl (shr-slice-lawful 𝓤 H A W (named 0) κ₀ u8 .typed s2 (v2 ∷ [])
+        w2 .0)) $ pass1 ! (init ! 8 refl (uint-lawful 𝓤 H A W w64 .typed n3 _ w3 .0)) $ pass1 ! (init ! 7 refl (
+          tt,
+          (
+            tt,
+            (
+              record {
+                fits = room4
+                    .0;
+              },
+              tt,
+            ),
+          ),
+        )) $ pass0 ! $
+        move ! (13 ∷ []) $ fsplit ! $ move ! (1 ∷ []) $ fsplit ! $ move ! (1 ∷ []) $ fsplit ! $ move ! (1 ∷ []) $ fsplit ! $ move ! (1 ∷ []) $ drop !
+        $ move ! (16 ∷ []) $ split ! $ move ! (1 ∷ []) $ split ! $ move ! (1 ∷ []) $ drop ! $ tidy W (_ ∷ _ ∷ _ ∷ _ ∷ _ ∷ _ ∷ _ ∷ _ ∷ _ ∷ _ ∷ _ ∷
+        _ ∷ _ ∷ _ ∷ _ ∷ _ ∷ _ ∷ _ ∷ []) $
         assigns ! (of-opd ! (load ! (from ! (stop !)) (look ! 16 refl))) (from ! (stop !)) (init ! 12 refl (LL.lawful mTranscript.the-type lTranscript.the-laws 𝓤 H A W .typed n1 _ w1 .0)) $
         assigns ! (addr ! (from ! (stop !))) (from ! (stop !)) (init ! 10 refl (tt, tt)) $
         assigns ! (addr ! (from ! (fld ! refl (hop ! (look-in ! 13 (sub ! 0 refl (whole !))) (stop !))))) (from ! (stop !)) (init ! 9 refl (tt, tt)) $
-        assigns ! (agg ! (and-then ! (load ! (from ! (stop !)) (look ! 9 refl)) (and-then ! (load ! (from ! (fld ! refl (stop !))) (look-in ! 13 (sub ! 1 refl (whole !)))) (no-more !)))) (from ! (stop !)) (init ! 8 refl (tt, (tt, (record { fits = room4 .0 }, tt)))) $
-        lft-new ! tt (λ ν1a. owned ! mTranscript.the-row (Is mTranscript.the-row) (LL.makes mTranscript.the-type lTranscript.the-plain 𝓤 H A) (n1) _ w1 $ move ! (14 ∷ 0 ∷ []) $ use1 W (‵ (cellAt fullShare (mTranscript.the-row .mir) (u1 ∷ []) l₅ 0)) (W .laws .at-raw fullShare (lTranscript.mir) l₅ 0 (u1)) $ into ! mTranscript.the-row fullShare (n1) (u1 ∷ []) l₅ 0 $
-        use1 W (later (some (λ (δ : GName). ‵ (MutRef (named 0) (ν1a ∷ []) mTranscript.the-row .own (record { ptr = (l₅, 0); name = δ; now = n1 }) (vptr l₅ 0 ∷ [])) ⊛ ‵ (flent (ν1a ∷ []) (Body (mem mTranscript.the-row) l₅ 0 δ))))) (lends-ref 𝓤 H A W mTranscript.the-row (named 0) (ν1a ∷ []) (n1) l₅ 0) $ await ! tt $ pick ! (λ δ1a. split ! $
+        assigns ! (agg ! (and-then ! (load ! (from ! (stop !)) (look ! 9 refl)) (and-then ! (load ! (from ! (fld ! refl (stop !))) (look-in ! 13 (sub
+        ! 1 refl (whole !)))) (no-more !)))) (from ! (stop !)) (init ! 8 refl (tt, (tt, (record { fits = room4 .0 }, tt)))) $
+        lft-new ! tt (λ ν1a. owned ! mTranscript.the-row (Is mTranscript.the-row) (LL.makes mTranscript.the-type lTranscript.the-plain 𝓤 H A) (n1) _
+        w1 $ move ! (14 ∷ 0 ∷ []) $ use1 W (‵ (cellAt fullShare (mTranscript.the-row .mir) (u1 ∷ []) l₅ 0)) (W .laws .at-raw fullShare
+        (lTranscript.mir) l₅ 0 (u1)) $ into ! mTranscript.the-row fullShare (n1) (u1 ∷ []) l₅ 0 $
+        use1 W (later (some (λ (δ : GName). ‵ (MutRef (named 0) (ν1a ∷ []) mTranscript.the-row .own (record { ptr = (l₅, 0); name = δ; now = n1 })
+        (vptr l₅ 0 ∷ [])) ⊛ ‵ (flent (ν1a ∷ []) (Body (mem mTranscript.the-row) l₅ 0 δ))))) (lends-ref 𝓤 H A W mTranscript.the-row (named 0) (ν1a
+        ∷ []) (n1) l₅ 0) $ await ! tt $ pick ! (λ δ1a. split ! $
         move ! (7 ∷ []) $ use1 W (‵ (O2) ⊛ ‵ (O2)) (shr-slice-copy 𝓤 H A W (named 0) κ₀ u8 .twice s2 (v2 ∷ [])) $ split ! $
-        lft-new ! tt (λ ν1d. move ! (8 ∷ 6 ∷ []) $ use2 W (later (some (λ (δ : GName). ‵ (MutSlice (named 2) (ν1d ∷ []) u64 .own (ref4 δ (ys4)) (v4 ∷ [])) ⊛ ‵ (Lent4 ν1d δ (ys4))))) (lends4 (named 2) ν1d (ys4) (refl)) $ await ! tt $ pick ! (λ δ1d. split ! $ tidy W (_ ∷ _ ∷ _ ∷ _ ∷ _ ∷ _ ∷ _ ∷ _ ∷ _ ∷ _ ∷ _ ∷ _ ∷ _ ∷ _ ∷ _ ∷ _ ∷ _ ∷ _ ∷ _ ∷ _ ∷ _ ∷ _ ∷ []) $ nothing ! $ move ! (3 ∷ 0 ∷ []) $ join ! $ move ! (8 ∷ 0 ∷ []) $ join ! $ move ! (7 ∷ 0 ∷ []) $ join ! $ move ! (3 ∷ 1 ∷ []) $ join ! $ move ! (4 ∷ 0 ∷ []) $ join ! $ move ! (1 ∷ 0 ∷ []) $ join ! $
+        lft-new ! tt (λ ν1d. move ! (8 ∷ 6 ∷ []) $ use2 W (later (some (λ (δ : GName). ‵ (MutSlice (named 2) (ν1d ∷ []) u64 .own (ref4 δ (ys4)) (v4 ∷
+        [])) ⊛ ‵ (Lent4 ν1d δ (ys4))))) (lends4 (named 2) ν1d (ys4) (refl)) $ await ! tt $ pick ! (λ δ1d. split ! $ tidy W (_ ∷ _ ∷ _ ∷ _ ∷ _ ∷ _
+        ∷ _ ∷ _ ∷ _ ∷ _ ∷ _ ∷ _ ∷ _ ∷ _ ∷ _ ∷ _ ∷ _ ∷ _ ∷ _ ∷ _ ∷ _ ∷ _ ∷ []) $ nothing ! $ move ! (3 ∷ 0 ∷ []) $ join ! $ move ! (8 ∷ 0 ∷ []) $
+        join ! $ move ! (7 ∷ 0 ∷ []) $ join ! $ move ! (3 ∷ 1 ∷ []) $ join ! $ move ! (4 ∷ 0 ∷ []) $ join ! $ move ! (1 ∷ 0 ∷ []) $ join ! $
         -- call 1
-        use1 W (raw (Callee-g1 𝓤 H A at-mem run .pre ((((ν1a ∷ []), (κ₀, ((ν1d ∷ []), tt))), (fullShare, (q₀, (fullShare, tt))), tt, (record { ptr = (l₅, 0); name = δ1a; now = n1 }, (s2, (n3, (ref4 δ1d (ys4), tt)))), (vptr l₅ 0 ∷ [], (v2 ∷ [], (u3 ∷ [], (v4 ∷ [], tt))))), tt))) (qed W ((‵ (flft (ν1a ∷ []) fullShare) ⊛ ‵ (flft κ₀ q₀) ⊛ ‵ (flft (ν1d ∷ []) fullShare) ⊛ ‵ ftrue) ∷ ‵ (MutRef (named 0) (ν1a ∷ []) mTranscript.the-row .own (record { ptr = (l₅, 0); name = δ1a; now = n1 }) (vptr l₅ 0 ∷ [])) ∷ ‵ (ShrSlice (named 1) κ₀ u8 .own s2 (v2 ∷ [])) ∷ ‵ (MutSlice (named 2) (ν1d ∷ []) u64 .own (ref4 δ1d (ys4)) (v4 ∷ [])) ∷ []) ∵ nothing ! $ move ! (4 ∷ 0 ∷ []) $ fjoin ! $ owned ! u64 (Is u64) (uint-makes 𝓤 H A W w64) (n3) _ w3 $ fjoin ! $ move ! (3 ∷ 0 ∷ []) $ fjoin ! $ move ! (2 ∷ 0 ∷ []) $ fjoin ! $ move ! (1 ∷ 0 ∷ []) $ join ! $ nothing ! $ move ! (1 ∷ 0 ∷ []) $ frame ! $ done !) $
-        calls-at ! fm (Callee-g1 𝓤 H A at-mem run) known-g1 ((((ν1a ∷ []), (κ₀, ((ν1d ∷ []), tt))), (fullShare, (q₀, (fullShare, tt))), tt, (record { ptr = (l₅, 0); name = δ1a; now = n1 }, (s2, (n3, (ref4 δ1d (ys4), tt)))), (vptr l₅ 0 ∷ [], (v2 ∷ [], (u3 ∷ [], (v4 ∷ [], tt))))), tt) (and-then ! (load ! (from ! (stop !)) (look ! 10 refl)) (and-then ! (load ! (from ! (stop !)) (look ! 14 refl)) (and-then ! (load ! (from ! (stop !)) (look ! 13 refl)) (and-then ! (load ! (from ! (stop !)) (look ! 8 refl)) (no-more !))))) (λ z1.
-        use1 W (later (some (λ (r1 : ℕ). ((‵ (flft (ν1a ∷ []) fullShare) ⊛ ‵ (flft κ₀ q₀) ⊛ ‵ (flft (ν1d ∷ []) fullShare) ⊛ ‵ ftrue) ⊛ ‵ (u32 .own r1 (z1 ∷ []))) ⊛ some (λ (ws : Lasts g1.ended ((ν1a ∷ []), (κ₀, ((ν1d ∷ []), tt))) (record { ptr = (l₅, 0); name = δ1a; now = n1 }, (s2, (n3, (ref4 δ1d (ys4), tt))))). ‵ (lasts g1.ended ((ν1a ∷ []), (κ₀, ((ν1d ∷ []), tt))) (record { ptr = (l₅, 0); name = δ1a; now = n1 }, (s2, (n3, (ref4 δ1d (ys4), tt)))) ws) ⊛ raw (g1.clauses 𝓤 H A at-mem run ((ν1a ∷ []), (κ₀, ((ν1d ∷ []), tt))) (record { ptr = (l₅, 0); name = δ1a; now = n1 }, (s2, (n3, (ref4 δ1d (ys4), tt)))) .ensures tt r1 (atExit g1.ended ((ν1a ∷ []), (κ₀, ((ν1d ∷ []), tt))) (record { ptr = (l₅, 0); name = δ1a; now = n1 }, (s2, (n3, (ref4 δ1d (ys4), tt)))) ws)))))) (id⊢ 𝓤 _) $ await ! tt $ pick ! (λ r1. split ! $ move ! (1 ∷ []) $ pick ! (λ ws1. split ! $ move ! (1 ∷ []) $ heard ! _ (λ e1.
-        fsplit ! $ move ! (1 ∷ []) $ fsplit ! $ drop ! $ fsplit ! $ drop ! $ fsplit ! $ fsplit ! $ move ! (1 ∷ []) $ feqL ! (λ same1d. move ! (1 ∷ []) $ drop ! $ move ! (2 ∷ []) $ split ! $ move ! (1 ∷ []) $ peeks ! u32 (Is u32) (shows 𝓤 H A u32) r1 (z1 ∷ []) (λ i1. drop ! $ land ! (from ! (stop !)) (init ! 13 refl (uint-lawful 𝓤 H A W w32 .typed r1 _ i1 .0)) $
-        tidy W (_ ∷ _ ∷ _ ∷ _ ∷ _ ∷ _ ∷ _ ∷ _ ∷ _ ∷ _ ∷ _ ∷ _ ∷ _ ∷ _ ∷ _ ∷ _ ∷ _ ∷ _ ∷ _ ∷ []) $ split ! $ move ! (1 ∷ []) $ split ! $ move ! (1 ∷ []) $ split ! $ move ! (1 ∷ []) $ drop ! $ move ! (2 ∷ []) $ lft-end ! tt $ move ! (0 ∷ 7 ∷ 4 ∷ []) $ use3 W (later (‵ (partAt mTranscript.the-row fullShare ((ws1 .0)) l₅ 0))) (ref-back 𝓤 H A W mTranscript.the-row (ν1a ∷ []) δ1a ((ws1 .0)) l₅ 0) $ await ! tt $
-        out ! mTranscript.the-row fullShare ((ws1 .0)) l₅ 0 (λ vs. spelt ! mTranscript.the-row (Is mTranscript.the-row) (shows 𝓤 H A mTranscript.the-row) (LL.vals mTranscript.the-type lTranscript.the-laws) (LL.tells mTranscript.the-type lTranscript.the-laws) fullShare ((ws1 .0)) vs l₅ 0 $ move ! (1 ∷ []) $ peeks ! mTranscript.the-row (Is mTranscript.the-row) (shows 𝓤 H A mTranscript.the-row) ((ws1 .0)) (LL.val mTranscript.the-type lTranscript.the-laws ((ws1 .0)) ∷ []) (λ w1a. drop ! $ use1 W (‵ (fat fullShare (lTranscript.mir) l₅ 0 (LL.val mTranscript.the-type lTranscript.the-laws ((ws1 .0))))) (W .laws .raw-at fullShare (lTranscript.mir) l₅ 0 (LL.val mTranscript.the-type lTranscript.the-laws ((ws1 .0)))) $
-        move ! (1 ∷ []) $ lft-end ! tt $ move ! (0 ∷ 4 ∷ 3 ∷ []) $ use3 W (later (‵ (O4 (ws1 .1 .1 .1 .0)) ⊛ ‵ (flft κ₁ q₁))) (backs4 (named 2) ν1d δ1d (ys4) (ws1 .1 .1 .1 .0) (refl) room4 same1d) $ await ! tt $ split ! $
+        use1 W (raw (Callee-g1 𝓤 H A at-mem run .pre (
+          (
+            ((ν1a ∷ []), (κ₀, ((ν1d ∷ []), tt))),
+            (fullShare, (q₀, (fullShare, tt))),
+            tt,
+            (
+              record {
+                ptr =
+                    (l₅, 0);
+                name = δ1a;
+                now = n1;
+              },
+              (s2, (n3, (ref4 δ1d (ys4), tt))),
+            ),
+            (vptr l₅ 0 ∷ [], (v2 ∷ [], (u3 ∷ [], (v4 ∷ [], tt)))),
+          ),
+          tt,
+        ))) (qed W
+        ((‵ (flft (ν1a ∷ []) fullShare) ⊛ ‵ (flft κ₀ q₀) ⊛ ‵ (flft (ν1d ∷ []) fullShare) ⊛ ‵ ftrue) ∷ ‵ (MutRef (named 0) (ν1a ∷ [])
+        mTranscript.the-row .own (record { ptr = (l₅, 0); name = δ1a; now = n1 }) (vptr l₅ 0 ∷ [])) ∷ ‵ (ShrSlice (named 1) κ₀ u8 .own s2 (v2 ∷
+        [])) ∷ ‵ (MutSlice (named 2) (ν1d ∷ []) u64 .own (ref4 δ1d (ys4)) (v4 ∷ [])) ∷ []) ∵ nothing ! $ move ! (4 ∷ 0 ∷ []) $ fjoin ! $ owned !
+        u64 (Is u64) (uint-makes 𝓤 H A W w64) (n3) _ w3 $ fjoin ! $ move ! (3 ∷ 0 ∷ []) $ fjoin ! $ move ! (2 ∷ 0 ∷ []) $ fjoin ! $ move ! (1 ∷ 0
+        ∷ []) $ join ! $ nothing ! $ move ! (1 ∷ 0 ∷ []) $ frame ! $ done !) $
+        calls-at ! fm (Callee-g1 𝓤 H A at-mem run) known-g1 (
+          (
+            ((ν1a ∷ []), (κ₀, ((ν1d ∷ []), tt))),
+            (fullShare, (q₀, (fullShare, tt))),
+            tt,
+            (
+              record {
+                ptr = (l₅, 0);
+                name = δ1a;
+                now = n1;
+              },
+              (s2, (n3, (ref4 δ1d (ys4), tt))),
+            ),
+            (vptr l₅ 0 ∷ [], (v2 ∷ [], (u3 ∷ [], (v4 ∷ [], tt)))),
+          ),
+          tt,
+        )
+        (and-then ! (load ! (from ! (stop !)) (look ! 10 refl)) (and-then ! (load ! (from ! (stop !)) (look ! 14 refl)) (and-then ! (load ! (from
+        ! (stop !)) (look ! 13 refl)) (and-then ! (load ! (from ! (stop !)) (look ! 8 refl)) (no-more !))))) (λ z1.
+        use1 W (later (some (λ (r1 : ℕ). ((‵ (flft (ν1a ∷ []) fullShare) ⊛ ‵ (flft κ₀ q₀) ⊛ ‵ (flft (ν1d ∷ []) fullShare) ⊛ ‵ ftrue) ⊛ ‵ (u32 .own r1
+        (z1 ∷ []))) ⊛ some (λ (ws : Lasts g1.ended ((ν1a ∷ []), (κ₀, ((ν1d ∷ []), tt))) (
+          record { ptr = (l₅, 0); name = δ1a; now = n1 },
+          (
+            s2,
+            (n3, (ref4 δ1d (ys4), tt)),
+          ),
+        )). ‵ (lasts g1.ended ((ν1a ∷ []), (κ₀, ((ν1d ∷ []), tt))) (
+          record { ptr = (l₅, 0); name = δ1a; now = n1 },
+          (s2, (n3, (ref4 δ1d (ys4), tt))),
+        ) ws) ⊛ raw (g1.clauses 𝓤 H A at-mem run ((ν1a ∷ []), (κ₀, ((ν1d ∷ []), tt))) (
+          record {
+            ptr = (l₅, 0);
+            name = δ1a;
+            now = n1;
+          },
+          (s2, (n3, (ref4 δ1d (ys4), tt))),
+        ) .ensures tt r1 (atExit g1.ended ((ν1a ∷ []), (κ₀, ((ν1d ∷ []), tt))) (
+          record {
+            ptr = (l₅, 0);
+            name = δ1a;
+            now = n1;
+          },
+          (s2, (n3, (ref4 δ1d (ys4), tt))),
+        ) ws)))))) (id⊢ 𝓤 _) $ await ! tt $ pick ! (λ r1. split ! $ move !
+        (1 ∷ []) $ pick ! (λ ws1. split ! $ move ! (1 ∷ []) $ heard ! _ (λ e1.
+        fsplit ! $ move ! (1 ∷ []) $ fsplit ! $ drop ! $ fsplit ! $ drop ! $ fsplit ! $ fsplit ! $ move ! (1 ∷ []) $ feqL ! (λ same1d. move ! (1 ∷
+        []) $ drop ! $ move ! (2 ∷ []) $ split ! $ move ! (1 ∷ []) $ peeks ! u32 (Is u32) (shows 𝓤 H A u32) r1 (z1 ∷ []) (λ i1. drop ! $ land !
+        (from ! (stop !)) (init ! 13 refl (uint-lawful 𝓤 H A W w32 .typed r1 _ i1 .0)) $
+        tidy W (_ ∷ _ ∷ _ ∷ _ ∷ _ ∷ _ ∷ _ ∷ _ ∷ _ ∷ _ ∷ _ ∷ _ ∷ _ ∷ _ ∷ _ ∷ _ ∷ _ ∷ _ ∷ _ ∷ []) $ split ! $ move ! (1 ∷ []) $ split ! $ move ! (1 ∷
+        []) $ split ! $ move ! (1 ∷ []) $ drop ! $ move ! (2 ∷ []) $ lft-end ! tt $ move ! (0 ∷ 7 ∷ 4 ∷ []) $ use3 W (later (‵ (partAt
+        mTranscript.the-row fullShare ((ws1 .0)) l₅ 0))) (ref-back 𝓤 H A W mTranscript.the-row (ν1a ∷ []) δ1a ((ws1 .0)) l₅ 0) $ await ! tt $
+        out ! mTranscript.the-row fullShare ((ws1 .0)) l₅ 0 (λ vs. spelt ! mTranscript.the-row (Is mTranscript.the-row) (shows 𝓤 H A
+        mTranscript.the-row) (LL.vals mTranscript.the-type lTranscript.the-laws) (LL.tells mTranscript.the-type lTranscript.the-laws) fullShare
+        ((ws1 .0)) vs l₅ 0 $ move ! (1 ∷ []) $ peeks ! mTranscript.the-row (Is mTranscript.the-row) (shows 𝓤 H A mTranscript.the-row) ((ws1 .0))
+        (LL.val mTranscript.the-type lTranscript.the-laws ((ws1 .0)) ∷ []) (λ w1a. drop ! $ use1 W (‵ (fat fullShare (lTranscript.mir) l₅ 0
+        (LL.val mTranscript.the-type lTranscript.the-laws ((ws1 .0))))) (W .laws .raw-at fullShare (lTranscript.mir) l₅ 0 (LL.val
+        mTranscript.the-type lTranscript.the-laws ((ws1 .0)))) $
+        move ! (1 ∷ []) $ lft-end ! tt $ move ! (0 ∷ 4 ∷ 3 ∷ []) $ use3 W (later (‵ (O4 (ws1 .1 .1 .1 .0)) ⊛ ‵ (flft κ₁ q₁))) (backs4 (named 2) ν1d
+        δ1d (ys4) (ws1 .1 .1 .1 .0) (refl) room4 same1d) $ await ! tt $ split ! $
         assigns ! (of-opd ! (load ! (from ! (stop !)) (look ! 2 refl))) (from ! (stop !)) (init ! 8 refl (LL.lawful mTranscript.the-type lTranscript.the-laws 𝓤 H A W .typed (ws1 .0) _ w1a .0)) $
         tidy W (_ ∷ _ ∷ _ ∷ _ ∷ _ ∷ _ ∷ _ ∷ _ ∷ _ ∷ _ ∷ _ ∷ _ ∷ _ ∷ _ ∷ _ ∷ _ ∷ _ ∷ _ ∷ []) $ nothing ! $
         -- call 2
-        use1 W (raw (Callee-g2 𝓤 H A at-mem run .pre ((tt, tt, tt, (r1, ((ws1 .0), tt)), (z1 ∷ [], ((LL.val mTranscript.the-type lTranscript.the-laws ((ws1 .0))) ∷ [], tt))), tt))) (qed W ((‵ ftrue) ∷ []) ∵ nothing ! $ owned ! mTranscript.the-row (Is mTranscript.the-row) (LL.makes mTranscript.the-type lTranscript.the-plain 𝓤 H A) ((ws1 .0)) _ w1a $ fjoin ! $ owned ! u32 (Is u32) (uint-makes 𝓤 H A W w32) (r1) _ i1 $ fjoin ! $ move ! (1 ∷ 0 ∷ []) $ join ! $ nothing ! $ move ! (1 ∷ 0 ∷ []) $ frame ! $ done !) $
-        calls-at ! fm (Callee-g2 𝓤 H A at-mem run) known-g2 ((tt, tt, tt, (r1, ((ws1 .0), tt)), (z1 ∷ [], ((LL.val mTranscript.the-type lTranscript.the-laws ((ws1 .0))) ∷ [], tt))), tt) (and-then ! (load ! (from ! (stop !)) (look ! 13 refl)) (and-then ! (load ! (from ! (stop !)) (look ! 9 refl)) (no-more !))) (λ z2.
-        use1 W (later (some (λ (r2 : TranscriptAnswer). ((‵ ftrue) ⊛ ‵ (mTranscriptAnswer.the-row .own r2 (z2 ∷ []))) ⊛ some (λ (ws : Lasts g2.ended tt (r1, ((ws1 .0), tt))). ‵ (lasts g2.ended tt (r1, ((ws1 .0), tt)) ws) ⊛ raw (g2.clauses 𝓤 H A at-mem run tt (r1, ((ws1 .0), tt)) .ensures tt r2 (atExit g2.ended tt (r1, ((ws1 .0), tt)) ws)))))) (id⊢ 𝓤 _) $ await ! tt $ pick ! (λ r2. split ! $ move ! (1 ∷ []) $ pick ! (λ ws2. split ! $ move ! (1 ∷ []) $ heard ! _ (λ e2.
-        drop ! $ split ! $ move ! (1 ∷ []) $ peeks ! mTranscriptAnswer.the-row (Is mTranscriptAnswer.the-row) (shows 𝓤 H A mTranscriptAnswer.the-row) r2 (z2 ∷ []) (λ i2. drop ! $ land ! (from ! (stop !)) (init ! 18 refl (LL.lawful mTranscriptAnswer.the-type lTranscriptAnswer.the-laws 𝓤 H A W .typed r2 _ i2 .0)) $
-        tidy W (_ ∷ _ ∷ _ ∷ _ ∷ _ ∷ _ ∷ _ ∷ _ ∷ _ ∷ _ ∷ _ ∷ _ ∷ _ ∷ _ ∷ _ ∷ _ ∷ _ ∷ _ ∷ _ ∷ []) $ drop ! $ tidy W (_ ∷ _ ∷ _ ∷ _ ∷ _ ∷ _ ∷ _ ∷ _ ∷ _ ∷ _ ∷ _ ∷ _ ∷ _ ∷ _ ∷ _ ∷ _ ∷ _ ∷ _ ∷ []) $ returns ! (look ! 17 refl) $ move ! (0 ∷ 1 ∷ 3 ∷ 4 ∷ 5 ∷ 6 ∷ 7 ∷ 8 ∷ 9 ∷ 10 ∷ 11 ∷ 12 ∷ 2 ∷ 13 ∷ 14 ∷ 15 ∷ 16 ∷ 17 ∷ []) $ move ! (6 ∷ []) $ use1 W (dies ((lTranscriptAnswer.mir, l₀) ∷ (lTranscript.mir, l₁) ∷ (sliceTy (tyRef (named 0) imm (tyInt w8)), l₂) ∷ (tyInt w64, l₃) ∷ (sliceTy (tyRef (named 1) mut (tyInt w64)), l₄) ∷ (lTranscript.mir, l₅) ∷ (tyInt w32, l₆) ∷ (tyRef erased mut (pointee (mTranscript.the-row .written)), l₇) ∷ (tyRef erased mut (tyInt w64), l₈) ∷ (sliceTy (tyRef erased mut (tyInt w64)), l₉) ∷ (lTranscript.mir, l₁₀) ∷ []) (‵ ftrue)) die $ free-all ! 6 ((lTranscriptAnswer.mir, l₀) ∷ (lTranscript.mir, l₁) ∷ (sliceTy (tyRef (named 0) imm (tyInt w8)), l₂) ∷ (tyInt w64, l₃) ∷ (sliceTy (tyRef (named 1) mut (tyInt w64)), l₄) ∷ (lTranscript.mir, l₅) ∷ (tyInt w32, l₆) ∷ (tyRef erased mut (pointee (mTranscript.the-row .written)), l₇) ∷ (tyRef erased mut (tyInt w64), l₈) ∷ (sliceTy (tyRef erased mut (tyInt w64)), l₉) ∷ (lTranscript.mir, l₁₀) ∷ []) (kept _ ∷ kept _ ∷ kept _ ∷ kept _ ∷ kept _ ∷ kept _ ∷ kept _ ∷ kept _ ∷ kept _ ∷ kept _ ∷ kept _ ∷ []) refl $
-        suffices ! _ (ends-at 𝓤 H A f.ended stayed (f.clauses 𝓤 H A at-mem run) W (((κ₀, (κ₁, tt)), (q₀, (q₁, tt)), tt, a, at), tt) z2 r2 (tt, (tt, (tt, (ws1 .1 .1 .1 .0, tt)))) (tt, (tt, (tt, (same1d, tt))))) $ says ! ((cc, cc, cc)) $
-        nothing ! $ move ! (2 ∷ 0 ∷ []) $ join ! $ move ! (2 ∷ 0 ∷ []) $ join ! $ nothing ! $ move ! (2 ∷ 0 ∷ []) $ fjoin ! $ move ! (3 ∷ 0 ∷ []) $ fjoin ! $ move ! (2 ∷ 0 ∷ []) $ fjoin ! $ move ! (2 ∷ 0 ∷ []) $ fjoin ! $ keep ! (1 ∷ 0 ∷ []) $ frame ! $ frame ! $ owned ! mTranscriptAnswer.the-row (Is mTranscriptAnswer.the-row) (LL.makes mTranscriptAnswer.the-type lTranscriptAnswer.the-plain 𝓤 H A) r2 _ i2 $ done !)))))))))))))))))))))))))))))
+        use1 W (raw (Callee-g2 𝓤 H A at-mem run .pre (
+          (
+            tt,
+            tt,
+            tt,
+            (r1, ((ws1 .0), tt)),
+            (
+              z1 ∷ [],
+              (
+                (LL.val mTranscript.the-type lTranscript.the-laws
+                    ((ws1 .0))) ∷ [],
+                tt,
+              ),
+            ),
+          ),
+          tt,
+        ))) (qed W ((‵ ftrue) ∷ []) ∵ nothing ! $ owned ! mTranscript.the-row (Is mTranscript.the-row) (LL.makes
+        mTranscript.the-type lTranscript.the-plain 𝓤 H A) ((ws1 .0)) _ w1a $ fjoin ! $ owned ! u32 (Is u32) (uint-makes 𝓤 H A W w32) (r1) _ i1 $
+        fjoin ! $ move ! (1 ∷ 0 ∷ []) $ join ! $ nothing ! $ move ! (1 ∷ 0 ∷ []) $ frame ! $ done !) $
+        calls-at ! fm (Callee-g2 𝓤 H A at-mem run) known-g2 (
+          (
+            tt,
+            tt,
+            tt,
+            (r1, ((ws1 .0), tt)),
+            (
+              z1 ∷ [],
+              (
+                (LL.val mTranscript.the-type
+                    lTranscript.the-laws ((ws1 .0))) ∷ [],
+                tt,
+              ),
+            ),
+          ),
+          tt,
+        ) (and-then ! (load ! (from ! (stop !)) (look ! 13 refl)) (and-then ! (load ! (from !
+        (stop !)) (look ! 9 refl)) (no-more !))) (λ z2.
+        use1 W (later (some (λ (r2 : TranscriptAnswer). ((‵ ftrue) ⊛ ‵ (mTranscriptAnswer.the-row .own r2 (z2 ∷ []))) ⊛ some (λ (ws : Lasts g2.ended
+        tt (r1, ((ws1 .0), tt))). ‵ (lasts g2.ended tt (r1, ((ws1 .0), tt)) ws) ⊛ raw (g2.clauses 𝓤 H A at-mem run tt (r1, ((ws1 .0), tt))
+        .ensures tt r2 (atExit g2.ended tt (r1, ((ws1 .0), tt)) ws)))))) (id⊢ 𝓤 _) $ await ! tt $ pick ! (λ r2. split ! $ move ! (1 ∷ []) $ pick
+        ! (λ ws2. split ! $ move ! (1 ∷ []) $ heard ! _ (λ e2.
+        drop ! $ split ! $ move ! (1 ∷ []) $ peeks ! mTranscriptAnswer.the-row (Is mTranscriptAnswer.the-row) (shows 𝓤 H A mTranscriptAnswer.the-row)
+        r2 (z2 ∷ []) (λ i2. drop ! $ land ! (from ! (stop !)) (init ! 18 refl (LL.lawful mTranscriptAnswer.the-type lTranscriptAnswer.the-laws 𝓤
+        H A W .typed r2 _ i2 .0)) $
+        tidy W (_ ∷ _ ∷ _ ∷ _ ∷ _ ∷ _ ∷ _ ∷ _ ∷ _ ∷ _ ∷ _ ∷ _ ∷ _ ∷ _ ∷ _ ∷ _ ∷ _ ∷ _ ∷ _ ∷ []) $ drop ! $ tidy W (_ ∷ _ ∷ _ ∷ _ ∷ _ ∷ _ ∷ _ ∷ _ ∷ _
+        ∷ _ ∷ _ ∷ _ ∷ _ ∷ _ ∷ _ ∷ _ ∷ _ ∷ _ ∷ []) $ returns ! (look ! 17 refl) $ move ! (0 ∷ 1 ∷ 3 ∷ 4 ∷ 5 ∷ 6 ∷ 7 ∷ 8 ∷ 9 ∷ 10 ∷ 11 ∷ 12 ∷ 2 ∷
+        13 ∷ 14 ∷ 15 ∷ 16 ∷ 17 ∷ []) $ move ! (6 ∷ []) $ use1 W (dies ((lTranscriptAnswer.mir, l₀) ∷ (lTranscript.mir, l₁) ∷ (
+          sliceTy (tyRef
+              (named 0) imm (tyInt w8)),
+          l₂,
+        ) ∷ (tyInt w64, l₃) ∷ (sliceTy (tyRef (named 1) mut (tyInt w64)), l₄) ∷ (lTranscript.mir, l₅) ∷ (
+          tyInt w32,
+          l₆,
+        ) ∷ (tyRef erased mut (pointee (mTranscript.the-row .written)), l₇) ∷ (tyRef erased mut (tyInt w64), l₈) ∷ (
+          sliceTy (tyRef erased mut
+              (tyInt w64)),
+          l₉,
+        ) ∷ (lTranscript.mir, l₁₀) ∷ []) (‵ ftrue)) die $ free-all ! 6 ((lTranscriptAnswer.mir, l₀) ∷ (lTranscript.mir, l₁) ∷
+        (sliceTy (tyRef (named 0) imm (tyInt w8)), l₂) ∷ (tyInt w64, l₃) ∷ (sliceTy (tyRef (named 1) mut (tyInt w64)), l₄) ∷ (
+          lTranscript.mir,
+          l₅,
+        ) ∷ (tyInt w32, l₆) ∷ (tyRef erased mut (pointee (mTranscript.the-row .written)), l₇) ∷ (tyRef erased mut (tyInt w64), l₈) ∷ (
+          sliceTy
+              (tyRef erased mut (tyInt w64)),
+          l₉,
+        ) ∷ (lTranscript.mir, l₁₀) ∷ []) (kept _ ∷ kept _ ∷ kept _ ∷ kept _ ∷ kept _ ∷ kept _ ∷ kept _ ∷ kept _
+        ∷ kept _ ∷ kept _ ∷ kept _ ∷ []) refl $
+        suffices ! _ (ends-at 𝓤 H A f.ended stayed (f.clauses 𝓤 H A at-mem run) W (((κ₀, (κ₁, tt)), (q₀, (q₁, tt)), tt, a, at), tt) z2 r2 (
+          tt,
+          (
+            tt,
+            (tt, (ws1 .1 .1 .1 .0, tt)),
+          ),
+        ) (tt, (tt, (tt, (same1d, tt))))) $ says ! ((cc, cc, cc)) $
+        nothing ! $ move ! (2 ∷ 0 ∷ []) $ join ! $ move ! (2 ∷ 0 ∷ []) $ join ! $ nothing ! $ move ! (2 ∷ 0 ∷ []) $ fjoin ! $ move ! (3 ∷ 0 ∷ []) $
+        fjoin ! $ move ! (2 ∷ 0 ∷ []) $ fjoin ! $ move ! (2 ∷ 0 ∷ []) $ fjoin ! $ keep ! (1 ∷ 0 ∷ []) $ frame ! $ frame ! $ owned !
+        mTranscriptAnswer.the-row (Is mTranscriptAnswer.the-row) (LL.makes mTranscriptAnswer.the-type lTranscriptAnswer.the-plain 𝓤 H A) r2 _ i2
+        $ done !)))))))))))))))))))))))))))))
 
 module _ {M : Type 1} (𝓤 : URA M) (H : Heap 𝓤) (A : Atoms 𝓤) (W : Given 𝓤 H A) (mem : Memory → SProp 𝓤) (run : Routine → Fun 𝓤) where
-  walks : (C : Calls 𝓤 H) (Λ : Loops 𝓤 H) → FmC 𝓤 H (W .laws) C → Triple 𝓤 (C #g1) (Callee-g1 𝓤 H A mem run) → Triple 𝓤 (C #g2) (Callee-g2 𝓤 H A mem run) → Walks 𝓤 H A f.ended stayed (WpFn 𝓤 H C Λ code.function) (f.clauses 𝓤 H A mem run)
-  walks C Λ fm known-g1 known-g2 = walked 𝓤 H A f.ended stayed (f.clauses 𝓤 H A mem run) (WpFn 𝓤 H C Λ code.function) (λ κs. ((LL.vals mTranscript.the-type lTranscript.the-laws), (slice-vals, ((uint-vals w64), (slice-vals, tt))))) (λ κs. ((LL.tells mTranscript.the-type lTranscript.the-laws), (shr-slice-tells (named 0) (κs .0) u8, ((uint-tells w64), (mut-slice-tells (named 1) (κs .1 .0) u64, tt)))))
-      (λ κs qs bounds a g are. via 𝓤 _ (fst∗ 𝓤 _ (emp 𝓤)) (walk 𝓤 H A W mem run (κs .0) (κs .1 .0) (qs .0) (qs .1 .0) (a .0) (only ((LL.vals mTranscript.the-type lTranscript.the-laws) (a .0))) (a .1 .0) (a .1 .1 .0) (only ((uint-vals w64) (a .1 .1 .0))) (a .1 .1 .1 .0 .ptr .0) (a .1 .1 .1 .0 .ptr .1) (a .1 .1 .1 .0 .name) (a .1 .1 .1 .0 .now) C Λ fm known-g1 known-g2 (are .0) (are .1 .0) (are .1 .1 .0) (are .1 .1 .1 .0 .0 .1)))
+  walks : (C : Calls 𝓤 H) (Λ : Loops 𝓤 H) → FmC 𝓤 H (W .laws) C → Triple 𝓤 (C #g1) (Callee-g1 𝓤 H A mem run) → Triple 𝓤 (C #g2) (Callee-g2 𝓤 H A mem
+      run) → Walks 𝓤 H A f.ended stayed (WpFn 𝓤 H C Λ code.function) (f.clauses 𝓤 H A mem run)
+  walks C Λ fm known-g1 known-g2 = walked 𝓤 H A f.ended stayed (f.clauses 𝓤 H A mem run) (WpFn 𝓤 H C Λ code.function) (λ κs. (
+    (LL.vals
+        mTranscript.the-type lTranscript.the-laws),
+    (slice-vals, ((uint-vals w64), (slice-vals, tt))),
+  )) (λ κs. (
+    (LL.tells mTranscript.the-type
+        lTranscript.the-laws),
+    (shr-slice-tells (named 0) (κs .0) u8, ((uint-tells w64), (mut-slice-tells (named 1) (κs .1 .0) u64, tt))),
+  ))
+      (λ κs qs bounds a g are. via 𝓤 _ (fst∗ 𝓤 _ (emp 𝓤)) (walk 𝓤 H A W mem run (κs .0) (κs .1 .0) (qs .0) (qs .1 .0) (a .0) (only ((LL.vals
+      mTranscript.the-type lTranscript.the-laws) (a .0))) (a .1 .0) (a .1 .1 .0) (only ((uint-vals w64) (a .1 .1 .0))) (a .1 .1 .1 .0 .ptr .0) (a
+      .1 .1 .1 .0 .ptr .1) (a .1 .1 .1 .0 .name) (a .1 .1 .1 .0 .now) C Λ fm known-g1 known-g2 (are .0) (are .1 .0) (are .1 .1 .0) (are .1 .1 .1
+      .0 .0 .1)))
 
-  meets : (𝓣 : Tables 𝓤 H) → Triple 𝓤 (𝓣 .C #g1) (Callee-g1 𝓤 H A mem run) → Triple 𝓤 (𝓣 .C #g2) (Callee-g2 𝓤 H A mem run) → Meets 𝓤 H A f.signature (WpFn 𝓤 H (𝓣 .C) (𝓣 .Λ) code.function) (f.spec 𝓤 H A mem run)
-  meets 𝓣 known-g1 known-g2 = walk-meets 𝓤 H A f.ended stayed W (goes-none 𝓤 H A W 2 (λ _. mTranscript.the-row) yes (λ κs x f. refl), (goes-none-slice 𝓤 H A W 2 (0 ∷ []) tt (plain (λ _. u8)) yes, (goes-none 𝓤 H A W 2 (λ _. u64) yes (λ κs x f. refl), (goes-slice 𝓤 H A W 2 1 tt (plain (λ _. u64)), tt)))) (f.clauses 𝓤 H A mem run)
+  meets : (𝓣 : Tables 𝓤 H) → Triple 𝓤 (𝓣 .C #g1) (Callee-g1 𝓤 H A mem run) → Triple 𝓤 (𝓣 .C #g2) (Callee-g2 𝓤 H A mem run) → Meets 𝓤 H A f.signature
+      (WpFn 𝓤 H (𝓣 .C) (𝓣 .Λ) code.function) (f.spec 𝓤 H A mem run)
+  meets 𝓣 known-g1 known-g2 = walk-meets 𝓤 H A f.ended stayed W (
+    goes-none 𝓤 H A W 2 (λ _. mTranscript.the-row) yes (λ κs x f. refl),
+    (
+      goes-none-slice 𝓤 H A W 2 (0 ∷ []) tt (plain (λ _. u8)) yes,
+      (
+        goes-none 𝓤 H A W 2 (λ _. u64) yes (λ κs x f. refl),
+        (
+          goes-slice 𝓤 H A W 2 1 tt
+              (plain (λ _. u64)),
+          tt,
+        ),
+      ),
+    ),
+  ) (f.clauses 𝓤 H A mem run)
       (WpFn 𝓤 H (𝓣 .C) (𝓣 .Λ) code.function) (WpFn-mono 𝓤 H (W .laws) 𝓣 code.function) (walks (𝓣 .C) (𝓣 .Λ) (fmOf 𝓤 H (W .laws) 𝓣) known-g1 known-g2)
 
 pub challenge-field-vec-spec : {M : Type 1} → stated.statement M

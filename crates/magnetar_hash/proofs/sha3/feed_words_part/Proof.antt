@@ -18,7 +18,8 @@ feed-words-requires : tie.Need-feed-words-requires
 feed-words-requires c κs = search needs
 
 returns : tie.Need-returns
-returns c = part-fed (wordBytes (c .before .before .before .before .before .args .words .now)) (sym (length-words (c .before .before .before .before .before .args .words .now))) (c .before .before .feed-word .ensures) (c .feed-words .ensures)
+returns c = part-fed (wordBytes (c .before .before .before .before .before .args .words .now)) (sym (length-words (c .before .before .before .before
+    .before .args .words .now))) (c .before .before .feed-word .ensures) (c .feed-words .ensures)
 
 pub feed-words-part-spec : {M : Type 1} → statement M
 feed-words-part-spec =

@@ -21,7 +21,12 @@ returns : tie.Need-returns
 unfolding domainAnswer
 returns c =
     let a = c .before .before .before .before .before .before .before .args in
-    rw (sym (c .before .before .before .before .add-up .ensures) ∙ c .before .before .before .if1 .taken, c .finish .ensures, domain-of (parts (a .lens .now) (a .bytes .now)) (c .before .serialize-parts .ensures))
+    rw (
+      sym (c .before .before .before .before .add-up .ensures) ∙ c .before .before .before .if1 .taken,
+      c .finish .ensures,
+      domain-of (parts (a
+          .lens .now) (a .bytes .now)) (c .before .serialize-parts .ensures),
+    )
 
 returns-2 : tie.Need-returns-2
 unfolding domainAnswer

@@ -40,8 +40,11 @@ loop-less c = search needs
 loop-again : tie.Need-loop-again Inv-loop μ-loop Inv-loop2 μ-loop2
 loop-again c =
     let l = c .before .before .before .before .loop in
-    let a = c .before .before .before .before .before .before .args in
-    (search needs, left-word (a .b .now) (l .at) (λ i. c .before .before .before .before .before .shared-slice-known .given i .fits) (search needs) (c .before .word-at .ensures) (l .inv .1) (c .feed-word .ensures))
+    let a = c .before .before .before .before .before .before .args in (
+      search needs,
+      left-word (a .b .now) (l .at) (λ i. c .before .before .before .before .before .shared-slice-known .given i .fits) (search needs)
+          (c .before .word-at .ensures) (l .inv .1) (c .feed-word .ensures),
+    )
 
 loop2-holds : tie.Need-loop2-holds Inv-loop μ-loop Inv-loop2 μ-loop2
 loop2-holds c = (search needs, left-all _ (c .before .loop .inv .1 .ready))

@@ -26,7 +26,12 @@ returns : tie.Need-returns
 unfolding absorbed ascii
 returns c =
     let a = c .before .before .before .before .before .before .before .before .before .args in
-    rw (c .renewed .ensures, c .before .finish .ensures, four-parts (a .t .state) (ascii "absorb") (a .label .now) (a .bytes .now) (c .before .before .before .before .feed-head .ensures) (c .before .before .feed-part .ensures))
+    rw (
+      c .renewed .ensures,
+      c .before .finish .ensures,
+      four-parts (a .t .state) (ascii "absorb") (a .label .now) (a .bytes .now) (c .before .before
+          .before .before .feed-head .ensures) (c .before .before .feed-part .ensures),
+    )
 
 pub absorb-bytes-spec : {M : Type 1} → statement M
 absorb-bytes-spec =

@@ -42,7 +42,12 @@ returns c =
     let ps = parts (a .lens .now) (a .public .now) in
     let e : length (a .lens .now) + 2 ≡ length (d ∷ a .protocol .now ∷ ps) = omega (arith, length-parts (a .lens .now) (a .public .now)) in
     let f = parts-join (a .protocol .now ∷ []) ps (c .before .before .before .feed-part2 .ensures) (c .before .feed-parts .ensures) in
-    rw (c .finish .ensures, domain-of (d ∷ a .protocol .now ∷ ps) (serialized (d ∷ a .protocol .now ∷ ps) e (c .before .before .before .before .before .before .before .before .feed-word .ensures) (parts-join (d ∷ []) (a .protocol .now ∷ ps) (c .before .before .before .before .before .feed-part .ensures) f)))
+    rw (
+      c .finish .ensures,
+      domain-of (d ∷ a .protocol .now ∷ ps) (serialized (d ∷ a .protocol .now ∷ ps) e (c .before .before .before .before
+          .before .before .before .before .feed-word .ensures) (parts-join (d ∷ []) (a .protocol .now ∷ ps) (c .before .before .before .before .before
+          .feed-part .ensures) f)),
+    )
 
 pub begin-spec : {M : Type 1} → statement M
 begin-spec =

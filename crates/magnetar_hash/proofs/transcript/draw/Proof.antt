@@ -26,7 +26,12 @@ returns : tie.Need-returns
 unfolding drawn ascii
 returns c =
     let a = c .before .before .before .before .before .before .before .before .args in
-    rw (c .wrapping-add-u64 .ensures, c .before .finish .ensures, four-parts (a .t .state) (ascii "squeeze") (a .label .now) (leBytes 8 (a .t .«squeeze_ctr»)) (c .before .before .before .before .feed-head .ensures) (c .before .before .feed-word-part .ensures))
+    rw (
+      c .wrapping-add-u64 .ensures,
+      c .before .finish .ensures,
+      four-parts (a .t .state) (ascii "squeeze") (a .label .now) (leBytes 8 (a .t
+          .«squeeze_ctr»)) (c .before .before .before .before .feed-head .ensures) (c .before .before .feed-word-part .ensures),
+    )
 
 pub draw-spec : {M : Type 1} → statement M
 draw-spec =

@@ -56,8 +56,12 @@ loop-less : tie.Need-loop-less Inv-loop μ-loop
 loop-less c = search needs
 
 loop-again : tie.Need-loop-again Inv-loop μ-loop
-loop-again c =
-    (search needs, refl, draws-more (c .before .draw .result) (c .before .before .before .loop .inv .2) (omega arith) (c .before .draw .ensures) (ap (λ e. e .lo) (c .element .ensures)) (ap (λ e. e .hi) (c .element .ensures)))
+loop-again c = (
+  search needs,
+  refl,
+  draws-more (c .before .draw .result) (c .before .before .before .loop .inv .2) (omega arith) (c .before .draw .ensures) (ap
+      (λ e. e .lo) (c .element .ensures)) (ap (λ e. e .hi) (c .element .ensures)),
+)
 
 same-length : tie.Need-same-length Inv-loop μ-loop
 same-length c = draws-length (c .before .loop .inv .2) (omega arith)

@@ -39,7 +39,8 @@ returns-2 : tie.Need-returns-2
 returns-2 c =
     let k = c .before .before .before .before in
     let x = k .before .before .before .before .before .args in
-    let e : _≡_ {A = ℕ} 0 (buildRefusal (x .w) (now (x .lens)) (now (x .offsets))) = sym (c .before .before .before .before .if1 .left) ∙ build-is _ _ _ _ _ (k .before .before .refusal .ensures) (k .before .note .ensures) in
+    let e : _≡_ {A = ℕ} 0 (buildRefusal (x .w) (now (x .lens)) (now (x .offsets))) = sym (c .before .before .before .before .if1 .left) ∙ build-is _
+    _ _ _ _ (k .before .before .refusal .ensures) (k .before .note .ensures) in
     (e, c .before .before .fill .ensures ∙ done _ _ e refl)
 
 pub build-spec : {M : Type 1} → statement M

@@ -11,7 +11,8 @@ use Rattle.magnetar_layout.proofs.layout.segment.Statement.{statement}
 use Rattle.magnetar_layout.proofs.layout.segment.Tie as tie
 
 -- the segment lies within the vector
-inside : (c : tie.After-place) → Inside (c .place .result) (getD (c .before .before .before .before .before .before .before .args .lens .now) (c .before .before .before .before .before .before .before .args .i) 0) (c .before .before .before .before .before .before .before .args .w)
+inside : (c : tie.After-place) → Inside (c .place .result) (getD (c .before .before .before .before .before .before .before .args .lens .now) (c
+    .before .before .before .before .before .before .before .args .i) 0) (c .before .before .before .before .before .before .before .args .w)
 inside c =
     let o = sound _ _ (sym (c .before .before .before .before .refusal .ensures) ∙ c .before .before .before .if1 .left) in
     record { small = o .small; ends = rw (c .place .ensures) (offset-within _ _ _ o (c .before .if3 .taken)) }
@@ -70,7 +71,8 @@ returns-3 c =
     let o = c .before .before .place .result in
     let n = getD (x .lens .now) (x .i) 0 in
     let d : 2 * o + 2 * n - 2 * o ≡ 2 * n = omega arith in
-    rw (d, c .before .before .place .ensures) (part-is _ _ _ _ _ (c .before .before .before .before .before .before .refusal .ensures) (c .before .before .before .before .before .if1 .left) (omega arith) (omega arith))
+    rw (d, c .before .before .place .ensures) (part-is _ _ _ _ _ (c .before .before .before .before .before .before .refusal .ensures) (c .before
+    .before .before .before .before .if1 .left) (omega arith) (omega arith))
 
 slice-aggregate-result-3 : tie.Need-slice-aggregate-result-3
 slice-aggregate-result-3 c = search needs

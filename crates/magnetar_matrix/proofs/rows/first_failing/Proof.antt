@@ -54,7 +54,13 @@ returns-2 c =
     let x = (c .before .before .before .before .before .before .before .before .before .before .args) in
     let l = (c .before .before .before .before .before .before .before .loop) in
     first-is (holdsAt (elements (now (x .s))) (x .n)) (x .n) (l .row) (omega arith) (l .inv .1)
-    (rw (← c .before .before .before .before .before .get .ensures, ← c .before .before .before .before .get2 .ensures, ← c .before .before .get3 .ensures, ← c .before .before .before .mul .ensures) (sym (c .before .equal .ensures) ∙ not-true _ (c .if2 .taken)))
+    (rw (
+      ← c .before .before .before .before .before .get .ensures,
+      ← c .before .before .before .before .get2 .ensures,
+      ← c .before .before .get3
+          .ensures,
+      ← c .before .before .before .mul .ensures,
+    ) (sym (c .before .equal .ensures) ∙ not-true _ (c .if2 .taken)))
 
 add-row : tie.Need-add-row Inv-loop μ-loop
 add-row c = search needs
@@ -69,7 +75,13 @@ loop-again c =
     let l = (c .before .before .before .before .before .before .before .loop) in (
       omega arith,
       below-more (holdsAt (elements (now (x .s))) (x .n)) (l .row) (l .inv .1)
-          (rw (← c .before .before .before .before .before .get .ensures, ← c .before .before .before .before .get2 .ensures, ← c .before .before .get3 .ensures, ← c .before .before .before .mul .ensures) (sym (c .before .equal .ensures) ∙ not-false _ (c .if2 .left))),
+          (rw (
+            ← c .before .before .before .before .before .get .ensures,
+            ← c .before .before .before .before .get2 .ensures,
+            ← c .before .before
+                .get3 .ensures,
+            ← c .before .before .before .mul .ensures,
+          ) (sym (c .before .equal .ensures) ∙ not-false _ (c .if2 .left))),
     )
 
 returns-3 : tie.Need-returns-3 Inv-loop μ-loop

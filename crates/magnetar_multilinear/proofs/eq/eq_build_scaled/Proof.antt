@@ -54,8 +54,11 @@ returns-4 c =
     let w = c .before .before .fill .last .1 .0 in
     let e = eq-none (now (x .point)) (now (x .out)) (omega arith) (omega arith) (omega arith) in
     let size : length w ≡ need = c .before .before .fill .kept .1 .0 ∙ length-take-le need (now (x .out)) (omega arith) in
-    let front : words (elements w) ≡ w = words-elements w (drop need (now (x .out))) (omega arith) (λ i. omega (arith, c .slice-known2 .given i)) in
-    (rw e, rw e (ap₂ (λ (a b : List ℕ). a ++ b) (sym front ∙ ap words (c .before .before .fill .ensures)) (ap (λ (k : ℕ). drop k (now (x .out))) (c .before .before .before .before .before .table-words .ensures))))
+    let front : words (elements w) ≡ w = words-elements w (drop need (now (x .out))) (omega arith) (λ i. omega (arith, c .slice-known2 .given i)) in (
+      rw e,
+      rw e (ap₂ (λ (a b : List ℕ). a ++ b) (sym front ∙ ap words (c .before .before .fill .ensures)) (ap (λ (k : ℕ). drop k (now (x .out))) (c
+          .before .before .before .before .before .table-words .ensures))),
+    )
 
 pub eq-build-scaled-spec : {M : Type 1} → statement M
 eq-build-scaled-spec =

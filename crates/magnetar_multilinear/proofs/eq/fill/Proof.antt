@@ -32,7 +32,8 @@ enough c = let l = c .before .loop in room _ (l .m) (l .j) (c .loop-test .taken)
 first : (c : tie.After-put Inv-loop μ-loop) → getD (elements (c .put .last .0)) 0 0 ≡ value (c .before .before .before .before .args .c)
 first c =
     let x = c .before .before .before .before .args in
-    ap (λ (l : List ℕ). getD l 0 0) (ap elements (c .put .ensures) ∙ elements-stored _ _ _) ∙ getD-set-same (elements (now (x .out))) 0 (value (x .c)) 0 (rw elements-length (omega (arith, pow-pos (x .n))))
+    ap (λ (l : List ℕ). getD l 0 0) (ap elements (c .put .ensures) ∙ elements-stored _ _ _) ∙ getD-set-same (elements (now (x .out))) 0 (value (x
+    .c)) 0 (rw elements-length (omega (arith, pow-pos (x .n))))
 
 put-requires : tie.Need-put-requires Inv-loop μ-loop
 put-requires c κs = search needs
@@ -40,8 +41,13 @@ put-requires c κs = search needs
 loop-holds : tie.Need-loop-holds Inv-loop μ-loop
 loop-holds c =
     let x = c .before .before .before .before .before .before .args in
-    let k = first (c .before .before) in
-    (search needs, search needs, rw k (filled-start _ _ _ (elements (now (x .out))) _ (digits-lt {q = x .c .hi} {m = 2 ^ 64} {r = x .c .lo} {c = 2 ^ 64} (search needs) (search needs)) (ap elements (c .before .before .put .ensures) ∙ elements-stored _ _ _) (rw elements-length (omega arith)) (rw elements-length (omega (arith, pow-pos (x .n))))))
+    let k = first (c .before .before) in (
+      search needs,
+      search needs,
+      rw k (filled-start _ _ _ (elements (now (x .out))) _ (digits-lt {q = x .c .hi} {m = 2 ^ 64} {r = x .c .lo} {c = 2 ^
+          64} (search needs) (search needs)) (ap elements (c .before .before .put .ensures) ∙ elements-stored _ _ _) (rw elements-length (omega arith))
+          (rw elements-length (omega (arith, pow-pos (x .n))))),
+    )
 
 sub-j : tie.Need-sub-j Inv-loop μ-loop
 sub-j c = search needs
@@ -62,7 +68,8 @@ loop-again : tie.Need-loop-again Inv-loop μ-loop
 loop-again c = (
   search needs,
   search needs,
-  filled-more _ _ _ _ _ _ _ (rw elements-length (omega arith)) (omega arith) (omega arith) (c .before .before .before .before .before .before .loop .inv .2) (rw (← c .before .before .before .get .ensures) (c .before .before .expand .ensures)),
+  filled-more _ _ _ _ _ _ _ (rw elements-length (omega arith)) (omega arith) (omega arith) (c .before .before .before .before .before .before .loop
+      .inv .2) (rw (← c .before .before .before .get .ensures) (c .before .before .expand .ensures)),
 )
 
 same-length : tie.Need-same-length Inv-loop μ-loop
@@ -71,7 +78,8 @@ same-length c = search needs
 returns : tie.Need-returns Inv-loop μ-loop
 returns c =
     let x = c .before .before .before .before .before .before .before .before .args in
-    filled-end _ _ _ _ _ _ (rw elements-length (omega arith)) (c .loop-test .left) (c .before .loop .inv .2) ∙ ap (λ (n : ℕ). scaledTable n (elements (now (x .point)))) (first (c .before .before .before .before))
+    filled-end _ _ _ _ _ _ (rw elements-length (omega arith)) (c .loop-test .left) (c .before .loop .inv .2) ∙ ap (λ (n : ℕ). scaledTable n (elements
+    (now (x .point)))) (first (c .before .before .before .before))
 
 pub fill-spec : {M : Type 1} → statement M
 fill-spec =

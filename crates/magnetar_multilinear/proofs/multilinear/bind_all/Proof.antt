@@ -36,8 +36,14 @@ loop-less c = search needs
 loop-again : tie.Need-loop-again Inv-loop μ-loop
 loop-again c =
     let b = c .before .before in
-    let l = b .before .before .before .before .loop in
-    (omega arith, omega arith, search needs, (λ i. omega (arith, c .slice-known2 .given i)), evaluating-more _ _ _ _ _ _ (l .inv .4) (omega arith) (rw elements-length (omega arith)) (rw elements-length (omega arith)) (b .bind .ensures ∙ rw (b .before .get .ensures)))
+    let l = b .before .before .before .before .loop in (
+      omega arith,
+      omega arith,
+      search needs,
+      (λ i. omega (arith, c .slice-known2 .given i)),
+      evaluating-more _ _ _ _ _ _ (l .inv .4) (omega arith)
+          (rw elements-length (omega arith)) (rw elements-length (omega arith)) (b .bind .ensures ∙ rw (b .before .get .ensures)),
+    )
 
 same-length : tie.Need-same-length Inv-loop μ-loop
 same-length c = search needs

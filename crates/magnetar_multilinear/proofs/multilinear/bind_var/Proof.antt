@@ -42,7 +42,12 @@ returns-2 c =
 bind-requires : tie.Need-bind-requires
 bind-requires c κs =
     let w = c .before .before .before in
-    power-fits _ (w .before .log2 .result) _ (omega (arith, w .before .log2 .ensures, log₂-half (length (now (w .before .before .before .args .table))) (search needs))) (omega arith) (omega (arith, w .table-words .ensures))
+    power-fits _ (w .before .log2 .result) _ (omega (
+      arith,
+      w .before .log2 .ensures,
+      log₂-half (length (now (w .before .before .before .args
+          .table))) (search needs),
+    )) (omega arith) (omega (arith, w .table-words .ensures))
 
 same-length : tie.Need-same-length
 same-length c = search needs
@@ -57,7 +62,9 @@ returns-3 c =
     let e = bind-none t (x .var) s (omega (arith, w .before .log2 .ensures)) in
     let h : 2 * (length t / 4) ≡ length t / 2 = quarter (length t) (log₂ (length t / 2)) (x .var) (omega (arith, w .before .log2 .ensures)) s in
     let all : take (2 * (length t / 4)) (elements t) ≡ elements t = take-all (2 * (length t / 4)) (elements t) (rw elements-length (omega arith)) in
-    let j = rejoin t (b .bind .last .0) (bindVar (x .var) (value (x .r)) (take (2 * (length t / 4)) (elements t))) (length t / 4) (omega arith) (b .bind .kept .0) (λ i. omega (arith, w .before .before .slice-known .given i)) (λ i. omega (arith, c .slice-known2 .given i)) (b .bind .ensures) in
+    let j = rejoin t (b .bind .last .0) (bindVar (x .var) (value (x .r)) (take (2 * (length t / 4)) (elements t))) (length t / 4) (omega arith) (b
+    .bind .kept .0) (λ i. omega (arith, w .before .before .slice-known .given i)) (λ i. omega (arith, c .slice-known2 .given i)) (b .bind
+    .ensures) in
     (rw e, rw e (rw (all, h) at j))
 
 pub bind-var-spec : {M : Type 1} → statement M

@@ -29,7 +29,12 @@ same-length c = search needs
 returns-2 : tie.Need-returns-2
 returns-2 c =
     let x = c .before .before .before .before .before .before .before .before .before .before .args in
-    rw (c .before .before .add-word .ensures, c .before .before .before .shifted .ensures, c .before .before .before .before .bit-at .ensures .0, flip-bit (x .w) (now (x .login)) (x .t) (x .c) (x .lo) (omega arith) (omega arith) (omega arith))
+    rw (
+      c .before .before .add-word .ensures,
+      c .before .before .before .shifted .ensures,
+      c .before .before .before .before .bit-at .ensures .0,
+      flip-bit (x .w) (now (x .login)) (x .t) (x .c) (x .lo) (omega arith) (omega arith) (omega arith),
+    )
 
 shifted-requires-2 : tie.Need-shifted-requires-2
 shifted-requires-2 c κs = search needs

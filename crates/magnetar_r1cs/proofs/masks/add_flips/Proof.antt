@@ -53,8 +53,15 @@ loop-again : tie.Need-loop-again Inv-loop μ-loop
 loop-again c =
     let s = c .before .before .before .before .before .before .before .before .before .before .before .before .before .before .before in
     let l = c .before .before .before .before .before .before .before .before .loop in
-    let x = s .args in
-    (search needs, rw (c .before .before .add-flip .ensures, flip-entry (x .w) (now (x .login)) (x .t) (getD (now (x .row)) (l .i) 0) (getD (now (x .col)) (l .i) 0) (getD (now (x .lo)) (l .i) 0) (getD (now (x .hi)) (l .i) 0)) (walked-more _ _ _ _ _ (l .inv .1) _ (entry-at (now (x .row)) (now (x .col)) (now (x .lo)) (now (x .hi)) (l .i) (s .pre .0) (omega arith))))
+    let x = s .args in (
+      search needs,
+      rw (
+        c .before .before .add-flip .ensures,
+        flip-entry (x .w) (now (x .login)) (x .t) (getD (now (x .row)) (l .i) 0) (getD (now (x
+            .col)) (l .i) 0) (getD (now (x .lo)) (l .i) 0) (getD (now (x .hi)) (l .i) 0),
+      ) (walked-more _ _ _ _ _ (l .inv .1) _ (entry-at (now (x .row))
+          (now (x .col)) (now (x .lo)) (now (x .hi)) (l .i) (s .pre .0) (omega arith))),
+    )
 
 same-length : tie.Need-same-length Inv-loop μ-loop
 same-length c = c .before .loop .inv .0

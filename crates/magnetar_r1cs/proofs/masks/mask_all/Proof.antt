@@ -24,7 +24,8 @@ abbrev μ-loop : tie.MeasureT-loop
 
 -- the block of the output
 block : (c : tie.In-loop Inv-loop μ-loop) → let x = c .before .before .before .before .before .before .before .before .args in Block (length (c .before .loop .out)) (c .before .loop .low) (x .m)
-block c = let s = c .before .before .before .before .before .before .before .before in let l = c .before .loop in block-of _ (s .args .d) (s .args .m) (l .low) (l .inv .0 ∙ s .pre .1 .7) (s .pre .1 .4) (omega (arith, s .pre .1 .5)) (c .loop-test .taken)
+block c = let s = c .before .before .before .before .before .before .before .before in let l = c .before .loop in block-of _ (s .args .d) (s .args
+    .m) (l .low) (l .inv .0 ∙ s .pre .1 .7) (s .pre .1 .4) (omega (arith, s .pre .1 .5)) (c .loop-test .taken)
 
 loop-holds : tie.Need-loop-holds Inv-loop μ-loop
 loop-holds c = (refl, search needs, blocks-start _ (now (c .before .before .before .before .before .before .args .out)) (c .before .before .before .before .before .before .args .m))
@@ -70,7 +71,8 @@ loop-again c =
     let f = flipBlock (x .w) (now (x .packed)) (entriesOf (now (x .row)) (now (x .col)) (now (x .lo)) (now (x .hi))) (x .d) (x .n) in (
       same-len-mid (l .low * x .m) (l .low * x .m + x .m - l .low * x .m) (l .out) t k ∙ l .inv .0,
       omega arith,
-      blocks-more (f (x .m)) (l .out) t (l .low) (x .m) (p .ends) (l .inv .2) (mid-length (l .out) t (l .low * x .m) (x .m) (p .ends) k) (rows-of f (l .out) t (l .low * x .m) (x .m) (l .low) (p .ends) (r .ensures)),
+      blocks-more (f (x .m)) (l .out) t (l .low) (x .m) (p .ends) (l .inv .2) (mid-length (l .out) t (l .low * x .m) (x .m) (p .ends) k) (rows-of f
+          (l .out) t (l .low * x .m) (x .m) (l .low) (p .ends) (r .ensures)),
     )
 
 same-length : tie.Need-same-length Inv-loop μ-loop

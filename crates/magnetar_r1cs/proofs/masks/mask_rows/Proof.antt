@@ -24,11 +24,16 @@ abbrev μ-loop : tie.MeasureT-loop
 μ-loop row col lo hi packed q w d n low out₀ k t₀ out t = n - t
 
 -- the login, and its words
-below : (c : tie.In-loop Inv-loop μ-loop) → let x = c .before .before .before .before .before .before .before .before .before .before .before .before .before .args in c .before .loop .t * x .d + x .low < x .q
-below c = let s = c .before .before .before .before .before .before .before .before .before .before .before .before .before in login-below (c .before .loop .t) (s .args .d) (s .args .low) (s .args .n) (s .args .q) (c .loop-test .taken) (s .pre .1 .4) (s .pre .1 .3)
+below : (c : tie.In-loop Inv-loop μ-loop) → let x = c .before .before .before .before .before .before .before .before .before .before .before .before
+    .before .args in c .before .loop .t * x .d + x .low < x .q
+below c = let s = c .before .before .before .before .before .before .before .before .before .before .before .before .before in login-below (c .before
+    .loop .t) (s .args .d) (s .args .low) (s .args .n) (s .args .q) (c .loop-test .taken) (s .pre .1 .4) (s .pre .1 .3)
 
-words-of : (c : tie.In-loop Inv-loop μ-loop) → let x = c .before .before .before .before .before .before .before .before .before .before .before .before .before .args in Part (length (now (x .packed))) (c .before .before .before .before .before .before .login-words .result) (c .before .loop .t * x .d + x .low) (x .q)
-words-of c = let s = c .before .before .before .before .before .before .before .before .before .before .before .before .before in let l = c .before .loop in part-of (s .args .w) _ _ (l .t * s .args .d + s .args .low) _ (s .pre .1 .1) (l .inv .3) (l .inv .2) (s .pre .1 .5) (below c)
+words-of : (c : tie.In-loop Inv-loop μ-loop) → let x = c .before .before .before .before .before .before .before .before .before .before .before
+    .before .before .args in Part (length (now (x .packed))) (c .before .before .before .before .before .before .login-words .result) (c .before
+    .loop .t * x .d + x .low) (x .q)
+words-of c = let s = c .before .before .before .before .before .before .before .before .before .before .before .before .before in let l = c .before
+    .loop in part-of (s .args .w) _ _ (l .t * s .args .d + s .args .low) _ (s .pre .1 .1) (l .inv .3) (l .inv .2) (s .pre .1 .5) (below c)
 
 login-words-requires : tie.Need-login-words-requires Inv-loop μ-loop
 login-words-requires c κs = search needs
@@ -40,8 +45,14 @@ loop-holds : tie.Need-loop-holds Inv-loop μ-loop
 loop-holds c =
     let s = c .before .before .before .before .before .before .before .before .before .before .before in
     let r = c .before .before .clear in
-    let e = r .ensures ∙ ap (λ (n : ℕ). replicate n 0) (sym (r .kept .0)) in
-    (refl, search needs, c .before .before .before .before .login-words .ensures, rw (c .before .before .before .before .login-words .ensures) (words-most _ (s .pre .1 .0)), e ∙ rows-start _ _ _ _ _ (length (r .last .0)))
+    let e = r .ensures ∙ ap (λ (n : ℕ). replicate n 0) (sym (r .kept .0)) in (
+      refl,
+      search needs,
+      c .before .before .before .before .login-words .ensures,
+      rw (c .before .before .before .before .login-words .ensures)
+          (words-most _ (s .pre .1 .0)),
+      e ∙ rows-start _ _ _ _ _ (length (r .last .0)),
+    )
 
 mul-u : tie.Need-mul-u Inv-loop μ-loop
 mul-u c = omega (arith, below c, c .before .before .before .before .before .before .before .before .before .before .before .before .before .pre .1 .1)
@@ -81,8 +92,14 @@ loop-again c =
     let s = c .before .before .before .before .before .before .before .before .before .before .before .before .before .before .before .before .before .before in
     let x = s .args in
     let l = c .before .before .before .before .before .before .loop in
-    let r = c .before .before .add-flips in
-    (r .kept .1 .1 .1 .1 .1 .1 .1 .0 ∙ l .inv .0, omega arith, l .inv .2, l .inv .3, rows-more (x .w) (now (x .packed)) (entriesOf (now (x .row)) (now (x .col)) (now (x .lo)) (now (x .hi))) (x .d) (x .low) _ (l .t) _ (l .out) _ (l .inv .2) (l .inv .4) (r .ensures))
+    let r = c .before .before .add-flips in (
+      r .kept .1 .1 .1 .1 .1 .1 .1 .0 ∙ l .inv .0,
+      omega arith,
+      l .inv .2,
+      l .inv .3,
+      rows-more (x .w) (now (x .packed)) (entriesOf (now (x .row))
+          (now (x .col)) (now (x .lo)) (now (x .hi))) (x .d) (x .low) _ (l .t) _ (l .out) _ (l .inv .2) (l .inv .4) (r .ensures),
+    )
 
 same-length : tie.Need-same-length Inv-loop μ-loop
 same-length c = c .before .loop .inv .0 ∙ c .before .before .before .before .clear .kept .0

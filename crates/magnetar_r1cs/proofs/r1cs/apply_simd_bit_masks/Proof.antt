@@ -58,19 +58,25 @@ fits c =
     record { bits = not-false _ (k .0); most = h; powers = powers-of (s .args .q) (s .args .v) (ok (c .before .before .before .before .before .before) .logins) h (ltb-false _ _ (k .1 .1 .0)) }
 
 -- the two powers
-low-small : (c : tie.Else2) → c .before .before .before .before .before .log2 .result - c .before .before .before .before .before .before .before .before .before .before .before .before .before .before .args .v < 64
+low-small : (c : tie.Else2) → c .before .before .before .before .before .log2 .result - c .before .before .before .before .before .before .before
+    .before .before .before .before .before .before .before .args .v < 64
 low-small c = omega (arith, c .before .before .before .before .before .log2 .ensures, fits c .powers .small)
 
-high-is : (c : tie.After-power-of-two2) → c .power-of-two2 .result ≡ 2 ^ c .before .before .before .before .before .before .before .before .before .before .before .before .before .before .before .before .args .v
+high-is : (c : tie.After-power-of-two2) → c .power-of-two2 .result ≡ 2 ^ c .before .before .before .before .before .before .before .before .before
+    .before .before .before .before .before .before .before .args .v
 high-is c = c .power-of-two2 .ensures ∙ power-is _ (omega (arith, fits (c .before .before) .most, fits (c .before .before) .powers .small))
 
-low-is : (c : tie.After-power-of-two2) → let x = c .before .before .before .before .before .before .before .before .before .before .before .before .before .before .before .before .args in c .before .power-of-two .result ≡ 2 ^ (log₂ (x .q) - x .v)
-low-is c = c .before .power-of-two .ensures ∙ power-is _ (low-small (c .before .before)) ∙ ap (λ (k : ℕ). 2 ^ (k - c .before .before .before .before .before .before .before .before .before .before .before .before .before .before .before .before .args .v)) (c .before .before .before .before .before .before .before .log2 .ensures)
+low-is : (c : tie.After-power-of-two2) → let x = c .before .before .before .before .before .before .before .before .before .before .before .before
+    .before .before .before .before .args in c .before .power-of-two .result ≡ 2 ^ (log₂ (x .q) - x .v)
+low-is c = c .before .power-of-two .ensures ∙ power-is _ (low-small (c .before .before)) ∙ ap (λ (k : ℕ). 2 ^ (k - c .before .before .before .before
+    .before .before .before .before .before .before .before .before .before .before .before .before .args .v)) (c .before .before .before .before
+    .before .before .before .log2 .ensures)
 
 low-most : (c : tie.After-power-of-two2) → c .before .power-of-two .result ≤ 4096
 low-most c = rw (low-is c) (fits (c .before .before) .powers .lows)
 
-all-logins : (c : tie.After-power-of-two2) → c .power-of-two2 .result * c .before .power-of-two .result ≡ c .before .before .before .before .before .before .before .before .before .before .before .before .before .before .before .before .args .q
+all-logins : (c : tie.After-power-of-two2) → c .power-of-two2 .result * c .before .power-of-two .result ≡ c .before .before .before .before .before
+    .before .before .before .before .before .before .before .before .before .before .before .args .q
 all-logins c = rw (low-is c, high-is c) (fits (c .before .before) .powers .all)
 
 matrix-refusal-requires : tie.Need-matrix-refusal-requires
@@ -102,7 +108,8 @@ returns-2 : tie.Need-returns-2
 unfolding masksRefusal
 returns-2 c =
     let s = c .before .before .before .before .before .before .before .before .before .before .before .before .before .before in
-    let e = noted-late (first s) (second s ++ third s) _ _ (c .before .before .before .before .before .before .before .matrix-refusal .ensures) (c .before .before .before .before .before .before .if1 .left) (noted-front (second s) (third s) _ (late (c .before)) (c .if2 .taken)) in
+    let e = noted-late (first s) (second s ++ third s) _ _ (c .before .before .before .before .before .before .before .matrix-refusal .ensures) (c
+    .before .before .before .before .before .before .if1 .left) (noted-front (second s) (third s) _ (late (c .before)) (c .if2 .taken)) in
     (e, turned _ _ e (c .if2 .taken))
 
 sub-power-of-two : tie.Need-sub-power-of-two
@@ -115,7 +122,15 @@ power-of-two-requires-2 : tie.Need-power-of-two-requires-2
 power-of-two-requires-2 c κs = search needs
 
 mul-end : tie.Need-mul-end
-mul-end c = omega (arith, product-fits (c .before .power-of-two .result) (c .before .before .before .before .before .before .before .before .before .before .before .before .before .before .before .before .args .rows) (low-most c) (omega (arith, ok (c .before .before .before .before .before .before .before .before) .rows-size .high)))
+mul-end c = omega (
+  arith,
+  product-fits (c .before .power-of-two .result) (c .before .before .before .before .before .before .before .before .before
+      .before .before .before .before .before .before .before .args .rows) (low-most c) (omega (
+        arith,
+        ok (c .before .before .before .before .before
+            .before .before .before) .rows-size .high,
+      )),
+)
 
 returns-3 : tie.Need-returns-3
 unfolding masksRefusal
@@ -123,7 +138,10 @@ returns-3 c =
     let s = c .before .before .before .before .before .before .before .before .before .before .before .before .before .before .before .before .before in
     let x = s .args in
     let t : length (now (x .out)) < maskCount (mat s) (x .q) (x .v) = rw (← low-is (c .before)) (c .if3 .taken) in
-    let e : _≡_ {A = ℕ} 15 (noted 0 (first s ++ second s ++ third s)) = noted-late (first s) (second s ++ third s) _ _ (c .before .before .before .before .before .before .before .before .before .before .matrix-refusal .ensures) (c .before .before .before .before .before .before .before .before .before .if1 .left) (noted-late (second s) (third s) _ _ (late (c .before .before .before .before)) (c .before .before .before .if2 .left) (room-short (maskCount (mat s) (x .q) (x .v)) (now (x .out)) t)) in
+    let e : _≡_ {A = ℕ} 15 (noted 0 (first s ++ second s ++ third s)) = noted-late (first s) (second s ++ third s) _ _ (c .before .before .before
+    .before .before .before .before .before .before .before .matrix-refusal .ensures) (c .before .before .before .before .before .before .before
+    .before .before .if1 .left) (noted-late (second s) (third s) _ _ (late (c .before .before .before .before)) (c .before .before .before .if2
+    .left) (room-short (maskCount (mat s) (x .q) (x .v)) (now (x .out)) t)) in
     (e, turned {n = 15} _ _ e (λ h. omega (arith, h)))
 
 slice-relend-prefix-mask-all : tie.Need-slice-relend-prefix-mask-all
@@ -135,8 +153,20 @@ slice-aggregate-mask-all c = sym (length-take-le _ _ (omega arith))
 mask-all-requires : tie.Need-mask-all-requires
 mask-all-requires c κs =
     let o = ok (c .before .before .before .before .before .before .before .before .before .before) in
-    let p = c .before .before in
-    (o .entries .equal, (o .half, o .logins .high, rw (high-is p) (fits (c .before .before .before .before) .powers .logins), all-logins p, low-most p, o .rows-size .high, o .packed, length-take-le _ _ (omega arith)))
+    let p = c .before .before in (
+      o .entries .equal,
+      (
+        o .half,
+        o .logins .high,
+        rw (high-is p) (fits (c .before .before .before .before) .powers .logins),
+        all-logins p,
+        low-most
+            p,
+        o .rows-size .high,
+        o .packed,
+        length-take-le _ _ (omega arith),
+      ),
+    )
 
 same-length : tie.Need-same-length
 same-length c = search needs
@@ -148,8 +178,14 @@ returns-4 c =
     let x = s .args in
     let k = c .before .before .before .before in
     let t : maskCount (mat s) (x .q) (x .v) ≤ length (now (x .out)) = rw (← low-is (k .before)) (k .if3 .left) in
-    let e : _≡_ {A = ℕ} 0 (noted 0 (first s ++ second s ++ third s)) = noted-late (first s) (second s ++ third s) _ _ (c .before .before .before .before .before .before .before .before .before .before .before .before .before .before .matrix-refusal .ensures) (c .before .before .before .before .before .before .before .before .before .before .before .before .before .if1 .left) (noted-late (second s) (third s) _ _ (late (c .before .before .before .before .before .before .before .before)) (c .before .before .before .before .before .before .before .if2 .left) (room-enough (maskCount (mat s) (x .q) (x .v)) (now (x .out)) t)) in
-    let g = masks-in-front (mat s) (now (x .packed)) (now (x .out)) _ (x .q) (x .w) (x .v) _ _ (low-is (k .before)) (high-is (k .before)) (fits (c .before .before .before .before .before .before .before) .powers) (fits (c .before .before .before .before .before .before .before) .bits) (c .before .before .mask-all .ensures) in
+    let e : _≡_ {A = ℕ} 0 (noted 0 (first s ++ second s ++ third s)) = noted-late (first s) (second s ++ third s) _ _ (c .before .before .before
+    .before .before .before .before .before .before .before .before .before .before .before .matrix-refusal .ensures) (c .before .before .before
+    .before .before .before .before .before .before .before .before .before .before .if1 .left) (noted-late (second s) (third s) _ _ (late (c
+    .before .before .before .before .before .before .before .before)) (c .before .before .before .before .before .before .before .if2 .left)
+    (room-enough (maskCount (mat s) (x .q) (x .v)) (now (x .out)) t)) in
+    let g = masks-in-front (mat s) (now (x .packed)) (now (x .out)) _ (x .q) (x .w) (x .v) _ _ (low-is (k .before)) (high-is (k .before)) (fits (c
+    .before .before .before .before .before .before .before) .powers) (fits (c .before .before .before .before .before .before .before) .bits) (c
+    .before .before .mask-all .ensures) in
     (e, g ∙ done _ _ e refl)
 
 pub apply-simd-bit-masks-spec : {M : Type 1} → statement M

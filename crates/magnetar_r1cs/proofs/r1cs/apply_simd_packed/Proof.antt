@@ -33,9 +33,14 @@ size s = s .args .q * (2 * s .args .rows)
 ok : (c : tie.Else1) → let s = c .before .before .before .before .before .before .before .before .before in Batched (mat s) (now (s .args .packed)) (now (s .args .x)) (s .args .q) (s .args .w)
 ok c = batched _ _ _ _ _ (sym (c .before .batch-refusal .ensures) ∙ c .if1 .left)
 
-none : (c : tie.Else2) → let s = c .before .before .before .before .before .before .before .before .before .before in _≡_ {A = ℕ} 0 (packedRefusal (mat s) (now (s .args .packed)) (now (s .args .x)) (s .args .q) (s .args .w) (now (s .args .out)))
+none : (c : tie.Else2) → let s = c .before .before .before .before .before .before .before .before .before .before in _≡_ {A = ℕ} 0 (packedRefusal
+    (mat s) (now (s .args .packed)) (now (s .args .x)) (s .args .q) (s .args .w) (now (s .args .out)))
 unfolding packedRefusal
-none c = noted-late (tests (c .before .before .before .before .before .before .before .before .before .before)) (roomTest (size (c .before .before .before .before .before .before .before .before .before .before)) (now (c .before .before .before .before .before .before .before .before .before .before .args .out))) _ _ (c .before .before .batch-refusal .ensures) (c .before .if1 .left) (room-enough (size (c .before .before .before .before .before .before .before .before .before .before)) (now (c .before .before .before .before .before .before .before .before .before .before .args .out)) (omega arith))
+none c = noted-late (tests (c .before .before .before .before .before .before .before .before .before .before)) (roomTest (size (c .before .before
+    .before .before .before .before .before .before .before .before)) (now (c .before .before .before .before .before .before .before .before .before
+    .before .args .out))) _ _ (c .before .before .batch-refusal .ensures) (c .before .if1 .left) (room-enough (size (c .before .before .before
+    .before .before .before .before .before .before .before)) (now (c .before .before .before .before .before .before .before .before .before .before
+    .args .out)) (omega arith))
 
 batch-refusal-requires : tie.Need-batch-refusal-requires
 batch-refusal-requires c κs = search needs
@@ -43,20 +48,27 @@ batch-refusal-requires c κs = search needs
 returns : tie.Need-returns
 unfolding packedRefusal
 returns c =
-    let e = noted-front (tests (c .before .before .before .before .before .before .before .before .before)) (roomTest (size (c .before .before .before .before .before .before .before .before .before)) (now (c .before .before .before .before .before .before .before .before .before .args .out))) _ (c .before .batch-refusal .ensures) (c .if1 .taken) in
+    let e = noted-front (tests (c .before .before .before .before .before .before .before .before .before)) (roomTest (size (c .before .before
+    .before .before .before .before .before .before .before)) (now (c .before .before .before .before .before .before .before .before .before
+    .args .out))) _ (c .before .batch-refusal .ensures) (c .if1 .taken) in
     (flag-refused _ e (c .if1 .taken), turned _ _ e (c .if1 .taken))
 
 mul-end : tie.Need-mul-end
 mul-end c = omega (arith, ok c .rows-size .high)
 
 mul-end-2 : tie.Need-mul-end-2
-mul-end-2 c = omega (arith, product-fits (c .before .before .before .before .before .before .before .before .before .args .q) (2 * c .before .before .before .before .before .before .before .before .before .args .rows) (ok c .logins .high) (omega (arith, ok c .rows-size .high)))
+mul-end-2 c = omega (
+  arith,
+  product-fits (c .before .before .before .before .before .before .before .before .before .args .q) (2 * c .before .before
+      .before .before .before .before .before .before .before .args .rows) (ok c .logins .high) (omega (arith, ok c .rows-size .high)),
+)
 
 returns-2 : tie.Need-returns-2
 unfolding packedRefusal
 returns-2 c =
     let s = c .before .before .before .before .before .before .before .before .before .before in
-    let e : _≡_ {A = ℕ} 15 (noted 0 (tests s ++ roomTest (size s) (now (s .args .out)))) = noted-late (tests s) (roomTest (size s) (now (s .args .out))) _ _ (c .before .before .batch-refusal .ensures) (c .before .if1 .left) (room-short (size s) (now (s .args .out)) (c .if2 .taken)) in
+    let e : _≡_ {A = ℕ} 15 (noted 0 (tests s ++ roomTest (size s) (now (s .args .out)))) = noted-late (tests s) (roomTest (size s) (now (s .args
+    .out))) _ _ (c .before .before .batch-refusal .ensures) (c .before .if1 .left) (room-short (size s) (now (s .args .out)) (c .if2 .taken)) in
     (flag-refused {n = 15} _ e (λ h. omega (arith, h)), turned {n = 15} _ _ e (λ h. omega (arith, h)))
 
 slice-relend-prefix-products : tie.Need-slice-relend-prefix-products

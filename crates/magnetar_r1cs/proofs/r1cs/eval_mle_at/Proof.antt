@@ -46,7 +46,8 @@ record Fits (s : tie.Start) : Type 0 where
 
 fits : (c : tie.Else2) → Fits (c .before .before .before .before .before .before .before .before .before .before .before .before .before .before .before)
 fits c =
-    let k = noted-clear 0 (rest (c .before .before .before .before .before .before .before .before .before .before .before .before .before .before .before)) refl (sym (late (c .before)) ∙ c .if2 .left) .1 in
+    let k = noted-clear 0 (rest (c .before .before .before .before .before .before .before .before .before .before .before .before .before .before
+    .before)) refl (sym (late (c .before)) ∙ c .if2 .left) .1 in
     record { row-point = eqb-true _ _ (not-false _ (k .0)); col-point = eqb-true _ _ (not-false _ (k .1 .0)); scratch = ltb-false _ _ (k .1 .1 .0) }
 
 lone-requires : tie.Need-lone-requires
@@ -55,7 +56,8 @@ lone-requires c κs = search needs
 returns : tie.Need-returns
 unfolding atRefusal
 returns c =
-    let e = noted-front (loneTests (mat (c .before .before .before .before .before .before .before .before .before))) (rest (c .before .before .before .before .before .before .before .before .before)) _ (c .before .lone .ensures) (c .if1 .taken) in
+    let e = noted-front (loneTests (mat (c .before .before .before .before .before .before .before .before .before))) (rest (c .before .before
+    .before .before .before .before .before .before .before)) _ (c .before .lone .ensures) (c .if1 .taken) in
     (refused _ e (c .if1 .taken), turned _ _ e (c .if1 .taken))
 
 log2-requires : tie.Need-log2-requires
@@ -74,7 +76,8 @@ log2-requires-2 c κs = search needs
 
 mul-note-2 : tie.Need-mul-note-2
 mul-note-2 c =
-    let z = lone (mat (c .before .before .before .before .before .before .before .before .before .before .before .before)) (sym (c .before .before .before .before .lone .ensures) ∙ c .before .before .before .if1 .left) .cols-size in
+    let z = lone (mat (c .before .before .before .before .before .before .before .before .before .before .before .before)) (sym (c .before .before
+    .before .before .lone .ensures) ∙ c .before .before .before .if1 .left) .cols-size in
     omega (arith, c .log22 .ensures, log-most _ (z .high) (z .power))
 
 note-requires-2 : tie.Need-note-requires-2
@@ -82,12 +85,14 @@ note-requires-2 c κs = search needs
 
 add-note : tie.Need-add-note
 add-note c =
-    let m = lone (mat (c .before .before .before .before .before .before .before .before .before .before .before .before .before)) (sym (c .before .before .before .before .before .lone .ensures) ∙ c .before .before .before .before .if1 .left) in
+    let m = lone (mat (c .before .before .before .before .before .before .before .before .before .before .before .before .before)) (sym (c .before
+    .before .before .before .before .lone .ensures) ∙ c .before .before .before .before .if1 .left) in
     omega (arith, m .rows-size .high, m .cols-size .high)
 
 mul-note-3 : tie.Need-mul-note-3
 mul-note-3 c =
-    let m = lone (mat (c .before .before .before .before .before .before .before .before .before .before .before .before .before)) (sym (c .before .before .before .before .before .lone .ensures) ∙ c .before .before .before .before .if1 .left) in
+    let m = lone (mat (c .before .before .before .before .before .before .before .before .before .before .before .before .before)) (sym (c .before
+    .before .before .before .before .lone .ensures) ∙ c .before .before .before .before .if1 .left) in
     omega (arith, m .rows-size .high, m .cols-size .high)
 
 note-requires-3 : tie.Need-note-requires-3
@@ -96,7 +101,10 @@ note-requires-3 c κs = search needs
 returns-2 : tie.Need-returns-2
 unfolding atRefusal
 returns-2 c =
-    let e = noted-late (loneTests (mat (c .before .before .before .before .before .before .before .before .before .before .before .before .before .before .before))) (rest (c .before .before .before .before .before .before .before .before .before .before .before .before .before .before .before)) _ _ (c .before .before .before .before .before .before .before .lone .ensures) (c .before .before .before .before .before .before .if1 .left) (late (c .before)) in
+    let e = noted-late (loneTests (mat (c .before .before .before .before .before .before .before .before .before .before .before .before .before
+    .before .before))) (rest (c .before .before .before .before .before .before .before .before .before .before .before .before .before .before
+    .before)) _ _ (c .before .before .before .before .before .before .before .lone .ensures) (c .before .before .before .before .before .before
+    .if1 .left) (late (c .before)) in
     (refused _ e (c .if2 .taken), turned _ _ e (c .if2 .taken))
 
 add-room : tie.Need-add-room
@@ -138,7 +146,8 @@ returns-3 c =
     let k = c .before .before .before .before in
     let m = matrix-fits k in
     let f = fits k in
-    let e = sym (k .if2 .left) ∙ noted-late (loneTests (mat s)) (rest s) _ _ (k .before .before .before .before .before .before .before .lone .ensures) (k .before .before .before .before .before .before .if1 .left) (late (k .before)) in
+    let e = sym (k .if2 .left) ∙ noted-late (loneTests (mat s)) (rest s) _ _ (k .before .before .before .before .before .before .before .lone
+    .ensures) (k .before .before .before .before .before .before .if1 .left) (late (k .before)) in
     let at = cross-is _ _ _ _ (point-size _ _ _ (m .rows-size) (f .row-point)) (point-size _ _ _ (m .cols-size) (f .col-point)) in
     let v = c .before .before .sum-in .ensures .0 ∙ sum-ext (inside (x .rows) (x .cols)) _ _ _ (all-inside _ _ _ _ _ _ (m .entries .rows-in) (m .entries .cols-in)) at in
     (found _ _ e v, rw (c .before .before .sum-in .ensures .1, length-take-le (2 * (x .rows + x .cols)) (now (x .scratch)) (f .scratch)) (done _ _ e refl))

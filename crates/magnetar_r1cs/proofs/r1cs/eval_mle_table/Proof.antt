@@ -55,7 +55,8 @@ lone-requires c κs = search needs
 returns : tie.Need-returns
 unfolding tableRefusal
 returns c =
-    let e = noted-front (loneTests (mat (c .before .before .before .before .before .before .before .before .before))) (rest (c .before .before .before .before .before .before .before .before .before)) _ (c .before .lone .ensures) (c .if1 .taken) in
+    let e = noted-front (loneTests (mat (c .before .before .before .before .before .before .before .before .before))) (rest (c .before .before
+    .before .before .before .before .before .before .before)) _ (c .before .lone .ensures) (c .if1 .taken) in
     (e, (turned _ _ e (c .if1 .taken), turned _ _ e (c .if1 .taken)))
 
 log2-requires : tie.Need-log2-requires
@@ -70,13 +71,21 @@ note-requires : tie.Need-note-requires
 note-requires c κs = search needs
 
 mul-note-2 : tie.Need-mul-note-2
-mul-note-2 c = omega (arith, lone (mat (c .before .before .before .before .before .before .before .before .before .before .before)) (sym (c .before .before .before .lone .ensures) ∙ c .before .before .if1 .left) .cols-size .high)
+mul-note-2 c = omega (
+  arith,
+  lone (mat (c .before .before .before .before .before .before .before .before .before .before .before)) (sym (c .before
+      .before .before .lone .ensures) ∙ c .before .before .if1 .left) .cols-size .high,
+)
 
 note-requires-2 : tie.Need-note-requires-2
 note-requires-2 c κs = search needs
 
 mul-note-3 : tie.Need-mul-note-3
-mul-note-3 c = omega (arith, lone (mat (c .before .before .before .before .before .before .before .before .before .before .before .before)) (sym (c .before .before .before .before .lone .ensures) ∙ c .before .before .before .if1 .left) .rows-size .high)
+mul-note-3 c = omega (
+  arith,
+  lone (mat (c .before .before .before .before .before .before .before .before .before .before .before .before)) (sym (c
+      .before .before .before .before .lone .ensures) ∙ c .before .before .before .if1 .left) .rows-size .high,
+)
 
 note-requires-3 : tie.Need-note-requires-3
 note-requires-3 c κs = search needs
@@ -84,7 +93,9 @@ note-requires-3 c κs = search needs
 returns-2 : tie.Need-returns-2
 unfolding tableRefusal
 returns-2 c =
-    let e = noted-late (loneTests (mat (c .before .before .before .before .before .before .before .before .before .before .before .before .before .before))) (rest (c .before .before .before .before .before .before .before .before .before .before .before .before .before .before)) _ _ (c .before .before .before .before .before .before .lone .ensures) (c .before .before .before .before .before .if1 .left) (late (c .before)) in
+    let e = noted-late (loneTests (mat (c .before .before .before .before .before .before .before .before .before .before .before .before .before
+    .before))) (rest (c .before .before .before .before .before .before .before .before .before .before .before .before .before .before)) _ _ (c
+    .before .before .before .before .before .before .lone .ensures) (c .before .before .before .before .before .if1 .left) (late (c .before)) in
     (e, (turned _ _ e (c .if2 .taken), turned _ _ e (c .if2 .taken)))
 
 mul-end : tie.Need-mul-end
@@ -122,7 +133,8 @@ unfolding tableRefusal mleTable times timesAt transpose matrixOf
 returns-3 c =
     let s = c .before .before .before .before .before .before .before .before .before .before .before .before .before .before .before .before .before .before .before .before .before in
     let k = c .before .before .before .before .before .before .before in
-    let e = sym (k .if2 .left) ∙ noted-late (loneTests (mat s)) (rest s) _ _ (k .before .before .before .before .before .before .lone .ensures) (k .before .before .before .before .before .if1 .left) (late (k .before)) in
+    let e = sym (k .if2 .left) ∙ noted-late (loneTests (mat s)) (rest s) _ _ (k .before .before .before .before .before .before .lone .ensures) (k
+    .before .before .before .before .before .if1 .left) (late (k .before)) in
     let f = fits k in (
       e,
       (

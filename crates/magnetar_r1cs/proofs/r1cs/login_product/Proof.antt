@@ -36,7 +36,9 @@ returns : tie.Need-returns
 returns c =
     let s = c .before .before .before .before .before .before .before .before .before .before .before .before .before .before in
     let x = s .args in
-    after-carry (λ (r : List ℕ). words (raised (rowTotal (bitShare (x .w) (now (x .login))) (entriesOf (now (x .row)) (now (x .col)) (now (x .lo)) (now (x .hi)))) (elements r))) (now (x .out)) _ _ (x .m) (s .pre .1 .1) (c .before .before .before .before .before .before .carry .ensures) (c .before .before .bit-part .ensures)
+    after-carry (λ (r : List ℕ). words (raised (rowTotal (bitShare (x .w) (now (x .login))) (entriesOf (now (x .row)) (now (x .col)) (now (x .lo))
+    (now (x .hi)))) (elements r))) (now (x .out)) _ _ (x .m) (s .pre .1 .1) (c .before .before .before .before .before .before .carry .ensures)
+    (c .before .before .bit-part .ensures)
 
 pub login-product-spec : {M : Type 1} → statement M
 login-product-spec =

@@ -42,7 +42,8 @@ small c =
     record { least = omega (arith, z .low); half = omega (arith, z .high); logins = not-bad (k .1 .0) .high }
 
 rows-most : (c : tie.Else2) → (c .before .before .before .before .before .before .before .before .before .before .before) .args .n ≤ 65536
-rows-most c = not-bad (noted-clear 0 (second (c .before .before .before .before .before .before .before .before .before .before .before)) refl (sym (middle (c .before)) ∙ c .if2 .left) .1 .1 .1 .0) .high
+rows-most c = not-bad (noted-clear 0 (second (c .before .before .before .before .before .before .before .before .before .before .before)) refl (sym
+    (middle (c .before)) ∙ c .if2 .left) .1 .1 .1 .0) .high
 
 is-half-requires : tie.Need-is-half-requires
 is-half-requires c κs = search needs

@@ -35,7 +35,8 @@ early c = rw (c .note2 .ensures, c .before .is-size .ensures, c .before .before 
 middle : (c : tie.After-note4) → c .note4 .result ≡ noted 0 (second (c .before .before .before .before .before .before .before .before .before .before .before .before .before .before))
 middle c = rw (c .note4 .ensures, c .before .is-size2 .ensures, c .before .before .note3 .ensures, c .before .before .before .login-words .ensures)
 
-late : (c : tie.After-places) → c .places .result ≡ noted 0 (third (c .before .before .before .before .before .before .before .before .before .before .before .before .before .before .before .before .before .before .before))
+late : (c : tie.After-places) → c .places .result ≡ noted 0 (third (c .before .before .before .before .before .before .before .before .before .before
+    .before .before .before .before .before .before .before .before .before))
 late c = c .places .ensures ∙ rw (c .before .counts .ensures, c .before .before .note6 .ensures, c .before .before .before .note5 .ensures)
 
 record Small (s : tie.Start) : Type 0 where
@@ -49,7 +50,8 @@ small c =
     record { half = omega (arith, z .high); logins = not-bad (k .1 .0) .high }
 
 rows-most : (c : tie.Else2) → c .before .before .before .before .before .before .before .before .before .before .before .before .before .before .before .args .rows ≤ 65536
-rows-most c = not-bad (noted-clear 0 (second (c .before .before .before .before .before .before .before .before .before .before .before .before .before .before .before)) refl (sym (middle (c .before)) ∙ c .if2 .left) .1 .1 .0) .high
+rows-most c = not-bad (noted-clear 0 (second (c .before .before .before .before .before .before .before .before .before .before .before .before
+    .before .before .before)) refl (sym (middle (c .before)) ∙ c .if2 .left) .1 .1 .0) .high
 
 is-half-requires : tie.Need-is-half-requires
 is-half-requires c κs = search needs
@@ -70,7 +72,11 @@ login-words-requires : tie.Need-login-words-requires
 login-words-requires c κs = search needs
 
 mul-note : tie.Need-mul-note
-mul-note c = omega (arith, product-most (c .before .before .before .before .before .before .before .before .before .before .before .args .q) (c .login-words .result) (small (c .before) .logins) (rw (c .login-words .ensures) (words-most _ (small (c .before) .half))))
+mul-note c = omega (
+  arith,
+  product-most (c .before .before .before .before .before .before .before .before .before .before .before .args .q) (c
+      .login-words .result) (small (c .before) .logins) (rw (c .login-words .ensures) (words-most _ (small (c .before) .half))),
+)
 
 note-requires-3 : tie.Need-note-requires-3
 note-requires-3 c κs = search needs
@@ -84,10 +90,16 @@ note-requires-4 c κs = search needs
 returns-2 : tie.Need-returns-2
 returns-2 c =
     let s = c .before .before .before .before .before .before .before .before .before .before .before .before .before .before .before in
-    noted-late (first s) (second s ++ third s) _ _ (early (c .before .before .before .before .before .before)) (c .before .before .before .before .before .if1 .left) (noted-front (second s) (third s) _ (middle (c .before)) (c .if2 .taken))
+    noted-late (first s) (second s ++ third s) _ _ (early (c .before .before .before .before .before .before)) (c .before .before .before .before
+    .before .if1 .left) (noted-front (second s) (third s) _ (middle (c .before)) (c .if2 .taken))
 
 mul-note-2 : tie.Need-mul-note-2
-mul-note-2 c = omega (arith, product-fits (c .before .before .before .before .before .before .before .before .before .before .before .before .before .before .before .args .q) (c .before .before .before .before .before .before .before .before .before .before .before .before .before .before .before .args .rows) (small (c .before .before .before .before .before) .logins) (omega (arith, rows-most c)))
+mul-note-2 c = omega (
+  arith,
+  product-fits (c .before .before .before .before .before .before .before .before .before .before .before .before .before
+      .before .before .args .q) (c .before .before .before .before .before .before .before .before .before .before .before .before .before .before
+      .before .args .rows) (small (c .before .before .before .before .before) .logins) (omega (arith, rows-most c)),
+)
 
 note-requires-5 : tie.Need-note-requires-5
 note-requires-5 c κs = search needs
@@ -107,7 +119,8 @@ places-requires c κs = search needs
 returns-3 : tie.Need-returns-3
 returns-3 c =
     let s = c .before .before .before .before .before .before .before .before .before .before .before .before .before .before .before .before .before .before .before in
-    noted-late (first s) (second s ++ third s) _ _ (early (c .before .before .before .before .before .before .before .before .before .before)) (c .before .before .before .before .before .before .before .before .before .if1 .left)
+    noted-late (first s) (second s ++ third s) _ _ (early (c .before .before .before .before .before .before .before .before .before .before)) (c
+    .before .before .before .before .before .before .before .before .before .if1 .left)
     (noted-late (second s) (third s) _ _ (middle (c .before .before .before .before .before)) (c .before .before .before .before .if2 .left) (late c))
 
 pub matrix-refusal-spec : {M : Type 1} → statement M

@@ -19,7 +19,8 @@ same-length c = search needs
 returns : tie.Need-returns
 returns c =
     let s = c .before .before .before .before .before .before .before .before .before .before .before .before .before .before in
-    cleared-raised _ (now (s .args .out)) _ _ (s .pre .1) (search needs) (c .before .before .before .before .before .before .clear .ensures) (c .before .before .add-product .ensures) (λ i. omega (arith, c .slice-known3 .given i))
+    cleared-raised _ (now (s .args .out)) _ _ (s .pre .1) (search needs) (c .before .before .before .before .before .before .clear .ensures) (c
+    .before .before .add-product .ensures) (λ i. omega (arith, c .slice-known3 .given i))
 
 pub product-spec : {M : Type 1} → statement M
 product-spec = tie.close (tie.spec clear-requires add-product-requires same-length returns)

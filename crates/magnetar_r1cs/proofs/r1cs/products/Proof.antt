@@ -32,11 +32,16 @@ front : (q m n : ℕ) → 1 ≤ q → n ≡ q * m → m ≤ n
 front q m n h e = rw e (rw (zero-mul, zero-add) at (part-ends m q 0 h))
 
 -- the login's words, and its block of the output
-words-of : (c : tie.In-loop Inv-loop μ-loop) → let x = c .before .before .before .before .before .before .before .before .before .before .before .before .before .before .args in Part (length (now (x .packed))) (c .before .before .before .before .before .before .login-words .result) (c .before .loop .u) (x .q)
-words-of c = let s = c .before .before .before .before .before .before .before .before .before .before .before .before .before .before in let l = c .before .loop in part-of (s .args .w) _ _ (l .u) _ (s .pre .1 .2) (l .inv .3) (l .inv .2) (s .pre .1 .4) (c .loop-test .taken)
+words-of : (c : tie.In-loop Inv-loop μ-loop) → let x = c .before .before .before .before .before .before .before .before .before .before .before
+    .before .before .before .args in Part (length (now (x .packed))) (c .before .before .before .before .before .before .login-words .result) (c
+    .before .loop .u) (x .q)
+words-of c = let s = c .before .before .before .before .before .before .before .before .before .before .before .before .before .before in let l = c
+    .before .loop in part-of (s .args .w) _ _ (l .u) _ (s .pre .1 .2) (l .inv .3) (l .inv .2) (s .pre .1 .4) (c .loop-test .taken)
 
-block : (c : tie.In-loop Inv-loop μ-loop) → let x = c .before .before .before .before .before .before .before .before .before .before .before .before .before .before .args in Block (length (c .before .loop .out)) (c .before .loop .u) (2 * x .n)
-block c = let s = c .before .before .before .before .before .before .before .before .before .before .before .before .before .before in let l = c .before .loop in block-of _ (s .args .q) (2 * s .args .n) (l .u) (l .inv .0) (s .pre .1 .2) (omega (arith, s .pre .1 .3)) (c .loop-test .taken)
+block : (c : tie.In-loop Inv-loop μ-loop) → let x = c .before .before .before .before .before .before .before .before .before .before .before .before
+    .before .before .args in Block (length (c .before .loop .out)) (c .before .loop .u) (2 * x .n)
+block c = let s = c .before .before .before .before .before .before .before .before .before .before .before .before .before .before in let l = c
+    .before .loop in block-of _ (s .args .q) (2 * s .args .n) (l .u) (l .inv .0) (s .pre .1 .2) (omega (arith, s .pre .1 .3)) (c .loop-test .taken)
 
 login-words-requires : tie.Need-login-words-requires Inv-loop μ-loop
 login-words-requires c κs = search needs
@@ -127,7 +132,9 @@ loop-again c =
       l .inv .2,
       l .inv .3,
       refl,
-      next-login (x .w) (x .n) (c .before .before .before .before .before .before .before .before .before .before .before .login-words .result) (l .u) (x .q) (elements (now (x .x))) (now (x .packed)) (l .out) (r .last .1 .1 .1 .1 .1 .1 .1 .0) (entriesOf (now (x .row)) (now (x .col)) (now (x .lo)) (now (x .hi))) (l .inv .5) (omega arith) (l .inv .0) (l .inv .2) (r .ensures),
+      next-login (x .w) (x .n) (c .before .before .before .before .before .before .before .before .before .before .before .login-words .result) (l
+          .u) (x .q) (elements (now (x .x))) (now (x .packed)) (l .out) (r .last .1 .1 .1 .1 .1 .1 .1 .0) (entriesOf (now (x .row)) (now (x .col))
+          (now (x .lo)) (now (x .hi))) (l .inv .5) (omega arith) (l .inv .0) (l .inv .2) (r .ensures),
     )
 
 same-length : tie.Need-same-length Inv-loop μ-loop

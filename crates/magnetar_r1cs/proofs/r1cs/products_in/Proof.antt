@@ -135,7 +135,8 @@ returns-3 c =
     let l = c .before .before .before .before .before .before .before .before .before .before .before .before .before .logins-refusal in
     let n = e .ensures .0 ∙ ap (λ (i : ℕ). min (x .b) i) (c .before .before .before .before .before .before .before .before .before .before .entries-held .ensures .0) in
     range-done (now (x .row)) (now (x .col)) (now (x .lo)) (now (x .hi)) (x .a) (x .b) (x .n) (now (x .packed)) (now (x .x)) (x .q) (x .w) (now (x .out))
-    _ (l .ensures) (c .before .before .before .before .before .before .before .before .before .before .before .before .if1 .left) (omega arith) (s .result) (e .result) n (s .ensures .0) _ (c .before .before .products .ensures)
+    _ (l .ensures) (c .before .before .before .before .before .before .before .before .before .before .before .before .if1 .left) (omega arith) (s
+    .result) (e .result) n (s .ensures .0) _ (c .before .before .products .ensures)
 
 pub products-in-spec : {M : Type 1} → statement M
 products-in-spec =

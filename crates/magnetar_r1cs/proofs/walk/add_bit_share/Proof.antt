@@ -23,7 +23,14 @@ same-length c = search needs
 returns : tie.Need-returns
 returns c =
     let x = c .before .before .before .before .before .before .before .before .before .args in
-    rw (c .before .before .add-at .ensures, added-in, c .before .before .before .select .ensures, c .before .before .before .before .bit-at .ensures .0, bit-some (x .w) (now (x .login)) (x .r) (x .c) (x .v .lo) (x .v .hi) (omega arith))
+    rw (
+      c .before .before .add-at .ensures,
+      added-in,
+      c .before .before .before .select .ensures,
+      c .before .before .before .before .bit-at .ensures
+          .0,
+      bit-some (x .w) (now (x .login)) (x .r) (x .c) (x .v .lo) (x .v .hi) (omega arith),
+    )
 
 returns-2 : tie.Need-returns-2
 returns-2 c =

@@ -61,8 +61,11 @@ loop-again : tie.Need-loop-again Inv-loop μ-loop
 loop-again c =
     let s = c .before .before .before .before .before .before .before .before .before .before .before .before .before .before .before .before in
     let l = c .before .before .before .before .before .before .before .before .before .loop in
-    let x = s .args in
-    (search needs, rw (c .before .before .add-public-share .ensures) (walked-more _ _ _ _ _ (l .inv .1) _ (entry-at (x .row .now) (x .col .now) (x .lo .now) (x .hi .now) (l .i) (s .pre) (omega arith))))
+    let x = s .args in (
+      search needs,
+      rw (c .before .before .add-public-share .ensures) (walked-more _ _ _ _ _ (l .inv .1) _ (entry-at (x .row .now) (x .col .now) (x
+          .lo .now) (x .hi .now) (l .i) (s .pre) (omega arith))),
+    )
 
 same-length : tie.Need-same-length Inv-loop μ-loop
 same-length c = c .before .loop .inv .0

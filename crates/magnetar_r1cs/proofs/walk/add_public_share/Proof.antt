@@ -19,7 +19,12 @@ same-length c = search needs
 returns : tie.Need-returns
 returns c =
     let x = c .before .before .before .before .before .before .before .args in
-    rw (← public-one (x .w) (elements (now (x .x))) (x .r) (x .c) (x .v .lo) (x .v .hi) (omega arith) (value-lt (x .v .hi) (x .v .lo) (search needs) (search needs)), c .before .before .add-at .ensures, added-in)
+    rw (
+      ← public-one (x .w) (elements (now (x .x))) (x .r) (x .c) (x .v .lo) (x .v .hi) (omega arith) (value-lt (x .v .hi) (x .v .lo) (search needs)
+          (search needs)),
+      c .before .before .add-at .ensures,
+      added-in,
+    )
 
 sub-k : tie.Need-sub-k
 sub-k c = search needs
@@ -42,7 +47,13 @@ same-length-2 c = search needs
 returns-2 : tie.Need-returns-2
 returns-2 c =
     let x = c .before .before .before .before .before .before .before .before .before .before .args in
-    rw (c .before .before .add-at2 .ensures, added-in, c .before .before .before .scale .ensures, c .before .before .before .before .get .ensures, public-x (x .w) (elements (now (x .x))) (x .r) (x .c) (x .v .lo) (x .v .hi) (omega arith))
+    rw (
+      c .before .before .add-at2 .ensures,
+      added-in,
+      c .before .before .before .scale .ensures,
+      c .before .before .before .before .get .ensures,
+      public-x (x .w) (elements (now (x .x))) (x .r) (x .c) (x .v .lo) (x .v .hi) (omega arith),
+    )
 
 returns-3 : tie.Need-returns-3
 returns-3 c =

@@ -84,7 +84,8 @@ loop-again c =
     let x = s .args in
     let l = c .before .before .before .before .before .before .before .before .before .before .loop in
     rw (c .add .ensures, c .before .scale .ensures, c .before .before .mul .ensures, c .before .before .before .before .get .ensures, c .before .before .before .get2 .ensures)
-    (summed-more _ _ _ (l .i) (l .inv) _ (entry-at (x .row .now) (x .col .now) (x .lo .now) (x .hi .now) (l .i) (s .pre .0) (c .before .before .before .before .before .before .before .before .before .loop-test .taken)))
+    (summed-more _ _ _ (l .i) (l .inv) _ (entry-at (x .row .now) (x .col .now) (x .lo .now) (x .hi .now) (l .i) (s .pre .0) (c .before .before
+    .before .before .before .before .before .before .before .loop-test .taken)))
 
 returns : tie.Need-returns Inv-loop μ-loop
 returns c =

@@ -44,7 +44,8 @@ returns-2 : tie.Need-returns-2
 unfolding ruleTestsBy
 returns-2 c =
     let x = c .before .before .before .before .before .before .before .before .args in
-    noted-late (shapeTests (x .m) (x .q) (x .s)) (rest (c .before .before .before .before .before .before .before .before)) _ _ (c .before .before .before .before .before .before .before .shapes .ensures) (c .before .before .before .before .before .before .if1 .left)
+    noted-late (shapeTests (x .m) (x .q) (x .s)) (rest (c .before .before .before .before .before .before .before .before)) _ _ (c .before .before
+    .before .before .before .before .before .shapes .ensures) (c .before .before .before .before .before .before .if1 .left)
     (rw (c .note .ensures, c .before .numbers .ensures, c .before .before .entries-in2 .ensures .0, c .before .before .before .entries-in .ensures .0))
 
 pub refusal-spec : {M : Type 1} → statement M

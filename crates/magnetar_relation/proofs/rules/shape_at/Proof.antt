@@ -23,7 +23,12 @@ shape-in-requires c κs = search needs
 
 returns-4 : tie.Need-returns-4
 unfolding shapeAt
-returns-4 c = rw (le-ltb _ _ (c .before .before .before .before .before .before .before .before .before .if1 .left), le-ltb _ _ (c .before .before .before .before .before .before .if2 .left), le-ltb _ _ (c .before .before .before .if3 .left)) (c .shape-in .ensures)
+returns-4 c = rw (
+  le-ltb _ _ (c .before .before .before .before .before .before .before .before .before .if1 .left),
+  le-ltb _ _ (c .before .before
+      .before .before .before .before .if2 .left),
+  le-ltb _ _ (c .before .before .before .if3 .left),
+) (c .shape-in .ensures)
 
 pub shape-at-spec : {M : Type 1} → statement M
 shape-at-spec = tie.close (tie.spec returns returns-2 returns-3 shape-in-requires returns-4)

@@ -41,7 +41,9 @@ returns : tie.Need-returns
 unfolding ascii numbered
 returns c =
     let x = c .before .before .before .before .before .before .before .before .before .before .before .before .before .before .before .before .before .args in
-    inner-all (x .c) (x .n) (c .before .before .before .before .before .before .before .before .before .before .before .before .before .play-singles .ensures) (c .before .before .before .before .before .before .before .before .before .before .draw-times .ensures) (c .before .before .before .before .before .before .inner-rounds .ensures)
+    inner-all (x .c) (x .n) (c .before .before .before .before .before .before .before .before .before .before .before .before .before .play-singles
+    .ensures) (c .before .before .before .before .before .before .before .before .before .before .draw-times .ensures) (c .before .before .before
+    .before .before .before .inner-rounds .ensures)
     (c .before .before .absorb-one .ensures) (c .play-singles2 .ensures)
 
 pub inner-spec : {M : Type 1} → statement M

@@ -50,13 +50,18 @@ same-length c =
     ∙ c .before .before .before .before .before .before .before .play-rounds2 .kept .1 .1 .1 .1 .1 .0
     ∙ c .before .before .before .before .before .before .before .before .before .before .before .before .play-rounds .kept .1 .1 .1 .1 .1 .0
     ∙ c .before .before .before .before .before .before .before .before .before .before .before .before .before .before .before .before .before .draw-times2 .kept .1 .1 .1 .0
-    ∙ c .before .before .before .before .before .before .before .before .before .before .before .before .before .before .before .before .before .before .before .before .before .before .draw-times .kept .1 .1 .1 .0
+    ∙ c .before .before .before .before .before .before .before .before .before .before .before .before .before .before .before .before .before
+    .before .before .before .before .before .draw-times .kept .1 .1 .1 .0
 
 returns : tie.Need-returns
 unfolding ascii numbered
 returns c =
-    let x = c .before .before .before .before .before .before .before .before .before .before .before .before .before .before .before .before .before .before .before .before .before .before .before .before .before .before .before .args in
-    outer-all (x .a) (x .b) (x .f) (c .before .before .before .before .before .before .before .before .before .before .before .before .before .before .before .before .before .before .before .before .before .before .draw-times .ensures) (c .before .before .before .before .before .before .before .before .before .before .before .before .before .before .before .before .before .draw-times2 .ensures) (c .before .before .before .before .before .before .before .before .before .before .before .before .play-rounds .ensures)
+    let x = c .before .before .before .before .before .before .before .before .before .before .before .before .before .before .before .before .before
+    .before .before .before .before .before .before .before .before .before .before .args in
+    outer-all (x .a) (x .b) (x .f) (c .before .before .before .before .before .before .before .before .before .before .before .before .before .before
+    .before .before .before .before .before .before .before .before .draw-times .ensures) (c .before .before .before .before .before .before
+    .before .before .before .before .before .before .before .before .before .before .before .draw-times2 .ensures) (c .before .before .before
+    .before .before .before .before .before .before .before .before .before .play-rounds .ensures)
     (c .before .before .before .before .before .before .before .play-rounds2 .ensures) (c .before .before .play-rounds3 .ensures)
 
 pub outer-spec : {M : Type 1} → statement M

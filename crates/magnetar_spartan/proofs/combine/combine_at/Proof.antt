@@ -20,7 +20,13 @@ same-length : tie.Need-same-length
 same-length c = search needs
 
 returns : tie.Need-returns
-returns c = rw (c .before .before .combine .ensures, c .before .before .before .before .before .before .run-alphas .ensures, c .before .before .before .before .before .bin-point .ensures, c .before .before .before .before .fld-point .ensures)
+returns c = rw (
+  c .before .before .combine .ensures,
+  c .before .before .before .before .before .before .run-alphas .ensures,
+  c .before .before
+      .before .before .before .bin-point .ensures,
+  c .before .before .before .before .fld-point .ensures,
+)
 
 pub combine-at-spec : {M : Type 1} → statement M
 combine-at-spec =

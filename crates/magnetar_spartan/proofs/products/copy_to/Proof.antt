@@ -18,7 +18,8 @@ same-length : tie.Need-same-length
 same-length c = search needs
 
 returns : tie.Need-returns
-returns c = let x = c .before .before .before .before .before .before .before .before .args in c .before .before .copy-in .ensures ∙ sym (copied-some (x .p) (x .n) (now (x .s)) (omega arith) (omega arith))
+returns c = let x = c .before .before .before .before .before .before .before .before .args in c .before .before .copy-in .ensures ∙ sym (copied-some
+    (x .p) (x .n) (now (x .s)) (omega arith) (omega arith))
 
 returns-2 : tie.Need-returns-2
 returns-2 c = let x = c .before .before .before .before .args in copied-long (x .p) (x .n) (now (x .s)) (omega arith)

@@ -32,7 +32,8 @@ add-t13 c = search needs
 returns-2 : tie.Need-returns-2
 returns-2 c =
     let x = (c .before .before .before .before .before) .args in
-    part-b (x .k) (x .q) (x .t) (x .p) (x .i) (x .h) _ _ _ (c .before .before .before .before .product-words .ensures .0) (c .before .before .before .after .ensures) (omega arith) (c .before .after2 .ensures) (omega arith)
+    part-b (x .k) (x .q) (x .t) (x .p) (x .i) (x .h) _ _ _ (c .before .before .before .before .product-words .ensures .0) (c .before .before .before
+    .after .ensures) (omega arith) (c .before .after2 .ensures) (omega arith)
 
 mul-t14 : tie.Need-mul-t14
 mul-t14 c = search needs
@@ -46,7 +47,8 @@ after-requires-3 c κs = search needs
 returns-3 : tie.Need-returns-3
 returns-3 c =
     let x = (c .before .before .before .before .before .before) .args in
-    part-c (x .k) (x .q) (x .t) (x .p) (x .i) (x .h) _ _ _ (c .before .before .before .before .before .product-words .ensures .0) (c .before .before .before .before .after .ensures) (omega arith) (c .before .before .after2 .ensures) (omega arith) _ (c .after3 .ensures)
+    part-c (x .k) (x .q) (x .t) (x .p) (x .i) (x .h) _ _ _ (c .before .before .before .before .before .product-words .ensures .0) (c .before .before
+    .before .before .after .ensures) (omega arith) (c .before .before .after2 .ensures) (omega arith) _ (c .after3 .ensures)
 
 pub part-in-spec : {M : Type 1} → statement M
 part-in-spec =

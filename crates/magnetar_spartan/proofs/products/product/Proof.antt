@@ -43,7 +43,8 @@ returns : tie.Need-returns
 returns c =
     let x = (c .before .before .before .before .before .before .before .before .before .before .before .before .before .before) .args in
     let e = c .before .before .before .before .before .part-of .ensures ∙ ap (partOf (x .k) (x .q) (x .sh)) (c .before .before .before .before .before .before .entries-held .ensures .0) in
-    λ ok. there (x .k) (R (c .before .before .before .before .before .before .before .before .before .before .before .before .before .before)) (now (x .packed)) (now (x .x)) (now (x .s)) ok _ e _ (c .before .before .products-in .ensures .1)
+    λ ok. there (x .k) (R (c .before .before .before .before .before .before .before .before .before .before .before .before .before .before)) (now
+    (x .packed)) (now (x .x)) (now (x .s)) ok _ e _ (c .before .before .products-in .ensures .1)
 
 returns-2 : tie.Need-returns-2
 returns-2 c =

@@ -78,17 +78,29 @@ same-length-3 c = search needs
 
 returns : tie.Need-returns
 returns c =
-    let x = (c .before .before .before .before .before .before .before .before .before .before .before .before .before .before .before .before .before .before .before .before .before .before .before .before .before .before .before .before .before) .args in
+    let x = (c .before .before .before .before .before .before .before .before .before .before .before .before .before .before .before .before
+    .before .before .before .before .before .before .before .before .before .before .before .before .before) .args in
     let w = now (x .proof) in
     let u = c .before .before .before .before .before .before .before .before .before .before .before .before .before .inner-part in
     let n = c .before .before .before .before .before .before .before .before .before .before .before .before .before .before .before .before .before .least3 in
     let words : ℕ → ℕ = λ l. 2 * (8 * log₂ (x .q) + 4 * log₂ (x .rb) + 4 * log₂ (x .rf) + 6 + 3 * log₂ (x .m) + 1 + l) in
-    let said : c .before .before .before .before .before .before .before .before .before .before .before .before .before .before .before .before .before .before .before .least2 .result ≡ min (words (min (length (now (x .lens))) 64)) (length w) =
-    c .before .before .before .before .before .before .before .before .before .before .before .before .before .before .before .before .before .before .before .least2 .ensures .0 ∙ ap (λ (l : ℕ). min l (length w)) (c .before .before .before .before .before .before .before .before .before .before .before .before .before .before .before .before .before .before .before .before .proof-words .ensures ∙ ap words (c .before .before .before .before .before .before .before .before .before .before .before .before .before .before .before .before .before .before .before .before .before .least .ensures .0)) in
-    λ ws ok ld. end-left (R (c .before .before .before .before .before .before .before .before .before .before .before .before .before .before .before .before .before .before .before .before .before .before .before .before .before .before .before .before .before)) ws (now (x .x)) w (x .d) (now (x .claims)) (now (x .s)) (x .t) ok ld
-    _ _ (c .before .before .before .before .before .before .before .before .before .before .before .before .before .before .before .before .before .before .before .least2 .result) (n .result) (c .before .before .before .before .before .before .before .before .before .before .before .before .before .before .before .before .before .before .before .before .before .before .before .said-before .ensures)
-    (c .before .before .before .before .before .before .before .before .before .before .before .before .before .before .before .before .before .before .before .before .before .before .drawn-before .ensures ∙ sums (log₂ (x .q)) (log₂ (x .rb)) (log₂ (x .rf)) (log₂ (x .m)))
-    said (n .ensures .0 ∙ ap (λ (l : ℕ). min l 256) (c .before .before .before .before .before .before .before .before .before .before .before .before .before .before .before .before .before .before .draw-words .ensures))
+    let said : c .before .before .before .before .before .before .before .before .before .before .before .before .before .before .before .before
+    .before .before .before .least2 .result ≡ min (words (min (length (now (x .lens))) 64)) (length w) =
+    c .before .before .before .before .before .before .before .before .before .before .before .before .before .before .before .before .before .before
+    .before .least2 .ensures .0 ∙ ap (λ (l : ℕ). min l (length w)) (c .before .before .before .before .before .before .before .before .before
+    .before .before .before .before .before .before .before .before .before .before .before .proof-words .ensures ∙ ap words (c .before .before
+    .before .before .before .before .before .before .before .before .before .before .before .before .before .before .before .before .before
+    .before .before .least .ensures .0)) in
+    λ ws ok ld. end-left (R (c .before .before .before .before .before .before .before .before .before .before .before .before .before .before
+    .before .before .before .before .before .before .before .before .before .before .before .before .before .before .before)) ws (now (x .x)) w
+    (x .d) (now (x .claims)) (now (x .s)) (x .t) ok ld
+    _ _ (c .before .before .before .before .before .before .before .before .before .before .before .before .before .before .before .before .before
+    .before .before .least2 .result) (n .result) (c .before .before .before .before .before .before .before .before .before .before .before
+    .before .before .before .before .before .before .before .before .before .before .before .before .said-before .ensures)
+    (c .before .before .before .before .before .before .before .before .before .before .before .before .before .before .before .before .before
+    .before .before .before .before .before .drawn-before .ensures ∙ sums (log₂ (x .q)) (log₂ (x .rb)) (log₂ (x .rf)) (log₂ (x .m)))
+    said (n .ensures .0 ∙ ap (λ (l : ℕ). min l 256) (c .before .before .before .before .before .before .before .before .before .before .before
+    .before .before .before .before .before .before .before .draw-words .ensures))
     (u .result) _ _ _ (u .ensures) _ (c .before .before .write-claims .ensures .1)
 
 pub end-spec : {M : Type 1} → statement M

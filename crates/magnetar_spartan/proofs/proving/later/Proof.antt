@@ -49,8 +49,10 @@ same-length-3 c = search needs
 
 returns : tie.Need-returns
 returns c =
-    let x = (c .before .before .before .before .before .before .before .before .before .before .before .before .before .before .before .before .before .before .before .before .before .before .before .before .before .before .before .before) .args in
-    let r = R (c .before .before .before .before .before .before .before .before .before .before .before .before .before .before .before .before .before .before .before .before .before .before .before .before .before .before .before .before) in
+    let x = (c .before .before .before .before .before .before .before .before .before .before .before .before .before .before .before .before
+    .before .before .before .before .before .before .before .before .before .before .before .before) .args in
+    let r = R (c .before .before .before .before .before .before .before .before .before .before .before .before .before .before .before .before
+    .before .before .before .before .before .before .before .before .before .before .before .before) in
     let o = x .o in
     let g = c .before .before .before .before .before .before .before .before .before .before .before .before .before .before .before .before .before .before .fold-behind in
     let n = c .before .before .before .before .least in
@@ -59,10 +61,15 @@ returns c =
     let w = now (x .proof) in
     let k = now (x .claims) in
     let s = now (x .s) in (
-      elements-below p (λ i. omega (arith, c .before .before .before .before .before .before .before .before .before .before .before .before .before .before .before .before .before .before .before .before .before .before .shared-slice-known3 .given i)),
+      elements-below p (λ i. omega (
+        arith,
+        c .before .before .before .before .before .before .before .before .before .before .before .before .before
+            .before .before .before .before .before .before .before .before .before .shared-slice-known3 .given i,
+      )),
       λ ld ok.
           let F = g .ensures (fold-sizes r ws p w (o .«draws») k s (o .«transcript») ok ld) in
-          let E = c .before .before .before .before .before .before .before .before .before .before .before .before .end .ensures (length ws) (end-sizes r ws p w (o .«draws») k s (o .«transcript») ok ld _ F (g .kept .0)) ld in
+          let E = c .before .before .before .before .before .before .before .before .before .before .before .before .end .ensures (length ws)
+          (end-sizes r ws p w (o .«draws») k s (o .«transcript») ok ld _ F (g .kept .0)) ld in
           later-ends r ws p w (o .«draws») k s (o .«transcript») ok ld _ F (g .kept .0) _ _ _ _ E (n .result) _
           (n .ensures .0) (c .before .before .before .before .before .prover-room .ensures) _ (c .before .before .clear .ensures),
     )

@@ -48,9 +48,9 @@ use denote.Exit.{yes}
 use Rattle.magnetar_relation.specs.declared.shapes.Shapes.{Shapes}
 use Rattle.magnetar_relation.proofs.shapes.Shapes as mShapes
 use Rattle.magnetar_relation.proofs.shapes.Shapes.Laws as lShapes
-use Rattle.magnetar_inplace.specs.declared.records.Entry.{Entry}
-use Rattle.magnetar_inplace.proofs.records.Entry as mEntry
-use Rattle.magnetar_inplace.proofs.records.Entry.Laws as lEntry
+use Rattle.magnetar_records.specs.declared.records.Entry.{Entry}
+use Rattle.magnetar_records.proofs.records.Entry as mEntry
+use Rattle.magnetar_records.proofs.records.Entry.Laws as lEntry
 use Rattle.magnetar_transcript.proofs.Locals.{tidy, bare, kept, dies, alloc, hide, free-all}
 use Rattle.magnetar_transcript.proofs.Again.{LentAgain, lends-again, comes-back}
 use Rattle.magnetar_spartan.proofs.combine.run_alphas as g1
@@ -87,7 +87,19 @@ is-no true a = absurd a
 is-no false _ = refl
 
 abbrev stayed : Stays (f.ended .signature .params) (f.ended .kept)
-stayed = (stay-slice (0 ∷ []) tt (plain (λ _. u64)), (stay-none (λ _. u64) yes, (stay-none (λ _. u64) yes, (stay-none (λ _. mShapes.the-row) yes, (stay-none (λ _. (Array u64 256)) yes, (stay-none-slice (1 ∷ []) tt (plain (λ _. mEntry.the-row)) yes, tt))))))
+stayed = (
+  stay-slice (0 ∷ []) tt (plain (λ _. u64)),
+  (
+    stay-none (λ _. u64) yes,
+    (
+      stay-none (λ _. u64) yes,
+      (
+        stay-none (λ _. mShapes.the-row) yes,
+        (stay-none (λ _. (Array u64 256)) yes, (stay-none-slice (1 ∷ []) tt (plain (λ _. mEntry.the-row)) yes, tt)),
+      ),
+    ),
+  ),
+)
 
 abbrev Callee-g1 : {M : Type 1} (𝓤 : URA M) (H : Heap 𝓤) (A : Atoms 𝓤) (mem : Memory → SProp 𝓤) (run : Routine → Fun 𝓤) → Contract 𝓤
 Callee-g1 𝓤 H A mem run = tripleOf 𝓤 H A g1.signature (g1.spec 𝓤 H A mem run)
@@ -101,7 +113,9 @@ Callee-g3 𝓤 H A mem run = tripleOf 𝓤 H A g3.signature (g3.spec 𝓤 H A me
 abbrev Callee-g4 : {M : Type 1} (𝓤 : URA M) (H : Heap 𝓤) (A : Atoms 𝓤) (mem : Memory → SProp 𝓤) (run : Routine → Fun 𝓤) → Contract 𝓤
 Callee-g4 𝓤 H A mem run = tripleOf 𝓤 H A g4.signature (g4.spec 𝓤 H A mem run)
 
-module _ {M : Type 1} (𝓤 : URA M) (H : Heap 𝓤) (A : Atoms 𝓤) (W : Given 𝓤 H A) (at-mem : Memory → SProp 𝓤) (run : Routine → Fun 𝓤) (κ₀ κ₁ : Lft) (q₀ q₁ : Share) (b1 o1 : ℕ) (γ1 : GName) (ys1 : List ℕ) (n2 : ℕ) (u2 : Val) (n3 : ℕ) (u3 : Val) (n4 : Shapes) (u4 : Val) (n5 : (List ℕ)) (u5 : Val) (s6 : RefT (List Entry)) where
+module _ {M : Type 1} (𝓤 : URA M) (H : Heap 𝓤) (A : Atoms 𝓤) (W : Given 𝓤 H A) (at-mem : Memory → SProp 𝓤) (run : Routine → Fun 𝓤) (κ₀ κ₁ : Lft) (q₀
+    q₁ : Share) (b1 o1 : ℕ) (γ1 : GName) (ys1 : List ℕ) (n2 : ℕ) (u2 : Val) (n3 : ℕ) (u3 : Val) (n4 : Shapes) (u4 : Val) (n5 : (List ℕ)) (u5 : Val)
+    (s6 : RefT (List Entry)) where
   abbrev ref1 : GName → List ℕ → RefT (List ℕ)
   ref1 δ l = record { ptr = (b1, o1); name = δ; now = l }
 
@@ -114,9 +128,11 @@ module _ {M : Type 1} (𝓤 : URA M) (H : Heap 𝓤) (A : Atoms 𝓤) (W : Given
   abbrev Lent1 : ℕ → GName → List ℕ → Fml
   Lent1 ν δ l = LentAgain u64 κ₀ (ν ∷ []) q₀ γ1 b1 o1 δ l
 
-  lends1 : (ℓ : Lifetime) (ν : ℕ) (l : List ℕ) → length l ≡ length ys1 → ent 𝓤 (⋆ 𝓤 H A (‵ (O1 l) ∷ ‵ (flft κ₀ q₀) ∷ [])) (⋆ 𝓤 H A (later (some (λ (δ : GName). ‵ (MutSlice ℓ (ν ∷ []) u64 .own (ref1 δ l) (v1 ∷ [])) ⊛ ‵ (Lent1 ν δ l))) ∷ []))
+  lends1 : (ℓ : Lifetime) (ν : ℕ) (l : List ℕ) → length l ≡ length ys1 → ent 𝓤 (⋆ 𝓤 H A (‵ (O1 l) ∷ ‵ (flft κ₀ q₀) ∷ [])) (⋆ 𝓤 H A (later (some (λ (δ
+      : GName). ‵ (MutSlice ℓ (ν ∷ []) u64 .own (ref1 δ l) (v1 ∷ [])) ⊛ ‵ (Lent1 ν δ l))) ∷ []))
   lends1 ℓ ν l e = subst (λ (t : ℕ). ent 𝓤 (⋆ 𝓤 H A (‵ (MutSlice (named 0) κ₀ u64 .own (ref1 γ1 l) (sliceVal (b1, o1) t ∷ [])) ∷ ‵ (flft κ₀ q₀) ∷ []))
-      (⋆ 𝓤 H A (later (some (λ (δ : GName). ‵ (MutSlice ℓ (ν ∷ []) u64 .own (ref1 δ l) (sliceVal (b1, o1) t ∷ [])) ⊛ ‵ (Lent1 ν δ l))) ∷ []))) e (lends-again u64 κ₀ (ν ∷ []) q₀ γ1 b1 o1 𝓤 H A W (named 0) ℓ l)
+      (⋆ 𝓤 H A (later (some (λ (δ : GName). ‵ (MutSlice ℓ (ν ∷ []) u64 .own (ref1 δ l) (sliceVal (b1, o1) t ∷ [])) ⊛ ‵ (Lent1 ν δ l))) ∷ []))) e
+      (lends-again u64 κ₀ (ν ∷ []) q₀ γ1 b1 o1 𝓤 H A W (named 0) ℓ l)
 
   backs1 : (ℓ : Lifetime) (ν : ℕ) (δ : GName) (l l′ : List ℕ) → length l ≡ length ys1 → Room u64 (length ys1) → length l′ ≡ length l
       → ent 𝓤 (⋆ 𝓤 H A (‵ (fdead (ν ∷ [])) ∷ ‵ (Lent1 ν δ l) ∷ ‵ (finally u64 δ l′) ∷ [])) (⋆ 𝓤 H A (later (‵ (O1 l′) ⊛ ‵ (flft κ₀ q₀)) ∷ []))
@@ -154,51 +170,294 @@ module _ {M : Type 1} (𝓤 : URA M) (H : Heap 𝓤) (A : Atoms 𝓤) (W : Given
   abbrev Post : Val → SProp 𝓤
   Post = walkOf 𝓤 H A f.ended stayed (f.clauses 𝓤 H A at-mem run) .post (((κ₀, (κ₁, tt)), (q₀, (q₁, tt)), tt, a, at), tt)
 
-  module _ (C : Calls 𝓤 H) (Λ : Loops 𝓤 H) (fm : FmC 𝓤 H (W .laws) C) (known-g1 : Triple 𝓤 (C #g1) (Callee-g1 𝓤 H A at-mem run)) (known-g2 : Triple 𝓤 (C #g2) (Callee-g2 𝓤 H A at-mem run)) (known-g3 : Triple 𝓤 (C #g3) (Callee-g3 𝓤 H A at-mem run)) (known-g4 : Triple 𝓤 (C #g4) (Callee-g4 𝓤 H A at-mem run)) (room1 : Room u64 (length ys1)) (w2 : Is u64 n2 (u2 ∷ [])) (w3 : Is u64 n3 (u3 ∷ [])) (w4 : Is mShapes.the-row n4 (u4 ∷ [])) (w5 : Is (Array u64 256) n5 (u5 ∷ [])) (w6 : Is (ShrSlice (named 1) κ₁ mEntry.the-row) s6 (v6 ∷ [])) where
+  module _ (C : Calls 𝓤 H) (Λ : Loops 𝓤 H) (fm : FmC 𝓤 H (W .laws) C) (known-g1 : Triple 𝓤 (C #g1) (Callee-g1 𝓤 H A at-mem run)) (known-g2 : Triple 𝓤
+      (C #g2) (Callee-g2 𝓤 H A at-mem run)) (known-g3 : Triple 𝓤 (C #g3) (Callee-g3 𝓤 H A at-mem run)) (known-g4 : Triple 𝓤 (C #g4) (Callee-g4 𝓤 H A
+      at-mem run)) (room1 : Room u64 (length ys1)) (w2 : Is u64 n2 (u2 ∷ [])) (w3 : Is u64 n3 (u3 ∷ [])) (w4 : Is mShapes.the-row n4 (u4 ∷ [])) (w5 :
+      Is (Array u64 256) n5 (u5 ∷ [])) (w6 : Is (ShrSlice (named 1) κ₁ mEntry.the-row) s6 (v6 ∷ [])) where
     walk : ent 𝓤 (onEntry 𝓤 H A f.signature (κ₀, (κ₁, tt)) (q₀, (q₁, tt)) a at) (WpFn 𝓤 H C Λ code.function (v1 ∷ v2 ∷ v3 ∷ v4 ∷ v5 ∷ v6 ∷ []) Post)
     walk =
-        qed W ((‵ (flft κ₀ q₀) ⊛ ‵ (flft κ₁ q₁) ⊛ ‵ ftrue) ∷ ‵ (owns (MutSlice (named 0) κ₀ u64 ∷ u64 ∷ u64 ∷ mShapes.the-row ∷ (Array u64 256) ∷ ShrSlice (named 1) κ₁ mEntry.the-row ∷ []) a at) ∷ []) ∵ enter ! C Λ code.function (v1 ∷ v2 ∷ v3 ∷ v4 ∷ v5 ∷ v6 ∷ []) _ $
-        nothing ! $ alloc ! (λ l₀. alloc ! (λ l₁. alloc ! (λ l₂. alloc ! (λ l₃. alloc ! (λ l₄. alloc ! (λ l₅. alloc ! (λ l₆. alloc ! (λ l₇. alloc ! (λ l₈. alloc ! (λ l₉. alloc ! (λ l₁₀. alloc ! (λ l₁₁. alloc ! (λ l₁₂. alloc0 ! $ hide ! (λ died die. params1 ! $ pass1 ! (init ! 12 refl (tt, (tt, (record { fits = room1 .0 }, tt)))) $ pass1 ! (init ! 11 refl (uint-lawful 𝓤 H A W w64 .typed n2 _ w2 .0)) $ pass1 ! (init ! 10 refl (uint-lawful 𝓤 H A W w64 .typed n3 _ w3 .0)) $ pass1 ! (init ! 9 refl (LL.lawful mShapes.the-type lShapes.the-laws 𝓤 H A W .typed n4 _ w4 .0)) $ pass1 ! (init ! 8 refl (array-lawful 𝓤 H A W u64 (uint-lawful 𝓤 H A W w64) 256 .typed n5 _ w5 .0)) $ pass1 ! (init ! 7 refl (shr-slice-lawful 𝓤 H A W (named 1) κ₁ mEntry.the-row .typed s6 (v6 ∷ []) w6 .0)) $ pass0 ! $
-        move ! (15 ∷ []) $ fsplit ! $ move ! (1 ∷ []) $ fsplit ! $ move ! (1 ∷ []) $ fsplit ! $ move ! (1 ∷ []) $ fsplit ! $ move ! (1 ∷ []) $ fsplit ! $ move ! (1 ∷ []) $ fsplit ! $ move ! (1 ∷ []) $ drop ! $ move ! (20 ∷ []) $ split ! $ move ! (1 ∷ []) $ split ! $ move ! (1 ∷ []) $ drop ! $ tidy W (_ ∷ _ ∷ _ ∷ _ ∷ _ ∷ _ ∷ _ ∷ _ ∷ _ ∷ _ ∷ _ ∷ _ ∷ _ ∷ _ ∷ _ ∷ _ ∷ _ ∷ _ ∷ _ ∷ _ ∷ _ ∷ _ ∷ []) $
+        qed W ((‵ (flft κ₀ q₀) ⊛ ‵ (flft κ₁ q₁) ⊛ ‵ ftrue) ∷ ‵ (owns (MutSlice (named 0) κ₀ u64 ∷ u64 ∷ u64 ∷ mShapes.the-row ∷ (Array u64 256) ∷
+        ShrSlice (named 1) κ₁ mEntry.the-row ∷ []) a at) ∷ []) ∵ enter ! C Λ code.function (v1 ∷ v2 ∷ v3 ∷ v4 ∷ v5 ∷ v6 ∷ []) _ $
+        nothing ! $ alloc ! (λ l₀. alloc ! (λ l₁. alloc ! (λ l₂. alloc ! (λ l₃. alloc ! (λ l₄. alloc ! (λ l₅. alloc ! (λ l₆. alloc ! (λ l₇. alloc !
+        (λ l₈. alloc ! (λ l₉. alloc ! (λ l₁₀. alloc ! (λ l₁₁. alloc ! (λ l₁₂. alloc0 ! $ hide ! (λ died die. params1 ! $ pass1 ! (init ! 12 refl
+        (tt, (tt, (record { fits = room1 .0 }, tt)))) $ pass1 ! (init ! 11 refl (uint-lawful 𝓤 H A W w64 .typed n2 _ w2 .0)) $ pass1 ! (init ! 10
+        refl (uint-lawful 𝓤 H A W w64 .typed n3 _ w3 .0)) $ pass1 ! (init ! 9 refl (LL.lawful mShapes.the-type lShapes.the-laws 𝓤 H A W .typed n4
+        _ w4 .0)) $ pass1 ! (init ! 8 refl (array-lawful 𝓤 H A W u64 (uint-lawful 𝓤 H A W w64) 256 .typed n5 _ w5 .0)) $ pass1 ! (init ! 7 refl
+        (shr-slice-lawful 𝓤 H A W (named 1) κ₁ mEntry.the-row .typed s6 (v6 ∷ []) w6 .0)) $ pass0 ! $
+        move ! (15 ∷ []) $ fsplit ! $ move ! (1 ∷ []) $ fsplit ! $ move ! (1 ∷ []) $ fsplit ! $ move ! (1 ∷ []) $ fsplit ! $ move ! (1 ∷ []) $ fsplit
+        ! $ move ! (1 ∷ []) $ fsplit ! $ move ! (1 ∷ []) $ drop ! $ move ! (20 ∷ []) $ split ! $ move ! (1 ∷ []) $ split ! $ move ! (1 ∷ []) $
+        drop ! $ tidy W (_ ∷ _ ∷ _ ∷ _ ∷ _ ∷ _ ∷ _ ∷ _ ∷ _ ∷ _ ∷ _ ∷ _ ∷ _ ∷ _ ∷ _ ∷ _ ∷ _ ∷ _ ∷ _ ∷ _ ∷ _ ∷ _ ∷ []) $
         tidy W (_ ∷ _ ∷ _ ∷ _ ∷ _ ∷ _ ∷ _ ∷ _ ∷ _ ∷ _ ∷ _ ∷ _ ∷ _ ∷ _ ∷ _ ∷ _ ∷ _ ∷ _ ∷ _ ∷ _ ∷ _ ∷ _ ∷ []) $ nothing ! $
         -- call 1
-        use1 W (raw (Callee-g1 𝓤 H A at-mem run .pre ((tt, tt, tt, (n3, (n4, (n5, tt))), (u3 ∷ [], (u4 ∷ [], (u5 ∷ [], tt)))), tt))) (qed W ((‵ ftrue) ∷ []) ∵ nothing ! $ owned ! (Array u64 256) (Is (Array u64 256)) (array-makes 𝓤 H A W u64 (uint-makes 𝓤 H A W w64) 256) (n5) _ w5 $ fjoin ! $ owned ! mShapes.the-row (Is mShapes.the-row) (LL.makes mShapes.the-type lShapes.the-plain 𝓤 H A) (n4) _ w4 $ fjoin ! $ owned ! u64 (Is u64) (uint-makes 𝓤 H A W w64) (n3) _ w3 $ fjoin ! $ move ! (1 ∷ 0 ∷ []) $ join ! $ nothing ! $ move ! (1 ∷ 0 ∷ []) $ frame ! $ done !) $
-        calls-at ! fm (Callee-g1 𝓤 H A at-mem run) known-g1 ((tt, tt, tt, (n3, (n4, (n5, tt))), (u3 ∷ [], (u4 ∷ [], (u5 ∷ [], tt)))), tt) (and-then ! (load ! (from ! (stop !)) (look ! 19 refl)) (and-then ! (load ! (from ! (stop !)) (look ! 18 refl)) (and-then ! (load ! (from ! (stop !)) (look ! 17 refl)) (no-more !)))) (λ z1.
-        use1 W (later (some (λ (r1 : (List ℕ)). ((‵ ftrue) ⊛ ‵ ((Array u64 12) .own r1 (z1 ∷ []))) ⊛ some (λ (ws : Lasts g1.ended tt (n3, (n4, (n5, tt)))). ‵ (lasts g1.ended tt (n3, (n4, (n5, tt))) ws) ⊛ raw (g1.clauses 𝓤 H A at-mem run tt (n3, (n4, (n5, tt))) .ensures tt r1 (atExit g1.ended tt (n3, (n4, (n5, tt))) ws)))))) (id⊢ 𝓤 _) $ await ! tt $ pick ! (λ r1. split ! $ move ! (1 ∷ []) $ pick ! (λ ws1. split ! $ move ! (1 ∷ []) $ heard ! _ (λ e1.
-        drop ! $ split ! $ move ! (1 ∷ []) $ peeks ! (Array u64 12) (Is (Array u64 12)) (shows 𝓤 H A (Array u64 12)) r1 (z1 ∷ []) (λ i1. drop ! $ land ! (from ! (stop !)) (init ! 15 refl (array-lawful 𝓤 H A W u64 (uint-lawful 𝓤 H A W w64) 12 .typed r1 _ i1 .0)) $
-        tidy W (_ ∷ _ ∷ _ ∷ _ ∷ _ ∷ _ ∷ _ ∷ _ ∷ _ ∷ _ ∷ _ ∷ _ ∷ _ ∷ _ ∷ _ ∷ _ ∷ _ ∷ _ ∷ _ ∷ _ ∷ _ ∷ _ ∷ _ ∷ []) $ drop ! $ tidy W (_ ∷ _ ∷ _ ∷ _ ∷ _ ∷ _ ∷ _ ∷ _ ∷ _ ∷ _ ∷ _ ∷ _ ∷ _ ∷ _ ∷ _ ∷ _ ∷ _ ∷ _ ∷ _ ∷ _ ∷ _ ∷ _ ∷ []) $ nothing ! $
+        use1 W (raw (Callee-g1 𝓤 H A at-mem run .pre ((tt, tt, tt, (n3, (n4, (n5, tt))), (u3 ∷ [], (u4 ∷ [], (u5 ∷ [], tt)))), tt))) (qed W ((‵
+        ftrue) ∷ []) ∵ nothing ! $ owned ! (Array u64 256) (Is (Array u64 256)) (array-makes 𝓤 H A W u64 (uint-makes 𝓤 H A W w64) 256) (n5) _ w5
+        $ fjoin ! $ owned ! mShapes.the-row (Is mShapes.the-row) (LL.makes mShapes.the-type lShapes.the-plain 𝓤 H A) (n4) _ w4 $ fjoin ! $ owned
+        ! u64 (Is u64) (uint-makes 𝓤 H A W w64) (n3) _ w3 $ fjoin ! $ move ! (1 ∷ 0 ∷ []) $ join ! $ nothing ! $ move ! (1 ∷ 0 ∷ []) $ frame ! $
+        done !) $
+        calls-at ! fm (Callee-g1 𝓤 H A at-mem run) known-g1 ((tt, tt, tt, (n3, (n4, (n5, tt))), (u3 ∷ [], (u4 ∷ [], (u5 ∷ [], tt)))), tt) (and-then !
+        (load ! (from ! (stop !)) (look ! 19 refl)) (and-then ! (load ! (from ! (stop !)) (look ! 18 refl)) (and-then ! (load ! (from ! (stop !))
+        (look ! 17 refl)) (no-more !)))) (λ z1.
+        use1 W (later (some (λ (r1 : (List ℕ)). ((‵ ftrue) ⊛ ‵ ((Array u64 12) .own r1 (z1 ∷ []))) ⊛ some (λ (ws : Lasts g1.ended tt (
+          n3,
+          (
+            n4,
+            (
+              n5,
+              tt,
+            ),
+          ),
+        )). ‵ (lasts g1.ended tt (n3, (n4, (n5, tt))) ws) ⊛ raw (g1.clauses 𝓤 H A at-mem run tt (n3, (n4, (n5, tt))) .ensures tt r1 (atExit
+        g1.ended tt (n3, (n4, (n5, tt))) ws)))))) (id⊢ 𝓤 _) $ await ! tt $ pick ! (λ r1. split ! $ move ! (1 ∷ []) $ pick ! (λ ws1. split ! $
+        move ! (1 ∷ []) $ heard ! _ (λ e1.
+        drop ! $ split ! $ move ! (1 ∷ []) $ peeks ! (Array u64 12) (Is (Array u64 12)) (shows 𝓤 H A (Array u64 12)) r1 (z1 ∷ []) (λ i1. drop ! $
+        land ! (from ! (stop !)) (init ! 15 refl (array-lawful 𝓤 H A W u64 (uint-lawful 𝓤 H A W w64) 12 .typed r1 _ i1 .0)) $
+        tidy W (_ ∷ _ ∷ _ ∷ _ ∷ _ ∷ _ ∷ _ ∷ _ ∷ _ ∷ _ ∷ _ ∷ _ ∷ _ ∷ _ ∷ _ ∷ _ ∷ _ ∷ _ ∷ _ ∷ _ ∷ _ ∷ _ ∷ _ ∷ []) $ drop ! $ tidy W (_ ∷ _ ∷ _ ∷ _ ∷ _
+        ∷ _ ∷ _ ∷ _ ∷ _ ∷ _ ∷ _ ∷ _ ∷ _ ∷ _ ∷ _ ∷ _ ∷ _ ∷ _ ∷ _ ∷ _ ∷ _ ∷ _ ∷ []) $ nothing ! $
         -- call 2
-        use1 W (raw (Callee-g2 𝓤 H A at-mem run .pre ((tt, tt, tt, (n3, (n4, (n5, tt))), (u3 ∷ [], (u4 ∷ [], (u5 ∷ [], tt)))), tt))) (qed W ((‵ ftrue) ∷ []) ∵ nothing ! $ owned ! (Array u64 256) (Is (Array u64 256)) (array-makes 𝓤 H A W u64 (uint-makes 𝓤 H A W w64) 256) (n5) _ w5 $ fjoin ! $ owned ! mShapes.the-row (Is mShapes.the-row) (LL.makes mShapes.the-type lShapes.the-plain 𝓤 H A) (n4) _ w4 $ fjoin ! $ owned ! u64 (Is u64) (uint-makes 𝓤 H A W w64) (n3) _ w3 $ fjoin ! $ move ! (1 ∷ 0 ∷ []) $ join ! $ nothing ! $ move ! (1 ∷ 0 ∷ []) $ frame ! $ done !) $
-        calls-at ! fm (Callee-g2 𝓤 H A at-mem run) known-g2 ((tt, tt, tt, (n3, (n4, (n5, tt))), (u3 ∷ [], (u4 ∷ [], (u5 ∷ [], tt)))), tt) (and-then ! (load ! (from ! (stop !)) (look ! 19 refl)) (and-then ! (load ! (from ! (stop !)) (look ! 18 refl)) (and-then ! (load ! (from ! (stop !)) (look ! 17 refl)) (no-more !)))) (λ z2.
-        use1 W (later (some (λ (r2 : (List ℕ)). ((‵ ftrue) ⊛ ‵ ((Array u64 32) .own r2 (z2 ∷ []))) ⊛ some (λ (ws : Lasts g2.ended tt (n3, (n4, (n5, tt)))). ‵ (lasts g2.ended tt (n3, (n4, (n5, tt))) ws) ⊛ raw (g2.clauses 𝓤 H A at-mem run tt (n3, (n4, (n5, tt))) .ensures tt r2 (atExit g2.ended tt (n3, (n4, (n5, tt))) ws)))))) (id⊢ 𝓤 _) $ await ! tt $ pick ! (λ r2. split ! $ move ! (1 ∷ []) $ pick ! (λ ws2. split ! $ move ! (1 ∷ []) $ heard ! _ (λ e2.
-        drop ! $ split ! $ move ! (1 ∷ []) $ peeks ! (Array u64 32) (Is (Array u64 32)) (shows 𝓤 H A (Array u64 32)) r2 (z2 ∷ []) (λ i2. drop ! $ land ! (from ! (stop !)) (init ! 14 refl (array-lawful 𝓤 H A W u64 (uint-lawful 𝓤 H A W w64) 32 .typed r2 _ i2 .0)) $
-        tidy W (_ ∷ _ ∷ _ ∷ _ ∷ _ ∷ _ ∷ _ ∷ _ ∷ _ ∷ _ ∷ _ ∷ _ ∷ _ ∷ _ ∷ _ ∷ _ ∷ _ ∷ _ ∷ _ ∷ _ ∷ _ ∷ _ ∷ _ ∷ []) $ drop ! $ tidy W (_ ∷ _ ∷ _ ∷ _ ∷ _ ∷ _ ∷ _ ∷ _ ∷ _ ∷ _ ∷ _ ∷ _ ∷ _ ∷ _ ∷ _ ∷ _ ∷ _ ∷ _ ∷ _ ∷ _ ∷ _ ∷ _ ∷ []) $ nothing ! $
+        use1 W (raw (Callee-g2 𝓤 H A at-mem run .pre ((tt, tt, tt, (n3, (n4, (n5, tt))), (u3 ∷ [], (u4 ∷ [], (u5 ∷ [], tt)))), tt))) (qed W ((‵
+        ftrue) ∷ []) ∵ nothing ! $ owned ! (Array u64 256) (Is (Array u64 256)) (array-makes 𝓤 H A W u64 (uint-makes 𝓤 H A W w64) 256) (n5) _ w5
+        $ fjoin ! $ owned ! mShapes.the-row (Is mShapes.the-row) (LL.makes mShapes.the-type lShapes.the-plain 𝓤 H A) (n4) _ w4 $ fjoin ! $ owned
+        ! u64 (Is u64) (uint-makes 𝓤 H A W w64) (n3) _ w3 $ fjoin ! $ move ! (1 ∷ 0 ∷ []) $ join ! $ nothing ! $ move ! (1 ∷ 0 ∷ []) $ frame ! $
+        done !) $
+        calls-at ! fm (Callee-g2 𝓤 H A at-mem run) known-g2 ((tt, tt, tt, (n3, (n4, (n5, tt))), (u3 ∷ [], (u4 ∷ [], (u5 ∷ [], tt)))), tt) (and-then !
+        (load ! (from ! (stop !)) (look ! 19 refl)) (and-then ! (load ! (from ! (stop !)) (look ! 18 refl)) (and-then ! (load ! (from ! (stop !))
+        (look ! 17 refl)) (no-more !)))) (λ z2.
+        use1 W (later (some (λ (r2 : (List ℕ)). ((‵ ftrue) ⊛ ‵ ((Array u64 32) .own r2 (z2 ∷ []))) ⊛ some (λ (ws : Lasts g2.ended tt (
+          n3,
+          (
+            n4,
+            (
+              n5,
+              tt,
+            ),
+          ),
+        )). ‵ (lasts g2.ended tt (n3, (n4, (n5, tt))) ws) ⊛ raw (g2.clauses 𝓤 H A at-mem run tt (n3, (n4, (n5, tt))) .ensures tt r2 (atExit
+        g2.ended tt (n3, (n4, (n5, tt))) ws)))))) (id⊢ 𝓤 _) $ await ! tt $ pick ! (λ r2. split ! $ move ! (1 ∷ []) $ pick ! (λ ws2. split ! $
+        move ! (1 ∷ []) $ heard ! _ (λ e2.
+        drop ! $ split ! $ move ! (1 ∷ []) $ peeks ! (Array u64 32) (Is (Array u64 32)) (shows 𝓤 H A (Array u64 32)) r2 (z2 ∷ []) (λ i2. drop ! $
+        land ! (from ! (stop !)) (init ! 14 refl (array-lawful 𝓤 H A W u64 (uint-lawful 𝓤 H A W w64) 32 .typed r2 _ i2 .0)) $
+        tidy W (_ ∷ _ ∷ _ ∷ _ ∷ _ ∷ _ ∷ _ ∷ _ ∷ _ ∷ _ ∷ _ ∷ _ ∷ _ ∷ _ ∷ _ ∷ _ ∷ _ ∷ _ ∷ _ ∷ _ ∷ _ ∷ _ ∷ _ ∷ []) $ drop ! $ tidy W (_ ∷ _ ∷ _ ∷ _ ∷ _
+        ∷ _ ∷ _ ∷ _ ∷ _ ∷ _ ∷ _ ∷ _ ∷ _ ∷ _ ∷ _ ∷ _ ∷ _ ∷ _ ∷ _ ∷ _ ∷ _ ∷ _ ∷ []) $ nothing ! $
         -- call 3
-        use1 W (raw (Callee-g3 𝓤 H A at-mem run .pre ((tt, tt, tt, (n3, (n4, (n5, tt))), (u3 ∷ [], (u4 ∷ [], (u5 ∷ [], tt)))), tt))) (qed W ((‵ ftrue) ∷ []) ∵ nothing ! $ owned ! (Array u64 256) (Is (Array u64 256)) (array-makes 𝓤 H A W u64 (uint-makes 𝓤 H A W w64) 256) (n5) _ w5 $ fjoin ! $ owned ! mShapes.the-row (Is mShapes.the-row) (LL.makes mShapes.the-type lShapes.the-plain 𝓤 H A) (n4) _ w4 $ fjoin ! $ owned ! u64 (Is u64) (uint-makes 𝓤 H A W w64) (n3) _ w3 $ fjoin ! $ move ! (1 ∷ 0 ∷ []) $ join ! $ nothing ! $ move ! (1 ∷ 0 ∷ []) $ frame ! $ done !) $
-        calls-at ! fm (Callee-g3 𝓤 H A at-mem run) known-g3 ((tt, tt, tt, (n3, (n4, (n5, tt))), (u3 ∷ [], (u4 ∷ [], (u5 ∷ [], tt)))), tt) (and-then ! (load ! (from ! (stop !)) (look ! 19 refl)) (and-then ! (load ! (from ! (stop !)) (look ! 18 refl)) (and-then ! (load ! (from ! (stop !)) (look ! 17 refl)) (no-more !)))) (λ z3.
-        use1 W (later (some (λ (r3 : (List ℕ)). ((‵ ftrue) ⊛ ‵ ((Array u64 32) .own r3 (z3 ∷ []))) ⊛ some (λ (ws : Lasts g3.ended tt (n3, (n4, (n5, tt)))). ‵ (lasts g3.ended tt (n3, (n4, (n5, tt))) ws) ⊛ raw (g3.clauses 𝓤 H A at-mem run tt (n3, (n4, (n5, tt))) .ensures tt r3 (atExit g3.ended tt (n3, (n4, (n5, tt))) ws)))))) (id⊢ 𝓤 _) $ await ! tt $ pick ! (λ r3. split ! $ move ! (1 ∷ []) $ pick ! (λ ws3. split ! $ move ! (1 ∷ []) $ heard ! _ (λ e3.
-        drop ! $ split ! $ move ! (1 ∷ []) $ peeks ! (Array u64 32) (Is (Array u64 32)) (shows 𝓤 H A (Array u64 32)) r3 (z3 ∷ []) (λ i3. drop ! $ land ! (from ! (stop !)) (init ! 13 refl (array-lawful 𝓤 H A W u64 (uint-lawful 𝓤 H A W w64) 32 .typed r3 _ i3 .0)) $
-        tidy W (_ ∷ _ ∷ _ ∷ _ ∷ _ ∷ _ ∷ _ ∷ _ ∷ _ ∷ _ ∷ _ ∷ _ ∷ _ ∷ _ ∷ _ ∷ _ ∷ _ ∷ _ ∷ _ ∷ _ ∷ _ ∷ _ ∷ _ ∷ []) $ drop ! $ assigns ! (addr ! (from ! (fld ! refl (hop ! (look-in ! 20 (sub ! 0 refl (whole !))) (stop !))))) (from ! (stop !)) (init ! 10 refl (tt, tt)) $
-        assigns ! (agg ! (and-then ! (load ! (from ! (stop !)) (look ! 10 refl)) (and-then ! (load ! (from ! (fld ! refl (stop !))) (look-in ! 20 (sub ! 1 refl (whole !)))) (no-more !)))) (from ! (stop !)) (init ! 9 refl (tt, (tt, (record { fits = room1 .0 }, tt)))) $
-        lft-new ! tt (λ ν4a. move ! (8 ∷ 2 ∷ []) $ use2 W (later (some (λ (δ : GName). ‵ (MutSlice (named 0) (ν4a ∷ []) u64 .own (ref1 δ (ys1)) (v1 ∷ [])) ⊛ ‵ (Lent1 ν4a δ (ys1))))) (lends1 (named 0) ν4a (ys1) (refl)) $ await ! tt $ pick ! (λ δ4a. split ! $ move ! (4 ∷ []) $ use1 W (‵ (O6) ⊛ ‵ (O6)) (shr-slice-copy 𝓤 H A W (named 1) κ₁ mEntry.the-row .twice s6 (v6 ∷ [])) $ split ! $ tidy W (_ ∷ _ ∷ _ ∷ _ ∷ _ ∷ _ ∷ _ ∷ _ ∷ _ ∷ _ ∷ _ ∷ _ ∷ _ ∷ _ ∷ _ ∷ _ ∷ _ ∷ _ ∷ _ ∷ _ ∷ _ ∷ _ ∷ _ ∷ _ ∷ []) $ nothing ! $ move ! (6 ∷ 0 ∷ []) $ join ! $ move ! (5 ∷ 0 ∷ []) $ join ! $ move ! (3 ∷ 1 ∷ []) $ join ! $ move ! (1 ∷ 0 ∷ []) $ join ! $
+        use1 W (raw (Callee-g3 𝓤 H A at-mem run .pre ((tt, tt, tt, (n3, (n4, (n5, tt))), (u3 ∷ [], (u4 ∷ [], (u5 ∷ [], tt)))), tt))) (qed W ((‵
+        ftrue) ∷ []) ∵ nothing ! $ owned ! (Array u64 256) (Is (Array u64 256)) (array-makes 𝓤 H A W u64 (uint-makes 𝓤 H A W w64) 256) (n5) _ w5
+        $ fjoin ! $ owned ! mShapes.the-row (Is mShapes.the-row) (LL.makes mShapes.the-type lShapes.the-plain 𝓤 H A) (n4) _ w4 $ fjoin ! $ owned
+        ! u64 (Is u64) (uint-makes 𝓤 H A W w64) (n3) _ w3 $ fjoin ! $ move ! (1 ∷ 0 ∷ []) $ join ! $ nothing ! $ move ! (1 ∷ 0 ∷ []) $ frame ! $
+        done !) $
+        calls-at ! fm (Callee-g3 𝓤 H A at-mem run) known-g3 ((tt, tt, tt, (n3, (n4, (n5, tt))), (u3 ∷ [], (u4 ∷ [], (u5 ∷ [], tt)))), tt) (and-then !
+        (load ! (from ! (stop !)) (look ! 19 refl)) (and-then ! (load ! (from ! (stop !)) (look ! 18 refl)) (and-then ! (load ! (from ! (stop !))
+        (look ! 17 refl)) (no-more !)))) (λ z3.
+        use1 W (later (some (λ (r3 : (List ℕ)). ((‵ ftrue) ⊛ ‵ ((Array u64 32) .own r3 (z3 ∷ []))) ⊛ some (λ (ws : Lasts g3.ended tt (
+          n3,
+          (
+            n4,
+            (
+              n5,
+              tt,
+            ),
+          ),
+        )). ‵ (lasts g3.ended tt (n3, (n4, (n5, tt))) ws) ⊛ raw (g3.clauses 𝓤 H A at-mem run tt (n3, (n4, (n5, tt))) .ensures tt r3 (atExit
+        g3.ended tt (n3, (n4, (n5, tt))) ws)))))) (id⊢ 𝓤 _) $ await ! tt $ pick ! (λ r3. split ! $ move ! (1 ∷ []) $ pick ! (λ ws3. split ! $
+        move ! (1 ∷ []) $ heard ! _ (λ e3.
+        drop ! $ split ! $ move ! (1 ∷ []) $ peeks ! (Array u64 32) (Is (Array u64 32)) (shows 𝓤 H A (Array u64 32)) r3 (z3 ∷ []) (λ i3. drop ! $
+        land ! (from ! (stop !)) (init ! 13 refl (array-lawful 𝓤 H A W u64 (uint-lawful 𝓤 H A W w64) 32 .typed r3 _ i3 .0)) $
+        tidy W (_ ∷ _ ∷ _ ∷ _ ∷ _ ∷ _ ∷ _ ∷ _ ∷ _ ∷ _ ∷ _ ∷ _ ∷ _ ∷ _ ∷ _ ∷ _ ∷ _ ∷ _ ∷ _ ∷ _ ∷ _ ∷ _ ∷ _ ∷ []) $ drop ! $ assigns ! (addr ! (from !
+        (fld ! refl (hop ! (look-in ! 20 (sub ! 0 refl (whole !))) (stop !))))) (from ! (stop !)) (init ! 10 refl (tt, tt)) $
+        assigns ! (agg ! (and-then ! (load ! (from ! (stop !)) (look ! 10 refl)) (and-then ! (load ! (from ! (fld ! refl (stop !))) (look-in ! 20
+        (sub ! 1 refl (whole !)))) (no-more !)))) (from ! (stop !)) (init ! 9 refl (tt, (tt, (record { fits = room1 .0 }, tt)))) $
+        lft-new ! tt (λ ν4a. move ! (8 ∷ 2 ∷ []) $ use2 W (later (some (λ (δ : GName). ‵ (MutSlice (named 0) (ν4a ∷ []) u64 .own (ref1 δ (ys1)) (v1 ∷
+        [])) ⊛ ‵ (Lent1 ν4a δ (ys1))))) (lends1 (named 0) ν4a (ys1) (refl)) $ await ! tt $ pick ! (λ δ4a. split ! $ move ! (4 ∷ []) $ use1 W (‵
+        (O6) ⊛ ‵ (O6)) (shr-slice-copy 𝓤 H A W (named 1) κ₁ mEntry.the-row .twice s6 (v6 ∷ [])) $ split ! $ tidy W (_ ∷ _ ∷ _ ∷ _ ∷ _ ∷ _ ∷ _ ∷ _
+        ∷ _ ∷ _ ∷ _ ∷ _ ∷ _ ∷ _ ∷ _ ∷ _ ∷ _ ∷ _ ∷ _ ∷ _ ∷ _ ∷ _ ∷ _ ∷ _ ∷ []) $ nothing ! $ move ! (6 ∷ 0 ∷ []) $ join ! $ move ! (5 ∷ 0 ∷ []) $
+        join ! $ move ! (3 ∷ 1 ∷ []) $ join ! $ move ! (1 ∷ 0 ∷ []) $ join ! $
         -- call 4
-        use1 W (raw (Callee-g4 𝓤 H A at-mem run .pre ((((ν4a ∷ []), (κ₁, tt)), (fullShare, (q₁, tt)), tt, (ref1 δ4a (ys1), (n2, (n4, (r1, (r2, (r3, (s6, tt))))))), (v1 ∷ [], (u2 ∷ [], (u4 ∷ [], (z1 ∷ [], (z2 ∷ [], (z3 ∷ [], (v6 ∷ [], tt)))))))), tt))) (qed W ((‵ (flft (ν4a ∷ []) fullShare) ⊛ ‵ (flft κ₁ q₁) ⊛ ‵ ftrue) ∷ ‵ (MutSlice (named 0) (ν4a ∷ []) u64 .own (ref1 δ4a (ys1)) (v1 ∷ [])) ∷ ‵ (ShrSlice (named 1) κ₁ mEntry.the-row .own s6 (v6 ∷ [])) ∷ []) ∵ nothing ! $ move ! (3 ∷ 0 ∷ []) $ fjoin ! $ owned ! (Array u64 32) (Is (Array u64 32)) (array-makes 𝓤 H A W u64 (uint-makes 𝓤 H A W w64) 32) (r3) _ i3 $ fjoin ! $ owned ! (Array u64 32) (Is (Array u64 32)) (array-makes 𝓤 H A W u64 (uint-makes 𝓤 H A W w64) 32) (r2) _ i2 $ fjoin ! $ owned ! (Array u64 12) (Is (Array u64 12)) (array-makes 𝓤 H A W u64 (uint-makes 𝓤 H A W w64) 12) (r1) _ i1 $ fjoin ! $ owned ! mShapes.the-row (Is mShapes.the-row) (LL.makes mShapes.the-type lShapes.the-plain 𝓤 H A) (n4) _ w4 $ fjoin ! $ owned ! u64 (Is u64) (uint-makes 𝓤 H A W w64) (n2) _ w2 $ fjoin ! $ move ! (2 ∷ 0 ∷ []) $ fjoin ! $ move ! (1 ∷ 0 ∷ []) $ join ! $ nothing ! $ move ! (1 ∷ 0 ∷ []) $ frame ! $ done !) $
-        calls-at ! fm (Callee-g4 𝓤 H A at-mem run) known-g4 ((((ν4a ∷ []), (κ₁, tt)), (fullShare, (q₁, tt)), tt, (ref1 δ4a (ys1), (n2, (n4, (r1, (r2, (r3, (s6, tt))))))), (v1 ∷ [], (u2 ∷ [], (u4 ∷ [], (z1 ∷ [], (z2 ∷ [], (z3 ∷ [], (v6 ∷ [], tt)))))))), tt) (and-then ! (load ! (from ! (stop !)) (look ! 8 refl)) (and-then ! (load ! (from ! (stop !)) (look ! 18 refl)) (and-then ! (load ! (from ! (stop !)) (look ! 16 refl)) (and-then ! (load ! (from ! (stop !)) (look ! 13 refl)) (and-then ! (load ! (from ! (stop !)) (look ! 12 refl)) (and-then ! (load ! (from ! (stop !)) (look ! 11 refl)) (and-then ! (load ! (from ! (stop !)) (look ! 14 refl)) (no-more !)))))))) (λ z4.
-        use1 W (later (some (λ (r4 : Unit {0}). ((‵ (flft (ν4a ∷ []) fullShare) ⊛ ‵ (flft κ₁ q₁) ⊛ ‵ ftrue) ⊛ ‵ (unit .own r4 (z4 ∷ []))) ⊛ some (λ (ws : Lasts g4.ended ((ν4a ∷ []), (κ₁, tt)) (ref1 δ4a (ys1), (n2, (n4, (r1, (r2, (r3, (s6, tt)))))))). ‵ (lasts g4.ended ((ν4a ∷ []), (κ₁, tt)) (ref1 δ4a (ys1), (n2, (n4, (r1, (r2, (r3, (s6, tt))))))) ws) ⊛ raw (g4.clauses 𝓤 H A at-mem run ((ν4a ∷ []), (κ₁, tt)) (ref1 δ4a (ys1), (n2, (n4, (r1, (r2, (r3, (s6, tt))))))) .ensures tt r4 (atExit g4.ended ((ν4a ∷ []), (κ₁, tt)) (ref1 δ4a (ys1), (n2, (n4, (r1, (r2, (r3, (s6, tt))))))) ws)))))) (id⊢ 𝓤 _) $ await ! tt $ pick ! (λ r4. split ! $ move ! (1 ∷ []) $ pick ! (λ ws4. split ! $ move ! (1 ∷ []) $ heard ! _ (λ e4.
-        fsplit ! $ fsplit ! $ move ! (1 ∷ []) $ feqL ! (λ same4a. move ! (1 ∷ []) $ drop ! $ move ! (1 ∷ []) $ split ! $ move ! (1 ∷ []) $ feqL ! (λ i4. land ! (from ! (stop !)) (init ! 11 refl (subst (λ (t : Val). Trueᴮ (hasTy tyUnit t) × WT t) (sym (ap only i4)) (tt, tt))) $
-        tidy W (_ ∷ _ ∷ _ ∷ _ ∷ _ ∷ _ ∷ _ ∷ _ ∷ _ ∷ _ ∷ _ ∷ _ ∷ _ ∷ _ ∷ _ ∷ _ ∷ _ ∷ _ ∷ _ ∷ _ ∷ _ ∷ _ ∷ []) $ split ! $ move ! (1 ∷ []) $ split ! $ move ! (1 ∷ []) $ drop ! $ move ! (1 ∷ []) $ lft-end ! tt $ move ! (0 ∷ 4 ∷ 2 ∷ []) $ use3 W (later (‵ (O1 (ws4 .0)) ⊛ ‵ (flft κ₀ q₀))) (backs1 (named 0) ν4a δ4a (ys1) (ws4 .0) (refl) room1 same4a) $ await ! tt $ split ! $
+        use1 W (raw (Callee-g4 𝓤 H A at-mem run .pre (
+          (
+            ((ν4a ∷ []), (κ₁, tt)),
+            (fullShare, (q₁, tt)),
+            tt,
+            (
+              ref1 δ4a (ys1),
+              (
+                n2,
+                (
+                  n4,
+                  (
+                    r1,
+                    (
+                      r2,
+                      (
+                        r3,
+                        (s6, tt),
+                      ),
+                    ),
+                  ),
+                ),
+              ),
+            ),
+            (v1 ∷ [], (u2 ∷ [], (u4 ∷ [], (z1 ∷ [], (z2 ∷ [], (z3 ∷ [], (v6 ∷ [], tt))))))),
+          ),
+          tt,
+        ))) (qed W ((‵ (flft (ν4a ∷ [])
+        fullShare) ⊛ ‵ (flft κ₁ q₁) ⊛ ‵ ftrue) ∷ ‵ (MutSlice (named 0) (ν4a ∷ []) u64 .own (ref1 δ4a (ys1)) (v1 ∷ [])) ∷ ‵ (ShrSlice (named 1) κ₁
+        mEntry.the-row .own s6 (v6 ∷ [])) ∷ []) ∵ nothing ! $ move ! (3 ∷ 0 ∷ []) $ fjoin ! $ owned ! (Array u64 32) (Is (Array u64 32))
+        (array-makes 𝓤 H A W u64 (uint-makes 𝓤 H A W w64) 32) (r3) _ i3 $ fjoin ! $ owned ! (Array u64 32) (Is (Array u64 32)) (array-makes 𝓤 H A
+        W u64 (uint-makes 𝓤 H A W w64) 32) (r2) _ i2 $ fjoin ! $ owned ! (Array u64 12) (Is (Array u64 12)) (array-makes 𝓤 H A W u64 (uint-makes
+        𝓤 H A W w64) 12) (r1) _ i1 $ fjoin ! $ owned ! mShapes.the-row (Is mShapes.the-row) (LL.makes mShapes.the-type lShapes.the-plain 𝓤 H A)
+        (n4) _ w4 $ fjoin ! $ owned ! u64 (Is u64) (uint-makes 𝓤 H A W w64) (n2) _ w2 $ fjoin ! $ move ! (2 ∷ 0 ∷ []) $ fjoin ! $ move ! (1 ∷ 0 ∷
+        []) $ join ! $ nothing ! $ move ! (1 ∷ 0 ∷ []) $ frame ! $ done !) $
+        calls-at ! fm (Callee-g4 𝓤 H A at-mem run) known-g4 (
+          (
+            ((ν4a ∷ []), (κ₁, tt)),
+            (fullShare, (q₁, tt)),
+            tt,
+            (
+              ref1 δ4a (ys1),
+              (
+                n2,
+                (
+                  n4,
+                  (
+                    r1,
+                    (
+                      r2,
+                      (r3, (s6, tt)),
+                    ),
+                  ),
+                ),
+              ),
+            ),
+            (v1 ∷ [], (u2 ∷ [], (u4 ∷ [], (z1 ∷ [], (z2 ∷ [], (z3 ∷ [], (v6 ∷ [], tt))))))),
+          ),
+          tt,
+        ) (and-then ! (load ! (from !
+        (stop !)) (look ! 8 refl)) (and-then ! (load ! (from ! (stop !)) (look ! 18 refl)) (and-then ! (load ! (from ! (stop !)) (look ! 16
+        refl)) (and-then ! (load ! (from ! (stop !)) (look ! 13 refl)) (and-then ! (load ! (from ! (stop !)) (look ! 12 refl)) (and-then ! (load
+        ! (from ! (stop !)) (look ! 11 refl)) (and-then ! (load ! (from ! (stop !)) (look ! 14 refl)) (no-more !)))))))) (λ z4.
+        use1 W (later (some (λ (r4 : Unit {0}). ((‵ (flft (ν4a ∷ []) fullShare) ⊛ ‵ (flft κ₁ q₁) ⊛ ‵ ftrue) ⊛ ‵ (unit .own r4 (z4 ∷ []))) ⊛ some (λ
+        (ws : Lasts g4.ended ((ν4a ∷ []), (κ₁, tt)) (ref1 δ4a (ys1), (n2, (n4, (r1, (r2, (r3, (s6, tt)))))))). ‵ (lasts g4.ended (
+          (ν4a ∷ []),
+          (κ₁, tt),
+        ) (ref1 δ4a (ys1), (n2, (n4, (r1, (r2, (r3, (s6, tt))))))) ws) ⊛ raw (g4.clauses 𝓤 H A at-mem run ((ν4a ∷ []), (κ₁, tt)) (
+          ref1
+              δ4a (ys1),
+          (n2, (n4, (r1, (r2, (r3, (s6, tt)))))),
+        ) .ensures tt r4 (atExit g4.ended ((ν4a ∷ []), (κ₁, tt)) (
+          ref1 δ4a (ys1),
+          (
+            n2,
+            (
+              n4,
+              (
+                r1,
+                (r2, (r3, (s6, tt))),
+              ),
+            ),
+          ),
+        ) ws)))))) (id⊢ 𝓤 _) $ await ! tt $ pick ! (λ r4. split ! $ move ! (1 ∷ []) $ pick ! (λ ws4. split ! $ move ! (1 ∷
+        []) $ heard ! _ (λ e4.
+        fsplit ! $ fsplit ! $ move ! (1 ∷ []) $ feqL ! (λ same4a. move ! (1 ∷ []) $ drop ! $ move ! (1 ∷ []) $ split ! $ move ! (1 ∷ []) $ feqL ! (λ
+        i4. land ! (from ! (stop !)) (init ! 11 refl (subst (λ (t : Val). Trueᴮ (hasTy tyUnit t) × WT t) (sym (ap only i4)) (tt, tt))) $
+        tidy W (_ ∷ _ ∷ _ ∷ _ ∷ _ ∷ _ ∷ _ ∷ _ ∷ _ ∷ _ ∷ _ ∷ _ ∷ _ ∷ _ ∷ _ ∷ _ ∷ _ ∷ _ ∷ _ ∷ _ ∷ _ ∷ _ ∷ []) $ split ! $ move ! (1 ∷ []) $ split ! $
+        move ! (1 ∷ []) $ drop ! $ move ! (1 ∷ []) $ lft-end ! tt $ move ! (0 ∷ 4 ∷ 2 ∷ []) $ use3 W (later (‵ (O1 (ws4 .0)) ⊛ ‵ (flft κ₀ q₀)))
+        (backs1 (named 0) ν4a δ4a (ys1) (ws4 .0) (refl) room1 same4a) $ await ! tt $ split ! $
         assigns ! (of-opd ! (unit-lit !)) (from ! (stop !)) (init ! 21 refl (tt, tt)) $
-        tidy W (_ ∷ _ ∷ _ ∷ _ ∷ _ ∷ _ ∷ _ ∷ _ ∷ _ ∷ _ ∷ _ ∷ _ ∷ _ ∷ _ ∷ _ ∷ _ ∷ _ ∷ _ ∷ _ ∷ _ ∷ _ ∷ _ ∷ []) $ returns ! (look ! 21 refl) $ move ! (8 ∷ []) $ use1 W (dies ((tyUnit, l₀) ∷ (sliceTy (tyRef (named 0) mut (tyInt w64)), l₁) ∷ (tyInt w64, l₂) ∷ (tyInt w64, l₃) ∷ (lShapes.mir, l₄) ∷ (tyArray (tyInt w64) 256, l₅) ∷ (sliceTy (tyRef (named 1) imm (pointee (mEntry.the-row .written))), l₆) ∷ (tyArray (tyInt w64) 12, l₇) ∷ (tyArray (tyInt w64) 32, l₈) ∷ (tyArray (tyInt w64) 32, l₉) ∷ (tyUnit, l₁₀) ∷ (tyRef erased mut (tyInt w64), l₁₁) ∷ (sliceTy (tyRef erased mut (tyInt w64)), l₁₂) ∷ []) (‵ ftrue)) die $ free-all ! 8 ((tyUnit, l₀) ∷ (sliceTy (tyRef (named 0) mut (tyInt w64)), l₁) ∷ (tyInt w64, l₂) ∷ (tyInt w64, l₃) ∷ (lShapes.mir, l₄) ∷ (tyArray (tyInt w64) 256, l₅) ∷ (sliceTy (tyRef (named 1) imm (pointee (mEntry.the-row .written))), l₆) ∷ (tyArray (tyInt w64) 12, l₇) ∷ (tyArray (tyInt w64) 32, l₈) ∷ (tyArray (tyInt w64) 32, l₉) ∷ (tyUnit, l₁₀) ∷ (tyRef erased mut (tyInt w64), l₁₁) ∷ (sliceTy (tyRef erased mut (tyInt w64)), l₁₂) ∷ []) (kept _ ∷ kept _ ∷ kept _ ∷ kept _ ∷ kept _ ∷ kept _ ∷ kept _ ∷ kept _ ∷ kept _ ∷ kept _ ∷ kept _ ∷ kept _ ∷ kept _ ∷ []) refl $
-        suffices ! _ (ends-at 𝓤 H A f.ended stayed (f.clauses 𝓤 H A at-mem run) W (((κ₀, (κ₁, tt)), (q₀, (q₁, tt)), tt, a, at), tt) vunit tt (ws4 .0, (tt, (tt, (tt, (tt, (tt, tt)))))) (same4a, (tt, (tt, (tt, (tt, (tt, tt))))))) $ says ! (e4 ∙ rw (e1, e2, e3)) $
-        nothing ! $ move ! (3 ∷ 0 ∷ []) $ join ! $ move ! (2 ∷ 0 ∷ []) $ join ! $ nothing ! $ move ! (3 ∷ 0 ∷ []) $ fjoin ! $ move ! (3 ∷ 0 ∷ []) $ fjoin ! $ move ! (3 ∷ 0 ∷ []) $ fjoin ! $ move ! (3 ∷ 0 ∷ []) $ fjoin ! $ move ! (3 ∷ 0 ∷ []) $ fjoin ! $ move ! (2 ∷ 0 ∷ []) $ fjoin ! $ keep ! (1 ∷ 0 ∷ []) $ frame ! $ feqI ! (List Val) (vunit ∷ []) (vunit ∷ []) refl $ move ! (1 ∷ 0 ∷ []) $ done !)))))))))))))))))))))))))))))))))))))
+        tidy W (_ ∷ _ ∷ _ ∷ _ ∷ _ ∷ _ ∷ _ ∷ _ ∷ _ ∷ _ ∷ _ ∷ _ ∷ _ ∷ _ ∷ _ ∷ _ ∷ _ ∷ _ ∷ _ ∷ _ ∷ _ ∷ _ ∷ []) $ returns ! (look ! 21 refl) $ move ! (8
+        ∷ []) $ use1 W (dies ((tyUnit, l₀) ∷ (sliceTy (tyRef (named 0) mut (tyInt w64)), l₁) ∷ (tyInt w64, l₂) ∷ (tyInt w64, l₃) ∷ (
+          lShapes.mir,
+          l₄,
+        ) ∷ (tyArray (tyInt w64) 256, l₅) ∷ (sliceTy (tyRef (named 1) imm (pointee (mEntry.the-row .written))), l₆) ∷ (
+          tyArray (tyInt w64) 12,
+          l₇,
+        ) ∷ (tyArray (tyInt w64) 32, l₈) ∷ (tyArray (tyInt w64) 32, l₉) ∷ (tyUnit, l₁₀) ∷ (tyRef erased mut (tyInt w64), l₁₁) ∷ (
+          sliceTy (tyRef
+              erased mut (tyInt w64)),
+          l₁₂,
+        ) ∷ []) (‵ ftrue)) die $ free-all ! 8 ((tyUnit, l₀) ∷ (sliceTy (tyRef (named 0) mut (tyInt w64)), l₁) ∷
+        (tyInt w64, l₂) ∷ (tyInt w64, l₃) ∷ (lShapes.mir, l₄) ∷ (tyArray (tyInt w64) 256, l₅) ∷ (
+          sliceTy (tyRef (named 1) imm (pointee
+              (mEntry.the-row .written))),
+          l₆,
+        ) ∷ (tyArray (tyInt w64) 12, l₇) ∷ (tyArray (tyInt w64) 32, l₈) ∷ (tyArray (tyInt w64) 32, l₉) ∷ (
+          tyUnit,
+          l₁₀,
+        ) ∷ (tyRef erased mut (tyInt w64), l₁₁) ∷ (sliceTy (tyRef erased mut (tyInt w64)), l₁₂) ∷ []) (kept _ ∷ kept _ ∷ kept _ ∷ kept _ ∷
+        kept _ ∷ kept _ ∷ kept _ ∷ kept _ ∷ kept _ ∷ kept _ ∷ kept _ ∷ kept _ ∷ kept _ ∷ []) refl $
+        suffices ! _ (ends-at 𝓤 H A f.ended stayed (f.clauses 𝓤 H A at-mem run) W (((κ₀, (κ₁, tt)), (q₀, (q₁, tt)), tt, a, at), tt) vunit tt (
+          ws4 .0,
+          (tt, (tt, (tt, (tt, (tt, tt))))),
+        ) (same4a, (tt, (tt, (tt, (tt, (tt, tt))))))) $ says ! (e4 ∙ rw (e1, e2, e3)) $
+        nothing ! $ move ! (3 ∷ 0 ∷ []) $ join ! $ move ! (2 ∷ 0 ∷ []) $ join ! $ nothing ! $ move ! (3 ∷ 0 ∷ []) $ fjoin ! $ move ! (3 ∷ 0 ∷ []) $
+        fjoin ! $ move ! (3 ∷ 0 ∷ []) $ fjoin ! $ move ! (3 ∷ 0 ∷ []) $ fjoin ! $ move ! (3 ∷ 0 ∷ []) $ fjoin ! $ move ! (2 ∷ 0 ∷ []) $ fjoin ! $
+        keep ! (1 ∷ 0 ∷ []) $ frame ! $ feqI ! (List Val) (vunit ∷ []) (vunit ∷ []) refl $ move ! (1 ∷ 0 ∷ []) $ done
+        !)))))))))))))))))))))))))))))))))))))
 
 module _ {M : Type 1} (𝓤 : URA M) (H : Heap 𝓤) (A : Atoms 𝓤) (W : Given 𝓤 H A) (mem : Memory → SProp 𝓤) (run : Routine → Fun 𝓤) where
-  walks : (C : Calls 𝓤 H) (Λ : Loops 𝓤 H) → FmC 𝓤 H (W .laws) C → Triple 𝓤 (C #g1) (Callee-g1 𝓤 H A mem run) → Triple 𝓤 (C #g2) (Callee-g2 𝓤 H A mem run) → Triple 𝓤 (C #g3) (Callee-g3 𝓤 H A mem run) → Triple 𝓤 (C #g4) (Callee-g4 𝓤 H A mem run) → Walks 𝓤 H A f.ended stayed (WpFn 𝓤 H C Λ code.function) (f.clauses 𝓤 H A mem run)
-  walks C Λ fm known-g1 known-g2 known-g3 known-g4 = walked 𝓤 H A f.ended stayed (f.clauses 𝓤 H A mem run) (WpFn 𝓤 H C Λ code.function) (λ κs. (slice-vals, ((uint-vals w64), ((uint-vals w64), ((LL.vals mShapes.the-type lShapes.the-laws), ((array-vals (uint-vals w64)), (slice-vals, tt))))))) (λ κs. (mut-slice-tells (named 0) (κs .0) u64, ((uint-tells w64), ((uint-tells w64), ((LL.tells mShapes.the-type lShapes.the-laws), ((array-tells u64 (uint-vals w64) (uint-tells w64) 256), (shr-slice-tells (named 1) (κs .1 .0) mEntry.the-row, tt)))))))
-      (λ κs qs bounds a g are. via 𝓤 _ (fst∗ 𝓤 _ (emp 𝓤)) (walk 𝓤 H A W mem run (κs .0) (κs .1 .0) (qs .0) (qs .1 .0) (a .0 .ptr .0) (a .0 .ptr .1) (a .0 .name) (a .0 .now) (a .1 .0) (only ((uint-vals w64) (a .1 .0))) (a .1 .1 .0) (only ((uint-vals w64) (a .1 .1 .0))) (a .1 .1 .1 .0) (only ((LL.vals mShapes.the-type lShapes.the-laws) (a .1 .1 .1 .0))) (a .1 .1 .1 .1 .0) (only ((array-vals (uint-vals w64)) (a .1 .1 .1 .1 .0))) (a .1 .1 .1 .1 .1 .0) C Λ fm known-g1 known-g2 known-g3 known-g4 (are .0 .0 .1) (are .1 .0) (are .1 .1 .0) (are .1 .1 .1 .0) (are .1 .1 .1 .1 .0) (are .1 .1 .1 .1 .1 .0)))
+  walks : (C : Calls 𝓤 H) (Λ : Loops 𝓤 H) → FmC 𝓤 H (W .laws) C → Triple 𝓤 (C #g1) (Callee-g1 𝓤 H A mem run) → Triple 𝓤 (C #g2) (Callee-g2 𝓤 H A mem
+      run) → Triple 𝓤 (C #g3) (Callee-g3 𝓤 H A mem run) → Triple 𝓤 (C #g4) (Callee-g4 𝓤 H A mem run) → Walks 𝓤 H A f.ended stayed (WpFn 𝓤 H C Λ
+      code.function) (f.clauses 𝓤 H A mem run)
+  walks C Λ fm known-g1 known-g2 known-g3 known-g4 = walked 𝓤 H A f.ended stayed (f.clauses 𝓤 H A mem run) (WpFn 𝓤 H C Λ code.function) (λ κs. (
+    slice-vals,
+    (
+      (uint-vals w64),
+      (
+        (uint-vals w64),
+        (
+          (LL.vals mShapes.the-type lShapes.the-laws),
+          (
+            (array-vals (uint-vals w64)),
+            (
+              slice-vals,
+              tt,
+            ),
+          ),
+        ),
+      ),
+    ),
+  )) (λ κs. (
+    mut-slice-tells (named 0) (κs .0) u64,
+    (
+      (uint-tells w64),
+      (
+        (uint-tells w64),
+        (
+          (LL.tells mShapes.the-type lShapes.the-laws),
+          ((array-tells u64 (uint-vals w64) (uint-tells w64) 256), (shr-slice-tells (named 1) (κs .1 .0) mEntry.the-row, tt)),
+        ),
+      ),
+    ),
+  ))
+      (λ κs qs bounds a g are. via 𝓤 _ (fst∗ 𝓤 _ (emp 𝓤)) (walk 𝓤 H A W mem run (κs .0) (κs .1 .0) (qs .0) (qs .1 .0) (a .0 .ptr .0) (a .0 .ptr .1)
+      (a .0 .name) (a .0 .now) (a .1 .0) (only ((uint-vals w64) (a .1 .0))) (a .1 .1 .0) (only ((uint-vals w64) (a .1 .1 .0))) (a .1 .1 .1 .0)
+      (only ((LL.vals mShapes.the-type lShapes.the-laws) (a .1 .1 .1 .0))) (a .1 .1 .1 .1 .0) (only ((array-vals (uint-vals w64)) (a .1 .1 .1 .1
+      .0))) (a .1 .1 .1 .1 .1 .0) C Λ fm known-g1 known-g2 known-g3 known-g4 (are .0 .0 .1) (are .1 .0) (are .1 .1 .0) (are .1 .1 .1 .0) (are .1
+      .1 .1 .1 .0) (are .1 .1 .1 .1 .1 .0)))
 
-  meets : (𝓣 : Tables 𝓤 H) → Triple 𝓤 (𝓣 .C #g1) (Callee-g1 𝓤 H A mem run) → Triple 𝓤 (𝓣 .C #g2) (Callee-g2 𝓤 H A mem run) → Triple 𝓤 (𝓣 .C #g3) (Callee-g3 𝓤 H A mem run) → Triple 𝓤 (𝓣 .C #g4) (Callee-g4 𝓤 H A mem run) → Meets 𝓤 H A f.signature (WpFn 𝓤 H (𝓣 .C) (𝓣 .Λ) code.function) (f.spec 𝓤 H A mem run)
-  meets 𝓣 known-g1 known-g2 known-g3 known-g4 = walk-meets 𝓤 H A f.ended stayed W (goes-slice 𝓤 H A W 2 0 tt (plain (λ _. u64)), (goes-none 𝓤 H A W 2 (λ _. u64) yes (λ κs x f. refl), (goes-none 𝓤 H A W 2 (λ _. u64) yes (λ κs x f. refl), (goes-none 𝓤 H A W 2 (λ _. mShapes.the-row) yes (λ κs x f. refl), (goes-none 𝓤 H A W 2 (λ _. (Array u64 256)) yes (λ κs x f. refl), (goes-none-slice 𝓤 H A W 2 (1 ∷ []) tt (plain (λ _. mEntry.the-row)) yes, tt)))))) (f.clauses 𝓤 H A mem run)
+  meets : (𝓣 : Tables 𝓤 H) → Triple 𝓤 (𝓣 .C #g1) (Callee-g1 𝓤 H A mem run) → Triple 𝓤 (𝓣 .C #g2) (Callee-g2 𝓤 H A mem run) → Triple 𝓤 (𝓣 .C #g3)
+      (Callee-g3 𝓤 H A mem run) → Triple 𝓤 (𝓣 .C #g4) (Callee-g4 𝓤 H A mem run) → Meets 𝓤 H A f.signature (WpFn 𝓤 H (𝓣 .C) (𝓣 .Λ) code.function)
+      (f.spec 𝓤 H A mem run)
+  meets 𝓣 known-g1 known-g2 known-g3 known-g4 = walk-meets 𝓤 H A f.ended stayed W (
+    goes-slice 𝓤 H A W 2 0 tt (plain (λ _. u64)),
+    (
+      goes-none 𝓤 H A W 2
+          (λ _. u64) yes (λ κs x f. refl),
+      (
+        goes-none 𝓤 H A W 2 (λ _. u64) yes (λ κs x f. refl),
+        (
+          goes-none 𝓤 H A W 2 (λ _. mShapes.the-row) yes (λ κs x
+              f. refl),
+          (
+            goes-none 𝓤 H A W 2 (λ _. (Array u64 256)) yes (λ κs x f. refl),
+            (
+              goes-none-slice 𝓤 H A W 2 (1 ∷ []) tt (plain (λ _.
+                  mEntry.the-row)) yes,
+              tt,
+            ),
+          ),
+        ),
+      ),
+    ),
+  ) (f.clauses 𝓤 H A mem run)
       (WpFn 𝓤 H (𝓣 .C) (𝓣 .Λ) code.function) (WpFn-mono 𝓤 H (W .laws) 𝓣 code.function) (walks (𝓣 .C) (𝓣 .Λ) (fmOf 𝓤 H (W .laws) 𝓣) known-g1 known-g2 known-g3 known-g4)
 
 pub combine-at-spec : {M : Type 1} → stated.statement M

@@ -47,25 +47,25 @@ use denote.Triple.Clauses.{Lasts, lasts, atExit}
 use denote.Exit.{yes}
 use Rattle.magnetar_spartan.proofs.ByNumbers.{over-free}
 use Rattle.magnetar_relation.specs.Rules.{rulesOver}
-use Rattle.magnetar_inplace.specs.Records.{entriesOfRecords}
+use Rattle.magnetar_records.specs.Records.{entriesOfRecords}
 use Rattle.magnetar_hash.specs.declared.transcript.Transcript.{Transcript}
 use Rattle.magnetar_hash.proofs.transcript.Transcript as mTranscript
 use Rattle.magnetar_hash.proofs.transcript.Transcript.Laws as lTranscript
 use Rattle.magnetar_relation.specs.declared.shapes.Shapes.{Shapes}
 use Rattle.magnetar_relation.proofs.shapes.Shapes as mShapes
 use Rattle.magnetar_relation.proofs.shapes.Shapes.Laws as lShapes
-use Rattle.magnetar_inplace.specs.declared.records.Entry.{Entry}
-use Rattle.magnetar_inplace.proofs.records.Entry as mEntry
-use Rattle.magnetar_inplace.proofs.records.Entry.Laws as lEntry
+use Rattle.magnetar_records.specs.declared.records.Entry.{Entry}
+use Rattle.magnetar_records.proofs.records.Entry as mEntry
+use Rattle.magnetar_records.proofs.records.Entry.Laws as lEntry
 use Rattle.magnetar_hash.specs.declared.transcript.TranscriptAnswer.{TranscriptAnswer}
 use Rattle.magnetar_hash.proofs.transcript.TranscriptAnswer as mTranscriptAnswer
 use Rattle.magnetar_hash.proofs.transcript.TranscriptAnswer.Laws as lTranscriptAnswer
 use Rattle.magnetar_transcript.proofs.Locals.{tidy, bare, kept, dies, alloc, hide, free-all}
 use Rattle.magnetar_transcript.proofs.Again.{LentAgain, lends-again, comes-back}
-use Rattle.magnetar_inplace.proofs.walks.rules_refusal as g1
-use Rattle.magnetar_inplace.proofs.walks.rules_refusal.Symbol as g1-def
-use Rattle.magnetar_inplace.proofs.walks.rules_refusal.Symbol.{name as #g1}
-use Rattle.magnetar_inplace.proofs.walks.rules_refusal.Met as g1-thm
+use Rattle.magnetar_records.proofs.walks.rules_refusal as g1
+use Rattle.magnetar_records.proofs.walks.rules_refusal.Symbol as g1-def
+use Rattle.magnetar_records.proofs.walks.rules_refusal.Symbol.{name as #g1}
+use Rattle.magnetar_records.proofs.walks.rules_refusal.Met as g1-thm
 use Rattle.magnetar_spartan.proofs.records.verify_with as g2
 use Rattle.magnetar_spartan.proofs.records.verify_with.Symbol as g2-def
 use Rattle.magnetar_spartan.proofs.records.verify_with.Symbol.{name as #g2}
@@ -88,7 +88,36 @@ is-no true a = absurd a
 is-no false _ = refl
 
 abbrev stayed : Stays (f.ended .signature .params) (f.ended .kept)
-stayed = (stay-ref (0 ∷ []) tt (plain (λ _. mTranscript.the-row)), (stay-slice (1 ∷ []) tt (plain (λ _. u64)), (stay-slice (2 ∷ []) tt (plain (λ _. u64)), (stay-none (λ _. u64) yes, (stay-none (λ _. u64) yes, (stay-none-slice (3 ∷ []) tt (plain (λ _. u64)) yes, (stay-none (λ _. mShapes.the-row) yes, (stay-none-slice (4 ∷ []) tt (plain (λ _. mEntry.the-row)) yes, (stay-none-slice (5 ∷ []) tt (plain (λ _. u64)) yes, (stay-none-slice (6 ∷ []) tt (plain (λ _. u64)) yes, tt))))))))))
+stayed = (
+  stay-ref (0 ∷ []) tt (plain (λ _. mTranscript.the-row)),
+  (
+    stay-slice (1 ∷ []) tt (plain (λ _. u64)),
+    (
+      stay-slice (2 ∷ []) tt (plain (λ _.
+          u64)),
+      (
+        stay-none (λ _. u64) yes,
+        (
+          stay-none (λ _. u64) yes,
+          (
+            stay-none-slice (3 ∷ []) tt (plain (λ _. u64)) yes,
+            (
+              stay-none (λ _.
+                  mShapes.the-row) yes,
+              (
+                stay-none-slice (4 ∷ []) tt (plain (λ _. mEntry.the-row)) yes,
+                (
+                  stay-none-slice (5 ∷ []) tt (plain (λ _. u64)) yes,
+                  (stay-none-slice (6 ∷ []) tt (plain (λ _. u64)) yes, tt),
+                ),
+              ),
+            ),
+          ),
+        ),
+      ),
+    ),
+  ),
+)
 
 abbrev Callee-g1 : {M : Type 1} (𝓤 : URA M) (H : Heap 𝓤) (A : Atoms 𝓤) (mem : Memory → SProp 𝓤) (run : Routine → Fun 𝓤) → Contract 𝓤
 Callee-g1 𝓤 H A mem run = tripleOf 𝓤 H A g1.signature (g1.spec 𝓤 H A mem run)
@@ -96,7 +125,10 @@ Callee-g1 𝓤 H A mem run = tripleOf 𝓤 H A g1.signature (g1.spec 𝓤 H A me
 abbrev Callee-g2 : {M : Type 1} (𝓤 : URA M) (H : Heap 𝓤) (A : Atoms 𝓤) (mem : Memory → SProp 𝓤) (run : Routine → Fun 𝓤) → Contract 𝓤
 Callee-g2 𝓤 H A mem run = tripleOf 𝓤 H A g2.signature (g2.spec 𝓤 H A mem run)
 
-module _ {M : Type 1} (𝓤 : URA M) (H : Heap 𝓤) (A : Atoms 𝓤) (W : Given 𝓤 H A) (at-mem : Memory → SProp 𝓤) (run : Routine → Fun 𝓤) (κ₀ κ₁ κ₂ κ₃ κ₄ κ₅ κ₆ : Lft) (q₀ q₁ q₂ q₃ q₄ q₅ q₆ : Share) (b1 o1 : ℕ) (γ1 : GName) (h1 : Transcript) (b2 o2 : ℕ) (γ2 : GName) (ys2 : List ℕ) (b3 o3 : ℕ) (γ3 : GName) (ys3 : List ℕ) (n4 : ℕ) (u4 : Val) (n5 : ℕ) (u5 : Val) (s6 : RefT (List ℕ)) (n7 : Shapes) (u7 : Val) (s8 : RefT (List Entry)) (s9 : RefT (List ℕ)) (s10 : RefT (List ℕ)) where
+module _ {M : Type 1} (𝓤 : URA M) (H : Heap 𝓤) (A : Atoms 𝓤) (W : Given 𝓤 H A) (at-mem : Memory → SProp 𝓤) (run : Routine → Fun 𝓤) (κ₀ κ₁ κ₂ κ₃ κ₄ κ₅
+    κ₆ : Lft) (q₀ q₁ q₂ q₃ q₄ q₅ q₆ : Share) (b1 o1 : ℕ) (γ1 : GName) (h1 : Transcript) (b2 o2 : ℕ) (γ2 : GName) (ys2 : List ℕ) (b3 o3 : ℕ) (γ3 :
+    GName) (ys3 : List ℕ) (n4 : ℕ) (u4 : Val) (n5 : ℕ) (u5 : Val) (s6 : RefT (List ℕ)) (n7 : Shapes) (u7 : Val) (s8 : RefT (List Entry)) (s9 : RefT
+    (List ℕ)) (s10 : RefT (List ℕ)) where
   abbrev ref1 : GName → Transcript → RefT Transcript
   ref1 δ l = record { ptr = (b1, o1); name = δ; now = l }
 
@@ -118,9 +150,11 @@ module _ {M : Type 1} (𝓤 : URA M) (H : Heap 𝓤) (A : Atoms 𝓤) (W : Given
   abbrev Lent2 : ℕ → GName → List ℕ → Fml
   Lent2 ν δ l = LentAgain u64 κ₁ (ν ∷ []) q₁ γ2 b2 o2 δ l
 
-  lends2 : (ℓ : Lifetime) (ν : ℕ) (l : List ℕ) → length l ≡ length ys2 → ent 𝓤 (⋆ 𝓤 H A (‵ (O2 l) ∷ ‵ (flft κ₁ q₁) ∷ [])) (⋆ 𝓤 H A (later (some (λ (δ : GName). ‵ (MutSlice ℓ (ν ∷ []) u64 .own (ref2 δ l) (v2 ∷ [])) ⊛ ‵ (Lent2 ν δ l))) ∷ []))
+  lends2 : (ℓ : Lifetime) (ν : ℕ) (l : List ℕ) → length l ≡ length ys2 → ent 𝓤 (⋆ 𝓤 H A (‵ (O2 l) ∷ ‵ (flft κ₁ q₁) ∷ [])) (⋆ 𝓤 H A (later (some (λ (δ
+      : GName). ‵ (MutSlice ℓ (ν ∷ []) u64 .own (ref2 δ l) (v2 ∷ [])) ⊛ ‵ (Lent2 ν δ l))) ∷ []))
   lends2 ℓ ν l e = subst (λ (t : ℕ). ent 𝓤 (⋆ 𝓤 H A (‵ (MutSlice (named 1) κ₁ u64 .own (ref2 γ2 l) (sliceVal (b2, o2) t ∷ [])) ∷ ‵ (flft κ₁ q₁) ∷ []))
-      (⋆ 𝓤 H A (later (some (λ (δ : GName). ‵ (MutSlice ℓ (ν ∷ []) u64 .own (ref2 δ l) (sliceVal (b2, o2) t ∷ [])) ⊛ ‵ (Lent2 ν δ l))) ∷ []))) e (lends-again u64 κ₁ (ν ∷ []) q₁ γ2 b2 o2 𝓤 H A W (named 1) ℓ l)
+      (⋆ 𝓤 H A (later (some (λ (δ : GName). ‵ (MutSlice ℓ (ν ∷ []) u64 .own (ref2 δ l) (sliceVal (b2, o2) t ∷ [])) ⊛ ‵ (Lent2 ν δ l))) ∷ []))) e
+      (lends-again u64 κ₁ (ν ∷ []) q₁ γ2 b2 o2 𝓤 H A W (named 1) ℓ l)
 
   backs2 : (ℓ : Lifetime) (ν : ℕ) (δ : GName) (l l′ : List ℕ) → length l ≡ length ys2 → Room u64 (length ys2) → length l′ ≡ length l
       → ent 𝓤 (⋆ 𝓤 H A (‵ (fdead (ν ∷ [])) ∷ ‵ (Lent2 ν δ l) ∷ ‵ (finally u64 δ l′) ∷ [])) (⋆ 𝓤 H A (later (‵ (O2 l′) ⊛ ‵ (flft κ₁ q₁)) ∷ []))
@@ -140,9 +174,11 @@ module _ {M : Type 1} (𝓤 : URA M) (H : Heap 𝓤) (A : Atoms 𝓤) (W : Given
   abbrev Lent3 : ℕ → GName → List ℕ → Fml
   Lent3 ν δ l = LentAgain u64 κ₂ (ν ∷ []) q₂ γ3 b3 o3 δ l
 
-  lends3 : (ℓ : Lifetime) (ν : ℕ) (l : List ℕ) → length l ≡ length ys3 → ent 𝓤 (⋆ 𝓤 H A (‵ (O3 l) ∷ ‵ (flft κ₂ q₂) ∷ [])) (⋆ 𝓤 H A (later (some (λ (δ : GName). ‵ (MutSlice ℓ (ν ∷ []) u64 .own (ref3 δ l) (v3 ∷ [])) ⊛ ‵ (Lent3 ν δ l))) ∷ []))
+  lends3 : (ℓ : Lifetime) (ν : ℕ) (l : List ℕ) → length l ≡ length ys3 → ent 𝓤 (⋆ 𝓤 H A (‵ (O3 l) ∷ ‵ (flft κ₂ q₂) ∷ [])) (⋆ 𝓤 H A (later (some (λ (δ
+      : GName). ‵ (MutSlice ℓ (ν ∷ []) u64 .own (ref3 δ l) (v3 ∷ [])) ⊛ ‵ (Lent3 ν δ l))) ∷ []))
   lends3 ℓ ν l e = subst (λ (t : ℕ). ent 𝓤 (⋆ 𝓤 H A (‵ (MutSlice (named 2) κ₂ u64 .own (ref3 γ3 l) (sliceVal (b3, o3) t ∷ [])) ∷ ‵ (flft κ₂ q₂) ∷ []))
-      (⋆ 𝓤 H A (later (some (λ (δ : GName). ‵ (MutSlice ℓ (ν ∷ []) u64 .own (ref3 δ l) (sliceVal (b3, o3) t ∷ [])) ⊛ ‵ (Lent3 ν δ l))) ∷ []))) e (lends-again u64 κ₂ (ν ∷ []) q₂ γ3 b3 o3 𝓤 H A W (named 2) ℓ l)
+      (⋆ 𝓤 H A (later (some (λ (δ : GName). ‵ (MutSlice ℓ (ν ∷ []) u64 .own (ref3 δ l) (sliceVal (b3, o3) t ∷ [])) ⊛ ‵ (Lent3 ν δ l))) ∷ []))) e
+      (lends-again u64 κ₂ (ν ∷ []) q₂ γ3 b3 o3 𝓤 H A W (named 2) ℓ l)
 
   backs3 : (ℓ : Lifetime) (ν : ℕ) (δ : GName) (l l′ : List ℕ) → length l ≡ length ys3 → Room u64 (length ys3) → length l′ ≡ length l
       → ent 𝓤 (⋆ 𝓤 H A (‵ (fdead (ν ∷ [])) ∷ ‵ (Lent3 ν δ l) ∷ ‵ (finally u64 δ l′) ∷ [])) (⋆ 𝓤 H A (later (‵ (O3 l′) ⊛ ‵ (flft κ₂ q₂)) ∷ []))
@@ -195,51 +231,620 @@ module _ {M : Type 1} (𝓤 : URA M) (H : Heap 𝓤) (A : Atoms 𝓤) (W : Given
   abbrev Post : Val → SProp 𝓤
   Post = walkOf 𝓤 H A f.ended stayed (f.clauses 𝓤 H A at-mem run) .post (((κ₀, (κ₁, (κ₂, (κ₃, (κ₄, (κ₅, (κ₆, tt))))))), (q₀, (q₁, (q₂, (q₃, (q₄, (q₅, (q₆, tt))))))), tt, a, at), tt)
 
-  module _ (C : Calls 𝓤 H) (Λ : Loops 𝓤 H) (fm : FmC 𝓤 H (W .laws) C) (known-g1 : Triple 𝓤 (C #g1) (Callee-g1 𝓤 H A at-mem run)) (known-g2 : Triple 𝓤 (C #g2) (Callee-g2 𝓤 H A at-mem run)) (room2 : Room u64 (length ys2)) (room3 : Room u64 (length ys3)) (w4 : Is u64 n4 (u4 ∷ [])) (w5 : Is u64 n5 (u5 ∷ [])) (w6 : Is (ShrSlice (named 3) κ₃ u64) s6 (v6 ∷ [])) (w7 : Is mShapes.the-row n7 (u7 ∷ [])) (w8′ : Is (ShrSlice (named 4) κ₄ mEntry.the-row) s8 (v8 ∷ [])) (w9 : Is (ShrSlice (named 5) κ₅ u64) s9 (v9 ∷ [])) (w10 : Is (ShrSlice (named 6) κ₆ u64) s10 (v10 ∷ [])) where
-    walk : ent 𝓤 (onEntry 𝓤 H A f.signature (κ₀, (κ₁, (κ₂, (κ₃, (κ₄, (κ₅, (κ₆, tt))))))) (q₀, (q₁, (q₂, (q₃, (q₄, (q₅, (q₆, tt))))))) a at) (WpFn 𝓤 H C Λ code.function (v1 ∷ v2 ∷ v3 ∷ v4 ∷ v5 ∷ v6 ∷ v7 ∷ v8 ∷ v9 ∷ v10 ∷ []) Post)
+  module _ (C : Calls 𝓤 H) (Λ : Loops 𝓤 H) (fm : FmC 𝓤 H (W .laws) C) (known-g1 : Triple 𝓤 (C #g1) (Callee-g1 𝓤 H A at-mem run)) (known-g2 : Triple 𝓤
+      (C #g2) (Callee-g2 𝓤 H A at-mem run)) (room2 : Room u64 (length ys2)) (room3 : Room u64 (length ys3)) (w4 : Is u64 n4 (u4 ∷ [])) (w5 : Is u64
+      n5 (u5 ∷ [])) (w6 : Is (ShrSlice (named 3) κ₃ u64) s6 (v6 ∷ [])) (w7 : Is mShapes.the-row n7 (u7 ∷ [])) (w8′ : Is (ShrSlice (named 4) κ₄
+      mEntry.the-row) s8 (v8 ∷ [])) (w9 : Is (ShrSlice (named 5) κ₅ u64) s9 (v9 ∷ [])) (w10 : Is (ShrSlice (named 6) κ₆ u64) s10 (v10 ∷ [])) where
+    walk : ent 𝓤 (onEntry 𝓤 H A f.signature (κ₀, (κ₁, (κ₂, (κ₃, (κ₄, (κ₅, (κ₆, tt))))))) (q₀, (q₁, (q₂, (q₃, (q₄, (q₅, (q₆, tt))))))) a at) (WpFn 𝓤 H
+        C Λ code.function (v1 ∷ v2 ∷ v3 ∷ v4 ∷ v5 ∷ v6 ∷ v7 ∷ v8 ∷ v9 ∷ v10 ∷ []) Post)
     walk =
-        qed W ((‵ (flft κ₀ q₀) ⊛ ‵ (flft κ₁ q₁) ⊛ ‵ (flft κ₂ q₂) ⊛ ‵ (flft κ₃ q₃) ⊛ ‵ (flft κ₄ q₄) ⊛ ‵ (flft κ₅ q₅) ⊛ ‵ (flft κ₆ q₆) ⊛ ‵ ftrue) ∷ ‵ (owns (MutRef (named 0) κ₀ mTranscript.the-row ∷ MutSlice (named 1) κ₁ u64 ∷ MutSlice (named 2) κ₂ u64 ∷ u64 ∷ u64 ∷ ShrSlice (named 3) κ₃ u64 ∷ mShapes.the-row ∷ ShrSlice (named 4) κ₄ mEntry.the-row ∷ ShrSlice (named 5) κ₅ u64 ∷ ShrSlice (named 6) κ₆ u64 ∷ []) a at) ∷ []) ∵ enter ! C Λ code.function (v1 ∷ v2 ∷ v3 ∷ v4 ∷ v5 ∷ v6 ∷ v7 ∷ v8 ∷ v9 ∷ v10 ∷ []) _ $
-        nothing ! $ alloc ! (λ l₀. alloc ! (λ l₁. alloc ! (λ l₂. alloc ! (λ l₃. alloc ! (λ l₄. alloc ! (λ l₅. alloc ! (λ l₆. alloc ! (λ l₇. alloc ! (λ l₈. alloc ! (λ l₉. alloc ! (λ l₁₀. alloc ! (λ l₁₁. alloc ! (λ l₁₂. alloc ! (λ l₁₃. alloc ! (λ l₁₄. alloc ! (λ l₁₅. alloc ! (λ l₁₆. alloc ! (λ l₁₇. alloc ! (λ l₁₈. alloc ! (λ l₁₉. alloc ! (λ l₂₀. alloc0 ! $ hide ! (λ died die. params1 ! $ pass1 ! (init ! 20 refl (tt, tt)) $ pass1 ! (init ! 19 refl (tt, (tt, (record { fits = room2 .0 }, tt)))) $ pass1 ! (init ! 18 refl (tt, (tt, (record { fits = room3 .0 }, tt)))) $ pass1 ! (init ! 17 refl (uint-lawful 𝓤 H A W w64 .typed n4 _ w4 .0)) $ pass1 ! (init ! 16 refl (uint-lawful 𝓤 H A W w64 .typed n5 _ w5 .0)) $ pass1 ! (init ! 15 refl (shr-slice-lawful 𝓤 H A W (named 3) κ₃ u64 .typed s6 (v6 ∷ []) w6 .0)) $ pass1 ! (init ! 14 refl (LL.lawful mShapes.the-type lShapes.the-laws 𝓤 H A W .typed n7 _ w7 .0)) $ pass1 ! (init ! 13 refl (shr-slice-lawful 𝓤 H A W (named 4) κ₄ mEntry.the-row .typed s8 (v8 ∷ []) w8′ .0)) $ pass1 ! (init ! 12 refl (shr-slice-lawful 𝓤 H A W (named 5) κ₅ u64 .typed s9 (v9 ∷ []) w9 .0)) $ pass1 ! (init ! 11 refl (shr-slice-lawful 𝓤 H A W (named 6) κ₆ u64 .typed s10 (v10 ∷ []) w10 .0)) $ pass0 ! $
-        move ! (23 ∷ []) $ fsplit ! $ move ! (1 ∷ []) $ fsplit ! $ move ! (1 ∷ []) $ fsplit ! $ move ! (1 ∷ []) $ fsplit ! $ move ! (1 ∷ []) $ fsplit ! $ move ! (1 ∷ []) $ fsplit ! $ move ! (1 ∷ []) $ fsplit ! $ move ! (1 ∷ []) $ fsplit ! $ move ! (1 ∷ []) $ fsplit ! $ move ! (1 ∷ []) $ fsplit ! $ move ! (1 ∷ []) $ drop ! $ move ! (32 ∷ []) $ split ! $ move ! (1 ∷ []) $ split ! $ move ! (1 ∷ []) $ split ! $ move ! (1 ∷ []) $ split ! $ move ! (1 ∷ []) $ split ! $ move ! (1 ∷ []) $ split ! $ move ! (1 ∷ []) $ split ! $ move ! (1 ∷ []) $ drop ! $ tidy W (_ ∷ _ ∷ _ ∷ _ ∷ _ ∷ _ ∷ _ ∷ _ ∷ _ ∷ _ ∷ _ ∷ _ ∷ _ ∷ _ ∷ _ ∷ _ ∷ _ ∷ _ ∷ _ ∷ _ ∷ _ ∷ _ ∷ _ ∷ _ ∷ _ ∷ _ ∷ _ ∷ _ ∷ _ ∷ _ ∷ _ ∷ _ ∷ _ ∷ _ ∷ _ ∷ _ ∷ _ ∷ _ ∷ _ ∷ []) $
-        move ! (16 ∷ []) $ fsplit3 ! $ drop ! $ move ! (0 ∷ 1 ∷ 8 ∷ []) $ opens ! tt mTranscript.the-row {h = h1} b1 o1 (λ vs. spelt ! mTranscript.the-row (Is mTranscript.the-row) (shows 𝓤 H A mTranscript.the-row) (LL.vals mTranscript.the-type lTranscript.the-laws) (LL.tells mTranscript.the-type lTranscript.the-laws) fullShare (h1) vs b1 o1 $ move ! (1 ∷ []) $ peeks ! mTranscript.the-row (Is mTranscript.the-row) (shows 𝓤 H A mTranscript.the-row) (h1) (LL.val mTranscript.the-type lTranscript.the-laws (h1) ∷ []) (λ w1o1. drop ! $
-        assigns ! (of-opd ! (load ! (from ! (hop ! (look ! 39 refl) (fld ! refl (stop !)))) (look-in ! 0 (sub ! 0 refl (whole !))))) (from ! (stop !)) (init ! 25 refl (array-lawful 𝓤 H A W u8 (uint-lawful 𝓤 H A W w8) 32 .typed (mTranscript.the-type .to h1 .0) _ (LL.owed mTranscript.the-type lTranscript.the-laws h1 _ w1o1 .0) .0)) $
-        assigns ! (of-opd ! (load ! (from ! (hop ! (look ! 39 refl) (fld ! refl (stop !)))) (look-in ! 0 (sub ! 1 refl (whole !))))) (from ! (stop !)) (init ! 24 refl (uint-lawful 𝓤 H A W w64 .typed (mTranscript.the-type .to h1 .1 .0) _ (LL.owed mTranscript.the-type lTranscript.the-laws h1 _ w1o1 .1 .0) .0)) $
-        assigns ! (agg ! (and-then ! (load ! (from ! (stop !)) (look ! 25 refl)) (and-then ! (load ! (from ! (stop !)) (look ! 24 refl)) (no-more !)))) (from ! (stop !)) (init ! 29 refl (LL.lawful mTranscript.the-type lTranscript.the-laws 𝓤 H A W .typed h1 _ w1o1 .0)) $
-        move ! (12 ∷ []) $ use1 W (‵ (O8) ⊛ ‵ (O8)) (shr-slice-copy 𝓤 H A W (named 4) κ₄ mEntry.the-row .twice s8 (v8 ∷ [])) $ split ! $ tidy W (_ ∷ _ ∷ _ ∷ _ ∷ _ ∷ _ ∷ _ ∷ _ ∷ _ ∷ _ ∷ _ ∷ _ ∷ _ ∷ _ ∷ _ ∷ _ ∷ _ ∷ _ ∷ _ ∷ _ ∷ _ ∷ _ ∷ _ ∷ _ ∷ _ ∷ _ ∷ _ ∷ _ ∷ _ ∷ _ ∷ _ ∷ _ ∷ _ ∷ _ ∷ _ ∷ _ ∷ _ ∷ _ ∷ _ ∷ _ ∷ _ ∷ _ ∷ []) $ nothing ! $ move ! (9 ∷ 0 ∷ []) $ join ! $ join ! $
+        qed W ((‵ (flft κ₀ q₀) ⊛ ‵ (flft κ₁ q₁) ⊛ ‵ (flft κ₂ q₂) ⊛ ‵ (flft κ₃ q₃) ⊛ ‵ (flft κ₄ q₄) ⊛ ‵ (flft κ₅ q₅) ⊛ ‵ (flft κ₆ q₆) ⊛ ‵ ftrue) ∷ ‵
+        (owns (MutRef (named 0) κ₀ mTranscript.the-row ∷ MutSlice (named 1) κ₁ u64 ∷ MutSlice (named 2) κ₂ u64 ∷ u64 ∷ u64 ∷ ShrSlice (named 3)
+        κ₃ u64 ∷ mShapes.the-row ∷ ShrSlice (named 4) κ₄ mEntry.the-row ∷ ShrSlice (named 5) κ₅ u64 ∷ ShrSlice (named 6) κ₆ u64 ∷ []) a at) ∷ [])
+        ∵ enter ! C Λ code.function (v1 ∷ v2 ∷ v3 ∷ v4 ∷ v5 ∷ v6 ∷ v7 ∷ v8 ∷ v9 ∷ v10 ∷ []) _ $
+        nothing ! $ alloc ! (λ l₀. alloc ! (λ l₁. alloc ! (λ l₂. alloc ! (λ l₃. alloc ! (λ l₄. alloc ! (λ l₅. alloc ! (λ l₆. alloc ! (λ l₇. alloc !
+        (λ l₈. alloc ! (λ l₉. alloc ! (λ l₁₀. alloc ! (λ l₁₁. alloc ! (λ l₁₂. alloc ! (λ l₁₃. alloc ! (λ l₁₄. alloc ! (λ l₁₅. alloc ! (λ l₁₆.
+        alloc ! (λ l₁₇. alloc ! (λ l₁₈. alloc ! (λ l₁₉. alloc ! (λ l₂₀. alloc0 ! $ hide ! (λ died die. params1 ! $ pass1 ! (init ! 20 refl (
+          tt,
+          tt,
+        )) $ pass1 ! (init ! 19 refl (tt, (tt, (record { fits = room2 .0 }, tt)))) $ pass1 ! (init ! 18 refl (
+          tt,
+          (
+            tt,
+            (
+              record {
+                fits = room3
+                    .0;
+              },
+              tt,
+            ),
+          ),
+        )) $ pass1 ! (init ! 17 refl (uint-lawful 𝓤 H A W w64 .typed n4 _ w4 .0)) $ pass1 ! (init ! 16 refl (uint-lawful 𝓤 H A W w64
+        .typed n5 _ w5 .0)) $ pass1 ! (init ! 15 refl (shr-slice-lawful 𝓤 H A W (named 3) κ₃ u64 .typed s6 (v6 ∷ []) w6 .0)) $ pass1 ! (init ! 14
+        refl (LL.lawful mShapes.the-type lShapes.the-laws 𝓤 H A W .typed n7 _ w7 .0)) $ pass1 ! (init ! 13 refl (shr-slice-lawful 𝓤 H A W (named
+        4) κ₄ mEntry.the-row .typed s8 (v8 ∷ []) w8′ .0)) $ pass1 ! (init ! 12 refl (shr-slice-lawful 𝓤 H A W (named 5) κ₅ u64 .typed s9 (v9 ∷
+        []) w9 .0)) $ pass1 ! (init ! 11 refl (shr-slice-lawful 𝓤 H A W (named 6) κ₆ u64 .typed s10 (v10 ∷ []) w10 .0)) $ pass0 ! $
+        move ! (23 ∷ []) $ fsplit ! $ move ! (1 ∷ []) $ fsplit ! $ move ! (1 ∷ []) $ fsplit ! $ move ! (1 ∷ []) $ fsplit ! $ move ! (1 ∷ []) $ fsplit
+        ! $ move ! (1 ∷ []) $ fsplit ! $ move ! (1 ∷ []) $ fsplit ! $ move ! (1 ∷ []) $ fsplit ! $ move ! (1 ∷ []) $ fsplit ! $ move ! (1 ∷ []) $
+        fsplit ! $ move ! (1 ∷ []) $ drop ! $ move ! (32 ∷ []) $ split ! $ move ! (1 ∷ []) $ split ! $ move ! (1 ∷ []) $ split ! $ move ! (1 ∷
+        []) $ split ! $ move ! (1 ∷ []) $ split ! $ move ! (1 ∷ []) $ split ! $ move ! (1 ∷ []) $ split ! $ move ! (1 ∷ []) $ drop ! $ tidy W (_
+        ∷ _ ∷ _ ∷ _ ∷ _ ∷ _ ∷ _ ∷ _ ∷ _ ∷ _ ∷ _ ∷ _ ∷ _ ∷ _ ∷ _ ∷ _ ∷ _ ∷ _ ∷ _ ∷ _ ∷ _ ∷ _ ∷ _ ∷ _ ∷ _ ∷ _ ∷ _ ∷ _ ∷ _ ∷ _ ∷ _ ∷ _ ∷ _ ∷ _ ∷ _ ∷
+        _ ∷ _ ∷ _ ∷ _ ∷ []) $
+        move ! (16 ∷ []) $ fsplit3 ! $ drop ! $ move ! (0 ∷ 1 ∷ 8 ∷ []) $ opens ! tt mTranscript.the-row {h = h1} b1 o1 (λ vs. spelt !
+        mTranscript.the-row (Is mTranscript.the-row) (shows 𝓤 H A mTranscript.the-row) (LL.vals mTranscript.the-type lTranscript.the-laws)
+        (LL.tells mTranscript.the-type lTranscript.the-laws) fullShare (h1) vs b1 o1 $ move ! (1 ∷ []) $ peeks ! mTranscript.the-row (Is
+        mTranscript.the-row) (shows 𝓤 H A mTranscript.the-row) (h1) (LL.val mTranscript.the-type lTranscript.the-laws (h1) ∷ []) (λ w1o1. drop ! $
+        assigns ! (of-opd ! (load ! (from ! (hop ! (look ! 39 refl) (fld ! refl (stop !)))) (look-in ! 0 (sub ! 0 refl (whole !))))) (from ! (stop
+        !)) (init ! 25 refl (array-lawful 𝓤 H A W u8 (uint-lawful 𝓤 H A W w8) 32 .typed (mTranscript.the-type .to h1 .0) _ (LL.owed
+        mTranscript.the-type lTranscript.the-laws h1 _ w1o1 .0) .0)) $
+        assigns ! (of-opd ! (load ! (from ! (hop ! (look ! 39 refl) (fld ! refl (stop !)))) (look-in ! 0 (sub ! 1 refl (whole !))))) (from ! (stop
+        !)) (init ! 24 refl (uint-lawful 𝓤 H A W w64 .typed (mTranscript.the-type .to h1 .1 .0) _ (LL.owed mTranscript.the-type
+        lTranscript.the-laws h1 _ w1o1 .1 .0) .0)) $
+        assigns ! (agg ! (and-then ! (load ! (from ! (stop !)) (look ! 25 refl)) (and-then ! (load ! (from ! (stop !)) (look ! 24 refl)) (no-more
+        !)))) (from ! (stop !)) (init ! 29 refl (LL.lawful mTranscript.the-type lTranscript.the-laws 𝓤 H A W .typed h1 _ w1o1 .0)) $
+        move ! (12 ∷ []) $ use1 W (‵ (O8) ⊛ ‵ (O8)) (shr-slice-copy 𝓤 H A W (named 4) κ₄ mEntry.the-row .twice s8 (v8 ∷ [])) $ split ! $ tidy W (_ ∷
+        _ ∷ _ ∷ _ ∷ _ ∷ _ ∷ _ ∷ _ ∷ _ ∷ _ ∷ _ ∷ _ ∷ _ ∷ _ ∷ _ ∷ _ ∷ _ ∷ _ ∷ _ ∷ _ ∷ _ ∷ _ ∷ _ ∷ _ ∷ _ ∷ _ ∷ _ ∷ _ ∷ _ ∷ _ ∷ _ ∷ _ ∷ _ ∷ _ ∷ _ ∷ _
+        ∷ _ ∷ _ ∷ _ ∷ _ ∷ _ ∷ _ ∷ []) $ nothing ! $ move ! (9 ∷ 0 ∷ []) $ join ! $ join ! $
         -- call 1
-        use1 W (raw (Callee-g1 𝓤 H A at-mem run .pre (((κ₄, tt), (q₄, tt), tt, (n4, (n5, (n7, (s8, tt)))), (u4 ∷ [], (u5 ∷ [], (u7 ∷ [], (v8 ∷ [], tt))))), tt))) (qed W ((‵ (flft κ₄ q₄) ⊛ ‵ ftrue) ∷ ‵ (ShrSlice (named 0) κ₄ mEntry.the-row .own s8 (v8 ∷ [])) ∷ []) ∵ nothing ! $ move ! (2 ∷ 0 ∷ []) $ fjoin ! $ owned ! mShapes.the-row (Is mShapes.the-row) (LL.makes mShapes.the-type lShapes.the-plain 𝓤 H A) (n7) _ w7 $ fjoin ! $ owned ! u64 (Is u64) (uint-makes 𝓤 H A W w64) (n5) _ w5 $ fjoin ! $ owned ! u64 (Is u64) (uint-makes 𝓤 H A W w64) (n4) _ w4 $ fjoin ! $ move ! (1 ∷ 0 ∷ []) $ join ! $ nothing ! $ move ! (1 ∷ 0 ∷ []) $ frame ! $ done !) $
-        calls-at ! fm (Callee-g1 𝓤 H A at-mem run) known-g1 (((κ₄, tt), (q₄, tt), tt, (n4, (n5, (n7, (s8, tt)))), (u4 ∷ [], (u5 ∷ [], (u7 ∷ [], (v8 ∷ [], tt))))), tt) (and-then ! (load ! (from ! (stop !)) (look ! 36 refl)) (and-then ! (load ! (from ! (stop !)) (look ! 35 refl)) (and-then ! (load ! (from ! (stop !)) (look ! 33 refl)) (and-then ! (load ! (from ! (stop !)) (look ! 32 refl)) (no-more !))))) (λ z1.
-        use1 W (later (some (λ (r1 : ℕ). ((‵ (flft κ₄ q₄) ⊛ ‵ ftrue) ⊛ ‵ (u32 .own r1 (z1 ∷ []))) ⊛ some (λ (ws : Lasts g1.ended (κ₄, tt) (n4, (n5, (n7, (s8, tt))))). ‵ (lasts g1.ended (κ₄, tt) (n4, (n5, (n7, (s8, tt)))) ws) ⊛ raw (g1.clauses 𝓤 H A at-mem run (κ₄, tt) (n4, (n5, (n7, (s8, tt)))) .ensures tt r1 (atExit g1.ended (κ₄, tt) (n4, (n5, (n7, (s8, tt)))) ws)))))) (id⊢ 𝓤 _) $ await ! tt $ pick ! (λ r1. split ! $ move ! (1 ∷ []) $ pick ! (λ ws1. split ! $ move ! (1 ∷ []) $ heard ! _ (λ e1.
+        use1 W (raw (Callee-g1 𝓤 H A at-mem run .pre (
+          (
+            (κ₄, tt),
+            (q₄, tt),
+            tt,
+            (n4, (n5, (n7, (s8, tt)))),
+            (
+              u4 ∷ [],
+              (
+                u5 ∷ [],
+                (
+                  u7 ∷ [],
+                  (
+                    v8 ∷ [],
+                    tt,
+                  ),
+                ),
+              ),
+            ),
+          ),
+          tt,
+        ))) (qed W ((‵ (flft κ₄ q₄) ⊛ ‵ ftrue) ∷ ‵ (ShrSlice (named 0) κ₄ mEntry.the-row .own s8 (v8 ∷ [])) ∷ []) ∵ nothing ! $ move !
+        (2 ∷ 0 ∷ []) $ fjoin ! $ owned ! mShapes.the-row (Is mShapes.the-row) (LL.makes mShapes.the-type lShapes.the-plain 𝓤 H A) (n7) _ w7 $
+        fjoin ! $ owned ! u64 (Is u64) (uint-makes 𝓤 H A W w64) (n5) _ w5 $ fjoin ! $ owned ! u64 (Is u64) (uint-makes 𝓤 H A W w64) (n4) _ w4 $
+        fjoin ! $ move ! (1 ∷ 0 ∷ []) $ join ! $ nothing ! $ move ! (1 ∷ 0 ∷ []) $ frame ! $ done !) $
+        calls-at ! fm (Callee-g1 𝓤 H A at-mem run) known-g1 (
+          (
+            (κ₄, tt),
+            (q₄, tt),
+            tt,
+            (n4, (n5, (n7, (s8, tt)))),
+            (
+              u4 ∷ [],
+              (
+                u5 ∷ [],
+                (
+                  u7 ∷ [],
+                  (
+                    v8 ∷
+                        [],
+                    tt,
+                  ),
+                ),
+              ),
+            ),
+          ),
+          tt,
+        ) (and-then ! (load ! (from ! (stop !)) (look ! 36 refl)) (and-then ! (load ! (from ! (stop !)) (look ! 35 refl))
+        (and-then ! (load ! (from ! (stop !)) (look ! 33 refl)) (and-then ! (load ! (from ! (stop !)) (look ! 32 refl)) (no-more !))))) (λ z1.
+        use1 W (later (some (λ (r1 : ℕ). ((‵ (flft κ₄ q₄) ⊛ ‵ ftrue) ⊛ ‵ (u32 .own r1 (z1 ∷ []))) ⊛ some (λ (ws : Lasts g1.ended (κ₄, tt) (
+          n4,
+          (
+            n5,
+            (n7, (s8, tt)),
+          ),
+        )). ‵ (lasts g1.ended (κ₄, tt) (n4, (n5, (n7, (s8, tt)))) ws) ⊛ raw (g1.clauses 𝓤 H A at-mem run (κ₄, tt) (
+          n4,
+          (
+            n5,
+            (
+              n7,
+              (s8, tt),
+            ),
+          ),
+        ) .ensures tt r1 (atExit g1.ended (κ₄, tt) (n4, (n5, (n7, (s8, tt)))) ws)))))) (id⊢ 𝓤 _) $ await ! tt $ pick ! (λ r1. split ! $
+        move ! (1 ∷ []) $ pick ! (λ ws1. split ! $ move ! (1 ∷ []) $ heard ! _ (λ e1.
         drop ! $ split ! $ move ! (1 ∷ []) $ peeks ! u32 (Is u32) (shows 𝓤 H A u32) r1 (z1 ∷ []) (λ i1. drop ! $ land ! (from ! (stop !)) (init ! 28 refl (uint-lawful 𝓤 H A W w32 .typed r1 _ i1 .0)) $
-        tidy W (_ ∷ _ ∷ _ ∷ _ ∷ _ ∷ _ ∷ _ ∷ _ ∷ _ ∷ _ ∷ _ ∷ _ ∷ _ ∷ _ ∷ _ ∷ _ ∷ _ ∷ _ ∷ _ ∷ _ ∷ _ ∷ _ ∷ _ ∷ _ ∷ _ ∷ _ ∷ _ ∷ _ ∷ _ ∷ _ ∷ _ ∷ _ ∷ _ ∷ _ ∷ _ ∷ _ ∷ _ ∷ _ ∷ _ ∷ _ ∷ _ ∷ []) $ split ! $ move ! (1 ∷ []) $ drop ! $ assigns ! (addr ! (from ! (fld ! refl (hop ! (look-in ! 38 (sub ! 0 refl (whole !))) (stop !))))) (from ! (stop !)) (init ! 23 refl (tt, tt)) $
-        assigns ! (agg ! (and-then ! (load ! (from ! (stop !)) (look ! 23 refl)) (and-then ! (load ! (from ! (fld ! refl (stop !))) (look-in ! 38 (sub ! 1 refl (whole !)))) (no-more !)))) (from ! (stop !)) (init ! 22 refl (tt, (tt, (record { fits = room2 .0 }, tt)))) $
+        tidy W (_ ∷ _ ∷ _ ∷ _ ∷ _ ∷ _ ∷ _ ∷ _ ∷ _ ∷ _ ∷ _ ∷ _ ∷ _ ∷ _ ∷ _ ∷ _ ∷ _ ∷ _ ∷ _ ∷ _ ∷ _ ∷ _ ∷ _ ∷ _ ∷ _ ∷ _ ∷ _ ∷ _ ∷ _ ∷ _ ∷ _ ∷ _ ∷ _ ∷ _
+        ∷ _ ∷ _ ∷ _ ∷ _ ∷ _ ∷ _ ∷ _ ∷ []) $ split ! $ move ! (1 ∷ []) $ drop ! $ assigns ! (addr ! (from ! (fld ! refl (hop ! (look-in ! 38 (sub
+        ! 0 refl (whole !))) (stop !))))) (from ! (stop !)) (init ! 23 refl (tt, tt)) $
+        assigns ! (agg ! (and-then ! (load ! (from ! (stop !)) (look ! 23 refl)) (and-then ! (load ! (from ! (fld ! refl (stop !))) (look-in ! 38
+        (sub ! 1 refl (whole !)))) (no-more !)))) (from ! (stop !)) (init ! 22 refl (tt, (tt, (record { fits = room2 .0 }, tt)))) $
         assigns ! (addr ! (from ! (fld ! refl (hop ! (look-in ! 37 (sub ! 0 refl (whole !))) (stop !))))) (from ! (stop !)) (init ! 21 refl (tt, tt)) $
-        assigns ! (agg ! (and-then ! (load ! (from ! (stop !)) (look ! 21 refl)) (and-then ! (load ! (from ! (fld ! refl (stop !))) (look-in ! 37 (sub ! 1 refl (whole !)))) (no-more !)))) (from ! (stop !)) (init ! 20 refl (tt, (tt, (record { fits = room3 .0 }, tt)))) $
-        lft-new ! tt (λ ν2b. move ! (19 ∷ 11 ∷ []) $ use2 W (later (some (λ (δ : GName). ‵ (MutSlice (named 0) (ν2b ∷ []) u64 .own (ref2 δ (ys2)) (v2 ∷ [])) ⊛ ‵ (Lent2 ν2b δ (ys2))))) (lends2 (named 0) ν2b (ys2) (refl)) $ await ! tt $ pick ! (λ δ2b. split ! $
-        lft-new ! tt (λ ν2c. move ! (20 ∷ 13 ∷ []) $ use2 W (later (some (λ (δ : GName). ‵ (MutSlice (named 1) (ν2c ∷ []) u64 .own (ref3 δ (ys3)) (v3 ∷ [])) ⊛ ‵ (Lent3 ν2c δ (ys3))))) (lends3 (named 1) ν2c (ys3) (refl)) $ await ! tt $ pick ! (λ δ2c. split ! $ move ! (18 ∷ []) $ use1 W (‵ (O6) ⊛ ‵ (O6)) (shr-slice-copy 𝓤 H A W (named 3) κ₃ u64 .twice s6 (v6 ∷ [])) $ split ! $ move ! (9 ∷ []) $ use1 W (‵ (O8) ⊛ ‵ (O8)) (shr-slice-copy 𝓤 H A W (named 4) κ₄ mEntry.the-row .twice s8 (v8 ∷ [])) $ split ! $ move ! (19 ∷ []) $ use1 W (‵ (O9) ⊛ ‵ (O9)) (shr-slice-copy 𝓤 H A W (named 5) κ₅ u64 .twice s9 (v9 ∷ [])) $ split ! $ move ! (20 ∷ []) $ use1 W (‵ (O10) ⊛ ‵ (O10)) (shr-slice-copy 𝓤 H A W (named 6) κ₆ u64 .twice s10 (v10 ∷ [])) $ split ! $ tidy W (_ ∷ _ ∷ _ ∷ _ ∷ _ ∷ _ ∷ _ ∷ _ ∷ _ ∷ _ ∷ _ ∷ _ ∷ _ ∷ _ ∷ _ ∷ _ ∷ _ ∷ _ ∷ _ ∷ _ ∷ _ ∷ _ ∷ _ ∷ _ ∷ _ ∷ _ ∷ _ ∷ _ ∷ _ ∷ _ ∷ _ ∷ _ ∷ _ ∷ _ ∷ _ ∷ _ ∷ _ ∷ _ ∷ _ ∷ _ ∷ _ ∷ _ ∷ _ ∷ _ ∷ _ ∷ _ ∷ _ ∷ []) $ nothing ! $ move ! (20 ∷ 0 ∷ []) $ join ! $ move ! (20 ∷ 0 ∷ []) $ join ! $ move ! (15 ∷ 0 ∷ []) $ join ! $ move ! (19 ∷ 0 ∷ []) $ join ! $ move ! (11 ∷ 0 ∷ []) $ join ! $ move ! (13 ∷ 0 ∷ []) $ join ! $ move ! (3 ∷ 1 ∷ []) $ join ! $ move ! (4 ∷ 0 ∷ []) $ join ! $ move ! (5 ∷ 0 ∷ []) $ join ! $ move ! (6 ∷ 0 ∷ []) $ join ! $ move ! (7 ∷ 0 ∷ []) $ join ! $ move ! (1 ∷ 0 ∷ []) $ join ! $
+        assigns ! (agg ! (and-then ! (load ! (from ! (stop !)) (look ! 21 refl)) (and-then ! (load ! (from ! (fld ! refl (stop !))) (look-in ! 37
+        (sub ! 1 refl (whole !)))) (no-more !)))) (from ! (stop !)) (init ! 20 refl (tt, (tt, (record { fits = room3 .0 }, tt)))) $
+        lft-new ! tt (λ ν2b. move ! (19 ∷ 11 ∷ []) $ use2 W (later (some (λ (δ : GName). ‵ (MutSlice (named 0) (ν2b ∷ []) u64 .own (ref2 δ (ys2)) (v2
+        ∷ [])) ⊛ ‵ (Lent2 ν2b δ (ys2))))) (lends2 (named 0) ν2b (ys2) (refl)) $ await ! tt $ pick ! (λ δ2b. split ! $
+        lft-new ! tt (λ ν2c. move ! (20 ∷ 13 ∷ []) $ use2 W (later (some (λ (δ : GName). ‵ (MutSlice (named 1) (ν2c ∷ []) u64 .own (ref3 δ (ys3)) (v3
+        ∷ [])) ⊛ ‵ (Lent3 ν2c δ (ys3))))) (lends3 (named 1) ν2c (ys3) (refl)) $ await ! tt $ pick ! (λ δ2c. split ! $ move ! (18 ∷ []) $ use1 W
+        (‵ (O6) ⊛ ‵ (O6)) (shr-slice-copy 𝓤 H A W (named 3) κ₃ u64 .twice s6 (v6 ∷ [])) $ split ! $ move ! (9 ∷ []) $ use1 W (‵ (O8) ⊛ ‵ (O8))
+        (shr-slice-copy 𝓤 H A W (named 4) κ₄ mEntry.the-row .twice s8 (v8 ∷ [])) $ split ! $ move ! (19 ∷ []) $ use1 W (‵ (O9) ⊛ ‵ (O9))
+        (shr-slice-copy 𝓤 H A W (named 5) κ₅ u64 .twice s9 (v9 ∷ [])) $ split ! $ move ! (20 ∷ []) $ use1 W (‵ (O10) ⊛ ‵ (O10)) (shr-slice-copy 𝓤
+        H A W (named 6) κ₆ u64 .twice s10 (v10 ∷ [])) $ split ! $ tidy W (_ ∷ _ ∷ _ ∷ _ ∷ _ ∷ _ ∷ _ ∷ _ ∷ _ ∷ _ ∷ _ ∷ _ ∷ _ ∷ _ ∷ _ ∷ _ ∷ _ ∷ _ ∷
+        _ ∷ _ ∷ _ ∷ _ ∷ _ ∷ _ ∷ _ ∷ _ ∷ _ ∷ _ ∷ _ ∷ _ ∷ _ ∷ _ ∷ _ ∷ _ ∷ _ ∷ _ ∷ _ ∷ _ ∷ _ ∷ _ ∷ _ ∷ _ ∷ _ ∷ _ ∷ _ ∷ _ ∷ _ ∷ []) $ nothing ! $
+        move ! (20 ∷ 0 ∷ []) $ join ! $ move ! (20 ∷ 0 ∷ []) $ join ! $ move ! (15 ∷ 0 ∷ []) $ join ! $ move ! (19 ∷ 0 ∷ []) $ join ! $ move !
+        (11 ∷ 0 ∷ []) $ join ! $ move ! (13 ∷ 0 ∷ []) $ join ! $ move ! (3 ∷ 1 ∷ []) $ join ! $ move ! (4 ∷ 0 ∷ []) $ join ! $ move ! (5 ∷ 0 ∷
+        []) $ join ! $ move ! (6 ∷ 0 ∷ []) $ join ! $ move ! (7 ∷ 0 ∷ []) $ join ! $ move ! (1 ∷ 0 ∷ []) $ join ! $
         -- call 2
-        use1 W (raw (Callee-g2 𝓤 H A at-mem run .pre ((((ν2b ∷ []), ((ν2c ∷ []), (κ₃, (κ₄, (κ₅, (κ₆, tt)))))), (fullShare, (fullShare, (q₃, (q₄, (q₅, (q₆, tt)))))), tt, (r1, (ref2 δ2b (ys2), (ref3 δ2c (ys3), (n4, (n5, (s6, (n7, (s8, (s9, (s10, (h1, tt))))))))))), (z1 ∷ [], (v2 ∷ [], (v3 ∷ [], (u4 ∷ [], (u5 ∷ [], (v6 ∷ [], (u7 ∷ [], (v8 ∷ [], (v9 ∷ [], (v10 ∷ [], ((LL.val mTranscript.the-type lTranscript.the-laws (h1)) ∷ [], tt)))))))))))), tt))) (qed W ((‵ (flft (ν2b ∷ []) fullShare) ⊛ ‵ (flft (ν2c ∷ []) fullShare) ⊛ ‵ (flft κ₃ q₃) ⊛ ‵ (flft κ₄ q₄) ⊛ ‵ (flft κ₅ q₅) ⊛ ‵ (flft κ₆ q₆) ⊛ ‵ ftrue) ∷ ‵ (MutSlice (named 0) (ν2b ∷ []) u64 .own (ref2 δ2b (ys2)) (v2 ∷ [])) ∷ ‵ (MutSlice (named 1) (ν2c ∷ []) u64 .own (ref3 δ2c (ys3)) (v3 ∷ [])) ∷ ‵ (ShrSlice (named 2) κ₃ u64 .own s6 (v6 ∷ [])) ∷ ‵ (ShrSlice (named 3) κ₄ mEntry.the-row .own s8 (v8 ∷ [])) ∷ ‵ (ShrSlice (named 4) κ₅ u64 .own s9 (v9 ∷ [])) ∷ ‵ (ShrSlice (named 5) κ₆ u64 .own s10 (v10 ∷ [])) ∷ []) ∵ nothing ! $ owned ! mTranscript.the-row (Is mTranscript.the-row) (LL.makes mTranscript.the-type lTranscript.the-plain 𝓤 H A) (h1) _ w1o1 $ fjoin ! $ move ! (7 ∷ 0 ∷ []) $ fjoin ! $ move ! (6 ∷ 0 ∷ []) $ fjoin ! $ move ! (5 ∷ 0 ∷ []) $ fjoin ! $ owned ! mShapes.the-row (Is mShapes.the-row) (LL.makes mShapes.the-type lShapes.the-plain 𝓤 H A) (n7) _ w7 $ fjoin ! $ move ! (4 ∷ 0 ∷ []) $ fjoin ! $ owned ! u64 (Is u64) (uint-makes 𝓤 H A W w64) (n5) _ w5 $ fjoin ! $ owned ! u64 (Is u64) (uint-makes 𝓤 H A W w64) (n4) _ w4 $ fjoin ! $ move ! (3 ∷ 0 ∷ []) $ fjoin ! $ move ! (2 ∷ 0 ∷ []) $ fjoin ! $ owned ! u32 (Is u32) (uint-makes 𝓤 H A W w32) (r1) _ i1 $ fjoin ! $ move ! (1 ∷ 0 ∷ []) $ join ! $ nothing ! $ move ! (1 ∷ 0 ∷ []) $ frame ! $ done !) $
-        calls-at ! fm (Callee-g2 𝓤 H A at-mem run) known-g2 ((((ν2b ∷ []), ((ν2c ∷ []), (κ₃, (κ₄, (κ₅, (κ₆, tt)))))), (fullShare, (fullShare, (q₃, (q₄, (q₅, (q₆, tt)))))), tt, (r1, (ref2 δ2b (ys2), (ref3 δ2c (ys3), (n4, (n5, (s6, (n7, (s8, (s9, (s10, (h1, tt))))))))))), (z1 ∷ [], (v2 ∷ [], (v3 ∷ [], (u4 ∷ [], (u5 ∷ [], (v6 ∷ [], (u7 ∷ [], (v8 ∷ [], (v9 ∷ [], (v10 ∷ [], ((LL.val mTranscript.the-type lTranscript.the-laws (h1)) ∷ [], tt)))))))))))), tt) (and-then ! (load ! (from ! (stop !)) (look ! 23 refl)) (and-then ! (load ! (from ! (stop !)) (look ! 17 refl)) (and-then ! (load ! (from ! (stop !)) (look ! 15 refl)) (and-then ! (load ! (from ! (stop !)) (look ! 31 refl)) (and-then ! (load ! (from ! (stop !)) (look ! 30 refl)) (and-then ! (load ! (from ! (stop !)) (look ! 29 refl)) (and-then ! (load ! (from ! (stop !)) (look ! 28 refl)) (and-then ! (load ! (from ! (stop !)) (look ! 27 refl)) (and-then ! (load ! (from ! (stop !)) (look ! 26 refl)) (and-then ! (load ! (from ! (stop !)) (look ! 25 refl)) (and-then ! (load ! (from ! (stop !)) (look ! 24 refl)) (no-more !)))))))))))) (λ z2.
-        use1 W (later (some (λ (r2 : TranscriptAnswer). ((‵ (flft (ν2b ∷ []) fullShare) ⊛ ‵ (flft (ν2c ∷ []) fullShare) ⊛ ‵ (flft κ₃ q₃) ⊛ ‵ (flft κ₄ q₄) ⊛ ‵ (flft κ₅ q₅) ⊛ ‵ (flft κ₆ q₆) ⊛ ‵ ftrue) ⊛ ‵ (mTranscriptAnswer.the-row .own r2 (z2 ∷ []))) ⊛ some (λ (ws : Lasts g2.ended ((ν2b ∷ []), ((ν2c ∷ []), (κ₃, (κ₄, (κ₅, (κ₆, tt)))))) (r1, (ref2 δ2b (ys2), (ref3 δ2c (ys3), (n4, (n5, (s6, (n7, (s8, (s9, (s10, (h1, tt)))))))))))). ‵ (lasts g2.ended ((ν2b ∷ []), ((ν2c ∷ []), (κ₃, (κ₄, (κ₅, (κ₆, tt)))))) (r1, (ref2 δ2b (ys2), (ref3 δ2c (ys3), (n4, (n5, (s6, (n7, (s8, (s9, (s10, (h1, tt))))))))))) ws) ⊛ raw (g2.clauses 𝓤 H A at-mem run ((ν2b ∷ []), ((ν2c ∷ []), (κ₃, (κ₄, (κ₅, (κ₆, tt)))))) (r1, (ref2 δ2b (ys2), (ref3 δ2c (ys3), (n4, (n5, (s6, (n7, (s8, (s9, (s10, (h1, tt))))))))))) .ensures tt r2 (atExit g2.ended ((ν2b ∷ []), ((ν2c ∷ []), (κ₃, (κ₄, (κ₅, (κ₆, tt)))))) (r1, (ref2 δ2b (ys2), (ref3 δ2c (ys3), (n4, (n5, (s6, (n7, (s8, (s9, (s10, (h1, tt))))))))))) ws)))))) (id⊢ 𝓤 _) $ await ! tt $ pick ! (λ r2. split ! $ move ! (1 ∷ []) $ pick ! (λ ws2. split ! $ move ! (1 ∷ []) $ heard ! _ (λ e2.
-        fsplit ! $ drop ! $ fsplit ! $ fsplit ! $ move ! (1 ∷ []) $ feqL ! (λ same2b. move ! (1 ∷ []) $ fsplit ! $ fsplit ! $ move ! (1 ∷ []) $ feqL ! (λ same2c. move ! (1 ∷ []) $ drop ! $ move ! (2 ∷ []) $ split ! $ move ! (1 ∷ []) $ peeks ! mTranscriptAnswer.the-row (Is mTranscriptAnswer.the-row) (shows 𝓤 H A mTranscriptAnswer.the-row) r2 (z2 ∷ []) (λ i2. drop ! $ land ! (from ! (stop !)) (init ! 24 refl (LL.lawful mTranscriptAnswer.the-type lTranscriptAnswer.the-laws 𝓤 H A W .typed r2 _ i2 .0)) $
-        tidy W (_ ∷ _ ∷ _ ∷ _ ∷ _ ∷ _ ∷ _ ∷ _ ∷ _ ∷ _ ∷ _ ∷ _ ∷ _ ∷ _ ∷ _ ∷ _ ∷ _ ∷ _ ∷ _ ∷ _ ∷ _ ∷ _ ∷ _ ∷ _ ∷ _ ∷ _ ∷ _ ∷ _ ∷ _ ∷ _ ∷ _ ∷ _ ∷ _ ∷ _ ∷ _ ∷ _ ∷ _ ∷ _ ∷ []) $ split ! $ move ! (1 ∷ []) $ split ! $ move ! (1 ∷ []) $ split ! $ move ! (1 ∷ []) $ split ! $ move ! (1 ∷ []) $ split ! $ move ! (1 ∷ []) $ split ! $ move ! (1 ∷ []) $ drop ! $ move ! (5 ∷ []) $ lft-end ! tt $ move ! (0 ∷ 13 ∷ 7 ∷ []) $ use3 W (later (‵ (O2 (ws2 .1 .0)) ⊛ ‵ (flft κ₁ q₁))) (backs2 (named 0) ν2b δ2b (ys2) (ws2 .1 .0) (refl) room2 same2b) $ await ! tt $ split ! $
-        move ! (6 ∷ []) $ lft-end ! tt $ move ! (0 ∷ 12 ∷ 7 ∷ []) $ use3 W (later (‵ (O3 (ws2 .1 .1 .0)) ⊛ ‵ (flft κ₂ q₂))) (backs3 (named 1) ν2c δ2c (ys3) (ws2 .1 .1 .0) (refl) room3 same2c) $ await ! tt $ split ! $
-        rewrite ! 27 (λ (w : Val). ‵ (fat fullShare (lTranscriptAnswer.mir) l₁₃ 0 w)) (ap only ((LL.tells mTranscriptAnswer.the-type lTranscriptAnswer.the-laws) r2 _ i2)) refl $ assigns ! (of-opd ! (load ! (from ! (fld ! refl (stop !))) (look-in ! 27 (sub ! 1 refl (whole !))))) (from ! (stop !)) (init ! 26 refl (LL.lawful mTranscript.the-type lTranscript.the-laws 𝓤 H A W .typed (r2 .transcript) _ (LL.owed mTranscriptAnswer.the-type lTranscriptAnswer.the-laws r2 _ (subst (Is mTranscriptAnswer.the-row r2) ((LL.tells mTranscriptAnswer.the-type lTranscriptAnswer.the-laws) r2 _ i2) i2) .1 .0) .0)) $
-        assigns ! (of-opd ! (load ! (from ! (fld ! refl (stop !))) (look-in ! 26 (sub ! 0 refl (whole !))))) (from ! (hop ! (look ! 39 refl) (fld ! refl (stop !)))) (store-in ! 12 (sub ! 0 refl (whole !)) (array-lawful 𝓤 H A W u8 (uint-lawful 𝓤 H A W w8) 32 .typed (mTranscript.the-type .to (r2 .transcript) .0) _ (LL.owed mTranscript.the-type lTranscript.the-laws (r2 .transcript) _ (LL.owed mTranscriptAnswer.the-type lTranscriptAnswer.the-laws r2 _ (subst (Is mTranscriptAnswer.the-row r2) ((LL.tells mTranscriptAnswer.the-type lTranscriptAnswer.the-laws) r2 _ i2) i2) .1 .0) .0) .0)) $
-        assigns ! (of-opd ! (load ! (from ! (fld ! refl (stop !))) (look-in ! 26 (sub ! 1 refl (whole !))))) (from ! (hop ! (look ! 39 refl) (fld ! refl (stop !)))) (store-in ! 12 (sub ! 1 refl (whole !)) (uint-lawful 𝓤 H A W w64 .typed (mTranscript.the-type .to (r2 .transcript) .1 .0) _ (LL.owed mTranscript.the-type lTranscript.the-laws (r2 .transcript) _ (LL.owed mTranscriptAnswer.the-type lTranscriptAnswer.the-laws r2 _ (subst (Is mTranscriptAnswer.the-row r2) ((LL.tells mTranscriptAnswer.the-type lTranscriptAnswer.the-laws) r2 _ i2) i2) .1 .0) .1 .0) .0)) $
-        assigns ! (of-opd ! (load ! (from ! (fld ! refl (stop !))) (look-in ! 27 (sub ! 0 refl (whole !))))) (from ! (stop !)) (init ! 40 refl (uint-lawful 𝓤 H A W w32 .typed (mTranscriptAnswer.the-type .to r2 .0) _ (LL.owed mTranscriptAnswer.the-type lTranscriptAnswer.the-laws r2 _ (subst (Is mTranscriptAnswer.the-row r2) ((LL.tells mTranscriptAnswer.the-type lTranscriptAnswer.the-laws) r2 _ i2) i2) .0) .0)) $
-        owned ! mTranscript.the-row (Is mTranscript.the-row) (LL.makes mTranscript.the-type lTranscript.the-plain 𝓤 H A) ((r2 .transcript)) _ (LL.owed mTranscriptAnswer.the-type lTranscriptAnswer.the-laws r2 _ (subst (Is mTranscriptAnswer.the-row r2) ((LL.tells mTranscriptAnswer.the-type lTranscriptAnswer.the-laws) r2 _ i2) i2) .1 .0) $ move ! (13 ∷ 0 ∷ 14 ∷ 15 ∷ 16 ∷ []) $ closes ! tt mTranscript.the-row ((r2 .transcript)) ((LL.val mTranscript.the-type lTranscript.the-laws (r2 .transcript)) ∷ []) b1 o1 $ feqI ! (List Val) (vptr b1 o1 ∷ []) (vptr b1 o1 ∷ []) refl $ fjoin3 ! $
-        tidy W (_ ∷ _ ∷ _ ∷ _ ∷ _ ∷ _ ∷ _ ∷ _ ∷ _ ∷ _ ∷ _ ∷ _ ∷ _ ∷ _ ∷ _ ∷ _ ∷ _ ∷ _ ∷ _ ∷ _ ∷ _ ∷ _ ∷ _ ∷ _ ∷ _ ∷ _ ∷ _ ∷ _ ∷ _ ∷ _ ∷ _ ∷ _ ∷ _ ∷ _ ∷ _ ∷ _ ∷ _ ∷ _ ∷ _ ∷ []) $ returns ! (look ! 38 refl) $ move ! (17 ∷ []) $ use1 W (dies ((tyInt w32, l₀) ∷ (tyRef (named 0) mut (pointee (mTranscript.the-row .written)), l₁) ∷ (sliceTy (tyRef (named 1) mut (tyInt w64)), l₂) ∷ (sliceTy (tyRef (named 2) mut (tyInt w64)), l₃) ∷ (tyInt w64, l₄) ∷ (tyInt w64, l₅) ∷ (sliceTy (tyRef (named 3) imm (tyInt w64)), l₆) ∷ (lShapes.mir, l₇) ∷ (sliceTy (tyRef (named 4) imm (pointee (mEntry.the-row .written))), l₈) ∷ (sliceTy (tyRef (named 5) imm (tyInt w64)), l₉) ∷ (sliceTy (tyRef (named 6) imm (tyInt w64)), l₁₀) ∷ (lTranscript.mir, l₁₁) ∷ (tyInt w32, l₁₂) ∷ (lTranscriptAnswer.mir, l₁₃) ∷ (lTranscript.mir, l₁₄) ∷ (tyArray (tyInt w8) 32, l₁₅) ∷ (tyInt w64, l₁₆) ∷ (tyRef erased mut (tyInt w64), l₁₇) ∷ (sliceTy (tyRef erased mut (tyInt w64)), l₁₈) ∷ (tyRef erased mut (tyInt w64), l₁₉) ∷ (sliceTy (tyRef erased mut (tyInt w64)), l₂₀) ∷ []) (‵ ftrue)) die $ free-all ! 17 ((tyInt w32, l₀) ∷ (tyRef (named 0) mut (pointee (mTranscript.the-row .written)), l₁) ∷ (sliceTy (tyRef (named 1) mut (tyInt w64)), l₂) ∷ (sliceTy (tyRef (named 2) mut (tyInt w64)), l₃) ∷ (tyInt w64, l₄) ∷ (tyInt w64, l₅) ∷ (sliceTy (tyRef (named 3) imm (tyInt w64)), l₆) ∷ (lShapes.mir, l₇) ∷ (sliceTy (tyRef (named 4) imm (pointee (mEntry.the-row .written))), l₈) ∷ (sliceTy (tyRef (named 5) imm (tyInt w64)), l₉) ∷ (sliceTy (tyRef (named 6) imm (tyInt w64)), l₁₀) ∷ (lTranscript.mir, l₁₁) ∷ (tyInt w32, l₁₂) ∷ (lTranscriptAnswer.mir, l₁₃) ∷ (lTranscript.mir, l₁₄) ∷ (tyArray (tyInt w8) 32, l₁₅) ∷ (tyInt w64, l₁₆) ∷ (tyRef erased mut (tyInt w64), l₁₇) ∷ (sliceTy (tyRef erased mut (tyInt w64)), l₁₈) ∷ (tyRef erased mut (tyInt w64), l₁₉) ∷ (sliceTy (tyRef erased mut (tyInt w64)), l₂₀) ∷ []) (kept _ ∷ kept _ ∷ kept _ ∷ kept _ ∷ kept _ ∷ kept _ ∷ kept _ ∷ kept _ ∷ kept _ ∷ kept _ ∷ kept _ ∷ kept _ ∷ kept _ ∷ kept _ ∷ kept _ ∷ kept _ ∷ kept _ ∷ kept _ ∷ kept _ ∷ kept _ ∷ kept _ ∷ []) refl $
-        suffices ! _ (ends-at 𝓤 H A f.ended stayed (f.clauses 𝓤 H A at-mem run) W (((κ₀, (κ₁, (κ₂, (κ₃, (κ₄, (κ₅, (κ₆, tt))))))), (q₀, (q₁, (q₂, (q₃, (q₄, (q₅, (q₆, tt))))))), tt, a, at), tt) ((vint w32) (mTranscriptAnswer.the-type .to r2 .0)) (mTranscriptAnswer.the-type .to r2 .0) ((r2 .transcript), (ws2 .1 .0, (ws2 .1 .1 .0, (tt, (tt, (tt, (tt, (tt, (tt, (tt, tt)))))))))) (tt, (same2b, (same2c, (tt, (tt, (tt, (tt, (tt, (tt, (tt, tt))))))))))) $ says ! (e2 (e1 ∙ over-free n4 n5 (s6 .now) n7 (entriesOfRecords (s8 .now)))) $
-        nothing ! $ move ! (7 ∷ 0 ∷ []) $ join ! $ move ! (7 ∷ 0 ∷ []) $ join ! $ move ! (7 ∷ 0 ∷ []) $ join ! $ move ! (7 ∷ 0 ∷ []) $ join ! $ move ! (4 ∷ 0 ∷ []) $ join ! $ move ! (5 ∷ 0 ∷ []) $ join ! $ move ! (2 ∷ 0 ∷ []) $ join ! $ nothing ! $ move ! (5 ∷ 0 ∷ []) $ fjoin ! $ move ! (5 ∷ 0 ∷ []) $ fjoin ! $ move ! (5 ∷ 0 ∷ []) $ fjoin ! $ move ! (6 ∷ 0 ∷ []) $ fjoin ! $ move ! (5 ∷ 0 ∷ []) $ fjoin ! $ move ! (5 ∷ 0 ∷ []) $ fjoin ! $ move ! (5 ∷ 0 ∷ []) $ fjoin ! $ move ! (3 ∷ 0 ∷ []) $ fjoin ! $ move ! (3 ∷ 0 ∷ []) $ fjoin ! $ move ! (2 ∷ 0 ∷ []) $ fjoin ! $ keep ! (1 ∷ 0 ∷ []) $ frame ! $ frame ! $ owned ! u32 (Is u32) (uint-makes 𝓤 H A W w32) (mTranscriptAnswer.the-type .to r2 .0) _ (LL.owed mTranscriptAnswer.the-type lTranscriptAnswer.the-laws r2 _ (subst (Is mTranscriptAnswer.the-row r2) ((LL.tells mTranscriptAnswer.the-type lTranscriptAnswer.the-laws) r2 _ i2) i2) .0) $ done !))))))))))))))))))))))))))))))))))))))))
+        use1 W (raw (Callee-g2 𝓤 H A at-mem run .pre (
+          (
+            ((ν2b ∷ []), ((ν2c ∷ []), (κ₃, (κ₄, (κ₅, (κ₆, tt)))))),
+            (
+              fullShare,
+              (
+                fullShare,
+                (
+                  q₃,
+                  (
+                    q₄,
+                    (
+                      q₅,
+                      (q₆, tt),
+                    ),
+                  ),
+                ),
+              ),
+            ),
+            tt,
+            (r1, (ref2 δ2b (ys2), (ref3 δ2c (ys3), (n4, (n5, (s6, (n7, (s8, (s9, (s10, (h1, tt))))))))))),
+            (
+              z1 ∷ [],
+              (
+                v2 ∷ [],
+                (
+                  v3
+                      ∷ [],
+                  (
+                    u4 ∷ [],
+                    (
+                      u5 ∷ [],
+                      (
+                        v6 ∷ [],
+                        (
+                          u7 ∷ [],
+                          (
+                            v8 ∷ [],
+                            (
+                              v9 ∷ [],
+                              (
+                                v10 ∷ [],
+                                (
+                                  (LL.val mTranscript.the-type lTranscript.the-laws (h1)) ∷
+                                      [],
+                                  tt,
+                                ),
+                              ),
+                            ),
+                          ),
+                        ),
+                      ),
+                    ),
+                  ),
+                ),
+              ),
+            ),
+          ),
+          tt,
+        ))) (qed W ((‵ (flft (ν2b ∷ []) fullShare) ⊛ ‵ (flft (ν2c ∷ []) fullShare) ⊛ ‵ (flft κ₃ q₃) ⊛ ‵ (flft κ₄ q₄) ⊛ ‵
+        (flft κ₅ q₅) ⊛ ‵ (flft κ₆ q₆) ⊛ ‵ ftrue) ∷ ‵ (MutSlice (named 0) (ν2b ∷ []) u64 .own (ref2 δ2b (ys2)) (v2 ∷ [])) ∷ ‵ (MutSlice (named 1)
+        (ν2c ∷ []) u64 .own (ref3 δ2c (ys3)) (v3 ∷ [])) ∷ ‵ (ShrSlice (named 2) κ₃ u64 .own s6 (v6 ∷ [])) ∷ ‵ (ShrSlice (named 3) κ₄
+        mEntry.the-row .own s8 (v8 ∷ [])) ∷ ‵ (ShrSlice (named 4) κ₅ u64 .own s9 (v9 ∷ [])) ∷ ‵ (ShrSlice (named 5) κ₆ u64 .own s10 (v10 ∷ [])) ∷
+        []) ∵ nothing ! $ owned ! mTranscript.the-row (Is mTranscript.the-row) (LL.makes mTranscript.the-type lTranscript.the-plain 𝓤 H A) (h1) _
+        w1o1 $ fjoin ! $ move ! (7 ∷ 0 ∷ []) $ fjoin ! $ move ! (6 ∷ 0 ∷ []) $ fjoin ! $ move ! (5 ∷ 0 ∷ []) $ fjoin ! $ owned ! mShapes.the-row
+        (Is mShapes.the-row) (LL.makes mShapes.the-type lShapes.the-plain 𝓤 H A) (n7) _ w7 $ fjoin ! $ move ! (4 ∷ 0 ∷ []) $ fjoin ! $ owned !
+        u64 (Is u64) (uint-makes 𝓤 H A W w64) (n5) _ w5 $ fjoin ! $ owned ! u64 (Is u64) (uint-makes 𝓤 H A W w64) (n4) _ w4 $ fjoin ! $ move ! (3
+        ∷ 0 ∷ []) $ fjoin ! $ move ! (2 ∷ 0 ∷ []) $ fjoin ! $ owned ! u32 (Is u32) (uint-makes 𝓤 H A W w32) (r1) _ i1 $ fjoin ! $ move ! (1 ∷ 0 ∷
+        []) $ join ! $ nothing ! $ move ! (1 ∷ 0 ∷ []) $ frame ! $ done !) $
+        calls-at ! fm (Callee-g2 𝓤 H A at-mem run) known-g2 (
+          (
+            ((ν2b ∷ []), ((ν2c ∷ []), (κ₃, (κ₄, (κ₅, (κ₆, tt)))))),
+            (
+              fullShare,
+              (
+                fullShare,
+                (
+                  q₃,
+                  (q₄, (q₅, (q₆, tt))),
+                ),
+              ),
+            ),
+            tt,
+            (r1, (ref2 δ2b (ys2), (ref3 δ2c (ys3), (n4, (n5, (s6, (n7, (s8, (s9, (s10, (h1, tt))))))))))),
+            (
+              z1 ∷ [],
+              (
+                v2
+                    ∷ [],
+                (
+                  v3 ∷ [],
+                  (
+                    u4 ∷ [],
+                    (
+                      u5 ∷ [],
+                      (
+                        v6 ∷ [],
+                        (
+                          u7 ∷ [],
+                          (
+                            v8 ∷ [],
+                            (
+                              v9 ∷ [],
+                              (
+                                v10 ∷ [],
+                                (
+                                  (LL.val mTranscript.the-type lTranscript.the-laws
+                                      (h1)) ∷ [],
+                                  tt,
+                                ),
+                              ),
+                            ),
+                          ),
+                        ),
+                      ),
+                    ),
+                  ),
+                ),
+              ),
+            ),
+          ),
+          tt,
+        ) (and-then ! (load ! (from ! (stop !)) (look ! 23 refl)) (and-then ! (load ! (from ! (stop !)) (look ! 17
+        refl)) (and-then ! (load ! (from ! (stop !)) (look ! 15 refl)) (and-then ! (load ! (from ! (stop !)) (look ! 31 refl)) (and-then ! (load
+        ! (from ! (stop !)) (look ! 30 refl)) (and-then ! (load ! (from ! (stop !)) (look ! 29 refl)) (and-then ! (load ! (from ! (stop !)) (look
+        ! 28 refl)) (and-then ! (load ! (from ! (stop !)) (look ! 27 refl)) (and-then ! (load ! (from ! (stop !)) (look ! 26 refl)) (and-then !
+        (load ! (from ! (stop !)) (look ! 25 refl)) (and-then ! (load ! (from ! (stop !)) (look ! 24 refl)) (no-more !)))))))))))) (λ z2.
+        use1 W (later (some (λ (r2 : TranscriptAnswer). ((‵ (flft (ν2b ∷ []) fullShare) ⊛ ‵ (flft (ν2c ∷ []) fullShare) ⊛ ‵ (flft κ₃ q₃) ⊛ ‵ (flft κ₄
+        q₄) ⊛ ‵ (flft κ₅ q₅) ⊛ ‵ (flft κ₆ q₆) ⊛ ‵ ftrue) ⊛ ‵ (mTranscriptAnswer.the-row .own r2 (z2 ∷ []))) ⊛ some (λ (ws : Lasts g2.ended (
+          (ν2b
+              ∷ []),
+          ((ν2c ∷ []), (κ₃, (κ₄, (κ₅, (κ₆, tt))))),
+        ) (
+          r1,
+          (
+            ref2 δ2b (ys2),
+            (
+              ref3 δ2c (ys3),
+              (
+                n4,
+                (
+                  n5,
+                  (
+                    s6,
+                    (
+                      n7,
+                      (
+                        s8,
+                        (
+                          s9,
+                          (
+                            s10,
+                            (
+                              h1,
+                              tt,
+                            ),
+                          ),
+                        ),
+                      ),
+                    ),
+                  ),
+                ),
+              ),
+            ),
+          ),
+        )). ‵ (lasts g2.ended ((ν2b ∷ []), ((ν2c ∷ []), (κ₃, (κ₄, (κ₅, (κ₆, tt)))))) (
+          r1,
+          (
+            ref2 δ2b (ys2),
+            (
+              ref3 δ2c (ys3),
+              (
+                n4,
+                (
+                  n5,
+                  (s6, (n7, (s8, (s9, (s10, (h1, tt)))))),
+                ),
+              ),
+            ),
+          ),
+        ) ws) ⊛ raw (g2.clauses 𝓤 H A at-mem run (
+          (ν2b ∷ []),
+          (
+            (ν2c ∷ []),
+            (
+              κ₃,
+              (
+                κ₄,
+                (
+                  κ₅,
+                  (
+                    κ₆,
+                    tt,
+                  ),
+                ),
+              ),
+            ),
+          ),
+        ) (r1, (ref2 δ2b (ys2), (ref3 δ2c (ys3), (n4, (n5, (s6, (n7, (s8, (s9, (s10, (h1, tt))))))))))) .ensures tt r2 (atExit g2.ended
+        ((ν2b ∷ []), ((ν2c ∷ []), (κ₃, (κ₄, (κ₅, (κ₆, tt)))))) (
+          r1,
+          (
+            ref2 δ2b (ys2),
+            (
+              ref3 δ2c (ys3),
+              (
+                n4,
+                (
+                  n5,
+                  (
+                    s6,
+                    (
+                      n7,
+                      (
+                        s8,
+                        (
+                          s9,
+                          (
+                            s10,
+                            (
+                              h1,
+                              tt,
+                            ),
+                          ),
+                        ),
+                      ),
+                    ),
+                  ),
+                ),
+              ),
+            ),
+          ),
+        ) ws)))))) (id⊢ 𝓤 _) $ await ! tt $ pick ! (λ r2. split ! $ move ! (1 ∷ []) $ pick ! (λ ws2. split ! $ move ! (1 ∷ []) $
+        heard ! _ (λ e2.
+        fsplit ! $ drop ! $ fsplit ! $ fsplit ! $ move ! (1 ∷ []) $ feqL ! (λ same2b. move ! (1 ∷ []) $ fsplit ! $ fsplit ! $ move ! (1 ∷ []) $ feqL
+        ! (λ same2c. move ! (1 ∷ []) $ drop ! $ move ! (2 ∷ []) $ split ! $ move ! (1 ∷ []) $ peeks ! mTranscriptAnswer.the-row (Is
+        mTranscriptAnswer.the-row) (shows 𝓤 H A mTranscriptAnswer.the-row) r2 (z2 ∷ []) (λ i2. drop ! $ land ! (from ! (stop !)) (init ! 24 refl
+        (LL.lawful mTranscriptAnswer.the-type lTranscriptAnswer.the-laws 𝓤 H A W .typed r2 _ i2 .0)) $
+        tidy W (_ ∷ _ ∷ _ ∷ _ ∷ _ ∷ _ ∷ _ ∷ _ ∷ _ ∷ _ ∷ _ ∷ _ ∷ _ ∷ _ ∷ _ ∷ _ ∷ _ ∷ _ ∷ _ ∷ _ ∷ _ ∷ _ ∷ _ ∷ _ ∷ _ ∷ _ ∷ _ ∷ _ ∷ _ ∷ _ ∷ _ ∷ _ ∷ _ ∷ _
+        ∷ _ ∷ _ ∷ _ ∷ _ ∷ []) $ split ! $ move ! (1 ∷ []) $ split ! $ move ! (1 ∷ []) $ split ! $ move ! (1 ∷ []) $ split ! $ move ! (1 ∷ []) $
+        split ! $ move ! (1 ∷ []) $ split ! $ move ! (1 ∷ []) $ drop ! $ move ! (5 ∷ []) $ lft-end ! tt $ move ! (0 ∷ 13 ∷ 7 ∷ []) $ use3 W
+        (later (‵ (O2 (ws2 .1 .0)) ⊛ ‵ (flft κ₁ q₁))) (backs2 (named 0) ν2b δ2b (ys2) (ws2 .1 .0) (refl) room2 same2b) $ await ! tt $ split ! $
+        move ! (6 ∷ []) $ lft-end ! tt $ move ! (0 ∷ 12 ∷ 7 ∷ []) $ use3 W (later (‵ (O3 (ws2 .1 .1 .0)) ⊛ ‵ (flft κ₂ q₂))) (backs3 (named 1) ν2c δ2c
+        (ys3) (ws2 .1 .1 .0) (refl) room3 same2c) $ await ! tt $ split ! $
+        rewrite ! 27 (λ (w : Val). ‵ (fat fullShare (lTranscriptAnswer.mir) l₁₃ 0 w)) (ap only ((LL.tells mTranscriptAnswer.the-type
+        lTranscriptAnswer.the-laws) r2 _ i2)) refl $ assigns ! (of-opd ! (load ! (from ! (fld ! refl (stop !))) (look-in ! 27 (sub ! 1 refl
+        (whole !))))) (from ! (stop !)) (init ! 26 refl (LL.lawful mTranscript.the-type lTranscript.the-laws 𝓤 H A W .typed (r2 .transcript) _
+        (LL.owed mTranscriptAnswer.the-type lTranscriptAnswer.the-laws r2 _ (subst (Is mTranscriptAnswer.the-row r2) ((LL.tells
+        mTranscriptAnswer.the-type lTranscriptAnswer.the-laws) r2 _ i2) i2) .1 .0) .0)) $
+        assigns ! (of-opd ! (load ! (from ! (fld ! refl (stop !))) (look-in ! 26 (sub ! 0 refl (whole !))))) (from ! (hop ! (look ! 39 refl) (fld !
+        refl (stop !)))) (store-in ! 12 (sub ! 0 refl (whole !)) (array-lawful 𝓤 H A W u8 (uint-lawful 𝓤 H A W w8) 32 .typed
+        (mTranscript.the-type .to (r2 .transcript) .0) _ (LL.owed mTranscript.the-type lTranscript.the-laws (r2 .transcript) _ (LL.owed
+        mTranscriptAnswer.the-type lTranscriptAnswer.the-laws r2 _ (subst (Is mTranscriptAnswer.the-row r2) ((LL.tells mTranscriptAnswer.the-type
+        lTranscriptAnswer.the-laws) r2 _ i2) i2) .1 .0) .0) .0)) $
+        assigns ! (of-opd ! (load ! (from ! (fld ! refl (stop !))) (look-in ! 26 (sub ! 1 refl (whole !))))) (from ! (hop ! (look ! 39 refl) (fld !
+        refl (stop !)))) (store-in ! 12 (sub ! 1 refl (whole !)) (uint-lawful 𝓤 H A W w64 .typed (mTranscript.the-type .to (r2 .transcript) .1
+        .0) _ (LL.owed mTranscript.the-type lTranscript.the-laws (r2 .transcript) _ (LL.owed mTranscriptAnswer.the-type
+        lTranscriptAnswer.the-laws r2 _ (subst (Is mTranscriptAnswer.the-row r2) ((LL.tells mTranscriptAnswer.the-type
+        lTranscriptAnswer.the-laws) r2 _ i2) i2) .1 .0) .1 .0) .0)) $
+        assigns ! (of-opd ! (load ! (from ! (fld ! refl (stop !))) (look-in ! 27 (sub ! 0 refl (whole !))))) (from ! (stop !)) (init ! 40 refl
+        (uint-lawful 𝓤 H A W w32 .typed (mTranscriptAnswer.the-type .to r2 .0) _ (LL.owed mTranscriptAnswer.the-type lTranscriptAnswer.the-laws
+        r2 _ (subst (Is mTranscriptAnswer.the-row r2) ((LL.tells mTranscriptAnswer.the-type lTranscriptAnswer.the-laws) r2 _ i2) i2) .0) .0)) $
+        owned ! mTranscript.the-row (Is mTranscript.the-row) (LL.makes mTranscript.the-type lTranscript.the-plain 𝓤 H A) ((r2 .transcript)) _
+        (LL.owed mTranscriptAnswer.the-type lTranscriptAnswer.the-laws r2 _ (subst (Is mTranscriptAnswer.the-row r2) ((LL.tells
+        mTranscriptAnswer.the-type lTranscriptAnswer.the-laws) r2 _ i2) i2) .1 .0) $ move ! (13 ∷ 0 ∷ 14 ∷ 15 ∷ 16 ∷ []) $ closes ! tt
+        mTranscript.the-row ((r2 .transcript)) ((LL.val mTranscript.the-type lTranscript.the-laws (r2 .transcript)) ∷ []) b1 o1 $ feqI ! (List
+        Val) (vptr b1 o1 ∷ []) (vptr b1 o1 ∷ []) refl $ fjoin3 ! $
+        tidy W (_ ∷ _ ∷ _ ∷ _ ∷ _ ∷ _ ∷ _ ∷ _ ∷ _ ∷ _ ∷ _ ∷ _ ∷ _ ∷ _ ∷ _ ∷ _ ∷ _ ∷ _ ∷ _ ∷ _ ∷ _ ∷ _ ∷ _ ∷ _ ∷ _ ∷ _ ∷ _ ∷ _ ∷ _ ∷ _ ∷ _ ∷ _ ∷ _ ∷ _
+        ∷ _ ∷ _ ∷ _ ∷ _ ∷ _ ∷ []) $ returns ! (look ! 38 refl) $ move ! (17 ∷ []) $ use1 W (dies ((tyInt w32, l₀) ∷ (
+          tyRef (named 0) mut (pointee
+              (mTranscript.the-row .written)),
+          l₁,
+        ) ∷ (sliceTy (tyRef (named 1) mut (tyInt w64)), l₂) ∷ (sliceTy (tyRef (named 2) mut (tyInt w64)), l₃)
+        ∷ (tyInt w64, l₄) ∷ (tyInt w64, l₅) ∷ (sliceTy (tyRef (named 3) imm (tyInt w64)), l₆) ∷ (lShapes.mir, l₇) ∷ (
+          sliceTy (tyRef (named 4) imm
+              (pointee (mEntry.the-row .written))),
+          l₈,
+        ) ∷ (sliceTy (tyRef (named 5) imm (tyInt w64)), l₉) ∷ (
+          sliceTy (tyRef (named 6) imm (tyInt w64)),
+          l₁₀,
+        ) ∷ (lTranscript.mir, l₁₁) ∷ (tyInt w32, l₁₂) ∷ (lTranscriptAnswer.mir, l₁₃) ∷ (lTranscript.mir, l₁₄) ∷ (tyArray (tyInt w8) 32, l₁₅) ∷
+        (tyInt w64, l₁₆) ∷ (tyRef erased mut (tyInt w64), l₁₇) ∷ (sliceTy (tyRef erased mut (tyInt w64)), l₁₈) ∷ (
+          tyRef erased mut (tyInt w64),
+          l₁₉,
+        ) ∷ (sliceTy (tyRef erased mut (tyInt w64)), l₂₀) ∷ []) (‵ ftrue)) die $ free-all ! 17 ((tyInt w32, l₀) ∷ (
+          tyRef (named 0) mut
+              (pointee (mTranscript.the-row .written)),
+          l₁,
+        ) ∷ (sliceTy (tyRef (named 1) mut (tyInt w64)), l₂) ∷ (
+          sliceTy (tyRef (named 2) mut (tyInt
+              w64)),
+          l₃,
+        ) ∷ (tyInt w64, l₄) ∷ (tyInt w64, l₅) ∷ (sliceTy (tyRef (named 3) imm (tyInt w64)), l₆) ∷ (lShapes.mir, l₇) ∷ (
+          sliceTy (tyRef
+              (named 4) imm (pointee (mEntry.the-row .written))),
+          l₈,
+        ) ∷ (sliceTy (tyRef (named 5) imm (tyInt w64)), l₉) ∷ (
+          sliceTy (tyRef (named 6) imm
+              (tyInt w64)),
+          l₁₀,
+        ) ∷ (lTranscript.mir, l₁₁) ∷ (tyInt w32, l₁₂) ∷ (lTranscriptAnswer.mir, l₁₃) ∷ (lTranscript.mir, l₁₄) ∷ (
+          tyArray (tyInt
+              w8) 32,
+          l₁₅,
+        ) ∷ (tyInt w64, l₁₆) ∷ (tyRef erased mut (tyInt w64), l₁₇) ∷ (sliceTy (tyRef erased mut (tyInt w64)), l₁₈) ∷ (
+          tyRef erased mut
+              (tyInt w64),
+          l₁₉,
+        ) ∷ (sliceTy (tyRef erased mut (tyInt w64)), l₂₀) ∷ []) (kept _ ∷ kept _ ∷ kept _ ∷ kept _ ∷ kept _ ∷ kept _ ∷ kept _ ∷
+        kept _ ∷ kept _ ∷ kept _ ∷ kept _ ∷ kept _ ∷ kept _ ∷ kept _ ∷ kept _ ∷ kept _ ∷ kept _ ∷ kept _ ∷ kept _ ∷ kept _ ∷ kept _ ∷ []) refl $
+        suffices ! _ (ends-at 𝓤 H A f.ended stayed (f.clauses 𝓤 H A at-mem run) W (
+          (
+            (κ₀, (κ₁, (κ₂, (κ₃, (κ₄, (κ₅, (κ₆, tt))))))),
+            (
+              q₀,
+              (
+                q₁,
+                (
+                  q₂,
+                  (
+                    q₃,
+                    (q₄, (q₅, (q₆, tt))),
+                  ),
+                ),
+              ),
+            ),
+            tt,
+            a,
+            at,
+          ),
+          tt,
+        ) ((vint w32) (mTranscriptAnswer.the-type .to r2 .0)) (mTranscriptAnswer.the-type .to r2 .0) (
+          (r2
+              .transcript),
+          (ws2 .1 .0, (ws2 .1 .1 .0, (tt, (tt, (tt, (tt, (tt, (tt, (tt, tt))))))))),
+        ) (
+          tt,
+          (
+            same2b,
+            (
+              same2c,
+              (
+                tt,
+                (
+                  tt,
+                  (
+                    tt,
+                    (
+                      tt,
+                      (
+                        tt,
+                        (tt, (tt, tt)),
+                      ),
+                    ),
+                  ),
+                ),
+              ),
+            ),
+          ),
+        )) $ says ! (e2 (e1 ∙ over-free n4 n5 (s6 .now) n7 (entriesOfRecords (s8 .now)))) $
+        nothing ! $ move ! (7 ∷ 0 ∷ []) $ join ! $ move ! (7 ∷ 0 ∷ []) $ join ! $ move ! (7 ∷ 0 ∷ []) $ join ! $ move ! (7 ∷ 0 ∷ []) $ join ! $ move
+        ! (4 ∷ 0 ∷ []) $ join ! $ move ! (5 ∷ 0 ∷ []) $ join ! $ move ! (2 ∷ 0 ∷ []) $ join ! $ nothing ! $ move ! (5 ∷ 0 ∷ []) $ fjoin ! $ move
+        ! (5 ∷ 0 ∷ []) $ fjoin ! $ move ! (5 ∷ 0 ∷ []) $ fjoin ! $ move ! (6 ∷ 0 ∷ []) $ fjoin ! $ move ! (5 ∷ 0 ∷ []) $ fjoin ! $ move ! (5 ∷ 0
+        ∷ []) $ fjoin ! $ move ! (5 ∷ 0 ∷ []) $ fjoin ! $ move ! (3 ∷ 0 ∷ []) $ fjoin ! $ move ! (3 ∷ 0 ∷ []) $ fjoin ! $ move ! (2 ∷ 0 ∷ []) $
+        fjoin ! $ keep ! (1 ∷ 0 ∷ []) $ frame ! $ frame ! $ owned ! u32 (Is u32) (uint-makes 𝓤 H A W w32) (mTranscriptAnswer.the-type .to r2 .0)
+        _ (LL.owed mTranscriptAnswer.the-type lTranscriptAnswer.the-laws r2 _ (subst (Is mTranscriptAnswer.the-row r2) ((LL.tells
+        mTranscriptAnswer.the-type lTranscriptAnswer.the-laws) r2 _ i2) i2) .0) $ done !))))))))))))))))))))))))))))))))))))))))
 
 module _ {M : Type 1} (𝓤 : URA M) (H : Heap 𝓤) (A : Atoms 𝓤) (W : Given 𝓤 H A) (mem : Memory → SProp 𝓤) (run : Routine → Fun 𝓤) where
-  walks : (C : Calls 𝓤 H) (Λ : Loops 𝓤 H) → FmC 𝓤 H (W .laws) C → Triple 𝓤 (C #g1) (Callee-g1 𝓤 H A mem run) → Triple 𝓤 (C #g2) (Callee-g2 𝓤 H A mem run) → Walks 𝓤 H A f.ended stayed (WpFn 𝓤 H C Λ code.function) (f.clauses 𝓤 H A mem run)
-  walks C Λ fm known-g1 known-g2 = walked 𝓤 H A f.ended stayed (f.clauses 𝓤 H A mem run) (WpFn 𝓤 H C Λ code.function) (λ κs. (ptr-vals, (slice-vals, (slice-vals, ((uint-vals w64), ((uint-vals w64), (slice-vals, ((LL.vals mShapes.the-type lShapes.the-laws), (slice-vals, (slice-vals, (slice-vals, tt))))))))))) (λ κs. (mut-tells (named 0) (κs .0) mTranscript.the-row, (mut-slice-tells (named 1) (κs .1 .0) u64, (mut-slice-tells (named 2) (κs .1 .1 .0) u64, ((uint-tells w64), ((uint-tells w64), (shr-slice-tells (named 3) (κs .1 .1 .1 .0) u64, ((LL.tells mShapes.the-type lShapes.the-laws), (shr-slice-tells (named 4) (κs .1 .1 .1 .1 .0) mEntry.the-row, (shr-slice-tells (named 5) (κs .1 .1 .1 .1 .1 .0) u64, (shr-slice-tells (named 6) (κs .1 .1 .1 .1 .1 .1 .0) u64, tt)))))))))))
-      (λ κs qs bounds a g are. via 𝓤 _ (fst∗ 𝓤 _ (emp 𝓤)) (walk 𝓤 H A W mem run (κs .0) (κs .1 .0) (κs .1 .1 .0) (κs .1 .1 .1 .0) (κs .1 .1 .1 .1 .0) (κs .1 .1 .1 .1 .1 .0) (κs .1 .1 .1 .1 .1 .1 .0) (qs .0) (qs .1 .0) (qs .1 .1 .0) (qs .1 .1 .1 .0) (qs .1 .1 .1 .1 .0) (qs .1 .1 .1 .1 .1 .0) (qs .1 .1 .1 .1 .1 .1 .0) (a .0 .ptr .0) (a .0 .ptr .1) (a .0 .name) (a .0 .now) (a .1 .0 .ptr .0) (a .1 .0 .ptr .1) (a .1 .0 .name) (a .1 .0 .now) (a .1 .1 .0 .ptr .0) (a .1 .1 .0 .ptr .1) (a .1 .1 .0 .name) (a .1 .1 .0 .now) (a .1 .1 .1 .0) (only ((uint-vals w64) (a .1 .1 .1 .0))) (a .1 .1 .1 .1 .0) (only ((uint-vals w64) (a .1 .1 .1 .1 .0))) (a .1 .1 .1 .1 .1 .0) (a .1 .1 .1 .1 .1 .1 .0) (only ((LL.vals mShapes.the-type lShapes.the-laws) (a .1 .1 .1 .1 .1 .1 .0))) (a .1 .1 .1 .1 .1 .1 .1 .0) (a .1 .1 .1 .1 .1 .1 .1 .1 .0) (a .1 .1 .1 .1 .1 .1 .1 .1 .1 .0) C Λ fm known-g1 known-g2 (are .1 .0 .0 .1) (are .1 .1 .0 .0 .1) (are .1 .1 .1 .0) (are .1 .1 .1 .1 .0) (are .1 .1 .1 .1 .1 .0) (are .1 .1 .1 .1 .1 .1 .0) (are .1 .1 .1 .1 .1 .1 .1 .0) (are .1 .1 .1 .1 .1 .1 .1 .1 .0) (are .1 .1 .1 .1 .1 .1 .1 .1 .1 .0)))
+  walks : (C : Calls 𝓤 H) (Λ : Loops 𝓤 H) → FmC 𝓤 H (W .laws) C → Triple 𝓤 (C #g1) (Callee-g1 𝓤 H A mem run) → Triple 𝓤 (C #g2) (Callee-g2 𝓤 H A mem
+      run) → Walks 𝓤 H A f.ended stayed (WpFn 𝓤 H C Λ code.function) (f.clauses 𝓤 H A mem run)
+  walks C Λ fm known-g1 known-g2 = walked 𝓤 H A f.ended stayed (f.clauses 𝓤 H A mem run) (WpFn 𝓤 H C Λ code.function) (λ κs. (
+    ptr-vals,
+    (
+      slice-vals,
+      (
+        slice-vals,
+        (
+          (uint-vals w64),
+          (
+            (uint-vals w64),
+            (
+              slice-vals,
+              (
+                (LL.vals mShapes.the-type lShapes.the-laws),
+                (
+                  slice-vals,
+                  (
+                    slice-vals,
+                    (slice-vals, tt),
+                  ),
+                ),
+              ),
+            ),
+          ),
+        ),
+      ),
+    ),
+  )) (λ κs. (
+    mut-tells (named 0) (κs .0) mTranscript.the-row,
+    (
+      mut-slice-tells (named 1) (κs .1 .0) u64,
+      (
+        mut-slice-tells
+            (named 2) (κs .1 .1 .0) u64,
+        (
+          (uint-tells w64),
+          (
+            (uint-tells w64),
+            (
+              shr-slice-tells (named 3) (κs .1 .1 .1 .0) u64,
+              (
+                (LL.tells mShapes.the-type
+                    lShapes.the-laws),
+                (
+                  shr-slice-tells (named 4) (κs .1 .1 .1 .1 .0) mEntry.the-row,
+                  (
+                    shr-slice-tells (named 5) (κs .1 .1 .1 .1 .1 .0) u64,
+                    (shr-slice-tells (named 6) (κs .1 .1 .1 .1 .1 .1 .0) u64, tt),
+                  ),
+                ),
+              ),
+            ),
+          ),
+        ),
+      ),
+    ),
+  ))
+      (λ κs qs bounds a g are. via 𝓤 _ (fst∗ 𝓤 _ (emp 𝓤)) (walk 𝓤 H A W mem run (κs .0) (κs .1 .0) (κs .1 .1 .0) (κs .1 .1 .1 .0) (κs .1 .1 .1 .1 .0)
+      (κs .1 .1 .1 .1 .1 .0) (κs .1 .1 .1 .1 .1 .1 .0) (qs .0) (qs .1 .0) (qs .1 .1 .0) (qs .1 .1 .1 .0) (qs .1 .1 .1 .1 .0) (qs .1 .1 .1 .1 .1
+      .0) (qs .1 .1 .1 .1 .1 .1 .0) (a .0 .ptr .0) (a .0 .ptr .1) (a .0 .name) (a .0 .now) (a .1 .0 .ptr .0) (a .1 .0 .ptr .1) (a .1 .0 .name) (a
+      .1 .0 .now) (a .1 .1 .0 .ptr .0) (a .1 .1 .0 .ptr .1) (a .1 .1 .0 .name) (a .1 .1 .0 .now) (a .1 .1 .1 .0) (only ((uint-vals w64) (a .1 .1
+      .1 .0))) (a .1 .1 .1 .1 .0) (only ((uint-vals w64) (a .1 .1 .1 .1 .0))) (a .1 .1 .1 .1 .1 .0) (a .1 .1 .1 .1 .1 .1 .0) (only ((LL.vals
+      mShapes.the-type lShapes.the-laws) (a .1 .1 .1 .1 .1 .1 .0))) (a .1 .1 .1 .1 .1 .1 .1 .0) (a .1 .1 .1 .1 .1 .1 .1 .1 .0) (a .1 .1 .1 .1 .1
+      .1 .1 .1 .1 .0) C Λ fm known-g1 known-g2 (are .1 .0 .0 .1) (are .1 .1 .0 .0 .1) (are .1 .1 .1 .0) (are .1 .1 .1 .1 .0) (are .1 .1 .1 .1 .1
+      .0) (are .1 .1 .1 .1 .1 .1 .0) (are .1 .1 .1 .1 .1 .1 .1 .0) (are .1 .1 .1 .1 .1 .1 .1 .1 .0) (are .1 .1 .1 .1 .1 .1 .1 .1 .1 .0)))
 
-  meets : (𝓣 : Tables 𝓤 H) → Triple 𝓤 (𝓣 .C #g1) (Callee-g1 𝓤 H A mem run) → Triple 𝓤 (𝓣 .C #g2) (Callee-g2 𝓤 H A mem run) → Meets 𝓤 H A f.signature (WpFn 𝓤 H (𝓣 .C) (𝓣 .Λ) code.function) (f.spec 𝓤 H A mem run)
-  meets 𝓣 known-g1 known-g2 = walk-meets 𝓤 H A f.ended stayed W (goes-ref 𝓤 H A W 7 0 tt (plain (λ _. mTranscript.the-row)), (goes-slice 𝓤 H A W 7 1 tt (plain (λ _. u64)), (goes-slice 𝓤 H A W 7 2 tt (plain (λ _. u64)), (goes-none 𝓤 H A W 7 (λ _. u64) yes (λ κs x f. refl), (goes-none 𝓤 H A W 7 (λ _. u64) yes (λ κs x f. refl), (goes-none-slice 𝓤 H A W 7 (3 ∷ []) tt (plain (λ _. u64)) yes, (goes-none 𝓤 H A W 7 (λ _. mShapes.the-row) yes (λ κs x f. refl), (goes-none-slice 𝓤 H A W 7 (4 ∷ []) tt (plain (λ _. mEntry.the-row)) yes, (goes-none-slice 𝓤 H A W 7 (5 ∷ []) tt (plain (λ _. u64)) yes, (goes-none-slice 𝓤 H A W 7 (6 ∷ []) tt (plain (λ _. u64)) yes, tt)))))))))) (f.clauses 𝓤 H A mem run)
+  meets : (𝓣 : Tables 𝓤 H) → Triple 𝓤 (𝓣 .C #g1) (Callee-g1 𝓤 H A mem run) → Triple 𝓤 (𝓣 .C #g2) (Callee-g2 𝓤 H A mem run) → Meets 𝓤 H A f.signature
+      (WpFn 𝓤 H (𝓣 .C) (𝓣 .Λ) code.function) (f.spec 𝓤 H A mem run)
+  meets 𝓣 known-g1 known-g2 = walk-meets 𝓤 H A f.ended stayed W (
+    goes-ref 𝓤 H A W 7 0 tt (plain (λ _. mTranscript.the-row)),
+    (
+      goes-slice 𝓤 H A W 7 1
+          tt (plain (λ _. u64)),
+      (
+        goes-slice 𝓤 H A W 7 2 tt (plain (λ _. u64)),
+        (
+          goes-none 𝓤 H A W 7 (λ _. u64) yes (λ κs x f. refl),
+          (
+            goes-none 𝓤 H A W
+                7 (λ _. u64) yes (λ κs x f. refl),
+            (
+              goes-none-slice 𝓤 H A W 7 (3 ∷ []) tt (plain (λ _. u64)) yes,
+              (
+                goes-none 𝓤 H A W 7 (λ _. mShapes.the-row)
+                    yes (λ κs x f. refl),
+                (
+                  goes-none-slice 𝓤 H A W 7 (4 ∷ []) tt (plain (λ _. mEntry.the-row)) yes,
+                  (
+                    goes-none-slice 𝓤 H A W 7 (5 ∷ []) tt (plain
+                        (λ _. u64)) yes,
+                    (goes-none-slice 𝓤 H A W 7 (6 ∷ []) tt (plain (λ _. u64)) yes, tt),
+                  ),
+                ),
+              ),
+            ),
+          ),
+        ),
+      ),
+    ),
+  ) (f.clauses 𝓤 H A mem run)
       (WpFn 𝓤 H (𝓣 .C) (𝓣 .Λ) code.function) (WpFn-mono 𝓤 H (W .laws) 𝓣 code.function) (walks (𝓣 .C) (𝓣 .Λ) (fmOf 𝓤 H (W .laws) 𝓣) known-g1 known-g2)
 
 pub verify-virtual-spartan-spec : {M : Type 1} → stated.statement M
@@ -248,5 +853,5 @@ verify-virtual-spartan-spec 𝓤 H 𝓜 𝓖 𝓡 =
     entered 𝓤 H (tripleOf 𝓤 H (𝓖 .A) f.signature (f.spec 𝓤 H (𝓖 .A) (𝓜 .mem) (𝓡 .run)))
     (tables 𝓤 H 𝓜 𝓡 code.env .C) (tables 𝓤 H 𝓜 𝓡 code.env .Λ) #f code.function (code.unfolded 𝓤 H 𝓜 𝓡)
     (meets 𝓤 H (𝓖 .A) (givenOf 𝓤 H 𝓜 𝓖) (𝓜 .mem) (𝓡 .run) (tablesOf 𝓤 H 𝓜 (tables 𝓤 H 𝓜 𝓡 code.env))
-    (cited 𝓤 H (Callee-g1 𝓤 H (𝓖 .A) (𝓜 .mem) (𝓡 .run)) 𝓜 𝓡 code.env #g1 g1-def.routine code.calls-magnetar-inplace·walks·rules-refusal (g1-thm.met 𝓤 H 𝓜 𝓖 𝓡))
+    (cited 𝓤 H (Callee-g1 𝓤 H (𝓖 .A) (𝓜 .mem) (𝓡 .run)) 𝓜 𝓡 code.env #g1 g1-def.routine code.calls-magnetar-records·walks·rules-refusal (g1-thm.met 𝓤 H 𝓜 𝓖 𝓡))
     (cited 𝓤 H (Callee-g2 𝓤 H (𝓖 .A) (𝓜 .mem) (𝓡 .run)) 𝓜 𝓡 code.env #g2 g2-def.routine code.calls-magnetar-spartan·records·verify-with (g2-thm.met 𝓤 H 𝓜 𝓖 𝓡)))

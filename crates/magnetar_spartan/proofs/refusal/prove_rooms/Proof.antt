@@ -26,7 +26,17 @@ note-requires-3 : tie.Need-note-requires-3
 note-requires-3 c κs = search needs
 
 returns : tie.Need-returns
-returns c = rw (c .note3 .ensures, c .before .prover-room .ensures, c .before .before .note2 .ensures, c .before .before .before .claim-words .ensures, c .before .before .before .before .note .ensures, c .before .before .before .before .before .proof-words .ensures, c .before .before .before .before .before .before .counter .ensures)
+returns c = rw (
+  c .note3 .ensures,
+  c .before .prover-room .ensures,
+  c .before .before .note2 .ensures,
+  c .before .before .before .claim-words
+      .ensures,
+  c .before .before .before .before .note .ensures,
+  c .before .before .before .before .before .proof-words .ensures,
+  c .before .before
+      .before .before .before .before .counter .ensures,
+)
 
 pub prove-rooms-spec : {M : Type 1} → statement M
 prove-rooms-spec =

@@ -54,16 +54,26 @@ segments-requires c κs = sizes (c .before .before) .columns
 
 returns-2 : tie.Need-returns-2
 returns-2 c =
-    noted-late (first (c .before .before .before .before .before .before .before)) (second (c .before .before .before .before .before .before .before) ++ third (c .before .before .before .before .before .before .before)) _ _ (c .before .before .before .before .before .size-refusal .ensures) (c .before .before .before .before .if1 .left)
+    noted-late (first (c .before .before .before .before .before .before .before)) (second (c .before .before .before .before .before .before
+    .before) ++ third (c .before .before .before .before .before .before .before)) _ _ (c .before .before .before .before .before .size-refusal
+    .ensures) (c .before .before .before .before .if1 .left)
     (noted-front (second (c .before .before .before .before .before .before .before)) (third (c .before .before .before .before .before .before .before)) _ (middle (c .before)) (c .if2 .taken))
 
 verify-rooms-requires : tie.Need-verify-rooms-requires
-verify-rooms-requires c κs = (log-least _ (sizes (c .before .before .before .before) .columns), few-segments ((c .before .before .before .before .before .before .before) .args .m / 2) (c .before .before .note2 .result) _ (now ((c .before .before .before .before .before .before .before) .args .lens)) (c .before .segments .ensures) (c .if2 .left))
+verify-rooms-requires c κs = (
+  log-least _ (sizes (c .before .before .before .before) .columns),
+  few-segments ((c .before .before .before .before
+      .before .before .before) .args .m / 2) (c .before .before .note2 .result) _ (now ((c .before .before .before .before .before .before .before)
+      .args .lens)) (c .before .segments .ensures) (c .if2 .left),
+)
 
 returns-3 : tie.Need-returns-3
 returns-3 c =
-    noted-late (first (c .before .before .before .before .before .before .before .before)) (second (c .before .before .before .before .before .before .before .before) ++ third (c .before .before .before .before .before .before .before .before)) _ _ (c .before .before .before .before .before .before .size-refusal .ensures) (c .before .before .before .before .before .if1 .left)
-    (noted-late (second (c .before .before .before .before .before .before .before .before)) (third (c .before .before .before .before .before .before .before .before)) _ _ (middle (c .before .before)) (c .before .if2 .left) (c .verify-rooms .ensures))
+    noted-late (first (c .before .before .before .before .before .before .before .before)) (second (c .before .before .before .before .before .before
+    .before .before) ++ third (c .before .before .before .before .before .before .before .before)) _ _ (c .before .before .before .before .before
+    .before .size-refusal .ensures) (c .before .before .before .before .before .if1 .left)
+    (noted-late (second (c .before .before .before .before .before .before .before .before)) (third (c .before .before .before .before .before
+    .before .before .before)) _ _ (middle (c .before .before)) (c .before .if2 .left) (c .verify-rooms .ensures))
 
 pub verify-spec : {M : Type 1} → statement M
 verify-spec =

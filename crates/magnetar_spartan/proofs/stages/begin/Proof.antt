@@ -41,8 +41,12 @@ outer-checks-requires c κs = search needs
 returns-2 : tie.Need-returns-2
 returns-2 c =
     let x = (c .before .before .before .before .before .before .before .before .before .before .before) .args in
-    rw (c .before .before .before .before .before .before .before .before .if1 .left) (begun-is (o (c .before .before .before .before .before .before .before .before .before .before .before)) (now (x .proof)) (x .t) _ _ _ _ (c .before .before .before .before .play .ensures)
-    (part-is (o (c .before .before .before .before .before .before .before .before .before .before .before)) (c .before .before .before .before .before .before .before .draw-words .result) (c .before .before .before .before .before .before .least .result) _ (c .before .before .before .before .before .before .least .ensures .0) (c .before .before .before .before .before .before .before .draw-words .ensures)) (c .outer-checks .ensures))
+    rw (c .before .before .before .before .before .before .before .before .if1 .left) (begun-is (o (c .before .before .before .before .before .before
+    .before .before .before .before .before)) (now (x .proof)) (x .t) _ _ _ _ (c .before .before .before .before .play .ensures)
+    (part-is (o (c .before .before .before .before .before .before .before .before .before .before .before)) (c .before .before .before .before
+    .before .before .before .draw-words .result) (c .before .before .before .before .before .before .least .result) _ (c .before .before .before
+    .before .before .before .least .ensures .0) (c .before .before .before .before .before .before .before .draw-words .ensures)) (c
+    .outer-checks .ensures))
 
 pub begin-spec : {M : Type 1} → statement M
 begin-spec =

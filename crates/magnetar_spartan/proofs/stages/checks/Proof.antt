@@ -20,8 +20,10 @@ o s = let x = s .args in outline (x .m) (x .q) (x .rb) (x .rf) (now (x .lens))
 abbrev d : tie.Start → List ℕ
 d s = drawnOf (o s) (s .args .t3)
 
-part : (c : tie.After-least) → take (c .least .result - 0) ((c .before .before .before .before .before .before .before .before .before) .args .t3) ≡ d (c .before .before .before .before .before .before .before .before .before)
-part c = part-is (o (c .before .before .before .before .before .before .before .before .before)) (c .before .draw-words .result) (c .least .result) ((c .before .before .before .before .before .before .before .before .before) .args .t3) (c .least .ensures .0) (c .before .draw-words .ensures)
+part : (c : tie.After-least) → take (c .least .result - 0) ((c .before .before .before .before .before .before .before .before .before) .args .t3) ≡
+    d (c .before .before .before .before .before .before .before .before .before)
+part c = part-is (o (c .before .before .before .before .before .before .before .before .before)) (c .before .draw-words .result) (c .least .result)
+    ((c .before .before .before .before .before .before .before .before .before) .args .t3) (c .least .ensures .0) (c .before .draw-words .ensures)
 
 stopped-requires : tie.Need-stopped-requires
 stopped-requires c κs = search needs
@@ -29,7 +31,8 @@ stopped-requires c κs = search needs
 returns : tie.Need-returns
 returns c =
     let x = (c .before .before .before .before .before .before .before .before) .args in
-    stop-first (o (c .before .before .before .before .before .before .before .before)) (now (x .x)) (now (x .proof)) (d (c .before .before .before .before .before .before .before .before)) (x .t) (x .u) (x .f) (now (x .claims)) (now (x .s)) (c .stopped .result)
+    stop-first (o (c .before .before .before .before .before .before .before .before)) (now (x .x)) (now (x .proof)) (d (c .before .before .before
+    .before .before .before .before .before)) (x .t) (x .u) (x .f) (now (x .claims)) (now (x .s)) (c .stopped .result)
     (c .before .if1 .taken) (c .stopped .ensures)
 
 draw-words-requires : tie.Need-draw-words-requires
@@ -59,8 +62,14 @@ same-length c = search needs
 returns-2 : tie.Need-returns-2
 returns-2 c =
     let x = (c .before .before .before .before .before .before .before .before .before .before .before .before .before .before .before .before .before .before) .args in
-    stop-later (o (c .before .before .before .before .before .before .before .before .before .before .before .before .before .before .before .before .before .before)) (now (x .x)) (now (x .proof)) (d (c .before .before .before .before .before .before .before .before .before .before .before .before .before .before .before .before .before .before)) (x .t) (x .u) (x .f) (now (x .claims)) (now (x .s)) _ (d (c .before .before .before .before .before .before .before .before .before .before .before .before .before .before .before .before .before .before)) (c .before .before .before .before .before .end-checks .result)
-    _ (c .before .before .before .before .before .before .before .before .before .before .before .if1 .left) (part (c .before .before .before .before .before .before .before .before .before)) (c .before .before .before .before .before .end-checks .ensures) (c .stopped2 .result) (c .before .if2 .taken) (c .stopped2 .ensures)
+    stop-later (o (c .before .before .before .before .before .before .before .before .before .before .before .before .before .before .before .before
+    .before .before)) (now (x .x)) (now (x .proof)) (d (c .before .before .before .before .before .before .before .before .before .before .before
+    .before .before .before .before .before .before .before)) (x .t) (x .u) (x .f) (now (x .claims)) (now (x .s)) _ (d (c .before .before .before
+    .before .before .before .before .before .before .before .before .before .before .before .before .before .before .before)) (c .before .before
+    .before .before .before .end-checks .result)
+    _ (c .before .before .before .before .before .before .before .before .before .before .before .if1 .left) (part (c .before .before .before .before
+    .before .before .before .before .before)) (c .before .before .before .before .before .end-checks .ensures) (c .stopped2 .result) (c .before
+    .if2 .taken) (c .stopped2 .ensures)
 
 sub-write-claims : tie.Need-sub-write-claims
 sub-write-claims c = search needs
@@ -82,9 +91,18 @@ same-length-3 c = search needs
 
 returns-3 : tie.Need-returns-3
 returns-3 c =
-    let x = (c .before .before .before .before .before .before .before .before .before .before .before .before .before .before .before .before .before .before .before .before .before .before .before) .args in
-    stop-none (o (c .before .before .before .before .before .before .before .before .before .before .before .before .before .before .before .before .before .before .before .before .before .before .before)) (now (x .x)) (now (x .proof)) (d (c .before .before .before .before .before .before .before .before .before .before .before .before .before .before .before .before .before .before .before .before .before .before .before)) (x .t) (x .u) (x .f) (now (x .claims)) (now (x .s)) _ _ (c .before .before .before .before .before .before .before .before .before .before .end-checks .result)
-    _ (c .before .before .before .before .before .before .before .before .before .before .before .before .before .before .before .before .if1 .left) (part (c .before .before .before .before .before .before .before .before .before .before .before .before .before .before)) (c .before .before .before .before .before .before .before .before .before .before .end-checks .ensures) _ (c .before .before .before .before .before .before .if2 .left) (part (c .before .before .before .before .before .before .before .before .before .before .before .before .before .before)) (c .before .before .write-claims .ensures .1)
+    let x = (c .before .before .before .before .before .before .before .before .before .before .before .before .before .before .before .before
+    .before .before .before .before .before .before .before) .args in
+    stop-none (o (c .before .before .before .before .before .before .before .before .before .before .before .before .before .before .before .before
+    .before .before .before .before .before .before .before)) (now (x .x)) (now (x .proof)) (d (c .before .before .before .before .before .before
+    .before .before .before .before .before .before .before .before .before .before .before .before .before .before .before .before .before)) (x
+    .t) (x .u) (x .f) (now (x .claims)) (now (x .s)) _ _ (c .before .before .before .before .before .before .before .before .before .before
+    .end-checks .result)
+    _ (c .before .before .before .before .before .before .before .before .before .before .before .before .before .before .before .before .if1 .left)
+    (part (c .before .before .before .before .before .before .before .before .before .before .before .before .before .before)) (c .before .before
+    .before .before .before .before .before .before .before .before .end-checks .ensures) _ (c .before .before .before .before .before .before
+    .if2 .left) (part (c .before .before .before .before .before .before .before .before .before .before .before .before .before .before)) (c
+    .before .before .write-claims .ensures .1)
 
 pub checks-spec : {M : Type 1} → statement M
 checks-spec =

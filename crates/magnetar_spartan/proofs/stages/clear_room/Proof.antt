@@ -32,7 +32,8 @@ same-length : tie.Need-same-length
 same-length c = search needs
 
 returns : tie.Need-returns
-returns c = let x = (c .before .before .before .before .before .before .before .before) .args in c .before .before .clear-front .ensures ∙ ap (λ (k : ℕ). clearedTo (2 * x .m + 2 * k) (now (x .s))) (c .before .before .before .before .before .before .larger .ensures)
+returns c = let x = (c .before .before .before .before .before .before .before .before) .args in c .before .before .clear-front .ensures ∙ ap (λ (k :
+    ℕ). clearedTo (2 * x .m + 2 * k) (now (x .s))) (c .before .before .before .before .before .before .larger .ensures)
 
 returns-2 : tie.Need-returns-2
 returns-2 c = let x = (c .before .before .before .before) .args in cleared-none (roomElements (outline (x .m) 0 (x .rb) (x .rf) [])) (now (x .s)) (omega (arith, c .before .before .larger .ensures))

@@ -31,7 +31,10 @@ same-length-2 c = search needs
 returns-2 : tie.Need-returns-2
 returns-2 c =
     let x = (c .before .before .before .before .before .before .before .before .before .before .before .before .before .before .before .before .before .before .before .before) .args in
-    rw (c .before .before .before .before .before .before .before .before .before .before .before .before .before .before .if1 .left) (finish-is (o (c .before .before .before .before .before .before .before .before .before .before .before .before .before .before .before .before .before .before .before .before)) (now (x .x)) (now (x .proof)) (x .t) (x .g) (now (x .claims)) (now (x .s)) _ _ _ _ (c .before .before .before .before .before .before .before .before .checks .ensures) (c .before .before .clear-room .ensures))
+    rw (c .before .before .before .before .before .before .before .before .before .before .before .before .before .before .if1 .left) (finish-is (o
+    (c .before .before .before .before .before .before .before .before .before .before .before .before .before .before .before .before .before
+    .before .before .before)) (now (x .x)) (now (x .proof)) (x .t) (x .g) (now (x .claims)) (now (x .s)) _ _ _ _ (c .before .before .before
+    .before .before .before .before .before .checks .ensures) (c .before .before .clear-room .ensures))
 
 pub finish-spec : {M : Type 1} → statement M
 finish-spec =

@@ -24,10 +24,13 @@ rules-number c =
     c .refused .ensures ∙ ap (noted 0) (lengths-free (x .m) (x .q) (now (x .lens)) (x .sh) (now (x .row)) (now (x .col)) (now (x .lo)) (now (x .hi)))
 
 -- of all tests
-all-number : (c : tie.After-prove) → let x = (c .before .before .before .before .before .before .before .before .before .before .before .before) .args in c .prove .result ≡ proveRefusal (R (c .before .before .before .before .before .before .before .before .before .before .before .before)) (now (x .packed)) (now (x .x)) (x .t) (now (x .out)) (now (x .claims)) (now (x .scratch))
+all-number : (c : tie.After-prove) → let x = (c .before .before .before .before .before .before .before .before .before .before .before .before)
+    .args in c .prove .result ≡ proveRefusal (R (c .before .before .before .before .before .before .before .before .before .before .before .before))
+    (now (x .packed)) (now (x .x)) (x .t) (now (x .out)) (now (x .claims)) (now (x .scratch))
 all-number c =
     let x = (c .before .before .before .before .before .before .before .before .before .before .before .before) .args in
-    number (R (c .before .before .before .before .before .before .before .before .before .before .before .before)) (now (x .packed)) (now (x .x)) (now (x .out)) (now (x .claims)) (now (x .scratch)) (x .t) _ _ (rules-number (c .before)) (c .prove .ensures)
+    number (R (c .before .before .before .before .before .before .before .before .before .before .before .before)) (now (x .packed)) (now (x .x))
+    (now (x .out)) (now (x .claims)) (now (x .scratch)) (x .t) _ _ (rules-number (c .before)) (c .prove .ensures)
 
 refused-requires : tie.Need-refused-requires
 refused-requires c κs = search needs
@@ -38,7 +41,8 @@ prove-requires c κs = search needs
 returns : tie.Need-returns
 returns c =
     let x = (c .before .before .before .before .before .before .before .before .before .before .before .before .before) .args in
-    turned-back (R (c .before .before .before .before .before .before .before .before .before .before .before .before .before)) (now (x .packed)) (now (x .x)) (now (x .out)) (now (x .claims)) (now (x .scratch)) (x .t) (c .before .prove .result) (all-number (c .before)) (c .if1 .taken)
+    turned-back (R (c .before .before .before .before .before .before .before .before .before .before .before .before .before)) (now (x .packed))
+    (now (x .x)) (now (x .out)) (now (x .claims)) (now (x .scratch)) (x .t) (c .before .prove .result) (all-number (c .before)) (c .if1 .taken)
 
 products-requires : tie.Need-products-requires
 products-requires c κs = search needs
@@ -63,11 +67,22 @@ same-length-3 c = search needs
 
 returns-2 : tie.Need-returns-2
 returns-2 c =
-    let x = (c .before .before .before .before .before .before .before .before .before .before .before .before .before .before .before .before .before .before .before .before .before .before .before .before .before .before .before .before .before .before .before .before .before .before .before .before .before .before .before) .args in
+    let x = (c .before .before .before .before .before .before .before .before .before .before .before .before .before .before .before .before
+    .before .before .before .before .before .before .before .before .before .before .before .before .before .before .before .before .before
+    .before .before .before .before .before .before) .args in
     let o = c .before .before .before .before .before .before .before .before .before .before .before .before .before .before .before .before .before .before .before .outer in
     let u = c .before .before .before .before .before .before .later in
-    run-through (R (c .before .before .before .before .before .before .before .before .before .before .before .before .before .before .before .before .before .before .before .before .before .before .before .before .before .before .before .before .before .before .before .before .before .before .before .before .before .before .before)) (now (x .packed)) (now (x .x)) (now (x .out)) (now (x .claims)) (now (x .scratch)) (x .t) (sym (all-number (c .before .before .before .before .before .before .before .before .before .before .before .before .before .before .before .before .before .before .before .before .before .before .before .before .before .before .before)) ∙ c .before .before .before .before .before .before .before .before .before .before .before .before .before .before .before .before .before .before .before .before .before .before .before .before .before .before .if1 .left) _ _ _
-    (o .result .«transcript») (u .result) (o .result .«draws») _ _ _ _ (c .before .before .before .before .before .before .before .before .before .before .before .before .before .before .before .before .before .before .before .before .before .before .before .before .products .ensures) (o .ensures) (c .before .before .before .before .before .before .before .before .before .before .before .before .combine-at .ensures) (u .ensures)
+    run-through (R (c .before .before .before .before .before .before .before .before .before .before .before .before .before .before .before .before
+    .before .before .before .before .before .before .before .before .before .before .before .before .before .before .before .before .before
+    .before .before .before .before .before .before)) (now (x .packed)) (now (x .x)) (now (x .out)) (now (x .claims)) (now (x .scratch)) (x .t)
+    (sym (all-number (c .before .before .before .before .before .before .before .before .before .before .before .before .before .before .before
+    .before .before .before .before .before .before .before .before .before .before .before .before)) ∙ c .before .before .before .before .before
+    .before .before .before .before .before .before .before .before .before .before .before .before .before .before .before .before .before
+    .before .before .before .before .if1 .left) _ _ _
+    (o .result .«transcript») (u .result) (o .result .«draws») _ _ _ _ (c .before .before .before .before .before .before .before .before .before
+    .before .before .before .before .before .before .before .before .before .before .before .before .before .before .before .products .ensures)
+    (o .ensures) (c .before .before .before .before .before .before .before .before .before .before .before .before .combine-at .ensures) (u
+    .ensures)
 
 pub prove-virtual-spartan-spec : {M : Type 1} → statement M
 prove-virtual-spartan-spec =

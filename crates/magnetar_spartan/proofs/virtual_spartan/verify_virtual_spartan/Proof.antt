@@ -51,9 +51,23 @@ same-length-2 c = search needs
 
 returns : tie.Need-returns
 returns c =
-    let x = (c .before .before .before .before .before .before .before .before .before .before .before .before .before .before .before .before .before .before .before .before .before .before .before .before .before) .args in
-    verify-ends (R (c .before .before .before .before .before .before .before .before .before .before .before .before .before .before .before .before .before .before .before .before .before .before .before .before .before)) (now (x .x)) (now (x .proof)) (x .t) (now (x .claims)) (now (x .scratch)) (c .before .before .before .before .before .before .before .before .before .before .before .before .before .before .before .refused .result) (c .before .before .before .before .before .before .before .before .before .before .before .before .before .before .verify .result)
-    (number (c .before .before .before .before .before .before .before .before .before .before .before .before .before .before .before)) (c .before .before .before .before .before .before .before .before .before .before .before .before .before .before .verify .ensures) (c .before .before .before .before .finish .result) _ _ (c .before .before .before .before .before .before .before .before .before .before .before .before .before .begin .result) _ (c .before .before .before .before .before .before .before .before .before .before .before .before .before .begin .ensures) (rw (← c .before .before .before .before .before .before .before .before .before .before .before .code-of .ensures, ← c .before .before .before .before .before .before .before .before .before .before .before .before .draws-of .ensures) (c .before .before .before .before .before .before .before .before .before .combine-unless .ensures))
+    let x = (c .before .before .before .before .before .before .before .before .before .before .before .before .before .before .before .before
+    .before .before .before .before .before .before .before .before .before) .args in
+    verify-ends (R (c .before .before .before .before .before .before .before .before .before .before .before .before .before .before .before .before
+    .before .before .before .before .before .before .before .before .before)) (now (x .x)) (now (x .proof)) (x .t) (now (x .claims)) (now (x
+    .scratch)) (c .before .before .before .before .before .before .before .before .before .before .before .before .before .before .before
+    .refused .result) (c .before .before .before .before .before .before .before .before .before .before .before .before .before .before .verify
+    .result)
+    (number (c .before .before .before .before .before .before .before .before .before .before .before .before .before .before .before)) (c .before
+    .before .before .before .before .before .before .before .before .before .before .before .before .before .verify .ensures) (c .before .before
+    .before .before .finish .result) _ _ (c .before .before .before .before .before .before .before .before .before .before .before .before
+    .before .begin .result) _ (c .before .before .before .before .before .before .before .before .before .before .before .before .before .begin
+    .ensures) (rw (
+      ← c .before .before .before .before .before .before .before .before .before .before .before .code-of .ensures,
+      ← c .before
+          .before .before .before .before .before .before .before .before .before .before .before .draws-of .ensures,
+    ) (c .before .before .before
+    .before .before .before .before .before .before .combine-unless .ensures))
     (c .before .before .before .before .finish .ensures)
 
 pub verify-virtual-spartan-spec : {M : Type 1} → statement M

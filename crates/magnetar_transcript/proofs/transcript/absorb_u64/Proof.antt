@@ -76,7 +76,8 @@ stayed = (stay-ref (0 ∷ []) tt (plain (λ _. mTranscript.the-row)), (stay-none
 abbrev Callee-g1 : {M : Type 1} (𝓤 : URA M) (H : Heap 𝓤) (A : Atoms 𝓤) (mem : Memory → SProp 𝓤) (run : Routine → Fun 𝓤) → Contract 𝓤
 Callee-g1 𝓤 H A mem run = tripleOf 𝓤 H A g1.signature (g1.spec 𝓤 H A mem run)
 
-module _ {M : Type 1} (𝓤 : URA M) (H : Heap 𝓤) (A : Atoms 𝓤) (W : Given 𝓤 H A) (at-mem : Memory → SProp 𝓤) (run : Routine → Fun 𝓤) (κ₀ κ₁ : Lft) (q₀ q₁ : Share) (b1 o1 : ℕ) (γ1 : GName) (h1 : Transcript) (s2 : RefT (List ℕ)) (n3 : ℕ) (u3 : Val) where
+module _ {M : Type 1} (𝓤 : URA M) (H : Heap 𝓤) (A : Atoms 𝓤) (W : Given 𝓤 H A) (at-mem : Memory → SProp 𝓤) (run : Routine → Fun 𝓤) (κ₀ κ₁ : Lft) (q₀
+    q₁ : Share) (b1 o1 : ℕ) (γ1 : GName) (h1 : Transcript) (s2 : RefT (List ℕ)) (n3 : ℕ) (u3 : Val) where
   abbrev ref1 : GName → Transcript → RefT Transcript
   ref1 δ l = record { ptr = (b1, o1); name = δ; now = l }
 
@@ -107,37 +108,130 @@ module _ {M : Type 1} (𝓤 : URA M) (H : Heap 𝓤) (A : Atoms 𝓤) (W : Given
   abbrev Post : Val → SProp 𝓤
   Post = walkOf 𝓤 H A f.ended stayed (f.clauses 𝓤 H A at-mem run) .post (((κ₀, (κ₁, tt)), (q₀, (q₁, tt)), tt, a, at), tt)
 
-  module _ (C : Calls 𝓤 H) (Λ : Loops 𝓤 H) (fm : FmC 𝓤 H (W .laws) C) (known-g1 : Triple 𝓤 (C #g1) (Callee-g1 𝓤 H A at-mem run)) (w2 : Is (ShrSlice (named 1) κ₁ u8) s2 (v2 ∷ [])) (w3 : Is u64 n3 (u3 ∷ [])) where
+  module _ (C : Calls 𝓤 H) (Λ : Loops 𝓤 H) (fm : FmC 𝓤 H (W .laws) C) (known-g1 : Triple 𝓤 (C #g1) (Callee-g1 𝓤 H A at-mem run)) (w2 : Is (ShrSlice
+      (named 1) κ₁ u8) s2 (v2 ∷ [])) (w3 : Is u64 n3 (u3 ∷ [])) where
     walk : ent 𝓤 (onEntry 𝓤 H A f.signature (κ₀, (κ₁, tt)) (q₀, (q₁, tt)) a at) (WpFn 𝓤 H C Λ code.function (v1 ∷ v2 ∷ v3 ∷ []) Post)
     walk =
-        qed W ((‵ (flft κ₀ q₀) ⊛ ‵ (flft κ₁ q₁) ⊛ ‵ ftrue) ∷ ‵ (owns (MutRef (named 0) κ₀ mTranscript.the-row ∷ ShrSlice (named 1) κ₁ u8 ∷ u64 ∷ []) a at) ∷ []) ∵ enter ! C Λ code.function (v1 ∷ v2 ∷ v3 ∷ []) _ $
-        nothing ! $ alloc ! (λ l₀. alloc ! (λ l₁. alloc ! (λ l₂. alloc ! (λ l₃. alloc ! (λ l₄. alloc ! (λ l₅. alloc ! (λ l₆. alloc ! (λ l₇. alloc0 ! $ hide ! (λ died die. params1 ! $ pass1 ! (init ! 7 refl (tt, tt)) $ pass1 ! (init ! 6 refl (shr-slice-lawful 𝓤 H A W (named 1) κ₁ u8 .typed s2 (v2 ∷ []) w2 .0)) $ pass1 ! (init ! 5 refl (uint-lawful 𝓤 H A W w64 .typed n3 _ w3 .0)) $ pass0 ! $
-        move ! (10 ∷ []) $ fsplit ! $ move ! (1 ∷ []) $ fsplit ! $ move ! (1 ∷ []) $ fsplit ! $ move ! (1 ∷ []) $ drop ! $ move ! (12 ∷ []) $ split ! $ move ! (1 ∷ []) $ split ! $ move ! (1 ∷ []) $ drop ! $ tidy W (_ ∷ _ ∷ _ ∷ _ ∷ _ ∷ _ ∷ _ ∷ _ ∷ _ ∷ _ ∷ _ ∷ _ ∷ _ ∷ _ ∷ []) $
-        move ! (4 ∷ []) $ fsplit3 ! $ drop ! $ move ! (0 ∷ 1 ∷ 3 ∷ []) $ opens ! tt mTranscript.the-row {h = h1} b1 o1 (λ vs. spelt ! mTranscript.the-row (Is mTranscript.the-row) (shows 𝓤 H A mTranscript.the-row) (LL.vals mTranscript.the-type lTranscript.the-laws) (LL.tells mTranscript.the-type lTranscript.the-laws) fullShare (h1) vs b1 o1 $ move ! (1 ∷ []) $ peeks ! mTranscript.the-row (Is mTranscript.the-row) (shows 𝓤 H A mTranscript.the-row) (h1) (LL.val mTranscript.the-type lTranscript.the-laws (h1) ∷ []) (λ w1o1. drop ! $
-        assigns ! (of-opd ! (load ! (from ! (hop ! (look ! 14 refl) (fld ! refl (stop !)))) (look-in ! 0 (sub ! 0 refl (whole !))))) (from ! (stop !)) (init ! 9 refl (array-lawful 𝓤 H A W u8 (uint-lawful 𝓤 H A W w8) 32 .typed (mTranscript.the-type .to h1 .0) _ (LL.owed mTranscript.the-type lTranscript.the-laws h1 _ w1o1 .0) .0)) $
-        assigns ! (of-opd ! (load ! (from ! (hop ! (look ! 14 refl) (fld ! refl (stop !)))) (look-in ! 0 (sub ! 1 refl (whole !))))) (from ! (stop !)) (init ! 8 refl (uint-lawful 𝓤 H A W w64 .typed (mTranscript.the-type .to h1 .1 .0) _ (LL.owed mTranscript.the-type lTranscript.the-laws h1 _ w1o1 .1 .0) .0)) $
-        assigns ! (agg ! (and-then ! (load ! (from ! (stop !)) (look ! 9 refl)) (and-then ! (load ! (from ! (stop !)) (look ! 8 refl)) (no-more !)))) (from ! (stop !)) (init ! 11 refl (LL.lawful mTranscript.the-type lTranscript.the-laws 𝓤 H A W .typed h1 _ w1o1 .0)) $
-        move ! (6 ∷ []) $ use1 W (‵ (O2) ⊛ ‵ (O2)) (shr-slice-copy 𝓤 H A W (named 1) κ₁ u8 .twice s2 (v2 ∷ [])) $ split ! $ tidy W (_ ∷ _ ∷ _ ∷ _ ∷ _ ∷ _ ∷ _ ∷ _ ∷ _ ∷ _ ∷ _ ∷ _ ∷ _ ∷ _ ∷ _ ∷ _ ∷ _ ∷ []) $ nothing ! $ move ! (7 ∷ 0 ∷ []) $ join ! $ join ! $
+        qed W ((‵ (flft κ₀ q₀) ⊛ ‵ (flft κ₁ q₁) ⊛ ‵ ftrue) ∷ ‵ (owns (MutRef (named 0) κ₀ mTranscript.the-row ∷ ShrSlice (named 1) κ₁ u8 ∷ u64 ∷ [])
+        a at) ∷ []) ∵ enter ! C Λ code.function (v1 ∷ v2 ∷ v3 ∷ []) _ $
+        nothing ! $ alloc ! (λ l₀. alloc ! (λ l₁. alloc ! (λ l₂. alloc ! (λ l₃. alloc ! (λ l₄. alloc ! (λ l₅. alloc ! (λ l₆. alloc ! (λ l₇. alloc0 !
+        $ hide ! (λ died die. params1 ! $ pass1 ! (init ! 7 refl (tt, tt)) $ pass1 ! (init ! 6 refl (shr-slice-lawful 𝓤 H A W (named 1) κ₁ u8
+        .typed s2 (v2 ∷ []) w2 .0)) $ pass1 ! (init ! 5 refl (uint-lawful 𝓤 H A W w64 .typed n3 _ w3 .0)) $ pass0 ! $
+        move ! (10 ∷ []) $ fsplit ! $ move ! (1 ∷ []) $ fsplit ! $ move ! (1 ∷ []) $ fsplit ! $ move ! (1 ∷ []) $ drop ! $ move ! (12 ∷ []) $ split !
+        $ move ! (1 ∷ []) $ split ! $ move ! (1 ∷ []) $ drop ! $ tidy W (_ ∷ _ ∷ _ ∷ _ ∷ _ ∷ _ ∷ _ ∷ _ ∷ _ ∷ _ ∷ _ ∷ _ ∷ _ ∷ _ ∷ []) $
+        move ! (4 ∷ []) $ fsplit3 ! $ drop ! $ move ! (0 ∷ 1 ∷ 3 ∷ []) $ opens ! tt mTranscript.the-row {h = h1} b1 o1 (λ vs. spelt !
+        mTranscript.the-row (Is mTranscript.the-row) (shows 𝓤 H A mTranscript.the-row) (LL.vals mTranscript.the-type lTranscript.the-laws)
+        (LL.tells mTranscript.the-type lTranscript.the-laws) fullShare (h1) vs b1 o1 $ move ! (1 ∷ []) $ peeks ! mTranscript.the-row (Is
+        mTranscript.the-row) (shows 𝓤 H A mTranscript.the-row) (h1) (LL.val mTranscript.the-type lTranscript.the-laws (h1) ∷ []) (λ w1o1. drop ! $
+        assigns ! (of-opd ! (load ! (from ! (hop ! (look ! 14 refl) (fld ! refl (stop !)))) (look-in ! 0 (sub ! 0 refl (whole !))))) (from ! (stop
+        !)) (init ! 9 refl (array-lawful 𝓤 H A W u8 (uint-lawful 𝓤 H A W w8) 32 .typed (mTranscript.the-type .to h1 .0) _ (LL.owed
+        mTranscript.the-type lTranscript.the-laws h1 _ w1o1 .0) .0)) $
+        assigns ! (of-opd ! (load ! (from ! (hop ! (look ! 14 refl) (fld ! refl (stop !)))) (look-in ! 0 (sub ! 1 refl (whole !))))) (from ! (stop
+        !)) (init ! 8 refl (uint-lawful 𝓤 H A W w64 .typed (mTranscript.the-type .to h1 .1 .0) _ (LL.owed mTranscript.the-type
+        lTranscript.the-laws h1 _ w1o1 .1 .0) .0)) $
+        assigns ! (agg ! (and-then ! (load ! (from ! (stop !)) (look ! 9 refl)) (and-then ! (load ! (from ! (stop !)) (look ! 8 refl)) (no-more !))))
+        (from ! (stop !)) (init ! 11 refl (LL.lawful mTranscript.the-type lTranscript.the-laws 𝓤 H A W .typed h1 _ w1o1 .0)) $
+        move ! (6 ∷ []) $ use1 W (‵ (O2) ⊛ ‵ (O2)) (shr-slice-copy 𝓤 H A W (named 1) κ₁ u8 .twice s2 (v2 ∷ [])) $ split ! $ tidy W (_ ∷ _ ∷ _ ∷ _ ∷ _
+        ∷ _ ∷ _ ∷ _ ∷ _ ∷ _ ∷ _ ∷ _ ∷ _ ∷ _ ∷ _ ∷ _ ∷ _ ∷ []) $ nothing ! $ move ! (7 ∷ 0 ∷ []) $ join ! $ join ! $
         -- call 1
-        use1 W (raw (Callee-g1 𝓤 H A at-mem run .pre (((κ₁, tt), (q₁, tt), tt, (h1, (s2, (n3, tt))), ((LL.val mTranscript.the-type lTranscript.the-laws (h1)) ∷ [], (v2 ∷ [], (u3 ∷ [], tt)))), tt))) (qed W ((‵ (flft κ₁ q₁) ⊛ ‵ ftrue) ∷ ‵ (ShrSlice (named 0) κ₁ u8 .own s2 (v2 ∷ [])) ∷ []) ∵ nothing ! $ owned ! u64 (Is u64) (uint-makes 𝓤 H A W w64) (n3) _ w3 $ fjoin ! $ move ! (2 ∷ 0 ∷ []) $ fjoin ! $ owned ! mTranscript.the-row (Is mTranscript.the-row) (LL.makes mTranscript.the-type lTranscript.the-plain 𝓤 H A) (h1) _ w1o1 $ fjoin ! $ move ! (1 ∷ 0 ∷ []) $ join ! $ nothing ! $ move ! (1 ∷ 0 ∷ []) $ frame ! $ done !) $
-        calls-at ! fm (Callee-g1 𝓤 H A at-mem run) known-g1 (((κ₁, tt), (q₁, tt), tt, (h1, (s2, (n3, tt))), ((LL.val mTranscript.the-type lTranscript.the-laws (h1)) ∷ [], (v2 ∷ [], (u3 ∷ [], tt)))), tt) (and-then ! (load ! (from ! (stop !)) (look ! 11 refl)) (and-then ! (load ! (from ! (stop !)) (look ! 13 refl)) (and-then ! (load ! (from ! (stop !)) (look ! 12 refl)) (no-more !)))) (λ z1.
-        use1 W (later (some (λ (r1 : Transcript). ((‵ (flft κ₁ q₁) ⊛ ‵ ftrue) ⊛ ‵ (mTranscript.the-row .own r1 (z1 ∷ []))) ⊛ some (λ (ws : Lasts g1.ended (κ₁, tt) (h1, (s2, (n3, tt)))). ‵ (lasts g1.ended (κ₁, tt) (h1, (s2, (n3, tt))) ws) ⊛ raw (g1.clauses 𝓤 H A at-mem run (κ₁, tt) (h1, (s2, (n3, tt))) .ensures tt r1 (atExit g1.ended (κ₁, tt) (h1, (s2, (n3, tt))) ws)))))) (id⊢ 𝓤 _) $ await ! tt $ pick ! (λ r1. split ! $ move ! (1 ∷ []) $ pick ! (λ ws1. split ! $ move ! (1 ∷ []) $ heard ! _ (λ e1.
-        drop ! $ split ! $ move ! (1 ∷ []) $ peeks ! mTranscript.the-row (Is mTranscript.the-row) (shows 𝓤 H A mTranscript.the-row) r1 (z1 ∷ []) (λ i1. drop ! $ land ! (from ! (stop !)) (init ! 10 refl (LL.lawful mTranscript.the-type lTranscript.the-laws 𝓤 H A W .typed r1 _ i1 .0)) $
-        tidy W (_ ∷ _ ∷ _ ∷ _ ∷ _ ∷ _ ∷ _ ∷ _ ∷ _ ∷ _ ∷ _ ∷ _ ∷ _ ∷ _ ∷ _ ∷ _ ∷ []) $ split ! $ move ! (1 ∷ []) $ drop ! $ rewrite ! 10 (λ (w : Val). ‵ (fat fullShare (lTranscript.mir) l₅ 0 w)) (ap only ((LL.tells mTranscript.the-type lTranscript.the-laws) r1 _ i1)) refl $ assigns ! (of-opd ! (load ! (from ! (fld ! refl (stop !))) (look-in ! 10 (sub ! 0 refl (whole !))))) (from ! (hop ! (look ! 14 refl) (fld ! refl (stop !)))) (store-in ! 2 (sub ! 0 refl (whole !)) (array-lawful 𝓤 H A W u8 (uint-lawful 𝓤 H A W w8) 32 .typed (mTranscript.the-type .to r1 .0) _ (LL.owed mTranscript.the-type lTranscript.the-laws r1 _ (subst (Is mTranscript.the-row r1) ((LL.tells mTranscript.the-type lTranscript.the-laws) r1 _ i1) i1) .0) .0)) $
-        assigns ! (of-opd ! (load ! (from ! (fld ! refl (stop !))) (look-in ! 10 (sub ! 1 refl (whole !))))) (from ! (hop ! (look ! 14 refl) (fld ! refl (stop !)))) (store-in ! 2 (sub ! 1 refl (whole !)) (uint-lawful 𝓤 H A W w64 .typed (mTranscript.the-type .to r1 .1 .0) _ (LL.owed mTranscript.the-type lTranscript.the-laws r1 _ (subst (Is mTranscript.the-row r1) ((LL.tells mTranscript.the-type lTranscript.the-laws) r1 _ i1) i1) .1 .0) .0)) $
+        use1 W (raw (Callee-g1 𝓤 H A at-mem run .pre (
+          (
+            (κ₁, tt),
+            (q₁, tt),
+            tt,
+            (h1, (s2, (n3, tt))),
+            (
+              (LL.val mTranscript.the-type
+                  lTranscript.the-laws (h1)) ∷ [],
+              (v2 ∷ [], (u3 ∷ [], tt)),
+            ),
+          ),
+          tt,
+        ))) (qed W ((‵ (flft κ₁ q₁) ⊛ ‵ ftrue) ∷ ‵ (ShrSlice (named 0) κ₁ u8 .own
+        s2 (v2 ∷ [])) ∷ []) ∵ nothing ! $ owned ! u64 (Is u64) (uint-makes 𝓤 H A W w64) (n3) _ w3 $ fjoin ! $ move ! (2 ∷ 0 ∷ []) $ fjoin ! $
+        owned ! mTranscript.the-row (Is mTranscript.the-row) (LL.makes mTranscript.the-type lTranscript.the-plain 𝓤 H A) (h1) _ w1o1 $ fjoin ! $
+        move ! (1 ∷ 0 ∷ []) $ join ! $ nothing ! $ move ! (1 ∷ 0 ∷ []) $ frame ! $ done !) $
+        calls-at ! fm (Callee-g1 𝓤 H A at-mem run) known-g1 (
+          (
+            (κ₁, tt),
+            (q₁, tt),
+            tt,
+            (h1, (s2, (n3, tt))),
+            (
+              (LL.val mTranscript.the-type
+                  lTranscript.the-laws (h1)) ∷ [],
+              (v2 ∷ [], (u3 ∷ [], tt)),
+            ),
+          ),
+          tt,
+        ) (and-then ! (load ! (from ! (stop !)) (look ! 11 refl)) (and-then !
+        (load ! (from ! (stop !)) (look ! 13 refl)) (and-then ! (load ! (from ! (stop !)) (look ! 12 refl)) (no-more !)))) (λ z1.
+        use1 W (later (some (λ (r1 : Transcript). ((‵ (flft κ₁ q₁) ⊛ ‵ ftrue) ⊛ ‵ (mTranscript.the-row .own r1 (z1 ∷ []))) ⊛ some (λ (ws : Lasts
+        g1.ended (κ₁, tt) (h1, (s2, (n3, tt)))). ‵ (lasts g1.ended (κ₁, tt) (h1, (s2, (n3, tt))) ws) ⊛ raw (g1.clauses 𝓤 H A at-mem run (κ₁, tt)
+        (h1, (s2, (n3, tt))) .ensures tt r1 (atExit g1.ended (κ₁, tt) (h1, (s2, (n3, tt))) ws)))))) (id⊢ 𝓤 _) $ await ! tt $ pick ! (λ r1. split
+        ! $ move ! (1 ∷ []) $ pick ! (λ ws1. split ! $ move ! (1 ∷ []) $ heard ! _ (λ e1.
+        drop ! $ split ! $ move ! (1 ∷ []) $ peeks ! mTranscript.the-row (Is mTranscript.the-row) (shows 𝓤 H A mTranscript.the-row) r1 (z1 ∷ []) (λ
+        i1. drop ! $ land ! (from ! (stop !)) (init ! 10 refl (LL.lawful mTranscript.the-type lTranscript.the-laws 𝓤 H A W .typed r1 _ i1 .0)) $
+        tidy W (_ ∷ _ ∷ _ ∷ _ ∷ _ ∷ _ ∷ _ ∷ _ ∷ _ ∷ _ ∷ _ ∷ _ ∷ _ ∷ _ ∷ _ ∷ _ ∷ []) $ split ! $ move ! (1 ∷ []) $ drop ! $ rewrite ! 10 (λ (w : Val).
+        ‵ (fat fullShare (lTranscript.mir) l₅ 0 w)) (ap only ((LL.tells mTranscript.the-type lTranscript.the-laws) r1 _ i1)) refl $ assigns !
+        (of-opd ! (load ! (from ! (fld ! refl (stop !))) (look-in ! 10 (sub ! 0 refl (whole !))))) (from ! (hop ! (look ! 14 refl) (fld ! refl
+        (stop !)))) (store-in ! 2 (sub ! 0 refl (whole !)) (array-lawful 𝓤 H A W u8 (uint-lawful 𝓤 H A W w8) 32 .typed (mTranscript.the-type .to
+        r1 .0) _ (LL.owed mTranscript.the-type lTranscript.the-laws r1 _ (subst (Is mTranscript.the-row r1) ((LL.tells mTranscript.the-type
+        lTranscript.the-laws) r1 _ i1) i1) .0) .0)) $
+        assigns ! (of-opd ! (load ! (from ! (fld ! refl (stop !))) (look-in ! 10 (sub ! 1 refl (whole !))))) (from ! (hop ! (look ! 14 refl) (fld !
+        refl (stop !)))) (store-in ! 2 (sub ! 1 refl (whole !)) (uint-lawful 𝓤 H A W w64 .typed (mTranscript.the-type .to r1 .1 .0) _ (LL.owed
+        mTranscript.the-type lTranscript.the-laws r1 _ (subst (Is mTranscript.the-row r1) ((LL.tells mTranscript.the-type lTranscript.the-laws)
+        r1 _ i1) i1) .1 .0) .0)) $
         assigns ! (of-opd ! (unit-lit !)) (from ! (stop !)) (init ! 15 refl (tt, tt)) $
-        owned ! mTranscript.the-row (Is mTranscript.the-row) (LL.makes mTranscript.the-type lTranscript.the-plain 𝓤 H A) (r1) _ (subst (Is mTranscript.the-row r1) ((LL.tells mTranscript.the-type lTranscript.the-laws) r1 _ i1) i1) $ move ! (3 ∷ 0 ∷ 4 ∷ 5 ∷ 6 ∷ []) $ closes ! tt mTranscript.the-row (r1) ((LL.val mTranscript.the-type lTranscript.the-laws r1) ∷ []) b1 o1 $ feqI ! (List Val) (vptr b1 o1 ∷ []) (vptr b1 o1 ∷ []) refl $ fjoin3 ! $
-        tidy W (_ ∷ _ ∷ _ ∷ _ ∷ _ ∷ _ ∷ _ ∷ _ ∷ _ ∷ _ ∷ _ ∷ _ ∷ _ ∷ _ ∷ []) $ returns ! (look ! 13 refl) $ move ! (5 ∷ []) $ use1 W (dies ((tyUnit, l₀) ∷ (tyRef (named 0) mut (pointee (mTranscript.the-row .written)), l₁) ∷ (sliceTy (tyRef (named 1) imm (tyInt w8)), l₂) ∷ (tyInt w64, l₃) ∷ (lTranscript.mir, l₄) ∷ (lTranscript.mir, l₅) ∷ (tyArray (tyInt w8) 32, l₆) ∷ (tyInt w64, l₇) ∷ []) (‵ ftrue)) die $ free-all ! 5 ((tyUnit, l₀) ∷ (tyRef (named 0) mut (pointee (mTranscript.the-row .written)), l₁) ∷ (sliceTy (tyRef (named 1) imm (tyInt w8)), l₂) ∷ (tyInt w64, l₃) ∷ (lTranscript.mir, l₄) ∷ (lTranscript.mir, l₅) ∷ (tyArray (tyInt w8) 32, l₆) ∷ (tyInt w64, l₇) ∷ []) (kept _ ∷ kept _ ∷ kept _ ∷ kept _ ∷ kept _ ∷ kept _ ∷ kept _ ∷ kept _ ∷ []) refl $
+        owned ! mTranscript.the-row (Is mTranscript.the-row) (LL.makes mTranscript.the-type lTranscript.the-plain 𝓤 H A) (r1) _ (subst (Is
+        mTranscript.the-row r1) ((LL.tells mTranscript.the-type lTranscript.the-laws) r1 _ i1) i1) $ move ! (3 ∷ 0 ∷ 4 ∷ 5 ∷ 6 ∷ []) $ closes !
+        tt mTranscript.the-row (r1) ((LL.val mTranscript.the-type lTranscript.the-laws r1) ∷ []) b1 o1 $ feqI ! (List Val) (vptr b1 o1 ∷ [])
+        (vptr b1 o1 ∷ []) refl $ fjoin3 ! $
+        tidy W (_ ∷ _ ∷ _ ∷ _ ∷ _ ∷ _ ∷ _ ∷ _ ∷ _ ∷ _ ∷ _ ∷ _ ∷ _ ∷ _ ∷ []) $ returns ! (look ! 13 refl) $ move ! (5 ∷ []) $ use1 W (dies ((
+          tyUnit,
+          l₀,
+        ) ∷ (tyRef (named 0) mut (pointee (mTranscript.the-row .written)), l₁) ∷ (sliceTy (tyRef (named 1) imm (tyInt w8)), l₂) ∷ (
+          tyInt w64,
+          l₃,
+        ) ∷ (lTranscript.mir, l₄) ∷ (lTranscript.mir, l₅) ∷ (tyArray (tyInt w8) 32, l₆) ∷ (tyInt w64, l₇) ∷ []) (‵ ftrue)) die $ free-all ! 5
+        ((tyUnit, l₀) ∷ (tyRef (named 0) mut (pointee (mTranscript.the-row .written)), l₁) ∷ (sliceTy (tyRef (named 1) imm (tyInt w8)), l₂) ∷
+        (tyInt w64, l₃) ∷ (lTranscript.mir, l₄) ∷ (lTranscript.mir, l₅) ∷ (tyArray (tyInt w8) 32, l₆) ∷ (tyInt w64, l₇) ∷ []) (kept _ ∷ kept _ ∷
+        kept _ ∷ kept _ ∷ kept _ ∷ kept _ ∷ kept _ ∷ kept _ ∷ []) refl $
         suffices ! _ (ends-at 𝓤 H A f.ended stayed (f.clauses 𝓤 H A at-mem run) W (((κ₀, (κ₁, tt)), (q₀, (q₁, tt)), tt, a, at), tt) vunit tt (r1, (tt, (tt, tt))) (tt, (tt, (tt, tt)))) $ says ! (cc) $
-        nothing ! $ move ! (3 ∷ 0 ∷ []) $ join ! $ move ! (2 ∷ 0 ∷ []) $ join ! $ nothing ! $ move ! (4 ∷ 0 ∷ []) $ fjoin ! $ move ! (3 ∷ 0 ∷ []) $ fjoin ! $ move ! (2 ∷ 0 ∷ []) $ fjoin ! $ keep ! (1 ∷ 0 ∷ []) $ frame ! $ feqI ! (List Val) (vunit ∷ []) (vunit ∷ []) refl $ move ! (1 ∷ 0 ∷ []) $ done !))))))))))))))))
+        nothing ! $ move ! (3 ∷ 0 ∷ []) $ join ! $ move ! (2 ∷ 0 ∷ []) $ join ! $ nothing ! $ move ! (4 ∷ 0 ∷ []) $ fjoin ! $ move ! (3 ∷ 0 ∷ []) $
+        fjoin ! $ move ! (2 ∷ 0 ∷ []) $ fjoin ! $ keep ! (1 ∷ 0 ∷ []) $ frame ! $ feqI ! (List Val) (vunit ∷ []) (vunit ∷ []) refl $ move ! (1 ∷
+        0 ∷ []) $ done !))))))))))))))))
 
 module _ {M : Type 1} (𝓤 : URA M) (H : Heap 𝓤) (A : Atoms 𝓤) (W : Given 𝓤 H A) (mem : Memory → SProp 𝓤) (run : Routine → Fun 𝓤) where
   walks : (C : Calls 𝓤 H) (Λ : Loops 𝓤 H) → FmC 𝓤 H (W .laws) C → Triple 𝓤 (C #g1) (Callee-g1 𝓤 H A mem run) → Walks 𝓤 H A f.ended stayed (WpFn 𝓤 H C Λ code.function) (f.clauses 𝓤 H A mem run)
-  walks C Λ fm known-g1 = walked 𝓤 H A f.ended stayed (f.clauses 𝓤 H A mem run) (WpFn 𝓤 H C Λ code.function) (λ κs. (ptr-vals, (slice-vals, ((uint-vals w64), tt)))) (λ κs. (mut-tells (named 0) (κs .0) mTranscript.the-row, (shr-slice-tells (named 1) (κs .1 .0) u8, ((uint-tells w64), tt))))
-      (λ κs qs bounds a g are. via 𝓤 _ (fst∗ 𝓤 _ (emp 𝓤)) (walk 𝓤 H A W mem run (κs .0) (κs .1 .0) (qs .0) (qs .1 .0) (a .0 .ptr .0) (a .0 .ptr .1) (a .0 .name) (a .0 .now) (a .1 .0) (a .1 .1 .0) (only ((uint-vals w64) (a .1 .1 .0))) C Λ fm known-g1 (are .1 .0) (are .1 .1 .0)))
+  walks C Λ fm known-g1 = walked 𝓤 H A f.ended stayed (f.clauses 𝓤 H A mem run) (WpFn 𝓤 H C Λ code.function) (λ κs. (
+    ptr-vals,
+    (
+      slice-vals,
+      ((uint-vals w64), tt),
+    ),
+  )) (λ κs. (
+    mut-tells (named 0) (κs .0) mTranscript.the-row,
+    (
+      shr-slice-tells (named 1) (κs .1 .0) u8,
+      (
+        (uint-tells w64),
+        tt,
+      ),
+    ),
+  ))
+      (λ κs qs bounds a g are. via 𝓤 _ (fst∗ 𝓤 _ (emp 𝓤)) (walk 𝓤 H A W mem run (κs .0) (κs .1 .0) (qs .0) (qs .1 .0) (a .0 .ptr .0) (a .0 .ptr .1)
+      (a .0 .name) (a .0 .now) (a .1 .0) (a .1 .1 .0) (only ((uint-vals w64) (a .1 .1 .0))) C Λ fm known-g1 (are .1 .0) (are .1 .1 .0)))
 
   meets : (𝓣 : Tables 𝓤 H) → Triple 𝓤 (𝓣 .C #g1) (Callee-g1 𝓤 H A mem run) → Meets 𝓤 H A f.signature (WpFn 𝓤 H (𝓣 .C) (𝓣 .Λ) code.function) (f.spec 𝓤 H A mem run)
-  meets 𝓣 known-g1 = walk-meets 𝓤 H A f.ended stayed W (goes-ref 𝓤 H A W 2 0 tt (plain (λ _. mTranscript.the-row)), (goes-none-slice 𝓤 H A W 2 (1 ∷ []) tt (plain (λ _. u8)) yes, (goes-none 𝓤 H A W 2 (λ _. u64) yes (λ κs x f. refl), tt))) (f.clauses 𝓤 H A mem run)
+  meets 𝓣 known-g1 = walk-meets 𝓤 H A f.ended stayed W (
+    goes-ref 𝓤 H A W 2 0 tt (plain (λ _. mTranscript.the-row)),
+    (
+      goes-none-slice 𝓤 H A W 2 (1 ∷
+          []) tt (plain (λ _. u8)) yes,
+      (goes-none 𝓤 H A W 2 (λ _. u64) yes (λ κs x f. refl), tt),
+    ),
+  ) (f.clauses 𝓤 H A mem run)
       (WpFn 𝓤 H (𝓣 .C) (𝓣 .Λ) code.function) (WpFn-mono 𝓤 H (W .laws) 𝓣 code.function) (walks (𝓣 .C) (𝓣 .Λ) (fmOf 𝓤 H (W .laws) 𝓣) known-g1)
 
 pub absorb-u64-spec : {M : Type 1} → stated.statement M

@@ -80,95 +80,249 @@ stayed = (stay-ref (0 ∷ []) tt (plain (λ _. mTranscript.the-row)), (stay-none
 abbrev Callee-g1 : {M : Type 1} (𝓤 : URA M) (H : Heap 𝓤) (A : Atoms 𝓤) (mem : Memory → SProp 𝓤) (run : Routine → Fun 𝓤) → Contract 𝓤
 Callee-g1 𝓤 H A mem run = tripleOf 𝓤 H A g1.signature (g1.spec 𝓤 H A mem run)
 
-module _ {M : Type 1} (𝓤 : URA M) (H : Heap 𝓤) (A : Atoms 𝓤) (W : Given 𝓤 H A) (at-mem : Memory → SProp 𝓤) (run : Routine → Fun 𝓤) (κ₀ κ₁ κ₂ : Lft) (q₀ q₁ q₂ : Share) (b1 o1 : ℕ) (γ1 : GName) (h1 : Transcript) (s2 : RefT (List ℕ)) (n3 : ℕ) (u3 : Val) (b4 o4 : ℕ) (γ4 : GName) (ys4 : List ℕ) where
-  abbrev ref1 : GName → Transcript → RefT Transcript
-  ref1 δ l = record { ptr = (b1, o1); name = δ; now = l }
+module _ {M : Type 1} (𝓤 : URA M) (H : Heap 𝓤) (A : Atoms 𝓤) (W : Given 𝓤 H A) (at-mem : Memory → SProp 𝓤) (run : Routine → Fun 𝓤) (κ₀ κ₁ κ₂ : Lft)
+    (q₀ q₁ q₂ : Share) (b1 o1 : ℕ) (γ1 : GName) (h1 : Transcript) (s2 : RefT (List ℕ)) (n3 : ℕ) (u3 : Val) (b4 o4 : ℕ) (γ4 : GName) (ys4 : List ℕ)
+  where
+    abbrev ref1 : GName → Transcript → RefT Transcript
+    ref1 δ l = record { ptr = (b1, o1); name = δ; now = l }
 
-  abbrev v1 : Val
-  v1 = vptr b1 o1
+    abbrev v1 : Val
+    v1 = vptr b1 o1
 
-  abbrev O1 : Transcript → Fml
-  O1 l = MutRef (named 0) κ₀ mTranscript.the-row .own (ref1 γ1 l) (v1 ∷ [])
+    abbrev O1 : Transcript → Fml
+    O1 l = MutRef (named 0) κ₀ mTranscript.the-row .own (ref1 γ1 l) (v1 ∷ [])
 
-  abbrev v2 : Val
-  v2 = sliceVal (s2 .ptr) (length (s2 .now))
+    abbrev v2 : Val
+    v2 = sliceVal (s2 .ptr) (length (s2 .now))
 
-  abbrev O2 : Fml
-  O2 = ShrSlice (named 1) κ₁ u8 .own s2 (v2 ∷ [])
+    abbrev O2 : Fml
+    O2 = ShrSlice (named 1) κ₁ u8 .own s2 (v2 ∷ [])
 
-  abbrev v3 : Val
-  v3 = u3
+    abbrev v3 : Val
+    v3 = u3
 
-  abbrev ref4 : GName → List ℕ → RefT (List ℕ)
-  ref4 δ l = record { ptr = (b4, o4); name = δ; now = l }
+    abbrev ref4 : GName → List ℕ → RefT (List ℕ)
+    ref4 δ l = record { ptr = (b4, o4); name = δ; now = l }
 
-  abbrev v4 : Val
-  v4 = sliceVal (b4, o4) (length ys4)
+    abbrev v4 : Val
+    v4 = sliceVal (b4, o4) (length ys4)
 
-  abbrev O4 : List ℕ → Fml
-  O4 l = MutSlice (named 2) κ₂ u64 .own (ref4 γ4 l) (v4 ∷ [])
+    abbrev O4 : List ℕ → Fml
+    O4 l = MutSlice (named 2) κ₂ u64 .own (ref4 γ4 l) (v4 ∷ [])
 
-  abbrev Lent4 : ℕ → GName → List ℕ → Fml
-  Lent4 ν δ l = LentAgain u64 κ₂ (ν ∷ []) q₂ γ4 b4 o4 δ l
+    abbrev Lent4 : ℕ → GName → List ℕ → Fml
+    Lent4 ν δ l = LentAgain u64 κ₂ (ν ∷ []) q₂ γ4 b4 o4 δ l
 
-  lends4 : (ℓ : Lifetime) (ν : ℕ) (l : List ℕ) → length l ≡ length ys4 → ent 𝓤 (⋆ 𝓤 H A (‵ (O4 l) ∷ ‵ (flft κ₂ q₂) ∷ [])) (⋆ 𝓤 H A (later (some (λ (δ : GName). ‵ (MutSlice ℓ (ν ∷ []) u64 .own (ref4 δ l) (v4 ∷ [])) ⊛ ‵ (Lent4 ν δ l))) ∷ []))
-  lends4 ℓ ν l e = subst (λ (t : ℕ). ent 𝓤 (⋆ 𝓤 H A (‵ (MutSlice (named 2) κ₂ u64 .own (ref4 γ4 l) (sliceVal (b4, o4) t ∷ [])) ∷ ‵ (flft κ₂ q₂) ∷ []))
-      (⋆ 𝓤 H A (later (some (λ (δ : GName). ‵ (MutSlice ℓ (ν ∷ []) u64 .own (ref4 δ l) (sliceVal (b4, o4) t ∷ [])) ⊛ ‵ (Lent4 ν δ l))) ∷ []))) e (lends-again u64 κ₂ (ν ∷ []) q₂ γ4 b4 o4 𝓤 H A W (named 2) ℓ l)
+    lends4 : (ℓ : Lifetime) (ν : ℕ) (l : List ℕ) → length l ≡ length ys4 → ent 𝓤 (⋆ 𝓤 H A (‵ (O4 l) ∷ ‵ (flft κ₂ q₂) ∷ [])) (⋆ 𝓤 H A (later (some (λ (δ
+        : GName). ‵ (MutSlice ℓ (ν ∷ []) u64 .own (ref4 δ l) (v4 ∷ [])) ⊛ ‵ (Lent4 ν δ l))) ∷ []))
+    lends4 ℓ ν l e = subst (λ (t : ℕ). ent 𝓤 (⋆ 𝓤 H A (‵ (MutSlice (named 2) κ₂ u64 .own (ref4 γ4 l) (sliceVal (b4, o4) t ∷ [])) ∷ ‵ (flft κ₂ q₂) ∷ []))
+        (⋆ 𝓤 H A (later (some (λ (δ : GName). ‵ (MutSlice ℓ (ν ∷ []) u64 .own (ref4 δ l) (sliceVal (b4, o4) t ∷ [])) ⊛ ‵ (Lent4 ν δ l))) ∷ []))) e
+        (lends-again u64 κ₂ (ν ∷ []) q₂ γ4 b4 o4 𝓤 H A W (named 2) ℓ l)
 
-  backs4 : (ℓ : Lifetime) (ν : ℕ) (δ : GName) (l l′ : List ℕ) → length l ≡ length ys4 → Room u64 (length ys4) → length l′ ≡ length l
-      → ent 𝓤 (⋆ 𝓤 H A (‵ (fdead (ν ∷ [])) ∷ ‵ (Lent4 ν δ l) ∷ ‵ (finally u64 δ l′) ∷ [])) (⋆ 𝓤 H A (later (‵ (O4 l′) ⊛ ‵ (flft κ₂ q₂)) ∷ []))
-  backs4 ℓ ν δ l l′ e room e′ = subst (λ (t : ℕ). ent 𝓤 (⋆ 𝓤 H A (‵ (fdead (ν ∷ [])) ∷ ‵ (Lent4 ν δ l) ∷ ‵ (finally u64 δ l′) ∷ []))
-      (⋆ 𝓤 H A (later (‵ (MutSlice (named 2) κ₂ u64 .own (ref4 γ4 l′) (sliceVal (b4, o4) t ∷ [])) ⊛ ‵ (flft κ₂ q₂)) ∷ []))) e
-      (comes-back u64 κ₂ (ν ∷ []) q₂ γ4 b4 o4 𝓤 H A W (named 2) ℓ l δ l′ (subst (Room u64) (sym e) room) e′)
+    backs4 : (ℓ : Lifetime) (ν : ℕ) (δ : GName) (l l′ : List ℕ) → length l ≡ length ys4 → Room u64 (length ys4) → length l′ ≡ length l
+        → ent 𝓤 (⋆ 𝓤 H A (‵ (fdead (ν ∷ [])) ∷ ‵ (Lent4 ν δ l) ∷ ‵ (finally u64 δ l′) ∷ [])) (⋆ 𝓤 H A (later (‵ (O4 l′) ⊛ ‵ (flft κ₂ q₂)) ∷ []))
+    backs4 ℓ ν δ l l′ e room e′ = subst (λ (t : ℕ). ent 𝓤 (⋆ 𝓤 H A (‵ (fdead (ν ∷ [])) ∷ ‵ (Lent4 ν δ l) ∷ ‵ (finally u64 δ l′) ∷ []))
+        (⋆ 𝓤 H A (later (‵ (MutSlice (named 2) κ₂ u64 .own (ref4 γ4 l′) (sliceVal (b4, o4) t ∷ [])) ⊛ ‵ (flft κ₂ q₂)) ∷ []))) e
+        (comes-back u64 κ₂ (ν ∷ []) q₂ γ4 b4 o4 𝓤 H A W (named 2) ℓ l δ l′ (subst (Room u64) (sym e) room) e′)
 
-  abbrev Arg : Type 0
-  Arg = (RefT Transcript × (RefT (List ℕ) × (ℕ × (RefT (List ℕ) × Unit {0}))))
+    abbrev Arg : Type 0
+    Arg = (RefT Transcript × (RefT (List ℕ) × (ℕ × (RefT (List ℕ) × Unit {0}))))
 
-  abbrev a : Arg
-  a = (ref1 γ1 h1, (s2, (n3, (ref4 γ4 ys4, tt))))
+    abbrev a : Arg
+    a = (ref1 γ1 h1, (s2, (n3, (ref4 γ4 ys4, tt))))
 
-  abbrev at : (List Val × (List Val × (List Val × (List Val × Unit {0}))))
-  at = (v1 ∷ [], (v2 ∷ [], (v3 ∷ [], (v4 ∷ [], tt))))
+    abbrev at : (List Val × (List Val × (List Val × (List Val × Unit {0}))))
+    at = (v1 ∷ [], (v2 ∷ [], (v3 ∷ [], (v4 ∷ [], tt))))
 
-  abbrev Post : Val → SProp 𝓤
-  Post = walkOf 𝓤 H A f.ended stayed (f.clauses 𝓤 H A at-mem run) .post (((κ₀, (κ₁, (κ₂, tt))), (q₀, (q₁, (q₂, tt))), tt, a, at), tt)
+    abbrev Post : Val → SProp 𝓤
+    Post = walkOf 𝓤 H A f.ended stayed (f.clauses 𝓤 H A at-mem run) .post (((κ₀, (κ₁, (κ₂, tt))), (q₀, (q₁, (q₂, tt))), tt, a, at), tt)
 
-  module _ (C : Calls 𝓤 H) (Λ : Loops 𝓤 H) (fm : FmC 𝓤 H (W .laws) C) (known-g1 : Triple 𝓤 (C #g1) (Callee-g1 𝓤 H A at-mem run)) (w2 : Is (ShrSlice (named 1) κ₁ u8) s2 (v2 ∷ [])) (w3 : Is u64 n3 (u3 ∷ [])) (room4 : Room u64 (length ys4)) where
-    walk : ent 𝓤 (onEntry 𝓤 H A f.signature (κ₀, (κ₁, (κ₂, tt))) (q₀, (q₁, (q₂, tt))) a at) (WpFn 𝓤 H C Λ code.function (v1 ∷ v2 ∷ v3 ∷ v4 ∷ []) Post)
-    walk =
-        qed W ((‵ (flft κ₀ q₀) ⊛ ‵ (flft κ₁ q₁) ⊛ ‵ (flft κ₂ q₂) ⊛ ‵ ftrue) ∷ ‵ (owns (MutRef (named 0) κ₀ mTranscript.the-row ∷ ShrSlice (named 1) κ₁ u8 ∷ u64 ∷ MutSlice (named 2) κ₂ u64 ∷ []) a at) ∷ []) ∵ enter ! C Λ code.function (v1 ∷ v2 ∷ v3 ∷ v4 ∷ []) _ $
-        nothing ! $ alloc ! (λ l₀. alloc ! (λ l₁. alloc ! (λ l₂. alloc ! (λ l₃. alloc ! (λ l₄. alloc ! (λ l₅. alloc ! (λ l₆. alloc ! (λ l₇. alloc ! (λ l₈. alloc ! (λ l₉. alloc ! (λ l₁₀. alloc ! (λ l₁₁. alloc0 ! $ hide ! (λ died die. params1 ! $ pass1 ! (init ! 11 refl (tt, tt)) $ pass1 ! (init ! 10 refl (shr-slice-lawful 𝓤 H A W (named 1) κ₁ u8 .typed s2 (v2 ∷ []) w2 .0)) $ pass1 ! (init ! 9 refl (uint-lawful 𝓤 H A W w64 .typed n3 _ w3 .0)) $ pass1 ! (init ! 8 refl (tt, (tt, (record { fits = room4 .0 }, tt)))) $ pass0 ! $
-        move ! (14 ∷ []) $ fsplit ! $ move ! (1 ∷ []) $ fsplit ! $ move ! (1 ∷ []) $ fsplit ! $ move ! (1 ∷ []) $ fsplit ! $ move ! (1 ∷ []) $ drop ! $ move ! (17 ∷ []) $ split ! $ move ! (1 ∷ []) $ split ! $ move ! (1 ∷ []) $ split ! $ move ! (1 ∷ []) $ drop ! $ tidy W (_ ∷ _ ∷ _ ∷ _ ∷ _ ∷ _ ∷ _ ∷ _ ∷ _ ∷ _ ∷ _ ∷ _ ∷ _ ∷ _ ∷ _ ∷ _ ∷ _ ∷ _ ∷ _ ∷ _ ∷ []) $
-        move ! (6 ∷ []) $ fsplit3 ! $ drop ! $ move ! (0 ∷ 1 ∷ 4 ∷ []) $ opens ! tt mTranscript.the-row {h = h1} b1 o1 (λ vs. spelt ! mTranscript.the-row (Is mTranscript.the-row) (shows 𝓤 H A mTranscript.the-row) (LL.vals mTranscript.the-type lTranscript.the-laws) (LL.tells mTranscript.the-type lTranscript.the-laws) fullShare (h1) vs b1 o1 $ move ! (1 ∷ []) $ peeks ! mTranscript.the-row (Is mTranscript.the-row) (shows 𝓤 H A mTranscript.the-row) (h1) (LL.val mTranscript.the-type lTranscript.the-laws (h1) ∷ []) (λ w1o1. drop ! $
-        assigns ! (of-opd ! (load ! (from ! (hop ! (look ! 20 refl) (fld ! refl (stop !)))) (look-in ! 0 (sub ! 0 refl (whole !))))) (from ! (stop !)) (init ! 13 refl (array-lawful 𝓤 H A W u8 (uint-lawful 𝓤 H A W w8) 32 .typed (mTranscript.the-type .to h1 .0) _ (LL.owed mTranscript.the-type lTranscript.the-laws h1 _ w1o1 .0) .0)) $
-        assigns ! (of-opd ! (load ! (from ! (hop ! (look ! 20 refl) (fld ! refl (stop !)))) (look-in ! 0 (sub ! 1 refl (whole !))))) (from ! (stop !)) (init ! 12 refl (uint-lawful 𝓤 H A W w64 .typed (mTranscript.the-type .to h1 .1 .0) _ (LL.owed mTranscript.the-type lTranscript.the-laws h1 _ w1o1 .1 .0) .0)) $
-        assigns ! (agg ! (and-then ! (load ! (from ! (stop !)) (look ! 13 refl)) (and-then ! (load ! (from ! (stop !)) (look ! 12 refl)) (no-more !)))) (from ! (stop !)) (init ! 16 refl (LL.lawful mTranscript.the-type lTranscript.the-laws 𝓤 H A W .typed h1 _ w1o1 .0)) $
-        assigns ! (addr ! (from ! (fld ! refl (hop ! (look-in ! 17 (sub ! 0 refl (whole !))) (stop !))))) (from ! (stop !)) (init ! 11 refl (tt, tt)) $
-        assigns ! (agg ! (and-then ! (load ! (from ! (stop !)) (look ! 11 refl)) (and-then ! (load ! (from ! (fld ! refl (stop !))) (look-in ! 17 (sub ! 1 refl (whole !)))) (no-more !)))) (from ! (stop !)) (init ! 10 refl (tt, (tt, (record { fits = room4 .0 }, tt)))) $
-        move ! (8 ∷ []) $ use1 W (‵ (O2) ⊛ ‵ (O2)) (shr-slice-copy 𝓤 H A W (named 1) κ₁ u8 .twice s2 (v2 ∷ [])) $ split ! $
-        lft-new ! tt (λ ν1d. move ! (9 ∷ 7 ∷ []) $ use2 W (later (some (λ (δ : GName). ‵ (MutSlice (named 1) (ν1d ∷ []) u64 .own (ref4 δ (ys4)) (v4 ∷ [])) ⊛ ‵ (Lent4 ν1d δ (ys4))))) (lends4 (named 1) ν1d (ys4) (refl)) $ await ! tt $ pick ! (λ δ1d. split ! $ tidy W (_ ∷ _ ∷ _ ∷ _ ∷ _ ∷ _ ∷ _ ∷ _ ∷ _ ∷ _ ∷ _ ∷ _ ∷ _ ∷ _ ∷ _ ∷ _ ∷ _ ∷ _ ∷ _ ∷ _ ∷ _ ∷ _ ∷ _ ∷ _ ∷ []) $ nothing ! $ move ! (3 ∷ 0 ∷ []) $ join ! $ move ! (9 ∷ 0 ∷ []) $ join ! $ move ! (3 ∷ 1 ∷ []) $ join ! $ move ! (1 ∷ 0 ∷ []) $ join ! $
-        -- call 1
-        use1 W (raw (Callee-g1 𝓤 H A at-mem run .pre (((κ₁, ((ν1d ∷ []), tt)), (q₁, (fullShare, tt)), tt, (h1, (s2, (n3, (ref4 δ1d (ys4), tt)))), ((LL.val mTranscript.the-type lTranscript.the-laws (h1)) ∷ [], (v2 ∷ [], (u3 ∷ [], (v4 ∷ [], tt))))), tt))) (qed W ((‵ (flft κ₁ q₁) ⊛ ‵ (flft (ν1d ∷ []) fullShare) ⊛ ‵ ftrue) ∷ ‵ (ShrSlice (named 0) κ₁ u8 .own s2 (v2 ∷ [])) ∷ ‵ (MutSlice (named 1) (ν1d ∷ []) u64 .own (ref4 δ1d (ys4)) (v4 ∷ [])) ∷ []) ∵ nothing ! $ move ! (3 ∷ 0 ∷ []) $ fjoin ! $ owned ! u64 (Is u64) (uint-makes 𝓤 H A W w64) (n3) _ w3 $ fjoin ! $ move ! (2 ∷ 0 ∷ []) $ fjoin ! $ owned ! mTranscript.the-row (Is mTranscript.the-row) (LL.makes mTranscript.the-type lTranscript.the-plain 𝓤 H A) (h1) _ w1o1 $ fjoin ! $ move ! (1 ∷ 0 ∷ []) $ join ! $ nothing ! $ move ! (1 ∷ 0 ∷ []) $ frame ! $ done !) $
-        calls-at ! fm (Callee-g1 𝓤 H A at-mem run) known-g1 (((κ₁, ((ν1d ∷ []), tt)), (q₁, (fullShare, tt)), tt, (h1, (s2, (n3, (ref4 δ1d (ys4), tt)))), ((LL.val mTranscript.the-type lTranscript.the-laws (h1)) ∷ [], (v2 ∷ [], (u3 ∷ [], (v4 ∷ [], tt))))), tt) (and-then ! (load ! (from ! (stop !)) (look ! 15 refl)) (and-then ! (load ! (from ! (stop !)) (look ! 18 refl)) (and-then ! (load ! (from ! (stop !)) (look ! 17 refl)) (and-then ! (load ! (from ! (stop !)) (look ! 9 refl)) (no-more !))))) (λ z1.
-        use1 W (later (some (λ (r1 : TranscriptAnswer). ((‵ (flft κ₁ q₁) ⊛ ‵ (flft (ν1d ∷ []) fullShare) ⊛ ‵ ftrue) ⊛ ‵ (mTranscriptAnswer.the-row .own r1 (z1 ∷ []))) ⊛ some (λ (ws : Lasts g1.ended (κ₁, ((ν1d ∷ []), tt)) (h1, (s2, (n3, (ref4 δ1d (ys4), tt))))). ‵ (lasts g1.ended (κ₁, ((ν1d ∷ []), tt)) (h1, (s2, (n3, (ref4 δ1d (ys4), tt)))) ws) ⊛ raw (g1.clauses 𝓤 H A at-mem run (κ₁, ((ν1d ∷ []), tt)) (h1, (s2, (n3, (ref4 δ1d (ys4), tt)))) .ensures tt r1 (atExit g1.ended (κ₁, ((ν1d ∷ []), tt)) (h1, (s2, (n3, (ref4 δ1d (ys4), tt)))) ws)))))) (id⊢ 𝓤 _) $ await ! tt $ pick ! (λ r1. split ! $ move ! (1 ∷ []) $ pick ! (λ ws1. split ! $ move ! (1 ∷ []) $ heard ! _ (λ e1.
-        fsplit ! $ drop ! $ fsplit ! $ drop ! $ fsplit ! $ drop ! $ fsplit ! $ fsplit ! $ move ! (1 ∷ []) $ feqL ! (λ same1d. move ! (1 ∷ []) $ drop ! $ move ! (1 ∷ []) $ split ! $ move ! (1 ∷ []) $ peeks ! mTranscriptAnswer.the-row (Is mTranscriptAnswer.the-row) (shows 𝓤 H A mTranscriptAnswer.the-row) r1 (z1 ∷ []) (λ i1. drop ! $ land ! (from ! (stop !)) (init ! 15 refl (LL.lawful mTranscriptAnswer.the-type lTranscriptAnswer.the-laws 𝓤 H A W .typed r1 _ i1 .0)) $
-        tidy W (_ ∷ _ ∷ _ ∷ _ ∷ _ ∷ _ ∷ _ ∷ _ ∷ _ ∷ _ ∷ _ ∷ _ ∷ _ ∷ _ ∷ _ ∷ _ ∷ _ ∷ _ ∷ _ ∷ _ ∷ _ ∷ _ ∷ []) $ split ! $ move ! (1 ∷ []) $ split ! $ move ! (1 ∷ []) $ drop ! $ lft-end ! tt $ move ! (0 ∷ 3 ∷ 2 ∷ []) $ use3 W (later (‵ (O4 (ws1 .1 .1 .1 .0)) ⊛ ‵ (flft κ₂ q₂))) (backs4 (named 1) ν1d δ1d (ys4) (ws1 .1 .1 .1 .0) (refl) room4 same1d) $ await ! tt $ split ! $
-        rewrite ! 15 (λ (w : Val). ‵ (fat fullShare (lTranscriptAnswer.mir) l₆ 0 w)) (ap only ((LL.tells mTranscriptAnswer.the-type lTranscriptAnswer.the-laws) r1 _ i1)) refl $ assigns ! (of-opd ! (load ! (from ! (fld ! refl (stop !))) (look-in ! 15 (sub ! 1 refl (whole !))))) (from ! (stop !)) (init ! 14 refl (LL.lawful mTranscript.the-type lTranscript.the-laws 𝓤 H A W .typed (r1 .transcript) _ (LL.owed mTranscriptAnswer.the-type lTranscriptAnswer.the-laws r1 _ (subst (Is mTranscriptAnswer.the-row r1) ((LL.tells mTranscriptAnswer.the-type lTranscriptAnswer.the-laws) r1 _ i1) i1) .1 .0) .0)) $
-        assigns ! (of-opd ! (load ! (from ! (fld ! refl (stop !))) (look-in ! 14 (sub ! 0 refl (whole !))))) (from ! (hop ! (look ! 20 refl) (fld ! refl (stop !)))) (store-in ! 4 (sub ! 0 refl (whole !)) (array-lawful 𝓤 H A W u8 (uint-lawful 𝓤 H A W w8) 32 .typed (mTranscript.the-type .to (r1 .transcript) .0) _ (LL.owed mTranscript.the-type lTranscript.the-laws (r1 .transcript) _ (LL.owed mTranscriptAnswer.the-type lTranscriptAnswer.the-laws r1 _ (subst (Is mTranscriptAnswer.the-row r1) ((LL.tells mTranscriptAnswer.the-type lTranscriptAnswer.the-laws) r1 _ i1) i1) .1 .0) .0) .0)) $
-        assigns ! (of-opd ! (load ! (from ! (fld ! refl (stop !))) (look-in ! 14 (sub ! 1 refl (whole !))))) (from ! (hop ! (look ! 20 refl) (fld ! refl (stop !)))) (store-in ! 4 (sub ! 1 refl (whole !)) (uint-lawful 𝓤 H A W w64 .typed (mTranscript.the-type .to (r1 .transcript) .1 .0) _ (LL.owed mTranscript.the-type lTranscript.the-laws (r1 .transcript) _ (LL.owed mTranscriptAnswer.the-type lTranscriptAnswer.the-laws r1 _ (subst (Is mTranscriptAnswer.the-row r1) ((LL.tells mTranscriptAnswer.the-type lTranscriptAnswer.the-laws) r1 _ i1) i1) .1 .0) .1 .0) .0)) $
-        assigns ! (of-opd ! (load ! (from ! (fld ! refl (stop !))) (look-in ! 15 (sub ! 0 refl (whole !))))) (from ! (stop !)) (init ! 21 refl (uint-lawful 𝓤 H A W w32 .typed (mTranscriptAnswer.the-type .to r1 .0) _ (LL.owed mTranscriptAnswer.the-type lTranscriptAnswer.the-laws r1 _ (subst (Is mTranscriptAnswer.the-row r1) ((LL.tells mTranscriptAnswer.the-type lTranscriptAnswer.the-laws) r1 _ i1) i1) .0) .0)) $
-        owned ! mTranscript.the-row (Is mTranscript.the-row) (LL.makes mTranscript.the-type lTranscript.the-plain 𝓤 H A) ((r1 .transcript)) _ (LL.owed mTranscriptAnswer.the-type lTranscriptAnswer.the-laws r1 _ (subst (Is mTranscriptAnswer.the-row r1) ((LL.tells mTranscriptAnswer.the-type lTranscriptAnswer.the-laws) r1 _ i1) i1) .1 .0) $ move ! (5 ∷ 0 ∷ 6 ∷ 7 ∷ 8 ∷ []) $ closes ! tt mTranscript.the-row ((r1 .transcript)) ((LL.val mTranscript.the-type lTranscript.the-laws (r1 .transcript)) ∷ []) b1 o1 $ feqI ! (List Val) (vptr b1 o1 ∷ []) (vptr b1 o1 ∷ []) refl $ fjoin3 ! $
-        tidy W (_ ∷ _ ∷ _ ∷ _ ∷ _ ∷ _ ∷ _ ∷ _ ∷ _ ∷ _ ∷ _ ∷ _ ∷ _ ∷ _ ∷ _ ∷ _ ∷ _ ∷ _ ∷ _ ∷ _ ∷ []) $ returns ! (look ! 19 refl) $ move ! (7 ∷ []) $ use1 W (dies ((tyInt w32, l₀) ∷ (tyRef (named 0) mut (pointee (mTranscript.the-row .written)), l₁) ∷ (sliceTy (tyRef (named 1) imm (tyInt w8)), l₂) ∷ (tyInt w64, l₃) ∷ (sliceTy (tyRef (named 2) mut (tyInt w64)), l₄) ∷ (lTranscript.mir, l₅) ∷ (lTranscriptAnswer.mir, l₆) ∷ (lTranscript.mir, l₇) ∷ (tyArray (tyInt w8) 32, l₈) ∷ (tyInt w64, l₉) ∷ (tyRef erased mut (tyInt w64), l₁₀) ∷ (sliceTy (tyRef erased mut (tyInt w64)), l₁₁) ∷ []) (‵ ftrue)) die $ free-all ! 7 ((tyInt w32, l₀) ∷ (tyRef (named 0) mut (pointee (mTranscript.the-row .written)), l₁) ∷ (sliceTy (tyRef (named 1) imm (tyInt w8)), l₂) ∷ (tyInt w64, l₃) ∷ (sliceTy (tyRef (named 2) mut (tyInt w64)), l₄) ∷ (lTranscript.mir, l₅) ∷ (lTranscriptAnswer.mir, l₆) ∷ (lTranscript.mir, l₇) ∷ (tyArray (tyInt w8) 32, l₈) ∷ (tyInt w64, l₉) ∷ (tyRef erased mut (tyInt w64), l₁₀) ∷ (sliceTy (tyRef erased mut (tyInt w64)), l₁₁) ∷ []) (kept _ ∷ kept _ ∷ kept _ ∷ kept _ ∷ kept _ ∷ kept _ ∷ kept _ ∷ kept _ ∷ kept _ ∷ kept _ ∷ kept _ ∷ kept _ ∷ []) refl $
-        suffices ! _ (ends-at 𝓤 H A f.ended stayed (f.clauses 𝓤 H A at-mem run) W (((κ₀, (κ₁, (κ₂, tt))), (q₀, (q₁, (q₂, tt))), tt, a, at), tt) ((vint w32) (mTranscriptAnswer.the-type .to r1 .0)) (mTranscriptAnswer.the-type .to r1 .0) ((r1 .transcript), (tt, (tt, (ws1 .1 .1 .1 .0, tt)))) (tt, (tt, (tt, (same1d, tt))))) $ says ! ((cc, cc, cc)) $
-        nothing ! $ move ! (4 ∷ 0 ∷ []) $ join ! $ move ! (4 ∷ 0 ∷ []) $ join ! $ move ! (2 ∷ 0 ∷ []) $ join ! $ nothing ! $ move ! (3 ∷ 0 ∷ []) $ fjoin ! $ move ! (4 ∷ 0 ∷ []) $ fjoin ! $ move ! (3 ∷ 0 ∷ []) $ fjoin ! $ move ! (2 ∷ 0 ∷ []) $ fjoin ! $ keep ! (1 ∷ 0 ∷ []) $ frame ! $ frame ! $ owned ! u32 (Is u32) (uint-makes 𝓤 H A W w32) (mTranscriptAnswer.the-type .to r1 .0) _ (LL.owed mTranscriptAnswer.the-type lTranscriptAnswer.the-laws r1 _ (subst (Is mTranscriptAnswer.the-row r1) ((LL.tells mTranscriptAnswer.the-type lTranscriptAnswer.the-laws) r1 _ i1) i1) .0) $ done !)))))))))))))))))))))))
+    module _ (C : Calls 𝓤 H) (Λ : Loops 𝓤 H) (fm : FmC 𝓤 H (W .laws) C) (known-g1 : Triple 𝓤 (C #g1) (Callee-g1 𝓤 H A at-mem run)) (w2 : Is (ShrSlice
+        (named 1) κ₁ u8) s2 (v2 ∷ [])) (w3 : Is u64 n3 (u3 ∷ [])) (room4 : Room u64 (length ys4)) where
+      walk : ent 𝓤 (onEntry 𝓤 H A f.signature (κ₀, (κ₁, (κ₂, tt))) (q₀, (q₁, (q₂, tt))) a at) (WpFn 𝓤 H C Λ code.function (v1 ∷ v2 ∷ v3 ∷ v4 ∷ []) Post)
+      walk =
+          qed W ((‵ (flft κ₀ q₀) ⊛ ‵ (flft κ₁ q₁) ⊛ ‵ (flft κ₂ q₂) ⊛ ‵ ftrue) ∷ ‵ (owns (MutRef (named 0) κ₀ mTranscript.the-row ∷ ShrSlice (named 1)
+          κ₁ u8 ∷ u64 ∷ MutSlice (named 2) κ₂ u64 ∷ []) a at) ∷ []) ∵ enter ! C Λ code.function (v1 ∷ v2 ∷ v3 ∷ v4 ∷ []) _ $
+          nothing ! $ alloc ! (λ l₀. alloc ! (λ l₁. alloc ! (λ l₂. alloc ! (λ l₃. alloc ! (λ l₄. alloc ! (λ l₅. alloc ! (λ l₆. alloc ! (λ l₇. alloc !
+          (λ l₈. alloc ! (λ l₉. alloc ! (λ l₁₀. alloc ! (λ l₁₁. alloc0 ! $ hide ! (λ died die. params1 ! $ pass1 ! (init ! 11 refl (tt, tt)) $
+          pass1 ! (init ! 10 refl (shr-slice-lawful 𝓤 H A W (named 1) κ₁ u8 .typed s2 (v2 ∷ []) w2 .0)) $ pass1 ! (init ! 9 refl (uint-lawful 𝓤 H A
+          W w64 .typed n3 _ w3 .0)) $ pass1 ! (init ! 8 refl (tt, (tt, (record { fits = room4 .0 }, tt)))) $ pass0 ! $
+          move ! (14 ∷ []) $ fsplit ! $ move ! (1 ∷ []) $ fsplit ! $ move ! (1 ∷ []) $ fsplit ! $ move ! (1 ∷ []) $ fsplit ! $ move ! (1 ∷ []) $ drop !
+          $ move ! (17 ∷ []) $ split ! $ move ! (1 ∷ []) $ split ! $ move ! (1 ∷ []) $ split ! $ move ! (1 ∷ []) $ drop ! $ tidy W (_ ∷ _ ∷ _ ∷ _ ∷
+          _ ∷ _ ∷ _ ∷ _ ∷ _ ∷ _ ∷ _ ∷ _ ∷ _ ∷ _ ∷ _ ∷ _ ∷ _ ∷ _ ∷ _ ∷ _ ∷ []) $
+          move ! (6 ∷ []) $ fsplit3 ! $ drop ! $ move ! (0 ∷ 1 ∷ 4 ∷ []) $ opens ! tt mTranscript.the-row {h = h1} b1 o1 (λ vs. spelt !
+          mTranscript.the-row (Is mTranscript.the-row) (shows 𝓤 H A mTranscript.the-row) (LL.vals mTranscript.the-type lTranscript.the-laws)
+          (LL.tells mTranscript.the-type lTranscript.the-laws) fullShare (h1) vs b1 o1 $ move ! (1 ∷ []) $ peeks ! mTranscript.the-row (Is
+          mTranscript.the-row) (shows 𝓤 H A mTranscript.the-row) (h1) (LL.val mTranscript.the-type lTranscript.the-laws (h1) ∷ []) (λ w1o1. drop ! $
+          assigns ! (of-opd ! (load ! (from ! (hop ! (look ! 20 refl) (fld ! refl (stop !)))) (look-in ! 0 (sub ! 0 refl (whole !))))) (from ! (stop
+          !)) (init ! 13 refl (array-lawful 𝓤 H A W u8 (uint-lawful 𝓤 H A W w8) 32 .typed (mTranscript.the-type .to h1 .0) _ (LL.owed
+          mTranscript.the-type lTranscript.the-laws h1 _ w1o1 .0) .0)) $
+          assigns ! (of-opd ! (load ! (from ! (hop ! (look ! 20 refl) (fld ! refl (stop !)))) (look-in ! 0 (sub ! 1 refl (whole !))))) (from ! (stop
+          !)) (init ! 12 refl (uint-lawful 𝓤 H A W w64 .typed (mTranscript.the-type .to h1 .1 .0) _ (LL.owed mTranscript.the-type
+          lTranscript.the-laws h1 _ w1o1 .1 .0) .0)) $
+          assigns ! (agg ! (and-then ! (load ! (from ! (stop !)) (look ! 13 refl)) (and-then ! (load ! (from ! (stop !)) (look ! 12 refl)) (no-more
+          !)))) (from ! (stop !)) (init ! 16 refl (LL.lawful mTranscript.the-type lTranscript.the-laws 𝓤 H A W .typed h1 _ w1o1 .0)) $
+          assigns ! (addr ! (from ! (fld ! refl (hop ! (look-in ! 17 (sub ! 0 refl (whole !))) (stop !))))) (from ! (stop !)) (init ! 11 refl (tt, tt)) $
+          assigns ! (agg ! (and-then ! (load ! (from ! (stop !)) (look ! 11 refl)) (and-then ! (load ! (from ! (fld ! refl (stop !))) (look-in ! 17
+          (sub ! 1 refl (whole !)))) (no-more !)))) (from ! (stop !)) (init ! 10 refl (tt, (tt, (record { fits = room4 .0 }, tt)))) $
+          move ! (8 ∷ []) $ use1 W (‵ (O2) ⊛ ‵ (O2)) (shr-slice-copy 𝓤 H A W (named 1) κ₁ u8 .twice s2 (v2 ∷ [])) $ split ! $
+          lft-new ! tt (λ ν1d. move ! (9 ∷ 7 ∷ []) $ use2 W (later (some (λ (δ : GName). ‵ (MutSlice (named 1) (ν1d ∷ []) u64 .own (ref4 δ (ys4)) (v4 ∷
+          [])) ⊛ ‵ (Lent4 ν1d δ (ys4))))) (lends4 (named 1) ν1d (ys4) (refl)) $ await ! tt $ pick ! (λ δ1d. split ! $ tidy W (_ ∷ _ ∷ _ ∷ _ ∷ _ ∷ _
+          ∷ _ ∷ _ ∷ _ ∷ _ ∷ _ ∷ _ ∷ _ ∷ _ ∷ _ ∷ _ ∷ _ ∷ _ ∷ _ ∷ _ ∷ _ ∷ _ ∷ _ ∷ _ ∷ []) $ nothing ! $ move ! (3 ∷ 0 ∷ []) $ join ! $ move ! (9 ∷ 0
+          ∷ []) $ join ! $ move ! (3 ∷ 1 ∷ []) $ join ! $ move ! (1 ∷ 0 ∷ []) $ join ! $
+          -- call 1
+          use1 W (raw (Callee-g1 𝓤 H A at-mem run .pre (
+            (
+              (κ₁, ((ν1d ∷ []), tt)),
+              (q₁, (fullShare, tt)),
+              tt,
+              (h1, (s2, (n3, (ref4 δ1d (ys4), tt)))),
+              ((LL.val mTranscript.the-type lTranscript.the-laws (h1)) ∷ [], (v2 ∷ [], (u3 ∷ [], (v4 ∷ [], tt)))),
+            ),
+            tt,
+          ))) (qed W ((‵ (flft κ₁ q₁) ⊛ ‵
+          (flft (ν1d ∷ []) fullShare) ⊛ ‵ ftrue) ∷ ‵ (ShrSlice (named 0) κ₁ u8 .own s2 (v2 ∷ [])) ∷ ‵ (MutSlice (named 1) (ν1d ∷ []) u64 .own (ref4
+          δ1d (ys4)) (v4 ∷ [])) ∷ []) ∵ nothing ! $ move ! (3 ∷ 0 ∷ []) $ fjoin ! $ owned ! u64 (Is u64) (uint-makes 𝓤 H A W w64) (n3) _ w3 $ fjoin
+          ! $ move ! (2 ∷ 0 ∷ []) $ fjoin ! $ owned ! mTranscript.the-row (Is mTranscript.the-row) (LL.makes mTranscript.the-type
+          lTranscript.the-plain 𝓤 H A) (h1) _ w1o1 $ fjoin ! $ move ! (1 ∷ 0 ∷ []) $ join ! $ nothing ! $ move ! (1 ∷ 0 ∷ []) $ frame ! $ done !) $
+          calls-at ! fm (Callee-g1 𝓤 H A at-mem run) known-g1 (
+            (
+              (κ₁, ((ν1d ∷ []), tt)),
+              (q₁, (fullShare, tt)),
+              tt,
+              (
+                h1,
+                (
+                  s2,
+                  (
+                    n3,
+                    (
+                      ref4 δ1d (ys4),
+                      tt,
+                    ),
+                  ),
+                ),
+              ),
+              ((LL.val mTranscript.the-type lTranscript.the-laws (h1)) ∷ [], (v2 ∷ [], (u3 ∷ [], (v4 ∷ [], tt)))),
+            ),
+            tt,
+          ) (and-then ! (load !
+          (from ! (stop !)) (look ! 15 refl)) (and-then ! (load ! (from ! (stop !)) (look ! 18 refl)) (and-then ! (load ! (from ! (stop !)) (look !
+          17 refl)) (and-then ! (load ! (from ! (stop !)) (look ! 9 refl)) (no-more !))))) (λ z1.
+          use1 W (later (some (λ (r1 : TranscriptAnswer). ((‵ (flft κ₁ q₁) ⊛ ‵ (flft (ν1d ∷ []) fullShare) ⊛ ‵ ftrue) ⊛ ‵ (mTranscriptAnswer.the-row
+          .own r1 (z1 ∷ []))) ⊛ some (λ (ws : Lasts g1.ended (κ₁, ((ν1d ∷ []), tt)) (h1, (s2, (n3, (ref4 δ1d (ys4), tt))))). ‵ (lasts g1.ended (
+            κ₁,
+            ((ν1d ∷ []), tt),
+          ) (h1, (s2, (n3, (ref4 δ1d (ys4), tt)))) ws) ⊛ raw (g1.clauses 𝓤 H A at-mem run (κ₁, ((ν1d ∷ []), tt)) (
+            h1,
+            (
+              s2,
+              (
+                n3,
+                (ref4 δ1d (ys4), tt),
+              ),
+            ),
+          ) .ensures tt r1 (atExit g1.ended (κ₁, ((ν1d ∷ []), tt)) (h1, (s2, (n3, (ref4 δ1d (ys4), tt)))) ws)))))) (id⊢ 𝓤 _)
+          $ await ! tt $ pick ! (λ r1. split ! $ move ! (1 ∷ []) $ pick ! (λ ws1. split ! $ move ! (1 ∷ []) $ heard ! _ (λ e1.
+          fsplit ! $ drop ! $ fsplit ! $ drop ! $ fsplit ! $ drop ! $ fsplit ! $ fsplit ! $ move ! (1 ∷ []) $ feqL ! (λ same1d. move ! (1 ∷ []) $ drop
+          ! $ move ! (1 ∷ []) $ split ! $ move ! (1 ∷ []) $ peeks ! mTranscriptAnswer.the-row (Is mTranscriptAnswer.the-row) (shows 𝓤 H A
+          mTranscriptAnswer.the-row) r1 (z1 ∷ []) (λ i1. drop ! $ land ! (from ! (stop !)) (init ! 15 refl (LL.lawful mTranscriptAnswer.the-type
+          lTranscriptAnswer.the-laws 𝓤 H A W .typed r1 _ i1 .0)) $
+          tidy W (_ ∷ _ ∷ _ ∷ _ ∷ _ ∷ _ ∷ _ ∷ _ ∷ _ ∷ _ ∷ _ ∷ _ ∷ _ ∷ _ ∷ _ ∷ _ ∷ _ ∷ _ ∷ _ ∷ _ ∷ _ ∷ _ ∷ []) $ split ! $ move ! (1 ∷ []) $ split ! $
+          move ! (1 ∷ []) $ drop ! $ lft-end ! tt $ move ! (0 ∷ 3 ∷ 2 ∷ []) $ use3 W (later (‵ (O4 (ws1 .1 .1 .1 .0)) ⊛ ‵ (flft κ₂ q₂))) (backs4
+          (named 1) ν1d δ1d (ys4) (ws1 .1 .1 .1 .0) (refl) room4 same1d) $ await ! tt $ split ! $
+          rewrite ! 15 (λ (w : Val). ‵ (fat fullShare (lTranscriptAnswer.mir) l₆ 0 w)) (ap only ((LL.tells mTranscriptAnswer.the-type
+          lTranscriptAnswer.the-laws) r1 _ i1)) refl $ assigns ! (of-opd ! (load ! (from ! (fld ! refl (stop !))) (look-in ! 15 (sub ! 1 refl
+          (whole !))))) (from ! (stop !)) (init ! 14 refl (LL.lawful mTranscript.the-type lTranscript.the-laws 𝓤 H A W .typed (r1 .transcript) _
+          (LL.owed mTranscriptAnswer.the-type lTranscriptAnswer.the-laws r1 _ (subst (Is mTranscriptAnswer.the-row r1) ((LL.tells
+          mTranscriptAnswer.the-type lTranscriptAnswer.the-laws) r1 _ i1) i1) .1 .0) .0)) $
+          assigns ! (of-opd ! (load ! (from ! (fld ! refl (stop !))) (look-in ! 14 (sub ! 0 refl (whole !))))) (from ! (hop ! (look ! 20 refl) (fld !
+          refl (stop !)))) (store-in ! 4 (sub ! 0 refl (whole !)) (array-lawful 𝓤 H A W u8 (uint-lawful 𝓤 H A W w8) 32 .typed (mTranscript.the-type
+          .to (r1 .transcript) .0) _ (LL.owed mTranscript.the-type lTranscript.the-laws (r1 .transcript) _ (LL.owed mTranscriptAnswer.the-type
+          lTranscriptAnswer.the-laws r1 _ (subst (Is mTranscriptAnswer.the-row r1) ((LL.tells mTranscriptAnswer.the-type
+          lTranscriptAnswer.the-laws) r1 _ i1) i1) .1 .0) .0) .0)) $
+          assigns ! (of-opd ! (load ! (from ! (fld ! refl (stop !))) (look-in ! 14 (sub ! 1 refl (whole !))))) (from ! (hop ! (look ! 20 refl) (fld !
+          refl (stop !)))) (store-in ! 4 (sub ! 1 refl (whole !)) (uint-lawful 𝓤 H A W w64 .typed (mTranscript.the-type .to (r1 .transcript) .1 .0)
+          _ (LL.owed mTranscript.the-type lTranscript.the-laws (r1 .transcript) _ (LL.owed mTranscriptAnswer.the-type lTranscriptAnswer.the-laws r1
+          _ (subst (Is mTranscriptAnswer.the-row r1) ((LL.tells mTranscriptAnswer.the-type lTranscriptAnswer.the-laws) r1 _ i1) i1) .1 .0) .1 .0)
+          .0)) $
+          assigns ! (of-opd ! (load ! (from ! (fld ! refl (stop !))) (look-in ! 15 (sub ! 0 refl (whole !))))) (from ! (stop !)) (init ! 21 refl
+          (uint-lawful 𝓤 H A W w32 .typed (mTranscriptAnswer.the-type .to r1 .0) _ (LL.owed mTranscriptAnswer.the-type lTranscriptAnswer.the-laws
+          r1 _ (subst (Is mTranscriptAnswer.the-row r1) ((LL.tells mTranscriptAnswer.the-type lTranscriptAnswer.the-laws) r1 _ i1) i1) .0) .0)) $
+          owned ! mTranscript.the-row (Is mTranscript.the-row) (LL.makes mTranscript.the-type lTranscript.the-plain 𝓤 H A) ((r1 .transcript)) _
+          (LL.owed mTranscriptAnswer.the-type lTranscriptAnswer.the-laws r1 _ (subst (Is mTranscriptAnswer.the-row r1) ((LL.tells
+          mTranscriptAnswer.the-type lTranscriptAnswer.the-laws) r1 _ i1) i1) .1 .0) $ move ! (5 ∷ 0 ∷ 6 ∷ 7 ∷ 8 ∷ []) $ closes ! tt
+          mTranscript.the-row ((r1 .transcript)) ((LL.val mTranscript.the-type lTranscript.the-laws (r1 .transcript)) ∷ []) b1 o1 $ feqI ! (List
+          Val) (vptr b1 o1 ∷ []) (vptr b1 o1 ∷ []) refl $ fjoin3 ! $
+          tidy W (_ ∷ _ ∷ _ ∷ _ ∷ _ ∷ _ ∷ _ ∷ _ ∷ _ ∷ _ ∷ _ ∷ _ ∷ _ ∷ _ ∷ _ ∷ _ ∷ _ ∷ _ ∷ _ ∷ _ ∷ []) $ returns ! (look ! 19 refl) $ move ! (7 ∷ []) $
+          use1 W (dies ((tyInt w32, l₀) ∷ (tyRef (named 0) mut (pointee (mTranscript.the-row .written)), l₁) ∷ (
+            sliceTy (tyRef (named 1) imm (tyInt
+                w8)),
+            l₂,
+          ) ∷ (tyInt w64, l₃) ∷ (sliceTy (tyRef (named 2) mut (tyInt w64)), l₄) ∷ (lTranscript.mir, l₅) ∷ (lTranscriptAnswer.mir, l₆) ∷
+          (lTranscript.mir, l₇) ∷ (tyArray (tyInt w8) 32, l₈) ∷ (tyInt w64, l₉) ∷ (tyRef erased mut (tyInt w64), l₁₀) ∷ (
+            sliceTy (tyRef erased mut
+                (tyInt w64)),
+            l₁₁,
+          ) ∷ []) (‵ ftrue)) die $ free-all ! 7 ((tyInt w32, l₀) ∷ (
+            tyRef (named 0) mut (pointee (mTranscript.the-row .written)),
+            l₁,
+          ) ∷ (sliceTy (tyRef (named 1) imm (tyInt w8)), l₂) ∷ (tyInt w64, l₃) ∷ (sliceTy (tyRef (named 2) mut (tyInt w64)), l₄) ∷
+          (lTranscript.mir, l₅) ∷ (lTranscriptAnswer.mir, l₆) ∷ (lTranscript.mir, l₇) ∷ (tyArray (tyInt w8) 32, l₈) ∷ (tyInt w64, l₉) ∷ (
+            tyRef
+                erased mut (tyInt w64),
+            l₁₀,
+          ) ∷ (sliceTy (tyRef erased mut (tyInt w64)), l₁₁) ∷ []) (kept _ ∷ kept _ ∷ kept _ ∷ kept _ ∷ kept _ ∷ kept _ ∷
+          kept _ ∷ kept _ ∷ kept _ ∷ kept _ ∷ kept _ ∷ kept _ ∷ []) refl $
+          suffices ! _ (ends-at 𝓤 H A f.ended stayed (f.clauses 𝓤 H A at-mem run) W (((κ₀, (κ₁, (κ₂, tt))), (q₀, (q₁, (q₂, tt))), tt, a, at), tt)
+          ((vint w32) (mTranscriptAnswer.the-type .to r1 .0)) (mTranscriptAnswer.the-type .to r1 .0) (
+            (r1 .transcript),
+            (
+              tt,
+              (
+                tt,
+                (
+                  ws1 .1 .1 .1 .0,
+                  tt,
+                ),
+              ),
+            ),
+          ) (tt, (tt, (tt, (same1d, tt))))) $ says ! ((cc, cc, cc)) $
+          nothing ! $ move ! (4 ∷ 0 ∷ []) $ join ! $ move ! (4 ∷ 0 ∷ []) $ join ! $ move ! (2 ∷ 0 ∷ []) $ join ! $ nothing ! $ move ! (3 ∷ 0 ∷ []) $
+          fjoin ! $ move ! (4 ∷ 0 ∷ []) $ fjoin ! $ move ! (3 ∷ 0 ∷ []) $ fjoin ! $ move ! (2 ∷ 0 ∷ []) $ fjoin ! $ keep ! (1 ∷ 0 ∷ []) $ frame ! $
+          frame ! $ owned ! u32 (Is u32) (uint-makes 𝓤 H A W w32) (mTranscriptAnswer.the-type .to r1 .0) _ (LL.owed mTranscriptAnswer.the-type
+          lTranscriptAnswer.the-laws r1 _ (subst (Is mTranscriptAnswer.the-row r1) ((LL.tells mTranscriptAnswer.the-type
+          lTranscriptAnswer.the-laws) r1 _ i1) i1) .0) $ done !)))))))))))))))))))))))
 
 module _ {M : Type 1} (𝓤 : URA M) (H : Heap 𝓤) (A : Atoms 𝓤) (W : Given 𝓤 H A) (mem : Memory → SProp 𝓤) (run : Routine → Fun 𝓤) where
   walks : (C : Calls 𝓤 H) (Λ : Loops 𝓤 H) → FmC 𝓤 H (W .laws) C → Triple 𝓤 (C #g1) (Callee-g1 𝓤 H A mem run) → Walks 𝓤 H A f.ended stayed (WpFn 𝓤 H C Λ code.function) (f.clauses 𝓤 H A mem run)
-  walks C Λ fm known-g1 = walked 𝓤 H A f.ended stayed (f.clauses 𝓤 H A mem run) (WpFn 𝓤 H C Λ code.function) (λ κs. (ptr-vals, (slice-vals, ((uint-vals w64), (slice-vals, tt))))) (λ κs. (mut-tells (named 0) (κs .0) mTranscript.the-row, (shr-slice-tells (named 1) (κs .1 .0) u8, ((uint-tells w64), (mut-slice-tells (named 2) (κs .1 .1 .0) u64, tt)))))
-      (λ κs qs bounds a g are. via 𝓤 _ (fst∗ 𝓤 _ (emp 𝓤)) (walk 𝓤 H A W mem run (κs .0) (κs .1 .0) (κs .1 .1 .0) (qs .0) (qs .1 .0) (qs .1 .1 .0) (a .0 .ptr .0) (a .0 .ptr .1) (a .0 .name) (a .0 .now) (a .1 .0) (a .1 .1 .0) (only ((uint-vals w64) (a .1 .1 .0))) (a .1 .1 .1 .0 .ptr .0) (a .1 .1 .1 .0 .ptr .1) (a .1 .1 .1 .0 .name) (a .1 .1 .1 .0 .now) C Λ fm known-g1 (are .1 .0) (are .1 .1 .0) (are .1 .1 .1 .0 .0 .1)))
+  walks C Λ fm known-g1 = walked 𝓤 H A f.ended stayed (f.clauses 𝓤 H A mem run) (WpFn 𝓤 H C Λ code.function) (λ κs. (
+    ptr-vals,
+    (
+      slice-vals,
+      ((uint-vals w64), (slice-vals, tt)),
+    ),
+  )) (λ κs. (
+    mut-tells (named 0) (κs .0) mTranscript.the-row,
+    (
+      shr-slice-tells (named 1) (κs .1 .0) u8,
+      ((uint-tells w64), (mut-slice-tells (named 2) (κs .1 .1 .0) u64, tt)),
+    ),
+  ))
+      (λ κs qs bounds a g are. via 𝓤 _ (fst∗ 𝓤 _ (emp 𝓤)) (walk 𝓤 H A W mem run (κs .0) (κs .1 .0) (κs .1 .1 .0) (qs .0) (qs .1 .0) (qs .1 .1 .0) (a
+      .0 .ptr .0) (a .0 .ptr .1) (a .0 .name) (a .0 .now) (a .1 .0) (a .1 .1 .0) (only ((uint-vals w64) (a .1 .1 .0))) (a .1 .1 .1 .0 .ptr .0) (a
+      .1 .1 .1 .0 .ptr .1) (a .1 .1 .1 .0 .name) (a .1 .1 .1 .0 .now) C Λ fm known-g1 (are .1 .0) (are .1 .1 .0) (are .1 .1 .1 .0 .0 .1)))
 
   meets : (𝓣 : Tables 𝓤 H) → Triple 𝓤 (𝓣 .C #g1) (Callee-g1 𝓤 H A mem run) → Meets 𝓤 H A f.signature (WpFn 𝓤 H (𝓣 .C) (𝓣 .Λ) code.function) (f.spec 𝓤 H A mem run)
-  meets 𝓣 known-g1 = walk-meets 𝓤 H A f.ended stayed W (goes-ref 𝓤 H A W 3 0 tt (plain (λ _. mTranscript.the-row)), (goes-none-slice 𝓤 H A W 3 (1 ∷ []) tt (plain (λ _. u8)) yes, (goes-none 𝓤 H A W 3 (λ _. u64) yes (λ κs x f. refl), (goes-slice 𝓤 H A W 3 2 tt (plain (λ _. u64)), tt)))) (f.clauses 𝓤 H A mem run)
+  meets 𝓣 known-g1 = walk-meets 𝓤 H A f.ended stayed W (
+    goes-ref 𝓤 H A W 3 0 tt (plain (λ _. mTranscript.the-row)),
+    (
+      goes-none-slice 𝓤 H A W 3 (1 ∷
+          []) tt (plain (λ _. u8)) yes,
+      (goes-none 𝓤 H A W 3 (λ _. u64) yes (λ κs x f. refl), (goes-slice 𝓤 H A W 3 2 tt (plain (λ _. u64)), tt)),
+    ),
+  )
+      (f.clauses 𝓤 H A mem run)
       (WpFn 𝓤 H (𝓣 .C) (𝓣 .Λ) code.function) (WpFn-mono 𝓤 H (W .laws) 𝓣 code.function) (walks (𝓣 .C) (𝓣 .Λ) (fmOf 𝓤 H (W .laws) 𝓣) known-g1)
 
 pub challenge-field-vec-spec : {M : Type 1} → stated.statement M

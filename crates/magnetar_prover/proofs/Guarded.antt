@@ -1,0 +1,124 @@
+-- What the guards' refusals leave.
+-- Assumes nothing.
+use mathlib.Core.Path.{_≡_, refl, sym, ap, _∙_}
+use mathlib.Core.Bool.{Bool, false}
+use mathlib.Core.List.{List, [], _∷_, _++_}
+use Prim.Native.Nat.{ℕ, zero, suc, _+_, _-_, _*_, _/_, _^_, _≤_, _<_}
+use native.Mathlib.Nat.{two-pow-succ}
+use native.Mathlib.Omega.{arith}
+use lib.ListN.{length, getD}
+use borrow.Author.Tests.{ltb-false, eqb-true, not-false}
+use Rattle.magnetar_field.specs.Sizes.{log₂}
+use Rattle.magnetar_field.proofs.Log2.{log₂-pow}
+use Rattle.magnetar_hash.specs.declared.transcript.Transcript.{Transcript}
+use Rattle.magnetar_layout.specs.Entries.{layoutRefusal}
+use Rattle.magnetar_layout.specs.Tests.{note, noted, columnTests, publicTests, layoutTests, roomTest, Sized}
+use Rattle.magnetar_layout.proofs.Noted.{noted-rest, noted-clear}
+use Rattle.magnetar_layout.proofs.SizeLaws.{not-bad}
+use Rattle.magnetar_layout.proofs.Laid.{sound, each-size}
+use Rattle.magnetar_r1cs.proofs.Points.{log-most}
+use Rattle.magnetar_layout.proofs.Readings.{log-le}
+use Rattle.magnetar_prover.specs.Held.{Locals}
+use Rattle.magnetar_prover.specs.Entries.{counterTest, innerRoundsRefusal}
+
+-- a size that is a power of two of at least two is even
+pub even-size : (m : ℕ) → Sized 2 65536 m → 2 * (m / 2) ≡ m
+even-size m z = go (log₂ m) (z .power)
+  where
+    go : (k : ℕ) → m ≡ 2 ^ k → 2 * (m / 2) ≡ m
+    go zero e = absurd (omega (arith, z .low))
+    go (suc k) e =
+        let q : m ≡ 2 ^ k + 2 ^ k = e ∙ two-pow-succ k in
+        let h : m / 2 ≡ 2 ^ k = omega (arith, q) in
+        omega (arith, q, h)
+
+-- where the columns are good, the layout's refusal is that of its own tests
+pub layout-rest : (m : ℕ) (ns x : List ℕ) (y z : ℕ) → noted 0 (columnTests m) ≡ 0 → noted 0 (publicTests m x) ≡ 0 → z ≡ layoutRefusal (m / 2) ns
+    → z ≡ noted 0 (columnTests m ++ publicTests m x ++ layoutTests (m / 2) ns)
+unfolding layoutRefusal
+layout-rest m ns x y z e f g =
+    let k : Sized 2 65536 m = not-bad (noted-clear 0 (columnTests m) refl e .1 .0) in
+    let h : noted 0 (columnTests (2 * (m / 2))) ≡ 0 = rw (even-size m k) e in
+    g
+    ∙ (noted-rest (columnTests (2 * (m / 2))) (layoutTests (m / 2) ns) 0 (sym h) refl
+    ∙ (sym (noted-rest (publicTests m x) (layoutTests (m / 2) ns) 0 (sym f) refl)
+    ∙ sym (noted-rest (columnTests m) (publicTests m x ++ layoutTests (m / 2) ns) 0 (sym e) refl)))
+
+-- ---- what holds where nothing is refused
+pub record Sizes (m : ℕ) (ns x : List ℕ) : Type 0 where
+  pub columns : Sized 2 65536 m
+  pub few : log₂ m ≤ 16
+  pub public : length x ≡ m - 2
+  pub segments : length ns ≤ 64
+  pub layout : layoutRefusal (m / 2) ns ≡ 0
+
+note-good : (n : ℕ) (b : Bool) → b ≡ false → note n b 0 ≡ 0
+unfolding note
+note-good n b e = rw e
+
+pub sizes-of : (m : ℕ) (ns x : List ℕ) → noted 0 (columnTests m ++ publicTests m x ++ layoutTests (m / 2) ns) ≡ 0 → Sizes m ns x
+sizes-of m ns x e =
+    let k = noted-clear 0 (columnTests m ++ publicTests m x ++ layoutTests (m / 2) ns) refl e .1 in
+    let z : Sized 2 65536 m = not-bad (k .0) in
+    record {
+      columns = z;
+      few = log-most m (z .high) (z .power);
+      public = eqb-true _ _ (not-false _ (k .1 .0));
+      segments = ltb-false _ _ (k .1 .1 .1 .1 .0);
+      layout = layout-rest m ns x 0 (layoutRefusal (m / 2) ns) (note-good 1 _ (k .0)) (note-good 3 _ (k .1 .0)) refl ∙ e;
+    }
+
+pub record InnerFits (m : ℕ) (ns x proof draws s : List ℕ) : Type 0 where
+  pub sizes : Sizes m ns x
+  pub drawn : 2 * log₂ m ≤ length draws
+  pub sent : 2 * (3 * log₂ m + 1 + length ns) ≤ length proof
+  pub scratch : 6 * m ≤ length s
+
+pub inner-fits : (m : ℕ) (ns x proof draws s : List ℕ) (t : Transcript) → innerRoundsRefusal m ns x proof draws s t ≡ 0 → InnerFits m ns x proof draws s
+unfolding innerRoundsRefusal
+inner-fits m ns x proof draws s t e =
+    let k = noted-clear 0 (columnTests m ++ publicTests m x ++ layoutTests (m / 2) ns ++ (counterTest t ++ (roomTest (2 * log₂ m) draws ++ roomTest
+    (2 * (3 * log₂ m + 1 + length ns)) proof ++ roomTest (6 * m) s))) refl e .1 in
+    record {
+      sizes = sizes-of m ns x (noted-good (k .0) (k .1 .0) (k .1 .1 .0) (k .1 .1 .1 .0) (k .1 .1 .1 .1 .0));
+      drawn = ltb-false _ _ (k .1 .1 .1 .1 .1 .1 .0);
+      sent = ltb-false _ _ (k .1 .1 .1 .1 .1 .1 .1 .0);
+      scratch = ltb-false _ _ (k .1 .1 .1 .1 .1 .1 .1 .1 .0);
+    }
+  where
+    noted-good : {a b c d f : Bool} → a ≡ false → b ≡ false → c ≡ false → d ≡ false → f ≡ false
+        → noted 0 ((1, a) ∷ (3, b) ∷ (8, c) ∷ (9, d) ∷ (10, f) ∷ []) ≡ 0
+    noted-good {a} {b} {c} {d} {f} p q r t u = rw (p, q, r, t, u, note-good 1 false refl, note-good 3 false refl, note-good 8 false refl, note-good 9 false refl, note-good 10 false refl)
+
+-- ---- half the columns
+log-double : (m w : ℕ) → 2 * w ≡ m → w ≡ 2 ^ log₂ w → log₂ w < 63 → log₂ m ≡ suc (log₂ w)
+log-double m w e p h = let q : m ≡ 2 ^ suc (log₂ w) = omega (arith, two-pow-succ (log₂ w)) in rw q (log₂-pow (suc (log₂ w)) (omega arith))
+
+pub record Ready (m w k : ℕ) (ns : List ℕ) : Type 0 where
+  pub double : 2 * w ≡ m
+  pub some : 0 < w
+  pub most : w ≤ 32768
+  pub rounds : 0 < k
+  pub few : k < 18
+  pub power : 2 * w ≡ 2 ^ k
+  pub locals : Locals w ns (2 * k - 2)
+
+pub ready : (m : ℕ) (ns x : List ℕ) (k : ℕ) → k ≡ log₂ m → Sizes m ns x → Ready m (m / 2) k ns
+ready m ns x k e z =
+    let d : 2 * (m / 2) ≡ m = even-size m (z .columns) in
+    let o = sound (m / 2) ns (z .layout) in
+    let a : log₂ (m / 2) ≤ 16 = log-most (m / 2) (omega (arith, z .columns .high)) (o .power) in
+    let l : log₂ m ≡ suc (log₂ (m / 2)) = log-double m (m / 2) d (o .power) (omega (arith, a)) in
+    record {
+      double = d;
+      some = omega (arith, z .columns .low, d);
+      most = omega (arith, z .columns .high, d);
+      rounds = omega (arith, e, l);
+      few = omega (arith, e, z .few);
+      power = d ∙ (z .columns .power ∙ ap (λ (j : ℕ). 2 ^ j) (sym e));
+      locals = record {
+        each = λ i h. let y = each-size (m / 2) ns i (o .lengths) h in
+            let b : log₂ (getD ns i 0) ≤ log₂ (m / 2) = log-le (getD ns i 0) (m / 2) (y .power) (o .power) (y .most) in
+            record { most = y .most; power = y .power; few = omega (arith, a, b); drawn = omega (arith, b, e, l) };
+      };
+    }

@@ -1,0 +1,32 @@
+-- `magnetar_records::steps::add_column` meets its contract.
+-- Assumes nothing.
+use mathlib.Core.Path.{refl}
+use Rattle.magnetar_matrix.specs.Matrix.{share}
+use Rattle.magnetar_relation.specs.Steps.{front}
+use borrow.Author.Needs.{needs}
+use Rattle.magnetar_records.proofs.steps.add_column.Statement.{statement}
+use Rattle.magnetar_records.proofs.steps.add_column.Tie as tie
+
+get-front-requires : tie.Need-get-front-requires
+get-front-requires c κs = search needs
+
+scale-requires : tie.Need-scale-requires
+scale-requires c κs = search needs
+
+add-to-requires : tie.Need-add-to-requires
+add-to-requires c κs = search needs
+
+same-length : tie.Need-same-length
+same-length c = search needs
+
+same-length-2 : tie.Need-same-length-2
+same-length-2 c = search needs
+
+returns : tie.Need-returns
+unfolding share front
+returns c = (refl, rw (c .before .before .add-to .ensures, c .before .before .before .before .scale .ensures, c .before .before .before .before .before .get-front .ensures))
+
+pub add-column-spec : {M : Type 1} → statement M
+add-column-spec =
+    tie.close
+    (tie.spec get-front-requires scale-requires add-to-requires same-length same-length-2 returns)

@@ -1,0 +1,164 @@
+// The verifier's side of a round: the sum of a message is checked, and the next running claim is the message's value at the challenge.
+use magnetar_field::gf128;
+use magnetar_field::gf128::Gf128;
+use magnetar_field::words;
+use magnetar_hash::transcript;
+use magnetar_hash::transcript::Transcript;
+ghost use mathlib.Core.Path.{_≡_};
+ghost use lib.Dec.{eqb};
+ghost use Rattle.magnetar_field.specs.Gf128.{value, _⊕_, _⊗_};
+ghost use Rattle.magnetar_field.specs.Polynomial.{eval};
+ghost use Rattle.magnetar_field.specs.Words.{elements};
+ghost use Rattle.magnetar_sumcheck_verifier.specs.Round.{checkSum, holds};
+ghost use Rattle.magnetar_sumcheck_verifier.specs.Outcome.{isMessage, leftBy, roundOutcome, capturedBy, undrawn, captureOutcome};
+ghost use Rattle.magnetar_sumcheck_verifier.specs.Outer.{outerEnd};
+ghost use Rattle.magnetar_sumcheck_verifier.specs.Inner.{innerEnd};
+
+// acc + t z.
+pub fn multiply_add(acc: Gf128, t: Gf128, z: Gf128) -> Gf128
+    ensures { λ r. ⌜ value r ≡ value acc ⊕ value t ⊗ value z ⌝ }
+{
+    gf128::add(acc, gf128::mul(t, z))
+}
+
+// What a round leaves: the number of its refusal or 0, whether the message was right, and the running claim.
+pub struct Round {
+    pub code: u32,
+    pub holds: bool,
+    pub claim: Gf128,
+}
+
+// The sum of the coefficients but the first: the message's value at 0 plus its value at 1.
+fn check_sum(msg: &[u64]) -> Gf128
+    ensures { λ r. ⌜ value r ≡ checkSum (elements (now (msg .entry))) ⌝ }
+{
+    let mut acc = Gf128 { lo: 0, hi: 0 };
+    let mut i = msg.len() / 2;
+    while i > 1 {
+        i -= 1;
+        acc = gf128::add(words::get(msg, i), acc);
+    }
+    acc
+}
+
+// Whether the message is of n coefficients.
+fn is_message(msg: &[u64], n: usize) -> bool
+    ensures { λ r. ⌜ r ≡ isMessage n (now (msg .entry)) ⌝ }
+{
+    if msg.len() % 2 != 0 {
+        return false;
+    }
+    msg.len() / 2 == n
+}
+
+// Whether the message is right for the running claim. Total: a message of any number of coefficients; an odd last word is none.
+pub fn sum_holds(msg: &[u64], claim: Gf128) -> bool
+    ensures { λ r. ⌜ r ≡ holds (elements (now (msg .entry))) (value claim) ⌝ }
+{
+    gf128::equal(check_sum(msg), claim)
+}
+
+// The message's value at r: the next running claim. A product for each coefficient. Total, as `sum_holds` is.
+pub fn eval_message(msg: &[u64], r: Gf128) -> Gf128
+    ensures { λ o. ⌜ value o ≡ eval (elements (now (msg .entry))) (value r) ⌝ }
+{
+    let mut acc = Gf128 { lo: 0, hi: 0 };
+    let mut i = msg.len() / 2;
+    while i > 0 {
+        i -= 1;
+        acc = multiply_add(words::get(msg, i), r, acc);
+    }
+    acc
+}
+
+// A round with the challenge r from outside, whose message has n coefficients: the check, and the next running claim. A wrong message
+// leaves the claim, and so does one that is refused with 11.
+pub fn round_external(msg: &[u64], n: usize, claim: Gf128, r: Gf128) -> Round
+    ensures { λ o. ⌜ leftBy o ≡ roundOutcome n (now (msg .entry)) (value claim) (value r) ⌝ }
+{
+    if !is_message(msg, n) {
+        return Round {
+            code: 11,
+            holds: false,
+            claim: claim,
+        };
+    }
+    if sum_holds(msg, claim) {
+        let next = eval_message(msg, r);
+        return Round {
+            code: 0,
+            holds: true,
+            claim: next,
+        };
+    }
+    Round {
+        code: 0,
+        holds: false,
+        claim: claim,
+    }
+}
+
+// The terminal identity of the outer sum-check: the running claim is e (a b + c), with eq(tau, r) for e. Two products.
+pub fn outer_finish(running: Gf128, e: Gf128, a: Gf128, b: Gf128, c: Gf128) -> bool
+    ensures { λ r. ⌜ r ≡ eqb (outerEnd (value e) (value a) (value b) (value c)) (value running) ⌝ }
+{
+    gf128::equal(gf128::mul(e, multiply_add(c, a, b)), running)
+}
+
+// The terminal identity of the inner sum-check: the running claim is t z. One product.
+pub fn inner_finish(running: Gf128, t: Gf128, z: Gf128) -> bool
+    ensures { λ r. ⌜ r ≡ eqb (innerEnd (value t) (value z)) (value running) ⌝ }
+{
+    gf128::equal(gf128::mul(t, z), running)
+}
+
+// What a round leaves that draws for itself: the number of its refusal or 0, whether the message was right, the running claim, the
+// challenge (0 where nothing was drawn), and the transcript.
+pub struct Captured {
+    pub code: u32,
+    pub holds: bool,
+    pub claim: Gf128,
+    pub challenge: Gf128,
+    pub transcript: Transcript,
+}
+
+// A round that draws its challenge, whose message has n coefficients: the check first; then the message is absorbed and the challenge
+// drawn, both under the label. A wrong message leaves the claim and the transcript, and so does one that is refused with 11, and a
+// counter of 2^32 or more (14).
+pub fn round_capturing(msg: &[u64], n: usize, claim: Gf128, t: Transcript, label: &[u8]) -> Captured
+    ensures { λ o. ⌜ capturedBy o ≡ captureOutcome n (now (msg .entry)) (value claim) t (now (label .entry)) ⌝ }
+{
+    if !is_message(msg, n) {
+        return left(11, claim, t);
+    }
+    if t.squeeze_ctr >= 4294967296 {
+        return left(14, claim, t);
+    }
+    if sum_holds(msg, claim) {
+        let absorbed = transcript::absorb_words(t, label, msg);
+        let next = transcript::draw(absorbed, label);
+        let r = transcript::element(next);
+        let value = eval_message(msg, r);
+        return Captured {
+            code: 0,
+            holds: true,
+            claim: value,
+            challenge: r,
+            transcript: next,
+        };
+    }
+    left(0, claim, t)
+}
+
+// What is left where nothing is drawn.
+fn left(code: u32, claim: Gf128, t: Transcript) -> Captured
+    ensures { λ o. ⌜ capturedBy o ≡ undrawn code (value claim) t ⌝ }
+{
+    Captured {
+        code: code,
+        holds: false,
+        claim: claim,
+        challenge: Gf128 { lo: 0, hi: 0 },
+        transcript: t,
+    }
+}

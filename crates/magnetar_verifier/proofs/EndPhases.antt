@@ -1,0 +1,139 @@
+-- The checks 27 to 29 as they are made are those of the definition.
+-- Assumes nothing.
+use mathlib.Core.Path.{_≡_, refl, sym, ap, ap₂, _∙_}
+use mathlib.Core.Bool.{Bool}
+use mathlib.Core.List.{List, [], _∷_, _++_, append-assoc}
+use Prim.Native.Nat.{ℕ, zero, suc, _+_, _-_, _*_, _/_, _^_, _≤_, _<_}
+use native.Mathlib.Nat.{two-pow-succ}
+use native.Mathlib.Omega.{arith}
+use lib.Dec.{eqb, lit<}
+use lib.ListN.{length, getD, drop, length-drop}
+use lib.Seq.{take-take, take-all}
+use Rattle.magnetar_field.specs.Gf128.{_⊕_, _⊗_}
+use Rattle.magnetar_field.specs.Sizes.{log₂}
+use Rattle.magnetar_field.specs.Tabulate.{tabulate}
+use Rattle.magnetar_multilinear.specs.EqTable.{eqAt}
+use Rattle.magnetar_multilinear.specs.Multilinear.{mle}
+use Rattle.magnetar_field.proofs.Log2.{log₂-pow}
+use Rattle.magnetar_sumcheck_verifier.specs.Round.{running}
+use Rattle.magnetar_sumcheck_verifier.specs.Inner.{innerEnd}
+use Rattle.magnetar_matrix.specs.Batch.{Relation}
+use Rattle.magnetar_layout.specs.Layout.{localVars, suffix}
+use Rattle.magnetar_r1cs.proofs.Points.{log-most}
+use Rattle.magnetar_protocol.specs.Shape.{logLogins, logBin, logFld, logCols, beforeEnd, proofElements}
+use Rattle.magnetar_protocol.specs.Proof.{part, terminals, innerRounds, valueZ, segmentValues}
+use Rattle.magnetar_protocol.specs.Draws.{Draws, drawsOf, lowPoint, topElement}
+use Rattle.magnetar_protocol.specs.Checks.{Check, roundHolds, innerClaim, combined, segmentSum, innerChecks, identityCheck}
+use Rattle.magnetar_layout.specs.Tests.{Sized}
+use Rattle.magnetar_protocol.specs.Schedule.{afterAlphas, afterInner}
+use Rattle.magnetar_protocol.proofs.Phases.{Numbered, numbered-append, numbered-tabulate}
+use Rattle.magnetar_protocol.specs.declared.first.Found.{Found}
+use Rattle.magnetar_protocol.specs.Found.{firstFound}
+use Rattle.magnetar_protocol.specs.Found.{check, nothing, nextFound, after}
+use Rattle.magnetar_verifier.specs.Steps.{messages, roundChecks}
+use Rattle.magnetar_verifier.specs.EndSteps.{identical, alphasAt, terminalsAt, eventsBefore, innerDraws, firstClaim, lastClaim, vz, lowDraws, roundPhase, endPhases}
+use Rattle.magnetar_verifier.specs.End.{endChecks}
+use Rattle.magnetar_verifier.proofs.Pieces.{part-get}
+use Rattle.magnetar_protocol.proofs.Finding.{after-append, after-two, finds}
+use Rattle.magnetar_verifier.proofs.OuterPhases.{eqb-comm}
+
+-- ---- the columns
+pub record Cols (m c : ℕ) : Type 0 where
+  pub pos : 0 < c
+  pub small : c ≤ 16
+  pub half : c - 1 ≡ log₂ (m / 2)
+  pub even : 2 * (m / 2) ≡ m
+
+pub cols : (m c : ℕ) → Sized 2 65536 m → c ≡ log₂ m → Cols m c
+cols m c P e = go c (P .power ∙ ap (λ (k : ℕ). 2 ^ k) (sym e)) most
+  where
+    most : c ≤ 16
+    most = omega (arith, e, log-most m (P .high) (P .power))
+
+    go : (k : ℕ) → m ≡ 2 ^ k → k ≤ 16 → Cols m k
+    go zero p l = absurd (omega (arith, P .low))
+    go (suc k) p l =
+        let h : m / 2 ≡ 2 ^ k = omega (arith, p, two-pow-succ k) in
+        let d : suc k - 1 ≡ k = omega arith in
+        record { pos = omega arith; small = l; half = rw (d, h) (sym (log₂-pow k (omega arith))); even = omega (arith, p, h, two-pow-succ k) }
+
+-- ---- phase by phase
+module _ (r : Relation) (x w d t : List ℕ) (exact : length w ≡ proofElements r) (some : 0 < logCols r) where
+  abbrev D : Draws
+  D = drawsOf r d
+
+  abbrev s : ℕ
+  s = logLogins r
+
+  abbrev b : ℕ
+  b = logBin r
+
+  abbrev f : ℕ
+  f = logFld r
+
+  abbrev c : ℕ
+  c = logCols r
+
+  low-is : lowPoint r D ≡ lowDraws s b f c (r .lengths) x w d t
+  unfolding lowPoint drawsOf
+  low-is = take-take (c - 1) c (drop (alphasAt s b f c (r .lengths) x w d t + 6) d) (omega arith)
+
+  top-is : topElement r D ≡ getD d (alphasAt s b f c (r .lengths) x w d t + 6 + (c - 1)) 0
+  unfolding topElement drawsOf
+  top-is = part-get (alphasAt s b f c (r .lengths) x w d t + 6) c (c - 1) d (omega arith)
+
+  values-are : segmentValues r w ≡ part (terminalsAt s b f c (r .lengths) x w d t + 6 + 3 * c + 1) (length (r .lengths)) w
+  unfolding segmentValues
+  values-are = sym (take-all (length (r .lengths)) (drop (beforeEnd r + 1) w) (rw length-drop (omega arith)))
+
+  abbrev sums : ℕ
+  sums = segmentSum (r .lengths) (lowDraws s b f c (r .lengths) x w d t) 0
+      (part (terminalsAt s b f c (r .lengths) x w d t + 6 + 3 * c + 1) (length (r .lengths)) w)
+
+  sum-is : segmentSum (r .lengths) (lowPoint r D) 0 (segmentValues r w) ≡ sums
+  sum-is = ap₂ (λ (low vs : List ℕ). segmentSum (r .lengths) low 0 vs) low-is values-are
+
+  identity-is : identityCheck r w D x
+      ≡ check 29 (identical (getD d (alphasAt s b f c (r .lengths) x w d t + 6 + (c - 1)) 0) sums
+      (mle (1 ∷ x) (lowDraws s b f c (r .lengths) x w d t)) (vz s b f c (r .lengths) x w d t))
+      (eventsBefore s b f c (r .lengths) x w d t + 2 * c + 1) ∷ []
+  unfolding identityCheck identical valueZ
+  identity-is = rw (top-is, sum-is, low-is)
+
+  pub end-is : endChecks r x w D t ≡ endPhases s b f c (r .lengths) x w d t
+  unfolding endChecks innerChecks endPhases roundChecks messages innerClaim innerRounds terminals drawsOf valueZ
+  end-is =
+      append-assoc (roundPhase s b f c (r .lengths) x w d t)
+      (check 28 (eqb (lastClaim s b f c (r .lengths) x w d t) (innerEnd (mle t (innerDraws s b f c (r .lengths) x w d t)) (vz s b f c (r .lengths) x w d t)))
+      (eventsBefore s b f c (r .lengths) x w d t + 2 * c) ∷ []) (identityCheck r w D x)
+      ∙ ap₂ (λ (y : Bool) (l : List Check). roundPhase s b f c (r .lengths) x w d t
+      ++ (check 28 y (eventsBefore s b f c (r .lengths) x w d t + 2 * c) ∷ l))
+      (eqb-comm (lastClaim s b f c (r .lengths) x w d t) (innerEnd (mle t (innerDraws s b f c (r .lengths) x w d t)) (vz s b f c (r .lengths) x w d t)))
+      identity-is
+
+module _ (s b f c : ℕ) (ns x w d t : List ℕ) where
+  rounds-numbered : Numbered (roundPhase s b f c ns x w d t)
+  unfolding roundChecks
+  rounds-numbered = numbered-tabulate 26
+      (λ j. roundHolds (firstClaim s b f c ns x w d t) (messages (terminalsAt s b f c ns x w d t + 6) 3 c w) (innerDraws s b f c ns x w d t) j)
+      (λ j. eventsBefore s b f c ns x w d t + 2 * j) c
+
+  end-numbered : Numbered (endPhases s b f c ns x w d t)
+  unfolding endPhases
+  end-numbered = numbered-append (roundPhase s b f c ns x w d t) _ rounds-numbered (lit< tt, (lit< tt, tt))
+
+  -- what the phases leave
+  pub end-done : (f₁ f₂ f₃ : Found) (claim tv pv : ℕ) (y z : Bool) → f₁ ≡ after nothing (roundPhase s b f c ns x w d t)
+      → claim ≡ lastClaim s b f c ns x w d t → tv ≡ mle t (innerDraws s b f c ns x w d t) → pv ≡ mle (1 ∷ x) (lowDraws s b f c ns x w d t)
+      → y ≡ eqb (innerEnd tv (vz s b f c ns x w d t)) claim
+      → z ≡ identical (getD d (alphasAt s b f c ns x w d t + 6 + (c - 1)) 0)
+      (segmentSum ns (lowDraws s b f c ns x w d t) 0 (part (terminalsAt s b f c ns x w d t + 6 + 3 * c + 1) (length ns) w)) pv (vz s b f c ns x w d t)
+      → f₂ ≡ nextFound f₁ (check 28 y (eventsBefore s b f c ns x w d t + 2 * c))
+      → f₃ ≡ nextFound f₂ (check 29 z (eventsBefore s b f c ns x w d t + 2 * c + 1)) → f₃ ≡ after nothing (endPhases s b f c ns x w d t)
+  unfolding endPhases
+  end-done f₁ f₂ f₃ claim tv pv y z e₁ ec et ep ey ez e₂ e₃ =
+      rw (e₃, e₂, e₁, ey, ez, ec, et, ep)
+      (sym (after-append nothing (roundPhase s b f c ns x w d t) _ ∙ after-two (after nothing (roundPhase s b f c ns x w d t)) _ _))
+
+  pub end-finds : after nothing (endPhases s b f c ns x w d t) ≡ firstFound (endPhases s b f c ns x w d t)
+  end-finds = finds (endPhases s b f c ns x w d t) end-numbered

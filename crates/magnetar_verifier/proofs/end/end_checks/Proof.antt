@@ -1,0 +1,149 @@
+-- `magnetar_verifier::end::end_checks` meets its contract.
+-- Assumes nothing.
+use denote.Ref.{now}
+use Prim.Native.Nat.{_*_, _^_, _≤_, _<_}
+use native.Mathlib.Omega.{arith}
+use lib.ListN.{length, length-take}
+use Rattle.magnetar_verifier.proofs.Guards.{log-small}
+use Rattle.magnetar_verifier.proofs.EndGuard.{front-given, end-front, end-refused, end-fits, end-room, end-answered}
+use borrow.Author.Needs.{needs}
+use Rattle.magnetar_verifier.proofs.end.end_checks.Statement.{statement}
+use Rattle.magnetar_verifier.proofs.end.end_checks.Tie as tie
+
+front-refusal-requires : tie.Need-front-refusal-requires
+front-refusal-requires c κs = search needs
+
+returns : tie.Need-returns
+returns c =
+    let x = c .before .before .before .before .before .before .before .args in
+    end-front (x .m) (x .q) (x .rb) (x .rf) (now (x .lens)) (now (x .x)) (now (x .proof)) (now (x .draws)) (now (x .s)) (c .before .front-refusal .result)
+    (c .before .front-refusal .ensures) (c .if1 .taken)
+
+log2-requires : tie.Need-log2-requires
+log2-requires c κs = search needs
+
+log2-requires-2 : tie.Need-log2-requires-2
+log2-requires-2 c κs = search needs
+
+log2-requires-3 : tie.Need-log2-requires-3
+log2-requires-3 c κs = search needs
+
+log2-requires-4 : tie.Need-log2-requires-4
+log2-requires-4 c κs = search needs
+
+-- the sizes are words
+q-word : (s : tie.Start) → s .args .q < 2 ^ 64
+q-word s = search needs
+
+rb-word : (s : tie.Start) → s .args .rb < 2 ^ 64
+rb-word s = search needs
+
+rf-word : (s : tie.Start) → s .args .rf < 2 ^ 64
+rf-word s = search needs
+
+m-word : (s : tie.Start) → s .args .m < 2 ^ 64
+m-word s = search needs
+
+end-refusal-requires : tie.Need-end-refusal-requires
+end-refusal-requires c κs =
+    let f = c .before in
+    let b = f .before in
+    let a = b .before in
+    let t = a .before .before .before .before .before .before .before .before in
+    let x = t .args in (
+      log-small (x .q) (a .log2 .result) (a .log2 .ensures) (q-word t),
+      log-small (x .rb) (b .log22 .result) (b .log22 .ensures) (rb-word t),
+      log-small (x .rf) (f .log23 .result) (f .log23 .ensures) (rf-word t),
+      log-small (x .m) (c .log24 .result) (c .log24 .ensures) (m-word t),
+      front-given (x .m) (x .q) (x .rb) (x .rf) (length (now (x .x))) (a .before .before .front-refusal .result) (a .before .before .front-refusal .ensures) (a .before .if1 .left) .size,
+    )
+
+returns-2 : tie.Need-returns-2
+returns-2 c =
+    let z = c .before in
+    let k = z .before in
+    let f = k .before in
+    let b = f .before in
+    let a = b .before in
+    let x = a .before .before .before .before .before .before .before .before .args in
+    end-refused (x .m) (x .q) (x .rb) (x .rf) (now (x .lens)) (now (x .x)) (now (x .proof)) (now (x .draws)) (now (x .s)) (a .log2 .result) (b .log22 .result)
+    (f .log23 .result) (k .log24 .result) (z .end-refusal .result) (a .log2 .ensures) (b .log22 .ensures) (f .log23 .ensures) (k .log24 .ensures)
+    (z .end-refusal .ensures) (a .before .before .front-refusal .result) (a .before .before .front-refusal .ensures)
+    (a .before .if1 .left) (c .if2 .taken)
+
+-- the room is enough
+enough : (c : tie.Else2) → 4 * c .before .before .before .before .before .before .before .before .before .before .before .before .before .args .m ≤
+    length (now (c .before .before .before .before .before .before .before .before .before .before .before .before .before .args .s))
+enough c =
+    let z = c .before in
+    let k = z .before in
+    let f = k .before in
+    let b = f .before in
+    let a = b .before in
+    let x = a .before .before .before .before .before .before .before .before .args in
+    end-room (x .m) (x .q) (x .rb) (x .rf) (now (x .lens)) (now (x .x)) (now (x .proof)) (now (x .draws)) (now (x .s)) (a .log2 .result) (b .log22 .result)
+    (f .log23 .result) (k .log24 .result) (z .end-refusal .result) (a .log2 .ensures) (b .log22 .ensures) (f .log23 .ensures) (k .log24 .ensures)
+    (z .end-refusal .ensures) (a .before .before .front-refusal .result) (a .before .before .front-refusal .ensures)
+    (a .before .if1 .left) (c .if2 .left)
+
+mul-n : tie.Need-mul-n
+mul-n c = omega (arith, enough c)
+
+slice-relend-prefix-end-phases : tie.Need-slice-relend-prefix-end-phases
+slice-relend-prefix-end-phases c = omega (arith, enough c)
+
+slice-aggregate-end-phases : tie.Need-slice-aggregate-end-phases
+slice-aggregate-end-phases c = rw length-take (omega (arith, enough (c .before)))
+
+end-phases-requires : tie.Need-end-phases-requires
+end-phases-requires c κs =
+    let z = c .before .before in
+    let k = z .before in
+    let f = k .before in
+    let b = f .before in
+    let a = b .before in
+    let x = a .before .before .before .before .before .before .before .before .args in
+    let r = end-refusal-requires k (κs .0, tt) in (
+      end-fits (x .m) (x .q) (x .rb) (x .rf) (now (x .lens)) (now (x .x)) (now (x .proof)) (now (x .draws)) (now (x .s)) (a .log2 .result) (b .log22 .result)
+          (f .log23 .result) (k .log24 .result) (z .end-refusal .result) (a .log2 .ensures) (b .log22 .ensures) (f .log23 .ensures) (k .log24 .ensures)
+          (z .end-refusal .ensures) (a .before .before .front-refusal .result) (a .before .before .front-refusal .ensures)
+          (a .before .if1 .left) (c .before .if2 .left) (r .0) (r .1) (r .2),
+      rw length-take (omega (arith, enough (c .before))),
+    )
+
+same-length : tie.Need-same-length
+same-length c = search needs
+
+returns-3 : tie.Need-returns-3
+returns-3 c =
+    let e = c .before .before in
+    let z = e .before .before .before in
+    let k = z .before in
+    let f = k .before in
+    let b = f .before in
+    let a = b .before in
+    let x = a .before .before .before .before .before .before .before .before .args in
+    end-answered (x .m) (x .q) (x .rb) (x .rf) (now (x .lens)) (now (x .x)) (now (x .proof)) (now (x .draws)) (now (x .s)) (a .log2 .result) (b .log22 .result)
+    (f .log23 .result) (k .log24 .result) (z .end-refusal .result) (a .log2 .ensures) (b .log22 .ensures) (f .log23 .ensures) (k .log24 .ensures)
+    (z .end-refusal .ensures) (a .before .before .front-refusal .result) (a .before .before .front-refusal .ensures)
+    (a .before .if1 .left) (e .before .before .if2 .left) (e .end-phases .result) (e .end-phases .last .1 .1 .1 .1 .1 .0) (e .end-phases .ensures .0)
+    (e .end-phases .ensures .1)
+
+pub end-checks-spec : {M : Type 1} → statement M
+end-checks-spec =
+    tie.close
+    (tie.spec
+    front-refusal-requires
+    returns
+    log2-requires
+    log2-requires-2
+    log2-requires-3
+    log2-requires-4
+    end-refusal-requires
+    returns-2
+    mul-n
+    slice-relend-prefix-end-phases
+    slice-aggregate-end-phases
+    end-phases-requires
+    same-length
+    returns-3)
