@@ -25,200 +25,90 @@ const FLD: usize = 2;
 
 const SEGMENTS: [usize; 3] = [8, 4, 8];
 
-// The entries of A, B, C of bin, then of A, B, C of fld.
-const ROW: [usize; 55] = [
-    // A of bin
-    0,
-    0,
-    1,
-    1,
-    2,
-    2,
-    3,
-    3,
-    4,
-    5,
-    6,
-    7,
-    8,
-    8,
-    8,
-    8,
-    8,
-    8,
-    8,
-    8,
-    8,
-    // B of bin
-    0,
-    0,
-    1,
-    1,
-    2,
-    2,
-    3,
-    3,
-    4,
-    5,
-    6,
-    7,
-    8,
-    // C of bin
-    0,
-    1,
-    2,
-    3,
-    4,
-    5,
-    6,
-    // A of fld
-    0,
-    0,
-    1,
-    1,
-    // B of fld
-    0,
-    0,
-    0,
-    0,
-    0,
-    0,
-    0,
-    0,
-    1,
-    // C of fld
-    1,
-];
+// The rows and columns of the entries of each matrix; those of row 8 of A of bin, the sum with the checksum, stand apart.
+const AB_ROW: [usize; 12] = [0, 0, 1, 1, 2, 2, 3, 3, 4, 5, 6, 7];
 
-const COL: [usize; 55] = [
-    // A of bin
-    0,
-    32,
-    2,
-    32,
-    4,
-    32,
-    6,
-    32,
-    16,
-    18,
-    20,
-    8,
-    0,
-    1,
-    2,
-    3,
-    4,
-    5,
-    6,
-    7,
-    9,
-    // B of bin
-    1,
-    32,
-    3,
-    32,
-    5,
-    32,
-    7,
-    32,
-    17,
-    19,
-    21,
-    22,
-    32,
-    // C of bin
-    16,
-    17,
-    18,
-    19,
-    20,
-    21,
-    22,
-    // A of fld
-    8,
-    32,
-    10,
-    11,
-    // B of fld
-    0,
-    1,
-    2,
-    3,
-    4,
-    5,
-    6,
-    7,
-    33,
-    // C of fld
-    34,
-];
+const SUM_ROW: [usize; 9] = [8; 9];
 
-const LO: [u64; 55] = [
-    // A of bin
-    1,
-    1,
-    1,
-    1,
-    1,
-    1,
-    1,
-    1,
-    1,
-    1,
-    1,
-    1,
-    1,
-    1,
-    1,
-    1,
-    1,
-    1,
-    1,
-    1,
-    1,
-    // B of bin
-    1,
-    1,
-    1,
-    1,
-    1,
-    1,
-    1,
-    1,
-    1,
-    1,
-    1,
-    1,
-    1,
-    // C of bin
-    1,
-    1,
-    1,
-    1,
-    1,
-    1,
-    1,
-    // A of fld
-    1,
-    1,
-    1,
-    2,
-    // B of fld
-    1,
-    2,
-    4,
-    8,
-    16,
-    32,
-    64,
-    128,
-    1,
-    // C of fld
-    1,
-];
+const AB_COL: [usize; 12] = [0, 32, 2, 32, 4, 32, 6, 32, 16, 18, 20, 8];
+
+const SUM_COL: [usize; 9] = [0, 1, 2, 3, 4, 5, 6, 7, 9];
+
+const BB_ROW: [usize; 13] = [0, 0, 1, 1, 2, 2, 3, 3, 4, 5, 6, 7, 8];
+
+const BB_COL: [usize; 13] = [1, 32, 3, 32, 5, 32, 7, 32, 17, 19, 21, 22, 32];
+
+const CB_ROW: [usize; 7] = [0, 1, 2, 3, 4, 5, 6];
+
+const CB_COL: [usize; 7] = [16, 17, 18, 19, 20, 21, 22];
+
+const AF_ROW: [usize; 4] = [0, 0, 1, 1];
+
+const AF_COL: [usize; 4] = [8, 32, 10, 11];
+
+const BF_ROW: [usize; 9] = [0, 0, 0, 0, 0, 0, 0, 0, 1];
+
+const BF_COL: [usize; 9] = [0, 1, 2, 3, 4, 5, 6, 7, 33];
+
+const CF_ROW: [usize; 1] = [1];
+
+const CF_COL: [usize; 1] = [34];
 
 const HI: [u64; 55] = [0; 55];
+
+// Copies the numbers of one matrix behind the first n, and says where they end.
+fn join(out: &mut [usize], n: usize, part: &[usize]) -> usize {
+    let mut at = n;
+    let mut i = 0;
+    while i < part.len() {
+        if at < out.len() {
+            out[at] = part[i];
+            at += 1;
+        }
+        i += 1;
+    }
+    at
+}
+
+// The rows of the entries of A, B, C of bin, then of A, B, C of fld, one matrix behind the other.
+fn rows() -> [usize; 55] {
+    let mut all = [0usize; 55];
+    let r = join(&mut all, 0, &AB_ROW);
+    let a = join(&mut all, r, &SUM_ROW);
+    let b = join(&mut all, a, &BB_ROW);
+    let c = join(&mut all, b, &CB_ROW);
+    let d = join(&mut all, c, &AF_ROW);
+    let e = join(&mut all, d, &BF_ROW);
+    let _end = join(&mut all, e, &CF_ROW);
+    all
+}
+
+// Their columns.
+fn cols() -> [usize; 55] {
+    let mut all = [0usize; 55];
+    let r = join(&mut all, 0, &AB_COL);
+    let a = join(&mut all, r, &SUM_COL);
+    let b = join(&mut all, a, &BB_COL);
+    let c = join(&mut all, b, &CB_COL);
+    let d = join(&mut all, c, &AF_COL);
+    let e = join(&mut all, d, &BF_COL);
+    let _end = join(&mut all, e, &CF_COL);
+    all
+}
+
+// The low words of their values: 1, but for x in A of fld and 1, x, .., x^7 in B of fld.
+fn lows() -> [u64; 55] {
+    let mut all = [1u64; 55];
+    all[44] = 2;
+    all[46] = 2;
+    all[47] = 4;
+    all[48] = 8;
+    all[49] = 16;
+    all[50] = 32;
+    all[51] = 64;
+    all[52] = 128;
+    all
+}
 
 fn shape(rows: usize, entries: usize) -> Shape {
     Shape {
@@ -244,7 +134,10 @@ fn shapes() -> Shapes {
 
 // The first row that fails.
 pub(crate) fn row_check(scratch: &mut [u64], q: usize, packed: &[u64], x: &[u64]) -> RowCheck {
-    check::row_check(scratch, M, q, shapes(), &ROW, &COL, &LO, &HI, packed, x)
+    let row = rows();
+    let col = cols();
+    let lo = lows();
+    check::row_check(scratch, M, q, shapes(), &row, &col, &lo, &HI, packed, x)
 }
 
 // The office's end.
@@ -257,6 +150,9 @@ pub(crate) fn prove(
     x: &[u64],
     t: Transcript,
 ) -> TranscriptAnswer {
+    let row = rows();
+    let col = cols();
+    let lo = lows();
     virtual_spartan::prove_virtual_spartan(
         proof,
         claims,
@@ -265,9 +161,9 @@ pub(crate) fn prove(
         q,
         &SEGMENTS,
         shapes(),
-        &ROW,
-        &COL,
-        &LO,
+        &row,
+        &col,
+        &lo,
         &HI,
         packed,
         x,
@@ -284,6 +180,9 @@ pub(crate) fn verify(
     proof: &[u64],
     t: Transcript,
 ) -> TranscriptAnswer {
+    let row = rows();
+    let col = cols();
+    let lo = lows();
     virtual_spartan::verify_virtual_spartan(
         claims,
         scratch,
@@ -291,9 +190,9 @@ pub(crate) fn verify(
         q,
         &SEGMENTS,
         shapes(),
-        &ROW,
-        &COL,
-        &LO,
+        &row,
+        &col,
+        &lo,
         &HI,
         x,
         proof,
