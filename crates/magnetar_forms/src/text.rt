@@ -194,6 +194,18 @@ fn start(lens: &[usize], i: usize) -> usize {
     sum
 }
 
+// The bytes of the words i to k - 1.
+pub(crate) fn parts<'a>(bytes: &'a [u8], lens: &[usize], i: usize, k: usize) -> &'a [u8] {
+    let from = start(lens, i);
+    let to = start(lens, k);
+    if from <= to {
+        if to <= bytes.len() {
+            return &bytes[from..to];
+        }
+    }
+    &bytes[0..0]
+}
+
 // The bytes of word i.
 pub(crate) fn part<'a>(bytes: &'a [u8], lens: &[usize], i: usize) -> &'a [u8] {
     parts(bytes, lens, i, plus(i, 1))
