@@ -22,9 +22,6 @@ thin() {
   f=$1; shift; d=$p/$(echo "$f" | sed 's/::/\//g'); mkdir -p "$d"
   MIR=$new/mir python3 tools/thin.py "$c" "$f" "$@" > "$d/Proof.antt"
 }
-# six matrices among the parameters, the first at parameter $1: with their sizes, or their entries alone
-six() { for i in 0 3 6 9 12 15; do echo "n$(($1 + i)) n$(($1 + i + 1)) (s$(($1 + i + 2)) .now)"; done | paste -sd ' ' -; }
-alone() { for i in 0 1 2 3 4 5; do echo "(s$(($1 + i)) .now)"; done | paste -sd ' ' -; }
 
 # magnetar_transcript: the transcript in place
 crate magnetar_transcript
@@ -129,7 +126,7 @@ thin lent::challenge_field_vec --final '(cc, cc, cc)'
 thin lent::is_binary --requires 'n4 ≤ 32' --part pre
 for g in apply eval_mle_table eval_mle_at apply_simd_packed; do thin lent::$g --requires 'n4 ≤ 32' --part pre --final e1; done
 
-# magnetar_spartan: the verifier over one slice of records
+# magnetar_spartan: both ends over one slice of records
 crate magnetar_spartan
 over='--use Rattle.magnetar_relation.specs.Rules.{rulesOver} --use Rattle.magnetar_records.specs.Records.{entriesOfRecords}'
 thin records::combine_at --final 'e4 ∙ rw (e1, e2, e3)'
@@ -138,23 +135,19 @@ thin records::verify_with --use "$ends.VerifyEnds.{verify-ends}" $over \
   --final 'λ h. verify-ends (rulesOver n4 n5 (s6 .now) n7 (entriesOfRecords (s8 .now))) (s9 .now) (s10 .now) n11 ys2 ys3 n1 r1 h e1 r6 (ws6 .1 .0) (ws6 .1 .1 .0) r2 (ws5 .1 .0) e2 (rw (← e3, ← e4) e5) e6'
 thin records::verify_virtual_spartan --use "$ends.ByNumbers.{over-free}" $over \
   --final 'e2 (e1 ∙ over-free n4 n5 (s6 .now) n7 (entriesOfRecords (s8 .now)))'
-
-# magnetar_records_prover: the prover
-crate magnetar_records_prover
-thin products::product --final 'rw (e3, e2 .1, e1)'
-thin products::products
-thin virtual_spartan::first --use "$ends.ProveEnds.{outer-is}" \
-  --final "outer-is n6 n7 n3 n4 n5 $(alone 8) (s14 .now) (s15 .now) ys1 ys2 n16 (ws1 .0) (r2 .«transcript») (r2 .«draws») (ws2 .0) (ws2 .1 .0) r3 (ws4 .0) e1 e2 e3 e4"
-thin virtual_spartan::prove_in --use "$ends.ProveEnds.{prove-in-is}" \
-  --final "prove-in-is n7 n8 n4 n5 (s6 .now) $(alone 9) (s15 .now) (s16 .now) ys1 ys2 ys3 n17 (r1 .«transcript») (r1 .«draws») (ws1 .0) (ws1 .1 .0) r2 (ws2 .0) (ws2 .1 .0) (ws2 .1 .1 .0) (e1 .0) (e1 .1) e2"
-thin virtual_spartan::prove_unless --use "$ends.EntryEnds.{unless-some, unless-none}" --use "$ends.ProveEnds.{same}" \
-  --final "unless-some n1 (same n8 n9 n5 n6 (s7 .now) $(alone 10) (s16 .now) (s17 .now) ys2 ys3 ys4 n18) (s16 .now) (s17 .now) ys2 ys3 ys4 n18 r2 (ws2 .0) (ws2 .1 .0) (ws2 .1 .1 .0) r1 e1 b1 e2" \
-  --final "unless-none n1 (same n8 n9 n5 n6 (s7 .now) $(alone 10) (s16 .now) (s17 .now) ys2 ys3 ys4 n18) (s16 .now) (s17 .now) ys2 ys3 ys4 n18 r1 e1 b1"
-thin virtual_spartan::refused --use "$ends.EntryEnds.{prove-refused}" \
-  --final "prove-refused $(six 4) n1 n2 (s3 .now) (s22 .now) (s23 .now) (n24 .«squeeze_ctr») n25 n26 n27 r1 r2 e1 e2"
-thin virtual_spartan::prove --use "$ends.EntryEnds.{prove-ends}" \
-  --final "prove-ends $(six 7) n4 n5 (s6 .now) (s25 .now) (s26 .now) n27 ys1 ys2 ys3 r1 e1 r2 (ws2 .1 .0) (ws2 .1 .1 .0) (ws2 .1 .1 .1 .0) r3 e2 e3"
-thin virtual_spartan::prove_virtual_spartan --final e1
+# the prover
+thin records::product --use "$ends.ProductLaws.{product-ends}" \
+  --final 'product-ends n2 n3 n4 n5 (s6 .now) (s7 .now) (s8 .now) ys1 r1 r2 r4 (ws3 .1 .1 .1 .1 .1 .1 .1 .1 .0) (ws5 .0) e1 e2 e3 e4 e5'
+thin records::make_products --use "$ends.ProductLaws.{six-left}" $over \
+  --final 'six-left (rulesOver n2 n3 [] n4 (entriesOfRecords (s5 .now))) (s6 .now) (s7 .now) ys1 (ws1 .0) (ws2 .0) (ws3 .0) (ws4 .0) (ws5 .0) (ws6 .0) e1 e2 e3 e4 e5 e6'
+thin records::products_unless --use "$ends.ProveRun.{products-some, products-none}" $over \
+  --final 'products-some n1 (rulesOver n3 n4 [] n5 (entriesOfRecords (s6 .now))) (s7 .now) (s8 .now) ys2 (ws2 .0) r1 e1 b1 e2' \
+  --final 'products-none n1 (rulesOver n3 n4 [] n5 (entriesOfRecords (s6 .now))) (s7 .now) (s8 .now) ys2 r1 e1 b1'
+lent='(rulesOver n5 n6 (s7 .now) n8 (entriesOfRecords (s9 .now))) (s10 .now) (s11 .now) ys2 ys3 ys4'
+thin records::prove_unless --use "$ends.ProveRun.{unless-ends}" $over \
+  --final "unless-ends $lent n12 n1 (ws1 .1 .0) (ws2 .1 .1 .0) (ws4 .1 .0) (r2 .«transcript») r5 (r2 .«draws») r3 (ws2 .1 .0) (ws5 .1 .0) (ws5 .1 .1 .0) (ws5 .1 .1 .1 .0) e1 e2 e3 e4 e5"
+thin records::prove_virtual_spartan --use "$ends.ByNumbers.{over-free}" --use "$ends.ProveRun.{number}" $over \
+  --final "e3 (number $lent h1 r1 r2 (e1 ∙ over-free n5 n6 (s7 .now) n8 (entriesOfRecords (s9 .now))) e2)"
 
 # magnetar_cases: the first records of an array, and a transcript, lent to the entries over records
 crate magnetar_cases

@@ -1,16 +1,14 @@
 -- The outcomes of both ends: refused, or run through.
 -- Assumes nothing.
-use mathlib.Core.Path.{_≡_, refl, _∙_}
+use mathlib.Core.Path.{_≡_, refl}
 use mathlib.Core.List.{List, _++_}
 use Prim.Native.Nat.{ℕ, _+_, _-_, _*_, _/_, _^_, _≤_, _<_}
 use lib.Pow.{pow-mono}
 use native.Mathlib.Nat.{lt-of-not-le}
 use native.Mathlib.Omega.{arith}
-use lib.ListN.{length, take, drop, length-append, length-drop}
-use lib.Seq.{drop-at, length-take-le}
+use lib.ListN.{length}
 use borrow.Author.Tests.{ne-eqb, eqb-true, ltb-true, ltb-false, not-false}
 use Rattle.magnetar_field.specs.Sizes.{log₂}
-use Rattle.magnetar_field.specs.Words.{words}
 use Rattle.magnetar_hash.specs.declared.transcript.Transcript.{Transcript}
 use Rattle.magnetar_layout.specs.Login.{loginWords}
 use Rattle.magnetar_layout.specs.Tests.{Tests, noted, Sized, sizeTests, layoutTests}
@@ -69,23 +67,6 @@ draws-small R P =
     let b = log-most (rowsBin R) (P .bin .rows .high) (P .bin .rows .power) in
     let f = log-most (rowsFld R) (P .fld .rows .high) (P .fld .rows .power) in
     omega (arith, q, m, b, f)
-
--- ---- parts that were lent come back
-pub most : {a b c : ℕ} → a ≡ b → b ≤ c → a ≤ c
-most e h = omega arith
-
-pub front : (n : ℕ) (p q : List ℕ) → length p ≡ n → n ≤ length (p ++ q)
-front n p q e = rw length-append (omega arith)
-
-pub front-length : (n : ℕ) (p q : List ℕ) → length p ≡ n → length (take n (p ++ q)) ≡ n
-front-length n p q e = length-take-le n (p ++ q) (front n p q e)
-
--- as many words as before
-pub same-words : (n : ℕ) (s p q : List ℕ) → n ≤ length s → length p ≡ n → length q ≡ length (take n (p ++ drop n s))
-    → length (q ++ drop n (p ++ drop n s)) ≡ length s
-same-words n s p q h l k =
-    let e : length q ≡ n = k ∙ front-length n p (drop n s) l in
-    rw (drop-at p (drop n s) n l) (length-append q (drop n s) ∙ rw (e, length-drop n s) (omega arith))
 
 module _ (R : Rules) (x w : List ℕ) (t : Transcript) (c s : List ℕ) where
   pub verify-refused : (z : ℕ) → z ≡ verifyRefusal R x w t c s → (z ≡ 0 → ⊥)

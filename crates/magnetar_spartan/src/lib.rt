@@ -2,6 +2,7 @@
 mod combine;
 mod products;
 mod proving;
+pub mod records;
 mod refusal;
 mod stages;
 pub mod virtual_spartan;

@@ -20,13 +20,12 @@ same-length : tie.Need-same-length
 same-length c = search needs
 
 returns : tie.Need-returns
-returns c = rw (
-  c .before .before .combine .ensures,
-  c .before .before .before .before .before .before .run-alphas .ensures,
-  c .before .before
-      .before .before .before .bin-point .ensures,
-  c .before .before .before .before .fld-point .ensures,
-)
+returns c =
+    let t = c .before .before in
+    let f = t .before .before in
+    let b = f .before in
+    let a = b .before in
+    rw (t .combine .ensures, a .run-alphas .ensures, b .bin-point .ensures, f .fld-point .ensures)
 
 pub combine-at-spec : {M : Type 1} → statement M
 combine-at-spec =

@@ -12,8 +12,11 @@ same-length : tie.Need-same-length
 same-length c = search needs
 
 returns : tie.Need-returns
-returns c = rw (eq-eqb ((c .before .before .before .before .before .before .before .before .before .before) .args .n) 0 (c .before .before .before
-    .before .if1 .taken)) (c .before .before .combine-at .ensures)
+returns c =
+    let t = c .before .before in
+    let i = t .before .before in
+    let s = i .before .before .before .before .before .before in
+    rw (eq-eqb (s .args .n) 0 (i .if1 .taken)) (t .combine-at .ensures)
 
 returns-2 : tie.Need-returns-2
 returns-2 c = rw (ne-eqb ((c .before .before .before .before .before .before) .args .n) 0 (c .if1 .left))

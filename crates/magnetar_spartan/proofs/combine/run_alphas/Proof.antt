@@ -43,10 +43,15 @@ alphas12-requires c κs = search needs
 
 returns : tie.Need-returns
 returns c =
-    let x = (c .before .before .before .before .before .before) .args in
-    let k = c .before .before .before .before .before .fld-at .result + 2 * c .before .before .before .before .log .result in
-    let e : k ≡ alphasAt (x .q) (x .sh .bin .a .rows) (x .sh .fld .a .rows) = rw (c .before .before .before .before .before .fld-at .ensures .0, c .before .before .before .before .log .ensures .0) in
-    window-is 12 k (c .before .before .before .least .result) (x .t3) _ (c .before .before .before .least .ensures .0) (c .alphas12 .ensures) ∙ ap (λ (i : ℕ). window 12 i (x .t3)) e
+    let r = c in
+    let a = r .before .before .before in
+    let l = a .before in
+    let f = l .before in
+    let s = f .before in
+    let x = s .args in
+    let k = f .fld-at .result + 2 * l .log .result in
+    let e : k ≡ alphasAt (x .q) (x .sh .bin .a .rows) (x .sh .fld .a .rows) = rw (f .fld-at .ensures .0, l .log .ensures .0) in
+    window-is 12 k (a .least .result) (x .t3) _ (a .least .ensures .0) (r .alphas12 .ensures) ∙ ap (λ (i : ℕ). window 12 i (x .t3)) e
 
 pub run-alphas-spec : {M : Type 1} → statement M
 run-alphas-spec =

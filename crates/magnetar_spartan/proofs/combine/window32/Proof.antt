@@ -27,8 +27,11 @@ point32-requires : tie.Need-point32-requires
 point32-requires c κs = search needs
 
 returns : tie.Need-returns
-returns c = let x = (c .before .before .before .before) .args in window-is 32 (x .k) (c .before .before .before .least .result) (x .t2) _ (c .before
-    .before .before .least .ensures .0) (c .point32 .ensures)
+returns c =
+    let r = c in
+    let a = r .before .before .before in
+    let s = a .before in
+    window-is 32 (s .args .k) (a .least .result) (s .args .t2) _ (a .least .ensures .0) (r .point32 .ensures)
 
 pub window32-spec : {M : Type 1} → statement M
 window32-spec =

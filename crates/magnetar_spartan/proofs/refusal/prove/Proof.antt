@@ -35,22 +35,32 @@ sizes : (c : tie.Else1) → Sizes ((c .before .before .before) .args .m) ((c .be
 sizes c = sizes-of _ _ _ (c .before .size-refusal .ensures) (c .if1 .left)
 
 middle : (c : tie.After-segments) → c .segments .result ≡ noted 0 (second (c .before .before .before .before .before .before .before .before))
-middle c = rw (c .segments .ensures, c .before .note3 .ensures, c .before .before .note2 .ensures, c .before .before .before .note .ensures, c .before .before .before .before .login-words .ensures)
+middle c =
+    let i = c .before in
+    let j = i .before in
+    let k = j .before in
+    let l = k .before in
+    rw (c .segments .ensures, i .note3 .ensures, j .note2 .ensures, k .note .ensures, l .login-words .ensures)
 
 size-refusal-requires : tie.Need-size-refusal-requires
 size-refusal-requires c κs = search needs
 
 returns : tie.Need-returns
-returns c = noted-front (first (c .before .before .before)) (second (c .before .before .before) ++ third (c .before .before .before)) _ (c .before .size-refusal .ensures) (c .if1 .taken)
+returns c =
+    let z = c .before in
+    let s = z .before .before in
+    noted-front (first s) (second s ++ third s) _ (z .size-refusal .ensures) (c .if1 .taken)
 
 login-words-requires : tie.Need-login-words-requires
 login-words-requires c κs = search needs
 
 mul-note : tie.Need-mul-note
 mul-note c =
-    let z = sizes (c .before) in
-    let h : c .login-words .result ≤ 512 = rw (c .login-words .ensures) (login-most ((c .before .before .before .before) .args .m / 2) (omega (arith, z .columns .high))) in
-    omega (arith, product-most ((c .before .before .before .before) .args .q) (c .login-words .result) (z .logins .high) h)
+    let e = c .before in
+    let s = e .before .before .before in
+    let z = sizes e in
+    let h : c .login-words .result ≤ 512 = rw (c .login-words .ensures) (login-most (s .args .m / 2) (omega (arith, z .columns .high))) in
+    omega (arith, product-most (s .args .q) (c .login-words .result) (z .logins .high) h)
 
 note-requires : tie.Need-note-requires
 note-requires c κs = search needs
@@ -69,28 +79,30 @@ segments-requires c κs = sizes (c .before .before .before .before) .columns
 
 returns-2 : tie.Need-returns-2
 returns-2 c =
-    noted-late (first (c .before .before .before .before .before .before .before .before .before)) (second (c .before .before .before .before .before
-    .before .before .before .before) ++ third (c .before .before .before .before .before .before .before .before .before)) _ _ (c .before .before
-    .before .before .before .before .before .size-refusal .ensures) (c .before .before .before .before .before .before .if1 .left)
-    (noted-front (second (c .before .before .before .before .before .before .before .before .before)) (third (c .before .before .before .before
-    .before .before .before .before .before)) _ (middle (c .before)) (c .if2 .taken))
+    let g = c .before in
+    let e = g .before .before .before .before .before in
+    let z = e .before in
+    let s = z .before .before in
+    noted-late (first s) (second s ++ third s) _ _ (z .size-refusal .ensures) (e .if1 .left)
+    (noted-front (second s) (third s) _ (middle g) (c .if2 .taken))
 
 prove-rooms-requires : tie.Need-prove-rooms-requires
-prove-rooms-requires c κs = (
-  log-least _ (sizes (c .before .before .before .before .before .before) .columns),
-  few-segments ((c .before .before
-      .before .before .before .before .before .before .before) .args .m / 2) (c .before .before .note3 .result) _ (now ((c .before .before .before
-      .before .before .before .before .before .before) .args .lens)) (c .before .segments .ensures) (c .if2 .left),
-)
+prove-rooms-requires c κs =
+    let g = c .before in
+    let n = g .before in
+    let e = n .before .before .before .before in
+    let s = e .before .before .before in
+    (log-least _ (sizes e .columns), few-segments (s .args .m / 2) (n .note3 .result) _ (now (s .args .lens)) (g .segments .ensures) (c .if2 .left))
 
 returns-3 : tie.Need-returns-3
 returns-3 c =
-    noted-late (first (c .before .before .before .before .before .before .before .before .before .before)) (second (c .before .before .before .before
-    .before .before .before .before .before .before) ++ third (c .before .before .before .before .before .before .before .before .before
-    .before)) _ _ (c .before .before .before .before .before .before .before .before .size-refusal .ensures) (c .before .before .before .before
-    .before .before .before .if1 .left)
-    (noted-late (second (c .before .before .before .before .before .before .before .before .before .before)) (third (c .before .before .before
-    .before .before .before .before .before .before .before)) _ _ (middle (c .before .before)) (c .before .if2 .left) (c .prove-rooms .ensures))
+    let f = c .before in
+    let g = f .before in
+    let e = g .before .before .before .before .before in
+    let z = e .before in
+    let s = z .before .before in
+    noted-late (first s) (second s ++ third s) _ _ (z .size-refusal .ensures) (e .if1 .left)
+    (noted-late (second s) (third s) _ _ (middle g) (f .if2 .left) (c .prove-rooms .ensures))
 
 pub prove-spec : {M : Type 1} → statement M
 prove-spec =

@@ -26,17 +26,14 @@ note-requires-3 : tie.Need-note-requires-3
 note-requires-3 c κs = search needs
 
 returns : tie.Need-returns
-returns c = rw (
-  c .note3 .ensures,
-  c .before .prover-room .ensures,
-  c .before .before .note2 .ensures,
-  c .before .before .before .claim-words
-      .ensures,
-  c .before .before .before .before .note .ensures,
-  c .before .before .before .before .before .proof-words .ensures,
-  c .before .before
-      .before .before .before .before .counter .ensures,
-)
+returns c =
+    let r = c .before in
+    let n = r .before in
+    let k = n .before in
+    let m = k .before in
+    let p = m .before in
+    let t = p .before in
+    rw (c .note3 .ensures, r .prover-room .ensures, n .note2 .ensures, k .claim-words .ensures, m .note .ensures, p .proof-words .ensures, t .counter .ensures)
 
 pub prove-rooms-spec : {M : Type 1} → statement M
 prove-rooms-spec =

@@ -38,7 +38,10 @@ size-refusal-requires : tie.Need-size-refusal-requires
 size-refusal-requires c κs = search needs
 
 returns : tie.Need-returns
-returns c = noted-front (first (c .before .before .before)) (second (c .before .before .before) ++ third (c .before .before .before)) _ (c .before .size-refusal .ensures) (c .if1 .taken)
+returns c =
+    let z = c .before in
+    let s = z .before .before in
+    noted-front (first s) (second s ++ third s) _ (z .size-refusal .ensures) (c .if1 .taken)
 
 sub-note : tie.Need-sub-note
 sub-note c = sizes c .columns .low
@@ -54,26 +57,30 @@ segments-requires c κs = sizes (c .before .before) .columns
 
 returns-2 : tie.Need-returns-2
 returns-2 c =
-    noted-late (first (c .before .before .before .before .before .before .before)) (second (c .before .before .before .before .before .before
-    .before) ++ third (c .before .before .before .before .before .before .before)) _ _ (c .before .before .before .before .before .size-refusal
-    .ensures) (c .before .before .before .before .if1 .left)
-    (noted-front (second (c .before .before .before .before .before .before .before)) (third (c .before .before .before .before .before .before .before)) _ (middle (c .before)) (c .if2 .taken))
+    let g = c .before in
+    let e = g .before .before .before in
+    let z = e .before in
+    let s = z .before .before in
+    noted-late (first s) (second s ++ third s) _ _ (z .size-refusal .ensures) (e .if1 .left)
+    (noted-front (second s) (third s) _ (middle g) (c .if2 .taken))
 
 verify-rooms-requires : tie.Need-verify-rooms-requires
-verify-rooms-requires c κs = (
-  log-least _ (sizes (c .before .before .before .before) .columns),
-  few-segments ((c .before .before .before .before
-      .before .before .before) .args .m / 2) (c .before .before .note2 .result) _ (now ((c .before .before .before .before .before .before .before)
-      .args .lens)) (c .before .segments .ensures) (c .if2 .left),
-)
+verify-rooms-requires c κs =
+    let g = c .before in
+    let n = g .before in
+    let e = n .before .before in
+    let s = e .before .before .before in
+    (log-least _ (sizes e .columns), few-segments (s .args .m / 2) (n .note2 .result) _ (now (s .args .lens)) (g .segments .ensures) (c .if2 .left))
 
 returns-3 : tie.Need-returns-3
 returns-3 c =
-    noted-late (first (c .before .before .before .before .before .before .before .before)) (second (c .before .before .before .before .before .before
-    .before .before) ++ third (c .before .before .before .before .before .before .before .before)) _ _ (c .before .before .before .before .before
-    .before .size-refusal .ensures) (c .before .before .before .before .before .if1 .left)
-    (noted-late (second (c .before .before .before .before .before .before .before .before)) (third (c .before .before .before .before .before
-    .before .before .before)) _ _ (middle (c .before .before)) (c .before .if2 .left) (c .verify-rooms .ensures))
+    let f = c .before in
+    let g = f .before in
+    let e = g .before .before .before in
+    let z = e .before in
+    let s = z .before .before in
+    noted-late (first s) (second s ++ third s) _ _ (z .size-refusal .ensures) (e .if1 .left)
+    (noted-late (second s) (third s) _ _ (middle g) (f .if2 .left) (c .verify-rooms .ensures))
 
 pub verify-spec : {M : Type 1} → statement M
 verify-spec =

@@ -26,17 +26,14 @@ note-requires-3 : tie.Need-note-requires-3
 note-requires-3 c κs = search needs
 
 returns : tie.Need-returns
-returns c = rw (
-  c .note3 .ensures,
-  c .before .proof-words .ensures,
-  c .before .before .note2 .ensures,
-  c .before .before .before .verifier-room
-      .ensures,
-  c .before .before .before .before .note .ensures,
-  c .before .before .before .before .before .claim-words .ensures,
-  c .before .before
-      .before .before .before .before .counter .ensures,
-)
+returns c =
+    let p = c .before in
+    let n = p .before in
+    let r = n .before in
+    let m = r .before in
+    let k = m .before in
+    let t = k .before in
+    rw (c .note3 .ensures, p .proof-words .ensures, n .note2 .ensures, r .verifier-room .ensures, m .note .ensures, k .claim-words .ensures, t .counter .ensures)
 
 pub verify-rooms-spec : {M : Type 1} → statement M
 verify-rooms-spec =

@@ -12,7 +12,10 @@ abbrev o : tie.Start → Relation
 o s = let x = s .args in outline (x .m) (x .q) (x .rb) (x .rf) (now (x .lens))
 
 returns : tie.Need-returns
-returns c = let x = (c .before .before .before) .args in begun-back (x .n) (o (c .before .before .before)) (now (x .proof)) (x .t) (c .if1 .taken)
+returns c =
+    let s = c .before .before .before in
+    let x = s .args in
+    begun-back (x .n) (o s) (now (x .proof)) (x .t) (c .if1 .taken)
 
 draw-words-requires : tie.Need-draw-words-requires
 draw-words-requires c κs = search needs
@@ -40,13 +43,15 @@ outer-checks-requires c κs = search needs
 
 returns-2 : tie.Need-returns-2
 returns-2 c =
-    let x = (c .before .before .before .before .before .before .before .before .before .before .before) .args in
-    rw (c .before .before .before .before .before .before .before .before .if1 .left) (begun-is (o (c .before .before .before .before .before .before
-    .before .before .before .before .before)) (now (x .proof)) (x .t) _ _ _ _ (c .before .before .before .before .play .ensures)
-    (part-is (o (c .before .before .before .before .before .before .before .before .before .before .before)) (c .before .before .before .before
-    .before .before .before .draw-words .result) (c .before .before .before .before .before .before .least .result) _ (c .before .before .before
-    .before .before .before .least .ensures .0) (c .before .before .before .before .before .before .before .draw-words .ensures)) (c
-    .outer-checks .ensures))
+    let f = c in
+    let p = f .before .before .before .before in
+    let l = p .before .before in
+    let d = l .before in
+    let e = d .before in
+    let s = e .before .before .before in
+    let x = s .args in
+    let part = part-is (o s) (d .draw-words .result) (l .least .result) _ (l .least .ensures .0) (d .draw-words .ensures) in
+    rw (e .if1 .left) (begun-is (o s) (now (x .proof)) (x .t) _ _ _ _ (p .play .ensures) part (f .outer-checks .ensures))
 
 pub begin-spec : {M : Type 1} → statement M
 begin-spec =

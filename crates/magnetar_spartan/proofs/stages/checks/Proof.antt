@@ -22,18 +22,22 @@ d s = drawnOf (o s) (s .args .t3)
 
 part : (c : tie.After-least) → take (c .least .result - 0) ((c .before .before .before .before .before .before .before .before .before) .args .t3) ≡
     d (c .before .before .before .before .before .before .before .before .before)
-part c = part-is (o (c .before .before .before .before .before .before .before .before .before)) (c .before .draw-words .result) (c .least .result)
-    ((c .before .before .before .before .before .before .before .before .before) .args .t3) (c .least .ensures .0) (c .before .draw-words .ensures)
+part c =
+    let w = c .before in
+    let s = w .before .before .before .before .before .before .before .before in
+    part-is (o s) (w .draw-words .result) (c .least .result) (s .args .t3) (c .least .ensures .0) (w .draw-words .ensures)
 
 stopped-requires : tie.Need-stopped-requires
 stopped-requires c κs = search needs
 
 returns : tie.Need-returns
 returns c =
-    let x = (c .before .before .before .before .before .before .before .before) .args in
-    stop-first (o (c .before .before .before .before .before .before .before .before)) (now (x .x)) (now (x .proof)) (d (c .before .before .before
-    .before .before .before .before .before)) (x .t) (x .u) (x .f) (now (x .claims)) (now (x .s)) (c .stopped .result)
-    (c .before .if1 .taken) (c .stopped .ensures)
+    let a = c in
+    let i = a .before in
+    let s = i .before .before .before .before .before .before .before in
+    let x = s .args in
+    stop-first (o s) (now (x .x)) (now (x .proof)) (d s) (x .t) (x .u) (x .f) (now (x .claims)) (now (x .s)) (a .stopped .result)
+    (i .if1 .taken) (a .stopped .ensures)
 
 draw-words-requires : tie.Need-draw-words-requires
 draw-words-requires c κs = search needs
@@ -61,15 +65,16 @@ same-length c = search needs
 
 returns-2 : tie.Need-returns-2
 returns-2 c =
-    let x = (c .before .before .before .before .before .before .before .before .before .before .before .before .before .before .before .before .before .before) .args in
-    stop-later (o (c .before .before .before .before .before .before .before .before .before .before .before .before .before .before .before .before
-    .before .before)) (now (x .x)) (now (x .proof)) (d (c .before .before .before .before .before .before .before .before .before .before .before
-    .before .before .before .before .before .before .before)) (x .t) (x .u) (x .f) (now (x .claims)) (now (x .s)) _ (d (c .before .before .before
-    .before .before .before .before .before .before .before .before .before .before .before .before .before .before .before)) (c .before .before
-    .before .before .before .end-checks .result)
-    _ (c .before .before .before .before .before .before .before .before .before .before .before .if1 .left) (part (c .before .before .before .before
-    .before .before .before .before .before)) (c .before .before .before .before .before .end-checks .ensures) (c .stopped2 .result) (c .before
-    .if2 .taken) (c .stopped2 .ensures)
+    let a = c in
+    let j = a .before in
+    let e = j .before .before .before .before in
+    let l = e .before .before .before .before in
+    let i = l .before .before in
+    let s = i .before .before .before .before .before .before .before in
+    let x = s .args in
+    let k = e .end-checks in
+    stop-later (o s) (now (x .x)) (now (x .proof)) (d s) (x .t) (x .u) (x .f) (now (x .claims)) (now (x .s)) _ (d s) (k .result) _ (i .if1 .left)
+    (part l) (k .ensures) (a .stopped2 .result) (j .if2 .taken) (a .stopped2 .ensures)
 
 sub-write-claims : tie.Need-sub-write-claims
 sub-write-claims c = search needs
@@ -91,18 +96,16 @@ same-length-3 c = search needs
 
 returns-3 : tie.Need-returns-3
 returns-3 c =
-    let x = (c .before .before .before .before .before .before .before .before .before .before .before .before .before .before .before .before
-    .before .before .before .before .before .before .before) .args in
-    stop-none (o (c .before .before .before .before .before .before .before .before .before .before .before .before .before .before .before .before
-    .before .before .before .before .before .before .before)) (now (x .x)) (now (x .proof)) (d (c .before .before .before .before .before .before
-    .before .before .before .before .before .before .before .before .before .before .before .before .before .before .before .before .before)) (x
-    .t) (x .u) (x .f) (now (x .claims)) (now (x .s)) _ _ (c .before .before .before .before .before .before .before .before .before .before
-    .end-checks .result)
-    _ (c .before .before .before .before .before .before .before .before .before .before .before .before .before .before .before .before .if1 .left)
-    (part (c .before .before .before .before .before .before .before .before .before .before .before .before .before .before)) (c .before .before
-    .before .before .before .before .before .before .before .before .end-checks .ensures) _ (c .before .before .before .before .before .before
-    .if2 .left) (part (c .before .before .before .before .before .before .before .before .before .before .before .before .before .before)) (c
-    .before .before .write-claims .ensures .1)
+    let w = c .before .before in
+    let j = w .before .before .before .before in
+    let e = j .before .before .before .before in
+    let l = e .before .before .before .before in
+    let i = l .before .before in
+    let s = i .before .before .before .before .before .before .before in
+    let x = s .args in
+    let k = e .end-checks in
+    stop-none (o s) (now (x .x)) (now (x .proof)) (d s) (x .t) (x .u) (x .f) (now (x .claims)) (now (x .s)) _ _ (k .result) _ (i .if1 .left)
+    (part l) (k .ensures) _ (j .if2 .left) (part l) (w .write-claims .ensures .1)
 
 pub checks-spec : {M : Type 1} → statement M
 checks-spec =

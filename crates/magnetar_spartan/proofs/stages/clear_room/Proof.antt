@@ -32,14 +32,26 @@ same-length : tie.Need-same-length
 same-length c = search needs
 
 returns : tie.Need-returns
-returns c = let x = (c .before .before .before .before .before .before .before .before) .args in c .before .before .clear-front .ensures ∙ ap (λ (k :
-    ℕ). clearedTo (2 * x .m + 2 * k) (now (x .s))) (c .before .before .before .before .before .before .larger .ensures)
+returns c =
+    let f = c .before .before in
+    let l = f .before .before .before .before in
+    let s = l .before .before in
+    let x = s .args in
+    f .clear-front .ensures ∙ ap (λ (k : ℕ). clearedTo (2 * x .m + 2 * k) (now (x .s))) (l .larger .ensures)
 
 returns-2 : tie.Need-returns-2
-returns-2 c = let x = (c .before .before .before .before) .args in cleared-none (roomElements (outline (x .m) 0 (x .rb) (x .rf) [])) (now (x .s)) (omega (arith, c .before .before .larger .ensures))
+returns-2 c =
+    let l = c .before .before in
+    let s = l .before .before in
+    let x = s .args in
+    cleared-none (roomElements (outline (x .m) 0 (x .rb) (x .rf) [])) (now (x .s)) (omega (arith, l .larger .ensures))
 
 returns-3 : tie.Need-returns-3
-returns-3 c = let x = (c .before .before .before) .args in cleared-none (roomElements (outline (x .m) 0 (x .rb) (x .rf) [])) (now (x .s)) (omega (arith, c .before .larger .ensures))
+returns-3 c =
+    let l = c .before in
+    let s = l .before .before in
+    let x = s .args in
+    cleared-none (roomElements (outline (x .m) 0 (x .rb) (x .rf) [])) (now (x .s)) (omega (arith, l .larger .ensures))
 
 pub clear-room-spec : {M : Type 1} → statement M
 clear-room-spec =

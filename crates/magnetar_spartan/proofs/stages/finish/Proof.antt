@@ -13,8 +13,10 @@ o s = let x = s .args in outline (x .m) (x .q) (x .rb) (x .rf) (now (x .lens))
 
 returns : tie.Need-returns
 returns c =
-    let x = (c .before .before .before .before .before .before) .args in
-    finish-back (x .n) (o (c .before .before .before .before .before .before)) (now (x .x)) (now (x .proof)) (x .t) (x .g) (now (x .claims)) (now (x .s)) (c .if1 .taken)
+    let i = c in
+    let s = i .before .before .before .before .before .before in
+    let x = s .args in
+    finish-back (x .n) (o s) (now (x .x)) (now (x .proof)) (x .t) (x .g) (now (x .claims)) (now (x .s)) (i .if1 .taken)
 
 checks-requires : tie.Need-checks-requires
 checks-requires c κs = search needs
@@ -30,11 +32,13 @@ same-length-2 c = search needs
 
 returns-2 : tie.Need-returns-2
 returns-2 c =
-    let x = (c .before .before .before .before .before .before .before .before .before .before .before .before .before .before .before .before .before .before .before .before) .args in
-    rw (c .before .before .before .before .before .before .before .before .before .before .before .before .before .before .if1 .left) (finish-is (o
-    (c .before .before .before .before .before .before .before .before .before .before .before .before .before .before .before .before .before
-    .before .before .before)) (now (x .x)) (now (x .proof)) (x .t) (x .g) (now (x .claims)) (now (x .s)) _ _ _ _ (c .before .before .before
-    .before .before .before .before .before .checks .ensures) (c .before .before .clear-room .ensures))
+    let r = c .before .before in
+    let a = r .before .before .before .before .before .before in
+    let i = a .before .before .before .before .before .before in
+    let s = i .before .before .before .before .before .before in
+    let x = s .args in
+    rw (i .if1 .left) (finish-is (o s) (now (x .x)) (now (x .proof)) (x .t) (x .g) (now (x .claims)) (now (x .s)) _ _ _ _ (a .checks .ensures)
+    (r .clear-room .ensures))
 
 pub finish-spec : {M : Type 1} → statement M
 finish-spec =

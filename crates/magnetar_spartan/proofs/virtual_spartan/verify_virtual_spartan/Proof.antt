@@ -8,9 +8,7 @@ use Rattle.magnetar_relation.specs.RuleTests.{ruleTests}
 use Rattle.magnetar_relation.proofs.RuleLaws.{lengths-free}
 use Rattle.magnetar_spartan.proofs.VerifyEnds.{verify-ends}
 use borrow.Author.Needs.{needs}
-use Rattle.magnetar_spartan.proofs.virtual_spartan.verify_virtual_spartan.Statement.{
-  statement,
-}
+use Rattle.magnetar_spartan.proofs.virtual_spartan.verify_virtual_spartan.Statement.{statement}
 use Rattle.magnetar_spartan.proofs.virtual_spartan.verify_virtual_spartan.Tie as tie
 
 abbrev R : tie.Start → Rules
@@ -19,7 +17,8 @@ R s = let x = s .args in rules (x .m) (x .q) (now (x .lens)) (x .sh) (now (x .ro
 -- 4 to 7
 number : (c : tie.After-refused) → c .refused .result ≡ noted 0 (ruleTests (R (c .before .before .before .before .before .before .before .before .before .before)))
 number c =
-    let x = (c .before .before .before .before .before .before .before .before .before .before) .args in
+    let s = c .before .before .before .before .before .before .before .before .before .before in
+    let x = s .args in
     c .refused .ensures ∙ ap (noted 0) (lengths-free (x .m) (x .q) (now (x .lens)) (x .sh) (now (x .row)) (now (x .col)) (now (x .lo)) (now (x .hi)))
 
 refused-requires : tie.Need-refused-requires
@@ -51,24 +50,18 @@ same-length-2 c = search needs
 
 returns : tie.Need-returns
 returns c =
-    let x = (c .before .before .before .before .before .before .before .before .before .before .before .before .before .before .before .before
-    .before .before .before .before .before .before .before .before .before) .args in
-    verify-ends (R (c .before .before .before .before .before .before .before .before .before .before .before .before .before .before .before .before
-    .before .before .before .before .before .before .before .before .before)) (now (x .x)) (now (x .proof)) (x .t) (now (x .claims)) (now (x
-    .scratch)) (c .before .before .before .before .before .before .before .before .before .before .before .before .before .before .before
-    .refused .result) (c .before .before .before .before .before .before .before .before .before .before .before .before .before .before .verify
-    .result)
-    (number (c .before .before .before .before .before .before .before .before .before .before .before .before .before .before .before)) (c .before
-    .before .before .before .before .before .before .before .before .before .before .before .before .before .verify .ensures) (c .before .before
-    .before .before .finish .result) _ _ (c .before .before .before .before .before .before .before .before .before .before .before .before
-    .before .begin .result) _ (c .before .before .before .before .before .before .before .before .before .before .before .before .before .begin
-    .ensures) (rw (
-      ← c .before .before .before .before .before .before .before .before .before .before .before .code-of .ensures,
-      ← c .before
-          .before .before .before .before .before .before .before .before .before .before .before .draws-of .ensures,
-    ) (c .before .before .before
-    .before .before .before .before .before .before .combine-unless .ensures))
-    (c .before .before .before .before .finish .ensures)
+    let f = c .before .before .before .before in
+    let t = f .before .before .before .before .before in
+    let k = t .before .before in
+    let d = k .before in
+    let g = d .before in
+    let n = g .before in
+    let y = n .before in
+    let s = y .before .before .before .before .before .before .before .before .before .before in
+    let x = s .args in
+    verify-ends (R s) (now (x .x)) (now (x .proof)) (x .t) (now (x .claims)) (now (x .scratch)) (y .refused .result) (n .verify .result)
+    (number y) (n .verify .ensures) (f .finish .result) _ _ (g .begin .result) _ (g .begin .ensures)
+    (rw (← k .code-of .ensures, ← d .draws-of .ensures) (t .combine-unless .ensures)) (f .finish .ensures)
 
 pub verify-virtual-spartan-spec : {M : Type 1} → statement M
 verify-virtual-spartan-spec =
