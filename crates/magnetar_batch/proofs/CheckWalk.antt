@@ -14,10 +14,10 @@ use Rattle.magnetar_relation.specs.Steps.{loginZ, clearedTo, behind}
 use Rattle.magnetar_relation.specs.Told.{walked, walkedWithin}
 use Rattle.magnetar_batch.specs.declared.check.Failing.{Failing}
 use Rattle.magnetar_batch.specs.CheckSteps.{shareAdded, productBehind, threeIn, nothing, Judged, from, loginDone, systemDone, bothDone, bothWords}
-use Rattle.magnetar_records.specs.declared.ranges.Ends.{Ends}
-use Rattle.magnetar_records.specs.Ranges.{endsOf, partOf, matrixIn, systemIn}
+use Rattle.magnetar_batch.specs.declared.ranges.Ends.{Ends}
+use Rattle.magnetar_batch.specs.Ranges.{endsOf, partOf, matrixIn, systemIn}
 use Rattle.magnetar_records.proofs.WalkLaws.{within-part}
-use Rattle.magnetar_records.proofs.RangeLaws.{bin-a, bin-b, bin-c, fld-a, fld-b, fld-c}
+use Rattle.magnetar_batch.proofs.RangeLaws.{bin-a, bin-b, bin-c, fld-a, fld-b, fld-c}
 
 -- ---- a product
 pub product-ends : (m n : ℕ) (z : List ℕ) (a b : ℕ) (es : List Entry) (s s₁ s₂ : List ℕ) → s₁ ≡ behind m (clearedTo n) s

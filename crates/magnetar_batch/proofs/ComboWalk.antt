@@ -12,10 +12,10 @@ use Rattle.magnetar_relation.specs.Rules.{relationOf, rulesOver}
 use Rattle.magnetar_relation.specs.Steps.{clearedTo, columnAdded}
 use Rattle.magnetar_relation.specs.Told.{walked, walkedWithin}
 use Rattle.magnetar_batch.specs.TableSteps.{eqBehind, pointIn, clearedBehind, matrixAdded, systemAdded, tableMade}
-use Rattle.magnetar_records.specs.declared.ranges.Ends.{Ends}
-use Rattle.magnetar_records.specs.Ranges.{endsOf, partOf, matrixIn}
+use Rattle.magnetar_batch.specs.declared.ranges.Ends.{Ends}
+use Rattle.magnetar_batch.specs.Ranges.{endsOf, partOf, matrixIn}
 use Rattle.magnetar_records.proofs.WalkLaws.{within-part}
-use Rattle.magnetar_records.proofs.RangeLaws.{bin-a, bin-b, bin-c, fld-a, fld-b, fld-c}
+use Rattle.magnetar_batch.proofs.RangeLaws.{bin-a, bin-b, bin-c, fld-a, fld-b, fld-c}
 
 pub matrix-ends : (m n : ℕ) (al : List ℕ) (k : ℕ) (p : List ℕ) (a b : ℕ) (es : List Entry) (s s₁ s₂ : List ℕ)
     → s₁ ≡ eqBehind m (getD (elements al) k 0) (pointIn n p) s → s₂ ≡ walkedWithin (columnAdded m n) a b 0 es s₁

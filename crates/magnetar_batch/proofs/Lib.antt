@@ -13,3 +13,4 @@ pub mod CheckWalk
 pub mod ComboWalk
 pub mod EachMNNNNNNSSI
 pub mod CountANIMQNNNNNNSSE
+pub mod RangeLaws

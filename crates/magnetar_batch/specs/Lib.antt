@@ -4,3 +4,4 @@ pub mod TableSteps
 pub mod Entries
 pub mod Check
 pub mod CheckSteps
+pub mod Ranges

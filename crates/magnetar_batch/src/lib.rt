@@ -4,5 +4,6 @@ pub mod check_records;
 pub mod combo;
 pub mod combo_records;
 pub mod fold;
+mod ranges;
 mod room;
 pub mod table;

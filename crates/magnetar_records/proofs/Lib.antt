@@ -5,7 +5,6 @@ pub mod PackedEnds
 pub mod MaskLaws
 pub mod MaskEnds
 pub mod WalkLaws
-pub mod RangeLaws
 pub mod EachNNbool
 pub mod Eachbool
 pub mod EachNSM

@@ -1,5 +1,4 @@
 pub mod Records
 pub mod Steps
-pub mod Ranges
 pub mod LoginSteps
 pub mod MaskSteps

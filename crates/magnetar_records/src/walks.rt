@@ -20,7 +20,7 @@ use magnetar_relation::rules;
 use magnetar_relation::shapes::Shapes;
 
 // Every record lies inside its matrix.
-pub fn all_inside(es: &[Entry], s: Shapes) -> bool
+fn all_inside(es: &[Entry], s: Shapes) -> bool
     ensures { λ r. ⌜ r ≡ everyFrom (liesAt s) 0 (entriesOfRecords (now (es .entry))) ⌝ }
 {
     let mut acc = true;

@@ -151,7 +151,7 @@ pub fn lies_at(acc: bool, s: Shapes, i: usize, row: usize, col: usize, lo: u64, 
 }
 
 // Each entry, as far as every slice reaches, lies inside its matrix.
-pub fn all_inside(s: Shapes, row: &[usize], col: &[usize], lo: &[u64], hi: &[u64]) -> bool
+fn all_inside(s: Shapes, row: &[usize], col: &[usize], lo: &[u64], hi: &[u64]) -> bool
     ensures { λ r. ⌜ r ≡ everyFrom (liesAt s) 0 (entriesOf (now (row .entry)) (now (col .entry)) (now (lo .entry)) (now (hi .entry))) ⌝ }
 {
     let n = sizes::least(

@@ -49,7 +49,7 @@ use Rattle.magnetar_batch.proofs.RowWalk.{login-ends}
 use Rattle.magnetar_records.specs.Records.{entriesOfRecords}
 use Rattle.magnetar_field.specs.Words.{elements}
 use Rattle.magnetar_relation.specs.Steps.{loginZ}
-use Rattle.magnetar_records.specs.Ranges.{systemIn}
+use Rattle.magnetar_batch.specs.Ranges.{systemIn}
 use Rattle.magnetar_batch.specs.declared.check.Failing.{Failing}
 use Rattle.magnetar_batch.proofs.check.Failing as mFailing
 use Rattle.magnetar_batch.proofs.check.Failing.Laws as lFailing

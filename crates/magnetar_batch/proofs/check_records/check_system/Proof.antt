@@ -29,7 +29,7 @@ use Rattle.magnetar_batch.specs.declared.check.Failing.{Failing}
 use Rattle.magnetar_batch.specs.CheckSteps.{Judged, from, loginDone, systemDone}
 use Rattle.magnetar_batch.proofs.RowWalk.{system-start, system-more}
 use Rattle.magnetar_records.specs.Records.{entriesOfRecords}
-use Rattle.magnetar_records.specs.Ranges.{systemIn}
+use Rattle.magnetar_batch.specs.Ranges.{systemIn}
 
 -- the number of witness columns, the packed words, the public elements, the system, and the state at the start
 abbrev cols : count.Arg → ℕ

@@ -1,9 +1,9 @@
--- `magnetar_records::ranges::ends_of` meets its contract.
+-- `magnetar_batch::ranges::ends_of` meets its contract.
 -- Assumes nothing.
-use Rattle.magnetar_records.proofs.RangeLaws.{ends-made}
+use Rattle.magnetar_batch.proofs.RangeLaws.{ends-made}
 use borrow.Author.Needs.{needs}
-use Rattle.magnetar_records.proofs.ranges.ends_of.Statement.{statement}
-use Rattle.magnetar_records.proofs.ranges.ends_of.Tie as tie
+use Rattle.magnetar_batch.proofs.ranges.ends_of.Statement.{statement}
+use Rattle.magnetar_batch.proofs.ranges.ends_of.Tie as tie
 
 after-requires : tie.Need-after-requires
 after-requires c κs = search needs

@@ -9,8 +9,8 @@ use Rattle.magnetar_matrix.specs.Matrix.{Entry, System}
 use Rattle.magnetar_relation.specs.declared.shapes.Shapes.{Shapes}
 use Rattle.magnetar_relation.specs.Rules.{systemAt, entriesIn}
 use Rattle.magnetar_relation.proofs.RangeLaws.{same-drop, range-is}
-use Rattle.magnetar_records.specs.declared.ranges.Ends.{Ends}
-use Rattle.magnetar_records.specs.Ranges.{endsOf, partOf}
+use Rattle.magnetar_batch.specs.declared.ranges.Ends.{Ends}
+use Rattle.magnetar_batch.specs.Ranges.{endsOf, partOf}
 
 -- ---- the ends, one after the other
 cut-on : (k c n a : ℕ) → a ≡ min k n → min (a + c) n ≡ min (k + c) n

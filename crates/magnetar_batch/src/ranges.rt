@@ -1,11 +1,11 @@
 // Where the entries of each matrix lie among those of all six. Places are cut where the entries end, so that no sum overflows.
 ghost use mathlib.Core.Path.{_≡_};
-ghost use Rattle.magnetar_records.specs.Ranges.{endsOf};
+ghost use Rattle.magnetar_batch.specs.Ranges.{endsOf};
 use magnetar_relation::range;
 use magnetar_relation::shapes::Shapes;
 
 // Where the entries of each matrix end: those of the first start at 0, those of each other one where the one before it ends.
-pub struct Ends {
+pub(crate) struct Ends {
     pub bina: usize,
     pub binb: usize,
     pub binc: usize,
@@ -15,7 +15,7 @@ pub struct Ends {
 }
 
 // The ends among n entries.
-pub fn ends_of(s: Shapes, n: usize) -> Ends
+pub(crate) fn ends_of(s: Shapes, n: usize) -> Ends
     ensures { λ r. ⌜ r ≡ endsOf s n ⌝ }
 {
     let t = s.bin;

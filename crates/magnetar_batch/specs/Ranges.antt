@@ -7,7 +7,7 @@ use lib.ListN.{take, drop}
 use Rattle.magnetar_matrix.specs.Matrix.{Entry, Matrix, System}
 use Rattle.magnetar_relation.specs.declared.shapes.Shapes.{Shapes}
 use Rattle.magnetar_relation.specs.Rules.{entriesIn}
-use Rattle.magnetar_records.specs.declared.ranges.Ends.{Ends}
+use Rattle.magnetar_batch.specs.declared.ranges.Ends.{Ends}
 
 -- where the entries of each matrix end, among n
 unfoldable pub endsOf : Shapes → ℕ → Ends
