@@ -6,6 +6,7 @@ use crate::guard;
 use crate::outer;
 use crate::shared;
 use crate::shared::Both;
+use crate::shared::Places;
 use magnetar_field::gf128::Gf128;
 use magnetar_field::gf128::ONE;
 use magnetar_field::sizes;
@@ -42,25 +43,13 @@ fn first(
     let d = m + n;
     let u = ends::taus(m, n, draws, t);
     ends::begin_tables(m, n, wb, wf, draws, s);
-    shared::shared_rounds(
-        l,
-        b,
-        f,
-        0,
-        m,
-        0,
-        d,
-        wb,
-        wb,
-        ONE,
-        wf,
-        wf,
-        ONE,
-        proof,
-        draws,
-        s,
-        u,
-    )
+    let at = Places {
+        o: 0,
+        q: m,
+        p: 0,
+        d: d,
+    };
+    shared::shared_rounds(l, b, f, at, wb, wb, ONE, wf, wf, ONE, proof, draws, s, u)
 }
 
 // The words of a table of 2^n elements.

@@ -116,18 +116,23 @@ fn end_both(
     }
 }
 
+// Where a shared round stands: the tau of bin and of fld from elements o and q of the draws on, both messages behind p elements of the
+// proof, the challenge behind d of the draws.
+pub(crate) struct Places {
+    pub o: usize,
+    pub q: usize,
+    pub p: usize,
+    pub d: usize,
+}
+
 // Shared round i, with h shared rounds left, this one among them, and b and f row rounds behind them. The tables of bin have nb words
-// and those of fld nf; their tau stand from elements o and q of the draws on. Both messages go behind p elements, the challenge
-// behind d.
+// and those of fld nf.
 fn shared_round(
     i: usize,
     h: usize,
     b: usize,
     f: usize,
-    o: usize,
-    q: usize,
-    p: usize,
-    d: usize,
+    at: Places,
     wb: usize,
     nb: usize,
     kb: Gf128,
@@ -139,19 +144,19 @@ fn shared_round(
     s: &mut [u64],
     t: Transcript,
 ) -> Both
-    requires { ⌜ (length (now s) ≡ 4 * wb + 4 * wf) × (wb ≤ 2097152) × (wf ≤ 2097152) × (nb ≤ wb) × (nf ≤ wf) × (p < 1024) × (2 * p + 16 ≤ length (now proof)) × (2 * d + 2 ≤ length (now draws)) ⌝ }
-    requires { ⌜ Shared h b nb o d × Shared h f nf q d ⌝ }
-    ensures { λ r. ⌜ sharedIn (p + 8) (d + 1) (h - 1) b f o q (value (r .kb)) (value (r .kf)) wb wf (nb / 2) (nf / 2) (r .transcript) (now (proof .exit)) (now (draws .exit)) (now (s .exit)) ≡ sharedStep i (sharedIn p d h b f o q (value kb) (value kf) wb wf nb nf t (now (proof .entry)) (now (draws .entry)) (now (s .entry))) ⌝ }
+    requires { ⌜ (length (now s) ≡ 4 * wb + 4 * wf) × (wb ≤ 2097152) × (wf ≤ 2097152) × (nb ≤ wb) × (nf ≤ wf) × ((at .p) < 1024) × (2 * (at .p) + 16 ≤ length (now proof)) × (2 * (at .d) + 2 ≤ length (now draws)) ⌝ }
+    requires { ⌜ Shared h b nb (at .o) (at .d) × Shared h f nf (at .q) (at .d) ⌝ }
+    ensures { λ r. ⌜ sharedIn ((at .p) + 8) ((at .d) + 1) (h - 1) b f (at .o) (at .q) (value (r .kb)) (value (r .kf)) wb wf (nb / 2) (nf / 2) (r .transcript) (now (proof .exit)) (now (draws .exit)) (now (s .exit)) ≡ sharedStep i (sharedIn (at .p) (at .d) h b f (at .o) (at .q) (value kb) (value kf) wb wf nb nf t (now (proof .entry)) (now (draws .entry)) (now (s .entry))) ⌝ }
 {
     let vb = h + b - 1;
     let vf = h + f - 1;
-    let ub = words::get(draws, o + vb);
-    let uf = words::get(draws, q + vf);
-    send_messages(p, wb, nb, vb, kb, ub, wf, nf, vf, kf, uf, proof, s);
-    let a = 2 * p;
+    let ub = words::get(draws, at.o + vb);
+    let uf = words::get(draws, at.q + vf);
+    send_messages(at.p, wb, nb, vb, kb, ub, wf, nf, vf, kf, uf, proof, s);
+    let a = 2 * at.p;
     let e = a + 16;
     let u = events::shared_round(t, i, &proof[a..e]);
-    end_both(d, wb, nb, vb, kb, ub, wf, nf, vf, kf, uf, draws, s, u)
+    end_both(at.d, wb, nb, vb, kb, ub, wf, nf, vf, kf, uf, draws, s, u)
 }
 
 // All x shared rounds, from tables of nb = 2 2^(x + b) and nf = 2 2^(x + f) words on.
@@ -159,10 +164,7 @@ pub(crate) fn shared_rounds(
     x: usize,
     b: usize,
     f: usize,
-    o: usize,
-    q: usize,
-    p: usize,
-    d: usize,
+    at: Places,
     wb: usize,
     nb: usize,
     kb: Gf128,
@@ -174,9 +176,9 @@ pub(crate) fn shared_rounds(
     s: &mut [u64],
     t: Transcript,
 ) -> Both
-    requires { ⌜ (length (now s) ≡ 4 * wb + 4 * wf) × (wb ≤ 2097152) × (wf ≤ 2097152) × (nb ≤ wb) × (nf ≤ wf) × (x + b < 62) × (x + f < 62) × (p < 512) × (d < 512) × (o + (x + b) ≤ d) × (q + (x + f) ≤ d) × (2 * (p + 8 * x) ≤ length (now proof)) × (2 * (d + x) ≤ length (now draws)) ⌝ }
+    requires { ⌜ (length (now s) ≡ 4 * wb + 4 * wf) × (wb ≤ 2097152) × (wf ≤ 2097152) × (nb ≤ wb) × (nf ≤ wf) × (x + b < 62) × (x + f < 62) × ((at .p) < 512) × ((at .d) < 512) × ((at .o) + (x + b) ≤ (at .d)) × ((at .q) + (x + f) ≤ (at .d)) × (2 * ((at .p) + 8 * x) ≤ length (now proof)) × (2 * ((at .d) + x) ≤ length (now draws)) ⌝ }
     requires { ⌜ (nb ≡ 2 * 2 ^ (x + b)) × (nf ≡ 2 * 2 ^ (x + f)) ⌝ }
-    ensures { λ r. ⌜ sharedIn (p + 8 * x) (d + x) 0 b f o q (value (r .kb)) (value (r .kf)) wb wf (2 * 2 ^ b) (2 * 2 ^ f) (r .transcript) (now (proof .exit)) (now (draws .exit)) (now (s .exit)) ≡ sharedSteps 0 x (sharedIn p d x b f o q (value kb) (value kf) wb wf nb nf t (now (proof .entry)) (now (draws .entry)) (now (s .entry))) ⌝ }
+    ensures { λ r. ⌜ sharedIn ((at .p) + 8 * x) ((at .d) + x) 0 b f (at .o) (at .q) (value (r .kb)) (value (r .kf)) wb wf (2 * 2 ^ b) (2 * 2 ^ f) (r .transcript) (now (proof .exit)) (now (draws .exit)) (now (s .exit)) ≡ sharedSteps 0 x (sharedIn (at .p) (at .d) x b f (at .o) (at .q) (value kb) (value kf) wb wf nb nf t (now (proof .entry)) (now (draws .entry)) (now (s .entry))) ⌝ }
 {
     let mut i = 0;
     let mut m = nb;
@@ -185,26 +187,13 @@ pub(crate) fn shared_rounds(
     let mut z = kf;
     let mut u = t;
     while i < x {
-        let r = shared_round(
-            i,
-            x - i,
-            b,
-            f,
-            o,
-            q,
-            p + 8 * i,
-            d + i,
-            wb,
-            m,
-            y,
-            wf,
-            n,
-            z,
-            proof,
-            draws,
-            s,
-            u,
-        );
+        let here = Places {
+            o: at.o,
+            q: at.q,
+            p: at.p + 8 * i,
+            d: at.d + i,
+        };
+        let r = shared_round(i, x - i, b, f, here, wb, m, y, wf, n, z, proof, draws, s, u);
         u = r.transcript;
         y = r.kb;
         z = r.kf;

@@ -60,16 +60,15 @@ returns c = shared-left (c .before .before .before .before .before .before .befo
     .before .before .before .taus .last .1 .1 .0) (now (c .before .before .before .before .before .before .before .before .before .before .before
     .before .before .before .before .before .before .before .before .before .before .before .args .s)) (c .before .before .before .before .before
     .before .before .before .before .before .before .before .begin-tables .last .1 .1 .1 .1 .1 .0) (c .before .before .before .before .before .before
-    .shared-rounds .last .1 .1 .1 .1 .1 .1 .1 .1 .1 .1 .1 .1 .1 .0) (c .before .before .before .before .before .before .shared-rounds .last .1 .1 .1
-    .1 .1 .1 .1 .1 .1 .1 .1 .1 .1 .1 .0) (c .before .before .before .before .before .before .shared-rounds .last .1 .1 .1 .1 .1 .1 .1 .1 .1 .1 .1 .1
-    .1 .1 .1 .0) refl refl (c .before .before .before .before .before .before .before .before .before .before .before .before .before .before .before
-    .before .before .before .before .before .before .before .pre .blocks) (c .before .before .before .before .before .before .before .before .before
-    .before .before .before .begin-tables .kept .1 .1 .1 .1 .1 .0 ∙ c .before .before .before .before .before .before .before .before .before .before
-    .before .before .before .before .before .before .before .before .before .before .before .before .pre .blocks) (c .before .before .before .before
-    .before .before .before .before .before .before .before .before .before .before .before .before .before .taus .ensures) (c .before .before
-    .before .before .before .before .before .before .before .before .before .before .begin-tables .ensures .0) (c .before .before .before .before
-    .before .before .before .before .before .before .before .before .begin-tables .ensures .1) (c .before .before .before .before .before .before
-    .shared-rounds .ensures)
+    .shared-rounds .last .1 .1 .1 .1 .1 .1 .1 .1 .1 .1 .0) (c .before .before .before .before .before .before .shared-rounds .last .1 .1 .1 .1 .1 .1
+    .1 .1 .1 .1 .1 .0) (c .before .before .before .before .before .before .shared-rounds .last .1 .1 .1 .1 .1 .1 .1 .1 .1 .1 .1 .1 .0) refl refl (c
+    .before .before .before .before .before .before .before .before .before .before .before .before .before .before .before .before .before .before
+    .before .before .before .before .pre .blocks) (c .before .before .before .before .before .before .before .before .before .before .before .before
+    .begin-tables .kept .1 .1 .1 .1 .1 .0 ∙ c .before .before .before .before .before .before .before .before .before .before .before .before .before
+    .before .before .before .before .before .before .before .before .before .pre .blocks) (c .before .before .before .before .before .before .before
+    .before .before .before .before .before .before .before .before .before .before .taus .ensures) (c .before .before .before .before .before
+    .before .before .before .before .before .before .before .begin-tables .ensures .0) (c .before .before .before .before .before .before .before
+    .before .before .before .before .before .begin-tables .ensures .1) (c .before .before .before .before .before .before .shared-rounds .ensures)
 
 pub first-spec : {M : Type 1} → statement M
 first-spec =

@@ -43,10 +43,11 @@ get-requires-2 : tie.Need-get-requires-2
 get-requires-2 c κs = search needs
 
 send-messages-requires : tie.Need-send-messages-requires
-send-messages-requires c κs = let p = c .before .before .before .before .before .before .before .before .before .pre in (
+send-messages-requires c κs = let p = c .before .before .before .before .before .before .before .before .before .before .before .pre in (
   (
     p .0 .0,
-    p .0 .1,
+    p
+        .0 .1,
     p .0 .2,
     p .0 .3,
     p .0 .4,
@@ -57,13 +58,13 @@ send-messages-requires c κs = let p = c .before .before .before .before .before
 )
 
 mul-a : tie.Need-mul-a
-mul-a c = search needs
+mul-a c = omega (arith, c .before .before .before .before .before .before .before .before .before .before .before .before .before .before .before .before .before .pre .0 .5)
 
 add-e : tie.Need-add-e
-add-e c = search needs
+add-e c = omega (arith, c .before .before .before .before .before .before .before .before .before .before .before .before .before .before .before .before .before .pre .0 .5)
 
 mul-shared-round : tie.Need-mul-shared-round
-mul-shared-round c = search needs
+mul-shared-round c = omega (arith, c .before .before .before .before .before .before .before .before .before .before .before .before .before .before .before .before .before .pre .0 .5)
 
 sub-shared-round : tie.Need-sub-shared-round
 sub-shared-round c = search needs
@@ -72,24 +73,34 @@ part-shared-round-start : tie.Need-part-shared-round-start
 part-shared-round-start c = search needs
 
 part-shared-round-end : tie.Need-part-shared-round-end
-part-shared-round-end c = search needs
+part-shared-round-end c = omega (
+  arith,
+  c .before .before .before .before .before .before .before .before .before .before .before .before .before
+      .before .before .before .before .before .pre .0 .6,
+  c .before .before .before .before .before .before .send-messages .kept .1 .1 .1 .1 .1 .1 .1
+      .1 .1 .1 .1 .0,
+)
 
 shared-round-requires : tie.Need-shared-round-requires
 shared-round-requires c κs = search needs
 
 end-both-requires : tie.Need-end-both-requires
 end-both-requires c κs = let p = c .before .before .before .before .before .before .before .before .before .before .before .before .before .before
-    .before .before .before .before .before .pre in (
+    .before .before .before .before .before .before .before .before .pre in (
       (
-        c .before .before .before .before .before .before .before .before .before .send-messages .kept
-            .1 .1 .1 .1 .1 .1 .1 .1 .1 .1 .1 .1 .0 ∙ p .0 .0,
+        c .before .before .before .before .before .before .before .before
+            .before .before .send-messages .kept .1 .1 .1 .1 .1 .1 .1 .1 .1 .1 .1 .1 .0 ∙ p .0 .0,
         p .0 .1,
         p .0 .2,
         p .0 .3,
         p .0 .4,
         p .0 .7,
       ),
-      (high-table (p .1 .0), high-table (p .1 .1)),
+      (
+        high-table
+            (p .1 .0),
+        high-table (p .1 .1),
+      ),
     )
 
 same-length : tie.Need-same-length
@@ -103,29 +114,30 @@ same-length-3 c = search needs
 
 returns : tie.Need-returns
 returns c = let x = c .before .before .before .before .before .before .before .before .before .before .before .before .before .before .before .before
-    .before .before .before .before .before .before .before .before .args in
+    .before .before .before .before .before .before .before .before .before .before .before .args in
     let p = c .before .before .before .before .before .before .before .before .before .before .before .before .before .before .before .before .before
-    .before .before .before .before .before .before .before .pre in
-    let ub = value (c .before .before .before .before .before .before .before .before .before .before .before .before .before .before .before .before .before .before .before .get .result) in
-    let uf = value (c .before .before .before .before .before .before .before .before .before .before .before .before .before .before .before .before .before .get2 .result) in
-    let p₁ = c .before .before .before .before .before .before .before .before .before .before .before .before .before .before .send-messages .last .1 .1 .1 .1 .1 .1 .1 .1 .1 .1 .1 .0 in
-    let s₁ = c .before .before .before .before .before .before .before .before .before .before .before .before .before .before .send-messages .last .1 .1 .1 .1 .1 .1 .1 .1 .1 .1 .1 .1 .0 in
+    .before .before .before .before .before .before .before .before .before .before .pre in
+    let ub = value (c .before .before .before .before .before .before .before .before .before .before .before .before .before .before .before .before
+    .before .before .before .before .before .get .result) in
+    let uf = value (c .before .before .before .before .before .before .before .before .before .before .before .before .before .before .before .before .before .before .get2 .result) in
+    let p₁ = c .before .before .before .before .before .before .before .before .before .before .before .before .before .before .before .send-messages .last .1 .1 .1 .1 .1 .1 .1 .1 .1 .1 .1 .0 in
+    let s₁ = c .before .before .before .before .before .before .before .before .before .before .before .before .before .before .before .send-messages .last .1 .1 .1 .1 .1 .1 .1 .1 .1 .1 .1 .1 .0 in
     let u = c .before .before .before .before .before .before .before .shared-round .result in
-    let g = c .before .before .before .before .before .before .before .before .before .before .before .before .before .before .send-messages .ensures in
+    let g = c .before .before .before .before .before .before .before .before .before .before .before .before .before .before .before .send-messages .ensures in
     let h = c .before .before .before .before .end-both .ensures in
-    let l : x .d ≤ length (elements (now (x .draws))) = rw elements-length (omega (arith, p .0 .7)) in
+    let l : x .at .d ≤ length (elements (now (x .draws))) = rw elements-length (omega (arith, p .0 .7)) in
     let transcript-is = c .before .before .before .before .before .before .before .shared-round .ensures ∙ ap (λ (w : List ℕ). transcript.drawn
-    (transcript.absorbed (x .t) (numbered "vs-out-shared-" (x .i)) (wordBytes w)) (numbered "vs-out-shared-" (x .i))) (part-is p₁ (2 * x .p) 16 ∙
-    g .1 .0) in
+    (transcript.absorbed (x .t) (numbered "vs-out-shared-" (x .i)) (wordBytes w)) (numbered "vs-out-shared-" (x .i))) (part-is p₁ (2 * x .at .p)
+    16 ∙ g .1 .0) in
     rw (h .0)
-    (shared-done (x .i) (x .h) (x .b) (x .f) (x .o) (x .q) (x .p) (x .d) (value (x .kb)) (value (c .before .before .before .before .end-both .result
-    .kb)) (value (x .kf)) (value (c .before .before .before .before .end-both .result .kf)) ub uf (x .wb) (x .nb) (x .wf) (x .nf) (x .t) u (now
-    (x .proof)) p₁ (now (x .draws)) (c .before .before .before .before .end-both .last .1 .1 .1 .1 .1 .1 .1 .1 .1 .1 .1 .0) (now (x .s)) s₁ (c
-    .before .before .before .before .end-both .last .1 .1 .1 .1 .1 .1 .1 .1 .1 .1 .1 .1 .0)
+    (shared-done (x .i) (x .h) (x .b) (x .f) (x .at .o) (x .at .q) (x .at .p) (x .at .d) (value (x .kb)) (value (c .before .before .before .before
+    .end-both .result .kb)) (value (x .kf)) (value (c .before .before .before .before .end-both .result .kf)) ub uf (x .wb) (x .nb) (x .wf) (x
+    .nf) (x .t) u (now (x .proof)) p₁ (now (x .draws)) (c .before .before .before .before .end-both .last .1 .1 .1 .1 .1 .1 .1 .1 .1 .1 .1 .0)
+    (now (x .s)) s₁ (c .before .before .before .before .end-both .last .1 .1 .1 .1 .1 .1 .1 .1 .1 .1 .1 .1 .0)
     (p .1 .0) (p .1 .1) (p .0 .3) (p .0 .4) l (c .before .before .before .before .before .before .before .before .before .before .before .before
-    .before .before .before .before .before .before .before .get .ensures) (c .before .before .before .before .before .before .before .before
-    .before .before .before .before .before .before .before .before .before .get2 .ensures) transcript-is (g .0) (h .1 .1 .1 .0) (h .1 .0) (h .1
-    .1 .0) (g .1 .1 .0) (g .1 .1 .1) (h .1 .1 .1 .1 .0) (h .1 .1 .1 .1 .1))
+    .before .before .before .before .before .before .before .before .before .get .ensures) (c .before .before .before .before .before .before
+    .before .before .before .before .before .before .before .before .before .before .before .before .get2 .ensures) transcript-is (g .0) (h .1 .1
+    .1 .0) (h .1 .0) (h .1 .1 .0) (g .1 .1 .0) (g .1 .1 .1) (h .1 .1 .1 .1 .0) (h .1 .1 .1 .1 .1))
 
 pub shared-round-spec : {M : Type 1} → statement M
 shared-round-spec =

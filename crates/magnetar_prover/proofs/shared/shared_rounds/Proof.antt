@@ -13,12 +13,13 @@ use Rattle.magnetar_prover.proofs.shared.shared_rounds.Statement.{state
 use Rattle.magnetar_prover.proofs.shared.shared_rounds.Tie as tie
 
 abbrev Inv-loop : tie.InvT-loop
-Inv-loop x b f o q p d wb nb wf nf proof₀ draws₀ s₀ i₀ m₀ n₀ y₀ z₀ u₀ proof draws s i m n y z u =
+Inv-loop x b f at wb nb wf nf proof₀ draws₀ s₀ i₀ m₀ n₀ y₀ z₀ u₀ proof draws s i m n y z u =
     (i ≤ x) × (length proof ≡ length proof₀) × (length draws ≡ length draws₀) × (length s ≡ length s₀) × (m ≤ wb) × (n ≤ wf)
-    × Sharing x b f (sharedIn p d x b f o q (value y₀) (value z₀) wb wf m₀ n₀ u₀ proof₀ draws₀ s₀) i m n (sharedIn (p + 8 * i) (d + i) (x - i) b f o q (value y) (value z) wb wf m n u proof draws s)
+    × Sharing x b f (sharedIn (at .p) (at .d) x b f (at .o) (at .q) (value y₀) (value z₀) wb wf m₀ n₀ u₀ proof₀ draws₀ s₀) i m n (sharedIn (at .p + 8
+    * i) (at .d + i) (x - i) b f (at .o) (at .q) (value y) (value z) wb wf m n u proof draws s)
 
 abbrev μ-loop : tie.MeasureT-loop
-μ-loop x b f o q p d wb nb wf nf proof₀ draws₀ s₀ i₀ m₀ n₀ y₀ z₀ u₀ proof draws s i m n y z u = x - i
+μ-loop x b f at wb nb wf nf proof₀ draws₀ s₀ i₀ m₀ n₀ y₀ z₀ u₀ proof draws s i m n y z u = x - i
 
 loop-holds : tie.Need-loop-holds Inv-loop μ-loop
 loop-holds c = let x = c .before .before .before .args in let p = c .before .before .before .pre in (
@@ -29,63 +30,70 @@ loop-holds c = let x = c .before .before .before .args in let p = c .before .bef
   p .0 .3,
   p .0
       .4,
-  sharing-start (x .x) (x .b) (x .f) (x .o) (x .q) (x .p) (x .d) (value (x .kb)) (value (x .kf)) (x .wb) (x .wf) (x .nb) (x .nf) (x .t) (now (x
-      .proof)) (now (x .draws)) (now (x .s)) (p .1 .0) (p .1 .1),
+  sharing-start (x .x) (x .b) (x .f) (x .at .o) (x .at .q) (x .at .p) (x .at .d) (value (x .kb)) (value (x .kf)) (x .wb) (x .wf) (x .nb) (x
+      .nf) (x .t) (now (x .proof)) (now (x .draws)) (now (x .s)) (p .1 .0) (p .1 .1),
 )
+
+mul-t24 : tie.Need-mul-t24 Inv-loop μ-loop
+mul-t24 c = search needs
+
+add-t25 : tie.Need-add-t25 Inv-loop μ-loop
+add-t25 c = let p = c .before .before .before .before .before .before .pre .0 in omega (arith, p .5, p .7, c .before .before .loop .inv .0)
+
+add-t26 : tie.Need-add-t26 Inv-loop μ-loop
+add-t26 c = let p = c .before .before .before .before .before .before .before .pre .0 in omega (arith, p .5, p .8, c .before .before .before .loop .inv .0)
 
 sub-shared-round : tie.Need-sub-shared-round Inv-loop μ-loop
 sub-shared-round c = search needs
 
-mul-shared-round : tie.Need-mul-shared-round Inv-loop μ-loop
-mul-shared-round c = search needs
-
-add-shared-round : tie.Need-add-shared-round Inv-loop μ-loop
-add-shared-round c = search needs
-
-add-shared-round-2 : tie.Need-add-shared-round-2 Inv-loop μ-loop
-add-shared-round-2 c = search needs
-
 shared-round-requires : tie.Need-shared-round-requires Inv-loop μ-loop
-shared-round-requires c κs = let x = c .before .before .before .before .before .before .before .before .args in let p = c .before .before .before
-    .before .before .before .before .before .pre .0 in let l = c .before .before .before .before .loop in (
+shared-round-requires c κs = let x = c .before .before .before .before .before .before .before .before .before .before .args in let p = c .before
+    .before .before .before .before .before .before .before .before .before .pre .0 in let l = c .before .before .before .before .before .before
+    .loop in
+    let h : l .i < x .x = c .before .before .before .before .before .loop-test .taken in (
       (
-        omega arith,
+        omega (arith, p .0, l .inv .3),
         p .1,
         p .2,
         l .inv .4,
-        l
-            .inv .5,
-        omega arith,
-        omega arith,
-        omega arith,
+        l .inv .5,
+        omega (arith, p .5, p .7, l .inv .0),
+        omega (arith, p .11, l .inv .1, h),
+        omega (arith, p .12, l .inv .2, h),
       ),
       (
-        sharing-bin (l .inv .6) (omega arith) (x .o) (x .d) (p .5) (p .9),
+        sharing-bin (l .inv .6) (omega (arith, h)) (x .at .o) (x .at .d) (p .5) (p .9),
         sharing-fld (l .inv .6)
-            (omega arith) (x .q) (x .d) (p .6) (p .10),
+            (omega (arith, h)) (x .at .q) (x .at .d) (p .6) (p .10),
       ),
     )
 
 add-i : tie.Need-add-i Inv-loop μ-loop
-add-i c = search needs
+add-i c = omega (
+  arith,
+  c .before .before .before .before .before .before .before .before .before .before .before .before .before .before .before
+      .before .before .before .before .before .pre .0 .5,
+  c .before .before .before .before .before .before .before .before .before .before .before
+      .before .before .before .before .before .loop .inv .0,
+)
 
 loop-less : tie.Need-loop-less Inv-loop μ-loop
 loop-less c = search needs
 
 loop-again : tie.Need-loop-again Inv-loop μ-loop
-loop-again c = let l = c .before .before .before .before .before .before .before .before .before .before .before .before .before .before .loop in
-    let x = c .before .before .before .before .before .before .before .before .before .before .before .before .before .before .before .before .before .before .args in
+loop-again c = let l = c .before .before .before .before .before .before .before .before .before .before .before .before .before .before .before .before .loop in
+    let x = c .before .before .before .before .before .before .before .before .before .before .before .before .before .before .before .before .before .before .before .before .args in
     let r = c .before .before .before .before .before .before .before .before .before .shared-round in
-    let h : l .i < x .x = c .before .before .before .before .before .before .before .before .before .before .before .before .before .loop-test .taken in (
+    let h : l .i < x .x = c .before .before .before .before .before .before .before .before .before .before .before .before .before .before .before .loop-test .taken in (
       omega (arith, h),
       search needs,
       search needs,
       search needs,
       omega arith,
       omega arith,
-      sharing-next (l .inv .6) h (x .o) (x .q) (x .p) (x .d)
-          (value (r .result .kb)) (value (r .result .kf)) (x .wb) (x .wf) (r .result .transcript) (r .last .1 .1 .1 .1 .1 .1 .1 .1 .1 .1 .1 .1 .1 .1
-          .0) (r .last .1 .1 .1 .1 .1 .1 .1 .1 .1 .1 .1 .1 .1 .1 .1 .0) (r .last .1 .1 .1 .1 .1 .1 .1 .1 .1 .1 .1 .1 .1 .1 .1 .1 .0) (r .ensures),
+      sharing-next (l .inv .6) h (x .at .o) (x .at .q) (x .at
+          .p) (x .at .d) (value (r .result .kb)) (value (r .result .kf)) (x .wb) (x .wf) (r .result .transcript) (r .last .1 .1 .1 .1 .1 .1 .1 .1 .1 .1
+          .1 .0) (r .last .1 .1 .1 .1 .1 .1 .1 .1 .1 .1 .1 .1 .0) (r .last .1 .1 .1 .1 .1 .1 .1 .1 .1 .1 .1 .1 .1 .0) (r .ensures),
     )
 
 same-length : tie.Need-same-length Inv-loop μ-loop
@@ -98,8 +106,9 @@ same-length-3 : tie.Need-same-length-3 Inv-loop μ-loop
 same-length-3 c = search needs
 
 returns : tie.Need-returns Inv-loop μ-loop
-returns c = let x = c .before .before .before .before .before .args in let l = c .before .loop in sharing-end (x .x) (x .b) (x .f) (x .o) (x .q) (l
-    .i) (l .m) (l .n) (x .p) (x .d) (value (l .y)) (value (l .z)) (x .wb) (x .wf) _ (l .u) (l .proof) (l .draws) (l .s) (l .inv .6) (omega arith)
+returns c = let x = c .before .before .before .before .before .args in let l = c .before .loop in sharing-end (x .x) (x .b) (x .f) (x .at .o) (x .at
+    .q) (l .i) (l .m) (l .n) (x .at .p) (x .at .d) (value (l .y)) (value (l .z)) (x .wb) (x .wf) _ (l .u) (l .proof) (l .draws) (l .s) (l .inv .6)
+    (omega arith)
 
 pub shared-rounds-spec : {M : Type 1} → statement M
 shared-rounds-spec =
@@ -108,10 +117,10 @@ shared-rounds-spec =
     Inv-loop
     μ-loop
     loop-holds
+    mul-t24
+    add-t25
+    add-t26
     sub-shared-round
-    mul-shared-round
-    add-shared-round
-    add-shared-round-2
     shared-round-requires
     add-i
     loop-less
