@@ -29,9 +29,10 @@ use Rattle.magnetar_protocol.proofs.RealRuns.{completeness-run}
 use Rattle.magnetar_relation.specs.Rules.{Rules, relationOf}
 use Rattle.magnetar_spartan.specs.Refusals.{rulesTests, counterTests, roomOf, wordTests, claimWords, proofWords, verifierRoom, proverRoom, verifyTests, proveTests}
 use Rattle.magnetar_spartan.specs.Outcome.{batchOf, verifyRefusal, verifyVerdict, verifyOutcome, proveRefusal, proveDraws, proveOutcome}
+use Rattle.magnetar_spartan.specs.Proving.{RunReady}
 use Rattle.magnetar_spartan.specs.Theorems.{AreWords, writtenProof, CompleteCall}
 use Rattle.magnetar_spartan.proofs.SizedRules.{rules-numbered}
-use Rattle.magnetar_spartan.proofs.Ended.{Provable, provable}
+use Rattle.magnetar_spartan.proofs.Ended.{provable}
 use Rattle.magnetar_spartan.proofs.Fine.{noted-none, clear-front, clear-back, clear-join, same-fine}
 use Rattle.magnetar_spartan.proofs.Sound.{front, claims-size, returned-words, returned}
 
@@ -123,7 +124,7 @@ module _ (R : Rules) (ws x : List ℕ) (t : Transcript) (w c s : List ℕ) where
 
   -- the words of the written proof are those that the prover sent, as many as a proof has
   module _ (wx : AreWords x) (hp : proveRefusal R ws x t w c s ≡ 0) where
-    able : Provable R ws x (length w) (length c) (length s) (t .«squeeze_ctr»)
+    able : RunReady R (length ws) (length x) (length w) (length c) (length s) (t .«squeeze_ctr»)
     able = provable R ws x (t .«squeeze_ctr») (length w) (length c) (length s) (unfold proveRefusal in hp)
 
     relation : SizedRelation (relationOf R)

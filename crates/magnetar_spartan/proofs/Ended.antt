@@ -20,6 +20,7 @@ use Rattle.magnetar_relation.specs.Rules.{Rules}
 use Rattle.magnetar_relation.specs.RuleTests.{ruleTests}
 use Rattle.magnetar_spartan.specs.Refusals.{rowsBin, rowsFld, outlineOf, rulesTests, counterTests, roomOf, wordTests, proofWords, claimWords, verifierRoom, proverRoom, verifyTests, proveTests}
 use Rattle.magnetar_spartan.specs.Ready.{Ready}
+use Rattle.magnetar_spartan.specs.Proving.{RunReady}
 use Rattle.magnetar_spartan.specs.Outcome.{verified, verifyRefusal, verifyOutcome}
 use Rattle.magnetar_spartan.proofs.Fine.{clear-front, clear-back}
 use Rattle.magnetar_spartan.proofs.SizedRules.{rules-numbered, ready}
@@ -74,18 +75,8 @@ module _ (R : Rules) (x w : List ℕ) (t : Transcript) (c s : List ℕ) where
   unfolding verifyOutcome
   verify-refused z e h = rw (← e, ne-eqb z 0 h)
 
--- ---- the prover
--- with packed words ws and public words x, so many words of proof, claims and scratch, and the counter n
-pub record Provable (R : Rules) (ws x : List ℕ) (w c s n : ℕ) : Type 0 where
-  pub ready : Ready R
-  pub packed : length ws ≡ R .q * loginWords (R .m / 2)
-  pub public : length x ≡ R .m - 2
-  pub proof : proofWords R ≤ w
-  pub claims : claimWords R ≤ c
-  pub scratch : proverRoom R ≤ s
-  pub counter : n < 2 ^ 32
-
-pub provable : (R : Rules) (ws x : List ℕ) (n w c s : ℕ) → noted 0 (proveTests R ws x n w c s) ≡ 0 → Provable R ws x w c s n
+-- ---- the prover: packed words ws and public words x, so many words of proof, claims and scratch, and the counter n
+pub provable : (R : Rules) (ws x : List ℕ) (n w c s : ℕ) → noted 0 (proveTests R ws x n w c s) ≡ 0 → RunReady R (length ws) (length x) w c s n
 provable R ws x n w c s e =
     let k = noted-clear 0 (proveTests R ws x n w c s) (rules-numbered R _ refl) e .1 in
     let rest : Tests = counterTests n ++ (roomOf (proofWords R) w ++ (roomOf (claimWords R) c ++ roomOf (proverRoom R) s)) in

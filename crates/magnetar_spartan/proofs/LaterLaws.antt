@@ -2,13 +2,12 @@
 -- Assumes nothing.
 use mathlib.Core.Path.{_≡_, refl, sym, ap, ap₂, _∙_, subst}
 use mathlib.Core.List.{List, _++_, reverse, append-assoc}
-use Prim.Native.Nat.{ℕ, _+_, _-_, _*_, _/_, _^_, _≤_, _<_, min}
+use Prim.Native.Nat.{ℕ, _+_, _-_, _*_, _/_, _^_, _≤_, min}
 use native.Mathlib.Omega.{arith}
 use lib.ListN.{length, getD, take, drop, replicate, length-append, length-drop, length-replicate}
 use lib.Seq.{take-at, drop-at, take-all, drop-append-add, drop-drop, length-take-le}
 use borrow.Author.Tests.{lt-ltb}
 use borrow.Rule.Slice.PartMut.{putMid}
-use Rattle.magnetar_field.specs.Refusal.{unlessRefused}
 use Rattle.magnetar_field.specs.Sizes.{log₂}
 use Rattle.magnetar_field.specs.Tabulate.{tabulate}
 use Rattle.magnetar_field.specs.Words.{elements, words, overlaid}
@@ -29,7 +28,6 @@ use Rattle.magnetar_protocol.specs.Shape.{logCols, proofElements}
 use Rattle.magnetar_protocol.specs.Draws.{drawCount}
 use Rattle.magnetar_protocol.specs.Schedule.{outline}
 use Rattle.magnetar_protocol.specs.Rooms.{proverScratch}
-use Rattle.magnetar_protocol.specs.RunSizes.{SizedRelation}
 use Rattle.magnetar_protocol.specs.Stepwise.{Steps, begin, innerRun, segmentValue, lowDraws, ended, innerAll}
 use Rattle.magnetar_protocol.proofs.Stepwise.{goes-inner, inner-drawn-length, inner-sent-length}
 use Rattle.magnetar_protocol.proofs.Within.{prover-within}
@@ -39,10 +37,9 @@ use Rattle.magnetar_verifier.specs.Outer.{runTests, segmentTests, drawTests, pr
 use Rattle.magnetar_verifier.specs.Claims.{claimsRefusal, claimsOut, claimCount}
 use Rattle.magnetar_verifier.proofs.Pieces.{part-get}
 use Rattle.magnetar_verifier.proofs.ClaimLaws.{reverse-get, reverse-size}
-use Rattle.magnetar_relation.specs.Rules.{Rules, relationOf}
-use Rattle.magnetar_spartan.specs.Refusals.{outlineOf, rowsBin, rowsFld, proofWords, claimWords, proverRoom}
-use Rattle.magnetar_spartan.specs.Ready.{Ready, FoldReady}
-use Rattle.magnetar_spartan.specs.Proving.{RunReady, FoldLeft, loginAt, saidBefore, drawnBefore, saidAll, drawnAll, InnerDone, EndLeft, laterPlayed}
+use Rattle.magnetar_relation.specs.Rules.{Rules}
+use Rattle.magnetar_spartan.specs.Refusals.{outlineOf, rowsBin, rowsFld, proofWords, proverRoom}
+use Rattle.magnetar_spartan.specs.Proving.{RunReady, FoldReady, FoldLeft, loginAt, saidBefore, drawnBefore, saidAll, drawnAll, InnerDone, EndLeft, laterPlayed}
 use Rattle.magnetar_spartan.proofs.Fine.{noted-none, size-fine, same-fine, most-fine, true-fine}
 use Rattle.magnetar_spartan.proofs.SizedRules.{sizes-fine, layout-fine}
 use Rattle.magnetar_spartan.proofs.Ended.{draws-small}

@@ -19,7 +19,7 @@ use Rattle.magnetar_matrix.specs.Matrix.{Entry, Matrix, System, times, timesAt}
 use Rattle.magnetar_matrix.specs.Sum.{blocks}
 use Rattle.magnetar_matrix.specs.Packed.{packedTable}
 use Rattle.magnetar_matrix.proofs.TableLaws.{elements-words}
-use Rattle.magnetar_r1cs.specs.Entries.{rangeMatrix, rangeOut}
+use Rattle.magnetar_r1cs.specs.Entries.{rangeOut}
 use Rattle.magnetar_r1cs.proofs.Ranges.{range-left}
 use Rattle.magnetar_batch.proofs.Rooms.{back-part, back-put}
 use Rattle.magnetar_protocol.specs.RunSizes.{SizedSystem}

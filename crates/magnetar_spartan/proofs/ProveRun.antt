@@ -3,19 +3,18 @@
 use mathlib.Core.Path.{_≡_, refl, sym, ap, ap₂, _∙_, subst}
 use mathlib.Core.Bool.{Bool, true, false, cond}
 use mathlib.Core.List.{List, [], _∷_, _++_, reverse, append-assoc}
-use Prim.Native.Nat.{ℕ, suc, _+_, _-_, _*_, _/_, _^_, _≤_, _<_, max}
+use Prim.Native.Nat.{ℕ, suc, _+_, _-_, _*_, _/_, _^_, _≤_, max}
 use native.Mathlib.Nat.{mul-add}
 use native.Mathlib.Omega.{arith}
 use lib.Dec.{eqb}
 use lib.ListN.{length, take, drop, replicate, length-append, length-drop, length-replicate, replicate-append-replicate}
 use lib.Pow.{split}
-use lib.Seq.{take-at, drop-at, take-append-le, drop-append-le, length-take-le}
+use lib.Seq.{take-at, drop-at, take-append-le, drop-append-le}
 use borrow.Author.Tests.{lt-ltb, eq-eqb, ne-eqb, eqb-true, eqb-false}
 use Rattle.magnetar_field.specs.Sizes.{log₂}
 use Rattle.magnetar_field.specs.Words.{elements, words, overlaid}
 use Rattle.magnetar_field.proofs.Elements.{words-length, words-append, elements-length}
 use Rattle.magnetar_hash.specs.declared.transcript.Transcript.{Transcript}
-use Rattle.magnetar_hash.specs.declared.transcript.TranscriptAnswer.{TranscriptAnswer}
 use Rattle.magnetar_hash.specs.Transcript.{absorbed, drawn}
 use Rattle.magnetar_layout.specs.Every.{every}
 use Rattle.magnetar_layout.specs.Tests.{noted, roomTest}
@@ -32,7 +31,7 @@ use Rattle.magnetar_protocol.specs.Prover.{productTable, proverWords, proverCla
 use Rattle.magnetar_protocol.specs.Stepwise.{Steps, Tables, begin, tauSteps, outerAll, drawTimes, sendEach, outerSteps, fldRows, binRows, outerBegin, terminalsLeft, innerAll, innerRun, segmentValue, lowDraws, ended}
 use Rattle.magnetar_protocol.specs.RealRun.{productTables, outerProving, proving, proverDraws, proverTranscript}
 use Rattle.magnetar_protocol.proofs.Blocks.{claims-outlined}
-use Rattle.magnetar_protocol.proofs.Splits.{combined-split, logins-split}
+use Rattle.magnetar_protocol.proofs.Splits.{combined-split}
 use Rattle.magnetar_protocol.proofs.StepLaws.{behind}
 use Rattle.magnetar_protocol.proofs.Stepwise.{proving-after, outer-proving-sent, outer-proving-count}
 use Rattle.magnetar_protocol.proofs.ProverRun.{proving-words, proving-claims}
@@ -327,26 +326,24 @@ module _ (R : Rules) (ws x w c s : List ℕ) (t : Transcript) where
       → provedInPlace 0 u′ w′ c′ s′ ≡ proveOutcome R ws x t w c s
   unfolding proveRefusal
   run-through none s₁ s₂ s₃ u u′ d v w′ c′ s′ products done table later =
-      let p = provable R ws x (t .«squeeze_ctr») (length w) (length c) (length s) none in
-      let ok : RunReady R (length ws) (length x) (length w) (length c) (length s) (t .«squeeze_ctr») =
-      record { ready = p .ready; packed = p .packed; public = p .public; proof = p .proof; claims = p .claims; scratch = p .scratch; counter = p .counter } in
+      let ok = provable R ws x (t .«squeeze_ctr») (length w) (length c) (length s) none in
       let P = products (record {
-        columns = p .ready .columns;
-        logins = p .ready .logins;
-        bin = p .ready .bin;
-        fld = p .ready .fld;
-        packed = p .packed;
-        public = p .public;
-        room = omega (arith, p .scratch, mul-add (R .q) (rowsBin R) (rowsFld R));
+        columns = ok .ready .columns;
+        logins = ok .ready .logins;
+        bin = ok .ready .bin;
+        fld = ok .ready .fld;
+        packed = ok .packed;
+        public = ok .public;
+        room = omega (arith, ok .scratch, mul-add (R .q) (rowsBin R) (rowsFld R));
       }) in
       let Q : Products R ws x s s₁ = record { long = P .long; rest = P .rest; tables = P .tables } in
-      let enough : 2 * R .m + 2 * max (rowsBin R) (rowsFld R) ≤ length s₂ = omega (arith, s₂-long R ws x w c s t ok s₁ Q u d v s₂ done, p .scratch) in
+      let enough : 2 * R .m + 2 * max (rowsBin R) (rowsFld R) ≤ length s₂ = omega (arith, s₂-long R ws x w c s t ok s₁ Q u d v s₂ done, ok .scratch) in
       let drawn = D R ws x w c s t ok s₁ Q u d v s₂ done in
       let many = D-long R ws x w c s t ok s₁ Q u d v s₂ done in
       let e : s₃ ≡ tableAt (relationOf R) (overlaid drawn (replicate 256 0)) s₂ =
       table ∙ ap (λ (l : List ℕ). tableAt (relationOf R) l s₂) (D-over R ws x w c s t ok s₁ Q u d v s₂ done) in
-      let b : Beyond (proverRoom R) s₂ s₃ = subst (Beyond (proverRoom R) s₂) (sym e) (drawn-beyond R (p .ready) drawn s₂ many enough (proverRoom R) (omega arith)) in
-      run-is R ws x w c s t ok s₁ Q u d v s₂ done s₃ (ap (λ (l : List ℕ). take (R .m) (elements l)) e ∙ drawn-combined R (p .ready) drawn s₂ many enough) (b .long) (b .rest)
+      let b : Beyond (proverRoom R) s₂ s₃ = subst (Beyond (proverRoom R) s₂) (sym e) (drawn-beyond R (ok .ready) drawn s₂ many enough (proverRoom R) (omega arith)) in
+      run-is R ws x w c s t ok s₁ Q u d v s₂ done s₃ (ap (λ (l : List ℕ). take (R .m) (elements l)) e ∙ drawn-combined R (ok .ready) drawn s₂ many enough) (b .long) (b .rest)
       (later .0) none u′ w′ c′ s′ (later .1 (d-long R ws x w c s t ok s₁ Q u d v s₂ done))
 
 module _ (R : Rules) (ws x w c s : List ℕ) (t : Transcript) (y z : ℕ) (hy : y ≡ noted 0 (ruleTests R))

@@ -9,6 +9,7 @@ use Rattle.magnetar_field.specs.Sizes.{log₂}
 use Rattle.magnetar_field.specs.Words.{elements, words}
 use Rattle.magnetar_hash.specs.declared.transcript.Transcript.{Transcript}
 use Rattle.magnetar_layout.specs.Login.{loginWords}
+use Rattle.magnetar_layout.specs.Tests.{Sized}
 use Rattle.magnetar_matrix.specs.Batch.{folded}
 use Rattle.magnetar_matrix.specs.Packed.{unpacked}
 use Rattle.magnetar_relation.specs.declared.shapes.Shape.{Shape}
@@ -55,7 +56,18 @@ OuterDone q b f w s t u d w′ s′ =
     × (d ≡ drawsFor (outerNumber q b f w s t) (outerPlayed q b f s t) (replicate 256 0))
     × (w′ ≡ proofFor (outerNumber q b f w s t) (outerPlayed q b f s t) w) × (s′ ≡ scratchFor (outerNumber q b f w s t) (blockWords q b f) s)
 
--- ---- the batch folded at the point of the n draws from place k of d on, behind the first 4w words: what s′ is
+-- ---- the batch folded at the point of the n draws from place k of d on, behind the first 4w words
+-- what it asks for: so many packed words ws, words d of draws, and words s
+pub record FoldReady (q w n k ws d s : ℕ) : Type 0 where
+  pub columns : Sized 2 65536 (2 * w)
+  pub logins : Sized 1 4096 q
+  pub packed : ws ≡ q * loginWords w
+  pub point : n ≡ log₂ q
+  pub place : k ≤ 4096
+  pub drawn : 2 * k + 2 * n ≤ d
+  pub room : 6 * w + 2 * q ≤ s
+
+-- what s′ is
 abbrev pub FoldLeft : (q w n k : ℕ) → (ws d s s′ : List ℕ) → Type 0
 FoldLeft q w n k ws d s s′ =
     (take (4 * w) s′ ≡ take (4 * w) s) × (elements (take (2 * w) (drop (4 * w) s′)) ≡ folded q w (unpacked q w ws) (reverse (take n (drop k (elements d)))))

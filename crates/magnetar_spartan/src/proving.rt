@@ -18,8 +18,7 @@ ghost use Rattle.magnetar_field.specs.Words.{elements};
 ghost use Rattle.magnetar_protocol.specs.RunSizes.{Elements};
 ghost use Rattle.magnetar_protocol.specs.Schedule.{outline};
 ghost use Rattle.magnetar_prover.specs.Entries.{innerPlayed};
-ghost use Rattle.magnetar_spartan.specs.Ready.{FoldReady};
-ghost use Rattle.magnetar_spartan.specs.Proving.{bare, RunReady, OuterDone, loginAt, FoldLeft, InnerDone, EndLeft, LaterLeft};
+ghost use Rattle.magnetar_spartan.specs.Proving.{bare, RunReady, OuterDone, loginAt, FoldReady, FoldLeft, InnerDone, EndLeft, LaterLeft};
 
 // What the outer rounds hand on: the words of the draws, 0 behind them, and the transcript.
 pub(crate) struct OuterDraws {

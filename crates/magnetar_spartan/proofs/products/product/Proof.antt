@@ -1,8 +1,7 @@
 -- `magnetar_spartan::products::product` meets its contract.
 -- Assumes nothing.
-use mathlib.Core.Path.{_≡_, subst, sym, ap, _∙_}
+use mathlib.Core.Path.{ap, _∙_}
 use mathlib.Core.List.{[]}
-use Prim.Native.Nat.{ℕ}
 use native.Mathlib.Omega.{arith}
 use denote.Ref.{now}
 use Rattle.magnetar_relation.specs.Rules.{Rules, rules}

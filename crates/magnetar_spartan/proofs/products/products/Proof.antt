@@ -28,24 +28,25 @@ product-requires-6 : tie.Need-product-requires-6
 product-requires-6 c κs = search needs
 
 same-length : tie.Need-same-length
-same-length c = c .before .before .product6 .kept .0 ∙ (c .before .before .before .before .before .before .product5 .kept .0 ∙ (c .before .before
-    .before .before .before .before .before .before .before .before .product4 .kept .0 ∙ (c .before .before .before .before .before .before .before
-    .before .before .before .before .before .before .before .product3 .kept .0 ∙ (c .before .before .before .before .before .before .before .before
-    .before .before .before .before .before .before .before .before .before .before .product2 .kept .0 ∙ c .before .before .before .before .before
-    .before .before .before .before .before .before .before .before .before .before .before .before .before .before .before .before .before .product
-    .kept .0))))
+same-length c =
+    let a = c .before .before in
+    let b = a .before .before .before .before in
+    let d = b .before .before .before .before in
+    let e = d .before .before .before .before in
+    let f = e .before .before .before .before in
+    a .product6 .kept .0 ∙ (b .product5 .kept .0 ∙ (d .product4 .kept .0 ∙ (e .product3 .kept .0 ∙ (f .product2 .kept .0 ∙ f .before .before .before .before .product .kept .0))))
 
 returns : tie.Need-returns
 returns c =
-    let x = (c .before .before .before .before .before .before .before .before .before .before .before .before .before .before .before .before
-    .before .before .before .before .before .before .before .before .before .before .before .before .before .before .before) .args in
+    let a = c .before .before in
+    let b = a .before .before .before .before in
+    let d = b .before .before .before .before in
+    let e = d .before .before .before .before in
+    let f = e .before .before .before .before in
+    let g = f .before .before .before .before in
+    let x = (g .before .before .before .before .before .before .before .before .before) .args in
     six-left (rules (x .m) (x .q) [] (x .sh) (now (x .row)) (now (x .col)) (now (x .lo)) (now (x .hi))) (now (x .packed)) (now (x .x)) (now (x .s)) _ _ _ _ _ _
-    (c .before .before .before .before .before .before .before .before .before .before .before .before .before .before .before .before .before
-    .before .before .before .before .before .product .ensures) (c .before .before .before .before .before .before .before .before .before .before
-    .before .before .before .before .before .before .before .before .product2 .ensures) (c .before .before .before .before .before .before
-    .before .before .before .before .before .before .before .before .product3 .ensures) (c .before .before .before .before .before .before
-    .before .before .before .before .product4 .ensures) (c .before .before .before .before .before .before .product5 .ensures) (c .before .before
-    .product6 .ensures)
+    (g .product .ensures) (f .product2 .ensures) (e .product3 .ensures) (d .product4 .ensures) (b .product5 .ensures) (a .product6 .ensures)
 
 pub products-spec : {M : Type 1} → statement M
 products-spec =

@@ -6,15 +6,11 @@ use native.Mathlib.Omega.{arith}
 use denote.Ref.{now}
 use lib.ListN.{length}
 use Rattle.magnetar_field.specs.Sizes.{log₂}
-use Rattle.magnetar_relation.specs.Rules.{Rules}
 use Rattle.magnetar_spartan.specs.Proving.{bare}
 use Rattle.magnetar_spartan.proofs.LaterLaws.{end-left}
 use borrow.Author.Needs.{needs}
 use Rattle.magnetar_spartan.proofs.proving.end.Statement.{statement}
 use Rattle.magnetar_spartan.proofs.proving.end.Tie as tie
-
-abbrev R : tie.Start → Rules
-R s = let x = s .args in bare (x .m) (x .q) (x .rb) (x .rf) (now (x .lens))
 
 sums : (l b f m : ℕ) → 2 * (l + b + (l + f) + l + b + f + 6) ≡ 2 * (l + b + (l + f + (l + (b + (f + (6 + m))))) - m)
 sums l b f m = omega arith
@@ -78,30 +74,22 @@ same-length-3 c = search needs
 
 returns : tie.Need-returns
 returns c =
-    let x = (c .before .before .before .before .before .before .before .before .before .before .before .before .before .before .before .before
-    .before .before .before .before .before .before .before .before .before .before .before .before .before) .args in
+    let g = c .before .before in
+    let u = g .before .before .before .before .before .before .before .before .before .before .before in
+    let n = u .before .before .before .before in
+    let i = n .before .before in
+    let l = i .before .before in
+    let k = l .before in
+    let x = (k .before .before .before .before .before .before .before) .args in
     let w = now (x .proof) in
-    let u = c .before .before .before .before .before .before .before .before .before .before .before .before .before .inner-part in
-    let n = c .before .before .before .before .before .before .before .before .before .before .before .before .before .before .before .before .before .least3 in
-    let words : ℕ → ℕ = λ l. 2 * (8 * log₂ (x .q) + 4 * log₂ (x .rb) + 4 * log₂ (x .rf) + 6 + 3 * log₂ (x .m) + 1 + l) in
-    let said : c .before .before .before .before .before .before .before .before .before .before .before .before .before .before .before .before
-    .before .before .before .least2 .result ≡ min (words (min (length (now (x .lens))) 64)) (length w) =
-    c .before .before .before .before .before .before .before .before .before .before .before .before .before .before .before .before .before .before
-    .before .least2 .ensures .0 ∙ ap (λ (l : ℕ). min l (length w)) (c .before .before .before .before .before .before .before .before .before
-    .before .before .before .before .before .before .before .before .before .before .before .proof-words .ensures ∙ ap words (c .before .before
-    .before .before .before .before .before .before .before .before .before .before .before .before .before .before .before .before .before
-    .before .before .least .ensures .0)) in
-    λ ws ok ld. end-left (R (c .before .before .before .before .before .before .before .before .before .before .before .before .before .before
-    .before .before .before .before .before .before .before .before .before .before .before .before .before .before .before)) ws (now (x .x)) w
-    (x .d) (now (x .claims)) (now (x .s)) (x .t) ok ld
-    _ _ (c .before .before .before .before .before .before .before .before .before .before .before .before .before .before .before .before .before
-    .before .before .least2 .result) (n .result) (c .before .before .before .before .before .before .before .before .before .before .before
-    .before .before .before .before .before .before .before .before .before .before .before .before .said-before .ensures)
-    (c .before .before .before .before .before .before .before .before .before .before .before .before .before .before .before .before .before
-    .before .before .before .before .before .drawn-before .ensures ∙ sums (log₂ (x .q)) (log₂ (x .rb)) (log₂ (x .rf)) (log₂ (x .m)))
-    said (n .ensures .0 ∙ ap (λ (l : ℕ). min l 256) (c .before .before .before .before .before .before .before .before .before .before .before
-    .before .before .before .before .before .before .before .draw-words .ensures))
-    (u .result) _ _ _ (u .ensures) _ (c .before .before .write-claims .ensures .1)
+    let words : ℕ → ℕ = λ j. 2 * (8 * log₂ (x .q) + 4 * log₂ (x .rb) + 4 * log₂ (x .rf) + 6 + 3 * log₂ (x .m) + 1 + j) in
+    let said : i .least2 .result ≡ min (words (min (length (now (x .lens))) 64)) (length w) =
+    i .least2 .ensures .0 ∙ ap (λ (j : ℕ). min j (length w)) (i .before .proof-words .ensures ∙ ap words (l .least .ensures .0)) in
+    λ ws ok ld. end-left (bare (x .m) (x .q) (x .rb) (x .rf) (now (x .lens))) ws (now (x .x)) w (x .d) (now (x .claims)) (now (x .s)) (x .t) ok ld
+    _ _ (i .least2 .result) (n .least3 .result) (k .before .said-before .ensures)
+    (k .drawn-before .ensures ∙ sums (log₂ (x .q)) (log₂ (x .rb)) (log₂ (x .rf)) (log₂ (x .m)))
+    said (n .least3 .ensures .0 ∙ ap (λ (j : ℕ). min j 256) (n .before .draw-words .ensures))
+    (u .inner-part .result) _ _ _ (u .inner-part .ensures) _ (g .write-claims .ensures .1)
 
 pub end-spec : {M : Type 1} → statement M
 end-spec =

@@ -37,18 +37,18 @@ same-length-2 c = search needs
 
 returns : tie.Need-returns
 returns c =
-    let x = c .before .before .before .before .before .before .before .before .before .before .before .before .before .before .args in
-    λ F. fold-ends (x .q) (x .w) (x .n) (x .k) (now (x .packed)) (now (x .draws)) (now (x .s)) (c .before .before .before .before .before .before
-    .before .before .login-point .last .1 .1 .1 .0) _ (c .before .before .before .before .before .before .before .before .login-point .kept .1 .1
-    .1 .0 ∙ c .before .before .before .before .before .before .before .before .before .before .before .before .before .before .pre .2) (c .before
-    .before .before .before .before .before .before .before .login-point .ensures) (c .before .before .fold-packed-in .ensures .1) F
+    let l = c .before .before .before .before .before .before .before .before in
+    let s = l .before .before .before .before .before .before in
+    let x = s .args in
+    let p = l .login-point in
+    λ F. fold-ends (x .q) (x .w) (x .n) (x .k) (now (x .packed)) (now (x .draws)) (now (x .s)) (p .last .1 .1 .1 .0) _ (p .kept .1 .1 .1 .0 ∙ s .pre .2) (p .ensures)
+    (c .before .before .fold-packed-in .ensures .1) F
 
 same-length-3 : tie.Need-same-length-3
 same-length-3 c = search needs
 
 returns-2 : tie.Need-returns-2
-returns-2 c =
-    λ F. absurd (omega (arith, F .room))
+returns-2 c = λ F. absurd (omega (arith, F .room))
 
 pub fold-at-spec : {M : Type 1} → statement M
 fold-at-spec =

@@ -4,15 +4,11 @@ use native.Mathlib.Omega.{arith}
 use denote.Ref.{now}
 use lib.ListN.{length}
 use Rattle.magnetar_field.proofs.Elements.{elements-below}
-use Rattle.magnetar_relation.specs.Rules.{Rules}
 use Rattle.magnetar_spartan.specs.Proving.{bare}
 use Rattle.magnetar_spartan.proofs.LaterLaws.{fold-sizes, end-sizes, later-ends}
 use borrow.Author.Needs.{needs}
 use Rattle.magnetar_spartan.proofs.proving.later.Statement.{statement}
 use Rattle.magnetar_spartan.proofs.proving.later.Tie as tie
-
-abbrev R : tie.Start → Rules
-R s = let x = s .args in bare (x .m) (x .q) (x .rb) (x .rf) (now (x .lens))
 
 fold-behind-requires : tie.Need-fold-behind-requires
 fold-behind-requires c κs = search needs
@@ -49,29 +45,25 @@ same-length-3 c = search needs
 
 returns : tie.Need-returns
 returns c =
-    let x = (c .before .before .before .before .before .before .before .before .before .before .before .before .before .before .before .before
-    .before .before .before .before .before .before .before .before .before .before .before .before) .args in
-    let r = R (c .before .before .before .before .before .before .before .before .before .before .before .before .before .before .before .before
-    .before .before .before .before .before .before .before .before .before .before .before .before) in
-    let o = x .o in
-    let g = c .before .before .before .before .before .before .before .before .before .before .before .before .before .before .before .before .before .before .fold-behind in
-    let n = c .before .before .before .before .least in
+    let z = c .before .before in
+    let e = z .before .before .before .before .before .before .before .before .before .before in
+    let f = e .before .before .before .before .before .before in
+    let x = (f .before .before .before .before .before .before .before .before .before .before) .args in
+    let r = bare (x .m) (x .q) (x .rb) (x .rf) (now (x .lens)) in
+    let d = x .o .«draws» in
+    let t = x .o .«transcript» in
+    let g = f .fold-behind in
+    let n = z .before .before .least in
     let ws = now (x .packed) in
     let p = now (x .x) in
     let w = now (x .proof) in
     let k = now (x .claims) in
     let s = now (x .s) in (
-      elements-below p (λ i. omega (
-        arith,
-        c .before .before .before .before .before .before .before .before .before .before .before .before .before
-            .before .before .before .before .before .before .before .before .before .shared-slice-known3 .given i,
-      )),
+      elements-below p (λ i. omega (arith, f .before .before .before .before .shared-slice-known3 .given i)),
       λ ld ok.
-          let F = g .ensures (fold-sizes r ws p w (o .«draws») k s (o .«transcript») ok ld) in
-          let E = c .before .before .before .before .before .before .before .before .before .before .before .before .end .ensures (length ws)
-          (end-sizes r ws p w (o .«draws») k s (o .«transcript») ok ld _ F (g .kept .0)) ld in
-          later-ends r ws p w (o .«draws») k s (o .«transcript») ok ld _ F (g .kept .0) _ _ _ _ E (n .result) _
-          (n .ensures .0) (c .before .before .before .before .before .prover-room .ensures) _ (c .before .before .clear .ensures),
+          let F = g .ensures (fold-sizes r ws p w d k s t ok ld) in
+          let E = e .end .ensures (length ws) (end-sizes r ws p w d k s t ok ld _ F (g .kept .0)) ld in
+          later-ends r ws p w d k s t ok ld _ F (g .kept .0) _ _ _ _ E (n .result) _ (n .ensures .0) (z .before .before .before .prover-room .ensures) _ (z .clear .ensures),
     )
 
 pub later-spec : {M : Type 1} → statement M

@@ -1,7 +1,6 @@
 -- `magnetar_spartan::proving::outer` meets its contract.
 -- Assumes nothing.
-use mathlib.Core.Path.{refl, ap}
-use denote.Ref.{now}
+use mathlib.Core.Path.{ap}
 use Rattle.magnetar_hash.specs.declared.transcript.TranscriptAnswer.{TranscriptAnswer}
 use borrow.Author.Needs.{needs}
 use Rattle.magnetar_spartan.proofs.proving.outer.Statement.{statement}

@@ -1,6 +1,7 @@
 -- `magnetar_spartan::virtual_spartan::prove_virtual_spartan` meets its contract.
 -- Assumes nothing.
 use mathlib.Core.Path.{_≡_, sym, ap, _∙_}
+use Prim.Native.Nat.{ℕ}
 use denote.Ref.{now}
 use Rattle.magnetar_layout.specs.Tests.{noted}
 use Rattle.magnetar_relation.specs.Rules.{Rules, rules}
@@ -9,13 +10,14 @@ use Rattle.magnetar_relation.proofs.RuleLaws.{lengths-free}
 use Rattle.magnetar_spartan.specs.Outcome.{proveRefusal}
 use Rattle.magnetar_spartan.proofs.ProveRun.{turned-back, run-through, number}
 use borrow.Author.Needs.{needs}
-use Rattle.magnetar_spartan.proofs.virtual_spartan.prove_virtual_spartan.Statement.{
-  statement,
-}
+use Rattle.magnetar_spartan.proofs.virtual_spartan.prove_virtual_spartan.Statement.{statement}
 use Rattle.magnetar_spartan.proofs.virtual_spartan.prove_virtual_spartan.Tie as tie
 
 abbrev R : tie.Start → Rules
 R s = let x = s .args in rules (x .m) (x .q) (now (x .lens)) (x .sh) (now (x .row)) (now (x .col)) (now (x .lo)) (now (x .hi))
+
+abbrev refusal : tie.Start → ℕ
+refusal s = let x = s .args in proveRefusal (R s) (now (x .packed)) (now (x .x)) (x .t) (now (x .out)) (now (x .claims)) (now (x .scratch))
 
 -- 4 to 7
 rules-number : (c : tie.After-refused) → c .refused .result ≡ noted 0 (ruleTests (R (c .before .before .before .before .before .before .before .before .before .before .before)))
@@ -23,14 +25,12 @@ rules-number c =
     let x = (c .before .before .before .before .before .before .before .before .before .before .before) .args in
     c .refused .ensures ∙ ap (noted 0) (lengths-free (x .m) (x .q) (now (x .lens)) (x .sh) (now (x .row)) (now (x .col)) (now (x .lo)) (now (x .hi)))
 
--- of all tests
-all-number : (c : tie.After-prove) → let x = (c .before .before .before .before .before .before .before .before .before .before .before .before)
-    .args in c .prove .result ≡ proveRefusal (R (c .before .before .before .before .before .before .before .before .before .before .before .before))
-    (now (x .packed)) (now (x .x)) (x .t) (now (x .out)) (now (x .claims)) (now (x .scratch))
+-- all of them
+all-number : (c : tie.After-prove) → c .prove .result ≡ refusal (c .before .before .before .before .before .before .before .before .before .before .before .before)
 all-number c =
-    let x = (c .before .before .before .before .before .before .before .before .before .before .before .before) .args in
-    number (R (c .before .before .before .before .before .before .before .before .before .before .before .before)) (now (x .packed)) (now (x .x))
-    (now (x .out)) (now (x .claims)) (now (x .scratch)) (x .t) _ _ (rules-number (c .before)) (c .prove .ensures)
+    let s = c .before .before .before .before .before .before .before .before .before .before .before .before in
+    let x = s .args in
+    number (R s) (now (x .packed)) (now (x .x)) (now (x .out)) (now (x .claims)) (now (x .scratch)) (x .t) _ _ (rules-number (c .before)) (c .prove .ensures)
 
 refused-requires : tie.Need-refused-requires
 refused-requires c κs = search needs
@@ -40,9 +40,10 @@ prove-requires c κs = search needs
 
 returns : tie.Need-returns
 returns c =
-    let x = (c .before .before .before .before .before .before .before .before .before .before .before .before .before) .args in
-    turned-back (R (c .before .before .before .before .before .before .before .before .before .before .before .before .before)) (now (x .packed))
-    (now (x .x)) (now (x .out)) (now (x .claims)) (now (x .scratch)) (x .t) (c .before .prove .result) (all-number (c .before)) (c .if1 .taken)
+    let p = c .before in
+    let s = p .before .before .before .before .before .before .before .before .before .before .before .before in
+    let x = s .args in
+    turned-back (R s) (now (x .packed)) (now (x .x)) (now (x .out)) (now (x .claims)) (now (x .scratch)) (x .t) (p .prove .result) (all-number p) (c .if1 .taken)
 
 products-requires : tie.Need-products-requires
 products-requires c κs = search needs
@@ -67,22 +68,16 @@ same-length-3 c = search needs
 
 returns-2 : tie.Need-returns-2
 returns-2 c =
-    let x = (c .before .before .before .before .before .before .before .before .before .before .before .before .before .before .before .before
-    .before .before .before .before .before .before .before .before .before .before .before .before .before .before .before .before .before
-    .before .before .before .before .before .before) .args in
-    let o = c .before .before .before .before .before .before .before .before .before .before .before .before .before .before .before .before .before .before .before .outer in
-    let u = c .before .before .before .before .before .before .later in
-    run-through (R (c .before .before .before .before .before .before .before .before .before .before .before .before .before .before .before .before
-    .before .before .before .before .before .before .before .before .before .before .before .before .before .before .before .before .before
-    .before .before .before .before .before .before)) (now (x .packed)) (now (x .x)) (now (x .out)) (now (x .claims)) (now (x .scratch)) (x .t)
-    (sym (all-number (c .before .before .before .before .before .before .before .before .before .before .before .before .before .before .before
-    .before .before .before .before .before .before .before .before .before .before .before .before)) ∙ c .before .before .before .before .before
-    .before .before .before .before .before .before .before .before .before .before .before .before .before .before .before .before .before
-    .before .before .before .before .if1 .left) _ _ _
-    (o .result .«transcript») (u .result) (o .result .«draws») _ _ _ _ (c .before .before .before .before .before .before .before .before .before
-    .before .before .before .before .before .before .before .before .before .before .before .before .before .before .before .products .ensures)
-    (o .ensures) (c .before .before .before .before .before .before .before .before .before .before .before .before .combine-at .ensures) (u
-    .ensures)
+    let l = c .before .before .before .before .before .before in
+    let k = l .before .before .before .before .before .before in
+    let o = k .before .before .before .before .before .before .before in
+    let p = o .before .before .before .before .before .before .before .before in
+    let s = p .before .before .before .before .before .before .before .before .before .before .before .before in
+    let x = s .args in
+    let u = o .outer in
+    run-through (R s) (now (x .packed)) (now (x .x)) (now (x .out)) (now (x .claims)) (now (x .scratch)) (x .t) (sym (all-number p) ∙ o .before
+    .before .before .before .before .before .before .if1 .left) _ _ _
+    (u .result .«transcript») (l .later .result) (u .result .«draws») _ _ _ _ (o .before .before .before .before .before .products .ensures) (u .ensures) (k .combine-at .ensures) (l .later .ensures)
 
 pub prove-virtual-spartan-spec : {M : Type 1} → statement M
 prove-virtual-spartan-spec =
