@@ -56,15 +56,21 @@ const CF_COL: [usize; 1] = [34];
 
 const HI: [u64; 55] = [0; 55];
 
-// Copies the numbers of one matrix behind the first n, and says where they end.
+// Writes a number at a place, where there is one, and answers the next.
+fn put(out: &mut [usize], at: usize, n: usize) -> usize {
+    if at < out.len() {
+        out[at] = n;
+        return at + 1;
+    }
+    at
+}
+
+// Copies the numbers of one matrix to place n and behind it, and says where they end.
 fn join(out: &mut [usize], n: usize, part: &[usize]) -> usize {
     let mut at = n;
     let mut i = 0;
     while i < part.len() {
-        if at < out.len() {
-            out[at] = part[i];
-            at += 1;
-        }
+        at = put(out, at, part[i]);
         i += 1;
     }
     at
