@@ -102,5 +102,5 @@ fault counts magnetar_relation/src/rules.rt 'let n = entries_in(b) + entries_in(
 # the entries of fld begin behind as many entries of C of bin as B has
 fault border magnetar_relation/src/range.rt 'after(c, t.c.entries, h)' 'after(c, t.b.entries, h)'
 # over records alone, the second matrix of a system takes the third one's alpha
-fault record-alpha magnetar_records/src/combo.rt 'add_matrix(es, s, m, n, al, j, p, b, c);' 'add_matrix(es, s, m, n, al, k, p, b, c);'
+fault record-alpha magnetar_batch/src/combo_records.rt 'add_matrix(es, s, m, n, al, j, p, b, c);' 'add_matrix(es, s, m, n, al, k, p, b, c);'
 exit $missed

@@ -155,6 +155,7 @@ for g in masks combo check; do thin lent::$g --part '(e1 .1)' --final 'rw (← (
 for g in verify prove; do thin lent::$g --part '(e1 .1)' --final 'rw (← (e1 .0), e3 .0, e3 .1) e2'; done
 
 # ---- what was written, in the layout, takes the place of what stands there, or is compared with it
+(cd "$new" && rt fmt > said)
 find "$new/crates" -name "*.antt" -exec python3 tools/wrap.py {} +
 (cd "$new" && rt fmt > said)
 bad=
