@@ -6,9 +6,9 @@ use lib.ListN.{length, drop, replicate}
 use Rattle.magnetar_field.specs.Refusal.{unlessRefused}
 use Rattle.magnetar_field.specs.Sizes.{log₂}
 use Rattle.magnetar_field.specs.Words.{elements, words}
-use Rattle.magnetar_matrix.specs.Batch.{folded}
+use Rattle.magnetar_matrix.specs.Batch.{folded, publicFolded}
 use Rattle.magnetar_matrix.specs.Packed.{unpacked}
-use Rattle.magnetar_layout.specs.Tests.{Tests, noted, columnTests, sizeTests, packedTests, lengthTest, roomTest}
+use Rattle.magnetar_layout.specs.Tests.{Tests, noted, columnTests, sizeTests, packedTests, publicTests, lengthTest, roomTest}
 use Rattle.magnetar_relation.specs.Rules.{Rules, relationOf}
 use Rattle.magnetar_relation.specs.RuleTests.{ruleTests, given}
 use Rattle.magnetar_batch.specs.Systems.{combinedTable, pointTests, tableRoom, tableRoomTests}
@@ -40,6 +40,17 @@ abbrev pub foldInOut : List ℕ → ℕ → ℕ → List ℕ → List ℕ → Li
 foldInOut ws q w p slice =
     unlessRefused (foldInRefusal ws q w p slice)
     (words (folded q w (unpacked q w ws) (elements p)) ++ (replicate (2 * q) 0 ++ drop (2 * w + 2 * q) slice)) slice
+
+-- ---- `fold_public_in`: the public words x of q logins with w witness columns, the point p, the slice
+-- 1 and 3; 11: the point; 15: the slice
+unfoldable pub publicInRefusal : List ℕ → ℕ → ℕ → List ℕ → List ℕ → ℕ
+publicInRefusal x q w p slice =
+    noted 0 (sizeTests (2 * w) q ++ publicTests (2 * w) x ++ lengthTest (2 * log₂ q) p ++ roomTest (2 * w) slice)
+
+-- the slice at exit: the words of the folded public half, then what stood behind them
+abbrev pub publicInOut : List ℕ → ℕ → ℕ → List ℕ → List ℕ → List ℕ
+publicInOut x q w p slice =
+    unlessRefused (publicInRefusal x q w p slice) (words (publicFolded (elements x) (elements p)) ++ drop (2 * w) slice) slice
 
 -- ---- `build_m_combo`: the rules R as they are lent for one login, the alphas al, the row points p and r, the output out, the scratch
 -- 11: the alphas and the points for n and k rows; 15: the scratch or the output; by how many words there are

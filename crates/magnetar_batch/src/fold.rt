@@ -20,10 +20,11 @@ ghost use Rattle.magnetar_multilinear.specs.Multilinear.{mle};
 ghost use Rattle.magnetar_multilinear.specs.Entries.{answer, answered, mleRefusal, mleScratch};
 ghost use Rattle.magnetar_field.specs.Tabulate.{tabulate};
 ghost use Rattle.magnetar_multilinear.specs.EqTable.{eqTable};
+ghost use Rattle.magnetar_matrix.specs.Batch.{publicHalf};
 ghost use Rattle.magnetar_matrix.specs.Packed.{loginWords};
 ghost use Rattle.magnetar_matrix.specs.Table.{raised, Point};
 ghost use Rattle.magnetar_batch.specs.Fold.{selectAt, wordSelect, rowSelect, foldSum};
-ghost use Rattle.magnetar_batch.specs.Entries.{foldRefusal, foldOut, foldScratch, foldInRefusal, foldInOut};
+ghost use Rattle.magnetar_batch.specs.Entries.{foldRefusal, foldOut, foldScratch, foldInRefusal, foldInOut, publicInRefusal, publicInOut};
 
 // The fold of a vector with an element for each login. 11: an odd number of words or over 20 elements in the point, or the vector is
 // not of its table's length; 15: too little room.
@@ -185,5 +186,36 @@ pub fn fold_packed_in(packed: &[u64], q: usize, w: usize, point: &[u64], s: &mut
         return n;
     }
     fold_one(packed, q, w, point, &mut s[..end]);
+    0
+}
+
+// The public half of a login with the public words x: 1, then x.
+fn put_public(x: &[u64], s: &mut [u64])
+    requires { ⌜ (length (now s) ≡ length (now x) + 2) × (length (now x) % 2 ≡ 0) ⌝ }
+    ensures { λ _. ⌜ now (s .exit) ≡ words (publicHalf (elements (now (x .entry))) 0) ⌝ }
+{
+    words::put(s, 0, ONE);
+    words::copy(x, &mut s[2..]);
+}
+
+// The public halves of all logins folded at the point, in the first 2w words of s: the half that they share. 1: w or q; 3: the public
+// words; 11: the point; 15: s is shorter.
+pub fn fold_public_in(x: &[u64], q: usize, w: usize, point: &[u64], s: &mut [u64]) -> u32
+    ensures answer { λ r. ⌜ r ≡ publicInRefusal (now (x .entry)) q w (now (point .entry)) (now (s .entry)) ⌝ }
+    ensures folded { λ _. ⌜ now (s .exit) ≡ publicInOut (now (x .entry)) q w (now (point .entry)) (now (s .entry)) ⌝ }
+{
+    let n = tests::note(0, 1, !tests::is_half(w));
+    let n = tests::note(n, 1, !tests::is_size(1, 4096, q));
+    if n != 0 {
+        return n;
+    }
+    let end = 2 * w;
+    let n = tests::note(0, 3, x.len() != end - 2);
+    let n = tests::note(n, 11, point.len() != 2 * sizes::log2(q));
+    let n = tests::note(n, 15, s.len() < end);
+    if n != 0 {
+        return n;
+    }
+    put_public(x, &mut s[..end]);
     0
 }

@@ -12,11 +12,11 @@ use borrow.Author.Tests.{ne-eqb}
 use Rattle.magnetar_field.specs.Gf128.{_⊕_, _⊗_}
 use Rattle.magnetar_multilinear.specs.EqTable.{eqAt}
 use Rattle.magnetar_multilinear.specs.Multilinear.{mle}
-use Rattle.magnetar_matrix.specs.Batch.{Relation}
+use Rattle.magnetar_matrix.specs.Batch.{Relation, publicFolded}
 use Rattle.magnetar_layout.specs.Layout.{localVars, suffix}
 use Rattle.magnetar_protocol.specs.Shape.{logLogins}
 use Rattle.magnetar_protocol.specs.Proof.{binMessages, fldMessages, valueZ, segmentValues}
-use Rattle.magnetar_protocol.specs.Draws.{Draws, drawsOf, lowPoint, topElement}
+use Rattle.magnetar_protocol.specs.Draws.{Draws, drawsOf, loginPoint, lowPoint, topElement}
 use Rattle.magnetar_protocol.specs.Schedule.{outline, schedule, afterTaus, afterInner}
 use Rattle.magnetar_protocol.specs.Checks.{Check, combined, binRound, fldRound, firstRefusal, firstStop, checks, sharedChecks, rowChecks, terminalChecks, innerChecks, identityCheck}
 use Rattle.magnetar_protocol.specs.Run.{verdict, claims}
@@ -54,7 +54,7 @@ module _ (r : Relation) (x w : List ℕ) (D : Draws) where
 
   -- the inner rounds and the identity of the segments
   abbrev pub laterChecks : List Check
-  laterChecks = innerChecks r w D (combined r D) ++ identityCheck r w D x
+  laterChecks = innerChecks r w D (combined r D) ++ identityCheck r w D (publicFolded x (loginPoint D))
 
   pub checks-are : checks r x w D ≡ outerChecks ++ laterChecks
   unfolding checks
@@ -70,7 +70,9 @@ module _ (r : Relation) (x w : List ℕ) (D : Draws) where
       (numbered-append (rowChecks r w D) (terminalChecks r w D) (rows-numbered r x w D) (terminals-numbered r x w D))
 
   pub later-numbered : Numbered laterChecks
-  later-numbered = numbered-append (innerChecks r w D (combined r D)) (identityCheck r w D x) (inner-numbered r x w D) (unfold identityCheck in (lit< tt, tt))
+  later-numbered = 
+      numbered-append (innerChecks r w D (combined r D)) (identityCheck r w D (publicFolded x (loginPoint D))) (inner-numbered r x w D)
+      (unfold identityCheck in (lit< tt, tt))
 
   pub refusal-blocks : firstRefusal (checks r x w D) ≡ orElse (firstRefusal outerChecks) (firstRefusal laterChecks)
   refusal-blocks = ap firstRefusal checks-are ∙ first-append outerChecks laterChecks outer-numbered
@@ -134,6 +136,6 @@ module _ (r : Relation) where
     unfolding terminalChecks binMessages fldMessages
     terminals-outlined = refl
 
-    pub identity-outlined : identityCheck r w D x ≡ identityCheck (outlined r) w D x
+    pub identity-outlined : (half : List ℕ) → identityCheck r w D half ≡ identityCheck (outlined r) w D half
     unfolding identityCheck lowPoint topElement valueZ segmentValues
-    identity-outlined = refl
+    identity-outlined half = refl

@@ -21,7 +21,7 @@ use Rattle.magnetar_hash.specs.declared.transcript.Transcript.{Transcript}
 use Rattle.magnetar_sumcheck_verifier.specs.Messages.{Outer, outerStart, outerMessages, innerMessages}
 use Rattle.magnetar_matrix.specs.Sum.{blocks}
 use Rattle.magnetar_matrix.specs.Matrix.{Entry, Matrix, System, sumOver, rowTotal, share, timesAt, times}
-use Rattle.magnetar_matrix.specs.Batch.{Relation, Batch, folded}
+use Rattle.magnetar_matrix.specs.Batch.{Relation, Batch, folded, publicFolded}
 use Rattle.magnetar_layout.specs.Layout.{offset}
 use Rattle.magnetar_protocol.specs.Shape.{logLogins, logCols}
 use Rattle.magnetar_protocol.specs.Draws.{Draws, drawCount, drawsOf, loginPoint, lowPoint}
@@ -181,7 +181,7 @@ module _ (r : Relation) (b : Batch) (x : List ℕ) (t : Transcript) where
         (foldedZ-length r b x D R B parts-cut px ∙ ap (λ (k : ℕ). 2 ^ k) (sym (cols-suc r R) ∙ sym (parts-cut .inner))) z-elements
 
     value-is : (i : ℕ) → i < length (r .lengths)
-        → segmentValue r (combined r D) (folded (r .q) (r .m / 2) b (loginPoint D)) x (lowPoint r D) i ≡ trueValue r b D i
+        → segmentValue r (combined r D) (folded (r .q) (r .m / 2) b (loginPoint D)) (publicFolded x (loginPoint D)) (lowPoint r D) i ≡ trueValue r b D i
     unfolding segmentValue trueValue
     value-is i h =
         segment-is (r .q) (r .m / 2) b (loginPoint D) (take (log₂ n) (lowPoint r D)) (offset (r .lengths) i) n
@@ -205,8 +205,8 @@ module _ (r : Relation) (b : Batch) (x : List ℕ) (t : Transcript) where
             below : {k a c : ℕ} → a ≡ c → k ≤ c → k ≤ a
             below e l = omega arith
 
-    values-are : tabulate (segmentValue r (combined r D) (folded (r .q) (r .m / 2) b (loginPoint D)) x (lowPoint r D)) (length (r .lengths))
-        ≡ trueValues r b D
+    values-are : tabulate (segmentValue r (combined r D) (folded (r .q) (r .m / 2) b (loginPoint D)) (publicFolded x (loginPoint D)) (lowPoint r D))
+        (length (r .lengths)) ≡ trueValues r b D
     unfolding trueValues
     values-are = tabulate-ext _ (trueValue r b D) (length (r .lengths)) value-is
 
@@ -220,9 +220,9 @@ module _ (r : Relation) (b : Batch) (x : List ℕ) (t : Transcript) where
       where
         sent : List ℕ → List ℕ → List ℕ
         sent c p =
-            joined (innerMessages c (folded (r .q) (r .m / 2) b p ++ (1 ∷ x)) (D .inner))
-            ++ (getD (binds (D .inner) (folded (r .q) (r .m / 2) b p ++ (1 ∷ x))) 0 0
-            ∷ tabulate (segmentValue r c (folded (r .q) (r .m / 2) b p) x (take (logCols r - 1) (D .inner))) (length (r .lengths)))
+            joined (innerMessages c (folded (r .q) (r .m / 2) b p ++ publicFolded x p) (D .inner))
+            ++ (getD (binds (D .inner) (folded (r .q) (r .m / 2) b p ++ publicFolded x p)) 0 0
+            ∷ tabulate (segmentValue r c (folded (r .q) (r .m / 2) b p) (publicFolded x p) (take (logCols r - 1) (D .inner))) (length (r .lengths)))
 
     words-same : outerSent r (productTables r b x) t (lastSent r b x t (inner-of r b x t)) ≡ honestWords r b x D
     unfolding honestWords

@@ -254,32 +254,32 @@ behind-none p = λ j. record {
 }
 
 -- the inner rounds, v_z and the segment values behind any other steps
-module _ (r : Relation) (t f x : List ℕ) where
-  run-behind : (p q : Steps) → innerRun r t f x (behind p q) ≡ behindInner p (innerRun r t f x q)
+module _ (r : Relation) (t f half : List ℕ) where
+  run-behind : (p q : Steps) → innerRun r t f half (behind p q) ≡ behindInner p (innerRun r t f half q)
   unfolding innerRun
-  run-behind p q = rounds-behind (logCols r) p (record { steps = q; table = t; z = f ++ (1 ∷ x) })
+  run-behind p q = rounds-behind (logCols r) p (record { steps = q; table = t; z = f ++ half })
 
-  low-behind : (p q s : Steps) → lowDraws r t f x (length (behind p q .played .draws)) (behind p s) ≡ lowDraws r t f x (length (q .played .draws)) s
+  low-behind : (p q s : Steps) → lowDraws r t f half (length (behind p q .played .draws)) (behind p s) ≡ lowDraws r t f half (length (q .played .draws)) s
   unfolding lowDraws
   low-behind p q s =
       ap (λ (n : ℕ). take (logCols r - 1) (drop n (p .played .draws ++ s .played .draws))) (length-append (p .played .draws) (q .played .draws))
       ∙ ap (take (logCols r - 1)) (drop-append-add (p .played .draws) (s .played .draws) (length (q .played .draws)))
 
-  ended-behind : (low : List ℕ) (p : Steps) (q : InnerSteps) → ended r t f x low (behindInner p q) ≡ behind p (ended r t f x low q)
+  ended-behind : (low : List ℕ) (p : Steps) (q : InnerSteps) → ended r t f half low (behindInner p q) ≡ behind p (ended r t f half low q)
   unfolding ended
   ended-behind low p q =
-      ap (sendEach "vs-seg-" 0 (tabulate (segmentValue r t f x low) (length (r .lengths))))
+      ap (sendEach "vs-seg-" 0 (tabulate (segmentValue r t f half low) (length (r .lengths))))
       (send-behind (ascii "vs-vz") (getD (q .z) 0 0 ∷ []) p (q .steps))
-      ∙ each-behind "vs-seg-" 0 (tabulate (segmentValue r t f x low) (length (r .lengths))) p
+      ∙ each-behind "vs-seg-" 0 (tabulate (segmentValue r t f half low) (length (r .lengths))) p
       (send (ascii "vs-vz") (getD (q .z) 0 0 ∷ []) (q .steps))
 
-  pub inner-all-behind : (p q : Steps) → innerAll r t f x (behind p q) ≡ behind p (innerAll r t f x q)
+  pub inner-all-behind : (p q : Steps) → innerAll r t f half (behind p q) ≡ behind p (innerAll r t f half q)
   unfolding innerAll
   inner-all-behind p q =
-      ap (λ (s : InnerSteps). ended r t f x (lowDraws r t f x (length (behind p q .played .draws)) (s .steps)) s) (run-behind p q)
-      ∙ ap (λ (low : List ℕ). ended r t f x low (behindInner p (innerRun r t f x q))) (low-behind p q (innerRun r t f x q .steps))
-      ∙ ended-behind (lowDraws r t f x (length (q .played .draws)) (innerRun r t f x q .steps)) p (innerRun r t f x q)
+      ap (λ (s : InnerSteps). ended r t f half (lowDraws r t f half (length (behind p q .played .draws)) (s .steps)) s) (run-behind p q)
+      ∙ ap (λ (low : List ℕ). ended r t f half low (behindInner p (innerRun r t f half q))) (low-behind p q (innerRun r t f half q .steps))
+      ∙ ended-behind (lowDraws r t f half (length (q .played .draws)) (innerRun r t f half q .steps)) p (innerRun r t f half q)
 
   -- the transcript, the draws and the words of these steps behind p are p's and theirs
-  pub inner-all-after : (p : Steps) → innerAll r t f x p ≡ behind p (innerAll r t f x (begin (p .played .transcript)))
-  inner-all-after p = ap (innerAll r t f x) (behind-none p) ∙ inner-all-behind p (begin (p .played .transcript))
+  pub inner-all-after : (p : Steps) → innerAll r t f half p ≡ behind p (innerAll r t f half (begin (p .played .transcript)))
+  inner-all-after p = ap (innerAll r t f half) (behind-none p) ∙ inner-all-behind p (begin (p .played .transcript))

@@ -13,7 +13,7 @@ use Rattle.magnetar_field.proofs.Tabulation.{tabulate-length}
 use Rattle.magnetar_hash.specs.Bytes.{ascii}
 use Rattle.magnetar_hash.specs.declared.transcript.Transcript.{Transcript}
 use Rattle.magnetar_sumcheck_verifier.specs.Messages.{Outer, outerStart, outerMessages, innerMessages}
-use Rattle.magnetar_matrix.specs.Batch.{Relation, Batch, folded}
+use Rattle.magnetar_matrix.specs.Batch.{Relation, Batch, folded, publicFolded}
 use Rattle.magnetar_protocol.specs.Shape.{logLogins, logBin, logFld, logCols, beforeTerminals, beforeInner, proofElements}
 use Rattle.magnetar_protocol.specs.Draws.{Draws, drawCount, drawsOf, loginPoint}
 use Rattle.magnetar_protocol.specs.Schedule.{Event, absorb, draw, numbered, rounds, singles, schedule}
@@ -326,12 +326,12 @@ module _ (r : Relation) (T : Tables) (t : Transcript) where
       at₆ = past (logLogins r + logBin r + (logLogins r + logFld r) + logLogins r + logBin r + logFld r) 6 (outerDrawn ds) alpha ds at₅ alpha-length
 
 -- ---- the inner rounds, v_z and the segment values, behind steps that sent n elements
-module _ (r : Relation) (c f x : List ℕ) (p : Steps) (n : ℕ) (h : length (p .sent) ≡ n) where
+module _ (r : Relation) (c f half : List ℕ) (p : Steps) (n : ℕ) (h : length (p .sent) ≡ n) where
   abbrev I₀ : InnerSteps
-  I₀ = record { steps = p; table = c; z = f ++ (1 ∷ x) }
+  I₀ = record { steps = p; table = c; z = f ++ half }
 
   abbrev I₁ : InnerSteps
-  I₁ = innerRun r c f x p
+  I₁ = innerRun r c f half p
 
   inners : InnerRounds (rounds (λ _. ascii "vs-inner") n 3 0 (logCols r)) I₀ I₁ (logCols r)
   unfolding innerRun
@@ -349,25 +349,25 @@ module _ (r : Relation) (c f x : List ℕ) (p : Steps) (n : ℕ) (h : length (p 
 
   rounds-sent : length (I₁ .steps .sent) ≡ n + 3 * logCols r
   rounds-sent = ends n (3 * logCols r) (inners .goes) h
-      (joined-length 3 (innerMessages c (f ++ (1 ∷ x)) (inners .rs)) (inner-each c (f ++ (1 ∷ x)) (inners .rs))
-      ∙ ap (λ (k : ℕ). 3 * k) (inner-count c (f ++ (1 ∷ x)) (inners .rs) ∙ inners .count))
+      (joined-length 3 (innerMessages c (f ++ half) (inners .rs)) (inner-each c (f ++ half) (inners .rs))
+      ∙ ap (λ (k : ℕ). 3 * k) (inner-count c (f ++ half) (inners .rs) ∙ inners .count))
 
   abbrev low : List ℕ
-  low = lowDraws r c f x (length (p .played .draws)) (I₁ .steps)
+  low = lowDraws r c f half (length (p .played .draws)) (I₁ .steps)
 
   abbrev P₆ : Steps
   P₆ = send (ascii "vs-vz") (getD (I₁ .z) 0 0 ∷ []) (I₁ .steps)
 
   abbrev segs : List ℕ
-  segs = tabulate (segmentValue r c f x low) (length (r .lengths))
+  segs = tabulate (segmentValue r c f half low) (length (r .lengths))
 
   vz : Goes (absorb (ascii "vs-vz") (n + 3 * logCols r) 1 ∷ []) (I₁ .steps) P₆ [] (getD (I₁ .z) 0 0 ∷ [])
   vz = goes-send (ascii "vs-vz") (getD (I₁ .z) 0 0 ∷ []) (n + 3 * logCols r) 1 (I₁ .steps) rounds-sent refl
 
-  each : Goes (singles (numbered "vs-seg-") (n + 3 * logCols r + 1) 0 (length (r .lengths))) P₆ (innerAll r c f x p) [] segs
+  each : Goes (singles (numbered "vs-seg-") (n + 3 * logCols r + 1) 0 (length (r .lengths))) P₆ (innerAll r c f half p) [] segs
   unfolding innerAll ended
   each = subst (λ (k : ℕ). Goes (singles (numbered "vs-seg-") (n + 3 * logCols r + 1) 0 k) P₆ (sendEach "vs-seg-" 0 segs P₆) [] segs)
-      (tabulate-length (segmentValue r c f x low) (length (r .lengths)))
+      (tabulate-length (segmentValue r c f half low) (length (r .lengths)))
       (goes-each "vs-seg-" (n + 3 * logCols r + 1) 0 segs P₆ (ends (n + 3 * logCols r) 1 vz rounds-sent refl ∙ sym (add-zero (n + 3 * logCols r + 1))))
 
   pub low-is : low ≡ take (logCols r - 1) inner-drawn
@@ -382,24 +382,24 @@ module _ (r : Relation) (c f x : List ℕ) (p : Steps) (n : ℕ) (h : length (p 
   -- what is sent, from the draws
   abbrev pub innerSent : List ℕ
   innerSent =
-      joined (innerMessages c (f ++ (1 ∷ x)) inner-drawn)
-      ++ (getD (binds inner-drawn (f ++ (1 ∷ x))) 0 0 ∷ tabulate (segmentValue r c f x (take (logCols r - 1) inner-drawn)) (length (r .lengths)))
+      joined (innerMessages c (f ++ half) inner-drawn)
+      ++ (getD (binds inner-drawn (f ++ half)) 0 0 ∷ tabulate (segmentValue r c f half (take (logCols r - 1) inner-drawn)) (length (r .lengths)))
 
-  pub goes-inner : Goes innerEvents p (innerAll r c f x p) inner-drawn innerSent
+  pub goes-inner : Goes innerEvents p (innerAll r c f half p) inner-drawn innerSent
   unfolding inner-drawn
   goes-inner =
-      subst₂ (λ (ds v : List ℕ). Goes innerEvents p (innerAll r c f x p) ds v) (append-nil (inners .rs))
-      (λ j. joined (innerMessages c (f ++ (1 ∷ x)) (inners .rs))
-      ++ (getD (inners .z j) 0 0 ∷ tabulate (segmentValue r c f x (low-is j)) (length (r .lengths))))
+      subst₂ (λ (ds v : List ℕ). Goes innerEvents p (innerAll r c f half p) ds v) (append-nil (inners .rs))
+      (λ j. joined (innerMessages c (f ++ half) (inners .rs))
+      ++ (getD (inners .z j) 0 0 ∷ tabulate (segmentValue r c f half (low-is j)) (length (r .lengths))))
       (goes-then (inners .goes) (goes-then vz each))
 
   pub inner-sent-length : length innerSent ≡ 3 * logCols r + 1 + length (r .lengths)
   unfolding inner-drawn
   inner-sent-length =
-      length-append (joined (innerMessages c (f ++ (1 ∷ x)) (inners .rs))) _
-      ∙ ap₂ _+_ (joined-length 3 (innerMessages c (f ++ (1 ∷ x)) (inners .rs)) (inner-each c (f ++ (1 ∷ x)) (inners .rs))
-      ∙ ap (λ (k : ℕ). 3 * k) (inner-count c (f ++ (1 ∷ x)) (inners .rs) ∙ inners .count))
-      (ap suc (tabulate-length (segmentValue r c f x (take (logCols r - 1) (inners .rs))) (length (r .lengths))))
+      length-append (joined (innerMessages c (f ++ half) (inners .rs))) _
+      ∙ ap₂ _+_ (joined-length 3 (innerMessages c (f ++ half) (inners .rs)) (inner-each c (f ++ half) (inners .rs))
+      ∙ ap (λ (k : ℕ). 3 * k) (inner-count c (f ++ half) (inners .rs) ∙ inners .count))
+      (ap suc (tabulate-length (segmentValue r c f half (take (logCols r - 1) (inners .rs))) (length (r .lengths))))
       ∙ more (3 * logCols r) (length (r .lengths))
     where
       more : (a l : ℕ) → a + suc l ≡ a + 1 + l
@@ -416,26 +416,29 @@ module _ (r : Relation) (b : Batch) (x : List ℕ) (t : Transcript) where
   abbrev f : List ℕ
   f = folded (r .q) (r .m / 2) b (loginPoint (outerDraws r b x t))
 
+  abbrev half : List ℕ
+  half = publicFolded x (loginPoint (outerDraws r b x t))
+
   outer-proving-length : length (outerProving r b x t .sent) ≡ beforeInner r
   unfolding outerProving
   outer-proving-length = outer-sent-length r T t
 
   pub inner-of : List ℕ
-  inner-of = inner-drawn r c f x (outerProving r b x t) (beforeInner r) outer-proving-length
+  inner-of = inner-drawn r c f half (outerProving r b x t) (beforeInner r) outer-proving-length
 
   pub inner-of-length : length inner-of ≡ logCols r
   unfolding inner-of
-  inner-of-length = inner-drawn-length r c f x (outerProving r b x t) (beforeInner r) outer-proving-length
+  inner-of-length = inner-drawn-length r c f half (outerProving r b x t) (beforeInner r) outer-proving-length
 
   -- v_z and the segment values, from the draws of the inner rounds
   abbrev pub lastSent : List ℕ → List ℕ
   lastSent ds =
-      joined (innerMessages c (f ++ (1 ∷ x)) ds)
-      ++ (getD (binds ds (f ++ (1 ∷ x))) 0 0 ∷ tabulate (segmentValue r c f x (take (logCols r - 1) ds)) (length (r .lengths)))
+      joined (innerMessages c (f ++ half) ds)
+      ++ (getD (binds ds (f ++ half)) 0 0 ∷ tabulate (segmentValue r c f half (take (logCols r - 1) ds)) (length (r .lengths)))
 
   goes-proving : Goes (schedule r) (begin t) (proving r b x t) (outerDrawn r T t inner-of) (outerSent r T t (lastSent inner-of))
   unfolding schedule proving outerProving inner-of outerAll outerSteps tauSteps
-  goes-proving = goes-outer r T t (goes-inner r c f x (outerProving r b x t) (beforeInner r) outer-proving-length)
+  goes-proving = goes-outer r T t (goes-inner r c f half (outerProving r b x t) (beforeInner r) outer-proving-length)
 
   -- all draws, and all words
   pub proving-draws : proving r b x t .played .draws ≡ outerDrawn r T t inner-of
@@ -453,8 +456,8 @@ module _ (r : Relation) (b : Batch) (x : List ℕ) (t : Transcript) where
   unfolding proving
   proving-length =
       ends (beforeInner r) (3 * logCols r + 1 + length (r .lengths))
-      (goes-inner r c f x (outerProving r b x t) (beforeInner r) outer-proving-length) outer-proving-length
-      (inner-sent-length r c f x (outerProving r b x t) (beforeInner r) outer-proving-length)
+      (goes-inner r c f half (outerProving r b x t) (beforeInner r) outer-proving-length) outer-proving-length
+      (inner-sent-length r c f half (outerProving r b x t) (beforeInner r) outer-proving-length)
       ∙ omega arith
 
   pub proving-count : length (proving r b x t .played .draws) ≡ drawCount r
@@ -464,9 +467,9 @@ module _ (r : Relation) (b : Batch) (x : List ℕ) (t : Transcript) where
   proving-elements = subst (λ (p : Played). Elements (p .draws)) plays-the-same (played-elements (proving r b x t .sent) (schedule r) t)
 
   -- the run up to the alphas comes first
-  pub proving-after : proving r b x t ≡ behind (outerProving r b x t) (innerAll r c f x (begin (outerProving r b x t .played .transcript)))
+  pub proving-after : proving r b x t ≡ behind (outerProving r b x t) (innerAll r c f half (begin (outerProving r b x t .played .transcript)))
   unfolding proving
-  proving-after = inner-all-after r c f x (outerProving r b x t)
+  proving-after = inner-all-after r c f half (outerProving r b x t)
 
   pub outer-proving-sent : length (outerProving r b x t .sent) ≡ beforeInner r
   outer-proving-sent = outer-proving-length

@@ -102,13 +102,12 @@ module _ (r : Relation) (w : List ℕ) (d : Draws) where
       }
       ∷ []
 
-  -- v_z is (1 + top) times the segment sum plus top times the public half (1, x) at the low point
-  unfoldable pub identityCheck : (x : List ℕ) → List Check
-  identityCheck x =
+  -- v_z is (1 + top) times the segment sum plus top times the folded public half at the low point
+  unfoldable pub identityCheck : (half : List ℕ) → List Check
+  identityCheck half =
       record {
         refusal = 29;
-        passes = eqb ((1 ⊕ topElement r d) ⊗ segmentSum (r .lengths) (lowPoint r d) 0 (segmentValues r w) ⊕ topElement r d ⊗ mle (publicFolded x (loginPoint d)) (lowPoint r d))
-            (valueZ r w);
+        passes = eqb ((1 ⊕ topElement r d) ⊗ segmentSum (r .lengths) (lowPoint r d) 0 (segmentValues r w) ⊕ topElement r d ⊗ mle half (lowPoint r d)) (valueZ r w);
         events = afterInner r + 1;
       }
       ∷ []
@@ -117,7 +116,8 @@ module _ (r : Relation) (w : List ℕ) (d : Draws) where
 unfoldable pub checks : Relation → (x w : List ℕ) → Draws → List Check
 checks r x w d =
     sharedChecks r w d 0 (logLogins r)
-    ++ (rowChecks r w d ++ (terminalChecks r w d ++ (innerChecks r w d (combined r d) ++ identityCheck r w d x)))
+    ++ (rowChecks r w d ++ (terminalChecks r w d ++ (innerChecks r w d (combined r d)
+    ++ identityCheck r w d (publicFolded x (loginPoint d)))))
 
 -- the number of the first check that does not pass, or 0
 unfoldable pub firstRefusal : List Check → ℕ

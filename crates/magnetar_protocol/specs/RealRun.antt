@@ -5,7 +5,7 @@ use mathlib.Core.List.{List}
 use Prim.Native.Nat.{ℕ, _/_}
 use lib.ListN.{length, take}
 use Rattle.magnetar_hash.specs.declared.transcript.Transcript.{Transcript}
-use Rattle.magnetar_matrix.specs.Batch.{Relation, Batch, folded}
+use Rattle.magnetar_matrix.specs.Batch.{Relation, Batch, folded, publicFolded}
 use Rattle.magnetar_protocol.specs.Draws.{Draws, drawsOf, loginPoint}
 use Rattle.magnetar_protocol.specs.Schedule.{schedule}
 use Rattle.magnetar_protocol.specs.Play.{playedFrom}
@@ -50,7 +50,8 @@ outerDraws r b x t = drawsOf r (outerProving r b x t .played .draws)
 -- the whole run
 unfoldable pub proving : Relation → Batch → List ℕ → Transcript → Steps
 proving r b x t =
-    innerAll r (combined r (outerDraws r b x t)) (folded (r .q) (r .m / 2) b (loginPoint (outerDraws r b x t))) x (outerProving r b x t)
+    let p = loginPoint (outerDraws r b x t) in
+    innerAll r (combined r (outerDraws r b x t)) (folded (r .q) (r .m / 2) b p) (publicFolded x p) (outerProving r b x t)
 
 -- the elements that it draws; its words are `proverWords` at these draws (proofs/ProverRun)
 unfoldable pub proverDraws : Relation → Batch → List ℕ → Transcript → List ℕ

@@ -165,11 +165,11 @@ module _ (r : Relation) where
     unfoldable pub outerAll : Steps → Steps
     outerAll p = drawTimes 6 (ascii "vs-alpha") (sendEach "vs-terminal-" 0 (terminalsLeft (outerSteps p)) (outerSteps p .steps))
 
-  -- the inner rounds, v_z and the segment values, with the combined table t, the folded witness columns f and the public columns x
-  module _ (t f x : List ℕ) where
+  -- the inner rounds, v_z and the segment values, with the combined table t and the folded z: its witness columns f and its public half h
+  module _ (t f h : List ℕ) where
     -- all inner rounds
     unfoldable pub innerRun : Steps → InnerSteps
-    innerRun p = innerSteps (logCols r) (record { steps = p; table = t; z = f ++ (1 ∷ x) })
+    innerRun p = innerSteps (logCols r) (record { steps = p; table = t; z = f ++ h })
 
     -- the value of segment i at the low point of the draws
     unfoldable pub segmentValue : List ℕ → ℕ → ℕ
