@@ -276,15 +276,7 @@ pub fn inner_rounds(
     let a = 2 * (3 * k + 1 + lens.len());
     let d = 2 * k;
     let e = 6 * m;
-    let u = run(
-        k,
-        w,
-        lens,
-        &mut proof[..a],
-        &mut draws[..d],
-        &mut s[..e],
-        t,
-    );
+    let u = run(k, w, lens, &mut proof[..a], &mut draws[..d], &mut s[..e], t);
     TranscriptAnswer {
         code: 0,
         transcript: u,
