@@ -13,4 +13,5 @@ pub mod CheckWalk
 pub mod ComboWalk
 pub mod EachMNNNNNNSSI
 pub mod CountANIMQNNNNNNSSE
+pub mod PublicHalf
 pub mod RangeLaws
