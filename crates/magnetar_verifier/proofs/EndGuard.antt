@@ -7,7 +7,7 @@ use Prim.Native.Nat.{ℕ, _+_, _-_, _*_, _/_, _≤_, _<_}
 use native.Mathlib.Omega.{arith}
 use lib.Dec.{eqb, ltb}
 use lib.ListN.{length, take, drop, replicate}
-use lib.Seq.{take-take}
+use lib.Seq.{take-take, take-add, drop-at, length-take-le}
 use borrow.Author.Tests.{ne-eqb, eqb-true, ltb-false, not-false}
 use Rattle.magnetar_field.specs.Sizes.{log₂}
 use Rattle.magnetar_field.specs.Words.{elements}
@@ -30,15 +30,9 @@ use Rattle.magnetar_verifier.specs.End.{endRefusal, endFound, endRoom}
 use Rattle.magnetar_verifier.proofs.Pieces.{elements-take}
 use Rattle.magnetar_verifier.proofs.EndPhases.{cols, end-is, end-finds}
 
--- ---- 1, 3 and 4
-pub record FrontGiven (m q rb rf x : ℕ) : Type 0 where
-  pub size : isSize 2 65536 m ≡ true
-  pub public : x ≡ m - 2
-
-pub front-given : (m q rb rf x z : ℕ) → z ≡ noted 0 (frontTests m q rb rf x) → z ≡ 0 → FrontGiven m q rb rf x
-front-given m q rb rf x z e h =
-    let k = noted-clear 0 (frontTests m q rb rf x) refl (sym e ∙ h) .1 in
-    record { size = not-false (isSize 2 65536 m) (k .0); public = eqb-true x (m - 2) (not-false (eqb x (m - 2)) (k .1 .1 .0)) }
+-- ---- 1 and 4
+pub front-size : (m q rb rf z : ℕ) → z ≡ noted 0 (frontTests m q rb rf) → z ≡ 0 → isSize 2 65536 m ≡ true
+front-size m q rb rf z e h = not-false (isSize 2 65536 m) (noted-clear 0 (frontTests m q rb rf) refl (sym e ∙ h) .1 .0)
 
 -- ---- the later tests
 module _ (m s b f c : ℕ) (ns : List ℕ) (proof draws room : ℕ) (size : isSize 2 65536 m ≡ true) where
@@ -92,7 +86,7 @@ module _ (m s b f c : ℕ) (ns : List ℕ) (proof draws room : ℕ) (size : isSi
       }
 
 -- ---- the answer
-module _ (m q rb rf : ℕ) (ns x p d room : List ℕ) where
+module _ (m q rb rf : ℕ) (ns p d room : List ℕ) where
   abbrev later : Tests
   later =
       layoutTests (m / 2) ns ++ (drawTests (outline m q rb rf ns) d ++ (roomTest (4 * m) room ++ proofTests (outline m q rb rf ns) p))
@@ -102,46 +96,45 @@ module _ (m q rb rf : ℕ) (ns x p d room : List ℕ) where
   refusal-is = refl
 
   -- a test in front refuses
-  front-is : (z : ℕ) → z ≡ noted 0 (frontTests m q rb rf (length x)) → (z ≡ 0 → ⊥) → z ≡ endRefusal (outline m q rb rf ns) x p d room
+  front-is : (z : ℕ) → z ≡ noted 0 (frontTests m q rb rf) → (z ≡ 0 → ⊥) → z ≡ endRefusal (outline m q rb rf ns) p d room
   unfolding endRefusal
-  front-is z e h = noted-front (frontTests m q rb rf (length x)) later z e h
+  front-is z e h = noted-front (frontTests m q rb rf) later z e h
 
-  pub end-front : (z : ℕ) → z ≡ noted 0 (frontTests m q rb rf (length x)) → (z ≡ 0 → ⊥)
-      → (record { code = z; events = 0 } ≡ endFound m q rb rf ns x p d room) × (room ≡ endRoom m q rb rf ns x p d room)
+  pub end-front : (z : ℕ) → z ≡ noted 0 (frontTests m q rb rf) → (z ≡ 0 → ⊥)
+      → (record { code = z; events = 0 } ≡ endFound m q rb rf ns p d room) × (room ≡ endRoom m q rb rf ns p d room)
   unfolding endFound endRoom
   end-front z e h = (rw (← front-is z e h, ne-eqb z 0 h), rw (← front-is z e h, ne-eqb z 0 h))
 
-module _ (m q rb rf : ℕ) (ns x p d room : List ℕ) (s b f c z : ℕ) (es : s ≡ log₂ q) (eb : b ≡ log₂ rb) (ef : f ≡ log₂ rf) (ec : c ≡ log₂ m)
+module _ (m q rb rf : ℕ) (ns p d room : List ℕ) (s b f c z : ℕ) (es : s ≡ log₂ q) (eb : b ≡ log₂ rb) (ef : f ≡ log₂ rf) (ec : c ≡ log₂ m)
     (ez : z ≡ endRefusalOf m s b f c ns (length p) (length d) (length room)) (y : ℕ)
-    (ey : y ≡ noted 0 (frontTests m q rb rf (length x))) (hy : y ≡ 0) where
-  same-refusal : z ≡ endRefusal (outline m q rb rf ns) x p d room
+    (ey : y ≡ noted 0 (frontTests m q rb rf)) (hy : y ≡ 0) where
+  same-refusal : z ≡ endRefusal (outline m q rb rf ns) p d room
   unfolding endRefusal
   same-refusal =
-      ez ∙ rw (es, eb, ef, ec) (sym (refusal-is m q rb rf ns x p d room))
-      ∙ sym (noted-rest (frontTests m q rb rf (length x)) (later m q rb rf ns x p d room) y ey hy)
+      ez ∙ rw (es, eb, ef, ec) (sym (refusal-is m q rb rf ns p d room))
+      ∙ sym (noted-rest (frontTests m q rb rf) (later m q rb rf ns p d room) y ey hy)
 
-  front : FrontGiven m q rb rf (length x)
-  front = front-given m q rb rf (length x) y ey hy
+  size : isSize 2 65536 m ≡ true
+  size = front-size m q rb rf y ey hy
 
-  given : z ≡ 0 → EndGiven m s b f c ns (length p) (length d) (length room) (front .size)
-  given h = end-given m s b f c ns (length p) (length d) (length room) (front .size) (sym ez ∙ h)
+  given : z ≡ 0 → EndGiven m s b f c ns (length p) (length d) (length room) size
+  given h = end-given m s b f c ns (length p) (length d) (length room) size (sym ez ∙ h)
 
-  pub end-refused : (z ≡ 0 → ⊥) → (record { code = z; events = 0 } ≡ endFound m q rb rf ns x p d room) × (room ≡ endRoom m q rb rf ns x p d room)
+  pub end-refused : (z ≡ 0 → ⊥) → (record { code = z; events = 0 } ≡ endFound m q rb rf ns p d room) × (room ≡ endRoom m q rb rf ns p d room)
   unfolding endFound endRoom
   end-refused h = (rw (← same-refusal, ne-eqb z 0 h), rw (← same-refusal, ne-eqb z 0 h))
 
-  pub end-fits : z ≡ 0 → s < 64 → b < 64 → f < 64 → EndFits m s b f c ns (length x) (length p) (length d)
+  pub end-fits : z ≡ 0 → s < 64 → b < 64 → f < 64 → EndFits m s b f c ns (length p) (length d)
   end-fits h ls lb lf =
       let g = given h in
       record {
-        columns = sized 2 65536 m (front .size);
+        columns = sized 2 65536 m size;
         logins = ls;
         bin = lb;
         fld = lf;
         cols = ec;
         layout = g .layout;
         few = g .few;
-        public = front .public;
         drawn = g .drawn;
         exact = g .exact;
       }
@@ -151,23 +144,37 @@ module _ (m q rb rf : ℕ) (ns x p d room : List ℕ) (s b f c z : ℕ) (es : s 
 
   -- the room's front, lent, and its elements
   pub end-answered : z ≡ 0 → (r : Found) (out : List ℕ)
-      → r ≡ after nothing (endPhases s b f c ns (elements x) (elements p) (elements d) (take m (elements (take (4 * m) room)))) → out ≡ replicate (4 * m) 0
-      → (r ≡ endFound m q rb rf ns x p d room) × (out ++ drop (4 * m) room ≡ endRoom m q rb rf ns x p d room)
+      → r ≡ after nothing (endPhases s b f c ns (take (m / 2) (drop m (elements (take (4 * m) room)))) (elements p) (elements d)
+      (take m (elements (take (4 * m) room)))) → out ≡ replicate (4 * m) 0
+      → (r ≡ endFound m q rb rf ns p d room) × (out ++ drop (4 * m) room ≡ endRoom m q rb rf ns p d room)
   unfolding endFound endRoom
   end-answered h r out e o =
       let g = given h in
-      let k = cols m c (sized 2 65536 m (front .size)) ec in
-      let n : 4 * m ≡ 2 * (2 * m) = omega arith in
-      let t : take m (elements (take (4 * m) room)) ≡ take m (elements room) =
-      rw (n, elements-take (2 * m) room) (take-take m (2 * m) (elements room) (omega arith)) in
+      let k = cols m c (sized 2 65536 m size) ec in
+      let half = take (m / 2) (drop m (elements room)) in
       let exact : length (elements p) ≡ proofTotal (log₂ q) (log₂ rb) (log₂ rf) (log₂ m) (length ns) =
-      elements-length p ∙ rw (es, eb, ef, ec) at (half (length p) (proofTotal s b f c (length ns)) (g .exact)) in (
-        rw (← same-refusal, h) (e ∙ rw (t, es, eb, ef, ec)
-            (end-finds (log₂ q) (log₂ rb) (log₂ rf) (log₂ m) ns (elements x) (elements p) (elements d) (take m (elements room))
-            ∙ ap firstFound (sym (end-is (outline m q rb rf ns) (elements x) (elements p) (elements d) (take m (elements room)) exact
+      elements-length p ∙ rw (es, eb, ef, ec) at (halved (length p) (proofTotal s b f c (length ns)) (g .exact)) in (
+        rw (← same-refusal, h) (e ∙ rw (table-in, half-in (k .even), es, eb, ef, ec)
+            (end-finds (log₂ q) (log₂ rb) (log₂ rf) (log₂ m) ns half (elements p) (elements d) (take m (elements room))
+            ∙ ap firstFound (sym (end-is (outline m q rb rf ns) half (elements p) (elements d) (take m (elements room)) exact
             (rw ec at (k .pos)))))),
         rw (← same-refusal, h, o),
       )
     where
-      half : (n k : ℕ) → n ≡ 2 * k → n / 2 ≡ k
-      half n k e = omega arith
+      halved : (n k : ℕ) → n ≡ 2 * k → n / 2 ≡ k
+      halved n k e = omega arith
+
+      lent : elements (take (4 * m) room) ≡ take (2 * m) (elements room)
+      lent = let n : 4 * m ≡ 2 * (2 * m) = omega arith in rw n (elements-take (2 * m) room)
+
+      table-in : take m (elements (take (4 * m) room)) ≡ take m (elements room)
+      table-in = rw lent (take-take m (2 * m) (elements room) (omega arith))
+
+      long : m ≤ length (elements room)
+      long = omega (arith, elements-length room, given h .fits)
+
+      half-in : 2 * (m / 2) ≡ m → take (m / 2) (drop m (elements (take (4 * m) room))) ≡ take (m / 2) (drop m (elements room))
+      half-in v =
+          let n : 2 * m ≡ m + m = omega arith in
+          let l = elements room in
+          rw (lent, n, take-add m m l, drop-at (take m l) (take m (drop m l)) m (length-take-le m l long)) (take-take (m / 2) m (drop m l) (omega arith))

@@ -58,7 +58,7 @@ cols m c P e = go c (P .power ∙ ap (λ (k : ℕ). 2 ^ k) (sym e)) most
         record { pos = omega arith; small = l; half = rw (d, h) (sym (log₂-pow k (omega arith))); even = omega (arith, p, h, two-pow-succ k) }
 
 -- ---- phase by phase
-module _ (r : Relation) (x w d t : List ℕ) (exact : length w ≡ proofElements r) (some : 0 < logCols r) where
+module _ (r : Relation) (h w d t : List ℕ) (exact : length w ≡ proofElements r) (some : 0 < logCols r) where
   abbrev D : Draws
   D = drawsOf r d
 
@@ -74,66 +74,66 @@ module _ (r : Relation) (x w d t : List ℕ) (exact : length w ≡ proofElements
   abbrev c : ℕ
   c = logCols r
 
-  low-is : lowPoint r D ≡ lowDraws s b f c (r .lengths) x w d t
+  low-is : lowPoint r D ≡ lowDraws s b f c (r .lengths) h w d t
   unfolding lowPoint drawsOf
-  low-is = take-take (c - 1) c (drop (alphasAt s b f c (r .lengths) x w d t + 6) d) (omega arith)
+  low-is = take-take (c - 1) c (drop (alphasAt s b f c (r .lengths) h w d t + 6) d) (omega arith)
 
-  top-is : topElement r D ≡ getD d (alphasAt s b f c (r .lengths) x w d t + 6 + (c - 1)) 0
+  top-is : topElement r D ≡ getD d (alphasAt s b f c (r .lengths) h w d t + 6 + (c - 1)) 0
   unfolding topElement drawsOf
-  top-is = part-get (alphasAt s b f c (r .lengths) x w d t + 6) c (c - 1) d (omega arith)
+  top-is = part-get (alphasAt s b f c (r .lengths) h w d t + 6) c (c - 1) d (omega arith)
 
-  values-are : segmentValues r w ≡ part (terminalsAt s b f c (r .lengths) x w d t + 6 + 3 * c + 1) (length (r .lengths)) w
+  values-are : segmentValues r w ≡ part (terminalsAt s b f c (r .lengths) h w d t + 6 + 3 * c + 1) (length (r .lengths)) w
   unfolding segmentValues
   values-are = sym (take-all (length (r .lengths)) (drop (beforeEnd r + 1) w) (rw length-drop (omega arith)))
 
   abbrev sums : ℕ
-  sums = segmentSum (r .lengths) (lowDraws s b f c (r .lengths) x w d t) 0
-      (part (terminalsAt s b f c (r .lengths) x w d t + 6 + 3 * c + 1) (length (r .lengths)) w)
+  sums = segmentSum (r .lengths) (lowDraws s b f c (r .lengths) h w d t) 0
+      (part (terminalsAt s b f c (r .lengths) h w d t + 6 + 3 * c + 1) (length (r .lengths)) w)
 
   sum-is : segmentSum (r .lengths) (lowPoint r D) 0 (segmentValues r w) ≡ sums
   sum-is = ap₂ (λ (low vs : List ℕ). segmentSum (r .lengths) low 0 vs) low-is values-are
 
-  identity-is : identityCheck r w D x
-      ≡ check 29 (identical (getD d (alphasAt s b f c (r .lengths) x w d t + 6 + (c - 1)) 0) sums
-      (mle (1 ∷ x) (lowDraws s b f c (r .lengths) x w d t)) (vz s b f c (r .lengths) x w d t))
-      (eventsBefore s b f c (r .lengths) x w d t + 2 * c + 1) ∷ []
+  identity-is : identityCheck r w D h
+      ≡ check 29 (identical (getD d (alphasAt s b f c (r .lengths) h w d t + 6 + (c - 1)) 0) sums
+      (mle h (lowDraws s b f c (r .lengths) h w d t)) (vz s b f c (r .lengths) h w d t))
+      (eventsBefore s b f c (r .lengths) h w d t + 2 * c + 1) ∷ []
   unfolding identityCheck identical valueZ
   identity-is = rw (top-is, sum-is, low-is)
 
-  pub end-is : endChecks r x w D t ≡ endPhases s b f c (r .lengths) x w d t
+  pub end-is : endChecks r h w D t ≡ endPhases s b f c (r .lengths) h w d t
   unfolding endChecks innerChecks endPhases roundChecks messages innerClaim innerRounds terminals drawsOf valueZ
   end-is =
-      append-assoc (roundPhase s b f c (r .lengths) x w d t)
-      (check 28 (eqb (lastClaim s b f c (r .lengths) x w d t) (innerEnd (mle t (innerDraws s b f c (r .lengths) x w d t)) (vz s b f c (r .lengths) x w d t)))
-      (eventsBefore s b f c (r .lengths) x w d t + 2 * c) ∷ []) (identityCheck r w D x)
-      ∙ ap₂ (λ (y : Bool) (l : List Check). roundPhase s b f c (r .lengths) x w d t
-      ++ (check 28 y (eventsBefore s b f c (r .lengths) x w d t + 2 * c) ∷ l))
-      (eqb-comm (lastClaim s b f c (r .lengths) x w d t) (innerEnd (mle t (innerDraws s b f c (r .lengths) x w d t)) (vz s b f c (r .lengths) x w d t)))
+      append-assoc (roundPhase s b f c (r .lengths) h w d t)
+      (check 28 (eqb (lastClaim s b f c (r .lengths) h w d t) (innerEnd (mle t (innerDraws s b f c (r .lengths) h w d t)) (vz s b f c (r .lengths) h w d t)))
+      (eventsBefore s b f c (r .lengths) h w d t + 2 * c) ∷ []) (identityCheck r w D h)
+      ∙ ap₂ (λ (y : Bool) (l : List Check). roundPhase s b f c (r .lengths) h w d t
+      ++ (check 28 y (eventsBefore s b f c (r .lengths) h w d t + 2 * c) ∷ l))
+      (eqb-comm (lastClaim s b f c (r .lengths) h w d t) (innerEnd (mle t (innerDraws s b f c (r .lengths) h w d t)) (vz s b f c (r .lengths) h w d t)))
       identity-is
 
-module _ (s b f c : ℕ) (ns x w d t : List ℕ) where
-  rounds-numbered : Numbered (roundPhase s b f c ns x w d t)
+module _ (s b f c : ℕ) (ns h w d t : List ℕ) where
+  rounds-numbered : Numbered (roundPhase s b f c ns h w d t)
   unfolding roundChecks
   rounds-numbered = numbered-tabulate 26
-      (λ j. roundHolds (firstClaim s b f c ns x w d t) (messages (terminalsAt s b f c ns x w d t + 6) 3 c w) (innerDraws s b f c ns x w d t) j)
-      (λ j. eventsBefore s b f c ns x w d t + 2 * j) c
+      (λ j. roundHolds (firstClaim s b f c ns h w d t) (messages (terminalsAt s b f c ns h w d t + 6) 3 c w) (innerDraws s b f c ns h w d t) j)
+      (λ j. eventsBefore s b f c ns h w d t + 2 * j) c
 
-  end-numbered : Numbered (endPhases s b f c ns x w d t)
+  end-numbered : Numbered (endPhases s b f c ns h w d t)
   unfolding endPhases
-  end-numbered = numbered-append (roundPhase s b f c ns x w d t) _ rounds-numbered (lit< tt, (lit< tt, tt))
+  end-numbered = numbered-append (roundPhase s b f c ns h w d t) _ rounds-numbered (lit< tt, (lit< tt, tt))
 
   -- what the phases leave
-  pub end-done : (f₁ f₂ f₃ : Found) (claim tv pv : ℕ) (y z : Bool) → f₁ ≡ after nothing (roundPhase s b f c ns x w d t)
-      → claim ≡ lastClaim s b f c ns x w d t → tv ≡ mle t (innerDraws s b f c ns x w d t) → pv ≡ mle (1 ∷ x) (lowDraws s b f c ns x w d t)
-      → y ≡ eqb (innerEnd tv (vz s b f c ns x w d t)) claim
-      → z ≡ identical (getD d (alphasAt s b f c ns x w d t + 6 + (c - 1)) 0)
-      (segmentSum ns (lowDraws s b f c ns x w d t) 0 (part (terminalsAt s b f c ns x w d t + 6 + 3 * c + 1) (length ns) w)) pv (vz s b f c ns x w d t)
-      → f₂ ≡ nextFound f₁ (check 28 y (eventsBefore s b f c ns x w d t + 2 * c))
-      → f₃ ≡ nextFound f₂ (check 29 z (eventsBefore s b f c ns x w d t + 2 * c + 1)) → f₃ ≡ after nothing (endPhases s b f c ns x w d t)
+  pub end-done : (f₁ f₂ f₃ : Found) (claim tv pv : ℕ) (y z : Bool) → f₁ ≡ after nothing (roundPhase s b f c ns h w d t)
+      → claim ≡ lastClaim s b f c ns h w d t → tv ≡ mle t (innerDraws s b f c ns h w d t) → pv ≡ mle h (lowDraws s b f c ns h w d t)
+      → y ≡ eqb (innerEnd tv (vz s b f c ns h w d t)) claim
+      → z ≡ identical (getD d (alphasAt s b f c ns h w d t + 6 + (c - 1)) 0)
+      (segmentSum ns (lowDraws s b f c ns h w d t) 0 (part (terminalsAt s b f c ns h w d t + 6 + 3 * c + 1) (length ns) w)) pv (vz s b f c ns h w d t)
+      → f₂ ≡ nextFound f₁ (check 28 y (eventsBefore s b f c ns h w d t + 2 * c))
+      → f₃ ≡ nextFound f₂ (check 29 z (eventsBefore s b f c ns h w d t + 2 * c + 1)) → f₃ ≡ after nothing (endPhases s b f c ns h w d t)
   unfolding endPhases
   end-done f₁ f₂ f₃ claim tv pv y z e₁ ec et ep ey ez e₂ e₃ =
       rw (e₃, e₂, e₁, ey, ez, ec, et, ep)
-      (sym (after-append nothing (roundPhase s b f c ns x w d t) _ ∙ after-two (after nothing (roundPhase s b f c ns x w d t)) _ _))
+      (sym (after-append nothing (roundPhase s b f c ns h w d t) _ ∙ after-two (after nothing (roundPhase s b f c ns h w d t)) _ _))
 
-  pub end-finds : after nothing (endPhases s b f c ns x w d t) ≡ firstFound (endPhases s b f c ns x w d t)
-  end-finds = finds (endPhases s b f c ns x w d t) end-numbered
+  pub end-finds : after nothing (endPhases s b f c ns h w d t) ≡ firstFound (endPhases s b f c ns h w d t)
+  end-finds = finds (endPhases s b f c ns h w d t) end-numbered

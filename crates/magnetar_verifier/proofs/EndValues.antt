@@ -1,26 +1,23 @@
--- The values at the inner point: of a table, and of the public half at the low point, by an eq table behind or before it.
+-- The values at the inner point: of a table, and of the half behind a table at the low point, each by an eq table behind it.
 -- Assumes nothing.
 use mathlib.Core.Path.{_≡_, refl, sym, ap, ap₂, _∙_}
-use mathlib.Core.List.{List, [], _∷_, _++_}
-use Prim.Native.Nat.{ℕ, zero, suc, _+_, _-_, _*_, _/_, _^_, _<_}
+use mathlib.Core.List.{List, _++_, append-assoc}
+use Prim.Native.Nat.{ℕ, zero, suc, _+_, _-_, _*_, _/_, _^_}
 use native.Mathlib.Nat.{two-pow-succ}
 use native.Mathlib.Omega.{arith}
-use lib.ListN.{length, getD, take, drop, length-take, length-drop, List·getD-append}
-use lib.Pow.{split, pow-pos}
-use lib.Seq.{take-at, drop-at, length-take-le, drop-append-le}
-use Rattle.magnetar_field.specs.Gf128.{_⊕_, _⊗_}
+use lib.ListN.{length, take, drop, length-take, length-drop}
+use lib.Seq.{take-at, drop-at, take-add, length-take-le}
 use Rattle.magnetar_field.specs.Sizes.{log₂}
 use Rattle.magnetar_field.specs.Words.{elements, words}
 use Rattle.magnetar_multilinear.specs.EqTable.{eqTable}
 use Rattle.magnetar_multilinear.specs.Multilinear.{dot, mle}
 use Rattle.magnetar_multilinear.specs.Entries.{eqOut}
-use Rattle.magnetar_field.proofs.Elements.{elements-length, words-length, elements-drop}
-use Rattle.magnetar_multilinear.proofs.EqTables.{eqTable-length, eqTable-get, eqAt-lt}
-use Rattle.magnetar_field.proofs.Product.{one-⊗}
+use Rattle.magnetar_field.proofs.Elements.{elements-length, words-length}
+use Rattle.magnetar_multilinear.proofs.EqTables.{eqTable-length}
 use Rattle.magnetar_layout.specs.Tests.{Sized}
 use Rattle.magnetar_r1cs.proofs.Points.{log-most, point-of, eq-built}
 use Rattle.magnetar_matrix.proofs.TableLaws.{elements-words}
-use Rattle.magnetar_verifier.proofs.Pieces.{elements-take}
+use Rattle.magnetar_verifier.proofs.Pieces.{elements-take, elements-part}
 
 -- ---- the table in front of its eq table
 pub table-is : (m : ℕ) (s point u post : List ℕ) → Sized 2 65536 m → length s ≡ 4 * m → length point ≡ 2 * log₂ m
@@ -55,54 +52,58 @@ table-is m s point u post P ls lp e =
     size : length u ≡ 4 * m - 2 * m
     size = rw (built, words-length, eqTable-length, elements-length) (omega (arith, power))
 
--- ---- the public half
-elements-front : (t post : List ℕ) → elements (words t ++ post) ≡ t ++ elements post
-unfolding elements words
-elements-front [] post = refl
-elements-front (v ∷ t) post = rw (split v 64, elements-front t post)
+-- ---- the half behind a table, in front of its eq table
+module _ (m : ℕ) (s low u post : List ℕ) (P : Sized 2 65536 m) (ls : length s ≡ 4 * m) where
+  abbrev half : List ℕ
+  half = take m (drop (2 * m) s)
 
-first-and-rest : (x t : List ℕ) → 0 < length t → getD t 0 0 < 2 ^ 128 → getD t 0 0 ⊕ dot x (drop 1 t) ≡ dot (1 ∷ x) t
-unfolding dot
-first-and-rest x [] h k = absurd (omega arith)
-first-and-rest x (v ∷ t) h k = ap (λ (y : ℕ). y ⊕ dot x t) (sym (one-⊗ v k))
+  parts : take (3 * m) s ++ (u ++ post) ≡ take (2 * m) s ++ (half ++ (u ++ post))
+  parts =
+      let n : 3 * m ≡ 2 * m + m = omega arith in
+      rw (n, take-add (2 * m) m s, append-assoc (take (2 * m) s) half (u ++ post))
 
-pub public-is : (m : ℕ) (s x low u post : List ℕ) → Sized 2 65536 m → length s ≡ 4 * m → length x ≡ m - 2 → length low ≡ 2 * (log₂ m - 1)
-    → u ≡ eqOut low (take (m - 0) (drop 0 s))
-    → getD (elements (u ++ post)) 0 0 ⊕ dot (elements x) (elements (take (m - 2) (drop 2 (u ++ post)))) ≡ mle (1 ∷ elements x) (elements low)
-unfolding mle
-public-is m s x low u post P ls lx ll e =
-    ap₂ (λ (a : ℕ) (l : List ℕ). a ⊕ dot (elements x) l) first rest
-    ∙ first-and-rest (elements x) (eqTable (elements low)) some (rw (eqTable-get (elements low) 0 (pow-pos (length (elements low)))) (eqAt-lt (elements low) 0))
-  where
-    half : (k : ℕ) → m ≡ 2 ^ k → m ≡ 2 * 2 ^ (k - 1)
-    half zero q = absurd (omega (arith, P .low))
-    half (suc k) q = let d : suc k - 1 ≡ k = omega arith in rw d (omega (arith, q, two-pow-succ k))
+  table : length (take (2 * m) s) ≡ 2 * m
+  table = length-take-le (2 * m) s (omega arith)
 
-    words-are : 2 * 2 ^ (length low / 2) ≡ m
-    words-are = let k : length low / 2 ≡ log₂ m - 1 = omega arith in rw k (sym (half (log₂ m) (P .power)))
+  pub half-kept : take m (elements (take (3 * m) s ++ (u ++ post))) ≡ take m (elements s)
+  half-kept = rw (parts, ← elements-take m (take (2 * m) s ++ (half ++ (u ++ post))), ← elements-take m s)
+      (ap elements (take-at (take (2 * m) s) (half ++ (u ++ post)) (2 * m) table))
 
-    room : length (take (m - 0) (drop 0 s)) ≡ 2 * 2 ^ (length low / 2)
-    room = rw words-are (simp (length-take, length-drop) (omega arith))
+  pub half-is : length low ≡ 2 * (log₂ m - 1) → u ≡ eqOut low (take (4 * m - 3 * m) (drop (3 * m) s))
+      → dot (elements (take (3 * m - 2 * m) (drop (2 * m) (take (3 * m) s ++ (u ++ post)))))
+      (elements (take (4 * m - 3 * m) (drop (3 * m) (take (3 * m) s ++ (u ++ post))))) ≡ mle (take (m / 2) (drop m (elements s))) (elements low)
+  unfolding mle
+  half-is ll e = ap₂ dot left right
+    where
+      twice : (k : ℕ) → m ≡ 2 ^ k → m ≡ 2 * 2 ^ (k - 1)
+      twice zero q = absurd (omega (arith, P .low))
+      twice (suc k) q = let d : suc k - 1 ≡ k = omega arith in rw d (omega (arith, q, two-pow-succ k))
 
-    built : u ≡ words (eqTable (elements low))
-    built = e ∙ eq-built low (take (m - 0) (drop 0 s)) (record {
-      even = omega arith;
-      short = omega (arith, log-most m (P .high) (P .power));
-      room = room;
-    })
+      words-are : 2 * 2 ^ (length low / 2) ≡ m
+      words-are = let k : length low / 2 ≡ log₂ m - 1 = omega arith in rw k (sym (twice (log₂ m) (P .power)))
 
-    size : length (words (eqTable (elements low))) ≡ m
-    size = rw (words-length, eqTable-length, elements-length) words-are
+      room : length (take (4 * m - 3 * m) (drop (3 * m) s)) ≡ 2 * 2 ^ (length low / 2)
+      room = rw words-are (simp (length-take, length-drop) (omega arith))
 
-    some : 0 < length (eqTable (elements low))
-    some = rw (eqTable-length (elements low)) (pow-pos (length (elements low)))
+      built : u ≡ words (eqTable (elements low))
+      built = e ∙ eq-built low (take (4 * m - 3 * m) (drop (3 * m) s)) (record {
+        even = omega arith;
+        short = omega (arith, log-most m (P .high) (P .power));
+        room = room;
+      })
 
-    first : getD (elements (u ++ post)) 0 0 ≡ getD (eqTable (elements low)) 0 0
-    first = rw (built, elements-front (eqTable (elements low)) post) (List·getD-append (eqTable (elements low)) (elements post) 0 0 some)
+      size : length u ≡ 4 * m - 3 * m
+      size = rw (built, words-length, eqTable-length, elements-length) (omega (arith, words-are))
 
-    rest : elements (take (m - 2) (drop 2 (u ++ post))) ≡ drop 1 (eqTable (elements low))
-    rest = rw (
-      built,
-      drop-append-le 2 (words (eqTable (elements low))) post (omega (arith, size, P .low)),
-      take-at (drop 2 (words (eqTable (elements low)))) post (m - 2) (rw (length-drop, size)),
-    ) (sym (elements-drop 1 (words (eqTable (elements low)))) ∙ ap (drop 1) (elements-words (eqTable (elements low))))
+      front : length (take (3 * m) s) ≡ 3 * m
+      front = length-take-le (3 * m) s (omega arith)
+
+      right : elements (take (4 * m - 3 * m) (drop (3 * m) (take (3 * m) s ++ (u ++ post)))) ≡ eqTable (elements low)
+      right = rw (drop-at (take (3 * m) s) (u ++ post) (3 * m) front, take-at u post (4 * m - 3 * m) size, built) (elements-words (eqTable (elements low)))
+
+      left : elements (take (3 * m - 2 * m) (drop (2 * m) (take (3 * m) s ++ (u ++ post)))) ≡ take (m / 2) (drop m (elements s))
+      left =
+          let z : 3 * m - 2 * m ≡ m = omega arith in
+          let l : length half ≡ m = simp (length-take, length-drop) (omega arith) in
+          rw (parts, drop-at (take (2 * m) s) (half ++ (u ++ post)) (2 * m) table, z, take-at half (u ++ post) m l)
+          (rw z at (elements-part m (m / 2) (2 * m) (3 * m) s refl (omega (arith, words-are))))

@@ -1,4 +1,5 @@
--- The outcome of `end_checks`: the checks 27, 28 and 29, with a table in place of the six matrices combined at the row points.
+-- The outcome of `end_checks`: the checks 27, 28 and 29, with a table in place of the six matrices combined at the row points, and a half
+-- in place of the public half folded over the logins.
 -- Assumes nothing.
 use mathlib.Core.List.{List, _++_}
 use Prim.Native.Nat.{ℕ, _*_, _/_}
@@ -6,7 +7,7 @@ use lib.ListN.{take, drop, replicate}
 use Rattle.magnetar_field.specs.Refusal.{unlessRefused}
 use Rattle.magnetar_field.specs.Words.{elements}
 use Rattle.magnetar_matrix.specs.Batch.{Relation}
-use Rattle.magnetar_layout.specs.Tests.{noted, sizeTests, publicTests, rowsTests, layoutTests, roomTest}
+use Rattle.magnetar_layout.specs.Tests.{noted, sizeTests, rowsTests, layoutTests, roomTest}
 use Rattle.magnetar_protocol.specs.Draws.{Draws, drawsOf}
 use Rattle.magnetar_protocol.specs.Schedule.{outline}
 use Rattle.magnetar_protocol.specs.Checks.{Check, innerChecks, identityCheck}
@@ -15,23 +16,24 @@ use Rattle.magnetar_protocol.specs.Found.{firstFound, unlessBad}
 use Rattle.magnetar_verifier.specs.Outer.{drawTests, proofTests}
 
 -- the checks of the inner rounds, of the claim that they leave, and of v_z
-unfoldable pub endChecks : Relation → (x w : List ℕ) → Draws → (table : List ℕ) → List Check
-endChecks r x w d table = innerChecks r w d table ++ identityCheck r w d x
+unfoldable pub endChecks : Relation → (half w : List ℕ) → Draws → (table : List ℕ) → List Check
+endChecks r half w d table = innerChecks r w d table ++ identityCheck r w d half
 
--- ---- `end_checks`: a relation by its sizes; the public words x, the words of a proof and of draws, and the room s
-unfoldable pub endRefusal : Relation → (x proof draws s : List ℕ) → ℕ
-endRefusal r x proof draws s =
+-- ---- `end_checks`: a relation by its sizes; the words of a proof and of draws, and the room s
+unfoldable pub endRefusal : Relation → (proof draws s : List ℕ) → ℕ
+endRefusal r proof draws s =
     noted 0
-    (sizeTests (r .m) (r .q) ++ (publicTests (r .m) x ++ (rowsTests (r .q) (r .bin .a .rows) ++ (rowsTests (r .q) (r .fld .a .rows)
-    ++ (layoutTests (r .m / 2) (r .lengths) ++ (drawTests r draws ++ (roomTest (4 * r .m) s ++ proofTests r proof)))))))
+    (sizeTests (r .m) (r .q) ++ (rowsTests (r .q) (r .bin .a .rows) ++ (rowsTests (r .q) (r .fld .a .rows)
+    ++ (layoutTests (r .m / 2) (r .lengths) ++ (drawTests r draws ++ (roomTest (4 * r .m) s ++ proofTests r proof))))))
 
--- the table is the m elements at the front of the room
-unfoldable pub endFound : (m q rowsBin rowsFld : ℕ) → (ns x proof draws s : List ℕ) → Found
-endFound m q b f ns x proof draws s =
-    unlessBad (endRefusal (outline m q b f ns) x proof draws s)
-    (firstFound (endChecks (outline m q b f ns) (elements x) (elements proof) (drawsOf (outline m q b f ns) (elements draws)) (take m (elements s))))
+-- the table is the m elements at the front of the room, the half the m / 2 elements behind it
+unfoldable pub endFound : (m q rowsBin rowsFld : ℕ) → (ns proof draws s : List ℕ) → Found
+endFound m q b f ns proof draws s =
+    unlessBad (endRefusal (outline m q b f ns) proof draws s)
+    (firstFound (endChecks (outline m q b f ns) (take (m / 2) (drop m (elements s))) (elements proof) (drawsOf (outline m q b f ns) (elements draws))
+    (take m (elements s))))
 
 -- the room at exit
-unfoldable pub endRoom : (m q rowsBin rowsFld : ℕ) → (ns x proof draws s : List ℕ) → List ℕ
-endRoom m q b f ns x proof draws s =
-    unlessRefused (endRefusal (outline m q b f ns) x proof draws s) (replicate (4 * m) 0 ++ drop (4 * m) s) s
+unfoldable pub endRoom : (m q rowsBin rowsFld : ℕ) → (ns proof draws s : List ℕ) → List ℕ
+endRoom m q b f ns proof draws s =
+    unlessRefused (endRefusal (outline m q b f ns) proof draws s) (replicate (4 * m) 0 ++ drop (4 * m) s) s

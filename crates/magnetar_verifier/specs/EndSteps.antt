@@ -23,7 +23,7 @@ use Rattle.magnetar_verifier.specs.Steps.{messages, roundChecks, drawTot
 unfoldable pub identical : (top a p v : ℕ) → Bool
 identical top a p v = eqb ((1 ⊕ top) ⊗ a ⊕ top ⊗ p) v
 
-module _ (s b f c : ℕ) (ns x w d table : List ℕ) where
+module _ (s b f c : ℕ) (ns h w d table : List ℕ) where
   -- the place of the alphas among the draws
   abbrev pub alphasAt : ℕ
   alphasAt = s + b + (s + f) + s + b + f
@@ -60,19 +60,19 @@ module _ (s b f c : ℕ) (ns x w d table : List ℕ) where
   abbrev pub roundPhase : List Check
   roundPhase = roundChecks 27 eventsBefore firstClaim (messages (terminalsAt + 6) 3 c w) innerDraws c
 
-  -- these, then the terminal and the identity of v_z
+  -- these, then the terminal and the identity of v_z, with the half h of the public columns
   unfoldable pub endPhases : List Check
   endPhases =
       roundPhase
       ++ (check 28 (eqb (innerEnd (mle table innerDraws) vz) lastClaim) (eventsBefore + 2 * c)
       ∷ check 29
       (identical (getD d (alphasAt + 6 + (c - 1)) 0)
-      (segmentSum ns lowDraws 0 (part (terminalsAt + 6 + 3 * c + 1) (length ns) w)) (mle (1 ∷ x) lowDraws) vz)
+      (segmentSum ns lowDraws 0 (part (terminalsAt + 6 + 3 * c + 1) (length ns) w)) (mle h lowDraws) vz)
       (eventsBefore + 2 * c + 1)
       ∷ [])
 
 -- what the guard leaves
-pub record EndFits (m s b f c : ℕ) (ns : List ℕ) (x proof draws : ℕ) : Type 0 where
+pub record EndFits (m s b f c : ℕ) (ns : List ℕ) (proof draws : ℕ) : Type 0 where
   pub columns : tests.Sized 2 65536 m
   pub logins : s < 64
   pub bin : b < 64
@@ -80,13 +80,12 @@ pub record EndFits (m s b f c : ℕ) (ns : List ℕ) (x proof draws : ℕ) : Typ
   pub cols : c ≡ log₂ m
   pub layout : LayoutFits (m / 2) ns
   pub few : length ns ≤ 64
-  pub public : x ≡ m - 2
   pub drawn : draws ≡ 2 * drawTotal s b f c
   pub exact : proof ≡ 2 * proofTotal s b f c (length ns)
 
--- the guard, by the numbers of words: 1, 3 and 4
-abbrev pub frontTests : (m q rb rf x : ℕ) → tests.Tests
-frontTests m q rb rf x = tests.sizeTests m q ++ (((3, not (eqb x (m - 2))) ∷ []) ++ (tests.rowsTests q rb ++ tests.rowsTests q rf))
+-- the guard, by the numbers of words: 1 and 4
+abbrev pub frontTests : (m q rb rf : ℕ) → tests.Tests
+frontTests m q rb rf = tests.sizeTests m q ++ (tests.rowsTests q rb ++ tests.rowsTests q rf)
 
 -- and 8, 9, 10, 11, 15 and 16
 unfoldable pub endRefusalOf : (m s b f c : ℕ) → List ℕ → (proof draws room : ℕ) → ℕ

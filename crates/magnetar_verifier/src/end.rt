@@ -15,7 +15,7 @@ use magnetar_protocol::first::Found;
 use magnetar_sumcheck_verifier::verify;
 ghost use mathlib.Core.Path.{_≡_};
 ghost use mathlib.Core.Bool.{true};
-ghost use mathlib.Core.List.{[], _∷_};
+ghost use mathlib.Core.List.{[]};
 ghost use Prim.Native.Nat.{_+_, _-_, _*_, _/_, _%_, _<_, _≤_};
 ghost use lib.ListN.{length, getD, take, drop, replicate};
 ghost use Rattle.magnetar_field.specs.Gf128.{value, _⊕_, _⊗_};
@@ -91,15 +91,18 @@ fn table_value(s: &mut [u64], point: &[u64], m: usize) -> Gf128
     multilinear::dot(&s[0..a], &s[a..b])
 }
 
-// The value at the low point of the public half (1, x), with the eq table at the front of s.
-fn public_value(s: &mut [u64], x: &[u64], low: &[u64], m: usize) -> Gf128
+// The value at the low point of the half of m / 2 elements behind the table of m elements at the front of s; the eq table is made behind it.
+fn public_value(s: &mut [u64], low: &[u64], m: usize) -> Gf128
     requires { ⌜ Sized 2 65536 m ⌝ }
-    requires { ⌜ (length (now s) ≡ 4 * m) × (length (now x) ≡ m - 2) × (length (now low) ≡ 2 * (log₂ m - 1)) ⌝ }
-    ensures { λ r. ⌜ value r ≡ mle (1 ∷ elements (now (x .entry))) (elements (now (low .entry))) ⌝ }
+    requires { ⌜ (length (now s) ≡ 4 * m) × (length (now low) ≡ 2 * (log₂ m - 1)) ⌝ }
+    ensures half { λ r. ⌜ value r ≡ mle (take (m / 2) (drop m (elements (now (s .entry))))) (elements (now (low .entry))) ⌝ }
+    ensures table { λ _. ⌜ take m (elements (now (s .exit))) ≡ take m (elements (now (s .entry))) ⌝ }
 {
-    EqBits::build(low, &mut s[0..m]);
-    let e = words::get(s, 0);
-    gf128::add(e, multilinear::dot(x, &s[2..m]))
+    let a = 2 * m;
+    let b = 3 * m;
+    let e = 4 * m;
+    EqBits::build(low, &mut s[b..e]);
+    multilinear::dot(&s[a..b], &s[b..e])
 }
 
 // (1 + top) a + top p is v.
@@ -139,7 +142,7 @@ fn identity_holds(
     f: usize,
     c: usize,
 ) -> bool
-    requires { ⌜ EndFits m s b f c (now lens) (m - 2) (length (now proof)) (length (now draws)) ⌝ }
+    requires { ⌜ EndFits m s b f c (now lens) (length (now proof)) (length (now draws)) ⌝ }
     ensures { λ r. ⌜ r ≡ identical (getD (elements (now (draws .entry))) (alphasAt s b f c [] [] [] [] [] + 6 + (c - 1)) 0) (segmentSum (now (lens .entry)) (lowDraws s b f c [] [] [] (elements (now (draws .entry))) []) 0 (part (terminalsAt s b f c [] [] [] [] [] + 6 + 3 * c + 1) (length (now (lens .entry))) (elements (now (proof .entry))))) (value p) (vz s b f c [] [] (elements (now (proof .entry))) [] []) ⌝ }
 {
     let k = s + b + (s + f) + s + b + f + 6;
@@ -154,11 +157,10 @@ fn identity_holds(
     is_identical(words::get(draws, k + n), a, p, words::get(proof, i))
 }
 
-// The checks of all, with the table at the front of the room, which is left zero.
+// The checks of all, with the table at the front of the room and the public half behind it. The room is left zero.
 fn end_phases(
     m: usize,
     lens: &[usize],
-    x: &[u64],
     proof: &[u64],
     draws: &[u64],
     room: &mut [u64],
@@ -167,17 +169,17 @@ fn end_phases(
     f: usize,
     c: usize,
 ) -> Found
-    requires { ⌜ EndFits m s b f c (now lens) (length (now x)) (length (now proof)) (length (now draws)) ⌝ }
+    requires { ⌜ EndFits m s b f c (now lens) (length (now proof)) (length (now draws)) ⌝ }
     requires { ⌜ length (now room) ≡ 4 * m ⌝ }
-    ensures found { λ r. ⌜ r ≡ after nothing (endPhases s b f c (now (lens .entry)) (elements (now (x .entry))) (elements (now (proof .entry))) (elements (now (draws .entry))) (take m (elements (now (room .entry))))) ⌝ }
+    ensures found { λ r. ⌜ r ≡ after nothing (endPhases s b f c (now (lens .entry)) (take (m / 2) (drop m (elements (now (room .entry))))) (elements (now (proof .entry))) (elements (now (draws .entry))) (take m (elements (now (room .entry))))) ⌝ }
     ensures cleared { λ _. ⌜ now (room .exit) ≡ replicate (4 * m) 0 ⌝ }
 {
     let k = s + b + (s + f) + s + b + f + 6;
     let i = 8 * s + 4 * b + 4 * f + 6 + 3 * c;
     let events = s + b + (s + f) + 2 * s + 2 * b + 2 * f + 12 + 2 * c;
     let run = inner_rounds(proof, draws, s, b, f, c);
+    let p = public_value(room, found::piece(draws, k, c - 1), m);
     let t = table_value(room, found::piece(draws, k, c), m);
-    let p = public_value(room, x, found::piece(draws, k, c - 1), m);
     words::clear(room);
     let y = verify::inner_finish(run.claim, t, words::get(proof, i));
     let g = first::note(run.found, 28, y, events);
@@ -185,17 +187,16 @@ fn end_phases(
     first::note(g, 29, z, events + 1)
 }
 
-// 1, 3 and 4, with x public words.
-fn front_refusal(m: usize, q: usize, rb: usize, rf: usize, x: usize) -> u32
-    ensures { λ r. ⌜ r ≡ noted 0 (frontTests m q rb rf x) ⌝ }
+// 1 and 4.
+fn front_refusal(m: usize, q: usize, rb: usize, rf: usize) -> u32
+    ensures { λ r. ⌜ r ≡ noted 0 (frontTests m q rb rf) ⌝ }
 {
     let z = found::login_refusal(m, q);
     if z != 0 {
         return z;
     }
-    let z = tests::note(0, 3, x != m - 2);
-    let z = found::rows_refusal(z, q, rb);
-    found::rows_refusal(z, q, rf)
+    let y = found::rows_refusal(0, q, rb);
+    found::rows_refusal(y, q, rf)
 }
 
 // 8, 9, 10, 11, 15 and 16, by the numbers of words.
@@ -223,10 +224,10 @@ fn end_refusal(
 }
 
 // The checks 27 to 29 of a run over q logins with m columns, rb rows of bin and rf rows of fld, and these segment lengths, with the
-// public words x and the table of m elements at the front of s in place of the six matrices combined at the row points: the first that
-// does not pass, in the order of the run.
-// 1: no such columns or logins; 3: not the words of m / 2 - 1 public columns; 4: no such rows; 8, 9, 10: no such layout over m / 2 columns;
-// 11: not the words of as many draws as a run makes; 15: s shorter than 4 m words; 16: not the words of a proof. These stop it before any event.
+// table of m elements at the front of s in place of the six matrices combined at the row points, and the m / 2 elements behind it in
+// place of the public half folded over the logins: the first that does not pass, in the order of the run.
+// 1: no such columns or logins; 4: no such rows; 8, 9, 10: no such layout over m / 2 columns; 11: not the words of as many draws as a run
+// makes; 15: s shorter than 4 m words; 16: not the words of a proof. These stop it before any event.
 // Otherwise the first 4 m words of s are left zero.
 pub fn end_checks(
     m: usize,
@@ -234,15 +235,14 @@ pub fn end_checks(
     rb: usize,
     rf: usize,
     lens: &[usize],
-    x: &[u64],
     proof: &[u64],
     draws: &[u64],
     s: &mut [u64],
 ) -> Found
-    ensures found { λ r. ⌜ r ≡ endFound m q rb rf (now (lens .entry)) (now (x .entry)) (now (proof .entry)) (now (draws .entry)) (now (s .entry)) ⌝ }
-    ensures room { λ _. ⌜ now (s .exit) ≡ endRoom m q rb rf (now (lens .entry)) (now (x .entry)) (now (proof .entry)) (now (draws .entry)) (now (s .entry)) ⌝ }
+    ensures found { λ r. ⌜ r ≡ endFound m q rb rf (now (lens .entry)) (now (proof .entry)) (now (draws .entry)) (now (s .entry)) ⌝ }
+    ensures room { λ _. ⌜ now (s .exit) ≡ endRoom m q rb rf (now (lens .entry)) (now (proof .entry)) (now (draws .entry)) (now (s .entry)) ⌝ }
 {
-    let y = front_refusal(m, q, rb, rf, x.len());
+    let y = front_refusal(m, q, rb, rf);
     if y != 0 {
         return Found { code: y, events: 0 };
     }
@@ -255,5 +255,5 @@ pub fn end_checks(
         return Found { code: z, events: 0 };
     }
     let n = 4 * m;
-    end_phases(m, lens, x, proof, draws, &mut s[..n], a, b, f, c)
+    end_phases(m, lens, proof, draws, &mut s[..n], a, b, f, c)
 }

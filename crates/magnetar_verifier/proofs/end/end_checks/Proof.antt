@@ -5,7 +5,7 @@ use Prim.Native.Nat.{_*_, _^_, _≤_, _<_}
 use native.Mathlib.Omega.{arith}
 use lib.ListN.{length, length-take}
 use Rattle.magnetar_verifier.proofs.Guards.{log-small}
-use Rattle.magnetar_verifier.proofs.EndGuard.{front-given, end-front, end-refused, end-fits, end-room, end-answered}
+use Rattle.magnetar_verifier.proofs.EndGuard.{front-size, end-front, end-refused, end-fits, end-room, end-answered}
 use borrow.Author.Needs.{needs}
 use Rattle.magnetar_verifier.proofs.end.end_checks.Statement.{statement}
 use Rattle.magnetar_verifier.proofs.end.end_checks.Tie as tie
@@ -15,8 +15,8 @@ front-refusal-requires c κs = search needs
 
 returns : tie.Need-returns
 returns c =
-    let x = c .before .before .before .before .before .before .before .args in
-    end-front (x .m) (x .q) (x .rb) (x .rf) (now (x .lens)) (now (x .x)) (now (x .proof)) (now (x .draws)) (now (x .s)) (c .before .front-refusal .result)
+    let x = c .before .before .before .before .before .before .args in
+    end-front (x .m) (x .q) (x .rb) (x .rf) (now (x .lens)) (now (x .proof)) (now (x .draws)) (now (x .s)) (c .before .front-refusal .result)
     (c .before .front-refusal .ensures) (c .if1 .taken)
 
 log2-requires : tie.Need-log2-requires
@@ -49,13 +49,14 @@ end-refusal-requires c κs =
     let f = c .before in
     let b = f .before in
     let a = b .before in
-    let t = a .before .before .before .before .before .before .before .before in
+    let t = a .before .before .before .before .before .before .before in
     let x = t .args in (
       log-small (x .q) (a .log2 .result) (a .log2 .ensures) (q-word t),
       log-small (x .rb) (b .log22 .result) (b .log22 .ensures) (rb-word t),
       log-small (x .rf) (f .log23 .result) (f .log23 .ensures) (rf-word t),
       log-small (x .m) (c .log24 .result) (c .log24 .ensures) (m-word t),
-      front-given (x .m) (x .q) (x .rb) (x .rf) (length (now (x .x))) (a .before .before .front-refusal .result) (a .before .before .front-refusal .ensures) (a .before .if1 .left) .size,
+      front-size (x .m) (x .q) (x .rb) (x .rf) (a .before .before .front-refusal .result) (a .before .before .front-refusal .ensures)
+          (a .before .if1 .left),
     )
 
 returns-2 : tie.Need-returns-2
@@ -65,23 +66,23 @@ returns-2 c =
     let f = k .before in
     let b = f .before in
     let a = b .before in
-    let x = a .before .before .before .before .before .before .before .before .args in
-    end-refused (x .m) (x .q) (x .rb) (x .rf) (now (x .lens)) (now (x .x)) (now (x .proof)) (now (x .draws)) (now (x .s)) (a .log2 .result) (b .log22 .result)
+    let x = a .before .before .before .before .before .before .before .args in
+    end-refused (x .m) (x .q) (x .rb) (x .rf) (now (x .lens)) (now (x .proof)) (now (x .draws)) (now (x .s)) (a .log2 .result) (b .log22 .result)
     (f .log23 .result) (k .log24 .result) (z .end-refusal .result) (a .log2 .ensures) (b .log22 .ensures) (f .log23 .ensures) (k .log24 .ensures)
     (z .end-refusal .ensures) (a .before .before .front-refusal .result) (a .before .before .front-refusal .ensures)
     (a .before .if1 .left) (c .if2 .taken)
 
 -- the room is enough
-enough : (c : tie.Else2) → 4 * c .before .before .before .before .before .before .before .before .before .before .before .before .before .args .m ≤
-    length (now (c .before .before .before .before .before .before .before .before .before .before .before .before .before .args .s))
+enough : (c : tie.Else2) → 4 * c .before .before .before .before .before .before .before .before .before .before .before .before .args .m ≤
+    length (now (c .before .before .before .before .before .before .before .before .before .before .before .before .args .s))
 enough c =
     let z = c .before in
     let k = z .before in
     let f = k .before in
     let b = f .before in
     let a = b .before in
-    let x = a .before .before .before .before .before .before .before .before .args in
-    end-room (x .m) (x .q) (x .rb) (x .rf) (now (x .lens)) (now (x .x)) (now (x .proof)) (now (x .draws)) (now (x .s)) (a .log2 .result) (b .log22 .result)
+    let x = a .before .before .before .before .before .before .before .args in
+    end-room (x .m) (x .q) (x .rb) (x .rf) (now (x .lens)) (now (x .proof)) (now (x .draws)) (now (x .s)) (a .log2 .result) (b .log22 .result)
     (f .log23 .result) (k .log24 .result) (z .end-refusal .result) (a .log2 .ensures) (b .log22 .ensures) (f .log23 .ensures) (k .log24 .ensures)
     (z .end-refusal .ensures) (a .before .before .front-refusal .result) (a .before .before .front-refusal .ensures)
     (a .before .if1 .left) (c .if2 .left)
@@ -102,9 +103,9 @@ end-phases-requires c κs =
     let f = k .before in
     let b = f .before in
     let a = b .before in
-    let x = a .before .before .before .before .before .before .before .before .args in
+    let x = a .before .before .before .before .before .before .before .args in
     let r = end-refusal-requires k (κs .0, tt) in (
-      end-fits (x .m) (x .q) (x .rb) (x .rf) (now (x .lens)) (now (x .x)) (now (x .proof)) (now (x .draws)) (now (x .s)) (a .log2 .result) (b .log22 .result)
+      end-fits (x .m) (x .q) (x .rb) (x .rf) (now (x .lens)) (now (x .proof)) (now (x .draws)) (now (x .s)) (a .log2 .result) (b .log22 .result)
           (f .log23 .result) (k .log24 .result) (z .end-refusal .result) (a .log2 .ensures) (b .log22 .ensures) (f .log23 .ensures) (k .log24 .ensures)
           (z .end-refusal .ensures) (a .before .before .front-refusal .result) (a .before .before .front-refusal .ensures)
           (a .before .if1 .left) (c .before .if2 .left) (r .0) (r .1) (r .2),
@@ -122,11 +123,11 @@ returns-3 c =
     let f = k .before in
     let b = f .before in
     let a = b .before in
-    let x = a .before .before .before .before .before .before .before .before .args in
-    end-answered (x .m) (x .q) (x .rb) (x .rf) (now (x .lens)) (now (x .x)) (now (x .proof)) (now (x .draws)) (now (x .s)) (a .log2 .result) (b .log22 .result)
+    let x = a .before .before .before .before .before .before .before .args in
+    end-answered (x .m) (x .q) (x .rb) (x .rf) (now (x .lens)) (now (x .proof)) (now (x .draws)) (now (x .s)) (a .log2 .result) (b .log22 .result)
     (f .log23 .result) (k .log24 .result) (z .end-refusal .result) (a .log2 .ensures) (b .log22 .ensures) (f .log23 .ensures) (k .log24 .ensures)
     (z .end-refusal .ensures) (a .before .before .front-refusal .result) (a .before .before .front-refusal .ensures)
-    (a .before .if1 .left) (e .before .before .if2 .left) (e .end-phases .result) (e .end-phases .last .1 .1 .1 .1 .1 .0) (e .end-phases .ensures .0)
+    (a .before .if1 .left) (e .before .before .if2 .left) (e .end-phases .result) (e .end-phases .last .1 .1 .1 .1 .0) (e .end-phases .ensures .0)
     (e .end-phases .ensures .1)
 
 pub end-checks-spec : {M : Type 1} → statement M

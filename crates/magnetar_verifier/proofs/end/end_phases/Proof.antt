@@ -1,10 +1,10 @@
 -- `magnetar_verifier::end::end_phases` meets its contract.
 -- Assumes nothing.
 use denote.Ref.{now}
-use mathlib.Core.Path.{refl, ap, _∙_}
-use Prim.Native.Nat.{ℕ}
+use mathlib.Core.Path.{ap, _∙_}
+use Prim.Native.Nat.{ℕ, _/_}
 use native.Mathlib.Omega.{arith}
-use lib.ListN.{take, replicate}
+use lib.ListN.{take, drop, replicate}
 use Rattle.magnetar_field.specs.Gf128.{value}
 use Rattle.magnetar_field.specs.Words.{elements}
 use Rattle.magnetar_verifier.proofs.EndPhases.{Cols, cols, end-done}
@@ -99,31 +99,31 @@ add-events-8 c = search needs
 
 inner-rounds-requires : tie.Need-inner-rounds-requires
 inner-rounds-requires c κs =
-    let b = c .before .before .before .before .before in
+    let b = c .before .before .before .before in
     let g = b .pre .0 in
     let k = sizes b in
     (g .logins, g .bin, g .fld, omega (arith, k .small), omega (arith, g .exact), omega (arith, g .drawn))
 
+sub-piece : tie.Need-sub-piece
+sub-piece c = omega (arith, sizes (c .before .before .before .before .before .before) .pos)
+
 piece-requires : tie.Need-piece-requires
 piece-requires c κs = search needs
 
-table-value-requires : tie.Need-table-value-requires
-table-value-requires c κs =
-    let b = c .before .before .before .before .before .before .before .before in
+public-value-requires : tie.Need-public-value-requires
+public-value-requires c κs =
+    let b = c .before .before .before .before .before .before .before in
     let g = b .pre .0 in
     (g .columns, (b .pre .1, c .piece .ensures .1 ∙ rw (g .cols)))
-
-sub-piece : tie.Need-sub-piece
-sub-piece c = omega (arith, sizes (c .before .before .before .before .before .before .before .before .before .before .before .before) .pos)
 
 piece-requires-2 : tie.Need-piece-requires-2
 piece-requires-2 c κs = search needs
 
-public-value-requires : tie.Need-public-value-requires
-public-value-requires c κs =
-    let b = c .before .before .before .before .before .before .before .before .before .before .before .before .before in
+table-value-requires : tie.Need-table-value-requires
+table-value-requires c κs =
+    let b = c .before .before .before .before .before .before .before .before .before .before .before .before in
     let g = b .pre .0 in
-    (g .columns, (omega arith, g .public, c .piece2 .ensures .1 ∙ rw (g .cols)))
+    (g .columns, (omega arith, c .piece2 .ensures .1 ∙ rw (g .cols)))
 
 clear-requires : tie.Need-clear-requires
 clear-requires c κs = search needs
@@ -139,31 +139,14 @@ note-requires c κs = search needs
 
 identity-holds-requires : tie.Need-identity-holds-requires
 identity-holds-requires c κs =
-    let g = c .before .before .before .before .before .before .before .before .before .before .before .before .before .before .before .before .before
-    .before .before .before .before .before .before .pre .0 in
-    record {
-      columns = g .columns;
-      logins = g .logins;
-      bin = g .bin;
-      fld = g .fld;
-      cols = g .cols;
-      layout = g .layout;
-      few = g .few;
-      public = refl;
-      drawn = g .drawn;
-      exact = g .exact;
-    }
+    c .before .before .before .before .before .before .before .before .before .before .before .before .before .before .before .before .before
+    .before .before .before .before .before .pre .0
 
 add-note : tie.Need-add-note
-add-note c = let b = c .before .before .before .before .before .before .before .before .before .before .before .before .before .before .before
-    .before .before .before .before .before .before .before .before .before in omega (
-      arith,
-      sizes b .small,
-      b .pre .0 .logins,
-      b .pre .0 .bin,
-      b
-          .pre .0 .fld,
-    )
+add-note c =
+    let b = c .before .before .before .before .before .before .before .before .before .before .before .before .before .before .before .before .before
+    .before .before .before .before .before .before in
+    omega (arith, sizes b .small, b .pre .0 .logins, b .pre .0 .bin, b .pre .0 .fld)
 
 note-requires-2 : tie.Need-note-requires-2
 note-requires-2 c κs = search needs
@@ -171,28 +154,30 @@ note-requires-2 c κs = search needs
 same-length : tie.Need-same-length
 same-length c =
     let v = c .before .before .before .before .before .before .before in
-    let p = v .before .before .before .before in
-    v .clear .kept .0 ∙ p .public-value .kept .0 ∙ p .before .before .before .before .before .table-value .kept .0
+    let t = v .before .before .before .before in
+    v .clear .kept .0 ∙ t .table-value .kept .0 ∙ t .before .before .before .before .before .public-value .kept .0
 
 returns : tie.Need-returns
 returns c =
     let n = c .before .before in
     let y = n .before in
     let v = y .before .before .before .before in
-    let p = v .before .before .before .before in
-    let t = p .before .before .before .before .before in
-    let r = t .before .before .before in
-    let x = r .before .before .before .before .before .before .args in
-    let q = r .inner-rounds .ensures in (
-      end-done (x .s) (x .b) (x .f) (x .c) (now (x .lens)) (elements (now (x .x))) (elements (now (x .proof))) (elements (now (x .draws)))
-          (take (x .m) (elements (now (x .room)))) (r .inner-rounds .result .found) (n .note .result) (c .note2 .result)
+    let t = v .before .before .before .before in
+    let p = t .before .before .before .before .before in
+    let r = p .before .before .before in
+    let x = r .before .before .before .before .before .args in
+    let q = r .inner-rounds .ensures in
+    let l = elements (now (x .room)) in (
+      end-done (x .s) (x .b) (x .f) (x .c) (now (x .lens)) (take (x .m / 2) (drop (x .m) l)) (elements (now (x .proof)))
+          (elements (now (x .draws))) (take (x .m) l) (r .inner-rounds .result .found) (n .note .result) (c .note2 .result)
           (value (r .inner-rounds .result .claim)) (value (t .table-value .result)) (value (p .public-value .result)) (y .inner-finish .result)
-          (c .before .identity-holds .result) (q .0) (q .1) (t .table-value .ensures ∙ rw (t .before .piece .ensures .0))
-          (p .public-value .ensures ∙ rw (p .before .piece2 .ensures .0)) (y .inner-finish .ensures ∙ rw (y .before .get .ensures))
+          (c .before .identity-holds .result) (q .0) (q .1)
+          (t .table-value .ensures ∙ rw (p .public-value .ensures .1, t .before .piece2 .ensures .0))
+          (p .public-value .ensures .0 ∙ rw (p .before .piece .ensures .0)) (y .inner-finish .ensures ∙ rw (y .before .get .ensures))
           (c .before .identity-holds .ensures) (n .note .ensures) (c .note2 .ensures),
       v .clear .ensures
           ∙ ap (λ (k : ℕ). replicate k 0)
-          (p .public-value .kept .0 ∙ t .table-value .kept .0 ∙ r .before .before .before .before .before .before .pre .1),
+          (t .table-value .kept .0 ∙ p .public-value .kept .0 ∙ r .before .before .before .before .before .pre .1),
     )
 
 pub end-phases-spec : {M : Type 1} → statement M
@@ -227,11 +212,11 @@ end-phases-spec =
     mul-events-4
     add-events-8
     inner-rounds-requires
-    piece-requires
-    table-value-requires
     sub-piece
-    piece-requires-2
+    piece-requires
     public-value-requires
+    piece-requires-2
+    table-value-requires
     clear-requires
     get-requires
     inner-finish-requires
