@@ -11,6 +11,7 @@ pub mod DrawnTable
 pub mod VerifyEnds
 pub mod Sound
 pub mod Complete
+pub mod FoldLaws
 pub mod LaterLaws
 pub mod ProductLaws
 pub mod ProveRun
