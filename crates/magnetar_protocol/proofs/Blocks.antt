@@ -70,7 +70,7 @@ module _ (r : Relation) (x w : List ℕ) (D : Draws) where
       (numbered-append (rowChecks r w D) (terminalChecks r w D) (rows-numbered r x w D) (terminals-numbered r x w D))
 
   pub later-numbered : Numbered laterChecks
-  later-numbered = 
+  later-numbered =
       numbered-append (innerChecks r w D (combined r D)) (identityCheck r w D (publicFolded x (loginPoint D))) (inner-numbered r x w D)
       (unfold identityCheck in (lit< tt, tt))
 

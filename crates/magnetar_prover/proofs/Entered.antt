@@ -30,38 +30,51 @@ laid-over p lent a n e l h fit =
     rw (w, l, take-all (length lent) p (omega (arith, l)))
 
 -- a segment's local point is within the low ones
-value-is : (m q b f : ℕ) (ns t c x : List ℕ) (k : ℕ) (d : List ℕ) (i : ℕ) → localVars ns i ≤ k
-    → segmentIn ns c d i ≡ segmentValue (outline m q b f ns) t c x (take k d) i
+value-is : (m q b f : ℕ) (ns t c h : List ℕ) (k : ℕ) (d : List ℕ) (i : ℕ) → localVars ns i ≤ k
+    → segmentIn ns c d i ≡ segmentValue (outline m q b f ns) t c h (take k d) i
 unfolding segmentValue
-value-is m q b f ns t c x k d i h = ap (mle (take (getD ns i 0) (drop (offset ns i) c))) (sym (take-take (localVars ns i) k d h))
+value-is m q b f ns t c h k d i l = ap (mle (take (getD ns i 0) (drop (offset ns i) c))) (sym (take-take (localVars ns i) k d l))
 
-ends-same : (m q b f : ℕ) (ns t c x : List ℕ) (k : ℕ) (p : InnerSteps) → ((i : ℕ) → i < length ns → localVars ns i ≤ k)
-    → innerEnded ns c p ≡ ended (outline m q b f ns) t c x (take k (p .steps .played .draws)) p
+ends-same : (m q b f : ℕ) (ns t c h : List ℕ) (k : ℕ) (p : InnerSteps) → ((i : ℕ) → i < length ns → localVars ns i ≤ k)
+    → innerEnded ns c p ≡ ended (outline m q b f ns) t c h (take k (p .steps .played .draws)) p
 unfolding innerEnded ended
-ends-same m q b f ns t c x k p few =
+ends-same m q b f ns t c h k p few =
     ap (λ (vs : List ℕ). sendEach "vs-seg-" 0 vs (send (ascii "vs-vz") (getD (p .z) 0 0 ∷ []) (p .steps)))
-    (tabulate-ext (segmentIn ns c (p .steps .played .draws)) (segmentValue (outline m q b f ns) t c x (take k (p .steps .played .draws))) (length ns)
-    (λ i h. value-is m q b f ns t c x k (p .steps .played .draws) i (few i h)))
+    (tabulate-ext (segmentIn ns c (p .steps .played .draws)) (segmentValue (outline m q b f ns) t c h (take k (p .steps .played .draws))) (length ns)
+    (λ i l. value-is m q b f ns t c h k (p .steps .played .draws) i (few i l)))
 
 -- the inner rounds as they are defined
-pub inner-all : (m q b f k : ℕ) (ns t c x : List ℕ) (u : Transcript) → k ≡ log₂ m → Locals (m / 2) ns (2 * k - 2)
-    → innerWhole k ns t c x u ≡ innerAll (outline m q b f ns) t c x (begin u)
+pub inner-all : (m q b f k : ℕ) (ns t c h : List ℕ) (u : Transcript) → k ≡ log₂ m → Locals (m / 2) ns (2 * k - 2)
+    → innerWhole k ns t c h u ≡ innerAll (outline m q b f ns) t c h (begin u)
 unfolding innerWhole innerAll lowDraws innerRun
-inner-all m q b f k ns t c x u e l =
-    rw (← e) (ends-same m q b f ns t c x (k - 1) (innerSteps k (record { steps = begin u; table = t; z = c ++ (1 ∷ x) })) few)
+inner-all m q b f k ns t c h u e l =
+    rw (← e) (ends-same m q b f ns t c h (k - 1) (innerSteps k (record { steps = begin u; table = t; z = c ++ h })) few)
   where
     few : (i : ℕ) → i < length ns → localVars ns i ≤ k - 1
     few i h = omega (arith, l .each i h .drawn)
 
 -- of the tables that stand in s
-pub entered : (m w q b f k : ℕ) (ns x s : List ℕ) (u : Transcript) → k ≡ log₂ m → w ≡ m / 2 → 2 * w ≡ m → Locals (m / 2) ns (2 * k - 2)
-    → innerWhole k ns (tableAt 0 (4 * w) (take (6 * m) s)) (tableAt (4 * w) (2 * w) (take (6 * m) s)) (elements x) u ≡ innerPlayed (outline m q b f ns) x s u
+pub entered : (m w q b f k : ℕ) (ns s : List ℕ) (u : Transcript) → k ≡ log₂ m → w ≡ m / 2 → 2 * w ≡ m → Locals (m / 2) ns (2 * k - 2)
+    → let S = take (6 * m) s in
+    innerWhole k ns (tableAt 0 (4 * w) S) (tableAt (4 * w) (2 * w) S) (tableAt (6 * w) (2 * w) S) u ≡ innerPlayed (outline m q b f ns) s u
 unfolding innerPlayed
-entered m w q b f k ns x s u e h d l =
-    inner-all m q b f k ns (tableAt 0 (4 * w) (take (6 * m) s)) (tableAt (4 * w) (2 * w) (take (6 * m) s)) (elements x) u e l
-    ∙ ap₂ (λ (t c : List ℕ). innerAll (outline m q b f ns) t c (elements x) (begin u))
-    (ap elements (take-take (4 * w) (6 * m) s (omega (arith, d))) ∙ ap (λ (n : ℕ). elements (take n s)) four)
-    (ap elements (take-of-drop s (4 * w) (2 * w) (6 * m) (omega (arith, d))) ∙ ap₂ (λ (n k : ℕ). elements (take n (drop k s))) d four)
+entered m w q b f k ns s u e h d l =
+    let S = take (6 * m) s in
+    inner-all m q b f k ns (tableAt 0 (4 * w) S) (tableAt (4 * w) (2 * w) S) (tableAt (6 * w) (2 * w) S) u e l
+    ∙ λ j. innerAll (outline m q b f ns) (table j) (columns j) (half j) (begin u)
   where
     four : 4 * w ≡ 2 * m
     four = omega (arith, d)
+
+    six : 6 * w ≡ 3 * m
+    six = omega (arith, d)
+
+    table : tableAt 0 (4 * w) (take (6 * m) s) ≡ elements (take (2 * m) s)
+    table = ap elements (take-take (4 * w) (6 * m) s (omega (arith, d))) ∙ ap (λ (n : ℕ). elements (take n s)) four
+
+    columns : tableAt (4 * w) (2 * w) (take (6 * m) s) ≡ elements (take m (drop (2 * m) s))
+    columns =
+        ap elements (take-of-drop s (4 * w) (2 * w) (6 * m) (omega (arith, d))) ∙ ap₂ (λ (n k : ℕ). elements (take n (drop k s))) d four
+
+    half : tableAt (6 * w) (2 * w) (take (6 * m) s) ≡ elements (take m (drop (3 * m) s))
+    half = ap elements (take-of-drop s (6 * w) (2 * w) (6 * m) (omega (arith, d))) ∙ ap₂ (λ (n k : ℕ). elements (take n (drop k s))) d six

@@ -7,12 +7,12 @@ use Prim.Native.Nat.{ℕ, zero, suc, _+_, _-_, _*_, _/_, _^_, _≤_, _<_}
 use native.Mathlib.Nat.{two-pow-succ}
 use native.Mathlib.Omega.{arith}
 use lib.ListN.{length, getD}
-use borrow.Author.Tests.{ltb-false, eqb-true, not-false}
+use borrow.Author.Tests.{ltb-false}
 use Rattle.magnetar_field.specs.Sizes.{log₂}
 use Rattle.magnetar_field.proofs.Log2.{log₂-pow}
 use Rattle.magnetar_hash.specs.declared.transcript.Transcript.{Transcript}
 use Rattle.magnetar_layout.specs.Entries.{layoutRefusal}
-use Rattle.magnetar_layout.specs.Tests.{note, noted, columnTests, publicTests, layoutTests, roomTest, Sized}
+use Rattle.magnetar_layout.specs.Tests.{note, noted, columnTests, layoutTests, roomTest, Sized}
 use Rattle.magnetar_layout.proofs.Noted.{noted-rest, noted-clear}
 use Rattle.magnetar_layout.proofs.SizeLaws.{not-bad}
 use Rattle.magnetar_layout.proofs.Laid.{sound, each-size}
@@ -33,22 +33,19 @@ even-size m z = go (log₂ m) (z .power)
         omega (arith, q, h)
 
 -- where the columns are good, the layout's refusal is that of its own tests
-pub layout-rest : (m : ℕ) (ns x : List ℕ) (y z : ℕ) → noted 0 (columnTests m) ≡ 0 → noted 0 (publicTests m x) ≡ 0 → z ≡ layoutRefusal (m / 2) ns
-    → z ≡ noted 0 (columnTests m ++ publicTests m x ++ layoutTests (m / 2) ns)
+pub layout-rest : (m : ℕ) (ns : List ℕ) (z : ℕ) → noted 0 (columnTests m) ≡ 0 → z ≡ layoutRefusal (m / 2) ns
+    → z ≡ noted 0 (columnTests m ++ layoutTests (m / 2) ns)
 unfolding layoutRefusal
-layout-rest m ns x y z e f g =
+layout-rest m ns z e g =
     let k : Sized 2 65536 m = not-bad (noted-clear 0 (columnTests m) refl e .1 .0) in
     let h : noted 0 (columnTests (2 * (m / 2))) ≡ 0 = rw (even-size m k) e in
-    g
-    ∙ (noted-rest (columnTests (2 * (m / 2))) (layoutTests (m / 2) ns) 0 (sym h) refl
-    ∙ (sym (noted-rest (publicTests m x) (layoutTests (m / 2) ns) 0 (sym f) refl)
-    ∙ sym (noted-rest (columnTests m) (publicTests m x ++ layoutTests (m / 2) ns) 0 (sym e) refl)))
+    g ∙ (noted-rest (columnTests (2 * (m / 2))) (layoutTests (m / 2) ns) 0 (sym h) refl
+    ∙ sym (noted-rest (columnTests m) (layoutTests (m / 2) ns) 0 (sym e) refl))
 
 -- ---- what holds where nothing is refused
-pub record Sizes (m : ℕ) (ns x : List ℕ) : Type 0 where
+pub record Sizes (m : ℕ) (ns : List ℕ) : Type 0 where
   pub columns : Sized 2 65536 m
   pub few : log₂ m ≤ 16
-  pub public : length x ≡ m - 2
   pub segments : length ns ≤ 64
   pub layout : layoutRefusal (m / 2) ns ≡ 0
 
@@ -56,39 +53,38 @@ note-good : (n : ℕ) (b : Bool) → b ≡ false → note n b 0 ≡ 0
 unfolding note
 note-good n b e = rw e
 
-pub sizes-of : (m : ℕ) (ns x : List ℕ) → noted 0 (columnTests m ++ publicTests m x ++ layoutTests (m / 2) ns) ≡ 0 → Sizes m ns x
-sizes-of m ns x e =
-    let k = noted-clear 0 (columnTests m ++ publicTests m x ++ layoutTests (m / 2) ns) refl e .1 in
+pub sizes-of : (m : ℕ) (ns : List ℕ) → noted 0 (columnTests m ++ layoutTests (m / 2) ns) ≡ 0 → Sizes m ns
+sizes-of m ns e =
+    let k = noted-clear 0 (columnTests m ++ layoutTests (m / 2) ns) refl e .1 in
     let z : Sized 2 65536 m = not-bad (k .0) in
     record {
       columns = z;
       few = log-most m (z .high) (z .power);
-      public = eqb-true _ _ (not-false _ (k .1 .0));
-      segments = ltb-false _ _ (k .1 .1 .1 .1 .0);
-      layout = layout-rest m ns x 0 (layoutRefusal (m / 2) ns) (note-good 1 _ (k .0)) (note-good 3 _ (k .1 .0)) refl ∙ e;
+      segments = ltb-false _ _ (k .1 .1 .1 .0);
+      layout = layout-rest m ns (layoutRefusal (m / 2) ns) (note-good 1 _ (k .0)) refl ∙ e;
     }
 
-pub record InnerFits (m : ℕ) (ns x proof draws s : List ℕ) : Type 0 where
-  pub sizes : Sizes m ns x
+pub record InnerFits (m : ℕ) (ns proof draws s : List ℕ) : Type 0 where
+  pub sizes : Sizes m ns
   pub drawn : 2 * log₂ m ≤ length draws
   pub sent : 2 * (3 * log₂ m + 1 + length ns) ≤ length proof
   pub scratch : 6 * m ≤ length s
 
-pub inner-fits : (m : ℕ) (ns x proof draws s : List ℕ) (t : Transcript) → innerRoundsRefusal m ns x proof draws s t ≡ 0 → InnerFits m ns x proof draws s
+pub inner-fits : (m : ℕ) (ns proof draws s : List ℕ) (t : Transcript) → innerRoundsRefusal m ns proof draws s t ≡ 0 → InnerFits m ns proof draws s
 unfolding innerRoundsRefusal
-inner-fits m ns x proof draws s t e =
-    let k = noted-clear 0 (columnTests m ++ publicTests m x ++ layoutTests (m / 2) ns ++ (counterTest t ++ (roomTest (2 * log₂ m) draws ++ roomTest
+inner-fits m ns proof draws s t e =
+    let k = noted-clear 0 (columnTests m ++ layoutTests (m / 2) ns ++ (counterTest t ++ (roomTest (2 * log₂ m) draws ++ roomTest
     (2 * (3 * log₂ m + 1 + length ns)) proof ++ roomTest (6 * m) s))) refl e .1 in
     record {
-      sizes = sizes-of m ns x (noted-good (k .0) (k .1 .0) (k .1 .1 .0) (k .1 .1 .1 .0) (k .1 .1 .1 .1 .0));
-      drawn = ltb-false _ _ (k .1 .1 .1 .1 .1 .1 .0);
-      sent = ltb-false _ _ (k .1 .1 .1 .1 .1 .1 .1 .0);
-      scratch = ltb-false _ _ (k .1 .1 .1 .1 .1 .1 .1 .1 .0);
+      sizes = sizes-of m ns (noted-good (k .0) (k .1 .0) (k .1 .1 .0) (k .1 .1 .1 .0));
+      drawn = ltb-false _ _ (k .1 .1 .1 .1 .1 .0);
+      sent = ltb-false _ _ (k .1 .1 .1 .1 .1 .1 .0);
+      scratch = ltb-false _ _ (k .1 .1 .1 .1 .1 .1 .1 .0);
     }
   where
-    noted-good : {a b c d f : Bool} → a ≡ false → b ≡ false → c ≡ false → d ≡ false → f ≡ false
-        → noted 0 ((1, a) ∷ (3, b) ∷ (8, c) ∷ (9, d) ∷ (10, f) ∷ []) ≡ 0
-    noted-good {a} {b} {c} {d} {f} p q r t u = rw (p, q, r, t, u, note-good 1 false refl, note-good 3 false refl, note-good 8 false refl, note-good 9 false refl, note-good 10 false refl)
+    noted-good : {a c d f : Bool} → a ≡ false → c ≡ false → d ≡ false → f ≡ false → noted 0 ((1, a) ∷ (8, c) ∷ (9, d) ∷ (10, f) ∷ []) ≡ 0
+    noted-good p r t u =
+        rw (p, r, t, u, note-good 1 false refl, note-good 8 false refl, note-good 9 false refl, note-good 10 false refl)
 
 -- ---- half the columns
 log-double : (m w : ℕ) → 2 * w ≡ m → w ≡ 2 ^ log₂ w → log₂ w < 63 → log₂ m ≡ suc (log₂ w)
@@ -103,8 +99,8 @@ pub record Ready (m w k : ℕ) (ns : List ℕ) : Type 0 where
   pub power : 2 * w ≡ 2 ^ k
   pub locals : Locals w ns (2 * k - 2)
 
-pub ready : (m : ℕ) (ns x : List ℕ) (k : ℕ) → k ≡ log₂ m → Sizes m ns x → Ready m (m / 2) k ns
-ready m ns x k e z =
+pub ready : (m : ℕ) (ns : List ℕ) (k : ℕ) → k ≡ log₂ m → Sizes m ns → Ready m (m / 2) k ns
+ready m ns k e z =
     let d : 2 * (m / 2) ≡ m = even-size m (z .columns) in
     let o = sound (m / 2) ns (z .layout) in
     let a : log₂ (m / 2) ≤ 16 = log-most (m / 2) (omega (arith, z .columns .high)) (o .power) in

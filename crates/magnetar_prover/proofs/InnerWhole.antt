@@ -39,7 +39,7 @@ ended-is : (ns f : List ℕ) (q : InnerSteps) → innerEnded ns f q
 unfolding innerEnded
 ended-is ns f q = refl
 
-module _ (k w : ℕ) (ns x s₀ s₁ s₂ p₀ p₁ p₂ p₃ d₀ d₁ : List ℕ) (t u v r : Transcript)
+module _ (k w : ℕ) (ns s₀ s₁ s₂ p₀ p₁ p₂ p₃ d₀ d₁ : List ℕ) (t u v r : Transcript)
     (long : length s₁ ≡ 12 * w) (some : 0 < w) (front : length s₂ ≡ 8 * w) (drawn : length d₁ ≡ 2 * k) where
   abbrev table : List ℕ
   table = tableAt 0 (4 * w) s₀
@@ -47,14 +47,17 @@ module _ (k w : ℕ) (ns x s₀ s₁ s₂ p₀ p₁ p₂ p₃ d₀ d₁ : List �
   abbrev columns : List ℕ
   columns = tableAt (4 * w) (2 * w) s₀
 
+  abbrev half : List ℕ
+  half = tableAt (6 * w) (2 * w) s₀
+
   abbrev ends : InnerSteps
   ends = innerIn (2 * w) 2 (3 * k) k u p₁ d₁ s₂
 
   four : 2 * (2 * w) ≡ 4 * w
   four = omega arith
 
-  begins : tableAt 0 (4 * w) s₁ ≡ table → tableAt (4 * w) (4 * w) s₁ ≡ columns ++ (1 ∷ x)
-      → innerIn (2 * w) (2 * (2 * w)) 0 0 t p₀ d₀ (take (8 * w) s₁) ≡ record { steps = begin t; table = table; z = columns ++ (1 ∷ x) }
+  begins : tableAt 0 (4 * w) s₁ ≡ table → tableAt (4 * w) (4 * w) s₁ ≡ columns ++ half
+      → innerIn (2 * w) (2 * (2 * w)) 0 0 t p₀ d₀ (take (8 * w) s₁) ≡ record { steps = begin t; table = table; z = columns ++ half }
   begins e f =
       inner-eq refl
       (ap (λ (n : ℕ). elements (take n (take (8 * w) s₁))) four ∙ (ap elements (take-take (4 * w) (8 * w) s₁ (omega arith)) ∙ e))
@@ -74,13 +77,13 @@ module _ (k w : ℕ) (ns x s₀ s₁ s₂ p₀ p₁ p₂ p₃ d₀ d₁ : List �
       ap elements (take-take (2 * w) (12 * w - 8 * w) (drop (8 * w) (s₂ ++ drop (8 * w) s₁)) (omega arith)
       ∙ ap (take (2 * w)) (fore-back s₁ s₂ (8 * w) (omega (arith, long)) front)) ∙ e
 
-  pub whole-is : tableAt 0 (4 * w) s₁ ≡ table → tableAt (4 * w) (4 * w) s₁ ≡ columns ++ (1 ∷ x) → tableAt (8 * w) (2 * w) s₁ ≡ columns
+  pub whole-is : tableAt 0 (4 * w) s₁ ≡ table → tableAt (4 * w) (4 * w) s₁ ≡ columns ++ half → tableAt (8 * w) (2 * w) s₁ ≡ columns
       → ends ≡ innerSteps k (innerIn (2 * w) (2 * (2 * w)) 0 0 t p₀ d₀ (take (8 * w) s₁))
       → v ≡ absorbedOne u (ascii "vs-vz") (getD (tableAt (4 * w) 2 (s₂ ++ drop (8 * w) s₁)) 0 0)
       → take (3 * k + 1) (elements p₂) ≡ take (3 * k) (elements p₁) ++ (getD (tableAt (4 * w) 2 (s₂ ++ drop (8 * w) s₁)) 0 0 ∷ [])
       → sentIn (3 * k + 1 + length ns) r p₃ ≡ sentEach "vs-seg-" 0 (tabulate (segmentIn ns (tableAt 0 (2 * w) (take (12 * w - 8 * w) (drop (8 * w)
       (s₂ ++ drop (8 * w) s₁)))) (elements d₁)) (length ns)) (sentIn (3 * k + 1) v p₂)
-      → stepsIn (3 * k + 1 + length ns) k r p₃ d₁ ≡ innerWhole k ns table columns x t
+      → stepsIn (3 * k + 1 + length ns) k r p₃ d₁ ≡ innerWhole k ns table columns half t
   unfolding innerWhole
   whole-is a b c e f g h =
       ap (beside (take k (elements d₁))) h

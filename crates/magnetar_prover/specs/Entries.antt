@@ -12,7 +12,7 @@ use Rattle.magnetar_hash.specs.declared.transcript.Transcript.{Transcript}
 use Rattle.magnetar_protocol.specs.Schedule.{outline}
 use Rattle.magnetar_protocol.specs.Stepwise.{Steps, Tables, begin, tauSteps, outerAll, innerAll}
 use Rattle.magnetar_matrix.specs.Batch.{Relation}
-use Rattle.magnetar_layout.specs.Tests.{Tests, noted, isSize, columnTests, publicTests, layoutTests, roomTest}
+use Rattle.magnetar_layout.specs.Tests.{Tests, noted, isSize, columnTests, layoutTests, roomTest}
 use Rattle.magnetar_hash.specs.declared.transcript.TranscriptAnswer.{TranscriptAnswer}
 
 -- ---- what a run leaves, unless it is refused with z
@@ -36,17 +36,18 @@ scratchFor z n s = unlessRefused z (replicate n 0 ++ drop n s) s
 abbrev pub counterTest : Transcript → Tests
 counterTest t = (14, not (ltb (t .«squeeze_ctr») (2 ^ 32))) ∷ []
 
--- ---- `inner_rounds`: m columns, segments of the lengths ns, the public words x
-unfoldable pub innerRoundsRefusal : (m : ℕ) → (ns x proof draws s : List ℕ) → Transcript → ℕ
-innerRoundsRefusal m ns x proof draws s t =
+-- ---- `inner_rounds`: m columns, segments of the lengths ns
+unfoldable pub innerRoundsRefusal : (m : ℕ) → (ns proof draws s : List ℕ) → Transcript → ℕ
+innerRoundsRefusal m ns proof draws s t =
     noted 0
-    (columnTests m ++ publicTests m x ++ layoutTests (m / 2) ns
+    (columnTests m ++ layoutTests (m / 2) ns
     ++ (counterTest t
     ++ (roomTest (2 * log₂ m) draws ++ roomTest (2 * (3 * log₂ m + 1 + length ns)) proof ++ roomTest (6 * m) s)))
 
--- the run: the combined table is in the first 2m words of s, the folded columns in the m words behind
-unfoldable pub innerPlayed : Relation → (x s : List ℕ) → Transcript → Steps
-innerPlayed r x s t = innerAll r (elements (take (2 * r .m) s)) (elements (take (r .m) (drop (2 * r .m) s))) (elements x) (begin t)
+-- the run: the combined table is in the first 2m words of s, the folded z in the 2m words behind: its witness columns, then its public half
+unfoldable pub innerPlayed : Relation → (s : List ℕ) → Transcript → Steps
+innerPlayed r s t =
+    innerAll r (elements (take (2 * r .m) s)) (elements (take (r .m) (drop (2 * r .m) s))) (elements (take (r .m) (drop (3 * r .m) s))) (begin t)
 
 -- ---- `outer_rounds`: q logins, rb rows of bin and rf rows of fld
 -- 1: the logins; 4: the rows, alone

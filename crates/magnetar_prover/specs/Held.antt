@@ -92,9 +92,9 @@ unfoldable pub innerEnded : List ℕ → List ℕ → InnerSteps → Steps
 innerEnded ns f q =
     sendEach "vs-seg-" 0 (tabulate (segmentIn ns f (q .steps .played .draws)) (length ns)) (send (ascii "vs-vz") (getD (q .z) 0 0 ∷ []) (q .steps))
 
--- k inner rounds, v_z and the segment values
-unfoldable pub innerWhole : ℕ → (ns t f x : List ℕ) → Transcript → Steps
-innerWhole k ns t f x u = innerEnded ns f (innerSteps k (record { steps = begin u; table = t; z = f ++ (1 ∷ x) }))
+-- k inner rounds, v_z and the segment values, with the table t and the folded z: its witness columns f and its public half h
+unfoldable pub innerWhole : ℕ → (ns t f h : List ℕ) → Transcript → Steps
+innerWhole k ns t f h u = innerEnded ns f (innerSteps k (record { steps = begin u; table = t; z = f ++ h }))
 
 -- ---- the outer rounds
 -- what the prover of a system holds in a block of tables of n words, w words apart, with so many high variables and the tau of the

@@ -6,20 +6,16 @@ use magnetar_layout::tests;
 ghost use mathlib.Core.Path.{_≡_};
 ghost use mathlib.Core.List.{_++_};
 ghost use Prim.Native.Nat.{_*_, _/_, _<_, _≤_};
-ghost use Rattle.magnetar_layout.specs.Tests.{noted, columnTests, publicTests, layoutTests};
+ghost use Rattle.magnetar_layout.specs.Tests.{noted, columnTests, layoutTests};
 ghost use Rattle.magnetar_prover.specs.Entries.{counterTest, innerRoundsRefusal, countTests, totalTests, outerDrawn, outerSent, blockWords, outerRoundsRefusal};
 
-// 1, 3, 8, 9 and 10.
-fn of_sizes(m: usize, lens: &[usize], x: &[u64]) -> u32
-    ensures { λ r. ⌜ r ≡ noted 0 (columnTests m ++ publicTests m (now (x .entry)) ++ layoutTests (m / 2) (now (lens .entry))) ⌝ }
+// 1, 8, 9 and 10.
+fn of_sizes(m: usize, lens: &[usize]) -> u32
+    ensures { λ r. ⌜ r ≡ noted 0 (columnTests m ++ layoutTests (m / 2) (now (lens .entry))) ⌝ }
 {
     let z = tests::note(0, 1, !tests::is_size(2, 65536, m));
     if z != 0 {
         return z;
-    }
-    let y = tests::note(0, 3, x.len() != m - 2);
-    if y != 0 {
-        return y;
     }
     layout::refusal(m / 2, lens)
 }
@@ -35,15 +31,14 @@ fn of_counter(t: Transcript) -> u32
 pub(crate) fn of_inner(
     m: usize,
     lens: &[usize],
-    x: &[u64],
     proof: &[u64],
     draws: &[u64],
     s: &[u64],
     t: Transcript,
 ) -> u32
-    ensures { λ r. ⌜ r ≡ innerRoundsRefusal m (now (lens .entry)) (now (x .entry)) (now (proof .entry)) (now (draws .entry)) (now (s .entry)) t ⌝ }
+    ensures { λ r. ⌜ r ≡ innerRoundsRefusal m (now (lens .entry)) (now (proof .entry)) (now (draws .entry)) (now (s .entry)) t ⌝ }
 {
-    let z = of_sizes(m, lens, x);
+    let z = of_sizes(m, lens);
     if z != 0 {
         return z;
     }

@@ -1,7 +1,6 @@
 // The inner sum-check.
 use crate::guard;
 use magnetar_field::gf128::Gf128;
-use magnetar_field::gf128::ONE;
 use magnetar_field::sizes;
 use magnetar_field::words;
 use magnetar_hash::transcript;
@@ -117,30 +116,17 @@ fn copy_down(n: usize, s: &mut [u64])
     }
 }
 
-// 1 and the public columns.
-fn put_public(x: &[u64], s: &mut [u64])
-    requires { ⌜ length (now s) ≡ length (now x) + 2 ⌝ }
-    ensures { λ _. ⌜ elements (now (s .exit)) ≡ 1 ∷ elements (now (x .entry)) ⌝ }
-{
-    words::put(s, 0, ONE);
-    words::copy(x, &mut s[2..]);
-}
-
-// The tables of the 2w columns: behind the combined table z, which is the w folded columns that stand there, 1 and the public
-// columns; and a copy of the folded columns behind it.
-fn lay_out(w: usize, x: &[u64], s: &mut [u64])
-    requires { ⌜ (length (now s) ≡ 12 * w) × (0 < w) × (w ≤ 32768) × (length (now x) + 2 ≡ 2 * w) ⌝ }
+// A copy of the w folded columns, which stand in front of z, behind the two tables of 2w columns.
+fn lay_out(w: usize, s: &mut [u64])
+    requires { ⌜ (length (now s) ≡ 12 * w) × (0 < w) × (w ≤ 32768) ⌝ }
     ensures table { λ _. ⌜ tableAt 0 (4 * w) (now (s .exit)) ≡ tableAt 0 (4 * w) (now (s .entry)) ⌝ }
-    ensures z { λ _. ⌜ tableAt (4 * w) (4 * w) (now (s .exit)) ≡ tableAt (4 * w) (2 * w) (now (s .entry)) ++ (1 ∷ elements (now (x .entry))) ⌝ }
+    ensures z { λ _. ⌜ tableAt (4 * w) (4 * w) (now (s .exit)) ≡ tableAt (4 * w) (2 * w) (now (s .entry)) ++ tableAt (6 * w) (2 * w) (now (s .entry)) ⌝ }
     ensures copy { λ _. ⌜ tableAt (8 * w) (2 * w) (now (s .exit)) ≡ tableAt (4 * w) (2 * w) (now (s .entry)) ⌝ }
 {
     let n = 2 * w;
     let a = 4 * w;
-    let b = 6 * w;
     let e = 10 * w;
-    let c = 8 * w;
     copy_down(n, &mut s[a..e]);
-    put_public(x, &mut s[b..c]);
 }
 
 // v_z, which is element 2w of s, is sent behind k elements.
@@ -231,25 +217,24 @@ fn send_segments(
     u
 }
 
-// The inner rounds over 2w = 2^k columns, v_z and the segment values. At entry s has the combined table and the folded columns; it
-// is left zero.
+// The inner rounds over 2w = 2^k columns, v_z and the segment values. At entry s has the combined table and the folded z; it is
+// left zero.
 fn run(
     k: usize,
     w: usize,
     lens: &[usize],
-    x: &[u64],
     proof: &mut [u64],
     draws: &mut [u64],
     s: &mut [u64],
     t: Transcript,
 ) -> Transcript
-    requires { ⌜ (length (now s) ≡ 12 * w) × (0 < w) × (w ≤ 32768) × (length (now x) + 2 ≡ 2 * w) × (0 < k) × (k < 18) ⌝ }
+    requires { ⌜ (length (now s) ≡ 12 * w) × (0 < w) × (w ≤ 32768) × (0 < k) × (k < 18) ⌝ }
     requires { ⌜ (length (now draws) ≡ 2 * k) × (length (now lens) ≤ 64) × (length (now proof) ≡ 2 * (3 * k + 1 + length (now lens))) × (layoutRefusal w (now lens) ≡ 0) ⌝ }
     requires { ⌜ (2 * w ≡ 2 ^ k) × Locals w (now lens) (2 * k - 2) ⌝ }
-    ensures run { λ r. ⌜ stepsIn (3 * k + 1 + length (now (lens .entry))) k r (now (proof .exit)) (now (draws .exit)) ≡ innerWhole k (now (lens .entry)) (tableAt 0 (4 * w) (now (s .entry))) (tableAt (4 * w) (2 * w) (now (s .entry))) (elements (now (x .entry))) t ⌝ }
+    ensures run { λ r. ⌜ stepsIn (3 * k + 1 + length (now (lens .entry))) k r (now (proof .exit)) (now (draws .exit)) ≡ innerWhole k (now (lens .entry)) (tableAt 0 (4 * w) (now (s .entry))) (tableAt (4 * w) (2 * w) (now (s .entry))) (tableAt (6 * w) (2 * w) (now (s .entry))) t ⌝ }
     ensures cleared { λ _. ⌜ now (s .exit) ≡ replicate (length (now (s .entry))) 0 ⌝ }
 {
-    lay_out(w, x, s);
+    lay_out(w, s);
     let m = 2 * w;
     let a = 8 * w;
     let e = 12 * w;
@@ -263,24 +248,23 @@ fn run(
 }
 
 // The inner rounds over m columns, v_z and the segment values: their messages and values are the first elements of proof, their
-// challenges those of draws. s has the combined table in its first 2m words and the folded witness columns in the m words behind;
-// its first 6m words are left zero.
-// 1: no such columns; 3: x is not of m - 2 words; 8, 9, 10: no such layout; 14: a counter of 2^32 or more; 15: draws, proof or s too short.
+// challenges those of draws. s has the combined table in its first 2m words and the folded z in the 2m words behind; its first 6m words
+// are left zero.
+// 1: no such columns; 8, 9, 10: no such layout; 14: a counter of 2^32 or more; 15: draws, proof or s too short.
 pub fn inner_rounds(
     m: usize,
     lens: &[usize],
-    x: &[u64],
     proof: &mut [u64],
     draws: &mut [u64],
     s: &mut [u64],
     t: Transcript,
 ) -> TranscriptAnswer
-    ensures answer { λ r. ⌜ r ≡ answerFor (innerRoundsRefusal m (now (lens .entry)) (now (x .entry)) (now (proof .entry)) (now (draws .entry)) (now (s .entry)) t) (innerPlayed (outline m 1 1 1 (now (lens .entry))) (now (x .entry)) (now (s .entry)) t) t ⌝ }
-    ensures proof { λ _. ⌜ now (proof .exit) ≡ proofFor (innerRoundsRefusal m (now (lens .entry)) (now (x .entry)) (now (proof .entry)) (now (draws .entry)) (now (s .entry)) t) (innerPlayed (outline m 1 1 1 (now (lens .entry))) (now (x .entry)) (now (s .entry)) t) (now (proof .entry)) ⌝ }
-    ensures draws { λ _. ⌜ now (draws .exit) ≡ drawsFor (innerRoundsRefusal m (now (lens .entry)) (now (x .entry)) (now (proof .entry)) (now (draws .entry)) (now (s .entry)) t) (innerPlayed (outline m 1 1 1 (now (lens .entry))) (now (x .entry)) (now (s .entry)) t) (now (draws .entry)) ⌝ }
-    ensures scratch { λ _. ⌜ now (s .exit) ≡ scratchFor (innerRoundsRefusal m (now (lens .entry)) (now (x .entry)) (now (proof .entry)) (now (draws .entry)) (now (s .entry)) t) (6 * m) (now (s .entry)) ⌝ }
+    ensures answer { λ r. ⌜ r ≡ answerFor (innerRoundsRefusal m (now (lens .entry)) (now (proof .entry)) (now (draws .entry)) (now (s .entry)) t) (innerPlayed (outline m 1 1 1 (now (lens .entry))) (now (s .entry)) t) t ⌝ }
+    ensures proof { λ _. ⌜ now (proof .exit) ≡ proofFor (innerRoundsRefusal m (now (lens .entry)) (now (proof .entry)) (now (draws .entry)) (now (s .entry)) t) (innerPlayed (outline m 1 1 1 (now (lens .entry))) (now (s .entry)) t) (now (proof .entry)) ⌝ }
+    ensures draws { λ _. ⌜ now (draws .exit) ≡ drawsFor (innerRoundsRefusal m (now (lens .entry)) (now (proof .entry)) (now (draws .entry)) (now (s .entry)) t) (innerPlayed (outline m 1 1 1 (now (lens .entry))) (now (s .entry)) t) (now (draws .entry)) ⌝ }
+    ensures scratch { λ _. ⌜ now (s .exit) ≡ scratchFor (innerRoundsRefusal m (now (lens .entry)) (now (proof .entry)) (now (draws .entry)) (now (s .entry)) t) (6 * m) (now (s .entry)) ⌝ }
 {
-    let z = guard::of_inner(m, lens, x, proof, draws, s, t);
+    let z = guard::of_inner(m, lens, proof, draws, s, t);
     if z != 0 {
         return TranscriptAnswer {
             code: z,
@@ -292,16 +276,7 @@ pub fn inner_rounds(
     let a = 2 * (3 * k + 1 + lens.len());
     let d = 2 * k;
     let e = 6 * m;
-    let u = run(
-        k,
-        w,
-        lens,
-        x,
-        &mut proof[..a],
-        &mut draws[..d],
-        &mut s[..e],
-        t,
-    );
+    let u = run(k, w, lens, &mut proof[..a], &mut draws[..d], &mut s[..e], t);
     TranscriptAnswer {
         code: 0,
         transcript: u,

@@ -18,11 +18,11 @@ use Rattle.magnetar_hash.specs.declared.transcript.TranscriptAnswer.{Transcript
 use Rattle.magnetar_layout.specs.Login.{loginWords}
 use Rattle.magnetar_layout.specs.Tests.{Tests, sizeTests, packedTests, columnTests, publicTests, layoutTests, lengthTest, roomTest, Sized}
 use Rattle.magnetar_layout.proofs.Noted.{Clear}
-use Rattle.magnetar_matrix.specs.Batch.{Relation, Batch, folded, foldedAt}
+use Rattle.magnetar_matrix.specs.Batch.{Relation, Batch, folded, foldedAt, publicFolded}
 use Rattle.magnetar_matrix.specs.Packed.{unpacked}
 use Rattle.magnetar_matrix.proofs.TableLaws.{elements-words}
 use Rattle.magnetar_r1cs.proofs.Points.{log-most}
-use Rattle.magnetar_batch.specs.Entries.{foldInRefusal, foldInOut}
+use Rattle.magnetar_batch.specs.Entries.{foldInRefusal, foldInOut, publicInRefusal, publicInOut}
 use Rattle.magnetar_batch.proofs.Rooms.{back-part, back-put}
 use Rattle.magnetar_protocol.specs.Shape.{logCols, proofElements}
 use Rattle.magnetar_protocol.specs.Draws.{drawCount}
@@ -84,22 +84,29 @@ folded-length : (q w : ℕ) (b : Batch) (p : List ℕ) → length (folded q w b 
 unfolding folded
 folded-length q w b p = tabulate-length (foldedAt q b p) w
 
-module _ (q w n k : ℕ) (ws d s p u : List ℕ) (lp : length p ≡ 2 * n)
+module _ (q w n k : ℕ) (ws x d s p u : List ℕ) (lp : length p ≡ 2 * n)
     (ep : elements p ≡ tabulate (λ i. getD (elements d) (k + (n - 1 - i)) 0) n)
-    (eu : u ≡ foldInOut ws q w p (take (length s - 4 * w) (drop (4 * w) s))) (F : FoldReady q w n k (length ws) (length d) (length s)) where
+    (eu : u ≡ foldInOut ws q w p (take (length s - 4 * w) (drop (4 * w) s))) (F : FoldReady q w n k (length ws) (length x) (length d) (length s)) where
+  point-is : elements p ≡ reverse (take n (drop k (elements d)))
+  point-is = ep ∙ point-reversed (elements d) k n (rw elements-length (omega (arith, F .drawn)))
+
+  point-long : length p ≡ 2 * log₂ q
+  point-long = omega (arith, lp, F .point)
+
   abbrev f : List ℕ
   f = folded q w (unpacked q w ws) (elements p)
 
   none : foldInRefusal ws q w p (drop (4 * w) s) ≡ 0
   unfolding foldInRefusal
   none =
+      let room : 2 * w + 2 * q ≤ length (drop (4 * w) s) = rw length-drop (omega (arith, F .room)) in
       noted-none (sizeTests (2 * w) q ++ packedTests w q ws ++ lengthTest (2 * log₂ q) p ++ roomTest (2 * w + 2 * q) (drop (4 * w) s)) (
         size-fine 2 65536 (2 * w) (F .columns),
         (
           size-fine 1 4096 q (F .logins),
           (
             same-fine (length ws) (q * loginWords w) (F .packed),
-            (same-fine (length p) (2 * log₂ q) (omega (arith, lp, F .point)), (most-fine (length (drop (4 * w) s)) (2 * w + 2 * q) (rw length-drop (omega (arith, F .room))), tt)),
+            (same-fine (length p) (2 * log₂ q) point-long, (most-fine (length (drop (4 * w) s)) (2 * w + 2 * q) room, tt)),
           ),
         ),
       )
@@ -107,66 +114,125 @@ module _ (q w n k : ℕ) (ws d s p u : List ℕ) (lp : length p ≡ 2 * n)
   f-long : length (words f) ≡ 2 * w
   f-long = words-length f ∙ ap (λ (i : ℕ). 2 * i) (folded-length q w (unpacked q w ws) (elements p))
 
-  front-long : length (take (4 * w) s) ≡ 4 * w
-  front-long = length-take-le (4 * w) s (omega (arith, F .room))
+  -- in front: what was there, then the folded columns
+  abbrev fore : List ℕ
+  fore = take (4 * w) s ++ words f
 
-  abbrev new : List ℕ
-  new = putMid (4 * w) (length s - 4 * w) s u
+  table-long : length (take (4 * w) s) ≡ 4 * w
+  table-long = length-take-le (4 * w) s (omega (arith, F .room))
 
-  abbrev rest : List ℕ
-  rest = replicate (2 * q) 0 ++ drop (2 * w + 2 * q) (drop (4 * w) s)
+  fore-long : length fore ≡ 6 * w
+  fore-long = length-append (take (4 * w) s) (words f) ∙ omega (arith, table-long, f-long)
 
-  new-is : new ≡ take (4 * w) s ++ (words f ++ rest)
-  new-is = back-put s u (4 * w) ∙ ap (λ (y : List ℕ). take (4 * w) s ++ y) (eu ∙ rw (back-part s (4 * w), none))
+  abbrev pub folds : List ℕ
+  folds = putMid (4 * w) (length s - 4 * w) s u
 
-  behind-is : drop (4 * w) new ≡ words f ++ rest
-  behind-is = ap (drop (4 * w)) new-is ∙ drop-at (take (4 * w) s) (words f ++ rest) (4 * w) front-long
-
-  rest-is : drop (6 * w + 2 * q) new ≡ drop (6 * w + 2 * q) s
-  rest-is =
+  folds-are : folds ≡ (fore ++ replicate (2 * q) 0) ++ drop (6 * w + 2 * q) s
+  folds-are =
       let a : 4 * w + (2 * w + 2 * q) ≡ 6 * w + 2 * q = omega arith in
-      let l : length (words f ++ replicate (2 * q) 0) ≡ 2 * w + 2 * q = length-append (words f) (replicate (2 * q) 0) ∙ ap₂ _+_ f-long (length-replicate (2 * q) 0) in
-      let e : drop (2 * w + 2 * q) (words f ++ rest) ≡ drop (2 * w + 2 * q) (drop (4 * w) s) =
-      ap (drop (2 * w + 2 * q)) (sym (append-assoc (words f) (replicate (2 * q) 0) (drop (2 * w + 2 * q) (drop (4 * w) s))))
-      ∙ drop-at (words f ++ replicate (2 * q) 0) (drop (2 * w + 2 * q) (drop (4 * w) s)) (2 * w + 2 * q) l in
-      ap (λ (i : ℕ). drop i new) (sym a) ∙ (sym (drop-drop (2 * w + 2 * q) (4 * w) new)
-      ∙ (ap (drop (2 * w + 2 * q)) behind-is ∙ (e ∙ (drop-drop (2 * w + 2 * q) (4 * w) s ∙ ap (λ (i : ℕ). drop i s) a))))
+      back-put s u (4 * w) ∙ (ap (λ (y : List ℕ). take (4 * w) s ++ y) (eu ∙ rw (back-part s (4 * w), none))
+      ∙ (rw (drop-drop (2 * w + 2 * q) (4 * w) s, a) (sym (append-assoc (take (4 * w) s) (words f) (replicate (2 * q) 0 ++ drop (6 * w + 2 * q) s))
+      ∙ sym (append-assoc fore (replicate (2 * q) 0) (drop (6 * w + 2 * q) s)))))
 
-  pub fold-ends : FoldLeft q w n k ws d s new
-  fold-ends = (
-    ap (take (4 * w)) new-is ∙ take-at (take (4 * w) s) (words f ++ rest) (4 * w) front-long,
-    ap (λ (y : List ℕ). elements (take (2 * w) y)) behind-is ∙ (ap elements (take-at (words f) rest (2 * w) f-long) ∙ (elements-words f
-        ∙ ap (folded q w (unpacked q w ws)) (ep ∙ point-reversed (elements d) k n (rw elements-length (omega (arith, F .drawn)))))),
-    rest-is,
-  )
+  -- the public half behind them
+  module _ (v : List ℕ) (ev : v ≡ publicInOut x q w p (take (length folds - 6 * w) (drop (6 * w) folds))) where
+    abbrev h : List ℕ
+    h = publicFolded (elements x) (elements p)
+
+    folds-fore : folds ≡ fore ++ (replicate (2 * q) 0 ++ drop (6 * w + 2 * q) s)
+    folds-fore = folds-are ∙ append-assoc fore (replicate (2 * q) 0) (drop (6 * w + 2 * q) s)
+
+    folds-long : length folds ≡ length s
+    folds-long =
+        ap length folds-are ∙ (length-append (fore ++ replicate (2 * q) 0) (drop (6 * w + 2 * q) s)
+        ∙ omega (arith, length-append fore (replicate (2 * q) 0), fore-long, length-replicate {A = ℕ} (2 * q) 0, length-drop (6 * w + 2 * q) s, F .room))
+
+    public-none : publicInRefusal x q w p (drop (6 * w) folds) ≡ 0
+    unfolding publicInRefusal
+    public-none =
+        let room : 2 * w ≤ length (drop (6 * w) folds) = rw (length-drop, folds-long) (omega (arith, F .room)) in
+        noted-none (sizeTests (2 * w) q ++ publicTests (2 * w) x ++ lengthTest (2 * log₂ q) p ++ roomTest (2 * w) (drop (6 * w) folds)) (
+          size-fine 2 65536 (2 * w) (F .columns),
+          (
+            size-fine 1 4096 q (F .logins),
+            (
+              same-fine (length x) (2 * w - 2) (F .public),
+              (same-fine (length p) (2 * log₂ q) point-long, (most-fine (length (drop (6 * w) folds)) (2 * w) room, tt)),
+            ),
+          ),
+        )
+
+    h-long : length (words h) ≡ 2 * w
+    h-long = words-length h ∙ (rw elements-length (omega (arith, F .public, F .columns .low)))
+
+    abbrev new : List ℕ
+    new = putMid (6 * w) (length folds - 6 * w) folds v
+
+    new-is : new ≡ fore ++ (words h ++ drop (8 * w) folds)
+    new-is =
+        let a : 6 * w + 2 * w ≡ 8 * w = omega arith in
+        back-put folds v (6 * w) ∙ ap₂ (λ (y z : List ℕ). y ++ z)
+        (ap (take (6 * w)) folds-fore ∙ take-at fore (replicate (2 * q) 0 ++ drop (6 * w + 2 * q) s) (6 * w) fore-long)
+        (ev ∙ rw (back-part folds (6 * w), public-none, drop-drop (2 * w) (6 * w) folds, a))
+
+    new-parts : new ≡ take (4 * w) s ++ (words f ++ (words h ++ drop (8 * w) folds))
+    new-parts = new-is ∙ append-assoc (take (4 * w) s) (words f) (words h ++ drop (8 * w) folds)
+
+    columns-are : elements (take (2 * w) (drop (4 * w) new)) ≡ f
+    columns-are =
+        ap (λ (y : List ℕ). elements (take (2 * w) (drop (4 * w) y))) new-parts
+        ∙ (ap (λ (y : List ℕ). elements (take (2 * w) y)) (drop-at (take (4 * w) s) (words f ++ (words h ++ drop (8 * w) folds)) (4 * w) table-long)
+        ∙ (ap elements (take-at (words f) (words h ++ drop (8 * w) folds) (2 * w) f-long) ∙ elements-words f))
+
+    half-is : elements (take (2 * w) (drop (6 * w) new)) ≡ h
+    half-is =
+        ap (λ (y : List ℕ). elements (take (2 * w) (drop (6 * w) y))) new-is
+        ∙ (ap (λ (y : List ℕ). elements (take (2 * w) y)) (drop-at fore (words h ++ drop (8 * w) folds) (6 * w) fore-long)
+        ∙ (ap elements (take-at (words h) (drop (8 * w) folds) (2 * w) h-long) ∙ elements-words h))
+
+    rest-is : drop (8 * w + 2 * q) new ≡ drop (8 * w + 2 * q) s
+    rest-is =
+        let l : length (fore ++ words h) ≡ 8 * w = length-append fore (words h) ∙ omega (arith, fore-long, h-long) in
+        let k : length (fore ++ replicate (2 * q) 0) ≡ 6 * w + 2 * q = length-append fore (replicate (2 * q) 0) ∙ omega (arith, fore-long, length-replicate {A = ℕ} (2 * q) 0) in
+        ap (drop (8 * w + 2 * q)) (new-is ∙ sym (append-assoc fore (words h) (drop (8 * w) folds)))
+        ∙ (behind-front (8 * w) (8 * w + 2 * q) (fore ++ words h) folds l (omega arith)
+        ∙ (ap (drop (8 * w + 2 * q)) folds-are ∙ behind-front (6 * w + 2 * q) (8 * w + 2 * q) (fore ++ replicate (2 * q) 0) s k (omega arith)))
+
+    pub fold-ends : FoldLeft q w n k ws x d s new
+    fold-ends = (
+      ap (take (4 * w)) new-parts ∙ take-at (take (4 * w) s) (words f ++ (words h ++ drop (8 * w) folds)) (4 * w) table-long,
+      columns-are ∙ ap (folded q w (unpacked q w ws)) point-is,
+      half-is ∙ ap (publicFolded (elements x)) point-is,
+      rest-is,
+    )
 
 -- at the point of the logins
-pub fold-left : (q w l n k K : ℕ) (ws d s s′ : List ℕ) → l ≡ log₂ q → n ≡ min l 16 → k ≡ K
-    → (FoldReady q w n k (length ws) (length d) (length s) → FoldLeft q w n k ws d s s′)
-    → FoldReady q w (log₂ q) K (length ws) (length d) (length s) → FoldLeft q w (log₂ q) K ws d s s′
-fold-left q w l n k K ws d s s′ el en ek h F =
+pub fold-left : (q w l n k K : ℕ) (ws x d s s′ : List ℕ) → l ≡ log₂ q → n ≡ min l 16 → k ≡ K
+    → (FoldReady q w n k (length ws) (length x) (length d) (length s) → FoldLeft q w n k ws x d s s′)
+    → FoldReady q w (log₂ q) K (length ws) (length x) (length d) (length s) → FoldLeft q w (log₂ q) K ws x d s s′
+fold-left q w l n k K ws x d s s′ el en ek h F =
     let few = log-most q (omega (arith, F .logins .high)) (F .logins .power) in
     let e : n ≡ log₂ q = omega (arith, el, en, few) in
     (rw (e, ek) at h) F
 
 -- ---- the inner rounds and the claims
-pub inner-done : (m : ℕ) (ns x w d s : List ℕ) (a k i j : ℕ) (t : Transcript) (A : TranscriptAnswer) (w′ d′ s′ : List ℕ) → i ≡ min a (length w) → j ≡ min k (length d)
+pub inner-done : (m : ℕ) (ns w d s : List ℕ) (a k i j : ℕ) (t : Transcript) (A : TranscriptAnswer) (w′ d′ s′ : List ℕ) → i ≡ min a (length w) → j ≡ min k (length d)
     → let W = take (length w - i) (drop i w) in let D = take (length d - j) (drop j d) in
-    let z = innerRoundsRefusal m ns x W D s t in let p = innerPlayed (outline m 1 1 1 ns) x s t in
+    let z = innerRoundsRefusal m ns W D s t in let p = innerPlayed (outline m 1 1 1 ns) s t in
     A ≡ answerFor z p t → w′ ≡ proofFor z p W → d′ ≡ drawsFor z p D → s′ ≡ scratchFor z (6 * m) s
-    → InnerDone m ns x w d s (min a (length w)) (min k (length d)) t (A .transcript) (putMid i (length w - i) w w′) (putMid j (length d - j) d d′) s′
-inner-done m ns x w d s a k i j t A w′ d′ s′ ei ej eA ew ed es =
+    → InnerDone m ns w d s (min a (length w)) (min k (length d)) t (A .transcript) (putMid i (length w - i) w w′) (putMid j (length d - j) d d′) s′
+inner-done m ns w d s a k i j t A w′ d′ s′ ei ej eA ew ed es =
     rw (← ei, ← ej, back-put w w′ i, back-put d d′ j, eA, ew, ed, es, back-part w i, back-part d j) (refl, refl, refl, refl)
 
-module _ (r : Relation) (c f x : List ℕ) (t : Transcript) where
-  pub inner-drawn-many : length (innerAll r c f x (begin t) .played .draws) ≡ logCols r
-  inner-drawn-many = ap length (goes-inner r c f x (begin t) 0 refl .draws) ∙ inner-drawn-length r c f x (begin t) 0 refl
+module _ (r : Relation) (c f h : List ℕ) (t : Transcript) where
+  pub inner-drawn-many : length (innerAll r c f h (begin t) .played .draws) ≡ logCols r
+  inner-drawn-many = ap length (goes-inner r c f h (begin t) 0 refl .draws) ∙ inner-drawn-length r c f h (begin t) 0 refl
 
-  pub inner-sent-many : length (innerAll r c f x (begin t) .sent) ≡ 3 * logCols r + 1 + length (r .lengths)
-  inner-sent-many = ap length (goes-inner r c f x (begin t) 0 refl .sent) ∙ inner-sent-length r c f x (begin t) 0 refl
+  pub inner-sent-many : length (innerAll r c f h (begin t) .sent) ≡ 3 * logCols r + 1 + length (r .lengths)
+  inner-sent-many = ap length (goes-inner r c f h (begin t) 0 refl .sent) ∙ inner-sent-length r c f h (begin t) 0 refl
 
-module _ (R : Rules) (ws : ℕ) (x w d c s : List ℕ) (t : Transcript)
-    (ok : RunReady R ws (length x) (length w) (length c) (length s) (t .«squeeze_ctr»)) (ld : length d ≡ 256) where
+module _ (R : Rules) (ws xs : ℕ) (w d c s : List ℕ) (t : Transcript)
+    (ok : RunReady R ws xs (length w) (length c) (length s) (t .«squeeze_ctr»)) (ld : length d ≡ 256) where
   abbrev m : ℕ
   m = R .m
 
@@ -177,17 +243,19 @@ module _ (R : Rules) (ws : ℕ) (x w d c s : List ℕ) (t : Transcript)
   o = outlineOf R
 
   abbrev pub P : Steps
-  P = innerPlayed (outline m 1 1 1 ns) x s t
+  P = innerPlayed (outline m 1 1 1 ns) s t
 
   drawn-many : length (P .played .draws) ≡ log₂ m
   unfolding innerPlayed
-  drawn-many = inner-drawn-many (outline m 1 1 1 ns) (elements (take (2 * m) s)) (elements (take m (drop (2 * m) s))) (elements x) t
+  drawn-many = inner-drawn-many (outline m 1 1 1 ns) (elements (take (2 * m) s)) (elements (take m (drop (2 * m) s)))
+      (elements (take m (drop (3 * m) s))) t
 
   sent-many : length (P .sent) ≡ 3 * log₂ m + 1 + length ns
   unfolding innerPlayed
-  sent-many = inner-sent-many (outline m 1 1 1 ns) (elements (take (2 * m) s)) (elements (take m (drop (2 * m) s))) (elements x) t
+  sent-many = inner-sent-many (outline m 1 1 1 ns) (elements (take (2 * m) s)) (elements (take m (drop (2 * m) s)))
+      (elements (take m (drop (3 * m) s))) t
 
-  inner-none : (W D : List ℕ) → 2 * log₂ m ≤ length D → 2 * (3 * log₂ m + 1 + length ns) ≤ length W → innerRoundsRefusal m ns x W D s t ≡ 0
+  inner-none : (W D : List ℕ) → 2 * log₂ m ≤ length D → 2 * (3 * log₂ m + 1 + length ns) ≤ length W → innerRoundsRefusal m ns W D s t ≡ 0
   unfolding innerRoundsRefusal
   inner-none W D hd hw =
       let rooms : Tests = counterTest t ++ (roomTest (2 * log₂ m) D ++ roomTest (2 * (3 * log₂ m + 1 + length ns)) W ++ roomTest (6 * m) s) in
@@ -198,8 +266,7 @@ module _ (R : Rules) (ws : ℕ) (x w d c s : List ℕ) (t : Transcript)
           (most-fine (length W) _ hw, (most-fine (length s) (6 * m) (omega (arith, ok .scratch)), tt)),
         ),
       ) in
-      noted-none (columnTests m ++ publicTests m x ++ layoutTests (m / 2) ns ++ rooms)
-      (size-fine 2 65536 m (ok .ready .columns), (same-fine (length x) (m - 2) (ok .public), layout-fine R (ok .ready) rooms enough))
+      noted-none (columnTests m ++ layoutTests (m / 2) ns ++ rooms) (size-fine 2 65536 m (ok .ready .columns), layout-fine R (ok .ready) rooms enough)
 
   claims-none : (W D : List ℕ) → length W ≡ proofWords R → length D ≡ 2 * drawCount o
       → claimsRefusal m (R .q) (rowsBin R) (rowsFld R) ns W D c ≡ 0
@@ -233,7 +300,7 @@ module _ (R : Rules) (ws : ℕ) (x w d c s : List ℕ) (t : Transcript)
     n-is : n - 0 ≡ 2 * drawCount o
     n-is = none-less (omega (arith, en, draws-small R (ok .ready)))
 
-    unrefused : innerRoundsRefusal m ns x (drop (min a (length w)) w) (drop (min k (length d)) d) s t ≡ 0
+    unrefused : innerRoundsRefusal m ns (drop (min a (length w)) w) (drop (min k (length d)) d) s t ≡ 0
     unrefused = inner-none (drop (min a (length w)) w) (drop (min k (length d)) d) (rw length-drop (room-behind k-is drawn-room)) (rw length-drop (room-behind a-is said-room))
 
     said-long : length (saidAll R w P) ≡ proofWords R
@@ -246,7 +313,7 @@ module _ (R : Rules) (ws : ℕ) (x w d c s : List ℕ) (t : Transcript)
         length-append (take (drawnBefore R) d) (words (P .played .draws))
         ∙ omega (arith, length-take-le (drawnBefore R) d (omega (arith, drawn-room)), words-length (P .played .draws), drawn-many)
 
-    module _ (u : Transcript) (w′ d′ s′ : List ℕ) (done : InnerDone m ns x w d s (min a (length w)) (min k (length d)) t u w′ d′ s′) where
+    module _ (u : Transcript) (w′ d′ s′ : List ℕ) (done : InnerDone m ns w d s (min a (length w)) (min k (length d)) t u w′ d′ s′) where
       w-is : w′ ≡ saidAll R w P ++ drop (proofWords R) w
       w-is =
           done .1 ∙ rw (unrefused, a-is)
@@ -277,24 +344,28 @@ module _ (R : Rules) (ws x w d c s : List ℕ) (t : Transcript)
   four : 4 * (R .m / 2) ≡ 2 * R .m
   four = omega (arith, two)
 
-  pub fold-sizes : FoldReady (R .q) (R .m / 2) (log₂ (R .q)) k (length ws) (length d) (length s)
+  pub fold-sizes : FoldReady (R .q) (R .m / 2) (log₂ (R .q)) k (length ws) (length x) (length d) (length s)
   fold-sizes =
       let h = draws-small R (ok .ready) in record {
         columns = subst (Sized 2 65536) (sym two) (ok .ready .columns);
         logins = ok .ready .logins;
         packed = ok .packed;
+        public = omega (arith, two, ok .public);
         point = refl;
         place = omega (arith, h);
         drawn = omega (arith, h, ld);
         room = omega (arith, two, ok .scratch);
       }
 
-  module _ (s₁ : List ℕ) (folds : FoldLeft (R .q) (R .m / 2) (log₂ (R .q)) k ws d s s₁) (same : length s₁ ≡ length s) where
+  module _ (s₁ : List ℕ) (folds : FoldLeft (R .q) (R .m / 2) (log₂ (R .q)) k ws x d s s₁) (same : length s₁ ≡ length s) where
     pub end-sizes : RunReady R (length ws) (length x) (length w) (length c) (length s₁) (t .«squeeze_ctr»)
     end-sizes = subst (λ (i : ℕ). RunReady R (length ws) (length x) (length w) (length c) i (t .«squeeze_ctr»)) (sym same) ok
 
+    abbrev point : List ℕ
+    point = reverse (take (log₂ (R .q)) (drop k (elements d)))
+
     abbrev columns : List ℕ
-    columns = folded (R .q) (R .m / 2) (unpacked (R .q) (R .m / 2) ws) (reverse (take (log₂ (R .q)) (drop k (elements d))))
+    columns = folded (R .q) (R .m / 2) (unpacked (R .q) (R .m / 2) ws) point
 
     front-is : take (2 * R .m) s₁ ≡ take (2 * R .m) s
     front-is = ap (λ (i : ℕ). take i s₁) (sym four) ∙ (folds .0 ∙ ap (λ (i : ℕ). take i s) four)
@@ -302,28 +373,33 @@ module _ (R : Rules) (ws x w d c s : List ℕ) (t : Transcript)
     columns-are : elements (take (R .m) (drop (2 * R .m) s₁)) ≡ columns
     columns-are = ap₂ (λ (i j : ℕ). elements (take i (drop j s₁))) (sym two) (sym four) ∙ folds .1
 
-    -- the inner rounds see the columns and the lengths alone
-    outlined : (T F : List ℕ) → innerAll (outline (R .m) 1 1 1 (R .lengths)) T F (elements x) (begin t) ≡ innerAll (outlineOf R) T F (elements x) (begin t)
-    outlined T F = unfold innerAll innerRun segmentValue lowDraws ended in refl
+    half-is : elements (take (R .m) (drop (3 * R .m) s₁)) ≡ publicFolded (elements x) point
+    half-is =
+        let six : 6 * (R .m / 2) ≡ 3 * R .m = omega (arith, two) in
+        ap₂ (λ (i j : ℕ). elements (take i (drop j s₁))) (sym two) (sym six) ∙ folds .2
 
-    steps-are : innerPlayed (outline (R .m) 1 1 1 (R .lengths)) x s₁ t ≡ laterPlayed R ws x d s t
+    -- the inner rounds see the columns and the lengths alone
+    outlined : (T F H : List ℕ) → innerAll (outline (R .m) 1 1 1 (R .lengths)) T F H (begin t) ≡ innerAll (outlineOf R) T F H (begin t)
+    outlined T F H = unfold innerAll innerRun segmentValue lowDraws ended in refl
+
+    steps-are : innerPlayed (outline (R .m) 1 1 1 (R .lengths)) s₁ t ≡ laterPlayed R ws x d s t
     unfolding innerPlayed
-    steps-are = rw (front-is, columns-are) (outlined (elements (take (2 * R .m) s)) columns)
+    steps-are = rw (front-is, columns-are, half-is) (outlined (elements (take (2 * R .m) s)) columns (publicFolded (elements x) point))
 
     -- the words behind the prover's scratch
     abbrev n : ℕ
     n = proverRoom R
 
-    from : (v : List ℕ) → drop n v ≡ drop (n - (6 * (R .m / 2) + 2 * R .q)) (drop (6 * (R .m / 2) + 2 * R .q) v)
+    from : (v : List ℕ) → drop n v ≡ drop (n - (8 * (R .m / 2) + 2 * R .q)) (drop (8 * (R .m / 2) + 2 * R .q) v)
     from v =
-        let e : 6 * (R .m / 2) + 2 * R .q + (n - (6 * (R .m / 2) + 2 * R .q)) ≡ n = omega (arith, two) in
-        sym (drop-drop (n - (6 * (R .m / 2) + 2 * R .q)) (6 * (R .m / 2) + 2 * R .q) v ∙ ap (λ (i : ℕ). drop i v) e)
+        let e : 8 * (R .m / 2) + 2 * R .q + (n - (8 * (R .m / 2) + 2 * R .q)) ≡ n = omega (arith, two) in
+        sym (drop-drop (n - (8 * (R .m / 2) + 2 * R .q)) (8 * (R .m / 2) + 2 * R .q) v ∙ ap (λ (i : ℕ). drop i v) e)
 
     kept : drop n s₁ ≡ drop n s
-    kept = from s₁ ∙ (ap (drop (n - (6 * (R .m / 2) + 2 * R .q))) (folds .2) ∙ sym (from s))
+    kept = from s₁ ∙ (ap (drop (n - (8 * (R .m / 2) + 2 * R .q))) (folds .3) ∙ sym (from s))
 
     module _ (u : Transcript) (w′ c′ s₂ : List ℕ)
-        (ends : EndLeft R w d c s₁ (6 * R .m) (innerPlayed (outline (R .m) 1 1 1 (R .lengths)) x s₁ t) u w′ c′ s₂)
+        (ends : EndLeft R w d c s₁ (6 * R .m) (innerPlayed (outline (R .m) 1 1 1 (R .lengths)) s₁ t) u w′ c′ s₂)
         (N g : ℕ) (eN : N ≡ min g (length s₂)) (eg : g ≡ proverScratch (R .m) (R .q) (rowsBin R) (rowsFld R)) where
       s₂-long : length s₂ ≡ length s
       s₂-long =

@@ -18,7 +18,7 @@ use Rattle.magnetar_hash.specs.declared.transcript.Transcript.{Transcript}
 use Rattle.magnetar_hash.specs.Transcript.{absorbed, drawn}
 use Rattle.magnetar_layout.specs.Every.{every}
 use Rattle.magnetar_layout.specs.Tests.{noted, roomTest}
-use Rattle.magnetar_matrix.specs.Batch.{Relation, Batch, folded}
+use Rattle.magnetar_matrix.specs.Batch.{Relation, Batch, folded, publicFolded}
 use Rattle.magnetar_matrix.specs.Packed.{packedTable}
 use Rattle.magnetar_matrix.proofs.TableLaws.{elements-words}
 use Rattle.magnetar_verifier.proofs.Pieces.{elements-take}
@@ -256,14 +256,17 @@ module _ (R : Rules) (ws x w c s : List ℕ) (t : Transcript)
             ap reverse (ap (λ (l : List ℕ). take (log₂ q) (drop k l)) e ∙ (ap (take (log₂ q)) (drop-append-le k (O .played .draws) (elements (drop (drawnBefore R) z₀)) (omega (arith, h)))
             ∙ take-append-le (log₂ q) (drop k (O .played .draws)) (elements (drop (drawnBefore R) z₀)) (rw length-drop (omega (arith, h)))))
 
-        abbrev inner : (T F : List ℕ) → Transcript → Steps
-        inner T F h = innerAll r T F (elements x) (begin h)
+        abbrev inner : (T F H : List ℕ) → Transcript → Steps
+        inner T F H h = innerAll r T F H (begin h)
 
-        outlined : (T F : List ℕ) (h : Transcript) → innerAll o T F (elements x) (begin h) ≡ inner T F h
-        outlined T F h = unfold innerAll innerRun segmentValue lowDraws ended in refl
+        outlined : (T F H : List ℕ) (h : Transcript) → innerAll o T F H (begin h) ≡ inner T F H h
+        outlined T F H h = unfold innerAll innerRun segmentValue lowDraws ended in refl
 
-        steps-are : p ≡ inner (combined r E) (folded q (R .m / 2) B (loginPoint E)) (O .played .transcript)
-        steps-are = rw (table-is, point-is, u-is) (outlined (combined r E) (folded q (R .m / 2) B (loginPoint E)) (O .played .transcript))
+        abbrev half : List ℕ
+        half = publicFolded (elements x) (loginPoint E)
+
+        steps-are : p ≡ inner (combined r E) (folded q (R .m / 2) B (loginPoint E)) half (O .played .transcript)
+        steps-are = rw (table-is, point-is, u-is) (outlined (combined r E) (folded q (R .m / 2) B (loginPoint E)) half (O .played .transcript))
 
         whole : behind O p ≡ proving r B (elements x) t
         whole = ap (behind O) steps-are ∙ sym (proving-after r B (elements x) t)

@@ -10,7 +10,7 @@ use Rattle.magnetar_field.specs.Words.{elements, words}
 use Rattle.magnetar_hash.specs.declared.transcript.Transcript.{Transcript}
 use Rattle.magnetar_layout.specs.Login.{loginWords}
 use Rattle.magnetar_layout.specs.Tests.{Sized}
-use Rattle.magnetar_matrix.specs.Batch.{folded}
+use Rattle.magnetar_matrix.specs.Batch.{folded, publicFolded}
 use Rattle.magnetar_matrix.specs.Packed.{unpacked}
 use Rattle.magnetar_relation.specs.declared.shapes.Shape.{Shape}
 use Rattle.magnetar_relation.specs.declared.shapes.SystemShape.{SystemShape}
@@ -56,22 +56,24 @@ OuterDone q b f w s t u d w′ s′ =
     × (d ≡ drawsFor (outerNumber q b f w s t) (outerPlayed q b f s t) (replicate 256 0))
     × (w′ ≡ proofFor (outerNumber q b f w s t) (outerPlayed q b f s t) w) × (s′ ≡ scratchFor (outerNumber q b f w s t) (blockWords q b f) s)
 
--- ---- the batch folded at the point of the n draws from place k of d on, behind the first 4w words
--- what it asks for: so many packed words ws, words d of draws, and words s
-pub record FoldReady (q w n k ws d s : ℕ) : Type 0 where
+-- ---- the z of all logins folded at the point of the n draws from place k of d on, behind the first 4w words
+-- what it asks for: so many packed words ws, public words x, words d of draws, and words s
+pub record FoldReady (q w n k ws x d s : ℕ) : Type 0 where
   pub columns : Sized 2 65536 (2 * w)
   pub logins : Sized 1 4096 q
   pub packed : ws ≡ q * loginWords w
+  pub public : x ≡ 2 * w - 2
   pub point : n ≡ log₂ q
   pub place : k ≤ 4096
   pub drawn : 2 * k + 2 * n ≤ d
-  pub room : 6 * w + 2 * q ≤ s
+  pub room : 8 * w + 2 * q ≤ s
 
 -- what s′ is
-abbrev pub FoldLeft : (q w n k : ℕ) → (ws d s s′ : List ℕ) → Type 0
-FoldLeft q w n k ws d s s′ =
-    (take (4 * w) s′ ≡ take (4 * w) s) × (elements (take (2 * w) (drop (4 * w) s′)) ≡ folded q w (unpacked q w ws) (reverse (take n (drop k (elements d)))))
-    × (drop (6 * w + 2 * q) s′ ≡ drop (6 * w + 2 * q) s)
+abbrev pub FoldLeft : (q w n k : ℕ) → (ws x d s s′ : List ℕ) → Type 0
+FoldLeft q w n k ws x d s s′ =
+    let p = reverse (take n (drop k (elements d))) in
+    (take (4 * w) s′ ≡ take (4 * w) s) × (elements (take (2 * w) (drop (4 * w) s′)) ≡ folded q w (unpacked q w ws) p)
+    × (elements (take (2 * w) (drop (6 * w) s′)) ≡ publicFolded (elements x) p) × (drop (8 * w + 2 * q) s′ ≡ drop (8 * w + 2 * q) s)
 
 -- where the draws for the logins' point begin
 abbrev pub loginAt : (q b f : ℕ) → ℕ
@@ -92,12 +94,12 @@ saidAll R w p = take (saidBefore R) w ++ words (p .sent)
 abbrev pub drawnAll : Rules → (d : List ℕ) → Steps → List ℕ
 drawnAll R d p = take (drawnBefore R) d ++ words (p .played .draws)
 
--- the inner rounds from word a of the proof w and word k of the draws d on, with the table and the folded columns in front of s: the
+-- the inner rounds from word a of the proof w and word k of the draws d on, with the table and the folded z in front of s: the
 -- transcript u, and w′, d′, s′
-abbrev pub InnerDone : (m : ℕ) → (ns x w d s : List ℕ) → (a k : ℕ) → Transcript → Transcript → (w′ d′ s′ : List ℕ) → Type 0
-InnerDone m ns x w d s a k t u w′ d′ s′ =
-    let z = innerRoundsRefusal m ns x (drop a w) (drop k d) s t in
-    let p = innerPlayed (outline m 1 1 1 ns) x s t in
+abbrev pub InnerDone : (m : ℕ) → (ns w d s : List ℕ) → (a k : ℕ) → Transcript → Transcript → (w′ d′ s′ : List ℕ) → Type 0
+InnerDone m ns w d s a k t u w′ d′ s′ =
+    let z = innerRoundsRefusal m ns (drop a w) (drop k d) s t in
+    let p = innerPlayed (outline m 1 1 1 ns) s t in
     (u ≡ unlessRefused z (p .played .transcript) t) × (w′ ≡ take a w ++ proofFor z p (drop a w)) × (d′ ≡ take k d ++ drawsFor z p (drop k d))
     × (s′ ≡ scratchFor z (6 * m) s)
 
@@ -108,12 +110,11 @@ EndLeft R w d c s n p u w′ c′ s′ =
     × (c′ ≡ words (claims (outlineOf R) (elements (saidAll R w p)) (elements (drawnAll R d p))) ++ drop (claimWords R) c)
     × (s′ ≡ replicate n 0 ++ drop n s)
 
--- its steps: the combined table in front of s, the batch folded at the point of the logins, which is among the words d of the draws
+-- its steps: the combined table in front of s, the z of all logins folded at their point, which is among the words d of the draws
 abbrev pub laterPlayed : Rules → (ws x d s : List ℕ) → Transcript → Steps
 laterPlayed R ws x d s t =
-    innerAll (outlineOf R) (elements (take (2 * R .m) s))
-    (folded (R .q) (R .m / 2) (unpacked (R .q) (R .m / 2) ws) (reverse (take (log₂ (R .q)) (drop (loginAt (R .q) (rowsBin R) (rowsFld R)) (elements d)))))
-    (elements x) (begin t)
+    let p = reverse (take (log₂ (R .q)) (drop (loginAt (R .q) (rowsBin R) (rowsFld R)) (elements d))) in
+    innerAll (outlineOf R) (elements (take (2 * R .m) s)) (folded (R .q) (R .m / 2) (unpacked (R .q) (R .m / 2) ws) p) (publicFolded (elements x) p) (begin t)
 
 -- what is left where a run has what it asks for
 abbrev pub LaterLeft : Rules → (ws x w d c s : List ℕ) → Transcript → Transcript → (w′ c′ s′ : List ℕ) → Type 0

@@ -87,7 +87,7 @@ pub(crate) fn login_point(draws: &[u64], k: usize, n: usize, out: &mut [u64])
     }
 }
 
-// The batch folded at the point of the n draws from place k on, which is put into `point`, behind the first 4w words of s.
+// The z of all logins folded at the point of the n draws from place k on, which is put into `point`, behind the first 4w words of s.
 fn fold_at(
     s: &mut [u64],
     q: usize,
@@ -95,20 +95,23 @@ fn fold_at(
     n: usize,
     k: usize,
     packed: &[u64],
+    x: &[u64],
     draws: &[u64],
     point: &mut [u64],
 )
     requires { ⌜ (k ≤ 4096) × (n ≤ 16) × (length (now point) ≡ 2 * n) ⌝ }
-    ensures { λ _. ⌜ (FoldReady q w n k (length (now (packed .entry))) (length (now (draws .entry))) (length (now (s .entry))) → FoldLeft q w n k (now (packed .entry)) (now (draws .entry)) (now (s .entry)) (now (s .exit))) ⌝ }
+    ensures { λ _. ⌜ (FoldReady q w n k (length (now (packed .entry))) (length (now (x .entry))) (length (now (draws .entry))) (length (now (s .entry))) → FoldLeft q w n k (now (packed .entry)) (now (x .entry)) (now (draws .entry)) (now (s .entry)) (now (s .exit))) ⌝ }
 {
     login_point(draws, k, n, point);
-    if w <= s.len() / 4 {
+    if w <= s.len() / 8 {
         let a = 4 * w;
+        let b = 6 * w;
         let _done = fold::fold_packed_in(packed, q, w, point, &mut s[a..]);
+        let _also = fold::fold_public_in(x, q, w, point, &mut s[b..]);
     }
 }
 
-// The batch folded at the point of the logins, behind the combined table.
+// The z of all logins folded at their point, behind the combined table.
 fn fold_behind(
     s: &mut [u64],
     m: usize,
@@ -116,9 +119,10 @@ fn fold_behind(
     rb: usize,
     rf: usize,
     packed: &[u64],
+    x: &[u64],
     d: [u64; 256],
 )
-    ensures { λ _. ⌜ (FoldReady q (m / 2) (log₂ q) (loginAt q rb rf) (length (now (packed .entry))) (length d) (length (now (s .entry))) → FoldLeft q (m / 2) (log₂ q) (loginAt q rb rf) (now (packed .entry)) d (now (s .entry)) (now (s .exit))) ⌝ }
+    ensures { λ _. ⌜ (FoldReady q (m / 2) (log₂ q) (loginAt q rb rf) (length (now (packed .entry))) (length (now (x .entry))) (length d) (length (now (s .entry))) → FoldLeft q (m / 2) (log₂ q) (loginAt q rb rf) (now (packed .entry)) (now (x .entry)) d (now (s .entry)) (now (s .exit))) ⌝ }
 {
     let l = sizes::log(q);
     let b = sizes::log(rb);
@@ -128,7 +132,7 @@ fn fold_behind(
     let e = 2 * n;
     let w = m / 2;
     let mut point = [0u64; 32];
-    fold_at(s, q, w, n, k, packed, &d, &mut point[0..e]);
+    fold_at(s, q, w, n, k, packed, x, &d, &mut point[0..e]);
 }
 
 // How many words of the proof come before the inner rounds.
@@ -160,14 +164,13 @@ fn inner_part(
     k: usize,
     m: usize,
     lens: &[usize],
-    x: &[u64],
     t: Transcript,
 ) -> Transcript
-    ensures { λ r. ⌜ InnerDone m (now (lens .entry)) (now (x .entry)) (now (proof .entry)) (now (draws .entry)) (now (s .entry)) (min a (length (now (proof .entry)))) (min k (length (now (draws .entry)))) t r (now (proof .exit)) (now (draws .exit)) (now (s .exit)) ⌝ }
+    ensures { λ r. ⌜ InnerDone m (now (lens .entry)) (now (proof .entry)) (now (draws .entry)) (now (s .entry)) (min a (length (now (proof .entry)))) (min k (length (now (draws .entry)))) t r (now (proof .exit)) (now (draws .exit)) (now (s .exit)) ⌝ }
 {
     let i = sizes::least(a, proof.len());
     let j = sizes::least(k, draws.len());
-    let r = inner::inner_rounds(m, lens, x, &mut proof[i..], &mut draws[j..], s, t);
+    let r = inner::inner_rounds(m, lens, &mut proof[i..], &mut draws[j..], s, t);
     r.transcript
 }
 
@@ -181,12 +184,11 @@ fn end(
     rb: usize,
     rf: usize,
     lens: &[usize],
-    x: &[u64],
     d: [u64; 256],
     t: Transcript,
 ) -> Transcript
-    ensures { λ r. ⌜ (let R = bare m q rb rf (now (lens .entry)) in (ws : ℕ) → RunReady R ws (length (now (x .entry))) (length (now (proof .entry))) (length (now (claims .entry))) (length (now (s .entry))) (t .«squeeze_ctr») → length d ≡ 256
-        → EndLeft R (now (proof .entry)) d (now (claims .entry)) (now (s .entry)) (6 * m) (innerPlayed (outline m 1 1 1 (now (lens .entry))) (now (x .entry)) (now (s .entry)) t) r (now (proof .exit)) (now (claims .exit)) (now (s .exit))) ⌝ }
+    ensures { λ r. ⌜ (let R = bare m q rb rf (now (lens .entry)) in (ws xs : ℕ) → RunReady R ws xs (length (now (proof .entry))) (length (now (claims .entry))) (length (now (s .entry))) (t .«squeeze_ctr») → length d ≡ 256
+        → EndLeft R (now (proof .entry)) d (now (claims .entry)) (now (s .entry)) (6 * m) (innerPlayed (outline m 1 1 1 (now (lens .entry))) (now (s .entry)) t) r (now (proof .exit)) (now (claims .exit)) (now (s .exit))) ⌝ }
 {
     let a = said_before(q, rb, rf);
     let k = drawn_before(q, rb, rf);
@@ -194,12 +196,12 @@ fn end(
     let i = sizes::least(refusal::proof_words(m, q, rb, rf, l), proof.len());
     let n = sizes::least(rooms::draw_words(m, q, rb, rf), 256);
     let mut draws = d;
-    let u = inner_part(proof, &mut draws, s, a, k, m, lens, x, t);
+    let u = inner_part(proof, &mut draws, s, a, k, m, lens, t);
     let _done = claims::write_claims(m, q, rb, rf, lens, &proof[0..i], &draws[0..n], claims);
     u
 }
 
-// What comes behind the combined table: the folded columns, the inner rounds and the claims; the scratch is 0 at exit.
+// What comes behind the combined table: the folded z, the inner rounds and the claims; the scratch is 0 at exit.
 pub(crate) fn later(
     proof: &mut [u64],
     claims: &mut [u64],
@@ -217,8 +219,8 @@ pub(crate) fn later(
 {
     let d = o.draws;
     let t = o.transcript;
-    fold_behind(s, m, q, rb, rf, packed, d);
-    let u = end(proof, claims, s, m, q, rb, rf, lens, x, d, t);
+    fold_behind(s, m, q, rb, rf, packed, x, d);
+    let u = end(proof, claims, s, m, q, rb, rf, lens, d, t);
     let n = sizes::least(rooms::prover_room(m, q, rb, rf), s.len());
     words::clear(&mut s[0..n]);
     u

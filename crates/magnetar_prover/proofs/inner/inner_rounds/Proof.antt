@@ -30,7 +30,7 @@ same-length-3 : tie.Need-same-length-3
 same-length-3 c = search needs
 
 returns : tie.Need-returns
-returns c = let x = c .before .before .before .before .before .before .before .before .before .before .args in let e = c .before .of-inner .ensures in (
+returns c = let x = c .before .before .before .before .before .before .before .before .before .args in let e = c .before .of-inner .ensures in (
   ap₂ (λ (n : ℕ) (u : Transcript). record { code = n; transcript = u }) e (turned _ (x .t) e (c .if1 .taken)),
   (
     turned _ (now (x .proof)) e (c
@@ -43,43 +43,37 @@ log2-requires : tie.Need-log2-requires
 log2-requires c κs = search needs
 
 mul-a : tie.Need-mul-a
-mul-a c = let x = c .before .before .before .before .before .before .before .before .before .before .before .args in let f = inner-fits (x .m) (now
-    (x .lens)) (now (x .x)) (now (x .proof)) (now (x .draws)) (now (x .s)) (x .t) (sym (c .before .before .of-inner .ensures) ∙ c .before .if1 .left)
+mul-a c = let x = c .before .before .before .before .before .before .before .before .before .before .args in let f = inner-fits (x .m) (now (x .lens)) (now (x .proof)) (now (x .draws)) (now (x .s)) (x .t) (sym (c .before .before .of-inner .ensures) ∙ c .before .if1 .left)
     in let z = f .sizes in let k = c .log2 .ensures in omega (arith, k, z .few, z .segments, z .columns .high)
 
 add-a : tie.Need-add-a
-add-a c = let x = c .before .before .before .before .before .before .before .before .before .before .before .args in let f = inner-fits (x .m) (now
-    (x .lens)) (now (x .x)) (now (x .proof)) (now (x .draws)) (now (x .s)) (x .t) (sym (c .before .before .of-inner .ensures) ∙ c .before .if1 .left)
+add-a c = let x = c .before .before .before .before .before .before .before .before .before .before .args in let f = inner-fits (x .m) (now (x .lens)) (now (x .proof)) (now (x .draws)) (now (x .s)) (x .t) (sym (c .before .before .of-inner .ensures) ∙ c .before .if1 .left)
     in let z = f .sizes in let k = c .log2 .ensures in omega (arith, k, z .few, z .segments, z .columns .high)
 
 add-a-2 : tie.Need-add-a-2
-add-a-2 c = let x = c .before .before .before .before .before .before .before .before .before .before .before .args in let f = inner-fits (x .m) (now
-    (x .lens)) (now (x .x)) (now (x .proof)) (now (x .draws)) (now (x .s)) (x .t) (sym (c .before .before .of-inner .ensures) ∙ c .before .if1 .left)
+add-a-2 c = let x = c .before .before .before .before .before .before .before .before .before .before .args in let f = inner-fits (x .m) (now (x .lens)) (now (x .proof)) (now (x .draws)) (now (x .s)) (x .t) (sym (c .before .before .of-inner .ensures) ∙ c .before .if1 .left)
     in let z = f .sizes in let k = c .log2 .ensures in omega (arith, k, z .few, z .segments, z .columns .high)
 
 mul-a-2 : tie.Need-mul-a-2
-mul-a-2 c = let x = c .before .before .before .before .before .before .before .before .before .before .before .args in let f = inner-fits (x .m) (now
-    (x .lens)) (now (x .x)) (now (x .proof)) (now (x .draws)) (now (x .s)) (x .t) (sym (c .before .before .of-inner .ensures) ∙ c .before .if1 .left)
+mul-a-2 c = let x = c .before .before .before .before .before .before .before .before .before .before .args in let f = inner-fits (x .m) (now (x .lens)) (now (x .proof)) (now (x .draws)) (now (x .s)) (x .t) (sym (c .before .before .of-inner .ensures) ∙ c .before .if1 .left)
     in let z = f .sizes in let k = c .log2 .ensures in omega (arith, k, z .few, z .segments, z .columns .high)
 
 mul-d : tie.Need-mul-d
-mul-d c = let x = c .before .before .before .before .before .before .before .before .before .before .before .args in let f = inner-fits (x .m) (now
-    (x .lens)) (now (x .x)) (now (x .proof)) (now (x .draws)) (now (x .s)) (x .t) (sym (c .before .before .of-inner .ensures) ∙ c .before .if1 .left)
+mul-d c = let x = c .before .before .before .before .before .before .before .before .before .before .args in let f = inner-fits (x .m) (now (x .lens)) (now (x .proof)) (now (x .draws)) (now (x .s)) (x .t) (sym (c .before .before .of-inner .ensures) ∙ c .before .if1 .left)
     in let z = f .sizes in let k = c .log2 .ensures in omega (arith, k, z .few, z .segments, z .columns .high)
 
 mul-e : tie.Need-mul-e
-mul-e c = let x = c .before .before .before .before .before .before .before .before .before .before .before .args in let f = inner-fits (x .m) (now
-    (x .lens)) (now (x .x)) (now (x .proof)) (now (x .draws)) (now (x .s)) (x .t) (sym (c .before .before .of-inner .ensures) ∙ c .before .if1 .left)
+mul-e c = let x = c .before .before .before .before .before .before .before .before .before .before .args in let f = inner-fits (x .m) (now (x .lens)) (now (x .proof)) (now (x .draws)) (now (x .s)) (x .t) (sym (c .before .before .of-inner .ensures) ∙ c .before .if1 .left)
     in let z = f .sizes in let k = c .log2 .ensures in omega (arith, k, z .few, z .segments, z .columns .high)
 
 slice-relend-prefix-run : tie.Need-slice-relend-prefix-run
-slice-relend-prefix-run c = let x = c .before .before .before .before .before .before .before .before .before .before .before .args in let f =
-    inner-fits (x .m) (now (x .lens)) (now (x .x)) (now (x .proof)) (now (x .draws)) (now (x .s)) (x .t) (sym (c .before .before .of-inner .ensures)
+slice-relend-prefix-run c = let x = c .before .before .before .before .before .before .before .before .before .before .args in let f =
+    inner-fits (x .m) (now (x .lens)) (now (x .proof)) (now (x .draws)) (now (x .s)) (x .t) (sym (c .before .before .of-inner .ensures)
     ∙ c .before .if1 .left) in let z = f .sizes in let k = c .log2 .ensures in omega (arith, k, f .sent)
 
 slice-aggregate-run : tie.Need-slice-aggregate-run
-slice-aggregate-run c = let x = c .before .before .before .before .before .before .before .before .before .before .before .before .args in let f =
-    inner-fits (x .m) (now (x .lens)) (now (x .x)) (now (x .proof)) (now (x .draws)) (now (x .s)) (x .t) (sym (c .before .before .before .of-inner
+slice-aggregate-run c = let x = c .before .before .before .before .before .before .before .before .before .before .before .args in let f =
+    inner-fits (x .m) (now (x .lens)) (now (x .proof)) (now (x .draws)) (now (x .s)) (x .t) (sym (c .before .before .before .of-inner
     .ensures) ∙ c .before .before .if1 .left) in let z = f .sizes in let k = c .before .log2 .ensures in sym (length-take-le _ _ (omega (
       arith,
       k,
@@ -88,35 +82,34 @@ slice-aggregate-run c = let x = c .before .before .before .before .before .befor
     )))
 
 slice-relend-prefix-run-2 : tie.Need-slice-relend-prefix-run-2
-slice-relend-prefix-run-2 c = let x = c .before .before .before .before .before .before .before .before .before .before .before .before .args in let
-    f = inner-fits (x .m) (now (x .lens)) (now (x .x)) (now (x .proof)) (now (x .draws)) (now (x .s)) (x .t) (sym (c .before .before .before
+slice-relend-prefix-run-2 c = let x = c .before .before .before .before .before .before .before .before .before .before .before .args in let
+    f = inner-fits (x .m) (now (x .lens)) (now (x .proof)) (now (x .draws)) (now (x .s)) (x .t) (sym (c .before .before .before
     .of-inner .ensures) ∙ c .before .before .if1 .left) in let z = f .sizes in let k = c .before .log2 .ensures in omega (arith, k, f .drawn)
 
 slice-aggregate-run-2 : tie.Need-slice-aggregate-run-2
-slice-aggregate-run-2 c = let x = c .before .before .before .before .before .before .before .before .before .before .before .before .before .args in
-    let f = inner-fits (x .m) (now (x .lens)) (now (x .x)) (now (x .proof)) (now (x .draws)) (now (x .s)) (x .t) (sym (c .before .before .before
+slice-aggregate-run-2 c = let x = c .before .before .before .before .before .before .before .before .before .before .before .before .args in
+    let f = inner-fits (x .m) (now (x .lens)) (now (x .proof)) (now (x .draws)) (now (x .s)) (x .t) (sym (c .before .before .before
     .before .of-inner .ensures) ∙ c .before .before .before .if1 .left) in let z = f .sizes in let k = c .before .before .log2 .ensures in sym
     (length-take-le _ _ (omega (arith, k, f .drawn)))
 
 slice-relend-prefix-run-3 : tie.Need-slice-relend-prefix-run-3
-slice-relend-prefix-run-3 c = let x = c .before .before .before .before .before .before .before .before .before .before .before .before .before .args
-    in let f = inner-fits (x .m) (now (x .lens)) (now (x .x)) (now (x .proof)) (now (x .draws)) (now (x .s)) (x .t) (sym (c .before .before .before
+slice-relend-prefix-run-3 c = let x = c .before .before .before .before .before .before .before .before .before .before .before .before .args
+    in let f = inner-fits (x .m) (now (x .lens)) (now (x .proof)) (now (x .draws)) (now (x .s)) (x .t) (sym (c .before .before .before
     .before .of-inner .ensures) ∙ c .before .before .before .if1 .left) in let z = f .sizes in let k = c .before .before .log2 .ensures in omega
     (arith, f .scratch)
 
 slice-aggregate-run-3 : tie.Need-slice-aggregate-run-3
-slice-aggregate-run-3 c = let x = c .before .before .before .before .before .before .before .before .before .before .before .before .before .before
-    .args in let f = inner-fits (x .m) (now (x .lens)) (now (x .x)) (now (x .proof)) (now (x .draws)) (now (x .s)) (x .t) (sym (c .before .before
+slice-aggregate-run-3 c = let x = c .before .before .before .before .before .before .before .before .before .before .before .before .before .args in let f = inner-fits (x .m) (now (x .lens)) (now (x .proof)) (now (x .draws)) (now (x .s)) (x .t) (sym (c .before .before
     .before .before .before .of-inner .ensures) ∙ c .before .before .before .before .if1 .left) in let z = f .sizes in let k = c .before .before
     .before .log2 .ensures in sym (length-take-le _ _ (omega (arith, f .scratch)))
 
 run-requires : tie.Need-run-requires
-run-requires c κs = let x = c .before .before .before .before .before .before .before .before .before .before .before .before .before .before .args
-    in let f = inner-fits (x .m) (now (x .lens)) (now (x .x)) (now (x .proof)) (now (x .draws)) (now (x .s)) (x .t) (sym (c .before .before .before
+run-requires c κs = let x = c .before .before .before .before .before .before .before .before .before .before .before .before .before .args
+    in let f = inner-fits (x .m) (now (x .lens)) (now (x .proof)) (now (x .draws)) (now (x .s)) (x .t) (sym (c .before .before .before
     .before .before .of-inner .ensures) ∙ c .before .before .before .before .if1 .left) in let z = f .sizes in let k = c .before .before .before
-    .log2 .ensures in let r = ready (x .m) (now (x .lens)) (now (x .x)) (c .before .before .before .log2 .result) k z in
+    .log2 .ensures in let r = ready (x .m) (now (x .lens)) (c .before .before .before .log2 .result) k z in
     let l : length (take (6 * x .m) (now (x .s))) ≡ 12 * (x .m / 2) = length-take-le (6 * x .m) (now (x .s)) (f .scratch) ∙ omega (arith, r .double) in (
-      (l, r .some, r .most, omega (arith, z .public, r .double, z .columns .low), r .rounds, r .few),
+      (l, r .some, r .most, r .rounds, r .few),
       (
         (
           length-take-le (2 * c .before .before .before
@@ -140,34 +133,34 @@ same-length-6 : tie.Need-same-length-6
 same-length-6 c = search needs
 
 returns-2 : tie.Need-returns-2
-returns-2 c = let x = c .before .before .before .before .before .before .before .before .before .before .before .before .before .before .before
-    .before .before .before .before .before .before .args in let f = inner-fits (x .m) (now (x .lens)) (now (x .x)) (now (x .proof)) (now (x .draws))
+returns-2 c = let x = c .before .before .before .before .before .before .before .before .before .before .before .before .before .before
+    .before .before .before .before .before .before .args in let f = inner-fits (x .m) (now (x .lens)) (now (x .proof)) (now (x .draws))
     (now (x .s)) (x .t) (sym (c .before .before .before .before .before .before .before .before .before .before .before .before .of-inner .ensures) ∙
     c .before .before .before .before .before .before .before .before .before .before .before .if1 .left) in let z = f .sizes in let k = c .before
-    .before .before .before .before .before .before .before .before .before .log2 .ensures in let r = ready (x .m) (now (x .lens)) (now (x .x)) (c
+    .before .before .before .before .before .before .before .before .before .log2 .ensures in let r = ready (x .m) (now (x .lens)) (c
     .before .before .before .before .before .before .before .before .before .before .log2 .result) k z in
-    let e : _≡_ {A = ℕ} 0 (innerRoundsRefusal (x .m) (now (x .lens)) (now (x .x)) (now (x .proof)) (now (x .draws)) (now (x .s)) (x .t)) = sym (sym
+    let e : _≡_ {A = ℕ} 0 (innerRoundsRefusal (x .m) (now (x .lens)) (now (x .proof)) (now (x .draws)) (now (x .s)) (x .t)) = sym (sym
     (c .before .before .before .before .before .before .before .before .before .before .before .before .of-inner .ensures) ∙ c .before .before
     .before .before .before .before .before .before .before .before .before .if1 .left) in
     let q = c .before .before .before .before .before .before .run .ensures .0 ∙ entered (x .m) (x .m / 2) 1 1 1 (c .before .before .before .before
-    .before .before .before .before .before .before .log2 .result) (now (x .lens)) (now (x .x)) (now (x .s)) (x .t) k refl (r .double) (r
+    .before .before .before .before .before .before .log2 .result) (now (x .lens)) (now (x .s)) (x .t) k refl (r .double) (r
     .locals) in
-    let a : length (c .before .before .before .before .before .before .run .last .1 .1 .1 .1 .0) ≡ (2 * (3 * c .before .before .before .before
+    let a : length (c .before .before .before .before .before .before .run .last .1 .1 .1 .0) ≡ (2 * (3 * c .before .before .before .before
     .before .before .before .before .before .before .log2 .result + 1 + length (now (x .lens)))) = c .before .before .before .before .before
-    .before .run .kept .1 .1 .1 .1 .0 ∙ length-take-le _ _ (omega (arith, k, f .sent)) in
-    let d : length (c .before .before .before .before .before .before .run .last .1 .1 .1 .1 .1 .0) ≡ 2 * c .before .before .before .before .before
-    .before .before .before .before .before .log2 .result = c .before .before .before .before .before .before .run .kept .1 .1 .1 .1 .1 .0 ∙
+    .before .run .kept .1 .1 .1 .0 ∙ length-take-le _ _ (omega (arith, k, f .sent)) in
+    let d : length (c .before .before .before .before .before .before .run .last .1 .1 .1 .1 .0) ≡ 2 * c .before .before .before .before .before
+    .before .before .before .before .before .log2 .result = c .before .before .before .before .before .before .run .kept .1 .1 .1 .1 .0 ∙
     length-take-le _ _ (omega (arith, k, f .drawn)) in
     let l : length (take (6 * x .m) (now (x .s))) ≡ 6 * x .m = length-take-le _ _ (f .scratch) in (
       ap₂ (λ (n : ℕ) (u : Transcript). record { code = n; transcript = u }) e (ap (λ (p : Steps). p .played .transcript) q ∙ done _ (x .t) e refl),
       (
-        laid-over (c .before .before .before .before .before .before .run .last .1 .1 .1 .1 .0) (now (x .proof)) (2 * (3 * c .before .before .before
+        laid-over (c .before .before .before .before .before .before .run .last .1 .1 .1 .0) (now (x .proof)) (2 * (3 * c .before .before .before
             .before .before .before .before .before .before .before .log2 .result + 1 + length (now (x .lens)))) (3 * c .before .before .before
             .before .before .before .before .before .before .before .log2 .result + 1 + length (now (x .lens))) refl a (omega (arith, k, f .sent)) (λ
             i. omega (arith, c .before .before .before .before .slice-known4 .given i)) ∙ (ap (λ (p : Steps). overlaid (words (p .sent)) (now (x
             .proof))) q ∙ done _ (now (x .proof)) e refl),
         (
-          laid-over (c .before .before .before .before .before .before .run .last .1 .1 .1 .1 .1 .0) (now (x .draws)) (2 * c .before .before .before
+          laid-over (c .before .before .before .before .before .before .run .last .1 .1 .1 .1 .0) (now (x .draws)) (2 * c .before .before .before
               .before .before .before .before .before .before .before .log2 .result) (c .before .before .before .before .before .before .before
               .before .before .before .log2 .result) refl d (omega (arith, k, f .drawn)) (λ i. omega (
                 arith,

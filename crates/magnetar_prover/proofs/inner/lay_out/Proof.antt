@@ -1,14 +1,8 @@
 -- `magnetar_prover::inner::lay_out` meets its contract.
 -- Assumes nothing.
-use Prim.Native.Nat.{_*_, _+_}
-use Rattle.magnetar_field.specs.Words.{elements}
 use Rattle.magnetar_prover.proofs.LaidOut.{laid-copy, laid-table, laid-z}
-use Rattle.magnetar_prover.proofs.Slots.{part-length}
 use borrow.Author.Needs.{needs}
 use denote.Ref.{now}
-use lib.ListN.{length}
-use mathlib.Core.Path.{_∙_, _≡_}
-use native.Mathlib.Omega.{arith}
 use Rattle.magnetar_prover.proofs.inner.lay_out.Statement.{statement}
 use Rattle.magnetar_prover.proofs.inner.lay_out.Tie as tie
 
@@ -18,14 +12,8 @@ mul-n c = search needs
 mul-a : tie.Need-mul-a
 mul-a c = search needs
 
-mul-b : tie.Need-mul-b
-mul-b c = search needs
-
 mul-e : tie.Need-mul-e
 mul-e c = search needs
-
-mul-c : tie.Need-mul-c
-mul-c c = search needs
 
 mul-copy-down : tie.Need-mul-copy-down
 mul-copy-down c = search needs
@@ -42,38 +30,18 @@ part-copy-down-end c = search needs
 copy-down-requires : tie.Need-copy-down-requires
 copy-down-requires c κs = search needs
 
-mul-put-public : tie.Need-mul-put-public
-mul-put-public c = search needs
-
-sub-put-public : tie.Need-sub-put-public
-sub-put-public c = search needs
-
-part-put-public-start : tie.Need-part-put-public-start
-part-put-public-start c = search needs
-
-part-put-public-end : tie.Need-part-put-public-end
-part-put-public-end c = search needs
-
-put-public-requires : tie.Need-put-public-requires
-put-public-requires c κs = search needs
-
 same-length : tie.Need-same-length
 same-length c = search needs
 
 returns : tie.Need-returns
-returns c = let s = c .before .before .before .before .before .before .before .before .before .before in
-    let x = s .args in
-    let h : length (now (x .s)) ≡ 12 * x .w = s .pre .0 in
-    let l : length (now (x .x)) + 2 ≡ 2 * x .w = s .pre .3 in
-    let e = c .before .before .before .before .before .before .copy-down .ensures in
-    let f = c .before .before .put-public .ensures in
-    let k : length (c .before .before .put-public .last .1 .0) ≡ 2 * x .w = c .before .before .put-public .kept .1 .0 ∙ part-length _ (6 * x .w) (8 * x .w) (omega arith) ∙ omega arith in (
-      laid-table (x .w) (now (x .s)) (c .before .before .before .before .before .before .copy-down .last .1 .0) (c .before .before .put-public .last .1 .0) (elements (now (x .x))) h e k f,
-      (
-        laid-z (x .w) (now (x .s)) (c .before .before .before .before .before .before .copy-down .last .1 .0) (c .before .before .put-public .last .1 .0) (elements (now (x .x))) h e k f,
-        laid-copy (x .w) (now (x .s)) (c .before .before .before .before .before .before .copy-down .last .1 .0) (c .before .before .put-public .last .1 .0) (elements (now (x .x))) h e k f,
-      ),
-    )
+returns c =
+    let d = c .before .before in
+    let s = d .before .before .before in
+    let w = s .args .w in
+    let u = now (s .args .s) in
+    let t = d .copy-down .last .1 .0 in
+    let e = d .copy-down .ensures in
+    (laid-table w u t (s .pre .0) e, (laid-z w u t (s .pre .0) e, laid-copy w u t (s .pre .0) e))
 
 pub lay-out-spec : {M : Type 1} → statement M
 lay-out-spec =
@@ -81,18 +49,11 @@ lay-out-spec =
     (tie.spec
     mul-n
     mul-a
-    mul-b
     mul-e
-    mul-c
     mul-copy-down
     sub-copy-down
     part-copy-down-start
     part-copy-down-end
     copy-down-requires
-    mul-put-public
-    sub-put-public
-    part-put-public-start
-    part-put-public-end
-    put-public-requires
     same-length
     returns)

@@ -36,16 +36,15 @@ slice-relend-prefix-rounds : tie.Need-slice-relend-prefix-rounds
 slice-relend-prefix-rounds c = search needs
 
 slice-aggregate-rounds : tie.Need-slice-aggregate-rounds
-slice-aggregate-rounds c = sym (length-take-le _ _ (omega (arith, c .before .before .before .before .before .lay-out .kept .1 .1 .0)))
+slice-aggregate-rounds c = sym (length-take-le _ _ (omega (arith, c .before .before .before .before .before .lay-out .kept .1 .0)))
 
 rounds-requires : tie.Need-rounds-requires
-rounds-requires c κs = let x = c .before .before .before .before .before .before .before .before .before .before .before .before .args in let p = c
-    .before .before .before .before .before .before .before .before .before .before .before .before .pre in
-    let l : length (take (8 * x .w) (c .before .before .before .before .before .lay-out .last .1 .1 .0)) ≡ 8 * x .w = length-take-le (8 * x .w) (c
-    .before .before .before .before .before .lay-out .last .1 .1 .0) (omega (
+rounds-requires c κs = let x = c .before .before .before .before .before .before .before .before .before .before .before .args in let p = c
+    .before .before .before .before .before .before .before .before .before .before .before .pre in
+    let l : length (take (8 * x .w) (c .before .before .before .before .before .lay-out .last .1 .0)) ≡ 8 * x .w = length-take-le (8 * x .w) (c
+    .before .before .before .before .before .lay-out .last .1 .0) (omega (
       arith,
-      c .before .before .before .before .before .lay-out .kept .1
-          .1 .0,
+      c .before .before .before .before .before .lay-out .kept .1 .0,
     )) in
     let q : 8 * x .w ≡ 4 * (2 * x .w) = omega arith in
     ((l ∙ q, omega arith, omega arith, omega arith, omega arith), p .1 .1 .0)
@@ -56,7 +55,7 @@ send-z-requires c κs = search needs
 mul-send-segments : tie.Need-mul-send-segments
 mul-send-segments c = omega (
   arith,
-  c .before .before .before .before .before .before .before .before .before .before .before .before .before .before
+  c .before .before .before .before .before .before .before .before .before .before .before .before .before
       .before .before .before .before .before .before .before .before .before .before .before .before .pre .0 .2,
 )
 
@@ -67,40 +66,40 @@ part-send-segments-start : tie.Need-part-send-segments-start
 part-send-segments-start c = search needs
 
 part-send-segments-end : tie.Need-part-send-segments-end
-part-send-segments-end c = let x = c .before .before .before .before .before .before .before .before .before .before .before .before .before .before
+part-send-segments-end c = let x = c .before .before .before .before .before .before .before .before .before .before .before .before .before
     .before .before .before .before .before .before .before .before .before .before .before .before .args in
-    let p = c .before .before .before .before .before .before .before .before .before .before .before .before .before .before .before .before .before
+    let p = c .before .before .before .before .before .before .before .before .before .before .before .before .before .before .before .before
     .before .before .before .before .before .before .before .before .before .pre in
     let l : length (c .before .before .before .before .before .before .before .before .before .before .before .before .before .before .before .before
-    .before .before .before .lay-out .last .1 .1 .0) ≡ 12 * x .w = c .before .before .before .before .before .before .before .before .before
-    .before .before .before .before .before .before .before .before .before .before .lay-out .kept .1 .1 .0 ∙ p .0 .0 in
+    .before .before .before .lay-out .last .1 .0) ≡ 12 * x .w = c .before .before .before .before .before .before .before .before .before
+    .before .before .before .before .before .before .before .before .before .before .lay-out .kept .1 .0 ∙ p .0 .0 in
     let f : length (c .before .before .before .before .before .before .before .before .before .before .before .before .before .rounds .last .1 .1 .1
     .1 .0) ≡ 8 * x .w = c .before .before .before .before .before .before .before .before .before .before .before .before .before .rounds .kept
     .1 .1 .1 .1 .0 ∙ length-take-le _ _ (omega (arith, l)) in
     let g : length (c .before .before .before .before .before .before .before .before .before .before .before .before .before .rounds .last .1 .1 .1
     .1 .0 ++ drop (8 * x .w) (c .before .before .before .before .before .before .before .before .before .before .before .before .before .before
-    .before .before .before .before .before .lay-out .last .1 .1 .0)) ≡ 12 * x .w = fore-length (c .before .before .before .before .before
-    .before .before .before .before .before .before .before .before .before .before .before .before .before .before .lay-out .last .1 .1 .0) (c
+    .before .before .before .before .before .lay-out .last .1 .0)) ≡ 12 * x .w = fore-length (c .before .before .before .before .before
+    .before .before .before .before .before .before .before .before .before .before .before .before .before .before .lay-out .last .1 .0) (c
     .before .before .before .before .before .before .before .before .before .before .before .before .before .rounds .last .1 .1 .1 .1 .0) (8 * x
     .w) (omega (arith, l)) f ∙ l in
     omega (arith, g)
 
 send-segments-requires : tie.Need-send-segments-requires
-send-segments-requires c κs = let x = c .before .before .before .before .before .before .before .before .before .before .before .before .before
+send-segments-requires c κs = let x = c .before .before .before .before .before .before .before .before .before .before .before .before
     .before .before .before .before .before .before .before .before .before .before .before .before .before .before .args in
-    let p = c .before .before .before .before .before .before .before .before .before .before .before .before .before .before .before .before .before
+    let p = c .before .before .before .before .before .before .before .before .before .before .before .before .before .before .before .before
     .before .before .before .before .before .before .before .before .before .before .pre in
     let l : length (c .before .before .before .before .before .before .before .before .before .before .before .before .before .before .before .before
-    .before .before .before .before .lay-out .last .1 .1 .0) ≡ 12 * x .w = c .before .before .before .before .before .before .before .before
-    .before .before .before .before .before .before .before .before .before .before .before .before .lay-out .kept .1 .1 .0 ∙ p .0 .0 in
+    .before .before .before .before .lay-out .last .1 .0) ≡ 12 * x .w = c .before .before .before .before .before .before .before .before
+    .before .before .before .before .before .before .before .before .before .before .before .before .lay-out .kept .1 .0 ∙ p .0 .0 in
     let f : length (c .before .before .before .before .before .before .before .before .before .before .before .before .before .before .rounds .last
     .1 .1 .1 .1 .0) ≡ 8 * x .w = c .before .before .before .before .before .before .before .before .before .before .before .before .before
     .before .rounds .kept .1 .1 .1 .1 .0 ∙ length-take-le _ _ (omega (arith, l)) in
     let g : length (c .before .before .before .before .before .before .before .before .before .before .before .before .before .before .rounds .last
     .1 .1 .1 .1 .0 ++ drop (8 * x .w) (c .before .before .before .before .before .before .before .before .before .before .before .before .before
-    .before .before .before .before .before .before .before .lay-out .last .1 .1 .0)) ≡ 12 * x .w = fore-length (c .before .before .before
+    .before .before .before .before .before .before .before .lay-out .last .1 .0)) ≡ 12 * x .w = fore-length (c .before .before .before
     .before .before .before .before .before .before .before .before .before .before .before .before .before .before .before .before .before
-    .lay-out .last .1 .1 .0) (c .before .before .before .before .before .before .before .before .before .before .before .before .before .before
+    .lay-out .last .1 .0) (c .before .before .before .before .before .before .before .before .before .before .before .before .before .before
     .rounds .last .1 .1 .1 .1 .0) (8 * x .w) (omega (arith, l)) f ∙ l in
     let d : length (c .before .before .before .before .before .before .before .before .before .before .before .before .before .before .rounds .last
     .1 .1 .1 .0) ≡ 2 * x .k = c .before .before .before .before .before .before .before .before .before .before .before .before .before .before
@@ -110,7 +109,7 @@ send-segments-requires c κs = let x = c .before .before .before .before .before
     .before .rounds .kept .1 .1 .0 in
     let i : 12 * x .w - 8 * x .w ≡ 4 * x .w = omega arith in (
       (
-        omega (arith, p .0 .5),
+        omega (arith, p .0 .4),
         p .1 .0 .1,
         omega (arith, h, p .1 .0 .2),
         p .0 .2,
@@ -131,16 +130,16 @@ same-length-2 : tie.Need-same-length-2
 same-length-2 c = search needs
 
 same-length-3 : tie.Need-same-length-3
-same-length-3 c = let x = c .before .before .before .before .before .before .before .before .before .before .before .before .before .before .before
+same-length-3 c = let x = c .before .before .before .before .before .before .before .before .before .before .before .before .before .before
     .before .before .before .before .before .before .before .before .before .before .before .before .before .before .before .before .before .before
     .before .before .before .args in
-    let p = c .before .before .before .before .before .before .before .before .before .before .before .before .before .before .before .before .before
+    let p = c .before .before .before .before .before .before .before .before .before .before .before .before .before .before .before .before
     .before .before .before .before .before .before .before .before .before .before .before .before .before .before .before .before .before
     .before .before .pre in
     let l : length (c .before .before .before .before .before .before .before .before .before .before .before .before .before .before .before .before
-    .before .before .before .before .before .before .before .before .before .before .before .before .before .lay-out .last .1 .1 .0) ≡ 12 * x .w
+    .before .before .before .before .before .before .before .before .before .before .before .before .before .lay-out .last .1 .0) ≡ 12 * x .w
     = c .before .before .before .before .before .before .before .before .before .before .before .before .before .before .before .before .before
-    .before .before .before .before .before .before .before .before .before .before .before .before .lay-out .kept .1 .1 .0 ∙ p .0 .0 in
+    .before .before .before .before .before .before .before .before .before .before .before .before .lay-out .kept .1 .0 ∙ p .0 .0 in
     let f : length (c .before .before .before .before .before .before .before .before .before .before .before .before .before .before .before .before
     .before .before .before .before .before .before .before .rounds .last .1 .1 .1 .1 .0) ≡ 8 * x .w = c .before .before .before .before .before
     .before .before .before .before .before .before .before .before .before .before .before .before .before .before .before .before .before
@@ -148,9 +147,9 @@ same-length-3 c = let x = c .before .before .before .before .before .before .bef
     let g : length (c .before .before .before .before .before .before .before .before .before .before .before .before .before .before .before .before
     .before .before .before .before .before .before .before .rounds .last .1 .1 .1 .1 .0 ++ drop (8 * x .w) (c .before .before .before .before
     .before .before .before .before .before .before .before .before .before .before .before .before .before .before .before .before .before
-    .before .before .before .before .before .before .before .before .lay-out .last .1 .1 .0)) ≡ 12 * x .w = fore-length (c .before .before
+    .before .before .before .before .before .before .before .before .lay-out .last .1 .0)) ≡ 12 * x .w = fore-length (c .before .before
     .before .before .before .before .before .before .before .before .before .before .before .before .before .before .before .before .before
-    .before .before .before .before .before .before .before .before .before .before .lay-out .last .1 .1 .0) (c .before .before .before .before
+    .before .before .before .before .before .before .before .before .before .before .lay-out .last .1 .0) (c .before .before .before .before
     .before .before .before .before .before .before .before .before .before .before .before .before .before .before .before .before .before
     .before .before .rounds .last .1 .1 .1 .1 .0) (8 * x .w) (omega (arith, l)) f ∙ l in
     let k : length (c .before .before .before .before .before .before .before .before .send-segments .last .1 .1 .1 .1 .1 .0) ≡ 12 * x .w - 8 * x .w
@@ -159,22 +158,22 @@ same-length-3 c = let x = c .before .before .before .before .before .before .bef
     let e = put-length (c .before .before .before .before .before .before .before .before .before .before .before .before .before .before .before
     .before .before .before .before .before .before .before .before .rounds .last .1 .1 .1 .1 .0 ++ drop (8 * x .w) (c .before .before .before
     .before .before .before .before .before .before .before .before .before .before .before .before .before .before .before .before .before
-    .before .before .before .before .before .before .before .before .before .lay-out .last .1 .1 .0)) (c .before .before .before .before .before
+    .before .before .before .before .before .before .before .before .before .lay-out .last .1 .0)) (c .before .before .before .before .before
     .before .before .before .send-segments .last .1 .1 .1 .1 .1 .0) (8 * x .w) (12 * x .w) (omega arith) (omega (arith, g)) k ∙ (g ∙ sym (p .0
     .0)) in
     c .before .before .clear .kept .0 ∙ e
 
 returns : tie.Need-returns
-returns c = let x = c .before .before .before .before .before .before .before .before .before .before .before .before .before .before .before .before
+returns c = let x = c .before .before .before .before .before .before .before .before .before .before .before .before .before .before .before
     .before .before .before .before .before .before .before .before .before .before .before .before .before .before .before .before .before .before
     .before .before .args in
-    let p = c .before .before .before .before .before .before .before .before .before .before .before .before .before .before .before .before .before
+    let p = c .before .before .before .before .before .before .before .before .before .before .before .before .before .before .before .before
     .before .before .before .before .before .before .before .before .before .before .before .before .before .before .before .before .before
     .before .before .pre in
     let l : length (c .before .before .before .before .before .before .before .before .before .before .before .before .before .before .before .before
-    .before .before .before .before .before .before .before .before .before .before .before .before .before .lay-out .last .1 .1 .0) ≡ 12 * x .w
+    .before .before .before .before .before .before .before .before .before .before .before .before .before .lay-out .last .1 .0) ≡ 12 * x .w
     = c .before .before .before .before .before .before .before .before .before .before .before .before .before .before .before .before .before
-    .before .before .before .before .before .before .before .before .before .before .before .before .lay-out .kept .1 .1 .0 ∙ p .0 .0 in
+    .before .before .before .before .before .before .before .before .before .before .before .before .lay-out .kept .1 .0 ∙ p .0 .0 in
     let f : length (c .before .before .before .before .before .before .before .before .before .before .before .before .before .before .before .before
     .before .before .before .before .before .before .before .rounds .last .1 .1 .1 .1 .0) ≡ 8 * x .w = c .before .before .before .before .before
     .before .before .before .before .before .before .before .before .before .before .before .before .before .before .before .before .before
@@ -182,9 +181,9 @@ returns c = let x = c .before .before .before .before .before .before .before .b
     let g : length (c .before .before .before .before .before .before .before .before .before .before .before .before .before .before .before .before
     .before .before .before .before .before .before .before .rounds .last .1 .1 .1 .1 .0 ++ drop (8 * x .w) (c .before .before .before .before
     .before .before .before .before .before .before .before .before .before .before .before .before .before .before .before .before .before
-    .before .before .before .before .before .before .before .before .lay-out .last .1 .1 .0)) ≡ 12 * x .w = fore-length (c .before .before
+    .before .before .before .before .before .before .before .before .lay-out .last .1 .0)) ≡ 12 * x .w = fore-length (c .before .before
     .before .before .before .before .before .before .before .before .before .before .before .before .before .before .before .before .before
-    .before .before .before .before .before .before .before .before .before .before .lay-out .last .1 .1 .0) (c .before .before .before .before
+    .before .before .before .before .before .before .before .before .before .before .lay-out .last .1 .0) (c .before .before .before .before
     .before .before .before .before .before .before .before .before .before .before .before .before .before .before .before .before .before
     .before .before .rounds .last .1 .1 .1 .1 .0) (8 * x .w) (omega (arith, l)) f ∙ l in
     let d : length (c .before .before .before .before .before .before .before .before .before .before .before .before .before .before .before .before
@@ -197,14 +196,14 @@ returns c = let x = c .before .before .before .before .before .before .before .b
     let e = put-length (c .before .before .before .before .before .before .before .before .before .before .before .before .before .before .before
     .before .before .before .before .before .before .before .before .rounds .last .1 .1 .1 .1 .0 ++ drop (8 * x .w) (c .before .before .before
     .before .before .before .before .before .before .before .before .before .before .before .before .before .before .before .before .before
-    .before .before .before .before .before .before .before .before .before .lay-out .last .1 .1 .0)) (c .before .before .before .before .before
+    .before .before .before .before .before .before .before .before .before .lay-out .last .1 .0)) (c .before .before .before .before .before
     .before .before .before .send-segments .last .1 .1 .1 .1 .1 .0) (8 * x .w) (12 * x .w) (omega arith) (omega (arith, g)) k ∙ (g ∙ sym (p .0
     .0)) in
     let a = c .before .before .before .before .before .before .before .before .before .before .before .before .before .before .before .before .before
     .before .before .before .before .before .before .before .before .before .before .before .before .lay-out in
     let b = c .before .before .before .before .before .before .before .before .before .before .before .before .before .before .before .before .before
     .before .before .before .before .before .before .rounds in (
-      whole-is (x .k) (x .w) (now (x .lens)) (elements (now (x .x))) (now (x .s)) (a .last .1 .1 .0) (b .last .1 .1 .1 .1 .0) (now (x .proof)) (b
+      whole-is (x .k) (x .w) (now (x .lens)) (now (x .s)) (a .last .1 .0) (b .last .1 .1 .1 .1 .0) (now (x .proof)) (b
           .last .1 .1 .0) (c .before .before .before .before .before .before .before .before .before .before .before .before .before .before .send-z
           .last .1 .1 .0) (c .before .before .before .before .before .before .before .before .send-segments .last .1 .1 .1 .0) (now (x .draws)) (b
           .last .1 .1 .1 .0) (x .t) (b .result) (c .before .before .before .before .before .before .before .before .before .before .before .before

@@ -80,12 +80,12 @@ returns c =
     let i = n .before .before in
     let l = i .before .before in
     let k = l .before in
-    let x = (k .before .before .before .before .before .before .before) .args in
+    let x = (k .before .before .before .before .before .before) .args in
     let w = now (x .proof) in
     let words : ℕ → ℕ = λ j. 2 * (8 * log₂ (x .q) + 4 * log₂ (x .rb) + 4 * log₂ (x .rf) + 6 + 3 * log₂ (x .m) + 1 + j) in
     let said : i .least2 .result ≡ min (words (min (length (now (x .lens))) 64)) (length w) =
     i .least2 .ensures .0 ∙ ap (λ (j : ℕ). min j (length w)) (i .before .proof-words .ensures ∙ ap words (l .least .ensures .0)) in
-    λ ws ok ld. end-left (bare (x .m) (x .q) (x .rb) (x .rf) (now (x .lens))) ws (now (x .x)) w (x .d) (now (x .claims)) (now (x .s)) (x .t) ok ld
+    λ ws xs ok ld. end-left (bare (x .m) (x .q) (x .rb) (x .rf) (now (x .lens))) ws xs w (x .d) (now (x .claims)) (now (x .s)) (x .t) ok ld
     _ _ (i .least2 .result) (n .least3 .result) (k .before .said-before .ensures)
     (k .drawn-before .ensures ∙ sums (log₂ (x .q)) (log₂ (x .rb)) (log₂ (x .rf)) (log₂ (x .m)))
     said (n .least3 .ensures .0 ∙ ap (λ (j : ℕ). min j 256) (n .before .draw-words .ensures))

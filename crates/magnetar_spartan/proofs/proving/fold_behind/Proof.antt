@@ -53,14 +53,14 @@ same-length c = search needs
 
 returns : tie.Need-returns
 returns c =
-    let x = c .before .before .before .before .before .before .before .before .before .before .before .before .before .args in
+    let x = c .before .before .before .before .before .before .before .before .before .before .before .before .before .before .args in
     let l = c .before .before .before .before .before .before .before .before .before .before .log in
     let b = c .before .before .before .before .before .before .before .before .before .log2 in
     let f = c .before .before .before .before .before .before .before .before .log3 in
     let k : ℕ = l .result + b .result + (l .result + f .result) in
     let e : k ≡ loginAt (x .q) (x .rb) (x .rf) = rw (l .ensures .0, b .ensures .0, f .ensures .0) in
     fold-left (x .q) _ (l .result) (c .before .before .before .before .before .before .before .least .result) k (loginAt (x .q) (x .rb) (x .rf)) (now
-    (x .packed)) (x .t7) (now (x .s)) _ (l .ensures .0) (c .before .before .before .before .before .before .before .least .ensures .0) e (c
+    (x .packed)) (now (x .x)) (x .t8) (now (x .s)) _ (l .ensures .0) (c .before .before .before .before .before .before .before .least .ensures .0) e (c
     .before .before .before .fold-at .ensures)
 
 pub fold-behind-spec : {M : Type 1} → statement M

@@ -50,11 +50,11 @@ same-length-3 c = search needs
 
 returns : tie.Need-returns
 returns c =
-    let x = (c .before .before .before .before .before .before .before .before .before .before .before .before .before .before .before .before .before .before) .args in
+    let x = (c .before .before .before .before .before .before .before .before .before .before .before .before .before .before .before .before .before) .args in
     let i = c .before .before .before .before .before .before .before .before .before .before .before .before .least in
     let j = c .before .before .before .before .before .before .before .before .before .before .before .least2 in
     let r = c .before .before .before .before .before .before .before .inner-rounds in
-    inner-done (x .m) (now (x .lens)) (now (x .x)) (now (x .proof)) (now (x .draws)) (now (x .s)) (x .a) (x .k) (i .result) (j .result) (x .t) (r .result) _ _ _
+    inner-done (x .m) (now (x .lens)) (now (x .proof)) (now (x .draws)) (now (x .s)) (x .a) (x .k) (i .result) (j .result) (x .t) (r .result) _ _ _
     (i .ensures .0) (j .ensures .0) (r .ensures .0) (r .ensures .1 .0) (r .ensures .1 .1 .0) (r .ensures .1 .1 .1)
 
 pub inner-part-spec : {M : Type 1} → statement M

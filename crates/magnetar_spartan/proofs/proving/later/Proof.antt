@@ -62,7 +62,7 @@ returns c =
       elements-below p (λ i. omega (arith, f .before .before .before .before .shared-slice-known3 .given i)),
       λ ld ok.
           let F = g .ensures (fold-sizes r ws p w d k s t ok ld) in
-          let E = e .end .ensures (length ws) (end-sizes r ws p w d k s t ok ld _ F (g .kept .0)) ld in
+          let E = e .end .ensures (length ws) (length p) (end-sizes r ws p w d k s t ok ld _ F (g .kept .0)) ld in
           later-ends r ws p w d k s t ok ld _ F (g .kept .0) _ _ _ _ E (n .result) _ (n .ensures .0) (z .before .before .before .prover-room .ensures) _ (z .clear .ensures),
     )
 
