@@ -5,7 +5,10 @@ use crate::text::print;
 use crate::text::{self};
 use crate::told;
 use magnetar_batch::combo;
+use magnetar_batch::fold;
 use magnetar_batch::table;
+use magnetar_field::sizes::least;
+use magnetar_field::sizes::log;
 use magnetar_protocol::first::Found;
 use magnetar_verifier::claims;
 use magnetar_verifier::end;
@@ -44,14 +47,13 @@ fn combine(nums: &[u64], given: &[u64], sizes: &[usize], scratch: &mut [u64]) {
     );
 }
 
-fn last(nums: &[u64], given: &[u64], sizes: &[usize], scratch: &mut [u64]) -> Found {
+fn last(nums: &[u64], sizes: &[usize], scratch: &mut [u64]) -> Found {
     end::end_checks(
         told::m(sizes),
         told::q(sizes),
         told::rows_bin(sizes),
         told::rows_fld(sizes),
         told::lens(sizes),
-        told::x(given),
         text::after(nums, 2, 0),
         text::after(nums, 2, 1),
         scratch,
@@ -71,6 +73,22 @@ fn claimed(nums: &[u64], sizes: &[usize], claims: &mut [u64]) -> u32 {
     )
 }
 
+// The public half folded at the point of the logins, with which the claims begin, behind the combined table.
+fn lay(nums: &[u64], given: &[u64], sizes: &[usize], scratch: &mut [u64]) {
+    let m = told::m(sizes);
+    let q = told::q(sizes);
+    let mut claims = [0u64; 256];
+    claimed(nums, sizes, &mut claims);
+    let a = 2 * least(m, scratch.len() / 2);
+    fold::fold_public_in(
+        told::x(given),
+        q,
+        m / 2,
+        text::first(&claims, 2 * log(q)),
+        &mut scratch[a..],
+    );
+}
+
 // The number, and how many events come before the check that gave it.
 fn print_found(f: Found) {
     print(b"= ");
@@ -83,7 +101,8 @@ fn print_found(f: Found) {
 // The checks of the end and the claims.
 fn ended(nums: &[u64], given: &[u64], sizes: &[usize], claims: &mut [u64], scratch: &mut [u64]) {
     combine(nums, given, sizes, scratch);
-    let f = last(nums, given, sizes, scratch);
+    lay(nums, given, sizes, scratch);
+    let f = last(nums, sizes, scratch);
     print_found(f);
     if f.code == 0 {
         text::print_code(claimed(nums, sizes, claims), claims);

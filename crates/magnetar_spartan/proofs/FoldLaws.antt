@@ -37,7 +37,7 @@ behind-front n k t s l h =
 
 -- ---- the fold
 -- the point of the logins: n draws from place k on, the last one first
-point-reversed : (d : List ℕ) (k n : ℕ) → k + n ≤ length d → tabulate (λ i. getD d (k + (n - 1 - i)) 0) n ≡ reverse (take n (drop k d))
+pub point-reversed : (d : List ℕ) (k n : ℕ) → k + n ≤ length d → tabulate (λ i. getD d (k + (n - 1 - i)) 0) n ≡ reverse (take n (drop k d))
 point-reversed d k n h =
     let l : length (take n (drop k d)) ≡ n = length-take-le n (drop k d) (rw length-drop (omega arith)) in
     sym (tabulate-of (reverse (take n (drop k d))) (λ i. getD d (k + (n - 1 - i)) 0) n 0 (reverse-size (take n (drop k d)) n l)

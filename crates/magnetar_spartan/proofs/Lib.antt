@@ -8,6 +8,7 @@ pub mod Verifying
 pub mod VerifyRun
 pub mod Ended
 pub mod DrawnTable
+pub mod PublicLaid
 pub mod VerifyEnds
 pub mod Sound
 pub mod Complete

@@ -3,7 +3,7 @@
 use mathlib.Core.Path.{_≡_, refl, sym, ap, _∙_}
 use mathlib.Core.Bool.{Bool, true, false, cond, false≢true}
 use mathlib.Core.List.{List, _++_}
-use Prim.Native.Nat.{ℕ, zero, suc, _+_, _*_, _≤_, min, max}
+use Prim.Native.Nat.{ℕ, zero, suc, _+_, _*_, _/_, _≤_, min, max}
 use native.Mathlib.Omega.{arith}
 use lib.Dec.{eqb}
 use lib.ListN.{length, take, drop, replicate, length-drop, length-replicate}
@@ -14,8 +14,8 @@ use Rattle.magnetar_hash.specs.declared.transcript.Transcript.{Transcript}
 use Rattle.magnetar_hash.specs.declared.transcript.TranscriptAnswer.{TranscriptAnswer}
 use Rattle.magnetar_layout.specs.Tests.{noted}
 use Rattle.magnetar_matrix.proofs.TableLaws.{elements-words}
-use Rattle.magnetar_matrix.specs.Batch.{Relation}
-use Rattle.magnetar_protocol.specs.Draws.{drawCount, drawsOf}
+use Rattle.magnetar_matrix.specs.Batch.{Relation, publicFolded}
+use Rattle.magnetar_protocol.specs.Draws.{Draws, drawCount, drawsOf, loginPoint}
 use Rattle.magnetar_protocol.specs.Play.{Played}
 use Rattle.magnetar_protocol.specs.Checks.{combined}
 use Rattle.magnetar_protocol.specs.RealRun.{verifierDraws}
@@ -29,12 +29,13 @@ use Rattle.magnetar_spartan.specs.Refusals.{rowsBin, rowsFld, outlineOf,
 use Rattle.magnetar_spartan.specs.Numbers.{verifyTestsBy}
 use Rattle.magnetar_spartan.specs.Outcome.{verified, verifyRefusal, verifyOutcome}
 use Rattle.magnetar_spartan.specs.Table.{tableAt}
-use Rattle.magnetar_spartan.specs.Stages.{drawnWords, playedTo, drawnOf, outerAt, begun, checkedAt, roomElements, finished, begunUnless, finishedUnless}
+use Rattle.magnetar_spartan.specs.Stages.{drawnWords, playedTo, drawnOf, laidAt, outerAt, begun, checkedAt, roomElements, finished, begunUnless, finishedUnless}
 use Rattle.magnetar_spartan.proofs.Verifying.{played-all, schedule-small}
 use Rattle.magnetar_spartan.proofs.VerifyRun.{draws-many, checks-leave}
 use Rattle.magnetar_spartan.proofs.Ended.{Verifiable, verifiable, draws-small, verify-refused}
 use Rattle.magnetar_spartan.proofs.ByNumbers.{verify-by}
 use Rattle.magnetar_spartan.proofs.DrawnTable.{drawn-combined, drawn-beyond}
+use Rattle.magnetar_spartan.proofs.PublicLaid.{laidBehindTable, laid, laid-table, laid-half, laid-beyond}
 use Rattle.magnetar_spartan.proofs.Room.{Beyond, in-front, over}
 
 -- ---- the room
@@ -53,12 +54,16 @@ module _ (R : Rules) (x w : List ℕ) (t : Transcript) (c s : List ℕ) (none : 
   unfolding verifyRefusal
   fits = verifiable R x w (t .«squeeze_ctr») (length c) (length s) none
 
-  -- the draws
+  -- the draws, by what they are drawn for
+  abbrev D : Draws
+  D = drawsOf (relationOf R) (verifierDraws (relationOf R) (elements w) t)
+
+  -- and their words
   abbrev pub drawn : List ℕ
   drawn = words (verifierDraws (relationOf R) (elements w) t)
 
   pub drawn-long : length drawn ≡ 2 * drawCount o
-  drawn-long = draws-many R (fits .ready) x w t (fits .public) (fits .proof)
+  drawn-long = draws-many R (fits .ready) x w t (fits .proof)
 
   pub drawn-few : length drawn ≤ 256
   drawn-few = omega (arith, drawn-long, draws-small R (fits .ready))
@@ -75,35 +80,58 @@ module _ (R : Rules) (x w : List ℕ) (t : Transcript) (c s : List ℕ) (none : 
   abbrev F : Found
   F = outerAt o w drawn
 
-  -- the table in front of u, where the checks come to it
+  -- the table in front of u, where the checks come to it, and the public half v laid behind it
   module _ (u : List ℕ) (b : Beyond (verifierRoom R) s u)
-      (table : F .code ≡ 0 → take (R .m) (elements u) ≡ combined (relationOf R) (drawsOf (relationOf R) (verifierDraws (relationOf R) (elements w) t))) where
-    room : 4 * R .m ≤ length u
-    room = omega (arith, fits .scratch, b .long)
+      (table : F .code ≡ 0 → take (R .m) (elements u) ≡ combined (relationOf R) D) where
+    room-before : 4 * R .m ≤ length u
+    room-before = omega (arith, fits .scratch, b .long)
 
-    after-end : Beyond (verifierRoom R) s (replicate (4 * R .m) 0 ++ drop (4 * R .m) u)
-    after-end =
-        let l : length (replicate {A = ℕ} (4 * R .m) 0) ≡ 4 * R .m = length-replicate (4 * R .m) 0 in
-        let f = in-front (verifierRoom R) u (replicate (4 * R .m) 0) (drop (4 * R .m) u) (omega (arith, l)) (rw (l, length-drop) (omega (arith, room)))
-        (ap (λ (i : ℕ). drop i u) (sym l)) in
+    abbrev v : List ℕ
+    v = laidBehindTable R (fits .ready) x drawn u drawn-long (fits .public) room-before
+
+    half-laid : laidAt o x (drawnWords o w t) u ≡ v
+    half-laid = rw words-are (laid R (fits .ready) x drawn u drawn-long (fits .public) room-before)
+
+    beyond : Beyond (verifierRoom R) s v
+    beyond =
+        let f = laid-beyond R (fits .ready) x drawn u drawn-long (fits .public) room-before (verifierRoom R) (omega arith) in
         record { long = f .long ∙ b .long; rest = f .rest ∙ b .rest }
 
-    room-after : Beyond (verifierRoom R) s (checkedAt o x w drawn t (playedTo o w t 65536) F c u .scratch)
+    room : 4 * R .m ≤ length v
+    room = omega (arith, fits .scratch, beyond .long)
+
+    table-laid : F .code ≡ 0 → take (R .m) (elements v) ≡ combined (relationOf R) D
+    table-laid z = laid-table R (fits .ready) x drawn u drawn-long (fits .public) room-before ∙ table z
+
+    half-is : take (R .m / 2) (drop (R .m) (elements v)) ≡ publicFolded (elements x) (loginPoint D)
+    half-is =
+        laid-half R (fits .ready) x drawn u drawn-long (fits .public) room-before
+        ∙ ap (λ (l : List ℕ). publicFolded (elements x) (loginPoint (drawsOf (relationOf R) l)))
+        (elements-words (verifierDraws (relationOf R) (elements w) t))
+
+    after-end : Beyond (verifierRoom R) s (replicate (4 * R .m) 0 ++ drop (4 * R .m) v)
+    after-end =
+        let l : length (replicate {A = ℕ} (4 * R .m) 0) ≡ 4 * R .m = length-replicate (4 * R .m) 0 in
+        let f = in-front (verifierRoom R) v (replicate (4 * R .m) 0) (drop (4 * R .m) v) (omega (arith, l))
+        (rw (l, length-drop) (omega (arith, room))) (ap (λ (i : ℕ). drop i v) (sym l)) in
+        record { long = f .long ∙ beyond .long; rest = f .rest ∙ beyond .rest }
+
+    room-after : Beyond (verifierRoom R) s (checkedAt o w drawn t (playedTo o w t 65536) F c v .scratch)
     unfolding endRoom
-    room-after = go (eqb (F .code) 0) (eqb (endRefusal o x w drawn u) 0) refl refl
+    room-after = go (eqb (F .code) 0) (eqb (endRefusal o w drawn v) 0) refl refl
       where
-        go : (p q : Bool) → eqb (F .code) 0 ≡ p → eqb (endRefusal o x w drawn u) 0 ≡ q
-            → Beyond (verifierRoom R) s (checkedAt o x w drawn t (playedTo o w t 65536) F c u .scratch)
-        go false q e f = rw e b
-        go true false e f = rw (e, f) b
+        go : (p q : Bool) → eqb (F .code) 0 ≡ p → eqb (endRefusal o w drawn v) 0 ≡ q
+            → Beyond (verifierRoom R) s (checkedAt o w drawn t (playedTo o w t 65536) F c v .scratch)
+        go false q e f = rw e beyond
+        go true false e f = rw (e, f) beyond
         go true true e f = rw (e, f) after-end
 
     pub run-ends : finished o x w t (begun o w t) c u ≡ verifyOutcome R x w t c s
     unfolding verifyOutcome
     run-ends =
-        let l = checks-leave R (fits .ready) x w t (fits .public) (fits .proof) c u (fits .claims) room table in
+        let l = checks-leave R (fits .ready) x w t (fits .proof) c v (fits .claims) room table-laid half-is in
         let r = cleared-room (verifierRoom R) (roomElements o) s _ (omega arith) (fits .scratch) room-after in
-        rw (none, draws-are, ← l .0, ← l .1, ← l .2, r)
+        rw (none, draws-are, half-laid, ← l .0, ← l .1, ← l .2, r)
 
 -- ---- the whole verifier: y is the number of 4 to 7, z that of all tests before the checks
 module _ (R : Rules) (x w : List ℕ) (t : Transcript) (c s : List ℕ) (y z : ℕ) (hy : y ≡ noted 0 (ruleTests R))

@@ -2,18 +2,18 @@
 -- Assumes nothing.
 use mathlib.Core.Path.{_≡_, refl, sym, ap, _∙_}
 use mathlib.Core.List.{List, _++_}
-use Prim.Native.Nat.{ℕ, zero, suc, _+_, _-_, _*_, _/_, _≤_}
+use Prim.Native.Nat.{ℕ, zero, suc, _+_, _*_, _/_, _≤_}
 use native.Mathlib.Omega.{arith}
-use lib.ListN.{length, take}
+use lib.ListN.{length, take, drop}
 use borrow.Author.Tests.{eq-eqb, ne-eqb}
 use Rattle.magnetar_field.specs.Words.{elements, words}
 use Rattle.magnetar_field.proofs.Elements.{words-length}
 use Rattle.magnetar_matrix.proofs.TableLaws.{elements-words}
 use Rattle.magnetar_hash.specs.declared.transcript.Transcript.{Transcript}
-use Rattle.magnetar_layout.specs.Tests.{sizeTests, publicTests, rowsTests, layoutTests, roomTest}
-use Rattle.magnetar_matrix.specs.Batch.{Relation}
+use Rattle.magnetar_layout.specs.Tests.{sizeTests, rowsTests, layoutTests, roomTest}
+use Rattle.magnetar_matrix.specs.Batch.{Relation, publicFolded}
 use Rattle.magnetar_protocol.specs.Shape.{proofElements}
-use Rattle.magnetar_protocol.specs.Draws.{drawsOf, drawCount}
+use Rattle.magnetar_protocol.specs.Draws.{drawsOf, drawCount, loginPoint}
 use Rattle.magnetar_protocol.specs.Checks.{combined}
 use Rattle.magnetar_protocol.specs.Run.{claims}
 use Rattle.magnetar_protocol.specs.RealRun.{verifierDraws, verifierTranscript}
@@ -35,7 +35,7 @@ use Rattle.magnetar_spartan.proofs.SizedRules.{sizes-fine, both-rows-fi
 use Rattle.magnetar_spartan.proofs.Verifying.{sizes-are, draws-is, schedule-small, outer-is, later-is, outerOf, laterOf, answer-outer, answer-later, answer-none}
 
 -- a run with the public words x, the proof's words w and the transcript t
-module _ (R : Rules) (P : Ready R) (x w : List ℕ) (t : Transcript) (public : length x ≡ R .m - 2) (proof : length w ≡ proofWords R) where
+module _ (R : Rules) (P : Ready R) (x w : List ℕ) (t : Transcript) (proof : length w ≡ proofWords R) where
   abbrev o : Relation
   o = outlineOf R
 
@@ -77,24 +77,28 @@ module _ (R : Rules) (P : Ready R) (x w : List ℕ) (t : Transcript) (public : l
   unfolding outerFound
   first-is = rw (outer-none, outer-checks-are)
 
-  -- ---- the later checks, with a table in front of s, and claims c
+  -- ---- the later checks, with a table and the public half in front of s, and claims c
   module _ (c s : List ℕ) (hc : claimWords R ≤ length c) (hs : 4 * R .m ≤ length s)
-      (table : F .code ≡ 0 → take (R .m) (elements s) ≡ combined (relationOf R) (drawsOf (relationOf R) D)) where
-    end-none : endRefusal o x w d s ≡ 0
+      (table : F .code ≡ 0 → take (R .m) (elements s) ≡ combined (relationOf R) (drawsOf (relationOf R) D))
+      (half : take (R .m / 2) (drop (R .m) (elements s)) ≡ publicFolded (elements x) (loginPoint (drawsOf (relationOf R) D))) where
+    end-none : endRefusal o w d s ≡ 0
     unfolding endRefusal
     end-none =
         let l = drawTests o d ++ (roomTest (4 * R .m) s ++ proofTests o w) in
         let k = layoutTests (R .m / 2) (R .lengths) ++ l in
         let rest = both-rows-fine R P k (layout-fine R P l (same-fine _ _ draws-many, (most-fine (length s) (4 * R .m) hs, (same-fine _ _ proof-fits, tt)))) in
-        noted-none (sizeTests (R .m) (R .q) ++ (publicTests (R .m) x ++ (rowsTests (R .q) (rowsBin R) ++ (rowsTests (R .q) (rowsFld R) ++ k))))
-        (size-fine 2 65536 (R .m) (P .columns), (size-fine 1 4096 (R .q) (P .logins), (same-fine (length x) (R .m - 2) public, rest)))
+        noted-none (sizeTests (R .m) (R .q) ++ (rowsTests (R .q) (rowsBin R) ++ (rowsTests (R .q) (rowsFld R) ++ k)))
+        (size-fine 2 65536 (R .m) (P .columns), (size-fine 1 4096 (R .q) (P .logins), rest))
 
     abbrev G : Found
-    G = endAt o x w d s
+    G = endAt o w d s
 
     last-is : F .code ≡ 0 → G ≡ firstFound (laterOf R x w t)
     unfolding endFound
-    last-is z = rw (end-none, parts, later-is R (elements x) (elements w) (drawsOf (relationOf R) D) (take (R .m) (elements s)) (table z))
+    last-is z =
+        let h = take (R .m / 2) (drop (R .m) (elements s)) in
+        rw (end-none, parts)
+        (ap firstFound (later-is R (elements x) (elements w) (drawsOf (relationOf R) D) h (take (R .m) (elements s)) half (table z)))
 
     claims-none : claimsRefusal (R .m) (R .q) (rowsBin R) (rowsFld R) (R .lengths) w d c ≡ 0
     unfolding claimsRefusal
@@ -115,7 +119,7 @@ module _ (R : Rules) (P : Ready R) (x w : List ℕ) (t : Transcript) (public : l
         × (v .claims ≡ verifyClaims R x w t c)
 
     abbrev Stopped : Found → Type 0
-    Stopped g = Left (stoppedAt o x w d t (playedTo o w t 65536) F g c s)
+    Stopped g = Left (stoppedAt o w d t (playedTo o w t 65536) F g c s)
 
     kept : (n : ℕ) → n ≡ verifyVerdict R x w t → (n ≡ 0 → ⊥) → c ≡ verifyClaims R x w t c
     unfolding verifyClaims
@@ -149,10 +153,10 @@ module _ (R : Rules) (P : Ready R) (x w : List ℕ) (t : Transcript) (public : l
         let b = answer-none R x w t 65536 (sym (ap (λ (k : Found). k .code) q) ∙ z) (sym (ap (λ (k : Found). k .code) p) ∙ e) (schedule-small R P) in
         rw (eq-eqb (G .code) 0 e, e) (b .0, b .1, written (b .0))
 
-    pub checks-leave : Left (checkedAt o x w d t (playedTo o w t 65536) F c s)
+    pub checks-leave : Left (checkedAt o w d t (playedTo o w t 65536) F c s)
     checks-leave = go (F .code) (G .code) refl refl
       where
-        go : (i j : ℕ) → F .code ≡ i → G .code ≡ j → Left (checkedAt o x w d t (playedTo o w t 65536) F c s)
+        go : (i j : ℕ) → F .code ≡ i → G .code ≡ j → Left (checkedAt o w d t (playedTo o w t 65536) F c s)
         go (suc i) j e f = let h : F .code ≡ 0 → ⊥ = λ z. omega (arith, e, z) in rw (ne-eqb (F .code) 0 h) (at-outer h)
         go zero (suc j) e f = let h : G .code ≡ 0 → ⊥ = λ z. omega (arith, f, z) in rw (eq-eqb (F .code) 0 e) (at-later e h)
         go zero zero e f = rw (eq-eqb (F .code) 0 e) (at-none e f)

@@ -10,10 +10,10 @@ use borrow.Author.Tests.{ne-eqb}
 use Rattle.magnetar_field.specs.Words.{elements, words, overlaid}
 use Rattle.magnetar_field.proofs.Elements.{words-length, overlaid-same}
 use Rattle.magnetar_hash.specs.declared.transcript.Transcript.{Transcript}
-use Rattle.magnetar_matrix.specs.Batch.{Relation}
+use Rattle.magnetar_matrix.specs.Batch.{Relation, publicFolded}
 use Rattle.magnetar_protocol.specs.Shape.{logLogins}
 use Rattle.magnetar_protocol.specs.Proof.{innerRounds, valueZ, terminals}
-use Rattle.magnetar_protocol.specs.Draws.{Draws, drawsOf, drawCount}
+use Rattle.magnetar_protocol.specs.Draws.{Draws, drawsOf, drawCount, loginPoint}
 use Rattle.magnetar_protocol.specs.Schedule.{Event, schedule}
 use Rattle.magnetar_protocol.specs.Play.{Played, playedFrom}
 use Rattle.magnetar_protocol.specs.Checks.{Check, firstRefusal, firstStop, sharedChecks, rowChecks, terminalChecks, innerChecks, innerClaim, combined}
@@ -136,16 +136,16 @@ module _ (R : Rules) (x w : List ℕ) (t : Transcript) where
       whole : (k : ℕ) → length (schedule (outlineOf R)) ≤ k → after k ≡ playedFrom (elements w) (schedule rel) t .transcript
       whole k h = ap (λ (p : Played). p .transcript) (played-all R (elements w) t k h)
 
--- ---- the later checks, over a table that is the combined one
-end-outlined : (r : Relation) (x w : List ℕ) (D : Draws) (T : List ℕ) → endChecks r x w D T ≡ endChecks (outlined r) x w D T
+-- ---- the later checks, over a table that is the combined one and a half that is the folded one
+end-outlined : (r : Relation) (h w : List ℕ) (D : Draws) (T : List ℕ) → endChecks r h w D T ≡ endChecks (outlined r) h w D T
 unfolding endChecks innerChecks innerClaim innerRounds valueZ terminals
-end-outlined r x w D T = rw (identity-outlined r x w D)
+end-outlined r h w D T = rw (identity-outlined r h w D h)
 
-pub later-is : (R : Rules) (x w : List ℕ) (D : Draws) (T : List ℕ) → T ≡ combined (relationOf R) D
-    → endChecks (outlineOf R) x w D T ≡ laterChecks (relationOf R) x w D
-later-is R x w D T e =
-    ap (λ (r : Relation). endChecks r x w D T) (sym (sizes-are R)) ∙ sym (end-outlined (relationOf R) x w D T)
-    ∙ unfold endChecks in ap (endChecks (relationOf R) x w D) e
+pub later-is : (R : Rules) (x w : List ℕ) (D : Draws) (h T : List ℕ) → h ≡ publicFolded x (loginPoint D) → T ≡ combined (relationOf R) D
+    → endChecks (outlineOf R) h w D T ≡ laterChecks (relationOf R) x w D
+later-is R x w D h T eh e =
+    ap (λ (r : Relation). endChecks r h w D T) (sym (sizes-are R)) ∙ sym (end-outlined (relationOf R) h w D T)
+    ∙ unfold endChecks in ap₂ (λ (y z : List ℕ). endChecks (relationOf R) y w D z) eh e
 
 -- ---- a schedule is short
 pub schedule-small : (R : Rules) → Ready R → length (schedule (outlineOf R)) ≤ 65536

@@ -2,13 +2,16 @@
 -- private functions speak of this.
 -- Assumes nothing.
 use mathlib.Core.Bool.{cond}
-use mathlib.Core.List.{List}
-use Prim.Native.Nat.{ℕ, _+_, _*_, min, max}
+use mathlib.Core.List.{List, _++_}
+use Prim.Native.Nat.{ℕ, _+_, _-_, _*_, _/_, min, max}
 use lib.Dec.{eqb}
-use lib.ListN.{take, replicate}
+use lib.ListN.{length, getD, take, drop, replicate}
+use Rattle.magnetar_field.specs.Sizes.{log₂}
+use Rattle.magnetar_field.specs.Tabulate.{tabulate}
 use Rattle.magnetar_field.specs.Words.{elements, words, overlaid}
 use Rattle.magnetar_hash.specs.declared.transcript.Transcript.{Transcript}
 use Rattle.magnetar_matrix.specs.Batch.{Relation}
+use Rattle.magnetar_batch.specs.Entries.{publicInOut}
 use Rattle.magnetar_protocol.specs.Draws.{drawCount}
 use Rattle.magnetar_protocol.specs.Schedule.{schedule}
 use Rattle.magnetar_protocol.specs.Play.{playedFrom}
@@ -19,6 +22,7 @@ use Rattle.magnetar_verifier.specs.Claims.{claimsOut}
 use Rattle.magnetar_relation.specs.Steps.{clearedTo}
 use Rattle.magnetar_spartan.specs.declared.stages.Begun.{Begun}
 use Rattle.magnetar_spartan.specs.Outcome.{Verified, verifiedInPlace}
+use Rattle.magnetar_spartan.specs.Proving.{loginAt}
 
 -- the words of the draws, in front of 256 words
 abbrev pub drawnWords : Relation → (w : List ℕ) → Transcript → List ℕ
@@ -37,12 +41,12 @@ drawnOf o d = take (min (2 * drawCount o) 256) d
 abbrev pub outerAt : Relation → (w d : List ℕ) → Found
 outerAt o w d = outerFound (o .m) (o .q) (o .bin .a .rows) (o .fld .a .rows) (o .lengths) w d
 
--- the later ones, with the public words x and the table in front of s; and what they leave of s
-abbrev pub endAt : Relation → (x w d s : List ℕ) → Found
-endAt o x w d s = endFound (o .m) (o .q) (o .bin .a .rows) (o .fld .a .rows) (o .lengths) x w d s
+-- the later ones, with the table in front of s and the public half behind it; and what they leave of s
+abbrev pub endAt : Relation → (w d s : List ℕ) → Found
+endAt o w d s = endFound (o .m) (o .q) (o .bin .a .rows) (o .fld .a .rows) (o .lengths) w d s
 
-abbrev pub endRoomAt : Relation → (x w d s : List ℕ) → List ℕ
-endRoomAt o x w d s = endRoom (o .m) (o .q) (o .bin .a .rows) (o .fld .a .rows) (o .lengths) x w d s
+abbrev pub endRoomAt : Relation → (w d s : List ℕ) → List ℕ
+endRoomAt o w d s = endRoom (o .m) (o .q) (o .bin .a .rows) (o .fld .a .rows) (o .lengths) w d s
 
 -- the claims, over c
 abbrev pub claimsAt : Relation → (w d c : List ℕ) → List ℕ
@@ -56,23 +60,38 @@ begun o w t = record {
   found = outerAt o w (drawnOf o (drawnWords o w t));
 }
 
+-- ---- the public half, folded at the point of the logins, behind the table of m elements in front of s
+-- n draws from place k of the words d on, the last one first
+abbrev pub drawnBack : (n k : ℕ) → (d : List ℕ) → List ℕ
+drawnBack n k d = tabulate (λ i. getD (elements d) (k + (n - 1 - i)) 0) n
+
+-- the half of the public words x at the point p; where s is shorter than the table and the half, nothing changes
+unfoldable pub laidBehind : (m q : ℕ) → (x p s : List ℕ) → List ℕ
+laidBehind m q x p s =
+    let a = 2 * min m (length s / 2) in
+    take a s ++ publicInOut x q (m / 2) (words p) (drop a s)
+
+-- the point is among the words d of the draws
+abbrev pub laidAt : Relation → (x d s : List ℕ) → List ℕ
+laidAt o x d s = laidBehind (o .m) (o .q) x (drawnBack (min (log₂ (o .q)) 16) (loginAt (o .q) (o .bin .a .rows) (o .fld .a .rows)) d) s
+
 -- ---- the second, from the findings f of the outer checks and the transcript u at the end
 -- the finding f, or l where f is none
 abbrev pub firstOf : Found → Found → Found
 firstOf f l = cond (eqb (f .code) 0) l f
 
 -- what is left where g is the first check that does not pass
-abbrev pub stoppedAt : Relation → (x w d : List ℕ) → (t u : Transcript) → (f g : Found) → (c s : List ℕ) → Verified
-stoppedAt o x w d t u f g c s = record {
+abbrev pub stoppedAt : Relation → (w d : List ℕ) → (t u : Transcript) → (f g : Found) → (c s : List ℕ) → Verified
+stoppedAt o w d t u f g c s = record {
   code = g .code;
   transcript = cond (eqb (g .code) 0) u (playedTo o w t (g .events));
   claims = cond (eqb (g .code) 0) (claimsAt o w d c) c;
-  scratch = cond (eqb (f .code) 0) (endRoomAt o x w d s) s;
+  scratch = cond (eqb (f .code) 0) (endRoomAt o w d s) s;
 }
 
--- where the checks look at the words d of the draws, and at the table in front of s
-abbrev pub checkedAt : Relation → (x w d : List ℕ) → (t u : Transcript) → Found → (c s : List ℕ) → Verified
-checkedAt o x w d t u f c s = stoppedAt o x w d t u f (firstOf f (endAt o x w d s)) c s
+-- where the checks look at the words d of the draws, and at the table and the public half in front of s
+abbrev pub checkedAt : Relation → (w d : List ℕ) → (t u : Transcript) → Found → (c s : List ℕ) → Verified
+checkedAt o w d t u f c s = stoppedAt o w d t u f (firstOf f (endAt o w d s)) c s
 
 -- the verifier's scratch, in elements
 abbrev pub roomElements : Relation → ℕ
@@ -82,8 +101,9 @@ roomElements o = 2 * o .m + 2 * max (o .bin .a .rows) (o .fld .a .rows)
 abbrev pub cleared : Relation → Verified → Verified
 cleared o v = record { code = v .code; transcript = v .transcript; claims = v .claims; scratch = clearedTo (roomElements o) (v .scratch) }
 
+-- with the table in front of s, the public half laid behind it
 abbrev pub finished : Relation → (x w : List ℕ) → Transcript → Begun → (c s : List ℕ) → Verified
-finished o x w t g c s = cleared o (checkedAt o x w (drawnOf o (g .draws)) t (g .ended) (g .found) c s)
+finished o x w t g c s = cleared o (checkedAt o w (drawnOf o (g .draws)) t (g .ended) (g .found) c (laidAt o x (g .draws) s))
 
 -- ---- both, unless n is a refusal: then nothing is begun, and nothing changes
 unfoldable pub begunUnless : ℕ → Relation → (w : List ℕ) → Transcript → Begun

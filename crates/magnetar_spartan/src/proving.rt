@@ -76,7 +76,7 @@ pub(crate) fn outer_unless(
 }
 
 // The n draws from place k on, the last one first.
-fn login_point(draws: &[u64], k: usize, n: usize, out: &mut [u64])
+pub(crate) fn login_point(draws: &[u64], k: usize, n: usize, out: &mut [u64])
     requires { ⌜ (k ≤ 4096) × (n ≤ 16) × (length (now out) ≡ 2 * n) ⌝ }
     ensures { λ _. ⌜ elements (now (out .exit)) ≡ tabulate (λ i. getD (elements (now (draws .entry))) (k + (n - 1 - i)) 0) n ⌝ }
 {

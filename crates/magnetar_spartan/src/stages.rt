@@ -1,5 +1,7 @@
 // The stages of a verifying run that see no matrix: the schedule and the outer checks; then, with the combined table in front of the
-// scratch, the other checks and the claims. sh are the shapes of the relation's matrices.
+// scratch, the public half behind it, the other checks and the claims.
+use crate::proving;
+use magnetar_batch::fold;
 use magnetar_field::sizes;
 use magnetar_hash::transcript::Transcript;
 use magnetar_hash::transcript::TranscriptAnswer;
@@ -12,10 +14,12 @@ use magnetar_verifier::end;
 use magnetar_verifier::outer;
 ghost use mathlib.Core.Path.{_≡_};
 ghost use mathlib.Core.List.{[]};
+ghost use Prim.Native.Nat.{_*_, _≤_};
+ghost use lib.ListN.{length};
 ghost use Rattle.magnetar_protocol.specs.Schedule.{outline};
 ghost use Rattle.magnetar_relation.specs.Steps.{clearedTo};
 ghost use Rattle.magnetar_spartan.specs.Outcome.{verified};
-ghost use Rattle.magnetar_spartan.specs.Stages.{playedTo, drawnOf, begunUnless, checkedAt, roomElements, finishedUnless};
+ghost use Rattle.magnetar_spartan.specs.Stages.{playedTo, drawnOf, drawnBack, laidBehind, laidAt, begunUnless, checkedAt, roomElements, finishedUnless};
 
 // What the first stage hands on: the words of the draws, 0 behind them, the transcript at the end, and what the outer checks found.
 pub(crate) struct Begun {
@@ -90,8 +94,41 @@ fn stopped(
     }
 }
 
-// The answer of a run with the words d of the draws, whose outer checks found f and whose transcript ended as u, the table in front of s;
-// and its claims.
+// The public half folded at the point of the n draws from place k on, which is put into `point`, behind the first 2m words of s.
+fn lay_at(
+    s: &mut [u64],
+    m: usize,
+    q: usize,
+    n: usize,
+    k: usize,
+    x: &[u64],
+    draws: &[u64],
+    point: &mut [u64],
+)
+    requires { ⌜ (k ≤ 4096) × (n ≤ 16) × (length (now point) ≡ 2 * n) ⌝ }
+    ensures { λ _. ⌜ now (s .exit) ≡ laidBehind m q (now (x .entry)) (drawnBack n k (now (draws .entry))) (now (s .entry)) ⌝ }
+{
+    proving::login_point(draws, k, n, point);
+    let a = 2 * sizes::least(m, s.len() / 2);
+    let _done = fold::fold_public_in(x, q, m / 2, point, &mut s[a..]);
+}
+
+// The public half folded at the point of the logins, behind the combined table.
+fn lay_public(s: &mut [u64], m: usize, q: usize, rb: usize, rf: usize, x: &[u64], d: [u64; 256])
+    ensures { λ _. ⌜ now (s .exit) ≡ laidAt (outline m q rb rf []) (now (x .entry)) d (now (s .entry)) ⌝ }
+{
+    let l = sizes::log(q);
+    let b = sizes::log(rb);
+    let f = sizes::log(rf);
+    let k = l + b + (l + f);
+    let n = sizes::least(l, 16);
+    let e = 2 * n;
+    let mut point = [0u64; 32];
+    lay_at(s, m, q, n, k, x, &d, &mut point[0..e]);
+}
+
+// The answer of a run with the words d of the draws, whose outer checks found f and whose transcript ended as u, the table and the public
+// half in front of s; and its claims.
 fn checks(
     claims: &mut [u64],
     s: &mut [u64],
@@ -101,19 +138,18 @@ fn checks(
     rb: usize,
     rf: usize,
     lens: &[usize],
-    x: &[u64],
     proof: &[u64],
     t: Transcript,
     u: Transcript,
     f: Found,
 ) -> TranscriptAnswer
-    ensures { λ r. ⌜ verified r (now (claims .exit)) (now (s .exit)) ≡ (let o = outline m q rb rf (now (lens .entry)) in checkedAt o (now (x .entry)) (now (proof .entry)) (drawnOf o d) t u f (now (claims .entry)) (now (s .entry))) ⌝ }
+    ensures { λ r. ⌜ verified r (now (claims .exit)) (now (s .exit)) ≡ (let o = outline m q rb rf (now (lens .entry)) in checkedAt o (now (proof .entry)) (drawnOf o d) t u f (now (claims .entry)) (now (s .entry))) ⌝ }
 {
     if f.code != 0 {
         return stopped(m, q, rb, rf, lens, proof, t, f);
     }
     let k = sizes::least(rooms::draw_words(m, q, rb, rf), 256);
-    let l = end::end_checks(m, q, rb, rf, lens, x, proof, &d[0..k], s);
+    let l = end::end_checks(m, q, rb, rf, lens, proof, &d[0..k], s);
     if l.code != 0 {
         return stopped(m, q, rb, rf, lens, proof, t, l);
     }
@@ -163,7 +199,8 @@ pub(crate) fn finish(
     let d = g.draws;
     let u = g.ended;
     let f = g.found;
-    let a = checks(claims, s, d, m, q, rb, rf, lens, x, proof, t, u, f);
+    lay_public(s, m, q, rb, rf, x, d);
+    let a = checks(claims, s, d, m, q, rb, rf, lens, proof, t, u, f);
     clear_room(m, rb, rf, s);
     a
 }

@@ -20,11 +20,11 @@ o s = let x = s .args in outline (x .m) (x .q) (x .rb) (x .rf) (now (x .lens))
 abbrev d : tie.Start → List ℕ
 d s = drawnOf (o s) (s .args .t3)
 
-part : (c : tie.After-least) → take (c .least .result - 0) ((c .before .before .before .before .before .before .before .before .before) .args .t3) ≡
-    d (c .before .before .before .before .before .before .before .before .before)
+part : (c : tie.After-least) → take (c .least .result - 0) ((c .before .before .before .before .before .before .before .before) .args .t3) ≡
+    d (c .before .before .before .before .before .before .before .before)
 part c =
     let w = c .before in
-    let s = w .before .before .before .before .before .before .before .before in
+    let s = w .before .before .before .before .before .before .before in
     part-is (o s) (w .draw-words .result) (c .least .result) (s .args .t3) (c .least .ensures .0) (w .draw-words .ensures)
 
 stopped-requires : tie.Need-stopped-requires
@@ -34,9 +34,9 @@ returns : tie.Need-returns
 returns c =
     let a = c in
     let i = a .before in
-    let s = i .before .before .before .before .before .before .before in
+    let s = i .before .before .before .before .before .before in
     let x = s .args in
-    stop-first (o s) (now (x .x)) (now (x .proof)) (d s) (x .t) (x .u) (x .f) (now (x .claims)) (now (x .s)) (a .stopped .result)
+    stop-first (o s) (now (x .proof)) (d s) (x .t) (x .u) (x .f) (now (x .claims)) (now (x .s)) (a .stopped .result)
     (i .if1 .taken) (a .stopped .ensures)
 
 draw-words-requires : tie.Need-draw-words-requires
@@ -70,10 +70,10 @@ returns-2 c =
     let e = j .before .before .before .before in
     let l = e .before .before .before .before in
     let i = l .before .before in
-    let s = i .before .before .before .before .before .before .before in
+    let s = i .before .before .before .before .before .before in
     let x = s .args in
     let k = e .end-checks in
-    stop-later (o s) (now (x .x)) (now (x .proof)) (d s) (x .t) (x .u) (x .f) (now (x .claims)) (now (x .s)) _ (d s) (k .result) _ (i .if1 .left)
+    stop-later (o s) (now (x .proof)) (d s) (x .t) (x .u) (x .f) (now (x .claims)) (now (x .s)) _ (d s) (k .result) _ (i .if1 .left)
     (part l) (k .ensures) (a .stopped2 .result) (j .if2 .taken) (a .stopped2 .ensures)
 
 sub-write-claims : tie.Need-sub-write-claims
@@ -101,10 +101,10 @@ returns-3 c =
     let e = j .before .before .before .before in
     let l = e .before .before .before .before in
     let i = l .before .before in
-    let s = i .before .before .before .before .before .before .before in
+    let s = i .before .before .before .before .before .before in
     let x = s .args in
     let k = e .end-checks in
-    stop-none (o s) (now (x .x)) (now (x .proof)) (d s) (x .t) (x .u) (x .f) (now (x .claims)) (now (x .s)) _ _ (k .result) _ (i .if1 .left)
+    stop-none (o s) (now (x .proof)) (d s) (x .t) (x .u) (x .f) (now (x .claims)) (now (x .s)) _ _ (k .result) _ (i .if1 .left)
     (part l) (k .ensures) _ (j .if2 .left) (part l) (w .write-claims .ensures .1)
 
 pub checks-spec : {M : Type 1} → statement M

@@ -18,6 +18,9 @@ returns c =
     let x = s .args in
     finish-back (x .n) (o s) (now (x .x)) (now (x .proof)) (x .t) (x .g) (now (x .claims)) (now (x .s)) (i .if1 .taken)
 
+lay-public-requires : tie.Need-lay-public-requires
+lay-public-requires c κs = search needs
+
 checks-requires : tie.Need-checks-requires
 checks-requires c κs = search needs
 
@@ -34,13 +37,14 @@ returns-2 : tie.Need-returns-2
 returns-2 c =
     let r = c .before .before in
     let a = r .before .before .before .before .before .before in
-    let i = a .before .before .before .before .before .before in
+    let l = a .before .before .before .before .before in
+    let i = l .before .before .before .before .before in
     let s = i .before .before .before .before .before .before in
     let x = s .args in
-    rw (i .if1 .left) (finish-is (o s) (now (x .x)) (now (x .proof)) (x .t) (x .g) (now (x .claims)) (now (x .s)) _ _ _ _ (a .checks .ensures)
-    (r .clear-room .ensures))
+    rw (i .if1 .left) (finish-is (o s) (now (x .x)) (now (x .proof)) (x .t) (x .g) (now (x .claims)) (now (x .s)) _ _ _ _ _ (l .lay-public .ensures)
+    (a .checks .ensures) (r .clear-room .ensures))
 
 pub finish-spec : {M : Type 1} → statement M
 finish-spec =
     tie.close
-    (tie.spec returns checks-requires clear-room-requires same-length same-length-2 returns-2)
+    (tie.spec returns lay-public-requires checks-requires clear-room-requires same-length same-length-2 returns-2)
