@@ -50,7 +50,14 @@ impl Rules {
 
     /// The matrices A, B, C of both systems, joined.
     pub fn join(bin: [&Matrix; 3], fld: [&Matrix; 3]) -> Rules {
-        let mut r = Rules::default();
+        let n = bin.iter().chain(&fld).map(|m| m.row.len()).sum();
+        let mut r = Rules {
+            shapes: Shapes::default(),
+            row: Vec::with_capacity(n),
+            col: Vec::with_capacity(n),
+            lo: Vec::with_capacity(n),
+            hi: Vec::with_capacity(n),
+        };
         let mut shape = |system: [&Matrix; 3]| {
             let [a, b, c] = system.map(|m| r.push(m));
             SystemShape { a, b, c }
