@@ -4,25 +4,19 @@ use mathlib.Core.Path.{_≡_, refl, sym, ap, ap₂, _∙_, subst}
 use mathlib.Core.List.{List, _++_, reverse, append-assoc}
 use Prim.Native.Nat.{ℕ, _+_, _-_, _*_, _/_, _^_, _≤_, min}
 use native.Mathlib.Omega.{arith}
-use lib.ListN.{length, getD, take, drop, replicate, length-append, length-drop, length-replicate}
-use lib.Seq.{take-at, drop-at, take-all, drop-append-add, drop-drop, length-take-le}
+use lib.ListN.{length, take, drop, replicate, length-append, length-drop, length-replicate}
+use lib.Seq.{take-at, take-all, drop-drop, length-take-le}
 use borrow.Author.Tests.{lt-ltb}
 use borrow.Rule.Slice.PartMut.{putMid}
 use Rattle.magnetar_field.specs.Sizes.{log₂}
-use Rattle.magnetar_field.specs.Tabulate.{tabulate}
 use Rattle.magnetar_field.specs.Words.{elements, words, overlaid}
-use Rattle.magnetar_field.proofs.Elements.{words-length, elements-length}
-use Rattle.magnetar_field.proofs.Tabulation.{tabulate-of, tabulate-length}
+use Rattle.magnetar_field.proofs.Elements.{words-length}
 use Rattle.magnetar_hash.specs.declared.transcript.Transcript.{Transcript}
 use Rattle.magnetar_hash.specs.declared.transcript.TranscriptAnswer.{TranscriptAnswer}
-use Rattle.magnetar_layout.specs.Login.{loginWords}
-use Rattle.magnetar_layout.specs.Tests.{Tests, sizeTests, packedTests, columnTests, publicTests, layoutTests, lengthTest, roomTest, Sized}
+use Rattle.magnetar_layout.specs.Tests.{Tests, columnTests, layoutTests, roomTest, Sized}
 use Rattle.magnetar_layout.proofs.Noted.{Clear}
-use Rattle.magnetar_matrix.specs.Batch.{Relation, Batch, folded, foldedAt, publicFolded}
+use Rattle.magnetar_matrix.specs.Batch.{Relation, folded, publicFolded}
 use Rattle.magnetar_matrix.specs.Packed.{unpacked}
-use Rattle.magnetar_matrix.proofs.TableLaws.{elements-words}
-use Rattle.magnetar_r1cs.proofs.Points.{log-most}
-use Rattle.magnetar_batch.specs.Entries.{foldInRefusal, foldInOut, publicInRefusal, publicInOut}
 use Rattle.magnetar_batch.proofs.Rooms.{back-part, back-put}
 use Rattle.magnetar_protocol.specs.Shape.{logCols, proofElements}
 use Rattle.magnetar_protocol.specs.Draws.{drawCount}
@@ -35,25 +29,15 @@ use Rattle.magnetar_prover.specs.Entries.{counterTest, innerRoundsRefusal, inne
 use Rattle.magnetar_prover.proofs.Guarded.{even-size}
 use Rattle.magnetar_verifier.specs.Outer.{runTests, segmentTests, drawTests, proofTests}
 use Rattle.magnetar_verifier.specs.Claims.{claimsRefusal, claimsOut, claimCount}
-use Rattle.magnetar_verifier.proofs.Pieces.{part-get}
-use Rattle.magnetar_verifier.proofs.ClaimLaws.{reverse-get, reverse-size}
 use Rattle.magnetar_relation.specs.Rules.{Rules}
 use Rattle.magnetar_spartan.specs.Refusals.{outlineOf, rowsBin, rowsFld, proofWords, proverRoom}
 use Rattle.magnetar_spartan.specs.Proving.{RunReady, FoldReady, FoldLeft, loginAt, saidBefore, drawnBefore, saidAll, drawnAll, InnerDone, EndLeft, laterPlayed}
 use Rattle.magnetar_spartan.proofs.Fine.{noted-none, size-fine, same-fine, most-fine, true-fine}
 use Rattle.magnetar_spartan.proofs.SizedRules.{sizes-fine, layout-fine}
 use Rattle.magnetar_spartan.proofs.Ended.{draws-small}
+use Rattle.magnetar_spartan.proofs.FoldLaws.{behind-front}
 
 -- ---- words behind a front
--- the words from k on, where the first n are others
-pub behind-front : (n k : ℕ) (t s : List ℕ) → length t ≡ n → n ≤ k → drop k (t ++ drop n s) ≡ drop k s
-behind-front n k t s l h =
-    let q : n + (k - n) ≡ k = omega arith in
-    ap (λ (i : ℕ). drop i (t ++ drop n s)) (sym q) ∙ (past (k - n) ∙ (drop-drop (k - n) n s ∙ ap (λ (i : ℕ). drop i s) q))
-  where
-    past : (j : ℕ) → drop (n + j) (t ++ drop n s) ≡ drop j (drop n s)
-    past j = ap (λ (i : ℕ). drop (i + j) (t ++ drop n s)) (sym l) ∙ drop-append-add t (drop n s) j
-
 -- n words in front of s
 pub laid-front : (v s : List ℕ) (n : ℕ) → length v ≡ n → n ≤ length s → overlaid v s ≡ v ++ drop n s
 unfolding overlaid
@@ -71,149 +55,6 @@ room-behind e h = omega arith
 
 none-less : {i j : ℕ} → i ≡ j → i - 0 ≡ j
 none-less e = omega arith
-
--- ---- the fold
--- the point of the logins: n draws from place k on, the last one first
-pub point-reversed : (d : List ℕ) (k n : ℕ) → k + n ≤ length d → tabulate (λ i. getD d (k + (n - 1 - i)) 0) n ≡ reverse (take n (drop k d))
-point-reversed d k n h =
-    let l : length (take n (drop k d)) ≡ n = length-take-le n (drop k d) (rw length-drop (omega arith)) in
-    sym (tabulate-of (reverse (take n (drop k d))) (λ i. getD d (k + (n - 1 - i)) 0) n 0 (reverse-size (take n (drop k d)) n l)
-    (λ i g. reverse-get (take n (drop k d)) n i l g ∙ part-get k n (n - 1 - i) d (omega arith)))
-
-folded-length : (q w : ℕ) (b : Batch) (p : List ℕ) → length (folded q w b p) ≡ w
-unfolding folded
-folded-length q w b p = tabulate-length (foldedAt q b p) w
-
-module _ (q w n k : ℕ) (ws x d s p u : List ℕ) (lp : length p ≡ 2 * n)
-    (ep : elements p ≡ tabulate (λ i. getD (elements d) (k + (n - 1 - i)) 0) n)
-    (eu : u ≡ foldInOut ws q w p (take (length s - 4 * w) (drop (4 * w) s))) (F : FoldReady q w n k (length ws) (length x) (length d) (length s)) where
-  point-is : elements p ≡ reverse (take n (drop k (elements d)))
-  point-is = ep ∙ point-reversed (elements d) k n (rw elements-length (omega (arith, F .drawn)))
-
-  point-long : length p ≡ 2 * log₂ q
-  point-long = omega (arith, lp, F .point)
-
-  abbrev f : List ℕ
-  f = folded q w (unpacked q w ws) (elements p)
-
-  none : foldInRefusal ws q w p (drop (4 * w) s) ≡ 0
-  unfolding foldInRefusal
-  none =
-      let room : 2 * w + 2 * q ≤ length (drop (4 * w) s) = rw length-drop (omega (arith, F .room)) in
-      noted-none (sizeTests (2 * w) q ++ packedTests w q ws ++ lengthTest (2 * log₂ q) p ++ roomTest (2 * w + 2 * q) (drop (4 * w) s)) (
-        size-fine 2 65536 (2 * w) (F .columns),
-        (
-          size-fine 1 4096 q (F .logins),
-          (
-            same-fine (length ws) (q * loginWords w) (F .packed),
-            (same-fine (length p) (2 * log₂ q) point-long, (most-fine (length (drop (4 * w) s)) (2 * w + 2 * q) room, tt)),
-          ),
-        ),
-      )
-
-  f-long : length (words f) ≡ 2 * w
-  f-long = words-length f ∙ ap (λ (i : ℕ). 2 * i) (folded-length q w (unpacked q w ws) (elements p))
-
-  -- in front: what was there, then the folded columns
-  abbrev fore : List ℕ
-  fore = take (4 * w) s ++ words f
-
-  table-long : length (take (4 * w) s) ≡ 4 * w
-  table-long = length-take-le (4 * w) s (omega (arith, F .room))
-
-  fore-long : length fore ≡ 6 * w
-  fore-long = length-append (take (4 * w) s) (words f) ∙ omega (arith, table-long, f-long)
-
-  abbrev pub folds : List ℕ
-  folds = putMid (4 * w) (length s - 4 * w) s u
-
-  folds-are : folds ≡ (fore ++ replicate (2 * q) 0) ++ drop (6 * w + 2 * q) s
-  folds-are =
-      let a : 4 * w + (2 * w + 2 * q) ≡ 6 * w + 2 * q = omega arith in
-      back-put s u (4 * w) ∙ (ap (λ (y : List ℕ). take (4 * w) s ++ y) (eu ∙ rw (back-part s (4 * w), none))
-      ∙ (rw (drop-drop (2 * w + 2 * q) (4 * w) s, a) (sym (append-assoc (take (4 * w) s) (words f) (replicate (2 * q) 0 ++ drop (6 * w + 2 * q) s))
-      ∙ sym (append-assoc fore (replicate (2 * q) 0) (drop (6 * w + 2 * q) s)))))
-
-  -- the public half behind them
-  module _ (v : List ℕ) (ev : v ≡ publicInOut x q w p (take (length folds - 6 * w) (drop (6 * w) folds))) where
-    abbrev h : List ℕ
-    h = publicFolded (elements x) (elements p)
-
-    folds-fore : folds ≡ fore ++ (replicate (2 * q) 0 ++ drop (6 * w + 2 * q) s)
-    folds-fore = folds-are ∙ append-assoc fore (replicate (2 * q) 0) (drop (6 * w + 2 * q) s)
-
-    folds-long : length folds ≡ length s
-    folds-long =
-        ap length folds-are ∙ (length-append (fore ++ replicate (2 * q) 0) (drop (6 * w + 2 * q) s)
-        ∙ omega (arith, length-append fore (replicate (2 * q) 0), fore-long, length-replicate {A = ℕ} (2 * q) 0, length-drop (6 * w + 2 * q) s, F .room))
-
-    public-none : publicInRefusal x q w p (drop (6 * w) folds) ≡ 0
-    unfolding publicInRefusal
-    public-none =
-        let room : 2 * w ≤ length (drop (6 * w) folds) = rw (length-drop, folds-long) (omega (arith, F .room)) in
-        noted-none (sizeTests (2 * w) q ++ publicTests (2 * w) x ++ lengthTest (2 * log₂ q) p ++ roomTest (2 * w) (drop (6 * w) folds)) (
-          size-fine 2 65536 (2 * w) (F .columns),
-          (
-            size-fine 1 4096 q (F .logins),
-            (
-              same-fine (length x) (2 * w - 2) (F .public),
-              (same-fine (length p) (2 * log₂ q) point-long, (most-fine (length (drop (6 * w) folds)) (2 * w) room, tt)),
-            ),
-          ),
-        )
-
-    h-long : length (words h) ≡ 2 * w
-    h-long = words-length h ∙ (rw elements-length (omega (arith, F .public, F .columns .low)))
-
-    abbrev new : List ℕ
-    new = putMid (6 * w) (length folds - 6 * w) folds v
-
-    new-is : new ≡ fore ++ (words h ++ drop (8 * w) folds)
-    new-is =
-        let a : 6 * w + 2 * w ≡ 8 * w = omega arith in
-        back-put folds v (6 * w) ∙ ap₂ (λ (y z : List ℕ). y ++ z)
-        (ap (take (6 * w)) folds-fore ∙ take-at fore (replicate (2 * q) 0 ++ drop (6 * w + 2 * q) s) (6 * w) fore-long)
-        (ev ∙ rw (back-part folds (6 * w), public-none, drop-drop (2 * w) (6 * w) folds, a))
-
-    new-parts : new ≡ take (4 * w) s ++ (words f ++ (words h ++ drop (8 * w) folds))
-    new-parts = new-is ∙ append-assoc (take (4 * w) s) (words f) (words h ++ drop (8 * w) folds)
-
-    columns-are : elements (take (2 * w) (drop (4 * w) new)) ≡ f
-    columns-are =
-        ap (λ (y : List ℕ). elements (take (2 * w) (drop (4 * w) y))) new-parts
-        ∙ (ap (λ (y : List ℕ). elements (take (2 * w) y)) (drop-at (take (4 * w) s) (words f ++ (words h ++ drop (8 * w) folds)) (4 * w) table-long)
-        ∙ (ap elements (take-at (words f) (words h ++ drop (8 * w) folds) (2 * w) f-long) ∙ elements-words f))
-
-    half-is : elements (take (2 * w) (drop (6 * w) new)) ≡ h
-    half-is =
-        ap (λ (y : List ℕ). elements (take (2 * w) (drop (6 * w) y))) new-is
-        ∙ (ap (λ (y : List ℕ). elements (take (2 * w) y)) (drop-at fore (words h ++ drop (8 * w) folds) (6 * w) fore-long)
-        ∙ (ap elements (take-at (words h) (drop (8 * w) folds) (2 * w) h-long) ∙ elements-words h))
-
-    rest-is : drop (8 * w + 2 * q) new ≡ drop (8 * w + 2 * q) s
-    rest-is =
-        let l : length (fore ++ words h) ≡ 8 * w = length-append fore (words h) ∙ omega (arith, fore-long, h-long) in
-        let k : length (fore ++ replicate (2 * q) 0) ≡ 6 * w + 2 * q = length-append fore (replicate (2 * q) 0) ∙ omega (arith, fore-long, length-replicate {A = ℕ} (2 * q) 0) in
-        ap (drop (8 * w + 2 * q)) (new-is ∙ sym (append-assoc fore (words h) (drop (8 * w) folds)))
-        ∙ (behind-front (8 * w) (8 * w + 2 * q) (fore ++ words h) folds l (omega arith)
-        ∙ (ap (drop (8 * w + 2 * q)) folds-are ∙ behind-front (6 * w + 2 * q) (8 * w + 2 * q) (fore ++ replicate (2 * q) 0) s k (omega arith)))
-
-    pub fold-ends : FoldLeft q w n k ws x d s new
-    fold-ends = (
-      ap (take (4 * w)) new-parts ∙ take-at (take (4 * w) s) (words f ++ (words h ++ drop (8 * w) folds)) (4 * w) table-long,
-      columns-are ∙ ap (folded q w (unpacked q w ws)) point-is,
-      half-is ∙ ap (publicFolded (elements x)) point-is,
-      rest-is,
-    )
-
--- at the point of the logins
-pub fold-left : (q w l n k K : ℕ) (ws x d s s′ : List ℕ) → l ≡ log₂ q → n ≡ min l 16 → k ≡ K
-    → (FoldReady q w n k (length ws) (length x) (length d) (length s) → FoldLeft q w n k ws x d s s′)
-    → FoldReady q w (log₂ q) K (length ws) (length x) (length d) (length s) → FoldLeft q w (log₂ q) K ws x d s s′
-fold-left q w l n k K ws x d s s′ el en ek h F =
-    let few = log-most q (omega (arith, F .logins .high)) (F .logins .power) in
-    let e : n ≡ log₂ q = omega (arith, el, en, few) in
-    (rw (e, ek) at h) F
 
 -- ---- the inner rounds and the claims
 pub inner-done : (m : ℕ) (ns w d s : List ℕ) (a k i j : ℕ) (t : Transcript) (A : TranscriptAnswer) (w′ d′ s′ : List ℕ) → i ≡ min a (length w) → j ≡ min k (length d)

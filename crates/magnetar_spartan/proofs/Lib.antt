@@ -12,6 +12,7 @@ pub mod PublicLaid
 pub mod VerifyEnds
 pub mod Sound
 pub mod Complete
+pub mod FoldLaws
 pub mod LaterLaws
 pub mod ProductLaws
 pub mod ProveRun

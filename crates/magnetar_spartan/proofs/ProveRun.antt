@@ -53,7 +53,8 @@ use Rattle.magnetar_spartan.proofs.Ended.{provable, draws-small}
 use Rattle.magnetar_spartan.proofs.Room.{Beyond}
 use Rattle.magnetar_spartan.proofs.DrawnTable.{drawn-combined, drawn-beyond}
 use Rattle.magnetar_spartan.proofs.Complete.{sized-batch}
-use Rattle.magnetar_spartan.proofs.LaterLaws.{behind-front, laid-front}
+use Rattle.magnetar_spartan.proofs.FoldLaws.{behind-front}
+use Rattle.magnetar_spartan.proofs.LaterLaws.{laid-front}
 
 -- ---- the outer rounds, of a relation
 -- absorbing sets the counter to 0: behind the terminals and the alphas it is 6

@@ -26,7 +26,7 @@ use Rattle.magnetar_spartan.specs.Stages.{drawnBack, laidBehind, laidAt}
 use Rattle.magnetar_spartan.proofs.Fine.{noted-none, size-fine, same-fine, most-fine}
 use Rattle.magnetar_spartan.proofs.Ended.{log-few, draws-small}
 use Rattle.magnetar_spartan.proofs.Room.{Beyond, in-front, over}
-use Rattle.magnetar_spartan.proofs.LaterLaws.{point-reversed}
+use Rattle.magnetar_spartan.proofs.FoldLaws.{point-reversed}
 
 -- a part of the elements of words d in front of others
 front-part : (k n : ℕ) (d b : List ℕ) → 2 * k + 2 * n ≤ length d → take n (drop k (elements (d ++ b))) ≡ take n (drop k (elements d))

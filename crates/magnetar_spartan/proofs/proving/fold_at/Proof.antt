@@ -3,7 +3,7 @@
 use mathlib.Core.Path.{_∙_}
 use native.Mathlib.Omega.{arith}
 use denote.Ref.{now}
-use Rattle.magnetar_spartan.proofs.LaterLaws.{fold-ends}
+use Rattle.magnetar_spartan.proofs.FoldLaws.{fold-ends}
 use borrow.Author.Needs.{needs}
 use Rattle.magnetar_spartan.proofs.proving.fold_at.Statement.{statement}
 use Rattle.magnetar_spartan.proofs.proving.fold_at.Tie as tie
@@ -13,6 +13,9 @@ login-point-requires c κs = search needs
 
 mul-a : tie.Need-mul-a
 mul-a c = search needs
+
+mul-b : tie.Need-mul-b
+mul-b c = search needs
 
 mul-fold-packed-in : tie.Need-mul-fold-packed-in
 mul-fold-packed-in c = search needs
@@ -29,6 +32,21 @@ part-fold-packed-in-end c = search needs
 fold-packed-in-requires : tie.Need-fold-packed-in-requires
 fold-packed-in-requires c κs = search needs
 
+mul-fold-public-in : tie.Need-mul-fold-public-in
+mul-fold-public-in c = search needs
+
+sub-fold-public-in : tie.Need-sub-fold-public-in
+sub-fold-public-in c = search needs
+
+part-fold-public-in-start : tie.Need-part-fold-public-in-start
+part-fold-public-in-start c = search needs
+
+part-fold-public-in-end : tie.Need-part-fold-public-in-end
+part-fold-public-in-end c = search needs
+
+fold-public-in-requires : tie.Need-fold-public-in-requires
+fold-public-in-requires c κs = search needs
+
 same-length : tie.Need-same-length
 same-length c = search needs
 
@@ -37,12 +55,14 @@ same-length-2 c = search needs
 
 returns : tie.Need-returns
 returns c =
-    let l = c .before .before .before .before .before .before .before .before in
-    let s = l .before .before .before .before .before .before in
+    let h = c .before .before in
+    let f = h .before .before .before .before .before in
+    let l = f .before .before .before .before .before .before in
+    let s = l .before .before .before .before .before .before .before in
     let x = s .args in
     let p = l .login-point in
-    λ F. fold-ends (x .q) (x .w) (x .n) (x .k) (now (x .packed)) (now (x .draws)) (now (x .s)) (p .last .1 .1 .1 .0) _ (p .kept .1 .1 .1 .0 ∙ s .pre .2) (p .ensures)
-    (c .before .before .fold-packed-in .ensures .1) F
+    λ F. fold-ends (x .q) (x .w) (x .n) (x .k) (now (x .packed)) (now (x .x)) (now (x .draws)) (now (x .s)) (p .last .1 .1 .1 .0) _
+    (p .kept .1 .1 .1 .0 ∙ s .pre .2) (p .ensures) (f .fold-packed-in .ensures .1) F _ (h .fold-public-in .ensures .1)
 
 same-length-3 : tie.Need-same-length-3
 same-length-3 c = search needs
@@ -56,11 +76,17 @@ fold-at-spec =
     (tie.spec
     login-point-requires
     mul-a
+    mul-b
     mul-fold-packed-in
     sub-fold-packed-in
     part-fold-packed-in-start
     part-fold-packed-in-end
     fold-packed-in-requires
+    mul-fold-public-in
+    sub-fold-public-in
+    part-fold-public-in-start
+    part-fold-public-in-end
+    fold-public-in-requires
     same-length
     same-length-2
     returns

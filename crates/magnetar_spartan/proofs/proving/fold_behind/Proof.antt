@@ -4,7 +4,7 @@ use mathlib.Core.Path.{_≡_}
 use Prim.Native.Nat.{ℕ, _+_}
 use denote.Ref.{now}
 use Rattle.magnetar_spartan.specs.Proving.{loginAt}
-use Rattle.magnetar_spartan.proofs.LaterLaws.{fold-left}
+use Rattle.magnetar_spartan.proofs.FoldLaws.{fold-left}
 use borrow.Author.Needs.{needs}
 use Rattle.magnetar_spartan.proofs.proving.fold_behind.Statement.{statement}
 use Rattle.magnetar_spartan.proofs.proving.fold_behind.Tie as tie
