@@ -177,4 +177,5 @@ module _ (m q rb rf : ℕ) (ns p d room : List ℕ) (s b f c z : ℕ) (es : s �
       half-in v =
           let n : 2 * m ≡ m + m = omega arith in
           let l = elements room in
-          rw (lent, n, take-add m m l, drop-at (take m l) (take m (drop m l)) m (length-take-le m l long)) (take-take (m / 2) m (drop m l) (omega arith))
+          rw (lent, n, take-add m m l, drop-at (take m l) (take m (drop m l)) m (length-take-le m l long))
+          (take-take (m / 2) m (drop m l) (omega arith))

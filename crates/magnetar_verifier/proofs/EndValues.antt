@@ -99,7 +99,9 @@ module _ (m : ℕ) (s low u post : List ℕ) (P : Sized 2 65536 m) (ls : length 
       front = length-take-le (3 * m) s (omega arith)
 
       right : elements (take (4 * m - 3 * m) (drop (3 * m) (take (3 * m) s ++ (u ++ post)))) ≡ eqTable (elements low)
-      right = rw (drop-at (take (3 * m) s) (u ++ post) (3 * m) front, take-at u post (4 * m - 3 * m) size, built) (elements-words (eqTable (elements low)))
+      right =
+          rw (drop-at (take (3 * m) s) (u ++ post) (3 * m) front, take-at u post (4 * m - 3 * m) size, built)
+          (elements-words (eqTable (elements low)))
 
       left : elements (take (3 * m - 2 * m) (drop (2 * m) (take (3 * m) s ++ (u ++ post)))) ≡ take (m / 2) (drop m (elements s))
       left =
