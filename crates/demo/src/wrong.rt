@@ -44,20 +44,26 @@ fn verified(q: usize, x: &[u64], proof: &[u64]) {
     refusal::line(r.code);
 }
 
-// What it says about the proof of a batch.
-fn proved(packed: &[u64], x: &[u64]) {
-    let mut proof = [0u64; 128];
+// The office's proof of q logins, and its answer.
+fn prove(q: usize, packed: &[u64], x: &[u64], proof: &mut [u64]) -> u32 {
     let mut claims = [0u64; 20];
     let mut scratch = [0u64; 1168];
-    rules::prove(
-        &mut proof,
+    let r = rules::prove(
+        proof,
         &mut claims,
         &mut scratch,
-        4,
+        q,
         packed,
         x,
         vault::start(),
     );
+    r.code
+}
+
+// What the laptop says about the proof of a batch.
+fn proved(packed: &[u64], x: &[u64]) {
+    let mut proof = [0u64; 128];
+    let _done = prove(4, packed, x, &mut proof);
     verified(4, x, &proof);
 }
 
@@ -134,18 +140,7 @@ pub(crate) fn batches(packed: &[u64], x: &[u64]) {
 // The office proves q logins.
 fn prove_size(q: usize, packed: &[u64], x: &[u64]) {
     let mut proof = [0u64; 128];
-    let mut claims = [0u64; 20];
-    let mut scratch = [0u64; 1168];
-    let r = rules::prove(
-        &mut proof,
-        &mut claims,
-        &mut scratch,
-        q,
-        packed,
-        x,
-        vault::start(),
-    );
-    refusal::line(r.code);
+    refusal::line(prove(q, packed, x, &mut proof));
 }
 
 pub(crate) fn sizes(packed: &[u64], x: &[u64], proof: &[u64]) {

@@ -48,27 +48,37 @@ fn combine(nums: &[u64], given: &[u64], sizes: &[usize], scratch: &mut [u64]) {
 }
 
 fn last(nums: &[u64], sizes: &[usize], scratch: &mut [u64]) -> Found {
+    let m = told::m(sizes);
+    let q = told::q(sizes);
+    let rb = told::rows_bin(sizes);
+    let rf = told::rows_fld(sizes);
+    let proof = text::after(nums, 2, 0);
     end::end_checks(
-        told::m(sizes),
-        told::q(sizes),
-        told::rows_bin(sizes),
-        told::rows_fld(sizes),
+        m,
+        q,
+        rb,
+        rf,
         told::lens(sizes),
-        text::after(nums, 2, 0),
+        proof,
         text::after(nums, 2, 1),
         scratch,
     )
 }
 
 fn claimed(nums: &[u64], sizes: &[usize], claims: &mut [u64]) -> u32 {
+    let m = told::m(sizes);
+    let q = told::q(sizes);
+    let rb = told::rows_bin(sizes);
+    let rf = told::rows_fld(sizes);
+    let draws = text::after(nums, 2, 1);
     claims::write_claims(
-        told::m(sizes),
-        told::q(sizes),
-        told::rows_bin(sizes),
-        told::rows_fld(sizes),
+        m,
+        q,
+        rb,
+        rf,
         told::lens(sizes),
         text::after(nums, 2, 0),
-        text::after(nums, 2, 1),
+        draws,
         claims,
     )
 }

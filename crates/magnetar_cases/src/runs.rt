@@ -101,15 +101,20 @@ fn verified(
     scratch: &mut [u64],
     proof: &[u64],
 ) -> TranscriptAnswer {
+    let m = told::m(sizes);
+    let q = told::q(sizes);
+    let sh = told::shapes(sizes);
+    let row = told::row(sizes);
+    let col = told::col(sizes);
     virtual_spartan::verify_virtual_spartan(
         claims,
         scratch,
-        told::m(sizes),
-        told::q(sizes),
+        m,
+        q,
         told::lens(sizes),
-        told::shapes(sizes),
-        told::row(sizes),
-        told::col(sizes),
+        sh,
+        row,
+        col,
         told::lo(given),
         told::hi(given),
         told::x(given),

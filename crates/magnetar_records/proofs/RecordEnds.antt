@@ -31,7 +31,7 @@ use Rattle.magnetar_r1cs.proofs.Points.{point-of, point-size}
 use Rattle.magnetar_records.specs.declared.records.Entry.{Entry}
 use Rattle.magnetar_records.specs.Records.{entriesOfRecords, lentOf}
 use Rattle.magnetar_relation.specs.Rules.{liesIn}
-use Rattle.magnetar_relation.specs.Steps.{clearedTo, addedAll, front, between, behind}
+use Rattle.magnetar_relation.specs.Steps.{clearedTo, addedAll, between, behind}
 use Rattle.magnetar_records.specs.Steps.{loneOf, applyTests, tableTests, atTests, pairShare}
 use Rattle.magnetar_relation.proofs.TableWords.{cleared-added, words-length, front-cleared, front-read}
 use Rattle.magnetar_records.proofs.RecordLaws.{lone-same, matrix-of}
@@ -165,8 +165,8 @@ module _ (n m : ℕ) (r c t : List ℕ) (en : length r ≡ n) (em : length c ≡
   both-drop : drop (2 * n) (words r ++ (words c ++ t)) ≡ words c ++ t
   both-drop = drop-at (words r) (words c ++ t) (2 * n) (words-length r ∙ ap (λ (i : ℕ). 2 * i) en)
 
-  first-is : (j : ℕ) → front n (words r ++ (words c ++ t)) j ≡ getD r j 0
-  unfolding front
+  first-is : (j : ℕ) → between 0 n (words r ++ (words c ++ t)) j ≡ getD r j 0
+  unfolding between
   first-is j = rw (front-read n r (words c ++ t) en)
 
   second-is : (j : ℕ) → between n m (words r ++ (words c ++ t)) j ≡ getD c j 0

@@ -8,7 +8,7 @@ use Rattle.magnetar_field.specs.Gf128.{_⊗_}
 use Rattle.magnetar_field.specs.Sizes.{log₂}
 use Rattle.magnetar_layout.specs.Tests.{Tests, columnTests, loneRowTests, countTests, lengthTestOf, roomTestOf}
 use Rattle.magnetar_matrix.specs.Matrix.{Entry}
-use Rattle.magnetar_relation.specs.Steps.{front, between}
+use Rattle.magnetar_relation.specs.Steps.{between}
 
 -- 1, 4, 6 and 7 of n rows and m columns with k records, which lie inside or not
 abbrev pub loneOf : ℕ → ℕ → ℕ → Bool → Tests
@@ -28,4 +28,4 @@ atTests n m r c s = lengthTestOf (2 * log₂ n) r ++ lengthTestOf (2 * log₂ m)
 
 -- an entry's value times the factors at its row, of the first n elements, and at its column, of the m behind them
 unfoldable pub pairShare : ℕ → ℕ → List ℕ → Entry → ℕ
-pairShare n m s e = e .value ⊗ (front n s (e .row) ⊗ between n m s (e .col))
+pairShare n m s e = e .value ⊗ (between 0 n s (e .row) ⊗ between n m s (e .col))

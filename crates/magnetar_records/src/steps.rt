@@ -194,7 +194,12 @@ pub(crate) fn add_column(m: usize, n: usize, s: &mut [u64], out: &mut [u64], e: 
         × (now (out .exit) ≡ addedTo m (e .col) (share (elements (take (2 * n) (now (s .entry)))) (swapped (entryOf e))) (now (out .entry))) ⌝ }
 {
     let v = Gf128 { lo: e.lo, hi: e.hi };
-    table::add_to(m, e.col, step::scale(v, table::get_front(n, s, e.row)), out);
+    table::add_to(
+        m,
+        e.col,
+        step::scale(v, table::get_between(0, n, s, e.row)),
+        out,
+    );
 }
 
 // Adds a record's value times the element at its row, of the n behind the first m, at its column, where its index i is from a to b.
@@ -213,7 +218,7 @@ pub(crate) fn add_pair(acc: Gf128, n: usize, m: usize, s: &mut [u64], e: Entry) 
     ensures { λ r. ⌜ (value r ≡ value acc ⊕ pairShare n m (now (s .entry)) (entryOf e)) × (now (s .exit) ≡ now (s .entry)) ⌝ }
 {
     let v = Gf128 { lo: e.lo, hi: e.hi };
-    let a = table::get_front(n, s, e.row);
+    let a = table::get_between(0, n, s, e.row);
     let b = table::get_between(n, m, s, e.col);
     gf128::add(acc, step::scale(v, gf128::mul(a, b)))
 }

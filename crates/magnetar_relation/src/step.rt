@@ -29,7 +29,7 @@ pub fn add_to(n: usize, k: usize, v: Gf128, out: &mut [u64])
 }
 
 // Element k of the first n.
-pub fn get_front(n: usize, s: &[u64], k: usize) -> Gf128
+fn get_front(n: usize, s: &[u64], k: usize) -> Gf128
     ensures { λ r. ⌜ value r ≡ front n (now (s .entry)) k ⌝ }
 {
     if n <= s.len() / 2 {

@@ -60,28 +60,18 @@ fn print_reading(r: Reading) {
 
 // isbinary
 fn binary(nums: &[u64], row: &[usize], col: &[usize]) {
-    print_flag(r1cs::is_binary(
-        text::count(nums, 2),
-        text::count(nums, 3),
-        row,
-        col,
-        nth(nums, 4, 2),
-        nth(nums, 4, 3),
-    ));
+    let n = text::count(nums, 2);
+    let m = text::count(nums, 3);
+    print_flag(r1cs::is_binary(n, m, row, col, nth(nums, 4, 2), nth(nums, 4, 3)));
 }
 
 // apply: X a vector.
 fn apply(nums: &[u64], row: &[usize], col: &[usize], room: &mut [u64]) {
-    let code = r1cs::apply(
-        text::count(nums, 2),
-        text::count(nums, 3),
-        row,
-        col,
-        nth(nums, 4, 2),
-        nth(nums, 4, 3),
-        nth(nums, 4, 4),
-        room,
-    );
+    let n = text::count(nums, 2);
+    let m = text::count(nums, 3);
+    let lo = nth(nums, 4, 2);
+    let hi = nth(nums, 4, 3);
+    let code = r1cs::apply(n, m, row, col, lo, hi, nth(nums, 4, 4), room);
     print_code(code, room);
 }
 
@@ -123,17 +113,11 @@ fn products(op: u64, nums: &[u64], row: &[usize], col: &[usize], room: &mut [u64
 // table: X the point of the rows.
 fn table_in(nums: &[u64], row: &[usize], col: &[usize], room: &mut [u64], scratch: &mut [u64]) {
     text::fill(scratch, text::MARK);
-    let code = r1cs::eval_mle_table(
-        text::count(nums, 2),
-        text::count(nums, 3),
-        row,
-        col,
-        nth(nums, 4, 2),
-        nth(nums, 4, 3),
-        nth(nums, 4, 4),
-        room,
-        scratch,
-    );
+    let n = text::count(nums, 2);
+    let m = text::count(nums, 3);
+    let lo = nth(nums, 4, 2);
+    let hi = nth(nums, 4, 3);
+    let code = r1cs::eval_mle_table(n, m, row, col, lo, hi, nth(nums, 4, 4), room, scratch);
     print_code(code, room);
     print_line(scratch);
 }
@@ -152,17 +136,12 @@ fn table(nums: &[u64], row: &[usize], col: &[usize], room: &mut [u64]) {
 // at: X the point of the rows, Y that of the columns.
 fn value_in(nums: &[u64], row: &[usize], col: &[usize], scratch: &mut [u64]) {
     text::fill(scratch, text::MARK);
-    print_evaluated(r1cs::eval_mle_at(
-        text::count(nums, 2),
-        text::count(nums, 3),
-        row,
-        col,
-        nth(nums, 4, 2),
-        nth(nums, 4, 3),
-        nth(nums, 4, 4),
-        nth(nums, 4, 5),
-        scratch,
-    ));
+    let n = text::count(nums, 2);
+    let m = text::count(nums, 3);
+    let lo = nth(nums, 4, 2);
+    let hi = nth(nums, 4, 3);
+    let p = nth(nums, 4, 4);
+    print_evaluated(r1cs::eval_mle_at(n, m, row, col, lo, hi, p, nth(nums, 4, 5), scratch));
     print_line(scratch);
 }
 

@@ -2,13 +2,13 @@
 -- Assumes nothing.
 use mathlib.Core.Path.{refl}
 use Rattle.magnetar_matrix.specs.Matrix.{share}
-use Rattle.magnetar_relation.specs.Steps.{front}
+use Rattle.magnetar_relation.specs.Steps.{between}
 use borrow.Author.Needs.{needs}
 use Rattle.magnetar_records.proofs.steps.add_column.Statement.{statement}
 use Rattle.magnetar_records.proofs.steps.add_column.Tie as tie
 
-get-front-requires : tie.Need-get-front-requires
-get-front-requires c κs = search needs
+get-between-requires : tie.Need-get-between-requires
+get-between-requires c κs = search needs
 
 scale-requires : tie.Need-scale-requires
 scale-requires c κs = search needs
@@ -23,10 +23,10 @@ same-length-2 : tie.Need-same-length-2
 same-length-2 c = search needs
 
 returns : tie.Need-returns
-unfolding share front
-returns c = (refl, rw (c .before .before .add-to .ensures, c .before .before .before .before .scale .ensures, c .before .before .before .before .before .get-front .ensures))
+unfolding share between
+returns c = (refl, rw (c .before .before .add-to .ensures, c .before .before .before .before .scale .ensures, c .before .before .before .before .before .get-between .ensures))
 
 pub add-column-spec : {M : Type 1} → statement M
 add-column-spec =
     tie.close
-    (tie.spec get-front-requires scale-requires add-to-requires same-length same-length-2 returns)
+    (tie.spec get-between-requires scale-requires add-to-requires same-length same-length-2 returns)
