@@ -5,9 +5,9 @@ use mathlib.Core.Bool.{Bool, true, false}
 use mathlib.Core.List.{List, [], _++_}
 use Prim.Native.Nat.{ℕ, suc, _*_, _/_, _<_, _≤_}
 use native.Mathlib.Omega.{arith}
-use lib.Dec.{ltb}
+use lib.Dec.{ltb, eqb}
 use lib.ListN.{length, getD, take, drop}
-use borrow.Author.Tests.{ltb-true, ltb-false, le-ltb}
+use borrow.Author.Tests.{ltb-true, ltb-false, le-ltb, eqb-true}
 use Rattle.magnetar_field.specs.Words.{elements, words}
 use Rattle.magnetar_field.proofs.Elements.{elements-length, elements-below, words-length}
 use Rattle.magnetar_field.proofs.Tabulation.{tabulate-length, tabulate-get, tabulate-out}
@@ -28,9 +28,9 @@ use Rattle.magnetar_protocol.proofs.ProverRun.{proving-words}
 use Rattle.magnetar_protocol.proofs.RealRuns.{completeness-run}
 use Rattle.magnetar_relation.specs.Rules.{Rules, relationOf}
 use Rattle.magnetar_spartan.specs.Refusals.{rulesTests, counterTests, roomOf, wordTests, claimWords, proofWords, verifierRoom, proverRoom, verifyTests, proveTests}
-use Rattle.magnetar_spartan.specs.Outcome.{batchOf, verifyRefusal, verifyVerdict, verifyOutcome, proveRefusal, proveDraws, proveOutcome}
+use Rattle.magnetar_spartan.specs.Outcome.{Proved, batchOf, verifyRefusal, verifyVerdict, verifyOutcome, proveRefusal, proveDraws, proveOutcome}
 use Rattle.magnetar_spartan.specs.Proving.{RunReady}
-use Rattle.magnetar_spartan.specs.Theorems.{AreWords, writtenProof, CompleteCall}
+use Rattle.magnetar_spartan.specs.Theorems.{AreWords, AcceptedBy, ProvedCall, Unrefused}
 use Rattle.magnetar_spartan.proofs.SizedRules.{rules-numbered}
 use Rattle.magnetar_spartan.proofs.Ended.{provable}
 use Rattle.magnetar_spartan.proofs.Fine.{noted-none, clear-front, clear-back, clear-join, same-fine}
@@ -71,7 +71,7 @@ sized-batch R ws = record { logins = many (R .q) (R .m / 2) ws; columns = wide (
 
 module _ (R : Rules) (ws x : List ℕ) (t : Transcript) (w c s : List ℕ) where
   abbrev handed : List ℕ
-  handed = writtenProof R ws x t w c s
+  handed = take (proofWords R) (proveOutcome R ws x t w c s .proof)
 
   abbrev sent : List ℕ
   sent = sentWords (relationOf R) (batchOf R ws) (elements x) t
@@ -122,7 +122,7 @@ module _ (R : Rules) (ws x : List ℕ) (t : Transcript) (w c s : List ℕ) where
         ),
       )
 
-  -- the words of the written proof are those that the prover sent, as many as a proof has
+  -- the words of the proof are those that the prover sent, as many as a proof has
   module _ (wx : AreWords x) (hp : proveRefusal R ws x t w c s ≡ 0) where
     able : RunReady R (length ws) (length x) (length w) (length c) (length s) (t .«squeeze_ctr»)
     able = provable R ws x (t .«squeeze_ctr») (length w) (length c) (length s) (unfold proveRefusal in hp)
@@ -141,20 +141,12 @@ module _ (R : Rules) (ws x : List ℕ) (t : Transcript) (w c s : List ℕ) where
     written : length handed ≡ proofWords R
     written = ap length (handed-is hp size) ∙ words-length sent ∙ sym size
 
-  -- A verifier with room enough for the claims and its scratch is refused by none of 1 to 17 what the prover has written.
-  pub verify-unrefused : (c′ s′ : List ℕ) → AreWords x → proveRefusal R ws x t w c s ≡ 0
-      → claimWords R ≤ length c′ → verifierRoom R ≤ length s′
-      → verifyRefusal R x (writtenProof R ws x t w c s) t c′ s′ ≡ 0
-  verify-unrefused c′ s′ wx hp hc hs = unrefused handed c′ s′ hp hc hs (written wx hp)
-
-  -- Wherever neither end is refused by 1 to 16: of a good batch with no bit outside the segments the verifier accepts what the prover has
-  -- written, and both ends agree.
-  pub verify-complete : (c′ s′ : List ℕ) → AreWords x
-      → proveRefusal R ws x t w c s ≡ 0 → verifyRefusal R x (writtenProof R ws x t w c s) t c′ s′ ≡ 0
+  -- wherever neither end is refused by 1 to 16
+  verify-complete : (c′ s′ : List ℕ) → AreWords x → proveRefusal R ws x t w c s ≡ 0 → verifyRefusal R x handed t c′ s′ ≡ 0
       → Good (relationOf R) (batchOf R ws) (elements x) → NoBitOutside (relationOf R) (batchOf R ws)
-      → CompleteCall R ws x t w c s c′ s′
+      → let o = proveOutcome R ws x t w c s in AcceptedBy R ws x t (o .proof) (o .claims) (o .transcript) c′ s′
   verify-complete c′ s′ wx hp hv good stray =
-      record { accepted = accepted; same-claims = same; true-claims = subst (ClaimsTrue r b) (sym (returned R x handed t c′ s′ accepted ∙ claims-given)) (agrees .true-claims); same-transcript = ends }
+      record { accepted = accepted; same-claims = same; true-claims = subst (ClaimsTrue r b) held (agrees .true-claims); same-transcript = ends }
     where
       r : Relation
       r = relationOf R
@@ -182,13 +174,29 @@ module _ (R : Rules) (ws x : List ℕ) (t : Transcript) (w c s : List ℕ) where
           returned-words R x handed t c′ s′ accepted ∙ ap words verifier-claims
           ∙ sym (claims-handed hp (claims-size R x handed t c′ s′ accepted ∙ ap (λ (l : List ℕ). 2 * length l) verifier-claims))
 
+      held : claims r sent (verifierDraws r sent t) ≡ elements (take (claimWords R) (proveOutcome R ws x t w c s .claims))
+      held = sym (sym (ap elements same) ∙ returned R x handed t c′ s′ accepted ∙ claims-given)
+
       ends : verifyOutcome R x handed t c′ s′ .transcript ≡ proveOutcome R ws x t w c s .transcript
       ends = transcripts handed c′ s′ hv given hp (agrees .same-transcript)
 
-  -- Both in one: where the prover is not refused, and the verifier has room enough, a good batch with no bit outside the segments is
-  -- accepted, and both ends agree.
-  pub verify-accepts : (c′ s′ : List ℕ) → AreWords x → proveRefusal R ws x t w c s ≡ 0
-      → claimWords R ≤ length c′ → verifierRoom R ≤ length s′
-      → Good (relationOf R) (batchOf R ws) (elements x) → NoBitOutside (relationOf R) (batchOf R ws)
-      → CompleteCall R ws x t w c s c′ s′
-  verify-accepts c′ s′ wx hp hc hs = verify-complete c′ s′ wx hp (verify-unrefused c′ s′ wx hp hc hs)
+pub verify-unrefused : Unrefused
+verify-unrefused R ws x t w c s c′ s′ wx hp hc hs = unrefused R ws x t w c s _ c′ s′ hp hc hs (written R ws x t w c s wx hp)
+
+-- a call that is refused answers its number
+not-refused : (R : Rules) (ws x : List ℕ) (t : Transcript) (w c s : List ℕ) → proveOutcome R ws x t w c s .code ≡ 0
+    → proveRefusal R ws x t w c s ≡ 0
+unfolding proveOutcome
+not-refused R ws x t w c s e = go (eqb (proveRefusal R ws x t w c s) 0) refl
+  where
+    go : (b : Bool) → eqb (proveRefusal R ws x t w c s) 0 ≡ b → proveRefusal R ws x t w c s ≡ 0
+    go true h = eqb-true (proveRefusal R ws x t w c s) 0 h
+    go false h = rw h at e
+
+-- the theorem, of what the function leaves
+pub proved-call : (R : Rules) (ws x : List ℕ) (t : Transcript) (w c s : List ℕ) (o : Proved) → AreWords x
+    → o ≡ proveOutcome R ws x t w c s → o .code ≡ 0 → ProvedCall R ws x t (o .proof) (o .claims) (o .transcript)
+proved-call R ws x t w c s o wx e z good stray c′ s′ hc hs =
+    let none : proveRefusal R ws x t w c s ≡ 0 = not-refused R ws x t w c s (ap (λ (p : Proved). p .code) (sym e) ∙ z) in
+    subst (λ (p : Proved). AcceptedBy R ws x t (p .proof) (p .claims) (p .transcript) c′ s′) (sym e)
+    (verify-complete R ws x t w c s c′ s′ wx none (verify-unrefused R ws x t w c s c′ s′ wx none hc hs) good stray)

@@ -13,7 +13,7 @@ use lib.Seq.{take-at, drop-at, take-append-le, drop-append-le}
 use borrow.Author.Tests.{lt-ltb, eq-eqb, ne-eqb, eqb-true, eqb-false}
 use Rattle.magnetar_field.specs.Sizes.{log₂}
 use Rattle.magnetar_field.specs.Words.{elements, words, overlaid}
-use Rattle.magnetar_field.proofs.Elements.{words-length, words-append, elements-length}
+use Rattle.magnetar_field.proofs.Elements.{words-length, words-append, elements-length, elements-below}
 use Rattle.magnetar_hash.specs.declared.transcript.Transcript.{Transcript}
 use Rattle.magnetar_hash.specs.Transcript.{absorbed, drawn}
 use Rattle.magnetar_layout.specs.Every.{every}
@@ -45,6 +45,7 @@ use Rattle.magnetar_spartan.specs.Numbers.{proveTestsBy}
 use Rattle.magnetar_spartan.specs.Ready.{Ready}
 use Rattle.magnetar_spartan.specs.Table.{tableAt}
 use Rattle.magnetar_spartan.specs.Outcome.{batchOf, proveDraws, proveRefusal, proveOutcome, provedInPlace}
+use Rattle.magnetar_spartan.specs.Theorems.{AreWords, ProvedCall}
 use Rattle.magnetar_spartan.specs.Proving.{bare, RunReady, outerNumber, OuterDone, saidBefore, drawnBefore, saidAll, drawnAll, laterPlayed, LaterLeft}
 use Rattle.magnetar_spartan.specs.Products.{tablesWanted, Products, ProductsLeft}
 use Rattle.magnetar_spartan.proofs.Fine.{noted-none, size-fine, most-fine, true-fine}
@@ -52,7 +53,7 @@ use Rattle.magnetar_spartan.proofs.ByNumbers.{prove-by}
 use Rattle.magnetar_spartan.proofs.Ended.{provable, draws-small}
 use Rattle.magnetar_spartan.proofs.Room.{Beyond}
 use Rattle.magnetar_spartan.proofs.DrawnTable.{drawn-combined, drawn-beyond}
-use Rattle.magnetar_spartan.proofs.Complete.{sized-batch}
+use Rattle.magnetar_spartan.proofs.Complete.{sized-batch, proved-call}
 use Rattle.magnetar_spartan.proofs.FoldLaws.{behind-front}
 use Rattle.magnetar_spartan.proofs.LaterLaws.{laid-front}
 
@@ -319,15 +320,16 @@ unlaid R = record { m = R .m; q = R .q; lengths = []; shapes = R .shapes; number
 
 module _ (R : Rules) (ws x w c s : List ℕ) (t : Transcript) where
   -- turned back with the number z
-  pub turned-back : (z : ℕ) → z ≡ proveRefusal R ws x t w c s → (z ≡ 0 → ⊥) → provedInPlace z t w c s ≡ proveOutcome R ws x t w c s
+  pub turned-back : (z : ℕ) → z ≡ proveRefusal R ws x t w c s → (z ≡ 0 → ⊥)
+      → (provedInPlace z t w c s ≡ proveOutcome R ws x t w c s) × (z ≡ 0 → ProvedCall R ws x t w c t)
   unfolding proveOutcome
-  turned-back z e h = rw (← e, ne-eqb z 0 h)
+  turned-back z e h = (rw (← e, ne-eqb z 0 h), λ i. absurd (h i))
 
   -- run through: the products, the outer rounds, the combined table, and what is behind it
   pub run-through : proveRefusal R ws x t w c s ≡ 0 → (s₁ s₂ s₃ : List ℕ) (u u′ : Transcript) (d v w′ c′ s′ : List ℕ) → ProductsLeft (unlaid R) ws x s s₁
       → OuterDone (R .q) (rowsBin R) (rowsFld R) w s₁ t u d v s₂ → s₃ ≡ tableAt (relationOf R) d s₂
-      → Elements (elements x) × (length d ≡ 256 → LaterLeft (bare (R .m) (R .q) (rowsBin R) (rowsFld R) (R .lengths)) ws x v d c s₃ u u′ w′ c′ s′)
-      → provedInPlace 0 u′ w′ c′ s′ ≡ proveOutcome R ws x t w c s
+      → AreWords x × (length d ≡ 256 → LaterLeft (bare (R .m) (R .q) (rowsBin R) (rowsFld R) (R .lengths)) ws x v d c s₃ u u′ w′ c′ s′)
+      → (provedInPlace 0 u′ w′ c′ s′ ≡ proveOutcome R ws x t w c s) × ProvedCall R ws x t w′ c′ u′
   unfolding proveRefusal
   run-through none s₁ s₂ s₃ u u′ d v w′ c′ s′ products done table later =
       let ok = provable R ws x (t .«squeeze_ctr») (length w) (length c) (length s) none in
@@ -347,8 +349,11 @@ module _ (R : Rules) (ws x w c s : List ℕ) (t : Transcript) where
       let e : s₃ ≡ tableAt (relationOf R) (overlaid drawn (replicate 256 0)) s₂ =
       table ∙ ap (λ (l : List ℕ). tableAt (relationOf R) l s₂) (D-over R ws x w c s t ok s₁ Q u d v s₂ done) in
       let b : Beyond (proverRoom R) s₂ s₃ = subst (Beyond (proverRoom R) s₂) (sym e) (drawn-beyond R (ok .ready) drawn s₂ many enough (proverRoom R) (omega arith)) in
-      run-is R ws x w c s t ok s₁ Q u d v s₂ done s₃ (ap (λ (l : List ℕ). take (R .m) (elements l)) e ∙ drawn-combined R (ok .ready) drawn s₂ many enough) (b .long) (b .rest)
-      (later .0) none u′ w′ c′ s′ (later .1 (d-long R ws x w c s t ok s₁ Q u d v s₂ done))
+      let front = ap (λ (l : List ℕ). take (R .m) (elements l)) e ∙ drawn-combined R (ok .ready) drawn s₂ many enough in
+      let o : provedInPlace 0 u′ w′ c′ s′ ≡ proveOutcome R ws x t w c s =
+      run-is R ws x w c s t ok s₁ Q u d v s₂ done s₃ front (b .long) (b .rest) (elements-below x (later .0)) none u′ w′ c′ s′
+      (later .1 (d-long R ws x w c s t ok s₁ Q u d v s₂ done)) in
+      (o, proved-call R ws x t w c s (provedInPlace 0 u′ w′ c′ s′) (later .0) o refl)
 
 module _ (R : Rules) (ws x w c s : List ℕ) (t : Transcript) (y z : ℕ) (hy : y ≡ noted 0 (ruleTests R))
     (hz : z ≡ noted 0 (proveTestsBy y (outlineOf R) (length ws) (length x) (t .«squeeze_ctr») (length w) (length c) (length s))) where
@@ -369,16 +374,17 @@ module _ (R : Rules) (ws x w c s : List ℕ) (t : Transcript) (n : ℕ) (s₁ s�
     (products : (n ≡ 0 → ProductsLeft (unlaid R) ws x s s₁) × ((n ≡ 0 → ⊥) → s₁ ≡ s))
     (done : (n ≡ 0 → OuterDone (R .q) (rowsBin R) (rowsFld R) w s₁ t u d v s₂) × ((n ≡ 0 → ⊥) → (u ≡ t) × (v ≡ w) × (s₂ ≡ s₁)))
     (drawn-is : d′ ≡ d) (table : s₃ ≡ cond (eqb n 0) (tableAt (relationOf R) d′ s₂) s₂)
-    (later : (n ≡ 0 → Elements (elements x) × (length d ≡ 256 → LaterLeft (bare (R .m) (R .q) (rowsBin R) (rowsFld R) (R .lengths)) ws x v d c s₃ u u′ w′ c′ s′))
+    (later : (n ≡ 0 → AreWords x × (length d ≡ 256 → LaterLeft (bare (R .m) (R .q) (rowsBin R) (rowsFld R) (R .lengths)) ws x v d c s₃ u u′ w′ c′ s′))
     × ((n ≡ 0 → ⊥) → (u′ ≡ u) × (w′ ≡ v) × (c′ ≡ c) × (s′ ≡ s₃))) (e : n ≡ proveRefusal R ws x t w c s) where
-  pub unless-ends : provedInPlace n u′ w′ c′ s′ ≡ proveOutcome R ws x t w c s
+  pub unless-ends : (provedInPlace n u′ w′ c′ s′ ≡ proveOutcome R ws x t w c s) × (n ≡ 0 → ProvedCall R ws x t w′ c′ u′)
   unless-ends = go (eqb n 0) refl
     where
-      go : (b : Bool) → eqb n 0 ≡ b → provedInPlace n u′ w′ c′ s′ ≡ proveOutcome R ws x t w c s
+      go : (b : Bool) → eqb n 0 ≡ b → (provedInPlace n u′ w′ c′ s′ ≡ proveOutcome R ws x t w c s) × (n ≡ 0 → ProvedCall R ws x t w′ c′ u′)
       go true b =
           let z : n ≡ 0 = eqb-true n 0 b in
-          ap (λ (i : ℕ). provedInPlace i u′ w′ c′ s′) z ∙ run-through R ws x w c s t (sym e ∙ z) s₁ s₂ s₃ u u′ d v w′ c′ s′ (products .0 z) (done .0 z)
-          (table ∙ (rw b (ap (λ (l : List ℕ). tableAt (relationOf R) l s₂) drawn-is))) (later .0 z)
+          let r = run-through R ws x w c s t (sym e ∙ z) s₁ s₂ s₃ u u′ d v w′ c′ s′ (products .0 z) (done .0 z)
+          (table ∙ (rw b (ap (λ (l : List ℕ). tableAt (relationOf R) l s₂) drawn-is))) (later .0 z) in
+          (ap (λ (i : ℕ). provedInPlace i u′ w′ c′ s′) z ∙ r .0, λ i. r .1)
       go false b =
           let k : n ≡ 0 → ⊥ = eqb-false n 0 b in
           let o = done .1 k in

@@ -2,7 +2,6 @@
 -- Assumes nothing.
 use mathlib.Core.Path.{_≡_, refl, sym, ap, _∙_, subst}
 use mathlib.Core.Bool.{Bool, true, false}
-use mathlib.Core.Logic.{_⊎_}
 use mathlib.Core.List.{List, _++_}
 use Prim.Native.Nat.{ℕ, _+_, _*_}
 use native.Mathlib.Omega.{arith}
@@ -13,14 +12,12 @@ use borrow.Author.Tests.{eqb-true}
 use Rattle.magnetar_field.specs.Words.{elements, words}
 use Rattle.magnetar_field.proofs.Elements.{elements-length, elements-below, words-length}
 use Rattle.magnetar_hash.specs.declared.transcript.Transcript.{Transcript}
-use Rattle.magnetar_matrix.specs.Batch.{Batch, Good}
 use Rattle.magnetar_matrix.proofs.TableLaws.{elements-words}
 use Rattle.magnetar_protocol.specs.Shape.{beforeEnd, proofElements}
 use Rattle.magnetar_protocol.specs.Proof.{segmentValues}
-use Rattle.magnetar_protocol.specs.Draws.{drawsOf, drawCount}
-use Rattle.magnetar_protocol.specs.Run.{claims, verdict, ClaimsTrue}
-use Rattle.magnetar_protocol.specs.RunSizes.{SizedRelation, SizedBatch, Elements}
-use Rattle.magnetar_protocol.specs.Soundness.{NoBitOutside, BadDraw}
+use Rattle.magnetar_protocol.specs.Draws.{drawsOf}
+use Rattle.magnetar_protocol.specs.Run.{claims, ClaimsTrue}
+use Rattle.magnetar_protocol.specs.RunSizes.{SizedRelation}
 use Rattle.magnetar_protocol.specs.RealRun.{verifierDraws}
 use Rattle.magnetar_protocol.proofs.SizeFacts.{cut}
 use Rattle.magnetar_protocol.proofs.ClaimParts.{claims-length}
@@ -28,8 +25,8 @@ use Rattle.magnetar_protocol.proofs.Counts.{verifier-count, verifier-elements}
 use Rattle.magnetar_protocol.proofs.Soundness.{soundness}
 use Rattle.magnetar_relation.specs.Rules.{Rules, relationOf}
 use Rattle.magnetar_spartan.specs.Refusals.{claimWords}
-use Rattle.magnetar_spartan.specs.Outcome.{verifyRefusal, verifyVerdict, verifyClaims, verifyOutcome}
-use Rattle.magnetar_spartan.specs.Theorems.{AreWords}
+use Rattle.magnetar_spartan.specs.Outcome.{Verified, verifyRefusal, verifyVerdict, verifyClaims, verifyOutcome}
+use Rattle.magnetar_spartan.specs.Theorems.{AreWords, AcceptedCall, SoundAny}
 use Rattle.magnetar_spartan.proofs.Ended.{Verifiable, verifiable}
 
 -- the words at the front
@@ -46,28 +43,21 @@ module _ (R : Rules) (x w : List ℕ) (t : Transcript) (c s : List ℕ) (none : 
   as-many : length (elements w) ≡ proofElements (relationOf R)
   as-many = elements-length w ∙ omega (arith, fits .proof)
 
-  -- Wherever the verifier refuses by none of 1 to 16, whatever elements d stand in the place of the draws: where it accepts with them, no
-  -- bit of the batch is set outside the segments and every claim is true of the batch, the batch keeps the rules, or some element of d
-  -- lies in its list of at most three.
-  pub verify-sound-any : (b : Batch) (d : List ℕ) → AreWords x → AreWords w → SizedBatch (relationOf R) b
-      → length d ≡ drawCount (relationOf R) → Elements d
-      → verdict (relationOf R) (elements x) (elements w) d ≡ 0
-      → NoBitOutside (relationOf R) b
-      → ClaimsTrue (relationOf R) b (claims (relationOf R) (elements w) d)
-      → Good (relationOf R) b (elements x) ⊎ BadDraw (relationOf R) b (elements x) (elements w) d
-  verify-sound-any b d wx ww B many below =
-      soundness (relationOf R) b (elements x) (elements w) d (record {
-        run = record {
-          relation = relation;
-          batch = B;
-          public = omega (arith, elements-length x, fits .public, fits .ready .columns .low);
-          draws = many;
-          elements-x = elements-below x wx;
-          elements-d = below;
-        };
-        words = as-many;
-        elements-w = elements-below w ww;
-      })
+pub verify-sound-any : SoundAny
+verify-sound-any R x w t c s none wx ww b d B many below =
+    let f = fits R x w t c s none in
+    soundness (relationOf R) b (elements x) (elements w) d (record {
+      run = record {
+        relation = f .ready;
+        batch = B;
+        public = omega (arith, elements-length x, f .public, f .ready .columns .low);
+        draws = many;
+        elements-x = elements-below x wx;
+        elements-d = below;
+      };
+      words = as-many R x w t c s none;
+      elements-w = elements-below w ww;
+    })
 
 module _ (R : Rules) (x w : List ℕ) (t : Transcript) (c s : List ℕ) (e : verifyOutcome R x w t c s .code ≡ 0) where
   -- nothing refused it before its checks
@@ -105,13 +95,16 @@ module _ (R : Rules) (x w : List ℕ) (t : Transcript) (c s : List ℕ) (e : ver
       ≡ claims (relationOf R) (elements w) (verifierDraws (relationOf R) (elements w) t)
   returned = ap elements returned-words ∙ elements-words (claims (relationOf R) (elements w) (verifierDraws (relationOf R) (elements w) t))
 
-  -- Where the verifier answers 0, no bit of the batch is set outside the segments and every claim that it has written is true of the
-  -- batch, the batch keeps the rules, or some draw of the transcript lies in its list of at most three: the case of the draws that the
-  -- transcript gives.
-  pub verify-sound : (b : Batch) → AreWords x → AreWords w → SizedBatch (relationOf R) b → NoBitOutside (relationOf R) b
-      → ClaimsTrue (relationOf R) b (elements (take (claimWords R) (verifyOutcome R x w t c s .claims)))
-      → Good (relationOf R) b (elements x) ⊎ BadDraw (relationOf R) b (elements x) (elements w) (verifierDraws (relationOf R) (elements w) t)
-  verify-sound b wx ww B outside ct =
-      verify-sound-any R x w t c s not-refused b (verifierDraws (relationOf R) (elements w) t) wx ww B
+  -- the case of the draws that the transcript gives
+  verify-sound : AreWords x → AreWords w → AcceptedCall R x w t (verifyOutcome R x w t c s .claims)
+  verify-sound wx ww b B outside ct =
+      verify-sound-any R x w t c s not-refused wx ww b (verifierDraws (relationOf R) (elements w) t) B
       (verifier-count (relationOf R) (elements w) t) (verifier-elements (relationOf R) (elements w) t)
       (unfold verifyVerdict in passed) outside (subst (ClaimsTrue (relationOf R) b) returned ct)
+
+-- the same of what the function leaves
+pub accepted-call : (R : Rules) (x w : List ℕ) (t : Transcript) (c s : List ℕ) (o : Verified) → AreWords x → AreWords w
+    → o ≡ verifyOutcome R x w t c s → o .code ≡ 0 → AcceptedCall R x w t (o .claims)
+accepted-call R x w t c s o wx ww e z =
+    subst (λ (v : Verified). AcceptedCall R x w t (v .claims)) (sym e)
+    (verify-sound R x w t c s (ap (λ (v : Verified). v .code) (sym e) ∙ z) wx ww)

@@ -28,12 +28,14 @@ use Rattle.magnetar_spartan.specs.declared.stages.Begun.{Begun}
 use Rattle.magnetar_spartan.specs.Refusals.{rowsBin, rowsFld, outlineOf, verifierRoom}
 use Rattle.magnetar_spartan.specs.Numbers.{verifyTestsBy}
 use Rattle.magnetar_spartan.specs.Outcome.{verified, verifyRefusal, verifyOutcome}
+use Rattle.magnetar_spartan.specs.Theorems.{AreWords, AcceptedCall}
 use Rattle.magnetar_spartan.specs.Table.{tableAt}
 use Rattle.magnetar_spartan.specs.Stages.{drawnWords, playedTo, drawnOf, laidAt, outerAt, begun, checkedAt, roomElements, finished, begunUnless, finishedUnless}
 use Rattle.magnetar_spartan.proofs.Verifying.{played-all, schedule-small}
 use Rattle.magnetar_spartan.proofs.VerifyRun.{draws-many, checks-leave}
 use Rattle.magnetar_spartan.proofs.Ended.{Verifiable, verifiable, draws-small, verify-refused}
 use Rattle.magnetar_spartan.proofs.ByNumbers.{verify-by}
+use Rattle.magnetar_spartan.proofs.Sound.{accepted-call}
 use Rattle.magnetar_spartan.proofs.DrawnTable.{drawn-combined, drawn-beyond}
 use Rattle.magnetar_spartan.proofs.PublicLaid.{laidBehindTable, laid, laid-table, laid-half, laid-beyond}
 use Rattle.magnetar_spartan.proofs.Room.{Beyond, in-front, over}
@@ -195,14 +197,17 @@ module _ (R : Rules) (x w : List ℕ) (t : Transcript) (c s : List ℕ) (y z : �
   unfolding begunUnless finishedUnless
   done a c′ s′ g u h hg hu e = e ∙ rw (h, hu, hg, h) (through h)
 
-  -- the answer a, the claims c′ and the scratch s′, where the first stage gave g and the table was made, or not, in front of u
-  pub verify-ends : (a : TranscriptAnswer) (c′ s′ : List ℕ) (g : Begun) (u : List ℕ) → g ≡ begunUnless z (outlineOf R) w t
+  ends : (n : ℕ) → z ≡ n → (a : TranscriptAnswer) (c′ s′ : List ℕ) (g : Begun) (u : List ℕ) → g ≡ begunUnless z (outlineOf R) w t
       → u ≡ cond (eqb (g .found .code) 0) (tableAt (relationOf R) (g .draws) s) s → verified a c′ s′ ≡ finishedUnless z (outlineOf R) x w t g c u
       → verified a c′ s′ ≡ verifyOutcome R x w t c s
-  verify-ends a c′ s′ g u = go z refl
-    where
-      go : (n : ℕ) → z ≡ n → g ≡ begunUnless z (outlineOf R) w t
-          → u ≡ cond (eqb (g .found .code) 0) (tableAt (relationOf R) (g .draws) s) s → verified a c′ s′ ≡ finishedUnless z (outlineOf R) x w t g c u
-          → verified a c′ s′ ≡ verifyOutcome R x w t c s
-      go zero h = done a c′ s′ g u h
-      go (suc n) h = back a c′ s′ g u (λ i. omega (arith, h, i))
+  ends zero h a c′ s′ g u = done a c′ s′ g u h
+  ends (suc n) h a c′ s′ g u = back a c′ s′ g u (λ i. omega (arith, h, i))
+
+  -- the answer a, the claims c′ and the scratch s′, where the first stage gave g and the table was made, or not, in front of u
+  pub verify-ends : (a : TranscriptAnswer) (c′ s′ : List ℕ) (g : Begun) (u : List ℕ) → g ≡ begunUnless z (outlineOf R) w t
+      → u ≡ cond (eqb (g .found .code) 0) (tableAt (relationOf R) (g .draws) s) s
+      → (verified a c′ s′ ≡ finishedUnless z (outlineOf R) x w t g c u) × AreWords x × AreWords w
+      → (verified a c′ s′ ≡ verifyOutcome R x w t c s) × (a .code ≡ 0 → AcceptedCall R x w t c′)
+  verify-ends a c′ s′ g u hg hu f =
+      let e = ends z refl a c′ s′ g u hg hu (f .0) in
+      (e, accepted-call R x w t c s (verified a c′ s′) (f .1) (f .2) e)

@@ -1,32 +1,67 @@
--- What the two theorems on the outcomes of both entries speak of: numbers that are words, the proof that the prover has written, and what
--- both entries leave of a good batch.
+-- The two theorems on both entries, as their contracts say them, and the laws beside them.
 -- Assumes nothing.
 use mathlib.Core.Path.{_≡_}
+use mathlib.Core.Logic.{_⊎_}
 use mathlib.Core.List.{List}
-use Prim.Native.Nat.{ℕ, _^_}
-use lib.ListN.{take}
+use Prim.Native.Nat.{ℕ, _^_, _≤_}
+use lib.ListN.{length, take}
 use Rattle.magnetar_field.specs.Words.{elements}
 use Rattle.magnetar_hash.specs.declared.transcript.Transcript.{Transcript}
-use Rattle.magnetar_protocol.specs.Run.{ClaimsTrue}
-use Rattle.magnetar_protocol.specs.RunSizes.{EachBelow}
+use Rattle.magnetar_matrix.specs.Batch.{Batch, Good}
+use Rattle.magnetar_protocol.specs.Draws.{drawCount}
+use Rattle.magnetar_protocol.specs.Run.{claims, verdict, ClaimsTrue}
+use Rattle.magnetar_protocol.specs.RunSizes.{SizedBatch, EachBelow, Elements}
+use Rattle.magnetar_protocol.specs.Soundness.{NoBitOutside, BadDraw}
+use Rattle.magnetar_protocol.specs.RealRun.{verifierDraws}
 use Rattle.magnetar_relation.specs.Rules.{Rules, relationOf}
-use Rattle.magnetar_spartan.specs.Refusals.{claimWords, proofWords}
-use Rattle.magnetar_spartan.specs.Outcome.{batchOf, verifyOutcome, proveOutcome}
+use Rattle.magnetar_spartan.specs.Refusals.{claimWords, proofWords, verifierRoom}
+use Rattle.magnetar_spartan.specs.Outcome.{batchOf, verifyRefusal, verifyOutcome, proveRefusal, proveOutcome}
 
 -- every number is a word
 abbrev pub AreWords : List ℕ → Type 0
 AreWords l = EachBelow (2 ^ 64) l
 
--- a call of the prover: rules R, packed words ws, public words x, transcript t, and the buffers w, c, s for proof, claims and scratch
-module _ (R : Rules) (ws x : List ℕ) (t : Transcript) (w c s : List ℕ) where
-  -- the proof that it has written: the front of its buffer
-  abbrev pub writtenProof : List ℕ
-  writtenProof = take (proofWords R) (proveOutcome R ws x t w c s .proof)
+-- ---- an accepted call
+-- What an answer of 0 of the verifier says, for public words x, proof words w, transcript t and the claims buffer c at exit: of every batch
+-- of the right sizes with no bit set outside the segments, of which the claims are true: it keeps the rules, or some draw of the transcript
+-- lies in its list of at most three.
+abbrev pub AcceptedCall : Rules → (x w : List ℕ) → Transcript → (c : List ℕ) → Type 0
+AcceptedCall R x w t c =
+    (b : Batch) → SizedBatch (relationOf R) b → NoBitOutside (relationOf R) b
+    → ClaimsTrue (relationOf R) b (elements (take (claimWords R) c))
+    → Good (relationOf R) b (elements x) ⊎ BadDraw (relationOf R) b (elements x) (elements w) (verifierDraws (relationOf R) (elements w) t)
 
-  -- the verifier, given this proof, the same rules, public words and transcript, and the buffers c′ and s′ of its own, accepts; both have
-  -- written the same claims, all of them true of the batch; and both end with the same transcript
-  pub record CompleteCall (c′ s′ : List ℕ) : Type 0 where
-    pub accepted : verifyOutcome R x writtenProof t c′ s′ .code ≡ 0
-    pub same-claims : take (claimWords R) (verifyOutcome R x writtenProof t c′ s′ .claims) ≡ take (claimWords R) (proveOutcome R ws x t w c s .claims)
-    pub true-claims : ClaimsTrue (relationOf R) (batchOf R ws) (elements (take (claimWords R) (verifyOutcome R x writtenProof t c′ s′ .claims)))
-    pub same-transcript : verifyOutcome R x writtenProof t c′ s′ .transcript ≡ proveOutcome R ws x t w c s .transcript
+-- ---- a proved call
+-- Given the proof in front of the words w, the same rules, public words and transcript t, and the buffers c′ and s′ of its own, the verifier
+-- accepts; it writes the claims in front of the words c, all of them true of the batch; and it ends with the transcript u.
+pub record AcceptedBy (R : Rules) (ws x : List ℕ) (t : Transcript) (w c : List ℕ) (u : Transcript) (c′ s′ : List ℕ) : Type 0 where
+  pub accepted : verifyOutcome R x (take (proofWords R) w) t c′ s′ .code ≡ 0
+  pub same-claims : take (claimWords R) (verifyOutcome R x (take (proofWords R) w) t c′ s′ .claims) ≡ take (claimWords R) c
+  pub true-claims : ClaimsTrue (relationOf R) (batchOf R ws) (elements (take (claimWords R) c))
+  pub same-transcript : verifyOutcome R x (take (proofWords R) w) t c′ s′ .transcript ≡ u
+
+-- What an answer of 0 of the prover says, for packed words ws, public words x, transcript t, and the proof buffer w, the claims buffer c and
+-- the transcript u at exit: where the batch keeps the rules and has no bit set outside the segments, every verifier with room enough accepts.
+abbrev pub ProvedCall : Rules → (ws x : List ℕ) → Transcript → (w c : List ℕ) → Transcript → Type 0
+ProvedCall R ws x t w c u =
+    Good (relationOf R) (batchOf R ws) (elements x) → NoBitOutside (relationOf R) (batchOf R ws)
+    → (c′ s′ : List ℕ) → claimWords R ≤ length c′ → verifierRoom R ≤ length s′ → AcceptedBy R ws x t w c u c′ s′
+
+-- ---- laws beside them
+-- For any draws (proofs/Sound `verify-sound-any`): wherever the verifier refuses by none of 1 to 16, whatever elements d stand in the place of
+-- the draws, an accepted call says the same of them.
+abbrev pub SoundAny : Type 0
+SoundAny =
+    (R : Rules) (x w : List ℕ) (t : Transcript) (c s : List ℕ) → verifyRefusal R x w t c s ≡ 0 → AreWords x → AreWords w
+    → (b : Batch) (d : List ℕ) → SizedBatch (relationOf R) b → length d ≡ drawCount (relationOf R) → Elements d
+    → verdict (relationOf R) (elements x) (elements w) d ≡ 0 → NoBitOutside (relationOf R) b
+    → ClaimsTrue (relationOf R) b (claims (relationOf R) (elements w) d)
+    → Good (relationOf R) b (elements x) ⊎ BadDraw (relationOf R) b (elements x) (elements w) d
+
+-- Of any batch, good or not (proofs/Complete `verify-unrefused`): a verifier with room enough refuses by none of 1 to 16 what the prover has
+-- written.
+abbrev pub Unrefused : Type 0
+Unrefused =
+    (R : Rules) (ws x : List ℕ) (t : Transcript) (w c s c′ s′ : List ℕ) → AreWords x → proveRefusal R ws x t w c s ≡ 0
+    → claimWords R ≤ length c′ → verifierRoom R ≤ length s′
+    → verifyRefusal R x (take (proofWords R) (proveOutcome R ws x t w c s .proof)) t c′ s′ ≡ 0

@@ -15,10 +15,10 @@ ghost use lib.ListN.{length, getD};
 ghost use Rattle.magnetar_field.specs.Sizes.{log₂};
 ghost use Rattle.magnetar_field.specs.Tabulate.{tabulate};
 ghost use Rattle.magnetar_field.specs.Words.{elements};
-ghost use Rattle.magnetar_protocol.specs.RunSizes.{Elements};
 ghost use Rattle.magnetar_protocol.specs.Schedule.{outline};
 ghost use Rattle.magnetar_prover.specs.Entries.{innerPlayed};
 ghost use Rattle.magnetar_spartan.specs.Proving.{bare, RunReady, OuterDone, loginAt, FoldReady, FoldLeft, InnerDone, EndLeft, LaterLeft};
+ghost use Rattle.magnetar_spartan.specs.Theorems.{AreWords};
 
 // What the outer rounds hand on: the words of the draws, 0 behind them, and the transcript.
 pub(crate) struct OuterDraws {
@@ -215,7 +215,7 @@ pub(crate) fn later(
     x: &[u64],
     o: OuterDraws,
 ) -> Transcript
-    ensures { λ r. ⌜ (Elements (elements (now (x .entry))) × (length (o .«draws») ≡ 256 → LaterLeft (bare m q rb rf (now (lens .entry))) (now (packed .entry)) (now (x .entry)) (now (proof .entry)) (o .«draws») (now (claims .entry)) (now (s .entry)) (o .«transcript») r (now (proof .exit)) (now (claims .exit)) (now (s .exit)))) ⌝ }
+    ensures { λ r. ⌜ (AreWords (now (x .entry)) × (length (o .«draws») ≡ 256 → LaterLeft (bare m q rb rf (now (lens .entry))) (now (packed .entry)) (now (x .entry)) (now (proof .entry)) (o .«draws») (now (claims .entry)) (now (s .entry)) (o .«transcript») r (now (proof .exit)) (now (claims .exit)) (now (s .exit)))) ⌝ }
 {
     let d = o.draws;
     let t = o.transcript;
@@ -241,7 +241,7 @@ pub(crate) fn later_unless(
     x: &[u64],
     o: OuterDraws,
 ) -> Transcript
-    ensures { λ r. ⌜ ((n ≡ 0 → Elements (elements (now (x .entry))) × (length (o .«draws») ≡ 256 → LaterLeft (bare m q rb rf (now (lens .entry))) (now (packed .entry)) (now (x .entry)) (now (proof .entry)) (o .«draws») (now (claims .entry)) (now (s .entry)) (o .«transcript») r (now (proof .exit)) (now (claims .exit)) (now (s .exit))))
+    ensures { λ r. ⌜ ((n ≡ 0 → AreWords (now (x .entry)) × (length (o .«draws») ≡ 256 → LaterLeft (bare m q rb rf (now (lens .entry))) (now (packed .entry)) (now (x .entry)) (now (proof .entry)) (o .«draws») (now (claims .entry)) (now (s .entry)) (o .«transcript») r (now (proof .exit)) (now (claims .exit)) (now (s .exit))))
         × ((n ≡ 0 → ⊥) → (r ≡ o .«transcript») × (now (proof .exit) ≡ now (proof .entry)) × (now (claims .exit) ≡ now (claims .entry)) × (now (s .exit) ≡ now (s .entry)))) ⌝ }
 {
     if n != 0 {

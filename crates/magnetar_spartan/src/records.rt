@@ -24,6 +24,7 @@ ghost use Rattle.magnetar_relation.specs.RuleTests.{ruleTests};
 ghost use Rattle.magnetar_spartan.specs.Outcome.{verified, verifiedInPlace, verifyOutcome, proveRefusal, provedInPlace, proveOutcome};
 ghost use Rattle.magnetar_spartan.specs.Products.{ProductLeft, ProductsLeft};
 ghost use Rattle.magnetar_spartan.specs.Table.{tableAt};
+ghost use Rattle.magnetar_spartan.specs.Theorems.{AcceptedCall, ProvedCall};
 
 // The combined table at the words d of the draws, in front of s.
 pub(crate) fn combine_at(s: &mut [u64], m: usize, q: usize, sh: Shapes, d: [u64; 256], es: &[Entry])
@@ -70,7 +71,7 @@ fn verify_with(
     proof: &[u64],
     t: Transcript,
 ) -> TranscriptAnswer
-    ensures { λ r. ⌜ (let R = rulesOver m q (now (lens .entry)) sh (entriesOfRecords (now (es .entry))) in z ≡ noted 0 (ruleTests R) → verified r (now (claims .exit)) (now (scratch .exit)) ≡ verifyOutcome R (now (x .entry)) (now (proof .entry)) t (now (claims .entry)) (now (scratch .entry))) ⌝ }
+    ensures { λ r. ⌜ (let R = rulesOver m q (now (lens .entry)) sh (entriesOfRecords (now (es .entry))) in z ≡ noted 0 (ruleTests R) → (verified r (now (claims .exit)) (now (scratch .exit)) ≡ verifyOutcome R (now (x .entry)) (now (proof .entry)) t (now (claims .entry)) (now (scratch .entry))) × (r .code ≡ 0 → AcceptedCall R (now (x .entry)) (now (proof .entry)) t (now (claims .exit)))) ⌝ }
 {
     let b = sh.bin;
     let f = sh.fld;
@@ -114,7 +115,8 @@ pub fn verify_virtual_spartan(
     x: &[u64],
     proof: &[u64],
 ) -> u32
-    ensures { λ r. ⌜ verifiedInPlace r (now (t .exit)) (now (claims .exit)) (now (scratch .exit)) ≡ verifyOutcome (rulesOver m q (now (lens .entry)) sh (entriesOfRecords (now (es .entry)))) (now (x .entry)) (now (proof .entry)) (now (t .entry)) (now (claims .entry)) (now (scratch .entry)) ⌝ }
+    ensures { λ r. ⌜ (let R = rulesOver m q (now (lens .entry)) sh (entriesOfRecords (now (es .entry))) in (verifiedInPlace r (now (t .exit)) (now (claims .exit)) (now (scratch .exit)) ≡ verifyOutcome R (now (x .entry)) (now (proof .entry)) (now (t .entry)) (now (claims .entry)) (now (scratch .entry)))
+        × (r ≡ 0 → AcceptedCall R (now (x .entry)) (now (proof .entry)) (now (t .entry)) (now (claims .exit)))) ⌝ }
 {
     let u = Transcript {
         state: t.state,
@@ -222,7 +224,7 @@ fn prove_unless(
     x: &[u64],
     t: Transcript,
 ) -> Transcript
-    ensures { λ r. ⌜ (let R = rulesOver m q (now (lens .entry)) sh (entriesOfRecords (now (es .entry))) in n ≡ proveRefusal R (now (packed .entry)) (now (x .entry)) t (now (proof .entry)) (now (claims .entry)) (now (scratch .entry)) → provedInPlace n r (now (proof .exit)) (now (claims .exit)) (now (scratch .exit)) ≡ proveOutcome R (now (packed .entry)) (now (x .entry)) t (now (proof .entry)) (now (claims .entry)) (now (scratch .entry))) ⌝ }
+    ensures { λ r. ⌜ (let R = rulesOver m q (now (lens .entry)) sh (entriesOfRecords (now (es .entry))) in n ≡ proveRefusal R (now (packed .entry)) (now (x .entry)) t (now (proof .entry)) (now (claims .entry)) (now (scratch .entry)) → (provedInPlace n r (now (proof .exit)) (now (claims .exit)) (now (scratch .exit)) ≡ proveOutcome R (now (packed .entry)) (now (x .entry)) t (now (proof .entry)) (now (claims .entry)) (now (scratch .entry))) × (n ≡ 0 → ProvedCall R (now (packed .entry)) (now (x .entry)) t (now (proof .exit)) (now (claims .exit)) r)) ⌝ }
 {
     let b = sh.bin;
     let f = sh.fld;
@@ -253,7 +255,8 @@ pub fn prove_virtual_spartan(
     packed: &[u64],
     x: &[u64],
 ) -> u32
-    ensures { λ r. ⌜ provedInPlace r (now (t .exit)) (now (proof .exit)) (now (claims .exit)) (now (scratch .exit)) ≡ proveOutcome (rulesOver m q (now (lens .entry)) sh (entriesOfRecords (now (es .entry)))) (now (packed .entry)) (now (x .entry)) (now (t .entry)) (now (proof .entry)) (now (claims .entry)) (now (scratch .entry)) ⌝ }
+    ensures { λ r. ⌜ (let R = rulesOver m q (now (lens .entry)) sh (entriesOfRecords (now (es .entry))) in (provedInPlace r (now (t .exit)) (now (proof .exit)) (now (claims .exit)) (now (scratch .exit)) ≡ proveOutcome R (now (packed .entry)) (now (x .entry)) (now (t .entry)) (now (proof .entry)) (now (claims .entry)) (now (scratch .entry)))
+        × (r ≡ 0 → ProvedCall R (now (packed .entry)) (now (x .entry)) (now (t .entry)) (now (proof .exit)) (now (claims .exit)) (now (t .exit)))) ⌝ }
 {
     let b = sh.bin;
     let f = sh.fld;

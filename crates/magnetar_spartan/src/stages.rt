@@ -20,6 +20,7 @@ ghost use Rattle.magnetar_protocol.specs.Schedule.{outline};
 ghost use Rattle.magnetar_relation.specs.Steps.{clearedTo};
 ghost use Rattle.magnetar_spartan.specs.Outcome.{verified};
 ghost use Rattle.magnetar_spartan.specs.Stages.{playedTo, drawnOf, drawnBack, laidBehind, laidAt, begunUnless, checkedAt, roomElements, finishedUnless};
+ghost use Rattle.magnetar_spartan.specs.Theorems.{AreWords};
 
 // What the first stage hands on: the words of the draws, 0 behind them, the transcript at the end, and what the outer checks found.
 pub(crate) struct Begun {
@@ -173,7 +174,7 @@ fn clear_room(m: usize, rb: usize, rf: usize, s: &mut [u64])
     }
 }
 
-// The second stage, unless n is a refusal; the scratch is 0 at exit.
+// The second stage, unless n is a refusal; the scratch is 0 at exit. That x and proof hold words is said here for the entries' theorem.
 pub(crate) fn finish(
     n: u32,
     claims: &mut [u64],
@@ -188,7 +189,7 @@ pub(crate) fn finish(
     t: Transcript,
     g: Begun,
 ) -> TranscriptAnswer
-    ensures { λ r. ⌜ verified r (now (claims .exit)) (now (s .exit)) ≡ finishedUnless n (outline m q rb rf (now (lens .entry))) (now (x .entry)) (now (proof .entry)) t g (now (claims .entry)) (now (s .entry)) ⌝ }
+    ensures { λ r. ⌜ ((verified r (now (claims .exit)) (now (s .exit)) ≡ finishedUnless n (outline m q rb rf (now (lens .entry))) (now (x .entry)) (now (proof .entry)) t g (now (claims .entry)) (now (s .entry))) × AreWords (now (x .entry)) × AreWords (now (proof .entry))) ⌝ }
 {
     if n != 0 {
         return TranscriptAnswer {

@@ -12,6 +12,7 @@ use magnetar_relation::shapes::Shapes;
 ghost use mathlib.Core.Path.{_≡_};
 ghost use Rattle.magnetar_relation.specs.Rules.{rules};
 ghost use Rattle.magnetar_spartan.specs.Outcome.{verified, verifyOutcome, proved, proveOutcome};
+ghost use Rattle.magnetar_spartan.specs.Theorems.{AcceptedCall, ProvedCall};
 
 // The verifier: 0 where it accepts the proof for these rules, public words and transcript; its transcript; and the claims r_inst, r_low
 // and segment values at the front of `claims`. 1 to 10: the sizes and the rules; 14: the transcript's counter; 15: too little room; 16:
@@ -31,7 +32,8 @@ pub fn verify_virtual_spartan(
     proof: &[u64],
     t: Transcript,
 ) -> TranscriptAnswer
-    ensures { λ r. ⌜ (let R = rules m q (now (lens .entry)) sh (now (row .entry)) (now (col .entry)) (now (lo .entry)) (now (hi .entry)) in verified r (now (claims .exit)) (now (scratch .exit)) ≡ verifyOutcome R (now (x .entry)) (now (proof .entry)) t (now (claims .entry)) (now (scratch .entry))) ⌝ }
+    ensures outcome { λ r. ⌜ (let R = rules m q (now (lens .entry)) sh (now (row .entry)) (now (col .entry)) (now (lo .entry)) (now (hi .entry)) in verified r (now (claims .exit)) (now (scratch .exit)) ≡ verifyOutcome R (now (x .entry)) (now (proof .entry)) t (now (claims .entry)) (now (scratch .entry))) ⌝ }
+    ensures sound { λ r. ⌜ (let R = rules m q (now (lens .entry)) sh (now (row .entry)) (now (col .entry)) (now (lo .entry)) (now (hi .entry)) in r .code ≡ 0 → AcceptedCall R (now (x .entry)) (now (proof .entry)) t (now (claims .exit))) ⌝ }
 {
     let rb = sh.bin.a.rows;
     let rf = sh.fld.a.rows;
@@ -73,7 +75,8 @@ pub fn prove_virtual_spartan(
     x: &[u64],
     t: Transcript,
 ) -> TranscriptAnswer
-    ensures { λ r. ⌜ (let R = rules m q (now (lens .entry)) sh (now (row .entry)) (now (col .entry)) (now (lo .entry)) (now (hi .entry)) in proved r (now (out .exit)) (now (claims .exit)) (now (scratch .exit)) ≡ proveOutcome R (now (packed .entry)) (now (x .entry)) t (now (out .entry)) (now (claims .entry)) (now (scratch .entry))) ⌝ }
+    ensures outcome { λ r. ⌜ (let R = rules m q (now (lens .entry)) sh (now (row .entry)) (now (col .entry)) (now (lo .entry)) (now (hi .entry)) in proved r (now (out .exit)) (now (claims .exit)) (now (scratch .exit)) ≡ proveOutcome R (now (packed .entry)) (now (x .entry)) t (now (out .entry)) (now (claims .entry)) (now (scratch .entry))) ⌝ }
+    ensures complete { λ r. ⌜ (let R = rules m q (now (lens .entry)) sh (now (row .entry)) (now (col .entry)) (now (lo .entry)) (now (hi .entry)) in r .code ≡ 0 → ProvedCall R (now (packed .entry)) (now (x .entry)) t (now (out .exit)) (now (claims .exit)) (r .transcript)) ⌝ }
 {
     let rb = sh.bin.a.rows;
     let rf = sh.fld.a.rows;

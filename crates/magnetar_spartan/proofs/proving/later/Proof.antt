@@ -3,7 +3,6 @@
 use native.Mathlib.Omega.{arith}
 use denote.Ref.{now}
 use lib.ListN.{length}
-use Rattle.magnetar_field.proofs.Elements.{elements-below}
 use Rattle.magnetar_spartan.specs.Proving.{bare}
 use Rattle.magnetar_spartan.proofs.LaterLaws.{fold-sizes, end-sizes, later-ends}
 use borrow.Author.Needs.{needs}
@@ -59,7 +58,7 @@ returns c =
     let w = now (x .proof) in
     let k = now (x .claims) in
     let s = now (x .s) in (
-      elements-below p (λ i. omega (arith, f .before .before .before .before .shared-slice-known3 .given i)),
+      λ i. omega (arith, f .before .before .before .before .shared-slice-known3 .given i),
       λ ld ok.
           let F = g .ensures (fold-sizes r ws p w d k s t ok ld) in
           let E = e .end .ensures (length ws) (length p) (end-sizes r ws p w d k s t ok ld _ F (g .kept .0)) ld in

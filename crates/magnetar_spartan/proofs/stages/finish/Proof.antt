@@ -1,5 +1,6 @@
 -- `magnetar_spartan::stages::finish` meets its contract.
 -- Assumes nothing.
+use native.Mathlib.Omega.{arith}
 use denote.Ref.{now}
 use Rattle.magnetar_matrix.specs.Batch.{Relation}
 use Rattle.magnetar_protocol.specs.Schedule.{outline}
@@ -16,7 +17,8 @@ returns c =
     let i = c in
     let s = i .before .before .before .before .before .before in
     let x = s .args in
-    finish-back (x .n) (o s) (now (x .x)) (now (x .proof)) (x .t) (x .g) (now (x .claims)) (now (x .s)) (i .if1 .taken)
+    let e = finish-back (x .n) (o s) (now (x .x)) (now (x .proof)) (x .t) (x .g) (now (x .claims)) (now (x .s)) (i .if1 .taken) in
+    (e, λ j. omega (arith, i .before .before .shared-slice-known2 .given j), λ j. omega (arith, i .before .shared-slice-known3 .given j))
 
 lay-public-requires : tie.Need-lay-public-requires
 lay-public-requires c κs = search needs
@@ -41,8 +43,9 @@ returns-2 c =
     let i = l .before .before .before .before .before in
     let s = i .before .before .before .before .before .before in
     let x = s .args in
-    rw (i .if1 .left) (finish-is (o s) (now (x .x)) (now (x .proof)) (x .t) (x .g) (now (x .claims)) (now (x .s)) _ _ _ _ _ (l .lay-public .ensures)
-    (a .checks .ensures) (r .clear-room .ensures))
+    let e = finish-is (o s) (now (x .x)) (now (x .proof)) (x .t) (x .g) (now (x .claims)) (now (x .s)) _ _ _ _ _ (l .lay-public .ensures)
+    (a .checks .ensures) (r .clear-room .ensures) in
+    (rw (i .if1 .left) e, λ j. omega (arith, i .before .before .shared-slice-known2 .given j), λ j. omega (arith, i .before .shared-slice-known3 .given j))
 
 pub finish-spec : {M : Type 1} → statement M
 finish-spec =

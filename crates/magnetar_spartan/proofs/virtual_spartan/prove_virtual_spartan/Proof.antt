@@ -75,9 +75,10 @@ returns-2 c =
     let s = p .before .before .before .before .before .before .before .before .before .before .before .before in
     let x = s .args in
     let u = o .outer in
-    run-through (R s) (now (x .packed)) (now (x .x)) (now (x .out)) (now (x .claims)) (now (x .scratch)) (x .t) (sym (all-number p) ∙ o .before
+    let r = run-through (R s) (now (x .packed)) (now (x .x)) (now (x .out)) (now (x .claims)) (now (x .scratch)) (x .t) (sym (all-number p) ∙ o .before
     .before .before .before .before .before .before .if1 .left) _ _ _
-    (u .result .«transcript») (l .later .result) (u .result .«draws») _ _ _ _ (o .before .before .before .before .before .products .ensures) (u .ensures) (k .combine-at .ensures) (l .later .ensures)
+    (u .result .«transcript») (l .later .result) (u .result .«draws») _ _ _ _ (o .before .before .before .before .before .products .ensures) (u .ensures) (k .combine-at .ensures) (l .later .ensures) in
+    (r .0, λ i. r .1)
 
 pub prove-virtual-spartan-spec : {M : Type 1} → statement M
 prove-virtual-spartan-spec =
