@@ -23,6 +23,7 @@ ghost use Rattle.magnetar_hash.specs.Transcript as spec;
 ghost use Rattle.magnetar_relation.specs.Rules.{rules};
 ghost use Rattle.magnetar_batch.specs.Check.{outcome, checkOutcome};
 ghost use Rattle.magnetar_spartan.specs.Outcome.{verified, verifyOutcome, proved, proveOutcome};
+ghost use Rattle.magnetar_spartan.specs.Theorems.{AcceptedCall, ProvedCall};
 ghost use Rattle.magnetar_sumcheck_prover.specs.Entries.{outerRefusal, outerOut, innerRefusal, innerOut, dropRefusal, dropOut};
 ghost use Rattle.magnetar_c.specs.Across as across;
 
@@ -281,9 +282,10 @@ pub extern "C" fn magnetar_verify_virtual_spartan(
     proof: &[u64],
     t: MagnetarTranscript,
 ) -> MagnetarAnswer
-    ensures { λ r. ⌜ verified (across.answer r) (now (claims .exit)) (now (scratch .exit))
-        ≡ verifyOutcome (rules m q (now (lens .entry)) sh (now (row .entry)) (now (col .entry)) (now (lo .entry)) (now (hi .entry)))
-        (now (x .entry)) (now (proof .entry)) (across.transcript t) (now (claims .entry)) (now (scratch .entry)) ⌝ }
+    ensures outcome { λ r. ⌜ (let R = rules m q (now (lens .entry)) sh (now (row .entry)) (now (col .entry)) (now (lo .entry)) (now (hi .entry)) in verified (across.answer r) (now (claims .exit)) (now (scratch .exit))
+        ≡ verifyOutcome R (now (x .entry)) (now (proof .entry)) (across.transcript t) (now (claims .entry)) (now (scratch .entry))) ⌝ }
+    ensures sound { λ r. ⌜ (let R = rules m q (now (lens .entry)) sh (now (row .entry)) (now (col .entry)) (now (lo .entry)) (now (hi .entry)) in r .code ≡ 0
+        → AcceptedCall R (now (x .entry)) (now (proof .entry)) (across.transcript t) (now (claims .exit))) ⌝ }
 {
     answer_out(virtual_spartan::verify_virtual_spartan(
         claims,
@@ -320,9 +322,10 @@ pub extern "C" fn magnetar_prove_virtual_spartan(
     x: &[u64],
     t: MagnetarTranscript,
 ) -> MagnetarAnswer
-    ensures { λ r. ⌜ proved (across.answer r) (now (proof .exit)) (now (claims .exit)) (now (scratch .exit))
-        ≡ proveOutcome (rules m q (now (lens .entry)) sh (now (row .entry)) (now (col .entry)) (now (lo .entry)) (now (hi .entry)))
-        (now (packed .entry)) (now (x .entry)) (across.transcript t) (now (proof .entry)) (now (claims .entry)) (now (scratch .entry)) ⌝ }
+    ensures outcome { λ r. ⌜ (let R = rules m q (now (lens .entry)) sh (now (row .entry)) (now (col .entry)) (now (lo .entry)) (now (hi .entry)) in proved (across.answer r) (now (proof .exit)) (now (claims .exit)) (now (scratch .exit))
+        ≡ proveOutcome R (now (packed .entry)) (now (x .entry)) (across.transcript t) (now (proof .entry)) (now (claims .entry)) (now (scratch .entry))) ⌝ }
+    ensures complete { λ r. ⌜ (let R = rules m q (now (lens .entry)) sh (now (row .entry)) (now (col .entry)) (now (lo .entry)) (now (hi .entry)) in r .code ≡ 0
+        → ProvedCall R (now (packed .entry)) (now (x .entry)) (across.transcript t) (now (proof .exit)) (now (claims .exit)) (across.answer r .transcript)) ⌝ }
 {
     answer_out(virtual_spartan::prove_virtual_spartan(
         proof,

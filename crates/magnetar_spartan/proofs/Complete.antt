@@ -9,7 +9,7 @@ use lib.Dec.{ltb, eqb}
 use lib.ListN.{length, getD, take, drop}
 use borrow.Author.Tests.{ltb-true, ltb-false, le-ltb, eqb-true}
 use Rattle.magnetar_field.specs.Words.{elements, words}
-use Rattle.magnetar_field.proofs.Elements.{elements-length, elements-below, words-length}
+use Rattle.magnetar_field.proofs.Elements.{elements-length, words-length}
 use Rattle.magnetar_field.proofs.Tabulation.{tabulate-length, tabulate-get, tabulate-out}
 use Rattle.magnetar_hash.specs.declared.transcript.Transcript.{Transcript}
 use Rattle.magnetar_layout.specs.Tests.{Tests}
@@ -34,7 +34,7 @@ use Rattle.magnetar_spartan.specs.Theorems.{AreWords, AcceptedBy, Proved
 use Rattle.magnetar_spartan.proofs.SizedRules.{rules-numbered}
 use Rattle.magnetar_spartan.proofs.Ended.{provable}
 use Rattle.magnetar_spartan.proofs.Fine.{noted-none, clear-front, clear-back, clear-join, same-fine}
-use Rattle.magnetar_spartan.proofs.Sound.{front, claims-size, returned-words, returned}
+use Rattle.magnetar_spartan.proofs.Sound.{word-elements, front, claims-size, returned-words, returned}
 
 -- ---- packed words hold a batch of the relation's sizes
 packed-bit : (ws : List ℕ) (y : ℕ) → packedBit ws y < 2
@@ -136,7 +136,7 @@ module _ (R : Rules) (ws x : List ℕ) (t : Transcript) (w c s : List ℕ) where
     size : proofWords R ≡ 2 * length sent
     size = unfold sentWords in ap (λ (n : ℕ). 2 * n)
         (sym (proving-length (relationOf R) (batchOf R ws) (elements x) t)
-        ∙ ap length (proving-words (relationOf R) (batchOf R ws) (elements x) t relation (sized-batch R ws) public (elements-below x wx)))
+        ∙ ap length (proving-words (relationOf R) (batchOf R ws) (elements x) t relation (sized-batch R ws) public (word-elements x wx)))
 
     written : length handed ≡ proofWords R
     written = ap length (handed-is hp size) ∙ words-length sent ∙ sym size
@@ -155,7 +155,7 @@ module _ (R : Rules) (ws x : List ℕ) (t : Transcript) (w c s : List ℕ) where
       b = batchOf R ws
 
       agrees : Agrees r b (elements x) t
-      agrees = completeness-run r b (elements x) t (relation wx hp) (sized-batch R ws) (public wx hp) (elements-below x wx) good stray
+      agrees = completeness-run r b (elements x) t (relation wx hp) (sized-batch R ws) (public wx hp) (word-elements x wx) good stray
 
       given : elements handed ≡ sent
       given = ap elements (handed-is hp (size wx hp)) ∙ elements-words sent

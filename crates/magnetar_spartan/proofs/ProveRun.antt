@@ -13,7 +13,7 @@ use lib.Seq.{take-at, drop-at, take-append-le, drop-append-le}
 use borrow.Author.Tests.{lt-ltb, eq-eqb, ne-eqb, eqb-true, eqb-false}
 use Rattle.magnetar_field.specs.Sizes.{log₂}
 use Rattle.magnetar_field.specs.Words.{elements, words, overlaid}
-use Rattle.magnetar_field.proofs.Elements.{words-length, words-append, elements-length, elements-below}
+use Rattle.magnetar_field.proofs.Elements.{words-length, words-append, elements-length}
 use Rattle.magnetar_hash.specs.declared.transcript.Transcript.{Transcript}
 use Rattle.magnetar_hash.specs.Transcript.{absorbed, drawn}
 use Rattle.magnetar_layout.specs.Every.{every}
@@ -53,6 +53,7 @@ use Rattle.magnetar_spartan.proofs.ByNumbers.{prove-by}
 use Rattle.magnetar_spartan.proofs.Ended.{provable, draws-small}
 use Rattle.magnetar_spartan.proofs.Room.{Beyond}
 use Rattle.magnetar_spartan.proofs.DrawnTable.{drawn-combined, drawn-beyond}
+use Rattle.magnetar_spartan.proofs.Sound.{word-elements}
 use Rattle.magnetar_spartan.proofs.Complete.{sized-batch, proved-call}
 use Rattle.magnetar_spartan.proofs.FoldLaws.{behind-front}
 use Rattle.magnetar_spartan.proofs.LaterLaws.{laid-front}
@@ -351,7 +352,7 @@ module _ (R : Rules) (ws x w c s : List ℕ) (t : Transcript) where
       let b : Beyond (proverRoom R) s₂ s₃ = subst (Beyond (proverRoom R) s₂) (sym e) (drawn-beyond R (ok .ready) drawn s₂ many enough (proverRoom R) (omega arith)) in
       let front = ap (λ (l : List ℕ). take (R .m) (elements l)) e ∙ drawn-combined R (ok .ready) drawn s₂ many enough in
       let o : provedInPlace 0 u′ w′ c′ s′ ≡ proveOutcome R ws x t w c s =
-      run-is R ws x w c s t ok s₁ Q u d v s₂ done s₃ front (b .long) (b .rest) (elements-below x (later .0)) none u′ w′ c′ s′
+      run-is R ws x w c s t ok s₁ Q u d v s₂ done s₃ front (b .long) (b .rest) (word-elements x (later .0)) none u′ w′ c′ s′
       (later .1 (d-long R ws x w c s t ok s₁ Q u d v s₂ done)) in
       (o, proved-call R ws x t w c s (provedInPlace 0 u′ w′ c′ s′) (later .0) o refl)
 

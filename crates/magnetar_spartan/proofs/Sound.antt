@@ -17,7 +17,7 @@ use Rattle.magnetar_protocol.specs.Shape.{beforeEnd, proofElements}
 use Rattle.magnetar_protocol.specs.Proof.{segmentValues}
 use Rattle.magnetar_protocol.specs.Draws.{drawsOf}
 use Rattle.magnetar_protocol.specs.Run.{claims, ClaimsTrue}
-use Rattle.magnetar_protocol.specs.RunSizes.{SizedRelation}
+use Rattle.magnetar_protocol.specs.RunSizes.{SizedRelation, Elements}
 use Rattle.magnetar_protocol.specs.RealRun.{verifierDraws}
 use Rattle.magnetar_protocol.proofs.SizeFacts.{cut}
 use Rattle.magnetar_protocol.proofs.ClaimParts.{claims-length}
@@ -28,6 +28,10 @@ use Rattle.magnetar_spartan.specs.Refusals.{claimWords}
 use Rattle.magnetar_spartan.specs.Outcome.{Verified, verifyRefusal, verifyVerdict, verifyClaims, verifyOutcome}
 use Rattle.magnetar_spartan.specs.Theorems.{AreWords, AcceptedCall, SoundAny}
 use Rattle.magnetar_spartan.proofs.Ended.{Verifiable, verifiable}
+
+-- two words are an element
+pub word-elements : (l : List ℕ) → AreWords l → Elements (elements l)
+word-elements l h = elements-below l (λ i. omega (arith, h i))
 
 -- the words at the front
 pub front : (v r : List ℕ) (n : ℕ) → n ≡ 2 * length v → take n (words v ++ r) ≡ words v
@@ -52,11 +56,11 @@ verify-sound-any R x w t c s none wx ww b d B many below =
         batch = B;
         public = omega (arith, elements-length x, f .public, f .ready .columns .low);
         draws = many;
-        elements-x = elements-below x wx;
+        elements-x = word-elements x wx;
         elements-d = below;
       };
       words = as-many R x w t c s none;
-      elements-w = elements-below w ww;
+      elements-w = word-elements w ww;
     })
 
 module _ (R : Rules) (x w : List ℕ) (t : Transcript) (c s : List ℕ) (e : verifyOutcome R x w t c s .code ≡ 0) where
