@@ -4,23 +4,24 @@ use mathlib.Core.Path.{_≡_, refl, sym, _∙_}
 use mathlib.Core.Bool.{Bool, true, false, not, _&&_}
 use mathlib.Core.List.{List, [], _∷_, _++_}
 use Prim.Native.Nat.{ℕ, zero, suc, _+_, _*_, _/_, _^_, _≤_, _<_}
-use native.Mathlib.Nat.{lt-of-not-le}
+use native.Mathlib.Nat.{lt-of-not-le, not-suc-le-zero}
 use native.Mathlib.Omega.{arith}
 use borrow.Author.Tests.{lt-ltb, le-leb, le-ltb, eq-eqb}
 use lib.Dec.{ltb, lit≤}
-use lib.ListN.{length, getD}
+use lib.ListN.{length, getD, replicate}
 use lib.Pow.{pow-mono}
-use Rattle.magnetar_field.specs.Sizes.{log₂}
+use Rattle.magnetar_field.specs.Sizes.{log₂, halvings}
 use Rattle.magnetar_field.proofs.Log2.{log₂-pow}
+use Rattle.magnetar_hash.specs.declared.transcript.Transcript.{Transcript}
 use Rattle.magnetar_layout.specs.Every.{every}
-use Rattle.magnetar_layout.specs.Layout.{isLength, layoutEnd}
+use Rattle.magnetar_layout.specs.Layout.{isLength, endFrom, layoutEnd}
 use Rattle.magnetar_layout.specs.Login.{loginWords}
 use Rattle.magnetar_layout.specs.Tests.{Tests, Sized, isSize, layoutTests}
 use Rattle.magnetar_layout.proofs.Noted.{Clear}
 use Rattle.magnetar_matrix.specs.Matrix.{Entry}
 use Rattle.magnetar_relation.specs.declared.shapes.Shape.{Shape}
 use Rattle.magnetar_relation.specs.declared.shapes.SystemShape.{SystemShape}
-use Rattle.magnetar_relation.specs.Rules.{Rules, entriesIn, matrixAt, systemAt, relationOf, liesIn, inMatrix, inSystem, inRelation}
+use Rattle.magnetar_relation.specs.Rules.{Rules, rulesOver, entriesIn, matrixAt, systemAt, relationOf, liesIn, inMatrix, inSystem, inRelation}
 use Rattle.magnetar_relation.specs.RuleTests.{rowTests, colTests, mostTests, numberTests, total, ruleTestsBy, ruleTests}
 use Rattle.magnetar_spartan.specs.Refusals.{rulesTests, counterTests, roomOf, wordTests, proofWords, claimWords, verifierRoom, proverRoom, verifyTests, proveTests}
 use Rattle.magnetar_spartan.specs.Outcome.{verifyRefusal, proveRefusal}
@@ -146,3 +147,47 @@ verify-unrefused-within R x w t c s W =
     let last : Clear rest = (counter-fine n (W .counter), (le-ltb _ _ (W .claims), (le-ltb _ _ (W .scratch), (same-fine _ _ proof, tt)))) in
     noted-none (verifyTests R x w n (length c) (length s))
     (columns-fine R r, (logins-fine R r, (same-fine _ _ (W .public), clear-join (rulesTests R) rest (rules-fine R r) last)))
+
+-- ---- the limits can be met: m = 2, q = 1, one empty row in each matrix, no segment
+abbrev leastShape : Shape
+leastShape = record { rows = 1; cols = 2; entries = 0 }
+
+abbrev leastSystem : SystemShape
+leastSystem = record { a = leastShape; b = leastShape; c = leastShape }
+
+abbrev pub leastRules : Rules
+leastRules = rulesOver 2 1 [] (record { bin = leastSystem; fld = leastSystem }) []
+
+one : {most : ℕ} → 1 ≤ most → Power 1 most 1
+one h = record { exponent = 0; power = refl; low = lit≤ tt; high = h }
+
+least-system : SystemWithin 2 1 leastSystem (systemAt leastSystem 0 [])
+least-system = record { rows = one (lit≤ tt); total = lit≤ tt; a = matrix; b = matrix; c = matrix }
+  where
+    matrix : MatrixWithin 1 2 leastShape (matrixAt leastShape 0 [])
+    matrix = record { rows = refl; cols = refl; few = lit≤ tt; inside = λ i h. absurd (not-suc-le-zero h) }
+
+least-rules : RulesWithin leastRules
+unfolding layoutEnd endFrom
+least-rules = record {
+  columns = record { exponent = 1; power = refl; low = lit≤ tt; high = lit≤ tt };
+  logins = one (lit≤ tt);
+  bin = least-system;
+  fld = least-system;
+  numbers = numbers;
+  lengths = λ i h. absurd (not-suc-le-zero h);
+  ends = lit≤ tt;
+  segments = lit≤ tt;
+}
+  where
+    numbers : (i : ℕ) → i < 4 → getD (0 ∷ 0 ∷ 0 ∷ 0 ∷ []) i 0 ≡ 0
+    numbers zero h = refl
+    numbers (suc zero) h = refl
+    numbers (suc (suc zero)) h = refl
+    numbers (suc (suc (suc zero))) h = refl
+    numbers (suc (suc (suc (suc i)))) h = refl
+
+-- two packed words, and room for 20 words of proof and 40 of scratch, where no claim is made
+pub least-within : (t : Transcript) → t .«squeeze_ctr» < 2 ^ 32 → ProveWithin leastRules (replicate 2 0) [] t (replicate 20 0) [] (replicate 40 0)
+unfolding log₂ halvings
+least-within t h = record { rules = least-rules; packed = refl; public = refl; counter = h; proof = lit≤ tt; claims = lit≤ tt; scratch = lit≤ tt }
