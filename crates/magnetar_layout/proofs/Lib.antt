@@ -2,5 +2,6 @@ pub mod Noted
 pub mod EveryLaws
 pub mod SizeLaws
 pub mod Laid
+pub mod Outside
 pub mod Readings
 pub mod Room

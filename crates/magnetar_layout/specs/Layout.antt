@@ -3,9 +3,9 @@
 use mathlib.Core.Path.{_≡_}
 use mathlib.Core.Bool.{Bool, true, false, not, _||_, _&&_}
 use mathlib.Core.List.{List, [], _∷_}
-use Prim.Native.Nat.{ℕ, _+_, _-_, _*_, _/_, _^_, _≤_}
+use Prim.Native.Nat.{ℕ, _+_, _-_, _*_, _/_, _^_, _≤_, _<_}
 use lib.Dec.{ltb, leb}
-use lib.ListN.{getD}
+use lib.ListN.{length, getD}
 use Rattle.magnetar_field.specs.Sizes.{log₂, powerOfTwo}
 use Rattle.magnetar_layout.specs.Every.{every}
 
@@ -69,3 +69,12 @@ within (o ∷ os) (n ∷ ns) y = (leb o y && ltb y (o + n)) || within os ns y
 -- the column y lies in no segment: what document 01 calls outside
 unfoldable pub outside : List ℕ → ℕ → Bool
 outside ns y = not (within (offsets ns) ns y)
+
+-- the column y lies in segment i
+abbrev pub Covers : List ℕ → ℕ → ℕ → Type 0
+Covers ns i y = (offset ns i ≤ y) × (y < offset ns i + getD ns i 0)
+
+-- what outside means: y is outside exactly where no segment covers it
+pub record OutsideMeans (ns : List ℕ) (y : ℕ) : Type 0 where
+  pub uncovered : outside ns y ≡ true → (i : ℕ) → i < length ns → Covers ns i y → ⊥
+  pub is-outside : ((i : ℕ) → i < length ns → Covers ns i y → ⊥) → outside ns y ≡ true

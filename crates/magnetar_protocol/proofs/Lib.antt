@@ -24,6 +24,7 @@ pub mod HonestRun
 pub mod Completeness
 pub mod Examples
 pub mod ExampleRun
+pub mod ExampleBad
 pub mod Counts
 pub mod Blocks
 pub mod StepLaws

@@ -7,6 +7,7 @@ pub mod Room
 pub mod Verifying
 pub mod VerifyRun
 pub mod Ended
+pub mod Within
 pub mod DrawnTable
 pub mod PublicLaid
 pub mod VerifyEnds

@@ -5,5 +5,6 @@ pub mod Outcome
 pub mod Table
 pub mod Stages
 pub mod Theorems
+pub mod Within
 pub mod Proving
 pub mod Products

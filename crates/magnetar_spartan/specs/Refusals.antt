@@ -6,7 +6,7 @@ use Prim.Native.Nat.{ℕ, _+_, _-_, _*_, _/_, _^_, max}
 use lib.Dec.{eqb, ltb}
 use lib.ListN.{length}
 use Rattle.magnetar_field.specs.Sizes.{log₂}
-use Rattle.magnetar_layout.specs.Tests.{Tests, sizeTests, packedTests, publicTests, layoutTests}
+use Rattle.magnetar_layout.specs.Tests.{Tests, sizeTests, packedTests, publicTests, layoutTests, roomTestOf}
 use Rattle.magnetar_matrix.specs.Batch.{Relation}
 use Rattle.magnetar_relation.specs.Rules.{Rules}
 use Rattle.magnetar_relation.specs.RuleTests.{ruleTests}
@@ -23,7 +23,7 @@ counterTests n = (14, not (ltb n (2 ^ 32))) ∷ []
 
 -- 15: so many words lent, where n are wanted
 abbrev pub roomOf : (n words : ℕ) → Tests
-roomOf n words = (15, ltb words n) ∷ []
+roomOf n words = roomTestOf n words
 
 -- 16: the words of the proof
 abbrev pub wordTests : ℕ → List ℕ → Tests
