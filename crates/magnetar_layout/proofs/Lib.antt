@@ -1,3 +1,4 @@
+pub mod Edges
 pub mod Noted
 pub mod EveryLaws
 pub mod SizeLaws

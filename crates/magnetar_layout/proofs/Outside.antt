@@ -12,6 +12,11 @@ use Rattle.magnetar_layout.specs.Layout.{nextMultiple, offsetsFrom, offs
 use Rattle.magnetar_layout.proofs.EveryLaws.{both}
 use Rattle.magnetar_layout.proofs.Laid.{offsets-length}
 
+-- segments of 1 and of 2: the column between them is outside, and so is the one behind them
+pub gap : map (outside (1 ∷ 2 ∷ [])) (0 ∷ 1 ∷ 2 ∷ 3 ∷ 4 ∷ []) ≡ false ∷ true ∷ false ∷ false ∷ true ∷ []
+unfolding outside within offsets offsetsFrom nextMultiple
+gap = refl
+
 -- neither of two
 neither : (a b : Bool) → (a || b) ≡ false → (a ≡ false) × (b ≡ false)
 neither false b e = (refl, e)
@@ -51,8 +56,3 @@ outside-means ns y = record {
   uncovered = λ e i h c. missed (offsets ns) ns y (not-true (within (offsets ns) ns y) e) i (omega (arith, offsets-length ns)) (c .0) (c .1);
   is-outside = λ f. ap not (missing (offsets ns) ns y (offsets-length ns) (λ i h a b. f i h (a, b)));
 }
-
--- segments of 1 and of 2: the column between them is outside, and so is the one behind them
-pub gap : map (outside (1 ∷ 2 ∷ [])) (0 ∷ 1 ∷ 2 ∷ 3 ∷ 4 ∷ []) ≡ false ∷ true ∷ false ∷ false ∷ true ∷ []
-unfolding outside within offsets offsetsFrom nextMultiple
-gap = refl

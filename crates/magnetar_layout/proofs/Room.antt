@@ -1,11 +1,11 @@
 -- The test of the room that is lent.
 -- Assumes nothing.
-use mathlib.Core.Path.{_≡_, refl}
-use mathlib.Core.List.{List, [], _∷_, map}
+use mathlib.Core.Path.{_≡_}
+use mathlib.Core.List.{List}
 use Prim.Native.Nat.{ℕ, _≤_, _<_}
 use lib.ListN.{length}
 use borrow.Author.Tests.{lt-ltb, le-ltb}
-use Rattle.magnetar_layout.specs.Tests.{note, noted, roomTestOf, roomTest}
+use Rattle.magnetar_layout.specs.Tests.{note, noted, roomTest}
 
 pub room-short : (n : ℕ) (s : List ℕ) → length s < n → _≡_ {A = ℕ} 15 (noted 0 (roomTest n s))
 unfolding note
@@ -14,8 +14,3 @@ room-short n s h = rw (lt-ltb (length s) n h)
 pub room-enough : (n : ℕ) (s : List ℕ) → n ≤ length s → _≡_ {A = ℕ} 0 (noted 0 (roomTest n s))
 unfolding note
 room-enough n s h = rw (le-ltb (length s) n h)
-
--- where six words are wanted, six are enough, and five are not
-pub room-edge : map (λ (k : ℕ). noted 0 (roomTestOf 6 k)) (5 ∷ 6 ∷ 7 ∷ []) ≡ 15 ∷ 0 ∷ 0 ∷ []
-unfolding note
-room-edge = refl

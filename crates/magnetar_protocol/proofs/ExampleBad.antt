@@ -1,5 +1,5 @@
 -- Runs that show what the branches and hypotheses of the theorems are for, computed from the definitions: a bit in the gap between two
--- segments; and a batch that is not good and is accepted, since one draw lies in its list.
+-- segments; and a batch that is not good, accepted at one list of draws and refused at another, where no draw is bad.
 -- Assumes nothing.
 use mathlib.Core.Path.{_≡_, refl, ap, _∙_, subst}
 use mathlib.Core.Bool.{true, false}
@@ -9,10 +9,8 @@ use Prim.Native.Nat.{ℕ, zero, suc, _^_, _≤_, _<_}
 use native.Mathlib.Decide.{ℕ-discrete}
 use native.Mathlib.Nat.{le-refl}
 use native.Mathlib.Omega.{arith}
-use borrow.Author.Tests.{ltb-true}
-use lib.Dec.{ltb, lit<, lit≤}
+use lib.Dec.{lit<}
 use lib.ListN.{length, getD, take}
-use lib.Pow.{pow-pos}
 use Rattle.magnetar_field.specs.Gf128.{_⊕_, _⊗_, sumTimes, timesX}
 use Rattle.magnetar_field.specs.Sizes.{log₂, halvings}
 use Rattle.magnetar_field.specs.Tabulate.{tabulate}
@@ -25,9 +23,7 @@ use Rattle.magnetar_sumcheck_verifier.specs.Order.{eqPoints, nextVar, at₀, at
 use Rattle.magnetar_sumcheck_verifier.specs.Outer.{outerEnd, coefficient₀, coefficient₁, coefficient₂, weighted, timesEq, outerMessage, dropVar}
 use Rattle.magnetar_sumcheck_verifier.specs.Inner.{innerEnd, innerSums, innerMessage}
 use Rattle.magnetar_sumcheck_verifier.specs.Messages.{outerNext, outerFold, outerStart, outerMessages, innerMessages}
-use Rattle.magnetar_layout.specs.Every.{every}
-use Rattle.magnetar_layout.specs.Layout.{nextMultiple, offsetsFrom, offsets, endFrom, layoutEnd, isLength, within, outside}
-use Rattle.magnetar_layout.proofs.EveryLaws.{both}
+use Rattle.magnetar_layout.specs.Layout.{nextMultiple, offsetsFrom, offsets, within, outside}
 use Rattle.magnetar_matrix.specs.Sum.{sumBelow, blocks}
 use Rattle.magnetar_matrix.specs.Matrix.{Matrix, System, sumOver, rowTotal, share, timesAt, times, transpose, mleTable}
 use Rattle.magnetar_matrix.specs.Batch.{Relation, Batch, bitOf, assignment, foldedAt, folded, claimValue, Satisfied, Good}
@@ -37,11 +33,9 @@ use Rattle.magnetar_theory.proofs.Gf128.{number-of}
 use Rattle.magnetar_protocol.specs.Proof.{binMessages, fldMessages, terminals, innerRounds, valueZ, segmentValues}
 use Rattle.magnetar_protocol.specs.Draws.{drawsOf, loginPoint, lowPoint, topElement}
 use Rattle.magnetar_protocol.specs.Checks.{roundHolds, innerClaim, combined, segmentSum, sharedChecks, rowChecks, terminalChecks, innerChecks, identityCheck, checks, firstRefusal}
-use Rattle.magnetar_protocol.specs.Run.{verdict, claims, trueValue, ClaimsTrue}
-use Rattle.magnetar_protocol.specs.RunSizes.{Elements, SizedRelation, SizedBatch, SizedRun, SizedProof}
+use Rattle.magnetar_protocol.specs.Run.{verdict, trueValue}
 use Rattle.magnetar_protocol.specs.Prover.{joined, inTurn, trueValues, productTable, outerRounds, terminalValues, foldedZ, honestWords, proverWords}
 use Rattle.magnetar_protocol.specs.Soundness.{NoBitOutside, badDraws, absorbedBefore, BadDraw}
-use Rattle.magnetar_protocol.proofs.Soundness.{soundness}
 
 -- ---- a gap: m = 8, q = 1, no entry, segments of 1 and of 2 among 4 columns
 abbrev empty : ℕ → Matrix
@@ -116,76 +110,7 @@ unfolding log₂ halvings _⊕_ _⊗_ sumTimes timesX tabulate eval eqFactor eqA
     verdict
 lie-answers = refl
 
--- ---- the theorem on an accepted run speaks of it: so some draw is bad
-below : (l : List ℕ) → every (λ (x : ℕ). ltb x (2 ^ 128)) l ≡ true → Elements l
-unfolding every
-below [] e i = pow-pos 128
-below (x ∷ l) e zero = ltb-true x (2 ^ 128) (both (ltb x (2 ^ 128)) (every (λ (x : ℕ). ltb x (2 ^ 128)) l) e .0)
-below (x ∷ l) e (suc i) = below l (both (ltb x (2 ^ 128)) (every (λ (x : ℕ). ltb x (2 ^ 128)) l) e .1) i
-
-relation : SizedRelation lie
-unfolding log₂ halvings every isLength layoutEnd endFrom nextMultiple
-relation = record {
-  columns = record { low = lit≤ tt; high = lit≤ tt; power = refl };
-  logins = record { low = lit≤ tt; high = lit≤ tt; power = refl };
-  bin = record {
-    rows = record { low = lit≤ tt; high = lit≤ tt; power = refl };
-    total = lit≤ tt;
-    a = record { rows = refl; cols = refl; few = lit≤ tt; inside = refl };
-    b = record { rows = refl; cols = refl; few = lit≤ tt; inside = refl };
-    c = record { rows = refl; cols = refl; few = lit≤ tt; inside = refl };
-  };
-  fld = record {
-    rows = record { low = lit≤ tt; high = lit≤ tt; power = refl };
-    total = lit≤ tt;
-    a = record { rows = refl; cols = refl; few = lit≤ tt; inside = refl };
-    b = record { rows = refl; cols = refl; few = lit≤ tt; inside = refl };
-    c = record { rows = refl; cols = refl; few = lit≤ tt; inside = refl };
-  };
-  layout = record { small = lit≤ tt; power = refl; lengths = refl; ends = lit≤ tt };
-  segments = lit≤ tt;
-}
-
-bit : (u y : ℕ) → bitOf lieBatch u y ≡ 0
-unfolding bitOf
-bit zero zero = refl
-bit zero (suc y) = refl
-bit (suc u) y = refl
-
-batch : SizedBatch lie lieBatch
-batch = record { logins = refl; columns = columns; bits = λ u y. rw (bit u y) (lit< tt) }
-  where
-    columns : (u : ℕ) → u < 1 → length (getD lieBatch u []) ≡ 1
-    columns zero h = refl
-    columns (suc u) h = absurd (omega arith)
-
-pub lie-sized : SizedProof lie lieBatch [] lieWords zeros
-unfolding log₂ halvings every
-lie-sized = record {
-  run = record {
-    relation = relation;
-    batch = batch;
-    public = refl;
-    draws = refl;
-    elements-x = below [] refl;
-    elements-d = below zeros refl;
-  };
-  words = refl;
-  elements-w = below lieWords refl;
-}
-
-lie-claims : ClaimsTrue lie lieBatch (claims lie lieWords zeros)
-lie-claims i h = absurd (omega arith)
-
-pub lie-bad : BadDraw lie lieBatch [] lieWords zeros
-lie-bad =
-    second (soundness lie lieBatch [] lieWords zeros lie-sized (ap (λ (l : List ℕ). getD l 0 0) lie-answers) (λ u y h k o. bit u y) lie-claims)
-  where
-    second : Good lie lieBatch [] ⊎ BadDraw lie lieBatch [] lieWords zeros → BadDraw lie lieBatch [] lieWords zeros
-    second (inl g) = absurd (lie-not-good g)
-    second (inr d) = d
-
--- ---- and at the other draws none is
+-- ---- at the other draws none is bad
 -- the roots of a polynomial, as the lists have them
 abbrev rootList : List ℕ → List ℕ
 rootList cs = map number (map element (roots cs))

@@ -1,3 +1,4 @@
+pub mod ExampleBad
 pub mod Elements
 pub mod Passed
 pub mod Products
@@ -24,7 +25,7 @@ pub mod HonestRun
 pub mod Completeness
 pub mod Examples
 pub mod ExampleRun
-pub mod ExampleBad
+pub mod ExampleLie
 pub mod Counts
 pub mod Blocks
 pub mod StepLaws

@@ -49,13 +49,15 @@ lies n m e a b = rw (lt-ltb (e .row) n a, lt-ltb (e .col) m b)
 
 in-matrix : (n m k : ℕ) (h : Shape) (es : List Entry) → MatrixWithin n m h (matrixAt h k es) → inMatrix (matrixAt h k es) ≡ true
 in-matrix n m k h es W =
-    every-of (liesIn (h .rows) (h .cols)) noEntry (matrixAt h k es .entries)
-    (λ i l. lies (h .rows) (h .cols) (getD (matrixAt h k es .entries) i noEntry) (omega (arith, W .inside i l .0, W .rows)) (omega (arith, W .inside i l .1, W .cols)))
+    let s = matrixAt h k es .entries in
+    every-of (liesIn (h .rows) (h .cols)) noEntry s
+    (λ i l. lies (h .rows) (h .cols) (getD s i noEntry) (omega (arith, W .inside i l .0, W .rows)) (omega (arith, W .inside i l .1, W .cols)))
 
 module _ (m q k : ℕ) (t : SystemShape) (es : List Entry) (W : SystemWithin m q t (systemAt t k es)) where
   row-fine : Clear (rowTests q t)
   row-fine =
-      (size-fine 1 65536 (t .a .rows) (sized (lit≤ tt) (W .rows)), (same-fine _ _ (W .b .rows), (same-fine _ _ (W .c .rows), (most-fine 1048576 (q * t .a .rows) (W .total), tt))))
+      let z = size-fine 1 65536 (t .a .rows) (sized (lit≤ tt) (W .rows)) in
+      (z, (same-fine _ _ (W .b .rows), (same-fine _ _ (W .c .rows), (most-fine 1048576 (q * t .a .rows) (W .total), tt))))
 
   col-fine : Clear (colTests m t)
   col-fine = (same-fine _ _ (W .a .cols), (same-fine _ _ (W .b .cols), (same-fine _ _ (W .c .cols), tt)))
