@@ -35,3 +35,5 @@ pub mod Splits
 pub mod Absorbed
 pub mod Within
 pub mod Finding
+pub mod Heard
+pub mod Earlier
