@@ -1,19 +1,18 @@
 -- Each message of the honest words uses only the draws before it: where two lists of draws begin with the same n, what is absorbed
 -- before draw n + 1 is the same.
 -- Assumes nothing.
-use mathlib.Core.Path.{_≡_, refl, sym, ap, ap₂, _∙_, subst}
+use mathlib.Core.Path.{_≡_, refl, sym, ap, ap₂, _∙_}
 use mathlib.Core.List.{List, [], _∷_, _++_}
-use Prim.Native.Nat.{ℕ, zero, suc, _+_, _-_, _*_, _≤_, _<_}
+use Prim.Native.Nat.{ℕ, zero, suc, _+_, _*_, _≤_, _<_}
 use native.Mathlib.Nat.{zero-add, suc-add}
 use native.Mathlib.Omega.{arith}
 use lib.ListN.{length, getD, take, drop, length-append, length-drop, List·getD-append}
 use lib.Seq.{take-nil, drop-nil, take-all, take-take, take-add, take-append-le, take-append-add, drop-drop, drop-append-le, getD-append-add}
 use Rattle.magnetar_field.specs.Tabulate.{tabulate}
 use Rattle.magnetar_field.proofs.Tabulation.{tabulate-length, tabulate-get}
-use Rattle.magnetar_multilinear.specs.Multilinear.{mle}
+use Rattle.magnetar_multilinear.specs.Multilinear.{mle, bindVar}
 use Rattle.magnetar_sumcheck_verifier.specs.Inner.{innerMessage}
 use Rattle.magnetar_sumcheck_verifier.specs.Messages.{Outer, outerStart, outerNext, outerFold, outerMessages, innerMessages}
-use Rattle.magnetar_multilinear.specs.Multilinear.{bindVar}
 use Rattle.magnetar_matrix.specs.Matrix.{System}
 use Rattle.magnetar_matrix.specs.Batch.{Relation, Batch}
 use Rattle.magnetar_protocol.specs.Shape.{logLogins, logBin, logFld, logCols, beforeTerminals, beforeInner}

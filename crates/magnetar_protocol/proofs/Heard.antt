@@ -1,6 +1,6 @@
 -- Two proofs that say the same in all events with at most n draws before them: a schedule played on them draws the same n + 1 elements.
 -- Assumes nothing.
-use mathlib.Core.Path.{_≡_, refl, sym, ap, ap₂, _∙_, subst}
+use mathlib.Core.Path.{_≡_, refl, sym, ap, _∙_, subst}
 use mathlib.Core.Bool.{Bool, true, false}
 use mathlib.Core.List.{List, [], _∷_, _++_}
 use Prim.Native.Nat.{ℕ, zero, suc, _+_, _*_, _≤_, _<_}
@@ -16,7 +16,7 @@ use Rattle.magnetar_protocol.specs.Shape.{logLogins, logBin, logFld, log
 use Rattle.magnetar_protocol.specs.Draws.{drawCount}
 use Rattle.magnetar_protocol.specs.Proof.{part}
 use Rattle.magnetar_protocol.specs.Schedule.{Event, absorb, draw, numbered, rounds, singles, schedule, afterTaus}
-use Rattle.magnetar_protocol.specs.Play.{Played, start, absorbing, drawing, play}
+use Rattle.magnetar_protocol.specs.Play.{Played, absorbing, drawing, play}
 use Rattle.magnetar_protocol.proofs.Counts.{drawsIn, drawsIn-replicate, drawsIn-rounds, drawsIn-singles}
 
 -- what is said the same, part by part of the schedule: each message and value that at most n draws come before
