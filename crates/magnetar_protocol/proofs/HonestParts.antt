@@ -120,7 +120,7 @@ module _ (r : Relation) (b : Batch) (x : List ℕ) (D : Draws) (C : Cut r D) whe
   at₂ = past (8 * s) (4 * logBin r) W (joined (drop s bin)) end₂ at₁
       (joined-length 4 (drop s bin) (each-drop 4 s bin bin-each) ∙ ap (λ (k : ℕ). 4 * k) bin₁)
 
-  at₃ : drop (beforeTerminals r) W ≡ end₃
+  pub at₃ : drop (beforeTerminals r) W ≡ end₃
   at₃ = past (8 * s + 4 * logBin r) (4 * logFld r) W (joined (drop s fld)) end₃ at₂
       (joined-length 4 (drop s fld) (each-drop 4 s fld fld-each) ∙ ap (λ (k : ℕ). 4 * k) fld₁)
 

@@ -30,6 +30,7 @@ pub mod Counts
 pub mod Blocks
 pub mod StepLaws
 pub mod Bindings
+pub mod Proving
 pub mod Stepwise
 pub mod ProverRun
 pub mod RealRuns
@@ -37,3 +38,6 @@ pub mod Splits
 pub mod Absorbed
 pub mod Within
 pub mod Finding
+pub mod Heard
+pub mod Earlier
+pub mod ProverDraws

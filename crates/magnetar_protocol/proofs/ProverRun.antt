@@ -1,4 +1,4 @@
--- The words of the prover's run are the honest words at its draws.
+-- The prover's run step by step has the draws, the words and the transcript of specs/RealRun.
 -- Assumes nothing.
 use mathlib.Core.Path.{_≡_, refl, sym, ap, ap₂, _∙_}
 use mathlib.Core.List.{List, [], _∷_, _++_}
@@ -24,23 +24,27 @@ use Rattle.magnetar_matrix.specs.Matrix.{Entry, Matrix, System, sumOver, rowTot
 use Rattle.magnetar_matrix.specs.Batch.{Relation, Batch, folded, publicFolded}
 use Rattle.magnetar_layout.specs.Layout.{offset}
 use Rattle.magnetar_protocol.specs.Shape.{logLogins, logCols}
-use Rattle.magnetar_protocol.specs.Draws.{Draws, drawCount, drawsOf, loginPoint, lowPoint}
+use Rattle.magnetar_protocol.specs.Draws.{Draws, loginPoint, lowPoint}
+use Rattle.magnetar_protocol.specs.Schedule.{schedule}
+use Rattle.magnetar_protocol.specs.Play.{Played, playedFrom}
 use Rattle.magnetar_protocol.specs.Checks.{combined}
 use Rattle.magnetar_protocol.specs.Run.{trueValue, claims}
 use Rattle.magnetar_protocol.specs.RunSizes.{SizedSystem, SizedRelation, SizedBatch, Elements}
 use Rattle.magnetar_protocol.specs.Theory.{logHalf}
 use Rattle.magnetar_protocol.specs.Prover.{joined, inTurn, productTable, outerRounds, binRounds, fldRounds, terminalValues, foldedZ, trueValues, honestWords, proverWords, proverClaims}
 use Rattle.magnetar_protocol.specs.Stepwise.{segmentValue}
-use Rattle.magnetar_protocol.specs.RealRun.{productTables, outerDraws, proving, proverDraws}
+use Rattle.magnetar_protocol.specs.RealRun.{verifierDraws, proverDraws, proverTranscript, sentWords}
+use Rattle.magnetar_protocol.proofs.Proving.{productTables, outerDraws, proving}
 use Rattle.magnetar_protocol.proofs.LayoutLaws.{Placed, placed}
 use Rattle.magnetar_protocol.proofs.SegmentSums.{pow-le}
-use Rattle.magnetar_protocol.proofs.SizeFacts.{cols-suc, half-pow, Cut, cut, low-size}
+use Rattle.magnetar_protocol.proofs.SizeFacts.{cols-suc, half-pow, Cut, low-size}
 use Rattle.magnetar_protocol.proofs.HonestTables.{product-length, foldedZ-length}
-use Rattle.magnetar_protocol.proofs.HonestParts.{outer-count, segment-part}
+use Rattle.magnetar_protocol.proofs.HonestParts.{outer-count}
 use Rattle.magnetar_protocol.proofs.HonestBelow.{elements-of, both, tabulate-below}
 use Rattle.magnetar_protocol.proofs.StepLaws.{folds, messages-append, binds}
 use Rattle.magnetar_protocol.proofs.Bindings.{binds-left, left-a, left-b, left-c, segment-is, folded-elements}
-use Rattle.magnetar_protocol.proofs.Stepwise.{shared, tau-bin-length, tau-fld-length, shared-length, row-bin-length, row-fld-length, alpha-length, leftOf, binAtStart, fldAtStart, ends-bin, ends-fld, outerSent, inner-of, inner-of-length, lastSent, proving-sent, proving-count, proving-elements, outer-parts, parts, parts-are}
+use Rattle.magnetar_protocol.proofs.Stepwise.{shared, tau-bin-length, tau-fld-length, shared-length, row-bin-length, row-fld-length, alpha-length, leftOf, binAtStart, fldAtStart, ends-bin, ends-fld, outerSent, inner-of, inner-of-length, lastSent, proving-sent, plays-the-same, outer-parts, parts, parts-are}
+use Rattle.magnetar_protocol.proofs.ProverDraws.{drawn-only, prover-claims}
 
 -- ---- the products are elements
 sum-over-lt : (f : Entry → ℕ) (es : List Entry) → ((e : Entry) → f e < 2 ^ 128) → sumOver f es < 2 ^ 128
@@ -230,29 +234,24 @@ module _ (r : Relation) (b : Batch) (x : List ℕ) (t : Transcript) where
         inTurn (sym bin-first j) (sym fld-first j)
         ++ (joined (sym bin-later j) ++ (joined (sym fld-later j) ++ (left-same j ++ last-same j)))
 
-    -- the words of the run are the honest words at its draws
+    -- the words of the run are the honest words at its draws, which are drawn again from them
+    words-are : proving r b x t .sent ≡ proverWords r b x (proving r b x t .played .draws)
+    unfolding proverWords
+    words-are = proving-sent r b x t ∙ words-same ∙ ap (honestWords r b x) (sym (parts-are r b x t))
+
+    pub proving-draws-are : proverDraws r b x t ≡ proving r b x t .played .draws
+    unfolding verifierDraws
+    proving-draws-are = drawn-only r b x t (proving r b x t .played .draws)
+        (ap (λ (w : List ℕ). playedFrom w (schedule r) t .draws) (sym words-are) ∙ ap (λ (p : Played). p .draws) (plays-the-same r b x t))
+
     pub proving-words : proving r b x t .sent ≡ proverWords r b x (proverDraws r b x t)
-    unfolding proverWords proverDraws
-    proving-words = proving-sent r b x t ∙ words-same ∙ ap (honestWords r b x) (sym (parts-are r b x t))
+    proving-words = words-are ∙ ap (proverWords r b x) (sym proving-draws-are)
 
-  -- ---- the draws
-  pub prover-count : length (proverDraws r b x t) ≡ drawCount r
-  unfolding proverDraws
-  prover-count = proving-count r b x t
+    pub proving-transcript : proving r b x t .played .transcript ≡ proverTranscript r b x t
+    unfolding proverTranscript sentWords
+    proving-transcript = ap (λ (p : Played). p .transcript) (sym (plays-the-same r b x t))
+        ∙ ap (λ (w : List ℕ). playedFrom w (schedule r) t .transcript) proving-words
 
-  pub prover-elements : Elements (proverDraws r b x t)
-  unfolding proverDraws
-  prover-elements = proving-elements r b x t
-
-  -- the claims that are read from the honest words are the prover's, whatever the batch is
-  pub prover-claims : claims r (proverWords r b x (proverDraws r b x t)) (proverDraws r b x t) ≡ proverClaims r b (proverDraws r b x t)
-  unfolding claims proverClaims proverWords
-  prover-claims = ap (λ (l : List ℕ). loginPoint (drawsOf r (proverDraws r b x t)) ++ (lowPoint r (drawsOf r (proverDraws r b x t)) ++ l))
-      (segment-part r b x (drawsOf r (proverDraws r b x t)) (cut r (proverDraws r b x t) prover-count))
-
-  -- and so are those that are read from the words and draws of the run
-  pub proving-claims : SizedRelation r → SizedBatch r b → suc (length x) ≡ r .m / 2 → Elements x
-      → claims r (proving r b x t .sent) (proving r b x t .played .draws) ≡ proverClaims r b (proverDraws r b x t)
-  proving-claims R B px ex =
-      let e : proving r b x t .played .draws ≡ proverDraws r b x t = unfold proverDraws in refl in
-      ap₂ (claims r) (proving-words R B px ex) e ∙ prover-claims
+    -- the claims that are read from its words and draws are the prover's
+    pub proving-claims : claims r (proving r b x t .sent) (proving r b x t .played .draws) ≡ proverClaims r b (proverDraws r b x t)
+    proving-claims = ap₂ (claims r) proving-words (sym proving-draws-are) ∙ prover-claims r b x t

@@ -11,18 +11,17 @@ use Rattle.magnetar_matrix.specs.Batch.{Relation, Batch, Good}
 use Rattle.magnetar_theory.specs.Count.{naturalSum}
 use Rattle.magnetar_protocol.specs.Shape.{logLogins, logBin, logFld, logCols, proofElements}
 use Rattle.magnetar_protocol.specs.Schedule.{Event, schedule}
-use Rattle.magnetar_protocol.specs.Play.{Played, playedFrom}
+use Rattle.magnetar_protocol.specs.Play.{playedFrom}
 use Rattle.magnetar_protocol.specs.Run.{verdict, claims, ClaimsTrue}
 use Rattle.magnetar_protocol.specs.RunSizes.{SizedRelation, SizedBatch, Elements}
 use Rattle.magnetar_protocol.specs.Soundness.{NoBitOutside, badDraws, absorbedBefore, BadDraw}
 use Rattle.magnetar_protocol.specs.Prover.{proverClaims, CompleteRun}
-use Rattle.magnetar_protocol.specs.RealRun.{verifierDraws, verifierTranscript, proving, proverDraws, proverTranscript, sentWords, Agrees}
+use Rattle.magnetar_protocol.specs.RealRun.{verifierDraws, verifierTranscript, proverDraws, proverTranscript, sentWords, Agrees}
 use Rattle.magnetar_protocol.proofs.Soundness.{soundness, all-lists}
 use Rattle.magnetar_protocol.proofs.Completeness.{completeness}
 use Rattle.magnetar_protocol.proofs.Counts.{verifier-count, verifier-elements}
 use Rattle.magnetar_protocol.proofs.Blocks.{stop-accepted}
-use Rattle.magnetar_protocol.proofs.Stepwise.{plays-the-same}
-use Rattle.magnetar_protocol.proofs.ProverRun.{proving-words, prover-count, prover-elements}
+use Rattle.magnetar_protocol.proofs.ProverDraws.{prover-count, prover-elements, drawn-again}
 
 -- Where a verifier accepts whose draws are those of its transcript, no bit is set outside the segments and every returned claim is
 -- true of the batch, the batch is good, or some draw lies in its list of at most three elements.
@@ -77,11 +76,8 @@ completeness-run r b x t R B px ex g stray = record {
       elements-d = prover-elements r b x t;
     }) g stray
 
-    plays : playedFrom (sentWords r b x t) (schedule r) t ≡ proving r b x t .played
-    plays = unfold sentWords in (ap (λ (w : List ℕ). playedFrom w (schedule r) t) (sym (proving-words r b x t R B px ex)) ∙ plays-the-same r b x t)
-
     drawn : verifierDraws r (sentWords r b x t) t ≡ proverDraws r b x t
-    drawn = unfold verifierDraws proverDraws in ap (λ (p : Played). p .draws) plays
+    drawn = drawn-again r b x t
 
     accepts : verdict r x (sentWords r b x t) (verifierDraws r (sentWords r b x t) t) ≡ 0
     accepts = ap (verdict r x (sentWords r b x t)) drawn ∙ unfold sentWords in convinced .accepted
@@ -93,5 +89,4 @@ completeness-run r b x t R B px ex g stray = record {
     ends = unfold verifierTranscript proverTranscript in
         (ap (λ (n : ℕ). playedFrom (sentWords r b x t) (take n (schedule r)) t .transcript)
         (stop-accepted r x (sentWords r b x t) (verifierDraws r (sentWords r b x t) t) accepts)
-        ∙ ap (λ (es : List Event). playedFrom (sentWords r b x t) es t .transcript) (take-length (schedule r))
-        ∙ ap (λ (p : Played). p .transcript) plays)
+        ∙ ap (λ (es : List Event). playedFrom (sentWords r b x t) es t .transcript) (take-length (schedule r)))

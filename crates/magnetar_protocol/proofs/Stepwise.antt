@@ -14,16 +14,14 @@ use Rattle.magnetar_hash.specs.Bytes.{ascii}
 use Rattle.magnetar_hash.specs.declared.transcript.Transcript.{Transcript}
 use Rattle.magnetar_sumcheck_verifier.specs.Messages.{Outer, outerStart, outerMessages, innerMessages}
 use Rattle.magnetar_matrix.specs.Batch.{Relation, Batch, folded, publicFolded}
-use Rattle.magnetar_protocol.specs.Shape.{logLogins, logBin, logFld, logCols, beforeTerminals, beforeInner, proofElements}
+use Rattle.magnetar_protocol.specs.Shape.{logLogins, logBin, logFld, logCols, beforeTerminals, beforeInner}
 use Rattle.magnetar_protocol.specs.Draws.{Draws, drawCount, drawsOf, loginPoint}
 use Rattle.magnetar_protocol.specs.Schedule.{Event, absorb, draw, numbered, rounds, singles, schedule}
-use Rattle.magnetar_protocol.specs.Play.{Played, playedFrom}
+use Rattle.magnetar_protocol.specs.Play.{playedFrom}
 use Rattle.magnetar_protocol.specs.Checks.{combined}
 use Rattle.magnetar_protocol.specs.Prover.{joined, inTurn}
 use Rattle.magnetar_protocol.specs.Stepwise.{Steps, begin, send, drawTimes, sendEach, OuterSteps, sharedSteps, RowSteps, rowSteps, InnerSteps, Tables, tauSteps, outerBegin, binRows, fldRows, outerSteps, terminalsLeft, outerAll, innerRun, segmentValue, lowDraws, ended, innerAll}
-use Rattle.magnetar_protocol.specs.RunSizes.{Elements}
-use Rattle.magnetar_protocol.specs.RealRun.{productTables, outerProving, outerDraws, proving}
-use Rattle.magnetar_protocol.proofs.Counts.{played-count, played-elements}
+use Rattle.magnetar_protocol.proofs.Proving.{productTables, outerProving, outerDraws, proving}
 use Rattle.magnetar_protocol.proofs.Chunks.{joined-length, inTurn-length, past}
 use Rattle.magnetar_protocol.proofs.HonestParts.{outer-each, outer-count, inner-each, inner-count}
 use Rattle.magnetar_protocol.proofs.StepLaws.{Goes, goes-none, goes-then, goes-send, goes-each, DrawsMany, draws-many, folds, SharedRounds, shared-rounds, RowRounds, row-rounds, InnerRounds, inner-rounds, binds, behind, inner-all-after}
@@ -450,21 +448,6 @@ module _ (r : Relation) (b : Batch) (x : List ℕ) (t : Transcript) where
   -- the verifier that is given the words plays the same
   pub plays-the-same : playedFrom (proving r b x t .sent) (schedule r) t ≡ proving r b x t .played
   plays-the-same = goes-proving .plays (proving r b x t .sent) [] (sym (append-nil (proving r b x t .sent)))
-
-  -- the words are as many as document 01 says, the draws as many as the schedule says
-  pub proving-length : length (proving r b x t .sent) ≡ proofElements r
-  unfolding proving
-  proving-length =
-      ends (beforeInner r) (3 * logCols r + 1 + length (r .lengths))
-      (goes-inner r c f half (outerProving r b x t) (beforeInner r) outer-proving-length) outer-proving-length
-      (inner-sent-length r c f half (outerProving r b x t) (beforeInner r) outer-proving-length)
-      ∙ omega arith
-
-  pub proving-count : length (proving r b x t .played .draws) ≡ drawCount r
-  proving-count = ap (λ (p : Played). length (p .draws)) (sym plays-the-same) ∙ played-count r (proving r b x t .sent) t
-
-  pub proving-elements : Elements (proving r b x t .played .draws)
-  proving-elements = subst (λ (p : Played). Elements (p .draws)) plays-the-same (played-elements (proving r b x t .sent) (schedule r) t)
 
   -- the run up to the alphas comes first
   pub proving-after : proving r b x t ≡ behind (outerProving r b x t) (innerAll r c f half (begin (outerProving r b x t .played .transcript)))

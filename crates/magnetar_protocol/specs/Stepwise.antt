@@ -1,6 +1,6 @@
 -- The prover's run step by step, as its functions make it: what it sends is absorbed and added to the proof, and what it draws is
--- drawn. `proofs/Stepwise` and `proofs/ProverRun` show that its words are `proverWords` at its draws and that the schedule, played on them,
--- makes the same draws.
+-- drawn. The contracts of the prover's parts cite it (`magnetar_prover`, `magnetar_spartan` specs/Proving); no theorem and no outcome of
+-- an entry does. proofs/ProverRun shows that its draws, words and transcript are those of specs/RealRun.
 -- Assumes nothing.
 use mathlib.Core.List.{List, [], _∷_, _++_}
 use Prim.Native.Nat.{ℕ, zero, suc, _+_, _-_}

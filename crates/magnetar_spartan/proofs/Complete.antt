@@ -23,8 +23,7 @@ use Rattle.magnetar_protocol.specs.RunSizes.{SizedRelation, SizedBatch}
 use Rattle.magnetar_protocol.specs.Soundness.{NoBitOutside}
 use Rattle.magnetar_protocol.specs.Prover.{proverWords, proverClaims}
 use Rattle.magnetar_protocol.specs.RealRun.{verifierDraws, verifierTranscript, proverDraws, proverTranscript, sentWords, Agrees}
-use Rattle.magnetar_protocol.proofs.Stepwise.{proving-length}
-use Rattle.magnetar_protocol.proofs.ProverRun.{proving-words}
+use Rattle.magnetar_protocol.proofs.ProverDraws.{sent-length}
 use Rattle.magnetar_protocol.proofs.RealRuns.{completeness-run}
 use Rattle.magnetar_relation.specs.Rules.{Rules, relationOf}
 use Rattle.magnetar_spartan.specs.Refusals.{rulesTests, counterTests, roomOf, wordTests, claimWords, proofWords, verifierRoom, proverRoom, verifyTests, proveTests}
@@ -134,9 +133,7 @@ module _ (R : Rules) (ws x : List ℕ) (t : Transcript) (w c s : List ℕ) where
     public = omega (arith, elements-length x, able .public, able .ready .columns .low)
 
     size : proofWords R ≡ 2 * length sent
-    size = unfold sentWords in ap (λ (n : ℕ). 2 * n)
-        (sym (proving-length (relationOf R) (batchOf R ws) (elements x) t)
-        ∙ ap length (proving-words (relationOf R) (batchOf R ws) (elements x) t relation (sized-batch R ws) public (word-elements x wx)))
+    size = ap (λ (n : ℕ). 2 * n) (sym (sent-length (relationOf R) (batchOf R ws) (elements x) t))
 
     written : length handed ≡ proofWords R
     written = ap length (handed-is hp size) ∙ words-length sent ∙ sym size

@@ -29,12 +29,13 @@ use Rattle.magnetar_protocol.specs.Run.{claims}
 use Rattle.magnetar_protocol.specs.RunSizes.{SizedMatrix, Elements}
 use Rattle.magnetar_protocol.specs.Prover.{productTable, proverWords, proverClaims}
 use Rattle.magnetar_protocol.specs.Stepwise.{Steps, Tables, begin, tauSteps, outerAll, drawTimes, sendEach, outerSteps, fldRows, binRows, outerBegin, terminalsLeft, innerAll, innerRun, segmentValue, lowDraws, ended}
-use Rattle.magnetar_protocol.specs.RealRun.{productTables, outerProving, proving, proverDraws, proverTranscript}
+use Rattle.magnetar_protocol.specs.RealRun.{proverDraws, proverTranscript}
 use Rattle.magnetar_protocol.proofs.Blocks.{claims-outlined}
 use Rattle.magnetar_protocol.proofs.Splits.{combined-split}
 use Rattle.magnetar_protocol.proofs.StepLaws.{behind}
+use Rattle.magnetar_protocol.proofs.Proving.{productTables, outerProving, proving}
 use Rattle.magnetar_protocol.proofs.Stepwise.{proving-after, outer-proving-sent, outer-proving-count}
-use Rattle.magnetar_protocol.proofs.ProverRun.{proving-words, proving-claims}
+use Rattle.magnetar_protocol.proofs.ProverRun.{proving-words, proving-transcript, proving-claims}
 use Rattle.magnetar_prover.specs.Entries.{counterTest, countTests, totalTests, outerDrawn, outerSent, blockWords, tablesOf, outerRoundsRefusal, outerPlayed}
 use Rattle.magnetar_prover.specs.Whole.{outerWhole}
 use Rattle.magnetar_prover.proofs.Joined.{whole-is}
@@ -298,12 +299,13 @@ module _ (R : Rules) (ws x w c s : List ℕ) (t : Transcript)
         pub run-is : Elements (elements x) → proveRefusal R ws x t w c s ≡ 0 → (u′ : Transcript) (w′ c′ s′ : List ℕ)
             → LaterLeft (bare (R .m) q b f (R .lengths)) ws x v d c s₃ u u′ w′ c′ s′
             → provedInPlace 0 u′ w′ c′ s′ ≡ proveOutcome R ws x t w c s
-        unfolding proveOutcome proverTranscript proveDraws
+        unfolding proveOutcome proveDraws
         run-is word none u′ w′ c′ s′ L =
             let e = L later-ready in
             let px : suc (length (elements x)) ≡ R .m / 2 = rw elements-length (omega (arith, ok .public, ok .ready .columns .low)) in
             let z : eqb (proveRefusal R ws x t w c s) 0 ≡ true = eq-eqb (proveRefusal R ws x t w c s) 0 none in
-            let eu : u′ ≡ proving r B (elements x) t .played .transcript = e .0 ∙ ap (λ (y : Steps). y .played .transcript) whole in
+            let eu : u′ ≡ proverTranscript r B (elements x) t = e .0 ∙ (ap (λ (y : Steps). y .played .transcript) whole
+            ∙ proving-transcript r B (elements x) t (ok .ready) (sized-batch R ws) px word) in
             let ew : w′ ≡ words (proverWords r B (elements x) (proverDraws r B (elements x) t)) ++ drop (proofWords R) w =
             e .1 ∙ ap₂ _++_ (said-is ∙ ap words (proving-words r B (elements x) t (ok .ready) (sized-batch R ws) px word))
             (ap (drop (proofWords R)) v-is ∙ behind-front (saidBefore R) (proofWords R) (words (O .sent)) w sent-long (omega arith)) in
