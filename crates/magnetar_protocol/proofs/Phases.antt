@@ -12,9 +12,8 @@ use Rattle.magnetar_multilinear.specs.Multilinear.{mle}
 use Rattle.magnetar_sumcheck_verifier.specs.Round.{running}
 use Rattle.magnetar_sumcheck_verifier.specs.Inner.{innerEnd}
 use Rattle.magnetar_matrix.specs.Batch.{Relation}
-use Rattle.magnetar_protocol.specs.Shape.{logLogins, logBin, logFld, logCols}
+use Rattle.magnetar_protocol.specs.Shape.{logLogins, logBin, logFld, logCols, afterShared, afterBin, afterAlphas, afterInner}
 use Rattle.magnetar_protocol.specs.Draws.{Draws}
-use Rattle.magnetar_protocol.specs.Schedule.{afterShared, afterBin, afterAlphas, afterInner}
 use Rattle.magnetar_protocol.specs.Proof.{innerRounds, valueZ}
 use Rattle.magnetar_protocol.specs.Checks.{Check, roundHolds, innerClaim, combined, binRound, fldRound, firstRefusal, sharedChecks, rowChecks, terminalChecks, innerChecks}
 

@@ -20,10 +20,9 @@ use Rattle.magnetar_sumcheck_verifier.specs.Order.{eqPoints}
 use Rattle.magnetar_sumcheck_verifier.specs.Outer.{outerEnd}
 use Rattle.magnetar_sumcheck_verifier.specs.Inner.{innerEnd}
 use Rattle.magnetar_matrix.specs.Batch.{Relation}
-use Rattle.magnetar_protocol.specs.Shape.{logLogins, logBin, logFld, logCols}
+use Rattle.magnetar_protocol.specs.Shape.{logLogins, logBin, logFld, logCols, afterTaus, afterShared, afterBin, afterOuter, afterAlphas, afterInner}
 use Rattle.magnetar_protocol.specs.Proof.{part, binMessages, fldMessages, terminal, innerRounds, valueZ, segmentValues}
 use Rattle.magnetar_protocol.specs.Draws.{Draws, loginPoint, lowPoint, topElement}
-use Rattle.magnetar_protocol.specs.Schedule.{afterTaus, afterShared, afterBin, afterOuter, afterAlphas, afterInner}
 use Rattle.magnetar_protocol.specs.Checks.{Check, roundHolds, firstRefusal, checks, binRound, fldRound, sharedChecks, rowChecks, terminalChecks, innerChecks, identityCheck, innerClaim, combined, segmentSum}
 use Rattle.magnetar_protocol.proofs.Passed.{rounds-pass, pass-rounds, one-passes, passes-one, all-pass, pass-all}
 use Rattle.magnetar_protocol.proofs.SizeFacts.{Cut}

@@ -16,10 +16,9 @@ use Rattle.magnetar_sumcheck_verifier.specs.Inner.{innerEnd}
 use Rattle.magnetar_matrix.specs.Matrix.{mleTable}
 use Rattle.magnetar_matrix.specs.Batch.{Relation, publicFolded}
 use Rattle.magnetar_layout.specs.Layout.{localVars, suffix}
-use Rattle.magnetar_protocol.specs.Shape.{logLogins, logBin, logFld, logCols}
+use Rattle.magnetar_protocol.specs.Shape.{logLogins, logBin, logFld, logCols, afterTaus, afterShared, afterBin, afterOuter, afterAlphas, afterInner}
 use Rattle.magnetar_protocol.specs.Proof.{binMessages, fldMessages, terminals, terminal, innerRounds, valueZ, segmentValues}
 use Rattle.magnetar_protocol.specs.Draws.{Draws, loginPoint, lowPoint, topElement}
-use Rattle.magnetar_protocol.specs.Schedule.{afterTaus, afterShared, afterBin, afterOuter, afterAlphas, afterInner}
 
 -- a check that passes or gives a refusal, and how many events of the schedule come before it
 pub record Check : Type 0 where

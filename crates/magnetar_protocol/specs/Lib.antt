@@ -2,8 +2,6 @@ pub mod Shape
 pub mod Rooms
 pub mod Proof
 pub mod Draws
-pub mod Schedule
-pub mod Play
 pub mod Checks
 pub mod Found
 pub mod Run
@@ -11,5 +9,3 @@ pub mod RunSizes
 pub mod Theory
 pub mod Soundness
 pub mod Prover
-pub mod Stepwise
-pub mod RealRun

@@ -4,7 +4,7 @@ ghost use mathlib.Core.Path.{_≡_};
 ghost use Prim.Native.Nat.{_+_, _*_, _≤_};
 ghost use mathlib.Core.List.{[]};
 ghost use Rattle.magnetar_protocol.specs.Draws.{drawCount};
-ghost use Rattle.magnetar_protocol.specs.Schedule.{outline};
+ghost use Rattle.magnetar_protocol.specs.Shape.{outline};
 ghost use Rattle.magnetar_protocol.specs.Rooms.{verifierScratch, proverScratch};
 
 // The verifier's, with m columns and the row counts rb and rf of bin and fld.

@@ -14,7 +14,7 @@ use Rattle.magnetar_multilinear.specs.Entries.{eqOut}
 use Rattle.magnetar_field.proofs.Elements.{elements-length, elements-drop, words-length}
 use Rattle.magnetar_multilinear.proofs.EqTables.{eqTable-length}
 use Rattle.magnetar_hash.specs.declared.transcript.Transcript.{Transcript}
-use Rattle.magnetar_protocol.specs.Schedule.{numbered}
+use Rattle.magnetar_schedule.specs.Schedule.{numbered}
 use Rattle.magnetar_matrix.specs.Table.{Point}
 use Rattle.magnetar_r1cs.proofs.Points.{eq-built}
 use Rattle.magnetar_matrix.proofs.TableLaws.{elements-words}

@@ -12,7 +12,7 @@ use Rattle.magnetar_field.specs.Words.{elements}
 use Rattle.magnetar_hash.specs.declared.transcript.Transcript.{Transcript}
 use Rattle.magnetar_hash.specs.Transcript.{drawn, element, drawnTimes, drawnWords}
 use Rattle.magnetar_hash.proofs.Draws.{length-drawn}
-use Rattle.magnetar_protocol.specs.Stepwise.{Steps, drawTimes}
+use Rattle.magnetar_schedule.specs.Stepwise.{Steps, drawTimes}
 use Rattle.magnetar_prover.specs.Held.{stepsIn}
 use Rattle.magnetar_prover.proofs.Slots.{part-size, mid-upto, fore-length}
 use Rattle.magnetar_prover.proofs.Sent.{elements-take, elements-join, steps-eq}

@@ -14,8 +14,8 @@ use Rattle.magnetar_field.proofs.Tabulation.{tabulate-ext}
 use Rattle.magnetar_hash.specs.Bytes.{ascii}
 use Rattle.magnetar_hash.specs.declared.transcript.Transcript.{Transcript}
 use Rattle.magnetar_layout.specs.Layout.{offset, localVars}
-use Rattle.magnetar_protocol.specs.Schedule.{outline}
-use Rattle.magnetar_protocol.specs.Stepwise.{InnerSteps, begin, send, sendEach, innerSteps, innerRun, segmentValue, lowDraws, ended, innerAll}
+use Rattle.magnetar_protocol.specs.Shape.{outline}
+use Rattle.magnetar_schedule.specs.Stepwise.{InnerSteps, begin, send, sendEach, innerSteps, innerRun, segmentValue, lowDraws, ended, innerAll}
 use Rattle.magnetar_prover.specs.Held.{Locals, segmentIn, innerEnded, innerWhole}
 use Rattle.magnetar_prover.specs.Entries.{tableAt, innerPlayed}
 use Rattle.magnetar_prover.proofs.Slots.{take-of-drop}

@@ -13,7 +13,7 @@ use Rattle.magnetar_hash.specs.Bytes.{wordBytes, ascii}
 use Rattle.magnetar_hash.specs.declared.transcript.Transcript.{Transcript}
 use Rattle.magnetar_hash.specs.Transcript as transcript
 use Rattle.magnetar_sumcheck_verifier.specs.Inner.{innerMessage, innerSums}
-use Rattle.magnetar_protocol.specs.Stepwise.{Steps, InnerSteps, innerStep, innerSteps}
+use Rattle.magnetar_schedule.specs.Stepwise.{Steps, InnerSteps, innerStep, innerSteps}
 use Rattle.magnetar_prover.specs.Entries.{tableAt}
 use Rattle.magnetar_prover.specs.Held.{innerIn, Table}
 use Rattle.magnetar_prover.proofs.Sent.{round-sent}

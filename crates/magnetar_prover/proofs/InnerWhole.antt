@@ -12,8 +12,8 @@ use Rattle.magnetar_field.specs.Words.{elements}
 use Rattle.magnetar_field.proofs.Elements.{elements-length}
 use Rattle.magnetar_hash.specs.Bytes.{ascii}
 use Rattle.magnetar_hash.specs.declared.transcript.Transcript.{Transcript}
-use Rattle.magnetar_protocol.specs.Schedule.{numbered}
-use Rattle.magnetar_protocol.specs.Stepwise.{Steps, InnerSteps, begin, send, sendEach, innerSteps}
+use Rattle.magnetar_schedule.specs.Schedule.{numbered}
+use Rattle.magnetar_schedule.specs.Stepwise.{Steps, InnerSteps, begin, send, sendEach, innerSteps}
 use Rattle.magnetar_prover.specs.Entries.{tableAt}
 use Rattle.magnetar_prover.specs.Held.{stepsIn, innerIn, Locals, segmentIn, Sent, sentIn, sentEach, absorbedOne, innerEnded, innerWhole}
 use Rattle.magnetar_prover.proofs.Slots.{take-of-drop, fore-back}

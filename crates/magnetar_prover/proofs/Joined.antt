@@ -13,9 +13,9 @@ use Rattle.magnetar_field.specs.Words.{elements}
 use Rattle.magnetar_hash.specs.Bytes.{ascii}
 use Rattle.magnetar_hash.specs.declared.transcript.Transcript.{Transcript}
 use Rattle.magnetar_sumcheck_verifier.specs.Messages.{Outer, outerStart}
-use Rattle.magnetar_protocol.specs.Schedule.{outline}
-use Rattle.magnetar_protocol.specs.Stepwise.{Steps, RowSteps, Tables, drawTimes, sharedSteps, rowSteps, tauSteps, outerBegin, binRows, fldRows, outerSteps, terminalsLeft, outerAll}
-use Rattle.magnetar_protocol.proofs.StepLaws.{row-rounds}
+use Rattle.magnetar_protocol.specs.Shape.{outline}
+use Rattle.magnetar_schedule.specs.Stepwise.{Steps, RowSteps, Tables, drawTimes, sharedSteps, rowSteps, tauSteps, outerBegin, binRows, fldRows, outerSteps, terminalsLeft, outerAll}
+use Rattle.magnetar_schedule.proofs.StepLaws.{row-rounds}
 use Rattle.magnetar_prover.specs.Entries.{tableAt, tablesIn}
 use Rattle.magnetar_prover.specs.Held.{stepsIn, outerIn, rowIn, sentIn, sentEach, threeIn, Begun}
 use Rattle.magnetar_prover.specs.Shared.{sharedIn}

@@ -12,7 +12,7 @@ use Rattle.magnetar_field.specs.Words.{elements}
 use Rattle.magnetar_hash.specs.Bytes.{ascii}
 use Rattle.magnetar_hash.specs.declared.transcript.Transcript.{Transcript}
 use Rattle.magnetar_sumcheck_verifier.specs.Messages.{Outer}
-use Rattle.magnetar_protocol.specs.Stepwise.{Steps, OuterSteps, Tables, drawTimes, sharedSteps, rowSteps}
+use Rattle.magnetar_schedule.specs.Stepwise.{Steps, OuterSteps, Tables, drawTimes, sharedSteps, rowSteps}
 use Rattle.magnetar_prover.specs.Held.{stepsIn, outerIn, rowIn, sentIn, sentEach, threeIn, Begun}
 use Rattle.magnetar_prover.specs.Shared.{sharedIn}
 use Rattle.magnetar_prover.specs.Entries.{tablesIn, blockWords, tablesOf, outerPlayed}

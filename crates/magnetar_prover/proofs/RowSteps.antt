@@ -20,8 +20,8 @@ use Rattle.magnetar_hash.specs.Transcript as transcript
 use Rattle.magnetar_sumcheck_verifier.specs.Order.{nextVar}
 use Rattle.magnetar_sumcheck_verifier.specs.Outer.{outerMessage, timesEq, dropVar}
 use Rattle.magnetar_sumcheck_verifier.specs.Messages.{Outer, outerNext, outerFold}
-use Rattle.magnetar_protocol.specs.Schedule.{numbered}
-use Rattle.magnetar_protocol.specs.Stepwise.{Steps, RowSteps, rowStep, rowSteps}
+use Rattle.magnetar_schedule.specs.Schedule.{numbered}
+use Rattle.magnetar_schedule.specs.Stepwise.{Steps, RowSteps, rowStep, rowSteps}
 use Rattle.magnetar_prover.specs.Entries.{tableAt}
 use Rattle.magnetar_prover.specs.Held.{outerIn, rowIn, Rows}
 use Rattle.magnetar_prover.proofs.Slots.{take-of-drop}

@@ -19,7 +19,7 @@ use Rattle.magnetar_field.proofs.Elements.{elements-drop, elements-length, word
 use Rattle.magnetar_multilinear.proofs.EqTables.{eqTable-length}
 use Rattle.magnetar_field.proofs.Tabulation.{tabulate-length, tabulate-get}
 use Rattle.magnetar_hash.specs.declared.transcript.Transcript.{Transcript}
-use Rattle.magnetar_protocol.specs.Schedule.{numbered}
+use Rattle.magnetar_schedule.specs.Schedule.{numbered}
 use Rattle.magnetar_layout.specs.Layout.{offset, localVars}
 use Rattle.magnetar_layout.specs.Entries.{layoutRefusal, segmentPart}
 use Rattle.magnetar_matrix.specs.Table.{Point}

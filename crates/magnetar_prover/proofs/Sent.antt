@@ -16,7 +16,7 @@ use Rattle.magnetar_field.proofs.Elements.{elements-length, elements-stored, el
 use Rattle.magnetar_hash.specs.Bytes.{wordBytes}
 use Rattle.magnetar_hash.specs.declared.transcript.Transcript.{Transcript}
 use Rattle.magnetar_hash.specs.Transcript as transcript
-use Rattle.magnetar_protocol.specs.Stepwise.{Steps, send, drawOne}
+use Rattle.magnetar_schedule.specs.Stepwise.{Steps, send, drawOne}
 use Rattle.magnetar_matrix.proofs.TableLaws.{elements-words}
 use Rattle.magnetar_prover.specs.Held.{stepsIn, absorbedOne}
 use Rattle.magnetar_prover.proofs.Slots.{mid-upto, mid-at, part-is}

@@ -17,8 +17,8 @@ use Rattle.magnetar_hash.specs.Transcript as transcript
 use Rattle.magnetar_sumcheck_verifier.specs.Order.{nextVar}
 use Rattle.magnetar_sumcheck_verifier.specs.Outer.{dropVar}
 use Rattle.magnetar_sumcheck_verifier.specs.Messages.{Outer, outerNext, outerFold}
-use Rattle.magnetar_protocol.specs.Schedule.{numbered}
-use Rattle.magnetar_protocol.specs.Stepwise.{Steps, OuterSteps, sharedStep, sharedSteps}
+use Rattle.magnetar_schedule.specs.Schedule.{numbered}
+use Rattle.magnetar_schedule.specs.Stepwise.{Steps, OuterSteps, sharedStep, sharedSteps}
 use Rattle.magnetar_prover.specs.Entries.{tableAt}
 use Rattle.magnetar_prover.specs.Held.{stepsIn, outerIn, Table}
 use Rattle.magnetar_prover.specs.Shared.{messageIn, Dropped, Folded, sharedIn, Shared}

@@ -9,8 +9,8 @@ use Rattle.magnetar_field.specs.Refusal.{unlessRefused}
 use Rattle.magnetar_field.specs.Sizes.{log₂}
 use Rattle.magnetar_field.specs.Words.{elements, words, overlaid}
 use Rattle.magnetar_hash.specs.declared.transcript.Transcript.{Transcript}
-use Rattle.magnetar_protocol.specs.Schedule.{outline}
-use Rattle.magnetar_protocol.specs.Stepwise.{Steps, Tables, begin, tauSteps, outerAll, innerAll}
+use Rattle.magnetar_protocol.specs.Shape.{outline}
+use Rattle.magnetar_schedule.specs.Stepwise.{Steps, Tables, begin, tauSteps, outerAll, innerAll}
 use Rattle.magnetar_matrix.specs.Batch.{Relation}
 use Rattle.magnetar_layout.specs.Tests.{Tests, noted, isSize, columnTests, layoutTests, roomTest}
 use Rattle.magnetar_hash.specs.declared.transcript.TranscriptAnswer.{TranscriptAnswer}

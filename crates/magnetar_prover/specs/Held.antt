@@ -15,8 +15,8 @@ use Rattle.magnetar_sumcheck_verifier.specs.Messages.{Outer}
 use Rattle.magnetar_layout.specs.Layout.{offset, localVars}
 use Rattle.magnetar_hash.specs.Bytes.{wordBytes, ascii}
 use Rattle.magnetar_hash.specs.Transcript.{absorbed}
-use Rattle.magnetar_protocol.specs.Schedule.{numbered}
-use Rattle.magnetar_protocol.specs.Stepwise.{Steps, InnerSteps, RowSteps, begin, send, sendEach, innerSteps}
+use Rattle.magnetar_schedule.specs.Schedule.{numbered}
+use Rattle.magnetar_schedule.specs.Stepwise.{Steps, InnerSteps, RowSteps, begin, send, sendEach, innerSteps}
 use Rattle.magnetar_prover.specs.Entries.{tableAt}
 
 -- the transcript t, with the first a elements of the proof sent and the first d elements drawn

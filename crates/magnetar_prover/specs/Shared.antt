@@ -9,7 +9,7 @@ use Rattle.magnetar_field.specs.Words.{elements}
 use Rattle.magnetar_multilinear.specs.Multilinear.{bindVar}
 use Rattle.magnetar_hash.specs.declared.transcript.Transcript.{Transcript}
 use Rattle.magnetar_sumcheck_verifier.specs.Outer.{outerMessage, dropVar}
-use Rattle.magnetar_protocol.specs.Stepwise.{OuterSteps}
+use Rattle.magnetar_schedule.specs.Stepwise.{OuterSteps}
 use Rattle.magnetar_prover.specs.Entries.{tableAt}
 use Rattle.magnetar_prover.specs.Held.{stepsIn, outerIn}
 

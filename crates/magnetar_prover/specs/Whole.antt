@@ -9,7 +9,7 @@ use Rattle.magnetar_hash.specs.Bytes.{ascii}
 use Rattle.magnetar_hash.specs.declared.transcript.Transcript.{Transcript}
 use Rattle.magnetar_sumcheck_verifier.specs.Messages.{outerStart}
 use Rattle.magnetar_prover.specs.Held.{stepsIn, outerIn}
-use Rattle.magnetar_protocol.specs.Stepwise.{Steps, OuterSteps, Tables, begin, drawTimes, sendEach, sharedSteps, rowSteps}
+use Rattle.magnetar_schedule.specs.Stepwise.{Steps, OuterSteps, Tables, begin, drawTimes, sendEach, sharedSteps, rowSteps}
 
 -- the two taus
 abbrev pub tausOf : (l b f : ℕ) → Transcript → Steps

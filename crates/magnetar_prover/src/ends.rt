@@ -9,8 +9,8 @@ ghost use Prim.Native.Nat.{_+_, _*_, _%_, _^_, _<_, _≤_};
 ghost use lib.ListN.{length, getD, take, drop};
 ghost use Rattle.magnetar_field.specs.Words.{elements};
 ghost use Rattle.magnetar_hash.specs.Bytes.{ascii};
-ghost use Rattle.magnetar_protocol.specs.Stepwise.{begin, drawTimes};
-ghost use Rattle.magnetar_protocol.specs.Schedule.{numbered};
+ghost use Rattle.magnetar_schedule.specs.Stepwise.{begin, drawTimes};
+ghost use Rattle.magnetar_schedule.specs.Schedule.{numbered};
 ghost use Rattle.magnetar_prover.specs.Held.{stepsIn, absorbedOne, sentIn, sentEach, threeIn, Begun};
 
 // The tau of the sb variables of bin and of the sf variables of fld are the first draws.

@@ -22,9 +22,10 @@ ghost use Rattle.magnetar_field.specs.Tabulate.{tabulate};
 ghost use Rattle.magnetar_hash.specs.Bytes.{ascii};
 ghost use Rattle.magnetar_layout.specs.Layout.{offset};
 ghost use Rattle.magnetar_layout.specs.Entries.{layoutRefusal};
-ghost use Rattle.magnetar_protocol.specs.Schedule.{numbered, outline};
+ghost use Rattle.magnetar_schedule.specs.Schedule.{numbered};
+ghost use Rattle.magnetar_protocol.specs.Shape.{outline};
 ghost use Rattle.magnetar_sumcheck_verifier.specs.Inner.{innerMessage};
-ghost use Rattle.magnetar_protocol.specs.Stepwise.{innerStep, innerSteps};
+ghost use Rattle.magnetar_schedule.specs.Stepwise.{innerStep, innerSteps};
 ghost use Rattle.magnetar_prover.specs.Entries.{tableAt, answerFor, proofFor, drawsFor, scratchFor, innerRoundsRefusal, innerPlayed};
 ghost use Rattle.magnetar_prover.specs.Held.{stepsIn, innerIn, Table, Local, Locals, segmentIn, pasted, absorbedOne, sentIn, sentEach, innerWhole};
 

@@ -15,7 +15,7 @@ ghost use lib.ListN.{length, take, drop};
 ghost use Rattle.magnetar_field.specs.Gf128.{value, _⊕_, _⊗_};
 ghost use Rattle.magnetar_field.specs.Words.{elements, words};
 ghost use Rattle.magnetar_hash.specs.Transcript.{element};
-ghost use Rattle.magnetar_protocol.specs.Stepwise.{rowStep, rowSteps};
+ghost use Rattle.magnetar_schedule.specs.Stepwise.{rowStep, rowSteps};
 ghost use Rattle.magnetar_multilinear.specs.Multilinear.{bindVar};
 ghost use Rattle.magnetar_sumcheck_verifier.specs.Outer.{outerMessage, dropVar};
 ghost use Rattle.magnetar_schedule.specs.Labels.{rowLabel};

@@ -17,7 +17,7 @@ ghost use mathlib.Core.Path.{_≡_};
 ghost use Prim.Native.Nat.{_+_, _*_, _^_, _<_};
 ghost use lib.ListN.{length, take, drop, replicate};
 ghost use Rattle.magnetar_field.specs.Gf128.{value};
-ghost use Rattle.magnetar_protocol.specs.Stepwise.{sharedSteps};
+ghost use Rattle.magnetar_schedule.specs.Stepwise.{sharedSteps};
 ghost use Rattle.magnetar_prover.specs.Entries.{tablesIn, answerFor, proofFor, drawsFor, scratchFor, outerRoundsRefusal, outerPlayed, blockWords};
 ghost use Rattle.magnetar_prover.specs.Held.{stepsIn};
 ghost use Rattle.magnetar_prover.specs.Shared.{sharedIn};

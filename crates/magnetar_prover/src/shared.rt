@@ -13,7 +13,7 @@ ghost use lib.ListN.{length, take, drop};
 ghost use Rattle.magnetar_field.specs.Gf128.{value, _⊕_, _⊗_};
 ghost use Rattle.magnetar_field.specs.Words.{elements, words};
 ghost use Rattle.magnetar_hash.specs.Transcript.{element};
-ghost use Rattle.magnetar_protocol.specs.Stepwise.{sharedStep, sharedSteps};
+ghost use Rattle.magnetar_schedule.specs.Stepwise.{sharedStep, sharedSteps};
 ghost use Rattle.magnetar_prover.specs.Held.{Table};
 ghost use Rattle.magnetar_prover.specs.Shared.{messageIn, Dropped, Folded, sharedIn, Shared};
 

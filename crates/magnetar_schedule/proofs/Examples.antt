@@ -5,7 +5,8 @@ use mathlib.Core.List.{List, [], _∷_}
 use lib.ListN.{length, take, drop}
 use Rattle.magnetar_field.specs.Sizes.{log₂, halvings}
 use Rattle.magnetar_hash.specs.Bytes.{ascii}
-use Rattle.magnetar_protocol.specs.Schedule.{Event, absorb, draw, decimal, numbered, rounds, singles, schedule, outline}
+use Rattle.magnetar_schedule.specs.Schedule.{Event, absorb, draw, decimal, numbered, rounds, singles, schedule}
+use Rattle.magnetar_protocol.specs.Shape.{outline}
 
 -- ---- labels
 digits-0 : decimal 20 0 ≡ ascii "0"

@@ -1,3 +1,15 @@
+pub mod Counts
+pub mod Blocks
+pub mod StepLaws
+pub mod Bindings
+pub mod Proving
+pub mod Stepwise
+pub mod ProverRun
+pub mod RealRuns
+pub mod Absorbed
+pub mod Heard
+pub mod Earlier
+pub mod ProverDraws
 pub mod Spelling
 pub mod Staging
 pub mod Turns

@@ -7,7 +7,7 @@ use native.Mathlib.Omega.{arith}
 use lib.ListN.{length, getD, set, take, drop, length-set, length-drop, drop-of-length-le}
 use lib.Seq.{drop-cons, drop-set-lt, getD-set-same, take-suc, take-length, take-all}
 use borrow.Author.Tests.{lt-ltb, le-ltb}
-use Rattle.magnetar_protocol.specs.Schedule.{decimal}
+use Rattle.magnetar_schedule.specs.Schedule.{decimal}
 
 -- a cell is written in front of what begins behind it
 drop-written : (out : List ℕ) (at x : ℕ) → at < length out → drop at (set out at x) ≡ x ∷ drop (suc at) out

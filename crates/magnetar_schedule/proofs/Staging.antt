@@ -19,8 +19,8 @@ use Rattle.magnetar_hash.specs.Bytes.{wordBytes}
 use Rattle.magnetar_hash.specs.declared.transcript.Transcript.{Transcript}
 use Rattle.magnetar_hash.specs.Transcript.{absorbed, drawn, element}
 use Rattle.magnetar_protocol.specs.Proof.{part}
-use Rattle.magnetar_protocol.specs.Schedule.{Event, absorb, draw}
-use Rattle.magnetar_protocol.specs.Play.{Played, play, playedFrom, start, absorbing, drawing}
+use Rattle.magnetar_schedule.specs.Schedule.{Event, absorb, draw}
+use Rattle.magnetar_schedule.specs.Play.{Played, play, playedFrom, start, absorbing, drawing}
 use Rattle.magnetar_schedule.specs.declared.play.Stage.{Stage}
 use Rattle.magnetar_schedule.specs.Stages.{Written, Adds, Going}
 

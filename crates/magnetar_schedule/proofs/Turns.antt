@@ -7,8 +7,8 @@ use native.Mathlib.Nat.{mul-zero, mul-suc}
 use native.Mathlib.Numerals.{add-one}
 use native.Mathlib.Omega.{arith}
 use lib.ListN.{length, replicate}
-use Rattle.magnetar_protocol.specs.Schedule.{Event, absorb, draw, rounds, singles}
-use Rattle.magnetar_protocol.specs.Play.{Played}
+use Rattle.magnetar_schedule.specs.Schedule.{Event, absorb, draw, rounds, singles}
+use Rattle.magnetar_schedule.specs.Play.{Played}
 use Rattle.magnetar_schedule.specs.declared.play.Stage.{Stage}
 use Rattle.magnetar_schedule.specs.Stages.{Going, Plays}
 

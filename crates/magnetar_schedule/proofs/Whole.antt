@@ -9,8 +9,9 @@ use Rattle.magnetar_field.specs.Sizes.{log₂}
 use Rattle.magnetar_field.specs.Words.{words, overlaid}
 use Rattle.magnetar_hash.specs.Bytes.{ascii}
 use Rattle.magnetar_hash.specs.declared.transcript.Transcript.{Transcript}
-use Rattle.magnetar_protocol.specs.Schedule.{Event, absorb, draw, numbered, rounds, singles, schedule, outline}
-use Rattle.magnetar_protocol.specs.Play.{Played, playedFrom}
+use Rattle.magnetar_schedule.specs.Schedule.{Event, absorb, draw, numbered, rounds, singles, schedule}
+use Rattle.magnetar_protocol.specs.Shape.{outline}
+use Rattle.magnetar_schedule.specs.Play.{Played, playedFrom}
 use Rattle.magnetar_schedule.specs.declared.play.Stage.{Stage}
 use Rattle.magnetar_schedule.specs.Stages.{Going, Plays, OuterPlays, InnerPlays}
 use Rattle.magnetar_schedule.proofs.Staging.{going-start, going-end}

@@ -1,2 +1,6 @@
+pub mod Schedule
+pub mod Play
+pub mod Stepwise
+pub mod RealRun
 pub mod Stages
 pub mod Labels

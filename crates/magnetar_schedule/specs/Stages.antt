@@ -6,8 +6,8 @@ use Prim.Native.Nat.{ℕ, _+_, _*_, _<_, min}
 use lib.ListN.{length, take, drop, replicate}
 use Rattle.magnetar_field.specs.Words.{words, overlaid}
 use Rattle.magnetar_hash.specs.Bytes.{ascii}
-use Rattle.magnetar_protocol.specs.Schedule.{Event, absorb, draw, numbered, rounds, singles}
-use Rattle.magnetar_protocol.specs.Play.{Played, play}
+use Rattle.magnetar_schedule.specs.Schedule.{Event, absorb, draw, numbered, rounds, singles}
+use Rattle.magnetar_schedule.specs.Play.{Played, play}
 use Rattle.magnetar_schedule.specs.declared.play.Stage.{Stage}
 
 -- out is `was` with the words of v over it, of which n have found room

@@ -6,7 +6,7 @@ ghost use lib.ListN.{length, drop};
 ghost use Rattle.magnetar_hash.specs.Bytes.{wordBytes, ascii};
 ghost use Rattle.magnetar_hash.specs.Transcript.{absorbed, drawn, drawnTimes, drawnWords};
 ghost use Rattle.magnetar_schedule.specs.Labels.{rowLabel, tauLabel};
-ghost use Rattle.magnetar_protocol.specs.Schedule.{decimal, numbered};
+ghost use Rattle.magnetar_schedule.specs.Schedule.{decimal, numbered};
 use magnetar_hash::transcript;
 use magnetar_hash::transcript::Transcript;
 

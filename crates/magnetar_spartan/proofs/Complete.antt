@@ -22,9 +22,9 @@ use Rattle.magnetar_protocol.specs.Run.{claims, verdict, ClaimsTrue}
 use Rattle.magnetar_protocol.specs.RunSizes.{SizedRelation, SizedBatch}
 use Rattle.magnetar_protocol.specs.Soundness.{NoBitOutside}
 use Rattle.magnetar_protocol.specs.Prover.{proverWords, proverClaims}
-use Rattle.magnetar_protocol.specs.RealRun.{verifierDraws, verifierTranscript, proverDraws, proverTranscript, sentWords, Agrees}
-use Rattle.magnetar_protocol.proofs.ProverDraws.{sent-length}
-use Rattle.magnetar_protocol.proofs.RealRuns.{completeness-run}
+use Rattle.magnetar_schedule.specs.RealRun.{verifierDraws, verifierTranscript, proverDraws, proverTranscript, sentWords, Agrees}
+use Rattle.magnetar_schedule.proofs.ProverDraws.{sent-length}
+use Rattle.magnetar_schedule.proofs.RealRuns.{completeness-run}
 use Rattle.magnetar_relation.specs.Rules.{Rules, relationOf}
 use Rattle.magnetar_spartan.specs.Refusals.{rulesTests, counterTests, roomOf, wordTests, claimWords, proofWords, verifierRoom, proverRoom, verifyTests, proveTests}
 use Rattle.magnetar_spartan.specs.Outcome.{Proved, batchOf, verifyRefusal, verifyVerdict, verifyOutcome, proveRefusal, proveDraws, proveOutcome}

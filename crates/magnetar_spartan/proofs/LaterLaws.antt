@@ -18,12 +18,11 @@ use Rattle.magnetar_layout.proofs.Noted.{Clear}
 use Rattle.magnetar_matrix.specs.Batch.{Relation, folded, publicFolded}
 use Rattle.magnetar_matrix.specs.Packed.{unpacked}
 use Rattle.magnetar_batch.proofs.Rooms.{back-part, back-put}
-use Rattle.magnetar_protocol.specs.Shape.{logCols, proofElements}
+use Rattle.magnetar_protocol.specs.Shape.{logCols, proofElements, outline}
 use Rattle.magnetar_protocol.specs.Draws.{drawCount}
-use Rattle.magnetar_protocol.specs.Schedule.{outline}
 use Rattle.magnetar_protocol.specs.Rooms.{proverScratch}
-use Rattle.magnetar_protocol.specs.Stepwise.{Steps, begin, innerRun, segmentValue, lowDraws, ended, innerAll}
-use Rattle.magnetar_protocol.proofs.Stepwise.{goes-inner, inner-drawn-length, inner-sent-length}
+use Rattle.magnetar_schedule.specs.Stepwise.{Steps, begin, innerRun, segmentValue, lowDraws, ended, innerAll}
+use Rattle.magnetar_schedule.proofs.Stepwise.{goes-inner, inner-drawn-length, inner-sent-length}
 use Rattle.magnetar_protocol.proofs.Within.{prover-within}
 use Rattle.magnetar_prover.specs.Entries.{counterTest, innerRoundsRefusal, innerPlayed, answerFor, proofFor, drawsFor, scratchFor}
 use Rattle.magnetar_prover.proofs.Guarded.{even-size}

@@ -28,14 +28,14 @@ use Rattle.magnetar_protocol.specs.Checks.{combined}
 use Rattle.magnetar_protocol.specs.Run.{claims}
 use Rattle.magnetar_protocol.specs.RunSizes.{SizedMatrix, Elements}
 use Rattle.magnetar_protocol.specs.Prover.{productTable, proverWords, proverClaims}
-use Rattle.magnetar_protocol.specs.Stepwise.{Steps, Tables, begin, tauSteps, outerAll, drawTimes, sendEach, outerSteps, fldRows, binRows, outerBegin, terminalsLeft, innerAll, innerRun, segmentValue, lowDraws, ended}
-use Rattle.magnetar_protocol.specs.RealRun.{proverDraws, proverTranscript}
-use Rattle.magnetar_protocol.proofs.Blocks.{claims-outlined}
+use Rattle.magnetar_schedule.specs.Stepwise.{Steps, Tables, begin, tauSteps, outerAll, drawTimes, sendEach, outerSteps, fldRows, binRows, outerBegin, terminalsLeft, innerAll, innerRun, segmentValue, lowDraws, ended}
+use Rattle.magnetar_schedule.specs.RealRun.{proverDraws, proverTranscript}
+use Rattle.magnetar_schedule.proofs.Blocks.{claims-outlined}
 use Rattle.magnetar_protocol.proofs.Splits.{combined-split}
-use Rattle.magnetar_protocol.proofs.StepLaws.{behind}
-use Rattle.magnetar_protocol.proofs.Proving.{productTables, outerProving, proving}
-use Rattle.magnetar_protocol.proofs.Stepwise.{proving-after, outer-proving-sent, outer-proving-count}
-use Rattle.magnetar_protocol.proofs.ProverRun.{proving-words, proving-transcript, proving-claims}
+use Rattle.magnetar_schedule.proofs.StepLaws.{behind}
+use Rattle.magnetar_schedule.proofs.Proving.{productTables, outerProving, proving}
+use Rattle.magnetar_schedule.proofs.Stepwise.{proving-after, outer-proving-sent, outer-proving-count}
+use Rattle.magnetar_schedule.proofs.ProverRun.{proving-words, proving-transcript, proving-claims}
 use Rattle.magnetar_prover.specs.Entries.{counterTest, countTests, totalTests, outerDrawn, outerSent, blockWords, tablesOf, outerRoundsRefusal, outerPlayed}
 use Rattle.magnetar_prover.specs.Whole.{outerWhole}
 use Rattle.magnetar_prover.proofs.Joined.{whole-is}

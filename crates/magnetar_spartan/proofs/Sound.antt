@@ -18,10 +18,10 @@ use Rattle.magnetar_protocol.specs.Proof.{segmentValues}
 use Rattle.magnetar_protocol.specs.Draws.{drawsOf}
 use Rattle.magnetar_protocol.specs.Run.{claims, ClaimsTrue}
 use Rattle.magnetar_protocol.specs.RunSizes.{SizedRelation, Elements}
-use Rattle.magnetar_protocol.specs.RealRun.{verifierDraws}
+use Rattle.magnetar_schedule.specs.RealRun.{verifierDraws}
 use Rattle.magnetar_protocol.proofs.SizeFacts.{cut}
 use Rattle.magnetar_protocol.proofs.ClaimParts.{claims-length}
-use Rattle.magnetar_protocol.proofs.Counts.{verifier-count, verifier-elements}
+use Rattle.magnetar_schedule.proofs.Counts.{verifier-count, verifier-elements}
 use Rattle.magnetar_protocol.proofs.Soundness.{soundness}
 use Rattle.magnetar_relation.specs.Rules.{Rules, relationOf}
 use Rattle.magnetar_spartan.specs.Refusals.{claimWords}

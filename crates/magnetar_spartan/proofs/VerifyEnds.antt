@@ -16,9 +16,9 @@ use Rattle.magnetar_layout.specs.Tests.{noted}
 use Rattle.magnetar_matrix.proofs.TableLaws.{elements-words}
 use Rattle.magnetar_matrix.specs.Batch.{Relation, publicFolded}
 use Rattle.magnetar_protocol.specs.Draws.{Draws, drawCount, drawsOf, loginPoint}
-use Rattle.magnetar_protocol.specs.Play.{Played}
+use Rattle.magnetar_schedule.specs.Play.{Played}
 use Rattle.magnetar_protocol.specs.Checks.{combined}
-use Rattle.magnetar_protocol.specs.RealRun.{verifierDraws}
+use Rattle.magnetar_schedule.specs.RealRun.{verifierDraws}
 use Rattle.magnetar_protocol.specs.declared.first.Found.{Found}
 use Rattle.magnetar_verifier.specs.End.{endRefusal, endRoom}
 use Rattle.magnetar_relation.specs.Rules.{Rules, relationOf}

@@ -16,11 +16,11 @@ use Rattle.magnetar_protocol.specs.Shape.{proofElements}
 use Rattle.magnetar_protocol.specs.Draws.{drawsOf, drawCount, loginPoint}
 use Rattle.magnetar_protocol.specs.Checks.{combined}
 use Rattle.magnetar_protocol.specs.Run.{claims}
-use Rattle.magnetar_protocol.specs.RealRun.{verifierDraws, verifierTranscript}
+use Rattle.magnetar_schedule.specs.RealRun.{verifierDraws, verifierTranscript}
 use Rattle.magnetar_protocol.specs.declared.first.Found.{Found}
 use Rattle.magnetar_protocol.specs.Found.{firstFound}
-use Rattle.magnetar_protocol.proofs.Blocks.{claims-outlined}
-use Rattle.magnetar_protocol.proofs.Counts.{verifier-count}
+use Rattle.magnetar_schedule.proofs.Blocks.{claims-outlined}
+use Rattle.magnetar_schedule.proofs.Counts.{verifier-count}
 use Rattle.magnetar_verifier.specs.Outer.{outerChecksRefusal, outerFound, runTests, segmentTests, drawTests, proofTests}
 use Rattle.magnetar_verifier.specs.Outer as checked
 use Rattle.magnetar_verifier.specs.End.{endRefusal, endFound}

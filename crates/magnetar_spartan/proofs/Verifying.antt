@@ -14,14 +14,14 @@ use Rattle.magnetar_matrix.specs.Batch.{Relation, publicFolded}
 use Rattle.magnetar_protocol.specs.Shape.{logLogins}
 use Rattle.magnetar_protocol.specs.Proof.{innerRounds, valueZ, terminals}
 use Rattle.magnetar_protocol.specs.Draws.{Draws, drawsOf, drawCount, loginPoint}
-use Rattle.magnetar_protocol.specs.Schedule.{Event, schedule}
-use Rattle.magnetar_protocol.specs.Play.{Played, playedFrom}
+use Rattle.magnetar_schedule.specs.Schedule.{Event, schedule}
+use Rattle.magnetar_schedule.specs.Play.{Played, playedFrom}
 use Rattle.magnetar_protocol.specs.Checks.{Check, firstRefusal, firstStop, sharedChecks, rowChecks, terminalChecks, innerChecks, innerClaim, combined}
 use Rattle.magnetar_protocol.specs.Run.{verdict}
-use Rattle.magnetar_protocol.specs.RealRun.{verifierDraws, verifierTranscript, stop}
+use Rattle.magnetar_schedule.specs.RealRun.{verifierDraws, verifierTranscript, stop}
 use Rattle.magnetar_protocol.proofs.Phases.{Numbered}
-use Rattle.magnetar_protocol.proofs.Counts.{played-count, schedule-length}
-use Rattle.magnetar_protocol.proofs.Blocks.{outerChecks, laterChecks, later-numbered, verdict-blocks, run-stop-blocks, stop-append, stop-accepted, outlined, schedule-outlined, draws-outlined, shared-outlined, rows-outlined, terminals-outlined, identity-outlined}
+use Rattle.magnetar_schedule.proofs.Counts.{played-count, schedule-length}
+use Rattle.magnetar_schedule.proofs.Blocks.{outerChecks, laterChecks, later-numbered, verdict-blocks, run-stop-blocks, stop-append, stop-accepted, outlined, schedule-outlined, draws-outlined, shared-outlined, rows-outlined, terminals-outlined, identity-outlined}
 use Rattle.magnetar_verifier.specs.End.{endChecks}
 use Rattle.magnetar_relation.specs.Rules.{Rules, relationOf}
 use Rattle.magnetar_field.proofs.Log2.{log₂-lt}

@@ -12,7 +12,7 @@ use Rattle.magnetar_matrix.specs.Batch.{Batch}
 use Rattle.magnetar_matrix.specs.Packed.{unpacked}
 use Rattle.magnetar_protocol.specs.Run.{verdict, claims}
 use Rattle.magnetar_protocol.specs.Prover.{proverWords, proverClaims}
-use Rattle.magnetar_protocol.specs.RealRun.{verifierDraws, verifierTranscript, proverDraws, proverTranscript}
+use Rattle.magnetar_schedule.specs.RealRun.{verifierDraws, verifierTranscript, proverDraws, proverTranscript}
 use Rattle.magnetar_relation.specs.Rules.{Rules, relationOf}
 use Rattle.magnetar_spartan.specs.Refusals.{verifyTests, proveTests, proofWords, claimWords, verifierRoom, proverRoom}
 

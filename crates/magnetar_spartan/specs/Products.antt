@@ -14,7 +14,7 @@ use Rattle.magnetar_matrix.specs.Matrix.{Matrix, System}
 use Rattle.magnetar_matrix.specs.Batch.{Relation}
 use Rattle.magnetar_matrix.specs.Packed.{packedTable}
 use Rattle.magnetar_protocol.specs.RunSizes.{SizedSystem}
-use Rattle.magnetar_protocol.specs.Stepwise.{Tables}
+use Rattle.magnetar_schedule.specs.Stepwise.{Tables}
 use Rattle.magnetar_prover.specs.Entries.{tableAt, blockWords, tablesOf}
 use Rattle.magnetar_relation.specs.declared.shapes.SystemShape.{SystemShape}
 use Rattle.magnetar_relation.specs.declared.shapes.Shapes.{Shapes}

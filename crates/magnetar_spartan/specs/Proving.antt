@@ -15,11 +15,10 @@ use Rattle.magnetar_matrix.specs.Packed.{unpacked}
 use Rattle.magnetar_relation.specs.declared.shapes.Shape.{Shape}
 use Rattle.magnetar_relation.specs.declared.shapes.SystemShape.{SystemShape}
 use Rattle.magnetar_relation.specs.Rules.{Rules}
-use Rattle.magnetar_protocol.specs.Shape.{logCols, beforeInner}
+use Rattle.magnetar_protocol.specs.Shape.{logCols, beforeInner, outline}
 use Rattle.magnetar_protocol.specs.Draws.{drawCount}
 use Rattle.magnetar_protocol.specs.Run.{claims}
-use Rattle.magnetar_protocol.specs.Schedule.{outline}
-use Rattle.magnetar_protocol.specs.Stepwise.{Steps, begin, innerAll}
+use Rattle.magnetar_schedule.specs.Stepwise.{Steps, begin, innerAll}
 use Rattle.magnetar_prover.specs.Entries.{proofFor, drawsFor, scratchFor, blockWords, outerRoundsRefusal, outerPlayed, innerRoundsRefusal, innerPlayed}
 use Rattle.magnetar_spartan.specs.Refusals.{outlineOf, rowsBin, rowsFld, proofWords, claimWords, proverRoom}
 use Rattle.magnetar_spartan.specs.Ready.{Ready}

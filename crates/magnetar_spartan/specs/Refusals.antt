@@ -10,8 +10,7 @@ use Rattle.magnetar_layout.specs.Tests.{Tests, sizeTests, packedTests, publicTe
 use Rattle.magnetar_matrix.specs.Batch.{Relation}
 use Rattle.magnetar_relation.specs.Rules.{Rules}
 use Rattle.magnetar_relation.specs.RuleTests.{ruleTests}
-use Rattle.magnetar_protocol.specs.Shape.{proofElements}
-use Rattle.magnetar_protocol.specs.Schedule.{outline}
+use Rattle.magnetar_protocol.specs.Shape.{proofElements, outline}
 
 -- 4 to 10: the rules
 abbrev pub rulesTests : Rules → Tests

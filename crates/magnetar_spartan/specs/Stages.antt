@@ -13,8 +13,8 @@ use Rattle.magnetar_hash.specs.declared.transcript.Transcript.{Transcript}
 use Rattle.magnetar_matrix.specs.Batch.{Relation}
 use Rattle.magnetar_batch.specs.Entries.{publicInOut}
 use Rattle.magnetar_protocol.specs.Draws.{drawCount}
-use Rattle.magnetar_protocol.specs.Schedule.{schedule}
-use Rattle.magnetar_protocol.specs.Play.{playedFrom}
+use Rattle.magnetar_schedule.specs.Schedule.{schedule}
+use Rattle.magnetar_schedule.specs.Play.{playedFrom}
 use Rattle.magnetar_protocol.specs.declared.first.Found.{Found}
 use Rattle.magnetar_verifier.specs.Outer.{outerFound}
 use Rattle.magnetar_verifier.specs.End.{endFound, endRoom}

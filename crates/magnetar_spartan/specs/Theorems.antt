@@ -12,7 +12,7 @@ use Rattle.magnetar_protocol.specs.Draws.{drawCount}
 use Rattle.magnetar_protocol.specs.Run.{claims, verdict, ClaimsTrue}
 use Rattle.magnetar_protocol.specs.RunSizes.{SizedBatch, EachBelow, Elements}
 use Rattle.magnetar_protocol.specs.Soundness.{NoBitOutside, BadDraw}
-use Rattle.magnetar_protocol.specs.RealRun.{verifierDraws}
+use Rattle.magnetar_schedule.specs.RealRun.{verifierDraws}
 use Rattle.magnetar_relation.specs.Rules.{Rules, relationOf}
 use Rattle.magnetar_spartan.specs.Refusals.{claimWords, proofWords, verifierRoom}
 use Rattle.magnetar_spartan.specs.Outcome.{batchOf, verifyRefusal, verifyOutcome, proveRefusal, proveOutcome}

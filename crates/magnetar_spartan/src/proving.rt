@@ -15,7 +15,7 @@ ghost use lib.ListN.{length, getD};
 ghost use Rattle.magnetar_field.specs.Sizes.{log₂};
 ghost use Rattle.magnetar_field.specs.Tabulate.{tabulate};
 ghost use Rattle.magnetar_field.specs.Words.{elements};
-ghost use Rattle.magnetar_protocol.specs.Schedule.{outline};
+ghost use Rattle.magnetar_protocol.specs.Shape.{outline};
 ghost use Rattle.magnetar_prover.specs.Entries.{innerPlayed};
 ghost use Rattle.magnetar_spartan.specs.Proving.{bare, RunReady, OuterDone, loginAt, FoldReady, FoldLeft, InnerDone, EndLeft, LaterLeft};
 ghost use Rattle.magnetar_spartan.specs.Theorems.{AreWords};

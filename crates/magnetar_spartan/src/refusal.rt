@@ -10,7 +10,7 @@ ghost use Prim.Native.Nat.{_+_, _-_, _*_, _/_, _≤_};
 ghost use lib.ListN.{length};
 ghost use Rattle.magnetar_field.specs.Sizes.{log₂};
 ghost use Rattle.magnetar_layout.specs.Tests.{noted, sizeTests, layoutTests, Sized};
-ghost use Rattle.magnetar_protocol.specs.Schedule.{outline};
+ghost use Rattle.magnetar_protocol.specs.Shape.{outline};
 ghost use Rattle.magnetar_spartan.specs.Refusals.{counterTests};
 ghost use Rattle.magnetar_spartan.specs.Numbers.{verifyRooms, proveRooms, verifyTestsBy, proveTestsBy};
 

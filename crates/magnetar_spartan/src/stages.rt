@@ -16,7 +16,7 @@ ghost use mathlib.Core.Path.{_≡_};
 ghost use mathlib.Core.List.{[]};
 ghost use Prim.Native.Nat.{_*_, _≤_};
 ghost use lib.ListN.{length};
-ghost use Rattle.magnetar_protocol.specs.Schedule.{outline};
+ghost use Rattle.magnetar_protocol.specs.Shape.{outline};
 ghost use Rattle.magnetar_relation.specs.Steps.{clearedTo};
 ghost use Rattle.magnetar_spartan.specs.Outcome.{verified};
 ghost use Rattle.magnetar_spartan.specs.Stages.{playedTo, drawnOf, drawnBack, laidBehind, laidAt, begunUnless, checkedAt, roomElements, finishedUnless};

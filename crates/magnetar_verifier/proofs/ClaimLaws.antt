@@ -19,11 +19,10 @@ use Rattle.magnetar_sumcheck_prover.proofs.EqFactor.{point-at, length-point}
 use Rattle.magnetar_matrix.specs.Batch.{Relation}
 use Rattle.magnetar_layout.specs.Tests.{Tests, note, noted, roomTest}
 use Rattle.magnetar_layout.proofs.Noted.{noted-clear, noted-front, noted-rest}
-use Rattle.magnetar_protocol.specs.Shape.{logLogins, logBin, logFld, logCols, beforeEnd, proofElements}
+use Rattle.magnetar_protocol.specs.Shape.{logLogins, logBin, logFld, logCols, beforeEnd, proofElements, outline}
 use Rattle.magnetar_protocol.specs.Proof.{part, segmentValues}
 use Rattle.magnetar_protocol.specs.Draws.{drawCount, drawsOf, loginPoint, lowPoint}
 use Rattle.magnetar_protocol.specs.Run.{claims}
-use Rattle.magnetar_protocol.specs.Schedule.{outline}
 use Rattle.magnetar_verifier.specs.Steps.{drawTotal, proofTotal}
 use Rattle.magnetar_verifier.specs.ClaimSteps.{claimAt, claimsRefusalOf}
 use Rattle.magnetar_verifier.specs.Outer.{runTests, segmentTests, drawTests, proofTests}

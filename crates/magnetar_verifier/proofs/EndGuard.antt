@@ -19,7 +19,7 @@ use Rattle.magnetar_layout.specs.Entries.{layoutRefusal}
 use Rattle.magnetar_layout.proofs.Noted.{noted-clear, noted-front, noted-rest, noted-late}
 use Rattle.magnetar_layout.proofs.SizeLaws.{sized}
 use Rattle.magnetar_layout.proofs.Laid.{sound}
-use Rattle.magnetar_protocol.specs.Schedule.{outline}
+use Rattle.magnetar_protocol.specs.Shape.{outline}
 use Rattle.magnetar_protocol.specs.declared.first.Found.{Found}
 use Rattle.magnetar_protocol.specs.Found.{firstFound}
 use Rattle.magnetar_protocol.specs.Found.{nothing, after}

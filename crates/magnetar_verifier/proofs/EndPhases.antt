@@ -20,12 +20,11 @@ use Rattle.magnetar_sumcheck_verifier.specs.Inner.{innerEnd}
 use Rattle.magnetar_matrix.specs.Batch.{Relation}
 use Rattle.magnetar_layout.specs.Layout.{localVars, suffix}
 use Rattle.magnetar_r1cs.proofs.Points.{log-most}
-use Rattle.magnetar_protocol.specs.Shape.{logLogins, logBin, logFld, logCols, beforeEnd, proofElements}
+use Rattle.magnetar_protocol.specs.Shape.{logLogins, logBin, logFld, logCols, beforeEnd, proofElements, afterAlphas, afterInner}
 use Rattle.magnetar_protocol.specs.Proof.{part, terminals, innerRounds, valueZ, segmentValues}
 use Rattle.magnetar_protocol.specs.Draws.{Draws, drawsOf, lowPoint, topElement}
 use Rattle.magnetar_protocol.specs.Checks.{Check, roundHolds, innerClaim, combined, segmentSum, innerChecks, identityCheck}
 use Rattle.magnetar_layout.specs.Tests.{Sized}
-use Rattle.magnetar_protocol.specs.Schedule.{afterAlphas, afterInner}
 use Rattle.magnetar_protocol.proofs.Phases.{Numbered, numbered-append, numbered-tabulate}
 use Rattle.magnetar_protocol.specs.declared.first.Found.{Found}
 use Rattle.magnetar_protocol.specs.Found.{firstFound}

@@ -11,7 +11,7 @@ use Rattle.magnetar_field.specs.Words.{elements}
 use Rattle.magnetar_field.proofs.Elements.{elements-length}
 use Rattle.magnetar_layout.specs.Tests.{Tests, noted}
 use Rattle.magnetar_layout.proofs.Noted.{noted-front, noted-rest}
-use Rattle.magnetar_protocol.specs.Schedule.{outline}
+use Rattle.magnetar_protocol.specs.Shape.{outline}
 use Rattle.magnetar_protocol.specs.declared.first.Found.{Found}
 use Rattle.magnetar_protocol.specs.Found.{nothing, after}
 use Rattle.magnetar_verifier.specs.Steps.{refusalOf, outerPhases}

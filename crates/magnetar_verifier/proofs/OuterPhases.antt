@@ -15,11 +15,10 @@ use Rattle.magnetar_sumcheck_verifier.specs.Round.{holds, running}
 use Rattle.magnetar_sumcheck_verifier.specs.Order.{eqPoints}
 use Rattle.magnetar_sumcheck_verifier.specs.Outer.{outerEnd}
 use Rattle.magnetar_matrix.specs.Batch.{Relation}
-use Rattle.magnetar_protocol.specs.Shape.{logLogins, logBin, logFld, beforeTerminals}
+use Rattle.magnetar_protocol.specs.Shape.{logLogins, logBin, logFld, beforeTerminals, afterTaus, afterShared, afterBin}
 use Rattle.magnetar_protocol.specs.Proof.{part, binMessages, fldMessages, terminal}
 use Rattle.magnetar_protocol.specs.Draws.{Draws, drawCount, drawsOf, loginPoint}
 use Rattle.magnetar_protocol.specs.Checks.{Check, roundHolds, sharedChecks, rowChecks, terminalChecks, binRound, fldRound}
-use Rattle.magnetar_protocol.specs.Schedule.{afterTaus, afterShared, afterBin}
 use Rattle.magnetar_protocol.proofs.Phases.{Numbered, numbered-append, numbered-tabulate}
 use Rattle.magnetar_protocol.specs.declared.first.Found.{Found}
 use Rattle.magnetar_protocol.specs.Found.{firstFound}

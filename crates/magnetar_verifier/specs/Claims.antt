@@ -7,8 +7,7 @@ use Rattle.magnetar_field.specs.Refusal.{unlessRefused}
 use Rattle.magnetar_field.specs.Words.{elements, words}
 use Rattle.magnetar_matrix.specs.Batch.{Relation}
 use Rattle.magnetar_layout.specs.Tests.{noted, roomTest}
-use Rattle.magnetar_protocol.specs.Shape.{logLogins, logCols}
-use Rattle.magnetar_protocol.specs.Schedule.{outline}
+use Rattle.magnetar_protocol.specs.Shape.{logLogins, logCols, outline}
 use Rattle.magnetar_protocol.specs.Run.{claims}
 use Rattle.magnetar_verifier.specs.Outer.{runTests, segmentTests, drawTests, proofTests}
 

@@ -9,7 +9,7 @@ use Rattle.magnetar_field.specs.Words.{elements}
 use Rattle.magnetar_matrix.specs.Batch.{Relation}
 use Rattle.magnetar_layout.specs.Tests.{noted, sizeTests, rowsTests, layoutTests, roomTest}
 use Rattle.magnetar_protocol.specs.Draws.{Draws, drawsOf}
-use Rattle.magnetar_protocol.specs.Schedule.{outline}
+use Rattle.magnetar_protocol.specs.Shape.{outline}
 use Rattle.magnetar_protocol.specs.Checks.{Check, innerChecks, identityCheck}
 use Rattle.magnetar_protocol.specs.declared.first.Found.{Found}
 use Rattle.magnetar_protocol.specs.Found.{firstFound, unlessBad}

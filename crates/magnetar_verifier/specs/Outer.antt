@@ -8,9 +8,8 @@ use lib.ListN.{length}
 use Rattle.magnetar_field.specs.Words.{elements}
 use Rattle.magnetar_matrix.specs.Batch.{Relation}
 use Rattle.magnetar_layout.specs.Tests.{Tests, noted, sizeTests, rowsTests}
-use Rattle.magnetar_protocol.specs.Shape.{logLogins, proofElements}
+use Rattle.magnetar_protocol.specs.Shape.{logLogins, proofElements, outline}
 use Rattle.magnetar_protocol.specs.Draws.{Draws, drawCount, drawsOf}
-use Rattle.magnetar_protocol.specs.Schedule.{outline}
 use Rattle.magnetar_protocol.specs.Checks.{Check, sharedChecks, rowChecks, terminalChecks}
 use Rattle.magnetar_protocol.specs.declared.first.Found.{Found}
 use Rattle.magnetar_protocol.specs.Found.{firstFound, unlessBad}

@@ -3,7 +3,7 @@
 use Prim.Native.Nat.{ℕ}
 use Rattle.magnetar_field.specs.Gf128.{value}
 use Rattle.magnetar_field.specs.Words.{elements}
-use Rattle.magnetar_protocol.specs.Schedule.{numbered}
+use Rattle.magnetar_schedule.specs.Schedule.{numbered}
 use Rattle.magnetar_prover.proofs.Sent.{drawn-more, one-absorbed}
 use Rattle.magnetar_prover.specs.Held.{absorbedOne}
 use borrow.Author.Needs.{needs}

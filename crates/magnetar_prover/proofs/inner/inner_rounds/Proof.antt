@@ -3,7 +3,7 @@
 use Prim.Native.Nat.{_*_, _+_, _/_, ℕ}
 use Rattle.magnetar_field.specs.Words.{overlaid, words}
 use Rattle.magnetar_hash.specs.declared.transcript.Transcript.{Transcript}
-use Rattle.magnetar_protocol.specs.Stepwise.{Steps}
+use Rattle.magnetar_schedule.specs.Stepwise.{Steps}
 use Rattle.magnetar_layout.proofs.Noted.{done, turned}
 use Rattle.magnetar_prover.proofs.Entered.{entered, laid-over}
 use Rattle.magnetar_prover.proofs.Guarded.{inner-fits, ready}

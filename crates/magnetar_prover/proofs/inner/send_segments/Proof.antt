@@ -3,7 +3,7 @@
 use Prim.Native.Nat.{_*_, _+_, _-_, _≤_, ℕ}
 use Rattle.magnetar_field.specs.Tabulate.{tabulate}
 use Rattle.magnetar_field.specs.Words.{elements}
-use Rattle.magnetar_protocol.specs.Schedule.{numbered}
+use Rattle.magnetar_schedule.specs.Schedule.{numbered}
 use Rattle.magnetar_prover.proofs.Segments.{Each, each-done, each-more, each-start-at}
 use Rattle.magnetar_prover.specs.Entries.{tableAt}
 use Rattle.magnetar_prover.specs.Held.{absorbedOne, sentIn, segmentIn}

@@ -8,7 +8,7 @@ use lib.Seq.{length-take-le}
 use denote.Ref.{now}
 use Rattle.magnetar_field.specs.Words.{overlaid, words}
 use Rattle.magnetar_hash.specs.declared.transcript.Transcript.{Transcript}
-use Rattle.magnetar_protocol.specs.Stepwise.{Steps}
+use Rattle.magnetar_schedule.specs.Stepwise.{Steps}
 use Rattle.magnetar_layout.proofs.Noted.{done, turned}
 use Rattle.magnetar_prover.proofs.Entered.{laid-over}
 use Rattle.magnetar_prover.proofs.OuterGuard.{outer-fits, blocks-lent, logins-few, bin-few, fld-few}

@@ -6,7 +6,7 @@ use Rattle.magnetar_field.specs.Gf128.{value}
 use Rattle.magnetar_field.specs.Words.{elements}
 use Rattle.magnetar_hash.specs.Bytes.{wordBytes}
 use Rattle.magnetar_hash.specs.Transcript as transcript
-use Rattle.magnetar_protocol.specs.Schedule.{numbered}
+use Rattle.magnetar_schedule.specs.Schedule.{numbered}
 use Rattle.magnetar_prover.proofs.SharedSteps.{high-table, shared-done}
 use Rattle.magnetar_prover.proofs.Slots.{part-is}
 use borrow.Author.Needs.{needs}

@@ -1,7 +1,7 @@
 -- `magnetar_schedule::events::shared_round` meets its contract.
 -- Assumes nothing.
 use Rattle.magnetar_hash.specs.Bytes.{ascii}
-use Rattle.magnetar_protocol.specs.Schedule.{numbered}
+use Rattle.magnetar_schedule.specs.Schedule.{numbered}
 use borrow.Author.Needs.{needs}
 use Rattle.magnetar_schedule.proofs.events.shared_round.Statement.{statement}
 use Rattle.magnetar_schedule.proofs.events.shared_round.Tie as tie

@@ -2,7 +2,7 @@
 -- Assumes nothing.
 use mathlib.Core.Path.{_∙_}
 use Rattle.magnetar_hash.specs.Bytes.{ascii}
-use Rattle.magnetar_protocol.specs.Schedule.{numbered}
+use Rattle.magnetar_schedule.specs.Schedule.{numbered}
 use Rattle.magnetar_schedule.proofs.Whole.{outer-all}
 use borrow.Author.Needs.{needs}
 use Rattle.magnetar_schedule.proofs.play.outer.Statement.{statement}

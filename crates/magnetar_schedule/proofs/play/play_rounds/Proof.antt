@@ -4,7 +4,7 @@ use mathlib.Core.List.{_++_}
 use Prim.Native.Nat.{_-_, _≤_}
 use lib.ListN.{length}
 use Rattle.magnetar_field.specs.Words.{elements}
-use Rattle.magnetar_protocol.specs.Schedule.{decimal}
+use Rattle.magnetar_schedule.specs.Schedule.{decimal}
 use native.Mathlib.Omega.{arith}
 use Rattle.magnetar_schedule.proofs.Turns.{Rounds, rounds-start, rounds-more, rounds-end}
 use borrow.Author.Needs.{needs}

@@ -7,7 +7,7 @@ use denote.Ref.{now}
 use Rattle.magnetar_layout.specs.Tests.{Tests, noted, sizeTests, publicTestsOf}
 use Rattle.magnetar_layout.proofs.Noted.{noted-front, noted-late}
 use Rattle.magnetar_matrix.specs.Batch.{Relation}
-use Rattle.magnetar_protocol.specs.Schedule.{outline}
+use Rattle.magnetar_protocol.specs.Shape.{outline}
 use Rattle.magnetar_spartan.specs.Numbers.{laidTests, verifyRooms}
 use Rattle.magnetar_spartan.proofs.Chains.{log-least}
 use Rattle.magnetar_spartan.proofs.ByNumbers.{Sizes, sizes-of, few-segments}

@@ -2,7 +2,7 @@
 -- Assumes nothing.
 use denote.Ref.{now}
 use Rattle.magnetar_matrix.specs.Batch.{Relation}
-use Rattle.magnetar_protocol.specs.Schedule.{outline}
+use Rattle.magnetar_protocol.specs.Shape.{outline}
 use Rattle.magnetar_spartan.proofs.StageLaws.{part-is, begun-is, begun-back}
 use borrow.Author.Needs.{needs}
 use Rattle.magnetar_spartan.proofs.stages.begin.Statement.{statement}

@@ -6,7 +6,7 @@ use Prim.Native.Nat.{ℕ, _-_}
 use lib.ListN.{take}
 use denote.Ref.{now}
 use Rattle.magnetar_matrix.specs.Batch.{Relation}
-use Rattle.magnetar_protocol.specs.Schedule.{outline}
+use Rattle.magnetar_protocol.specs.Shape.{outline}
 use Rattle.magnetar_spartan.specs.Stages.{drawnOf}
 use Rattle.magnetar_spartan.proofs.StageLaws.{part-is, stop-first, stop-later, stop-none}
 use borrow.Author.Needs.{needs}

@@ -5,7 +5,7 @@ use mathlib.Core.List.{[]}
 use Prim.Native.Nat.{ℕ, _+_, _*_}
 use native.Mathlib.Omega.{arith}
 use denote.Ref.{now}
-use Rattle.magnetar_protocol.specs.Schedule.{outline}
+use Rattle.magnetar_protocol.specs.Shape.{outline}
 use Rattle.magnetar_relation.specs.Steps.{clearedTo}
 use Rattle.magnetar_relation.proofs.StepLaws.{cleared-none}
 use Rattle.magnetar_spartan.specs.Stages.{roomElements}

@@ -3,7 +3,7 @@
 use native.Mathlib.Omega.{arith}
 use denote.Ref.{now}
 use Rattle.magnetar_matrix.specs.Batch.{Relation}
-use Rattle.magnetar_protocol.specs.Schedule.{outline}
+use Rattle.magnetar_protocol.specs.Shape.{outline}
 use Rattle.magnetar_spartan.proofs.StageLaws.{finish-is, finish-back}
 use borrow.Author.Needs.{needs}
 use Rattle.magnetar_spartan.proofs.stages.finish.Statement.{statement}

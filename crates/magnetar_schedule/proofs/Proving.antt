@@ -5,10 +5,10 @@ use mathlib.Core.List.{List}
 use Prim.Native.Nat.{ℕ, _/_}
 use Rattle.magnetar_hash.specs.declared.transcript.Transcript.{Transcript}
 use Rattle.magnetar_matrix.specs.Batch.{Relation, Batch, folded, publicFolded}
 use Rattle.magnetar_protocol.specs.Draws.{Draws, drawsOf, loginPoint}
 use Rattle.magnetar_protocol.specs.Checks.{combined}
 use Rattle.magnetar_protocol.specs.Prover.{productTable}
-use Rattle.magnetar_protocol.specs.Stepwise.{Steps, Tables, tauSteps, outerAll, innerAll}
+use Rattle.magnetar_schedule.specs.Stepwise.{Steps, Tables, tauSteps, outerAll, innerAll}
 
 -- the products of the six matrices and the z of every login
 abbrev pub productTables : Relation → Batch → List ℕ → Tables

@@ -9,19 +9,19 @@ use lib.Seq.{take-length}
 use Rattle.magnetar_hash.specs.declared.transcript.Transcript.{Transcript}
 use Rattle.magnetar_matrix.specs.Batch.{Relation, Batch, Good}
 use Rattle.magnetar_theory.specs.Count.{naturalSum}
 use Rattle.magnetar_protocol.specs.Shape.{logLogins, logBin, logFld, logCols, proofElements}
-use Rattle.magnetar_protocol.specs.Schedule.{Event, schedule}
-use Rattle.magnetar_protocol.specs.Play.{playedFrom}
+use Rattle.magnetar_schedule.specs.Schedule.{Event, schedule}
+use Rattle.magnetar_schedule.specs.Play.{playedFrom}
 use Rattle.magnetar_protocol.specs.Run.{verdict, claims, ClaimsTrue}
 use Rattle.magnetar_protocol.specs.RunSizes.{SizedRelation, SizedBatch, Elements}
 use Rattle.magnetar_protocol.specs.Soundness.{NoBitOutside, badDraws, absorbedBefore, BadDraw}
 use Rattle.magnetar_protocol.specs.Prover.{proverClaims, CompleteRun}
-use Rattle.magnetar_protocol.specs.RealRun.{verifierDraws, verifierTranscript, proverDraws, proverTranscript, sentWords, Agrees}
+use Rattle.magnetar_schedule.specs.RealRun.{verifierDraws, verifierTranscript, proverDraws, proverTranscript, sentWords, Agrees}
 use Rattle.magnetar_protocol.proofs.Soundness.{soundness, all-lists}
 use Rattle.magnetar_protocol.proofs.Completeness.{completeness}
-use Rattle.magnetar_protocol.proofs.Counts.{verifier-count, verifier-elements}
-use Rattle.magnetar_protocol.proofs.Blocks.{stop-accepted}
-use Rattle.magnetar_protocol.proofs.ProverDraws.{prover-count, prover-elements, drawn-again}
+use Rattle.magnetar_schedule.proofs.Counts.{verifier-count, verifier-elements}
+use Rattle.magnetar_schedule.proofs.Blocks.{stop-accepted}
+use Rattle.magnetar_schedule.proofs.ProverDraws.{prover-count, prover-elements, drawn-again}
 
 -- Where a verifier accepts whose draws are those of its transcript, no bit is set outside the segments and every returned claim is
 -- true of the batch, the batch is good, or some draw lies in its list of at most three elements.

@@ -14,17 +14,17 @@ use Rattle.magnetar_hash.specs.Bytes.{ascii}
 use Rattle.magnetar_hash.specs.declared.transcript.Transcript.{Transcript}
 use Rattle.magnetar_sumcheck_verifier.specs.Messages.{Outer, outerStart, outerMessages, innerMessages}
 use Rattle.magnetar_matrix.specs.Batch.{Relation, Batch, folded, publicFolded}
 use Rattle.magnetar_protocol.specs.Shape.{logLogins, logBin, logFld, logCols, beforeTerminals, beforeInner}
 use Rattle.magnetar_protocol.specs.Draws.{Draws, drawCount, drawsOf, loginPoint}
-use Rattle.magnetar_protocol.specs.Schedule.{Event, absorb, draw, numbered, rounds, singles, schedule}
-use Rattle.magnetar_protocol.specs.Play.{playedFrom}
+use Rattle.magnetar_schedule.specs.Schedule.{Event, absorb, draw, numbered, rounds, singles, schedule}
+use Rattle.magnetar_schedule.specs.Play.{playedFrom}
 use Rattle.magnetar_protocol.specs.Checks.{combined}
 use Rattle.magnetar_protocol.specs.Prover.{joined, inTurn}
-use Rattle.magnetar_protocol.specs.Stepwise.{Steps, begin, send, drawTimes, sendEach, OuterSteps, sharedSteps, RowSteps, rowSteps, InnerSteps, Tables, tauSteps, outerBegin, binRows, fldRows, outerSteps, terminalsLeft, outerAll, innerRun, segmentValue, lowDraws, ended, innerAll}
-use Rattle.magnetar_protocol.proofs.Proving.{productTables, outerProving, outerDraws, proving}
+use Rattle.magnetar_schedule.specs.Stepwise.{Steps, begin, send, drawTimes, sendEach, OuterSteps, sharedSteps, RowSteps, rowSteps, InnerSteps, Tables, tauSteps, outerBegin, binRows, fldRows, outerSteps, terminalsLeft, outerAll, innerRun, segmentValue, lowDraws, ended, innerAll}
+use Rattle.magnetar_schedule.proofs.Proving.{productTables, outerProving, outerDraws, proving}
 use Rattle.magnetar_protocol.proofs.Chunks.{joined-length, inTurn-length, past}
 use Rattle.magnetar_protocol.proofs.HonestParts.{outer-each, outer-count, inner-each, inner-count}
-use Rattle.magnetar_protocol.proofs.StepLaws.{Goes, goes-none, goes-then, goes-send, goes-each, DrawsMany, draws-many, folds, SharedRounds, shared-rounds, RowRounds, row-rounds, InnerRounds, inner-rounds, binds, behind, inner-all-after}
+use Rattle.magnetar_schedule.proofs.StepLaws.{Goes, goes-none, goes-then, goes-send, goes-each, DrawsMany, draws-many, folds, SharedRounds, shared-rounds, RowRounds, row-rounds, InnerRounds, inner-rounds, binds, behind, inner-all-after}
 
 -- where steps that start at n elements end
 ends : {es : List Event} {p q : Steps} {rs v : List ℕ} (n k : ℕ) → Goes es p q rs v → length (p .sent) ≡ n → length v ≡ k

@@ -23,28 +23,28 @@ use Rattle.magnetar_matrix.specs.Sum.{blocks}
 use Rattle.magnetar_matrix.specs.Matrix.{Entry, Matrix, System, sumOver, rowTotal, share, timesAt, times}
 use Rattle.magnetar_matrix.specs.Batch.{Relation, Batch, folded, publicFolded}
 use Rattle.magnetar_layout.specs.Layout.{offset}
 use Rattle.magnetar_protocol.specs.Shape.{logLogins, logCols}
 use Rattle.magnetar_protocol.specs.Draws.{Draws, loginPoint, lowPoint}
-use Rattle.magnetar_protocol.specs.Schedule.{schedule}
-use Rattle.magnetar_protocol.specs.Play.{Played, playedFrom}
+use Rattle.magnetar_schedule.specs.Schedule.{schedule}
+use Rattle.magnetar_schedule.specs.Play.{Played, playedFrom}
 use Rattle.magnetar_protocol.specs.Checks.{combined}
 use Rattle.magnetar_protocol.specs.Run.{trueValue, claims}
 use Rattle.magnetar_protocol.specs.RunSizes.{SizedSystem, SizedRelation, SizedBatch, Elements}
 use Rattle.magnetar_protocol.specs.Theory.{logHalf}
 use Rattle.magnetar_protocol.specs.Prover.{joined, inTurn, productTable, outerRounds, binRounds, fldRounds, terminalValues, foldedZ, trueValues, honestWords, proverWords, proverClaims}
-use Rattle.magnetar_protocol.specs.Stepwise.{segmentValue}
-use Rattle.magnetar_protocol.specs.RealRun.{verifierDraws, proverDraws, proverTranscript, sentWords}
-use Rattle.magnetar_protocol.proofs.Proving.{productTables, outerDraws, proving}
+use Rattle.magnetar_schedule.specs.Stepwise.{segmentValue}
+use Rattle.magnetar_schedule.specs.RealRun.{verifierDraws, proverDraws, proverTranscript, sentWords}
+use Rattle.magnetar_schedule.proofs.Proving.{productTables, outerDraws, proving}
 use Rattle.magnetar_protocol.proofs.LayoutLaws.{Placed, placed}
 use Rattle.magnetar_protocol.proofs.SegmentSums.{pow-le}
 use Rattle.magnetar_protocol.proofs.SizeFacts.{cols-suc, half-pow, Cut, low-size}
 use Rattle.magnetar_protocol.proofs.HonestTables.{product-length, foldedZ-length}
 use Rattle.magnetar_protocol.proofs.HonestParts.{outer-count}
 use Rattle.magnetar_protocol.proofs.HonestBelow.{elements-of, both, tabulate-below}
-use Rattle.magnetar_protocol.proofs.StepLaws.{folds, messages-append, binds}
-use Rattle.magnetar_protocol.proofs.Bindings.{binds-left, left-a, left-b, left-c, segment-is, folded-elements}
-use Rattle.magnetar_protocol.proofs.Stepwise.{shared, tau-bin-length, tau-fld-length, shared-length, row-bin-length, row-fld-length, alpha-length, leftOf, binAtStart, fldAtStart, ends-bin, ends-fld, outerSent, inner-of, inner-of-length, lastSent, proving-sent, plays-the-same, outer-parts, parts, parts-are}
-use Rattle.magnetar_protocol.proofs.ProverDraws.{drawn-only, prover-claims}
+use Rattle.magnetar_schedule.proofs.StepLaws.{folds, messages-append, binds}
+use Rattle.magnetar_schedule.proofs.Bindings.{binds-left, left-a, left-b, left-c, segment-is, folded-elements}
+use Rattle.magnetar_schedule.proofs.Stepwise.{shared, tau-bin-length, tau-fld-length, shared-length, row-bin-length, row-fld-length, alpha-length, leftOf, binAtStart, fldAtStart, ends-bin, ends-fld, outerSent, inner-of, inner-of-length, lastSent, proving-sent, plays-the-same, outer-parts, parts, parts-are}
+use Rattle.magnetar_schedule.proofs.ProverDraws.{drawn-only, prover-claims}
 
 -- ---- the products are elements
 sum-over-lt : (f : Entry → ℕ) (es : List Entry) → ((e : Entry) → f e < 2 ^ 128) → sumOver f es < 2 ^ 128

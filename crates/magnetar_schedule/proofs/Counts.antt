@@ -19,13 +19,14 @@ use Rattle.magnetar_hash.specs.Transcript.{element, drawn}
 use Rattle.magnetar_hash.proofs.Squeeze.{length-squeezed, get-squeezed}
 use Rattle.magnetar_matrix.specs.Batch.{Relation}
 use Rattle.magnetar_matrix.proofs.Digits.{value-lt}
 use Rattle.magnetar_protocol.specs.Proof.{part}
 use Rattle.magnetar_protocol.specs.Draws.{drawCount}
-use Rattle.magnetar_protocol.specs.Schedule.{Event, absorb, draw, rounds, singles, schedule, afterInner}
-use Rattle.magnetar_protocol.specs.Play.{Played, start, absorbing, drawing, play, playedFrom}
+use Rattle.magnetar_schedule.specs.Schedule.{Event, absorb, draw, rounds, singles, schedule}
+use Rattle.magnetar_protocol.specs.Shape.{afterInner}
+use Rattle.magnetar_schedule.specs.Play.{Played, start, absorbing, drawing, play, playedFrom}
 use Rattle.magnetar_protocol.specs.RunSizes.{Elements}
-use Rattle.magnetar_protocol.specs.RealRun.{verifierDraws}
+use Rattle.magnetar_schedule.specs.RealRun.{verifierDraws}
 use Rattle.magnetar_protocol.proofs.HonestBelow.{elements-of, both}
 
 -- ---- part after part
 pub play-append : (w : List ℕ) (a b : List Event) (p : Played) → play w (a ++ b) p ≡ play w b (play w a p)

@@ -16,9 +16,9 @@ use Rattle.magnetar_sumcheck_verifier.specs.Inner.{innerMessage}
 use Rattle.magnetar_sumcheck_verifier.specs.Messages.{Outer, outerStart, outerNext, outerFold}
 use Rattle.magnetar_matrix.specs.Batch.{Relation}
 use Rattle.magnetar_layout.specs.Layout.{offset, localVars}
 use Rattle.magnetar_protocol.specs.Shape.{logLogins, logBin, logFld, logCols}
-use Rattle.magnetar_protocol.specs.Schedule.{numbered}
-use Rattle.magnetar_protocol.specs.Play.{Played, start, absorbing, drawing}
+use Rattle.magnetar_schedule.specs.Schedule.{numbered}
+use Rattle.magnetar_schedule.specs.Play.{Played, start, absorbing, drawing}
 
 -- the run so far: the transcript with the draws, and the proof's elements
 pub record Steps : Type 0 where

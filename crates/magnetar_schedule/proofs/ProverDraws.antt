@@ -8,19 +8,19 @@ use lib.ListN.{length, take}
 use lib.Seq.{take-all}
 use Rattle.magnetar_hash.specs.declared.transcript.Transcript.{Transcript}
 use Rattle.magnetar_matrix.specs.Batch.{Relation, Batch}
 use Rattle.magnetar_protocol.specs.Shape.{proofElements}
 use Rattle.magnetar_protocol.specs.Draws.{drawCount, drawsOf, loginPoint, lowPoint}
-use Rattle.magnetar_protocol.specs.Schedule.{schedule}
-use Rattle.magnetar_protocol.specs.Play.{start}
+use Rattle.magnetar_schedule.specs.Schedule.{schedule}
+use Rattle.magnetar_schedule.specs.Play.{start}
 use Rattle.magnetar_protocol.specs.Run.{claims}
 use Rattle.magnetar_protocol.specs.RunSizes.{Elements}
 use Rattle.magnetar_protocol.specs.Prover.{proverWords, proverClaims}
-use Rattle.magnetar_protocol.specs.RealRun.{verifierDraws, drawsAfter, proverDraws, sentWords}
+use Rattle.magnetar_schedule.specs.RealRun.{verifierDraws, drawsAfter, proverDraws, sentWords}
 use Rattle.magnetar_protocol.proofs.SizeFacts.{cut}
 use Rattle.magnetar_protocol.proofs.HonestParts.{segment-part, honest-length}
-use Rattle.magnetar_protocol.proofs.Counts.{verifier-count, verifier-elements}
-use Rattle.magnetar_protocol.proofs.Heard.{Says, schedule-same, play-same}
-use Rattle.magnetar_protocol.proofs.Earlier.{first-say, words-say}
+use Rattle.magnetar_schedule.proofs.Counts.{verifier-count, verifier-elements}
+use Rattle.magnetar_schedule.proofs.Heard.{Says, schedule-same, play-same}
+use Rattle.magnetar_schedule.proofs.Earlier.{first-say, words-say}
 
 module _ (r : Relation) (b : Batch) (x : List ℕ) (t : Transcript) where
   -- what a verifier draws who is given the honest words at d

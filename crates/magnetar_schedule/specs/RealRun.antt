@@ -6,12 +6,12 @@ use Prim.Native.Nat.{ℕ, zero, suc}
 use lib.ListN.{length, take}
 use Rattle.magnetar_hash.specs.declared.transcript.Transcript.{Transcript}
 use Rattle.magnetar_matrix.specs.Batch.{Relation, Batch}
 use Rattle.magnetar_protocol.specs.Draws.{drawCount, drawsOf}
-use Rattle.magnetar_protocol.specs.Schedule.{schedule}
-use Rattle.magnetar_protocol.specs.Play.{playedFrom}
+use Rattle.magnetar_schedule.specs.Schedule.{schedule}
+use Rattle.magnetar_schedule.specs.Play.{playedFrom}
 use Rattle.magnetar_protocol.specs.Checks.{checks, firstStop}
 use Rattle.magnetar_protocol.specs.Run.{verdict, claims, ClaimsTrue}
 use Rattle.magnetar_protocol.specs.Prover.{proverWords, proverClaims}
 
 -- ---- the verifier, given the public columns x, the proof's elements w and the transcript t
 -- the elements that it draws

@@ -12,12 +12,12 @@ use lib.Seq.{take-length, take-at, take-take}
 use borrow.Author.Tests.{ltb-true, ltb-false}
 use Rattle.magnetar_hash.specs.Bytes.{ascii}
 use Rattle.magnetar_matrix.specs.Batch.{Relation}
-use Rattle.magnetar_protocol.specs.Shape.{logLogins, logBin, logFld, logCols, beforeTerminals, beforeInner, beforeEnd}
+use Rattle.magnetar_protocol.specs.Shape.{logLogins, logBin, logFld, logCols, beforeTerminals, beforeInner, beforeEnd, afterTaus}
 use Rattle.magnetar_protocol.specs.Draws.{drawCount}
 use Rattle.magnetar_protocol.specs.Proof.{part}
-use Rattle.magnetar_protocol.specs.Schedule.{Event, absorb, draw, numbered, rounds, singles, schedule, afterTaus}
-use Rattle.magnetar_protocol.specs.Play.{Played, absorbing, drawing, play}
-use Rattle.magnetar_protocol.proofs.Counts.{drawsIn, drawsIn-replicate, drawsIn-rounds, drawsIn-singles}
+use Rattle.magnetar_schedule.specs.Schedule.{Event, absorb, draw, numbered, rounds, singles, schedule}
+use Rattle.magnetar_schedule.specs.Play.{Played, absorbing, drawing, play}
+use Rattle.magnetar_schedule.proofs.Counts.{drawsIn, drawsIn-replicate, drawsIn-rounds, drawsIn-singles}
 
 -- what is said the same, part by part of the schedule: each message and value that at most n draws come before
 pub record Says (r : Relation) (n : ℕ) (w v : List ℕ) : Type 0 where

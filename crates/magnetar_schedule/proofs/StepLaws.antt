@@ -16,13 +16,13 @@ use Rattle.magnetar_sumcheck_verifier.specs.Messages.{Outer, outerNext, outerFo
 use Rattle.magnetar_field.specs.Tabulate.{tabulate}
 use Rattle.magnetar_multilinear.specs.Multilinear.{bindVar}
 use Rattle.magnetar_matrix.specs.Batch.{Relation}
 use Rattle.magnetar_protocol.specs.Shape.{logCols}
 use Rattle.magnetar_protocol.specs.Proof.{part}
-use Rattle.magnetar_protocol.specs.Schedule.{Event, absorb, draw, numbered, rounds, singles}
-use Rattle.magnetar_protocol.specs.Play.{play, absorbing}
+use Rattle.magnetar_schedule.specs.Schedule.{Event, absorb, draw, numbered, rounds, singles}
+use Rattle.magnetar_schedule.specs.Play.{play, absorbing}
 use Rattle.magnetar_protocol.specs.Prover.{joined, inTurn}
-use Rattle.magnetar_protocol.specs.Stepwise.{Steps, begin, send, drawOne, lastDrawn, drawTimes, sendEach, OuterSteps, sharedStep, sharedSteps, RowSteps, rowStep, rowSteps, InnerSteps, innerStep, innerSteps, innerRun, segmentValue, lowDraws, ended, innerAll}
-use Rattle.magnetar_protocol.proofs.Counts.{play-append, onto}
+use Rattle.magnetar_schedule.specs.Stepwise.{Steps, begin, send, drawOne, lastDrawn, drawTimes, sendEach, OuterSteps, sharedStep, sharedSteps, RowSteps, rowStep, rowSteps, InnerSteps, innerStep, innerSteps, innerRun, segmentValue, lowDraws, ended, innerAll}
+use Rattle.magnetar_schedule.proofs.Counts.{play-append, onto}
 
 -- ---- steps from p to q that draw rs and say v, along the events es
 pub record Goes (es : List Event) (p q : Steps) (rs v : List ℕ) : Type 0 where

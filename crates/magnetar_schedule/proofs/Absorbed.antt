@@ -12,11 +12,11 @@ use lib.ListN.{length, replicate}
 use Rattle.magnetar_hash.specs.Bytes.{ascii}
 use Rattle.magnetar_matrix.specs.Batch.{Relation}
 use Rattle.magnetar_theory.specs.Absorbed.{absorbedCount}
 use Rattle.magnetar_protocol.specs.Shape.{logLogins, logBin, logFld, logCols, beforeTerminals, beforeInner, beforeEnd, proofElements}
 use Rattle.magnetar_protocol.specs.Draws.{drawCount}
-use Rattle.magnetar_protocol.specs.Schedule.{Event, absorb, draw, numbered, rounds, singles, schedule, absorbedUntil, InOrder}
+use Rattle.magnetar_schedule.specs.Schedule.{Event, absorb, draw, numbered, rounds, singles, schedule, absorbedUntil, InOrder}
 use Rattle.magnetar_protocol.specs.Soundness.{absorbedBefore}
-use Rattle.magnetar_protocol.proofs.Counts.{drawsIn, drawsIn-replicate, drawsIn-rounds, drawsIn-singles}
+use Rattle.magnetar_schedule.proofs.Counts.{drawsIn, drawsIn-replicate, drawsIn-rounds, drawsIn-singles}
 
 -- ---- how many elements events absorb in all
 abbrev pub absorbedIn : List Event → ℕ

@@ -7,8 +7,8 @@ use Rattle.magnetar_field.specs.Words.{words}
 use Rattle.magnetar_hash.specs.Bytes.{wordBytes}
 use Rattle.magnetar_hash.specs.declared.transcript.Transcript.{Transcript}
 use Rattle.magnetar_hash.specs.Transcript as transcript
 use Rattle.magnetar_protocol.specs.Proof.{part}
-use Rattle.magnetar_protocol.specs.Schedule.{Event, absorb, draw}
+use Rattle.magnetar_schedule.specs.Schedule.{Event, absorb, draw}
 
 -- the transcript, and the draws so far
 pub record Played : Type 0 where

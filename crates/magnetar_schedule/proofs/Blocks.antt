@@ -14,14 +14,14 @@ use Rattle.magnetar_multilinear.specs.EqTable.{eqAt}
 use Rattle.magnetar_multilinear.specs.Multilinear.{mle}
 use Rattle.magnetar_matrix.specs.Batch.{Relation, publicFolded}
 use Rattle.magnetar_layout.specs.Layout.{localVars, suffix}
-use Rattle.magnetar_protocol.specs.Shape.{logLogins}
+use Rattle.magnetar_protocol.specs.Shape.{logLogins, outline, afterTaus, afterInner}
 use Rattle.magnetar_protocol.specs.Proof.{binMessages, fldMessages, valueZ, segmentValues}
 use Rattle.magnetar_protocol.specs.Draws.{Draws, drawsOf, loginPoint, lowPoint, topElement}
-use Rattle.magnetar_protocol.specs.Schedule.{outline, schedule, afterTaus, afterInner}
+use Rattle.magnetar_schedule.specs.Schedule.{schedule}
 use Rattle.magnetar_protocol.specs.Checks.{Check, combined, binRound, fldRound, firstRefusal, firstStop, checks, sharedChecks, rowChecks, terminalChecks, innerChecks, identityCheck}
 use Rattle.magnetar_protocol.specs.Run.{verdict, claims}
-use Rattle.magnetar_protocol.specs.RealRun.{stop}
+use Rattle.magnetar_schedule.specs.RealRun.{stop}
 use Rattle.magnetar_protocol.proofs.Phases.{Numbered, numbered-append, orElse, first-append, shared-numbered, rows-numbered, terminals-numbered, inner-numbered}
 
 -- ---- the stop of two lists of checks
 pub stop-append : (cs ds : List Check) (n k : ℕ) → Numbered cs

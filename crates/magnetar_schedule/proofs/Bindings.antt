@@ -29,10 +29,10 @@ use Rattle.magnetar_sumcheck_verifier.specs.Order.{nextVar, fewer}
 use Rattle.magnetar_sumcheck_verifier.specs.Messages.{Outer, outerStart, outerVar, outerFold}
 use Rattle.magnetar_matrix.specs.Sum.{sumBelow}
 use Rattle.magnetar_matrix.specs.Batch.{Batch, bitOf, foldedAt, folded, claimValue}
 use Rattle.magnetar_protocol.specs.RunSizes.{Elements}
 use Rattle.magnetar_protocol.proofs.ClaimValues.{sum-times}
 use Rattle.magnetar_protocol.proofs.HonestBelow.{tabulate-below, sum-lt}
-use Rattle.magnetar_protocol.proofs.StepLaws.{folds, folds-append, binds}
+use Rattle.magnetar_schedule.proofs.StepLaws.{folds, folds-append, binds}
 
 -- ---- binding the lowest variable
 insert-low : (i : ℕ) → insertZero 0 i ≡ 2 * i

@@ -15,16 +15,15 @@ use Rattle.magnetar_sumcheck_verifier.specs.Inner.{innerMessage}
 use Rattle.magnetar_sumcheck_verifier.specs.Messages.{Outer, outerStart, outerNext, outerFold, outerMessages, innerMessages}
 use Rattle.magnetar_matrix.specs.Matrix.{System}
 use Rattle.magnetar_matrix.specs.Batch.{Relation, Batch}
-use Rattle.magnetar_protocol.specs.Shape.{logLogins, logBin, logFld, logCols, beforeTerminals, beforeInner}
+use Rattle.magnetar_protocol.specs.Shape.{logLogins, logBin, logFld, logCols, beforeTerminals, beforeInner, afterTaus}
 use Rattle.magnetar_protocol.specs.Proof.{part, binMessages, fldMessages, innerRounds}
 use Rattle.magnetar_protocol.specs.Draws.{Draws, drawCount, drawsOf, loginPoint}
-use Rattle.magnetar_protocol.specs.Schedule.{afterTaus}
 use Rattle.magnetar_protocol.specs.Checks.{combined}
 use Rattle.magnetar_protocol.specs.Prover.{joined, inTurn, productTable, outerRounds, binRounds, fldRounds, terminalValues, foldedZ, trueValues, honestWords, proverWords}
 use Rattle.magnetar_protocol.proofs.SizeFacts.{Cut, cut}
 use Rattle.magnetar_protocol.proofs.HonestParts.{bin-part, fld-part, inner-part, at₃}
-use Rattle.magnetar_protocol.proofs.StepLaws.{folds, binds}
-use Rattle.magnetar_protocol.proofs.Heard.{Says}
+use Rattle.magnetar_schedule.proofs.StepLaws.{folds, binds}
+use Rattle.magnetar_schedule.proofs.Heard.{Says}
 
 -- ---- a message from the challenges before it
 outer-at : (S : Outer) (rs : List ℕ) (i : ℕ) → i < length rs → getD (outerMessages S rs) i [] ≡ outerNext (folds (take i rs) S)
