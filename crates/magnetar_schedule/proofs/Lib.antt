@@ -15,3 +15,4 @@ pub mod Staging
 pub mod Turns
 pub mod Whole
 pub mod Examples
+pub mod Captured

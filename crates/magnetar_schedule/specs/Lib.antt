@@ -4,3 +4,4 @@ pub mod Stepwise
 pub mod RealRun
 pub mod Stages
 pub mod Labels
+pub mod Capture

@@ -3,20 +3,15 @@
 use mathlib.Core.Path.{_≡_, refl, sym}
 use mathlib.Core.Bool.{Bool, true, false, not}
 use mathlib.Core.List.{List}
-use Prim.Native.Nat.{ℕ, _*_, _/_, _%_, _^_, _≤_, _<_}
+use Prim.Native.Nat.{ℕ, _*_, _/_, _%_}
 use native.Mathlib.Omega.{arith}
-use lib.Dec.{eqb, ltb}
+use lib.Dec.{eqb}
 use lib.ListN.{length}
-use borrow.Author.Tests.{eq-eqb, ne-eqb, eqb-true, eqb-false, lt-ltb, le-ltb}
-use Rattle.magnetar_field.specs.declared.gf128.Gf128.{Gf128}
-use Rattle.magnetar_field.specs.Gf128.{value}
+use borrow.Author.Tests.{eq-eqb, ne-eqb, eqb-true, eqb-false}
 use Rattle.magnetar_field.specs.Words.{elements}
 use Rattle.magnetar_field.specs.Polynomial.{eval}
-use Rattle.magnetar_hash.specs.declared.transcript.Transcript.{Transcript}
-use Rattle.magnetar_hash.specs.Transcript.{element}
 use Rattle.magnetar_sumcheck_verifier.specs.Round.{holds, nextClaim}
-use Rattle.magnetar_sumcheck_verifier.specs.Capture.{afterRound, nextTranscript, nextChallenge}
-use Rattle.magnetar_sumcheck_verifier.specs.Outcome.{isMessage, RoundLeft, roundRefusal, roundOutcome, CaptureLeft, captureRefusal, undrawn, captureOutcome}
+use Rattle.magnetar_sumcheck_verifier.specs.Outcome.{isMessage, roundRefusal, roundOutcome}
 
 -- ---- the number of words
 pub odd-none : (n : ℕ) (m : List ℕ) → (length m % 2 ≡ 0 → ⊥) → false ≡ isMessage n m
@@ -46,24 +41,3 @@ module _ (n : ℕ) (m : List ℕ) (c r : ℕ) where
       → record { code = 0; holds = false; claim = c } ≡ roundOutcome n m c r
   unfolding roundOutcome roundRefusal nextClaim
   round-wrong h k = rw (h, k)
-
--- ---- `round_capturing`
-module _ (n : ℕ) (m : List ℕ) (c : ℕ) (t : Transcript) (label : List ℕ) where
-  pub capture-refused : isMessage n m ≡ false → undrawn 11 c t ≡ captureOutcome n m c t label
-  unfolding captureOutcome captureRefusal
-  capture-refused h = rw h
-
-  pub capture-late : isMessage n m ≡ true → 2 ^ 32 ≤ t .«squeeze_ctr» → undrawn 14 c t ≡ captureOutcome n m c t label
-  unfolding captureOutcome captureRefusal
-  capture-late h k = rw (h, le-ltb (t .«squeeze_ctr») (2 ^ 32) k)
-
-  pub capture-wrong : isMessage n m ≡ true → t .«squeeze_ctr» < 2 ^ 32 → holds (elements m) c ≡ false
-      → undrawn 0 c t ≡ captureOutcome n m c t label
-  unfolding captureOutcome captureRefusal nextTranscript nextChallenge nextClaim
-  capture-wrong h k f = rw (h, lt-ltb (t .«squeeze_ctr») (2 ^ 32) k, f)
-
-  pub capture-right : isMessage n m ≡ true → t .«squeeze_ctr» < 2 ^ 32 → holds (elements m) c ≡ true
-      → (u : Transcript) (x : Gf128) (v : ℕ) → u ≡ afterRound t label m → x ≡ element u → v ≡ eval (elements m) (value x)
-      → record { code = 0; holds = true; claim = v; challenge = x; transcript = u } ≡ captureOutcome n m c t label
-  unfolding captureOutcome captureRefusal nextTranscript nextChallenge nextClaim
-  capture-right h k f u x v eu ex ev = rw (h, lt-ltb (t .«squeeze_ctr») (2 ^ 32) k, f, ev, ex, eu)

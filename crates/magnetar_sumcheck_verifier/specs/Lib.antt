@@ -1,6 +1,5 @@
 pub mod Sum
 pub mod Round
-pub mod Capture
 pub mod Outcome
 pub mod Order
 pub mod Outer

@@ -10,8 +10,8 @@ use magnetar_field::words;
 use magnetar_hash::sha3;
 use magnetar_hash::transcript::Transcript;
 use magnetar_hash::transcript::{self};
-use magnetar_sumcheck_verifier::verify::Captured;
-use magnetar_sumcheck_verifier::verify::{self};
+use magnetar_schedule::capture;
+use magnetar_schedule::capture::Captured;
 
 // The queries by name: its last eight letters, the last one lowest.
 const SHA3: u64 = 0x73686133;
@@ -295,7 +295,7 @@ fn print_captured(o: Captured) {
 fn captured(op: u64, t: Transcript, label: &[u8], nums: &[u64]) -> bool {
     if op == CAPTURE {
         let claim = words::get(text::nth(nums, 4, 1), 0);
-        print_captured(verify::round_capturing(
+        print_captured(capture::round_capturing(
             list(nums, 4),
             text::size(at(nums, 3)),
             claim,
