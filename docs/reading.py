@@ -1,7 +1,7 @@
 #!/usr/bin/env python3
 """Which definitions a reader must believe for the contracts of the two entries.
 
-    docs/reading.py            a table: each file of specs/ with the lines of the definitions that are reached, and the total
+    docs/reading.py            writes the table of docs/THEOREMS.md: each file with its definitions that are reached, their lines, and the total
     docs/reading.py --check    exit 1 where docs/THEOREMS.md has another table
 
 Reached are the names of the entries' contracts, and every name that a reached definition uses. Lines are counted without comments, blanks
@@ -36,7 +36,8 @@ class Spec:
     """A file of specs/: its definitions, and where it imports names from."""
 
     def __init__(self, path):
-        self.path, self.items, self.imports, self.renamed = path, {}, {}, {}
+        self.path, self.items, self.imports, self.renamed, self.shown = path, {}, {}, {}, {}
+        self.head, self.heads = None, {}
         text = path.read_text(encoding="utf8")
         for line in text.split("\n"):
             m = re.match(r"(?:ghost )?use (\S+?)\.\{(.*)\};?$", line)
@@ -46,17 +47,20 @@ class Spec:
             m = re.match(r"use (\S+) as (\S+)$", line)
             if m:
                 self.renamed[m.group(2)] = m.group(1)
-        head = []
         for block in blocks(text):
             code = [l for l in block if not re.match(r"(ghost )?use ", l)]
             if not code:
                 continue
-            if all(l.strip().startswith("module _") or l.startswith("    ") and not head for l in code) and code[0].lstrip().startswith("module _"):
-                if len(code) == sum(1 for l in code if not re.match(r"\s*(abbrev|unfoldable|pub)\b", l)):
-                    head = code
-                    continue
-            for name in self.defined(code):
+            if code[0].startswith("module _"):
+                n = next(i for i, l in enumerate(code) if l.rstrip().endswith("where")) + 1
+                self.head, code = code[:n], code[n:]
+            names = list(self.defined(code))
+            for name in names:
                 self.items[name] = code
+            if code and code[0].startswith(" ") and self.head:
+                self.heads[id(code)] = self.head
+            if names:
+                self.shown[id(code)] = names[0]
 
     @staticmethod
     def defined(code):
@@ -90,7 +94,9 @@ def reach():
         code = s.items.get(name)
         if code is None:
             return
-        lines.setdefault(path, {})[id(code)] = (len(code), name)
+        lines.setdefault(path, {})[id(code)] = (len(code), s.shown[id(code)])
+        if id(code) in s.heads:
+            lines[path][id(s.heads[id(code)])] = (len(s.heads[id(code)]), None)
         uses(s, code)
 
     def uses(s, code):
@@ -119,18 +125,78 @@ def reach():
     return lines
 
 
+WRONG = {
+    "magnetar_field/specs/Gf128.antt": "the field would be another one, and sums and products would not be those of document 01",
+    "magnetar_field/specs/Polynomial.antt": "a message would be evaluated as another polynomial than its coefficients say",
+    "magnetar_field/specs/Refusal.antt": "a refused call could change what it was lent",
+    "magnetar_field/specs/Sizes.antt": "rounds, draws and parts of the proof would be counted wrongly",
+    "magnetar_field/specs/Tabulate.antt": "a table would hold other values than its definition, or at other places",
+    "magnetar_field/specs/Words.antt": "the two words of an element would be read in another order",
+    "magnetar_field/src/gf128.rt": "the two words of an element would be read in another order",
+    "magnetar_hash/specs/Bytes.antt": "the transcript would absorb other bytes than the Rust's",
+    "magnetar_hash/specs/Parts.antt": "two lists of parts could give the same bytes",
+    "magnetar_hash/specs/Sha3.antt": "the hash would not be SHA3-256, and the draws would be those of another function",
+    "magnetar_hash/specs/Transcript.antt": "a challenge would not depend on all that was absorbed before it",
+    "magnetar_hash/src/transcript.rt": "a transcript or an answer would lack a part",
+    "magnetar_keccak/specs/Keccak.antt": "the permutation would not be Keccak-f[1600]",
+    "magnetar_keccak/specs/Offsets.antt": "rho would rotate by other offsets than FIPS 202's",
+    "magnetar_keccak/specs/Rounds.antt": "iota would add other constants than FIPS 202's",
+    "magnetar_keccak/specs/State.antt": "lanes would be read at other places than FIPS 202's",
+    "magnetar_layout/specs/Every.antt": "a test of all segments could pass over one",
+    "magnetar_layout/specs/Layout.antt": "a claim would speak of other columns than its segment's, or a bit could hide between segments",
+    "magnetar_layout/specs/Login.antt": "the packed words of a batch would be counted wrongly",
+    "magnetar_layout/specs/Tests.antt": "sizes past document 01's limits would be let through, or good ones refused",
+    "magnetar_matrix/specs/Batch.antt": "good would mean something else than that every row holds for every login, or a true claim something else than its sum",
+    "magnetar_matrix/specs/Lent.antt": "the four slices would be read as other entries",
+    "magnetar_matrix/specs/Matrix.antt": "a matrix would act on a vector in another way",
+    "magnetar_matrix/specs/Packed.antt": "the packed words would hold another batch",
+    "magnetar_matrix/specs/Sum.antt": "a sum over the logins or the columns would leave some out",
+    "magnetar_multilinear/specs/EqTable.antt": "eq would not be the indicator that the sums are weighted with",
+    "magnetar_multilinear/specs/Multilinear.antt": "a table would be evaluated as another polynomial",
+    "magnetar_protocol/specs/Checks.antt": "the verifier would accept what a check of document 01 refuses, or answer another number",
+    "magnetar_protocol/specs/Draws.antt": "a challenge would be used in the place of another",
+    "magnetar_protocol/specs/Proof.antt": "words of the proof would be read as other messages or values",
+    "magnetar_protocol/specs/Prover.antt": "the proof would not be the exact polynomials of its rounds; a good batch could be refused",
+    "magnetar_protocol/specs/Run.antt": "an answer of 0 would not mean that every check passes, or a true claim not what document 01 says",
+    "magnetar_protocol/specs/RunSizes.antt": "the first theorem would speak of batches that no packed words hold",
+    "magnetar_protocol/specs/Shape.antt": "parts of the proof and events would be counted wrongly",
+    "magnetar_protocol/specs/Soundness.antt": "a bit outside the segments would count as covered, or any draw as bad, and the first theorem would say nothing",
+    "magnetar_relation/specs/RuleTests.antt": "a relation past the limits would be let through, or a good one refused",
+    "magnetar_relation/specs/Rules.antt": "the slices that are lent would be read as another relation",
+    "magnetar_relation/src/shapes.rt": "the shapes would lack a matrix",
+    "magnetar_schedule/specs/Play.antt": "the draws would not be those that the transcript gives",
+    "magnetar_schedule/specs/RealRun.antt": "prover and verifier would be said to draw something else than their transcripts give",
+    "magnetar_schedule/specs/Schedule.antt": "a message would be absorbed after its challenge, or under another label than the Rust's",
+    "magnetar_schedule/specs/Stepwise.antt": "the prover would be said to absorb and draw in another order than it does",
+    "magnetar_spartan/specs/Outcome.antt": "the entries would be said to leave other words than they do",
+    "magnetar_spartan/specs/Refusals.antt": "a run would be refused that document 01 lets through, or the other way round",
+    "magnetar_spartan/specs/Theorems.antt": "the promise of demand 3 would be weaker than it reads",
+    "magnetar_sumcheck_verifier/specs/Inner.antt": "the inner sum-check would be of another product",
+    "magnetar_sumcheck_verifier/specs/Messages.antt": "the honest messages would be folded in another order than the verifier's challenges",
+    "magnetar_sumcheck_verifier/specs/Order.antt": "variables would be bound in another order than document 01's",
+    "magnetar_sumcheck_verifier/specs/Outer.antt": "the outer sum-check would be of another polynomial",
+    "magnetar_sumcheck_verifier/specs/Round.antt": "a round's message would pass without adding up to the claim before it",
+    "magnetar_sumcheck_verifier/specs/Sum.antt": "a round's sum would leave some entries out",
+}
+BEGIN, END = "<!-- docs/reading.py writes this table -->", "<!-- end of the table -->"
+
+
 def table():
-    rows, total = [], 0
-    lines = reach()
+    rows, total, lines = [], 0, reach()
     for path in sorted(lines):
+        name = str(path.relative_to(ROOT / "crates"))
         n = sum(k for k, _ in lines[path].values())
         total += n
-        names = ", ".join("`%s`" % name for _, name in lines[path].values())
-        rows.append("| `%s` | %d | %s |" % (str(path.relative_to(ROOT / "crates")), n, names))
-    return rows, total, len(lines)
+        names = ", ".join("`%s`" % v for v in sorted({v for _, v in lines[path].values() if v}))
+        rows.append("| [%s](../crates/%s) | %d | %s | %s |" % (name, name, n, names, WRONG.get(name, "?")))
+    head = ["| file | lines | definitions | if they were false |", "|---|---|---|---|"]
+    return "\n".join([BEGIN, ""] + head + rows + ["", "In all %d lines in %d files." % (total, len(lines)), END])
 
 
 if __name__ == "__main__":
-    rows, total, count = table()
-    print("\n".join(rows))
-    print("%d lines in %d files" % (total, count))
+    path = ROOT / "docs" / "THEOREMS.md"
+    text = path.read_text(encoding="utf8")
+    new = re.sub(re.escape(BEGIN) + ".*?" + re.escape(END), lambda _: table(), text, flags=re.S)
+    if "--check" in sys.argv:
+        sys.exit("docs/THEOREMS.md is out of date: run docs/reading.py" if new != text else 0)
+    path.write_text(new, encoding="utf8")
