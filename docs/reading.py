@@ -55,6 +55,8 @@ class Spec:
                 n = next(i for i, l in enumerate(code) if l.rstrip().endswith("where")) + 1
                 self.head, code = code[:n], code[n:]
             names = list(self.defined(code))
+            if any(re.match(r"\s*(?:pub )?record ", l) for l in code):
+                names = names[:1]
             for name in names:
                 self.items[name] = code
             if code and code[0].startswith(" ") and self.head:

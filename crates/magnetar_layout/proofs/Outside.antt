@@ -22,7 +22,6 @@ neither : (a b : Bool) → (a || b) ≡ false → (a ≡ false) × (b ≡ false)
 neither false b e = (refl, e)
 neither true b e = absurd (false≢true (sym e))
 
-
 covered : (o n y : ℕ) → o ≤ y → y < o + n → (leb o y && ltb y (o + n)) ≡ true
 covered o n y h k = rw (le-leb o y h, lt-ltb y (o + n) k)
 

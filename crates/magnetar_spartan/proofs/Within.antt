@@ -98,7 +98,7 @@ module _ (R : Rules) (W : RulesWithin R) where
       let p₄ : Tests = colTests (R .m) B ++ p₃ in
       let p₅ : Tests = rowTests (R .q) F ++ p₄ in
       let all : (inSystem (r .bin) && inSystem (r .fld)) ≡ true =
-          rw (in-system (R .m) (R .q) 0 B (R .entries) (W .bin), in-system (R .m) (R .q) f F (R .entries) (W .fld)) in
+      rw (in-system (R .m) (R .q) 0 B (R .entries) (W .bin), in-system (R .m) (R .q) f F (R .entries) (W .fld)) in
       let c₀ = clear-join numbers inside (number-fine (total (R .shapes)) (R .numbers) (W .numbers)) (true-fine _ all, tt) in
       let c₁ = clear-join (mostTests F) (numbers ++ inside) (few-fine (R .m) (R .q) f F (R .entries) (W .fld)) c₀ in
       let c₂ = clear-join (mostTests B) p₁ (few-fine (R .m) (R .q) 0 B (R .entries) (W .bin)) c₁ in
