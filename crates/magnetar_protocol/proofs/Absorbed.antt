@@ -13,9 +13,9 @@ use Rattle.magnetar_hash.specs.Bytes.{ascii}
 use Rattle.magnetar_matrix.specs.Batch.{Relation}
 use Rattle.magnetar_theory.specs.Absorbed.{absorbedCount}
 use Rattle.magnetar_protocol.specs.Shape.{logLogins, logBin, logFld, logCols, beforeTerminals, beforeInner, beforeEnd, proofElements}
-use Rattle.magnetar_protocol.specs.Draws.{drawCount}
 use Rattle.magnetar_protocol.specs.Schedule.{Event, absorb, draw, numbered, rounds, singles, schedule, absorbedUntil, InOrder}
 use Rattle.magnetar_protocol.specs.Soundness.{absorbedBefore}
+use Rattle.magnetar_protocol.specs.Theorems.{AbsorbedInOrder, AbsorbedBefore}
 use Rattle.magnetar_protocol.proofs.Counts.{drawsIn, drawsIn-replicate, drawsIn-rounds, drawsIn-singles}
 
 -- ---- how many elements events absorb in all
@@ -206,7 +206,7 @@ module _ (r : Relation) where
   pub all-absorbed : absorbedIn (schedule r) ≡ proofElements r
   all-absorbed = ap absorbedIn schedule-is ∙ simp (in-append, in-replicate, in-rounds, in-singles) (omega arith)
 
-  pub in-order : InOrder 0 (schedule r)
+  pub in-order : AbsorbedInOrder r
   in-order =
       subst (InOrder 0) (sym schedule-is)
       (order-then 0 0 tausBin _ (in-replicate (s + g) (ascii "vs-tau-bin")) (order-replicate 0 (s + g) (ascii "vs-tau-bin"))
@@ -229,7 +229,7 @@ module _ (r : Relation) where
             (omega arith),
       )
 
-  pub absorbed-before : (k : ℕ) → k < drawCount r → absorbedUntil (schedule r) k ≡ absorbedBefore r k
+  pub absorbed-before : AbsorbedBefore r
   unfolding absorbedBefore
   absorbed-before k l =
       ap (λ (es : List Event). absorbedUntil es k) schedule-is

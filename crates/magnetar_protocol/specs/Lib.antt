@@ -13,3 +13,4 @@ pub mod Soundness
 pub mod Prover
 pub mod Stepwise
 pub mod RealRun
+pub mod Theorems
