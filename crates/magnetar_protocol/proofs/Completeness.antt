@@ -14,7 +14,8 @@ use Rattle.magnetar_protocol.specs.Run.{verdict, claims, trueValue, Clai
 use Rattle.magnetar_protocol.specs.RunSizes.{SizedRun, SizedProof}
 use Rattle.magnetar_protocol.specs.Theory.{relationE, publicE, batchE, drawsE}
 use Rattle.magnetar_protocol.specs.Soundness.{NoBitOutside}
-use Rattle.magnetar_protocol.specs.Prover.{trueValues, honestWords, proverWords, proverClaims, CompleteRun}
+use Rattle.magnetar_protocol.specs.Prover.{trueValues, honestWords, proverWords, proverClaims}
+use Rattle.magnetar_protocol.specs.Theorems.{Completeness}
 use Rattle.magnetar_protocol.proofs.SizeFacts.{Cut, cut}
 use Rattle.magnetar_protocol.proofs.Verdict.{of-holds}
 use Rattle.magnetar_protocol.proofs.AcceptedHolds.{holds}
@@ -64,7 +65,10 @@ module _ (r : Relation) (b : Batch) (x d : List ℕ) (S : SizedRun r b x d) wher
       C : Cut r (drawsOf r d)
       C = cut r d (S .draws)
 
-  -- Demand 3, second half: of a good batch with no bit outside, the honest words are accepted, both ends return the same claims,
-  -- and all of them are true.
-  pub completeness : Good r b x → NoBitOutside r b → CompleteRun r b x d
-  completeness g stray = record { accepted = honest-accepted g stray; same-claims = same-claims; true-claims = true-claims }
+-- Demand 3, second half.
+pub completeness : (r : Relation) (b : Batch) (x d : List ℕ) → Completeness r b x d
+completeness r b x d S g stray = record {
+  accepted = honest-accepted r b x d S g stray;
+  same-claims = same-claims r b x d S;
+  true-claims = true-claims r b x d S;
+}

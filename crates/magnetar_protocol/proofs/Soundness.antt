@@ -19,11 +19,12 @@ use Rattle.magnetar_theory.proofs.Absorbed.{absorbed-lists}
 use Rattle.magnetar_theory.proofs.Whole.{list-sizes, sound}
 use Rattle.magnetar_protocol.specs.Shape.{logLogins, logBin, logFld, logCols}
 use Rattle.magnetar_protocol.specs.Proof.{segmentValues}
-use Rattle.magnetar_protocol.specs.Draws.{Draws, drawCount, drawsOf}
-use Rattle.magnetar_protocol.specs.Run.{verdict, claims, ClaimsTrue}
+use Rattle.magnetar_protocol.specs.Draws.{Draws, drawsOf}
+use Rattle.magnetar_protocol.specs.Run.{verdict, claims}
 use Rattle.magnetar_protocol.specs.Theory.{els, logHalf, relationE, publicE, batchE, drawsE}
-use Rattle.magnetar_protocol.specs.RunSizes.{SizedRelation, Elements, SizedProof}
-use Rattle.magnetar_protocol.specs.Soundness.{NoBitOutside, badDraws, absorbedBefore, BadDraw}
+use Rattle.magnetar_protocol.specs.RunSizes.{SizedRelation, Elements}
+use Rattle.magnetar_protocol.specs.Soundness.{badDraws, absorbedBefore, BadDraw}
+use Rattle.magnetar_protocol.specs.Theorems.{Soundness, AtMostThree, AllLists}
 use Rattle.magnetar_protocol.proofs.Elements.{map-take, els-at}
 use Rattle.magnetar_protocol.proofs.SizeFacts.{cols-suc, Cut, cut, flat}
 use Rattle.magnetar_protocol.proofs.Verdict.{holds-of}
@@ -33,7 +34,7 @@ use Rattle.magnetar_protocol.proofs.TrueClaims.{sizes, true-claims}
 use Rattle.magnetar_protocol.proofs.ClaimParts.{true-values}
 
 -- no list has more than three elements, whatever has been absorbed and drawn
-pub at-most-three : (r : Relation) (b : Batch) (x absorbed drawn : List ℕ) → length (badDraws r b x absorbed drawn) ≤ 3
+pub at-most-three : AtMostThree
 unfolding badDraws
 at-most-three r b x absorbed drawn =
     rw length-map (list-sizes (relationE r) (publicE x) (batchE b) (logLogins r) (els absorbed) (els drawn))
@@ -71,9 +72,7 @@ module _ (r : Relation) (b : Batch) (x w d : List ℕ) where
       small = rw (length-map d element) at h
 
   -- all lists along one run together: 4 J + 1 + 2 log m, where 2 ^ J is the logins times the rows of the larger system
-  pub all-lists : SizedRelation r → length d ≡ drawCount r
-      → naturalSum (length d) (λ k. length (badDraws r b x (take (absorbedBefore r k) w) (take k d)))
-      ≤ 4 * (logLogins r + max (logBin r) (logFld r)) + 1 + 2 * logCols r
+  pub all-lists : AllLists r b x w d
   all-lists R h =
       total-at-most (met gf128 whole (els d)) (sums (length d) (λ k. length (badDraws r b x (take (absorbedBefore r k) w) (take k d)))
       (λ k. length (listE (take k (els d)))) each ∙ same)
@@ -101,7 +100,7 @@ module _ (r : Relation) (b : Batch) (x w d : List ℕ) where
 
   -- Demand 3, first half: where the verifier accepts, no bit is set outside the segments and every claim is true of the batch,
   -- the batch is good, or some draw lies in its list, which has at most three elements.
-  pub soundness : SizedProof r b x w d → verdict r x w d ≡ 0 → NoBitOutside r b → ClaimsTrue r b (claims r w d) → Good r b x ⊎ BadDraw r b x w d
+  pub soundness : Soundness r b x w d
   unfolding verdict claims
   soundness S v stray true = go found
     where

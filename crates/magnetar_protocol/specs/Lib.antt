@@ -9,3 +9,4 @@ pub mod RunSizes
 pub mod Theory
 pub mod Soundness
 pub mod Prover
+pub mod Theorems

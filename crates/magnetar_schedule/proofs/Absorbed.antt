@@ -17,6 +17,7 @@ use Rattle.magnetar_protocol.specs.Draws.{drawCount}
 use Rattle.magnetar_schedule.specs.Schedule.{Event, absorb, draw, numbered, rounds, singles, schedule, absorbedUntil, InOrder}
 use Rattle.magnetar_protocol.specs.Soundness.{absorbedBefore}
 use Rattle.magnetar_schedule.proofs.Counts.{drawsIn, drawsIn-replicate, drawsIn-rounds, drawsIn-singles}
+use Rattle.magnetar_schedule.specs.Theorems.{AbsorbedInOrder, AbsorbedBefore}
 
 -- ---- how many elements events absorb in all
 abbrev pub absorbedIn : List Event → ℕ
@@ -206,7 +207,7 @@ module _ (r : Relation) where
   pub all-absorbed : absorbedIn (schedule r) ≡ proofElements r
   all-absorbed = ap absorbedIn schedule-is ∙ simp (in-append, in-replicate, in-rounds, in-singles) (omega arith)
 
-  pub in-order : InOrder 0 (schedule r)
+  pub in-order : AbsorbedInOrder r
   in-order =
       subst (InOrder 0) (sym schedule-is)
       (order-then 0 0 tausBin _ (in-replicate (s + g) (ascii "vs-tau-bin")) (order-replicate 0 (s + g) (ascii "vs-tau-bin"))
@@ -229,7 +230,7 @@ module _ (r : Relation) where
             (omega arith),
       )
 
-  pub absorbed-before : (k : ℕ) → k < drawCount r → absorbedUntil (schedule r) k ≡ absorbedBefore r k
+  pub absorbed-before : AbsorbedBefore r
   unfolding absorbedBefore
   absorbed-before k l =
       ap (λ (es : List Event). absorbedUntil es k) schedule-is

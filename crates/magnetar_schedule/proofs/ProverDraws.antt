@@ -16,6 +16,7 @@ use Rattle.magnetar_protocol.specs.Run.{claims}
 use Rattle.magnetar_protocol.specs.RunSizes.{Elements}
 use Rattle.magnetar_protocol.specs.Prover.{proverWords, proverClaims}
 use Rattle.magnetar_schedule.specs.RealRun.{verifierDraws, drawsAfter, proverDraws, sentWords}
+use Rattle.magnetar_schedule.specs.Theorems.{DrawnAgain}
 use Rattle.magnetar_protocol.proofs.SizeFacts.{cut}
 use Rattle.magnetar_protocol.proofs.HonestParts.{segment-part, honest-length}
 use Rattle.magnetar_schedule.proofs.Counts.{verifier-count, verifier-elements}
@@ -72,7 +73,7 @@ module _ (r : Relation) (b : Batch) (x : List ℕ) (t : Transcript) where
   whole : (l : List ℕ) → length l ≡ drawCount r → take (drawCount r) l ≡ l
   whole l e = take-all (drawCount r) l (omega arith)
 
-  pub drawn-again : verifierDraws r (sentWords r b x t) t ≡ proverDraws r b x t
+  pub drawn-again : DrawnAgain r b x t
   unfolding sentWords
   drawn-again = sym (whole (again (proverDraws r b x t)) (again-count (proverDraws r b x t))) ∙ sym stays ∙ whole (proverDraws r b x t) prover-count
     where

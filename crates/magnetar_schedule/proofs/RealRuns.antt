@@ -3,11 +3,11 @@
 use mathlib.Core.Path.{_≡_, sym, ap, _∙_, subst}
 use mathlib.Core.List.{List}
 use mathlib.Core.Logic.{_⊎_}
-use Prim.Native.Nat.{ℕ, suc, _+_, _*_, _/_, _≤_, max}
+use Prim.Native.Nat.{ℕ, _+_, _*_, _/_, _≤_, max}
 use lib.ListN.{length, take}
 use lib.Seq.{take-length}
 use Rattle.magnetar_hash.specs.declared.transcript.Transcript.{Transcript}
-use Rattle.magnetar_matrix.specs.Batch.{Relation, Batch, Good}
+use Rattle.magnetar_matrix.specs.Batch.{Relation, Batch}
 use Rattle.magnetar_theory.specs.Count.{naturalSum}
 use Rattle.magnetar_protocol.specs.Shape.{logLogins, logBin, logFld, logCols, proofElements}
 use Rattle.magnetar_schedule.specs.Schedule.{Event, schedule}
@@ -22,15 +22,11 @@ use Rattle.magnetar_protocol.proofs.Completeness.{completeness}
 use Rattle.magnetar_schedule.proofs.Counts.{verifier-count, verifier-elements}
 use Rattle.magnetar_schedule.proofs.Blocks.{stop-accepted}
 use Rattle.magnetar_schedule.proofs.ProverDraws.{prover-count, prover-elements, drawn-again}
+use Rattle.magnetar_schedule.specs.Theorems.{SoundnessRun, CompletenessRun}
 
 -- Where a verifier accepts whose draws are those of its transcript, no bit is set outside the segments and every returned claim is
 -- true of the batch, the batch is good, or some draw lies in its list of at most three elements.
-pub soundness-run : (r : Relation) (b : Batch) (x w : List ℕ) (t : Transcript)
-    → SizedRelation r → SizedBatch r b → suc (length x) ≡ r .m / 2 → Elements x → length w ≡ proofElements r → Elements w
-    → verdict r x w (verifierDraws r w t) ≡ 0
-    → NoBitOutside r b
-    → ClaimsTrue r b (claims r w (verifierDraws r w t))
-    → Good r b x ⊎ BadDraw r b x w (verifierDraws r w t)
+pub soundness-run : SoundnessRun
 soundness-run r b x w t R B px ex lw ew =
     soundness r b x w (verifierDraws r w t) (record {
       run = record {
@@ -53,11 +49,7 @@ pub lists-run : (r : Relation) (b : Batch) (x w : List ℕ) (t : Transcript) →
 lists-run r b x w t R = all-lists r b x w (verifierDraws r w t) R (verifier-count r w t)
 
 -- Of a good batch with no bit outside the segments, the verifier who is given the prover's words and the same transcript agrees.
-pub completeness-run : (r : Relation) (b : Batch) (x : List ℕ) (t : Transcript)
-    → SizedRelation r → SizedBatch r b → suc (length x) ≡ r .m / 2 → Elements x
-    → Good r b x
-    → NoBitOutside r b
-    → Agrees r b x t
+pub completeness-run : CompletenessRun
 completeness-run r b x t R B px ex g stray = record {
   same-draws = drawn;
   accepted = accepts;

@@ -5,3 +5,4 @@ pub mod RealRun
 pub mod Stages
 pub mod Labels
 pub mod Capture
+pub mod Theorems
