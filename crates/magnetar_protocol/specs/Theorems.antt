@@ -3,7 +3,7 @@
 use mathlib.Core.Path.{_≡_}
 use mathlib.Core.Logic.{_⊎_}
 use mathlib.Core.List.{List}
-use Prim.Native.Nat.{_+_, _*_, _≤_, max}
+use Prim.Native.Nat.{ℕ, _+_, _*_, _≤_, max}
 use lib.ListN.{length, take}
 use Rattle.magnetar_matrix.specs.Batch.{Relation, Batch, Good}
 use Rattle.magnetar_theory.specs.Count.{naturalSum}
