@@ -182,7 +182,7 @@ least-rules = record {
   segments = lit≤ tt;
 }
   where
-    numbers : (i : ℕ) → i < 4 → getD (0 ∷ 0 ∷ 0 ∷ 0 ∷ []) i 0 ≡ 0
+    numbers : (i : ℕ) → i < 4 → _≡_ {A = ℕ} (getD (0 ∷ 0 ∷ 0 ∷ 0 ∷ []) i 0) 0
     numbers zero h = refl
     numbers (suc zero) h = refl
     numbers (suc (suc zero)) h = refl
