@@ -15,3 +15,4 @@ pub mod EachMNNNNNNSSI
 pub mod CountANIMQNNNNNNSSE
 pub mod PublicHalf
 pub mod RangeLaws
+pub mod MarkedRows

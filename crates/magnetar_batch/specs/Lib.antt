@@ -2,6 +2,7 @@ pub mod Fold
 pub mod Systems
 pub mod TableSteps
 pub mod Entries
+pub mod MarkedRows
 pub mod Check
 pub mod CheckSteps
 pub mod Ranges

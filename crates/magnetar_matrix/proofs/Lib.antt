@@ -6,4 +6,4 @@ pub mod Carried
 pub mod Verdicts
 pub mod FirstRow
 pub mod Walked
-pub mod MarkedRows
+pub mod Examples

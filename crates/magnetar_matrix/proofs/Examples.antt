@@ -1,0 +1,21 @@
+-- Small batches, computed from the definitions.
+-- Assumes nothing.
+use mathlib.Core.Path.{_≡_, refl}
+use mathlib.Core.List.{List, [], _∷_}
+use lib.ListN.{replicate}
+use Rattle.magnetar_field.specs.Gf128.{_⊗_, timesX, sumTimes, _⊕_}
+use Rattle.magnetar_field.specs.Tabulate.{tabulate}
+use Rattle.magnetar_multilinear.specs.EqTable.{eqAt, eqFactor}
+use Rattle.magnetar_matrix.specs.Sum.{sumBelow}
+use Rattle.magnetar_matrix.specs.Batch.{bitOf, foldedAt, folded}
+use Rattle.magnetar_matrix.specs.Packed.{loginWords, packedBit, loginPart, unpacked}
+
+-- a login of 64 columns has two words, and the upper one holds no bit of it
+pub upper-word-unused : unpacked 1 64 (1 ∷ 1 ∷ []) ≡ (1 ∷ replicate 63 0) ∷ []
+unfolding tabulate loginWords packedBit loginPart unpacked
+upper-word-unused = refl
+
+-- the logins (1, 0) and (0, 1) folded at the point [2]: column 0 is eq([2], 0) = 1 + 2, column 1 is eq([2], 1) = 2
+pub both-folded : folded 2 2 ((1 ∷ 0 ∷ []) ∷ (0 ∷ 1 ∷ []) ∷ []) (2 ∷ []) ≡ 3 ∷ 2 ∷ []
+unfolding _⊕_ _⊗_ timesX sumTimes tabulate eqAt eqFactor sumBelow bitOf foldedAt folded
+both-folded = refl
