@@ -1,4 +1,5 @@
 -- The answer of the plain row check.
+-- Source: document 01, "Matrices and layout" (added: a plain row check), "The run" (scratch words) and "Who can be turned back".
 -- Assumes nothing.
 use mathlib.Core.List.{List, _++_}
 use Prim.Native.Nat.{ℕ, _*_, _/_, max}

@@ -1,5 +1,6 @@
 -- How the row check goes, call by call: what the loops over number slices and the walks over records leave alike. Only private contracts,
 -- and those of the steps that both forms call, cite these definitions.
+-- Source: document 01, "Matrices and layout" (added: a plain row check), login by login.
 -- Assumes nothing.
 use mathlib.Core.Bool.{cond}
 use mathlib.Core.List.{List}

@@ -1,4 +1,6 @@
 -- The outcomes of the entries: which refusal applies, in rising order, and what each lent slice holds at exit.
+-- Source: document 01, "Matrices and layout", "The run" (scratch words) and "Who can be turned back"; the Rust's `fold_packed_w` and
+-- `build_m_combo`.
 -- Assumes nothing.
 use mathlib.Core.List.{List, _++_}
 use Prim.Native.Nat.{ℕ, _+_, _*_}

@@ -1,5 +1,6 @@
 -- Where the entries of each matrix lie among those of all six, cut where these end. Contracts of the walks over one matrix of six, and of
 -- what they are told, cite these definitions.
+-- Source: document 01, "Forms that give way" (parallel number slices), for six matrices one behind the other.
 -- Assumes nothing.
 use mathlib.Core.List.{List}
 use Prim.Native.Nat.{ℕ, _+_, _-_, min}

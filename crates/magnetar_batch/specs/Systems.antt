@@ -1,5 +1,5 @@
 -- The matrices of both systems combined, and the tests of what that asks for besides the relation.
--- Source: magnetar's `build_m_combo`; Spartan, 4 (the second sum-check's combination of the three matrices).
+-- Source: the Rust's `build_m_combo`; Spartan (Setty, CRYPTO 2020), the combined matrices of the second sum-check.
 -- Assumes nothing.
 use mathlib.Core.List.{List, [], _∷_, _++_}
 use Prim.Native.Nat.{ℕ, _+_, _*_, max}

@@ -1,5 +1,6 @@
 -- How the combined table is made, call by call: what the loops over number slices and the walks over records leave alike. Contracts of
 -- private functions, and of those that the run calls, cite these definitions.
+-- Source: the Rust's `build_m_combo`, entry by entry.
 -- Assumes nothing.
 use mathlib.Core.Bool.{cond}
 use mathlib.Core.List.{List, _++_}

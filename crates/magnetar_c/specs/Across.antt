@@ -1,5 +1,6 @@
 -- The structs that cross to C and what they carry: structs of the crates below with the same fields under the same names, and the
 -- answer of the row check.
+-- Source: document 01, "Forms that give way", as structs that C can hold.
 -- Assumes nothing.
 use Rattle.magnetar_matrix.specs.RowCheck.Verdict.{good, bin, fld}
 use Rattle.magnetar_batch.specs.Check.{Outcome}

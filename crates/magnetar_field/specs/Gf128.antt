@@ -1,5 +1,5 @@
--- GF(2^128): polynomials over GF(2) modulo x^128 + x^7 + x^2 + x + 1, the polynomial of SP 800-38D, 6.3 (but not its bit
--- order). Bit i of a number below 2^128 is the coefficient of x^i.
+-- GF(2^128): polynomials over GF(2) modulo x^128 + x^7 + x^2 + x + 1. Bit i of a number below 2^128 is the coefficient of x^i.
+-- Source: SP 800-38D, section 6.3 (the polynomial, but not its bit order); document 01, "Field and eq tables".
 -- Assumes nothing.
 use Prim.Native.Nat.{ℕ, zero, suc, _+_, _*_, _/_, _%_, _-_, _^_}
 use lib.Bits.{bitXor}
@@ -23,7 +23,7 @@ x¹²⁸ = 0x87
 unfoldable pub timesX : ℕ → ℕ
 timesX a = (a / 2 ^ 127 % 2) * x¹²⁸ ⊕ (a % 2 ^ 127) * 2
 
--- the sum over i below n of (bit i of b) times x^i times a
+-- the sum over i below n of (bit i of b) times x^i times a: what Algorithm 1 of SP 800-38D adds up
 unfoldable pub sumTimes : ℕ → ℕ → ℕ → ℕ
 sumTimes zero a b = 0
 sumTimes (suc n) a b = b % 2 * a ⊕ sumTimes n (timesX a) (b / 2)

@@ -1,4 +1,5 @@
 -- Polynomials over GF(2^128) in one variable, as lists of coefficients, that of 1 first; and their roots, as a list.
+-- Source: document 01, "The run" (a message is a polynomial; a list holds roots).
 -- Assumes nothing.
 use mathlib.Core.Path.{_≡_}
 use mathlib.Core.List.{List, [], _∷_}

@@ -1,4 +1,5 @@
 -- Which refusal applies, and what a refused call leaves.
+-- Source: document 01, "Who can be turned back" (the checks run in rising number) and "Note from the buyer" (refused calls).
 -- Assumes nothing.
 use mathlib.Core.Bool.{Bool, cond}
 use Prim.Native.Nat.{ℕ}

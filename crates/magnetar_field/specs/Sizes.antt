@@ -1,4 +1,5 @@
 -- Powers of two among numbers below 2^64.
+-- Source: document 01, "Who can be turned back" (powers of two) and "Forms that give way" (s, b and f are logarithms).
 -- Assumes nothing.
 use mathlib.Core.Bool.{Bool, cond}
 use Prim.Native.Nat.{ℕ, zero, suc, _/_, _^_}

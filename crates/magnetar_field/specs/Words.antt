@@ -1,4 +1,5 @@
 -- Words of 64 bits that hold elements: word 2i is the low half of element i, and word 2i + 1 its high half.
+-- Source: document 01, "Forms that give way" (u128 becomes two u64 words, low first).
 -- Assumes nothing.
 use mathlib.Core.Bool.{cond}
 use mathlib.Core.List.{List, [], _∷_, _++_}

@@ -1,4 +1,5 @@
 -- Numbers as bytes, the lowest first, and texts as bytes.
+-- Source: document 01, "Hash and transcript" (little-endian bytes).
 -- Assumes nothing.
 use Prim.Native.Nat.{ℕ, zero, suc, _+_, _*_, _/_, _%_}
 use Prim.Native.Char.{code}

@@ -1,4 +1,5 @@
 -- Parts as one byte string, and the hash of it.
+-- Source: document 01, "Hash and transcript"; the Rust's `serialize_parts` and `sha3_domain`.
 -- Assumes nothing.
 use mathlib.Core.Bool.{cond}
 use mathlib.Core.List.{List, [], _∷_, _++_}

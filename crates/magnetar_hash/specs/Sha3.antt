@@ -1,5 +1,5 @@
--- SHA3-256 (FIPS 202): the sponge (4), its padding (5.1) and SHA3-256 (6.1), on bytes. Bit k of byte j of a string is its bit
--- 8 * j + k (B.1), so byte j of a state is bits 8 * (j mod 8) and up of lane j / 8 (3.1.2).
+-- SHA3-256 on bytes. Bit k of byte j of a string is its bit 8 * j + k, so byte j of a state is bits 8 * (j mod 8) and up of lane j / 8.
+-- Source: FIPS 202, sections 4 (the sponge, Algorithm 8), 5.1 (its padding), 6.1 (SHA3-256), B.1 (bytes) and 3.1.2 (lanes).
 -- Assumes nothing.
 use Prim.Native.Nat.{ℕ, zero, suc, _*_, _-_, _/_, _%_, _^_}
 use mathlib.Core.List.{List, [], _∷_, _++_}
@@ -7,7 +7,7 @@ use lib.ListN.{length, getD, set, take, drop, replicate}
 use Rattle.magnetar_keccak.specs.State.{_⊕_, table}
 use Rattle.magnetar_keccak.specs.Keccak.{permuted}
 
--- the rate of 1088 bits, in bytes: 1600 - 2 * 256 bits
+-- the rate of 1088 bits, in bytes: 1600 - 2 * 256 bits (section 6.1)
 abbrev pub rate : ℕ
 rate = 136
 
@@ -25,13 +25,13 @@ unfoldable pub absorbBlocks : ℕ → List ℕ → List ℕ → List ℕ
 absorbBlocks zero s p = s
 absorbBlocks (suc n) s p = absorbBlocks n (permuted (addBytes s 0 (take rate p))) (drop rate p)
 
--- the suffix 01 of SHA-3 and pad10*1, as n bytes: the bits 011 first, a 1 last, and 0 between
+-- the suffix 01 of SHA-3 (section 6.1) and pad10*1 (section 5.1), as n bytes: the bits 011 first, a 1 last, and 0 between
 unfoldable pub padding : ℕ → List ℕ
 padding zero = []
 padding (suc zero) = 0x86 ∷ []
 padding (suc (suc n)) = 0x06 ∷ (replicate n 0 ++ 0x80 ∷ [])
 
--- a message, padded to a multiple of the rate
+-- Algorithm 8, step 1: a message, padded to a multiple of the rate
 unfoldable pub padded : List ℕ → List ℕ
 padded m = m ++ padding (rate - length m % rate)
 
@@ -39,10 +39,10 @@ padded m = m ++ padding (rate - length m % rate)
 unfoldable pub stateByte : List ℕ → ℕ → ℕ
 stateByte s j = getD s (j / 8) 0 / 2 ^ (8 * (j % 8)) % 256
 
--- the first 32 bytes of a state
+-- Algorithm 8, steps 7 to 9: the first 32 bytes of a state
 unfoldable pub squeezed : List ℕ → List ℕ
 squeezed s = table (stateByte s) 0 32
 
--- SHA3-256 of a message
+-- SHA3-256 of a message (section 6.1)
 unfoldable pub sha3 : List ℕ → List ℕ
 sha3 m = squeezed (absorbBlocks (length (padded m) / rate) (replicate 25 0) (padded m))

@@ -1,4 +1,5 @@
 -- The transcript: a state of 32 bytes and the count of the draws since the last bytes were absorbed.
+-- Source: document 01, "Hash and transcript" and "Who can be turned back" (11, 14, 15 and 17); the Rust's `Transcript`.
 -- Assumes nothing.
 use mathlib.Core.Bool.{cond}
 use mathlib.Core.List.{List, [], _∷_, _++_}

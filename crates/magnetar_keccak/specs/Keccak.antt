@@ -1,4 +1,5 @@
--- The step mappings of FIPS 202, 3.2, lane by lane, and the permutation Keccak-f[1600] (3.3, 3.4).
+-- The step mappings, lane by lane, and the permutation Keccak-f[1600].
+-- Source: FIPS 202, sections 3.2.1 to 3.2.5 (the step mappings), 3.3 (the round) and 3.4 (Keccak-f).
 -- Assumes nothing.
 use Prim.Native.Nat.{ℕ, zero, suc, _+_, _*_, _%_}
 use mathlib.Core.List.{List}
@@ -7,7 +8,7 @@ use Rattle.magnetar_keccak.specs.State.{_⊕_, _·_, complement, rotate,
 use Rattle.magnetar_keccak.specs.Offsets.{offset}
 use Rattle.magnetar_keccak.specs.Rounds.{roundConstant}
 
--- C[x] of Algorithm 1: the parity of a column
+-- C[x] of Algorithm 1 (section 3.2.1): the parity of a column
 unfoldable pub parity : List ℕ → ℕ → ℕ
 parity a x = lane a x 0 ⊕ lane a x 1 ⊕ lane a x 2 ⊕ lane a x 3 ⊕ lane a x 4
 
@@ -15,27 +16,27 @@ parity a x = lane a x 0 ⊕ lane a x 1 ⊕ lane a x 2 ⊕ lane a x 3 ⊕ lane a 
 unfoldable pub effect : List ℕ → ℕ → ℕ
 effect a x = parity a ((x + 4) % 5) ⊕ rotate (parity a ((x + 1) % 5)) 1
 
--- Algorithm 1
+-- Algorithm 1 (section 3.2.1)
 unfoldable pub theta : List ℕ → List ℕ
 theta a = lanes (λ x y. lane a x y ⊕ effect a x)
 
--- Algorithm 2
+-- Algorithm 2 (section 3.2.2)
 unfoldable pub rho : List ℕ → List ℕ
 rho a = lanes (λ x y. rotate (lane a x y) (offset x y))
 
--- Algorithm 3
+-- Algorithm 3 (section 3.2.3)
 unfoldable pub pi : List ℕ → List ℕ
 pi a = lanes (λ x y. lane a ((x + 3 * y) % 5) x)
 
--- Algorithm 4
+-- Algorithm 4 (section 3.2.4)
 unfoldable pub chi : List ℕ → List ℕ
 chi a = lanes (λ x y. lane a x y ⊕ complement (lane a ((x + 1) % 5) y) · lane a ((x + 2) % 5) y)
 
--- Algorithm 6: the constant of round i is added to the lane 0, 0
+-- Algorithm 6 (section 3.2.5): the constant of round i is added to the lane 0, 0
 unfoldable pub iota : List ℕ → ℕ → List ℕ
 iota a i = set a 0 (lane a 0 0 ⊕ roundConstant i)
 
--- Rnd (3.3)
+-- Rnd (section 3.3)
 unfoldable pub round : List ℕ → ℕ → List ℕ
 round a i = iota (chi (pi (rho (theta a)))) i
 
@@ -44,6 +45,6 @@ unfoldable pub rounds : ℕ → List ℕ → List ℕ
 rounds zero a = a
 rounds (suc n) a = round (rounds n a) n
 
--- Keccak-f[1600]: 24 rounds (3.4)
+-- Keccak-f[1600]: 24 rounds (section 3.4)
 unfoldable pub permuted : List ℕ → List ℕ
 permuted a = rounds 24 a

@@ -1,4 +1,5 @@
--- The offsets of rho (FIPS 202, 3.2.2, Algorithm 2).
+-- The offsets of rho.
+-- Source: FIPS 202, section 3.2.2, Algorithm 2.
 -- Assumes nothing.
 use Prim.Native.Nat.{ℕ, zero, suc, _+_, _*_, _/_, _%_}
 use mathlib.Core.Bool.{cond, _&&_}

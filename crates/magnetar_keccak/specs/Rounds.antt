@@ -1,4 +1,5 @@
--- The round constants of iota (FIPS 202, 3.2.5, Algorithms 5 and 6).
+-- The round constants of iota.
+-- Source: FIPS 202, section 3.2.5, Algorithms 5 and 6.
 -- Assumes nothing.
 use Prim.Native.Nat.{ℕ, zero, suc, _+_, _-_, _*_, _^_, _%_}
 use mathlib.Core.Bool.{cond}

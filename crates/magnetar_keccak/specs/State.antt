@@ -1,5 +1,5 @@
--- The state array of FIPS 202, 3.1: 25 lanes of 64 bits. The lane at x, y is entry 5 * y + x of a list, and bit z of the lane
--- is A[x, y, z] (3.1.2).
+-- The state array: 25 lanes of 64 bits. The lane at x, y is entry 5 * y + x of a list, and bit z of the lane is A[x, y, z].
+-- Source: FIPS 202, sections 3.1 and 3.1.2.
 -- Assumes nothing.
 use Prim.Native.Nat.{ℕ, zero, suc, _+_, _*_, _-_, _/_, _%_, _^_}
 use mathlib.Core.List.{List, [], _∷_}

@@ -1,4 +1,5 @@
 -- The outcomes of the entries of a layout: which refusal applies, in rising order, what is read and what is written.
+-- Source: document 01, "Matrices and layout" and "Who can be turned back"; the Rust's `SegmentLayout`.
 -- Assumes nothing.
 use mathlib.Core.Bool.{cond}
 use mathlib.Core.List.{List, [], _++_}

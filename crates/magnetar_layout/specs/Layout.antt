@@ -1,4 +1,5 @@
 -- The layout of the segments over the witness columns: each segment starts at the next multiple of its length.
+-- Source: document 01, "Matrices and layout" (segments) and "The run" (outside); the Rust's `SegmentLayout`.
 -- Assumes nothing.
 use mathlib.Core.Path.{_≡_}
 use mathlib.Core.Bool.{Bool, true, false, not, _||_, _&&_}

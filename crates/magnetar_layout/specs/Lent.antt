@@ -1,4 +1,5 @@
 -- A matrix as it is lent: four number slices, entry k being row k, column k and the value with the words lo k and hi k.
+-- Source: document 01, "Forms that give way" (parallel number slices).
 -- Assumes nothing.
 use mathlib.Core.List.{List}
 use Prim.Native.Nat.{ℕ}

@@ -1,4 +1,5 @@
 -- The refusals 1 to 11 and 15 of document 01 as tests, each with its number. The first bad test gives the number of the refusal.
+-- Source: document 01, "Who can be turned back".
 -- Assumes nothing.
 use mathlib.Core.Path.{_≡_}
 use mathlib.Core.Bool.{Bool, not, cond, _&&_}

@@ -1,5 +1,6 @@
--- A batch of logins, the relation that it is to keep, and what it means that it is good (Spartan, 2: (A z) o (B z) = C z with
--- z = (w, 1, x)).
+-- A batch of logins (the Rust's instances), the relation that it is to keep, and what it means that it is good: (A z)(B z) = C z in each
+-- row, with z = (w, 1, x).
+-- Source: Spartan (Setty, CRYPTO 2020), R1CS; document 01, "Matrices and layout" (good) and "The run" (relation, batch, true claim).
 -- Assumes nothing.
 use mathlib.Core.Path.{_≡_}
 use mathlib.Core.Bool.{Bool}
@@ -51,7 +52,7 @@ Satisfied s q b x =
     (u i : ℕ) → u < q → i < s .a .rows
     → timesAt (s .a) (assignment b x u) i ⊗ timesAt (s .b) (assignment b x u) i ≡ timesAt (s .c) (assignment b x u) i
 
--- the batch keeps the rules
+-- the batch is good: every row of both systems holds for every login
 pub record Good (r : Relation) (b : Batch) (x : List ℕ) : Type 0 where
   pub bin : Satisfied (r .bin) (r .q) b x
   pub fld : Satisfied (r .fld) (r .q) b x
@@ -64,8 +65,8 @@ foldedAt q b p y = sumBelow q (λ u. eqAt p u ⊗ bitOf b u y)
 unfoldable pub folded : ℕ → ℕ → Batch → List ℕ → List ℕ
 folded q w b p = tabulate (foldedAt q b p) w
 
--- what a true claim on a segment says: the sum over logins u and positions k of eq(p, u) eq(l, k) times the bit of
--- login u at column offset + k
+-- the value of a true claim on a segment, with r_inst for p and r_local for l: the sum over logins u and positions k of eq(p, u) eq(l, k)
+-- times the bit of login u at column offset + k
 unfoldable pub claimValue : ℕ → Batch → List ℕ → List ℕ → ℕ → ℕ → ℕ
 claimValue q b p l offset len =
     sumBelow q (λ u. sumBelow len (λ k. eqAt p u ⊗ (eqAt l k ⊗ bitOf b u (offset + k))))

@@ -1,4 +1,5 @@
 -- The matrix that a lent one (`Lent` of `magnetar_layout`) is.
+-- Source: document 01, "Forms that give way" (parallel number slices).
 -- Assumes nothing.
 use mathlib.Core.List.{List, [], _∷_}
 use Prim.Native.Nat.{ℕ, _+_, _*_, _^_}

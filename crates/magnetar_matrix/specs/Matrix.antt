@@ -1,5 +1,6 @@
--- Sparse matrices over GF(2^128) as lists of entries (Spartan, 2: the matrices A, B, C of an R1CS instance, and their
--- multilinear extensions). Entries at one place add up. Rows and columns are counted from 0.
+-- Sparse matrices over GF(2^128) as lists of entries: the matrices A, B, C of an R1CS instance, and their multilinear extensions. Entries
+-- at one place add up. Rows and columns are counted from 0.
+-- Source: Spartan (Setty, CRYPTO 2020), R1CS; document 01, "Matrices and layout"; the Rust's `SparseMatrix`.
 -- Assumes nothing.
 use mathlib.Core.Bool.{Bool, cond, _&&_}
 use mathlib.Core.List.{List, [], _∷_, map}

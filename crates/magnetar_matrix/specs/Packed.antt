@@ -1,5 +1,6 @@
 -- The batch as packed words: each login has two words of 64 bits for each 128 columns or part of 128, the lowest column in
 -- the lowest bit of its first word. Bits at or past w belong to no column.
+-- Source: document 01, "Forms that give way" (packed login rows) and "Matrices and layout" (unused bits never matter).
 -- Assumes nothing.
 use mathlib.Core.List.{List, _∷_, _++_}
 use Prim.Native.Nat.{ℕ, _*_, _/_, _%_, _^_}

@@ -1,4 +1,5 @@
 -- The plain row check: the first row that does not hold, bin before fld, then the lowest login, then the lowest row.
+-- Source: document 01, "Matrices and layout" (added: a plain row check).
 -- Assumes nothing.
 use mathlib.Core.Bool.{Bool, cond}
 use mathlib.Core.List.{List}

@@ -1,4 +1,5 @@
 -- The outcomes of the entries over tables: which refusal applies, in rising order, and what each lent slice holds at exit.
+-- Source: document 01, "Field and eq tables", "Who can be turned back" (11 and 15) and "The run" (scratch words).
 -- Assumes nothing.
 use mathlib.Core.Bool.{Bool, not, _||_}
 use mathlib.Core.List.{List, _++_}

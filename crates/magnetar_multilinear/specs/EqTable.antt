@@ -1,4 +1,5 @@
 -- The equality polynomial: eq(p, i) is the product over j of p_j where bit j of i is 1, and of 1 + p_j where it is 0.
+-- Source: document 01, "Field and eq tables" (`EqBits::build`).
 -- Assumes nothing.
 use mathlib.Core.Bool.{Bool, true, false}
 use mathlib.Core.List.{List, [], _∷_}

@@ -1,5 +1,6 @@
 -- Multilinear polynomials in n variables, as tables of their 2^n values at the bit strings: entry i is the value at the
 -- bits of i, bit 0 that of variable 0.
+-- Source: document 01, "Field and eq tables" (`eval_mle`); the Rust's `bind_var`.
 -- Assumes nothing.
 use mathlib.Core.List.{List, [], _∷_}
 use Prim.Native.Nat.{ℕ, _+_, _*_, _/_, _%_, _^_}

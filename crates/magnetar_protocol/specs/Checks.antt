@@ -1,4 +1,6 @@
 -- What the verifier checks, in its order, with the draws as plain elements. Each check has the number of its refusal.
+-- Source: document 01, "Who can be turned back" (21 to 29, in the Rust's order); the Rust's `verify_virtual_spartan`; Spartan (Setty,
+-- CRYPTO 2020), the verifier of both sum-checks.
 -- Assumes nothing.
 use mathlib.Core.Bool.{Bool, cond}
 use mathlib.Core.List.{List, [], _∷_, _++_}
@@ -41,7 +43,7 @@ combined r d =
     ∷ getD (mleTable (r .bin .c) (d .rowBin)) y 0 ∷ getD (mleTable (r .fld .a) (d .rowFld)) y 0
     ∷ getD (mleTable (r .fld .b) (d .rowFld)) y 0 ∷ getD (mleTable (r .fld .c) (d .rowFld)) y 0 ∷ [])) (r .m)
 
--- the values vs of the segments of lengths ns from segment i on, each times eq(high part of the low point, number of the segment's place)
+-- the values vs of the segments of lengths ns from segment i on, each times eq(r_low behind r_local, the segment's `b_i`)
 unfoldable pub segmentSum : (ns low : List ℕ) → ℕ → List ℕ → ℕ
 segmentSum ns low i [] = 0
 segmentSum ns low i (v ∷ vs) = eqAt (drop (localVars ns i) low) (suffix ns i) ⊗ v ⊕ segmentSum ns low (suc i) vs

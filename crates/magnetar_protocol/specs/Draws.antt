@@ -1,5 +1,6 @@
 -- The draws of a verifying run as plain elements, in the order in which they are drawn: tau of bin, tau of fld, the challenges of
 -- the shared rounds, of the bin and of the fld row rounds, six alphas, and the challenges of the inner rounds.
+-- Source: document 01, "The run" (the drawn challenges, r_inst, r_low); the Rust's `verify_virtual_spartan`.
 -- Assumes nothing.
 use mathlib.Core.List.{List, reverse}
 use Prim.Native.Nat.{ℕ, _+_, _-_}
@@ -35,11 +36,11 @@ drawsOf r d =
       inner = take (logCols r) (drop (logLogins r + logBin r + (logLogins r + logFld r) + logLogins r + logBin r + logFld r + 6) d);
     }
 
--- the point of the logins: the shared rounds bind the highest bit first
+-- r_inst, the point of the logins: the shared challenges reversed, since the shared rounds bind the highest bit first
 unfoldable pub loginPoint : Draws → List ℕ
 loginPoint d = reverse (d .shared)
 
--- the point of the columns without its last element
+-- r_low, the point of the columns without its last element: all inner challenges but the last
 unfoldable pub lowPoint : Relation → Draws → List ℕ
 lowPoint r d = take (logCols r - 1) (d .inner)
 

@@ -1,4 +1,5 @@
 -- What a list of checks finds: the first one that does not pass.
+-- Source: document 01, "Who can be turned back" (21 to 29, in the Rust's order).
 -- Assumes nothing.
 use mathlib.Core.Bool.{Bool, cond}
 use mathlib.Core.List.{List, [], _∷_}

@@ -1,5 +1,6 @@
 -- The proof as one list of elements, in document 01's order: per shared round 4 bin then 4 fld coefficients; bin row rounds, 4
 -- each; fld row rounds, 4 each; 6 terminals; inner rounds, 3 each; v_z; segment values.
+-- Source: document 01, "Forms that give way" (`VirtualSpartanProof`).
 -- Assumes nothing.
 use mathlib.Core.List.{List, _++_}
 use Prim.Native.Nat.{ℕ, _+_, _*_}

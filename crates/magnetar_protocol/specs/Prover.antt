@@ -1,5 +1,6 @@
 -- The honest prover's words and claims, with the draws as plain elements: each message is the exact polynomial of its round, and
 -- so uses only the draws before it (`magnetar_sumcheck_verifier` specs/Messages; proofs/HonestRun `words-are` says the same of all words in the theory).
+-- Source: document 01, "The run" (the messages, true claims) and "Forms that give way" (the order of the proof).
 -- Assumes nothing.
 use mathlib.Core.Path.{_≡_}
 use mathlib.Core.List.{List, [], _∷_, _++_}
@@ -79,7 +80,7 @@ module _ (r : Relation) (b : Batch) (x : List ℕ) where
 unfoldable pub proverWords : Relation → Batch → (x d : List ℕ) → List ℕ
 proverWords r b x d = honestWords r b x (drawsOf r d)
 
--- the claims: r_inst, r_low, then the true segment values
+-- the claims buffer's elements: r_inst, r_low, then the true segment values
 unfoldable pub proverClaims : Relation → Batch → List ℕ → List ℕ
 proverClaims r b d = loginPoint (drawsOf r d) ++ (lowPoint r (drawsOf r d) ++ trueValues r b (drawsOf r d))
 

@@ -1,4 +1,5 @@
 -- How many words of scratch a run wants lent. A size past document 01's limit counts as the limit.
+-- Source: document 01, "The run" (scratch words).
 -- Assumes nothing.
 use Prim.Native.Nat.{ℕ, _+_, _*_, min, max}
 

@@ -1,4 +1,5 @@
 -- A verifying run with the draws as plain elements: its answer and its claims; and what its claims say.
+-- Source: document 01, "The run" (accepted, the claims buffer, a true claim).
 -- Assumes nothing.
 use mathlib.Core.Path.{_≡_}
 use mathlib.Core.List.{List, _++_}
@@ -11,15 +12,15 @@ use Rattle.magnetar_protocol.specs.Proof.{segmentValues}
 use Rattle.magnetar_protocol.specs.Draws.{Draws, drawsOf, loginPoint, lowPoint}
 use Rattle.magnetar_protocol.specs.Checks.{checks, firstRefusal}
 
--- the answer of the verifier: 0, or the first of 21 to 29 that applies
+-- the answer of the verifier: 0 where it accepts, or the first of 21 to 29 that applies
 unfoldable pub verdict : Relation → List ℕ → List ℕ → List ℕ → ℕ
 verdict r x w d = firstRefusal (checks r x w (drawsOf r d))
 
--- the claims: r_inst, r_low, then the segment values
+-- the claims buffer's elements: r_inst, r_low, then the segment values
 unfoldable pub claims : Relation → List ℕ → List ℕ → List ℕ
 claims r w d = loginPoint (drawsOf r d) ++ (lowPoint r (drawsOf r d) ++ segmentValues r w)
 
--- the value that the claim on segment i is about, at the points of the draws
+-- the value of a true claim on segment i, at r_inst and r_local, which is the first log2(length) elements of r_low
 unfoldable pub trueValue : Relation → Batch → Draws → ℕ → ℕ
 trueValue r b d i =
     claimValue (r .q) b (loginPoint d) (take (localVars (r .lengths) i) (lowPoint r d)) (offset (r .lengths) i) (getD (r .lengths) i 0)

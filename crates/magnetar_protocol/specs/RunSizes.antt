@@ -1,4 +1,5 @@
 -- The sizes that the refusals 1 to 16 leave, and those of a batch and of draws that fit them.
+-- Source: document 01, "Who can be turned back" and "The run" (the relation, a batch).
 -- Assumes nothing.
 use mathlib.Core.Path.{_≡_}
 use mathlib.Core.Bool.{true, _&&_}

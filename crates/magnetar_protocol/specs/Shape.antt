@@ -1,4 +1,5 @@
 -- The sizes of a relation that a run goes by: logarithms to the base 2, since all of them are powers of two.
+-- Source: document 01, "Forms that give way" (s, b, f, L and the order of the proof).
 -- Assumes nothing.
 use mathlib.Core.List.{List, []}
 use Prim.Native.Nat.{ℕ, _+_, _*_}

@@ -1,5 +1,6 @@
 -- What the theorem on an accepted run speaks of: bits outside the segments, and the lists of bad draws, one definition for every
 -- draw of a run. Nothing here mentions a hash or a transcript.
+-- Source: document 01, "The run" (outside; demand 3's lists).
 -- Assumes nothing.
 use mathlib.Core.Path.{_≡_}
 use mathlib.Core.Bool.{true}
@@ -14,7 +15,7 @@ use Rattle.magnetar_theory.specs.Gf128.{number, gf128}
 use Rattle.magnetar_protocol.specs.Shape.{logLogins, logBin, logFld}
 use Rattle.magnetar_protocol.specs.Theory.{els, relationE, publicE, batchE}
 
--- no bit is set at a column that lies in no segment
+-- no bit is outside: none is set at a column that lies in no segment
 abbrev pub NoBitOutside : Relation → Batch → Type 0
 NoBitOutside r b = (u y : ℕ) → u < r .q → y < r .m / 2 → outside (r .lengths) y ≡ true → bitOf b u y ≡ 0
 

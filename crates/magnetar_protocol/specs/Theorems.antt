@@ -1,4 +1,5 @@
 -- What is proved of runs with any elements in the place of the draws: each statement is the type of the law that it names.
+-- Source: document 01, "The run" (both halves of demand 3, for any elements in the place of the draws).
 -- Assumes nothing.
 use mathlib.Core.Path.{_≡_}
 use mathlib.Core.Logic.{_⊎_}

@@ -1,5 +1,6 @@
 -- The run over numbers as a run of magnetar_theory over GF(2^128): the relation, the batch, the public half, the draws and the
 -- proof's words, each number as the element that it stands for.
+-- Source: document 01, "The run", in the terms of magnetar_theory.
 -- Assumes nothing.
 use mathlib.Core.List.{List, [], _∷_, map}
 use Prim.Native.Nat.{ℕ, _-_, _/_}

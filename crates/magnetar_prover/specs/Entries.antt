@@ -1,4 +1,5 @@
 -- The outcomes of the entries: which refusal applies, in rising order, the answer, and what each lent slice holds at exit.
+-- Source: document 01, "The run" and "Who can be turned back"; the Rust's `prove_virtual_spartan`.
 -- Assumes nothing.
 use mathlib.Core.Bool.{not}
 use mathlib.Core.List.{List, [], _∷_, _++_}

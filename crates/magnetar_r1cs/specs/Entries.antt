@@ -1,4 +1,5 @@
 -- The outcomes of the entries: which refusal applies, in rising order, and what each lent slice holds at exit.
+-- Source: document 01, "Matrices and layout", "The run" (scratch words) and "Who can be turned back"; the Rust's `SparseMatrix`.
 -- Assumes nothing.
 use mathlib.Core.Bool.{Bool, true, false, not}
 use mathlib.Core.List.{List, [], _∷_, _++_}

@@ -1,4 +1,5 @@
 -- The outputs of a batch as masks: where every output is 0 or 1, those of several logins at one row are the bits of one number.
+-- Source: document 01, "Matrices and layout" (masks); the Rust's `apply_simd_bit_masks`.
 -- Assumes nothing.
 use mathlib.Core.List.{List, []}
 use Prim.Native.Nat.{ℕ, zero, suc, _+_, _*_, _^_}

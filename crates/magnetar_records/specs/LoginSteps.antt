@@ -1,5 +1,6 @@
 -- What the walk over entry records does for a batch of logins, record by record. Private contracts, and that of `write_products`, cite
 -- these definitions.
+-- Source: the Rust's `apply_simd_packed`, entry by entry.
 -- Assumes nothing.
 use mathlib.Core.Bool.{Bool, not, cond, _&&_}
 use mathlib.Core.List.{List, [], _∷_, _++_}

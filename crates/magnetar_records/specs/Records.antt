@@ -1,4 +1,5 @@
 -- The matrix that is lent as a slice of entry records.
+-- Source: document 01, "Forms that give way" (a slice of entry records: row, column, low word, high word).
 -- Assumes nothing.
 use mathlib.Core.List.{List, map}
 use Prim.Native.Nat.{ℕ}

@@ -1,5 +1,6 @@
 -- What one entry, or one call, does to the words of a table. Contracts of private functions, and of the steps that other crates call, cite
 -- these definitions.
+-- Source: the Rust's loops over the entries of a matrix (`apply`, `build_m_combo`), entry by entry.
 -- Assumes nothing.
 use mathlib.Core.Bool.{cond}
 use mathlib.Core.List.{List, [], _∷_, _++_}

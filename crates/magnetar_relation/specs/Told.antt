@@ -1,5 +1,6 @@
 -- Walks over the entries of six matrices, one behind the other: what is done with entry i, and with those of one matrix. Contracts of
 -- private functions, and of the walks that other crates call, cite these definitions.
+-- Source: document 01, "Forms that give way" (entries as number slices and as records): both are read entry by entry.
 -- Assumes nothing.
 use mathlib.Core.Bool.{Bool, true, cond, _&&_}
 use mathlib.Core.List.{List, [], _∷_}

@@ -1,5 +1,6 @@
 -- A round of the verifier that draws its challenge: it checks first, and only where the message is right it absorbs the message and
 -- draws.
+-- Source: the Rust's `round_capturing`; document 01, "Who can be turned back" (11 and 14).
 -- Assumes nothing.
 use mathlib.Core.Bool.{Bool, false, not, cond}
 use mathlib.Core.List.{List}

@@ -1,4 +1,5 @@
 -- The labels of a system's row rounds and of its tau, as in the Rust.
+-- Source: the Rust's `verify_virtual_spartan`.
 -- Assumes nothing.
 use mathlib.Core.Bool.{Bool, cond}
 use Prim.Native.String.{String}

@@ -1,4 +1,5 @@
 -- A schedule played on a transcript: what it absorbs is taken from the proof's elements, and the elements it draws are written down.
+-- Source: document 01, "Hash and transcript" (absorbing, drawing).
 -- Assumes nothing.
 use mathlib.Core.List.{List, [], _∷_, _++_}
 use Prim.Native.Nat.{ℕ}

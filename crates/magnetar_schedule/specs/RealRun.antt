@@ -1,4 +1,5 @@
 -- The runs of both ends with their transcript: the draws are those that the transcript gives along the schedule.
+-- Source: document 01, "The run" (the real run is one case of any draws).
 -- Assumes nothing.
 use mathlib.Core.Path.{_≡_}
 use mathlib.Core.List.{List, []}

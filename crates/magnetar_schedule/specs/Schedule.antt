@@ -1,5 +1,6 @@
 -- What a run absorbs and draws, in its order: elements of the proof under their labels, and the challenges. It depends on the sizes of
 -- the relation alone.
+-- Source: the order and the labels of the Rust's `prove_virtual_spartan` and `verify_virtual_spartan`.
 -- Assumes nothing.
 use mathlib.Core.Path.{_≡_}
 use mathlib.Core.Bool.{cond}

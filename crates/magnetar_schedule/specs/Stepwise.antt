@@ -1,6 +1,7 @@
 -- The prover's run step by step, as its functions make it: what it sends is absorbed and added to the proof, and what it draws is
 -- drawn. The contracts of the prover's parts cite it (`magnetar_prover`, `magnetar_spartan` specs/Proving); no theorem and no outcome of
 -- an entry does. proofs/ProverRun shows that its draws, words and transcript are those of specs/RealRun.
+-- Source: the Rust's `prove_virtual_spartan`, step by step.
 -- Assumes nothing.
 use mathlib.Core.List.{List, [], _∷_, _++_}
 use Prim.Native.Nat.{ℕ, zero, suc, _+_, _-_}

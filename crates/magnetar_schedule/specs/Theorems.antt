@@ -1,4 +1,5 @@
 -- What is proved of the schedule, and of runs with their transcript: each statement is the type of the law that it names.
+-- Source: document 01, "The run" (both halves of demand 3, for the draws of the transcript).
 -- Assumes nothing.
 use mathlib.Core.Path.{_≡_}
 use mathlib.Core.Logic.{_⊎_}

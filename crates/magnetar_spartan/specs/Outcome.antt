@@ -1,4 +1,5 @@
 -- What both ends leave, refused or not: the number, the transcript and every lent word.
+-- Source: document 01, "The run" and "Who can be turned back"; the Rust's `prove_virtual_spartan` and `verify_virtual_spartan`.
 -- Assumes nothing.
 use mathlib.Core.List.{List, _++_}
 use Prim.Native.Nat.{ℕ, _/_}

@@ -1,4 +1,5 @@
 -- The refusals 1 to 16 of both ends as tests, each with its number. The first bad test gives the number of the refusal.
+-- Source: document 01, "Who can be turned back" and "The run" (scratch words).
 -- Assumes nothing.
 use mathlib.Core.Bool.{not}
 use mathlib.Core.List.{List, [], _∷_, _++_}

@@ -1,4 +1,5 @@
 -- The two theorems on both entries, as their contracts say them, and the laws beside them.
+-- Source: document 01, "The run" (both halves of demand 3).
 -- Assumes nothing.
 use mathlib.Core.Path.{_≡_}
 use mathlib.Core.Logic.{_⊎_}
@@ -23,7 +24,7 @@ AreWords l = EachBelow (2 ^ 64) l
 
 -- ---- an accepted call
 -- What an answer of 0 of the verifier says, for public words x, proof words w, transcript t and the claims buffer c at exit: of every batch
--- of the right sizes with no bit set outside the segments, of which the claims are true: it keeps the rules, or some draw of the transcript
+-- of the right sizes with no bit set outside the segments, of which the claims are true: it is good, or some draw of the transcript
 -- lies in its list of at most three.
 abbrev pub AcceptedCall : Rules → (x w : List ℕ) → Transcript → (c : List ℕ) → Type 0
 AcceptedCall R x w t c =
@@ -41,7 +42,7 @@ pub record AcceptedBy (R : Rules) (ws x : List ℕ) (t : Transcript) (w c : List
   pub same-transcript : verifyOutcome R x (take (proofWords R) w) t c′ s′ .transcript ≡ u
 
 -- What an answer of 0 of the prover says, for packed words ws, public words x, transcript t, and the proof buffer w, the claims buffer c and
--- the transcript u at exit: where the batch keeps the rules and has no bit set outside the segments, every verifier with room enough accepts.
+-- the transcript u at exit: where the batch is good and has no bit set outside the segments, every verifier with room enough accepts.
 abbrev pub ProvedCall : Rules → (ws x : List ℕ) → Transcript → (w c : List ℕ) → Transcript → Type 0
 ProvedCall R ws x t w c u =
     Good (relationOf R) (batchOf R ws) (elements x) → NoBitOutside (relationOf R) (batchOf R ws)

@@ -1,4 +1,5 @@
 -- The outcomes of the entries: which refusal applies, in rising order, and what each lent slice holds at exit.
+-- Source: document 01, "The run" (the messages) and "Who can be turned back" (11 and 15); the Rust's `SumcheckProver` and `EqFactor`.
 -- Assumes nothing.
 use mathlib.Core.Bool.{Bool, not, _&&_}
 use mathlib.Core.List.{List, _++_}

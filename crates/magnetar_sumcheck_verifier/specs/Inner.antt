@@ -1,4 +1,5 @@
 -- A round of the inner sum-check, of the sum over y of t(y) z(y): the exact polynomial of the round.
+-- Source: Spartan (Setty, CRYPTO 2020), the second sum-check; document 01, "The run" (degree 2 inner).
 -- Assumes nothing.
 use mathlib.Core.List.{List, [], _∷_}
 use Prim.Native.Nat.{ℕ, _/_}

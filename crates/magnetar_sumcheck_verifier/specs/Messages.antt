@@ -1,6 +1,7 @@
 -- The honest prover's messages of a whole sum-check, round by round. That each is the exact polynomial of its round is proved: its values at
 -- 0 and at 1 add up to the sum that is claimed (proofs/Values `outer-sum`, `inner-sum`), and its value at any r is the sum after the tables
 -- are bound at r (`outer-bound`, `inner-bound`).
+-- Source: Spartan (Setty, CRYPTO 2020), both sum-checks; document 01, "The run" (a message is the exact polynomial of its round).
 -- Assumes nothing.
 use mathlib.Core.List.{List, [], _∷_, _++_}
 use Prim.Native.Nat.{ℕ, suc}

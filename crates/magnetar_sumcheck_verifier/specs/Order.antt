@@ -1,5 +1,6 @@
 -- In which order the variables are bound. `BindOrder::HighBitsFirst { high: s }`: the highest s variables, the highest of them
 -- first, and then the others, the lowest first. `BindOrder::Increasing` is the same with s = 0.
+-- Source: document 01, "The run" (which bits the rounds bind first); the Rust's `BindOrder`.
 -- Assumes nothing.
 use mathlib.Core.Bool.{cond}
 use mathlib.Core.List.{List, [], _∷_, _++_, reverse}

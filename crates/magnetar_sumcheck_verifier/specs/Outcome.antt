@@ -1,4 +1,5 @@
 -- The outcomes of a round of the verifier that is given the number n of coefficients wanted: refused, wrong or right.
+-- Source: document 01, "Who can be turned back" (11); the Rust's `round_external`.
 -- Assumes nothing.
 use mathlib.Core.Bool.{Bool, false, not}
 use mathlib.Core.List.{List}

@@ -4,6 +4,7 @@
 -- the variables that stay after this round. With X for this round's variable, and t for its tau, the factor is
 -- k ((1 + t) + X) e(x), and the polynomial is
 --   k ((1 + t) + X) (the sum over x of e(x) (a(X, x) b(X, x) + c(X, x))).
+-- Source: Spartan (Setty, CRYPTO 2020), the first sum-check; document 01, "The run" (degree 3 outer); the Rust's `SumcheckProver::message`.
 -- Assumes nothing.
 use mathlib.Core.List.{List, [], _∷_}
 use Prim.Native.Nat.{ℕ, _/_}

@@ -1,5 +1,6 @@
 -- A round of the verifier, for messages of any degree: a message is the list of a polynomial's coefficients, that of 1 first. It is
 -- right where its values at 0 and at 1 add up to the running claim, and its value at the challenge is the next running claim.
+-- Source: the sum-check protocol, as in Spartan (Setty, CRYPTO 2020); the Rust's `round_external`.
 -- Assumes nothing.
 use mathlib.Core.Bool.{Bool, cond}
 use mathlib.Core.List.{List, [], _∷_}

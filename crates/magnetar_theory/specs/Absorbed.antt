@@ -1,4 +1,5 @@
 -- How many of the proof's words have been absorbed when a draw is made. A word here is one element of the proof.
+-- Source: document 01, "Forms that give way" (the order of the proof) and "The run" (demand 3's lists).
 -- Assumes nothing.
 use Prim.Native.Nat.{ℕ, suc, _+_, _-_, _*_, min}
 

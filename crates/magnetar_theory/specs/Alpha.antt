@@ -1,4 +1,5 @@
 -- The challenge alpha, which makes one claim of all terminal values: the list of the elements that hide a wrong one.
+-- Source: Spartan (Setty, CRYPTO 2020), the combination of the terminal values; document 01, "The run" (alpha; demand 3's lists).
 -- Assumes nothing.
 use mathlib.Core.Bool.{cond}
 use mathlib.Core.List.{List, [], _∷_, List·Memᴰ}

@@ -1,5 +1,6 @@
 -- The cells of the two sum-checks of Spartan: (a, b, c, e) with the summand e (a b + c), and (t, z) with the summand t z; and
 -- the polynomial of each on the line through two cells.
+-- Source: Spartan (Setty, CRYPTO 2020), the summands of both sum-checks.
 -- Assumes nothing.
 use mathlib.Core.List.{List, [], _∷_}
 use Rattle.magnetar_theory.specs.Field.{Field}

@@ -1,4 +1,5 @@
 -- How many draws a run has, and sums of natural numbers.
+-- Source: document 01, "The run" (the drawn challenges).
 -- Assumes nothing.
 use Prim.Native.Nat.{ℕ, zero, suc, _+_}
 

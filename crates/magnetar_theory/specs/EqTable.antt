@@ -1,4 +1,5 @@
 -- The eq table of a point, the sum of two lists' products, tables of elements with a variable bound, and eq of two points.
+-- Source: document 01, "Field and eq tables".
 -- Assumes nothing.
 use mathlib.Core.List.{List, [], _∷_}
 use Prim.Native.Nat.{ℕ, zero, suc, _+_, _^_}

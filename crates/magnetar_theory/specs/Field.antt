@@ -1,6 +1,7 @@
 -- What the theory asks of GF(2^128), as a record of operations and a record of laws, and the polynomials over it: a commutative ring of
 -- characteristic two in which the roots of a polynomial that is not zero are listed and few. Every finite field of characteristic two is
 -- one; no inverse is asked for. The theory holds over every such ring, and is used at Gf128 alone.
+-- Source: the laws of a finite field of characteristic two, as far as the theory uses them.
 -- Assumes nothing.
 use mathlib.Core.Path.{_≡_}
 use mathlib.Core.Bool.{Bool, true, false, _&&_}

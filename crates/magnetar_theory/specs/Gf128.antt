@@ -1,5 +1,6 @@
 -- GF(2^128) as such a ring: the numbers below 2^128 with the sum and the product of magnetar_field; and the element that a number
 -- stands for, by which lists of numbers become lists of elements.
+-- Source: document 01, "Field and eq tables".
 -- Assumes nothing.
 use mathlib.Core.Bool.{Bool}
 use mathlib.Core.List.{List, map}

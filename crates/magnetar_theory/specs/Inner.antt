@@ -1,4 +1,5 @@
 -- The inner sum-check: the sum over columns of t(y) z(y).
+-- Source: Spartan (Setty, CRYPTO 2020), the second sum-check.
 -- Assumes nothing.
 use mathlib.Core.List.{List, [], _∷_}
 use Rattle.magnetar_theory.specs.Field.{Field}

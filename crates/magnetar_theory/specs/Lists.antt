@@ -1,6 +1,7 @@
 -- The lists of bad draws, one definition for all draws of a run: the list of a draw is given by the relation, the batch, the
 -- public columns, the proof's words and the draws before it. And the proof's words and the draws as flat lists. A word here is one element
 -- of the proof.
+-- Source: document 01, "The run" (demand 3's lists).
 -- Assumes nothing.
 use mathlib.Core.Bool.{Bool, cond}
 use mathlib.Core.List.{List, [], _∷_, _++_, List·Memᴰ}

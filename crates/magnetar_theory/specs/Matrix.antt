@@ -1,4 +1,5 @@
 -- Sparse matrices as lists of entries (equal places add), their products with vectors, and weighted sums of vectors.
+-- Source: Spartan (Setty, CRYPTO 2020), R1CS; document 01, "Matrices and layout" (equal entries add).
 -- Assumes nothing.
 use mathlib.Core.Path.{_≡_}
 use mathlib.Core.List.{List, [], _∷_, _++_}

@@ -1,4 +1,5 @@
 -- The outer sum-check of one system: the sum over logins and rows of eq(tau, x) (a(x) b(x) + c(x)).
+-- Source: Spartan (Setty, CRYPTO 2020), the first sum-check.
 -- Assumes nothing.
 use mathlib.Core.List.{List, [], _∷_}
 use Prim.Native.Nat.{ℕ}

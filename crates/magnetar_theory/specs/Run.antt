@@ -1,6 +1,7 @@
 -- A whole run of virtual Spartan with its draws as plain elements: the relation, the draws, the proof's words, what the verifier
 -- tests, the true value of each claim, and the honest prover's words. A word here is one element of the proof. Nothing here mentions a hash
 -- or a transcript.
+-- Source: document 01, "The run" and "Forms that give way" (the order of the proof); the Rust's `verify_virtual_spartan`.
 -- Assumes nothing.
 use mathlib.Core.Path.{_≡_}
 use mathlib.Core.Bool.{Bool}

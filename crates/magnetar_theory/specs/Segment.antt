@@ -1,4 +1,5 @@
 -- Aligned segments of a vector that is zero outside them.
+-- Source: document 01, "Matrices and layout" (segments) and "The run" (outside).
 -- Assumes nothing.
 use mathlib.Core.List.{List, [], _∷_}
 use Prim.Native.Nat.{ℕ, _+_, _-_, _*_, _^_, _≤_}

@@ -1,5 +1,6 @@
 -- The sum-check protocol, as Spartan has it: rounds over any kind of state, the verifier's checks and its running claim, the
 -- honest prover's messages, and for each round the list of the challenges that let a wrong message through.
+-- Source: the sum-check protocol, as in Spartan (Setty, CRYPTO 2020); document 01, "The run" (demand 3's lists).
 -- Assumes nothing.
 use mathlib.Core.Path.{_≡_}
 use mathlib.Core.Bool.{cond}

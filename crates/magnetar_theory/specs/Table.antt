@@ -1,5 +1,6 @@
 -- Tables over the boolean cube as the states of a sum-check. A table is a list of cells, entry i that of the bits of i; a round
 -- binds the highest variable while there are high ones left, and then the lowest.
+-- Source: Spartan (Setty, CRYPTO 2020), multilinear polynomials; document 01, "The run" (which bits the rounds bind first).
 -- Assumes nothing.
 use mathlib.Core.List.{List, [], _∷_}
 use Prim.Native.Nat.{ℕ, zero, suc, _+_, _^_}

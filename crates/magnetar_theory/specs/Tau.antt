@@ -1,4 +1,5 @@
 -- The challenge tau, which makes one sum of all rows: the list of the elements that hide a row that fails.
+-- Source: Spartan (Setty, CRYPTO 2020), the challenge tau of the first sum-check; document 01, "The run" (demand 3's lists).
 -- Assumes nothing.
 use mathlib.Core.Path.{_≡_}
 use mathlib.Core.Bool.{cond}

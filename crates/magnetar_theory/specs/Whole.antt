@@ -1,4 +1,5 @@
 -- What the two theorems on a whole run say, over GF(2^128).
+-- Source: document 01, "The run" (good; demand 3's lists).
 -- Assumes nothing.
 use mathlib.Core.List.{List}
 use Prim.Native.Nat.{ℕ}

@@ -1,4 +1,5 @@
--- The outcome of `write_claims`: the claims of a run, as words at the front of what is lent.
+-- The outcome of `write_claims`: the claims of a run, as words at the front of the claims buffer.
+-- Source: document 01, "The run" (the claims buffer) and "Who can be turned back".
 -- Assumes nothing.
 use mathlib.Core.List.{List, _++_}
 use Prim.Native.Nat.{ℕ, _+_, _-_, _*_}

@@ -1,5 +1,6 @@
 -- The outcome of `end_checks`: the checks 27, 28 and 29, with a table in place of the six matrices combined at the row points, and a half
 -- in place of the public half folded over the logins.
+-- Source: document 01, "Who can be turned back" (1, 4, 8 to 11, 15, 16 and 27 to 29).
 -- Assumes nothing.
 use mathlib.Core.List.{List, _++_}
 use Prim.Native.Nat.{ℕ, _*_, _/_}

@@ -1,4 +1,5 @@
 -- The outcome of `outer_checks`: the checks 21 to 26.
+-- Source: document 01, "Who can be turned back" (1, 4, 10, 11, 16 and 21 to 26).
 -- Assumes nothing.
 use mathlib.Core.Bool.{not}
 use mathlib.Core.List.{List, [], _∷_, _++_}
