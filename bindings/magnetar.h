@@ -119,11 +119,11 @@ uint32_t magnetar_inner_message(uint64_t *out, size_t out_len, const uint64_t *t
 magnetar_answer magnetar_transcript_new(const uint8_t *protocol, size_t protocol_len, const uint8_t *public_parts,
                                         size_t public_parts_len, const size_t *lens, size_t lens_len);
 
-/* The transcript after bytes are absorbed under a label. */
-magnetar_transcript magnetar_absorb_bytes(magnetar_transcript t, const uint8_t *label, size_t label_len, const uint8_t *bytes,
-                                          size_t bytes_len);
+/* Bytes are absorbed under a label. 14: the counter is 2^32 or more; the transcript is then as it was. */
+magnetar_answer magnetar_absorb_bytes(magnetar_transcript t, const uint8_t *label, size_t label_len, const uint8_t *bytes,
+                                      size_t bytes_len);
 
-/* The same for elements. 11: an odd number of words. */
+/* The same for elements. 11: an odd number of words; 14. */
 magnetar_answer magnetar_absorb_field(magnetar_transcript t, const uint8_t *label, size_t label_len, const uint64_t *words,
                                       size_t words_len);
 

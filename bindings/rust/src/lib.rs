@@ -87,8 +87,10 @@ impl Transcript {
     }
 
     /// Absorbs bytes under a label.
-    pub fn absorb_bytes(&mut self, label: &[u8], bytes: &[u8]) {
-        *self = unsafe { sys::magnetar_absorb_bytes(*self, label.as_ptr(), label.len(), bytes.as_ptr(), bytes.len()) };
+    pub fn absorb_bytes(&mut self, label: &[u8], bytes: &[u8]) -> Result<(), Refusal> {
+        let answer = unsafe { sys::magnetar_absorb_bytes(*self, label.as_ptr(), label.len(), bytes.as_ptr(), bytes.len()) };
+        *self = answer.transcript;
+        Refusal::check(answer.code)
     }
 
     /// Absorbs the words of elements under a label.

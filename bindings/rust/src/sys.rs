@@ -97,7 +97,7 @@ extern "C" {
         t: Transcript,
         label: *const u8, label_len: usize,
         bytes: *const u8, bytes_len: usize,
-    ) -> Transcript;
+    ) -> Answer;
     pub fn magnetar_absorb_field(
         t: Transcript,
         label: *const u8, label_len: usize,

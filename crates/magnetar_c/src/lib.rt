@@ -237,10 +237,10 @@ pub extern "C" fn magnetar_absorb_bytes(
     t: MagnetarTranscript,
     label: &[u8],
     bytes: &[u8],
-) -> MagnetarTranscript
-    ensures { λ r. ⌜ across.transcript r ≡ spec.absorbed (across.transcript t) (now (label .entry)) (now (bytes .entry)) ⌝ }
+) -> MagnetarAnswer
+    ensures { λ r. ⌜ across.answer r ≡ spec.absorbAnswer (across.transcript t) (now (label .entry)) (now (bytes .entry)) ⌝ }
 {
-    transcript_out(transcript::absorb_bytes(transcript_in(t), label, bytes))
+    answer_out(transcript::absorb_bytes(transcript_in(t), label, bytes))
 }
 
 // Elements are absorbed under a label.
