@@ -42,6 +42,7 @@ PLACES = {
     "demo": (0.6, 9, "host", "a vault of four logins"),
     "magnetar_c": (1.6, 9, "host", "the library for C and Rust"),
     "magnetar_cases": (2.6, 9, "host", "recorded runs"),
+    "magnetar_limits": (3.6, 9, "host", "the most columns"),
 }
 KINDS = {
     "laws": ("#e8e2f4", "definitions and theorems"),

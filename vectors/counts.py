@@ -70,6 +70,18 @@ def relations():
     return cases, all_, alone, codes
 
 
+def columns():
+    """How many calls magnetar_limits makes at each number of columns, by the line before them that tells it."""
+    calls, m = collections.Counter(), None
+    for line in lines("magnetar_limits", "stdout"):
+        if line.startswith("m "):
+            m = int(line.split()[1].rstrip(","))
+        elif line.startswith("  "):
+            calls[m] += 1
+            assert m == 65536 or line[18:].startswith("1,"), line
+    return calls
+
+
 def rows():
     singly = ops("magnetar_vectors")
     parts = [sum(singly[name] for name in names.split()) for names in (FIELD, HASH, SUMCHECK, MATRIX)]
@@ -84,6 +96,9 @@ def rows():
     assert set(forms) == TRANSCRIPTS | MATRICES
     names = "absorb absorbfield absorbu64 absorbdigest draw drawvec isbinary apply packed table at".split()
     yield f"| `magnetar_forms` | {sum(forms.values())} of those of `magnetar_vectors`: {of(forms, names)}; those on a matrix whose four lists differ in length cannot be asked of records |"
+    calls = columns()
+    assert set(calls) == {65536, 131072}
+    yield f"| `magnetar_limits` | {sum(calls.values())} calls: {calls[65536]} at m = 65,536, of one login and of two; {calls[131072]} at m = 131,072, each refused with 1 |"
     prove, verify = codes["prove"], codes["verify"]
     early = {op: sum(n for code, n in codes[op].items() if 1 <= code <= 16) for op in codes}
     late = {code: n for code, n in verify.items() if code > 16}
