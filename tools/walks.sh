@@ -25,9 +25,7 @@ thin() {
 
 # magnetar_transcript: the transcript in place
 crate magnetar_transcript
-for g in absorb_bytes absorb_u64 absorb_digest; do thin transcript::$g; done
-thin transcript::absorb_field --final '(cc, cc)'
-thin transcript::challenge_field --final '(cc, cc)'
+for g in absorb_bytes absorb_u64 absorb_digest absorb_field challenge_field; do thin transcript::$g --final '(cc, cc)'; done
 thin transcript::challenge_field_vec --final '(cc, cc, cc)'
 
 # magnetar_records: the record forms

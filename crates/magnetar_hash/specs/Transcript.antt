@@ -1,6 +1,6 @@
 -- The transcript: a state of 32 bytes and the count of the draws since the last bytes were absorbed.
 -- Assumes nothing.
-use mathlib.Core.Bool.{cond}
+use mathlib.Core.Bool.{Bool, cond}
 use mathlib.Core.List.{List, [], _∷_, _++_}
 use Prim.Native.Nat.{ℕ, zero, suc, _+_, _*_, _%_, _^_}
 use lib.Dec.{eqb, ltb}
@@ -58,22 +58,33 @@ newAnswer protocol public lens =
     cond (eqb (totalLength lens) (length public)) (record { code = 0; transcript = begun protocol (parts lens public) })
     (record { code = 17; transcript = fresh noDigest })
 
--- the answer of absorbed elements: 11 where the words are none, their count being odd
+-- test 14 is passed: the counter is below 2^32
+abbrev counterFits : Transcript → Bool
+counterFits t = ltb (t .«squeeze_ctr») (2 ^ 32)
+
+-- the answer of a call that leads from t to u: 14 where the counter of t is 2^32 or more
+unfoldable pub unlessLate : Transcript → Transcript → TranscriptAnswer
+unlessLate t u = cond (counterFits t) (record { code = 0; transcript = u }) (record { code = 14; transcript = t })
+
+-- the answer of absorbed bytes, a word's or a hash's among them
+unfoldable pub absorbAnswer : Transcript → List ℕ → List ℕ → TranscriptAnswer
+absorbAnswer t label bytes = unlessLate t (absorbed t label bytes)
+
+-- the answer of absorbed elements: 11 where the words are none, their count being odd; then that of their bytes
 unfoldable pub fieldAnswer : Transcript → List ℕ → List ℕ → TranscriptAnswer
 fieldAnswer t label words =
-    cond (eqb (length words % 2) 0) (record { code = 0; transcript = absorbed t label (wordBytes words) })
-    (record { code = 11; transcript = t })
+    cond (eqb (length words % 2) 0) (absorbAnswer t label (wordBytes words)) (record { code = 11; transcript = t })
 
 -- the answer of a draw: 14 where the counter is 2^32 or more
 unfoldable pub drawAnswer : Transcript → List ℕ → DrawAnswer
 drawAnswer t label =
-    cond (ltb (t .«squeeze_ctr») (2 ^ 32))
+    cond (counterFits t)
     (record { code = 0; element = element (drawn t label); transcript = drawn t label })
     (record { code = 14; element = noElement; transcript = t })
 
 -- the number of n draws into `size` words: 14 where the counter is 2^32 or more, then 15 where n elements have no room
 unfoldable pub drawsCode : Transcript → ℕ → ℕ → ℕ
-drawsCode t n size = cond (ltb (t .«squeeze_ctr») (2 ^ 32)) (cond (ltb size (2 * n)) 15 0) 14
+drawsCode t n size = cond (counterFits t) (cond (ltb size (2 * n)) 15 0) 14
 
 -- the answer of n draws into `size` words
 unfoldable pub drawsAnswer : Transcript → List ℕ → ℕ → ℕ → TranscriptAnswer

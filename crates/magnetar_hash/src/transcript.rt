@@ -12,6 +12,9 @@ use crate::sha3;
 use crate::sponge;
 use magnetar_field::gf128::Gf128;
 
+// Document 01's bound for refusal 14.
+const COUNTER_LIMIT: u64 = 0x100000000;
+
 pub struct Transcript {
     pub state: [u8; 32],
     pub squeeze_ctr: u64,
@@ -116,18 +119,36 @@ fn renewed(t: Transcript, state: [u8; 32]) -> Transcript
     u
 }
 
-// Bytes are absorbed under a label. An absorption does not read the counter, so it never refuses 14.
-pub fn absorb_bytes(t: Transcript, label: &[u8], bytes: &[u8]) -> Transcript
-    ensures { λ r. ⌜ r ≡ spec.absorbed t (now (label .entry)) (now (bytes .entry)) ⌝ }
+// The answer of an absorption that leads from one transcript to the next. Refuses 14.
+fn answered(old: Transcript, next: Transcript) -> TranscriptAnswer
+    ensures { λ r. ⌜ r ≡ spec.unlessLate old next ⌝ }
+{
+    if old.squeeze_ctr < COUNTER_LIMIT {
+        TranscriptAnswer {
+            code: 0,
+            transcript: next,
+        }
+    } else {
+        TranscriptAnswer {
+            code: 14,
+            transcript: old,
+        }
+    }
+}
+
+// Bytes are absorbed under a label. Refuses 14.
+pub fn absorb_bytes(t: Transcript, label: &[u8], bytes: &[u8]) -> TranscriptAnswer
+    ensures { λ r. ⌜ r ≡ spec.absorbAnswer t (now (label .entry)) (now (bytes .entry)) ⌝ }
 {
     let mut s = [0u64; 25];
     let a = feed_head(&mut s, t, b"absorb", label);
     let b = sha3::feed_part(&mut s, a, bytes);
     let state = sponge::finish(s, b);
-    renewed(t, state)
+    answered(t, renewed(t, state))
 }
 
-// The bytes of words are absorbed under a label.
+// The bytes of words are absorbed under a label. A run refuses 14 where it starts, and its draws may pass 2^32: so the layers above
+// absorb here, where the counter is not checked.
 pub fn absorb_words(t: Transcript, label: &[u8], words: &[u64]) -> Transcript
     ensures { λ r. ⌜ r ≡ spec.absorbed t (now (label .entry)) (wordBytes (now (words .entry))) ⌝ }
 {
@@ -138,16 +159,12 @@ pub fn absorb_words(t: Transcript, label: &[u8], words: &[u64]) -> Transcript
     renewed(t, state)
 }
 
-// Elements are absorbed under a label. Refuses 11.
+// Elements are absorbed under a label. Refuses 11, then 14.
 pub fn absorb_field(t: Transcript, label: &[u8], words: &[u64]) -> TranscriptAnswer
     ensures { λ r. ⌜ r ≡ spec.fieldAnswer t (now (label .entry)) (now (words .entry)) ⌝ }
 {
     if words.len() % 2 == 0 {
-        let transcript = absorb_words(t, label, words);
-        TranscriptAnswer {
-            code: 0,
-            transcript,
-        }
+        answered(t, absorb_words(t, label, words))
     } else {
         TranscriptAnswer {
             code: 11,
@@ -156,23 +173,22 @@ pub fn absorb_field(t: Transcript, label: &[u8], words: &[u64]) -> TranscriptAns
     }
 }
 
-// A word is absorbed under a label.
-pub fn absorb_u64(t: Transcript, label: &[u8], v: u64) -> Transcript
-    ensures { λ r. ⌜ r ≡ spec.absorbed t (now (label .entry)) (leBytes 8 v) ⌝ }
+// A word is absorbed under a label. Refuses 14.
+pub fn absorb_u64(t: Transcript, label: &[u8], v: u64) -> TranscriptAnswer
+    ensures { λ r. ⌜ r ≡ spec.absorbAnswer t (now (label .entry)) (leBytes 8 v) ⌝ }
 {
     let w = [v];
-    absorb_words(t, label, &w)
+    answered(t, absorb_words(t, label, &w))
 }
 
-// A hash is absorbed under a label.
-pub fn absorb_digest(t: Transcript, label: &[u8], d: &[u8; 32]) -> Transcript
-    ensures { λ r. ⌜ r ≡ spec.absorbed t (now (label .entry)) (now (d .entry)) ⌝ }
+// A hash is absorbed under a label. Refuses 14.
+pub fn absorb_digest(t: Transcript, label: &[u8], d: &[u8; 32]) -> TranscriptAnswer
+    ensures { λ r. ⌜ r ≡ spec.absorbAnswer t (now (label .entry)) (now (d .entry)) ⌝ }
 {
     absorb_bytes(t, label, d)
 }
 
-// A draw under a label, without its element. A run refuses 14 where it starts, and may draw on past 2^32: so the layers above draw
-// here, where the counter is not checked, and challenge_field is the draw that checks it.
+// A draw under a label, without its element and without the check of 14, for the reason that absorb_words has none.
 pub fn draw(t: Transcript, label: &[u8]) -> Transcript
     ensures { λ r. ⌜ r ≡ spec.drawn t (now (label .entry)) ⌝ }
 {
@@ -202,7 +218,7 @@ pub fn element(t: Transcript) -> Gf128
 pub fn challenge_field(t: Transcript, label: &[u8]) -> DrawAnswer
     ensures { λ r. ⌜ r ≡ spec.drawAnswer t (now (label .entry)) ⌝ }
 {
-    if t.squeeze_ctr < 0x100000000 {
+    if t.squeeze_ctr < COUNTER_LIMIT {
         let transcript = draw(t, label);
         let x = element(transcript);
         DrawAnswer {
@@ -249,7 +265,7 @@ pub fn challenge_field_vec(
     ensures { λ r. ⌜ (r ≡ spec.drawsAnswer t (now (label .entry)) n (length (now (out .entry))))
         × (now (out .exit) ≡ spec.drawsOut t (now (label .entry)) n (now (out .entry))) ⌝ }
 {
-    if t.squeeze_ctr < 0x100000000 {
+    if t.squeeze_ctr < COUNTER_LIMIT {
         if out.len() / 2 < n {
             TranscriptAnswer {
                 code: 15,

@@ -3,7 +3,7 @@
 ghost use mathlib.Core.Path.{_≡_};
 ghost use lib.ListN.{length};
 ghost use Rattle.magnetar_hash.specs.Bytes.{leBytes};
-ghost use Rattle.magnetar_hash.specs.Transcript.{absorbed, fieldAnswer, drawAnswer, drawsAnswer, drawsOut};
+ghost use Rattle.magnetar_hash.specs.Transcript.{absorbAnswer, fieldAnswer, drawAnswer, drawsAnswer, drawsOut};
 ghost use Rattle.magnetar_transcript.specs.Drawn.{drawnOf};
 use magnetar_field::gf128::Gf128;
 use magnetar_hash::transcript;
@@ -15,46 +15,55 @@ pub struct Drawn {
     pub element: Gf128,
 }
 
-// Bytes are absorbed under a label.
-pub fn absorb_bytes(t: &mut Transcript, label: &[u8], bytes: &[u8])
-    ensures { λ _. ⌜ now (t .exit) ≡ absorbed (now (t .entry)) (now (label .entry)) (now (bytes .entry)) ⌝ }
+// Bytes are absorbed under a label. Refuses 14.
+pub fn absorb_bytes(t: &mut Transcript, label: &[u8], bytes: &[u8]) -> u32
+    ensures { λ r. ⌜ (r ≡ absorbAnswer (now (t .entry)) (now (label .entry)) (now (bytes .entry)) .code)
+        × (now (t .exit) ≡ absorbAnswer (now (t .entry)) (now (label .entry)) (now (bytes .entry)) .transcript) ⌝ }
 {
     let u = Transcript {
         state: t.state,
         squeeze_ctr: t.squeeze_ctr,
     };
-    let n = transcript::absorb_bytes(u, label, bytes);
+    let a = transcript::absorb_bytes(u, label, bytes);
+    let n = a.transcript;
     t.state = n.state;
     t.squeeze_ctr = n.squeeze_ctr;
+    a.code
 }
 
-// A word is absorbed under a label.
-pub fn absorb_u64(t: &mut Transcript, label: &[u8], v: u64)
-    ensures { λ _. ⌜ now (t .exit) ≡ absorbed (now (t .entry)) (now (label .entry)) (leBytes 8 v) ⌝ }
+// A word is absorbed under a label. Refuses 14.
+pub fn absorb_u64(t: &mut Transcript, label: &[u8], v: u64) -> u32
+    ensures { λ r. ⌜ (r ≡ absorbAnswer (now (t .entry)) (now (label .entry)) (leBytes 8 v) .code)
+        × (now (t .exit) ≡ absorbAnswer (now (t .entry)) (now (label .entry)) (leBytes 8 v) .transcript) ⌝ }
 {
     let u = Transcript {
         state: t.state,
         squeeze_ctr: t.squeeze_ctr,
     };
-    let n = transcript::absorb_u64(u, label, v);
+    let a = transcript::absorb_u64(u, label, v);
+    let n = a.transcript;
     t.state = n.state;
     t.squeeze_ctr = n.squeeze_ctr;
+    a.code
 }
 
-// A hash is absorbed under a label.
-pub fn absorb_digest(t: &mut Transcript, label: &[u8], d: &[u8; 32])
-    ensures { λ _. ⌜ now (t .exit) ≡ absorbed (now (t .entry)) (now (label .entry)) (now (d .entry)) ⌝ }
+// A hash is absorbed under a label. Refuses 14.
+pub fn absorb_digest(t: &mut Transcript, label: &[u8], d: &[u8; 32]) -> u32
+    ensures { λ r. ⌜ (r ≡ absorbAnswer (now (t .entry)) (now (label .entry)) (now (d .entry)) .code)
+        × (now (t .exit) ≡ absorbAnswer (now (t .entry)) (now (label .entry)) (now (d .entry)) .transcript) ⌝ }
 {
     let u = Transcript {
         state: t.state,
         squeeze_ctr: t.squeeze_ctr,
     };
-    let n = transcript::absorb_digest(u, label, d);
+    let a = transcript::absorb_digest(u, label, d);
+    let n = a.transcript;
     t.state = n.state;
     t.squeeze_ctr = n.squeeze_ctr;
+    a.code
 }
 
-// Elements are absorbed under a label. Refuses 11.
+// Elements are absorbed under a label. Refuses 11, then 14.
 pub fn absorb_field(t: &mut Transcript, label: &[u8], words: &[u64]) -> u32
     ensures { λ r. ⌜ (r ≡ fieldAnswer (now (t .entry)) (now (label .entry)) (now (words .entry)) .code)
         × (now (t .exit) ≡ fieldAnswer (now (t .entry)) (now (label .entry)) (now (words .entry)) .transcript) ⌝ }

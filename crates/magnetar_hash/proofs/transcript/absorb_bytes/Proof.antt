@@ -1,7 +1,7 @@
 -- `magnetar_hash::transcript::absorb_bytes` meets its contract.
 -- Assumes nothing.
 use Rattle.magnetar_hash.specs.Bytes.{ascii}
-use Rattle.magnetar_hash.specs.Transcript.{absorbed}
+use Rattle.magnetar_hash.specs.Transcript.{absorbed, absorbAnswer}
 use Rattle.magnetar_hash.proofs.Parts.{four-parts}
 use borrow.Author.Needs.{needs}
 use Rattle.magnetar_hash.proofs.transcript.absorb_bytes.Statement.{statement}
@@ -22,15 +22,20 @@ finish-requires c κs = search needs
 renewed-requires : tie.Need-renewed-requires
 renewed-requires c κs = search needs
 
+answered-requires : tie.Need-answered-requires
+answered-requires c κs = search needs
+
 returns : tie.Need-returns
-unfolding absorbed ascii
+unfolding absorbAnswer absorbed ascii
 returns c =
-    let a = c .before .before .before .before .before .before .before .before .before .args in
+    let b = c .before in
+    let a = b .before .before .before .before .before .before .before .before .before .args in
     rw (
-      c .renewed .ensures,
-      c .before .finish .ensures,
-      four-parts (a .t .state) (ascii "absorb") (a .label .now) (a .bytes .now) (c .before .before
-          .before .before .feed-head .ensures) (c .before .before .feed-part .ensures),
+      c .answered .ensures,
+      b .renewed .ensures,
+      b .before .finish .ensures,
+      four-parts (a .t .state) (ascii "absorb") (a .label .now) (a .bytes .now) (b .before .before
+          .before .before .feed-head .ensures) (b .before .before .feed-part .ensures),
     )
 
 pub absorb-bytes-spec : {M : Type 1} → statement M
@@ -42,4 +47,5 @@ absorb-bytes-spec =
     feed-part-requires
     finish-requires
     renewed-requires
+    answered-requires
     returns)

@@ -48,6 +48,9 @@ use denote.Exit.{yes}
 use Rattle.magnetar_hash.specs.declared.transcript.Transcript.{Transcript}
 use Rattle.magnetar_hash.proofs.transcript.Transcript as mTranscript
 use Rattle.magnetar_hash.proofs.transcript.Transcript.Laws as lTranscript
+use Rattle.magnetar_hash.specs.declared.transcript.TranscriptAnswer.{TranscriptAnswer}
+use Rattle.magnetar_hash.proofs.transcript.TranscriptAnswer as mTranscriptAnswer
+use Rattle.magnetar_hash.proofs.transcript.TranscriptAnswer.Laws as lTranscriptAnswer
 use Rattle.magnetar_transcript.proofs.Locals.{tidy, bare, kept, dies, alloc, hide, free-all}
 use Rattle.magnetar_hash.proofs.transcript.absorb_bytes as g1
 use Rattle.magnetar_hash.proofs.transcript.absorb_bytes.Symbol as g1-def
@@ -117,28 +120,29 @@ module _ {M : Type 1} (𝓤 : URA M) (H : Heap 𝓤) (A : Atoms 𝓤) (W : Given
     walk =
         qed W ((‵ (flft κ₀ q₀) ⊛ ‵ (flft κ₁ q₁) ⊛ ‵ (flft κ₂ q₂) ⊛ ‵ ftrue) ∷ ‵ (owns (MutRef (named 0) κ₀ mTranscript.the-row ∷ ShrSlice (named 1)
         κ₁ u8 ∷ ShrSlice (named 2) κ₂ u8 ∷ []) a at) ∷ []) ∵ enter ! C Λ code.function (v1 ∷ v2 ∷ v3 ∷ []) _ $
-        nothing ! $ alloc ! (λ l₀. alloc ! (λ l₁. alloc ! (λ l₂. alloc ! (λ l₃. alloc ! (λ l₄. alloc ! (λ l₅. alloc ! (λ l₆. alloc ! (λ l₇. alloc0 !
-        $ hide ! (λ died die. params1 ! $ pass1 ! (init ! 7 refl (tt, tt)) $ pass1 ! (init ! 6 refl (shr-slice-lawful 𝓤 H A W (named 1) κ₁ u8
-        .typed s2 (v2 ∷ []) w2 .0)) $ pass1 ! (init ! 5 refl (shr-slice-lawful 𝓤 H A W (named 2) κ₂ u8 .typed s3 (v3 ∷ []) w3 .0)) $ pass0 ! $
-        move ! (10 ∷ []) $ fsplit ! $ move ! (1 ∷ []) $ fsplit ! $ move ! (1 ∷ []) $ fsplit ! $ move ! (1 ∷ []) $ drop ! $ move ! (12 ∷ []) $ split !
+        nothing ! $ alloc ! (λ l₀. alloc ! (λ l₁. alloc ! (λ l₂. alloc ! (λ l₃. alloc ! (λ l₄. alloc ! (λ l₅. alloc ! (λ l₆. alloc ! (λ l₇. alloc !
+        (λ l₈. alloc0 ! $ hide ! (λ died die. params1 ! $ pass1 ! (init ! 8 refl (tt, tt)) $ pass1 ! (init ! 7 refl (shr-slice-lawful 𝓤 H A W
+        (named 1) κ₁ u8 .typed s2 (v2 ∷ []) w2 .0)) $ pass1 ! (init ! 6 refl (shr-slice-lawful 𝓤 H A W (named 2) κ₂ u8 .typed s3 (v3 ∷ []) w3
+        .0)) $ pass0 ! $
+        move ! (11 ∷ []) $ fsplit ! $ move ! (1 ∷ []) $ fsplit ! $ move ! (1 ∷ []) $ fsplit ! $ move ! (1 ∷ []) $ drop ! $ move ! (13 ∷ []) $ split !
         $ move ! (1 ∷ []) $ split ! $ move ! (1 ∷ []) $ split ! $ move ! (1 ∷ []) $ drop ! $ tidy W (_ ∷ _ ∷ _ ∷ _ ∷ _ ∷ _ ∷ _ ∷ _ ∷ _ ∷ _ ∷ _ ∷
-        _ ∷ _ ∷ _ ∷ _ ∷ []) $
+        _ ∷ _ ∷ _ ∷ _ ∷ _ ∷ []) $
         move ! (5 ∷ []) $ fsplit3 ! $ drop ! $ move ! (0 ∷ 1 ∷ 4 ∷ []) $ opens ! tt mTranscript.the-row {h = h1} b1 o1 (λ vs. spelt !
         mTranscript.the-row (Is mTranscript.the-row) (shows 𝓤 H A mTranscript.the-row) (LL.vals mTranscript.the-type lTranscript.the-laws)
         (LL.tells mTranscript.the-type lTranscript.the-laws) fullShare (h1) vs b1 o1 $ move ! (1 ∷ []) $ peeks ! mTranscript.the-row (Is
         mTranscript.the-row) (shows 𝓤 H A mTranscript.the-row) (h1) (LL.val mTranscript.the-type lTranscript.the-laws (h1) ∷ []) (λ w1o1. drop ! $
-        assigns ! (of-opd ! (load ! (from ! (hop ! (look ! 15 refl) (fld ! refl (stop !)))) (look-in ! 0 (sub ! 0 refl (whole !))))) (from ! (stop
+        assigns ! (of-opd ! (load ! (from ! (hop ! (look ! 16 refl) (fld ! refl (stop !)))) (look-in ! 0 (sub ! 0 refl (whole !))))) (from ! (stop
         !)) (init ! 10 refl (array-lawful 𝓤 H A W u8 (uint-lawful 𝓤 H A W w8) 32 .typed (mTranscript.the-type .to h1 .0) _ (LL.owed
         mTranscript.the-type lTranscript.the-laws h1 _ w1o1 .0) .0)) $
-        assigns ! (of-opd ! (load ! (from ! (hop ! (look ! 15 refl) (fld ! refl (stop !)))) (look-in ! 0 (sub ! 1 refl (whole !))))) (from ! (stop
+        assigns ! (of-opd ! (load ! (from ! (hop ! (look ! 16 refl) (fld ! refl (stop !)))) (look-in ! 0 (sub ! 1 refl (whole !))))) (from ! (stop
         !)) (init ! 9 refl (uint-lawful 𝓤 H A W w64 .typed (mTranscript.the-type .to h1 .1 .0) _ (LL.owed mTranscript.the-type
         lTranscript.the-laws h1 _ w1o1 .1 .0) .0)) $
         assigns ! (agg ! (and-then ! (load ! (from ! (stop !)) (look ! 10 refl)) (and-then ! (load ! (from ! (stop !)) (look ! 9 refl)) (no-more
-        !)))) (from ! (stop !)) (init ! 12 refl (LL.lawful mTranscript.the-type lTranscript.the-laws 𝓤 H A W .typed h1 _ w1o1 .0)) $
+        !)))) (from ! (stop !)) (init ! 13 refl (LL.lawful mTranscript.the-type lTranscript.the-laws 𝓤 H A W .typed h1 _ w1o1 .0)) $
         move ! (7 ∷ []) $ use1 W (‵ (O2) ⊛ ‵ (O2)) (shr-slice-copy 𝓤 H A W (named 1) κ₁ u8 .twice s2 (v2 ∷ [])) $ split ! $ move ! (8 ∷ []) $ use1 W
         (‵ (O3) ⊛ ‵ (O3)) (shr-slice-copy 𝓤 H A W (named 2) κ₂ u8 .twice s3 (v3 ∷ [])) $ split ! $ tidy W (_ ∷ _ ∷ _ ∷ _ ∷ _ ∷ _ ∷ _ ∷ _ ∷ _ ∷ _
-        ∷ _ ∷ _ ∷ _ ∷ _ ∷ _ ∷ _ ∷ _ ∷ _ ∷ _ ∷ []) $ nothing ! $ move ! (9 ∷ 0 ∷ []) $ join ! $ move ! (9 ∷ 0 ∷ []) $ join ! $ move ! (3 ∷ 1 ∷ [])
-        $ join ! $ move ! (1 ∷ 0 ∷ []) $ join ! $
+        ∷ _ ∷ _ ∷ _ ∷ _ ∷ _ ∷ _ ∷ _ ∷ _ ∷ _ ∷ _ ∷ []) $ nothing ! $ move ! (9 ∷ 0 ∷ []) $ join ! $ move ! (9 ∷ 0 ∷ []) $ join ! $ move ! (3 ∷ 1 ∷
+        []) $ join ! $ move ! (1 ∷ 0 ∷ []) $ join ! $
         -- call 1
         use1 W (raw (Callee-g1 𝓤 H A at-mem run .pre (
           (
@@ -170,44 +174,65 @@ module _ {M : Type 1} (𝓤 : URA M) (H : Heap 𝓤) (A : Atoms 𝓤) (W : Given
             ),
           ),
           tt,
-        ) (and-then ! (load ! (from ! (stop !)) (look ! 11 refl)) (and-then !
-        (load ! (from ! (stop !)) (look ! 13 refl)) (and-then ! (load ! (from ! (stop !)) (look ! 12 refl)) (no-more !)))) (λ z1.
-        use1 W (later (some (λ (r1 : Transcript). ((‵ (flft κ₁ q₁) ⊛ ‵ (flft κ₂ q₂) ⊛ ‵ ftrue) ⊛ ‵ (mTranscript.the-row .own r1 (z1 ∷ []))) ⊛ some (λ
-        (ws : Lasts g1.ended (κ₁, (κ₂, tt)) (h1, (s2, (s3, tt)))). ‵ (lasts g1.ended (κ₁, (κ₂, tt)) (h1, (s2, (s3, tt))) ws) ⊛ raw (g1.clauses 𝓤
-        H A at-mem run (κ₁, (κ₂, tt)) (h1, (s2, (s3, tt))) .ensures tt r1 (atExit g1.ended (κ₁, (κ₂, tt)) (h1, (s2, (s3, tt))) ws)))))) (id⊢ 𝓤 _)
-        $ await ! tt $ pick ! (λ r1. split ! $ move ! (1 ∷ []) $ pick ! (λ ws1. split ! $ move ! (1 ∷ []) $ heard ! _ (λ e1.
-        drop ! $ split ! $ move ! (1 ∷ []) $ peeks ! mTranscript.the-row (Is mTranscript.the-row) (shows 𝓤 H A mTranscript.the-row) r1 (z1 ∷ []) (λ
-        i1. drop ! $ land ! (from ! (stop !)) (init ! 10 refl (LL.lawful mTranscript.the-type lTranscript.the-laws 𝓤 H A W .typed r1 _ i1 .0)) $
-        tidy W (_ ∷ _ ∷ _ ∷ _ ∷ _ ∷ _ ∷ _ ∷ _ ∷ _ ∷ _ ∷ _ ∷ _ ∷ _ ∷ _ ∷ _ ∷ _ ∷ []) $ split ! $ move ! (1 ∷ []) $ split ! $ move ! (1 ∷ []) $ drop !
-        $ rewrite ! 11 (λ (w : Val). ‵ (fat fullShare (lTranscript.mir) l₅ 0 w)) (ap only ((LL.tells mTranscript.the-type lTranscript.the-laws)
-        r1 _ i1)) refl $ assigns ! (of-opd ! (load ! (from ! (fld ! refl (stop !))) (look-in ! 11 (sub ! 0 refl (whole !))))) (from ! (hop !
-        (look ! 15 refl) (fld ! refl (stop !)))) (store-in ! 4 (sub ! 0 refl (whole !)) (array-lawful 𝓤 H A W u8 (uint-lawful 𝓤 H A W w8) 32
-        .typed (mTranscript.the-type .to r1 .0) _ (LL.owed mTranscript.the-type lTranscript.the-laws r1 _ (subst (Is mTranscript.the-row r1)
-        ((LL.tells mTranscript.the-type lTranscript.the-laws) r1 _ i1) i1) .0) .0)) $
-        assigns ! (of-opd ! (load ! (from ! (fld ! refl (stop !))) (look-in ! 11 (sub ! 1 refl (whole !))))) (from ! (hop ! (look ! 15 refl) (fld !
-        refl (stop !)))) (store-in ! 4 (sub ! 1 refl (whole !)) (uint-lawful 𝓤 H A W w64 .typed (mTranscript.the-type .to r1 .1 .0) _ (LL.owed
-        mTranscript.the-type lTranscript.the-laws r1 _ (subst (Is mTranscript.the-row r1) ((LL.tells mTranscript.the-type lTranscript.the-laws)
-        r1 _ i1) i1) .1 .0) .0)) $
-        assigns ! (of-opd ! (unit-lit !)) (from ! (stop !)) (init ! 16 refl (tt, tt)) $
-        owned ! mTranscript.the-row (Is mTranscript.the-row) (LL.makes mTranscript.the-type lTranscript.the-plain 𝓤 H A) (r1) _ (subst (Is
-        mTranscript.the-row r1) ((LL.tells mTranscript.the-type lTranscript.the-laws) r1 _ i1) i1) $ move ! (5 ∷ 0 ∷ 6 ∷ 7 ∷ 8 ∷ []) $ closes !
-        tt mTranscript.the-row (r1) ((LL.val mTranscript.the-type lTranscript.the-laws r1) ∷ []) b1 o1 $ feqI ! (List Val) (vptr b1 o1 ∷ [])
-        (vptr b1 o1 ∷ []) refl $ fjoin3 ! $
-        tidy W (_ ∷ _ ∷ _ ∷ _ ∷ _ ∷ _ ∷ _ ∷ _ ∷ _ ∷ _ ∷ _ ∷ _ ∷ _ ∷ _ ∷ _ ∷ []) $ returns ! (look ! 14 refl) $ move ! (6 ∷ []) $ use1 W (dies
-        ((tyUnit, l₀) ∷ (tyRef (named 0) mut (pointee (mTranscript.the-row .written)), l₁) ∷ (sliceTy (tyRef (named 1) imm (tyInt w8)), l₂) ∷
-        (sliceTy (tyRef (named 2) imm (tyInt w8)), l₃) ∷ (lTranscript.mir, l₄) ∷ (lTranscript.mir, l₅) ∷ (tyArray (tyInt w8) 32, l₆) ∷ (
-          tyInt
-              w64,
+        ) (and-then ! (load ! (from ! (stop !)) (look ! 12 refl)) (and-then !
+        (load ! (from ! (stop !)) (look ! 14 refl)) (and-then ! (load ! (from ! (stop !)) (look ! 13 refl)) (no-more !)))) (λ z1.
+        use1 W (later (some (λ (r1 : TranscriptAnswer). ((‵ (flft κ₁ q₁) ⊛ ‵ (flft κ₂ q₂) ⊛ ‵ ftrue) ⊛ ‵ (mTranscriptAnswer.the-row .own r1 (z1 ∷
+        []))) ⊛ some (λ (ws : Lasts g1.ended (κ₁, (κ₂, tt)) (h1, (s2, (s3, tt)))). ‵ (lasts g1.ended (κ₁, (κ₂, tt)) (h1, (s2, (s3, tt))) ws) ⊛
+        raw (g1.clauses 𝓤 H A at-mem run (κ₁, (κ₂, tt)) (h1, (s2, (s3, tt))) .ensures tt r1 (atExit g1.ended (κ₁, (κ₂, tt)) (h1, (s2, (s3, tt)))
+        ws)))))) (id⊢ 𝓤 _) $ await ! tt $ pick ! (λ r1. split ! $ move ! (1 ∷ []) $ pick ! (λ ws1. split ! $ move ! (1 ∷ []) $ heard ! _ (λ e1.
+        drop ! $ split ! $ move ! (1 ∷ []) $ peeks ! mTranscriptAnswer.the-row (Is mTranscriptAnswer.the-row) (shows 𝓤 H A mTranscriptAnswer.the-row)
+        r1 (z1 ∷ []) (λ i1. drop ! $ land ! (from ! (stop !)) (init ! 11 refl (LL.lawful mTranscriptAnswer.the-type lTranscriptAnswer.the-laws 𝓤
+        H A W .typed r1 _ i1 .0)) $
+        tidy W (_ ∷ _ ∷ _ ∷ _ ∷ _ ∷ _ ∷ _ ∷ _ ∷ _ ∷ _ ∷ _ ∷ _ ∷ _ ∷ _ ∷ _ ∷ _ ∷ _ ∷ []) $ split ! $ move ! (1 ∷ []) $ split ! $ move ! (1 ∷ []) $
+        drop ! $ rewrite ! 12 (λ (w : Val). ‵ (fat fullShare (lTranscriptAnswer.mir) l₅ 0 w)) (ap only ((LL.tells mTranscriptAnswer.the-type
+        lTranscriptAnswer.the-laws) r1 _ i1)) refl $ assigns ! (of-opd ! (load ! (from ! (fld ! refl (stop !))) (look-in ! 12 (sub ! 1 refl
+        (whole !))))) (from ! (stop !)) (init ! 11 refl (LL.lawful mTranscript.the-type lTranscript.the-laws 𝓤 H A W .typed (r1 .transcript) _
+        (LL.owed mTranscriptAnswer.the-type lTranscriptAnswer.the-laws r1 _ (subst (Is mTranscriptAnswer.the-row r1) ((LL.tells
+        mTranscriptAnswer.the-type lTranscriptAnswer.the-laws) r1 _ i1) i1) .1 .0) .0)) $
+        assigns ! (of-opd ! (load ! (from ! (fld ! refl (stop !))) (look-in ! 11 (sub ! 0 refl (whole !))))) (from ! (hop ! (look ! 16 refl) (fld !
+        refl (stop !)))) (store-in ! 4 (sub ! 0 refl (whole !)) (array-lawful 𝓤 H A W u8 (uint-lawful 𝓤 H A W w8) 32 .typed (mTranscript.the-type
+        .to (r1 .transcript) .0) _ (LL.owed mTranscript.the-type lTranscript.the-laws (r1 .transcript) _ (LL.owed mTranscriptAnswer.the-type
+        lTranscriptAnswer.the-laws r1 _ (subst (Is mTranscriptAnswer.the-row r1) ((LL.tells mTranscriptAnswer.the-type
+        lTranscriptAnswer.the-laws) r1 _ i1) i1) .1 .0) .0) .0)) $
+        assigns ! (of-opd ! (load ! (from ! (fld ! refl (stop !))) (look-in ! 11 (sub ! 1 refl (whole !))))) (from ! (hop ! (look ! 16 refl) (fld !
+        refl (stop !)))) (store-in ! 4 (sub ! 1 refl (whole !)) (uint-lawful 𝓤 H A W w64 .typed (mTranscript.the-type .to (r1 .transcript) .1 .0)
+        _ (LL.owed mTranscript.the-type lTranscript.the-laws (r1 .transcript) _ (LL.owed mTranscriptAnswer.the-type lTranscriptAnswer.the-laws r1
+        _ (subst (Is mTranscriptAnswer.the-row r1) ((LL.tells mTranscriptAnswer.the-type lTranscriptAnswer.the-laws) r1 _ i1) i1) .1 .0) .1 .0)
+        .0)) $
+        assigns ! (of-opd ! (load ! (from ! (fld ! refl (stop !))) (look-in ! 12 (sub ! 0 refl (whole !))))) (from ! (stop !)) (init ! 17 refl
+        (uint-lawful 𝓤 H A W w32 .typed (mTranscriptAnswer.the-type .to r1 .0) _ (LL.owed mTranscriptAnswer.the-type lTranscriptAnswer.the-laws
+        r1 _ (subst (Is mTranscriptAnswer.the-row r1) ((LL.tells mTranscriptAnswer.the-type lTranscriptAnswer.the-laws) r1 _ i1) i1) .0) .0)) $
+        owned ! mTranscript.the-row (Is mTranscript.the-row) (LL.makes mTranscript.the-type lTranscript.the-plain 𝓤 H A) ((r1 .transcript)) _
+        (LL.owed mTranscriptAnswer.the-type lTranscriptAnswer.the-laws r1 _ (subst (Is mTranscriptAnswer.the-row r1) ((LL.tells
+        mTranscriptAnswer.the-type lTranscriptAnswer.the-laws) r1 _ i1) i1) .1 .0) $ move ! (5 ∷ 0 ∷ 6 ∷ 7 ∷ 8 ∷ []) $ closes ! tt
+        mTranscript.the-row ((r1 .transcript)) ((LL.val mTranscript.the-type lTranscript.the-laws (r1 .transcript)) ∷ []) b1 o1 $ feqI ! (List
+        Val) (vptr b1 o1 ∷ []) (vptr b1 o1 ∷ []) refl $ fjoin3 ! $
+        tidy W (_ ∷ _ ∷ _ ∷ _ ∷ _ ∷ _ ∷ _ ∷ _ ∷ _ ∷ _ ∷ _ ∷ _ ∷ _ ∷ _ ∷ _ ∷ _ ∷ []) $ returns ! (look ! 15 refl) $ move ! (6 ∷ []) $ use1 W (dies
+        ((tyInt w32, l₀) ∷ (tyRef (named 0) mut (pointee (mTranscript.the-row .written)), l₁) ∷ (sliceTy (tyRef (named 1) imm (tyInt w8)), l₂) ∷
+        (sliceTy (tyRef (named 2) imm (tyInt w8)), l₃) ∷ (lTranscript.mir, l₄) ∷ (lTranscriptAnswer.mir, l₅) ∷ (lTranscript.mir, l₆) ∷ (
+          tyArray
+              (tyInt w8) 32,
           l₇,
-        ) ∷ []) (‵ ftrue)) die $ free-all ! 6 ((tyUnit, l₀) ∷ (tyRef (named 0) mut (pointee (mTranscript.the-row .written)), l₁) ∷
-        (sliceTy (tyRef (named 1) imm (tyInt w8)), l₂) ∷ (sliceTy (tyRef (named 2) imm (tyInt w8)), l₃) ∷ (lTranscript.mir, l₄) ∷
-        (lTranscript.mir, l₅) ∷ (tyArray (tyInt w8) 32, l₆) ∷ (tyInt w64, l₇) ∷ []) (kept _ ∷ kept _ ∷ kept _ ∷ kept _ ∷ kept _ ∷ kept _ ∷ kept _
-        ∷ kept _ ∷ []) refl $
-        suffices ! _ (ends-at 𝓤 H A f.ended stayed (f.clauses 𝓤 H A at-mem run) W (((κ₀, (κ₁, (κ₂, tt))), (q₀, (q₁, (q₂, tt))), tt, a, at), tt) vunit
-        tt (r1, (tt, (tt, tt))) (tt, (tt, (tt, tt)))) $ says ! (cc) $
+        ) ∷ (tyInt w64, l₈) ∷ []) (‵ ftrue)) die $ free-all ! 6 ((tyInt w32, l₀) ∷ (
+          tyRef (named 0) mut (pointee
+              (mTranscript.the-row .written)),
+          l₁,
+        ) ∷ (sliceTy (tyRef (named 1) imm (tyInt w8)), l₂) ∷ (sliceTy (tyRef (named 2) imm (tyInt w8)), l₃) ∷
+        (lTranscript.mir, l₄) ∷ (lTranscriptAnswer.mir, l₅) ∷ (lTranscript.mir, l₆) ∷ (tyArray (tyInt w8) 32, l₇) ∷ (tyInt w64, l₈) ∷ []) (kept _
+        ∷ kept _ ∷ kept _ ∷ kept _ ∷ kept _ ∷ kept _ ∷ kept _ ∷ kept _ ∷ kept _ ∷ []) refl $
+        suffices ! _ (ends-at 𝓤 H A f.ended stayed (f.clauses 𝓤 H A at-mem run) W (((κ₀, (κ₁, (κ₂, tt))), (q₀, (q₁, (q₂, tt))), tt, a, at), tt)
+        ((vint w32) (mTranscriptAnswer.the-type .to r1 .0)) (mTranscriptAnswer.the-type .to r1 .0) ((r1 .transcript), (tt, (tt, tt))) (
+          tt,
+          (
+            tt,
+            (tt, tt),
+          ),
+        )) $ says ! ((cc, cc)) $
         nothing ! $ move ! (3 ∷ 0 ∷ []) $ join ! $ move ! (3 ∷ 0 ∷ []) $ join ! $ move ! (2 ∷ 0 ∷ []) $ join ! $ nothing ! $ move ! (3 ∷ 0 ∷ []) $
-        fjoin ! $ move ! (3 ∷ 0 ∷ []) $ fjoin ! $ move ! (2 ∷ 0 ∷ []) $ fjoin ! $ keep ! (1 ∷ 0 ∷ []) $ frame ! $ feqI ! (List Val) (vunit ∷ [])
-        (vunit ∷ []) refl $ move ! (1 ∷ 0 ∷ []) $ done !))))))))))))))))
+        fjoin ! $ move ! (3 ∷ 0 ∷ []) $ fjoin ! $ move ! (2 ∷ 0 ∷ []) $ fjoin ! $ keep ! (1 ∷ 0 ∷ []) $ frame ! $ frame ! $ owned ! u32 (Is u32)
+        (uint-makes 𝓤 H A W w32) (mTranscriptAnswer.the-type .to r1 .0) _ (LL.owed mTranscriptAnswer.the-type lTranscriptAnswer.the-laws r1 _
+        (subst (Is mTranscriptAnswer.the-row r1) ((LL.tells mTranscriptAnswer.the-type lTranscriptAnswer.the-laws) r1 _ i1) i1) .0) $ done
+        !)))))))))))))))))
 
 module _ {M : Type 1} (𝓤 : URA M) (H : Heap 𝓤) (A : Atoms 𝓤) (W : Given 𝓤 H A) (mem : Memory → SProp 𝓤) (run : Routine → Fun 𝓤) where
   walks : (C : Calls 𝓤 H) (Λ : Loops 𝓤 H) → FmC 𝓤 H (W .laws) C → Triple 𝓤 (C #g1) (Callee-g1 𝓤 H A mem run) → Walks 𝓤 H A f.ended stayed (WpFn 𝓤 H C Λ code.function) (f.clauses 𝓤 H A mem run)
