@@ -8,6 +8,7 @@ use magnetar_hash::sha3;
 use magnetar_hash::transcript;
 ghost use mathlib.Core.Path.{_≡_};
 ghost use lib.ListN.{length};
+ghost use Rattle.magnetar_hash.specs.Bytes.{leBytes};
 ghost use Rattle.magnetar_hash.specs.Sha3.{sha3};
 ghost use Rattle.magnetar_hash.specs.Transcript as spec;
 ghost use Rattle.magnetar_c.specs.Across as across;
@@ -39,10 +40,31 @@ pub extern "C" fn magnetar_absorb_bytes(
     t: MagnetarTranscript,
     label: &[u8],
     bytes: &[u8],
-) -> MagnetarTranscript
-    ensures { λ r. ⌜ across.transcript r ≡ spec.absorbed (across.transcript t) (now (label .entry)) (now (bytes .entry)) ⌝ }
+) -> MagnetarAnswer
+    ensures { λ r. ⌜ across.answer r ≡ spec.absorbAnswer (across.transcript t) (now (label .entry)) (now (bytes .entry)) ⌝ }
 {
-    across::transcript_out(transcript::absorb_bytes(across::transcript_in(t), label, bytes))
+    across::answer_out(transcript::absorb_bytes(across::transcript_in(t), label, bytes))
+}
+
+// A word is absorbed under a label.
+#[no_mangle]
+pub extern "C" fn magnetar_absorb_u64(t: MagnetarTranscript, label: &[u8], v: u64) -> MagnetarAnswer
+    ensures { λ r. ⌜ across.answer r ≡ spec.absorbAnswer (across.transcript t) (now (label .entry)) (leBytes 8 v) ⌝ }
+{
+    across::answer_out(transcript::absorb_u64(across::transcript_in(t), label, v))
+}
+
+// A hash is absorbed under a label.
+#[no_mangle]
+pub extern "C" fn magnetar_absorb_digest(
+    t: MagnetarTranscript,
+    label: &[u8],
+    d: MagnetarDigest,
+) -> MagnetarAnswer
+    ensures { λ r. ⌜ across.answer r ≡ spec.absorbAnswer (across.transcript t) (now (label .entry)) (d .bytes) ⌝ }
+{
+    let bytes = d.bytes;
+    across::answer_out(transcript::absorb_digest(across::transcript_in(t), label, &bytes))
 }
 
 // Elements are absorbed under a label.

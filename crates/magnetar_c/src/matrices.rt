@@ -21,8 +21,10 @@ pub extern "C" fn magnetar_apply(
     z: &[u64],
     out: &mut [u64],
 ) -> u32
-    ensures answer { λ r. ⌜ (let A = lent rows cols (now (row .entry)) (now (col .entry)) (now (lo .entry)) (now (hi .entry)) in r ≡ applyRefusal A (now (z .entry)) (now (out .entry))) ⌝ }
-    ensures product { λ _. ⌜ (let A = lent rows cols (now (row .entry)) (now (col .entry)) (now (lo .entry)) (now (hi .entry)) in now (out .exit) ≡ applyOut A (now (z .entry)) (now (out .entry))) ⌝ }
+    ensures answer { λ r. ⌜ (let A = lent rows cols (now (row .entry)) (now (col .entry)) (now (lo .entry)) (now (hi .entry)) in
+        r ≡ applyRefusal A (now (z .entry)) (now (out .entry))) ⌝ }
+    ensures product { λ _. ⌜ (let A = lent rows cols (now (row .entry)) (now (col .entry)) (now (lo .entry)) (now (hi .entry)) in
+        now (out .exit) ≡ applyOut A (now (z .entry)) (now (out .entry))) ⌝ }
 {
     r1cs::apply(rows, cols, row, col, lo, hi, z, out)
 }
@@ -40,9 +42,12 @@ pub extern "C" fn magnetar_eval_mle_table(
     out: &mut [u64],
     scratch: &mut [u64],
 ) -> u32
-    ensures answer { λ r. ⌜ (let A = lent rows cols (now (row .entry)) (now (col .entry)) (now (lo .entry)) (now (hi .entry)) in r ≡ tableRefusal A (now (point .entry)) (now (out .entry)) (now (scratch .entry))) ⌝ }
-    ensures table { λ _. ⌜ (let A = lent rows cols (now (row .entry)) (now (col .entry)) (now (lo .entry)) (now (hi .entry)) in now (out .exit) ≡ tableOut A (now (point .entry)) (now (out .entry)) (now (scratch .entry))) ⌝ }
-    ensures cleared { λ _. ⌜ (let A = lent rows cols (now (row .entry)) (now (col .entry)) (now (lo .entry)) (now (hi .entry)) in now (scratch .exit) ≡ tableScratch A (now (point .entry)) (now (out .entry)) (now (scratch .entry))) ⌝ }
+    ensures answer { λ r. ⌜ (let A = lent rows cols (now (row .entry)) (now (col .entry)) (now (lo .entry)) (now (hi .entry)) in
+        r ≡ tableRefusal A (now (point .entry)) (now (out .entry)) (now (scratch .entry))) ⌝ }
+    ensures table { λ _. ⌜ (let A = lent rows cols (now (row .entry)) (now (col .entry)) (now (lo .entry)) (now (hi .entry)) in
+        now (out .exit) ≡ tableOut A (now (point .entry)) (now (out .entry)) (now (scratch .entry))) ⌝ }
+    ensures cleared { λ _. ⌜ (let A = lent rows cols (now (row .entry)) (now (col .entry)) (now (lo .entry)) (now (hi .entry)) in
+        now (scratch .exit) ≡ tableScratch A (now (point .entry)) (now (out .entry)) (now (scratch .entry))) ⌝ }
 {
     r1cs::eval_mle_table(rows, cols, row, col, lo, hi, point, out, scratch)
 }
@@ -60,8 +65,10 @@ pub extern "C" fn magnetar_eval_mle_at(
     c: &[u64],
     scratch: &mut [u64],
 ) -> MagnetarValue
-    ensures value { λ v. ⌜ (let A = lent rows cols (now (row .entry)) (now (col .entry)) (now (lo .entry)) (now (hi .entry)) in v ≡ across.evaluated (atAnswer A (now (r .entry)) (now (c .entry)) (now (scratch .entry)))) ⌝ }
-    ensures cleared { λ _. ⌜ (let A = lent rows cols (now (row .entry)) (now (col .entry)) (now (lo .entry)) (now (hi .entry)) in now (scratch .exit) ≡ atScratch A (now (r .entry)) (now (c .entry)) (now (scratch .entry))) ⌝ }
+    ensures value { λ v. ⌜ (let A = lent rows cols (now (row .entry)) (now (col .entry)) (now (lo .entry)) (now (hi .entry)) in
+        v ≡ across.evaluated (atAnswer A (now (r .entry)) (now (c .entry)) (now (scratch .entry)))) ⌝ }
+    ensures cleared { λ _. ⌜ (let A = lent rows cols (now (row .entry)) (now (col .entry)) (now (lo .entry)) (now (hi .entry)) in
+        now (scratch .exit) ≡ atScratch A (now (r .entry)) (now (c .entry)) (now (scratch .entry))) ⌝ }
 {
     across::value_out(r1cs::eval_mle_at(rows, cols, row, col, lo, hi, r, c, scratch))
 }
@@ -76,7 +83,8 @@ pub extern "C" fn magnetar_is_binary(
     lo: &[u64],
     hi: &[u64],
 ) -> MagnetarFlag
-    ensures { λ r. ⌜ (let A = lent rows cols (now (row .entry)) (now (col .entry)) (now (lo .entry)) (now (hi .entry)) in r ≡ across.flag (flaggedOf (binaryRefusal A) (binary (matrixOf A)))) ⌝ }
+    ensures { λ r. ⌜ (let A = lent rows cols (now (row .entry)) (now (col .entry)) (now (lo .entry)) (now (hi .entry)) in
+        r ≡ across.flag (flaggedOf (binaryRefusal A) (binary (matrixOf A)))) ⌝ }
 {
     across::flag_out(r1cs::is_binary(rows, cols, row, col, lo, hi))
 }
@@ -96,8 +104,10 @@ pub extern "C" fn magnetar_apply_simd_packed(
     w: usize,
     out: &mut [u64],
 ) -> MagnetarFlag
-    ensures flag { λ r. ⌜ (let A = lent rows cols (now (row .entry)) (now (col .entry)) (now (lo .entry)) (now (hi .entry)) in r ≡ across.flag (flaggedOf (packedRefusal A (now (packed .entry)) (now (x .entry)) q w (now (out .entry))) (bitValued w (matrixOf A)))) ⌝ }
-    ensures products { λ _. ⌜ (let A = lent rows cols (now (row .entry)) (now (col .entry)) (now (lo .entry)) (now (hi .entry)) in now (out .exit) ≡ packedOut A (now (packed .entry)) (now (x .entry)) q w (now (out .entry))) ⌝ }
+    ensures flag { λ r. ⌜ (let A = lent rows cols (now (row .entry)) (now (col .entry)) (now (lo .entry)) (now (hi .entry)) in
+        r ≡ across.flag (flaggedOf (packedRefusal A (now (packed .entry)) (now (x .entry)) q w (now (out .entry))) (bitValued w (matrixOf A)))) ⌝ }
+    ensures products { λ _. ⌜ (let A = lent rows cols (now (row .entry)) (now (col .entry)) (now (lo .entry)) (now (hi .entry)) in
+        now (out .exit) ≡ packedOut A (now (packed .entry)) (now (x .entry)) q w (now (out .entry))) ⌝ }
 {
     across::flag_out(r1cs::apply_simd_packed(rows, cols, row, col, lo, hi, packed, x, q, w, out))
 }
@@ -117,8 +127,10 @@ pub extern "C" fn magnetar_apply_simd_bit_masks(
     v: usize,
     out: &mut [u64],
 ) -> u32
-    ensures answer { λ r. ⌜ (let A = lent rows cols (now (row .entry)) (now (col .entry)) (now (lo .entry)) (now (hi .entry)) in r ≡ masksRefusal A (now (packed .entry)) q w v (now (out .entry))) ⌝ }
-    ensures written { λ _. ⌜ (let A = lent rows cols (now (row .entry)) (now (col .entry)) (now (lo .entry)) (now (hi .entry)) in now (out .exit) ≡ masksOut A (now (packed .entry)) q w v (now (out .entry))) ⌝ }
+    ensures answer { λ r. ⌜ (let A = lent rows cols (now (row .entry)) (now (col .entry)) (now (lo .entry)) (now (hi .entry)) in
+        r ≡ masksRefusal A (now (packed .entry)) q w v (now (out .entry))) ⌝ }
+    ensures written { λ _. ⌜ (let A = lent rows cols (now (row .entry)) (now (col .entry)) (now (lo .entry)) (now (hi .entry)) in
+        now (out .exit) ≡ masksOut A (now (packed .entry)) q w v (now (out .entry))) ⌝ }
 {
     r1cs::apply_simd_bit_masks(rows, cols, row, col, lo, hi, packed, q, w, v, out)
 }

@@ -27,8 +27,10 @@ pub extern "C" fn magnetar_outer_message(
     k: MagnetarElement,
     t: MagnetarElement,
 ) -> u32
-    ensures refusal { λ r. ⌜ r ≡ outerRefusal (length (now (out .entry))) (length (now (e .entry))) (length (now (a .entry))) (length (now (b .entry))) (length (now (c .entry))) v ⌝ }
-    ensures message { λ _. ⌜ now (out .exit) ≡ outerOut (now (out .entry)) (now (e .entry)) (now (a .entry)) (now (b .entry)) (now (c .entry)) v (value (across.element k)) (value (across.element t)) ⌝ }
+    ensures refusal { λ r. ⌜ r ≡
+        outerRefusal (length (now (out .entry))) (length (now (e .entry))) (length (now (a .entry))) (length (now (b .entry))) (length (now (c .entry))) v ⌝ }
+    ensures message { λ _. ⌜ now (out .exit) ≡
+        outerOut (now (out .entry)) (now (e .entry)) (now (a .entry)) (now (b .entry)) (now (c .entry)) v (value (across.element k)) (value (across.element t)) ⌝ }
 {
     engine::outer_message(
         out,
@@ -59,7 +61,8 @@ pub extern "C" fn magnetar_round_external(
     claim: MagnetarElement,
     r: MagnetarElement,
 ) -> MagnetarRound
-    ensures { λ o. ⌜ leftBy (across.round o) ≡ roundOutcome n (now (msg .entry)) (value (across.element claim)) (value (across.element r)) ⌝ }
+    ensures { λ o. ⌜ leftBy (across.round o) ≡
+        roundOutcome n (now (msg .entry)) (value (across.element claim)) (value (across.element r)) ⌝ }
 {
     across::round_out(verify::round_external(
         msg,
@@ -78,7 +81,8 @@ pub extern "C" fn magnetar_round_capturing(
     t: MagnetarTranscript,
     label: &[u8],
 ) -> MagnetarCapture
-    ensures { λ o. ⌜ capturedBy (across.captured o) ≡ captureOutcome n (now (msg .entry)) (value (across.element claim)) (across.transcript t) (now (label .entry)) ⌝ }
+    ensures { λ o. ⌜ capturedBy (across.captured o) ≡
+        captureOutcome n (now (msg .entry)) (value (across.element claim)) (across.transcript t) (now (label .entry)) ⌝ }
 {
     across::capture_out(capture::round_capturing(
         msg,

@@ -39,9 +39,12 @@ pub extern "C" fn magnetar_fold_packed_w(
     out: &mut [u64],
     scratch: &mut [u64],
 ) -> u32
-    ensures answer { λ r. ⌜ r ≡ foldRefusal (now (packed .entry)) q w (now (point .entry)) (now (out .entry)) (now (scratch .entry)) ⌝ }
-    ensures folded { λ _. ⌜ now (out .exit) ≡ foldOut (now (packed .entry)) q w (now (point .entry)) (now (out .entry)) (now (scratch .entry)) ⌝ }
-    ensures cleared { λ _. ⌜ now (scratch .exit) ≡ foldScratch (now (packed .entry)) q w (now (point .entry)) (now (out .entry)) (now (scratch .entry)) ⌝ }
+    ensures answer { λ r. ⌜ r ≡
+        foldRefusal (now (packed .entry)) q w (now (point .entry)) (now (out .entry)) (now (scratch .entry)) ⌝ }
+    ensures folded { λ _. ⌜ now (out .exit) ≡
+        foldOut (now (packed .entry)) q w (now (point .entry)) (now (out .entry)) (now (scratch .entry)) ⌝ }
+    ensures cleared { λ _. ⌜ now (scratch .exit) ≡
+        foldScratch (now (packed .entry)) q w (now (point .entry)) (now (out .entry)) (now (scratch .entry)) ⌝ }
 {
     fold::fold_packed_w(packed, q, w, point, out, scratch)
 }
@@ -62,7 +65,8 @@ pub extern "C" fn magnetar_build_m_combo(
     pf: &[u64],
 ) -> u32
     ensures { λ r. ⌜ (let R = rules m 1 [] sh (now (row .entry)) (now (col .entry)) (now (lo .entry)) (now (hi .entry)) in
-        combined r (now (out .exit)) (now (scratch .exit)) ≡ comboOutcome R (now (alphas .entry)) (now (pb .entry)) (now (pf .entry)) (now (out .entry)) (now (scratch .entry))) ⌝ }
+        combined r (now (out .exit)) (now (scratch .exit))
+        ≡ comboOutcome R (now (alphas .entry)) (now (pb .entry)) (now (pf .entry)) (now (out .entry)) (now (scratch .entry))) ⌝ }
 {
     combo::build_m_combo(out, scratch, m, sh, row, col, lo, hi, alphas, pb, pf)
 }
@@ -106,9 +110,11 @@ pub extern "C" fn magnetar_prove_virtual_spartan(
     x: &[u64],
     t: MagnetarTranscript,
 ) -> MagnetarAnswer
-    ensures outcome { λ r. ⌜ (let R = rules m q (now (lens .entry)) sh (now (row .entry)) (now (col .entry)) (now (lo .entry)) (now (hi .entry)) in proved (across.answer r) (now (proof .exit)) (now (claims .exit)) (now (scratch .exit))
+    ensures outcome { λ r. ⌜ (let R = rules m q (now (lens .entry)) sh (now (row .entry)) (now (col .entry)) (now (lo .entry)) (now (hi .entry)) in
+        proved (across.answer r) (now (proof .exit)) (now (claims .exit)) (now (scratch .exit))
         ≡ proveOutcome R (now (packed .entry)) (now (x .entry)) (across.transcript t) (now (proof .entry)) (now (claims .entry)) (now (scratch .entry))) ⌝ }
-    ensures complete { λ r. ⌜ (let R = rules m q (now (lens .entry)) sh (now (row .entry)) (now (col .entry)) (now (lo .entry)) (now (hi .entry)) in r .code ≡ 0
+    ensures complete { λ r. ⌜ (let R = rules m q (now (lens .entry)) sh (now (row .entry)) (now (col .entry)) (now (lo .entry)) (now (hi .entry)) in
+        r .code ≡ 0
         → ProvedCall R (now (packed .entry)) (now (x .entry)) (across.transcript t) (now (proof .exit)) (now (claims .exit)) (across.answer r .transcript)) ⌝ }
 {
     across::answer_out(virtual_spartan::prove_virtual_spartan(
@@ -146,9 +152,11 @@ pub extern "C" fn magnetar_verify_virtual_spartan(
     proof: &[u64],
     t: MagnetarTranscript,
 ) -> MagnetarAnswer
-    ensures outcome { λ r. ⌜ (let R = rules m q (now (lens .entry)) sh (now (row .entry)) (now (col .entry)) (now (lo .entry)) (now (hi .entry)) in verified (across.answer r) (now (claims .exit)) (now (scratch .exit))
+    ensures outcome { λ r. ⌜ (let R = rules m q (now (lens .entry)) sh (now (row .entry)) (now (col .entry)) (now (lo .entry)) (now (hi .entry)) in
+        verified (across.answer r) (now (claims .exit)) (now (scratch .exit))
         ≡ verifyOutcome R (now (x .entry)) (now (proof .entry)) (across.transcript t) (now (claims .entry)) (now (scratch .entry))) ⌝ }
-    ensures sound { λ r. ⌜ (let R = rules m q (now (lens .entry)) sh (now (row .entry)) (now (col .entry)) (now (lo .entry)) (now (hi .entry)) in r .code ≡ 0
+    ensures sound { λ r. ⌜ (let R = rules m q (now (lens .entry)) sh (now (row .entry)) (now (col .entry)) (now (lo .entry)) (now (hi .entry)) in
+        r .code ≡ 0
         → AcceptedCall R (now (x .entry)) (now (proof .entry)) (across.transcript t) (now (claims .exit))) ⌝ }
 {
     across::answer_out(virtual_spartan::verify_virtual_spartan(

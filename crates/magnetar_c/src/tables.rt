@@ -58,7 +58,9 @@ pub extern "C" fn magnetar_eval_mle(
     point: &[u64],
     scratch: &mut [u64],
 ) -> MagnetarValue
-    ensures value { λ r. ⌜ r ≡ across.evaluated (answered (mleRefusal (now (values .entry)) (now (point .entry)) (now (scratch .entry))) (mle (elements (now (values .entry))) (elements (now (point .entry))))) ⌝ }
+    ensures value { λ r. ⌜ r ≡ across.evaluated (answered
+        (mleRefusal (now (values .entry)) (now (point .entry)) (now (scratch .entry)))
+        (mle (elements (now (values .entry))) (elements (now (point .entry))))) ⌝ }
     ensures cleared { λ _. ⌜ now (scratch .exit) ≡ mleScratch (now (values .entry)) (now (point .entry)) (now (scratch .entry)) ⌝ }
 {
     across::value_out(multilinear::eval_mle(values, point, scratch))
@@ -71,7 +73,9 @@ pub extern "C" fn magnetar_fold_instances(
     point: &[u64],
     scratch: &mut [u64],
 ) -> MagnetarValue
-    ensures value { λ r. ⌜ r ≡ across.evaluated (answered (mleRefusal (now (vector .entry)) (now (point .entry)) (now (scratch .entry))) (mle (elements (now (vector .entry))) (elements (now (point .entry))))) ⌝ }
+    ensures value { λ r. ⌜ r ≡ across.evaluated (answered
+        (mleRefusal (now (vector .entry)) (now (point .entry)) (now (scratch .entry)))
+        (mle (elements (now (vector .entry))) (elements (now (point .entry))))) ⌝ }
     ensures cleared { λ _. ⌜ now (scratch .exit) ≡ mleScratch (now (vector .entry)) (now (point .entry)) (now (scratch .entry)) ⌝ }
 {
     across::value_out(fold::fold_instances(vector, point, scratch))

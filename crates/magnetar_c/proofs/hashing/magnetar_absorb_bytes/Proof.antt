@@ -10,13 +10,12 @@ transcript-in-requires c κs = search needs
 absorb-bytes-requires : tie.Need-absorb-bytes-requires
 absorb-bytes-requires c κs = search needs
 
-transcript-out-requires : tie.Need-transcript-out-requires
-transcript-out-requires c κs = search needs
+answer-out-requires : tie.Need-answer-out-requires
+answer-out-requires c κs = search needs
 
 returns : tie.Need-returns
 returns c = cc
 
 pub magnetar-absorb-bytes-spec : {M : Type 1} → statement M
 magnetar-absorb-bytes-spec =
-    tie.close
-    (tie.spec transcript-in-requires absorb-bytes-requires transcript-out-requires returns)
+    tie.close (tie.spec transcript-in-requires absorb-bytes-requires answer-out-requires returns)
