@@ -1,6 +1,6 @@
 #!/usr/bin/env bash
-# Proves and archives the library, builds the C examples and the Rust ones over it and runs them: both write the same, and each verifies
-# what the other proved. Needs rt, cc and cargo.
+# Proves and archives the library, builds the C examples and the Rust ones over it and runs them: the first of each writes
+# example.stdout, both write the same, and each verifies what the other proved. Needs rt, cc and cargo.
 set -euo pipefail
 cd "$(dirname "$0")/.."
 rt staticlib magnetar_c >/dev/null
@@ -15,7 +15,8 @@ for language in c rust; do
     "$out/example_$language" >"$out/example.$language.txt"
     "$out/vault_$language" prove >"$out/proof.$language.txt"
 done
-cmp "$out/example.c.txt" "$out/example.rust.txt"
+cmp "$out/example.c.txt" bindings/example.stdout
+cmp "$out/example.rust.txt" bindings/example.stdout
 cmp "$out/proof.c.txt" "$out/proof.rust.txt"
 "$out/vault_c" verify <"$out/proof.rust.txt" >"$out/verdict.c.txt"
 "$out/vault_rust" verify <"$out/proof.c.txt" >"$out/verdict.rust.txt"

@@ -1,5 +1,9 @@
-/* The vault of crates/demo from C: `vault prove` writes a proof of four logins, `vault verify` reads one and judges it, then shows what
- * is said about wrong words, batches and sizes. */
+/* The vault of crates/demo from C: `vault prove` writes a commitment to four logins and a proof of them, `vault verify` reads both and
+ * judges them, then shows what is said about wrong words, batches, public elements and sizes.
+ *
+ * Both ends absorb the public elements and the commitment before the run. The verifier then checks the claims against
+ * the commitment. The commitment scheme is outside this library: in its place stands SHA3-256 of the packed words, which is opened by showing
+ * the words, so it hides nothing. */
 #include "magnetar.h"
 
 #include <stdio.h>
@@ -56,10 +60,43 @@ static uint64_t login(uint64_t secret, uint64_t saved, uint64_t edition)
            | none(secret, 0, 8) << 22;
 }
 
-static magnetar_transcript start(void)
+/* In the place of a commitment to the logins: the hash of their words' bytes, the low one first. */
+static magnetar_digest commit(const uint64_t *packed)
+{
+    uint8_t bytes[8 * PACKED];
+    for (size_t i = 0; i < sizeof bytes; i++)
+        bytes[i] = (uint8_t)(packed[i / 8] >> 8 * (i % 8));
+    return magnetar_sha3_256(bytes, sizeof bytes);
+}
+
+/* What both ends start from: a transcript that holds all that must be fixed before the challenges are drawn. */
+static magnetar_transcript bound(const uint64_t *x, magnetar_digest commitment)
 {
     size_t parts[] = {6};
-    return magnetar_transcript_new((const uint8_t *)"vault", 5, (const uint8_t *)"monday", 6, parts, 1).transcript;
+    magnetar_transcript t = magnetar_transcript_new((const uint8_t *)"vault", 5, (const uint8_t *)"monday", 6, parts, 1).transcript;
+    t = magnetar_absorb_field(t, (const uint8_t *)"public", 6, x, PUBLIC).transcript;
+    return magnetar_absorb_digest(t, (const uint8_t *)"commitment", 10, commitment).transcript;
+}
+
+/* Whether the claims are true of the logins that the commitment was made to: the commitment is opened, and each segment's value is that of
+ * the logins folded at r_inst, at the first elements of r_low. */
+static bool claims_hold(const uint64_t *claims, magnetar_digest commitment, const uint64_t *packed)
+{
+    const uint64_t *r_inst = claims, *r_low = r_inst + 2 * 2, *values = r_low + 2 * 5;
+    uint64_t folded[M];
+    size_t offsets[SEGMENTS];
+    magnetar_digest opened = commit(packed);
+    if (memcmp(opened.bytes, commitment.bytes, sizeof opened.bytes) != 0
+        || magnetar_layout_build(M / 2, lens, SEGMENTS, offsets, SEGMENTS) != MAGNETAR_OK
+        || magnetar_fold_packed_w(packed, PACKED, Q, M / 2, r_inst, 4, folded, M, scratch, SCRATCH) != MAGNETAR_OK)
+        return false;
+    for (size_t i = 0; i < SEGMENTS; i++) {
+        size_t vars = lens[i] == 8 ? 3 : 2;
+        magnetar_value v = magnetar_eval_mle(folded + 2 * offsets[i], 2 * lens[i], r_low, 2 * vars, scratch, SCRATCH);
+        if (v.code != MAGNETAR_OK || v.element.lo != values[2 * i] || v.element.hi != values[2 * i + 1])
+            return false;
+    }
+    return true;
 }
 
 static void show(const char *what, const uint64_t *words, size_t n)
@@ -83,23 +120,34 @@ int main(int argc, char **argv)
     magnetar_element key = {0x0123456789abcdef, 0xfedcba9876543210}, edition = {EDITION, 0}, stamp = magnetar_mul(key, edition);
     uint64_t x[PUBLIC] = {key.lo, key.hi, stamp.lo, stamp.hi};
     uint64_t proof[PROOF], claims[CLAIMS];
-    magnetar_transcript t = start();
+    magnetar_digest commitment = commit(good);
 
     if (argc == 2 && strcmp(argv[1], "prove") == 0) {
+        magnetar_transcript t = bound(x, commitment);
         if (magnetar_prove(&r, good, PACKED, x, PUBLIC, t, proof, PROOF, claims, CLAIMS, scratch, SCRATCH).code != MAGNETAR_OK)
             return 1;
+        for (size_t i = 0; i < 32; i++)
+            printf("%02x", commitment.bytes[i]);
+        printf("\n");
         for (size_t i = 0; i < PROOF; i++)
             printf("%016llx\n", (unsigned long long)proof[i]);
         return 0;
     }
+    for (size_t i = 0; i < 32; i++)
+        if (scanf("%2hhx", &commitment.bytes[i]) != 1)
+            return 1;
     for (size_t i = 0; i < PROOF; i++)
         if (scanf("%llx", (unsigned long long *)&proof[i]) != 1)
             return 1;
 
+    magnetar_transcript t = bound(x, commitment);
     magnetar_answer a = magnetar_verify(&r, x, PUBLIC, proof, PROOF, t, claims, CLAIMS, scratch, SCRATCH);
     show_rows("four logins,", magnetar_check(&r, good, PACKED, x, PUBLIC, scratch, SCRATCH));
     printf("verify: %u\n", a.code);
     show("claims:", claims, CLAIMS);
+    printf("claims of the committed logins: %s\n", claims_hold(claims, commitment, good) ? "true" : "false");
+    claims[CLAIMS - 2] ^= 1;
+    printf("with a bit of a claim changed: %s\n", claims_hold(claims, commitment, good) ? "true" : "false");
 
     printf("with a bit of an element changed:");
     for (size_t i = 0; i < PROOF; i += 2) {
@@ -107,6 +155,17 @@ int main(int argc, char **argv)
         printf(" %u", magnetar_verify(&r, x, PUBLIC, proof, PROOF, t, claims, CLAIMS, scratch, SCRATCH).code);
         proof[i] ^= 1;
     }
+    printf("\n");
+
+    /* what was not bound could be chosen now that the challenges are known: another key with its stamp, another commitment */
+    magnetar_element other = {0x1111, 0}, stamped = magnetar_mul(other, edition);
+    uint64_t y[PUBLIC] = {other.lo, other.hi, stamped.lo, stamped.hi};
+    magnetar_digest changed = commitment;
+    changed.bytes[0] ^= 1;
+    printf("with another key: %u",
+           magnetar_verify(&r, y, PUBLIC, proof, PROOF, bound(y, commitment), claims, CLAIMS, scratch, SCRATCH).code);
+    printf(", another commitment: %u\n",
+           magnetar_verify(&r, x, PUBLIC, proof, PROOF, bound(x, changed), claims, CLAIMS, scratch, SCRATCH).code);
 
     const struct {
         const char *what;
@@ -115,14 +174,14 @@ int main(int argc, char **argv)
     } wrong[] = {{"saved without a secret,", 2, login(0, 1, EDITION)},
                  {"of edition 3,", 1, login(0xa7, 1, 3)},
                  {"with a stray bit,", 3, login(0x80, 1, EDITION) | 0x2000}};
-    printf("\n");
     for (size_t i = 0; i < 3; i++) {
         uint64_t bad[PACKED], words[PROOF];
         memcpy(bad, good, sizeof good);
         bad[2 * wrong[i].login] = wrong[i].bits;
+        magnetar_transcript u = bound(x, commit(bad));
         show_rows(wrong[i].what, magnetar_check(&r, bad, PACKED, x, PUBLIC, scratch, SCRATCH));
-        printf("prove: %u", magnetar_prove(&r, bad, PACKED, x, PUBLIC, t, words, PROOF, claims, CLAIMS, scratch, SCRATCH).code);
-        printf(" verify: %u\n", magnetar_verify(&r, x, PUBLIC, words, PROOF, t, claims, CLAIMS, scratch, SCRATCH).code);
+        printf("prove: %u", magnetar_prove(&r, bad, PACKED, x, PUBLIC, u, words, PROOF, claims, CLAIMS, scratch, SCRATCH).code);
+        printf(" verify: %u\n", magnetar_verify(&r, x, PUBLIC, words, PROOF, u, claims, CLAIMS, scratch, SCRATCH).code);
     }
 
     printf("wrong sizes: %u", magnetar_verify(&r, x, PUBLIC, proof, PROOF - 2, t, claims, CLAIMS, scratch, SCRATCH).code);

@@ -54,7 +54,7 @@ fn outer(what: &str, n: usize, v: usize, order: BindOrder, turns: usize) {
     let ours: Vec<Vec<u64>> = tables.iter().map(|t| words(t)).collect();
     let point = words(&rest);
     let mut e = vec![0u64; 1 << n];
-    assert_eq!(unsafe { sys::magnetar_eq_build_fused(point.as_ptr(), point.len(), e.as_mut_ptr(), e.len()) }, 0);
+    assert_eq!(unsafe { sys::magnetar_eq_build(point.as_ptr(), point.len(), e.as_mut_ptr(), e.len()) }, 0);
     // the next round binds the variable that is then the highest, or the lowest
     let next = if v == 0 { 0 } else { n - 2 };
     let terms = [

@@ -45,7 +45,7 @@ pub fn prove(r: &Relation, t: &State, proof: usize, claims: usize, scratch: usiz
 pub fn eq_table(point: &[u64], lent: usize) -> (u32, Vec<u64>) {
     let mut out = vec![MARK; lent];
     // SAFETY: here and below each pointer and length are of one slice, and what is written is borrowed as `&mut`.
-    let code = unsafe { sys::magnetar_eq_build_fused(point.as_ptr(), point.len(), out.as_mut_ptr(), out.len()) };
+    let code = unsafe { sys::magnetar_eq_build(point.as_ptr(), point.len(), out.as_mut_ptr(), out.len()) };
     (code, out)
 }
 

@@ -1,5 +1,9 @@
 //! What ../../vault.c does, through the safe functions: the two write the same, and each verifies what the other proved.
-use magnetar::{mul, prove, row_check, verify, words, Element, Failing, Matrix, Refusal, Relation, Transcript};
+//!
+//! Both ends absorb the public elements and the commitment before the run. The verifier then checks the claims against
+//! the commitment. The commitment scheme is outside this library: in its place stands SHA3-256 of the packed words, which is opened by showing
+//! the words, so it hides nothing.
+use magnetar::*;
 
 const EDITION: u64 = 2;
 
@@ -31,6 +35,33 @@ fn login(secret: u64, saved: u64, edition: u64) -> u64 {
     secret | saved << 8 | parity << 9 | edition << 10 | helpers << 16
 }
 
+/// In the place of a commitment to the logins: the hash of their words' bytes, the low one first.
+fn commit(packed: &[u64]) -> Digest {
+    sha3_256(&packed.iter().flat_map(|w| w.to_le_bytes()).collect::<Vec<u8>>())
+}
+
+/// What both ends start from: a transcript that holds all that must be fixed before the challenges are drawn.
+fn bound(x: &[u64], commitment: Digest) -> Transcript {
+    let mut t = Transcript::new(b"vault", &[b"monday"]);
+    t.absorb_field(b"public", x).unwrap();
+    t.absorb_digest(b"commitment", commitment).unwrap();
+    t
+}
+
+/// Whether the claims are true of the logins that the commitment was made to: the commitment is opened, and each segment's value is that of
+/// the logins folded at r_inst, at the first elements of r_low.
+fn claims_hold(r: &Relation, claims: &Claims, commitment: Digest, packed: &[u64]) -> Result<bool, Refusal> {
+    let offsets = layout_build(r.m / 2, &r.segments)?;
+    let folded = fold_packed_w(packed, r.q, r.m / 2, &claims.r_inst)?;
+    let mut all = commit(packed) == commitment;
+    for (i, (&at, &length)) in offsets.iter().zip(&r.segments).enumerate() {
+        let r_local = &claims.r_low[..2 * length.ilog2() as usize];
+        let value = eval_mle(&folded[2 * at..2 * (at + length)], r_local)?;
+        all &= claims.values[2 * i..2 * i + 2] == words(&[value]);
+    }
+    Ok(all)
+}
+
 fn show(what: &str, words: &[u64]) {
     let elements: String = words.chunks(2).map(|e| format!(" {:016x}{:016x}", e[1], e[0])).collect();
     println!("{what}{elements}");
@@ -52,24 +83,35 @@ fn code<T>(r: Result<T, Refusal>) -> u32 {
 fn main() {
     let mut r = relation();
     let good = [login(0x4b, 1, EDITION), 0, login(0xa7, 1, EDITION), 0, login(0, 0, EDITION), 0, login(0x80, 1, EDITION), 0];
-    let key = Element { lo: 0x0123456789abcdef, hi: 0xfedcba9876543210 };
-    let mut x = words(&[key, mul(key, small(EDITION))]);
-    x.resize(62, 0);
-    let start = Transcript::new(b"vault", &[b"monday"]);
+    let public = |key| {
+        let mut x = words(&[key, mul(key, small(EDITION))]);
+        x.resize(62, 0);
+        x
+    };
+    let x = public(Element { lo: 0x0123456789abcdef, hi: 0xfedcba9876543210 });
 
     if std::env::args().nth(1).as_deref() == Some("prove") {
-        let (proof, _) = prove(&r, &good, &x, &mut start.clone()).unwrap();
+        let commitment = commit(&good);
+        let (proof, _) = prove(&r, &good, &x, &mut bound(&x, commitment)).unwrap();
+        println!("{}", commitment.bytes.iter().map(|b| format!("{b:02x}")).collect::<String>());
         proof.iter().for_each(|w| println!("{w:016x}"));
         return;
     }
     let given = std::io::read_to_string(std::io::stdin()).unwrap();
-    let mut proof: Vec<u64> = given.split_whitespace().map(|w| u64::from_str_radix(w, 16).unwrap()).collect();
+    let mut lines = given.split_whitespace();
+    let digits = lines.next().unwrap();
+    let commitment = Digest { bytes: std::array::from_fn(|i| u8::from_str_radix(&digits[2 * i..2 * i + 2], 16).unwrap()) };
+    let mut proof: Vec<u64> = lines.map(|w| u64::from_str_radix(w, 16).unwrap()).collect();
 
+    let start = bound(&x, commitment);
     let verdict = verify(&r, &x, &proof, &mut start.clone());
     show_rows("four logins,", row_check(&r, &good, &x));
     println!("verify: {}", code(verdict.clone()));
-    let claims = verdict.unwrap();
-    show("claims:", &[claims.r_inst, claims.r_low, claims.values].concat());
+    let mut claims = verdict.unwrap();
+    show("claims:", &[&claims.r_inst[..], &claims.r_low, &claims.values].concat());
+    println!("claims of the committed logins: {}", claims_hold(&r, &claims, commitment, &good).unwrap());
+    claims.values[4] ^= 1;
+    println!("with a bit of a claim changed: {}", claims_hold(&r, &claims, commitment, &good).unwrap());
 
     print!("with a bit of an element changed:");
     for i in (0..proof.len()).step_by(2) {
@@ -79,6 +121,13 @@ fn main() {
     }
     println!();
 
+    // what was not bound could be chosen now that the challenges are known: another key with its stamp, another commitment
+    let y = public(small(0x1111));
+    let mut changed = commitment;
+    changed.bytes[0] ^= 1;
+    print!("with another key: {}", code(verify(&r, &y, &proof, &mut bound(&y, commitment))));
+    println!(", another commitment: {}", code(verify(&r, &x, &proof, &mut bound(&x, changed))));
+
     for (what, u, bits) in [
         ("saved without a secret,", 2, login(0, 1, EDITION)),
         ("of edition 3,", 1, login(0xa7, 1, 3)),
@@ -86,9 +135,10 @@ fn main() {
     ] {
         let mut bad = good;
         bad[2 * u] = bits;
+        let t = bound(&x, commit(&bad));
         show_rows(what, row_check(&r, &bad, &x));
-        let (words, _) = prove(&r, &bad, &x, &mut start.clone()).unwrap();
-        println!("prove: 0 verify: {}", code(verify(&r, &x, &words, &mut start.clone())));
+        let (words, _) = prove(&r, &bad, &x, &mut t.clone()).unwrap();
+        println!("prove: 0 verify: {}", code(verify(&r, &x, &words, &mut t.clone())));
     }
 
     print!("wrong sizes: {}", code(verify(&r, &x, &proof[2..], &mut start.clone())));

@@ -14,6 +14,17 @@ pub fn row_check(scratch: &mut [u64], m: usize, q: usize, r: &Rules, packed: &[u
     }
 }
 
+/// The combined table of m columns.
+pub fn build_m_combo(out: &mut [u64], scratch: &mut [u64], m: usize, r: &Rules, alphas: &[u64], pb: &[u64], pf: &[u64]) -> u32 {
+    unsafe {
+        sys::magnetar_build_m_combo(
+            out.as_mut_ptr(), out.len(), scratch.as_mut_ptr(), scratch.len(), m,
+            r.shapes, r.row.as_ptr(), r.row.len(), r.col.as_ptr(), r.col.len(), r.lo.as_ptr(), r.lo.len(), r.hi.as_ptr(), r.hi.len(),
+            alphas.as_ptr(), alphas.len(), pb.as_ptr(), pb.len(), pf.as_ptr(), pf.len(),
+        )
+    }
+}
+
 /// The prover.
 #[allow(clippy::too_many_arguments)]
 pub fn prove(

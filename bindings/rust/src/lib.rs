@@ -1,109 +1,48 @@
 //! The proved library behind safe functions, which allocate what the library is to be lent.
 //!
-//! Elements are of GF(2)[x] / (x^128 + x^7 + x^2 + x + 1). A table of 2^n elements is a slice of 2^(n+1) words, two an element, the
-//! low one first; entry i is the value at the bits of i, bit 0 that of variable 0.
+//! # What a caller must bind
+//!
+//! Neither [`prove`] nor [`verify`] absorbs the relation, the public elements or a commitment to the bits. So before the run, at both ends
+//! and in the same order, absorb into the transcript
+//!
+//! 1. the relation's digest,
+//! 2. the words of the public elements,
+//! 3. the commitment to the packed words,
+//!
+//! and after a proof was accepted check its [`Claims`] against the commitment. A transcript without these three lets someone choose them
+//! after the challenges are known, so that a proof is accepted for a batch that is not good. The commitment scheme is not part of this
+//! library.
+//!
+//! # Words
+//!
+//! Elements are of GF(2)[x] / (x^128 + x^7 + x^2 + x + 1). A point, a vector or a table of elements is a slice of words, two an element,
+//! the low one first. A table of 2^n elements has 2^(n+1) words; entry i is the value at the bits of i, bit 0 that of variable 0.
+mod hash;
 pub mod lent;
+mod matrix;
 mod refusal;
+mod rounds;
 mod run;
 pub mod sys;
+mod tables;
 
+pub use hash::sha3_256;
+pub use matrix::Matrix;
 pub use refusal::Refusal;
-pub use run::{prove, row_check, verify, Claims, Failing, Matrix, Relation, Rules};
-pub use sys::{Element, Shape, Shapes, SystemShape, Transcript};
+pub use rounds::{inner_message, outer_message, round_capturing, round_external};
+pub use run::{build_m_combo, fold_packed_w, layout_build, prove, row_check, verify, Claims, Failing, Relation, Rules};
+pub use sys::{Digest, Element, Shape, Shapes, SystemShape, Transcript};
+pub use tables::{bind_var, drop_var, eq_build, eval_mle, fold_instances, mul, words};
 
-/// The product.
-pub fn mul(a: Element, b: Element) -> Element {
-    // SAFETY: numbers only.
-    unsafe { sys::magnetar_mul(a, b) }
+/// Past every limit: the library refuses such sizes before it looks at what it is lent.
+const MOST: usize = 1 << 25;
+
+/// So many words 0 to lend, where they can be counted.
+fn room(words: Option<usize>) -> Vec<u64> {
+    vec![0; words.filter(|&n| n <= MOST).unwrap_or(0)]
 }
 
-/// Elements as words.
-pub fn words(elements: &[Element]) -> Vec<u64> {
-    elements.iter().flat_map(|e| [e.lo, e.hi]).collect()
-}
-
-/// The table of eq at the point.
-pub fn eq_table(point: &[Element]) -> Result<Vec<u64>, Refusal> {
-    let p = words(point);
-    let mut out = vec![0; if point.len() > 20 { 0 } else { 2 << point.len() }];
-    // SAFETY: here and below each pointer and length are of one slice, and what is written is borrowed as `&mut`.
-    Refusal::check(unsafe { sys::magnetar_eq_build_fused(p.as_ptr(), p.len(), out.as_mut_ptr(), out.len()) })?;
-    Ok(out)
-}
-
-/// Binds variable `var` to `r`: the table becomes half as long.
-pub fn bind_var(table: &mut Vec<u64>, var: usize, r: Element) -> Result<(), Refusal> {
-    Refusal::check(unsafe { sys::magnetar_bind_var(table.as_mut_ptr(), table.len(), var, r) })?;
-    table.truncate(table.len() / 2);
-    Ok(())
-}
-
-/// The eq table without variable `v`: it becomes half as long.
-pub fn drop_var(table: &mut Vec<u64>, v: usize) -> Result<(), Refusal> {
-    Refusal::check(unsafe { sys::magnetar_drop_var(table.as_mut_ptr(), table.len(), v) })?;
-    table.truncate(table.len() / 2);
-    Ok(())
-}
-
-/// The message of a round of the outer sum-check that binds variable `v` of a, b and c: four coefficients, that of 1 first.
-/// `e` is the eq table over the variables that stay, `k` the product of 1 + tau_j + r_j over those that are bound, `t` the tau of v.
-pub fn outer_message(
-    e: &[u64],
-    a: &[u64],
-    b: &[u64],
-    c: &[u64],
-    v: usize,
-    k: Element,
-    t: Element,
-) -> Result<[u64; 8], Refusal> {
-    let mut out = [0; 8];
-    Refusal::check(unsafe {
-        sys::magnetar_outer_message(
-            out.as_mut_ptr(), out.len(), e.as_ptr(), e.len(), a.as_ptr(), a.len(), b.as_ptr(), b.len(), c.as_ptr(), c.len(), v, k, t,
-        )
-    })?;
-    Ok(out)
-}
-
-/// The message of a round of the inner sum-check that binds variable `v` of t and z: three coefficients.
-pub fn inner_message(t: &[u64], z: &[u64], v: usize) -> Result<[u64; 6], Refusal> {
-    let mut out = [0; 6];
-    Refusal::check(unsafe {
-        sys::magnetar_inner_message(out.as_mut_ptr(), out.len(), t.as_ptr(), t.len(), z.as_ptr(), z.len(), v)
-    })?;
-    Ok(out)
-}
-
-impl Transcript {
-    /// A transcript bound to a protocol and its public parts.
-    pub fn new(protocol: &[u8], parts: &[&[u8]]) -> Transcript {
-        let all = parts.concat();
-        let lens: Vec<usize> = parts.iter().map(|p| p.len()).collect();
-        let answer = unsafe {
-            sys::magnetar_transcript_new(protocol.as_ptr(), protocol.len(), all.as_ptr(), all.len(), lens.as_ptr(), lens.len())
-        };
-        assert_eq!(answer.code, 0, "the lengths are the parts' own");
-        answer.transcript
-    }
-
-    /// Absorbs bytes under a label.
-    pub fn absorb_bytes(&mut self, label: &[u8], bytes: &[u8]) -> Result<(), Refusal> {
-        let answer = unsafe { sys::magnetar_absorb_bytes(*self, label.as_ptr(), label.len(), bytes.as_ptr(), bytes.len()) };
-        *self = answer.transcript;
-        Refusal::check(answer.code)
-    }
-
-    /// Absorbs the words of elements under a label.
-    pub fn absorb_field(&mut self, label: &[u8], words: &[u64]) -> Result<(), Refusal> {
-        let answer = unsafe { sys::magnetar_absorb_field(*self, label.as_ptr(), label.len(), words.as_ptr(), words.len()) };
-        *self = answer.transcript;
-        Refusal::check(answer.code)
-    }
-
-    /// Draws an element under a label.
-    pub fn challenge_field(&mut self, label: &[u8]) -> Result<Element, Refusal> {
-        let draw = unsafe { sys::magnetar_challenge_field(*self, label.as_ptr(), label.len()) };
-        *self = draw.transcript;
-        Refusal::check(draw.code).map(|()| draw.element)
-    }
+/// The greatest k with 2^k at most n, 0 for 0.
+fn log(n: usize) -> usize {
+    n.checked_ilog2().unwrap_or(0) as usize
 }

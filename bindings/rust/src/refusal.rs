@@ -46,7 +46,7 @@ refusals! {
     Segment = 8, "a segment's length is zero, no power of two, or over m / 2";
     Layout = 9, "the layout ends past m / 2";
     Segments = 10, "over 64 segments";
-    Length = 11, "a point, vector or table is not of the wanted length, or has no such variable";
+    Length = 11, "a point, vector, table or message is not of the wanted length, or has no such variable";
     Masks = 12, "masks of a value over 1 or of a column past m/2";
     V = 13, "masks for v over log2 q or over 6";
     Counter = 14, "the transcript's counter is 2^32 or more";

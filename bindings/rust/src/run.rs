@@ -1,31 +1,6 @@
-//! The row check, the prover and the verifier of a batch.
-use crate::sys::{Element, Shape, Shapes, SystemShape, Transcript};
-use crate::{lent, Refusal};
-
-/// A sparse matrix: entry i has the row `row[i]`, the column `col[i]` and the value of the words `lo[i]` and `hi[i]`. Entries at one
-/// place add up.
-#[derive(Clone, Debug, Default)]
-pub struct Matrix {
-    pub rows: usize,
-    pub cols: usize,
-    pub row: Vec<usize>,
-    pub col: Vec<usize>,
-    pub lo: Vec<u64>,
-    pub hi: Vec<u64>,
-}
-
-impl Matrix {
-    pub fn new(rows: usize, cols: usize, entries: &[(usize, usize, Element)]) -> Matrix {
-        Matrix {
-            rows,
-            cols,
-            row: entries.iter().map(|e| e.0).collect(),
-            col: entries.iter().map(|e| e.1).collect(),
-            lo: entries.iter().map(|e| e.2.lo).collect(),
-            hi: entries.iter().map(|e| e.2.hi).collect(),
-        }
-    }
-}
+//! Layouts, folds, the combined table, and the row check, the prover and the verifier of a batch.
+use crate::sys::{self, Shape, Shapes, SystemShape, Transcript};
+use crate::{lent, log, room, Matrix, Refusal};
 
 /// A, B, C of bin, then A, B, C of fld: their shapes, and their entries one behind the other. The library refuses lists of unequal
 /// length, and counts in the shapes that don't add up to it.
@@ -76,23 +51,14 @@ pub struct Relation {
     pub rules: Rules,
 }
 
-/// The words of elements: the shared challenges, those of the columns, and a value for each segment.
+/// The words of elements: the shared challenges, those of the columns, and a value for each segment. The value of segment i is the sum over
+/// the logins u and the positions k below its length of eq(r_inst, u) eq(r_local, k) b, where b is the bit of login u at column offset + k:
+/// eq(p, i) is entry i of [`crate::eq_build`] of p, r_local the first log2(length) elements of r_low, the offset that of [`layout_build`].
 #[derive(Clone, Debug, PartialEq, Eq)]
 pub struct Claims {
     pub r_inst: Vec<u64>,
     pub r_low: Vec<u64>,
     pub values: Vec<u64>,
-}
-
-/// Past every limit: the library refuses such sizes before it looks at what it is lent.
-const MOST: usize = 1 << 25;
-
-fn room(words: Option<usize>) -> Vec<u64> {
-    vec![0; words.filter(|&n| n <= MOST).unwrap_or(0)]
-}
-
-fn log(n: usize) -> usize {
-    n.checked_ilog2().unwrap_or(0) as usize
 }
 
 impl Relation {
@@ -133,6 +99,11 @@ impl Relation {
         self.most_rows().checked_mul(6)
     }
 
+    /// The words of the combined table's scratch: 2 m + 2 max(Rb, Rf).
+    pub fn combo_scratch(&self) -> Option<usize> {
+        self.m.checked_add(self.most_rows())?.checked_mul(2)
+    }
+
     /// The words of the prover's scratch: 8 q (Rb + Rf) + 8 m + 4 max(Rb, Rf) + 4 q.
     pub fn prover_scratch(&self) -> Option<usize> {
         let [rb, rf] = self.rows();
@@ -151,6 +122,36 @@ impl Relation {
         let (r_low, values) = rest.split_at(2 * (log(self.m) - 1));
         Claims { r_inst: r_inst.to_vec(), r_low: r_low.to_vec(), values: values.to_vec() }
     }
+}
+
+/// The columns where segments of these lengths start in w witness columns: each at the next multiple of its length.
+pub fn layout_build(w: usize, lens: &[usize]) -> Result<Vec<usize>, Refusal> {
+    let mut offsets = vec![0; lens.len()];
+    // SAFETY: here and below each pointer and length are of one slice, and what is written is borrowed as `&mut`.
+    Refusal::check(unsafe {
+        sys::magnetar_layout_build(w, lens.as_ptr(), lens.len(), offsets.as_mut_ptr(), offsets.len())
+    })?;
+    Ok(offsets)
+}
+
+/// The batch of q logins of w bits folded at the point: element y is the sum over the logins u of eq(point, u) times the bit of login u at
+/// column y. A segment of it is its 2 * length words from 2 * offset on.
+pub fn fold_packed_w(packed: &[u64], q: usize, w: usize, point: &[u64]) -> Result<Vec<u64>, Refusal> {
+    let (mut out, mut s) = (room(w.checked_mul(2)), room(q.checked_mul(2)));
+    Refusal::check(unsafe {
+        sys::magnetar_fold_packed_w(
+            packed.as_ptr(), packed.len(), q, w, point.as_ptr(), point.len(), out.as_mut_ptr(), out.len(), s.as_mut_ptr(), s.len(),
+        )
+    })?;
+    Ok(out)
+}
+
+/// The six matrices in one table of the columns: the sum of each one's table at its system's row point, pb of bin and pf of fld, times its
+/// alpha, of which there are six, A, B, C of bin first.
+pub fn build_m_combo(r: &Relation, alphas: &[u64], pb: &[u64], pf: &[u64]) -> Result<Vec<u64>, Refusal> {
+    let (mut out, mut s) = (room(r.m.checked_mul(2)), room(r.combo_scratch()));
+    Refusal::check(lent::build_m_combo(&mut out, &mut s, r.m, &r.rules, alphas, pb, pf))?;
+    Ok(out)
 }
 
 /// A row that does not hold: the lowest row of the lowest login, bin before fld.

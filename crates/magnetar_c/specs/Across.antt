@@ -1,19 +1,31 @@
 -- The structs that cross to C and what they carry: structs of the crates below with the same fields under the same names, and the
--- answer of the row check.
+-- answers that are an enum below.
 -- Source: document 01, "Forms that give way", as structs that C can hold.
 -- Assumes nothing.
+use mathlib.Core.Bool.{false}
+use Prim.Native.Nat.{_/_, _%_, _^_}
 use Rattle.magnetar_matrix.specs.RowCheck.Verdict.{good, bin, fld}
 use Rattle.magnetar_batch.specs.Check.{Outcome}
 use Rattle.magnetar_batch.specs.Check.Outcome.{judged, refused}
+use Rattle.magnetar_multilinear.specs.Entries.{Answer}
+use Rattle.magnetar_multilinear.specs.Entries.Answer.{element as found, refusal as notFound}
+use Rattle.magnetar_r1cs.specs.Entries.{Flagged}
+use Rattle.magnetar_r1cs.specs.Entries.Flagged.{flag as asked, refusal as notAsked}
 use Rattle.magnetar_field.specs.declared.gf128.Gf128.{Gf128}
 use Rattle.magnetar_hash.specs.declared.transcript.Transcript.{Transcript}
 use Rattle.magnetar_hash.specs.declared.transcript.TranscriptAnswer.{TranscriptAnswer}
 use Rattle.magnetar_hash.specs.declared.transcript.DrawAnswer.{DrawAnswer}
-use Rattle.magnetar_c.specs.declared.MagnetarElement.{MagnetarElement}
-use Rattle.magnetar_c.specs.declared.MagnetarTranscript.{MagnetarTranscript}
-use Rattle.magnetar_c.specs.declared.MagnetarAnswer.{MagnetarAnswer}
-use Rattle.magnetar_c.specs.declared.MagnetarDraw.{MagnetarDraw}
-use Rattle.magnetar_c.specs.declared.MagnetarRowCheck.{MagnetarRowCheck}
+use Rattle.magnetar_sumcheck_verifier.specs.declared.verify.Round.{Round}
+use Rattle.magnetar_schedule.specs.declared.capture.Captured.{Captured}
+use Rattle.magnetar_c.specs.declared.across.MagnetarElement.{MagnetarElement}
+use Rattle.magnetar_c.specs.declared.across.MagnetarTranscript.{MagnetarTranscript}
+use Rattle.magnetar_c.specs.declared.across.MagnetarAnswer.{MagnetarAnswer}
+use Rattle.magnetar_c.specs.declared.across.MagnetarDraw.{MagnetarDraw}
+use Rattle.magnetar_c.specs.declared.across.MagnetarRowCheck.{MagnetarRowCheck}
+use Rattle.magnetar_c.specs.declared.across.MagnetarValue.{MagnetarValue}
+use Rattle.magnetar_c.specs.declared.across.MagnetarFlag.{MagnetarFlag}
+use Rattle.magnetar_c.specs.declared.across.MagnetarRound.{MagnetarRound}
+use Rattle.magnetar_c.specs.declared.across.MagnetarCapture.{MagnetarCapture}
 
 -- an element
 abbrev pub element : MagnetarElement → Gf128
@@ -37,3 +49,28 @@ crossed (judged good) = record { code = 0; system = 0; login = 0; row = 0 }
 crossed (judged (bin u i)) = record { code = 0; system = 1; login = u; row = i }
 crossed (judged (fld u i)) = record { code = 0; system = 2; login = u; row = i }
 crossed (refused n) = record { code = n; system = 3; login = 0; row = 0 }
+
+-- what a round of the verifier leaves
+abbrev pub round : MagnetarRound → Round
+round r = record { code = r .code; holds = r .holds; claim = element (r .claim) }
+
+-- the same of a round that draws
+abbrev pub captured : MagnetarCapture → Captured
+captured c =
+    record {
+      code = c .code;
+      holds = c .holds;
+      claim = element (c .claim);
+      challenge = element (c .challenge);
+      transcript = transcript (c .transcript);
+    }
+
+-- an answer that is an element, by its words, or the number of a refusal and the element 0
+unfoldable pub evaluated : Answer → MagnetarValue
+evaluated (found v) = record { code = 0; element = record { lo = v % 2 ^ 64; hi = v / 2 ^ 64 } }
+evaluated (notFound n) = record { code = n; element = record { lo = 0; hi = 0 } }
+
+-- an answer that is yes or no, or the number of a refusal and no
+unfoldable pub flag : Flagged → MagnetarFlag
+flag (asked b) = record { code = 0; yes = b }
+flag (notAsked n) = record { code = n; yes = false }
