@@ -89,6 +89,8 @@ fault high-words magnetar_verifier/src/end.rt 'gf128::equal(gf128::add(x, y), v)
 fault remainder magnetar_field/src/gf128.rt '(t.w3 >> 57)' '(t.w3 >> 58)'
 # a counter of 2^32 is let through
 fault counter magnetar_spartan/src/refusal.rt '!(n < 0x100000000)' '!(n < 0x100000001)'
+# an absorption takes a counter of 2^32
+fault late-absorption magnetar_hash/src/transcript.rt 'if old.squeeze_ctr < COUNTER_LIMIT {' 'if old.squeeze_ctr <= COUNTER_LIMIT {'
 # a later equal entry replaces an earlier one
 fault later-entry magnetar_matrix/src/step.rt 'words::put(out, k, gf128::add(v, e));' 'words::put(out, k, e);'
 # bits past the columns of a login are read

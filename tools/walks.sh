@@ -117,8 +117,7 @@ thin combo_records::build_m_combo --use "$core.ComboEnds.{combo-by, combo-ends}"
 
 # magnetar_forms: locals lent to the thin functions
 crate magnetar_forms
-for g in absorb_bytes absorb_u64 absorb_digest; do thin lent::$g; done
-thin lent::absorb_field --final '(cc, cc)'
+for g in absorb_bytes absorb_u64 absorb_digest absorb_field; do thin lent::$g --final '(cc, cc)'; done
 thin lent::challenge_field --final '(cc, cc, cc)'
 thin lent::challenge_field_vec --final '(cc, cc, cc)'
 thin lent::is_binary --requires 'n4 ≤ 32' --part pre

@@ -381,8 +381,23 @@ def transcripts(sheet):
         sheet.said(f"draw {state} {high} {label}", f"! 14 {state} {high}")
     for high in [LIMIT - 1, LIMIT, LIMIT + 1, 2**63]:
         sheet.said(f"rawdraw {state} {high} {label}", driver.ask(f"draw {state} {high} {label}"))
-    sheet.note("an absorption sets the counter to 0, whatever it was")
-    state, counter = sheet.rust("driver", f"absorb {state} {LIMIT} {label} 00")
+    sheet.note("an absorption sets the counter to 0, whatever it was below 2^32; at 2^32 and more it is refused with 14, after 11")
+    data, pair, word = bytes(range(32)), ["0x1", "0x8000000000000000"], 2**63 + 5
+    for first in [LIMIT - 1, LIMIT, 2**64 - 1]:
+        at = f"{state} {first} {label}"
+        for query, absorbs in [
+            (f"absorb {at} -", b""),
+            (f"absorb {at} {data.hex()}", data),
+            (f"absorbfield {at} 0", b""),
+            (f"absorbfield {at} {' '.join(['2'] + pair)}", little(pair)),
+            (f"absorbu64 {at} {word}", little([hex(word)])),
+            (f"absorbdigest {at} {data.hex()}", data),
+        ]:
+            taken = absorbed(state, first, label, absorbs)
+            sheet.said(query, taken if first < LIMIT else f"! 14 {state} {first}")
+        sheet.said(f"absorbfield {at} 1 {pair[1]}", f"! 11 {state} {first}")
+        sheet.said(f"absorbwords {at} 1 {pair[1]}", absorbed(state, first, label, little(pair[1:])))
+    state, counter = sheet.rust("driver", f"absorb {state} {LIMIT - 1} {label} 00")
     sheet.note("several draws at once: words past the draws stay; 14 at the entry alone, then 15")
     for first in [0, 7, LIMIT - 2, LIMIT - 1]:
         for n, lent in [(0, 0), (0, 3), (1, 2), (1, 3), (3, 6), (3, 10)]:

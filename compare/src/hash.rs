@@ -55,6 +55,16 @@ pub fn on(t: &rust::State, label: &str) -> String {
     format!("{} {}", state(t), hex(label.as_bytes()))
 }
 
+/// Where an entry that absorbs is refused with 14, the Rust absorbs on: a listed difference.
+fn absorbs(sheet: &mut Sheet, name: &'static str, t: &rust::State, query: String, absorbed: Vec<String>) {
+    if t.1 >= LIMIT {
+        sheet.ask(name, Document, query, vec![format!("! 14 {}", state(t))]);
+        sheet.tally.listed("an absorption at a counter of 2^32 or more");
+    } else {
+        sheet.ask(name, Rust, query, absorbed);
+    }
+}
+
 fn absorptions(sheet: &mut Sheet, t: &rust::State, label: &str, data: &[u8], es: &[Gf128], odd: u64) {
     let after = |call: &dyn Fn(&mut Transcript)| {
         let mut u = rust::transcript(t);
@@ -62,11 +72,11 @@ fn absorptions(sheet: &mut Sheet, t: &rust::State, label: &str, data: &[u8], es:
         vec![format!("= {}", state(&rust::state(&u)))]
     };
     let at = on(t, label);
-    sheet.ask("transcript::absorb_bytes", Rust, format!("absorb {at} {}", hex(data)), after(&|u| u.absorb_bytes(label, data)));
-    sheet.ask("transcript::absorb_field", Rust, format!("absorbfield {at} {}", elements(es)), after(&|u| u.absorb_field(label, es)));
-    sheet.ask("transcript::absorb_u64", Rust, format!("absorbu64 {at} {odd:#x}"), after(&|u| u.absorb_u64(label, odd)));
+    absorbs(sheet, "transcript::absorb_bytes", t, format!("absorb {at} {}", hex(data)), after(&|u| u.absorb_bytes(label, data)));
+    absorbs(sheet, "transcript::absorb_field", t, format!("absorbfield {at} {}", elements(es)), after(&|u| u.absorb_field(label, es)));
+    absorbs(sheet, "transcript::absorb_u64", t, format!("absorbu64 {at} {odd:#x}"), after(&|u| u.absorb_u64(label, odd)));
     let d = sha3_domain(&[data]);
-    sheet.ask("transcript::absorb_digest", Rust, format!("absorbdigest {at} {}", digits(&d)), after(&|u| u.absorb_digest(label, &d)));
+    absorbs(sheet, "transcript::absorb_digest", t, format!("absorbdigest {at} {}", digits(&d)), after(&|u| u.absorb_digest(label, &d)));
     let mut more = words(es);
     more.push(odd);
     let bytes: Vec<u8> = more.iter().flat_map(|w| w.to_le_bytes()).collect();
@@ -166,6 +176,8 @@ pub fn exhaustive(sheet: &mut Sheet) {
     }
     let t0 = Transcript::new("exhaustive", &[]).state_digest();
     for c in (0..64).chain(LIMIT - 8..LIMIT + 8).chain([1 << 63, u64::MAX - 1]) {
+        let es = r.elements(2);
+        absorptions(sheet, &(t0, c), "label", b"data", &es, c);
         for n in 0..4 {
             draws(sheet, &(t0, c), "label", n, n % 3);
         }

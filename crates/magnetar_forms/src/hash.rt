@@ -41,14 +41,14 @@ fn answered(a: TranscriptAnswer) -> DrawAnswer {
 // By value: absorb, absorbu64, absorbdigest, absorbfield.
 fn core_absorbs(op: u64, t: Transcript, label: &[u8], nums: &[u64], data: &[u8]) -> DrawAnswer {
     if op == ABSORB {
-        return plain(0, transcript::absorb_bytes(t, label, data));
+        return answered(transcript::absorb_bytes(t, label, data));
     }
     if op == ABSORBU64 {
-        return plain(0, transcript::absorb_u64(t, label, at(nums, 3)));
+        return answered(transcript::absorb_u64(t, label, at(nums, 3)));
     }
     if op == ABSORBDIGEST {
         let d = text::digest(data);
-        return plain(0, transcript::absorb_digest(t, label, &d));
+        return answered(transcript::absorb_digest(t, label, &d));
     }
     answered(transcript::absorb_field(t, label, list(nums, 3)))
 }
@@ -56,14 +56,14 @@ fn core_absorbs(op: u64, t: Transcript, label: &[u8], nums: &[u64], data: &[u8])
 // In place: the same.
 fn form_absorbs(op: u64, t: Transcript, label: &[u8], nums: &[u64], data: &[u8]) -> DrawAnswer {
     if op == ABSORB {
-        return plain(0, lent::absorb_bytes(t, label, data));
+        return answered(lent::absorb_bytes(t, label, data));
     }
     if op == ABSORBU64 {
-        return plain(0, lent::absorb_u64(t, label, at(nums, 3)));
+        return answered(lent::absorb_u64(t, label, at(nums, 3)));
     }
     if op == ABSORBDIGEST {
         let d = text::digest(data);
-        return plain(0, lent::absorb_digest(t, label, &d));
+        return answered(lent::absorb_digest(t, label, &d));
     }
     answered(lent::absorb_field(t, label, list(nums, 3)))
 }

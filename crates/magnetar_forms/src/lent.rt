@@ -6,7 +6,7 @@ ghost use Prim.Native.Nat.{_≤_};
 ghost use lib.ListN.{length, take};
 ghost use Rattle.magnetar_multilinear.specs.Entries.{answer};
 ghost use Rattle.magnetar_hash.specs.Bytes.{leBytes};
-ghost use Rattle.magnetar_hash.specs.Transcript.{absorbed, fieldAnswer, drawAnswer, drawsAnswer, drawsOut};
+ghost use Rattle.magnetar_hash.specs.Transcript.{absorbAnswer, fieldAnswer, drawAnswer, drawsAnswer, drawsOut};
 ghost use Rattle.magnetar_matrix.specs.Matrix.{binary, bitValued};
 ghost use Rattle.magnetar_matrix.specs.Lent.{matrixOf};
 ghost use Rattle.magnetar_r1cs.specs.Entries.{applyRefusal, applyOut, binaryRefusal, flagged, flaggedOf, tableRefusal, tableOut, tableScratch, atAnswer, atScratch, packedRefusal, packedOut};
@@ -21,30 +21,6 @@ use magnetar_records::records::Entry;
 use magnetar_transcript::transcript;
 use magnetar_transcript::transcript::Drawn;
 
-pub(crate) fn absorb_bytes(t: Transcript, label: &[u8], bytes: &[u8]) -> Transcript
-    ensures { λ r. ⌜ r ≡ absorbed t (now (label .entry)) (now (bytes .entry)) ⌝ }
-{
-    let mut u = t;
-    transcript::absorb_bytes(&mut u, label, bytes);
-    u
-}
-
-pub(crate) fn absorb_u64(t: Transcript, label: &[u8], v: u64) -> Transcript
-    ensures { λ r. ⌜ r ≡ absorbed t (now (label .entry)) (leBytes 8 v) ⌝ }
-{
-    let mut u = t;
-    transcript::absorb_u64(&mut u, label, v);
-    u
-}
-
-pub(crate) fn absorb_digest(t: Transcript, label: &[u8], d: &[u8; 32]) -> Transcript
-    ensures { λ r. ⌜ r ≡ absorbed t (now (label .entry)) (now (d .entry)) ⌝ }
-{
-    let mut u = t;
-    transcript::absorb_digest(&mut u, label, d);
-    u
-}
-
 // A number with a transcript.
 fn with(code: u32, t: Transcript) -> TranscriptAnswer
     ensures { λ r. ⌜ (r .code ≡ code) × (r .transcript ≡ t) ⌝ }
@@ -53,6 +29,33 @@ fn with(code: u32, t: Transcript) -> TranscriptAnswer
         code,
         transcript: t,
     }
+}
+
+pub(crate) fn absorb_bytes(t: Transcript, label: &[u8], bytes: &[u8]) -> TranscriptAnswer
+    ensures { λ r. ⌜ (r .code ≡ absorbAnswer t (now (label .entry)) (now (bytes .entry)) .code)
+        × (r .transcript ≡ absorbAnswer t (now (label .entry)) (now (bytes .entry)) .transcript) ⌝ }
+{
+    let mut u = t;
+    let code = transcript::absorb_bytes(&mut u, label, bytes);
+    with(code, u)
+}
+
+pub(crate) fn absorb_u64(t: Transcript, label: &[u8], v: u64) -> TranscriptAnswer
+    ensures { λ r. ⌜ (r .code ≡ absorbAnswer t (now (label .entry)) (leBytes 8 v) .code)
+        × (r .transcript ≡ absorbAnswer t (now (label .entry)) (leBytes 8 v) .transcript) ⌝ }
+{
+    let mut u = t;
+    let code = transcript::absorb_u64(&mut u, label, v);
+    with(code, u)
+}
+
+pub(crate) fn absorb_digest(t: Transcript, label: &[u8], d: &[u8; 32]) -> TranscriptAnswer
+    ensures { λ r. ⌜ (r .code ≡ absorbAnswer t (now (label .entry)) (now (d .entry)) .code)
+        × (r .transcript ≡ absorbAnswer t (now (label .entry)) (now (d .entry)) .transcript) ⌝ }
+{
+    let mut u = t;
+    let code = transcript::absorb_digest(&mut u, label, d);
+    with(code, u)
 }
 
 pub(crate) fn absorb_field(t: Transcript, label: &[u8], words: &[u64]) -> TranscriptAnswer

@@ -9,6 +9,7 @@ use magnetar_field::gf128::Gf128;
 use magnetar_field::words;
 use magnetar_hash::sha3;
 use magnetar_hash::transcript::Transcript;
+use magnetar_hash::transcript::TranscriptAnswer;
 use magnetar_hash::transcript::{self};
 use magnetar_schedule::capture;
 use magnetar_schedule::capture::Captured;
@@ -72,15 +73,20 @@ fn print_transcript(t: Transcript) {
 }
 
 // The transcript, after the number of the refusal where there is one.
-fn print_answer(code: u32, t: Transcript) {
-    if code == 0 {
+fn print_answer(a: TranscriptAnswer) {
+    let t = a.transcript;
+    if a.code == 0 {
         print_transcript(t);
     } else {
-        print(b"! ");
-        text::print_number(text::wide(code));
-        print(b" ");
-        print_state(t);
+        print_refused(a.code, t);
     }
+}
+
+fn print_refused(code: u32, t: Transcript) {
+    print(b"! ");
+    text::print_number(text::wide(code));
+    print(b" ");
+    print_state(t);
 }
 
 fn print_drawn(e: Gf128, t: Transcript) {
@@ -171,8 +177,7 @@ fn domain(bytes: &[u8], lens: &[usize]) {
 }
 
 fn begin(protocol: &[u8], bytes: &[u8], lens: &[usize]) {
-    let r = transcript::new(protocol, bytes, lens);
-    print_answer(r.code, r.transcript);
+    print_answer(transcript::new(protocol, bytes, lens));
 }
 
 // Answers a query on the hash, or says that it is none.
@@ -219,12 +224,11 @@ fn begun(op: u64, bytes: &[u8], lens: &[usize], sizes: &[usize]) -> bool {
 // Answers a query that absorbs, or says that it is none.
 fn absorbs(op: u64, t: Transcript, label: &[u8], nums: &[u64], data: &[u8]) -> bool {
     if op == ABSORB {
-        print_transcript(transcript::absorb_bytes(t, label, data));
+        print_answer(transcript::absorb_bytes(t, label, data));
         return true;
     }
     if op == ABSORBFIELD {
-        let r = transcript::absorb_field(t, label, list(nums, 3));
-        print_answer(r.code, r.transcript);
+        print_answer(transcript::absorb_field(t, label, list(nums, 3)));
         return true;
     }
     if op == ABSORBWORDS {
@@ -232,12 +236,12 @@ fn absorbs(op: u64, t: Transcript, label: &[u8], nums: &[u64], data: &[u8]) -> b
         return true;
     }
     if op == ABSORBU64 {
-        print_transcript(transcript::absorb_u64(t, label, at(nums, 3)));
+        print_answer(transcript::absorb_u64(t, label, at(nums, 3)));
         return true;
     }
     if op == ABSORBDIGEST {
         let d = text::digest(data);
-        print_transcript(transcript::absorb_digest(t, label, &d));
+        print_answer(transcript::absorb_digest(t, label, &d));
         return true;
     }
     false
@@ -249,7 +253,7 @@ fn draw(t: Transcript, label: &[u8]) {
     if r.code == 0 {
         print_drawn(r.element, r.transcript);
     } else {
-        print_answer(r.code, r.transcript);
+        print_refused(r.code, r.transcript);
     }
 }
 
