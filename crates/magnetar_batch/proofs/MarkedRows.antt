@@ -15,7 +15,7 @@ use Rattle.magnetar_layout.specs.Entries.{buildRefusal}
 use Rattle.magnetar_matrix.specs.Sum.{sumBelow, blocks}
 use Rattle.magnetar_matrix.specs.Matrix.{sumOver, rowTotal, share, timesAt, times, transpose, mleTable, bitValued}
 use Rattle.magnetar_matrix.specs.Lent.{entriesOf, matrixOf}
-use Rattle.magnetar_matrix.specs.Batch.{assignment, bitOf, foldedAt, folded}
+use Rattle.magnetar_matrix.specs.Batch.{assignment, batchProducts, bitOf, foldedAt, folded}
 use Rattle.magnetar_matrix.specs.Packed.{packedBit, loginPart, unpacked, packedTable}
 use Rattle.magnetar_r1cs.specs.Entries.{packedRefusal, tableRefusal}
 use Rattle.magnetar_batch.specs.Entries.{foldRefusal}
@@ -25,5 +25,5 @@ pub marked : MarkedRows
 unfolding table _⊕_ _⊗_ timesX sumTimes log₂ halvings tabulate elements words eqTable eqAt eqFactor eqRefusal every loginWords nextMultiple
     offsetsFrom endFrom offsets layoutEnd isLength note isSize buildRefusal sumBelow blocks sumOver rowTotal share timesAt times transpose
     mleTable bitValued entriesOf matrixOf assignment bitOf foldedAt folded packedBit loginPart unpacked packedTable packedRefusal tableRefusal
-    foldRefusal
+    foldRefusal batchProducts
 marked = refl
