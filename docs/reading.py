@@ -40,7 +40,7 @@ class Spec:
         self.head, self.heads = None, {}
         text = path.read_text(encoding="utf8")
         for line in text.split("\n"):
-            m = re.match(r"(?:ghost )?use (\S+?)\.\{(.*)\};?$", line)
+            m = re.match(r"(?:ghost |pub |unfoldable pub )?use (\S+?)\.\{(.*)\};?$", line)
             if m:
                 for name in m.group(2).split(", "):
                     self.imports[name.split(" as ")[-1].strip("_") if " as " in name else name.strip("_") or name] = m.group(1)
@@ -48,7 +48,7 @@ class Spec:
             if m:
                 self.renamed[m.group(2)] = m.group(1)
         for block in blocks(text):
-            code = [l for l in block if not re.match(r"(ghost )?use ", l)]
+            code = [l for l in block if not re.match(r"(ghost |pub |unfoldable pub )?use ", l)]
             if not code:
                 continue
             if code[0].startswith("module _"):
@@ -95,6 +95,8 @@ def reach():
         s = spec(path)
         code = s.items.get(name)
         if code is None:
+            if name in s.imports and place(s.imports[name]):
+                visit(place(s.imports[name])[1], name)
             return
         lines.setdefault(path, {})[id(code)] = (len(code), s.shown[id(code)])
         if id(code) in s.heads:
@@ -132,6 +134,7 @@ WRONG = {
     "magnetar_field/specs/Polynomial.antt": "a message would be evaluated as another polynomial than its coefficients say",
     "magnetar_field/specs/Refusal.antt": "a refused call could change what it was lent",
     "magnetar_field/specs/Sizes.antt": "rounds, draws and parts of the proof would be counted wrongly",
+    "magnetar_field/specs/Sum.antt": "a sum over the logins, the columns or a round's entries would leave some out",
     "magnetar_field/specs/Tabulate.antt": "a table would hold other values than its definition, or at other places",
     "magnetar_field/specs/Words.antt": "the two words of an element would be read in another order",
     "magnetar_field/src/gf128.rt": "the two words of an element would be read in another order",
@@ -146,13 +149,15 @@ WRONG = {
     "magnetar_keccak/specs/State.antt": "lanes would be read at other places than FIPS 202's",
     "magnetar_layout/specs/Every.antt": "a test of all segments could pass over one",
     "magnetar_layout/specs/Layout.antt": "a claim would speak of other columns than its segment's, or a bit could hide between segments",
+    "magnetar_layout/specs/Limits.antt": "the limits would be other ones than document 01's",
     "magnetar_layout/specs/Login.antt": "the packed words of a batch would be counted wrongly",
     "magnetar_layout/specs/Tests.antt": "sizes past document 01's limits would be let through, or good ones refused",
     "magnetar_matrix/specs/Batch.antt": "good would mean something else than that every row holds for every login, or a true claim something else than its sum",
+    "magnetar_matrix/specs/Combined.antt": "the inner sum-check would be of another table than the six matrices give",
     "magnetar_matrix/specs/Lent.antt": "the four slices would be read as other entries",
     "magnetar_matrix/specs/Matrix.antt": "a matrix would act on a vector in another way",
     "magnetar_matrix/specs/Packed.antt": "the packed words would hold another batch",
-    "magnetar_matrix/specs/Sum.antt": "a sum over the logins or the columns would leave some out",
+    "magnetar_matrix/specs/Sum.antt": "the logins' products would stand in another order",
     "magnetar_multilinear/specs/EqTable.antt": "eq would not be the indicator that the sums are weighted with",
     "magnetar_multilinear/specs/Multilinear.antt": "a table would be evaluated as another polynomial",
     "magnetar_protocol/specs/Checks.antt": "the verifier would accept what a check of document 01 refuses, or answer another number",
@@ -178,7 +183,7 @@ WRONG = {
     "magnetar_sumcheck_verifier/specs/Order.antt": "variables would be bound in another order than document 01's",
     "magnetar_sumcheck_verifier/specs/Outer.antt": "the outer sum-check would be of another polynomial",
     "magnetar_sumcheck_verifier/specs/Round.antt": "a round's message would pass without adding up to the claim before it",
-    "magnetar_sumcheck_verifier/specs/Sum.antt": "a round's sum would leave some entries out",
+    "magnetar_sumcheck_verifier/specs/Sum.antt": "a message's coefficients would be added up wrongly",
 }
 BEGIN, END = "<!-- docs/reading.py writes this table -->", "<!-- end of the table -->"
 

@@ -49,7 +49,6 @@ each EachNbool N bool
 each EachSNNNNM SNNNNM
 each EachNNMGf128 NNM magnetar_field::gf128::Gf128:lo,hi
 each EachVIbool VI@magnetar_relation::shapes::Shapes bool
-each EachNNNNMI NNNNMI
 each EachNNSSNNNMI NNSSNNNMI
 
 # calls in a row
@@ -107,6 +106,7 @@ thin check_records::row_check --use "$core.CheckEnds.{check-by, check-ends}" --u
 
 # the combined table
 combo=$ends.ComboWalk
+each EachNNNNMI NNNNMI
 thin combo_records::add_matrix --use "$combo.{matrix-ends}" --use "$entries" \
   --final 'matrix-ends n3 n4 n5 n6 n7 n8 n9 (entriesOfRecords (s1 .now)) ys2 (ws1 .0) (ws2 .1 .1 .1 .1 .1 .0) e1 e2'
 thin combo_records::add_system --final 'rw (e3, e2, e1)'

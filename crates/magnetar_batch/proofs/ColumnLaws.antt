@@ -21,7 +21,7 @@ use Rattle.magnetar_layout.specs.Tests.{Sized}
 use Rattle.magnetar_matrix.specs.Matrix.{Entry, Matrix, System, sumOver, rowTotal, share, timesAt, times, transpose, mleTable}
 use Rattle.magnetar_matrix.specs.Table.{raised}
 use Rattle.magnetar_matrix.proofs.TableLaws.{raised-length, raised-get}
-use Rattle.magnetar_batch.specs.Systems.{combinedTable}
+use Rattle.magnetar_matrix.specs.Combined.{combinedTable}
 use Rattle.magnetar_batch.proofs.TableWalk.{columnOf, threeRaised}
 
 -- ---- the factor in front

@@ -23,7 +23,7 @@ use Rattle.magnetar_relation.specs.Rules.{Rules, relationOf, inRelation}
 use Rattle.magnetar_relation.specs.RuleTests.{ruleTests, ruleTestsBy, shapeTests, numberTests, total}
 use Rattle.magnetar_relation.specs.Steps.{clearedTo}
 use Rattle.magnetar_relation.proofs.RuleLaws.{given-group}
-use Rattle.magnetar_batch.specs.Systems.{combinedTable}
+use Rattle.magnetar_matrix.specs.Combined.{combinedTable}
 use Rattle.magnetar_batch.specs.Entries.{comboRest, comboTestsBy, comboRefusal, comboWords, comboRoom, combined, comboOutcome}
 use Rattle.magnetar_batch.specs.TableSteps.{padded, pointIn, tableMade}
 use Rattle.magnetar_batch.proofs.Groups.{front-none, rest-none}

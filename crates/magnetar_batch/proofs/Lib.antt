@@ -12,6 +12,7 @@ pub mod CheckEnds
 pub mod CheckWalk
 pub mod ComboWalk
 pub mod EachMNNNNNNSSI
+pub mod EachNNNNMI
 pub mod CountANIMQNNNNNNSSE
 pub mod PublicHalf
 pub mod RangeLaws

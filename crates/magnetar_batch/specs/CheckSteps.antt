@@ -7,6 +7,7 @@ use Prim.Native.Nat.{ℕ, zero, suc, _*_, min, max}
 use lib.Dec.{eqb, ltb, leb}
 use lib.ListN.{length, take}
 use Rattle.magnetar_field.specs.Words.{elements}
+use Rattle.magnetar_layout.specs.Tests.{mostRows}
 use Rattle.magnetar_matrix.specs.Matrix.{Matrix, System, Entry, share}
 use Rattle.magnetar_matrix.specs.Batch.{Relation}
 use Rattle.magnetar_matrix.specs.RowCheck.{firstNot, holdsAt}
@@ -27,7 +28,7 @@ productBehind m n z a s = walked (shareAdded m n z) (a .entries) (behind m (clea
 
 -- twice n; larger numbers than a matrix has rows are cut
 abbrev pub twiceOf : ℕ → ℕ
-twiceOf n = 2 * min n 65536
+twiceOf n = 2 * min n mostRows
 
 -- the three products of a system, one behind the other
 unfoldable pub threeIn : List ℕ → System → List ℕ → List ℕ

@@ -7,11 +7,12 @@ use Rattle.magnetar_field.specs.Refusal.{unlessRefused}
 use Rattle.magnetar_field.specs.Sizes.{log₂}
 use Rattle.magnetar_field.specs.Words.{elements, words}
 use Rattle.magnetar_matrix.specs.Batch.{folded, publicFolded}
+use Rattle.magnetar_matrix.specs.Combined.{combinedTable}
 use Rattle.magnetar_matrix.specs.Packed.{unpacked}
 use Rattle.magnetar_layout.specs.Tests.{Tests, noted, columnTests, sizeTests, packedTests, publicTests, lengthTest, roomTest}
 use Rattle.magnetar_relation.specs.Rules.{Rules, relationOf}
 use Rattle.magnetar_relation.specs.RuleTests.{ruleTests, given}
-use Rattle.magnetar_batch.specs.Systems.{combinedTable, pointTests, tableRoom, tableRoomTests}
+use Rattle.magnetar_batch.specs.Systems.{pointTests, tableRoom, tableRoomTests}
 
 -- ---- `fold_packed_w`: the packed words ws of q logins with w columns, the point p, the output out, the scratch
 -- 1 and 2; 11: the point; 15: the output or the scratch

@@ -1,20 +1,9 @@
--- The matrices of both systems combined, and the tests of what that asks for besides the relation.
--- Source: magnetar's `build_m_combo`; Spartan, 4 (the second sum-check's combination of the three matrices).
+-- The tests of what the combined table asks for besides the relation.
 -- Assumes nothing.
-use mathlib.Core.List.{List, [], _∷_, _++_}
+use mathlib.Core.List.{_++_}
 use Prim.Native.Nat.{ℕ, _+_, _*_, max}
-use lib.ListN.{getD}
 use Rattle.magnetar_field.specs.Sizes.{log₂}
-use Rattle.magnetar_field.specs.Tabulate.{tabulate}
-use Rattle.magnetar_multilinear.specs.Multilinear.{dot}
-use Rattle.magnetar_matrix.specs.Matrix.{System, mleTable}
 use Rattle.magnetar_layout.specs.Tests.{Tests, lengthTestOf, roomTestOf}
-
--- the matrices of the systems s and t at the row points p and r, combined by the alphas: an element for each of m columns
-unfoldable pub combinedTable : ℕ → System → System → List ℕ → List ℕ → List ℕ → List ℕ
-combinedTable m s t al p r =
-    tabulate (λ y. dot al (getD (mleTable (s .a) p) y 0 ∷ getD (mleTable (s .b) p) y 0 ∷ getD (mleTable (s .c) p) y 0
-    ∷ getD (mleTable (t .a) r) y 0 ∷ getD (mleTable (t .b) r) y 0 ∷ getD (mleTable (t .c) r) y 0 ∷ [])) m
 
 -- 11: so many words of alphas, and of points for n and k rows
 abbrev pub pointTests : (n k al p r : ℕ) → Tests

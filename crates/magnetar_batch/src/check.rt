@@ -103,9 +103,7 @@ pub(crate) fn add_share(
 )
     ensures { λ _. ⌜ now (s .exit) ≡ shareAdded m n (loginZ w (now (packed .entry)) (elements (now (x .entry))) u) (entry row col lo hi) (now (s .entry)) ⌝ }
 {
-    let v = Gf128 { lo: lo, hi: hi };
-    let f = login::z_at(packed, x, w, u, col);
-    add_behind(s, m, n, row, element::scale(f, v));
+    add_share_of(s, m, n, w, login::part(packed, w, u), x, row, col, lo, hi);
 }
 
 // Clears n elements behind the first m, where there are as many.
@@ -305,10 +303,8 @@ fn login_unless(
     ensures { λ f. ⌜ from f (now (s .exit)) ≡ loginDone k (loginZ w (now (packed .entry)) (elements (now (x .entry))) u) (systemAt t a (entriesOf (now (row .entry)) (now (col .entry)) (now (lo .entry)) (now (hi .entry)))) u (from r (now (s .entry))) ⌝ }
 {
     if is_nothing(r) {
-        let j = r1cs::login_words(w);
-        let b = login::login_start(u, j, packed.len());
-        let e = b + sizes::least(j, packed.len() - b);
-        return check_login(r, k, u, s, t, a, w, &packed[b..e], x, row, col, lo, hi);
+        let bits = login::part(packed, w, u);
+        return check_login(r, k, u, s, t, a, w, bits, x, row, col, lo, hi);
     }
     r
 }

@@ -35,7 +35,7 @@ fn add_columns(
     let e = range::after(a, k, r1cs::entries_held(row, col, lo, hi));
     let mut i = a;
     while i < e {
-        step::add_column(m, n, s, row[i], col[i], lo[i], hi[i]);
+        table::add_column(m, n, s, row[i], col[i], lo[i], hi[i]);
         i += 1;
     }
 }

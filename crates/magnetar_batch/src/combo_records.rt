@@ -1,16 +1,17 @@
 // The combined table over one slice of entry records (`build_m_combo`).
 ghost use mathlib.Core.Path.{_≡_};
-ghost use mathlib.Core.Bool.{cond};
+ghost use mathlib.Core.Bool.{cond, _&&_};
 ghost use mathlib.Core.List.{[]};
 ghost use Prim.Native.Nat.{_*_};
-ghost use lib.Dec.{eqb};
+ghost use lib.Dec.{eqb, leb, ltb};
 ghost use lib.ListN.{take};
 ghost use Rattle.magnetar_field.specs.Words.{overlaid};
 ghost use Rattle.magnetar_relation.specs.Rules.{relationOf, rulesOver};
-ghost use Rattle.magnetar_relation.specs.Steps.{clearedTo};
+ghost use Rattle.magnetar_relation.specs.Steps.{clearedTo, columnAdded};
+ghost use Rattle.magnetar_relation.specs.Told.{walkedWithin};
 ghost use Rattle.magnetar_batch.specs.Entries.{combined, comboOutcome};
 ghost use Rattle.magnetar_batch.specs.TableSteps.{padded, matrixAdded, tableMade};
-ghost use Rattle.magnetar_records.specs.Records.{entriesOfRecords};
+ghost use Rattle.magnetar_records.specs.Records.{entryOf, entriesOfRecords};
 ghost use Rattle.magnetar_batch.specs.Ranges.{matrixIn};
 use crate::ranges;
 use crate::table as core;
@@ -19,6 +20,28 @@ use magnetar_records::steps;
 use magnetar_records::walks;
 use magnetar_relation::shapes::Shapes;
 use magnetar_relation::step as table;
+
+// Adds a record's value times the element at its row, of the n behind the first m, at its column, where its index i is from a to b.
+fn column_within(m: usize, n: usize, a: usize, b: usize, t: &mut [u64], i: usize, e: Entry)
+    ensures { λ _. ⌜ now (t .exit) ≡ cond (leb a i && ltb i b) (columnAdded m n (entryOf e) (now (t .entry))) (now (t .entry)) ⌝ }
+{
+    if a <= i {
+        if i < b {
+            core::add_column(m, n, t, e.row, e.col, e.lo, e.hi);
+        }
+    }
+}
+
+// Adds, for each record from a to b, its value times the element at its row, of the n behind the first m, at its column.
+fn add_columns(es: &[Entry], m: usize, n: usize, a: usize, b: usize, t: &mut [u64])
+    ensures { λ _. ⌜ now (t .exit) ≡ walkedWithin (columnAdded m n) a b 0 (entriesOfRecords (now (es .entry))) (now (t .entry)) ⌝ }
+{
+    let mut i = 0;
+    while i < es.len() {
+        column_within(m, n, a, b, t, i, es[i]);
+        i += 1;
+    }
+}
 
 // Adds the matrix of the records from a to b, of n rows, times alpha k at the row point p, to the table of m elements.
 fn add_matrix(
@@ -35,7 +58,7 @@ fn add_matrix(
     ensures { λ _. ⌜ now (s .exit) ≡ matrixAdded m n al k p (matrixIn n a b (entriesOfRecords (now (es .entry)))) (now (s .entry)) ⌝ }
 {
     core::eq_behind(s, m, n, al, k, p);
-    walks::add_columns(es, m, n, a, b, s);
+    add_columns(es, m, n, a, b, s);
 }
 
 // Adds the three matrices of a system of n rows, with the records from a to d and the alphas i, j and k.

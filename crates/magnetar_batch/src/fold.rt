@@ -118,7 +118,7 @@ pub fn fold_packed_w(
     ensures folded { λ _. ⌜ now (out .exit) ≡ foldOut (now (packed .entry)) q w (now (point .entry)) (now (out .entry)) (now (scratch .entry)) ⌝ }
     ensures cleared { λ _. ⌜ now (scratch .exit) ≡ foldScratch (now (packed .entry)) q w (now (point .entry)) (now (out .entry)) (now (scratch .entry)) ⌝ }
 {
-    let n = tests::note(0, 1, !tests::is_half(w));
+    let n = tests::note(0, 1, !tests::is_size(1, 32768, w));
     let n = tests::note(n, 1, !tests::is_size(1, 4096, q));
     if n != 0 {
         return n;
@@ -173,7 +173,7 @@ pub fn fold_packed_in(packed: &[u64], q: usize, w: usize, point: &[u64], s: &mut
     ensures answer { λ r. ⌜ r ≡ foldInRefusal (now (packed .entry)) q w (now (point .entry)) (now (s .entry)) ⌝ }
     ensures folded { λ _. ⌜ now (s .exit) ≡ foldInOut (now (packed .entry)) q w (now (point .entry)) (now (s .entry)) ⌝ }
 {
-    let n = tests::note(0, 1, !tests::is_half(w));
+    let n = tests::note(0, 1, !tests::is_size(1, 32768, w));
     let n = tests::note(n, 1, !tests::is_size(1, 4096, q));
     if n != 0 {
         return n;
@@ -204,7 +204,7 @@ pub fn fold_public_in(x: &[u64], q: usize, w: usize, point: &[u64], s: &mut [u64
     ensures answer { λ r. ⌜ r ≡ publicInRefusal (now (x .entry)) q w (now (point .entry)) (now (s .entry)) ⌝ }
     ensures folded { λ _. ⌜ now (s .exit) ≡ publicInOut (now (x .entry)) q w (now (point .entry)) (now (s .entry)) ⌝ }
 {
-    let n = tests::note(0, 1, !tests::is_half(w));
+    let n = tests::note(0, 1, !tests::is_size(1, 32768, w));
     let n = tests::note(n, 1, !tests::is_size(1, 4096, q));
     if n != 0 {
         return n;

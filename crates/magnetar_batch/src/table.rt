@@ -1,16 +1,20 @@
 // What the combined table is made of, over number slices and over records alike: the eq table behind it, its room cleared, its arguments as
 // arrays, and its refusals by numbers. Each is total: it leaves words that are too few as they are.
+use magnetar_field::gf128::Gf128;
 use magnetar_field::sizes;
 use magnetar_field::words;
 use magnetar_layout::tests;
+use magnetar_matrix::step as element;
 use magnetar_multilinear::eq;
+use magnetar_relation::step;
 ghost use mathlib.Core.Path.{_≡_};
 ghost use Prim.Native.Nat.{_+_, _*_, max};
 ghost use lib.Dec.{ltb};
 ghost use lib.ListN.{getD, take};
 ghost use Rattle.magnetar_field.specs.Words.{elements, overlaid};
 ghost use Rattle.magnetar_layout.specs.Tests.{noted};
-ghost use Rattle.magnetar_relation.specs.Steps.{clearedTo};
+ghost use Rattle.magnetar_matrix.specs.Lent.{entry};
+ghost use Rattle.magnetar_relation.specs.Steps.{clearedTo, columnAdded};
 ghost use Rattle.magnetar_batch.specs.Entries.{comboTestsBy};
 ghost use Rattle.magnetar_batch.specs.TableSteps.{eqBehind, clearedBehind, padded, pointIn};
 
@@ -19,11 +23,28 @@ pub(crate) fn eq_behind(s: &mut [u64], m: usize, n: usize, al: [u64; 12], k: usi
     ensures { λ _. ⌜ now (s .exit) ≡ eqBehind m (getD (elements al) k 0) (pointIn n p) (now (s .entry)) ⌝ }
 {
     let c = words::get(&al, k);
-    let l = sizes::least(2 * sizes::log(n), 32);
+    let l = sizes::least(2 * sizes::log2(n), 32);
     if m <= s.len() / 2 {
         let a = 2 * m;
         let _done = eq::eq_build_scaled(&p[0..l], c, &mut s[a..]);
     }
+}
+
+// Adds an entry's value times the element at its row, of the n behind the first m, to the element at its column.
+pub(crate) fn add_column(
+    m: usize,
+    n: usize,
+    s: &mut [u64],
+    row: usize,
+    col: usize,
+    lo: u64,
+    hi: u64,
+)
+    ensures { λ _. ⌜ now (s .exit) ≡ columnAdded m n (entry row col lo hi) (now (s .entry)) ⌝ }
+{
+    let v = Gf128 { lo: lo, hi: hi };
+    let f = step::get_between(m, n, s, row);
+    step::add_to(m, col, element::scale(v, f), s);
 }
 
 // Clears as many elements behind the first m as the larger row count.
@@ -100,8 +121,8 @@ pub(crate) fn refusal(
     let y = tests::note(0, 1, !tests::is_size(2, 65536, m));
     let y = tests::note(y, z, true);
     let y = tests::note(y, 11, al != 12);
-    let y = tests::note(y, 11, pb != 2 * sizes::log(nb));
-    let y = tests::note(y, 11, pf != 2 * sizes::log(nf));
+    let y = tests::note(y, 11, pb != 2 * sizes::log2(nb));
+    let y = tests::note(y, 11, pf != 2 * sizes::log2(nf));
     let y = tests::note(y, 15, is_over(m, sizes::larger(nb, nf), scratch));
     tests::note(y, 15, m > out / 2)
 }

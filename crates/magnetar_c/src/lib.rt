@@ -8,7 +8,7 @@ use magnetar_hash::transcript;
 use magnetar_hash::transcript::DrawAnswer;
 use magnetar_hash::transcript::Transcript;
 use magnetar_hash::transcript::TranscriptAnswer;
-use magnetar_multilinear::eq;
+use magnetar_multilinear::eq::EqBits;
 use magnetar_multilinear::multilinear;
 use magnetar_relation::shapes::Shapes;
 use magnetar_spartan::virtual_spartan;
@@ -171,7 +171,7 @@ pub extern "C" fn magnetar_eq_build_fused(point: &[u64], out: &mut [u64]) -> u32
     ensures refusal { λ r. ⌜ r ≡ eqRefusal (now (point .entry)) (now (out .entry)) ⌝ }
     ensures table { λ _. ⌜ now (out .exit) ≡ eqOut (now (point .entry)) (now (out .entry)) ⌝ }
 {
-    eq::eq_build_fused(point, out)
+    EqBits::build(point, out)
 }
 
 // Variable var of the table is bound to r.

@@ -8,7 +8,7 @@ use magnetar_batch::combo;
 use magnetar_batch::fold;
 use magnetar_batch::table;
 use magnetar_field::sizes::least;
-use magnetar_field::sizes::log;
+use magnetar_field::sizes::log2;
 use magnetar_protocol::first::Found;
 use magnetar_verifier::claims;
 use magnetar_verifier::end;
@@ -94,7 +94,7 @@ fn lay(nums: &[u64], given: &[u64], sizes: &[usize], scratch: &mut [u64]) {
         told::x(given),
         q,
         m / 2,
-        text::first(&claims, 2 * log(q)),
+        text::first(&claims, 2 * log2(q)),
         &mut scratch[a..],
     );
 }

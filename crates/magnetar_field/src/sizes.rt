@@ -3,9 +3,9 @@ ghost use mathlib.Core.Path.{_≡_};
 ghost use Prim.Native.Nat.{_%_, _^_, _≤_, max, min};
 ghost use Rattle.magnetar_field.specs.Sizes.{log₂, powerOfTwo};
 
-// The logarithm to the base 2, rounded down; that of 0 is 0.
+// The logarithm to the base 2, rounded down; that of 0 is 0. Its bound is for callers that compute with it.
 pub fn log2(n: usize) -> usize
-    ensures { λ r. ⌜ r ≡ log₂ n ⌝ }
+    ensures { λ r. ⌜ (r ≡ log₂ n) × (r ≤ 63) ⌝ }
 {
     let mut rest = n;
     let mut k = 0;
@@ -14,13 +14,6 @@ pub fn log2(n: usize) -> usize
         k += 1;
     }
     k
-}
-
-// The same, with its bound, for callers that compute with it.
-pub fn log(n: usize) -> usize
-    ensures { λ r. ⌜ (r ≡ log₂ n) × (r ≤ 63) ⌝ }
-{
-    log2(n)
 }
 
 // Whether n is a power of two.

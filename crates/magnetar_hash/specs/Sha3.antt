@@ -4,7 +4,8 @@
 use Prim.Native.Nat.{ℕ, zero, suc, _*_, _-_, _/_, _%_, _^_}
 use mathlib.Core.List.{List, [], _∷_, _++_}
 use lib.ListN.{length, getD, set, take, drop, replicate}
-use Rattle.magnetar_keccak.specs.State.{_⊕_, table}
+use Rattle.magnetar_field.specs.Tabulate.{tabulate}
+use Rattle.magnetar_keccak.specs.State.{_⊕_}
 use Rattle.magnetar_keccak.specs.Keccak.{permuted}
 
 -- the rate of 1088 bits, in bytes: 1600 - 2 * 256 bits
@@ -41,7 +42,7 @@ stateByte s j = getD s (j / 8) 0 / 2 ^ (8 * (j % 8)) % 256
 
 -- the first 32 bytes of a state
 unfoldable pub squeezed : List ℕ → List ℕ
-squeezed s = table (stateByte s) 0 32
+squeezed s = tabulate (stateByte s) 32
 
 -- SHA3-256 of a message
 unfoldable pub sha3 : List ℕ → List ℕ

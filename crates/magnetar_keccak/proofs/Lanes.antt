@@ -1,4 +1,4 @@
--- Laws of `table` and `lanes`: what stands at an index, and at x, y.
+-- Laws of `lanes`: what stands at x, y.
 -- Assumes nothing.
 use mathlib.Core.Path.{_≡_, refl, sym, ap, _∙_}
 use mathlib.Core.List.{List}
@@ -6,33 +6,19 @@ use Prim.Native.Nat.{ℕ, zero, suc, _+_, _*_, _/_, _%_, _<_}
 use native.Mathlib.Nat.{le-of-suc-le-suc, not-suc-le-zero, zero-add, add-zero, mod-lt, zero-lt-suc}
 use native.Mathlib.Omega.{arith}
 use lib.ListN.{length, getD, length-set}
-use Rattle.magnetar_keccak.specs.State.{_⊕_, _·_, complement, rotate, table, lane, lanes}
+use Rattle.magnetar_field.specs.Tabulate.{tabulate}
+use Rattle.magnetar_field.proofs.Tabulation.{tabulate-length, tabulate-get}
+use Rattle.magnetar_keccak.specs.State.{_⊕_, _·_, complement, rotate, lane, lanes}
 use Rattle.magnetar_keccak.specs.Offsets.{offset}
 use Rattle.magnetar_keccak.specs.Keccak.{effect, theta, rho, pi, chi, iota, round, rounds, permuted}
 use Rattle.magnetar_keccak.specs.Planes.{Effects}
 use Rattle.magnetar_keccak.proofs.Rotate.{rotate-mod}
 
-pub length-table : (f : ℕ → ℕ) (i n : ℕ) → length (table f i n) ≡ n
-unfolding table
-length-table f i zero = refl
-length-table f i (suc n) = ap suc (length-table f (suc i) n)
-
-get-from : (f : ℕ → ℕ) (i n k : ℕ) → k < n → getD (table f i n) k 0 ≡ f (i + k)
-unfolding table
-get-from f i zero k h = absurd (not-suc-le-zero h)
-get-from f i (suc n) zero h = ap f (sym (add-zero i))
-get-from f i (suc n) (suc k) h =
-    let e : suc i + k ≡ i + suc k = omega arith in
-    get-from f (suc i) n k (le-of-suc-le-suc h) ∙ ap f e
-
-pub get-table : (f : ℕ → ℕ) (n k : ℕ) → k < n → getD (table f 0 n) k 0 ≡ f k
-get-table f n k h = get-from f 0 n k h ∙ ap f (zero-add k)
-
 pub get-lanes : (f : ℕ → ℕ → ℕ) (x y : ℕ) → x < 5 → y < 5 → lane (lanes f) x y ≡ f x y
 get-lanes f x y hx hy =
     let i : (5 * y + x) % 5 ≡ x = omega arith in
     let j : (5 * y + x) / 5 ≡ y = omega arith in
-    get-table (λ i. f (i % 5) (i / 5)) 25 (5 * y + x) (omega arith) ∙ ap (λ (k : ℕ). f k ((5 * y + x) / 5)) i ∙ ap (f x) j
+    tabulate-get (λ i. f (i % 5) (i / 5)) 25 (5 * y + x) 0 (omega arith) ∙ ap (λ (k : ℕ). f k ((5 * y + x) / 5)) i ∙ ap (f x) j
 
 -- the lane at x, y after theta, rho and pi
 pub moved-lane
@@ -61,7 +47,7 @@ moved-from a d x y o e hx hy h =
     let hu : (x + 3 * y) % 5 < 5 = mod-lt (x + 3 * y) (zero-lt-suc 4) in
     let i : (5 * x + (x + 3 * y) % 5) % 5 ≡ (x + 3 * y) % 5 = omega arith in
     let j : (5 * x + (x + 3 * y) % 5) / 5 ≡ x = omega arith in
-    rw (h, i, j, rotate-mod, e .list, get-table (effect a) 5 ((x + 3 * y) % 5) hu, moved-lane a x y hx hy)
+    rw (h, i, j, rotate-mod, e .list, tabulate-get (effect a) 5 ((x + 3 * y) % 5) 0 hu, moved-lane a x y hx hy)
 
 -- the lane at x, y after chi
 pub chi-lane
@@ -85,7 +71,7 @@ chi-from a x y u v w r hx hy e eu ev ew = rw (e, eu, ev, ew, chi-lane a x y hx h
 
 pub length-chi : (a : List ℕ) → length (chi a) ≡ 25
 unfolding chi
-length-chi a = length-table _ 0 25
+length-chi a = tabulate-length _ 25
 
 pub length-permuted : (a : List ℕ) → length (permuted a) ≡ 25
 unfolding permuted rounds round iota

@@ -4,13 +4,14 @@ use mathlib.Core.Path.{_≡_}
 use mathlib.Core.List.{List}
 use Prim.Native.Nat.{ℕ, _+_, _*_}
 use lib.ListN.{set}
-use Rattle.magnetar_keccak.specs.State.{table, lane}
+use Rattle.magnetar_field.specs.Tabulate.{tabulate}
+use Rattle.magnetar_keccak.specs.State.{lane}
 use Rattle.magnetar_keccak.specs.Keccak.{effect}
 use Rattle.magnetar_keccak.specs.declared.keccak.Plane.{Plane}
 
 -- d has what theta adds to each column of a
 pub record Effects (a d : List ℕ) : Type 0 where
-  pub list : d ≡ table (effect a) 0 5
+  pub list : d ≡ tabulate (effect a) 5
 
 -- p is the plane y of the state s
 pub record PlaneOf (s : List ℕ) (y : ℕ) (p : Plane) : Type 0 where

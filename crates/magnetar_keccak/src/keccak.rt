@@ -1,7 +1,8 @@
 // Keccak-f[1600], the permutation of FIPS 202. Lane x, y of the state is entry 5 * y + x.
 ghost use mathlib.Core.Path.{_≡_};
 ghost use Prim.Native.Nat.{_<_, _%_, _/_};
-ghost use Rattle.magnetar_keccak.specs.State.{rotate, complement, _⊕_, _·_, table, lane};
+ghost use Rattle.magnetar_keccak.specs.State.{rotate, complement, _⊕_, _·_, lane};
+ghost use Rattle.magnetar_field.specs.Tabulate.{tabulate};
 ghost use Rattle.magnetar_keccak.specs.Offsets.{offset};
 ghost use Rattle.magnetar_keccak.specs.Rounds.{roundConstant};
 ghost use Rattle.magnetar_keccak.specs.Keccak as fips;
@@ -107,7 +108,7 @@ fn effect(a: &[u64; 25], x: usize) -> u64
 }
 
 fn effects(a: &[u64; 25]) -> [u64; 5]
-    ensures { λ r. ⌜ r ≡ table (fips.effect (now (a .entry))) 0 5 ⌝ }
+    ensures { λ r. ⌜ r ≡ tabulate (fips.effect (now (a .entry))) 5 ⌝ }
 {
     [
         effect(a, 0),

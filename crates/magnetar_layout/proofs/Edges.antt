@@ -7,7 +7,7 @@ use lib.ListN.{replicate}
 use Rattle.magnetar_field.specs.Sizes.{log₂, halvings}
 use Rattle.magnetar_layout.specs.Every.{every}
 use Rattle.magnetar_layout.specs.Layout.{nextMultiple, endFrom, layoutEnd, isLength}
-use Rattle.magnetar_layout.specs.Tests.{note, noted, isSize, columnTests, sizeTests, rowsTests, layoutTests, roomTestOf}
+use Rattle.magnetar_layout.specs.Tests.{note, noted, isSize, columnTests, sizeTests, loneRowTests, rowsTests, layoutTests, roomTestOf}
 
 -- 15: where six words are wanted, six are enough, and five are not
 pub room-edge : map (λ (k : ℕ). noted 0 (roomTestOf 6 k)) (5 ∷ 6 ∷ 7 ∷ []) ≡ 15 ∷ 0 ∷ 0 ∷ []
@@ -23,7 +23,11 @@ pub logins-edge : map (λ (q : ℕ). noted 0 (sizeTests 2 q)) (0 ∷ 1 ∷ 3 ∷
 unfolding note isSize log₂ halvings
 logins-edge = refl
 
--- 4: rows, for 16 logins and for 32
+-- 4: rows of a matrix alone; for 16 logins and for 32
+pub lone-edge : map (λ (n : ℕ). noted 0 (loneRowTests n)) (0 ∷ 1 ∷ 3 ∷ 65536 ∷ 131072 ∷ []) ≡ 4 ∷ 0 ∷ 4 ∷ 0 ∷ 4 ∷ []
+unfolding note isSize log₂ halvings
+lone-edge = refl
+
 pub rows-edge : map (λ (n : ℕ). noted 0 (rowsTests 16 n)) (0 ∷ 1 ∷ 3 ∷ 65536 ∷ 131072 ∷ []) ≡ 4 ∷ 0 ∷ 4 ∷ 0 ∷ 4 ∷ []
 unfolding note isSize log₂ halvings
 rows-edge = refl

@@ -1,21 +1,21 @@
 -- The walk that lays the segments out: where it stands, and that it never goes back.
 -- Assumes nothing.
 use mathlib.Core.Path.{_≡_, refl, sym, ap, _∙_}
-use mathlib.Core.Bool.{true}
+use mathlib.Core.Bool.{Bool, true, false}
 use mathlib.Core.List.{List, [], _∷_, _++_}
 use Prim.Native.Nat.{ℕ, zero, suc, _+_, _-_, _*_, _^_, _≤_, _<_}
 use native.Mathlib.Nat.{div-add-mod', mod-lt, le-refl, le-trans, lt-of-not-le, pow-suc}
 use native.Mathlib.Numerals.{add-one}
 use native.Mathlib.Omega.{arith}
-use borrow.Author.Tests.{ltb-true, leb-true, ltb-false, eqb-true, not-false}
-use lib.Dec.{ltb, leb}
+use borrow.Author.Tests.{ltb-true, leb-true, leb-false, le-leb, lt-leb, ltb-false, eqb-true, eqb-false, eq-eqb, ne-eqb, not-false}
+use lib.Dec.{eqb, ltb, leb}
 use lib.ListN.{length, getD, drop, drop-of-length-le}
 use lib.Seq.{drop-cons}
 use lib.Pow.{pow-mono}
 use Rattle.magnetar_field.specs.Sizes.{log₂}
 use Rattle.magnetar_field.proofs.Log2.{log₂-pow}
 use Rattle.magnetar_layout.specs.Every.{every}
-use Rattle.magnetar_layout.specs.Tests.{columnTests, layoutTests}
+use Rattle.magnetar_layout.specs.Tests.{isSize, mostColumns, mostWitness, columnTests, layoutTests}
 use Rattle.magnetar_layout.specs.Entries.{layoutRefusal}
 use Rattle.magnetar_layout.proofs.Noted.{noted-clear}
 use Rattle.magnetar_layout.proofs.SizeLaws.{not-bad}
@@ -32,6 +32,40 @@ half-power w l h e = go (log₂ (2 * w)) e
         let p : w ≡ 2 ^ k = omega (arith, pow-suc 2 k) in
         let b : k < 64 = lt-of-not-le (λ b. omega (arith, pow-mono {i = 64} {j = k} b)) in
         p ∙ sym (rw (p, log₂-pow k b))
+
+-- and twice one
+double-power : (w : ℕ) → w ≤ 32768 → w ≡ 2 ^ log₂ w → 2 * w ≡ 2 ^ log₂ (2 * w)
+double-power w h e =
+    let k = log₂ w in
+    let b : suc k < 64 = lt-of-not-le (λ b. omega (arith, pow-mono {i = 63} {j = k} (omega arith))) in
+    let p : 2 * w ≡ 2 ^ suc k = omega (arith, pow-suc 2 k) in
+    p ∙ sym (rw (p, log₂-pow (suc k) b))
+
+same-test : (a b c d : ℕ) → (a ≡ b → c ≡ d) → (c ≡ d → a ≡ b) → eqb a b ≡ eqb c d
+same-test a b c d f g = go (eqb a b) refl
+  where
+    go : (t : Bool) → eqb a b ≡ t → t ≡ eqb c d
+    go true e = sym (eq-eqb c d (f (eqb-true a b e)))
+    go false e = sym (ne-eqb c d (λ h. eqb-false a b e (g h)))
+
+-- w is half of a column count
+pub half-size : (w : ℕ) → isSize 1 mostWitness w ≡ isSize 2 mostColumns (2 * w)
+unfolding isSize
+half-size zero = refl
+half-size (suc n) = go (leb (suc n) 32768) refl
+  where
+    go : (b : Bool) → leb (suc n) 32768 ≡ b → isSize 1 mostWitness (suc n) ≡ isSize 2 mostColumns (2 * suc n)
+    go false e =
+        let h = leb-false (suc n) 32768 e in
+        rw (e, lt-leb (2 * suc n) 65536 (omega arith), le-leb 1 (suc n) (omega arith), le-leb 2 (2 * suc n) (omega arith))
+    go true e =
+        let h = leb-true (suc n) 32768 e in
+        rw (
+          e,
+          le-leb 1 (suc n) (omega arith),
+          le-leb 2 (2 * suc n) (omega arith),
+          le-leb (2 * suc n) 65536 (omega arith),
+        ) (same-test (suc n) (2 ^ log₂ (suc n)) (2 * suc n) (2 ^ log₂ (2 * suc n)) (double-power (suc n) h) (half-power (suc n) (omega arith) h))
 
 -- ---- the next multiple
 module _ (c n : ℕ) (pos : 0 < n) where

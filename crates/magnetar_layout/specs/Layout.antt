@@ -8,6 +8,7 @@ use lib.Dec.{ltb, leb}
 use lib.ListN.{length, getD}
 use Rattle.magnetar_field.specs.Sizes.{log₂, powerOfTwo}
 use Rattle.magnetar_layout.specs.Every.{every}
+use Rattle.magnetar_layout.specs.Limits.{mostWitness}
 
 -- the least multiple of n that is not below c
 unfoldable pub nextMultiple : ℕ → ℕ → ℕ
@@ -37,7 +38,7 @@ isLength w n = ltb 0 n && (leb n w && powerOfTwo n)
 
 -- the lengths of a layout in w columns, as the checks leave them
 pub record LayoutFits (w : ℕ) (ns : List ℕ) : Type 0 where
-  pub small : w ≤ 32768
+  pub small : w ≤ mostWitness
   pub power : w ≡ 2 ^ log₂ w
   pub lengths : every (isLength w) ns ≡ true
   pub ends : layoutEnd ns ≤ w

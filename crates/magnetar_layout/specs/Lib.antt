@@ -1,4 +1,5 @@
 pub mod Every
+pub mod Limits
 pub mod Lent
 pub mod Login
 pub mod Layout

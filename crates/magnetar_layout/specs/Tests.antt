@@ -8,6 +8,7 @@ use lib.Dec.{eqb, ltb, leb}
 use lib.ListN.{length}
 use Rattle.magnetar_field.specs.Sizes.{log₂, powerOfTwo}
 use Rattle.magnetar_layout.specs.Every.{every}
+pub use Rattle.magnetar_layout.specs.Limits.{mostColumns, mostWitness, mostLogins, mostRows, mostBatchRows, mostEntries, mostSegments}
 use Rattle.magnetar_layout.specs.Lent.{Lent}
 use Rattle.magnetar_layout.specs.Layout.{isLength, layoutEnd}
 use Rattle.magnetar_layout.specs.Login.{loginWords}
@@ -38,31 +39,6 @@ pub record Sized (least most n : ℕ) : Type 0 where
 -- each number is below n
 abbrev pub allBelow : ℕ → List ℕ → Bool
 allBelow n s = every (λ x. ltb x n) s
-
--- ---- the limits of document 01
--- the most columns m that z = (w, 1, x) may have
-abbrev pub mostColumns : ℕ
-mostColumns = 65536
-
--- the most logins q of a batch
-abbrev pub mostLogins : ℕ
-mostLogins = 4096
-
--- the most rows of a matrix
-abbrev pub mostRows : ℕ
-mostRows = 65536
-
--- the most rows of all logins of a batch together
-abbrev pub mostBatchRows : ℕ
-mostBatchRows = 1048576
-
--- the most entries of a matrix
-abbrev pub mostEntries : ℕ
-mostEntries = 1048576
-
--- the most segments of a layout
-abbrev pub mostSegments : ℕ
-mostSegments = 64
 
 -- ---- the tests; those whose names end in `Of` take how many words there are, the others the words
 -- 1: the columns m

@@ -43,7 +43,7 @@ fn ends_past(w: usize, lens: &[usize]) -> bool
 pub fn refusal(w: usize, lens: &[usize]) -> u32
     ensures { λ r. ⌜ r ≡ layoutRefusal w (now (lens .entry)) ⌝ }
 {
-    let z = tests::note(0, 1, !tests::is_half(w));
+    let z = tests::note(0, 1, !tests::is_size(1, 32768, w));
     let z = tests::note(z, 8, !tests::all_lengths(w, lens));
     if z != 0 {
         return z;
@@ -167,7 +167,7 @@ pub fn b_i(w: usize, lens: &[usize], i: usize) -> Reading
 pub fn witness_vars(w: usize) -> Reading
     ensures { λ r. ⌜ read r ≡ varsOf w ⌝ }
 {
-    if tests::is_half(w) {
+    if tests::is_size(1, 32768, w) {
         return Reading::Number(sizes::log2(w));
     }
     Reading::Refused(1)

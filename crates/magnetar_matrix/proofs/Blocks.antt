@@ -1,16 +1,22 @@
 -- Vectors one behind the other.
 -- Assumes nothing.
-use mathlib.Core.Path.{_≡_, sym, ap, _∙_}
+use mathlib.Core.Path.{_≡_, sym, ap, ap₂, _∙_}
 use mathlib.Core.List.{List, _++_}
-use Prim.Native.Nat.{ℕ, _+_, _-_, _*_, _≤_, _<_}
+use Prim.Native.Nat.{ℕ, zero, suc, _+_, _-_, _*_, _≤_, _<_}
 use native.Mathlib.Nat.{suc-mul, mul-le-mul-left, mul-le-mul-right, le-trans, zero-mul}
 use native.Mathlib.Numerals.{add-one}
 use native.Mathlib.Omega.{arith}
-use lib.ListN.{length, take, drop, length-drop}
+use lib.ListN.{length, take, drop, length-append, length-drop}
 use lib.Seq.{take-at, take-append-add, take-all, length-take-le}
 use borrow.Rule.Slice.PartMut.{putMid}
 use Rattle.magnetar_matrix.specs.Sum.{blocks}
 use Rattle.magnetar_matrix.proofs.LoginParts.{part-ends}
+
+-- n blocks of k members each
+pub blocks-length : (f : ℕ → List ℕ) (n k : ℕ) → ((u : ℕ) → length (f u) ≡ k) → length (blocks f n) ≡ n * k
+unfolding blocks
+blocks-length f zero k h = sym (zero-mul k)
+blocks-length f (suc n) k h = length-append (blocks f n) (f n) ∙ ap₂ _+_ (blocks-length f n k h) (h n) ∙ omega (arith, suc-mul n k)
 
 -- the front of s, up to the end of block u, is that of the blocks
 pub blocks-start : (f : ℕ → List ℕ) (s : List ℕ) (m : ℕ) → take (0 * m) s ≡ blocks f 0

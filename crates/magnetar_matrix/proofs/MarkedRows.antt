@@ -11,7 +11,7 @@ use Rattle.magnetar_field.specs.Sizes.{log₂, halvings}
 use Rattle.magnetar_matrix.specs.Sum.{sumBelow, blocks}
 use Rattle.magnetar_layout.specs.Every.{every}
 use Rattle.magnetar_matrix.specs.Matrix.{Entry, Matrix, sumOver, rowTotal, share, timesAt, times, transpose, mleTable, bitValued}
-use Rattle.magnetar_matrix.specs.Batch.{assignment, bitOf, foldedAt, folded}
+use Rattle.magnetar_matrix.specs.Batch.{assignment, batchProducts, bitOf, foldedAt, folded}
 use Rattle.magnetar_matrix.specs.Packed.{loginWords, packedBit, loginPart, unpacked, packedTable}
 use Rattle.magnetar_layout.specs.Layout.{nextMultiple, offsetsFrom, endFrom, offsets, layoutEnd, isLength}
 use Rattle.magnetar_layout.specs.Tests.{note, isSize}
@@ -58,5 +58,5 @@ table =
 pub marked : map (λ r. r .case) table ≡ map (λ r. r .result) table
 unfolding matrix table row _⊕_ _⊗_ timesX sumTimes eqTable eqAt eqFactor tabulate log₂ halvings sumBelow blocks sumOver rowTotal share timesAt times
     transpose mleTable every bitValued assignment bitOf foldedAt folded loginWords packedBit loginPart unpacked nextMultiple offsetsFrom endFrom
-    offsets layoutEnd isLength note isSize packedTable layoutRefusal buildRefusal
+    offsets layoutEnd isLength note isSize packedTable batchProducts layoutRefusal buildRefusal
 marked = refl

@@ -10,8 +10,8 @@ use lib.ListN.{getD}
 use Rattle.magnetar_field.specs.Gf128.{_⊗_}
 use Rattle.magnetar_field.specs.Tabulate.{tabulate}
 use Rattle.magnetar_multilinear.specs.EqTable.{eqAt}
-use Rattle.magnetar_matrix.specs.Sum.{sumBelow}
-use Rattle.magnetar_matrix.specs.Matrix.{System, timesAt}
+use Rattle.magnetar_matrix.specs.Sum.{sumBelow, blocks}
+use Rattle.magnetar_matrix.specs.Matrix.{Matrix, System, timesAt, times}
 
 -- the witness bits of each login, 0 or 1
 abbrev pub Batch : Type 0
@@ -40,6 +40,10 @@ publicFolded x p = publicHalf x 0
 -- z = (w, 1, x) of login u, x being the public columns
 unfoldable pub assignment : Batch → List ℕ → ℕ → List ℕ
 assignment b x u = getD b u [] ++ publicHalf x u
+
+-- the products of a matrix with the z of each of q logins, one login behind the other
+unfoldable pub batchProducts : Matrix → Batch → List ℕ → ℕ → List ℕ
+batchProducts m b x q = blocks (λ u. times m (assignment b x u)) q
 
 -- row i of the system holds for z
 unfoldable pub rowHolds : System → List ℕ → ℕ → Bool

@@ -1,5 +1,6 @@
 pub mod Sum
 pub mod Matrix
+pub mod Combined
 pub mod Batch
 pub mod Packed
 pub mod RowCheck

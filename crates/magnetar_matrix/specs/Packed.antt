@@ -6,9 +6,8 @@ use Prim.Native.Nat.{ℕ, _*_, _/_, _%_, _^_}
 use lib.ListN.{getD, take, drop}
 use Rattle.magnetar_field.specs.Tabulate.{tabulate}
 unfoldable pub use Rattle.magnetar_layout.specs.Login.{loginWords}
-use Rattle.magnetar_matrix.specs.Sum.{blocks}
-use Rattle.magnetar_matrix.specs.Matrix.{Matrix, times}
-use Rattle.magnetar_matrix.specs.Batch.{Batch, assignment}
+use Rattle.magnetar_matrix.specs.Matrix.{Matrix}
+use Rattle.magnetar_matrix.specs.Batch.{Batch, batchProducts}
 
 -- the bit at column y of a login's words: bit y mod 64 of word y / 64
 unfoldable pub packedBit : List ℕ → ℕ → ℕ
@@ -26,6 +25,6 @@ zOf w ws x = tabulate (packedBit ws) w ++ (1 ∷ x)
 unfoldable pub unpacked : ℕ → ℕ → List ℕ → Batch
 unpacked q w ws = tabulate (λ u. tabulate (packedBit (loginPart w ws u)) w) q
 
--- the products of a matrix with each login, one behind the other
+-- the products of a matrix with each login that the words hold, one behind the other
 unfoldable pub packedTable : Matrix → List ℕ → List ℕ → ℕ → ℕ → List ℕ
-packedTable m ws x q w = blocks (λ u. times m (assignment (unpacked q w ws) x u)) q
+packedTable m ws x q w = batchProducts m (unpacked q w ws) x q

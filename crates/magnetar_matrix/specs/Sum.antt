@@ -1,13 +1,8 @@
--- Sums in GF(2^128), and vectors that are set one behind the other.
+-- Vectors that are set one behind the other; the sums of `magnetar_field`.
 -- Assumes nothing.
 use mathlib.Core.List.{List, [], _++_}
 use Prim.Native.Nat.{ℕ, zero, suc}
-use Rattle.magnetar_field.specs.Gf128.{_⊕_}
-
--- f 0 + f 1 + .. + f (n - 1)
-unfoldable pub sumBelow : ℕ → (ℕ → ℕ) → ℕ
-sumBelow zero f = 0
-sumBelow (suc n) f = sumBelow n f ⊕ f n
+unfoldable pub use Rattle.magnetar_field.specs.Sum.{sumBelow}
 
 -- the vectors f 0, f 1, .., f (n - 1), one behind the other
 unfoldable pub blocks : (ℕ → List ℕ) → ℕ → List ℕ

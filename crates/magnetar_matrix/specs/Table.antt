@@ -1,5 +1,5 @@
 -- What the walks over a matrix's entries leave in a table. Of these definitions public contracts cite `addedIn` (`add_at`) and `addedAt`
--- (`add_word`, and by `addedTo` of `magnetar_records` its `add_to`); the others are for private ones.
+-- (`add_word`, and by `addedTo` of `magnetar_relation` its `add_to`); the others are for private ones.
 -- Assumes nothing.
 use mathlib.Core.Bool.{cond}
 use mathlib.Core.List.{List, _∷_}

@@ -36,7 +36,7 @@ noPoint p = not (eqb (length p % 2) 0) || ltb 40 (length p)
 abbrev pub tableWords : List ℕ → ℕ
 tableWords p = 2 * 2 ^ (length p / 2)
 
--- ---- `EqBits::build`, `eq_build_fused`: point p, output out
+-- ---- `EqBits::build`, the Rust's `eq_build_fused` too: point p, output out
 -- 11: no point; 15: less room than the table's words
 unfoldable pub eqRefusal : List ℕ → List ℕ → ℕ
 eqRefusal p out = refuse 11 (noPoint p) (refuse 15 (ltb (length out) (tableWords p)) 0)
@@ -65,7 +65,7 @@ mleRefusal t p s =
 abbrev pub mleScratch : List ℕ → List ℕ → List ℕ → List ℕ
 mleScratch t p s = unlessRefused (mleRefusal t p s) (replicate (length t) 0 ++ drop (length t) s) s
 
--- ---- `bind_var`, `fold_pairs`: table t, variable v, element r
+-- ---- `bind_var`, the Rust's `fold_pairs` too: table t, variable v, element r
 -- 11: the words are no table of 2^n elements, or v is none of its n variables
 unfoldable pub bindRefusal : List ℕ → ℕ → ℕ
 bindRefusal t v =

@@ -44,19 +44,12 @@ impl EqBits {
         ensures refusal { λ r. ⌜ r ≡ eqRefusal (now (point .entry)) (now (out .entry)) ⌝ }
         ensures table { λ _. ⌜ now (out .exit) ≡ eqOut (now (point .entry)) (now (out .entry)) ⌝ }
     {
-        eq_build_fused(point, out)
+        eq_build_scaled(point, ONE, out)
     }
 }
 
-// The same: one product and one sum for each entry and level.
-pub fn eq_build_fused(point: &[u64], out: &mut [u64]) -> u32
-    ensures refusal { λ r. ⌜ r ≡ eqRefusal (now (point .entry)) (now (out .entry)) ⌝ }
-    ensures table { λ _. ⌜ now (out .exit) ≡ eqOut (now (point .entry)) (now (out .entry)) ⌝ }
-{
-    eq_build_scaled(point, ONE, out)
-}
-
-// The table with each entry times c, at no more products: the first entry is c in the place of 1.
+// The table with each entry times c, at no more products: the first entry is c in the place of 1. One product and one sum for each entry
+// and level.
 pub fn eq_build_scaled(point: &[u64], c: Gf128, out: &mut [u64]) -> u32
     ensures refusal { λ r. ⌜ r ≡ eqRefusal (now (point .entry)) (now (out .entry)) ⌝ }
     ensures table { λ _. ⌜ now (out .exit) ≡ scaledOut (now (point .entry)) (value c) (now (out .entry)) ⌝ }

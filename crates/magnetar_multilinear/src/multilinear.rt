@@ -34,14 +34,6 @@ pub fn bind_var(table: &mut [u64], var: usize, r: Gf128) -> u32
     0
 }
 
-// The same, under the sum-check's name.
-pub fn fold_pairs(table: &mut [u64], var: usize, r: Gf128) -> u32
-    ensures refusal { λ n. ⌜ n ≡ bindRefusal (now (table .entry)) var ⌝ }
-    ensures bound { λ _. ⌜ now (table .exit) ≡ bindOut (now (table .entry)) var (value r) ⌝ }
-{
-    bind_var(table, var, r)
-}
-
 // The value at the point of the multilinear polynomial with the given table of values.
 // 11: no point of at most 20 elements, or not a value for each entry; 15: too little scratch.
 pub fn eval_mle(values: &[u64], point: &[u64], scratch: &mut [u64]) -> Evaluated

@@ -17,20 +17,14 @@ use Rattle.magnetar_theory.specs.EqTable.{eqTable as eqTableE, dot as dotE}
 use Rattle.magnetar_theory.specs.Segment.{Segment}
 use Rattle.magnetar_theory.specs.Gf128.{Element, element, elementSum, elementProduct, gf128}
 use Rattle.magnetar_theory.proofs.Gf128.{element-⊗}
-use Rattle.magnetar_sumcheck_verifier.specs.Sum.{sumTo}
 use Rattle.magnetar_sumcheck_verifier.proofs.OuterRound.{sumF}
 use Rattle.magnetar_sumcheck_verifier.proofs.OuterRun.{element-eqTable, element-sum}
 use Rattle.magnetar_protocol.specs.Theory.{els, batchE, segmentsE}
 use Rattle.magnetar_protocol.proofs.Elements.{els-at}
 
 -- ---- sums
-below-is : (n : ℕ) (f : ℕ → ℕ) → sumBelow n f ≡ sumTo f n
-unfolding sumBelow sumTo
-below-is zero f = refl
-below-is (suc n) f = ap (λ (v : ℕ). v ⊕ f n) (below-is n f)
-
 pub sumBelow-is : (n : ℕ) (f : ℕ → ℕ) (g : ℕ → Element) → ((i : ℕ) → i < n → element (f i) ≡ g i) → element (sumBelow n f) ≡ sumF gf128 g n
-sumBelow-is n f g h = ap element (below-is n f) ∙ element-sum f g n h
+sumBelow-is n f g h = element-sum f g n h
 
 pub sum-times : (n c : ℕ) (f : ℕ → ℕ) → sumBelow n (λ i. c ⊗ f i) ≡ c ⊗ sumBelow n f
 unfolding sumBelow

@@ -9,6 +9,7 @@ use Rattle.magnetar_multilinear.specs.Multilinear.{dot}
 use Rattle.magnetar_field.proofs.Tabulation.{tabulate-length, tabulate-get}
 use Rattle.magnetar_matrix.specs.Matrix.{Matrix, mleTable}
 use Rattle.magnetar_matrix.specs.Batch.{Relation}
+use Rattle.magnetar_matrix.specs.Combined.{combinedTable}
 use Rattle.magnetar_theory.specs.SumCheck.{addLists}
 use Rattle.magnetar_theory.specs.EqTable.{eqTable as eqTableE, dot as dotE, scale}
 use Rattle.magnetar_theory.specs.Matrix.{fold, columns}
@@ -56,7 +57,7 @@ module _ (r : Relation) (D : Draws) (R : SizedRelation r) where
   at m p y e h = table-at n m p y (e ∙ cols-pow r R) h
 
   pub combined-length : length (combined r D) ≡ n
-  unfolding combined
+  unfolding combined combinedTable
   combined-length = tabulate-length _ (r .m) ∙ cols-pow r R
 
   pub combined-is : els (combined r D) ≡ combo gf128 (relationE r) (els (D .rowBin)) (els (D .rowFld)) (els (D .alphas))
@@ -89,7 +90,7 @@ module _ (r : Relation) (D : Draws) (R : SizedRelation r) where
           ∷ getD (mleTable (r .fld .b) (D .rowFld)) y 0 ∷ getD (mleTable (r .fld .c) (D .rowFld)) y 0 ∷ []
 
       value : (y : ℕ) → y < r .m → getD (combined r D) y 0 ≡ dot (D .alphas) (entries y)
-      value y h = unfold combined in tabulate-get (λ y. dot (D .alphas) (entries y)) (r .m) y 0 h
+      value y h = unfold combined combinedTable in tabulate-get (λ y. dot (D .alphas) (entries y)) (r .m) y 0 h
 
       each : (y : ℕ) → y < length (els (combined r D)) → getD (els (combined r D)) y (element 0)
           ≡ getD (fold gf128 n (els (D .alphas)) tables) y (element 0)

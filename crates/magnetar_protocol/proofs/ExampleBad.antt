@@ -17,7 +17,7 @@ use Rattle.magnetar_field.specs.Tabulate.{tabulate}
 use Rattle.magnetar_field.specs.Polynomial.{eval, keep, rootsBelow, roots}
 use Rattle.magnetar_multilinear.specs.EqTable.{eqFactor, eqAt, eqTable}
 use Rattle.magnetar_multilinear.specs.Multilinear.{dot, mle, line, insertZero, bindVar}
-use Rattle.magnetar_sumcheck_verifier.specs.Sum.{sumTo, total}
+use Rattle.magnetar_sumcheck_verifier.specs.Sum.{total}
 use Rattle.magnetar_sumcheck_verifier.specs.Round.{checkSum, holds, running}
 use Rattle.magnetar_sumcheck_verifier.specs.Order.{eqPoints, nextVar, at₀, at₁, slope}
 use Rattle.magnetar_sumcheck_verifier.specs.Outer.{outerEnd, coefficient₀, coefficient₁, coefficient₂, weighted, timesEq, outerMessage, dropVar}
@@ -26,7 +26,8 @@ use Rattle.magnetar_sumcheck_verifier.specs.Messages.{outerNext, outerFold, out
 use Rattle.magnetar_layout.specs.Layout.{nextMultiple, offsetsFrom, offsets, within, outside}
 use Rattle.magnetar_matrix.specs.Sum.{sumBelow, blocks}
 use Rattle.magnetar_matrix.specs.Matrix.{Matrix, System, sumOver, rowTotal, share, timesAt, times, transpose, mleTable}
-use Rattle.magnetar_matrix.specs.Batch.{Relation, Batch, bitOf, assignment, foldedAt, folded, claimValue, Satisfied, Good}
+use Rattle.magnetar_matrix.specs.Combined.{combinedTable}
+use Rattle.magnetar_matrix.specs.Batch.{Relation, Batch, batchProducts, bitOf, assignment, foldedAt, folded, claimValue, Satisfied, Good}
 use Rattle.magnetar_theory.specs.Lists.{section, listsOf}
 use Rattle.magnetar_theory.specs.Gf128.{number, element, elementSum, elementProduct, same, rootsOf}
 use Rattle.magnetar_theory.proofs.Gf128.{number-of}
@@ -65,13 +66,13 @@ gapDraws = 1 ∷ 2 ∷ 3 ∷ 4 ∷ 5 ∷ 6 ∷ 7 ∷ 8 ∷ 9 ∷ []
 
 -- no row fails, and the honest words are refused with 29 all the same: no segment value tells of this bit
 pub gap-refused : verdict gapped (0 ∷ 0 ∷ 0 ∷ []) (proverWords gapped gapBatch (0 ∷ 0 ∷ 0 ∷ []) gapDraws) gapDraws ≡ 29
-unfolding log₂ halvings _⊕_ _⊗_ sumTimes timesX tabulate eval eqFactor eqAt eqTable dot mle line insertZero bindVar sumTo
+unfolding log₂ halvings _⊕_ _⊗_ sumTimes timesX tabulate eval eqFactor eqAt eqTable dot mle line insertZero bindVar
     total checkSum holds running eqPoints at₀ at₁ slope outerEnd innerEnd innerSums innerMessage nextVar coefficient₀
     coefficient₁ coefficient₂ weighted timesEq outerMessage dropVar outerNext outerFold outerStart outerMessages
     innerMessages sumBelow blocks sumOver rowTotal share timesAt times transpose mleTable bitOf assignment foldedAt folded
     claimValue nextMultiple offsetsFrom offsets binMessages fldMessages terminals innerRounds valueZ segmentValues drawsOf
-    loginPoint lowPoint topElement roundHolds innerClaim combined segmentSum sharedChecks rowChecks terminalChecks
-    innerChecks identityCheck checks firstRefusal verdict trueValue joined inTurn trueValues productTable outerRounds
+    loginPoint lowPoint topElement roundHolds innerClaim combined combinedTable segmentSum sharedChecks rowChecks terminalChecks
+    innerChecks identityCheck checks firstRefusal verdict trueValue joined inTurn trueValues productTable batchProducts outerRounds
     terminalValues foldedZ honestWords proverWords
 gap-refused = refl
 
@@ -106,7 +107,7 @@ pub lie-answers : map (verdict lie [] lieWords) (zeros ∷ others ∷ []) ≡ 0 
 unfolding log₂ halvings _⊕_ _⊗_ sumTimes timesX tabulate eval eqFactor eqAt eqTable dot mle total checkSum holds running
     eqPoints outerEnd innerEnd sumOver rowTotal share timesAt times transpose mleTable nextMultiple offsetsFrom offsets
     binMessages fldMessages terminals innerRounds valueZ segmentValues drawsOf loginPoint lowPoint topElement roundHolds
-    innerClaim combined segmentSum sharedChecks rowChecks terminalChecks innerChecks identityCheck checks firstRefusal
+    innerClaim combined combinedTable segmentSum sharedChecks rowChecks terminalChecks innerChecks identityCheck checks firstRefusal
     verdict
 lie-answers = refl
 

@@ -10,7 +10,7 @@ use Rattle.magnetar_field.specs.Tabulate.{tabulate}
 use Rattle.magnetar_field.specs.Polynomial.{eval}
 use Rattle.magnetar_multilinear.specs.EqTable.{eqFactor, eqAt, eqTable}
 use Rattle.magnetar_multilinear.specs.Multilinear.{dot, mle, line, insertZero, bindVar}
-use Rattle.magnetar_sumcheck_verifier.specs.Sum.{sumTo, total}
+use Rattle.magnetar_sumcheck_verifier.specs.Sum.{total}
 use Rattle.magnetar_sumcheck_verifier.specs.Round.{checkSum, holds, running}
 use Rattle.magnetar_sumcheck_verifier.specs.Order.{eqPoints, nextVar, at₀, at₁, slope}
 use Rattle.magnetar_sumcheck_verifier.specs.Outer.{outerEnd, coefficient₀, coefficient₁, coefficient₂, weighted, timesEq, outerMessage, dropVar}
@@ -18,7 +18,8 @@ use Rattle.magnetar_sumcheck_verifier.specs.Inner.{innerEnd, innerSums, innerMe
 use Rattle.magnetar_sumcheck_verifier.specs.Messages.{outerNext, outerFold, outerStart, outerMessages, innerMessages}
 use Rattle.magnetar_matrix.specs.Sum.{sumBelow, blocks}
 use Rattle.magnetar_matrix.specs.Matrix.{Matrix, System, sumOver, rowTotal, share, timesAt, times, transpose, mleTable}
-use Rattle.magnetar_matrix.specs.Batch.{Relation, bitOf, assignment, foldedAt, folded, claimValue}
+use Rattle.magnetar_matrix.specs.Combined.{combinedTable}
+use Rattle.magnetar_matrix.specs.Batch.{Relation, batchProducts, bitOf, assignment, foldedAt, folded, claimValue}
 use Rattle.magnetar_layout.specs.Layout.{nextMultiple, offsetsFrom, offsets}
 use Rattle.magnetar_protocol.specs.Shape.{proofElements}
 use Rattle.magnetar_protocol.specs.Proof.{binMessages, fldMessages, terminals, innerRounds, valueZ, segmentValues}
@@ -46,11 +47,11 @@ unfolding log₂ halvings
 ten = refl
 
 pub least-words : proverWords least ((0 ∷ []) ∷ []) [] draws ≡ 0 ∷ 0 ∷ 0 ∷ 0 ∷ 0 ∷ 0 ∷ 0 ∷ 0 ∷ 0 ∷ 7 ∷ []
-unfolding log₂ halvings _⊕_ _⊗_ sumTimes timesX tabulate eqFactor eqAt eqTable dot mle line insertZero bindVar sumTo at₀ at₁
+unfolding log₂ halvings _⊕_ _⊗_ sumTimes timesX tabulate eqFactor eqAt eqTable dot mle line insertZero bindVar at₀ at₁
     slope innerSums innerMessage nextVar coefficient₀ coefficient₁ coefficient₂ weighted timesEq outerMessage dropVar
     outerNext outerFold outerStart outerMessages innerMessages sumBelow blocks sumOver rowTotal share timesAt times transpose
     mleTable bitOf assignment foldedAt folded claimValue nextMultiple offsetsFrom offsets drawsOf loginPoint lowPoint
-    topElement combined trueValue joined inTurn trueValues productTable outerRounds terminalValues foldedZ honestWords
+    topElement combined combinedTable trueValue joined inTurn trueValues productTable batchProducts outerRounds terminalValues foldedZ honestWords
     proverWords
 least-words = refl
 
@@ -59,7 +60,7 @@ pub least-accepted : verdict least [] (0 ∷ 0 ∷ 0 ∷ 0 ∷ 0 ∷ 0 ∷ 0 ∷
 unfolding log₂ halvings _⊕_ _⊗_ sumTimes timesX tabulate eval eqFactor eqAt eqTable dot mle total checkSum holds running
     eqPoints outerEnd innerEnd sumOver rowTotal share timesAt times transpose mleTable nextMultiple offsetsFrom offsets
     binMessages fldMessages terminals innerRounds valueZ segmentValues drawsOf loginPoint lowPoint topElement roundHolds
-    innerClaim combined segmentSum sharedChecks rowChecks terminalChecks innerChecks identityCheck checks firstRefusal
+    innerClaim combined combinedTable segmentSum sharedChecks rowChecks terminalChecks innerChecks identityCheck checks firstRefusal
     verdict
 least-accepted = refl
 
@@ -67,7 +68,7 @@ pub least-refused : verdict least [] (0 ∷ 0 ∷ 0 ∷ 0 ∷ 0 ∷ 0 ∷ 0 ∷ 
 unfolding log₂ halvings _⊕_ _⊗_ sumTimes timesX tabulate eval eqFactor eqAt eqTable dot mle total checkSum holds running
     eqPoints outerEnd innerEnd sumOver rowTotal share timesAt times transpose mleTable nextMultiple offsetsFrom offsets
     binMessages fldMessages terminals innerRounds valueZ segmentValues drawsOf loginPoint lowPoint topElement roundHolds
-    innerClaim combined segmentSum sharedChecks rowChecks terminalChecks innerChecks identityCheck checks firstRefusal
+    innerClaim combined combinedTable segmentSum sharedChecks rowChecks terminalChecks innerChecks identityCheck checks firstRefusal
     verdict
 least-refused = refl
 
@@ -102,12 +103,12 @@ answer j = verdict small (5 ∷ []) (flipped j) smallDraws
 -- one element of the honest words changed: each of 21 to 29 is met
 pub changed : map answer (0 ∷ 1 ∷ 4 ∷ 5 ∷ 8 ∷ 9 ∷ 12 ∷ 13 ∷ 18 ∷ 21 ∷ 22 ∷ 23 ∷ 25 ∷ 28 ∷ 29 ∷ [])
     ≡ 23 ∷ 21 ∷ 24 ∷ 22 ∷ 25 ∷ 23 ∷ 26 ∷ 24 ∷ 25 ∷ 26 ∷ 27 ∷ 27 ∷ 28 ∷ 28 ∷ 29 ∷ []
-unfolding log₂ halvings _⊕_ _⊗_ sumTimes timesX tabulate eval eqFactor eqAt eqTable dot mle line insertZero bindVar sumTo
+unfolding log₂ halvings _⊕_ _⊗_ sumTimes timesX tabulate eval eqFactor eqAt eqTable dot mle line insertZero bindVar
     total checkSum holds running eqPoints at₀ at₁ slope outerEnd innerEnd innerSums innerMessage nextVar coefficient₀
     coefficient₁ coefficient₂ weighted timesEq outerMessage dropVar outerNext outerFold outerStart outerMessages
     innerMessages sumBelow blocks sumOver rowTotal share timesAt times transpose mleTable bitOf assignment foldedAt folded
     claimValue nextMultiple offsetsFrom offsets binMessages fldMessages terminals innerRounds valueZ segmentValues drawsOf
-    loginPoint lowPoint topElement roundHolds innerClaim combined segmentSum sharedChecks rowChecks terminalChecks
-    innerChecks identityCheck checks firstRefusal verdict trueValue joined inTurn trueValues productTable outerRounds
+    loginPoint lowPoint topElement roundHolds innerClaim combined combinedTable segmentSum sharedChecks rowChecks terminalChecks
+    innerChecks identityCheck checks firstRefusal verdict trueValue joined inTurn trueValues productTable batchProducts outerRounds
     terminalValues foldedZ honestWords proverWords
 changed = refl

@@ -4,7 +4,7 @@ use mathlib.Core.Path.{_≡_, refl, sym, ap, ap₂, _∙_, subst}
 use mathlib.Core.Bool.{Bool, true, false}
 use mathlib.Core.List.{List, [], _∷_, _++_, map, reverse, append-nil, append-assoc}
 use Prim.Native.Nat.{ℕ, zero, suc, _+_, _-_, _*_, _/_, _^_, _≤_, _<_}
-use native.Mathlib.Nat.{zero-mul, suc-mul, two-pow-succ}
+use native.Mathlib.Nat.{two-pow-succ}
 use native.Mathlib.Omega.{arith}
 use borrow.Author.Tests.{ltb-true, ltb-false}
 use lib.Dec.{ltb}
@@ -12,8 +12,9 @@ use lib.ListN.{length, getD, length-append, length-map, length-reverse, List·ge
 use lib.Seq.{ext-getD, getD-append-add}
 use Rattle.magnetar_field.proofs.Tabulation.{tabulate-length, tabulate-get}
 use Rattle.magnetar_matrix.specs.Sum.{blocks}
+use Rattle.magnetar_matrix.proofs.Blocks.{blocks-length}
 use Rattle.magnetar_matrix.specs.Matrix.{Matrix, times, timesAt}
-use Rattle.magnetar_matrix.specs.Batch.{Relation, Batch, assignment, bitOf, foldedAt, folded}
+use Rattle.magnetar_matrix.specs.Batch.{Relation, Batch, assignment, batchProducts, bitOf, foldedAt, folded}
 use Rattle.magnetar_theory.specs.Field.{Field, Laws}
 use Rattle.magnetar_theory.specs.SumCheck.{total}
 use Rattle.magnetar_theory.specs.EqTable.{eqTable as eqTableE, dot as dotE}
@@ -62,19 +63,14 @@ blocks-are n m (w ∷ b) x e =
     ∙ map-append element (times m (w ++ (1 ∷ x))) (blocks (λ u. times m (getD b u [] ++ (1 ∷ x))) (length b))
     ∙ ap₂ _++_ (times-is n m (w ++ (1 ∷ x)) e ∙ ap (apply gf128 n (entriesE m)) (map-append element w (1 ∷ x))) (blocks-are n m b x e)
 
-blocks-length : (f : ℕ → List ℕ) (n k : ℕ) → ((u : ℕ) → length (f u) ≡ k) → length (blocks f n) ≡ n * k
-unfolding blocks
-blocks-length f zero k h = sym (zero-mul k)
-blocks-length f (suc n) k h = length-append (blocks f n) (f n) ∙ ap₂ _+_ (blocks-length f n k h) (h n) ∙ omega (arith, suc-mul n k)
-
 module _ (r : Relation) (b : Batch) (x : List ℕ) (R : SizedRelation r) (B : SizedBatch r b) where
   pub product-is : (n : ℕ) (m : Matrix) → m .rows ≡ n
       → els (productTable r b x m) ≡ applyAll gf128 n (entriesE m) (vectors gf128 (batchE b) (publicE x))
-  unfolding productTable assignment
+  unfolding productTable batchProducts assignment
   product-is n m e = ap (λ (q : ℕ). els (blocks (λ u. times m (getD b u [] ++ (1 ∷ x))) q)) (sym (B .logins)) ∙ blocks-are n m b x e
 
   pub product-length : (m : Matrix) → length (productTable r b x m) ≡ r .q * m .rows
-  unfolding productTable times
+  unfolding productTable batchProducts times
   product-length m = blocks-length _ (r .q) (m .rows) (λ u. tabulate-length _ (m .rows))
 
 -- ---- the folded z

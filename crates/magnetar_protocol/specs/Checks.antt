@@ -13,7 +13,7 @@ use Rattle.magnetar_sumcheck_verifier.specs.Round.{holds, running}
 use Rattle.magnetar_sumcheck_verifier.specs.Order.{eqPoints}
 use Rattle.magnetar_sumcheck_verifier.specs.Outer.{outerEnd}
 use Rattle.magnetar_sumcheck_verifier.specs.Inner.{innerEnd}
-use Rattle.magnetar_matrix.specs.Matrix.{mleTable}
+use Rattle.magnetar_matrix.specs.Combined.{combinedTable}
 use Rattle.magnetar_matrix.specs.Batch.{Relation, publicFolded}
 use Rattle.magnetar_layout.specs.Layout.{localVars, suffix}
 use Rattle.magnetar_protocol.specs.Shape.{logLogins, logBin, logFld, logCols, afterTaus, afterShared, afterBin, afterOuter, afterAlphas, afterInner}
@@ -36,10 +36,7 @@ innerClaim r w d = dot (d .alphas) (terminals r w)
 
 -- the six matrices at the row points, combined by the alphas: an element for each column (`build_m_combo`)
 unfoldable pub combined : Relation → Draws → List ℕ
-combined r d =
-    tabulate (λ y. dot (d .alphas) (getD (mleTable (r .bin .a) (d .rowBin)) y 0 ∷ getD (mleTable (r .bin .b) (d .rowBin)) y 0
-    ∷ getD (mleTable (r .bin .c) (d .rowBin)) y 0 ∷ getD (mleTable (r .fld .a) (d .rowFld)) y 0
-    ∷ getD (mleTable (r .fld .b) (d .rowFld)) y 0 ∷ getD (mleTable (r .fld .c) (d .rowFld)) y 0 ∷ [])) (r .m)
+combined r d = combinedTable (r .m) (r .bin) (r .fld) (d .alphas) (d .rowBin) (d .rowFld)
 
 -- the values vs of the segments of lengths ns from segment i on, each times eq(high part of the low point, number of the segment's place)
 unfoldable pub segmentSum : (ns low : List ℕ) → ℕ → List ℕ → ℕ

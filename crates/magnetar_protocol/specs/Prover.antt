@@ -8,9 +8,8 @@ use lib.ListN.{length, take, drop}
 use Rattle.magnetar_field.specs.Tabulate.{tabulate}
 use Rattle.magnetar_multilinear.specs.Multilinear.{mle}
 use Rattle.magnetar_sumcheck_verifier.specs.Messages.{outerStart, outerMessages, innerMessages}
-use Rattle.magnetar_matrix.specs.Sum.{blocks}
-use Rattle.magnetar_matrix.specs.Matrix.{Matrix, System, times}
-use Rattle.magnetar_matrix.specs.Batch.{Relation, Batch, assignment, folded, publicFolded}
+use Rattle.magnetar_matrix.specs.Matrix.{Matrix, System}
+use Rattle.magnetar_matrix.specs.Batch.{Relation, Batch, batchProducts, folded, publicFolded}
 use Rattle.magnetar_protocol.specs.Shape.{logLogins}
 use Rattle.magnetar_protocol.specs.Draws.{Draws, drawsOf, loginPoint, lowPoint}
 use Rattle.magnetar_protocol.specs.Checks.{combined}
@@ -34,7 +33,7 @@ trueValues r b d = tabulate (trueValue r b d) (length (r .lengths))
 module _ (r : Relation) (b : Batch) (x : List ℕ) where
   -- the products of a matrix and the z of every login, one login behind the other
   unfoldable pub productTable : Matrix → List ℕ
-  productTable m = blocks (λ u. times m (assignment b x u)) (r .q)
+  productTable m = batchProducts m b x (r .q)
 
   module _ (d : Draws) where
     -- the rounds of the outer sum-check of one system

@@ -41,9 +41,9 @@ pub fn prover_room(m: usize, q: usize, rb: usize, rf: usize) -> usize
 pub fn draw_words(m: usize, q: usize, rb: usize, rf: usize) -> usize
     ensures { λ r. ⌜ r ≡ 2 * drawCount (outline m q rb rf []) ⌝ }
 {
-    let s = sizes::log(q);
-    let b = sizes::log(rb);
-    let f = sizes::log(rf);
-    let n = sizes::log(m);
+    let s = sizes::log2(q);
+    let b = sizes::log2(rb);
+    let f = sizes::log2(rf);
+    let n = sizes::log2(m);
     2 * (s + b + (s + f + (s + (b + (f + (6 + n))))))
 }

@@ -4,12 +4,12 @@ use mathlib.Core.Path.{_≡_, refl, sym, ap, _∙_}
 use mathlib.Core.Bool.{Bool, true, false}
 use mathlib.Core.List.{List, [], _++_}
 use Prim.Native.Nat.{ℕ, zero, suc, _+_, _-_, _*_, _/_, _%_, _^_, _<_}
-use native.Mathlib.Nat.{mod-eq-of-lt, suc-mul}
+use native.Mathlib.Nat.{mod-eq-of-lt}
 use native.Mathlib.Omega.{arith}
 use lib.Dec.{ltb}
 use lib.Pow.{low, high, field, mod-mod-pow}
 use borrow.Author.Tests.{ltb-true, ltb-false}
-use lib.ListN.{length, getD, length-append, List·getD-append}
+use lib.ListN.{length, getD, List·getD-append}
 use lib.Seq.{getD-append-add}
 use Rattle.magnetar_field.specs.Tabulate.{tabulate}
 use Rattle.magnetar_field.proofs.Tabulation.{tabulate-length, tabulate-get}
@@ -20,6 +20,7 @@ use Rattle.magnetar_matrix.specs.Packed.{unpacked}
 use Rattle.magnetar_matrix.specs.Lent.{Lent, matrixOf}
 use Rattle.magnetar_r1cs.specs.Masks.{bitsBelow, maskAt, masks}
 use Rattle.magnetar_matrix.proofs.LoginParts.{part-ends}
+use Rattle.magnetar_matrix.proofs.Blocks.{blocks-length}
 use Rattle.magnetar_r1cs.proofs.Flipped.{bits-lt, output-lt, login-below}
 
 -- ---- a number by its bits
@@ -51,11 +52,6 @@ bit-of f (suc n) t h l =
     bit-step (bitsBelow f n) (f n) n t (bits-lt f n (λ i b. h i (omega arith))) (h n (omega arith)) l (f t) (λ e. ap f (sym e)) (λ b. bit-of f n t (λ i c. h i (omega arith)) b)
 
 -- ---- a member of vectors that are set one behind the other
-blocks-length : (f : ℕ → List ℕ) (m d : ℕ) → ((u : ℕ) → length (f u) ≡ m) → length (blocks f d) ≡ d * m
-unfolding blocks
-blocks-length f m zero h = sym (omega arith)
-blocks-length f m (suc d) h = length-append (blocks f d) (f d) ∙ rw (blocks-length f m d h, h d) (sym (suc-mul d m))
-
 blocks-step : (f : ℕ → List ℕ) (s : List ℕ) (m d u i : ℕ) → length s ≡ d * m → u < suc d → i < m
     → (u < d → getD s (u * m + i) 0 ≡ getD (f u) i 0) → getD (s ++ f d) (u * m + i) 0 ≡ getD (f u) i 0
 blocks-step f s m d u i l hu hi before = go (ltb u d) refl
@@ -71,7 +67,7 @@ blocks-step f s m d u i l hu hi before = go (ltb u d) refl
 blocks-get : (f : ℕ → List ℕ) (m d u i : ℕ) → ((v : ℕ) → length (f v) ≡ m) → u < d → i < m → getD (blocks f d) (u * m + i) 0 ≡ getD (f u) i 0
 unfolding blocks
 blocks-get f m zero u i h hu hi = absurd (omega arith)
-blocks-get f m (suc d) u i h hu hi = blocks-step f (blocks f d) m d u i (blocks-length f m d h) hu hi (λ b. blocks-get f m d u i h b hi)
+blocks-get f m (suc d) u i h hu hi = blocks-step f (blocks f d) m d u i (blocks-length f d m h) hu hi (λ b. blocks-get f m d u i h b hi)
 
 -- ---- the bits of the masks
 pub mask-bit : (a : Lent) (ws : List ℕ) (q w d n : ℕ) → bitValued w (matrixOf a) ≡ true → n * d ≡ q → (low r t : ℕ) → low < d → r < a .rows → t < n

@@ -18,7 +18,7 @@ use Rattle.magnetar_field.proofs.Tabulation.{tabulate-length, tabulate-get, tab
 use Rattle.magnetar_matrix.specs.Sum.{blocks}
 use Rattle.magnetar_layout.specs.Every.{every}
 use Rattle.magnetar_matrix.specs.Matrix.{Entry, Matrix, sumOver, rowTotal, share, timesAt, times, isBit}
-use Rattle.magnetar_matrix.specs.Batch.{assignment}
+use Rattle.magnetar_matrix.specs.Batch.{assignment, batchProducts}
 use Rattle.magnetar_matrix.specs.Packed.{packedBit, loginPart, unpacked, packedTable}
 use Rattle.magnetar_matrix.specs.Lent.{Lent, entriesOf, matrixOf}
 use Rattle.magnetar_matrix.specs.Table.{publicShare, bitShare, loginTotal, loginBlock, Equal}
@@ -91,7 +91,7 @@ unfolding assignment unpacked
 assigned q w ws x u h = rw (tabulate-get (λ v. tabulate (packedBit (loginPart w ws v)) w) q u [] h)
 
 pub table-is : (a : Matrix) (ws x : List ℕ) (q w : ℕ) → blocks (loginBlock w x ws (a .entries) (a .rows)) q ≡ packedTable a ws x q w
-unfolding packedTable loginBlock times timesAt loginTotal
+unfolding packedTable batchProducts loginBlock times timesAt loginTotal
 table-is a ws x q w =
     blocks-ext (loginBlock w x ws (a .entries) (a .rows)) (λ u. times a (assignment (unpacked q w ws) x u)) q
     (λ u h. let ls = loginPart w ws u in

@@ -1,4 +1,5 @@
 // Sparse matrices, lent as four number slices: row, column, low word and high word of each entry.
+use crate::lent;
 use crate::masks;
 use crate::walk;
 use magnetar_field::gf128::Evaluated;
@@ -66,7 +67,7 @@ pub fn apply(
     ensures answer { λ r. ⌜ r ≡ applyRefusal (lent rows cols (now (row .entry)) (now (col .entry)) (now (lo .entry)) (now (hi .entry))) (now (z .entry)) (now (out .entry)) ⌝ }
     ensures product { λ _. ⌜ now (out .exit) ≡ applyOut (lent rows cols (now (row .entry)) (now (col .entry)) (now (lo .entry)) (now (hi .entry))) (now (z .entry)) (now (out .entry)) ⌝ }
 {
-    let n = tests::lone(rows, cols, row, col, lo, hi);
+    let n = lent::lone(rows, cols, row, col, lo, hi);
     if n != 0 {
         return n;
     }
@@ -118,7 +119,7 @@ pub fn eval_mle_table(
     ensures table { λ _. ⌜ now (out .exit) ≡ tableOut (lent rows cols (now (row .entry)) (now (col .entry)) (now (lo .entry)) (now (hi .entry))) (now (point .entry)) (now (out .entry)) (now (scratch .entry)) ⌝ }
     ensures cleared { λ _. ⌜ now (scratch .exit) ≡ tableScratch (lent rows cols (now (row .entry)) (now (col .entry)) (now (lo .entry)) (now (hi .entry))) (now (point .entry)) (now (out .entry)) (now (scratch .entry)) ⌝ }
 {
-    let n = tests::lone(rows, cols, row, col, lo, hi);
+    let n = lent::lone(rows, cols, row, col, lo, hi);
     if n != 0 {
         return n;
     }
@@ -184,7 +185,7 @@ pub fn eval_mle_at(
     ensures value { λ v. ⌜ answer v ≡ atAnswer (lent rows cols (now (row .entry)) (now (col .entry)) (now (lo .entry)) (now (hi .entry))) (now (r .entry)) (now (c .entry)) (now (scratch .entry)) ⌝ }
     ensures cleared { λ _. ⌜ now (scratch .exit) ≡ atScratch (lent rows cols (now (row .entry)) (now (col .entry)) (now (lo .entry)) (now (hi .entry))) (now (r .entry)) (now (c .entry)) (now (scratch .entry)) ⌝ }
 {
-    let n = tests::lone(rows, cols, row, col, lo, hi);
+    let n = lent::lone(rows, cols, row, col, lo, hi);
     if n != 0 {
         return Evaluated::Refused(n);
     }
@@ -209,7 +210,7 @@ pub fn is_binary(
 ) -> Flag
     ensures { λ r. ⌜ flagged r ≡ flaggedOf (binaryRefusal (lent rows cols (now (row .entry)) (now (col .entry)) (now (lo .entry)) (now (hi .entry)))) (binary (matrixOf (lent rows cols (now (row .entry)) (now (col .entry)) (now (lo .entry)) (now (hi .entry))))) ⌝ }
 {
-    let n = tests::lone(rows, cols, row, col, lo, hi);
+    let n = lent::lone(rows, cols, row, col, lo, hi);
     if n != 0 {
         return Flag::Refused(n);
     }
@@ -334,7 +335,7 @@ fn bit_valued(row: &[usize], col: &[usize], lo: &[u64], hi: &[u64], w: usize) ->
     ensures { λ r. ⌜ r ≡ every (λ e. isBit e && leb (e .col) w) (entriesOf (now (row .entry)) (now (col .entry)) (now (lo .entry)) (now (hi .entry))) ⌝ }
 {
     if walk::all_bits(row, col, lo, hi) {
-        return tests::all_below(col, w + 1);
+        return lent::all_below(col, w + 1);
     }
     false
 }
@@ -343,7 +344,7 @@ fn bit_valued(row: &[usize], col: &[usize], lo: &[u64], hi: &[u64], w: usize) ->
 pub fn logins_refusal(packed: usize, x: usize, q: usize, w: usize, n: usize) -> u32
     ensures { λ r. ⌜ r ≡ noted 0 (loginsTests packed x q w n) ⌝ }
 {
-    let z = tests::note(0, 1, !tests::is_half(w));
+    let z = tests::note(0, 1, !tests::is_size(1, 32768, w));
     let z = tests::note(z, 1, !tests::is_size(1, 4096, q));
     if z != 0 {
         return z;
@@ -377,8 +378,8 @@ pub(crate) fn batch_refusal(
         return n;
     }
     let n = tests::note(0, 5, cols != 2 * w);
-    let n = tests::counts(n, row.len(), col.len(), lo.len(), hi.len());
-    tests::places(n, rows, cols, row, col)
+    let n = lent::counts(n, row.len(), col.len(), lo.len(), hi.len());
+    lent::places(n, rows, cols, row, col)
 }
 
 // The products of a batch's logins, one behind the other; yes where all of them are 0 or 1 because every value is and no
@@ -482,7 +483,7 @@ fn matrix_refusal(
 ) -> u32
     ensures { λ r. ⌜ r ≡ noted 0 (matrixTests (lent rows cols (now (row .entry)) (now (col .entry)) (now (lo .entry)) (now (hi .entry))) (now (packed .entry)) q w) ⌝ }
 {
-    let n = tests::note(0, 1, !tests::is_half(w));
+    let n = tests::note(0, 1, !tests::is_size(1, 32768, w));
     let n = tests::note(n, 1, !tests::is_size(1, 4096, q));
     if n != 0 {
         return n;
@@ -494,8 +495,8 @@ fn matrix_refusal(
     }
     let n = tests::note(0, 4, q * rows > 1048576);
     let n = tests::note(n, 5, cols != 2 * w);
-    let n = tests::counts(n, row.len(), col.len(), lo.len(), hi.len());
-    tests::places(n, rows, cols, row, col)
+    let n = lent::counts(n, row.len(), col.len(), lo.len(), hi.len());
+    lent::places(n, rows, cols, row, col)
 }
 
 // The products of a batch's logins where all of them are 0 or 1, as masks: bit t of word low * rows + r is that of login

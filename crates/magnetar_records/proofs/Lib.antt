@@ -13,5 +13,4 @@ pub mod EachNNMGf128
 pub mod EachNbool
 pub mod EachSNNNNM
 pub mod EachVIbool
-pub mod EachNNNNMI
 pub mod EachNNSSNNNMI

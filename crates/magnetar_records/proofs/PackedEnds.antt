@@ -17,6 +17,7 @@ use Rattle.magnetar_layout.proofs.SizeLaws.{not-bad}
 use Rattle.magnetar_matrix.specs.Matrix.{Entry as Cell, Matrix, rowTotal, share, times, timesAt, bitValued, bitUpTo}
 use Rattle.magnetar_matrix.specs.Sum.{blocks}
 use Rattle.magnetar_matrix.specs.Lent.{matrixOf}
+use Rattle.magnetar_matrix.specs.Batch.{batchProducts}
 use Rattle.magnetar_matrix.specs.Packed.{packedTable, zOf}
 use Rattle.magnetar_r1cs.specs.Entries.{Flagged, flaggedOf, packedRefusal, packedOut}
 use Rattle.magnetar_r1cs.proofs.Split.{blocks-ext, assigned}
@@ -37,7 +38,7 @@ flag-is n m w es = rw (matrix-of n m es)
 -- where the sizes fit, the products of a matrix's entries are the words of its table
 module _ (a : Matrix) (ws x : List ℕ) (q w : ℕ) where
   products-are : blocks (λ u. tabulate (rowTotal (share (loginZ w ws x u)) (a .entries)) (a .rows)) q ≡ packedTable a ws x q w
-  unfolding packedTable times timesAt loginZ zOf
+  unfolding packedTable batchProducts times timesAt loginZ zOf
   products-are = blocks-ext _ _ q (λ u h. ap (λ (z : List ℕ). tabulate (rowTotal (share z) (a .entries)) (a .rows)) (sym (assigned q w ws x u h)))
 
   pub products-in : (out : List ℕ) → q ≤ 4096 → w ≤ 32768 → Sized 1 65536 (a .rows) → q * (2 * a .rows) ≤ length out

@@ -5,7 +5,8 @@ use mathlib.Core.Bool.{Bool, true, false, not, _&&_}
 use mathlib.Core.List.{List, [], _∷_, _++_, map}
 use Prim.Native.Nat.{ℕ, zero, suc}
 use native.Mathlib.Omega.{arith}
-use lib.Dec.{ltb}
+use lib.Dec.{eqb, ltb}
+use borrow.Author.Tests.{eq-eqb}
 use lib.ListN.{length}
 use Rattle.magnetar_layout.specs.Every.{every}
 use Rattle.magnetar_layout.specs.Tests.{Tests, note, noted, allBelow, loneTests, batchTests}
@@ -17,6 +18,15 @@ use Rattle.magnetar_records.specs.declared.records.Entry.{Entry}
 use Rattle.magnetar_records.specs.Records.{entryOf, entriesOfRecords, lentOf}
 use Rattle.magnetar_records.specs.LoginSteps.{packedBatchTests}
 use Rattle.magnetar_records.specs.Steps.{loneOf}
+
+-- ---- 6: four slices of records are equally long
+note-good : (n a : ℕ) → note n false a ≡ a
+unfolding note
+note-good n zero = refl
+note-good n (suc a) = note-kept n false (suc a) (λ h. omega arith)
+
+pub note-same : (k n a : ℕ) → note n (not (eqb k k)) a ≡ a
+note-same k n a = rw (eq-eqb k k refl) (note-good n a)
 
 -- ---- a flag that is carried round
 and-assoc : (a b c : Bool) → ((a && b) && c) ≡ (a && (b && c))

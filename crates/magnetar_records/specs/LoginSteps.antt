@@ -5,14 +5,14 @@ use mathlib.Core.Bool.{Bool, not, cond, _&&_}
 use mathlib.Core.List.{List, [], _∷_, _++_}
 use Prim.Native.Nat.{ℕ, zero, suc, _+_, _*_}
 use lib.Dec.{ltb, leb}
-use Rattle.magnetar_layout.specs.Tests.{Tests, mostLogins, mostRows, sizeTests, packedTestsOf, publicTestsOf, rowsTests, matrixColumnTests, countTests, roomTestOf}
+use Rattle.magnetar_layout.specs.Tests.{Tests, mostWitness, mostLogins, mostRows, sizeTests, packedTestsOf, publicTestsOf, rowsTests, matrixColumnTests, countTests, roomTestOf}
 use Rattle.magnetar_matrix.specs.Matrix.{Entry, share}
 use Rattle.magnetar_relation.specs.Steps.{loginZ, clearedTo, addedTo}
 use Rattle.magnetar_relation.specs.Told.{walked}
 
 -- q logins of w columns and n rows, and row r, are within the limits
 abbrev pub inReach : ℕ → ℕ → ℕ → ℕ → Bool
-inReach q w n r = leb q mostLogins && (leb w 32768 && (leb n mostRows && ltb r n))
+inReach q w n r = leb q mostLogins && (leb w mostWitness && (leb n mostRows && ltb r n))
 
 -- the refusals of n rows and m columns with k records for q logins of w columns, with p packed and x public words
 abbrev pub packedBatchTests : ℕ → ℕ → ℕ → Bool → ℕ → ℕ → ℕ → ℕ → Tests

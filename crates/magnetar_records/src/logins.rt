@@ -63,7 +63,7 @@ pub(crate) fn add_login(
     ensures { λ _. ⌜ now (out .exit) ≡ addedTo k (u * n + e .row) (share (loginZ w (now (packed .entry)) (elements (now (x .entry))) u) (entryOf e)) (now (out .entry)) ⌝ }
 {
     let v = Gf128 { lo: e.lo, hi: e.hi };
-    let f = login::z_at(packed, x, w, u, e.col);
+    let f = login::z_of(login::part(packed, w, u), x, w, e.col);
     let at = u * n + e.row;
     table::add_to(k, at, step::scale(f, v), out);
 }
@@ -140,7 +140,7 @@ pub(crate) fn packed_refusal(
         return z;
     }
     let z = tests::note(0, 5, cols != 2 * w);
-    let z = tests::counts(z, n, n, n, n);
+    let z = tests::note(z, 6, n > 1048576);
     let z = tests::note(z, 7, !inside);
     tests::note(z, 15, out < q * (2 * rows))
 }

@@ -48,7 +48,7 @@ fn flip_of(packed: &[u64], w: usize, u: usize, t: usize, e: Entry) -> u64
         return 0;
     }
     if e.col < w {
-        return step::shifted(login::login_bit(packed, w, u, e.col), t);
+        return step::shifted(step::bit_at(login::part(packed, w, u), e.col), t);
     }
     step::shifted(1, t)
 }
@@ -144,7 +144,7 @@ pub(crate) fn masks_refusal(
 ) -> u32
     ensures { λ r. ⌜ r ≡ noted 0 (maskOf rows cols n inside bits p q w v out) ⌝ }
 {
-    let z = tests::note(0, 1, !tests::is_half(w));
+    let z = tests::note(0, 1, !tests::is_size(1, 32768, w));
     let z = tests::note(z, 1, !tests::is_size(1, 4096, q));
     if z != 0 {
         return z;
@@ -156,7 +156,7 @@ pub(crate) fn masks_refusal(
     }
     let z = tests::note(0, 4, q * rows > 1048576);
     let z = tests::note(z, 5, cols != 2 * w);
-    let z = tests::counts(z, n, n, n, n);
+    let z = tests::note(z, 6, n > 1048576);
     last_tests(z, inside, bits, rows, q, v, out)
 }
 

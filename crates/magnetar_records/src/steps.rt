@@ -1,10 +1,10 @@
 // What the functions over entry records do with one record, and the rest of their work on numbers and words.
 ghost use mathlib.Core.Path.{_≡_};
-ghost use mathlib.Core.Bool.{cond, _&&_};
+ghost use mathlib.Core.Bool.{_&&_};
 ghost use mathlib.Core.List.{_++_};
-ghost use lib.Dec.{eqb, leb, ltb};
+ghost use lib.Dec.{eqb};
 ghost use lib.ListN.{take};
-ghost use Prim.Native.Nat.{_+_, _*_, max};
+ghost use Prim.Native.Nat.{_+_, _*_};
 ghost use Rattle.magnetar_field.specs.Gf128.{value, _⊕_};
 ghost use Rattle.magnetar_field.specs.Words.{elements};
 ghost use Rattle.magnetar_multilinear.specs.Entries.{eqOut, answer, answered};
@@ -13,7 +13,7 @@ ghost use Rattle.magnetar_matrix.specs.Matrix.{share, isBit, swapped};
 ghost use Rattle.magnetar_r1cs.specs.Entries.{flaggedOf, flagged};
 ghost use Rattle.magnetar_records.specs.Records.{entryOf};
 ghost use Rattle.magnetar_relation.specs.Rules.{liesIn};
-ghost use Rattle.magnetar_relation.specs.Steps.{clearedTo, addedTo, behind, columnAdded};
+ghost use Rattle.magnetar_relation.specs.Steps.{clearedTo, addedTo, behind};
 ghost use Rattle.magnetar_relation.specs.Told.{liesAt};
 ghost use Rattle.magnetar_records.specs.Steps.{loneOf, applyTests, tableTests, atTests, pairShare};
 use crate::records::Entry;
@@ -66,7 +66,7 @@ pub(crate) fn lone(rows: usize, cols: usize, n: usize, inside: bool) -> u32
 {
     let z = tests::note(0, 1, !tests::is_size(2, 65536, cols));
     let z = tests::note(z, 4, !tests::is_size(1, 65536, rows));
-    let z = tests::counts(z, n, n, n, n);
+    let z = tests::note(z, 6, n > 1048576);
     tests::note(z, 7, !inside)
 }
 
@@ -200,17 +200,6 @@ pub(crate) fn add_column(m: usize, n: usize, s: &mut [u64], out: &mut [u64], e: 
         step::scale(v, table::get_between(0, n, s, e.row)),
         out,
     );
-}
-
-// Adds a record's value times the element at its row, of the n behind the first m, at its column, where its index i is from a to b.
-pub(crate) fn add_within(m: usize, n: usize, a: usize, b: usize, t: &mut [u64], i: usize, e: Entry)
-    ensures { λ _. ⌜ now (t .exit) ≡ cond (leb a i && ltb i b) (columnAdded m n (entryOf e) (now (t .entry))) (now (t .entry)) ⌝ }
-{
-    if a <= i {
-        if i < b {
-            table::add_column(m, n, t, e.row, e.col, e.lo, e.hi);
-        }
-    }
 }
 
 // Adds a record's value times the factors at its row, of the first n elements, and at its column, of the m behind them.

@@ -9,7 +9,7 @@ ghost use Rattle.magnetar_layout.specs.Tests.{noted};
 ghost use Rattle.magnetar_matrix.specs.Matrix.{share};
 ghost use Rattle.magnetar_relation.specs.Rules.{rulesOver};
 ghost use Rattle.magnetar_relation.specs.RuleTests.{ruleTests};
-ghost use Rattle.magnetar_relation.specs.Steps.{columnAdded, loginZ};
+ghost use Rattle.magnetar_relation.specs.Steps.{loginZ};
 ghost use Rattle.magnetar_relation.specs.Told.{liesAt, everyFrom, walkedWithin};
 ghost use Rattle.magnetar_records.specs.Records.{entriesOfRecords};
 ghost use Rattle.magnetar_records.specs.LoginSteps.{addedLogins, productsIn};
@@ -39,17 +39,6 @@ pub fn rules_refusal(m: usize, q: usize, s: Shapes, es: &[Entry]) -> u32
     let inside = all_inside(es, s);
     let n = es.len();
     rules::refusal(m, q, s, n, n, n, n, inside)
-}
-
-// Adds, for each record from a to b, its value times the element at its row, of the n behind the first m, at its column.
-pub fn add_columns(es: &[Entry], m: usize, n: usize, a: usize, b: usize, t: &mut [u64])
-    ensures { λ _. ⌜ now (t .exit) ≡ walkedWithin (columnAdded m n) a b 0 (entriesOfRecords (now (es .entry))) (now (t .entry)) ⌝ }
-{
-    let mut i = 0;
-    while i < es.len() {
-        steps::add_within(m, n, a, b, t, i, es[i]);
-        i += 1;
-    }
 }
 
 // Adds the products of the records from a to b with q logins of w columns, n rows each, to the blocks of out.

@@ -11,7 +11,6 @@ use lib.ListN.{length, getD, take, drop, length-drop}
 use borrow.Author.Tests.{ltb-true, ltb-false}
 use Rattle.magnetar_matrix.specs.Packed.{packedBit, loginPart, loginWords, zOf}
 use Rattle.magnetar_r1cs.proofs.Split.{z-bit, z-public}
-use Rattle.magnetar_relation.specs.Steps.{loginZ}
 use Rattle.magnetar_relation.proofs.RangeLaws.{take-cut, drop-cut}
 
 -- ---- where a login's words start
@@ -73,12 +72,3 @@ module _ (w : ℕ) (ws x : List ℕ) (c : ℕ) where
   pub z-is-public : w < c → getD x (c - w - 1) 0 ≡ getD (zOf w ws x) c 0
   unfolding zOf
   z-is-public h = sym (z-public w x ws c (omega arith) ∙ behind-one x (c - w) (omega arith))
-
--- login u's z at a column of its bits, and at another, where every login has the same
-pub login-bit-is : (w : ℕ) (ws x : List ℕ) (u c : ℕ) → c < w → packedBit (loginPart w ws u) c ≡ getD (loginZ w ws x u) c 0
-unfolding loginZ
-login-bit-is w ws x u c h = z-is-bit w (loginPart w ws u) x c h
-
-pub login-public : (w : ℕ) (ws x : List ℕ) (u c : ℕ) → w ≤ c → getD (zOf w ws x) c 0 ≡ getD (loginZ w ws x u) c 0
-unfolding loginZ zOf
-login-public w ws x u c h = z-public w x ws c h ∙ sym (z-public w x (loginPart w ws u) c h)

@@ -5,8 +5,7 @@ use magnetar_field::words;
 use magnetar_matrix::step;
 ghost use mathlib.Core.Path.{_≡_};
 ghost use Rattle.magnetar_field.specs.Gf128.{value};
-ghost use Rattle.magnetar_matrix.specs.Lent.{entry};
-ghost use Rattle.magnetar_relation.specs.Steps.{clearedTo, addedTo, front, between, columnAdded};
+ghost use Rattle.magnetar_relation.specs.Steps.{clearedTo, addedTo, front, between};
 
 // Clears the first n elements.
 pub fn clear_front(n: usize, out: &mut [u64])
@@ -49,13 +48,4 @@ pub fn get_between(n: usize, m: usize, s: &[u64], k: usize) -> Gf128
         return get_front(m, &s[a..end], k);
     }
     Gf128 { lo: 0, hi: 0 }
-}
-
-// Adds an entry's value times the element at its row, of the n behind the first m, to the element at its column.
-pub fn add_column(m: usize, n: usize, s: &mut [u64], row: usize, col: usize, lo: u64, hi: u64)
-    ensures { λ _. ⌜ now (s .exit) ≡ columnAdded m n (entry row col lo hi) (now (s .entry)) ⌝ }
-{
-    let v = Gf128 { lo: lo, hi: hi };
-    let f = get_between(m, n, s, row);
-    add_to(m, col, step::scale(v, f), s);
 }

@@ -21,7 +21,7 @@ use Rattle.magnetar_hash.specs.declared.transcript.Transcript.{Transcript}
 use Rattle.magnetar_sumcheck_verifier.specs.Messages.{Outer, outerStart, outerMessages, innerMessages}
 use Rattle.magnetar_matrix.specs.Sum.{blocks}
 use Rattle.magnetar_matrix.specs.Matrix.{Entry, Matrix, System, sumOver, rowTotal, share, timesAt, times}
-use Rattle.magnetar_matrix.specs.Batch.{Relation, Batch, folded, publicFolded}
+use Rattle.magnetar_matrix.specs.Batch.{Relation, Batch, batchProducts, folded, publicFolded}
 use Rattle.magnetar_layout.specs.Layout.{offset}
 use Rattle.magnetar_protocol.specs.Shape.{logLogins, logCols}
 use Rattle.magnetar_protocol.specs.Draws.{Draws, loginPoint, lowPoint}
@@ -66,7 +66,7 @@ blocks-below f zero h = tt
 blocks-below f (suc n) h = both (blocks f n) (f n) (blocks-below f n h) (h n)
 
 product-elements : (r : Relation) (b : Batch) (x : List ℕ) (m : Matrix) → Elements (productTable r b x m)
-unfolding productTable times
+unfolding productTable batchProducts times
 product-elements r b x m =
     elements-of (productTable r b x m) (blocks-below _ (r .q) (λ u. tabulate-below _ (m .rows) (times-lt m _)))
 

@@ -15,7 +15,7 @@ use Rattle.magnetar_matrix.specs.Matrix.{System}
 use Rattle.magnetar_matrix.specs.Batch.{Relation}
 use Rattle.magnetar_matrix.proofs.TableLaws.{elements-words}
 use Rattle.magnetar_verifier.proofs.Pieces.{elements-take}
-use Rattle.magnetar_batch.specs.Systems.{combinedTable}
+use Rattle.magnetar_matrix.specs.Combined.{combinedTable}
 use Rattle.magnetar_batch.specs.TableSteps.{pointIn}
 use Rattle.magnetar_batch.proofs.ColumnLaws.{Wide}
 use Rattle.magnetar_batch.proofs.ComboEnds.{table-is}
@@ -62,7 +62,7 @@ part-elements : (k n a m : ℕ) (s : List ℕ) → a ≡ 2 * k → m ≡ 2 * n �
 part-elements k n a m s ea em = rw (ea, em) (elements-take n (drop (2 * k) s) ∙ ap (take n) (sym (elements-drop k s)))
 
 combined-open : (r : Relation) (D : Draws) → combinedTable (r .m) (r .bin) (r .fld) (D .alphas) (D .rowBin) (D .rowFld) ≡ combined r D
-unfolding combinedTable combined
+unfolding combined
 combined-open r D = refl
 
 wide : (m q : ℕ) (t : System) → SizedSystem m q t → Wide m t

@@ -16,8 +16,9 @@ use Rattle.magnetar_field.proofs.Elements.{words-length, copy-more}
 use Rattle.magnetar_field.proofs.Tabulation.{tabulate-length}
 use Rattle.magnetar_layout.specs.Tests.{Sized}
 use Rattle.magnetar_matrix.specs.Matrix.{Entry, Matrix, System, times, timesAt}
-use Rattle.magnetar_matrix.specs.Sum.{blocks}
+use Rattle.magnetar_matrix.specs.Batch.{batchProducts}
 use Rattle.magnetar_matrix.specs.Packed.{packedTable}
+use Rattle.magnetar_matrix.proofs.Blocks.{blocks-length}
 use Rattle.magnetar_matrix.proofs.TableLaws.{elements-words}
 use Rattle.magnetar_r1cs.specs.Entries.{rangeOut}
 use Rattle.magnetar_r1cs.proofs.Ranges.{range-left}
@@ -191,20 +192,15 @@ part-in k q t p i i′ es e = go (ltb k 2) (ltb k 3)
     }
 
 -- ---- a table's words
-blocks-length : (f : ℕ → List ℕ) (n k : ℕ) → ((u : ℕ) → length (f u) ≡ k) → length (blocks f n) ≡ n * k
-unfolding blocks
-blocks-length f zero k h = sym (zero-mul k)
-blocks-length f (suc n) k h = length-append (blocks f n) (f n) ∙ ap₂ _+_ (blocks-length f n k h) (h n) ∙ omega (arith, suc-mul n k)
-
 table-words : (a : Matrix) (ws x : List ℕ) (q w n : ℕ) → a .rows ≡ n → length (words (packedTable a ws x q w)) ≡ 2 * (q * n)
-unfolding packedTable times
+unfolding packedTable batchProducts times
 table-words a ws x q w n e =
     words-length (packedTable a ws x q w) ∙ ap (λ (i : ℕ). 2 * i) (blocks-length _ q n (λ u. tabulate-length _ (a .rows) ∙ e))
 
 -- it sees the rows and the entries alone
 table-same : (a : Matrix) (n m : ℕ) (es : List Entry) (ws x : List ℕ) (q w : ℕ) → n ≡ a .rows → es ≡ a .entries
     → packedTable (record { rows = n; cols = m; entries = es }) ws x q w ≡ packedTable a ws x q w
-unfolding packedTable times timesAt
+unfolding packedTable batchProducts times timesAt
 table-same a n m es ws x q w e f = rw (e, f)
 
 -- ---- table k of the rules

@@ -15,9 +15,9 @@ ghost use Rattle.magnetar_spartan.specs.Table.{binAt, fldAt, alphasAt, w
 fn bin_at(q: usize, sh: Shapes) -> usize
     ensures { λ r. ⌜ (r ≡ binAt q (sh .bin .a .rows) (sh .fld .a .rows)) × (r ≤ 1000) ⌝ }
 {
-    let l = sizes::log(q);
-    let b = sizes::log(sh.bin.a.rows);
-    let f = sizes::log(sh.fld.a.rows);
+    let l = sizes::log2(q);
+    let b = sizes::log2(sh.bin.a.rows);
+    let f = sizes::log2(sh.fld.a.rows);
     2 * (l + b + (l + f) + l)
 }
 
@@ -25,7 +25,7 @@ fn bin_at(q: usize, sh: Shapes) -> usize
 fn fld_at(q: usize, sh: Shapes) -> usize
     ensures { λ r. ⌜ (r ≡ fldAt q (sh .bin .a .rows) (sh .fld .a .rows)) × (r ≤ 1200) ⌝ }
 {
-    bin_at(q, sh) + 2 * sizes::log(sh.bin.a.rows)
+    bin_at(q, sh) + 2 * sizes::log2(sh.bin.a.rows)
 }
 
 // 32 words from word k on.
@@ -57,7 +57,7 @@ pub(crate) fn fld_point(q: usize, sh: Shapes, d: [u64; 256]) -> [u64; 32]
 pub(crate) fn run_alphas(q: usize, sh: Shapes, d: [u64; 256]) -> [u64; 12]
     ensures { λ r. ⌜ r ≡ window 12 (alphasAt q (sh .bin .a .rows) (sh .fld .a .rows)) d ⌝ }
 {
-    let k = fld_at(q, sh) + 2 * sizes::log(sh.fld.a.rows);
+    let k = fld_at(q, sh) + 2 * sizes::log2(sh.fld.a.rows);
     let a = sizes::least(k, 244);
     let e = a + 12;
     table::alphas12(&d[a..e])

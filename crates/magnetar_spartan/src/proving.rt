@@ -124,9 +124,9 @@ fn fold_behind(
 )
     ensures { λ _. ⌜ (FoldReady q (m / 2) (log₂ q) (loginAt q rb rf) (length (now (packed .entry))) (length (now (x .entry))) (length d) (length (now (s .entry))) → FoldLeft q (m / 2) (log₂ q) (loginAt q rb rf) (now (packed .entry)) (now (x .entry)) d (now (s .entry)) (now (s .exit))) ⌝ }
 {
-    let l = sizes::log(q);
-    let b = sizes::log(rb);
-    let f = sizes::log(rf);
+    let l = sizes::log2(q);
+    let b = sizes::log2(rb);
+    let f = sizes::log2(rf);
     let k = l + b + (l + f);
     let n = sizes::least(l, 16);
     let e = 2 * n;
@@ -139,9 +139,9 @@ fn fold_behind(
 fn said_before(q: usize, rb: usize, rf: usize) -> usize
     ensures { λ r. ⌜ r ≡ 2 * (8 * log₂ q + 4 * log₂ rb + 4 * log₂ rf + 6) ⌝ }
 {
-    let l = sizes::log(q);
-    let b = sizes::log(rb);
-    let f = sizes::log(rf);
+    let l = sizes::log2(q);
+    let b = sizes::log2(rb);
+    let f = sizes::log2(rf);
     2 * (8 * l + 4 * b + 4 * f + 6)
 }
 
@@ -149,9 +149,9 @@ fn said_before(q: usize, rb: usize, rf: usize) -> usize
 fn drawn_before(q: usize, rb: usize, rf: usize) -> usize
     ensures { λ r. ⌜ r ≡ 2 * (log₂ q + log₂ rb + (log₂ q + log₂ rf) + log₂ q + log₂ rb + log₂ rf + 6) ⌝ }
 {
-    let l = sizes::log(q);
-    let b = sizes::log(rb);
-    let f = sizes::log(rf);
+    let l = sizes::log2(q);
+    let b = sizes::log2(rb);
+    let f = sizes::log2(rf);
     2 * (l + b + (l + f) + l + b + f + 6)
 }
 

@@ -38,10 +38,10 @@ pub(crate) fn proof_words(m: usize, q: usize, rb: usize, rf: usize, l: usize) ->
     requires { ⌜ l ≤ 64 ⌝ }
     ensures { λ r. ⌜ r ≡ 2 * (8 * log₂ q + 4 * log₂ rb + 4 * log₂ rf + 6 + 3 * log₂ m + 1 + l) ⌝ }
 {
-    let s = sizes::log(q);
-    let b = sizes::log(rb);
-    let f = sizes::log(rf);
-    let n = sizes::log(m);
+    let s = sizes::log2(q);
+    let b = sizes::log2(rb);
+    let f = sizes::log2(rf);
+    let n = sizes::log2(m);
     2 * (8 * s + 4 * b + 4 * f + 6 + 3 * n + 1 + l)
 }
 
@@ -50,8 +50,8 @@ fn claim_words(m: usize, q: usize, l: usize) -> usize
     requires { ⌜ (1 ≤ log₂ m) × (l ≤ 64) ⌝ }
     ensures { λ r. ⌜ r ≡ 2 * (log₂ q + (log₂ m - 1) + l) ⌝ }
 {
-    let s = sizes::log(q);
-    let n = sizes::log(m);
+    let s = sizes::log2(q);
+    let n = sizes::log2(m);
     2 * (s + (n - 1) + l)
 }
 

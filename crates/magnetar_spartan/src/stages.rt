@@ -118,9 +118,9 @@ fn lay_at(
 fn lay_public(s: &mut [u64], m: usize, q: usize, rb: usize, rf: usize, x: &[u64], d: [u64; 256])
     ensures { λ _. ⌜ now (s .exit) ≡ laidAt (outline m q rb rf []) (now (x .entry)) d (now (s .entry)) ⌝ }
 {
-    let l = sizes::log(q);
-    let b = sizes::log(rb);
-    let f = sizes::log(rf);
+    let l = sizes::log2(q);
+    let b = sizes::log2(rb);
+    let f = sizes::log2(rf);
     let k = l + b + (l + f);
     let n = sizes::least(l, 16);
     let e = 2 * n;

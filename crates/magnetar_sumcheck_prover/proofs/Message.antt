@@ -14,7 +14,7 @@ use Rattle.magnetar_field.proofs.Elements.{elements-length, words-length}
 use Rattle.magnetar_field.proofs.Xor.{xor}
 use Rattle.magnetar_field.proofs.Product.{⊗-⊕, ⊕-⊗, ⊗-assoc}
 use Rattle.magnetar_sumcheck_prover.specs.declared.engine.Sums.{Sums}
-use Rattle.magnetar_sumcheck_verifier.specs.Sum.{sumTo}
+use Rattle.magnetar_sumcheck_verifier.specs.Sum.{sumBelow}
 use Rattle.magnetar_sumcheck_verifier.specs.Order.{at₀, at₁, slope}
 use Rattle.magnetar_sumcheck_verifier.specs.Outer.{coefficient₀, coefficient₁, coefficient₂, atOne, weighted, timesEq, outerMessage}
 use Rattle.magnetar_sumcheck_verifier.specs.Inner.{innerSums, innerMessage}
@@ -26,9 +26,9 @@ use Rattle.magnetar_sumcheck_prover.proofs.Steps.{sum-add, sum-same}
 karatsuba : (a₀ a₁ b₀ b₁ c₀ c₁ : ℕ) → a₀ ⊗ (b₀ ⊕ b₁) ⊕ (a₀ ⊕ a₁) ⊗ b₀ ⊕ (c₀ ⊕ c₁) ≡ (a₀ ⊗ b₀ ⊕ c₀) ⊕ (a₁ ⊗ b₁ ⊕ c₁) ⊕ (a₀ ⊕ a₁) ⊗ (b₀ ⊕ b₁)
 karatsuba a₀ a₁ b₀ b₁ c₀ c₁ = simp (xor, ⊗-⊕, ⊕-⊗)
 
-sum-three : (f g h m : ℕ → ℕ) (n : ℕ) → ((i : ℕ) → m i ≡ f i ⊕ g i ⊕ h i) → sumTo m n ≡ sumTo f n ⊕ sumTo g n ⊕ sumTo h n
+sum-three : (f g h m : ℕ → ℕ) (n : ℕ) → ((i : ℕ) → m i ≡ f i ⊕ g i ⊕ h i) → sumBelow n m ≡ sumBelow n f ⊕ sumBelow n g ⊕ sumBelow n h
 sum-three f g h m n e =
-    sum-same m (λ i. f i ⊕ g i ⊕ h i) n e ∙ sum-add (λ i. f i ⊕ g i) h n ∙ ap (λ (x : ℕ). x ⊕ sumTo h n) (sum-add f g n)
+    sum-same m (λ i. f i ⊕ g i ⊕ h i) n e ∙ sum-add (λ i. f i ⊕ g i) h n ∙ ap (λ (x : ℕ). x ⊕ sumBelow n h) (sum-add f g n)
 
 outer-middle : (v n : ℕ) (e a b c : List ℕ) → weighted e (coefficient₁ v a b c) n
     ≡ weighted e (coefficient₀ v a b c) n ⊕ weighted e (atOne v a b c) n ⊕ weighted e (coefficient₂ v a b) n
@@ -77,20 +77,20 @@ pub inner-message-is : (v n : ℕ) (t z : List ℕ) (s : Sums) → n ≡ length 
 unfolding sums innerSumsAt innerMessage innerSums
 inner-message-is v n t z s l h = go (length t / 2) l
   where
-    q₀ : value (s .zero) ≡ sumTo (λ i. at₀ v t i ⊗ at₀ v z i) n
+    q₀ : value (s .zero) ≡ sumBelow n (λ i. at₀ v t i ⊗ at₀ v z i)
     q₀ = ap (λ (m : List ℕ). getD m 0 0) h
 
-    at-one : value (s .one) ≡ sumTo (λ i. at₁ v t i ⊗ at₁ v z i) n
+    at-one : value (s .one) ≡ sumBelow n (λ i. at₁ v t i ⊗ at₁ v z i)
     at-one = ap (λ (m : List ℕ). getD m 1 0) h
 
-    q₂ : value (s .top) ≡ sumTo (λ i. slope v t i ⊗ slope v z i) n
+    q₂ : value (s .top) ≡ sumBelow n (λ i. slope v t i ⊗ slope v z i)
     q₂ = ap (λ (m : List ℕ). getD m 2 0) h
 
     middle : (i : ℕ) → at₀ v t i ⊗ slope v z i ⊕ slope v t i ⊗ at₀ v z i
         ≡ at₀ v t i ⊗ at₀ v z i ⊕ at₁ v t i ⊗ at₁ v z i ⊕ slope v t i ⊗ slope v z i
     middle i = unfold slope in inner-middle (at₀ v t i) (at₁ v t i) (at₀ v z i) (at₁ v z i)
 
-    q₁ : value (s .zero) ⊕ value (s .one) ⊕ value (s .top) ≡ sumTo (λ i. at₀ v t i ⊗ slope v z i ⊕ slope v t i ⊗ at₀ v z i) n
+    q₁ : value (s .zero) ⊕ value (s .one) ⊕ value (s .top) ≡ sumBelow n (λ i. at₀ v t i ⊗ slope v z i ⊕ slope v t i ⊗ at₀ v z i)
     q₁ = (λ i. q₀ i ⊕ at-one i ⊕ q₂ i) ∙ sym (sum-three _ _ _ _ n middle)
 
     go : (m : ℕ) → n ≡ m → _≡_ {A = List ℕ} (value (s .zero) ∷ (value (s .zero) ⊕ value (s .one) ⊕ value (s .top)) ∷ value

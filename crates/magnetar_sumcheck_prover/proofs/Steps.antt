@@ -11,7 +11,7 @@ use Rattle.magnetar_field.specs.Gf128.{value, _⊕_, _⊗_}
 use Rattle.magnetar_multilinear.specs.Multilinear.{insertZero}
 use Rattle.magnetar_field.proofs.Xor.{xor}
 use Rattle.magnetar_sumcheck_prover.specs.declared.engine.Sums.{Sums}
-use Rattle.magnetar_sumcheck_verifier.specs.Sum.{sumTo}
+use Rattle.magnetar_sumcheck_verifier.specs.Sum.{sumBelow}
 use Rattle.magnetar_sumcheck_verifier.specs.Order.{at₀, at₁, slope}
 use Rattle.magnetar_sumcheck_verifier.specs.Outer.{coefficient₀, coefficient₂, atOne, weighted}
 use Rattle.magnetar_sumcheck_prover.specs.Sums.{sums, outerSums, innerSumsAt}
@@ -34,36 +34,36 @@ low-is i v b e = rw e (go i (2 ^ v))
     go i p = omega (arith, div-add-mod' i p, twice (i / p) p)
 
 -- ---- sums
-pub sum-more : (f : ℕ → ℕ) (n : ℕ) → sumTo f (n + 1) ≡ sumTo f n ⊕ f n
-unfolding sumTo
-sum-more f n = ap (sumTo f) (add-one n)
+pub sum-more : (f : ℕ → ℕ) (n : ℕ) → sumBelow (n + 1) f ≡ sumBelow n f ⊕ f n
+unfolding sumBelow
+sum-more f n = ap (λ (k : ℕ). sumBelow k f) (add-one n)
 
-pub sum-zero : (f : ℕ → ℕ) → sumTo f 0 ≡ 0
-unfolding sumTo
+pub sum-zero : (f : ℕ → ℕ) → sumBelow 0 f ≡ 0
+unfolding sumBelow
 sum-zero f = refl
 
-pub sum-add : (f g : ℕ → ℕ) (n : ℕ) → sumTo (λ i. f i ⊕ g i) n ≡ sumTo f n ⊕ sumTo g n
-unfolding sumTo
+pub sum-add : (f g : ℕ → ℕ) (n : ℕ) → sumBelow n (λ i. f i ⊕ g i) ≡ sumBelow n f ⊕ sumBelow n g
+unfolding sumBelow
 sum-add f g zero = sym (simp xor)
-sum-add f g (suc n) = ap (λ (x : ℕ). x ⊕ (f n ⊕ g n)) (sum-add f g n) ∙ swap (sumTo f n) (sumTo g n) (f n) (g n)
+sum-add f g (suc n) = ap (λ (x : ℕ). x ⊕ (f n ⊕ g n)) (sum-add f g n) ∙ swap (sumBelow n f) (sumBelow n g) (f n) (g n)
   where
     swap : (a b c d : ℕ) → a ⊕ b ⊕ (c ⊕ d) ≡ a ⊕ c ⊕ (b ⊕ d)
     swap a b c d = simp xor
 
-pub sum-same : (f g : ℕ → ℕ) (n : ℕ) → ((i : ℕ) → f i ≡ g i) → sumTo f n ≡ sumTo g n
-unfolding sumTo
+pub sum-same : (f g : ℕ → ℕ) (n : ℕ) → ((i : ℕ) → f i ≡ g i) → sumBelow n f ≡ sumBelow n g
+unfolding sumBelow
 sum-same f g zero h = refl
 sum-same f g (suc n) h = ap₂ _⊕_ (sum-same f g n h) (h n)
 
 triple : {a b c x y z : ℕ} → a ≡ x → b ≡ y → c ≡ z → _≡_ {A = List ℕ} (a ∷ b ∷ c ∷ []) (x ∷ y ∷ z ∷ [])
 triple p q r = λ i. p i ∷ q i ∷ r i ∷ []
 
-one-more : (f : ℕ → ℕ) (n : ℕ) {x y : ℕ} → x ≡ sumTo f n → y ≡ x ⊕ f n → y ≡ sumTo f (n + 1)
+one-more : (f : ℕ → ℕ) (n : ℕ) {x y : ℕ} → x ≡ sumBelow n f → y ≡ x ⊕ f n → y ≡ sumBelow (n + 1) f
 one-more f n p q = q ∙ ap (λ (z : ℕ). z ⊕ f n) p ∙ sym (sum-more f n)
 
 pub outer-start : (v : ℕ) (e a b c : List ℕ) (s : Sums) → value (s .zero) ≡ 0 → value (s .one) ≡ 0 → value (s .top) ≡ 0 → sums s
     ≡ outerSums v e a b c 0
-unfolding sums outerSums weighted sumTo
+unfolding sums outerSums weighted sumBelow
 outer-start v e a b c s p q r = triple p q r
 
 pub outer-more : (v i lo hi : ℕ) (e a b c : List ℕ) (s t : Sums) → sums s ≡ outerSums v e a b c i → lo ≡ insertZero v i → hi
@@ -80,7 +80,7 @@ outer-more v i lo hi e a b c s t h l k p q r = triple
 
 pub inner-start : (v : ℕ) (t z : List ℕ) (s : Sums) → value (s .zero) ≡ 0 → value (s .one) ≡ 0 → value (s .top) ≡ 0 → sums s
     ≡ innerSumsAt v t z 0
-unfolding sums innerSumsAt sumTo
+unfolding sums innerSumsAt sumBelow
 inner-start v t z s p q r = triple p q r
 
 pub inner-more : (v i lo hi : ℕ) (t z : List ℕ) (s u : Sums) → sums s ≡ innerSumsAt v t z i → lo ≡ insertZero v i → hi

@@ -5,7 +5,7 @@ use mathlib.Core.List.{List, [], _∷_}
 use Prim.Native.Nat.{ℕ}
 use Rattle.magnetar_field.specs.Gf128.{value, _⊗_}
 use Rattle.magnetar_sumcheck_prover.specs.declared.engine.Sums.{Sums}
-use Rattle.magnetar_sumcheck_verifier.specs.Sum.{sumTo}
+use Rattle.magnetar_sumcheck_verifier.specs.Sum.{sumBelow}
 use Rattle.magnetar_sumcheck_verifier.specs.Order.{at₀, at₁, slope}
 use Rattle.magnetar_sumcheck_verifier.specs.Outer.{coefficient₀, atOne, coefficient₂, weighted}
 
@@ -20,7 +20,7 @@ outerSums v e a b c n = weighted e (coefficient₀ v a b c) n ∷ weighted e (at
 -- of the inner sum-check
 unfoldable pub innerSumsAt : ℕ → List ℕ → List ℕ → ℕ → List ℕ
 innerSumsAt v t z n =
-    sumTo (λ i. at₀ v t i ⊗ at₀ v z i) n
-    ∷ sumTo (λ i. at₁ v t i ⊗ at₁ v z i) n
-    ∷ sumTo (λ i. slope v t i ⊗ slope v z i) n
+    sumBelow n (λ i. at₀ v t i ⊗ at₀ v z i)
+    ∷ sumBelow n (λ i. at₁ v t i ⊗ at₁ v z i)
+    ∷ sumBelow n (λ i. slope v t i ⊗ slope v z i)
     ∷ []

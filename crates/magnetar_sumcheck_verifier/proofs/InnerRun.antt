@@ -20,7 +20,7 @@ use Rattle.magnetar_theory.specs.Inner.{zipInner}
 use Rattle.magnetar_theory.specs.Gf128.{Element, element, elementSum, elementProduct, gf128}
 use Rattle.magnetar_theory.proofs.Ring.{ring}
 use Rattle.magnetar_theory.proofs.Gf128.{element-⊕, element-⊗, gf128Laws}
-use Rattle.magnetar_sumcheck_verifier.specs.Sum.{sumTo}
+use Rattle.magnetar_sumcheck_verifier.specs.Sum.{sumBelow}
 use Rattle.magnetar_sumcheck_verifier.specs.Order.{nextVar, at₀, at₁, slope}
 use Rattle.magnetar_sumcheck_verifier.specs.Inner.{innerSums, innerMessage}
 use Rattle.magnetar_sumcheck_verifier.specs.Messages.{innerMessages}
@@ -128,11 +128,11 @@ module _ (b n : ℕ) (t z : List ℕ) (lt : length t ≡ 2 ^ suc n) (lz : length
   next-is = ap (λ (m : ℕ). els (innerSums 0 t z m)) (half n t lt) ∙ (λ i. c₀ i ∷ c₁ i ∷ c₂ i ∷ [])
       ∙ sym (ap (polyAll gf128 (innerCells gf128)) pairs-of ∙ poly (2 ^ n - 1) (2 ^ n) (omega (arith, pow-pos n)))
     where
-      c₀ : element (sumTo (λ i. at₀ 0 t i ⊗ at₀ 0 z i) (2 ^ n)) ≡ sumF gf128 (λ i. elementProduct (lo t i) (lo z i)) (2 ^ n)
+      c₀ : element (sumBelow (2 ^ n) (λ i. at₀ 0 t i ⊗ at₀ 0 z i)) ≡ sumF gf128 (λ i. elementProduct (lo t i) (lo z i)) (2 ^ n)
       c₀ = unfold lo in element-sum (λ i. at₀ 0 t i ⊗ at₀ 0 z i) (λ i. elementProduct (lo t i) (lo z i)) (2 ^ n)
           (λ i h. element-⊗ (at₀ 0 t i) (at₀ 0 z i))
 
-      c₁ : element (sumTo (λ i. at₀ 0 t i ⊗ slope 0 z i ⊕ slope 0 t i ⊗ at₀ 0 z i) (2 ^ n))
+      c₁ : element (sumBelow (2 ^ n) (λ i. at₀ 0 t i ⊗ slope 0 z i ⊕ slope 0 t i ⊗ at₀ 0 z i))
           ≡ sumF gf128 (λ i. elementSum (elementProduct (lo t i) (elementSum (lo z i) (hi z i))) (elementProduct (elementSum (lo t i) (hi t i)) (lo z i))) (2 ^ n)
       c₁ = unfold lo in element-sum (λ i. at₀ 0 t i ⊗ slope 0 z i ⊕ slope 0 t i ⊗ at₀ 0 z i)
           (λ i. elementSum (elementProduct (lo t i) (elementSum (lo z i) (hi z i))) (elementProduct (elementSum (lo t i) (hi t i)) (lo z i))) (2 ^ n)
@@ -140,7 +140,7 @@ module _ (b n : ℕ) (t z : List ℕ) (lt : length t ≡ 2 ^ suc n) (lz : length
           ∙ ap₂ elementSum (element-⊗ (at₀ 0 t i) (slope 0 z i) ∙ ap (elementProduct (lo t i)) (element-slope z i))
           (element-⊗ (slope 0 t i) (at₀ 0 z i) ∙ ap (λ (w : Element). elementProduct w (lo z i)) (element-slope t i)))
 
-      c₂ : element (sumTo (λ i. slope 0 t i ⊗ slope 0 z i) (2 ^ n))
+      c₂ : element (sumBelow (2 ^ n) (λ i. slope 0 t i ⊗ slope 0 z i))
           ≡ sumF gf128 (λ i. elementProduct (elementSum (lo t i) (hi t i)) (elementSum (lo z i) (hi z i))) (2 ^ n)
       c₂ = element-sum (λ i. slope 0 t i ⊗ slope 0 z i) (λ i. elementProduct (elementSum (lo t i) (hi t i)) (elementSum (lo z i) (hi z i))) (2 ^ n)
           (λ i h. element-⊗ (slope 0 t i) (slope 0 z i) ∙ ap₂ elementProduct (element-slope t i) (element-slope z i))

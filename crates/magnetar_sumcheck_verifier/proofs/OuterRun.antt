@@ -25,7 +25,7 @@ use Rattle.magnetar_theory.proofs.Ring.{ring, one-mul}
 use Rattle.magnetar_theory.proofs.EqTable.{length-eqTable, length-scale}
 use Rattle.magnetar_theory.proofs.EqEntry.{factor, eqAt as eqAtE, eq-index}
 use Rattle.magnetar_theory.proofs.Gf128.{element-⊕, element-⊗, gf128Laws}
-use Rattle.magnetar_sumcheck_verifier.specs.Sum.{sumTo}
+use Rattle.magnetar_sumcheck_verifier.specs.Sum.{sumBelow}
 use Rattle.magnetar_sumcheck_verifier.specs.Order.{nextVar, fewer, at₀, at₁, slope}
 use Rattle.magnetar_sumcheck_verifier.specs.Outer.{coefficient₀, coefficient₁, coefficient₂, weighted, timesEq, outerMessage, dropVar}
 use Rattle.magnetar_sumcheck_verifier.specs.Messages.{Outer, outerVar, outerTau, outerNext, outerFold, outerStart, outerMessages}
@@ -67,15 +67,15 @@ element-eqTable p = ext-getD (element 0) (els (tabulate (eqAt p) (2 ^ length p))
     small i h = rw count at h
 
 -- ---- sums
-sum-front : (f : ℕ → ℕ) (n : ℕ) → element (sumTo f (suc n)) ≡ elementSum (element (f 0)) (element (sumTo (λ i. f (suc i)) n))
-unfolding sumTo
+sum-front : (f : ℕ → ℕ) (n : ℕ) → element (sumBelow (suc n) f) ≡ elementSum (element (f 0)) (element (sumBelow n (λ i. f (suc i))))
+unfolding sumBelow
 sum-front f zero = element-⊕ 0 (f 0) ∙ gf128Laws .is-ring .add-comm (element 0) (element (f 0))
-sum-front f (suc n) = element-⊕ (sumTo f (suc n)) (f (suc n)) ∙ ap (λ (x : Element). elementSum x (element (f (suc n)))) (sum-front f n)
-    ∙ gf128Laws .is-ring .add-assoc (element (f 0)) (element (sumTo (λ i. f (suc i)) n)) (element (f (suc n)))
-    ∙ ap (elementSum (element (f 0))) (sym (element-⊕ (sumTo (λ i. f (suc i)) n) (f (suc n))))
+sum-front f (suc n) = element-⊕ (sumBelow (suc n) f) (f (suc n)) ∙ ap (λ (x : Element). elementSum x (element (f (suc n)))) (sum-front f n)
+    ∙ gf128Laws .is-ring .add-assoc (element (f 0)) (element (sumBelow n (λ i. f (suc i)))) (element (f (suc n)))
+    ∙ ap (elementSum (element (f 0))) (sym (element-⊕ (sumBelow n (λ i. f (suc i))) (f (suc n))))
 
-pub element-sum : (f : ℕ → ℕ) (g : ℕ → Element) (n : ℕ) → ((i : ℕ) → i < n → element (f i) ≡ g i) → element (sumTo f n) ≡ sumF gf128 g n
-unfolding sumTo
+pub element-sum : (f : ℕ → ℕ) (g : ℕ → Element) (n : ℕ) → ((i : ℕ) → i < n → element (f i) ≡ g i) → element (sumBelow n f) ≡ sumF gf128 g n
+unfolding sumBelow
 element-sum f g zero h = refl
 element-sum f g (suc n) h = sum-front f n ∙ ap₂ elementSum (h 0 (omega arith)) (element-sum (λ i. f (suc i)) (λ i. g (suc i)) n
     (λ i k. h (suc i) (omega arith)))
@@ -291,7 +291,7 @@ module _ (S : Outer) (T : State gf128 (outerCells gf128)) (C : Stands S T) (n : 
       → element (weighted (dropVar (outerVar S) (S .e)) f (length (dropVar (outerVar S) (S .e))))
       ≡ sumF gf128 (λ i. elementProduct (rest i) (g i)) (2 ^ n)
   unfolding weighted
-  element-weighted f g h = ap (λ (m : ℕ). element (sumTo (λ i. getD (dropVar (outerVar S) (S .e)) i 0 ⊗ f i) m)) length-dropped
+  element-weighted f g h = ap (λ (m : ℕ). element (sumBelow m (λ i. getD (dropVar (outerVar S) (S .e)) i 0 ⊗ f i))) length-dropped
       ∙ element-sum (λ i. getD (dropVar (outerVar S) (S .e)) i 0 ⊗ f i) (λ i. elementProduct (rest i) (g i)) (2 ^ n)
       (λ i k. element-⊗ (getD (dropVar (outerVar S) (S .e)) i 0) (f i) ∙ ap₂ elementProduct (dropped i k) (h i))
 

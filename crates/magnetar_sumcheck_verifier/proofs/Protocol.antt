@@ -29,7 +29,7 @@ use Rattle.magnetar_theory.proofs.Matrix.{dot-comm}
 use Rattle.magnetar_theory.proofs.Outer.{outer-sound, outer-complete}
 use Rattle.magnetar_theory.proofs.Inner.{inner-sound, inner-complete}
 use Rattle.magnetar_theory.proofs.Gf128.{element-⊕, element-⊗, element-inj, gf128Laws}
-use Rattle.magnetar_sumcheck_verifier.specs.Sum.{sumTo}
+use Rattle.magnetar_sumcheck_verifier.specs.Sum.{sumBelow}
 use Rattle.magnetar_sumcheck_verifier.specs.Round.{running}
 use Rattle.magnetar_sumcheck_verifier.specs.Order.{point, eqPoints}
 use Rattle.magnetar_sumcheck_verifier.specs.Outer.{timesEq, outerMessage, outerEnd}
@@ -100,10 +100,10 @@ unfolding outerMessages
 outer-below S [] = tt
 outer-below S (r ∷ rs) = (outerNext-below S, outer-below (outerFold r S) rs)
 
-sum-lt : (f : ℕ → ℕ) (n : ℕ) → ((i : ℕ) → f i < 2 ^ 128) → sumTo f n < 2 ^ 128
-unfolding sumTo
+sum-lt : (f : ℕ → ℕ) (n : ℕ) → ((i : ℕ) → f i < 2 ^ 128) → sumBelow n f < 2 ^ 128
+unfolding sumBelow
 sum-lt f zero h = pow-pos 128
-sum-lt f (suc n) h = ⊕-lt 128 (sumTo f n) (f n) (sum-lt f n h) (h n)
+sum-lt f (suc n) h = ⊕-lt 128 (sumBelow n f) (f n) (sum-lt f n h) (h n)
 
 pub innerMessage-below : (v : ℕ) (t z : List ℕ) → AllBelow (2 ^ 128) (innerMessage v t z)
 unfolding innerMessage innerSums

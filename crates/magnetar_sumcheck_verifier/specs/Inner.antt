@@ -4,15 +4,15 @@ use mathlib.Core.List.{List, [], _∷_}
 use Prim.Native.Nat.{ℕ, _/_}
 use lib.ListN.{length}
 use Rattle.magnetar_field.specs.Gf128.{_⊕_, _⊗_}
-use Rattle.magnetar_sumcheck_verifier.specs.Sum.{sumTo}
+use Rattle.magnetar_sumcheck_verifier.specs.Sum.{sumBelow}
 use Rattle.magnetar_sumcheck_verifier.specs.Order.{at₀, slope}
 
 -- the coefficients of t(X, y) z(X, y), summed over the n pairs
 unfoldable pub innerSums : ℕ → List ℕ → List ℕ → ℕ → List ℕ
 innerSums v t z n =
-    sumTo (λ i. at₀ v t i ⊗ at₀ v z i) n
-    ∷ sumTo (λ i. at₀ v t i ⊗ slope v z i ⊕ slope v t i ⊗ at₀ v z i) n
-    ∷ sumTo (λ i. slope v t i ⊗ slope v z i) n
+    sumBelow n (λ i. at₀ v t i ⊗ at₀ v z i)
+    ∷ sumBelow n (λ i. at₀ v t i ⊗ slope v z i ⊕ slope v t i ⊗ at₀ v z i)
+    ∷ sumBelow n (λ i. slope v t i ⊗ slope v z i)
     ∷ []
 
 -- the message: 3 coefficients, that of 1 first

@@ -10,7 +10,7 @@ use Prim.Native.Nat.{ℕ, _/_}
 use lib.ListN.{length, getD}
 use Rattle.magnetar_field.specs.Gf128.{_⊕_, _⊗_}
 use Rattle.magnetar_field.specs.Tabulate.{tabulate}
-use Rattle.magnetar_sumcheck_verifier.specs.Sum.{sumTo}
+use Rattle.magnetar_sumcheck_verifier.specs.Sum.{sumBelow}
 use Rattle.magnetar_sumcheck_verifier.specs.Order.{at₀, at₁, slope}
 
 -- the coefficients of a(X, x) b(X, x) + c(X, x) at pair i
@@ -31,7 +31,7 @@ atOne v a b c i = at₁ v a i ⊗ at₁ v b i ⊕ at₁ v c i
 
 -- the sum over the pairs, pair i weighted by e_i
 unfoldable pub weighted : List ℕ → (ℕ → ℕ) → ℕ → ℕ
-weighted e f n = sumTo (λ i. getD e i 0 ⊗ f i) n
+weighted e f n = sumBelow n (λ i. getD e i 0 ⊗ f i)
 
 -- k ((1 + t) + X) (q₀ + q₁ X + q₂ X²)
 unfoldable pub timesEq : ℕ → ℕ → ℕ → ℕ → ℕ → List ℕ

@@ -1,13 +1,9 @@
 -- Sums over GF(2^128).
 -- Assumes nothing.
 use mathlib.Core.List.{List, [], _∷_}
-use Prim.Native.Nat.{ℕ, zero, suc}
+use Prim.Native.Nat.{ℕ}
 use Rattle.magnetar_field.specs.Gf128.{_⊕_}
-
--- f 0 + f 1 + .. + f (n - 1)
-unfoldable pub sumTo : (ℕ → ℕ) → ℕ → ℕ
-sumTo f zero = 0
-sumTo f (suc n) = sumTo f n ⊕ f n
+unfoldable pub use Rattle.magnetar_field.specs.Sum.{sumBelow}
 
 -- the sum of a list's entries
 unfoldable pub total : List ℕ → ℕ

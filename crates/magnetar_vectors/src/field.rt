@@ -214,7 +214,7 @@ fn tables(op: u64, nums: &[u64], out: &mut [u64]) -> bool {
         return true;
     }
     if op == FUSED {
-        let code = eq::eq_build_fused(v, out);
+        let code = EqBits::build(v, out);
         print_table(code, v, out);
         return true;
     }
@@ -236,7 +236,7 @@ fn bound(op: u64, n: usize, r: Gf128, table: &mut [u64]) -> bool {
         return true;
     }
     if op == FOLD {
-        bind(multilinear::fold_pairs(table, n, r), table);
+        bind(multilinear::bind_var(table, n, r), table);
         return true;
     }
     if op == BINDROOM {

@@ -1,29 +1,22 @@
 -- `magnetar_batch::check::add_share` meets its contract.
 -- Assumes nothing.
-use Rattle.magnetar_matrix.specs.Matrix.{share}
-use Rattle.magnetar_field.proofs.Product.{⊗-comm}
-use Rattle.magnetar_batch.specs.CheckSteps.{shareAdded}
+use Rattle.magnetar_relation.specs.Steps.{loginZ}
 use borrow.Author.Needs.{needs}
 use Rattle.magnetar_batch.proofs.check.add_share.Statement.{statement}
 use Rattle.magnetar_batch.proofs.check.add_share.Tie as tie
 
-z-at-requires : tie.Need-z-at-requires
-z-at-requires c κs = search needs
+part-requires : tie.Need-part-requires
+part-requires c κs = search needs
 
-scale-requires : tie.Need-scale-requires
-scale-requires c κs = search needs
-
-add-behind-requires : tie.Need-add-behind-requires
-add-behind-requires c κs = search needs
+add-share-of-requires : tie.Need-add-share-of-requires
+add-share-of-requires c κs = search needs
 
 same-length : tie.Need-same-length
 same-length c = search needs
 
 returns : tie.Need-returns
-unfolding share shareAdded
-returns c = rw (c .before .before .add-behind .ensures, c .before .before .before .scale .ensures, c .before .before .before .before .before .z-at .ensures, ⊗-comm)
+unfolding loginZ
+returns c = rw (c .before .before .add-share-of .ensures, c .before .before .before .part .ensures)
 
 pub add-share-spec : {M : Type 1} → statement M
-add-share-spec =
-    tie.close
-    (tie.spec z-at-requires scale-requires add-behind-requires same-length returns)
+add-share-spec = tie.close (tie.spec part-requires add-share-of-requires same-length returns)

@@ -15,6 +15,7 @@ use Rattle.magnetar_matrix.specs.Packed.{loginWords}
 use Rattle.magnetar_layout.specs.Tests.{sizeTests, packedTests}
 use Rattle.magnetar_batch.specs.Entries.{foldRefusal}
 use Rattle.magnetar_layout.proofs.Noted.{noted-front, noted-late, noted-clear, turned, done}
+use Rattle.magnetar_layout.proofs.Laid.{half-size}
 use Rattle.magnetar_layout.proofs.SizeLaws.{not-bad, sized-wider}
 use Rattle.magnetar_matrix.proofs.TableLaws.{in-front}
 use Rattle.magnetar_matrix.proofs.LoginParts.{product-most, words-most}
@@ -33,14 +34,14 @@ abbrev rest : tie.Start → Tests
 rest s = let x = s .args in packedTests (x .w) (x .q) (now (x .packed)) ++ lengthTest (2 * log₂ (x .q)) (now (x .point)) ++ roomTest (2 * x .w) (now (x .out)) ++ roomTest (2 * x .q) (now (x .scratch))
 
 early : (c : tie.After-note2) → c .note2 .result ≡ noted 0 (first (c .before .before .before .before .before .before .before .before))
-early c = rw (c .note2 .ensures, c .before .is-size .ensures, c .before .before .note .ensures, c .before .before .before .is-half .ensures)
+early c = rw (c .note2 .ensures, c .before .is-size2 .ensures, c .before .before .note .ensures, c .before .before .before .is-size .ensures, half-size (c .before .before .before .before .before .before .before .before .args .w))
 
 late : (c : tie.After-note6) → c .note6 .result ≡ noted 0 (rest (c .before .before .before .before .before .before .before .before .before .before .before .before .before .before .before))
 late c = rw (
   c .note6 .ensures,
   c .before .note5 .ensures,
   c .before .before .note4 .ensures,
-  c .before .before .before .log2 .ensures,
+  c .before .before .before .log2 .ensures .0,
   c .before
       .before .before .before .note3 .ensures,
   c .before .before .before .before .before .login-words .ensures,
@@ -69,14 +70,14 @@ fits c =
     .before .before)) refl (sym (late (c .before)) ∙ c .if2 .left) .1 in
     record { packed = eqb-true _ _ (not-false _ (k .0)); point = eqb-true _ _ (not-false _ (k .1 .0)); out = ltb-false _ _ (k .1 .1 .0); scratch = ltb-false _ _ (k .1 .1 .1 .0) }
 
-is-half-requires : tie.Need-is-half-requires
-is-half-requires c κs = search needs
+is-size-requires : tie.Need-is-size-requires
+is-size-requires c κs = search needs
 
 note-requires : tie.Need-note-requires
 note-requires c κs = search needs
 
-is-size-requires : tie.Need-is-size-requires
-is-size-requires c κs = search needs
+is-size-requires-2 : tie.Need-is-size-requires-2
+is-size-requires-2 c κs = search needs
 
 note-requires-2 : tie.Need-note-requires-2
 note-requires-2 c κs = search needs
@@ -107,7 +108,7 @@ log2-requires c κs = search needs
 mul-note-2 : tie.Need-mul-note-2
 mul-note-2 c =
     let z = sized-wider 65536 (lit≤ tt) (small (c .before .before .before) .logins) in
-    omega (arith, c .log2 .ensures, log-most _ (z .high) (z .power))
+    omega (arith, c .log2 .ensures .0, log-most _ (z .high) (z .power))
 
 note-requires-4 : tie.Need-note-requires-4
 note-requires-4 c κs = search needs
@@ -184,9 +185,9 @@ pub fold-packed-w-spec : {M : Type 1} → statement M
 fold-packed-w-spec =
     tie.close
     (tie.spec
-    is-half-requires
-    note-requires
     is-size-requires
+    note-requires
+    is-size-requires-2
     note-requires-2
     returns
     login-words-requires

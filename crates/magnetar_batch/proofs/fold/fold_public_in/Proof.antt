@@ -11,6 +11,7 @@ use borrow.Author.Tests.{ltb-false, eqb-true, not-false}
 use denote.Ref.{now}
 use Rattle.magnetar_field.specs.Sizes.{log₂}
 use Rattle.magnetar_layout.specs.Tests.{Tests, noted, sizeTests, publicTests, lengthTest, roomTest, Sized}
+use Rattle.magnetar_layout.proofs.Laid.{half-size}
 use Rattle.magnetar_layout.proofs.SizeLaws.{not-bad, sized-wider}
 use Rattle.magnetar_r1cs.proofs.Points.{log-most}
 use Rattle.magnetar_layout.proofs.Noted.{noted-front, noted-late, noted-clear, turned, done}
@@ -27,13 +28,13 @@ abbrev rest : tie.Start → Tests
 rest s = let x = s .args in publicTests (2 * x .w) (now (x .x)) ++ lengthTest (2 * log₂ (x .q)) (now (x .point)) ++ roomTest (2 * x .w) (now (x .s))
 
 early : (c : tie.After-note2) → c .note2 .result ≡ noted 0 (first (c .before .before .before .before .before .before .before))
-early c = rw (c .note2 .ensures, c .before .is-size .ensures, c .before .before .note .ensures, c .before .before .before .is-half .ensures)
+early c = rw (c .note2 .ensures, c .before .is-size2 .ensures, c .before .before .note .ensures, c .before .before .before .is-size .ensures, half-size (c .before .before .before .before .before .before .before .args .w))
 
 abbrev start : tie.Else1 → tie.Start
 start c = c .before .before .before .before .before .before .before .before
 
 late : (c : tie.After-note5) → c .note5 .result ≡ noted 0 (rest (start (c .before .before .before .before)))
-late c = rw (c .note5 .ensures, c .before .note4 .ensures, c .before .before .log2 .ensures, c .before .before .before .note3 .ensures)
+late c = rw (c .note5 .ensures, c .before .note4 .ensures, c .before .before .log2 .ensures .0, c .before .before .before .note3 .ensures)
 
 -- what is known of the sizes, and once nothing is refused
 record Small (s : tie.Start) : Type 0 where
@@ -54,14 +55,14 @@ fits c =
     let k = noted-clear 0 (rest (start (c .before .before .before .before .before))) refl (sym (late (c .before)) ∙ c .if2 .left) .1 in
     record { public = eqb-true _ _ (not-false _ (k .0)); room = ltb-false _ _ (k .1 .1 .0) }
 
-is-half-requires : tie.Need-is-half-requires
-is-half-requires c κs = search needs
+is-size-requires : tie.Need-is-size-requires
+is-size-requires c κs = search needs
 
 note-requires : tie.Need-note-requires
 note-requires c κs = search needs
 
-is-size-requires : tie.Need-is-size-requires
-is-size-requires c κs = search needs
+is-size-requires-2 : tie.Need-is-size-requires-2
+is-size-requires-2 c κs = search needs
 
 note-requires-2 : tie.Need-note-requires-2
 note-requires-2 c κs = search needs
@@ -88,7 +89,7 @@ log2-requires c κs = search needs
 mul-note : tie.Need-mul-note
 mul-note c =
     let z = sized-wider 65536 (lit≤ tt) (small (c .before .before) .logins) in
-    omega (arith, c .log2 .ensures, log-most _ (z .high) (z .power))
+    omega (arith, c .log2 .ensures .0, log-most _ (z .high) (z .power))
 
 note-requires-4 : tie.Need-note-requires-4
 note-requires-4 c κs = search needs
@@ -134,9 +135,9 @@ pub fold-public-in-spec : {M : Type 1} → statement M
 fold-public-in-spec =
     tie.close
     (tie.spec
-    is-half-requires
-    note-requires
     is-size-requires
+    note-requires
+    is-size-requires-2
     note-requires-2
     returns
     mul-end

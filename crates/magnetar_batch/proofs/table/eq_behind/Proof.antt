@@ -14,8 +14,8 @@ slice-aggregate-get c = search needs
 get-requires : tie.Need-get-requires
 get-requires c κs = search needs
 
-log-requires : tie.Need-log-requires
-log-requires c κs = search needs
+log2-requires : tie.Need-log2-requires
+log2-requires c κs = search needs
 
 mul-least : tie.Need-mul-least
 mul-least c = search needs
@@ -57,7 +57,7 @@ returns : tie.Need-returns
 returns c =
     let x = (c .before .before .before .before .before .before .before .before .before .before .before .before) .args in
     let l = c .before .before .before .before .before .before .before .least in
-    let j = c .before .before .before .before .before .before .before .before .log in
+    let j = c .before .before .before .before .before .before .before .before .log2 in
     let v = c .before .before .before .before .before .before .before .before .before .get in
     let e = c .before .before .eq-build-scaled .ensures .1 in
     eq-behind-read (x .m) (x .n) (l .result) (j .result) (value (v .result)) (x .k) (x .t4) (x .t6) (now (x .s)) _
@@ -72,7 +72,7 @@ eq-behind-spec =
     (tie.spec
     slice-aggregate-get
     get-requires
-    log-requires
+    log2-requires
     mul-least
     least-requires
     mul-a

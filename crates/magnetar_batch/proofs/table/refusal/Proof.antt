@@ -17,8 +17,8 @@ note-requires-2 c κs = search needs
 note-requires-3 : tie.Need-note-requires-3
 note-requires-3 c κs = search needs
 
-log-requires : tie.Need-log-requires
-log-requires c κs = search needs
+log2-requires : tie.Need-log2-requires
+log2-requires c κs = search needs
 
 mul-note : tie.Need-mul-note
 mul-note c = search needs
@@ -26,8 +26,8 @@ mul-note c = search needs
 note-requires-4 : tie.Need-note-requires-4
 note-requires-4 c κs = search needs
 
-log-requires-2 : tie.Need-log-requires-2
-log-requires-2 c κs = search needs
+log2-requires-2 : tie.Need-log2-requires-2
+log2-requires-2 c κs = search needs
 
 mul-note-2 : tie.Need-mul-note-2
 mul-note-2 c = search needs
@@ -53,8 +53,8 @@ returns c =
     let n = c .note7 .ensures in
     let o = c .before .before .is-over .ensures in
     let r = c .before .before .before .larger .ensures in
-    let lf = c .before .before .before .before .before .log2 .ensures .0 in
-    let lb = c .before .before .before .before .before .before .before .log .ensures .0 in
+    let lf = c .before .before .before .before .before .log22 .ensures .0 in
+    let lb = c .before .before .before .before .before .before .before .log2 .ensures .0 in
     let n₆ = c .before .note6 .ensures in
     let n₅ = c .before .before .before .before .note5 .ensures in
     let n₄ = c .before .before .before .before .before .before .note4 .ensures in
@@ -71,10 +71,10 @@ refusal-spec =
     note-requires
     note-requires-2
     note-requires-3
-    log-requires
+    log2-requires
     mul-note
     note-requires-4
-    log-requires-2
+    log2-requires-2
     mul-note-2
     note-requires-5
     larger-requires

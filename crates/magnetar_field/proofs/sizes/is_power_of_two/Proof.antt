@@ -14,7 +14,7 @@ power-of-two-requires c κs = search needs
 returns : tie.Need-returns
 returns c =
     let x = c .before .before .args in
-    rw (c .power-of-two .ensures, c .before .log2 .ensures, power-is _ (log₂-lt (x .n) (search needs)))
+    rw (c .power-of-two .ensures, c .before .log2 .ensures .0, power-is _ (log₂-lt (x .n) (search needs)))
 
 pub is-power-of-two-spec : {M : Type 1} → statement M
 is-power-of-two-spec = tie.close (tie.spec log2-requires power-of-two-requires returns)

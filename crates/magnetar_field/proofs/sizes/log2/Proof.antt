@@ -1,6 +1,8 @@
 -- `magnetar_field::sizes::log2` meets its contract.
 -- Assumes nothing.
-use Rattle.magnetar_field.proofs.Log2.{Halved, halved-start, halved-more, halved-end}
+use mathlib.Core.Path.{_≡_}
+use Rattle.magnetar_field.specs.Sizes.{log₂}
+use Rattle.magnetar_field.proofs.Log2.{Halved, halved-start, halved-more, halved-end, log₂-lt}
 use borrow.Author.Needs.{needs}
 use native.Mathlib.Omega.{arith}
 use Rattle.magnetar_field.proofs.sizes.log2.Statement.{statement}
@@ -25,7 +27,9 @@ loop-again : tie.Need-loop-again Inv-loop μ-loop
 loop-again c = halved-more _ _ _ (c .before .loop .inv) (omega arith)
 
 returns : tie.Need-returns Inv-loop μ-loop
-returns c = halved-end _ _ _ (c .before .loop .inv) (omega arith)
+returns c =
+    let e = halved-end _ _ _ (c .before .loop .inv) (omega arith) in
+    (e, omega (arith, e, log₂-lt _ (c .before .before .fits .n .fits)))
 
 pub log2-spec : {M : Type 1} → statement M
 log2-spec = tie.close (tie.spec Inv-loop μ-loop loop-holds add-k loop-less loop-again returns)

@@ -1,6 +1,6 @@
 -- `magnetar_keccak::keccak::effects` meets its contract.
 -- Assumes nothing.
-use Rattle.magnetar_keccak.specs.State.{table}
+use Rattle.magnetar_field.specs.Tabulate.{tabulate}
 use borrow.Author.Needs.{needs}
 use Rattle.magnetar_keccak.proofs.keccak.effects.Statement.{statement}
 use Rattle.magnetar_keccak.proofs.keccak.effects.Tie as tie
@@ -21,7 +21,7 @@ effect-requires-5 : tie.Need-effect-requires-5
 effect-requires-5 c κs = search needs
 
 returns : tie.Need-returns
-unfolding table
+unfolding tabulate
 returns c = cc
 
 pub effects-spec : {M : Type 1} → statement M

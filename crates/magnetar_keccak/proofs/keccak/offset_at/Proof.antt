@@ -2,9 +2,9 @@
 -- Assumes nothing.
 use Prim.Native.Nat.{_/_, _%_}
 use borrow.Author.Needs.{needs}
-use Rattle.magnetar_keccak.specs.State.{table}
+use Rattle.magnetar_field.specs.Tabulate.{tabulate}
+use Rattle.magnetar_field.proofs.Tabulation.{tabulate-get}
 use Rattle.magnetar_keccak.specs.Offsets.{offset, offsetOnWalk}
-use Rattle.magnetar_keccak.proofs.Lanes.{get-table}
 use Rattle.magnetar_keccak.proofs.keccak.offset_at.Statement.{statement}
 use Rattle.magnetar_keccak.proofs.keccak.offset_at.Tie as tie
 
@@ -15,8 +15,8 @@ array-read-result : tie.Need-array-read-result
 array-read-result c = search needs
 
 returns : tie.Need-returns
-unfolding table offset offsetOnWalk
-returns c = get-table (λ i. offset (i % 5) (i / 5) % 64) 25 (c .args .i) (search needs)
+unfolding tabulate offset offsetOnWalk
+returns c = tabulate-get (λ i. offset (i % 5) (i / 5) % 64) 25 (c .args .i) 0 (search needs)
 
 pub offset-at-spec : {M : Type 1} → statement M
 offset-at-spec = tie.close (tie.spec mul-result array-read-result returns)

@@ -22,7 +22,7 @@ log2-requires : tie.Need-log2-requires
 log2-requires c κs = search needs
 
 returns-2 : tie.Need-returns-2
-returns-2 c = read-some _ _ _ _ _ (c .before .before .before .before .refusal .ensures) (c .before .before .before .if1 .left) _ (c .before .before .if2 .taken) (c .log2 .ensures)
+returns-2 c = read-some _ _ _ _ _ (c .before .before .before .before .refusal .ensures) (c .before .before .before .if1 .left) _ (c .before .before .if2 .taken) (c .log2 .ensures .0)
 
 returns-3 : tie.Need-returns-3
 returns-3 c = read-none _ _ _ _ _ (c .before .before .refusal .ensures) (c .before .if1 .left) (omega arith)

@@ -14,6 +14,7 @@ use Rattle.magnetar_layout.specs.Tests.{Tests, noted, isSize, layoutTest
 use Rattle.magnetar_layout.specs.Entries.{layoutRefusal}
 use Rattle.magnetar_layout.proofs.Noted.{noted-front, noted-clear}
 use Rattle.magnetar_layout.proofs.SizeLaws.{not-bad}
+use Rattle.magnetar_layout.proofs.Laid.{half-size}
 use borrow.Author.Needs.{needs}
 use Rattle.magnetar_layout.proofs.layout.refusal.Statement.{statement}
 use Rattle.magnetar_layout.proofs.layout.refusal.Tie as tie
@@ -22,8 +23,8 @@ use Rattle.magnetar_layout.proofs.layout.refusal.Tie as tie
 abbrev front : tie.Start → Tests
 front s = (1, not (isSize 2 65536 (2 * s .args .w))) ∷ (8, not (every (isLength (s .args .w)) (now (s .args .lens)))) ∷ []
 
-is-half-requires : tie.Need-is-half-requires
-is-half-requires c κs = search needs
+is-size-requires : tie.Need-is-size-requires
+is-size-requires c κs = search needs
 
 note-requires : tie.Need-note-requires
 note-requires c κs = search needs
@@ -36,11 +37,12 @@ note-requires-2 c κs = search needs
 
 returns : tie.Need-returns
 unfolding layoutRefusal
-returns c = let s = c .before .before .before .before .before .before in noted-front (front s) (drop 1 (layoutTests (s .args .w) (now (s .args .lens)))) _ (cc) (c .if1 .taken)
+returns c = let s = c .before .before .before .before .before .before in let h = half-size (s .args .w) in noted-front (front s) (drop 1 (layoutTests (s .args .w) (now (s .args .lens)))) _ (cc) (c .if1 .taken)
 
 ends-past-requires : tie.Need-ends-past-requires
 ends-past-requires c κs =
     let s = c .before .before .before .before .before .before in
+    let h = half-size (s .args .w) in
     let e : noted 0 (front s) ≡ 0 = cc in
     let k = noted-clear 0 (front s) refl e in
     let z = not-bad (k .1 .0) in
@@ -54,13 +56,13 @@ note-requires-4 c κs = search needs
 
 returns-2 : tie.Need-returns-2
 unfolding layoutRefusal
-returns-2 c = cc
+returns-2 c = let h = half-size (c .before .before .before .before .before .before .before .before .before .args .w) in cc
 
 pub refusal-spec : {M : Type 1} → statement M
 refusal-spec =
     tie.close
     (tie.spec
-    is-half-requires
+    is-size-requires
     note-requires
     all-lengths-requires
     note-requires-2

@@ -32,11 +32,11 @@ sub-t12 c =
     let s = c .before .before .before .before .before .before .before in
     let o = sound _ _ (sym (c .before .before .before .before .before .refusal .ensures) ∙ c .before .before .before .before .if1 .left) in
     let z = each-size _ _ (s .args .i) (o .lengths) (omega arith) in
-    rw (c .log22 .ensures, c .before .before .log2 .ensures) (log-le _ _ (z .power) (o .power) (z .most))
+    rw (c .log22 .ensures .0, c .before .before .log2 .ensures .0) (log-le _ _ (z .power) (o .power) (z .most))
 
 returns-2 : tie.Need-returns-2
 returns-2 c = read-some _ _ _ _ _ (c .before .before .before .before .before .refusal .ensures) (c .before .before .before .before .if1 .left) _ (c
-    .before .before .before .if2 .taken) (rw (c .log22 .ensures, c .before .before .log2 .ensures))
+    .before .before .before .if2 .taken) (rw (c .log22 .ensures .0, c .before .before .log2 .ensures .0))
 
 returns-3 : tie.Need-returns-3
 returns-3 c = read-none _ _ _ _ _ (c .before .before .refusal .ensures) (c .before .if1 .left) (omega arith)

@@ -28,15 +28,15 @@ returns : tie.Need-returns
 returns c =
     let w = c .before in
     let x = w .before .before .before .args in
-    let e = bind-other (now (x .table)) (x .var) (λ z. c .if1 .taken (z ∙ sym (w .table-words .ensures ∙ rw (w .before .log2 .ensures)))) in
+    let e = bind-other (now (x .table)) (x .var) (λ z. c .if1 .taken (z ∙ sym (w .table-words .ensures ∙ rw (w .before .log2 .ensures .0)))) in
     (rw e, rw e)
 
 returns-2 : tie.Need-returns-2
 returns-2 c =
     let w = c .before .before in
     let x = w .before .before .before .args in
-    let s : length (now (x .table)) ≡ 2 * 2 ^ log₂ (length (now (x .table)) / 2) = c .before .if1 .left ∙ w .table-words .ensures ∙ rw (w .before .log2 .ensures) in
-    let e = bind-free (now (x .table)) (x .var) s (omega (arith, w .before .log2 .ensures)) in
+    let s : length (now (x .table)) ≡ 2 * 2 ^ log₂ (length (now (x .table)) / 2) = c .before .if1 .left ∙ w .table-words .ensures ∙ rw (w .before .log2 .ensures .0) in
+    let e = bind-free (now (x .table)) (x .var) s (omega (arith, w .before .log2 .ensures .0)) in
     (rw e, rw e)
 
 bind-requires : tie.Need-bind-requires
@@ -44,7 +44,7 @@ bind-requires c κs =
     let w = c .before .before .before in
     power-fits _ (w .before .log2 .result) _ (omega (
       arith,
-      w .before .log2 .ensures,
+      w .before .log2 .ensures .0,
       log₂-half (length (now (w .before .before .before .args
           .table))) (search needs),
     )) (omega arith) (omega (arith, w .table-words .ensures))
@@ -58,9 +58,9 @@ returns-3 c =
     let w = b .before .before .before .before in
     let x = w .before .before .before .args in
     let t = now (x .table) in
-    let s : length t ≡ 2 * 2 ^ log₂ (length t / 2) = b .before .before .before .if1 .left ∙ w .table-words .ensures ∙ rw (w .before .log2 .ensures) in
-    let e = bind-none t (x .var) s (omega (arith, w .before .log2 .ensures)) in
-    let h : 2 * (length t / 4) ≡ length t / 2 = quarter (length t) (log₂ (length t / 2)) (x .var) (omega (arith, w .before .log2 .ensures)) s in
+    let s : length t ≡ 2 * 2 ^ log₂ (length t / 2) = b .before .before .before .if1 .left ∙ w .table-words .ensures ∙ rw (w .before .log2 .ensures .0) in
+    let e = bind-none t (x .var) s (omega (arith, w .before .log2 .ensures .0)) in
+    let h : 2 * (length t / 4) ≡ length t / 2 = quarter (length t) (log₂ (length t / 2)) (x .var) (omega (arith, w .before .log2 .ensures .0)) s in
     let all : take (2 * (length t / 4)) (elements t) ≡ elements t = take-all (2 * (length t / 4)) (elements t) (rw elements-length (omega arith)) in
     let j = rejoin t (b .bind .last .0) (bindVar (x .var) (value (x .r)) (take (2 * (length t / 4)) (elements t))) (length t / 4) (omega arith) (b
     .bind .kept .0) (λ i. omega (arith, w .before .before .slice-known .given i)) (λ i. omega (arith, c .slice-known2 .given i)) (b .bind

@@ -47,22 +47,22 @@ of-counter-requires : tie.Need-of-counter-requires
 of-counter-requires c κs = search needs
 
 mul-note : tie.Need-mul-note
-mul-note c = let z = sized (c .before .before) in omega (arith, c .before .log2 .ensures, z .few)
+mul-note c = let z = sized (c .before .before) in omega (arith, c .before .log2 .ensures .0, z .few)
 
 note-requires : tie.Need-note-requires
 note-requires c κs = search needs
 
 mul-note-2 : tie.Need-mul-note-2
-mul-note-2 c = let z = sized (c .before .before .before) in omega (arith, c .before .before .log2 .ensures, z .few)
+mul-note-2 c = let z = sized (c .before .before .before) in omega (arith, c .before .before .log2 .ensures .0, z .few)
 
 add-note : tie.Need-add-note
-add-note c = let z = sized (c .before .before .before) in omega (arith, c .before .before .log2 .ensures, z .few)
+add-note c = let z = sized (c .before .before .before) in omega (arith, c .before .before .log2 .ensures .0, z .few)
 
 add-note-2 : tie.Need-add-note-2
-add-note-2 c = let z = sized (c .before .before .before) in omega (arith, c .before .before .log2 .ensures, z .few, z .segments)
+add-note-2 c = let z = sized (c .before .before .before) in omega (arith, c .before .before .log2 .ensures .0, z .few, z .segments)
 
 mul-note-3 : tie.Need-mul-note-3
-mul-note-3 c = let z = sized (c .before .before .before) in omega (arith, c .before .before .log2 .ensures, z .few, z .segments)
+mul-note-3 c = let z = sized (c .before .before .before) in omega (arith, c .before .before .log2 .ensures .0, z .few, z .segments)
 
 note-requires-2 : tie.Need-note-requires-2
 note-requires-2 c κs = search needs
@@ -82,7 +82,7 @@ returns-2 c =
       c .before .note2 .ensures,
       c .before .before .note .ensures,
       c .before .before .before .of-counter .ensures,
-      c .before .before .before .before .log2 .ensures,
+      c .before .before .before .before .log2 .ensures .0,
     ))
 
 pub of-inner-spec : {M : Type 1} → statement M

@@ -40,11 +40,11 @@ drawn-words-requires c κs = let z = totals-of (c .before .before .before .befor
     .before .before .before .of-counts .ensures) ∙ c .before .before .before .if1 .left) in (
       omega (
         arith,
-        c .before .before .log2 .ensures,
+        c .before .before .log2 .ensures .0,
         logins-few (z .counts),
       ),
-      omega (arith, c .before .log22 .ensures, bin-few (z .counts)),
-      omega (arith, c .log23 .ensures, fld-few (z .counts)),
+      omega (arith, c .before .log22 .ensures .0, bin-few (z .counts)),
+      omega (arith, c .log23 .ensures .0, fld-few (z .counts)),
     )
 
 sent-words-requires : tie.Need-sent-words-requires
@@ -53,12 +53,12 @@ sent-words-requires c κs = let z = totals-of (c .before .before .before .before
     .args .rf) (sym (c .before .before .before .before .before .of-counts .ensures) ∙ c .before .before .before .before .if1 .left) in (
       omega (
         arith,
-        c .before .before .before .log2 .ensures,
+        c .before .before .before .log2 .ensures .0,
         logins-few (z .counts),
       ),
-      omega (arith, c .before .before .log22 .ensures, bin-few (z .counts)),
+      omega (arith, c .before .before .log22 .ensures .0, bin-few (z .counts)),
       omega
-          (arith, c .before .log23 .ensures, fld-few (z .counts)),
+          (arith, c .before .log23 .ensures .0, fld-few (z .counts)),
     )
 
 block-words-requires : tie.Need-block-words-requires
@@ -97,11 +97,11 @@ returns-2 c =
       c .before .before .before .before .before .sent-words .ensures,
       c .before
           .before .before .before .block-words .ensures,
-      c .before .before .before .before .before .before .before .before .before .log2 .ensures,
+      c .before .before .before .before .before .before .before .before .before .log2 .ensures .0,
       c
-          .before .before .before .before .before .before .before .before .log22 .ensures,
+          .before .before .before .before .before .before .before .before .log22 .ensures .0,
       c .before .before .before .before .before .before .before
-          .log23 .ensures,
+          .log23 .ensures .0,
     ))
 
 pub of-outer-spec : {M : Type 1} → statement M

@@ -44,37 +44,37 @@ log2-requires c κs = search needs
 
 mul-a : tie.Need-mul-a
 mul-a c = let x = c .before .before .before .before .before .before .before .before .before .before .args in let f = inner-fits (x .m) (now (x .lens)) (now (x .proof)) (now (x .draws)) (now (x .s)) (x .t) (sym (c .before .before .of-inner .ensures) ∙ c .before .if1 .left)
-    in let z = f .sizes in let k = c .log2 .ensures in omega (arith, k, z .few, z .segments, z .columns .high)
+    in let z = f .sizes in let k = c .log2 .ensures .0 in omega (arith, k, z .few, z .segments, z .columns .high)
 
 add-a : tie.Need-add-a
 add-a c = let x = c .before .before .before .before .before .before .before .before .before .before .args in let f = inner-fits (x .m) (now (x .lens)) (now (x .proof)) (now (x .draws)) (now (x .s)) (x .t) (sym (c .before .before .of-inner .ensures) ∙ c .before .if1 .left)
-    in let z = f .sizes in let k = c .log2 .ensures in omega (arith, k, z .few, z .segments, z .columns .high)
+    in let z = f .sizes in let k = c .log2 .ensures .0 in omega (arith, k, z .few, z .segments, z .columns .high)
 
 add-a-2 : tie.Need-add-a-2
 add-a-2 c = let x = c .before .before .before .before .before .before .before .before .before .before .args in let f = inner-fits (x .m) (now (x .lens)) (now (x .proof)) (now (x .draws)) (now (x .s)) (x .t) (sym (c .before .before .of-inner .ensures) ∙ c .before .if1 .left)
-    in let z = f .sizes in let k = c .log2 .ensures in omega (arith, k, z .few, z .segments, z .columns .high)
+    in let z = f .sizes in let k = c .log2 .ensures .0 in omega (arith, k, z .few, z .segments, z .columns .high)
 
 mul-a-2 : tie.Need-mul-a-2
 mul-a-2 c = let x = c .before .before .before .before .before .before .before .before .before .before .args in let f = inner-fits (x .m) (now (x .lens)) (now (x .proof)) (now (x .draws)) (now (x .s)) (x .t) (sym (c .before .before .of-inner .ensures) ∙ c .before .if1 .left)
-    in let z = f .sizes in let k = c .log2 .ensures in omega (arith, k, z .few, z .segments, z .columns .high)
+    in let z = f .sizes in let k = c .log2 .ensures .0 in omega (arith, k, z .few, z .segments, z .columns .high)
 
 mul-d : tie.Need-mul-d
 mul-d c = let x = c .before .before .before .before .before .before .before .before .before .before .args in let f = inner-fits (x .m) (now (x .lens)) (now (x .proof)) (now (x .draws)) (now (x .s)) (x .t) (sym (c .before .before .of-inner .ensures) ∙ c .before .if1 .left)
-    in let z = f .sizes in let k = c .log2 .ensures in omega (arith, k, z .few, z .segments, z .columns .high)
+    in let z = f .sizes in let k = c .log2 .ensures .0 in omega (arith, k, z .few, z .segments, z .columns .high)
 
 mul-e : tie.Need-mul-e
 mul-e c = let x = c .before .before .before .before .before .before .before .before .before .before .args in let f = inner-fits (x .m) (now (x .lens)) (now (x .proof)) (now (x .draws)) (now (x .s)) (x .t) (sym (c .before .before .of-inner .ensures) ∙ c .before .if1 .left)
-    in let z = f .sizes in let k = c .log2 .ensures in omega (arith, k, z .few, z .segments, z .columns .high)
+    in let z = f .sizes in let k = c .log2 .ensures .0 in omega (arith, k, z .few, z .segments, z .columns .high)
 
 slice-relend-prefix-run : tie.Need-slice-relend-prefix-run
 slice-relend-prefix-run c = let x = c .before .before .before .before .before .before .before .before .before .before .args in let f =
     inner-fits (x .m) (now (x .lens)) (now (x .proof)) (now (x .draws)) (now (x .s)) (x .t) (sym (c .before .before .of-inner .ensures)
-    ∙ c .before .if1 .left) in let z = f .sizes in let k = c .log2 .ensures in omega (arith, k, f .sent)
+    ∙ c .before .if1 .left) in let z = f .sizes in let k = c .log2 .ensures .0 in omega (arith, k, f .sent)
 
 slice-aggregate-run : tie.Need-slice-aggregate-run
 slice-aggregate-run c = let x = c .before .before .before .before .before .before .before .before .before .before .before .args in let f =
     inner-fits (x .m) (now (x .lens)) (now (x .proof)) (now (x .draws)) (now (x .s)) (x .t) (sym (c .before .before .before .of-inner
-    .ensures) ∙ c .before .before .if1 .left) in let z = f .sizes in let k = c .before .log2 .ensures in sym (length-take-le _ _ (omega (
+    .ensures) ∙ c .before .before .if1 .left) in let z = f .sizes in let k = c .before .log2 .ensures .0 in sym (length-take-le _ _ (omega (
       arith,
       k,
       f
@@ -84,30 +84,30 @@ slice-aggregate-run c = let x = c .before .before .before .before .before .befor
 slice-relend-prefix-run-2 : tie.Need-slice-relend-prefix-run-2
 slice-relend-prefix-run-2 c = let x = c .before .before .before .before .before .before .before .before .before .before .before .args in let
     f = inner-fits (x .m) (now (x .lens)) (now (x .proof)) (now (x .draws)) (now (x .s)) (x .t) (sym (c .before .before .before
-    .of-inner .ensures) ∙ c .before .before .if1 .left) in let z = f .sizes in let k = c .before .log2 .ensures in omega (arith, k, f .drawn)
+    .of-inner .ensures) ∙ c .before .before .if1 .left) in let z = f .sizes in let k = c .before .log2 .ensures .0 in omega (arith, k, f .drawn)
 
 slice-aggregate-run-2 : tie.Need-slice-aggregate-run-2
 slice-aggregate-run-2 c = let x = c .before .before .before .before .before .before .before .before .before .before .before .before .args in
     let f = inner-fits (x .m) (now (x .lens)) (now (x .proof)) (now (x .draws)) (now (x .s)) (x .t) (sym (c .before .before .before
-    .before .of-inner .ensures) ∙ c .before .before .before .if1 .left) in let z = f .sizes in let k = c .before .before .log2 .ensures in sym
+    .before .of-inner .ensures) ∙ c .before .before .before .if1 .left) in let z = f .sizes in let k = c .before .before .log2 .ensures .0 in sym
     (length-take-le _ _ (omega (arith, k, f .drawn)))
 
 slice-relend-prefix-run-3 : tie.Need-slice-relend-prefix-run-3
 slice-relend-prefix-run-3 c = let x = c .before .before .before .before .before .before .before .before .before .before .before .before .args
     in let f = inner-fits (x .m) (now (x .lens)) (now (x .proof)) (now (x .draws)) (now (x .s)) (x .t) (sym (c .before .before .before
-    .before .of-inner .ensures) ∙ c .before .before .before .if1 .left) in let z = f .sizes in let k = c .before .before .log2 .ensures in omega
+    .before .of-inner .ensures) ∙ c .before .before .before .if1 .left) in let z = f .sizes in let k = c .before .before .log2 .ensures .0 in omega
     (arith, f .scratch)
 
 slice-aggregate-run-3 : tie.Need-slice-aggregate-run-3
 slice-aggregate-run-3 c = let x = c .before .before .before .before .before .before .before .before .before .before .before .before .before .args in let f = inner-fits (x .m) (now (x .lens)) (now (x .proof)) (now (x .draws)) (now (x .s)) (x .t) (sym (c .before .before
     .before .before .before .of-inner .ensures) ∙ c .before .before .before .before .if1 .left) in let z = f .sizes in let k = c .before .before
-    .before .log2 .ensures in sym (length-take-le _ _ (omega (arith, f .scratch)))
+    .before .log2 .ensures .0 in sym (length-take-le _ _ (omega (arith, f .scratch)))
 
 run-requires : tie.Need-run-requires
 run-requires c κs = let x = c .before .before .before .before .before .before .before .before .before .before .before .before .before .args
     in let f = inner-fits (x .m) (now (x .lens)) (now (x .proof)) (now (x .draws)) (now (x .s)) (x .t) (sym (c .before .before .before
     .before .before .of-inner .ensures) ∙ c .before .before .before .before .if1 .left) in let z = f .sizes in let k = c .before .before .before
-    .log2 .ensures in let r = ready (x .m) (now (x .lens)) (c .before .before .before .log2 .result) k z in
+    .log2 .ensures .0 in let r = ready (x .m) (now (x .lens)) (c .before .before .before .log2 .result) k z in
     let l : length (take (6 * x .m) (now (x .s))) ≡ 12 * (x .m / 2) = length-take-le (6 * x .m) (now (x .s)) (f .scratch) ∙ omega (arith, r .double) in (
       (l, r .some, r .most, r .rounds, r .few),
       (
@@ -137,7 +137,7 @@ returns-2 c = let x = c .before .before .before .before .before .before .before 
     .before .before .before .before .before .before .args in let f = inner-fits (x .m) (now (x .lens)) (now (x .proof)) (now (x .draws))
     (now (x .s)) (x .t) (sym (c .before .before .before .before .before .before .before .before .before .before .before .before .of-inner .ensures) ∙
     c .before .before .before .before .before .before .before .before .before .before .before .if1 .left) in let z = f .sizes in let k = c .before
-    .before .before .before .before .before .before .before .before .before .log2 .ensures in let r = ready (x .m) (now (x .lens)) (c
+    .before .before .before .before .before .before .before .before .before .log2 .ensures .0 in let r = ready (x .m) (now (x .lens)) (c
     .before .before .before .before .before .before .before .before .before .before .log2 .result) k z in
     let e : _≡_ {A = ℕ} 0 (innerRoundsRefusal (x .m) (now (x .lens)) (now (x .proof)) (now (x .draws)) (now (x .s)) (x .t)) = sym (sym
     (c .before .before .before .before .before .before .before .before .before .before .before .before .of-inner .ensures) ∙ c .before .before

@@ -22,7 +22,7 @@ log2-requires : tie.Need-log2-requires
 log2-requires c κs = search needs
 
 mul-k : tie.Need-mul-k
-mul-k c = let l = c .before .before .before .before .before .pre .1 in omega (arith, c .log2 .ensures, l .few)
+mul-k c = let l = c .before .before .before .before .before .pre .1 in omega (arith, c .log2 .ensures .0, l .few)
 
 mul-a : tie.Need-mul-a
 mul-a c = search needs
@@ -34,7 +34,7 @@ add-e : tie.Need-add-e
 add-e c = let l = c .before .before .before .before .before .pre .1 in omega (arith, l .most)
 
 slice-aggregate-build : tie.Need-slice-aggregate-build
-slice-aggregate-build c = let l = c .before .before .before .before .before .before .pre .1 in sym (length-take-le _ _ (omega (arith, c .before .log2 .ensures, l .drawn)))
+slice-aggregate-build c = let l = c .before .before .before .before .before .before .pre .1 in sym (length-take-le _ _ (omega (arith, c .before .log2 .ensures .0, l .drawn)))
 
 mul-build : tie.Need-mul-build
 mul-build c = search needs
@@ -73,10 +73,10 @@ returns c =
     let x = s .args in
     let n = getD (now (x .lens)) (x .i) 0 in
     let h : 2 * x .w + 2 * n ≤ length (now (x .s)) = omega (arith, s .pre .1 .most) in
-    let point = local-point (x .w) n (g .result) (now (x .draws)) (now (x .s)) (g .ensures) (s .pre .1) (omega (arith, s .pre .1 .most)) in
+    let point = local-point (x .w) n (g .result) (now (x .draws)) (now (x .s)) (g .ensures .0) (s .pre .1) (omega (arith, s .pre .1 .most)) in
     let built = b .build .ensures .1 ∙ eq-built _ _ point in (
-      c .segment-dot .ensures ∙ segment-sum (x .w) n (g .result) (x .i) (now (x .lens)) (now (x .draws)) (now (x .s)) (b .build .last .1 .0) (g .ensures) refl (s .pre .1) h built,
-      columns-kept (x .w) n (g .result) (x .i) (now (x .lens)) (now (x .draws)) (now (x .s)) (b .build .last .1 .0) (g .ensures) refl (s .pre .1) h built,
+      c .segment-dot .ensures ∙ segment-sum (x .w) n (g .result) (x .i) (now (x .lens)) (now (x .draws)) (now (x .s)) (b .build .last .1 .0) (g .ensures .0) refl (s .pre .1) h built,
+      columns-kept (x .w) n (g .result) (x .i) (now (x .lens)) (now (x .draws)) (now (x .s)) (b .build .last .1 .0) (g .ensures .0) refl (s .pre .1) h built,
     )
 
 pub segment-value-spec : {M : Type 1} → statement M

@@ -62,14 +62,14 @@ sent-words-requires c κs = let z = (outer-fits (c .before .before .before .befo
     (now (c .before .before .before .before .before .before .before .before .before .before .before .args .s)) (c .before .before .before .before
     .before .before .before .before .before .before .before .args .t) (sym (c .before .before .before .before .of-outer .ensures) ∙ c .before .before
     .before .if1 .left)) .totals in (
-      omega (arith, c .before .before .log2 .ensures, logins-few (z .counts)),
+      omega (arith, c .before .before .log2 .ensures .0, logins-few (z .counts)),
       omega (
         arith,
         c .before .log22
-            .ensures,
+            .ensures .0,
         bin-few (z .counts),
       ),
-      omega (arith, c .log23 .ensures, fld-few (z .counts)),
+      omega (arith, c .log23 .ensures .0, fld-few (z .counts)),
     )
 
 drawn-words-requires : tie.Need-drawn-words-requires
@@ -83,14 +83,14 @@ drawn-words-requires c κs = let z = (outer-fits (c .before .before .before .bef
       omega (
         arith,
         c .before .before
-            .before .log2 .ensures,
+            .before .log2 .ensures .0,
         logins-few (z .counts),
       ),
-      omega (arith, c .before .before .log22 .ensures, bin-few (z .counts)),
+      omega (arith, c .before .before .log22 .ensures .0, bin-few (z .counts)),
       omega (
         arith,
         c .before
-            .log23 .ensures,
+            .log23 .ensures .0,
         fld-few (z .counts),
       ),
     )
@@ -139,10 +139,10 @@ slice-relend-prefix-run c = let f = outer-fits (c .before .before .before .befor
       arith,
       c .before .before .before
           .before .sent-words .ensures,
-      c .before .before .before .before .before .before .before .log2 .ensures,
+      c .before .before .before .before .before .before .before .log2 .ensures .0,
       c .before .before .before .before .before
-          .before .log22 .ensures,
-      c .before .before .before .before .before .log23 .ensures,
+          .before .log22 .ensures .0,
+      c .before .before .before .before .before .log23 .ensures .0,
       f .sent,
     ))
 
@@ -160,10 +160,10 @@ slice-aggregate-run c = let f = outer-fits (c .before .before .before .before .b
       arith,
       c .before .before .before .before .before .sent-words .ensures,
       c .before .before
-          .before .before .before .before .before .before .log2 .ensures,
-      c .before .before .before .before .before .before .before .log22 .ensures,
+          .before .before .before .before .before .before .log2 .ensures .0,
+      c .before .before .before .before .before .before .before .log22 .ensures .0,
       c
-          .before .before .before .before .before .before .log23 .ensures,
+          .before .before .before .before .before .before .log23 .ensures .0,
       f .sent,
     )))
 
@@ -181,10 +181,10 @@ slice-relend-prefix-run-2 c = let f = outer-fits (c .before .before .before .bef
       arith,
       c .before .before .before .before .drawn-words .ensures,
       c .before .before .before .before .before
-          .before .before .before .log2 .ensures,
-      c .before .before .before .before .before .before .before .log22 .ensures,
+          .before .before .before .log2 .ensures .0,
+      c .before .before .before .before .before .before .before .log22 .ensures .0,
       c .before .before .before
-          .before .before .before .log23 .ensures,
+          .before .before .before .log23 .ensures .0,
       f .drawn,
     ))
 
@@ -202,10 +202,10 @@ slice-aggregate-run-2 c = let f = outer-fits (c .before .before .before .before 
       arith,
       c .before .before .before .before .before .drawn-words .ensures,
       c .before .before .before .before .before .before .before .before
-          .before .log2 .ensures,
-      c .before .before .before .before .before .before .before .before .log22 .ensures,
+          .before .log2 .ensures .0,
+      c .before .before .before .before .before .before .before .before .log22 .ensures .0,
       c .before .before .before .before
-          .before .before .before .log23 .ensures,
+          .before .before .before .log23 .ensures .0,
       f .drawn,
     )))
 
@@ -255,27 +255,27 @@ run-requires c κs = let f = outer-fits (c .before .before .before .before .befo
     .before .before .before .before .before .before .args .s)) (c .before .before .before .before .before .before .before .before .before .before
     .before .before .before .before .before .before .before .before .before .args .t) (sym (c .before .before .before .before .before .before .before
     .before .before .before .before .before .of-outer .ensures) ∙ c .before .before .before .before .before .before .before .before .before .before
-    .before .if1 .left) in blocks-lent (c .before .before .before .before .before .before .before .before .before .before .log2 .ensures) (c .before
-    .before .before .before .before .before .before .before .before .log22 .ensures) (c .before .before .before .before .before .before .before
-    .before .log23 .ensures) (c .before .before .before .before .table-words .ensures) (c .before .before .before .table-words2 .ensures)
+    .before .if1 .left) in blocks-lent (c .before .before .before .before .before .before .before .before .before .before .log2 .ensures .0) (c .before
+    .before .before .before .before .before .before .before .before .log22 .ensures .0) (c .before .before .before .before .before .before .before
+    .before .log23 .ensures .0) (c .before .before .before .before .table-words .ensures) (c .before .before .before .table-words2 .ensures)
     (length-take-le _ _ (omega (
       arith,
       c .before .before .before .before .before .before .before .sent-words .ensures,
       c .before .before .before
-          .before .before .before .before .before .before .before .log2 .ensures,
+          .before .before .before .before .before .before .before .log2 .ensures .0,
       c .before .before .before .before .before .before .before .before .before
-          .log22 .ensures,
-      c .before .before .before .before .before .before .before .before .log23 .ensures,
+          .log22 .ensures .0,
+      c .before .before .before .before .before .before .before .before .log23 .ensures .0,
       f .sent,
     )) ∙ c .before .before .before .before
     .before .before .before .sent-words .ensures) (length-take-le _ _ (omega (
       arith,
       c .before .before .before .before .before .before .drawn-words
           .ensures,
-      c .before .before .before .before .before .before .before .before .before .before .log2 .ensures,
+      c .before .before .before .before .before .before .before .before .before .before .log2 .ensures .0,
       c .before .before .before .before
-          .before .before .before .before .before .log22 .ensures,
-      c .before .before .before .before .before .before .before .before .log23 .ensures,
+          .before .before .before .before .before .log22 .ensures .0,
+      c .before .before .before .before .before .before .before .before .log23 .ensures .0,
       f
           .drawn,
     )) ∙ c .before .before .before .before .before .before .drawn-words .ensures) (length-take-le _ _ (omega (
@@ -338,9 +338,9 @@ returns-2 c = let f = outer-fits (c .before .before .before .before .before .bef
     .before .before .before .before .before .before .before .before .before .before .before .args .s)) (c .before .before .before .before .before
     .before .before .before .before .before .before .before .before .before .before .before .before .before .before .before .before .before
     .before .before .before .before .args .t) (c .before .before .before .before .before .before .before .before .before .before .before .before
-    .before .before .before .before .before .log2 .ensures) (c .before .before .before .before .before .before .before .before .before .before
-    .before .before .before .before .before .before .log22 .ensures) (c .before .before .before .before .before .before .before .before .before
-    .before .before .before .before .before .before .log23 .ensures) (c .before .before .before .before .before .before .before .before .before
+    .before .before .before .before .before .log2 .ensures .0) (c .before .before .before .before .before .before .before .before .before .before
+    .before .before .before .before .before .before .log22 .ensures .0) (c .before .before .before .before .before .before .before .before .before
+    .before .before .before .before .before .before .log23 .ensures .0) (c .before .before .before .before .before .before .before .before .before
     .before .before .table-words .ensures) (c .before .before .before .before .before .before .before .before .before .before .table-words2
     .ensures) (c .before .before .before .before .before .before .before .before .before .before .before .before .block-words .ensures) in
     let a : length (c .before .before .before .before .before .before .run .last .1 .1 .1 .1 .1 .0) ≡ c .before .before .before .before .before
@@ -350,11 +350,11 @@ returns-2 c = let f = outer-fits (c .before .before .before .before .before .bef
       c .before .before .before .before .before .before .before .before
           .before .before .before .before .before .before .sent-words .ensures,
       c .before .before .before .before .before .before .before .before
-          .before .before .before .before .before .before .before .before .before .log2 .ensures,
+          .before .before .before .before .before .before .before .before .before .log2 .ensures .0,
       c .before .before .before .before .before .before
-          .before .before .before .before .before .before .before .before .before .before .log22 .ensures,
+          .before .before .before .before .before .before .before .before .before .before .log22 .ensures .0,
       c .before .before .before .before .before
-          .before .before .before .before .before .before .before .before .before .before .log23 .ensures,
+          .before .before .before .before .before .before .before .before .before .before .log23 .ensures .0,
       f .sent,
     )) in
     let d : length (c .before .before .before .before .before .before .run .last .1 .1 .1 .1 .1 .1 .0) ≡ c .before .before .before .before .before
@@ -364,11 +364,11 @@ returns-2 c = let f = outer-fits (c .before .before .before .before .before .bef
       c .before .before .before .before .before .before .before .before .before
           .before .before .before .before .drawn-words .ensures,
       c .before .before .before .before .before .before .before .before .before .before
-          .before .before .before .before .before .before .before .log2 .ensures,
+          .before .before .before .before .before .before .before .log2 .ensures .0,
       c .before .before .before .before .before .before .before .before
-          .before .before .before .before .before .before .before .before .log22 .ensures,
+          .before .before .before .before .before .before .before .before .log22 .ensures .0,
       c .before .before .before .before .before .before .before
-          .before .before .before .before .before .before .before .before .log23 .ensures,
+          .before .before .before .before .before .before .before .before .log23 .ensures .0,
       f .drawn,
     )) in
     let l : length (take (c .before .before .before .before .before .before .before .before .before .before .before .before .block-words .result)
@@ -401,12 +401,12 @@ returns-2 c = let f = outer-fits (c .before .before .before .before .before .bef
               c .before .before
                   .before .before .before .before .before .before .before .before .before .before .before .before .sent-words .ensures,
               c .before .before
-                  .before .before .before .before .before .before .before .before .before .before .before .before .before .before .before .log2 .ensures,
+                  .before .before .before .before .before .before .before .before .before .before .before .before .before .before .before .log2 .ensures .0,
               c
                   .before .before .before .before .before .before .before .before .before .before .before .before .before .before .before .before .log22
-                  .ensures,
+                  .ensures .0,
               c .before .before .before .before .before .before .before .before .before .before .before .before .before .before .before
-                  .log23 .ensures,
+                  .log23 .ensures .0,
               f .sent,
             )) (λ i. omega (arith, c .before .before .before .before .slice-known4 .given i)) ∙ (ap (λ (p : Steps). overlaid
             (words (p .sent)) (now (c .before .before .before .before .before .before .before .before .before .before .before .before .before .before
@@ -427,11 +427,11 @@ returns-2 c = let f = outer-fits (c .before .before .before .before .before .bef
                     .before .before .before .before .before .before .before .before .before .before .before .before .before .drawn-words .ensures,
                 c
                     .before .before .before .before .before .before .before .before .before .before .before .before .before .before .before .before .before
-                    .log2 .ensures,
+                    .log2 .ensures .0,
                 c .before .before .before .before .before .before .before .before .before .before .before .before .before .before
-                    .before .before .log22 .ensures,
+                    .before .before .log22 .ensures .0,
                 c .before .before .before .before .before .before .before .before .before .before .before .before
-                    .before .before .before .log23 .ensures,
+                    .before .before .before .log23 .ensures .0,
                 f .drawn,
               )) (λ i. omega (arith, c .before .before .slice-known5 .given i)) ∙ (ap (λ (p :
               Steps). overlaid (words (p .played .draws)) (now (c .before .before .before .before .before .before .before .before .before .before

@@ -39,7 +39,7 @@ third s = let x = s .args in roomTest (maskCount (mat s) (x .q) (x .v)) (now (x 
 
 late : (c : tie.After-note3) → c .note3 .result ≡ noted 0 (second (c .before .before .before .before .before .before .before .before .before .before .before .before .before))
 unfolding bitValued matrixOf
-late c = rw (c .note3 .ensures, c .before .note2 .ensures, c .before .before .note .ensures, c .before .before .before .bit-valued .ensures, c .before .before .before .before .log2 .ensures)
+late c = rw (c .note3 .ensures, c .before .note2 .ensures, c .before .before .note .ensures, c .before .before .before .bit-valued .ensures, c .before .before .before .before .log2 .ensures .0)
 
 -- what is known once the tests have passed
 ok : (c : tie.Else1) → let s = c .before .before .before .before .before .before .before .before in Batched (mat s) (now (s .args .packed)) [] (s .args .q) (s .args .w)
@@ -60,7 +60,7 @@ fits c =
 -- the two powers
 low-small : (c : tie.Else2) → c .before .before .before .before .before .log2 .result - c .before .before .before .before .before .before .before
     .before .before .before .before .before .before .before .args .v < 64
-low-small c = omega (arith, c .before .before .before .before .before .log2 .ensures, fits c .powers .small)
+low-small c = omega (arith, c .before .before .before .before .before .log2 .ensures .0, fits c .powers .small)
 
 high-is : (c : tie.After-power-of-two2) → c .power-of-two2 .result ≡ 2 ^ c .before .before .before .before .before .before .before .before .before
     .before .before .before .before .before .before .before .args .v
@@ -70,7 +70,7 @@ low-is : (c : tie.After-power-of-two2) → let x = c .before .before .before .be
     .before .before .before .before .args in c .before .power-of-two .result ≡ 2 ^ (log₂ (x .q) - x .v)
 low-is c = c .before .power-of-two .ensures ∙ power-is _ (low-small (c .before .before)) ∙ ap (λ (k : ℕ). 2 ^ (k - c .before .before .before .before
     .before .before .before .before .before .before .before .before .before .before .before .before .args .v)) (c .before .before .before .before
-    .before .before .before .log2 .ensures)
+    .before .before .before .log2 .ensures .0)
 
 low-most : (c : tie.After-power-of-two2) → c .before .power-of-two .result ≤ 4096
 low-most c = rw (low-is c) (fits (c .before .before) .powers .lows)
@@ -113,7 +113,7 @@ returns-2 c =
     (e, turned _ _ e (c .if2 .taken))
 
 sub-power-of-two : tie.Need-sub-power-of-two
-sub-power-of-two c = rw (c .before .before .before .before .before .log2 .ensures) (fits c .most)
+sub-power-of-two c = rw (c .before .before .before .before .before .log2 .ensures .0) (fits c .most)
 
 power-of-two-requires : tie.Need-power-of-two-requires
 power-of-two-requires c κs = search needs

@@ -33,7 +33,7 @@ rest s = let x = s .args in lengthTest (2 * log₂ (x .rows)) (now (x .point)) +
 
 -- what they give
 late : (c : tie.After-note3) → c .note3 .result ≡ noted 0 (rest (c .before .before .before .before .before .before .before .before .before .before .before .before .before))
-late c = rw (c .note3 .ensures, c .before .note2 .ensures, c .before .before .note .ensures, c .before .before .before .log2 .ensures)
+late c = rw (c .note3 .ensures, c .before .note2 .ensures, c .before .before .note .ensures, c .before .before .before .log2 .ensures .0)
 
 -- what is known once nothing is refused
 matrix-fits : (c : tie.Else2) → Lone (mat (c .before .before .before .before .before .before .before .before .before .before .before .before .before .before))
@@ -65,7 +65,7 @@ log2-requires c κs = search needs
 mul-note : tie.Need-mul-note
 mul-note c =
     let z = lone (mat (c .before .before .before .before .before .before .before .before .before .before)) (sym (c .before .before .lone .ensures) ∙ c .before .if1 .left) .rows-size in
-    omega (arith, c .log2 .ensures, log-most _ (z .high) (z .power))
+    omega (arith, c .log2 .ensures .0, log-most _ (z .high) (z .power))
 
 note-requires : tie.Need-note-requires
 note-requires c κs = search needs

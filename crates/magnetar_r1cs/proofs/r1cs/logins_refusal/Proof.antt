@@ -7,6 +7,7 @@ use native.Mathlib.Omega.{arith}
 use lib.Dec.{ltb}
 use Rattle.magnetar_layout.specs.Tests.{Tests, noted, sizeTests, packedTestsOf, publicTestsOf, loneRowTests}
 use Rattle.magnetar_layout.proofs.Noted.{noted-front, noted-late, noted-clear}
+use Rattle.magnetar_layout.proofs.Laid.{half-size}
 use Rattle.magnetar_layout.proofs.SizeLaws.{not-bad}
 use Rattle.magnetar_matrix.proofs.LoginParts.{product-most, words-most}
 use Rattle.magnetar_matrix.proofs.Blocks.{product-fits}
@@ -25,10 +26,10 @@ abbrev third : tie.Start → Tests
 third s = (4, ltb 1048576 (s .args .q * s .args .n)) ∷ []
 
 early : (c : tie.After-note2) → c .note2 .result ≡ noted 0 (first (c .before .before .before .before))
-early c = rw (c .note2 .ensures, c .before .is-size .ensures, c .before .before .note .ensures, c .before .before .before .is-half .ensures)
+early c = rw (c .note2 .ensures, c .before .is-size2 .ensures, c .before .before .note .ensures, c .before .before .before .is-size .ensures, half-size (c .before .before .before .before .args .w))
 
 middle : (c : tie.After-note5) → c .note5 .result ≡ noted 0 (second (c .before .before .before .before .before .before .before .before .before .before))
-middle c = rw (c .note5 .ensures, c .before .is-size2 .ensures, c .before .before .note4 .ensures, c .before .before .before .note3 .ensures, c .before .before .before .before .login-words .ensures)
+middle c = rw (c .note5 .ensures, c .before .is-size3 .ensures, c .before .before .note4 .ensures, c .before .before .before .note3 .ensures, c .before .before .before .before .login-words .ensures)
 
 record Small (s : tie.Start) : Type 0 where
   least : 1 ≤ s .args .w
@@ -45,14 +46,14 @@ rows-most : (c : tie.Else2) → (c .before .before .before .before .before .befo
 rows-most c = not-bad (noted-clear 0 (second (c .before .before .before .before .before .before .before .before .before .before .before)) refl (sym
     (middle (c .before)) ∙ c .if2 .left) .1 .1 .1 .0) .high
 
-is-half-requires : tie.Need-is-half-requires
-is-half-requires c κs = search needs
+is-size-requires : tie.Need-is-size-requires
+is-size-requires c κs = search needs
 
 note-requires : tie.Need-note-requires
 note-requires c κs = search needs
 
-is-size-requires : tie.Need-is-size-requires
-is-size-requires c κs = search needs
+is-size-requires-2 : tie.Need-is-size-requires-2
+is-size-requires-2 c κs = search needs
 
 note-requires-2 : tie.Need-note-requires-2
 note-requires-2 c κs = search needs
@@ -80,8 +81,8 @@ sub-note c = omega (arith, small (c .before .before) .least)
 note-requires-4 : tie.Need-note-requires-4
 note-requires-4 c κs = search needs
 
-is-size-requires-2 : tie.Need-is-size-requires-2
-is-size-requires-2 c κs = search needs
+is-size-requires-3 : tie.Need-is-size-requires-3
+is-size-requires-3 c κs = search needs
 
 note-requires-5 : tie.Need-note-requires-5
 note-requires-5 c κs = search needs
@@ -110,9 +111,9 @@ pub logins-refusal-spec : {M : Type 1} → statement M
 logins-refusal-spec =
     tie.close
     (tie.spec
-    is-half-requires
-    note-requires
     is-size-requires
+    note-requires
+    is-size-requires-2
     note-requires-2
     returns
     login-words-requires
@@ -121,7 +122,7 @@ logins-refusal-spec =
     mul-note-2
     sub-note
     note-requires-4
-    is-size-requires-2
+    is-size-requires-3
     note-requires-5
     returns-2
     mul-note-3

@@ -8,6 +8,7 @@ use lib.ListN.{drop}
 use denote.Ref.{now}
 use Rattle.magnetar_layout.specs.Tests.{Tests, noted, sizeTests, packedTests, loneRowTests, rowsTests, matrixColumnTests, counted, placed}
 use Rattle.magnetar_layout.proofs.Noted.{noted-front, noted-late, noted-clear}
+use Rattle.magnetar_layout.proofs.Laid.{half-size}
 use Rattle.magnetar_layout.proofs.SizeLaws.{not-bad}
 use Rattle.magnetar_matrix.specs.Lent.{Lent, lent}
 use Rattle.magnetar_matrix.proofs.LoginParts.{product-most, words-most}
@@ -30,10 +31,10 @@ abbrev third : tie.Start → Tests
 third s = drop 1 (rowsTests (s .args .q) (s .args .rows)) ++ matrixColumnTests (2 * s .args .w) (s .args .cols) ++ counted (mat s) ++ placed (mat s)
 
 early : (c : tie.After-note2) → c .note2 .result ≡ noted 0 (first (c .before .before .before .before .before .before .before .before .before))
-early c = rw (c .note2 .ensures, c .before .is-size .ensures, c .before .before .note .ensures, c .before .before .before .is-half .ensures)
+early c = rw (c .note2 .ensures, c .before .is-size2 .ensures, c .before .before .note .ensures, c .before .before .before .is-size .ensures, half-size (c .before .before .before .before .before .before .before .before .before .args .w))
 
 middle : (c : tie.After-note4) → c .note4 .result ≡ noted 0 (second (c .before .before .before .before .before .before .before .before .before .before .before .before .before .before))
-middle c = rw (c .note4 .ensures, c .before .is-size2 .ensures, c .before .before .note3 .ensures, c .before .before .before .login-words .ensures)
+middle c = rw (c .note4 .ensures, c .before .is-size3 .ensures, c .before .before .note3 .ensures, c .before .before .before .login-words .ensures)
 
 late : (c : tie.After-places) → c .places .result ≡ noted 0 (third (c .before .before .before .before .before .before .before .before .before .before
     .before .before .before .before .before .before .before .before .before))
@@ -53,14 +54,14 @@ rows-most : (c : tie.Else2) → c .before .before .before .before .before .befor
 rows-most c = not-bad (noted-clear 0 (second (c .before .before .before .before .before .before .before .before .before .before .before .before
     .before .before .before)) refl (sym (middle (c .before)) ∙ c .if2 .left) .1 .1 .0) .high
 
-is-half-requires : tie.Need-is-half-requires
-is-half-requires c κs = search needs
+is-size-requires : tie.Need-is-size-requires
+is-size-requires c κs = search needs
 
 note-requires : tie.Need-note-requires
 note-requires c κs = search needs
 
-is-size-requires : tie.Need-is-size-requires
-is-size-requires c κs = search needs
+is-size-requires-2 : tie.Need-is-size-requires-2
+is-size-requires-2 c κs = search needs
 
 note-requires-2 : tie.Need-note-requires-2
 note-requires-2 c κs = search needs
@@ -81,8 +82,8 @@ mul-note c = omega (
 note-requires-3 : tie.Need-note-requires-3
 note-requires-3 c κs = search needs
 
-is-size-requires-2 : tie.Need-is-size-requires-2
-is-size-requires-2 c κs = search needs
+is-size-requires-3 : tie.Need-is-size-requires-3
+is-size-requires-3 c κs = search needs
 
 note-requires-4 : tie.Need-note-requires-4
 note-requires-4 c κs = search needs
@@ -127,15 +128,15 @@ pub matrix-refusal-spec : {M : Type 1} → statement M
 matrix-refusal-spec =
     tie.close
     (tie.spec
-    is-half-requires
-    note-requires
     is-size-requires
+    note-requires
+    is-size-requires-2
     note-requires-2
     returns
     login-words-requires
     mul-note
     note-requires-3
-    is-size-requires-2
+    is-size-requires-3
     note-requires-4
     returns-2
     mul-note-2

@@ -10,6 +10,7 @@ use Rattle.magnetar_layout.proofs.Noted.{noted-front, noted-late}
 use Rattle.magnetar_matrix.proofs.Blocks.{product-fits}
 use Rattle.magnetar_r1cs.specs.Entries.{loginsTests}
 use Rattle.magnetar_r1cs.proofs.Lone.{Logins, logins-clear}
+use Rattle.magnetar_records.proofs.RecordLaws.{note-same}
 use Rattle.magnetar_records.specs.LoginSteps.{packedRoomTests}
 use borrow.Author.Needs.{needs}
 use Rattle.magnetar_records.proofs.logins.packed_refusal.Statement.{statement}
@@ -40,11 +41,11 @@ mul-note c = omega (arith, passed c .half)
 note-requires : tie.Need-note-requires
 note-requires c κs = search needs
 
-counts-requires : tie.Need-counts-requires
-counts-requires c κs = search needs
-
 note-requires-2 : tie.Need-note-requires-2
 note-requires-2 c κs = search needs
+
+note-requires-3 : tie.Need-note-requires-3
+note-requires-3 c κs = search needs
 
 mul-note-2 : tie.Need-mul-note-2
 mul-note-2 c = omega (arith, passed (c .before .before .before) .rows .high)
@@ -55,15 +56,15 @@ mul-note-3 c =
     let x = c .before .before .before .before .before .args in
     omega (arith, product-fits (x .q) (2 * x .rows) (k .logins .high) (omega (arith, k .rows .high)))
 
-note-requires-3 : tie.Need-note-requires-3
-note-requires-3 c κs = search needs
+note-requires-4 : tie.Need-note-requires-4
+note-requires-4 c κs = search needs
 
 returns-2 : tie.Need-returns-2
 returns-2 c =
     let d = c .before .before .before .before in
     let s = d .before .before in
     noted-late (first s) (second s) _ _ (d .before .logins-refusal .ensures) (d .if1 .left)
-    (rw (c .note3 .ensures, c .before .note2 .ensures, c .before .before .counts .ensures, c .before .before .before .note .ensures))
+    (rw (c .note4 .ensures, c .before .note3 .ensures, c .before .before .note2 .ensures, c .before .before .before .note .ensures, note-same, note-same, note-same))
 
 pub packed-refusal-spec : {M : Type 1} → statement M
 packed-refusal-spec =
@@ -73,9 +74,9 @@ packed-refusal-spec =
     returns
     mul-note
     note-requires
-    counts-requires
     note-requires-2
+    note-requires-3
     mul-note-2
     mul-note-3
-    note-requires-3
+    note-requires-4
     returns-2)

@@ -15,17 +15,20 @@ returns c =
     let p = loginPart (x .w) (now (x .packed)) (x .u) in
     flip-none (x .w) p (x .t) (x .e .col) (x .e .lo) (c .if1 .taken) ∙ flip-entry (x .w) p (x .t) (x .e .row) (x .e .col) (x .e .lo) (x .e .hi)
 
-login-bit-requires : tie.Need-login-bit-requires
-login-bit-requires c κs = search needs
+part-requires : tie.Need-part-requires
+part-requires c κs = search needs
+
+bit-at-requires : tie.Need-bit-at-requires
+bit-at-requires c κs = search needs
 
 shifted-requires : tie.Need-shifted-requires
 shifted-requires c κs = search needs
 
 returns-2 : tie.Need-returns-2
 returns-2 c =
-    let x = c .before .before .before .before .before .before .before .args in
+    let x = c .before .before .before .before .before .before .before .before .args in
     let p = loginPart (x .w) (now (x .packed)) (x .u) in
-    rw (c .shifted .ensures, c .before .login-bit .ensures .0)
+    rw (c .shifted .ensures, c .before .bit-at .ensures .0, c .before .before .part .ensures)
     (flip-bit (x .w) p (x .t) (x .e .col) (x .e .lo) (omega arith) (omega arith) (omega arith) ∙ flip-entry (x .w) p (x .t) (x .e .row) (x .e .col) (x .e .lo) (x .e .hi))
 
 shifted-requires-2 : tie.Need-shifted-requires-2
@@ -43,7 +46,8 @@ flip-of-spec =
     tie.close
     (tie.spec
     returns
-    login-bit-requires
+    part-requires
+    bit-at-requires
     shifted-requires
     returns-2
     shifted-requires-2

@@ -41,7 +41,7 @@ returns c =
       c .before .lows .ensures,
       c .before .before .note4 .ensures,
       d .note3 .ensures,
-      d .before .log2 .ensures,
+      d .before .log2 .ensures .0,
       d .before
           .before .note2 .ensures,
       d .before .before .before .note .ensures,

@@ -22,12 +22,12 @@ returns : tie.Need-returns
 returns c =
     let x = c .before .before .before .args in
     let l : log₂ (x .q) - x .v < 64 = omega (arith, log₂-lt (x .q) (omega arith)) in
-    rw (c .power-of-two .ensures, c .before .before .log2 .ensures, power-is _ l)
+    rw (c .power-of-two .ensures, c .before .before .log2 .ensures .0, power-is _ l)
 
 returns-2 : tie.Need-returns-2
 returns-2 c =
     let x = c .before .before .args in
-    let e : log₂ (x .q) - x .v ≡ 0 = omega (arith, c .before .log2 .ensures) in
+    let e : log₂ (x .q) - x .v ≡ 0 = omega (arith, c .before .log2 .ensures .0) in
     rw e
 
 pub lows-spec : {M : Type 1} → statement M

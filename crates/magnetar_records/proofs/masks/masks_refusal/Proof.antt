@@ -8,10 +8,12 @@ use native.Mathlib.Omega.{arith}
 use lib.Dec.{eqb, ltb}
 use Rattle.magnetar_layout.specs.Tests.{Tests, noted, sizeTests, loneRowTests, matrixColumnTests, countTests}
 use Rattle.magnetar_layout.proofs.Noted.{noted-front, noted-late, noted-clear}
+use Rattle.magnetar_layout.proofs.Laid.{half-size}
 use Rattle.magnetar_layout.proofs.SizeLaws.{not-bad}
 use Rattle.magnetar_matrix.specs.Packed.{loginWords}
 use Rattle.magnetar_matrix.proofs.LoginParts.{product-most, words-most}
 use Rattle.magnetar_matrix.proofs.Blocks.{product-fits}
+use Rattle.magnetar_records.proofs.RecordLaws.{note-same}
 use Rattle.magnetar_records.specs.MaskSteps.{lastOf}
 use borrow.Author.Needs.{needs}
 use Rattle.magnetar_records.proofs.masks.masks_refusal.Statement.{statement}
@@ -32,13 +34,13 @@ third s =
     (4, ltb 1048576 (x .q * x .rows)) ∷ (matrixColumnTests (2 * x .w) (x .cols) ++ countTests (x .n) (x .n) (x .n) (x .n) ++ lastOf (x .rows) (x .inside) (x .bits) (x .q) (x .v) (x .out))
 
 early : (c : tie.After-note2) → c .note2 .result ≡ noted 0 (first (c .before .before .before .before))
-early c = cc
+early c = let h = half-size (c .before .before .before .before .args .w) in cc
 
 middle : (c : tie.After-note4) → c .note4 .result ≡ noted 0 (second (c .before .before .before .before .before .before .before .before .before))
 middle c = cc
 
 late : (c : tie.After-last-tests) → c .last-tests .result ≡ noted 0 (third (c .before .before .before .before .before .before .before .before .before .before .before .before .before .before))
-late c = c .last-tests .ensures ∙ rw (c .before .counts .ensures, c .before .before .note6 .ensures, c .before .before .before .note5 .ensures)
+late c = c .last-tests .ensures ∙ rw (c .before .note7 .ensures, c .before .before .note6 .ensures, c .before .before .before .note5 .ensures, note-same, note-same, note-same)
 
 record Small (s : tie.Start) : Type 0 where
   half : s .args .w ≤ 32768
@@ -56,14 +58,14 @@ rows-most c =
     let s = c .before .before .before .before .before .before .before .before .before .before in
     not-bad (noted-clear 0 (second s) refl (sym (middle (c .before)) ∙ c .if2 .left) .1 .1 .0) .high
 
-is-half-requires : tie.Need-is-half-requires
-is-half-requires c κs = search needs
+is-size-requires : tie.Need-is-size-requires
+is-size-requires c κs = search needs
 
 note-requires : tie.Need-note-requires
 note-requires c κs = search needs
 
-is-size-requires : tie.Need-is-size-requires
-is-size-requires c κs = search needs
+is-size-requires-2 : tie.Need-is-size-requires-2
+is-size-requires-2 c κs = search needs
 
 note-requires-2 : tie.Need-note-requires-2
 note-requires-2 c κs = search needs
@@ -83,8 +85,8 @@ mul-note c =
 note-requires-3 : tie.Need-note-requires-3
 note-requires-3 c κs = search needs
 
-is-size-requires-2 : tie.Need-is-size-requires-2
-is-size-requires-2 c κs = search needs
+is-size-requires-3 : tie.Need-is-size-requires-3
+is-size-requires-3 c κs = search needs
 
 note-requires-4 : tie.Need-note-requires-4
 note-requires-4 c κs = search needs
@@ -109,8 +111,8 @@ mul-note-3 c = omega (arith, small (c .before .before .before .before .before .b
 note-requires-6 : tie.Need-note-requires-6
 note-requires-6 c κs = search needs
 
-counts-requires : tie.Need-counts-requires
-counts-requires c κs = search needs
+note-requires-7 : tie.Need-note-requires-7
+note-requires-7 c κs = search needs
 
 last-tests-requires : tie.Need-last-tests-requires
 last-tests-requires c κs =
@@ -128,21 +130,21 @@ pub masks-refusal-spec : {M : Type 1} → statement M
 masks-refusal-spec =
     tie.close
     (tie.spec
-    is-half-requires
-    note-requires
     is-size-requires
+    note-requires
+    is-size-requires-2
     note-requires-2
     returns
     login-words-requires
     mul-note
     note-requires-3
-    is-size-requires-2
+    is-size-requires-3
     note-requires-4
     returns-2
     mul-note-2
     note-requires-5
     mul-note-3
     note-requires-6
-    counts-requires
+    note-requires-7
     last-tests-requires
     returns-3)

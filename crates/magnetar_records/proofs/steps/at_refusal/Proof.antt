@@ -27,7 +27,7 @@ mul-note c =
     let k = noted-clear 0 (loneOf (x .rows) (x .cols) (x .n) (x .inside)) refl (sym (c .before .before .lone .ensures) ∙ c .before .if1 .left) .1 in
     let m = not-bad (k .0) in
     let n = not-bad (k .1 .0) in
-    omega (arith, c .log2 .ensures, log-most _ (n .high) (n .power))
+    omega (arith, c .log2 .ensures .0, log-most _ (n .high) (n .power))
 
 note-requires : tie.Need-note-requires
 note-requires c κs = search needs
@@ -41,7 +41,7 @@ mul-note-2 c =
     let k = noted-clear 0 (loneOf (x .rows) (x .cols) (x .n) (x .inside)) refl (sym (c .before .before .before .before .lone .ensures) ∙ c .before .before .before .if1 .left) .1 in
     let m = not-bad (k .0) in
     let n = not-bad (k .1 .0) in
-    omega (arith, c .log22 .ensures, log-most _ (m .high) (m .power))
+    omega (arith, c .log22 .ensures .0, log-most _ (m .high) (m .power))
 
 note-requires-2 : tie.Need-note-requires-2
 note-requires-2 c κs = search needs
@@ -70,7 +70,7 @@ returns-2 c =
     let x = c .before .before .before .before .before .before .before .args in
     let d = c .before .before .before .before in
     noted-late (loneOf (x .rows) (x .cols) (x .n) (x .inside)) (atTests (x .rows) (x .cols) (x .r) (x .c) (x .s)) _ _ (d .before .before .lone .ensures)
-    (d .before .if1 .left) (rw (c .note3 .ensures, c .before .note2 .ensures, c .before .before .log22 .ensures, c .before .before .before .note .ensures, d .log2 .ensures))
+    (d .before .if1 .left) (rw (c .note3 .ensures, c .before .note2 .ensures, c .before .before .log22 .ensures .0, c .before .before .before .note .ensures, d .log2 .ensures .0))
 
 pub at-refusal-spec : {M : Type 1} → statement M
 at-refusal-spec =

@@ -1,5 +1,6 @@
 -- `magnetar_records::steps::lone` meets its contract.
 -- Assumes nothing.
+use Rattle.magnetar_records.proofs.RecordLaws.{note-same}
 use borrow.Author.Needs.{needs}
 use Rattle.magnetar_records.proofs.steps.lone.Statement.{statement}
 use Rattle.magnetar_records.proofs.steps.lone.Tie as tie
@@ -16,16 +17,16 @@ is-size-requires-2 c κs = search needs
 note-requires-2 : tie.Need-note-requires-2
 note-requires-2 c κs = search needs
 
-counts-requires : tie.Need-counts-requires
-counts-requires c κs = search needs
-
 note-requires-3 : tie.Need-note-requires-3
 note-requires-3 c κs = search needs
+
+note-requires-4 : tie.Need-note-requires-4
+note-requires-4 c κs = search needs
 
 returns : tie.Need-returns
 returns c =
     let d = c .before .before .before in
-    rw (c .note3 .ensures, c .before .counts .ensures, c .before .before .note2 .ensures, d .is-size2 .ensures, d .before .note .ensures, d .before .before .is-size .ensures)
+    rw (c .note4 .ensures, c .before .note3 .ensures, c .before .before .note2 .ensures, d .is-size2 .ensures, d .before .note .ensures, d .before .before .is-size .ensures, note-same, note-same, note-same)
 
 pub lone-spec : {M : Type 1} → statement M
 lone-spec =
@@ -35,6 +36,6 @@ lone-spec =
     note-requires
     is-size-requires-2
     note-requires-2
-    counts-requires
     note-requires-3
+    note-requires-4
     returns)

@@ -27,7 +27,7 @@ mul-note c =
     let k = noted-clear 0 (loneOf (x .rows) (x .cols) (x .n) (x .inside)) refl (sym (c .before .before .lone .ensures) ∙ c .before .if1 .left) .1 in
     let m = not-bad (k .0) in
     let n = not-bad (k .1 .0) in
-    omega (arith, c .log2 .ensures, log-most _ (n .high) (n .power))
+    omega (arith, c .log2 .ensures .0, log-most _ (n .high) (n .power))
 
 note-requires : tie.Need-note-requires
 note-requires c κs = search needs
@@ -59,7 +59,7 @@ returns-2 c =
     let x = c .before .before .before .before .before .before .args in
     noted-late (loneOf (x .rows) (x .cols) (x .n) (x .inside)) (tableTests (x .rows) (x .cols) (x .p) (x .out) (x .s)) _ _
     (c .before .before .before .before .before .lone .ensures) (c .before .before .before .before .if1 .left)
-    (rw (c .note3 .ensures, c .before .note2 .ensures, c .before .before .note .ensures, c .before .before .before .log2 .ensures))
+    (rw (c .note3 .ensures, c .before .note2 .ensures, c .before .before .note .ensures, c .before .before .before .log2 .ensures .0))
 
 pub table-refusal-spec : {M : Type 1} → statement M
 table-refusal-spec =

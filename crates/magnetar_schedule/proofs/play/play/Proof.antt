@@ -39,9 +39,9 @@ returns : tie.Need-returns
 returns c =
     let a = c .before .before .before .before .before .before .before .before .before .before .before .before .before .before .before .before .args in
     run-all (a .m) (a .q) (a .rb) (a .rf) (a .lens .now) (a .t) (c .before .before .before .before .before .before .before .before .before .before
-    .before .before .log2 .ensures) (c .before .before .before .before .before .before .before .before .before .before .before .log22 .ensures)
-    (c .before .before .before .before .before .before .before .before .before .before .log23 .ensures)
-    (c .before .before .before .before .before .log24 .ensures) refl (c .before .before .before .before .before .before .before .before .outer .ensures) (c .before .before .before .inner .ensures)
+    .before .before .log2 .ensures .0) (c .before .before .before .before .before .before .before .before .before .before .before .log22 .ensures .0)
+    (c .before .before .before .before .before .before .before .before .before .before .log23 .ensures .0)
+    (c .before .before .before .before .before .log24 .ensures .0) refl (c .before .before .before .before .before .before .before .before .outer .ensures) (c .before .before .before .inner .ensures)
 
 pub play-spec : {M : Type 1} → statement M
 play-spec =

@@ -11,8 +11,8 @@ use Rattle.magnetar_spartan.proofs.combine.run_alphas.Tie as tie
 fld-at-requires : tie.Need-fld-at-requires
 fld-at-requires c κs = search needs
 
-log-requires : tie.Need-log-requires
-log-requires c κs = search needs
+log2-requires : tie.Need-log2-requires
+log2-requires c κs = search needs
 
 mul-k : tie.Need-mul-k
 mul-k c = search needs
@@ -49,8 +49,8 @@ returns c =
     let f = l .before in
     let s = f .before in
     let x = s .args in
-    let k = f .fld-at .result + 2 * l .log .result in
-    let e : k ≡ alphasAt (x .q) (x .sh .bin .a .rows) (x .sh .fld .a .rows) = rw (f .fld-at .ensures .0, l .log .ensures .0) in
+    let k = f .fld-at .result + 2 * l .log2 .result in
+    let e : k ≡ alphasAt (x .q) (x .sh .bin .a .rows) (x .sh .fld .a .rows) = rw (f .fld-at .ensures .0, l .log2 .ensures .0) in
     window-is 12 k (a .least .result) (x .t3) _ (a .least .ensures .0) (r .alphas12 .ensures) ∙ ap (λ (i : ℕ). window 12 i (x .t3)) e
 
 pub run-alphas-spec : {M : Type 1} → statement M
@@ -58,7 +58,7 @@ run-alphas-spec =
     tie.close
     (tie.spec
     fld-at-requires
-    log-requires
+    log2-requires
     mul-k
     add-k
     least-requires

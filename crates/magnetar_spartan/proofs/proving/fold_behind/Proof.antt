@@ -9,14 +9,14 @@ use borrow.Author.Needs.{needs}
 use Rattle.magnetar_spartan.proofs.proving.fold_behind.Statement.{statement}
 use Rattle.magnetar_spartan.proofs.proving.fold_behind.Tie as tie
 
-log-requires : tie.Need-log-requires
-log-requires c κs = search needs
+log2-requires : tie.Need-log2-requires
+log2-requires c κs = search needs
 
-log-requires-2 : tie.Need-log-requires-2
-log-requires-2 c κs = search needs
+log2-requires-2 : tie.Need-log2-requires-2
+log2-requires-2 c κs = search needs
 
-log-requires-3 : tie.Need-log-requires-3
-log-requires-3 c κs = search needs
+log2-requires-3 : tie.Need-log2-requires-3
+log2-requires-3 c κs = search needs
 
 add-k : tie.Need-add-k
 add-k c = search needs
@@ -54,9 +54,9 @@ same-length c = search needs
 returns : tie.Need-returns
 returns c =
     let x = c .before .before .before .before .before .before .before .before .before .before .before .before .before .before .args in
-    let l = c .before .before .before .before .before .before .before .before .before .before .log in
-    let b = c .before .before .before .before .before .before .before .before .before .log2 in
-    let f = c .before .before .before .before .before .before .before .before .log3 in
+    let l = c .before .before .before .before .before .before .before .before .before .before .log2 in
+    let b = c .before .before .before .before .before .before .before .before .before .log22 in
+    let f = c .before .before .before .before .before .before .before .before .log23 in
     let k : ℕ = l .result + b .result + (l .result + f .result) in
     let e : k ≡ loginAt (x .q) (x .rb) (x .rf) = rw (l .ensures .0, b .ensures .0, f .ensures .0) in
     fold-left (x .q) _ (l .result) (c .before .before .before .before .before .before .before .least .result) k (loginAt (x .q) (x .rb) (x .rf)) (now
@@ -67,9 +67,9 @@ pub fold-behind-spec : {M : Type 1} → statement M
 fold-behind-spec =
     tie.close
     (tie.spec
-    log-requires
-    log-requires-2
-    log-requires-3
+    log2-requires
+    log2-requires-2
+    log2-requires-3
     add-k
     add-k-2
     add-k-3

@@ -5,11 +5,11 @@ use borrow.Author.Needs.{needs}
 use Rattle.magnetar_spartan.proofs.refusal.claim_words.Statement.{statement}
 use Rattle.magnetar_spartan.proofs.refusal.claim_words.Tie as tie
 
-log-requires : tie.Need-log-requires
-log-requires c κs = search needs
+log2-requires : tie.Need-log2-requires
+log2-requires c κs = search needs
 
-log-requires-2 : tie.Need-log-requires-2
-log-requires-2 c κs = search needs
+log2-requires-2 : tie.Need-log2-requires-2
+log2-requires-2 c κs = search needs
 
 sub-result : tie.Need-sub-result
 sub-result c = omega arith
@@ -29,4 +29,4 @@ returns c = search needs
 pub claim-words-spec : {M : Type 1} → statement M
 claim-words-spec =
     tie.close
-    (tie.spec log-requires log-requires-2 sub-result add-result add-result-2 mul-result returns)
+    (tie.spec log2-requires log2-requires-2 sub-result add-result add-result-2 mul-result returns)

@@ -6,14 +6,14 @@ use borrow.Author.Needs.{needs}
 use Rattle.magnetar_spartan.proofs.stages.lay_public.Statement.{statement}
 use Rattle.magnetar_spartan.proofs.stages.lay_public.Tie as tie
 
-log-requires : tie.Need-log-requires
-log-requires c κs = search needs
+log2-requires : tie.Need-log2-requires
+log2-requires c κs = search needs
 
-log-requires-2 : tie.Need-log-requires-2
-log-requires-2 c κs = search needs
+log2-requires-2 : tie.Need-log2-requires-2
+log2-requires-2 c κs = search needs
 
-log-requires-3 : tie.Need-log-requires-3
-log-requires-3 c κs = search needs
+log2-requires-3 : tie.Need-log2-requires-3
+log2-requires-3 c κs = search needs
 
 add-k : tie.Need-add-k
 add-k c = search needs
@@ -55,15 +55,15 @@ returns c =
     let f = n .before in
     let b = f .before in
     let l = b .before in
-    rw (← l .log .ensures .0, ← b .log2 .ensures .0, ← f .log3 .ensures .0, ← n .least .ensures .0) (a .lay-at .ensures)
+    rw (← l .log2 .ensures .0, ← b .log22 .ensures .0, ← f .log23 .ensures .0, ← n .least .ensures .0) (a .lay-at .ensures)
 
 pub lay-public-spec : {M : Type 1} → statement M
 lay-public-spec =
     tie.close
     (tie.spec
-    log-requires
-    log-requires-2
-    log-requires-3
+    log2-requires
+    log2-requires-2
+    log2-requires-3
     add-k
     add-k-2
     add-k-3

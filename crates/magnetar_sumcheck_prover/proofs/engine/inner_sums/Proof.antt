@@ -19,7 +19,7 @@ abbrev μ-loop : tie.MeasureT-loop
 μ-loop t z v n s₀ i₀ s i = n - i
 
 loop-holds : tie.Need-loop-holds Inv-loop μ-loop
-unfolding sums innerSumsAt Sum.sumTo
+unfolding sums innerSumsAt Sum.sumBelow
 loop-holds c = search needs
 
 inner-step-requires : tie.Need-inner-step-requires Inv-loop μ-loop

@@ -33,7 +33,7 @@ returns-3 c = let x = c .before .before .before .before .args in rw (
   eq-eqb (x .words % 2) 0
       (c .before .before .before .if1 .left),
   ← c .before .before .is-power-of-two .ensures,
-  c .log2 .ensures,
+  c .log2 .ensures .0,
   not-false
       (c .before .before .is-power-of-two .result) (c .before .if2 .left),
 )

@@ -20,7 +20,7 @@ abbrev μ-loop : tie.MeasureT-loop
 μ-loop e a b c v n s₀ i₀ s i = n - i
 
 loop-holds : tie.Need-loop-holds Inv-loop μ-loop
-unfolding sums outerSums Outer.weighted Sum.sumTo
+unfolding sums outerSums Outer.weighted Sum.sumBelow
 loop-holds c = search needs
 
 outer-step-requires : tie.Need-outer-step-requires Inv-loop μ-loop

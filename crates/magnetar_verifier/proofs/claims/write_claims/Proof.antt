@@ -59,10 +59,10 @@ claims-refusal-requires c κs =
     let a = b .before in
     let t = a .before .before .before .before .before .before .before in
     let x = t .args in (
-      log-small (x .q) (a .log2 .result) (a .log2 .ensures) (q-word t),
-      log-small (x .rb) (b .log22 .result) (b .log22 .ensures) (rb-word t),
-      log-small (x .rf) (f .log23 .result) (f .log23 .ensures) (rf-word t),
-      log-small (x .m) (k .log24 .result) (k .log24 .ensures) (m-word t),
+      log-small (x .q) (a .log2 .result) (a .log2 .ensures .0) (q-word t),
+      log-small (x .rb) (b .log22 .result) (b .log22 .ensures .0) (rb-word t),
+      log-small (x .rf) (f .log23 .result) (f .log23 .ensures .0) (rf-word t),
+      log-small (x .m) (k .log24 .result) (k .log24 .ensures .0) (m-word t),
       c .less-one .ensures,
     )
 
@@ -76,8 +76,8 @@ returns-2 c =
     let a = b .before in
     let x = a .before .before .before .before .before .before .before .args in
     claims-refused (x .m) (x .q) (x .rb) (x .rf) (now (x .lens)) (now (x .proof)) (now (x .draws)) (now (x .claims)) (a .log2 .result) (b .log22 .result)
-    (f .log23 .result) (k .log24 .result) (n .less-one .result) (z .claims-refusal .result) (a .log2 .ensures) (b .log22 .ensures)
-    (f .log23 .ensures) (k .log24 .ensures) (n .less-one .ensures) (z .claims-refusal .ensures) (a .before .before .size-refusal .result)
+    (f .log23 .result) (k .log24 .result) (n .less-one .result) (z .claims-refusal .result) (a .log2 .ensures .0) (b .log22 .ensures .0)
+    (f .log23 .ensures .0) (k .log24 .ensures .0) (n .less-one .ensures) (z .claims-refusal .ensures) (a .before .before .size-refusal .result)
     (a .before .before .size-refusal .ensures) (a .before .if1 .left) (c .if2 .taken)
 
 -- what the guard leaves
@@ -94,8 +94,8 @@ given c =
     let a = b .before in
     let x = a .before .before .before .before .before .before .before .args in
     claims-fit (x .m) (x .q) (x .rb) (x .rf) (now (x .lens)) (now (x .proof)) (now (x .draws)) (now (x .claims)) (a .log2 .result) (b .log22 .result)
-    (f .log23 .result) (k .log24 .result) (n .less-one .result) (z .claims-refusal .result) (a .log2 .ensures) (b .log22 .ensures)
-    (f .log23 .ensures) (k .log24 .ensures) (n .less-one .ensures) (z .claims-refusal .ensures) (a .before .before .size-refusal .result)
+    (f .log23 .result) (k .log24 .result) (n .less-one .result) (z .claims-refusal .result) (a .log2 .ensures .0) (b .log22 .ensures .0)
+    (f .log23 .ensures .0) (k .log24 .ensures .0) (n .less-one .ensures) (z .claims-refusal .ensures) (a .before .before .size-refusal .result)
     (a .before .before .size-refusal .ensures) (a .before .if1 .left) (c .if2 .left)
 
 claim-words-requires : tie.Need-claim-words-requires
@@ -146,8 +146,8 @@ returns-3 c =
     let whole : words (elements front) ≡ front = words-elements front (drop need (now (x .claims))) (omega (arith, size, w .claim-words .ensures))
     (λ i. omega (arith, c .slice-known2 .given i)) in
     let r = claims-written (x .m) (x .q) (x .rb) (x .rf) (now (x .lens)) (now (x .proof)) (now (x .draws)) (now (x .claims)) (a .log2 .result) (b .log22 .result)
-    (f .log23 .result) (k .log24 .result) (n .less-one .result) (z .claims-refusal .result) (a .log2 .ensures) (b .log22 .ensures)
-    (f .log23 .ensures) (k .log24 .ensures) (n .less-one .ensures) (z .claims-refusal .ensures) (a .before .before .size-refusal .result)
+    (f .log23 .result) (k .log24 .result) (n .less-one .result) (z .claims-refusal .result) (a .log2 .ensures .0) (b .log22 .ensures .0)
+    (f .log23 .ensures .0) (k .log24 .ensures .0) (n .less-one .ensures) (z .claims-refusal .ensures) (a .before .before .size-refusal .result)
     (a .before .before .size-refusal .ensures) (a .before .if1 .left) (e .if2 .left) front whole (t .write-in .ensures) in
     (r .0, rw (w .claim-words .ensures) (r .1))
 

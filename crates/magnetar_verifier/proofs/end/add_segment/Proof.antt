@@ -13,7 +13,7 @@ log2-requires : tie.Need-log2-requires
 log2-requires c κs = search needs
 
 mul-a : tie.Need-mul-a
-mul-a c = omega (arith, c .log2 .ensures)
+mul-a c = omega (arith, c .log2 .ensures .0)
 
 mul-eq-number : tie.Need-mul-eq-number
 mul-eq-number c = search needs
@@ -44,7 +44,7 @@ returns c =
       c .before .mul .ensures,
       c .before .before .eq-number .ensures,
       behind (2 * l .log2 .result) (l .log2 .result) (now (x .low)) refl,
-      l .log2 .ensures,
+      l .log2 .ensures .0,
     )
 
 pub add-segment-spec : {M : Type 1} → statement M

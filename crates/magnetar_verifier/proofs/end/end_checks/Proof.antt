@@ -51,10 +51,10 @@ end-refusal-requires c κs =
     let a = b .before in
     let t = a .before .before .before .before .before .before .before in
     let x = t .args in (
-      log-small (x .q) (a .log2 .result) (a .log2 .ensures) (q-word t),
-      log-small (x .rb) (b .log22 .result) (b .log22 .ensures) (rb-word t),
-      log-small (x .rf) (f .log23 .result) (f .log23 .ensures) (rf-word t),
-      log-small (x .m) (c .log24 .result) (c .log24 .ensures) (m-word t),
+      log-small (x .q) (a .log2 .result) (a .log2 .ensures .0) (q-word t),
+      log-small (x .rb) (b .log22 .result) (b .log22 .ensures .0) (rb-word t),
+      log-small (x .rf) (f .log23 .result) (f .log23 .ensures .0) (rf-word t),
+      log-small (x .m) (c .log24 .result) (c .log24 .ensures .0) (m-word t),
       front-size (x .m) (x .q) (x .rb) (x .rf) (a .before .before .front-refusal .result) (a .before .before .front-refusal .ensures)
           (a .before .if1 .left),
     )
@@ -68,7 +68,7 @@ returns-2 c =
     let a = b .before in
     let x = a .before .before .before .before .before .before .before .args in
     end-refused (x .m) (x .q) (x .rb) (x .rf) (now (x .lens)) (now (x .proof)) (now (x .draws)) (now (x .s)) (a .log2 .result) (b .log22 .result)
-    (f .log23 .result) (k .log24 .result) (z .end-refusal .result) (a .log2 .ensures) (b .log22 .ensures) (f .log23 .ensures) (k .log24 .ensures)
+    (f .log23 .result) (k .log24 .result) (z .end-refusal .result) (a .log2 .ensures .0) (b .log22 .ensures .0) (f .log23 .ensures .0) (k .log24 .ensures .0)
     (z .end-refusal .ensures) (a .before .before .front-refusal .result) (a .before .before .front-refusal .ensures)
     (a .before .if1 .left) (c .if2 .taken)
 
@@ -83,7 +83,7 @@ enough c =
     let a = b .before in
     let x = a .before .before .before .before .before .before .before .args in
     end-room (x .m) (x .q) (x .rb) (x .rf) (now (x .lens)) (now (x .proof)) (now (x .draws)) (now (x .s)) (a .log2 .result) (b .log22 .result)
-    (f .log23 .result) (k .log24 .result) (z .end-refusal .result) (a .log2 .ensures) (b .log22 .ensures) (f .log23 .ensures) (k .log24 .ensures)
+    (f .log23 .result) (k .log24 .result) (z .end-refusal .result) (a .log2 .ensures .0) (b .log22 .ensures .0) (f .log23 .ensures .0) (k .log24 .ensures .0)
     (z .end-refusal .ensures) (a .before .before .front-refusal .result) (a .before .before .front-refusal .ensures)
     (a .before .if1 .left) (c .if2 .left)
 
@@ -106,7 +106,7 @@ end-phases-requires c κs =
     let x = a .before .before .before .before .before .before .before .args in
     let r = end-refusal-requires k (κs .0, tt) in (
       end-fits (x .m) (x .q) (x .rb) (x .rf) (now (x .lens)) (now (x .proof)) (now (x .draws)) (now (x .s)) (a .log2 .result) (b .log22 .result)
-          (f .log23 .result) (k .log24 .result) (z .end-refusal .result) (a .log2 .ensures) (b .log22 .ensures) (f .log23 .ensures) (k .log24 .ensures)
+          (f .log23 .result) (k .log24 .result) (z .end-refusal .result) (a .log2 .ensures .0) (b .log22 .ensures .0) (f .log23 .ensures .0) (k .log24 .ensures .0)
           (z .end-refusal .ensures) (a .before .before .front-refusal .result) (a .before .before .front-refusal .ensures)
           (a .before .if1 .left) (c .before .if2 .left) (r .0) (r .1) (r .2),
       rw length-take (omega (arith, enough (c .before))),
@@ -125,7 +125,7 @@ returns-3 c =
     let a = b .before in
     let x = a .before .before .before .before .before .before .before .args in
     end-answered (x .m) (x .q) (x .rb) (x .rf) (now (x .lens)) (now (x .proof)) (now (x .draws)) (now (x .s)) (a .log2 .result) (b .log22 .result)
-    (f .log23 .result) (k .log24 .result) (z .end-refusal .result) (a .log2 .ensures) (b .log22 .ensures) (f .log23 .ensures) (k .log24 .ensures)
+    (f .log23 .result) (k .log24 .result) (z .end-refusal .result) (a .log2 .ensures .0) (b .log22 .ensures .0) (f .log23 .ensures .0) (k .log24 .ensures .0)
     (z .end-refusal .ensures) (a .before .before .front-refusal .result) (a .before .before .front-refusal .ensures)
     (a .before .if1 .left) (e .before .before .if2 .left) (e .end-phases .result) (e .end-phases .last .1 .1 .1 .1 .0) (e .end-phases .ensures .0)
     (e .end-phases .ensures .1)

@@ -3,7 +3,7 @@
 use denote.Ref.{now}
 use native.Mathlib.Omega.{arith}
 use lib.ListN.{length}
-use Rattle.magnetar_verifier.proofs.Guards.{log-small, given}
+use Rattle.magnetar_verifier.proofs.Guards.{given}
 use Rattle.magnetar_verifier.proofs.OuterAnswer.{outer-size, outer-refused, outer-answered}
 use borrow.Author.Needs.{needs}
 use Rattle.magnetar_verifier.proofs.outer.outer_checks.Statement.{statement}
@@ -36,10 +36,10 @@ outer-refusal-requires c κs =
     let b = f .before in
     let s = b .before in
     let x = s .before .before .before .before .before .before .args in (
-      log-small (x .q) (s .log2 .result) (s .log2 .ensures) (search needs),
-      log-small (x .rb) (b .log22 .result) (b .log22 .ensures) (search needs),
-      log-small (x .rf) (f .log23 .result) (f .log23 .ensures) (search needs),
-      log-small (x .m) (c .log24 .result) (c .log24 .ensures) (search needs),
+      omega (arith, s .log2 .ensures .1),
+      omega (arith, b .log22 .ensures .1),
+      omega (arith, f .log23 .ensures .1),
+      omega (arith, c .log24 .ensures .1),
     )
 
 returns-2 : tie.Need-returns-2
@@ -51,8 +51,8 @@ returns-2 c =
     let s = b .before in
     let x = s .before .before .before .before .before .before .args in
     outer-refused (x .m) (x .q) (x .rb) (x .rf) (now (x .lens)) (now (x .proof)) (now (x .draws)) (s .log2 .result)
-    (b .log22 .result) (f .log23 .result) (k .log24 .result) (z .outer-refusal .result) (s .log2 .ensures) (b .log22 .ensures)
-    (f .log23 .ensures) (k .log24 .ensures) (z .outer-refusal .ensures) (s .before .before .size-refusal .result)
+    (b .log22 .result) (f .log23 .result) (k .log24 .result) (z .outer-refusal .result) (s .log2 .ensures .0) (b .log22 .ensures .0)
+    (f .log23 .ensures .0) (k .log24 .ensures .0) (z .outer-refusal .ensures) (s .before .before .size-refusal .result)
     (s .before .before .size-refusal .ensures) (s .before .if1 .left) (c .if2 .taken)
 
 outer-phases-requires : tie.Need-outer-phases-requires
@@ -77,8 +77,8 @@ returns-3 c =
     let s = b .before in
     let x = s .before .before .before .before .before .before .args in
     outer-answered (x .m) (x .q) (x .rb) (x .rf) (now (x .lens)) (now (x .proof)) (now (x .draws)) (s .log2 .result)
-    (b .log22 .result) (f .log23 .result) (k .log24 .result) (z .outer-refusal .result) (s .log2 .ensures) (b .log22 .ensures)
-    (f .log23 .ensures) (k .log24 .ensures) (z .outer-refusal .ensures) (s .before .before .size-refusal .result)
+    (b .log22 .result) (f .log23 .result) (k .log24 .result) (z .outer-refusal .result) (s .log2 .ensures .0) (b .log22 .ensures .0)
+    (f .log23 .ensures .0) (k .log24 .ensures .0) (z .outer-refusal .ensures) (s .before .before .size-refusal .result)
     (s .before .before .size-refusal .ensures) (s .before .if1 .left) (c .before .if2 .left) (c .outer-phases .result) (c .outer-phases .ensures)
 
 pub outer-checks-spec : {M : Type 1} → statement M

@@ -1,8 +1,8 @@
--- `magnetar_layout::tests::lone` meets its contract.
+-- `magnetar_r1cs::lent::lone` meets its contract.
 -- Assumes nothing.
 use borrow.Author.Needs.{needs}
-use Rattle.magnetar_layout.proofs.tests.lone.Statement.{statement}
-use Rattle.magnetar_layout.proofs.tests.lone.Tie as tie
+use Rattle.magnetar_r1cs.proofs.lent.lone.Statement.{statement}
+use Rattle.magnetar_r1cs.proofs.lent.lone.Tie as tie
 
 is-size-requires : tie.Need-is-size-requires
 is-size-requires c κs = search needs

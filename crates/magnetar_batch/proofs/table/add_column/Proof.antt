@@ -1,10 +1,10 @@
--- `magnetar_relation::step::add_column` meets its contract.
+-- `magnetar_batch::table::add_column` meets its contract.
 -- Assumes nothing.
 use mathlib.Core.Path.{_∙_}
 use Rattle.magnetar_relation.specs.Steps.{columnAdded}
 use borrow.Author.Needs.{needs}
-use Rattle.magnetar_relation.proofs.step.add_column.Statement.{statement}
-use Rattle.magnetar_relation.proofs.step.add_column.Tie as tie
+use Rattle.magnetar_batch.proofs.table.add_column.Statement.{statement}
+use Rattle.magnetar_batch.proofs.table.add_column.Tie as tie
 
 get-between-requires : tie.Need-get-between-requires
 get-between-requires c κs = search needs

@@ -1,6 +1,6 @@
--- `magnetar_layout::tests::all_below` meets its contract.
+-- `magnetar_r1cs::lent::all_below` meets its contract.
 -- Assumes nothing.
 use Rattle.magnetar_layout.proofs.EveryLaws.{Left, every-more, every-not, every-end}
 use mathlib.Core.Path.{refl}
 use Prim.Native.Nat.{_-_}
 use native.Mathlib.Omega.{arith}
@@ -8,8 +8,8 @@ use lib.Dec.{ltb}
 use lib.ListN.{length}
 use borrow.Author.Tests.{lt-ltb, le-ltb}
 use borrow.Author.Needs.{needs}
-use Rattle.magnetar_layout.proofs.tests.all_below.Statement.{statement}
-use Rattle.magnetar_layout.proofs.tests.all_below.Tie as tie
+use Rattle.magnetar_r1cs.proofs.lent.all_below.Statement.{statement}
+use Rattle.magnetar_r1cs.proofs.lent.all_below.Tie as tie
 
 abbrev Inv-loop : tie.InvT-loop
 Inv-loop s n i₀ i = Left (λ x. ltb x n) s i

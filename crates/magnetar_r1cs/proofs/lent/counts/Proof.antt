@@ -1,8 +1,8 @@
--- `magnetar_layout::tests::counts` meets its contract.
+-- `magnetar_r1cs::lent::counts` meets its contract.
 -- Assumes nothing.
 use borrow.Author.Needs.{needs}
-use Rattle.magnetar_layout.proofs.tests.counts.Statement.{statement}
-use Rattle.magnetar_layout.proofs.tests.counts.Tie as tie
+use Rattle.magnetar_r1cs.proofs.lent.counts.Statement.{statement}
+use Rattle.magnetar_r1cs.proofs.lent.counts.Tie as tie
 
 note-requires : tie.Need-note-requires
 note-requires c κs = search needs

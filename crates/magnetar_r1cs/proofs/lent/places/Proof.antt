@@ -1,10 +1,10 @@
--- `magnetar_layout::tests::places` meets its contract.
+-- `magnetar_r1cs::lent::places` meets its contract.
 -- Assumes nothing.
 use mathlib.Core.Path.{sym}
 use Rattle.magnetar_layout.proofs.Noted.{note-kept}
 use borrow.Author.Needs.{needs}
-use Rattle.magnetar_layout.proofs.tests.places.Statement.{statement}
-use Rattle.magnetar_layout.proofs.tests.places.Tie as tie
+use Rattle.magnetar_r1cs.proofs.lent.places.Statement.{statement}
+use Rattle.magnetar_r1cs.proofs.lent.places.Tie as tie
 
 returns : tie.Need-returns
 returns c = let h = c .if1 .taken in sym (simp note-kept)

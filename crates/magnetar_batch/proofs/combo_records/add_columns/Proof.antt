@@ -1,4 +1,4 @@
--- `magnetar_records::walks::add_columns` meets its contract, by the law for a loop over records (`EachNNNNMI.antt`).
+-- `magnetar_batch::combo_records::add_columns` meets its contract, by the law for a loop over records (`EachNNNNMI.antt`).
 -- Assumes nothing.
 use mathlib.Core.Path.{_≡_, refl, sym, _∙_, ap, subst}
 use Prim.Native.Nat.{ℕ}
@@ -15,23 +15,23 @@ use contract.Monad.{Fun, factI, fact-use}
 use contract.Running.{givenOf, tables, tablesOf}
 use denote.Triple.Spec.{tripleOf}
 use denote.Triple.Table.{entered, cited}
 use Rattle.magnetar_records.specs.declared.records.Entry.{Entry}
-use Rattle.magnetar_records.proofs.EachNNNNMI as each
-use Rattle.magnetar_records.proofs.steps.add_within as g
-use Rattle.magnetar_records.proofs.steps.add_within.Symbol as g-def
-use Rattle.magnetar_records.proofs.steps.add_within.Symbol.{name as #g}
-use Rattle.magnetar_records.proofs.steps.add_within.Met as g-thm
-use Rattle.magnetar_records.proofs.walks.add_columns.Key.{name as #f}
-use Rattle.magnetar_records.proofs.walks.add_columns as f
-use Rattle.magnetar_records.proofs.walks.add_columns.Statement as stated
-use Rattle.magnetar_records.proofs.walks.add_columns.Code as code
+use Rattle.magnetar_batch.proofs.EachNNNNMI as each
+use Rattle.magnetar_batch.proofs.combo_records.column_within as g
+use Rattle.magnetar_batch.proofs.combo_records.column_within.Symbol as g-def
+use Rattle.magnetar_batch.proofs.combo_records.column_within.Symbol.{name as #g}
+use Rattle.magnetar_batch.proofs.combo_records.column_within.Met as g-thm
+use Rattle.magnetar_batch.proofs.combo_records.add_columns.Key.{name as #f}
+use Rattle.magnetar_batch.proofs.combo_records.add_columns as f
+use Rattle.magnetar_batch.proofs.combo_records.add_columns.Statement as stated
+use Rattle.magnetar_batch.proofs.combo_records.add_columns.Code as code
 use mathlib.Core.Bool.{cond, _&&_}
 use lib.Dec.{leb, ltb}
 use Rattle.magnetar_matrix.specs.Matrix as matrix
 use Rattle.magnetar_relation.specs.Steps.{columnAdded}
 use Rattle.magnetar_relation.specs.Told.{walkedWithin}
 use Rattle.magnetar_relation.proofs.ToldLaws.{within-more, within-end}
 use Rattle.magnetar_records.specs.Records.{entryOf, entriesOfRecords}
 
 -- what one entry does
 abbrev one : each.Arg → matrix.Entry → List ℕ → List ℕ
@@ -61,4 +61,4 @@ add-columns-spec 𝓤 H 𝓜 𝓖 𝓡 =
     (tables 𝓤 H 𝓜 𝓡 code.env .C) (tables 𝓤 H 𝓜 𝓡 code.env .Λ) #f code.function (code.unfolded 𝓤 H 𝓜 𝓡)
     (each.each-meets 𝓤 H (𝓖 .A) (givenOf 𝓤 H 𝓜 𝓖) #g (f.clauses 𝓤 H (𝓖 .A) (𝓜 .mem) (𝓡 .run)) (g.clauses 𝓤 H (𝓖 .A) (𝓜 .mem) (𝓡 .run))
     Inv (holds 𝓤 H (𝓖 .A) (𝓜 .mem) (𝓡 .run)) (tablesOf 𝓤 H 𝓜 (tables 𝓤 H 𝓜 𝓡 code.env))
-    (cited 𝓤 H (tripleOf 𝓤 H (𝓖 .A) g.signature (g.spec 𝓤 H (𝓖 .A) (𝓜 .mem) (𝓡 .run))) 𝓜 𝓡 code.env #g g-def.routine code.calls-magnetar-records·steps·add-within (g-thm.met 𝓤 H 𝓜 𝓖 𝓡)))
+    (cited 𝓤 H (tripleOf 𝓤 H (𝓖 .A) g.signature (g.spec 𝓤 H (𝓖 .A) (𝓜 .mem) (𝓡 .run))) 𝓜 𝓡 code.env #g g-def.routine code.calls-magnetar-batch·combo-records·column-within (g-thm.met 𝓤 H 𝓜 𝓖 𝓡)))

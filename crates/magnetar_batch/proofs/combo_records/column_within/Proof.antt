@@ -1,9 +1,9 @@
--- `magnetar_records::steps::add_within` meets its contract.
+-- `magnetar_batch::combo_records::column_within` meets its contract.
 -- Assumes nothing.
 use borrow.Author.Tests.{lt-ltb, le-ltb, le-leb, lt-leb}
 use borrow.Author.Needs.{needs}
-use Rattle.magnetar_records.proofs.steps.add_within.Statement.{statement}
-use Rattle.magnetar_records.proofs.steps.add_within.Tie as tie
+use Rattle.magnetar_batch.proofs.combo_records.column_within.Statement.{statement}
+use Rattle.magnetar_batch.proofs.combo_records.column_within.Tie as tie
 
 add-column-requires : tie.Need-add-column-requires
 add-column-requires c κs = search needs
@@ -20,5 +20,5 @@ returns-2 c = rw (le-leb _ _ (c .before .if1 .taken), le-ltb _ _ (c .if2 .left))
 returns-3 : tie.Need-returns-3
 returns-3 c = rw (lt-leb _ _ (c .if1 .left))
 
-pub add-within-spec : {M : Type 1} → statement M
-add-within-spec = tie.close (tie.spec add-column-requires same-length returns returns-2 returns-3)
+pub column-within-spec : {M : Type 1} → statement M
+column-within-spec = tie.close (tie.spec add-column-requires same-length returns returns-2 returns-3)
