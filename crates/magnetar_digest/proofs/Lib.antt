@@ -1,0 +1,6 @@
+pub mod FedLaws
+pub mod Sizes
+pub mod Ends
+pub mod OneRelation
+pub mod Examples
+pub mod EachASponge
