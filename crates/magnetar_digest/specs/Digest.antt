@@ -62,7 +62,7 @@ digestAnswer R =
     record { code = digestRefusal R; digest = unlessRefused (digestRefusal R) (relationDigest R) noDigest }
 
 -- ---- what is proved of the bytes (proofs/OneRelation `one-relation`)
--- every number of the relation is a word of 64 bits, as every number that is lent is
+-- every number of the relation is a word of 64 bits, as it is where words are lent (proofs/LentWords `lent-words`)
 abbrev pub OfWords : Rules → Type 0
 OfWords R = (i : ℕ) → getD (relationNumbers R) i 0 < 2 ^ 64
 
