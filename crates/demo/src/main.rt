@@ -1,5 +1,6 @@
-// A vault of four logins: packed, checked row by row, proved and verified; then what goes wrong, and what is said about it. All that
-// is written stands in the file `stdout`.
+// A vault of four logins: packed, checked row by row, bound, proved and verified, and its claims checked; then what goes wrong, and what is
+// said about it. All that is written stands in the file `stdout`.
+mod opened;
 mod refusal;
 mod rules;
 mod text;
@@ -11,7 +12,9 @@ use magnetar_hash::transcript;
 use magnetar_hash::transcript::Transcript;
 
 fn print_vault(packed: &[u64]) {
-    print(b"A vault of 4 logins: packed into bits, checked row by row, proved, verified.\n\n");
+    print(
+        b"A vault of 4 logins: packed into bits, checked row by row, bound, proved, verified.\n\n",
+    );
     print(b"login   secret   saved   checksum   edition   packed\n");
     vault::print_login(packed, 0);
     vault::print_login(packed, 1);
@@ -75,49 +78,65 @@ fn print_sizes(proof: &[u64], claims: &[u64]) {
     print(b" claim words");
 }
 
-// The laptop's end, with the claims that the office has.
-fn verify(x: &[u64], proof: &[u64], office: &[u64]) {
+// The laptop's end, with the claims that the office has; then the claims against the bits.
+fn verify(packed: &[u64], x: &[u64], committed: [u8; 32], proof: &[u64], office: &[u64]) {
     let mut claims = [0u64; 20];
     let mut scratch = [0u64; 320];
-    let r = rules::verify(&mut claims, &mut scratch, 4, x, proof, vault::start());
+    let t = vault::start(x, committed);
+    let r = rules::verify(&mut claims, &mut scratch, 4, x, proof, t);
     print(b"verify     ");
     refusal::say(r.code, b"accepted");
     print_same(&claims, office);
     print_transcript(r.transcript);
+    print(b"claims     ");
+    opened::claims(packed, committed, &claims);
     print(b"\n");
 }
 
+// What both ends bind before the run.
+fn print_bound(committed: [u8; 32]) {
+    let digest = rules::digest();
+    print(b"commit     ");
+    text::bytes(&committed);
+    print(b", a hash of the packed words: it stands in for a commitment to the bits\n");
+    print(b"bind       rules ");
+    text::bytes(&digest);
+    print(b", commitment and public words go into both transcripts before any draw\n");
+}
+
+// What goes wrong, with the office's proof and claims.
+fn go_wrong(packed: &[u64], x: &[u64], committed: [u8; 32], proof: &[u64], claims: &[u64]) {
+    wrong::proofs(x, committed, proof);
+    wrong::exchange(packed, x, committed, proof, claims);
+    wrong::other_bits(packed, x, committed);
+    wrong::batches(packed, x);
+    wrong::sizes(packed, x, committed, proof);
+}
+
 // The office's end, then the laptop's, then what goes wrong.
-fn prove(packed: &[u64], x: &[u64]) {
+fn prove(packed: &[u64], x: &[u64], committed: [u8; 32]) {
     let mut proof = [0u64; 128];
     let mut claims = [0u64; 20];
     let mut scratch = [0u64; 1168];
-    let r = rules::prove(
-        &mut proof,
-        &mut claims,
-        &mut scratch,
-        4,
-        packed,
-        x,
-        vault::start(),
-    );
+    let t = vault::start(x, committed);
+    let r = rules::prove(&mut proof, &mut claims, &mut scratch, 4, packed, x, t);
     print(b"prove      ");
     refusal::say(r.code, b"done");
     print(b", ");
     print_sizes(&proof, &claims);
     print_transcript(r.transcript);
-    verify(x, &proof, &claims);
-    wrong::proofs(x, &proof);
-    wrong::batches(packed, x);
-    wrong::sizes(packed, x, &proof);
+    verify(packed, x, committed, &proof, &claims);
+    go_wrong(packed, x, committed, &proof, &claims);
 }
 
 fn main() {
     let packed = vault::logins();
     let x = vault::public();
+    let committed = vault::commitment(&packed);
     print_vault(&packed);
     print_rules();
     print(b"row check  ");
     wrong::check(&packed, &x);
-    prove(&packed, &x);
+    print_bound(committed);
+    prove(&packed, &x, committed);
 }

@@ -1,4 +1,4 @@
-// The rules of the vault as matrices, and the three calls on them. A row says (A z)(B z) = C z, z being a login's 32 bits, the constant 1
+// The rules of the vault as matrices, and the calls on them. A row says (A z)(B z) = C z, z being a login's 32 bits, the constant 1
 // at column 32, and the public elements: the office's key at column 33, its stamp at 34, zeros after them.
 //
 // bin, 16 rows:  0 to 3   (1 + s0)(1 + s1) = none of both, for each pair of the secret's bits
@@ -10,6 +10,7 @@
 //                1        (e0 + e1 x) * key = stamp
 use magnetar_batch::check;
 use magnetar_batch::check::RowCheck;
+use magnetar_digest::digest;
 use magnetar_hash::transcript::Transcript;
 use magnetar_hash::transcript::TranscriptAnswer;
 use magnetar_relation::shapes::Shape;
@@ -23,7 +24,7 @@ const BIN: usize = 16;
 
 const FLD: usize = 2;
 
-const SEGMENTS: [usize; 3] = [8, 4, 8];
+pub(crate) const SEGMENTS: [usize; 3] = [8, 4, 8];
 
 // The rows and columns of the entries of each matrix; those of row 8 of A of bin, the sum with the checksum, stand apart.
 const AB_ROW: [usize; 12] = [0, 0, 1, 1, 2, 2, 3, 3, 4, 5, 6, 7];
@@ -136,6 +137,15 @@ fn shapes() -> Shapes {
         c: shape(FLD, 1),
     };
     Shapes { bin, fld }
+}
+
+// The digest of the rules for four logins: sizes, segments and entries.
+pub(crate) fn digest() -> [u8; 32] {
+    let row = rows();
+    let col = cols();
+    let lo = lows();
+    let r = digest::relation_digest(M, 4, &SEGMENTS, shapes(), &row, &col, &lo, &HI);
+    r.digest
 }
 
 // The first row that fails.

@@ -25,3 +25,19 @@ pub(crate) fn aligned(n: u64) {
 pub(crate) fn hex(n: u64, digits: usize) {
     io::print_hex(STDOUT_FILENO, n, digits);
 }
+
+fn byte(b: u8) {
+    hex(b as u64, 2);
+}
+
+// The first eight bytes.
+pub(crate) fn bytes(s: &[u8; 32]) {
+    byte(s[0]);
+    byte(s[1]);
+    byte(s[2]);
+    byte(s[3]);
+    byte(s[4]);
+    byte(s[5]);
+    byte(s[6]);
+    byte(s[7]);
+}

@@ -1,5 +1,6 @@
 // A login as bits. Columns 0 to 7 are the secret, 8 says that it is saved, 9 is the checksum, 10 and 11 are the edition. Columns 16 to
 // 22 help the rule on empty secrets: 16 to 19 say that two of the secret's bits are both 0, 20 and 21 that four are, 22 that all are.
+use crate::rules;
 use crate::text;
 use crate::text::print;
 use magnetar_field::gf128;
@@ -86,10 +87,54 @@ pub(crate) fn public() -> [u64; 62] {
     x
 }
 
-// The transcript that both ends start with.
-pub(crate) fn start() -> Transcript {
-    let r = transcript::new(b"vault", b"monday", &[6]);
+// The commitment to the bits. A hash of the packed words stands in for it: a commitment scheme is not part of this repository.
+pub(crate) fn commitment(packed: &[u64]) -> [u8; 32] {
+    let t = transcript::new(b"vault bits", b"", &[]);
+    let r = transcript::absorb_field(t.transcript, b"bits", packed);
+    transcript::state_digest(r.transcript)
+}
+
+// One hash behind the other.
+fn joined(a: [u8; 32], b: [u8; 32]) -> [u8; 64] {
+    let mut out = [0u8; 64];
+    let mut i = 0;
+    while i < 32 {
+        out[i] = a[i];
+        out[i + 32] = b[i];
+        i += 1;
+    }
+    out
+}
+
+// The transcript that both ends start with, bound to the rules, to the commitment and to the public words before anything is drawn
+// from it.
+pub(crate) fn start(x: &[u64], committed: [u8; 32]) -> Transcript {
+    let parts = joined(rules::digest(), committed);
+    let t = transcript::new(b"vault", &parts, &[32, 32]);
+    let r = transcript::absorb_field(t.transcript, b"public words", x);
     r.transcript
+}
+
+// One that is bound to nothing: no end should start with it.
+pub(crate) fn unbound() -> Transcript {
+    let t = transcript::new(b"vault", b"", &[]);
+    t.transcript
+}
+
+// The public words with the key 0x1111, and with the stamp that leaves their value at r_low as it was: so the proof that these claims
+// are of still fits. The second and the third of the public half, key and stamp, weigh r0 (1 + r1) and (1 + r0) r1 times the same.
+pub(crate) fn exchanged(x: &[u64], claims: &[u64]) -> [u64; 62] {
+    let key = Gf128 { lo: 0x1111, hi: 0 };
+    let r0 = words::get(claims, 2);
+    let r1 = words::get(claims, 3);
+    let first = gf128::mul(r0, gf128::add(gf128::ONE, r1));
+    let second = gf128::mul(gf128::add(gf128::ONE, r0), r1);
+    let by = gf128::mul(gf128::add(key, words::get(x, 0)), first);
+    let more = gf128::mul(by, gf128::inv(second));
+    let mut other = [0u64; 62];
+    words::put(&mut other, 0, key);
+    words::put(&mut other, 1, gf128::add(words::get(x, 1), more));
+    other
 }
 
 // A login's line.

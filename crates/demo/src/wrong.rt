@@ -1,4 +1,6 @@
-// What goes wrong: a word of the proof, a login, a bit outside the segments, a size.
+// What goes wrong: a word of the proof, public words chosen after it, other bits than the committed ones, a login, a bit outside the
+// segments, a size.
+use crate::opened;
 use crate::refusal;
 use crate::rules;
 use crate::text;
@@ -6,6 +8,7 @@ use crate::text::print;
 use crate::vault;
 use magnetar_batch::check::RowCheck;
 use magnetar_field::words;
+use magnetar_hash::transcript::Transcript;
 
 fn print_place(u: usize, i: usize) {
     print(b"login ");
@@ -37,45 +40,45 @@ pub(crate) fn check(packed: &[u64], x: &[u64]) {
 }
 
 // What the laptop says about a proof of q logins; there is room for the claims of 8.
-fn verified(q: usize, x: &[u64], proof: &[u64]) {
+fn verified(q: usize, x: &[u64], proof: &[u64], t: Transcript) {
     let mut claims = [0u64; 22];
     let mut scratch = [0u64; 320];
-    let r = rules::verify(&mut claims, &mut scratch, q, x, proof, vault::start());
+    let r = rules::verify(&mut claims, &mut scratch, q, x, proof, t);
     refusal::line(r.code);
 }
 
-// The office's proof of q logins, and its answer.
-fn prove(q: usize, packed: &[u64], x: &[u64], proof: &mut [u64]) -> u32 {
-    let mut claims = [0u64; 20];
+// The office's proof of q logins, its claims, and its answer.
+fn prove(
+    q: usize,
+    packed: &[u64],
+    x: &[u64],
+    t: Transcript,
+    proof: &mut [u64],
+    claims: &mut [u64],
+) -> u32 {
     let mut scratch = [0u64; 1168];
-    let r = rules::prove(
-        proof,
-        &mut claims,
-        &mut scratch,
-        q,
-        packed,
-        x,
-        vault::start(),
-    );
+    let r = rules::prove(proof, claims, &mut scratch, q, packed, x, t);
     r.code
 }
 
-// What the laptop says about the proof of a batch.
+// What the laptop says about the proof of a batch, which the office has committed to.
 fn proved(packed: &[u64], x: &[u64]) {
     let mut proof = [0u64; 128];
-    let _done = prove(4, packed, x, &mut proof);
-    verified(4, x, &proof);
+    let mut claims = [0u64; 20];
+    let t = vault::start(x, vault::commitment(packed));
+    let _done = prove(4, packed, x, t, &mut proof, &mut claims);
+    verified(4, x, &proof, t);
 }
 
 // ---- A word of the proof.
 
 // Bit 0 of word i is changed on the way.
-fn word(what: &[u8], i: usize, x: &[u64], proof: &[u64]) {
+fn word(what: &[u8], i: usize, x: &[u64], proof: &[u64], t: Transcript) {
     let mut sent = [0u64; 128];
     words::copy(proof, &mut sent);
     flip(&mut sent, i);
     print(what);
-    verified(4, x, &sent);
+    verified(4, x, &sent, t);
 }
 
 fn flip(s: &mut [u64], i: usize) {
@@ -84,17 +87,87 @@ fn flip(s: &mut [u64], i: usize) {
     }
 }
 
-pub(crate) fn proofs(x: &[u64], proof: &[u64]) {
-    print(b"a bit of the proof is changed, in         verify says\n");
-    word(b"  a shared round's polynomial of bin      ", 2, x, proof);
-    word(b"  a shared round's polynomial of fld      ", 10, x, proof);
-    word(b"  a row round's polynomial of bin         ", 34, x, proof);
-    word(b"  the row round's polynomial of fld       ", 66, x, proof);
-    word(b"  a value of bin after these rounds       ", 72, x, proof);
-    word(b"  a value of fld after these rounds       ", 78, x, proof);
-    word(b"  an inner round's polynomial             ", 86, x, proof);
-    word(b"  v_z, the logins' value at its end       ", 120, x, proof);
-    word(b"  a segment's value                       ", 122, x, proof);
+pub(crate) fn proofs(x: &[u64], committed: [u8; 32], proof: &[u64]) {
+    let t = vault::start(x, committed);
+    print(b"a bit of the proof is changed, in      verify says\n");
+    word(b"  a shared round's polynomial of bin   ", 2, x, proof, t);
+    word(b"  a shared round's polynomial of fld   ", 10, x, proof, t);
+    word(b"  a row round's polynomial of bin      ", 34, x, proof, t);
+    word(b"  the row round's polynomial of fld    ", 66, x, proof, t);
+    word(b"  a value of bin after these rounds    ", 72, x, proof, t);
+    word(b"  a value of fld after these rounds    ", 78, x, proof, t);
+    word(b"  an inner round's polynomial          ", 86, x, proof, t);
+    word(b"  v_z, the logins' value at its end    ", 120, x, proof, t);
+    word(b"  a segment's value                    ", 122, x, proof, t);
+}
+
+// ---- Public words chosen after the proof.
+
+// Both ends start with a transcript that is bound to nothing.
+fn exchange_unbound(packed: &[u64], x: &[u64]) {
+    let mut proof = [0u64; 128];
+    let mut claims = [0u64; 20];
+    let t = vault::unbound();
+    let _done = prove(4, packed, x, t, &mut proof, &mut claims);
+    let other = vault::exchanged(x, &claims);
+    print(b"  row check                ");
+    check(packed, &other);
+    print(b"  verify, nothing bound    ");
+    verified(4, &other, &proof, t);
+}
+
+// The office's proof; the laptop binds the public words that it is given.
+fn exchange_bound(x: &[u64], committed: [u8; 32], proof: &[u64], claims: &[u64]) {
+    let other = vault::exchanged(x, claims);
+    print(b"  verify, both ends bound  ");
+    verified(4, &other, proof, vault::start(&other, committed));
+}
+
+pub(crate) fn exchange(
+    packed: &[u64],
+    x: &[u64],
+    committed: [u8; 32],
+    proof: &[u64],
+    claims: &[u64],
+) {
+    print(
+        b"the key is exchanged after the proof is made, and a stamp found for which the proof still fits\n",
+    );
+    exchange_unbound(packed, x);
+    exchange_bound(x, committed, proof, claims);
+}
+
+// ---- Other bits than the committed ones.
+
+// What the laptop says about a proof, and then of its claims whoever has the committed bits.
+fn claimed(packed: &[u64], x: &[u64], committed: [u8; 32], proof: &[u64]) {
+    let mut claims = [0u64; 20];
+    let mut scratch = [0u64; 320];
+    let t = vault::start(x, committed);
+    let r = rules::verify(&mut claims, &mut scratch, 4, x, proof, t);
+    print(b"  verify     ");
+    refusal::line(r.code);
+    print(b"  claims     ");
+    opened::claims(packed, committed, &claims);
+}
+
+// The batch `other` is proved, and the packed words are those committed to.
+fn proved_other(packed: &[u64], other: &[u64], x: &[u64], committed: [u8; 32]) {
+    let mut proof = [0u64; 128];
+    let mut claims = [0u64; 20];
+    let t = vault::start(x, committed);
+    let _done = prove(4, other, x, t, &mut proof, &mut claims);
+    claimed(packed, x, committed, &proof);
+}
+
+// Login 0 with another secret keeps the rules as well: the claims alone show that it was not committed to.
+pub(crate) fn other_bits(packed: &[u64], x: &[u64], committed: [u8; 32]) {
+    let mut other = [0u64; 8];
+    words::copy(packed, &mut other);
+    vault::put(&mut other, 0, vault::login(0x4c, 1, vault::EDITION));
+    print(b"login 0 is proved with another secret than the one committed to\n  row check  ");
+    check(&other, x);
+    proved_other(packed, &other, x, committed);
 }
 
 // ---- A login.
@@ -138,16 +211,18 @@ pub(crate) fn batches(packed: &[u64], x: &[u64]) {
 // ---- A size.
 
 // The office proves q logins.
-fn prove_size(q: usize, packed: &[u64], x: &[u64]) {
+fn prove_size(q: usize, packed: &[u64], x: &[u64], t: Transcript) {
     let mut proof = [0u64; 128];
-    refusal::line(prove(q, packed, x, &mut proof));
+    let mut claims = [0u64; 20];
+    refusal::line(prove(q, packed, x, t, &mut proof, &mut claims));
 }
 
-pub(crate) fn sizes(packed: &[u64], x: &[u64], proof: &[u64]) {
-    print(b"wrong sizes\n  prove 3 logins                          ");
-    prove_size(3, packed, x);
-    print(b"  prove 8 logins, but 4 are packed        ");
-    prove_size(8, packed, x);
-    print(b"  verify 8 logins by a proof of 4         ");
-    verified(8, x, proof);
+pub(crate) fn sizes(packed: &[u64], x: &[u64], committed: [u8; 32], proof: &[u64]) {
+    let t = vault::start(x, committed);
+    print(b"wrong sizes\n  prove 3 logins                       ");
+    prove_size(3, packed, x, t);
+    print(b"  prove 8 logins, but 4 are packed     ");
+    prove_size(8, packed, x, t);
+    print(b"  verify 8 logins by a proof of 4      ");
+    verified(8, x, proof, t);
 }

@@ -43,11 +43,17 @@ fn answer(line: &[u8], nums: &mut [u64], given: &mut [u64], sizes: &mut [usize])
     }
     if text::name(line) == CASE {
         text::fill(given, 0);
-        text::numbers(line, given);
+        if text::numbers(line, given) > given.len() {
+            text::too_long();
+        }
         text::as_sizes(given, sizes);
         return;
     }
     let n = text::numbers(line, nums);
+    if n > nums.len() {
+        text::too_long();
+        return;
+    }
     if answered(line, text::first(nums, n), given, sizes) {
         return;
     }
@@ -69,11 +75,15 @@ fn answer_all(input: &[u8], nums: &mut [u64], given: &mut [u64], sizes: &mut [us
 // Answers all that is read.
 fn run(input: &mut [u8], nums: &mut [u64], given: &mut [u64], sizes: &mut [usize]) {
     let n = io::read_full(libc::STDIN_FILENO, input);
+    if n == input.len() {
+        text::too_long();
+        return;
+    }
     answer_all(text::first_bytes(input, n), nums, given, sizes);
 }
 
 fn main() {
-    let mut input = text::mebibyte();
+    let mut input = text::input();
     let mut nums = [0u64; 1024];
     let mut given = [0u64; 9216];
     let mut sizes = [0usize; 9216];

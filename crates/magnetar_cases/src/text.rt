@@ -1,6 +1,7 @@
 // Lines of numbers in, numbers and bytes out.
 //
-// Every function here takes any input: what does not fit is left out, and an index that is not there reads as 0.
+// Every function here takes any input: what does not fit is left out, and whoever counts it says so; an index that is not there reads
+// as 0.
 ghost use Prim.Native.Nat.{_≤_};
 ghost use lib.ListN.{length};
 use libc::STDOUT_FILENO;
@@ -196,9 +197,9 @@ pub(crate) fn fill(s: &mut [u64], w: u64) {
     }
 }
 
-// Room for a mebibyte.
-pub(crate) fn mebibyte() -> [u8; 1048576] {
-    [0; 1048576]
+// Room for the input, which is shorter: two mebibytes.
+pub(crate) fn input() -> [u8; 2097152] {
+    [0; 2097152]
 }
 
 // Room for the scratch of the largest run, that of 4,096 logins, each word marked.
@@ -295,6 +296,11 @@ pub(crate) fn same_bytes(s: &[u8], t: &[u8]) -> bool {
 
 pub(crate) fn print(s: &[u8]) {
     io::write_all(STDOUT_FILENO, s);
+}
+
+// A line where there is more to read than room for it.
+pub(crate) fn too_long() {
+    print(b"input too long\n");
 }
 
 // A line where a query cannot be asked of records.

@@ -20,6 +20,14 @@ fn of_query(
         return;
     }
     let k = text::bytes(line, bytes, lens);
+    if k > lens.len() {
+        text::too_long();
+        return;
+    }
+    if line.len() / 2 > bytes.len() {
+        text::too_long();
+        return;
+    }
     if hash::answers(op, nums, bytes, text::sizes(lens, 0, k), x, y) {
         return;
     }
@@ -40,6 +48,10 @@ fn answer(
         text::print(b"\n");
     } else {
         let n = text::numbers(line, nums);
+        if n > nums.len() {
+            text::too_long();
+            return;
+        }
         of_query(
             text::name(line),
             line,
@@ -81,6 +93,10 @@ fn run(
     y: &mut [u64],
 ) {
     let n = io::read_full(libc::STDIN_FILENO, input);
+    if n == input.len() {
+        text::too_long();
+        return;
+    }
     answer_all(text::first_bytes(input, n), nums, bytes, lens, x, y);
 }
 

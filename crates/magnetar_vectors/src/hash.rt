@@ -338,6 +338,14 @@ pub(crate) fn answered(op: u64, nums: &[u64], line: &[u8]) -> bool {
     let mut bytes = [0u8; 8192];
     let mut lens = [0usize; 256];
     let k = text::bytes(line, &mut bytes, &mut lens);
+    if k > 256 {
+        text::too_long();
+        return true;
+    }
+    if line.len() > 16384 {
+        text::too_long();
+        return true;
+    }
     of_parts(op, nums, &bytes, text::sizes(&lens, 0, k))
 }
 

@@ -33,6 +33,10 @@ fn asked(op: u64, line: &[u8], nums: &[u64]) -> bool {
 fn answered(line: &[u8]) -> bool {
     let mut nums = [0u64; 4096];
     let n = text::numbers(line, &mut nums);
+    if n > 4096 {
+        text::too_long();
+        return true;
+    }
     asked(text::name(line), line, text::first(&nums, n))
 }
 
@@ -63,6 +67,10 @@ fn answer_all(input: &[u8]) {
 // Answers all that is read.
 fn run(input: &mut [u8]) {
     let n = io::read_full(libc::STDIN_FILENO, input);
+    if n == input.len() {
+        text::too_long();
+        return;
+    }
     answer_all(text::first_bytes(input, n));
 }
 

@@ -1,6 +1,7 @@
 // Lines of words: numbers and bytes in, numbers and bytes out.
 //
-// Every function here takes any input: what does not fit is left out, and an index that is not there reads as 0.
+// Every function here takes any input: what does not fit is left out, and whoever counts it says so; an index that is not there reads
+// as 0.
 ghost use Prim.Native.Nat.{_≤_};
 ghost use lib.ListN.{length};
 use libc::STDOUT_FILENO;
@@ -328,7 +329,7 @@ pub(crate) fn table_words(n: usize) -> usize {
     if n < 20 { 2 << n } else { 0 }
 }
 
-// Room for a mebibyte.
+// Room for a mebibyte; the input is shorter.
 pub(crate) fn mebibyte() -> [u8; 1048576] {
     [0; 1048576]
 }
@@ -370,6 +371,11 @@ pub(crate) fn nth(nums: &[u64], i: usize, k: usize) -> &[u64] {
 
 pub(crate) fn print(s: &[u8]) {
     io::write_all(STDOUT_FILENO, s);
+}
+
+// A line where there is more to read than room for it.
+pub(crate) fn too_long() {
+    print(b"input too long\n");
 }
 
 pub(crate) fn print_count(n: usize) {
