@@ -2,7 +2,7 @@
 use magnetar_field::words;
 use magnetar_hash::transcript::Transcript;
 use magnetar_multilinear::eq::EqBits;
-use magnetar_schedule::events;
+use crate::events;
 ghost use mathlib.Core.Path.{_≡_};
 ghost use mathlib.Core.List.{[], _∷_, _++_};
 ghost use Prim.Native.Nat.{_+_, _*_, _%_, _^_, _<_, _≤_};

@@ -9,7 +9,7 @@ use magnetar_hash::transcript::TranscriptAnswer;
 use magnetar_layout::layout;
 use magnetar_multilinear::eq::EqBits;
 use magnetar_multilinear::multilinear;
-use magnetar_schedule::events;
+use crate::events;
 use magnetar_sumcheck_prover::engine;
 ghost use mathlib.Core.Path.{_≡_};
 ghost use mathlib.Core.List.{[], _∷_, _++_};

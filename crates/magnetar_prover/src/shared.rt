@@ -4,7 +4,7 @@ use magnetar_field::gf128::Gf128;
 use magnetar_field::words;
 use magnetar_hash::transcript;
 use magnetar_hash::transcript::Transcript;
-use magnetar_schedule::events;
+use crate::events;
 use magnetar_sumcheck_prover::public;
 ghost use mathlib.Core.Path.{_≡_};
 ghost use mathlib.Core.List.{[], _∷_, _++_};
