@@ -1,11 +1,11 @@
 // The outer sum-check. A block has the four tables e, a, b, c of a system one behind the other, w words each; while the tables
 // shrink they stay at the front of their w words.
+use crate::events;
 use magnetar_field::gf128::Gf128;
 use magnetar_field::words;
 use magnetar_hash::transcript;
 use magnetar_hash::transcript::Transcript;
 use magnetar_multilinear::multilinear;
-use crate::events;
 use magnetar_sumcheck_prover::engine;
 use magnetar_sumcheck_prover::public;
 ghost use mathlib.Core.Path.{_≡_};
