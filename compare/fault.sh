@@ -82,7 +82,7 @@ if [ ${#wanted[@]} -eq 0 ]; then
     echo "no fault: $(tail -n 1 "$copy/said")"
 fi
 # round one is checked, row rounds and inner rounds are not checked
-fault later-rounds magnetar_verifier/src/found.rt 'verify::sum_holds(msg, claim)' 'true'
+fault later-rounds magnetar_verifier/src/found.rt 'next.holds' 'true'
 # the last identity compares low words only
 fault high-words magnetar_verifier/src/end.rt 'gf128::equal(gf128::add(x, y), v)' $'let s = gf128::add(x, y);\n    s.lo == v.lo'
 # the remainder of a product forgets a bit
@@ -98,7 +98,7 @@ fault upper-bits magnetar_batch/src/fold.rt 'return word % (1 << n);' 'return wo
 # one round constant of the permutation
 fault round-constant magnetar_keccak/src/keccak.rt 0x8000000080008000 0x8000000080008001
 # a label
-fault label magnetar_schedule/src/events.rt 'b"vs-vz"' 'b"vs-vx"'
+fault label magnetar_prover/src/events.rt 'b"vs-vz"' 'b"vs-vx"'
 # numbers of entries that don't add up to the slices are let through
 fault counts magnetar_relation/src/rules.rt 'let n = entries_in(b) + entries_in(f);' 'let n = r;'
 # the entries of fld begin behind as many entries of C of bin as B has

@@ -27,5 +27,5 @@ pub mod Examples
 pub mod ExampleRun
 pub mod ExampleLie
 pub mod Splits
-pub mod Within
+pub mod Guards
 pub mod Finding

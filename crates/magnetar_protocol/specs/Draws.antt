@@ -18,10 +18,12 @@ pub record Draws : Type 0 where
   pub alphas : List ℕ
   pub inner : List ℕ
 
--- how many are drawn
+-- how many are drawn, with s, b, f and c rounds of each kind
+abbrev pub drawTotal : (s b f c : ℕ) → ℕ
+drawTotal s b f c = (s + b) + ((s + f) + (s + (b + (f + (6 + c)))))
+
 abbrev pub drawCount : Relation → ℕ
-drawCount r =
-    (logLogins r + logBin r) + ((logLogins r + logFld r) + (logLogins r + (logBin r + (logFld r + (6 + logCols r)))))
+drawCount r = drawTotal (logLogins r) (logBin r) (logFld r) (logCols r)
 
 -- the draws taken apart
 unfoldable pub drawsOf : Relation → List ℕ → Draws

@@ -1,9 +1,10 @@
 pub mod Shape
-pub mod Rooms
 pub mod Proof
 pub mod Draws
 pub mod Checks
 pub mod Found
+pub mod RunTests
+pub mod Scratch
 pub mod Run
 pub mod RunSizes
 pub mod Theory

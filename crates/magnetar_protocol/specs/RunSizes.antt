@@ -11,7 +11,7 @@ use Rattle.magnetar_layout.specs.Every.{every}
 use Rattle.magnetar_matrix.specs.Matrix.{Matrix, System}
 use Rattle.magnetar_matrix.specs.Batch.{Relation, Batch, bitOf}
 use Rattle.magnetar_layout.specs.Layout.{LayoutFits}
-use Rattle.magnetar_layout.specs.Tests.{Sized}
+use Rattle.magnetar_layout.specs.Tests.{Sized, mostColumns, mostLogins, mostRows, mostBatchRows, mostEntries, mostSegments}
 use Rattle.magnetar_protocol.specs.Shape.{proofElements}
 use Rattle.magnetar_protocol.specs.Draws.{drawCount}
 
@@ -19,25 +19,25 @@ use Rattle.magnetar_protocol.specs.Draws.{drawCount}
 pub record SizedMatrix (n m : ℕ) (a : Matrix) : Type 0 where
   pub rows : a .rows ≡ n
   pub cols : a .cols ≡ m
-  pub few : length (a .entries) ≤ 1048576
+  pub few : length (a .entries) ≤ mostEntries
   pub inside : every (λ e. ltb (e .row) n && ltb (e .col) m) (a .entries) ≡ true
 
 -- three matrices with the same rows, over m columns, for q logins
 pub record SizedSystem (m q : ℕ) (s : System) : Type 0 where
-  pub rows : Sized 1 65536 (s .a .rows)
-  pub total : q * s .a .rows ≤ 1048576
+  pub rows : Sized 1 mostRows (s .a .rows)
+  pub total : q * s .a .rows ≤ mostBatchRows
   pub a : SizedMatrix (s .a .rows) m (s .a)
   pub b : SizedMatrix (s .a .rows) m (s .b)
   pub c : SizedMatrix (s .a .rows) m (s .c)
 
 -- powers of two within their bounds, two systems, and at most 64 segments that fit the witness columns
 pub record SizedRelation (r : Relation) : Type 0 where
-  pub columns : Sized 2 65536 (r .m)
-  pub logins : Sized 1 4096 (r .q)
+  pub columns : Sized 2 mostColumns (r .m)
+  pub logins : Sized 1 mostLogins (r .q)
   pub bin : SizedSystem (r .m) (r .q) (r .bin)
   pub fld : SizedSystem (r .m) (r .q) (r .fld)
   pub layout : LayoutFits (r .m / 2) (r .lengths)
-  pub segments : length (r .lengths) ≤ 64
+  pub segments : length (r .lengths) ≤ mostSegments
 
 -- q rows of m / 2 bits
 pub record SizedBatch (r : Relation) (b : Batch) : Type 0 where

@@ -2,7 +2,7 @@
 -- Source: document 01, "Forms that give way" (s, b, f, L and the order of the proof).
 -- Assumes nothing.
 use mathlib.Core.List.{List, []}
-use Prim.Native.Nat.{ℕ, _+_, _*_}
+use Prim.Native.Nat.{ℕ, _+_, _-_, _*_}
 use lib.ListN.{length}
 use Rattle.magnetar_field.specs.Sizes.{log₂}
 use Rattle.magnetar_matrix.specs.Matrix.{Matrix}
@@ -36,9 +36,16 @@ beforeInner r = beforeTerminals r + 6
 abbrev pub beforeEnd : Relation → ℕ
 beforeEnd r = beforeInner r + 3 * logCols r
 
--- and in all
+-- and in all, with s, b, f and c rounds of each kind and l segments
+abbrev pub proofTotal : (s b f c l : ℕ) → ℕ
+proofTotal s b f c l = 8 * s + 4 * b + 4 * f + 6 + 3 * c + 1 + l
+
 abbrev pub proofElements : Relation → ℕ
-proofElements r = beforeEnd r + 1 + length (r .lengths)
+proofElements r = proofTotal (logLogins r) (logBin r) (logFld r) (logCols r) (length (r .lengths))
+
+-- the elements of the claims: r_inst, r_low, and the segment values
+abbrev pub claimCount : Relation → ℕ
+claimCount r = logLogins r + (logCols r - 1) + length (r .lengths)
 
 -- ---- how many events of a run come before a check
 -- up to and with the draws of tau

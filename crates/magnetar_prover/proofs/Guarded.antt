@@ -12,41 +12,32 @@ use Rattle.magnetar_field.specs.Sizes.{log₂}
 use Rattle.magnetar_field.proofs.Log2.{log₂-pow}
 use Rattle.magnetar_hash.specs.declared.transcript.Transcript.{Transcript}
 use Rattle.magnetar_layout.specs.Entries.{layoutRefusal}
-use Rattle.magnetar_layout.specs.Tests.{note, noted, columnTests, layoutTests, roomTest, Sized}
+use Rattle.magnetar_layout.specs.Tests.{note, noted, columnTests, layoutTests, roomTest, mostColumns, mostSegments, Sized}
 use Rattle.magnetar_layout.proofs.Noted.{noted-rest, noted-clear}
 use Rattle.magnetar_layout.proofs.SizeLaws.{not-bad}
 use Rattle.magnetar_layout.proofs.Laid.{sound, each-size}
 use Rattle.magnetar_r1cs.proofs.Points.{log-most}
 use Rattle.magnetar_layout.proofs.Readings.{log-le}
+use Rattle.magnetar_protocol.specs.RunTests.{counterTests}
+use Rattle.magnetar_protocol.proofs.Guards.{even-size}
 use Rattle.magnetar_prover.specs.Held.{Locals}
-use Rattle.magnetar_prover.specs.Entries.{counterTest, innerRoundsRefusal}
-
--- a size that is a power of two of at least two is even
-pub even-size : (m : ℕ) → Sized 2 65536 m → 2 * (m / 2) ≡ m
-even-size m z = go (log₂ m) (z .power)
-  where
-    go : (k : ℕ) → m ≡ 2 ^ k → 2 * (m / 2) ≡ m
-    go zero e = absurd (omega (arith, z .low))
-    go (suc k) e =
-        let q : m ≡ 2 ^ k + 2 ^ k = e ∙ two-pow-succ k in
-        let h : m / 2 ≡ 2 ^ k = omega (arith, q) in
-        omega (arith, q, h)
+use Rattle.magnetar_prover.specs.Entries.{innerRoundsRefusal}
 
 -- where the columns are good, the layout's refusal is that of its own tests
 pub layout-rest : (m : ℕ) (ns : List ℕ) (z : ℕ) → noted 0 (columnTests m) ≡ 0 → z ≡ layoutRefusal (m / 2) ns
     → z ≡ noted 0 (columnTests m ++ layoutTests (m / 2) ns)
 unfolding layoutRefusal
 layout-rest m ns z e g =
-    let k : Sized 2 65536 m = not-bad (noted-clear 0 (columnTests m) refl e .1 .0) in
+    let k : Sized 2 mostColumns m = not-bad (noted-clear 0 (columnTests m) refl e .1 .0) in
     let h : noted 0 (columnTests (2 * (m / 2))) ≡ 0 = rw (even-size m k) e in
     g ∙ (noted-rest (columnTests (2 * (m / 2))) (layoutTests (m / 2) ns) 0 (sym h) refl
     ∙ sym (noted-rest (columnTests m) (layoutTests (m / 2) ns) 0 (sym e) refl))
 
 -- ---- what holds where nothing is refused
 pub record Sizes (m : ℕ) (ns : List ℕ) : Type 0 where
-  pub columns : Sized 2 65536 m
+  pub columns : Sized 2 mostColumns m
   pub few : log₂ m ≤ 16
-  pub segments : length ns ≤ 64
+  pub segments : length ns ≤ mostSegments
   pub layout : layoutRefusal (m / 2) ns ≡ 0
 
 note-good : (n : ℕ) (b : Bool) → b ≡ false → note n b 0 ≡ 0
@@ -56,7 +47,7 @@ note-good n b e = rw e
 pub sizes-of : (m : ℕ) (ns : List ℕ) → noted 0 (columnTests m ++ layoutTests (m / 2) ns) ≡ 0 → Sizes m ns
 sizes-of m ns e =
     let k = noted-clear 0 (columnTests m ++ layoutTests (m / 2) ns) refl e .1 in
-    let z : Sized 2 65536 m = not-bad (k .0) in
+    let z : Sized 2 mostColumns m = not-bad (k .0) in
     record {
       columns = z;
       few = log-most m (z .high) (z .power);
@@ -73,7 +64,7 @@ pub record InnerFits (m : ℕ) (ns proof draws s : List ℕ) : Type 0 where
 pub inner-fits : (m : ℕ) (ns proof draws s : List ℕ) (t : Transcript) → innerRoundsRefusal m ns proof draws s t ≡ 0 → InnerFits m ns proof draws s
 unfolding innerRoundsRefusal
 inner-fits m ns proof draws s t e =
-    let k = noted-clear 0 (columnTests m ++ layoutTests (m / 2) ns ++ (counterTest t ++ (roomTest (2 * log₂ m) draws ++ roomTest
+    let k = noted-clear 0 (columnTests m ++ layoutTests (m / 2) ns ++ (counterTests (t .«squeeze_ctr») ++ (roomTest (2 * log₂ m) draws ++ roomTest
     (2 * (3 * log₂ m + 1 + length ns)) proof ++ roomTest (6 * m) s))) refl e .1 in
     record {
       sizes = sizes-of m ns (noted-good (k .0) (k .1 .0) (k .1 .1 .0) (k .1 .1 .1 .0));

@@ -16,3 +16,9 @@ pub mod SharedSteps
 pub mod Joined
 mod OuterParts
 mod OuterGuard
+mod Spelling
+mod Staging
+mod Turns
+mod WholeSchedule
+mod Captured
+mod PlayGuard

@@ -16,7 +16,8 @@ use Rattle.magnetar_layout.proofs.Noted.{noted-clear}
 use Rattle.magnetar_layout.proofs.SizeLaws.{not-bad}
 use Rattle.magnetar_r1cs.proofs.Points.{log-most}
 use Rattle.magnetar_prover.specs.Whole.{Blocks}
-use Rattle.magnetar_prover.specs.Entries.{counterTest, countTests, totalTests, outerDrawn, outerSent, blockWords, outerRoundsRefusal}
+use Rattle.magnetar_protocol.specs.RunTests.{counterTests}
+use Rattle.magnetar_prover.specs.Entries.{countTests, totalTests, outerDrawn, outerSent, blockWords, outerRoundsRefusal}
 
 pub record Counts (q rb rf : ℕ) : Type 0 where
   pub logins : Sized 1 4096 q
@@ -57,7 +58,7 @@ pub record OuterFits (q rb rf : ℕ) (proof draws s : List ℕ) : Type 0 where
 pub outer-fits : (q rb rf : ℕ) (proof draws s : List ℕ) (t : Transcript) → outerRoundsRefusal q rb rf proof draws s t ≡ 0 → OuterFits q rb rf proof draws s
 unfolding outerRoundsRefusal
 outer-fits q rb rf proof draws s t e =
-    let k = noted-clear 0 (countTests q rb rf ++ totalTests q rb rf ++ (counterTest t ++ (roomTest (2 * outerDrawn (log₂ q) (log₂ rb) (log₂ rf))
+    let k = noted-clear 0 (countTests q rb rf ++ totalTests q rb rf ++ (counterTests (t .«squeeze_ctr») ++ (roomTest (2 * outerDrawn (log₂ q) (log₂ rb) (log₂ rf))
     draws ++ roomTest (2 * outerSent (log₂ q) (log₂ rb) (log₂ rf)) proof ++ roomTest (blockWords q rb rf) s))) refl e .1 in
     record {
       totals = record {

@@ -3,7 +3,7 @@
 -- Assumes nothing.
 use mathlib.Core.Bool.{not}
 use mathlib.Core.List.{List, [], _∷_, _++_}
-use Prim.Native.Nat.{ℕ, _+_, _*_, _/_, _^_}
+use Prim.Native.Nat.{ℕ, _+_, _*_, _/_}
 use lib.Dec.{ltb}
 use lib.ListN.{length, take, drop, replicate}
 use Rattle.magnetar_field.specs.Refusal.{unlessRefused}
@@ -11,9 +11,13 @@ use Rattle.magnetar_field.specs.Sizes.{log₂}
 use Rattle.magnetar_field.specs.Words.{elements, words, overlaid}
 use Rattle.magnetar_hash.specs.declared.transcript.Transcript.{Transcript}
 use Rattle.magnetar_protocol.specs.Shape.{outline}
+use Rattle.magnetar_protocol.specs.Draws.{drawCount}
+use Rattle.magnetar_protocol.specs.RunTests.{outlineTests, counterTests, proofTests}
+use Rattle.magnetar_schedule.specs.Schedule.{schedule}
+use Rattle.magnetar_schedule.specs.Play.{Played, playedFrom}
 use Rattle.magnetar_schedule.specs.Stepwise.{Steps, Tables, begin, tauSteps, outerAll, innerAll}
 use Rattle.magnetar_matrix.specs.Batch.{Relation}
-use Rattle.magnetar_layout.specs.Tests.{Tests, noted, isSize, columnTests, layoutTests, roomTest}
+use Rattle.magnetar_layout.specs.Tests.{Tests, noted, isSize, mostLogins, mostRows, mostBatchRows, columnTests, layoutTests, roomTest}
 use Rattle.magnetar_hash.specs.declared.transcript.TranscriptAnswer.{TranscriptAnswer}
 
 -- ---- what a run leaves, unless it is refused with z
@@ -33,16 +37,34 @@ drawsFor z p draws = unlessRefused z (overlaid (words (p .played .draws)) draws)
 abbrev pub scratchFor : ℕ → ℕ → List ℕ → List ℕ
 scratchFor z n s = unlessRefused z (replicate n 0 ++ drop n s) s
 
--- 14: the transcript's counter at entry
-abbrev pub counterTest : Transcript → Tests
-counterTest t = (14, not (ltb (t .«squeeze_ctr») (2 ^ 32))) ∷ []
+-- ---- `play`: the first n events of the schedule of a relation by its sizes, with the words of a proof
+abbrev pub playedTo : Relation → (proof : List ℕ) → ℕ → Transcript → Played
+playedTo r proof n t = playedFrom (elements proof) (take n (schedule r)) t
+
+-- the number of its refusal, or 0
+unfoldable pub playRefusal : Relation → (proof draws : List ℕ) → Transcript → ℕ
+playRefusal r proof draws t =
+    noted 0
+    (outlineTests (r .m) (r .q) (r .bin .a .rows) (r .fld .a .rows) (r .lengths)
+    ++ (counterTests (t .«squeeze_ctr») ++ (roomTest (2 * drawCount r) draws ++ proofTests r proof)))
+
+-- the answer
+unfoldable pub playAnswer : Relation → (proof draws : List ℕ) → ℕ → Transcript → TranscriptAnswer
+playAnswer r proof draws n t = record {
+  code = playRefusal r proof draws t;
+  transcript = unlessRefused (playRefusal r proof draws t) (playedTo r proof n t .transcript) t;
+}
+
+-- the words of the draws
+unfoldable pub playDraws : Relation → (proof draws : List ℕ) → ℕ → Transcript → List ℕ
+playDraws r proof draws n t = unlessRefused (playRefusal r proof draws t) (overlaid (words (playedTo r proof n t .draws)) draws) draws
 
 -- ---- `inner_rounds`: m columns, segments of the lengths ns
 unfoldable pub innerRoundsRefusal : (m : ℕ) → (ns proof draws s : List ℕ) → Transcript → ℕ
 innerRoundsRefusal m ns proof draws s t =
     noted 0
     (columnTests m ++ layoutTests (m / 2) ns
-    ++ (counterTest t
+    ++ (counterTests (t .«squeeze_ctr»)
     ++ (roomTest (2 * log₂ m) draws ++ roomTest (2 * (3 * log₂ m + 1 + length ns)) proof ++ roomTest (6 * m) s)))
 
 -- the run: the combined table is in the first 2m words of s, the folded z in the 2m words behind: its witness columns, then its public half
@@ -53,11 +75,11 @@ innerPlayed r s t =
 -- ---- `outer_rounds`: q logins, rb rows of bin and rf rows of fld
 -- 1: the logins; 4: the rows, alone
 abbrev pub countTests : (q rb rf : ℕ) → Tests
-countTests q rb rf = (1, not (isSize 1 4096 q)) ∷ (4, not (isSize 1 65536 rb)) ∷ (4, not (isSize 1 65536 rf)) ∷ []
+countTests q rb rf = (1, not (isSize 1 mostLogins q)) ∷ (4, not (isSize 1 mostRows rb)) ∷ (4, not (isSize 1 mostRows rf)) ∷ []
 
 -- 4: the rows for all logins
 abbrev pub totalTests : (q rb rf : ℕ) → Tests
-totalTests q rb rf = (4, ltb 1048576 (q * rb)) ∷ (4, ltb 1048576 (q * rf)) ∷ []
+totalTests q rb rf = (4, ltb mostBatchRows (q * rb)) ∷ (4, ltb mostBatchRows (q * rf)) ∷ []
 
 -- the elements that are drawn
 abbrev pub outerDrawn : (l b f : ℕ) → ℕ
@@ -76,7 +98,7 @@ unfoldable pub outerRoundsRefusal : (q rb rf : ℕ) → (proof draws s : List �
 outerRoundsRefusal q rb rf proof draws s t =
     noted 0
     (countTests q rb rf ++ totalTests q rb rf
-    ++ (counterTest t
+    ++ (counterTests (t .«squeeze_ctr»)
     ++ (roomTest (2 * outerDrawn (log₂ q) (log₂ rb) (log₂ rf)) draws ++ roomTest (2 * outerSent (log₂ q) (log₂ rb) (log₂ rf)) proof
     ++ roomTest (blockWords q rb rf) s)))
 

@@ -2,3 +2,6 @@ pub mod Entries
 pub mod Held
 pub mod Shared
 pub mod Whole
+pub mod Labels
+pub mod Stages
+pub mod Capture

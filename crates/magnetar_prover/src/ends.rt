@@ -1,8 +1,8 @@
 // The ends of the outer sum-check: the taus and their eq tables in front of its rounds, the terminals and the alphas behind them.
+use crate::events;
 use magnetar_field::words;
 use magnetar_hash::transcript::Transcript;
 use magnetar_multilinear::eq::EqBits;
-use magnetar_schedule::events;
 ghost use mathlib.Core.Path.{_≡_};
 ghost use mathlib.Core.List.{[], _∷_, _++_};
 ghost use Prim.Native.Nat.{_+_, _*_, _%_, _^_, _<_, _≤_};

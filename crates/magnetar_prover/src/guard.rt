@@ -3,11 +3,14 @@ use magnetar_field::sizes;
 use magnetar_hash::transcript::Transcript;
 use magnetar_layout::layout;
 use magnetar_layout::tests;
+use magnetar_protocol::refusal;
 ghost use mathlib.Core.Path.{_≡_};
 ghost use mathlib.Core.List.{_++_};
 ghost use Prim.Native.Nat.{_*_, _/_, _<_, _≤_};
 ghost use Rattle.magnetar_layout.specs.Tests.{noted, columnTests, layoutTests};
-ghost use Rattle.magnetar_prover.specs.Entries.{counterTest, innerRoundsRefusal, countTests, totalTests, outerDrawn, outerSent, blockWords, outerRoundsRefusal};
+ghost use Rattle.magnetar_protocol.specs.Shape.{outline};
+ghost use Rattle.magnetar_protocol.specs.RunTests.{counterTests};
+ghost use Rattle.magnetar_prover.specs.Entries.{playRefusal, innerRoundsRefusal, countTests, totalTests, outerDrawn, outerSent, blockWords, outerRoundsRefusal};
 
 // 1, 8, 9 and 10.
 fn of_sizes(m: usize, lens: &[usize]) -> u32
@@ -22,7 +25,7 @@ fn of_sizes(m: usize, lens: &[usize]) -> u32
 
 // 14.
 fn of_counter(t: Transcript) -> u32
-    ensures { λ r. ⌜ r ≡ noted 0 (counterTest t) ⌝ }
+    ensures { λ r. ⌜ r ≡ noted 0 (counterTests (t .«squeeze_ctr»)) ⌝ }
 {
     tests::note(0, 14, !(t.squeeze_ctr < 0x100000000))
 }
@@ -93,6 +96,31 @@ pub(crate) fn block_words(q: usize, rb: usize, rf: usize) -> usize
     ensures { λ r. ⌜ r ≡ blockWords q rb rf ⌝ }
 {
     8 * (q * rb) + 8 * (q * rf)
+}
+
+// The refusals of a schedule that is played.
+pub(crate) fn of_play(
+    m: usize,
+    q: usize,
+    rb: usize,
+    rf: usize,
+    lens: &[usize],
+    proof: &[u64],
+    draws: &[u64],
+    t: Transcript,
+) -> u32
+    ensures { λ r. ⌜ r ≡ playRefusal (outline m q rb rf (now (lens .entry))) (now (proof .entry)) (now (draws .entry)) t ⌝ }
+{
+    let z = refusal::outline_refusal(m, q, rb, rf, lens);
+    if z != 0 {
+        return z;
+    }
+    let c = sizes::log2(m);
+    let d = drawn_words(sizes::log2(q), sizes::log2(rb), sizes::log2(rf));
+    let a = sent_words(sizes::log2(q), sizes::log2(rb), sizes::log2(rf));
+    let y = of_counter(t);
+    let y = tests::note(y, 15, draws.len() < d + 2 * c);
+    tests::note(y, 16, proof.len() != a + 2 * (3 * c + 1 + lens.len()))
 }
 
 // The refusals of the outer rounds.

@@ -1,4 +1,5 @@
 // The inner sum-check.
+use crate::events;
 use crate::guard;
 use magnetar_field::gf128::Gf128;
 use magnetar_field::sizes;
@@ -9,7 +10,6 @@ use magnetar_hash::transcript::TranscriptAnswer;
 use magnetar_layout::layout;
 use magnetar_multilinear::eq::EqBits;
 use magnetar_multilinear::multilinear;
-use magnetar_schedule::events;
 use magnetar_sumcheck_prover::engine;
 ghost use mathlib.Core.Path.{_≡_};
 ghost use mathlib.Core.List.{[], _∷_, _++_};

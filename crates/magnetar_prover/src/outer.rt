@@ -1,11 +1,11 @@
 // The outer sum-check. A block has the four tables e, a, b, c of a system one behind the other, w words each; while the tables
 // shrink they stay at the front of their w words.
+use crate::events;
 use magnetar_field::gf128::Gf128;
 use magnetar_field::words;
 use magnetar_hash::transcript;
 use magnetar_hash::transcript::Transcript;
 use magnetar_multilinear::multilinear;
-use magnetar_schedule::events;
 use magnetar_sumcheck_prover::engine;
 use magnetar_sumcheck_prover::public;
 ghost use mathlib.Core.Path.{_≡_};
@@ -18,7 +18,7 @@ ghost use Rattle.magnetar_hash.specs.Transcript.{element};
 ghost use Rattle.magnetar_schedule.specs.Stepwise.{rowStep, rowSteps};
 ghost use Rattle.magnetar_multilinear.specs.Multilinear.{bindVar};
 ghost use Rattle.magnetar_sumcheck_verifier.specs.Outer.{outerMessage, dropVar};
-ghost use Rattle.magnetar_schedule.specs.Labels.{rowLabel};
+ghost use Rattle.magnetar_prover.specs.Labels.{rowLabel};
 ghost use Rattle.magnetar_prover.specs.Entries.{tableAt};
 ghost use Rattle.magnetar_prover.specs.Held.{Table, Rows, rowIn};
 

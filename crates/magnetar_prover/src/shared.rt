@@ -1,10 +1,10 @@
 // The shared rounds of the outer sum-check. The block of bin, 4wb words, is at the front of the scratch, the block of fld behind it.
+use crate::events;
 use crate::outer;
 use magnetar_field::gf128::Gf128;
 use magnetar_field::words;
 use magnetar_hash::transcript;
 use magnetar_hash::transcript::Transcript;
-use magnetar_schedule::events;
 use magnetar_sumcheck_prover::public;
 ghost use mathlib.Core.Path.{_≡_};
 ghost use mathlib.Core.List.{[], _∷_, _++_};

@@ -10,9 +10,4 @@ pub mod Absorbed
 pub mod Heard
 pub mod Earlier
 pub mod ProverDraws
-pub mod Spelling
-pub mod Staging
-pub mod Turns
-pub mod Whole
 pub mod Examples
-pub mod Captured

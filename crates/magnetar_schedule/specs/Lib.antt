@@ -2,7 +2,4 @@ pub mod Schedule
 pub mod Play
 pub mod Stepwise
 pub mod RealRun
-pub mod Stages
-pub mod Labels
-pub mod Capture
 pub mod Theorems

@@ -1,4 +1,1 @@
-// What a run absorbs and draws, on the transcript by value.
-pub mod capture;
-pub mod events;
-pub mod play;
+// Definitions and laws only: specs/ and proofs/. There is no code here.

@@ -1,23 +1,26 @@
 -- The refusals by numbers are those of the rules that are lent.
 -- Assumes nothing.
 use mathlib.Core.Path.{_≡_, refl, sym, ap, _∙_}
-use mathlib.Core.Bool.{true}
+use mathlib.Core.Bool.{true, false, not}
 use mathlib.Core.List.{List, [], _∷_, _++_}
 use Prim.Native.Nat.{ℕ, zero, suc, _/_, _≤_}
 use native.Mathlib.Omega.{arith}
 use lib.ListN.{length}
 use borrow.Author.Tests.{ltb-false}
-use Rattle.magnetar_layout.specs.Tests.{Tests, note, noted, sizeTests, packedTests, publicTests, layoutTests, Sized}
+use Rattle.magnetar_layout.specs.Tests.{Tests, note, noted, sizeTests, packedTests, publicTests, layoutTests, rowsTests, mostColumns, mostLogins, isSize, Sized, roomTestOf}
 use Rattle.magnetar_layout.proofs.Noted.{note-kept, noted-kept, noted-append, noted-clear}
 use Rattle.magnetar_layout.proofs.SizeLaws.{not-bad}
-use Rattle.magnetar_protocol.proofs.Within.{verifier-within, prover-within}
+use Rattle.magnetar_protocol.specs.RunTests.{runTests}
+use Rattle.magnetar_protocol.proofs.Guards.{verifier-within, prover-within}
 use Rattle.magnetar_matrix.specs.Matrix.{Entry}
 use Rattle.magnetar_relation.specs.declared.shapes.Shapes.{Shapes}
-use Rattle.magnetar_relation.specs.Rules.{Rules, rulesOver, inRelation}
+use Rattle.magnetar_relation.specs.Rules.{Rules, relationOf, rulesOver, inRelation}
 use Rattle.magnetar_relation.specs.RuleTests.{ruleTests}
-use Rattle.magnetar_spartan.specs.Refusals.{rowsBin, rowsFld, outlineOf, counterTests, roomOf, wordTests, proofWords, claimWords, verifierRoom, proverRoom, verifyTests, proveTests}
+use Rattle.magnetar_protocol.specs.RunTests.{counterTests, proofTests}
+use Rattle.magnetar_spartan.specs.Refusals.{rowsBin, rowsFld, outlineOf, proofWords, claimWords, verifierRoom, proverRoom, verifyTests, proveTests}
 use Rattle.magnetar_spartan.specs.Numbers.{verifyRooms, proveRooms, verifyTestsBy, proveTestsBy}
-use Rattle.magnetar_spartan.proofs.SizedRules.{Systems, systems, rule-numbered}
+use Rattle.magnetar_spartan.proofs.SizedRules.{Systems, systems, rule-numbered, rows-fine}
+use Rattle.magnetar_spartan.proofs.Fine.{noted-none}
 
 -- ---- what the first groups leave
 pub record Sizes (m q : ℕ) : Type 0 where
@@ -70,33 +73,38 @@ module _ (R : Rules) (z : ℕ) (e : z ≡ noted 0 (ruleTests R)) where
   both : z ≡ 0 → Systems R
   both h = systems R (noted-clear 0 (ruleTests R) (rule-numbered R) (sym e ∙ h) .1)
 
+  -- no size is refused
+  sizes-none : not (isSize 2 mostColumns (R .m)) ≡ false → not (isSize 1 mostLogins (R .q)) ≡ false → z ≡ 0
+      → noted 0 (runTests (R .m) (R .q) (rowsBin R) (rowsFld R)) ≡ 0
+  sizes-none c l h =
+      let y = both h in
+      noted-none (runTests (R .m) (R .q) (rowsBin R) (rowsFld R))
+      (c, (l, rows-fine (R .m) (R .q) (relationOf R .bin) (y .bin) (rowsTests (R .q) (rowsFld R)) (rows-fine (R .m) (R .q) (relationOf R .fld) (y .fld) [] tt)))
+
   pub verify-by : (x w : List ℕ) (n c s : ℕ)
       → noted 0 (verifyTestsBy z (outlineOf R) (length x) (length w) n c s) ≡ noted 0 (verifyTests R x w n c s)
   verify-by x w n c s =
       joined (sizeTests (R .m) (R .q) ++ publicTests (R .m) x) (ruleTests R) laid (verifyRooms (outlineOf R) (length w) n c s)
-      (counterTests n ++ (roomOf (claimWords R) c ++ (roomOf (verifierRoom R) s ++ wordTests (proofWords R) w))) z e same
+      (counterTests n ++ (roomTestOf (claimWords R) c ++ (roomTestOf (verifierRoom R) s ++ proofTests (outlineOf R) w))) z e same
     where
       same : noted 0 (sizeTests (R .m) (R .q) ++ publicTests (R .m) x) ≡ 0 → z ≡ 0
-          → verifyRooms (outlineOf R) (length w) n c s ≡ counterTests n ++ (roomOf (claimWords R) c ++ (roomOf (verifierRoom R) s ++ wordTests (proofWords R) w))
+          → verifyRooms (outlineOf R) (length w) n c s ≡ counterTests n ++ (roomTestOf (claimWords R) c ++ (roomTestOf (verifierRoom R) s ++ proofTests (outlineOf R) w))
       same h f =
           let k = noted-clear 0 (sizeTests (R .m) (R .q) ++ publicTests (R .m) x) refl h .1 in
-          let columns : Sized 2 65536 (R .m) = not-bad (k .0) in
-          let r = verifier-within (R .m) (rowsBin R) (rowsFld R) (columns .high) (both f .bin .rows .high) (both f .fld .rows .high) in
+          let r = verifier-within (R .m) (R .q) (rowsBin R) (rowsFld R) (sizes-none (k .0) (k .1 .0) f) in
           rw r
 
   pub prove-by : (ws x : List ℕ) (n w c s : ℕ)
       → noted 0 (proveTestsBy z (outlineOf R) (length ws) (length x) n w c s) ≡ noted 0 (proveTests R ws x n w c s)
   prove-by ws x n w c s =
       joined (sizeTests (R .m) (R .q) ++ (packedTests (R .m / 2) (R .q) ws ++ publicTests (R .m) x)) (ruleTests R) laid (proveRooms (outlineOf R) n w c s)
-      (counterTests n ++ (roomOf (proofWords R) w ++ (roomOf (claimWords R) c ++ roomOf (proverRoom R) s))) z e same
+      (counterTests n ++ (roomTestOf (proofWords R) w ++ (roomTestOf (claimWords R) c ++ roomTestOf (proverRoom R) s))) z e same
     where
       same : noted 0 (sizeTests (R .m) (R .q) ++ (packedTests (R .m / 2) (R .q) ws ++ publicTests (R .m) x)) ≡ 0 → z ≡ 0
-          → proveRooms (outlineOf R) n w c s ≡ counterTests n ++ (roomOf (proofWords R) w ++ (roomOf (claimWords R) c ++ roomOf (proverRoom R) s))
+          → proveRooms (outlineOf R) n w c s ≡ counterTests n ++ (roomTestOf (proofWords R) w ++ (roomTestOf (claimWords R) c ++ roomTestOf (proverRoom R) s))
       same h f =
           let k = noted-clear 0 (sizeTests (R .m) (R .q) ++ (packedTests (R .m / 2) (R .q) ws ++ publicTests (R .m) x)) refl h .1 in
-          let columns : Sized 2 65536 (R .m) = not-bad (k .0) in
-          let logins : Sized 1 4096 (R .q) = not-bad (k .1 .0) in
-          let r = prover-within (R .m) (R .q) (rowsBin R) (rowsFld R) (columns .high) (logins .high) (both f .bin .rows .high) (both f .fld .rows .high) in
+          let r = prover-within (R .m) (R .q) (rowsBin R) (rowsFld R) (sizes-none (k .0) (k .1 .0) f) in
           rw r
 
 -- ---- the rules' own number does not depend on the segment lengths

@@ -12,7 +12,7 @@ use Rattle.magnetar_field.specs.Words.{elements, words}
 use Rattle.magnetar_field.proofs.Elements.{elements-length, words-length}
 use Rattle.magnetar_field.proofs.Tabulation.{tabulate-length, tabulate-get, tabulate-out}
 use Rattle.magnetar_hash.specs.declared.transcript.Transcript.{Transcript}
-use Rattle.magnetar_layout.specs.Tests.{Tests}
+use Rattle.magnetar_layout.specs.Tests.{Tests, roomTestOf}
 use Rattle.magnetar_layout.proofs.Noted.{noted-clear}
 use Rattle.magnetar_matrix.specs.Batch.{Relation, Batch, Good, bitOf}
 use Rattle.magnetar_matrix.specs.Packed.{packedBit, loginPart, unpacked}
@@ -26,7 +26,8 @@ use Rattle.magnetar_schedule.specs.RealRun.{verifierDraws, verifierTranscript, 
 use Rattle.magnetar_schedule.proofs.ProverDraws.{sent-length}
 use Rattle.magnetar_schedule.proofs.RealRuns.{completeness-run}
 use Rattle.magnetar_relation.specs.Rules.{Rules, relationOf}
-use Rattle.magnetar_spartan.specs.Refusals.{rulesTests, counterTests, roomOf, wordTests, claimWords, proofWords, verifierRoom, proverRoom, verifyTests, proveTests}
+use Rattle.magnetar_protocol.specs.RunTests.{counterTests, proofTests}
+use Rattle.magnetar_spartan.specs.Refusals.{rulesTests, claimWords, proofWords, verifierRoom, proverRoom, verifyTests, proveTests, outlineOf}
 use Rattle.magnetar_spartan.specs.Outcome.{Proved, batchOf, verifyRefusal, verifyVerdict, verifyOutcome, proveRefusal, proveDraws, proveOutcome}
 use Rattle.magnetar_spartan.specs.Proving.{RunReady}
 use Rattle.magnetar_spartan.specs.Theorems.{AreWords, AcceptedBy, ProvedCall, Unrefused}
@@ -105,8 +106,8 @@ module _ (R : Rules) (ws x : List ℕ) (t : Transcript) (w c s : List ℕ) where
   unrefused p c′ s′ hp hc hs hw =
       let n = t .«squeeze_ctr» in
       let k = noted-clear 0 (proveTests R ws x n (length w) (length c) (length s)) (rules-numbered R _ refl) hp .1 in
-      let rest : Tests = counterTests n ++ (roomOf (proofWords R) (length w) ++ (roomOf (claimWords R) (length c) ++ roomOf (proverRoom R) (length s))) in
-      let others : Tests = counterTests n ++ (roomOf (claimWords R) (length c′) ++ (roomOf (verifierRoom R) (length s′) ++ wordTests (proofWords R) p)) in
+      let rest : Tests = counterTests n ++ (roomTestOf (proofWords R) (length w) ++ (roomTestOf (claimWords R) (length c) ++ roomTestOf (proverRoom R) (length s))) in
+      let others : Tests = counterTests n ++ (roomTestOf (claimWords R) (length c′) ++ (roomTestOf (verifierRoom R) (length s′) ++ proofTests (outlineOf R) p)) in
       let rules = clear-front (rulesTests R) rest (k .1 .1 .1 .1) in
       let counter = clear-back (rulesTests R) rest (k .1 .1 .1 .1) .0 in
       noted-none (verifyTests R x p n (length c′) (length s′)) (

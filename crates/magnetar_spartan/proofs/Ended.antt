@@ -11,14 +11,15 @@ use borrow.Author.Tests.{ne-eqb, eqb-true, ltb-true, ltb-false, not-false}
 use Rattle.magnetar_field.specs.Sizes.{log₂}
 use Rattle.magnetar_hash.specs.declared.transcript.Transcript.{Transcript}
 use Rattle.magnetar_layout.specs.Login.{loginWords}
-use Rattle.magnetar_layout.specs.Tests.{Tests, noted, Sized, sizeTests, layoutTests}
+use Rattle.magnetar_layout.specs.Tests.{Tests, noted, Sized, sizeTests, layoutTests, roomTestOf}
 use Rattle.magnetar_layout.proofs.Noted.{Clear, noted-clear}
 use Rattle.magnetar_r1cs.proofs.Points.{log-most}
 use Rattle.magnetar_protocol.specs.Draws.{drawCount}
 use Rattle.magnetar_protocol.specs.Run.{claims}
 use Rattle.magnetar_relation.specs.Rules.{Rules}
 use Rattle.magnetar_relation.specs.RuleTests.{ruleTests}
-use Rattle.magnetar_spartan.specs.Refusals.{rowsBin, rowsFld, outlineOf, rulesTests, counterTests, roomOf, wordTests, proofWords, claimWords, verifierRoom, proverRoom, verifyTests, proveTests}
+use Rattle.magnetar_protocol.specs.RunTests.{counterTests, proofTests}
+use Rattle.magnetar_spartan.specs.Refusals.{rowsBin, rowsFld, outlineOf, rulesTests, proofWords, claimWords, verifierRoom, proverRoom, verifyTests, proveTests}
 use Rattle.magnetar_spartan.specs.Ready.{Ready}
 use Rattle.magnetar_spartan.specs.Proving.{RunReady}
 use Rattle.magnetar_spartan.specs.Outcome.{verified, verifyRefusal, verifyOutcome}
@@ -26,12 +27,13 @@ use Rattle.magnetar_spartan.proofs.Fine.{clear-front, clear-back}
 use Rattle.magnetar_spartan.proofs.SizedRules.{rules-numbered, ready}
 
 -- ---- what is left where no test is bad
-pub record Verifiable (R : Rules) (x w : List ℕ) (c s : ℕ) : Type 0 where
+pub record Verifiable (R : Rules) (x w : List ℕ) (n c s : ℕ) : Type 0 where
   pub ready : Ready R
   pub public : length x ≡ R .m - 2
   pub claims : claimWords R ≤ c
   pub scratch : verifierRoom R ≤ s
   pub proof : length w ≡ proofWords R
+  pub counter : n < 2 ^ 32
 
 -- the rules among other tests
 rules-ready : (R : Rules) (rest : Tests) → Clear (sizeTests (R .m) (R .q)) → Clear (rulesTests R ++ rest) → Ready R
@@ -40,10 +42,10 @@ rules-ready R rest a c =
     let b = clear-front (rulesTests R) rest c in
     ready R a (clear-front (ruleTests R) l b) (clear-back (ruleTests R) l b)
 
-pub verifiable : (R : Rules) (x w : List ℕ) (n c s : ℕ) → noted 0 (verifyTests R x w n c s) ≡ 0 → Verifiable R x w c s
+pub verifiable : (R : Rules) (x w : List ℕ) (n c s : ℕ) → noted 0 (verifyTests R x w n c s) ≡ 0 → Verifiable R x w n c s
 verifiable R x w n c s e =
     let k = noted-clear 0 (verifyTests R x w n c s) (rules-numbered R _ refl) e .1 in
-    let rest : Tests = counterTests n ++ (roomOf (claimWords R) c ++ (roomOf (verifierRoom R) s ++ wordTests (proofWords R) w)) in
+    let rest : Tests = counterTests n ++ (roomTestOf (claimWords R) c ++ (roomTestOf (verifierRoom R) s ++ proofTests (outlineOf R) w)) in
     let b = clear-back (rulesTests R) rest (k .1 .1 .1) in
     record {
       ready = rules-ready R rest (k .0, (k .1 .0, tt)) (k .1 .1 .1);
@@ -51,6 +53,7 @@ verifiable R x w n c s e =
       claims = ltb-false c (claimWords R) (b .1 .0);
       scratch = ltb-false s (verifierRoom R) (b .1 .1 .0);
       proof = eqb-true (length w) (proofWords R) (not-false _ (b .1 .1 .1 .0));
+      counter = ltb-true n (2 ^ 32) (not-false _ (b .0));
     }
 
 -- at most 4096 logins have at most 12 variables
@@ -79,7 +82,7 @@ module _ (R : Rules) (x w : List ℕ) (t : Transcript) (c s : List ℕ) where
 pub provable : (R : Rules) (ws x : List ℕ) (n w c s : ℕ) → noted 0 (proveTests R ws x n w c s) ≡ 0 → RunReady R (length ws) (length x) w c s n
 provable R ws x n w c s e =
     let k = noted-clear 0 (proveTests R ws x n w c s) (rules-numbered R _ refl) e .1 in
-    let rest : Tests = counterTests n ++ (roomOf (proofWords R) w ++ (roomOf (claimWords R) c ++ roomOf (proverRoom R) s)) in
+    let rest : Tests = counterTests n ++ (roomTestOf (proofWords R) w ++ (roomTestOf (claimWords R) c ++ roomTestOf (proverRoom R) s)) in
     let b = clear-back (rulesTests R) rest (k .1 .1 .1 .1) in
     record {
       ready = rules-ready R rest (k .0, (k .1 .0, tt)) (k .1 .1 .1 .1);

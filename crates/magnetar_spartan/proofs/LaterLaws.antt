@@ -1,7 +1,7 @@
 -- The second part of a proving run, call by call: the folded columns, the inner rounds at their places, the claims, and the scratch cleared.
 -- Assumes nothing.
 use mathlib.Core.Path.{_≡_, refl, sym, ap, ap₂, _∙_, subst}
-use mathlib.Core.List.{List, _++_, reverse, append-assoc}
+use mathlib.Core.List.{List, [], _++_, reverse, append-assoc}
 use Prim.Native.Nat.{ℕ, _+_, _-_, _*_, _/_, _^_, _≤_, min}
 use native.Mathlib.Omega.{arith}
 use lib.ListN.{length, take, drop, replicate, length-append, length-drop, length-replicate}
@@ -18,21 +18,21 @@ use Rattle.magnetar_layout.proofs.Noted.{Clear}
 use Rattle.magnetar_matrix.specs.Batch.{Relation, folded, publicFolded}
 use Rattle.magnetar_matrix.specs.Packed.{unpacked}
 use Rattle.magnetar_batch.proofs.Rooms.{back-part, back-put}
-use Rattle.magnetar_protocol.specs.Shape.{logCols, proofElements, outline}
+use Rattle.magnetar_protocol.specs.Shape.{logCols, proofElements, claimCount, outline}
 use Rattle.magnetar_protocol.specs.Draws.{drawCount}
-use Rattle.magnetar_protocol.specs.Rooms.{proverScratch}
+use Rattle.magnetar_protocol.specs.Scratch.{proverScratchWords}
 use Rattle.magnetar_schedule.specs.Stepwise.{Steps, begin, innerRun, segmentValue, lowDraws, ended, innerAll}
 use Rattle.magnetar_schedule.proofs.Stepwise.{goes-inner, inner-drawn-length, inner-sent-length}
-use Rattle.magnetar_protocol.proofs.Within.{prover-within}
-use Rattle.magnetar_prover.specs.Entries.{counterTest, innerRoundsRefusal, innerPlayed, answerFor, proofFor, drawsFor, scratchFor}
-use Rattle.magnetar_prover.proofs.Guarded.{even-size}
-use Rattle.magnetar_verifier.specs.Outer.{runTests, segmentTests, drawTests, proofTests}
-use Rattle.magnetar_verifier.specs.Claims.{claimsRefusal, claimsOut, claimCount}
+use Rattle.magnetar_protocol.proofs.Guards.{prover-within}
+use Rattle.magnetar_prover.specs.Entries.{innerRoundsRefusal, innerPlayed, answerFor, proofFor, drawsFor, scratchFor}
+use Rattle.magnetar_protocol.proofs.Guards.{even-size}
+use Rattle.magnetar_protocol.specs.RunTests.{counterTests, runTests, outlineTests, drawTests, proofTests}
+use Rattle.magnetar_verifier.specs.Claims.{claimsRefusal, claimsOut}
 use Rattle.magnetar_relation.specs.Rules.{Rules}
 use Rattle.magnetar_spartan.specs.Refusals.{outlineOf, rowsBin, rowsFld, proofWords, proverRoom}
 use Rattle.magnetar_spartan.specs.Proving.{RunReady, FoldReady, FoldLeft, loginAt, saidBefore, drawnBefore, saidAll, drawnAll, InnerDone, EndLeft, laterPlayed}
 use Rattle.magnetar_spartan.proofs.Fine.{noted-none, size-fine, same-fine, most-fine, true-fine}
-use Rattle.magnetar_spartan.proofs.SizedRules.{sizes-fine, layout-fine}
+use Rattle.magnetar_spartan.proofs.SizedRules.{sizes-fine, layout-fine, outline-fine}
 use Rattle.magnetar_spartan.proofs.Ended.{draws-small}
 use Rattle.magnetar_spartan.proofs.FoldLaws.{behind-front}
 
@@ -98,7 +98,7 @@ module _ (R : Rules) (ws xs : ℕ) (w d c s : List ℕ) (t : Transcript)
   inner-none : (W D : List ℕ) → 2 * log₂ m ≤ length D → 2 * (3 * log₂ m + 1 + length ns) ≤ length W → innerRoundsRefusal m ns W D s t ≡ 0
   unfolding innerRoundsRefusal
   inner-none W D hd hw =
-      let rooms : Tests = counterTest t ++ (roomTest (2 * log₂ m) D ++ roomTest (2 * (3 * log₂ m + 1 + length ns)) W ++ roomTest (6 * m) s) in
+      let rooms : Tests = counterTests (t .«squeeze_ctr») ++ (roomTest (2 * log₂ m) D ++ roomTest (2 * (3 * log₂ m + 1 + length ns)) W ++ roomTest (6 * m) s) in
       let enough : Clear rooms = (
         true-fine _ (lt-ltb (t .«squeeze_ctr») (2 ^ 32) (ok .counter)),
         (
@@ -112,11 +112,9 @@ module _ (R : Rules) (ws xs : ℕ) (w d c s : List ℕ) (t : Transcript)
       → claimsRefusal m (R .q) (rowsBin R) (rowsFld R) ns W D c ≡ 0
   unfolding claimsRefusal
   claims-none W D hw hd =
-      let tests : Tests = segmentTests ns ++ (drawTests o D ++ (roomTest (2 * claimCount o) c ++ proofTests o W)) in
-      noted-none (runTests m (R .q) (rowsBin R) (rowsFld R) ++ tests) (sizes-fine R (ok .ready) tests (
-        most-fine 64 (length ns) (ok .ready .segments),
-        (same-fine (length D) (2 * drawCount o) hd, (most-fine (length c) (2 * claimCount o) (ok .claims), (same-fine (length W) (2 * proofElements o) hw, tt))),
-      ))
+      let tests : Tests = drawTests o D ++ (roomTest (2 * claimCount o) c ++ proofTests o W) in
+      noted-none (outlineTests m (R .q) (rowsBin R) (rowsFld R) ns ++ tests) (outline-fine R (ok .ready) tests
+      (same-fine (length D) (2 * drawCount o) hd, (most-fine (length c) (2 * claimCount o) (ok .claims), (same-fine (length W) (2 * proofElements o) hw, tt))))
 
   said-room : saidBefore R + 2 * (3 * log₂ m + 1 + length ns) ≤ length w
   said-room = omega (arith, ok .proof)
@@ -240,7 +238,7 @@ module _ (R : Rules) (ws x w d c s : List ℕ) (t : Transcript)
 
     module _ (u : Transcript) (w′ c′ s₂ : List ℕ)
         (ends : EndLeft R w d c s₁ (6 * R .m) (innerPlayed (outline (R .m) 1 1 1 (R .lengths)) s₁ t) u w′ c′ s₂)
-        (N g : ℕ) (eN : N ≡ min g (length s₂)) (eg : g ≡ proverScratch (R .m) (R .q) (rowsBin R) (rowsFld R)) where
+        (N g : ℕ) (eN : N ≡ min g (length s₂)) (eg : g ≡ proverScratchWords (R .m) (R .q) (rowsBin R) (rowsFld R) .words) where
       s₂-long : length s₂ ≡ length s
       s₂-long =
           ap length (ends .3) ∙ (length-append (replicate (6 * R .m) 0) (drop (6 * R .m) s₁)
@@ -248,7 +246,8 @@ module _ (R : Rules) (ws x w d c s : List ℕ) (t : Transcript)
 
       N-is : N ≡ n
       N-is =
-          let r = prover-within (R .m) (R .q) (rowsBin R) (rowsFld R) (ok .ready .columns .high) (ok .ready .logins .high) (ok .ready .bin .rows .high) (ok .ready .fld .rows .high) in
+          let r = prover-within (R .m) (R .q) (rowsBin R) (rowsFld R)
+          (noted-none (runTests (R .m) (R .q) (rowsBin R) (rowsFld R)) (sizes-fine R (ok .ready) [] tt)) in
           eN ∙ least (eg ∙ r) (omega (arith, s₂-long, ok .scratch))
         where
           least : {a b l : ℕ} → a ≡ b → b ≤ l → min a l ≡ b

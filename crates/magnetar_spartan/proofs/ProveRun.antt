@@ -36,7 +36,8 @@ use Rattle.magnetar_schedule.proofs.StepLaws.{behind}
 use Rattle.magnetar_schedule.proofs.Proving.{productTables, outerProving, proving}
 use Rattle.magnetar_schedule.proofs.Stepwise.{proving-after, outer-proving-sent, outer-proving-count}
 use Rattle.magnetar_schedule.proofs.ProverRun.{proving-words, proving-transcript, proving-claims}
-use Rattle.magnetar_prover.specs.Entries.{counterTest, countTests, totalTests, outerDrawn, outerSent, blockWords, tablesOf, outerRoundsRefusal, outerPlayed}
+use Rattle.magnetar_protocol.specs.RunTests.{counterTests}
+use Rattle.magnetar_prover.specs.Entries.{countTests, totalTests, outerDrawn, outerSent, blockWords, tablesOf, outerRoundsRefusal, outerPlayed}
 use Rattle.magnetar_prover.specs.Whole.{outerWhole}
 use Rattle.magnetar_prover.proofs.Joined.{whole-is}
 use Rattle.magnetar_relation.specs.Rules.{Rules, relationOf}
@@ -144,7 +145,7 @@ module _ (R : Rules) (ws x w c s : List ℕ) (t : Transcript)
     none : outerNumber q b f w s₁ t ≡ 0
     unfolding outerRoundsRefusal
     none =
-        noted-none (countTests q b f ++ totalTests q b f ++ (counterTest t ++ (roomTest (2 * outerDrawn (log₂ q) (log₂ b) (log₂ f)) z₀
+        noted-none (countTests q b f ++ totalTests q b f ++ (counterTests (t .«squeeze_ctr») ++ (roomTest (2 * outerDrawn (log₂ q) (log₂ b) (log₂ f)) z₀
         ++ roomTest (2 * outerSent (log₂ q) (log₂ b) (log₂ f)) w ++ roomTest (blockWords q b f) s₁))) (
           size-fine 1 4096 q (ok .ready .logins),
           (

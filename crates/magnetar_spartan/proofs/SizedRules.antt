@@ -9,10 +9,10 @@ use lib.Dec.{eqb, ltb}
 use lib.ListN.{length, drop, length-take}
 use borrow.Author.Tests.{ltb-false, eqb-true, not-false}
 use Rattle.magnetar_layout.proofs.Laid.{half-power}
-use Rattle.magnetar_prover.proofs.Guarded.{even-size}
+use Rattle.magnetar_protocol.proofs.Guards.{even-size}
 use Rattle.magnetar_layout.specs.Every.{every}
 use Rattle.magnetar_layout.specs.Layout.{LayoutFits, isLength, layoutEnd}
-use Rattle.magnetar_layout.specs.Tests.{Tests, Sized, sizeTests, rowsTests, layoutTests}
+use Rattle.magnetar_layout.specs.Tests.{Tests, Sized, mostSegments, sizeTests, rowsTests, layoutTests}
 use Rattle.magnetar_layout.proofs.EveryLaws.{both}
 use Rattle.magnetar_layout.proofs.Noted.{Clear, numbered}
 use Rattle.magnetar_layout.proofs.SizeLaws.{not-bad}
@@ -22,7 +22,7 @@ use Rattle.magnetar_relation.specs.declared.shapes.Shape.{Shape}
 use Rattle.magnetar_relation.specs.declared.shapes.SystemShape.{SystemShape}
 use Rattle.magnetar_relation.specs.Rules.{Rules, entriesIn, matrixAt, systemAt, relationOf, inMatrix, inSystem, inRelation}
 use Rattle.magnetar_relation.specs.RuleTests.{rowTests, colTests, mostTests, numberTests, total, ruleTestsBy, ruleTests}
-use Rattle.magnetar_verifier.specs.Outer.{runTests}
+use Rattle.magnetar_protocol.specs.RunTests.{runTests, outlineTests}
 use Rattle.magnetar_spartan.specs.Refusals.{rowsBin, rowsFld, rulesTests}
 use Rattle.magnetar_spartan.specs.Ready.{Ready}
 use Rattle.magnetar_spartan.proofs.Fine.{numbered-join, clear-front, clear-back, size-fine, most-fine, true-fine}
@@ -136,4 +136,7 @@ module _ (R : Rules) (P : Ready R) where
   sizes-fine l k = (size-fine 2 65536 (R .m) (P .columns), (size-fine 1 4096 (R .q) (P .logins), both-rows-fine l k))
 
   pub layout-fine : (l : Tests) → Clear l → Clear (layoutTests (R .m / 2) (R .lengths) ++ l)
-  layout-fine l k = (true-fine _ (P .layout .lengths), (most-fine _ _ (P .layout .ends), (most-fine 64 (length (R .lengths)) (P .segments), k)))
+  layout-fine l k = (true-fine _ (P .layout .lengths), (most-fine _ _ (P .layout .ends), (most-fine mostSegments (length (R .lengths)) (P .segments), k)))
+
+  pub outline-fine : (l : Tests) → Clear l → Clear (outlineTests (R .m) (R .q) (rowsBin R) (rowsFld R) (R .lengths) ++ l)
+  outline-fine l k = sizes-fine (layoutTests (R .m / 2) (R .lengths) ++ l) (layout-fine l k)

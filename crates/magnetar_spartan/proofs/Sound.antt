@@ -38,7 +38,7 @@ pub front : (v r : List ℕ) (n : ℕ) → n ≡ 2 * length v → take n (words 
 front v r n h = take-at (words v) r n (words-length v ∙ sym h)
 
 module _ (R : Rules) (x w : List ℕ) (t : Transcript) (c s : List ℕ) (none : verifyRefusal R x w t c s ≡ 0) where
-  fits : Verifiable R x w (length c) (length s)
+  fits : Verifiable R x w (t .«squeeze_ctr») (length c) (length s)
   fits = verifiable R x w (t .«squeeze_ctr») (length c) (length s) (unfold verifyRefusal in none)
 
   relation : SizedRelation (relationOf R)

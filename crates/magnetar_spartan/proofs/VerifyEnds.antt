@@ -32,7 +32,7 @@ use Rattle.magnetar_spartan.specs.Theorems.{AreWords, AcceptedCall}
 use Rattle.magnetar_spartan.specs.Table.{tableAt}
 use Rattle.magnetar_spartan.specs.Stages.{drawnWords, playedTo, drawnOf, laidAt, outerAt, begun, checkedAt, roomElements, finished, begunUnless, finishedUnless}
 use Rattle.magnetar_spartan.proofs.Verifying.{played-all, schedule-small}
-use Rattle.magnetar_spartan.proofs.VerifyRun.{draws-many, checks-leave}
+use Rattle.magnetar_spartan.proofs.VerifyRun.{draws-many, drawn-is, checks-leave}
 use Rattle.magnetar_spartan.proofs.Ended.{Verifiable, verifiable, draws-small, verify-refused}
 use Rattle.magnetar_spartan.proofs.ByNumbers.{verify-by}
 use Rattle.magnetar_spartan.proofs.Sound.{accepted-call}
@@ -52,7 +52,7 @@ module _ (R : Rules) (x w : List ℕ) (t : Transcript) (c s : List ℕ) (none : 
   abbrev o : Relation
   o = outlineOf R
 
-  pub fits : Verifiable R x w (length c) (length s)
+  pub fits : Verifiable R x w (t .«squeeze_ctr») (length c) (length s)
   unfolding verifyRefusal
   fits = verifiable R x w (t .«squeeze_ctr») (length c) (length s) none
 
@@ -65,14 +65,16 @@ module _ (R : Rules) (x w : List ℕ) (t : Transcript) (c s : List ℕ) (none : 
   drawn = words (verifierDraws (relationOf R) (elements w) t)
 
   pub drawn-long : length drawn ≡ 2 * drawCount o
-  drawn-long = draws-many R (fits .ready) x w t (fits .proof)
+  drawn-long = draws-many R (fits .ready) x w t (fits .proof) (fits .counter)
 
   pub drawn-few : length drawn ≤ 256
   drawn-few = omega (arith, drawn-long, draws-small R (fits .ready))
 
   pub words-are : drawnWords o w t ≡ overlaid drawn (replicate 256 0)
   unfolding verifierDraws
-  words-are = ap (λ (p : Played). overlaid (words (p .draws)) (replicate 256 0)) (played-all R (elements w) t 65536 (schedule-small R (fits .ready)))
+  words-are =
+      drawn-is R (fits .ready) x w t (fits .proof) (fits .counter)
+      ∙ ap (λ (p : Played). overlaid (words (p .draws)) (replicate 256 0)) (played-all R (elements w) t 65536 (schedule-small R (fits .ready)))
 
   pub draws-are : drawnOf o (drawnWords o w t) ≡ drawn
   draws-are =
@@ -131,7 +133,7 @@ module _ (R : Rules) (x w : List ℕ) (t : Transcript) (c s : List ℕ) (none : 
     pub run-ends : finished o x w t (begun o w t) c u ≡ verifyOutcome R x w t c s
     unfolding verifyOutcome
     run-ends =
-        let l = checks-leave R (fits .ready) x w t (fits .proof) c v (fits .claims) room table-laid half-is in
+        let l = checks-leave R (fits .ready) x w t (fits .proof) (fits .counter) c v (fits .claims) room table-laid half-is in
         let r = cleared-room (verifierRoom R) (roomElements o) s _ (omega arith) (fits .scratch) room-after in
         rw (none, draws-are, half-laid, ← l .0, ← l .1, ← l .2, r)
 
@@ -171,7 +173,7 @@ module _ (R : Rules) (x w : List ℕ) (t : Transcript) (c s : List ℕ) (y z : �
       draws : drawnOf (outlineOf R) (drawnWords (outlineOf R) w t) ≡ D
       draws = draws-are R x w t c s none
 
-      ok : Verifiable R x w (length c) (length s)
+      ok : Verifiable R x w (t .«squeeze_ctr») (length c) (length s)
       ok = fits R x w t c s none
 
       enough : 2 * R .m + 2 * max (rowsBin R) (rowsFld R) ≤ length s

@@ -2,40 +2,45 @@
 -- Assumes nothing.
 use mathlib.Core.Path.{_≡_, refl, sym, ap, _∙_}
 use mathlib.Core.List.{List, _++_}
-use Prim.Native.Nat.{ℕ, zero, suc, _+_, _*_, _/_, _≤_}
+use Prim.Native.Nat.{ℕ, zero, suc, _+_, _*_, _/_, _^_, _≤_, _<_}
 use native.Mathlib.Omega.{arith}
-use lib.ListN.{length, take, drop}
-use borrow.Author.Tests.{eq-eqb, ne-eqb}
-use Rattle.magnetar_field.specs.Words.{elements, words}
+use lib.ListN.{length, take, drop, replicate, length-replicate}
+use borrow.Author.Tests.{eq-eqb, ne-eqb, lt-ltb}
+use Rattle.magnetar_field.specs.Words.{elements, words, overlaid}
 use Rattle.magnetar_field.proofs.Elements.{words-length}
 use Rattle.magnetar_matrix.proofs.TableLaws.{elements-words}
 use Rattle.magnetar_hash.specs.declared.transcript.Transcript.{Transcript}
-use Rattle.magnetar_layout.specs.Tests.{sizeTests, rowsTests, layoutTests, roomTest}
+use Rattle.magnetar_layout.specs.Tests.{roomTest}
 use Rattle.magnetar_matrix.specs.Batch.{Relation, publicFolded}
-use Rattle.magnetar_protocol.specs.Shape.{proofElements}
+use Rattle.magnetar_protocol.specs.Shape.{proofElements, claimCount}
 use Rattle.magnetar_protocol.specs.Draws.{drawsOf, drawCount, loginPoint}
 use Rattle.magnetar_protocol.specs.Checks.{combined}
 use Rattle.magnetar_protocol.specs.Run.{claims}
+use Rattle.magnetar_schedule.specs.Schedule.{schedule}
+use Rattle.magnetar_schedule.specs.Play.{playedFrom}
+use Rattle.magnetar_prover.specs.Entries.{playRefusal, playAnswer, playDraws}
 use Rattle.magnetar_schedule.specs.RealRun.{verifierDraws, verifierTranscript}
 use Rattle.magnetar_protocol.specs.declared.first.Found.{Found}
 use Rattle.magnetar_protocol.specs.Found.{firstFound}
 use Rattle.magnetar_schedule.proofs.Blocks.{claims-outlined}
 use Rattle.magnetar_schedule.proofs.Counts.{verifier-count}
-use Rattle.magnetar_verifier.specs.Outer.{outerChecksRefusal, outerFound, runTests, segmentTests, drawTests, proofTests}
+use Rattle.magnetar_verifier.specs.Outer.{outerChecksRefusal, outerFound}
+use Rattle.magnetar_protocol.specs.RunTests.{outlineTests, counterTests, drawTests, proofTests}
 use Rattle.magnetar_verifier.specs.Outer as checked
 use Rattle.magnetar_verifier.specs.End.{endRefusal, endFound}
-use Rattle.magnetar_verifier.specs.Claims.{claimsRefusal, claimsOut, claimCount}
+use Rattle.magnetar_verifier.specs.Claims.{claimsRefusal, claimsOut}
 use Rattle.magnetar_relation.specs.Rules.{Rules, relationOf}
 use Rattle.magnetar_spartan.specs.Refusals.{rowsBin, rowsFld, outlineOf, proofWords, claimWords}
 use Rattle.magnetar_spartan.specs.Ready.{Ready}
 use Rattle.magnetar_spartan.specs.Outcome.{Verified, verifyVerdict, verifyClaims}
-use Rattle.magnetar_spartan.specs.Stages.{playedTo, outerAt, endAt, claimsAt, stoppedAt, checkedAt}
-use Rattle.magnetar_spartan.proofs.Fine.{noted-none, size-fine, same-fine, most-fine}
-use Rattle.magnetar_spartan.proofs.SizedRules.{sizes-fine, both-rows-fine, layout-fine}
-use Rattle.magnetar_spartan.proofs.Verifying.{sizes-are, draws-is, schedule-small, outer-is, later-is, outerOf, laterOf, answer-outer, answer-later, answer-none}
+use Rattle.magnetar_spartan.specs.Stages.{drawnWords, playedTo, outerAt, endAt, claimsAt, stoppedAt, checkedAt}
+use Rattle.magnetar_spartan.proofs.Ended.{draws-small}
+use Rattle.magnetar_spartan.proofs.Fine.{noted-none, same-fine, most-fine, true-fine}
+use Rattle.magnetar_spartan.proofs.SizedRules.{outline-fine}
+use Rattle.magnetar_spartan.proofs.Verifying.{sizes-are, draws-is, schedule-small, outer-is, later-is, outerOf, laterOf, after, answer-outer, answer-later, answer-none}
 
 -- a run with the public words x, the proof's words w and the transcript t
-module _ (R : Rules) (P : Ready R) (x w : List ℕ) (t : Transcript) (proof : length w ≡ proofWords R) where
+module _ (R : Rules) (P : Ready R) (x w : List ℕ) (t : Transcript) (proof : length w ≡ proofWords R) (counter : t .«squeeze_ctr» < 2 ^ 32) where
   abbrev o : Relation
   o = outlineOf R
 
@@ -58,13 +63,30 @@ module _ (R : Rules) (P : Ready R) (x w : List ℕ) (t : Transcript) (proof : le
   proof-fits : length w ≡ 2 * proofElements o
   proof-fits = proof
 
+  -- ---- the schedule
+  play-none : playRefusal o w (replicate 256 0) t ≡ 0
+  unfolding playRefusal
+  play-none =
+      let l = counterTests (t .«squeeze_ctr») ++ (roomTest (2 * drawCount o) (replicate 256 0) ++ proofTests o w) in
+      let room = most-fine (length (replicate {A = ℕ} 256 0)) (2 * drawCount o) (omega (arith, draws-small R P, length-replicate {A = ℕ} 256 0)) in
+      noted-none (outlineTests (R .m) (R .q) (rowsBin R) (rowsFld R) (R .lengths) ++ l)
+      (outline-fine R P l (true-fine _ (lt-ltb _ _ counter), (room, (same-fine _ _ proof-fits, tt))))
+
+  pub played-is : (n : ℕ) → playedTo o w t n ≡ after R x w t n
+  unfolding playAnswer
+  played-is n = rw play-none
+
+  pub drawn-is : drawnWords o w t ≡ overlaid (words (playedFrom (elements w) (take 65536 (schedule o)) t .draws)) (replicate 256 0)
+  unfolding playDraws
+  drawn-is = rw play-none
+
   -- ---- the outer checks
   outer-none : outerChecksRefusal o w d ≡ 0
   unfolding outerChecksRefusal
   outer-none =
-      let l = segmentTests (R .lengths) ++ (drawTests o d ++ proofTests o w) in
-      noted-none (runTests (R .m) (R .q) (rowsBin R) (rowsFld R) ++ l)
-      (sizes-fine R P l (most-fine 64 (length (R .lengths)) (P .segments), (same-fine _ _ draws-many, (same-fine _ _ proof-fits, tt))))
+      let l = drawTests o d ++ proofTests o w in
+      noted-none (outlineTests (R .m) (R .q) (rowsBin R) (rowsFld R) (R .lengths) ++ l)
+      (outline-fine R P l (same-fine _ _ draws-many, (same-fine _ _ proof-fits, tt)))
 
   outer-checks-are : checked.outerChecks o (elements w) (drawsOf o (elements d)) ≡ outerOf R x w t
   unfolding checked.outerChecks
@@ -85,10 +107,8 @@ module _ (R : Rules) (P : Ready R) (x w : List ℕ) (t : Transcript) (proof : le
     unfolding endRefusal
     end-none =
         let l = drawTests o d ++ (roomTest (4 * R .m) s ++ proofTests o w) in
-        let k = layoutTests (R .m / 2) (R .lengths) ++ l in
-        let rest = both-rows-fine R P k (layout-fine R P l (same-fine _ _ draws-many, (most-fine (length s) (4 * R .m) hs, (same-fine _ _ proof-fits, tt)))) in
-        noted-none (sizeTests (R .m) (R .q) ++ (rowsTests (R .q) (rowsBin R) ++ (rowsTests (R .q) (rowsFld R) ++ k)))
-        (size-fine 2 65536 (R .m) (P .columns), (size-fine 1 4096 (R .q) (P .logins), rest))
+        noted-none (outlineTests (R .m) (R .q) (rowsBin R) (rowsFld R) (R .lengths) ++ l)
+        (outline-fine R P l (same-fine _ _ draws-many, (most-fine (length s) (4 * R .m) hs, (same-fine _ _ proof-fits, tt))))
 
     abbrev G : Found
     G = endAt o w d s
@@ -103,10 +123,10 @@ module _ (R : Rules) (P : Ready R) (x w : List ℕ) (t : Transcript) (proof : le
     claims-none : claimsRefusal (R .m) (R .q) (rowsBin R) (rowsFld R) (R .lengths) w d c ≡ 0
     unfolding claimsRefusal
     claims-none =
-        let l = segmentTests (R .lengths) ++ (drawTests o d ++ (roomTest (2 * claimCount o) c ++ proofTests o w)) in
+        let l = drawTests o d ++ (roomTest (2 * claimCount o) c ++ proofTests o w) in
         let room = most-fine (length c) (2 * claimCount o) (omega (arith, hc)) in
-        noted-none (runTests (R .m) (R .q) (rowsBin R) (rowsFld R) ++ l)
-        (sizes-fine R P l (most-fine 64 (length (R .lengths)) (P .segments), (same-fine _ _ draws-many, (room, (same-fine _ _ proof-fits, tt)))))
+        noted-none (outlineTests (R .m) (R .q) (rowsBin R) (rowsFld R) (R .lengths) ++ l)
+        (outline-fine R P l (same-fine _ _ draws-many, (room, (same-fine _ _ proof-fits, tt))))
 
     claims-is : claims o (elements w) (elements d) ≡ claims (relationOf R) (elements w) D
     claims-is =
@@ -134,7 +154,7 @@ module _ (R : Rules) (P : Ready R) (x w : List ℕ) (t : Transcript) (proof : le
     at-outer h =
         let q = first-is in
         let b = answer-outer R x w t (F .code) (F .events) (ap (λ (k : Found). k .code) q) (ap (λ (k : Found). k .events) q) h in
-        rw (ne-eqb (F .code) 0 h) (b .0, b .1, kept (F .code) (b .0) h)
+        rw (ne-eqb (F .code) 0 h) (b .0, played-is (F .events) ∙ b .1, kept (F .code) (b .0) h)
 
     at-later : F .code ≡ 0 → (G .code ≡ 0 → ⊥) → Stopped G
     unfolding firstFound
@@ -143,7 +163,7 @@ module _ (R : Rules) (P : Ready R) (x w : List ℕ) (t : Transcript) (proof : le
         let p = last-is z in
         let b = answer-later R x w t (G .code) (G .events) (sym (ap (λ (k : Found). k .code) q) ∙ z) (ap (λ (k : Found). k .code) p)
         (ap (λ (k : Found). k .events) p) h in
-        rw (ne-eqb (G .code) 0 h) (b .0, b .1, kept (G .code) (b .0) h)
+        rw (ne-eqb (G .code) 0 h) (b .0, played-is (G .events) ∙ b .1, kept (G .code) (b .0) h)
 
     at-none : F .code ≡ 0 → G .code ≡ 0 → Stopped G
     unfolding firstFound
@@ -151,7 +171,7 @@ module _ (R : Rules) (P : Ready R) (x w : List ℕ) (t : Transcript) (proof : le
         let q = first-is in
         let p = last-is z in
         let b = answer-none R x w t 65536 (sym (ap (λ (k : Found). k .code) q) ∙ z) (sym (ap (λ (k : Found). k .code) p) ∙ e) (schedule-small R P) in
-        rw (eq-eqb (G .code) 0 e, e) (b .0, b .1, written (b .0))
+        rw (eq-eqb (G .code) 0 e, e) (b .0, played-is 65536 ∙ b .1, written (b .0))
 
     pub checks-leave : Left (checkedAt o w d t (playedTo o w t 65536) F c s)
     checks-leave = go (F .code) (G .code) refl refl

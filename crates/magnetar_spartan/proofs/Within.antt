@@ -16,14 +16,15 @@ use Rattle.magnetar_hash.specs.declared.transcript.Transcript.{Transcript}
 use Rattle.magnetar_layout.specs.Every.{every}
 use Rattle.magnetar_layout.specs.Layout.{isLength, endFrom, layoutEnd}
 use Rattle.magnetar_layout.specs.Login.{loginWords}
-use Rattle.magnetar_layout.specs.Tests.{Tests, Sized, isSize, layoutTests}
+use Rattle.magnetar_layout.specs.Tests.{Tests, Sized, isSize, layoutTests, roomTestOf}
 use Rattle.magnetar_layout.proofs.Noted.{Clear}
 use Rattle.magnetar_matrix.specs.Matrix.{Entry}
 use Rattle.magnetar_relation.specs.declared.shapes.Shape.{Shape}
 use Rattle.magnetar_relation.specs.declared.shapes.SystemShape.{SystemShape}
 use Rattle.magnetar_relation.specs.Rules.{Rules, rulesOver, entriesIn, matrixAt, systemAt, relationOf, liesIn, inMatrix, inSystem, inRelation}
 use Rattle.magnetar_relation.specs.RuleTests.{rowTests, colTests, mostTests, numberTests, total, ruleTestsBy, ruleTests}
-use Rattle.magnetar_spartan.specs.Refusals.{rulesTests, counterTests, roomOf, wordTests, proofWords, claimWords, verifierRoom, proverRoom, verifyTests, proveTests}
+use Rattle.magnetar_protocol.specs.RunTests.{counterTests, proofTests}
+use Rattle.magnetar_spartan.specs.Refusals.{rulesTests, proofWords, claimWords, verifierRoom, proverRoom, verifyTests, proveTests, outlineOf}
 use Rattle.magnetar_spartan.specs.Outcome.{verifyRefusal, proveRefusal}
 use Rattle.magnetar_spartan.specs.Within.{Power, noEntry, MatrixWithin, SystemWithin, RulesWithin, ProveWithin, VerifyWithin, ProveUnrefused, VerifyUnrefused}
 use Rattle.magnetar_spartan.proofs.Fine.{noted-none, clear-join, size-fine, same-fine, most-fine, true-fine}
@@ -131,7 +132,7 @@ unfolding proveRefusal loginWords
 prove-unrefused R ws x t w c s W =
     let n = t .«squeeze_ctr» in
     let r = W .rules in
-    let rest : Tests = counterTests n ++ (roomOf (proofWords R) (length w) ++ (roomOf (claimWords R) (length c) ++ roomOf (proverRoom R) (length s))) in
+    let rest : Tests = counterTests n ++ (roomTestOf (proofWords R) (length w) ++ (roomTestOf (claimWords R) (length c) ++ roomTestOf (proverRoom R) (length s))) in
     let proof : proofWords R ≤ length w = omega (arith, W .proof) in
     let last : Clear rest = (counter-fine n (W .counter), (le-ltb _ _ proof, (le-ltb _ _ (W .claims), (le-ltb _ _ (W .scratch), tt)))) in
     noted-none (proveTests R ws x n (length w) (length c) (length s)) (
@@ -144,7 +145,7 @@ unfolding verifyRefusal
 verify-unrefused-within R x w t c s W =
     let n = t .«squeeze_ctr» in
     let r = W .rules in
-    let rest : Tests = counterTests n ++ (roomOf (claimWords R) (length c) ++ (roomOf (verifierRoom R) (length s) ++ wordTests (proofWords R) w)) in
+    let rest : Tests = counterTests n ++ (roomTestOf (claimWords R) (length c) ++ (roomTestOf (verifierRoom R) (length s) ++ proofTests (outlineOf R) w)) in
     let proof : length w ≡ proofWords R = omega (arith, W .proof) in
     let last : Clear rest = (counter-fine n (W .counter), (le-ltb _ _ (W .claims), (le-ltb _ _ (W .scratch), (same-fine _ _ proof, tt)))) in
     noted-none (verifyTests R x w n (length c) (length s))

@@ -1,16 +1,14 @@
 -- The refusals of both ends by numbers: z is the one that 4 to 7 gave or 0, o the relation's sizes, and how many words each slice has
 -- stands for its words. Only the contracts of private functions speak of this.
 -- Assumes nothing.
-use mathlib.Core.Bool.{true, not}
-use mathlib.Core.List.{[], _∷_, _++_}
+use mathlib.Core.Bool.{true}
+use mathlib.Core.List.{_∷_, _++_}
 use Prim.Native.Nat.{ℕ, _*_, _/_}
-use lib.Dec.{eqb}
-use Rattle.magnetar_layout.specs.Tests.{Tests, sizeTests, packedTestsOf, publicTestsOf, layoutTests}
+use Rattle.magnetar_layout.specs.Tests.{Tests, sizeTests, packedTestsOf, publicTestsOf, layoutTests, roomTestOf}
 use Rattle.magnetar_matrix.specs.Batch.{Relation}
-use Rattle.magnetar_protocol.specs.Shape.{proofElements}
-use Rattle.magnetar_protocol.specs.Rooms.{verifierScratch, proverScratch}
-use Rattle.magnetar_verifier.specs.Claims.{claimCount}
-use Rattle.magnetar_spartan.specs.Refusals.{counterTests, roomOf}
+use Rattle.magnetar_protocol.specs.Shape.{proofElements, claimCount}
+use Rattle.magnetar_protocol.specs.RunTests.{counterTests, proofTestsOf}
+use Rattle.magnetar_protocol.specs.Scratch.{verifierScratchWords, proverScratchWords}
 
 -- 4 to 10
 abbrev pub laidTests : ℕ → Relation → Tests
@@ -19,14 +17,15 @@ laidTests z o = (z, true) ∷ layoutTests (o .m / 2) (o .lengths)
 -- 14 to 16 of the verifier: so many words w of proof, the counter n, so many words of claims and scratch
 abbrev pub verifyRooms : Relation → (w n claims scratch : ℕ) → Tests
 verifyRooms o w n c s =
-    counterTests n ++ (roomOf (2 * claimCount o) c ++ (roomOf (verifierScratch (o .m) (o .bin .a .rows) (o .fld .a .rows)) s
-    ++ ((16, not (eqb w (2 * proofElements o))) ∷ [])))
+    counterTests n
+    ++ (roomTestOf (2 * claimCount o) c
+    ++ (roomTestOf (verifierScratchWords (o .m) (o .q) (o .bin .a .rows) (o .fld .a .rows) .words) s ++ proofTestsOf o w))
 
 -- 14 and 15 of the prover
 abbrev pub proveRooms : Relation → (n proof claims scratch : ℕ) → Tests
 proveRooms o n w c s =
-    counterTests n ++ (roomOf (2 * proofElements o) w ++ (roomOf (2 * claimCount o) c
-    ++ roomOf (proverScratch (o .m) (o .q) (o .bin .a .rows) (o .fld .a .rows)) s))
+    counterTests n ++ (roomTestOf (2 * proofElements o) w ++ (roomTestOf (2 * claimCount o) c
+    ++ roomTestOf (proverScratchWords (o .m) (o .q) (o .bin .a .rows) (o .fld .a .rows) .words) s))
 
 -- all of the verifier, with so many public words x
 abbrev pub verifyTestsBy : ℕ → Relation → (x w n claims scratch : ℕ) → Tests

@@ -9,7 +9,7 @@ use lib.Dec.{ltb, leb}
 use lib.ListN.{length, take, drop}
 use Rattle.magnetar_field.specs.Words.{elements}
 use Rattle.magnetar_layout.specs.Login.{loginWords}
-use Rattle.magnetar_layout.specs.Tests.{Sized}
+use Rattle.magnetar_layout.specs.Tests.{Sized, mostColumns, mostLogins, mostRows}
 use Rattle.magnetar_matrix.specs.Matrix.{Matrix, System}
 use Rattle.magnetar_matrix.specs.Batch.{Relation}
 use Rattle.magnetar_matrix.specs.Packed.{packedTable}
@@ -25,7 +25,7 @@ use Rattle.magnetar_spartan.specs.Refusals.{rowsBin, rowsFld}
 -- ---- the tables by their numbers: 1, 2 and 3 are A, B and C of bin, 5, 6 and 7 those of fld
 -- the words of one table, for q logins and n rows within the limits
 abbrev pub productWords : (q n : ℕ) → ℕ
-productWords q n = 2 * (min q 4096 * min n 65536)
+productWords q n = 2 * (min q mostLogins * min n mostRows)
 
 -- table k of a system whose block is at word p and whose entries are from i on, among h of them
 abbrev pub partIn : (k q : ℕ) → SystemShape → (p i h : ℕ) → Part
@@ -85,8 +85,8 @@ pub record Placed (n p : ℕ) (t s s′ : List ℕ) : Type 0 where
 
 -- what the products ask for: so many packed words ws, public words x and words s for all tables
 pub record ProductsReady (R : Rules) (ws x s : ℕ) : Type 0 where
-  pub columns : Sized 2 65536 (R .m)
-  pub logins : Sized 1 4096 (R .q)
+  pub columns : Sized 2 mostColumns (R .m)
+  pub logins : Sized 1 mostLogins (R .q)
   pub bin : SizedSystem (R .m) (R .q) (relationOf R .bin)
   pub fld : SizedSystem (R .m) (R .q) (relationOf R .fld)
   pub packed : ws ≡ R .q * loginWords (R .m / 2)

@@ -9,7 +9,7 @@ use Rattle.magnetar_field.specs.Sizes.{log₂}
 use Rattle.magnetar_field.specs.Words.{elements, words}
 use Rattle.magnetar_hash.specs.declared.transcript.Transcript.{Transcript}
 use Rattle.magnetar_layout.specs.Login.{loginWords}
-use Rattle.magnetar_layout.specs.Tests.{Sized}
+use Rattle.magnetar_layout.specs.Tests.{Sized, mostColumns, mostLogins}
 use Rattle.magnetar_matrix.specs.Batch.{folded, publicFolded}
 use Rattle.magnetar_matrix.specs.Packed.{unpacked}
 use Rattle.magnetar_relation.specs.declared.shapes.Shape.{Shape}
@@ -58,8 +58,8 @@ OuterDone q b f w s t u d w′ s′ =
 -- ---- the z of all logins folded at the point of the n draws from place k of d on, behind the first 4w words
 -- what it asks for: so many packed words ws, public words x, words d of draws, and words s
 pub record FoldReady (q w n k ws x d s : ℕ) : Type 0 where
-  pub columns : Sized 2 65536 (2 * w)
-  pub logins : Sized 1 4096 q
+  pub columns : Sized 2 mostColumns (2 * w)
+  pub logins : Sized 1 mostLogins q
   pub packed : ws ≡ q * loginWords w
   pub public : x ≡ 2 * w - 2
   pub point : n ≡ log₂ q

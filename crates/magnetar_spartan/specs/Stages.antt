@@ -8,13 +8,12 @@ use lib.Dec.{eqb}
 use lib.ListN.{length, getD, take, drop, replicate}
 use Rattle.magnetar_field.specs.Sizes.{log₂}
 use Rattle.magnetar_field.specs.Tabulate.{tabulate}
-use Rattle.magnetar_field.specs.Words.{elements, words, overlaid}
+use Rattle.magnetar_field.specs.Words.{elements, words}
 use Rattle.magnetar_hash.specs.declared.transcript.Transcript.{Transcript}
 use Rattle.magnetar_matrix.specs.Batch.{Relation}
 use Rattle.magnetar_batch.specs.Entries.{publicInOut}
 use Rattle.magnetar_protocol.specs.Draws.{drawCount}
-use Rattle.magnetar_schedule.specs.Schedule.{schedule}
-use Rattle.magnetar_schedule.specs.Play.{playedFrom}
+use Rattle.magnetar_prover.specs.Entries.{playAnswer, playDraws}
 use Rattle.magnetar_protocol.specs.declared.first.Found.{Found}
 use Rattle.magnetar_verifier.specs.Outer.{outerFound}
 use Rattle.magnetar_verifier.specs.End.{endFound, endRoom}
@@ -26,11 +25,11 @@ use Rattle.magnetar_spartan.specs.Proving.{loginAt}
 
 -- the words of the draws, in front of 256 words
 abbrev pub drawnWords : Relation → (w : List ℕ) → Transcript → List ℕ
-drawnWords o w t = overlaid (words (playedFrom (elements w) (take 65536 (schedule o)) t .draws)) (replicate 256 0)
+drawnWords o w t = playDraws o w (replicate 256 0) 65536 t
 
 -- the transcript after n events
 abbrev pub playedTo : Relation → (w : List ℕ) → Transcript → ℕ → Transcript
-playedTo o w t n = playedFrom (elements w) (take n (schedule o)) t .transcript
+playedTo o w t n = playAnswer o w (replicate 256 0) n t .transcript
 
 -- as many of the words d as a run has draws, at most 256
 abbrev pub drawnOf : Relation → (d : List ℕ) → List ℕ

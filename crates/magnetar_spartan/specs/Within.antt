@@ -9,6 +9,7 @@ use lib.ListN.{length, getD}
 use Rattle.magnetar_field.specs.Sizes.{log₂}
 use Rattle.magnetar_hash.specs.declared.transcript.Transcript.{Transcript}
 use Rattle.magnetar_layout.specs.Layout.{layoutEnd}
+use Rattle.magnetar_layout.specs.Tests.{mostColumns, mostLogins, mostRows, mostBatchRows, mostEntries, mostSegments}
 use Rattle.magnetar_matrix.specs.Matrix.{Entry, Matrix, System}
 use Rattle.magnetar_relation.specs.declared.shapes.Shape.{Shape}
 use Rattle.magnetar_relation.specs.declared.shapes.SystemShape.{SystemShape}
@@ -30,21 +31,21 @@ noEntry = record { row = 0; col = 0; value = 0 }
 pub record MatrixWithin (n m : ℕ) (h : Shape) (a : Matrix) : Type 0 where
   pub rows : h .rows ≡ n
   pub cols : h .cols ≡ m
-  pub few : h .entries ≤ 1048576
+  pub few : h .entries ≤ mostEntries
   pub inside : (i : ℕ) → i < length (a .entries) → (getD (a .entries) i noEntry .row < n) × (getD (a .entries) i noEntry .col < m)
 
 -- 4 to 7: three matrices of the same rows over m columns, for q logins
 pub record SystemWithin (m q : ℕ) (t : SystemShape) (s : System) : Type 0 where
-  pub rows : Power 1 65536 (t .a .rows)
-  pub total : q * t .a .rows ≤ 1048576
+  pub rows : Power 1 mostRows (t .a .rows)
+  pub total : q * t .a .rows ≤ mostBatchRows
   pub a : MatrixWithin (t .a .rows) m (t .a) (s .a)
   pub b : MatrixWithin (t .a .rows) m (t .b) (s .b)
   pub c : MatrixWithin (t .a .rows) m (t .c) (s .c)
 
 pub record RulesWithin (R : Rules) : Type 0 where
   -- 1
-  pub columns : Power 2 65536 (R .m)
-  pub logins : Power 1 4096 (R .q)
+  pub columns : Power 2 mostColumns (R .m)
+  pub logins : Power 1 mostLogins (R .q)
   -- 4 to 7
   pub bin : SystemWithin (R .m) (R .q) (R .shapes .bin) (relationOf R .bin)
   pub fld : SystemWithin (R .m) (R .q) (R .shapes .fld) (relationOf R .fld)
@@ -53,7 +54,7 @@ pub record RulesWithin (R : Rules) : Type 0 where
   -- 8, 9, 10
   pub lengths : (i : ℕ) → i < length (R .lengths) → Power 1 (R .m / 2) (getD (R .lengths) i 0)
   pub ends : layoutEnd (R .lengths) ≤ R .m / 2
-  pub segments : length (R .lengths) ≤ 64
+  pub segments : length (R .lengths) ≤ mostSegments
 
 -- the words of a proof and of the claims, as document 01 counts them
 abbrev pub wordsOfProof : Rules → ℕ

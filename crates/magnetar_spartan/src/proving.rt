@@ -5,7 +5,7 @@ use magnetar_batch::fold;
 use magnetar_field::sizes;
 use magnetar_field::words;
 use magnetar_hash::transcript::Transcript;
-use magnetar_protocol::rooms;
+use magnetar_protocol::scratch;
 use magnetar_prover::inner;
 use magnetar_prover::rounds;
 use magnetar_verifier::claims;
@@ -194,7 +194,7 @@ fn end(
     let k = drawn_before(q, rb, rf);
     let l = sizes::least(lens.len(), 64);
     let i = sizes::least(refusal::proof_words(m, q, rb, rf, l), proof.len());
-    let n = sizes::least(rooms::draw_words(m, q, rb, rf), 256);
+    let n = sizes::least(refusal::draw_words(m, q, rb, rf), 256);
     let mut draws = d;
     let u = inner_part(proof, &mut draws, s, a, k, m, lens, t);
     let _done = claims::write_claims(m, q, rb, rf, lens, &proof[0..i], &draws[0..n], claims);
@@ -221,7 +221,8 @@ pub(crate) fn later(
     let t = o.transcript;
     fold_behind(s, m, q, rb, rf, packed, x, d);
     let u = end(proof, claims, s, m, q, rb, rf, lens, d, t);
-    let n = sizes::least(rooms::prover_room(m, q, rb, rf), s.len());
+    let a = scratch::prover_scratch(m, q, rb, rf);
+    let n = sizes::least(a.words, s.len());
     words::clear(&mut s[0..n]);
     u
 }

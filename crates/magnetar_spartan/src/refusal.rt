@@ -3,15 +3,17 @@
 use magnetar_field::sizes;
 use magnetar_layout::layout;
 use magnetar_layout::tests;
-use magnetar_protocol::rooms;
+use magnetar_protocol::scratch;
 use magnetar_r1cs::r1cs;
 ghost use mathlib.Core.Path.{_≡_};
+ghost use mathlib.Core.List.{[]};
 ghost use Prim.Native.Nat.{_+_, _-_, _*_, _/_, _≤_};
 ghost use lib.ListN.{length};
 ghost use Rattle.magnetar_field.specs.Sizes.{log₂};
 ghost use Rattle.magnetar_layout.specs.Tests.{noted, sizeTests, layoutTests, Sized};
-ghost use Rattle.magnetar_protocol.specs.Shape.{outline};
-ghost use Rattle.magnetar_spartan.specs.Refusals.{counterTests};
+ghost use Rattle.magnetar_protocol.specs.Shape.{proofTotal, outline};
+ghost use Rattle.magnetar_protocol.specs.Draws.{drawCount};
+ghost use Rattle.magnetar_protocol.specs.RunTests.{counterTests};
 ghost use Rattle.magnetar_spartan.specs.Numbers.{verifyRooms, proveRooms, verifyTestsBy, proveTestsBy};
 
 // 1: the columns and the logins.
@@ -36,13 +38,24 @@ fn segments(y: u32, m: usize, lens: &[usize]) -> u32
 // How many words a proof has, with l segments.
 pub(crate) fn proof_words(m: usize, q: usize, rb: usize, rf: usize, l: usize) -> usize
     requires { ⌜ l ≤ 64 ⌝ }
-    ensures { λ r. ⌜ r ≡ 2 * (8 * log₂ q + 4 * log₂ rb + 4 * log₂ rf + 6 + 3 * log₂ m + 1 + l) ⌝ }
+    ensures { λ r. ⌜ r ≡ 2 * proofTotal (log₂ q) (log₂ rb) (log₂ rf) (log₂ m) l ⌝ }
 {
     let s = sizes::log2(q);
     let b = sizes::log2(rb);
     let f = sizes::log2(rf);
     let n = sizes::log2(m);
     2 * (8 * s + 4 * b + 4 * f + 6 + 3 * n + 1 + l)
+}
+
+// How many words the draws of a run have.
+pub(crate) fn draw_words(m: usize, q: usize, rb: usize, rf: usize) -> usize
+    ensures { λ r. ⌜ r ≡ 2 * drawCount (outline m q rb rf []) ⌝ }
+{
+    let s = sizes::log2(q);
+    let b = sizes::log2(rb);
+    let f = sizes::log2(rf);
+    let n = sizes::log2(m);
+    2 * (s + b + (s + f + (s + (b + (f + (6 + n))))))
 }
 
 // How many words the claims have.
@@ -72,15 +85,16 @@ fn verify_rooms(
     proof: usize,
     n: u64,
     claims: usize,
-    scratch: usize,
+    lent: usize,
 ) -> u32
     requires { ⌜ (1 ≤ log₂ m) × (length (now lens) ≤ 64) ⌝ }
-    ensures { λ r. ⌜ r ≡ noted 0 (verifyRooms (outline m q rb rf (now (lens .entry))) proof n claims scratch) ⌝ }
+    ensures { λ r. ⌜ r ≡ noted 0 (verifyRooms (outline m q rb rf (now (lens .entry))) proof n claims lent) ⌝ }
 {
     let l = lens.len();
     let z = counter(n);
     let z = tests::note(z, 15, claims < claim_words(m, q, l));
-    let z = tests::note(z, 15, scratch < rooms::verifier_room(m, rb, rf));
+    let s = scratch::verifier_scratch(m, q, rb, rf);
+    let z = tests::note(z, 15, lent < s.words);
     tests::note(z, 16, proof != proof_words(m, q, rb, rf, l))
 }
 
@@ -94,16 +108,17 @@ fn prove_rooms(
     n: u64,
     proof: usize,
     claims: usize,
-    scratch: usize,
+    lent: usize,
 ) -> u32
     requires { ⌜ (1 ≤ log₂ m) × (length (now lens) ≤ 64) ⌝ }
-    ensures { λ r. ⌜ r ≡ noted 0 (proveRooms (outline m q rb rf (now (lens .entry))) n proof claims scratch) ⌝ }
+    ensures { λ r. ⌜ r ≡ noted 0 (proveRooms (outline m q rb rf (now (lens .entry))) n proof claims lent) ⌝ }
 {
     let l = lens.len();
     let z = counter(n);
     let z = tests::note(z, 15, proof < proof_words(m, q, rb, rf, l));
     let z = tests::note(z, 15, claims < claim_words(m, q, l));
-    tests::note(z, 15, scratch < rooms::prover_room(m, q, rb, rf))
+    let s = scratch::prover_scratch(m, q, rb, rf);
+    tests::note(z, 15, lent < s.words)
 }
 
 // Every refusal of the verifier but those of its checks.

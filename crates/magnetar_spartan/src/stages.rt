@@ -1,14 +1,14 @@
 // The stages of a verifying run that see no matrix: the schedule and the outer checks; then, with the combined table in front of the
 // scratch, the public half behind it, the other checks and the claims.
 use crate::proving;
+use crate::refusal;
 use magnetar_batch::fold;
 use magnetar_field::sizes;
 use magnetar_hash::transcript::Transcript;
 use magnetar_hash::transcript::TranscriptAnswer;
 use magnetar_protocol::first::Found;
-use magnetar_protocol::rooms;
+use magnetar_prover::play;
 use magnetar_relation::step;
-use magnetar_schedule::play;
 use magnetar_verifier::claims;
 use magnetar_verifier::end;
 use magnetar_verifier::outer;
@@ -64,9 +64,10 @@ pub(crate) fn begin(
             found: Found { code: n, events: 0 },
         };
     }
-    let k = sizes::least(rooms::draw_words(m, q, rb, rf), 256);
-    let ended = play::play(m, q, rb, rf, lens, proof, &mut draws, t, play::ALL_EVENTS);
+    let k = sizes::least(refusal::draw_words(m, q, rb, rf), 256);
+    let played = play::play(m, q, rb, rf, lens, proof, &mut draws, t, play::ALL_EVENTS);
     let found = outer::outer_checks(m, q, rb, rf, lens, proof, &draws[0..k]);
+    let ended = played.transcript;
     Begun {
         draws: draws,
         ended: ended,
@@ -87,8 +88,9 @@ fn stopped(
 ) -> TranscriptAnswer
     ensures { λ r. ⌜ (r .code ≡ found .code) × (r .transcript ≡ playedTo (outline m q rb rf (now (lens .entry))) (now (proof .entry)) t (found .events)) ⌝ }
 {
-    let mut none = [0u64; 2];
-    let u = play::play(m, q, rb, rf, lens, proof, &mut none, t, found.events);
+    let mut draws = [0u64; 256];
+    let played = play::play(m, q, rb, rf, lens, proof, &mut draws, t, found.events);
+    let u = played.transcript;
     TranscriptAnswer {
         code: found.code,
         transcript: u,
@@ -149,7 +151,7 @@ fn checks(
     if f.code != 0 {
         return stopped(m, q, rb, rf, lens, proof, t, f);
     }
-    let k = sizes::least(rooms::draw_words(m, q, rb, rf), 256);
+    let k = sizes::least(refusal::draw_words(m, q, rb, rf), 256);
     let l = end::end_checks(m, q, rb, rf, lens, proof, &d[0..k], s);
     if l.code != 0 {
         return stopped(m, q, rb, rf, lens, proof, t, l);

@@ -7,7 +7,6 @@ use magnetar_field::gf128;
 use magnetar_field::gf128::Gf128;
 use magnetar_field::sizes;
 use magnetar_field::words;
-use magnetar_sumcheck_verifier::verify;
 ghost use mathlib.Core.Path.{_≡_};
 ghost use mathlib.Core.List.{[], _∷_, _++_};
 ghost use Prim.Native.Nat.{_+_, _*_, _/_, _^_, _<_, _≤_};
@@ -268,9 +267,9 @@ fn inner_pair(s: Sums, t: &[u64], z: &[u64], lo: usize, hi: usize) -> Sums
     ensures top { λ r. ⌜ value (r .top) ≡ value (s .top) ⊕ (getD (elements (now (t .entry))) lo 0 ⊕ getD (elements (now (t .entry))) hi 0) ⊗ (getD (elements (now (z .entry))) lo 0 ⊕ getD (elements (now (z .entry))) hi 0) ⌝ }
 {
     Sums {
-        zero: verify::multiply_add(s.zero, words::get(t, lo), words::get(z, lo)),
-        one: verify::multiply_add(s.one, words::get(t, hi), words::get(z, hi)),
-        top: verify::multiply_add(s.top, slope(t, lo, hi), slope(z, lo, hi)),
+        zero: gf128::add(s.zero, gf128::mul(words::get(t, lo), words::get(z, lo))),
+        one: gf128::add(s.one, gf128::mul(words::get(t, hi), words::get(z, hi))),
+        top: gf128::add(s.top, gf128::mul(slope(t, lo, hi), slope(z, lo, hi))),
     }
 }
 

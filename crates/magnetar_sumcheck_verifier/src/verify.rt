@@ -8,12 +8,12 @@ ghost use Rattle.magnetar_field.specs.Gf128.{value, _⊕_, _⊗_};
 ghost use Rattle.magnetar_field.specs.Polynomial.{eval};
 ghost use Rattle.magnetar_field.specs.Words.{elements};
 ghost use Rattle.magnetar_sumcheck_verifier.specs.Round.{checkSum, holds};
-ghost use Rattle.magnetar_sumcheck_verifier.specs.Outcome.{isMessage, leftBy, roundOutcome};
+ghost use Rattle.magnetar_sumcheck_verifier.specs.Outcome.{isMessage, leftBy, checkOutcome, roundOutcome};
 ghost use Rattle.magnetar_sumcheck_verifier.specs.Outer.{outerEnd};
 ghost use Rattle.magnetar_sumcheck_verifier.specs.Inner.{innerEnd};
 
 // acc + t z.
-pub fn multiply_add(acc: Gf128, t: Gf128, z: Gf128) -> Gf128
+fn multiply_add(acc: Gf128, t: Gf128, z: Gf128) -> Gf128
     ensures { λ r. ⌜ value r ≡ value acc ⊕ value t ⊗ value z ⌝ }
 {
     gf128::add(acc, gf128::mul(t, z))
@@ -49,15 +49,15 @@ fn is_message(msg: &[u64], n: usize) -> bool
     msg.len() / 2 == n
 }
 
-// Whether the message is right for the running claim. Total: a message of any number of coefficients; an odd last word is none.
-pub fn sum_holds(msg: &[u64], claim: Gf128) -> bool
+// Whether the message is right for the running claim.
+fn sum_holds(msg: &[u64], claim: Gf128) -> bool
     ensures { λ r. ⌜ r ≡ holds (elements (now (msg .entry))) (value claim) ⌝ }
 {
     gf128::equal(check_sum(msg), claim)
 }
 
-// The message's value at r: the next running claim. A product for each coefficient. Total, as `sum_holds` is.
-pub fn eval_message(msg: &[u64], r: Gf128) -> Gf128
+// The message's value at r: the next running claim. A product for each coefficient.
+fn eval_message(msg: &[u64], r: Gf128) -> Gf128
     ensures { λ o. ⌜ value o ≡ eval (elements (now (msg .entry))) (value r) ⌝ }
 {
     let mut acc = Gf128 { lo: 0, hi: 0 };
@@ -69,10 +69,10 @@ pub fn eval_message(msg: &[u64], r: Gf128) -> Gf128
     acc
 }
 
-// A round with the challenge r from outside, whose message has n coefficients: the check, and the next running claim. A wrong message
-// leaves the claim, and so does one that is refused with 11.
-pub fn round_external(msg: &[u64], n: usize, claim: Gf128, r: Gf128) -> Round
-    ensures { λ o. ⌜ leftBy o ≡ roundOutcome n (now (msg .entry)) (value claim) (value r) ⌝ }
+// A round of a run whose checks go on behind one that does not pass: whether the message of n coefficients is right, and its value at the
+// challenge r as the next running claim, right or wrong. One that is refused with 11 leaves the claim.
+pub fn check_round(msg: &[u64], n: usize, claim: Gf128, r: Gf128) -> Round
+    ensures { λ o. ⌜ leftBy o ≡ checkOutcome n (now (msg .entry)) (value claim) (value r) ⌝ }
 {
     if !is_message(msg, n) {
         return Round {
@@ -81,16 +81,26 @@ pub fn round_external(msg: &[u64], n: usize, claim: Gf128, r: Gf128) -> Round
             claim: claim,
         };
     }
-    if sum_holds(msg, claim) {
-        let next = eval_message(msg, r);
-        return Round {
-            code: 0,
-            holds: true,
-            claim: next,
-        };
-    }
+    let right = sum_holds(msg, claim);
+    let next = eval_message(msg, r);
     Round {
         code: 0,
+        holds: right,
+        claim: next,
+    }
+}
+
+// A round with the challenge r from outside, whose message has n coefficients: the check, and the next running claim. A wrong message
+// leaves the claim, and so does one that is refused with 11.
+pub fn round_external(msg: &[u64], n: usize, claim: Gf128, r: Gf128) -> Round
+    ensures { λ o. ⌜ leftBy o ≡ roundOutcome n (now (msg .entry)) (value claim) (value r) ⌝ }
+{
+    let next = check_round(msg, n, claim, r);
+    if next.holds {
+        return next;
+    }
+    Round {
+        code: next.code,
         holds: false,
         claim: claim,
     }

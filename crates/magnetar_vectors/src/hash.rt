@@ -11,8 +11,8 @@ use magnetar_hash::sha3;
 use magnetar_hash::transcript::Transcript;
 use magnetar_hash::transcript::TranscriptAnswer;
 use magnetar_hash::transcript::{self};
-use magnetar_schedule::capture;
-use magnetar_schedule::capture::Captured;
+use magnetar_prover::capture;
+use magnetar_prover::capture::Captured;
 
 // The queries by name: its last eight letters, the last one lowest.
 const SHA3: u64 = 0x73686133;

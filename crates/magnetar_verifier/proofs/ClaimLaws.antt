@@ -1,14 +1,14 @@
--- The claims one by one are those of a run; the guard of `write_claims`, and what it leaves.
+-- The claims one by one are those of a run; the answer of `write_claims`, and what its tests leave.
 -- Assumes nothing.
 use mathlib.Core.Path.{_≡_, refl, sym, ap, _∙_}
-use mathlib.Core.Bool.{Bool, true, false, not, cond}
-use mathlib.Core.List.{List, [], _∷_, _++_, reverse}
+use mathlib.Core.Bool.{Bool, true, false, cond}
+use mathlib.Core.List.{List, _++_, reverse}
 use Prim.Native.Nat.{ℕ, _+_, _-_, _*_, _≤_, _<_}
 use native.Mathlib.Omega.{arith}
-use lib.Dec.{eqb, ltb}
+use lib.Dec.{ltb}
 use lib.ListN.{length, getD, drop, length-append, length-drop, List·getD-append}
 use lib.Seq.{length-take-le, getD-append-add, take-take, getD-drop}
-use borrow.Author.Tests.{ne-eqb, lt-ltb, le-ltb, ltb-true, ltb-false, eqb-true, not-false}
+use borrow.Author.Tests.{ne-eqb, le-ltb, ltb-true, ltb-false}
 use Rattle.magnetar_field.specs.Sizes.{log₂}
 use Rattle.magnetar_field.specs.Tabulate.{tabulate}
 use Rattle.magnetar_field.specs.Words.{elements, words}
@@ -17,16 +17,17 @@ use Rattle.magnetar_field.proofs.Tabulation.{tabulate-of}
 use Rattle.magnetar_sumcheck_verifier.specs.Order.{placeOf}
 use Rattle.magnetar_sumcheck_prover.proofs.EqFactor.{point-at, length-point}
 use Rattle.magnetar_matrix.specs.Batch.{Relation}
-use Rattle.magnetar_layout.specs.Tests.{Tests, note, noted, roomTest}
-use Rattle.magnetar_layout.proofs.Noted.{noted-clear, noted-front, noted-rest}
-use Rattle.magnetar_protocol.specs.Shape.{logLogins, logBin, logFld, logCols, beforeEnd, proofElements, outline}
+use Rattle.magnetar_layout.specs.Tests.{Tests, noted}
+use Rattle.magnetar_layout.proofs.Noted.{noted-front, noted-rest}
+use Rattle.magnetar_protocol.specs.Shape.{logLogins, logBin, logFld, logCols, beforeEnd, proofTotal, proofElements, claimCount, outline}
 use Rattle.magnetar_protocol.specs.Proof.{part, segmentValues}
-use Rattle.magnetar_protocol.specs.Draws.{drawCount, drawsOf, loginPoint, lowPoint}
+use Rattle.magnetar_protocol.specs.Draws.{drawTotal, drawCount, drawsOf, loginPoint, lowPoint}
+use Rattle.magnetar_protocol.specs.RunTests.{outlineTests}
 use Rattle.magnetar_protocol.specs.Run.{claims}
-use Rattle.magnetar_verifier.specs.Steps.{drawTotal, proofTotal}
-use Rattle.magnetar_verifier.specs.ClaimSteps.{claimAt, claimsRefusalOf}
-use Rattle.magnetar_verifier.specs.Outer.{runTests, segmentTests, drawTests, proofTests}
-use Rattle.magnetar_verifier.specs.Claims.{claimCount, claimsRefusal, claimsOut}
+use Rattle.magnetar_verifier.specs.Steps.{wordTests}
+use Rattle.magnetar_verifier.specs.ClaimSteps.{claimAt}
+use Rattle.magnetar_verifier.proofs.Guards.{Given, given}
+use Rattle.magnetar_verifier.specs.Claims.{claimsRefusal, claimsOut}
 use Rattle.magnetar_verifier.proofs.Pieces.{part-get}
 use Rattle.magnetar_verifier.proofs.EqParts.{point-falling}
 
@@ -94,72 +95,38 @@ module _ (r : Relation) (w d : List ℕ) (long : drawCount r ≤ length d) (exac
       each i false p true q = rw (p, q) (part-get j n (i - s) d (omega (arith, ltb-false i s p, ltb-true i (s + n) q)))
       each i false p false q = rw (p, q) (getD-drop (beforeEnd r + 1) w (i - (s + n)) 0)
 
--- ---- the guard
-module _ (s b f c l proof draws out : ℕ) where
-  pub claims-segments : 64 < l → claimsRefusalOf s b f c l proof draws out ≡ 10
-  unfolding claimsRefusalOf note
-  claims-segments h = rw (lt-ltb 64 l h)
-
-  pub claims-words : (dw ow pw y₁ y₂ y₃ : ℕ) → l ≤ 64 → dw ≡ 2 * drawTotal s b f c → ow ≡ 2 * (s + (c - 1) + l) → pw ≡ 2 * proofTotal s b f c l
-      → y₁ ≡ note 11 (not (eqb draws dw)) 0 → y₂ ≡ note 15 (ltb out ow) y₁ → y₃ ≡ note 16 (not (eqb proof pw)) y₂
-      → y₃ ≡ claimsRefusalOf s b f c l proof draws out
-  unfolding claimsRefusalOf note
-  claims-words dw ow pw y₁ y₂ y₃ h ed eo ep e₁ e₂ e₃ = rw (e₃, e₂, e₁, ed, eo, ep, le-ltb 64 l h)
-
-  pub record ClaimsGiven : Type 0 where
-    pub few : l ≤ 64
-    pub drawn : draws ≡ 2 * drawTotal s b f c
-    pub room : 2 * (s + (c - 1) + l) ≤ out
-    pub exact : proof ≡ 2 * proofTotal s b f c l
-
-  pub claims-given : claimsRefusalOf s b f c l proof draws out ≡ 0 → ClaimsGiven
-  unfolding claimsRefusalOf
-  claims-given e =
-      let k = noted-clear 0 ((10, ltb 64 l) ∷ (11, not (eqb draws (2 * drawTotal s b f c))) ∷ (15, ltb out (2 * (s + (c - 1) + l)))
-      ∷ (16, not (eqb proof (2 * proofTotal s b f c l))) ∷ []) refl e .1 in
-      record {
-        few = ltb-false 64 l (k .0);
-        drawn = eqb-true draws (2 * drawTotal s b f c) (not-false (eqb draws (2 * drawTotal s b f c)) (k .1 .0));
-        room = ltb-false out (2 * (s + (c - 1) + l)) (k .1 .1 .0);
-        exact = eqb-true proof (2 * proofTotal s b f c l) (not-false (eqb proof (2 * proofTotal s b f c l)) (k .1 .1 .1 .0));
-      }
-
 -- ---- the answer
 module _ (m q rb rf : ℕ) (ns p d out : List ℕ) where
   abbrev later : Tests
-  later =
-      segmentTests ns
-      ++ (drawTests (outline m q rb rf ns) d ++ (roomTest (2 * claimCount (outline m q rb rf ns)) out ++ proofTests (outline m q rb rf ns) p))
+  later = wordTests (log₂ q) (log₂ rb) (log₂ rf) (log₂ m) (length ns) (length p) (length d) (2 * claimCount (outline m q rb rf ns)) (length out)
 
-  refusal-is : noted 0 later ≡ claimsRefusalOf (log₂ q) (log₂ rb) (log₂ rf) (log₂ m) (length ns) (length p) (length d) (length out)
-  unfolding claimsRefusalOf
-  refusal-is = refl
-
-  -- a size refuses
-  size-is : (z : ℕ) → z ≡ noted 0 (runTests m q rb rf) → (z ≡ 0 → ⊥) → z ≡ claimsRefusal m q rb rf ns p d out
+  -- a size or the layout refuses
+  size-is : (z : ℕ) → z ≡ noted 0 (outlineTests m q rb rf ns) → (z ≡ 0 → ⊥) → z ≡ claimsRefusal m q rb rf ns p d out
   unfolding claimsRefusal
-  size-is z e h = noted-front (runTests m q rb rf) later z e h
+  size-is z e h = noted-front (outlineTests m q rb rf ns) later z e h
 
-  pub claims-size : (z : ℕ) → z ≡ noted 0 (runTests m q rb rf) → (z ≡ 0 → ⊥)
+  pub claims-size : (z : ℕ) → z ≡ noted 0 (outlineTests m q rb rf ns) → (z ≡ 0 → ⊥)
       → (z ≡ claimsRefusal m q rb rf ns p d out) × (out ≡ claimsOut m q rb rf ns p d out)
   unfolding claimsOut
   claims-size z e h = (size-is z e h, rw (← size-is z e h, ne-eqb z 0 h))
 
 module _ (m q rb rf : ℕ) (ns p d out : List ℕ) (s b f c n z : ℕ) (es : s ≡ log₂ q) (eb : b ≡ log₂ rb) (ef : f ≡ log₂ rf) (ec : c ≡ log₂ m)
-    (en : n ≡ c - 1) (ez : z ≡ claimsRefusalOf s b f c (length ns) (length p) (length d) (length out)) (y : ℕ)
-    (ey : y ≡ noted 0 (runTests m q rb rf)) (hy : y ≡ 0) where
+    (en : n ≡ c - 1) (need : ℕ) (ew : need ≡ 2 * (s + n + length ns))
+    (ez : z ≡ noted 0 (wordTests s b f c (length ns) (length p) (length d) need (length out))) (y : ℕ)
+    (ey : y ≡ noted 0 (outlineTests m q rb rf ns)) (hy : y ≡ 0) where
   same-refusal : z ≡ claimsRefusal m q rb rf ns p d out
   unfolding claimsRefusal
   same-refusal =
-      ez ∙ rw (es, eb, ef, ec) (sym (refusal-is m q rb rf ns p d out))
-      ∙ sym (noted-rest (runTests m q rb rf) (later m q rb rf ns p d out) y ey hy)
+      let e : noted 0 (wordTests s b f c (length ns) (length p) (length d) need (length out)) ≡ noted 0 (later m q rb rf ns p d out) =
+      rw (ew, en, es, eb, ef, ec) in
+      ez ∙ e ∙ sym (noted-rest (outlineTests m q rb rf ns) (later m q rb rf ns p d out) y ey hy)
 
   pub claims-refused : (z ≡ 0 → ⊥) → (z ≡ claimsRefusal m q rb rf ns p d out) × (out ≡ claimsOut m q rb rf ns p d out)
   unfolding claimsOut
   claims-refused h = (same-refusal, rw (← same-refusal, ne-eqb z 0 h))
 
-  pub claims-fit : z ≡ 0 → ClaimsGiven s b f c (length ns) (length p) (length d) (length out)
-  claims-fit h = claims-given s b f c (length ns) (length p) (length d) (length out) (sym ez ∙ h)
+  pub claims-fit : z ≡ 0 → Given s b f c (length ns) (length p) (length d) need (length out)
+  claims-fit h = given s b f c (length ns) (length p) (length d) need (length out) z ez h
 
   pub claims-written : z ≡ 0 → (front : List ℕ)
       → words (elements front) ≡ front
@@ -167,10 +134,10 @@ module _ (m q rb rf : ℕ) (ns p d out : List ℕ) (s b f c n z : ℕ) (es : s �
       (s + n + length ns)
       → (_≡_ {A = ℕ} 0 (claimsRefusal m q rb rf ns p d out)) × (front ++ drop (2 * (s + n + length ns)) out ≡ claimsOut m q rb rf ns p d out)
   unfolding claimsOut
-  claims-written h front ew e =
+  claims-written h front ef₀ e =
       let g = claims-fit h in
       let drawn : length d ≡ 2 * drawTotal (log₂ q) (log₂ rb) (log₂ rf) (log₂ m) = rw (es, eb, ef, ec) at (g .drawn) in
       let exact : length p ≡ 2 * proofTotal (log₂ q) (log₂ rb) (log₂ rf) (log₂ m) (length ns) = rw (es, eb, ef, ec) at (g .exact) in
       let t = claims-tabled (outline m q rb rf ns) (elements p) (elements d) (omega (arith, drawn, elements-length d))
       (omega (arith, exact, elements-length p)) in
-      (sym h ∙ same-refusal, rw (← same-refusal, h, t, ← es, ← eb, ← ef, ← ec, ← en) (ap (λ (l : List ℕ). l ++ drop (2 * (s + n + length ns)) out) (sym ew ∙ ap words e)))
+      (sym h ∙ same-refusal, rw (← same-refusal, h, t, ← es, ← eb, ← ef, ← ec, ← en) (ap (λ (l : List ℕ). l ++ drop (2 * (s + n + length ns)) out) (sym ef₀ ∙ ap words e)))

@@ -2,27 +2,21 @@
 -- Source: document 01, "The run" (the claims buffer) and "Who can be turned back".
 -- Assumes nothing.
 use mathlib.Core.List.{List, _++_}
-use Prim.Native.Nat.{ℕ, _+_, _-_, _*_}
-use lib.ListN.{length, drop}
+use Prim.Native.Nat.{ℕ, _*_}
+use lib.ListN.{drop}
 use Rattle.magnetar_field.specs.Refusal.{unlessRefused}
 use Rattle.magnetar_field.specs.Words.{elements, words}
-use Rattle.magnetar_matrix.specs.Batch.{Relation}
 use Rattle.magnetar_layout.specs.Tests.{noted, roomTest}
-use Rattle.magnetar_protocol.specs.Shape.{logLogins, logCols, outline}
+use Rattle.magnetar_protocol.specs.Shape.{claimCount, outline}
 use Rattle.magnetar_protocol.specs.Run.{claims}
-use Rattle.magnetar_verifier.specs.Outer.{runTests, segmentTests, drawTests, proofTests}
-
--- how many elements the claims are: r_inst, r_low, and the segment values
-abbrev pub claimCount : Relation → ℕ
-claimCount r = logLogins r + (logCols r - 1) + length (r .lengths)
+use Rattle.magnetar_protocol.specs.RunTests.{outlineTests, drawTests, proofTests}
 
 -- ---- `write_claims`: a relation by its sizes, the words of a proof and of draws, the output out
 unfoldable pub claimsRefusal : (m q rowsBin rowsFld : ℕ) → (ns proof draws out : List ℕ) → ℕ
 claimsRefusal m q b f ns proof draws out =
     noted 0
-    (runTests m q b f
-    ++ (segmentTests ns ++ (drawTests (outline m q b f ns) draws ++ (roomTest (2 * claimCount (outline m q b f ns)) out
-    ++ proofTests (outline m q b f ns) proof))))
+    (outlineTests m q b f ns
+    ++ (drawTests (outline m q b f ns) draws ++ (roomTest (2 * claimCount (outline m q b f ns)) out ++ proofTests (outline m q b f ns) proof)))
 
 -- what out holds at exit
 unfoldable pub claimsOut : (m q rowsBin rowsFld : ℕ) → (ns proof draws out : List ℕ) → List ℕ

@@ -8,13 +8,13 @@ use lib.ListN.{take, drop, replicate}
 use Rattle.magnetar_field.specs.Refusal.{unlessRefused}
 use Rattle.magnetar_field.specs.Words.{elements}
 use Rattle.magnetar_matrix.specs.Batch.{Relation}
-use Rattle.magnetar_layout.specs.Tests.{noted, sizeTests, rowsTests, layoutTests, roomTest}
+use Rattle.magnetar_layout.specs.Tests.{noted, roomTest}
 use Rattle.magnetar_protocol.specs.Draws.{Draws, drawsOf}
 use Rattle.magnetar_protocol.specs.Shape.{outline}
 use Rattle.magnetar_protocol.specs.Checks.{Check, innerChecks, identityCheck}
 use Rattle.magnetar_protocol.specs.declared.first.Found.{Found}
 use Rattle.magnetar_protocol.specs.Found.{firstFound, unlessBad}
-use Rattle.magnetar_verifier.specs.Outer.{drawTests, proofTests}
+use Rattle.magnetar_protocol.specs.RunTests.{outlineTests, drawTests, proofTests}
 
 -- the checks of the inner rounds, of the claim that they leave, and of v_z
 unfoldable pub endChecks : Relation → (half w : List ℕ) → Draws → (table : List ℕ) → List Check
@@ -24,8 +24,8 @@ endChecks r half w d table = innerChecks r w d table ++ identityCheck r w d half
 unfoldable pub endRefusal : Relation → (proof draws s : List ℕ) → ℕ
 endRefusal r proof draws s =
     noted 0
-    (sizeTests (r .m) (r .q) ++ (rowsTests (r .q) (r .bin .a .rows) ++ (rowsTests (r .q) (r .fld .a .rows)
-    ++ (layoutTests (r .m / 2) (r .lengths) ++ (drawTests r draws ++ (roomTest (4 * r .m) s ++ proofTests r proof))))))
+    (outlineTests (r .m) (r .q) (r .bin .a .rows) (r .fld .a .rows) (r .lengths)
+    ++ (drawTests r draws ++ (roomTest (4 * r .m) s ++ proofTests r proof)))
 
 -- the table is the m elements at the front of the room, the half the m / 2 elements behind it
 unfoldable pub endFound : (m q rowsBin rowsFld : ℕ) → (ns proof draws s : List ℕ) → Found

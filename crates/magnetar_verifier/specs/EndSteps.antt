@@ -2,10 +2,10 @@
 -- contracts of private functions speak of this.
 -- Assumes nothing.
 use mathlib.Core.Path.{_≡_}
-use mathlib.Core.Bool.{Bool, not}
+use mathlib.Core.Bool.{Bool}
 use mathlib.Core.List.{List, [], _∷_, _++_}
 use Prim.Native.Nat.{ℕ, suc, _+_, _-_, _*_, _/_, _≤_, _<_}
-use lib.Dec.{eqb, ltb}
+use lib.Dec.{eqb}
 use lib.ListN.{length, getD}
 use Rattle.magnetar_field.specs.Gf128.{_⊕_, _⊗_}
 use Rattle.magnetar_field.specs.Sizes.{log₂}
@@ -13,11 +13,13 @@ use Rattle.magnetar_multilinear.specs.Multilinear.{dot, mle}
 use Rattle.magnetar_sumcheck_verifier.specs.Round.{running}
 use Rattle.magnetar_sumcheck_verifier.specs.Inner.{innerEnd}
 use Rattle.magnetar_layout.specs.Layout.{LayoutFits}
-use Rattle.magnetar_layout.specs.Tests as tests
+use Rattle.magnetar_layout.specs.Tests.{Sized, mostColumns, mostSegments}
+use Rattle.magnetar_protocol.specs.Shape.{proofTotal}
+use Rattle.magnetar_protocol.specs.Draws.{drawTotal}
 use Rattle.magnetar_protocol.specs.Proof.{part}
 use Rattle.magnetar_protocol.specs.Checks.{Check, segmentSum}
 use Rattle.magnetar_protocol.specs.Found.{check}
-use Rattle.magnetar_verifier.specs.Steps.{messages, roundChecks, drawTotal, proofTotal}
+use Rattle.magnetar_verifier.specs.Steps.{messages, roundChecks}
 
 -- (1 + top) a + top p is v
 unfoldable pub identical : (top a p v : ℕ) → Bool
@@ -73,23 +75,12 @@ module _ (s b f c : ℕ) (ns h w d table : List ℕ) where
 
 -- what the guard leaves
 pub record EndFits (m s b f c : ℕ) (ns : List ℕ) (proof draws : ℕ) : Type 0 where
-  pub columns : tests.Sized 2 65536 m
+  pub columns : Sized 2 mostColumns m
   pub logins : s < 64
   pub bin : b < 64
   pub fld : f < 64
   pub cols : c ≡ log₂ m
   pub layout : LayoutFits (m / 2) ns
-  pub few : length ns ≤ 64
+  pub few : length ns ≤ mostSegments
   pub drawn : draws ≡ 2 * drawTotal s b f c
   pub exact : proof ≡ 2 * proofTotal s b f c (length ns)
-
--- the guard, by the numbers of words: 1 and 4
-abbrev pub frontTests : (m q rb rf : ℕ) → tests.Tests
-frontTests m q rb rf = tests.sizeTests m q ++ (tests.rowsTests q rb ++ tests.rowsTests q rf)
-
--- and 8, 9, 10, 11, 15 and 16
-unfoldable pub endRefusalOf : (m s b f c : ℕ) → List ℕ → (proof draws room : ℕ) → ℕ
-endRefusalOf m s b f c ns proof draws room =
-    tests.noted 0
-    (tests.layoutTests (m / 2) ns
-    ++ ((11, not (eqb draws (2 * drawTotal s b f c))) ∷ (15, ltb room (4 * m)) ∷ (16, not (eqb proof (2 * proofTotal s b f c (length ns)))) ∷ []))

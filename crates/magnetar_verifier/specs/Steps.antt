@@ -3,31 +3,24 @@
 use mathlib.Core.Bool.{Bool, not}
 use mathlib.Core.List.{List, [], _∷_, _++_, reverse}
 use Prim.Native.Nat.{ℕ, zero, suc, _+_, _*_}
-use lib.Dec.{eqb, ltb}
+use lib.Dec.{eqb}
 use lib.ListN.{getD}
 use Rattle.magnetar_field.specs.Tabulate.{tabulate}
 use Rattle.magnetar_sumcheck_verifier.specs.Round.{running}
 use Rattle.magnetar_sumcheck_verifier.specs.Order.{eqPoints}
 use Rattle.magnetar_sumcheck_verifier.specs.Outer.{outerEnd}
-use Rattle.magnetar_layout.specs.Tests as tests
+use Rattle.magnetar_layout.specs.Tests.{Tests, lengthTestOf, roomTestOf}
+use Rattle.magnetar_protocol.specs.Shape.{proofTotal}
+use Rattle.magnetar_protocol.specs.Draws.{drawTotal}
 use Rattle.magnetar_protocol.specs.Proof.{part}
 use Rattle.magnetar_protocol.specs.Checks.{Check, roundHolds}
 use Rattle.magnetar_protocol.specs.Found.{check}
 
 -- ---- with the logarithms s, b, f, c of the logins, the rows of bin and fld, and the columns
--- how many elements are drawn
-abbrev pub drawTotal : (s b f c : ℕ) → ℕ
-drawTotal s b f c = s + b + (s + f + (s + (b + (f + (6 + c)))))
-
--- and are in a proof with l segments
-abbrev pub proofTotal : (s b f c l : ℕ) → ℕ
-proofTotal s b f c l = 8 * s + 4 * b + 4 * f + 6 + 3 * c + 1 + l
-
--- 10, 11 and 16, by the numbers of words
-unfoldable pub refusalOf : (s b f c l proof draws : ℕ) → ℕ
-refusalOf s b f c l proof draws =
-    tests.noted 0
-    ((10, ltb 64 l) ∷ (11, not (eqb draws (2 * drawTotal s b f c))) ∷ (16, not (eqb proof (2 * proofTotal s b f c l))) ∷ [])
+-- 11, 15 and 16 by the numbers of words, with l segments, and so many words lent where `wanted` are asked for
+abbrev pub wordTests : (s b f c l proof draws wanted lent : ℕ) → Tests
+wordTests s b f c l proof draws wanted lent =
+    lengthTestOf (2 * drawTotal s b f c) draws ++ (roomTestOf wanted lent ++ ((16, not (eqb proof (2 * proofTotal s b f c l))) ∷ []))
 
 -- ---- the rounds of one sum-check
 -- n messages of so many elements, one behind the other from place i on

@@ -3,14 +3,14 @@ use crate::found;
 use magnetar_field::gf128::Gf128;
 use magnetar_field::sizes;
 use magnetar_field::words;
-use magnetar_layout::tests;
+use magnetar_protocol::refusal;
 ghost use mathlib.Core.Path.{_≡_};
 ghost use Prim.Native.Nat.{_+_, _-_, _*_, _<_, _≤_};
 ghost use lib.ListN.{length};
 ghost use Rattle.magnetar_field.specs.Gf128.{value};
 ghost use Rattle.magnetar_field.specs.Tabulate.{tabulate};
 ghost use Rattle.magnetar_field.specs.Words.{elements};
-ghost use Rattle.magnetar_verifier.specs.ClaimSteps.{claimAt, claimsRefusalOf};
+ghost use Rattle.magnetar_verifier.specs.ClaimSteps.{claimAt};
 ghost use Rattle.magnetar_verifier.specs.Claims.{claimsRefusal, claimsOut};
 
 // Claim i: of s shared challenges from place k of the draws on, the last one first; then the n low ones from place j on; then the
@@ -59,29 +59,6 @@ fn fill(
     }
 }
 
-// 10, 11, 15 and 16, by the numbers of words, with the logarithms s, b, f, c.
-fn claims_refusal(
-    s: usize,
-    b: usize,
-    f: usize,
-    c: usize,
-    low: usize,
-    l: usize,
-    proof: usize,
-    draws: usize,
-    out: usize,
-) -> u32
-    requires { ⌜ (s < 64) × (b < 64) × (f < 64) × (c < 64) × (low ≡ c - 1) ⌝ }
-    ensures { λ r. ⌜ r ≡ claimsRefusalOf s b f c l proof draws out ⌝ }
-{
-    if l > 64 {
-        return 10;
-    }
-    let z = tests::note(0, 11, draws != found::draw_words(s, b, f, c));
-    let z = tests::note(z, 15, out < 2 * (s + low + l));
-    tests::note(z, 16, proof != found::proof_words(s, b, f, c, l))
-}
-
 // How many words the claims are.
 fn claim_words(s: usize, n: usize, l: usize) -> usize
     requires { ⌜ (s < 64) × (n < 64) × (l ≤ 64) ⌝ }
@@ -124,8 +101,8 @@ fn less_one(n: usize) -> usize
 
 // Writes the claims of a run over q logins with m columns, rb rows of bin and rf rows of fld, and these segment lengths, as words at the
 // front of claims: r_inst, the shared challenges reversed; r_low, the inner challenges but the last; the segment values.
-// 1: no such columns or logins; 4: no such rows; 10: over 64 segments; 11: not the words of as many draws as a run makes; 15: too little room; 16:
-// not the words of a proof.
+// 1: no such columns or logins; 4: no such rows; 8, 9, 10: no such layout over m / 2 columns; 11: not the words of as many draws as a run
+// makes; 15: too little room; 16: not the words of a proof.
 pub fn write_claims(
     m: usize,
     q: usize,
@@ -139,7 +116,7 @@ pub fn write_claims(
     ensures refusal { λ r. ⌜ r ≡ claimsRefusal m q rb rf (now (lens .entry)) (now (proof .entry)) (now (draws .entry)) (now (claims .entry)) ⌝ }
     ensures written { λ _. ⌜ now (claims .exit) ≡ claimsOut m q rb rf (now (lens .entry)) (now (proof .entry)) (now (draws .entry)) (now (claims .entry)) ⌝ }
 {
-    let y = found::size_refusal(m, q, rb, rf);
+    let y = refusal::outline_refusal(m, q, rb, rf, lens);
     if y != 0 {
         return y;
     }
@@ -148,21 +125,21 @@ pub fn write_claims(
     let f = sizes::log2(rf);
     let c = sizes::log2(m);
     let n = less_one(c);
-    let z = claims_refusal(
+    let need = claim_words(s, n, lens.len());
+    let z = found::words_refusal(
         s,
         b,
         f,
         c,
-        n,
         lens.len(),
         proof.len(),
         draws.len(),
+        need,
         claims.len(),
     );
     if z != 0 {
         return z;
     }
-    let need = claim_words(s, n, lens.len());
     write_in(&mut claims[..need], proof, draws, s, b, f, c, n, lens.len());
     0
 }

@@ -5,16 +5,14 @@ use magnetar_field::gf128;
 use magnetar_field::gf128::Gf128;
 use magnetar_field::sizes;
 use magnetar_field::words;
-use magnetar_layout::layout;
-use magnetar_layout::tests;
 use magnetar_multilinear::eq;
 use magnetar_multilinear::eq::EqBits;
 use magnetar_multilinear::multilinear;
 use magnetar_protocol::first;
 use magnetar_protocol::first::Found;
+use magnetar_protocol::refusal;
 use magnetar_sumcheck_verifier::verify;
 ghost use mathlib.Core.Path.{_≡_};
-ghost use mathlib.Core.Bool.{true};
 ghost use mathlib.Core.List.{[]};
 ghost use Prim.Native.Nat.{_+_, _-_, _*_, _/_, _%_, _<_, _≤_};
 ghost use lib.ListN.{length, getD, take, drop, replicate};
@@ -24,11 +22,11 @@ ghost use Rattle.magnetar_multilinear.specs.EqTable.{eqAt};
 ghost use Rattle.magnetar_multilinear.specs.Multilinear.{mle};
 ghost use Rattle.magnetar_field.specs.Words.{elements};
 ghost use Rattle.magnetar_layout.specs.Layout.{LayoutFits};
-ghost use Rattle.magnetar_layout.specs.Tests.{noted, isSize, Sized};
+ghost use Rattle.magnetar_layout.specs.Tests.{Sized};
 ghost use Rattle.magnetar_protocol.specs.Checks.{segmentSum};
 ghost use Rattle.magnetar_protocol.specs.Proof.{part};
 ghost use Rattle.magnetar_protocol.specs.Found.{nothing, after};
-ghost use Rattle.magnetar_verifier.specs.EndSteps.{identical, roundPhase, lastClaim, lowDraws, vz, alphasAt, terminalsAt, endPhases, EndFits, frontTests, endRefusalOf};
+ghost use Rattle.magnetar_verifier.specs.EndSteps.{identical, roundPhase, lastClaim, lowDraws, vz, alphasAt, terminalsAt, endPhases, EndFits};
 ghost use Rattle.magnetar_verifier.specs.End.{endFound, endRoom};
 
 // ---- eq at a number, and the segment values.
@@ -187,42 +185,6 @@ fn end_phases(
     first::note(g, 29, z, events + 1)
 }
 
-// 1 and 4.
-fn front_refusal(m: usize, q: usize, rb: usize, rf: usize) -> u32
-    ensures { λ r. ⌜ r ≡ noted 0 (frontTests m q rb rf) ⌝ }
-{
-    let z = found::login_refusal(m, q);
-    if z != 0 {
-        return z;
-    }
-    let y = found::rows_refusal(0, q, rb);
-    found::rows_refusal(y, q, rf)
-}
-
-// 8, 9, 10, 11, 15 and 16, by the numbers of words.
-fn end_refusal(
-    m: usize,
-    s: usize,
-    b: usize,
-    f: usize,
-    c: usize,
-    lens: &[usize],
-    proof: usize,
-    draws: usize,
-    room: usize,
-) -> u32
-    requires { ⌜ (s < 64) × (b < 64) × (f < 64) × (c < 64) × (isSize 2 65536 m ≡ true) ⌝ }
-    ensures { λ r. ⌜ r ≡ endRefusalOf m s b f c (now (lens .entry)) proof draws room ⌝ }
-{
-    let z = layout::refusal(m / 2, lens);
-    if z != 0 {
-        return z;
-    }
-    let z = tests::note(0, 11, draws != found::draw_words(s, b, f, c));
-    let z = tests::note(z, 15, room < 4 * m);
-    tests::note(z, 16, proof != found::proof_words(s, b, f, c, lens.len()))
-}
-
 // The checks 27 to 29 of a run over q logins with m columns, rb rows of bin and rf rows of fld, and these segment lengths, with the
 // table of m elements at the front of s in place of the six matrices combined at the row points, and the m / 2 elements behind it in
 // place of the public half folded over the logins: the first that does not pass, in the order of the run.
@@ -242,7 +204,7 @@ pub fn end_checks(
     ensures found { λ r. ⌜ r ≡ endFound m q rb rf (now (lens .entry)) (now (proof .entry)) (now (draws .entry)) (now (s .entry)) ⌝ }
     ensures room { λ _. ⌜ now (s .exit) ≡ endRoom m q rb rf (now (lens .entry)) (now (proof .entry)) (now (draws .entry)) (now (s .entry)) ⌝ }
 {
-    let y = front_refusal(m, q, rb, rf);
+    let y = refusal::outline_refusal(m, q, rb, rf, lens);
     if y != 0 {
         return Found { code: y, events: 0 };
     }
@@ -250,10 +212,20 @@ pub fn end_checks(
     let b = sizes::log2(rb);
     let f = sizes::log2(rf);
     let c = sizes::log2(m);
-    let z = end_refusal(m, a, b, f, c, lens, proof.len(), draws.len(), s.len());
+    let n = 4 * m;
+    let z = found::words_refusal(
+        a,
+        b,
+        f,
+        c,
+        lens.len(),
+        proof.len(),
+        draws.len(),
+        n,
+        s.len(),
+    );
     if z != 0 {
         return Found { code: z, events: 0 };
     }
-    let n = 4 * m;
     end_phases(m, lens, proof, draws, &mut s[..n], a, b, f, c)
 }

@@ -11,49 +11,18 @@ ghost use lib.ListN.{length};
 ghost use Rattle.magnetar_field.specs.Gf128.{value};
 ghost use Rattle.magnetar_field.specs.Polynomial.{eval};
 ghost use Rattle.magnetar_field.specs.Words.{elements};
-ghost use Rattle.magnetar_layout.specs.Tests.{noted, sizeTests, rowsTests};
+ghost use Rattle.magnetar_layout.specs.Tests.{noted};
 ghost use Rattle.magnetar_sumcheck_verifier.specs.Round.{holds, running};
+ghost use Rattle.magnetar_protocol.specs.Shape.{proofTotal};
+ghost use Rattle.magnetar_protocol.specs.Draws.{drawTotal};
 ghost use Rattle.magnetar_protocol.specs.Proof.{part};
 ghost use Rattle.magnetar_protocol.specs.Found.{check, nextFound, after};
-ghost use Rattle.magnetar_verifier.specs.Steps.{messages, roundChecks, drawTotal, proofTotal};
-ghost use Rattle.magnetar_verifier.specs.Outer.{runTests};
+ghost use Rattle.magnetar_verifier.specs.Steps.{messages, roundChecks, wordTests};
 
 // What was found, and the running claim.
 pub(crate) struct Run {
     pub found: Found,
     pub claim: Gf128,
-}
-
-// 1: the columns and the logins.
-pub(crate) fn login_refusal(m: usize, q: usize) -> u32
-    ensures { λ r. ⌜ r ≡ noted 0 (sizeTests m q) ⌝ }
-{
-    let z = tests::note(0, 1, !tests::is_size(2, 65536, m));
-    tests::note(z, 1, !tests::is_size(1, 4096, q))
-}
-
-// 4: the rows of a system, alone and for q logins. An earlier number z stays.
-pub(crate) fn rows_refusal(z: u32, q: usize, n: usize) -> u32
-    requires { ⌜ q ≤ 4096 ⌝ }
-    ensures { λ r. ⌜ r ≡ noted z (rowsTests q n) ⌝ }
-{
-    let y = tests::note(z, 4, !tests::is_size(1, 65536, n));
-    if y != 0 {
-        return y;
-    }
-    tests::note(0, 4, q * n > 1048576)
-}
-
-// 1 and 4.
-pub(crate) fn size_refusal(m: usize, q: usize, rb: usize, rf: usize) -> u32
-    ensures { λ r. ⌜ r ≡ noted 0 (runTests m q rb rf) ⌝ }
-{
-    let z = login_refusal(m, q);
-    if z != 0 {
-        return z;
-    }
-    let z = rows_refusal(0, q, rb);
-    rows_refusal(z, q, rf)
 }
 
 // How many words the draws of a run are, with the logarithms s, b, f, c of the logins, the rows of bin and fld, and the columns.
@@ -72,6 +41,26 @@ pub(crate) fn proof_words(s: usize, b: usize, f: usize, c: usize, l: usize) -> u
     2 * (8 * s + 4 * b + 4 * f + 6 + 3 * c + 1 + l)
 }
 
+// 11, 15 and 16 by the numbers of words: of the proof, of the draws, and those lent where `wanted` are asked for.
+pub(crate) fn words_refusal(
+    s: usize,
+    b: usize,
+    f: usize,
+    c: usize,
+    l: usize,
+    proof: usize,
+    draws: usize,
+    wanted: usize,
+    lent: usize,
+) -> u32
+    requires { ⌜ (s < 64) × (b < 64) × (f < 64) × (c < 64) × (l ≤ 64) ⌝ }
+    ensures { λ r. ⌜ r ≡ noted 0 (wordTests s b f c l proof draws wanted lent) ⌝ }
+{
+    let z = tests::note(0, 11, draws != draw_words(s, b, f, c));
+    let z = tests::note(z, 15, lent < wanted);
+    tests::note(z, 16, proof != proof_words(s, b, f, c, l))
+}
+
 // n elements from place i on.
 pub(crate) fn piece<'a>(s: &'a [u64], i: usize, n: usize) -> &'a [u64]
     requires { ⌜ 2 * i + 2 * n ≤ length (now s) ⌝ }
@@ -83,17 +72,24 @@ pub(crate) fn piece<'a>(s: &'a [u64], i: usize, n: usize) -> &'a [u64]
     &s[a..e]
 }
 
-// The sum of a message is checked; the next claim is its value at the challenge.
-pub(crate) fn round(f: Found, claim: Gf128, msg: &[u64], r: Gf128, code: u32, events: usize) -> Run
+// The sum of a message of n elements is checked; the next claim is its value at the challenge.
+pub(crate) fn round(
+    f: Found,
+    claim: Gf128,
+    msg: &[u64],
+    n: usize,
+    r: Gf128,
+    code: u32,
+    events: usize,
+) -> Run
+    requires { ⌜ length (now msg) ≡ 2 * n ⌝ }
     ensures found { λ o. ⌜ o .found ≡ nextFound f (check code (holds (elements (now (msg .entry))) (value claim)) events) ⌝ }
     ensures claim { λ o. ⌜ value (o .claim) ≡ eval (elements (now (msg .entry))) (value r) ⌝ }
 {
-    let g = first::note(f, code, verify::sum_holds(msg, claim), events);
-    let next = verify::eval_message(msg, r);
-    Run {
-        found: g,
-        claim: next,
-    }
+    let next = verify::check_round(msg, n, claim, r);
+    let g = first::note(f, code, next.holds, events);
+    let c = next.claim;
+    Run { found: g, claim: c }
 }
 
 // n rounds: their messages of `width` elements from place i of the proof on, their challenges from place k of the draws on.
@@ -124,6 +120,7 @@ pub(crate) fn rounds(
             run.found,
             run.claim,
             msg,
+            width,
             words::get(draws, k + j),
             code,
             events + 2 * j,

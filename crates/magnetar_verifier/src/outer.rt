@@ -5,9 +5,9 @@ use magnetar_field::gf128::Evaluated;
 use magnetar_field::gf128::Gf128;
 use magnetar_field::sizes;
 use magnetar_field::words;
-use magnetar_layout::tests;
 use magnetar_protocol::first;
 use magnetar_protocol::first::Found;
+use magnetar_protocol::refusal;
 use magnetar_sumcheck_prover::public;
 use magnetar_sumcheck_verifier::verify;
 ghost use mathlib.Core.Path.{_≡_};
@@ -21,7 +21,7 @@ ghost use Rattle.magnetar_sumcheck_verifier.specs.Round.{holds, running};
 ghost use Rattle.magnetar_sumcheck_verifier.specs.Order.{eqPoints, point};
 ghost use Rattle.magnetar_protocol.specs.Proof.{part};
 ghost use Rattle.magnetar_protocol.specs.Found.{check, nothing, nextFound, after};
-ghost use Rattle.magnetar_verifier.specs.Steps.{sharedBin, sharedFld, bothChecks, terminalHolds, outerPhases, refusalOf};
+ghost use Rattle.magnetar_verifier.specs.Steps.{sharedBin, sharedFld, bothChecks, terminalHolds, outerPhases};
 ghost use Rattle.magnetar_verifier.specs.Outer.{outerFound};
 
 // What was found, and the running claims of both systems.
@@ -44,6 +44,7 @@ fn shared_round(both: Both, proof: &[u64], draws: &[u64], k: usize, j: usize) ->
         both.found,
         both.bin,
         found::piece(proof, 8 * j, 4),
+        4,
         r,
         21,
         events,
@@ -52,6 +53,7 @@ fn shared_round(both: Both, proof: &[u64], draws: &[u64], k: usize, j: usize) ->
         bin.found,
         both.fld,
         found::piece(proof, 8 * j + 4, 4),
+        4,
         r,
         22,
         events,
@@ -203,8 +205,8 @@ fn outer_phases(proof: &[u64], draws: &[u64], s: usize, b: usize, f: usize) -> F
 
 // The checks 21 to 26 of a run over q logins with m columns, rb rows of bin and rf rows of fld, and these segment lengths: the
 // first that does not pass, in the order of the run.
-// 1: no such columns or logins; 4: no such rows; 10: over 64 segments; 11: not the words of as many draws as a run makes; 16: not the words of a
-// proof. These stop it before any event.
+// 1: no such columns or logins; 4: no such rows; 8, 9, 10: no such layout over m / 2 columns; 11: not the words of as many draws as a run
+// makes; 16: not the words of a proof. These stop it before any event.
 pub fn outer_checks(
     m: usize,
     q: usize,
@@ -216,7 +218,7 @@ pub fn outer_checks(
 ) -> Found
     ensures { λ r. ⌜ r ≡ outerFound m q rb rf (now (lens .entry)) (now (proof .entry)) (now (draws .entry)) ⌝ }
 {
-    let y = found::size_refusal(m, q, rb, rf);
+    let y = refusal::outline_refusal(m, q, rb, rf, lens);
     if y != 0 {
         return Found { code: y, events: 0 };
     }
@@ -224,29 +226,19 @@ pub fn outer_checks(
     let b = sizes::log2(rb);
     let f = sizes::log2(rf);
     let c = sizes::log2(m);
-    let z = outer_refusal(s, b, f, c, lens.len(), proof.len(), draws.len());
+    let z = found::words_refusal(
+        s,
+        b,
+        f,
+        c,
+        lens.len(),
+        proof.len(),
+        draws.len(),
+        0,
+        0,
+    );
     if z != 0 {
         return Found { code: z, events: 0 };
     }
     outer_phases(proof, draws, s, b, f)
-}
-
-// 10, 11 and 16, with the logarithms s, b, f, c.
-fn outer_refusal(
-    s: usize,
-    b: usize,
-    f: usize,
-    c: usize,
-    l: usize,
-    proof: usize,
-    draws: usize,
-) -> u32
-    requires { ⌜ (s < 64) × (b < 64) × (f < 64) × (c < 64) ⌝ }
-    ensures { λ r. ⌜ r ≡ refusalOf s b f c l proof draws ⌝ }
-{
-    if l > 64 {
-        return 10;
-    }
-    let z = tests::note(0, 11, draws != found::draw_words(s, b, f, c));
-    tests::note(z, 16, proof != found::proof_words(s, b, f, c, l))
 }

@@ -5,7 +5,8 @@ use Rattle.magnetar_field.specs.Sizes.{log₂}
 use Rattle.magnetar_layout.proofs.Noted.{noted-front, noted-late}
 use Rattle.magnetar_layout.specs.Tests.{Tests, columnTests, layoutTests, roomTest}
 use Rattle.magnetar_prover.proofs.Guarded.{Sizes, sizes-of}
-use Rattle.magnetar_prover.specs.Entries.{counterTest, innerRoundsRefusal}
+use Rattle.magnetar_protocol.specs.RunTests.{counterTests}
+use Rattle.magnetar_prover.specs.Entries.{innerRoundsRefusal}
 use borrow.Author.Needs.{needs}
 use denote.Ref.{now}
 use lib.ListN.{length}
@@ -22,7 +23,7 @@ first s = let x = s .args in columnTests (x .m) ++ layoutTests (x .m / 2) (now (
 abbrev rest : tie.Start → Tests
 rest s =
     let x = s .args in
-    counterTest (x .t) ++ (roomTest (2 * log₂ (x .m)) (now (x .draws)) ++ roomTest (2 * (3 * log₂ (x .m) + 1 + length (now (x .lens)))) (now (x .proof))
+    counterTests (x .t .«squeeze_ctr») ++ (roomTest (2 * log₂ (x .m)) (now (x .draws)) ++ roomTest (2 * (3 * log₂ (x .m) + 1 + length (now (x .lens)))) (now (x .proof))
     ++ roomTest (6 * x .m) (now (x .s)))
 
 abbrev start : tie.Else1 → tie.Start

@@ -9,7 +9,8 @@ use Rattle.magnetar_field.specs.Sizes.{log₂}
 use Rattle.magnetar_layout.specs.Tests.{roomTest}
 use Rattle.magnetar_layout.proofs.Noted.{noted-front, noted-late}
 use Rattle.magnetar_prover.proofs.OuterGuard.{totals-of, logins-few, bin-few, fld-few}
-use Rattle.magnetar_prover.specs.Entries.{counterTest, countTests, totalTests, outerDrawn, outerSent, blockWords, outerRoundsRefusal}
+use Rattle.magnetar_protocol.specs.RunTests.{counterTests}
+use Rattle.magnetar_prover.specs.Entries.{countTests, totalTests, outerDrawn, outerSent, blockWords, outerRoundsRefusal}
 use borrow.Author.Needs.{needs}
 use Rattle.magnetar_prover.proofs.guard.of_outer.Statement.{statement}
 use Rattle.magnetar_prover.proofs.guard.of_outer.Tie as tie
@@ -21,7 +22,7 @@ returns : tie.Need-returns
 unfolding outerRoundsRefusal
 returns c =
     let x = c .before .before .before .before .before .args in
-    noted-front (countTests (x .q) (x .rb) (x .rf) ++ totalTests (x .q) (x .rb) (x .rf)) (counterTest (x .t) ++ (roomTest (2 * outerDrawn (log₂ (x
+    noted-front (countTests (x .q) (x .rb) (x .rf) ++ totalTests (x .q) (x .rb) (x .rf)) (counterTests (x .t .«squeeze_ctr») ++ (roomTest (2 * outerDrawn (log₂ (x
     .q)) (log₂ (x .rb)) (log₂ (x .rf))) (now (x .draws)) ++ roomTest (2 * outerSent (log₂ (x .q)) (log₂ (x .rb)) (log₂ (x .rf))) (now (x .proof))
     ++ roomTest (blockWords (x .q) (x .rb) (x .rf)) (now (x .s)))) _ (c .before .of-counts .ensures) (c .if1 .taken)
 
@@ -83,7 +84,7 @@ returns-2 : tie.Need-returns-2
 unfolding outerRoundsRefusal
 returns-2 c =
     let x = c .before .before .before .before .before .before .before .before .before .before .before .before .before .before .before .args in
-    noted-late (countTests (x .q) (x .rb) (x .rf) ++ totalTests (x .q) (x .rb) (x .rf)) (counterTest (x .t) ++ (roomTest (2 * outerDrawn (log₂ (x
+    noted-late (countTests (x .q) (x .rb) (x .rf) ++ totalTests (x .q) (x .rb) (x .rf)) (counterTests (x .t .«squeeze_ctr») ++ (roomTest (2 * outerDrawn (log₂ (x
     .q)) (log₂ (x .rb)) (log₂ (x .rf))) (now (x .draws)) ++ roomTest (2 * outerSent (log₂ (x .q)) (log₂ (x .rb)) (log₂ (x .rf))) (now (x .proof))
     ++ roomTest (blockWords (x .q) (x .rb) (x .rf)) (now (x .s)))) _ _ (c .before .before .before .before .before .before .before .before .before
     .before .before .of-counts .ensures) (c .before .before .before .before .before .before .before .before .before .before .if1 .left) (rw (

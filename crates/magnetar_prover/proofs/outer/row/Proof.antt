@@ -9,7 +9,7 @@ use Rattle.magnetar_prover.proofs.Sent.{sent-more, sent-there}
 use Rattle.magnetar_prover.proofs.Slots.{part-size}
 use Rattle.magnetar_prover.specs.Entries.{tableAt}
 use Rattle.magnetar_sumcheck_verifier.specs.Outer.{dropVar, outerMessage}
-use Rattle.magnetar_schedule.specs.Labels.{rowLabel}
+use Rattle.magnetar_prover.specs.Labels.{rowLabel}
 use borrow.Author.Needs.{needs}
 use denote.Ref.{now}
 use lib.ListN.{length}

@@ -1,8 +1,10 @@
 -- `magnetar_spartan::proving::later` meets its contract.
 -- Assumes nothing.
+use mathlib.Core.Path.{ap}
 use native.Mathlib.Omega.{arith}
 use denote.Ref.{now}
 use lib.ListN.{length}
+use Rattle.magnetar_protocol.specs.declared.scratch.ScratchWords.{ScratchWords}
 use Rattle.magnetar_spartan.specs.Proving.{bare}
 use Rattle.magnetar_spartan.proofs.LaterLaws.{fold-sizes, end-sizes, later-ends}
 use borrow.Author.Needs.{needs}
@@ -15,8 +17,8 @@ fold-behind-requires c κs = search needs
 end-requires : tie.Need-end-requires
 end-requires c κs = search needs
 
-prover-room-requires : tie.Need-prover-room-requires
-prover-room-requires c κs = search needs
+prover-scratch-requires : tie.Need-prover-scratch-requires
+prover-scratch-requires c κs = search needs
 
 least-requires : tie.Need-least-requires
 least-requires c κs = search needs
@@ -62,7 +64,7 @@ returns c =
       λ ld ok.
           let F = g .ensures (fold-sizes r ws p w d k s t ok ld) in
           let E = e .end .ensures (length ws) (length p) (end-sizes r ws p w d k s t ok ld _ F (g .kept .0)) ld in
-          later-ends r ws p w d k s t ok ld _ F (g .kept .0) _ _ _ _ E (n .result) _ (n .ensures .0) (z .before .before .before .prover-room .ensures) _ (z .clear .ensures),
+          later-ends r ws p w d k s t ok ld _ F (g .kept .0) _ _ _ _ E (n .result) _ (n .ensures .0) (ap (λ (a : ScratchWords). a .words) (z .before .before .before .prover-scratch .ensures)) _ (z .clear .ensures),
     )
 
 pub later-spec : {M : Type 1} → statement M
@@ -71,7 +73,7 @@ later-spec =
     (tie.spec
     fold-behind-requires
     end-requires
-    prover-room-requires
+    prover-scratch-requires
     least-requires
     sub-clear
     part-clear-start

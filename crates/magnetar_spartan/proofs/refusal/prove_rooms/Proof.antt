@@ -19,21 +19,21 @@ claim-words-requires c κs = search needs
 note-requires-2 : tie.Need-note-requires-2
 note-requires-2 c κs = search needs
 
-prover-room-requires : tie.Need-prover-room-requires
-prover-room-requires c κs = search needs
+prover-scratch-requires : tie.Need-prover-scratch-requires
+prover-scratch-requires c κs = search needs
 
 note-requires-3 : tie.Need-note-requires-3
 note-requires-3 c κs = search needs
 
 returns : tie.Need-returns
 returns c =
-    let r = c .before in
+    let r = c .before .before in
     let n = r .before in
     let k = n .before in
     let m = k .before in
     let p = m .before in
     let t = p .before in
-    rw (c .note3 .ensures, r .prover-room .ensures, n .note2 .ensures, k .claim-words .ensures, m .note .ensures, p .proof-words .ensures, t .counter .ensures)
+    rw (c .note3 .ensures, r .prover-scratch .ensures, n .note2 .ensures, k .claim-words .ensures, m .note .ensures, p .proof-words .ensures, t .counter .ensures)
 
 pub prove-rooms-spec : {M : Type 1} → statement M
 prove-rooms-spec =
@@ -44,6 +44,6 @@ prove-rooms-spec =
     note-requires
     claim-words-requires
     note-requires-2
-    prover-room-requires
+    prover-scratch-requires
     note-requires-3
     returns)

@@ -13,8 +13,8 @@ claim-words-requires c κs = search needs
 note-requires : tie.Need-note-requires
 note-requires c κs = search needs
 
-verifier-room-requires : tie.Need-verifier-room-requires
-verifier-room-requires c κs = search needs
+verifier-scratch-requires : tie.Need-verifier-scratch-requires
+verifier-scratch-requires c κs = search needs
 
 note-requires-2 : tie.Need-note-requires-2
 note-requires-2 c κs = search needs
@@ -29,11 +29,11 @@ returns : tie.Need-returns
 returns c =
     let p = c .before in
     let n = p .before in
-    let r = n .before in
+    let r = n .before .before in
     let m = r .before in
     let k = m .before in
     let t = k .before in
-    rw (c .note3 .ensures, p .proof-words .ensures, n .note2 .ensures, r .verifier-room .ensures, m .note .ensures, k .claim-words .ensures, t .counter .ensures)
+    rw (c .note3 .ensures, p .proof-words .ensures, n .note2 .ensures, r .verifier-scratch .ensures, m .note .ensures, k .claim-words .ensures, t .counter .ensures)
 
 pub verify-rooms-spec : {M : Type 1} → statement M
 verify-rooms-spec =
@@ -42,7 +42,7 @@ verify-rooms-spec =
     counter-requires
     claim-words-requires
     note-requires
-    verifier-room-requires
+    verifier-scratch-requires
     note-requires-2
     proof-words-requires
     note-requires-3

@@ -1,6 +1,8 @@
 -- `magnetar_spartan::stages::begin` meets its contract.
 -- Assumes nothing.
 use denote.Ref.{now}
+use mathlib.Core.Path.{ap}
+use Rattle.magnetar_hash.specs.declared.transcript.TranscriptAnswer.{TranscriptAnswer}
 use Rattle.magnetar_matrix.specs.Batch.{Relation}
 use Rattle.magnetar_protocol.specs.Shape.{outline}
 use Rattle.magnetar_spartan.proofs.StageLaws.{part-is, begun-is, begun-back}
@@ -43,7 +45,7 @@ outer-checks-requires c κs = search needs
 
 returns-2 : tie.Need-returns-2
 returns-2 c =
-    let f = c in
+    let f = c .before in
     let p = f .before .before .before .before in
     let l = p .before .before in
     let d = l .before in
@@ -51,7 +53,7 @@ returns-2 c =
     let s = e .before .before .before in
     let x = s .args in
     let part = part-is (o s) (d .draw-words .result) (l .least .result) _ (l .least .ensures .0) (d .draw-words .ensures) in
-    rw (e .if1 .left) (begun-is (o s) (now (x .proof)) (x .t) _ _ _ _ (p .play .ensures) part (f .outer-checks .ensures))
+    rw (e .if1 .left) (begun-is (o s) (now (x .proof)) (x .t) _ _ _ _ (ap (λ (a : TranscriptAnswer). a .transcript) (p .play .ensures .0), p .play .ensures .1) part (f .outer-checks .ensures))
 
 pub begin-spec : {M : Type 1} → statement M
 begin-spec =

@@ -1,51 +1,27 @@
 -- `magnetar_sumcheck_verifier::verify::round_external` meets its contract.
 -- Assumes nothing.
 use denote.Ref.{now}
-use mathlib.Core.Path.{sym, _∙_}
-use borrow.Author.Tests.{not-true, not-false}
 use Rattle.magnetar_field.specs.Gf128.{value}
+use Rattle.magnetar_sumcheck_verifier.specs.Outcome.{leftBy}
 use borrow.Author.Needs.{needs}
-use Rattle.magnetar_sumcheck_verifier.proofs.Wanted.{round-refused, round-right, round-wrong}
+use Rattle.magnetar_sumcheck_verifier.proofs.Wanted.{external-right, external-wrong}
 use Rattle.magnetar_sumcheck_verifier.proofs.verify.round_external.Statement.{statement}
 use Rattle.magnetar_sumcheck_verifier.proofs.verify.round_external.Tie as tie
 
-is-message-requires : tie.Need-is-message-requires
-is-message-requires c κs = search needs
+check-round-requires : tie.Need-check-round-requires
+check-round-requires c κs = search needs
 
 returns : tie.Need-returns
 returns c =
     let x = c .before .before .before .args in
-    round-refused (x .n) (now (x .msg)) (value (x .claim)) (value (x .r))
-    (sym (c .before .is-message .ensures) ∙ not-true (c .before .is-message .result) (c .if1 .taken))
-
-sum-holds-requires : tie.Need-sum-holds-requires
-sum-holds-requires c κs = search needs
-
-eval-message-requires : tie.Need-eval-message-requires
-eval-message-requires c κs = search needs
+    let o = c .before .check-round in
+    external-right (x .n) (now (x .msg)) (value (x .claim)) (value (x .r)) (leftBy (o .result)) (o .ensures) (c .if1 .taken)
 
 returns-2 : tie.Need-returns-2
 returns-2 c =
-    let x = c .before .before .before .before .before .before .args in
-    let m = c .before .before .before .before .is-message in
-    round-right (x .n) (now (x .msg)) (value (x .claim)) (value (x .r))
-    (sym (m .ensures) ∙ not-false (m .result) (c .before .before .before .if1 .left))
-    (sym (c .before .before .sum-holds .ensures) ∙ c .before .if2 .taken) (value (c .eval-message .result)) (c .eval-message .ensures)
-
-returns-3 : tie.Need-returns-3
-returns-3 c =
-    let x = c .before .before .before .before .before .args in
-    let m = c .before .before .before .is-message in
-    round-wrong (x .n) (now (x .msg)) (value (x .claim)) (value (x .r))
-    (sym (m .ensures) ∙ not-false (m .result) (c .before .before .if1 .left)) (sym (c .before .sum-holds .ensures) ∙ c .if2 .left)
+    let x = c .before .before .before .args in
+    let o = c .before .check-round in
+    external-wrong (x .n) (now (x .msg)) (value (x .claim)) (value (x .r)) (leftBy (o .result)) (o .ensures) (c .if1 .left)
 
 pub round-external-spec : {M : Type 1} → statement M
-round-external-spec =
-    tie.close
-    (tie.spec
-    is-message-requires
-    returns
-    sum-holds-requires
-    eval-message-requires
-    returns-2
-    returns-3)
+round-external-spec = tie.close (tie.spec check-round-requires returns returns-2)

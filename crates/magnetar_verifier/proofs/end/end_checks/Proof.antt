@@ -4,20 +4,21 @@ use denote.Ref.{now}
 use Prim.Native.Nat.{_*_, _^_, _≤_, _<_}
 use native.Mathlib.Omega.{arith}
 use lib.ListN.{length, length-take}
+use Rattle.magnetar_protocol.proofs.Guards.{Outlined, outlined-given}
 use Rattle.magnetar_verifier.proofs.Guards.{log-small}
-use Rattle.magnetar_verifier.proofs.EndGuard.{front-size, end-front, end-refused, end-fits, end-room, end-answered}
+use Rattle.magnetar_verifier.proofs.EndGuard.{end-front, end-refused, end-fits, end-room, end-answered}
 use borrow.Author.Needs.{needs}
 use Rattle.magnetar_verifier.proofs.end.end_checks.Statement.{statement}
 use Rattle.magnetar_verifier.proofs.end.end_checks.Tie as tie
 
-front-refusal-requires : tie.Need-front-refusal-requires
-front-refusal-requires c κs = search needs
+outline-refusal-requires : tie.Need-outline-refusal-requires
+outline-refusal-requires c κs = search needs
 
 returns : tie.Need-returns
 returns c =
     let x = c .before .before .before .before .before .before .args in
-    end-front (x .m) (x .q) (x .rb) (x .rf) (now (x .lens)) (now (x .proof)) (now (x .draws)) (now (x .s)) (c .before .front-refusal .result)
-    (c .before .front-refusal .ensures) (c .if1 .taken)
+    end-front (x .m) (x .q) (x .rb) (x .rf) (now (x .lens)) (now (x .proof)) (now (x .draws)) (now (x .s)) (c .before .outline-refusal .result)
+    (c .before .outline-refusal .ensures) (c .if1 .taken)
 
 log2-requires : tie.Need-log2-requires
 log2-requires c κs = search needs
@@ -44,8 +45,18 @@ rf-word s = search needs
 m-word : (s : tie.Start) → s .args .m < 2 ^ 64
 m-word s = search needs
 
-end-refusal-requires : tie.Need-end-refusal-requires
-end-refusal-requires c κs =
+-- what the first tests leave
+sizes : (c : tie.After-log24) → let x = c .before .before .before .before .before .before .before .before .before .before .args in Outlined (x .m) (x .q) (x .rb) (x .rf) (now (x .lens))
+sizes c =
+    let a = c .before .before .before in
+    let x = a .before .before .before .before .before .before .before .args in
+    outlined-given (x .m) (x .q) (x .rb) (x .rf) (now (x .lens)) _ (a .before .before .outline-refusal .ensures) (a .before .if1 .left)
+
+mul-n : tie.Need-mul-n
+mul-n c = omega (arith, sizes c .counts .columns .high)
+
+words-refusal-requires : tie.Need-words-refusal-requires
+words-refusal-requires c κs =
     let f = c .before in
     let b = f .before in
     let a = b .before in
@@ -55,8 +66,7 @@ end-refusal-requires c κs =
       log-small (x .rb) (b .log22 .result) (b .log22 .ensures .0) (rb-word t),
       log-small (x .rf) (f .log23 .result) (f .log23 .ensures .0) (rf-word t),
       log-small (x .m) (c .log24 .result) (c .log24 .ensures .0) (m-word t),
-      front-size (x .m) (x .q) (x .rb) (x .rf) (a .before .before .front-refusal .result) (a .before .before .front-refusal .ensures)
-          (a .before .if1 .left),
+      sizes c .few,
     )
 
 returns-2 : tie.Need-returns-2
@@ -68,13 +78,12 @@ returns-2 c =
     let a = b .before in
     let x = a .before .before .before .before .before .before .before .args in
     end-refused (x .m) (x .q) (x .rb) (x .rf) (now (x .lens)) (now (x .proof)) (now (x .draws)) (now (x .s)) (a .log2 .result) (b .log22 .result)
-    (f .log23 .result) (k .log24 .result) (z .end-refusal .result) (a .log2 .ensures .0) (b .log22 .ensures .0) (f .log23 .ensures .0) (k .log24 .ensures .0)
-    (z .end-refusal .ensures) (a .before .before .front-refusal .result) (a .before .before .front-refusal .ensures)
+    (f .log23 .result) (k .log24 .result) (z .words-refusal .result) (a .log2 .ensures .0) (b .log22 .ensures .0) (f .log23 .ensures .0) (k .log24 .ensures .0)
+    (z .words-refusal .ensures) (a .before .before .outline-refusal .result) (a .before .before .outline-refusal .ensures)
     (a .before .if1 .left) (c .if2 .taken)
 
 -- the room is enough
-enough : (c : tie.Else2) → 4 * c .before .before .before .before .before .before .before .before .before .before .before .before .args .m ≤
-    length (now (c .before .before .before .before .before .before .before .before .before .before .before .before .args .s))
+enough : (c : tie.Else2) → let x = c .before .before .before .before .before .before .before .before .before .before .before .before .args in 4 * x .m ≤ length (now (x .s))
 enough c =
     let z = c .before in
     let k = z .before in
@@ -83,12 +92,9 @@ enough c =
     let a = b .before in
     let x = a .before .before .before .before .before .before .before .args in
     end-room (x .m) (x .q) (x .rb) (x .rf) (now (x .lens)) (now (x .proof)) (now (x .draws)) (now (x .s)) (a .log2 .result) (b .log22 .result)
-    (f .log23 .result) (k .log24 .result) (z .end-refusal .result) (a .log2 .ensures .0) (b .log22 .ensures .0) (f .log23 .ensures .0) (k .log24 .ensures .0)
-    (z .end-refusal .ensures) (a .before .before .front-refusal .result) (a .before .before .front-refusal .ensures)
+    (f .log23 .result) (k .log24 .result) (z .words-refusal .result) (a .log2 .ensures .0) (b .log22 .ensures .0) (f .log23 .ensures .0) (k .log24 .ensures .0)
+    (z .words-refusal .ensures) (a .before .before .outline-refusal .result) (a .before .before .outline-refusal .ensures)
     (a .before .if1 .left) (c .if2 .left)
-
-mul-n : tie.Need-mul-n
-mul-n c = omega (arith, enough c)
 
 slice-relend-prefix-end-phases : tie.Need-slice-relend-prefix-end-phases
 slice-relend-prefix-end-phases c = omega (arith, enough c)
@@ -104,11 +110,11 @@ end-phases-requires c κs =
     let b = f .before in
     let a = b .before in
     let x = a .before .before .before .before .before .before .before .args in
-    let r = end-refusal-requires k (κs .0, tt) in (
+    let r = words-refusal-requires k tt in (
       end-fits (x .m) (x .q) (x .rb) (x .rf) (now (x .lens)) (now (x .proof)) (now (x .draws)) (now (x .s)) (a .log2 .result) (b .log22 .result)
-          (f .log23 .result) (k .log24 .result) (z .end-refusal .result) (a .log2 .ensures .0) (b .log22 .ensures .0) (f .log23 .ensures .0) (k .log24 .ensures .0)
-          (z .end-refusal .ensures) (a .before .before .front-refusal .result) (a .before .before .front-refusal .ensures)
-          (a .before .if1 .left) (c .before .if2 .left) (r .0) (r .1) (r .2),
+    (f .log23 .result) (k .log24 .result) (z .words-refusal .result) (a .log2 .ensures .0) (b .log22 .ensures .0) (f .log23 .ensures .0) (k .log24 .ensures .0)
+    (z .words-refusal .ensures) (a .before .before .outline-refusal .result) (a .before .before .outline-refusal .ensures)
+    (a .before .if1 .left) (c .before .if2 .left) (r .0) (r .1) (r .2),
       rw length-take (omega (arith, enough (c .before))),
     )
 
@@ -125,8 +131,8 @@ returns-3 c =
     let a = b .before in
     let x = a .before .before .before .before .before .before .before .args in
     end-answered (x .m) (x .q) (x .rb) (x .rf) (now (x .lens)) (now (x .proof)) (now (x .draws)) (now (x .s)) (a .log2 .result) (b .log22 .result)
-    (f .log23 .result) (k .log24 .result) (z .end-refusal .result) (a .log2 .ensures .0) (b .log22 .ensures .0) (f .log23 .ensures .0) (k .log24 .ensures .0)
-    (z .end-refusal .ensures) (a .before .before .front-refusal .result) (a .before .before .front-refusal .ensures)
+    (f .log23 .result) (k .log24 .result) (z .words-refusal .result) (a .log2 .ensures .0) (b .log22 .ensures .0) (f .log23 .ensures .0) (k .log24 .ensures .0)
+    (z .words-refusal .ensures) (a .before .before .outline-refusal .result) (a .before .before .outline-refusal .ensures)
     (a .before .if1 .left) (e .before .before .if2 .left) (e .end-phases .result) (e .end-phases .last .1 .1 .1 .1 .0) (e .end-phases .ensures .0)
     (e .end-phases .ensures .1)
 
@@ -134,15 +140,15 @@ pub end-checks-spec : {M : Type 1} → statement M
 end-checks-spec =
     tie.close
     (tie.spec
-    front-refusal-requires
+    outline-refusal-requires
     returns
     log2-requires
     log2-requires-2
     log2-requires-3
     log2-requires-4
-    end-refusal-requires
-    returns-2
     mul-n
+    words-refusal-requires
+    returns-2
     slice-relend-prefix-end-phases
     slice-aggregate-end-phases
     end-phases-requires

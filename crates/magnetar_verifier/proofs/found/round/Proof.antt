@@ -1,21 +1,26 @@
 -- `magnetar_verifier::found::round` meets its contract.
 -- Assumes nothing.
-use mathlib.Core.Path.{_∙_}
+use denote.Ref.{now}
+use mathlib.Core.Path.{ap, sym, _∙_}
+use Rattle.magnetar_field.specs.Gf128.{value}
+use Rattle.magnetar_sumcheck_verifier.specs.Outcome.{RoundLeft}
+use Rattle.magnetar_sumcheck_verifier.proofs.Wanted.{check-sized}
 use borrow.Author.Needs.{needs}
 use Rattle.magnetar_verifier.proofs.found.round.Statement.{statement}
 use Rattle.magnetar_verifier.proofs.found.round.Tie as tie
 
-sum-holds-requires : tie.Need-sum-holds-requires
-sum-holds-requires c κs = search needs
+check-round-requires : tie.Need-check-round-requires
+check-round-requires c κs = search needs
 
 note-requires : tie.Need-note-requires
 note-requires c κs = search needs
 
-eval-message-requires : tie.Need-eval-message-requires
-eval-message-requires c κs = search needs
-
 returns : tie.Need-returns
-returns c = (c .before .note .ensures ∙ rw (c .before .before .sum-holds .ensures), c .eval-message .ensures)
+returns c =
+    let s = c .before .before .before .before in
+    let x = s .args in
+    let e = c .before .before .check-round .ensures ∙ sym (check-sized (x .n) (now (x .msg)) (value (x .claim)) (value (x .r)) (s .pre)) in
+    (c .before .note .ensures ∙ rw (ap (λ (o : RoundLeft). o .holds) e), ap (λ (o : RoundLeft). o .claim) e)
 
 pub round-spec : {M : Type 1} → statement M
-round-spec = tie.close (tie.spec sum-holds-requires note-requires eval-message-requires returns)
+round-spec = tie.close (tie.spec check-round-requires note-requires returns)

@@ -1,0 +1,24 @@
+-- `magnetar_protocol::scratch::verifier_words` meets its contract.
+-- Assumes nothing.
+use native.Mathlib.Omega.{arith}
+use borrow.Author.Needs.{needs}
+use Rattle.magnetar_protocol.proofs.scratch.verifier_words.Statement.{statement}
+use Rattle.magnetar_protocol.proofs.scratch.verifier_words.Tie as tie
+
+mul-result : tie.Need-mul-result
+mul-result c = search needs
+
+larger-requires : tie.Need-larger-requires
+larger-requires c κs = search needs
+
+mul-result-2 : tie.Need-mul-result-2
+mul-result-2 c = omega (arith, c .larger .ensures)
+
+add-result : tie.Need-add-result
+add-result c = omega (arith, c .larger .ensures)
+
+returns : tie.Need-returns
+returns c = rw (c .larger .ensures)
+
+pub verifier-words-spec : {M : Type 1} → statement M
+verifier-words-spec = tie.close (tie.spec mul-result larger-requires mul-result-2 add-result returns)
