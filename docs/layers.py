@@ -35,6 +35,7 @@ PLACES = {
     "magnetar_prover": (1.5, 6, "core", "the prover's rounds"),
     "magnetar_records": (2.6, 6, "form", "matrices as records"),
     "magnetar_batch": (2.6, 7, "core", "folds, combined table, row check"),
+    "magnetar_digest": (3.6, 7, "core", "a digest of a relation"),
     "magnetar_forms": (3.6, 8, "host", "functions through the forms"),
     "magnetar_spartan": (1.5, 8, "core", "prover and verifier"),
     "magnetar_vectors": (0, 8, "host", "recorded answers of functions"),

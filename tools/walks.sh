@@ -76,6 +76,14 @@ thin records::apply_simd_bit_masks --use "$masks.{masks-done, masks-back}" \
   --final 'masks-done n1 n2 (s3 .now) (s4 .now) ys8 n5 n6 n7 r1 r2 r4 r3 r5 r6 e1 e2 e3 e4 e5 e6 (ws7 .1 .1 .1 .0) (ws8 .1 .1 .1 .1 .1 .1 .0) b1 e7 e8' \
   --final 'masks-back n1 n2 (s3 .now) (s4 .now) ys8 n5 n6 n7 r1 r2 r4 r3 r5 r6 e1 e2 e3 e4 e5 e6 b1'
 
+# magnetar_digest: the digest of a relation over records
+crate magnetar_digest
+digest='--use Rattle.magnetar_relation.specs.Rules.{rulesOver} --use Rattle.magnetar_records.specs.Records.{entriesOfRecords}'
+each EachASponge A magnetar_hash::hasher::Sponge
+thin digest_records::feed_where --final 'rw b1 e1' --final 'rw b1 refl'
+thin digest_records::relation_digest --use "$ends.Ends.{digest-ends}" --use 'Rattle.magnetar_records.proofs.WalkLaws.{records-length}' $digest \
+  --final 'e6 ∙ digest-ends (rulesOver n1 n2 (s3 .now) n4 (entriesOfRecords (s5 .now))) _ r3 r5 (sym (records-length (s5 .now))) e3 r1 r2 e1 e2 (rw (← e4) e5)'
+
 # magnetar_batch: the row check and the combined table over records
 crate magnetar_batch
 entries='Rattle.magnetar_records.specs.Records.{entriesOfRecords}'

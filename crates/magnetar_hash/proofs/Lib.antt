@@ -9,5 +9,6 @@ pub mod Pad
 pub mod Left
 pub mod Lengths
 pub mod Parts
+pub mod Hashed
 pub mod Draws
 pub mod Counter

@@ -14,7 +14,7 @@ use Rattle.magnetar_hash.proofs.Bytes.{length-le}
 use Rattle.magnetar_hash.proofs.Stream.{fed-join, sha3-of}
 use Rattle.magnetar_hash.proofs.Left.{Left, left-more, left-none}
 
-framed-one : (p : List ℕ) → leBytes 8 (length p) ++ p ≡ framed (p ∷ [])
+pub framed-one : (p : List ℕ) → leBytes 8 (length p) ++ p ≡ framed (p ∷ [])
 unfolding framed
 framed-one p = sym (append-nil (leBytes 8 (length p) ++ p))
 

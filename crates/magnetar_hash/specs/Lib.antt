@@ -1,5 +1,5 @@
 pub mod Bytes
 pub mod Sha3
-pub mod Sponge
 pub mod Parts
+pub mod Sponge
 pub mod Transcript

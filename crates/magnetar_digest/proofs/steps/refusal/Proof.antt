@@ -1,0 +1,59 @@
+-- `magnetar_digest::steps::refusal` meets its contract.
+-- Assumes nothing.
+use Prim.Native.Nat.{_/_}
+use mathlib.Core.Path.{_≡_}
+use mathlib.Core.List.{_++_}
+use denote.Ref.{now}
+use Rattle.magnetar_layout.specs.Tests.{noted, sizeTests, layoutTests}
+use Rattle.magnetar_layout.proofs.Noted.{noted-front}
+use Rattle.magnetar_relation.specs.RuleTests.{given}
+use Rattle.magnetar_digest.proofs.Sizes.{layout-last}
+use borrow.Author.Needs.{needs}
+use Rattle.magnetar_digest.proofs.steps.refusal.Statement.{statement}
+use Rattle.magnetar_digest.proofs.steps.refusal.Tie as tie
+
+-- 1 to 7
+first : (c : tie.After-note3) → let a = c .before .before .before .before .before .before .args in
+    c .note3 .result ≡ noted 0 (sizeTests (a .m) (a .q) ++ given (a .z))
+first c = rw (c .note3 .ensures, c .before .note2 .ensures, c .before .before .is-size2 .ensures, c .before .before .before .note .ensures, c .before .before .before .before .is-size .ensures)
+
+is-size-requires : tie.Need-is-size-requires
+is-size-requires c κs = search needs
+
+note-requires : tie.Need-note-requires
+note-requires c κs = search needs
+
+is-size-requires-2 : tie.Need-is-size-requires-2
+is-size-requires-2 c κs = search needs
+
+note-requires-2 : tie.Need-note-requires-2
+note-requires-2 c κs = search needs
+
+note-requires-3 : tie.Need-note-requires-3
+note-requires-3 c κs = search needs
+
+returns : tie.Need-returns
+returns c =
+    let a = c .before .before .before .before .before .before .before .args in
+    noted-front (sizeTests (a .m) (a .q) ++ given (a .z)) (layoutTests (a .m / 2) (now (a .lens))) _ (first (c .before)) (c .if1 .taken)
+
+refusal-requires : tie.Need-refusal-requires
+refusal-requires c κs = search needs
+
+returns-2 : tie.Need-returns-2
+returns-2 c =
+    let a = c .before .before .before .before .before .before .before .before .args in
+    layout-last (a .z) (a .m) (a .q) (now (a .lens)) _ _ (first (c .before .before)) (c .before .if1 .left) (c .refusal .ensures)
+
+pub refusal-spec : {M : Type 1} → statement M
+refusal-spec =
+    tie.close
+    (tie.spec
+    is-size-requires
+    note-requires
+    is-size-requires-2
+    note-requires-2
+    note-requires-3
+    returns
+    refusal-requires
+    returns-2)
