@@ -232,11 +232,13 @@ static void batch(void)
     magnetar_matrix six[] = {marked, binary, marked, binary, marked, binary};
     uint64_t alphas[] = {1, 0, 2, 0, 3, 0, 4, 0, 5, 0, 8, 0}, lo[27], hi[27];
     size_t row[27], col[27];
-    magnetar_relation r = {.m = 4, .q = 1};
+    magnetar_relation r = {.m = 4, .q = 1, .lens = (size_t[]){2}, .segments = 1};
     magnetar_join(&r, six, row, col, lo, hi);
+    show_digest("relation:", magnetar_digest_of(&r).digest);
     say("combined table:", magnetar_combo(&r, alphas, 12, point, 2, point + 2, 2, out, 8, scratch, 12), out, 8);
     say("with five alphas:", magnetar_combo(&r, alphas, 10, point, 2, point + 2, 2, out, 8, scratch, 12), out, 8);
     r.m = 8;
+    printf("its digest with other columns: refused %u\n", magnetar_digest_of(&r).code);
     say("with other columns:", magnetar_combo(&r, alphas, 12, point, 2, point + 2, 2, out, 8, scratch, 12), out, 8);
 }
 

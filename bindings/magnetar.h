@@ -2,7 +2,7 @@
  *
  * What a caller must bind. Neither the prover nor the verifier absorbs the relation, the public elements or a commitment to the bits. So
  * before the run, at both ends and in the same order, absorb into the transcript
- *   1. the relation's digest,
+ *   1. the relation's digest, magnetar_relation_digest,
  *   2. the words of the public elements,
  *   3. the commitment to the packed words;
  * and after a proof was accepted check its claims against the commitment. A transcript without these three lets someone choose them after
@@ -134,6 +134,12 @@ typedef struct {
 typedef struct {
     uint8_t bytes[32];
 } magnetar_digest;
+
+/* A refusal or 0, and a hash, 32 bytes 0 where the call is refused. */
+typedef struct {
+    uint32_t code;
+    magnetar_digest digest;
+} magnetar_digest_answer;
 
 /* ---- Elements and tables. */
 
@@ -286,6 +292,12 @@ typedef struct {
     magnetar_system_shape bin, fld;
 } magnetar_shapes;
 
+/* The digest of a relation: SHA3-256 of m, q, the segments' lengths, the shapes and the entries in their order. No two relations as they are
+ * lent are hashed from the same bytes. Refuses 1 and 4 to 10. */
+magnetar_digest_answer magnetar_relation_digest(
+    size_t m, size_t q, const size_t *lens, size_t lens_len, magnetar_shapes shapes, const size_t *row, size_t row_len,
+    const size_t *col, size_t col_len, const uint64_t *lo, size_t lo_len, const uint64_t *hi, size_t hi_len);
+
 /* The batch folded at the point: element y of out is the sum over the logins u of eq(point, u) times the bit of login u at column y, of w
  * columns. The scratch has 2 q words, and is 0 after the call. A segment of the folded batch is its 2 * length words from 2 * offset on.
  * 1, 2; 11: the point has not 2 log2(q) words; 15: out is shorter than 2 w words, or the scratch shorter. */
@@ -343,6 +355,11 @@ typedef struct {
 } magnetar_relation;
 
 #define MAGNETAR_LEND_(r) (r)->shapes, (r)->row, (r)->entries, (r)->col, (r)->entries, (r)->lo, (r)->entries, (r)->hi, (r)->entries
+
+static inline magnetar_digest_answer magnetar_digest_of(const magnetar_relation *r)
+{
+    return magnetar_relation_digest(r->m, r->q, r->lens, r->segments, MAGNETAR_LEND_(r));
+}
 
 static inline uint32_t magnetar_combo(const magnetar_relation *r, const uint64_t *alphas, size_t alphas_len, const uint64_t *pb,
                                       size_t pb_len, const uint64_t *pf, size_t pf_len, uint64_t *out, size_t out_len,

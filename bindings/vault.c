@@ -1,7 +1,7 @@
 /* The vault of crates/demo from C: `vault prove` writes a commitment to four logins and a proof of them, `vault verify` reads both and
  * judges them, then shows what is said about wrong words, batches, public elements and sizes.
  *
- * Both ends absorb the public elements and the commitment before the run. The verifier then checks the claims against
+ * Both ends absorb the relation's digest, the public elements and the commitment before the run. The verifier then checks the claims against
  * the commitment. The commitment scheme is outside this library: in its place stands SHA3-256 of the packed words, which is opened by showing
  * the words, so it hides nothing. */
 #include "magnetar.h"
@@ -70,10 +70,11 @@ static magnetar_digest commit(const uint64_t *packed)
 }
 
 /* What both ends start from: a transcript that holds all that must be fixed before the challenges are drawn. */
-static magnetar_transcript bound(const uint64_t *x, magnetar_digest commitment)
+static magnetar_transcript bound(magnetar_digest relation, const uint64_t *x, magnetar_digest commitment)
 {
     size_t parts[] = {6};
     magnetar_transcript t = magnetar_transcript_new((const uint8_t *)"vault", 5, (const uint8_t *)"monday", 6, parts, 1).transcript;
+    t = magnetar_absorb_digest(t, (const uint8_t *)"relation", 8, relation).transcript;
     t = magnetar_absorb_field(t, (const uint8_t *)"public", 6, x, PUBLIC).transcript;
     return magnetar_absorb_digest(t, (const uint8_t *)"commitment", 10, commitment).transcript;
 }
@@ -120,10 +121,13 @@ int main(int argc, char **argv)
     magnetar_element key = {0x0123456789abcdef, 0xfedcba9876543210}, edition = {EDITION, 0}, stamp = magnetar_mul(key, edition);
     uint64_t x[PUBLIC] = {key.lo, key.hi, stamp.lo, stamp.hi};
     uint64_t proof[PROOF], claims[CLAIMS];
+    magnetar_digest_answer rules = magnetar_digest_of(&r);
     magnetar_digest commitment = commit(good);
+    if (rules.code != MAGNETAR_OK)
+        return 1;
 
     if (argc == 2 && strcmp(argv[1], "prove") == 0) {
-        magnetar_transcript t = bound(x, commitment);
+        magnetar_transcript t = bound(rules.digest, x, commitment);
         if (magnetar_prove(&r, good, PACKED, x, PUBLIC, t, proof, PROOF, claims, CLAIMS, scratch, SCRATCH).code != MAGNETAR_OK)
             return 1;
         for (size_t i = 0; i < 32; i++)
@@ -140,7 +144,7 @@ int main(int argc, char **argv)
         if (scanf("%llx", (unsigned long long *)&proof[i]) != 1)
             return 1;
 
-    magnetar_transcript t = bound(x, commitment);
+    magnetar_transcript t = bound(rules.digest, x, commitment);
     magnetar_answer a = magnetar_verify(&r, x, PUBLIC, proof, PROOF, t, claims, CLAIMS, scratch, SCRATCH);
     show_rows("four logins,", magnetar_check(&r, good, PACKED, x, PUBLIC, scratch, SCRATCH));
     printf("verify: %u\n", a.code);
@@ -163,9 +167,9 @@ int main(int argc, char **argv)
     magnetar_digest changed = commitment;
     changed.bytes[0] ^= 1;
     printf("with another key: %u",
-           magnetar_verify(&r, y, PUBLIC, proof, PROOF, bound(y, commitment), claims, CLAIMS, scratch, SCRATCH).code);
+           magnetar_verify(&r, y, PUBLIC, proof, PROOF, bound(rules.digest, y, commitment), claims, CLAIMS, scratch, SCRATCH).code);
     printf(", another commitment: %u\n",
-           magnetar_verify(&r, x, PUBLIC, proof, PROOF, bound(x, changed), claims, CLAIMS, scratch, SCRATCH).code);
+           magnetar_verify(&r, x, PUBLIC, proof, PROOF, bound(rules.digest, x, changed), claims, CLAIMS, scratch, SCRATCH).code);
 
     const struct {
         const char *what;
@@ -178,7 +182,7 @@ int main(int argc, char **argv)
         uint64_t bad[PACKED], words[PROOF];
         memcpy(bad, good, sizeof good);
         bad[2 * wrong[i].login] = wrong[i].bits;
-        magnetar_transcript u = bound(x, commit(bad));
+        magnetar_transcript u = bound(rules.digest, x, commit(bad));
         show_rows(wrong[i].what, magnetar_check(&r, bad, PACKED, x, PUBLIC, scratch, SCRATCH));
         printf("prove: %u", magnetar_prove(&r, bad, PACKED, x, PUBLIC, u, words, PROOF, claims, CLAIMS, scratch, SCRATCH).code);
         printf(" verify: %u\n", magnetar_verify(&r, x, PUBLIC, words, PROOF, u, claims, CLAIMS, scratch, SCRATCH).code);
@@ -189,8 +193,10 @@ int main(int argc, char **argv)
     printf(" %u", magnetar_prove(&r, good, PACKED - 2, x, PUBLIC, t, proof, PROOF, claims, CLAIMS, scratch, SCRATCH).code);
     r.q = 3;
     printf(" %u", magnetar_prove(&r, good, PACKED, x, PUBLIC, t, proof, PROOF, claims, CLAIMS, scratch, SCRATCH).code);
+    printf(" %u", magnetar_digest_of(&r).code);
     r.q = Q;
     r.shapes.fld.c.entries++; /* one more than there are */
-    printf(" %u\n", magnetar_prove(&r, good, PACKED, x, PUBLIC, t, proof, PROOF, claims, CLAIMS, scratch, SCRATCH).code);
+    printf(" %u", magnetar_prove(&r, good, PACKED, x, PUBLIC, t, proof, PROOF, claims, CLAIMS, scratch, SCRATCH).code);
+    printf(" %u\n", magnetar_digest_of(&r).code);
     return 0;
 }

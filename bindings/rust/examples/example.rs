@@ -37,6 +37,10 @@ fn say_next(what: &str, t: &Transcript, absorbed: impl FnOnce(&mut Transcript) -
     say_element(what, heard.and_then(|()| t.challenge_field(b"next")));
 }
 
+fn digits(d: Digest) -> String {
+    d.bytes.iter().map(|b| format!("{b:02x}")).collect()
+}
+
 fn small(lo: u64) -> Element {
     Element { lo, hi: 0 }
 }
@@ -100,7 +104,6 @@ fn rounds() {
 }
 
 fn hashing() {
-    let digits = |d: Digest| d.bytes.iter().map(|b| format!("{b:02x}")).collect::<String>();
     let abc = sha3_256(b"abc");
     println!("SHA3-256 of nothing: {}", digits(sha3_256(b"")));
     println!("SHA3-256 of abc: {}", digits(abc));
@@ -182,10 +185,12 @@ fn batch() {
     say_words("three words:", fold_packed_w(&packed[..3], 2, 2, &point[..2]));
 
     let alphas = smalls(&[1, 2, 3, 4, 5, 8]);
-    let mut r = Relation::new(4, 1, vec![], &[marked(), binary(), marked()], &[binary(), marked(), binary()]);
+    let mut r = Relation::new(4, 1, vec![2], &[marked(), binary(), marked()], &[binary(), marked(), binary()]);
+    println!("relation: {}", digits(relation_digest(&r).unwrap()));
     say_words("combined table:", build_m_combo(&r, &alphas, &point[..2], &point[2..]));
     say_words("with five alphas:", build_m_combo(&r, &alphas[..10], &point[..2], &point[2..]));
     r.m = 8;
+    say("its digest with other columns:", relation_digest(&r).map(digits));
     say_words("with other columns:", build_m_combo(&r, &alphas, &point[..2], &point[2..]));
 }
 

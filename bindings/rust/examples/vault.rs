@@ -1,6 +1,6 @@
 //! What ../../vault.c does, through the safe functions: the two write the same, and each verifies what the other proved.
 //!
-//! Both ends absorb the public elements and the commitment before the run. The verifier then checks the claims against
+//! Both ends absorb the relation's digest, the public elements and the commitment before the run. The verifier then checks the claims against
 //! the commitment. The commitment scheme is outside this library: in its place stands SHA3-256 of the packed words, which is opened by showing
 //! the words, so it hides nothing.
 use magnetar::*;
@@ -41,8 +41,9 @@ fn commit(packed: &[u64]) -> Digest {
 }
 
 /// What both ends start from: a transcript that holds all that must be fixed before the challenges are drawn.
-fn bound(x: &[u64], commitment: Digest) -> Transcript {
+fn bound(relation: Digest, x: &[u64], commitment: Digest) -> Transcript {
     let mut t = Transcript::new(b"vault", &[b"monday"]);
+    t.absorb_digest(b"relation", relation).unwrap();
     t.absorb_field(b"public", x).unwrap();
     t.absorb_digest(b"commitment", commitment).unwrap();
     t
@@ -89,10 +90,11 @@ fn main() {
         x
     };
     let x = public(Element { lo: 0x0123456789abcdef, hi: 0xfedcba9876543210 });
+    let rules = relation_digest(&r).unwrap();
 
     if std::env::args().nth(1).as_deref() == Some("prove") {
         let commitment = commit(&good);
-        let (proof, _) = prove(&r, &good, &x, &mut bound(&x, commitment)).unwrap();
+        let (proof, _) = prove(&r, &good, &x, &mut bound(rules, &x, commitment)).unwrap();
         println!("{}", commitment.bytes.iter().map(|b| format!("{b:02x}")).collect::<String>());
         proof.iter().for_each(|w| println!("{w:016x}"));
         return;
@@ -103,7 +105,7 @@ fn main() {
     let commitment = Digest { bytes: std::array::from_fn(|i| u8::from_str_radix(&digits[2 * i..2 * i + 2], 16).unwrap()) };
     let mut proof: Vec<u64> = lines.map(|w| u64::from_str_radix(w, 16).unwrap()).collect();
 
-    let start = bound(&x, commitment);
+    let start = bound(rules, &x, commitment);
     let verdict = verify(&r, &x, &proof, &mut start.clone());
     show_rows("four logins,", row_check(&r, &good, &x));
     println!("verify: {}", code(verdict.clone()));
@@ -125,8 +127,8 @@ fn main() {
     let y = public(small(0x1111));
     let mut changed = commitment;
     changed.bytes[0] ^= 1;
-    print!("with another key: {}", code(verify(&r, &y, &proof, &mut bound(&y, commitment))));
-    println!(", another commitment: {}", code(verify(&r, &x, &proof, &mut bound(&x, changed))));
+    print!("with another key: {}", code(verify(&r, &y, &proof, &mut bound(rules, &y, commitment))));
+    println!(", another commitment: {}", code(verify(&r, &x, &proof, &mut bound(rules, &x, changed))));
 
     for (what, u, bits) in [
         ("saved without a secret,", 2, login(0, 1, EDITION)),
@@ -135,7 +137,7 @@ fn main() {
     ] {
         let mut bad = good;
         bad[2 * u] = bits;
-        let t = bound(&x, commit(&bad));
+        let t = bound(rules, &x, commit(&bad));
         show_rows(what, row_check(&r, &bad, &x));
         let (words, _) = prove(&r, &bad, &x, &mut t.clone()).unwrap();
         println!("prove: 0 verify: {}", code(verify(&r, &x, &words, &mut t.clone())));
@@ -146,7 +148,9 @@ fn main() {
     print!(" {}", code(prove(&r, &good[2..], &x, &mut start.clone())));
     r.q = 3;
     print!(" {}", code(prove(&r, &good, &x, &mut start.clone())));
+    print!(" {}", code(relation_digest(&r)));
     r.q = 4;
     r.rules.shapes.fld.c.entries += 1;
-    println!(" {}", code(prove(&r, &good, &x, &mut start.clone())));
+    print!(" {}", code(prove(&r, &good, &x, &mut start.clone())));
+    println!(" {}", code(relation_digest(&r)));
 }

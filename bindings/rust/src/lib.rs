@@ -5,7 +5,7 @@
 //! Neither [`prove`] nor [`verify`] absorbs the relation, the public elements or a commitment to the bits. So before the run, at both ends
 //! and in the same order, absorb into the transcript
 //!
-//! 1. the relation's digest,
+//! 1. the relation's digest, [`relation_digest`],
 //! 2. the words of the public elements,
 //! 3. the commitment to the packed words,
 //!
@@ -30,7 +30,7 @@ pub use hash::sha3_256;
 pub use matrix::Matrix;
 pub use refusal::Refusal;
 pub use rounds::{inner_message, outer_message, round_capturing, round_external};
-pub use run::{build_m_combo, fold_packed_w, layout_build, prove, row_check, verify, Claims, Failing, Relation, Rules};
+pub use run::{build_m_combo, fold_packed_w, layout_build, prove, relation_digest, row_check, verify, Claims, Failing, Relation, Rules};
 pub use sys::{Digest, Element, Shape, Shapes, SystemShape, Transcript};
 pub use tables::{bind_var, drop_var, eq_build, eval_mle, fold_instances, mul, words};
 

@@ -1,5 +1,5 @@
 //! Layouts, folds, the combined table, and the row check, the prover and the verifier of a batch.
-use crate::sys::{self, Shape, Shapes, SystemShape, Transcript};
+use crate::sys::{self, Digest, Shape, Shapes, SystemShape, Transcript};
 use crate::{lent, log, room, Matrix, Refusal};
 
 /// A, B, C of bin, then A, B, C of fld: their shapes, and their entries one behind the other. The library refuses lists of unequal
@@ -132,6 +132,13 @@ pub fn layout_build(w: usize, lens: &[usize]) -> Result<Vec<usize>, Refusal> {
         sys::magnetar_layout_build(w, lens.as_ptr(), lens.len(), offsets.as_mut_ptr(), offsets.len())
     })?;
     Ok(offsets)
+}
+
+/// The digest of a relation, for both ends to absorb before a run: SHA3-256 of m, q, the segments' lengths, the shapes and the entries in
+/// their order. No two relations as they are lent are hashed from the same bytes.
+pub fn relation_digest(r: &Relation) -> Result<Digest, Refusal> {
+    let answer = lent::relation_digest(r.m, r.q, &r.segments, &r.rules);
+    Refusal::check(answer.code).map(|()| answer.digest)
 }
 
 /// The batch of q logins of w bits folded at the point: element y is the sum over the logins u of eq(point, u) times the bit of login u at

@@ -74,6 +74,14 @@ pub struct Digest {
     pub bytes: [u8; 32],
 }
 
+/// `digest` is 32 bytes 0 where the call is refused.
+#[repr(C)]
+#[derive(Clone, Copy, Debug, PartialEq, Eq)]
+pub struct DigestAnswer {
+    pub code: u32,
+    pub digest: Digest,
+}
+
 /// `system` is 0 where every row holds, 1 for a row of bin, 2 for one of fld, 3 where the call is refused.
 #[repr(C)]
 #[derive(Clone, Copy, Debug, PartialEq, Eq)]
@@ -224,6 +232,13 @@ extern "C" {
         q: usize, w: usize, v: usize,
         out: *mut u64, out_len: usize,
     ) -> u32;
+    pub fn magnetar_relation_digest(
+        m: usize, q: usize,
+        lens: *const usize, lens_len: usize,
+        shapes: Shapes,
+        row: *const usize, row_len: usize, col: *const usize, col_len: usize,
+        lo: *const u64, lo_len: usize, hi: *const u64, hi_len: usize,
+    ) -> DigestAnswer;
     pub fn magnetar_fold_packed_w(
         packed: *const u64, packed_len: usize,
         q: usize, w: usize,

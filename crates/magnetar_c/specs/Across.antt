@@ -12,6 +12,7 @@ use Rattle.magnetar_multilinear.specs.Entries.Answer.{element as found, refusal
 use Rattle.magnetar_r1cs.specs.Entries.{Flagged}
 use Rattle.magnetar_r1cs.specs.Entries.Flagged.{flag as asked, refusal as notAsked}
 use Rattle.magnetar_field.specs.declared.gf128.Gf128.{Gf128}
+use Rattle.magnetar_hash.specs.declared.sha3.DigestAnswer.{DigestAnswer}
 use Rattle.magnetar_hash.specs.declared.transcript.Transcript.{Transcript}
 use Rattle.magnetar_hash.specs.declared.transcript.TranscriptAnswer.{TranscriptAnswer}
 use Rattle.magnetar_hash.specs.declared.transcript.DrawAnswer.{DrawAnswer}
@@ -22,6 +23,7 @@ use Rattle.magnetar_c.specs.declared.across.MagnetarTranscript.{Magnetar
 use Rattle.magnetar_c.specs.declared.across.MagnetarAnswer.{MagnetarAnswer}
 use Rattle.magnetar_c.specs.declared.across.MagnetarDraw.{MagnetarDraw}
 use Rattle.magnetar_c.specs.declared.across.MagnetarRowCheck.{MagnetarRowCheck}
+use Rattle.magnetar_c.specs.declared.across.MagnetarDigestAnswer.{MagnetarDigestAnswer}
 use Rattle.magnetar_c.specs.declared.across.MagnetarValue.{MagnetarValue}
 use Rattle.magnetar_c.specs.declared.across.MagnetarFlag.{MagnetarFlag}
 use Rattle.magnetar_c.specs.declared.across.MagnetarRound.{MagnetarRound}
@@ -39,7 +41,11 @@ transcript t = record { state = t .state; «squeeze_ctr» = t .«squeeze_ctr» }
 abbrev pub answer : MagnetarAnswer → TranscriptAnswer
 answer a = record { code = a .code; transcript = transcript (a .transcript) }
 
--- the same with the element drawn
+-- a refusal's number and a hash
+abbrev pub digest : MagnetarDigestAnswer → DigestAnswer
+digest a = record { code = a .code; digest = a .digest .bytes }
+
+-- a refusal's number, a transcript and the element drawn
 abbrev pub drawn : MagnetarDraw → DrawAnswer
 drawn d = record { code = d .code; element = element (d .element); transcript = transcript (d .transcript) }
 

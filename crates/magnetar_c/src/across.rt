@@ -2,6 +2,7 @@
 use magnetar_batch::check::RowCheck;
 use magnetar_field::gf128::Evaluated;
 use magnetar_field::gf128::Gf128;
+use magnetar_hash::sha3::DigestAnswer;
 use magnetar_hash::transcript::DrawAnswer;
 use magnetar_hash::transcript::Transcript;
 use magnetar_hash::transcript::TranscriptAnswer;
@@ -88,6 +89,13 @@ pub struct MagnetarCapture {
 #[repr(C)]
 pub struct MagnetarDigest {
     pub bytes: [u8; 32],
+}
+
+// The same with the number of a refusal, 0 for none; 32 bytes 0 where the call is refused.
+#[repr(C)]
+pub struct MagnetarDigestAnswer {
+    pub code: u32,
+    pub digest: MagnetarDigest,
 }
 
 // ---- From C's structs and back.
@@ -177,6 +185,17 @@ pub(crate) fn check_out(c: RowCheck) -> MagnetarRowCheck
             login: 0,
             row: 0,
         },
+    }
+}
+
+pub(crate) fn digest_out(d: DigestAnswer) -> MagnetarDigestAnswer
+    ensures { λ r. ⌜ across.digest r ≡ d ⌝ }
+{
+    let bytes = d.digest;
+    let digest = MagnetarDigest { bytes };
+    MagnetarDigestAnswer {
+        code: d.code,
+        digest,
     }
 }
 

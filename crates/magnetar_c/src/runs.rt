@@ -2,11 +2,13 @@
 // slices.
 use crate::across;
 use crate::across::MagnetarAnswer;
+use crate::across::MagnetarDigestAnswer;
 use crate::across::MagnetarRowCheck;
 use crate::across::MagnetarTranscript;
 use magnetar_batch::check;
 use magnetar_batch::combo;
 use magnetar_batch::fold;
+use magnetar_digest::digest;
 use magnetar_layout::layout;
 use magnetar_relation::shapes::Shapes;
 use magnetar_spartan::virtual_spartan;
@@ -14,6 +16,7 @@ ghost use mathlib.Core.Path.{_≡_};
 ghost use mathlib.Core.List.{[]};
 ghost use Rattle.magnetar_layout.specs.Entries.{buildRefusal, buildOut};
 ghost use Rattle.magnetar_relation.specs.Rules.{rules};
+ghost use Rattle.magnetar_digest.specs.Digest.{digestAnswer};
 ghost use Rattle.magnetar_batch.specs.Check.{checkOutcome};
 ghost use Rattle.magnetar_batch.specs.Entries.{foldRefusal, foldOut, foldScratch, combined, comboOutcome};
 ghost use Rattle.magnetar_spartan.specs.Outcome.{verified, verifyOutcome, proved, proveOutcome};
@@ -27,6 +30,24 @@ pub extern "C" fn magnetar_layout_build(w: usize, lens: &[usize], offsets: &mut 
     ensures written { λ _. ⌜ now (offsets .exit) ≡ buildOut w (now (lens .entry)) (now (offsets .entry)) ⌝ }
 {
     layout::build(w, lens, offsets)
+}
+
+// The digest of a relation, for both ends to absorb before a run.
+#[no_mangle]
+pub extern "C" fn magnetar_relation_digest(
+    m: usize,
+    q: usize,
+    lens: &[usize],
+    sh: Shapes,
+    row: &[usize],
+    col: &[usize],
+    lo: &[u64],
+    hi: &[u64],
+) -> MagnetarDigestAnswer
+    ensures { λ r. ⌜ (let R = rules m q (now (lens .entry)) sh (now (row .entry)) (now (col .entry)) (now (lo .entry)) (now (hi .entry)) in
+        across.digest r ≡ digestAnswer R) ⌝ }
+{
+    across::digest_out(digest::relation_digest(m, q, lens, sh, row, col, lo, hi))
 }
 
 // The batch folded at the point: column y is the sum over the logins of eq times the bit.
