@@ -1,4 +1,4 @@
--- The list of a draw uses no word of the proof that was not absorbed before that draw.
+-- The list of a draw uses no element of the proof that was not absorbed before that draw.
 -- Assumes nothing: the field and its laws are parameters.
 use mathlib.Core.Path.{_≡_, refl, ap, ap₂, _∙_}
 use mathlib.Core.Bool.{Bool, true, false, cond}
@@ -141,7 +141,7 @@ module _ (F : Field) where
           count : (a b n n₁ n₂ : ℕ) → n ≡ a + n₁ → n₁ ≡ b + n₂ → suc n - (a + b) ≡ suc n₂
           count a b n n₁ n₂ h k = omega arith
 
-    -- the list of a draw uses no word that was not absorbed before it
+    -- the list of a draw uses no element that was not absorbed before it
     pub absorbed-lists : (p : List K) → lists F s R x ws (take (absorbedCount s (R .bin .logRows) (R .fld .logRows) (length p)) w) p
         ≡ lists F s R x ws w p
     unfolding listsOf outer

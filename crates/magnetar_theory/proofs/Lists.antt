@@ -1,4 +1,4 @@
--- The same for the flat lists of words and draws: the batch is good, or a draw is in its list. No list has more than three.
+-- The same for the flat lists of elements and draws: the batch is good, or a draw is in its list. No list has more than three.
 -- Assumes nothing: the field and its laws are parameters.
 use mathlib.Core.Path.{_≡_, refl, sym, ap, _∙_, subst, subst₂}
 use mathlib.Core.Bool.{Bool, true, false, cond}

@@ -1,4 +1,4 @@
--- A whole run, accepted with true claims: the batch is good, or a draw is bad. A good batch: the honest words are accepted.
+-- A whole run, accepted with true claims: the batch is good, or a draw is bad. A good batch: the honest proof is accepted.
 -- Assumes nothing: the field and its laws are parameters.
 use mathlib.Core.Path.{_≡_, refl, sym, ap, ap₂, _∙_}
 use mathlib.Core.Bool.{Bool, true, false, false≢true}
@@ -300,7 +300,7 @@ module _ (F : Field) where
           (table F Y (Y .C) (vectors F ws x)) taus (D .shared) r (table-size Y (Y .A) r h)
           (table-size Y (Y .B) r h ∙ sym (table-size Y (Y .A) r h)) (table-size Y (Y .C) r h ∙ sym (table-size Y (Y .A) r h)) k z
 
-      -- a good batch: the honest words are accepted
+      -- a good batch: the honest proof is accepted
       pub whole-complete : Zeros F (residues F (R .bin) (vectors F ws x)) → Zeros F (residues F (R .fld) (vectors F ws x))
           → Accepted F R x D (honestWords F R x ws D)
       whole-complete zb zf = record {

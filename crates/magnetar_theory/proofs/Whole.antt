@@ -31,6 +31,6 @@ module _ (R : Relation gf128) (x : List Element) (ws : List (List Element)) wher
       go (inr h) = inr (hit-map gf128 (lists gf128 (length (D .shared)) R x ws w) (listOf R x ws (length (D .shared)) w) (drawn gf128 D)
           (λ p q. sym (absorbed-lists gf128 (length (D .shared)) R x ws w p)) h)
 
-  -- the honest words of a good batch are accepted
+  -- the honest proof of a good batch is accepted
   pub complete : (D : Draws gf128) (S : Sizes gf128 R x ws D) → Good R x ws → Accepted gf128 R x D (honestWords gf128 R x ws D)
   complete D S g = whole-complete gf128 gf128Laws R x ws D S (g .0) (g .1)

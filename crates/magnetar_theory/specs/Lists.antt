@@ -1,6 +1,5 @@
 -- The lists of bad draws, one definition for all draws of a run: the list of a draw is given by the relation, the batch, the
--- public columns, the proof's words and the draws before it. And the proof's words and the draws as flat lists. A word here is one element
--- of the proof.
+-- public columns, the proof's elements and the draws before it. And the proof and the draws as flat lists of elements.
 -- Source: document 01, "The run" (demand 3's lists).
 -- Assumes nothing.
 use mathlib.Core.Bool.{Bool, cond}
@@ -28,11 +27,11 @@ module _ (F : Field) where
   abbrev pub DrawInList : (List K → List K) → List K → Type 0
   DrawInList lists d = (k : ℕ) × (k < length d) × List·Memᴰ (getD d k 𝟎) (lists (take k d))
 
-  -- n words from i on
+  -- n elements of the proof from i on
   abbrev pub words : ℕ → ℕ → List K → List K
   words i n w = take n (drop i w)
 
-  -- the six words from i on
+  -- the six elements from i on
   abbrev pub sixAt : ℕ → List K → List K
   sixAt i w = getD w i 𝟎 ∷ getD w (i + 1) 𝟎 ∷ getD w (i + 2) 𝟎 ∷ getD w (i + 3) 𝟎 ∷ getD w (i + 4) 𝟎 ∷ getD w (i + 5) 𝟎 ∷ []
 
@@ -66,12 +65,12 @@ module _ (F : Field) where
     abbrev pub lists : List K → List K
     lists = listsOf (binGood F R x ws)
 
-  -- c messages of n words, each st words after the one before
+  -- c messages of n elements, each st elements after the one before
   abbrev pub rounds : ℕ → ℕ → ℕ → List K → List (List K)
   rounds zero st n w = []
   rounds (suc c) st n w = take n w ∷ rounds c st n (drop st w)
 
-  -- the proof words taken apart
+  -- the proof taken apart
   abbrev pub wordsOf : ℕ → Relation F → List K → Words F
   wordsOf s R w = record {
     binMs = rounds s 8 4 w ++ rounds (R .bin .logRows) 4 4 (drop (8 * s) w);

@@ -1,5 +1,5 @@
--- A whole run of virtual Spartan with its draws as plain elements: the relation, the draws, the proof's words, what the verifier
--- tests, the true value of each claim, and the honest prover's words. A word here is one element of the proof. Nothing here mentions a hash
+-- A whole run of virtual Spartan with its draws as plain elements: the relation, the draws, the proof, what the verifier
+-- tests, the true value of each claim, and the honest prover's proof. Nothing here mentions a hash
 -- or a transcript.
 -- Source: document 01, "The run" and "Forms that give way" (the order of the proof); the Rust's `verify_virtual_spartan`.
 -- Assumes nothing.
@@ -64,7 +64,7 @@ module _ (F : Field) where
     pub low : List K
     pub last : K
 
-  -- the words of a proof: the messages of both outer sum-checks, the terminals of both systems, the inner messages, v_z, the segment
+  -- a proof: the messages of both outer sum-checks, the terminals of both systems, the inner messages, v_z, the segment
   -- values
   pub record Words : Type 0 where
     pub binMs : List (List K)
@@ -161,7 +161,7 @@ module _ (F : Field) where
   binGood R x ws = allZero F (residues (R .bin) (vectors ws x))
 
   module _ (R : Relation) (x : List K) (ws : List (List K)) (D : Draws) where
-    -- the honest prover's words
+    -- the honest prover's proof
     abbrev pub honestWords : Words
     honestWords = record {
       binMs = honest F (tableRounds F (outerCells F)) (begin (R .bin) (D .tauBin) (vectors ws x) (length (D .shared)) (length (D .rowBin)))

@@ -15,6 +15,6 @@ module _ (R : Relation gf128) (x : List Element) (ws : List (List Element)) wher
   abbrev pub Good : Type 0
   Good = Zeros gf128 (residues gf128 (R .bin) (vectors gf128 ws x)) × Zeros gf128 (residues gf128 (R .fld) (vectors gf128 ws x))
 
-  -- the list of a draw, from the words absorbed before it and the draws before it
+  -- the list of a draw, from the proof's elements absorbed before it and the draws before it
   abbrev pub listOf : ℕ → List Element → List Element → List Element
   listOf s w earlier = lists gf128 s R x ws (take (absorbedCount s (R .bin .logRows) (R .fld .logRows) (length earlier)) w) earlier
