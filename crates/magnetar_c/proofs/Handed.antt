@@ -12,8 +12,8 @@ use Rattle.magnetar_hash.specs.declared.transcript.Transcript.{Transcript}
 use Rattle.magnetar_hash.specs.declared.transcript.TranscriptAnswer.{TranscriptAnswer}
 use Rattle.magnetar_multilinear.specs.Entries.Answer.{element as found}
 use Rattle.magnetar_relation.specs.Rules.{Rules}
-use Rattle.magnetar_schedule.specs.Capture.{capturedBy, captureOutcome}
-use Rattle.magnetar_schedule.specs.declared.capture.Captured.{Captured}
+use Rattle.magnetar_prover.specs.Capture.{capturedBy, captureOutcome}
+use Rattle.magnetar_prover.specs.declared.capture.Captured.{Captured}
 use Rattle.magnetar_spartan.specs.Outcome.{verified, verifyOutcome, proved, proveOutcome}
 use Rattle.magnetar_spartan.specs.Theorems.{AcceptedCall, ProvedCall}
 use Rattle.magnetar_sumcheck_verifier.specs.Outcome.{leftBy, roundOutcome}

@@ -17,7 +17,7 @@ use Rattle.magnetar_hash.specs.declared.transcript.Transcript.{Transcript}
 use Rattle.magnetar_hash.specs.declared.transcript.TranscriptAnswer.{TranscriptAnswer}
 use Rattle.magnetar_hash.specs.declared.transcript.DrawAnswer.{DrawAnswer}
 use Rattle.magnetar_sumcheck_verifier.specs.declared.verify.Round.{Round}
-use Rattle.magnetar_schedule.specs.declared.capture.Captured.{Captured}
+use Rattle.magnetar_prover.specs.declared.capture.Captured.{Captured}
 use Rattle.magnetar_c.specs.declared.across.MagnetarElement.{MagnetarElement}
 use Rattle.magnetar_c.specs.declared.across.MagnetarTranscript.{MagnetarTranscript}
 use Rattle.magnetar_c.specs.declared.across.MagnetarAnswer.{MagnetarAnswer}

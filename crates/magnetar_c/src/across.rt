@@ -7,7 +7,7 @@ use magnetar_hash::transcript::DrawAnswer;
 use magnetar_hash::transcript::Transcript;
 use magnetar_hash::transcript::TranscriptAnswer;
 use magnetar_r1cs::r1cs::Flag;
-use magnetar_schedule::capture::Captured;
+use magnetar_prover::capture::Captured;
 use magnetar_sumcheck_verifier::verify::Round;
 ghost use mathlib.Core.Path.{_≡_};
 ghost use Rattle.magnetar_multilinear.specs.Entries.{answer};

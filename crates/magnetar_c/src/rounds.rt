@@ -4,7 +4,7 @@ use crate::across::MagnetarCapture;
 use crate::across::MagnetarElement;
 use crate::across::MagnetarRound;
 use crate::across::MagnetarTranscript;
-use magnetar_schedule::capture;
+use magnetar_prover::capture;
 use magnetar_sumcheck_prover::engine;
 use magnetar_sumcheck_verifier::verify;
 ghost use mathlib.Core.Path.{_≡_};
@@ -12,7 +12,7 @@ ghost use lib.ListN.{length};
 ghost use Rattle.magnetar_field.specs.Gf128.{value};
 ghost use Rattle.magnetar_sumcheck_prover.specs.Entries.{outerRefusal, outerOut, innerRefusal, innerOut};
 ghost use Rattle.magnetar_sumcheck_verifier.specs.Outcome.{leftBy, roundOutcome};
-ghost use Rattle.magnetar_schedule.specs.Capture.{capturedBy, captureOutcome};
+ghost use Rattle.magnetar_prover.specs.Capture.{capturedBy, captureOutcome};
 ghost use Rattle.magnetar_c.specs.Across as across;
 
 // The message of a round of the outer sum-check.
