@@ -10,8 +10,8 @@ use lib.ListN.{length, drop, replicate}
 use lib.Seq.{drop-drop}
 use borrow.Author.Tests.{eqb-true, eqb-false, eq-eqb, ne-eqb, ltb-true, ltb-false, lt-ltb, le-ltb, le-leb}
 use Rattle.magnetar_field.specs.Words.{elements}
-use Rattle.magnetar_layout.specs.Tests.{Tests, noted, sizeTests, packedTests, publicTests}
-use Rattle.magnetar_layout.proofs.Noted.{noted-clear}
+use Rattle.magnetar_layout.specs.Tests.{Tests, firstRefusal, sizeTests, packedTests, publicTests}
+use Rattle.magnetar_layout.proofs.FirstRefusal.{first-refusal-clear}
 use Rattle.magnetar_layout.proofs.SizeLaws.{not-bad}
 use Rattle.magnetar_matrix.specs.Matrix.{System}
 use Rattle.magnetar_matrix.specs.Batch.{Relation, assignment}
@@ -26,7 +26,7 @@ use Rattle.magnetar_relation.specs.RuleTests.{ruleTests, ruleTestsBy, shapeTest
 use Rattle.magnetar_relation.specs.Steps.{clearedTo, loginZ}
 use Rattle.magnetar_relation.proofs.RuleLaws.{given-group}
 use Rattle.magnetar_batch.specs.declared.check.Failing.{Failing}
-use Rattle.magnetar_batch.specs.Check.{Outcome, checkRoomTests, checkTestsBy, checkRoom, checkRefusal, Checked, checkOutcome}
+use Rattle.magnetar_batch.specs.Check.{Outcome, checkScratchTests, checkTestsBy, checkScratchOf, checkRefusal, Checked, checkOutcome}
 use Rattle.magnetar_batch.specs.Check.Outcome.{judged, refused}
 use Rattle.magnetar_batch.specs.CheckSteps.{nothing, Judged, from, systemDone, bothDone, bothWords, answerOf}
 use Rattle.magnetar_batch.proofs.Groups.{front-none, rest-none}
@@ -176,10 +176,10 @@ module _ (R : Rules) (ws x : List ℕ) (room : ℕ) where
   front = sizeTests (R .m) (R .q) ++ (packedTests (R .m / 2) (R .q) ws ++ publicTests (R .m) x)
 
   abbrev back : Tests
-  back = checkRoomTests (R .shapes .bin .a .rows) (R .shapes .fld .a .rows) room
+  back = checkScratchTests (R .shapes .bin .a .rows) (R .shapes .fld .a .rows) room
 
-  pub check-by : (z y : ℕ) → z ≡ noted 0 (ruleTests R)
-      → y ≡ noted 0 (checkTestsBy z (R .m) (R .q) (R .shapes .bin .a .rows) (R .shapes .fld .a .rows) (length ws) (length x) room)
+  pub check-by : (z y : ℕ) → z ≡ firstRefusal 0 (ruleTests R)
+      → y ≡ firstRefusal 0 (checkTestsBy z (R .m) (R .q) (R .shapes .bin .a .rows) (R .shapes .fld .a .rows) (length ws) (length x) room)
       → y ≡ checkRefusal R ws x room
   unfolding checkRefusal
   check-by z y e f = f ∙ given-group front (ruleTests R) back z e
@@ -188,20 +188,20 @@ module _ (R : Rules) (ws x : List ℕ) (room : ℕ) where
   record CheckFits : Type 0 where
     bin : R .shapes .bin .a .rows ≤ 65536
     fld : R .shapes .fld .a .rows ≤ 65536
-    enough : checkRoom R ≤ room
+    enough : checkScratchOf R ≤ room
 
   check-fits : checkRefusal R ws x room ≡ 0 → CheckFits
   unfolding checkRefusal ruleTestsBy
   check-fits e =
       let shapes = shapeTests (R .m) (R .q) (R .shapes) in
       let more = numberTests (total (R .shapes)) (R .numbers) ++ ((7, not (inRelation (relationOf R))) ∷ []) in
-      let late : noted 0 (ruleTests R ++ back) ≡ 0 = rest-none front (ruleTests R ++ back) e in
-      let rules : noted 0 (shapes ++ more) ≡ 0 = front-none (ruleTests R) back late in
-      let c = noted-clear 0 shapes refl (front-none shapes more rules) .1 in
+      let late : firstRefusal 0 (ruleTests R ++ back) ≡ 0 = rest-none front (ruleTests R ++ back) e in
+      let rules : firstRefusal 0 (shapes ++ more) ≡ 0 = front-none (ruleTests R) back late in
+      let c = first-refusal-clear 0 shapes refl (front-none shapes more rules) .1 in
       record {
         bin = not-bad (c .0) .high;
         fld = not-bad (c .1 .1 .1 .1 .0) .high;
-        enough = ltb-false _ _ (noted-clear 0 back refl (rest-none (ruleTests R) back late) .1 .0);
+        enough = ltb-false _ _ (first-refusal-clear 0 back refl (rest-none (ruleTests R) back late) .1 .0);
       }
 
 -- ---- the entry

@@ -11,7 +11,7 @@ use Rattle.magnetar_matrix.specs.Batch.{Relation}
 use Rattle.magnetar_relation.specs.declared.shapes.Shapes.{Shapes}
 use Rattle.magnetar_relation.specs.Rules.{relationOf, rulesOver}
 use Rattle.magnetar_relation.specs.Steps.{loginZ, clearedTo, behind}
-use Rattle.magnetar_relation.specs.Told.{walked, walkedWithin}
+use Rattle.magnetar_relation.specs.EntryWalks.{foldEntries, foldEntriesWithin}
 use Rattle.magnetar_batch.specs.declared.check.Failing.{Failing}
 use Rattle.magnetar_batch.specs.CheckSteps.{shareAdded, productBehind, threeIn, nothing, Judged, from, loginDone, systemDone, bothDone, bothWords}
 use Rattle.magnetar_batch.specs.declared.ranges.Ends.{Ends}
@@ -21,8 +21,8 @@ use Rattle.magnetar_batch.proofs.RangeLaws.{bin-a, bin-b, bin-c, fld-a,
 
 -- ---- a product
 pub product-ends : (m n : ℕ) (z : List ℕ) (a b : ℕ) (es : List Entry) (s s₁ s₂ : List ℕ) → s₁ ≡ behind m (clearedTo n) s
-    → s₂ ≡ walkedWithin (shareAdded m n z) a b 0 es s₁ → s₂ ≡ productBehind m n z (matrixIn n a b es) s
-product-ends m n z a b es s s₁ s₂ e f = f ∙ (within-part (shareAdded m n z) a b es s₁ ∙ ap (walked (shareAdded m n z) (partOf a b es)) e)
+    → s₂ ≡ foldEntriesWithin (shareAdded m n z) a b 0 es s₁ → s₂ ≡ productBehind m n z (matrixIn n a b es) s
+product-ends m n z a b es s s₁ s₂ e f = f ∙ (within-part (shareAdded m n z) a b es s₁ ∙ ap (foldEntries (shareAdded m n z) (partOf a b es)) e)
 
 -- ---- of a system's matrices only the rows of the first and the entries count
 module _ (k w : ℕ) (ws x : List ℕ) (S T : System) (er : S .a .rows ≡ T .a .rows) (ea : S .a .entries ≡ T .a .entries) (eb : S .b .entries ≡ T .b .entries)

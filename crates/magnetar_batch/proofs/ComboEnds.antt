@@ -14,8 +14,8 @@ use Rattle.magnetar_field.specs.Sizes.{log₂}
 use Rattle.magnetar_field.specs.Words.{elements, words, overlaid}
 use Rattle.magnetar_field.proofs.Elements.{overlaid-same, words-length}
 use Rattle.magnetar_field.proofs.Tabulation.{tabulate-length}
-use Rattle.magnetar_layout.specs.Tests.{Tests, noted, columnTests, Sized}
-use Rattle.magnetar_layout.proofs.Noted.{noted-clear}
+use Rattle.magnetar_layout.specs.Tests.{Tests, firstRefusal, columnTests, Sized}
+use Rattle.magnetar_layout.proofs.FirstRefusal.{first-refusal-clear}
 use Rattle.magnetar_layout.proofs.SizeLaws.{not-bad}
 use Rattle.magnetar_r1cs.proofs.Points.{log-most}
 use Rattle.magnetar_matrix.specs.Batch.{Relation}
@@ -24,7 +24,7 @@ use Rattle.magnetar_relation.specs.RuleTests.{ruleTests, ruleTestsBy, shapeTest
 use Rattle.magnetar_relation.specs.Steps.{clearedTo}
 use Rattle.magnetar_relation.proofs.RuleLaws.{given-group}
 use Rattle.magnetar_matrix.specs.Combined.{combinedTable}
-use Rattle.magnetar_batch.specs.Entries.{comboRest, comboTestsBy, comboRefusal, comboWords, comboRoom, combined, comboOutcome}
+use Rattle.magnetar_batch.specs.Entries.{comboRest, comboTestsBy, comboRefusal, comboWords, comboScratchOf, combined, comboOutcome}
 use Rattle.magnetar_batch.specs.TableSteps.{padded, pointIn, tableMade}
 use Rattle.magnetar_batch.proofs.Groups.{front-none, rest-none}
 use Rattle.magnetar_batch.proofs.TableWalk.{Row, table-made}
@@ -109,7 +109,7 @@ module _ (R : Rules) (al p r : List ℕ) (o w : ℕ) where
   abbrev rest : Tests
   rest = comboRest (R .m) nb nf (length al) (length p) (length r) o w
 
-  pub combo-by : (z y : ℕ) → z ≡ noted 0 (ruleTests R) → y ≡ noted 0 (comboTestsBy z (R .m) nb nf (length al) (length p) (length r) o w)
+  pub combo-by : (z y : ℕ) → z ≡ firstRefusal 0 (ruleTests R) → y ≡ firstRefusal 0 (comboTestsBy z (R .m) nb nf (length al) (length p) (length r) o w)
       → y ≡ comboRefusal R al p r o w
   unfolding comboRefusal
   combo-by z y e f = f ∙ given-group (columnTests (R .m)) (ruleTests R) rest z e
@@ -121,7 +121,7 @@ module _ (R : Rules) (al p r : List ℕ) (o w : ℕ) where
     alphas : length al ≡ 12
     first : length p ≡ 2 * log₂ nb
     second : length r ≡ 2 * log₂ nf
-    enough : comboRoom R ≤ w
+    enough : comboScratchOf R ≤ w
     wide : 2 * R .m ≤ o
 
   same : (a b : ℕ) → not (eqb a b) ≡ false → a ≡ b
@@ -132,11 +132,11 @@ module _ (R : Rules) (al p r : List ℕ) (o w : ℕ) where
   combo-fits e =
       let m = R .m in
       let more = numberTests (total (R .shapes)) (R .numbers) ++ ((7, not (inRelation (relationOf R))) ∷ []) in
-      let late : noted 0 (ruleTests R ++ rest) ≡ 0 = rest-none (columnTests m) (ruleTests R ++ rest) e in
-      let rules : noted 0 (shapeTests m (R .q) (R .shapes) ++ more) ≡ 0 = front-none (ruleTests R) rest late in
-      let c = noted-clear 0 (shapeTests m (R .q) (R .shapes)) refl (front-none (shapeTests m (R .q) (R .shapes)) more rules) .1 in
+      let late : firstRefusal 0 (ruleTests R ++ rest) ≡ 0 = rest-none (columnTests m) (ruleTests R ++ rest) e in
+      let rules : firstRefusal 0 (shapeTests m (R .q) (R .shapes) ++ more) ≡ 0 = front-none (ruleTests R) rest late in
+      let c = first-refusal-clear 0 (shapeTests m (R .q) (R .shapes)) refl (front-none (shapeTests m (R .q) (R .shapes)) more rules) .1 in
       let j = c .1 .1 .1 .1 .1 .1 .1 .1 in
-      let q = noted-clear 0 rest refl (rest-none (ruleTests R) rest late) .1 in
+      let q = first-refusal-clear 0 rest refl (rest-none (ruleTests R) rest late) .1 in
       record {
         bin = record { rows = not-bad (c .0); a = same _ _ (j .0); b = same _ _ (j .1 .0); c = same _ _ (j .1 .1 .0) };
         fld = record { rows = not-bad (c .1 .1 .1 .1 .0); a = same _ _ (j .1 .1 .1 .0); b = same _ _ (j .1 .1 .1 .1 .0); c = same _ _ (j .1 .1 .1 .1 .1 .0) };
@@ -169,11 +169,11 @@ module _ (R : Rules) (al p r out s : List ℕ) (k : ℕ) (refusal : k ≡ comboR
       let wa : padded 12 al ≡ al = overlaid-same al (replicate 12 0) (length-replicate {A = ℕ} 12 0 ∙ sym (f .alphas)) in
       let ep = padded-front n p (f .bin .rows) (f .first) in
       let er = padded-front j r (f .fld .rows) (f .second) in
-      let e : made ≡ w ++ (replicate (2 * max n j) 0 ++ drop (comboRoom R) s) =
+      let e : made ≡ w ++ (replicate (2 * max n j) 0 ++ drop (comboScratchOf R) s) =
       rw wa (table-is (relationOf R) (f .bin) (f .fld) al p r (padded 32 p) (padded 32 r) s (f .alphas) ep er (f .first) (f .second) (f .enough)) in
-      let t : take (2 * m) made ≡ w = rw e (take-at w (replicate (2 * max n j) 0 ++ drop (comboRoom R) s) (2 * m) l) in
+      let t : take (2 * m) made ≡ w = rw e (take-at w (replicate (2 * max n j) 0 ++ drop (comboScratchOf R) s) (2 * m) l) in
       let eo : o₁ ≡ w ++ drop (2 * m) out = ends .0 ∙ rw t (laid w out (2 * m) l (f .wide)) in
-      let es : s₁ ≡ replicate (comboRoom R) 0 ++ drop (comboRoom R) s = ends .1 ∙ rw e (cleared-all m (max n j) w (drop (comboRoom R) s) l) in
+      let es : s₁ ≡ replicate (comboScratchOf R) 0 ++ drop (comboScratchOf R) s = ends .1 ∙ rw e (cleared-all m (max n j) w (drop (comboScratchOf R) s) l) in
       rw (← refusal, z, eo, es)
 
   -- the same from the calls in a row

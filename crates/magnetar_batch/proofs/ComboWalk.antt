@@ -10,7 +10,7 @@ use Rattle.magnetar_matrix.specs.Batch.{Relation}
 use Rattle.magnetar_relation.specs.declared.shapes.Shapes.{Shapes}
 use Rattle.magnetar_relation.specs.Rules.{relationOf, rulesOver}
 use Rattle.magnetar_relation.specs.Steps.{clearedTo, columnAdded}
-use Rattle.magnetar_relation.specs.Told.{walked, walkedWithin}
+use Rattle.magnetar_relation.specs.EntryWalks.{foldEntries, foldEntriesWithin}
 use Rattle.magnetar_batch.specs.TableSteps.{eqBehind, pointIn, clearedBehind, matrixAdded, systemAdded, tableMade}
 use Rattle.magnetar_batch.specs.declared.ranges.Ends.{Ends}
 use Rattle.magnetar_batch.specs.Ranges.{endsOf, partOf, matrixIn}
@@ -18,9 +18,9 @@ use Rattle.magnetar_records.proofs.WalkLaws.{within-part}
 use Rattle.magnetar_batch.proofs.RangeLaws.{bin-a, bin-b, bin-c, fld-a, fld-b, fld-c}
 
 pub matrix-ends : (m n : ℕ) (al : List ℕ) (k : ℕ) (p : List ℕ) (a b : ℕ) (es : List Entry) (s s₁ s₂ : List ℕ)
-    → s₁ ≡ eqBehind m (getD (elements al) k 0) (pointIn n p) s → s₂ ≡ walkedWithin (columnAdded m n) a b 0 es s₁
+    → s₁ ≡ eqBehind m (getD (elements al) k 0) (pointIn n p) s → s₂ ≡ foldEntriesWithin (columnAdded m n) a b 0 es s₁
     → s₂ ≡ matrixAdded m n al k p (matrixIn n a b es) s
-matrix-ends m n al k p a b es s s₁ s₂ e f = f ∙ (within-part (columnAdded m n) a b es s₁ ∙ ap (walked (columnAdded m n) (partOf a b es)) e)
+matrix-ends m n al k p a b es s s₁ s₂ e f = f ∙ (within-part (columnAdded m n) a b es s₁ ∙ ap (foldEntries (columnAdded m n) (partOf a b es)) e)
 
 -- three matrices, with the alphas i, j and k
 abbrev three : (m n a b c d : ℕ) → List Entry → List ℕ → (i j k : ℕ) → List ℕ → List ℕ → List ℕ

@@ -10,7 +10,7 @@ use Rattle.magnetar_multilinear.specs.Entries.{eqRefusal}
 use Rattle.magnetar_layout.specs.Every.{every}
 use Rattle.magnetar_layout.specs.Login.{loginWords}
 use Rattle.magnetar_layout.specs.Layout.{nextMultiple, offsetsFrom, endFrom, offsets, layoutEnd, isLength}
-use Rattle.magnetar_layout.specs.Tests.{note, isSize}
+use Rattle.magnetar_layout.specs.Tests.{orRefuse, isSize}
 use Rattle.magnetar_layout.specs.Entries.{buildRefusal}
 use Rattle.magnetar_matrix.specs.Sum.{sumBelow, blocks}
 use Rattle.magnetar_matrix.specs.Matrix.{sumOver, rowTotal, share, timesAt, times, transpose, mleTable, bitValued}
@@ -23,7 +23,7 @@ use Rattle.magnetar_batch.specs.MarkedRows.{table, MarkedRows}
 
 pub marked : MarkedRows
 unfolding table _⊕_ _⊗_ timesX sumTimes log₂ halvings tabulate elements words eqTable eqAt eqFactor eqRefusal every loginWords nextMultiple
-    offsetsFrom endFrom offsets layoutEnd isLength note isSize buildRefusal sumBelow blocks sumOver rowTotal share timesAt times transpose
+    offsetsFrom endFrom offsets layoutEnd isLength orRefuse isSize buildRefusal sumBelow blocks sumOver rowTotal share timesAt times transpose
     mleTable bitValued entriesOf matrixOf assignment bitOf foldedAt folded packedBit loginPart unpacked packedTable packedRefusal tableRefusal
     foldRefusal batchProducts
 marked = refl

@@ -19,7 +19,7 @@ use Rattle.magnetar_relation.specs.declared.shapes.SystemShape.{SystemShape}
 use Rattle.magnetar_relation.specs.declared.shapes.Shapes.{Shapes}
 use Rattle.magnetar_relation.specs.Rules.{matrixAt, entriesIn, systemAt}
 use Rattle.magnetar_relation.specs.Steps.{clearedTo, addedTo, addedAll, behind, loginZ}
-use Rattle.magnetar_relation.specs.Told.{walked}
+use Rattle.magnetar_relation.specs.EntryWalks.{foldEntries}
 use Rattle.magnetar_relation.proofs.StepLaws.{rest-is, behind-is}
 use Rattle.magnetar_relation.proofs.RangeLaws.{same-drop, system-cut}
 use Rattle.magnetar_batch.specs.declared.check.Failing.{Failing}
@@ -63,8 +63,8 @@ behind-at m g l r e =
 
 -- ---- a product
 -- the shares one after the other, behind the first m elements
-shares-are : (m n : ℕ) (z : List ℕ) (es : List Entry) (s : List ℕ) → walked (shareAdded m n z) es s ≡ behind m (addedAll n (share z) es) s
-unfolding walked shareAdded addedAll
+shares-are : (m n : ℕ) (z : List ℕ) (es : List Entry) (s : List ℕ) → foldEntries (shareAdded m n z) es s ≡ behind m (addedAll n (share z) es) s
+unfolding foldEntries shareAdded addedAll
 shares-are m n z [] s = none
   where
     none : s ≡ behind m (λ t. t) s
@@ -113,7 +113,7 @@ login-cut r k u z t a es h b c eh eb ec s s₁ s₂ s₃ s₄ f d ed e₁ e₂ e
     let n = t .a .rows in
     let d₂ = same-drop b (a + t .a .entries) es (omega (arith, eh, eb)) in
     let d₃ = same-drop c (a + t .a .entries + t .b .entries) es (omega (arith, eh, eb, ec)) in
-    let w : ℕ → List Entry → List ℕ → List ℕ = λ i l v. walked (shareAdded i n z) l (behind i (clearedTo n) v) in
+    let w : ℕ → List Entry → List ℕ → List ℕ = λ i l v. foldEntries (shareAdded i n z) l (behind i (clearedTo n) v) in
     login-ends r k u z (systemAt t a es) s s₁ s₂ s₃ s₄ f d ed e₁
     (e₂ ∙ ap (λ (l : List Entry). w n (take (t .b .entries) l) s₁) d₂) (e₃ ∙ ap (λ (l : List Entry). w d (take (t .c .entries) l) s₂) d₃) e
 

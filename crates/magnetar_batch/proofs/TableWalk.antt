@@ -24,7 +24,7 @@ use Rattle.magnetar_relation.specs.declared.shapes.SystemShape.{SystemShape}
 use Rattle.magnetar_relation.specs.declared.shapes.Shapes.{Shapes}
 use Rattle.magnetar_relation.specs.Rules.{matrixAt, entriesIn, systemAt}
 use Rattle.magnetar_relation.specs.Steps.{between, clearedTo, columnAdded}
-use Rattle.magnetar_relation.specs.Told.{walked}
+use Rattle.magnetar_relation.specs.EntryWalks.{foldEntries}
 use Rattle.magnetar_relation.proofs.TableWords.{one-added, raised-none, raised-more, words-length, front-read, zeros-cleared, cleared-words}
 use Rattle.magnetar_relation.proofs.StepLaws.{rest-is, behind-is, cleared-none}
 use Rattle.magnetar_relation.proofs.RangeLaws.{same-drop, system-cut}
@@ -107,11 +107,11 @@ module _ (m n : ℕ) (f r : List ℕ) (lf : length f ≡ n) where
   one-column e t l = rw (second-read t (e .row) l) (one-added m (e .col) (e .value ⊗ getD f (e .row) 0) t (words f ++ r) l)
 
   columns-are : (es : List Entry) (t : List ℕ) → length t ≡ m
-      → walked (columnAdded m n) es (words t ++ (words f ++ r)) ≡ words (raised (rowTotal (share f) (map swapped es)) t) ++ (words f ++ r)
-  unfolding walked
+      → foldEntries (columnAdded m n) es (words t ++ (words f ++ r)) ≡ words (raised (rowTotal (share f) (map swapped es)) t) ++ (words f ++ r)
+  unfolding foldEntries
   columns-are [] t l = ap (λ (u : List ℕ). words u ++ (words f ++ r)) (raised-none (share f) t)
   columns-are (e ∷ es) t l =
-      ap (walked (columnAdded m n) es) (one-column e t l)
+      ap (foldEntries (columnAdded m n) es) (one-column e t l)
       ∙ (columns-are es (addedAt t (e .col) (share f (swapped e))) (added-length t (e .col) (share f (swapped e)) ∙ l)
       ∙ ap (λ (u : List ℕ). words u ++ (words f ++ r)) (raised-more (share f) (swapped e) (map swapped es) t))
 
@@ -149,15 +149,15 @@ module _ (m n c : ℕ) (p : List ℕ) (w : Row n p) where
       )
 
   matrix-held : (k : ℕ) (t r s : List ℕ) (es : List Entry) → 2 * n ≤ k → Held m k t r s
-      → Held m k (raised (columnOf c p es) t) r (walked (columnAdded m n) es (eqBehind m c p s))
+      → Held m k (raised (columnOf c p es) t) r (foldEntries (columnAdded m n) es (eqBehind m c p s))
   matrix-held k t r s es h g =
       let f = scaledTable c (elements p) in
       let d = drop (2 * n) (g .behind) in
       let e = eq-behind-are t (g .behind) r (g .wide) (omega (arith, h, g .long)) in
       record {
         behind = words f ++ d;
-        is = ap (λ (u : List ℕ). walked (columnAdded m n) es (eqBehind m c p u)) (g .is)
-            ∙ (ap (walked (columnAdded m n) es) e ∙ (columns-are m n f (d ++ r) factors-length es t (g .wide)
+        is = ap (λ (u : List ℕ). foldEntries (columnAdded m n) es (eqBehind m c p u)) (g .is)
+            ∙ (ap (foldEntries (columnAdded m n) es) e ∙ (columns-are m n f (d ++ r) factors-length es t (g .wide)
             ∙ ap (λ (u : List ℕ). words (raised (columnOf c p es) t) ++ u) (sym (append-assoc (words f) d r))));
         wide = raised-length (columnOf c p es) t ∙ g .wide;
         long = rw (length-append, length-drop) (omega (arith, doubled n f factors-length, h, g .long));

@@ -9,7 +9,7 @@ use Rattle.magnetar_field.specs.Words.{elements}
 use Rattle.magnetar_matrix.specs.Packed.{unpacked}
 use Rattle.magnetar_matrix.specs.RowCheck.{Verdict, rowVerdict}
 use Rattle.magnetar_matrix.specs.RowCheck.Verdict.{good, bin, fld}
-use Rattle.magnetar_layout.specs.Tests.{Tests, noted, sizeTests, packedTests, packedTestsOf, publicTests, publicTestsOf, roomTestOf}
+use Rattle.magnetar_layout.specs.Tests.{Tests, firstRefusal, sizeTests, packedTests, packedTestsOf, publicTests, publicTestsOf, roomTestOf}
 use Rattle.magnetar_relation.specs.Rules.{Rules, relationOf}
 use Rattle.magnetar_relation.specs.RuleTests.{ruleTests, given}
 use Rattle.magnetar_batch.specs.declared.check.RowCheck.{RowCheck}
@@ -28,24 +28,24 @@ outcome (found.Fld u i) = judged (fld u i)
 outcome (found.Refused n) = refused n
 
 -- 15: fewer words of scratch than three products of the larger of n and k rows have
-abbrev pub checkRoomTests : (n k room : ℕ) → Tests
-checkRoomTests n k room = roomTestOf (6 * max n k) room
+abbrev pub checkScratchTests : (n k room : ℕ) → Tests
+checkScratchTests n k room = roomTestOf (6 * max n k) room
 
 -- the refusals by numbers: z is the one that 4 to 7 gave, n and k are the rows, p, x and room how many words there are
 abbrev pub checkTestsBy : (z m q n k p x room : ℕ) → Tests
 checkTestsBy z m q n k p x room =
-    sizeTests m q ++ (packedTestsOf (m / 2) q p ++ (publicTestsOf m x ++ (given z ++ checkRoomTests n k room)))
+    sizeTests m q ++ (packedTestsOf (m / 2) q p ++ (publicTestsOf m x ++ (given z ++ checkScratchTests n k room)))
 
 -- the words of three products of the larger row count
-abbrev pub checkRoom : Rules → ℕ
-checkRoom R = 6 * max (R .shapes .bin .a .rows) (R .shapes .fld .a .rows)
+abbrev pub checkScratchOf : Rules → ℕ
+checkScratchOf R = 6 * max (R .shapes .bin .a .rows) (R .shapes .fld .a .rows)
 
 -- ---- `row_check`: the rules R as they are lent, the packed words ws, the public words x, and how many words of scratch
 -- 1 to 7 and 15
 unfoldable pub checkRefusal : Rules → (ws x : List ℕ) → (scratch : ℕ) → ℕ
 checkRefusal R ws x scratch =
-    noted 0 (sizeTests (R .m) (R .q) ++ (packedTests (R .m / 2) (R .q) ws ++ (publicTests (R .m) x ++ (ruleTests R
-    ++ checkRoomTests (R .shapes .bin .a .rows) (R .shapes .fld .a .rows) scratch))))
+    firstRefusal 0 (sizeTests (R .m) (R .q) ++ (packedTests (R .m / 2) (R .q) ws ++ (publicTests (R .m) x ++ (ruleTests R
+    ++ checkScratchTests (R .shapes .bin .a .rows) (R .shapes .fld .a .rows) scratch))))
 
 -- what the function returns, and what the scratch holds
 pub record Checked : Type 0 where
@@ -62,6 +62,6 @@ checkOutcome R ws x scratch =
     unlessRefused (checkRefusal R ws x (length scratch))
     (record {
       answer = judged (rowVerdict (relationOf R) (unpacked (R .q) (R .m / 2) ws) (elements x));
-      scratch = replicate (checkRoom R) 0 ++ drop (checkRoom R) scratch;
+      scratch = replicate (checkScratchOf R) 0 ++ drop (checkScratchOf R) scratch;
     })
     (record { answer = refused (checkRefusal R ws x (length scratch)); scratch = scratch })

@@ -14,7 +14,7 @@ use Rattle.magnetar_matrix.specs.Batch.{Relation}
 use Rattle.magnetar_matrix.specs.RowCheck.{firstNot, holdsAt}
 use Rattle.magnetar_matrix.specs.RowCheck.Verdict.{good, bin, fld}
 use Rattle.magnetar_relation.specs.Steps.{loginZ, clearedTo, addedTo, behind}
-use Rattle.magnetar_relation.specs.Told.{walked}
+use Rattle.magnetar_relation.specs.EntryWalks.{foldEntries}
 use Rattle.magnetar_batch.specs.declared.check.Failing.{Failing}
 use Rattle.magnetar_batch.specs.Check.{Outcome}
 use Rattle.magnetar_batch.specs.Check.Outcome.{judged, refused}
@@ -25,7 +25,7 @@ shareAdded m n z e s = behind m (addedTo n (e .row) (share z e)) s
 
 -- the product of the matrix with z in the n elements behind the first m
 abbrev pub productBehind : (m n : ℕ) → List ℕ → Matrix → List ℕ → List ℕ
-productBehind m n z a s = walked (shareAdded m n z) (a .entries) (behind m (clearedTo n) s)
+productBehind m n z a s = foldEntries (shareAdded m n z) (a .entries) (behind m (clearedTo n) s)
 
 -- twice n; larger numbers than a matrix has rows are cut
 abbrev pub twiceOf : ℕ → ℕ

@@ -11,16 +11,16 @@ use Rattle.magnetar_field.specs.Words.{elements, words}
 use Rattle.magnetar_matrix.specs.Batch.{folded, publicFolded}
 use Rattle.magnetar_matrix.specs.Combined.{combinedTable}
 use Rattle.magnetar_matrix.specs.Packed.{unpacked}
-use Rattle.magnetar_layout.specs.Tests.{Tests, noted, columnTests, sizeTests, packedTests, publicTests, lengthTest, roomTest}
+use Rattle.magnetar_layout.specs.Tests.{Tests, firstRefusal, columnTests, sizeTests, packedTests, publicTests, lengthTest, roomTest}
 use Rattle.magnetar_relation.specs.Rules.{Rules, relationOf}
 use Rattle.magnetar_relation.specs.RuleTests.{ruleTests, given}
-use Rattle.magnetar_batch.specs.Systems.{pointTests, tableRoom, tableRoomTests}
+use Rattle.magnetar_batch.specs.Systems.{pointTests, tableScratchWords, tableScratchTests}
 
 -- ---- `fold_packed_w`: the packed words ws of q logins with w columns, the point p, the output out, the scratch
 -- 1 and 2; 11: the point; 15: the output or the scratch
 unfoldable pub foldRefusal : List ℕ → ℕ → ℕ → List ℕ → List ℕ → List ℕ → ℕ
 foldRefusal ws q w p out scratch =
-    noted 0
+    firstRefusal 0
     (sizeTests (2 * w) q ++ packedTests w q ws ++ lengthTest (2 * log₂ q) p ++ roomTest (2 * w) out ++ roomTest (2 * q) scratch)
 
 -- the output: the words of the folded vector, then what stood behind them
@@ -36,7 +36,7 @@ foldScratch ws q w p out scratch = unlessRefused (foldRefusal ws q w p out scrat
 -- 1 and 2; 11: the point; 15: the slice
 unfoldable pub foldInRefusal : List ℕ → ℕ → ℕ → List ℕ → List ℕ → ℕ
 foldInRefusal ws q w p slice =
-    noted 0 (sizeTests (2 * w) q ++ packedTests w q ws ++ lengthTest (2 * log₂ q) p ++ roomTest (2 * w + 2 * q) slice)
+    firstRefusal 0 (sizeTests (2 * w) q ++ packedTests w q ws ++ lengthTest (2 * log₂ q) p ++ roomTest (2 * w + 2 * q) slice)
 
 -- the slice at exit: the folded vector, zeros in the place of the eq table, the rest
 abbrev pub foldInOut : List ℕ → ℕ → ℕ → List ℕ → List ℕ → List ℕ
@@ -48,7 +48,7 @@ foldInOut ws q w p slice =
 -- 1 and 3; 11: the point; 15: the slice
 unfoldable pub publicInRefusal : List ℕ → ℕ → ℕ → List ℕ → List ℕ → ℕ
 publicInRefusal x q w p slice =
-    noted 0 (sizeTests (2 * w) q ++ publicTests (2 * w) x ++ lengthTest (2 * log₂ q) p ++ roomTest (2 * w) slice)
+    firstRefusal 0 (sizeTests (2 * w) q ++ publicTests (2 * w) x ++ lengthTest (2 * log₂ q) p ++ roomTest (2 * w) slice)
 
 -- the slice at exit: the words of the folded public half, then what stood behind them
 abbrev pub publicInOut : List ℕ → ℕ → ℕ → List ℕ → List ℕ → List ℕ
@@ -58,12 +58,12 @@ publicInOut x q w p slice =
 -- ---- `build_m_combo`: the rules R as they are lent for one login, the alphas al, the row points p and r, the output out, the scratch
 -- 11: the alphas and the points for n and k rows; 15: the scratch or the output; by how many words there are
 abbrev pub comboRest : (m n k al p r out scratch : ℕ) → Tests
-comboRest m n k al p r out scratch = pointTests n k al p r ++ tableRoomTests m n k scratch out
+comboRest m n k al p r out scratch = pointTests n k al p r ++ tableScratchTests m n k scratch out
 
 -- 1, 4 to 7, then these
 unfoldable pub comboRefusal : Rules → (al p r : List ℕ) → (out scratch : ℕ) → ℕ
 comboRefusal R al p r out scratch =
-    noted 0 (columnTests (R .m) ++ (ruleTests R
+    firstRefusal 0 (columnTests (R .m) ++ (ruleTests R
     ++ comboRest (R .m) (R .shapes .bin .a .rows) (R .shapes .fld .a .rows) (length al) (length p) (length r) out scratch))
 
 -- the same by numbers, z being the one that 4 to 7 gave
@@ -76,8 +76,8 @@ comboWords R al p r =
     words (combinedTable (R .m) (relationOf R .bin) (relationOf R .fld) (elements al) (elements p) (elements r))
 
 -- how many words the table and the larger eq table have
-abbrev pub comboRoom : Rules → ℕ
-comboRoom R = tableRoom (R .m) (R .shapes .bin .a .rows) (R .shapes .fld .a .rows)
+abbrev pub comboScratchOf : Rules → ℕ
+comboScratchOf R = tableScratchWords (R .m) (R .shapes .bin .a .rows) (R .shapes .fld .a .rows)
 
 -- the number, and what the output and the scratch hold
 pub record Combined : Type 0 where
@@ -93,5 +93,5 @@ combined n o s = record { code = n; out = o; scratch = s }
 unfoldable pub comboOutcome : Rules → (al p r out scratch : List ℕ) → Combined
 comboOutcome R al p r out scratch =
     unlessRefused (comboRefusal R al p r (length out) (length scratch))
-    (combined 0 (comboWords R al p r ++ drop (2 * R .m) out) (replicate (comboRoom R) 0 ++ drop (comboRoom R) scratch))
+    (combined 0 (comboWords R al p r ++ drop (2 * R .m) out) (replicate (comboScratchOf R) 0 ++ drop (comboScratchOf R) scratch))
     (combined (comboRefusal R al p r (length out) (length scratch)) out scratch)

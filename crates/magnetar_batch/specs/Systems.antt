@@ -10,9 +10,9 @@ abbrev pub pointTests : (n k al p r : ℕ) → Tests
 pointTests n k al p r = lengthTestOf 12 al ++ (lengthTestOf (2 * log₂ n) p ++ lengthTestOf (2 * log₂ k) r)
 
 -- the words of the table of m elements and of the larger eq table, for n and k rows
-abbrev pub tableRoom : (m n k : ℕ) → ℕ
-tableRoom m n k = 2 * m + 2 * max n k
+abbrev pub tableScratchWords : (m n k : ℕ) → ℕ
+tableScratchWords m n k = 2 * m + 2 * max n k
 
 -- 15: so many words of scratch and of output
-abbrev pub tableRoomTests : (m n k scratch out : ℕ) → Tests
-tableRoomTests m n k scratch out = roomTestOf (tableRoom m n k) scratch ++ roomTestOf (2 * m) out
+abbrev pub tableScratchTests : (m n k scratch out : ℕ) → Tests
+tableScratchTests m n k scratch out = roomTestOf (tableScratchWords m n k) scratch ++ roomTestOf (2 * m) out

@@ -13,7 +13,7 @@ use Rattle.magnetar_multilinear.specs.Entries.{scaledOut}
 use Rattle.magnetar_matrix.specs.Matrix.{Matrix, System}
 use Rattle.magnetar_matrix.specs.Batch.{Relation}
 use Rattle.magnetar_relation.specs.Steps.{clearedTo, columnAdded}
-use Rattle.magnetar_relation.specs.Told.{walked}
+use Rattle.magnetar_relation.specs.EntryWalks.{foldEntries}
 
 -- c times the eq table of the point p behind the first m elements; nothing where they are fewer
 unfoldable pub eqBehind : ℕ → ℕ → List ℕ → List ℕ → List ℕ
@@ -34,7 +34,7 @@ pointIn n p = take (min (2 * log₂ n) 32) p
 
 -- a matrix, for n rows, times alpha k at the row point p, added to the table of m elements
 abbrev pub matrixAdded : (m n : ℕ) → (al : List ℕ) → (k : ℕ) → (p : List ℕ) → Matrix → List ℕ → List ℕ
-matrixAdded m n al k p a s = walked (columnAdded m n) (a .entries) (eqBehind m (getD (elements al) k 0) (pointIn n p) s)
+matrixAdded m n al k p a s = foldEntries (columnAdded m n) (a .entries) (eqBehind m (getD (elements al) k 0) (pointIn n p) s)
 
 -- the three matrices of a system, the first one with alpha k
 abbrev pub systemAdded : (m : ℕ) → (al : List ℕ) → (k : ℕ) → (p : List ℕ) → System → List ℕ → List ℕ

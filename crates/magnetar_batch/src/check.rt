@@ -19,12 +19,12 @@ ghost use lib.Dec.{eqb};
 ghost use lib.ListN.{take, drop};
 ghost use Rattle.magnetar_field.specs.Gf128.{value};
 ghost use Rattle.magnetar_field.specs.Words.{elements};
-ghost use Rattle.magnetar_layout.specs.Tests.{noted};
+ghost use Rattle.magnetar_layout.specs.Tests.{firstRefusal};
 ghost use Rattle.magnetar_matrix.specs.Lent.{entry, entriesOf};
 ghost use Rattle.magnetar_matrix.specs.Packed.{zOf};
 ghost use Rattle.magnetar_relation.specs.Rules.{rules, relationOf, systemAt};
 ghost use Rattle.magnetar_relation.specs.Steps.{clearedTo, addedTo, behind, loginZ};
-ghost use Rattle.magnetar_relation.specs.Told.{walked};
+ghost use Rattle.magnetar_relation.specs.EntryWalks.{foldEntries};
 ghost use Rattle.magnetar_batch.specs.Check.{outcome, checked, checkTestsBy, checkOutcome};
 ghost use Rattle.magnetar_batch.specs.CheckSteps.{shareAdded, twiceOf, threeIn, rowIn, nothing, failingIn, from, loginDone, systemDone, bothDone, bothWords, answerOf};
 
@@ -197,17 +197,17 @@ pub(crate) fn refusal(
     x: usize,
     scratch: usize,
 ) -> u32
-    ensures { λ r. ⌜ r ≡ noted 0 (checkTestsBy z m q nb nf packed x scratch) ⌝ }
+    ensures { λ r. ⌜ r ≡ firstRefusal 0 (checkTestsBy z m q nb nf packed x scratch) ⌝ }
 {
-    let y = tests::note(0, 1, !tests::is_size(2, 65536, m));
-    let y = tests::note(y, 1, !tests::is_size(1, 4096, q));
+    let y = tests::refuse(0, 1, !tests::is_size(2, 65536, m));
+    let y = tests::refuse(y, 1, !tests::is_size(1, 4096, q));
     if y != 0 {
         return y;
     }
-    let y = tests::note(0, 2, packed != q * r1cs::login_words(m / 2));
-    let y = tests::note(y, 3, x != m - 2);
-    let y = tests::note(y, z, true);
-    tests::note(y, 15, sizes::larger(nb, nf) > scratch / 6)
+    let y = tests::refuse(0, 2, packed != q * r1cs::login_words(m / 2));
+    let y = tests::refuse(y, 3, x != m - 2);
+    let y = tests::refuse(y, z, true);
+    tests::refuse(y, 15, sizes::larger(nb, nf) > scratch / 6)
 }
 
 // Adds the shares of the k entries from place a on.
@@ -225,7 +225,7 @@ fn add_shares(
     a: usize,
     k: usize,
 )
-    ensures { λ _. ⌜ now (s .exit) ≡ walked (shareAdded m n (zOf w (now (bits .entry)) (elements (now (x .entry))))) (take k (drop a (entriesOf (now (row .entry)) (now (col .entry)) (now (lo .entry)) (now (hi .entry))))) (now (s .entry)) ⌝ }
+    ensures { λ _. ⌜ now (s .exit) ≡ foldEntries (shareAdded m n (zOf w (now (bits .entry)) (elements (now (x .entry))))) (take k (drop a (entriesOf (now (row .entry)) (now (col .entry)) (now (lo .entry)) (now (hi .entry))))) (now (s .entry)) ⌝ }
 {
     let e = range::after(a, k, r1cs::entries_held(row, col, lo, hi));
     let mut i = a;
@@ -250,7 +250,7 @@ fn product(
     a: usize,
     k: usize,
 )
-    ensures { λ _. ⌜ now (s .exit) ≡ walked (shareAdded m n (zOf w (now (bits .entry)) (elements (now (x .entry))))) (take k (drop a (entriesOf (now (row .entry)) (now (col .entry)) (now (lo .entry)) (now (hi .entry))))) (behind m (clearedTo n) (now (s .entry))) ⌝ }
+    ensures { λ _. ⌜ now (s .exit) ≡ foldEntries (shareAdded m n (zOf w (now (bits .entry)) (elements (now (x .entry))))) (take k (drop a (entriesOf (now (row .entry)) (now (col .entry)) (now (lo .entry)) (now (hi .entry))))) (behind m (clearedTo n) (now (s .entry))) ⌝ }
 {
     clear_behind(s, m, n);
     add_shares(s, m, n, w, bits, x, row, col, lo, hi, a, k);

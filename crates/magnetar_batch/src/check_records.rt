@@ -6,7 +6,7 @@ ghost use lib.Dec.{eqb, leb, ltb};
 ghost use Rattle.magnetar_field.specs.Words.{elements};
 ghost use Rattle.magnetar_relation.specs.Rules.{relationOf, rulesOver};
 ghost use Rattle.magnetar_relation.specs.Steps.{loginZ};
-ghost use Rattle.magnetar_relation.specs.Told.{walkedWithin};
+ghost use Rattle.magnetar_relation.specs.EntryWalks.{foldEntriesWithin};
 ghost use Rattle.magnetar_batch.specs.Check.{checked, checkOutcome};
 ghost use Rattle.magnetar_batch.specs.CheckSteps.{shareAdded, productBehind, threeIn, nothing, failingIn, from, loginDone, systemDone, bothDone, bothWords};
 ghost use Rattle.magnetar_records.specs.Records.{entryOf, entriesOfRecords};
@@ -55,7 +55,7 @@ fn add_product(
     packed: &[u64],
     x: &[u64],
 )
-    ensures { λ _. ⌜ now (s .exit) ≡ walkedWithin (shareAdded m n (loginZ w (now (packed .entry)) (elements (now (x .entry))) u)) a b 0 (entriesOfRecords (now (es .entry))) (now (s .entry)) ⌝ }
+    ensures { λ _. ⌜ now (s .exit) ≡ foldEntriesWithin (shareAdded m n (loginZ w (now (packed .entry)) (elements (now (x .entry))) u)) a b 0 (entriesOfRecords (now (es .entry))) (now (s .entry)) ⌝ }
 {
     let mut i = 0;
     while i < es.len() {

@@ -14,7 +14,7 @@ ghost use Rattle.magnetar_field.specs.Words.{elements};
 ghost use Rattle.magnetar_matrix.specs.Lent.{entriesOf};
 ghost use Rattle.magnetar_relation.specs.Rules.{rules, relationOf, systemAt};
 ghost use Rattle.magnetar_relation.specs.Steps.{columnAdded};
-ghost use Rattle.magnetar_relation.specs.Told.{walked};
+ghost use Rattle.magnetar_relation.specs.EntryWalks.{foldEntries};
 ghost use Rattle.magnetar_batch.specs.Entries.{combined, comboOutcome};
 ghost use Rattle.magnetar_batch.specs.TableSteps.{eqBehind, pointIn, systemAdded, tableMade};
 
@@ -30,7 +30,7 @@ fn add_columns(
     a: usize,
     k: usize,
 )
-    ensures { λ _. ⌜ now (s .exit) ≡ walked (columnAdded m n) (take k (drop a (entriesOf (now (row .entry)) (now (col .entry)) (now (lo .entry)) (now (hi .entry))))) (now (s .entry)) ⌝ }
+    ensures { λ _. ⌜ now (s .exit) ≡ foldEntries (columnAdded m n) (take k (drop a (entriesOf (now (row .entry)) (now (col .entry)) (now (lo .entry)) (now (hi .entry))))) (now (s .entry)) ⌝ }
 {
     let e = range::after(a, k, r1cs::entries_held(row, col, lo, hi));
     let mut i = a;
@@ -55,7 +55,7 @@ fn add_matrix(
     a: usize,
     e: usize,
 )
-    ensures { λ _. ⌜ now (s .exit) ≡ walked (columnAdded m n) (take e (drop a (entriesOf (now (row .entry)) (now (col .entry)) (now (lo .entry)) (now (hi .entry))))) (eqBehind m (getD (elements al) k 0) (pointIn n p) (now (s .entry))) ⌝ }
+    ensures { λ _. ⌜ now (s .exit) ≡ foldEntries (columnAdded m n) (take e (drop a (entriesOf (now (row .entry)) (now (col .entry)) (now (lo .entry)) (now (hi .entry))))) (eqBehind m (getD (elements al) k 0) (pointIn n p) (now (s .entry))) ⌝ }
 {
     table::eq_behind(s, m, n, al, k, p);
     add_columns(m, n, s, row, col, lo, hi, a, e);

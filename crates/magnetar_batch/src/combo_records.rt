@@ -8,7 +8,7 @@ ghost use lib.ListN.{take};
 ghost use Rattle.magnetar_field.specs.Words.{overlaid};
 ghost use Rattle.magnetar_relation.specs.Rules.{relationOf, rulesOver};
 ghost use Rattle.magnetar_relation.specs.Steps.{clearedTo, columnAdded};
-ghost use Rattle.magnetar_relation.specs.Told.{walkedWithin};
+ghost use Rattle.magnetar_relation.specs.EntryWalks.{foldEntriesWithin};
 ghost use Rattle.magnetar_batch.specs.Entries.{combined, comboOutcome};
 ghost use Rattle.magnetar_batch.specs.TableSteps.{padded, matrixAdded, tableMade};
 ghost use Rattle.magnetar_records.specs.Records.{entryOf, entriesOfRecords};
@@ -34,7 +34,7 @@ fn column_within(m: usize, n: usize, a: usize, b: usize, t: &mut [u64], i: usize
 
 // Adds, for each record from a to b, its value times the element at its row, of the n behind the first m, at its column.
 fn add_columns(es: &[Entry], m: usize, n: usize, a: usize, b: usize, t: &mut [u64])
-    ensures { λ _. ⌜ now (t .exit) ≡ walkedWithin (columnAdded m n) a b 0 (entriesOfRecords (now (es .entry))) (now (t .entry)) ⌝ }
+    ensures { λ _. ⌜ now (t .exit) ≡ foldEntriesWithin (columnAdded m n) a b 0 (entriesOfRecords (now (es .entry))) (now (t .entry)) ⌝ }
 {
     let mut i = 0;
     while i < es.len() {

@@ -118,15 +118,15 @@ pub fn fold_packed_w(
     ensures folded { λ _. ⌜ now (out .exit) ≡ foldOut (now (packed .entry)) q w (now (point .entry)) (now (out .entry)) (now (scratch .entry)) ⌝ }
     ensures cleared { λ _. ⌜ now (scratch .exit) ≡ foldScratch (now (packed .entry)) q w (now (point .entry)) (now (out .entry)) (now (scratch .entry)) ⌝ }
 {
-    let n = tests::note(0, 1, !tests::is_size(1, 32768, w));
-    let n = tests::note(n, 1, !tests::is_size(1, 4096, q));
+    let n = tests::refuse(0, 1, !tests::is_size(1, 32768, w));
+    let n = tests::refuse(n, 1, !tests::is_size(1, 4096, q));
     if n != 0 {
         return n;
     }
-    let n = tests::note(0, 2, packed.len() != q * r1cs::login_words(w));
-    let n = tests::note(n, 11, point.len() != 2 * sizes::log2(q));
-    let n = tests::note(n, 15, out.len() < 2 * w);
-    let n = tests::note(n, 15, scratch.len() < 2 * q);
+    let n = tests::refuse(0, 2, packed.len() != q * r1cs::login_words(w));
+    let n = tests::refuse(n, 11, point.len() != 2 * sizes::log2(q));
+    let n = tests::refuse(n, 15, out.len() < 2 * w);
+    let n = tests::refuse(n, 15, scratch.len() < 2 * q);
     if n != 0 {
         return n;
     }
@@ -173,15 +173,15 @@ pub fn fold_packed_in(packed: &[u64], q: usize, w: usize, point: &[u64], s: &mut
     ensures answer { λ r. ⌜ r ≡ foldInRefusal (now (packed .entry)) q w (now (point .entry)) (now (s .entry)) ⌝ }
     ensures folded { λ _. ⌜ now (s .exit) ≡ foldInOut (now (packed .entry)) q w (now (point .entry)) (now (s .entry)) ⌝ }
 {
-    let n = tests::note(0, 1, !tests::is_size(1, 32768, w));
-    let n = tests::note(n, 1, !tests::is_size(1, 4096, q));
+    let n = tests::refuse(0, 1, !tests::is_size(1, 32768, w));
+    let n = tests::refuse(n, 1, !tests::is_size(1, 4096, q));
     if n != 0 {
         return n;
     }
     let end = 2 * w + 2 * q;
-    let n = tests::note(0, 2, packed.len() != q * r1cs::login_words(w));
-    let n = tests::note(n, 11, point.len() != 2 * sizes::log2(q));
-    let n = tests::note(n, 15, s.len() < end);
+    let n = tests::refuse(0, 2, packed.len() != q * r1cs::login_words(w));
+    let n = tests::refuse(n, 11, point.len() != 2 * sizes::log2(q));
+    let n = tests::refuse(n, 15, s.len() < end);
     if n != 0 {
         return n;
     }
@@ -204,15 +204,15 @@ pub fn fold_public_in(x: &[u64], q: usize, w: usize, point: &[u64], s: &mut [u64
     ensures answer { λ r. ⌜ r ≡ publicInRefusal (now (x .entry)) q w (now (point .entry)) (now (s .entry)) ⌝ }
     ensures folded { λ _. ⌜ now (s .exit) ≡ publicInOut (now (x .entry)) q w (now (point .entry)) (now (s .entry)) ⌝ }
 {
-    let n = tests::note(0, 1, !tests::is_size(1, 32768, w));
-    let n = tests::note(n, 1, !tests::is_size(1, 4096, q));
+    let n = tests::refuse(0, 1, !tests::is_size(1, 32768, w));
+    let n = tests::refuse(n, 1, !tests::is_size(1, 4096, q));
     if n != 0 {
         return n;
     }
     let end = 2 * w;
-    let n = tests::note(0, 3, x.len() != end - 2);
-    let n = tests::note(n, 11, point.len() != 2 * sizes::log2(q));
-    let n = tests::note(n, 15, s.len() < end);
+    let n = tests::refuse(0, 3, x.len() != end - 2);
+    let n = tests::refuse(n, 11, point.len() != 2 * sizes::log2(q));
+    let n = tests::refuse(n, 15, s.len() < end);
     if n != 0 {
         return n;
     }

@@ -12,7 +12,7 @@ ghost use Prim.Native.Nat.{_+_, _*_, max};
 ghost use lib.Dec.{ltb};
 ghost use lib.ListN.{getD, take};
 ghost use Rattle.magnetar_field.specs.Words.{elements, overlaid};
-ghost use Rattle.magnetar_layout.specs.Tests.{noted};
+ghost use Rattle.magnetar_layout.specs.Tests.{firstRefusal};
 ghost use Rattle.magnetar_matrix.specs.Lent.{entry};
 ghost use Rattle.magnetar_relation.specs.Steps.{clearedTo, columnAdded};
 ghost use Rattle.magnetar_batch.specs.Entries.{comboTestsBy};
@@ -116,13 +116,13 @@ pub(crate) fn refusal(
     out: usize,
     scratch: usize,
 ) -> u32
-    ensures { λ r. ⌜ r ≡ noted 0 (comboTestsBy z m nb nf al pb pf out scratch) ⌝ }
+    ensures { λ r. ⌜ r ≡ firstRefusal 0 (comboTestsBy z m nb nf al pb pf out scratch) ⌝ }
 {
-    let y = tests::note(0, 1, !tests::is_size(2, 65536, m));
-    let y = tests::note(y, z, true);
-    let y = tests::note(y, 11, al != 12);
-    let y = tests::note(y, 11, pb != 2 * sizes::log2(nb));
-    let y = tests::note(y, 11, pf != 2 * sizes::log2(nf));
-    let y = tests::note(y, 15, is_over(m, sizes::larger(nb, nf), scratch));
-    tests::note(y, 15, m > out / 2)
+    let y = tests::refuse(0, 1, !tests::is_size(2, 65536, m));
+    let y = tests::refuse(y, z, true);
+    let y = tests::refuse(y, 11, al != 12);
+    let y = tests::refuse(y, 11, pb != 2 * sizes::log2(nb));
+    let y = tests::refuse(y, 11, pf != 2 * sizes::log2(nf));
+    let y = tests::refuse(y, 15, is_over(m, sizes::larger(nb, nf), scratch));
+    tests::refuse(y, 15, m > out / 2)
 }

@@ -18,7 +18,7 @@ use Rattle.magnetar_spartan.specs.Outcome.{verified, verifyOutcome, proved, pro
 use Rattle.magnetar_spartan.specs.Theorems.{AcceptedCall, ProvedCall}
 use Rattle.magnetar_sumcheck_verifier.specs.Outcome.{leftBy, roundOutcome}
 use Rattle.magnetar_sumcheck_verifier.specs.declared.verify.Round.{Round}
-use Rattle.magnetar_c.specs.Across.{element, evaluated}
+use Rattle.magnetar_c.specs.CStructs.{element, evaluated}
 use Rattle.magnetar_c.specs.declared.across.MagnetarElement.{MagnetarElement}
 use Rattle.magnetar_c.specs.declared.across.MagnetarValue.{MagnetarValue}
 

@@ -1,1 +1,1 @@
-pub mod Across
+pub mod CStructs

@@ -13,7 +13,7 @@ ghost use mathlib.Core.Path.{_≡_};
 ghost use Rattle.magnetar_multilinear.specs.Entries.{answer};
 ghost use Rattle.magnetar_r1cs.specs.Entries.{flagged};
 ghost use Rattle.magnetar_batch.specs.Check.{outcome};
-ghost use Rattle.magnetar_c.specs.Across as across;
+ghost use Rattle.magnetar_c.specs.CStructs as across;
 
 // An element: the low word first.
 #[repr(C)]
@@ -158,7 +158,7 @@ pub(crate) fn draw_out(d: DrawAnswer) -> MagnetarDraw
 }
 
 pub(crate) fn check_out(c: RowCheck) -> MagnetarRowCheck
-    ensures { λ r. ⌜ r ≡ across.crossed (outcome c) ⌝ }
+    ensures { λ r. ⌜ r ≡ across.rowCheckAnswer (outcome c) ⌝ }
 {
     match c {
         RowCheck::Good => MagnetarRowCheck {

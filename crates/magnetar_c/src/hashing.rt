@@ -11,7 +11,7 @@ ghost use lib.ListN.{length};
 ghost use Rattle.magnetar_hash.specs.Bytes.{leBytes};
 ghost use Rattle.magnetar_hash.specs.Sha3.{sha3};
 ghost use Rattle.magnetar_hash.specs.Transcript as spec;
-ghost use Rattle.magnetar_c.specs.Across as across;
+ghost use Rattle.magnetar_c.specs.CStructs as across;
 
 // SHA3-256 of bytes.
 #[no_mangle]

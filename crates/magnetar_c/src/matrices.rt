@@ -7,7 +7,7 @@ ghost use mathlib.Core.Path.{_≡_};
 ghost use Rattle.magnetar_matrix.specs.Lent.{lent, matrixOf};
 ghost use Rattle.magnetar_matrix.specs.Matrix.{binary, bitValued};
 ghost use Rattle.magnetar_r1cs.specs.Entries.{applyRefusal, applyOut, tableRefusal, tableOut, tableScratch, atAnswer, atScratch, flaggedOf, binaryRefusal, packedRefusal, packedOut, masksRefusal, masksOut};
-ghost use Rattle.magnetar_c.specs.Across as across;
+ghost use Rattle.magnetar_c.specs.CStructs as across;
 
 // The product with the vector z.
 #[no_mangle]

@@ -13,7 +13,7 @@ ghost use Rattle.magnetar_field.specs.Gf128.{value};
 ghost use Rattle.magnetar_sumcheck_prover.specs.Entries.{outerRefusal, outerOut, innerRefusal, innerOut};
 ghost use Rattle.magnetar_sumcheck_verifier.specs.Outcome.{leftBy, roundOutcome};
 ghost use Rattle.magnetar_prover.specs.Capture.{capturedBy, captureOutcome};
-ghost use Rattle.magnetar_c.specs.Across as across;
+ghost use Rattle.magnetar_c.specs.CStructs as across;
 
 // The message of a round of the outer sum-check.
 #[no_mangle]

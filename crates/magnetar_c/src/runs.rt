@@ -21,7 +21,7 @@ ghost use Rattle.magnetar_batch.specs.Check.{checkOutcome};
 ghost use Rattle.magnetar_batch.specs.Entries.{foldRefusal, foldOut, foldScratch, combined, comboOutcome};
 ghost use Rattle.magnetar_spartan.specs.Outcome.{verified, verifyOutcome, proved, proveOutcome};
 ghost use Rattle.magnetar_spartan.specs.Theorems.{AcceptedCall, ProvedCall};
-ghost use Rattle.magnetar_c.specs.Across as across;
+ghost use Rattle.magnetar_c.specs.CStructs as across;
 
 // The columns where the segments start.
 #[no_mangle]
@@ -108,7 +108,7 @@ pub extern "C" fn magnetar_row_check(
 ) -> MagnetarRowCheck
     ensures { λ r. ⌜ (let o = checkOutcome (rules m q [] sh (now (row .entry)) (now (col .entry)) (now (lo .entry)) (now (hi .entry)))
         (now (packed .entry)) (now (x .entry)) (now (scratch .entry)) in
-        (r ≡ across.crossed (o .answer)) × (now (scratch .exit) ≡ o .scratch)) ⌝ }
+        (r ≡ across.rowCheckAnswer (o .answer)) × (now (scratch .exit) ≡ o .scratch)) ⌝ }
 {
     across::check_out(check::row_check(scratch, m, q, sh, row, col, lo, hi, packed, x))
 }

@@ -14,7 +14,7 @@ ghost use Rattle.magnetar_field.specs.Words.{elements};
 ghost use Rattle.magnetar_multilinear.specs.Multilinear.{mle};
 ghost use Rattle.magnetar_multilinear.specs.Entries.{answered, eqRefusal, eqOut, bindRefusal, bindOut, mleRefusal, mleScratch};
 ghost use Rattle.magnetar_sumcheck_prover.specs.Entries.{dropRefusal, dropOut};
-ghost use Rattle.magnetar_c.specs.Across as across;
+ghost use Rattle.magnetar_c.specs.CStructs as across;
 
 // The product of two elements.
 #[no_mangle]

@@ -10,7 +10,7 @@ use Rattle.magnetar_hash.specs.Sponge.{finished, within}
 use Rattle.magnetar_hash.specs.declared.hasher.Sponge.{Sponge}
 use Rattle.magnetar_hash.specs.Parts.{noDigest}
 use Rattle.magnetar_hash.specs.declared.sha3.DigestAnswer.{DigestAnswer}
-use Rattle.magnetar_layout.specs.Tests.{noted, sizeTests, layoutTests}
+use Rattle.magnetar_layout.specs.Tests.{firstRefusal, sizeTests, layoutTests}
 use Rattle.magnetar_relation.specs.Rules.{Rules, inRelation}
 use Rattle.magnetar_relation.specs.RuleTests.{ruleTests, given}
 use Rattle.magnetar_relation.proofs.RuleLaws.{given-group}
@@ -34,12 +34,12 @@ module _ (R : Rules) (n : ℕ) (s t : Sponge) (en : n ≡ length (R .entries)) (
   hashed false et = refl
 
   -- what the calls leave is the answer: y is the number that 4 to 7 gave, z that of all tests
-  pub digest-ends : (y z : ℕ) → y ≡ noted 0 (ruleTests (unlaid R))
-      → z ≡ noted 0 (sizeTests (R .m) (R .q) ++ (given y ++ layoutTests (R .m / 2) (R .lengths)))
+  pub digest-ends : (y z : ℕ) → y ≡ firstRefusal 0 (ruleTests (unlaid R))
+      → z ≡ firstRefusal 0 (sizeTests (R .m) (R .q) ++ (given y ++ layoutTests (R .m / 2) (R .lengths)))
       → t ≡ cond (eqb z 0) (eachFed entryNumbers (R .entries) s) s
       → answered z (finished (within t)) ≡ digestAnswer R
   unfolding digestRefusal digestAnswer
   digest-ends y z ey ez et =
-      let e : z ≡ digestRefusal R = ez ∙ given-group (sizeTests (R .m) (R .q)) (ruleTests R) (layoutTests (R .m / 2) (R .lengths)) y (ey ∙ ap (noted 0) (unlaid-tests R)) in
+      let e : z ≡ digestRefusal R = ez ∙ given-group (sizeTests (R .m) (R .q)) (ruleTests R) (layoutTests (R .m / 2) (R .lengths)) y (ey ∙ ap (firstRefusal 0) (unlaid-tests R)) in
       ap₂ (λ (c : ℕ) (d : List ℕ). record { code = c; digest = d }) e
       (hashed (eqb z 0) et ∙ ap (λ (k : ℕ). cond (eqb k 0) (relationDigest R) noDigest) e)

@@ -6,9 +6,9 @@ use Prim.Native.Nat.{ℕ, zero, suc, _+_, _*_, _/_, _^_}
 use native.Mathlib.Omega.{arith}
 use native.Mathlib.Nat.{two-pow-succ}
 use Rattle.magnetar_field.specs.Sizes.{log₂}
-use Rattle.magnetar_layout.specs.Tests.{note, noted, sizeTests, columnTests, layoutTests, Sized}
+use Rattle.magnetar_layout.specs.Tests.{orRefuse, firstRefusal, sizeTests, columnTests, layoutTests, Sized}
 use Rattle.magnetar_layout.specs.Entries.{layoutRefusal}
-use Rattle.magnetar_layout.proofs.Noted.{noted-kept, noted-clear, noted-rest}
+use Rattle.magnetar_layout.proofs.FirstRefusal.{first-refusal-kept, first-refusal-clear, first-refusal-rest}
 use Rattle.magnetar_layout.proofs.SizeLaws.{not-bad}
 use Rattle.magnetar_relation.specs.RuleTests.{given}
 
@@ -24,27 +24,27 @@ even-size m z = go (log₂ m) (z .power)
         omega (arith, q, h)
 
 -- where the last number is none, the earlier is none
-front-none : (a z : ℕ) → noted a (given z) ≡ 0 → a ≡ 0
+front-none : (a z : ℕ) → firstRefusal a (given z) ≡ 0 → a ≡ 0
 front-none zero z e = refl
-front-none (suc k) z e = absurd (omega (arith, noted-kept (suc k) (given z) (λ h. omega arith), e))
+front-none (suc k) z e = absurd (omega (arith, first-refusal-kept (suc k) (given z) (λ h. omega arith), e))
 
 -- the columns pass, and twice their half does
-halves-pass : (m q : ℕ) → noted 0 (sizeTests m q) ≡ 0 → noted 0 (columnTests (2 * (m / 2))) ≡ 0
-unfolding note
+halves-pass : (m q : ℕ) → firstRefusal 0 (sizeTests m q) ≡ 0 → firstRefusal 0 (columnTests (2 * (m / 2))) ≡ 0
+unfolding orRefuse
 halves-pass m q e =
-    let c = noted-clear 0 (sizeTests m q) refl e .1 .0 in
+    let c = first-refusal-clear 0 (sizeTests m q) refl e .1 .0 in
     rw (even-size m (not-bad c), c)
 
 -- where the numbers so far gave none, the layout's refusal decides
 pub layout-last
     : (z m q : ℕ) (ns : List ℕ) (y r : ℕ)
-    → y ≡ noted 0 (sizeTests m q ++ given z)
+    → y ≡ firstRefusal 0 (sizeTests m q ++ given z)
     → y ≡ 0
     → r ≡ layoutRefusal (m / 2) ns
-    → r ≡ noted 0 (sizeTests m q ++ (given z ++ layoutTests (m / 2) ns))
+    → r ≡ firstRefusal 0 (sizeTests m q ++ (given z ++ layoutTests (m / 2) ns))
 unfolding layoutRefusal
 layout-last z m q ns y r e h g =
-    let p = halves-pass m q (front-none (noted 0 (sizeTests m q)) z (sym e ∙ h)) in
+    let p = halves-pass m q (front-none (firstRefusal 0 (sizeTests m q)) z (sym e ∙ h)) in
     g
-    ∙ noted-rest (columnTests (2 * (m / 2))) (layoutTests (m / 2) ns) 0 (sym p) refl
-    ∙ sym (noted-rest (sizeTests m q ++ given z) (layoutTests (m / 2) ns) y e h)
+    ∙ first-refusal-rest (columnTests (2 * (m / 2))) (layoutTests (m / 2) ns) 0 (sym p) refl
+    ∙ sym (first-refusal-rest (sizeTests m q ++ given z) (layoutTests (m / 2) ns) y e h)

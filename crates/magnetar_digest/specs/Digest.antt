@@ -9,7 +9,7 @@ use Rattle.magnetar_field.specs.Refusal.{unlessRefused}
 use Rattle.magnetar_hash.specs.Bytes.{ascii, wordBytes}
 use Rattle.magnetar_hash.specs.Parts.{sha3Domain, noDigest}
 use Rattle.magnetar_hash.specs.declared.sha3.DigestAnswer.{DigestAnswer}
-use Rattle.magnetar_layout.specs.Tests.{noted, sizeTests, layoutTests}
+use Rattle.magnetar_layout.specs.Tests.{firstRefusal, sizeTests, layoutTests}
 use Rattle.magnetar_matrix.specs.Matrix.{Entry}
 use Rattle.magnetar_relation.specs.declared.shapes.Shape.{Shape}
 use Rattle.magnetar_relation.specs.declared.shapes.SystemShape.{SystemShape}
@@ -54,7 +54,7 @@ relationDigest R = sha3Domain (domain ∷ relationBytes R ∷ [])
 -- ---- the answer
 -- 1, 4 to 7, 8 to 10
 unfoldable pub digestRefusal : Rules → ℕ
-digestRefusal R = noted 0 (sizeTests (R .m) (R .q) ++ (ruleTests R ++ layoutTests (R .m / 2) (R .lengths)))
+digestRefusal R = firstRefusal 0 (sizeTests (R .m) (R .q) ++ (ruleTests R ++ layoutTests (R .m / 2) (R .lengths)))
 
 -- the number of the refusal and the digest, which is 32 bytes 0 where the relation is refused
 unfoldable pub digestAnswer : Rules → DigestAnswer

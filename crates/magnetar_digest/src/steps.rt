@@ -4,7 +4,7 @@ ghost use mathlib.Core.List.{[], _∷_, _++_};
 ghost use Prim.Native.Nat.{_+_, _*_, _/_, _%_, _^_};
 ghost use lib.Dec.{eqb};
 ghost use Rattle.magnetar_hash.specs.Sponge.{finished, within};
-ghost use Rattle.magnetar_layout.specs.Tests.{noted, sizeTests, layoutTests};
+ghost use Rattle.magnetar_layout.specs.Tests.{firstRefusal, sizeTests, layoutTests};
 ghost use Rattle.magnetar_matrix.specs.Lent.{entry};
 ghost use Rattle.magnetar_relation.specs.Rules.{rulesOver};
 ghost use Rattle.magnetar_relation.specs.RuleTests.{given};
@@ -21,7 +21,7 @@ use magnetar_relation::shapes::SystemShape;
 
 // 1, 4 to 10, where z is the number that 4 to 7 gave or 0.
 pub(crate) fn refusal(z: u32, m: usize, q: usize, lens: &[usize]) -> u32
-    ensures { λ r. ⌜ r ≡ noted 0 (sizeTests m q ++ (given z ++ layoutTests (m / 2) (now (lens .entry)))) ⌝ }
+    ensures { λ r. ⌜ r ≡ firstRefusal 0 (sizeTests m q ++ (given z ++ layoutTests (m / 2) (now (lens .entry)))) ⌝ }
 {
     let y = tests::note(0, 1, !tests::is_size(2, 65536, m));
     let y = tests::note(y, 1, !tests::is_size(1, 4096, q));

@@ -8,7 +8,7 @@ use lib.ListN.{length, replicate}
 use Rattle.magnetar_hash.specs.Bytes.{leBytes, wordBytes}
 use Rattle.magnetar_hash.specs.Sha3.{rate}
 use Rattle.magnetar_hash.specs.Parts.{framed, serializeParts, sha3Domain}
-use Rattle.magnetar_hash.specs.Sponge.{Sponge, sponge, fed, finished, within, started, Ready, Fed}
+use Rattle.magnetar_hash.specs.Sponge.{Sponge, sponge, fed, finished, within, started, ValidFill, Fed}
 use Rattle.magnetar_hash.proofs.Stream.{fed-append, fed-fill, sha3-fed}
 use Rattle.magnetar_hash.proofs.Parts.{framed-one, framed-append}
 

@@ -14,7 +14,7 @@ use Rattle.magnetar_keccak.specs.Keccak.{permuted}
 use Rattle.magnetar_keccak.proofs.Xor.{⊕-assoc}
 use Rattle.magnetar_hash.specs.Bytes.{leBytes}
 use Rattle.magnetar_hash.specs.Sha3.{rate, addByte}
-use Rattle.magnetar_hash.specs.Sponge.{Sponge, sponge, turned, fed, Ready, Fed}
+use Rattle.magnetar_hash.specs.Sponge.{Sponge, sponge, turned, fed, ValidFill, Fed}
 use Rattle.magnetar_hash.proofs.Stream.{turned-part, turned-full, fed-by}
 
 -- the lowest byte and the rest, each at its place, are the number
@@ -75,7 +75,7 @@ fed-lane (suc (suc n)) s j w l h p g f =
 abbrev pub shifted : List ℕ → ℕ → ℕ → List ℕ
 shifted s j w = set s (j / 8) (getD s (j / 8) 0 ⊕ w * 2 ^ (8 * (j % 8)) % 2 ^ 64)
 
-module _ (s : List ℕ) (j n w : ℕ) (h : Ready s j × (0 < n) × (j % 8 + n ≤ 8) × (w < 2 ^ (8 * n))) where
+module _ (s : List ℕ) (j n w : ℕ) (h : ValidFill s j × (0 < n) × (j % 8 + n ≤ 8) × (w < 2 ^ (8 * n))) where
   turned-lane : fed (sponge s j) (leBytes n w) ≡ turned (shifted s j w) (j + n)
   turned-lane = rw (shl-exact (8 * n) (8 * (j % 8)) 64 (h .3) (omega arith)) (fed-lane n s j w (h .0 .size) (h .0 .room) (h .1) (h .2) (h .3))
 

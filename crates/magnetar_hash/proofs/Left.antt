@@ -9,16 +9,16 @@ use native.Mathlib.Omega.{arith}
 use lib.ListN.{length, getD, take, drop, take-append-drop, length-drop, drop-of-length-le}
 use lib.Seq.{drop-cons, drop-drop, getD-drop, length-take-le}
 use Rattle.magnetar_hash.specs.Bytes.{leBytes, number, wordBytes}
-use Rattle.magnetar_hash.specs.Sponge.{Sponge, sponge, fed, Ready, Fed}
+use Rattle.magnetar_hash.specs.Sponge.{Sponge, sponge, fed, ValidFill, Fed}
 use Rattle.magnetar_hash.proofs.Bytes.{le-number}
 use Rattle.magnetar_hash.proofs.Stream.{fed-append, fed-nil}
 
 -- with q taken in, s and n become what p makes of t and m
 pub record Left (t : List ℕ) (m : ℕ) (p : List ℕ) (s : List ℕ) (n : ℕ) (q : List ℕ) : Type 0 where
   pub state : fed (sponge s n) q ≡ fed (sponge t m) p
-  pub ready : Ready s n
+  pub ready : ValidFill s n
 
-pub left-all : {t : List ℕ} {m : ℕ} (p : List ℕ) → Ready t m → Left t m p t m p
+pub left-all : {t : List ℕ} {m : ℕ} (p : List ℕ) → ValidFill t m → Left t m p t m p
 left-all p r = record { state = refl; ready = r }
 
 pub left-more : {t p s q r u : List ℕ} {m n k : ℕ} → Left t m p s n (q ++ r) → Fed s n q u k → Left t m p u k r

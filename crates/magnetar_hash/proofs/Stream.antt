@@ -16,7 +16,7 @@ use Rattle.magnetar_keccak.specs.Keccak.{permuted}
 use Rattle.magnetar_keccak.proofs.Xor.{⊕-zero}
 use Rattle.magnetar_keccak.proofs.Lanes.{length-permuted}
 use Rattle.magnetar_hash.specs.Sha3.{rate, addByte, addBytes, absorbBlocks, padding, padded, squeezed, sha3}
-use Rattle.magnetar_hash.specs.Sponge.{Sponge, sponge, turned, fed, finished, Ready, Fed}
+use Rattle.magnetar_hash.specs.Sponge.{Sponge, sponge, turned, fed, finished, ValidFill, Fed}
 
 lt-or-ge : (n m : ℕ) → (n < m) ⊎ (m ≤ n)
 lt-or-ge n m = go (ltb n m) refl
@@ -127,7 +127,7 @@ fed-size t (b ∷ p) e =
 
 -- ---- a run, as the functions say it
 
-pub fed-by : {t p s : List ℕ} {m n : ℕ} → Ready t m → sponge s n ≡ fed (sponge t m) p → Fed t m p s n
+pub fed-by : {t p s : List ℕ} {m n : ℕ} → ValidFill t m → sponge s n ≡ fed (sponge t m) p → Fed t m p s n
 fed-by {t} {p} {s} {m} {n} h e =
     record {
       state = e;

@@ -40,11 +40,11 @@ unfoldable pub started : List ℕ → ℕ → Sponge
 started d n = fed (sponge (replicate 25 0) 0) (leBytes 8 2 ++ framed (d ∷ []) ++ leBytes 8 n)
 
 -- s has its 25 lanes, and a block has room for a byte after n
-pub record Ready (s : List ℕ) (n : ℕ) : Type 0 where
+pub record ValidFill (s : List ℕ) (n : ℕ) : Type 0 where
   pub size : length s ≡ 25
   pub room : n < rate
 
 -- s and n are what the bytes p make of t and m
 pub record Fed (t : List ℕ) (m : ℕ) (p : List ℕ) (s : List ℕ) (n : ℕ) : Type 0 where
   pub state : sponge s n ≡ fed (sponge t m) p
-  pub ready : Ready s n
+  pub ready : ValidFill s n

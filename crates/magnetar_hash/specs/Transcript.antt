@@ -14,16 +14,16 @@ use Rattle.magnetar_hash.specs.declared.transcript.TranscriptAnswer.{Tra
 use Rattle.magnetar_hash.specs.declared.transcript.DrawAnswer.{DrawAnswer}
 
 -- a state, and no draw since
-abbrev pub fresh : List ℕ → Transcript
-fresh s = record { state = s; «squeeze_ctr» = 0 }
+abbrev pub counterZero : List ℕ → Transcript
+counterZero s = record { state = s; «squeeze_ctr» = 0 }
 
 -- a new transcript, bound to a protocol and its public parts
-unfoldable pub begun : List ℕ → List (List ℕ) → Transcript
-begun protocol public = fresh (sha3Domain (ascii "magnetar/transcript/v1" ∷ protocol ∷ public))
+unfoldable pub newTranscript : List ℕ → List (List ℕ) → Transcript
+newTranscript protocol public = counterZero (sha3Domain (ascii "magnetar/transcript/v1" ∷ protocol ∷ public))
 
 -- bytes are absorbed under a label
 unfoldable pub absorbed : Transcript → List ℕ → List ℕ → Transcript
-absorbed t label bytes = fresh (sha3Domain (t .state ∷ ascii "absorb" ∷ label ∷ bytes ∷ []))
+absorbed t label bytes = counterZero (sha3Domain (t .state ∷ ascii "absorb" ∷ label ∷ bytes ∷ []))
 
 -- a draw under a label; the counter is a word of 64 bits
 unfoldable pub drawn : Transcript → List ℕ → Transcript
@@ -56,8 +56,8 @@ noElement = record { lo = 0; hi = 0 }
 -- the answer of a new transcript: 17 where the lengths don't add up to the public bytes
 unfoldable pub newAnswer : List ℕ → List ℕ → List ℕ → TranscriptAnswer
 newAnswer protocol public lens =
-    cond (eqb (totalLength lens) (length public)) (record { code = 0; transcript = begun protocol (parts lens public) })
-    (record { code = 17; transcript = fresh noDigest })
+    cond (eqb (totalLength lens) (length public)) (record { code = 0; transcript = newTranscript protocol (parts lens public) })
+    (record { code = 17; transcript = counterZero noDigest })
 
 -- test 14 is passed: the counter is below 2^32
 abbrev counterFits : Transcript → Bool

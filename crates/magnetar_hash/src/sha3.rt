@@ -6,7 +6,7 @@ ghost use lib.ListN.{length};
 ghost use lib.Dec.{eqb};
 ghost use Rattle.magnetar_hash.specs.Bytes.{leBytes, wordBytes};
 ghost use Rattle.magnetar_hash.specs.Sha3 as spec;
-ghost use Rattle.magnetar_hash.specs.Sponge.{Fed, Ready};
+ghost use Rattle.magnetar_hash.specs.Sponge.{Fed, ValidFill};
 ghost use Rattle.magnetar_hash.specs.Parts.{framed, parts, totalLength, serializeParts, domainAnswer};
 use crate::sponge;
 
@@ -21,7 +21,7 @@ pub fn sha3_256(message: &[u8]) -> [u8; 32]
 
 // A part is taken in: its length, then its bytes.
 pub(crate) fn feed_part(s: &mut [u64; 25], fill: usize, part: &[u8]) -> usize
-    requires { ⌜ Ready (now s) fill ⌝ }
+    requires { ⌜ ValidFill (now s) fill ⌝ }
     ensures { λ r. ⌜ Fed (now (s .entry)) fill (framed (now (part .entry) ∷ [])) (now (s .exit)) r ⌝ }
 {
     let n = sponge::feed_word(s, fill, part.len() as u64);
@@ -30,7 +30,7 @@ pub(crate) fn feed_part(s: &mut [u64; 25], fill: usize, part: &[u8]) -> usize
 
 // A part that is a word of 8 bytes.
 pub(crate) fn feed_word_part(s: &mut [u64; 25], fill: usize, w: u64) -> usize
-    requires { ⌜ Ready (now s) fill ⌝ }
+    requires { ⌜ ValidFill (now s) fill ⌝ }
     ensures { λ r. ⌜ Fed (now (s .entry)) fill (framed (leBytes 8 w ∷ [])) (now (s .exit)) r ⌝ }
 {
     let n = sponge::feed_word(s, fill, 8);
@@ -39,7 +39,7 @@ pub(crate) fn feed_word_part(s: &mut [u64; 25], fill: usize, w: u64) -> usize
 
 // A part that is lent as words.
 pub(crate) fn feed_words_part(s: &mut [u64; 25], fill: usize, words: &[u64]) -> usize
-    requires { ⌜ Ready (now s) fill ⌝ }
+    requires { ⌜ ValidFill (now s) fill ⌝ }
     ensures { λ r. ⌜ Fed (now (s .entry)) fill (framed (wordBytes (now (words .entry)) ∷ [])) (now (s .exit)) r ⌝ }
 {
     let n = sponge::feed_word(s, fill, 8 * words.len() as u64);
@@ -65,7 +65,7 @@ pub(crate) fn add_up(lens: &[usize], size: usize) -> bool
 
 // The parts are taken in, one after the other.
 pub(crate) fn feed_parts(s: &mut [u64; 25], fill: usize, bytes: &[u8], lens: &[usize]) -> usize
-    requires { ⌜ Ready (now s) fill × (totalLength (now lens) ≡ length (now bytes)) ⌝ }
+    requires { ⌜ ValidFill (now s) fill × (totalLength (now lens) ≡ length (now bytes)) ⌝ }
     ensures { λ r. ⌜ Fed (now (s .entry)) fill (framed (parts (now (lens .entry)) (now (bytes .entry)))) (now (s .exit)) r ⌝ }
 {
     let mut n = fill;
@@ -82,7 +82,7 @@ pub(crate) fn feed_parts(s: &mut [u64; 25], fill: usize, bytes: &[u8], lens: &[u
 
 // The count of the parts is taken in, then the parts.
 fn serialize_parts(s: &mut [u64; 25], fill: usize, bytes: &[u8], lens: &[usize]) -> usize
-    requires { ⌜ Ready (now s) fill × (totalLength (now lens) ≡ length (now bytes)) ⌝ }
+    requires { ⌜ ValidFill (now s) fill × (totalLength (now lens) ≡ length (now bytes)) ⌝ }
     ensures { λ r. ⌜ Fed (now (s .entry)) fill (serializeParts (parts (now (lens .entry)) (now (bytes .entry)))) (now (s .exit)) r ⌝ }
 {
     let n = sponge::feed_word(s, fill, lens.len() as u64);

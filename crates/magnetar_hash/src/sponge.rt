@@ -4,12 +4,12 @@ ghost use Prim.Native.Nat.{_+_, _-_, _*_, _/_, _%_, _^_, _<_, _≤_};
 ghost use lib.ListN.{length, take, drop};
 ghost use Rattle.magnetar_hash.specs.Bytes.{leBytes, number, wordBytes};
 ghost use Rattle.magnetar_hash.specs.Sha3.{rate, padding, squeezed};
-ghost use Rattle.magnetar_hash.specs.Sponge.{Fed, Ready, sponge, fed, finished};
+ghost use Rattle.magnetar_hash.specs.Sponge.{Fed, ValidFill, sponge, fed, finished};
 use magnetar_keccak::keccak;
 
 // n bytes that lie in one lane are taken in: w is the number that they make.
 fn feed_lane(s: &mut [u64; 25], fill: usize, w: u64, n: usize) -> usize
-    requires { ⌜ Ready (now s) fill × (0 < n) × (fill % 8 + n ≤ 8) × (w < 2 ^ (8 * n)) ⌝ }
+    requires { ⌜ ValidFill (now s) fill × (0 < n) × (fill % 8 + n ≤ 8) × (w < 2 ^ (8 * n)) ⌝ }
     ensures { λ r. ⌜ Fed (now (s .entry)) fill (leBytes n w) (now (s .exit)) r ⌝ }
 {
     let k = fill / 8;
@@ -26,7 +26,7 @@ fn feed_lane(s: &mut [u64; 25], fill: usize, w: u64, n: usize) -> usize
 
 // The 8 bytes of a word are taken in: those that fit go into the lane, the others into the next one.
 pub(crate) fn feed_word(s: &mut [u64; 25], fill: usize, w: u64) -> usize
-    requires { ⌜ Ready (now s) fill ⌝ }
+    requires { ⌜ ValidFill (now s) fill ⌝ }
     ensures { λ r. ⌜ Fed (now (s .entry)) fill (leBytes 8 w) (now (s .exit)) r ⌝ }
 {
     let o = fill % 8;
@@ -62,7 +62,7 @@ pub(crate) fn word_at(b: &[u8], at: usize) -> u64
 
 // Bytes are taken in, eight at a time.
 pub(crate) fn feed(s: &mut [u64; 25], fill: usize, b: &[u8]) -> usize
-    requires { ⌜ Ready (now s) fill ⌝ }
+    requires { ⌜ ValidFill (now s) fill ⌝ }
     ensures { λ r. ⌜ Fed (now (s .entry)) fill (now (b .entry)) (now (s .exit)) r ⌝ }
 {
     let mut n = fill;
@@ -80,7 +80,7 @@ pub(crate) fn feed(s: &mut [u64; 25], fill: usize, b: &[u8]) -> usize
 
 // The bytes of words are taken in.
 pub(crate) fn feed_words(s: &mut [u64; 25], fill: usize, words: &[u64]) -> usize
-    requires { ⌜ Ready (now s) fill ⌝ }
+    requires { ⌜ ValidFill (now s) fill ⌝ }
     ensures { λ r. ⌜ Fed (now (s .entry)) fill (wordBytes (now (words .entry))) (now (s .exit)) r ⌝ }
 {
     let mut n = fill;
@@ -115,7 +115,7 @@ pub(crate) fn byte_of(w: u64, j: usize) -> u8
 
 // The padding is taken in. Between its first byte and its last there are only zeros, which change nothing.
 fn pad(s: [u64; 25], fill: usize) -> [u64; 25]
-    requires { ⌜ Ready s fill ⌝ }
+    requires { ⌜ ValidFill s fill ⌝ }
     ensures { λ r. ⌜ r ≡ fed (sponge s fill) (padding (rate - fill)) .lanes ⌝ }
 {
     let mut a = s;
@@ -130,7 +130,7 @@ fn pad(s: [u64; 25], fill: usize) -> [u64; 25]
 
 // The padding is taken in, and the hash put out.
 pub(crate) fn finish(s: [u64; 25], fill: usize) -> [u8; 32]
-    requires { ⌜ Ready s fill ⌝ }
+    requires { ⌜ ValidFill s fill ⌝ }
     ensures { λ r. ⌜ r ≡ finished (sponge s fill) ⌝ }
 {
     let a = pad(s, fill);

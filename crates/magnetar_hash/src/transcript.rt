@@ -6,7 +6,7 @@ ghost use lib.ListN.{length, getD, drop};
 ghost use Rattle.magnetar_field.specs.Gf128.{value};
 ghost use Rattle.magnetar_hash.specs.Bytes.{leBytes, wordBytes};
 ghost use Rattle.magnetar_hash.specs.Parts.{framed, parts, totalLength};
-ghost use Rattle.magnetar_hash.specs.Sponge.{Fed, Ready};
+ghost use Rattle.magnetar_hash.specs.Sponge.{Fed, ValidFill};
 ghost use Rattle.magnetar_hash.specs.Transcript as spec;
 use crate::sha3;
 use crate::sponge;
@@ -83,7 +83,7 @@ pub fn new(protocol: &[u8], public: &[u8], lens: &[usize]) -> TranscriptAnswer
 
 fn begin(protocol: &[u8], public: &[u8], lens: &[usize]) -> Transcript
     requires { ⌜ totalLength (now lens) ≡ length (now public) ⌝ }
-    ensures { λ r. ⌜ r ≡ spec.begun (now (protocol .entry)) (parts (now (lens .entry)) (now (public .entry))) ⌝ }
+    ensures { λ r. ⌜ r ≡ spec.newTranscript (now (protocol .entry)) (parts (now (lens .entry)) (now (public .entry))) ⌝ }
 {
     let mut s = [0u64; 25];
     let a = sponge::feed_word(&mut s, 0, lens.len() as u64 + 2);
@@ -99,7 +99,7 @@ fn begin(protocol: &[u8], public: &[u8], lens: &[usize]) -> Transcript
 
 // The first three of the four parts that an absorption and a draw hash, after the count of the parts.
 fn feed_head(s: &mut [u64; 25], t: Transcript, tag: &[u8], label: &[u8]) -> usize
-    requires { ⌜ Ready (now s) 0 ⌝ }
+    requires { ⌜ ValidFill (now s) 0 ⌝ }
     ensures { λ r. ⌜ Fed (now (s .entry)) 0 (leBytes 8 4 ++ framed (t .state ∷ now (tag .entry) ∷ now (label .entry) ∷ [])) (now (s .exit)) r ⌝ }
 {
     let state = t.state;
@@ -111,7 +111,7 @@ fn feed_head(s: &mut [u64; 25], t: Transcript, tag: &[u8], label: &[u8]) -> usiz
 
 // The transcript after an absorption: a new state, and no draw since.
 fn renewed(t: Transcript, state: [u8; 32]) -> Transcript
-    ensures { λ r. ⌜ r ≡ spec.fresh state ⌝ }
+    ensures { λ r. ⌜ r ≡ spec.counterZero state ⌝ }
 {
     let mut u = t;
     u.state = state;

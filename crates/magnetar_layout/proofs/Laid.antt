@@ -17,7 +17,7 @@ use Rattle.magnetar_field.proofs.Log2.{log₂-pow}
 use Rattle.magnetar_layout.specs.Every.{every}
 use Rattle.magnetar_layout.specs.Tests.{isSize, mostColumns, mostWitness, columnTests, layoutTests}
 use Rattle.magnetar_layout.specs.Entries.{layoutRefusal}
-use Rattle.magnetar_layout.proofs.Noted.{noted-clear}
+use Rattle.magnetar_layout.proofs.FirstRefusal.{first-refusal-clear}
 use Rattle.magnetar_layout.proofs.SizeLaws.{not-bad}
 use Rattle.magnetar_layout.specs.Layout.{nextMultiple, offsetsFrom, endFrom, offsets, layoutEnd, isLength, LayoutFits}
 use Rattle.magnetar_layout.proofs.EveryLaws.{both, every-at, every-tail, every-drop}
@@ -192,7 +192,7 @@ offset-within w ns i s h = le-trans (offset-from-within w 0 ns i (s .lengths) h)
 pub sound : (w : ℕ) (ns : List ℕ) → layoutRefusal w ns ≡ 0 → LayoutFits w ns
 unfolding layoutRefusal
 sound w ns e =
-    let k = noted-clear 0 (columnTests (2 * w) ++ layoutTests w ns) refl e .1 in
+    let k = first-refusal-clear 0 (columnTests (2 * w) ++ layoutTests w ns) refl e .1 in
     let z = not-bad (k .0) in
     record {
       small = omega (arith, z .high);

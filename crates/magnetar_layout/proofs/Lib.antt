@@ -1,5 +1,5 @@
 pub mod Edges
-pub mod Noted
+pub mod FirstRefusal
 pub mod EveryLaws
 pub mod SizeLaws
 pub mod Laid

@@ -12,8 +12,8 @@ use lib.ListN.{length, getD, take, drop}
 use borrow.Author.Tests.{eq-eqb, ne-eqb, lt-ltb, le-ltb}
 use Rattle.magnetar_field.specs.Sizes.{log₂}
 use Rattle.magnetar_layout.specs.Layout.{offset}
-use Rattle.magnetar_layout.specs.Tests.{note}
-use Rattle.magnetar_layout.proofs.Noted.{note-kept}
+use Rattle.magnetar_layout.specs.Tests.{orRefuse}
+use Rattle.magnetar_layout.proofs.FirstRefusal.{note-kept}
 use Rattle.magnetar_layout.specs.declared.layout.Reading.the-variants.{Number, NoSegment, Refused}
 use Rattle.magnetar_layout.specs.Entries.{layoutRefusal, read, readOf, segmentRefusal, segmentPart, buildRefusal}
 
@@ -40,7 +40,7 @@ log-le a b ea eb h = le-of-suc-le-suc (lt-of-not-le (λ l. small (log₂ a) (log
 
 -- ---- a segment of the folded words v
 module _ (w : ℕ) (ns : List ℕ) (i : ℕ) (v : List ℕ) (z : ℕ) (e : z ≡ layoutRefusal w ns) where
-  refusal-is : segmentRefusal w ns v ≡ note 11 (not (eqb (length v) (2 * w))) z
+  refusal-is : segmentRefusal w ns v ≡ orRefuse 11 (not (eqb (length v) (2 * w))) z
   unfolding segmentRefusal layoutRefusal
   refusal-is = rw e
 
@@ -50,19 +50,19 @@ module _ (w : ℕ) (ns : List ℕ) (i : ℕ) (v : List ℕ) (z : ℕ) (e : z ≡
 
   module _ (zero : z ≡ 0) where
     pub part-other : (length v ≡ 2 * w → ⊥) → [] ≡ segmentPart w ns i v
-    unfolding segmentPart note
+    unfolding segmentPart orRefuse
     part-other h = rw (refusal-is, zero, ne-eqb (length v) (2 * w) h)
 
     module _ (same : length v ≡ 2 * w) where
       pub part-missing : length ns ≤ i → [] ≡ segmentPart w ns i v
-      unfolding segmentPart note
+      unfolding segmentPart orRefuse
       part-missing h = rw (refusal-is, zero, eq-eqb (length v) (2 * w) same, le-ltb i (length ns) h)
 
       pub part-is : i < length ns → take (2 * getD ns i 0) (drop (2 * offset ns i) v) ≡ segmentPart w ns i v
-      unfolding segmentPart note
+      unfolding segmentPart orRefuse
       part-is h = rw (refusal-is, zero, eq-eqb (length v) (2 * w) same, lt-ltb i (length ns) h)
 
 -- ---- the refusal of `build`: that of the layout, then the room
-pub build-is : (w : ℕ) (ns out : List ℕ) (z y : ℕ) → z ≡ layoutRefusal w ns → y ≡ note 15 (ltb (length out) (length ns)) z → y ≡ buildRefusal w ns out
+pub build-is : (w : ℕ) (ns out : List ℕ) (z y : ℕ) → z ≡ layoutRefusal w ns → y ≡ orRefuse 15 (ltb (length out) (length ns)) z → y ≡ buildRefusal w ns out
 unfolding layoutRefusal buildRefusal
 build-is w ns out z y e f = f ∙ rw e

@@ -11,16 +11,16 @@ use Rattle.magnetar_field.specs.Sizes.{log₂}
 use Rattle.magnetar_layout.specs.declared.layout.Reading.{Reading}
 use Rattle.magnetar_layout.specs.declared.layout.Reading.the-variants.{Number, NoSegment, Refused}
 use Rattle.magnetar_layout.specs.Layout.{offsets, offset}
-use Rattle.magnetar_layout.specs.Tests.{noted, columnTests, layoutTests, lengthTest, roomTest}
+use Rattle.magnetar_layout.specs.Tests.{firstRefusal, columnTests, layoutTests, lengthTest, roomTest}
 
 -- ---- segments of the lengths ns in w columns
 -- `layout::refusal`: 1, 8, 9 and 10
 unfoldable pub layoutRefusal : ℕ → List ℕ → ℕ
-layoutRefusal w ns = noted 0 (columnTests (2 * w) ++ layoutTests w ns)
+layoutRefusal w ns = firstRefusal 0 (columnTests (2 * w) ++ layoutTests w ns)
 
 -- `SegmentLayout::build`: the same, and 15 where there is less room than segments
 unfoldable pub buildRefusal : ℕ → List ℕ → List ℕ → ℕ
-buildRefusal w ns out = noted 0 (columnTests (2 * w) ++ layoutTests w ns ++ roomTest (length ns) out)
+buildRefusal w ns out = firstRefusal 0 (columnTests (2 * w) ++ layoutTests w ns ++ roomTest (length ns) out)
 
 -- the output: the offsets, then what stood behind them
 abbrev pub buildOut : ℕ → List ℕ → List ℕ → List ℕ
@@ -45,7 +45,7 @@ readOf w ns i v =
 
 -- `witness_vars`: 1 where 2w is no column count
 unfoldable pub varsRefusal : ℕ → ℕ
-varsRefusal w = noted 0 (columnTests (2 * w))
+varsRefusal w = firstRefusal 0 (columnTests (2 * w))
 
 -- how many variables number the w columns, unless they are refused
 abbrev pub varsOf : ℕ → Read
@@ -54,7 +54,7 @@ varsOf w = unlessRefused (varsRefusal w) (number (log₂ w)) (refusal (varsRefus
 -- ---- `segment`: the part of the folded words v that segment i has, or an empty part
 -- 1, 8 to 10, and 11 where the words are not two for each column
 unfoldable pub segmentRefusal : ℕ → List ℕ → List ℕ → ℕ
-segmentRefusal w ns v = noted 0 (columnTests (2 * w) ++ layoutTests w ns ++ lengthTest (2 * w) v)
+segmentRefusal w ns v = firstRefusal 0 (columnTests (2 * w) ++ layoutTests w ns ++ lengthTest (2 * w) v)
 
 -- the words of its columns; none where there is a refusal or no such segment
 unfoldable pub segmentPart : ℕ → List ℕ → ℕ → List ℕ → List ℕ

@@ -19,13 +19,13 @@ abbrev pub Tests : Type 0
 Tests = List (ℕ × Bool)
 
 -- an earlier number stays; else n where the test is bad. 0 is no refusal
-unfoldable pub note : ℕ → Bool → ℕ → ℕ
-note n bad a = cond (eqb a 0) (cond bad n 0) a
+unfoldable pub orRefuse : ℕ → Bool → ℕ → ℕ
+orRefuse n bad a = cond (eqb a 0) (cond bad n 0) a
 
 -- the first number whose test is bad, after an earlier number a
-abbrev pub noted : ℕ → Tests → ℕ
-noted a [] = a
-noted a (t ∷ l) = noted (note (t .0) (t .1) a) l
+abbrev pub firstRefusal : ℕ → Tests → ℕ
+firstRefusal a [] = a
+firstRefusal a (t ∷ l) = firstRefusal (orRefuse (t .0) (t .1) a) l
 
 -- n is a power of two from least to most
 unfoldable pub isSize : ℕ → ℕ → ℕ → Bool

@@ -43,13 +43,13 @@ fn ends_past(w: usize, lens: &[usize]) -> bool
 pub fn refusal(w: usize, lens: &[usize]) -> u32
     ensures { λ r. ⌜ r ≡ layoutRefusal w (now (lens .entry)) ⌝ }
 {
-    let z = tests::note(0, 1, !tests::is_size(1, 32768, w));
-    let z = tests::note(z, 8, !tests::all_lengths(w, lens));
+    let z = tests::refuse(0, 1, !tests::is_size(1, 32768, w));
+    let z = tests::refuse(z, 8, !tests::all_lengths(w, lens));
     if z != 0 {
         return z;
     }
-    let z = tests::note(z, 9, ends_past(w, lens));
-    tests::note(z, 10, lens.len() > 64)
+    let z = tests::refuse(z, 9, ends_past(w, lens));
+    tests::refuse(z, 10, lens.len() > 64)
 }
 
 // The offset of segment k.
@@ -92,7 +92,7 @@ pub fn build(w: usize, lens: &[usize], offsets: &mut [usize]) -> u32
     ensures written { λ _. ⌜ now (offsets .exit) ≡ buildOut w (now (lens .entry)) (now (offsets .entry)) ⌝ }
 {
     let z = refusal(w, lens);
-    let z = tests::note(z, 15, offsets.len() < lens.len());
+    let z = tests::refuse(z, 15, offsets.len() < lens.len());
     if z != 0 {
         return z;
     }

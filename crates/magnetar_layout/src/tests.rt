@@ -3,11 +3,11 @@ use magnetar_field::sizes;
 ghost use mathlib.Core.Path.{_≡_};
 ghost use Rattle.magnetar_layout.specs.Every.{every};
 ghost use Rattle.magnetar_layout.specs.Layout.{isLength};
-ghost use Rattle.magnetar_layout.specs.Tests.{note, isSize};
+ghost use Rattle.magnetar_layout.specs.Tests.{orRefuse, isSize};
 
 // z if it is a refusal already, else n where the test is bad.
-pub fn note(z: u32, n: u32, bad: bool) -> u32
-    ensures { λ r. ⌜ r ≡ note n bad z ⌝ }
+pub fn refuse(z: u32, n: u32, bad: bool) -> u32
+    ensures { λ r. ⌜ r ≡ orRefuse n bad z ⌝ }
 {
     if z != 0 {
         return z;

@@ -23,7 +23,7 @@ use Rattle.magnetar_protocol.specs.Shape.{logLogins, logBin, logFld, log
 use Rattle.magnetar_protocol.specs.Proof.{part, binMessages, fldMessages, innerRounds, valueZ}
 use Rattle.magnetar_protocol.specs.Draws.{Draws}
 use Rattle.magnetar_protocol.specs.Checks.{innerClaim}
-use Rattle.magnetar_protocol.specs.Theory.{els, relationE, publicE, drawsE, wordsE}
+use Rattle.magnetar_protocol.specs.Theory.{els, relationE, publicE, drawsE, proofE}
 use Rattle.magnetar_protocol.specs.RunSizes.{SizedRelation, Elements}
 use Rattle.magnetar_protocol.proofs.Elements.{map-append, dot-lt}
 use Rattle.magnetar_protocol.proofs.Pieces.{bin-are, fld-are, inner-are, vz-is}
@@ -94,7 +94,7 @@ module _ (r : Relation) (x w : List ℕ) (D : Draws) (R : SizedRelation r) (C : 
   unfolding valueZ
   value-lt = E (beforeEnd r)
 
-  pub holds : Accepted gf128 (relationE r) (publicE x) (drawsE r D) (wordsE r w) → Holds r x w D
+  pub holds : Accepted gf128 (relationE r) (publicE x) (drawsE r D) (proofE r w) → Holds r x w D
   holds A = record {
     bin = checks-passes 0 (binMessages r w) (D .shared ++ D .rowBin) (pow-pos 128) bin-below
         (subst₂ (Checks gf128 (element 0)) (bin-are r w) (sym (map-append element (D .shared) (D .rowBin))) (A .bin-rounds));
@@ -112,7 +112,7 @@ module _ (r : Relation) (x w : List ℕ) (D : Draws) (R : SizedRelation r) (C : 
         ∙ sym (fld-end-is r x w D R C long));
     inner = checks-passes (innerClaim r w D) (innerRounds r w) (D .inner) claim-lt inner-below
         (subst (λ (ms : List (List Element)). Checks gf128 (element (innerClaim r w D)) ms (els (D .inner))) (inner-are r w (cols-suc r R))
-        (subst₂ (λ (c : Element) (rs : List Element). Checks gf128 c ((wordsE r w) .innerMs) rs) (sym (claim-is r x w D R C long))
+        (subst₂ (λ (c : Element) (rs : List Element). Checks gf128 c ((proofE r w) .innerMs) rs) (sym (claim-is r x w D R C long))
         (inner-is r R D C) (A .inner-rounds)));
     inner-end = element-inj _ _ (running-lt (innerClaim r w D) (innerRounds r w) (D .inner) claim-lt inner-below)
         (unfold innerEnd in ⊗-lt _ _)

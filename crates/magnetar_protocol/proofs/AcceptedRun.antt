@@ -24,7 +24,7 @@ use Rattle.magnetar_protocol.specs.Shape.{logCols, beforeTerminals, befo
 use Rattle.magnetar_protocol.specs.Proof.{binMessages, fldMessages, terminals, terminal, innerRounds, valueZ, segmentValues}
 use Rattle.magnetar_protocol.specs.Draws.{Draws, loginPoint, lowPoint, topElement}
 use Rattle.magnetar_protocol.specs.Checks.{innerClaim, combined, segmentSum}
-use Rattle.magnetar_protocol.specs.Theory.{els, logHalf, relationE, publicE, drawsE, wordsE}
+use Rattle.magnetar_protocol.specs.Theory.{els, logHalf, relationE, publicE, drawsE, proofE}
 use Rattle.magnetar_protocol.specs.RunSizes.{SizedRelation}
 use Rattle.magnetar_protocol.proofs.Elements.{map-append, map-reverse, els-at, element-dot}
 use Rattle.magnetar_protocol.proofs.Pieces.{bin-are, fld-are, inner-are, vz-is, values-of, terminal-is}
@@ -74,7 +74,7 @@ module _ (r : Relation) (x w : List ℕ) (D : Draws) (R : SizedRelation r) (C : 
   pub ab-is : getD (els w) (beforeTerminals r) (element 0) ≡ element (terminal r w 0)
   ab-is = els-at w (beforeTerminals r) ∙ ap (λ (k : ℕ). element (getD w k 0)) (sym (add-zero (beforeTerminals r)))
 
-  pub claim-is : element (innerClaim r w D) ≡ dotE gf128 (els (D .alphas)) (terminalsE gf128 (wordsE r w))
+  pub claim-is : element (innerClaim r w D) ≡ dotE gf128 (els (D .alphas)) (terminalsE gf128 (proofE r w))
   unfolding innerClaim
   claim-is =
       element-dot (D .alphas) (terminals r w)
@@ -84,7 +84,7 @@ module _ (r : Relation) (x w : List ℕ) (D : Draws) (R : SizedRelation r) (C : 
 
   pub bin-end-is : element (outerEnd (eqPoints (D .tauBin) (D .rowBin ++ loginPoint D)) (terminal r w 0) (terminal r w 1) (terminal r w 2))
       ≡ elementProduct (eqProduct gf128 (els (D .tauBin)) (els (D .rowBin) ++ reverse (els (D .shared))))
-      (elementSum (elementProduct ((wordsE r w) .ab) ((wordsE r w) .bb)) ((wordsE r w) .cb))
+      (elementSum (elementProduct ((proofE r w) .ab) ((proofE r w) .bb)) ((proofE r w) .cb))
   unfolding loginPoint
   bin-end-is = end-is (D .tauBin) (D .rowBin) (D .shared) (terminal r w 0) (terminal r w 1) (terminal r w 2)
       ∙ (λ i. elementProduct (eqProduct gf128 (els (D .tauBin)) (els (D .rowBin) ++ reverse (els (D .shared))))
@@ -92,7 +92,7 @@ module _ (r : Relation) (x w : List ℕ) (D : Draws) (R : SizedRelation r) (C : 
 
   pub fld-end-is : element (outerEnd (eqPoints (D .tauFld) (D .rowFld ++ loginPoint D)) (terminal r w 3) (terminal r w 4) (terminal r w 5))
       ≡ elementProduct (eqProduct gf128 (els (D .tauFld)) (els (D .rowFld) ++ reverse (els (D .shared))))
-      (elementSum (elementProduct ((wordsE r w) .af) ((wordsE r w) .bf)) ((wordsE r w) .cf))
+      (elementSum (elementProduct ((proofE r w) .af) ((proofE r w) .bf)) ((proofE r w) .cf))
   unfolding loginPoint
   fld-end-is = end-is (D .tauFld) (D .rowFld) (D .shared) (terminal r w 3) (terminal r w 4) (terminal r w 5)
       ∙ (λ i. elementProduct (eqProduct gf128 (els (D .tauFld)) (els (D .rowFld) ++ reverse (els (D .shared))))
@@ -100,7 +100,7 @@ module _ (r : Relation) (x w : List ℕ) (D : Draws) (R : SizedRelation r) (C : 
 
   pub inner-end-is : element (innerEnd (mle (combined r D) (D .inner)) (valueZ r w))
       ≡ elementProduct (dotE gf128 (eqTableE gf128 (inner gf128 (drawsE r D)))
-      (combo gf128 (relationE r) (els (D .rowBin)) (els (D .rowFld)) (els (D .alphas)))) ((wordsE r w) .vz)
+      (combo gf128 (relationE r) (els (D .rowBin)) (els (D .rowFld)) (els (D .alphas)))) ((proofE r w) .vz)
   unfolding innerEnd
   inner-end-is = element-⊗ (mle (combined r D) (D .inner)) (valueZ r w)
       ∙ ap₂ elementProduct (element-mle (combined r D) (D .inner)
@@ -112,7 +112,7 @@ module _ (r : Relation) (x w : List ℕ) (D : Draws) (R : SizedRelation r) (C : 
 
   pub identity-is : element ((1 ⊕ topElement r D) ⊗ segmentSum (r .lengths) (lowPoint r D) 0 (segmentValues r w) ⊕ topElement r D ⊗ mle (1 ∷ x) (lowPoint r D))
       ≡ elementSum (elementProduct (elementSum (element 1) (element (topElement r D)))
-      (segSum gf128 ((relationE r) .segs) (els (lowPoint r D)) ((wordsE r w) .values)))
+      (segSum gf128 ((relationE r) .segs) (els (lowPoint r D)) ((proofE r w) .values)))
       (elementProduct (element (topElement r D)) (dotE gf128 (eqTableE gf128 (els (lowPoint r D))) (publicE x)))
   identity-is =
       element-⊕ _ _ ∙ ap₂ elementSum
@@ -122,7 +122,7 @@ module _ (r : Relation) (x w : List ℕ) (D : Draws) (R : SizedRelation r) (C : 
       (element-⊗ (topElement r D) (mle (1 ∷ x) (lowPoint r D))
       ∙ ap (elementProduct (element (topElement r D))) (element-mle (1 ∷ x) (lowPoint r D)))
 
-  pub accepted : Holds r x w D → Accepted gf128 (relationE r) (publicE x) (drawsE r D) (wordsE r w)
+  pub accepted : Holds r x w D → Accepted gf128 (relationE r) (publicE x) (drawsE r D) (proofE r w)
   accepted H = record {
     bin-rounds = subst₂ (Checks gf128 (element 0)) (sym (bin-are r w)) (map-append element (D .shared) (D .rowBin))
         (passes-checks 0 (binMessages r w) (D .shared ++ D .rowBin) (H .bin));
@@ -132,7 +132,7 @@ module _ (r : Relation) (x w : List ℕ) (D : Draws) (R : SizedRelation r) (C : 
         ∙ sym (running-is 0 (binMessages r w) (D .shared ++ D .rowBin)) ∙ ap element (H .bin-end) ∙ bin-end-is;
     fld-terminal = ap₂ (runningE gf128 (element 0)) (fld-are r w) (sym (map-append element (D .shared) (D .rowFld)))
         ∙ sym (running-is 0 (fldMessages r w) (D .shared ++ D .rowFld)) ∙ ap element (H .fld-end) ∙ fld-end-is;
-    inner-rounds = subst₂ (λ (c : Element) (rs : List Element). Checks gf128 c ((wordsE r w) .innerMs) rs) claim-is (sym (inner-is r R D C))
+    inner-rounds = subst₂ (λ (c : Element) (rs : List Element). Checks gf128 c ((proofE r w) .innerMs) rs) claim-is (sym (inner-is r R D C))
         (subst (λ (ms : List (List Element)). Checks gf128 (element (innerClaim r w D)) ms (els (D .inner))) (sym (inner-are r w cols))
         (passes-checks (innerClaim r w D) (innerRounds r w) (D .inner) (H .inner)));
     inner-terminal = (λ i. runningE gf128 (sym claim-is i) (inner-are r w cols i) (inner-is r R D C i))

@@ -8,7 +8,7 @@ use native.Mathlib.Omega.{arith}
 use lib.ListN.{length, take, drop, length-append}
 use lib.Seq.{drop-drop, take-at, drop-at}
 use Rattle.magnetar_field.specs.Tabulate.{tabulate}
-use Rattle.magnetar_protocol.specs.Prover.{joined, inTurn}
+use Rattle.magnetar_protocol.specs.Prover.{joined, interleaved}
 
 -- each message has n elements
 abbrev pub Each : ℕ → List (List ℕ) → Type 0
@@ -30,13 +30,13 @@ unfolding joined
 joined-length n [] e = sym (mul-zero n)
 joined-length n (m ∷ ms) e = length-append m (joined ms) ∙ ap₂ _+_ (e .0) (joined-length n ms (e .1)) ∙ omega (arith, mul-suc n (length ms))
 
-pub inTurn-length : (ms ns : List (List ℕ)) → Each 4 ms → Each 4 ns → length ns ≡ length ms → length (inTurn ms ns) ≡ 8 * length ms
-unfolding inTurn
-inTurn-length [] ns e f h = refl
-inTurn-length (m ∷ ms) [] e f h = absurd (omega arith)
-inTurn-length (m ∷ ms) (n ∷ ns) e f h =
-    length-append m (n ++ inTurn ms ns) ∙ ap₂ _+_ (e .0)
-    (length-append n (inTurn ms ns) ∙ ap₂ _+_ (f .0) (inTurn-length ms ns (e .1) (f .1) (omega arith))) ∙ omega arith
+pub interleaved-length : (ms ns : List (List ℕ)) → Each 4 ms → Each 4 ns → length ns ≡ length ms → length (interleaved ms ns) ≡ 8 * length ms
+unfolding interleaved
+interleaved-length [] ns e f h = refl
+interleaved-length (m ∷ ms) [] e f h = absurd (omega arith)
+interleaved-length (m ∷ ms) (n ∷ ns) e f h =
+    length-append m (n ++ interleaved ms ns) ∙ ap₂ _+_ (e .0)
+    (length-append n (interleaved ms ns) ∙ ap₂ _+_ (f .0) (interleaved-length ms ns (e .1) (f .1) (omega arith))) ∙ omega arith
 
 -- what stands behind a
 pub past : (o k : ℕ) (w a post : List ℕ) → drop o w ≡ a ++ post → length a ≡ k → drop (o + k) w ≡ post
@@ -66,15 +66,15 @@ unturned : (m n rest post : List ℕ) → (m ++ (n ++ rest)) ++ post ≡ m ++ (n
 unturned m n rest post = append-assoc m (n ++ rest) post ∙ ap (λ (l : List ℕ). m ++ l) (append-assoc n rest post)
 
 pub first-turns : (o : ℕ) (w : List ℕ) (g : ℕ → ℕ) (ms ns : List (List ℕ)) (post : List ℕ) → Each 4 ms → Each 4 ns → length ns ≡ length ms
-    → drop o w ≡ inTurn ms ns ++ post → ((i : ℕ) → g i ≡ o + 8 * i) → tabulate (λ i. take 4 (drop (g i) w)) (length ms) ≡ ms
-unfolding tabulate inTurn
+    → drop o w ≡ interleaved ms ns ++ post → ((i : ℕ) → g i ≡ o + 8 * i) → tabulate (λ i. take 4 (drop (g i) w)) (length ms) ≡ ms
+unfolding tabulate interleaved
 first-turns o w g [] ns post e f l h p = refl
 first-turns o w g (m ∷ ms) [] post e f l h p = absurd (omega arith)
 first-turns o w g (m ∷ ms) (n ∷ ns) post e f l h p =
-    let h₁ = h ∙ unturned m n (inTurn ms ns) post in
-    let h₂ = past o 4 w m (n ++ (inTurn ms ns ++ post)) h₁ (e .0) in
-    ap₂ _∷_ (ap (λ (k : ℕ). take 4 (drop k w)) (p 0 ∙ first o) ∙ front o 4 w m (n ++ (inTurn ms ns ++ post)) h₁ (e .0))
-    (first-turns (o + 4 + 4) w (λ i. g (suc i)) ms ns post (e .1) (f .1) (omega arith) (past (o + 4) 4 w n (inTurn ms ns ++ post) h₂ (f .0))
+    let h₁ = h ∙ unturned m n (interleaved ms ns) post in
+    let h₂ = past o 4 w m (n ++ (interleaved ms ns ++ post)) h₁ (e .0) in
+    ap₂ _∷_ (ap (λ (k : ℕ). take 4 (drop k w)) (p 0 ∙ first o) ∙ front o 4 w m (n ++ (interleaved ms ns ++ post)) h₁ (e .0))
+    (first-turns (o + 4 + 4) w (λ i. g (suc i)) ms ns post (e .1) (f .1) (omega arith) (past (o + 4) 4 w n (interleaved ms ns ++ post) h₂ (f .0))
     (λ i. p (suc i) ∙ next o i))
   where
     first : (o : ℕ) → o + 8 * 0 ≡ o
@@ -84,17 +84,17 @@ first-turns o w g (m ∷ ms) (n ∷ ns) post e f l h p =
     next o i = omega arith
 
 pub second-turns : (o : ℕ) (w : List ℕ) (g : ℕ → ℕ) (ms ns : List (List ℕ)) (post : List ℕ) → Each 4 ms → Each 4 ns → length ns ≡ length ms
-    → drop o w ≡ inTurn ms ns ++ post → ((i : ℕ) → g i ≡ o + 4 + 8 * i) → tabulate (λ i. take 4 (drop (g i) w)) (length ns) ≡ ns
-unfolding tabulate inTurn
+    → drop o w ≡ interleaved ms ns ++ post → ((i : ℕ) → g i ≡ o + 4 + 8 * i) → tabulate (λ i. take 4 (drop (g i) w)) (length ns) ≡ ns
+unfolding tabulate interleaved
 second-turns o w g [] [] post e f l h p = refl
 second-turns o w g [] (n ∷ ns) post e f l h p = absurd (omega arith)
 second-turns o w g (m ∷ ms) [] post e f l h p = absurd (omega arith)
 second-turns o w g (m ∷ ms) (n ∷ ns) post e f l h p =
-    let h₁ = h ∙ unturned m n (inTurn ms ns) post in
-    let h₂ = past o 4 w m (n ++ (inTurn ms ns ++ post)) h₁ (e .0) in
-    ap₂ _∷_ (ap (λ (k : ℕ). take 4 (drop k w)) (p 0 ∙ first o) ∙ front (o + 4) 4 w n (inTurn ms ns ++ post) h₂ (f .0))
+    let h₁ = h ∙ unturned m n (interleaved ms ns) post in
+    let h₂ = past o 4 w m (n ++ (interleaved ms ns ++ post)) h₁ (e .0) in
+    ap₂ _∷_ (ap (λ (k : ℕ). take 4 (drop k w)) (p 0 ∙ first o) ∙ front (o + 4) 4 w n (interleaved ms ns ++ post) h₂ (f .0))
     (second-turns (o + 4 + 4) w (λ i. g (suc i)) ms ns post (e .1) (f .1) (omega arith)
-    (past (o + 4) 4 w n (inTurn ms ns ++ post) h₂ (f .0)) (λ i. p (suc i) ∙ next o i))
+    (past (o + 4) 4 w n (interleaved ms ns ++ post) h₂ (f .0)) (λ i. p (suc i) ∙ next o i))
   where
     first : (o : ℕ) → o + 4 + 8 * 0 ≡ o + 4
     first o = omega arith

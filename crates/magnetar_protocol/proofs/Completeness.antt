@@ -6,7 +6,7 @@ use Prim.Native.Nat.{ℕ}
 use lib.ListN.{length}
 use Rattle.magnetar_field.proofs.Tabulation.{tabulate-get}
 use Rattle.magnetar_matrix.specs.Batch.{Relation, Batch, Good}
-use Rattle.magnetar_theory.specs.Run.{Accepted, Words}
+use Rattle.magnetar_theory.specs.Run.{Accepted, Proof}
 use Rattle.magnetar_theory.specs.Gf128.{gf128}
 use Rattle.magnetar_theory.proofs.Whole.{complete}
 use Rattle.magnetar_protocol.specs.Draws.{Draws, drawsOf, loginPoint, lowPoint}
@@ -14,7 +14,7 @@ use Rattle.magnetar_protocol.specs.Run.{verdict, claims, trueValue, Clai
 use Rattle.magnetar_protocol.specs.RunSizes.{SizedRun, SizedProof}
 use Rattle.magnetar_protocol.specs.Theory.{relationE, publicE, batchE, drawsE}
 use Rattle.magnetar_protocol.specs.Soundness.{NoBitOutside}
-use Rattle.magnetar_protocol.specs.Prover.{trueValues, honestWords, proverWords, proverClaims}
+use Rattle.magnetar_protocol.specs.Prover.{trueValues, honestProof, proverProof, proverClaims}
 use Rattle.magnetar_protocol.specs.Theorems.{Completeness}
 use Rattle.magnetar_protocol.proofs.SizeFacts.{Cut, cut}
 use Rattle.magnetar_protocol.proofs.Verdict.{of-holds}
@@ -28,8 +28,8 @@ use Rattle.magnetar_protocol.proofs.ClaimParts.{values-true}
 
 module _ (r : Relation) (b : Batch) (x d : List ℕ) (S : SizedRun r b x d) where
   -- the words are as many as document 01 says, and elements
-  pub prover-sized : SizedProof r b x (proverWords r b x d) d
-  unfolding proverWords
+  pub prover-sized : SizedProof r b x (proverProof r b x d) d
+  unfolding proverProof
   prover-sized = record {
     run = S;
     words = honest-length r b x (drawsOf r d) (cut r d (S .draws));
@@ -38,8 +38,8 @@ module _ (r : Relation) (b : Batch) (x d : List ℕ) (S : SizedRun r b x d) wher
   }
 
   -- the claims that the verifier reads from the words are the prover's
-  same-claims : claims r (proverWords r b x d) d ≡ proverClaims r b d
-  unfolding claims proverClaims proverWords
+  same-claims : claims r (proverProof r b x d) d ≡ proverClaims r b d
+  unfolding claims proverClaims proverProof
   same-claims = ap (λ (l : List ℕ). loginPoint (drawsOf r d) ++ (lowPoint r (drawsOf r d) ++ l))
       (segment-part r b x (drawsOf r d) (cut r d (S .draws)))
 
@@ -49,12 +49,12 @@ module _ (r : Relation) (b : Batch) (x d : List ℕ) (S : SizedRun r b x d) wher
   true-claims = values-true r (S .relation) (drawsOf r d) (cut r d (S .draws)) (trueValues r b (drawsOf r d)) b
       (λ i h. tabulate-get (trueValue r b (drawsOf r d)) (length (r .lengths)) i 0 h)
 
-  honest-accepted : Good r b x → NoBitOutside r b → verdict r x (proverWords r b x d) d ≡ 0
-  unfolding verdict proverWords
+  honest-accepted : Good r b x → NoBitOutside r b → verdict r x (proverProof r b x d) d ≡ 0
+  unfolding verdict proverProof
   honest-accepted g stray =
-      of-holds r x (honestWords r b x D) D C
-      (holds r x (honestWords r b x D) D (S .relation) C (honest-length r b x D C) (honest-elements r b x D)
-      (subst (λ (W : Words gf128). Accepted gf128 (relationE r) (publicE x) (drawsE r D) W)
+      of-holds r x (honestProof r b x D) D C
+      (holds r x (honestProof r b x D) D (S .relation) C (honest-length r b x D C) (honest-elements r b x D)
+      (subst (λ (W : Proof gf128). Accepted gf128 (relationE r) (publicE x) (drawsE r D) W)
       (sym (words-are r b x D (S .relation) (S .batch) C (S .public)))
       (complete (relationE r) (publicE x) (batchE b) (drawsE r D) (sizes r b D (S .relation) (S .batch) C x (S .public) stray)
       (good-theory r b x (S .relation) (S .batch) g))))

@@ -33,9 +33,9 @@ use Rattle.magnetar_theory.specs.Gf128.{number, element, elementSum, elementPro
 use Rattle.magnetar_theory.proofs.Gf128.{number-of}
 use Rattle.magnetar_protocol.specs.Proof.{binMessages, fldMessages, terminals, innerRounds, valueZ, segmentValues}
 use Rattle.magnetar_protocol.specs.Draws.{drawsOf, loginPoint, lowPoint, topElement}
-use Rattle.magnetar_protocol.specs.Checks.{roundHolds, innerClaim, combined, segmentSum, sharedChecks, rowChecks, terminalChecks, innerChecks, identityCheck, checks, firstRefusal}
+use Rattle.magnetar_protocol.specs.Checks.{roundHolds, innerClaim, combined, segmentSum, sharedChecks, rowChecks, terminalChecks, innerChecks, identityCheck, checks, firstFailure}
 use Rattle.magnetar_protocol.specs.Run.{verdict, trueValue}
-use Rattle.magnetar_protocol.specs.Prover.{joined, inTurn, trueValues, productTable, outerRounds, terminalValues, foldedZ, honestWords, proverWords}
+use Rattle.magnetar_protocol.specs.Prover.{joined, interleaved, trueValues, productTable, outerRounds, terminalValues, foldedZ, honestProof, proverProof}
 use Rattle.magnetar_protocol.specs.Soundness.{NoBitOutside, badDraws, absorbedBefore, BadDraw}
 
 -- ---- a gap: m = 8, q = 1, no entry, segments of 1 and of 2 among 4 columns
@@ -64,16 +64,16 @@ gap-stray f = let e : _≡_ {A = ℕ} 1 0 = f 0 1 (lit< tt) (lit< tt) refl in om
 abbrev gapDraws : List ℕ
 gapDraws = 1 ∷ 2 ∷ 3 ∷ 4 ∷ 5 ∷ 6 ∷ 7 ∷ 8 ∷ 9 ∷ []
 
--- no row fails, and the honest words are refused with 29 all the same: no segment value tells of this bit
-pub gap-refused : verdict gapped (0 ∷ 0 ∷ 0 ∷ []) (proverWords gapped gapBatch (0 ∷ 0 ∷ 0 ∷ []) gapDraws) gapDraws ≡ 29
+-- no row fails, and the honest proof is refused with 29 all the same: no segment value tells of this bit
+pub gap-refused : verdict gapped (0 ∷ 0 ∷ 0 ∷ []) (proverProof gapped gapBatch (0 ∷ 0 ∷ 0 ∷ []) gapDraws) gapDraws ≡ 29
 unfolding log₂ halvings _⊕_ _⊗_ sumTimes timesX tabulate eval eqFactor eqAt eqTable dot mle line insertZero bindVar
     total checkSum holds running eqPoints at₀ at₁ slope outerEnd innerEnd innerSums innerMessage nextVar coefficient₀
     coefficient₁ coefficient₂ weighted timesEq outerMessage dropVar outerNext outerFold outerStart outerMessages
     innerMessages sumBelow blocks sumOver rowTotal share timesAt times transpose mleTable bitOf assignment foldedAt folded
     claimValue nextMultiple offsetsFrom offsets binMessages fldMessages terminals innerRounds valueZ segmentValues drawsOf
     loginPoint lowPoint topElement roundHolds innerClaim combined combinedTable segmentSum sharedChecks rowChecks terminalChecks
-    innerChecks identityCheck checks firstRefusal verdict trueValue joined inTurn trueValues productTable batchProducts outerRounds
-    terminalValues foldedZ honestWords proverWords
+    innerChecks identityCheck checks firstFailure verdict trueValue joined interleaved trueValues productTable batchProducts outerRounds
+    terminalValues foldedZ honestProof proverProof
 gap-refused = refl
 
 -- ---- a bad draw: m = 2, q = 1, the bin row 1 1 = 0, which no batch keeps, and no segment
@@ -107,7 +107,7 @@ pub lie-answers : map (verdict lie [] lieWords) (zeros ∷ others ∷ []) ≡ 0 
 unfolding log₂ halvings _⊕_ _⊗_ sumTimes timesX tabulate eval eqFactor eqAt eqTable dot mle total checkSum holds running
     eqPoints outerEnd innerEnd sumOver rowTotal share timesAt times transpose mleTable nextMultiple offsetsFrom offsets
     binMessages fldMessages terminals innerRounds valueZ segmentValues drawsOf loginPoint lowPoint topElement roundHolds
-    innerClaim combined combinedTable segmentSum sharedChecks rowChecks terminalChecks innerChecks identityCheck checks firstRefusal
+    innerClaim combined combinedTable segmentSum sharedChecks rowChecks terminalChecks innerChecks identityCheck checks firstFailure
     verdict
 lie-answers = refl
 

@@ -17,7 +17,7 @@ use Rattle.magnetar_layout.specs.Layout.{nextMultiple, offsetsFrom, offsets, en
 use Rattle.magnetar_protocol.specs.Run.{ClaimsTrue}
 use Rattle.magnetar_protocol.specs.RunSizes.{SizedRelation, SizedBatch, SizedRun}
 use Rattle.magnetar_protocol.specs.Soundness.{NoBitOutside, BadDraw}
-use Rattle.magnetar_protocol.specs.Prover.{proverWords, CompleteRun}
+use Rattle.magnetar_protocol.specs.Prover.{proverProof, CompleteRun}
 use Rattle.magnetar_protocol.proofs.HonestBelow.{elements-of}
 use Rattle.magnetar_protocol.proofs.Soundness.{soundness}
 use Rattle.magnetar_protocol.proofs.Completeness.{prover-sized, completeness}
@@ -140,12 +140,12 @@ small-laid u zero h k o = absurd (false≢true o)
 small-laid u (suc zero) h k o = absurd (false≢true o)
 small-laid u (suc (suc y)) h k o = absurd (omega arith)
 
--- so the honest words of this batch are accepted, and the claims are true
+-- so the honest proof of this batch are accepted, and the claims are true
 pub small-complete : CompleteRun small smallBatch (5 ∷ []) smallDraws
 small-complete = completeness small smallBatch (5 ∷ []) smallDraws small-sized small-good small-laid
 
 -- and the theorem on an accepted run speaks of these words: all that it draws holds of them
-pub small-sound : Good small smallBatch (5 ∷ []) ⊎ BadDraw small smallBatch (5 ∷ []) (proverWords small smallBatch (5 ∷ []) smallDraws) smallDraws
-small-sound = soundness small smallBatch (5 ∷ []) (proverWords small smallBatch (5 ∷ []) smallDraws) smallDraws
+pub small-sound : Good small smallBatch (5 ∷ []) ⊎ BadDraw small smallBatch (5 ∷ []) (proverProof small smallBatch (5 ∷ []) smallDraws) smallDraws
+small-sound = soundness small smallBatch (5 ∷ []) (proverProof small smallBatch (5 ∷ []) smallDraws) smallDraws
     (prover-sized small smallBatch (5 ∷ []) smallDraws small-sized) (small-complete .accepted) small-laid
     (subst (ClaimsTrue small smallBatch) (sym (small-complete .same-claims)) (small-complete .true-claims))

@@ -24,9 +24,9 @@ use Rattle.magnetar_layout.specs.Layout.{nextMultiple, offsetsFrom, offsets}
 use Rattle.magnetar_protocol.specs.Shape.{proofElements}
 use Rattle.magnetar_protocol.specs.Proof.{binMessages, fldMessages, terminals, innerRounds, valueZ, segmentValues}
 use Rattle.magnetar_protocol.specs.Draws.{drawsOf, loginPoint, lowPoint, topElement}
-use Rattle.magnetar_protocol.specs.Checks.{roundHolds, innerClaim, combined, segmentSum, sharedChecks, rowChecks, terminalChecks, innerChecks, identityCheck, checks, firstRefusal}
+use Rattle.magnetar_protocol.specs.Checks.{roundHolds, innerClaim, combined, segmentSum, sharedChecks, rowChecks, terminalChecks, innerChecks, identityCheck, checks, firstFailure}
 use Rattle.magnetar_protocol.specs.Run.{verdict, trueValue}
-use Rattle.magnetar_protocol.specs.Prover.{joined, inTurn, trueValues, productTable, outerRounds, terminalValues, foldedZ, honestWords, proverWords}
+use Rattle.magnetar_protocol.specs.Prover.{joined, interleaved, trueValues, productTable, outerRounds, terminalValues, foldedZ, honestProof, proverProof}
 
 -- ---- m = 2, q = 1, one empty row in each matrix, no segment
 abbrev empty : Matrix
@@ -46,13 +46,13 @@ pub ten : proofElements least ≡ 10
 unfolding log₂ halvings
 ten = refl
 
-pub least-words : proverWords least ((0 ∷ []) ∷ []) [] draws ≡ 0 ∷ 0 ∷ 0 ∷ 0 ∷ 0 ∷ 0 ∷ 0 ∷ 0 ∷ 0 ∷ 7 ∷ []
+pub least-words : proverProof least ((0 ∷ []) ∷ []) [] draws ≡ 0 ∷ 0 ∷ 0 ∷ 0 ∷ 0 ∷ 0 ∷ 0 ∷ 0 ∷ 0 ∷ 7 ∷ []
 unfolding log₂ halvings _⊕_ _⊗_ sumTimes timesX tabulate eqFactor eqAt eqTable dot mle line insertZero bindVar at₀ at₁
     slope innerSums innerMessage nextVar coefficient₀ coefficient₁ coefficient₂ weighted timesEq outerMessage dropVar
     outerNext outerFold outerStart outerMessages innerMessages sumBelow blocks sumOver rowTotal share timesAt times transpose
     mleTable bitOf assignment foldedAt folded claimValue nextMultiple offsetsFrom offsets drawsOf loginPoint lowPoint
-    topElement combined combinedTable trueValue joined inTurn trueValues productTable batchProducts outerRounds terminalValues foldedZ honestWords
-    proverWords
+    topElement combined combinedTable trueValue joined interleaved trueValues productTable batchProducts outerRounds terminalValues foldedZ honestProof
+    proverProof
 least-words = refl
 
 -- accepted; and with one bit of v_z flipped refused with 29
@@ -60,7 +60,7 @@ pub least-accepted : verdict least [] (0 ∷ 0 ∷ 0 ∷ 0 ∷ 0 ∷ 0 ∷ 0 ∷
 unfolding log₂ halvings _⊕_ _⊗_ sumTimes timesX tabulate eval eqFactor eqAt eqTable dot mle total checkSum holds running
     eqPoints outerEnd innerEnd sumOver rowTotal share timesAt times transpose mleTable nextMultiple offsetsFrom offsets
     binMessages fldMessages terminals innerRounds valueZ segmentValues drawsOf loginPoint lowPoint topElement roundHolds
-    innerClaim combined combinedTable segmentSum sharedChecks rowChecks terminalChecks innerChecks identityCheck checks firstRefusal
+    innerClaim combined combinedTable segmentSum sharedChecks rowChecks terminalChecks innerChecks identityCheck checks firstFailure
     verdict
 least-accepted = refl
 
@@ -68,7 +68,7 @@ pub least-refused : verdict least [] (0 ∷ 0 ∷ 0 ∷ 0 ∷ 0 ∷ 0 ∷ 0 ∷ 
 unfolding log₂ halvings _⊕_ _⊗_ sumTimes timesX tabulate eval eqFactor eqAt eqTable dot mle total checkSum holds running
     eqPoints outerEnd innerEnd sumOver rowTotal share timesAt times transpose mleTable nextMultiple offsetsFrom offsets
     binMessages fldMessages terminals innerRounds valueZ segmentValues drawsOf loginPoint lowPoint topElement roundHolds
-    innerClaim combined combinedTable segmentSum sharedChecks rowChecks terminalChecks innerChecks identityCheck checks firstRefusal
+    innerClaim combined combinedTable segmentSum sharedChecks rowChecks terminalChecks innerChecks identityCheck checks firstFailure
     verdict
 least-refused = refl
 
@@ -92,15 +92,15 @@ smallDraws = 17 ∷ 35 ∷ 70 ∷ 5 ∷ 6 ∷ 7 ∷ 8 ∷ 9 ∷ 10 ∷ 11 ∷ 12
 abbrev pub smallBatch : List (List ℕ)
 smallBatch = (1 ∷ 0 ∷ []) ∷ (1 ∷ 1 ∷ []) ∷ []
 
--- the honest words, with 1 added to element j
+-- the honest proof, with 1 added to element j
 abbrev flipped : ℕ → List ℕ
 flipped j =
-    set (proverWords small smallBatch (5 ∷ []) smallDraws) j (getD (proverWords small smallBatch (5 ∷ []) smallDraws) j 0 ⊕ 1)
+    set (proverProof small smallBatch (5 ∷ []) smallDraws) j (getD (proverProof small smallBatch (5 ∷ []) smallDraws) j 0 ⊕ 1)
 
 abbrev answer : ℕ → ℕ
 answer j = verdict small (5 ∷ []) (flipped j) smallDraws
 
--- one element of the honest words changed: each of 21 to 29 is met
+-- one element of the honest proof changed: each of 21 to 29 is met
 pub changed : map answer (0 ∷ 1 ∷ 4 ∷ 5 ∷ 8 ∷ 9 ∷ 12 ∷ 13 ∷ 18 ∷ 21 ∷ 22 ∷ 23 ∷ 25 ∷ 28 ∷ 29 ∷ [])
     ≡ 23 ∷ 21 ∷ 24 ∷ 22 ∷ 25 ∷ 23 ∷ 26 ∷ 24 ∷ 25 ∷ 26 ∷ 27 ∷ 27 ∷ 28 ∷ 28 ∷ 29 ∷ []
 unfolding log₂ halvings _⊕_ _⊗_ sumTimes timesX tabulate eval eqFactor eqAt eqTable dot mle line insertZero bindVar
@@ -109,6 +109,6 @@ unfolding log₂ halvings _⊕_ _⊗_ sumTimes timesX tabulate eval eqFactor eqA
     innerMessages sumBelow blocks sumOver rowTotal share timesAt times transpose mleTable bitOf assignment foldedAt folded
     claimValue nextMultiple offsetsFrom offsets binMessages fldMessages terminals innerRounds valueZ segmentValues drawsOf
     loginPoint lowPoint topElement roundHolds innerClaim combined combinedTable segmentSum sharedChecks rowChecks terminalChecks
-    innerChecks identityCheck checks firstRefusal verdict trueValue joined inTurn trueValues productTable batchProducts outerRounds
-    terminalValues foldedZ honestWords proverWords
+    innerChecks identityCheck checks firstFailure verdict trueValue joined interleaved trueValues productTable batchProducts outerRounds
+    terminalValues foldedZ honestProof proverProof
 changed = refl

@@ -6,7 +6,7 @@ use mathlib.Core.List.{List, [], _∷_, _++_}
 use Prim.Native.Nat.{ℕ, _<_}
 use native.Mathlib.Omega.{arith}
 use borrow.Author.Tests.{ne-eqb}
-use Rattle.magnetar_protocol.specs.Checks.{Check, firstRefusal, firstStop}
+use Rattle.magnetar_protocol.specs.Checks.{Check, firstFailure, firstStop}
 use Rattle.magnetar_protocol.proofs.Phases.{Numbered}
 use Rattle.magnetar_protocol.specs.declared.first.Found.{Found}
 use Rattle.magnetar_protocol.specs.Found.{firstFound}
@@ -48,12 +48,12 @@ after-two f c e = refl
 
 -- from the start, they find what the definition says
 pub finds : (cs : List Check) → Numbered cs → after nothing cs ≡ firstFound cs
-unfolding firstFound firstRefusal firstStop
+unfolding firstFound firstFailure firstStop
 finds [] h = after-none nothing
 finds (c ∷ cs) h = after-cons nothing c cs ∙ go (c .passes) (c .refusal) (c .events) (h .0) (finds cs (h .1))
   where
-    go : (b : Bool) (n e : ℕ) → 0 < n → after nothing cs ≡ record { code = firstRefusal cs; events = firstStop cs 0 }
-        → after (nextFound nothing (check n b e)) cs ≡ record { code = cond b (firstRefusal cs) n; events = cond b (firstStop cs 0) e }
+    go : (b : Bool) (n e : ℕ) → 0 < n → after nothing cs ≡ record { code = firstFailure cs; events = firstStop cs 0 }
+        → after (nextFound nothing (check n b e)) cs ≡ record { code = cond b (firstFailure cs) n; events = cond b (firstStop cs 0) e }
     go true n e p k = ap (λ (g : Found). after g cs) (next-pass nothing n e true refl refl) ∙ k
     go false n e p k =
         ap (λ (g : Found). after g cs) (next-fail nothing n e false refl refl) ∙ after-kept (record { code = n; events = e }) cs (λ z. omega arith)

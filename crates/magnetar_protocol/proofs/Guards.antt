@@ -11,11 +11,11 @@ use lib.Dec.{ltb}
 use lib.ListN.{length}
 use borrow.Author.Tests.{not-false, ltb-false, ne-eqb}
 use Rattle.magnetar_field.specs.Sizes.{log₂}
-use Rattle.magnetar_layout.specs.Tests.{note, noted, isSize, sizeTests, rowsTests, layoutTests, mostColumns, mostLogins, mostRows, mostBatchRows, mostSegments, Sized}
+use Rattle.magnetar_layout.specs.Tests.{orRefuse, firstRefusal, isSize, sizeTests, rowsTests, layoutTests, mostColumns, mostLogins, mostRows, mostBatchRows, mostSegments, Sized}
 use Rattle.magnetar_layout.specs.Entries.{layoutRefusal}
 use Rattle.magnetar_layout.specs.Layout.{LayoutFits}
 use Rattle.magnetar_layout.proofs.Laid.{sound}
-use Rattle.magnetar_layout.proofs.Noted.{note-kept, note-clear, noted-clear, noted-front, noted-late}
+use Rattle.magnetar_layout.proofs.FirstRefusal.{note-kept, note-clear, first-refusal-clear, first-refusal-front, first-refusal-late}
 use Rattle.magnetar_layout.proofs.SizeLaws.{sized, not-bad}
 use Rattle.magnetar_protocol.specs.RunTests.{runTests, outlineTests}
 use Rattle.magnetar_protocol.specs.Scratch.{verifierScratch, proverScratch, verifierScratchWords, proverScratchWords}
@@ -26,17 +26,17 @@ pub record Logins (m q : ℕ) : Type 0 where
   pub size : isSize 2 mostColumns m ≡ true
   pub logins : Sized 1 mostLogins q
 
-pub logins-given : (m q z : ℕ) → z ≡ noted 0 (sizeTests m q) → z ≡ 0 → Logins m q
+pub logins-given : (m q z : ℕ) → z ≡ firstRefusal 0 (sizeTests m q) → z ≡ 0 → Logins m q
 logins-given m q z e h =
-    let k = noted-clear 0 (sizeTests m q) refl (sym e ∙ h) .1 in
+    let k = first-refusal-clear 0 (sizeTests m q) refl (sym e ∙ h) .1 in
     record { columns = not-bad (k .0); size = not-false (isSize 2 mostColumns m) (k .0); logins = not-bad (k .1 .0) }
 
 -- n rows for q logins, after an earlier number z: y is what the rows alone give
-module _ (z q n y : ℕ) (e : y ≡ note 4 (not (isSize 1 mostRows n)) z) where
-  pub rows-refused : (y ≡ 0 → ⊥) → y ≡ noted z (rowsTests q n)
+module _ (z q n y : ℕ) (e : y ≡ orRefuse 4 (not (isSize 1 mostRows n)) z) where
+  pub rows-refused : (y ≡ 0 → ⊥) → y ≡ firstRefusal z (rowsTests q n)
   rows-refused h = sym (rw (← e) (note-kept 4 (ltb mostBatchRows (q * n)) y h))
 
-  pub rows-passed : (r : ℕ) → y ≡ 0 → r ≡ note 4 (ltb mostBatchRows (q * n)) 0 → r ≡ noted z (rowsTests q n)
+  pub rows-passed : (r : ℕ) → y ≡ 0 → r ≡ orRefuse 4 (ltb mostBatchRows (q * n)) 0 → r ≡ firstRefusal z (rowsTests q n)
   rows-passed r h k = k ∙ rw (← e, h)
 
   pub rows-given : y ≡ 0 → n ≤ mostRows
@@ -54,9 +54,9 @@ pub record Counts (m q b f : ℕ) : Type 0 where
   pub fld : Sized 1 mostRows f
   pub fld-total : q * f ≤ mostBatchRows
 
-pub counts-given : (m q b f z : ℕ) → z ≡ noted 0 (runTests m q b f) → z ≡ 0 → Counts m q b f
+pub counts-given : (m q b f z : ℕ) → z ≡ firstRefusal 0 (runTests m q b f) → z ≡ 0 → Counts m q b f
 counts-given m q b f z e h =
-    let k = noted-clear 0 (runTests m q b f) refl (sym e ∙ h) .1 in
+    let k = first-refusal-clear 0 (runTests m q b f) refl (sym e ∙ h) .1 in
     record {
       columns = not-bad (k .0);
       size = not-false (isSize 2 mostColumns m) (k .0);
@@ -80,18 +80,18 @@ even-size m z = go (log₂ m) (z .power)
         omega (arith, q, h)
 
 -- where the columns are good, the layout's refusal is that of its own tests
-pub layout-own : (m : ℕ) (ns : List ℕ) → isSize 2 mostColumns m ≡ true → layoutRefusal (m / 2) ns ≡ noted 0 (layoutTests (m / 2) ns)
-unfolding layoutRefusal note
+pub layout-own : (m : ℕ) (ns : List ℕ) → isSize 2 mostColumns m ≡ true → layoutRefusal (m / 2) ns ≡ firstRefusal 0 (layoutTests (m / 2) ns)
+unfolding layoutRefusal orRefuse
 layout-own m ns h = rw (even-size m (sized 2 mostColumns m h), h)
 
 module _ (m q b f : ℕ) (ns : List ℕ) where
-  pub outline-size : (z : ℕ) → z ≡ noted 0 (runTests m q b f) → (z ≡ 0 → ⊥) → z ≡ noted 0 (outlineTests m q b f ns)
-  outline-size z e h = noted-front (runTests m q b f) (layoutTests (m / 2) ns) z e h
+  pub outline-size : (z : ℕ) → z ≡ firstRefusal 0 (runTests m q b f) → (z ≡ 0 → ⊥) → z ≡ firstRefusal 0 (outlineTests m q b f ns)
+  outline-size z e h = first-refusal-front (runTests m q b f) (layoutTests (m / 2) ns) z e h
 
-  pub outline-layout : (z y : ℕ) → z ≡ noted 0 (runTests m q b f) → z ≡ 0 → y ≡ layoutRefusal (m / 2) ns
-      → y ≡ noted 0 (outlineTests m q b f ns)
+  pub outline-layout : (z y : ℕ) → z ≡ firstRefusal 0 (runTests m q b f) → z ≡ 0 → y ≡ layoutRefusal (m / 2) ns
+      → y ≡ firstRefusal 0 (outlineTests m q b f ns)
   outline-layout z y e h g =
-      noted-late (runTests m q b f) (layoutTests (m / 2) ns) z y e h (g ∙ layout-own m ns (counts-given m q b f z e h .size))
+      first-refusal-late (runTests m q b f) (layoutTests (m / 2) ns) z y e h (g ∙ layout-own m ns (counts-given m q b f z e h .size))
 
   -- what they leave
   pub record Outlined : Type 0 where
@@ -99,9 +99,9 @@ module _ (m q b f : ℕ) (ns : List ℕ) where
     pub layout : LayoutFits (m / 2) ns
     pub few : length ns ≤ mostSegments
 
-  pub outlined-given : (z : ℕ) → z ≡ noted 0 (outlineTests m q b f ns) → z ≡ 0 → Outlined
+  pub outlined-given : (z : ℕ) → z ≡ firstRefusal 0 (outlineTests m q b f ns) → z ≡ 0 → Outlined
   outlined-given z e h =
-      let k = noted-clear 0 (outlineTests m q b f ns) refl (sym e ∙ h) .1 in
+      let k = first-refusal-clear 0 (outlineTests m q b f ns) refl (sym e ∙ h) .1 in
       let a = k .1 .1 .1 .1 .1 .1 in
       let c = clear-none (k .0) (k .1 .0) (k .1 .1 .0) (k .1 .1 .1 .0) (k .1 .1 .1 .1 .0) (k .1 .1 .1 .1 .1 .0) in
       let s = counts-given m q b f 0 (sym c) refl in
@@ -112,14 +112,14 @@ module _ (m q b f : ℕ) (ns : List ℕ) where
       }
     where
       clear-none : {u v w x y z : Bool} → u ≡ false → v ≡ false → w ≡ false → x ≡ false → y ≡ false → z ≡ false
-          → noted 0 ((1, u) ∷ (1, v) ∷ (4, w) ∷ (4, x) ∷ (4, y) ∷ (4, z) ∷ []) ≡ 0
-      clear-none p r t u v w = unfold note in rw (p, r, t, u, v, w)
+          → firstRefusal 0 ((1, u) ∷ (1, v) ∷ (4, w) ∷ (4, x) ∷ (4, y) ∷ (4, z) ∷ []) ≡ 0
+      clear-none p r t u v w = unfold orRefuse in rw (p, r, t, u, v, w)
 
-      layout-none : {u v w : Bool} → u ≡ false → v ≡ false → w ≡ false → noted 0 ((8, u) ∷ (9, v) ∷ (10, w) ∷ []) ≡ 0
-      layout-none p r t = unfold note in rw (p, r, t)
+      layout-none : {u v w : Bool} → u ≡ false → v ≡ false → w ≡ false → firstRefusal 0 ((8, u) ∷ (9, v) ∷ (10, w) ∷ []) ≡ 0
+      layout-none p r t = unfold orRefuse in rw (p, r, t)
 
 -- ---- how many words of scratch, where the sizes give the number z
-module _ (m q b f z : ℕ) (e : z ≡ noted 0 (runTests m q b f)) where
+module _ (m q b f z : ℕ) (e : z ≡ firstRefusal 0 (runTests m q b f)) where
   pub verifier-refused : (z ≡ 0 → ⊥) → record { code = z; words = 0 } ≡ verifierScratchWords m q b f
   unfolding verifierScratchWords
   verifier-refused h = rw (← e, ne-eqb z 0 h)
@@ -137,10 +137,10 @@ module _ (m q b f z : ℕ) (e : z ≡ noted 0 (runTests m q b f)) where
   prover-given h n k = rw (← e, h, k)
 
 -- where no size is refused
-pub verifier-within : (m q b f : ℕ) → noted 0 (runTests m q b f) ≡ 0 → verifierScratchWords m q b f .words ≡ verifierScratch m b f
+pub verifier-within : (m q b f : ℕ) → firstRefusal 0 (runTests m q b f) ≡ 0 → verifierScratchWords m q b f .words ≡ verifierScratch m b f
 unfolding verifierScratchWords
 verifier-within m q b f h = rw h
 
-pub prover-within : (m q b f : ℕ) → noted 0 (runTests m q b f) ≡ 0 → proverScratchWords m q b f .words ≡ proverScratch m q b f
+pub prover-within : (m q b f : ℕ) → firstRefusal 0 (runTests m q b f) ≡ 0 → proverScratchWords m q b f .words ≡ proverScratch m q b f
 unfolding proverScratchWords
 prover-within m q b f h = rw h

@@ -1,4 +1,4 @@
--- The honest words are elements.
+-- The honest proof is elements.
 -- Assumes nothing.
 use mathlib.Core.List.{List, [], _∷_, _++_}
 use Prim.Native.Nat.{ℕ, zero, suc, _^_, _<_}
@@ -19,7 +19,7 @@ use Rattle.magnetar_protocol.specs.Draws.{Draws}
 use Rattle.magnetar_protocol.specs.Checks.{combined}
 use Rattle.magnetar_protocol.specs.Run.{trueValue}
 use Rattle.magnetar_protocol.specs.RunSizes.{Elements}
-use Rattle.magnetar_protocol.specs.Prover.{joined, inTurn, outerRounds, binRounds, fldRounds, terminalValues, foldedZ, trueValues, honestWords}
+use Rattle.magnetar_protocol.specs.Prover.{joined, interleaved, outerRounds, binRounds, fldRounds, terminalValues, foldedZ, trueValues, honestProof}
 use Rattle.magnetar_protocol.proofs.Elements.{dot-lt}
 
 -- ---- lists
@@ -47,11 +47,11 @@ unfolding joined
 joined-below [] h = tt
 joined-below (m ∷ ms) h = both m (joined ms) (h .0) (joined-below ms (h .1))
 
-pub inTurn-below : (ms ns : List (List ℕ)) → MessagesBelow ms → MessagesBelow ns → AllBelow (2 ^ 128) (inTurn ms ns)
-unfolding inTurn
-inTurn-below [] ns h k = tt
-inTurn-below (m ∷ ms) [] h k = tt
-inTurn-below (m ∷ ms) (n ∷ ns) h k = both m (n ++ inTurn ms ns) (h .0) (both n (inTurn ms ns) (k .0) (inTurn-below ms ns (h .1) (k .1)))
+pub interleaved-below : (ms ns : List (List ℕ)) → MessagesBelow ms → MessagesBelow ns → AllBelow (2 ^ 128) (interleaved ms ns)
+unfolding interleaved
+interleaved-below [] ns h k = tt
+interleaved-below (m ∷ ms) [] h k = tt
+interleaved-below (m ∷ ms) (n ∷ ns) h k = both m (n ++ interleaved ms ns) (h .0) (both n (interleaved ms ns) (k .0) (interleaved-below ms ns (h .1) (k .1)))
 
 pub tabulate-below : (f : ℕ → ℕ) (n : ℕ) → ((i : ℕ) → f i < 2 ^ 128) → AllBelow (2 ^ 128) (tabulate f n)
 unfolding tabulate
@@ -108,13 +108,13 @@ module _ (r : Relation) (b : Batch) (x : List ℕ) (D : Draws) where
   terminals-on = both (terminalValues r b x D) (joined (innerMessages (combined r D) (foldedZ r b x D) (D .inner))
       ++ (mle (foldedZ r b x D) (D .inner) ∷ trueValues r b D)) terminals-below inner-on
 
-  pub honest-elements : Elements (honestWords r b x D)
-  unfolding honestWords
+  pub honest-elements : Elements (honestProof r b x D)
+  unfolding honestProof
   honest-elements =
-      elements-of (honestWords r b x D)
-      (both (inTurn (take (logLogins r) bin) (take (logLogins r) fld))
+      elements-of (honestProof r b x D)
+      (both (interleaved (take (logLogins r) bin) (take (logLogins r) fld))
       (joined (drop (logLogins r) bin) ++ (joined (drop (logLogins r) fld) ++ later))
-      (inTurn-below (take (logLogins r) bin) (take (logLogins r) fld) (take-below (logLogins r) bin bin-below)
+      (interleaved-below (take (logLogins r) bin) (take (logLogins r) fld) (take-below (logLogins r) bin bin-below)
       (take-below (logLogins r) fld fld-below))
       (both (joined (drop (logLogins r) bin)) (joined (drop (logLogins r) fld) ++ later)
       (joined-below (drop (logLogins r) bin) (drop-below (logLogins r) bin bin-below))

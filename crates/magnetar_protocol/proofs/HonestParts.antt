@@ -1,4 +1,4 @@
--- The parts of the honest words are the honest messages and values.
+-- The parts of the honest proof is the honest messages and values.
 -- Assumes nothing.
 use mathlib.Core.Path.{_≡_, refl, sym, ap, ap₂, _∙_}
 use mathlib.Core.List.{List, [], _∷_, _++_}
@@ -19,9 +19,9 @@ use Rattle.magnetar_protocol.specs.Shape.{logLogins, logBin, logFld, log
 use Rattle.magnetar_protocol.specs.Proof.{part, binMessages, fldMessages, terminal, innerRounds, valueZ, segmentValues}
 use Rattle.magnetar_protocol.specs.Draws.{Draws}
 use Rattle.magnetar_protocol.specs.Checks.{combined}
-use Rattle.magnetar_protocol.specs.Prover.{joined, inTurn, outerRounds, binRounds, fldRounds, terminalValues, foldedZ, trueValues, honestWords}
+use Rattle.magnetar_protocol.specs.Prover.{joined, interleaved, outerRounds, binRounds, fldRounds, terminalValues, foldedZ, trueValues, honestProof}
 use Rattle.magnetar_protocol.proofs.SizeFacts.{Cut}
-use Rattle.magnetar_protocol.proofs.Chunks.{Each, each-take, each-drop, joined-length, inTurn-length, past, chunks, first-turns, second-turns}
+use Rattle.magnetar_protocol.proofs.Chunks.{Each, each-take, each-drop, joined-length, interleaved-length, past, chunks, first-turns, second-turns}
 
 -- ---- sizes of messages
 pub outer-each : (S : Outer) (rs : List ℕ) → Each 4 (outerMessages S rs)
@@ -55,7 +55,7 @@ module _ (r : Relation) (b : Batch) (x : List ℕ) (D : Draws) (C : Cut r D) whe
   inn = innerMessages (combined r D) (foldedZ r b x D) (D .inner)
 
   abbrev W : List ℕ
-  W = honestWords r b x D
+  W = honestProof r b x D
 
   abbrev s : ℕ
   s = logLogins r
@@ -107,13 +107,13 @@ module _ (r : Relation) (b : Batch) (x : List ℕ) (D : Draws) (C : Cut r D) whe
   abbrev end₁ : List ℕ
   end₁ = joined (drop s bin) ++ end₂
 
-  whole : W ≡ inTurn (take s bin) (take s fld) ++ end₁
-  unfolding honestWords
+  whole : W ≡ interleaved (take s bin) (take s fld) ++ end₁
+  unfolding honestProof
   whole = refl
 
   at₁ : drop (8 * s) W ≡ end₁
-  at₁ = ap (drop (8 * s)) whole ∙ drop-at (inTurn (take s bin) (take s fld)) end₁ (8 * s)
-      (inTurn-length (take s bin) (take s fld) (each-take 4 s bin bin-each) (each-take 4 s fld fld-each) (fld₀ ∙ sym bin₀)
+  at₁ = ap (drop (8 * s)) whole ∙ drop-at (interleaved (take s bin) (take s fld)) end₁ (8 * s)
+      (interleaved-length (take s bin) (take s fld) (each-take 4 s bin bin-each) (each-take 4 s fld fld-each) (fld₀ ∙ sym bin₀)
       ∙ ap (λ (k : ℕ). 8 * k) bin₀)
 
   at₂ : drop (8 * s + 4 * logBin r) W ≡ end₂

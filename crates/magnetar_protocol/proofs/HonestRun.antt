@@ -1,4 +1,4 @@
--- The honest words are those of the theory.
+-- The honest proof is those of the theory.
 -- Assumes nothing.
 use mathlib.Core.Path.{_≡_, refl, sym, ap, ap₂, _∙_}
 use mathlib.Core.List.{List, _++_, map, reverse}
@@ -24,7 +24,7 @@ use Rattle.magnetar_theory.specs.EqTable.{eqTable as eqTableE, dot as dotE}
 use Rattle.magnetar_theory.specs.Matrix.{applyAll}
 use Rattle.magnetar_theory.specs.Outer.{start}
 use Rattle.magnetar_theory.specs.Inner.{zipInner}
-use Rattle.magnetar_theory.specs.Run.{vectors, begin, combo, folded as foldedE, inner, honestWords as honestE}
+use Rattle.magnetar_theory.specs.Run.{vectors, begin, combo, folded as foldedE, inner, honestProof as honestE}
 use Rattle.magnetar_theory.specs.Gf128.{Element, element, gf128}
 use Rattle.magnetar_protocol.specs.Shape.{logLogins, logBin, logFld, logCols, proofElements}
 use Rattle.magnetar_protocol.specs.Proof.{terminal, segmentValues}
@@ -32,8 +32,8 @@ use Rattle.magnetar_protocol.specs.Draws.{Draws, loginPoint}
 use Rattle.magnetar_protocol.specs.Checks.{combined}
 use Rattle.magnetar_protocol.specs.Run.{trueValue}
 use Rattle.magnetar_protocol.specs.RunSizes.{SizedSystem, SizedRelation, SizedBatch}
-use Rattle.magnetar_protocol.specs.Theory.{els, logHalf, entriesE, systemE, relationE, publicE, batchE, drawsE, wordsE}
-use Rattle.magnetar_protocol.specs.Prover.{productTable, outerRounds, terminalValues, foldedZ, trueValues, honestWords}
+use Rattle.magnetar_protocol.specs.Theory.{els, logHalf, entriesE, systemE, relationE, publicE, batchE, drawsE, proofE}
+use Rattle.magnetar_protocol.specs.Prover.{productTable, outerRounds, terminalValues, foldedZ, trueValues, honestProof}
 use Rattle.magnetar_protocol.proofs.Elements.{map-append, map-reverse}
 use Rattle.magnetar_protocol.proofs.Pieces.{bin-are, fld-are, inner-are, vz-is, terminal-is}
 use Rattle.magnetar_protocol.proofs.SizeFacts.{cols-suc, Cut, inner-is}
@@ -46,7 +46,7 @@ use Rattle.magnetar_protocol.proofs.HonestTables.{product-is, product-l
 module _ (r : Relation) (b : Batch) (x : List ℕ) (D : Draws) (R : SizedRelation r) (B : SizedBatch r b) (C : Cut r D)
     (px : suc (length x) ≡ r .m / 2) where
   abbrev W : List ℕ
-  W = honestWords r b x D
+  W = honestProof r b x D
 
   abbrev zs : List (List Element)
   zs = vectors gf128 (batchE b) (publicE x)
@@ -109,7 +109,7 @@ module _ (r : Relation) (b : Batch) (x : List ℕ) (D : Draws) (R : SizedRelatio
   long = honest-length r b x D C
 
   -- ---- all words
-  pub words-are : wordsE r W ≡ honestE gf128 (relationE r) (publicE x) (batchE b) (drawsE r D)
+  pub words-are : proofE r W ≡ honestE gf128 (relationE r) (publicE x) (batchE b) (drawsE r D)
   unfolding terminalValues
   words-are = λ i. record {
     binMs = (bin-are r W ∙ ap (map els) (bin-part r b x D C)

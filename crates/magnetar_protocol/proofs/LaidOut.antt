@@ -14,8 +14,8 @@ use Rattle.magnetar_layout.specs.Every.{every}
 use Rattle.magnetar_matrix.specs.Batch.{Relation, Batch, bitOf}
 use Rattle.magnetar_layout.specs.Layout.{nextMultiple, offsetsFrom, endFrom, offsets, layoutEnd, isLength, within, outside}
 use Rattle.magnetar_theory.specs.Tau.{Zeros}
-use Rattle.magnetar_theory.specs.Segment.{Segment, offset, Laid}
-use Rattle.magnetar_theory.specs.Run.{AllLaid}
+use Rattle.magnetar_theory.specs.Segment.{Segment, offset, ZeroOutside}
+use Rattle.magnetar_theory.specs.Run.{AllZeroOutside}
 use Rattle.magnetar_theory.specs.Gf128.{Element, element, gf128}
 use Rattle.magnetar_protocol.specs.Theory.{els, batchE, segmentsE}
 use Rattle.magnetar_protocol.specs.RunSizes.{SizedRelation, SizedBatch}
@@ -29,12 +29,12 @@ zeros-of (x ∷ t) h = (h 0 (omega arith), zeros-of t (λ i l. h (suc i) (omega 
 
 -- one segment more, of k columns from o on
 lay : (g : Segment) (gs : List Segment) (c n o k : ℕ) (w : List Element) → offset g ≡ o → 2 ^ g .logLen ≡ k → c ≤ o → o + k ≤ n
-    → Zeros gf128 (take (o - c) (drop c w)) → Laid gf128 (o + k) n gs w → Laid gf128 c n (g ∷ gs) w
+    → Zeros gf128 (take (o - c) (drop c w)) → ZeroOutside gf128 (o + k) n gs w → ZeroOutside gf128 c n (g ∷ gs) w
 lay g gs c n o k w eo ek h₁ h₂ h₃ h₄ = (
   rw eo h₁,
   rw (eo, ek) h₂,
   rw eo h₃,
-  subst₂ (λ (s t : ℕ). Laid gf128 (s + t) n gs w) (sym eo) (sym ek) h₄,
+  subst₂ (λ (s t : ℕ). ZeroOutside gf128 (s + t) n gs w) (sym eo) (sym ek) h₄,
 )
 
 -- a column behind the first segment, and one before it
@@ -55,7 +55,7 @@ gap c o w z =
 -- the login's bits w: zero from c on at every column that no segment from c on holds
 laid-from : (v n c : ℕ) (ns w : List ℕ) → every (isLength v) ns ≡ true → endFrom c ns ≤ n → length w ≤ n
     → ((y : ℕ) → c ≤ y → y < n → within (offsetsFrom c ns) ns y ≡ false → getD w y 0 ≡ 0)
-    → Laid gf128 c n (segmentsE (offsetsFrom c ns) ns) (els w)
+    → ZeroOutside gf128 c n (segmentsE (offsetsFrom c ns) ns) (els w)
 unfolding offsetsFrom endFrom within
 laid-from v n c [] w e f l z =
     zeros-of (drop c (els w)) (λ i h. getD-drop c (els w) i (element 0) ∙ els-at w (c + i)
@@ -76,7 +76,7 @@ laid-from v n c (k ∷ ns) w e f l z =
 logins-laid : (v n : ℕ) (ns : List ℕ) (b : Batch) → every (isLength v) ns ≡ true → endFrom 0 ns ≤ n
     → ((u : ℕ) → u < length b → length (getD b u []) ≤ n)
     → ((u y : ℕ) → u < length b → y < n → within (offsetsFrom 0 ns) ns y ≡ false → getD (getD b u []) y 0 ≡ 0)
-    → AllLaid gf128 n (segmentsE (offsetsFrom 0 ns) ns) (batchE b)
+    → AllZeroOutside gf128 n (segmentsE (offsetsFrom 0 ns) ns) (batchE b)
 logins-laid v n ns [] e f l z = tt
 logins-laid v n ns (w ∷ b) e f l z = (
   laid-from v n 0 ns w e f (l 0 (omega arith)) (λ y h₁ h₂ h₃. z 0 y (omega arith) h₂ h₃),
@@ -84,7 +84,7 @@ logins-laid v n ns (w ∷ b) e f l z = (
 )
 
 pub laid-out : (r : Relation) (b : Batch) → SizedRelation r → SizedBatch r b → NoBitOutside r b
-    → AllLaid gf128 (r .m / 2) (segmentsE (offsets (r .lengths)) (r .lengths)) (batchE b)
+    → AllZeroOutside gf128 (r .m / 2) (segmentsE (offsets (r .lengths)) (r .lengths)) (batchE b)
 unfolding offsets layoutEnd outside bitOf
 laid-out r b R B z =
     logins-laid (r .m / 2) (r .m / 2) (r .lengths) b (R .layout .lengths) (R .layout .ends)

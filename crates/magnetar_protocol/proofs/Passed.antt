@@ -10,7 +10,7 @@ use Rattle.magnetar_field.specs.Polynomial.{eval}
 use Rattle.magnetar_field.specs.Tabulate.{tabulate}
 use Rattle.magnetar_sumcheck_verifier.specs.Round.{holds, running}
 use Rattle.magnetar_sumcheck_verifier.proofs.Verifier.{passes}
-use Rattle.magnetar_protocol.specs.Checks.{Check, roundHolds, firstRefusal}
+use Rattle.magnetar_protocol.specs.Checks.{Check, roundHolds, firstFailure}
 
 -- ---- all rounds of one sum-check
 pub rounds-pass : (c : ℕ) (ms : List (List ℕ)) (rs : List ℕ) → length ms ≡ length rs
@@ -37,21 +37,21 @@ pass-rounds c (m ∷ ms) (r ∷ rs) h (suc i) k =
 
 -- ---- the first refusal, check by check
 module _ (k : ℕ) where
-  pub one-passes : (p : Bool) (n : ℕ) (rest : List Check) → firstRefusal (record { refusal = suc k; passes = p; events = n } ∷ rest) ≡ 0
-      → (p ≡ true) × (firstRefusal rest ≡ 0)
-  unfolding firstRefusal
+  pub one-passes : (p : Bool) (n : ℕ) (rest : List Check) → firstFailure (record { refusal = suc k; passes = p; events = n } ∷ rest) ≡ 0
+      → (p ≡ true) × (firstFailure rest ≡ 0)
+  unfolding firstFailure
   one-passes true n rest e = (refl, e)
   one-passes false n rest e = absurd (omega arith)
 
-  pub passes-one : (p : Bool) (n : ℕ) (rest : List Check) → p ≡ true → firstRefusal rest ≡ 0
-      → firstRefusal (record { refusal = suc k; passes = p; events = n } ∷ rest) ≡ 0
-  unfolding firstRefusal
+  pub passes-one : (p : Bool) (n : ℕ) (rest : List Check) → p ≡ true → firstFailure rest ≡ 0
+      → firstFailure (record { refusal = suc k; passes = p; events = n } ∷ rest) ≡ 0
+  unfolding firstFailure
   passes-one true n rest h e = e
   passes-one false n rest h e = absurd (let z : _≡_ {A = ℕ} 0 1 = cc in omega arith)
 
   pub all-pass : (f : ℕ → Bool) (g : ℕ → ℕ) (n : ℕ) (rest : List Check)
-      → firstRefusal (tabulate (λ i. record { refusal = suc k; passes = f i; events = g i }) n ++ rest) ≡ 0
-      → ((i : ℕ) → i < n → f i ≡ true) × (firstRefusal rest ≡ 0)
+      → firstFailure (tabulate (λ i. record { refusal = suc k; passes = f i; events = g i }) n ++ rest) ≡ 0
+      → ((i : ℕ) → i < n → f i ≡ true) × (firstFailure rest ≡ 0)
   unfolding tabulate
   all-pass f g zero rest e = ((λ i h. absurd (omega arith)), e)
   all-pass f g (suc n) rest e =
@@ -63,8 +63,8 @@ module _ (k : ℕ) where
       at f n a b zero h = a
       at f n a b (suc i) h = b i (omega arith)
 
-  pub pass-all : (f : ℕ → Bool) (g : ℕ → ℕ) (n : ℕ) (rest : List Check) → ((i : ℕ) → i < n → f i ≡ true) → firstRefusal rest ≡ 0
-      → firstRefusal (tabulate (λ i. record { refusal = suc k; passes = f i; events = g i }) n ++ rest) ≡ 0
+  pub pass-all : (f : ℕ → Bool) (g : ℕ → ℕ) (n : ℕ) (rest : List Check) → ((i : ℕ) → i < n → f i ≡ true) → firstFailure rest ≡ 0
+      → firstFailure (tabulate (λ i. record { refusal = suc k; passes = f i; events = g i }) n ++ rest) ≡ 0
   unfolding tabulate
   pass-all f g zero rest h e = e
   pass-all f g (suc n) rest h e =

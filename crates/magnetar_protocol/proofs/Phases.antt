@@ -15,7 +15,7 @@ use Rattle.magnetar_matrix.specs.Batch.{Relation}
 use Rattle.magnetar_protocol.specs.Shape.{logLogins, logBin, logFld, logCols, afterShared, afterBin, afterAlphas, afterInner}
 use Rattle.magnetar_protocol.specs.Draws.{Draws}
 use Rattle.magnetar_protocol.specs.Proof.{innerRounds, valueZ}
-use Rattle.magnetar_protocol.specs.Checks.{Check, roundHolds, innerClaim, combined, binRound, fldRound, firstRefusal, sharedChecks, rowChecks, terminalChecks, innerChecks}
+use Rattle.magnetar_protocol.specs.Checks.{Check, roundHolds, innerClaim, combined, binRound, fldRound, firstFailure, sharedChecks, rowChecks, terminalChecks, innerChecks}
 
 -- each refusal has a number
 abbrev pub Numbered : List Check → Type 0
@@ -36,10 +36,10 @@ numbered-tabulate k f g (suc n) = (omega arith, numbered-tabulate k (λ i. f (su
 abbrev pub orElse : ℕ → ℕ → ℕ
 orElse a b = cond (eqb a 0) b a
 
-pub first-append : (cs ds : List Check) → Numbered cs → firstRefusal (cs ++ ds) ≡ orElse (firstRefusal cs) (firstRefusal ds)
-unfolding firstRefusal
+pub first-append : (cs ds : List Check) → Numbered cs → firstFailure (cs ++ ds) ≡ orElse (firstFailure cs) (firstFailure ds)
+unfolding firstFailure
 first-append [] ds h = refl
-first-append (c ∷ cs) ds h = step (c .passes) (c .refusal) (firstRefusal (cs ++ ds)) (firstRefusal cs) (firstRefusal ds) (h .0)
+first-append (c ∷ cs) ds h = step (c .passes) (c .refusal) (firstFailure (cs ++ ds)) (firstFailure cs) (firstFailure ds) (h .0)
     (first-append cs ds (h .1))
   where
     step : (p : Bool) (n both a b : ℕ) → 0 < n → both ≡ orElse a b → cond p both n ≡ orElse (cond p a n) b

@@ -13,7 +13,7 @@ use Rattle.magnetar_theory.specs.Lists.{rounds}
 use Rattle.magnetar_theory.specs.Gf128.{element, gf128}
 use Rattle.magnetar_protocol.specs.Shape.{logLogins, logBin, logFld, logCols, beforeTerminals, beforeInner, beforeEnd}
 use Rattle.magnetar_protocol.specs.Proof.{binMessages, fldMessages, terminal, innerRounds, valueZ, segmentValues}
-use Rattle.magnetar_protocol.specs.Theory.{els, logHalf, wordsE}
+use Rattle.magnetar_protocol.specs.Theory.{els, logHalf, proofE}
 use Rattle.magnetar_protocol.proofs.Elements.{map-append, map-take, map-drop, els-at}
 
 -- c messages of n elements, the first at o, each st elements after the one before
@@ -32,7 +32,7 @@ rounds-are (suc c) st n o w g h =
     next i = omega (arith, mul-suc st i)
 
 module _ (r : Relation) (w : List ℕ) where
-  pub bin-are : (wordsE r w) .binMs ≡ map els (binMessages r w)
+  pub bin-are : (proofE r w) .binMs ≡ map els (binMessages r w)
   unfolding binMessages
   bin-are =
       ap₂ _++_ (rounds-are (logLogins r) 8 4 0 w (λ i. 8 * i) (λ i. omega arith))
@@ -40,7 +40,7 @@ module _ (r : Relation) (w : List ℕ) where
       ∙ sym (map-append els (tabulate (λ i. take 4 (drop (8 * i) w)) (logLogins r))
       (tabulate (λ i. take 4 (drop (8 * logLogins r + 4 * i) w)) (logBin r)))
 
-  pub fld-are : (wordsE r w) .fldMs ≡ map els (fldMessages r w)
+  pub fld-are : (proofE r w) .fldMs ≡ map els (fldMessages r w)
   unfolding fldMessages
   fld-are =
       ap₂ _++_ (rounds-are (logLogins r) 8 4 4 w (λ i. 8 * i + 4) (λ i. omega arith))
@@ -49,17 +49,17 @@ module _ (r : Relation) (w : List ℕ) where
       (tabulate (λ i. take 4 (drop (8 * logLogins r + 4 * logBin r + 4 * i) w)) (logFld r)))
 
   module _ (cols : logCols r ≡ suc (logHalf r)) where
-    pub inner-are : (wordsE r w) .innerMs ≡ map els (innerRounds r w)
+    pub inner-are : (proofE r w) .innerMs ≡ map els (innerRounds r w)
     unfolding innerRounds
     inner-are =
         ap (λ (c : ℕ). rounds gf128 c 3 3 (drop (beforeInner r) (els w))) (sym cols)
         ∙ rounds-are (logCols r) 3 3 (beforeInner r) w (λ i. beforeInner r + 3 * i) (λ i. refl)
 
-    pub vz-is : (wordsE r w) .vz ≡ element (valueZ r w)
+    pub vz-is : (proofE r w) .vz ≡ element (valueZ r w)
     unfolding valueZ
     vz-is = ap (λ (k : ℕ). getD (els w) (beforeInner r + 3 * k) (element 0)) (sym cols) ∙ els-at w (beforeEnd r)
 
-    pub values-of : (wordsE r w) .values ≡ els (segmentValues r w)
+    pub values-of : (proofE r w) .values ≡ els (segmentValues r w)
     unfolding segmentValues
     values-of = ap (λ (k : ℕ). drop k (els w)) place ∙ sym (map-drop element (beforeEnd r + 1) w)
       where

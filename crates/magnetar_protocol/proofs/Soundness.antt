@@ -8,7 +8,7 @@ use native.Mathlib.Omega.{arith}
 use lib.ListN.{length, getD, take, length-map}
 use lib.Seq.{length-take-le}
 use Rattle.magnetar_matrix.specs.Batch.{Relation, Batch, Good}
-use Rattle.magnetar_theory.specs.Lists.{lists, DrawInList, drawn, wordsOf}
+use Rattle.magnetar_theory.specs.Lists.{lists, DrawInList, drawn, proofOf}
 use Rattle.magnetar_theory.specs.Run.{Accepted, trueValue as trueValueE, Draws as DrawsE}
 use Rattle.magnetar_theory.specs.Count.{naturalSum}
 use Rattle.magnetar_theory.specs.Whole.{Good as GoodE, listOf}
@@ -129,9 +129,9 @@ module _ (r : Relation) (b : Batch) (x w d : List ℕ) where
       found =
           subst₂ Found count (flat r d R (S .run .draws))
           (sound (relationE r) (publicE x) (batchE b) (els w) E (sizes r b D R (S .run .batch) C x (S .run .public) stray)
-          (subst (λ (s : ℕ). Accepted gf128 (relationE r) (publicE x) E (wordsOf gf128 s (relationE r) (els w))) (sym count)
+          (subst (λ (s : ℕ). Accepted gf128 (relationE r) (publicE x) E (proofOf gf128 s (relationE r) (els w))) (sym count)
           (accepted r x w D R C (S .words) (holds-of r x w D C v)))
-          (subst (λ (s : ℕ). (wordsOf gf128 s (relationE r) (els w)) .values ≡ map (trueValueE gf128 E (batchE b)) ((relationE r) .segs))
+          (subst (λ (s : ℕ). (proofOf gf128 s (relationE r) (els w)) .values ≡ map (trueValueE gf128 E (batchE b)) ((relationE r) .segs))
           (sym count)
           (true-claims r b D R (S .run .batch) C w (S .words) (true-values r R D C (segmentValues r w) b true))))
 

@@ -11,13 +11,13 @@ use Rattle.magnetar_matrix.specs.Batch.{Relation, Batch}
 use Rattle.magnetar_layout.specs.Layout.{offsets, offset}
 use Rattle.magnetar_theory.specs.EqTable.{eqTable as eqTableE, dot as dotE}
 use Rattle.magnetar_theory.specs.Matrix.{AllLength}
-use Rattle.magnetar_theory.specs.Run.{Sizes, AllLaid, trueValue as trueValueE}
+use Rattle.magnetar_theory.specs.Run.{Sizes, AllZeroOutside, trueValue as trueValueE}
 use Rattle.magnetar_theory.specs.Gf128.{Element, element, gf128}
 use Rattle.magnetar_protocol.specs.Shape.{beforeEnd, proofElements}
 use Rattle.magnetar_protocol.specs.Proof.{segmentValues}
 use Rattle.magnetar_protocol.specs.Draws.{Draws, loginPoint, lowPoint}
 use Rattle.magnetar_protocol.specs.Run.{trueValue}
-use Rattle.magnetar_protocol.specs.Theory.{els, logHalf, segmentsE, relationE, publicE, batchE, drawsE, wordsE}
+use Rattle.magnetar_protocol.specs.Theory.{els, logHalf, segmentsE, relationE, publicE, batchE, drawsE, proofE}
 use Rattle.magnetar_protocol.specs.RunSizes.{SizedRelation, SizedBatch}
 use Rattle.magnetar_protocol.specs.Soundness.{NoBitOutside}
 use Rattle.magnetar_protocol.proofs.Elements.{map-take, map-reverse}
@@ -41,7 +41,7 @@ module _ (r : Relation) (b : Batch) (D : Draws) (R : SizedRelation r) (B : Sized
   sizes x px stray = record {
     logins = length-map b els ∙ B .logins ∙ logins-pow ∙ ap (λ (k : ℕ). 2 ^ k) (sym (length-map (D .shared) element));
     row-lengths = all-length (2 ^ logHalf r) b (λ u k. B .columns u (omega (arith, B .logins)) ∙ half-pow r R);
-    laid = subst (λ (n : ℕ). AllLaid gf128 n (segmentsE (offsets (r .lengths)) (r .lengths)) (batchE b)) (half-pow r R)
+    laid = subst (λ (n : ℕ). AllZeroOutside gf128 n (segmentsE (offsets (r .lengths)) (r .lengths)) (batchE b)) (half-pow r R)
         (laid-out r b R B stray);
     public = length-map (1 ∷ x) element ∙ px ∙ half-pow r R;
     rows-bin = length-map (D .rowBin) element ∙ C .rowBin;
@@ -102,7 +102,7 @@ module _ (r : Relation) (b : Batch) (D : Draws) (R : SizedRelation r) (B : Sized
     values-length = length-drop (beforeEnd r + 1) w ∙ omega arith
 
     pub true-claims : ((i : ℕ) → i < length (r .lengths) → getD (segmentValues r w) i 0 ≡ trueValue r b D i)
-        → (wordsE r w) .values ≡ map (trueValueE gf128 (drawsE r D) (batchE b)) ((relationE r) .segs)
+        → (proofE r w) .values ≡ map (trueValueE gf128 (drawsE r D) (batchE b)) ((relationE r) .segs)
     true-claims t =
         values-of r w (cols-suc r R)
         ∙ values-are (trueValueE gf128 (drawsE r D) (batchE b)) (offsets (r .lengths)) (r .lengths) (segmentValues r w)

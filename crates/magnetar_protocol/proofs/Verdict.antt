@@ -23,7 +23,7 @@ use Rattle.magnetar_matrix.specs.Batch.{Relation}
 use Rattle.magnetar_protocol.specs.Shape.{logLogins, logBin, logFld, logCols, afterTaus, afterShared, afterBin, afterOuter, afterAlphas, afterInner}
 use Rattle.magnetar_protocol.specs.Proof.{part, binMessages, fldMessages, terminal, innerRounds, valueZ, segmentValues}
 use Rattle.magnetar_protocol.specs.Draws.{Draws, loginPoint, lowPoint, topElement}
-use Rattle.magnetar_protocol.specs.Checks.{Check, roundHolds, firstRefusal, checks, binRound, fldRound, sharedChecks, rowChecks, terminalChecks, innerChecks, identityCheck, innerClaim, combined, segmentSum}
+use Rattle.magnetar_protocol.specs.Checks.{Check, roundHolds, firstFailure, checks, binRound, fldRound, sharedChecks, rowChecks, terminalChecks, innerChecks, identityCheck, innerClaim, combined, segmentSum}
 use Rattle.magnetar_protocol.proofs.Passed.{rounds-pass, pass-rounds, one-passes, passes-one, all-pass, pass-all}
 use Rattle.magnetar_protocol.proofs.SizeFacts.{Cut}
 
@@ -41,8 +41,8 @@ pub record Holds (r : Relation) (x w : List ℕ) (D : Draws) : Type 0 where
 
 module _ (r : Relation) (x w : List ℕ) (D : Draws) where
   -- ---- the shared rounds
-  shared-pass : (i n : ℕ) (rest : List Check) → firstRefusal (sharedChecks r w D i n ++ rest) ≡ 0
-      → ((j : ℕ) → j < n → (binRound r w D (i + j) ≡ true) × (fldRound r w D (i + j) ≡ true)) × (firstRefusal rest ≡ 0)
+  shared-pass : (i n : ℕ) (rest : List Check) → firstFailure (sharedChecks r w D i n ++ rest) ≡ 0
+      → ((j : ℕ) → j < n → (binRound r w D (i + j) ≡ true) × (fldRound r w D (i + j) ≡ true)) × (firstFailure rest ≡ 0)
   unfolding sharedChecks
   shared-pass i zero rest e = ((λ j h. absurd (omega arith)), e)
   shared-pass i (suc n) rest e =
@@ -64,8 +64,8 @@ module _ (r : Relation) (x w : List ℕ) (D : Draws) where
           suc-right i j = omega arith
 
   pass-shared : (i n : ℕ) (rest : List Check) → ((j : ℕ) → j < n → (binRound r w D (i + j) ≡ true) × (fldRound r w D (i + j) ≡ true))
-      → firstRefusal rest ≡ 0
-      → firstRefusal (sharedChecks r w D i n ++ rest) ≡ 0
+      → firstFailure rest ≡ 0
+      → firstFailure (sharedChecks r w D i n ++ rest) ≡ 0
   unfolding sharedChecks
   pass-shared i zero rest h e = e
   pass-shared i (suc n) rest h e =
@@ -169,10 +169,10 @@ module _ (r : Relation) (x w : List ℕ) (D : Draws) where
     fld-count : length (D .shared ++ D .rowFld) ≡ logLogins r + logFld r
     fld-count = length-append (D .shared) (D .rowFld) ∙ ap₂ _+_ (C .shared) (C .rowFld)
 
-    pub holds-of : firstRefusal (checks r x w D) ≡ 0 → Holds r x w D
+    pub holds-of : firstFailure (checks r x w D) ≡ 0 → Holds r x w D
     unfolding binEnd fldEnd innerLast identical
     holds-of e =
-        let a = shared-pass 0 (logLogins r) fromRows (subst (λ (l : List Check). firstRefusal l ≡ 0) opened e) in
+        let a = shared-pass 0 (logLogins r) fromRows (subst (λ (l : List Check). firstFailure l ≡ 0) opened e) in
         let b = all-pass 22 (λ i. binRound r w D (logLogins r + i)) atBin (logBin r)
         (tab 24 (λ i. fldRound r w D (logLogins r + i)) atFld (logFld r) ++ fromEnds) (a .1) in
         let c = all-pass 23 (λ i. fldRound r w D (logLogins r + i)) atFld (logFld r) fromEnds (b .1) in
@@ -197,10 +197,10 @@ module _ (r : Relation) (x w : List ℕ) (D : Draws) where
           identity = eqb-true _ _ (z .0);
         }
 
-    pub of-holds : Holds r x w D → firstRefusal (checks r x w D) ≡ 0
+    pub of-holds : Holds r x w D → firstFailure (checks r x w D) ≡ 0
     unfolding binEnd fldEnd innerLast identical
     of-holds H =
-        subst (λ (l : List Check). firstRefusal l ≡ 0) (sym opened)
+        subst (λ (l : List Check). firstFailure l ≡ 0) (sym opened)
         (pass-shared 0 (logLogins r) fromRows
         (λ j k. (
           subst (λ (n : ℕ). binRound r w D n ≡ true) (sym (zero-add j)) (bin-at j (omega arith)),
@@ -223,5 +223,5 @@ module _ (r : Relation) (x w : List ℕ) (D : Draws) where
         fld-at : (i : ℕ) → i < logLogins r + logFld r → fldRound r w D i ≡ true
         fld-at i h = pass-rounds 0 (fldMessages r w) (D .shared ++ D .rowFld) (H .fld) i (rw fld-count h)
 
-        nothing : firstRefusal [] ≡ 0
-        nothing = unfold firstRefusal in refl
+        nothing : firstFailure [] ≡ 0
+        nothing = unfold firstFailure in refl

@@ -118,9 +118,9 @@ checks r x w d =
     ++ identityCheck r w d (publicFolded x (loginPoint d)))))
 
 -- the number of the first check that does not pass, or 0
-unfoldable pub firstRefusal : List Check → ℕ
-firstRefusal [] = 0
-firstRefusal (c ∷ cs) = cond (c .passes) (firstRefusal cs) (c .refusal)
+unfoldable pub firstFailure : List Check → ℕ
+firstFailure [] = 0
+firstFailure (c ∷ cs) = cond (c .passes) (firstFailure cs) (c .refusal)
 
 -- how many events come before it, or n where every check passes
 unfoldable pub firstStop : List Check → ℕ → ℕ

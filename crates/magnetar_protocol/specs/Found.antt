@@ -6,7 +6,7 @@ use mathlib.Core.List.{List, [], _∷_}
 use Prim.Native.Nat.{ℕ}
 use lib.Dec.{eqb}
 use Rattle.magnetar_field.specs.Refusal.{unlessRefused}
-use Rattle.magnetar_protocol.specs.Checks.{Check, firstRefusal, firstStop}
+use Rattle.magnetar_protocol.specs.Checks.{Check, firstFailure, firstStop}
 use Rattle.magnetar_protocol.specs.declared.first.Found.{Found}
 
 -- a check
@@ -28,7 +28,7 @@ after f (c ∷ cs) = after (nextFound f c) cs
 
 -- the refusal of the first check that does not pass (0: none), and how many events of the schedule come before it
 unfoldable pub firstFound : List Check → Found
-firstFound cs = record { code = firstRefusal cs; events = firstStop cs 0 }
+firstFound cs = record { code = firstFailure cs; events = firstStop cs 0 }
 
 -- what is found, unless n refuses the call before any event
 abbrev pub unlessBad : ℕ → Found → Found

@@ -1,4 +1,4 @@
--- The honest prover's words and claims, with the draws as plain elements: each message is the exact polynomial of its round, and
+-- The honest prover's proof and claims, with the draws as plain elements: each message is the exact polynomial of its round, and
 -- so uses only the draws before it (`magnetar_sumcheck_verifier` specs/Messages; proofs/HonestRun `words-are` says the same of all words in the theory).
 -- Source: document 01, "The run" (the messages, true claims) and "Forms that give way" (the order of the proof).
 -- Assumes nothing.
@@ -22,10 +22,10 @@ joined [] = []
 joined (m ∷ ms) = m ++ joined ms
 
 -- messages of two sum-checks in turn
-unfoldable pub inTurn : List (List ℕ) → List (List ℕ) → List ℕ
-inTurn [] ns = []
-inTurn (m ∷ ms) [] = []
-inTurn (m ∷ ms) (n ∷ ns) = m ++ (n ++ inTurn ms ns)
+unfoldable pub interleaved : List (List ℕ) → List (List ℕ) → List ℕ
+interleaved [] ns = []
+interleaved (m ∷ ms) [] = []
+interleaved (m ∷ ms) (n ∷ ns) = m ++ (n ++ interleaved ms ns)
 
 -- the true segment values
 unfoldable pub trueValues : Relation → Batch → Draws → List ℕ
@@ -65,26 +65,26 @@ module _ (r : Relation) (b : Batch) (x : List ℕ) where
     unfoldable pub foldedZ : List ℕ
     foldedZ = folded (r .q) (r .m / 2) b (loginPoint d) ++ publicFolded x (loginPoint d)
 
-    -- all words of the proof: shared rounds, row rounds of bin and of fld, terminals, inner rounds, v_z, segment values
-    unfoldable pub honestWords : List ℕ
-    honestWords =
-        inTurn (take (logLogins r) binRounds) (take (logLogins r) fldRounds)
+    -- all elements of the proof: shared rounds, row rounds of bin and of fld, terminals, inner rounds, v_z, segment values
+    unfoldable pub honestProof : List ℕ
+    honestProof =
+        interleaved (take (logLogins r) binRounds) (take (logLogins r) fldRounds)
         ++ (joined (drop (logLogins r) binRounds)
         ++ (joined (drop (logLogins r) fldRounds)
         ++ (terminalValues
         ++ (joined (innerMessages (combined r d) foldedZ (d .inner))
         ++ (mle foldedZ (d .inner) ∷ trueValues r b d)))))
 
--- the words, from the draws in their order
-unfoldable pub proverWords : Relation → Batch → (x d : List ℕ) → List ℕ
-proverWords r b x d = honestWords r b x (drawsOf r d)
+-- the proof, from the draws in their order
+unfoldable pub proverProof : Relation → Batch → (x d : List ℕ) → List ℕ
+proverProof r b x d = honestProof r b x (drawsOf r d)
 
 -- the claims buffer's elements: r_inst, r_low, then the true segment values
 unfoldable pub proverClaims : Relation → Batch → List ℕ → List ℕ
 proverClaims r b d = loginPoint (drawsOf r d) ++ (lowPoint r (drawsOf r d) ++ trueValues r b (drawsOf r d))
 
--- the honest words are accepted, both ends return the same claims, and all of them are true
+-- the honest proof is accepted, both ends return the same claims, and all of them are true
 pub record CompleteRun (r : Relation) (b : Batch) (x d : List ℕ) : Type 0 where
-  pub accepted : verdict r x (proverWords r b x d) d ≡ 0
-  pub same-claims : claims r (proverWords r b x d) d ≡ proverClaims r b d
+  pub accepted : verdict r x (proverProof r b x d) d ≡ 0
+  pub same-claims : claims r (proverProof r b x d) d ≡ proverClaims r b d
   pub true-claims : ClaimsTrue r b (proverClaims r b d)

@@ -10,11 +10,11 @@ use Rattle.magnetar_layout.specs.Layout.{offset, localVars}
 use Rattle.magnetar_protocol.specs.Shape.{logLogins, logCols}
 use Rattle.magnetar_protocol.specs.Proof.{segmentValues}
 use Rattle.magnetar_protocol.specs.Draws.{Draws, drawsOf, loginPoint, lowPoint}
-use Rattle.magnetar_protocol.specs.Checks.{checks, firstRefusal}
+use Rattle.magnetar_protocol.specs.Checks.{checks, firstFailure}
 
 -- the answer of the verifier: 0 where it accepts, or the first of 21 to 29 that applies
 unfoldable pub verdict : Relation → List ℕ → List ℕ → List ℕ → ℕ
-verdict r x w d = firstRefusal (checks r x w (drawsOf r d))
+verdict r x w d = firstFailure (checks r x w (drawsOf r d))
 
 -- the claims buffer's elements: r_inst, r_low, then the segment values
 unfoldable pub claims : Relation → List ℕ → List ℕ → List ℕ

@@ -2,7 +2,7 @@
 -- Assumes nothing.
 use Prim.Native.Nat.{ℕ, _+_, _*_, max}
 use Rattle.magnetar_field.specs.Refusal.{unlessRefused}
-use Rattle.magnetar_layout.specs.Tests.{noted}
+use Rattle.magnetar_layout.specs.Tests.{firstRefusal}
 use Rattle.magnetar_protocol.specs.RunTests.{runTests}
 use Rattle.magnetar_protocol.specs.declared.scratch.ScratchWords.{ScratchWords}
 
@@ -19,7 +19,7 @@ abbrev pub wordsUnless : (z n : ℕ) → ScratchWords
 wordsUnless z n = record { code = z; words = unlessRefused z n 0 }
 
 unfoldable pub verifierScratchWords : (m q rb rf : ℕ) → ScratchWords
-verifierScratchWords m q rb rf = wordsUnless (noted 0 (runTests m q rb rf)) (verifierScratch m rb rf)
+verifierScratchWords m q rb rf = wordsUnless (firstRefusal 0 (runTests m q rb rf)) (verifierScratch m rb rf)
 
 unfoldable pub proverScratchWords : (m q rb rf : ℕ) → ScratchWords
-proverScratchWords m q rb rf = wordsUnless (noted 0 (runTests m q rb rf)) (proverScratch m q rb rf)
+proverScratchWords m q rb rf = wordsUnless (firstRefusal 0 (runTests m q rb rf)) (proverScratch m q rb rf)

@@ -73,16 +73,16 @@ abbrev pub afterInner : Relation → ℕ
 afterInner r = afterAlphas r + 2 * logCols r
 
 -- a matrix of n rows and m columns without entries
-abbrev pub blank : ℕ → ℕ → Matrix
-blank n m = record { rows = n; cols = m; entries = [] }
+abbrev pub emptyMatrix : ℕ → ℕ → Matrix
+emptyMatrix n m = record { rows = n; cols = m; entries = [] }
 
 -- a relation with these sizes and segments, and no entries: the schedule, the proof's parts and the rounds depend on no more
-abbrev pub outline : (m q rowsBin rowsFld : ℕ) → List ℕ → Relation
-outline m q b f ns =
+abbrev pub sizesOnly : (m q rowsBin rowsFld : ℕ) → List ℕ → Relation
+sizesOnly m q b f ns =
     record {
       m = m;
       q = q;
-      bin = record { a = blank b m; b = blank b m; c = blank b m };
-      fld = record { a = blank f m; b = blank f m; c = blank f m };
+      bin = record { a = emptyMatrix b m; b = emptyMatrix b m; c = emptyMatrix b m };
+      fld = record { a = emptyMatrix f m; b = emptyMatrix f m; c = emptyMatrix f m };
       lengths = ns;
     }

@@ -22,7 +22,7 @@ abbrev pub Soundness : (r : Relation) (b : Batch) (x w d : List ℕ) → Type 0
 Soundness r b x w d =
     SizedProof r b x w d → verdict r x w d ≡ 0 → NoBitOutside r b → ClaimsTrue r b (claims r w d) → Good r b x ⊎ BadDraw r b x w d
 
--- proofs/Completeness `completeness`: of a good batch with no bit outside, the honest words are accepted, both ends return the same claims, and
+-- proofs/Completeness `completeness`: of a good batch with no bit outside, the honest proof is accepted, both ends return the same claims, and
 -- all of them are true
 abbrev pub Completeness : (r : Relation) (b : Batch) (x d : List ℕ) → Type 0
 Completeness r b x d = SizedRun r b x d → Good r b x → NoBitOutside r b → CompleteRun r b x d

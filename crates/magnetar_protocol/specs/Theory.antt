@@ -1,5 +1,5 @@
 -- The run over numbers as a run of magnetar_theory over GF(2^128): the relation, the batch, the public half, the draws and the
--- proof's words, each number as the element that it stands for.
+-- proof's elements, each number as the element that it stands for.
 -- Source: document 01, "The run", in the terms of magnetar_theory.
 -- Assumes nothing.
 use mathlib.Core.List.{List, [], _∷_, map}
@@ -10,8 +10,8 @@ use Rattle.magnetar_matrix.specs.Batch.{Relation, Batch}
 use Rattle.magnetar_layout.specs.Layout.{offsets}
 use Rattle.magnetar_theory.specs.Matrix.{Entry as EntryE}
 use Rattle.magnetar_theory.specs.Segment.{Segment}
-use Rattle.magnetar_theory.specs.Run.{System as SystemE, Relation as RelationE, Draws as DrawsE, Words as WordsE}
-use Rattle.magnetar_theory.specs.Lists.{wordsOf}
+use Rattle.magnetar_theory.specs.Run.{System as SystemE, Relation as RelationE, Draws as DrawsE, Proof as ProofE}
+use Rattle.magnetar_theory.specs.Lists.{proofOf}
 use Rattle.magnetar_theory.specs.Gf128.{Element, element, gf128}
 use Rattle.magnetar_protocol.specs.Shape.{logLogins, logCols}
 use Rattle.magnetar_protocol.specs.Draws.{Draws, lowPoint, topElement}
@@ -73,5 +73,5 @@ drawsE r d = record {
 }
 
 -- the proof, taken apart
-abbrev pub wordsE : Relation → List ℕ → WordsE gf128
-wordsE r w = wordsOf gf128 (logLogins r) (relationE r) (els w)
+abbrev pub proofE : Relation → List ℕ → ProofE gf128
+proofE r w = proofOf gf128 (logLogins r) (relationE r) (els w)

@@ -9,7 +9,7 @@ pub struct Found {
 }
 
 // f where it is a refusal already; else this check's refusal, where it does not pass.
-pub fn note(f: Found, code: u32, passes: bool, events: usize) -> Found
+pub fn refuse(f: Found, code: u32, passes: bool, events: usize) -> Found
     ensures { λ r. ⌜ r ≡ nextFound f (check code passes events) ⌝ }
 {
     if f.code != 0 {

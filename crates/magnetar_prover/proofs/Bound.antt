@@ -13,7 +13,7 @@ use Rattle.magnetar_multilinear.specs.Entries.{bindOut}
 use Rattle.magnetar_sumcheck_prover.specs.Entries.{dropOut}
 use Rattle.magnetar_sumcheck_verifier.specs.Outer.{dropVar}
 use Rattle.magnetar_prover.specs.Entries.{tableAt}
-use Rattle.magnetar_prover.specs.Held.{Table}
+use Rattle.magnetar_prover.specs.InScratch.{Table}
 use Rattle.magnetar_prover.proofs.Slots.{part-is, part-size, mid-length, mid-before, mid-behind, mid-in, fore-length, fore-in, fore-back, fore-behind}
 use Rattle.magnetar_prover.proofs.Whole.{bound-in, bound-length, dropped-in, dropped-length}
 

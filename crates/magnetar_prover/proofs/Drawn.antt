@@ -13,14 +13,14 @@ use Rattle.magnetar_hash.specs.declared.transcript.Transcript.{Transcript}
 use Rattle.magnetar_hash.specs.Transcript.{drawn, element, drawnTimes, drawnWords}
 use Rattle.magnetar_hash.proofs.Draws.{length-drawn}
 use Rattle.magnetar_schedule.specs.Stepwise.{Steps, drawTimes}
-use Rattle.magnetar_prover.specs.Held.{stepsIn}
+use Rattle.magnetar_prover.specs.InScratch.{stepsIn}
 use Rattle.magnetar_prover.proofs.Slots.{part-size, mid-upto, fore-length}
 use Rattle.magnetar_prover.proofs.Sent.{elements-take, elements-join, steps-eq}
 
 -- n elements drawn at once
 pub drawn-times : (n : ℕ) (label : List ℕ) (t : Transcript) (d s : List ℕ)
-    → drawTimes n label (record { played = record { transcript = t; draws = d }; sent = s })
-    ≡ record { played = record { transcript = drawnTimes n t label; draws = d ++ elements (drawnWords n t label) }; sent = s }
+    → drawTimes n label (record { runState = record { transcript = t; draws = d }; sent = s })
+    ≡ record { runState = record { transcript = drawnTimes n t label; draws = d ++ elements (drawnWords n t label) }; sent = s }
 unfolding drawTimes drawnTimes drawnWords elements
 drawn-times zero label t d s = steps-eq refl (sym (append-nil d)) refl
 drawn-times (suc n) label t d s =
@@ -31,7 +31,7 @@ drawn-times (suc n) label t d s =
 pub drawn-sending : (n a d e : ℕ) (label : List ℕ) (t u : Transcript) (proof draws last : List ℕ)
     → stepsIn 0 e u [] last ≡ drawTimes n label (stepsIn 0 d t [] draws) → stepsIn a e u proof last ≡ drawTimes n label (stepsIn a d t proof draws)
 drawn-sending n a d e label t u proof draws last h =
-    ap (λ (p : Steps). record { played = p .played; sent = take a (elements proof) }) (h ∙ drawn-times n label t (take d (elements draws)) [])
+    ap (λ (p : Steps). record { runState = p .runState; sent = take a (elements proof) }) (h ∙ drawn-times n label t (take d (elements draws)) [])
     ∙ sym (drawn-times n label t (take d (elements draws)) (take a (elements proof)))
 
 -- n elements drawn into a part

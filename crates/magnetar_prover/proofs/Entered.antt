@@ -14,10 +14,10 @@ use Rattle.magnetar_field.proofs.Tabulation.{tabulate-ext}
 use Rattle.magnetar_hash.specs.Bytes.{ascii}
 use Rattle.magnetar_hash.specs.declared.transcript.Transcript.{Transcript}
 use Rattle.magnetar_layout.specs.Layout.{offset, localVars}
-use Rattle.magnetar_protocol.specs.Shape.{outline}
+use Rattle.magnetar_protocol.specs.Shape.{sizesOnly}
 use Rattle.magnetar_schedule.specs.Stepwise.{InnerSteps, begin, send, sendEach, innerSteps, innerRun, segmentValue, lowDraws, ended, innerAll}
-use Rattle.magnetar_prover.specs.Held.{Locals, segmentIn, innerEnded, innerWhole}
-use Rattle.magnetar_prover.specs.Entries.{tableAt, innerPlayed}
+use Rattle.magnetar_prover.specs.InScratch.{Locals, segmentIn, innerEnded, innerWhole}
+use Rattle.magnetar_prover.specs.Entries.{tableAt, innerRunSteps}
 use Rattle.magnetar_prover.proofs.Slots.{take-of-drop}
 
 -- the words of the first n elements of p, which has no more, over those that were lent
@@ -31,21 +31,21 @@ laid-over p lent a n e l h fit =
 
 -- a segment's local point is within the low ones
 value-is : (m q b f : ℕ) (ns t c h : List ℕ) (k : ℕ) (d : List ℕ) (i : ℕ) → localVars ns i ≤ k
-    → segmentIn ns c d i ≡ segmentValue (outline m q b f ns) t c h (take k d) i
+    → segmentIn ns c d i ≡ segmentValue (sizesOnly m q b f ns) t c h (take k d) i
 unfolding segmentValue
 value-is m q b f ns t c h k d i l = ap (mle (take (getD ns i 0) (drop (offset ns i) c))) (sym (take-take (localVars ns i) k d l))
 
 ends-same : (m q b f : ℕ) (ns t c h : List ℕ) (k : ℕ) (p : InnerSteps) → ((i : ℕ) → i < length ns → localVars ns i ≤ k)
-    → innerEnded ns c p ≡ ended (outline m q b f ns) t c h (take k (p .steps .played .draws)) p
+    → innerEnded ns c p ≡ ended (sizesOnly m q b f ns) t c h (take k (p .steps .runState .draws)) p
 unfolding innerEnded ended
 ends-same m q b f ns t c h k p few =
     ap (λ (vs : List ℕ). sendEach "vs-seg-" 0 vs (send (ascii "vs-vz") (getD (p .z) 0 0 ∷ []) (p .steps)))
-    (tabulate-ext (segmentIn ns c (p .steps .played .draws)) (segmentValue (outline m q b f ns) t c h (take k (p .steps .played .draws))) (length ns)
-    (λ i l. value-is m q b f ns t c h k (p .steps .played .draws) i (few i l)))
+    (tabulate-ext (segmentIn ns c (p .steps .runState .draws)) (segmentValue (sizesOnly m q b f ns) t c h (take k (p .steps .runState .draws))) (length ns)
+    (λ i l. value-is m q b f ns t c h k (p .steps .runState .draws) i (few i l)))
 
 -- the inner rounds as they are defined
 pub inner-all : (m q b f k : ℕ) (ns t c h : List ℕ) (u : Transcript) → k ≡ log₂ m → Locals (m / 2) ns (2 * k - 2)
-    → innerWhole k ns t c h u ≡ innerAll (outline m q b f ns) t c h (begin u)
+    → innerWhole k ns t c h u ≡ innerAll (sizesOnly m q b f ns) t c h (begin u)
 unfolding innerWhole innerAll lowDraws innerRun
 inner-all m q b f k ns t c h u e l =
     rw (← e) (ends-same m q b f ns t c h (k - 1) (innerSteps k (record { steps = begin u; table = t; z = c ++ h })) few)
@@ -56,12 +56,12 @@ inner-all m q b f k ns t c h u e l =
 -- of the tables that stand in s
 pub entered : (m w q b f k : ℕ) (ns s : List ℕ) (u : Transcript) → k ≡ log₂ m → w ≡ m / 2 → 2 * w ≡ m → Locals (m / 2) ns (2 * k - 2)
     → let S = take (6 * m) s in
-    innerWhole k ns (tableAt 0 (4 * w) S) (tableAt (4 * w) (2 * w) S) (tableAt (6 * w) (2 * w) S) u ≡ innerPlayed (outline m q b f ns) s u
-unfolding innerPlayed
+    innerWhole k ns (tableAt 0 (4 * w) S) (tableAt (4 * w) (2 * w) S) (tableAt (6 * w) (2 * w) S) u ≡ innerRunSteps (sizesOnly m q b f ns) s u
+unfolding innerRunSteps
 entered m w q b f k ns s u e h d l =
     let S = take (6 * m) s in
     inner-all m q b f k ns (tableAt 0 (4 * w) S) (tableAt (4 * w) (2 * w) S) (tableAt (6 * w) (2 * w) S) u e l
-    ∙ λ j. innerAll (outline m q b f ns) (table j) (columns j) (half j) (begin u)
+    ∙ λ j. innerAll (sizesOnly m q b f ns) (table j) (columns j) (half j) (begin u)
   where
     four : 4 * w ≡ 2 * m
     four = omega (arith, d)

@@ -15,7 +15,7 @@ use Rattle.magnetar_hash.specs.Transcript as transcript
 use Rattle.magnetar_sumcheck_verifier.specs.Inner.{innerMessage, innerSums}
 use Rattle.magnetar_schedule.specs.Stepwise.{Steps, InnerSteps, innerStep, innerSteps}
 use Rattle.magnetar_prover.specs.Entries.{tableAt}
-use Rattle.magnetar_prover.specs.Held.{innerIn, Table}
+use Rattle.magnetar_prover.specs.InScratch.{innerIn, Table}
 use Rattle.magnetar_prover.proofs.Sent.{round-sent}
 
 pub inner-three : (v : ℕ) (t z : List ℕ) → length (innerMessage v t z) ≡ 3

@@ -15,14 +15,14 @@ use Rattle.magnetar_hash.specs.declared.transcript.Transcript.{Transcript}
 use Rattle.magnetar_schedule.specs.Schedule.{numbered}
 use Rattle.magnetar_schedule.specs.Stepwise.{Steps, InnerSteps, begin, send, sendEach, innerSteps}
 use Rattle.magnetar_prover.specs.Entries.{tableAt}
-use Rattle.magnetar_prover.specs.Held.{stepsIn, innerIn, Locals, segmentIn, Sent, sentIn, sentEach, absorbedOne, innerEnded, innerWhole}
+use Rattle.magnetar_prover.specs.InScratch.{stepsIn, innerIn, Locals, segmentIn, Sent, sentIn, sentEach, absorbedOne, innerEnded, innerWhole}
 use Rattle.magnetar_prover.proofs.Slots.{take-of-drop, fore-back}
 use Rattle.magnetar_prover.proofs.Sent.{steps-eq}
 use Rattle.magnetar_prover.proofs.InnerSteps.{inner-eq}
 
 -- what is sent, with the draws beside it
 abbrev pub beside : List ℕ → Sent → Steps
-beside d p = record { played = record { transcript = p .transcript; draws = d }; sent = p .sent }
+beside d p = record { runState = record { transcript = p .transcript; draws = d }; sent = p .sent }
 
 pub each-beside : (label : String) (i : ℕ) (vs d : List ℕ) (p : Sent) → sendEach label i vs (beside d p) ≡ beside d (sentEach label i vs p)
 unfolding sendEach sentEach
@@ -35,7 +35,7 @@ locals-wider w ns a b h l = record {
 }
 
 ended-is : (ns f : List ℕ) (q : InnerSteps) → innerEnded ns f q
-    ≡ sendEach "vs-seg-" 0 (tabulate (segmentIn ns f (q .steps .played .draws)) (length ns)) (send (ascii "vs-vz") (getD (q .z) 0 0 ∷ []) (q .steps))
+    ≡ sendEach "vs-seg-" 0 (tabulate (segmentIn ns f (q .steps .runState .draws)) (length ns)) (send (ascii "vs-vz") (getD (q .z) 0 0 ∷ []) (q .steps))
 unfolding innerEnded
 ended-is ns f q = refl
 

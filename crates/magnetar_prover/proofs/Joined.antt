@@ -13,15 +13,15 @@ use Rattle.magnetar_field.specs.Words.{elements}
 use Rattle.magnetar_hash.specs.Bytes.{ascii}
 use Rattle.magnetar_hash.specs.declared.transcript.Transcript.{Transcript}
 use Rattle.magnetar_sumcheck_verifier.specs.Messages.{Outer, outerStart}
-use Rattle.magnetar_protocol.specs.Shape.{outline}
+use Rattle.magnetar_protocol.specs.Shape.{sizesOnly}
 use Rattle.magnetar_schedule.specs.Stepwise.{Steps, RowSteps, Tables, drawTimes, sharedSteps, rowSteps, tauSteps, outerBegin, binRows, fldRows, outerSteps, terminalsLeft, outerAll}
 use Rattle.magnetar_schedule.proofs.StepLaws.{row-rounds}
 use Rattle.magnetar_prover.specs.Entries.{tableAt, tablesIn}
-use Rattle.magnetar_prover.specs.Held.{stepsIn, outerIn, rowIn, sentIn, sentEach, threeIn, Begun}
+use Rattle.magnetar_prover.specs.InScratch.{stepsIn, outerIn, rowIn, sentIn, sentEach, threeIn, EqTablePlaced}
 use Rattle.magnetar_prover.specs.Shared.{sharedIn}
 use Rattle.magnetar_prover.specs.Whole.{tausOf, beginOf, binOf, fldOf, endOf, outerWhole}
 use Rattle.magnetar_prover.proofs.Drawn.{drawn-sending}
-use Rattle.magnetar_prover.proofs.Begun.{begun-outer}
+use Rattle.magnetar_prover.proofs.EqTablePlaced.{placed-outer}
 use Rattle.magnetar_prover.proofs.InnerWhole.{beside, each-beside}
 
 drop-of-take : (b f : ℕ) (l : List ℕ) → drop b (take (b + f) l) ≡ take f (drop b l)
@@ -37,16 +37,16 @@ drop-of-take (suc b) f (x ∷ l) =
 
 -- with the logarithms of a relation it is the run's
 pub whole-is : (m q rb rf : ℕ) (ns : List ℕ) (T : Tables) (t : Transcript)
-    → outerWhole (log₂ q) (log₂ rb) (log₂ rf) T t ≡ outerAll (outline m q rb rf ns) T (tauSteps (outline m q rb rf ns) t)
+    → outerWhole (log₂ q) (log₂ rb) (log₂ rf) T t ≡ outerAll (sizesOnly m q rb rf ns) T (tauSteps (sizesOnly m q rb rf ns) t)
 unfolding outerWhole outerAll outerSteps fldRows binRows outerBegin tauSteps terminalsLeft
 whole-is m q rb rf ns T t = refl
 
 -- ---- the row rounds leave the draws before them
-pub rows-keep : (label : String) (n k : ℕ) (p : RowSteps) → k ≡ length (p .steps .played .draws)
-    → take k (rowSteps label 0 n p .steps .played .draws) ≡ p .steps .played .draws
+pub rows-keep : (label : String) (n k : ℕ) (p : RowSteps) → k ≡ length (p .steps .runState .draws)
+    → take k (rowSteps label 0 n p .steps .runState .draws) ≡ p .steps .runState .draws
 rows-keep label n k p h =
     let g = row-rounds label (length (p .steps .sent)) 0 n p (omega arith) in
-    ap (take k) (g .goes .draws) ∙ take-at (p .steps .played .draws) (g .rs) k (sym h)
+    ap (take k) (g .goes .draws) ∙ take-at (p .steps .runState .draws) (g .rs) k (sym h)
 
 -- the tau of a system are read off the same elements
 tau-same : (f o k : ℕ) (c d : List ℕ) → o + f ≤ k → take k (elements c) ≡ take k (elements d)
@@ -72,15 +72,15 @@ module _ (l b f wb wf : ℕ) (lb : l + b < 62) (lf : l + f < 62) where
   -- ---- the start
   begins : (t u : Transcript) (p0 d1 bin0 fld0 s1 : List ℕ)
       → stepsIn 0 (l + b + (l + f)) u [] d1 ≡ tausOf l b f t
-      → Begun wb (take (l + b) (elements d1)) bin0 (take (4 * wb) s1)
-      → Begun wf (take (l + f) (drop (l + b) (elements d1))) fld0 (drop (4 * wb) s1)
+      → EqTablePlaced wb (take (l + b) (elements d1)) bin0 (take (4 * wb) s1)
+      → EqTablePlaced wf (take (l + f) (drop (l + b) (elements d1))) fld0 (drop (4 * wb) s1)
       → sharedIn 0 (l + b + (l + f)) l b f 0 (l + b) 1 1 wb wf wb wf u p0 d1 s1 ≡ beginOf l b (tablesIn wb wf bin0 fld0) (tausOf l b f t)
   begins t u p0 d1 bin0 fld0 s1 h0 hb hf =
       ap₂ (λ (x y : Outer). record { steps = stepsIn 0 (l + b + (l + f)) u [] d1; bin = x; fld = y })
-      (begun-outer l wb (take (l + b) (elements d1)) bin0 (take (4 * wb) s1) hb
+      (placed-outer l wb (take (l + b) (elements d1)) bin0 (take (4 * wb) s1) hb
       ∙ ap (λ (tau : List ℕ). outerStart l tau (tableAt wb wb bin0) (tableAt (2 * wb) wb bin0) (tableAt (3 * wb) wb bin0))
       (sym (take-take (l + b) (l + b + (l + f)) (elements d1) (omega arith))))
-      (begun-outer l wf (take (l + f) (drop (l + b) (elements d1))) fld0 (drop (4 * wb) s1) hf
+      (placed-outer l wf (take (l + f) (drop (l + b) (elements d1))) fld0 (drop (4 * wb) s1) hf
       ∙ ap (λ (tau : List ℕ). outerStart l tau (tableAt wf wf fld0) (tableAt (2 * wf) wf fld0) (tableAt (3 * wf) wf fld0))
       (sym (drop-of-take (l + b) (l + f) (elements d1))))
       ∙ ap (beginOf l b (tablesIn wb wf bin0 fld0)) h0
@@ -88,14 +88,14 @@ module _ (l b f wb wf : ℕ) (lb : l + b < 62) (lf : l + f < 62) where
   -- the same, of both blocks in one slice
   pub first-joined : (t u : Transcript) (p0 d1 s0 s1 : List ℕ) → length s0 ≡ 4 * wb + 4 * wf → length s1 ≡ 4 * wb + 4 * wf
       → stepsIn 0 (l + b + (l + f)) u [] d1 ≡ tausOf l b f t
-      → Begun wb (take (l + b) (elements d1)) (take (4 * wb) s0) (take (4 * wb) s1)
-      → Begun wf (take (l + f) (drop (l + b) (elements d1))) (take (4 * wf) (drop (4 * wb) s0)) (take (4 * wf) (drop (4 * wb) s1))
+      → EqTablePlaced wb (take (l + b) (elements d1)) (take (4 * wb) s0) (take (4 * wb) s1)
+      → EqTablePlaced wf (take (l + f) (drop (l + b) (elements d1))) (take (4 * wf) (drop (4 * wb) s0)) (take (4 * wf) (drop (4 * wb) s1))
       → sharedIn 0 (l + b + (l + f)) l b f 0 (l + b) 1 1 wb wf wb wf u p0 d1 s1
       ≡ beginOf l b (tablesIn wb wf (take (4 * wb) s0) (drop (4 * wb) s0)) (tausOf l b f t)
   first-joined t u p0 d1 s0 s1 l0 l1 h0 hb hf =
       begins t u p0 d1 (take (4 * wb) s0) (drop (4 * wb) s0) s1 h0 hb
-      (subst (λ (z : List ℕ). Begun wf (take (l + f) (drop (l + b) (elements d1))) z (drop (4 * wb) s1)) (behind s0 l0)
-      (subst (λ (z : List ℕ). Begun wf (take (l + f) (drop (l + b) (elements d1))) (take (4 * wf) (drop (4 * wb) s0)) z) (behind s1 l1) hf))
+      (subst (λ (z : List ℕ). EqTablePlaced wf (take (l + f) (drop (l + b) (elements d1))) z (drop (4 * wb) s1)) (behind s0 l0)
+      (subst (λ (z : List ℕ). EqTablePlaced wf (take (l + f) (drop (l + b) (elements d1))) (take (4 * wf) (drop (4 * wb) s0)) z) (behind s1 l1) hf))
     where
       behind : (s : List ℕ) → length s ≡ 4 * wb + 4 * wf → take (4 * wf) (drop (4 * wb) s) ≡ drop (4 * wb) s
       behind s h = take-all (4 * wf) (drop (4 * wb) s) (rw (length-drop (4 * wb) s) (omega arith))
@@ -134,7 +134,7 @@ module _ (l b f wb wf : ℕ) (lb : l + b < 62) (lf : l + f < 62) where
   fld-rows a1 e1 a2 e2 a3 e3 o2 o3 kb kf k3 k4 t2 t3 t4 p2 d2 s2 p3 d3 bin3 p4 d4 fld4 he h12 hs h3 h4 =
       let r0 : RowSteps = rowIn a1 e1 0 kb wb (2 * 2 ^ b) t2 p2 d2 (take (4 * wb) s2) in
       let same : take e1 (elements d3) ≡ take e1 (elements d2) =
-      sym (take-take e1 e2 (elements d3) h12) ∙ ap (λ (R : RowSteps). take e1 (R .steps .played .draws)) h3
+      sym (take-take e1 e2 (elements d3) h12) ∙ ap (λ (R : RowSteps). take e1 (R .steps .runState .draws)) h3
       ∙ rows-keep "vs-out-rowbin-" b e1 r0 (sym (length-take-le e1 (elements d2) he)) in
       let k : log₂ (2 * 2 ^ f / 2) ≡ 0 + f = half-log (2 * 2 ^ f) f (omega arith) refl ∙ omega arith in
       let g : take (log₂ (2 * 2 ^ f / 2)) (drop (l + b) (elements d3)) ≡ take (0 + f) (drop (l + b) (elements d2)) =
@@ -147,8 +147,8 @@ module _ (l b f wb wf : ℕ) (lb : l + b < 62) (lf : l + f < 62) where
       (p0 d1 bin0 fld0 s1 p2 d2 s2 p3 d3 bin3 p4 d4 fld4 p5 d6 : List ℕ)
       → e1 ≤ length (elements d2) → e1 ≤ e2 → l + b + f ≤ e1
       → stepsIn 0 (l + b + (l + f)) u [] d1 ≡ tausOf l b f t
-      → Begun wb (take (l + b) (elements d1)) bin0 (take (4 * wb) s1)
-      → Begun wf (take (l + f) (drop (l + b) (elements d1))) fld0 (drop (4 * wb) s1)
+      → EqTablePlaced wb (take (l + b) (elements d1)) bin0 (take (4 * wb) s1)
+      → EqTablePlaced wf (take (l + f) (drop (l + b) (elements d1))) fld0 (drop (4 * wb) s1)
       → sharedIn a1 e1 0 b f 0 (l + b) kb kf wb wf (2 * 2 ^ b) (2 * 2 ^ f) t2 p2 d2 s2
       ≡ sharedSteps 0 l (sharedIn 0 (l + b + (l + f)) l b f 0 (l + b) 1 1 wb wf wb wf u p0 d1 s1)
       → rowIn a2 e2 o2 k3 wb 2 t3 p3 d3 bin3 ≡ rowSteps "vs-out-rowbin-" 0 b (rowIn a1 e1 0 kb wb (2 * 2 ^ b) t2 p2 d2 (take (4 * wb) s2))

@@ -10,7 +10,7 @@ use lib.Seq.{length-take-le, take-add, take-take, drop-drop, paste, paste-suc, l
 use borrow.Rule.Slice.PartMut.{putMid, mid-len}
 use Rattle.magnetar_field.specs.Words.{elements}
 use Rattle.magnetar_prover.specs.Entries.{tableAt}
-use Rattle.magnetar_prover.specs.Held.{pasted}
+use Rattle.magnetar_prover.specs.InScratch.{pasted}
 use Rattle.magnetar_prover.proofs.Slots.{put-before, put-in, put-from}
 use Rattle.magnetar_prover.proofs.Sent.{elements-join}
 

@@ -10,7 +10,7 @@ pub mod Guarded
 pub mod Entered
 pub mod RowSteps
 pub mod Drawn
-pub mod Begun
+pub mod EqTablePlaced
 pub mod Blocks
 pub mod SharedSteps
 pub mod Joined

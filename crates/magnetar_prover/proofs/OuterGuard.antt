@@ -11,8 +11,8 @@ use lib.Pow.{pow-mono, pow-add}
 use borrow.Author.Tests.{ltb-false}
 use Rattle.magnetar_field.specs.Sizes.{log₂}
 use Rattle.magnetar_hash.specs.declared.transcript.Transcript.{Transcript}
-use Rattle.magnetar_layout.specs.Tests.{noted, roomTest, Sized}
-use Rattle.magnetar_layout.proofs.Noted.{noted-clear}
+use Rattle.magnetar_layout.specs.Tests.{firstRefusal, roomTest, Sized}
+use Rattle.magnetar_layout.proofs.FirstRefusal.{first-refusal-clear}
 use Rattle.magnetar_layout.proofs.SizeLaws.{not-bad}
 use Rattle.magnetar_r1cs.proofs.Points.{log-most}
 use Rattle.magnetar_prover.specs.Whole.{Blocks}
@@ -25,9 +25,9 @@ pub record Counts (q rb rf : ℕ) : Type 0 where
   pub fld : Sized 1 65536 rf
 
 -- the first tests
-pub counts-of : (q rb rf : ℕ) → noted 0 (countTests q rb rf) ≡ 0 → Counts q rb rf
+pub counts-of : (q rb rf : ℕ) → firstRefusal 0 (countTests q rb rf) ≡ 0 → Counts q rb rf
 counts-of q rb rf e =
-    let k = noted-clear 0 (countTests q rb rf) refl e .1 in
+    let k = first-refusal-clear 0 (countTests q rb rf) refl e .1 in
     record { logins = not-bad (k .0); bin = not-bad (k .1 .0); fld = not-bad (k .1 .1 .0) }
 
 -- a product of them fits a word
@@ -40,9 +40,9 @@ pub record Totals (q rb rf : ℕ) : Type 0 where
   pub bin : q * rb ≤ 1048576
   pub fld : q * rf ≤ 1048576
 
-pub totals-of : (q rb rf : ℕ) → noted 0 (countTests q rb rf ++ totalTests q rb rf) ≡ 0 → Totals q rb rf
+pub totals-of : (q rb rf : ℕ) → firstRefusal 0 (countTests q rb rf ++ totalTests q rb rf) ≡ 0 → Totals q rb rf
 totals-of q rb rf e =
-    let k = noted-clear 0 (countTests q rb rf ++ totalTests q rb rf) refl e .1 in
+    let k = first-refusal-clear 0 (countTests q rb rf ++ totalTests q rb rf) refl e .1 in
     record {
       counts = record { logins = not-bad (k .0); bin = not-bad (k .1 .0); fld = not-bad (k .1 .1 .0) };
       bin = ltb-false _ _ (k .1 .1 .1 .0);
@@ -58,7 +58,7 @@ pub record OuterFits (q rb rf : ℕ) (proof draws s : List ℕ) : Type 0 where
 pub outer-fits : (q rb rf : ℕ) (proof draws s : List ℕ) (t : Transcript) → outerRoundsRefusal q rb rf proof draws s t ≡ 0 → OuterFits q rb rf proof draws s
 unfolding outerRoundsRefusal
 outer-fits q rb rf proof draws s t e =
-    let k = noted-clear 0 (countTests q rb rf ++ totalTests q rb rf ++ (counterTests (t .«squeeze_ctr») ++ (roomTest (2 * outerDrawn (log₂ q) (log₂ rb) (log₂ rf))
+    let k = first-refusal-clear 0 (countTests q rb rf ++ totalTests q rb rf ++ (counterTests (t .«squeeze_ctr») ++ (roomTest (2 * outerDrawn (log₂ q) (log₂ rb) (log₂ rf))
     draws ++ roomTest (2 * outerSent (log₂ q) (log₂ rb) (log₂ rf)) proof ++ roomTest (blockWords q rb rf) s))) refl e .1 in
     record {
       totals = record {

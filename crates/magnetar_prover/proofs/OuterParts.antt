@@ -13,9 +13,9 @@ use Rattle.magnetar_hash.specs.Bytes.{ascii}
 use Rattle.magnetar_hash.specs.declared.transcript.Transcript.{Transcript}
 use Rattle.magnetar_sumcheck_verifier.specs.Messages.{Outer}
 use Rattle.magnetar_schedule.specs.Stepwise.{Steps, OuterSteps, Tables, drawTimes, sharedSteps, rowSteps}
-use Rattle.magnetar_prover.specs.Held.{stepsIn, outerIn, rowIn, sentIn, sentEach, threeIn, Begun}
+use Rattle.magnetar_prover.specs.InScratch.{stepsIn, outerIn, rowIn, sentIn, sentEach, threeIn, EqTablePlaced}
 use Rattle.magnetar_prover.specs.Shared.{sharedIn}
-use Rattle.magnetar_prover.specs.Entries.{tablesIn, blockWords, tablesOf, outerPlayed}
+use Rattle.magnetar_prover.specs.Entries.{tablesIn, blockWords, tablesOf, outerRunSteps}
 use Rattle.magnetar_prover.specs.Whole.{tausOf, beginOf, binOf, fldOf, endOf, leftIn, outerWhole}
 use Rattle.magnetar_prover.proofs.Drawn.{drawn-sending}
 use Rattle.magnetar_prover.proofs.InnerWhole.{beside, each-beside}
@@ -31,8 +31,8 @@ module _ (l b f wb wf : ℕ) (lb : l + b < 62) (lf : l + f < 62) where
   pub shared-left : (kb kf ob of : ℕ) (t u v : Transcript) (p0 d1 s0 s1 p2 d2 s2 : List ℕ) → ob ≡ 1 → of ≡ 1
       → length s0 ≡ 4 * wb + 4 * wf → length s1 ≡ 4 * wb + 4 * wf
       → stepsIn 0 (l + b + (l + f)) u [] d1 ≡ tausOf l b f t
-      → Begun wb (take (l + b) (elements d1)) (take (4 * wb) s0) (take (4 * wb) s1)
-      → Begun wf (take (l + f) (drop (l + b) (elements d1))) (take (4 * wf) (drop (4 * wb) s0)) (take (4 * wf) (drop (4 * wb) s1))
+      → EqTablePlaced wb (take (l + b) (elements d1)) (take (4 * wb) s0) (take (4 * wb) s1)
+      → EqTablePlaced wf (take (l + f) (drop (l + b) (elements d1))) (take (4 * wf) (drop (4 * wb) s0)) (take (4 * wf) (drop (4 * wb) s1))
       → sharedIn (0 + 8 * l) (l + b + (l + f) + l) 0 b f 0 (l + b) kb kf wb wf (2 * 2 ^ b) (2 * 2 ^ f) v p2 d2 s2
       ≡ sharedSteps 0 l (sharedIn 0 (l + b + (l + f)) l b f 0 (l + b) ob of wb wf wb wf u p0 d1 s1)
       → sharedIn (8 * l) (l + b + (l + f) + l) 0 b f 0 (l + b) kb kf wb wf (2 * 2 ^ b) (2 * 2 ^ f) v p2 d2 s2
@@ -97,6 +97,6 @@ module _ (l b f wb wf : ℕ) (lb : l + b < 62) (lf : l + f < 62) where
 -- ---- the entry: the run of the definitions
 pub played-is : (q rb rf l b f wb wf e : ℕ) (s : List ℕ) (t : Transcript) → l ≡ log₂ q → b ≡ log₂ rb → f ≡ log₂ rf → wb ≡ 2 * (q * rb)
     → wf ≡ 2 * (q * rf) → e ≡ blockWords q rb rf
-    → outerWhole l b f (tablesIn wb wf (take (4 * wb) (take e s)) (drop (4 * wb) (take e s))) t ≡ outerPlayed q rb rf s t
-unfolding outerPlayed
+    → outerWhole l b f (tablesIn wb wf (take (4 * wb) (take e s)) (drop (4 * wb) (take e s))) t ≡ outerRunSteps q rb rf s t
+unfolding outerRunSteps
 played-is q rb rf l b f wb wf e s t el eb ef eu ev ee = rw (el, eb, ef, eu, ev, ee) (whole-is 2 q rb rf [] (tablesOf q rb rf s) t)

@@ -23,7 +23,7 @@ use Rattle.magnetar_sumcheck_verifier.specs.Messages.{Outer, outerNext, outerFo
 use Rattle.magnetar_schedule.specs.Schedule.{numbered}
 use Rattle.magnetar_schedule.specs.Stepwise.{Steps, RowSteps, rowStep, rowSteps}
 use Rattle.magnetar_prover.specs.Entries.{tableAt}
-use Rattle.magnetar_prover.specs.Held.{outerIn, rowIn, Rows}
+use Rattle.magnetar_prover.specs.InScratch.{outerIn, rowIn, Rows}
 use Rattle.magnetar_prover.proofs.Slots.{take-of-drop}
 use Rattle.magnetar_prover.proofs.Sent.{round-sent}
 

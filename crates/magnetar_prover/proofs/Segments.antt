@@ -26,7 +26,7 @@ use Rattle.magnetar_matrix.specs.Table.{Point}
 use Rattle.magnetar_layout.proofs.Readings.{part-is}
 use Rattle.magnetar_matrix.proofs.TableLaws.{elements-words}
 use Rattle.magnetar_prover.specs.Entries.{tableAt}
-use Rattle.magnetar_prover.specs.Held.{Local, segmentIn, Sent, sentIn, sentEach, absorbedOne}
+use Rattle.magnetar_prover.specs.InScratch.{Local, segmentIn, Sent, sentIn, sentEach, absorbedOne}
 use Rattle.magnetar_prover.proofs.Slots.{part-size, mid-before, mid-at}
 use Rattle.magnetar_prover.proofs.Sent.{elements-take}
 

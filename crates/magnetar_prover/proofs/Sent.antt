@@ -18,7 +18,7 @@ use Rattle.magnetar_hash.specs.declared.transcript.Transcript.{Transcript}
 use Rattle.magnetar_hash.specs.Transcript as transcript
 use Rattle.magnetar_schedule.specs.Stepwise.{Steps, send, drawOne}
 use Rattle.magnetar_matrix.proofs.TableLaws.{elements-words}
-use Rattle.magnetar_prover.specs.Held.{stepsIn, absorbedOne}
+use Rattle.magnetar_prover.specs.InScratch.{stepsIn, absorbedOne}
 use Rattle.magnetar_prover.proofs.Slots.{mid-upto, mid-at, part-is}
 
 two-suc : (i : ℕ) → 2 * suc i ≡ suc (suc (2 * i))
@@ -40,11 +40,11 @@ elements-after (suc k) (x ∷ []) vs e = absurd (omega arith)
 elements-after (suc k) (x ∷ (y ∷ s)) vs e = ap (λ (l : List ℕ). (y * 2 ^ 64 + x) ∷ l) (elements-after k s vs (omega arith))
 
 pub steps-eq : {t u : Transcript} {d e a b : List ℕ} → t ≡ u → d ≡ e → a ≡ b
-    → _≡_ {A = Steps} (record { played = record { transcript = t; draws = d }; sent = a }) (record { played = record { transcript = u; draws = e }; sent = b })
+    → _≡_ {A = Steps} (record { runState = record { transcript = t; draws = d }; sent = a }) (record { runState = record { transcript = u; draws = e }; sent = b })
 steps-eq {t} {u} {d} {e} {a} {b} p q r =
-    ap (λ (x : Transcript). record { played = record { transcript = x; draws = d }; sent = a }) p
-    ∙ (ap (λ (x : List ℕ). record { played = record { transcript = u; draws = x }; sent = a }) q
-    ∙ ap (λ (x : List ℕ). record { played = record { transcript = u; draws = e }; sent = x }) r)
+    ap (λ (x : Transcript). record { runState = record { transcript = x; draws = d }; sent = a }) p
+    ∙ (ap (λ (x : List ℕ). record { runState = record { transcript = u; draws = x }; sent = a }) q
+    ∙ ap (λ (x : List ℕ). record { runState = record { transcript = u; draws = e }; sent = x }) r)
 
 -- the words of n elements, put behind those of k
 module _ (proof t msg : List ℕ) (p w k n : ℕ) (at : p ≡ 2 * k) (size : w ≡ 2 * n) (room : p + w ≤ length proof) (many : length msg ≡ n)

@@ -20,7 +20,7 @@ use Rattle.magnetar_sumcheck_verifier.specs.Messages.{Outer, outerNext, outerFo
 use Rattle.magnetar_schedule.specs.Schedule.{numbered}
 use Rattle.magnetar_schedule.specs.Stepwise.{Steps, OuterSteps, sharedStep, sharedSteps}
 use Rattle.magnetar_prover.specs.Entries.{tableAt}
-use Rattle.magnetar_prover.specs.Held.{stepsIn, outerIn, Table}
+use Rattle.magnetar_prover.specs.InScratch.{stepsIn, outerIn, Table}
 use Rattle.magnetar_prover.specs.Shared.{messageIn, Dropped, Folded, sharedIn, Shared}
 use Rattle.magnetar_prover.proofs.Slots.{take-of-drop}
 use Rattle.magnetar_prover.proofs.Sent.{round-sent}

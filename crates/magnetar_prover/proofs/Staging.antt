@@ -20,9 +20,9 @@ use Rattle.magnetar_hash.specs.declared.transcript.Transcript.{Transcript}
 use Rattle.magnetar_hash.specs.Transcript.{absorbed, drawn, element}
 use Rattle.magnetar_protocol.specs.Proof.{part}
 use Rattle.magnetar_schedule.specs.Schedule.{Event, absorb, draw}
-use Rattle.magnetar_schedule.specs.Play.{Played, play, playedFrom, start, absorbing, drawing}
-use Rattle.magnetar_prover.specs.declared.play.Stage.{Stage}
-use Rattle.magnetar_prover.specs.Stages.{Written, Adds, Going}
+use Rattle.magnetar_schedule.specs.ScheduleRun.{RunState, runEvents, runFrom, start, absorbing, drawing}
+use Rattle.magnetar_prover.specs.declared.schedule_run.Stage.{Stage}
+use Rattle.magnetar_prover.specs.Stages.{Written, Adds, PartialRun}
 
 -- ---- words written
 
@@ -178,10 +178,10 @@ part-next s place k a b ea eb =
 
 -- nothing is left to play
 pub over
-    : {w was out : List ℕ} {whole : Played} {es rest : List Event} {from to : ℕ} {s : Stage}
+    : {w was out : List ℕ} {whole : RunState} {es rest : List Event} {from to : ℕ} {s : Stage}
     → s .left ≡ 0
-    → Going w was whole es from s out
-    → Going w was whole rest to s out
+    → PartialRun w was whole es from s out
+    → PartialRun w was whole rest to s out
 over {w} {was} {out} {whole} {es} {rest} {from} {to} {s} e g =
     record {
       until = g .until;
@@ -198,16 +198,16 @@ take-one (suc n) e es h =
     rw k
 
 pub drawn-one
-    : {w was out last : List ℕ} {whole : Played} {rest : List Event} {next : ℕ} {s r : Stage} (l : List ℕ) (u : Transcript)
+    : {w was out last : List ℕ} {whole : RunState} {rest : List Event} {next : ℕ} {s r : Stage} (l : List ℕ) (u : Transcript)
     → 0 < s .left
     → u ≡ drawn (s .transcript) l
     → (r .transcript ≡ u)
     × (r .place ≡ s .place)
     × (r .left ≡ s .left - 1)
     × Adds (words (value (element u) ∷ [])) (s .written) out (r .written) last
-    → Going w was whole (draw l ∷ rest) next s out
-    → Going w was whole rest next r last
-unfolding play
+    → PartialRun w was whole (draw l ∷ rest) next s out
+    → PartialRun w was whole rest next r last
+unfolding runEvents
 drawn-one {w} {was} {out} {last} {whole} {rest} {next} {s} {r} l u h e k g =
     let p = g .until in
     let v : u ≡ drawn (p .transcript) l = e ∙ ap (λ (x : Transcript). drawn x l) (g .transcript) in
@@ -219,22 +219,22 @@ drawn-one {w} {was} {out} {last} {whole} {rest} {next} {s} {r} l u h e k g =
       written = subst (λ (y : List ℕ). Written y was (r .written) last) x (k .3 (words (p .draws)) was (g .written));
       place = λ _. ap (λ (i : ℕ). drop i w) (k .1) ∙ g .place h;
       all =
-          ap (λ (i : ℕ). play w (take i rest) (drawing l p)) (k .2)
-          ∙ sym (ap (λ (es : List Event). play w es p) (take-one (s .left) (draw l) rest h))
+          ap (λ (i : ℕ). runEvents w (take i rest) (drawing l p)) (k .2)
+          ∙ sym (ap (λ (es : List Event). runEvents w es p) (take-one (s .left) (draw l) rest h))
           ∙ g .all;
     }
 
 pub absorbed-one
-    : {w was out : List ℕ} {whole : Played} {rest : List Event} {next : ℕ} {s r : Stage} (l v : List ℕ) (k : ℕ)
+    : {w was out : List ℕ} {whole : RunState} {rest : List Event} {next : ℕ} {s r : Stage} (l v : List ℕ) (k : ℕ)
     → 0 < s .left
     → v ≡ words (take k (drop (s .place) w))
     → r .transcript ≡ absorbed (s .transcript) l (wordBytes v)
     → r .written ≡ s .written
     → r .left ≡ s .left - 1
     → drop (r .place) w ≡ drop k (drop (s .place) w)
-    → Going w was whole (absorb l next k ∷ rest) next s out
-    → Going w was whole rest (next + k) r out
-unfolding play
+    → PartialRun w was whole (absorb l next k ∷ rest) next s out
+    → PartialRun w was whole rest (next + k) r out
+unfolding runEvents
 absorbed-one {w} {was} {out} {whole} {rest} {next} {s} {r} l v k h ev et ew el ep g =
     let p = g .until in
     let q = absorbing l (part next k w) p in
@@ -245,8 +245,8 @@ absorbed-one {w} {was} {out} {whole} {rest} {next} {s} {r} l v k h ev et ew el e
       written = subst (λ (i : ℕ). Written (words (p .draws)) was i out) (sym ew) (g .written);
       place = λ _. ep ∙ ap (drop k) (g .place h) ∙ drop-drop k next w;
       all =
-          ap (λ (i : ℕ). play w (take i rest) q) el
-          ∙ sym (ap (λ (es : List Event). play w es p) (take-one (s .left) (absorb l next k) rest h))
+          ap (λ (i : ℕ). runEvents w (take i rest) q) el
+          ∙ sym (ap (λ (es : List Event). runEvents w es p) (take-one (s .left) (absorb l next k) rest h))
           ∙ g .all;
     }
 
@@ -257,7 +257,7 @@ pub going-start
     → s .transcript ≡ t
     → s .written ≡ 0
     → s .place ≡ 0
-    → Going w was (playedFrom w (take (s .left) es) t) es 0 s was
+    → PartialRun w was (runFrom w (take (s .left) es) t) es 0 s was
 unfolding words
 going-start w was es t s et ew ep =
     record {
@@ -269,10 +269,10 @@ going-start w was es t s et ew ep =
     }
 
 pub going-end
-    : {w was out : List ℕ} {whole : Played} {next : ℕ} {s : Stage}
-    → Going w was whole [] next s out
+    : {w was out : List ℕ} {whole : RunState} {next : ℕ} {s : Stage}
+    → PartialRun w was whole [] next s out
     → (s .transcript ≡ whole .transcript) × (out ≡ overlaid (words (whole .draws)) was)
-unfolding play
+unfolding runEvents
 going-end {w} {was} {out} {whole} {next} {s} g =
-    let e : g .until ≡ whole = ap (λ (es : List Event). play w es (g .until)) (sym (take-nil {A = Event} (s .left))) ∙ g .all in
-    (g .transcript ∙ ap (λ (p : Played). p .transcript) e, g .written .list ∙ ap (λ (p : Played). overlaid (words (p .draws)) was) e)
+    let e : g .until ≡ whole = ap (λ (es : List Event). runEvents w es (g .until)) (sym (take-nil {A = Event} (s .left))) ∙ g .all in
+    (g .transcript ∙ ap (λ (p : RunState). p .transcript) e, g .written .list ∙ ap (λ (p : RunState). overlaid (words (p .draws)) was) e)

@@ -1,5 +1,5 @@
 pub mod Entries
-pub mod Held
+pub mod InScratch
 pub mod Shared
 pub mod Whole
 pub mod Labels

@@ -11,7 +11,7 @@ use Rattle.magnetar_hash.specs.declared.transcript.Transcript.{Transcript}
 use Rattle.magnetar_sumcheck_verifier.specs.Outer.{outerMessage, dropVar}
 use Rattle.magnetar_schedule.specs.Stepwise.{OuterSteps}
 use Rattle.magnetar_prover.specs.Entries.{tableAt}
-use Rattle.magnetar_prover.specs.Held.{stepsIn, outerIn}
+use Rattle.magnetar_prover.specs.InScratch.{stepsIn, outerIn}
 
 -- the message that binds variable v of a block
 abbrev pub messageIn : (v k t w n : ℕ) → List ℕ → List ℕ

@@ -8,7 +8,7 @@ use lib.ListN.{getD, take, drop}
 use Rattle.magnetar_hash.specs.Bytes.{ascii}
 use Rattle.magnetar_hash.specs.declared.transcript.Transcript.{Transcript}
 use Rattle.magnetar_sumcheck_verifier.specs.Messages.{outerStart}
-use Rattle.magnetar_prover.specs.Held.{stepsIn, outerIn}
+use Rattle.magnetar_prover.specs.InScratch.{stepsIn, outerIn}
 use Rattle.magnetar_schedule.specs.Stepwise.{Steps, OuterSteps, Tables, begin, drawTimes, sendEach, sharedSteps, rowSteps}
 
 -- the two taus
@@ -19,8 +19,8 @@ tausOf l b f t = drawTimes (l + f) (ascii "vs-tau-fld") (drawTimes (l + b) (asci
 abbrev pub beginOf : (l b : ℕ) → Tables → Steps → OuterSteps
 beginOf l b T p = record {
   steps = p;
-  bin = outerStart l (take (l + b) (p .played .draws)) (T .bin-a) (T .bin-b) (T .bin-c);
-  fld = outerStart l (drop (l + b) (p .played .draws)) (T .fld-a) (T .fld-b) (T .fld-c);
+  bin = outerStart l (take (l + b) (p .runState .draws)) (T .bin-a) (T .bin-b) (T .bin-c);
+  fld = outerStart l (drop (l + b) (p .runState .draws)) (T .fld-a) (T .fld-b) (T .fld-c);
 }
 
 -- the row rounds of bin

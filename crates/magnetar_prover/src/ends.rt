@@ -11,7 +11,7 @@ ghost use Rattle.magnetar_field.specs.Words.{elements};
 ghost use Rattle.magnetar_hash.specs.Bytes.{ascii};
 ghost use Rattle.magnetar_schedule.specs.Stepwise.{begin, drawTimes};
 ghost use Rattle.magnetar_schedule.specs.Schedule.{numbered};
-ghost use Rattle.magnetar_prover.specs.Held.{stepsIn, absorbedOne, sentIn, sentEach, threeIn, Begun};
+ghost use Rattle.magnetar_prover.specs.InScratch.{stepsIn, absorbedOne, sentIn, sentEach, threeIn, EqTablePlaced};
 
 // The tau of the sb variables of bin and of the sf variables of fld are the first draws.
 pub(crate) fn taus(sb: usize, sf: usize, draws: &mut [u64], t: Transcript) -> Transcript
@@ -29,7 +29,7 @@ pub(crate) fn taus(sb: usize, sf: usize, draws: &mut [u64], t: Transcript) -> Tr
 fn begin_table(o: usize, x: usize, w: usize, draws: &[u64], s: &mut [u64])
     requires { ⌜ (o ≤ 20) × (x ≤ 20) × (2 * (o + x) ≤ length (now draws)) × (length (now s) ≡ 4 * w) × (w ≤ 2097152) ⌝ }
     requires { ⌜ w ≡ 2 * 2 ^ x ⌝ }
-    ensures { λ _. ⌜ Begun w (take x (drop o (elements (now (draws .entry))))) (now (s .entry)) (now (s .exit)) ⌝ }
+    ensures { λ _. ⌜ EqTablePlaced w (take x (drop o (elements (now (draws .entry))))) (now (s .entry)) (now (s .exit)) ⌝ }
 {
     let a = 2 * o;
     let e = a + 2 * x;
@@ -40,8 +40,8 @@ fn begin_table(o: usize, x: usize, w: usize, draws: &[u64], s: &mut [u64])
 pub(crate) fn begin_tables(sb: usize, sf: usize, wb: usize, wf: usize, draws: &[u64], s: &mut [u64])
     requires { ⌜ (sb ≤ 20) × (sf ≤ 20) × (2 * (sb + sf) ≤ length (now draws)) × (length (now s) ≡ 4 * wb + 4 * wf) × (wb ≤ 2097152) × (wf ≤ 2097152) ⌝ }
     requires { ⌜ (wb ≡ 2 * 2 ^ sb) × (wf ≡ 2 * 2 ^ sf) ⌝ }
-    ensures bin { λ _. ⌜ Begun wb (take sb (elements (now (draws .entry)))) (take (4 * wb) (now (s .entry))) (take (4 * wb) (now (s .exit))) ⌝ }
-    ensures fld { λ _. ⌜ Begun wf (take sf (drop sb (elements (now (draws .entry))))) (take (4 * wf) (drop (4 * wb) (now (s .entry)))) (take (4 * wf) (drop (4 * wb) (now (s .exit)))) ⌝ }
+    ensures bin { λ _. ⌜ EqTablePlaced wb (take sb (elements (now (draws .entry)))) (take (4 * wb) (now (s .entry))) (take (4 * wb) (now (s .exit))) ⌝ }
+    ensures fld { λ _. ⌜ EqTablePlaced wf (take sf (drop sb (elements (now (draws .entry))))) (take (4 * wf) (drop (4 * wb) (now (s .entry)))) (take (4 * wf) (drop (4 * wb) (now (s .exit)))) ⌝ }
 {
     let a = 4 * wb;
     let e = a + 4 * wf;

@@ -7,16 +7,16 @@ use magnetar_protocol::refusal;
 ghost use mathlib.Core.Path.{_≡_};
 ghost use mathlib.Core.List.{_++_};
 ghost use Prim.Native.Nat.{_*_, _/_, _<_, _≤_};
-ghost use Rattle.magnetar_layout.specs.Tests.{noted, columnTests, layoutTests};
-ghost use Rattle.magnetar_protocol.specs.Shape.{outline};
+ghost use Rattle.magnetar_layout.specs.Tests.{firstRefusal, columnTests, layoutTests};
+ghost use Rattle.magnetar_protocol.specs.Shape.{sizesOnly};
 ghost use Rattle.magnetar_protocol.specs.RunTests.{counterTests};
 ghost use Rattle.magnetar_prover.specs.Entries.{playRefusal, innerRoundsRefusal, countTests, totalTests, outerDrawn, outerSent, blockWords, outerRoundsRefusal};
 
 // 1, 8, 9 and 10.
 fn of_sizes(m: usize, lens: &[usize]) -> u32
-    ensures { λ r. ⌜ r ≡ noted 0 (columnTests m ++ layoutTests (m / 2) (now (lens .entry))) ⌝ }
+    ensures { λ r. ⌜ r ≡ firstRefusal 0 (columnTests m ++ layoutTests (m / 2) (now (lens .entry))) ⌝ }
 {
-    let z = tests::note(0, 1, !tests::is_size(2, 65536, m));
+    let z = tests::refuse(0, 1, !tests::is_size(2, 65536, m));
     if z != 0 {
         return z;
     }
@@ -25,9 +25,9 @@ fn of_sizes(m: usize, lens: &[usize]) -> u32
 
 // 14.
 fn of_counter(t: Transcript) -> u32
-    ensures { λ r. ⌜ r ≡ noted 0 (counterTests (t .«squeeze_ctr»)) ⌝ }
+    ensures { λ r. ⌜ r ≡ firstRefusal 0 (counterTests (t .«squeeze_ctr»)) ⌝ }
 {
-    tests::note(0, 14, !(t.squeeze_ctr < 0x100000000))
+    tests::refuse(0, 14, !(t.squeeze_ctr < 0x100000000))
 }
 
 // The refusals of the inner rounds.
@@ -47,23 +47,23 @@ pub(crate) fn of_inner(
     }
     let k = sizes::log2(m);
     let y = of_counter(t);
-    let y = tests::note(y, 15, draws.len() < 2 * k);
-    let y = tests::note(y, 15, proof.len() < 2 * (3 * k + 1 + lens.len()));
-    tests::note(y, 15, s.len() < 6 * m)
+    let y = tests::refuse(y, 15, draws.len() < 2 * k);
+    let y = tests::refuse(y, 15, proof.len() < 2 * (3 * k + 1 + lens.len()));
+    tests::refuse(y, 15, s.len() < 6 * m)
 }
 
 // 1 and 4.
 fn of_counts(q: usize, rb: usize, rf: usize) -> u32
-    ensures { λ r. ⌜ r ≡ noted 0 (countTests q rb rf ++ totalTests q rb rf) ⌝ }
+    ensures { λ r. ⌜ r ≡ firstRefusal 0 (countTests q rb rf ++ totalTests q rb rf) ⌝ }
 {
-    let z = tests::note(0, 1, !tests::is_size(1, 4096, q));
-    let z = tests::note(z, 4, !tests::is_size(1, 65536, rb));
-    let z = tests::note(z, 4, !tests::is_size(1, 65536, rf));
+    let z = tests::refuse(0, 1, !tests::is_size(1, 4096, q));
+    let z = tests::refuse(z, 4, !tests::is_size(1, 65536, rb));
+    let z = tests::refuse(z, 4, !tests::is_size(1, 65536, rf));
     if z != 0 {
         return z;
     }
-    let y = tests::note(0, 4, q * rb > 1048576);
-    tests::note(y, 4, q * rf > 1048576)
+    let y = tests::refuse(0, 4, q * rb > 1048576);
+    tests::refuse(y, 4, q * rf > 1048576)
 }
 
 // The words of what is drawn in the outer rounds.
@@ -109,7 +109,7 @@ pub(crate) fn of_play(
     draws: &[u64],
     t: Transcript,
 ) -> u32
-    ensures { λ r. ⌜ r ≡ playRefusal (outline m q rb rf (now (lens .entry))) (now (proof .entry)) (now (draws .entry)) t ⌝ }
+    ensures { λ r. ⌜ r ≡ playRefusal (sizesOnly m q rb rf (now (lens .entry))) (now (proof .entry)) (now (draws .entry)) t ⌝ }
 {
     let z = refusal::outline_refusal(m, q, rb, rf, lens);
     if z != 0 {
@@ -119,8 +119,8 @@ pub(crate) fn of_play(
     let d = drawn_words(sizes::log2(q), sizes::log2(rb), sizes::log2(rf));
     let a = sent_words(sizes::log2(q), sizes::log2(rb), sizes::log2(rf));
     let y = of_counter(t);
-    let y = tests::note(y, 15, draws.len() < d + 2 * c);
-    tests::note(y, 16, proof.len() != a + 2 * (3 * c + 1 + lens.len()))
+    let y = tests::refuse(y, 15, draws.len() < d + 2 * c);
+    tests::refuse(y, 16, proof.len() != a + 2 * (3 * c + 1 + lens.len()))
 }
 
 // The refusals of the outer rounds.
@@ -146,7 +146,7 @@ pub(crate) fn of_outer(
     let a = sent_words(l, b, f);
     let e = block_words(q, rb, rf);
     let y = of_counter(t);
-    let y = tests::note(y, 15, draws.len() < d);
-    let y = tests::note(y, 15, proof.len() < a);
-    tests::note(y, 15, s.len() < e)
+    let y = tests::refuse(y, 15, draws.len() < d);
+    let y = tests::refuse(y, 15, proof.len() < a);
+    tests::refuse(y, 15, s.len() < e)
 }

@@ -23,11 +23,11 @@ ghost use Rattle.magnetar_hash.specs.Bytes.{ascii};
 ghost use Rattle.magnetar_layout.specs.Layout.{offset};
 ghost use Rattle.magnetar_layout.specs.Entries.{layoutRefusal};
 ghost use Rattle.magnetar_schedule.specs.Schedule.{numbered};
-ghost use Rattle.magnetar_protocol.specs.Shape.{outline};
+ghost use Rattle.magnetar_protocol.specs.Shape.{sizesOnly};
 ghost use Rattle.magnetar_sumcheck_verifier.specs.Inner.{innerMessage};
 ghost use Rattle.magnetar_schedule.specs.Stepwise.{innerStep, innerSteps};
-ghost use Rattle.magnetar_prover.specs.Entries.{tableAt, answerFor, proofFor, drawsFor, scratchFor, innerRoundsRefusal, innerPlayed};
-ghost use Rattle.magnetar_prover.specs.Held.{stepsIn, innerIn, Table, Local, Locals, segmentIn, pasted, absorbedOne, sentIn, sentEach, innerWhole};
+ghost use Rattle.magnetar_prover.specs.Entries.{tableAt, answerFor, proofFor, drawsFor, scratchFor, innerRoundsRefusal, innerRunSteps};
+ghost use Rattle.magnetar_prover.specs.InScratch.{stepsIn, innerIn, Table, Local, Locals, segmentIn, pasted, absorbedOne, sentIn, sentEach, innerWhole};
 
 // The message of a round, from the tables of n words at the front of s and at word 2m.
 fn message(out: &mut [u64], s: &[u64], m: usize, n: usize)
@@ -260,9 +260,9 @@ pub fn inner_rounds(
     s: &mut [u64],
     t: Transcript,
 ) -> TranscriptAnswer
-    ensures answer { λ r. ⌜ r ≡ answerFor (innerRoundsRefusal m (now (lens .entry)) (now (proof .entry)) (now (draws .entry)) (now (s .entry)) t) (innerPlayed (outline m 1 1 1 (now (lens .entry))) (now (s .entry)) t) t ⌝ }
-    ensures proof { λ _. ⌜ now (proof .exit) ≡ proofFor (innerRoundsRefusal m (now (lens .entry)) (now (proof .entry)) (now (draws .entry)) (now (s .entry)) t) (innerPlayed (outline m 1 1 1 (now (lens .entry))) (now (s .entry)) t) (now (proof .entry)) ⌝ }
-    ensures draws { λ _. ⌜ now (draws .exit) ≡ drawsFor (innerRoundsRefusal m (now (lens .entry)) (now (proof .entry)) (now (draws .entry)) (now (s .entry)) t) (innerPlayed (outline m 1 1 1 (now (lens .entry))) (now (s .entry)) t) (now (draws .entry)) ⌝ }
+    ensures answer { λ r. ⌜ r ≡ answerFor (innerRoundsRefusal m (now (lens .entry)) (now (proof .entry)) (now (draws .entry)) (now (s .entry)) t) (innerRunSteps (sizesOnly m 1 1 1 (now (lens .entry))) (now (s .entry)) t) t ⌝ }
+    ensures proof { λ _. ⌜ now (proof .exit) ≡ proofFor (innerRoundsRefusal m (now (lens .entry)) (now (proof .entry)) (now (draws .entry)) (now (s .entry)) t) (innerRunSteps (sizesOnly m 1 1 1 (now (lens .entry))) (now (s .entry)) t) (now (proof .entry)) ⌝ }
+    ensures draws { λ _. ⌜ now (draws .exit) ≡ drawsFor (innerRoundsRefusal m (now (lens .entry)) (now (proof .entry)) (now (draws .entry)) (now (s .entry)) t) (innerRunSteps (sizesOnly m 1 1 1 (now (lens .entry))) (now (s .entry)) t) (now (draws .entry)) ⌝ }
     ensures scratch { λ _. ⌜ now (s .exit) ≡ scratchFor (innerRoundsRefusal m (now (lens .entry)) (now (proof .entry)) (now (draws .entry)) (now (s .entry)) t) (6 * m) (now (s .entry)) ⌝ }
 {
     let z = guard::of_inner(m, lens, proof, draws, s, t);

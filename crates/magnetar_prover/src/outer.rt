@@ -20,7 +20,7 @@ ghost use Rattle.magnetar_multilinear.specs.Multilinear.{bindVar};
 ghost use Rattle.magnetar_sumcheck_verifier.specs.Outer.{outerMessage, dropVar};
 ghost use Rattle.magnetar_prover.specs.Labels.{rowLabel};
 ghost use Rattle.magnetar_prover.specs.Entries.{tableAt};
-ghost use Rattle.magnetar_prover.specs.Held.{Table, Rows, rowIn};
+ghost use Rattle.magnetar_prover.specs.InScratch.{Table, Rows, rowIn};
 
 // The message of a round that binds variable v of the tables of n words, e being without it already.
 fn send_message(out: &mut [u64], s: &[u64], w: usize, n: usize, v: usize, k: Gf128, t: Gf128)

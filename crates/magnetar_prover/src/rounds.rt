@@ -18,8 +18,8 @@ ghost use Prim.Native.Nat.{_+_, _*_, _^_, _<_};
 ghost use lib.ListN.{length, take, drop, replicate};
 ghost use Rattle.magnetar_field.specs.Gf128.{value};
 ghost use Rattle.magnetar_schedule.specs.Stepwise.{sharedSteps};
-ghost use Rattle.magnetar_prover.specs.Entries.{tablesIn, answerFor, proofFor, drawsFor, scratchFor, outerRoundsRefusal, outerPlayed, blockWords};
-ghost use Rattle.magnetar_prover.specs.Held.{stepsIn};
+ghost use Rattle.magnetar_prover.specs.Entries.{tablesIn, answerFor, proofFor, drawsFor, scratchFor, outerRoundsRefusal, outerRunSteps, blockWords};
+ghost use Rattle.magnetar_prover.specs.InScratch.{stepsIn};
 ghost use Rattle.magnetar_prover.specs.Shared.{sharedIn};
 ghost use Rattle.magnetar_prover.specs.Whole.{tausOf, beginOf, binOf, fldOf, endOf, outerWhole, leftIn, Blocks};
 
@@ -172,9 +172,9 @@ pub fn outer_rounds(
     s: &mut [u64],
     t: Transcript,
 ) -> TranscriptAnswer
-    ensures answer { λ r. ⌜ r ≡ answerFor (outerRoundsRefusal q rb rf (now (proof .entry)) (now (draws .entry)) (now (s .entry)) t) (outerPlayed q rb rf (now (s .entry)) t) t ⌝ }
-    ensures proof { λ _. ⌜ now (proof .exit) ≡ proofFor (outerRoundsRefusal q rb rf (now (proof .entry)) (now (draws .entry)) (now (s .entry)) t) (outerPlayed q rb rf (now (s .entry)) t) (now (proof .entry)) ⌝ }
-    ensures draws { λ _. ⌜ now (draws .exit) ≡ drawsFor (outerRoundsRefusal q rb rf (now (proof .entry)) (now (draws .entry)) (now (s .entry)) t) (outerPlayed q rb rf (now (s .entry)) t) (now (draws .entry)) ⌝ }
+    ensures answer { λ r. ⌜ r ≡ answerFor (outerRoundsRefusal q rb rf (now (proof .entry)) (now (draws .entry)) (now (s .entry)) t) (outerRunSteps q rb rf (now (s .entry)) t) t ⌝ }
+    ensures proof { λ _. ⌜ now (proof .exit) ≡ proofFor (outerRoundsRefusal q rb rf (now (proof .entry)) (now (draws .entry)) (now (s .entry)) t) (outerRunSteps q rb rf (now (s .entry)) t) (now (proof .entry)) ⌝ }
+    ensures draws { λ _. ⌜ now (draws .exit) ≡ drawsFor (outerRoundsRefusal q rb rf (now (proof .entry)) (now (draws .entry)) (now (s .entry)) t) (outerRunSteps q rb rf (now (s .entry)) t) (now (draws .entry)) ⌝ }
     ensures scratch { λ _. ⌜ now (s .exit) ≡ scratchFor (outerRoundsRefusal q rb rf (now (proof .entry)) (now (draws .entry)) (now (s .entry)) t) (blockWords q rb rf) (now (s .entry)) ⌝ }
 {
     let z = guard::of_outer(q, rb, rf, proof, draws, s, t);

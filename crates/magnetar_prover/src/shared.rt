@@ -14,7 +14,7 @@ ghost use Rattle.magnetar_field.specs.Gf128.{value, _⊕_, _⊗_};
 ghost use Rattle.magnetar_field.specs.Words.{elements, words};
 ghost use Rattle.magnetar_hash.specs.Transcript.{element};
 ghost use Rattle.magnetar_schedule.specs.Stepwise.{sharedStep, sharedSteps};
-ghost use Rattle.magnetar_prover.specs.Held.{Table};
+ghost use Rattle.magnetar_prover.specs.InScratch.{Table};
 ghost use Rattle.magnetar_prover.specs.Shared.{messageIn, Dropped, Folded, sharedIn, Shared};
 
 // The messages of both systems, behind p elements.

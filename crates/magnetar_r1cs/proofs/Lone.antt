@@ -14,9 +14,9 @@ use Rattle.magnetar_matrix.specs.Lent.{Lent, entriesOf}
 use Rattle.magnetar_matrix.specs.Packed.{loginWords}
 use Rattle.magnetar_matrix.specs.Table.{Equal}
 use Rattle.magnetar_r1cs.specs.Entries.{loginsTests, matrixTests}
-use Rattle.magnetar_layout.specs.Tests.{noted, allBelow, counted, placed, loneTests, batchTests, Sized}
+use Rattle.magnetar_layout.specs.Tests.{firstRefusal, allBelow, counted, placed, loneTests, batchTests, Sized}
 use Rattle.magnetar_layout.proofs.EveryLaws.{both}
-use Rattle.magnetar_layout.proofs.Noted.{Clear, noted-clear}
+use Rattle.magnetar_layout.proofs.FirstRefusal.{Clear, first-refusal-clear}
 use Rattle.magnetar_layout.proofs.SizeLaws.{not-bad}
 
 -- the entries are counted, and lie inside
@@ -41,9 +41,9 @@ pub record Lone (a : Lent) : Type 0 where
   pub rows-size : Sized 1 65536 (a .rows)
   pub entries : Placed a
 
-pub lone : (a : Lent) → noted 0 (loneTests a) ≡ 0 → Lone a
+pub lone : (a : Lent) → firstRefusal 0 (loneTests a) ≡ 0 → Lone a
 lone a e =
-    let k = noted-clear 0 (loneTests a) refl e .1 in
+    let k = first-refusal-clear 0 (loneTests a) refl e .1 in
     record { cols-size = not-bad (k .0); rows-size = not-bad (k .1 .0); entries = placed-of a (k .1 .1) }
 
 -- ---- entries that lie inside
@@ -91,9 +91,9 @@ pub record Logins (p k q w n : ℕ) : Type 0 where
   pub packed : p ≡ q * loginWords w
   pub rows : Sized 1 65536 n
 
-pub logins-clear : (p k q w n : ℕ) → noted 0 (loginsTests p k q w n) ≡ 0 → Logins p k q w n
+pub logins-clear : (p k q w n : ℕ) → firstRefusal 0 (loginsTests p k q w n) ≡ 0 → Logins p k q w n
 logins-clear p k q w n e =
-    let c = noted-clear 0 (loginsTests p k q w n) refl e .1 in
+    let c = first-refusal-clear 0 (loginsTests p k q w n) refl e .1 in
     let z = not-bad (c .0) in
     record { half = omega (arith, z .high); logins = not-bad (c .1 .0); packed = eqb-true _ _ (not-false _ (c .1 .1 .0)); rows = not-bad (c .1 .1 .1 .1 .0) }
 
@@ -105,9 +105,9 @@ pub record Batched (a : Lent) (ws x : List ℕ) (q w : ℕ) : Type 0 where
   pub rows-size : Sized 1 65536 (a .rows)
   pub entries : Placed a
 
-pub batched : (a : Lent) (ws x : List ℕ) (q w : ℕ) → noted 0 (batchTests a ws x q w) ≡ 0 → Batched a ws x q w
+pub batched : (a : Lent) (ws x : List ℕ) (q w : ℕ) → firstRefusal 0 (batchTests a ws x q w) ≡ 0 → Batched a ws x q w
 batched a ws x q w e =
-    let k = noted-clear 0 (batchTests a ws x q w) refl e .1 in
+    let k = first-refusal-clear 0 (batchTests a ws x q w) refl e .1 in
     let z = not-bad (k .0) in
     record {
       half = omega (arith, z .high);
@@ -118,9 +118,9 @@ batched a ws x q w e =
     }
 
 -- the same of the tests without that of the public words
-pub masked : (a : Lent) (ws : List ℕ) (q w : ℕ) → noted 0 (matrixTests a ws q w) ≡ 0 → Batched a ws [] q w
+pub masked : (a : Lent) (ws : List ℕ) (q w : ℕ) → firstRefusal 0 (matrixTests a ws q w) ≡ 0 → Batched a ws [] q w
 masked a ws q w e =
-    let k = noted-clear 0 (matrixTests a ws q w) refl e .1 in
+    let k = first-refusal-clear 0 (matrixTests a ws q w) refl e .1 in
     let z = not-bad (k .0) in
     record {
       half = omega (arith, z .high);

@@ -9,7 +9,7 @@ use Rattle.magnetar_field.specs.Sizes.{log₂, halvings}
 use Rattle.magnetar_layout.specs.Every.{every}
 use Rattle.magnetar_layout.specs.Lent.{Lent, lent}
 use Rattle.magnetar_layout.specs.Login.{loginWords}
-use Rattle.magnetar_layout.specs.Tests.{note, isSize}
+use Rattle.magnetar_layout.specs.Tests.{orRefuse, isSize}
 use Rattle.magnetar_matrix.specs.Sum.{blocks}
 use Rattle.magnetar_matrix.specs.Matrix.{sumOver, rowTotal, share, timesAt, bitValued}
 use Rattle.magnetar_matrix.specs.Batch.{assignment}
@@ -41,13 +41,13 @@ four-logins = refl
 
 -- 12 comes before 13, and 13 before 15
 pub refused-value : _≡_ {A = ℕ} (masksRefusal (rules 2) packed 4 2 3 []) 12
-unfolding masksRefusal note isSize log₂ halvings every bitValued matrixOf entriesOf loginWords
+unfolding masksRefusal orRefuse isSize log₂ halvings every bitValued matrixOf entriesOf loginWords
 refused-value = refl
 
 pub refused-number : _≡_ {A = ℕ} (masksRefusal (rules 1) packed 4 2 3 []) 13
-unfolding masksRefusal note isSize log₂ halvings every bitValued matrixOf entriesOf loginWords
+unfolding masksRefusal orRefuse isSize log₂ halvings every bitValued matrixOf entriesOf loginWords
 refused-number = refl
 
 pub refused-room : _≡_ {A = ℕ} (masksRefusal (rules 1) packed 4 2 1 (0 ∷ 0 ∷ 0 ∷ [])) 15
-unfolding masksRefusal note isSize log₂ halvings every bitValued matrixOf entriesOf loginWords
+unfolding masksRefusal orRefuse isSize log₂ halvings every bitValued matrixOf entriesOf loginWords
 refused-room = refl

@@ -13,8 +13,8 @@ use lib.Seq.{take-all, length-take-le}
 use borrow.Author.Tests.{ltb-true, ltb-false, le-ltb, le-leb, eq-eqb}
 use Rattle.magnetar_field.specs.Sizes.{log₂}
 use Rattle.magnetar_field.specs.Words.{elements, words}
-use Rattle.magnetar_layout.specs.Tests.{note, noted, roomTest, isSize, Sized}
-use Rattle.magnetar_layout.proofs.Noted.{noted-front, noted-late, turned, done}
+use Rattle.magnetar_layout.specs.Tests.{orRefuse, firstRefusal, roomTest, isSize, Sized}
+use Rattle.magnetar_layout.proofs.FirstRefusal.{first-refusal-front, first-refusal-late, turned, done}
 use Rattle.magnetar_layout.proofs.Room.{room-short, room-enough}
 use Rattle.magnetar_matrix.specs.Matrix.{Entry, Matrix}
 use Rattle.magnetar_matrix.specs.Lent.{entry, entriesOf}
@@ -132,7 +132,7 @@ parts-equal r c l h s e hr hc hl hh =
     long t b = length-take-le (e - s) (drop s t) (rw length-drop (omega arith))
 
 -- ---- how the products of a range end
-module _ (r c l h : List ℕ) (a b n : ℕ) (ws x : List ℕ) (q w : ℕ) (out : List ℕ) (z : ℕ) (e : z ≡ noted 0 (loginsTests (length ws) (length x) q w n)) where
+module _ (r c l h : List ℕ) (a b n : ℕ) (ws x : List ℕ) (q w : ℕ) (out : List ℕ) (z : ℕ) (e : z ≡ firstRefusal 0 (loginsTests (length ws) (length x) q w n)) where
   abbrev mat : Matrix
   mat = rangeMatrix n (2 * w) a b r c l h
 
@@ -142,14 +142,14 @@ module _ (r c l h : List ℕ) (a b n : ℕ) (ws x : List ℕ) (q w : ℕ) (out :
   pub range-refused : (z ≡ 0 → ⊥) → Ends z out
   unfolding rangeRefusal
   range-refused k =
-      let f = noted-front (loginsTests (length ws) (length x) q w n) (roomTest (q * (2 * n)) out) z e k in
+      let f = first-refusal-front (loginsTests (length ws) (length x) q w n) (roomTest (q * (2 * n)) out) z e k in
       (f, turned (words (packedTable mat ws (elements x) q w) ++ drop (q * (2 * n)) out) out f k)
 
   module _ (k : z ≡ 0) where
     pub range-short : length out < q * (2 * n) → Ends 15 out
     unfolding rangeRefusal
     range-short room =
-        let f = noted-late (loginsTests (length ws) (length x) q w n) (roomTest (q * (2 * n)) out) z 15 e k (room-short (q * (2 * n)) out room) in
+        let f = first-refusal-late (loginsTests (length ws) (length x) q w n) (roomTest (q * (2 * n)) out) z 15 e k (room-short (q * (2 * n)) out room) in
         (f, turned {n = 15} (words (packedTable mat ws (elements x) q w) ++ drop (q * (2 * n)) out) out f (λ i. omega (arith, i)))
 
     pub range-done : q * (2 * n) ≤ length out → (i j : ℕ) → j ≡ min b (length (entriesOf r c l h)) → i ≡ min a j → (t : List ℕ)
@@ -157,26 +157,26 @@ module _ (r c l h : List ℕ) (a b n : ℕ) (ws x : List ℕ) (q w : ℕ) (out :
         → Ends 0 (t ++ drop (q * (2 * n)) out)
     unfolding rangeRefusal
     range-done room i j hj hi t q₁ =
-        let f = noted-late (loginsTests (length ws) (length x) q w n) (roomTest (q * (2 * n)) out) z 0 e k (room-enough (q * (2 * n)) out room) in
+        let f = first-refusal-late (loginsTests (length ws) (length x) q w n) (roomTest (q * (2 * n)) out) z 0 e k (room-enough (q * (2 * n)) out room) in
         let g : t ≡ words (packedTable mat ws (elements x) q w) =
         q₁ ∙ rw (entries-part (j - i) i r c l h, range-cut (entriesOf r c l h) a b j i hj hi) (ap words (table-is mat ws (elements x) q w)) in
         (f, rw g (done (words (packedTable mat ws (elements x) q w) ++ drop (q * (2 * n)) out) out f refl))
 
 -- ---- what they leave where the sizes fit
-size-fine : (least most n : ℕ) → Sized least most n → not (isSize least most n) ≡ false
+size-passes : (least most n : ℕ) → Sized least most n → not (isSize least most n) ≡ false
 unfolding isSize
-size-fine least most n z = rw (le-leb least n (z .low), le-leb n most (z .high), eq-eqb n (2 ^ log₂ n) (z .power))
+size-passes least most n z = rw (le-leb least n (z .low), le-leb n most (z .high), eq-eqb n (2 ^ log₂ n) (z .power))
 
 pub range-left : (a : Matrix) (ws x : List ℕ) (q w : ℕ) (out : List ℕ) → Sized 2 65536 (2 * w) → Sized 1 4096 q → length ws ≡ q * loginWords w
     → length x ≡ 2 * w - 2 → Sized 1 65536 (a .rows) → q * a .rows ≤ 1048576 → q * (2 * a .rows) ≤ length out
     → rangeOut a ws x q w out ≡ words (packedTable a ws (elements x) q w) ++ drop (q * (2 * a .rows)) out
-unfolding rangeRefusal note
+unfolding rangeRefusal orRefuse
 range-left a ws x q w out zm zq lp lx zn most room = rw (
-  size-fine 2 65536 (2 * w) zm,
-  size-fine 1 4096 q zq,
+  size-passes 2 65536 (2 * w) zm,
+  size-passes 1 4096 q zq,
   eq-eqb (length ws) (q * loginWords w) lp,
   eq-eqb (length x) (2 * w - 2) lx,
-  size-fine 1 65536 (a .rows) zn,
+  size-passes 1 65536 (a .rows) zn,
   le-ltb 1048576 (q * a .rows) most,
   le-ltb (length out) (q * (2 * a .rows)) room,
 )

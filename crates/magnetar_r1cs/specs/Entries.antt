@@ -16,12 +16,12 @@ use Rattle.magnetar_matrix.specs.Matrix.{Matrix, times, mleTable, mleAt, bitVal
 use Rattle.magnetar_r1cs.specs.Masks.{masks}
 use Rattle.magnetar_matrix.specs.Packed.{packedTable, unpacked}
 use Rattle.magnetar_matrix.specs.Lent.{Lent, entriesOf, matrixOf}
-use Rattle.magnetar_layout.specs.Tests.{Tests, noted, sizeTests, packedTests, packedTestsOf, publicTestsOf, rowsTests, matrixColumnTests, counted, placed, batchTests, lengthTest, roomTest, loneTests}
+use Rattle.magnetar_layout.specs.Tests.{Tests, firstRefusal, sizeTests, packedTests, packedTestsOf, publicTestsOf, rowsTests, matrixColumnTests, counted, placed, batchTests, lengthTest, roomTest, loneTests}
 
 -- ---- `apply`: the matrix a, the vector z, the output out
 -- those of a matrix alone; 11: z; 15: the output
 unfoldable pub applyRefusal : Lent → List ℕ → List ℕ → ℕ
-applyRefusal a z out = noted 0 (loneTests a ++ lengthTest (2 * a .cols) z ++ roomTest (2 * a .rows) out)
+applyRefusal a z out = firstRefusal 0 (loneTests a ++ lengthTest (2 * a .cols) z ++ roomTest (2 * a .rows) out)
 
 -- the output: the words of the product, then what stood behind them
 abbrev pub applyOut : Lent → List ℕ → List ℕ → List ℕ
@@ -32,7 +32,7 @@ applyOut a z out =
 -- those of a matrix alone; 11: the point; 15: the output or the scratch
 unfoldable pub tableRefusal : Lent → List ℕ → List ℕ → List ℕ → ℕ
 tableRefusal a r out s =
-    noted 0 (loneTests a ++ lengthTest (2 * log₂ (a .rows)) r ++ roomTest (2 * a .cols) out ++ roomTest (2 * a .rows) s)
+    firstRefusal 0 (loneTests a ++ lengthTest (2 * log₂ (a .rows)) r ++ roomTest (2 * a .cols) out ++ roomTest (2 * a .rows) s)
 
 -- the output: the words of the table, then what stood behind them
 abbrev pub tableOut : Lent → List ℕ → List ℕ → List ℕ → List ℕ
@@ -48,7 +48,7 @@ tableScratch a r out s =
 -- those of a matrix alone; 11: the points; 15: the scratch
 unfoldable pub atRefusal : Lent → List ℕ → List ℕ → List ℕ → ℕ
 atRefusal a r c s =
-    noted 0
+    firstRefusal 0
     (loneTests a ++ lengthTest (2 * log₂ (a .rows)) r ++ lengthTest (2 * log₂ (a .cols)) c
     ++ roomTest (2 * (a .rows + a .cols)) s)
 
@@ -79,12 +79,12 @@ flaggedOf n b = unlessRefused n (flag b) (refusal n)
 -- ---- `is_binary`: the matrix a
 -- those of a matrix alone
 unfoldable pub binaryRefusal : Lent → ℕ
-binaryRefusal a = noted 0 (loneTests a)
+binaryRefusal a = firstRefusal 0 (loneTests a)
 
 -- ---- `apply_simd_packed`: the matrix a, the packed words ws of q logins with w columns, the public words x, the output out
 -- those of a matrix for a batch; 15: the output
 unfoldable pub packedRefusal : Lent → List ℕ → List ℕ → ℕ → ℕ → List ℕ → ℕ
-packedRefusal a ws x q w out = noted 0 (batchTests a ws x q w ++ roomTest (q * (2 * a .rows)) out)
+packedRefusal a ws x q w out = firstRefusal 0 (batchTests a ws x q w ++ roomTest (q * (2 * a .rows)) out)
 
 -- the output: the words of the products, one login behind the other, then what stood behind them
 abbrev pub packedOut : Lent → List ℕ → List ℕ → ℕ → ℕ → List ℕ → List ℕ
@@ -100,7 +100,7 @@ loginsTests p k q w n = sizeTests (2 * w) q ++ (packedTestsOf w q p ++ (publicTe
 
 -- these, and 15: the output
 unfoldable pub rangeRefusal : (n : ℕ) → (ws x : List ℕ) → (q w : ℕ) → (out : List ℕ) → ℕ
-rangeRefusal n ws x q w out = noted 0 (loginsTests (length ws) (length x) q w n ++ roomTest (q * (2 * n)) out)
+rangeRefusal n ws x q w out = firstRefusal 0 (loginsTests (length ws) (length x) q w n ++ roomTest (q * (2 * n)) out)
 
 -- a matrix of n rows and m columns: the entries from a to b of those that the four slices hold
 abbrev pub rangeMatrix : (n m a b : ℕ) → (row col lo hi : List ℕ) → Matrix
@@ -132,7 +132,7 @@ maskCount a q v = 2 ^ (log₂ q - v) * a .rows
 
 -- the tests of the matrix, then 12 and 13, then 15: the output
 unfoldable pub masksRefusal : Lent → List ℕ → ℕ → ℕ → ℕ → List ℕ → ℕ
-masksRefusal a ws q w v out = noted 0 (matrixTests a ws q w ++ maskTests a q w v ++ roomTest (maskCount a q v) out)
+masksRefusal a ws q w v out = firstRefusal 0 (matrixTests a ws q w ++ maskTests a q w v ++ roomTest (maskCount a q v) out)
 
 -- the output: the masks, then what stood behind them
 abbrev pub masksOut : Lent → List ℕ → ℕ → ℕ → ℕ → List ℕ → List ℕ

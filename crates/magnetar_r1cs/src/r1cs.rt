@@ -25,7 +25,7 @@ ghost use Rattle.magnetar_matrix.specs.Lent.{lent, entriesOf, matrixOf};
 ghost use Rattle.magnetar_matrix.specs.Table.{raised, publicShare, bitShare, cross, loginBlock, Equal, Point};
 ghost use Rattle.magnetar_matrix.specs.Sum.{blocks};
 ghost use Rattle.magnetar_matrix.specs.Packed.{loginWords};
-ghost use Rattle.magnetar_layout.specs.Tests.{allBelow, noted, batchTests};
+ghost use Rattle.magnetar_layout.specs.Tests.{allBelow, firstRefusal, batchTests};
 ghost use Rattle.magnetar_r1cs.specs.Entries.{applyRefusal, applyOut, tableRefusal, tableOut, tableScratch, atAnswer, atScratch, flagged, flaggedOf, binaryRefusal, packedRefusal, packedOut, loginsTests, rangeRefusal, rangeMatrix, rangeOut, matrixTests, masksRefusal, masksOut};
 
 // An answer: yes, no, or the number of a refusal.
@@ -71,8 +71,8 @@ pub fn apply(
     if n != 0 {
         return n;
     }
-    let n = tests::note(0, 11, z.len() != 2 * cols);
-    let n = tests::note(n, 15, out.len() < 2 * rows);
+    let n = tests::refuse(0, 11, z.len() != 2 * cols);
+    let n = tests::refuse(n, 15, out.len() < 2 * rows);
     if n != 0 {
         return n;
     }
@@ -123,9 +123,9 @@ pub fn eval_mle_table(
     if n != 0 {
         return n;
     }
-    let n = tests::note(0, 11, point.len() != 2 * sizes::log2(rows));
-    let n = tests::note(n, 15, out.len() < 2 * cols);
-    let n = tests::note(n, 15, scratch.len() < 2 * rows);
+    let n = tests::refuse(0, 11, point.len() != 2 * sizes::log2(rows));
+    let n = tests::refuse(n, 15, out.len() < 2 * cols);
+    let n = tests::refuse(n, 15, scratch.len() < 2 * rows);
     if n != 0 {
         return n;
     }
@@ -189,9 +189,9 @@ pub fn eval_mle_at(
     if n != 0 {
         return Evaluated::Refused(n);
     }
-    let n = tests::note(0, 11, r.len() != 2 * sizes::log2(rows));
-    let n = tests::note(n, 11, c.len() != 2 * sizes::log2(cols));
-    let n = tests::note(n, 15, scratch.len() < 2 * (rows + cols));
+    let n = tests::refuse(0, 11, r.len() != 2 * sizes::log2(rows));
+    let n = tests::refuse(n, 11, c.len() != 2 * sizes::log2(cols));
+    let n = tests::refuse(n, 15, scratch.len() < 2 * (rows + cols));
     if n != 0 {
         return Evaluated::Refused(n);
     }
@@ -342,20 +342,20 @@ fn bit_valued(row: &[usize], col: &[usize], lo: &[u64], hi: &[u64], w: usize) ->
 
 // 1, 2, 3 and 4 of n rows for q logins of w columns, with so many packed and public words.
 pub fn logins_refusal(packed: usize, x: usize, q: usize, w: usize, n: usize) -> u32
-    ensures { λ r. ⌜ r ≡ noted 0 (loginsTests packed x q w n) ⌝ }
+    ensures { λ r. ⌜ r ≡ firstRefusal 0 (loginsTests packed x q w n) ⌝ }
 {
-    let z = tests::note(0, 1, !tests::is_size(1, 32768, w));
-    let z = tests::note(z, 1, !tests::is_size(1, 4096, q));
+    let z = tests::refuse(0, 1, !tests::is_size(1, 32768, w));
+    let z = tests::refuse(z, 1, !tests::is_size(1, 4096, q));
     if z != 0 {
         return z;
     }
-    let z = tests::note(0, 2, packed != q * login_words(w));
-    let z = tests::note(z, 3, x != 2 * w - 2);
-    let z = tests::note(z, 4, !tests::is_size(1, 65536, n));
+    let z = tests::refuse(0, 2, packed != q * login_words(w));
+    let z = tests::refuse(z, 3, x != 2 * w - 2);
+    let z = tests::refuse(z, 4, !tests::is_size(1, 65536, n));
     if z != 0 {
         return z;
     }
-    tests::note(0, 4, q * n > 1048576)
+    tests::refuse(0, 4, q * n > 1048576)
 }
 
 // 1, 2, 3, 4, 5, 6 and 7 of a matrix for q logins of w columns.
@@ -371,13 +371,13 @@ pub(crate) fn batch_refusal(
     q: usize,
     w: usize,
 ) -> u32
-    ensures { λ r. ⌜ r ≡ noted 0 (batchTests (lent rows cols (now (row .entry)) (now (col .entry)) (now (lo .entry)) (now (hi .entry))) (now (packed .entry)) (now (x .entry)) q w) ⌝ }
+    ensures { λ r. ⌜ r ≡ firstRefusal 0 (batchTests (lent rows cols (now (row .entry)) (now (col .entry)) (now (lo .entry)) (now (hi .entry))) (now (packed .entry)) (now (x .entry)) q w) ⌝ }
 {
     let n = logins_refusal(packed.len(), x.len(), q, w, rows);
     if n != 0 {
         return n;
     }
-    let n = tests::note(0, 5, cols != 2 * w);
+    let n = tests::refuse(0, 5, cols != 2 * w);
     let n = lent::counts(n, row.len(), col.len(), lo.len(), hi.len());
     lent::places(n, rows, cols, row, col)
 }
@@ -481,20 +481,20 @@ fn matrix_refusal(
     q: usize,
     w: usize,
 ) -> u32
-    ensures { λ r. ⌜ r ≡ noted 0 (matrixTests (lent rows cols (now (row .entry)) (now (col .entry)) (now (lo .entry)) (now (hi .entry))) (now (packed .entry)) q w) ⌝ }
+    ensures { λ r. ⌜ r ≡ firstRefusal 0 (matrixTests (lent rows cols (now (row .entry)) (now (col .entry)) (now (lo .entry)) (now (hi .entry))) (now (packed .entry)) q w) ⌝ }
 {
-    let n = tests::note(0, 1, !tests::is_size(1, 32768, w));
-    let n = tests::note(n, 1, !tests::is_size(1, 4096, q));
+    let n = tests::refuse(0, 1, !tests::is_size(1, 32768, w));
+    let n = tests::refuse(n, 1, !tests::is_size(1, 4096, q));
     if n != 0 {
         return n;
     }
-    let n = tests::note(0, 2, packed.len() != q * login_words(w));
-    let n = tests::note(n, 4, !tests::is_size(1, 65536, rows));
+    let n = tests::refuse(0, 2, packed.len() != q * login_words(w));
+    let n = tests::refuse(n, 4, !tests::is_size(1, 65536, rows));
     if n != 0 {
         return n;
     }
-    let n = tests::note(0, 4, q * rows > 1048576);
-    let n = tests::note(n, 5, cols != 2 * w);
+    let n = tests::refuse(0, 4, q * rows > 1048576);
+    let n = tests::refuse(n, 5, cols != 2 * w);
     let n = lent::counts(n, row.len(), col.len(), lo.len(), hi.len());
     lent::places(n, rows, cols, row, col)
 }
@@ -523,9 +523,9 @@ pub fn apply_simd_bit_masks(
         return n;
     }
     let s = sizes::log2(q);
-    let n = tests::note(0, 12, !bit_valued(row, col, lo, hi, w));
-    let n = tests::note(n, 13, v > s);
-    let n = tests::note(n, 13, v > 6);
+    let n = tests::refuse(0, 12, !bit_valued(row, col, lo, hi, w));
+    let n = tests::refuse(n, 13, v > s);
+    let n = tests::refuse(n, 13, v > 6);
     if n != 0 {
         return n;
     }

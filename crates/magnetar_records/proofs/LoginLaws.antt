@@ -23,8 +23,8 @@ use Rattle.magnetar_matrix.specs.Table.{addedAt}
 use Rattle.magnetar_matrix.proofs.LoginParts.{part-ends}
 use Rattle.magnetar_matrix.proofs.TableLaws.{added-length, added-here, added-there}
 use Rattle.magnetar_relation.specs.Steps.{addedTo}
-use Rattle.magnetar_relation.specs.Told.{walked}
-use Rattle.magnetar_records.specs.LoginSteps.{inReach, clearedBlocks, addedBlocks, addedLogins}
+use Rattle.magnetar_relation.specs.EntryWalks.{foldEntries}
+use Rattle.magnetar_records.specs.LoginSteps.{withinLimits, clearedBlocks, addedBlocks, addedLogins}
 use Rattle.magnetar_relation.proofs.TableWords.{one-added, zeros-cleared}
 
 -- ---- within the limits
@@ -34,14 +34,14 @@ pub record Reach (q w n r : ℕ) : Type 0 where
   pub rows : n ≤ 65536
   pub row : r < n
 
-pub reach : (q w n r : ℕ) → inReach q w n r ≡ true → Reach q w n r
+pub reach : (q w n r : ℕ) → withinLimits q w n r ≡ true → Reach q w n r
 reach q w n r e =
     let a = both (leb q 4096) _ e in
     let b = both (leb w 32768) _ (a .1) in
     let c = both (leb n 65536) _ (b .1) in
     record { logins = leb-true q 4096 (a .0); cols = leb-true w 32768 (b .0); rows = leb-true n 65536 (c .0); row = ltb-true r n (c .1) }
 
-pub reached : (q w n r : ℕ) → q ≤ 4096 → w ≤ 32768 → n ≤ 65536 → r < n → inReach q w n r ≡ true
+pub reached : (q w n r : ℕ) → q ≤ 4096 → w ≤ 32768 → n ≤ 65536 → r < n → withinLimits q w n r ≡ true
 reached q w n r a b c d = rw (le-leb q 4096 a, le-leb w 32768 b, le-leb n 65536 c, lt-ltb r n d)
 
 before : (u q : ℕ) → u < suc q → (u ≡ q → ⊥) → u < q
@@ -113,7 +113,7 @@ blocks-one k k′ n f e u out out₀ h a = rw (h, a, add-one)
 module _ (q w n : ℕ) (f : ℕ → Entry → ℕ) where
   abbrev pub spread : List Entry → List ℕ → List ℕ
   spread [] t = t
-  spread (e ∷ es) t = spread es (cond (inReach q w n (e .row)) (blocked n f e q t) t)
+  spread (e ∷ es) t = spread es (cond (withinLimits q w n (e .row)) (blocked n f e q t) t)
 
   pub one-length : (e : Entry) (b : Bool) (t : List ℕ) → length (cond b (blocked n f e q t) t) ≡ length t
   one-length e true t = blocked-length n f e q t
@@ -121,22 +121,22 @@ module _ (q w n : ℕ) (f : ℕ → Entry → ℕ) where
 
   spread-length : (es : List Entry) (t : List ℕ) → length (spread es t) ≡ length t
   spread-length [] t = refl
-  spread-length (e ∷ es) t = spread-length es (cond (inReach q w n (e .row)) (blocked n f e q t) t) ∙ one-length e (inReach q w n (e .row)) t
+  spread-length (e ∷ es) t = spread-length es (cond (withinLimits q w n (e .row)) (blocked n f e q t) t) ∙ one-length e (withinLimits q w n (e .row)) t
 
   one-words : (e : Entry) (b : Bool) (t r : List ℕ) → length t ≡ q * n
       → cond b (addedBlocks (q * n) n f e q (words t ++ r)) (words t ++ r) ≡ words (cond b (blocked n f e q t) t) ++ r
   one-words e true t r l = blocked-words n f e (q * n) q t r l
   one-words e false t r l = refl
 
-  spread-words : (es : List Entry) (t r : List ℕ) → length t ≡ q * n → walked (addedLogins q w n f) es (words t ++ r) ≡ words (spread es t) ++ r
-  unfolding walked addedLogins
+  spread-words : (es : List Entry) (t r : List ℕ) → length t ≡ q * n → foldEntries (addedLogins q w n f) es (words t ++ r) ≡ words (spread es t) ++ r
+  unfolding foldEntries addedLogins
   spread-words [] t r l = refl
   spread-words (e ∷ es) t r l =
-      ap (walked (addedLogins q w n f) es) (one-words e (inReach q w n (e .row)) t r l)
-      ∙ spread-words es (cond (inReach q w n (e .row)) (blocked n f e q t) t) r (one-length e (inReach q w n (e .row)) t ∙ l)
+      ap (foldEntries (addedLogins q w n f) es) (one-words e (withinLimits q w n (e .row)) t r l)
+      ∙ spread-words es (cond (withinLimits q w n (e .row)) (blocked n f e q t) t) r (one-length e (withinLimits q w n (e .row)) t ∙ l)
 
   module _ (hq : q ≤ 4096) (hw : w ≤ 32768) (hn : n ≤ 65536) (u i : ℕ) (hu : u < q) (hi : i < n) where
-    reach-is : (r : ℕ) → inReach q w n r ≡ ltb r n
+    reach-is : (r : ℕ) → withinLimits q w n r ≡ ltb r n
     reach-is r = rw (le-leb q 4096 hq, le-leb w 32768 hw, le-leb n 65536 hn)
 
     one-at : (e : Entry) (b : Bool) (t : List ℕ) → ltb (e .row) n ≡ b → u * n + i < length t
@@ -150,7 +150,7 @@ module _ (q w n : ℕ) (f : ℕ → Entry → ℕ) where
     unfolding rowTotal sumOver
     spread-at [] t h = sym (⊕-zero (getD t (u * n + i) 0))
     spread-at (e ∷ es) t h =
-        spread-at es (cond (inReach q w n (e .row)) (blocked n f e q t) t) (rw (one-length e (inReach q w n (e .row)) t) h)
+        spread-at es (cond (withinLimits q w n (e .row)) (blocked n f e q t) t) (rw (one-length e (withinLimits q w n (e .row)) t) h)
         ∙ (ap (λ (v : ℕ). v ⊕ rowTotal (f u) es i) (rw (reach-is (e .row)) (one-at e (ltb (e .row) n) t refl h))
         ∙ ⊕-assoc (getD t (u * n + i) 0) (cond (eqb (e .row) i) (f u e) 0) (rowTotal (f u) es i))
 
@@ -184,7 +184,7 @@ spread-zeros q w n f es hq hw hn =
     spread-at q w n f hq hw hn u i hu hi es z (rw lz k) ∙ rw (getD-replicate {A = ℕ} (q * n) (u * n + i) 0 0 k) (zero-⊕ (rowTotal (f u) es i)))
 
 pub packed-added : (q w n : ℕ) (f : ℕ → Entry → ℕ) (es : List Entry) (out : List ℕ) → q ≤ 4096 → w ≤ 32768 → n ≤ 65536 → 0 < n → 2 * (q * n) ≤ length out
-    → walked (addedLogins q w n f) es (clearedBlocks q w n out) ≡ words (blocks (λ u. tabulate (rowTotal (f u) es) n) q) ++ drop (2 * (q * n)) out
+    → foldEntries (addedLogins q w n f) es (clearedBlocks q w n out) ≡ words (blocks (λ u. tabulate (rowTotal (f u) es) n) q) ++ drop (2 * (q * n)) out
 unfolding clearedBlocks
 packed-added q w n f es out hq hw hn h0 h =
     let z : List ℕ = replicate (q * n) 0 in

@@ -10,8 +10,8 @@ use lib.ListN.{length, drop}
 use borrow.Author.Tests.{eqb-true, ltb-false, le-leb, not-false}
 use Rattle.magnetar_field.specs.Sizes.{log₂}
 use Rattle.magnetar_layout.specs.Every.{every}
-use Rattle.magnetar_layout.specs.Tests.{noted, Sized}
-use Rattle.magnetar_layout.proofs.Noted.{noted-clear}
+use Rattle.magnetar_layout.specs.Tests.{firstRefusal, Sized}
+use Rattle.magnetar_layout.proofs.FirstRefusal.{first-refusal-clear}
 use Rattle.magnetar_layout.proofs.SizeLaws.{not-bad}
 use Rattle.magnetar_matrix.specs.Matrix.{bitValued}
 use Rattle.magnetar_matrix.specs.Sum.{blocks}
@@ -32,12 +32,12 @@ use Rattle.magnetar_records.proofs.PackedEnds.{flag-is}
 use Rattle.magnetar_records.proofs.MaskLaws.{masks-flipped, blocks-flipped}
 
 module _ (n m : ℕ) (es : List Entry) (ws out : List ℕ) (q w v : ℕ) (within bits go : Bool) (k d c : ℕ) (i : within ≡ every (liesIn n m) (entriesOfRecords es))
-    (y : bits ≡ every (bitUpTo w) (entriesOfRecords es)) (t : k ≡ noted 0 (maskOf n m (length es) within bits (length ws) q w v (length out))) (g : go ≡ eqb k 0)
+    (y : bits ≡ every (bitUpTo w) (entriesOfRecords es)) (t : k ≡ firstRefusal 0 (maskOf n m (length es) within bits (length ws) q w v (length out))) (g : go ≡ eqb k 0)
     (hd : d ≡ 2 ^ (log₂ q - v)) (hc : c ≡ places v) where
   bits-are : bits ≡ bitValued w (matrixOf (lentOf n m es))
   bits-are = y ∙ flag-is n m w es
 
-  tests-are : noted 0 (maskOf n m (length es) (every (liesIn n m) (entriesOfRecords es)) (bitValued w (matrixOf (lentOf n m es))) (length ws) q w v (length out))
+  tests-are : firstRefusal 0 (maskOf n m (length es) (every (liesIn n m) (entriesOfRecords es)) (bitValued w (matrixOf (lentOf n m es))) (length ws) q w v (length out))
       ≡ masksRefusal (lentOf n m es) ws q w v out
   unfolding masksRefusal lentOf
   tests-are =
@@ -57,7 +57,7 @@ module _ (n m : ℕ) (es : List Entry) (ws out : List ℕ) (q w v : ℕ) (within
 
   mask-fits : go ≡ true → MaskFits
   mask-fits b =
-      let x = noted-clear 0 (maskOf n m (length es) within bits (length ws) q w v (length out)) refl (sym t ∙ eqb-true k 0 (sym g ∙ b)) .1 in
+      let x = first-refusal-clear 0 (maskOf n m (length es) within bits (length ws) q w v (length out)) refl (sym t ∙ eqb-true k 0 (sym g ∙ b)) .1 in
       let z = not-bad (x .0) in
       let l = x .1 .1 .1 .1 .1 .1 .1 .1 .1 .1 .1 in
       record {

@@ -24,7 +24,7 @@ use Rattle.magnetar_matrix.specs.Sum.{sumBelow, blocks}
 use Rattle.magnetar_matrix.specs.Table.{addedAt}
 use Rattle.magnetar_r1cs.specs.Flips.{flip, flipTotal, flipBlock}
 use Rattle.magnetar_r1cs.proofs.Split.{blocks-ext}
-use Rattle.magnetar_records.specs.LoginSteps.{inReach}
+use Rattle.magnetar_records.specs.LoginSteps.{withinLimits}
 use Rattle.magnetar_records.specs.MaskSteps.{placesFit, flips, flipped, flippedIn, flippedAll, clearedMasks}
 use Rattle.magnetar_relation.specs.Steps.{clearedWords}
 use Rattle.magnetar_records.proofs.LoginLaws.{reach, reached, blocked, blocked-length, spread, one-length, spread-zeros}
@@ -63,7 +63,7 @@ module _ (n : ℕ) (f : ℕ → Entry → ℕ) (e : Entry) where
 
 -- ---- all entries
 module _ (d w n : ℕ) (f : ℕ → Entry → ℕ) where
-  one-flipped : (e : Entry) (b : Bool) (t r : List ℕ) → inReach d w n (e .row) ≡ b → length t ≡ d * n
+  one-flipped : (e : Entry) (b : Bool) (t r : List ℕ) → withinLimits d w n (e .row) ≡ b → length t ≡ d * n
       → cond b (flipped n f e d (t ++ r)) (t ++ r) ≡ cond b (blocked n f e d t) t ++ r
   one-flipped e true t r s l = flipped-is n f e d (t ++ r) ∙ blocked-append n f e d t r (reach d w n (e .row) s .row) (omega (arith, l))
   one-flipped e false t r s l = refl
@@ -72,8 +72,8 @@ module _ (d w n : ℕ) (f : ℕ → Entry → ℕ) where
   unfolding flippedAll flippedIn
   all-flipped [] t r l = refl
   all-flipped (e ∷ es) t r l =
-      ap (flippedAll d w n f es) (one-flipped e (inReach d w n (e .row)) t r refl l)
-      ∙ all-flipped es (cond (inReach d w n (e .row)) (blocked n f e d t) t) r (one-length d w n f e (inReach d w n (e .row)) t ∙ l)
+      ap (flippedAll d w n f es) (one-flipped e (withinLimits d w n (e .row)) t r refl l)
+      ∙ all-flipped es (cond (withinLimits d w n (e .row)) (blocked n f e d t) t) r (one-length d w n f e (withinLimits d w n (e .row)) t ∙ l)
 
   pub flipped-more : (e : Entry) (es : List Entry) (out out′ : List ℕ) → out′ ≡ flippedIn d w n f e out → flippedAll d w n f es out′ ≡ flippedAll d w n f (e ∷ es) out
   unfolding flippedAll

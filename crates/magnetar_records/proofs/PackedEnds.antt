@@ -11,8 +11,8 @@ use borrow.Author.Tests.{eqb-true, ltb-false}
 use Rattle.magnetar_field.specs.Words.{elements, words}
 use Rattle.magnetar_field.specs.Tabulate.{tabulate}
 use Rattle.magnetar_layout.specs.Every.{every}
-use Rattle.magnetar_layout.specs.Tests.{noted, Sized}
-use Rattle.magnetar_layout.proofs.Noted.{noted-clear}
+use Rattle.magnetar_layout.specs.Tests.{firstRefusal, Sized}
+use Rattle.magnetar_layout.proofs.FirstRefusal.{first-refusal-clear}
 use Rattle.magnetar_layout.proofs.SizeLaws.{not-bad}
 use Rattle.magnetar_matrix.specs.Matrix.{Entry as Cell, Matrix, rowTotal, share, times, timesAt, bitValued, bitUpTo}
 use Rattle.magnetar_matrix.specs.Sum.{blocks}
@@ -25,7 +25,7 @@ use Rattle.magnetar_records.specs.declared.records.Entry.{Entry}
 use Rattle.magnetar_records.specs.Records.{entriesOfRecords, lentOf}
 use Rattle.magnetar_relation.specs.Rules.{liesIn}
 use Rattle.magnetar_relation.specs.Steps.{loginZ}
-use Rattle.magnetar_records.specs.LoginSteps.{packedBatchTests, packedRoomTests, productsIn}
+use Rattle.magnetar_records.specs.LoginSteps.{packedBatchTests, packedOutputTests, productsIn}
 use Rattle.magnetar_records.proofs.RecordLaws.{matrix-of, batch-same}
 use Rattle.magnetar_records.proofs.RecordEnds.{turned-back, went-on}
 use Rattle.magnetar_records.proofs.LoginLaws.{packed-added, twice-in}
@@ -50,10 +50,10 @@ module _ (a : Matrix) (ws x : List ℕ) (q w : ℕ) where
       packed-added q w n (λ u. share (loginZ w ws x u)) (a .entries) out hq hw (hn .high) (hn .low) room ∙ rw (products-are, ← twice-in q n)
 
 module _ (n m : ℕ) (es : List Entry) (ws x out : List ℕ) (q w : ℕ) (within go : Bool) (k : ℕ) (i : within ≡ every (liesIn n m) (entriesOfRecords es))
-    (t : k ≡ noted 0 (packedBatchTests n m (length es) within (length ws) (length x) q w ++ packedRoomTests q n (length out))) (g : go ≡ eqb k 0) where
+    (t : k ≡ firstRefusal 0 (packedBatchTests n m (length es) within (length ws) (length x) q w ++ packedOutputTests q n (length out))) (g : go ≡ eqb k 0) where
   packed-refusal : k ≡ packedRefusal (lentOf n m es) ws x q w out
   unfolding packedRefusal lentOf
-  packed-refusal = t ∙ rw i (batch-same n m es ws x q w (packedRoomTests q n (length out)))
+  packed-refusal = t ∙ rw i (batch-same n m es ws x q w (packedOutputTests q n (length out)))
 
   record PackedFits : Type 0 where
     half : w ≤ 32768
@@ -63,8 +63,8 @@ module _ (n m : ℕ) (es : List Entry) (ws x out : List ℕ) (q w : ℕ) (within
 
   packed-fits : go ≡ true → PackedFits
   packed-fits b =
-      let l = packedBatchTests n m (length es) within (length ws) (length x) q w ++ packedRoomTests q n (length out) in
-      let c = noted-clear 0 l refl (sym t ∙ eqb-true k 0 (sym g ∙ b)) .1 in
+      let l = packedBatchTests n m (length es) within (length ws) (length x) q w ++ packedOutputTests q n (length out) in
+      let c = first-refusal-clear 0 l refl (sym t ∙ eqb-true k 0 (sym g ∙ b)) .1 in
       let z = not-bad (c .0) in
       record {
         half = omega (arith, z .high);

@@ -18,8 +18,8 @@ use Rattle.magnetar_multilinear.specs.EqTable.{eqTable, eqAt}
 use Rattle.magnetar_multilinear.specs.Entries.{eqRefusal, eqOut, tableWords, Answer, answered}
 use Rattle.magnetar_multilinear.proofs.EqTables.{eqTable-length, eqTable-get}
 use Rattle.magnetar_layout.specs.Every.{every}
-use Rattle.magnetar_layout.specs.Tests.{noted, Sized}
-use Rattle.magnetar_layout.proofs.Noted.{noted-clear}
+use Rattle.magnetar_layout.specs.Tests.{firstRefusal, Sized}
+use Rattle.magnetar_layout.proofs.FirstRefusal.{first-refusal-clear}
 use Rattle.magnetar_layout.proofs.EveryLaws.{both}
 use Rattle.magnetar_layout.proofs.SizeLaws.{not-bad}
 use Rattle.magnetar_matrix.specs.Matrix.{Entry as Cell, rowTotal, sumOver, share, isBit, swapped, times, timesAt, transpose, mleTable, mleAt, binary}
@@ -38,7 +38,7 @@ use Rattle.magnetar_records.proofs.RecordLaws.{lone-same, matrix-of}
 
 -- ---- `is_binary`
 binary-refusal : (n m : ℕ) (es : List Entry)
-    → noted 0 (loneOf n m (length es) (every (liesIn n m) (entriesOfRecords es))) ≡ binaryRefusal (lentOf n m es)
+    → firstRefusal 0 (loneOf n m (length es) (every (liesIn n m) (entriesOfRecords es))) ≡ binaryRefusal (lentOf n m es)
 unfolding binaryRefusal lentOf
 binary-refusal n m es = lone-same n m es []
 
@@ -47,7 +47,7 @@ unfolding binary
 binary-is n m es = rw (matrix-of n m es)
 
 pub binary-ends : (n m : ℕ) (es : List Entry) (inside bits : Bool) (k : ℕ) (r : Flagged) → inside ≡ every (liesIn n m) (entriesOfRecords es)
-    → k ≡ noted 0 (loneOf n m (length es) inside) → bits ≡ every isBit (entriesOfRecords es) → r ≡ flaggedOf k bits
+    → k ≡ firstRefusal 0 (loneOf n m (length es) inside) → bits ≡ every isBit (entriesOfRecords es) → r ≡ flaggedOf k bits
     → r ≡ flaggedOf (binaryRefusal (lentOf n m es)) (binary (matrixOf (lentOf n m es)))
 binary-ends n m es inside bits k r i q b f = rw (f, q, i, b, binary-refusal n m es, binary-is n m es)
 
@@ -61,7 +61,7 @@ module _ {A : Type 0} {n k : ℕ} (new old : A) (go : Bool) (e : n ≡ k) (g : g
 
 -- ---- `apply`
 module _ (n m : ℕ) (es : List Entry) (z out : List ℕ) (inside go : Bool) (k : ℕ) (i : inside ≡ every (liesIn n m) (entriesOfRecords es))
-    (q : k ≡ noted 0 (loneOf n m (length es) inside ++ applyTests n m (length z) (length out))) (g : go ≡ eqb k 0) where
+    (q : k ≡ firstRefusal 0 (loneOf n m (length es) inside ++ applyTests n m (length z) (length out))) (g : go ≡ eqb k 0) where
   apply-refusal : k ≡ applyRefusal (lentOf n m es) z out
   unfolding applyRefusal lentOf
   apply-refusal = q ∙ rw i (lone-same n m es (applyTests n m (length z) (length out)))
@@ -69,7 +69,7 @@ module _ (n m : ℕ) (es : List Entry) (z out : List ℕ) (inside go : Bool) (k 
   apply-room : go ≡ true → 2 * n ≤ length out
   apply-room b =
       let t = loneOf n m (length es) inside ++ applyTests n m (length z) (length out) in
-      let c = noted-clear 0 t refl (sym q ∙ eqb-true k 0 (sym g ∙ b)) .1 in
+      let c = first-refusal-clear 0 t refl (sym q ∙ eqb-true k 0 (sym g ∙ b)) .1 in
       ltb-false _ _ (c .1 .1 .1 .1 .1 .1 .1 .1 .0)
 
   apply-product : words (tabulate (rowTotal (share (elements z)) (entriesOfRecords es)) n) ++ drop (2 * n) out
@@ -103,7 +103,7 @@ eq-size least n p z l = eqTable-length (elements p) ∙ sym (point-size least n 
 
 -- ---- `eval_mle_table`
 module _ (n m : ℕ) (es : List Entry) (p out s : List ℕ) (inside go : Bool) (k : ℕ) (i : inside ≡ every (liesIn n m) (entriesOfRecords es))
-    (q : k ≡ noted 0 (loneOf n m (length es) inside ++ tableTests n m (length p) (length out) (length s))) (g : go ≡ eqb k 0) where
+    (q : k ≡ firstRefusal 0 (loneOf n m (length es) inside ++ tableTests n m (length p) (length out) (length s))) (g : go ≡ eqb k 0) where
   table-refusal : k ≡ tableRefusal (lentOf n m es) p out s
   unfolding tableRefusal lentOf
   table-refusal = q ∙ rw i (lone-same n m es (tableTests n m (length p) (length out) (length s)))
@@ -117,7 +117,7 @@ module _ (n m : ℕ) (es : List Entry) (p out s : List ℕ) (inside go : Bool) (
   table-fits : go ≡ true → TableFits
   table-fits b =
       let t = loneOf n m (length es) inside ++ tableTests n m (length p) (length out) (length s) in
-      let c = noted-clear 0 t refl (sym q ∙ eqb-true k 0 (sym g ∙ b)) .1 in
+      let c = first-refusal-clear 0 t refl (sym q ∙ eqb-true k 0 (sym g ∙ b)) .1 in
       let d = c .1 .1 .1 .1 .1 .1 .1 in
       record {
         rows-size = not-bad (c .1 .0);
@@ -198,7 +198,7 @@ twice : (n m : ℕ) → 2 * n + 2 * m ≡ 2 * (n + m)
 twice n m = omega arith
 
 module _ (n m : ℕ) (es : List Entry) (r c s : List ℕ) (within go : Bool) (k : ℕ) (i : within ≡ every (liesIn n m) (entriesOfRecords es))
-    (q : k ≡ noted 0 (loneOf n m (length es) within ++ atTests n m (length r) (length c) (length s))) (g : go ≡ eqb k 0) where
+    (q : k ≡ firstRefusal 0 (loneOf n m (length es) within ++ atTests n m (length r) (length c) (length s))) (g : go ≡ eqb k 0) where
   at-refusal : k ≡ atRefusal (lentOf n m es) r c s
   unfolding atRefusal lentOf
   at-refusal = q ∙ rw i (lone-same n m es (atTests n m (length r) (length c) (length s)))
@@ -214,7 +214,7 @@ module _ (n m : ℕ) (es : List Entry) (r c s : List ℕ) (within go : Bool) (k 
   at-fits : go ≡ true → AtFits
   at-fits b =
       let t = loneOf n m (length es) within ++ atTests n m (length r) (length c) (length s) in
-      let h = noted-clear 0 t refl (sym q ∙ eqb-true k 0 (sym g ∙ b)) .1 in
+      let h = first-refusal-clear 0 t refl (sym q ∙ eqb-true k 0 (sym g ∙ b)) .1 in
       let d = h .1 .1 .1 .1 .1 .1 in
       record {
         cols-size = not-bad (h .0);

@@ -9,8 +9,8 @@ use lib.Dec.{eqb, ltb}
 use borrow.Author.Tests.{eq-eqb}
 use lib.ListN.{length}
 use Rattle.magnetar_layout.specs.Every.{every}
-use Rattle.magnetar_layout.specs.Tests.{Tests, note, noted, allBelow, loneTests, batchTests}
-use Rattle.magnetar_layout.proofs.Noted.{note-kept}
+use Rattle.magnetar_layout.specs.Tests.{Tests, orRefuse, firstRefusal, allBelow, loneTests, batchTests}
+use Rattle.magnetar_layout.proofs.FirstRefusal.{note-kept}
 use Rattle.magnetar_matrix.specs.Matrix as matrix
 use Rattle.magnetar_matrix.specs.Lent.{entriesOf, matrixOf}
 use Rattle.magnetar_relation.specs.Rules.{liesIn}
@@ -20,12 +20,12 @@ use Rattle.magnetar_records.specs.LoginSteps.{packedBatchTests}
 use Rattle.magnetar_records.specs.Steps.{loneOf}
 
 -- ---- 6: four slices of records are equally long
-note-good : (n a : ℕ) → note n false a ≡ a
-unfolding note
+note-good : (n a : ℕ) → orRefuse n false a ≡ a
+unfolding orRefuse
 note-good n zero = refl
 note-good n (suc a) = note-kept n false (suc a) (λ h. omega arith)
 
-pub note-same : (k n a : ℕ) → note n (not (eqb k k)) a ≡ a
+pub note-same : (k n a : ℕ) → orRefuse n (not (eqb k k)) a ≡ a
 note-same k n a = rw (eq-eqb k k refl) (note-good n a)
 
 -- ---- a flag that is carried round
@@ -76,13 +76,13 @@ inside-both n m (e ∷ es) =
     rw (inside-both n m es)
     (and-swap (ltb (e .row) n) (ltb (e .col) m) (allBelow n (map (λ e. e .row) es)) (allBelow m (map (λ e. e .col) es)))
 
-note-late : (a b c : Bool) (z : ℕ) → note 7 a (suc z) ≡ note 7 c (note 7 b (suc z))
+note-late : (a b c : Bool) (z : ℕ) → orRefuse 7 a (suc z) ≡ orRefuse 7 c (orRefuse 7 b (suc z))
 note-late a b c z =
     let h : suc z ≡ 0 → ⊥ = λ e. omega (arith, e) in
     rw (note-kept 7 a (suc z) h, note-kept 7 b (suc z) h, note-kept 7 c (suc z) h)
 
-pub note-both : (a b : Bool) (z : ℕ) → note 7 (not (a && b)) z ≡ note 7 (not b) (note 7 (not a) z)
-unfolding note
+pub note-both : (a b : Bool) (z : ℕ) → orRefuse 7 (not (a && b)) z ≡ orRefuse 7 (not b) (orRefuse 7 (not a) z)
+unfolding orRefuse
 note-both true b zero = refl
 note-both true b (suc z) = note-late (not b) false (not b) z
 note-both false true zero = refl
@@ -90,13 +90,13 @@ note-both false false zero = refl
 note-both false b (suc z) = note-late true true (not b) z
 
 pub lone-same : (n m : ℕ) (es : List Entry) (k : Tests)
-    → noted 0 (loneOf n m (length es) (every (liesIn n m) (entriesOfRecords es)) ++ k) ≡ noted 0 (loneTests (lentOf n m es) ++ k)
+    → firstRefusal 0 (loneOf n m (length es) (every (liesIn n m) (entriesOfRecords es)) ++ k) ≡ firstRefusal 0 (loneTests (lentOf n m es) ++ k)
 unfolding lentOf
 lone-same n m es k =
     rw (map-length (λ e. e .row) es, map-length (λ e. e .col) es, map-length (λ e. e .lo) es, map-length (λ e. e .hi) es, inside-both n m es, note-both)
 
 pub batch-same : (n m : ℕ) (es : List Entry) (ws x : List ℕ) (q w : ℕ) (k : Tests)
-    → noted 0 (packedBatchTests n m (length es) (every (liesIn n m) (entriesOfRecords es)) (length ws) (length x) q w ++ k) ≡ noted 0 (batchTests (lentOf n m es) ws x q w ++ k)
+    → firstRefusal 0 (packedBatchTests n m (length es) (every (liesIn n m) (entriesOfRecords es)) (length ws) (length x) q w ++ k) ≡ firstRefusal 0 (batchTests (lentOf n m es) ws x q w ++ k)
 unfolding lentOf
 batch-same n m es ws x q w k =
     rw (map-length (λ e. e .row) es, map-length (λ e. e .col) es, map-length (λ e. e .lo) es, map-length (λ e. e .hi) es, inside-both n m es, note-both)

@@ -13,7 +13,7 @@ use Rattle.magnetar_matrix.specs.Table.{addedAt}
 use Rattle.magnetar_r1cs.specs.Entries.{maskTestsOf}
 use Rattle.magnetar_r1cs.specs.Flips.{flip}
 use Rattle.magnetar_relation.specs.Steps.{clearedWords}
-use Rattle.magnetar_records.specs.LoginSteps.{inReach}
+use Rattle.magnetar_records.specs.LoginSteps.{withinLimits}
 
 -- the last of them: 7, 12, 13 and 15
 abbrev pub lastOf : ℕ → Bool → Bool → ℕ → ℕ → ℕ → Tests
@@ -46,7 +46,7 @@ flipped n f e (suc low) out = addedAt (flipped n f e low out) (low * n + e .row)
 
 -- for all d of them, within the limits
 unfoldable pub flippedIn : ℕ → ℕ → ℕ → (ℕ → Entry → ℕ) → Entry → List ℕ → List ℕ
-flippedIn d w n f e out = cond (inReach d w n (e .row)) (flipped n f e d out) out
+flippedIn d w n f e out = cond (withinLimits d w n (e .row)) (flipped n f e d out) out
 
 -- one entry after the other
 unfoldable pub flippedAll : ℕ → ℕ → ℕ → (ℕ → Entry → ℕ) → List Entry → List ℕ → List ℕ
@@ -55,4 +55,4 @@ flippedAll d w n f (e ∷ es) out = flippedAll d w n f es (flippedIn d w n f e o
 
 -- the first d blocks of n words are 0, within the limits
 unfoldable pub clearedMasks : ℕ → ℕ → ℕ → List ℕ → List ℕ
-clearedMasks d w n out = cond (inReach d w n 0) (clearedWords (d * n) out) out
+clearedMasks d w n out = cond (withinLimits d w n 0) (clearedWords (d * n) out) out

@@ -5,11 +5,11 @@ ghost use mathlib.Core.List.{_++_};
 ghost use Prim.Native.Nat.{_+_, _*_, _<_, _≤_};
 ghost use lib.Dec.{leb, ltb};
 ghost use Rattle.magnetar_field.specs.Words.{elements};
-ghost use Rattle.magnetar_layout.specs.Tests.{noted};
+ghost use Rattle.magnetar_layout.specs.Tests.{firstRefusal};
 ghost use Rattle.magnetar_matrix.specs.Matrix.{share, bitUpTo};
 ghost use Rattle.magnetar_records.specs.Records.{entryOf};
 ghost use Rattle.magnetar_relation.specs.Steps.{addedTo, loginZ};
-ghost use Rattle.magnetar_records.specs.LoginSteps.{inReach, packedBatchTests, clearedBlocks, addedBlocks, addedLogins, packedRoomTests};
+ghost use Rattle.magnetar_records.specs.LoginSteps.{withinLimits, packedBatchTests, clearedBlocks, addedBlocks, addedLogins, packedOutputTests};
 use crate::records::Entry;
 use magnetar_field::gf128;
 use magnetar_field::gf128::Gf128;
@@ -33,8 +33,8 @@ pub(crate) fn has_bit_upto(acc: bool, w: usize, e: Entry) -> bool
 }
 
 // q logins of w columns and n rows, and row r, are within the limits.
-pub(crate) fn in_reach(q: usize, w: usize, n: usize, r: usize) -> bool
-    ensures { λ b. ⌜ b ≡ inReach q w n r ⌝ }
+pub(crate) fn within_limits(q: usize, w: usize, n: usize, r: usize) -> bool
+    ensures { λ b. ⌜ b ≡ withinLimits q w n r ⌝ }
 {
     if q > 4096 {
         return false;
@@ -85,7 +85,7 @@ fn each_login(packed: &[u64], x: &[u64], q: usize, w: usize, n: usize, out: &mut
 fn add_logins(packed: &[u64], x: &[u64], q: usize, w: usize, n: usize, out: &mut [u64], e: Entry)
     ensures { λ _. ⌜ now (out .exit) ≡ addedLogins q w n (λ u. share (loginZ w (now (packed .entry)) (elements (now (x .entry))) u)) (entryOf e) (now (out .entry)) ⌝ }
 {
-    if in_reach(q, w, n, e.row) {
+    if within_limits(q, w, n, e.row) {
         each_login(packed, x, q, w, n, out, e);
     }
 }
@@ -116,7 +116,7 @@ pub(crate) fn add_within(
 pub(crate) fn clear_blocks(q: usize, w: usize, n: usize, out: &mut [u64])
     ensures { λ _. ⌜ now (out .exit) ≡ clearedBlocks q w n (now (out .entry)) ⌝ }
 {
-    if in_reach(q, w, n, 0) {
+    if within_limits(q, w, n, 0) {
         table::clear_front(q * n, out);
     }
 }
@@ -133,14 +133,14 @@ pub(crate) fn packed_refusal(
     w: usize,
     out: usize,
 ) -> u32
-    ensures { λ r. ⌜ r ≡ noted 0 (packedBatchTests rows cols n inside p x q w ++ packedRoomTests q rows out) ⌝ }
+    ensures { λ r. ⌜ r ≡ firstRefusal 0 (packedBatchTests rows cols n inside p x q w ++ packedOutputTests q rows out) ⌝ }
 {
     let z = r1cs::logins_refusal(p, x, q, w, rows);
     if z != 0 {
         return z;
     }
-    let z = tests::note(0, 5, cols != 2 * w);
-    let z = tests::note(z, 6, n > 1048576);
-    let z = tests::note(z, 7, !inside);
-    tests::note(z, 15, out < q * (2 * rows))
+    let z = tests::refuse(0, 5, cols != 2 * w);
+    let z = tests::refuse(z, 6, n > 1048576);
+    let z = tests::refuse(z, 7, !inside);
+    tests::refuse(z, 15, out < q * (2 * rows))
 }

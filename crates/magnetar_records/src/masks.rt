@@ -2,7 +2,7 @@
 ghost use mathlib.Core.Path.{_≡_};
 ghost use Prim.Native.Nat.{_+_, _-_, _*_, _^_, _<_, _≤_};
 ghost use Rattle.magnetar_field.specs.Sizes.{log₂};
-ghost use Rattle.magnetar_layout.specs.Tests.{noted};
+ghost use Rattle.magnetar_layout.specs.Tests.{firstRefusal};
 ghost use Rattle.magnetar_matrix.specs.Packed.{loginPart};
 ghost use Rattle.magnetar_matrix.specs.Sum.{sumBelow};
 ghost use Rattle.magnetar_r1cs.specs.Flips.{flip};
@@ -106,7 +106,7 @@ pub(crate) fn flip_record(
 )
     ensures { λ _. ⌜ now (out .exit) ≡ flippedIn d w n (flips w (now (packed .entry)) d c) (entryOf e) (now (out .entry)) ⌝ }
 {
-    if logins::in_reach(d, w, n, e.row) {
+    if logins::within_limits(d, w, n, e.row) {
         each_low(packed, w, d, c, n, out, e);
     }
 }
@@ -124,7 +124,7 @@ fn clear_words(k: usize, out: &mut [u64])
 pub(crate) fn clear_masks(d: usize, w: usize, n: usize, out: &mut [u64])
     ensures { λ _. ⌜ now (out .exit) ≡ clearedMasks d w n (now (out .entry)) ⌝ }
 {
-    if logins::in_reach(d, w, n, 0) {
+    if logins::within_limits(d, w, n, 0) {
         clear_words(d * n, out);
     }
 }
@@ -142,33 +142,33 @@ pub(crate) fn masks_refusal(
     v: usize,
     out: usize,
 ) -> u32
-    ensures { λ r. ⌜ r ≡ noted 0 (maskOf rows cols n inside bits p q w v out) ⌝ }
+    ensures { λ r. ⌜ r ≡ firstRefusal 0 (maskOf rows cols n inside bits p q w v out) ⌝ }
 {
-    let z = tests::note(0, 1, !tests::is_size(1, 32768, w));
-    let z = tests::note(z, 1, !tests::is_size(1, 4096, q));
+    let z = tests::refuse(0, 1, !tests::is_size(1, 32768, w));
+    let z = tests::refuse(z, 1, !tests::is_size(1, 4096, q));
     if z != 0 {
         return z;
     }
-    let z = tests::note(0, 2, p != q * r1cs::login_words(w));
-    let z = tests::note(z, 4, !tests::is_size(1, 65536, rows));
+    let z = tests::refuse(0, 2, p != q * r1cs::login_words(w));
+    let z = tests::refuse(z, 4, !tests::is_size(1, 65536, rows));
     if z != 0 {
         return z;
     }
-    let z = tests::note(0, 4, q * rows > 1048576);
-    let z = tests::note(z, 5, cols != 2 * w);
-    let z = tests::note(z, 6, n > 1048576);
+    let z = tests::refuse(0, 4, q * rows > 1048576);
+    let z = tests::refuse(z, 5, cols != 2 * w);
+    let z = tests::refuse(z, 6, n > 1048576);
     last_tests(z, inside, bits, rows, q, v, out)
 }
 
 // 7, 12, 13 and 15, after an earlier number z.
 fn last_tests(z: u32, inside: bool, bits: bool, rows: usize, q: usize, v: usize, out: usize) -> u32
     requires { ⌜ (0 < q) × (q ≤ 4096) × (rows ≤ 65536) ⌝ }
-    ensures { λ r. ⌜ r ≡ noted z (lastOf rows inside bits q v out) ⌝ }
+    ensures { λ r. ⌜ r ≡ firstRefusal z (lastOf rows inside bits q v out) ⌝ }
 {
-    let z = tests::note(z, 7, !inside);
-    let z = tests::note(z, 12, !bits);
-    let z = tests::note(z, 13, v > sizes::log2(q));
-    let z = tests::note(z, 13, v > 6);
+    let z = tests::refuse(z, 7, !inside);
+    let z = tests::refuse(z, 12, !bits);
+    let z = tests::refuse(z, 13, v > sizes::log2(q));
+    let z = tests::refuse(z, 13, v > 6);
     let d = lows(q, v);
-    tests::note(z, 15, out < d * rows)
+    tests::refuse(z, 15, out < d * rows)
 }

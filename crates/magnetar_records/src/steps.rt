@@ -8,13 +8,13 @@ ghost use Prim.Native.Nat.{_+_, _*_};
 ghost use Rattle.magnetar_field.specs.Gf128.{value, _⊕_};
 ghost use Rattle.magnetar_field.specs.Words.{elements};
 ghost use Rattle.magnetar_multilinear.specs.Entries.{eqOut, answer, answered};
-ghost use Rattle.magnetar_layout.specs.Tests.{noted};
+ghost use Rattle.magnetar_layout.specs.Tests.{firstRefusal};
 ghost use Rattle.magnetar_matrix.specs.Matrix.{share, isBit, swapped};
 ghost use Rattle.magnetar_r1cs.specs.Entries.{flaggedOf, flagged};
 ghost use Rattle.magnetar_records.specs.Records.{entryOf};
 ghost use Rattle.magnetar_relation.specs.Rules.{liesIn};
 ghost use Rattle.magnetar_relation.specs.Steps.{clearedTo, addedTo, behind};
-ghost use Rattle.magnetar_relation.specs.Told.{liesAt};
+ghost use Rattle.magnetar_relation.specs.EntryWalks.{liesAt};
 ghost use Rattle.magnetar_records.specs.Steps.{loneOf, applyTests, tableTests, atTests, pairShare};
 use crate::records::Entry;
 use magnetar_field::gf128;
@@ -62,12 +62,12 @@ pub(crate) fn has_bit(acc: bool, e: Entry) -> bool
 
 // 1, 4, 6 and 7 of a matrix with n records, which lie inside or not.
 pub(crate) fn lone(rows: usize, cols: usize, n: usize, inside: bool) -> u32
-    ensures { λ r. ⌜ r ≡ noted 0 (loneOf rows cols n inside) ⌝ }
+    ensures { λ r. ⌜ r ≡ firstRefusal 0 (loneOf rows cols n inside) ⌝ }
 {
-    let z = tests::note(0, 1, !tests::is_size(2, 65536, cols));
-    let z = tests::note(z, 4, !tests::is_size(1, 65536, rows));
-    let z = tests::note(z, 6, n > 1048576);
-    tests::note(z, 7, !inside)
+    let z = tests::refuse(0, 1, !tests::is_size(2, 65536, cols));
+    let z = tests::refuse(z, 4, !tests::is_size(1, 65536, rows));
+    let z = tests::refuse(z, 6, n > 1048576);
+    tests::refuse(z, 7, !inside)
 }
 
 // Nothing is refused.
@@ -99,14 +99,14 @@ pub(crate) fn apply_refusal(
     z: usize,
     out: usize,
 ) -> u32
-    ensures { λ r. ⌜ r ≡ noted 0 (loneOf rows cols n inside ++ applyTests rows cols z out) ⌝ }
+    ensures { λ r. ⌜ r ≡ firstRefusal 0 (loneOf rows cols n inside ++ applyTests rows cols z out) ⌝ }
 {
     let n = lone(rows, cols, n, inside);
     if n != 0 {
         return n;
     }
-    let n = tests::note(0, 11, z != 2 * cols);
-    tests::note(n, 15, out < 2 * rows)
+    let n = tests::refuse(0, 11, z != 2 * cols);
+    tests::refuse(n, 15, out < 2 * rows)
 }
 
 // Adds a record's share of the product with the vector z, at its row, to the first n elements.
@@ -127,15 +127,15 @@ pub(crate) fn table_refusal(
     out: usize,
     s: usize,
 ) -> u32
-    ensures { λ r. ⌜ r ≡ noted 0 (loneOf rows cols n inside ++ tableTests rows cols p out s) ⌝ }
+    ensures { λ r. ⌜ r ≡ firstRefusal 0 (loneOf rows cols n inside ++ tableTests rows cols p out s) ⌝ }
 {
     let n = lone(rows, cols, n, inside);
     if n != 0 {
         return n;
     }
-    let n = tests::note(0, 11, p != 2 * sizes::log2(rows));
-    let n = tests::note(n, 15, out < 2 * cols);
-    tests::note(n, 15, s < 2 * rows)
+    let n = tests::refuse(0, 11, p != 2 * sizes::log2(rows));
+    let n = tests::refuse(n, 15, out < 2 * cols);
+    tests::refuse(n, 15, s < 2 * rows)
 }
 
 // The refusals of `eval_mle_at`, for points of r and c words and scratch of s words.
@@ -148,15 +148,15 @@ pub(crate) fn at_refusal(
     c: usize,
     s: usize,
 ) -> u32
-    ensures { λ k. ⌜ k ≡ noted 0 (loneOf rows cols n inside ++ atTests rows cols r c s) ⌝ }
+    ensures { λ k. ⌜ k ≡ firstRefusal 0 (loneOf rows cols n inside ++ atTests rows cols r c s) ⌝ }
 {
     let n = lone(rows, cols, n, inside);
     if n != 0 {
         return n;
     }
-    let n = tests::note(0, 11, r != 2 * sizes::log2(rows));
-    let n = tests::note(n, 11, c != 2 * sizes::log2(cols));
-    tests::note(n, 15, s < 2 * (rows + cols))
+    let n = tests::refuse(0, 11, r != 2 * sizes::log2(rows));
+    let n = tests::refuse(n, 11, c != 2 * sizes::log2(cols));
+    tests::refuse(n, 15, s < 2 * (rows + cols))
 }
 
 // The eq table of a point, in front.

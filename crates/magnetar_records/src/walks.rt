@@ -5,12 +5,12 @@ ghost use mathlib.Core.List.{[]};
 ghost use Prim.Native.Nat.{_-_};
 ghost use lib.ListN.{take, drop};
 ghost use Rattle.magnetar_field.specs.Words.{elements};
-ghost use Rattle.magnetar_layout.specs.Tests.{noted};
+ghost use Rattle.magnetar_layout.specs.Tests.{firstRefusal};
 ghost use Rattle.magnetar_matrix.specs.Matrix.{share};
 ghost use Rattle.magnetar_relation.specs.Rules.{rulesOver};
 ghost use Rattle.magnetar_relation.specs.RuleTests.{ruleTests};
 ghost use Rattle.magnetar_relation.specs.Steps.{loginZ};
-ghost use Rattle.magnetar_relation.specs.Told.{liesAt, everyFrom, walkedWithin};
+ghost use Rattle.magnetar_relation.specs.EntryWalks.{liesAt, everyFrom, foldEntriesWithin};
 ghost use Rattle.magnetar_records.specs.Records.{entriesOfRecords};
 ghost use Rattle.magnetar_records.specs.LoginSteps.{addedLogins, productsIn};
 use crate::logins;
@@ -34,7 +34,7 @@ fn all_inside(es: &[Entry], s: Shapes) -> bool
 
 // 4 to 7 of the relation.
 pub fn rules_refusal(m: usize, q: usize, s: Shapes, es: &[Entry]) -> u32
-    ensures { λ r. ⌜ r ≡ noted 0 (ruleTests (rulesOver m q [] s (entriesOfRecords (now (es .entry))))) ⌝ }
+    ensures { λ r. ⌜ r ≡ firstRefusal 0 (ruleTests (rulesOver m q [] s (entriesOfRecords (now (es .entry))))) ⌝ }
 {
     let inside = all_inside(es, s);
     let n = es.len();
@@ -53,7 +53,7 @@ fn add_packed(
     n: usize,
     out: &mut [u64],
 )
-    ensures { λ _. ⌜ now (out .exit) ≡ walkedWithin (addedLogins q w n (λ u. share (loginZ w (now (packed .entry)) (elements (now (x .entry))) u))) a b 0 (entriesOfRecords (now (es .entry))) (now (out .entry)) ⌝ }
+    ensures { λ _. ⌜ now (out .exit) ≡ foldEntriesWithin (addedLogins q w n (λ u. share (loginZ w (now (packed .entry)) (elements (now (x .entry))) u))) a b 0 (entriesOfRecords (now (es .entry))) (now (out .entry)) ⌝ }
 {
     let mut i = 0;
     while i < es.len() {

@@ -19,7 +19,7 @@ use Rattle.magnetar_relation.specs.declared.shapes.Shape.{Shape}
 use Rattle.magnetar_relation.specs.declared.shapes.Shapes.{Shapes}
 use Rattle.magnetar_relation.specs.Rules.{entriesIn, systemAt, liesIn, inSystem}
 use Rattle.magnetar_relation.specs.RuleTests.{total}
-use Rattle.magnetar_relation.specs.Told.{shapeIn, shapeAt, liesAt, everyFrom, walked, walkedWithin}
+use Rattle.magnetar_relation.specs.EntryWalks.{shapeIn, shapeAt, liesAt, everyFrom, foldEntries, foldEntriesWithin}
 
 -- ---- how many entries four slices hold
 abbrev pub held : (r c l h : List ℕ) → ℕ
@@ -192,54 +192,54 @@ told-six s es l =
 
 -- ---- a walk that passes over the others is a walk over the part
 pub within-more : (g : Entry → List ℕ → List ℕ) (a b i : ℕ) (e : Entry) (es : List Entry) (t t′ : List ℕ) → t′ ≡ cond (leb a i && ltb i b) (g e t) t
-    → walkedWithin g a b (i + 1) es t′ ≡ walkedWithin g a b i (e ∷ es) t
-unfolding walkedWithin
+    → foldEntriesWithin g a b (i + 1) es t′ ≡ foldEntriesWithin g a b i (e ∷ es) t
+unfolding foldEntriesWithin
 within-more g a b i e es t t′ h = rw (add-one i, h)
 
-pub within-end : (g : Entry → List ℕ → List ℕ) (a b i : ℕ) (t : List ℕ) → t ≡ walkedWithin g a b i [] t
-unfolding walkedWithin
+pub within-end : (g : Entry → List ℕ → List ℕ) (a b i : ℕ) (t : List ℕ) → t ≡ foldEntriesWithin g a b i [] t
+unfolding foldEntriesWithin
 within-end g a b i t = refl
 
-within-past : (g : Entry → List ℕ → List ℕ) (a b i : ℕ) (es : List Entry) (t : List ℕ) → a ≤ i → b ≤ i → walkedWithin g a b i es t ≡ t
-unfolding walkedWithin
+within-past : (g : Entry → List ℕ → List ℕ) (a b i : ℕ) (es : List Entry) (t : List ℕ) → a ≤ i → b ≤ i → foldEntriesWithin g a b i es t ≡ t
+unfolding foldEntriesWithin
 within-past g a b i [] t u v = refl
 within-past g a b i (e ∷ es) t u v = rw (le-leb a i u, le-ltb i b v) (within-past g a b (suc i) es t (omega arith) (omega arith))
 
-within-none : (g : Entry → List ℕ → List ℕ) (a b i : ℕ) (t : List ℕ) → walkedWithin g a b i [] t ≡ walked g [] t
-unfolding walkedWithin walked
+within-none : (g : Entry → List ℕ → List ℕ) (a b i : ℕ) (t : List ℕ) → foldEntriesWithin g a b i [] t ≡ foldEntries g [] t
+unfolding foldEntriesWithin foldEntries
 within-none g a b i t = refl
 
-walked-none : (g : Entry → List ℕ → List ℕ) (es : List Entry) (t : List ℕ) → t ≡ walked g (take 0 es) t
-unfolding walked
+walked-none : (g : Entry → List ℕ → List ℕ) (es : List Entry) (t : List ℕ) → t ≡ foldEntries g (take 0 es) t
+unfolding foldEntries
 walked-none g es t = refl
 
-take-none : (g : Entry → List ℕ → List ℕ) (k : ℕ) (t : List ℕ) → walked g [] t ≡ walked g (take k []) t
+take-none : (g : Entry → List ℕ → List ℕ) (k : ℕ) (t : List ℕ) → foldEntries g [] t ≡ foldEntries g (take k []) t
 take-none g zero t = refl
 take-none g (suc k) t = refl
 
-within-step : (g : Entry → List ℕ → List ℕ) (a b i : ℕ) (e : Entry) (es : List Entry) (t : List ℕ) → a ≤ i → i < b → walkedWithin g a b i (e ∷ es) t ≡ walkedWithin g a b (suc i) es (g e t)
-unfolding walkedWithin
+within-step : (g : Entry → List ℕ → List ℕ) (a b i : ℕ) (e : Entry) (es : List Entry) (t : List ℕ) → a ≤ i → i < b → foldEntriesWithin g a b i (e ∷ es) t ≡ foldEntriesWithin g a b (suc i) es (g e t)
+unfolding foldEntriesWithin
 within-step g a b i e es t u v = rw (le-leb a i u, lt-ltb i b v)
 
-within-skip : (g : Entry → List ℕ → List ℕ) (a b i : ℕ) (e : Entry) (es : List Entry) (t : List ℕ) → i < a → walkedWithin g a b i (e ∷ es) t ≡ walkedWithin g a b (suc i) es t
-unfolding walkedWithin
+within-skip : (g : Entry → List ℕ → List ℕ) (a b i : ℕ) (e : Entry) (es : List Entry) (t : List ℕ) → i < a → foldEntriesWithin g a b i (e ∷ es) t ≡ foldEntriesWithin g a b (suc i) es t
+unfolding foldEntriesWithin
 within-skip g a b i e es t u = rw (lt-leb a i u)
 
-walked-step : (g : Entry → List ℕ → List ℕ) (k : ℕ) (e : Entry) (es : List Entry) (t : List ℕ) → walked g (take k es) (g e t) ≡ walked g (take (suc k) (e ∷ es)) t
-unfolding walked
+walked-step : (g : Entry → List ℕ → List ℕ) (k : ℕ) (e : Entry) (es : List Entry) (t : List ℕ) → foldEntries g (take k es) (g e t) ≡ foldEntries g (take (suc k) (e ∷ es)) t
+unfolding foldEntries
 walked-step g k e es t = refl
 
-within-in : (g : Entry → List ℕ → List ℕ) (a b k i : ℕ) (es : List Entry) (t : List ℕ) → a ≤ i → b ≡ i + k → walkedWithin g a b i es t ≡ walked g (take k es) t
+within-in : (g : Entry → List ℕ → List ℕ) (a b k i : ℕ) (es : List Entry) (t : List ℕ) → a ≤ i → b ≡ i + k → foldEntriesWithin g a b i es t ≡ foldEntries g (take k es) t
 within-in g a b zero i es t u v = within-past g a b i es t u (omega arith) ∙ walked-none g es t
 within-in g a b (suc k) i [] t u v = within-none g a b i t
 within-in g a b (suc k) i (e ∷ es) t u v = within-step g a b i e es t u (omega arith) ∙ (within-in g a b k (suc i) es (g e t) (omega arith) (omega arith) ∙ walked-step g k e es t)
 
-within-from : (g : Entry → List ℕ → List ℕ) (a b d k i : ℕ) (es : List Entry) (t : List ℕ) → a ≡ i + d → b ≡ a + k → walkedWithin g a b i es t ≡ walked g (take k (drop d es)) t
+within-from : (g : Entry → List ℕ → List ℕ) (a b d k i : ℕ) (es : List Entry) (t : List ℕ) → a ≡ i + d → b ≡ a + k → foldEntriesWithin g a b i es t ≡ foldEntries g (take k (drop d es)) t
 within-from g a b zero k i es t u v = within-in g a b k i es t (omega arith) (omega arith)
 within-from g a b (suc d) k i [] t u v = within-none g a b i t ∙ take-none g k t
 within-from g a b (suc d) k i (e ∷ es) t u v = within-skip g a b i e es t (omega arith) ∙ within-from g a b d k (suc i) es t (omega arith) v
 
-pub within-is : (g : Entry → List ℕ → List ℕ) (a k : ℕ) (es : List Entry) (t : List ℕ) → walkedWithin g a (a + k) 0 es t ≡ walked g (take k (drop a es)) t
+pub within-is : (g : Entry → List ℕ → List ℕ) (a k : ℕ) (es : List Entry) (t : List ℕ) → foldEntriesWithin g a (a + k) 0 es t ≡ foldEntries g (take k (drop a es)) t
 within-is g a k es t = within-from g a (a + k) a k 0 es t (omega arith) refl
 
 -- ---- the same for entries in four slices, from a to b
@@ -249,22 +249,22 @@ rangeOf r c l h a b = take (b - a) (drop a (entriesOf r c l h))
 module _ (g : Entry → List ℕ → List ℕ) (r c l h : List ℕ) (b : ℕ) (whole : List ℕ) where
   -- one turn of a loop over them
   pub range-more : (i : ℕ) (t t′ : List ℕ) → i < b → i < length r → i < length c → i < length l → i < length h
-      → walked g (rangeOf r c l h i b) t ≡ whole
-      → t′ ≡ g (entry (getD r i 0) (getD c i 0) (getD l i 0) (getD h i 0)) t → walked g (rangeOf r c l h (i + 1) b) t′ ≡ whole
+      → foldEntries g (rangeOf r c l h i b) t ≡ whole
+      → t′ ≡ g (entry (getD r i 0) (getD c i 0) (getD l i 0) (getD h i 0)) t → foldEntries g (rangeOf r c l h (i + 1) b) t′ ≡ whole
   range-more i t t′ u u₁ u₂ u₃ u₄ inv e =
       let n : b - i ≡ suc (b - (i + 1)) = omega arith in
       let x = entry (getD r i 0) (getD c i 0) (getD l i 0) (getD h i 0) in
       rw e (walked-step g (b - (i + 1)) x (drop (i + 1) (entriesOf r c l h)) t)
-      ∙ (ap (λ (k : ℕ). walked g (take k (x ∷ drop (i + 1) (entriesOf r c l h))) t) (sym n)
-      ∙ (ap (λ (es : List Entry). walked g (take (b - i) es) t) (sym (entry-held r c l h i u₁ u₂ u₃ u₄)) ∙ inv))
+      ∙ (ap (λ (k : ℕ). foldEntries g (take k (x ∷ drop (i + 1) (entriesOf r c l h))) t) (sym n)
+      ∙ (ap (λ (es : List Entry). foldEntries g (take (b - i) es) t) (sym (entry-held r c l h i u₁ u₂ u₃ u₄)) ∙ inv))
 
   -- the loop's end, at b or where some slice ends
-  pub range-end : (i : ℕ) (t : List ℕ) → b ≤ i → walked g (rangeOf r c l h i b) t ≡ whole → t ≡ whole
+  pub range-end : (i : ℕ) (t : List ℕ) → b ≤ i → foldEntries g (rangeOf r c l h i b) t ≡ whole → t ≡ whole
   range-end i t u inv =
       let n : b - i ≡ 0 = omega arith in
-      walked-none g (drop i (entriesOf r c l h)) t ∙ (ap (λ (k : ℕ). walked g (take k (drop i (entriesOf r c l h))) t) (sym n) ∙ inv)
+      walked-none g (drop i (entriesOf r c l h)) t ∙ (ap (λ (k : ℕ). foldEntries g (take k (drop i (entriesOf r c l h))) t) (sym n) ∙ inv)
 
-  pub range-past : (i : ℕ) (t : List ℕ) → held r c l h ≤ i → walked g (rangeOf r c l h i b) t ≡ whole → t ≡ whole
+  pub range-past : (i : ℕ) (t : List ℕ) → held r c l h ≤ i → foldEntries g (rangeOf r c l h i b) t ≡ whole → t ≡ whole
   range-past i t u inv =
       let d : drop i (entriesOf r c l h) ≡ [] = drop-of-length-le (entriesOf r c l h) {i = i} (rw (entries-held r c l h) u) in
-      walked-none g [] t ∙ (take-none g (b - i) t ∙ (ap (λ (es : List Entry). walked g (take (b - i) es) t) (sym d) ∙ inv))
+      walked-none g [] t ∙ (take-none g (b - i) t ∙ (ap (λ (es : List Entry). foldEntries g (take (b - i) es) t) (sym d) ∙ inv))

@@ -1,4 +1,4 @@
 pub mod Rules
 pub mod RuleTests
-pub mod Told
+pub mod EntryWalks
 pub mod Steps

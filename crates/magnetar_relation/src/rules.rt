@@ -8,47 +8,47 @@ ghost use mathlib.Core.Path.{_≡_};
 ghost use mathlib.Core.Bool.{_&&_};
 ghost use mathlib.Core.List.{[], _∷_};
 ghost use Prim.Native.Nat.{_≤_};
-ghost use Rattle.magnetar_layout.specs.Tests.{noted};
+ghost use Rattle.magnetar_layout.specs.Tests.{firstRefusal};
 ghost use Rattle.magnetar_matrix.specs.Lent.{entry, entriesOf};
 ghost use Rattle.magnetar_relation.specs.Rules.{entriesIn, rules};
 ghost use Rattle.magnetar_relation.specs.RuleTests.{rowTests, colTests, mostTests, numberTests, shapeTests, ruleTestsBy, ruleTests};
-ghost use Rattle.magnetar_relation.specs.Told.{shapeIn, shapeAt, liesAt, everyFrom};
+ghost use Rattle.magnetar_relation.specs.EntryWalks.{shapeIn, shapeAt, liesAt, everyFrom};
 
 // 4: the rows of a system's matrices, for q logins, after an earlier number z.
 fn rows(z: u32, q: usize, t: SystemShape) -> u32
-    ensures { λ r. ⌜ r ≡ noted z (rowTests q t) ⌝ }
+    ensures { λ r. ⌜ r ≡ firstRefusal z (rowTests q t) ⌝ }
 {
     let n = t.a.rows;
-    let z = tests::note(z, 4, !tests::is_size(1, 65536, n));
-    let z = tests::note(z, 4, t.b.rows != n);
-    let z = tests::note(z, 4, t.c.rows != n);
+    let z = tests::refuse(z, 4, !tests::is_size(1, 65536, n));
+    let z = tests::refuse(z, 4, t.b.rows != n);
+    let z = tests::refuse(z, 4, t.c.rows != n);
     if z != 0 {
         return z;
     }
-    tests::note(0, 4, q > 1048576 / n)
+    tests::refuse(0, 4, q > 1048576 / n)
 }
 
 // 5: their columns, where m are wanted.
 fn cols(z: u32, m: usize, t: SystemShape) -> u32
-    ensures { λ r. ⌜ r ≡ noted z (colTests m t) ⌝ }
+    ensures { λ r. ⌜ r ≡ firstRefusal z (colTests m t) ⌝ }
 {
-    let z = tests::note(z, 5, t.a.cols != m);
-    let z = tests::note(z, 5, t.b.cols != m);
-    tests::note(z, 5, t.c.cols != m)
+    let z = tests::refuse(z, 5, t.a.cols != m);
+    let z = tests::refuse(z, 5, t.b.cols != m);
+    tests::refuse(z, 5, t.c.cols != m)
 }
 
 // 6: too many entries.
 fn most(z: u32, t: SystemShape) -> u32
-    ensures { λ r. ⌜ r ≡ noted z (mostTests t) ⌝ }
+    ensures { λ r. ⌜ r ≡ firstRefusal z (mostTests t) ⌝ }
 {
-    let z = tests::note(z, 6, t.a.entries > 1048576);
-    let z = tests::note(z, 6, t.b.entries > 1048576);
-    tests::note(z, 6, t.c.entries > 1048576)
+    let z = tests::refuse(z, 6, t.a.entries > 1048576);
+    let z = tests::refuse(z, 6, t.b.entries > 1048576);
+    tests::refuse(z, 6, t.c.entries > 1048576)
 }
 
 // 4, 5 and 6: the shapes.
 fn shapes(m: usize, q: usize, s: Shapes) -> u32
-    ensures { λ r. ⌜ r ≡ noted 0 (shapeTests m q s) ⌝ }
+    ensures { λ r. ⌜ r ≡ firstRefusal 0 (shapeTests m q s) ⌝ }
 {
     let b = s.bin;
     let f = s.fld;
@@ -70,12 +70,12 @@ fn entries_in(t: SystemShape) -> usize
 
 // 6: slices of r, c, l and h numbers, where each is to hold n.
 fn numbers(n: usize, r: usize, c: usize, l: usize, h: usize) -> u32
-    ensures { λ z. ⌜ z ≡ noted 0 (numberTests n (r ∷ c ∷ l ∷ h ∷ [])) ⌝ }
+    ensures { λ z. ⌜ z ≡ firstRefusal 0 (numberTests n (r ∷ c ∷ l ∷ h ∷ [])) ⌝ }
 {
-    let z = tests::note(0, 6, r != n);
-    let z = tests::note(z, 6, c != n);
-    let z = tests::note(z, 6, l != n);
-    tests::note(z, 6, h != n)
+    let z = tests::refuse(0, 6, r != n);
+    let z = tests::refuse(z, 6, c != n);
+    let z = tests::refuse(z, 6, l != n);
+    tests::refuse(z, 6, h != n)
 }
 
 // 4 to 7 of the shapes, of slices of r, c, l and h numbers, and of entries that lie inside their matrices or not.
@@ -89,7 +89,7 @@ pub fn refusal(
     h: usize,
     inside: bool,
 ) -> u32
-    ensures { λ z. ⌜ z ≡ noted 0 (ruleTestsBy m q s (r ∷ c ∷ l ∷ h ∷ []) inside) ⌝ }
+    ensures { λ z. ⌜ z ≡ firstRefusal 0 (ruleTestsBy m q s (r ∷ c ∷ l ∷ h ∷ []) inside) ⌝ }
 {
     let z = shapes(m, q, s);
     if z != 0 {
@@ -99,7 +99,7 @@ pub fn refusal(
     let f = s.fld;
     let n = entries_in(b) + entries_in(f);
     let z = numbers(n, r, c, l, h);
-    tests::note(z, 7, !inside)
+    tests::refuse(z, 7, !inside)
 }
 
 // The shape of the matrix of a system that its entry i belongs to.
@@ -177,7 +177,7 @@ pub fn refused(
     lo: &[u64],
     hi: &[u64],
 ) -> u32
-    ensures { λ z. ⌜ z ≡ noted 0 (ruleTests (rules m q [] s (now (row .entry)) (now (col .entry)) (now (lo .entry)) (now (hi .entry)))) ⌝ }
+    ensures { λ z. ⌜ z ≡ firstRefusal 0 (ruleTests (rules m q [] s (now (row .entry)) (now (col .entry)) (now (lo .entry)) (now (hi .entry)))) ⌝ }
 {
     let inside = all_inside(s, row, col, lo, hi);
     refusal(m, q, s, row.len(), col.len(), lo.len(), hi.len(), inside)

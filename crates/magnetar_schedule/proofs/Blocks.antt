@@ -14,22 +14,22 @@ use Rattle.magnetar_multilinear.specs.EqTable.{eqAt}
 use Rattle.magnetar_multilinear.specs.Multilinear.{mle}
 use Rattle.magnetar_matrix.specs.Batch.{Relation, publicFolded}
 use Rattle.magnetar_layout.specs.Layout.{localVars, suffix}
-use Rattle.magnetar_protocol.specs.Shape.{logLogins, outline, afterTaus, afterInner}
+use Rattle.magnetar_protocol.specs.Shape.{logLogins, sizesOnly, afterTaus, afterInner}
 use Rattle.magnetar_protocol.specs.Proof.{binMessages, fldMessages, valueZ, segmentValues}
 use Rattle.magnetar_protocol.specs.Draws.{Draws, drawsOf, loginPoint, lowPoint, topElement}
 use Rattle.magnetar_schedule.specs.Schedule.{schedule}
-use Rattle.magnetar_protocol.specs.Checks.{Check, combined, binRound, fldRound, firstRefusal, firstStop, checks, sharedChecks, rowChecks, terminalChecks, innerChecks, identityCheck}
+use Rattle.magnetar_protocol.specs.Checks.{Check, combined, binRound, fldRound, firstFailure, firstStop, checks, sharedChecks, rowChecks, terminalChecks, innerChecks, identityCheck}
 use Rattle.magnetar_protocol.specs.Run.{verdict, claims}
 use Rattle.magnetar_schedule.specs.RealRun.{stop}
 use Rattle.magnetar_protocol.proofs.Phases.{Numbered, numbered-append, orElse, first-append, shared-numbered, rows-numbered, terminals-numbered, inner-numbered}
 
 -- ---- the stop of two lists of checks
 pub stop-append : (cs ds : List Check) (n k : ℕ) → Numbered cs
-    → firstStop (cs ++ ds) n ≡ cond (eqb (firstRefusal cs) 0) (firstStop ds n) (firstStop cs k)
-unfolding firstStop firstRefusal
+    → firstStop (cs ++ ds) n ≡ cond (eqb (firstFailure cs) 0) (firstStop ds n) (firstStop cs k)
+unfolding firstStop firstFailure
 stop-append [] ds n k h = refl
 stop-append (c ∷ cs) ds n k h =
-    step (c .passes) (c .refusal) (c .events) (firstStop (cs ++ ds) n) (firstRefusal cs) (firstStop ds n) (firstStop cs k) (h .0)
+    step (c .passes) (c .refusal) (c .events) (firstStop (cs ++ ds) n) (firstFailure cs) (firstStop ds n) (firstStop cs k) (h .0)
     (stop-append cs ds n k (h .1))
   where
     step : (p : Bool) (m e both a b s : ℕ) → 0 < m → both ≡ cond (eqb a 0) b s → cond p both e ≡ cond (eqb (cond p a m) 0) b (cond p s e)
@@ -37,10 +37,10 @@ stop-append (c ∷ cs) ds n k h =
     step false m e both a b s l q = rw (ne-eqb m 0 (λ z. omega arith))
 
 -- where every check passes, nothing stops
-pub stop-none : (cs : List Check) (n : ℕ) → Numbered cs → firstRefusal cs ≡ 0 → firstStop cs n ≡ n
-unfolding firstStop firstRefusal
+pub stop-none : (cs : List Check) (n : ℕ) → Numbered cs → firstFailure cs ≡ 0 → firstStop cs n ≡ n
+unfolding firstStop firstFailure
 stop-none [] n h e = refl
-stop-none (c ∷ cs) n h e = step (c .passes) (c .refusal) (c .events) (firstRefusal cs) (firstStop cs n) n (h .0) e (stop-none cs n (h .1))
+stop-none (c ∷ cs) n h e = step (c .passes) (c .refusal) (c .events) (firstFailure cs) (firstStop cs n) n (h .0) e (stop-none cs n (h .1))
   where
     step : (p : Bool) (m e a s n : ℕ) → 0 < m → cond p a m ≡ 0 → (a ≡ 0 → s ≡ n) → cond p s e ≡ n
     step true m e a s n l z q = q z
@@ -74,11 +74,11 @@ module _ (r : Relation) (x w : List ℕ) (D : Draws) where
       numbered-append (innerChecks r w D (combined r D)) (identityCheck r w D (publicFolded x (loginPoint D))) (inner-numbered r x w D)
       (unfold identityCheck in (lit< tt, tt))
 
-  pub refusal-blocks : firstRefusal (checks r x w D) ≡ orElse (firstRefusal outerChecks) (firstRefusal laterChecks)
-  refusal-blocks = ap firstRefusal checks-are ∙ first-append outerChecks laterChecks outer-numbered
+  pub refusal-blocks : firstFailure (checks r x w D) ≡ orElse (firstFailure outerChecks) (firstFailure laterChecks)
+  refusal-blocks = ap firstFailure checks-are ∙ first-append outerChecks laterChecks outer-numbered
 
   pub stop-blocks : (n k : ℕ)
-      → firstStop (checks r x w D) n ≡ cond (eqb (firstRefusal outerChecks) 0) (firstStop laterChecks n) (firstStop outerChecks k)
+      → firstStop (checks r x w D) n ≡ cond (eqb (firstFailure outerChecks) 0) (firstStop laterChecks n) (firstStop outerChecks k)
   stop-blocks n k = ap (λ (l : List Check). firstStop l n) checks-are ∙ stop-append outerChecks laterChecks n k outer-numbered
 
   pub checks-numbered : Numbered (checks r x w D)
@@ -86,13 +86,13 @@ module _ (r : Relation) (x w : List ℕ) (D : Draws) where
 
 -- the same of the answer and the stop of a run
 module _ (r : Relation) (x w d : List ℕ) where
-  pub verdict-blocks : verdict r x w d ≡ orElse (firstRefusal (outerChecks r x w (drawsOf r d))) (firstRefusal (laterChecks r x w (drawsOf r d)))
+  pub verdict-blocks : verdict r x w d ≡ orElse (firstFailure (outerChecks r x w (drawsOf r d))) (firstFailure (laterChecks r x w (drawsOf r d)))
   unfolding verdict
   verdict-blocks = refusal-blocks r x w (drawsOf r d)
 
   pub run-stop-blocks : (k : ℕ)
       → stop r x w d
-      ≡ cond (eqb (firstRefusal (outerChecks r x w (drawsOf r d))) 0) (firstStop (laterChecks r x w (drawsOf r d)) (length (schedule r)))
+      ≡ cond (eqb (firstFailure (outerChecks r x w (drawsOf r d))) 0) (firstStop (laterChecks r x w (drawsOf r d)) (length (schedule r)))
       (firstStop (outerChecks r x w (drawsOf r d)) k)
   unfolding stop
   run-stop-blocks k = stop-blocks r x w (drawsOf r d) (length (schedule r)) k
@@ -104,7 +104,7 @@ module _ (r : Relation) (x w d : List ℕ) where
 
 -- ---- the outline
 abbrev pub outlined : Relation → Relation
-outlined r = outline (r .m) (r .q) (r .bin .a .rows) (r .fld .a .rows) (r .lengths)
+outlined r = sizesOnly (r .m) (r .q) (r .bin .a .rows) (r .fld .a .rows) (r .lengths)
 
 module _ (r : Relation) where
   pub schedule-outlined : schedule r ≡ schedule (outlined r)

@@ -23,20 +23,20 @@ use Rattle.magnetar_protocol.specs.Proof.{part}
 use Rattle.magnetar_protocol.specs.Draws.{drawCount}
 use Rattle.magnetar_schedule.specs.Schedule.{Event, absorb, draw, rounds, singles, schedule}
 use Rattle.magnetar_protocol.specs.Shape.{afterInner}
-use Rattle.magnetar_schedule.specs.Play.{Played, start, absorbing, drawing, play, playedFrom}
+use Rattle.magnetar_schedule.specs.ScheduleRun.{RunState, start, absorbing, drawing, runEvents, runFrom}
 use Rattle.magnetar_protocol.specs.RunSizes.{Elements}
 use Rattle.magnetar_schedule.specs.RealRun.{verifierDraws}
 use Rattle.magnetar_protocol.proofs.HonestBelow.{elements-of, both}
 
 -- ---- part after part
-pub play-append : (w : List ℕ) (a b : List Event) (p : Played) → play w (a ++ b) p ≡ play w b (play w a p)
-unfolding play
+pub play-append : (w : List ℕ) (a b : List Event) (p : RunState) → runEvents w (a ++ b) p ≡ runEvents w b (runEvents w a p)
+unfolding runEvents
 play-append w [] b p = refl
 play-append w (absorb l i n ∷ a) b p = play-append w a b (absorbing l (part i n w) p)
 play-append w (draw l ∷ a) b p = play-append w a b (drawing l p)
 
 -- what was drawn before stands before what is drawn
-abbrev pub onto : List ℕ → Played → Played
+abbrev pub onto : List ℕ → RunState → RunState
 onto d p = record { transcript = p .transcript; draws = d ++ p .draws }
 
 -- ---- counts
@@ -81,8 +81,8 @@ unfolding singles
 drawsIn-singles label first i zero = refl
 drawsIn-singles label first i (suc n) = drawsIn-singles label first (suc i) n
 
-pub play-count : (w : List ℕ) (es : List Event) (p : Played) → length (play w es p .draws) ≡ length (p .draws) + drawsIn es
-unfolding play
+pub play-count : (w : List ℕ) (es : List Event) (p : RunState) → length (runEvents w es p .draws) ≡ length (p .draws) + drawsIn es
+unfolding runEvents
 play-count w [] p = sym (add-zero (length (p .draws)))
 play-count w (absorb l i n ∷ es) p = play-count w es (absorbing l (part i n w) p)
 play-count w (draw l ∷ es) p =
@@ -103,7 +103,7 @@ module _ (r : Relation) where
   schedule-draws =
       simp (drawsIn-append, drawsIn-replicate, drawsIn-rounds, drawsIn-singles) (omega arith)
 
-  pub played-count : (w : List ℕ) (t : Transcript) → length (playedFrom w (schedule r) t .draws) ≡ drawCount r
+  pub played-count : (w : List ℕ) (t : Transcript) → length (runFrom w (schedule r) t .draws) ≡ drawCount r
   played-count w t = play-count w (schedule r) (start t) ∙ omega (arith, schedule-draws)
 
 -- ---- bounds
@@ -141,14 +141,14 @@ drawn-lt t l = words _
     words s = value-lt _ _ (word-lt (squeezed s) (length-squeezed s) (squeezed-lt s) 8 (lit≤ tt))
         (word-lt (squeezed s) (length-squeezed s) (squeezed-lt s) 0 (lit≤ tt))
 
-all-drawn : (w : List ℕ) (es : List Event) (p : Played) → AllBelow (2 ^ 128) (p .draws) → AllBelow (2 ^ 128) (play w es p .draws)
-unfolding play
+all-drawn : (w : List ℕ) (es : List Event) (p : RunState) → AllBelow (2 ^ 128) (p .draws) → AllBelow (2 ^ 128) (runEvents w es p .draws)
+unfolding runEvents
 all-drawn w [] p h = h
 all-drawn w (absorb l i n ∷ es) p h = all-drawn w es (absorbing l (part i n w) p) h
 all-drawn w (draw l ∷ es) p h = all-drawn w es (drawing l p) (both (p .draws) (_ ∷ []) h (drawn-lt (p .transcript) l, tt))
 
-pub played-elements : (w : List ℕ) (es : List Event) (t : Transcript) → Elements (playedFrom w es t .draws)
-played-elements w es t = elements-of (playedFrom w es t .draws) (all-drawn w es (start t) tt)
+pub played-elements : (w : List ℕ) (es : List Event) (t : Transcript) → Elements (runFrom w es t .draws)
+played-elements w es t = elements-of (runFrom w es t .draws) (all-drawn w es (start t) tt)
 
 -- ---- the verifier's draws
 module _ (r : Relation) (w : List ℕ) (t : Transcript) where

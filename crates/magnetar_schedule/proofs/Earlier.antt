@@ -1,4 +1,4 @@
--- Each message of the honest words uses only the draws before it: where two lists of draws begin with the same n, what is absorbed
+-- Each message of the honest proof uses only the draws before it: where two lists of draws begin with the same n, what is absorbed
 -- before draw n + 1 is the same.
 -- Assumes nothing.
 use mathlib.Core.Path.{_≡_, refl, sym, ap, ap₂, _∙_}
@@ -19,7 +19,7 @@ use Rattle.magnetar_protocol.specs.Shape.{logLogins, logBin, logFld, logCols, b
 use Rattle.magnetar_protocol.specs.Proof.{part, binMessages, fldMessages, innerRounds}
 use Rattle.magnetar_protocol.specs.Draws.{Draws, drawCount, drawsOf, loginPoint}
 use Rattle.magnetar_protocol.specs.Checks.{combined}
-use Rattle.magnetar_protocol.specs.Prover.{joined, inTurn, productTable, outerRounds, binRounds, fldRounds, terminalValues, foldedZ, trueValues, honestWords, proverWords}
+use Rattle.magnetar_protocol.specs.Prover.{joined, interleaved, productTable, outerRounds, binRounds, fldRounds, terminalValues, foldedZ, trueValues, honestProof, proverProof}
 use Rattle.magnetar_protocol.proofs.SizeFacts.{Cut, cut}
 use Rattle.magnetar_protocol.proofs.HonestParts.{bin-part, fld-part, inner-part, at₃}
 use Rattle.magnetar_schedule.proofs.StepLaws.{folds, binds}
@@ -68,7 +68,7 @@ value-at o i w v post h e l =
     ap (take 1) (sym (drop-drop i o w) ∙ ap (drop i) h ∙ drop-append-le i v post (omega arith))
     ∙ take-append-le 1 (drop i v) post (rw length-drop (omega arith))
 
--- ---- the messages of the honest words
+-- ---- the messages of the honest proof
 module _ (r : Relation) (b : Batch) (x : List ℕ) where
   abbrev s : ℕ
   s = logLogins r
@@ -79,7 +79,7 @@ module _ (r : Relation) (b : Batch) (x : List ℕ) where
 
   module _ (D : Draws) (C : Cut r D) where
     abbrev W : List ℕ
-    W = honestWords r b x D
+    W = honestProof r b x D
 
     shared-bin : (i : ℕ) → i < s → part (8 * i) 4 W ≡ outerNext (folds (take i (D .shared)) (held (r .bin) (D .tauBin)))
     unfolding binMessages outerRounds
@@ -218,8 +218,8 @@ module _ (r : Relation) (b : Batch) (x d e : List ℕ) (hd : length d ≡ drawCo
   all-same : drawCount r ≤ n → d ≡ e
   all-same l = sym (take-all n d (omega arith)) ∙ h ∙ take-all n e (omega arith)
 
-  pub words-say : Says r n (proverWords r b x d) (proverWords r b x e)
-  unfolding proverWords
+  pub words-say : Says r n (proverProof r b x d) (proverProof r b x e)
+  unfolding proverProof
   words-say = record {
     shared = λ i l k. shared-both r b x D C i l
         ∙ (λ j. outerNext (folds (shared-begin i l k j) (held r b x (r .bin) (tau-bin-same (omega arith) j)))
@@ -243,7 +243,7 @@ module _ (r : Relation) (b : Batch) (x d e : List ℕ) (hd : length d ≡ drawCo
         ∙ (λ j. innerMessage 0 (binds (inner-begin i l k j) (combined-same r b x D E sh rb rf al j))
         (binds (inner-begin i l k j) (folded-same r b x D E sh rb rf j)))
         ∙ sym (inner-round-at r b x E B i l);
-    last = λ l. ap (λ (u : List ℕ). honestWords r b x (drawsOf r u)) (all-same l);
+    last = λ l. ap (λ (u : List ℕ). honestProof r b x (drawsOf r u)) (all-same l);
   }
     where
       C : Cut r (drawsOf r d)
@@ -276,23 +276,23 @@ module _ (r : Relation) (b : Batch) (x d : List ℕ) (s₀ : logLogins r ≡ 0) 
   abbrev rest : List ℕ
   rest = joined (innerMessages (combined r D₀) (foldedZ r b x D₀) (D₀ .inner)) ++ (mle (foldedZ r b x D₀) (D₀ .inner) ∷ trueValues r b D₀)
 
-  terminals-first : proverWords r b x d ≡ terminalValues r b x D₀ ++ rest
-  unfolding proverWords honestWords joined inTurn
+  terminals-first : proverProof r b x d ≡ terminalValues r b x D₀ ++ rest
+  unfolding proverProof honestProof joined interleaved
   terminals-first =
       let bin : binRounds r b x D₀ ≡ [] = rounds-none (r .bin) (D₀ .tauBin) (D₀ .rowBin) bin-none in
       let fld : fldRounds r b x D₀ ≡ [] = rounds-none (r .fld) (D₀ .tauFld) (D₀ .rowFld) fld-none in
       let s = logLogins r in
-      λ j. inTurn ((ap (take s) bin ∙ take-nil s) j) (take s (fldRounds r b x D₀))
+      λ j. interleaved ((ap (take s) bin ∙ take-nil s) j) (take s (fldRounds r b x D₀))
       ++ (joined ((ap (drop s) bin ∙ drop-nil s) j) ++ (joined ((ap (drop s) fld ∙ drop-nil s) j) ++ (terminalValues r b x D₀ ++ rest)))
 
-  terminal-first : (i : ℕ) → i < 6 → part (beforeTerminals r + i) 1 (proverWords r b x d) ≡ part i 1 (terminalValues r b x D₀)
+  terminal-first : (i : ℕ) → i < 6 → part (beforeTerminals r + i) 1 (proverProof r b x d) ≡ part i 1 (terminalValues r b x D₀)
   unfolding terminalValues
   terminal-first i l =
       let z : beforeTerminals r ≡ 0 = omega arith in
-      value-at (beforeTerminals r) i (proverWords r b x d) (terminalValues r b x D₀) rest
-      (ap (λ (k : ℕ). drop k (proverWords r b x d)) z ∙ terminals-first) refl l
+      value-at (beforeTerminals r) i (proverProof r b x d) (terminalValues r b x D₀) rest
+      (ap (λ (k : ℕ). drop k (proverProof r b x d)) z ∙ terminals-first) refl l
 
-pub first-say : (r : Relation) (b : Batch) (x d e : List ℕ) → Says r 0 (proverWords r b x d) (proverWords r b x e)
+pub first-say : (r : Relation) (b : Batch) (x d e : List ℕ) → Says r 0 (proverProof r b x d) (proverProof r b x e)
 first-say r b x d e = record {
   shared = λ i l k. absurd (omega arith);
   rowBin = λ i l k. absurd (omega arith);

@@ -6,7 +6,7 @@ use lib.ListN.{length, take, drop}
 use Rattle.magnetar_field.specs.Sizes.{log₂, halvings}
 use Rattle.magnetar_hash.specs.Bytes.{ascii}
 use Rattle.magnetar_schedule.specs.Schedule.{Event, absorb, draw, decimal, numbered, rounds, singles, schedule}
-use Rattle.magnetar_protocol.specs.Shape.{outline}
+use Rattle.magnetar_protocol.specs.Shape.{sizesOnly}
 
 -- ---- labels
 digits-0 : decimal 20 0 ≡ ascii "0"
@@ -40,7 +40,7 @@ label = refl
 
 -- ---- a schedule: m = 8, q = 4, 2 rows in bin and 1 in fld, 3 segments
 abbrev events : List Event
-events = schedule (outline 8 4 2 1 (1 ∷ 1 ∷ 2 ∷ []))
+events = schedule (sizesOnly 8 4 2 1 (1 ∷ 1 ∷ 2 ∷ []))
 
 -- 3 and 2 draws of tau, 2 shared rounds, 1 row round, 6 terminals, 6 alphas, 3 inner rounds, the value of z, 3 segments
 count : length events ≡ 33

@@ -16,7 +16,7 @@ use Rattle.magnetar_protocol.specs.Shape.{logLogins, logBin, logFld, logCols, b
 use Rattle.magnetar_protocol.specs.Draws.{drawCount}
 use Rattle.magnetar_protocol.specs.Proof.{part}
 use Rattle.magnetar_schedule.specs.Schedule.{Event, absorb, draw, numbered, rounds, singles, schedule}
-use Rattle.magnetar_schedule.specs.Play.{Played, absorbing, drawing, play}
+use Rattle.magnetar_schedule.specs.ScheduleRun.{RunState, absorbing, drawing, runEvents}
 use Rattle.magnetar_schedule.proofs.Counts.{drawsIn, drawsIn-replicate, drawsIn-rounds, drawsIn-singles}
 
 -- what is said the same, part by part of the schedule: each message and value that at most n draws come before
@@ -126,14 +126,14 @@ longer : (a : List ℕ) (v : ℕ) → length (a ++ (v ∷ [])) ≡ suc (length a
 longer a v = length-append a (v ∷ []) ∙ omega arith
 
 -- what was drawn before stays in front
-play-front : (w : List ℕ) (es : List Event) (p : Played) → take (length (p .draws)) (play w es p .draws) ≡ p .draws
-unfolding play
+play-front : (w : List ℕ) (es : List Event) (p : RunState) → take (length (p .draws)) (runEvents w es p .draws) ≡ p .draws
+unfolding runEvents
 play-front w [] p = take-length (p .draws)
 play-front w (absorb l i m ∷ es) p = play-front w es (absorbing l (part i m w) p)
 play-front w (draw l ∷ es) p =
-    let q : Played = drawing l p in
+    let q : RunState = drawing l p in
     let e : length (q .draws) ≡ suc (length (p .draws)) = longer (p .draws) _ in
-    sym (take-take (length (p .draws)) (length (q .draws)) (play w es q .draws) (omega arith))
+    sym (take-take (length (p .draws)) (length (q .draws)) (runEvents w es q .draws) (omega arith))
     ∙ ap (take (length (p .draws))) (play-front w es q) ∙ take-at (p .draws) _ (length (p .draws)) refl
 
 module _ (n : ℕ) (w v : List ℕ) where
@@ -145,16 +145,16 @@ module _ (n : ℕ) (w v : List ℕ) where
       go true e = less (let h : k < n = ltb-true k n e in omega arith)
       go false e = last (let h : n ≤ k = ltb-false k n e in omega arith)
 
-  pub play-same : (k : ℕ) (es : List Event) (p : Played) → length (p .draws) ≡ k → k ≤ n → Same n w v k es
-      → take (suc n) (play w es p .draws) ≡ take (suc n) (play v es p .draws)
-  unfolding Same play
+  pub play-same : (k : ℕ) (es : List Event) (p : RunState) → length (p .draws) ≡ k → k ≤ n → Same n w v k es
+      → take (suc n) (runEvents w es p .draws) ≡ take (suc n) (runEvents v es p .draws)
+  unfolding Same runEvents
   play-same k [] p e l h = refl
   play-same k (absorb a i m ∷ es) p e l h =
-      ap (λ (u : List ℕ). take (suc n) (play w es (absorbing a u p) .draws)) (h .0 l)
+      ap (λ (u : List ℕ). take (suc n) (runEvents w es (absorbing a u p) .draws)) (h .0 l)
       ∙ play-same k es (absorbing a (part i m v) p) e l (h .1)
   play-same k (draw a ∷ es) p e l h =
-      let q : Played = drawing a p in
+      let q : RunState = drawing a p in
       let one : length (q .draws) ≡ suc k = longer (p .draws) _ ∙ ap suc e in
       either k l (λ less. play-same (suc k) es q one less h)
-      (λ z. subst (λ (j : ℕ). take j (play w es q .draws) ≡ take j (play v es q .draws)) (one ∙ ap suc z)
+      (λ z. subst (λ (j : ℕ). take j (runEvents w es q .draws) ≡ take j (runEvents v es q .draws)) (one ∙ ap suc z)
       (play-front w es q ∙ sym (play-front v es q)))

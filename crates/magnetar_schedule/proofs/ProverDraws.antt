@@ -1,4 +1,4 @@
--- The prover's draws: they are the only list that a verifier draws again who is given the honest words at it.
+-- The prover's draws: they are the only list that a verifier draws again who is given the honest proof at it.
 -- Assumes nothing.
 use mathlib.Core.Path.{_≡_, refl, sym, ap, _∙_, subst}
 use mathlib.Core.List.{List, [], _++_}
@@ -11,11 +11,11 @@ use Rattle.magnetar_matrix.specs.Batch.{Relation, Batch}
 use Rattle.magnetar_protocol.specs.Shape.{proofElements}
 use Rattle.magnetar_protocol.specs.Draws.{drawCount, drawsOf, loginPoint, lowPoint}
 use Rattle.magnetar_schedule.specs.Schedule.{schedule}
-use Rattle.magnetar_schedule.specs.Play.{start}
+use Rattle.magnetar_schedule.specs.ScheduleRun.{start}
 use Rattle.magnetar_protocol.specs.Run.{claims}
 use Rattle.magnetar_protocol.specs.RunSizes.{Elements}
-use Rattle.magnetar_protocol.specs.Prover.{proverWords, proverClaims}
-use Rattle.magnetar_schedule.specs.RealRun.{verifierDraws, drawsAfter, proverDraws, sentWords}
+use Rattle.magnetar_protocol.specs.Prover.{proverProof, proverClaims}
+use Rattle.magnetar_schedule.specs.RealRun.{verifierDraws, drawsAfter, proverDraws, sentProof}
 use Rattle.magnetar_schedule.specs.Theorems.{DrawnAgain}
 use Rattle.magnetar_protocol.proofs.SizeFacts.{cut}
 use Rattle.magnetar_protocol.proofs.HonestParts.{segment-part, honest-length}
@@ -24,21 +24,21 @@ use Rattle.magnetar_schedule.proofs.Heard.{Says, schedule-same, play-sa
 use Rattle.magnetar_schedule.proofs.Earlier.{first-say, words-say}
 
 module _ (r : Relation) (b : Batch) (x : List ℕ) (t : Transcript) where
-  -- what a verifier draws who is given the honest words at d
+  -- what a verifier draws who is given the honest proof at d
   abbrev again : List ℕ → List ℕ
-  again d = verifierDraws r (proverWords r b x d) t
+  again d = verifierDraws r (proverProof r b x d) t
 
   abbrev after : ℕ → List ℕ
   after n = drawsAfter r b x t n
 
-  again-same : (n : ℕ) (d e : List ℕ) → Says r n (proverWords r b x d) (proverWords r b x e) → take (suc n) (again d) ≡ take (suc n) (again e)
+  again-same : (n : ℕ) (d e : List ℕ) → Says r n (proverProof r b x d) (proverProof r b x e) → take (suc n) (again d) ≡ take (suc n) (again e)
   unfolding verifierDraws
   again-same n d e S =
-      play-same n (proverWords r b x d) (proverWords r b x e) 0 (schedule r) (start t) refl (omega arith)
-      (schedule-same n (proverWords r b x d) (proverWords r b x e) r S)
+      play-same n (proverProof r b x d) (proverProof r b x e) 0 (schedule r) (start t) refl (omega arith)
+      (schedule-same n (proverProof r b x d) (proverProof r b x e) r S)
 
   again-count : (d : List ℕ) → length (again d) ≡ drawCount r
-  again-count d = verifier-count r (proverWords r b x d) t
+  again-count d = verifier-count r (proverProof r b x d) t
 
   after-count : (n : ℕ) → length (after (suc n)) ≡ drawCount r
   unfolding drawsAfter
@@ -74,28 +74,28 @@ module _ (r : Relation) (b : Batch) (x : List ℕ) (t : Transcript) where
   whole l e = take-all (drawCount r) l (omega arith)
 
   pub drawn-again : DrawnAgain r b x t
-  unfolding sentWords
+  unfolding sentProof
   drawn-again = sym (whole (again (proverDraws r b x t)) (again-count (proverDraws r b x t))) ∙ sym stays ∙ whole (proverDraws r b x t) prover-count
     where
       stays : take (drawCount r) (proverDraws r b x t) ≡ take (drawCount r) (again (proverDraws r b x t))
       stays = unfold proverDraws in stable (drawCount r)
 
-  pub drawn-only : (e : List ℕ) → verifierDraws r (proverWords r b x e) t ≡ e → proverDraws r b x t ≡ e
+  pub drawn-only : (e : List ℕ) → verifierDraws r (proverProof r b x e) t ≡ e → proverDraws r b x t ≡ e
   drawn-only e f = sym (whole (proverDraws r b x t) prover-count) ∙ begins ∙ whole e (ap length (sym f) ∙ again-count e)
     where
       begins : take (drawCount r) (proverDraws r b x t) ≡ take (drawCount r) e
       begins = unfold proverDraws in shown e f (drawCount r)
 
   pub prover-elements : Elements (proverDraws r b x t)
-  prover-elements = subst Elements drawn-again (verifier-elements r (sentWords r b x t) t)
+  prover-elements = subst Elements drawn-again (verifier-elements r (sentProof r b x t) t)
 
   -- the words are as many as document 01 says
-  pub sent-length : length (sentWords r b x t) ≡ proofElements r
-  unfolding sentWords proverWords
+  pub sent-length : length (sentProof r b x t) ≡ proofElements r
+  unfolding sentProof proverProof
   sent-length = honest-length r b x (drawsOf r (proverDraws r b x t)) (cut r (proverDraws r b x t) prover-count)
 
-  -- the claims that are read from the honest words are the prover's, whatever the batch is
-  pub prover-claims : claims r (proverWords r b x (proverDraws r b x t)) (proverDraws r b x t) ≡ proverClaims r b (proverDraws r b x t)
-  unfolding claims proverClaims proverWords
+  -- the claims that are read from the honest proof is the prover's, whatever the batch is
+  pub prover-claims : claims r (proverProof r b x (proverDraws r b x t)) (proverDraws r b x t) ≡ proverClaims r b (proverDraws r b x t)
+  unfolding claims proverClaims proverProof
   prover-claims = ap (λ (l : List ℕ). loginPoint (drawsOf r (proverDraws r b x t)) ++ (lowPoint r (drawsOf r (proverDraws r b x t)) ++ l))
       (segment-part r b x (drawsOf r (proverDraws r b x t)) (cut r (proverDraws r b x t) prover-count))

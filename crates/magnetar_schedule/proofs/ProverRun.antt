@@ -26,14 +26,14 @@ use Rattle.magnetar_layout.specs.Layout.{offset}
 use Rattle.magnetar_protocol.specs.Shape.{logLogins, logCols}
 use Rattle.magnetar_protocol.specs.Draws.{Draws, loginPoint, lowPoint}
 use Rattle.magnetar_schedule.specs.Schedule.{schedule}
-use Rattle.magnetar_schedule.specs.Play.{Played, playedFrom}
+use Rattle.magnetar_schedule.specs.ScheduleRun.{RunState, runFrom}
 use Rattle.magnetar_protocol.specs.Checks.{combined}
 use Rattle.magnetar_protocol.specs.Run.{trueValue, claims}
 use Rattle.magnetar_protocol.specs.RunSizes.{SizedSystem, SizedRelation, SizedBatch, Elements}
 use Rattle.magnetar_protocol.specs.Theory.{logHalf}
-use Rattle.magnetar_protocol.specs.Prover.{joined, inTurn, productTable, outerRounds, binRounds, fldRounds, terminalValues, foldedZ, trueValues, honestWords, proverWords, proverClaims}
+use Rattle.magnetar_protocol.specs.Prover.{joined, interleaved, productTable, outerRounds, binRounds, fldRounds, terminalValues, foldedZ, trueValues, honestProof, proverProof, proverClaims}
 use Rattle.magnetar_schedule.specs.Stepwise.{segmentValue}
-use Rattle.magnetar_schedule.specs.RealRun.{verifierDraws, proverDraws, proverTranscript, sentWords}
+use Rattle.magnetar_schedule.specs.RealRun.{verifierDraws, proverDraws, proverTranscript, sentProof}
 use Rattle.magnetar_schedule.proofs.Proving.{productTables, outerDraws, proving}
 use Rattle.magnetar_protocol.proofs.LayoutLaws.{Placed, placed}
 use Rattle.magnetar_protocol.proofs.SegmentSums.{pow-le}
@@ -228,30 +228,30 @@ module _ (r : Relation) (b : Batch) (x : List ℕ) (t : Transcript) where
             ++ (getD (binds (D .inner) (folded (r .q) (r .m / 2) b p ++ publicFolded x p)) 0 0
             ∷ tabulate (segmentValue r c (folded (r .q) (r .m / 2) b p) (publicFolded x p) (take (logCols r - 1) (D .inner))) (length (r .lengths)))
 
-    words-same : outerSent r (productTables r b x) t (lastSent r b x t (inner-of r b x t)) ≡ honestWords r b x D
-    unfolding honestWords
+    words-same : outerSent r (productTables r b x) t (lastSent r b x t (inner-of r b x t)) ≡ honestProof r b x D
+    unfolding honestProof
     words-same = λ j.
-        inTurn (sym bin-first j) (sym fld-first j)
+        interleaved (sym bin-first j) (sym fld-first j)
         ++ (joined (sym bin-later j) ++ (joined (sym fld-later j) ++ (left-same j ++ last-same j)))
 
-    -- the words of the run are the honest words at its draws, which are drawn again from them
-    words-are : proving r b x t .sent ≡ proverWords r b x (proving r b x t .played .draws)
-    unfolding proverWords
-    words-are = proving-sent r b x t ∙ words-same ∙ ap (honestWords r b x) (sym (parts-are r b x t))
+    -- the words of the run are the honest proof at its draws, which are drawn again from them
+    words-are : proving r b x t .sent ≡ proverProof r b x (proving r b x t .runState .draws)
+    unfolding proverProof
+    words-are = proving-sent r b x t ∙ words-same ∙ ap (honestProof r b x) (sym (parts-are r b x t))
 
-    pub proving-draws-are : proverDraws r b x t ≡ proving r b x t .played .draws
+    pub proving-draws-are : proverDraws r b x t ≡ proving r b x t .runState .draws
     unfolding verifierDraws
-    proving-draws-are = drawn-only r b x t (proving r b x t .played .draws)
-        (ap (λ (w : List ℕ). playedFrom w (schedule r) t .draws) (sym words-are) ∙ ap (λ (p : Played). p .draws) (plays-the-same r b x t))
+    proving-draws-are = drawn-only r b x t (proving r b x t .runState .draws)
+        (ap (λ (w : List ℕ). runFrom w (schedule r) t .draws) (sym words-are) ∙ ap (λ (p : RunState). p .draws) (plays-the-same r b x t))
 
-    pub proving-words : proving r b x t .sent ≡ proverWords r b x (proverDraws r b x t)
-    proving-words = words-are ∙ ap (proverWords r b x) (sym proving-draws-are)
+    pub proving-words : proving r b x t .sent ≡ proverProof r b x (proverDraws r b x t)
+    proving-words = words-are ∙ ap (proverProof r b x) (sym proving-draws-are)
 
-    pub proving-transcript : proving r b x t .played .transcript ≡ proverTranscript r b x t
-    unfolding proverTranscript sentWords
-    proving-transcript = ap (λ (p : Played). p .transcript) (sym (plays-the-same r b x t))
-        ∙ ap (λ (w : List ℕ). playedFrom w (schedule r) t .transcript) proving-words
+    pub proving-transcript : proving r b x t .runState .transcript ≡ proverTranscript r b x t
+    unfolding proverTranscript sentProof
+    proving-transcript = ap (λ (p : RunState). p .transcript) (sym (plays-the-same r b x t))
+        ∙ ap (λ (w : List ℕ). runFrom w (schedule r) t .transcript) proving-words
 
     -- the claims that are read from its words and draws are the prover's
-    pub proving-claims : claims r (proving r b x t .sent) (proving r b x t .played .draws) ≡ proverClaims r b (proverDraws r b x t)
+    pub proving-claims : claims r (proving r b x t .sent) (proving r b x t .runState .draws) ≡ proverClaims r b (proverDraws r b x t)
     proving-claims = ap₂ (claims r) proving-words (sym proving-draws-are) ∙ prover-claims r b x t

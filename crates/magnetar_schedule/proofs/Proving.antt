@@ -27,7 +27,7 @@ outerProving r b x t = outerAll r (productTables r b x) (tauSteps r t)
 
 -- the draws up to the alphas, taken apart
 abbrev pub outerDraws : Relation → Batch → List ℕ → Transcript → Draws
-outerDraws r b x t = drawsOf r (outerProving r b x t .played .draws)
+outerDraws r b x t = drawsOf r (outerProving r b x t .runState .draws)
 
 -- the whole run
 unfoldable pub proving : Relation → Batch → List ℕ → Transcript → Steps

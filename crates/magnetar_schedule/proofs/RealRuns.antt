@@ -11,12 +11,12 @@ use Rattle.magnetar_matrix.specs.Batch.{Relation, Batch}
 use Rattle.magnetar_theory.specs.Count.{naturalSum}
 use Rattle.magnetar_protocol.specs.Shape.{logLogins, logBin, logFld, logCols, proofElements}
 use Rattle.magnetar_schedule.specs.Schedule.{Event, schedule}
-use Rattle.magnetar_schedule.specs.Play.{playedFrom}
+use Rattle.magnetar_schedule.specs.ScheduleRun.{runFrom}
 use Rattle.magnetar_protocol.specs.Run.{verdict, claims, ClaimsTrue}
 use Rattle.magnetar_protocol.specs.RunSizes.{SizedRelation, SizedBatch, Elements}
 use Rattle.magnetar_protocol.specs.Soundness.{NoBitOutside, badDraws, absorbedBefore, BadDraw}
 use Rattle.magnetar_protocol.specs.Prover.{proverClaims, CompleteRun}
-use Rattle.magnetar_schedule.specs.RealRun.{verifierDraws, verifierTranscript, proverDraws, proverTranscript, sentWords, Agrees}
+use Rattle.magnetar_schedule.specs.RealRun.{verifierDraws, verifierTranscript, proverDraws, proverTranscript, sentProof, Agrees}
 use Rattle.magnetar_protocol.proofs.Soundness.{soundness, all-lists}
 use Rattle.magnetar_protocol.proofs.Completeness.{completeness}
 use Rattle.magnetar_schedule.proofs.Counts.{verifier-count, verifier-elements}
@@ -48,13 +48,13 @@ pub lists-run : (r : Relation) (b : Batch) (x w : List ℕ) (t : Transcript) →
     ≤ 4 * (logLogins r + max (logBin r) (logFld r)) + 1 + 2 * logCols r
 lists-run r b x w t R = all-lists r b x w (verifierDraws r w t) R (verifier-count r w t)
 
--- Of a good batch with no bit outside the segments, the verifier who is given the prover's words and the same transcript agrees.
+-- Of a good batch with no bit outside the segments, the verifier who is given the prover's proof and the same transcript agrees.
 pub completeness-run : CompletenessRun
 completeness-run r b x t R B px ex g stray = record {
   same-draws = drawn;
   accepted = accepts;
-  same-claims = ap (claims r (sentWords r b x t)) drawn ∙ claimed;
-  true-claims = subst (ClaimsTrue r b) (sym (ap (claims r (sentWords r b x t)) drawn ∙ claimed)) (convinced .true-claims);
+  same-claims = ap (claims r (sentProof r b x t)) drawn ∙ claimed;
+  true-claims = subst (ClaimsTrue r b) (sym (ap (claims r (sentProof r b x t)) drawn ∙ claimed)) (convinced .true-claims);
   same-transcript = ends;
 }
   where
@@ -68,17 +68,17 @@ completeness-run r b x t R B px ex g stray = record {
       elements-d = prover-elements r b x t;
     }) g stray
 
-    drawn : verifierDraws r (sentWords r b x t) t ≡ proverDraws r b x t
+    drawn : verifierDraws r (sentProof r b x t) t ≡ proverDraws r b x t
     drawn = drawn-again r b x t
 
-    accepts : verdict r x (sentWords r b x t) (verifierDraws r (sentWords r b x t) t) ≡ 0
-    accepts = ap (verdict r x (sentWords r b x t)) drawn ∙ unfold sentWords in convinced .accepted
+    accepts : verdict r x (sentProof r b x t) (verifierDraws r (sentProof r b x t) t) ≡ 0
+    accepts = ap (verdict r x (sentProof r b x t)) drawn ∙ unfold sentProof in convinced .accepted
 
-    claimed : claims r (sentWords r b x t) (proverDraws r b x t) ≡ proverClaims r b (proverDraws r b x t)
-    claimed = unfold sentWords in convinced .same-claims
+    claimed : claims r (sentProof r b x t) (proverDraws r b x t) ≡ proverClaims r b (proverDraws r b x t)
+    claimed = unfold sentProof in convinced .same-claims
 
-    ends : verifierTranscript r x (sentWords r b x t) t ≡ proverTranscript r b x t
+    ends : verifierTranscript r x (sentProof r b x t) t ≡ proverTranscript r b x t
     ends = unfold verifierTranscript proverTranscript in
-        (ap (λ (n : ℕ). playedFrom (sentWords r b x t) (take n (schedule r)) t .transcript)
-        (stop-accepted r x (sentWords r b x t) (verifierDraws r (sentWords r b x t) t) accepts)
-        ∙ ap (λ (es : List Event). playedFrom (sentWords r b x t) es t .transcript) (take-length (schedule r)))
+        (ap (λ (n : ℕ). runFrom (sentProof r b x t) (take n (schedule r)) t .transcript)
+        (stop-accepted r x (sentProof r b x t) (verifierDraws r (sentProof r b x t) t) accepts)
+        ∙ ap (λ (es : List Event). runFrom (sentProof r b x t) es t .transcript) (take-length (schedule r)))

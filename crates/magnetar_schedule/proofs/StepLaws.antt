@@ -19,28 +19,28 @@ use Rattle.magnetar_matrix.specs.Batch.{Relation}
 use Rattle.magnetar_protocol.specs.Shape.{logCols}
 use Rattle.magnetar_protocol.specs.Proof.{part}
 use Rattle.magnetar_schedule.specs.Schedule.{Event, absorb, draw, numbered, rounds, singles}
-use Rattle.magnetar_schedule.specs.Play.{play, absorbing}
-use Rattle.magnetar_protocol.specs.Prover.{joined, inTurn}
+use Rattle.magnetar_schedule.specs.ScheduleRun.{runEvents, absorbing}
+use Rattle.magnetar_protocol.specs.Prover.{joined, interleaved}
 use Rattle.magnetar_schedule.specs.Stepwise.{Steps, begin, send, drawOne, lastDrawn, drawTimes, sendEach, OuterSteps, sharedStep, sharedSteps, RowSteps, rowStep, rowSteps, InnerSteps, innerStep, innerSteps, innerRun, segmentValue, lowDraws, ended, innerAll}
 use Rattle.magnetar_schedule.proofs.Counts.{play-append, onto}
 
 -- ---- steps from p to q that draw rs and say v, along the events es
 pub record Goes (es : List Event) (p q : Steps) (rs v : List ℕ) : Type 0 where
-  pub draws : q .played .draws ≡ p .played .draws ++ rs
+  pub draws : q .runState .draws ≡ p .runState .draws ++ rs
   pub sent : q .sent ≡ p .sent ++ v
-  pub plays : (w post : List ℕ) → w ≡ q .sent ++ post → play w es (p .played) ≡ q .played
+  pub plays : (w post : List ℕ) → w ≡ q .sent ++ post → runEvents w es (p .runState) ≡ q .runState
 
 pub goes-none : (p : Steps) → Goes [] p p [] []
-unfolding play
-goes-none p = record { draws = sym (append-nil (p .played .draws)); sent = sym (append-nil (p .sent)); plays = λ w post h. refl }
+unfolding runEvents
+goes-none p = record { draws = sym (append-nil (p .runState .draws)); sent = sym (append-nil (p .sent)); plays = λ w post h. refl }
 
 pub goes-then : {es fs : List Event} {p q s : Steps} {rs v rs′ v′ : List ℕ} → Goes es p q rs v → Goes fs q s rs′ v′
     → Goes (es ++ fs) p s (rs ++ rs′) (v ++ v′)
 goes-then {es} {fs} {p} {q} {s} {rs} {v} {rs′} {v′} a b = record {
-  draws = b .draws ∙ ap (λ (l : List ℕ). l ++ rs′) (a .draws) ∙ append-assoc (p .played .draws) rs rs′;
+  draws = b .draws ∙ ap (λ (l : List ℕ). l ++ rs′) (a .draws) ∙ append-assoc (p .runState .draws) rs rs′;
   sent = b .sent ∙ ap (λ (l : List ℕ). l ++ v′) (a .sent) ∙ append-assoc (p .sent) v v′;
-  plays = λ w post h. play-append w es fs (p .played)
-      ∙ ap (play w fs) (a .plays w (v′ ++ post) (h ∙ ap (λ (l : List ℕ). l ++ post) (b .sent) ∙ append-assoc (q .sent) v′ post))
+  plays = λ w post h. play-append w es fs (p .runState)
+      ∙ ap (runEvents w fs) (a .plays w (v′ ++ post) (h ∙ ap (λ (l : List ℕ). l ++ post) (b .sent) ∙ append-assoc (q .sent) v′ post))
       ∙ b .plays w post h;
 }
 
@@ -50,15 +50,15 @@ there u v post i n hu hv =
     ap (λ (l : List ℕ). take n (drop i l)) (append-assoc u v post) ∙ ap (take n) (drop-at u (v ++ post) i hu) ∙ take-at v post n hv
 
 pub goes-send : (l v : List ℕ) (i n : ℕ) (p : Steps) → length (p .sent) ≡ i → length v ≡ n → Goes (absorb l i n ∷ []) p (send l v p) [] v
-unfolding play
+unfolding runEvents
 goes-send l v i n p hi hn = record {
-  draws = sym (append-nil (p .played .draws));
+  draws = sym (append-nil (p .runState .draws));
   sent = refl;
-  plays = λ w post h. ap (λ (e : List ℕ). absorbing l e (p .played)) (ap (part i n) h ∙ there (p .sent) v post i n hi hn);
+  plays = λ w post h. ap (λ (e : List ℕ). absorbing l e (p .runState)) (ap (part i n) h ∙ there (p .sent) v post i n hi hn);
 }
 
 pub goes-draw : (l : List ℕ) (p : Steps) → Goes (draw l ∷ []) p (drawOne l p) (lastDrawn (drawOne l p) ∷ []) []
-unfolding play
+unfolding runEvents
 goes-draw l p = record { draws = refl; sent = sym (append-nil (p .sent)); plays = λ w post h. refl }
 
 -- a message of a round, and its challenge
@@ -115,7 +115,7 @@ next-length S = refl
 pub record SharedRounds (es : List Event) (p q : OuterSteps) (n : ℕ) : Type 0 where
   pub rs : List ℕ
   pub count : length rs ≡ n
-  pub goes : Goes es (p .steps) (q .steps) rs (inTurn (outerMessages (p .bin) rs) (outerMessages (p .fld) rs))
+  pub goes : Goes es (p .steps) (q .steps) rs (interleaved (outerMessages (p .bin) rs) (outerMessages (p .fld) rs))
   pub bin : q .bin ≡ folds rs (p .bin)
   pub fld : q .fld ≡ folds rs (p .fld)
 
@@ -128,7 +128,7 @@ both-length p = length-append (outerNext (p .bin)) (outerNext (p .fld)) ∙ ap�
 
 pub shared-rounds : (first i n : ℕ) (p : OuterSteps) → length (p .steps .sent) ≡ first + 8 * i
     → SharedRounds (rounds (numbered "vs-out-shared-") first 8 i n) p (sharedSteps i n p) n
-unfolding rounds sharedSteps sharedStep outerMessages inTurn
+unfolding rounds sharedSteps sharedStep outerMessages interleaved
 shared-rounds first i zero p h = record { rs = []; count = refl; goes = goes-none (p .steps); bin = refl; fld = refl }
 shared-rounds first i (suc n) p h =
     let b : SharedRounds (rounds (numbered "vs-out-shared-") first 8 (suc i) n) (sharedStep i p) (sharedSteps (suc i) n (sharedStep i p)) n =
@@ -141,7 +141,7 @@ shared-rounds first i (suc n) p h =
       goes = subst (λ (u : List ℕ). Goes (rounds (numbered "vs-out-shared-") first 8 i (suc n)) (p .steps) (sharedSteps i (suc n) p .steps)
           (lastDrawn (sharedStep i p .steps) ∷ b .rs) u)
           (append-assoc (outerNext (p .bin)) (outerNext (p .fld))
-          (inTurn (outerMessages (sharedStep i p .bin) (b .rs)) (outerMessages (sharedStep i p .fld) (b .rs))))
+          (interleaved (outerMessages (sharedStep i p .bin) (b .rs)) (outerMessages (sharedStep i p .fld) (b .rs))))
           (goes-then (goes-round (numbered "vs-out-shared-" i) (outerNext (p .bin) ++ outerNext (p .fld)) (first + 8 * i) 8 (p .steps) h (both-length p))
           (b .goes));
       bin = b .bin;
@@ -205,22 +205,22 @@ inner-rounds first i (suc n) p h =
 -- ---- steps behind others
 -- p, and behind it the steps q
 abbrev pub behind : Steps → Steps → Steps
-behind p q = record { played = onto (p .played .draws) (q .played); sent = p .sent ++ q .sent }
+behind p q = record { runState = onto (p .runState .draws) (q .runState); sent = p .sent ++ q .sent }
 
 abbrev behindInner : Steps → InnerSteps → InnerSteps
 behindInner p q = record { steps = behind p (q .steps); table = q .table; z = q .z }
 
 send-behind : (l v : List ℕ) (p q : Steps) → send l v (behind p q) ≡ behind p (send l v q)
 send-behind l v p q = λ j. record {
-  played = absorbing l v (onto (p .played .draws) (q .played));
+  runState = absorbing l v (onto (p .runState .draws) (q .runState));
   sent = append-assoc (p .sent) (q .sent) v j;
 }
 
 draw-behind : (l : List ℕ) (p q : Steps) → drawOne l (behind p q) ≡ behind p (drawOne l q)
 draw-behind l p q = λ j. record {
-  played = record {
-    transcript = drawOne l q .played .transcript;
-    draws = append-assoc (p .played .draws) (q .played .draws) (lastDrawn (drawOne l q) ∷ []) j;
+  runState = record {
+    transcript = drawOne l q .runState .transcript;
+    draws = append-assoc (p .runState .draws) (q .runState .draws) (lastDrawn (drawOne l q) ∷ []) j;
   };
   sent = p .sent ++ q .sent;
 }
@@ -247,9 +247,9 @@ each-behind label i (v ∷ vs) p q =
     ∙ each-behind label (suc i) vs p (send (numbered label i) (v ∷ []) q)
 
 -- every run is behind its beginning
-pub behind-none : (p : Steps) → p ≡ behind p (begin (p .played .transcript))
+pub behind-none : (p : Steps) → p ≡ behind p (begin (p .runState .transcript))
 behind-none p = λ j. record {
-  played = record { transcript = p .played .transcript; draws = sym (append-nil (p .played .draws)) j };
+  runState = record { transcript = p .runState .transcript; draws = sym (append-nil (p .runState .draws)) j };
   sent = sym (append-nil (p .sent)) j;
 }
 
@@ -259,11 +259,11 @@ module _ (r : Relation) (t f half : List ℕ) where
   unfolding innerRun
   run-behind p q = rounds-behind (logCols r) p (record { steps = q; table = t; z = f ++ half })
 
-  low-behind : (p q s : Steps) → lowDraws r t f half (length (behind p q .played .draws)) (behind p s) ≡ lowDraws r t f half (length (q .played .draws)) s
+  low-behind : (p q s : Steps) → lowDraws r t f half (length (behind p q .runState .draws)) (behind p s) ≡ lowDraws r t f half (length (q .runState .draws)) s
   unfolding lowDraws
   low-behind p q s =
-      ap (λ (n : ℕ). take (logCols r - 1) (drop n (p .played .draws ++ s .played .draws))) (length-append (p .played .draws) (q .played .draws))
-      ∙ ap (take (logCols r - 1)) (drop-append-add (p .played .draws) (s .played .draws) (length (q .played .draws)))
+      ap (λ (n : ℕ). take (logCols r - 1) (drop n (p .runState .draws ++ s .runState .draws))) (length-append (p .runState .draws) (q .runState .draws))
+      ∙ ap (take (logCols r - 1)) (drop-append-add (p .runState .draws) (s .runState .draws) (length (q .runState .draws)))
 
   ended-behind : (low : List ℕ) (p : Steps) (q : InnerSteps) → ended r t f half low (behindInner p q) ≡ behind p (ended r t f half low q)
   unfolding ended
@@ -276,10 +276,10 @@ module _ (r : Relation) (t f half : List ℕ) where
   pub inner-all-behind : (p q : Steps) → innerAll r t f half (behind p q) ≡ behind p (innerAll r t f half q)
   unfolding innerAll
   inner-all-behind p q =
-      ap (λ (s : InnerSteps). ended r t f half (lowDraws r t f half (length (behind p q .played .draws)) (s .steps)) s) (run-behind p q)
+      ap (λ (s : InnerSteps). ended r t f half (lowDraws r t f half (length (behind p q .runState .draws)) (s .steps)) s) (run-behind p q)
       ∙ ap (λ (low : List ℕ). ended r t f half low (behindInner p (innerRun r t f half q))) (low-behind p q (innerRun r t f half q .steps))
-      ∙ ended-behind (lowDraws r t f half (length (q .played .draws)) (innerRun r t f half q .steps)) p (innerRun r t f half q)
+      ∙ ended-behind (lowDraws r t f half (length (q .runState .draws)) (innerRun r t f half q .steps)) p (innerRun r t f half q)
 
   -- the transcript, the draws and the words of these steps behind p are p's and theirs
-  pub inner-all-after : (p : Steps) → innerAll r t f half p ≡ behind p (innerAll r t f half (begin (p .played .transcript)))
-  inner-all-after p = ap (innerAll r t f half) (behind-none p) ∙ inner-all-behind p (begin (p .played .transcript))
+  pub inner-all-after : (p : Steps) → innerAll r t f half p ≡ behind p (innerAll r t f half (begin (p .runState .transcript)))
+  inner-all-after p = ap (innerAll r t f half) (behind-none p) ∙ inner-all-behind p (begin (p .runState .transcript))

@@ -17,12 +17,12 @@ use Rattle.magnetar_matrix.specs.Batch.{Relation, Batch, folded, publicFolded}
 use Rattle.magnetar_protocol.specs.Shape.{logLogins, logBin, logFld, logCols, beforeTerminals, beforeInner}
 use Rattle.magnetar_protocol.specs.Draws.{Draws, drawCount, drawsOf, loginPoint}
 use Rattle.magnetar_schedule.specs.Schedule.{Event, absorb, draw, numbered, rounds, singles, schedule}
-use Rattle.magnetar_schedule.specs.Play.{playedFrom}
+use Rattle.magnetar_schedule.specs.ScheduleRun.{runFrom}
 use Rattle.magnetar_protocol.specs.Checks.{combined}
-use Rattle.magnetar_protocol.specs.Prover.{joined, inTurn}
+use Rattle.magnetar_protocol.specs.Prover.{joined, interleaved}
 use Rattle.magnetar_schedule.specs.Stepwise.{Steps, begin, send, drawTimes, sendEach, OuterSteps, sharedSteps, RowSteps, rowSteps, InnerSteps, Tables, tauSteps, outerBegin, binRows, fldRows, outerSteps, terminalsLeft, outerAll, innerRun, segmentValue, lowDraws, ended, innerAll}
 use Rattle.magnetar_schedule.proofs.Proving.{productTables, outerProving, outerDraws, proving}
-use Rattle.magnetar_protocol.proofs.Chunks.{joined-length, inTurn-length, past}
+use Rattle.magnetar_protocol.proofs.Chunks.{joined-length, interleaved-length, past}
 use Rattle.magnetar_protocol.proofs.HonestParts.{outer-each, outer-count, inner-each, inner-count}
 use Rattle.magnetar_schedule.proofs.StepLaws.{Goes, goes-none, goes-then, goes-send, goes-each, DrawsMany, draws-many, folds, SharedRounds, shared-rounds, RowRounds, row-rounds, InnerRounds, inner-rounds, binds, behind, inner-all-after}
 
@@ -81,9 +81,9 @@ module _ (r : Relation) (T : Tables) (t : Transcript) where
   abbrev binStart : RowSteps
   binStart = record { steps = O₁ .steps; held = O₁ .bin }
 
-  turns : (A C : Outer) (rs : List ℕ) (n : ℕ) → length rs ≡ n → length (inTurn (outerMessages A rs) (outerMessages C rs)) ≡ 8 * n
+  turns : (A C : Outer) (rs : List ℕ) (n : ℕ) → length rs ≡ n → length (interleaved (outerMessages A rs) (outerMessages C rs)) ≡ 8 * n
   turns A C rs n h =
-      inTurn-length (outerMessages A rs) (outerMessages C rs) (outer-each A rs) (outer-each C rs) (outer-count C rs ∙ sym (outer-count A rs))
+      interleaved-length (outerMessages A rs) (outerMessages C rs) (outer-each A rs) (outer-each C rs) (outer-count C rs ∙ sym (outer-count A rs))
       ∙ ap (λ (k : ℕ). 8 * k) (outer-count A rs ∙ h)
 
   fours : (A : Outer) (rs : List ℕ) (n : ℕ) → length rs ≡ n → length (joined (outerMessages A rs)) ≡ 4 * n
@@ -147,7 +147,7 @@ module _ (r : Relation) (T : Tables) (t : Transcript) where
   abbrev pub fldAtStart : Outer
   fldAtStart = outerStart (logLogins r) tau-fld (T .fld-a) (T .fld-b) (T .fld-c)
 
-  drawn₂ : P₂ .played .draws ≡ tau-bin ++ tau-fld
+  drawn₂ : P₂ .runState .draws ≡ tau-bin ++ tau-fld
   unfolding tau-bin tau-fld
   drawn₂ = taus-fld .goes .draws ∙ ap (λ (l : List ℕ). l ++ taus-fld .rs) (taus-bin .goes .draws)
 
@@ -211,16 +211,16 @@ module _ (r : Relation) (T : Tables) (t : Transcript) where
 
   abbrev pub outerSent : List ℕ → List ℕ
   outerSent v =
-      inTurn (outerMessages binAtStart shared) (outerMessages fldAtStart shared)
+      interleaved (outerMessages binAtStart shared) (outerMessages fldAtStart shared)
       ++ (joined (outerMessages (folds shared binAtStart) row-bin)
       ++ (joined (outerMessages (folds shared fldAtStart) row-fld)
       ++ (leftOf ends-bin ends-fld ++ v)))
 
   sent-as : (A C A₁ C₁ : Outer) (l v : List ℕ) → A ≡ binAtStart → C ≡ fldAtStart → A₁ ≡ folds shared binAtStart → C₁ ≡ folds shared fldAtStart
       → l ≡ leftOf ends-bin ends-fld
-      → inTurn (outerMessages A shared) (outerMessages C shared)
+      → interleaved (outerMessages A shared) (outerMessages C shared)
       ++ (joined (outerMessages A₁ row-bin) ++ (joined (outerMessages C₁ row-fld) ++ (l ++ v))) ≡ outerSent v
-  sent-as A C A₁ C₁ l v e f g h k = λ j. inTurn (outerMessages (e j) shared) (outerMessages (f j) shared)
+  sent-as A C A₁ C₁ l v e f g h k = λ j. interleaved (outerMessages (e j) shared) (outerMessages (f j) shared)
       ++ (joined (outerMessages (g j) row-bin) ++ (joined (outerMessages (h j) row-fld) ++ (k j ++ v)))
 
   goes-outer : {es : List Event} {q : Steps} {ds v : List ℕ} → Goes es P₅ q ds v → Goes (outerEvents es) (begin t) q (outerDrawn ds) (outerSent v)
@@ -259,7 +259,7 @@ module _ (r : Relation) (T : Tables) (t : Transcript) where
   outer-goes : Goes (outerEvents []) (begin t) (outerAll r T (tauSteps r t)) (outerDrawn []) (outerSent [])
   outer-goes = subst (λ (q : Steps). Goes (outerEvents []) (begin t) q (outerDrawn []) (outerSent [])) (sym outer-is) (goes-outer (goes-none P₅))
 
-  pub outer-draws : outerAll r T (tauSteps r t) .played .draws ≡ outerDrawn []
+  pub outer-draws : outerAll r T (tauSteps r t) .runState .draws ≡ outerDrawn []
   outer-draws = outer-goes .draws
 
   pub outer-sent-length : length (outerAll r T (tauSteps r t) .sent) ≡ beforeInner r
@@ -272,7 +272,7 @@ module _ (r : Relation) (T : Tables) (t : Transcript) where
       ∙ ap₂ _+_ shared-length (length-append row-bin _ ∙ ap₂ _+_ row-bin-length (length-append row-fld _ ∙ ap₂ _+_ row-fld-length
       (length-append alpha ds ∙ ap (λ (k : ℕ). k + length ds) alpha-length)))))
 
-  pub outer-draws-length : length (outerAll r T (tauSteps r t) .played .draws) ≡ drawCount r - logCols r
+  pub outer-draws-length : length (outerAll r T (tauSteps r t) .runState .draws) ≡ drawCount r - logCols r
   outer-draws-length = ap length outer-draws ∙ drawn-length [] ∙ omega arith
 
   -- ---- the draws taken apart
@@ -351,7 +351,7 @@ module _ (r : Relation) (c f half : List ℕ) (p : Steps) (n : ℕ) (h : length 
       ∙ ap (λ (k : ℕ). 3 * k) (inner-count c (f ++ half) (inners .rs) ∙ inners .count))
 
   abbrev low : List ℕ
-  low = lowDraws r c f half (length (p .played .draws)) (I₁ .steps)
+  low = lowDraws r c f half (length (p .runState .draws)) (I₁ .steps)
 
   abbrev P₆ : Steps
   P₆ = send (ascii "vs-vz") (getD (I₁ .z) 0 0 ∷ []) (I₁ .steps)
@@ -370,8 +370,8 @@ module _ (r : Relation) (c f half : List ℕ) (p : Steps) (n : ℕ) (h : length 
 
   pub low-is : low ≡ take (logCols r - 1) inner-drawn
   unfolding lowDraws inner-drawn
-  low-is = ap (take (logCols r - 1)) (ap (drop (length (p .played .draws))) (inners .goes .draws)
-      ∙ drop-append-seam (p .played .draws) (inners .rs))
+  low-is = ap (take (logCols r - 1)) (ap (drop (length (p .runState .draws))) (inners .goes .draws)
+      ∙ drop-append-seam (p .runState .draws) (inners .rs))
 
   abbrev pub innerEvents : List Event
   innerEvents = rounds (λ _. ascii "vs-inner") n 3 0 (logCols r)
@@ -439,25 +439,25 @@ module _ (r : Relation) (b : Batch) (x : List ℕ) (t : Transcript) where
   goes-proving = goes-outer r T t (goes-inner r c f half (outerProving r b x t) (beforeInner r) outer-proving-length)
 
   -- all draws, and all words
-  pub proving-draws : proving r b x t .played .draws ≡ outerDrawn r T t inner-of
+  pub proving-draws : proving r b x t .runState .draws ≡ outerDrawn r T t inner-of
   proving-draws = goes-proving .draws
 
   pub proving-sent : proving r b x t .sent ≡ outerSent r T t (lastSent inner-of)
   proving-sent = goes-proving .sent
 
   -- the verifier that is given the words plays the same
-  pub plays-the-same : playedFrom (proving r b x t .sent) (schedule r) t ≡ proving r b x t .played
+  pub plays-the-same : runFrom (proving r b x t .sent) (schedule r) t ≡ proving r b x t .runState
   plays-the-same = goes-proving .plays (proving r b x t .sent) [] (sym (append-nil (proving r b x t .sent)))
 
   -- the run up to the alphas comes first
-  pub proving-after : proving r b x t ≡ behind (outerProving r b x t) (innerAll r c f half (begin (outerProving r b x t .played .transcript)))
+  pub proving-after : proving r b x t ≡ behind (outerProving r b x t) (innerAll r c f half (begin (outerProving r b x t .runState .transcript)))
   unfolding proving
   proving-after = inner-all-after r c f half (outerProving r b x t)
 
   pub outer-proving-sent : length (outerProving r b x t .sent) ≡ beforeInner r
   outer-proving-sent = outer-proving-length
 
-  pub outer-proving-count : length (outerProving r b x t .played .draws) ≡ drawCount r - logCols r
+  pub outer-proving-count : length (outerProving r b x t .runState .draws) ≡ drawCount r - logCols r
   unfolding outerProving
   outer-proving-count = outer-draws-length r T t
 
@@ -494,7 +494,7 @@ module _ (r : Relation) (b : Batch) (x : List ℕ) (t : Transcript) where
     inner = inner-of;
   }
 
-  pub parts-are : drawsOf r (proving r b x t .played .draws) ≡ parts
+  pub parts-are : drawsOf r (proving r b x t .runState .draws) ≡ parts
   parts-are = ap (drawsOf r) proving-draws ∙ draws-are r T t inner-of ∙ λ j. record {
     tauBin = tau-bin r T t;
     tauFld = tau-fld r T t;

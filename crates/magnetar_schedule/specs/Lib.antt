@@ -1,5 +1,5 @@
 pub mod Schedule
-pub mod Play
+pub mod ScheduleRun
 pub mod Stepwise
 pub mod RealRun
 pub mod Theorems

@@ -9,15 +9,15 @@ use Rattle.magnetar_hash.specs.declared.transcript.Transcript.{Transcript}
 use Rattle.magnetar_matrix.specs.Batch.{Relation, Batch}
 use Rattle.magnetar_protocol.specs.Draws.{drawCount, drawsOf}
 use Rattle.magnetar_schedule.specs.Schedule.{schedule}
-use Rattle.magnetar_schedule.specs.Play.{playedFrom}
+use Rattle.magnetar_schedule.specs.ScheduleRun.{runFrom}
 use Rattle.magnetar_protocol.specs.Checks.{checks, firstStop}
 use Rattle.magnetar_protocol.specs.Run.{verdict, claims, ClaimsTrue}
-use Rattle.magnetar_protocol.specs.Prover.{proverWords, proverClaims}
+use Rattle.magnetar_protocol.specs.Prover.{proverProof, proverClaims}
 
 -- ---- the verifier, given the public columns x, the proof's elements w and the transcript t
 -- the elements that it draws
 unfoldable pub verifierDraws : Relation → List ℕ → Transcript → List ℕ
-verifierDraws r w t = playedFrom w (schedule r) t .draws
+verifierDraws r w t = runFrom w (schedule r) t .draws
 
 -- how many events it has played when it answers, with the draws d
 unfoldable pub stop : Relation → (x w d : List ℕ) → ℕ
@@ -25,32 +25,32 @@ stop r x w d = firstStop (checks r x w (drawsOf r d)) (length (schedule r))
 
 -- its transcript when it answers
 unfoldable pub verifierTranscript : Relation → (x w : List ℕ) → Transcript → Transcript
-verifierTranscript r x w t = playedFrom w (take (stop r x w (verifierDraws r w t)) (schedule r)) t .transcript
+verifierTranscript r x w t = runFrom w (take (stop r x w (verifierDraws r w t)) (schedule r)) t .transcript
 
 -- ---- the prover, given the batch b, the public columns x and the transcript t
--- n times over, from no draws on: what a verifier would draw who is given the honest words at the draws so far. Each message uses only the
+-- n times over, from no draws on: what a verifier would draw who is given the honest proof at the draws so far. Each message uses only the
 -- draws before it, so that each time one more draw is right
 unfoldable pub drawsAfter : Relation → Batch → List ℕ → Transcript → ℕ → List ℕ
 drawsAfter r b x t zero = []
-drawsAfter r b x t (suc n) = verifierDraws r (proverWords r b x (drawsAfter r b x t n)) t
+drawsAfter r b x t (suc n) = verifierDraws r (proverProof r b x (drawsAfter r b x t n)) t
 
--- the elements that it draws; no other list is drawn again from the honest words at it (proofs/ProverDraws)
+-- the elements that it draws; no other list is drawn again from the honest proof at it (proofs/ProverDraws)
 unfoldable pub proverDraws : Relation → Batch → List ℕ → Transcript → List ℕ
 proverDraws r b x t = drawsAfter r b x t (drawCount r)
 
--- the words that it sends
-unfoldable pub sentWords : Relation → Batch → List ℕ → Transcript → List ℕ
-sentWords r b x t = proverWords r b x (proverDraws r b x t)
+-- the proof that it sends
+unfoldable pub sentProof : Relation → Batch → List ℕ → Transcript → List ℕ
+sentProof r b x t = proverProof r b x (proverDraws r b x t)
 
 -- its transcript at the end
 unfoldable pub proverTranscript : Relation → Batch → List ℕ → Transcript → Transcript
-proverTranscript r b x t = playedFrom (sentWords r b x t) (schedule r) t .transcript
+proverTranscript r b x t = runFrom (sentProof r b x t) (schedule r) t .transcript
 
 -- ---- a verifier who is given these words, and the same transcript, draws what the prover drew, accepts, returns the same claims, all of
 -- them true, and ends with the same transcript
 pub record Agrees (r : Relation) (b : Batch) (x : List ℕ) (t : Transcript) : Type 0 where
-  pub same-draws : verifierDraws r (sentWords r b x t) t ≡ proverDraws r b x t
-  pub accepted : verdict r x (sentWords r b x t) (verifierDraws r (sentWords r b x t) t) ≡ 0
-  pub same-claims : claims r (sentWords r b x t) (verifierDraws r (sentWords r b x t) t) ≡ proverClaims r b (proverDraws r b x t)
-  pub true-claims : ClaimsTrue r b (claims r (sentWords r b x t) (verifierDraws r (sentWords r b x t) t))
-  pub same-transcript : verifierTranscript r x (sentWords r b x t) t ≡ proverTranscript r b x t
+  pub same-draws : verifierDraws r (sentProof r b x t) t ≡ proverDraws r b x t
+  pub accepted : verdict r x (sentProof r b x t) (verifierDraws r (sentProof r b x t) t) ≡ 0
+  pub same-claims : claims r (sentProof r b x t) (verifierDraws r (sentProof r b x t) t) ≡ proverClaims r b (proverDraws r b x t)
+  pub true-claims : ClaimsTrue r b (claims r (sentProof r b x t) (verifierDraws r (sentProof r b x t) t))
+  pub same-transcript : verifierTranscript r x (sentProof r b x t) t ≡ proverTranscript r b x t

@@ -19,28 +19,28 @@ use Rattle.magnetar_matrix.specs.Batch.{Relation}
 use Rattle.magnetar_layout.specs.Layout.{offset, localVars}
 use Rattle.magnetar_protocol.specs.Shape.{logLogins, logBin, logFld, logCols}
 use Rattle.magnetar_schedule.specs.Schedule.{numbered}
-use Rattle.magnetar_schedule.specs.Play.{Played, start, absorbing, drawing}
+use Rattle.magnetar_schedule.specs.ScheduleRun.{RunState, start, absorbing, drawing}
 
 -- the run so far: the transcript with the draws, and the proof's elements
 pub record Steps : Type 0 where
-  pub played : Played
+  pub runState : RunState
   pub sent : List ℕ
 
 -- nothing sent or drawn so far
 abbrev pub begin : Transcript → Steps
-begin t = record { played = start t; sent = [] }
+begin t = record { runState = start t; sent = [] }
 
 -- elements are sent: absorbed under a label, and added to the proof
 abbrev pub send : List ℕ → List ℕ → Steps → Steps
-send label v p = record { played = absorbing label v (p .played); sent = p .sent ++ v }
+send label v p = record { runState = absorbing label v (p .runState); sent = p .sent ++ v }
 
 -- an element is drawn
 abbrev pub drawOne : List ℕ → Steps → Steps
-drawOne label p = record { played = drawing label (p .played); sent = p .sent }
+drawOne label p = record { runState = drawing label (p .runState); sent = p .sent }
 
 -- the element that was drawn last
 abbrev pub lastDrawn : Steps → ℕ
-lastDrawn p = value (transcript.element (p .played .transcript))
+lastDrawn p = value (transcript.element (p .runState .transcript))
 
 -- n elements are drawn
 unfoldable pub drawTimes : ℕ → List ℕ → Steps → Steps
@@ -132,8 +132,8 @@ module _ (r : Relation) where
     unfoldable pub outerBegin : Steps → OuterSteps
     outerBegin p = record {
       steps = p;
-      bin = outerStart (logLogins r) (take (logLogins r + logBin r) (p .played .draws)) (T .bin-a) (T .bin-b) (T .bin-c);
-      fld = outerStart (logLogins r) (drop (logLogins r + logBin r) (p .played .draws)) (T .fld-a) (T .fld-b) (T .fld-c);
+      bin = outerStart (logLogins r) (take (logLogins r + logBin r) (p .runState .draws)) (T .bin-a) (T .bin-b) (T .bin-c);
+      fld = outerStart (logLogins r) (drop (logLogins r + logBin r) (p .runState .draws)) (T .fld-a) (T .fld-b) (T .fld-c);
     }
 
     -- the row rounds of bin
@@ -178,7 +178,7 @@ module _ (r : Relation) where
 
     -- the challenges of the inner rounds but the last one, n draws having been made before
     unfoldable pub lowDraws : ℕ → Steps → List ℕ
-    lowDraws n p = take (logCols r - 1) (drop n (p .played .draws))
+    lowDraws n p = take (logCols r - 1) (drop n (p .runState .draws))
 
     -- v_z and the segment values are sent
     unfoldable pub ended : List ℕ → InnerSteps → Steps
@@ -187,4 +187,4 @@ module _ (r : Relation) where
 
     -- the inner rounds, v_z and the segment values
     unfoldable pub innerAll : Steps → Steps
-    innerAll p = ended (lowDraws (length (p .played .draws)) (innerRun p .steps)) (innerRun p)
+    innerAll p = ended (lowDraws (length (p .runState .draws)) (innerRun p .steps)) (innerRun p)

@@ -14,7 +14,7 @@ use Rattle.magnetar_protocol.specs.Run.{verdict, claims, ClaimsTrue}
 use Rattle.magnetar_protocol.specs.RunSizes.{SizedRelation, SizedBatch, Elements}
 use Rattle.magnetar_protocol.specs.Soundness.{NoBitOutside, absorbedBefore, BadDraw}
 use Rattle.magnetar_schedule.specs.Schedule.{schedule, absorbedUntil, InOrder}
-use Rattle.magnetar_schedule.specs.RealRun.{verifierDraws, sentWords, proverDraws, Agrees}
+use Rattle.magnetar_schedule.specs.RealRun.{verifierDraws, sentProof, proverDraws, Agrees}
 
 -- ---- the schedule
 -- proofs/Absorbed `in-order`: the schedule absorbs the proof's elements in their order
@@ -36,7 +36,7 @@ SoundnessRun =
     → ClaimsTrue r b (claims r w (verifierDraws r w t))
     → Good r b x ⊎ BadDraw r b x w (verifierDraws r w t)
 
--- proofs/RealRuns `completeness-run`: the second half, of a verifier who is given the prover's words and the same transcript
+-- proofs/RealRuns `completeness-run`: the second half, of a verifier who is given the prover's proof and the same transcript
 abbrev pub CompletenessRun : Type 0
 CompletenessRun =
     (r : Relation) (b : Batch) (x : List ℕ) (t : Transcript)
@@ -46,6 +46,6 @@ CompletenessRun =
     → Agrees r b x t
 
 -- ---- the prover's draws
--- proofs/ProverDraws `drawn-again`: a verifier who is given the prover's words draws what the prover drew
+-- proofs/ProverDraws `drawn-again`: a verifier who is given the prover's proof draws what the prover drew
 abbrev pub DrawnAgain : (r : Relation) (b : Batch) (x : List ℕ) (t : Transcript) → Type 0
-DrawnAgain r b x t = verifierDraws r (sentWords r b x t) t ≡ proverDraws r b x t
+DrawnAgain r b x t = verifierDraws r (sentProof r b x t) t ≡ proverDraws r b x t

@@ -8,7 +8,7 @@ use native.Mathlib.Nat.{le-trans, mul-le-mul-left, mul-le-mul-right}
 use borrow.Author.Tests.{le-leb, eq-eqb}
 use Rattle.magnetar_field.specs.Sizes.{log₂}
 use native.Mathlib.Omega.{arith}
-use Rattle.magnetar_layout.specs.Tests.{note, noted, isSize, layoutTests, Sized}
+use Rattle.magnetar_layout.specs.Tests.{orRefuse, firstRefusal, isSize, layoutTests, Sized}
 use Rattle.magnetar_layout.specs.Entries.{layoutRefusal}
 use Rattle.magnetar_layout.specs.Login.{loginWords}
 use Rattle.magnetar_protocol.proofs.Guards.{even-size}
@@ -19,14 +19,14 @@ unfolding loginWords
 login-most w h = omega arith
 
 -- ---- a size that passes
-pub size-passes : (n : ℕ) → Sized 2 65536 n → note 1 (not (isSize 2 65536 n)) 0 ≡ 0
-unfolding isSize note
+pub size-passes : (n : ℕ) → Sized 2 65536 n → orRefuse 1 (not (isSize 2 65536 n)) 0 ≡ 0
+unfolding isSize orRefuse
 size-passes n z = rw (le-leb 2 n (z .low), le-leb n 65536 (z .high), eq-eqb n (2 ^ log₂ n) (z .power))
 
 -- the layout's own refusal, where the columns are a size
-pub layout-tests : (m : ℕ) (ns : List ℕ) → Sized 2 65536 m → layoutRefusal (m / 2) ns ≡ noted 0 (layoutTests (m / 2) ns)
+pub layout-tests : (m : ℕ) (ns : List ℕ) → Sized 2 65536 m → layoutRefusal (m / 2) ns ≡ firstRefusal 0 (layoutTests (m / 2) ns)
 unfolding layoutRefusal
-layout-tests m ns z = ap (λ (n : ℕ). noted n (layoutTests (m / 2) ns)) (size-passes (2 * (m / 2)) (subst (Sized 2 65536) (sym (even-size m z)) z))
+layout-tests m ns z = ap (λ (n : ℕ). firstRefusal n (layoutTests (m / 2) ns)) (size-passes (2 * (m / 2)) (subst (Sized 2 65536) (sym (even-size m z)) z))
 
 -- so many columns have a variable
 pub log-least : {most : ℕ} (m : ℕ) → Sized 2 most m → 1 ≤ log₂ m

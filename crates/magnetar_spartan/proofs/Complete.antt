@@ -13,7 +13,7 @@ use Rattle.magnetar_field.proofs.Elements.{elements-length, words-length}
 use Rattle.magnetar_field.proofs.Tabulation.{tabulate-length, tabulate-get, tabulate-out}
 use Rattle.magnetar_hash.specs.declared.transcript.Transcript.{Transcript}
 use Rattle.magnetar_layout.specs.Tests.{Tests, roomTestOf}
-use Rattle.magnetar_layout.proofs.Noted.{noted-clear}
+use Rattle.magnetar_layout.proofs.FirstRefusal.{first-refusal-clear}
 use Rattle.magnetar_matrix.specs.Batch.{Relation, Batch, Good, bitOf}
 use Rattle.magnetar_matrix.specs.Packed.{packedBit, loginPart, unpacked}
 use Rattle.magnetar_matrix.proofs.TableLaws.{elements-words}
@@ -21,19 +21,19 @@ use Rattle.magnetar_matrix.proofs.LoginParts.{bit-unpacked}
 use Rattle.magnetar_protocol.specs.Run.{claims, verdict, ClaimsTrue}
 use Rattle.magnetar_protocol.specs.RunSizes.{SizedRelation, SizedBatch}
 use Rattle.magnetar_protocol.specs.Soundness.{NoBitOutside}
-use Rattle.magnetar_protocol.specs.Prover.{proverWords, proverClaims}
-use Rattle.magnetar_schedule.specs.RealRun.{verifierDraws, verifierTranscript, proverDraws, proverTranscript, sentWords, Agrees}
+use Rattle.magnetar_protocol.specs.Prover.{proverProof, proverClaims}
+use Rattle.magnetar_schedule.specs.RealRun.{verifierDraws, verifierTranscript, proverDraws, proverTranscript, sentProof, Agrees}
 use Rattle.magnetar_schedule.proofs.ProverDraws.{sent-length}
 use Rattle.magnetar_schedule.proofs.RealRuns.{completeness-run}
 use Rattle.magnetar_relation.specs.Rules.{Rules, relationOf}
 use Rattle.magnetar_protocol.specs.RunTests.{counterTests, proofTests}
-use Rattle.magnetar_spartan.specs.Refusals.{rulesTests, claimWords, proofWords, verifierRoom, proverRoom, verifyTests, proveTests, outlineOf}
+use Rattle.magnetar_spartan.specs.Refusals.{rulesTests, claimWords, proofWords, verifierScratchOf, proverScratchOf, verifyTests, proveTests, sizesOnlyOf}
 use Rattle.magnetar_spartan.specs.Outcome.{Proved, batchOf, verifyRefusal, verifyVerdict, verifyOutcome, proveRefusal, proveDraws, proveOutcome}
-use Rattle.magnetar_spartan.specs.Proving.{RunReady}
+use Rattle.magnetar_spartan.specs.Proving.{ValidRun}
 use Rattle.magnetar_spartan.specs.Theorems.{AreWords, AcceptedBy, ProvedCall, Unrefused}
 use Rattle.magnetar_spartan.proofs.SizedRules.{rules-numbered}
 use Rattle.magnetar_spartan.proofs.Ended.{provable}
-use Rattle.magnetar_spartan.proofs.Fine.{noted-none, clear-front, clear-back, clear-join, same-fine}
+use Rattle.magnetar_spartan.proofs.PassedTests.{first-refusal-none, clear-front, clear-back, clear-join, same-passes}
 use Rattle.magnetar_spartan.proofs.Sound.{word-elements, front, claims-size, returned-words, returned}
 
 -- ---- packed words hold a batch of the relation's sizes
@@ -74,12 +74,12 @@ module _ (R : Rules) (ws x : List ℕ) (t : Transcript) (w c s : List ℕ) where
   handed = take (proofWords R) (proveOutcome R ws x t w c s .proof)
 
   abbrev sent : List ℕ
-  sent = sentWords (relationOf R) (batchOf R ws) (elements x) t
+  sent = sentProof (relationOf R) (batchOf R ws) (elements x) t
 
   handed-is : proveRefusal R ws x t w c s ≡ 0 → proofWords R ≡ 2 * length sent → handed ≡ words sent
-  unfolding proveOutcome proveDraws sentWords
+  unfolding proveOutcome proveDraws sentProof
   handed-is hp h =
-      rw hp (front (proverWords (relationOf R) (batchOf R ws) (elements x) (proverDraws (relationOf R) (batchOf R ws) (elements x) t)) (drop (proofWords R) w) (proofWords R) h)
+      rw hp (front (proverProof (relationOf R) (batchOf R ws) (elements x) (proverDraws (relationOf R) (batchOf R ws) (elements x) t)) (drop (proofWords R) w) (proofWords R) h)
 
   accepted-of : (p c′ s′ : List ℕ) → verifyRefusal R x p t c′ s′ ≡ 0 → elements p ≡ sent
       → verdict (relationOf R) (elements x) sent (verifierDraws (relationOf R) sent t) ≡ 0 → verifyOutcome R x p t c′ s′ .code ≡ 0
@@ -100,31 +100,31 @@ module _ (R : Rules) (ws x : List ℕ) (t : Transcript) (w c s : List ℕ) where
       rw hp (front (proverClaims (relationOf R) (batchOf R ws) (proverDraws (relationOf R) (batchOf R ws) (elements x) t)) (drop (claimWords R) c) (claimWords R) h)
 
   -- the verifier's tests 1 to 14 are among the prover's, and its 15 and 16 are these three
-  unrefused : (p c′ s′ : List ℕ) → proveRefusal R ws x t w c s ≡ 0 → claimWords R ≤ length c′ → verifierRoom R ≤ length s′
+  unrefused : (p c′ s′ : List ℕ) → proveRefusal R ws x t w c s ≡ 0 → claimWords R ≤ length c′ → verifierScratchOf R ≤ length s′
       → length p ≡ proofWords R → verifyRefusal R x p t c′ s′ ≡ 0
   unfolding proveRefusal verifyRefusal
   unrefused p c′ s′ hp hc hs hw =
       let n = t .«squeeze_ctr» in
-      let k = noted-clear 0 (proveTests R ws x n (length w) (length c) (length s)) (rules-numbered R _ refl) hp .1 in
-      let rest : Tests = counterTests n ++ (roomTestOf (proofWords R) (length w) ++ (roomTestOf (claimWords R) (length c) ++ roomTestOf (proverRoom R) (length s))) in
-      let others : Tests = counterTests n ++ (roomTestOf (claimWords R) (length c′) ++ (roomTestOf (verifierRoom R) (length s′) ++ proofTests (outlineOf R) p)) in
+      let k = first-refusal-clear 0 (proveTests R ws x n (length w) (length c) (length s)) (rules-numbered R _ refl) hp .1 in
+      let rest : Tests = counterTests n ++ (roomTestOf (proofWords R) (length w) ++ (roomTestOf (claimWords R) (length c) ++ roomTestOf (proverScratchOf R) (length s))) in
+      let others : Tests = counterTests n ++ (roomTestOf (claimWords R) (length c′) ++ (roomTestOf (verifierScratchOf R) (length s′) ++ proofTests (sizesOnlyOf R) p)) in
       let rules = clear-front (rulesTests R) rest (k .1 .1 .1 .1) in
       let counter = clear-back (rulesTests R) rest (k .1 .1 .1 .1) .0 in
-      noted-none (verifyTests R x p n (length c′) (length s′)) (
+      first-refusal-none (verifyTests R x p n (length c′) (length s′)) (
         k .0,
         (
           k .1 .0,
           (
             k .1 .1 .1 .0,
             clear-join (rulesTests R) others rules
-                (counter, (le-ltb (length c′) (claimWords R) hc, (le-ltb (length s′) (verifierRoom R) hs, (same-fine (length p) (proofWords R) hw, tt)))),
+                (counter, (le-ltb (length c′) (claimWords R) hc, (le-ltb (length s′) (verifierScratchOf R) hs, (same-passes (length p) (proofWords R) hw, tt)))),
           ),
         ),
       )
 
   -- the words of the proof are those that the prover sent, as many as a proof has
   module _ (wx : AreWords x) (hp : proveRefusal R ws x t w c s ≡ 0) where
-    able : RunReady R (length ws) (length x) (length w) (length c) (length s) (t .«squeeze_ctr»)
+    able : ValidRun R (length ws) (length x) (length w) (length c) (length s) (t .«squeeze_ctr»)
     able = provable R ws x (t .«squeeze_ctr») (length w) (length c) (length s) (unfold proveRefusal in hp)
 
     relation : SizedRelation (relationOf R)

@@ -23,8 +23,8 @@ use Rattle.magnetar_protocol.specs.RunSizes.{SizedSystem}
 use Rattle.magnetar_protocol.specs.Draws.{Draws, drawCount, drawsOf}
 use Rattle.magnetar_protocol.specs.Checks.{combined}
 use Rattle.magnetar_relation.specs.Rules.{Rules, relationOf}
-use Rattle.magnetar_spartan.specs.Refusals.{rowsBin, rowsFld, outlineOf}
-use Rattle.magnetar_spartan.specs.Ready.{Ready}
+use Rattle.magnetar_spartan.specs.Refusals.{rowsBin, rowsFld, sizesOnlyOf}
+use Rattle.magnetar_spartan.specs.ValidRules.{ValidRules}
 use Rattle.magnetar_spartan.specs.Table.{binAt, fldAt, alphasAt, window, tableAt}
 use Rattle.magnetar_spartan.proofs.Verifying.{draws-is}
 use Rattle.magnetar_spartan.proofs.Ended.{log-few, draws-small}
@@ -69,7 +69,7 @@ wide : (m q : ℕ) (t : System) → SizedSystem m q t → Wide m t
 wide m q t Z = record { rows = Z .rows; a = Z .a .cols; b = Z .b .cols; c = Z .c .cols }
 
 -- ---- the words d of the draws, and the words s that the table comes in front of
-module _ (R : Rules) (P : Ready R) (d s : List ℕ) (many : length d ≡ 2 * drawCount (outlineOf R))
+module _ (R : Rules) (P : ValidRules R) (d s : List ℕ) (many : length d ≡ 2 * drawCount (sizesOnlyOf R))
     (enough : 2 * R .m + 2 * max (rowsBin R) (rowsFld R) ≤ length s) where
   abbrev r : Relation
   r = relationOf R
@@ -143,7 +143,7 @@ module _ (R : Rules) (P : Ready R) (d s : List ℕ) (many : length d ≡ 2 * dra
 
   table-combined : T ≡ combined r (drawsOf r (elements d))
   table-combined =
-      let D = drawsOf (outlineOf R) (elements d) in
+      let D = drawsOf (sizesOnlyOf R) (elements d) in
       let a = log₂ (R .q) in
       let b = log₂ (rowsBin R) in
       let f = log₂ (rowsFld R) in

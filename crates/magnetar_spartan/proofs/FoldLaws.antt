@@ -22,8 +22,8 @@ use Rattle.magnetar_batch.specs.Entries.{foldInRefusal, foldInOut, publicInRefu
 use Rattle.magnetar_batch.proofs.Rooms.{back-part, back-put}
 use Rattle.magnetar_verifier.proofs.Pieces.{part-get}
 use Rattle.magnetar_verifier.proofs.ClaimLaws.{reverse-get, reverse-size}
-use Rattle.magnetar_spartan.specs.Proving.{FoldReady, FoldLeft}
-use Rattle.magnetar_spartan.proofs.Fine.{noted-none, size-fine, same-fine, most-fine}
+use Rattle.magnetar_spartan.specs.Proving.{ValidFold, FoldLeft}
+use Rattle.magnetar_spartan.proofs.PassedTests.{first-refusal-none, size-passes, same-passes, most-passes}
 
 -- ---- words behind a front
 -- the words from k on, where the first n are others
@@ -49,7 +49,7 @@ folded-length q w b p = tabulate-length (foldedAt q b p) w
 
 module _ (q w n k : ℕ) (ws x d s p u : List ℕ) (lp : length p ≡ 2 * n)
     (ep : elements p ≡ tabulate (λ i. getD (elements d) (k + (n - 1 - i)) 0) n)
-    (eu : u ≡ foldInOut ws q w p (take (length s - 4 * w) (drop (4 * w) s))) (F : FoldReady q w n k (length ws) (length x) (length d) (length s)) where
+    (eu : u ≡ foldInOut ws q w p (take (length s - 4 * w) (drop (4 * w) s))) (F : ValidFold q w n k (length ws) (length x) (length d) (length s)) where
   point-is : elements p ≡ reverse (take n (drop k (elements d)))
   point-is = ep ∙ point-reversed (elements d) k n (rw elements-length (omega (arith, F .drawn)))
 
@@ -63,13 +63,13 @@ module _ (q w n k : ℕ) (ws x d s p u : List ℕ) (lp : length p ≡ 2 * n)
   unfolding foldInRefusal
   none =
       let room : 2 * w + 2 * q ≤ length (drop (4 * w) s) = rw length-drop (omega (arith, F .room)) in
-      noted-none (sizeTests (2 * w) q ++ packedTests w q ws ++ lengthTest (2 * log₂ q) p ++ roomTest (2 * w + 2 * q) (drop (4 * w) s)) (
-        size-fine 2 65536 (2 * w) (F .columns),
+      first-refusal-none (sizeTests (2 * w) q ++ packedTests w q ws ++ lengthTest (2 * log₂ q) p ++ roomTest (2 * w + 2 * q) (drop (4 * w) s)) (
+        size-passes 2 65536 (2 * w) (F .columns),
         (
-          size-fine 1 4096 q (F .logins),
+          size-passes 1 4096 q (F .logins),
           (
-            same-fine (length ws) (q * loginWords w) (F .packed),
-            (same-fine (length p) (2 * log₂ q) point-long, (most-fine (length (drop (4 * w) s)) (2 * w + 2 * q) room, tt)),
+            same-passes (length ws) (q * loginWords w) (F .packed),
+            (same-passes (length p) (2 * log₂ q) point-long, (most-passes (length (drop (4 * w) s)) (2 * w + 2 * q) room, tt)),
           ),
         ),
       )
@@ -116,13 +116,13 @@ module _ (q w n k : ℕ) (ws x d s p u : List ℕ) (lp : length p ≡ 2 * n)
     unfolding publicInRefusal
     public-none =
         let room : 2 * w ≤ length (drop (6 * w) folds) = rw (length-drop, folds-long) (omega (arith, F .room)) in
-        noted-none (sizeTests (2 * w) q ++ publicTests (2 * w) x ++ lengthTest (2 * log₂ q) p ++ roomTest (2 * w) (drop (6 * w) folds)) (
-          size-fine 2 65536 (2 * w) (F .columns),
+        first-refusal-none (sizeTests (2 * w) q ++ publicTests (2 * w) x ++ lengthTest (2 * log₂ q) p ++ roomTest (2 * w) (drop (6 * w) folds)) (
+          size-passes 2 65536 (2 * w) (F .columns),
           (
-            size-fine 1 4096 q (F .logins),
+            size-passes 1 4096 q (F .logins),
             (
-              same-fine (length x) (2 * w - 2) (F .public),
-              (same-fine (length p) (2 * log₂ q) point-long, (most-fine (length (drop (6 * w) folds)) (2 * w) room, tt)),
+              same-passes (length x) (2 * w - 2) (F .public),
+              (same-passes (length p) (2 * log₂ q) point-long, (most-passes (length (drop (6 * w) folds)) (2 * w) room, tt)),
             ),
           ),
         )
@@ -173,8 +173,8 @@ module _ (q w n k : ℕ) (ws x d s p u : List ℕ) (lp : length p ≡ 2 * n)
 
 -- at the point of the logins
 pub fold-left : (q w l n k K : ℕ) (ws x d s s′ : List ℕ) → l ≡ log₂ q → n ≡ min l 16 → k ≡ K
-    → (FoldReady q w n k (length ws) (length x) (length d) (length s) → FoldLeft q w n k ws x d s s′)
-    → FoldReady q w (log₂ q) K (length ws) (length x) (length d) (length s) → FoldLeft q w (log₂ q) K ws x d s s′
+    → (ValidFold q w n k (length ws) (length x) (length d) (length s) → FoldLeft q w n k ws x d s s′)
+    → ValidFold q w (log₂ q) K (length ws) (length x) (length d) (length s) → FoldLeft q w (log₂ q) K ws x d s s′
 fold-left q w l n k K ws x d s s′ el en ek h F =
     let few = log-most q (omega (arith, F .logins .high)) (F .logins .power) in
     let e : n ≡ log₂ q = omega (arith, el, en, few) in

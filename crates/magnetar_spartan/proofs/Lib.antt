@@ -1,5 +1,5 @@
 pub mod Chains
-pub mod Fine
+pub mod PassedTests
 pub mod SizedRules
 pub mod ByNumbers
 pub mod StageLaws
@@ -14,6 +14,6 @@ pub mod VerifyEnds
 pub mod Sound
 pub mod Complete
 pub mod FoldLaws
-pub mod LaterLaws
+pub mod InnerPartLaws
 pub mod ProductLaws
 pub mod ProveRun

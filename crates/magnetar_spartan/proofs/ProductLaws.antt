@@ -38,7 +38,7 @@ use Rattle.magnetar_records.proofs.WalkLaws.{records-length}
 use Rattle.magnetar_relation.proofs.RangeLaws.{same-drop, range-is}
 use Rattle.magnetar_spartan.specs.declared.products.Part.{Part}
 use Rattle.magnetar_spartan.specs.Refusals.{rowsBin, rowsFld}
-use Rattle.magnetar_spartan.specs.Products.{productWords, partIn, partOf, matrixIn, matrixNo, wordsBin, wordsFld, wordsNo, slot, placeNo, tableOf, copied, Placed, ProductsReady, ProductLeft, tablesWanted, Products, ProductsLeft}
+use Rattle.magnetar_spartan.specs.Products.{productWords, partIn, partOf, matrixIn, matrixNo, wordsBin, wordsFld, wordsNo, slot, placeNo, tableOf, copied, Placed, ValidProducts, ProductLeft, tablesWanted, Products, ProductsLeft}
 
 -- ---- the copying loop
 set-behind : (xs ys : List ℕ) (i v : ℕ) → set (xs ++ ys) (length xs + i) v ≡ xs ++ set ys i v
@@ -204,7 +204,7 @@ unfolding packedTable batchProducts times timesAt
 table-same a n m es ws x q w e f = rw (e, f)
 
 -- ---- table k of the rules
-module _ (k : ℕ) (R : Rules) (ws x s : List ℕ) (ok : ProductsReady R (length ws) (length x) (length s)) where
+module _ (k : ℕ) (R : Rules) (ws x s : List ℕ) (ok : ValidProducts R (length ws) (length x) (length s)) where
   abbrev a : Matrix
   a = matrixNo k (relationOf R)
 
@@ -366,38 +366,38 @@ product-ends k m q sh es ws x s g w n s₁ s₂ eg ew e₁ en e₂ ok =
 -- ---- all six
 module _ (R : Rules) (ws x s₀ s₁ s₂ s₃ s₄ s₅ s₆ : List ℕ) (p₁ : ProductLeft 5 R ws x s₀ s₁) (p₂ : ProductLeft 6 R ws x s₁ s₂) (p₃ : ProductLeft 7 R ws x s₂ s₃)
     (p₄ : ProductLeft 1 R ws x s₃ s₄) (p₅ : ProductLeft 2 R ws x s₄ s₅) (p₆ : ProductLeft 3 R ws x s₅ s₆) where
-  module _ (ok : ProductsReady R (length ws) (length x) (length s₀)) where
+  module _ (ok : ValidProducts R (length ws) (length x) (length s₀)) where
     abbrev B : ℕ
     B = wordsBin R
 
     abbrev F : ℕ
     F = wordsFld R
 
-    more : (u v : List ℕ) → length v ≡ length u → ProductsReady R (length ws) (length x) (length u) → ProductsReady R (length ws) (length x) (length v)
-    more u v e = subst (ProductsReady R (length ws) (length x)) (sym e)
+    more : (u v : List ℕ) → length v ≡ length u → ValidProducts R (length ws) (length x) (length u) → ValidProducts R (length ws) (length x) (length v)
+    more u v e = subst (ValidProducts R (length ws) (length x)) (sym e)
 
     af : Placed F (4 * B + 1 * F) (tableOf R ws x (relationOf R .fld .a)) s₀ s₁
     af = p₁ ok
 
-    ok₁ : ProductsReady R (length ws) (length x) (length s₁)
+    ok₁ : ValidProducts R (length ws) (length x) (length s₁)
     ok₁ = more s₀ s₁ (af .long) ok
 
     bf : Placed F (4 * B + 2 * F) (tableOf R ws x (relationOf R .fld .b)) s₁ s₂
     bf = p₂ ok₁
 
-    ok₂ : ProductsReady R (length ws) (length x) (length s₂)
+    ok₂ : ValidProducts R (length ws) (length x) (length s₂)
     ok₂ = more s₁ s₂ (bf .long) ok₁
 
     cf : Placed F (4 * B + 3 * F) (tableOf R ws x (relationOf R .fld .c)) s₂ s₃
     cf = p₃ ok₂
 
-    ok₃ : ProductsReady R (length ws) (length x) (length s₃)
+    ok₃ : ValidProducts R (length ws) (length x) (length s₃)
     ok₃ = more s₂ s₃ (cf .long) ok₂
 
     ab : Placed B (1 * B) (tableOf R ws x (relationOf R .bin .a)) s₃ s₄
     ab = p₄ ok₃
 
-    ok₄ : ProductsReady R (length ws) (length x) (length s₄)
+    ok₄ : ValidProducts R (length ws) (length x) (length s₄)
     ok₄ = more s₃ s₄ (ab .long) ok₃
 
     bb : Placed B (2 * B) (tableOf R ws x (relationOf R .bin .b)) s₄ s₅

@@ -17,7 +17,7 @@ use Rattle.magnetar_field.proofs.Elements.{words-length, words-append, elements
 use Rattle.magnetar_hash.specs.declared.transcript.Transcript.{Transcript}
 use Rattle.magnetar_hash.specs.Transcript.{absorbed, drawn}
 use Rattle.magnetar_layout.specs.Every.{every}
-use Rattle.magnetar_layout.specs.Tests.{noted, roomTest}
+use Rattle.magnetar_layout.specs.Tests.{firstRefusal, roomTest}
 use Rattle.magnetar_matrix.specs.Batch.{Relation, Batch, folded, publicFolded}
 use Rattle.magnetar_matrix.specs.Packed.{packedTable}
 use Rattle.magnetar_matrix.proofs.TableLaws.{elements-words}
@@ -27,7 +27,7 @@ use Rattle.magnetar_protocol.specs.Draws.{Draws, drawCount, drawsOf, loginPoint
 use Rattle.magnetar_protocol.specs.Checks.{combined}
 use Rattle.magnetar_protocol.specs.Run.{claims}
 use Rattle.magnetar_protocol.specs.RunSizes.{SizedMatrix, Elements}
-use Rattle.magnetar_protocol.specs.Prover.{productTable, proverWords, proverClaims}
+use Rattle.magnetar_protocol.specs.Prover.{productTable, proverProof, proverClaims}
 use Rattle.magnetar_schedule.specs.Stepwise.{Steps, Tables, begin, tauSteps, outerAll, drawTimes, sendEach, outerSteps, fldRows, binRows, outerBegin, terminalsLeft, innerAll, innerRun, segmentValue, lowDraws, ended}
 use Rattle.magnetar_schedule.specs.RealRun.{proverDraws, proverTranscript}
 use Rattle.magnetar_schedule.proofs.Blocks.{claims-outlined}
@@ -37,20 +37,20 @@ use Rattle.magnetar_schedule.proofs.Proving.{productTables, outerProving, provi
 use Rattle.magnetar_schedule.proofs.Stepwise.{proving-after, outer-proving-sent, outer-proving-count}
 use Rattle.magnetar_schedule.proofs.ProverRun.{proving-words, proving-transcript, proving-claims}
 use Rattle.magnetar_protocol.specs.RunTests.{counterTests}
-use Rattle.magnetar_prover.specs.Entries.{countTests, totalTests, outerDrawn, outerSent, blockWords, tablesOf, outerRoundsRefusal, outerPlayed}
+use Rattle.magnetar_prover.specs.Entries.{countTests, totalTests, outerDrawn, outerSent, blockWords, tablesOf, outerRoundsRefusal, outerRunSteps}
 use Rattle.magnetar_prover.specs.Whole.{outerWhole}
 use Rattle.magnetar_prover.proofs.Joined.{whole-is}
 use Rattle.magnetar_relation.specs.Rules.{Rules, relationOf}
 use Rattle.magnetar_relation.specs.RuleTests.{ruleTests}
-use Rattle.magnetar_spartan.specs.Refusals.{outlineOf, rowsBin, rowsFld, proofWords, claimWords, proverRoom}
+use Rattle.magnetar_spartan.specs.Refusals.{sizesOnlyOf, rowsBin, rowsFld, proofWords, claimWords, proverScratchOf}
 use Rattle.magnetar_spartan.specs.Numbers.{proveTestsBy}
-use Rattle.magnetar_spartan.specs.Ready.{Ready}
+use Rattle.magnetar_spartan.specs.ValidRules.{ValidRules}
 use Rattle.magnetar_spartan.specs.Table.{tableAt}
 use Rattle.magnetar_spartan.specs.Outcome.{batchOf, proveDraws, proveRefusal, proveOutcome, provedInPlace}
 use Rattle.magnetar_spartan.specs.Theorems.{AreWords, ProvedCall}
-use Rattle.magnetar_spartan.specs.Proving.{bare, RunReady, outerNumber, OuterDone, saidBefore, drawnBefore, saidAll, drawnAll, laterPlayed, LaterLeft}
+use Rattle.magnetar_spartan.specs.Proving.{sizesOnlyRules, ValidRun, outerNumber, OuterDone, sentBefore, drawnBefore, sentAll, drawnAll, innerPartSteps, InnerPartLeft}
 use Rattle.magnetar_spartan.specs.Products.{tablesWanted, Products, ProductsLeft}
-use Rattle.magnetar_spartan.proofs.Fine.{noted-none, size-fine, most-fine, true-fine}
+use Rattle.magnetar_spartan.proofs.PassedTests.{first-refusal-none, size-passes, most-passes, true-passes}
 use Rattle.magnetar_spartan.proofs.ByNumbers.{prove-by}
 use Rattle.magnetar_spartan.proofs.Ended.{provable, draws-small}
 use Rattle.magnetar_spartan.proofs.Room.{Beyond}
@@ -58,11 +58,11 @@ use Rattle.magnetar_spartan.proofs.DrawnTable.{drawn-combined, drawn-be
 use Rattle.magnetar_spartan.proofs.Sound.{word-elements}
 use Rattle.magnetar_spartan.proofs.Complete.{sized-batch, proved-call}
 use Rattle.magnetar_spartan.proofs.FoldLaws.{behind-front}
-use Rattle.magnetar_spartan.proofs.LaterLaws.{laid-front}
+use Rattle.magnetar_spartan.proofs.InnerPartLaws.{laid-front}
 
 -- ---- the outer rounds, of a relation
 -- absorbing sets the counter to 0: behind the terminals and the alphas it is 6
-counter-left : (r : Relation) (T : Tables) (p : Steps) → outerAll r T p .played .transcript .«squeeze_ctr» ≡ 6
+counter-left : (r : Relation) (T : Tables) (p : Steps) → outerAll r T p .runState .transcript .«squeeze_ctr» ≡ 6
 unfolding outerAll drawTimes sendEach terminalsLeft drawn absorbed
 counter-left r T p = refl
 
@@ -89,7 +89,7 @@ zeros a b n h =
     ∙ ap (λ (l : List ℕ). replicate b 0 ++ l) (sym (drop-zeros (a + b) (n - (a + b)) n (omega arith))))
 
 -- the rules by their sizes are as ready
-pub bare-ready : (R : Rules) → Ready R → Ready (bare (R .m) (R .q) (rowsBin R) (rowsFld R) (R .lengths))
+pub bare-ready : (R : Rules) → ValidRules R → ValidRules (sizesOnlyRules (R .m) (R .q) (rowsBin R) (rowsFld R) (R .lengths))
 unfolding every
 bare-ready R P =
     let none : (n : ℕ) → SizedMatrix n (R .m) (record { rows = n; cols = R .m; entries = [] }) =
@@ -103,7 +103,7 @@ bare-ready R P =
     }
 
 module _ (R : Rules) (ws x w c s : List ℕ) (t : Transcript)
-    (ok : RunReady R (length ws) (length x) (length w) (length c) (length s) (t .«squeeze_ctr»)) where
+    (ok : ValidRun R (length ws) (length x) (length w) (length c) (length s) (t .«squeeze_ctr»)) where
   abbrev q : ℕ
   q = R .q
 
@@ -117,7 +117,7 @@ module _ (R : Rules) (ws x w c s : List ℕ) (t : Transcript)
   r = relationOf R
 
   abbrev o : Relation
-  o = outlineOf R
+  o = sizesOnlyOf R
 
   abbrev B : Batch
   B = batchOf R ws
@@ -131,36 +131,36 @@ module _ (R : Rules) (ws x w c s : List ℕ) (t : Transcript)
   small : 2 * drawCount o ≤ 256
   small = draws-small R (ok .ready)
 
-  sent-long : length (words (O .sent)) ≡ saidBefore R
+  sent-long : length (words (O .sent)) ≡ sentBefore R
   sent-long = words-length (O .sent) ∙ ap (λ (n : ℕ). 2 * n) (outer-proving-sent r B (elements x) t)
 
-  drawn-long : length (words (O .played .draws)) ≡ drawnBefore R
-  drawn-long = words-length (O .played .draws) ∙ ap (λ (n : ℕ). 2 * n) (outer-proving-count r B (elements x) t)
+  drawn-long : length (words (O .runState .draws)) ≡ drawnBefore R
+  drawn-long = words-length (O .runState .draws) ∙ ap (λ (n : ℕ). 2 * n) (outer-proving-count r B (elements x) t)
 
   -- ---- the outer rounds over the products
   module _ (s₁ : List ℕ) (P : Products R ws x s s₁) where
-    blocks : blockWords q b f ≤ proverRoom R
+    blocks : blockWords q b f ≤ proverScratchOf R
     blocks = omega (arith, mul-add q b f)
 
     none : outerNumber q b f w s₁ t ≡ 0
     unfolding outerRoundsRefusal
     none =
-        noted-none (countTests q b f ++ totalTests q b f ++ (counterTests (t .«squeeze_ctr») ++ (roomTest (2 * outerDrawn (log₂ q) (log₂ b) (log₂ f)) z₀
+        first-refusal-none (countTests q b f ++ totalTests q b f ++ (counterTests (t .«squeeze_ctr») ++ (roomTest (2 * outerDrawn (log₂ q) (log₂ b) (log₂ f)) z₀
         ++ roomTest (2 * outerSent (log₂ q) (log₂ b) (log₂ f)) w ++ roomTest (blockWords q b f) s₁))) (
-          size-fine 1 4096 q (ok .ready .logins),
+          size-passes 1 4096 q (ok .ready .logins),
           (
-            size-fine 1 65536 b (ok .ready .bin .rows),
+            size-passes 1 65536 b (ok .ready .bin .rows),
             (
-              size-fine 1 65536 f (ok .ready .fld .rows),
+              size-passes 1 65536 f (ok .ready .fld .rows),
               (
-                most-fine 1048576 _ (ok .ready .bin .total),
+                most-passes 1048576 _ (ok .ready .bin .total),
                 (
-                  most-fine 1048576 _ (ok .ready .fld .total),
+                  most-passes 1048576 _ (ok .ready .fld .total),
                   (
-                    true-fine _ (lt-ltb (t .«squeeze_ctr») (2 ^ 32) (ok .counter)),
+                    true-passes _ (lt-ltb (t .«squeeze_ctr») (2 ^ 32) (ok .counter)),
                     (
-                      most-fine (length z₀) (2 * outerDrawn (log₂ q) (log₂ b) (log₂ f)) (rw (length-replicate {A = ℕ} 256 0) (omega (arith, small))),
-                      (most-fine (length w) _ (omega (arith, ok .proof)), (most-fine (length s₁) _ (omega (arith, P .long, ok .scratch, blocks)), tt)),
+                      most-passes (length z₀) (2 * outerDrawn (log₂ q) (log₂ b) (log₂ f)) (rw (length-replicate {A = ℕ} 256 0) (omega (arith, small))),
+                      (most-passes (length w) _ (omega (arith, ok .proof)), (most-passes (length s₁) _ (omega (arith, P .long, ok .scratch, blocks)), tt)),
                     ),
                   ),
                 ),
@@ -173,24 +173,24 @@ module _ (R : Rules) (ws x w c s : List ℕ) (t : Transcript)
     unfolding productTable packedTable
     wanted = refl
 
-    played-is : outerPlayed q b f s₁ t ≡ O
-    unfolding outerPlayed outerProving
+    played-is : outerRunSteps q b f s₁ t ≡ O
+    unfolding outerRunSteps outerProving
     played-is =
         sym (whole-is 2 q b f [] (tablesOf q b f s₁) t)
         ∙ ap (λ (T : Tables). outerWhole (log₂ q) (log₂ b) (log₂ f) T t) (P .tables ∙ wanted)
         ∙ sym (outer-all r (productTables r B (elements x)) t)
 
     module _ (u : Transcript) (d v s₂ : List ℕ) (done : OuterDone q b f w s₁ t u d v s₂) where
-      u-is : u ≡ O .played .transcript
+      u-is : u ≡ O .runState .transcript
       u-is = done .0 ∙ rw (none, played-is)
 
-      d-is : d ≡ words (O .played .draws) ++ drop (drawnBefore R) z₀
+      d-is : d ≡ words (O .runState .draws) ++ drop (drawnBefore R) z₀
       d-is =
           done .1 ∙ rw (none, played-is)
-          (laid-front (words (O .played .draws)) z₀ (drawnBefore R) drawn-long (rw (length-replicate {A = ℕ} 256 0) (omega (arith, small))))
+          (laid-front (words (O .runState .draws)) z₀ (drawnBefore R) drawn-long (rw (length-replicate {A = ℕ} 256 0) (omega (arith, small))))
 
-      v-is : v ≡ words (O .sent) ++ drop (saidBefore R) w
-      v-is = done .2 ∙ rw (none, played-is) (laid-front (words (O .sent)) w (saidBefore R) sent-long (omega (arith, ok .proof)))
+      v-is : v ≡ words (O .sent) ++ drop (sentBefore R) w
+      v-is = done .2 ∙ rw (none, played-is) (laid-front (words (O .sent)) w (sentBefore R) sent-long (omega (arith, ok .proof)))
 
       s₂-is : s₂ ≡ replicate (blockWords q b f) 0 ++ drop (blockWords q b f) s
       s₂-is = done .3 ∙ rw (none, P .rest)
@@ -201,54 +201,54 @@ module _ (R : Rules) (ws x w c s : List ℕ) (t : Transcript)
 
       pub d-long : length d ≡ 256
       d-long =
-          ap length d-is ∙ (length-append (words (O .played .draws)) (drop (drawnBefore R) z₀)
+          ap length d-is ∙ (length-append (words (O .runState .draws)) (drop (drawnBefore R) z₀)
           ∙ omega (arith, drawn-long, length-drop (drawnBefore R) z₀, length-replicate {A = ℕ} 256 0, small))
 
       v-long : length v ≡ length w
       v-long =
-          ap length v-is ∙ (length-append (words (O .sent)) (drop (saidBefore R) w)
-          ∙ omega (arith, sent-long, length-drop (saidBefore R) w, ok .proof))
+          ap length v-is ∙ (length-append (words (O .sent)) (drop (sentBefore R) w)
+          ∙ omega (arith, sent-long, length-drop (sentBefore R) w, ok .proof))
 
       pub s₂-long : length s₂ ≡ length s
       s₂-long =
           ap length s₂-is ∙ (length-append (replicate (blockWords q b f) 0) (drop (blockWords q b f) s)
           ∙ omega (arith, length-replicate {A = ℕ} (blockWords q b f) 0, length-drop (blockWords q b f) s, blocks, ok .scratch))
 
-      s₂-rest : drop (proverRoom R) s₂ ≡ drop (proverRoom R) s
-      s₂-rest = ap (drop (proverRoom R)) s₂-is ∙ behind-front (blockWords q b f) (proverRoom R) (replicate (blockWords q b f) 0) s (length-replicate (blockWords q b f) 0) blocks
+      s₂-rest : drop (proverScratchOf R) s₂ ≡ drop (proverScratchOf R) s
+      s₂-rest = ap (drop (proverScratchOf R)) s₂-is ∙ behind-front (blockWords q b f) (proverScratchOf R) (replicate (blockWords q b f) 0) s (length-replicate (blockWords q b f) 0) blocks
 
       -- the words of all draws, those of the inner rounds being 0 so far
       abbrev pub D : List ℕ
-      D = words (O .played .draws) ++ replicate (2 * logCols o) 0
+      D = words (O .runState .draws) ++ replicate (2 * logCols o) 0
 
       pub D-long : length D ≡ 2 * drawCount o
-      D-long = length-append (words (O .played .draws)) (replicate (2 * logCols o) 0) ∙ omega (arith, drawn-long, length-replicate {A = ℕ} (2 * logCols o) 0)
+      D-long = length-append (words (O .runState .draws)) (replicate (2 * logCols o) 0) ∙ omega (arith, drawn-long, length-replicate {A = ℕ} (2 * logCols o) 0)
 
       pub D-over : d ≡ overlaid D z₀
       D-over =
-          d-is ∙ (ap (λ (l : List ℕ). words (O .played .draws) ++ l) (zeros (drawnBefore R) (2 * logCols o) 256 (omega (arith, small)))
-          ∙ (sym (append-assoc (words (O .played .draws)) (replicate (2 * logCols o) 0) (drop (drawnBefore R + 2 * logCols o) z₀))
+          d-is ∙ (ap (λ (l : List ℕ). words (O .runState .draws) ++ l) (zeros (drawnBefore R) (2 * logCols o) 256 (omega (arith, small)))
+          ∙ (sym (append-assoc (words (O .runState .draws)) (replicate (2 * logCols o) 0) (drop (drawnBefore R + 2 * logCols o) z₀))
           ∙ sym (laid-front D z₀ (drawnBefore R + 2 * logCols o) (D-long ∙ omega arith) (rw (length-replicate {A = ℕ} 256 0) (omega (arith, small))))))
 
-      D-elements : elements D ≡ O .played .draws ++ elements (replicate (2 * logCols o) 0)
-      D-elements = elements-behind (O .played .draws) (replicate (2 * logCols o) 0)
+      D-elements : elements D ≡ O .runState .draws ++ elements (replicate (2 * logCols o) 0)
+      D-elements = elements-behind (O .runState .draws) (replicate (2 * logCols o) 0)
 
       zeros-long : length (elements (replicate (2 * logCols o) 0)) ≡ logCols o
       zeros-long = elements-length (replicate (2 * logCols o) 0) ∙ rw (length-replicate {A = ℕ} (2 * logCols o) 0) (omega arith)
 
       -- ---- behind the combined table, which stands in front of s₃
       module _ (s₃ : List ℕ) (table : take (R .m) (elements s₃) ≡ combined r (drawsOf r (elements D))) (long : length s₃ ≡ length s₂)
-          (rest : drop (proverRoom R) s₃ ≡ drop (proverRoom R) s₂) where
+          (rest : drop (proverScratchOf R) s₃ ≡ drop (proverScratchOf R) s₂) where
         abbrev p : Steps
-        p = laterPlayed R ws x d s₃ u
+        p = innerPartSteps R ws x d s₃ u
 
         abbrev E : Draws
-        E = drawsOf r (O .played .draws)
+        E = drawsOf r (O .runState .draws)
 
         table-is : elements (take (2 * R .m) s₃) ≡ combined r E
         table-is =
             elements-take (R .m) s₃ ∙ (table ∙ (ap (λ (l : List ℕ). combined r (drawsOf r l)) D-elements
-            ∙ combined-split r (O .played .draws) (elements (replicate (2 * logCols o) 0)) (outer-proving-count r B (elements x) t) zeros-long))
+            ∙ combined-split r (O .runState .draws) (elements (replicate (2 * logCols o) 0)) (outer-proving-count r B (elements x) t) zeros-long))
 
         abbrev k : ℕ
         k = log₂ q + log₂ b + (log₂ q + log₂ f)
@@ -256,10 +256,10 @@ module _ (R : Rules) (ws x w c s : List ℕ) (t : Transcript)
         point-is : reverse (take (log₂ q) (drop k (elements d))) ≡ loginPoint E
         unfolding loginPoint drawsOf
         point-is =
-            let h : length (O .played .draws) ≡ drawCount o - logCols o = outer-proving-count r B (elements x) t in
-            let e : elements d ≡ O .played .draws ++ elements (drop (drawnBefore R) z₀) = ap elements d-is ∙ elements-behind (O .played .draws) (drop (drawnBefore R) z₀) in
-            ap reverse (ap (λ (l : List ℕ). take (log₂ q) (drop k l)) e ∙ (ap (take (log₂ q)) (drop-append-le k (O .played .draws) (elements (drop (drawnBefore R) z₀)) (omega (arith, h)))
-            ∙ take-append-le (log₂ q) (drop k (O .played .draws)) (elements (drop (drawnBefore R) z₀)) (rw length-drop (omega (arith, h)))))
+            let h : length (O .runState .draws) ≡ drawCount o - logCols o = outer-proving-count r B (elements x) t in
+            let e : elements d ≡ O .runState .draws ++ elements (drop (drawnBefore R) z₀) = ap elements d-is ∙ elements-behind (O .runState .draws) (drop (drawnBefore R) z₀) in
+            ap reverse (ap (λ (l : List ℕ). take (log₂ q) (drop k l)) e ∙ (ap (take (log₂ q)) (drop-append-le k (O .runState .draws) (elements (drop (drawnBefore R) z₀)) (omega (arith, h)))
+            ∙ take-append-le (log₂ q) (drop k (O .runState .draws)) (elements (drop (drawnBefore R) z₀)) (rw length-drop (omega (arith, h)))))
 
         abbrev inner : (T F H : List ℕ) → Transcript → Steps
         inner T F H h = innerAll r T F H (begin h)
@@ -270,23 +270,23 @@ module _ (R : Rules) (ws x w c s : List ℕ) (t : Transcript)
         abbrev half : List ℕ
         half = publicFolded (elements x) (loginPoint E)
 
-        steps-are : p ≡ inner (combined r E) (folded q (R .m / 2) B (loginPoint E)) half (O .played .transcript)
-        steps-are = rw (table-is, point-is, u-is) (outlined (combined r E) (folded q (R .m / 2) B (loginPoint E)) half (O .played .transcript))
+        steps-are : p ≡ inner (combined r E) (folded q (R .m / 2) B (loginPoint E)) half (O .runState .transcript)
+        steps-are = rw (table-is, point-is, u-is) (outlined (combined r E) (folded q (R .m / 2) B (loginPoint E)) half (O .runState .transcript))
 
         whole : behind O p ≡ proving r B (elements x) t
         whole = ap (behind O) steps-are ∙ sym (proving-after r B (elements x) t)
 
-        said-is : saidAll R v p ≡ words (proving r B (elements x) t .sent)
+        said-is : sentAll R v p ≡ words (proving r B (elements x) t .sent)
         said-is =
-            ap (λ (l : List ℕ). l ++ words (p .sent)) (ap (take (saidBefore R)) v-is ∙ take-at (words (O .sent)) (drop (saidBefore R) w) (saidBefore R) sent-long)
+            ap (λ (l : List ℕ). l ++ words (p .sent)) (ap (take (sentBefore R)) v-is ∙ take-at (words (O .sent)) (drop (sentBefore R) w) (sentBefore R) sent-long)
             ∙ (sym (words-append (O .sent) (p .sent)) ∙ ap (λ (y : Steps). words (y .sent)) whole)
 
-        drawn-is : drawnAll R d p ≡ words (proving r B (elements x) t .played .draws)
+        drawn-is : drawnAll R d p ≡ words (proving r B (elements x) t .runState .draws)
         drawn-is =
-            ap (λ (l : List ℕ). l ++ words (p .played .draws)) (ap (take (drawnBefore R)) d-is ∙ take-at (words (O .played .draws)) (drop (drawnBefore R) z₀) (drawnBefore R) drawn-long)
-            ∙ (sym (words-append (O .played .draws) (p .played .draws)) ∙ ap (λ (y : Steps). words (y .played .draws)) whole)
+            ap (λ (l : List ℕ). l ++ words (p .runState .draws)) (ap (take (drawnBefore R)) d-is ∙ take-at (words (O .runState .draws)) (drop (drawnBefore R) z₀) (drawnBefore R) drawn-long)
+            ∙ (sym (words-append (O .runState .draws) (p .runState .draws)) ∙ ap (λ (y : Steps). words (y .runState .draws)) whole)
 
-        later-ready : RunReady (bare (R .m) q b f (R .lengths)) (length ws) (length x) (length v) (length c) (length s₃) (u .«squeeze_ctr»)
+        later-ready : ValidRun (sizesOnlyRules (R .m) q b f (R .lengths)) (length ws) (length x) (length v) (length c) (length s₃) (u .«squeeze_ctr»)
         later-ready = record {
           ready = bare-ready R (ok .ready);
           packed = ok .packed;
@@ -298,24 +298,24 @@ module _ (R : Rules) (ws x w c s : List ℕ) (t : Transcript)
         }
 
         pub run-is : Elements (elements x) → proveRefusal R ws x t w c s ≡ 0 → (u′ : Transcript) (w′ c′ s′ : List ℕ)
-            → LaterLeft (bare (R .m) q b f (R .lengths)) ws x v d c s₃ u u′ w′ c′ s′
+            → InnerPartLeft (sizesOnlyRules (R .m) q b f (R .lengths)) ws x v d c s₃ u u′ w′ c′ s′
             → provedInPlace 0 u′ w′ c′ s′ ≡ proveOutcome R ws x t w c s
         unfolding proveOutcome proveDraws
         run-is word none u′ w′ c′ s′ L =
             let e = L later-ready in
             let px : suc (length (elements x)) ≡ R .m / 2 = rw elements-length (omega (arith, ok .public, ok .ready .columns .low)) in
             let z : eqb (proveRefusal R ws x t w c s) 0 ≡ true = eq-eqb (proveRefusal R ws x t w c s) 0 none in
-            let eu : u′ ≡ proverTranscript r B (elements x) t = e .0 ∙ (ap (λ (y : Steps). y .played .transcript) whole
+            let eu : u′ ≡ proverTranscript r B (elements x) t = e .0 ∙ (ap (λ (y : Steps). y .runState .transcript) whole
             ∙ proving-transcript r B (elements x) t (ok .ready) (sized-batch R ws) px word) in
-            let ew : w′ ≡ words (proverWords r B (elements x) (proverDraws r B (elements x) t)) ++ drop (proofWords R) w =
+            let ew : w′ ≡ words (proverProof r B (elements x) (proverDraws r B (elements x) t)) ++ drop (proofWords R) w =
             e .1 ∙ ap₂ _++_ (said-is ∙ ap words (proving-words r B (elements x) t (ok .ready) (sized-batch R ws) px word))
-            (ap (drop (proofWords R)) v-is ∙ behind-front (saidBefore R) (proofWords R) (words (O .sent)) w sent-long (omega arith)) in
-            let cl : claims o (elements (saidAll R v p)) (elements (drawnAll R d p)) ≡ proverClaims r B (proverDraws r B (elements x) t) =
-            ap₂ (claims o) (ap elements said-is ∙ elements-words (proving r B (elements x) t .sent)) (ap elements drawn-is ∙ elements-words (proving r B (elements x) t .played .draws))
-            ∙ (sym (claims-outlined r (proving r B (elements x) t .sent) (proving r B (elements x) t .played .draws))
+            (ap (drop (proofWords R)) v-is ∙ behind-front (sentBefore R) (proofWords R) (words (O .sent)) w sent-long (omega arith)) in
+            let cl : claims o (elements (sentAll R v p)) (elements (drawnAll R d p)) ≡ proverClaims r B (proverDraws r B (elements x) t) =
+            ap₂ (claims o) (ap elements said-is ∙ elements-words (proving r B (elements x) t .sent)) (ap elements drawn-is ∙ elements-words (proving r B (elements x) t .runState .draws))
+            ∙ (sym (claims-outlined r (proving r B (elements x) t .sent) (proving r B (elements x) t .runState .draws))
             ∙ proving-claims r B (elements x) t (ok .ready) (sized-batch R ws) px word) in
             let ec : c′ ≡ words (proverClaims r B (proverDraws r B (elements x) t)) ++ drop (claimWords R) c = e .2 ∙ ap (λ (l : List ℕ). words l ++ drop (claimWords R) c) cl in
-            let es : s′ ≡ replicate (proverRoom R) 0 ++ drop (proverRoom R) s = e .3 ∙ ap (λ (l : List ℕ). replicate (proverRoom R) 0 ++ l) (rest ∙ s₂-rest) in
+            let es : s′ ≡ replicate (proverScratchOf R) 0 ++ drop (proverScratchOf R) s = e .3 ∙ ap (λ (l : List ℕ). replicate (proverScratchOf R) 0 ++ l) (rest ∙ s₂-rest) in
             rw (z, eu, ew, ec, es)
 
 -- ---- the whole prover: y is the number of 4 to 7, z that of all tests
@@ -332,7 +332,7 @@ module _ (R : Rules) (ws x w c s : List ℕ) (t : Transcript) where
   -- run through: the products, the outer rounds, the combined table, and what is behind it
   pub run-through : proveRefusal R ws x t w c s ≡ 0 → (s₁ s₂ s₃ : List ℕ) (u u′ : Transcript) (d v w′ c′ s′ : List ℕ) → ProductsLeft (unlaid R) ws x s s₁
       → OuterDone (R .q) (rowsBin R) (rowsFld R) w s₁ t u d v s₂ → s₃ ≡ tableAt (relationOf R) d s₂
-      → AreWords x × (length d ≡ 256 → LaterLeft (bare (R .m) (R .q) (rowsBin R) (rowsFld R) (R .lengths)) ws x v d c s₃ u u′ w′ c′ s′)
+      → AreWords x × (length d ≡ 256 → InnerPartLeft (sizesOnlyRules (R .m) (R .q) (rowsBin R) (rowsFld R) (R .lengths)) ws x v d c s₃ u u′ w′ c′ s′)
       → (provedInPlace 0 u′ w′ c′ s′ ≡ proveOutcome R ws x t w c s) × ProvedCall R ws x t w′ c′ u′
   unfolding proveRefusal
   run-through none s₁ s₂ s₃ u u′ d v w′ c′ s′ products done table later =
@@ -352,15 +352,15 @@ module _ (R : Rules) (ws x w c s : List ℕ) (t : Transcript) where
       let many = D-long R ws x w c s t ok s₁ Q u d v s₂ done in
       let e : s₃ ≡ tableAt (relationOf R) (overlaid drawn (replicate 256 0)) s₂ =
       table ∙ ap (λ (l : List ℕ). tableAt (relationOf R) l s₂) (D-over R ws x w c s t ok s₁ Q u d v s₂ done) in
-      let b : Beyond (proverRoom R) s₂ s₃ = subst (Beyond (proverRoom R) s₂) (sym e) (drawn-beyond R (ok .ready) drawn s₂ many enough (proverRoom R) (omega arith)) in
+      let b : Beyond (proverScratchOf R) s₂ s₃ = subst (Beyond (proverScratchOf R) s₂) (sym e) (drawn-beyond R (ok .ready) drawn s₂ many enough (proverScratchOf R) (omega arith)) in
       let front = ap (λ (l : List ℕ). take (R .m) (elements l)) e ∙ drawn-combined R (ok .ready) drawn s₂ many enough in
       let o : provedInPlace 0 u′ w′ c′ s′ ≡ proveOutcome R ws x t w c s =
       run-is R ws x w c s t ok s₁ Q u d v s₂ done s₃ front (b .long) (b .rest) (word-elements x (later .0)) none u′ w′ c′ s′
       (later .1 (d-long R ws x w c s t ok s₁ Q u d v s₂ done)) in
       (o, proved-call R ws x t w c s (provedInPlace 0 u′ w′ c′ s′) (later .0) o refl)
 
-module _ (R : Rules) (ws x w c s : List ℕ) (t : Transcript) (y z : ℕ) (hy : y ≡ noted 0 (ruleTests R))
-    (hz : z ≡ noted 0 (proveTestsBy y (outlineOf R) (length ws) (length x) (t .«squeeze_ctr») (length w) (length c) (length s))) where
+module _ (R : Rules) (ws x w c s : List ℕ) (t : Transcript) (y z : ℕ) (hy : y ≡ firstRefusal 0 (ruleTests R))
+    (hz : z ≡ firstRefusal 0 (proveTestsBy y (sizesOnlyOf R) (length ws) (length x) (t .«squeeze_ctr») (length w) (length c) (length s))) where
   pub number : z ≡ proveRefusal R ws x t w c s
   unfolding proveRefusal
   number = hz ∙ prove-by R y hy ws x (t .«squeeze_ctr») (length w) (length c) (length s)
@@ -378,7 +378,7 @@ module _ (R : Rules) (ws x w c s : List ℕ) (t : Transcript) (n : ℕ) (s₁ s�
     (products : (n ≡ 0 → ProductsLeft (unlaid R) ws x s s₁) × ((n ≡ 0 → ⊥) → s₁ ≡ s))
     (done : (n ≡ 0 → OuterDone (R .q) (rowsBin R) (rowsFld R) w s₁ t u d v s₂) × ((n ≡ 0 → ⊥) → (u ≡ t) × (v ≡ w) × (s₂ ≡ s₁)))
     (drawn-is : d′ ≡ d) (table : s₃ ≡ cond (eqb n 0) (tableAt (relationOf R) d′ s₂) s₂)
-    (later : (n ≡ 0 → AreWords x × (length d ≡ 256 → LaterLeft (bare (R .m) (R .q) (rowsBin R) (rowsFld R) (R .lengths)) ws x v d c s₃ u u′ w′ c′ s′))
+    (later : (n ≡ 0 → AreWords x × (length d ≡ 256 → InnerPartLeft (sizesOnlyRules (R .m) (R .q) (rowsBin R) (rowsFld R) (R .lengths)) ws x v d c s₃ u u′ w′ c′ s′))
     × ((n ≡ 0 → ⊥) → (u′ ≡ u) × (w′ ≡ v) × (c′ ≡ c) × (s′ ≡ s₃))) (e : n ≡ proveRefusal R ws x t w c s) where
   pub unless-ends : (provedInPlace n u′ w′ c′ s′ ≡ proveOutcome R ws x t w c s) × (n ≡ 0 → ProvedCall R ws x t w′ c′ u′)
   unless-ends = go (eqb n 0) refl

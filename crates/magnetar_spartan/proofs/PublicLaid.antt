@@ -19,11 +19,11 @@ use Rattle.magnetar_protocol.specs.Draws.{drawCount, drawsOf, loginPoint}
 use Rattle.magnetar_verifier.proofs.Pieces.{elements-part}
 use Rattle.magnetar_verifier.proofs.EndPhases.{cols}
 use Rattle.magnetar_relation.specs.Rules.{Rules, relationOf}
-use Rattle.magnetar_spartan.specs.Refusals.{rowsBin, rowsFld, outlineOf}
-use Rattle.magnetar_spartan.specs.Ready.{Ready}
+use Rattle.magnetar_spartan.specs.Refusals.{rowsBin, rowsFld, sizesOnlyOf}
+use Rattle.magnetar_spartan.specs.ValidRules.{ValidRules}
 use Rattle.magnetar_spartan.specs.Proving.{loginAt}
-use Rattle.magnetar_spartan.specs.Stages.{drawnBack, laidBehind, laidAt}
-use Rattle.magnetar_spartan.proofs.Fine.{noted-none, size-fine, same-fine, most-fine}
+use Rattle.magnetar_spartan.specs.Stages.{drawnBack, publicHalfBehind, publicHalfAt}
+use Rattle.magnetar_spartan.proofs.PassedTests.{first-refusal-none, size-passes, same-passes, most-passes}
 use Rattle.magnetar_spartan.proofs.Ended.{log-few, draws-small}
 use Rattle.magnetar_spartan.proofs.Room.{Beyond, in-front, over}
 use Rattle.magnetar_spartan.proofs.FoldLaws.{point-reversed}
@@ -38,7 +38,7 @@ front-part k n d b h =
     ∙ (rw e (ap elements g) ∙ elements-part k n (2 * k) (2 * k + 2 * n) d refl refl)
 
 -- ---- the words d of the draws, in front of 256; the public words x; and s with the table in front
-module _ (R : Rules) (P : Ready R) (x d s : List ℕ) (many : length d ≡ 2 * drawCount (outlineOf R)) (public : length x ≡ R .m - 2)
+module _ (R : Rules) (P : ValidRules R) (x d s : List ℕ) (many : length d ≡ 2 * drawCount (sizesOnlyOf R)) (public : length x ≡ R .m - 2)
     (room : 4 * R .m ≤ length s) where
   abbrev l : ℕ
   l = log₂ (R .q)
@@ -85,16 +85,16 @@ module _ (R : Rules) (P : Ready R) (x d s : List ℕ) (many : length d ≡ 2 * d
   unfolding publicInRefusal
   none =
       let w = R .m / 2 in
-      noted-none (sizeTests (2 * w) (R .q) ++ publicTests (2 * w) x ++ lengthTest (2 * l) (words p) ++ roomTest (2 * w) (drop (2 * R .m) s))
+      first-refusal-none (sizeTests (2 * w) (R .q) ++ publicTests (2 * w) x ++ lengthTest (2 * l) (words p) ++ roomTest (2 * w) (drop (2 * R .m) s))
       (rw even (
-        size-fine 2 65536 (R .m) (P .columns),
+        size-passes 2 65536 (R .m) (P .columns),
         (
-          size-fine 1 4096 (R .q) (P .logins),
+          size-passes 1 4096 (R .q) (P .logins),
           (
-            same-fine (length x) (R .m - 2) public,
+            same-passes (length x) (R .m - 2) public,
             (
-              same-fine (length (words p)) (2 * l) (words-length p ∙ ap (λ (n : ℕ). 2 * n) point-long),
-              (most-fine (length (drop (2 * R .m) s)) (R .m) (rw length-drop (omega (arith, room))), tt),
+              same-passes (length (words p)) (2 * l) (words-length p ∙ ap (λ (n : ℕ). 2 * n) point-long),
+              (most-passes (length (drop (2 * R .m) s)) (R .m) (rw length-drop (omega (arith, room))), tt),
             ),
           ),
         ),
@@ -103,16 +103,16 @@ module _ (R : Rules) (P : Ready R) (x d s : List ℕ) (many : length d ≡ 2 * d
   abbrev pub laidBehindTable : List ℕ
   laidBehindTable = take (2 * R .m) s ++ (words half ++ drop (3 * R .m) s)
 
-  at-point : laidBehind (R .m) (R .q) x p s ≡ laidBehindTable
-  unfolding laidBehind
+  at-point : publicHalfBehind (R .m) (R .q) x p s ≡ laidBehindTable
+  unfolding publicHalfBehind
   at-point =
       let a : 2 * min (R .m) (length s / 2) ≡ 2 * R .m = omega (arith, room) in
       let t : 2 * R .m + R .m ≡ 3 * R .m = omega arith in
       rw (a, none, even, drop-drop (R .m) (2 * R .m) s, t)
       (ap (λ (z : List ℕ). take (2 * R .m) s ++ (words (publicFolded (elements x) z) ++ drop (3 * R .m) s)) (elements-words p))
 
-  pub laid : laidAt (outlineOf R) x all s ≡ laidBehindTable
-  laid = ap (λ (z : List ℕ). laidBehind (R .m) (R .q) x z s) point ∙ at-point
+  pub laid : publicHalfAt (sizesOnlyOf R) x all s ≡ laidBehindTable
+  laid = ap (λ (z : List ℕ). publicHalfBehind (R .m) (R .q) x z s) point ∙ at-point
 
   pub laid-table : take (R .m) (elements laidBehindTable) ≡ take (R .m) (elements s)
   laid-table = front-kept (R .m) s (omega (arith, room)) (words half ++ drop (3 * R .m) s)

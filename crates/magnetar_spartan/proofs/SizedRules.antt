@@ -14,7 +14,7 @@ use Rattle.magnetar_layout.specs.Every.{every}
 use Rattle.magnetar_layout.specs.Layout.{LayoutFits, isLength, layoutEnd}
 use Rattle.magnetar_layout.specs.Tests.{Tests, Sized, mostSegments, sizeTests, rowsTests, layoutTests}
 use Rattle.magnetar_layout.proofs.EveryLaws.{both}
-use Rattle.magnetar_layout.proofs.Noted.{Clear, numbered}
+use Rattle.magnetar_layout.proofs.FirstRefusal.{Clear, numbered}
 use Rattle.magnetar_layout.proofs.SizeLaws.{not-bad}
 use Rattle.magnetar_matrix.specs.Matrix.{Entry, System}
 use Rattle.magnetar_protocol.specs.RunSizes.{SizedMatrix, SizedSystem}
@@ -24,8 +24,8 @@ use Rattle.magnetar_relation.specs.Rules.{Rules, entriesIn, matrixAt, systemAt,
 use Rattle.magnetar_relation.specs.RuleTests.{rowTests, colTests, mostTests, numberTests, total, ruleTestsBy, ruleTests}
 use Rattle.magnetar_protocol.specs.RunTests.{runTests, outlineTests}
 use Rattle.magnetar_spartan.specs.Refusals.{rowsBin, rowsFld, rulesTests}
-use Rattle.magnetar_spartan.specs.Ready.{Ready}
-use Rattle.magnetar_spartan.proofs.Fine.{numbered-join, clear-front, clear-back, size-fine, most-fine, true-fine}
+use Rattle.magnetar_spartan.specs.ValidRules.{ValidRules}
+use Rattle.magnetar_spartan.proofs.PassedTests.{numbered-join, clear-front, clear-back, size-passes, most-passes, true-passes}
 
 same : (a b : ℕ) → not (eqb a b) ≡ false → a ≡ b
 same a b e = eqb-true a b (not-false (eqb a b) e)
@@ -111,7 +111,7 @@ systems R b =
           (clear-front (mostTests F) (numbers ++ inside) c₁) (i .1);
     }
 
-pub ready : (R : Rules) → Clear (sizeTests (R .m) (R .q)) → Clear (ruleTests R) → Clear (layoutTests (R .m / 2) (R .lengths)) → Ready R
+pub ready : (R : Rules) → Clear (sizeTests (R .m) (R .q)) → Clear (ruleTests R) → Clear (layoutTests (R .m / 2) (R .lengths)) → ValidRules R
 ready R a b c =
     let s = systems R b in record {
       columns = not-bad (a .0);
@@ -123,20 +123,20 @@ ready R a b c =
     }
 
 -- ---- no test of the sizes is bad
-pub rows-fine : (m q : ℕ) (t : System) → SizedSystem m q t → (l : Tests) → Clear l → Clear (rowsTests q (t .a .rows) ++ l)
-rows-fine m q t Z l k = (size-fine 1 65536 (t .a .rows) (Z .rows), (most-fine 1048576 (q * t .a .rows) (Z .total), k))
+pub rows-passes : (m q : ℕ) (t : System) → SizedSystem m q t → (l : Tests) → Clear l → Clear (rowsTests q (t .a .rows) ++ l)
+rows-passes m q t Z l k = (size-passes 1 65536 (t .a .rows) (Z .rows), (most-passes 1048576 (q * t .a .rows) (Z .total), k))
 
-module _ (R : Rules) (P : Ready R) where
-  pub both-rows-fine : (l : Tests) → Clear l → Clear (rowsTests (R .q) (rowsBin R) ++ (rowsTests (R .q) (rowsFld R) ++ l))
-  both-rows-fine l k =
-      rows-fine (R .m) (R .q) (relationOf R .bin) (P .bin) (rowsTests (R .q) (rowsFld R) ++ l)
-      (rows-fine (R .m) (R .q) (relationOf R .fld) (P .fld) l k)
+module _ (R : Rules) (P : ValidRules R) where
+  pub both-rows-passes : (l : Tests) → Clear l → Clear (rowsTests (R .q) (rowsBin R) ++ (rowsTests (R .q) (rowsFld R) ++ l))
+  both-rows-passes l k =
+      rows-passes (R .m) (R .q) (relationOf R .bin) (P .bin) (rowsTests (R .q) (rowsFld R) ++ l)
+      (rows-passes (R .m) (R .q) (relationOf R .fld) (P .fld) l k)
 
-  pub sizes-fine : (l : Tests) → Clear l → Clear (runTests (R .m) (R .q) (rowsBin R) (rowsFld R) ++ l)
-  sizes-fine l k = (size-fine 2 65536 (R .m) (P .columns), (size-fine 1 4096 (R .q) (P .logins), both-rows-fine l k))
+  pub sizes-passes : (l : Tests) → Clear l → Clear (runTests (R .m) (R .q) (rowsBin R) (rowsFld R) ++ l)
+  sizes-passes l k = (size-passes 2 65536 (R .m) (P .columns), (size-passes 1 4096 (R .q) (P .logins), both-rows-passes l k))
 
-  pub layout-fine : (l : Tests) → Clear l → Clear (layoutTests (R .m / 2) (R .lengths) ++ l)
-  layout-fine l k = (true-fine _ (P .layout .lengths), (most-fine _ _ (P .layout .ends), (most-fine mostSegments (length (R .lengths)) (P .segments), k)))
+  pub layout-passes : (l : Tests) → Clear l → Clear (layoutTests (R .m / 2) (R .lengths) ++ l)
+  layout-passes l k = (true-passes _ (P .layout .lengths), (most-passes _ _ (P .layout .ends), (most-passes mostSegments (length (R .lengths)) (P .segments), k)))
 
-  pub outline-fine : (l : Tests) → Clear l → Clear (outlineTests (R .m) (R .q) (rowsBin R) (rowsFld R) (R .lengths) ++ l)
-  outline-fine l k = sizes-fine (layoutTests (R .m / 2) (R .lengths) ++ l) (layout-fine l k)
+  pub outline-passes : (l : Tests) → Clear l → Clear (outlineTests (R .m) (R .q) (rowsBin R) (rowsFld R) (R .lengths) ++ l)
+  outline-passes l k = sizes-passes (layoutTests (R .m / 2) (R .lengths) ++ l) (layout-passes l k)

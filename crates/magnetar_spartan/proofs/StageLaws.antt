@@ -21,10 +21,10 @@ use Rattle.magnetar_batch.specs.Entries.{publicInRefusal, publicInOut}
 use Rattle.magnetar_batch.specs.TableSteps.{padded}
 use Rattle.magnetar_batch.proofs.Rooms.{back-part, back-put}
 use Rattle.magnetar_relation.specs.Steps.{clearedTo}
-use Rattle.magnetar_spartan.specs.declared.stages.Begun.{Begun}
+use Rattle.magnetar_spartan.specs.declared.stages.OuterStage.{OuterStage}
 use Rattle.magnetar_spartan.specs.Outcome.{verified}
 use Rattle.magnetar_spartan.specs.Table.{window}
-use Rattle.magnetar_spartan.specs.Stages.{drawnWords, playedTo, drawnOf, drawnBack, laidBehind, laidAt, outerAt, endAt, endRoomAt, claimsAt, begun, firstOf, stoppedAt, checkedAt, roomElements, cleared, finished, begunUnless, finishedUnless}
+use Rattle.magnetar_spartan.specs.Stages.{drawnWords, runTo, drawnOf, drawnBack, publicHalfBehind, publicHalfAt, outerAt, endAt, endScratchAt, claimsAt, outerStage, firstOf, stoppedAt, checkedAt, scratchElements, cleared, finished, outerStageUnless, finishedUnless}
 
 -- a part of the words
 pub part-is : (o : Relation) (n k : ℕ) (d : List ℕ) → k ≡ min n 256 → n ≡ 2 * drawCount o → take (k - 0) d ≡ drawnOf o d
@@ -33,11 +33,11 @@ part-is o n k d e f =
     ap (λ (i : ℕ). take i d) h
 
 -- ---- the first stage
-pub begun-is : (o : Relation) (w : List ℕ) (t u : Transcript) (d p : List ℕ) (f : Found)
-    → (u ≡ playedTo o w t 65536) × (d ≡ drawnWords o w t) → p ≡ drawnOf o d → f ≡ outerAt o w p
-    → record { draws = d; ended = u; found = f } ≡ begunUnless 0 o w t
-unfolding begunUnless
-begun-is o w t u d p f e h g = rw (← e .0, ← e .1, ← h, ← g)
+pub outer-stage-is : (o : Relation) (w : List ℕ) (t u : Transcript) (d p : List ℕ) (f : Found)
+    → (u ≡ runTo o w t 65536) × (d ≡ drawnWords o w t) → p ≡ drawnOf o d → f ≡ outerAt o w p
+    → record { draws = d; ended = u; found = f } ≡ outerStageUnless 0 o w t
+unfolding outerStageUnless
+outer-stage-is o w t u d p f e h g = rw (← e .0, ← e .1, ← h, ← g)
 
 -- ---- the public half
 -- a point by its length and its elements
@@ -52,8 +52,8 @@ same-point x q w p t y l e =
 
 -- laid behind a words, u being what the part behind them is then
 pub laid-is : (m q n k a b : ℕ) (x d s p u : List ℕ) → b ≡ min m (length s / 2) → a ≡ 2 * b → length p ≡ 2 * n → elements p ≡ drawnBack n k d
-    → u ≡ publicInOut x q (m / 2) p (take (length s - a) (drop a s)) → putMid a (length s - a) s u ≡ laidBehind m q x (drawnBack n k d) s
-unfolding laidBehind
+    → u ≡ publicInOut x q (m / 2) p (take (length s - a) (drop a s)) → putMid a (length s - a) s u ≡ publicHalfBehind m q x (drawnBack n k d) s
+unfolding publicHalfBehind
 laid-is m q n k a b x d s p u eb ea lp ep eu =
     let t = drawnBack n k d in
     let lt : length p ≡ 2 * length t = lp ∙ ap (λ (i : ℕ). 2 * i) (sym (tabulate-length _ n)) in
@@ -68,12 +68,12 @@ module _ (o : Relation) (w d : List ℕ) (t u : Transcript) (f : Found) (c s : L
   Ends a c′ s′ = verified a c′ s′ ≡ checkedAt o w d t u f c s
 
   abbrev Stopped : TranscriptAnswer → Found → Type 0
-  Stopped a g = (a .code ≡ g .code) × (a .transcript ≡ playedTo o w t (g .events))
+  Stopped a g = (a .code ≡ g .code) × (a .transcript ≡ runTo o w t (g .events))
 
   pub stop-first : (a : TranscriptAnswer) → (f .code ≡ 0 → ⊥) → Stopped a f → Ends a c s
   stop-first a h g = rw (ne-eqb (f .code) 0 h, g .0, g .1, ne-eqb (f .code) 0 h)
 
-  module _ (p l : List ℕ) (k : Found) (s′ : List ℕ) (z : f .code ≡ 0) (hp : p ≡ d) (e : (k ≡ endAt o w p s) × (s′ ≡ endRoomAt o w p s)) where
+  module _ (p l : List ℕ) (k : Found) (s′ : List ℕ) (z : f .code ≡ 0) (hp : p ≡ d) (e : (k ≡ endAt o w p s) × (s′ ≡ endScratchAt o w p s)) where
     abbrev Later : TranscriptAnswer → List ℕ → Type 0
     Later a c′ = verified a c′ s′ ≡ stoppedAt o w d t u f k c s
 
@@ -92,19 +92,19 @@ module _ (o : Relation) (w d : List ℕ) (t u : Transcript) (f : Found) (c s : L
         from-later (record { code = 0; transcript = u }) c′ (rw (eq-eqb (k .code) 0 h, h, g, hl, eq-eqb (f .code) 0 z, e .1, hp))
 
 -- the public half v is laid behind the table, and the scratch is cleared at last
-pub finish-is : (o : Relation) (x w : List ℕ) (t : Transcript) (g : Begun) (c s v : List ℕ) (a : TranscriptAnswer) (c′ s′ s″ : List ℕ)
-    → v ≡ laidAt o x (g .draws) s → verified a c′ s′ ≡ checkedAt o w (drawnOf o (g .draws)) t (g .ended) (g .found) c v
-    → s″ ≡ clearedTo (roomElements o) s′ → verified a c′ s″ ≡ finishedUnless 0 o x w t g c s
+pub finish-is : (o : Relation) (x w : List ℕ) (t : Transcript) (g : OuterStage) (c s v : List ℕ) (a : TranscriptAnswer) (c′ s′ s″ : List ℕ)
+    → v ≡ publicHalfAt o x (g .draws) s → verified a c′ s′ ≡ checkedAt o w (drawnOf o (g .draws)) t (g .ended) (g .found) c v
+    → s″ ≡ clearedTo (scratchElements o) s′ → verified a c′ s″ ≡ finishedUnless 0 o x w t g c s
 unfolding finishedUnless
 finish-is o x w t g c s v a c′ s′ s″ l e h = rw (h, ← l) (ap (cleared o) e)
 
 -- ---- nothing is begun, and nothing changes
-pub begun-back : (n : ℕ) (o : Relation) (w : List ℕ) (t : Transcript) → (n ≡ 0 → ⊥)
-    → record { draws = replicate 256 0; ended = t; found = record { code = n; events = 0 } } ≡ begunUnless n o w t
-unfolding begunUnless
-begun-back n o w t h = rw (ne-eqb n 0 h)
+pub outer-stage-back : (n : ℕ) (o : Relation) (w : List ℕ) (t : Transcript) → (n ≡ 0 → ⊥)
+    → record { draws = replicate 256 0; ended = t; found = record { code = n; events = 0 } } ≡ outerStageUnless n o w t
+unfolding outerStageUnless
+outer-stage-back n o w t h = rw (ne-eqb n 0 h)
 
-pub finish-back : (n : ℕ) (o : Relation) (x w : List ℕ) (t : Transcript) (g : Begun) (c s : List ℕ) → (n ≡ 0 → ⊥)
+pub finish-back : (n : ℕ) (o : Relation) (x w : List ℕ) (t : Transcript) (g : OuterStage) (c s : List ℕ) → (n ≡ 0 → ⊥)
     → verified (record { code = n; transcript = t }) c s ≡ finishedUnless n o x w t g c s
 unfolding finishedUnless
 finish-back n o x w t g c s h = rw (ne-eqb n 0 h)

@@ -12,25 +12,25 @@ use borrow.Author.Tests.{le-leb, eq-eqb, ne-eqb}
 use Rattle.magnetar_field.specs.Words.{elements, words, overlaid}
 use Rattle.magnetar_hash.specs.declared.transcript.Transcript.{Transcript}
 use Rattle.magnetar_hash.specs.declared.transcript.TranscriptAnswer.{TranscriptAnswer}
-use Rattle.magnetar_layout.specs.Tests.{noted}
+use Rattle.magnetar_layout.specs.Tests.{firstRefusal}
 use Rattle.magnetar_matrix.proofs.TableLaws.{elements-words}
 use Rattle.magnetar_matrix.specs.Batch.{Relation, publicFolded}
 use Rattle.magnetar_protocol.specs.Draws.{Draws, drawCount, drawsOf, loginPoint}
-use Rattle.magnetar_schedule.specs.Play.{Played}
+use Rattle.magnetar_schedule.specs.ScheduleRun.{RunState}
 use Rattle.magnetar_protocol.specs.Checks.{combined}
 use Rattle.magnetar_schedule.specs.RealRun.{verifierDraws}
 use Rattle.magnetar_protocol.specs.declared.first.Found.{Found}
-use Rattle.magnetar_verifier.specs.End.{endRefusal, endRoom}
+use Rattle.magnetar_verifier.specs.End.{endRefusal, endScratch}
 use Rattle.magnetar_relation.specs.Rules.{Rules, relationOf}
 use Rattle.magnetar_relation.specs.RuleTests.{ruleTests}
 use Rattle.magnetar_relation.specs.Steps.{clearedTo}
-use Rattle.magnetar_spartan.specs.declared.stages.Begun.{Begun}
-use Rattle.magnetar_spartan.specs.Refusals.{rowsBin, rowsFld, outlineOf, verifierRoom}
+use Rattle.magnetar_spartan.specs.declared.stages.OuterStage.{OuterStage}
+use Rattle.magnetar_spartan.specs.Refusals.{rowsBin, rowsFld, sizesOnlyOf, verifierScratchOf}
 use Rattle.magnetar_spartan.specs.Numbers.{verifyTestsBy}
 use Rattle.magnetar_spartan.specs.Outcome.{verified, verifyRefusal, verifyOutcome}
 use Rattle.magnetar_spartan.specs.Theorems.{AreWords, AcceptedCall}
 use Rattle.magnetar_spartan.specs.Table.{tableAt}
-use Rattle.magnetar_spartan.specs.Stages.{drawnWords, playedTo, drawnOf, laidAt, outerAt, begun, checkedAt, roomElements, finished, begunUnless, finishedUnless}
+use Rattle.magnetar_spartan.specs.Stages.{drawnWords, runTo, drawnOf, publicHalfAt, outerAt, outerStage, checkedAt, scratchElements, finished, outerStageUnless, finishedUnless}
 use Rattle.magnetar_spartan.proofs.Verifying.{played-all, schedule-small}
 use Rattle.magnetar_spartan.proofs.VerifyRun.{draws-many, drawn-is, checks-leave}
 use Rattle.magnetar_spartan.proofs.Ended.{Verifiable, verifiable, draws-small, verify-refused}
@@ -50,7 +50,7 @@ cleared-room k n s u e h b =
 -- ---- a run that nothing refuses before its checks
 module _ (R : Rules) (x w : List ℕ) (t : Transcript) (c s : List ℕ) (none : verifyRefusal R x w t c s ≡ 0) where
   abbrev o : Relation
-  o = outlineOf R
+  o = sizesOnlyOf R
 
   pub fits : Verifiable R x w (t .«squeeze_ctr») (length c) (length s)
   unfolding verifyRefusal
@@ -74,7 +74,7 @@ module _ (R : Rules) (x w : List ℕ) (t : Transcript) (c s : List ℕ) (none : 
   unfolding verifierDraws
   words-are =
       drawn-is R (fits .ready) x w t (fits .proof) (fits .counter)
-      ∙ ap (λ (p : Played). overlaid (words (p .draws)) (replicate 256 0)) (played-all R (elements w) t 65536 (schedule-small R (fits .ready)))
+      ∙ ap (λ (p : RunState). overlaid (words (p .draws)) (replicate 256 0)) (played-all R (elements w) t 65536 (schedule-small R (fits .ready)))
 
   pub draws-are : drawnOf o (drawnWords o w t) ≡ drawn
   draws-are =
@@ -85,7 +85,7 @@ module _ (R : Rules) (x w : List ℕ) (t : Transcript) (c s : List ℕ) (none : 
   F = outerAt o w drawn
 
   -- the table in front of u, where the checks come to it, and the public half v laid behind it
-  module _ (u : List ℕ) (b : Beyond (verifierRoom R) s u)
+  module _ (u : List ℕ) (b : Beyond (verifierScratchOf R) s u)
       (table : F .code ≡ 0 → take (R .m) (elements u) ≡ combined (relationOf R) D) where
     room-before : 4 * R .m ≤ length u
     room-before = omega (arith, fits .scratch, b .long)
@@ -93,12 +93,12 @@ module _ (R : Rules) (x w : List ℕ) (t : Transcript) (c s : List ℕ) (none : 
     abbrev v : List ℕ
     v = laidBehindTable R (fits .ready) x drawn u drawn-long (fits .public) room-before
 
-    half-laid : laidAt o x (drawnWords o w t) u ≡ v
+    half-laid : publicHalfAt o x (drawnWords o w t) u ≡ v
     half-laid = rw words-are (laid R (fits .ready) x drawn u drawn-long (fits .public) room-before)
 
-    beyond : Beyond (verifierRoom R) s v
+    beyond : Beyond (verifierScratchOf R) s v
     beyond =
-        let f = laid-beyond R (fits .ready) x drawn u drawn-long (fits .public) room-before (verifierRoom R) (omega arith) in
+        let f = laid-beyond R (fits .ready) x drawn u drawn-long (fits .public) room-before (verifierScratchOf R) (omega arith) in
         record { long = f .long ∙ b .long; rest = f .rest ∙ b .rest }
 
     room : 4 * R .m ≤ length v
@@ -113,56 +113,56 @@ module _ (R : Rules) (x w : List ℕ) (t : Transcript) (c s : List ℕ) (none : 
         ∙ ap (λ (l : List ℕ). publicFolded (elements x) (loginPoint (drawsOf (relationOf R) l)))
         (elements-words (verifierDraws (relationOf R) (elements w) t))
 
-    after-end : Beyond (verifierRoom R) s (replicate (4 * R .m) 0 ++ drop (4 * R .m) v)
+    after-end : Beyond (verifierScratchOf R) s (replicate (4 * R .m) 0 ++ drop (4 * R .m) v)
     after-end =
         let l : length (replicate {A = ℕ} (4 * R .m) 0) ≡ 4 * R .m = length-replicate (4 * R .m) 0 in
-        let f = in-front (verifierRoom R) v (replicate (4 * R .m) 0) (drop (4 * R .m) v) (omega (arith, l))
+        let f = in-front (verifierScratchOf R) v (replicate (4 * R .m) 0) (drop (4 * R .m) v) (omega (arith, l))
         (rw (l, length-drop) (omega (arith, room))) (ap (λ (i : ℕ). drop i v) (sym l)) in
         record { long = f .long ∙ beyond .long; rest = f .rest ∙ beyond .rest }
 
-    room-after : Beyond (verifierRoom R) s (checkedAt o w drawn t (playedTo o w t 65536) F c v .scratch)
-    unfolding endRoom
+    room-after : Beyond (verifierScratchOf R) s (checkedAt o w drawn t (runTo o w t 65536) F c v .scratch)
+    unfolding endScratch
     room-after = go (eqb (F .code) 0) (eqb (endRefusal o w drawn v) 0) refl refl
       where
         go : (p q : Bool) → eqb (F .code) 0 ≡ p → eqb (endRefusal o w drawn v) 0 ≡ q
-            → Beyond (verifierRoom R) s (checkedAt o w drawn t (playedTo o w t 65536) F c v .scratch)
+            → Beyond (verifierScratchOf R) s (checkedAt o w drawn t (runTo o w t 65536) F c v .scratch)
         go false q e f = rw e beyond
         go true false e f = rw (e, f) beyond
         go true true e f = rw (e, f) after-end
 
-    pub run-ends : finished o x w t (begun o w t) c u ≡ verifyOutcome R x w t c s
+    pub run-ends : finished o x w t (outerStage o w t) c u ≡ verifyOutcome R x w t c s
     unfolding verifyOutcome
     run-ends =
         let l = checks-leave R (fits .ready) x w t (fits .proof) (fits .counter) c v (fits .claims) room table-laid half-is in
-        let r = cleared-room (verifierRoom R) (roomElements o) s _ (omega arith) (fits .scratch) room-after in
+        let r = cleared-room (verifierScratchOf R) (scratchElements o) s _ (omega arith) (fits .scratch) room-after in
         rw (none, draws-are, half-laid, ← l .0, ← l .1, ← l .2, r)
 
 -- ---- the whole verifier: y is the number of 4 to 7, z that of all tests before the checks
-module _ (R : Rules) (x w : List ℕ) (t : Transcript) (c s : List ℕ) (y z : ℕ) (hy : y ≡ noted 0 (ruleTests R))
-    (hz : z ≡ noted 0 (verifyTestsBy y (outlineOf R) (length x) (length w) (t .«squeeze_ctr») (length c) (length s))) where
+module _ (R : Rules) (x w : List ℕ) (t : Transcript) (c s : List ℕ) (y z : ℕ) (hy : y ≡ firstRefusal 0 (ruleTests R))
+    (hz : z ≡ firstRefusal 0 (verifyTestsBy y (sizesOnlyOf R) (length x) (length w) (t .«squeeze_ctr») (length c) (length s))) where
   number : z ≡ verifyRefusal R x w t c s
   unfolding verifyRefusal
   number = hz ∙ verify-by R y hy x w (t .«squeeze_ctr») (length c) (length s)
 
   -- the combined table at the draws, in front of the scratch
   abbrev table : List ℕ
-  table = tableAt (relationOf R) (drawnWords (outlineOf R) w t) s
+  table = tableAt (relationOf R) (drawnWords (sizesOnlyOf R) w t) s
 
   -- turned back
-  back : (a : TranscriptAnswer) (c′ s′ : List ℕ) (g : Begun) (u : List ℕ) → (z ≡ 0 → ⊥) → g ≡ begunUnless z (outlineOf R) w t
-      → u ≡ cond (eqb (g .found .code) 0) (tableAt (relationOf R) (g .draws) s) s → verified a c′ s′ ≡ finishedUnless z (outlineOf R) x w t g c u
+  back : (a : TranscriptAnswer) (c′ s′ : List ℕ) (g : OuterStage) (u : List ℕ) → (z ≡ 0 → ⊥) → g ≡ outerStageUnless z (sizesOnlyOf R) w t
+      → u ≡ cond (eqb (g .found .code) 0) (tableAt (relationOf R) (g .draws) s) s → verified a c′ s′ ≡ finishedUnless z (sizesOnlyOf R) x w t g c u
       → verified a c′ s′ ≡ verifyOutcome R x w t c s
-  unfolding begunUnless finishedUnless
+  unfolding outerStageUnless finishedUnless
   back a c′ s′ g u h hg hu e =
       let b = ne-eqb z 0 h in
       e ∙ (rw (b, hu, hg, b, b) (verify-refused R x w t c s z number h))
 
   -- run through: the table is there, unless the outer checks stop the run
-  through : z ≡ 0 → finished (outlineOf R) x w t (begun (outlineOf R) w t) c (cond (eqb (begun (outlineOf R) w t .found .code) 0) table s) ≡ verifyOutcome R x w t c s
-  through h = run-ends R x w t c s none (cond b table s) (beyond b) (λ i. front b (eq-eqb (begun (outlineOf R) w t .found .code) 0 (rw draws i)))
+  through : z ≡ 0 → finished (sizesOnlyOf R) x w t (outerStage (sizesOnlyOf R) w t) c (cond (eqb (outerStage (sizesOnlyOf R) w t .found .code) 0) table s) ≡ verifyOutcome R x w t c s
+  through h = run-ends R x w t c s none (cond b table s) (beyond b) (λ i. front b (eq-eqb (outerStage (sizesOnlyOf R) w t .found .code) 0 (rw draws i)))
     where
       b : Bool
-      b = eqb (begun (outlineOf R) w t .found .code) 0
+      b = eqb (outerStage (sizesOnlyOf R) w t .found .code) 0
 
       none : verifyRefusal R x w t c s ≡ 0
       none = sym number ∙ h
@@ -170,7 +170,7 @@ module _ (R : Rules) (x w : List ℕ) (t : Transcript) (c s : List ℕ) (y z : �
       D : List ℕ
       D = drawn R x w t c s none
 
-      draws : drawnOf (outlineOf R) (drawnWords (outlineOf R) w t) ≡ D
+      draws : drawnOf (sizesOnlyOf R) (drawnWords (sizesOnlyOf R) w t) ≡ D
       draws = draws-are R x w t c s none
 
       ok : Verifiable R x w (t .«squeeze_ctr») (length c) (length s)
@@ -182,8 +182,8 @@ module _ (R : Rules) (x w : List ℕ) (t : Transcript) (c s : List ℕ) (y z : �
       is-table : table ≡ tableAt (relationOf R) (overlaid D (replicate 256 0)) s
       is-table = ap (λ (l : List ℕ). tableAt (relationOf R) l s) (words-are R x w t c s none)
 
-      beyond : (i : Bool) → Beyond (verifierRoom R) s (cond i table s)
-      beyond true = rw is-table (drawn-beyond R (ok .ready) D s (drawn-long R x w t c s none) enough (verifierRoom R) (omega arith))
+      beyond : (i : Bool) → Beyond (verifierScratchOf R) s (cond i table s)
+      beyond true = rw is-table (drawn-beyond R (ok .ready) D s (drawn-long R x w t c s none) enough (verifierScratchOf R) (omega arith))
       beyond false = record { long = refl; rest = refl }
 
       front : (i : Bool) → i ≡ true
@@ -193,22 +193,22 @@ module _ (R : Rules) (x w : List ℕ) (t : Transcript) (c s : List ℕ) (y z : �
           ∙ ap (λ (l : List ℕ). combined (relationOf R) (drawsOf (relationOf R) l)) (elements-words (verifierDraws (relationOf R) (elements w) t)))
       front false e = absurd (false≢true e)
 
-  done : (a : TranscriptAnswer) (c′ s′ : List ℕ) (g : Begun) (u : List ℕ) → z ≡ 0 → g ≡ begunUnless z (outlineOf R) w t
-      → u ≡ cond (eqb (g .found .code) 0) (tableAt (relationOf R) (g .draws) s) s → verified a c′ s′ ≡ finishedUnless z (outlineOf R) x w t g c u
+  done : (a : TranscriptAnswer) (c′ s′ : List ℕ) (g : OuterStage) (u : List ℕ) → z ≡ 0 → g ≡ outerStageUnless z (sizesOnlyOf R) w t
+      → u ≡ cond (eqb (g .found .code) 0) (tableAt (relationOf R) (g .draws) s) s → verified a c′ s′ ≡ finishedUnless z (sizesOnlyOf R) x w t g c u
       → verified a c′ s′ ≡ verifyOutcome R x w t c s
-  unfolding begunUnless finishedUnless
+  unfolding outerStageUnless finishedUnless
   done a c′ s′ g u h hg hu e = e ∙ rw (h, hu, hg, h) (through h)
 
-  ends : (n : ℕ) → z ≡ n → (a : TranscriptAnswer) (c′ s′ : List ℕ) (g : Begun) (u : List ℕ) → g ≡ begunUnless z (outlineOf R) w t
-      → u ≡ cond (eqb (g .found .code) 0) (tableAt (relationOf R) (g .draws) s) s → verified a c′ s′ ≡ finishedUnless z (outlineOf R) x w t g c u
+  ends : (n : ℕ) → z ≡ n → (a : TranscriptAnswer) (c′ s′ : List ℕ) (g : OuterStage) (u : List ℕ) → g ≡ outerStageUnless z (sizesOnlyOf R) w t
+      → u ≡ cond (eqb (g .found .code) 0) (tableAt (relationOf R) (g .draws) s) s → verified a c′ s′ ≡ finishedUnless z (sizesOnlyOf R) x w t g c u
       → verified a c′ s′ ≡ verifyOutcome R x w t c s
   ends zero h a c′ s′ g u = done a c′ s′ g u h
   ends (suc n) h a c′ s′ g u = back a c′ s′ g u (λ i. omega (arith, h, i))
 
   -- the answer a, the claims c′ and the scratch s′, where the first stage gave g and the table was made, or not, in front of u
-  pub verify-ends : (a : TranscriptAnswer) (c′ s′ : List ℕ) (g : Begun) (u : List ℕ) → g ≡ begunUnless z (outlineOf R) w t
+  pub verify-ends : (a : TranscriptAnswer) (c′ s′ : List ℕ) (g : OuterStage) (u : List ℕ) → g ≡ outerStageUnless z (sizesOnlyOf R) w t
       → u ≡ cond (eqb (g .found .code) 0) (tableAt (relationOf R) (g .draws) s) s
-      → (verified a c′ s′ ≡ finishedUnless z (outlineOf R) x w t g c u) × AreWords x × AreWords w
+      → (verified a c′ s′ ≡ finishedUnless z (sizesOnlyOf R) x w t g c u) × AreWords x × AreWords w
       → (verified a c′ s′ ≡ verifyOutcome R x w t c s) × (a .code ≡ 0 → AcceptedCall R x w t c′)
   verify-ends a c′ s′ g u hg hu f =
       let e = ends z refl a c′ s′ g u hg hu (f .0) in

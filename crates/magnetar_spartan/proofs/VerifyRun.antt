@@ -17,7 +17,7 @@ use Rattle.magnetar_protocol.specs.Draws.{drawsOf, drawCount, loginPoint}
 use Rattle.magnetar_protocol.specs.Checks.{combined}
 use Rattle.magnetar_protocol.specs.Run.{claims}
 use Rattle.magnetar_schedule.specs.Schedule.{schedule}
-use Rattle.magnetar_schedule.specs.Play.{playedFrom}
+use Rattle.magnetar_schedule.specs.ScheduleRun.{runFrom}
 use Rattle.magnetar_prover.specs.Entries.{playRefusal, playAnswer, playDraws}
 use Rattle.magnetar_schedule.specs.RealRun.{verifierDraws, verifierTranscript}
 use Rattle.magnetar_protocol.specs.declared.first.Found.{Found}
@@ -30,19 +30,19 @@ use Rattle.magnetar_verifier.specs.Outer as checked
 use Rattle.magnetar_verifier.specs.End.{endRefusal, endFound}
 use Rattle.magnetar_verifier.specs.Claims.{claimsRefusal, claimsOut}
 use Rattle.magnetar_relation.specs.Rules.{Rules, relationOf}
-use Rattle.magnetar_spartan.specs.Refusals.{rowsBin, rowsFld, outlineOf, proofWords, claimWords}
-use Rattle.magnetar_spartan.specs.Ready.{Ready}
+use Rattle.magnetar_spartan.specs.Refusals.{rowsBin, rowsFld, sizesOnlyOf, proofWords, claimWords}
+use Rattle.magnetar_spartan.specs.ValidRules.{ValidRules}
 use Rattle.magnetar_spartan.specs.Outcome.{Verified, verifyVerdict, verifyClaims}
-use Rattle.magnetar_spartan.specs.Stages.{drawnWords, playedTo, outerAt, endAt, claimsAt, stoppedAt, checkedAt}
+use Rattle.magnetar_spartan.specs.Stages.{drawnWords, runTo, outerAt, endAt, claimsAt, stoppedAt, checkedAt}
 use Rattle.magnetar_spartan.proofs.Ended.{draws-small}
-use Rattle.magnetar_spartan.proofs.Fine.{noted-none, same-fine, most-fine, true-fine}
-use Rattle.magnetar_spartan.proofs.SizedRules.{outline-fine}
+use Rattle.magnetar_spartan.proofs.PassedTests.{first-refusal-none, same-passes, most-passes, true-passes}
+use Rattle.magnetar_spartan.proofs.SizedRules.{outline-passes}
 use Rattle.magnetar_spartan.proofs.Verifying.{sizes-are, draws-is, schedule-small, outer-is, later-is, outerOf, laterOf, after, answer-outer, answer-later, answer-none}
 
 -- a run with the public words x, the proof's words w and the transcript t
-module _ (R : Rules) (P : Ready R) (x w : List ℕ) (t : Transcript) (proof : length w ≡ proofWords R) (counter : t .«squeeze_ctr» < 2 ^ 32) where
+module _ (R : Rules) (P : ValidRules R) (x w : List ℕ) (t : Transcript) (proof : length w ≡ proofWords R) (counter : t .«squeeze_ctr» < 2 ^ 32) where
   abbrev o : Relation
-  o = outlineOf R
+  o = sizesOnlyOf R
 
   abbrev D : List ℕ
   D = verifierDraws (relationOf R) (elements w) t
@@ -68,15 +68,15 @@ module _ (R : Rules) (P : Ready R) (x w : List ℕ) (t : Transcript) (proof : le
   unfolding playRefusal
   play-none =
       let l = counterTests (t .«squeeze_ctr») ++ (roomTest (2 * drawCount o) (replicate 256 0) ++ proofTests o w) in
-      let room = most-fine (length (replicate {A = ℕ} 256 0)) (2 * drawCount o) (omega (arith, draws-small R P, length-replicate {A = ℕ} 256 0)) in
-      noted-none (outlineTests (R .m) (R .q) (rowsBin R) (rowsFld R) (R .lengths) ++ l)
-      (outline-fine R P l (true-fine _ (lt-ltb _ _ counter), (room, (same-fine _ _ proof-fits, tt))))
+      let room = most-passes (length (replicate {A = ℕ} 256 0)) (2 * drawCount o) (omega (arith, draws-small R P, length-replicate {A = ℕ} 256 0)) in
+      first-refusal-none (outlineTests (R .m) (R .q) (rowsBin R) (rowsFld R) (R .lengths) ++ l)
+      (outline-passes R P l (true-passes _ (lt-ltb _ _ counter), (room, (same-passes _ _ proof-fits, tt))))
 
-  pub played-is : (n : ℕ) → playedTo o w t n ≡ after R x w t n
+  pub played-is : (n : ℕ) → runTo o w t n ≡ after R x w t n
   unfolding playAnswer
   played-is n = rw play-none
 
-  pub drawn-is : drawnWords o w t ≡ overlaid (words (playedFrom (elements w) (take 65536 (schedule o)) t .draws)) (replicate 256 0)
+  pub drawn-is : drawnWords o w t ≡ overlaid (words (runFrom (elements w) (take 65536 (schedule o)) t .draws)) (replicate 256 0)
   unfolding playDraws
   drawn-is = rw play-none
 
@@ -85,8 +85,8 @@ module _ (R : Rules) (P : Ready R) (x w : List ℕ) (t : Transcript) (proof : le
   unfolding outerChecksRefusal
   outer-none =
       let l = drawTests o d ++ proofTests o w in
-      noted-none (outlineTests (R .m) (R .q) (rowsBin R) (rowsFld R) (R .lengths) ++ l)
-      (outline-fine R P l (same-fine _ _ draws-many, (same-fine _ _ proof-fits, tt)))
+      first-refusal-none (outlineTests (R .m) (R .q) (rowsBin R) (rowsFld R) (R .lengths) ++ l)
+      (outline-passes R P l (same-passes _ _ draws-many, (same-passes _ _ proof-fits, tt)))
 
   outer-checks-are : checked.outerChecks o (elements w) (drawsOf o (elements d)) ≡ outerOf R x w t
   unfolding checked.outerChecks
@@ -107,8 +107,8 @@ module _ (R : Rules) (P : Ready R) (x w : List ℕ) (t : Transcript) (proof : le
     unfolding endRefusal
     end-none =
         let l = drawTests o d ++ (roomTest (4 * R .m) s ++ proofTests o w) in
-        noted-none (outlineTests (R .m) (R .q) (rowsBin R) (rowsFld R) (R .lengths) ++ l)
-        (outline-fine R P l (same-fine _ _ draws-many, (most-fine (length s) (4 * R .m) hs, (same-fine _ _ proof-fits, tt))))
+        first-refusal-none (outlineTests (R .m) (R .q) (rowsBin R) (rowsFld R) (R .lengths) ++ l)
+        (outline-passes R P l (same-passes _ _ draws-many, (most-passes (length s) (4 * R .m) hs, (same-passes _ _ proof-fits, tt))))
 
     abbrev G : Found
     G = endAt o w d s
@@ -124,9 +124,9 @@ module _ (R : Rules) (P : Ready R) (x w : List ℕ) (t : Transcript) (proof : le
     unfolding claimsRefusal
     claims-none =
         let l = drawTests o d ++ (roomTest (2 * claimCount o) c ++ proofTests o w) in
-        let room = most-fine (length c) (2 * claimCount o) (omega (arith, hc)) in
-        noted-none (outlineTests (R .m) (R .q) (rowsBin R) (rowsFld R) (R .lengths) ++ l)
-        (outline-fine R P l (same-fine _ _ draws-many, (room, (same-fine _ _ proof-fits, tt))))
+        let room = most-passes (length c) (2 * claimCount o) (omega (arith, hc)) in
+        first-refusal-none (outlineTests (R .m) (R .q) (rowsBin R) (rowsFld R) (R .lengths) ++ l)
+        (outline-passes R P l (same-passes _ _ draws-many, (room, (same-passes _ _ proof-fits, tt))))
 
     claims-is : claims o (elements w) (elements d) ≡ claims (relationOf R) (elements w) D
     claims-is =
@@ -139,7 +139,7 @@ module _ (R : Rules) (P : Ready R) (x w : List ℕ) (t : Transcript) (proof : le
         × (v .claims ≡ verifyClaims R x w t c)
 
     abbrev Stopped : Found → Type 0
-    Stopped g = Left (stoppedAt o w d t (playedTo o w t 65536) F g c s)
+    Stopped g = Left (stoppedAt o w d t (runTo o w t 65536) F g c s)
 
     kept : (n : ℕ) → n ≡ verifyVerdict R x w t → (n ≡ 0 → ⊥) → c ≡ verifyClaims R x w t c
     unfolding verifyClaims
@@ -173,10 +173,10 @@ module _ (R : Rules) (P : Ready R) (x w : List ℕ) (t : Transcript) (proof : le
         let b = answer-none R x w t 65536 (sym (ap (λ (k : Found). k .code) q) ∙ z) (sym (ap (λ (k : Found). k .code) p) ∙ e) (schedule-small R P) in
         rw (eq-eqb (G .code) 0 e, e) (b .0, played-is 65536 ∙ b .1, written (b .0))
 
-    pub checks-leave : Left (checkedAt o w d t (playedTo o w t 65536) F c s)
+    pub checks-leave : Left (checkedAt o w d t (runTo o w t 65536) F c s)
     checks-leave = go (F .code) (G .code) refl refl
       where
-        go : (i j : ℕ) → F .code ≡ i → G .code ≡ j → Left (checkedAt o w d t (playedTo o w t 65536) F c s)
+        go : (i j : ℕ) → F .code ≡ i → G .code ≡ j → Left (checkedAt o w d t (runTo o w t 65536) F c s)
         go (suc i) j e f = let h : F .code ≡ 0 → ⊥ = λ z. omega (arith, e, z) in rw (ne-eqb (F .code) 0 h) (at-outer h)
         go zero (suc j) e f = let h : G .code ≡ 0 → ⊥ = λ z. omega (arith, f, z) in rw (eq-eqb (F .code) 0 e) (at-later e h)
         go zero zero e f = rw (eq-eqb (F .code) 0 e) (at-none e f)

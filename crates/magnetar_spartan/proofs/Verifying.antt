@@ -15,8 +15,8 @@ use Rattle.magnetar_protocol.specs.Shape.{logLogins}
 use Rattle.magnetar_protocol.specs.Proof.{innerRounds, valueZ, terminals}
 use Rattle.magnetar_protocol.specs.Draws.{Draws, drawsOf, drawCount, loginPoint}
 use Rattle.magnetar_schedule.specs.Schedule.{Event, schedule}
-use Rattle.magnetar_schedule.specs.Play.{Played, playedFrom}
-use Rattle.magnetar_protocol.specs.Checks.{Check, firstRefusal, firstStop, sharedChecks, rowChecks, terminalChecks, innerChecks, innerClaim, combined}
+use Rattle.magnetar_schedule.specs.ScheduleRun.{RunState, runFrom}
+use Rattle.magnetar_protocol.specs.Checks.{Check, firstFailure, firstStop, sharedChecks, rowChecks, terminalChecks, innerChecks, innerClaim, combined}
 use Rattle.magnetar_protocol.specs.Run.{verdict}
 use Rattle.magnetar_schedule.specs.RealRun.{verifierDraws, verifierTranscript, stop}
 use Rattle.magnetar_protocol.proofs.Phases.{Numbered}
@@ -25,55 +25,55 @@ use Rattle.magnetar_schedule.proofs.Blocks.{outerChecks, laterChecks, later-num
 use Rattle.magnetar_verifier.specs.End.{endChecks}
 use Rattle.magnetar_relation.specs.Rules.{Rules, relationOf}
 use Rattle.magnetar_field.proofs.Log2.{log₂-lt}
-use Rattle.magnetar_spartan.specs.Refusals.{rowsBin, rowsFld, outlineOf}
-use Rattle.magnetar_spartan.specs.Ready.{Ready}
+use Rattle.magnetar_spartan.specs.Refusals.{rowsBin, rowsFld, sizesOnlyOf}
+use Rattle.magnetar_spartan.specs.ValidRules.{ValidRules}
 use Rattle.magnetar_spartan.specs.Outcome.{verifyVerdict}
 
-pub sizes-are : (R : Rules) → outlined (relationOf R) ≡ outlineOf R
+pub sizes-are : (R : Rules) → outlined (relationOf R) ≡ sizesOnlyOf R
 sizes-are R = refl
 
-pub schedule-is : (R : Rules) → schedule (relationOf R) ≡ schedule (outlineOf R)
+pub schedule-is : (R : Rules) → schedule (relationOf R) ≡ schedule (sizesOnlyOf R)
 schedule-is R = schedule-outlined (relationOf R) ∙ ap schedule (sizes-are R)
 
-pub draws-is : (R : Rules) (d : List ℕ) → drawsOf (relationOf R) d ≡ drawsOf (outlineOf R) d
+pub draws-is : (R : Rules) (d : List ℕ) → drawsOf (relationOf R) d ≡ drawsOf (sizesOnlyOf R) d
 draws-is R d = draws-outlined (relationOf R) d ∙ ap (λ (r : Relation). drawsOf r d) (sizes-are R)
 
 -- ---- the draws
 module _ (R : Rules) (w : List ℕ) (t : Transcript) where
   -- the whole schedule
-  pub played-all : (k : ℕ) → length (schedule (outlineOf R)) ≤ k
-      → playedFrom w (take k (schedule (outlineOf R))) t ≡ playedFrom w (schedule (relationOf R)) t
-  played-all k h = ap (λ (es : List Event). playedFrom w es t) (take-all k (schedule (outlineOf R)) h ∙ sym (schedule-is R))
+  pub played-all : (k : ℕ) → length (schedule (sizesOnlyOf R)) ≤ k
+      → runFrom w (take k (schedule (sizesOnlyOf R))) t ≡ runFrom w (schedule (relationOf R)) t
+  played-all k h = ap (λ (es : List Event). runFrom w es t) (take-all k (schedule (sizesOnlyOf R)) h ∙ sym (schedule-is R))
 
-  pub drawn-words : (k : ℕ) (d d′ : List ℕ) → length (schedule (outlineOf R)) ≤ k → length d ≡ 2 * drawCount (outlineOf R)
-      → d′ ≡ overlaid (words (playedFrom w (take k (schedule (outlineOf R))) t .draws)) d → d′ ≡ words (verifierDraws (relationOf R) w t)
+  pub drawn-words : (k : ℕ) (d d′ : List ℕ) → length (schedule (sizesOnlyOf R)) ≤ k → length d ≡ 2 * drawCount (sizesOnlyOf R)
+      → d′ ≡ overlaid (words (runFrom w (take k (schedule (sizesOnlyOf R))) t .draws)) d → d′ ≡ words (verifierDraws (relationOf R) w t)
   unfolding verifierDraws
   drawn-words k d d′ h l e =
-      let c : length (words (playedFrom w (schedule (relationOf R)) t .draws)) ≡ length d =
-      words-length (playedFrom w (schedule (relationOf R)) t .draws)
+      let c : length (words (runFrom w (schedule (relationOf R)) t .draws)) ≡ length d =
+      words-length (runFrom w (schedule (relationOf R)) t .draws)
       ∙ ap (λ (n : ℕ). 2 * n) (played-count (relationOf R) w t ∙ count) ∙ sym l in
-      e ∙ rw (played-all k h) (overlaid-same (words (playedFrom w (schedule (relationOf R)) t .draws)) d (sym c))
+      e ∙ rw (played-all k h) (overlaid-same (words (runFrom w (schedule (relationOf R)) t .draws)) d (sym c))
     where
-      count : drawCount (relationOf R) ≡ drawCount (outlineOf R)
+      count : drawCount (relationOf R) ≡ drawCount (sizesOnlyOf R)
       count = refl
 
 -- ---- the outer checks
 module _ (R : Rules) (x w : List ℕ) (D : Draws) where
-  pub outer-is : sharedChecks (outlineOf R) w D 0 (logLogins (outlineOf R)) ++ (rowChecks (outlineOf R) w D ++ terminalChecks (outlineOf R) w D)
+  pub outer-is : sharedChecks (sizesOnlyOf R) w D 0 (logLogins (sizesOnlyOf R)) ++ (rowChecks (sizesOnlyOf R) w D ++ terminalChecks (sizesOnlyOf R) w D)
       ≡ outerChecks (relationOf R) x w D
   outer-is =
       outlines (λ (r : Relation). sharedChecks r w D 0 (logLogins r) ++ (rowChecks r w D ++ terminalChecks r w D))
       ∙ sym (ap₂ _++_ (shared-outlined (relationOf R) x w D 0 (logLogins (relationOf R)))
       (ap₂ _++_ (rows-outlined (relationOf R) x w D) (terminals-outlined (relationOf R) x w D)))
     where
-      outlines : (f : Relation → List Check) → f (outlineOf R) ≡ f (outlined (relationOf R))
+      outlines : (f : Relation → List Check) → f (sizesOnlyOf R) ≡ f (outlined (relationOf R))
       outlines f = ap f (sym (sizes-are R))
 
 -- ---- the answer
 -- where a check does not pass, what comes behind does not matter
-stop-any : (cs : List Check) (n k : ℕ) → Numbered cs → (firstRefusal cs ≡ 0 → ⊥) → firstStop cs n ≡ firstStop cs k
+stop-any : (cs : List Check) (n k : ℕ) → Numbered cs → (firstFailure cs ≡ 0 → ⊥) → firstStop cs n ≡ firstStop cs k
 stop-any cs n k m h =
-    ap (λ (l : List Check). firstStop l n) (sym (append-nil cs)) ∙ stop-append cs [] n k m ∙ rw (ne-eqb (firstRefusal cs) 0 h)
+    ap (λ (l : List Check). firstStop l n) (sym (append-nil cs)) ∙ stop-append cs [] n k m ∙ rw (ne-eqb (firstFailure cs) 0 h)
 
 module _ (R : Rules) (x w : List ℕ) (t : Transcript) where
   abbrev rel : Relation
@@ -90,7 +90,7 @@ module _ (R : Rules) (x w : List ℕ) (t : Transcript) where
 
   -- the transcript after n events
   abbrev pub after : ℕ → Transcript
-  after n = playedFrom (elements w) (take n (schedule (outlineOf R))) t .transcript
+  after n = runFrom (elements w) (take n (schedule (sizesOnlyOf R))) t .transcript
 
   -- what the run answers
   abbrev pub Answers : ℕ → Transcript → Type 0
@@ -98,10 +98,10 @@ module _ (R : Rules) (x w : List ℕ) (t : Transcript) where
 
   stopped : (n : ℕ) → n ≡ stop rel (elements x) (elements w) drawn → after n ≡ verifierTranscript rel (elements x) (elements w) t
   unfolding verifierTranscript
-  stopped n e = ap₂ (λ (es : List Event) (k : ℕ). playedFrom (elements w) (take k es) t .transcript) (sym (schedule-is R)) e
+  stopped n e = ap₂ (λ (es : List Event) (k : ℕ). runFrom (elements w) (take k es) t .transcript) (sym (schedule-is R)) e
 
   -- some outer check does not pass
-  pub answer-outer : (c n : ℕ) → c ≡ firstRefusal outerOf → n ≡ firstStop outerOf 0 → (c ≡ 0 → ⊥) → Answers c (after n)
+  pub answer-outer : (c n : ℕ) → c ≡ firstFailure outerOf → n ≡ firstStop outerOf 0 → (c ≡ 0 → ⊥) → Answers c (after n)
   unfolding verifyVerdict
   answer-outer c n e f h =
       let a : c ≡ verdict rel (elements x) (elements w) drawn =
@@ -111,7 +111,7 @@ module _ (R : Rules) (x w : List ℕ) (t : Transcript) where
       (a, stopped n b)
 
   -- the outer checks pass, and some later one does not
-  pub answer-later : (c n : ℕ) → firstRefusal outerOf ≡ 0 → c ≡ firstRefusal laterOf → n ≡ firstStop laterOf 0 → (c ≡ 0 → ⊥)
+  pub answer-later : (c n : ℕ) → firstFailure outerOf ≡ 0 → c ≡ firstFailure laterOf → n ≡ firstStop laterOf 0 → (c ≡ 0 → ⊥)
       → Answers c (after n)
   unfolding verifyVerdict
   answer-later c n z e f h =
@@ -123,18 +123,18 @@ module _ (R : Rules) (x w : List ℕ) (t : Transcript) where
       (a, stopped n b)
 
   -- every check passes
-  pub answer-none : (k : ℕ) → firstRefusal outerOf ≡ 0 → firstRefusal laterOf ≡ 0 → length (schedule (outlineOf R)) ≤ k → Answers 0 (after k)
+  pub answer-none : (k : ℕ) → firstFailure outerOf ≡ 0 → firstFailure laterOf ≡ 0 → length (schedule (sizesOnlyOf R)) ≤ k → Answers 0 (after k)
   unfolding verifyVerdict
   answer-none k z e h =
       let a : verdict rel (elements x) (elements w) drawn ≡ 0 = verdict-blocks rel (elements x) (elements w) drawn ∙ rw (z, e) in
-      let l : length (schedule (outlineOf R)) ≤ length (schedule rel) = rw (schedule-is R) (omega arith) in (
+      let l : length (schedule (sizesOnlyOf R)) ≤ length (schedule rel) = rw (schedule-is R) (omega arith) in (
         sym a,
         whole k h ∙ sym (whole (length (schedule rel)) l)
             ∙ stopped (length (schedule rel)) (sym (stop-accepted rel (elements x) (elements w) drawn a)),
       )
     where
-      whole : (k : ℕ) → length (schedule (outlineOf R)) ≤ k → after k ≡ playedFrom (elements w) (schedule rel) t .transcript
-      whole k h = ap (λ (p : Played). p .transcript) (played-all R (elements w) t k h)
+      whole : (k : ℕ) → length (schedule (sizesOnlyOf R)) ≤ k → after k ≡ runFrom (elements w) (schedule rel) t .transcript
+      whole k h = ap (λ (p : RunState). p .transcript) (played-all R (elements w) t k h)
 
 -- ---- the later checks, over a table that is the combined one and a half that is the folded one
 end-outlined : (r : Relation) (h w : List ℕ) (D : Draws) (T : List ℕ) → endChecks r h w D T ≡ endChecks (outlined r) h w D T
@@ -142,16 +142,16 @@ unfolding endChecks innerChecks innerClaim innerRounds valueZ terminals
 end-outlined r h w D T = rw (identity-outlined r h w D h)
 
 pub later-is : (R : Rules) (x w : List ℕ) (D : Draws) (h T : List ℕ) → h ≡ publicFolded x (loginPoint D) → T ≡ combined (relationOf R) D
-    → endChecks (outlineOf R) h w D T ≡ laterChecks (relationOf R) x w D
+    → endChecks (sizesOnlyOf R) h w D T ≡ laterChecks (relationOf R) x w D
 later-is R x w D h T eh e =
     ap (λ (r : Relation). endChecks r h w D T) (sym (sizes-are R)) ∙ sym (end-outlined (relationOf R) h w D T)
     ∙ unfold endChecks in ap₂ (λ (y z : List ℕ). endChecks (relationOf R) y w D z) eh e
 
 -- ---- a schedule is short
-pub schedule-small : (R : Rules) → Ready R → length (schedule (outlineOf R)) ≤ 65536
+pub schedule-small : (R : Rules) → ValidRules R → length (schedule (sizesOnlyOf R)) ≤ 65536
 schedule-small R P =
     let q = log₂-lt (R .q) (omega (arith, P .logins .high)) in
     let m = log₂-lt (R .m) (omega (arith, P .columns .high)) in
     let b = log₂-lt (rowsBin R) (omega (arith, P .bin .rows .high)) in
     let f = log₂-lt (rowsFld R) (omega (arith, P .fld .rows .high)) in
-    rw (schedule-length (outlineOf R)) (omega (arith, q, m, b, f, P .segments))
+    rw (schedule-length (sizesOnlyOf R)) (omega (arith, q, m, b, f, P .segments))

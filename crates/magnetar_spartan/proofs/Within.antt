@@ -17,17 +17,17 @@ use Rattle.magnetar_layout.specs.Every.{every}
 use Rattle.magnetar_layout.specs.Layout.{isLength, endFrom, layoutEnd}
 use Rattle.magnetar_layout.specs.Login.{loginWords}
 use Rattle.magnetar_layout.specs.Tests.{Tests, Sized, isSize, layoutTests, roomTestOf}
-use Rattle.magnetar_layout.proofs.Noted.{Clear}
+use Rattle.magnetar_layout.proofs.FirstRefusal.{Clear}
 use Rattle.magnetar_matrix.specs.Matrix.{Entry}
 use Rattle.magnetar_relation.specs.declared.shapes.Shape.{Shape}
 use Rattle.magnetar_relation.specs.declared.shapes.SystemShape.{SystemShape}
 use Rattle.magnetar_relation.specs.Rules.{Rules, rulesOver, entriesIn, matrixAt, systemAt, relationOf, liesIn, inMatrix, inSystem, inRelation}
 use Rattle.magnetar_relation.specs.RuleTests.{rowTests, colTests, mostTests, numberTests, total, ruleTestsBy, ruleTests}
 use Rattle.magnetar_protocol.specs.RunTests.{counterTests, proofTests}
-use Rattle.magnetar_spartan.specs.Refusals.{rulesTests, proofWords, claimWords, verifierRoom, proverRoom, verifyTests, proveTests, outlineOf}
+use Rattle.magnetar_spartan.specs.Refusals.{rulesTests, proofWords, claimWords, verifierScratchOf, proverScratchOf, verifyTests, proveTests, sizesOnlyOf}
 use Rattle.magnetar_spartan.specs.Outcome.{verifyRefusal, proveRefusal}
 use Rattle.magnetar_spartan.specs.Within.{Power, noEntry, MatrixWithin, SystemWithin, RulesWithin, ProveWithin, VerifyWithin, ProveUnrefused, VerifyUnrefused}
-use Rattle.magnetar_spartan.proofs.Fine.{noted-none, clear-join, size-fine, same-fine, most-fine, true-fine}
+use Rattle.magnetar_spartan.proofs.PassedTests.{first-refusal-none, clear-join, size-passes, same-passes, most-passes, true-passes}
 
 -- ---- powers of two
 power-log : (n k : ℕ) → n ≤ 65536 → n ≡ 2 ^ k → n ≡ 2 ^ log₂ n
@@ -55,16 +55,16 @@ in-matrix n m k h es W =
     (λ i l. lies (h .rows) (h .cols) (getD s i noEntry) (omega (arith, W .inside i l .0, W .rows)) (omega (arith, W .inside i l .1, W .cols)))
 
 module _ (m q k : ℕ) (t : SystemShape) (es : List Entry) (W : SystemWithin m q t (systemAt t k es)) where
-  row-fine : Clear (rowTests q t)
-  row-fine =
-      let z = size-fine 1 65536 (t .a .rows) (sized (lit≤ tt) (W .rows)) in
-      (z, (same-fine _ _ (W .b .rows), (same-fine _ _ (W .c .rows), (most-fine 1048576 (q * t .a .rows) (W .total), tt))))
+  row-passes : Clear (rowTests q t)
+  row-passes =
+      let z = size-passes 1 65536 (t .a .rows) (sized (lit≤ tt) (W .rows)) in
+      (z, (same-passes _ _ (W .b .rows), (same-passes _ _ (W .c .rows), (most-passes 1048576 (q * t .a .rows) (W .total), tt))))
 
-  col-fine : Clear (colTests m t)
-  col-fine = (same-fine _ _ (W .a .cols), (same-fine _ _ (W .b .cols), (same-fine _ _ (W .c .cols), tt)))
+  col-passes : Clear (colTests m t)
+  col-passes = (same-passes _ _ (W .a .cols), (same-passes _ _ (W .b .cols), (same-passes _ _ (W .c .cols), tt)))
 
-  few-fine : Clear (mostTests t)
-  few-fine = (most-fine 1048576 _ (W .a .few), (most-fine 1048576 _ (W .b .few), (most-fine 1048576 _ (W .c .few), tt)))
+  few-passes : Clear (mostTests t)
+  few-passes = (most-passes 1048576 _ (W .a .few), (most-passes 1048576 _ (W .b .few), (most-passes 1048576 _ (W .c .few), tt)))
 
   in-system : inSystem (systemAt t k es) ≡ true
   in-system = rw (
@@ -74,9 +74,9 @@ module _ (m q k : ℕ) (t : SystemShape) (es : List Entry) (W : SystemWithin m q
   )
 
 -- ---- the rules
-number-fine : (n : ℕ) (ks : List ℕ) → ((i : ℕ) → i < length ks → getD ks i 0 ≡ n) → Clear (numberTests n ks)
-number-fine n [] f = tt
-number-fine n (k ∷ ks) f = (same-fine k n (f 0 (omega arith)), number-fine n ks (λ i h. f (suc i) (omega arith)))
+number-passes : (n : ℕ) (ks : List ℕ) → ((i : ℕ) → i < length ks → getD ks i 0 ≡ n) → Clear (numberTests n ks)
+number-passes n [] f = tt
+number-passes n (k ∷ ks) f = (same-passes k n (f 0 (omega arith)), number-passes n ks (λ i h. f (suc i) (omega arith)))
 
 is-length : (w n : ℕ) → w ≤ 65536 → Power 1 w n → isLength w n ≡ true
 unfolding isLength
@@ -84,9 +84,9 @@ is-length w n h P =
     rw (lt-ltb 0 n (omega (arith, P .low)), le-leb n w (P .high), eq-eqb n (2 ^ log₂ n) (power-log n (P .exponent) (omega (arith, P .high)) (P .power)))
 
 module _ (R : Rules) (W : RulesWithin R) where
-  rule-fine : Clear (ruleTests R)
+  rule-passes : Clear (ruleTests R)
   unfolding ruleTestsBy inRelation
-  rule-fine =
+  rule-passes =
       let B = R .shapes .bin in
       let F = R .shapes .fld in
       let f = entriesIn B in
@@ -100,31 +100,31 @@ module _ (R : Rules) (W : RulesWithin R) where
       let p₅ : Tests = rowTests (R .q) F ++ p₄ in
       let all : (inSystem (r .bin) && inSystem (r .fld)) ≡ true =
       rw (in-system (R .m) (R .q) 0 B (R .entries) (W .bin), in-system (R .m) (R .q) f F (R .entries) (W .fld)) in
-      let c₀ = clear-join numbers inside (number-fine (total (R .shapes)) (R .numbers) (W .numbers)) (true-fine _ all, tt) in
-      let c₁ = clear-join (mostTests F) (numbers ++ inside) (few-fine (R .m) (R .q) f F (R .entries) (W .fld)) c₀ in
-      let c₂ = clear-join (mostTests B) p₁ (few-fine (R .m) (R .q) 0 B (R .entries) (W .bin)) c₁ in
-      let c₃ = clear-join (colTests (R .m) F) p₂ (col-fine (R .m) (R .q) f F (R .entries) (W .fld)) c₂ in
-      let c₄ = clear-join (colTests (R .m) B) p₃ (col-fine (R .m) (R .q) 0 B (R .entries) (W .bin)) c₃ in
-      let c₅ = clear-join (rowTests (R .q) F) p₄ (row-fine (R .m) (R .q) f F (R .entries) (W .fld)) c₄ in
-      clear-join (rowTests (R .q) B) p₅ (row-fine (R .m) (R .q) 0 B (R .entries) (W .bin)) c₅
+      let c₀ = clear-join numbers inside (number-passes (total (R .shapes)) (R .numbers) (W .numbers)) (true-passes _ all, tt) in
+      let c₁ = clear-join (mostTests F) (numbers ++ inside) (few-passes (R .m) (R .q) f F (R .entries) (W .fld)) c₀ in
+      let c₂ = clear-join (mostTests B) p₁ (few-passes (R .m) (R .q) 0 B (R .entries) (W .bin)) c₁ in
+      let c₃ = clear-join (colTests (R .m) F) p₂ (col-passes (R .m) (R .q) f F (R .entries) (W .fld)) c₂ in
+      let c₄ = clear-join (colTests (R .m) B) p₃ (col-passes (R .m) (R .q) 0 B (R .entries) (W .bin)) c₃ in
+      let c₅ = clear-join (rowTests (R .q) F) p₄ (row-passes (R .m) (R .q) f F (R .entries) (W .fld)) c₄ in
+      clear-join (rowTests (R .q) B) p₅ (row-passes (R .m) (R .q) 0 B (R .entries) (W .bin)) c₅
 
-  laid-fine : Clear (layoutTests (R .m / 2) (R .lengths))
-  laid-fine =
+  laid-passes : Clear (layoutTests (R .m / 2) (R .lengths))
+  laid-passes =
       let w : R .m / 2 ≤ 65536 = omega (arith, W .columns .high) in
       let each = every-of (isLength (R .m / 2)) 0 (R .lengths) (λ i h. is-length (R .m / 2) (getD (R .lengths) i 0) w (W .lengths i h)) in
-      (true-fine _ each, (most-fine (R .m / 2) (layoutEnd (R .lengths)) (W .ends), (most-fine 64 (length (R .lengths)) (W .segments), tt)))
+      (true-passes _ each, (most-passes (R .m / 2) (layoutEnd (R .lengths)) (W .ends), (most-passes 64 (length (R .lengths)) (W .segments), tt)))
 
-  rules-fine : Clear (rulesTests R)
-  rules-fine = clear-join (ruleTests R) (layoutTests (R .m / 2) (R .lengths)) rule-fine laid-fine
+  rules-passes : Clear (rulesTests R)
+  rules-passes = clear-join (ruleTests R) (layoutTests (R .m / 2) (R .lengths)) rule-passes laid-passes
 
-  columns-fine : not (isSize 2 65536 (R .m)) ≡ false
-  columns-fine = size-fine 2 65536 (R .m) (sized (lit≤ tt) (W .columns))
+  columns-passes : not (isSize 2 65536 (R .m)) ≡ false
+  columns-passes = size-passes 2 65536 (R .m) (sized (lit≤ tt) (W .columns))
 
-  logins-fine : not (isSize 1 4096 (R .q)) ≡ false
-  logins-fine = size-fine 1 4096 (R .q) (sized (lit≤ tt) (W .logins))
+  logins-passes : not (isSize 1 4096 (R .q)) ≡ false
+  logins-passes = size-passes 1 4096 (R .q) (sized (lit≤ tt) (W .logins))
 
-counter-fine : (n : ℕ) → n < 2 ^ 32 → not (ltb n (2 ^ 32)) ≡ false
-counter-fine n h = true-fine _ (lt-ltb n (2 ^ 32) h)
+counter-passes : (n : ℕ) → n < 2 ^ 32 → not (ltb n (2 ^ 32)) ≡ false
+counter-passes n h = true-passes _ (lt-ltb n (2 ^ 32) h)
 
 -- ---- both ends
 pub prove-unrefused : ProveUnrefused
@@ -132,12 +132,12 @@ unfolding proveRefusal loginWords
 prove-unrefused R ws x t w c s W =
     let n = t .«squeeze_ctr» in
     let r = W .rules in
-    let rest : Tests = counterTests n ++ (roomTestOf (proofWords R) (length w) ++ (roomTestOf (claimWords R) (length c) ++ roomTestOf (proverRoom R) (length s))) in
+    let rest : Tests = counterTests n ++ (roomTestOf (proofWords R) (length w) ++ (roomTestOf (claimWords R) (length c) ++ roomTestOf (proverScratchOf R) (length s))) in
     let proof : proofWords R ≤ length w = omega (arith, W .proof) in
-    let last : Clear rest = (counter-fine n (W .counter), (le-ltb _ _ proof, (le-ltb _ _ (W .claims), (le-ltb _ _ (W .scratch), tt)))) in
-    noted-none (proveTests R ws x n (length w) (length c) (length s)) (
-      columns-fine R r,
-      (logins-fine R r, (same-fine _ _ (W .packed), (same-fine _ _ (W .public), clear-join (rulesTests R) rest (rules-fine R r) last))),
+    let last : Clear rest = (counter-passes n (W .counter), (le-ltb _ _ proof, (le-ltb _ _ (W .claims), (le-ltb _ _ (W .scratch), tt)))) in
+    first-refusal-none (proveTests R ws x n (length w) (length c) (length s)) (
+      columns-passes R r,
+      (logins-passes R r, (same-passes _ _ (W .packed), (same-passes _ _ (W .public), clear-join (rulesTests R) rest (rules-passes R r) last))),
     )
 
 pub verify-unrefused-within : VerifyUnrefused
@@ -145,11 +145,11 @@ unfolding verifyRefusal
 verify-unrefused-within R x w t c s W =
     let n = t .«squeeze_ctr» in
     let r = W .rules in
-    let rest : Tests = counterTests n ++ (roomTestOf (claimWords R) (length c) ++ (roomTestOf (verifierRoom R) (length s) ++ proofTests (outlineOf R) w)) in
+    let rest : Tests = counterTests n ++ (roomTestOf (claimWords R) (length c) ++ (roomTestOf (verifierScratchOf R) (length s) ++ proofTests (sizesOnlyOf R) w)) in
     let proof : length w ≡ proofWords R = omega (arith, W .proof) in
-    let last : Clear rest = (counter-fine n (W .counter), (le-ltb _ _ (W .claims), (le-ltb _ _ (W .scratch), (same-fine _ _ proof, tt)))) in
-    noted-none (verifyTests R x w n (length c) (length s))
-    (columns-fine R r, (logins-fine R r, (same-fine _ _ (W .public), clear-join (rulesTests R) rest (rules-fine R r) last)))
+    let last : Clear rest = (counter-passes n (W .counter), (le-ltb _ _ (W .claims), (le-ltb _ _ (W .scratch), (same-passes _ _ proof, tt)))) in
+    first-refusal-none (verifyTests R x w n (length c) (length s))
+    (columns-passes R r, (logins-passes R r, (same-passes _ _ (W .public), clear-join (rulesTests R) rest (rules-passes R r) last)))
 
 -- ---- the limits can be met: m = 2, q = 1, one empty row in each matrix, no segment
 abbrev leastShape : Shape

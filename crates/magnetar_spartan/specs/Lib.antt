@@ -1,6 +1,6 @@
 pub mod Refusals
 pub mod Numbers
-pub mod Ready
+pub mod ValidRules
 pub mod Outcome
 pub mod Table
 pub mod Stages

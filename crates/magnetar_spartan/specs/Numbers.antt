@@ -11,27 +11,27 @@ use Rattle.magnetar_protocol.specs.RunTests.{counterTests, proofTestsOf}
 use Rattle.magnetar_protocol.specs.Scratch.{verifierScratchWords, proverScratchWords}
 
 -- 4 to 10
-abbrev pub laidTests : ℕ → Relation → Tests
-laidTests z o = (z, true) ∷ layoutTests (o .m / 2) (o .lengths)
+abbrev pub rulesTestsBy : ℕ → Relation → Tests
+rulesTestsBy z o = (z, true) ∷ layoutTests (o .m / 2) (o .lengths)
 
 -- 14 to 16 of the verifier: so many words w of proof, the counter n, so many words of claims and scratch
-abbrev pub verifyRooms : Relation → (w n claims scratch : ℕ) → Tests
-verifyRooms o w n c s =
+abbrev pub verifyLentTests : Relation → (w n claims scratch : ℕ) → Tests
+verifyLentTests o w n c s =
     counterTests n
     ++ (roomTestOf (2 * claimCount o) c
     ++ (roomTestOf (verifierScratchWords (o .m) (o .q) (o .bin .a .rows) (o .fld .a .rows) .words) s ++ proofTestsOf o w))
 
 -- 14 and 15 of the prover
-abbrev pub proveRooms : Relation → (n proof claims scratch : ℕ) → Tests
-proveRooms o n w c s =
+abbrev pub proveLentTests : Relation → (n proof claims scratch : ℕ) → Tests
+proveLentTests o n w c s =
     counterTests n ++ (roomTestOf (2 * proofElements o) w ++ (roomTestOf (2 * claimCount o) c
     ++ roomTestOf (proverScratchWords (o .m) (o .q) (o .bin .a .rows) (o .fld .a .rows) .words) s))
 
 -- all of the verifier, with so many public words x
 abbrev pub verifyTestsBy : ℕ → Relation → (x w n claims scratch : ℕ) → Tests
-verifyTestsBy z o x w n c s = sizeTests (o .m) (o .q) ++ ((publicTestsOf (o .m) x ++ laidTests z o) ++ verifyRooms o w n c s)
+verifyTestsBy z o x w n c s = sizeTests (o .m) (o .q) ++ ((publicTestsOf (o .m) x ++ rulesTestsBy z o) ++ verifyLentTests o w n c s)
 
 -- all of the prover, with so many packed words ws
 abbrev pub proveTestsBy : ℕ → Relation → (ws x n proof claims scratch : ℕ) → Tests
 proveTestsBy z o ws x n w c s =
-    sizeTests (o .m) (o .q) ++ ((packedTestsOf (o .m / 2) (o .q) ws ++ (publicTestsOf (o .m) x ++ laidTests z o)) ++ proveRooms o n w c s)
+    sizeTests (o .m) (o .q) ++ ((packedTestsOf (o .m / 2) (o .q) ws ++ (publicTestsOf (o .m) x ++ rulesTestsBy z o)) ++ proveLentTests o n w c s)

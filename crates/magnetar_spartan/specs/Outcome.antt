@@ -8,14 +8,14 @@ use Rattle.magnetar_field.specs.Refusal.{unlessRefused}
 use Rattle.magnetar_field.specs.Words.{elements, words}
 use Rattle.magnetar_hash.specs.declared.transcript.Transcript.{Transcript}
 use Rattle.magnetar_hash.specs.declared.transcript.TranscriptAnswer.{TranscriptAnswer}
-use Rattle.magnetar_layout.specs.Tests.{noted}
+use Rattle.magnetar_layout.specs.Tests.{firstRefusal}
 use Rattle.magnetar_matrix.specs.Batch.{Batch}
 use Rattle.magnetar_matrix.specs.Packed.{unpacked}
 use Rattle.magnetar_protocol.specs.Run.{verdict, claims}
-use Rattle.magnetar_protocol.specs.Prover.{proverWords, proverClaims}
+use Rattle.magnetar_protocol.specs.Prover.{proverProof, proverClaims}
 use Rattle.magnetar_schedule.specs.RealRun.{verifierDraws, verifierTranscript, proverDraws, proverTranscript}
 use Rattle.magnetar_relation.specs.Rules.{Rules, relationOf}
-use Rattle.magnetar_spartan.specs.Refusals.{verifyTests, proveTests, proofWords, claimWords, verifierRoom, proverRoom}
+use Rattle.magnetar_spartan.specs.Refusals.{verifyTests, proveTests, proofWords, claimWords, verifierScratchOf, proverScratchOf}
 
 -- ---- the verifier
 -- the number, the transcript, and what the claims buffer and the scratch hold
@@ -35,7 +35,7 @@ verifiedInPlace n t c s = record { code = n; transcript = t; claims = c; scratch
 
 -- the number of its refusal among 1 to 16, or 0
 unfoldable pub verifyRefusal : Rules → (x w : List ℕ) → Transcript → (c s : List ℕ) → ℕ
-verifyRefusal R x w t c s = noted 0 (verifyTests R x w (t .«squeeze_ctr») (length c) (length s))
+verifyRefusal R x w t c s = firstRefusal 0 (verifyTests R x w (t .«squeeze_ctr») (length c) (length s))
 
 -- the number among 21 to 29, or 0: the verdict at the draws of the transcript
 unfoldable pub verifyVerdict : Rules → (x w : List ℕ) → Transcript → ℕ
@@ -55,7 +55,7 @@ verifyOutcome R x w t c s =
       code = verifyVerdict R x w t;
       transcript = verifierTranscript (relationOf R) (elements x) (elements w) t;
       claims = verifyClaims R x w t c;
-      scratch = replicate (verifierRoom R) 0 ++ drop (verifierRoom R) s;
+      scratch = replicate (verifierScratchOf R) 0 ++ drop (verifierScratchOf R) s;
     })
     (record { code = verifyRefusal R x w t c s; transcript = t; claims = c; scratch = s })
 
@@ -86,7 +86,7 @@ proveDraws R ws x t = proverDraws (relationOf R) (batchOf R ws) (elements x) t
 
 -- the number of its refusal among 1 to 15, or 0
 unfoldable pub proveRefusal : Rules → (ws x : List ℕ) → Transcript → (w c s : List ℕ) → ℕ
-proveRefusal R ws x t w c s = noted 0 (proveTests R ws x (t .«squeeze_ctr») (length w) (length c) (length s))
+proveRefusal R ws x t w c s = firstRefusal 0 (proveTests R ws x (t .«squeeze_ctr») (length w) (length c) (length s))
 
 -- the outcome of `prove_virtual_spartan`: packed words ws, public words x, transcript t, proof w, claims c, scratch s
 unfoldable pub proveOutcome : Rules → (ws x : List ℕ) → Transcript → (w c s : List ℕ) → Proved
@@ -95,8 +95,8 @@ proveOutcome R ws x t w c s =
     (record {
       code = 0;
       transcript = proverTranscript (relationOf R) (batchOf R ws) (elements x) t;
-      proof = words (proverWords (relationOf R) (batchOf R ws) (elements x) (proveDraws R ws x t)) ++ drop (proofWords R) w;
+      proof = words (proverProof (relationOf R) (batchOf R ws) (elements x) (proveDraws R ws x t)) ++ drop (proofWords R) w;
       claims = words (proverClaims (relationOf R) (batchOf R ws) (proveDraws R ws x t)) ++ drop (claimWords R) c;
-      scratch = replicate (proverRoom R) 0 ++ drop (proverRoom R) s;
+      scratch = replicate (proverScratchOf R) 0 ++ drop (proverScratchOf R) s;
     })
     (record { code = proveRefusal R ws x t w c s; transcript = t; proof = w; claims = c; scratch = s })

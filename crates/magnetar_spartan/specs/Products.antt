@@ -84,7 +84,7 @@ pub record Placed (n p : ℕ) (t s s′ : List ℕ) : Type 0 where
   pub rest : (o : ℕ) → p + n ≤ o → drop o s′ ≡ drop o s
 
 -- what the products ask for: so many packed words ws, public words x and words s for all tables
-pub record ProductsReady (R : Rules) (ws x s : ℕ) : Type 0 where
+pub record ValidProducts (R : Rules) (ws x s : ℕ) : Type 0 where
   pub columns : Sized 2 mostColumns (R .m)
   pub logins : Sized 1 mostLogins (R .q)
   pub bin : SizedSystem (R .m) (R .q) (relationOf R .bin)
@@ -96,7 +96,7 @@ pub record ProductsReady (R : Rules) (ws x s : ℕ) : Type 0 where
 -- table k, where they have it
 abbrev pub ProductLeft : ℕ → Rules → (ws x s s′ : List ℕ) → Type 0
 ProductLeft k R ws x s s′ =
-    ProductsReady R (length ws) (length x) (length s) → Placed (wordsNo k R) (placeNo k R) (tableOf R ws x (matrixNo k (relationOf R))) s s′
+    ValidProducts R (length ws) (length x) (length s) → Placed (wordsNo k R) (placeNo k R) (tableOf R ws x (matrixNo k (relationOf R))) s s′
 
 -- ---- all of them
 abbrev pub tablesWanted : Rules → (ws x : List ℕ) → Tables
@@ -116,4 +116,4 @@ pub record Products (R : Rules) (ws x s s′ : List ℕ) : Type 0 where
   pub tables : tablesOf (R .q) (rowsBin R) (rowsFld R) s′ ≡ tablesWanted R ws x
 
 abbrev pub ProductsLeft : Rules → (ws x s s′ : List ℕ) → Type 0
-ProductsLeft R ws x s s′ = ProductsReady R (length ws) (length x) (length s) → Products R ws x s s′
+ProductsLeft R ws x s s′ = ValidProducts R (length ws) (length x) (length s) → Products R ws x s s′

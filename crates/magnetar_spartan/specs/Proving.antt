@@ -15,13 +15,13 @@ use Rattle.magnetar_matrix.specs.Packed.{unpacked}
 use Rattle.magnetar_relation.specs.declared.shapes.Shape.{Shape}
 use Rattle.magnetar_relation.specs.declared.shapes.SystemShape.{SystemShape}
 use Rattle.magnetar_relation.specs.Rules.{Rules}
-use Rattle.magnetar_protocol.specs.Shape.{logCols, beforeInner, outline}
+use Rattle.magnetar_protocol.specs.Shape.{logCols, beforeInner, sizesOnly}
 use Rattle.magnetar_protocol.specs.Draws.{drawCount}
 use Rattle.magnetar_protocol.specs.Run.{claims}
 use Rattle.magnetar_schedule.specs.Stepwise.{Steps, begin, innerAll}
-use Rattle.magnetar_prover.specs.Entries.{proofFor, drawsFor, scratchFor, blockWords, outerRoundsRefusal, outerPlayed, innerRoundsRefusal, innerPlayed}
-use Rattle.magnetar_spartan.specs.Refusals.{outlineOf, rowsBin, rowsFld, proofWords, claimWords, proverRoom}
-use Rattle.magnetar_spartan.specs.Ready.{Ready}
+use Rattle.magnetar_prover.specs.Entries.{proofFor, drawsFor, scratchFor, blockWords, outerRoundsRefusal, outerRunSteps, innerRoundsRefusal, innerRunSteps}
+use Rattle.magnetar_spartan.specs.Refusals.{sizesOnlyOf, rowsBin, rowsFld, proofWords, claimWords, proverScratchOf}
+use Rattle.magnetar_spartan.specs.ValidRules.{ValidRules}
 
 -- three matrices of n rows and m columns without entries
 abbrev three : (n m : ℕ) → SystemShape
@@ -29,18 +29,18 @@ three n m =
     let h : Shape = record { rows = n; cols = m; entries = 0 } in record { a = h; b = h; c = h }
 
 -- the rules by their sizes alone: m columns, q logins, b rows of bin, f rows of fld
-abbrev pub bare : (m q b f : ℕ) → List ℕ → Rules
-bare m q b f ns = record { m = m; q = q; lengths = ns; shapes = record { bin = three b m; fld = three f m }; numbers = []; entries = [] }
+abbrev pub sizesOnlyRules : (m q b f : ℕ) → List ℕ → Rules
+sizesOnlyRules m q b f ns = record { m = m; q = q; lengths = ns; shapes = record { bin = three b m; fld = three f m }; numbers = []; entries = [] }
 
 -- what a run asks for: so many packed words ws, public words x, and room w for the proof, c for the claims and s of scratch, and the counter
 -- n of the transcript
-pub record RunReady (R : Rules) (ws x w c s n : ℕ) : Type 0 where
-  pub ready : Ready R
+pub record ValidRun (R : Rules) (ws x w c s n : ℕ) : Type 0 where
+  pub ready : ValidRules R
   pub packed : ws ≡ R .q * loginWords (R .m / 2)
   pub public : x ≡ R .m - 2
   pub proof : proofWords R ≤ w
   pub claims : claimWords R ≤ c
-  pub scratch : proverRoom R ≤ s
+  pub scratch : proverScratchOf R ≤ s
   pub counter : n < 2 ^ 32
 
 -- ---- the outer rounds over the tables in front of s, with 256 words for the draws
@@ -51,13 +51,13 @@ outerNumber q b f w s t = outerRoundsRefusal q b f w (replicate 256 0) s t
 -- what they leave: the transcript u, the words d of the draws, the proof w′ and the scratch s′
 abbrev pub OuterDone : (q b f : ℕ) → (w s : List ℕ) → Transcript → Transcript → (d w′ s′ : List ℕ) → Type 0
 OuterDone q b f w s t u d w′ s′ =
-    (u ≡ unlessRefused (outerNumber q b f w s t) (outerPlayed q b f s t .played .transcript) t)
-    × (d ≡ drawsFor (outerNumber q b f w s t) (outerPlayed q b f s t) (replicate 256 0))
-    × (w′ ≡ proofFor (outerNumber q b f w s t) (outerPlayed q b f s t) w) × (s′ ≡ scratchFor (outerNumber q b f w s t) (blockWords q b f) s)
+    (u ≡ unlessRefused (outerNumber q b f w s t) (outerRunSteps q b f s t .runState .transcript) t)
+    × (d ≡ drawsFor (outerNumber q b f w s t) (outerRunSteps q b f s t) (replicate 256 0))
+    × (w′ ≡ proofFor (outerNumber q b f w s t) (outerRunSteps q b f s t) w) × (s′ ≡ scratchFor (outerNumber q b f w s t) (blockWords q b f) s)
 
 -- ---- the z of all logins folded at the point of the n draws from place k of d on, behind the first 4w words
 -- what it asks for: so many packed words ws, public words x, words d of draws, and words s
-pub record FoldReady (q w n k ws x d s : ℕ) : Type 0 where
+pub record ValidFold (q w n k ws x d s : ℕ) : Type 0 where
   pub columns : Sized 2 mostColumns (2 * w)
   pub logins : Sized 1 mostLogins q
   pub packed : ws ≡ q * loginWords w
@@ -80,43 +80,43 @@ loginAt q b f = log₂ q + log₂ b + (log₂ q + log₂ f)
 
 -- ---- what is behind the outer rounds, with the steps p
 -- how many words of the proof and of the draws come before
-abbrev pub saidBefore : Rules → ℕ
-saidBefore R = 2 * beforeInner (outlineOf R)
+abbrev pub sentBefore : Rules → ℕ
+sentBefore R = 2 * beforeInner (sizesOnlyOf R)
 
 abbrev pub drawnBefore : Rules → ℕ
-drawnBefore R = 2 * (drawCount (outlineOf R) - logCols (outlineOf R))
+drawnBefore R = 2 * (drawCount (sizesOnlyOf R) - logCols (sizesOnlyOf R))
 
 -- all words of the proof, and of the draws
-abbrev pub saidAll : Rules → (w : List ℕ) → Steps → List ℕ
-saidAll R w p = take (saidBefore R) w ++ words (p .sent)
+abbrev pub sentAll : Rules → (w : List ℕ) → Steps → List ℕ
+sentAll R w p = take (sentBefore R) w ++ words (p .sent)
 
 abbrev pub drawnAll : Rules → (d : List ℕ) → Steps → List ℕ
-drawnAll R d p = take (drawnBefore R) d ++ words (p .played .draws)
+drawnAll R d p = take (drawnBefore R) d ++ words (p .runState .draws)
 
 -- the inner rounds from word a of the proof w and word k of the draws d on, with the table and the folded z in front of s: the
 -- transcript u, and w′, d′, s′
 abbrev pub InnerDone : (m : ℕ) → (ns w d s : List ℕ) → (a k : ℕ) → Transcript → Transcript → (w′ d′ s′ : List ℕ) → Type 0
 InnerDone m ns w d s a k t u w′ d′ s′ =
     let z = innerRoundsRefusal m ns (drop a w) (drop k d) s t in
-    let p = innerPlayed (outline m 1 1 1 ns) s t in
-    (u ≡ unlessRefused z (p .played .transcript) t) × (w′ ≡ take a w ++ proofFor z p (drop a w)) × (d′ ≡ take k d ++ drawsFor z p (drop k d))
+    let p = innerRunSteps (sizesOnly m 1 1 1 ns) s t in
+    (u ≡ unlessRefused z (p .runState .transcript) t) × (w′ ≡ take a w ++ proofFor z p (drop a w)) × (d′ ≡ take k d ++ drawsFor z p (drop k d))
     × (s′ ≡ scratchFor z (6 * m) s)
 
 -- what is left: the transcript u, the proof w′, the claims c′, and the scratch s′, of which n words are 0
 abbrev pub EndLeft : Rules → (w d c s : List ℕ) → (n : ℕ) → Steps → Transcript → (w′ c′ s′ : List ℕ) → Type 0
 EndLeft R w d c s n p u w′ c′ s′ =
-    (u ≡ p .played .transcript) × (w′ ≡ saidAll R w p ++ drop (proofWords R) w)
-    × (c′ ≡ words (claims (outlineOf R) (elements (saidAll R w p)) (elements (drawnAll R d p))) ++ drop (claimWords R) c)
+    (u ≡ p .runState .transcript) × (w′ ≡ sentAll R w p ++ drop (proofWords R) w)
+    × (c′ ≡ words (claims (sizesOnlyOf R) (elements (sentAll R w p)) (elements (drawnAll R d p))) ++ drop (claimWords R) c)
     × (s′ ≡ replicate n 0 ++ drop n s)
 
 -- its steps: the combined table in front of s, the z of all logins folded at their point, which is among the words d of the draws
-abbrev pub laterPlayed : Rules → (ws x d s : List ℕ) → Transcript → Steps
-laterPlayed R ws x d s t =
+abbrev pub innerPartSteps : Rules → (ws x d s : List ℕ) → Transcript → Steps
+innerPartSteps R ws x d s t =
     let p = reverse (take (log₂ (R .q)) (drop (loginAt (R .q) (rowsBin R) (rowsFld R)) (elements d))) in
-    innerAll (outlineOf R) (elements (take (2 * R .m) s)) (folded (R .q) (R .m / 2) (unpacked (R .q) (R .m / 2) ws) p) (publicFolded (elements x) p) (begin t)
+    innerAll (sizesOnlyOf R) (elements (take (2 * R .m) s)) (folded (R .q) (R .m / 2) (unpacked (R .q) (R .m / 2) ws) p) (publicFolded (elements x) p) (begin t)
 
 -- what is left where a run has what it asks for
-abbrev pub LaterLeft : Rules → (ws x w d c s : List ℕ) → Transcript → Transcript → (w′ c′ s′ : List ℕ) → Type 0
-LaterLeft R ws x w d c s t u w′ c′ s′ =
-    RunReady R (length ws) (length x) (length w) (length c) (length s) (t .«squeeze_ctr»)
-    → EndLeft R w d c s (proverRoom R) (laterPlayed R ws x d s t) u w′ c′ s′
+abbrev pub InnerPartLeft : Rules → (ws x w d c s : List ℕ) → Transcript → Transcript → (w′ c′ s′ : List ℕ) → Type 0
+InnerPartLeft R ws x w d c s t u w′ c′ s′ =
+    ValidRun R (length ws) (length x) (length w) (length c) (length s) (t .«squeeze_ctr»)
+    → EndLeft R w d c s (proverScratchOf R) (innerPartSteps R ws x d s t) u w′ c′ s′

@@ -7,7 +7,7 @@ use Rattle.magnetar_layout.specs.Tests.{Tests, sizeTests, packedTests, publicTe
 use Rattle.magnetar_matrix.specs.Batch.{Relation}
 use Rattle.magnetar_relation.specs.Rules.{Rules}
 use Rattle.magnetar_relation.specs.RuleTests.{ruleTests}
-use Rattle.magnetar_protocol.specs.Shape.{proofElements, claimCount, outline}
+use Rattle.magnetar_protocol.specs.Shape.{proofElements, claimCount, sizesOnly}
 use Rattle.magnetar_protocol.specs.RunTests.{counterTests, proofTests}
 use Rattle.magnetar_protocol.specs.Scratch.{verifierScratch, proverScratch}
 
@@ -23,34 +23,34 @@ abbrev pub rowsFld : Rules → ℕ
 rowsFld R = R .shapes .fld .a .rows
 
 -- the sizes of the relation, without its entries
-abbrev pub outlineOf : Rules → Relation
-outlineOf R = outline (R .m) (R .q) (rowsBin R) (rowsFld R) (R .lengths)
+abbrev pub sizesOnlyOf : Rules → Relation
+sizesOnlyOf R = sizesOnly (R .m) (R .q) (rowsBin R) (rowsFld R) (R .lengths)
 
 -- ---- how many words are wanted
 -- the proof
 abbrev pub proofWords : Rules → ℕ
-proofWords R = 2 * proofElements (outlineOf R)
+proofWords R = 2 * proofElements (sizesOnlyOf R)
 
 -- the claims
 abbrev pub claimWords : Rules → ℕ
-claimWords R = 2 * claimCount (outlineOf R)
+claimWords R = 2 * claimCount (sizesOnlyOf R)
 
 -- the verifier's scratch
-abbrev pub verifierRoom : Rules → ℕ
-verifierRoom R = verifierScratch (R .m) (rowsBin R) (rowsFld R)
+abbrev pub verifierScratchOf : Rules → ℕ
+verifierScratchOf R = verifierScratch (R .m) (rowsBin R) (rowsFld R)
 
 -- the prover's scratch
-abbrev pub proverRoom : Rules → ℕ
-proverRoom R = proverScratch (R .m) (R .q) (rowsBin R) (rowsFld R)
+abbrev pub proverScratchOf : Rules → ℕ
+proverScratchOf R = proverScratch (R .m) (R .q) (rowsBin R) (rowsFld R)
 
 -- ---- the verifier: public words x, proof words w, transcript's counter n, and how many words of claims and of scratch are lent
 abbrev pub verifyTests : Rules → (x w : List ℕ) → (n claims scratch : ℕ) → Tests
 verifyTests R x w n c s =
     sizeTests (R .m) (R .q) ++ (publicTests (R .m) x ++ (rulesTests R ++ (counterTests n ++ (roomTestOf (claimWords R) c
-    ++ (roomTestOf (verifierRoom R) s ++ proofTests (outlineOf R) w)))))
+    ++ (roomTestOf (verifierScratchOf R) s ++ proofTests (sizesOnlyOf R) w)))))
 
 -- ---- the prover: packed words ws, public words x, transcript's counter n, and how many words of proof, claims and scratch are lent
 abbrev pub proveTests : Rules → (ws x : List ℕ) → (n proof claims scratch : ℕ) → Tests
 proveTests R ws x n w c s =
     sizeTests (R .m) (R .q) ++ (packedTests (R .m / 2) (R .q) ws ++ (publicTests (R .m) x ++ (rulesTests R ++ (counterTests n
-    ++ (roomTestOf (proofWords R) w ++ (roomTestOf (claimWords R) c ++ roomTestOf (proverRoom R) s))))))
+    ++ (roomTestOf (proofWords R) w ++ (roomTestOf (claimWords R) c ++ roomTestOf (proverScratchOf R) s))))))

@@ -16,10 +16,10 @@ use Rattle.magnetar_protocol.specs.Draws.{drawCount}
 use Rattle.magnetar_prover.specs.Entries.{playAnswer, playDraws}
 use Rattle.magnetar_protocol.specs.declared.first.Found.{Found}
 use Rattle.magnetar_verifier.specs.Outer.{outerFound}
-use Rattle.magnetar_verifier.specs.End.{endFound, endRoom}
+use Rattle.magnetar_verifier.specs.End.{endFound, endScratch}
 use Rattle.magnetar_verifier.specs.Claims.{claimsOut}
 use Rattle.magnetar_relation.specs.Steps.{clearedTo}
-use Rattle.magnetar_spartan.specs.declared.stages.Begun.{Begun}
+use Rattle.magnetar_spartan.specs.declared.stages.OuterStage.{OuterStage}
 use Rattle.magnetar_spartan.specs.Outcome.{Verified, verifiedInPlace}
 use Rattle.magnetar_spartan.specs.Proving.{loginAt}
 
@@ -28,8 +28,8 @@ abbrev pub drawnWords : Relation → (w : List ℕ) → Transcript → List ℕ
 drawnWords o w t = playDraws o w (replicate 256 0) 65536 t
 
 -- the transcript after n events
-abbrev pub playedTo : Relation → (w : List ℕ) → Transcript → ℕ → Transcript
-playedTo o w t n = playAnswer o w (replicate 256 0) n t .transcript
+abbrev pub runTo : Relation → (w : List ℕ) → Transcript → ℕ → Transcript
+runTo o w t n = playAnswer o w (replicate 256 0) n t .transcript
 
 -- as many of the words d as a run has draws, at most 256
 abbrev pub drawnOf : Relation → (d : List ℕ) → List ℕ
@@ -44,18 +44,18 @@ outerAt o w d = outerFound (o .m) (o .q) (o .bin .a .rows) (o .fld .a .rows) (o 
 abbrev pub endAt : Relation → (w d s : List ℕ) → Found
 endAt o w d s = endFound (o .m) (o .q) (o .bin .a .rows) (o .fld .a .rows) (o .lengths) w d s
 
-abbrev pub endRoomAt : Relation → (w d s : List ℕ) → List ℕ
-endRoomAt o w d s = endRoom (o .m) (o .q) (o .bin .a .rows) (o .fld .a .rows) (o .lengths) w d s
+abbrev pub endScratchAt : Relation → (w d s : List ℕ) → List ℕ
+endScratchAt o w d s = endScratch (o .m) (o .q) (o .bin .a .rows) (o .fld .a .rows) (o .lengths) w d s
 
 -- the claims, over c
 abbrev pub claimsAt : Relation → (w d c : List ℕ) → List ℕ
 claimsAt o w d c = claimsOut (o .m) (o .q) (o .bin .a .rows) (o .fld .a .rows) (o .lengths) w d c
 
 -- ---- the first stage: the schedule is played, and the outer checks look at the draws
-abbrev pub begun : Relation → (w : List ℕ) → Transcript → Begun
-begun o w t = record {
+abbrev pub outerStage : Relation → (w : List ℕ) → Transcript → OuterStage
+outerStage o w t = record {
   draws = drawnWords o w t;
-  ended = playedTo o w t 65536;
+  ended = runTo o w t 65536;
   found = outerAt o w (drawnOf o (drawnWords o w t));
 }
 
@@ -65,14 +65,14 @@ abbrev pub drawnBack : (n k : ℕ) → (d : List ℕ) → List ℕ
 drawnBack n k d = tabulate (λ i. getD (elements d) (k + (n - 1 - i)) 0) n
 
 -- the half of the public words x at the point p; where s is shorter than the table and the half, nothing changes
-unfoldable pub laidBehind : (m q : ℕ) → (x p s : List ℕ) → List ℕ
-laidBehind m q x p s =
+unfoldable pub publicHalfBehind : (m q : ℕ) → (x p s : List ℕ) → List ℕ
+publicHalfBehind m q x p s =
     let a = 2 * min m (length s / 2) in
     take a s ++ publicInOut x q (m / 2) (words p) (drop a s)
 
 -- the point is among the words d of the draws
-abbrev pub laidAt : Relation → (x d s : List ℕ) → List ℕ
-laidAt o x d s = laidBehind (o .m) (o .q) x (drawnBack (min (log₂ (o .q)) 16) (loginAt (o .q) (o .bin .a .rows) (o .fld .a .rows)) d) s
+abbrev pub publicHalfAt : Relation → (x d s : List ℕ) → List ℕ
+publicHalfAt o x d s = publicHalfBehind (o .m) (o .q) x (drawnBack (min (log₂ (o .q)) 16) (loginAt (o .q) (o .bin .a .rows) (o .fld .a .rows)) d) s
 
 -- ---- the second, from the findings f of the outer checks and the transcript u at the end
 -- the finding f, or l where f is none
@@ -83,9 +83,9 @@ firstOf f l = cond (eqb (f .code) 0) l f
 abbrev pub stoppedAt : Relation → (w d : List ℕ) → (t u : Transcript) → (f g : Found) → (c s : List ℕ) → Verified
 stoppedAt o w d t u f g c s = record {
   code = g .code;
-  transcript = cond (eqb (g .code) 0) u (playedTo o w t (g .events));
+  transcript = cond (eqb (g .code) 0) u (runTo o w t (g .events));
   claims = cond (eqb (g .code) 0) (claimsAt o w d c) c;
-  scratch = cond (eqb (f .code) 0) (endRoomAt o w d s) s;
+  scratch = cond (eqb (f .code) 0) (endScratchAt o w d s) s;
 }
 
 -- where the checks look at the words d of the draws, and at the table and the public half in front of s
@@ -93,20 +93,20 @@ abbrev pub checkedAt : Relation → (w d : List ℕ) → (t u : Transcript) → 
 checkedAt o w d t u f c s = stoppedAt o w d t u f (firstOf f (endAt o w d s)) c s
 
 -- the verifier's scratch, in elements
-abbrev pub roomElements : Relation → ℕ
-roomElements o = 2 * o .m + 2 * max (o .bin .a .rows) (o .fld .a .rows)
+abbrev pub scratchElements : Relation → ℕ
+scratchElements o = 2 * o .m + 2 * max (o .bin .a .rows) (o .fld .a .rows)
 
 -- the same with the scratch cleared
 abbrev pub cleared : Relation → Verified → Verified
-cleared o v = record { code = v .code; transcript = v .transcript; claims = v .claims; scratch = clearedTo (roomElements o) (v .scratch) }
+cleared o v = record { code = v .code; transcript = v .transcript; claims = v .claims; scratch = clearedTo (scratchElements o) (v .scratch) }
 
 -- with the table in front of s, the public half laid behind it
-abbrev pub finished : Relation → (x w : List ℕ) → Transcript → Begun → (c s : List ℕ) → Verified
-finished o x w t g c s = cleared o (checkedAt o w (drawnOf o (g .draws)) t (g .ended) (g .found) c (laidAt o x (g .draws) s))
+abbrev pub finished : Relation → (x w : List ℕ) → Transcript → OuterStage → (c s : List ℕ) → Verified
+finished o x w t g c s = cleared o (checkedAt o w (drawnOf o (g .draws)) t (g .ended) (g .found) c (publicHalfAt o x (g .draws) s))
 
 -- ---- both, unless n is a refusal: then nothing is begun, and nothing changes
-unfoldable pub begunUnless : ℕ → Relation → (w : List ℕ) → Transcript → Begun
-begunUnless n o w t = cond (eqb n 0) (begun o w t) (record { draws = replicate 256 0; ended = t; found = record { code = n; events = 0 } })
+unfoldable pub outerStageUnless : ℕ → Relation → (w : List ℕ) → Transcript → OuterStage
+outerStageUnless n o w t = cond (eqb n 0) (outerStage o w t) (record { draws = replicate 256 0; ended = t; found = record { code = n; events = 0 } })
 
-unfoldable pub finishedUnless : ℕ → Relation → (x w : List ℕ) → Transcript → Begun → (c s : List ℕ) → Verified
+unfoldable pub finishedUnless : ℕ → Relation → (x w : List ℕ) → Transcript → OuterStage → (c s : List ℕ) → Verified
 finishedUnless n o x w t g c s = cond (eqb n 0) (finished o x w t g c s) (verifiedInPlace n t c s)

@@ -15,7 +15,7 @@ use Rattle.magnetar_protocol.specs.RunSizes.{SizedBatch, EachBelow, Elements}
 use Rattle.magnetar_protocol.specs.Soundness.{NoBitOutside, BadDraw}
 use Rattle.magnetar_schedule.specs.RealRun.{verifierDraws}
 use Rattle.magnetar_relation.specs.Rules.{Rules, relationOf}
-use Rattle.magnetar_spartan.specs.Refusals.{claimWords, proofWords, verifierRoom}
+use Rattle.magnetar_spartan.specs.Refusals.{claimWords, proofWords, verifierScratchOf}
 use Rattle.magnetar_spartan.specs.Outcome.{batchOf, verifyRefusal, verifyOutcome, proveRefusal, proveOutcome}
 
 -- every number is a word
@@ -46,7 +46,7 @@ pub record AcceptedBy (R : Rules) (ws x : List ℕ) (t : Transcript) (w c : List
 abbrev pub ProvedCall : Rules → (ws x : List ℕ) → Transcript → (w c : List ℕ) → Transcript → Type 0
 ProvedCall R ws x t w c u =
     Good (relationOf R) (batchOf R ws) (elements x) → NoBitOutside (relationOf R) (batchOf R ws)
-    → (c′ s′ : List ℕ) → claimWords R ≤ length c′ → verifierRoom R ≤ length s′ → AcceptedBy R ws x t w c u c′ s′
+    → (c′ s′ : List ℕ) → claimWords R ≤ length c′ → verifierScratchOf R ≤ length s′ → AcceptedBy R ws x t w c u c′ s′
 
 -- ---- laws beside them
 -- For any draws (proofs/Sound `verify-sound-any`): wherever the verifier refuses by none of 1 to 16, whatever elements d stand in the place of
@@ -64,5 +64,5 @@ SoundAny =
 abbrev pub Unrefused : Type 0
 Unrefused =
     (R : Rules) (ws x : List ℕ) (t : Transcript) (w c s c′ s′ : List ℕ) → AreWords x → proveRefusal R ws x t w c s ≡ 0
-    → claimWords R ≤ length c′ → verifierRoom R ≤ length s′
+    → claimWords R ≤ length c′ → verifierScratchOf R ≤ length s′
     → verifyRefusal R x (take (proofWords R) (proveOutcome R ws x t w c s .proof)) t c′ s′ ≡ 0

@@ -15,9 +15,9 @@ ghost use lib.ListN.{length, getD};
 ghost use Rattle.magnetar_field.specs.Sizes.{log₂};
 ghost use Rattle.magnetar_field.specs.Tabulate.{tabulate};
 ghost use Rattle.magnetar_field.specs.Words.{elements};
-ghost use Rattle.magnetar_protocol.specs.Shape.{outline};
-ghost use Rattle.magnetar_prover.specs.Entries.{innerPlayed};
-ghost use Rattle.magnetar_spartan.specs.Proving.{bare, RunReady, OuterDone, loginAt, FoldReady, FoldLeft, InnerDone, EndLeft, LaterLeft};
+ghost use Rattle.magnetar_protocol.specs.Shape.{sizesOnly};
+ghost use Rattle.magnetar_prover.specs.Entries.{innerRunSteps};
+ghost use Rattle.magnetar_spartan.specs.Proving.{sizesOnlyRules, ValidRun, OuterDone, loginAt, ValidFold, FoldLeft, InnerDone, EndLeft, InnerPartLeft};
 ghost use Rattle.magnetar_spartan.specs.Theorems.{AreWords};
 
 // What the outer rounds hand on: the words of the draws, 0 behind them, and the transcript.
@@ -100,7 +100,7 @@ fn fold_at(
     point: &mut [u64],
 )
     requires { ⌜ (k ≤ 4096) × (n ≤ 16) × (length (now point) ≡ 2 * n) ⌝ }
-    ensures { λ _. ⌜ (FoldReady q w n k (length (now (packed .entry))) (length (now (x .entry))) (length (now (draws .entry))) (length (now (s .entry))) → FoldLeft q w n k (now (packed .entry)) (now (x .entry)) (now (draws .entry)) (now (s .entry)) (now (s .exit))) ⌝ }
+    ensures { λ _. ⌜ (ValidFold q w n k (length (now (packed .entry))) (length (now (x .entry))) (length (now (draws .entry))) (length (now (s .entry))) → FoldLeft q w n k (now (packed .entry)) (now (x .entry)) (now (draws .entry)) (now (s .entry)) (now (s .exit))) ⌝ }
 {
     login_point(draws, k, n, point);
     if w <= s.len() / 8 {
@@ -122,7 +122,7 @@ fn fold_behind(
     x: &[u64],
     d: [u64; 256],
 )
-    ensures { λ _. ⌜ (FoldReady q (m / 2) (log₂ q) (loginAt q rb rf) (length (now (packed .entry))) (length (now (x .entry))) (length d) (length (now (s .entry))) → FoldLeft q (m / 2) (log₂ q) (loginAt q rb rf) (now (packed .entry)) (now (x .entry)) d (now (s .entry)) (now (s .exit))) ⌝ }
+    ensures { λ _. ⌜ (ValidFold q (m / 2) (log₂ q) (loginAt q rb rf) (length (now (packed .entry))) (length (now (x .entry))) (length d) (length (now (s .entry))) → FoldLeft q (m / 2) (log₂ q) (loginAt q rb rf) (now (packed .entry)) (now (x .entry)) d (now (s .entry)) (now (s .exit))) ⌝ }
 {
     let l = sizes::log2(q);
     let b = sizes::log2(rb);
@@ -136,7 +136,7 @@ fn fold_behind(
 }
 
 // How many words of the proof come before the inner rounds.
-fn said_before(q: usize, rb: usize, rf: usize) -> usize
+fn sent_before(q: usize, rb: usize, rf: usize) -> usize
     ensures { λ r. ⌜ r ≡ 2 * (8 * log₂ q + 4 * log₂ rb + 4 * log₂ rf + 6) ⌝ }
 {
     let l = sizes::log2(q);
@@ -187,10 +187,10 @@ fn end(
     d: [u64; 256],
     t: Transcript,
 ) -> Transcript
-    ensures { λ r. ⌜ (let R = bare m q rb rf (now (lens .entry)) in (ws xs : ℕ) → RunReady R ws xs (length (now (proof .entry))) (length (now (claims .entry))) (length (now (s .entry))) (t .«squeeze_ctr») → length d ≡ 256
-        → EndLeft R (now (proof .entry)) d (now (claims .entry)) (now (s .entry)) (6 * m) (innerPlayed (outline m 1 1 1 (now (lens .entry))) (now (s .entry)) t) r (now (proof .exit)) (now (claims .exit)) (now (s .exit))) ⌝ }
+    ensures { λ r. ⌜ (let R = sizesOnlyRules m q rb rf (now (lens .entry)) in (ws xs : ℕ) → ValidRun R ws xs (length (now (proof .entry))) (length (now (claims .entry))) (length (now (s .entry))) (t .«squeeze_ctr») → length d ≡ 256
+        → EndLeft R (now (proof .entry)) d (now (claims .entry)) (now (s .entry)) (6 * m) (innerRunSteps (sizesOnly m 1 1 1 (now (lens .entry))) (now (s .entry)) t) r (now (proof .exit)) (now (claims .exit)) (now (s .exit))) ⌝ }
 {
-    let a = said_before(q, rb, rf);
+    let a = sent_before(q, rb, rf);
     let k = drawn_before(q, rb, rf);
     let l = sizes::least(lens.len(), 64);
     let i = sizes::least(refusal::proof_words(m, q, rb, rf, l), proof.len());
@@ -202,7 +202,7 @@ fn end(
 }
 
 // What comes behind the combined table: the folded z, the inner rounds and the claims; the scratch is 0 at exit.
-pub(crate) fn later(
+pub(crate) fn inner_part(
     proof: &mut [u64],
     claims: &mut [u64],
     s: &mut [u64],
@@ -215,7 +215,7 @@ pub(crate) fn later(
     x: &[u64],
     o: OuterDraws,
 ) -> Transcript
-    ensures { λ r. ⌜ (AreWords (now (x .entry)) × (length (o .«draws») ≡ 256 → LaterLeft (bare m q rb rf (now (lens .entry))) (now (packed .entry)) (now (x .entry)) (now (proof .entry)) (o .«draws») (now (claims .entry)) (now (s .entry)) (o .«transcript») r (now (proof .exit)) (now (claims .exit)) (now (s .exit)))) ⌝ }
+    ensures { λ r. ⌜ (AreWords (now (x .entry)) × (length (o .«draws») ≡ 256 → InnerPartLeft (sizesOnlyRules m q rb rf (now (lens .entry))) (now (packed .entry)) (now (x .entry)) (now (proof .entry)) (o .«draws») (now (claims .entry)) (now (s .entry)) (o .«transcript») r (now (proof .exit)) (now (claims .exit)) (now (s .exit)))) ⌝ }
 {
     let d = o.draws;
     let t = o.transcript;
@@ -228,7 +228,7 @@ pub(crate) fn later(
 }
 
 // The same unless n is a refusal; then nothing changes.
-pub(crate) fn later_unless(
+pub(crate) fn inner_part_unless(
     n: u32,
     proof: &mut [u64],
     claims: &mut [u64],
@@ -242,11 +242,11 @@ pub(crate) fn later_unless(
     x: &[u64],
     o: OuterDraws,
 ) -> Transcript
-    ensures { λ r. ⌜ ((n ≡ 0 → AreWords (now (x .entry)) × (length (o .«draws») ≡ 256 → LaterLeft (bare m q rb rf (now (lens .entry))) (now (packed .entry)) (now (x .entry)) (now (proof .entry)) (o .«draws») (now (claims .entry)) (now (s .entry)) (o .«transcript») r (now (proof .exit)) (now (claims .exit)) (now (s .exit))))
+    ensures { λ r. ⌜ ((n ≡ 0 → AreWords (now (x .entry)) × (length (o .«draws») ≡ 256 → InnerPartLeft (sizesOnlyRules m q rb rf (now (lens .entry))) (now (packed .entry)) (now (x .entry)) (now (proof .entry)) (o .«draws») (now (claims .entry)) (now (s .entry)) (o .«transcript») r (now (proof .exit)) (now (claims .exit)) (now (s .exit))))
         × ((n ≡ 0 → ⊥) → (r ≡ o .«transcript») × (now (proof .exit) ≡ now (proof .entry)) × (now (claims .exit) ≡ now (claims .entry)) × (now (s .exit) ≡ now (s .entry)))) ⌝ }
 {
     if n != 0 {
         return o.transcript;
     }
-    later(proof, claims, s, m, q, rb, rf, lens, packed, x, o)
+    inner_part(proof, claims, s, m, q, rb, rf, lens, packed, x, o)
 }

@@ -18,7 +18,7 @@ ghost use mathlib.Core.List.{[]};
 ghost use Prim.Native.Nat.{_/_};
 ghost use lib.Dec.{eqb};
 ghost use Rattle.magnetar_records.specs.Records.{entriesOfRecords};
-ghost use Rattle.magnetar_layout.specs.Tests.{noted};
+ghost use Rattle.magnetar_layout.specs.Tests.{firstRefusal};
 ghost use Rattle.magnetar_relation.specs.Rules.{rulesOver, relationOf};
 ghost use Rattle.magnetar_relation.specs.RuleTests.{ruleTests};
 ghost use Rattle.magnetar_spartan.specs.Outcome.{verified, verifiedInPlace, verifyOutcome, proveRefusal, provedInPlace, proveOutcome};
@@ -71,7 +71,7 @@ fn verify_with(
     proof: &[u64],
     t: Transcript,
 ) -> TranscriptAnswer
-    ensures { λ r. ⌜ (let R = rulesOver m q (now (lens .entry)) sh (entriesOfRecords (now (es .entry))) in z ≡ noted 0 (ruleTests R) → (verified r (now (claims .exit)) (now (scratch .exit)) ≡ verifyOutcome R (now (x .entry)) (now (proof .entry)) t (now (claims .entry)) (now (scratch .entry))) × (r .code ≡ 0 → AcceptedCall R (now (x .entry)) (now (proof .entry)) t (now (claims .exit)))) ⌝ }
+    ensures { λ r. ⌜ (let R = rulesOver m q (now (lens .entry)) sh (entriesOfRecords (now (es .entry))) in z ≡ firstRefusal 0 (ruleTests R) → (verified r (now (claims .exit)) (now (scratch .exit)) ≡ verifyOutcome R (now (x .entry)) (now (proof .entry)) t (now (claims .entry)) (now (scratch .entry))) × (r .code ≡ 0 → AcceptedCall R (now (x .entry)) (now (proof .entry)) t (now (claims .exit)))) ⌝ }
 {
     let b = sh.bin;
     let f = sh.fld;
@@ -236,7 +236,7 @@ fn prove_unless(
     let o = proving::outer_unless(n, proof, scratch, q, rb, rf, t);
     let d = proving::draws_of(o);
     let _done = combine_unless(n, scratch, m, q, sh, d, es);
-    proving::later_unless(n, proof, claims, scratch, m, q, rb, rf, lens, packed, x, o)
+    proving::inner_part_unless(n, proof, claims, scratch, m, q, rb, rf, lens, packed, x, o)
 }
 
 // The prover: 0, the proof at the front of `proof`, the claims r_inst, r_low and segment values at the front of `claims`, and the

@@ -10,24 +10,24 @@ ghost use mathlib.Core.List.{[]};
 ghost use Prim.Native.Nat.{_+_, _-_, _*_, _/_, _≤_};
 ghost use lib.ListN.{length};
 ghost use Rattle.magnetar_field.specs.Sizes.{log₂};
-ghost use Rattle.magnetar_layout.specs.Tests.{noted, sizeTests, layoutTests, Sized};
-ghost use Rattle.magnetar_protocol.specs.Shape.{proofTotal, outline};
+ghost use Rattle.magnetar_layout.specs.Tests.{firstRefusal, sizeTests, layoutTests, Sized};
+ghost use Rattle.magnetar_protocol.specs.Shape.{proofTotal, sizesOnly};
 ghost use Rattle.magnetar_protocol.specs.Draws.{drawCount};
 ghost use Rattle.magnetar_protocol.specs.RunTests.{counterTests};
-ghost use Rattle.magnetar_spartan.specs.Numbers.{verifyRooms, proveRooms, verifyTestsBy, proveTestsBy};
+ghost use Rattle.magnetar_spartan.specs.Numbers.{verifyLentTests, proveLentTests, verifyTestsBy, proveTestsBy};
 
 // 1: the columns and the logins.
 fn size_refusal(m: usize, q: usize) -> u32
-    ensures { λ r. ⌜ r ≡ noted 0 (sizeTests m q) ⌝ }
+    ensures { λ r. ⌜ r ≡ firstRefusal 0 (sizeTests m q) ⌝ }
 {
-    let z = tests::note(0, 1, !tests::is_size(2, 65536, m));
-    tests::note(z, 1, !tests::is_size(1, 4096, q))
+    let z = tests::refuse(0, 1, !tests::is_size(2, 65536, m));
+    tests::refuse(z, 1, !tests::is_size(1, 4096, q))
 }
 
 // 8 to 10 after an earlier number y: the segments over the witness columns.
 fn segments(y: u32, m: usize, lens: &[usize]) -> u32
     requires { ⌜ Sized 2 65536 m ⌝ }
-    ensures { λ r. ⌜ r ≡ noted y (layoutTests (m / 2) (now (lens .entry))) ⌝ }
+    ensures { λ r. ⌜ r ≡ firstRefusal y (layoutTests (m / 2) (now (lens .entry))) ⌝ }
 {
     if y != 0 {
         return y;
@@ -49,7 +49,7 @@ pub(crate) fn proof_words(m: usize, q: usize, rb: usize, rf: usize, l: usize) ->
 
 // How many words the draws of a run have.
 pub(crate) fn draw_words(m: usize, q: usize, rb: usize, rf: usize) -> usize
-    ensures { λ r. ⌜ r ≡ 2 * drawCount (outline m q rb rf []) ⌝ }
+    ensures { λ r. ⌜ r ≡ 2 * drawCount (sizesOnly m q rb rf []) ⌝ }
 {
     let s = sizes::log2(q);
     let b = sizes::log2(rb);
@@ -70,13 +70,13 @@ fn claim_words(m: usize, q: usize, l: usize) -> usize
 
 // 14.
 fn counter(n: u64) -> u32
-    ensures { λ r. ⌜ r ≡ noted 0 (counterTests n) ⌝ }
+    ensures { λ r. ⌜ r ≡ firstRefusal 0 (counterTests n) ⌝ }
 {
-    tests::note(0, 14, !(n < 0x100000000))
+    tests::refuse(0, 14, !(n < 0x100000000))
 }
 
 // 14, 15 and 16 of the verifier.
-fn verify_rooms(
+fn verify_lent(
     m: usize,
     q: usize,
     lens: &[usize],
@@ -88,18 +88,18 @@ fn verify_rooms(
     lent: usize,
 ) -> u32
     requires { ⌜ (1 ≤ log₂ m) × (length (now lens) ≤ 64) ⌝ }
-    ensures { λ r. ⌜ r ≡ noted 0 (verifyRooms (outline m q rb rf (now (lens .entry))) proof n claims lent) ⌝ }
+    ensures { λ r. ⌜ r ≡ firstRefusal 0 (verifyLentTests (sizesOnly m q rb rf (now (lens .entry))) proof n claims lent) ⌝ }
 {
     let l = lens.len();
     let z = counter(n);
-    let z = tests::note(z, 15, claims < claim_words(m, q, l));
+    let z = tests::refuse(z, 15, claims < claim_words(m, q, l));
     let s = scratch::verifier_scratch(m, q, rb, rf);
-    let z = tests::note(z, 15, lent < s.words);
-    tests::note(z, 16, proof != proof_words(m, q, rb, rf, l))
+    let z = tests::refuse(z, 15, lent < s.words);
+    tests::refuse(z, 16, proof != proof_words(m, q, rb, rf, l))
 }
 
 // 14 and 15 of the prover.
-fn prove_rooms(
+fn prove_lent(
     m: usize,
     q: usize,
     lens: &[usize],
@@ -111,14 +111,14 @@ fn prove_rooms(
     lent: usize,
 ) -> u32
     requires { ⌜ (1 ≤ log₂ m) × (length (now lens) ≤ 64) ⌝ }
-    ensures { λ r. ⌜ r ≡ noted 0 (proveRooms (outline m q rb rf (now (lens .entry))) n proof claims lent) ⌝ }
+    ensures { λ r. ⌜ r ≡ firstRefusal 0 (proveLentTests (sizesOnly m q rb rf (now (lens .entry))) n proof claims lent) ⌝ }
 {
     let l = lens.len();
     let z = counter(n);
-    let z = tests::note(z, 15, proof < proof_words(m, q, rb, rf, l));
-    let z = tests::note(z, 15, claims < claim_words(m, q, l));
+    let z = tests::refuse(z, 15, proof < proof_words(m, q, rb, rf, l));
+    let z = tests::refuse(z, 15, claims < claim_words(m, q, l));
     let s = scratch::prover_scratch(m, q, rb, rf);
-    tests::note(z, 15, lent < s.words)
+    tests::refuse(z, 15, lent < s.words)
 }
 
 // Every refusal of the verifier but those of its checks.
@@ -135,19 +135,19 @@ pub(crate) fn verify(
     claims: usize,
     scratch: usize,
 ) -> u32
-    ensures { λ r. ⌜ r ≡ noted 0 (verifyTestsBy z (outline m q rb rf (now (lens .entry))) x proof n claims scratch) ⌝ }
+    ensures { λ r. ⌜ r ≡ firstRefusal 0 (verifyTestsBy z (sizesOnly m q rb rf (now (lens .entry))) x proof n claims scratch) ⌝ }
 {
     let y = size_refusal(m, q);
     if y != 0 {
         return y;
     }
-    let y = tests::note(0, 3, x != m - 2);
-    let y = tests::note(y, z, true);
+    let y = tests::refuse(0, 3, x != m - 2);
+    let y = tests::refuse(y, z, true);
     let y = segments(y, m, lens);
     if y != 0 {
         return y;
     }
-    verify_rooms(m, q, lens, rb, rf, proof, n, claims, scratch)
+    verify_lent(m, q, lens, rb, rf, proof, n, claims, scratch)
 }
 
 // Every refusal of the prover.
@@ -165,18 +165,18 @@ pub(crate) fn prove(
     claims: usize,
     scratch: usize,
 ) -> u32
-    ensures { λ r. ⌜ r ≡ noted 0 (proveTestsBy z (outline m q rb rf (now (lens .entry))) packed x n proof claims scratch) ⌝ }
+    ensures { λ r. ⌜ r ≡ firstRefusal 0 (proveTestsBy z (sizesOnly m q rb rf (now (lens .entry))) packed x n proof claims scratch) ⌝ }
 {
     let y = size_refusal(m, q);
     if y != 0 {
         return y;
     }
-    let y = tests::note(0, 2, packed != q * r1cs::login_words(m / 2));
-    let y = tests::note(y, 3, x != m - 2);
-    let y = tests::note(y, z, true);
+    let y = tests::refuse(0, 2, packed != q * r1cs::login_words(m / 2));
+    let y = tests::refuse(y, 3, x != m - 2);
+    let y = tests::refuse(y, z, true);
     let y = segments(y, m, lens);
     if y != 0 {
         return y;
     }
-    prove_rooms(m, q, lens, rb, rf, n, proof, claims, scratch)
+    prove_lent(m, q, lens, rb, rf, n, proof, claims, scratch)
 }

@@ -7,7 +7,7 @@ use magnetar_field::sizes;
 use magnetar_hash::transcript::Transcript;
 use magnetar_hash::transcript::TranscriptAnswer;
 use magnetar_protocol::first::Found;
-use magnetar_prover::play;
+use magnetar_prover::schedule_run;
 use magnetar_relation::step;
 use magnetar_verifier::claims;
 use magnetar_verifier::end;
@@ -16,27 +16,27 @@ ghost use mathlib.Core.Path.{_≡_};
 ghost use mathlib.Core.List.{[]};
 ghost use Prim.Native.Nat.{_*_, _≤_};
 ghost use lib.ListN.{length};
-ghost use Rattle.magnetar_protocol.specs.Shape.{outline};
+ghost use Rattle.magnetar_protocol.specs.Shape.{sizesOnly};
 ghost use Rattle.magnetar_relation.specs.Steps.{clearedTo};
 ghost use Rattle.magnetar_spartan.specs.Outcome.{verified};
-ghost use Rattle.magnetar_spartan.specs.Stages.{playedTo, drawnOf, drawnBack, laidBehind, laidAt, begunUnless, checkedAt, roomElements, finishedUnless};
+ghost use Rattle.magnetar_spartan.specs.Stages.{runTo, drawnOf, drawnBack, publicHalfBehind, publicHalfAt, outerStageUnless, checkedAt, scratchElements, finishedUnless};
 ghost use Rattle.magnetar_spartan.specs.Theorems.{AreWords};
 
 // What the first stage hands on: the words of the draws, 0 behind them, the transcript at the end, and what the outer checks found.
-pub(crate) struct Begun {
+pub(crate) struct OuterStage {
     pub draws: [u64; 256],
     pub ended: Transcript,
     pub found: Found,
 }
 
-pub(crate) fn draws_of(g: Begun) -> [u64; 256]
+pub(crate) fn draws_of(g: OuterStage) -> [u64; 256]
     ensures { λ r. ⌜ r ≡ g .draws ⌝ }
 {
     g.draws
 }
 
 // 0 where the table is wanted: what refused the run, or the outer check that stops it.
-pub(crate) fn code_of(g: Begun) -> u32
+pub(crate) fn code_of(g: OuterStage) -> u32
     ensures { λ r. ⌜ r ≡ g .found .code ⌝ }
 {
     g.found.code
@@ -53,22 +53,22 @@ pub(crate) fn begin(
     lens: &[usize],
     proof: &[u64],
     t: Transcript,
-) -> Begun
-    ensures { λ r. ⌜ r ≡ begunUnless n (outline m q rb rf (now (lens .entry))) (now (proof .entry)) t ⌝ }
+) -> OuterStage
+    ensures { λ r. ⌜ r ≡ outerStageUnless n (sizesOnly m q rb rf (now (lens .entry))) (now (proof .entry)) t ⌝ }
 {
     let mut draws = [0u64; 256];
     if n != 0 {
-        return Begun {
+        return OuterStage {
             draws: draws,
             ended: t,
             found: Found { code: n, events: 0 },
         };
     }
     let k = sizes::least(refusal::draw_words(m, q, rb, rf), 256);
-    let played = play::play(m, q, rb, rf, lens, proof, &mut draws, t, play::ALL_EVENTS);
+    let runState = schedule_run::run_events(m, q, rb, rf, lens, proof, &mut draws, t, schedule_run::ALL_EVENTS);
     let found = outer::outer_checks(m, q, rb, rf, lens, proof, &draws[0..k]);
-    let ended = played.transcript;
-    Begun {
+    let ended = runState.transcript;
+    OuterStage {
         draws: draws,
         ended: ended,
         found: found,
@@ -86,11 +86,11 @@ fn stopped(
     t: Transcript,
     found: Found,
 ) -> TranscriptAnswer
-    ensures { λ r. ⌜ (r .code ≡ found .code) × (r .transcript ≡ playedTo (outline m q rb rf (now (lens .entry))) (now (proof .entry)) t (found .events)) ⌝ }
+    ensures { λ r. ⌜ (r .code ≡ found .code) × (r .transcript ≡ runTo (sizesOnly m q rb rf (now (lens .entry))) (now (proof .entry)) t (found .events)) ⌝ }
 {
     let mut draws = [0u64; 256];
-    let played = play::play(m, q, rb, rf, lens, proof, &mut draws, t, found.events);
-    let u = played.transcript;
+    let runState = schedule_run::run_events(m, q, rb, rf, lens, proof, &mut draws, t, found.events);
+    let u = runState.transcript;
     TranscriptAnswer {
         code: found.code,
         transcript: u,
@@ -109,7 +109,7 @@ fn lay_at(
     point: &mut [u64],
 )
     requires { ⌜ (k ≤ 4096) × (n ≤ 16) × (length (now point) ≡ 2 * n) ⌝ }
-    ensures { λ _. ⌜ now (s .exit) ≡ laidBehind m q (now (x .entry)) (drawnBack n k (now (draws .entry))) (now (s .entry)) ⌝ }
+    ensures { λ _. ⌜ now (s .exit) ≡ publicHalfBehind m q (now (x .entry)) (drawnBack n k (now (draws .entry))) (now (s .entry)) ⌝ }
 {
     proving::login_point(draws, k, n, point);
     let a = 2 * sizes::least(m, s.len() / 2);
@@ -118,7 +118,7 @@ fn lay_at(
 
 // The public half folded at the point of the logins, behind the combined table.
 fn lay_public(s: &mut [u64], m: usize, q: usize, rb: usize, rf: usize, x: &[u64], d: [u64; 256])
-    ensures { λ _. ⌜ now (s .exit) ≡ laidAt (outline m q rb rf []) (now (x .entry)) d (now (s .entry)) ⌝ }
+    ensures { λ _. ⌜ now (s .exit) ≡ publicHalfAt (sizesOnly m q rb rf []) (now (x .entry)) d (now (s .entry)) ⌝ }
 {
     let l = sizes::log2(q);
     let b = sizes::log2(rb);
@@ -146,7 +146,7 @@ fn checks(
     u: Transcript,
     f: Found,
 ) -> TranscriptAnswer
-    ensures { λ r. ⌜ verified r (now (claims .exit)) (now (s .exit)) ≡ (let o = outline m q rb rf (now (lens .entry)) in checkedAt o (now (proof .entry)) (drawnOf o d) t u f (now (claims .entry)) (now (s .entry))) ⌝ }
+    ensures { λ r. ⌜ verified r (now (claims .exit)) (now (s .exit)) ≡ (let o = sizesOnly m q rb rf (now (lens .entry)) in checkedAt o (now (proof .entry)) (drawnOf o d) t u f (now (claims .entry)) (now (s .entry))) ⌝ }
 {
     if f.code != 0 {
         return stopped(m, q, rb, rf, lens, proof, t, f);
@@ -165,7 +165,7 @@ fn checks(
 
 // Clears the verifier's scratch.
 fn clear_room(m: usize, rb: usize, rf: usize, s: &mut [u64])
-    ensures { λ _. ⌜ now (s .exit) ≡ clearedTo (roomElements (outline m 0 rb rf [])) (now (s .entry)) ⌝ }
+    ensures { λ _. ⌜ now (s .exit) ≡ clearedTo (scratchElements (sizesOnly m 0 rb rf [])) (now (s .entry)) ⌝ }
 {
     let k = sizes::larger(rb, rf);
     let h = s.len() / 4;
@@ -189,9 +189,9 @@ pub(crate) fn finish(
     x: &[u64],
     proof: &[u64],
     t: Transcript,
-    g: Begun,
+    g: OuterStage,
 ) -> TranscriptAnswer
-    ensures { λ r. ⌜ ((verified r (now (claims .exit)) (now (s .exit)) ≡ finishedUnless n (outline m q rb rf (now (lens .entry))) (now (x .entry)) (now (proof .entry)) t g (now (claims .entry)) (now (s .entry))) × AreWords (now (x .entry)) × AreWords (now (proof .entry))) ⌝ }
+    ensures { λ r. ⌜ ((verified r (now (claims .exit)) (now (s .exit)) ≡ finishedUnless n (sizesOnly m q rb rf (now (lens .entry))) (now (x .entry)) (now (proof .entry)) t g (now (claims .entry)) (now (s .entry))) × AreWords (now (x .entry)) × AreWords (now (proof .entry))) ⌝ }
 {
     if n != 0 {
         return TranscriptAnswer {

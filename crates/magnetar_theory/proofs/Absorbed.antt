@@ -16,7 +16,7 @@ use Rattle.magnetar_theory.specs.Cells.{innerCells}
 use Rattle.magnetar_theory.specs.Alpha.{alphaList}
 use Rattle.magnetar_theory.specs.Inner.{zipInner}
 use Rattle.magnetar_theory.specs.Run.{Relation, binGood, trueTerminals, combo, folded}
-use Rattle.magnetar_theory.specs.Lists.{section, words, sixAt, lists, listsOf, outer}
+use Rattle.magnetar_theory.specs.Lists.{section, elementsFrom, sixAt, lists, listsOf, outer}
 use Rattle.magnetar_theory.specs.Absorbed.{absorbedAfter, absorbedCount}
 
 at-shared : (s g k i : ℕ) → i < s → k ≡ suc i → 8 * i + 8 ≤ absorbedAfter s g k
@@ -67,7 +67,7 @@ at-inner s g k i h = omega (arith, first, second, third, fourth)
 module _ (F : Field) where
   open Field F using (K, 𝟎, 𝟏, _⊕_, _⊗_)
 
-  words-take : (i n m : ℕ) (w : List K) → i + n ≤ m → words F i n (take m w) ≡ words F i n w
+  words-take : (i n m : ℕ) (w : List K) → i + n ≤ m → elementsFrom F i n (take m w) ≡ elementsFrom F i n w
   words-take zero n m w h = take-take n m w (omega arith)
   words-take (suc i) n zero w h = absurd (omega arith)
   words-take (suc i) n (suc m) [] h = refl
@@ -104,7 +104,7 @@ module _ (F : Field) where
       go true e = h (ltb-true (length p) n e)
       go false e = k (ltb-false (length p) n e)
 
-  words-absorbed : (i n B m : ℕ) (w : List K) → i + n ≤ B → B ≤ m → words F i n (take m w) ≡ words F i n w
+  words-absorbed : (i n B m : ℕ) (w : List K) → i + n ≤ B → B ≤ m → elementsFrom F i n (take m w) ≡ elementsFrom F i n w
   words-absorbed i n B m w h k = words-take i n m w (omega arith)
 
   left : (n : ℕ) (p : List K) → n ≤ length p → length p ≡ n + length (drop n p)

@@ -19,7 +19,7 @@ use Rattle.magnetar_theory.specs.Alpha.{alphaList, diffs, lastRoots, slo
 use Rattle.magnetar_theory.proofs.Alpha.{slope-few}
 use Rattle.magnetar_theory.specs.Inner.{zipInner}
 use Rattle.magnetar_theory.specs.Run.{Relation, System, binGood, residues, vectors, trueTerminals, combo, folded}
-use Rattle.magnetar_theory.specs.Lists.{section, words, sixAt, outer, lists, listsOf}
+use Rattle.magnetar_theory.specs.Lists.{section, elementsFrom, sixAt, outer, lists, listsOf}
 use Rattle.magnetar_theory.proofs.Lists.{bad-few, words-few, outer-few}
 use Rattle.magnetar_theory.specs.Count.{draws, naturalSum}
 
@@ -133,18 +133,18 @@ module _ (F : Field) where
       tau-one : (Y : System F) (e : List K) → length (tauOf Y e) ≤ 1
       tau-one Y e = tau-few F L (residues F Y (vectors F ws x)) e
 
-      round : (Y : System F) (taus e : List K) (i : ℕ) → length (outer F s R x ws w Y taus (Y .logRows) e (words F i 4 w)) ≤ 3
+      round : (Y : System F) (taus e : List K) (i : ℕ) → length (outer F s R x ws w Y taus (Y .logRows) e (elementsFrom F i 4 w)) ≤ 3
       round Y taus e i = outer-few F L s R x ws w Y taus (Y .logRows) e i
 
       abbrev innerOf : (sh rb rf al e : List K) → List K
       innerOf sh rb rf al e = badChallenges F (tableRounds F (innerCells F))
           (record { tops = 0; lows = suc (R .logHalf); cells = zipInner F (combo F R rb rf al) (folded F R x ws sh) }) e
-          (words F (8 * s + 4 * R .bin .logRows + 4 * R .fld .logRows + 6 + 3 * length e) 3 w)
+          (elementsFrom F (8 * s + 4 * R .bin .logRows + 4 * R .fld .logRows + 6 + 3 * length e) 3 w)
 
       inner-two : (sh rb rf al e : List K) → length (innerOf sh rb rf al e) ≤ 2
       inner-two sh rb rf al e = bad-few F L s R x ws w (innerCells F) 2 (λ a b. omega arith)
           (record { tops = 0; lows = suc (R .logHalf); cells = zipInner F (combo F R rb rf al) (folded F R x ws sh) }) e
-          (words F (8 * s + 4 * R .bin .logRows + 4 * R .fld .logRows + 6 + 3 * length e) 3 w)
+          (elementsFrom F (8 * s + 4 * R .bin .logRows + 4 * R .fld .logRows + 6 + 3 * length e) 3 w)
           (words-few F L s R x ws w (8 * s + 4 * R .bin .logRows + 4 * R .fld .logRows + 6 + 3 * length e) 3)
 
       -- all lists met along one run, by the system followed

@@ -23,7 +23,7 @@ use Rattle.magnetar_theory.specs.Inner.{zipInner}
 use Rattle.magnetar_theory.specs.Run.{Relation, System, Draws, Accepted, Sizes, binGood, vectors, residues, begin, trueTerminals, trueValue, combo, folded, inner}
 use Rattle.magnetar_theory.proofs.Run.{Bad, whole-sound}
 use Rattle.magnetar_theory.proofs.Run.{tau-bin, tau-fld, round-bin, round-fld, alpha-bad, inner-bad}
-use Rattle.magnetar_theory.specs.Lists.{section, DrawInList, words, sixAt, outer, listsOf, lists, rounds, wordsOf, drawn}
+use Rattle.magnetar_theory.specs.Lists.{section, DrawInList, elementsFrom, sixAt, outer, listsOf, lists, rounds, proofOf, drawn}
 
 module _ (F : Field) where
   open Field F using (K, 𝟎, 𝟏, _⊕_, _⊗_)
@@ -128,13 +128,13 @@ module _ (F : Field) where
         at-state : (T : State F X) → length (tableRounds F X .poly T) ≤ suc n
         at-state T = length-polyAll X (suc n) h (pairs F X (T .tops) (T .lows) (T .cells))
 
-    pub words-few : (i n : ℕ) → length (words F i n w) ≤ n
+    pub words-few : (i n : ℕ) → length (elementsFrom F i n w) ≤ n
     words-few i n = omega (arith, length-take n (drop i w))
 
     pub outer-few : (Y : System F) (taus : List K) (rows : ℕ) (e : List K) (i : ℕ)
-        → length (outer F s R x ws w Y taus rows e (words F i 4 w)) ≤ 3
+        → length (outer F s R x ws w Y taus rows e (elementsFrom F i 4 w)) ≤ 3
     unfolding outer
-    outer-few Y taus rows e i = bad-few (outerCells F) 3 (λ a b. omega arith) (begin F Y taus (vectors F ws x) s rows) e (words F i 4 w)
+    outer-few Y taus rows e i = bad-few (outerCells F) 3 (λ a b. omega arith) (begin F Y taus (vectors F ws x) s rows) e (elementsFrom F i 4 w)
         (words-few i 4)
 
     cond-few : (N : ℕ) (b : Bool) (u v : List K) → length u ≤ N → length v ≤ N → length (cond b u v) ≤ N
@@ -163,32 +163,32 @@ module _ (F : Field) where
           arith,
           bad-few (innerCells F) 2 (λ a b. omega arith)
               (record { tops = 0; lows = suc (R .logHalf); cells = zipInner F (combo F R rb rf al) (folded F R x ws sh) }) e
-              (words F (8 * s + 4 * R .bin .logRows + 4 * R .fld .logRows + 6 + 3 * length e) 3 w)
+              (elementsFrom F (8 * s + 4 * R .bin .logRows + 4 * R .fld .logRows + 6 + 3 * length e) 3 w)
               (words-few (8 * s + 4 * R .bin .logRows + 4 * R .fld .logRows + 6 + 3 * length e) 3),
         )
 
   module _ (L : Laws F) (R : Relation F) (x : List K) (ws : List (List K)) (w : List K) (D : Draws F) (S : Sizes F R x ws D) where
     -- where message i of a part stands
-    message : (c st n i o o′ : ℕ) → i < c → o + i * st ≡ o′ → getD (rounds F c st n (drop o w)) i [] ≡ words F o′ n w
+    message : (c st n i o o′ : ℕ) → i < c → o + i * st ≡ o′ → getD (rounds F c st n (drop o w)) i [] ≡ elementsFrom F o′ n w
     message c st n i o o′ h e = at-rounds c st n i (drop o w) h ∙ ap (take n) (drop-drop (i * st) o w ∙ ap (λ (k : ℕ). drop k w) e)
 
     shared-part : (Y : System F) (taus : List K) (rows o : ℕ)
         → DrawInList F (λ e. outer F (length (D .shared)) R x ws w Y taus rows e
         (getD (rounds F (length (D .shared)) 8 4 (drop o w)) (length e) [])) (D .shared)
-        → DrawInList F (λ e. outer F (length (D .shared)) R x ws w Y taus rows e (words F (8 * length e + o) 4 w)) (D .shared)
+        → DrawInList F (λ e. outer F (length (D .shared)) R x ws w Y taus rows e (elementsFrom F (8 * length e + o) 4 w)) (D .shared)
     shared-part Y taus rows o = hit-map (λ e. outer F (length (D .shared)) R x ws w Y taus rows e
         (getD (rounds F (length (D .shared)) 8 4 (drop o w)) (length e) []))
-        (λ e. outer F (length (D .shared)) R x ws w Y taus rows e (words F (8 * length e + o) 4 w)) (D .shared)
+        (λ e. outer F (length (D .shared)) R x ws w Y taus rows e (elementsFrom F (8 * length e + o) 4 w)) (D .shared)
         (λ p h. ap (outer F (length (D .shared)) R x ws w Y taus rows p)
         (message (length (D .shared)) 8 4 (length p) o (8 * length p + o) h (omega arith)))
 
     row-part : (Y : System F) (taus r : List K) (rows o : ℕ) → length r ≡ rows
         → DrawInList F (λ e. outer F (length (D .shared)) R x ws w Y taus rows (D .shared ++ e)
         (getD (rounds F rows 4 4 (drop o w)) (length e) [])) r
-        → DrawInList F (λ e. outer F (length (D .shared)) R x ws w Y taus rows (D .shared ++ e) (words F (o + 4 * length e) 4 w)) r
+        → DrawInList F (λ e. outer F (length (D .shared)) R x ws w Y taus rows (D .shared ++ e) (elementsFrom F (o + 4 * length e) 4 w)) r
     row-part Y taus r rows o l = hit-map (λ e. outer F (length (D .shared)) R x ws w Y taus rows (D .shared ++ e)
         (getD (rounds F rows 4 4 (drop o w)) (length e) []))
-        (λ e. outer F (length (D .shared)) R x ws w Y taus rows (D .shared ++ e) (words F (o + 4 * length e) 4 w)) r
+        (λ e. outer F (length (D .shared)) R x ws w Y taus rows (D .shared ++ e) (elementsFrom F (o + 4 * length e) 4 w)) r
         (λ p h. ap (outer F (length (D .shared)) R x ws w Y taus rows (D .shared ++ p))
         (message rows 4 4 (length p) o (o + 4 * length p) (omega arith) (omega arith)))
 
@@ -202,8 +202,8 @@ module _ (F : Field) where
     parts : (Y : System F) (taus r : List K) (o o′ : ℕ) → length r ≡ Y .logRows
         → BadChallenge F (tableRounds F (outerCells F)) (begin F Y taus (vectors F ws x) (length (D .shared)) (length r))
         (rounds F (length (D .shared)) 8 4 (drop o w) ++ rounds F (Y .logRows) 4 4 (drop o′ w)) (D .shared ++ r)
-        → DrawInList F (λ e. outer F (length (D .shared)) R x ws w Y taus (Y .logRows) e (words F (8 * length e + o) 4 w)) (D .shared)
-        ⊎ DrawInList F (λ e. outer F (length (D .shared)) R x ws w Y taus (Y .logRows) (D .shared ++ e) (words F (o′ + 4 * length e) 4 w)) r
+        → DrawInList F (λ e. outer F (length (D .shared)) R x ws w Y taus (Y .logRows) e (elementsFrom F (8 * length e + o) 4 w)) (D .shared)
+        ⊎ DrawInList F (λ e. outer F (length (D .shared)) R x ws w Y taus (Y .logRows) (D .shared ++ e) (elementsFrom F (o′ + 4 * length e) 4 w)) r
     unfolding outer
     parts Y taus r o o′ l t = go (split (badChallenges F (tableRounds F (outerCells F))
         (begin F Y taus (vectors F ws x) (length (D .shared)) (Y .logRows))) (D .shared) r (rounds F (length (D .shared)) 8 4 (drop o w))
@@ -215,16 +215,16 @@ module _ (F : Field) where
             (getD (rounds F (length (D .shared)) 8 4 (drop o w)) (length e) [])) (D .shared)
             ⊎ DrawInList F (λ e. outer F (length (D .shared)) R x ws w Y taus (Y .logRows) (D .shared ++ e)
             (getD (rounds F (Y .logRows) 4 4 (drop o′ w)) (length e) [])) r
-            → DrawInList F (λ e. outer F (length (D .shared)) R x ws w Y taus (Y .logRows) e (words F (8 * length e + o) 4 w)) (D .shared)
+            → DrawInList F (λ e. outer F (length (D .shared)) R x ws w Y taus (Y .logRows) e (elementsFrom F (8 * length e + o) 4 w)) (D .shared)
             ⊎ DrawInList F (λ e. outer F (length (D .shared)) R x ws w Y taus (Y .logRows) (D .shared ++ e)
-            (words F (o′ + 4 * length e) 4 w)) r
+            (elementsFrom F (o′ + 4 * length e) 4 w)) r
         go (inl h) = inl (shared-part Y taus (Y .logRows) o h)
         go (inr h) = inr (row-part Y taus r (Y .logRows) o′ l h)
 
     inner-part : (t : List (InnerCell F)) (n o : ℕ) (e : List K) → length e ≡ n
         → BadChallenge F (tableRounds F (innerCells F)) (record { tops = 0; lows = length e; cells = t }) (rounds F n 3 3 (drop o w)) e
         → DrawInList F (λ p. badChallenges F (tableRounds F (innerCells F)) (record { tops = 0; lows = n; cells = t }) p
-        (words F (o + 3 * length p) 3 w)) e
+        (elementsFrom F (o + 3 * length p) 3 w)) e
     inner-part t n o e l (i, k, m) = (
       i,
       k,
@@ -242,30 +242,30 @@ module _ (F : Field) where
     at b e h = subst (λ (c : Bool). DrawInList F (listsOf F (length (D .shared)) R x ws w c) (drawn F D)) (sym e) h
 
     -- the draws of the seven parts, each in its place
-    place : Bad F R x ws D (wordsOf F (length (D .shared)) R w) → DrawInList F (lists F (length (D .shared)) R x ws w) (drawn F D)
+    place : Bad F R x ws D (proofOf F (length (D .shared)) R w) → DrawInList F (lists F (length (D .shared)) R x ws w) (drawn F D)
     unfolding listsOf
     place (tau-bin b t) = at false b (hit-inside _ _ _ (D .tauBin) _ tb-size t)
     place (tau-fld b t) = at true b (hit-after _ _ _ (D .tauBin) _ tb-size (hit-inside _ _ _ (D .tauFld) _ tf-size t))
     place (round-bin b t) = at false b (go (parts (R .bin) (D .tauBin) (D .rowBin) 0 (8 * length (D .shared)) (S .rows-bin) t))
       where
-        go : DrawInList F (λ e. outer F (length (D .shared)) R x ws w (R .bin) (D .tauBin) (R .bin .logRows) e (words F (8 * length e + 0) 4 w))
+        go : DrawInList F (λ e. outer F (length (D .shared)) R x ws w (R .bin) (D .tauBin) (R .bin .logRows) e (elementsFrom F (8 * length e + 0) 4 w))
             (D .shared) ⊎ DrawInList F (λ e. outer F (length (D .shared)) R x ws w (R .bin) (D .tauBin) (R .bin .logRows) (D .shared ++ e)
-            (words F (8 * length (D .shared) + 4 * length e) 4 w)) (D .rowBin)
+            (elementsFrom F (8 * length (D .shared) + 4 * length e) 4 w)) (D .rowBin)
             → DrawInList F (listsOf F (length (D .shared)) R x ws w false) (drawn F D)
         go (inl h) = hit-after _ _ _ (D .tauBin) _ tb-size (hit-after _ _ _ (D .tauFld) _ tf-size (hit-inside _ _ _ (D .shared) _ refl
-            (hit-map (λ e. outer F (length (D .shared)) R x ws w (R .bin) (D .tauBin) (R .bin .logRows) e (words F (8 * length e + 0) 4 w))
-            (λ e. outer F (length (D .shared)) R x ws w (R .bin) (D .tauBin) (R .bin .logRows) e (words F (8 * length e) 4 w))
+            (hit-map (λ e. outer F (length (D .shared)) R x ws w (R .bin) (D .tauBin) (R .bin .logRows) e (elementsFrom F (8 * length e + 0) 4 w))
+            (λ e. outer F (length (D .shared)) R x ws w (R .bin) (D .tauBin) (R .bin .logRows) e (elementsFrom F (8 * length e) 4 w))
             (D .shared)
-            (λ p q. ap (λ (k : ℕ). outer F (length (D .shared)) R x ws w (R .bin) (D .tauBin) (R .bin .logRows) p (words F k 4 w))
+            (λ p q. ap (λ (k : ℕ). outer F (length (D .shared)) R x ws w (R .bin) (D .tauBin) (R .bin .logRows) p (elementsFrom F k 4 w))
             (add-zero (8 * length p))) h)))
         go (inr h) = hit-after _ _ _ (D .tauBin) _ tb-size
             (hit-after _ _ _ (D .tauFld) _ tf-size (hit-after _ _ _ (D .shared) _ refl (hit-inside _ _ _ (D .rowBin) _ (S .rows-bin) h)))
     place (round-fld b t) = at true b (go (parts (R .fld) (D .tauFld) (D .rowFld) 4 (8 * length (D .shared) + 4 * R .bin .logRows)
         (S .rows-fld) t))
       where
-        go : DrawInList F (λ e. outer F (length (D .shared)) R x ws w (R .fld) (D .tauFld) (R .fld .logRows) e (words F (8 * length e + 4) 4 w))
+        go : DrawInList F (λ e. outer F (length (D .shared)) R x ws w (R .fld) (D .tauFld) (R .fld .logRows) e (elementsFrom F (8 * length e + 4) 4 w))
             (D .shared) ⊎ DrawInList F (λ e. outer F (length (D .shared)) R x ws w (R .fld) (D .tauFld) (R .fld .logRows) (D .shared ++ e)
-            (words F (8 * length (D .shared) + 4 * R .bin .logRows + 4 * length e) 4 w)) (D .rowFld)
+            (elementsFrom F (8 * length (D .shared) + 4 * R .bin .logRows + 4 * length e) 4 w)) (D .rowFld)
             → DrawInList F (listsOf F (length (D .shared)) R x ws w true) (drawn F D)
         go (inl h) = hit-after _ _ _ (D .tauBin) _ tb-size (hit-after _ _ _ (D .tauFld) _ tf-size (hit-inside _ _ _ (D .shared) _ refl h))
         go (inr h) = hit-after _ _ _ (D .tauBin) _ tb-size
@@ -280,14 +280,14 @@ module _ (F : Field) where
         (hit-after _ _ _ (D .rowBin) _ (S .rows-bin) (hit-after _ _ _ (D .rowFld) _ (S .rows-fld)
         (hit-after _ _ _ (D .alpha) _ (S .six-alphas) (inner-part _ _ _ (inner F D) inner-size t))))))
 
-    pub flat-sound : Accepted F R x D (wordsOf F (length (D .shared)) R w) → (wordsOf F (length (D .shared)) R w) .values
+    pub flat-sound : Accepted F R x D (proofOf F (length (D .shared)) R w) → (proofOf F (length (D .shared)) R w) .values
         ≡ map (trueValue F D ws) (R .segs)
         → (Zeros F (residues F (R .bin) (vectors F ws x)) × Zeros F (residues F (R .fld) (vectors F ws x)))
         ⊎ DrawInList F (lists F (length (D .shared)) R x ws w) (drawn F D)
-    flat-sound H T = go (whole-sound F L R x ws D S (wordsOf F (length (D .shared)) R w) H T)
+    flat-sound H T = go (whole-sound F L R x ws D S (proofOf F (length (D .shared)) R w) H T)
       where
         go : (Zeros F (residues F (R .bin) (vectors F ws x)) × Zeros F (residues F (R .fld) (vectors F ws x)))
-            ⊎ Bad F R x ws D (wordsOf F (length (D .shared)) R w)
+            ⊎ Bad F R x ws D (proofOf F (length (D .shared)) R w)
             → (Zeros F (residues F (R .bin) (vectors F ws x)) × Zeros F (residues F (R .fld) (vectors F ws x)))
             ⊎ DrawInList F (lists F (length (D .shared)) R x ws w) (drawn F D)
         go (inl z) = inl z

@@ -26,7 +26,7 @@ use Rattle.magnetar_theory.specs.Inner.{zipInner}
 use Rattle.magnetar_theory.proofs.Inner.{inner-sound, inner-complete}
 use Rattle.magnetar_theory.specs.Segment.{Segment, segmentPart}
 use Rattle.magnetar_theory.proofs.Segment.{bySegments, segments, halves, eq-total}
-use Rattle.magnetar_theory.specs.Run.{System, Relation, vectors, table, residues, begin, Draws, Words, inner, terminals, six, segSum, Accepted, trueValue, AllLaid, Sizes, trueTerminals, combo, folded, binGood, honestWords}
+use Rattle.magnetar_theory.specs.Run.{System, Relation, vectors, table, residues, begin, Draws, Proof, inner, terminals, six, segSum, Accepted, trueValue, AllZeroOutside, Sizes, trueTerminals, combo, folded, binGood, honestProof}
 
 module _ (F : Field) where
   open Field F using (K, 𝟎, 𝟏, _⊕_, _⊗_)
@@ -34,7 +34,7 @@ module _ (F : Field) where
   infixl 60 _⊕_
   infixl 70 _⊗_
   -- a draw is in its list
-  pub data Bad (R : Relation F) (x : List K) (ws : List (List K)) (D : Draws F) (W : Words F) : Type 0 where
+  pub data Bad (R : Relation F) (x : List K) (ws : List (List K)) (D : Draws F) (W : Proof F) : Type 0 where
     tau-bin : binGood F R x ws ≡ false → BadTau F (residues F (R .bin) (vectors F ws x)) (D .tauBin) → Bad R x ws D W
     tau-fld : binGood F R x ws ≡ true → BadTau F (residues F (R .fld) (vectors F ws x)) (D .tauFld) → Bad R x ws D W
     round-bin : binGood F R x ws ≡ false → BadChallenge F (tableRounds F (outerCells F)) (begin F (R .bin) (D .tauBin) (vectors F ws x)
@@ -95,7 +95,7 @@ module _ (F : Field) where
         ∙ ap (λ (v : K). getD (eqTable F (drop (g .logLen) r)) (g .number) 𝟎 ⊗ dot F es
         (map (λ (w : List K). dot F (eqTable F (take (g .logLen) r)) (segmentPart F g w)) ws) ⊕ v) (sums gs r es ws)
 
-    by-login : (n : ℕ) (gs : List Segment) (r es : List K) (ws : List (List K)) → 2 ^ length r ≡ n → AllLaid F n gs ws
+    by-login : (n : ℕ) (gs : List Segment) (r es : List K) (ws : List (List K)) → 2 ^ length r ≡ n → AllZeroOutside F n gs ws
         → dot F es (map (λ (w : List K). dot F (eqTable F r) w) ws) ≡ dot F es (map (λ (w : List K). bySegments F gs r w) ws)
     by-login n gs r [] ws h l = refl
     by-login n gs r (e ∷ es) [] h l = refl
@@ -215,7 +215,7 @@ module _ (F : Field) where
           (table-size Y (Y .B) r h ∙ sym (table-size Y (Y .A) r h)) (table-size Y (Y .C) r h ∙ sym (table-size Y (Y .A) r h)) k ms ch
           (e ∙ (λ i. eqProduct F taus (r ++ reverse (D .shared)) ⊗ (p i ⊗ q i ⊕ s i)))
 
-      module _ (W : Words F) (H : Accepted F R x D W) (T : W .values ≡ map (trueValue F D ws) (R .segs)) where
+      module _ (W : Proof F) (H : Accepted F R x D W) (T : W .values ≡ map (trueValue F D ws) (R .segs)) where
         vz-true : dot F (eqTable F (inner F D)) (folded F R x ws (D .shared)) ≡ W .vz
         vz-true = at-end ∙ ap (λ (v : List K). (𝟏 ⊕ D .last) ⊗ segSum F (R .segs) (D .low) v ⊕ D .last ⊗ dot F (eqTable F (D .low)) x)
             (sym T) ∙ sym (H .identity)
@@ -302,7 +302,7 @@ module _ (F : Field) where
 
       -- a good batch: the honest proof is accepted
       pub whole-complete : Zeros F (residues F (R .bin) (vectors F ws x)) → Zeros F (residues F (R .fld) (vectors F ws x))
-          → Accepted F R x D (honestWords F R x ws D)
+          → Accepted F R x D (honestProof F R x ws D)
       whole-complete zb zf = record {
         bin-rounds = (system-complete (R .bin) (D .tauBin) (D .rowBin) (S .rows-bin) (S .taus-bin) zb) .0;
         fld-rounds = (system-complete (R .fld) (D .tauFld) (D .rowFld) (S .rows-fld) (S .taus-fld) zf) .0;
@@ -314,9 +314,9 @@ module _ (F : Field) where
       }
         where
           ic : Checks F (dot F (combo F R (D .rowBin) (D .rowFld) (D .alpha)) (folded F R x ws (D .shared)))
-              (honestWords F R x ws D .innerMs) (inner F D)
+              (honestProof F R x ws D .innerMs) (inner F D)
               × (running F (dot F (combo F R (D .rowBin) (D .rowFld) (D .alpha)) (folded F R x ws (D .shared)))
-              (honestWords F R x ws D .innerMs) (inner F D)
+              (honestProof F R x ws D .innerMs) (inner F D)
               ≡ dot F (eqTable F (inner F D)) (combo F R (D .rowBin) (D .rowFld) (D .alpha)) ⊗ dot F (eqTable F (inner F D))
               (folded F R x ws (D .shared)))
           ic = inner-complete F L (combo F R (D .rowBin) (D .rowFld) (D .alpha)) (folded F R x ws (D .shared)) (inner F D)

@@ -15,7 +15,7 @@ use Rattle.magnetar_theory.specs.EqTable.{eqTable, spread, dot, scale}
 use Rattle.magnetar_theory.proofs.EqTable.{dot-nil, length-scale, length-eqTable, dot-append, eqTable-snoc}
 use Rattle.magnetar_theory.proofs.Matrix.{blocks, eqTable-append, dot-scale-left}
 use Rattle.magnetar_theory.proofs.Outer.{dot-zeros}
-use Rattle.magnetar_theory.specs.Segment.{Segment, offset, after, Laid, segmentPart}
+use Rattle.magnetar_theory.specs.Segment.{Segment, offset, after, ZeroOutside, segmentPart}
 
 fits : (v b n : ℕ) → b * 2 ^ v + 2 ^ v ≤ 2 ^ n → (v ≤ n) × (b < 2 ^ (n - v))
 fits zero b n h = (omega arith, rw sub-zero (omega arith))
@@ -78,7 +78,7 @@ module _ (F : Field) where
     segment-dot g r w h k = ap (λ (e : List K). dot F e (segmentPart F g w)) (segment-eq g r h k)
         ∙ dot-scale-left F L (getD (eqTable F (drop (g .logLen) r)) (g .number) 𝟎) (eqTable F (take (g .logLen) r)) (segmentPart F g w)
 
-    pub segments : (gs : List Segment) (c : ℕ) (r w : List K) → Laid F c (2 ^ length r) gs w → dot F (drop c (eqTable F r)) (drop c w)
+    pub segments : (gs : List Segment) (c : ℕ) (r w : List K) → ZeroOutside F c (2 ^ length r) gs w → dot F (drop c (eqTable F r)) (drop c w)
         ≡ bySegments gs r w
     segments [] c r w z = dot-zeros F L (drop c (eqTable F r)) (drop c w) z
     segments (g ∷ gs) c r w (p, q, z, l) = step gap here (segments gs (after g) r w l)

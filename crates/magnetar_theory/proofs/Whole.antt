@@ -5,9 +5,9 @@ use mathlib.Core.List.{List, map}
 use mathlib.Core.Logic.{_⊎_, inl, inr}
 use Prim.Native.Nat.{ℕ, _≤_}
 use lib.ListN.{length}
-use Rattle.magnetar_theory.specs.Run.{Relation, Draws, Sizes, Accepted, trueValue, honestWords}
+use Rattle.magnetar_theory.specs.Run.{Relation, Draws, Sizes, Accepted, trueValue, honestProof}
 use Rattle.magnetar_theory.proofs.Run.{whole-complete}
-use Rattle.magnetar_theory.specs.Lists.{lists, wordsOf, DrawInList, drawn}
+use Rattle.magnetar_theory.specs.Lists.{lists, proofOf, DrawInList, drawn}
 use Rattle.magnetar_theory.proofs.Lists.{few-lists, flat-sound, hit-map}
 use Rattle.magnetar_theory.proofs.Absorbed.{absorbed-lists}
 use Rattle.magnetar_theory.specs.Gf128.{Element, gf128}
@@ -20,8 +20,8 @@ module _ (R : Relation gf128) (x : List Element) (ws : List (List Element)) wher
   list-sizes s w p = few-lists gf128 gf128Laws s R x ws w p
 
   -- an accepted run whose segment values are true: the batch is good, or some draw is in its list
-  pub sound : (w : List Element) (D : Draws gf128) → Sizes gf128 R x ws D → Accepted gf128 R x D (wordsOf gf128 (length (D .shared)) R w)
-      → (wordsOf gf128 (length (D .shared)) R w) .values ≡ map (trueValue gf128 D ws) (R .segs)
+  pub sound : (w : List Element) (D : Draws gf128) → Sizes gf128 R x ws D → Accepted gf128 R x D (proofOf gf128 (length (D .shared)) R w)
+      → (proofOf gf128 (length (D .shared)) R w) .values ≡ map (trueValue gf128 D ws) (R .segs)
       → Good R x ws ⊎ DrawInList gf128 (listOf R x ws (length (D .shared)) w) (drawn gf128 D)
   sound w D S H T = go (flat-sound gf128 gf128Laws R x ws w D S H T)
     where
@@ -32,5 +32,5 @@ module _ (R : Relation gf128) (x : List Element) (ws : List (List Element)) wher
           (λ p q. sym (absorbed-lists gf128 (length (D .shared)) R x ws w p)) h)
 
   -- the honest proof of a good batch is accepted
-  pub complete : (D : Draws gf128) (S : Sizes gf128 R x ws D) → Good R x ws → Accepted gf128 R x D (honestWords gf128 R x ws D)
+  pub complete : (D : Draws gf128) (S : Sizes gf128 R x ws D) → Good R x ws → Accepted gf128 R x D (honestProof gf128 R x ws D)
   complete D S g = whole-complete gf128 gf128Laws R x ws D S (g .0) (g .1)

@@ -14,7 +14,7 @@ use Rattle.magnetar_theory.specs.Cells.{outerCells, innerCells}
 use Rattle.magnetar_theory.specs.Tau.{tauList}
 use Rattle.magnetar_theory.specs.Alpha.{alphaList}
 use Rattle.magnetar_theory.specs.Inner.{zipInner}
-use Rattle.magnetar_theory.specs.Run.{Relation, System, Draws, Words, binGood, vectors, residues, begin, trueTerminals, combo, folded, inner}
+use Rattle.magnetar_theory.specs.Run.{Relation, System, Draws, Proof, binGood, vectors, residues, begin, trueTerminals, combo, folded, inner}
 
 module _ (F : Field) where
   open Field F using (K, 𝟎, 𝟏, _⊕_, _⊗_)
@@ -28,8 +28,8 @@ module _ (F : Field) where
   DrawInList lists d = (k : ℕ) × (k < length d) × List·Memᴰ (getD d k 𝟎) (lists (take k d))
 
   -- n elements of the proof from i on
-  abbrev pub words : ℕ → ℕ → List K → List K
-  words i n w = take n (drop i w)
+  abbrev pub elementsFrom : ℕ → ℕ → List K → List K
+  elementsFrom i n w = take n (drop i w)
 
   -- the six elements from i on
   abbrev pub sixAt : ℕ → List K → List K
@@ -48,18 +48,18 @@ module _ (F : Field) where
         λ tb. section (R .fld .logRows + s) (λ e. cond good (tauList F (residues F (R .fld) (vectors F ws x)) e) [])
         -- the shared rounds: in each the message of the first system, then that of the second
         λ tf. section s
-        (λ e. cond good (outer (R .fld) tf (R .fld .logRows) e (words (8 * length e + 4) 4 w)) (outer (R .bin) tb (R .bin .logRows) e (words (8 * length e) 4 w)))
+        (λ e. cond good (outer (R .fld) tf (R .fld .logRows) e (elementsFrom (8 * length e + 4) 4 w)) (outer (R .bin) tb (R .bin .logRows) e (elementsFrom (8 * length e) 4 w)))
         -- the row rounds of the first system, then those of the second
         λ sh. section (R .bin .logRows)
-        (λ e. cond good [] (outer (R .bin) tb (R .bin .logRows) (sh ++ e) (words (8 * s + 4 * length e) 4 w)))
+        (λ e. cond good [] (outer (R .bin) tb (R .bin .logRows) (sh ++ e) (elementsFrom (8 * s + 4 * length e) 4 w)))
         λ rb. section (R .fld .logRows)
-        (λ e. cond good (outer (R .fld) tf (R .fld .logRows) (sh ++ e) (words (8 * s + 4 * R .bin .logRows + 4 * length e) 4 w)) [])
+        (λ e. cond good (outer (R .fld) tf (R .fld .logRows) (sh ++ e) (elementsFrom (8 * s + 4 * R .bin .logRows + 4 * length e) 4 w)) [])
         -- alpha
         λ rf. section 6 (alphaList F (sixAt (8 * s + 4 * R .bin .logRows + 4 * R .fld .logRows) w) (trueTerminals F R x ws sh rb rf))
         -- the inner rounds
         λ al e. badChallenges F (tableRounds F (innerCells F))
         (record { tops = 0; lows = suc (R .logHalf); cells = zipInner F (combo F R rb rf al) (folded F R x ws sh) }) e
-        (words (8 * s + 4 * R .bin .logRows + 4 * R .fld .logRows + 6 + 3 * length e) 3 w)
+        (elementsFrom (8 * s + 4 * R .bin .logRows + 4 * R .fld .logRows + 6 + 3 * length e) 3 w)
 
     -- the list of the draw that comes after the given draws; where the batch keeps the first system, the lists follow the second
     abbrev pub lists : List K → List K
@@ -71,8 +71,8 @@ module _ (F : Field) where
   rounds (suc c) st n w = take n w ∷ rounds c st n (drop st w)
 
   -- the proof taken apart
-  abbrev pub wordsOf : ℕ → Relation F → List K → Words F
-  wordsOf s R w = record {
+  abbrev pub proofOf : ℕ → Relation F → List K → Proof F
+  proofOf s R w = record {
     binMs = rounds s 8 4 w ++ rounds (R .bin .logRows) 4 4 (drop (8 * s) w);
     fldMs = rounds s 8 4 (drop 4 w) ++ rounds (R .fld .logRows) 4 4 (drop (8 * s + 4 * R .bin .logRows) w);
     ab = getD w (8 * s + 4 * R .bin .logRows + 4 * R .fld .logRows) 𝟎;

@@ -16,7 +16,7 @@ use Rattle.magnetar_theory.specs.EqTable.{eqTable, dot, eqProduct}
 use Rattle.magnetar_theory.specs.Matrix.{Entry, applyAll, columns, fold, AllLength}
 use Rattle.magnetar_theory.specs.Outer.{rowValues, start}
 use Rattle.magnetar_theory.specs.Inner.{zipInner}
-use Rattle.magnetar_theory.specs.Segment.{Segment, Laid, segmentPart}
+use Rattle.magnetar_theory.specs.Segment.{Segment, ZeroOutside, segmentPart}
 
 module _ (F : Field) where
   open Field F using (K, 𝟎, 𝟏, _⊕_, _⊗_)
@@ -66,7 +66,7 @@ module _ (F : Field) where
 
   -- a proof: the messages of both outer sum-checks, the terminals of both systems, the inner messages, v_z, the segment
   -- values
-  pub record Words : Type 0 where
+  pub record Proof : Type 0 where
     pub binMs : List (List K)
     pub fldMs : List (List K)
     pub ab : K
@@ -84,7 +84,7 @@ module _ (F : Field) where
   inner D = D .low ++ (D .last ∷ [])
 
   -- the six claimed terminal values
-  abbrev pub terminals : Words → List K
+  abbrev pub terminals : Proof → List K
   terminals W = W .ab ∷ W .bb ∷ W .cb ∷ W .af ∷ W .bf ∷ W .cf ∷ []
 
   -- the six tables of column sums
@@ -103,7 +103,7 @@ module _ (F : Field) where
   segSum (g ∷ gs) r (v ∷ vs) = getD (eqTable F (drop (g .logLen) r)) (g .number) 𝟎 ⊗ v ⊕ segSum gs r vs
 
   -- the verifier's tests
-  pub record Accepted (R : Relation) (x : List K) (D : Draws) (W : Words) : Type 0 where
+  pub record Accepted (R : Relation) (x : List K) (D : Draws) (W : Proof) : Type 0 where
     pub bin-rounds : Checks F 𝟎 (W .binMs) (D .shared ++ D .rowBin)
     pub fld-rounds : Checks F 𝟎 (W .fldMs) (D .shared ++ D .rowFld)
     pub bin-terminal : running F 𝟎 (W .binMs) (D .shared ++ D .rowBin)
@@ -121,16 +121,16 @@ module _ (F : Field) where
       (map (λ (w : List K). dot F (eqTable F (take (g .logLen) (D .low))) (segmentPart F g w)) ws)
 
   -- every vector is zero outside the segments
-  abbrev pub AllLaid : ℕ → List Segment → List (List K) → Type 0
-  AllLaid n gs [] = Unit {0}
-  AllLaid n gs (w ∷ ws) = Laid F 0 n gs w × AllLaid n gs ws
+  abbrev pub AllZeroOutside : ℕ → List Segment → List (List K) → Type 0
+  AllZeroOutside n gs [] = Unit {0}
+  AllZeroOutside n gs (w ∷ ws) = ZeroOutside F 0 n gs w × AllZeroOutside n gs ws
 
   -- the sizes that the refusals 1 to 16 leave, with as many rows of bits as logins, each of the first half's length; and that every row is
   -- zero outside the segments (`laid`), which no refusal tests
   pub record Sizes (R : Relation) (x : List K) (ws : List (List K)) (D : Draws) : Type 0 where
     pub logins : length ws ≡ 2 ^ length (D .shared)
     pub row-lengths : AllLength F (2 ^ R .logHalf) ws
-    pub laid : AllLaid (2 ^ R .logHalf) (R .segs) ws
+    pub laid : AllZeroOutside (2 ^ R .logHalf) (R .segs) ws
     pub public : length x ≡ 2 ^ R .logHalf
     pub rows-bin : length (D .rowBin) ≡ R .bin .logRows
     pub rows-fld : length (D .rowFld) ≡ R .fld .logRows
@@ -162,8 +162,8 @@ module _ (F : Field) where
 
   module _ (R : Relation) (x : List K) (ws : List (List K)) (D : Draws) where
     -- the honest prover's proof
-    abbrev pub honestWords : Words
-    honestWords = record {
+    abbrev pub honestProof : Proof
+    honestProof = record {
       binMs = honest F (tableRounds F (outerCells F)) (begin (R .bin) (D .tauBin) (vectors ws x) (length (D .shared)) (length (D .rowBin)))
           (D .shared ++ D .rowBin);
       fldMs = honest F (tableRounds F (outerCells F)) (begin (R .fld) (D .tauFld) (vectors ws x) (length (D .shared)) (length (D .rowFld)))

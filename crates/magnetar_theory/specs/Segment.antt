@@ -26,9 +26,9 @@ module _ (F : Field) where
   infixl 60 _⊕_
   infixl 70 _⊗_
   -- the segments stand in order from c on, below n; outside them w is zero
-  abbrev pub Laid : ℕ → ℕ → List Segment → List K → Type 0
-  Laid c n [] w = Zeros F (drop c w)
-  Laid c n (g ∷ gs) w = (c ≤ offset g) × (after g ≤ n) × Zeros F (take (offset g - c) (drop c w)) × Laid (after g) n gs w
+  abbrev pub ZeroOutside : ℕ → ℕ → List Segment → List K → Type 0
+  ZeroOutside c n [] w = Zeros F (drop c w)
+  ZeroOutside c n (g ∷ gs) w = (c ≤ offset g) × (after g ≤ n) × Zeros F (take (offset g - c) (drop c w)) × ZeroOutside (after g) n gs w
 
   -- the entries of a segment
   abbrev pub segmentPart : Segment → List K → List K

@@ -17,9 +17,9 @@ use Rattle.magnetar_field.proofs.Tabulation.{tabulate-of}
 use Rattle.magnetar_sumcheck_verifier.specs.Order.{placeOf}
 use Rattle.magnetar_sumcheck_prover.proofs.EqFactor.{point-at, length-point}
 use Rattle.magnetar_matrix.specs.Batch.{Relation}
-use Rattle.magnetar_layout.specs.Tests.{Tests, noted}
-use Rattle.magnetar_layout.proofs.Noted.{noted-front, noted-rest}
-use Rattle.magnetar_protocol.specs.Shape.{logLogins, logBin, logFld, logCols, beforeEnd, proofTotal, proofElements, claimCount, outline}
+use Rattle.magnetar_layout.specs.Tests.{Tests, firstRefusal}
+use Rattle.magnetar_layout.proofs.FirstRefusal.{first-refusal-front, first-refusal-rest}
+use Rattle.magnetar_protocol.specs.Shape.{logLogins, logBin, logFld, logCols, beforeEnd, proofTotal, proofElements, claimCount, sizesOnly}
 use Rattle.magnetar_protocol.specs.Proof.{part, segmentValues}
 use Rattle.magnetar_protocol.specs.Draws.{drawTotal, drawCount, drawsOf, loginPoint, lowPoint}
 use Rattle.magnetar_protocol.specs.RunTests.{outlineTests}
@@ -98,28 +98,28 @@ module _ (r : Relation) (w d : List ℕ) (long : drawCount r ≤ length d) (exac
 -- ---- the answer
 module _ (m q rb rf : ℕ) (ns p d out : List ℕ) where
   abbrev later : Tests
-  later = wordTests (log₂ q) (log₂ rb) (log₂ rf) (log₂ m) (length ns) (length p) (length d) (2 * claimCount (outline m q rb rf ns)) (length out)
+  later = wordTests (log₂ q) (log₂ rb) (log₂ rf) (log₂ m) (length ns) (length p) (length d) (2 * claimCount (sizesOnly m q rb rf ns)) (length out)
 
   -- a size or the layout refuses
-  size-is : (z : ℕ) → z ≡ noted 0 (outlineTests m q rb rf ns) → (z ≡ 0 → ⊥) → z ≡ claimsRefusal m q rb rf ns p d out
+  size-is : (z : ℕ) → z ≡ firstRefusal 0 (outlineTests m q rb rf ns) → (z ≡ 0 → ⊥) → z ≡ claimsRefusal m q rb rf ns p d out
   unfolding claimsRefusal
-  size-is z e h = noted-front (outlineTests m q rb rf ns) later z e h
+  size-is z e h = first-refusal-front (outlineTests m q rb rf ns) later z e h
 
-  pub claims-size : (z : ℕ) → z ≡ noted 0 (outlineTests m q rb rf ns) → (z ≡ 0 → ⊥)
+  pub claims-size : (z : ℕ) → z ≡ firstRefusal 0 (outlineTests m q rb rf ns) → (z ≡ 0 → ⊥)
       → (z ≡ claimsRefusal m q rb rf ns p d out) × (out ≡ claimsOut m q rb rf ns p d out)
   unfolding claimsOut
   claims-size z e h = (size-is z e h, rw (← size-is z e h, ne-eqb z 0 h))
 
 module _ (m q rb rf : ℕ) (ns p d out : List ℕ) (s b f c n z : ℕ) (es : s ≡ log₂ q) (eb : b ≡ log₂ rb) (ef : f ≡ log₂ rf) (ec : c ≡ log₂ m)
     (en : n ≡ c - 1) (need : ℕ) (ew : need ≡ 2 * (s + n + length ns))
-    (ez : z ≡ noted 0 (wordTests s b f c (length ns) (length p) (length d) need (length out))) (y : ℕ)
-    (ey : y ≡ noted 0 (outlineTests m q rb rf ns)) (hy : y ≡ 0) where
+    (ez : z ≡ firstRefusal 0 (wordTests s b f c (length ns) (length p) (length d) need (length out))) (y : ℕ)
+    (ey : y ≡ firstRefusal 0 (outlineTests m q rb rf ns)) (hy : y ≡ 0) where
   same-refusal : z ≡ claimsRefusal m q rb rf ns p d out
   unfolding claimsRefusal
   same-refusal =
-      let e : noted 0 (wordTests s b f c (length ns) (length p) (length d) need (length out)) ≡ noted 0 (later m q rb rf ns p d out) =
+      let e : firstRefusal 0 (wordTests s b f c (length ns) (length p) (length d) need (length out)) ≡ firstRefusal 0 (later m q rb rf ns p d out) =
       rw (ew, en, es, eb, ef, ec) in
-      ez ∙ e ∙ sym (noted-rest (outlineTests m q rb rf ns) (later m q rb rf ns p d out) y ey hy)
+      ez ∙ e ∙ sym (first-refusal-rest (outlineTests m q rb rf ns) (later m q rb rf ns p d out) y ey hy)
 
   pub claims-refused : (z ≡ 0 → ⊥) → (z ≡ claimsRefusal m q rb rf ns p d out) × (out ≡ claimsOut m q rb rf ns p d out)
   unfolding claimsOut
@@ -138,6 +138,6 @@ module _ (m q rb rf : ℕ) (ns p d out : List ℕ) (s b f c n z : ℕ) (es : s �
       let g = claims-fit h in
       let drawn : length d ≡ 2 * drawTotal (log₂ q) (log₂ rb) (log₂ rf) (log₂ m) = rw (es, eb, ef, ec) at (g .drawn) in
       let exact : length p ≡ 2 * proofTotal (log₂ q) (log₂ rb) (log₂ rf) (log₂ m) (length ns) = rw (es, eb, ef, ec) at (g .exact) in
-      let t = claims-tabled (outline m q rb rf ns) (elements p) (elements d) (omega (arith, drawn, elements-length d))
+      let t = claims-tabled (sizesOnly m q rb rf ns) (elements p) (elements d) (omega (arith, drawn, elements-length d))
       (omega (arith, exact, elements-length p)) in
       (sym h ∙ same-refusal, rw (← same-refusal, h, t, ← es, ← eb, ← ef, ← ec, ← en) (ap (λ (l : List ℕ). l ++ drop (2 * (s + n + length ns)) out) (sym ef₀ ∙ ap words e)))

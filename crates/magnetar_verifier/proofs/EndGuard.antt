@@ -10,9 +10,9 @@ use borrow.Author.Tests.{ne-eqb}
 use Rattle.magnetar_field.specs.Sizes.{log₂}
 use Rattle.magnetar_field.specs.Words.{elements}
 use Rattle.magnetar_field.proofs.Elements.{elements-length}
-use Rattle.magnetar_layout.specs.Tests.{Tests, noted}
-use Rattle.magnetar_layout.proofs.Noted.{noted-front, noted-rest}
-use Rattle.magnetar_protocol.specs.Shape.{proofTotal, outline}
+use Rattle.magnetar_layout.specs.Tests.{Tests, firstRefusal}
+use Rattle.magnetar_layout.proofs.FirstRefusal.{first-refusal-front, first-refusal-rest}
+use Rattle.magnetar_protocol.specs.Shape.{proofTotal, sizesOnly}
 use Rattle.magnetar_protocol.specs.RunTests.{outlineTests}
 use Rattle.magnetar_protocol.proofs.Guards.{Outlined, outlined-given}
 use Rattle.magnetar_protocol.specs.declared.first.Found.{Found}
@@ -20,7 +20,7 @@ use Rattle.magnetar_protocol.specs.Found.{firstFound}
 use Rattle.magnetar_protocol.specs.Found.{nothing, after}
 use Rattle.magnetar_verifier.specs.Steps.{wordTests}
 use Rattle.magnetar_verifier.specs.EndSteps.{EndFits, endPhases}
-use Rattle.magnetar_verifier.specs.End.{endRefusal, endFound, endRoom}
+use Rattle.magnetar_verifier.specs.End.{endRefusal, endFound, endScratch}
 use Rattle.magnetar_verifier.proofs.Guards.{Given, given}
 use Rattle.magnetar_verifier.proofs.Pieces.{elements-take}
 use Rattle.magnetar_verifier.proofs.EndPhases.{cols, end-is, end-finds}
@@ -30,24 +30,24 @@ module _ (m q rb rf : ℕ) (ns p d room : List ℕ) where
   later = wordTests (log₂ q) (log₂ rb) (log₂ rf) (log₂ m) (length ns) (length p) (length d) (4 * m) (length room)
 
   -- a size or the layout refuses
-  front-is : (z : ℕ) → z ≡ noted 0 (outlineTests m q rb rf ns) → (z ≡ 0 → ⊥) → z ≡ endRefusal (outline m q rb rf ns) p d room
+  front-is : (z : ℕ) → z ≡ firstRefusal 0 (outlineTests m q rb rf ns) → (z ≡ 0 → ⊥) → z ≡ endRefusal (sizesOnly m q rb rf ns) p d room
   unfolding endRefusal
-  front-is z e h = noted-front (outlineTests m q rb rf ns) later z e h
+  front-is z e h = first-refusal-front (outlineTests m q rb rf ns) later z e h
 
-  pub end-front : (z : ℕ) → z ≡ noted 0 (outlineTests m q rb rf ns) → (z ≡ 0 → ⊥)
-      → (record { code = z; events = 0 } ≡ endFound m q rb rf ns p d room) × (room ≡ endRoom m q rb rf ns p d room)
-  unfolding endFound endRoom
+  pub end-front : (z : ℕ) → z ≡ firstRefusal 0 (outlineTests m q rb rf ns) → (z ≡ 0 → ⊥)
+      → (record { code = z; events = 0 } ≡ endFound m q rb rf ns p d room) × (room ≡ endScratch m q rb rf ns p d room)
+  unfolding endFound endScratch
   end-front z e h = (rw (← front-is z e h, ne-eqb z 0 h), rw (← front-is z e h, ne-eqb z 0 h))
 
 module _ (m q rb rf : ℕ) (ns p d room : List ℕ) (s b f c z : ℕ) (es : s ≡ log₂ q) (eb : b ≡ log₂ rb) (ef : f ≡ log₂ rf) (ec : c ≡ log₂ m)
-    (ez : z ≡ noted 0 (wordTests s b f c (length ns) (length p) (length d) (4 * m) (length room))) (y : ℕ)
-    (ey : y ≡ noted 0 (outlineTests m q rb rf ns)) (hy : y ≡ 0) where
-  same-refusal : z ≡ endRefusal (outline m q rb rf ns) p d room
+    (ez : z ≡ firstRefusal 0 (wordTests s b f c (length ns) (length p) (length d) (4 * m) (length room))) (y : ℕ)
+    (ey : y ≡ firstRefusal 0 (outlineTests m q rb rf ns)) (hy : y ≡ 0) where
+  same-refusal : z ≡ endRefusal (sizesOnly m q rb rf ns) p d room
   unfolding endRefusal
   same-refusal =
-      let e : noted 0 (wordTests s b f c (length ns) (length p) (length d) (4 * m) (length room)) ≡ noted 0 (later m q rb rf ns p d room) =
+      let e : firstRefusal 0 (wordTests s b f c (length ns) (length p) (length d) (4 * m) (length room)) ≡ firstRefusal 0 (later m q rb rf ns p d room) =
       rw (es, eb, ef, ec) in
-      ez ∙ e ∙ sym (noted-rest (outlineTests m q rb rf ns) (later m q rb rf ns p d room) y ey hy)
+      ez ∙ e ∙ sym (first-refusal-rest (outlineTests m q rb rf ns) (later m q rb rf ns p d room) y ey hy)
 
   sizes : Outlined m q rb rf ns
   sizes = outlined-given m q rb rf ns y ey hy
@@ -55,8 +55,8 @@ module _ (m q rb rf : ℕ) (ns p d room : List ℕ) (s b f c z : ℕ) (es : s �
   words : z ≡ 0 → Given s b f c (length ns) (length p) (length d) (4 * m) (length room)
   words h = given s b f c (length ns) (length p) (length d) (4 * m) (length room) z ez h
 
-  pub end-refused : (z ≡ 0 → ⊥) → (record { code = z; events = 0 } ≡ endFound m q rb rf ns p d room) × (room ≡ endRoom m q rb rf ns p d room)
-  unfolding endFound endRoom
+  pub end-refused : (z ≡ 0 → ⊥) → (record { code = z; events = 0 } ≡ endFound m q rb rf ns p d room) × (room ≡ endScratch m q rb rf ns p d room)
+  unfolding endFound endScratch
   end-refused h = (rw (← same-refusal, ne-eqb z 0 h), rw (← same-refusal, ne-eqb z 0 h))
 
   pub end-fits : z ≡ 0 → s < 64 → b < 64 → f < 64 → EndFits m s b f c ns (length p) (length d)
@@ -81,8 +81,8 @@ module _ (m q rb rf : ℕ) (ns p d room : List ℕ) (s b f c z : ℕ) (es : s �
   pub end-answered : z ≡ 0 → (r : Found) (out : List ℕ)
       → r ≡ after nothing (endPhases s b f c ns (take (m / 2) (drop m (elements (take (4 * m) room)))) (elements p) (elements d)
       (take m (elements (take (4 * m) room)))) → out ≡ replicate (4 * m) 0
-      → (r ≡ endFound m q rb rf ns p d room) × (out ++ drop (4 * m) room ≡ endRoom m q rb rf ns p d room)
-  unfolding endFound endRoom
+      → (r ≡ endFound m q rb rf ns p d room) × (out ++ drop (4 * m) room ≡ endScratch m q rb rf ns p d room)
+  unfolding endFound endScratch
   end-answered h r out e o =
       let g = words h in
       let k = cols m c (sizes .counts .columns) ec in
@@ -91,7 +91,7 @@ module _ (m q rb rf : ℕ) (ns p d room : List ℕ) (s b f c z : ℕ) (es : s �
       elements-length p ∙ rw (es, eb, ef, ec) at (halved (length p) (proofTotal s b f c (length ns)) (g .exact)) in (
         rw (← same-refusal, h) (e ∙ rw (table-in, half-in (k .even), es, eb, ef, ec)
             (end-finds (log₂ q) (log₂ rb) (log₂ rf) (log₂ m) ns half (elements p) (elements d) (take m (elements room))
-            ∙ ap firstFound (sym (end-is (outline m q rb rf ns) half (elements p) (elements d) (take m (elements room)) exact
+            ∙ ap firstFound (sym (end-is (sizesOnly m q rb rf ns) half (elements p) (elements d) (take m (elements room)) exact
             (rw ec at (k .pos)))))),
         rw (← same-refusal, h, o),
       )

@@ -11,9 +11,9 @@ use borrow.Author.Tests.{ne-eqb}
 use Rattle.magnetar_field.specs.Sizes.{log₂}
 use Rattle.magnetar_field.specs.Words.{elements}
 use Rattle.magnetar_field.proofs.Elements.{elements-length}
-use Rattle.magnetar_layout.specs.Tests.{Tests, note, noted}
-use Rattle.magnetar_layout.proofs.Noted.{noted-front, noted-rest}
-use Rattle.magnetar_protocol.specs.Shape.{proofElements, outline}
+use Rattle.magnetar_layout.specs.Tests.{Tests, orRefuse, firstRefusal}
+use Rattle.magnetar_layout.proofs.FirstRefusal.{first-refusal-front, first-refusal-rest}
+use Rattle.magnetar_protocol.specs.Shape.{proofElements, sizesOnly}
 use Rattle.magnetar_protocol.specs.Draws.{drawCount}
 use Rattle.magnetar_protocol.specs.RunTests.{outlineTests, drawTests, proofTests}
 use Rattle.magnetar_protocol.specs.declared.first.Found.{Found}
@@ -25,28 +25,28 @@ use Rattle.magnetar_verifier.proofs.OuterPhases.{outer-found}
 
 module _ (m q b f : ℕ) (ns p d : List ℕ) where
   abbrev later : Tests
-  later = drawTests (outline m q b f ns) d ++ proofTests (outline m q b f ns) p
+  later = drawTests (sizesOnly m q b f ns) d ++ proofTests (sizesOnly m q b f ns) p
 
   -- no words are asked for
-  later-is : noted 0 (wordTests (log₂ q) (log₂ b) (log₂ f) (log₂ m) (length ns) (length p) (length d) 0 0) ≡ noted 0 later
+  later-is : firstRefusal 0 (wordTests (log₂ q) (log₂ b) (log₂ f) (log₂ m) (length ns) (length p) (length d) 0 0) ≡ firstRefusal 0 later
   later-is =
-      ap (note 16 (not (eqb (length p) (2 * proofElements (outline m q b f ns)))))
-      (note-none 15 (note 11 (not (eqb (length d) (2 * drawCount (outline m q b f ns)))) 0))
+      ap (orRefuse 16 (not (eqb (length p) (2 * proofElements (sizesOnly m q b f ns)))))
+      (note-none 15 (orRefuse 11 (not (eqb (length d) (2 * drawCount (sizesOnly m q b f ns)))) 0))
 
   -- a size or the layout refuses
-  size-is : (z : ℕ) → z ≡ noted 0 (outlineTests m q b f ns) → (z ≡ 0 → ⊥) → z ≡ outerChecksRefusal (outline m q b f ns) p d
+  size-is : (z : ℕ) → z ≡ firstRefusal 0 (outlineTests m q b f ns) → (z ≡ 0 → ⊥) → z ≡ outerChecksRefusal (sizesOnly m q b f ns) p d
   unfolding outerChecksRefusal
-  size-is z e h = noted-front (outlineTests m q b f ns) later z e h
+  size-is z e h = first-refusal-front (outlineTests m q b f ns) later z e h
 
-  pub outer-size : (z : ℕ) → z ≡ noted 0 (outlineTests m q b f ns) → (z ≡ 0 → ⊥) → record { code = z; events = 0 } ≡ outerFound m q b f ns p d
+  pub outer-size : (z : ℕ) → z ≡ firstRefusal 0 (outlineTests m q b f ns) → (z ≡ 0 → ⊥) → record { code = z; events = 0 } ≡ outerFound m q b f ns p d
   unfolding outerFound
   outer-size z e h = rw (← size-is z e h, ne-eqb z 0 h)
 
   module _ (s₁ b₁ f₁ c₁ z : ℕ) (es : s₁ ≡ log₂ q) (eb : b₁ ≡ log₂ b) (ef : f₁ ≡ log₂ f) (ec : c₁ ≡ log₂ m)
-      (ez : z ≡ noted 0 (wordTests s₁ b₁ f₁ c₁ (length ns) (length p) (length d) 0 0)) (y : ℕ) (ey : y ≡ noted 0 (outlineTests m q b f ns)) (hy : y ≡ 0) where
-    same : z ≡ outerChecksRefusal (outline m q b f ns) p d
+      (ez : z ≡ firstRefusal 0 (wordTests s₁ b₁ f₁ c₁ (length ns) (length p) (length d) 0 0)) (y : ℕ) (ey : y ≡ firstRefusal 0 (outlineTests m q b f ns)) (hy : y ≡ 0) where
+    same : z ≡ outerChecksRefusal (sizesOnly m q b f ns) p d
     unfolding outerChecksRefusal
-    same = ez ∙ rw (es, eb, ef, ec) later-is ∙ sym (noted-rest (outlineTests m q b f ns) later y ey hy)
+    same = ez ∙ rw (es, eb, ef, ec) later-is ∙ sym (first-refusal-rest (outlineTests m q b f ns) later y ey hy)
 
     pub outer-refused : (z ≡ 0 → ⊥) → record { code = z; events = 0 } ≡ outerFound m q b f ns p d
     unfolding outerFound
@@ -56,7 +56,7 @@ module _ (m q b f : ℕ) (ns p d : List ℕ) where
     unfolding outerFound
     outer-answered h r e =
         rw (← same, h, e, es, eb, ef)
-        (outer-found (outline m q b f ns) (elements p) (elements d) (omega (arith, enough, elements-length d)))
+        (outer-found (sizesOnly m q b f ns) (elements p) (elements d) (omega (arith, enough, elements-length d)))
       where
         enough : length d ≡ 2 * ((log₂ q + log₂ b) + ((log₂ q + log₂ f) + (log₂ q + (log₂ b + (log₂ f + (6 + log₂ m))))))
         enough = rw (es, eb, ef, ec) at (given s₁ b₁ f₁ c₁ (length ns) (length p) (length d) 0 0 z ez h .drawn)

@@ -5,8 +5,8 @@ use mathlib.Core.List.{List, _++_}
 use Prim.Native.Nat.{ℕ}
 use Rattle.magnetar_field.specs.Words.{elements}
 use Rattle.magnetar_matrix.specs.Batch.{Relation}
-use Rattle.magnetar_layout.specs.Tests.{noted}
-use Rattle.magnetar_protocol.specs.Shape.{logLogins, outline}
+use Rattle.magnetar_layout.specs.Tests.{firstRefusal}
+use Rattle.magnetar_protocol.specs.Shape.{logLogins, sizesOnly}
 use Rattle.magnetar_protocol.specs.Draws.{Draws, drawsOf}
 use Rattle.magnetar_protocol.specs.RunTests.{outlineTests, drawTests, proofTests}
 use Rattle.magnetar_protocol.specs.Checks.{Check, sharedChecks, rowChecks, terminalChecks}
@@ -20,11 +20,11 @@ outerChecks r w D = sharedChecks r w D 0 (logLogins r) ++ (rowChecks r w D ++ te
 -- ---- `outer_checks`: a relation r by its sizes, the words of a proof and of draws
 unfoldable pub outerChecksRefusal : Relation → List ℕ → List ℕ → ℕ
 outerChecksRefusal r proof draws =
-    noted 0
+    firstRefusal 0
     (outlineTests (r .m) (r .q) (r .bin .a .rows) (r .fld .a .rows) (r .lengths) ++ (drawTests r draws ++ proofTests r proof))
 
 -- the first check that does not pass, unless a test refuses
 unfoldable pub outerFound : (m q rowsBin rowsFld : ℕ) → List ℕ → List ℕ → List ℕ → Found
 outerFound m q b f ns proof draws =
-    unlessBad (outerChecksRefusal (outline m q b f ns) proof draws)
-    (firstFound (outerChecks (outline m q b f ns) (elements proof) (drawsOf (outline m q b f ns) (elements draws))))
+    unlessBad (outerChecksRefusal (sizesOnly m q b f ns) proof draws)
+    (firstFound (outerChecks (sizesOnly m q b f ns) (elements proof) (drawsOf (sizesOnly m q b f ns) (elements draws))))

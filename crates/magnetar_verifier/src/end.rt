@@ -27,7 +27,7 @@ ghost use Rattle.magnetar_protocol.specs.Checks.{segmentSum};
 ghost use Rattle.magnetar_protocol.specs.Proof.{part};
 ghost use Rattle.magnetar_protocol.specs.Found.{nothing, after};
 ghost use Rattle.magnetar_verifier.specs.EndSteps.{identical, roundPhase, lastClaim, lowDraws, vz, alphasAt, terminalsAt, endPhases, EndFits};
-ghost use Rattle.magnetar_verifier.specs.End.{endFound, endRoom};
+ghost use Rattle.magnetar_verifier.specs.End.{endFound, endScratch};
 
 // ---- eq at a number, and the segment values.
 
@@ -180,9 +180,9 @@ fn end_phases(
     let t = table_value(room, found::piece(draws, k, c), m);
     words::clear(room);
     let y = verify::inner_finish(run.claim, t, words::get(proof, i));
-    let g = first::note(run.found, 28, y, events);
+    let g = first::refuse(run.found, 28, y, events);
     let z = identity_holds(m, lens, p, proof, draws, s, b, f, c);
-    first::note(g, 29, z, events + 1)
+    first::refuse(g, 29, z, events + 1)
 }
 
 // The checks 27 to 29 of a run over q logins with m columns, rb rows of bin and rf rows of fld, and these segment lengths, with the
@@ -202,7 +202,7 @@ pub fn end_checks(
     s: &mut [u64],
 ) -> Found
     ensures found { λ r. ⌜ r ≡ endFound m q rb rf (now (lens .entry)) (now (proof .entry)) (now (draws .entry)) (now (s .entry)) ⌝ }
-    ensures room { λ _. ⌜ now (s .exit) ≡ endRoom m q rb rf (now (lens .entry)) (now (proof .entry)) (now (draws .entry)) (now (s .entry)) ⌝ }
+    ensures room { λ _. ⌜ now (s .exit) ≡ endScratch m q rb rf (now (lens .entry)) (now (proof .entry)) (now (draws .entry)) (now (s .entry)) ⌝ }
 {
     let y = refusal::outline_refusal(m, q, rb, rf, lens);
     if y != 0 {

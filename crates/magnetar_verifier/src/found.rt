@@ -11,7 +11,7 @@ ghost use lib.ListN.{length};
 ghost use Rattle.magnetar_field.specs.Gf128.{value};
 ghost use Rattle.magnetar_field.specs.Polynomial.{eval};
 ghost use Rattle.magnetar_field.specs.Words.{elements};
-ghost use Rattle.magnetar_layout.specs.Tests.{noted};
+ghost use Rattle.magnetar_layout.specs.Tests.{firstRefusal};
 ghost use Rattle.magnetar_sumcheck_verifier.specs.Round.{holds, running};
 ghost use Rattle.magnetar_protocol.specs.Shape.{proofTotal};
 ghost use Rattle.magnetar_protocol.specs.Draws.{drawTotal};
@@ -54,11 +54,11 @@ pub(crate) fn words_refusal(
     lent: usize,
 ) -> u32
     requires { ⌜ (s < 64) × (b < 64) × (f < 64) × (c < 64) × (l ≤ 64) ⌝ }
-    ensures { λ r. ⌜ r ≡ noted 0 (wordTests s b f c l proof draws wanted lent) ⌝ }
+    ensures { λ r. ⌜ r ≡ firstRefusal 0 (wordTests s b f c l proof draws wanted lent) ⌝ }
 {
-    let z = tests::note(0, 11, draws != draw_words(s, b, f, c));
-    let z = tests::note(z, 15, lent < wanted);
-    tests::note(z, 16, proof != proof_words(s, b, f, c, l))
+    let z = tests::refuse(0, 11, draws != draw_words(s, b, f, c));
+    let z = tests::refuse(z, 15, lent < wanted);
+    tests::refuse(z, 16, proof != proof_words(s, b, f, c, l))
 }
 
 // n elements from place i on.
@@ -87,7 +87,7 @@ pub(crate) fn round(
     ensures claim { λ o. ⌜ value (o .claim) ≡ eval (elements (now (msg .entry))) (value r) ⌝ }
 {
     let next = verify::check_round(msg, n, claim, r);
-    let g = first::note(f, code, next.holds, events);
+    let g = first::refuse(f, code, next.holds, events);
     let c = next.claim;
     Run { found: g, claim: c }
 }

@@ -164,8 +164,8 @@ fn terminals(
         proof,
         i + 3,
     );
-    let f1 = first::note(f0, 25, x, events);
-    first::note(f1, 26, y, events)
+    let f1 = first::refuse(f0, 25, x, events);
+    first::refuse(f1, 26, y, events)
 }
 
 // The checks of all phases, with the logarithms s, b, f.

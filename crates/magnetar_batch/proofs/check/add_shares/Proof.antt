@@ -10,7 +10,7 @@ use Rattle.magnetar_field.specs.Words.{elements}
 use Rattle.magnetar_matrix.specs.Matrix.{Entry}
 use Rattle.magnetar_matrix.specs.Lent.{entriesOf}
 use Rattle.magnetar_matrix.specs.Packed.{zOf}
-use Rattle.magnetar_relation.specs.Told.{walked}
+use Rattle.magnetar_relation.specs.EntryWalks.{foldEntries}
 use Rattle.magnetar_relation.proofs.ToldLaws.{rangeOf, range-more, range-end}
 use Rattle.magnetar_relation.proofs.RangeLaws.{range-is}
 use Rattle.magnetar_batch.specs.CheckSteps.{shareAdded}
@@ -21,7 +21,7 @@ use Rattle.magnetar_batch.proofs.check.add_shares.Tie as tie
 abbrev Inv-loop : tie.InvT-loop
 Inv-loop s₀ m n w bits x row col lo hi a k e i₀ s i =
     let g = shareAdded m n (zOf w bits (elements x)) in
-    (length s ≡ length s₀) × (walked g (rangeOf row col lo hi i e) s ≡ walked g (rangeOf row col lo hi a e) s₀)
+    (length s ≡ length s₀) × (foldEntries g (rangeOf row col lo hi i e) s ≡ foldEntries g (rangeOf row col lo hi a e) s₀)
 
 abbrev μ-loop : tie.MeasureT-loop
 μ-loop s₀ m n w bits x row col lo hi a k e i₀ s i = e - i
@@ -103,7 +103,7 @@ returns c =
     let h = c .before .before .before .entries-held .ensures .0 in
     let e = c .before .before .after .ensures ∙ ap (λ (i : ℕ). min (x .a + x .k) i) h in
     range-end g (now (x .row)) (now (x .col)) (now (x .lo)) (now (x .hi)) _ _ (l .i) (l .s) (omega arith) (l .inv .1)
-    ∙ ap (λ (t : List Entry). walked g t (now (x .s))) (range-is es (x .a) (x .k) _ e)
+    ∙ ap (λ (t : List Entry). foldEntries g t (now (x .s))) (range-is es (x .a) (x .k) _ e)
 
 pub add-shares-spec : {M : Type 1} → statement M
 add-shares-spec =

@@ -4,12 +4,12 @@ use mathlib.Core.Path.{_≡_, refl, sym, _∙_}
 use mathlib.Core.List.{_++_}
 use Prim.Native.Nat.{_/_, _≤_}
 use native.Mathlib.Omega.{arith}
-use Rattle.magnetar_layout.specs.Tests.{Tests, noted, sizeTests, packedTestsOf, publicTestsOf}
-use Rattle.magnetar_layout.proofs.Noted.{noted-front, noted-late, noted-clear}
+use Rattle.magnetar_layout.specs.Tests.{Tests, firstRefusal, sizeTests, packedTestsOf, publicTestsOf}
+use Rattle.magnetar_layout.proofs.FirstRefusal.{first-refusal-front, first-refusal-late, first-refusal-clear}
 use Rattle.magnetar_layout.proofs.SizeLaws.{not-bad}
 use Rattle.magnetar_matrix.proofs.LoginParts.{product-most, words-most}
 use Rattle.magnetar_relation.specs.RuleTests.{given}
-use Rattle.magnetar_batch.specs.Check.{checkRoomTests}
+use Rattle.magnetar_batch.specs.Check.{checkScratchTests}
 use Rattle.magnetar_batch.proofs.CheckEnds.{sixth-over}
 use borrow.Author.Needs.{needs}
 use Rattle.magnetar_batch.proofs.check.refusal.Statement.{statement}
@@ -22,10 +22,10 @@ first s = sizeTests (s .args .m) (s .args .q)
 abbrev second : tie.Start → Tests
 second s =
     let x = s .args in
-    packedTestsOf (x .m / 2) (x .q) (x .packed) ++ (publicTestsOf (x .m) (x .x) ++ (given (x .z) ++ checkRoomTests (x .nb) (x .nf) (x .scratch)))
+    packedTestsOf (x .m / 2) (x .q) (x .packed) ++ (publicTestsOf (x .m) (x .x) ++ (given (x .z) ++ checkScratchTests (x .nb) (x .nf) (x .scratch)))
 
-early : (c : tie.After-note2) → c .note2 .result ≡ noted 0 (first (c .before .before .before .before))
-early c = rw (c .note2 .ensures, c .before .is-size2 .ensures, c .before .before .note .ensures, c .before .before .before .is-size .ensures)
+early : (c : tie.After-refuse2) → c .refuse2 .result ≡ firstRefusal 0 (first (c .before .before .before .before))
+early c = rw (c .refuse2 .ensures, c .before .is-size2 .ensures, c .before .before .refuse .ensures, c .before .before .before .is-size .ensures)
 
 record Small (s : tie.Start) : Type 0 where
   least : 2 ≤ s .args .m
@@ -34,78 +34,78 @@ record Small (s : tie.Start) : Type 0 where
 
 small : (c : tie.Else1) → Small (c .before .before .before .before .before)
 small c =
-    let k = noted-clear 0 (first (c .before .before .before .before .before)) refl (sym (early (c .before)) ∙ c .if1 .left) .1 in
+    let k = first-refusal-clear 0 (first (c .before .before .before .before .before)) refl (sym (early (c .before)) ∙ c .if1 .left) .1 in
     let z = not-bad (k .0) in
     record { least = z .low; most = z .high; logins = not-bad (k .1 .0) .high }
 
 is-size-requires : tie.Need-is-size-requires
 is-size-requires c κs = search needs
 
-note-requires : tie.Need-note-requires
-note-requires c κs = search needs
+refuse-requires : tie.Need-refuse-requires
+refuse-requires c κs = search needs
 
 is-size-requires-2 : tie.Need-is-size-requires-2
 is-size-requires-2 c κs = search needs
 
-note-requires-2 : tie.Need-note-requires-2
-note-requires-2 c κs = search needs
+refuse-requires-2 : tie.Need-refuse-requires-2
+refuse-requires-2 c κs = search needs
 
 returns : tie.Need-returns
-returns c = let s = (c .before .before .before .before .before) in noted-front (first s) (second s) _ (early (c .before)) (c .if1 .taken)
+returns c = let s = (c .before .before .before .before .before) in first-refusal-front (first s) (second s) _ (early (c .before)) (c .if1 .taken)
 
 login-words-requires : tie.Need-login-words-requires
 login-words-requires c κs = search needs
 
-mul-note : tie.Need-mul-note
-mul-note c =
+mul-refuse : tie.Need-mul-refuse
+mul-refuse c =
     let k = small (c .before) in
     let h : (c .before .before .before .before .before .before) .args .m / 2 ≤ 32768 = omega (arith, k .most) in
     omega (arith, product-most ((c .before .before .before .before .before .before) .args .q) (c .login-words .result) (k .logins) (rw (c .login-words .ensures) (words-most _ h)))
 
-note-requires-3 : tie.Need-note-requires-3
-note-requires-3 c κs = search needs
+refuse-requires-3 : tie.Need-refuse-requires-3
+refuse-requires-3 c κs = search needs
 
-sub-note : tie.Need-sub-note
-sub-note c = omega (arith, small (c .before .before) .least)
+sub-refuse : tie.Need-sub-refuse
+sub-refuse c = omega (arith, small (c .before .before) .least)
 
-note-requires-4 : tie.Need-note-requires-4
-note-requires-4 c κs = search needs
+refuse-requires-4 : tie.Need-refuse-requires-4
+refuse-requires-4 c κs = search needs
 
-note-requires-5 : tie.Need-note-requires-5
-note-requires-5 c κs = search needs
+refuse-requires-5 : tie.Need-refuse-requires-5
+refuse-requires-5 c κs = search needs
 
 larger-requires : tie.Need-larger-requires
 larger-requires c κs = search needs
 
-note-requires-6 : tie.Need-note-requires-6
-note-requires-6 c κs = search needs
+refuse-requires-6 : tie.Need-refuse-requires-6
+refuse-requires-6 c κs = search needs
 
 returns-2 : tie.Need-returns-2
 returns-2 c =
     let s = (c .before .before .before .before .before .before .before .before .before .before .before) in
     let x = s .args in
     let l = c .before .larger .ensures in
-    let n₅ = c .before .before .note5 .ensures in
-    let n₄ = c .before .before .before .note4 .ensures in
-    let n₃ = c .before .before .before .before .note3 .ensures in
-    noted-late (first s) (second s) _ _ (early (c .before .before .before .before .before .before .before)) (c .before .before .before .before .before .before .if1 .left)
-    (c .note6 .ensures ∙ rw (l, sixth-over (x .nb) (x .nf) (x .scratch), n₅, n₄, n₃, c .before .before .before .before .before .login-words .ensures))
+    let n₅ = c .before .before .refuse5 .ensures in
+    let n₄ = c .before .before .before .refuse4 .ensures in
+    let n₃ = c .before .before .before .before .refuse3 .ensures in
+    first-refusal-late (first s) (second s) _ _ (early (c .before .before .before .before .before .before .before)) (c .before .before .before .before .before .before .if1 .left)
+    (c .refuse6 .ensures ∙ rw (l, sixth-over (x .nb) (x .nf) (x .scratch), n₅, n₄, n₃, c .before .before .before .before .before .login-words .ensures))
 
 pub refusal-spec : {M : Type 1} → statement M
 refusal-spec =
     tie.close
     (tie.spec
     is-size-requires
-    note-requires
+    refuse-requires
     is-size-requires-2
-    note-requires-2
+    refuse-requires-2
     returns
     login-words-requires
-    mul-note
-    note-requires-3
-    sub-note
-    note-requires-4
-    note-requires-5
+    mul-refuse
+    refuse-requires-3
+    sub-refuse
+    refuse-requires-4
+    refuse-requires-5
     larger-requires
-    note-requires-6
+    refuse-requires-6
     returns-2)

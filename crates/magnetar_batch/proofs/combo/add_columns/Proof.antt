@@ -9,7 +9,7 @@ use denote.Ref.{now}
 use Rattle.magnetar_matrix.specs.Matrix.{Entry}
 use Rattle.magnetar_matrix.specs.Lent.{entriesOf}
 use Rattle.magnetar_relation.specs.Steps.{columnAdded}
-use Rattle.magnetar_relation.specs.Told.{walked}
+use Rattle.magnetar_relation.specs.EntryWalks.{foldEntries}
 use Rattle.magnetar_relation.proofs.ToldLaws.{rangeOf, range-more, range-end}
 use Rattle.magnetar_relation.proofs.RangeLaws.{range-is}
 use borrow.Author.Needs.{needs}
@@ -18,7 +18,7 @@ use Rattle.magnetar_batch.proofs.combo.add_columns.Tie as tie
 
 abbrev Inv-loop : tie.InvT-loop
 Inv-loop m n s₀ row col lo hi a k e i₀ s i =
-    (length s ≡ length s₀) × (walked (columnAdded m n) (rangeOf row col lo hi i e) s ≡ walked (columnAdded m n) (rangeOf row col lo hi a e) s₀)
+    (length s ≡ length s₀) × (foldEntries (columnAdded m n) (rangeOf row col lo hi i e) s ≡ foldEntries (columnAdded m n) (rangeOf row col lo hi a e) s₀)
 
 abbrev μ-loop : tie.MeasureT-loop
 μ-loop m n s₀ row col lo hi a k e i₀ s i = e - i
@@ -93,7 +93,7 @@ returns c =
     let h = c .before .before .before .entries-held .ensures .0 in
     let e = c .before .before .after .ensures ∙ ap (λ (i : ℕ). min (x .a + x .k) i) h in
     range-end (columnAdded (x .m) (x .n)) (now (x .row)) (now (x .col)) (now (x .lo)) (now (x .hi)) _ _ (l .i) (l .s) (omega arith) (l .inv .1)
-    ∙ ap (λ (t : List Entry). walked (columnAdded (x .m) (x .n)) t (now (x .s))) (range-is es (x .a) (x .k) _ e)
+    ∙ ap (λ (t : List Entry). foldEntries (columnAdded (x .m) (x .n)) t (now (x .s))) (range-is es (x .a) (x .k) _ e)
 
 pub add-columns-spec : {M : Type 1} → statement M
 add-columns-spec =

@@ -29,7 +29,7 @@ use mathlib.Core.Bool.{cond, _&&_}
 use lib.Dec.{leb, ltb}
 use Rattle.magnetar_matrix.specs.Matrix as matrix
 use Rattle.magnetar_relation.specs.Steps.{columnAdded}
-use Rattle.magnetar_relation.specs.Told.{walkedWithin}
+use Rattle.magnetar_relation.specs.EntryWalks.{foldEntriesWithin}
 use Rattle.magnetar_relation.proofs.ToldLaws.{within-more, within-end}
 use Rattle.magnetar_records.specs.Records.{entryOf, entriesOfRecords}
 
@@ -39,7 +39,7 @@ one a = columnAdded (a .1 .0) (a .1 .1 .0)
 
 -- what is left to walk, from what the words are, is what was to be walked at the start
 abbrev left : each.Arg → ℕ → List Entry → List ℕ → List ℕ
-left a i es zs = walkedWithin (one a) (a .1 .1 .1 .0) (a .1 .1 .1 .1 .0) i (entriesOfRecords es) zs
+left a i es zs = foldEntriesWithin (one a) (a .1 .1 .1 .0) (a .1 .1 .1 .1 .0) i (entriesOfRecords es) zs
 
 abbrev Inv : each.Arg → ℕ → List Entry → List ℕ → Type 0
 Inv a i es zs = left a i es zs ≡ left a 0 (a .0 .now) (a .1 .1 .1 .1 .1 .0 .now)

@@ -11,13 +11,13 @@ use borrow.Author.Tests.{ltb-false, eqb-true, not-false}
 use denote.Ref.{now}
 use Rattle.magnetar_field.specs.Sizes.{log₂}
 use Rattle.magnetar_field.specs.Words.{elements, words}
-use Rattle.magnetar_layout.specs.Tests.{Tests, noted, sizeTests, packedTests, lengthTest, roomTest, Sized}
+use Rattle.magnetar_layout.specs.Tests.{Tests, firstRefusal, sizeTests, packedTests, lengthTest, roomTest, Sized}
 use Rattle.magnetar_matrix.specs.Packed.{loginWords, unpacked}
 use Rattle.magnetar_matrix.specs.Batch.{folded}
 use Rattle.magnetar_layout.proofs.Laid.{half-size}
 use Rattle.magnetar_layout.proofs.SizeLaws.{not-bad, sized-wider}
 use Rattle.magnetar_r1cs.proofs.Points.{point-of, point-size, log-most}
-use Rattle.magnetar_layout.proofs.Noted.{noted-front, noted-late, noted-clear, turned, done}
+use Rattle.magnetar_layout.proofs.FirstRefusal.{first-refusal-front, first-refusal-late, first-refusal-clear, turned, done}
 use Rattle.magnetar_matrix.proofs.LoginParts.{product-most, words-most}
 use Rattle.magnetar_batch.specs.Entries.{foldInRefusal}
 use Rattle.magnetar_batch.proofs.Folds.{fold-is}
@@ -32,11 +32,11 @@ first s = sizeTests (2 * s .args .w) (s .args .q)
 abbrev rest : tie.Start → Tests
 rest s = let x = s .args in packedTests (x .w) (x .q) (now (x .packed)) ++ lengthTest (2 * log₂ (x .q)) (now (x .point)) ++ roomTest (2 * x .w + 2 * x .q) (now (x .s))
 
-early : (c : tie.After-note2) → c .note2 .result ≡ noted 0 (first (c .before .before .before .before .before .before .before))
-early c = rw (c .note2 .ensures, c .before .is-size2 .ensures, c .before .before .note .ensures, c .before .before .before .is-size .ensures, half-size (c .before .before .before .before .before .before .before .args .w))
+early : (c : tie.After-refuse2) → c .refuse2 .result ≡ firstRefusal 0 (first (c .before .before .before .before .before .before .before))
+early c = rw (c .refuse2 .ensures, c .before .is-size2 .ensures, c .before .before .refuse .ensures, c .before .before .before .is-size .ensures, half-size (c .before .before .before .before .before .before .before .args .w))
 
-late : (c : tie.After-note5) → c .note5 .result ≡ noted 0 (rest (c .before .before .before .before .before .before .before .before .before .before .before .before .before))
-late c = rw (c .note5 .ensures, c .before .note4 .ensures, c .before .before .log2 .ensures .0, c .before .before .before .note3 .ensures, c .before .before .before .before .login-words .ensures)
+late : (c : tie.After-refuse5) → c .refuse5 .result ≡ firstRefusal 0 (rest (c .before .before .before .before .before .before .before .before .before .before .before .before .before))
+late c = rw (c .refuse5 .ensures, c .before .refuse4 .ensures, c .before .before .log2 .ensures .0, c .before .before .before .refuse3 .ensures, c .before .before .before .before .login-words .ensures)
 
 -- what is known of the sizes, and once nothing is refused
 record Small (s : tie.Start) : Type 0 where
@@ -45,7 +45,7 @@ record Small (s : tie.Start) : Type 0 where
 
 small : (c : tie.Else1) → Small (c .before .before .before .before .before .before .before .before)
 small c =
-    let k = noted-clear 0 (first (c .before .before .before .before .before .before .before .before)) refl (sym (early (c .before)) ∙ c .if1 .left) .1 in
+    let k = first-refusal-clear 0 (first (c .before .before .before .before .before .before .before .before)) refl (sym (early (c .before)) ∙ c .if1 .left) .1 in
     let z = not-bad (k .0) in
     record { half = omega (arith, z .high); logins = not-bad (k .1 .0) }
 
@@ -56,26 +56,26 @@ record Fits (s : tie.Start) : Type 0 where
 
 fits : (c : tie.Else2) → Fits (c .before .before .before .before .before .before .before .before .before .before .before .before .before .before)
 fits c =
-    let k = noted-clear 0 (rest (c .before .before .before .before .before .before .before .before .before .before .before .before .before .before)) refl (sym (late (c .before)) ∙ c .if2 .left) .1 in
+    let k = first-refusal-clear 0 (rest (c .before .before .before .before .before .before .before .before .before .before .before .before .before .before)) refl (sym (late (c .before)) ∙ c .if2 .left) .1 in
     record { packed = eqb-true _ _ (not-false _ (k .0)); point = eqb-true _ _ (not-false _ (k .1 .0)); room = ltb-false _ _ (k .1 .1 .0) }
 
 is-size-requires : tie.Need-is-size-requires
 is-size-requires c κs = search needs
 
-note-requires : tie.Need-note-requires
-note-requires c κs = search needs
+refuse-requires : tie.Need-refuse-requires
+refuse-requires c κs = search needs
 
 is-size-requires-2 : tie.Need-is-size-requires-2
 is-size-requires-2 c κs = search needs
 
-note-requires-2 : tie.Need-note-requires-2
-note-requires-2 c κs = search needs
+refuse-requires-2 : tie.Need-refuse-requires-2
+refuse-requires-2 c κs = search needs
 
 returns : tie.Need-returns
 unfolding foldInRefusal
 returns c =
     let s = c .before .before .before .before .before .before .before .before in
-    let e = noted-front (first s) (rest s) _ (early (c .before)) (c .if1 .taken) in
+    let e = first-refusal-front (first s) (rest s) _ (early (c .before)) (c .if1 .taken) in
     (e, turned _ _ e (c .if1 .taken))
 
 mul-end : tie.Need-mul-end
@@ -90,35 +90,35 @@ add-end c = let m = small c in omega (arith, m .half, m .logins .high)
 login-words-requires : tie.Need-login-words-requires
 login-words-requires c κs = search needs
 
-mul-note : tie.Need-mul-note
-mul-note c = let z = small (c .before) in omega (
+mul-refuse : tie.Need-mul-refuse
+mul-refuse c = let z = small (c .before) in omega (
   arith,
   product-most (c .before .before .before .before .before .before .before .before .before .args
       .q) (c .login-words .result) (z .logins .high) (rw (c .login-words .ensures) (words-most _ (z .half))),
 )
 
-note-requires-3 : tie.Need-note-requires-3
-note-requires-3 c κs = search needs
+refuse-requires-3 : tie.Need-refuse-requires-3
+refuse-requires-3 c κs = search needs
 
 log2-requires : tie.Need-log2-requires
 log2-requires c κs = search needs
 
-mul-note-2 : tie.Need-mul-note-2
-mul-note-2 c =
+mul-refuse-2 : tie.Need-mul-refuse-2
+mul-refuse-2 c =
     let z = sized-wider 65536 (lit≤ tt) (small (c .before .before .before) .logins) in
     omega (arith, c .log2 .ensures .0, log-most _ (z .high) (z .power))
 
-note-requires-4 : tie.Need-note-requires-4
-note-requires-4 c κs = search needs
+refuse-requires-4 : tie.Need-refuse-requires-4
+refuse-requires-4 c κs = search needs
 
-note-requires-5 : tie.Need-note-requires-5
-note-requires-5 c κs = search needs
+refuse-requires-5 : tie.Need-refuse-requires-5
+refuse-requires-5 c κs = search needs
 
 returns-2 : tie.Need-returns-2
 unfolding foldInRefusal
 returns-2 c =
     let s = c .before .before .before .before .before .before .before .before .before .before .before .before .before .before in
-    let e = noted-late (first s) (rest s) _ _ (early (c .before .before .before .before .before .before .before)) (c .before .before .before .before .before .before .if1 .left) (late (c .before)) in
+    let e = first-refusal-late (first s) (rest s) _ _ (early (c .before .before .before .before .before .before .before)) (c .before .before .before .before .before .before .if1 .left) (late (c .before)) in
     (e, turned _ _ e (c .if2 .taken))
 
 slice-relend-prefix-fold-one : tie.Need-slice-relend-prefix-fold-one
@@ -144,7 +144,7 @@ returns-3 c =
     let k = c .before .before .before .before in
     let s = k .before .before .before .before .before .before .before .before .before .before .before .before .before .before in
     let x = s .args in
-    let e = sym (k .if2 .left) ∙ noted-late (first s) (rest s) _ _ (early (k .before .before .before .before .before .before .before)) (k .before
+    let e = sym (k .if2 .left) ∙ first-refusal-late (first s) (rest s) _ _ (early (k .before .before .before .before .before .before .before)) (k .before
     .before .before .before .before .before .if1 .left) (late (k .before)) in
     let f = fits k in
     let z = sized-wider 65536 (lit≤ tt) (small (k .before .before .before .before .before .before) .logins) in (
@@ -163,20 +163,20 @@ fold-packed-in-spec =
     tie.close
     (tie.spec
     is-size-requires
-    note-requires
+    refuse-requires
     is-size-requires-2
-    note-requires-2
+    refuse-requires-2
     returns
     mul-end
     mul-end-2
     add-end
     login-words-requires
-    mul-note
-    note-requires-3
+    mul-refuse
+    refuse-requires-3
     log2-requires
-    mul-note-2
-    note-requires-4
-    note-requires-5
+    mul-refuse-2
+    refuse-requires-4
+    refuse-requires-5
     returns-2
     slice-relend-prefix-fold-one
     slice-aggregate-fold-one

@@ -9,12 +9,12 @@ use lib.Seq.{length-take-le}
 use borrow.Author.Tests.{ltb-false, eqb-true, not-false}
 use denote.Ref.{now}
 use Rattle.magnetar_field.specs.Sizes.{log₂}
-use Rattle.magnetar_layout.specs.Tests.{Tests, noted, lengthTest, roomTest, Sized}
+use Rattle.magnetar_layout.specs.Tests.{Tests, firstRefusal, lengthTest, roomTest, Sized}
 use Rattle.magnetar_r1cs.proofs.Points.{point-of, log-most}
 use Rattle.magnetar_matrix.specs.Packed.{loginWords}
 use Rattle.magnetar_layout.specs.Tests.{sizeTests, packedTests}
 use Rattle.magnetar_batch.specs.Entries.{foldRefusal}
-use Rattle.magnetar_layout.proofs.Noted.{noted-front, noted-late, noted-clear, turned, done}
+use Rattle.magnetar_layout.proofs.FirstRefusal.{first-refusal-front, first-refusal-late, first-refusal-clear, turned, done}
 use Rattle.magnetar_layout.proofs.Laid.{half-size}
 use Rattle.magnetar_layout.proofs.SizeLaws.{not-bad, sized-wider}
 use Rattle.magnetar_matrix.proofs.TableLaws.{in-front}
@@ -33,17 +33,17 @@ first s = sizeTests (2 * s .args .w) (s .args .q)
 abbrev rest : tie.Start → Tests
 rest s = let x = s .args in packedTests (x .w) (x .q) (now (x .packed)) ++ lengthTest (2 * log₂ (x .q)) (now (x .point)) ++ roomTest (2 * x .w) (now (x .out)) ++ roomTest (2 * x .q) (now (x .scratch))
 
-early : (c : tie.After-note2) → c .note2 .result ≡ noted 0 (first (c .before .before .before .before .before .before .before .before))
-early c = rw (c .note2 .ensures, c .before .is-size2 .ensures, c .before .before .note .ensures, c .before .before .before .is-size .ensures, half-size (c .before .before .before .before .before .before .before .before .args .w))
+early : (c : tie.After-refuse2) → c .refuse2 .result ≡ firstRefusal 0 (first (c .before .before .before .before .before .before .before .before))
+early c = rw (c .refuse2 .ensures, c .before .is-size2 .ensures, c .before .before .refuse .ensures, c .before .before .before .is-size .ensures, half-size (c .before .before .before .before .before .before .before .before .args .w))
 
-late : (c : tie.After-note6) → c .note6 .result ≡ noted 0 (rest (c .before .before .before .before .before .before .before .before .before .before .before .before .before .before .before))
+late : (c : tie.After-refuse6) → c .refuse6 .result ≡ firstRefusal 0 (rest (c .before .before .before .before .before .before .before .before .before .before .before .before .before .before .before))
 late c = rw (
-  c .note6 .ensures,
-  c .before .note5 .ensures,
-  c .before .before .note4 .ensures,
+  c .refuse6 .ensures,
+  c .before .refuse5 .ensures,
+  c .before .before .refuse4 .ensures,
   c .before .before .before .log2 .ensures .0,
   c .before
-      .before .before .before .note3 .ensures,
+      .before .before .before .refuse3 .ensures,
   c .before .before .before .before .before .login-words .ensures,
 )
 
@@ -54,7 +54,7 @@ record Small (s : tie.Start) : Type 0 where
 
 small : (c : tie.Else1) → Small (c .before .before .before .before .before .before .before .before .before)
 small c =
-    let k = noted-clear 0 (first (c .before .before .before .before .before .before .before .before .before)) refl (sym (early (c .before)) ∙ c .if1 .left) .1 in
+    let k = first-refusal-clear 0 (first (c .before .before .before .before .before .before .before .before .before)) refl (sym (early (c .before)) ∙ c .if1 .left) .1 in
     let z = not-bad (k .0) in
     record { half = omega (arith, z .high); logins = not-bad (k .1 .0) }
 
@@ -66,69 +66,69 @@ record Fits (s : tie.Start) : Type 0 where
 
 fits : (c : tie.Else2) → Fits (c .before .before .before .before .before .before .before .before .before .before .before .before .before .before .before .before)
 fits c =
-    let k = noted-clear 0 (rest (c .before .before .before .before .before .before .before .before .before .before .before .before .before .before
+    let k = first-refusal-clear 0 (rest (c .before .before .before .before .before .before .before .before .before .before .before .before .before .before
     .before .before)) refl (sym (late (c .before)) ∙ c .if2 .left) .1 in
     record { packed = eqb-true _ _ (not-false _ (k .0)); point = eqb-true _ _ (not-false _ (k .1 .0)); out = ltb-false _ _ (k .1 .1 .0); scratch = ltb-false _ _ (k .1 .1 .1 .0) }
 
 is-size-requires : tie.Need-is-size-requires
 is-size-requires c κs = search needs
 
-note-requires : tie.Need-note-requires
-note-requires c κs = search needs
+refuse-requires : tie.Need-refuse-requires
+refuse-requires c κs = search needs
 
 is-size-requires-2 : tie.Need-is-size-requires-2
 is-size-requires-2 c κs = search needs
 
-note-requires-2 : tie.Need-note-requires-2
-note-requires-2 c κs = search needs
+refuse-requires-2 : tie.Need-refuse-requires-2
+refuse-requires-2 c κs = search needs
 
 returns : tie.Need-returns
 unfolding foldRefusal
 returns c =
-    let e = noted-front (first (c .before .before .before .before .before .before .before .before .before)) (rest (c .before .before .before .before
+    let e = first-refusal-front (first (c .before .before .before .before .before .before .before .before .before)) (rest (c .before .before .before .before
     .before .before .before .before .before)) _ (early (c .before)) (c .if1 .taken) in
     (e, (turned _ _ e (c .if1 .taken), turned _ _ e (c .if1 .taken)))
 
 login-words-requires : tie.Need-login-words-requires
 login-words-requires c κs = search needs
 
-mul-note : tie.Need-mul-note
-mul-note c = let z = small (c .before) .logins in omega (
+mul-refuse : tie.Need-mul-refuse
+mul-refuse c = let z = small (c .before) .logins in omega (
   arith,
   product-most (c .before .before .before .before .before .before .before .before
       .before .before .args .q) (c .login-words .result) (z .high) (rw (c .login-words .ensures) (words-most _ (small (c .before) .half))),
 )
 
-note-requires-3 : tie.Need-note-requires-3
-note-requires-3 c κs = search needs
+refuse-requires-3 : tie.Need-refuse-requires-3
+refuse-requires-3 c κs = search needs
 
 log2-requires : tie.Need-log2-requires
 log2-requires c κs = search needs
 
-mul-note-2 : tie.Need-mul-note-2
-mul-note-2 c =
+mul-refuse-2 : tie.Need-mul-refuse-2
+mul-refuse-2 c =
     let z = sized-wider 65536 (lit≤ tt) (small (c .before .before .before) .logins) in
     omega (arith, c .log2 .ensures .0, log-most _ (z .high) (z .power))
 
-note-requires-4 : tie.Need-note-requires-4
-note-requires-4 c κs = search needs
+refuse-requires-4 : tie.Need-refuse-requires-4
+refuse-requires-4 c κs = search needs
 
-mul-note-3 : tie.Need-mul-note-3
-mul-note-3 c = omega (arith, small (c .before .before .before .before) .half)
+mul-refuse-3 : tie.Need-mul-refuse-3
+mul-refuse-3 c = omega (arith, small (c .before .before .before .before) .half)
 
-note-requires-5 : tie.Need-note-requires-5
-note-requires-5 c κs = search needs
+refuse-requires-5 : tie.Need-refuse-requires-5
+refuse-requires-5 c κs = search needs
 
-mul-note-4 : tie.Need-mul-note-4
-mul-note-4 c = omega (arith, small (c .before .before .before .before .before) .logins .high)
+mul-refuse-4 : tie.Need-mul-refuse-4
+mul-refuse-4 c = omega (arith, small (c .before .before .before .before .before) .logins .high)
 
-note-requires-6 : tie.Need-note-requires-6
-note-requires-6 c κs = search needs
+refuse-requires-6 : tie.Need-refuse-requires-6
+refuse-requires-6 c κs = search needs
 
 returns-2 : tie.Need-returns-2
 unfolding foldRefusal
 returns-2 c =
-    let e = noted-late (first (c .before .before .before .before .before .before .before .before .before .before .before .before .before .before
+    let e = first-refusal-late (first (c .before .before .before .before .before .before .before .before .before .before .before .before .before .before
     .before .before)) (rest (c .before .before .before .before .before .before .before .before .before .before .before .before .before .before
     .before .before)) _ _ (early (c .before .before .before .before .before .before .before .before)) (c .before .before .before .before .before
     .before .before .if1 .left) (late (c .before)) in
@@ -170,7 +170,7 @@ returns-3 c =
     let s = c .before .before .before .before .before .before .before .before .before .before .before .before .before .before .before .before .before .before .before .before .before .before .before in
     let x = s .args in
     let k = c .before .before .before .before .before .before .before in
-    let e = sym (k .if2 .left) ∙ noted-late (first s) (rest s) _ _ (early (k .before .before .before .before .before .before .before .before)) (k
+    let e = sym (k .if2 .left) ∙ first-refusal-late (first s) (rest s) _ _ (early (k .before .before .before .before .before .before .before .before)) (k
     .before .before .before .before .before .before .before .if1 .left) (late (k .before)) in
     let f = fits k in
     let z = sized-wider 65536 (lit≤ tt) (small (k .before .before .before .before .before .before .before) .logins) in (
@@ -186,20 +186,20 @@ fold-packed-w-spec =
     tie.close
     (tie.spec
     is-size-requires
-    note-requires
+    refuse-requires
     is-size-requires-2
-    note-requires-2
+    refuse-requires-2
     returns
     login-words-requires
-    mul-note
-    note-requires-3
+    mul-refuse
+    refuse-requires-3
     log2-requires
-    mul-note-2
-    note-requires-4
-    mul-note-3
-    note-requires-5
-    mul-note-4
-    note-requires-6
+    mul-refuse-2
+    refuse-requires-4
+    mul-refuse-3
+    refuse-requires-5
+    mul-refuse-4
+    refuse-requires-6
     returns-2
     mul-end
     mul-room

@@ -10,11 +10,11 @@ use lib.Seq.{length-take-le}
 use borrow.Author.Tests.{ltb-false, eqb-true, not-false}
 use denote.Ref.{now}
 use Rattle.magnetar_field.specs.Sizes.{log₂}
-use Rattle.magnetar_layout.specs.Tests.{Tests, noted, sizeTests, publicTests, lengthTest, roomTest, Sized}
+use Rattle.magnetar_layout.specs.Tests.{Tests, firstRefusal, sizeTests, publicTests, lengthTest, roomTest, Sized}
 use Rattle.magnetar_layout.proofs.Laid.{half-size}
 use Rattle.magnetar_layout.proofs.SizeLaws.{not-bad, sized-wider}
 use Rattle.magnetar_r1cs.proofs.Points.{log-most}
-use Rattle.magnetar_layout.proofs.Noted.{noted-front, noted-late, noted-clear, turned, done}
+use Rattle.magnetar_layout.proofs.FirstRefusal.{first-refusal-front, first-refusal-late, first-refusal-clear, turned, done}
 use Rattle.magnetar_batch.specs.Entries.{publicInRefusal}
 use borrow.Author.Needs.{needs}
 use Rattle.magnetar_batch.proofs.fold.fold_public_in.Statement.{statement}
@@ -27,14 +27,14 @@ first s = sizeTests (2 * s .args .w) (s .args .q)
 abbrev rest : tie.Start → Tests
 rest s = let x = s .args in publicTests (2 * x .w) (now (x .x)) ++ lengthTest (2 * log₂ (x .q)) (now (x .point)) ++ roomTest (2 * x .w) (now (x .s))
 
-early : (c : tie.After-note2) → c .note2 .result ≡ noted 0 (first (c .before .before .before .before .before .before .before))
-early c = rw (c .note2 .ensures, c .before .is-size2 .ensures, c .before .before .note .ensures, c .before .before .before .is-size .ensures, half-size (c .before .before .before .before .before .before .before .args .w))
+early : (c : tie.After-refuse2) → c .refuse2 .result ≡ firstRefusal 0 (first (c .before .before .before .before .before .before .before))
+early c = rw (c .refuse2 .ensures, c .before .is-size2 .ensures, c .before .before .refuse .ensures, c .before .before .before .is-size .ensures, half-size (c .before .before .before .before .before .before .before .args .w))
 
 abbrev start : tie.Else1 → tie.Start
 start c = c .before .before .before .before .before .before .before .before
 
-late : (c : tie.After-note5) → c .note5 .result ≡ noted 0 (rest (start (c .before .before .before .before)))
-late c = rw (c .note5 .ensures, c .before .note4 .ensures, c .before .before .log2 .ensures .0, c .before .before .before .note3 .ensures)
+late : (c : tie.After-refuse5) → c .refuse5 .result ≡ firstRefusal 0 (rest (start (c .before .before .before .before)))
+late c = rw (c .refuse5 .ensures, c .before .refuse4 .ensures, c .before .before .log2 .ensures .0, c .before .before .before .refuse3 .ensures)
 
 -- what is known of the sizes, and once nothing is refused
 record Small (s : tie.Start) : Type 0 where
@@ -43,7 +43,7 @@ record Small (s : tie.Start) : Type 0 where
 
 small : (c : tie.Else1) → Small (start c)
 small c =
-    let k = noted-clear 0 (first (start c)) refl (sym (early (c .before)) ∙ c .if1 .left) .1 in
+    let k = first-refusal-clear 0 (first (start c)) refl (sym (early (c .before)) ∙ c .if1 .left) .1 in
     record { columns = not-bad (k .0); logins = not-bad (k .1 .0) }
 
 record Fits (s : tie.Start) : Type 0 where
@@ -52,56 +52,56 @@ record Fits (s : tie.Start) : Type 0 where
 
 fits : (c : tie.Else2) → Fits (start (c .before .before .before .before .before))
 fits c =
-    let k = noted-clear 0 (rest (start (c .before .before .before .before .before))) refl (sym (late (c .before)) ∙ c .if2 .left) .1 in
+    let k = first-refusal-clear 0 (rest (start (c .before .before .before .before .before))) refl (sym (late (c .before)) ∙ c .if2 .left) .1 in
     record { public = eqb-true _ _ (not-false _ (k .0)); room = ltb-false _ _ (k .1 .1 .0) }
 
 is-size-requires : tie.Need-is-size-requires
 is-size-requires c κs = search needs
 
-note-requires : tie.Need-note-requires
-note-requires c κs = search needs
+refuse-requires : tie.Need-refuse-requires
+refuse-requires c κs = search needs
 
 is-size-requires-2 : tie.Need-is-size-requires-2
 is-size-requires-2 c κs = search needs
 
-note-requires-2 : tie.Need-note-requires-2
-note-requires-2 c κs = search needs
+refuse-requires-2 : tie.Need-refuse-requires-2
+refuse-requires-2 c κs = search needs
 
 returns : tie.Need-returns
 unfolding publicInRefusal
 returns c =
     let s = c .before .before .before .before .before .before .before .before in
-    let e = noted-front (first s) (rest s) _ (early (c .before)) (c .if1 .taken) in
+    let e = first-refusal-front (first s) (rest s) _ (early (c .before)) (c .if1 .taken) in
     (e, turned _ _ e (c .if1 .taken))
 
 mul-end : tie.Need-mul-end
 mul-end c = omega (arith, small c .columns .high)
 
-sub-note : tie.Need-sub-note
-sub-note c = omega (arith, small c .columns .low)
+sub-refuse : tie.Need-sub-refuse
+sub-refuse c = omega (arith, small c .columns .low)
 
-note-requires-3 : tie.Need-note-requires-3
-note-requires-3 c κs = search needs
+refuse-requires-3 : tie.Need-refuse-requires-3
+refuse-requires-3 c κs = search needs
 
 log2-requires : tie.Need-log2-requires
 log2-requires c κs = search needs
 
-mul-note : tie.Need-mul-note
-mul-note c =
+mul-refuse : tie.Need-mul-refuse
+mul-refuse c =
     let z = sized-wider 65536 (lit≤ tt) (small (c .before .before) .logins) in
     omega (arith, c .log2 .ensures .0, log-most _ (z .high) (z .power))
 
-note-requires-4 : tie.Need-note-requires-4
-note-requires-4 c κs = search needs
+refuse-requires-4 : tie.Need-refuse-requires-4
+refuse-requires-4 c κs = search needs
 
-note-requires-5 : tie.Need-note-requires-5
-note-requires-5 c κs = search needs
+refuse-requires-5 : tie.Need-refuse-requires-5
+refuse-requires-5 c κs = search needs
 
 -- what the tests after the sizes gave
-answer : (c : tie.After-note5) → c .note5 .result ≡ noted 0 (first (start (c .before .before .before .before)) ++ rest (start (c .before .before .before .before)))
+answer : (c : tie.After-refuse5) → c .refuse5 .result ≡ firstRefusal 0 (first (start (c .before .before .before .before)) ++ rest (start (c .before .before .before .before)))
 answer c =
     let i = c .before .before .before .before in
-    noted-late (first (start i)) (rest (start i)) _ _ (early (i .before)) (i .if1 .left) (late c)
+    first-refusal-late (first (start i)) (rest (start i)) _ _ (early (i .before)) (i .if1 .left) (late c)
 
 returns-2 : tie.Need-returns-2
 unfolding publicInRefusal
@@ -136,17 +136,17 @@ fold-public-in-spec =
     tie.close
     (tie.spec
     is-size-requires
-    note-requires
+    refuse-requires
     is-size-requires-2
-    note-requires-2
+    refuse-requires-2
     returns
     mul-end
-    sub-note
-    note-requires-3
+    sub-refuse
+    refuse-requires-3
     log2-requires
-    mul-note
-    note-requires-4
-    note-requires-5
+    mul-refuse
+    refuse-requires-4
+    refuse-requires-5
     returns-2
     slice-relend-prefix-put-public
     slice-aggregate-put-public

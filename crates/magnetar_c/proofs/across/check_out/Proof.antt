@@ -3,7 +3,7 @@
 use mathlib.Core.Path.{ap, sym}
 use Rattle.magnetar_batch.specs.Check.{outcome}
 use Rattle.magnetar_batch.specs.declared.check.RowCheck.{RowCheck}
-use Rattle.magnetar_c.specs.Across.{crossed}
+use Rattle.magnetar_c.specs.CStructs.{rowCheckAnswer}
 use borrow.Author.Needs.{needs}
 use Rattle.magnetar_c.proofs.across.check_out.Statement.{statement}
 use Rattle.magnetar_c.proofs.across.check_out.Tie as tie
@@ -21,20 +21,20 @@ enum-known-c-3 : tie.Need-enum-known-c-3
 enum-known-c-3 c = search needs
 
 returns : tie.Need-returns
-unfolding crossed
-returns c = sym (ap (λ (o : RowCheck). crossed (outcome o)) (c .enum-told .given .1))
+unfolding rowCheckAnswer
+returns c = sym (ap (λ (o : RowCheck). rowCheckAnswer (outcome o)) (c .enum-told .given .1))
 
 returns-2 : tie.Need-returns-2
-unfolding crossed
-returns-2 c = sym (ap (λ (o : RowCheck). crossed (outcome o)) (c .before .c .given .1))
+unfolding rowCheckAnswer
+returns-2 c = sym (ap (λ (o : RowCheck). rowCheckAnswer (outcome o)) (c .before .c .given .1))
 
 returns-3 : tie.Need-returns-3
-unfolding crossed
-returns-3 c = sym (ap (λ (o : RowCheck). crossed (outcome o)) (c .before .c2 .given .1))
+unfolding rowCheckAnswer
+returns-3 c = sym (ap (λ (o : RowCheck). rowCheckAnswer (outcome o)) (c .before .c2 .given .1))
 
 returns-4 : tie.Need-returns-4
-unfolding crossed
-returns-4 c = sym (ap (λ (o : RowCheck). crossed (outcome o)) (c .before .c3 .given .1))
+unfolding rowCheckAnswer
+returns-4 c = sym (ap (λ (o : RowCheck). rowCheckAnswer (outcome o)) (c .before .c3 .given .1))
 
 pub check-out-spec : {M : Type 1} → statement M
 check-out-spec =

@@ -3,7 +3,7 @@
 use mathlib.Core.Path.{ap, sym}
 use Rattle.magnetar_r1cs.specs.Entries.{flagged}
 use Rattle.magnetar_r1cs.specs.declared.r1cs.Flag.{Flag}
-use Rattle.magnetar_c.specs.Across.{flag}
+use Rattle.magnetar_c.specs.CStructs.{flag}
 use borrow.Author.Needs.{needs}
 use Rattle.magnetar_c.proofs.across.flag_out.Statement.{statement}
 use Rattle.magnetar_c.proofs.across.flag_out.Tie as tie

@@ -4,7 +4,7 @@ use mathlib.Core.Path.{ap, sym, _∙_}
 use Prim.Native.Nat.{_<_, _^_}
 use Rattle.magnetar_field.specs.declared.gf128.Evaluated.{Evaluated}
 use Rattle.magnetar_multilinear.specs.Entries.{answer}
-use Rattle.magnetar_c.specs.Across.{evaluated}
+use Rattle.magnetar_c.specs.CStructs.{evaluated}
 use Rattle.magnetar_c.proofs.Handed.{value-handed}
 use borrow.Author.Needs.{needs}
 use Rattle.magnetar_c.proofs.across.value_out.Statement.{statement}

@@ -1,7 +1,7 @@
 -- `magnetar_c::matrices::magnetar_apply_simd_packed` meets its contract.
 -- Assumes nothing.
 use mathlib.Core.Path.{ap, _∙_}
-use Rattle.magnetar_c.specs.Across.{flag}
+use Rattle.magnetar_c.specs.CStructs.{flag}
 use borrow.Author.Needs.{needs}
 use Rattle.magnetar_c.proofs.matrices.magnetar_apply_simd_packed.Statement.{statement}
 use Rattle.magnetar_c.proofs.matrices.magnetar_apply_simd_packed.Tie as tie

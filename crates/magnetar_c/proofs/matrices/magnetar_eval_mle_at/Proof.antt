@@ -1,7 +1,7 @@
 -- `magnetar_c::matrices::magnetar_eval_mle_at` meets its contract.
 -- Assumes nothing.
 use mathlib.Core.Path.{ap, _∙_}
-use Rattle.magnetar_c.specs.Across.{evaluated}
+use Rattle.magnetar_c.specs.CStructs.{evaluated}
 use borrow.Author.Needs.{needs}
 use Rattle.magnetar_c.proofs.matrices.magnetar_eval_mle_at.Statement.{statement}
 use Rattle.magnetar_c.proofs.matrices.magnetar_eval_mle_at.Tie as tie

@@ -1,7 +1,7 @@
 -- `magnetar_c::matrices::magnetar_is_binary` meets its contract.
 -- Assumes nothing.
 use mathlib.Core.Path.{ap, _∙_}
-use Rattle.magnetar_c.specs.Across.{flag}
+use Rattle.magnetar_c.specs.CStructs.{flag}
 use borrow.Author.Needs.{needs}
 use Rattle.magnetar_c.proofs.matrices.magnetar_is_binary.Statement.{statement}
 use Rattle.magnetar_c.proofs.matrices.magnetar_is_binary.Tie as tie

@@ -2,7 +2,7 @@
 -- Assumes nothing.
 use mathlib.Core.Path.{ap, _∙_}
 use Rattle.magnetar_batch.specs.Check.{Checked}
-use Rattle.magnetar_c.specs.Across.{crossed}
+use Rattle.magnetar_c.specs.CStructs.{rowCheckAnswer}
 use borrow.Author.Needs.{needs}
 use Rattle.magnetar_c.proofs.runs.magnetar_row_check.Statement.{statement}
 use Rattle.magnetar_c.proofs.runs.magnetar_row_check.Tie as tie
@@ -19,7 +19,7 @@ same-length c = search needs
 returns : tie.Need-returns
 returns c =
     let e = c .before .before .before .row-check .ensures in
-    (c .check-out .ensures ∙ ap (λ (o : Checked). crossed (o .answer)) e, ap (λ (o : Checked). o .scratch) e)
+    (c .check-out .ensures ∙ ap (λ (o : Checked). rowCheckAnswer (o .answer)) e, ap (λ (o : Checked). o .scratch) e)
 
 pub magnetar-row-check-spec : {M : Type 1} → statement M
 magnetar-row-check-spec =

@@ -1,7 +1,7 @@
 -- `magnetar_c::tables::magnetar_eval_mle` meets its contract.
 -- Assumes nothing.
 use mathlib.Core.Path.{ap, _∙_}
-use Rattle.magnetar_c.specs.Across.{evaluated}
+use Rattle.magnetar_c.specs.CStructs.{evaluated}
 use borrow.Author.Needs.{needs}
 use Rattle.magnetar_c.proofs.tables.magnetar_eval_mle.Statement.{statement}
 use Rattle.magnetar_c.proofs.tables.magnetar_eval_mle.Tie as tie

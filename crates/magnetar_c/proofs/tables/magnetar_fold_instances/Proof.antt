@@ -1,7 +1,7 @@
 -- `magnetar_c::tables::magnetar_fold_instances` meets its contract.
 -- Assumes nothing.
 use mathlib.Core.Path.{ap, _∙_}
-use Rattle.magnetar_c.specs.Across.{evaluated}
+use Rattle.magnetar_c.specs.CStructs.{evaluated}
 use borrow.Author.Needs.{needs}
 use Rattle.magnetar_c.proofs.tables.magnetar_fold_instances.Statement.{statement}
 use Rattle.magnetar_c.proofs.tables.magnetar_fold_instances.Tie as tie

@@ -4,8 +4,8 @@ use Prim.Native.Nat.{_/_}
 use mathlib.Core.Path.{_≡_}
 use mathlib.Core.List.{_++_}
 use denote.Ref.{now}
-use Rattle.magnetar_layout.specs.Tests.{noted, sizeTests, layoutTests}
-use Rattle.magnetar_layout.proofs.Noted.{noted-front}
+use Rattle.magnetar_layout.specs.Tests.{firstRefusal, sizeTests, layoutTests}
+use Rattle.magnetar_layout.proofs.FirstRefusal.{first-refusal-front}
 use Rattle.magnetar_relation.specs.RuleTests.{given}
 use Rattle.magnetar_digest.proofs.Sizes.{layout-last}
 use borrow.Author.Needs.{needs}
@@ -14,8 +14,8 @@ use Rattle.magnetar_digest.proofs.steps.refusal.Tie as tie
 
 -- 1 to 7
 first : (c : tie.After-note3) → let a = c .before .before .before .before .before .before .args in
-    c .note3 .result ≡ noted 0 (sizeTests (a .m) (a .q) ++ given (a .z))
-first c = rw (c .note3 .ensures, c .before .note2 .ensures, c .before .before .is-size2 .ensures, c .before .before .before .note .ensures, c .before .before .before .before .is-size .ensures)
+    c .note3 .result ≡ firstRefusal 0 (sizeTests (a .m) (a .q) ++ given (a .z))
+first c = rw (c .note3 .ensures, c .before .note2 .ensures, c .before .before .is-size2 .ensures, c .before .before .before .orRefuse .ensures, c .before .before .before .before .is-size .ensures)
 
 is-size-requires : tie.Need-is-size-requires
 is-size-requires c κs = search needs
@@ -35,7 +35,7 @@ note-requires-3 c κs = search needs
 returns : tie.Need-returns
 returns c =
     let a = c .before .before .before .before .before .before .before .args in
-    noted-front (sizeTests (a .m) (a .q) ++ given (a .z)) (layoutTests (a .m / 2) (now (a .lens))) _ (first (c .before)) (c .if1 .taken)
+    first-refusal-front (sizeTests (a .m) (a .q) ++ given (a .z)) (layoutTests (a .m / 2) (now (a .lens))) _ (first (c .before)) (c .if1 .taken)
 
 refusal-requires : tie.Need-refusal-requires
 refusal-requires c κs = search needs

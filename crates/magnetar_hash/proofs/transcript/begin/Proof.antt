@@ -7,7 +7,7 @@ use native.Mathlib.Omega.{arith}
 use lib.ListN.{length}
 use Rattle.magnetar_hash.specs.Bytes.{ascii}
 use Rattle.magnetar_hash.specs.Parts.{parts}
-use Rattle.magnetar_hash.specs.Transcript.{begun}
+use Rattle.magnetar_hash.specs.Transcript.{newTranscript}
 use Rattle.magnetar_hash.proofs.Parts.{parts-join, serialized, domain-of, length-parts}
 use borrow.Author.Needs.{needs}
 use Rattle.magnetar_hash.proofs.transcript.begin.Statement.{statement}
@@ -35,7 +35,7 @@ finish-requires : tie.Need-finish-requires
 finish-requires c κs = search needs
 
 returns : tie.Need-returns
-unfolding begun ascii
+unfolding newTranscript ascii
 returns c =
     let a = c .before .before .before .before .before .before .before .before .before .before .before .before .before .args in
     let d = ascii "magnetar/transcript/v1" in

@@ -1,7 +1,7 @@
 -- `magnetar_layout::layout::witness_vars` meets its contract.
 -- Assumes nothing.
 use mathlib.Core.Path.{sym, _∙_}
-use Rattle.magnetar_layout.specs.Tests.{note}
+use Rattle.magnetar_layout.specs.Tests.{orRefuse}
 use Rattle.magnetar_layout.specs.Entries.{varsRefusal}
 use Rattle.magnetar_layout.proofs.Laid.{half-size}
 use borrow.Author.Needs.{needs}
@@ -15,11 +15,11 @@ log2-requires : tie.Need-log2-requires
 log2-requires c κs = search needs
 
 returns : tie.Need-returns
-unfolding varsRefusal note
+unfolding varsRefusal orRefuse
 returns c = rw (sym (half-size _) ∙ sym (c .before .before .is-size .ensures) ∙ c .before .if1 .taken, c .log2 .ensures .0)
 
 returns-2 : tie.Need-returns-2
-unfolding varsRefusal note
+unfolding varsRefusal orRefuse
 returns-2 c = rw (sym (half-size _) ∙ sym (c .before .is-size .ensures) ∙ c .if1 .left)
 
 pub witness-vars-spec : {M : Type 1} → statement M

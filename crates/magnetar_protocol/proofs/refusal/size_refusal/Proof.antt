@@ -2,7 +2,7 @@
 -- Assumes nothing.
 use mathlib.Core.List.{_++_}
 use Rattle.magnetar_layout.specs.Tests.{sizeTests, rowsTests}
-use Rattle.magnetar_layout.proofs.Noted.{noted-front, noted-late}
+use Rattle.magnetar_layout.proofs.FirstRefusal.{first-refusal-front, first-refusal-late}
 use Rattle.magnetar_protocol.proofs.Guards.{logins-given}
 use borrow.Author.Needs.{needs}
 use Rattle.magnetar_protocol.proofs.refusal.size_refusal.Statement.{statement}
@@ -14,7 +14,7 @@ login-refusal-requires c κs = search needs
 returns : tie.Need-returns
 returns c =
     let x = c .before .before .args in
-    noted-front (sizeTests (x .m) (x .q)) (rowsTests (x .q) (x .rb) ++ rowsTests (x .q) (x .rf)) _ (c .before .login-refusal .ensures) (c .if1 .taken)
+    first-refusal-front (sizeTests (x .m) (x .q)) (rowsTests (x .q) (x .rb) ++ rowsTests (x .q) (x .rf)) _ (c .before .login-refusal .ensures) (c .if1 .taken)
 
 rows-refusal-requires : tie.Need-rows-refusal-requires
 rows-refusal-requires c κs = let x = c .before .before .args in logins-given (x .m) (x .q) _ (c .before .login-refusal .ensures) (c .if1 .left) .logins .high
@@ -26,7 +26,7 @@ returns-2 : tie.Need-returns-2
 returns-2 c =
     let e = c .before .before in
     let x = e .before .before .args in
-    noted-late (sizeTests (x .m) (x .q)) (rowsTests (x .q) (x .rb) ++ rowsTests (x .q) (x .rf)) _ _ (e .before .login-refusal .ensures) (e .if1 .left)
+    first-refusal-late (sizeTests (x .m) (x .q)) (rowsTests (x .q) (x .rb) ++ rowsTests (x .q) (x .rf)) _ _ (e .before .login-refusal .ensures) (e .if1 .left)
     (rw (c .rows-refusal2 .ensures, c .before .rows-refusal .ensures))
 
 pub size-refusal-spec : {M : Type 1} → statement M

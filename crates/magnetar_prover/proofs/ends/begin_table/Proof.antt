@@ -1,6 +1,6 @@
 -- `magnetar_prover::ends::begin_table` meets its contract.
 -- Assumes nothing.
-use Rattle.magnetar_prover.proofs.Begun.{begun}
+use Rattle.magnetar_prover.proofs.EqTablePlaced.{eq-table-placed}
 use borrow.Author.Needs.{needs}
 use denote.Ref.{now}
 use lib.Seq.{length-take-le}
@@ -44,7 +44,7 @@ same-length c = search needs
 
 returns : tie.Need-returns
 returns c = let x = c .before .before .before .before .before .before .before .args in
-    begun (now (x .draws)) (now (x .s)) (c .before .before .build .last .1 .0) (x .o) (x .x) (x .w) (omega arith) (omega arith) (omega arith) (c
+    eq-table-placed (now (x .draws)) (now (x .s)) (c .before .before .build .last .1 .0) (x .o) (x .x) (x .w) (omega arith) (omega arith) (omega arith) (c
     .before .before .before .before .before .before .before .pre .1) (c .before .before .build .ensures .1)
 
 pub begin-table-spec : {M : Type 1} → statement M

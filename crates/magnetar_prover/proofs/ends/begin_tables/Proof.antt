@@ -2,7 +2,7 @@
 -- Assumes nothing.
 use Prim.Native.Nat.{_*_}
 use Rattle.magnetar_field.specs.Words.{elements}
-use Rattle.magnetar_prover.proofs.Begun.{both-fit, bin-begun, fld-begun}
+use Rattle.magnetar_prover.proofs.EqTablePlaced.{both-fit, bin-placed, fld-placed}
 use Rattle.magnetar_prover.proofs.Slots.{part-size}
 use borrow.Author.Needs.{needs}
 use denote.Ref.{now}
@@ -61,9 +61,9 @@ returns c = let x = c .before .before .before .before .before .before .before .b
       both-fit (now (x .s)) one two (x .wb) (x .wf) (c .before .before .before .before .before .before .before
           .before .before .before .pre .0 .3) l,
     )) in (
-      bin-begun (now (x .s)) one two (x .wb) (x .wf) (c .before .before .before .before .before .before .before .before .before .before .pre .0 .3) l
+      bin-placed (now (x .s)) one two (x .wb) (x .wf) (c .before .before .before .before .before .before .before .before .before .before .pre .0 .3) l
           m (take (x .sb) (elements (now (x .draws)))) (c .before .before .before .before .before .before .begin-table .ensures),
-      fld-begun (now (x .s)) one two (x .wb) (x .wf) (c .before .before .before .before .before .before .before .before .before .before .pre .0 .3) l
+      fld-placed (now (x .s)) one two (x .wb) (x .wf) (c .before .before .before .before .before .before .before .before .before .before .pre .0 .3) l
           m (take (x .sf) (drop (x .sb) (elements (now (x .draws))))) (c .before .before .begin-table2 .ensures),
     )
 

@@ -1,6 +1,6 @@
 -- `magnetar_prover::ends::send_block` meets its contract.
 -- Assumes nothing.
-use Rattle.magnetar_prover.proofs.Begun.{three-sent}
+use Rattle.magnetar_prover.proofs.EqTablePlaced.{three-sent}
 use borrow.Author.Needs.{needs}
 use denote.Ref.{now}
 use Rattle.magnetar_prover.proofs.ends.send_block.Statement.{statement}

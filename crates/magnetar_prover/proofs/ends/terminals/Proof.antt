@@ -1,6 +1,6 @@
 -- `magnetar_prover::ends::terminals` meets its contract.
 -- Assumes nothing.
-use Rattle.magnetar_prover.proofs.Begun.{six-sent}
+use Rattle.magnetar_prover.proofs.EqTablePlaced.{six-sent}
 use borrow.Author.Needs.{needs}
 use denote.Ref.{now}
 use Rattle.magnetar_prover.proofs.ends.terminals.Statement.{statement}

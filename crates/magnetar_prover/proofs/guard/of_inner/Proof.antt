@@ -2,7 +2,7 @@
 -- Assumes nothing.
 use Prim.Native.Nat.{_*_, _+_, _/_}
 use Rattle.magnetar_field.specs.Sizes.{log₂}
-use Rattle.magnetar_layout.proofs.Noted.{noted-front, noted-late}
+use Rattle.magnetar_layout.proofs.FirstRefusal.{first-refusal-front, first-refusal-late}
 use Rattle.magnetar_layout.specs.Tests.{Tests, columnTests, layoutTests, roomTest}
 use Rattle.magnetar_prover.proofs.Guarded.{Sizes, sizes-of}
 use Rattle.magnetar_protocol.specs.RunTests.{counterTests}
@@ -39,7 +39,7 @@ returns : tie.Need-returns
 unfolding innerRoundsRefusal
 returns c =
     let s = c .before .before .before .before .before .before in
-    noted-front (first s) (rest s) _ (c .before .of-sizes .ensures) (c .if1 .taken)
+    first-refusal-front (first s) (rest s) _ (c .before .of-sizes .ensures) (c .if1 .taken)
 
 log2-requires : tie.Need-log2-requires
 log2-requires c κs = search needs
@@ -47,41 +47,41 @@ log2-requires c κs = search needs
 of-counter-requires : tie.Need-of-counter-requires
 of-counter-requires c κs = search needs
 
-mul-note : tie.Need-mul-note
-mul-note c = let z = sized (c .before .before) in omega (arith, c .before .log2 .ensures .0, z .few)
+mul-refuse : tie.Need-mul-refuse
+mul-refuse c = let z = sized (c .before .before) in omega (arith, c .before .log2 .ensures .0, z .few)
 
-note-requires : tie.Need-note-requires
-note-requires c κs = search needs
+refuse-requires : tie.Need-refuse-requires
+refuse-requires c κs = search needs
 
-mul-note-2 : tie.Need-mul-note-2
-mul-note-2 c = let z = sized (c .before .before .before) in omega (arith, c .before .before .log2 .ensures .0, z .few)
+mul-refuse-2 : tie.Need-mul-refuse-2
+mul-refuse-2 c = let z = sized (c .before .before .before) in omega (arith, c .before .before .log2 .ensures .0, z .few)
 
-add-note : tie.Need-add-note
-add-note c = let z = sized (c .before .before .before) in omega (arith, c .before .before .log2 .ensures .0, z .few)
+add-refuse : tie.Need-add-refuse
+add-refuse c = let z = sized (c .before .before .before) in omega (arith, c .before .before .log2 .ensures .0, z .few)
 
-add-note-2 : tie.Need-add-note-2
-add-note-2 c = let z = sized (c .before .before .before) in omega (arith, c .before .before .log2 .ensures .0, z .few, z .segments)
+add-refuse-2 : tie.Need-add-refuse-2
+add-refuse-2 c = let z = sized (c .before .before .before) in omega (arith, c .before .before .log2 .ensures .0, z .few, z .segments)
 
-mul-note-3 : tie.Need-mul-note-3
-mul-note-3 c = let z = sized (c .before .before .before) in omega (arith, c .before .before .log2 .ensures .0, z .few, z .segments)
+mul-refuse-3 : tie.Need-mul-refuse-3
+mul-refuse-3 c = let z = sized (c .before .before .before) in omega (arith, c .before .before .log2 .ensures .0, z .few, z .segments)
 
-note-requires-2 : tie.Need-note-requires-2
-note-requires-2 c κs = search needs
+refuse-requires-2 : tie.Need-refuse-requires-2
+refuse-requires-2 c κs = search needs
 
-mul-note-4 : tie.Need-mul-note-4
-mul-note-4 c = omega (arith, sized (c .before .before .before .before) .columns .high)
+mul-refuse-4 : tie.Need-mul-refuse-4
+mul-refuse-4 c = omega (arith, sized (c .before .before .before .before) .columns .high)
 
-note-requires-3 : tie.Need-note-requires-3
-note-requires-3 c κs = search needs
+refuse-requires-3 : tie.Need-refuse-requires-3
+refuse-requires-3 c κs = search needs
 
 returns-2 : tie.Need-returns-2
 unfolding innerRoundsRefusal
 returns-2 c =
     let i = c .before .before .before .before .before in
-    noted-late (first (start i)) (rest (start i)) _ _ (i .before .of-sizes .ensures) (i .if1 .left) (rw (
-      c .note3 .ensures,
-      c .before .note2 .ensures,
-      c .before .before .note .ensures,
+    first-refusal-late (first (start i)) (rest (start i)) _ _ (i .before .of-sizes .ensures) (i .if1 .left) (rw (
+      c .refuse3 .ensures,
+      c .before .refuse2 .ensures,
+      c .before .before .refuse .ensures,
       c .before .before .before .of-counter .ensures,
       c .before .before .before .before .log2 .ensures .0,
     ))
@@ -94,13 +94,13 @@ of-inner-spec =
     returns
     log2-requires
     of-counter-requires
-    mul-note
-    note-requires
-    mul-note-2
-    add-note
-    add-note-2
-    mul-note-3
-    note-requires-2
-    mul-note-4
-    note-requires-3
+    mul-refuse
+    refuse-requires
+    mul-refuse-2
+    add-refuse
+    add-refuse-2
+    mul-refuse-3
+    refuse-requires-2
+    mul-refuse-4
+    refuse-requires-3
     returns-2)

@@ -7,7 +7,7 @@ use native.Mathlib.Omega.{arith}
 use denote.Ref.{now}
 use Rattle.magnetar_field.specs.Sizes.{log₂}
 use Rattle.magnetar_layout.specs.Tests.{roomTest}
-use Rattle.magnetar_layout.proofs.Noted.{noted-front, noted-late}
+use Rattle.magnetar_layout.proofs.FirstRefusal.{first-refusal-front, first-refusal-late}
 use Rattle.magnetar_prover.proofs.OuterGuard.{totals-of, logins-few, bin-few, fld-few}
 use Rattle.magnetar_protocol.specs.RunTests.{counterTests}
 use Rattle.magnetar_prover.specs.Entries.{countTests, totalTests, outerDrawn, outerSent, blockWords, outerRoundsRefusal}
@@ -22,7 +22,7 @@ returns : tie.Need-returns
 unfolding outerRoundsRefusal
 returns c =
     let x = c .before .before .before .before .before .args in
-    noted-front (countTests (x .q) (x .rb) (x .rf) ++ totalTests (x .q) (x .rb) (x .rf)) (counterTests (x .t .«squeeze_ctr») ++ (roomTest (2 * outerDrawn (log₂ (x
+    first-refusal-front (countTests (x .q) (x .rb) (x .rf) ++ totalTests (x .q) (x .rb) (x .rf)) (counterTests (x .t .«squeeze_ctr») ++ (roomTest (2 * outerDrawn (log₂ (x
     .q)) (log₂ (x .rb)) (log₂ (x .rf))) (now (x .draws)) ++ roomTest (2 * outerSent (log₂ (x .q)) (log₂ (x .rb)) (log₂ (x .rf))) (now (x .proof))
     ++ roomTest (blockWords (x .q) (x .rb) (x .rf)) (now (x .s)))) _ (c .before .of-counts .ensures) (c .if1 .taken)
 
@@ -71,27 +71,27 @@ block-words-requires c κs = let z = totals-of (c .before .before .before .befor
 of-counter-requires : tie.Need-of-counter-requires
 of-counter-requires c κs = search needs
 
-note-requires : tie.Need-note-requires
-note-requires c κs = search needs
+refuse-requires : tie.Need-refuse-requires
+refuse-requires c κs = search needs
 
-note-requires-2 : tie.Need-note-requires-2
-note-requires-2 c κs = search needs
+refuse-requires-2 : tie.Need-refuse-requires-2
+refuse-requires-2 c κs = search needs
 
-note-requires-3 : tie.Need-note-requires-3
-note-requires-3 c κs = search needs
+refuse-requires-3 : tie.Need-refuse-requires-3
+refuse-requires-3 c κs = search needs
 
 returns-2 : tie.Need-returns-2
 unfolding outerRoundsRefusal
 returns-2 c =
     let x = c .before .before .before .before .before .before .before .before .before .before .before .before .before .before .before .args in
-    noted-late (countTests (x .q) (x .rb) (x .rf) ++ totalTests (x .q) (x .rb) (x .rf)) (counterTests (x .t .«squeeze_ctr») ++ (roomTest (2 * outerDrawn (log₂ (x
+    first-refusal-late (countTests (x .q) (x .rb) (x .rf) ++ totalTests (x .q) (x .rb) (x .rf)) (counterTests (x .t .«squeeze_ctr») ++ (roomTest (2 * outerDrawn (log₂ (x
     .q)) (log₂ (x .rb)) (log₂ (x .rf))) (now (x .draws)) ++ roomTest (2 * outerSent (log₂ (x .q)) (log₂ (x .rb)) (log₂ (x .rf))) (now (x .proof))
     ++ roomTest (blockWords (x .q) (x .rb) (x .rf)) (now (x .s)))) _ _ (c .before .before .before .before .before .before .before .before .before
     .before .before .of-counts .ensures) (c .before .before .before .before .before .before .before .before .before .before .if1 .left) (rw (
       c
-          .note3 .ensures,
-      c .before .note2 .ensures,
-      c .before .before .note .ensures,
+          .refuse3 .ensures,
+      c .before .refuse2 .ensures,
+      c .before .before .refuse .ensures,
       c .before .before .before .of-counter .ensures,
       c .before
           .before .before .before .before .before .drawn-words .ensures,
@@ -118,7 +118,7 @@ of-outer-spec =
     sent-words-requires
     block-words-requires
     of-counter-requires
-    note-requires
-    note-requires-2
-    note-requires-3
+    refuse-requires
+    refuse-requires-2
+    refuse-requires-3
     returns-2)

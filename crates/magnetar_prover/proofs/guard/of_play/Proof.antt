@@ -87,32 +87,32 @@ small c =
       outlined-given (x .m) (x .q) (x .rb) (x .rf) (now (x .lens)) _ (c .before .before .before .before .before .before .before .before .before .before .outline-refusal .ensures) (c .before .before .before .before .before .before .before .before .before .if1 .left) .few,
     )
 
-mul-note : tie.Need-mul-note
-mul-note c = omega (arith, small (c .before) .0)
+mul-refuse : tie.Need-mul-refuse
+mul-refuse c = omega (arith, small (c .before) .0)
 
-add-note : tie.Need-add-note
-add-note c = omega (arith, small (c .before) .0, small (c .before) .1)
+add-refuse : tie.Need-add-refuse
+add-refuse c = omega (arith, small (c .before) .0, small (c .before) .1)
 
-note-requires : tie.Need-note-requires
-note-requires c κs = search needs
+refuse-requires : tie.Need-refuse-requires
+refuse-requires c κs = search needs
 
-mul-note-2 : tie.Need-mul-note-2
-mul-note-2 c = omega (arith, small (c .before .before) .0, small (c .before .before) .3)
+mul-refuse-2 : tie.Need-mul-refuse-2
+mul-refuse-2 c = omega (arith, small (c .before .before) .0, small (c .before .before) .3)
 
-add-note-2 : tie.Need-add-note-2
-add-note-2 c = omega (arith, small (c .before .before) .0, small (c .before .before) .3)
+add-refuse-2 : tie.Need-add-refuse-2
+add-refuse-2 c = omega (arith, small (c .before .before) .0, small (c .before .before) .3)
 
-add-note-3 : tie.Need-add-note-3
-add-note-3 c = omega (arith, small (c .before .before) .0, small (c .before .before) .3)
+add-refuse-3 : tie.Need-add-refuse-3
+add-refuse-3 c = omega (arith, small (c .before .before) .0, small (c .before .before) .3)
 
-mul-note-3 : tie.Need-mul-note-3
-mul-note-3 c = omega (arith, small (c .before .before) .0, small (c .before .before) .3)
+mul-refuse-3 : tie.Need-mul-refuse-3
+mul-refuse-3 c = omega (arith, small (c .before .before) .0, small (c .before .before) .3)
 
-add-note-4 : tie.Need-add-note-4
-add-note-4 c = omega (arith, small (c .before .before) .0, small (c .before .before) .2, small (c .before .before) .3)
+add-refuse-4 : tie.Need-add-refuse-4
+add-refuse-4 c = omega (arith, small (c .before .before) .0, small (c .before .before) .2, small (c .before .before) .3)
 
-note-requires-2 : tie.Need-note-requires-2
-note-requires-2 c κs = search needs
+refuse-requires-2 : tie.Need-refuse-requires-2
+refuse-requires-2 c κs = search needs
 
 returns-2 : tie.Need-returns-2
 returns-2 c =
@@ -128,7 +128,7 @@ returns-2 c =
     let sent : w .sent-words .result ≡ 2 * outerSent (log₂ (x .q)) (log₂ (x .rb)) (log₂ (x .rf)) =
     rw (w .sent-words .ensures, l5 .log25 .ensures .0, w .before .before .log26 .ensures .0, w .before .log27 .ensures .0) in
     play-words (x .m) (x .q) (x .rb) (x .rf) (now (x .lens)) (now (x .proof)) (now (x .draws)) (x .t) _ _ _ _ _ _ _
-    (i .before .outline-refusal .ensures) (i .if1 .left) (l1 .log2 .ensures .0) drawn sent (c .before .before .of-counter .ensures) (c .before .note .ensures) (c .note2 .ensures)
+    (i .before .outline-refusal .ensures) (i .if1 .left) (l1 .log2 .ensures .0) drawn sent (c .before .before .of-counter .ensures) (c .before .refuse .ensures) (c .refuse2 .ensures)
 
 pub of-play-spec : {M : Type 1} → statement M
 of-play-spec =
@@ -146,13 +146,13 @@ of-play-spec =
     log2-requires-7
     sent-words-requires
     of-counter-requires
-    mul-note
-    add-note
-    note-requires
-    mul-note-2
-    add-note-2
-    add-note-3
-    mul-note-3
-    add-note-4
-    note-requires-2
+    mul-refuse
+    add-refuse
+    refuse-requires
+    mul-refuse-2
+    add-refuse-2
+    add-refuse-3
+    mul-refuse-3
+    add-refuse-4
+    refuse-requires-2
     returns-2)

@@ -1,8 +1,8 @@
 -- `magnetar_prover::guard::of_sizes` meets its contract.
 -- Assumes nothing.
 use Prim.Native.Nat.{_/_}
-use Rattle.magnetar_layout.proofs.Noted.{noted-front}
-use Rattle.magnetar_layout.specs.Tests.{noted, columnTests, layoutTests}
+use Rattle.magnetar_layout.proofs.FirstRefusal.{first-refusal-front}
+use Rattle.magnetar_layout.specs.Tests.{firstRefusal, columnTests, layoutTests}
 use Rattle.magnetar_prover.proofs.Guarded.{layout-rest}
 use borrow.Author.Needs.{needs}
 use denote.Ref.{now}
@@ -11,19 +11,19 @@ use Rattle.magnetar_prover.proofs.guard.of_sizes.Statement.{statement}
 use Rattle.magnetar_prover.proofs.guard.of_sizes.Tie as tie
 
 -- what the test of the columns gave
-columns : (c : tie.After-note) → c .note .result ≡ noted 0 (columnTests (c .before .before .before .args .m))
-columns c = rw (c .note .ensures, c .before .is-size .ensures)
+columns : (c : tie.After-refuse) → c .refuse .result ≡ firstRefusal 0 (columnTests (c .before .before .before .args .m))
+columns c = rw (c .refuse .ensures, c .before .is-size .ensures)
 
 is-size-requires : tie.Need-is-size-requires
 is-size-requires c κs = search needs
 
-note-requires : tie.Need-note-requires
-note-requires c κs = search needs
+refuse-requires : tie.Need-refuse-requires
+refuse-requires c κs = search needs
 
 returns : tie.Need-returns
 returns c =
     let x = c .before .before .before .before .args in
-    noted-front (columnTests (x .m)) (layoutTests (x .m / 2) (now (x .lens))) _ (columns (c .before)) (c .if1 .taken)
+    first-refusal-front (columnTests (x .m)) (layoutTests (x .m / 2) (now (x .lens))) _ (columns (c .before)) (c .if1 .taken)
 
 refusal-requires : tie.Need-refusal-requires
 refusal-requires c κs = search needs
@@ -37,4 +37,4 @@ returns-2 c =
 pub of-sizes-spec : {M : Type 1} → statement M
 of-sizes-spec =
     tie.close
-    (tie.spec is-size-requires note-requires returns refusal-requires returns-2)
+    (tie.spec is-size-requires refuse-requires returns refusal-requires returns-2)

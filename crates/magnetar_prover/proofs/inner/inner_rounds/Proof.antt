@@ -4,7 +4,7 @@ use Prim.Native.Nat.{_*_, _+_, _/_, ℕ}
 use Rattle.magnetar_field.specs.Words.{overlaid, words}
 use Rattle.magnetar_hash.specs.declared.transcript.Transcript.{Transcript}
 use Rattle.magnetar_schedule.specs.Stepwise.{Steps}
-use Rattle.magnetar_layout.proofs.Noted.{done, turned}
+use Rattle.magnetar_layout.proofs.FirstRefusal.{done, turned}
 use Rattle.magnetar_prover.proofs.Entered.{entered, laid-over}
 use Rattle.magnetar_prover.proofs.Guarded.{inner-fits, ready}
 use Rattle.magnetar_prover.specs.Entries.{innerRoundsRefusal}
@@ -152,7 +152,7 @@ returns-2 c = let x = c .before .before .before .before .before .before .before 
     .before .before .before .before .before .log2 .result = c .before .before .before .before .before .before .run .kept .1 .1 .1 .1 .0 ∙
     length-take-le _ _ (omega (arith, k, f .drawn)) in
     let l : length (take (6 * x .m) (now (x .s))) ≡ 6 * x .m = length-take-le _ _ (f .scratch) in (
-      ap₂ (λ (n : ℕ) (u : Transcript). record { code = n; transcript = u }) e (ap (λ (p : Steps). p .played .transcript) q ∙ done _ (x .t) e refl),
+      ap₂ (λ (n : ℕ) (u : Transcript). record { code = n; transcript = u }) e (ap (λ (p : Steps). p .runState .transcript) q ∙ done _ (x .t) e refl),
       (
         laid-over (c .before .before .before .before .before .before .run .last .1 .1 .1 .0) (now (x .proof)) (2 * (3 * c .before .before .before
             .before .before .before .before .before .before .before .log2 .result + 1 + length (now (x .lens)))) (3 * c .before .before .before
@@ -166,7 +166,7 @@ returns-2 c = let x = c .before .before .before .before .before .before .before 
                 arith,
                 c .before .before .slice-known5 .given
                     i,
-              )) ∙ (ap (λ (p : Steps). overlaid (words (p .played .draws)) (now (x .draws))) q ∙ done _ (now (x .draws)) e refl),
+              )) ∙ (ap (λ (p : Steps). overlaid (words (p .runState .draws)) (now (x .draws))) q ∙ done _ (now (x .draws)) e refl),
           rw (c .before .before .before .before .before .before .run .ensures .1, l) (done _ (now (x .s)) e refl),
         ),
       ),

@@ -2,7 +2,7 @@
 -- Assumes nothing.
 use Prim.Native.Nat.{_*_, _-_, _≤_}
 use Rattle.magnetar_prover.proofs.InnerSteps.{Inners, inners-end, inners-next, inners-start, inners-table}
-use Rattle.magnetar_prover.specs.Held.{innerIn}
+use Rattle.magnetar_prover.specs.InScratch.{innerIn}
 use borrow.Author.Needs.{needs}
 use lib.ListN.{length}
 use mathlib.Core.Path.{_≡_, refl}

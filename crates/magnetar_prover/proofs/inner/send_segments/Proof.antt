@@ -6,7 +6,7 @@ use Rattle.magnetar_field.specs.Words.{elements}
 use Rattle.magnetar_schedule.specs.Schedule.{numbered}
 use Rattle.magnetar_prover.proofs.Segments.{Each, each-done, each-more, each-start-at}
 use Rattle.magnetar_prover.specs.Entries.{tableAt}
-use Rattle.magnetar_prover.specs.Held.{absorbedOne, sentIn, segmentIn}
+use Rattle.magnetar_prover.specs.InScratch.{absorbedOne, sentIn, segmentIn}
 use borrow.Author.Needs.{needs}
 use denote.Ref.{now}
 use lib.ListN.{length, take}

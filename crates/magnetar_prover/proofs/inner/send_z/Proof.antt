@@ -5,7 +5,7 @@ use Rattle.magnetar_field.specs.Gf128.{value}
 use Rattle.magnetar_field.specs.Words.{elements}
 use Rattle.magnetar_hash.specs.Bytes.{ascii}
 use Rattle.magnetar_prover.proofs.Sent.{drawn-more, one-absorbed, table-first}
-use Rattle.magnetar_prover.specs.Held.{absorbedOne}
+use Rattle.magnetar_prover.specs.InScratch.{absorbedOne}
 use borrow.Author.Needs.{needs}
 use denote.Ref.{now}
 use lib.ListN.{take}

@@ -3,7 +3,7 @@
 use Prim.Native.Nat.{_*_, _+_, _-_, _≤_}
 use Rattle.magnetar_field.specs.Gf128.{value}
 use Rattle.magnetar_prover.proofs.RowSteps.{Rowing, rowing-end, rowing-next, rowing-rows, rowing-start}
-use Rattle.magnetar_prover.specs.Held.{rowIn}
+use Rattle.magnetar_prover.specs.InScratch.{rowIn}
 use Rattle.magnetar_prover.specs.Labels.{rowLabel}
 use borrow.Author.Needs.{needs}
 use denote.Ref.{now}

@@ -9,7 +9,7 @@ use denote.Ref.{now}
 use Rattle.magnetar_field.specs.Words.{overlaid, words}
 use Rattle.magnetar_hash.specs.declared.transcript.Transcript.{Transcript}
 use Rattle.magnetar_schedule.specs.Stepwise.{Steps}
-use Rattle.magnetar_layout.proofs.Noted.{done, turned}
+use Rattle.magnetar_layout.proofs.FirstRefusal.{done, turned}
 use Rattle.magnetar_prover.proofs.Entered.{laid-over}
 use Rattle.magnetar_prover.proofs.OuterGuard.{outer-fits, blocks-lent, logins-few, bin-few, fld-few}
 use Rattle.magnetar_prover.proofs.OuterParts.{played-is}
@@ -385,7 +385,7 @@ returns-2 c = let f = outer-fits (c .before .before .before .before .before .bef
       f .scratch,
     )) ∙ c .before .before .before
     .before .before .before .before .before .before .before .before .before .block-words .ensures in (
-      ap₂ (λ (n : ℕ) (u : Transcript). record { code = n; transcript = u }) e (ap (λ (p : Steps). p .played .transcript) q ∙ done _ (c .before
+      ap₂ (λ (n : ℕ) (u : Transcript). record { code = n; transcript = u }) e (ap (λ (p : Steps). p .runState .transcript) q ∙ done _ (c .before
           .before .before .before .before .before .before .before .before .before .before .before .before .before .before .before .before .before
           .before .before .before .before .before .before .before .before .args .t) e refl),
       (
@@ -434,7 +434,7 @@ returns-2 c = let f = outer-fits (c .before .before .before .before .before .bef
                     .before .before .before .log23 .ensures .0,
                 f .drawn,
               )) (λ i. omega (arith, c .before .before .slice-known5 .given i)) ∙ (ap (λ (p :
-              Steps). overlaid (words (p .played .draws)) (now (c .before .before .before .before .before .before .before .before .before .before
+              Steps). overlaid (words (p .runState .draws)) (now (c .before .before .before .before .before .before .before .before .before .before
               .before .before .before .before .before .before .before .before .before .before .before .before .before .before .before .before .args
               .draws))) q ∙ done _ (now (c .before .before .before .before .before .before .before .before .before .before .before .before .before
               .before .before .before .before .before .before .before .before .before .before .before .before .before .args .draws)) e refl),

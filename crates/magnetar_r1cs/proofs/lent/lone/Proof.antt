@@ -7,14 +7,14 @@ use Rattle.magnetar_r1cs.proofs.lent.lone.Tie as tie
 is-size-requires : tie.Need-is-size-requires
 is-size-requires c κs = search needs
 
-note-requires : tie.Need-note-requires
-note-requires c κs = search needs
+refuse-requires : tie.Need-refuse-requires
+refuse-requires c κs = search needs
 
 is-size-requires-2 : tie.Need-is-size-requires-2
 is-size-requires-2 c κs = search needs
 
-note-requires-2 : tie.Need-note-requires-2
-note-requires-2 c κs = search needs
+refuse-requires-2 : tie.Need-refuse-requires-2
+refuse-requires-2 c κs = search needs
 
 counts-requires : tie.Need-counts-requires
 counts-requires c κs = search needs
@@ -26,9 +26,9 @@ returns : tie.Need-returns
 returns c = rw (
   c .places .ensures,
   c .before .counts .ensures,
-  c .before .before .note2 .ensures,
+  c .before .before .refuse2 .ensures,
   c .before .before .before .is-size2 .ensures,
-  c .before .before .before .before .note .ensures,
+  c .before .before .before .before .refuse .ensures,
   c .before .before .before .before .before .is-size .ensures,
 )
 
@@ -37,9 +37,9 @@ lone-spec =
     tie.close
     (tie.spec
     is-size-requires
-    note-requires
+    refuse-requires
     is-size-requires-2
-    note-requires-2
+    refuse-requires-2
     counts-requires
     places-requires
     returns)

@@ -1,7 +1,7 @@
 -- `magnetar_r1cs::lent::places` meets its contract.
 -- Assumes nothing.
 use mathlib.Core.Path.{sym}
-use Rattle.magnetar_layout.proofs.Noted.{note-kept}
+use Rattle.magnetar_layout.proofs.FirstRefusal.{note-kept}
 use borrow.Author.Needs.{needs}
 use Rattle.magnetar_r1cs.proofs.lent.places.Statement.{statement}
 use Rattle.magnetar_r1cs.proofs.lent.places.Tie as tie
@@ -12,14 +12,14 @@ returns c = let h = c .if1 .taken in sym (simp note-kept)
 all-below-requires : tie.Need-all-below-requires
 all-below-requires c κs = search needs
 
-note-requires : tie.Need-note-requires
-note-requires c κs = search needs
+refuse-requires : tie.Need-refuse-requires
+refuse-requires c κs = search needs
 
 all-below-requires-2 : tie.Need-all-below-requires-2
 all-below-requires-2 c κs = search needs
 
-note-requires-2 : tie.Need-note-requires-2
-note-requires-2 c κs = search needs
+refuse-requires-2 : tie.Need-refuse-requires-2
+refuse-requires-2 c κs = search needs
 
 returns-2 : tie.Need-returns-2
 returns-2 c = cc
@@ -30,7 +30,7 @@ places-spec =
     (tie.spec
     returns
     all-below-requires
-    note-requires
+    refuse-requires
     all-below-requires-2
-    note-requires-2
+    refuse-requires-2
     returns-2)

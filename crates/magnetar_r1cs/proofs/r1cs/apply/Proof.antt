@@ -12,9 +12,9 @@ use lib.ListN.{length}
 use lib.Seq.{length-take-le}
 use borrow.Author.Tests.{ltb-false}
 use Rattle.magnetar_matrix.specs.Matrix.{times, timesAt}
-use Rattle.magnetar_layout.specs.Tests.{Tests, noted, loneTests, lengthTest, roomTest}
+use Rattle.magnetar_layout.specs.Tests.{Tests, firstRefusal, loneTests, lengthTest, roomTest}
 use Rattle.magnetar_r1cs.specs.Entries.{applyRefusal}
-use Rattle.magnetar_layout.proofs.Noted.{noted-front, noted-late, noted-clear, turned, done}
+use Rattle.magnetar_layout.proofs.FirstRefusal.{first-refusal-front, first-refusal-late, first-refusal-clear, turned, done}
 use Rattle.magnetar_r1cs.proofs.Lone.{lone}
 use borrow.Author.Needs.{needs}
 use Rattle.magnetar_r1cs.proofs.r1cs.apply.Statement.{statement}
@@ -29,8 +29,8 @@ abbrev rest : tie.Start → Tests
 rest s = lengthTest (2 * s .args .cols) (now (s .args .z)) ++ roomTest (2 * s .args .rows) (now (s .args .out))
 
 -- the later tests, at the second return
-late : (c : tie.After-note2) → c .note2 .result ≡ noted 0 (rest (c .before .before .before .before .before .before .before .before .before .before))
-late c = rw (c .note2 .ensures, c .before .note .ensures)
+late : (c : tie.After-refuse2) → c .refuse2 .result ≡ firstRefusal 0 (rest (c .before .before .before .before .before .before .before .before .before .before))
+late c = rw (c .refuse2 .ensures, c .before .refuse .ensures)
 
 -- what is known once nothing is refused
 matrix-fits : (c : tie.Else2) → Lone (mat (c .before .before .before .before .before .before .before .before .before .before .before))
@@ -39,7 +39,7 @@ matrix-fits c = lone _ (sym (c .before .before .before .before .lone .ensures) �
 out-fits : (c : tie.Else2) → let x = c .before .before .before .before .before .before .before .before .before .before .before .args in 2 * x .rows ≤ length (now (x .out))
 out-fits c =
     let s = c .before .before .before .before .before .before .before .before .before .before .before in
-    ltb-false _ _ (noted-clear 0 (rest s) refl (sym (late (c .before)) ∙ c .if2 .left) .1 .1 .0)
+    ltb-false _ _ (first-refusal-clear 0 (rest s) refl (sym (late (c .before)) ∙ c .if2 .left) .1 .1 .0)
 
 lone-requires : tie.Need-lone-requires
 lone-requires c κs = search needs
@@ -48,30 +48,30 @@ returns : tie.Need-returns
 unfolding applyRefusal
 returns c =
     let s = c .before .before .before .before .before .before .before .before in
-    let e = noted-front (loneTests (mat s)) (rest s) _ (c .before .lone .ensures) (c .if1 .taken) in
+    let e = first-refusal-front (loneTests (mat s)) (rest s) _ (c .before .lone .ensures) (c .if1 .taken) in
     (e, turned _ _ e (c .if1 .taken))
 
-mul-note : tie.Need-mul-note
-mul-note c =
+mul-refuse : tie.Need-mul-refuse
+mul-refuse c =
     let s = c .before .before .before .before .before .before .before .before in
     omega (arith, lone (mat s) (sym (c .before .lone .ensures) ∙ c .if1 .left) .cols-size .high)
 
-note-requires : tie.Need-note-requires
-note-requires c κs = search needs
+refuse-requires : tie.Need-refuse-requires
+refuse-requires c κs = search needs
 
-mul-note-2 : tie.Need-mul-note-2
-mul-note-2 c =
+mul-refuse-2 : tie.Need-mul-refuse-2
+mul-refuse-2 c =
     let s = c .before .before .before .before .before .before .before .before .before in
     omega (arith, lone (mat s) (sym (c .before .before .lone .ensures) ∙ c .before .if1 .left) .rows-size .high)
 
-note-requires-2 : tie.Need-note-requires-2
-note-requires-2 c κs = search needs
+refuse-requires-2 : tie.Need-refuse-requires-2
+refuse-requires-2 c κs = search needs
 
 returns-2 : tie.Need-returns-2
 unfolding applyRefusal
 returns-2 c =
     let s = c .before .before .before .before .before .before .before .before .before .before .before in
-    let e = noted-late (loneTests (mat s)) (rest s) _ _ (c .before .before .before .before .lone .ensures) (c .before .before .before .if1 .left) (late (c .before)) in
+    let e = first-refusal-late (loneTests (mat s)) (rest s) _ _ (c .before .before .before .before .lone .ensures) (c .before .before .before .if1 .left) (late (c .before)) in
     (e, turned _ _ e (c .if2 .taken))
 
 mul-end : tie.Need-mul-end
@@ -94,7 +94,7 @@ unfolding applyRefusal times timesAt matrixOf
 returns-3 c =
     let s = c .before .before .before .before .before .before .before .before .before .before .before .before .before .before .before in
     let k = c .before .before .before .before in
-    let e = sym (k .if2 .left) ∙ noted-late (loneTests (mat s)) (rest s) _ _ (k .before .before .before .before .lone .ensures) (k .before .before .before .if1 .left) (late (k .before)) in
+    let e = sym (k .if2 .left) ∙ first-refusal-late (loneTests (mat s)) (rest s) _ _ (k .before .before .before .before .lone .ensures) (k .before .before .before .if1 .left) (late (k .before)) in
     (e, in-front _ _ _ _ (out-fits k) (c .before .before .product .ensures) ∙ done _ _ e refl)
 
 pub apply-spec : {M : Type 1} → statement M
@@ -103,10 +103,10 @@ apply-spec =
     (tie.spec
     lone-requires
     returns
-    mul-note
-    note-requires
-    mul-note-2
-    note-requires-2
+    mul-refuse
+    refuse-requires
+    mul-refuse-2
+    refuse-requires-2
     returns-2
     mul-end
     slice-relend-prefix-product

@@ -11,8 +11,8 @@ use borrow.Author.Tests.{ltb-false, not-false}
 use denote.Ref.{now}
 use Rattle.magnetar_field.specs.Sizes.{log₂}
 use Rattle.magnetar_field.proofs.Log2.{power-is}
-use Rattle.magnetar_layout.specs.Tests.{Tests, noted, roomTest}
-use Rattle.magnetar_layout.proofs.Noted.{noted-front, noted-late, noted-clear, turned, done}
+use Rattle.magnetar_layout.specs.Tests.{Tests, firstRefusal, roomTest}
+use Rattle.magnetar_layout.proofs.FirstRefusal.{first-refusal-front, first-refusal-late, first-refusal-clear, turned, done}
 use Rattle.magnetar_layout.proofs.Room.{room-short, room-enough}
 use Rattle.magnetar_matrix.specs.Matrix.{bitValued}
 use Rattle.magnetar_matrix.specs.Lent.{Lent, lent, matrixOf}
@@ -37,9 +37,9 @@ second s = let x = s .args in maskTests (mat s) (x .q) (x .w) (x .v)
 abbrev third : tie.Start → Tests
 third s = let x = s .args in roomTest (maskCount (mat s) (x .q) (x .v)) (now (x .out))
 
-late : (c : tie.After-note3) → c .note3 .result ≡ noted 0 (second (c .before .before .before .before .before .before .before .before .before .before .before .before .before))
+late : (c : tie.After-refuse3) → c .refuse3 .result ≡ firstRefusal 0 (second (c .before .before .before .before .before .before .before .before .before .before .before .before .before))
 unfolding bitValued matrixOf
-late c = rw (c .note3 .ensures, c .before .note2 .ensures, c .before .before .note .ensures, c .before .before .before .bit-valued .ensures, c .before .before .before .before .log2 .ensures .0)
+late c = rw (c .refuse3 .ensures, c .before .refuse2 .ensures, c .before .before .refuse .ensures, c .before .before .before .bit-valued .ensures, c .before .before .before .before .log2 .ensures .0)
 
 -- what is known once the tests have passed
 ok : (c : tie.Else1) → let s = c .before .before .before .before .before .before .before .before in Batched (mat s) (now (s .args .packed)) [] (s .args .q) (s .args .w)
@@ -53,7 +53,7 @@ record Fits (s : tie.Start) : Type 0 where
 fits : (c : tie.Else2) → Fits (c .before .before .before .before .before .before .before .before .before .before .before .before .before .before)
 fits c =
     let s = c .before .before .before .before .before .before .before .before .before .before .before .before .before .before in
-    let k = noted-clear 0 (second s) refl (sym (late (c .before)) ∙ c .if2 .left) .1 in
+    let k = first-refusal-clear 0 (second s) refl (sym (late (c .before)) ∙ c .if2 .left) .1 in
     let h = ltb-false _ _ (k .1 .0) in
     record { bits = not-false _ (k .0); most = h; powers = powers-of (s .args .q) (s .args .v) (ok (c .before .before .before .before .before .before) .logins) h (ltb-false _ _ (k .1 .1 .0)) }
 
@@ -86,7 +86,7 @@ returns : tie.Need-returns
 unfolding masksRefusal
 returns c =
     let s = c .before .before .before .before .before .before .before .before in
-    let e = noted-front (first s) (second s ++ third s) _ (c .before .matrix-refusal .ensures) (c .if1 .taken) in
+    let e = first-refusal-front (first s) (second s ++ third s) _ (c .before .matrix-refusal .ensures) (c .if1 .taken) in
     (e, turned _ _ e (c .if1 .taken))
 
 log2-requires : tie.Need-log2-requires
@@ -95,21 +95,21 @@ log2-requires c κs = search needs
 bit-valued-requires : tie.Need-bit-valued-requires
 bit-valued-requires c κs = let o = ok (c .before) in (o .entries .equal, o .half)
 
-note-requires : tie.Need-note-requires
-note-requires c κs = search needs
+refuse-requires : tie.Need-refuse-requires
+refuse-requires c κs = search needs
 
-note-requires-2 : tie.Need-note-requires-2
-note-requires-2 c κs = search needs
+refuse-requires-2 : tie.Need-refuse-requires-2
+refuse-requires-2 c κs = search needs
 
-note-requires-3 : tie.Need-note-requires-3
-note-requires-3 c κs = search needs
+refuse-requires-3 : tie.Need-refuse-requires-3
+refuse-requires-3 c κs = search needs
 
 returns-2 : tie.Need-returns-2
 unfolding masksRefusal
 returns-2 c =
     let s = c .before .before .before .before .before .before .before .before .before .before .before .before .before .before in
-    let e = noted-late (first s) (second s ++ third s) _ _ (c .before .before .before .before .before .before .before .matrix-refusal .ensures) (c
-    .before .before .before .before .before .before .if1 .left) (noted-front (second s) (third s) _ (late (c .before)) (c .if2 .taken)) in
+    let e = first-refusal-late (first s) (second s ++ third s) _ _ (c .before .before .before .before .before .before .before .matrix-refusal .ensures) (c
+    .before .before .before .before .before .before .if1 .left) (first-refusal-front (second s) (third s) _ (late (c .before)) (c .if2 .taken)) in
     (e, turned _ _ e (c .if2 .taken))
 
 sub-power-of-two : tie.Need-sub-power-of-two
@@ -138,9 +138,9 @@ returns-3 c =
     let s = c .before .before .before .before .before .before .before .before .before .before .before .before .before .before .before .before .before in
     let x = s .args in
     let t : length (now (x .out)) < maskCount (mat s) (x .q) (x .v) = rw (← low-is (c .before)) (c .if3 .taken) in
-    let e : _≡_ {A = ℕ} 15 (noted 0 (first s ++ second s ++ third s)) = noted-late (first s) (second s ++ third s) _ _ (c .before .before .before
+    let e : _≡_ {A = ℕ} 15 (firstRefusal 0 (first s ++ second s ++ third s)) = first-refusal-late (first s) (second s ++ third s) _ _ (c .before .before .before
     .before .before .before .before .before .before .before .matrix-refusal .ensures) (c .before .before .before .before .before .before .before
-    .before .before .if1 .left) (noted-late (second s) (third s) _ _ (late (c .before .before .before .before)) (c .before .before .before .if2
+    .before .before .if1 .left) (first-refusal-late (second s) (third s) _ _ (late (c .before .before .before .before)) (c .before .before .before .if2
     .left) (room-short (maskCount (mat s) (x .q) (x .v)) (now (x .out)) t)) in
     (e, turned {n = 15} _ _ e (λ h. omega (arith, h)))
 
@@ -178,9 +178,9 @@ returns-4 c =
     let x = s .args in
     let k = c .before .before .before .before in
     let t : maskCount (mat s) (x .q) (x .v) ≤ length (now (x .out)) = rw (← low-is (k .before)) (k .if3 .left) in
-    let e : _≡_ {A = ℕ} 0 (noted 0 (first s ++ second s ++ third s)) = noted-late (first s) (second s ++ third s) _ _ (c .before .before .before
+    let e : _≡_ {A = ℕ} 0 (firstRefusal 0 (first s ++ second s ++ third s)) = first-refusal-late (first s) (second s ++ third s) _ _ (c .before .before .before
     .before .before .before .before .before .before .before .before .before .before .before .matrix-refusal .ensures) (c .before .before .before
-    .before .before .before .before .before .before .before .before .before .before .if1 .left) (noted-late (second s) (third s) _ _ (late (c
+    .before .before .before .before .before .before .before .before .before .before .if1 .left) (first-refusal-late (second s) (third s) _ _ (late (c
     .before .before .before .before .before .before .before .before)) (c .before .before .before .before .before .before .before .if2 .left)
     (room-enough (maskCount (mat s) (x .q) (x .v)) (now (x .out)) t)) in
     let g = masks-in-front (mat s) (now (x .packed)) (now (x .out)) _ (x .q) (x .w) (x .v) _ _ (low-is (k .before)) (high-is (k .before)) (fits (c
@@ -196,9 +196,9 @@ apply-simd-bit-masks-spec =
     returns
     log2-requires
     bit-valued-requires
-    note-requires
-    note-requires-2
-    note-requires-3
+    refuse-requires
+    refuse-requires-2
+    refuse-requires-3
     returns-2
     sub-power-of-two
     power-of-two-requires

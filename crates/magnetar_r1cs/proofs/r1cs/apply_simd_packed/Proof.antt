@@ -7,11 +7,11 @@ use native.Mathlib.Omega.{arith}
 use lib.Seq.{length-take-le}
 use denote.Ref.{now}
 use Rattle.magnetar_matrix.specs.Lent.{Lent, lent, matrixOf}
-use Rattle.magnetar_layout.specs.Tests.{Tests, noted, roomTest, batchTests}
+use Rattle.magnetar_layout.specs.Tests.{Tests, firstRefusal, roomTest, batchTests}
 use Rattle.magnetar_field.specs.Words.{elements}
 use Rattle.magnetar_matrix.specs.Matrix.{bitValued}
 use Rattle.magnetar_r1cs.specs.Entries.{packedRefusal}
-use Rattle.magnetar_layout.proofs.Noted.{noted-front, noted-late, turned, done}
+use Rattle.magnetar_layout.proofs.FirstRefusal.{first-refusal-front, first-refusal-late, turned, done}
 use Rattle.magnetar_r1cs.proofs.Flags.{flag-refused, flag-yes, flag-no}
 use Rattle.magnetar_r1cs.proofs.Lone.{Batched, batched}
 use Rattle.magnetar_matrix.proofs.Blocks.{product-fits}
@@ -36,7 +36,7 @@ ok c = batched _ _ _ _ _ (sym (c .before .batch-refusal .ensures) ∙ c .if1 .le
 none : (c : tie.Else2) → let s = c .before .before .before .before .before .before .before .before .before .before in _≡_ {A = ℕ} 0 (packedRefusal
     (mat s) (now (s .args .packed)) (now (s .args .x)) (s .args .q) (s .args .w) (now (s .args .out)))
 unfolding packedRefusal
-none c = noted-late (tests (c .before .before .before .before .before .before .before .before .before .before)) (roomTest (size (c .before .before
+none c = first-refusal-late (tests (c .before .before .before .before .before .before .before .before .before .before)) (roomTest (size (c .before .before
     .before .before .before .before .before .before .before .before)) (now (c .before .before .before .before .before .before .before .before .before
     .before .args .out))) _ _ (c .before .before .batch-refusal .ensures) (c .before .if1 .left) (room-enough (size (c .before .before .before
     .before .before .before .before .before .before .before)) (now (c .before .before .before .before .before .before .before .before .before .before
@@ -48,7 +48,7 @@ batch-refusal-requires c κs = search needs
 returns : tie.Need-returns
 unfolding packedRefusal
 returns c =
-    let e = noted-front (tests (c .before .before .before .before .before .before .before .before .before)) (roomTest (size (c .before .before
+    let e = first-refusal-front (tests (c .before .before .before .before .before .before .before .before .before)) (roomTest (size (c .before .before
     .before .before .before .before .before .before .before)) (now (c .before .before .before .before .before .before .before .before .before
     .args .out))) _ (c .before .batch-refusal .ensures) (c .if1 .taken) in
     (flag-refused _ e (c .if1 .taken), turned _ _ e (c .if1 .taken))
@@ -67,7 +67,7 @@ returns-2 : tie.Need-returns-2
 unfolding packedRefusal
 returns-2 c =
     let s = c .before .before .before .before .before .before .before .before .before .before in
-    let e : _≡_ {A = ℕ} 15 (noted 0 (tests s ++ roomTest (size s) (now (s .args .out)))) = noted-late (tests s) (roomTest (size s) (now (s .args
+    let e : _≡_ {A = ℕ} 15 (firstRefusal 0 (tests s ++ roomTest (size s) (now (s .args .out)))) = first-refusal-late (tests s) (roomTest (size s) (now (s .args
     .out))) _ _ (c .before .before .batch-refusal .ensures) (c .before .if1 .left) (room-short (size s) (now (s .args .out)) (c .if2 .taken)) in
     (flag-refused {n = 15} _ e (λ h. omega (arith, h)), turned {n = 15} _ _ e (λ h. omega (arith, h)))
 

@@ -6,8 +6,8 @@ use Prim.Native.Nat.{_*_}
 use native.Mathlib.Omega.{arith}
 use lib.ListN.{length}
 use denote.Ref.{now}
-use Rattle.magnetar_layout.specs.Tests.{Tests, noted, matrixColumnTests, counted, placed}
-use Rattle.magnetar_layout.proofs.Noted.{noted-front, noted-late}
+use Rattle.magnetar_layout.specs.Tests.{Tests, firstRefusal, matrixColumnTests, counted, placed}
+use Rattle.magnetar_layout.proofs.FirstRefusal.{first-refusal-front, first-refusal-late}
 use Rattle.magnetar_matrix.specs.Lent.{Lent, lent}
 use Rattle.magnetar_r1cs.specs.Entries.{loginsTests}
 use Rattle.magnetar_r1cs.proofs.Lone.{logins-clear}
@@ -29,15 +29,15 @@ logins-refusal-requires : tie.Need-logins-refusal-requires
 logins-refusal-requires c κs = search needs
 
 returns : tie.Need-returns
-returns c = let s = (c .before .before .before .before .before .before .before .before) in noted-front (first s) (second s) _ (c .before .logins-refusal .ensures) (c .if1 .taken)
+returns c = let s = (c .before .before .before .before .before .before .before .before) in first-refusal-front (first s) (second s) _ (c .before .logins-refusal .ensures) (c .if1 .taken)
 
-mul-note : tie.Need-mul-note
-mul-note c =
+mul-refuse : tie.Need-mul-refuse
+mul-refuse c =
     let x = (c .before .before .before .before .before .before .before .before) .args in
     omega (arith, logins-clear _ _ (x .q) (x .w) (x .rows) (sym (c .before .logins-refusal .ensures) ∙ c .if1 .left) .half)
 
-note-requires : tie.Need-note-requires
-note-requires c κs = search needs
+refuse-requires : tie.Need-refuse-requires
+refuse-requires c κs = search needs
 
 counts-requires : tie.Need-counts-requires
 counts-requires c κs = search needs
@@ -48,8 +48,8 @@ places-requires c κs = search needs
 returns-2 : tie.Need-returns-2
 returns-2 c =
     let s = (c .before .before .before .before .before .before .before .before .before .before .before) in
-    noted-late (first s) (second s) _ _ (c .before .before .before .before .logins-refusal .ensures) (c .before .before .before .if1 .left)
-    (c .places .ensures ∙ rw (c .before .counts .ensures, c .before .before .note .ensures))
+    first-refusal-late (first s) (second s) _ _ (c .before .before .before .before .logins-refusal .ensures) (c .before .before .before .if1 .left)
+    (c .places .ensures ∙ rw (c .before .counts .ensures, c .before .before .refuse .ensures))
 
 pub batch-refusal-spec : {M : Type 1} → statement M
 batch-refusal-spec =
@@ -57,8 +57,8 @@ batch-refusal-spec =
     (tie.spec
     logins-refusal-requires
     returns
-    mul-note
-    note-requires
+    mul-refuse
+    refuse-requires
     counts-requires
     places-requires
     returns-2)

@@ -13,8 +13,8 @@ use borrow.Author.Tests.{ltb-false, eqb-true, not-false}
 use denote.Ref.{now}
 use Rattle.magnetar_field.specs.Sizes.{log₂}
 use Rattle.magnetar_matrix.specs.Lent.{Lent, lent, matrixOf}
-use Rattle.magnetar_layout.specs.Tests.{Tests, noted, loneTests, lengthTest, roomTest}
-use Rattle.magnetar_layout.proofs.Noted.{noted-front, noted-late, noted-clear, turned, done, refused, found}
+use Rattle.magnetar_layout.specs.Tests.{Tests, firstRefusal, loneTests, lengthTest, roomTest}
+use Rattle.magnetar_layout.proofs.FirstRefusal.{first-refusal-front, first-refusal-late, first-refusal-clear, turned, done, refused, found}
 use Rattle.magnetar_r1cs.proofs.Lone.{Lone, lone}
 use Rattle.magnetar_r1cs.proofs.Points.{point-of, log-most}
 use Rattle.magnetar_matrix.specs.Matrix.{mleAt}
@@ -32,8 +32,8 @@ abbrev rest : tie.Start → Tests
 rest s = let x = s .args in lengthTest (2 * log₂ (x .rows)) (now (x .r)) ++ lengthTest (2 * log₂ (x .cols)) (now (x .c)) ++ roomTest (2 * (x .rows + x .cols)) (now (x .scratch))
 
 -- what they give
-late : (c : tie.After-note3) → c .note3 .result ≡ noted 0 (rest (c .before .before .before .before .before .before .before .before .before .before .before .before .before .before))
-late c = rw (c .note3 .ensures, c .before .note2 .ensures, c .before .before .log22 .ensures .0, c .before .before .before .note .ensures, c .before .before .before .before .log2 .ensures .0)
+late : (c : tie.After-refuse3) → c .refuse3 .result ≡ firstRefusal 0 (rest (c .before .before .before .before .before .before .before .before .before .before .before .before .before .before))
+late c = rw (c .refuse3 .ensures, c .before .refuse2 .ensures, c .before .before .log22 .ensures .0, c .before .before .before .refuse .ensures, c .before .before .before .before .log2 .ensures .0)
 
 -- what is known once nothing is refused
 matrix-fits : (c : tie.Else2) → Lone (mat (c .before .before .before .before .before .before .before .before .before .before .before .before .before .before .before))
@@ -46,7 +46,7 @@ record Fits (s : tie.Start) : Type 0 where
 
 fits : (c : tie.Else2) → Fits (c .before .before .before .before .before .before .before .before .before .before .before .before .before .before .before)
 fits c =
-    let k = noted-clear 0 (rest (c .before .before .before .before .before .before .before .before .before .before .before .before .before .before
+    let k = first-refusal-clear 0 (rest (c .before .before .before .before .before .before .before .before .before .before .before .before .before .before
     .before)) refl (sym (late (c .before)) ∙ c .if2 .left) .1 in
     record { row-point = eqb-true _ _ (not-false _ (k .0)); col-point = eqb-true _ _ (not-false _ (k .1 .0)); scratch = ltb-false _ _ (k .1 .1 .0) }
 
@@ -56,52 +56,52 @@ lone-requires c κs = search needs
 returns : tie.Need-returns
 unfolding atRefusal
 returns c =
-    let e = noted-front (loneTests (mat (c .before .before .before .before .before .before .before .before .before))) (rest (c .before .before
+    let e = first-refusal-front (loneTests (mat (c .before .before .before .before .before .before .before .before .before))) (rest (c .before .before
     .before .before .before .before .before .before .before)) _ (c .before .lone .ensures) (c .if1 .taken) in
     (refused _ e (c .if1 .taken), turned _ _ e (c .if1 .taken))
 
 log2-requires : tie.Need-log2-requires
 log2-requires c κs = search needs
 
-mul-note : tie.Need-mul-note
-mul-note c =
+mul-refuse : tie.Need-mul-refuse
+mul-refuse c =
     let z = lone (mat (c .before .before .before .before .before .before .before .before .before .before)) (sym (c .before .before .lone .ensures) ∙ c .before .if1 .left) .rows-size in
     omega (arith, c .log2 .ensures .0, log-most _ (z .high) (z .power))
 
-note-requires : tie.Need-note-requires
-note-requires c κs = search needs
+refuse-requires : tie.Need-refuse-requires
+refuse-requires c κs = search needs
 
 log2-requires-2 : tie.Need-log2-requires-2
 log2-requires-2 c κs = search needs
 
-mul-note-2 : tie.Need-mul-note-2
-mul-note-2 c =
+mul-refuse-2 : tie.Need-mul-refuse-2
+mul-refuse-2 c =
     let z = lone (mat (c .before .before .before .before .before .before .before .before .before .before .before .before)) (sym (c .before .before
     .before .before .lone .ensures) ∙ c .before .before .before .if1 .left) .cols-size in
     omega (arith, c .log22 .ensures .0, log-most _ (z .high) (z .power))
 
-note-requires-2 : tie.Need-note-requires-2
-note-requires-2 c κs = search needs
+refuse-requires-2 : tie.Need-refuse-requires-2
+refuse-requires-2 c κs = search needs
 
-add-note : tie.Need-add-note
-add-note c =
+add-refuse : tie.Need-add-refuse
+add-refuse c =
     let m = lone (mat (c .before .before .before .before .before .before .before .before .before .before .before .before .before)) (sym (c .before
     .before .before .before .before .lone .ensures) ∙ c .before .before .before .before .if1 .left) in
     omega (arith, m .rows-size .high, m .cols-size .high)
 
-mul-note-3 : tie.Need-mul-note-3
-mul-note-3 c =
+mul-refuse-3 : tie.Need-mul-refuse-3
+mul-refuse-3 c =
     let m = lone (mat (c .before .before .before .before .before .before .before .before .before .before .before .before .before)) (sym (c .before
     .before .before .before .before .lone .ensures) ∙ c .before .before .before .before .if1 .left) in
     omega (arith, m .rows-size .high, m .cols-size .high)
 
-note-requires-3 : tie.Need-note-requires-3
-note-requires-3 c κs = search needs
+refuse-requires-3 : tie.Need-refuse-requires-3
+refuse-requires-3 c κs = search needs
 
 returns-2 : tie.Need-returns-2
 unfolding atRefusal
 returns-2 c =
-    let e = noted-late (loneTests (mat (c .before .before .before .before .before .before .before .before .before .before .before .before .before
+    let e = first-refusal-late (loneTests (mat (c .before .before .before .before .before .before .before .before .before .before .before .before .before
     .before .before))) (rest (c .before .before .before .before .before .before .before .before .before .before .before .before .before .before
     .before)) _ _ (c .before .before .before .before .before .before .before .lone .ensures) (c .before .before .before .before .before .before
     .if1 .left) (late (c .before)) in
@@ -146,7 +146,7 @@ returns-3 c =
     let k = c .before .before .before .before in
     let m = matrix-fits k in
     let f = fits k in
-    let e = sym (k .if2 .left) ∙ noted-late (loneTests (mat s)) (rest s) _ _ (k .before .before .before .before .before .before .before .lone
+    let e = sym (k .if2 .left) ∙ first-refusal-late (loneTests (mat s)) (rest s) _ _ (k .before .before .before .before .before .before .before .lone
     .ensures) (k .before .before .before .before .before .before .if1 .left) (late (k .before)) in
     let at = cross-is _ _ _ _ (point-size _ _ _ (m .rows-size) (f .row-point)) (point-size _ _ _ (m .cols-size) (f .col-point)) in
     let v = c .before .before .sum-in .ensures .0 ∙ sum-ext (inside (x .rows) (x .cols)) _ _ _ (all-inside _ _ _ _ _ _ (m .entries .rows-in) (m .entries .cols-in)) at in
@@ -159,14 +159,14 @@ eval-mle-at-spec =
     lone-requires
     returns
     log2-requires
-    mul-note
-    note-requires
+    mul-refuse
+    refuse-requires
     log2-requires-2
-    mul-note-2
-    note-requires-2
-    add-note
-    mul-note-3
-    note-requires-3
+    mul-refuse-2
+    refuse-requires-2
+    add-refuse
+    mul-refuse-3
+    refuse-requires-3
     returns-2
     add-room
     mul-room

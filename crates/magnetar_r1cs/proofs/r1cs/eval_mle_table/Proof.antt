@@ -11,8 +11,8 @@ use borrow.Author.Tests.{ltb-false, eqb-true, not-false}
 use denote.Ref.{now}
 use Rattle.magnetar_field.specs.Sizes.{log₂}
 use Rattle.magnetar_matrix.specs.Lent.{Lent, lent, matrixOf}
-use Rattle.magnetar_layout.specs.Tests.{Tests, noted, loneTests, lengthTest, roomTest}
-use Rattle.magnetar_layout.proofs.Noted.{noted-front, noted-late, noted-clear, turned, done}
+use Rattle.magnetar_layout.specs.Tests.{Tests, firstRefusal, loneTests, lengthTest, roomTest}
+use Rattle.magnetar_layout.proofs.FirstRefusal.{first-refusal-front, first-refusal-late, first-refusal-clear, turned, done}
 use Rattle.magnetar_r1cs.proofs.Lone.{Lone, lone}
 use Rattle.magnetar_matrix.proofs.TableLaws.{in-front}
 use Rattle.magnetar_r1cs.proofs.Points.{point-of, log-most}
@@ -32,8 +32,8 @@ abbrev rest : tie.Start → Tests
 rest s = let x = s .args in lengthTest (2 * log₂ (x .rows)) (now (x .point)) ++ roomTest (2 * x .cols) (now (x .out)) ++ roomTest (2 * x .rows) (now (x .scratch))
 
 -- what they give
-late : (c : tie.After-note3) → c .note3 .result ≡ noted 0 (rest (c .before .before .before .before .before .before .before .before .before .before .before .before .before))
-late c = rw (c .note3 .ensures, c .before .note2 .ensures, c .before .before .note .ensures, c .before .before .before .log2 .ensures .0)
+late : (c : tie.After-refuse3) → c .refuse3 .result ≡ firstRefusal 0 (rest (c .before .before .before .before .before .before .before .before .before .before .before .before .before))
+late c = rw (c .refuse3 .ensures, c .before .refuse2 .ensures, c .before .before .refuse .ensures, c .before .before .before .log2 .ensures .0)
 
 -- what is known once nothing is refused
 matrix-fits : (c : tie.Else2) → Lone (mat (c .before .before .before .before .before .before .before .before .before .before .before .before .before .before))
@@ -46,7 +46,7 @@ record Fits (s : tie.Start) : Type 0 where
 
 fits : (c : tie.Else2) → Fits (c .before .before .before .before .before .before .before .before .before .before .before .before .before .before)
 fits c =
-    let k = noted-clear 0 (rest (c .before .before .before .before .before .before .before .before .before .before .before .before .before .before)) refl (sym (late (c .before)) ∙ c .if2 .left) .1 in
+    let k = first-refusal-clear 0 (rest (c .before .before .before .before .before .before .before .before .before .before .before .before .before .before)) refl (sym (late (c .before)) ∙ c .if2 .left) .1 in
     record { point = eqb-true _ _ (not-false _ (k .0)); out = ltb-false _ _ (k .1 .0); scratch = ltb-false _ _ (k .1 .1 .0) }
 
 lone-requires : tie.Need-lone-requires
@@ -55,45 +55,45 @@ lone-requires c κs = search needs
 returns : tie.Need-returns
 unfolding tableRefusal
 returns c =
-    let e = noted-front (loneTests (mat (c .before .before .before .before .before .before .before .before .before))) (rest (c .before .before
+    let e = first-refusal-front (loneTests (mat (c .before .before .before .before .before .before .before .before .before))) (rest (c .before .before
     .before .before .before .before .before .before .before)) _ (c .before .lone .ensures) (c .if1 .taken) in
     (e, (turned _ _ e (c .if1 .taken), turned _ _ e (c .if1 .taken)))
 
 log2-requires : tie.Need-log2-requires
 log2-requires c κs = search needs
 
-mul-note : tie.Need-mul-note
-mul-note c =
+mul-refuse : tie.Need-mul-refuse
+mul-refuse c =
     let z = lone (mat (c .before .before .before .before .before .before .before .before .before .before)) (sym (c .before .before .lone .ensures) ∙ c .before .if1 .left) .rows-size in
     omega (arith, c .log2 .ensures .0, log-most _ (z .high) (z .power))
 
-note-requires : tie.Need-note-requires
-note-requires c κs = search needs
+refuse-requires : tie.Need-refuse-requires
+refuse-requires c κs = search needs
 
-mul-note-2 : tie.Need-mul-note-2
-mul-note-2 c = omega (
+mul-refuse-2 : tie.Need-mul-refuse-2
+mul-refuse-2 c = omega (
   arith,
   lone (mat (c .before .before .before .before .before .before .before .before .before .before .before)) (sym (c .before
       .before .before .lone .ensures) ∙ c .before .before .if1 .left) .cols-size .high,
 )
 
-note-requires-2 : tie.Need-note-requires-2
-note-requires-2 c κs = search needs
+refuse-requires-2 : tie.Need-refuse-requires-2
+refuse-requires-2 c κs = search needs
 
-mul-note-3 : tie.Need-mul-note-3
-mul-note-3 c = omega (
+mul-refuse-3 : tie.Need-mul-refuse-3
+mul-refuse-3 c = omega (
   arith,
   lone (mat (c .before .before .before .before .before .before .before .before .before .before .before .before)) (sym (c
       .before .before .before .before .lone .ensures) ∙ c .before .before .before .if1 .left) .rows-size .high,
 )
 
-note-requires-3 : tie.Need-note-requires-3
-note-requires-3 c κs = search needs
+refuse-requires-3 : tie.Need-refuse-requires-3
+refuse-requires-3 c κs = search needs
 
 returns-2 : tie.Need-returns-2
 unfolding tableRefusal
 returns-2 c =
-    let e = noted-late (loneTests (mat (c .before .before .before .before .before .before .before .before .before .before .before .before .before
+    let e = first-refusal-late (loneTests (mat (c .before .before .before .before .before .before .before .before .before .before .before .before .before
     .before))) (rest (c .before .before .before .before .before .before .before .before .before .before .before .before .before .before)) _ _ (c
     .before .before .before .before .before .before .lone .ensures) (c .before .before .before .before .before .if1 .left) (late (c .before)) in
     (e, (turned _ _ e (c .if2 .taken), turned _ _ e (c .if2 .taken)))
@@ -133,7 +133,7 @@ unfolding tableRefusal mleTable times timesAt transpose matrixOf
 returns-3 c =
     let s = c .before .before .before .before .before .before .before .before .before .before .before .before .before .before .before .before .before .before .before .before .before in
     let k = c .before .before .before .before .before .before .before in
-    let e = sym (k .if2 .left) ∙ noted-late (loneTests (mat s)) (rest s) _ _ (k .before .before .before .before .before .before .lone .ensures) (k
+    let e = sym (k .if2 .left) ∙ first-refusal-late (loneTests (mat s)) (rest s) _ _ (k .before .before .before .before .before .before .lone .ensures) (k
     .before .before .before .before .before .if1 .left) (late (k .before)) in
     let f = fits k in (
       e,
@@ -150,12 +150,12 @@ eval-mle-table-spec =
     lone-requires
     returns
     log2-requires
-    mul-note
-    note-requires
-    mul-note-2
-    note-requires-2
-    mul-note-3
-    note-requires-3
+    mul-refuse
+    refuse-requires
+    mul-refuse-2
+    refuse-requires-2
+    mul-refuse-3
+    refuse-requires-3
     returns-2
     mul-end
     mul-room

@@ -9,13 +9,13 @@ use borrow.Author.Needs.{needs}
 use Rattle.magnetar_records.proofs.logins.clear_blocks.Statement.{statement}
 use Rattle.magnetar_records.proofs.logins.clear_blocks.Tie as tie
 
-in-reach-requires : tie.Need-in-reach-requires
-in-reach-requires c κs = search needs
+within-limits-requires : tie.Need-within-limits-requires
+within-limits-requires c κs = search needs
 
 mul-clear-front : tie.Need-mul-clear-front
 mul-clear-front c =
     let x = c .before .before .before .args in
-    let r = reach (x .q) (x .w) (x .n) 0 (sym (c .before .in-reach .ensures) ∙ c .if1 .taken) in
+    let r = reach (x .q) (x .w) (x .n) 0 (sym (c .before .within-limits .ensures) ∙ c .if1 .taken) in
     omega (arith, product-fits (x .q) (x .n) (r .logins) (omega (arith, r .rows)))
 
 clear-front-requires : tie.Need-clear-front-requires
@@ -26,13 +26,13 @@ same-length c = search needs
 
 returns : tie.Need-returns
 unfolding clearedBlocks
-returns c = rw (← c .before .before .before .before .before .in-reach .ensures, c .before .before .before .before .if1 .taken) (c .before .before .clear-front .ensures)
+returns c = rw (← c .before .before .before .before .before .within-limits .ensures, c .before .before .before .before .if1 .taken) (c .before .before .clear-front .ensures)
 
 returns-2 : tie.Need-returns-2
 unfolding clearedBlocks
-returns-2 c = rw (← c .before .in-reach .ensures, c .if1 .left)
+returns-2 c = rw (← c .before .within-limits .ensures, c .if1 .left)
 
 pub clear-blocks-spec : {M : Type 1} → statement M
 clear-blocks-spec =
     tie.close
-    (tie.spec in-reach-requires mul-clear-front clear-front-requires same-length returns returns-2)
+    (tie.spec within-limits-requires mul-clear-front clear-front-requires same-length returns returns-2)

@@ -9,13 +9,13 @@ use borrow.Author.Needs.{needs}
 use Rattle.magnetar_records.proofs.masks.clear_masks.Statement.{statement}
 use Rattle.magnetar_records.proofs.masks.clear_masks.Tie as tie
 
-in-reach-requires : tie.Need-in-reach-requires
-in-reach-requires c κs = search needs
+within-limits-requires : tie.Need-within-limits-requires
+within-limits-requires c κs = search needs
 
 mul-clear-words : tie.Need-mul-clear-words
 mul-clear-words c =
     let x = c .before .before .before .args in
-    let r = reach (x .d) (x .w) (x .n) 0 (sym (c .before .in-reach .ensures) ∙ c .if1 .taken) in
+    let r = reach (x .d) (x .w) (x .n) 0 (sym (c .before .within-limits .ensures) ∙ c .if1 .taken) in
     omega (arith, product-fits (x .d) (x .n) (r .logins) (omega (arith, r .rows)))
 
 clear-words-requires : tie.Need-clear-words-requires
@@ -26,13 +26,13 @@ same-length c = search needs
 
 returns : tie.Need-returns
 unfolding clearedMasks
-returns c = rw (← c .before .before .before .before .before .in-reach .ensures, c .before .before .before .before .if1 .taken) (c .before .before .clear-words .ensures)
+returns c = rw (← c .before .before .before .before .before .within-limits .ensures, c .before .before .before .before .if1 .taken) (c .before .before .clear-words .ensures)
 
 returns-2 : tie.Need-returns-2
 unfolding clearedMasks
-returns-2 c = rw (← c .before .in-reach .ensures, c .if1 .left)
+returns-2 c = rw (← c .before .within-limits .ensures, c .if1 .left)
 
 pub clear-masks-spec : {M : Type 1} → statement M
 clear-masks-spec =
     tie.close
-    (tie.spec in-reach-requires mul-clear-words clear-words-requires same-length returns returns-2)
+    (tie.spec within-limits-requires mul-clear-words clear-words-requires same-length returns returns-2)

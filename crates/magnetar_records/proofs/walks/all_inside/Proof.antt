@@ -26,7 +26,7 @@ use Rattle.magnetar_records.proofs.walks.all_inside as f
 use Rattle.magnetar_records.proofs.walks.all_inside.Statement as stated
 use Rattle.magnetar_records.proofs.walks.all_inside.Code as code
 use mathlib.Core.Bool.{_&&_}
-use Rattle.magnetar_relation.specs.Told.{liesAt, everyFrom}
+use Rattle.magnetar_relation.specs.EntryWalks.{liesAt, everyFrom}
 use Rattle.magnetar_relation.proofs.ToldLaws.{carried, carried-end}
 use Rattle.magnetar_records.specs.Records.{entryOf, entriesOfRecords}
 

@@ -8,7 +8,7 @@ use mathlib.Core.Bool.{_&&_}
 use Prim.Native.Nat.{_-_}
 use lib.ListN.{drop}
 use Rattle.magnetar_matrix.specs.Lent.{entriesOf}
-use Rattle.magnetar_relation.specs.Told.{liesAt, everyFrom}
+use Rattle.magnetar_relation.specs.EntryWalks.{liesAt, everyFrom}
 use borrow.Author.Needs.{needs}
 use Rattle.magnetar_relation.proofs.rules.all_inside.Statement.{statement}
 use Rattle.magnetar_relation.proofs.rules.all_inside.Tie as tie

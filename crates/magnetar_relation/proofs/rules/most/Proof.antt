@@ -4,17 +4,17 @@ use borrow.Author.Needs.{needs}
 use Rattle.magnetar_relation.proofs.rules.most.Statement.{statement}
 use Rattle.magnetar_relation.proofs.rules.most.Tie as tie
 
-note-requires : tie.Need-note-requires
-note-requires c κs = search needs
+refuse-requires : tie.Need-refuse-requires
+refuse-requires c κs = search needs
 
-note-requires-2 : tie.Need-note-requires-2
-note-requires-2 c κs = search needs
+refuse-requires-2 : tie.Need-refuse-requires-2
+refuse-requires-2 c κs = search needs
 
-note-requires-3 : tie.Need-note-requires-3
-note-requires-3 c κs = search needs
+refuse-requires-3 : tie.Need-refuse-requires-3
+refuse-requires-3 c κs = search needs
 
 returns : tie.Need-returns
 returns c = cc
 
 pub most-spec : {M : Type 1} → statement M
-most-spec = tie.close (tie.spec note-requires note-requires-2 note-requires-3 returns)
+most-spec = tie.close (tie.spec refuse-requires refuse-requires-2 refuse-requires-3 returns)

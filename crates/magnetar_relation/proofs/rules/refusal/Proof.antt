@@ -4,7 +4,7 @@ use mathlib.Core.Path.{_≡_, sym, _∙_}
 use mathlib.Core.Bool.{not}
 use mathlib.Core.List.{[], _∷_, _++_}
 use Rattle.magnetar_layout.specs.Tests.{Tests}
-use Rattle.magnetar_layout.proofs.Noted.{noted-front, noted-late}
+use Rattle.magnetar_layout.proofs.FirstRefusal.{first-refusal-front, first-refusal-late}
 use Rattle.magnetar_relation.specs.RuleTests.{shapeTests, numberTests, total, ruleTestsBy}
 use Rattle.magnetar_relation.proofs.RuleLaws.{Few, shapes-few}
 use borrow.Author.Needs.{needs}
@@ -23,7 +23,7 @@ shapes-requires c κs = search needs
 
 returns : tie.Need-returns
 unfolding ruleTestsBy
-returns c = let x = c .before .before .args in noted-front (shapeTests (x .m) (x .q) (x .s)) (rest (c .before .before)) _ (c .before .shapes .ensures) (c .if1 .taken)
+returns c = let x = c .before .before .args in first-refusal-front (shapeTests (x .m) (x .q) (x .s)) (rest (c .before .before)) _ (c .before .shapes .ensures) (c .if1 .taken)
 
 entries-in-requires : tie.Need-entries-in-requires
 entries-in-requires c κs = let k = small (c .before .before) .0 in (k .a, k .b, k .c)
@@ -37,16 +37,16 @@ add-n c = search needs
 numbers-requires : tie.Need-numbers-requires
 numbers-requires c κs = search needs
 
-note-requires : tie.Need-note-requires
-note-requires c κs = search needs
+refuse-requires : tie.Need-refuse-requires
+refuse-requires c κs = search needs
 
 returns-2 : tie.Need-returns-2
 unfolding ruleTestsBy
 returns-2 c =
     let x = c .before .before .before .before .before .before .before .before .args in
-    noted-late (shapeTests (x .m) (x .q) (x .s)) (rest (c .before .before .before .before .before .before .before .before)) _ _ (c .before .before
+    first-refusal-late (shapeTests (x .m) (x .q) (x .s)) (rest (c .before .before .before .before .before .before .before .before)) _ _ (c .before .before
     .before .before .before .before .before .shapes .ensures) (c .before .before .before .before .before .before .if1 .left)
-    (rw (c .note .ensures, c .before .numbers .ensures, c .before .before .entries-in2 .ensures .0, c .before .before .before .entries-in .ensures .0))
+    (rw (c .refuse .ensures, c .before .numbers .ensures, c .before .before .entries-in2 .ensures .0, c .before .before .before .entries-in .ensures .0))
 
 pub refusal-spec : {M : Type 1} → statement M
 refusal-spec =
@@ -58,5 +58,5 @@ refusal-spec =
     entries-in-requires-2
     add-n
     numbers-requires
-    note-requires
+    refuse-requires
     returns-2)

@@ -1,7 +1,7 @@
 -- `magnetar_relation::rules::shape_at` meets its contract.
 -- Assumes nothing.
 use borrow.Author.Tests.{lt-ltb, le-ltb}
-use Rattle.magnetar_relation.specs.Told.{shapeAt}
+use Rattle.magnetar_relation.specs.EntryWalks.{shapeAt}
 use borrow.Author.Needs.{needs}
 use Rattle.magnetar_relation.proofs.rules.shape_at.Statement.{statement}
 use Rattle.magnetar_relation.proofs.rules.shape_at.Tie as tie

@@ -1,7 +1,7 @@
 -- `magnetar_relation::rules::shape_in` meets its contract.
 -- Assumes nothing.
 use borrow.Author.Tests.{lt-ltb, le-ltb}
-use Rattle.magnetar_relation.specs.Told.{shapeIn}
+use Rattle.magnetar_relation.specs.EntryWalks.{shapeIn}
 use Rattle.magnetar_relation.proofs.rules.shape_in.Statement.{statement}
 use Rattle.magnetar_relation.proofs.rules.shape_in.Tie as tie
 

@@ -6,8 +6,8 @@ use native.Mathlib.Omega.{arith}
 use denote.Ref.{now}
 use lib.ListN.{length}
 use Rattle.magnetar_field.specs.Sizes.{log₂}
-use Rattle.magnetar_spartan.specs.Proving.{bare}
-use Rattle.magnetar_spartan.proofs.LaterLaws.{end-left}
+use Rattle.magnetar_spartan.specs.Proving.{sizesOnlyRules}
+use Rattle.magnetar_spartan.proofs.InnerPartLaws.{end-left}
 use borrow.Author.Needs.{needs}
 use Rattle.magnetar_spartan.proofs.proving.end.Statement.{statement}
 use Rattle.magnetar_spartan.proofs.proving.end.Tie as tie
@@ -15,8 +15,8 @@ use Rattle.magnetar_spartan.proofs.proving.end.Tie as tie
 sums : (l b f m : ℕ) → 2 * (l + b + (l + f) + l + b + f + 6) ≡ 2 * (l + b + (l + f + (l + (b + (f + (6 + m))))) - m)
 sums l b f m = omega arith
 
-said-before-requires : tie.Need-said-before-requires
-said-before-requires c κs = search needs
+sent-before-requires : tie.Need-sent-before-requires
+sent-before-requires c κs = search needs
 
 drawn-before-requires : tie.Need-drawn-before-requires
 drawn-before-requires c κs = search needs
@@ -85,8 +85,8 @@ returns c =
     let words : ℕ → ℕ = λ j. 2 * (8 * log₂ (x .q) + 4 * log₂ (x .rb) + 4 * log₂ (x .rf) + 6 + 3 * log₂ (x .m) + 1 + j) in
     let said : i .least2 .result ≡ min (words (min (length (now (x .lens))) 64)) (length w) =
     i .least2 .ensures .0 ∙ ap (λ (j : ℕ). min j (length w)) (i .before .proof-words .ensures ∙ ap words (l .least .ensures .0)) in
-    λ ws xs ok ld. end-left (bare (x .m) (x .q) (x .rb) (x .rf) (now (x .lens))) ws xs w (x .d) (now (x .claims)) (now (x .s)) (x .t) ok ld
-    _ _ (i .least2 .result) (n .least3 .result) (k .before .said-before .ensures)
+    λ ws xs ok ld. end-left (sizesOnlyRules (x .m) (x .q) (x .rb) (x .rf) (now (x .lens))) ws xs w (x .d) (now (x .claims)) (now (x .s)) (x .t) ok ld
+    _ _ (i .least2 .result) (n .least3 .result) (k .before .sent-before .ensures)
     (k .drawn-before .ensures ∙ sums (log₂ (x .q)) (log₂ (x .rb)) (log₂ (x .rf)) (log₂ (x .m)))
     said (n .least3 .ensures .0 ∙ ap (λ (j : ℕ). min j 256) (n .before .draw-words .ensures))
     (u .inner-part .result) _ _ _ (u .inner-part .ensures) _ (g .write-claims .ensures .1)
@@ -95,7 +95,7 @@ pub end-spec : {M : Type 1} → statement M
 end-spec =
     tie.close
     (tie.spec
-    said-before-requires
+    sent-before-requires
     drawn-before-requires
     least-requires
     proof-words-requires

@@ -1,7 +1,7 @@
 -- `magnetar_spartan::proving::inner_part` meets its contract.
 -- Assumes nothing.
 use denote.Ref.{now}
-use Rattle.magnetar_spartan.proofs.LaterLaws.{inner-done}
+use Rattle.magnetar_spartan.proofs.InnerPartLaws.{inner-done}
 use borrow.Author.Needs.{needs}
 use Rattle.magnetar_spartan.proofs.proving.inner_part.Statement.{statement}
 use Rattle.magnetar_spartan.proofs.proving.inner_part.Tie as tie

@@ -1,15 +1,15 @@
--- `magnetar_spartan::proving::later` meets its contract.
+-- `magnetar_spartan::proving::inner_part` meets its contract.
 -- Assumes nothing.
 use mathlib.Core.Path.{ap}
 use native.Mathlib.Omega.{arith}
 use denote.Ref.{now}
 use lib.ListN.{length}
 use Rattle.magnetar_protocol.specs.declared.scratch.ScratchWords.{ScratchWords}
-use Rattle.magnetar_spartan.specs.Proving.{bare}
-use Rattle.magnetar_spartan.proofs.LaterLaws.{fold-sizes, end-sizes, later-ends}
+use Rattle.magnetar_spartan.specs.Proving.{sizesOnlyRules}
+use Rattle.magnetar_spartan.proofs.InnerPartLaws.{fold-sizes, end-sizes, later-ends}
 use borrow.Author.Needs.{needs}
-use Rattle.magnetar_spartan.proofs.proving.later.Statement.{statement}
-use Rattle.magnetar_spartan.proofs.proving.later.Tie as tie
+use Rattle.magnetar_spartan.proofs.proving.inner_part.Statement.{statement}
+use Rattle.magnetar_spartan.proofs.proving.inner_part.Tie as tie
 
 fold-behind-requires : tie.Need-fold-behind-requires
 fold-behind-requires c κs = search needs
@@ -50,7 +50,7 @@ returns c =
     let e = z .before .before .before .before .before .before .before .before .before .before in
     let f = e .before .before .before .before .before .before in
     let x = (f .before .before .before .before .before .before .before .before .before .before) .args in
-    let r = bare (x .m) (x .q) (x .rb) (x .rf) (now (x .lens)) in
+    let r = sizesOnlyRules (x .m) (x .q) (x .rb) (x .rf) (now (x .lens)) in
     let d = x .o .«draws» in
     let t = x .o .«transcript» in
     let g = f .fold-behind in
@@ -67,8 +67,8 @@ returns c =
           later-ends r ws p w d k s t ok ld _ F (g .kept .0) _ _ _ _ E (n .result) _ (n .ensures .0) (ap (λ (a : ScratchWords). a .words) (z .before .before .before .prover-scratch .ensures)) _ (z .clear .ensures),
     )
 
-pub later-spec : {M : Type 1} → statement M
-later-spec =
+pub inner-part-spec : {M : Type 1} → statement M
+inner-part-spec =
     tie.close
     (tie.spec
     fold-behind-requires

@@ -66,9 +66,9 @@ use Rattle.magnetar_relation.proofs.shapes.SystemShape.Laws as lSystemShape
 use Rattle.magnetar_relation.specs.declared.shapes.Shape.{Shape}
 use Rattle.magnetar_relation.proofs.shapes.Shape as mShape
 use Rattle.magnetar_relation.proofs.shapes.Shape.Laws as lShape
-use Rattle.magnetar_spartan.specs.declared.stages.Begun.{Begun}
-use Rattle.magnetar_spartan.proofs.stages.Begun as mBegun
-use Rattle.magnetar_spartan.proofs.stages.Begun.Laws as lBegun
+use Rattle.magnetar_spartan.specs.declared.stages.OuterStage.{OuterStage}
+use Rattle.magnetar_spartan.proofs.stages.OuterStage as mOuterStage
+use Rattle.magnetar_spartan.proofs.stages.OuterStage.Laws as lOuterStage
 use Rattle.magnetar_transcript.proofs.Locals.{tidy, bare, kept, dies, alloc, hide, free-all}
 use Rattle.magnetar_transcript.proofs.Again.{LentAgain, lends-again, comes-back}
 use Rattle.magnetar_spartan.proofs.refusal.verify as g1
@@ -703,7 +703,7 @@ module _ {M : Type 1} (𝓤 : URA M) (H : Heap 𝓤) (A : Atoms 𝓤) (W : Given
         (load ! (from ! (stop !)) (look ! 46 refl)) (and-then ! (load ! (from ! (stop !)) (look ! 45 refl)) (and-then ! (load ! (from ! (stop !))
         (look ! 34 refl)) (and-then ! (load ! (from ! (stop !)) (look ! 33 refl)) (and-then ! (load ! (from ! (stop !)) (look ! 44 refl))
         (and-then ! (load ! (from ! (stop !)) (look ! 40 refl)) (and-then ! (load ! (from ! (stop !)) (look ! 39 refl)) (no-more !))))))))) (λ z2.
-        use1 W (later (some (λ (r2 : Begun). ((‵ (flft κ₂ q₂) ⊛ ‵ (flft κ₅ q₅) ⊛ ‵ ftrue) ⊛ ‵ (mBegun.the-row .own r2 (z2 ∷ []))) ⊛ some (λ (ws :
+        use1 W (later (some (λ (r2 : OuterStage). ((‵ (flft κ₂ q₂) ⊛ ‵ (flft κ₅ q₅) ⊛ ‵ ftrue) ⊛ ‵ (mOuterStage.the-row .own r2 (z2 ∷ []))) ⊛ some (λ (ws :
         Lasts g2.ended (κ₂, (κ₅, tt)) (
           r1,
           (
@@ -759,15 +759,15 @@ module _ {M : Type 1} (𝓤 : URA M) (H : Heap 𝓤) (A : Atoms 𝓤) (W : Given
           ),
         ) (r1, (n4, (n5, ((mShape.the-type .to ((n7 .bin) .a) .0), ((mShape.the-type .to ((n7 .fld) .a) .0), (s6, (s10, (n11, tt))))))))
         ws)))))) (id⊢ 𝓤 _) $ await ! tt $ pick ! (λ r2. split ! $ move ! (1 ∷ []) $ pick ! (λ ws2. split ! $ move ! (1 ∷ []) $ heard ! _ (λ e2.
-        drop ! $ split ! $ move ! (1 ∷ []) $ peeks ! mBegun.the-row (Is mBegun.the-row) (shows 𝓤 H A mBegun.the-row) r2 (z2 ∷ []) (λ i2. drop ! $
-        land ! (from ! (stop !)) (init ! 30 refl (LL.lawful mBegun.the-type lBegun.the-laws 𝓤 H A W .typed r2 _ i2 .0)) $
+        drop ! $ split ! $ move ! (1 ∷ []) $ peeks ! mOuterStage.the-row (Is mOuterStage.the-row) (shows 𝓤 H A mOuterStage.the-row) r2 (z2 ∷ []) (λ i2. drop ! $
+        land ! (from ! (stop !)) (init ! 30 refl (LL.lawful mOuterStage.the-type lOuterStage.the-laws 𝓤 H A W .typed r2 _ i2 .0)) $
         tidy W (_ ∷ _ ∷ _ ∷ _ ∷ _ ∷ _ ∷ _ ∷ _ ∷ _ ∷ _ ∷ _ ∷ _ ∷ _ ∷ _ ∷ _ ∷ _ ∷ _ ∷ _ ∷ _ ∷ _ ∷ _ ∷ _ ∷ _ ∷ _ ∷ _ ∷ _ ∷ _ ∷ _ ∷ _ ∷ _ ∷ _ ∷ _ ∷ _ ∷ _
         ∷ _ ∷ _ ∷ _ ∷ _ ∷ _ ∷ _ ∷ _ ∷ _ ∷ _ ∷ _ ∷ _ ∷ _ ∷ _ ∷ _ ∷ _ ∷ _ ∷ _ ∷ []) $ split ! $ move ! (1 ∷ []) $ split ! $ move ! (1 ∷ []) $ drop
         ! $ tidy W (_ ∷ _ ∷ _ ∷ _ ∷ _ ∷ _ ∷ _ ∷ _ ∷ _ ∷ _ ∷ _ ∷ _ ∷ _ ∷ _ ∷ _ ∷ _ ∷ _ ∷ _ ∷ _ ∷ _ ∷ _ ∷ _ ∷ _ ∷ _ ∷ _ ∷ _ ∷ _ ∷ _ ∷ _ ∷ _ ∷ _ ∷ _
         ∷ _ ∷ _ ∷ _ ∷ _ ∷ _ ∷ _ ∷ _ ∷ _ ∷ _ ∷ _ ∷ _ ∷ _ ∷ _ ∷ _ ∷ _ ∷ _ ∷ _ ∷ _ ∷ _ ∷ _ ∷ []) $ nothing ! $
         -- call 3
         use1 W (raw (Callee-g3 𝓤 H A at-mem run .pre ((tt, tt, tt, (r2, tt), (z2 ∷ [], tt)), tt))) (qed W ((‵ ftrue) ∷ []) ∵ nothing ! $ owned !
-        mBegun.the-row (Is mBegun.the-row) (LL.makes mBegun.the-type lBegun.the-plain 𝓤 H A) (r2) _ i2 $ fjoin ! $ move ! (1 ∷ 0 ∷ []) $ join ! $
+        mOuterStage.the-row (Is mOuterStage.the-row) (LL.makes mOuterStage.the-type lOuterStage.the-plain 𝓤 H A) (r2) _ i2 $ fjoin ! $ move ! (1 ∷ 0 ∷ []) $ join ! $
         nothing ! $ move ! (1 ∷ 0 ∷ []) $ frame ! $ done !) $
         calls-at ! fm (Callee-g3 𝓤 H A at-mem run) known-g3 ((tt, tt, tt, (r2, tt), (z2 ∷ [], tt)), tt) (and-then ! (load ! (from ! (stop !)) (look ! 32 refl)) (no-more !)) (λ z3.
         use1 W (later (some (λ (r3 : (List ℕ)). ((‵ ftrue) ⊛ ‵ ((Array u64 256) .own r3 (z3 ∷ []))) ⊛ some (λ (ws : Lasts g3.ended tt (r2, tt)). ‵
@@ -781,7 +781,7 @@ module _ {M : Type 1} (𝓤 : URA M) (H : Heap 𝓤) (A : Atoms 𝓤) (W : Given
         ∷ _ ∷ _ ∷ _ ∷ _ ∷ _ ∷ _ ∷ _ ∷ _ ∷ []) $ nothing ! $
         -- call 4
         use1 W (raw (Callee-g4 𝓤 H A at-mem run .pre ((tt, tt, tt, (r2, tt), (z2 ∷ [], tt)), tt))) (qed W ((‵ ftrue) ∷ []) ∵ nothing ! $ owned !
-        mBegun.the-row (Is mBegun.the-row) (LL.makes mBegun.the-type lBegun.the-plain 𝓤 H A) (r2) _ i2 $ fjoin ! $ move ! (1 ∷ 0 ∷ []) $ join ! $
+        mOuterStage.the-row (Is mOuterStage.the-row) (LL.makes mOuterStage.the-type lOuterStage.the-plain 𝓤 H A) (r2) _ i2 $ fjoin ! $ move ! (1 ∷ 0 ∷ []) $ join ! $
         nothing ! $ move ! (1 ∷ 0 ∷ []) $ frame ! $ done !) $
         calls-at ! fm (Callee-g4 𝓤 H A at-mem run) known-g4 ((tt, tt, tt, (r2, tt), (z2 ∷ [], tt)), tt) (and-then ! (load ! (from ! (stop !)) (look ! 32 refl)) (no-more !)) (λ z4.
         use1 W (later (some (λ (r4 : ℕ). ((‵ ftrue) ⊛ ‵ (u32 .own r4 (z4 ∷ []))) ⊛ some (λ (ws : Lasts g4.ended tt (r2, tt)). ‵ (lasts g4.ended tt
@@ -1040,7 +1040,7 @@ module _ {M : Type 1} (𝓤 : URA M) (H : Heap 𝓤) (A : Atoms 𝓤) (W : Given
         (ν6c ∷ []) fullShare) ⊛ ‵ (flft κ₂ q₂) ⊛ ‵ (flft κ₄ q₄) ⊛ ‵ (flft κ₅ q₅) ⊛ ‵ ftrue) ∷ ‵ (MutSlice (named 0) (ν6b ∷ []) u64 .own (ref2 δ6b
         (ys2)) (v2 ∷ [])) ∷ ‵ (MutSlice (named 1) (ν6c ∷ []) u64 .own (ref3 δ6c (ws5 .1 .0)) (v3 ∷ [])) ∷ ‵ (ShrSlice (named 2) κ₂ u64 .own s6
         (v6 ∷ [])) ∷ ‵ (ShrSlice (named 3) κ₄ u64 .own s9 (v9 ∷ [])) ∷ ‵ (ShrSlice (named 4) κ₅ u64 .own s10 (v10 ∷ [])) ∷ []) ∵ nothing ! $
-        owned ! mBegun.the-row (Is mBegun.the-row) (LL.makes mBegun.the-type lBegun.the-plain 𝓤 H A) (r2) _ i2 $ fjoin ! $ owned !
+        owned ! mOuterStage.the-row (Is mOuterStage.the-row) (LL.makes mOuterStage.the-type lOuterStage.the-plain 𝓤 H A) (r2) _ i2 $ fjoin ! $ owned !
         mTranscript.the-row (Is mTranscript.the-row) (LL.makes mTranscript.the-type lTranscript.the-plain 𝓤 H A) (n11) _ (subst (Is
         mTranscript.the-row n11) ((LL.tells mTranscript.the-type lTranscript.the-laws) n11 _ w11) w11) $ fjoin ! $ move ! (6 ∷ 0 ∷ []) $ fjoin !
         $ move ! (5 ∷ 0 ∷ []) $ fjoin ! $ move ! (4 ∷ 0 ∷ []) $ fjoin ! $ owned ! u64 (Is u64) (uint-makes 𝓤 H A W w64) ((mShape.the-type .to
@@ -1275,7 +1275,7 @@ module _ {M : Type 1} (𝓤 : URA M) (H : Heap 𝓤) (A : Atoms 𝓤) (W : Given
         ) ∷ (lTranscript.mir, l₁₁) ∷ (lSystemShape.mir, l₁₂) ∷ (lSystemShape.mir, l₁₃) ∷ (lShape.mir, l₁₄) ∷ (
           lShape.mir,
           l₁₅,
-        ) ∷ (tyInt w64, l₁₆) ∷ (tyInt w64, l₁₇) ∷ (tyInt w64, l₁₈) ∷ (tyInt w32, l₁₉) ∷ (lBegun.mir, l₂₀) ∷ (tyArray (tyInt w64) 256, l₂₁) ∷
+        ) ∷ (tyInt w64, l₁₆) ∷ (tyInt w64, l₁₇) ∷ (tyInt w64, l₁₈) ∷ (tyInt w32, l₁₉) ∷ (lOuterStage.mir, l₂₀) ∷ (tyArray (tyInt w64) 256, l₂₁) ∷
         (tyInt w32, l₂₂) ∷ (tyInt w32, l₂₃) ∷ (tyInt w64, l₂₄) ∷ (tyInt w64, l₂₅) ∷ (tyInt w64, l₂₆) ∷ (tyInt w64, l₂₇) ∷ (
           tyRef erased mut
               (tyInt w64),
@@ -1300,7 +1300,7 @@ module _ {M : Type 1} (𝓤 : URA M) (H : Heap 𝓤) (A : Atoms 𝓤) (W : Given
         ) ∷ (lTranscript.mir, l₁₁) ∷ (lSystemShape.mir, l₁₂) ∷ (lSystemShape.mir, l₁₃) ∷ (lShape.mir, l₁₄) ∷ (
           lShape.mir,
           l₁₅,
-        ) ∷ (tyInt w64, l₁₆) ∷ (tyInt w64, l₁₇) ∷ (tyInt w64, l₁₈) ∷ (tyInt w32, l₁₉) ∷ (lBegun.mir, l₂₀) ∷ (tyArray (tyInt w64) 256, l₂₁) ∷
+        ) ∷ (tyInt w64, l₁₆) ∷ (tyInt w64, l₁₇) ∷ (tyInt w64, l₁₈) ∷ (tyInt w32, l₁₉) ∷ (lOuterStage.mir, l₂₀) ∷ (tyArray (tyInt w64) 256, l₂₁) ∷
         (tyInt w32, l₂₂) ∷ (tyInt w32, l₂₃) ∷ (tyInt w64, l₂₄) ∷ (tyInt w64, l₂₅) ∷ (tyInt w64, l₂₆) ∷ (tyInt w64, l₂₇) ∷ (
           tyRef erased mut
               (tyInt w64),

@@ -7,18 +7,18 @@ use Rattle.magnetar_spartan.proofs.refusal.size_refusal.Tie as tie
 is-size-requires : tie.Need-is-size-requires
 is-size-requires c κs = search needs
 
-note-requires : tie.Need-note-requires
-note-requires c κs = search needs
+refuse-requires : tie.Need-refuse-requires
+refuse-requires c κs = search needs
 
 is-size-requires-2 : tie.Need-is-size-requires-2
 is-size-requires-2 c κs = search needs
 
-note-requires-2 : tie.Need-note-requires-2
-note-requires-2 c κs = search needs
+refuse-requires-2 : tie.Need-refuse-requires-2
+refuse-requires-2 c κs = search needs
 
 returns : tie.Need-returns
-returns c = rw (c .note2 .ensures, c .before .is-size2 .ensures, c .before .before .note .ensures, c .before .before .before .is-size .ensures)
+returns c = rw (c .refuse2 .ensures, c .before .is-size2 .ensures, c .before .before .refuse .ensures, c .before .before .before .is-size .ensures)
 
 pub size-refusal-spec : {M : Type 1} → statement M
 size-refusal-spec =
-    tie.close (tie.spec is-size-requires note-requires is-size-requires-2 note-requires-2 returns)
+    tie.close (tie.spec is-size-requires refuse-requires is-size-requires-2 refuse-requires-2 returns)

@@ -4,11 +4,11 @@ use Prim.Native.Nat.{_/_}
 use mathlib.Core.Path.{_≡_}
 use mathlib.Core.List.{_++_}
 use denote.Ref.{now}
-use Rattle.magnetar_layout.specs.Tests.{Tests, noted, sizeTests, publicTestsOf}
-use Rattle.magnetar_layout.proofs.Noted.{noted-front, noted-late}
+use Rattle.magnetar_layout.specs.Tests.{Tests, firstRefusal, sizeTests, publicTestsOf}
+use Rattle.magnetar_layout.proofs.FirstRefusal.{first-refusal-front, first-refusal-late}
 use Rattle.magnetar_matrix.specs.Batch.{Relation}
-use Rattle.magnetar_protocol.specs.Shape.{outline}
-use Rattle.magnetar_spartan.specs.Numbers.{laidTests, verifyRooms}
+use Rattle.magnetar_protocol.specs.Shape.{sizesOnly}
+use Rattle.magnetar_spartan.specs.Numbers.{rulesTestsBy, verifyLentTests}
 use Rattle.magnetar_spartan.proofs.Chains.{log-least}
 use Rattle.magnetar_spartan.proofs.ByNumbers.{Sizes, sizes-of, few-segments}
 use borrow.Author.Needs.{needs}
@@ -16,23 +16,23 @@ use Rattle.magnetar_spartan.proofs.refusal.verify.Statement.{statement}
 use Rattle.magnetar_spartan.proofs.refusal.verify.Tie as tie
 
 abbrev o : tie.Start → Relation
-o s = let x = s .args in outline (x .m) (x .q) (x .rb) (x .rf) (now (x .lens))
+o s = let x = s .args in sizesOnly (x .m) (x .q) (x .rb) (x .rf) (now (x .lens))
 
 -- the tests in three groups
 abbrev first : tie.Start → Tests
 first s = sizeTests (s .args .m) (s .args .q)
 
 abbrev second : tie.Start → Tests
-second s = publicTestsOf (s .args .m) (s .args .x) ++ laidTests (s .args .z) (o s)
+second s = publicTestsOf (s .args .m) (s .args .x) ++ rulesTestsBy (s .args .z) (o s)
 
 abbrev third : tie.Start → Tests
-third s = let x = s .args in verifyRooms (o s) (x .proof) (x .n) (x .claims) (x .scratch)
+third s = let x = s .args in verifyLentTests (o s) (x .proof) (x .n) (x .claims) (x .scratch)
 
 sizes : (c : tie.Else1) → Sizes ((c .before .before .before) .args .m) ((c .before .before .before) .args .q)
 sizes c = sizes-of _ _ _ (c .before .size-refusal .ensures) (c .if1 .left)
 
-middle : (c : tie.After-segments) → c .segments .result ≡ noted 0 (second (c .before .before .before .before .before .before))
-middle c = rw (c .segments .ensures, c .before .note2 .ensures, c .before .before .note .ensures)
+middle : (c : tie.After-segments) → c .segments .result ≡ firstRefusal 0 (second (c .before .before .before .before .before .before))
+middle c = rw (c .segments .ensures, c .before .refuse2 .ensures, c .before .before .refuse .ensures)
 
 size-refusal-requires : tie.Need-size-refusal-requires
 size-refusal-requires c κs = search needs
@@ -41,16 +41,16 @@ returns : tie.Need-returns
 returns c =
     let z = c .before in
     let s = z .before .before in
-    noted-front (first s) (second s ++ third s) _ (z .size-refusal .ensures) (c .if1 .taken)
+    first-refusal-front (first s) (second s ++ third s) _ (z .size-refusal .ensures) (c .if1 .taken)
 
-sub-note : tie.Need-sub-note
-sub-note c = sizes c .columns .low
+sub-refuse : tie.Need-sub-refuse
+sub-refuse c = sizes c .columns .low
 
-note-requires : tie.Need-note-requires
-note-requires c κs = search needs
+refuse-requires : tie.Need-refuse-requires
+refuse-requires c κs = search needs
 
-note-requires-2 : tie.Need-note-requires-2
-note-requires-2 c κs = search needs
+refuse-requires-2 : tie.Need-refuse-requires-2
+refuse-requires-2 c κs = search needs
 
 segments-requires : tie.Need-segments-requires
 segments-requires c κs = sizes (c .before .before) .columns
@@ -61,16 +61,16 @@ returns-2 c =
     let e = g .before .before .before in
     let z = e .before in
     let s = z .before .before in
-    noted-late (first s) (second s ++ third s) _ _ (z .size-refusal .ensures) (e .if1 .left)
-    (noted-front (second s) (third s) _ (middle g) (c .if2 .taken))
+    first-refusal-late (first s) (second s ++ third s) _ _ (z .size-refusal .ensures) (e .if1 .left)
+    (first-refusal-front (second s) (third s) _ (middle g) (c .if2 .taken))
 
-verify-rooms-requires : tie.Need-verify-rooms-requires
-verify-rooms-requires c κs =
+verify-lent-requires : tie.Need-verify-lent-requires
+verify-lent-requires c κs =
     let g = c .before in
     let n = g .before in
     let e = n .before .before in
     let s = e .before .before .before in
-    (log-least _ (sizes e .columns), few-segments (s .args .m / 2) (n .note2 .result) _ (now (s .args .lens)) (g .segments .ensures) (c .if2 .left))
+    (log-least _ (sizes e .columns), few-segments (s .args .m / 2) (n .refuse2 .result) _ (now (s .args .lens)) (g .segments .ensures) (c .if2 .left))
 
 returns-3 : tie.Need-returns-3
 returns-3 c =
@@ -79,8 +79,8 @@ returns-3 c =
     let e = g .before .before .before in
     let z = e .before in
     let s = z .before .before in
-    noted-late (first s) (second s ++ third s) _ _ (z .size-refusal .ensures) (e .if1 .left)
-    (noted-late (second s) (third s) _ _ (middle g) (f .if2 .left) (c .verify-rooms .ensures))
+    first-refusal-late (first s) (second s ++ third s) _ _ (z .size-refusal .ensures) (e .if1 .left)
+    (first-refusal-late (second s) (third s) _ _ (middle g) (f .if2 .left) (c .verify-lent .ensures))
 
 pub verify-spec : {M : Type 1} → statement M
 verify-spec =
@@ -88,10 +88,10 @@ verify-spec =
     (tie.spec
     size-refusal-requires
     returns
-    sub-note
-    note-requires
-    note-requires-2
+    sub-refuse
+    refuse-requires
+    refuse-requires-2
     segments-requires
     returns-2
-    verify-rooms-requires
+    verify-lent-requires
     returns-3)

@@ -4,20 +4,20 @@ use denote.Ref.{now}
 use mathlib.Core.Path.{ap}
 use Rattle.magnetar_hash.specs.declared.transcript.TranscriptAnswer.{TranscriptAnswer}
 use Rattle.magnetar_matrix.specs.Batch.{Relation}
-use Rattle.magnetar_protocol.specs.Shape.{outline}
-use Rattle.magnetar_spartan.proofs.StageLaws.{part-is, begun-is, begun-back}
+use Rattle.magnetar_protocol.specs.Shape.{sizesOnly}
+use Rattle.magnetar_spartan.proofs.StageLaws.{part-is, outer-stage-is, outer-stage-back}
 use borrow.Author.Needs.{needs}
 use Rattle.magnetar_spartan.proofs.stages.begin.Statement.{statement}
 use Rattle.magnetar_spartan.proofs.stages.begin.Tie as tie
 
 abbrev o : tie.Start → Relation
-o s = let x = s .args in outline (x .m) (x .q) (x .rb) (x .rf) (now (x .lens))
+o s = let x = s .args in sizesOnly (x .m) (x .q) (x .rb) (x .rf) (now (x .lens))
 
 returns : tie.Need-returns
 returns c =
     let s = c .before .before .before in
     let x = s .args in
-    begun-back (x .n) (o s) (now (x .proof)) (x .t) (c .if1 .taken)
+    outer-stage-back (x .n) (o s) (now (x .proof)) (x .t) (c .if1 .taken)
 
 draw-words-requires : tie.Need-draw-words-requires
 draw-words-requires c κs = search needs
@@ -25,11 +25,11 @@ draw-words-requires c κs = search needs
 least-requires : tie.Need-least-requires
 least-requires c κs = search needs
 
-slice-aggregate-play : tie.Need-slice-aggregate-play
-slice-aggregate-play c = search needs
+slice-aggregate-run-events : tie.Need-slice-aggregate-run-events
+slice-aggregate-run-events c = search needs
 
-play-requires : tie.Need-play-requires
-play-requires c κs = search needs
+run-events-requires : tie.Need-run-events-requires
+run-events-requires c κs = search needs
 
 sub-outer-checks : tie.Need-sub-outer-checks
 sub-outer-checks c = search needs
@@ -53,7 +53,7 @@ returns-2 c =
     let s = e .before .before .before in
     let x = s .args in
     let part = part-is (o s) (d .draw-words .result) (l .least .result) _ (l .least .ensures .0) (d .draw-words .ensures) in
-    rw (e .if1 .left) (begun-is (o s) (now (x .proof)) (x .t) _ _ _ _ (ap (λ (a : TranscriptAnswer). a .transcript) (p .play .ensures .0), p .play .ensures .1) part (f .outer-checks .ensures))
+    rw (e .if1 .left) (outer-stage-is (o s) (now (x .proof)) (x .t) _ _ _ _ (ap (λ (a : TranscriptAnswer). a .transcript) (p .run-events .ensures .0), p .run-events .ensures .1) part (f .outer-checks .ensures))
 
 pub begin-spec : {M : Type 1} → statement M
 begin-spec =
@@ -62,8 +62,8 @@ begin-spec =
     returns
     draw-words-requires
     least-requires
-    slice-aggregate-play
-    play-requires
+    slice-aggregate-run-events
+    run-events-requires
     sub-outer-checks
     part-outer-checks-start
     part-outer-checks-end

@@ -6,7 +6,7 @@ use Prim.Native.Nat.{ℕ, _-_}
 use lib.ListN.{take}
 use denote.Ref.{now}
 use Rattle.magnetar_matrix.specs.Batch.{Relation}
-use Rattle.magnetar_protocol.specs.Shape.{outline}
+use Rattle.magnetar_protocol.specs.Shape.{sizesOnly}
 use Rattle.magnetar_spartan.specs.Stages.{drawnOf}
 use Rattle.magnetar_spartan.proofs.StageLaws.{part-is, stop-first, stop-later, stop-none}
 use borrow.Author.Needs.{needs}
@@ -14,7 +14,7 @@ use Rattle.magnetar_spartan.proofs.stages.checks.Statement.{statement}
 use Rattle.magnetar_spartan.proofs.stages.checks.Tie as tie
 
 abbrev o : tie.Start → Relation
-o s = let x = s .args in outline (x .m) (x .q) (x .rb) (x .rf) (now (x .lens))
+o s = let x = s .args in sizesOnly (x .m) (x .q) (x .rb) (x .rf) (now (x .lens))
 
 -- the words of the draws that the checks look at
 abbrev d : tie.Start → List ℕ

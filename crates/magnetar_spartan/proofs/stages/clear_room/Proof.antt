@@ -5,10 +5,10 @@ use mathlib.Core.List.{[]}
 use Prim.Native.Nat.{ℕ, _+_, _*_}
 use native.Mathlib.Omega.{arith}
 use denote.Ref.{now}
-use Rattle.magnetar_protocol.specs.Shape.{outline}
+use Rattle.magnetar_protocol.specs.Shape.{sizesOnly}
 use Rattle.magnetar_relation.specs.Steps.{clearedTo}
 use Rattle.magnetar_relation.proofs.StepLaws.{cleared-none}
-use Rattle.magnetar_spartan.specs.Stages.{roomElements}
+use Rattle.magnetar_spartan.specs.Stages.{scratchElements}
 use borrow.Author.Needs.{needs}
 use Rattle.magnetar_spartan.proofs.stages.clear_room.Statement.{statement}
 use Rattle.magnetar_spartan.proofs.stages.clear_room.Tie as tie
@@ -44,14 +44,14 @@ returns-2 c =
     let l = c .before .before in
     let s = l .before .before in
     let x = s .args in
-    cleared-none (roomElements (outline (x .m) 0 (x .rb) (x .rf) [])) (now (x .s)) (omega (arith, l .larger .ensures))
+    cleared-none (scratchElements (sizesOnly (x .m) 0 (x .rb) (x .rf) [])) (now (x .s)) (omega (arith, l .larger .ensures))
 
 returns-3 : tie.Need-returns-3
 returns-3 c =
     let l = c .before in
     let s = l .before .before in
     let x = s .args in
-    cleared-none (roomElements (outline (x .m) 0 (x .rb) (x .rf) [])) (now (x .s)) (omega (arith, l .larger .ensures))
+    cleared-none (scratchElements (sizesOnly (x .m) 0 (x .rb) (x .rf) [])) (now (x .s)) (omega (arith, l .larger .ensures))
 
 pub clear-room-spec : {M : Type 1} → statement M
 clear-room-spec =

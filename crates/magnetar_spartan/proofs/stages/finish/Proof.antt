@@ -3,14 +3,14 @@
 use native.Mathlib.Omega.{arith}
 use denote.Ref.{now}
 use Rattle.magnetar_matrix.specs.Batch.{Relation}
-use Rattle.magnetar_protocol.specs.Shape.{outline}
+use Rattle.magnetar_protocol.specs.Shape.{sizesOnly}
 use Rattle.magnetar_spartan.proofs.StageLaws.{finish-is, finish-back}
 use borrow.Author.Needs.{needs}
 use Rattle.magnetar_spartan.proofs.stages.finish.Statement.{statement}
 use Rattle.magnetar_spartan.proofs.stages.finish.Tie as tie
 
 abbrev o : tie.Start → Relation
-o s = let x = s .args in outline (x .m) (x .q) (x .rb) (x .rf) (now (x .lens))
+o s = let x = s .args in sizesOnly (x .m) (x .q) (x .rb) (x .rf) (now (x .lens))
 
 returns : tie.Need-returns
 returns c =

@@ -6,14 +6,14 @@ use borrow.Author.Needs.{needs}
 use Rattle.magnetar_spartan.proofs.stages.stopped.Statement.{statement}
 use Rattle.magnetar_spartan.proofs.stages.stopped.Tie as tie
 
-slice-aggregate-play : tie.Need-slice-aggregate-play
-slice-aggregate-play c = search needs
+slice-aggregate-run-events : tie.Need-slice-aggregate-run-events
+slice-aggregate-run-events c = search needs
 
-play-requires : tie.Need-play-requires
-play-requires c κs = search needs
+run-events-requires : tie.Need-run-events-requires
+run-events-requires c κs = search needs
 
 returns : tie.Need-returns
-returns c = (refl, ap (λ (a : TranscriptAnswer). a .transcript) (c .before .before .play .ensures .0))
+returns c = (refl, ap (λ (a : TranscriptAnswer). a .transcript) (c .before .before .run-events .ensures .0))
 
 pub stopped-spec : {M : Type 1} → statement M
-stopped-spec = tie.close (tie.spec slice-aggregate-play play-requires returns)
+stopped-spec = tie.close (tie.spec slice-aggregate-run-events run-events-requires returns)

@@ -3,7 +3,7 @@
 use mathlib.Core.Path.{_≡_, sym, ap, _∙_}
 use Prim.Native.Nat.{ℕ}
 use denote.Ref.{now}
-use Rattle.magnetar_layout.specs.Tests.{noted}
+use Rattle.magnetar_layout.specs.Tests.{firstRefusal}
 use Rattle.magnetar_relation.specs.Rules.{Rules, rules}
 use Rattle.magnetar_relation.specs.RuleTests.{ruleTests}
 use Rattle.magnetar_relation.proofs.RuleLaws.{lengths-free}
@@ -20,10 +20,10 @@ abbrev refusal : tie.Start → ℕ
 refusal s = let x = s .args in proveRefusal (R s) (now (x .packed)) (now (x .x)) (x .t) (now (x .out)) (now (x .claims)) (now (x .scratch))
 
 -- 4 to 7
-rules-number : (c : tie.After-refused) → c .refused .result ≡ noted 0 (ruleTests (R (c .before .before .before .before .before .before .before .before .before .before .before)))
+rules-number : (c : tie.After-refused) → c .refused .result ≡ firstRefusal 0 (ruleTests (R (c .before .before .before .before .before .before .before .before .before .before .before)))
 rules-number c =
     let x = (c .before .before .before .before .before .before .before .before .before .before .before) .args in
-    c .refused .ensures ∙ ap (noted 0) (lengths-free (x .m) (x .q) (now (x .lens)) (x .sh) (now (x .row)) (now (x .col)) (now (x .lo)) (now (x .hi)))
+    c .refused .ensures ∙ ap (firstRefusal 0) (lengths-free (x .m) (x .q) (now (x .lens)) (x .sh) (now (x .row)) (now (x .col)) (now (x .lo)) (now (x .hi)))
 
 -- all of them
 all-number : (c : tie.After-prove) → c .prove .result ≡ refusal (c .before .before .before .before .before .before .before .before .before .before .before .before)
@@ -54,8 +54,8 @@ outer-requires c κs = search needs
 combine-at-requires : tie.Need-combine-at-requires
 combine-at-requires c κs = search needs
 
-later-requires : tie.Need-later-requires
-later-requires c κs = search needs
+inner-part-requires : tie.Need-inner-part-requires
+inner-part-requires c κs = search needs
 
 same-length : tie.Need-same-length
 same-length c = search needs
@@ -77,7 +77,7 @@ returns-2 c =
     let u = o .outer in
     let r = run-through (R s) (now (x .packed)) (now (x .x)) (now (x .out)) (now (x .claims)) (now (x .scratch)) (x .t) (sym (all-number p) ∙ o .before
     .before .before .before .before .before .before .if1 .left) _ _ _
-    (u .result .«transcript») (l .later .result) (u .result .«draws») _ _ _ _ (o .before .before .before .before .before .products .ensures) (u .ensures) (k .combine-at .ensures) (l .later .ensures) in
+    (u .result .«transcript») (l .inner-part .result) (u .result .«draws») _ _ _ _ (o .before .before .before .before .before .products .ensures) (u .ensures) (k .combine-at .ensures) (l .inner-part .ensures) in
     (r .0, λ i. r .1)
 
 pub prove-virtual-spartan-spec : {M : Type 1} → statement M
@@ -90,7 +90,7 @@ prove-virtual-spartan-spec =
     products-requires
     outer-requires
     combine-at-requires
-    later-requires
+    inner-part-requires
     same-length
     same-length-2
     same-length-3

@@ -2,7 +2,7 @@
 -- Assumes nothing.
 use mathlib.Core.Path.{_≡_, ap, _∙_}
 use denote.Ref.{now}
-use Rattle.magnetar_layout.specs.Tests.{noted}
+use Rattle.magnetar_layout.specs.Tests.{firstRefusal}
 use Rattle.magnetar_relation.specs.Rules.{Rules, rules}
 use Rattle.magnetar_relation.specs.RuleTests.{ruleTests}
 use Rattle.magnetar_relation.proofs.RuleLaws.{lengths-free}
@@ -15,11 +15,11 @@ abbrev R : tie.Start → Rules
 R s = let x = s .args in rules (x .m) (x .q) (now (x .lens)) (x .sh) (now (x .row)) (now (x .col)) (now (x .lo)) (now (x .hi))
 
 -- 4 to 7
-number : (c : tie.After-refused) → c .refused .result ≡ noted 0 (ruleTests (R (c .before .before .before .before .before .before .before .before .before .before)))
+number : (c : tie.After-refused) → c .refused .result ≡ firstRefusal 0 (ruleTests (R (c .before .before .before .before .before .before .before .before .before .before)))
 number c =
     let s = c .before .before .before .before .before .before .before .before .before .before in
     let x = s .args in
-    c .refused .ensures ∙ ap (noted 0) (lengths-free (x .m) (x .q) (now (x .lens)) (x .sh) (now (x .row)) (now (x .col)) (now (x .lo)) (now (x .hi)))
+    c .refused .ensures ∙ ap (firstRefusal 0) (lengths-free (x .m) (x .q) (now (x .lens)) (x .sh) (now (x .row)) (now (x .col)) (now (x .lo)) (now (x .hi)))
 
 refused-requires : tie.Need-refused-requires
 refused-requires c κs = search needs

@@ -134,22 +134,22 @@ get-requires c κs = search needs
 inner-finish-requires : tie.Need-inner-finish-requires
 inner-finish-requires c κs = search needs
 
-note-requires : tie.Need-note-requires
-note-requires c κs = search needs
+refuse-requires : tie.Need-refuse-requires
+refuse-requires c κs = search needs
 
 identity-holds-requires : tie.Need-identity-holds-requires
 identity-holds-requires c κs =
     c .before .before .before .before .before .before .before .before .before .before .before .before .before .before .before .before .before
     .before .before .before .before .before .pre .0
 
-add-note : tie.Need-add-note
-add-note c =
+add-refuse : tie.Need-add-refuse
+add-refuse c =
     let b = c .before .before .before .before .before .before .before .before .before .before .before .before .before .before .before .before .before
     .before .before .before .before .before .before in
     omega (arith, sizes b .small, b .pre .0 .logins, b .pre .0 .bin, b .pre .0 .fld)
 
-note-requires-2 : tie.Need-note-requires-2
-note-requires-2 c κs = search needs
+refuse-requires-2 : tie.Need-refuse-requires-2
+refuse-requires-2 c κs = search needs
 
 same-length : tie.Need-same-length
 same-length c =
@@ -169,12 +169,12 @@ returns c =
     let q = r .inner-rounds .ensures in
     let l = elements (now (x .room)) in (
       end-done (x .s) (x .b) (x .f) (x .c) (now (x .lens)) (take (x .m / 2) (drop (x .m) l)) (elements (now (x .proof)))
-          (elements (now (x .draws))) (take (x .m) l) (r .inner-rounds .result .found) (n .note .result) (c .note2 .result)
+          (elements (now (x .draws))) (take (x .m) l) (r .inner-rounds .result .found) (n .refuse .result) (c .refuse2 .result)
           (value (r .inner-rounds .result .claim)) (value (t .table-value .result)) (value (p .public-value .result)) (y .inner-finish .result)
           (c .before .identity-holds .result) (q .0) (q .1)
           (t .table-value .ensures ∙ rw (p .public-value .ensures .1, t .before .piece2 .ensures .0))
           (p .public-value .ensures .0 ∙ rw (p .before .piece .ensures .0)) (y .inner-finish .ensures ∙ rw (y .before .get .ensures))
-          (c .before .identity-holds .ensures) (n .note .ensures) (c .note2 .ensures),
+          (c .before .identity-holds .ensures) (n .refuse .ensures) (c .refuse2 .ensures),
       v .clear .ensures
           ∙ ap (λ (k : ℕ). replicate k 0)
           (t .table-value .kept .0 ∙ p .public-value .kept .0 ∙ r .before .before .before .before .before .pre .1),
@@ -220,9 +220,9 @@ end-phases-spec =
     clear-requires
     get-requires
     inner-finish-requires
-    note-requires
+    refuse-requires
     identity-holds-requires
-    add-note
-    note-requires-2
+    add-refuse
+    refuse-requires-2
     same-length
     returns)

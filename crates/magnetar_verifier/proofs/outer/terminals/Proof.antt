@@ -89,11 +89,11 @@ add-terminal-holds c = search needs
 terminal-holds-requires-2 : tie.Need-terminal-holds-requires-2
 terminal-holds-requires-2 c κs = search needs
 
-note-requires : tie.Need-note-requires
-note-requires c κs = search needs
+refuse-requires : tie.Need-refuse-requires
+refuse-requires c κs = search needs
 
-note-requires-2 : tie.Need-note-requires-2
-note-requires-2 c κs = search needs
+refuse-requires-2 : tie.Need-refuse-requires-2
+refuse-requires-2 c κs = search needs
 
 returns : tie.Need-returns
 returns c =
@@ -104,8 +104,8 @@ returns c =
     let p3 = t1 .before in
     let p2 = p3 .before in
     let p1 = p2 .before in
-    c .note2 .ensures ∙ rw (
-      c .before .note .ensures,
+    c .refuse2 .ensures ∙ rw (
+      c .before .refuse .ensures,
       t1 .terminal-holds .ensures,
       t2 .terminal-holds2 .ensures,
       p1 .piece .ensures .0,
@@ -147,6 +147,6 @@ terminals-spec =
     piece-requires-5
     add-terminal-holds
     terminal-holds-requires-2
-    note-requires
-    note-requires-2
+    refuse-requires
+    refuse-requires-2
     returns)
