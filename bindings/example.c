@@ -1,4 +1,5 @@
-/* A product, an eq table, a round of an inner sum-check with its challenge from a transcript, and two refused calls. */
+/* A product, an eq table, a round of an inner sum-check with its challenge from a transcript, two refused calls, and the digest of a
+ * relation. */
 #include "magnetar.h"
 
 #include <stdio.h>
@@ -49,5 +50,17 @@ int main(void)
     magnetar_transcript late = draw.transcript;
     late.squeeze_ctr = 1ull << 32;
     printf("refused: %u %u\n", magnetar_bind_var(z, 6, 0, two), magnetar_challenge_field(late, bytes("round"), 5).code);
+
+    /* the digest of a relation with one entry, and of one with a segment too long */
+    size_t segments[] = {2}, place[] = {0};
+    uint64_t one[] = {1}, none[] = {0};
+    magnetar_shape a = {1, 4, 1}, b = {1, 4, 0};
+    magnetar_relation r = {4, 1, segments, 1, {{a, b, b}, {b, b, b}}, 1, place, place, one, none};
+    magnetar_digest d = magnetar_digest_of(&r);
+    printf("digest: %u ", d.code);
+    for (size_t i = 0; i < 32; i++)
+        printf("%02x", d.digest[i]);
+    segments[0] = 4;
+    printf("\nrefused: %u\n", magnetar_digest_of(&r).code);
     return 0;
 }

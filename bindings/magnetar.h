@@ -161,6 +161,17 @@ magnetar_row_verdict magnetar_row_check(
     const size_t *col, size_t col_len, const uint64_t *lo, size_t lo_len, const uint64_t *hi, size_t hi_len,
     const uint64_t *packed, size_t packed_len, const uint64_t *x, size_t x_len);
 
+/* The digest of the rules, for a caller to bind before a run: SHA3-256 of m, q, the segments, the shapes and the entries in their order. No
+ * two relations as they are lent are hashed from the same bytes. Refuses 1 and 4 to 10; the digest is then 32 bytes 0. */
+typedef struct {
+    uint32_t code;
+    uint8_t digest[32];
+} magnetar_digest;
+
+magnetar_digest magnetar_relation_digest(
+    size_t m, size_t q, const size_t *lens, size_t lens_len, magnetar_shapes shapes, const size_t *row, size_t row_len,
+    const size_t *col, size_t col_len, const uint64_t *lo, size_t lo_len, const uint64_t *hi, size_t hi_len);
+
 /* Proves a batch, whether it is good or not, and gives the claims: the shared challenges, those of the columns but the last, and a value
  * for each segment. Refuses 1 to 10, 14 and 15. */
 magnetar_answer magnetar_prove_virtual_spartan(
@@ -177,7 +188,7 @@ magnetar_answer magnetar_verify_virtual_spartan(
     const size_t *col, size_t col_len, const uint64_t *lo, size_t lo_len, const uint64_t *hi, size_t hi_len,
     const uint64_t *x, size_t x_len, const uint64_t *proof, size_t proof_len, magnetar_transcript t);
 
-/* The same three with the rules in a struct. */
+/* The same four with the rules in a struct. */
 typedef struct {
     size_t m, q;
     const size_t *lens; /* of the segments */
@@ -189,6 +200,11 @@ typedef struct {
 } magnetar_relation;
 
 #define MAGNETAR_LEND_(r) (r)->shapes, (r)->row, (r)->entries, (r)->col, (r)->entries, (r)->lo, (r)->entries, (r)->hi, (r)->entries
+
+static inline magnetar_digest magnetar_digest_of(const magnetar_relation *r)
+{
+    return magnetar_relation_digest(r->m, r->q, r->lens, r->segments, MAGNETAR_LEND_(r));
+}
 
 static inline magnetar_row_verdict magnetar_check(const magnetar_relation *r, const uint64_t *packed, size_t packed_len,
                                                   const uint64_t *x, size_t x_len, uint64_t *scratch, size_t scratch_len)

@@ -160,6 +160,7 @@ thin records::prove_virtual_spartan --use "$ends.ByNumbers.{over-free}" --use "$
 # magnetar_cases: the first records of an array, and a transcript, lent to the entries over records
 crate magnetar_cases
 for g in masks combo check; do thin lent::$g --part '(e1 .1)' --final 'rw (← (e1 .0)) e2'; done
+thin digests::lent --part '(e1 .1)' --final 'rw (← (e1 .0)) e2'
 for g in verify prove; do thin lent::$g --part '(e1 .1)' --final 'rw (← (e1 .0), e3 .0, e3 .1) (e2 .0)'; done
 
 # ---- what was written, in the layout, takes the place of what stands there, or is compared with it

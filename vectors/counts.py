@@ -16,7 +16,7 @@ HASH = "sha3 sha3rep parts partslens new newlens absorb absorbfield absorbwords 
 SUMCHECK = "outer inner round capture outerend innerend eqpoints eqnext outermsg innermsg dropvar"
 MATRIX = "isbinary apply packed table at foldinst foldw layout reading segment"
 # How many lines an answer has; that of `checks` says it itself.
-LINES = {"combo": 2, "masks": 1, "check": 2, "prove": 4, "verify": 3, "checks": None}
+LINES = {"combo": 2, "masks": 1, "check": 2, "digest": 1, "prove": 4, "verify": 3, "checks": None}
 
 
 def lines(crate, name):

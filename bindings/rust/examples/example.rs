@@ -1,5 +1,5 @@
 //! What ../../example.c does, through the safe functions: the two write the same.
-use magnetar::{bind_var, eq_table, inner_message, mul, words, Element, Refusal, Transcript};
+use magnetar::{bind_var, eq_table, inner_message, mul, relation_digest, words, Element, Matrix, Refusal, Relation, Transcript};
 
 fn show(what: &str, words: &[u64]) {
     let elements: String = words.chunks(2).map(|e| format!(" {:016x}{:016x}", e[1], e[0])).collect();
@@ -40,4 +40,13 @@ fn main() {
     let short = bind_var(&mut vec![0; 6], 0, r);
     let mut late = Transcript { squeeze_ctr: 1 << 32, ..t };
     println!("refused: {} {}", code(&short), code(&late.challenge_field(b"round")));
+
+    // the digest of a relation with one entry, and of one with a segment too long
+    let empty = || Matrix::new(1, 4, &[]);
+    let bin = [Matrix::new(1, 4, &[(0, 0, small(1))]), empty(), empty()];
+    let mut relation = Relation::new(4, 1, vec![2], &bin, &[empty(), empty(), empty()]);
+    let digest: String = relation_digest(&relation).unwrap().iter().map(|b| format!("{b:02x}")).collect();
+    println!("digest: 0 {digest}");
+    relation.segments = vec![4];
+    println!("refused: {}", code(&relation_digest(&relation)));
 }

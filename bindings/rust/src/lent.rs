@@ -1,5 +1,5 @@
 //! The calls over rules with words that the caller lends: what they answer and write is the library's, number by number.
-use crate::sys::{self, Answer, RowVerdict, Transcript};
+use crate::sys::{self, Answer, Digest, RowVerdict, Transcript};
 use crate::Rules;
 
 /// The row check of q logins of m columns.
@@ -10,6 +10,16 @@ pub fn row_check(scratch: &mut [u64], m: usize, q: usize, r: &Rules, packed: &[u
             scratch.as_mut_ptr(), scratch.len(), m, q,
             r.shapes, r.row.as_ptr(), r.row.len(), r.col.as_ptr(), r.col.len(), r.lo.as_ptr(), r.lo.len(), r.hi.as_ptr(), r.hi.len(),
             packed.as_ptr(), packed.len(), x.as_ptr(), x.len(),
+        )
+    }
+}
+
+/// The digest of a relation.
+pub fn relation_digest(m: usize, q: usize, lens: &[usize], r: &Rules) -> Digest {
+    unsafe {
+        sys::magnetar_relation_digest(
+            m, q, lens.as_ptr(), lens.len(),
+            r.shapes, r.row.as_ptr(), r.row.len(), r.col.as_ptr(), r.col.len(), r.lo.as_ptr(), r.lo.len(), r.hi.as_ptr(), r.hi.len(),
         )
     }
 }

@@ -8,7 +8,7 @@ mod run;
 pub mod sys;
 
 pub use refusal::Refusal;
-pub use run::{prove, row_check, verify, Claims, Failing, Matrix, Relation, Rules};
+pub use run::{prove, relation_digest, row_check, verify, Claims, Failing, Matrix, Relation, Rules};
 pub use sys::{Element, Shape, Shapes, SystemShape, Transcript};
 
 /// The product.

@@ -169,6 +169,13 @@ pub fn row_check(r: &Relation, packed: &[u64], x: &[u64]) -> Result<Option<Faili
     Ok((found.system != 0).then_some(Failing { fld: found.system == 2, login: found.login, row: found.row }))
 }
 
+/// The digest of a relation, for a caller to bind before a run. No two relations as they are lent are hashed from the same bytes.
+pub fn relation_digest(r: &Relation) -> Result<[u8; 32], Refusal> {
+    let answer = lent::relation_digest(r.m, r.q, &r.segments, &r.rules);
+    Refusal::check(answer.code)?;
+    Ok(answer.digest)
+}
+
 /// A proof of a batch, whether it is good or not, and the claims.
 pub fn prove(r: &Relation, packed: &[u64], x: &[u64], t: &mut Transcript) -> Result<(Vec<u64>, Claims), Refusal> {
     let mut proof = room(Some(r.proof_words()));

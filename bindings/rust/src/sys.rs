@@ -31,6 +31,14 @@ pub struct Draw {
     pub transcript: Transcript,
 }
 
+/// A refusal or 0, and the digest, 32 bytes 0 where the call is refused.
+#[repr(C)]
+#[derive(Clone, Copy, Debug, PartialEq, Eq)]
+pub struct Digest {
+    pub code: u32,
+    pub digest: [u8; 32],
+}
+
 /// `system` is 0 where every row holds, 1 for a row of bin, 2 for one of fld, 3 where the call is refused.
 #[repr(C)]
 #[derive(Clone, Copy, Debug, PartialEq, Eq)]
@@ -113,6 +121,13 @@ extern "C" {
         packed: *const u64, packed_len: usize,
         x: *const u64, x_len: usize,
     ) -> RowVerdict;
+    pub fn magnetar_relation_digest(
+        m: usize, q: usize,
+        lens: *const usize, lens_len: usize,
+        shapes: Shapes,
+        row: *const usize, row_len: usize, col: *const usize, col_len: usize,
+        lo: *const u64, lo_len: usize, hi: *const u64, hi_len: usize,
+    ) -> Digest;
     pub fn magnetar_prove_virtual_spartan(
         proof: *mut u64, proof_len: usize,
         claims: *mut u64, claims_len: usize,

@@ -5,6 +5,7 @@ use Rattle.magnetar_matrix.specs.RowCheck.Verdict.{good, bin, fld}
 use Rattle.magnetar_batch.specs.Check.{Outcome}
 use Rattle.magnetar_batch.specs.Check.Outcome.{judged, refused}
 use Rattle.magnetar_field.specs.declared.gf128.Gf128.{Gf128}
+use Rattle.magnetar_hash.specs.declared.sha3.DigestAnswer.{DigestAnswer}
 use Rattle.magnetar_hash.specs.declared.transcript.Transcript.{Transcript}
 use Rattle.magnetar_hash.specs.declared.transcript.TranscriptAnswer.{TranscriptAnswer}
 use Rattle.magnetar_hash.specs.declared.transcript.DrawAnswer.{DrawAnswer}
@@ -12,6 +13,7 @@ use Rattle.magnetar_c.specs.declared.MagnetarElement.{MagnetarElement}
 use Rattle.magnetar_c.specs.declared.MagnetarTranscript.{MagnetarTranscript}
 use Rattle.magnetar_c.specs.declared.MagnetarAnswer.{MagnetarAnswer}
 use Rattle.magnetar_c.specs.declared.MagnetarDraw.{MagnetarDraw}
+use Rattle.magnetar_c.specs.declared.MagnetarDigest.{MagnetarDigest}
 use Rattle.magnetar_c.specs.declared.MagnetarRowCheck.{MagnetarRowCheck}
 
 -- an element
@@ -29,6 +31,10 @@ answer a = record { code = a .code; transcript = transcript (a .transcript) }
 -- the same with the element drawn
 abbrev pub drawn : MagnetarDraw → DrawAnswer
 drawn d = record { code = d .code; element = element (d .element); transcript = transcript (d .transcript) }
+
+-- a refusal's number and a digest
+abbrev pub digest : MagnetarDigest → DigestAnswer
+digest d = record { code = d .code; digest = d .digest }
 
 -- the answer of the row check: system 0 where every row holds, 1 and 2 with the row of bin and fld that does not, 3 with a refusal's number
 unfoldable pub crossed : Outcome → MagnetarRowCheck

@@ -2,8 +2,10 @@
 // convention, with the same outcome. A slice is a pointer and a length; a struct goes by value.
 use magnetar_batch::check;
 use magnetar_batch::check::RowCheck;
+use magnetar_digest::digest;
 use magnetar_field::gf128;
 use magnetar_field::gf128::Gf128;
+use magnetar_hash::sha3::DigestAnswer;
 use magnetar_hash::transcript;
 use magnetar_hash::transcript::DrawAnswer;
 use magnetar_hash::transcript::Transcript;
@@ -22,6 +24,7 @@ ghost use Rattle.magnetar_multilinear.specs.Entries.{eqRefusal, eqOut, bindRefu
 ghost use Rattle.magnetar_hash.specs.Transcript as spec;
 ghost use Rattle.magnetar_relation.specs.Rules.{rules};
 ghost use Rattle.magnetar_batch.specs.Check.{outcome, checkOutcome};
+ghost use Rattle.magnetar_digest.specs.Digest.{digestAnswer};
 ghost use Rattle.magnetar_spartan.specs.Outcome.{verified, verifyOutcome, proved, proveOutcome};
 ghost use Rattle.magnetar_spartan.specs.Theorems.{AcceptedCall, ProvedCall};
 ghost use Rattle.magnetar_sumcheck_prover.specs.Entries.{outerRefusal, outerOut, innerRefusal, innerOut, dropRefusal, dropOut};
@@ -53,6 +56,13 @@ pub struct MagnetarDraw {
     pub code: u32,
     pub element: MagnetarElement,
     pub transcript: MagnetarTranscript,
+}
+
+// The number of the refusal, 0 for none, and the digest, 32 bytes 0 where the call is refused.
+#[repr(C)]
+pub struct MagnetarDigest {
+    pub code: u32,
+    pub digest: [u8; 32],
 }
 
 // The answer of the row check: a refusal or 0; then where the first failing row is, the system 0 of a good batch, 1 of bin, 2 of fld,
@@ -121,6 +131,16 @@ fn draw_out(d: DrawAnswer) -> MagnetarDraw
         code: d.code,
         element,
         transcript,
+    }
+}
+
+fn digest_out(d: DigestAnswer) -> MagnetarDigest
+    ensures { λ r. ⌜ across.digest r ≡ d ⌝ }
+{
+    let digest = d.digest;
+    MagnetarDigest {
+        code: d.code,
+        digest,
     }
 }
 
@@ -264,6 +284,23 @@ pub extern "C" fn magnetar_challenge_field(t: MagnetarTranscript, label: &[u8]) 
 }
 
 // ---- A relation is its shapes and the entries of A, B, C of bin, then of A, B, C of fld, one behind the other in four slices.
+
+// The digest of the relation, for a caller to bind before a run.
+#[no_mangle]
+pub extern "C" fn magnetar_relation_digest(
+    m: usize,
+    q: usize,
+    lens: &[usize],
+    sh: Shapes,
+    row: &[usize],
+    col: &[usize],
+    lo: &[u64],
+    hi: &[u64],
+) -> MagnetarDigest
+    ensures { λ r. ⌜ across.digest r ≡ digestAnswer (rules m q (now (lens .entry)) sh (now (row .entry)) (now (col .entry)) (now (lo .entry)) (now (hi .entry))) ⌝ }
+{
+    digest_out(digest::relation_digest(m, q, lens, sh, row, col, lo, hi))
+}
 
 // The verdict on a proof, and the claims of one that is accepted.
 #[no_mangle]

@@ -23,7 +23,7 @@ fn record(given: &[u64], sizes: &[usize], i: usize) -> Entry {
 }
 
 // The first 384 entries as records.
-fn records(given: &[u64], sizes: &[usize]) -> [Entry; 384] {
+pub(crate) fn records(given: &[u64], sizes: &[usize]) -> [Entry; 384] {
     let none = Entry {
         row: 0,
         col: 0,
@@ -40,7 +40,7 @@ fn records(given: &[u64], sizes: &[usize]) -> [Entry; 384] {
 }
 
 // How many records the entries are, or more than 384 where they are more or four lists of unequal length.
-fn count(given: &[u64], sizes: &[usize]) -> usize {
+pub(crate) fn count(given: &[u64], sizes: &[usize]) -> usize {
     let n = told::row(sizes).len();
     if told::col(sizes).len() != n {
         return 385;

@@ -33,7 +33,7 @@ fn pair(line: &[u8], i: usize) -> u8 {
 }
 
 // Two digits for each byte.
-fn print_bytes(s: &[u8]) {
+pub(crate) fn print_bytes(s: &[u8]) {
     let mut i = 0;
     while i < s.len() {
         io::print_hex(STDOUT_FILENO, text::wide_byte(s[i]), 2);
