@@ -18,10 +18,10 @@ WIDE, HIGH, GAP_X, GAP_Y = 196, 44, 22, 34
 # name: column, row from below, kind, what it holds
 PLACES = {
     "magnetar_field": (1, 0, "core", "GF(2^128)"),
-    "magnetar_keccak": (2, 0, "core", "Keccak-f[1600]"),
+    "magnetar_keccak": (2, 1, "core", "Keccak-f[1600]"),
     "magnetar_theory": (0, 1, "laws", "Spartan over any field"),
     "magnetar_multilinear": (1, 1, "core", "eq and multilinear tables"),
-    "magnetar_hash": (2, 1, "core", "SHA3-256, the transcript"),
+    "magnetar_hash": (2, 2, "core", "SHA3-256, the transcript"),
     "magnetar_sumcheck_verifier": (0, 2, "core", "rounds, the verifier's side"),
     "magnetar_layout": (1, 2, "core", "layouts, tests of sizes"),
     "magnetar_matrix": (1, 3, "core", "matrices, batches, steps"),
@@ -32,7 +32,7 @@ PLACES = {
     "magnetar_schedule": (1, 5, "laws", "what is absorbed and drawn"),
     "magnetar_relation": (2, 5, "core", "a relation, lent once"),
     "magnetar_verifier": (0.5, 6, "core", "checks 21 to 29, claims"),
-    "magnetar_prover": (1.5, 6, "core", "the schedule played, rounds"),
+    "magnetar_prover": (1.5, 6, "core", "the schedule run, rounds"),
     "magnetar_records": (2.6, 6, "form", "matrices as records"),
     "magnetar_batch": (2.6, 7, "core", "folds, combined table, row check"),
     "magnetar_digest": (3.6, 7, "core", "a digest of a relation"),

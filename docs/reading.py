@@ -173,7 +173,7 @@ WRONG = {
     "magnetar_relation/specs/RuleTests.antt": "a relation past the limits would be let through, or a good one refused",
     "magnetar_relation/specs/Rules.antt": "the slices that are lent would be read as another relation",
     "magnetar_relation/src/shapes.rt": "the shapes would lack a matrix",
-    "magnetar_schedule/specs/Play.antt": "the draws would not be those that the transcript gives",
+    "magnetar_schedule/specs/ScheduleRun.antt": "the draws would not be those that the transcript gives",
     "magnetar_schedule/specs/RealRun.antt": "prover and verifier would be said to draw something else than their transcripts give",
     "magnetar_schedule/specs/Schedule.antt": "a message would be absorbed after its challenge, or under another label than the Rust's",
     "magnetar_schedule/specs/Stepwise.antt": "the prover would be said to absorb and draw in another order than it does",
