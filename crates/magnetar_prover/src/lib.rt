@@ -5,6 +5,6 @@ mod events;
 mod guard;
 pub mod inner;
 mod outer;
-pub mod schedule_run;
 pub mod rounds;
+pub mod schedule_run;
 mod shared;

@@ -65,7 +65,17 @@ pub(crate) fn begin(
         };
     }
     let k = sizes::least(refusal::draw_words(m, q, rb, rf), 256);
-    let runState = schedule_run::run_events(m, q, rb, rf, lens, proof, &mut draws, t, schedule_run::ALL_EVENTS);
+    let runState = schedule_run::run_events(
+        m,
+        q,
+        rb,
+        rf,
+        lens,
+        proof,
+        &mut draws,
+        t,
+        schedule_run::ALL_EVENTS,
+    );
     let found = outer::outer_checks(m, q, rb, rf, lens, proof, &draws[0..k]);
     let ended = runState.transcript;
     OuterStage {

@@ -213,17 +213,7 @@ pub fn end_checks(
     let f = sizes::log2(rf);
     let c = sizes::log2(m);
     let n = 4 * m;
-    let z = found::words_refusal(
-        a,
-        b,
-        f,
-        c,
-        lens.len(),
-        proof.len(),
-        draws.len(),
-        n,
-        s.len(),
-    );
+    let z = found::words_refusal(a, b, f, c, lens.len(), proof.len(), draws.len(), n, s.len());
     if z != 0 {
         return Found { code: z, events: 0 };
     }

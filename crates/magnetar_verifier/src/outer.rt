@@ -226,17 +226,7 @@ pub fn outer_checks(
     let b = sizes::log2(rb);
     let f = sizes::log2(rf);
     let c = sizes::log2(m);
-    let z = found::words_refusal(
-        s,
-        b,
-        f,
-        c,
-        lens.len(),
-        proof.len(),
-        draws.len(),
-        0,
-        0,
-    );
+    let z = found::words_refusal(s, b, f, c, lens.len(), proof.len(), draws.len(), 0, 0);
     if z != 0 {
         return Found { code: z, events: 0 };
     }

@@ -112,9 +112,9 @@ end-phases-requires c κs =
     let x = a .before .before .before .before .before .before .before .args in
     let r = words-refusal-requires k tt in (
       end-fits (x .m) (x .q) (x .rb) (x .rf) (now (x .lens)) (now (x .proof)) (now (x .draws)) (now (x .s)) (a .log2 .result) (b .log22 .result)
-    (f .log23 .result) (k .log24 .result) (z .words-refusal .result) (a .log2 .ensures .0) (b .log22 .ensures .0) (f .log23 .ensures .0) (k .log24 .ensures .0)
-    (z .words-refusal .ensures) (a .before .before .outline-refusal .result) (a .before .before .outline-refusal .ensures)
-    (a .before .if1 .left) (c .before .if2 .left) (r .0) (r .1) (r .2),
+          (f .log23 .result) (k .log24 .result) (z .words-refusal .result) (a .log2 .ensures .0) (b .log22 .ensures .0) (f .log23 .ensures .0) (k .log24 .ensures .0)
+          (z .words-refusal .ensures) (a .before .before .outline-refusal .result) (a .before .before .outline-refusal .ensures)
+          (a .before .if1 .left) (c .before .if2 .left) (r .0) (r .1) (r .2),
       rw length-take (omega (arith, enough (c .before))),
     )
 
