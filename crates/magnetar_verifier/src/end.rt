@@ -8,7 +8,6 @@ use magnetar_field::words;
 use magnetar_multilinear::eq;
 use magnetar_multilinear::eq::EqBits;
 use magnetar_multilinear::multilinear;
-use magnetar_protocol::first;
 use magnetar_protocol::first::Found;
 use magnetar_protocol::refusal;
 use magnetar_sumcheck_verifier::verify;
@@ -180,9 +179,9 @@ fn end_phases(
     let t = table_value(room, found::piece(draws, k, c), m);
     words::clear(room);
     let y = verify::inner_finish(run.claim, t, words::get(proof, i));
-    let g = first::refuse(run.found, 28, y, events);
+    let g = found::refuse(run.found, 28, y, events);
     let z = identity_holds(m, lens, p, proof, draws, s, b, f, c);
-    first::refuse(g, 29, z, events + 1)
+    found::refuse(g, 29, z, events + 1)
 }
 
 // The checks 27 to 29 of a run over q logins with m columns, rb rows of bin and rf rows of fld, and these segment lengths, with the

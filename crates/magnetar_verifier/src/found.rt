@@ -2,7 +2,6 @@
 use magnetar_field::gf128::Gf128;
 use magnetar_field::words;
 use magnetar_layout::tests;
-use magnetar_protocol::first;
 use magnetar_protocol::first::Found;
 use magnetar_sumcheck_verifier::verify;
 ghost use mathlib.Core.Path.{_≡_};
@@ -23,6 +22,22 @@ ghost use Rattle.magnetar_verifier.specs.Steps.{messages, roundChecks, w
 pub(crate) struct Run {
     pub found: Found,
     pub claim: Gf128,
+}
+
+// f where it is a refusal already; else this check's refusal, where it does not pass.
+pub(crate) fn refuse(f: Found, code: u32, passes: bool, events: usize) -> Found
+    ensures { λ r. ⌜ r ≡ nextFound f (check code passes events) ⌝ }
+{
+    if f.code != 0 {
+        return f;
+    }
+    if passes {
+        return f;
+    }
+    Found {
+        code: code,
+        events: events,
+    }
 }
 
 // How many words the draws of a run are, with the logarithms s, b, f, c of the logins, the rows of bin and fld, and the columns.
@@ -87,7 +102,7 @@ pub(crate) fn round(
     ensures claim { λ o. ⌜ value (o .claim) ≡ eval (elements (now (msg .entry))) (value r) ⌝ }
 {
     let next = verify::check_round(msg, n, claim, r);
-    let g = first::refuse(f, code, next.holds, events);
+    let g = refuse(f, code, next.holds, events);
     let c = next.claim;
     Run { found: g, claim: c }
 }

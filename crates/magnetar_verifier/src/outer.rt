@@ -5,7 +5,6 @@ use magnetar_field::gf128::Evaluated;
 use magnetar_field::gf128::Gf128;
 use magnetar_field::sizes;
 use magnetar_field::words;
-use magnetar_protocol::first;
 use magnetar_protocol::first::Found;
 use magnetar_protocol::refusal;
 use magnetar_sumcheck_prover::public;
@@ -164,8 +163,8 @@ fn terminals(
         proof,
         i + 3,
     );
-    let f1 = first::refuse(f0, 25, x, events);
-    first::refuse(f1, 26, y, events)
+    let f1 = found::refuse(f0, 25, x, events);
+    found::refuse(f1, 26, y, events)
 }
 
 // The checks of all phases, with the logarithms s, b, f.

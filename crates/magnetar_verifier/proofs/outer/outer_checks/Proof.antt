@@ -4,7 +4,7 @@ use denote.Ref.{now}
 use native.Mathlib.Omega.{arith}
 use lib.ListN.{length}
 use Rattle.magnetar_protocol.proofs.Guards.{outlined-given}
-use Rattle.magnetar_verifier.proofs.Guards.{log-small, given}
+use Rattle.magnetar_verifier.proofs.Guards.{given}
 use Rattle.magnetar_verifier.proofs.OuterAnswer.{outer-size, outer-refused, outer-answered}
 use borrow.Author.Needs.{needs}
 use Rattle.magnetar_verifier.proofs.outer.outer_checks.Statement.{statement}
@@ -37,10 +37,10 @@ words-refusal-requires c κs =
     let b = f .before in
     let s = b .before in
     let x = s .before .before .before .before .before .before .args in (
-      log-small (x .q) (s .log2 .result) (s .log2 .ensures .0) (search needs),
-      log-small (x .rb) (b .log22 .result) (b .log22 .ensures .0) (search needs),
-      log-small (x .rf) (f .log23 .result) (f .log23 .ensures .0) (search needs),
-      log-small (x .m) (c .log24 .result) (c .log24 .ensures .0) (search needs),
+      omega (arith, s .log2 .ensures .1),
+      omega (arith, b .log22 .ensures .1),
+      omega (arith, f .log23 .ensures .1),
+      omega (arith, c .log24 .ensures .1),
       outlined-given (x .m) (x .q) (x .rb) (x .rf) (now (x .lens)) _ (s .before .before .outline-refusal .ensures) (s .before .if1 .left) .few,
     )
 

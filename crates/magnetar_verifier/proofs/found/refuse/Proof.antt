@@ -1,10 +1,10 @@
--- `magnetar_protocol::first::refuse` meets its contract.
+-- `magnetar_verifier::found::refuse` meets its contract.
 -- Assumes nothing.
 use mathlib.Core.Path.{sym}
 use Rattle.magnetar_protocol.specs.Found.{check}
 use Rattle.magnetar_protocol.proofs.Finding.{next-kept, next-pass, next-fail}
-use Rattle.magnetar_protocol.proofs.first.refuse.Statement.{statement}
-use Rattle.magnetar_protocol.proofs.first.refuse.Tie as tie
+use Rattle.magnetar_verifier.proofs.found.refuse.Statement.{statement}
+use Rattle.magnetar_verifier.proofs.found.refuse.Tie as tie
 
 returns : tie.Need-returns
 returns c = let x = c .before .before .args in sym (next-kept (x .f) (check (x .code) (x .passes) (x .events)) (c .if1 .taken))
