@@ -54,6 +54,15 @@ pub(crate) fn count(given: &[u64], sizes: &[usize]) -> usize {
     n
 }
 
+// Whether so many records cannot be lent: then a line `alone`.
+pub(crate) fn too_many(n: usize) -> bool {
+    if n > 384 {
+        text::alone();
+        return true;
+    }
+    false
+}
+
 fn same_answer(a: TranscriptAnswer, b: TranscriptAnswer) -> bool {
     let t = a.transcript;
     let u = b.transcript;
@@ -104,8 +113,7 @@ pub(crate) fn combo(
     scratch: &[u64],
 ) -> bool {
     let n = count(given, sizes);
-    if n > 384 {
-        text::alone();
+    if too_many(n) {
         return true;
     }
     let mut room = [MARK; 2048];
@@ -142,8 +150,7 @@ pub(crate) fn verify(
     scratch: &[u64],
 ) -> bool {
     let n = count(given, sizes);
-    if n > 384 {
-        text::alone();
+    if too_many(n) {
         return true;
     }
     let mut room = [MARK; 256];
@@ -215,8 +222,7 @@ fn same_said(a: Said, b: Said) -> bool {
 // The row check.
 pub(crate) fn check(given: &[u64], sizes: &[usize], r: RowCheck, scratch: &[u64]) -> bool {
     let n = count(given, sizes);
-    if n > 384 {
-        text::alone();
+    if too_many(n) {
         return true;
     }
     let mut words = text::room();
@@ -248,8 +254,7 @@ pub(crate) fn prove(
     scratch: &[u64],
 ) -> bool {
     let n = count(given, sizes);
-    if n > 384 {
-        text::alone();
+    if too_many(n) {
         return true;
     }
     let mut sent = [MARK; 2048];

@@ -41,8 +41,7 @@ fn same(a: DigestAnswer, b: DigestAnswer) -> bool {
 // Whether the records have the same answer, or a line `alone` where the entries cannot be records.
 fn again(given: &[u64], sizes: &[usize], r: DigestAnswer) -> bool {
     let n = again::count(given, sizes);
-    if n > 384 {
-        text::alone();
+    if again::too_many(n) {
         return true;
     }
     let es = again::records(given, sizes);
@@ -62,13 +61,7 @@ fn again(given: &[u64], sizes: &[usize], r: DigestAnswer) -> bool {
 // The digest, after the number of the refusal where there is one.
 fn print_answer(r: DigestAnswer) {
     let d = r.digest;
-    if r.code == 0 {
-        print(b"= ");
-    } else {
-        print(b"! ");
-        text::print_number(text::wide(r.code));
-        print(b" ");
-    }
+    text::print_sign(r.code);
     runs::print_bytes(&d);
     print(b"\n");
 }

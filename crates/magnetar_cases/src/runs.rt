@@ -57,13 +57,7 @@ fn print_state(t: Transcript) {
 
 // The transcript after a call, after the number of the refusal where there is one.
 fn print_answer(r: TranscriptAnswer) {
-    if r.code == 0 {
-        print(b"= ");
-    } else {
-        print(b"! ");
-        text::print_number(text::wide(r.code));
-        print(b" ");
-    }
+    text::print_sign(r.code);
     print_state(r.transcript);
 }
 

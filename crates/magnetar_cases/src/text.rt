@@ -323,6 +323,16 @@ pub(crate) fn print_number(n: u64) {
     io::print_decimal(STDOUT_FILENO, n);
 }
 
+// How an answer begins: with the number of a refusal where there is one.
+pub(crate) fn print_sign(code: u32) {
+    if code == 0 {
+        return print(b"= ");
+    }
+    print(b"! ");
+    print_number(wide(code));
+    print(b" ")
+}
+
 // A space and a number in hexadecimal.
 pub(crate) fn print_word(w: u64) {
     print(b" 0x");

@@ -104,20 +104,15 @@ fn prove(m: usize, q: usize, packed: &[u64], x: &[u64], proof: &mut [u64], scrat
     print(b"\n");
 }
 
-fn verified(
-    m: usize,
-    q: usize,
-    x: &[u64],
-    proof: &[u64],
-    claims: &mut [u64],
-    scratch: &mut [u64],
-) -> TranscriptAnswer {
+fn verify(m: usize, q: usize, x: &[u64], proof: &[u64], scratch: &mut [u64]) {
+    let mut claims = [MARK; 40];
+    filled::fill(scratch, MARK, 0);
     let row = filled::rows();
     let col = filled::cols();
     let lo = filled::lows();
     let hi = filled::highs();
-    virtual_spartan::verify_virtual_spartan(
-        claims,
+    let r = virtual_spartan::verify_virtual_spartan(
+        &mut claims,
         scratch,
         m,
         q,
@@ -130,13 +125,7 @@ fn verified(
         x,
         proof,
         filled::start(),
-    )
-}
-
-fn verify(m: usize, q: usize, x: &[u64], proof: &[u64], scratch: &mut [u64]) {
-    let mut claims = [MARK; 40];
-    filled::fill(scratch, MARK, 0);
-    let r = verified(m, q, x, proof, &mut claims, scratch);
+    );
     print(b"  verify          ");
     say_run(r);
     text::words(b"claims", &claims);
