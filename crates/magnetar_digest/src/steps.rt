@@ -23,9 +23,9 @@ use magnetar_relation::shapes::SystemShape;
 pub(crate) fn refusal(z: u32, m: usize, q: usize, lens: &[usize]) -> u32
     ensures { λ r. ⌜ r ≡ firstRefusal 0 (sizeTests m q ++ (given z ++ layoutTests (m / 2) (now (lens .entry)))) ⌝ }
 {
-    let y = tests::note(0, 1, !tests::is_size(2, 65536, m));
-    let y = tests::note(y, 1, !tests::is_size(1, 4096, q));
-    let y = tests::note(y, z, true);
+    let y = tests::refuse(0, 1, !tests::is_size(2, 65536, m));
+    let y = tests::refuse(y, 1, !tests::is_size(1, 4096, q));
+    let y = tests::refuse(y, z, true);
     if y != 0 {
         return y;
     }

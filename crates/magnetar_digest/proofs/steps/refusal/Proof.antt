@@ -13,24 +13,24 @@ use Rattle.magnetar_digest.proofs.steps.refusal.Statement.{statement}
 use Rattle.magnetar_digest.proofs.steps.refusal.Tie as tie
 
 -- 1 to 7
-first : (c : tie.After-note3) → let a = c .before .before .before .before .before .before .args in
-    c .note3 .result ≡ firstRefusal 0 (sizeTests (a .m) (a .q) ++ given (a .z))
-first c = rw (c .note3 .ensures, c .before .note2 .ensures, c .before .before .is-size2 .ensures, c .before .before .before .orRefuse .ensures, c .before .before .before .before .is-size .ensures)
+first : (c : tie.After-refuse3) → let a = c .before .before .before .before .before .before .args in
+    c .refuse3 .result ≡ firstRefusal 0 (sizeTests (a .m) (a .q) ++ given (a .z))
+first c = rw (c .refuse3 .ensures, c .before .refuse2 .ensures, c .before .before .is-size2 .ensures, c .before .before .before .refuse .ensures, c .before .before .before .before .is-size .ensures)
 
 is-size-requires : tie.Need-is-size-requires
 is-size-requires c κs = search needs
 
-note-requires : tie.Need-note-requires
-note-requires c κs = search needs
+refuse-requires : tie.Need-refuse-requires
+refuse-requires c κs = search needs
 
 is-size-requires-2 : tie.Need-is-size-requires-2
 is-size-requires-2 c κs = search needs
 
-note-requires-2 : tie.Need-note-requires-2
-note-requires-2 c κs = search needs
+refuse-requires-2 : tie.Need-refuse-requires-2
+refuse-requires-2 c κs = search needs
 
-note-requires-3 : tie.Need-note-requires-3
-note-requires-3 c κs = search needs
+refuse-requires-3 : tie.Need-refuse-requires-3
+refuse-requires-3 c κs = search needs
 
 returns : tie.Need-returns
 returns c =
@@ -50,10 +50,10 @@ refusal-spec =
     tie.close
     (tie.spec
     is-size-requires
-    note-requires
+    refuse-requires
     is-size-requires-2
-    note-requires-2
-    note-requires-3
+    refuse-requires-2
+    refuse-requires-3
     returns
     refusal-requires
     returns-2)
