@@ -202,7 +202,7 @@ fn end(
 }
 
 // What comes behind the combined table: the folded z, the inner rounds and the claims; the scratch is 0 at exit.
-pub(crate) fn inner_part(
+pub(crate) fn inner_stage(
     proof: &mut [u64],
     claims: &mut [u64],
     s: &mut [u64],
@@ -228,7 +228,7 @@ pub(crate) fn inner_part(
 }
 
 // The same unless n is a refusal; then nothing changes.
-pub(crate) fn inner_part_unless(
+pub(crate) fn inner_stage_unless(
     n: u32,
     proof: &mut [u64],
     claims: &mut [u64],
@@ -248,5 +248,5 @@ pub(crate) fn inner_part_unless(
     if n != 0 {
         return o.transcript;
     }
-    inner_part(proof, claims, s, m, q, rb, rf, lens, packed, x, o)
+    inner_stage(proof, claims, s, m, q, rb, rf, lens, packed, x, o)
 }

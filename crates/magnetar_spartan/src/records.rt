@@ -236,7 +236,7 @@ fn prove_unless(
     let o = proving::outer_unless(n, proof, scratch, q, rb, rf, t);
     let d = proving::draws_of(o);
     let _done = combine_unless(n, scratch, m, q, sh, d, es);
-    proving::inner_part_unless(n, proof, claims, scratch, m, q, rb, rf, lens, packed, x, o)
+    proving::inner_stage_unless(n, proof, claims, scratch, m, q, rb, rf, lens, packed, x, o)
 }
 
 // The prover: 0, the proof at the front of `proof`, the claims r_inst, r_low and segment values at the front of `claims`, and the

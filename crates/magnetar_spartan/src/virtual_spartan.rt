@@ -104,7 +104,7 @@ pub fn prove_virtual_spartan(
     let o = proving::outer(out, scratch, q, rb, rf, t);
     let d = o.draws;
     combine::combine_at(scratch, m, q, sh, d, row, col, lo, hi);
-    let u = proving::inner_part(out, claims, scratch, m, q, rb, rf, lens, packed, x, o);
+    let u = proving::inner_stage(out, claims, scratch, m, q, rb, rf, lens, packed, x, o);
     TranscriptAnswer {
         code: 0,
         transcript: u,

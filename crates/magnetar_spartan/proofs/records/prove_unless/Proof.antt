@@ -84,10 +84,10 @@ use Rattle.magnetar_spartan.proofs.records.combine_unless as g4
 use Rattle.magnetar_spartan.proofs.records.combine_unless.Symbol as g4-def
 use Rattle.magnetar_spartan.proofs.records.combine_unless.Symbol.{name as #g4}
 use Rattle.magnetar_spartan.proofs.records.combine_unless.Met as g4-thm
-use Rattle.magnetar_spartan.proofs.proving.inner_part_unless as g5
-use Rattle.magnetar_spartan.proofs.proving.inner_part_unless.Symbol as g5-def
-use Rattle.magnetar_spartan.proofs.proving.inner_part_unless.Symbol.{name as #g5}
-use Rattle.magnetar_spartan.proofs.proving.inner_part_unless.Met as g5-thm
+use Rattle.magnetar_spartan.proofs.proving.inner_stage_unless as g5
+use Rattle.magnetar_spartan.proofs.proving.inner_stage_unless.Symbol as g5-def
+use Rattle.magnetar_spartan.proofs.proving.inner_stage_unless.Symbol.{name as #g5}
+use Rattle.magnetar_spartan.proofs.proving.inner_stage_unless.Met as g5-thm
 use Rattle.magnetar_spartan.proofs.records.prove_unless.Key.{name as #f}
 use Rattle.magnetar_spartan.proofs.records.prove_unless as f
 use Rattle.magnetar_spartan.proofs.records.prove_unless.Statement as stated
@@ -1359,4 +1359,4 @@ prove-unless-spec 𝓤 H 𝓜 𝓖 𝓡 =
     (cited 𝓤 H (Callee-g2 𝓤 H (𝓖 .A) (𝓜 .mem) (𝓡 .run)) 𝓜 𝓡 code.env #g2 g2-def.routine code.calls-magnetar-spartan·proving·outer-unless (g2-thm.met 𝓤 H 𝓜 𝓖 𝓡))
     (cited 𝓤 H (Callee-g3 𝓤 H (𝓖 .A) (𝓜 .mem) (𝓡 .run)) 𝓜 𝓡 code.env #g3 g3-def.routine code.calls-magnetar-spartan·proving·draws-of (g3-thm.met 𝓤 H 𝓜 𝓖 𝓡))
     (cited 𝓤 H (Callee-g4 𝓤 H (𝓖 .A) (𝓜 .mem) (𝓡 .run)) 𝓜 𝓡 code.env #g4 g4-def.routine code.calls-magnetar-spartan·records·combine-unless (g4-thm.met 𝓤 H 𝓜 𝓖 𝓡))
-    (cited 𝓤 H (Callee-g5 𝓤 H (𝓖 .A) (𝓜 .mem) (𝓡 .run)) 𝓜 𝓡 code.env #g5 g5-def.routine code.calls-magnetar-spartan·proving·inner-part-unless (g5-thm.met 𝓤 H 𝓜 𝓖 𝓡)))
+    (cited 𝓤 H (Callee-g5 𝓤 H (𝓖 .A) (𝓜 .mem) (𝓡 .run)) 𝓜 𝓡 code.env #g5 g5-def.routine code.calls-magnetar-spartan·proving·inner-stage-unless (g5-thm.met 𝓤 H 𝓜 𝓖 𝓡)))

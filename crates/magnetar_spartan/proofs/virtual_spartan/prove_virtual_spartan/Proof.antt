@@ -54,8 +54,8 @@ outer-requires c κs = search needs
 combine-at-requires : tie.Need-combine-at-requires
 combine-at-requires c κs = search needs
 
-inner-part-requires : tie.Need-inner-part-requires
-inner-part-requires c κs = search needs
+inner-stage-requires : tie.Need-inner-stage-requires
+inner-stage-requires c κs = search needs
 
 same-length : tie.Need-same-length
 same-length c = search needs
@@ -77,7 +77,7 @@ returns-2 c =
     let u = o .outer in
     let r = run-through (R s) (now (x .packed)) (now (x .x)) (now (x .out)) (now (x .claims)) (now (x .scratch)) (x .t) (sym (all-number p) ∙ o .before
     .before .before .before .before .before .before .if1 .left) _ _ _
-    (u .result .«transcript») (l .inner-part .result) (u .result .«draws») _ _ _ _ (o .before .before .before .before .before .products .ensures) (u .ensures) (k .combine-at .ensures) (l .inner-part .ensures) in
+    (u .result .«transcript») (l .inner-stage .result) (u .result .«draws») _ _ _ _ (o .before .before .before .before .before .products .ensures) (u .ensures) (k .combine-at .ensures) (l .inner-stage .ensures) in
     (r .0, λ i. r .1)
 
 pub prove-virtual-spartan-spec : {M : Type 1} → statement M
@@ -90,7 +90,7 @@ prove-virtual-spartan-spec =
     products-requires
     outer-requires
     combine-at-requires
-    inner-part-requires
+    inner-stage-requires
     same-length
     same-length-2
     same-length-3

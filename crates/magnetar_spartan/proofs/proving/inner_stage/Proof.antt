@@ -1,4 +1,4 @@
--- `magnetar_spartan::proving::inner_part` meets its contract.
+-- `magnetar_spartan::proving::inner_stage` meets its contract.
 -- Assumes nothing.
 use mathlib.Core.Path.{ap}
 use native.Mathlib.Omega.{arith}
@@ -8,8 +8,8 @@ use Rattle.magnetar_protocol.specs.declared.scratch.ScratchWords.{ScratchWords}
 use Rattle.magnetar_spartan.specs.Proving.{sizesOnlyRules}
 use Rattle.magnetar_spartan.proofs.InnerPartLaws.{fold-sizes, end-sizes, later-ends}
 use borrow.Author.Needs.{needs}
-use Rattle.magnetar_spartan.proofs.proving.inner_part.Statement.{statement}
-use Rattle.magnetar_spartan.proofs.proving.inner_part.Tie as tie
+use Rattle.magnetar_spartan.proofs.proving.inner_stage.Statement.{statement}
+use Rattle.magnetar_spartan.proofs.proving.inner_stage.Tie as tie
 
 fold-behind-requires : tie.Need-fold-behind-requires
 fold-behind-requires c κs = search needs
@@ -67,8 +67,8 @@ returns c =
           later-ends r ws p w d k s t ok ld _ F (g .kept .0) _ _ _ _ E (n .result) _ (n .ensures .0) (ap (λ (a : ScratchWords). a .words) (z .before .before .before .prover-scratch .ensures)) _ (z .clear .ensures),
     )
 
-pub inner-part-spec : {M : Type 1} → statement M
-inner-part-spec =
+pub inner-stage-spec : {M : Type 1} → statement M
+inner-stage-spec =
     tie.close
     (tie.spec
     fold-behind-requires
