@@ -104,15 +104,20 @@ fn prove(m: usize, q: usize, packed: &[u64], x: &[u64], proof: &mut [u64], scrat
     print(b"\n");
 }
 
-fn verify(m: usize, q: usize, x: &[u64], proof: &[u64], scratch: &mut [u64]) {
-    let mut claims = [MARK; 40];
-    filled::fill(scratch, MARK, 0);
+fn verified(
+    claims: &mut [u64],
+    scratch: &mut [u64],
+    m: usize,
+    q: usize,
+    x: &[u64],
+    proof: &[u64],
+) -> TranscriptAnswer {
     let row = filled::rows();
     let col = filled::cols();
     let lo = filled::lows();
     let hi = filled::highs();
-    let r = virtual_spartan::verify_virtual_spartan(
-        &mut claims,
+    virtual_spartan::verify_virtual_spartan(
+        claims,
         scratch,
         m,
         q,
@@ -125,7 +130,13 @@ fn verify(m: usize, q: usize, x: &[u64], proof: &[u64], scratch: &mut [u64]) {
         x,
         proof,
         filled::start(),
-    );
+    )
+}
+
+fn verify(m: usize, q: usize, x: &[u64], proof: &[u64], scratch: &mut [u64]) {
+    let mut claims = [MARK; 40];
+    filled::fill(scratch, MARK, 0);
+    let r = verified(&mut claims, scratch, m, q, x, proof);
     print(b"  verify          ");
     say_run(r);
     text::words(b"claims", &claims);
