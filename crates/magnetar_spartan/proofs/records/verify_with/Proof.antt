@@ -703,8 +703,8 @@ module _ {M : Type 1} (𝓤 : URA M) (H : Heap 𝓤) (A : Atoms 𝓤) (W : Given
         (load ! (from ! (stop !)) (look ! 46 refl)) (and-then ! (load ! (from ! (stop !)) (look ! 45 refl)) (and-then ! (load ! (from ! (stop !))
         (look ! 34 refl)) (and-then ! (load ! (from ! (stop !)) (look ! 33 refl)) (and-then ! (load ! (from ! (stop !)) (look ! 44 refl))
         (and-then ! (load ! (from ! (stop !)) (look ! 40 refl)) (and-then ! (load ! (from ! (stop !)) (look ! 39 refl)) (no-more !))))))))) (λ z2.
-        use1 W (later (some (λ (r2 : OuterStage). ((‵ (flft κ₂ q₂) ⊛ ‵ (flft κ₅ q₅) ⊛ ‵ ftrue) ⊛ ‵ (mOuterStage.the-row .own r2 (z2 ∷ []))) ⊛ some (λ (ws :
-        Lasts g2.ended (κ₂, (κ₅, tt)) (
+        use1 W (later (some (λ (r2 : OuterStage). ((‵ (flft κ₂ q₂) ⊛ ‵ (flft κ₅ q₅) ⊛ ‵ ftrue) ⊛ ‵ (mOuterStage.the-row .own r2 (z2 ∷ []))) ⊛ some (λ
+        (ws : Lasts g2.ended (κ₂, (κ₅, tt)) (
           r1,
           (
             n4,
@@ -714,10 +714,7 @@ module _ {M : Type 1} (𝓤 : URA M) (H : Heap 𝓤) (A : Atoms 𝓤) (W : Given
                 (mShape.the-type .to ((n7 .bin) .a) .0),
                 (
                   (mShape.the-type .to ((n7 .fld) .a) .0),
-                  (
-                    s6,
-                    (s10, (n11, tt)),
-                  ),
+                  (s6, (s10, (n11, tt))),
                 ),
               ),
             ),
@@ -731,8 +728,8 @@ module _ {M : Type 1} (𝓤 : URA M) (H : Heap 𝓤) (A : Atoms 𝓤) (W : Given
               (
                 (mShape.the-type .to ((n7 .bin) .a) .0),
                 (
-                  (mShape.the-type .to
-                      ((n7 .fld) .a) .0),
+                  (mShape.the-type
+                      .to ((n7 .fld) .a) .0),
                   (s6, (s10, (n11, tt))),
                 ),
               ),
@@ -744,31 +741,43 @@ module _ {M : Type 1} (𝓤 : URA M) (H : Heap 𝓤) (A : Atoms 𝓤) (W : Given
             n4,
             (
               n5,
+              ((mShape.the-type .to ((n7 .bin) .a) .0), ((mShape.the-type .to ((n7 .fld) .a) .0), (s6, (s10, (n11, tt))))),
+            ),
+          ),
+        ) .ensures tt r2 (atExit
+        g2.ended (κ₂, (κ₅, tt)) (
+          r1,
+          (
+            n4,
+            (
+              n5,
               (
-                (mShape.the-type
-                    .to ((n7 .bin) .a) .0),
-                ((mShape.the-type .to ((n7 .fld) .a) .0), (s6, (s10, (n11, tt)))),
+                (mShape.the-type .to ((n7 .bin) .a) .0),
+                (
+                  (mShape.the-type .to ((n7 .fld) .a) .0),
+                  (
+                    s6,
+                    (
+                      s10,
+                      (n11, tt),
+                    ),
+                  ),
+                ),
               ),
             ),
           ),
-        ) .ensures tt r2 (atExit g2.ended (
-          κ₂,
-          (
-            κ₅,
-            tt,
-          ),
-        ) (r1, (n4, (n5, ((mShape.the-type .to ((n7 .bin) .a) .0), ((mShape.the-type .to ((n7 .fld) .a) .0), (s6, (s10, (n11, tt))))))))
-        ws)))))) (id⊢ 𝓤 _) $ await ! tt $ pick ! (λ r2. split ! $ move ! (1 ∷ []) $ pick ! (λ ws2. split ! $ move ! (1 ∷ []) $ heard ! _ (λ e2.
-        drop ! $ split ! $ move ! (1 ∷ []) $ peeks ! mOuterStage.the-row (Is mOuterStage.the-row) (shows 𝓤 H A mOuterStage.the-row) r2 (z2 ∷ []) (λ i2. drop ! $
-        land ! (from ! (stop !)) (init ! 30 refl (LL.lawful mOuterStage.the-type lOuterStage.the-laws 𝓤 H A W .typed r2 _ i2 .0)) $
+        ) ws)))))) (id⊢ 𝓤 _) $ await ! tt $ pick ! (λ r2. split ! $ move ! (1 ∷ []) $ pick ! (λ ws2. split ! $ move ! (1 ∷ []) $
+        heard ! _ (λ e2.
+        drop ! $ split ! $ move ! (1 ∷ []) $ peeks ! mOuterStage.the-row (Is mOuterStage.the-row) (shows 𝓤 H A mOuterStage.the-row) r2 (z2 ∷ []) (λ
+        i2. drop ! $ land ! (from ! (stop !)) (init ! 30 refl (LL.lawful mOuterStage.the-type lOuterStage.the-laws 𝓤 H A W .typed r2 _ i2 .0)) $
         tidy W (_ ∷ _ ∷ _ ∷ _ ∷ _ ∷ _ ∷ _ ∷ _ ∷ _ ∷ _ ∷ _ ∷ _ ∷ _ ∷ _ ∷ _ ∷ _ ∷ _ ∷ _ ∷ _ ∷ _ ∷ _ ∷ _ ∷ _ ∷ _ ∷ _ ∷ _ ∷ _ ∷ _ ∷ _ ∷ _ ∷ _ ∷ _ ∷ _ ∷ _
         ∷ _ ∷ _ ∷ _ ∷ _ ∷ _ ∷ _ ∷ _ ∷ _ ∷ _ ∷ _ ∷ _ ∷ _ ∷ _ ∷ _ ∷ _ ∷ _ ∷ _ ∷ []) $ split ! $ move ! (1 ∷ []) $ split ! $ move ! (1 ∷ []) $ drop
         ! $ tidy W (_ ∷ _ ∷ _ ∷ _ ∷ _ ∷ _ ∷ _ ∷ _ ∷ _ ∷ _ ∷ _ ∷ _ ∷ _ ∷ _ ∷ _ ∷ _ ∷ _ ∷ _ ∷ _ ∷ _ ∷ _ ∷ _ ∷ _ ∷ _ ∷ _ ∷ _ ∷ _ ∷ _ ∷ _ ∷ _ ∷ _ ∷ _
         ∷ _ ∷ _ ∷ _ ∷ _ ∷ _ ∷ _ ∷ _ ∷ _ ∷ _ ∷ _ ∷ _ ∷ _ ∷ _ ∷ _ ∷ _ ∷ _ ∷ _ ∷ _ ∷ _ ∷ _ ∷ []) $ nothing ! $
         -- call 3
         use1 W (raw (Callee-g3 𝓤 H A at-mem run .pre ((tt, tt, tt, (r2, tt), (z2 ∷ [], tt)), tt))) (qed W ((‵ ftrue) ∷ []) ∵ nothing ! $ owned !
-        mOuterStage.the-row (Is mOuterStage.the-row) (LL.makes mOuterStage.the-type lOuterStage.the-plain 𝓤 H A) (r2) _ i2 $ fjoin ! $ move ! (1 ∷ 0 ∷ []) $ join ! $
-        nothing ! $ move ! (1 ∷ 0 ∷ []) $ frame ! $ done !) $
+        mOuterStage.the-row (Is mOuterStage.the-row) (LL.makes mOuterStage.the-type lOuterStage.the-plain 𝓤 H A) (r2) _ i2 $ fjoin ! $ move ! (1
+        ∷ 0 ∷ []) $ join ! $ nothing ! $ move ! (1 ∷ 0 ∷ []) $ frame ! $ done !) $
         calls-at ! fm (Callee-g3 𝓤 H A at-mem run) known-g3 ((tt, tt, tt, (r2, tt), (z2 ∷ [], tt)), tt) (and-then ! (load ! (from ! (stop !)) (look ! 32 refl)) (no-more !)) (λ z3.
         use1 W (later (some (λ (r3 : (List ℕ)). ((‵ ftrue) ⊛ ‵ ((Array u64 256) .own r3 (z3 ∷ []))) ⊛ some (λ (ws : Lasts g3.ended tt (r2, tt)). ‵
         (lasts g3.ended tt (r2, tt) ws) ⊛ raw (g3.clauses 𝓤 H A at-mem run tt (r2, tt) .ensures tt r3 (atExit g3.ended tt (r2, tt) ws)))))) (id⊢
@@ -781,8 +790,8 @@ module _ {M : Type 1} (𝓤 : URA M) (H : Heap 𝓤) (A : Atoms 𝓤) (W : Given
         ∷ _ ∷ _ ∷ _ ∷ _ ∷ _ ∷ _ ∷ _ ∷ _ ∷ []) $ nothing ! $
         -- call 4
         use1 W (raw (Callee-g4 𝓤 H A at-mem run .pre ((tt, tt, tt, (r2, tt), (z2 ∷ [], tt)), tt))) (qed W ((‵ ftrue) ∷ []) ∵ nothing ! $ owned !
-        mOuterStage.the-row (Is mOuterStage.the-row) (LL.makes mOuterStage.the-type lOuterStage.the-plain 𝓤 H A) (r2) _ i2 $ fjoin ! $ move ! (1 ∷ 0 ∷ []) $ join ! $
-        nothing ! $ move ! (1 ∷ 0 ∷ []) $ frame ! $ done !) $
+        mOuterStage.the-row (Is mOuterStage.the-row) (LL.makes mOuterStage.the-type lOuterStage.the-plain 𝓤 H A) (r2) _ i2 $ fjoin ! $ move ! (1
+        ∷ 0 ∷ []) $ join ! $ nothing ! $ move ! (1 ∷ 0 ∷ []) $ frame ! $ done !) $
         calls-at ! fm (Callee-g4 𝓤 H A at-mem run) known-g4 ((tt, tt, tt, (r2, tt), (z2 ∷ [], tt)), tt) (and-then ! (load ! (from ! (stop !)) (look ! 32 refl)) (no-more !)) (λ z4.
         use1 W (later (some (λ (r4 : ℕ). ((‵ ftrue) ⊛ ‵ (u32 .own r4 (z4 ∷ []))) ⊛ some (λ (ws : Lasts g4.ended tt (r2, tt)). ‵ (lasts g4.ended tt
         (r2, tt) ws) ⊛ raw (g4.clauses 𝓤 H A at-mem run tt (r2, tt) .ensures tt r4 (atExit g4.ended tt (r2, tt) ws)))))) (id⊢ 𝓤 _) $ await ! tt $
@@ -1040,8 +1049,8 @@ module _ {M : Type 1} (𝓤 : URA M) (H : Heap 𝓤) (A : Atoms 𝓤) (W : Given
         (ν6c ∷ []) fullShare) ⊛ ‵ (flft κ₂ q₂) ⊛ ‵ (flft κ₄ q₄) ⊛ ‵ (flft κ₅ q₅) ⊛ ‵ ftrue) ∷ ‵ (MutSlice (named 0) (ν6b ∷ []) u64 .own (ref2 δ6b
         (ys2)) (v2 ∷ [])) ∷ ‵ (MutSlice (named 1) (ν6c ∷ []) u64 .own (ref3 δ6c (ws5 .1 .0)) (v3 ∷ [])) ∷ ‵ (ShrSlice (named 2) κ₂ u64 .own s6
         (v6 ∷ [])) ∷ ‵ (ShrSlice (named 3) κ₄ u64 .own s9 (v9 ∷ [])) ∷ ‵ (ShrSlice (named 4) κ₅ u64 .own s10 (v10 ∷ [])) ∷ []) ∵ nothing ! $
-        owned ! mOuterStage.the-row (Is mOuterStage.the-row) (LL.makes mOuterStage.the-type lOuterStage.the-plain 𝓤 H A) (r2) _ i2 $ fjoin ! $ owned !
-        mTranscript.the-row (Is mTranscript.the-row) (LL.makes mTranscript.the-type lTranscript.the-plain 𝓤 H A) (n11) _ (subst (Is
+        owned ! mOuterStage.the-row (Is mOuterStage.the-row) (LL.makes mOuterStage.the-type lOuterStage.the-plain 𝓤 H A) (r2) _ i2 $ fjoin ! $
+        owned ! mTranscript.the-row (Is mTranscript.the-row) (LL.makes mTranscript.the-type lTranscript.the-plain 𝓤 H A) (n11) _ (subst (Is
         mTranscript.the-row n11) ((LL.tells mTranscript.the-type lTranscript.the-laws) n11 _ w11) w11) $ fjoin ! $ move ! (6 ∷ 0 ∷ []) $ fjoin !
         $ move ! (5 ∷ 0 ∷ []) $ fjoin ! $ move ! (4 ∷ 0 ∷ []) $ fjoin ! $ owned ! u64 (Is u64) (uint-makes 𝓤 H A W w64) ((mShape.the-type .to
         ((n7 .fld) .a) .0)) _ (LL.owed mShape.the-type lShape.the-laws ((n7 .fld) .a) _ (LL.owed mSystemShape.the-type lSystemShape.the-laws (n7
@@ -1275,10 +1284,12 @@ module _ {M : Type 1} (𝓤 : URA M) (H : Heap 𝓤) (A : Atoms 𝓤) (W : Given
         ) ∷ (lTranscript.mir, l₁₁) ∷ (lSystemShape.mir, l₁₂) ∷ (lSystemShape.mir, l₁₃) ∷ (lShape.mir, l₁₄) ∷ (
           lShape.mir,
           l₁₅,
-        ) ∷ (tyInt w64, l₁₆) ∷ (tyInt w64, l₁₇) ∷ (tyInt w64, l₁₈) ∷ (tyInt w32, l₁₉) ∷ (lOuterStage.mir, l₂₀) ∷ (tyArray (tyInt w64) 256, l₂₁) ∷
-        (tyInt w32, l₂₂) ∷ (tyInt w32, l₂₃) ∷ (tyInt w64, l₂₄) ∷ (tyInt w64, l₂₅) ∷ (tyInt w64, l₂₆) ∷ (tyInt w64, l₂₇) ∷ (
-          tyRef erased mut
-              (tyInt w64),
+        ) ∷ (tyInt w64, l₁₆) ∷ (tyInt w64, l₁₇) ∷ (tyInt w64, l₁₈) ∷ (tyInt w32, l₁₉) ∷ (lOuterStage.mir, l₂₀) ∷ (
+          tyArray (tyInt w64) 256,
+          l₂₁,
+        ) ∷ (tyInt w32, l₂₂) ∷ (tyInt w32, l₂₃) ∷ (tyInt w64, l₂₄) ∷ (tyInt w64, l₂₅) ∷ (tyInt w64, l₂₆) ∷ (tyInt w64, l₂₇) ∷ (
+          tyRef erased
+              mut (tyInt w64),
           l₂₈,
         ) ∷ (sliceTy (tyRef erased mut (tyInt w64)), l₂₉) ∷ (tyRef erased mut (tyInt w64), l₃₀) ∷ (
           sliceTy (tyRef erased mut
@@ -1300,10 +1311,12 @@ module _ {M : Type 1} (𝓤 : URA M) (H : Heap 𝓤) (A : Atoms 𝓤) (W : Given
         ) ∷ (lTranscript.mir, l₁₁) ∷ (lSystemShape.mir, l₁₂) ∷ (lSystemShape.mir, l₁₃) ∷ (lShape.mir, l₁₄) ∷ (
           lShape.mir,
           l₁₅,
-        ) ∷ (tyInt w64, l₁₆) ∷ (tyInt w64, l₁₇) ∷ (tyInt w64, l₁₈) ∷ (tyInt w32, l₁₉) ∷ (lOuterStage.mir, l₂₀) ∷ (tyArray (tyInt w64) 256, l₂₁) ∷
-        (tyInt w32, l₂₂) ∷ (tyInt w32, l₂₃) ∷ (tyInt w64, l₂₄) ∷ (tyInt w64, l₂₅) ∷ (tyInt w64, l₂₆) ∷ (tyInt w64, l₂₇) ∷ (
-          tyRef erased mut
-              (tyInt w64),
+        ) ∷ (tyInt w64, l₁₆) ∷ (tyInt w64, l₁₇) ∷ (tyInt w64, l₁₈) ∷ (tyInt w32, l₁₉) ∷ (lOuterStage.mir, l₂₀) ∷ (
+          tyArray (tyInt w64) 256,
+          l₂₁,
+        ) ∷ (tyInt w32, l₂₂) ∷ (tyInt w32, l₂₃) ∷ (tyInt w64, l₂₄) ∷ (tyInt w64, l₂₅) ∷ (tyInt w64, l₂₆) ∷ (tyInt w64, l₂₇) ∷ (
+          tyRef erased
+              mut (tyInt w64),
           l₂₈,
         ) ∷ (sliceTy (tyRef erased mut (tyInt w64)), l₂₉) ∷ (tyRef erased mut (tyInt w64), l₃₀) ∷ (
           sliceTy (tyRef erased mut
