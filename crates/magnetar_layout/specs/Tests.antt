@@ -58,13 +58,13 @@ packedTestsOf w q p = (2, not (eqb p (q * loginWords w))) ∷ []
 abbrev pub packedTests : ℕ → ℕ → List ℕ → Tests
 packedTests w q ws = packedTestsOf w q (length ws)
 
--- 3: the public words
-abbrev pub publicTestsOf : ℕ → ℕ → Tests
-publicTestsOf m k = (3, not (eqb k (m - 2))) ∷ []
+-- 3: the public words of q logins with m columns
+abbrev pub publicTestsOf : ℕ → ℕ → ℕ → Tests
+publicTestsOf m q k = (3, not (eqb k (q * (m - 2)))) ∷ []
 
 -- 3, of the public words x
-abbrev pub publicTests : ℕ → List ℕ → Tests
-publicTests m x = publicTestsOf m (length x)
+abbrev pub publicTests : ℕ → ℕ → List ℕ → Tests
+publicTests m q x = publicTestsOf m q (length x)
 
 -- 4: the rows of a matrix
 abbrev pub loneRowTests : ℕ → Tests
@@ -122,5 +122,5 @@ loneTests a = columnTests (a .cols) ++ loneRowTests (a .rows) ++ counted a ++ pl
 -- a matrix for the packed words ws of q logins with w columns and the public words x
 abbrev pub batchTests : Lent → List ℕ → List ℕ → ℕ → ℕ → Tests
 batchTests a ws x q w =
-    sizeTests (2 * w) q ++ packedTests w q ws ++ publicTests (2 * w) x ++ rowsTests q (a .rows) ++ matrixColumnTests (2 * w) (a .cols)
+    sizeTests (2 * w) q ++ packedTests w q ws ++ publicTests (2 * w) q x ++ rowsTests q (a .rows) ++ matrixColumnTests (2 * w) (a .cols)
     ++ counted a ++ placed a

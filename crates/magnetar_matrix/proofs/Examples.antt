@@ -5,10 +5,11 @@ use mathlib.Core.List.{List, [], _∷_}
 use lib.ListN.{replicate}
 use Rattle.magnetar_field.specs.Gf128.{_⊗_, timesX, sumTimes, _⊕_}
 use Rattle.magnetar_field.specs.Tabulate.{tabulate}
+use Rattle.magnetar_field.specs.Words.{elements}
 use Rattle.magnetar_multilinear.specs.EqTable.{eqAt, eqFactor}
 use Rattle.magnetar_matrix.specs.Sum.{sumBelow}
-use Rattle.magnetar_matrix.specs.Batch.{bitOf, foldedAt, folded}
-use Rattle.magnetar_matrix.specs.Packed.{loginWords, packedBit, loginPart, unpacked}
+use Rattle.magnetar_matrix.specs.Batch.{bitOf, foldedAt, folded, publicFoldedAt, publicFolded}
+use Rattle.magnetar_matrix.specs.Packed.{loginWords, packedBit, loginPart, publicPart, unpacked, publicOf}
 
 -- a login of 64 columns has two words, and the upper one holds no bit of it
 pub upper-word-unused : unpacked 1 64 (1 ∷ 1 ∷ []) ≡ (1 ∷ replicate 63 0) ∷ []
@@ -19,3 +20,13 @@ upper-word-unused = refl
 pub both-folded : folded 2 2 ((1 ∷ 0 ∷ []) ∷ (0 ∷ 1 ∷ []) ∷ []) (2 ∷ []) ≡ 3 ∷ 2 ∷ []
 unfolding _⊕_ _⊗_ timesX sumTimes tabulate eqAt eqFactor sumBelow bitOf foldedAt folded
 both-folded = refl
+
+-- two logins of two witness columns have a public column each
+pub own-columns : publicOf 2 2 (5 ∷ 0 ∷ 4 ∷ 0 ∷ []) ≡ (5 ∷ []) ∷ (4 ∷ []) ∷ []
+unfolding tabulate elements publicPart publicOf
+own-columns = refl
+
+-- their public halves (1, 5) and (1, 4) folded at the point [2]: the column of 1 is 3 + 2 = 1, the other one is 3 times 5 plus 2 times 4
+pub halves-folded : publicFolded 2 2 ((5 ∷ []) ∷ (4 ∷ []) ∷ []) (2 ∷ []) ≡ 1 ∷ 7 ∷ []
+unfolding _⊕_ _⊗_ timesX sumTimes tabulate eqAt eqFactor sumBelow publicFoldedAt publicFolded
+halves-folded = refl

@@ -1,6 +1,7 @@
 pub mod Digits
 pub mod TableLaws
 pub mod LoginParts
+pub mod PublicParts
 pub mod Blocks
 pub mod Carried
 pub mod Verdicts

@@ -9,7 +9,7 @@ use native.Mathlib.Omega.{arith}
 use lib.Dec.{eqb}
 use borrow.Author.Tests.{eqb-true, eq-eqb}
 use Rattle.magnetar_matrix.specs.Matrix.{System}
-use Rattle.magnetar_matrix.specs.Batch.{Batch, Relation, assignment, rowHolds, Satisfied, Good}
+use Rattle.magnetar_matrix.specs.Batch.{Batch, PublicColumns, Relation, assignment, rowHolds, Satisfied, Good}
 use Rattle.magnetar_matrix.specs.RowCheck.{firstNot, failingRow, failingLogin, rowVerdict}
 use Rattle.magnetar_matrix.specs.RowCheck.Verdict.{good, bin, fld}
 
@@ -54,7 +54,7 @@ first-none f zero h = refl
 first-none f (suc n) h = rw (h 0 (zero-lt-suc n)) (ap suc (first-none (λ i. f (suc i)) n (λ i l. h (suc i) (suc-le-suc l))))
 
 -- ---- a system
-module _ (s : System) (q : ℕ) (b : Batch) (x : List ℕ) where
+module _ (s : System) (q : ℕ) (b : Batch) (x : PublicColumns) where
   pub satisfied : failingLogin s q b x ≡ q → Satisfied s q b x
   unfolding failingLogin failingRow Satisfied rowHolds
   satisfied e u i hu hi =
@@ -69,12 +69,12 @@ module _ (s : System) (q : ℕ) (b : Batch) (x : List ℕ) where
       (λ u hu. eq-eqb _ _ (first-none (rowHolds s (assignment b x u)) (s .a .rows) (λ i hi. eq-eqb _ _ (h u i hu hi))))
 
 -- ---- the verdict
-pub good-verdict : (r : Relation) (b : Batch) (x : List ℕ) → Good r b x → rowVerdict r b x ≡ good
+pub good-verdict : (r : Relation) (b : Batch) (x : PublicColumns) → Good r b x → rowVerdict r b x ≡ good
 unfolding rowVerdict
 good-verdict r b x g =
     rw (eq-eqb (failingLogin (r .bin) (r .q) b x) (r .q) (no-failing (r .bin) (r .q) b x (g .bin)), eq-eqb (failingLogin (r .fld) (r .q) b x) (r .q) (no-failing (r .fld) (r .q) b x (g .fld)))
 
-pub verdict-good : (r : Relation) (b : Batch) (x : List ℕ) → rowVerdict r b x ≡ good → Good r b x
+pub verdict-good : (r : Relation) (b : Batch) (x : PublicColumns) → rowVerdict r b x ≡ good → Good r b x
 unfolding rowVerdict
 verdict-good r b x e =
     go (eqb (failingLogin (r .bin) (r .q) b x) (r .q)) refl (eqb (failingLogin (r .fld) (r .q) b x) (r .q)) refl e

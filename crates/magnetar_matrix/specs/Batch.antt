@@ -1,6 +1,7 @@
--- A batch of logins (the Rust's instances), the relation that it is to keep, and what it means that it is good: (A z)(B z) = C z in each
--- row, with z = (w, 1, x).
--- Source: Spartan (Setty, CRYPTO 2020), R1CS; document 01, "Matrices and layout" (good) and "The run" (relation, batch, true claim).
+-- A batch of logins (the Rust's instances), the public columns of each, the relation that they are to keep, and what it means that the
+-- batch is good: (A z)(B z) = C z in each row of each login, with the login's z = (w, 1, x).
+-- Source: Spartan (Setty, CRYPTO 2020), R1CS; document 01, "Matrices and layout" (good) and "The run" (relation, batch, true claim);
+-- document 02, U6 (each login's own public columns; `fold_public_part`).
 -- Assumes nothing.
 use mathlib.Core.Path.{_≡_}
 use mathlib.Core.Bool.{Bool}
@@ -18,6 +19,10 @@ use Rattle.magnetar_matrix.specs.Matrix.{Matrix, System, timesAt, times}
 abbrev pub Batch : Type 0
 Batch = List (List ℕ)
 
+-- the public columns of each login, elements
+abbrev pub PublicColumns : Type 0
+PublicColumns = List (List ℕ)
+
 -- two systems over m columns, for q logins, and the lengths of the segments of the witness columns
 pub record Relation : Type 0 where
   pub m : ℕ
@@ -30,20 +35,20 @@ pub record Relation : Type 0 where
 unfoldable pub bitOf : Batch → ℕ → ℕ → ℕ
 bitOf b u y = getD (getD b u []) y 0
 
--- the public half (1, x) of login u: the column of 1, then the login's public columns, which all logins share
-abbrev pub publicHalf : List ℕ → ℕ → List ℕ
-publicHalf x u = 1 ∷ x
+-- the public columns of login u
+abbrev pub publicColumns : PublicColumns → ℕ → List ℕ
+publicColumns x u = getD x u []
 
--- the public halves of all logins folded at the point p: the eq values add up to 1, so it is the half that they share
-abbrev pub publicFolded : List ℕ → (p : List ℕ) → List ℕ
-publicFolded x p = publicHalf x 0
+-- the public half of login u: the column of 1, then the login's public columns
+abbrev pub publicHalf : PublicColumns → ℕ → List ℕ
+publicHalf x u = 1 ∷ publicColumns x u
 
--- z = (w, 1, x) of login u, x being the public columns
-unfoldable pub assignment : Batch → List ℕ → ℕ → List ℕ
+-- z = (w, 1, x) of login u
+unfoldable pub assignment : Batch → PublicColumns → ℕ → List ℕ
 assignment b x u = getD b u [] ++ publicHalf x u
 
 -- the products of a matrix with the z of each of q logins, one login behind the other
-unfoldable pub batchProducts : Matrix → Batch → List ℕ → ℕ → List ℕ
+unfoldable pub batchProducts : Matrix → Batch → PublicColumns → ℕ → List ℕ
 batchProducts m b x q = blocks (λ u. times m (assignment b x u)) q
 
 -- row i of the system holds for z
@@ -51,13 +56,13 @@ unfoldable pub rowHolds : System → List ℕ → ℕ → Bool
 rowHolds s z i = eqb (timesAt (s .a) z i ⊗ timesAt (s .b) z i) (timesAt (s .c) z i)
 
 -- each row of the system holds for each of the q logins
-unfoldable pub Satisfied : System → ℕ → Batch → List ℕ → Type 0
+unfoldable pub Satisfied : System → ℕ → Batch → PublicColumns → Type 0
 Satisfied s q b x =
     (u i : ℕ) → u < q → i < s .a .rows
     → timesAt (s .a) (assignment b x u) i ⊗ timesAt (s .b) (assignment b x u) i ≡ timesAt (s .c) (assignment b x u) i
 
 -- the batch is good: every row of both systems holds for every login
-pub record Good (r : Relation) (b : Batch) (x : List ℕ) : Type 0 where
+pub record Good (r : Relation) (b : Batch) (x : PublicColumns) : Type 0 where
   pub bin : Satisfied (r .bin) (r .q) b x
   pub fld : Satisfied (r .fld) (r .q) b x
 
@@ -68,6 +73,14 @@ foldedAt q b p y = sumBelow q (λ u. eqAt p u ⊗ bitOf b u y)
 -- the folded vector of w columns
 unfoldable pub folded : ℕ → ℕ → Batch → List ℕ → List ℕ
 folded q w b p = tabulate (foldedAt q b p) w
+
+-- the public halves folded at the point p, column y: the sum over the logins u of eq(p, u) times column y of the login's half
+unfoldable pub publicFoldedAt : ℕ → PublicColumns → List ℕ → ℕ → ℕ
+publicFoldedAt q x p y = sumBelow q (λ u. eqAt p u ⊗ getD (publicHalf x u) y 0)
+
+-- the folded public half of w columns
+unfoldable pub publicFolded : ℕ → ℕ → PublicColumns → List ℕ → List ℕ
+publicFolded q w x p = tabulate (publicFoldedAt q x p) w
 
 -- the value of a true claim on a segment, with r_inst for p and r_local for l: the sum over logins u and positions k of eq(p, u) eq(l, k)
 -- times the bit of login u at column offset + k

@@ -8,7 +8,7 @@ use lib.Dec.{eqb}
 use lib.ListN.{getD}
 use Rattle.magnetar_field.specs.Gf128.{_⊗_}
 use Rattle.magnetar_matrix.specs.Matrix.{System}
-use Rattle.magnetar_matrix.specs.Batch.{Batch, Relation, assignment, rowHolds}
+use Rattle.magnetar_matrix.specs.Batch.{Batch, PublicColumns, Relation, assignment, rowHolds}
 
 -- the first number below n of which the test is false, or n
 unfoldable pub firstNot : (ℕ → Bool) → ℕ → ℕ
@@ -20,7 +20,7 @@ unfoldable pub failingRow : System → List ℕ → ℕ
 failingRow s z = firstNot (rowHolds s z) (s .a .rows)
 
 -- the first login with a row that does not hold, or q
-unfoldable pub failingLogin : System → ℕ → Batch → List ℕ → ℕ
+unfoldable pub failingLogin : System → ℕ → Batch → PublicColumns → ℕ
 failingLogin s q b x = firstNot (λ u. eqb (failingRow s (assignment b x u)) (s .a .rows)) q
 
 -- good, or the system, login and row of the first failing row
@@ -29,7 +29,7 @@ pub data Verdict : Type 0 where
   bin fld : ℕ → ℕ → Verdict
 
 -- the verdict on a batch and its public columns
-unfoldable pub rowVerdict : Relation → Batch → List ℕ → Verdict
+unfoldable pub rowVerdict : Relation → Batch → PublicColumns → Verdict
 rowVerdict r b x =
     cond (eqb (failingLogin (r .bin) (r .q) b x) (r .q))
     (cond (eqb (failingLogin (r .fld) (r .q) b x) (r .q)) good

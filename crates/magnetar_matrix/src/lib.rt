@@ -1,3 +1,4 @@
-// Matrices and batches: the definitions, and the steps of a walk over a matrix's entries and rows.
+// Matrices and batches: the definitions, the steps of a walk over a matrix's entries and rows, and a test on public words.
+pub mod columns;
 pub mod rows;
 pub mod step;
