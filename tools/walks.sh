@@ -35,7 +35,6 @@ masks=$ends.MaskEnds
 ends=$ends.RecordEnds
 value='Rattle.magnetar_field.specs.Gf128.{value}'
 walks=Rattle.magnetar_records.proofs.WalkLaws
-words='Rattle.magnetar_field.specs.Words.{elements}'
 entries='Rattle.magnetar_records.specs.Records.{entriesOfRecords}'
 
 # the laws for loops over records, by shape
@@ -64,8 +63,8 @@ thin records::sum_at --use "$ends.{sum-some, sum-none}" --use "$value" \
 thin records::eval_mle_at --use "$ends.{at-ends}" --use "$value" --use 'Rattle.magnetar_multilinear.specs.Entries.{answer}' \
   --final 'at-ends n1 n2 (s3 .now) (s4 .now) (s5 .now) ys6 r1 r3 r2 e1 e2 e3 (ws4 .1 .1 .1 .1 .1 .1 .0) (value r4) (answer r5) e4 e5'
 thin walks::rules_refusal --use "$walks.{rules-ends}" --final 'rules-ends n1 n2 n3 (s4 .now) r1 r2 e1 e2'
-thin walks::write_products --use "$walks.{write-ends}" --use "$words" --use "$entries" \
-  --final 'write-ends n6 n7 n8 n2 n3 (s4 .now) (elements (s5 .now)) (entriesOfRecords (s1 .now)) ys9 (ws1 .1 .1 .1 .0) (ws2 .1 .1 .1 .1 .1 .1 .1 .1 .0) e1 e2'
+thin walks::write_products --use "$walks.{write-ends}" --use "$entries" \
+  --final 'write-ends n6 n7 n8 n2 n3 (s4 .now) (s5 .now) (entriesOfRecords (s1 .now)) ys9 (ws1 .1 .1 .1 .0) (ws2 .1 .1 .1 .1 .1 .1 .1 .1 .0) e1 e2'
 thin records::write_packed --use "$packed.{write-some, write-none}" \
   --final 'write-some (s2 .now) (s3 .now) (s4 .now) ys8 n5 n6 n7 n1 r2 (ws1 .1 .1 .1 .1 .1 .1 .1 .1 .0) b1 e1 e2' \
   --final 'write-none (s2 .now) (s3 .now) (s4 .now) ys8 n5 n6 n7 n1 false b1 refl'
@@ -98,15 +97,15 @@ over='Rattle.magnetar_relation.specs.Rules.{rulesOver}'
 long="$walks.{records-length}"
 each EachMNNNNNNSSI MNNNNNNSSI
 count CountANIMQNNNNNNSSE ANIMQNNNNNNSSE $failing
-thin check_records::product --use "$check.{product-ends}" --use "$entries" --use "$words" --use "$zs" \
-  --final 'product-ends n3 n4 (loginZ n6 (s9 .now) (elements (s10 .now)) n5) n7 n8 (entriesOfRecords (s1 .now)) ys2 (ws1 .0) (ws2 .1 .0) e1 e2'
-thin check_records::check_login --use "$core.RowWalk.{login-ends}" --use "$entries" --use "$words" --use "$zs" --use "$in" \
-  --final 'login-ends n1 n2 n3 (loginZ n10 (s11 .now) (elements (s12 .now)) n3) (systemIn n5 n6 n7 n8 n9 (entriesOfRecords (s13 .now))) ys4 (ws2 .1 .0) (ws3 .1 .0) (ws4 .1 .0) (ws5 .1 .1 .1 .0) r5 r1 e1 e2 e3 e4 e5'
-thin check_records::login_unless --use "$core.RowWalk.{unless-some, unless-none}" --use "$entries" --use "$words" --use "$zs" --use "$in" \
-  --final 'unless-some n2 (loginZ n10 (s11 .now) (elements (s12 .now)) n3) (systemIn n5 n6 n7 n8 n9 (entriesOfRecords (s13 .now))) n3 n1 r2 ys4 (ws2 .1 .1 .1 .0) (sym e1 ∙ b1) e2' \
-  --final 'unless-none n2 (loginZ n10 (s11 .now) (elements (s12 .now)) n3) (systemIn n5 n6 n7 n8 n9 (entriesOfRecords (s13 .now))) n3 n1 ys4 (sym e1 ∙ b1)'
-thin check_records::judge --use "$check.{judge-ends}" --use "$entries" --use "$words" --use "$long" \
-  --final 'judge-ends n3 n4 n5 (entriesOfRecords (s6 .now)) _ (records-length (s6 .now)) n7 (s8 .now) (elements (s9 .now)) ys2 (ws4 .1 .1 .0) (ws5 .1 .1 .0) (ws6 .1 .0) r1 e1 r3 r4 r5 e3 n1 r2 e2 e4 e5 e6'
+thin check_records::product --use "$check.{product-ends}" --use "$entries" --use "$zs" \
+  --final 'product-ends n3 n4 (loginZ n6 (s9 .now) (s10 .now) n5) n7 n8 (entriesOfRecords (s1 .now)) ys2 (ws1 .0) (ws2 .1 .0) e1 e2'
+thin check_records::check_login --use "$core.RowWalk.{login-ends}" --use "$entries" --use "$zs" --use "$in" \
+  --final 'login-ends n1 n2 n3 (loginZ n10 (s11 .now) (s12 .now) n3) (systemIn n5 n6 n7 n8 n9 (entriesOfRecords (s13 .now))) ys4 (ws2 .1 .0) (ws3 .1 .0) (ws4 .1 .0) (ws5 .1 .1 .1 .0) r5 r1 e1 e2 e3 e4 e5'
+thin check_records::login_unless --use "$core.RowWalk.{unless-some, unless-none}" --use "$entries" --use "$zs" --use "$in" \
+  --final 'unless-some n2 (loginZ n10 (s11 .now) (s12 .now) n3) (systemIn n5 n6 n7 n8 n9 (entriesOfRecords (s13 .now))) n3 n1 r2 ys4 (ws2 .1 .1 .1 .0) (sym e1 ∙ b1) e2' \
+  --final 'unless-none n2 (loginZ n10 (s11 .now) (s12 .now) n3) (systemIn n5 n6 n7 n8 n9 (entriesOfRecords (s13 .now))) n3 n1 ys4 (sym e1 ∙ b1)'
+thin check_records::judge --use "$check.{judge-ends}" --use "$entries" --use "$long" \
+  --final 'judge-ends n3 n4 n5 (entriesOfRecords (s6 .now)) _ (records-length (s6 .now)) n7 (s8 .now) (s9 .now) ys2 (ws4 .1 .1 .0) (ws5 .1 .1 .0) (ws6 .1 .0) r1 e1 r3 r4 r5 e3 n1 r2 e2 e4 e5 e6'
 thin check_records::row_check --use "$core.CheckEnds.{check-by, check-ends}" --use "$entries" --use "$over" --use 'Rattle.magnetar_batch.specs.Check.{outcome}' --use 'mathlib.Core.List.{[]}' \
   --final 'let R = rulesOver n2 n3 [] n4 (entriesOfRecords (s5 .now)) in check-ends R (s6 .now) (s7 .now) ys1 r2 (check-by R (s6 .now) (s7 .now) _ r1 r2 e1 e2) r3 e3 r4 (ws4 .1 .0) (outcome r5) e4 e5'
 

@@ -3,6 +3,7 @@ pub mod Lone
 pub mod Points
 pub mod Parts
 pub mod Split
+pub mod Unread
 pub mod Ranges
 pub mod Flipped
 pub mod MaskBits

@@ -11,7 +11,7 @@ use borrow.Author.Tests.{not-false, eqb-true, ltb-true, lt-ltb}
 use Rattle.magnetar_layout.specs.Every.{every}
 use Rattle.magnetar_matrix.specs.Matrix.{Entry, sumOver}
 use Rattle.magnetar_matrix.specs.Lent.{Lent, entriesOf}
-use Rattle.magnetar_matrix.specs.Packed.{loginWords}
+use Rattle.magnetar_matrix.specs.Packed.{loginWords, publicWords}
 use Rattle.magnetar_matrix.specs.Table.{Equal}
 use Rattle.magnetar_r1cs.specs.Entries.{loginsTests, matrixTests}
 use Rattle.magnetar_layout.specs.Tests.{firstRefusal, allBelow, counted, placed, loneTests, batchTests, Sized}
@@ -86,19 +86,29 @@ below-wider m n (x ∷ s) h e =
 
 -- ---- rows for a batch
 pub record Logins (p k q w n : ℕ) : Type 0 where
+  pub least : 1 ≤ w
   pub half : w ≤ 32768
   pub logins : Sized 1 4096 q
   pub packed : p ≡ q * loginWords w
+  pub public : k ≡ q * publicWords w
   pub rows : Sized 1 65536 n
 
 pub logins-clear : (p k q w n : ℕ) → firstRefusal 0 (loginsTests p k q w n) ≡ 0 → Logins p k q w n
 logins-clear p k q w n e =
     let c = first-refusal-clear 0 (loginsTests p k q w n) refl e .1 in
     let z = not-bad (c .0) in
-    record { half = omega (arith, z .high); logins = not-bad (c .1 .0); packed = eqb-true _ _ (not-false _ (c .1 .1 .0)); rows = not-bad (c .1 .1 .1 .1 .0) }
+    record {
+      least = omega (arith, z .low);
+      half = omega (arith, z .high);
+      logins = not-bad (c .1 .0);
+      packed = eqb-true _ _ (not-false _ (c .1 .1 .0));
+      public = eqb-true _ _ (not-false _ (c .1 .1 .1 .0));
+      rows = not-bad (c .1 .1 .1 .1 .0);
+    }
 
 -- ---- a matrix for a batch
 pub record Batched (a : Lent) (ws x : List ℕ) (q w : ℕ) : Type 0 where
+  pub least : 1 ≤ w
   pub half : w ≤ 32768
   pub logins : Sized 1 4096 q
   pub packed : length ws ≡ q * loginWords w
@@ -110,6 +120,7 @@ batched a ws x q w e =
     let k = first-refusal-clear 0 (batchTests a ws x q w) refl e .1 in
     let z = not-bad (k .0) in
     record {
+      least = omega (arith, z .low);
       half = omega (arith, z .high);
       logins = not-bad (k .1 .0);
       packed = eqb-true _ _ (not-false _ (k .1 .1 .0));
@@ -117,12 +128,16 @@ batched a ws x q w e =
       entries = placed-of a (k .1 .1 .1 .1 .1 .1 .1);
     }
 
+pub batched-public : (a : Lent) (ws x : List ℕ) (q w : ℕ) → firstRefusal 0 (batchTests a ws x q w) ≡ 0 → length x ≡ q * publicWords w
+batched-public a ws x q w e = eqb-true _ _ (not-false _ (first-refusal-clear 0 (batchTests a ws x q w) refl e .1 .1 .1 .1 .0))
+
 -- the same of the tests without that of the public words
 pub masked : (a : Lent) (ws : List ℕ) (q w : ℕ) → firstRefusal 0 (matrixTests a ws q w) ≡ 0 → Batched a ws [] q w
 masked a ws q w e =
     let k = first-refusal-clear 0 (matrixTests a ws q w) refl e .1 in
     let z = not-bad (k .0) in
     record {
+      least = omega (arith, z .low);
       half = omega (arith, z .high);
       logins = not-bad (k .1 .0);
       packed = eqb-true _ _ (not-false _ (k .1 .1 .0));

@@ -18,7 +18,7 @@ use Rattle.magnetar_layout.proofs.FirstRefusal.{first-refusal-front, first-refu
 use Rattle.magnetar_layout.proofs.Room.{room-short, room-enough}
 use Rattle.magnetar_matrix.specs.Matrix.{Entry, Matrix}
 use Rattle.magnetar_matrix.specs.Lent.{entry, entriesOf}
-use Rattle.magnetar_matrix.specs.Packed.{loginWords, packedTable}
+use Rattle.magnetar_matrix.specs.Packed.{loginWords, publicWords, packedTable}
 use Rattle.magnetar_matrix.specs.Sum.{blocks}
 use Rattle.magnetar_matrix.specs.Table.{loginBlock, Equal}
 use Rattle.magnetar_r1cs.specs.Entries.{loginsTests, rangeRefusal, rangeMatrix, rangeOut}
@@ -143,24 +143,24 @@ module _ (r c l h : List ℕ) (a b n : ℕ) (ws x : List ℕ) (q w : ℕ) (out :
   unfolding rangeRefusal
   range-refused k =
       let f = first-refusal-front (loginsTests (length ws) (length x) q w n) (roomTest (q * (2 * n)) out) z e k in
-      (f, turned (words (packedTable mat ws (elements x) q w) ++ drop (q * (2 * n)) out) out f k)
+      (f, turned (words (packedTable mat ws x q w) ++ drop (q * (2 * n)) out) out f k)
 
   module _ (k : z ≡ 0) where
     pub range-short : length out < q * (2 * n) → Ends 15 out
     unfolding rangeRefusal
     range-short room =
         let f = first-refusal-late (loginsTests (length ws) (length x) q w n) (roomTest (q * (2 * n)) out) z 15 e k (room-short (q * (2 * n)) out room) in
-        (f, turned {n = 15} (words (packedTable mat ws (elements x) q w) ++ drop (q * (2 * n)) out) out f (λ i. omega (arith, i)))
+        (f, turned {n = 15} (words (packedTable mat ws x q w) ++ drop (q * (2 * n)) out) out f (λ i. omega (arith, i)))
 
     pub range-done : q * (2 * n) ≤ length out → (i j : ℕ) → j ≡ min b (length (entriesOf r c l h)) → i ≡ min a j → (t : List ℕ)
-        → t ≡ words (blocks (loginBlock w (elements x) ws (entriesOf (take (j - i) (drop i r)) (take (j - i) (drop i c)) (take (j - i) (drop i l)) (take (j - i) (drop i h))) n) q)
+        → t ≡ words (blocks (loginBlock w x ws (entriesOf (take (j - i) (drop i r)) (take (j - i) (drop i c)) (take (j - i) (drop i l)) (take (j - i) (drop i h))) n) q)
         → Ends 0 (t ++ drop (q * (2 * n)) out)
     unfolding rangeRefusal
     range-done room i j hj hi t q₁ =
         let f = first-refusal-late (loginsTests (length ws) (length x) q w n) (roomTest (q * (2 * n)) out) z 0 e k (room-enough (q * (2 * n)) out room) in
-        let g : t ≡ words (packedTable mat ws (elements x) q w) =
-        q₁ ∙ rw (entries-part (j - i) i r c l h, range-cut (entriesOf r c l h) a b j i hj hi) (ap words (table-is mat ws (elements x) q w)) in
-        (f, rw g (done (words (packedTable mat ws (elements x) q w) ++ drop (q * (2 * n)) out) out f refl))
+        let g : t ≡ words (packedTable mat ws x q w) =
+        q₁ ∙ rw (entries-part (j - i) i r c l h, range-cut (entriesOf r c l h) a b j i hj hi) (ap words (table-is mat ws x q w)) in
+        (f, rw g (done (words (packedTable mat ws x q w) ++ drop (q * (2 * n)) out) out f refl))
 
 -- ---- what they leave where the sizes fit
 size-passes : (least most n : ℕ) → Sized least most n → not (isSize least most n) ≡ false
@@ -168,14 +168,14 @@ unfolding isSize
 size-passes least most n z = rw (le-leb least n (z .low), le-leb n most (z .high), eq-eqb n (2 ^ log₂ n) (z .power))
 
 pub range-left : (a : Matrix) (ws x : List ℕ) (q w : ℕ) (out : List ℕ) → Sized 2 65536 (2 * w) → Sized 1 4096 q → length ws ≡ q * loginWords w
-    → length x ≡ 2 * w - 2 → Sized 1 65536 (a .rows) → q * a .rows ≤ 1048576 → q * (2 * a .rows) ≤ length out
-    → rangeOut a ws x q w out ≡ words (packedTable a ws (elements x) q w) ++ drop (q * (2 * a .rows)) out
+    → length x ≡ q * publicWords w → Sized 1 65536 (a .rows) → q * a .rows ≤ 1048576 → q * (2 * a .rows) ≤ length out
+    → rangeOut a ws x q w out ≡ words (packedTable a ws x q w) ++ drop (q * (2 * a .rows)) out
 unfolding rangeRefusal orRefuse
 range-left a ws x q w out zm zq lp lx zn most room = rw (
   size-passes 2 65536 (2 * w) zm,
   size-passes 1 4096 q zq,
   eq-eqb (length ws) (q * loginWords w) lp,
-  eq-eqb (length x) (2 * w - 2) lx,
+  eq-eqb (length x) (q * publicWords w) lx,
   size-passes 1 65536 (a .rows) zn,
   le-ltb 1048576 (q * a .rows) most,
   le-ltb (length out) (q * (2 * a .rows)) room,

@@ -13,16 +13,18 @@ use lib.ListN.{length, getD, List·getD-append}
 use lib.Seq.{getD-append-add}
 use Rattle.magnetar_field.specs.Gf128.{_⊕_, _⊗_}
 use Rattle.magnetar_field.specs.Tabulate.{tabulate}
+use Rattle.magnetar_field.specs.Words.{elements}
 use Rattle.magnetar_field.proofs.Xor.{⊕-zero, zero-⊕, ⊕-four}
 use Rattle.magnetar_field.proofs.Tabulation.{tabulate-length, tabulate-get, tabulate-ext}
 use Rattle.magnetar_matrix.specs.Sum.{blocks}
 use Rattle.magnetar_layout.specs.Every.{every}
 use Rattle.magnetar_matrix.specs.Matrix.{Entry, Matrix, sumOver, rowTotal, share, timesAt, times, isBit}
-use Rattle.magnetar_matrix.specs.Batch.{assignment, batchProducts}
-use Rattle.magnetar_matrix.specs.Packed.{packedBit, loginPart, unpacked, packedTable}
+use Rattle.magnetar_matrix.specs.Batch.{PublicColumns, publicHalf, assignment, batchProducts}
+use Rattle.magnetar_matrix.specs.Packed.{packedBit, loginPart, publicPart, unpacked, publicOf, packedTable}
 use Rattle.magnetar_matrix.specs.Lent.{Lent, entriesOf, matrixOf}
 use Rattle.magnetar_matrix.specs.Table.{publicShare, bitShare, loginTotal, loginBlock, Equal}
 use Rattle.magnetar_layout.specs.Tests.{allBelow}
+use Rattle.magnetar_matrix.proofs.PublicParts.{public-of}
 
 -- ---- one entry
 public-at : (w : ℕ) (x : List ℕ) (e : Entry) → w ≤ e .col → publicShare w x e ≡ e .value ⊗ getD (1 ∷ x) (e .col - w) 0
@@ -86,19 +88,21 @@ unfolding blocks
 blocks-ext f g zero h = refl
 blocks-ext f g (suc q) h = rw (blocks-ext f g q (λ u l. h u (omega arith)), h q (omega arith))
 
-pub assigned : (q w : ℕ) (ws x : List ℕ) (u : ℕ) → u < q → assignment (unpacked q w ws) x u ≡ tabulate (packedBit (loginPart w ws u)) w ++ (1 ∷ x)
+pub assigned : (q w : ℕ) (ws : List ℕ) (x : PublicColumns) (u : ℕ) → u < q
+    → assignment (unpacked q w ws) x u ≡ tabulate (packedBit (loginPart w ws u)) w ++ publicHalf x u
 unfolding assignment unpacked
 assigned q w ws x u h = rw (tabulate-get (λ v. tabulate (packedBit (loginPart w ws v)) w) q u [] h)
 
 pub table-is : (a : Matrix) (ws x : List ℕ) (q w : ℕ) → blocks (loginBlock w x ws (a .entries) (a .rows)) q ≡ packedTable a ws x q w
 unfolding packedTable batchProducts loginBlock times timesAt loginTotal
 table-is a ws x q w =
-    blocks-ext (loginBlock w x ws (a .entries) (a .rows)) (λ u. times a (assignment (unpacked q w ws) x u)) q
+    blocks-ext (loginBlock w x ws (a .entries) (a .rows)) (λ u. times a (assignment (unpacked q w ws) (publicOf q w x) u)) q
     (λ u h. let ls = loginPart w ws u in
-    let z = tabulate (packedBit ls) w ++ (1 ∷ x) in
-    rw (assigned q w ws x u h)
-    (tabulate-ext (loginTotal w x ls (a .entries)) (timesAt a z) (a .rows)
-    (λ i b. total-⊕ (publicShare w x) (bitShare w ls) (share z) (a .entries) i (split-share w x ls))))
+    let xs = elements (publicPart w x u) in
+    let z = tabulate (packedBit ls) w ++ (1 ∷ xs) in
+    rw (assigned q w ws (publicOf q w x) u h, public-of q w x u h)
+    (tabulate-ext (loginTotal w xs ls (a .entries)) (timesAt a z) (a .rows)
+    (λ i b. total-⊕ (publicShare w xs) (bitShare w ls) (share z) (a .entries) i (split-share w xs ls))))
 
 pub packed-is : (a : Lent) (ws x : List ℕ) (q w : ℕ)
     → blocks (loginBlock w x ws (entriesOf (a .row) (a .col) (a .lo) (a .hi)) (a .rows)) q ≡ packedTable (matrixOf a) ws x q w

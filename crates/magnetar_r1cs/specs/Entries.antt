@@ -90,13 +90,13 @@ packedRefusal a ws x q w out = firstRefusal 0 (batchTests a ws x q w ++ roomTest
 abbrev pub packedOut : Lent → List ℕ → List ℕ → ℕ → ℕ → List ℕ → List ℕ
 packedOut a ws x q w out =
     unlessRefused (packedRefusal a ws x q w out)
-    (words (packedTable (matrixOf a) ws (elements x) q w) ++ drop (q * (2 * a .rows)) out) out
+    (words (packedTable (matrixOf a) ws x q w) ++ drop (q * (2 * a .rows)) out) out
 
 -- ---- `products_in`: the matrix a, whose entries are lent among others, the packed words ws of q logins with w columns, the public words
 -- x, the output out
 -- 1, 2, 3 and 4 of n rows for q logins of w columns, with p packed and k public words
 abbrev pub loginsTests : (p k q w n : ℕ) → Tests
-loginsTests p k q w n = sizeTests (2 * w) q ++ (packedTestsOf w q p ++ (publicTestsOf (2 * w) k ++ rowsTests q n))
+loginsTests p k q w n = sizeTests (2 * w) q ++ (packedTestsOf w q p ++ (publicTestsOf (2 * w) q k ++ rowsTests q n))
 
 -- these, and 15: the output
 unfoldable pub rangeRefusal : (n : ℕ) → (ws x : List ℕ) → (q w : ℕ) → (out : List ℕ) → ℕ
@@ -110,7 +110,7 @@ rangeMatrix n m a b row col lo hi = record { rows = n; cols = m; entries = take 
 abbrev pub rangeOut : Matrix → (ws x : List ℕ) → (q w : ℕ) → (out : List ℕ) → List ℕ
 rangeOut a ws x q w out =
     unlessRefused (rangeRefusal (a .rows) ws x q w out)
-    (words (packedTable a ws (elements x) q w) ++ drop (q * (2 * a .rows)) out) out
+    (words (packedTable a ws x q w) ++ drop (q * (2 * a .rows)) out) out
 
 -- ---- `apply_simd_bit_masks`: the matrix a, the packed words ws of q logins with w columns, the number v, the output out
 -- the tests of `apply_simd_packed` but those of the public words and the room

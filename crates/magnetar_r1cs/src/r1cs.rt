@@ -7,6 +7,7 @@ use magnetar_field::gf128::Gf128;
 use magnetar_field::sizes;
 use magnetar_field::words;
 use magnetar_layout::tests;
+use magnetar_matrix::columns;
 use magnetar_multilinear::eq::EqBits;
 ghost use mathlib.Core.Path.{_≡_};
 ghost use mathlib.Core.Bool.{true, _&&_};
@@ -22,9 +23,9 @@ ghost use Rattle.magnetar_multilinear.specs.EqTable.{eqTable};
 ghost use Rattle.magnetar_multilinear.specs.Entries.{answer};
 ghost use Rattle.magnetar_matrix.specs.Matrix.{sumOver, rowTotal, share, isBit, binary, bitValued};
 ghost use Rattle.magnetar_matrix.specs.Lent.{lent, entriesOf, matrixOf};
-ghost use Rattle.magnetar_matrix.specs.Table.{raised, publicShare, bitShare, cross, loginBlock, Equal, Point};
+ghost use Rattle.magnetar_matrix.specs.Table.{raised, publicShare, bitShare, cross, loginBlock, publicRows, laidBehind, Equal, Point};
 ghost use Rattle.magnetar_matrix.specs.Sum.{blocks};
-ghost use Rattle.magnetar_matrix.specs.Packed.{loginWords};
+ghost use Rattle.magnetar_matrix.specs.Packed.{loginWords, publicWords};
 ghost use Rattle.magnetar_layout.specs.Tests.{allBelow, firstRefusal, batchTests};
 ghost use Rattle.magnetar_r1cs.specs.Entries.{applyRefusal, applyOut, tableRefusal, tableOut, tableScratch, atAnswer, atScratch, flagged, flaggedOf, binaryRefusal, packedRefusal, packedOut, loginsTests, rangeRefusal, rangeMatrix, rangeOut, matrixTests, masksRefusal, masksOut};
 
@@ -220,7 +221,7 @@ pub fn is_binary(
     Flag::No
 }
 
-// The part of the product that is the same for all logins: that of the public columns.
+// The part of a login's product that comes from its public columns x.
 fn public_part(
     row: &[usize],
     col: &[usize],
@@ -271,8 +272,45 @@ fn bit_part(
     walk::add_bits(row, col, lo, hi, w, login, out);
 }
 
-// One login's product, of m words: the first m words hold the public part, which is carried on to the next login's, where
-// there is one, before the part of the login's bits is added.
+// The next login's public part, behind the first n elements, where there is a next login: these hold the public part of a login with the
+// first l words of x. They are carried on where the matrix has no column past w, or where the next login's l words are the same.
+fn next_public(
+    row: &[usize],
+    col: &[usize],
+    lo: &[u64],
+    hi: &[u64],
+    w: usize,
+    x: &[u64],
+    l: usize,
+    n: usize,
+    within: bool,
+    out: &mut [u64],
+)
+    requires { ⌜ Equal (now row) (now col) (now lo) (now hi) ⌝ }
+    requires { ⌜ within ≡ allBelow (w + 1) (now col) ⌝ }
+    requires { ⌜ (n ≤ 65536) × (l ≤ 65536) × (2 * n ≤ length (now out)) × (4 * n ≤ length (now out) → 2 * l ≤ length (now x)) ⌝ }
+    requires { ⌜ take (2 * n) (now out) ≡ words (publicRows w (elements (take l (now x))) (entriesOf (now row) (now col) (now lo) (now hi)) n) ⌝ }
+    ensures { λ _. ⌜ now (out .exit) ≡ take (2 * n) (now (out .entry)) ++ laidBehind (2 * n) (words (publicRows w (elements (take l (drop l (now (x .entry))))) (entriesOf (now (row .entry)) (now (col .entry)) (now (lo .entry)) (now (hi .entry))) n)) (now (out .entry)) ⌝ }
+{
+    let m = 2 * n;
+    let e = 4 * n;
+    if out.len() < e {
+        return;
+    }
+    if within {
+        carry(out, m);
+        return;
+    }
+    if columns::repeats(x, l) {
+        carry(out, m);
+        return;
+    }
+    let f = 2 * l;
+    public_part(row, col, lo, hi, w, &x[l..f], &mut out[m..e]);
+}
+
+// One login's product, of n rows: the first n elements hold its public part. The next login's is laid behind them before the part of the
+// login's bits is added.
 fn login_product(
     row: &[usize],
     col: &[usize],
@@ -280,14 +318,20 @@ fn login_product(
     hi: &[u64],
     w: usize,
     login: &[u64],
-    m: usize,
+    x: &[u64],
+    l: usize,
+    n: usize,
+    within: bool,
     out: &mut [u64],
 )
     requires { ⌜ Equal (now row) (now col) (now lo) (now hi) ⌝ }
-    requires { ⌜ (m % 2 ≡ 0) × (m ≤ length (now out)) × (m ≤ 131072) ⌝ }
-    ensures { λ _. ⌜ now (out .exit) ≡ words (raised (rowTotal (bitShare w (now (login .entry))) (entriesOf (now (row .entry)) (now (col .entry)) (now (lo .entry)) (now (hi .entry)))) (elements (take m (now (out .entry))))) ++ overlaid (take m (now (out .entry))) (drop m (now (out .entry))) ⌝ }
+    requires { ⌜ within ≡ allBelow (w + 1) (now col) ⌝ }
+    requires { ⌜ (n ≤ 65536) × (l ≤ 65536) × (2 * n ≤ length (now out)) × (4 * n ≤ length (now out) → 2 * l ≤ length (now x)) ⌝ }
+    requires { ⌜ take (2 * n) (now out) ≡ words (publicRows w (elements (take l (now x))) (entriesOf (now row) (now col) (now lo) (now hi)) n) ⌝ }
+    ensures { λ _. ⌜ now (out .exit) ≡ words (raised (rowTotal (bitShare w (now (login .entry))) (entriesOf (now (row .entry)) (now (col .entry)) (now (lo .entry)) (now (hi .entry)))) (elements (take (2 * n) (now (out .entry))))) ++ laidBehind (2 * n) (words (publicRows w (elements (take l (drop l (now (x .entry))))) (entriesOf (now (row .entry)) (now (col .entry)) (now (lo .entry)) (now (hi .entry))) n)) (now (out .entry)) ⌝ }
 {
-    carry(out, m);
+    next_public(row, col, lo, hi, w, x, l, n, within, out);
+    let m = 2 * n;
     bit_part(row, col, lo, hi, w, login, &mut out[..m]);
 }
 
@@ -312,18 +356,34 @@ fn products(
     out: &mut [u64],
 )
     requires { ⌜ Equal (now row) (now col) (now lo) (now hi) ⌝ }
-    requires { ⌜ (w ≤ 32768) × (1 ≤ q) × (q ≤ 4096) × (n ≤ 65536) × (length (now packed) ≡ q * loginWords w) × (length (now out) ≡ q * (2 * n)) ⌝ }
-    ensures { λ _. ⌜ now (out .exit) ≡ words (blocks (loginBlock w (elements (now (x .entry))) (now (packed .entry)) (entriesOf (now (row .entry)) (now (col .entry)) (now (lo .entry)) (now (hi .entry))) n) q) ⌝ }
+    requires { ⌜ (1 ≤ w) × (w ≤ 32768) × (1 ≤ q) × (q ≤ 4096) × (1 ≤ n) × (n ≤ 65536) ⌝ }
+    requires { ⌜ (length (now packed) ≡ q * loginWords w) × (length (now x) ≡ q * publicWords w) × (length (now out) ≡ q * (2 * n)) ⌝ }
+    ensures { λ _. ⌜ now (out .exit) ≡ words (blocks (loginBlock w (now (x .entry)) (now (packed .entry)) (entriesOf (now (row .entry)) (now (col .entry)) (now (lo .entry)) (now (hi .entry))) n) q) ⌝ }
 {
     let k = login_words(w);
+    let l = 2 * w - 2;
     let m = 2 * n;
-    public_part(row, col, lo, hi, w, x, &mut out[..m]);
+    let within = lent::all_below(col, w + 1);
+    public_part(row, col, lo, hi, w, &x[..l], &mut out[..m]);
     let mut u = 0;
     while u < q {
         let a = u * k;
         let b = a + k;
-        let c = u * m;
-        login_product(row, col, lo, hi, w, &packed[a..b], m, &mut out[c..]);
+        let c = u * l;
+        let d = u * m;
+        login_product(
+            row,
+            col,
+            lo,
+            hi,
+            w,
+            &packed[a..b],
+            &x[c..],
+            l,
+            n,
+            within,
+            &mut out[d..],
+        );
         u += 1;
     }
 }
@@ -350,7 +410,7 @@ pub fn logins_refusal(packed: usize, x: usize, q: usize, w: usize, n: usize) -> 
         return z;
     }
     let z = tests::refuse(0, 2, packed != q * login_words(w));
-    let z = tests::refuse(z, 3, x != 2 * w - 2);
+    let z = tests::refuse(z, 3, x != q * (2 * w - 2));
     let z = tests::refuse(z, 4, !tests::is_size(1, 65536, n));
     if z != 0 {
         return z;

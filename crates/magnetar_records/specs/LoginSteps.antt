@@ -18,7 +18,7 @@ withinLimits q w n r = leb q mostLogins && (leb w mostWitness && (leb n mostRows
 -- the refusals of n rows and m columns with k records for q logins of w columns, with p packed and x public words
 abbrev pub packedBatchTests : ℕ → ℕ → ℕ → Bool → ℕ → ℕ → ℕ → ℕ → Tests
 packedBatchTests n m k inside p x q w =
-    sizeTests (2 * w) q ++ (packedTestsOf w q p ++ publicTestsOf (2 * w) x) ++ rowsTests q n
+    sizeTests (2 * w) q ++ (packedTestsOf w q p ++ publicTestsOf (2 * w) q x) ++ rowsTests q n
     ++ matrixColumnTests (2 * w) m ++ countTests k k k k ++ (7, not inside) ∷ []
 
 -- 15 of q logins with n rows, for room of out words

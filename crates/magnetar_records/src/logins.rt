@@ -60,10 +60,10 @@ pub(crate) fn add_login(
     e: Entry,
 )
     requires { ⌜ (u < 4096) × (w ≤ 32768) × (n ≤ 65536) × (e .row < n) ⌝ }
-    ensures { λ _. ⌜ now (out .exit) ≡ addedTo k (u * n + e .row) (share (loginZ w (now (packed .entry)) (elements (now (x .entry))) u) (entryOf e)) (now (out .entry)) ⌝ }
+    ensures { λ _. ⌜ now (out .exit) ≡ addedTo k (u * n + e .row) (share (loginZ w (now (packed .entry)) (now (x .entry)) u) (entryOf e)) (now (out .entry)) ⌝ }
 {
     let v = Gf128 { lo: e.lo, hi: e.hi };
-    let f = login::z_of(login::part(packed, w, u), x, w, e.col);
+    let f = login::z_of(login::part(packed, w, u), login::columns(x, w, u), w, e.col);
     let at = u * n + e.row;
     table::add_to(k, at, step::scale(f, v), out);
 }
@@ -71,7 +71,7 @@ pub(crate) fn add_login(
 // Adds a record's shares of the products of q logins.
 fn each_login(packed: &[u64], x: &[u64], q: usize, w: usize, n: usize, out: &mut [u64], e: Entry)
     requires { ⌜ (q ≤ 4096) × (w ≤ 32768) × (n ≤ 65536) × (e .row < n) ⌝ }
-    ensures { λ _. ⌜ now (out .exit) ≡ addedBlocks (q * n) n (λ u. share (loginZ w (now (packed .entry)) (elements (now (x .entry))) u)) (entryOf e) q (now (out .entry)) ⌝ }
+    ensures { λ _. ⌜ now (out .exit) ≡ addedBlocks (q * n) n (λ u. share (loginZ w (now (packed .entry)) (now (x .entry)) u)) (entryOf e) q (now (out .entry)) ⌝ }
 {
     let k = q * n;
     let mut u = 0;
@@ -83,7 +83,7 @@ fn each_login(packed: &[u64], x: &[u64], q: usize, w: usize, n: usize, out: &mut
 
 // The same where they are within the limits.
 fn add_logins(packed: &[u64], x: &[u64], q: usize, w: usize, n: usize, out: &mut [u64], e: Entry)
-    ensures { λ _. ⌜ now (out .exit) ≡ addedLogins q w n (λ u. share (loginZ w (now (packed .entry)) (elements (now (x .entry))) u)) (entryOf e) (now (out .entry)) ⌝ }
+    ensures { λ _. ⌜ now (out .exit) ≡ addedLogins q w n (λ u. share (loginZ w (now (packed .entry)) (now (x .entry)) u)) (entryOf e) (now (out .entry)) ⌝ }
 {
     if within_limits(q, w, n, e.row) {
         each_login(packed, x, q, w, n, out, e);
@@ -103,7 +103,7 @@ pub(crate) fn add_within(
     i: usize,
     e: Entry,
 )
-    ensures { λ _. ⌜ now (out .exit) ≡ cond (leb a i && ltb i b) (addedLogins q w n (λ u. share (loginZ w (now (packed .entry)) (elements (now (x .entry))) u)) (entryOf e) (now (out .entry))) (now (out .entry)) ⌝ }
+    ensures { λ _. ⌜ now (out .exit) ≡ cond (leb a i && ltb i b) (addedLogins q w n (λ u. share (loginZ w (now (packed .entry)) (now (x .entry)) u)) (entryOf e) (now (out .entry))) (now (out .entry)) ⌝ }
 {
     if a <= i {
         if i < b {

@@ -230,7 +230,7 @@ fn write_packed(
     out: &mut [u64],
 ) -> bool
     ensures { λ b. ⌜ (b ≡ cond go (every (bitUpTo w) (entriesOfRecords (now (es .entry)))) false)
-        × (now (out .exit) ≡ cond go (productsIn q w n (now (packed .entry)) (elements (now (x .entry))) (entriesOfRecords (now (es .entry))) (now (out .entry))) (now (out .entry))) ⌝ }
+        × (now (out .exit) ≡ cond go (productsIn q w n (now (packed .entry)) (now (x .entry)) (entriesOfRecords (now (es .entry))) (now (out .entry))) (now (out .entry))) ⌝ }
 {
     let first = 0;
     let end = es.len();

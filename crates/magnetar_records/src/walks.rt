@@ -53,7 +53,7 @@ fn add_packed(
     n: usize,
     out: &mut [u64],
 )
-    ensures { λ _. ⌜ now (out .exit) ≡ foldEntriesWithin (addedLogins q w n (λ u. share (loginZ w (now (packed .entry)) (elements (now (x .entry))) u))) a b 0 (entriesOfRecords (now (es .entry))) (now (out .entry)) ⌝ }
+    ensures { λ _. ⌜ now (out .exit) ≡ foldEntriesWithin (addedLogins q w n (λ u. share (loginZ w (now (packed .entry)) (now (x .entry)) u))) a b 0 (entriesOfRecords (now (es .entry))) (now (out .entry)) ⌝ }
 {
     let mut i = 0;
     while i < es.len() {
@@ -74,7 +74,7 @@ pub fn write_products(
     n: usize,
     out: &mut [u64],
 )
-    ensures { λ _. ⌜ now (out .exit) ≡ productsIn q w n (now (packed .entry)) (elements (now (x .entry))) (take (b - a) (drop a (entriesOfRecords (now (es .entry))))) (now (out .entry)) ⌝ }
+    ensures { λ _. ⌜ now (out .exit) ≡ productsIn q w n (now (packed .entry)) (now (x .entry)) (take (b - a) (drop a (entriesOfRecords (now (es .entry))))) (now (out .entry)) ⌝ }
 {
     logins::clear_blocks(q, w, n, out);
     add_packed(es, a, b, packed, x, q, w, n, out);

@@ -1,15 +1,16 @@
--- A login's words among the packed words, its bits, and its z = (w, 1, x).
+-- A login's words among the packed words, its bits, its public words, and its z = (w, 1, x).
 -- Assumes nothing.
 use mathlib.Core.Path.{_≡_, refl, sym, ap, _∙_}
 use mathlib.Core.Bool.{Bool, true, false}
-use mathlib.Core.List.{List, _∷_}
+use mathlib.Core.List.{List, [], _∷_}
 use Prim.Native.Nat.{ℕ, zero, suc, _+_, _-_, _*_, _/_, _^_, _≤_, _<_, min}
-use native.Mathlib.Nat.{mul-zero, mul-le-mul-left, mul-le-mul-right, le-trans, div-lt-iff-lt-mul}
+use native.Mathlib.Nat.{mul-zero, zero-mul, suc-mul, mul-le-mul-left, mul-le-mul-right, le-trans, div-lt-iff-lt-mul}
 use native.Mathlib.Omega.{arith}
-use lib.Dec.{ltb}
-use lib.ListN.{length, getD, take, drop, length-drop}
-use borrow.Author.Tests.{ltb-true, ltb-false}
-use Rattle.magnetar_matrix.specs.Packed.{packedBit, loginPart, loginWords, zOf}
+use lib.Dec.{ltb, leb}
+use lib.ListN.{length, getD, take, drop, length-drop, drop-of-length-le}
+use lib.Seq.{take-all, take-nil}
+use borrow.Author.Tests.{ltb-true, ltb-false, leb-true, leb-false}
+use Rattle.magnetar_matrix.specs.Packed.{packedBit, loginPart, loginWords, publicPart, publicWords, zOf}
 use Rattle.magnetar_r1cs.proofs.Split.{z-bit, z-public}
 use Rattle.magnetar_relation.proofs.RangeLaws.{take-cut, drop-cut}
 
@@ -40,15 +41,44 @@ module _ (u k n : ℕ) (h : k ≡ 0 → ⊥) where
           absurd (omega (arith, l, m))
 
 -- ---- a login's words, its bits, and its z
--- the part from a to b is login u's, cut where the words end
-pub part-cut : (w : ℕ) (ws : List ℕ) (u k a b : ℕ) → k ≡ loginWords w → a ≡ min (u * k) (length ws) → b ≡ a + min k (length ws - a)
-    → take (b - a) (drop a ws) ≡ loginPart w ws u
-unfolding loginPart
-part-cut w ws u k a b e f g =
+-- the part from a to b, cut where the words end, is that of login u with k words
+cut-part : (ws : List ℕ) (u k a b : ℕ) → a ≡ min (u * k) (length ws) → b ≡ a + min k (length ws - a) → take (b - a) (drop a ws) ≡ take k (drop (u * k) ws)
+cut-part ws u k a b f g =
     let d : b - a ≡ min k (length (drop a ws)) = rw length-drop (omega (arith, g)) in
     let p : take (b - a) (drop a ws) ≡ take k (drop a ws) = rw d (take-cut k (drop a ws)) in
     let r : drop a ws ≡ drop (u * k) ws = ap (λ (i : ℕ). drop i ws) f ∙ drop-cut (u * k) ws in
-    p ∙ ap (take k) r ∙ rw e
+    p ∙ ap (take k) r
+
+pub part-cut : (w : ℕ) (ws : List ℕ) (u k a b : ℕ) → k ≡ loginWords w → a ≡ min (u * k) (length ws) → b ≡ a + min k (length ws - a)
+    → take (b - a) (drop a ws) ≡ loginPart w ws u
+unfolding loginPart
+part-cut w ws u k a b e f g = cut-part ws u k a b f g ∙ rw e
+
+-- a login with more words than there are has all of them if it is the first, and none if it is another one
+all-or-none : (x : List ℕ) (k l u : ℕ) → length x < k → length x < l → take k (drop (u * k) x) ≡ take l (drop (u * l) x)
+all-or-none x k l zero h g = rw (zero-mul k, zero-mul l) (take-all k x (omega arith) ∙ sym (take-all l x (omega arith)))
+all-or-none x k l (suc u) h g = none k h ∙ sym (none l g)
+  where
+    none : (n : ℕ) → length x < n → take n (drop (suc u * n) x) ≡ []
+    none n b =
+        let e : suc u * n ≡ u * n + n = suc-mul u n in
+        rw (drop-of-length-le x {i = suc u * n} (omega (arith, e))) (take-nil n)
+
+-- more witness columns than words are as good as any number of them
+capped : (w : ℕ) (x : List ℕ) (u k : ℕ) → k ≡ publicWords (min w (length x + 2)) → take k (drop (u * k) x) ≡ publicPart w x u
+unfolding publicPart
+capped w x u k e = go (leb w (length x + 2)) refl
+  where
+    go : (b : Bool) → leb w (length x + 2) ≡ b → take k (drop (u * k) x) ≡ take (publicWords w) (drop (u * publicWords w) x)
+    go true t =
+        let l : w ≤ length x + 2 = leb-true w (length x + 2) t in
+        let f : k ≡ publicWords w = omega (arith, l, e) in
+        rw f
+    go false t = let l : length x + 2 < w = leb-false w (length x + 2) t in all-or-none x k (publicWords w) u (omega arith) (omega arith)
+
+pub columns-cut : (w : ℕ) (x : List ℕ) (u k a b : ℕ) → k ≡ publicWords (min w (length x + 2)) → a ≡ min (u * k) (length x) → b ≡ a + min k (length x - a)
+    → take (b - a) (drop a x) ≡ publicPart w x u
+columns-cut w x u k a b e f g = cut-part x u k a b f g ∙ capped w x u k e
 
 behind-one : (x : List ℕ) (j : ℕ) → 0 < j → getD (1 ∷ x) j 0 ≡ getD x (j - 1) 0
 behind-one x zero h = absurd (omega arith)

@@ -10,7 +10,7 @@ use lib.ListN.{length, getD, take, drop, replicate}
 use Rattle.magnetar_field.specs.Gf128.{_⊗_}
 use Rattle.magnetar_field.specs.Words.{elements, words}
 use Rattle.magnetar_matrix.specs.Matrix.{Entry}
-use Rattle.magnetar_matrix.specs.Packed.{loginPart, zOf}
+use Rattle.magnetar_matrix.specs.Packed.{loginPart, publicPart, zOf}
 use Rattle.magnetar_matrix.specs.Table.{addedAt}
 
 -- the first k words are 0; as they were where they are fewer
@@ -47,6 +47,6 @@ behind m g s = cond (leb (2 * m) (length s)) (take (2 * m) s ++ g (drop (2 * m) 
 unfoldable pub columnAdded : ℕ → ℕ → Entry → List ℕ → List ℕ
 columnAdded m n e s = addedTo m (e .col) (e .value ⊗ between m n s (e .row)) s
 
--- z = (w, 1, x) of login u of the packed words ws
+-- z = (w, 1, x) of login u of the packed words ws and the public words x
 unfoldable pub loginZ : ℕ → List ℕ → List ℕ → ℕ → List ℕ
-loginZ w ws x u = zOf w (loginPart w ws u) x
+loginZ w ws x u = zOf w (loginPart w ws u) (elements (publicPart w x u))

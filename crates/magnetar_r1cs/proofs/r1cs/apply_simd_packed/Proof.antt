@@ -4,16 +4,17 @@ use mathlib.Core.Path.{_≡_, refl, sym, _∙_}
 use mathlib.Core.List.{_++_}
 use Prim.Native.Nat.{ℕ, _*_}
 use native.Mathlib.Omega.{arith}
+use lib.ListN.{length}
 use lib.Seq.{length-take-le}
 use denote.Ref.{now}
 use Rattle.magnetar_matrix.specs.Lent.{Lent, lent, matrixOf}
 use Rattle.magnetar_layout.specs.Tests.{Tests, firstRefusal, roomTest, batchTests}
-use Rattle.magnetar_field.specs.Words.{elements}
+use Rattle.magnetar_matrix.specs.Packed.{publicWords}
 use Rattle.magnetar_matrix.specs.Matrix.{bitValued}
 use Rattle.magnetar_r1cs.specs.Entries.{packedRefusal}
 use Rattle.magnetar_layout.proofs.FirstRefusal.{first-refusal-front, first-refusal-late, turned, done}
 use Rattle.magnetar_r1cs.proofs.Flags.{flag-refused, flag-yes, flag-no}
-use Rattle.magnetar_r1cs.proofs.Lone.{Batched, batched}
+use Rattle.magnetar_r1cs.proofs.Lone.{Batched, batched, batched-public}
 use Rattle.magnetar_matrix.proofs.Blocks.{product-fits}
 use Rattle.magnetar_r1cs.proofs.Split.{packed-is}
 use Rattle.magnetar_layout.proofs.Room.{room-short, room-enough}
@@ -32,6 +33,12 @@ size s = s .args .q * (2 * s .args .rows)
 
 ok : (c : tie.Else1) → let s = c .before .before .before .before .before .before .before .before .before in Batched (mat s) (now (s .args .packed)) (now (s .args .x)) (s .args .q) (s .args .w)
 ok c = batched _ _ _ _ _ (sym (c .before .batch-refusal .ensures) ∙ c .if1 .left)
+
+public : (c : tie.Else1) → let x = c .before .before .before .before .before .before .before .before .before .args in length (now (x .x)) ≡ x .q * publicWords (x .w)
+public c =
+    let s = c .before .before .before .before .before .before .before .before .before in
+    let x = s .args in
+    batched-public (mat s) (now (x .packed)) (now (x .x)) (x .q) (x .w) (sym (c .before .batch-refusal .ensures) ∙ c .if1 .left)
 
 none : (c : tie.Else2) → let s = c .before .before .before .before .before .before .before .before .before .before in _≡_ {A = ℕ} 0 (packedRefusal
     (mat s) (now (s .args .packed)) (now (s .args .x)) (s .args .q) (s .args .w) (now (s .args .out)))
@@ -80,7 +87,7 @@ slice-aggregate-products c = sym (length-take-le _ _ (omega arith))
 products-requires : tie.Need-products-requires
 products-requires c κs =
     let o = ok (c .before .before) in
-    (o .entries .equal, (o .half, o .logins .low, o .logins .high, o .rows-size .high, o .packed, length-take-le _ _ (omega arith)))
+    (o .entries .equal, ((o .least, o .half, o .logins .low, o .logins .high, o .rows-size .low, o .rows-size .high), (o .packed, public (c .before .before), length-take-le _ _ (omega arith))))
 
 bit-valued-requires : tie.Need-bit-valued-requires
 bit-valued-requires c κs = let o = ok (c .before .before .before .before .before) in (o .entries .equal, o .half)
@@ -95,7 +102,7 @@ returns-3 c =
     let x = s .args in
     let e = none (c .before .before .before .before .before .before) in (
       flag-yes _ e (sym (c .before .bit-valued .ensures) ∙ c .if3 .taken),
-      rw (c .before .before .before .before .products .ensures, packed-is (mat s) (now (x .packed)) (elements (now (x .x))) (x .q) (x .w)) (done _ _ e refl),
+      rw (c .before .before .before .before .products .ensures, packed-is (mat s) (now (x .packed)) (now (x .x)) (x .q) (x .w)) (done _ _ e refl),
     )
 
 same-length-2 : tie.Need-same-length-2
@@ -108,7 +115,7 @@ returns-4 c =
     let x = s .args in
     let e = none (c .before .before .before .before .before .before) in (
       flag-no _ e (sym (c .before .bit-valued .ensures) ∙ c .if3 .left),
-      rw (c .before .before .before .before .products .ensures, packed-is (mat s) (now (x .packed)) (elements (now (x .x))) (x .q) (x .w)) (done _ _ e refl),
+      rw (c .before .before .before .before .products .ensures, packed-is (mat s) (now (x .packed)) (now (x .x)) (x .q) (x .w)) (done _ _ e refl),
     )
 
 pub apply-simd-packed-spec : {M : Type 1} → statement M

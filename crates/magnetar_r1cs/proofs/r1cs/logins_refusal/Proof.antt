@@ -10,6 +10,7 @@ use Rattle.magnetar_layout.proofs.FirstRefusal.{first-refusal-front, first-refu
 use Rattle.magnetar_layout.proofs.Laid.{half-size}
 use Rattle.magnetar_layout.proofs.SizeLaws.{not-bad}
 use Rattle.magnetar_matrix.proofs.LoginParts.{product-most, words-most}
+use Rattle.magnetar_matrix.proofs.PublicParts.{public-most}
 use Rattle.magnetar_matrix.proofs.Blocks.{product-fits}
 use borrow.Author.Needs.{needs}
 use Rattle.magnetar_r1cs.proofs.r1cs.logins_refusal.Statement.{statement}
@@ -20,7 +21,7 @@ abbrev first : tie.Start → Tests
 first s = sizeTests (2 * s .args .w) (s .args .q)
 
 abbrev second : tie.Start → Tests
-second s = let x = s .args in packedTestsOf (x .w) (x .q) (x .packed) ++ (publicTestsOf (2 * x .w) (x .x) ++ loneRowTests (x .n))
+second s = let x = s .args in packedTestsOf (x .w) (x .q) (x .packed) ++ (publicTestsOf (2 * x .w) (x .q) (x .x) ++ loneRowTests (x .n))
 
 abbrev third : tie.Start → Tests
 third s = (4, ltb 1048576 (s .args .q * s .args .n)) ∷ []
@@ -78,6 +79,11 @@ mul-refuse-2 c = omega (arith, small (c .before .before) .half)
 sub-refuse : tie.Need-sub-refuse
 sub-refuse c = omega (arith, small (c .before .before) .least)
 
+mul-refuse-3 : tie.Need-mul-refuse-3
+mul-refuse-3 c =
+    let k = small (c .before .before) in
+    omega (arith, public-most ((c .before .before .before .before .before .before .before) .args .q) _ (k .logins) (k .half))
+
 refuse-requires-4 : tie.Need-refuse-requires-4
 refuse-requires-4 c κs = search needs
 
@@ -93,8 +99,8 @@ returns-2 c =
     first-refusal-late (first s) (second s ++ third s) _ _ (early (c .before .before .before .before .before .before .before)) (c .before .before .before .before .before .before .if1 .left)
     (first-refusal-front (second s) (third s) _ (middle (c .before)) (c .if2 .taken))
 
-mul-refuse-3 : tie.Need-mul-refuse-3
-mul-refuse-3 c =
+mul-refuse-4 : tie.Need-mul-refuse-4
+mul-refuse-4 c =
     let x = (c .before .before .before .before .before .before .before .before .before .before .before) .args in
     omega (arith, product-fits (x .q) (x .n) (small (c .before .before .before .before .before .before) .logins) (omega (arith, rows-most c)))
 
@@ -121,10 +127,11 @@ logins-refusal-spec =
     refuse-requires-3
     mul-refuse-2
     sub-refuse
+    mul-refuse-3
     refuse-requires-4
     is-size-requires-3
     refuse-requires-5
     returns-2
-    mul-refuse-3
+    mul-refuse-4
     refuse-requires-6
     returns-3)

@@ -121,7 +121,7 @@ products-requires c κs =
     let o = ok (c .before .before .before .before .before .before .before .before .before) in
     let i = inside (c .before .before .before .before .before .before) in (
       parts-equal (now (x .row)) (now (x .col)) (now (x .lo)) (now (x .hi)) _ _ (i .row) (i .col) (i .lo) (i .hi),
-      (o .half, o .logins .low, o .logins .high, o .rows .high, o .packed, length-take-le _ _ (omega arith)),
+      ((o .least, o .half, o .logins .low, o .logins .high, o .rows .low, o .rows .high), (o .packed, o .public, length-take-le _ _ (omega arith))),
     )
 
 same-length : tie.Need-same-length

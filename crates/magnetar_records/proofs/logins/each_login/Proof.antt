@@ -4,7 +4,6 @@ use mathlib.Core.Path.{_≡_, refl, _∙_}
 use native.Mathlib.Omega.{arith}
 use Prim.Native.Nat.{_-_, _*_, _≤_}
 use lib.ListN.{length}
-use Rattle.magnetar_field.specs.Words.{elements}
 use Rattle.magnetar_matrix.specs.Matrix.{share}
 use Rattle.magnetar_matrix.proofs.Blocks.{product-fits}
 use Rattle.magnetar_records.specs.Records.{entryOf}
@@ -17,7 +16,7 @@ use Rattle.magnetar_records.proofs.logins.each_login.Tie as tie
 
 abbrev Inv-loop : tie.InvT-loop
 Inv-loop packed x q w n out₀ e k u₀ out u =
-    (length out ≡ length out₀) × (k ≡ q * n) × (u ≤ q) × (out ≡ addedBlocks (q * n) n (λ v. share (loginZ w packed (elements x) v)) (entryOf e) u out₀)
+    (length out ≡ length out₀) × (k ≡ q * n) × (u ≤ q) × (out ≡ addedBlocks (q * n) n (λ v. share (loginZ w packed x v)) (entryOf e) u out₀)
 
 abbrev μ-loop : tie.MeasureT-loop
 μ-loop packed x q w n out₀ e k u₀ out u = q - u

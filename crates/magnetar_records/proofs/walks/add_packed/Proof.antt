@@ -28,7 +28,6 @@ use Rattle.magnetar_records.proofs.walks.add_packed.Code as code
 use mathlib.Core.Bool.{cond, _&&_}
 use lib.Dec.{leb, ltb}
 use Rattle.magnetar_matrix.specs.Matrix as matrix
-use Rattle.magnetar_field.specs.Words.{elements}
 use Rattle.magnetar_matrix.specs.Matrix.{share}
 use Rattle.magnetar_relation.specs.Steps.{loginZ}
 use Rattle.magnetar_records.specs.LoginSteps.{addedLogins}
@@ -38,7 +37,7 @@ use Rattle.magnetar_records.specs.Records.{entryOf, entriesOfRecords}
 
 -- what one entry does
 abbrev one : each.Arg → matrix.Entry → List ℕ → List ℕ
-one a = addedLogins (a .1 .1 .1 .1 .1 .0) (a .1 .1 .1 .1 .1 .1 .0) (a .1 .1 .1 .1 .1 .1 .1 .0) (λ u. share (loginZ (a .1 .1 .1 .1 .1 .1 .0) (a .1 .1 .1 .0 .now) (elements (a .1 .1 .1 .1 .0 .now)) u))
+one a = addedLogins (a .1 .1 .1 .1 .1 .0) (a .1 .1 .1 .1 .1 .1 .0) (a .1 .1 .1 .1 .1 .1 .1 .0) (λ u. share (loginZ (a .1 .1 .1 .1 .1 .1 .0) (a .1 .1 .1 .0 .now) (a .1 .1 .1 .1 .0 .now) u))
 
 -- what is left to walk, from what the words are, is what was to be walked at the start
 abbrev left : each.Arg → ℕ → List Entry → List ℕ → List ℕ

@@ -46,7 +46,6 @@ use denote.Triple.Walked.{says, needs, Stays, stay-ref, stay-none, stay-none-ref
 use denote.Triple.Clauses.{Lasts, lasts, atExit}
 use denote.Exit.{yes}
 use Rattle.magnetar_records.proofs.WalkLaws.{write-ends}
-use Rattle.magnetar_field.specs.Words.{elements}
 use Rattle.magnetar_records.specs.Records.{entriesOfRecords}
 use Rattle.magnetar_records.specs.declared.records.Entry.{Entry}
 use Rattle.magnetar_records.proofs.records.Entry as mEntry
@@ -529,7 +528,7 @@ module _ {M : Type 1} (𝓤 : URA M) (H : Heap 𝓤) (A : Atoms 𝓤) (W : Given
               ),
             ),
           ),
-        )) $ says ! (write-ends n6 n7 n8 n2 n3 (s4 .now) (elements (s5 .now)) (entriesOfRecords (s1 .now)) ys9
+        )) $ says ! (write-ends n6 n7 n8 n2 n3 (s4 .now) (s5 .now) (entriesOfRecords (s1 .now)) ys9
         (ws1 .1 .1 .1 .0) (ws2 .1 .1 .1 .1 .1 .1 .1 .1 .0) e1 e2) $
         nothing ! $ move ! (2 ∷ 0 ∷ []) $ join ! $ move ! (2 ∷ 0 ∷ []) $ join ! $ move ! (2 ∷ 0 ∷ []) $ join ! $ move ! (2 ∷ 0 ∷ []) $ join ! $
         nothing ! $ move ! (2 ∷ 0 ∷ []) $ fjoin ! $ move ! (5 ∷ 0 ∷ []) $ fjoin ! $ move ! (5 ∷ 0 ∷ []) $ fjoin ! $ move ! (5 ∷ 0 ∷ []) $ fjoin !
