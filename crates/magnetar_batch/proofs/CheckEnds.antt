@@ -15,11 +15,12 @@ use Rattle.magnetar_layout.proofs.FirstRefusal.{first-refusal-clear}
 use Rattle.magnetar_layout.proofs.SizeLaws.{not-bad}
 use Rattle.magnetar_matrix.specs.Matrix.{System}
 use Rattle.magnetar_matrix.specs.Batch.{Relation, assignment}
-use Rattle.magnetar_matrix.specs.Packed.{unpacked, zOf}
+use Rattle.magnetar_matrix.specs.Packed.{unpacked, publicOf, zOf}
 use Rattle.magnetar_matrix.specs.RowCheck.{firstNot, failingRow, failingLogin, rowVerdict}
 use Rattle.magnetar_matrix.specs.RowCheck.Verdict.{good, bin, fld}
 use Rattle.magnetar_matrix.proofs.FirstRow.{first-ext, Below}
 use Rattle.magnetar_matrix.proofs.Verdicts.{first-le, first-before, first-not}
+use Rattle.magnetar_matrix.proofs.PublicParts.{public-of}
 use Rattle.magnetar_r1cs.proofs.Split.{assigned}
 use Rattle.magnetar_relation.specs.Rules.{Rules, relationOf, inRelation}
 use Rattle.magnetar_relation.specs.RuleTests.{ruleTests, ruleTestsBy, shapeTests, numberTests, total}
@@ -43,14 +44,15 @@ module _ (t : System) (w : ℕ) (ws x : List ℕ) (q : ℕ) where
   abbrev first : ℕ
   first = firstNot test q
 
-  -- of the batch that the packed words hold
-  row-is : (u : ℕ) → u < q → failingRow t (assignment (unpacked q w ws) x u) ≡ row u
+  -- of the batch and the public columns that the words hold
+  row-is : (u : ℕ) → u < q → failingRow t (assignment (unpacked q w ws) (publicOf q w x) u) ≡ row u
   unfolding loginZ zOf
-  row-is u h = ap (failingRow t) (assigned q w ws x u h)
+  row-is u h = ap (failingRow t) (assigned q w ws (publicOf q w x) u h ∙ rw (public-of q w x u h))
 
-  login-is : failingLogin t q (unpacked q w ws) x ≡ first
+  login-is : failingLogin t q (unpacked q w ws) (publicOf q w x) ≡ first
   unfolding failingLogin
-  login-is = first-ext (λ u. eqb (failingRow t (assignment (unpacked q w ws) x u)) (t .a .rows)) test q (λ u h. rw (row-is u h))
+  login-is =
+      first-ext (λ u. eqb (failingRow t (assignment (unpacked q w ws) (publicOf q w x) u)) (t .a .rows)) test q (λ u h. rw (row-is u h))
 
   -- what the walk finds
   module _ (k : ℕ) (p : Judged) (hn : t .a .rows ≤ 65536) (room : 6 * t .a .rows ≤ length (p .left)) (z : p .found .system ≡ 0) where
@@ -113,7 +115,7 @@ module _ (R : Relation) (w : ℕ) (ws x l : List ℕ) (hs : R .bin .a .rows ≤ 
   first-fld = first (R .fld) w ws x q
 
   abbrev Right : Type 0
-  Right = answerOf 0 (end .found) ≡ judged (rowVerdict R (unpacked q w ws) x)
+  Right = answerOf 0 (end .found) ≡ judged (rowVerdict R (unpacked q w ws) (publicOf q w x))
 
   answer-bin : first-bin < q → Right
   unfolding answerOf rowVerdict
@@ -173,7 +175,7 @@ sixth-over n k room = go (ltb (room / 6) (max n k)) refl
 
 module _ (R : Rules) (ws x : List ℕ) (room : ℕ) where
   abbrev front : Tests
-  front = sizeTests (R .m) (R .q) ++ (packedTests (R .m / 2) (R .q) ws ++ publicTests (R .m) x)
+  front = sizeTests (R .m) (R .q) ++ (packedTests (R .m / 2) (R .q) ws ++ publicTests (R .m) (R .q) x)
 
   abbrev back : Tests
   back = checkScratchTests (R .shapes .bin .a .rows) (R .shapes .fld .a .rows) room
@@ -215,18 +217,18 @@ module _ (R : Rules) (ws x l : List ℕ) (n : ℕ) (refusal : n ≡ checkRefusal
 
   module _ (w : ℕ) (ew : w ≡ R .m / 2) where
     abbrev done : Judged
-    done = bothDone (relationOf R) w ws (elements x) l
+    done = bothDone (relationOf R) w ws x l
 
     abbrev left : List ℕ
-    left = bothWords (relationOf R) w ws (elements x) l
+    left = bothWords (relationOf R) w ws x l
 
     pub check-done : (r : Failing) (s : List ℕ) (o : Outcome) → n ≡ 0 → (r ≡ done .found) × (s ≡ left) → o ≡ answerOf 0 r
         → ends-as o s ≡ checkOutcome R ws x l
     unfolding checkOutcome
     check-done r s o z e eo =
         let f = check-fits R ws x (length l) (sym refusal ∙ z) in
-        let a = answer-is (relationOf R) w ws (elements x) l (f .bin) (f .fld) (f .enough) in
-        let c = words-are (relationOf R) w ws (elements x) l (f .bin) (f .fld) (f .enough) in
+        let a = answer-is (relationOf R) w ws x l (f .bin) (f .fld) (f .enough) in
+        let c = words-are (relationOf R) w ws x l (f .bin) (f .fld) (f .enough) in
         ap₂ ends-as (eo ∙ (ap (answerOf 0) (e .0) ∙ a)) (e .1 ∙ c) ∙ rw (← refusal, z, ew)
 
     -- by both ways

@@ -77,19 +77,20 @@ factor-kept w ws u q t₀ t e = go (ltb (w + q) (length t₀)) refl ∙ sym (get
         let l : length t ≡ length t₀ = rw e (raised-length (foldSum w ws (drop w t₀) u) t₀) in
         rw (List·getD-eq-default t 0 {n = w + q} (omega arith), List·getD-eq-default t₀ 0 {n = w + q} b)
 
-pub one-slice : (w q k : ℕ) (ws p s₁ s₂ s₃ : List ℕ) → s₁ ≡ replicate (2 * w + 2 * q) 0 → k ≡ 2 * w + 2 * q
+-- what g adds, for the elements behind the first w
+pub one-slice : (g : List ℕ → ℕ → ℕ) (w q k : ℕ) (p s₁ s₂ s₃ : List ℕ) → s₁ ≡ replicate (2 * w + 2 * q) 0 → k ≡ 2 * w + 2 * q
     → s₂ ≡ take (2 * w) s₁ ++ (words (scaledTable 1 p) ++ drop k s₁)
-    → elements s₃ ≡ raised (foldSum w ws (drop w (elements s₂)) q) (elements s₂)
-    → take w (elements s₃) ≡ tabulate (foldSum w ws (eqTable p) q) w
-one-slice w q k ws p s₁ s₂ s₃ a b c d =
+    → elements s₃ ≡ raised (g (drop w (elements s₂))) (elements s₂)
+    → take w (elements s₃) ≡ tabulate (g (eqTable p)) w
+one-slice g w q k p s₁ s₂ s₃ a b c d =
     let l : length s₁ ≡ 2 * w + 2 * q = rw a (length-replicate (2 * w + 2 * q) 0) in
     let fits : 2 * w ≤ length s₁ = omega arith in
     let z : drop k s₁ ≡ [] = drop-of-length-le s₁ {i = k} (omega arith) in
-    let g : scaledTable 1 p ++ elements (drop k s₁) ≡ eqTable p = rw z (nothing (scaledTable 1 p)) ∙ scaled-one p in
+    let t : scaledTable 1 p ++ elements (drop k s₁) ≡ eqTable p = rw z (nothing (scaledTable 1 p)) ∙ scaled-one p in
     let h : take w (elements s₁) ≡ replicate w 0 = rw a (zeros-front w (2 * w + 2 * q) (omega arith)) in
-    let e : drop w (elements s₂) ≡ eqTable p = rw c (behind-is w s₁ fits (scaledTable 1 p) (drop k s₁) ∙ g) in
+    let e : drop w (elements s₂) ≡ eqTable p = rw c (behind-is w s₁ fits (scaledTable 1 p) (drop k s₁) ∙ t) in
     let f : take w (elements s₂) ≡ replicate w 0 = rw c (front-kept w s₁ fits (words (scaledTable 1 p) ++ drop k s₁) ∙ h) in
-    ap (take w) d ∙ take-raised (foldSum w ws (drop w (elements s₂)) q) w (elements s₂) (long f) ∙ rw (e, f) (raised-zeros (foldSum w ws (eqTable p) q) w)
+    ap (take w) d ∙ take-raised (g (drop w (elements s₂))) w (elements s₂) (long f) ∙ rw (e, f) (raised-zeros (g (eqTable p)) w)
   where
     nothing : (l : List ℕ) → l ++ elements [] ≡ l
     nothing l = unfold elements in append-nil l

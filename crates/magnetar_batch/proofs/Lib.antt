@@ -14,6 +14,6 @@ pub mod ComboWalk
 pub mod EachMNNNNNNSSI
 pub mod EachNNNNMI
 pub mod CountANIMQNNNNNNSSE
-pub mod PublicHalf
+pub mod Halves
 pub mod RangeLaws
 pub mod MarkedRows

@@ -16,7 +16,7 @@ use Rattle.magnetar_matrix.specs.Sum.{sumBelow, blocks}
 use Rattle.magnetar_matrix.specs.Matrix.{sumOver, rowTotal, share, timesAt, times, transpose, mleTable, bitValued}
 use Rattle.magnetar_matrix.specs.Lent.{entriesOf, matrixOf}
 use Rattle.magnetar_matrix.specs.Batch.{assignment, batchProducts, bitOf, foldedAt, folded}
-use Rattle.magnetar_matrix.specs.Packed.{packedBit, loginPart, unpacked, packedTable}
+use Rattle.magnetar_matrix.specs.Packed.{packedBit, loginPart, publicPart, unpacked, publicOf, packedTable}
 use Rattle.magnetar_r1cs.specs.Entries.{packedRefusal, tableRefusal}
 use Rattle.magnetar_batch.specs.Entries.{foldRefusal}
 use Rattle.magnetar_batch.specs.MarkedRows.{table, MarkedRows}
@@ -24,6 +24,6 @@ use Rattle.magnetar_batch.specs.MarkedRows.{table, MarkedRows}
 pub marked : MarkedRows
 unfolding table _⊕_ _⊗_ timesX sumTimes log₂ halvings tabulate elements words eqTable eqAt eqFactor eqRefusal every loginWords nextMultiple
     offsetsFrom endFrom offsets layoutEnd isLength orRefuse isSize buildRefusal sumBelow blocks sumOver rowTotal share timesAt times transpose
-    mleTable bitValued entriesOf matrixOf assignment bitOf foldedAt folded packedBit loginPart unpacked packedTable packedRefusal tableRefusal
+    mleTable bitValued entriesOf matrixOf assignment bitOf foldedAt folded packedBit loginPart publicPart unpacked publicOf packedTable packedRefusal tableRefusal
     foldRefusal batchProducts
 marked = refl

@@ -13,7 +13,7 @@ use borrow.Author.Tests.{leb-true, le-leb, lt-leb, lt-ltb, le-ltb, ne-eqb}
 use borrow.Rule.Slice.PartMut.{putMid}
 use Rattle.magnetar_field.specs.Words.{elements}
 use Rattle.magnetar_matrix.specs.Matrix.{Entry, Matrix, System, share}
-use Rattle.magnetar_matrix.specs.Packed.{loginPart, zOf}
+use Rattle.magnetar_matrix.specs.Packed.{loginPart, publicPart, zOf}
 use Rattle.magnetar_matrix.specs.RowCheck.{firstNot, holdsAt}
 use Rattle.magnetar_relation.specs.declared.shapes.SystemShape.{SystemShape}
 use Rattle.magnetar_relation.specs.declared.shapes.Shapes.{Shapes}
@@ -138,11 +138,12 @@ module _ (k : ℕ) (z : List ℕ) (t : System) (u : ℕ) where
   unfolding loginDone
   unless-none r s h = rw h
 
--- by the part of the packed words that is the login's
-pub unless-cut : (k w : ℕ) (ws x : List ℕ) (t : System) (u : ℕ) (ls : List ℕ) → ls ≡ loginPart w ws u → (r f : Failing) (s s₁ : List ℕ) → eqb (r .system) 0 ≡ true
-    → (let v = threeIn (zOf w ls x) t s in from f s₁ ≡ from (failingIn r k u (t .a .rows) v) v) → from f s₁ ≡ loginDone k (loginZ w ws x u) t u (from r s)
+-- by the parts of the packed and of the public words that are the login's
+pub unless-cut : (k w : ℕ) (ws x : List ℕ) (t : System) (u : ℕ) (ls xs : List ℕ) → ls ≡ loginPart w ws u → xs ≡ publicPart w x u → (r f : Failing) (s s₁ : List ℕ)
+    → eqb (r .system) 0 ≡ true → (let v = threeIn (zOf w ls (elements xs)) t s in from f s₁ ≡ from (failingIn r k u (t .a .rows) v) v)
+    → from f s₁ ≡ loginDone k (loginZ w ws x u) t u (from r s)
 unfolding loginZ
-unless-cut k w ws x t u ls p r f s s₁ h e = unless-some k (zOf w (loginPart w ws u) x) t u r f s s₁ h (rw p at e)
+unless-cut k w ws x t u ls xs p g r f s s₁ h e = unless-some k (zOf w (loginPart w ws u) (elements (publicPart w x u))) t u r f s s₁ h (rw (p, g) at e)
 
 -- ---- one login more
 module _ (k w : ℕ) (ws x : List ℕ) (t : System) where

@@ -6,7 +6,7 @@ use Prim.Native.Nat.{ℕ, _*_, _/_, max}
 use lib.ListN.{length, drop, replicate}
 use Rattle.magnetar_field.specs.Refusal.{unlessRefused}
 use Rattle.magnetar_field.specs.Words.{elements}
-use Rattle.magnetar_matrix.specs.Packed.{unpacked}
+use Rattle.magnetar_matrix.specs.Packed.{unpacked, publicOf}
 use Rattle.magnetar_matrix.specs.RowCheck.{Verdict, rowVerdict}
 use Rattle.magnetar_matrix.specs.RowCheck.Verdict.{good, bin, fld}
 use Rattle.magnetar_layout.specs.Tests.{Tests, firstRefusal, sizeTests, packedTests, packedTestsOf, publicTests, publicTestsOf, roomTestOf}
@@ -34,7 +34,7 @@ checkScratchTests n k room = roomTestOf (6 * max n k) room
 -- the refusals by numbers: z is the one that 4 to 7 gave, n and k are the rows, p, x and room how many words there are
 abbrev pub checkTestsBy : (z m q n k p x room : ℕ) → Tests
 checkTestsBy z m q n k p x room =
-    sizeTests m q ++ (packedTestsOf (m / 2) q p ++ (publicTestsOf m x ++ (given z ++ checkScratchTests n k room)))
+    sizeTests m q ++ (packedTestsOf (m / 2) q p ++ (publicTestsOf m q x ++ (given z ++ checkScratchTests n k room)))
 
 -- the words of three products of the larger row count
 abbrev pub checkScratchOf : Rules → ℕ
@@ -44,7 +44,7 @@ checkScratchOf R = 6 * max (R .shapes .bin .a .rows) (R .shapes .fld .a .rows)
 -- 1 to 7 and 15
 unfoldable pub checkRefusal : Rules → (ws x : List ℕ) → (scratch : ℕ) → ℕ
 checkRefusal R ws x scratch =
-    firstRefusal 0 (sizeTests (R .m) (R .q) ++ (packedTests (R .m / 2) (R .q) ws ++ (publicTests (R .m) x ++ (ruleTests R
+    firstRefusal 0 (sizeTests (R .m) (R .q) ++ (packedTests (R .m / 2) (R .q) ws ++ (publicTests (R .m) (R .q) x ++ (ruleTests R
     ++ checkScratchTests (R .shapes .bin .a .rows) (R .shapes .fld .a .rows) scratch))))
 
 -- what the function returns, and what the scratch holds
@@ -61,7 +61,7 @@ unfoldable pub checkOutcome : Rules → (ws x scratch : List ℕ) → Checked
 checkOutcome R ws x scratch =
     unlessRefused (checkRefusal R ws x (length scratch))
     (record {
-      answer = judged (rowVerdict (relationOf R) (unpacked (R .q) (R .m / 2) ws) (elements x));
+      answer = judged (rowVerdict (relationOf R) (unpacked (R .q) (R .m / 2) ws) (publicOf (R .q) (R .m / 2) x));
       scratch = replicate (checkScratchOf R) 0 ++ drop (checkScratchOf R) scratch;
     })
     (record { answer = refused (checkRefusal R ws x (length scratch)); scratch = scratch })

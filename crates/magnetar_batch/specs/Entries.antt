@@ -10,7 +10,7 @@ use Rattle.magnetar_field.specs.Sizes.{log₂}
 use Rattle.magnetar_field.specs.Words.{elements, words}
 use Rattle.magnetar_matrix.specs.Batch.{folded, publicFolded}
 use Rattle.magnetar_matrix.specs.Combined.{combinedTable}
-use Rattle.magnetar_matrix.specs.Packed.{unpacked}
+use Rattle.magnetar_matrix.specs.Packed.{unpacked, publicOf}
 use Rattle.magnetar_layout.specs.Tests.{Tests, firstRefusal, columnTests, sizeTests, packedTests, publicTests, lengthTest, roomTest}
 use Rattle.magnetar_relation.specs.Rules.{Rules, relationOf}
 use Rattle.magnetar_relation.specs.RuleTests.{ruleTests, given}
@@ -48,12 +48,13 @@ foldInOut ws q w p slice =
 -- 1 and 3; 11: the point; 15: the slice
 unfoldable pub publicInRefusal : List ℕ → ℕ → ℕ → List ℕ → List ℕ → ℕ
 publicInRefusal x q w p slice =
-    firstRefusal 0 (sizeTests (2 * w) q ++ publicTests (2 * w) x ++ lengthTest (2 * log₂ q) p ++ roomTest (2 * w) slice)
+    firstRefusal 0 (sizeTests (2 * w) q ++ publicTests (2 * w) q x ++ lengthTest (2 * log₂ q) p ++ roomTest (2 * w + 2 * q) slice)
 
--- the slice at exit: the words of the folded public half, then what stood behind them
+-- the slice at exit: the folded public half, zeros in the place of the eq table, the rest
 abbrev pub publicInOut : List ℕ → ℕ → ℕ → List ℕ → List ℕ → List ℕ
 publicInOut x q w p slice =
-    unlessRefused (publicInRefusal x q w p slice) (words (publicFolded (elements x) (elements p)) ++ drop (2 * w) slice) slice
+    unlessRefused (publicInRefusal x q w p slice)
+    (words (publicFolded q w (publicOf q w x) (elements p)) ++ (replicate (2 * q) 0 ++ drop (2 * w + 2 * q) slice)) slice
 
 -- ---- `build_m_combo`: the rules R as they are lent for one login, the alphas al, the row points p and r, the output out, the scratch
 -- 11: the alphas and the points for n and k rows; 15: the scratch or the output; by how many words there are

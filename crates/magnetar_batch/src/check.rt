@@ -67,7 +67,8 @@ fn add_behind(s: &mut [u64], m: usize, n: usize, i: usize, v: Gf128)
     }
 }
 
-// Adds an entry's share of the product with the z of the login whose words these are, at its row, to the n elements behind the first m.
+// Adds an entry's share of the product with the z of the login whose words and public words these are, at its row, to the n elements
+// behind the first m.
 fn add_share_of(
     s: &mut [u64],
     m: usize,
@@ -101,9 +102,11 @@ pub(crate) fn add_share(
     lo: u64,
     hi: u64,
 )
-    ensures { λ _. ⌜ now (s .exit) ≡ shareAdded m n (loginZ w (now (packed .entry)) (elements (now (x .entry))) u) (entry row col lo hi) (now (s .entry)) ⌝ }
+    ensures { λ _. ⌜ now (s .exit) ≡ shareAdded m n (loginZ w (now (packed .entry)) (now (x .entry)) u) (entry row col lo hi) (now (s .entry)) ⌝ }
 {
-    add_share_of(s, m, n, w, login::part(packed, w, u), x, row, col, lo, hi);
+    let bits = login::part(packed, w, u);
+    let mine = login::columns(x, w, u);
+    add_share_of(s, m, n, w, bits, mine, row, col, lo, hi);
 }
 
 // Clears n elements behind the first m, where there are as many.
@@ -205,7 +208,7 @@ pub(crate) fn refusal(
         return y;
     }
     let y = tests::refuse(0, 2, packed != q * r1cs::login_words(m / 2));
-    let y = tests::refuse(y, 3, x != m - 2);
+    let y = tests::refuse(y, 3, x != q * (m - 2));
     let y = tests::refuse(y, z, true);
     tests::refuse(y, 15, sizes::larger(nb, nf) > scratch / 6)
 }
@@ -284,7 +287,7 @@ fn check_login(
     first_bad(r, k, u, s, n)
 }
 
-// The same unless something was found before, by the login's part of the packed words.
+// The same unless something was found before, by the login's parts of the packed and of the public words.
 fn login_unless(
     r: Failing,
     k: usize,
@@ -300,11 +303,12 @@ fn login_unless(
     lo: &[u64],
     hi: &[u64],
 ) -> Failing
-    ensures { λ f. ⌜ from f (now (s .exit)) ≡ loginDone k (loginZ w (now (packed .entry)) (elements (now (x .entry))) u) (systemAt t a (entriesOf (now (row .entry)) (now (col .entry)) (now (lo .entry)) (now (hi .entry)))) u (from r (now (s .entry))) ⌝ }
+    ensures { λ f. ⌜ from f (now (s .exit)) ≡ loginDone k (loginZ w (now (packed .entry)) (now (x .entry)) u) (systemAt t a (entriesOf (now (row .entry)) (now (col .entry)) (now (lo .entry)) (now (hi .entry)))) u (from r (now (s .entry))) ⌝ }
 {
     if is_nothing(r) {
         let bits = login::part(packed, w, u);
-        return check_login(r, k, u, s, t, a, w, bits, x, row, col, lo, hi);
+        let mine = login::columns(x, w, u);
+        return check_login(r, k, u, s, t, a, w, bits, mine, row, col, lo, hi);
     }
     r
 }
@@ -325,7 +329,7 @@ fn check_system(
     lo: &[u64],
     hi: &[u64],
 ) -> Failing
-    ensures { λ f. ⌜ from f (now (s .exit)) ≡ systemDone k w (now (packed .entry)) (elements (now (x .entry))) (systemAt t a (entriesOf (now (row .entry)) (now (col .entry)) (now (lo .entry)) (now (hi .entry)))) q (from r (now (s .entry))) ⌝ }
+    ensures { λ f. ⌜ from f (now (s .exit)) ≡ systemDone k w (now (packed .entry)) (now (x .entry)) (systemAt t a (entriesOf (now (row .entry)) (now (col .entry)) (now (lo .entry)) (now (hi .entry)))) q (from r (now (s .entry))) ⌝ }
 {
     let mut f = r;
     let mut u = 0;
@@ -349,7 +353,7 @@ fn judge(
     packed: &[u64],
     x: &[u64],
 ) -> Failing
-    ensures { λ f. ⌜ (let R = relationOf (rules 0 q [] sh (now (row .entry)) (now (col .entry)) (now (lo .entry)) (now (hi .entry))) in (f ≡ bothDone R w (now (packed .entry)) (elements (now (x .entry))) (now (s .entry)) .found) × (now (s .exit) ≡ bothWords R w (now (packed .entry)) (elements (now (x .entry))) (now (s .entry)))) ⌝ }
+    ensures { λ f. ⌜ (let R = relationOf (rules 0 q [] sh (now (row .entry)) (now (col .entry)) (now (lo .entry)) (now (hi .entry))) in (f ≡ bothDone R w (now (packed .entry)) (now (x .entry)) (now (s .entry)) .found) × (now (s .exit) ≡ bothWords R w (now (packed .entry)) (now (x .entry)) (now (s .entry)))) ⌝ }
 {
     let b = sh.bin;
     let f = sh.fld;

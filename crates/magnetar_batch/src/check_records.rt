@@ -33,7 +33,7 @@ fn share_within(
     i: usize,
     e: Entry,
 )
-    ensures { λ _. ⌜ now (s .exit) ≡ cond (leb a i && ltb i b) (shareAdded m n (loginZ w (now (packed .entry)) (elements (now (x .entry))) u) (entryOf e) (now (s .entry))) (now (s .entry)) ⌝ }
+    ensures { λ _. ⌜ now (s .exit) ≡ cond (leb a i && ltb i b) (shareAdded m n (loginZ w (now (packed .entry)) (now (x .entry)) u) (entryOf e) (now (s .entry))) (now (s .entry)) ⌝ }
 {
     if a <= i {
         if i < b {
@@ -55,7 +55,7 @@ fn add_product(
     packed: &[u64],
     x: &[u64],
 )
-    ensures { λ _. ⌜ now (s .exit) ≡ foldEntriesWithin (shareAdded m n (loginZ w (now (packed .entry)) (elements (now (x .entry))) u)) a b 0 (entriesOfRecords (now (es .entry))) (now (s .entry)) ⌝ }
+    ensures { λ _. ⌜ now (s .exit) ≡ foldEntriesWithin (shareAdded m n (loginZ w (now (packed .entry)) (now (x .entry)) u)) a b 0 (entriesOfRecords (now (es .entry))) (now (s .entry)) ⌝ }
 {
     let mut i = 0;
     while i < es.len() {
@@ -77,7 +77,7 @@ fn product(
     packed: &[u64],
     x: &[u64],
 )
-    ensures { λ _. ⌜ now (s .exit) ≡ productBehind m n (loginZ w (now (packed .entry)) (elements (now (x .entry))) u) (matrixIn n a b (entriesOfRecords (now (es .entry)))) (now (s .entry)) ⌝ }
+    ensures { λ _. ⌜ now (s .exit) ≡ productBehind m n (loginZ w (now (packed .entry)) (now (x .entry)) u) (matrixIn n a b (entriesOfRecords (now (es .entry)))) (now (s .entry)) ⌝ }
 {
     core::clear_behind(s, m, n);
     add_product(es, s, m, n, u, w, a, b, packed, x);
@@ -99,7 +99,7 @@ fn check_login(
     x: &[u64],
     es: &[Entry],
 ) -> Failing
-    ensures { λ f. ⌜ (let v = threeIn (loginZ w (now (packed .entry)) (elements (now (x .entry))) u) (systemIn n a b c d (entriesOfRecords (now (es .entry)))) (now (s .entry)) in from f (now (s .exit)) ≡ from (failingIn r k u n v) v) ⌝ }
+    ensures { λ f. ⌜ (let v = threeIn (loginZ w (now (packed .entry)) (now (x .entry)) u) (systemIn n a b c d (entriesOfRecords (now (es .entry)))) (now (s .entry)) in from f (now (s .exit)) ≡ from (failingIn r k u n v) v) ⌝ }
 {
     let none = 0;
     let twice = core::twice(n);
@@ -125,7 +125,7 @@ fn login_unless(
     x: &[u64],
     es: &[Entry],
 ) -> Failing
-    ensures { λ f. ⌜ from f (now (s .exit)) ≡ loginDone k (loginZ w (now (packed .entry)) (elements (now (x .entry))) u) (systemIn n a b c d (entriesOfRecords (now (es .entry)))) u (from r (now (s .entry))) ⌝ }
+    ensures { λ f. ⌜ from f (now (s .exit)) ≡ loginDone k (loginZ w (now (packed .entry)) (now (x .entry)) u) (systemIn n a b c d (entriesOfRecords (now (es .entry)))) u (from r (now (s .entry))) ⌝ }
 {
     let go = core::is_nothing(r);
     if go {
@@ -152,7 +152,7 @@ fn check_system(
     x: &[u64],
     es: &[Entry],
 ) -> Failing
-    ensures { λ f. ⌜ from f (now (s .exit)) ≡ systemDone k w (now (packed .entry)) (elements (now (x .entry))) (systemIn n a b c d (entriesOfRecords (now (es .entry)))) q (from r (now (s .entry))) ⌝ }
+    ensures { λ f. ⌜ from f (now (s .exit)) ≡ systemDone k w (now (packed .entry)) (now (x .entry)) (systemIn n a b c d (entriesOfRecords (now (es .entry)))) q (from r (now (s .entry))) ⌝ }
 {
     let mut acc = r;
     let mut u = 0;
@@ -175,8 +175,8 @@ fn judge(
     packed: &[u64],
     x: &[u64],
 ) -> Failing
-    ensures { λ f. ⌜ (let R = relationOf (rulesOver m q [] sh (entriesOfRecords (now (es .entry)))) in (f ≡ cond (eqb z 0) (bothDone R w (now (packed .entry)) (elements (now (x .entry))) (now (s .entry)) .found) nothing)
-        × (now (s .exit) ≡ cond (eqb z 0) (bothWords R w (now (packed .entry)) (elements (now (x .entry))) (now (s .entry))) (now (s .entry)))) ⌝ }
+    ensures { λ f. ⌜ (let R = relationOf (rulesOver m q [] sh (entriesOfRecords (now (es .entry)))) in (f ≡ cond (eqb z 0) (bothDone R w (now (packed .entry)) (now (x .entry)) (now (s .entry)) .found) nothing)
+        × (now (s .exit) ≡ cond (eqb z 0) (bothWords R w (now (packed .entry)) (now (x .entry)) (now (s .entry))) (now (s .entry)))) ⌝ }
 {
     let bin = 1;
     let fld = 2;

@@ -1,11 +1,14 @@
 // Folds at a point over the logins.
 use crate::room;
+use magnetar_field::gf128;
 use magnetar_field::gf128::Evaluated;
 use magnetar_field::gf128::Gf128;
 use magnetar_field::gf128::ONE;
+use magnetar_field::gf128::ZERO;
 use magnetar_field::sizes;
 use magnetar_field::words;
 use magnetar_layout::tests;
+use magnetar_matrix::columns;
 use magnetar_matrix::step;
 use magnetar_multilinear::eq::EqBits;
 use magnetar_multilinear::multilinear;
@@ -13,17 +16,16 @@ use magnetar_r1cs::r1cs;
 ghost use mathlib.Core.Path.{_≡_};
 ghost use Prim.Native.Nat.{_+_, _*_, _/_, _%_, _<_, _≤_};
 ghost use mathlib.Core.List.{_++_};
-ghost use lib.ListN.{length, drop, replicate};
-ghost use Rattle.magnetar_field.specs.Gf128.{value};
+ghost use lib.ListN.{length, take, drop, replicate};
+ghost use Rattle.magnetar_field.specs.Gf128.{value, _⊗_};
 ghost use Rattle.magnetar_field.specs.Words.{elements, words};
 ghost use Rattle.magnetar_multilinear.specs.Multilinear.{mle};
 ghost use Rattle.magnetar_multilinear.specs.Entries.{answer, answered, mleRefusal, mleScratch};
 ghost use Rattle.magnetar_field.specs.Tabulate.{tabulate};
 ghost use Rattle.magnetar_multilinear.specs.EqTable.{eqTable};
-ghost use Rattle.magnetar_matrix.specs.Batch.{publicHalf};
-ghost use Rattle.magnetar_matrix.specs.Packed.{loginWords};
+ghost use Rattle.magnetar_matrix.specs.Packed.{loginWords, publicWords};
 ghost use Rattle.magnetar_matrix.specs.Table.{raised, Point};
-ghost use Rattle.magnetar_batch.specs.Fold.{selectAt, wordSelect, rowSelect, foldSum};
+ghost use Rattle.magnetar_batch.specs.Fold.{selectAt, wordSelect, rowSelect, foldSum, halfTimes, halfSum};
 ghost use Rattle.magnetar_batch.specs.Entries.{foldRefusal, foldOut, foldScratch, foldInRefusal, foldInOut, publicInRefusal, publicInOut};
 
 // The fold of a vector with an element for each login. 11: an odd number of words or over 20 elements in the point, or the vector is
@@ -189,17 +191,79 @@ pub fn fold_packed_in(packed: &[u64], q: usize, w: usize, point: &[u64], s: &mut
     0
 }
 
-// The public half of a login with the public words x: 1, then x.
-fn put_public(x: &[u64], s: &mut [u64])
-    requires { ⌜ (length (now s) ≡ length (now x) + 2) × (length (now x) % 2 ≡ 0) ⌝ }
-    ensures { λ _. ⌜ now (s .exit) ≡ words (publicHalf (elements (now (x .entry))) 0) ⌝ }
+// v times e, by a mask where one of them is 0 or 1.
+fn times(v: Gf128, e: Gf128) -> Gf128
+    ensures { λ r. ⌜ value r ≡ value e ⊗ value v ⌝ }
 {
-    words::put(s, 0, ONE);
-    words::copy(x, &mut s[2..]);
+    if gf128::is_bit(v) {
+        return gf128::mul_bit(e, v);
+    }
+    step::scale(e, v)
 }
 
-// The public halves of all logins folded at the point, in the first 2w words of s: the half that they share. 1: w or q; 3: the public
-// words; 11: the point; 15: s is shorter.
+// Adds e times the public half (1, x) of the login whose public words these are to the elements in front.
+fn add_half(x: &[u64], e: Gf128, s: &mut [u64])
+    ensures { λ _. ⌜ elements (now (s .exit)) ≡ raised (halfTimes (elements (now (x .entry))) (value e)) (elements (now (s .entry))) ⌝ }
+{
+    let n = x.len() / 2;
+    let mut j = 0;
+    while j < n {
+        let k = j + 1;
+        step::add_at(s, k, times(words::get(x, j), e));
+        j = k;
+    }
+    step::add_at(s, 0, e);
+}
+
+// e times the public half of the login with the first l words of x is added, and 0 is left; but where more than one login is left and the
+// next one has the same columns, e is held back for it.
+fn add_or_hold(x: &[u64], l: usize, left: usize, e: Gf128, s: &mut [u64]) -> Gf128
+    requires { ⌜ l ≤ length (now x) ⌝ }
+    ensures { λ r. ⌜ (raised (halfTimes (elements (take l (drop l (now (x .entry))))) (value r)) (elements (now (s .exit))) ≡ raised (halfTimes (elements (take l (now (x .entry)))) (value e)) (elements (now (s .entry)))) × (left ≤ 1 → value r ≡ 0) ⌝ }
+{
+    if left > 1 {
+        if columns::repeats(x, l) {
+            return e;
+        }
+    }
+    add_half(&x[..l], e, s);
+    ZERO
+}
+
+// Adds each login's public half, times the login's element: login u's is that at index w + u. Logins that follow each other and have the
+// same columns are added at once.
+fn add_halves(x: &[u64], q: usize, w: usize, s: &mut [u64])
+    requires { ⌜ (1 ≤ w) × (w ≤ 32768) × (q ≤ 4096) × (length (now x) ≡ q * publicWords w) ⌝ }
+    ensures { λ _. ⌜ elements (now (s .exit)) ≡ raised (halfSum w (now (x .entry)) (drop w (elements (now (s .entry)))) q) (elements (now (s .entry))) ⌝ }
+{
+    let l = 2 * w - 2;
+    let mut e = ZERO;
+    let mut u = 0;
+    while u < q {
+        let a = u * l;
+        let at = w + u;
+        let f = gf128::add(e, words::get(s, at));
+        e = add_or_hold(&x[a..], l, q - u, f, s);
+        u += 1;
+    }
+}
+
+// The folded public half of w columns, and q elements 0 behind it.
+fn fold_halves(x: &[u64], q: usize, w: usize, point: &[u64], s: &mut [u64])
+    requires { ⌜ (1 ≤ w) × (w ≤ 32768) × (q ≤ 4096) × (length (now x) ≡ q * publicWords w) ⌝ }
+    requires { ⌜ length (now s) ≡ 2 * w + 2 * q ⌝ }
+    requires { ⌜ Point (now point) (drop (2 * w) (now s)) ⌝ }
+    ensures { λ _. ⌜ now (s .exit) ≡ words (tabulate (halfSum w (now (x .entry)) (eqTable (elements (now (point .entry)))) q) w) ++ replicate (2 * q) 0 ⌝ }
+{
+    let k = 2 * w;
+    words::clear(s);
+    room::eq_behind(s, k, point, ONE);
+    add_halves(x, q, w, s);
+    room::clear_behind(s, k);
+}
+
+// The public halves of all logins folded at the point, within one slice: the folded half in its first 2w words, and the next 2q words 0.
+// 1: w or q; 3: the public words; 11: the point; 15: s is shorter.
 pub fn fold_public_in(x: &[u64], q: usize, w: usize, point: &[u64], s: &mut [u64]) -> u32
     ensures answer { λ r. ⌜ r ≡ publicInRefusal (now (x .entry)) q w (now (point .entry)) (now (s .entry)) ⌝ }
     ensures folded { λ _. ⌜ now (s .exit) ≡ publicInOut (now (x .entry)) q w (now (point .entry)) (now (s .entry)) ⌝ }
@@ -209,13 +273,13 @@ pub fn fold_public_in(x: &[u64], q: usize, w: usize, point: &[u64], s: &mut [u64
     if n != 0 {
         return n;
     }
-    let end = 2 * w;
-    let n = tests::refuse(0, 3, x.len() != end - 2);
+    let end = 2 * w + 2 * q;
+    let n = tests::refuse(0, 3, x.len() != q * (2 * w - 2));
     let n = tests::refuse(n, 11, point.len() != 2 * sizes::log2(q));
     let n = tests::refuse(n, 15, s.len() < end);
     if n != 0 {
         return n;
     }
-    put_public(x, &mut s[..end]);
+    fold_halves(x, q, w, point, &mut s[..end]);
     0
 }

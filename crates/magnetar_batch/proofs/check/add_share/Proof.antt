@@ -8,6 +8,9 @@ use Rattle.magnetar_batch.proofs.check.add_share.Tie as tie
 part-requires : tie.Need-part-requires
 part-requires c κs = search needs
 
+columns-requires : tie.Need-columns-requires
+columns-requires c κs = search needs
+
 add-share-of-requires : tie.Need-add-share-of-requires
 add-share-of-requires c κs = search needs
 
@@ -16,7 +19,7 @@ same-length c = search needs
 
 returns : tie.Need-returns
 unfolding loginZ
-returns c = rw (c .before .before .add-share-of .ensures, c .before .before .before .part .ensures)
+returns c = rw (c .before .before .add-share-of .ensures, c .before .before .before .before .columns .ensures, c .before .before .before .before .before .part .ensures)
 
 pub add-share-spec : {M : Type 1} → statement M
-add-share-spec = tie.close (tie.spec part-requires add-share-of-requires same-length returns)
+add-share-spec = tie.close (tie.spec part-requires columns-requires add-share-of-requires same-length returns)

@@ -5,7 +5,6 @@ use Prim.Native.Nat.{ℕ, _-_, _≤_}
 use native.Mathlib.Omega.{arith}
 use lib.ListN.{length}
 use denote.Ref.{now}
-use Rattle.magnetar_field.specs.Words.{elements}
 use Rattle.magnetar_matrix.specs.Matrix.{System}
 use Rattle.magnetar_matrix.specs.Lent.{entriesOf}
 use Rattle.magnetar_relation.specs.Rules.{systemAt}
@@ -17,7 +16,7 @@ use Rattle.magnetar_batch.proofs.check.check_system.Tie as tie
 
 abbrev Inv-loop : tie.InvT-loop
 Inv-loop k s₀ q t a w packed x row col lo hi f₀ u₀ s f u =
-    (length s ≡ length s₀) × (u ≤ q) × (from f s ≡ systemDone k w packed (elements x) (systemAt t a (entriesOf row col lo hi)) u (from f₀ s₀))
+    (length s ≡ length s₀) × (u ≤ q) × (from f s ≡ systemDone k w packed x (systemAt t a (entriesOf row col lo hi)) u (from f₀ s₀))
 
 abbrev μ-loop : tie.MeasureT-loop
 μ-loop k s₀ q t a w packed x row col lo hi f₀ u₀ s f u = q - u
@@ -29,7 +28,7 @@ loop-holds : tie.Need-loop-holds Inv-loop μ-loop
 loop-holds c =
     let s = (c .before .before .before .before .before .before .before) in
     let x = s .args in
-    (refl, omega arith, system-start (x .k) (x .w) (now (x .packed)) (elements (now (x .x))) (sys s) (from (x .r) (now (x .s))))
+    (refl, omega arith, system-start (x .k) (x .w) (now (x .packed)) (now (x .x)) (sys s) (from (x .r) (now (x .s))))
 
 login-unless-requires : tie.Need-login-unless-requires Inv-loop μ-loop
 login-unless-requires c κs = search needs
@@ -48,7 +47,7 @@ loop-again c =
     let r = c .before .before .login-unless in (
       r .kept .1 .1 .1 .0 ∙ l .inv .0,
       omega arith,
-      system-more (x .k) (x .w) (now (x .packed)) (elements (now (x .x))) (sys s) (l .u) (from (x .r) (now (x .s))) _ _ (l .inv .2) (r .ensures),
+      system-more (x .k) (x .w) (now (x .packed)) (now (x .x)) (sys s) (l .u) (from (x .r) (now (x .s))) _ _ (l .inv .2) (r .ensures),
     )
 
 same-length : tie.Need-same-length Inv-loop μ-loop
@@ -60,7 +59,7 @@ returns c =
     let x = s .args in
     let l = c .before .loop in
     let e : l .u ≡ x .q = omega (arith, l .inv .1) in
-    l .inv .2 ∙ ap (λ (u : ℕ). systemDone (x .k) (x .w) (now (x .packed)) (elements (now (x .x))) (sys s) u (from (x .r) (now (x .s)))) e
+    l .inv .2 ∙ ap (λ (u : ℕ). systemDone (x .k) (x .w) (now (x .packed)) (now (x .x)) (sys s) u (from (x .r) (now (x .s)))) e
 
 pub check-system-spec : {M : Type 1} → statement M
 check-system-spec =

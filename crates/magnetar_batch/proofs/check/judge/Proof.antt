@@ -1,7 +1,6 @@
 -- `magnetar_batch::check::judge` meets its contract.
 -- Assumes nothing.
 use denote.Ref.{now}
-use Rattle.magnetar_field.specs.Words.{elements}
 use Rattle.magnetar_matrix.specs.Lent.{entriesOf}
 use Rattle.magnetar_batch.proofs.RowWalk.{judge-cut}
 use borrow.Author.Needs.{needs}
@@ -40,7 +39,7 @@ returns c =
     let e₁ = c .before .before .before .before .before .before .before .before .before .before .check-system .ensures in
     let e₂ = c .before .before .before .before .before .before .check-system2 .ensures in
     let e₃ = c .before .before .clear-room .ensures in
-    judge-cut (x .q) (x .w) (now (x .packed)) (elements (now (x .x))) (x .sh) es _ _ h a (now (x .s)) _ _ _ _ _ _ e₀ e₁ e₂ e₃
+    judge-cut (x .q) (x .w) (now (x .packed)) (now (x .x)) (x .sh) es _ _ h a (now (x .s)) _ _ _ _ _ _ e₀ e₁ e₂ e₃
 
 pub judge-spec : {M : Type 1} → statement M
 judge-spec =

@@ -2,7 +2,6 @@
 -- Assumes nothing.
 use mathlib.Core.Path.{sym, _∙_}
 use denote.Ref.{now}
-use Rattle.magnetar_field.specs.Words.{elements}
 use Rattle.magnetar_matrix.specs.Matrix.{System}
 use Rattle.magnetar_matrix.specs.Lent.{entriesOf}
 use Rattle.magnetar_relation.specs.Rules.{systemAt}
@@ -21,6 +20,9 @@ is-nothing-requires c κs = search needs
 part-requires : tie.Need-part-requires
 part-requires c κs = search needs
 
+columns-requires : tie.Need-columns-requires
+columns-requires c κs = search needs
+
 check-login-requires : tie.Need-check-login-requires
 check-login-requires c κs = search needs
 
@@ -30,16 +32,17 @@ same-length c = search needs
 returns : tie.Need-returns
 returns c =
     let d = c .before .before .before .before in
-    let s = d .before .before .before .before .before .before .before .before .before .before in
+    let e = d .before in
+    let s = d .before .before .before .before .before .before .before .before .before .before .before in
     let x = s .args in
-    let n = sym (d .before .before .is-nothing .ensures) ∙ d .before .if1 .taken in
-    unless-cut (x .k) (x .w) (now (x .packed)) (elements (now (x .x))) (sys s) (x .u) _ (d .part .ensures) (x .r) _ (now (x .s)) _ n (c .before .before .check-login .ensures)
+    let n = sym (d .before .before .before .is-nothing .ensures) ∙ d .before .before .if1 .taken in
+    unless-cut (x .k) (x .w) (now (x .packed)) (now (x .x)) (sys s) (x .u) _ _ (e .part .ensures) (d .columns .ensures) (x .r) _ (now (x .s)) _ n (c .before .before .check-login .ensures)
 
 returns-2 : tie.Need-returns-2
 returns-2 c =
     let s = (c .before .before .before .before .before .before .before .before .before) in
     let x = s .args in
-    unless-none (x .k) (loginZ (x .w) (now (x .packed)) (elements (now (x .x))) (x .u)) (sys s) (x .u) (x .r) (now (x .s)) (sym (c .before .is-nothing .ensures) ∙ c .if1 .left)
+    unless-none (x .k) (loginZ (x .w) (now (x .packed)) (now (x .x)) (x .u)) (sys s) (x .u) (x .r) (now (x .s)) (sym (c .before .is-nothing .ensures) ∙ c .if1 .left)
 
 pub login-unless-spec : {M : Type 1} → statement M
 login-unless-spec =
@@ -47,6 +50,7 @@ login-unless-spec =
     (tie.spec
     is-nothing-requires
     part-requires
+    columns-requires
     check-login-requires
     same-length
     returns

@@ -2,12 +2,13 @@
 -- Assumes nothing.
 use mathlib.Core.Path.{_≡_, refl, sym, _∙_}
 use mathlib.Core.List.{_++_}
-use Prim.Native.Nat.{_/_, _≤_}
+use Prim.Native.Nat.{_-_, _/_, _≤_}
 use native.Mathlib.Omega.{arith}
 use Rattle.magnetar_layout.specs.Tests.{Tests, firstRefusal, sizeTests, packedTestsOf, publicTestsOf}
 use Rattle.magnetar_layout.proofs.FirstRefusal.{first-refusal-front, first-refusal-late, first-refusal-clear}
 use Rattle.magnetar_layout.proofs.SizeLaws.{not-bad}
 use Rattle.magnetar_matrix.proofs.LoginParts.{product-most, words-most}
+use Rattle.magnetar_matrix.proofs.Blocks.{product-fits}
 use Rattle.magnetar_relation.specs.RuleTests.{given}
 use Rattle.magnetar_batch.specs.Check.{checkScratchTests}
 use Rattle.magnetar_batch.proofs.CheckEnds.{sixth-over}
@@ -22,7 +23,7 @@ first s = sizeTests (s .args .m) (s .args .q)
 abbrev second : tie.Start → Tests
 second s =
     let x = s .args in
-    packedTestsOf (x .m / 2) (x .q) (x .packed) ++ (publicTestsOf (x .m) (x .x) ++ (given (x .z) ++ checkScratchTests (x .nb) (x .nf) (x .scratch)))
+    packedTestsOf (x .m / 2) (x .q) (x .packed) ++ (publicTestsOf (x .m) (x .q) (x .x) ++ (given (x .z) ++ checkScratchTests (x .nb) (x .nf) (x .scratch)))
 
 early : (c : tie.After-refuse2) → c .refuse2 .result ≡ firstRefusal 0 (first (c .before .before .before .before))
 early c = rw (c .refuse2 .ensures, c .before .is-size2 .ensures, c .before .before .refuse .ensures, c .before .before .before .is-size .ensures)
@@ -68,6 +69,12 @@ refuse-requires-3 c κs = search needs
 sub-refuse : tie.Need-sub-refuse
 sub-refuse c = omega (arith, small (c .before .before) .least)
 
+mul-refuse-2 : tie.Need-mul-refuse-2
+mul-refuse-2 c =
+    let k = small (c .before .before) in
+    let x = c .before .before .before .before .before .before .before .args in
+    omega (arith, product-fits (x .q) (x .m - 2) (k .logins) (omega (arith, k .most)))
+
 refuse-requires-4 : tie.Need-refuse-requires-4
 refuse-requires-4 c κs = search needs
 
@@ -104,6 +111,7 @@ refusal-spec =
     mul-refuse
     refuse-requires-3
     sub-refuse
+    mul-refuse-2
     refuse-requires-4
     refuse-requires-5
     larger-requires

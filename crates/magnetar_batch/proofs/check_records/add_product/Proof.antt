@@ -28,7 +28,6 @@ use Rattle.magnetar_batch.proofs.check_records.add_product.Code as code
 use mathlib.Core.Bool.{cond, _&&_}
 use lib.Dec.{leb, ltb}
 use Rattle.magnetar_matrix.specs.Matrix as matrix
-use Rattle.magnetar_field.specs.Words.{elements}
 use Rattle.magnetar_relation.specs.Steps.{loginZ}
 use Rattle.magnetar_batch.specs.CheckSteps.{shareAdded}
 use Rattle.magnetar_relation.specs.EntryWalks.{foldEntriesWithin}
@@ -37,7 +36,7 @@ use Rattle.magnetar_records.specs.Records.{entryOf, entriesOfRecords}
 
 -- what one entry does
 abbrev one : each.Arg → matrix.Entry → List ℕ → List ℕ
-one a = shareAdded (a .1 .1 .0) (a .1 .1 .1 .0) (loginZ (a .1 .1 .1 .1 .1 .0) (a .1 .1 .1 .1 .1 .1 .1 .1 .0 .now) (elements (a .1 .1 .1 .1 .1 .1 .1 .1 .1 .0 .now)) (a .1 .1 .1 .1 .0))
+one a = shareAdded (a .1 .1 .0) (a .1 .1 .1 .0) (loginZ (a .1 .1 .1 .1 .1 .0) (a .1 .1 .1 .1 .1 .1 .1 .1 .0 .now) (a .1 .1 .1 .1 .1 .1 .1 .1 .1 .0 .now) (a .1 .1 .1 .1 .0))
 
 -- what is left to walk, from what the words are, is what was to be walked at the start
 abbrev left : each.Arg → ℕ → List Entry → List ℕ → List ℕ

@@ -22,7 +22,6 @@ use Rattle.magnetar_batch.proofs.check_records.check_system.Key.{name a
 use Rattle.magnetar_batch.proofs.check_records.check_system as f
 use Rattle.magnetar_batch.proofs.check_records.check_system.Statement as stated
 use Rattle.magnetar_batch.proofs.check_records.check_system.Code as code
-use Rattle.magnetar_field.specs.Words.{elements}
 use Rattle.magnetar_matrix.specs.Matrix.{System}
 use Rattle.magnetar_relation.specs.Steps.{loginZ}
 use Rattle.magnetar_batch.specs.declared.check.Failing.{Failing}
@@ -31,7 +30,7 @@ use Rattle.magnetar_batch.proofs.RowWalk.{system-start, system-more}
 use Rattle.magnetar_records.specs.Records.{entriesOfRecords}
 use Rattle.magnetar_batch.specs.Ranges.{systemIn}
 
--- the number of witness columns, the packed words, the public elements, the system, and the state at the start
+-- the number of witness columns, the packed words, the public words, the system, and the state at the start
 abbrev cols : count.Arg → ℕ
 cols a = a .1 .1 .1 .1 .1 .1 .1 .1 .1 .0
 
@@ -39,7 +38,7 @@ abbrev packed : count.Arg → List ℕ
 packed a = a .1 .1 .1 .1 .1 .1 .1 .1 .1 .1 .0 .now
 
 abbrev public : count.Arg → List ℕ
-public a = elements (a .1 .1 .1 .1 .1 .1 .1 .1 .1 .1 .1 .0 .now)
+public a = a .1 .1 .1 .1 .1 .1 .1 .1 .1 .1 .1 .0 .now
 
 abbrev system : count.Arg → System
 system a = systemIn (a .1 .1 .1 .1 .0) (a .1 .1 .1 .1 .1 .0) (a .1 .1 .1 .1 .1 .1 .0) (a .1 .1 .1 .1 .1 .1 .1 .0) (a .1 .1 .1 .1 .1 .1 .1 .1 .0)

@@ -47,7 +47,6 @@ use denote.Triple.Clauses.{Lasts, lasts, atExit}
 use denote.Exit.{yes}
 use Rattle.magnetar_batch.proofs.RowWalk.{unless-some, unless-none}
 use Rattle.magnetar_records.specs.Records.{entriesOfRecords}
-use Rattle.magnetar_field.specs.Words.{elements}
 use Rattle.magnetar_relation.specs.Steps.{loginZ}
 use Rattle.magnetar_batch.specs.Ranges.{systemIn}
 use Rattle.magnetar_batch.specs.declared.check.Failing.{Failing}
@@ -512,7 +511,7 @@ module _ {M : Type 1} (𝓤 : URA M) (H : Heap 𝓤) (A : Atoms 𝓤) (W : Given
               ),
             ),
           ),
-        )) $ says ! (unless-some n2 (loginZ n10 (s11 .now) (elements (s12 .now)) n3)
+        )) $ says ! (unless-some n2 (loginZ n10 (s11 .now) (s12 .now) n3)
         (systemIn n5 n6 n7 n8 n9 (entriesOfRecords (s13 .now))) n3 n1 r2 ys4 (ws2 .1 .1 .1 .0) (sym e1 ∙ b1) e2) $
         nothing ! $ move ! (3 ∷ 0 ∷ []) $ join ! $ move ! (3 ∷ 0 ∷ []) $ join ! $ move ! (3 ∷ 0 ∷ []) $ join ! $ move ! (2 ∷ 0 ∷ []) $ join ! $
         nothing ! $ move ! (3 ∷ 0 ∷ []) $ fjoin ! $ move ! (3 ∷ 0 ∷ []) $ fjoin ! $ move ! (3 ∷ 0 ∷ []) $ fjoin ! $ move ! (3 ∷ 0 ∷ []) $ fjoin !
@@ -601,7 +600,7 @@ module _ {M : Type 1} (𝓤 : URA M) (H : Heap 𝓤) (A : Atoms 𝓤) (W : Given
               ),
             ),
           ),
-        )) $ says ! (unless-none n2 (loginZ n10 (s11 .now) (elements (s12 .now)) n3) (systemIn n5 n6
+        )) $ says ! (unless-none n2 (loginZ n10 (s11 .now) (s12 .now) n3) (systemIn n5 n6
         n7 n8 n9 (entriesOfRecords (s13 .now))) n3 n1 ys4 (sym e1 ∙ b1)) $
         nothing ! $ move ! (1 ∷ 0 ∷ []) $ join ! $ move ! (1 ∷ 0 ∷ []) $ join ! $ move ! (1 ∷ 0 ∷ []) $ join ! $ move ! (1 ∷ 0 ∷ []) $ join ! $
         nothing ! $ move ! (2 ∷ 0 ∷ []) $ fjoin ! $ move ! (2 ∷ 0 ∷ []) $ fjoin ! $ move ! (2 ∷ 0 ∷ []) $ fjoin ! $ move ! (2 ∷ 0 ∷ []) $ fjoin !

@@ -47,7 +47,6 @@ use denote.Triple.Clauses.{Lasts, lasts, atExit}
 use denote.Exit.{yes}
 use Rattle.magnetar_batch.proofs.CheckWalk.{product-ends}
 use Rattle.magnetar_records.specs.Records.{entriesOfRecords}
-use Rattle.magnetar_field.specs.Words.{elements}
 use Rattle.magnetar_relation.specs.Steps.{loginZ}
 use Rattle.magnetar_records.specs.declared.records.Entry.{Entry}
 use Rattle.magnetar_records.proofs.records.Entry as mEntry
@@ -492,7 +491,7 @@ module _ {M : Type 1} (𝓤 : URA M) (H : Heap 𝓤) (A : Atoms 𝓤) (W : Given
               ),
             ),
           ),
-        )) $ says ! (product-ends n3 n4 (loginZ n6 (s9 .now) (elements (s10 .now)) n5) n7 n8 (entriesOfRecords (s1
+        )) $ says ! (product-ends n3 n4 (loginZ n6 (s9 .now) (s10 .now) n5) n7 n8 (entriesOfRecords (s1
         .now)) ys2 (ws1 .0) (ws2 .1 .0) e1 e2) $
         nothing ! $ move ! (3 ∷ 0 ∷ []) $ join ! $ move ! (3 ∷ 0 ∷ []) $ join ! $ move ! (2 ∷ 0 ∷ []) $ join ! $ move ! (2 ∷ 0 ∷ []) $ join ! $
         nothing ! $ move ! (3 ∷ 0 ∷ []) $ fjoin ! $ move ! (3 ∷ 0 ∷ []) $ fjoin ! $ move ! (4 ∷ 0 ∷ []) $ fjoin ! $ move ! (4 ∷ 0 ∷ []) $ fjoin !

@@ -72,7 +72,7 @@ returns c =
     finished (foldSum (x .w) (now (x .packed)) (eqTable (elements (now (x .point)))) (x .q)) (x .w) (x .q) (c .before .before .before .before .before
     .before .add-logins-in .last .1 .1 .1 .0) (c .before .before .clear-behind .last .0)
     (omega (arith, a, b, d, r)) (λ i. omega (arith, c .slice-known5 .given i))
-    (one-slice (x .w) (x .q) (2 * x .w + tableWords (now (x .point))) (now (x .packed)) (elements (now (x .point))) (c .before .before .before
+    (one-slice (λ fs. foldSum (x .w) (now (x .packed)) fs (x .q)) (x .w) (x .q) (2 * x .w + tableWords (now (x .point))) (elements (now (x .point))) (c .before .before .before
     .before .before .before .before .before .before .before .before .before .before .before .clear .last .0) (c .before .before .before .before
     .before .before .before .before .before .before .eq-behind .last .0) (c .before .before .before .before .before .before .add-logins-in .last
     .1 .1 .1 .0) z k (c .before .before .before .before .before .before .before .before .before .before .eq-behind .ensures) (c .before .before
