@@ -14,7 +14,7 @@ use Rattle.magnetar_sumcheck_verifier.specs.Round.{running}
 use Rattle.magnetar_sumcheck_verifier.specs.Outer.{outerEnd}
 use Rattle.magnetar_sumcheck_verifier.specs.Inner.{innerEnd}
 use Rattle.magnetar_sumcheck_verifier.proofs.Verifier.{MessagesBelow, checks-passes, running-is}
-use Rattle.magnetar_matrix.specs.Batch.{Relation}
+use Rattle.magnetar_matrix.specs.Batch.{Relation, PublicColumns}
 use Rattle.magnetar_theory.specs.SumCheck.{Checks, running as runningE}
 use Rattle.magnetar_theory.specs.Run.{Accepted}
 use Rattle.magnetar_theory.specs.Gf128.{Element, element, gf128}
@@ -24,7 +24,7 @@ use Rattle.magnetar_protocol.specs.Proof.{part, binMessages, fldMessages
 use Rattle.magnetar_protocol.specs.Draws.{Draws}
 use Rattle.magnetar_protocol.specs.Checks.{innerClaim}
 use Rattle.magnetar_protocol.specs.Theory.{els, relationE, publicE, drawsE, proofE}
-use Rattle.magnetar_protocol.specs.RunSizes.{SizedRelation, Elements}
+use Rattle.magnetar_protocol.specs.RunSizes.{SizedRelation, SizedPublic, Elements}
 use Rattle.magnetar_protocol.proofs.Elements.{map-append, dot-lt}
 use Rattle.magnetar_protocol.proofs.Pieces.{bin-are, fld-are, inner-are, vz-is}
 use Rattle.magnetar_protocol.proofs.SizeFacts.{cols-suc, Cut, inner-is}
@@ -61,7 +61,7 @@ running-lt c [] rs h b = h
 running-lt c (m ∷ ms) [] h b = h
 running-lt c (m ∷ ms) (r ∷ rs) h b = running-lt (eval m r) ms rs (eval-lt m r (b .0)) (b .1)
 
-module _ (r : Relation) (x w : List ℕ) (D : Draws) (R : SizedRelation r) (C : Cut r D) (long : length w ≡ proofElements r)
+module _ (r : Relation) (w : List ℕ) (D : Draws) (R : SizedRelation r) (C : Cut r D) (long : length w ≡ proofElements r)
     (E : Elements w) where
   parts-below : (n o : ℕ) → AllBelow (2 ^ 128) (part o n w)
   parts-below n o = take-below n (drop o w) (drop-below o w (all-below w E))
@@ -94,8 +94,8 @@ module _ (r : Relation) (x w : List ℕ) (D : Draws) (R : SizedRelation r) (C : 
   unfolding valueZ
   value-lt = E (beforeEnd r)
 
-  pub holds : Accepted gf128 (relationE r) (publicE x) (drawsE r D) (proofE r w) → Holds r x w D
-  holds A = record {
+  pub holds : (x : PublicColumns) → SizedPublic r x → Accepted gf128 (relationE r) (publicE x) (drawsE r D) (proofE r w) → Holds r x w D
+  holds x X A = record {
     bin = checks-passes 0 (binMessages r w) (D .shared ++ D .rowBin) (pow-pos 128) bin-below
         (subst₂ (Checks gf128 (element 0)) (bin-are r w) (sym (map-append element (D .shared) (D .rowBin))) (A .bin-rounds));
     fld = checks-passes 0 (fldMessages r w) (D .shared ++ D .rowFld) (pow-pos 128) fld-below
@@ -104,21 +104,21 @@ module _ (r : Relation) (x w : List ℕ) (D : Draws) (R : SizedRelation r) (C : 
         (unfold outerEnd in ⊗-lt _ _)
         (running-is 0 (binMessages r w) (D .shared ++ D .rowBin)
         ∙ ap₂ (runningE gf128 (element 0)) (sym (bin-are r w)) (map-append element (D .shared) (D .rowBin)) ∙ A .bin-terminal
-        ∙ sym (bin-end-is r x w D R C long));
+        ∙ sym (bin-end-is r w D R C long));
     fld-end = element-inj _ _ (running-lt 0 (fldMessages r w) (D .shared ++ D .rowFld) (pow-pos 128) fld-below)
         (unfold outerEnd in ⊗-lt _ _)
         (running-is 0 (fldMessages r w) (D .shared ++ D .rowFld)
         ∙ ap₂ (runningE gf128 (element 0)) (sym (fld-are r w)) (map-append element (D .shared) (D .rowFld)) ∙ A .fld-terminal
-        ∙ sym (fld-end-is r x w D R C long));
+        ∙ sym (fld-end-is r w D R C long));
     inner = checks-passes (innerClaim r w D) (innerRounds r w) (D .inner) claim-lt inner-below
         (subst (λ (ms : List (List Element)). Checks gf128 (element (innerClaim r w D)) ms (els (D .inner))) (inner-are r w (cols-suc r R))
-        (subst₂ (λ (c : Element) (rs : List Element). Checks gf128 c ((proofE r w) .innerMs) rs) (sym (claim-is r x w D R C long))
+        (subst₂ (λ (c : Element) (rs : List Element). Checks gf128 c ((proofE r w) .innerMs) rs) (sym (claim-is r w D R C long))
         (inner-is r R D C) (A .inner-rounds)));
     inner-end = element-inj _ _ (running-lt (innerClaim r w D) (innerRounds r w) (D .inner) claim-lt inner-below)
         (unfold innerEnd in ⊗-lt _ _)
         (running-is (innerClaim r w D) (innerRounds r w) (D .inner)
-        ∙ (λ i. runningE gf128 (claim-is r x w D R C long i) (sym (inner-are r w (cols-suc r R)) i) (sym (inner-is r R D C) i))
-        ∙ A .inner-terminal ∙ sym (inner-end-is r x w D R C long));
+        ∙ (λ i. runningE gf128 (claim-is r w D R C long i) (sym (inner-are r w (cols-suc r R)) i) (sym (inner-is r R D C) i))
+        ∙ A .inner-terminal ∙ sym (inner-end-is r w D R C long));
     identity = element-inj _ _ (⊕-lt 128 _ _ (⊗-lt _ _) (⊗-lt _ _)) value-lt
-        (identity-is r x w D R C long ∙ sym (A .identity) ∙ vz-is r w (cols-suc r R));
+        (identity-is r w D R C long x X ∙ sym (A .identity) ∙ vz-is r w (cols-suc r R));
   }

@@ -2,7 +2,7 @@
 -- Assumes nothing.
 use mathlib.Core.Path.{_≡_, refl, sym, ap, ap₂, _∙_, subst, subst₂}
 use mathlib.Core.List.{List, [], _∷_, _++_, reverse}
-use Prim.Native.Nat.{ℕ, suc, _+_, _≤_}
+use Prim.Native.Nat.{ℕ, suc, _+_, _/_, _≤_}
 use native.Mathlib.Nat.{add-zero}
 use native.Mathlib.Omega.{arith}
 use lib.ListN.{length, getD, take, drop, length-drop}
@@ -14,10 +14,10 @@ use Rattle.magnetar_sumcheck_verifier.specs.Outer.{outerEnd}
 use Rattle.magnetar_sumcheck_verifier.specs.Inner.{innerEnd}
 use Rattle.magnetar_sumcheck_verifier.proofs.Verifier.{passes-checks, running-is}
 use Rattle.magnetar_sumcheck_verifier.proofs.Protocol.{element-mle, element-eqPoints}
-use Rattle.magnetar_matrix.specs.Batch.{Relation}
+use Rattle.magnetar_matrix.specs.Batch.{Relation, PublicColumns, publicFolded}
 use Rattle.magnetar_theory.specs.SumCheck.{Checks, running as runningE}
 use Rattle.magnetar_theory.specs.EqTable.{eqTable as eqTableE, dot as dotE, eqProduct}
-use Rattle.magnetar_theory.specs.Run.{Accepted, terminals as terminalsE, segSum, combo, inner}
+use Rattle.magnetar_theory.specs.Run.{Accepted, terminals as terminalsE, segSum, combo, foldedHalf, inner}
 use Rattle.magnetar_theory.specs.Gf128.{Element, element, elementSum, elementProduct, gf128}
 use Rattle.magnetar_theory.proofs.Gf128.{element-⊕, element-⊗}
 use Rattle.magnetar_protocol.specs.Shape.{logCols, beforeTerminals, beforeEnd, proofElements}
@@ -25,12 +25,13 @@ use Rattle.magnetar_protocol.specs.Proof.{binMessages, fldMessages, term
 use Rattle.magnetar_protocol.specs.Draws.{Draws, loginPoint, lowPoint, topElement}
 use Rattle.magnetar_protocol.specs.Checks.{innerClaim, combined, segmentSum}
 use Rattle.magnetar_protocol.specs.Theory.{els, logHalf, relationE, publicE, drawsE, proofE}
-use Rattle.magnetar_protocol.specs.RunSizes.{SizedRelation}
+use Rattle.magnetar_protocol.specs.RunSizes.{SizedRelation, SizedPublic}
 use Rattle.magnetar_protocol.proofs.Elements.{map-append, map-reverse, els-at, element-dot}
 use Rattle.magnetar_protocol.proofs.Pieces.{bin-are, fld-are, inner-are, vz-is, values-of, terminal-is}
 use Rattle.magnetar_protocol.proofs.SizeFacts.{cols-suc, Cut, inner-is}
 use Rattle.magnetar_protocol.proofs.Combined.{combined-is}
 use Rattle.magnetar_protocol.proofs.SegmentSums.{segments-sum}
+use Rattle.magnetar_protocol.proofs.Folds.{halves-folded}
 use Rattle.magnetar_protocol.proofs.Verdict.{Holds}
 
 -- ---- the terminals
@@ -66,7 +67,7 @@ end-is tau point login a b c =
     ∙ ap (λ (l : List Element). els point ++ l) (map-reverse element login)))
     (element-⊕ (a ⊗ b) c ∙ ap (λ (e : Element). elementSum e (element c)) (element-⊗ a b))
 
-module _ (r : Relation) (x w : List ℕ) (D : Draws) (R : SizedRelation r) (C : Cut r D) (long : length w ≡ proofElements r) where
+module _ (r : Relation) (w : List ℕ) (D : Draws) (R : SizedRelation r) (C : Cut r D) (long : length w ≡ proofElements r) where
   cols : logCols r ≡ suc (logHalf r)
   cols = cols-suc r R
 
@@ -110,20 +111,24 @@ module _ (r : Relation) (x w : List ℕ) (D : Draws) (R : SizedRelation r) (C : 
   unfolding segmentValues
   values-length = length-drop (beforeEnd r + 1) w ∙ omega arith
 
-  pub identity-is : element ((1 ⊕ topElement r D) ⊗ segmentSum (r .lengths) (lowPoint r D) 0 (segmentValues r w) ⊕ topElement r D ⊗ mle (1 ∷ x) (lowPoint r D))
+  pub identity-is : (x : PublicColumns) → SizedPublic r x
+      → element ((1 ⊕ topElement r D) ⊗ segmentSum (r .lengths) (lowPoint r D) 0 (segmentValues r w)
+      ⊕ topElement r D ⊗ mle (publicFolded (r .q) (r .m / 2) x (loginPoint D)) (lowPoint r D))
       ≡ elementSum (elementProduct (elementSum (element 1) (element (topElement r D)))
       (segSum gf128 ((relationE r) .segs) (els (lowPoint r D)) ((proofE r w) .values)))
-      (elementProduct (element (topElement r D)) (dotE gf128 (eqTableE gf128 (els (lowPoint r D))) (publicE x)))
-  identity-is =
+      (elementProduct (element (topElement r D)) (dotE gf128 (eqTableE gf128 (els (lowPoint r D)))
+      (foldedHalf gf128 (relationE r) (publicE x) (els (D .shared)))))
+  identity-is x X =
       element-⊕ _ _ ∙ ap₂ elementSum
       (element-⊗ (1 ⊕ topElement r D) (segmentSum (r .lengths) (lowPoint r D) 0 (segmentValues r w)) ∙ ap₂ elementProduct (element-⊕ 1 (topElement r D))
       (sym (ap (segSum gf128 ((relationE r) .segs) (els (lowPoint r D))) (values-of r w cols)
       ∙ segments-sum r D R C (segmentValues r w) values-length)))
-      (element-⊗ (topElement r D) (mle (1 ∷ x) (lowPoint r D))
-      ∙ ap (elementProduct (element (topElement r D))) (element-mle (1 ∷ x) (lowPoint r D)))
+      (element-⊗ (topElement r D) (mle (publicFolded (r .q) (r .m / 2) x (loginPoint D)) (lowPoint r D))
+      ∙ ap (elementProduct (element (topElement r D))) (element-mle (publicFolded (r .q) (r .m / 2) x (loginPoint D)) (lowPoint r D)
+      ∙ ap (dotE gf128 (eqTableE gf128 (els (lowPoint r D)))) (halves-folded r D R C x X)))
 
-  pub accepted : Holds r x w D → Accepted gf128 (relationE r) (publicE x) (drawsE r D) (proofE r w)
-  accepted H = record {
+  pub accepted : (x : PublicColumns) → SizedPublic r x → Holds r x w D → Accepted gf128 (relationE r) (publicE x) (drawsE r D) (proofE r w)
+  accepted x X H = record {
     bin-rounds = subst₂ (Checks gf128 (element 0)) (sym (bin-are r w)) (map-append element (D .shared) (D .rowBin))
         (passes-checks 0 (binMessages r w) (D .shared ++ D .rowBin) (H .bin));
     fld-rounds = subst₂ (Checks gf128 (element 0)) (sym (fld-are r w)) (map-append element (D .shared) (D .rowFld))
@@ -137,5 +142,5 @@ module _ (r : Relation) (x w : List ℕ) (D : Draws) (R : SizedRelation r) (C : 
         (passes-checks (innerClaim r w D) (innerRounds r w) (D .inner) (H .inner)));
     inner-terminal = (λ i. runningE gf128 (sym claim-is i) (inner-are r w cols i) (inner-is r R D C i))
         ∙ sym (running-is (innerClaim r w D) (innerRounds r w) (D .inner)) ∙ ap element (H .inner-end) ∙ inner-end-is;
-    identity = vz-is r w cols ∙ ap element (sym (H .identity)) ∙ identity-is;
+    identity = vz-is r w cols ∙ ap element (sym (H .identity)) ∙ identity-is x X;
   }

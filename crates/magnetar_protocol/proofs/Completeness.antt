@@ -5,7 +5,7 @@ use mathlib.Core.List.{List, _++_}
 use Prim.Native.Nat.{ℕ}
 use lib.ListN.{length}
 use Rattle.magnetar_field.proofs.Tabulation.{tabulate-get}
-use Rattle.magnetar_matrix.specs.Batch.{Relation, Batch, Good}
+use Rattle.magnetar_matrix.specs.Batch.{Relation, Batch, PublicColumns, Good}
 use Rattle.magnetar_theory.specs.Run.{Accepted, Proof}
 use Rattle.magnetar_theory.specs.Gf128.{gf128}
 use Rattle.magnetar_theory.proofs.Whole.{complete}
@@ -26,7 +26,7 @@ use Rattle.magnetar_protocol.proofs.HonestBelow.{honest-elements}
 use Rattle.magnetar_protocol.proofs.HonestRun.{words-are}
 use Rattle.magnetar_protocol.proofs.ClaimParts.{values-true}
 
-module _ (r : Relation) (b : Batch) (x d : List ℕ) (S : SizedRun r b x d) where
+module _ (r : Relation) (b : Batch) (x : PublicColumns) (d : List ℕ) (S : SizedRun r b x d) where
   -- the words are as many as document 01 says, and elements
   pub prover-sized : SizedProof r b x (proverProof r b x d) d
   unfolding proverProof
@@ -53,11 +53,11 @@ module _ (r : Relation) (b : Batch) (x d : List ℕ) (S : SizedRun r b x d) wher
   unfolding verdict proverProof
   honest-accepted g stray =
       of-holds r x (honestProof r b x D) D C
-      (holds r x (honestProof r b x D) D (S .relation) C (honest-length r b x D C) (honest-elements r b x D)
+      (holds r (honestProof r b x D) D (S .relation) C (honest-length r b x D C) (honest-elements r b x D) x (S .public)
       (subst (λ (W : Proof gf128). Accepted gf128 (relationE r) (publicE x) (drawsE r D) W)
-      (sym (words-are r b x D (S .relation) (S .batch) C (S .public)))
+      (sym (words-are r b x D (S .relation) (S .batch) (S .public) C))
       (complete (relationE r) (publicE x) (batchE b) (drawsE r D) (sizes r b D (S .relation) (S .batch) C x (S .public) stray)
-      (good-theory r b x (S .relation) (S .batch) g))))
+      (good-theory r b x (S .relation) (S .batch) (S .public) g))))
     where
       D : Draws
       D = drawsOf r d
@@ -66,7 +66,7 @@ module _ (r : Relation) (b : Batch) (x d : List ℕ) (S : SizedRun r b x d) wher
       C = cut r d (S .draws)
 
 -- Demand 3, second half.
-pub completeness : (r : Relation) (b : Batch) (x d : List ℕ) → Completeness r b x d
+pub completeness : (r : Relation) (b : Batch) (x : PublicColumns) (d : List ℕ) → Completeness r b x d
 completeness r b x d S g stray = record {
   accepted = honest-accepted r b x d S g stray;
   same-claims = same-claims r b x d S;

@@ -27,7 +27,7 @@ use Rattle.magnetar_layout.specs.Layout.{nextMultiple, offsetsFrom, offsets, wi
 use Rattle.magnetar_matrix.specs.Sum.{sumBelow, blocks}
 use Rattle.magnetar_matrix.specs.Matrix.{Matrix, System, sumOver, rowTotal, share, timesAt, times, transpose, mleTable}
 use Rattle.magnetar_matrix.specs.Combined.{combinedTable}
-use Rattle.magnetar_matrix.specs.Batch.{Relation, Batch, batchProducts, bitOf, assignment, foldedAt, folded, claimValue, Satisfied, Good}
+use Rattle.magnetar_matrix.specs.Batch.{Relation, Batch, PublicColumns, batchProducts, bitOf, assignment, foldedAt, folded, publicFoldedAt, publicFolded, claimValue, Satisfied, Good}
 use Rattle.magnetar_theory.specs.Lists.{section, listsOf}
 use Rattle.magnetar_theory.specs.Gf128.{number, element, elementSum, elementProduct, same, rootsOf}
 use Rattle.magnetar_theory.proofs.Gf128.{number-of}
@@ -61,15 +61,18 @@ pub gap-stray : NoBitOutside gapped gapBatch → ⊥
 unfolding outside within offsets offsetsFrom nextMultiple bitOf
 gap-stray f = let e : _≡_ {A = ℕ} 1 0 = f 0 1 (lit< tt) (lit< tt) refl in omega arith
 
+abbrev gapColumns : PublicColumns
+gapColumns = (0 ∷ 0 ∷ 0 ∷ []) ∷ []
+
 abbrev gapDraws : List ℕ
 gapDraws = 1 ∷ 2 ∷ 3 ∷ 4 ∷ 5 ∷ 6 ∷ 7 ∷ 8 ∷ 9 ∷ []
 
 -- no row fails, and the honest proof is refused with 29 all the same: no segment value tells of this bit
-pub gap-refused : verdict gapped (0 ∷ 0 ∷ 0 ∷ []) (proverProof gapped gapBatch (0 ∷ 0 ∷ 0 ∷ []) gapDraws) gapDraws ≡ 29
+pub gap-refused : verdict gapped gapColumns (proverProof gapped gapBatch gapColumns gapDraws) gapDraws ≡ 29
 unfolding log₂ halvings _⊕_ _⊗_ sumTimes timesX tabulate eval eqFactor eqAt eqTable dot mle line insertZero bindVar
     total checkSum holds running eqPoints at₀ at₁ slope outerEnd innerEnd innerSums innerMessage nextVar coefficient₀
     coefficient₁ coefficient₂ weighted timesEq outerMessage dropVar outerNext outerFold outerStart outerMessages
-    innerMessages sumBelow blocks sumOver rowTotal share timesAt times transpose mleTable bitOf assignment foldedAt folded
+    innerMessages sumBelow blocks sumOver rowTotal share timesAt times transpose mleTable bitOf assignment foldedAt folded publicFoldedAt publicFolded
     claimValue nextMultiple offsetsFrom offsets binMessages fldMessages terminals innerRounds valueZ segmentValues drawsOf
     loginPoint lowPoint topElement roundHolds innerClaim combined combinedTable segmentSum sharedChecks rowChecks terminalChecks
     innerChecks identityCheck checks firstFailure verdict trueValue joined interleaved trueValues productTable batchProducts outerRounds
@@ -87,6 +90,10 @@ lie = record { m = 2; q = 1; bin = record { a = reads; b = reads; c = empty 2 };
 abbrev pub lieBatch : Batch
 lieBatch = (0 ∷ []) ∷ []
 
+-- there is no public column
+abbrev pub lieColumns : PublicColumns
+lieColumns = [] ∷ []
+
 -- what the prover says: the terminals 1, 1 and 1, of which the third should be 0; then an inner message of zeros, and v_z
 abbrev pub lieWords : List ℕ
 lieWords = 1 ∷ 1 ∷ 1 ∷ 0 ∷ 0 ∷ 0 ∷ 0 ∷ 0 ∷ 0 ∷ 7 ∷ []
@@ -98,14 +105,14 @@ zeros = 0 ∷ 0 ∷ 0 ∷ 0 ∷ 0 ∷ 0 ∷ 7 ∷ []
 abbrev pub others : List ℕ
 others = 1 ∷ 2 ∷ 3 ∷ 4 ∷ 5 ∷ 6 ∷ 7 ∷ []
 
-pub lie-not-good : Good lie lieBatch [] → ⊥
+pub lie-not-good : Good lie lieBatch lieColumns → ⊥
 unfolding Satisfied assignment timesAt rowTotal sumOver share _⊗_ _⊕_ sumTimes timesX
 lie-not-good g = let e : _≡_ {A = ℕ} 1 0 = g .bin 0 0 (lit< tt) (lit< tt) in omega arith
 
 -- accepted where all alphas are 0, refused with 28 at the others
-pub lie-answers : map (verdict lie [] lieWords) (zeros ∷ others ∷ []) ≡ 0 ∷ 28 ∷ []
+pub lie-answers : map (verdict lie lieColumns lieWords) (zeros ∷ others ∷ []) ≡ 0 ∷ 28 ∷ []
 unfolding log₂ halvings _⊕_ _⊗_ sumTimes timesX tabulate eval eqFactor eqAt eqTable dot mle total checkSum holds running
-    eqPoints outerEnd innerEnd sumOver rowTotal share timesAt times transpose mleTable nextMultiple offsetsFrom offsets
+    eqPoints outerEnd innerEnd sumOver rowTotal share timesAt times transpose mleTable sumBelow publicFoldedAt publicFolded nextMultiple offsetsFrom offsets
     binMessages fldMessages terminals innerRounds valueZ segmentValues drawsOf loginPoint lowPoint topElement roundHolds
     innerClaim combined combinedTable segmentSum sharedChecks rowChecks terminalChecks innerChecks identityCheck checks firstFailure
     verdict
@@ -141,7 +148,7 @@ a-root cs v m = roots-to cs v (2 ^ 128) (le-refl (2 ^ 128)) m
 
 -- the list of draw k
 abbrev listAt : ℕ → List ℕ
-listAt k = badDraws lie lieBatch [] (take (absorbedBefore lie k) lieWords) (take k others)
+listAt k = badDraws lie lieBatch lieColumns (take (absorbedBefore lie k) lieWords) (take k others)
 
 -- the third alpha has the root of X, the inner challenge those of 3 X^2; the other lists are empty
 abbrev expected : List (List ℕ)
@@ -167,7 +174,7 @@ unlisted (suc (suc (suc (suc (suc zero))))) h m = List·Memᴰ·not-nil m
 unlisted (suc (suc (suc (suc (suc (suc zero)))))) h m = omega (arith, a-root (0 ∷ 0 ∷ 3 ∷ []) 7 m, values .1)
 unlisted (suc (suc (suc (suc (suc (suc (suc k))))))) h m = absurd (omega arith)
 
-pub other-not-bad : BadDraw lie lieBatch [] lieWords others → ⊥
+pub other-not-bad : BadDraw lie lieBatch lieColumns lieWords others → ⊥
 other-not-bad (k, h, s, m) = unlisted k h (subst (List·Memᴰ (getD others k 0)) (listed k h) m)
   where
     from : (k : ℕ) → k < 7 → listAt k ≡ getD (map listAt (0 ∷ 1 ∷ 2 ∷ 3 ∷ 4 ∷ 5 ∷ 6 ∷ [])) k []

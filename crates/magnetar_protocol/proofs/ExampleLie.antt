@@ -14,12 +14,12 @@ use Rattle.magnetar_field.specs.Sizes.{log₂, halvings}
 use Rattle.magnetar_layout.specs.Every.{every}
 use Rattle.magnetar_layout.specs.Layout.{nextMultiple, endFrom, layoutEnd, isLength}
 use Rattle.magnetar_layout.proofs.EveryLaws.{both}
-use Rattle.magnetar_matrix.specs.Batch.{bitOf, Good}
+use Rattle.magnetar_matrix.specs.Batch.{publicColumns, bitOf, Good}
 use Rattle.magnetar_protocol.specs.Run.{claims, ClaimsTrue}
-use Rattle.magnetar_protocol.specs.RunSizes.{Elements, SizedRelation, SizedBatch, SizedProof}
+use Rattle.magnetar_protocol.specs.RunSizes.{Elements, SizedRelation, SizedBatch, SizedPublic, SizedProof}
 use Rattle.magnetar_protocol.specs.Soundness.{BadDraw}
 use Rattle.magnetar_protocol.proofs.Soundness.{soundness}
-use Rattle.magnetar_protocol.proofs.ExampleBad.{lie, lieBatch, lieWords, zeros, lie-not-good, lie-answers}
+use Rattle.magnetar_protocol.proofs.ExampleBad.{lie, lieBatch, lieColumns, lieWords, zeros, lie-not-good, lie-answers}
 
 -- ---- sizes
 below : (l : List ℕ) → every (λ (x : ℕ). ltb x (2 ^ 128)) l ≡ true → Elements l
@@ -64,15 +64,25 @@ batch = record { logins = refl; columns = columns; bits = λ u y. rw (bit u y) (
     columns zero h = refl
     columns (suc u) h = absurd (omega arith)
 
-pub lie-sized : SizedProof lie lieBatch [] lieWords zeros
+public : SizedPublic lie lieColumns
+public = record { logins = refl; columns = columns; elements = elements }
+  where
+    columns : (u : ℕ) → u < 1 → suc (length (publicColumns lieColumns u)) ≡ 1
+    columns zero h = refl
+    columns (suc u) h = absurd (omega arith)
+
+    elements : (u y : ℕ) → getD (publicColumns lieColumns u) y 0 < 2 ^ 128
+    elements zero y = pow-pos 128
+    elements (suc u) y = pow-pos 128
+
+pub lie-sized : SizedProof lie lieBatch lieColumns lieWords zeros
 unfolding log₂ halvings every
 lie-sized = record {
   run = record {
     relation = relation;
     batch = batch;
-    public = refl;
+    public = public;
     draws = refl;
-    elements-x = below [] refl;
     elements-d = below zeros refl;
   };
   words = refl;
@@ -82,10 +92,10 @@ lie-sized = record {
 lie-claims : ClaimsTrue lie lieBatch (claims lie lieWords zeros)
 lie-claims i h = absurd (omega arith)
 
-pub lie-bad : BadDraw lie lieBatch [] lieWords zeros
+pub lie-bad : BadDraw lie lieBatch lieColumns lieWords zeros
 lie-bad =
-    second (soundness lie lieBatch [] lieWords zeros lie-sized (ap (λ (l : List ℕ). getD l 0 0) lie-answers) (λ u y h k o. bit u y) lie-claims)
+    second (soundness lie lieBatch lieColumns lieWords zeros lie-sized (ap (λ (l : List ℕ). getD l 0 0) lie-answers) (λ u y h k o. bit u y) lie-claims)
   where
-    second : Good lie lieBatch [] ⊎ BadDraw lie lieBatch [] lieWords zeros → BadDraw lie lieBatch [] lieWords zeros
+    second : Good lie lieBatch lieColumns ⊎ BadDraw lie lieBatch lieColumns lieWords zeros → BadDraw lie lieBatch lieColumns lieWords zeros
     second (inl g) = absurd (lie-not-good g)
     second (inr d) = d

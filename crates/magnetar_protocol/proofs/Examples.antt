@@ -19,7 +19,7 @@ use Rattle.magnetar_sumcheck_verifier.specs.Messages.{outerNext, outerFold, out
 use Rattle.magnetar_matrix.specs.Sum.{sumBelow, blocks}
 use Rattle.magnetar_matrix.specs.Matrix.{Matrix, System, sumOver, rowTotal, share, timesAt, times, transpose, mleTable}
 use Rattle.magnetar_matrix.specs.Combined.{combinedTable}
-use Rattle.magnetar_matrix.specs.Batch.{Relation, batchProducts, bitOf, assignment, foldedAt, folded, claimValue}
+use Rattle.magnetar_matrix.specs.Batch.{Relation, PublicColumns, batchProducts, bitOf, assignment, foldedAt, folded, publicFoldedAt, publicFolded, claimValue}
 use Rattle.magnetar_layout.specs.Layout.{nextMultiple, offsetsFrom, offsets}
 use Rattle.magnetar_protocol.specs.Shape.{proofElements}
 use Rattle.magnetar_protocol.specs.Proof.{binMessages, fldMessages, terminals, innerRounds, valueZ, segmentValues}
@@ -46,43 +46,51 @@ pub ten : proofElements least ≡ 10
 unfolding log₂ halvings
 ten = refl
 
-pub least-words : proverProof least ((0 ∷ []) ∷ []) [] draws ≡ 0 ∷ 0 ∷ 0 ∷ 0 ∷ 0 ∷ 0 ∷ 0 ∷ 0 ∷ 0 ∷ 7 ∷ []
+pub least-words : proverProof least ((0 ∷ []) ∷ []) ([] ∷ []) draws ≡ 0 ∷ 0 ∷ 0 ∷ 0 ∷ 0 ∷ 0 ∷ 0 ∷ 0 ∷ 0 ∷ 7 ∷ []
 unfolding log₂ halvings _⊕_ _⊗_ sumTimes timesX tabulate eqFactor eqAt eqTable dot mle line insertZero bindVar at₀ at₁
     slope innerSums innerMessage nextVar coefficient₀ coefficient₁ coefficient₂ weighted timesEq outerMessage dropVar
     outerNext outerFold outerStart outerMessages innerMessages sumBelow blocks sumOver rowTotal share timesAt times transpose
-    mleTable bitOf assignment foldedAt folded claimValue nextMultiple offsetsFrom offsets drawsOf loginPoint lowPoint
+    mleTable bitOf assignment foldedAt folded publicFoldedAt publicFolded claimValue nextMultiple offsetsFrom offsets drawsOf loginPoint lowPoint
     topElement combined combinedTable trueValue joined interleaved trueValues productTable batchProducts outerRounds terminalValues foldedZ honestProof
     proverProof
 least-words = refl
 
 -- accepted; and with one bit of v_z flipped refused with 29
-pub least-accepted : verdict least [] (0 ∷ 0 ∷ 0 ∷ 0 ∷ 0 ∷ 0 ∷ 0 ∷ 0 ∷ 0 ∷ 7 ∷ []) draws ≡ 0
+pub least-accepted : verdict least ([] ∷ []) (0 ∷ 0 ∷ 0 ∷ 0 ∷ 0 ∷ 0 ∷ 0 ∷ 0 ∷ 0 ∷ 7 ∷ []) draws ≡ 0
 unfolding log₂ halvings _⊕_ _⊗_ sumTimes timesX tabulate eval eqFactor eqAt eqTable dot mle total checkSum holds running
-    eqPoints outerEnd innerEnd sumOver rowTotal share timesAt times transpose mleTable nextMultiple offsetsFrom offsets
+    eqPoints outerEnd innerEnd sumOver rowTotal share timesAt times transpose mleTable sumBelow publicFoldedAt publicFolded nextMultiple offsetsFrom offsets
     binMessages fldMessages terminals innerRounds valueZ segmentValues drawsOf loginPoint lowPoint topElement roundHolds
     innerClaim combined combinedTable segmentSum sharedChecks rowChecks terminalChecks innerChecks identityCheck checks firstFailure
     verdict
 least-accepted = refl
 
-pub least-refused : verdict least [] (0 ∷ 0 ∷ 0 ∷ 0 ∷ 0 ∷ 0 ∷ 0 ∷ 0 ∷ 0 ∷ 6 ∷ []) draws ≡ 29
+pub least-refused : verdict least ([] ∷ []) (0 ∷ 0 ∷ 0 ∷ 0 ∷ 0 ∷ 0 ∷ 0 ∷ 0 ∷ 0 ∷ 6 ∷ []) draws ≡ 29
 unfolding log₂ halvings _⊕_ _⊗_ sumTimes timesX tabulate eval eqFactor eqAt eqTable dot mle total checkSum holds running
-    eqPoints outerEnd innerEnd sumOver rowTotal share timesAt times transpose mleTable nextMultiple offsetsFrom offsets
+    eqPoints outerEnd innerEnd sumOver rowTotal share timesAt times transpose mleTable sumBelow publicFoldedAt publicFolded nextMultiple offsetsFrom offsets
     binMessages fldMessages terminals innerRounds valueZ segmentValues drawsOf loginPoint lowPoint topElement roundHolds
     innerClaim combined combinedTable segmentSum sharedChecks rowChecks terminalChecks innerChecks identityCheck checks firstFailure
     verdict
 least-refused = refl
 
--- ---- m = 4, q = 2: two rows that say that each bit is a bit, the rows 1 x = x and 1 1 = 1, and a segment of both bits
+-- ---- m = 4, q = 2: two rows that say that each bit is a bit, the rows 1 x = 5 + 12 w1 and 1 1 = 1, and a segment of both bits. So a login
+-- has the public column 5, or 9 where its second bit is set
 -- two rows, with a one in column k of the first and in column l of the second
 abbrev columns : ℕ → ℕ → Matrix
 columns k l = record { rows = 2; cols = 4; entries = record { row = 0; col = k; value = 1 } ∷ record { row = 1; col = l; value = 1 } ∷ [] }
+
+abbrev marks : Matrix
+marks = record {
+  rows = 2;
+  cols = 4;
+  entries = record { row = 0; col = 2; value = 5 } ∷ record { row = 0; col = 1; value = 12 } ∷ record { row = 1; col = 2; value = 1 } ∷ [];
+}
 
 abbrev pub small : Relation
 small = record {
   m = 4;
   q = 2;
   bin = record { a = columns 0 1; b = columns 0 1; c = columns 0 1 };
-  fld = record { a = columns 2 2; b = columns 3 2; c = columns 3 2 };
+  fld = record { a = columns 2 2; b = columns 3 2; c = marks };
   lengths = 2 ∷ [];
 }
 
@@ -92,13 +100,22 @@ smallDraws = 17 ∷ 35 ∷ 70 ∷ 5 ∷ 6 ∷ 7 ∷ 8 ∷ 9 ∷ 10 ∷ 11 ∷ 12
 abbrev pub smallBatch : List (List ℕ)
 smallBatch = (1 ∷ 0 ∷ []) ∷ (1 ∷ 1 ∷ []) ∷ []
 
+abbrev pub smallColumns : PublicColumns
+smallColumns = (5 ∷ []) ∷ (9 ∷ []) ∷ []
+
+-- the columns of the two logins, exchanged
+abbrev pub exchanged : PublicColumns
+exchanged = (9 ∷ []) ∷ (5 ∷ []) ∷ []
+
+abbrev smallWords : List ℕ
+smallWords = proverProof small smallBatch smallColumns smallDraws
+
 -- the honest proof, with 1 added to element j
 abbrev flipped : ℕ → List ℕ
-flipped j =
-    set (proverProof small smallBatch (5 ∷ []) smallDraws) j (getD (proverProof small smallBatch (5 ∷ []) smallDraws) j 0 ⊕ 1)
+flipped j = set smallWords j (getD smallWords j 0 ⊕ 1)
 
 abbrev answer : ℕ → ℕ
-answer j = verdict small (5 ∷ []) (flipped j) smallDraws
+answer j = verdict small smallColumns (flipped j) smallDraws
 
 -- one element of the honest proof changed: each of 21 to 29 is met
 pub changed : map answer (0 ∷ 1 ∷ 4 ∷ 5 ∷ 8 ∷ 9 ∷ 12 ∷ 13 ∷ 18 ∷ 21 ∷ 22 ∷ 23 ∷ 25 ∷ 28 ∷ 29 ∷ [])
@@ -106,9 +123,22 @@ pub changed : map answer (0 ∷ 1 ∷ 4 ∷ 5 ∷ 8 ∷ 9 ∷ 12 ∷ 13 ∷ 18 �
 unfolding log₂ halvings _⊕_ _⊗_ sumTimes timesX tabulate eval eqFactor eqAt eqTable dot mle line insertZero bindVar
     total checkSum holds running eqPoints at₀ at₁ slope outerEnd innerEnd innerSums innerMessage nextVar coefficient₀
     coefficient₁ coefficient₂ weighted timesEq outerMessage dropVar outerNext outerFold outerStart outerMessages
-    innerMessages sumBelow blocks sumOver rowTotal share timesAt times transpose mleTable bitOf assignment foldedAt folded
+    innerMessages sumBelow blocks sumOver rowTotal share timesAt times transpose mleTable bitOf assignment foldedAt folded publicFoldedAt publicFolded
     claimValue nextMultiple offsetsFrom offsets binMessages fldMessages terminals innerRounds valueZ segmentValues drawsOf
     loginPoint lowPoint topElement roundHolds innerClaim combined combinedTable segmentSum sharedChecks rowChecks terminalChecks
     innerChecks identityCheck checks firstFailure verdict trueValue joined interleaved trueValues productTable batchProducts outerRounds
     terminalValues foldedZ honestProof proverProof
 changed = refl
+
+-- the honest proof, with the columns of each login, with those exchanged, and with those of the first login for both
+pub own-columns : map (λ (x : PublicColumns). verdict small x smallWords smallDraws) (smallColumns ∷ exchanged ∷ ((5 ∷ []) ∷ (5 ∷ []) ∷ []) ∷ [])
+    ≡ 0 ∷ 29 ∷ 29 ∷ []
+unfolding log₂ halvings _⊕_ _⊗_ sumTimes timesX tabulate eval eqFactor eqAt eqTable dot mle line insertZero bindVar
+    total checkSum holds running eqPoints at₀ at₁ slope outerEnd innerEnd innerSums innerMessage nextVar coefficient₀
+    coefficient₁ coefficient₂ weighted timesEq outerMessage dropVar outerNext outerFold outerStart outerMessages
+    innerMessages sumBelow blocks sumOver rowTotal share timesAt times transpose mleTable bitOf assignment foldedAt folded publicFoldedAt publicFolded
+    claimValue nextMultiple offsetsFrom offsets binMessages fldMessages terminals innerRounds valueZ segmentValues drawsOf
+    loginPoint lowPoint topElement roundHolds innerClaim combined combinedTable segmentSum sharedChecks rowChecks terminalChecks
+    innerChecks identityCheck checks firstFailure verdict trueValue joined interleaved trueValues productTable batchProducts outerRounds
+    terminalValues foldedZ honestProof proverProof
+own-columns = refl

@@ -11,7 +11,7 @@ use Rattle.magnetar_field.specs.Sizes.{log₂}
 use Rattle.magnetar_field.proofs.Xor.{⊕-lt, ⊕-self, eq-of-⊕}
 use Rattle.magnetar_field.proofs.Product.{⊗-lt}
 use Rattle.magnetar_matrix.specs.Matrix.{System, timesAt}
-use Rattle.magnetar_matrix.specs.Batch.{Relation, Batch, assignment, Satisfied, Good}
+use Rattle.magnetar_matrix.specs.Batch.{Relation, Batch, PublicColumns, publicHalf, assignment, Satisfied, Good}
 use Rattle.magnetar_theory.specs.Tau.{Zeros}
 use Rattle.magnetar_theory.specs.Matrix.{apply, applyAll}
 use Rattle.magnetar_theory.specs.Outer.{rowValues}
@@ -21,7 +21,7 @@ use Rattle.magnetar_theory.specs.Gf128.{Element, element, elementSum, elementPr
 use Rattle.magnetar_theory.proofs.Gf128.{element-⊕, element-⊗, element-inj, gf128Laws}
 use Rattle.magnetar_theory.proofs.Matrix.{length-apply}
 use Rattle.magnetar_protocol.specs.Theory.{els, entriesE, relationE, publicE, batchE}
-use Rattle.magnetar_protocol.specs.RunSizes.{SizedRelation, SizedBatch}
+use Rattle.magnetar_protocol.specs.RunSizes.{SizedRelation, SizedBatch, SizedPublic}
 use Rattle.magnetar_protocol.proofs.Elements.{map-append}
 use Rattle.magnetar_protocol.proofs.Products.{times-at, timesAt-lt}
 
@@ -123,44 +123,50 @@ module _ (s : System) (n : ℕ) where
   next-login z zs = join-rows (az z) (bz z) (cz z) (applyAll gf128 n (entriesE (s .a)) zs) (applyAll gf128 n (entriesE (s .b)) zs)
       (applyAll gf128 n (entriesE (s .c)) zs) (b-size z) (c-size z)
 
-  parts : (x w : List ℕ) (b : Batch) → Zeros gf128 (tableRows (vectors gf128 (batchE (w ∷ b)) (publicE x)))
-      → Zeros gf128 (one-login (els w ++ publicE x)) × Zeros gf128 (tableRows (vectors gf128 (batchE b) (publicE x)))
-  parts x w b h = zeros-split (one-login (els w ++ publicE x)) (tableRows (vectors gf128 (batchE b) (publicE x)))
-      (subst (Zeros gf128) (next-login (els w ++ publicE x) (vectors gf128 (batchE b) (publicE x))) h)
+  parts : (w c : List ℕ) (b : Batch) (x : PublicColumns) → Zeros gf128 (tableRows (vectors gf128 (batchE (w ∷ b)) (publicE (c ∷ x))))
+      → Zeros gf128 (one-login (els w ++ els (1 ∷ c))) × Zeros gf128 (tableRows (vectors gf128 (batchE b) (publicE x)))
+  parts w c b x h = zeros-split (one-login (els w ++ els (1 ∷ c))) (tableRows (vectors gf128 (batchE b) (publicE x)))
+      (subst (Zeros gf128) (next-login (els w ++ els (1 ∷ c)) (vectors gf128 (batchE b) (publicE x))) h)
 
-  logins-hold : (x : List ℕ) (b : Batch) → Zeros gf128 (tableRows (vectors gf128 (batchE b) (publicE x)))
-      → (u i : ℕ) → u < length b → i < n → Row (getD b u [] ++ (1 ∷ x)) i
-  logins-hold x [] h u i k l = absurd (omega arith)
-  logins-hold x (w ∷ b) h zero i k l = login-holds (w ++ (1 ∷ x))
-      (subst (λ (z : List Element). Zeros gf128 (one-login z)) (sym (map-append element w (1 ∷ x))) (parts x w b h .0)) i l
-  logins-hold x (w ∷ b) h (suc u) i k l = logins-hold x b (parts x w b h .1) u i (omega arith) l
+  logins-hold : (x : PublicColumns) (b : Batch) → length x ≡ length b → Zeros gf128 (tableRows (vectors gf128 (batchE b) (publicE x)))
+      → (u i : ℕ) → u < length b → i < n → Row (getD b u [] ++ publicHalf x u) i
+  logins-hold x [] e h u i k l = absurd (omega arith)
+  logins-hold [] (w ∷ b) e h u i k l = absurd (omega arith)
+  logins-hold (c ∷ x) (w ∷ b) e h zero i k l = login-holds (w ++ (1 ∷ c))
+      (subst (λ (z : List Element). Zeros gf128 (one-login z)) (sym (map-append element w (1 ∷ c))) (parts w c b x h .0)) i l
+  logins-hold (c ∷ x) (w ∷ b) e h (suc u) i k l = logins-hold x b (omega arith) (parts w c b x h .1) u i (omega arith) l
 
-  hold-logins : (x : List ℕ) (b : Batch) → ((u i : ℕ) → u < length b → i < n → Row (getD b u [] ++ (1 ∷ x)) i)
+  hold-logins : (x : PublicColumns) (b : Batch) → length x ≡ length b
+      → ((u i : ℕ) → u < length b → i < n → Row (getD b u [] ++ publicHalf x u) i)
       → Zeros gf128 (tableRows (vectors gf128 (batchE b) (publicE x)))
-  hold-logins x [] h = tt
-  hold-logins x (w ∷ b) h =
-      subst (Zeros gf128) (sym (next-login (els w ++ publicE x) (vectors gf128 (batchE b) (publicE x))))
-      (zeros-join (one-login (els w ++ publicE x)) (tableRows (vectors gf128 (batchE b) (publicE x)))
-      (subst (λ (z : List Element). Zeros gf128 (one-login z)) (map-append element w (1 ∷ x))
-      (holds-login (w ++ (1 ∷ x)) (λ i l. h 0 i (omega arith) l)))
-      (hold-logins x b (λ u i k l. h (suc u) i (omega arith) l)))
+  hold-logins x [] e h = tt
+  hold-logins [] (w ∷ b) e h = absurd (omega arith)
+  hold-logins (c ∷ x) (w ∷ b) e h =
+      subst (Zeros gf128) (sym (next-login (els w ++ els (1 ∷ c)) (vectors gf128 (batchE b) (publicE x))))
+      (zeros-join (one-login (els w ++ els (1 ∷ c))) (tableRows (vectors gf128 (batchE b) (publicE x)))
+      (subst (λ (z : List Element). Zeros gf128 (one-login z)) (map-append element w (1 ∷ c))
+      (holds-login (w ++ (1 ∷ c)) (λ i l. h 0 i (omega arith) l)))
+      (hold-logins x b (omega arith) (λ u i k l. h (suc u) i (omega arith) l)))
 
 -- ---- both systems
-module _ (r : Relation) (b : Batch) (x : List ℕ) (R : SizedRelation r) (B : SizedBatch r b) where
+module _ (r : Relation) (b : Batch) (x : PublicColumns) (R : SizedRelation r) (B : SizedBatch r b) (X : SizedPublic r x) where
+  as-many : length x ≡ length b
+  as-many = X .logins ∙ sym (B .logins)
+
   pub good : GoodE (relationE r) (publicE x) (batchE b) → Good r b x
   unfolding Satisfied assignment
   good g = record {
-    bin = λ u i k l. logins-hold (r .bin) (2 ^ log₂ (r .bin .a .rows)) x b (g .0) u i (omega (arith, B .logins))
+    bin = λ u i k l. logins-hold (r .bin) (2 ^ log₂ (r .bin .a .rows)) x b as-many (g .0) u i (omega (arith, B .logins))
         (omega (arith, R .bin .rows .power));
-    fld = λ u i k l. logins-hold (r .fld) (2 ^ log₂ (r .fld .a .rows)) x b (g .1) u i (omega (arith, B .logins))
+    fld = λ u i k l. logins-hold (r .fld) (2 ^ log₂ (r .fld .a .rows)) x b as-many (g .1) u i (omega (arith, B .logins))
         (omega (arith, R .fld .rows .power));
   }
 
   pub good-theory : Good r b x → GoodE (relationE r) (publicE x) (batchE b)
   unfolding Satisfied assignment
   good-theory g = (
-    hold-logins (r .bin) (2 ^ log₂ (r .bin .a .rows)) x b
+    hold-logins (r .bin) (2 ^ log₂ (r .bin .a .rows)) x b as-many
         (λ u i k l. g .bin u i (omega (arith, B .logins)) (omega (arith, R .bin .rows .power))),
-    hold-logins (r .fld) (2 ^ log₂ (r .fld .a .rows)) x b
+    hold-logins (r .fld) (2 ^ log₂ (r .fld .a .rows)) x b as-many
         (λ u i k l. g .fld u i (omega (arith, B .logins)) (omega (arith, R .fld .rows .power))),
   )

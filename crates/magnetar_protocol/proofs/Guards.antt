@@ -124,7 +124,7 @@ module _ (m q b f z : ℕ) (e : z ≡ firstRefusal 0 (runTests m q b f)) where
   unfolding verifierScratchWords
   verifier-refused h = rw (← e, ne-eqb z 0 h)
 
-  pub verifier-given : z ≡ 0 → (n : ℕ) → n ≡ verifierScratch m b f → record { code = 0; words = n } ≡ verifierScratchWords m q b f
+  pub verifier-given : z ≡ 0 → (n : ℕ) → n ≡ verifierScratch m q b f → record { code = 0; words = n } ≡ verifierScratchWords m q b f
   unfolding verifierScratchWords
   verifier-given h n k = rw (← e, h, k)
 
@@ -137,7 +137,7 @@ module _ (m q b f z : ℕ) (e : z ≡ firstRefusal 0 (runTests m q b f)) where
   prover-given h n k = rw (← e, h, k)
 
 -- where no size is refused
-pub verifier-within : (m q b f : ℕ) → firstRefusal 0 (runTests m q b f) ≡ 0 → verifierScratchWords m q b f .words ≡ verifierScratch m b f
+pub verifier-within : (m q b f : ℕ) → firstRefusal 0 (runTests m q b f) ≡ 0 → verifierScratchWords m q b f .words ≡ verifierScratch m q b f
 unfolding verifierScratchWords
 verifier-within m q b f h = rw h
 

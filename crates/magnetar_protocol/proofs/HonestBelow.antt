@@ -13,7 +13,7 @@ use Rattle.magnetar_sumcheck_verifier.specs.Messages.{innerMessages}
 use Rattle.magnetar_sumcheck_verifier.proofs.Verifier.{MessagesBelow}
 use Rattle.magnetar_sumcheck_verifier.proofs.Protocol.{outer-below, inner-below}
 use Rattle.magnetar_matrix.specs.Sum.{sumBelow}
-use Rattle.magnetar_matrix.specs.Batch.{Relation, Batch, claimValue}
+use Rattle.magnetar_matrix.specs.Batch.{Relation, Batch, PublicColumns, claimValue}
 use Rattle.magnetar_protocol.specs.Shape.{logLogins}
 use Rattle.magnetar_protocol.specs.Draws.{Draws}
 use Rattle.magnetar_protocol.specs.Checks.{combined}
@@ -72,7 +72,7 @@ true-lt : (r : Relation) (b : Batch) (D : Draws) (i : ℕ) → trueValue r b D i
 unfolding trueValue claimValue
 true-lt r b D i = sum-lt (r .q) _ (λ u. sum-lt (getD (r .lengths) i 0) _ (λ k. ⊗-lt _ _))
 
-module _ (r : Relation) (b : Batch) (x : List ℕ) (D : Draws) where
+module _ (r : Relation) (b : Batch) (x : PublicColumns) (D : Draws) where
   bin-below : MessagesBelow (binRounds r b x D)
   unfolding outerRounds
   bin-below = outer-below _ (D .shared ++ D .rowBin)

@@ -14,7 +14,7 @@ use Rattle.magnetar_sumcheck_verifier.specs.Outer.{outerMessage, timesEq}
 use Rattle.magnetar_sumcheck_verifier.specs.Inner.{innerMessage, innerSums}
 use Rattle.magnetar_sumcheck_verifier.specs.Messages.{Outer, outerNext, outerFold, outerMessages, innerMessages}
 use Rattle.magnetar_multilinear.specs.Multilinear.{bindVar}
-use Rattle.magnetar_matrix.specs.Batch.{Relation, Batch}
+use Rattle.magnetar_matrix.specs.Batch.{Relation, Batch, PublicColumns}
 use Rattle.magnetar_protocol.specs.Shape.{logLogins, logBin, logFld, logCols, beforeTerminals, beforeInner, beforeEnd, proofElements}
 use Rattle.magnetar_protocol.specs.Proof.{part, binMessages, fldMessages, terminal, innerRounds, valueZ, segmentValues}
 use Rattle.magnetar_protocol.specs.Draws.{Draws}
@@ -44,7 +44,7 @@ unfolding innerMessages
 inner-count t z [] = refl
 inner-count t z (r ∷ rs) = ap suc (inner-count (bindVar 0 r t) (bindVar 0 r z) rs)
 
-module _ (r : Relation) (b : Batch) (x : List ℕ) (D : Draws) (C : Cut r D) where
+module _ (r : Relation) (b : Batch) (x : PublicColumns) (D : Draws) (C : Cut r D) where
   abbrev bin : List (List ℕ)
   bin = binRounds r b x D
 

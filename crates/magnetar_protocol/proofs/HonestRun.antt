@@ -2,7 +2,7 @@
 -- Assumes nothing.
 use mathlib.Core.Path.{_≡_, refl, sym, ap, ap₂, _∙_}
 use mathlib.Core.List.{List, _++_, map, reverse}
-use Prim.Native.Nat.{ℕ, suc, _+_, _*_, _/_, _^_, _≤_, _<_}
+use Prim.Native.Nat.{ℕ, suc, _+_, _*_, _^_, _≤_, _<_}
 use native.Mathlib.Omega.{arith}
 use lib.ListN.{length, getD, length-append, length-map}
 use lib.Dec.{lit<}
@@ -16,7 +16,7 @@ use Rattle.magnetar_sumcheck_verifier.proofs.OuterRun.{start-stands}
 use Rattle.magnetar_sumcheck_verifier.proofs.InnerRun as I
 use Rattle.magnetar_sumcheck_verifier.proofs.Protocol.{element-mle}
 use Rattle.magnetar_matrix.specs.Matrix.{Matrix, System}
-use Rattle.magnetar_matrix.specs.Batch.{Relation, Batch}
+use Rattle.magnetar_matrix.specs.Batch.{Relation, Batch, PublicColumns}
 use Rattle.magnetar_theory.specs.SumCheck.{honest}
 use Rattle.magnetar_theory.specs.Table.{tableRounds}
 use Rattle.magnetar_theory.specs.Cells.{outerCells, innerCells}
@@ -31,7 +31,7 @@ use Rattle.magnetar_protocol.specs.Proof.{terminal, segmentValues}
 use Rattle.magnetar_protocol.specs.Draws.{Draws, loginPoint}
 use Rattle.magnetar_protocol.specs.Checks.{combined}
 use Rattle.magnetar_protocol.specs.Run.{trueValue}
-use Rattle.magnetar_protocol.specs.RunSizes.{SizedSystem, SizedRelation, SizedBatch}
+use Rattle.magnetar_protocol.specs.RunSizes.{SizedSystem, SizedRelation, SizedBatch, SizedPublic}
 use Rattle.magnetar_protocol.specs.Theory.{els, logHalf, entriesE, systemE, relationE, publicE, batchE, drawsE, proofE}
 use Rattle.magnetar_protocol.specs.Prover.{productTable, outerRounds, terminalValues, foldedZ, trueValues, honestProof}
 use Rattle.magnetar_protocol.proofs.Elements.{map-append, map-reverse}
@@ -43,8 +43,8 @@ use Rattle.magnetar_protocol.proofs.TrueClaims.{true-claims}
 use Rattle.magnetar_protocol.proofs.HonestParts.{bin-part, fld-part, inner-part, terminal-part, value-part, segment-part, honest-length}
 use Rattle.magnetar_protocol.proofs.HonestTables.{product-is, product-length, folded-is, foldedZ-length}
 
-module _ (r : Relation) (b : Batch) (x : List ℕ) (D : Draws) (R : SizedRelation r) (B : SizedBatch r b) (C : Cut r D)
-    (px : suc (length x) ≡ r .m / 2) where
+module _ (r : Relation) (b : Batch) (x : PublicColumns) (D : Draws) (R : SizedRelation r) (B : SizedBatch r b) (X : SizedPublic r x)
+    (C : Cut r D) where
   abbrev W : List ℕ
   W = honestProof r b x D
 
@@ -59,7 +59,7 @@ module _ (r : Relation) (b : Batch) (x : List ℕ) (D : Draws) (R : SizedRelatio
 
     table-size : (m : Matrix) → m .rows ≡ 2 ^ log₂ (s .a .rows) → length (productTable r b x m) ≡ 2 ^ length tau
     table-size m e =
-        product-length r b x R B m ∙ ap₂ _*_ (R .logins .power) (e ∙ ap (λ (k : ℕ). 2 ^ k) (sym hr))
+        product-length r b x m ∙ ap₂ _*_ (R .logins .power) (e ∙ ap (λ (k : ℕ). 2 ^ k) (sym hr))
         ∙ sym (pow-add 2 (logLogins r) (length rows))
         ∙ ap (λ (k : ℕ). 2 ^ k) (sym ht)
 
@@ -76,9 +76,9 @@ module _ (r : Relation) (b : Batch) (x : List ℕ) (D : Draws) (R : SizedRelatio
         (table-size (s .a) rows-a) (table-size (s .b) (Z .b .rows ∙ rows-a)) (table-size (s .c) (Z .c .rows ∙ rows-a)))
         (fits (outerStart (logLogins r) tau (productTable r b x (s .a)) (productTable r b x (s .b)) (productTable r b x (s .c))) started)
         ∙ (λ i. honest gf128 (tableRounds gf128 (outerCells gf128))
-        (start gf128 (product-is r b x R B (2 ^ log₂ (s .a .rows)) (s .a) rows-a i)
-        (product-is r b x R B (2 ^ log₂ (s .a .rows)) (s .b) (Z .b .rows ∙ rows-a) i)
-        (product-is r b x R B (2 ^ log₂ (s .a .rows)) (s .c) (Z .c .rows ∙ rows-a) i) (els tau) (count i) (sym (length-map rows element) i))
+        (start gf128 (product-is r b x B X (2 ^ log₂ (s .a .rows)) (s .a) rows-a i)
+        (product-is r b x B X (2 ^ log₂ (s .a .rows)) (s .b) (Z .b .rows ∙ rows-a) i)
+        (product-is r b x B X (2 ^ log₂ (s .a .rows)) (s .c) (Z .c .rows ∙ rows-a) i) (els tau) (count i) (sym (length-map rows element) i))
         (map-append element (D .shared) rows i))
       where
         count : logLogins r ≡ length (els (D .shared))
@@ -100,7 +100,7 @@ module _ (r : Relation) (b : Batch) (x : List ℕ) (D : Draws) (R : SizedRelatio
       element-mle (productTable r b x m) (rows ++ reverse (D .shared))
       ∙ ap₂ (λ (p t : List Element). dotE gf128 (eqTableE gf128 p) t)
       (map-append element rows (reverse (D .shared)) ∙ ap (λ (l : List Element). els rows ++ l) (map-reverse element (D .shared)))
-      (product-is r b x R B n m e)
+      (product-is r b x B X n m e)
 
   terminal-of : (i : ℕ) (v : ℕ) → i < 6 → getD (terminalValues r b x D) i 0 ≡ v → element (terminal r W i) ≡ element v
   terminal-of i v h e = ap element (terminal-part r b x D C i h ∙ e)
@@ -118,7 +118,7 @@ module _ (r : Relation) (b : Batch) (x : List ℕ) (D : Draws) (R : SizedRelatio
     fldMs = (fld-are r W ∙ ap (map els) (fld-part r b x D C)
         ∙ outer-are (r .fld) (R .fld) (D .tauFld) (D .rowFld) (C .tauFld ∙ ap (λ (k : ℕ). logLogins r + k) (sym (C .rowFld)))
         (C .rowFld)) i;
-    ab = (ab-is r x W D R C long ∙ terminal-of 0 _ (lit< tt) refl
+    ab = (ab-is r W D R C long ∙ terminal-of 0 _ (lit< tt) refl
         ∙ at-point (2 ^ logBin r) (r .bin .a) (D .rowBin) (R .bin .rows .power)) i;
     bb = (terminal-is r W 1 ∙ terminal-of 1 _ (lit< tt) refl
         ∙ at-point (2 ^ logBin r) (r .bin .b) (D .rowBin) (R .bin .b .rows ∙ R .bin .rows .power)) i;
@@ -131,7 +131,7 @@ module _ (r : Relation) (b : Batch) (x : List ℕ) (D : Draws) (R : SizedRelatio
         ∙ at-point (2 ^ logFld r) (r .fld .c) (D .rowFld) (R .fld .c .rows ∙ R .fld .rows .power)) i;
     innerMs = (inner-are r W cols ∙ ap (map els) (inner-part r b x D C) ∙ inner-messages) i;
     vz = (vz-is r W cols ∙ ap element (value-part r b x D C) ∙ element-mle (foldedZ r b x D) (D .inner)
-        ∙ ap₂ (λ (p t : List Element). dotE gf128 (eqTableE gf128 p) t) (sym (inner-is r R D C)) (folded-is r b x D R B C px)) i;
+        ∙ ap₂ (λ (p t : List Element). dotE gf128 (eqTableE gf128 p) t) (sym (inner-is r R D C)) (folded-is r b x D R B X C)) i;
     values = (true-claims r b D R B C W long true-values) i;
   }
     where
@@ -152,12 +152,12 @@ module _ (r : Relation) (b : Batch) (x : List ℕ) (D : Draws) (R : SizedRelatio
           }) (inner gf128 (drawsE r D))
       inner-messages =
           I.messages-are (length (inner gf128 (drawsE r D))) (D .inner) (combined r D) (foldedZ r b x D) (suc (logHalf r))
-          (omega (arith, inner-long)) (combined-length r D R) (foldedZ-length r b x D R B C px)
+          (omega (arith, inner-long)) (combined-length r D R) (foldedZ-length r b x D R)
           ∙ (λ i. honest gf128 (tableRounds gf128 (innerCells gf128)) (record {
             tops = 0;
             lows = length
                 (inner gf128 (drawsE r D));
-            cells = zipInner gf128 (combined-is r D R i) (folded-is r b x D R B C px i);
+            cells = zipInner gf128 (combined-is r D R i) (folded-is r b x D R B X C i);
           })
           (sym (inner-is r R D C) i))
 

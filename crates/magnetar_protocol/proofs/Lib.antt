@@ -12,8 +12,9 @@ pub mod Verdict
 pub mod Phases
 pub mod Combined
 pub mod SegmentSums
-pub mod AcceptedRun
 pub mod TrueClaims
+pub mod Folds
+pub mod AcceptedRun
 pub mod ClaimParts
 pub mod Soundness
 pub mod Chunks
@@ -23,6 +24,7 @@ pub mod AcceptedHolds
 pub mod HonestBelow
 pub mod HonestRun
 pub mod Completeness
+pub mod EqualColumns
 pub mod Examples
 pub mod ExampleRun
 pub mod ExampleLie

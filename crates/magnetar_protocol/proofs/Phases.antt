@@ -46,7 +46,7 @@ first-append (c ∷ cs) ds h = step (c .passes) (c .refusal) (firstFailure (cs +
     step true n both a b l e = e
     step false n both a b l e = rw (ne-eqb n 0 (λ z. omega arith))
 
-module _ (r : Relation) (x w : List ℕ) (D : Draws) where
+module _ (r : Relation) (w : List ℕ) (D : Draws) where
   pub shared-numbered : (i n : ℕ) → Numbered (sharedChecks r w D i n)
   unfolding sharedChecks
   shared-numbered i zero = tt

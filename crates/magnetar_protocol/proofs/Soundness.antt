@@ -7,7 +7,7 @@ use Prim.Native.Nat.{ℕ, zero, suc, _+_, _*_, _≤_, _<_, max}
 use native.Mathlib.Omega.{arith}
 use lib.ListN.{length, getD, take, length-map}
 use lib.Seq.{length-take-le}
-use Rattle.magnetar_matrix.specs.Batch.{Relation, Batch, Good}
+use Rattle.magnetar_matrix.specs.Batch.{Relation, Batch, PublicColumns, Good}
 use Rattle.magnetar_theory.specs.Lists.{lists, DrawInList, drawn, proofOf}
 use Rattle.magnetar_theory.specs.Run.{Accepted, trueValue as trueValueE, Draws as DrawsE}
 use Rattle.magnetar_theory.specs.Count.{naturalSum}
@@ -43,7 +43,7 @@ number-mem : {e : Element} {l : List Element} → List·Memᴰ e l → List·Mem
 number-mem (List·Memᴰ·head q) = List·Memᴰ·head (ap number q)
 number-mem (List·Memᴰ·tail m) = List·Memᴰ·tail (number-mem m)
 
-module _ (r : Relation) (b : Batch) (x w d : List ℕ) where
+module _ (r : Relation) (b : Batch) (x : PublicColumns) (w d : List ℕ) where
   -- the list of the theory for the draw after these
   abbrev listE : List Element → List Element
   listE = listOf (relationE r) (publicE x) (batchE b) (logLogins r) (els w)
@@ -130,11 +130,11 @@ module _ (r : Relation) (b : Batch) (x w d : List ℕ) where
           subst₂ Found count (flat r d R (S .run .draws))
           (sound (relationE r) (publicE x) (batchE b) (els w) E (sizes r b D R (S .run .batch) C x (S .run .public) stray)
           (subst (λ (s : ℕ). Accepted gf128 (relationE r) (publicE x) E (proofOf gf128 s (relationE r) (els w))) (sym count)
-          (accepted r x w D R C (S .words) (holds-of r x w D C v)))
+          (accepted r w D R C (S .words) x (S .run .public) (holds-of r x w D C v)))
           (subst (λ (s : ℕ). (proofOf gf128 s (relationE r) (els w)) .values ≡ map (trueValueE gf128 E (batchE b)) ((relationE r) .segs))
           (sym count)
           (true-claims r b D R (S .run .batch) C w (S .words) (true-values r R D C (segmentValues r w) b true))))
 
       go : Found (logLogins r) (els d) → Good r b x ⊎ BadDraw r b x w d
-      go (inl g) = inl (good r b x R (S .run .batch) g)
+      go (inl g) = inl (good r b x R (S .run .batch) (S .run .public) g)
       go (inr h) = inr (as-numbers (S .run .elements-d) h)

@@ -7,7 +7,7 @@ use native.Mathlib.Omega.{arith}
 use lib.ListN.{length, getD, take, drop, length-map, length-drop, length-reverse}
 use lib.Seq.{length-take-le}
 use Rattle.magnetar_field.specs.Sizes.{log₂}
-use Rattle.magnetar_matrix.specs.Batch.{Relation, Batch}
+use Rattle.magnetar_matrix.specs.Batch.{Relation, Batch, PublicColumns}
 use Rattle.magnetar_layout.specs.Layout.{offsets, offset}
 use Rattle.magnetar_theory.specs.EqTable.{eqTable as eqTableE, dot as dotE}
 use Rattle.magnetar_theory.specs.Matrix.{AllLength}
@@ -18,7 +18,7 @@ use Rattle.magnetar_protocol.specs.Proof.{segmentValues}
 use Rattle.magnetar_protocol.specs.Draws.{Draws, loginPoint, lowPoint}
 use Rattle.magnetar_protocol.specs.Run.{trueValue}
 use Rattle.magnetar_protocol.specs.Theory.{els, logHalf, segmentsE, relationE, publicE, batchE, drawsE, proofE}
-use Rattle.magnetar_protocol.specs.RunSizes.{SizedRelation, SizedBatch}
+use Rattle.magnetar_protocol.specs.RunSizes.{SizedRelation, SizedBatch, SizedPublic}
 use Rattle.magnetar_protocol.specs.Soundness.{NoBitOutside}
 use Rattle.magnetar_protocol.proofs.Elements.{map-take, map-reverse}
 use Rattle.magnetar_protocol.proofs.LayoutLaws.{Placed, placed, offsets-length}
@@ -29,21 +29,32 @@ use Rattle.magnetar_protocol.proofs.SegmentSums.{pow-le}
 use Rattle.magnetar_protocol.proofs.SizeFacts.{cols-suc, half-pow, Cut, low-size}
 
 -- ---- sizes
-pub all-length : (n : ℕ) (b : Batch) → ((u : ℕ) → u < length b → length (getD b u []) ≡ n) → AllLength gf128 n (batchE b)
-all-length n [] h = tt
-all-length n (w ∷ b) h = (length-map w element ∙ h 0 (omega arith), all-length n b (λ u k. h (suc u) (omega arith)))
+all-length : (n : ℕ) (f : List ℕ → List Element) (b : List (List ℕ)) → ((u : ℕ) → u < length b → length (f (getD b u [])) ≡ n)
+    → AllLength gf128 n (map f b)
+all-length n f [] h = tt
+all-length n f (w ∷ b) h = (h 0 (omega arith), all-length n f b (λ u k. h (suc u) (omega arith)))
+
+module _ (r : Relation) (R : SizedRelation r) where
+  pub row-lengths : (b : Batch) → SizedBatch r b → AllLength gf128 (2 ^ logHalf r) (batchE b)
+  row-lengths b B = all-length (2 ^ logHalf r) els b
+      (λ u k. length-map (getD b u []) element ∙ B .columns u (omega (arith, B .logins)) ∙ half-pow r R)
+
+  pub half-lengths : (x : PublicColumns) → SizedPublic r x → AllLength gf128 (2 ^ logHalf r) (publicE x)
+  half-lengths x X = all-length (2 ^ logHalf r) (λ c. els (1 ∷ c)) x
+      (λ u k. length-map (1 ∷ getD x u []) element ∙ X .columns u (omega (arith, X .logins)) ∙ half-pow r R)
 
 module _ (r : Relation) (b : Batch) (D : Draws) (R : SizedRelation r) (B : SizedBatch r b) (C : Cut r D) where
   logins-pow : r .q ≡ 2 ^ length (D .shared)
   logins-pow = R .logins .power ∙ ap (λ (k : ℕ). 2 ^ k) (sym (C .shared))
 
-  pub sizes : (x : List ℕ) → suc (length x) ≡ r .m / 2 → NoBitOutside r b → Sizes gf128 (relationE r) (publicE x) (batchE b) (drawsE r D)
-  sizes x px stray = record {
+  pub sizes : (x : PublicColumns) → SizedPublic r x → NoBitOutside r b → Sizes gf128 (relationE r) (publicE x) (batchE b) (drawsE r D)
+  sizes x X stray = record {
     logins = length-map b els ∙ B .logins ∙ logins-pow ∙ ap (λ (k : ℕ). 2 ^ k) (sym (length-map (D .shared) element));
-    row-lengths = all-length (2 ^ logHalf r) b (λ u k. B .columns u (omega (arith, B .logins)) ∙ half-pow r R);
+    row-lengths = row-lengths r R b B;
     laid = subst (λ (n : ℕ). AllZeroOutside gf128 n (segmentsE (offsets (r .lengths)) (r .lengths)) (batchE b)) (half-pow r R)
         (laid-out r b R B stray);
-    public = length-map (1 ∷ x) element ∙ px ∙ half-pow r R;
+    halves = length-map x (λ c. els (1 ∷ c)) ∙ X .logins ∙ logins-pow ∙ ap (λ (k : ℕ). 2 ^ k) (sym (length-map (D .shared) element));
+    half-lengths = half-lengths r R x X;
     rows-bin = length-map (D .rowBin) element ∙ C .rowBin;
     rows-fld = length-map (D .rowFld) element ∙ C .rowFld;
     taus-bin = length-map (D .tauBin) element ∙ C .tauBin

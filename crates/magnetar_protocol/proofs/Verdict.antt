@@ -4,7 +4,7 @@
 use mathlib.Core.Path.{_≡_, refl, sym, ap, ap₂, _∙_, subst}
 use mathlib.Core.Bool.{Bool, true, false}
 use mathlib.Core.List.{List, [], _∷_, _++_, append-assoc}
-use Prim.Native.Nat.{ℕ, zero, suc, _+_, _-_, _*_, _≤_, _<_}
+use Prim.Native.Nat.{ℕ, zero, suc, _+_, _-_, _*_, _/_, _≤_, _<_}
 use native.Mathlib.Nat.{zero-add}
 use native.Mathlib.Omega.{arith}
 use lib.Dec.{ltb, eqb}
@@ -19,7 +19,7 @@ use Rattle.magnetar_sumcheck_verifier.proofs.Verifier.{passes}
 use Rattle.magnetar_sumcheck_verifier.specs.Order.{eqPoints}
 use Rattle.magnetar_sumcheck_verifier.specs.Outer.{outerEnd}
 use Rattle.magnetar_sumcheck_verifier.specs.Inner.{innerEnd}
-use Rattle.magnetar_matrix.specs.Batch.{Relation}
+use Rattle.magnetar_matrix.specs.Batch.{Relation, PublicColumns, publicFolded}
 use Rattle.magnetar_protocol.specs.Shape.{logLogins, logBin, logFld, logCols, afterTaus, afterShared, afterBin, afterOuter, afterAlphas, afterInner}
 use Rattle.magnetar_protocol.specs.Proof.{part, binMessages, fldMessages, terminal, innerRounds, valueZ, segmentValues}
 use Rattle.magnetar_protocol.specs.Draws.{Draws, loginPoint, lowPoint, topElement}
@@ -28,7 +28,7 @@ use Rattle.magnetar_protocol.proofs.Passed.{rounds-pass, pass-rounds, o
 use Rattle.magnetar_protocol.proofs.SizeFacts.{Cut}
 
 -- what the verifier finds
-pub record Holds (r : Relation) (x w : List ℕ) (D : Draws) : Type 0 where
+pub record Holds (r : Relation) (x : PublicColumns) (w : List ℕ) (D : Draws) : Type 0 where
   pub bin : passes 0 (binMessages r w) (D .shared ++ D .rowBin) ≡ true
   pub fld : passes 0 (fldMessages r w) (D .shared ++ D .rowFld) ≡ true
   pub bin-end : running 0 (binMessages r w) (D .shared ++ D .rowBin)
@@ -37,9 +37,10 @@ pub record Holds (r : Relation) (x w : List ℕ) (D : Draws) : Type 0 where
       ≡ outerEnd (eqPoints (D .tauFld) (D .rowFld ++ loginPoint D)) (terminal r w 3) (terminal r w 4) (terminal r w 5)
   pub inner : passes (innerClaim r w D) (innerRounds r w) (D .inner) ≡ true
   pub inner-end : running (innerClaim r w D) (innerRounds r w) (D .inner) ≡ innerEnd (mle (combined r D) (D .inner)) (valueZ r w)
-  pub identity : (1 ⊕ topElement r D) ⊗ segmentSum (r .lengths) (lowPoint r D) 0 (segmentValues r w) ⊕ topElement r D ⊗ mle (1 ∷ x) (lowPoint r D) ≡ valueZ r w
+  pub identity : (1 ⊕ topElement r D) ⊗ segmentSum (r .lengths) (lowPoint r D) 0 (segmentValues r w)
+      ⊕ topElement r D ⊗ mle (publicFolded (r .q) (r .m / 2) x (loginPoint D)) (lowPoint r D) ≡ valueZ r w
 
-module _ (r : Relation) (x w : List ℕ) (D : Draws) where
+module _ (r : Relation) (x : PublicColumns) (w : List ℕ) (D : Draws) where
   -- ---- the shared rounds
   shared-pass : (i n : ℕ) (rest : List Check) → firstFailure (sharedChecks r w D i n ++ rest) ≡ 0
       → ((j : ℕ) → j < n → (binRound r w D (i + j) ≡ true) × (fldRound r w D (i + j) ≡ true)) × (firstFailure rest ≡ 0)
@@ -112,7 +113,8 @@ module _ (r : Relation) (x w : List ℕ) (D : Draws) where
   innerLast = eqb (running (innerClaim r w D) (innerRounds r w) (D .inner)) (innerEnd (mle (combined r D) (D .inner)) (valueZ r w))
 
   identical : Bool
-  identical = eqb ((1 ⊕ topElement r D) ⊗ segmentSum (r .lengths) (lowPoint r D) 0 (segmentValues r w) ⊕ topElement r D ⊗ mle (1 ∷ x) (lowPoint r D)) (valueZ r w)
+  identical = eqb ((1 ⊕ topElement r D) ⊗ segmentSum (r .lengths) (lowPoint r D) 0 (segmentValues r w)
+      ⊕ topElement r D ⊗ mle (publicFolded (r .q) (r .m / 2) x (loginPoint D)) (lowPoint r D)) (valueZ r w)
 
   abbrev fromInner : List Check
   fromInner = tab 27 innerRound atInner (logCols r) ++ (record { refusal = 28; passes = innerLast; events = afterInner r } ∷ record { refusal = 29; passes = identical; events = afterInner r + 1 }

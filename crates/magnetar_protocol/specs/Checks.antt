@@ -1,10 +1,10 @@
 -- What the verifier checks, in its order, with the draws as plain elements. Each check has the number of its refusal.
--- Source: document 01, "Who can be turned back" (21 to 29, in the Rust's order); the Rust's `verify_virtual_spartan`; Spartan (Setty,
--- CRYPTO 2020), the verifier of both sum-checks.
+-- Source: document 01, "Who can be turned back" (21 to 29, in the Rust's order); document 02, U6 (each login's own public columns); the
+-- Rust's `verify_virtual_spartan` and `fold_public_part`; Spartan (Setty, CRYPTO 2020), the verifier of both sum-checks.
 -- Assumes nothing.
 use mathlib.Core.Bool.{Bool, cond}
 use mathlib.Core.List.{List, [], _∷_, _++_}
-use Prim.Native.Nat.{ℕ, zero, suc, _+_, _*_}
+use Prim.Native.Nat.{ℕ, zero, suc, _+_, _*_, _/_}
 use lib.Dec.{eqb}
 use lib.ListN.{getD, take, drop}
 use Rattle.magnetar_field.specs.Gf128.{_⊕_, _⊗_}
@@ -16,7 +16,7 @@ use Rattle.magnetar_sumcheck_verifier.specs.Order.{eqPoints}
 use Rattle.magnetar_sumcheck_verifier.specs.Outer.{outerEnd}
 use Rattle.magnetar_sumcheck_verifier.specs.Inner.{innerEnd}
 use Rattle.magnetar_matrix.specs.Combined.{combinedTable}
-use Rattle.magnetar_matrix.specs.Batch.{Relation, publicFolded}
+use Rattle.magnetar_matrix.specs.Batch.{Relation, PublicColumns, publicFolded}
 use Rattle.magnetar_layout.specs.Layout.{localVars, suffix}
 use Rattle.magnetar_protocol.specs.Shape.{logLogins, logBin, logFld, logCols, afterTaus, afterShared, afterBin, afterOuter, afterAlphas, afterInner}
 use Rattle.magnetar_protocol.specs.Proof.{binMessages, fldMessages, terminals, terminal, innerRounds, valueZ, segmentValues}
@@ -110,12 +110,12 @@ module _ (r : Relation) (w : List ℕ) (d : Draws) where
       }
       ∷ []
 
--- all of them, with the public columns x
-unfoldable pub checks : Relation → (x w : List ℕ) → Draws → List Check
+-- all of them, with the public columns x of each login
+unfoldable pub checks : Relation → PublicColumns → (w : List ℕ) → Draws → List Check
 checks r x w d =
     sharedChecks r w d 0 (logLogins r)
     ++ (rowChecks r w d ++ (terminalChecks r w d ++ (innerChecks r w d (combined r d)
-    ++ identityCheck r w d (publicFolded x (loginPoint d)))))
+    ++ identityCheck r w d (publicFolded (r .q) (r .m / 2) x (loginPoint d)))))
 
 -- the number of the first check that does not pass, or 0
 unfoldable pub firstFailure : List Check → ℕ

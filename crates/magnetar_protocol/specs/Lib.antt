@@ -11,3 +11,4 @@ pub mod Theory
 pub mod Soundness
 pub mod Prover
 pub mod Theorems
+pub mod EqualColumns

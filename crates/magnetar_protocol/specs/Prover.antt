@@ -10,7 +10,7 @@ use Rattle.magnetar_field.specs.Tabulate.{tabulate}
 use Rattle.magnetar_multilinear.specs.Multilinear.{mle}
 use Rattle.magnetar_sumcheck_verifier.specs.Messages.{outerStart, outerMessages, innerMessages}
 use Rattle.magnetar_matrix.specs.Matrix.{Matrix, System}
-use Rattle.magnetar_matrix.specs.Batch.{Relation, Batch, batchProducts, folded, publicFolded}
+use Rattle.magnetar_matrix.specs.Batch.{Relation, Batch, PublicColumns, batchProducts, folded, publicFolded}
 use Rattle.magnetar_protocol.specs.Shape.{logLogins}
 use Rattle.magnetar_protocol.specs.Draws.{Draws, drawsOf, loginPoint, lowPoint}
 use Rattle.magnetar_protocol.specs.Checks.{combined}
@@ -31,7 +31,7 @@ interleaved (m ∷ ms) (n ∷ ns) = m ++ (n ++ interleaved ms ns)
 unfoldable pub trueValues : Relation → Batch → Draws → List ℕ
 trueValues r b d = tabulate (trueValue r b d) (length (r .lengths))
 
-module _ (r : Relation) (b : Batch) (x : List ℕ) where
+module _ (r : Relation) (b : Batch) (x : PublicColumns) where
   -- the products of a matrix and the z of every login, one login behind the other
   unfoldable pub productTable : Matrix → List ℕ
   productTable m = batchProducts m b x (r .q)
@@ -61,9 +61,9 @@ module _ (r : Relation) (b : Batch) (x : List ℕ) where
         ∷ mle (productTable (r .fld .c)) (d .rowFld ++ loginPoint d)
         ∷ []
 
-    -- z folded over the logins: the folded bits, and the public half, which all logins share
+    -- z folded over the logins: the folded bits, and the folded public halves
     unfoldable pub foldedZ : List ℕ
-    foldedZ = folded (r .q) (r .m / 2) b (loginPoint d) ++ publicFolded x (loginPoint d)
+    foldedZ = folded (r .q) (r .m / 2) b (loginPoint d) ++ publicFolded (r .q) (r .m / 2) x (loginPoint d)
 
     -- all elements of the proof: shared rounds, row rounds of bin and of fld, terminals, inner rounds, v_z, segment values
     unfoldable pub honestProof : List ℕ
@@ -76,7 +76,7 @@ module _ (r : Relation) (b : Batch) (x : List ℕ) where
         ++ (mle foldedZ (d .inner) ∷ trueValues r b d)))))
 
 -- the proof, from the draws in their order
-unfoldable pub proverProof : Relation → Batch → (x d : List ℕ) → List ℕ
+unfoldable pub proverProof : Relation → Batch → PublicColumns → (d : List ℕ) → List ℕ
 proverProof r b x d = honestProof r b x (drawsOf r d)
 
 -- the claims buffer's elements: r_inst, r_low, then the true segment values
@@ -84,7 +84,7 @@ unfoldable pub proverClaims : Relation → Batch → List ℕ → List ℕ
 proverClaims r b d = loginPoint (drawsOf r d) ++ (lowPoint r (drawsOf r d) ++ trueValues r b (drawsOf r d))
 
 -- the honest proof is accepted, both ends return the same claims, and all of them are true
-pub record CompleteRun (r : Relation) (b : Batch) (x d : List ℕ) : Type 0 where
+pub record CompleteRun (r : Relation) (b : Batch) (x : PublicColumns) (d : List ℕ) : Type 0 where
   pub accepted : verdict r x (proverProof r b x d) d ≡ 0
   pub same-claims : claims r (proverProof r b x d) d ≡ proverClaims r b d
   pub true-claims : ClaimsTrue r b (proverClaims r b d)

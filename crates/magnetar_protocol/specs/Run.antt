@@ -5,7 +5,7 @@ use mathlib.Core.Path.{_≡_}
 use mathlib.Core.List.{List, _++_}
 use Prim.Native.Nat.{ℕ, _+_, _-_, _<_}
 use lib.ListN.{length, getD, take, drop}
-use Rattle.magnetar_matrix.specs.Batch.{Relation, Batch, claimValue}
+use Rattle.magnetar_matrix.specs.Batch.{Relation, Batch, PublicColumns, claimValue}
 use Rattle.magnetar_layout.specs.Layout.{offset, localVars}
 use Rattle.magnetar_protocol.specs.Shape.{logLogins, logCols}
 use Rattle.magnetar_protocol.specs.Proof.{segmentValues}
@@ -13,7 +13,7 @@ use Rattle.magnetar_protocol.specs.Draws.{Draws, drawsOf, loginPoint, lo
 use Rattle.magnetar_protocol.specs.Checks.{checks, firstFailure}
 
 -- the answer of the verifier: 0 where it accepts, or the first of 21 to 29 that applies
-unfoldable pub verdict : Relation → List ℕ → List ℕ → List ℕ → ℕ
+unfoldable pub verdict : Relation → PublicColumns → (w d : List ℕ) → ℕ
 verdict r x w d = firstFailure (checks r x w (drawsOf r d))
 
 -- the claims buffer's elements: r_inst, r_low, then the segment values

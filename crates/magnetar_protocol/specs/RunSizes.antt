@@ -1,5 +1,5 @@
--- The sizes that the refusals 1 to 16 leave, and those of a batch and of draws that fit them.
--- Source: document 01, "Who can be turned back" and "The run" (the relation, a batch).
+-- The sizes that the refusals 1 to 16 leave, and those of a batch, of public columns and of draws that fit them.
+-- Source: document 01, "Who can be turned back" and "The run" (the relation, a batch); document 02, U6 (each login's own public columns).
 -- Assumes nothing.
 use mathlib.Core.Path.{_≡_}
 use mathlib.Core.Bool.{true, _&&_}
@@ -9,7 +9,7 @@ use lib.Dec.{ltb}
 use lib.ListN.{length, getD}
 use Rattle.magnetar_layout.specs.Every.{every}
 use Rattle.magnetar_matrix.specs.Matrix.{Matrix, System}
-use Rattle.magnetar_matrix.specs.Batch.{Relation, Batch, bitOf}
+use Rattle.magnetar_matrix.specs.Batch.{Relation, Batch, PublicColumns, publicColumns, bitOf}
 use Rattle.magnetar_layout.specs.Layout.{LayoutFits}
 use Rattle.magnetar_layout.specs.Tests.{Sized, mostColumns, mostLogins, mostRows, mostBatchRows, mostEntries, mostSegments}
 use Rattle.magnetar_protocol.specs.Shape.{proofElements}
@@ -45,6 +45,12 @@ pub record SizedBatch (r : Relation) (b : Batch) : Type 0 where
   pub columns : (u : ℕ) → u < r .q → length (getD b u []) ≡ r .m / 2
   pub bits : (u y : ℕ) → bitOf b u y < 2
 
+-- q rows of m / 2 - 1 elements
+pub record SizedPublic (r : Relation) (x : PublicColumns) : Type 0 where
+  pub logins : length x ≡ r .q
+  pub columns : (u : ℕ) → u < r .q → suc (length (publicColumns x u)) ≡ r .m / 2
+  pub elements : (u y : ℕ) → getD (publicColumns x u) y 0 < 2 ^ 128
+
 -- every number is below n
 abbrev pub EachBelow : ℕ → List ℕ → Type 0
 EachBelow n l = (i : ℕ) → getD l i 0 < n
@@ -54,16 +60,15 @@ abbrev pub Elements : List ℕ → Type 0
 Elements l = EachBelow (2 ^ 128) l
 
 -- what both ends are given: the public columns x, and the draws d
-pub record SizedRun (r : Relation) (b : Batch) (x d : List ℕ) : Type 0 where
+pub record SizedRun (r : Relation) (b : Batch) (x : PublicColumns) (d : List ℕ) : Type 0 where
   pub relation : SizedRelation r
   pub batch : SizedBatch r b
-  pub public : suc (length x) ≡ r .m / 2
+  pub public : SizedPublic r x
   pub draws : length d ≡ drawCount r
-  pub elements-x : Elements x
   pub elements-d : Elements d
 
 -- and what the verifier is given besides: the proof's elements w
-pub record SizedProof (r : Relation) (b : Batch) (x w d : List ℕ) : Type 0 where
+pub record SizedProof (r : Relation) (b : Batch) (x : PublicColumns) (w d : List ℕ) : Type 0 where
   pub run : SizedRun r b x d
   pub words : length w ≡ proofElements r
   pub elements-w : Elements w

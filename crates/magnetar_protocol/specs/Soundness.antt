@@ -7,7 +7,7 @@ use mathlib.Core.Bool.{true}
 use mathlib.Core.List.{List, map, List·Memᴰ}
 use Prim.Native.Nat.{ℕ, _/_, _<_, _≤_}
 use lib.ListN.{length, getD, take}
-use Rattle.magnetar_matrix.specs.Batch.{Relation, Batch, bitOf}
+use Rattle.magnetar_matrix.specs.Batch.{Relation, Batch, PublicColumns, bitOf}
 use Rattle.magnetar_layout.specs.Layout.{outside}
 use Rattle.magnetar_theory.specs.Lists.{lists}
 use Rattle.magnetar_theory.specs.Absorbed.{absorbedCount}
@@ -21,7 +21,7 @@ NoBitOutside r b = (u y : ℕ) → u < r .q → y < r .m / 2 → outside (r .len
 
 -- the list of the next draw, from the relation, the batch, the public columns, the proof's elements absorbed so far, and the
 -- draws so far
-unfoldable pub badDraws : Relation → Batch → List ℕ → (absorbed drawn : List ℕ) → List ℕ
+unfoldable pub badDraws : Relation → Batch → PublicColumns → (absorbed drawn : List ℕ) → List ℕ
 badDraws r b x absorbed drawn =
     map number (lists gf128 (logLogins r) (relationE r) (publicE x) (batchE b) (els absorbed) (els drawn))
 
@@ -30,7 +30,7 @@ unfoldable pub absorbedBefore : Relation → ℕ → ℕ
 absorbedBefore r k = absorbedCount (logLogins r) (logBin r) (logFld r) k
 
 -- some draw lies in its list, and that list has at most three elements
-abbrev pub BadDraw : Relation → Batch → List ℕ → (words draws : List ℕ) → Type 0
+abbrev pub BadDraw : Relation → Batch → PublicColumns → (words draws : List ℕ) → Type 0
 BadDraw r b x w d =
     (k : ℕ) × (k < length d) × (length (badDraws r b x (take (absorbedBefore r k) w) (take k d)) ≤ 3)
     × List·Memᴰ (getD d k 0) (badDraws r b x (take (absorbedBefore r k) w) (take k d))

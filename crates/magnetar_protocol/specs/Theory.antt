@@ -1,4 +1,4 @@
--- The run over numbers as a run of magnetar_theory over GF(2^128): the relation, the batch, the public half, the draws and the
+-- The run over numbers as a run of magnetar_theory over GF(2^128): the relation, the batch, the public halves, the draws and the
 -- proof's elements, each number as the element that it stands for.
 -- Source: document 01, "The run", in the terms of magnetar_theory.
 -- Assumes nothing.
@@ -6,7 +6,7 @@ use mathlib.Core.List.{List, [], _∷_, map}
 use Prim.Native.Nat.{ℕ, _-_, _/_}
 use Rattle.magnetar_field.specs.Sizes.{log₂}
 use Rattle.magnetar_matrix.specs.Matrix.{Entry, Matrix, System}
-use Rattle.magnetar_matrix.specs.Batch.{Relation, Batch}
+use Rattle.magnetar_matrix.specs.Batch.{Relation, Batch, PublicColumns}
 use Rattle.magnetar_layout.specs.Layout.{offsets}
 use Rattle.magnetar_theory.specs.Matrix.{Entry as EntryE}
 use Rattle.magnetar_theory.specs.Segment.{Segment}
@@ -52,8 +52,8 @@ relationE r = record {
 }
 
 -- the public half of each login's z
-abbrev pub publicE : List ℕ → List Element
-publicE x = els (1 ∷ x)
+abbrev pub publicE : PublicColumns → List (List Element)
+publicE x = map (λ (c : List ℕ). els (1 ∷ c)) x
 
 -- a batch
 abbrev pub batchE : Batch → List (List Element)

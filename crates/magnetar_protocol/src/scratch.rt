@@ -12,11 +12,11 @@ pub struct ScratchWords {
 }
 
 // The verifier's words.
-fn verifier_words(m: usize, rb: usize, rf: usize) -> usize
-    requires { ⌜ (m ≤ 65536) × (rb ≤ 65536) × (rf ≤ 65536) ⌝ }
-    ensures { λ r. ⌜ r ≡ verifierScratch m rb rf ⌝ }
+fn verifier_words(m: usize, q: usize, rb: usize, rf: usize) -> usize
+    requires { ⌜ (m ≤ 65536) × (q ≤ 4096) × (rb ≤ 65536) × (rf ≤ 65536) ⌝ }
+    ensures { λ r. ⌜ r ≡ verifierScratch m q rb rf ⌝ }
 {
-    4 * m + 4 * sizes::larger(rb, rf)
+    4 * m + 4 * sizes::larger(rb, rf) + 2 * q
 }
 
 // q times the rows of both systems.
@@ -33,7 +33,7 @@ fn prover_words(m: usize, q: usize, rb: usize, rf: usize) -> usize
     requires { ⌜ (m ≤ 65536) × (q ≤ 4096) × (rb ≤ 65536) × (rf ≤ 65536) ⌝ }
     ensures { λ r. ⌜ r ≡ proverScratch m q rb rf ⌝ }
 {
-    8 * positions(q, rb, rf) + 8 * m + 4 * sizes::larger(rb, rf) + 4 * q
+    8 * positions(q, rb, rf) + 8 * m + 4 * sizes::larger(rb, rf) + 6 * q
 }
 
 // How many words of scratch the verifier asks for, over q logins with m columns, rb rows of bin and rf rows of fld.
@@ -45,7 +45,7 @@ pub fn verifier_scratch(m: usize, q: usize, rb: usize, rf: usize) -> ScratchWord
     if z != 0 {
         return ScratchWords { code: z, words: 0 };
     }
-    let n = verifier_words(m, rb, rf);
+    let n = verifier_words(m, q, rb, rf);
     ScratchWords { code: 0, words: n }
 }
 

@@ -28,7 +28,7 @@ use Rattle.magnetar_multilinear.proofs.Evaluating.{bindVar-length}
 use Rattle.magnetar_sumcheck_verifier.specs.Order.{nextVar, fewer}
 use Rattle.magnetar_sumcheck_verifier.specs.Messages.{Outer, outerStart, outerVar, outerFold}
 use Rattle.magnetar_matrix.specs.Sum.{sumBelow}
-use Rattle.magnetar_matrix.specs.Batch.{Batch, bitOf, foldedAt, folded, claimValue}
+use Rattle.magnetar_matrix.specs.Batch.{Batch, PublicColumns, publicHalf, bitOf, foldedAt, folded, publicFoldedAt, publicFolded, claimValue}
 use Rattle.magnetar_protocol.specs.RunSizes.{Elements}
 use Rattle.magnetar_protocol.proofs.ClaimValues.{sum-times}
 use Rattle.magnetar_protocol.proofs.HonestBelow.{tabulate-below, sum-lt}
@@ -260,3 +260,7 @@ segment-is q w b p l o n h k =
 pub folded-elements : (q w : ℕ) (b : Batch) (p : List ℕ) → AllBelow (2 ^ 128) (folded q w b p)
 unfolding folded foldedAt
 folded-elements q w b p = tabulate-below (foldedAt q b p) w (λ y. sum-lt q (λ u. eqAt p u ⊗ bitOf b u y) (λ u. ⊗-lt (eqAt p u) (bitOf b u y)))
+
+pub half-elements : (q w : ℕ) (x : PublicColumns) (p : List ℕ) → AllBelow (2 ^ 128) (publicFolded q w x p)
+unfolding publicFolded publicFoldedAt
+half-elements q w x p = tabulate-below (publicFoldedAt q x p) w (λ y. sum-lt q (λ u. eqAt p u ⊗ getD (publicHalf x u) y 0) (λ u. ⊗-lt (eqAt p u) _))

@@ -4,7 +4,7 @@
 use mathlib.Core.Path.{_≡_, refl, sym, ap, _∙_}
 use mathlib.Core.Bool.{Bool, true, false, cond}
 use mathlib.Core.List.{List, [], _∷_, _++_, append-assoc}
-use Prim.Native.Nat.{ℕ, zero, suc, _+_, _*_, _<_}
+use Prim.Native.Nat.{ℕ, zero, suc, _+_, _*_, _/_, _<_}
 use native.Mathlib.Omega.{arith}
 use lib.Dec.{eqb, lit<}
 use lib.ListN.{length, drop}
@@ -12,7 +12,7 @@ use borrow.Author.Tests.{ne-eqb}
 use Rattle.magnetar_field.specs.Gf128.{_⊕_, _⊗_}
 use Rattle.magnetar_multilinear.specs.EqTable.{eqAt}
 use Rattle.magnetar_multilinear.specs.Multilinear.{mle}
-use Rattle.magnetar_matrix.specs.Batch.{Relation, publicFolded}
+use Rattle.magnetar_matrix.specs.Batch.{Relation, PublicColumns, publicFolded}
 use Rattle.magnetar_layout.specs.Layout.{localVars, suffix}
 use Rattle.magnetar_protocol.specs.Shape.{logLogins, sizesOnly, afterTaus, afterInner}
 use Rattle.magnetar_protocol.specs.Proof.{binMessages, fldMessages, valueZ, segmentValues}
@@ -47,14 +47,14 @@ stop-none (c ∷ cs) n h e = step (c .passes) (c .refusal) (c .events) (firstFai
     step false m e a s n l z q = absurd (omega arith)
 
 -- ---- the two blocks
-module _ (r : Relation) (x w : List ℕ) (D : Draws) where
+module _ (r : Relation) (x : PublicColumns) (w : List ℕ) (D : Draws) where
   -- the outer rounds and the terminals
   abbrev pub outerChecks : List Check
   outerChecks = sharedChecks r w D 0 (logLogins r) ++ (rowChecks r w D ++ terminalChecks r w D)
 
   -- the inner rounds and the identity of the segments
   abbrev pub laterChecks : List Check
-  laterChecks = innerChecks r w D (combined r D) ++ identityCheck r w D (publicFolded x (loginPoint D))
+  laterChecks = innerChecks r w D (combined r D) ++ identityCheck r w D (publicFolded (r .q) (r .m / 2) x (loginPoint D))
 
   pub checks-are : checks r x w D ≡ outerChecks ++ laterChecks
   unfolding checks
@@ -66,12 +66,12 @@ module _ (r : Relation) (x w : List ℕ) (D : Draws) where
   pub outer-numbered : Numbered outerChecks
   outer-numbered =
       numbered-append (sharedChecks r w D 0 (logLogins r)) (rowChecks r w D ++ terminalChecks r w D)
-      (shared-numbered r x w D 0 (logLogins r))
-      (numbered-append (rowChecks r w D) (terminalChecks r w D) (rows-numbered r x w D) (terminals-numbered r x w D))
+      (shared-numbered r w D 0 (logLogins r))
+      (numbered-append (rowChecks r w D) (terminalChecks r w D) (rows-numbered r w D) (terminals-numbered r w D))
 
   pub later-numbered : Numbered laterChecks
   later-numbered =
-      numbered-append (innerChecks r w D (combined r D)) (identityCheck r w D (publicFolded x (loginPoint D))) (inner-numbered r x w D)
+      numbered-append (innerChecks r w D (combined r D)) (identityCheck r w D (publicFolded (r .q) (r .m / 2) x (loginPoint D))) (inner-numbered r w D)
       (unfold identityCheck in (lit< tt, tt))
 
   pub refusal-blocks : firstFailure (checks r x w D) ≡ orElse (firstFailure outerChecks) (firstFailure laterChecks)
@@ -85,7 +85,7 @@ module _ (r : Relation) (x w : List ℕ) (D : Draws) where
   checks-numbered = rw checks-are (numbered-append outerChecks laterChecks outer-numbered later-numbered)
 
 -- the same of the answer and the stop of a run
-module _ (r : Relation) (x w d : List ℕ) where
+module _ (r : Relation) (x : PublicColumns) (w d : List ℕ) where
   pub verdict-blocks : verdict r x w d ≡ orElse (firstFailure (outerChecks r x w (drawsOf r d))) (firstFailure (laterChecks r x w (drawsOf r d)))
   unfolding verdict
   verdict-blocks = refusal-blocks r x w (drawsOf r d)
@@ -119,7 +119,7 @@ module _ (r : Relation) where
   unfolding claims drawsOf lowPoint segmentValues
   claims-outlined w d = refl
 
-  module _ (x w : List ℕ) (D : Draws) where
+  module _ (w : List ℕ) (D : Draws) where
     pub shared-outlined : (i n : ℕ) → sharedChecks r w D i n ≡ sharedChecks (outlined r) w D i n
     unfolding sharedChecks binMessages fldMessages
     shared-outlined i zero = refl

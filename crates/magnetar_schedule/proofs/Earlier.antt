@@ -14,7 +14,7 @@ use Rattle.magnetar_multilinear.specs.Multilinear.{mle, bindVar}
 use Rattle.magnetar_sumcheck_verifier.specs.Inner.{innerMessage}
 use Rattle.magnetar_sumcheck_verifier.specs.Messages.{Outer, outerStart, outerNext, outerFold, outerMessages, innerMessages}
 use Rattle.magnetar_matrix.specs.Matrix.{System}
-use Rattle.magnetar_matrix.specs.Batch.{Relation, Batch}
+use Rattle.magnetar_matrix.specs.Batch.{Relation, Batch, PublicColumns}
 use Rattle.magnetar_protocol.specs.Shape.{logLogins, logBin, logFld, logCols, beforeTerminals, beforeInner, afterTaus}
 use Rattle.magnetar_protocol.specs.Proof.{part, binMessages, fldMessages, innerRounds}
 use Rattle.magnetar_protocol.specs.Draws.{Draws, drawCount, drawsOf, loginPoint}
@@ -69,7 +69,7 @@ value-at o i w v post h e l =
     ∙ take-append-le 1 (drop i v) post (rw length-drop (omega arith))
 
 -- ---- the messages of the honest proof
-module _ (r : Relation) (b : Batch) (x : List ℕ) where
+module _ (r : Relation) (b : Batch) (x : PublicColumns) where
   abbrev s : ℕ
   s = logLogins r
 
@@ -164,7 +164,7 @@ module _ (n : ℕ) (d e : List ℕ) (h : take n d ≡ take n e) where
   begin-same a m i k l = take-take i m (drop a d) k ∙ part-same a i l ∙ sym (take-take i m (drop a e) k)
 
 -- ---- the words at two lists of draws that begin with the same n
-module _ (r : Relation) (b : Batch) (x d e : List ℕ) (hd : length d ≡ drawCount r) (he : length e ≡ drawCount r)
+module _ (r : Relation) (b : Batch) (x : PublicColumns) (d e : List ℕ) (hd : length d ≡ drawCount r) (he : length e ≡ drawCount r)
     (n : ℕ) (h : take n d ≡ take n e) where
   abbrev D : Draws
   D = drawsOf r d
@@ -253,7 +253,7 @@ module _ (r : Relation) (b : Batch) (x d e : List ℕ) (hd : length d ≡ drawCo
       B = cut r e he
 
 -- ---- what is absorbed before the first draw uses none: there are no rounds then, and the terminals come first
-module _ (r : Relation) (b : Batch) (x d : List ℕ) (s₀ : logLogins r ≡ 0) (g₀ : logBin r ≡ 0) (h₀ : logFld r ≡ 0) where
+module _ (r : Relation) (b : Batch) (x : PublicColumns) (d : List ℕ) (s₀ : logLogins r ≡ 0) (g₀ : logBin r ≡ 0) (h₀ : logFld r ≡ 0) where
   abbrev D₀ : Draws
   D₀ = drawsOf r d
 
@@ -292,7 +292,7 @@ module _ (r : Relation) (b : Batch) (x d : List ℕ) (s₀ : logLogins r ≡ 0) 
       value-at (beforeTerminals r) i (proverProof r b x d) (terminalValues r b x D₀) rest
       (ap (λ (k : ℕ). drop k (proverProof r b x d)) z ∙ terminals-first) refl l
 
-pub first-say : (r : Relation) (b : Batch) (x d e : List ℕ) → Says r 0 (proverProof r b x d) (proverProof r b x e)
+pub first-say : (r : Relation) (b : Batch) (x : PublicColumns) (d e : List ℕ) → Says r 0 (proverProof r b x d) (proverProof r b x e)
 first-say r b x d e = record {
   shared = λ i l k. absurd (omega arith);
   rowBin = λ i l k. absurd (omega arith);

@@ -7,7 +7,7 @@ use native.Mathlib.Omega.{arith}
 use lib.ListN.{length, take}
 use lib.Seq.{take-all}
 use Rattle.magnetar_hash.specs.declared.transcript.Transcript.{Transcript}
-use Rattle.magnetar_matrix.specs.Batch.{Relation, Batch}
+use Rattle.magnetar_matrix.specs.Batch.{Relation, Batch, PublicColumns}
 use Rattle.magnetar_protocol.specs.Shape.{proofElements}
 use Rattle.magnetar_protocol.specs.Draws.{drawCount, drawsOf, loginPoint, lowPoint}
 use Rattle.magnetar_schedule.specs.Schedule.{schedule}
@@ -23,7 +23,7 @@ use Rattle.magnetar_schedule.proofs.Counts.{verifier-count, verifier-el
 use Rattle.magnetar_schedule.proofs.Heard.{Says, schedule-same, play-same}
 use Rattle.magnetar_schedule.proofs.Earlier.{first-say, words-say}
 
-module _ (r : Relation) (b : Batch) (x : List ℕ) (t : Transcript) where
+module _ (r : Relation) (b : Batch) (x : PublicColumns) (t : Transcript) where
   -- what a verifier draws who is given the honest proof at d
   abbrev again : List ℕ → List ℕ
   again d = verifierDraws r (proverProof r b x d) t

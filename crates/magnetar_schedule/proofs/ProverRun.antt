@@ -5,9 +5,9 @@ use mathlib.Core.List.{List, [], _∷_, _++_}
 use Prim.Native.Nat.{ℕ, zero, suc, _+_, _-_, _*_, _/_, _^_, _≤_, _<_}
 use native.Mathlib.Omega.{arith}
 use mathlib.Core.Bool.{Bool, true, false, cond}
-use lib.Dec.{eqb, lit<}
+use lib.Dec.{eqb}
 use lib.ListN.{length, getD, take, drop}
-use lib.Pow.{pow-pos, pow-add, pow-lt}
+use lib.Pow.{pow-pos, pow-add}
 use lib.Seq.{take-at, drop-at, length-take-le}
 use Rattle.magnetar_field.specs.Gf128.{_⊗_}
 use Rattle.magnetar_field.specs.Sizes.{log₂}
@@ -21,7 +21,7 @@ use Rattle.magnetar_hash.specs.declared.transcript.Transcript.{Transcript}
 use Rattle.magnetar_sumcheck_verifier.specs.Messages.{Outer, outerStart, outerMessages, innerMessages}
 use Rattle.magnetar_matrix.specs.Sum.{blocks}
 use Rattle.magnetar_matrix.specs.Matrix.{Entry, Matrix, System, sumOver, rowTotal, share, timesAt, times}
-use Rattle.magnetar_matrix.specs.Batch.{Relation, Batch, batchProducts, folded, publicFolded}
+use Rattle.magnetar_matrix.specs.Batch.{Relation, Batch, PublicColumns, batchProducts, folded, publicFolded}
 use Rattle.magnetar_layout.specs.Layout.{offset}
 use Rattle.magnetar_protocol.specs.Shape.{logLogins, logCols}
 use Rattle.magnetar_protocol.specs.Draws.{Draws, loginPoint, lowPoint}
@@ -29,7 +29,7 @@ use Rattle.magnetar_schedule.specs.Schedule.{schedule}
 use Rattle.magnetar_schedule.specs.ScheduleRun.{RunState, runFrom}
 use Rattle.magnetar_protocol.specs.Checks.{combined}
 use Rattle.magnetar_protocol.specs.Run.{trueValue, claims}
-use Rattle.magnetar_protocol.specs.RunSizes.{SizedSystem, SizedRelation, SizedBatch, Elements}
+use Rattle.magnetar_protocol.specs.RunSizes.{SizedSystem, SizedRelation, Elements}
 use Rattle.magnetar_protocol.specs.Theory.{logHalf}
 use Rattle.magnetar_protocol.specs.Prover.{joined, interleaved, productTable, outerRounds, binRounds, fldRounds, terminalValues, foldedZ, trueValues, honestProof, proverProof, proverClaims}
 use Rattle.magnetar_schedule.specs.Stepwise.{segmentValue}
@@ -42,7 +42,7 @@ use Rattle.magnetar_protocol.proofs.HonestTables.{product-length, foldedZ-lengt
 use Rattle.magnetar_protocol.proofs.HonestParts.{outer-count}
 use Rattle.magnetar_protocol.proofs.HonestBelow.{elements-of, both, tabulate-below}
 use Rattle.magnetar_schedule.proofs.StepLaws.{folds, messages-append, binds}
-use Rattle.magnetar_schedule.proofs.Bindings.{binds-left, left-a, left-b, left-c, segment-is, folded-elements}
+use Rattle.magnetar_schedule.proofs.Bindings.{binds-left, left-a, left-b, left-c, segment-is, folded-elements, half-elements}
 use Rattle.magnetar_schedule.proofs.Stepwise.{shared, tau-bin-length, tau-fld-length, shared-length, row-bin-length, row-fld-length, alpha-length, leftOf, binAtStart, fldAtStart, ends-bin, ends-fld, outerSent, inner-of, inner-of-length, lastSent, proving-sent, plays-the-same, outer-parts, parts, parts-are}
 use Rattle.magnetar_schedule.proofs.ProverDraws.{drawn-only, prover-claims}
 
@@ -65,23 +65,21 @@ unfolding blocks
 blocks-below f zero h = tt
 blocks-below f (suc n) h = both (blocks f n) (f n) (blocks-below f n h) (h n)
 
-product-elements : (r : Relation) (b : Batch) (x : List ℕ) (m : Matrix) → Elements (productTable r b x m)
+product-elements : (r : Relation) (b : Batch) (x : PublicColumns) (m : Matrix) → Elements (productTable r b x m)
 unfolding productTable batchProducts times
 product-elements r b x m =
     elements-of (productTable r b x m) (blocks-below _ (r .q) (λ u. tabulate-below _ (m .rows) (times-lt m _)))
 
-elements-both : (s t : List ℕ) → Elements s → Elements t → Elements (s ++ t)
-elements-both [] t h k i = k i
-elements-both (v ∷ s) t h k zero = h 0
-elements-both (v ∷ s) t h k (suc i) = elements-both s t (λ j. h (suc j)) k i
-
-one-more : (x : List ℕ) → Elements x → Elements (1 ∷ x)
-one-more x h zero = pow-lt {i = 0} {j = 128} (lit< tt)
-one-more x h (suc i) = h i
-
-module _ (r : Relation) (b : Batch) (x : List ℕ) (t : Transcript) where
+module _ (r : Relation) (b : Batch) (x : PublicColumns) (t : Transcript) where
   abbrev D : Draws
   D = parts r b x t
+
+  -- the bits and the public halves, folded at a point
+  abbrev bitsAt : List ℕ → List ℕ
+  bitsAt p = folded (r .q) (r .m / 2) b p
+
+  abbrev halfAt : List ℕ → List ℕ
+  halfAt p = publicFolded (r .q) (r .m / 2) x p
 
   pub parts-cut : Cut r (parts r b x t)
   parts-cut = record {
@@ -130,12 +128,12 @@ module _ (r : Relation) (b : Batch) (x : List ℕ) (t : Transcript) where
   unfolding loginPoint
   point-same = ap loginPoint (outer-parts r b x t)
 
-  module _ (R : SizedRelation r) (B : SizedBatch r b) (px : suc (length x) ≡ r .m / 2) (ex : Elements x) where
+  module _ (R : SizedRelation r) where
     -- ---- the terminals
     table-size : (s : System) (tau : List ℕ) → SizedSystem (r .m) (r .q) s → length tau ≡ logLogins r + log₂ (s .a .rows)
         → (m : Matrix) → m .rows ≡ s .a .rows → length (productTable r b x m) ≡ 2 ^ length tau
     table-size s tau Z ht m e =
-        product-length r b x R B m ∙ ap₂ _*_ (R .logins .power) (e ∙ Z .rows .power)
+        product-length r b x m ∙ ap₂ _*_ (R .logins .power) (e ∙ Z .rows .power)
         ∙ sym (pow-add 2 (logLogins r) (log₂ (s .a .rows)))
         ∙ ap (λ (k : ℕ). 2 ^ k) (sym ht)
 
@@ -177,15 +175,15 @@ module _ (r : Relation) (b : Batch) (x : List ℕ) (t : Transcript) where
     -- ---- v_z and the segment values
     z-elements : Elements (foldedZ r b x D)
     unfolding foldedZ
-    z-elements = elements-both (folded (r .q) (r .m / 2) b (loginPoint D)) (1 ∷ x)
-        (elements-of (folded (r .q) (r .m / 2) b (loginPoint D)) (folded-elements (r .q) (r .m / 2) b (loginPoint D))) (one-more x ex)
+    z-elements = elements-of (bitsAt (loginPoint D) ++ halfAt (loginPoint D)) (both (bitsAt (loginPoint D)) (halfAt (loginPoint D))
+        (folded-elements (r .q) (r .m / 2) b (loginPoint D)) (half-elements (r .q) (r .m / 2) x (loginPoint D)))
 
     z-is : getD (binds (D .inner) (foldedZ r b x D)) 0 0 ≡ mle (foldedZ r b x D) (D .inner)
     z-is = binds-left (D .inner) (foldedZ r b x D)
-        (foldedZ-length r b x D R B parts-cut px ∙ ap (λ (k : ℕ). 2 ^ k) (sym (cols-suc r R) ∙ sym (parts-cut .inner))) z-elements
+        (foldedZ-length r b x D R ∙ ap (λ (k : ℕ). 2 ^ k) (sym (cols-suc r R) ∙ sym (parts-cut .inner))) z-elements
 
     value-is : (i : ℕ) → i < length (r .lengths)
-        → segmentValue r (combined r D) (folded (r .q) (r .m / 2) b (loginPoint D)) (publicFolded x (loginPoint D)) (lowPoint r D) i ≡ trueValue r b D i
+        → segmentValue r (combined r D) (bitsAt (loginPoint D)) (halfAt (loginPoint D)) (lowPoint r D) i ≡ trueValue r b D i
     unfolding segmentValue trueValue
     value-is i h =
         segment-is (r .q) (r .m / 2) b (loginPoint D) (take (log₂ n) (lowPoint r D)) (offset (r .lengths) i) n
@@ -209,7 +207,7 @@ module _ (r : Relation) (b : Batch) (x : List ℕ) (t : Transcript) where
             below : {k a c : ℕ} → a ≡ c → k ≤ c → k ≤ a
             below e l = omega arith
 
-    values-are : tabulate (segmentValue r (combined r D) (folded (r .q) (r .m / 2) b (loginPoint D)) (publicFolded x (loginPoint D)) (lowPoint r D))
+    values-are : tabulate (segmentValue r (combined r D) (bitsAt (loginPoint D)) (halfAt (loginPoint D)) (lowPoint r D))
         (length (r .lengths)) ≡ trueValues r b D
     unfolding trueValues
     values-are = tabulate-ext _ (trueValue r b D) (length (r .lengths)) value-is
@@ -224,9 +222,9 @@ module _ (r : Relation) (b : Batch) (x : List ℕ) (t : Transcript) where
       where
         sent : List ℕ → List ℕ → List ℕ
         sent c p =
-            joined (innerMessages c (folded (r .q) (r .m / 2) b p ++ publicFolded x p) (D .inner))
-            ++ (getD (binds (D .inner) (folded (r .q) (r .m / 2) b p ++ publicFolded x p)) 0 0
-            ∷ tabulate (segmentValue r c (folded (r .q) (r .m / 2) b p) (publicFolded x p) (take (logCols r - 1) (D .inner))) (length (r .lengths)))
+            joined (innerMessages c (bitsAt p ++ halfAt p) (D .inner))
+            ++ (getD (binds (D .inner) (bitsAt p ++ halfAt p)) 0 0
+            ∷ tabulate (segmentValue r c (bitsAt p) (halfAt p) (take (logCols r - 1) (D .inner))) (length (r .lengths)))
 
     words-same : outerSent r (productTables r b x) t (lastSent r b x t (inner-of r b x t)) ≡ honestProof r b x D
     unfolding honestProof

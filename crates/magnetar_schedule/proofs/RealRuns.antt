@@ -3,11 +3,11 @@
 use mathlib.Core.Path.{_≡_, sym, ap, _∙_, subst}
 use mathlib.Core.List.{List}
 use mathlib.Core.Logic.{_⊎_}
-use Prim.Native.Nat.{ℕ, _+_, _*_, _/_, _≤_, max}
+use Prim.Native.Nat.{ℕ, _+_, _*_, _≤_, max}
 use lib.ListN.{length, take}
 use lib.Seq.{take-length}
 use Rattle.magnetar_hash.specs.declared.transcript.Transcript.{Transcript}
-use Rattle.magnetar_matrix.specs.Batch.{Relation, Batch}
+use Rattle.magnetar_matrix.specs.Batch.{Relation, Batch, PublicColumns}
 use Rattle.magnetar_theory.specs.Count.{naturalSum}
 use Rattle.magnetar_protocol.specs.Shape.{logLogins, logBin, logFld, logCols, proofElements}
 use Rattle.magnetar_schedule.specs.Schedule.{Event, schedule}
@@ -27,14 +27,13 @@ use Rattle.magnetar_schedule.specs.Theorems.{SoundnessRun, CompletenessR
 -- Where a verifier accepts whose draws are those of its transcript, no bit is set outside the segments and every returned claim is
 -- true of the batch, the batch is good, or some draw lies in its list of at most three elements.
 pub soundness-run : SoundnessRun
-soundness-run r b x w t R B px ex lw ew =
+soundness-run r b x w t R B X lw ew =
     soundness r b x w (verifierDraws r w t) (record {
       run = record {
         relation = R;
         batch = B;
-        public = px;
+        public = X;
         draws = verifier-count r w t;
-        elements-x = ex;
         elements-d = verifier-elements r w t;
       };
       words = lw;
@@ -42,7 +41,7 @@ soundness-run r b x w t R B px ex lw ew =
     })
 
 -- all lists along the run together
-pub lists-run : (r : Relation) (b : Batch) (x w : List ℕ) (t : Transcript) → SizedRelation r
+pub lists-run : (r : Relation) (b : Batch) (x : PublicColumns) (w : List ℕ) (t : Transcript) → SizedRelation r
     → naturalSum (length (verifierDraws r w t))
     (λ k. length (badDraws r b x (take (absorbedBefore r k) w) (take k (verifierDraws r w t))))
     ≤ 4 * (logLogins r + max (logBin r) (logFld r)) + 1 + 2 * logCols r
@@ -50,7 +49,7 @@ lists-run r b x w t R = all-lists r b x w (verifierDraws r w t) R (verifier-coun
 
 -- Of a good batch with no bit outside the segments, the verifier who is given the prover's proof and the same transcript agrees.
 pub completeness-run : CompletenessRun
-completeness-run r b x t R B px ex g stray = record {
+completeness-run r b x t R B X g stray = record {
   same-draws = drawn;
   accepted = accepts;
   same-claims = ap (claims r (sentProof r b x t)) drawn ∙ claimed;
@@ -62,9 +61,8 @@ completeness-run r b x t R B px ex g stray = record {
     convinced = completeness r b x (proverDraws r b x t) (record {
       relation = R;
       batch = B;
-      public = px;
+      public = X;
       draws = prover-count r b x t;
-      elements-x = ex;
       elements-d = prover-elements r b x t;
     }) g stray
 

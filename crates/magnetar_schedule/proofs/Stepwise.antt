@@ -13,7 +13,7 @@ use Rattle.magnetar_field.proofs.Tabulation.{tabulate-length}
 use Rattle.magnetar_hash.specs.Bytes.{ascii}
 use Rattle.magnetar_hash.specs.declared.transcript.Transcript.{Transcript}
 use Rattle.magnetar_sumcheck_verifier.specs.Messages.{Outer, outerStart, outerMessages, innerMessages}
-use Rattle.magnetar_matrix.specs.Batch.{Relation, Batch, folded, publicFolded}
+use Rattle.magnetar_matrix.specs.Batch.{Relation, Batch, PublicColumns, folded, publicFolded}
 use Rattle.magnetar_protocol.specs.Shape.{logLogins, logBin, logFld, logCols, beforeTerminals, beforeInner}
 use Rattle.magnetar_protocol.specs.Draws.{Draws, drawCount, drawsOf, loginPoint}
 use Rattle.magnetar_schedule.specs.Schedule.{Event, absorb, draw, numbered, rounds, singles, schedule}
@@ -404,7 +404,7 @@ module _ (r : Relation) (c f half : List ℕ) (p : Steps) (n : ℕ) (h : length 
       more a l = omega arith
 
 -- ---- the whole run
-module _ (r : Relation) (b : Batch) (x : List ℕ) (t : Transcript) where
+module _ (r : Relation) (b : Batch) (x : PublicColumns) (t : Transcript) where
   abbrev T : Tables
   T = productTables r b x
 
@@ -415,7 +415,7 @@ module _ (r : Relation) (b : Batch) (x : List ℕ) (t : Transcript) where
   f = folded (r .q) (r .m / 2) b (loginPoint (outerDraws r b x t))
 
   abbrev half : List ℕ
-  half = publicFolded x (loginPoint (outerDraws r b x t))
+  half = publicFolded (r .q) (r .m / 2) x (loginPoint (outerDraws r b x t))
 
   outer-proving-length : length (outerProving r b x t .sent) ≡ beforeInner r
   unfolding outerProving

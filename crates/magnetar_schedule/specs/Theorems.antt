@@ -1,17 +1,18 @@
 -- What is proved of the schedule, and of runs with their transcript: each statement is the type of the law that it names.
--- Source: document 01, "The run" (both halves of demand 3, for the draws of the transcript).
+-- Source: document 01, "The run" (both halves of demand 3, for the draws of the transcript); document 02, U6 (with every login's own public
+-- columns).
 -- Assumes nothing.
 use mathlib.Core.Path.{_≡_}
 use mathlib.Core.Logic.{_⊎_}
 use mathlib.Core.List.{List}
-use Prim.Native.Nat.{ℕ, suc, _/_, _<_}
+use Prim.Native.Nat.{ℕ, _<_}
 use lib.ListN.{length}
 use Rattle.magnetar_hash.specs.declared.transcript.Transcript.{Transcript}
-use Rattle.magnetar_matrix.specs.Batch.{Relation, Batch, Good}
+use Rattle.magnetar_matrix.specs.Batch.{Relation, Batch, PublicColumns, Good}
 use Rattle.magnetar_protocol.specs.Shape.{proofElements}
 use Rattle.magnetar_protocol.specs.Draws.{drawCount}
 use Rattle.magnetar_protocol.specs.Run.{verdict, claims, ClaimsTrue}
-use Rattle.magnetar_protocol.specs.RunSizes.{SizedRelation, SizedBatch, Elements}
+use Rattle.magnetar_protocol.specs.RunSizes.{SizedRelation, SizedBatch, SizedPublic, Elements}
 use Rattle.magnetar_protocol.specs.Soundness.{NoBitOutside, absorbedBefore, BadDraw}
 use Rattle.magnetar_schedule.specs.Schedule.{schedule, absorbedUntil, InOrder}
 use Rattle.magnetar_schedule.specs.RealRun.{verifierDraws, sentProof, proverDraws, Agrees}
@@ -29,8 +30,8 @@ AbsorbedBefore r = (k : ℕ) → k < drawCount r → absorbedUntil (schedule r) 
 -- proofs/RealRuns `soundness-run`: the first half, of the draws that the transcript gives
 abbrev pub SoundnessRun : Type 0
 SoundnessRun =
-    (r : Relation) (b : Batch) (x w : List ℕ) (t : Transcript)
-    → SizedRelation r → SizedBatch r b → suc (length x) ≡ r .m / 2 → Elements x → length w ≡ proofElements r → Elements w
+    (r : Relation) (b : Batch) (x : PublicColumns) (w : List ℕ) (t : Transcript)
+    → SizedRelation r → SizedBatch r b → SizedPublic r x → length w ≡ proofElements r → Elements w
     → verdict r x w (verifierDraws r w t) ≡ 0
     → NoBitOutside r b
     → ClaimsTrue r b (claims r w (verifierDraws r w t))
@@ -39,13 +40,13 @@ SoundnessRun =
 -- proofs/RealRuns `completeness-run`: the second half, of a verifier who is given the prover's proof and the same transcript
 abbrev pub CompletenessRun : Type 0
 CompletenessRun =
-    (r : Relation) (b : Batch) (x : List ℕ) (t : Transcript)
-    → SizedRelation r → SizedBatch r b → suc (length x) ≡ r .m / 2 → Elements x
+    (r : Relation) (b : Batch) (x : PublicColumns) (t : Transcript)
+    → SizedRelation r → SizedBatch r b → SizedPublic r x
     → Good r b x
     → NoBitOutside r b
     → Agrees r b x t
 
 -- ---- the prover's draws
 -- proofs/ProverDraws `drawn-again`: a verifier who is given the prover's proof draws what the prover drew
-abbrev pub DrawnAgain : (r : Relation) (b : Batch) (x : List ℕ) (t : Transcript) → Type 0
+abbrev pub DrawnAgain : (r : Relation) (b : Batch) (x : PublicColumns) (t : Transcript) → Type 0
 DrawnAgain r b x t = verifierDraws r (sentProof r b x t) t ≡ proverDraws r b x t

@@ -110,7 +110,7 @@ module _ (F : Field) where
   left : (n : ℕ) (p : List K) → n ≤ length p → length p ≡ n + length (drop n p)
   left n p h = omega (arith, length-drop n p)
 
-  module _ (s : ℕ) (R : Relation F) (x : List K) (ws : List (List K)) (w : List K) where
+  module _ (s : ℕ) (R : Relation F) (xs ws : List (List K)) (w : List K) where
     -- with the parts that are over counted off
     module _ (p : List K) where
       abbrev p₁ : List K
@@ -142,29 +142,29 @@ module _ (F : Field) where
           count a b n n₁ n₂ h k = omega arith
 
     -- the list of a draw uses no element that was not absorbed before it
-    pub absorbed-lists : (p : List K) → lists F s R x ws (take (absorbedCount s (R .bin .logRows) (R .fld .logRows) (length p)) w) p
-        ≡ lists F s R x ws w p
+    pub absorbed-lists : (p : List K) → lists F s R xs ws (take (absorbedCount s (R .bin .logRows) (R .fld .logRows) (length p)) w) p
+        ≡ lists F s R xs ws w p
     unfolding listsOf outer
     absorbed-lists p = section-same _ _ _ _ _ p (λ _. refl)
         λ h₁. section-same _ _ _ _ _ (p₁ p) (λ _. refl)
         λ h₂. section-same _ _ _ _ _ (p₂ p) (λ q. ap₂
-        (λ (m₁ m₂ : List K). cond (binGood F R x ws) (outer F s R x ws w (R .fld) (take (R .fld .logRows + s) (p₁ p)) (R .fld .logRows)
-        (p₂ p) m₁) (outer F s R x ws w (R .bin) (take (R .bin .logRows + s) p) (R .bin .logRows) (p₂ p) m₂))
+        (λ (m₁ m₂ : List K). cond (binGood F R xs ws) (outer F s R xs ws w (R .fld) (take (R .fld .logRows + s) (p₁ p)) (R .fld .logRows)
+        (p₂ p) m₁) (outer F s R xs ws w (R .bin) (take (R .bin .logRows + s) p) (R .bin .logRows) (p₂ p) m₂))
         (words-absorbed (8 * length (p₂ p) + 4) 4 (8 * length (p₂ p) + 8) H w (omega arith)
         (at-shared s g (after p) (length (p₂ p)) q (after-tau p h₁ h₂)))
         (words-absorbed (8 * length (p₂ p)) 4 (8 * length (p₂ p) + 8) H w (omega arith)
         (at-shared s g (after p) (length (p₂ p)) q (after-tau p h₁ h₂))))
-        λ h₃. section-same _ _ _ _ _ (p₃ p) (λ q. ap (λ (m : List K). cond (binGood F R x ws) []
-        (outer F s R x ws w (R .bin) (take (R .bin .logRows + s) p) (R .bin .logRows) (take s (p₂ p) ++ p₃ p) m))
+        λ h₃. section-same _ _ _ _ _ (p₃ p) (λ q. ap (λ (m : List K). cond (binGood F R xs ws) []
+        (outer F s R xs ws w (R .bin) (take (R .bin .logRows + s) p) (R .bin .logRows) (take s (p₂ p) ++ p₃ p) m))
         (words-absorbed (8 * s + 4 * length (p₃ p)) 4 (8 * s + 4 * length (p₃ p) + 4) H w (omega arith)
         (at-row s g (after p) (length (p₃ p)) (omega arith) (after-tau p h₁ h₂ ∙ omega (arith, left s (p₂ p) h₃)))))
-        λ h₄. section-same _ _ _ _ _ (p₄ p) (λ q. ap (λ (m : List K). cond (binGood F R x ws)
-        (outer F s R x ws w (R .fld) (take (R .fld .logRows + s) (p₁ p)) (R .fld .logRows) (take s (p₂ p) ++ p₄ p) m) [])
+        λ h₄. section-same _ _ _ _ _ (p₄ p) (λ q. ap (λ (m : List K). cond (binGood F R xs ws)
+        (outer F s R xs ws w (R .fld) (take (R .fld .logRows + s) (p₁ p)) (R .fld .logRows) (take s (p₂ p) ++ p₄ p) m) [])
         (words-absorbed (8 * s + 4 * R .bin .logRows + 4 * length (p₄ p)) 4 (8 * s + 4 * (R .bin .logRows + length (p₄ p)) + 4) H w
         (omega arith) (at-row s g (after p) (R .bin .logRows + length (p₄ p)) (omega arith)
         (after-tau p h₁ h₂ ∙ omega (arith, left s (p₂ p) h₃, left (R .bin .logRows) (p₃ p) h₄)))))
         λ h₅. section-same _ _ _ _ _ (p₅ p) (λ q. ap (λ (t : List K). alphaList F t
-        (trueTerminals F R x ws (take s (p₂ p)) (take (R .bin .logRows) (p₃ p)) (take (R .fld .logRows) (p₄ p))) (p₅ p))
+        (trueTerminals F R xs ws (take s (p₂ p)) (take (R .bin .logRows) (p₃ p)) (take (R .fld .logRows) (p₄ p))) (p₅ p))
         (six-take (8 * s + 4 * R .bin .logRows + 4 * R .fld .logRows) H w
         (at-most (at-alpha s g (after p) (more (after p) (length (p₂ p)) (length (p₃ p)) (length (p₄ p)) (length (p₅ p))
         (after-tau p h₁ h₂) (left s (p₂ p) h₃) (left (R .bin .logRows) (p₃ p) h₄) (left (R .fld .logRows) (p₄ p) h₅))))))
@@ -174,7 +174,7 @@ module _ (F : Field) where
           lows = suc (R .logHalf);
           cells = zipInner F
               (combo F R (take (R .bin .logRows) (p₃ p)) (take (R .fld .logRows) (p₄ p)) (take 6 (p₅ p)))
-              (folded F R x ws (take s (p₂ p)));
+              (folded F R xs ws (take s (p₂ p)));
         }) (p₆ p))
         (words-absorbed (8 * s + 4 * R .bin .logRows + 4 * R .fld .logRows + 6 + 3 * length (p₆ p)) 3
         (8 * s + 4 * (R .bin .logRows + R .fld .logRows) + 6 + 3 * length (p₆ p) + 3) H w (omega arith)

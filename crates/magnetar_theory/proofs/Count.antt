@@ -126,30 +126,30 @@ module _ (F : Field) where
     pub alpha-met : (vs ts al : List K) → met (alphaList F vs ts) al ≤ 1
     alpha-met vs ts al = last-met 𝟎 (diffs F vs ts) al
 
-    module _ (s : ℕ) (R : Relation F) (x : List K) (ws : List (List K)) (w : List K) where
+    module _ (s : ℕ) (R : Relation F) (xs ws : List (List K)) (w : List K) where
       abbrev tauOf : System F → List K → List K
-      tauOf Y e = tauList F (residues F Y (vectors F ws x)) e
+      tauOf Y e = tauList F (residues F Y (vectors F ws xs)) e
 
       tau-one : (Y : System F) (e : List K) → length (tauOf Y e) ≤ 1
-      tau-one Y e = tau-few F L (residues F Y (vectors F ws x)) e
+      tau-one Y e = tau-few F L (residues F Y (vectors F ws xs)) e
 
-      round : (Y : System F) (taus e : List K) (i : ℕ) → length (outer F s R x ws w Y taus (Y .logRows) e (elementsFrom F i 4 w)) ≤ 3
-      round Y taus e i = outer-few F L s R x ws w Y taus (Y .logRows) e i
+      round : (Y : System F) (taus e : List K) (i : ℕ) → length (outer F s R xs ws w Y taus (Y .logRows) e (elementsFrom F i 4 w)) ≤ 3
+      round Y taus e i = outer-few F L s R xs ws w Y taus (Y .logRows) e i
 
       abbrev innerOf : (sh rb rf al e : List K) → List K
       innerOf sh rb rf al e = badChallenges F (tableRounds F (innerCells F))
-          (record { tops = 0; lows = suc (R .logHalf); cells = zipInner F (combo F R rb rf al) (folded F R x ws sh) }) e
+          (record { tops = 0; lows = suc (R .logHalf); cells = zipInner F (combo F R rb rf al) (folded F R xs ws sh) }) e
           (elementsFrom F (8 * s + 4 * R .bin .logRows + 4 * R .fld .logRows + 6 + 3 * length e) 3 w)
 
       inner-two : (sh rb rf al e : List K) → length (innerOf sh rb rf al e) ≤ 2
-      inner-two sh rb rf al e = bad-few F L s R x ws w (innerCells F) 2 (λ a b. omega arith)
-          (record { tops = 0; lows = suc (R .logHalf); cells = zipInner F (combo F R rb rf al) (folded F R x ws sh) }) e
+      inner-two sh rb rf al e = bad-few F L s R xs ws w (innerCells F) 2 (λ a b. omega arith)
+          (record { tops = 0; lows = suc (R .logHalf); cells = zipInner F (combo F R rb rf al) (folded F R xs ws sh) }) e
           (elementsFrom F (8 * s + 4 * R .bin .logRows + 4 * R .fld .logRows + 6 + 3 * length e) 3 w)
-          (words-few F L s R x ws w (8 * s + 4 * R .bin .logRows + 4 * R .fld .logRows + 6 + 3 * length e) 3)
+          (words-few F L s R xs ws w (8 * s + 4 * R .bin .logRows + 4 * R .fld .logRows + 6 + 3 * length e) 3)
 
       -- all lists met along one run, by the system followed
       met-by : (good : Bool) (d : List K) → length d ≤ draws s (R .bin .logRows) (R .fld .logRows) (R .logHalf)
-          → met (listsOf F s R x ws w good) d ≤ (R .bin .logRows + s) * cond good 0 1 +
+          → met (listsOf F s R xs ws w good) d ≤ (R .bin .logRows + s) * cond good 0 1 +
           ((R .fld .logRows + s) * cond good 1 0 + (s * 3 +
           (R .bin .logRows * cond good 0 3 + (R .fld .logRows * cond good 3 0 + (1 + suc (R .logHalf) * 2)))))
       unfolding listsOf
@@ -162,14 +162,14 @@ module _ (F : Field) where
           λ rb d h. met-within _ _ _ _ _ _ d h (λ d. met-part _ _ _ d λ e. cond-most good _ _ 3 0
           (round (R .fld) tf (sh ++ e) (8 * s + 4 * R .bin .logRows + 4 * length e)) (omega arith))
           λ rf d h. met-within _ _ _ _ _ _ d h (λ d. alpha-met (sixAt F (8 * s + 4 * R .bin .logRows + 4 * R .fld .logRows) w)
-          (trueTerminals F R x ws sh rb rf) (take 6 d))
+          (trueTerminals F R xs ws sh rb rf) (take 6 d))
           λ al d h. omega (arith, h, met-few 2 (innerOf sh rb rf al) d (inner-two sh rb rf al))
 
       -- all lists met along one run: 4 J + 1 + 2 log m, where 2 ^ J is the logins times the rows of the larger system and m is the columns
       pub met-lists : (d : List K) → length d ≤ draws s (R .bin .logRows) (R .fld .logRows) (R .logHalf)
-          → met (lists F s R x ws w) d ≤ 4 * (s + max (R .bin .logRows) (R .fld .logRows)) + 1 + 2 * suc (R .logHalf)
-      met-lists d h = go (binGood F R x ws) (met (lists F s R x ws w) d) (R .bin .logRows) (R .fld .logRows) (R .logHalf)
-          (met-by (binGood F R x ws) d h)
+          → met (lists F s R xs ws w) d ≤ 4 * (s + max (R .bin .logRows) (R .fld .logRows)) + 1 + 2 * suc (R .logHalf)
+      met-lists d h = go (binGood F R xs ws) (met (lists F s R xs ws w) d) (R .bin .logRows) (R .fld .logRows) (R .logHalf)
+          (met-by (binGood F R xs ws) d h)
         where
           go : (good : Bool) (k b f m : ℕ) → k ≤ (b + s) * cond good 0 1 + ((f + s) * cond good 1 0 +
               (s * 3 + (b * cond good 0 3 + (f * cond good 3 0 + (1 + suc m * 2))))) → k ≤ 4 * (s + max b f) + 1 + 2 * suc m

@@ -113,7 +113,7 @@ module _ (F : Field) where
       go true = h p
       go false = k (take n p) (drop n p)
 
-  module _ (L : Laws F) (s : ℕ) (R : Relation F) (x : List K) (ws : List (List K)) (w : List K) where
+  module _ (L : Laws F) (s : ℕ) (R : Relation F) (xs ws : List (List K)) (w : List K) where
     length-polyAll : (X : Cells F) (n : ℕ) → ((a b : X .C) → length (X .line a b) ≤ n) → (ps : List (X .C × X .C))
         → length (polyAll F X ps) ≤ n
     length-polyAll X n h [] = omega arith
@@ -132,9 +132,9 @@ module _ (F : Field) where
     words-few i n = omega (arith, length-take n (drop i w))
 
     pub outer-few : (Y : System F) (taus : List K) (rows : ℕ) (e : List K) (i : ℕ)
-        → length (outer F s R x ws w Y taus rows e (elementsFrom F i 4 w)) ≤ 3
+        → length (outer F s R xs ws w Y taus rows e (elementsFrom F i 4 w)) ≤ 3
     unfolding outer
-    outer-few Y taus rows e i = bad-few (outerCells F) 3 (λ a b. omega arith) (begin F Y taus (vectors F ws x) s rows) e (elementsFrom F i 4 w)
+    outer-few Y taus rows e i = bad-few (outerCells F) 3 (λ a b. omega arith) (begin F Y taus (vectors F ws xs) s rows) e (elementsFrom F i 4 w)
         (words-few i 4)
 
     cond-few : (N : ℕ) (b : Bool) (u v : List K) → length u ≤ N → length v ≤ N → length (cond b u v) ≤ N
@@ -142,54 +142,54 @@ module _ (F : Field) where
     cond-few N false u v h k = k
 
     -- no list has more than three elements
-    pub few-lists : (p : List K) → length (lists F s R x ws w p) ≤ 3
+    pub few-lists : (p : List K) → length (lists F s R xs ws w p) ≤ 3
     unfolding listsOf
-    few-lists p = section-few 3 _ _ _ p (λ e. cond-few 3 (binGood F R x ws) _ _ (omega arith)
-        (omega (arith, tau-few F L (residues F (R .bin) (vectors F ws x)) e)))
-        λ tb p. section-few 3 _ _ _ p (λ e. cond-few 3 (binGood F R x ws) _ _
-        (omega (arith, tau-few F L (residues F (R .fld) (vectors F ws x)) e)) (omega arith))
-        λ tf p. section-few 3 _ _ _ p (λ e. cond-few 3 (binGood F R x ws) _ _
+    few-lists p = section-few 3 _ _ _ p (λ e. cond-few 3 (binGood F R xs ws) _ _ (omega arith)
+        (omega (arith, tau-few F L (residues F (R .bin) (vectors F ws xs)) e)))
+        λ tb p. section-few 3 _ _ _ p (λ e. cond-few 3 (binGood F R xs ws) _ _
+        (omega (arith, tau-few F L (residues F (R .fld) (vectors F ws xs)) e)) (omega arith))
+        λ tf p. section-few 3 _ _ _ p (λ e. cond-few 3 (binGood F R xs ws) _ _
         (outer-few (R .fld) tf (R .fld .logRows) e (8 * length e + 4)) (outer-few (R .bin) tb (R .bin .logRows) e (8 * length e)))
-        λ sh p. section-few 3 _ _ _ p (λ e. cond-few 3 (binGood F R x ws) _ _ (omega arith)
+        λ sh p. section-few 3 _ _ _ p (λ e. cond-few 3 (binGood F R xs ws) _ _ (omega arith)
         (outer-few (R .bin) tb (R .bin .logRows) (sh ++ e) (8 * s + 4 * length e)))
-        λ rb p. section-few 3 _ _ _ p (λ e. cond-few 3 (binGood F R x ws) _ _
+        λ rb p. section-few 3 _ _ _ p (λ e. cond-few 3 (binGood F R xs ws) _ _
         (outer-few (R .fld) tf (R .fld .logRows) (sh ++ e) (8 * s + 4 * R .bin .logRows + 4 * length e)) (omega arith))
         λ rf p. section-few 3 _ _ _ p (λ e. omega (
           arith,
           alpha-few F L (sixAt F (8 * s + 4 * R .bin .logRows + 4 * R .fld .logRows) w)
-              (trueTerminals F R x ws sh rb rf) e,
+              (trueTerminals F R xs ws sh rb rf) e,
         ))
         λ al e. omega (
           arith,
           bad-few (innerCells F) 2 (λ a b. omega arith)
-              (record { tops = 0; lows = suc (R .logHalf); cells = zipInner F (combo F R rb rf al) (folded F R x ws sh) }) e
+              (record { tops = 0; lows = suc (R .logHalf); cells = zipInner F (combo F R rb rf al) (folded F R xs ws sh) }) e
               (elementsFrom F (8 * s + 4 * R .bin .logRows + 4 * R .fld .logRows + 6 + 3 * length e) 3 w)
               (words-few (8 * s + 4 * R .bin .logRows + 4 * R .fld .logRows + 6 + 3 * length e) 3),
         )
 
-  module _ (L : Laws F) (R : Relation F) (x : List K) (ws : List (List K)) (w : List K) (D : Draws F) (S : Sizes F R x ws D) where
+  module _ (L : Laws F) (R : Relation F) (xs ws : List (List K)) (w : List K) (D : Draws F) (S : Sizes F R xs ws D) where
     -- where message i of a part stands
     message : (c st n i o o′ : ℕ) → i < c → o + i * st ≡ o′ → getD (rounds F c st n (drop o w)) i [] ≡ elementsFrom F o′ n w
     message c st n i o o′ h e = at-rounds c st n i (drop o w) h ∙ ap (take n) (drop-drop (i * st) o w ∙ ap (λ (k : ℕ). drop k w) e)
 
     shared-part : (Y : System F) (taus : List K) (rows o : ℕ)
-        → DrawInList F (λ e. outer F (length (D .shared)) R x ws w Y taus rows e
+        → DrawInList F (λ e. outer F (length (D .shared)) R xs ws w Y taus rows e
         (getD (rounds F (length (D .shared)) 8 4 (drop o w)) (length e) [])) (D .shared)
-        → DrawInList F (λ e. outer F (length (D .shared)) R x ws w Y taus rows e (elementsFrom F (8 * length e + o) 4 w)) (D .shared)
-    shared-part Y taus rows o = hit-map (λ e. outer F (length (D .shared)) R x ws w Y taus rows e
+        → DrawInList F (λ e. outer F (length (D .shared)) R xs ws w Y taus rows e (elementsFrom F (8 * length e + o) 4 w)) (D .shared)
+    shared-part Y taus rows o = hit-map (λ e. outer F (length (D .shared)) R xs ws w Y taus rows e
         (getD (rounds F (length (D .shared)) 8 4 (drop o w)) (length e) []))
-        (λ e. outer F (length (D .shared)) R x ws w Y taus rows e (elementsFrom F (8 * length e + o) 4 w)) (D .shared)
-        (λ p h. ap (outer F (length (D .shared)) R x ws w Y taus rows p)
+        (λ e. outer F (length (D .shared)) R xs ws w Y taus rows e (elementsFrom F (8 * length e + o) 4 w)) (D .shared)
+        (λ p h. ap (outer F (length (D .shared)) R xs ws w Y taus rows p)
         (message (length (D .shared)) 8 4 (length p) o (8 * length p + o) h (omega arith)))
 
     row-part : (Y : System F) (taus r : List K) (rows o : ℕ) → length r ≡ rows
-        → DrawInList F (λ e. outer F (length (D .shared)) R x ws w Y taus rows (D .shared ++ e)
+        → DrawInList F (λ e. outer F (length (D .shared)) R xs ws w Y taus rows (D .shared ++ e)
         (getD (rounds F rows 4 4 (drop o w)) (length e) [])) r
-        → DrawInList F (λ e. outer F (length (D .shared)) R x ws w Y taus rows (D .shared ++ e) (elementsFrom F (o + 4 * length e) 4 w)) r
-    row-part Y taus r rows o l = hit-map (λ e. outer F (length (D .shared)) R x ws w Y taus rows (D .shared ++ e)
+        → DrawInList F (λ e. outer F (length (D .shared)) R xs ws w Y taus rows (D .shared ++ e) (elementsFrom F (o + 4 * length e) 4 w)) r
+    row-part Y taus r rows o l = hit-map (λ e. outer F (length (D .shared)) R xs ws w Y taus rows (D .shared ++ e)
         (getD (rounds F rows 4 4 (drop o w)) (length e) []))
-        (λ e. outer F (length (D .shared)) R x ws w Y taus rows (D .shared ++ e) (elementsFrom F (o + 4 * length e) 4 w)) r
-        (λ p h. ap (outer F (length (D .shared)) R x ws w Y taus rows (D .shared ++ p))
+        (λ e. outer F (length (D .shared)) R xs ws w Y taus rows (D .shared ++ e) (elementsFrom F (o + 4 * length e) 4 w)) r
+        (λ p h. ap (outer F (length (D .shared)) R xs ws w Y taus rows (D .shared ++ p))
         (message rows 4 4 (length p) o (o + 4 * length p) (omega arith) (omega arith)))
 
     tb-size : length (D .tauBin) ≡ R .bin .logRows + length (D .shared)
@@ -200,23 +200,23 @@ module _ (F : Field) where
 
     -- the rounds of one system, by their part
     parts : (Y : System F) (taus r : List K) (o o′ : ℕ) → length r ≡ Y .logRows
-        → BadChallenge F (tableRounds F (outerCells F)) (begin F Y taus (vectors F ws x) (length (D .shared)) (length r))
+        → BadChallenge F (tableRounds F (outerCells F)) (begin F Y taus (vectors F ws xs) (length (D .shared)) (length r))
         (rounds F (length (D .shared)) 8 4 (drop o w) ++ rounds F (Y .logRows) 4 4 (drop o′ w)) (D .shared ++ r)
-        → DrawInList F (λ e. outer F (length (D .shared)) R x ws w Y taus (Y .logRows) e (elementsFrom F (8 * length e + o) 4 w)) (D .shared)
-        ⊎ DrawInList F (λ e. outer F (length (D .shared)) R x ws w Y taus (Y .logRows) (D .shared ++ e) (elementsFrom F (o′ + 4 * length e) 4 w)) r
+        → DrawInList F (λ e. outer F (length (D .shared)) R xs ws w Y taus (Y .logRows) e (elementsFrom F (8 * length e + o) 4 w)) (D .shared)
+        ⊎ DrawInList F (λ e. outer F (length (D .shared)) R xs ws w Y taus (Y .logRows) (D .shared ++ e) (elementsFrom F (o′ + 4 * length e) 4 w)) r
     unfolding outer
     parts Y taus r o o′ l t = go (split (badChallenges F (tableRounds F (outerCells F))
-        (begin F Y taus (vectors F ws x) (length (D .shared)) (Y .logRows))) (D .shared) r (rounds F (length (D .shared)) 8 4 (drop o w))
+        (begin F Y taus (vectors F ws xs) (length (D .shared)) (Y .logRows))) (D .shared) r (rounds F (length (D .shared)) 8 4 (drop o w))
         (rounds F (Y .logRows) 4 4 (drop o′ w)) (length-rounds (length (D .shared)) 8 4 (drop o w))
-        (subst (λ (k : ℕ). BadChallenge F (tableRounds F (outerCells F)) (begin F Y taus (vectors F ws x) (length (D .shared)) k)
+        (subst (λ (k : ℕ). BadChallenge F (tableRounds F (outerCells F)) (begin F Y taus (vectors F ws xs) (length (D .shared)) k)
         (rounds F (length (D .shared)) 8 4 (drop o w) ++ rounds F (Y .logRows) 4 4 (drop o′ w)) (D .shared ++ r)) l t))
       where
-        go : DrawInList F (λ e. outer F (length (D .shared)) R x ws w Y taus (Y .logRows) e
+        go : DrawInList F (λ e. outer F (length (D .shared)) R xs ws w Y taus (Y .logRows) e
             (getD (rounds F (length (D .shared)) 8 4 (drop o w)) (length e) [])) (D .shared)
-            ⊎ DrawInList F (λ e. outer F (length (D .shared)) R x ws w Y taus (Y .logRows) (D .shared ++ e)
+            ⊎ DrawInList F (λ e. outer F (length (D .shared)) R xs ws w Y taus (Y .logRows) (D .shared ++ e)
             (getD (rounds F (Y .logRows) 4 4 (drop o′ w)) (length e) [])) r
-            → DrawInList F (λ e. outer F (length (D .shared)) R x ws w Y taus (Y .logRows) e (elementsFrom F (8 * length e + o) 4 w)) (D .shared)
-            ⊎ DrawInList F (λ e. outer F (length (D .shared)) R x ws w Y taus (Y .logRows) (D .shared ++ e)
+            → DrawInList F (λ e. outer F (length (D .shared)) R xs ws w Y taus (Y .logRows) e (elementsFrom F (8 * length e + o) 4 w)) (D .shared)
+            ⊎ DrawInList F (λ e. outer F (length (D .shared)) R xs ws w Y taus (Y .logRows) (D .shared ++ e)
             (elementsFrom F (o′ + 4 * length e) 4 w)) r
         go (inl h) = inl (shared-part Y taus (Y .logRows) o h)
         go (inr h) = inr (row-part Y taus r (Y .logRows) o′ l h)
@@ -237,36 +237,36 @@ module _ (F : Field) where
     inner-size : length (inner F D) ≡ suc (R .logHalf)
     inner-size = length-append (D .low) (D .last ∷ []) ∙ omega (arith, S .low-size)
 
-    at : (b : Bool) → binGood F R x ws ≡ b → DrawInList F (listsOf F (length (D .shared)) R x ws w b) (drawn F D)
-        → DrawInList F (lists F (length (D .shared)) R x ws w) (drawn F D)
-    at b e h = subst (λ (c : Bool). DrawInList F (listsOf F (length (D .shared)) R x ws w c) (drawn F D)) (sym e) h
+    at : (b : Bool) → binGood F R xs ws ≡ b → DrawInList F (listsOf F (length (D .shared)) R xs ws w b) (drawn F D)
+        → DrawInList F (lists F (length (D .shared)) R xs ws w) (drawn F D)
+    at b e h = subst (λ (c : Bool). DrawInList F (listsOf F (length (D .shared)) R xs ws w c) (drawn F D)) (sym e) h
 
     -- the draws of the seven parts, each in its place
-    place : Bad F R x ws D (proofOf F (length (D .shared)) R w) → DrawInList F (lists F (length (D .shared)) R x ws w) (drawn F D)
+    place : Bad F R xs ws D (proofOf F (length (D .shared)) R w) → DrawInList F (lists F (length (D .shared)) R xs ws w) (drawn F D)
     unfolding listsOf
     place (tau-bin b t) = at false b (hit-inside _ _ _ (D .tauBin) _ tb-size t)
     place (tau-fld b t) = at true b (hit-after _ _ _ (D .tauBin) _ tb-size (hit-inside _ _ _ (D .tauFld) _ tf-size t))
     place (round-bin b t) = at false b (go (parts (R .bin) (D .tauBin) (D .rowBin) 0 (8 * length (D .shared)) (S .rows-bin) t))
       where
-        go : DrawInList F (λ e. outer F (length (D .shared)) R x ws w (R .bin) (D .tauBin) (R .bin .logRows) e (elementsFrom F (8 * length e + 0) 4 w))
-            (D .shared) ⊎ DrawInList F (λ e. outer F (length (D .shared)) R x ws w (R .bin) (D .tauBin) (R .bin .logRows) (D .shared ++ e)
+        go : DrawInList F (λ e. outer F (length (D .shared)) R xs ws w (R .bin) (D .tauBin) (R .bin .logRows) e (elementsFrom F (8 * length e + 0) 4 w))
+            (D .shared) ⊎ DrawInList F (λ e. outer F (length (D .shared)) R xs ws w (R .bin) (D .tauBin) (R .bin .logRows) (D .shared ++ e)
             (elementsFrom F (8 * length (D .shared) + 4 * length e) 4 w)) (D .rowBin)
-            → DrawInList F (listsOf F (length (D .shared)) R x ws w false) (drawn F D)
+            → DrawInList F (listsOf F (length (D .shared)) R xs ws w false) (drawn F D)
         go (inl h) = hit-after _ _ _ (D .tauBin) _ tb-size (hit-after _ _ _ (D .tauFld) _ tf-size (hit-inside _ _ _ (D .shared) _ refl
-            (hit-map (λ e. outer F (length (D .shared)) R x ws w (R .bin) (D .tauBin) (R .bin .logRows) e (elementsFrom F (8 * length e + 0) 4 w))
-            (λ e. outer F (length (D .shared)) R x ws w (R .bin) (D .tauBin) (R .bin .logRows) e (elementsFrom F (8 * length e) 4 w))
+            (hit-map (λ e. outer F (length (D .shared)) R xs ws w (R .bin) (D .tauBin) (R .bin .logRows) e (elementsFrom F (8 * length e + 0) 4 w))
+            (λ e. outer F (length (D .shared)) R xs ws w (R .bin) (D .tauBin) (R .bin .logRows) e (elementsFrom F (8 * length e) 4 w))
             (D .shared)
-            (λ p q. ap (λ (k : ℕ). outer F (length (D .shared)) R x ws w (R .bin) (D .tauBin) (R .bin .logRows) p (elementsFrom F k 4 w))
+            (λ p q. ap (λ (k : ℕ). outer F (length (D .shared)) R xs ws w (R .bin) (D .tauBin) (R .bin .logRows) p (elementsFrom F k 4 w))
             (add-zero (8 * length p))) h)))
         go (inr h) = hit-after _ _ _ (D .tauBin) _ tb-size
             (hit-after _ _ _ (D .tauFld) _ tf-size (hit-after _ _ _ (D .shared) _ refl (hit-inside _ _ _ (D .rowBin) _ (S .rows-bin) h)))
     place (round-fld b t) = at true b (go (parts (R .fld) (D .tauFld) (D .rowFld) 4 (8 * length (D .shared) + 4 * R .bin .logRows)
         (S .rows-fld) t))
       where
-        go : DrawInList F (λ e. outer F (length (D .shared)) R x ws w (R .fld) (D .tauFld) (R .fld .logRows) e (elementsFrom F (8 * length e + 4) 4 w))
-            (D .shared) ⊎ DrawInList F (λ e. outer F (length (D .shared)) R x ws w (R .fld) (D .tauFld) (R .fld .logRows) (D .shared ++ e)
+        go : DrawInList F (λ e. outer F (length (D .shared)) R xs ws w (R .fld) (D .tauFld) (R .fld .logRows) e (elementsFrom F (8 * length e + 4) 4 w))
+            (D .shared) ⊎ DrawInList F (λ e. outer F (length (D .shared)) R xs ws w (R .fld) (D .tauFld) (R .fld .logRows) (D .shared ++ e)
             (elementsFrom F (8 * length (D .shared) + 4 * R .bin .logRows + 4 * length e) 4 w)) (D .rowFld)
-            → DrawInList F (listsOf F (length (D .shared)) R x ws w true) (drawn F D)
+            → DrawInList F (listsOf F (length (D .shared)) R xs ws w true) (drawn F D)
         go (inl h) = hit-after _ _ _ (D .tauBin) _ tb-size (hit-after _ _ _ (D .tauFld) _ tf-size (hit-inside _ _ _ (D .shared) _ refl h))
         go (inr h) = hit-after _ _ _ (D .tauBin) _ tb-size
             (hit-after _ _ _ (D .tauFld) _ tf-size (hit-after _ _ _ (D .shared) _ refl
@@ -280,15 +280,15 @@ module _ (F : Field) where
         (hit-after _ _ _ (D .rowBin) _ (S .rows-bin) (hit-after _ _ _ (D .rowFld) _ (S .rows-fld)
         (hit-after _ _ _ (D .alpha) _ (S .six-alphas) (inner-part _ _ _ (inner F D) inner-size t))))))
 
-    pub flat-sound : Accepted F R x D (proofOf F (length (D .shared)) R w) → (proofOf F (length (D .shared)) R w) .values
+    pub flat-sound : Accepted F R xs D (proofOf F (length (D .shared)) R w) → (proofOf F (length (D .shared)) R w) .values
         ≡ map (trueValue F D ws) (R .segs)
-        → (Zeros F (residues F (R .bin) (vectors F ws x)) × Zeros F (residues F (R .fld) (vectors F ws x)))
-        ⊎ DrawInList F (lists F (length (D .shared)) R x ws w) (drawn F D)
-    flat-sound H T = go (whole-sound F L R x ws D S (proofOf F (length (D .shared)) R w) H T)
+        → (Zeros F (residues F (R .bin) (vectors F ws xs)) × Zeros F (residues F (R .fld) (vectors F ws xs)))
+        ⊎ DrawInList F (lists F (length (D .shared)) R xs ws w) (drawn F D)
+    flat-sound H T = go (whole-sound F L R xs ws D S (proofOf F (length (D .shared)) R w) H T)
       where
-        go : (Zeros F (residues F (R .bin) (vectors F ws x)) × Zeros F (residues F (R .fld) (vectors F ws x)))
-            ⊎ Bad F R x ws D (proofOf F (length (D .shared)) R w)
-            → (Zeros F (residues F (R .bin) (vectors F ws x)) × Zeros F (residues F (R .fld) (vectors F ws x)))
-            ⊎ DrawInList F (lists F (length (D .shared)) R x ws w) (drawn F D)
+        go : (Zeros F (residues F (R .bin) (vectors F ws xs)) × Zeros F (residues F (R .fld) (vectors F ws xs)))
+            ⊎ Bad F R xs ws D (proofOf F (length (D .shared)) R w)
+            → (Zeros F (residues F (R .bin) (vectors F ws xs)) × Zeros F (residues F (R .fld) (vectors F ws xs)))
+            ⊎ DrawInList F (lists F (length (D .shared)) R xs ws w) (drawn F D)
         go (inl z) = inl z
         go (inr b) = inr (place b)

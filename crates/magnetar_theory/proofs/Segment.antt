@@ -5,14 +5,15 @@ use mathlib.Core.List.{List, [], _∷_, _++_}
 use Prim.Native.Nat.{ℕ, zero, suc, _+_, _-_, _*_, _^_, _≤_, _<_}
 use native.Mathlib.Nat.{suc-mul, zero-mul, two-pow-succ, sub-zero, suc-sub-suc}
 use native.Mathlib.Omega.{arith}
-use lib.ListN.{length, take, drop, getD, length-drop, take-append-drop}
+use lib.ListN.{length, take, drop, getD, replicate, length-drop, take-append-drop}
 use lib.Seq.{take-at, drop-at, drop-append-add, drop-drop, length-take-le}
 use lib.Pow.{pow-pos}
-use Rattle.magnetar_theory.specs.SumCheck.{total}
+use Rattle.magnetar_theory.specs.SumCheck.{total, addLists}
 use Rattle.magnetar_theory.specs.Field.{Field, Laws}
 use Rattle.magnetar_theory.proofs.Ring.{ring}
 use Rattle.magnetar_theory.specs.EqTable.{eqTable, spread, dot, scale}
 use Rattle.magnetar_theory.proofs.EqTable.{dot-nil, length-scale, length-eqTable, dot-append, eqTable-snoc}
+use Rattle.magnetar_theory.specs.Matrix.{fold}
 use Rattle.magnetar_theory.proofs.Matrix.{blocks, eqTable-append, dot-scale-left}
 use Rattle.magnetar_theory.proofs.Outer.{dot-zeros}
 use Rattle.magnetar_theory.specs.Segment.{Segment, offset, after, ZeroOutside, segmentPart}
@@ -138,3 +139,35 @@ module _ (F : Field) where
         both : (t : List K) → total F (spread F p t) ≡ total F t
         both [] = refl
         both (e ∷ t) = pair p e (total F (spread F p t)) ∙ ap (λ (w : K). e ⊕ w) (both t)
+
+    -- equal vectors, weighted by the entries of an eq table, add up to one of them
+    pub fold-equal : (n : ℕ) (x r : List K) → length x ≡ n → fold F n (eqTable F r) (replicate (2 ^ length r) x) ≡ x
+    fold-equal n x r h = ap (λ (k : ℕ). fold F n (eqTable F r) (replicate k x)) (sym (length-eqTable F L r)) ∙ weighted n x (eqTable F r) h
+        ∙ ap (λ (e : K). scale F e x) (eq-total r) ∙ once x
+      where
+        zeros : (n : ℕ) (x : List K) → length x ≡ n → replicate n 𝟎 ≡ scale F 𝟎 x
+        zeros zero [] h = refl
+        zeros zero (y ∷ x) h = absurd (omega arith)
+        zeros (suc n) [] h = absurd (omega arith)
+        zeros (suc n) (y ∷ x) h = ap₂ _∷_ (none y) (zeros n x (omega arith))
+          where
+            none : (y : K) → 𝟎 ≡ 𝟎 ⊗ y
+            none y = simp (ring, L .is-ring)
+
+        both : (d e : K) (x : List K) → addLists F (scale F d x) (scale F e x) ≡ scale F (d ⊕ e) x
+        both d e [] = refl
+        both d e (y ∷ x) = ap₂ _∷_ (terms d e y) (both d e x)
+          where
+            terms : (d e y : K) → d ⊗ y ⊕ e ⊗ y ≡ (d ⊕ e) ⊗ y
+            terms d e y = simp (ring, L .is-ring)
+
+        once : (x : List K) → scale F 𝟏 x ≡ x
+        once [] = refl
+        once (y ∷ x) = ap₂ _∷_ (one y) (once x)
+          where
+            one : (y : K) → 𝟏 ⊗ y ≡ y
+            one y = simp (ring, L .is-ring)
+
+        weighted : (n : ℕ) (x es : List K) → length x ≡ n → fold F n es (replicate (length es) x) ≡ scale F (total F es) x
+        weighted n x [] h = zeros n x h
+        weighted n x (e ∷ es) h = ap (addLists F (scale F e x)) (weighted n x es h) ∙ both e (total F es) x

@@ -35,17 +35,17 @@ module _ (F : Field) where
   abbrev pub sixAt : ℕ → List K → List K
   sixAt i w = getD w i 𝟎 ∷ getD w (i + 1) 𝟎 ∷ getD w (i + 2) 𝟎 ∷ getD w (i + 3) 𝟎 ∷ getD w (i + 4) 𝟎 ∷ getD w (i + 5) 𝟎 ∷ []
 
-  module _ (s : ℕ) (R : Relation F) (x : List K) (ws : List (List K)) (w : List K) where
+  module _ (s : ℕ) (R : Relation F) (xs ws : List (List K)) (w : List K) where
     -- the list of an outer round of the system Y: s high variables and so many rows, the earlier challenges, the message
     unfoldable pub outer : System F → List K → ℕ → List K → List K → List K
-    outer Y taus rows earlier m = badChallenges F (tableRounds F (outerCells F)) (begin F Y taus (vectors F ws x) s rows) earlier m
+    outer Y taus rows earlier m = badChallenges F (tableRounds F (outerCells F)) (begin F Y taus (vectors F ws xs) s rows) earlier m
 
     -- the lists, from the draws so far: of the second system where the first holds, else of the first
     unfoldable pub listsOf : Bool → List K → List K
     listsOf good =
         -- tau of the first system, then tau of the second
-        section (R .bin .logRows + s) (λ e. cond good [] (tauList F (residues F (R .bin) (vectors F ws x)) e))
-        λ tb. section (R .fld .logRows + s) (λ e. cond good (tauList F (residues F (R .fld) (vectors F ws x)) e) [])
+        section (R .bin .logRows + s) (λ e. cond good [] (tauList F (residues F (R .bin) (vectors F ws xs)) e))
+        λ tb. section (R .fld .logRows + s) (λ e. cond good (tauList F (residues F (R .fld) (vectors F ws xs)) e) [])
         -- the shared rounds: in each the message of the first system, then that of the second
         λ tf. section s
         (λ e. cond good (outer (R .fld) tf (R .fld .logRows) e (elementsFrom (8 * length e + 4) 4 w)) (outer (R .bin) tb (R .bin .logRows) e (elementsFrom (8 * length e) 4 w)))
@@ -55,15 +55,15 @@ module _ (F : Field) where
         λ rb. section (R .fld .logRows)
         (λ e. cond good (outer (R .fld) tf (R .fld .logRows) (sh ++ e) (elementsFrom (8 * s + 4 * R .bin .logRows + 4 * length e) 4 w)) [])
         -- alpha
-        λ rf. section 6 (alphaList F (sixAt (8 * s + 4 * R .bin .logRows + 4 * R .fld .logRows) w) (trueTerminals F R x ws sh rb rf))
+        λ rf. section 6 (alphaList F (sixAt (8 * s + 4 * R .bin .logRows + 4 * R .fld .logRows) w) (trueTerminals F R xs ws sh rb rf))
         -- the inner rounds
         λ al e. badChallenges F (tableRounds F (innerCells F))
-        (record { tops = 0; lows = suc (R .logHalf); cells = zipInner F (combo F R rb rf al) (folded F R x ws sh) }) e
+        (record { tops = 0; lows = suc (R .logHalf); cells = zipInner F (combo F R rb rf al) (folded F R xs ws sh) }) e
         (elementsFrom (8 * s + 4 * R .bin .logRows + 4 * R .fld .logRows + 6 + 3 * length e) 3 w)
 
     -- the list of the draw that comes after the given draws; where the batch keeps the first system, the lists follow the second
     abbrev pub lists : List K → List K
-    lists = listsOf (binGood F R x ws)
+    lists = listsOf (binGood F R xs ws)
 
   -- c messages of n elements, each st elements after the one before
   abbrev pub rounds : ℕ → ℕ → ℕ → List K → List (List K)

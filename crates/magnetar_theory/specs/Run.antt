@@ -1,7 +1,8 @@
 -- A whole run of virtual Spartan with its draws as plain elements: the relation, the draws, the proof, what the verifier
 -- tests, the true value of each claim, and the honest prover's proof. Nothing here mentions a hash
 -- or a transcript.
--- Source: document 01, "The run" and "Forms that give way" (the order of the proof); the Rust's `verify_virtual_spartan`.
+-- Source: document 01, "The run" and "Forms that give way" (the order of the proof); document 02, U6 (each login's own public half); the
+-- Rust's `verify_virtual_spartan` and `fold_public_part`.
 -- Assumes nothing.
 use mathlib.Core.Path.{_≡_}
 use mathlib.Core.Bool.{Bool}
@@ -37,9 +38,11 @@ module _ (F : Field) where
     pub logHalf : ℕ
     pub segs : List Segment
 
-  -- every login's vector: its bits and the public half
-  abbrev pub vectors : List (List K) → List K → List (List K)
-  vectors ws x = map (λ (w : List K). w ++ x) ws
+  -- every login's vector: its bits and its public half
+  abbrev pub vectors : List (List K) → List (List K) → List (List K)
+  vectors [] xs = []
+  vectors (w ∷ ws) [] = []
+  vectors (w ∷ ws) (x ∷ xs) = (w ++ x) ∷ vectors ws xs
 
   -- the products of a matrix with all vectors, one after the other
   abbrev pub table : System → List (Entry F) → List (List K) → List K
@@ -102,8 +105,12 @@ module _ (F : Field) where
   segSum (g ∷ gs) r [] = 𝟎
   segSum (g ∷ gs) r (v ∷ vs) = getD (eqTable F (drop (g .logLen) r)) (g .number) 𝟎 ⊗ v ⊕ segSum gs r vs
 
-  -- the verifier's tests
-  pub record Accepted (R : Relation) (x : List K) (D : Draws) (W : Proof) : Type 0 where
+  -- the public halves of all logins, weighted by eq(r_inst, u)
+  abbrev pub foldedHalf : Relation → List (List K) → (shared : List K) → List K
+  foldedHalf R xs sh = fold F (2 ^ R .logHalf) (eqTable F (reverse sh)) xs
+
+  -- the verifier's tests, with the public half of each login
+  pub record Accepted (R : Relation) (xs : List (List K)) (D : Draws) (W : Proof) : Type 0 where
     pub bin-rounds : Checks F 𝟎 (W .binMs) (D .shared ++ D .rowBin)
     pub fld-rounds : Checks F 𝟎 (W .fldMs) (D .shared ++ D .rowFld)
     pub bin-terminal : running F 𝟎 (W .binMs) (D .shared ++ D .rowBin)
@@ -113,7 +120,8 @@ module _ (F : Field) where
     pub inner-rounds : Checks F (dot F (D .alpha) (terminals W)) (W .innerMs) (inner D)
     pub inner-terminal : running F (dot F (D .alpha) (terminals W)) (W .innerMs) (inner D)
         ≡ dot F (eqTable F (inner D)) (fold F (2 ^ suc (R .logHalf)) (D .alpha) (six R (D .rowBin) (D .rowFld))) ⊗ W .vz
-    pub identity : W .vz ≡ (𝟏 ⊕ D .last) ⊗ segSum (R .segs) (D .low) (W .values) ⊕ D .last ⊗ dot F (eqTable F (D .low)) x
+    pub identity : W .vz
+        ≡ (𝟏 ⊕ D .last) ⊗ segSum (R .segs) (D .low) (W .values) ⊕ D .last ⊗ dot F (eqTable F (D .low)) (foldedHalf R xs (D .shared))
 
   -- the value that a segment's claim is about
   abbrev pub trueValue : Draws → List (List K) → Segment → K
@@ -125,13 +133,14 @@ module _ (F : Field) where
   AllZeroOutside n gs [] = Unit {0}
   AllZeroOutside n gs (w ∷ ws) = ZeroOutside F 0 n gs w × AllZeroOutside n gs ws
 
-  -- the sizes that the refusals 1 to 16 leave, with as many rows of bits as logins, each of the first half's length; and that every row is
-  -- zero outside the segments (`laid`), which no refusal tests
-  pub record Sizes (R : Relation) (x : List K) (ws : List (List K)) (D : Draws) : Type 0 where
+  -- the sizes that the refusals 1 to 16 leave, with as many rows of bits and as many public halves as logins, each of a half's length; and
+  -- that every row of bits is zero outside the segments (`laid`), which no refusal tests
+  pub record Sizes (R : Relation) (xs ws : List (List K)) (D : Draws) : Type 0 where
     pub logins : length ws ≡ 2 ^ length (D .shared)
     pub row-lengths : AllLength F (2 ^ R .logHalf) ws
     pub laid : AllZeroOutside (2 ^ R .logHalf) (R .segs) ws
-    pub public : length x ≡ 2 ^ R .logHalf
+    pub halves : length xs ≡ 2 ^ length (D .shared)
+    pub half-lengths : AllLength F (2 ^ R .logHalf) xs
     pub rows-bin : length (D .rowBin) ≡ R .bin .logRows
     pub rows-fld : length (D .rowFld) ≡ R .fld .logRows
     pub taus-bin : length (D .tauBin) ≡ length (D .shared) + length (D .rowBin)
@@ -140,47 +149,47 @@ module _ (F : Field) where
     pub low-size : length (D .low) ≡ R .logHalf
 
   -- the true terminal values
-  abbrev pub trueTerminals : Relation → List K → List (List K) → (shared rowBin rowFld : List K) → List K
-  trueTerminals R x ws sh rb rf =
+  abbrev pub trueTerminals : Relation → (xs ws : List (List K)) → (shared rowBin rowFld : List K) → List K
+  trueTerminals R xs ws sh rb rf =
       at (R .bin) (R .bin .A) rb ∷ at (R .bin) (R .bin .B) rb ∷ at (R .bin) (R .bin .C) rb
       ∷ at (R .fld) (R .fld .A) rf ∷ at (R .fld) (R .fld .B) rf ∷ at (R .fld) (R .fld .C) rf ∷ []
     where
       at : System → List (Entry F) → List K → K
-      at Y M r = dot F (eqTable F (r ++ reverse sh)) (table Y M (vectors ws x))
+      at Y M r = dot F (eqTable F (r ++ reverse sh)) (table Y M (vectors ws xs))
 
   -- the six tables of column sums, weighted by alpha
   abbrev pub combo : Relation → (rowBin rowFld alpha : List K) → List K
   combo R rb rf al = fold F (2 ^ suc (R .logHalf)) al (six R rb rf)
 
   -- the vectors of all logins, weighted by eq(r_inst, u)
-  abbrev pub folded : Relation → List K → List (List K) → (shared : List K) → List K
-  folded R x ws sh = fold F (2 ^ suc (R .logHalf)) (eqTable F (reverse sh)) (vectors ws x)
+  abbrev pub folded : Relation → (xs ws : List (List K)) → (shared : List K) → List K
+  folded R xs ws sh = fold F (2 ^ suc (R .logHalf)) (eqTable F (reverse sh)) (vectors ws xs)
 
   -- the first system holds for every login: then the lists follow the second
-  abbrev pub binGood : Relation → List K → List (List K) → Bool
-  binGood R x ws = allZero F (residues (R .bin) (vectors ws x))
+  abbrev pub binGood : Relation → (xs ws : List (List K)) → Bool
+  binGood R xs ws = allZero F (residues (R .bin) (vectors ws xs))
 
-  module _ (R : Relation) (x : List K) (ws : List (List K)) (D : Draws) where
+  module _ (R : Relation) (xs ws : List (List K)) (D : Draws) where
     -- the honest prover's proof
     abbrev pub honestProof : Proof
     honestProof = record {
-      binMs = honest F (tableRounds F (outerCells F)) (begin (R .bin) (D .tauBin) (vectors ws x) (length (D .shared)) (length (D .rowBin)))
+      binMs = honest F (tableRounds F (outerCells F)) (begin (R .bin) (D .tauBin) (vectors ws xs) (length (D .shared)) (length (D .rowBin)))
           (D .shared ++ D .rowBin);
-      fldMs = honest F (tableRounds F (outerCells F)) (begin (R .fld) (D .tauFld) (vectors ws x) (length (D .shared)) (length (D .rowFld)))
+      fldMs = honest F (tableRounds F (outerCells F)) (begin (R .fld) (D .tauFld) (vectors ws xs) (length (D .shared)) (length (D .rowFld)))
           (D .shared ++ D .rowFld);
-      ab = getD (trueTerminals R x ws (D .shared) (D .rowBin) (D .rowFld)) 0 𝟎;
-      bb = getD (trueTerminals R x ws (D .shared) (D .rowBin) (D .rowFld)) 1 𝟎;
-      cb = getD (trueTerminals R x ws (D .shared) (D .rowBin) (D .rowFld)) 2 𝟎;
-      af = getD (trueTerminals R x ws (D .shared) (D .rowBin) (D .rowFld)) 3 𝟎;
-      bf = getD (trueTerminals R x ws (D .shared) (D .rowBin) (D .rowFld)) 4 𝟎;
-      cf = getD (trueTerminals R x ws (D .shared) (D .rowBin) (D .rowFld)) 5 𝟎;
+      ab = getD (trueTerminals R xs ws (D .shared) (D .rowBin) (D .rowFld)) 0 𝟎;
+      bb = getD (trueTerminals R xs ws (D .shared) (D .rowBin) (D .rowFld)) 1 𝟎;
+      cb = getD (trueTerminals R xs ws (D .shared) (D .rowBin) (D .rowFld)) 2 𝟎;
+      af = getD (trueTerminals R xs ws (D .shared) (D .rowBin) (D .rowFld)) 3 𝟎;
+      bf = getD (trueTerminals R xs ws (D .shared) (D .rowBin) (D .rowFld)) 4 𝟎;
+      cf = getD (trueTerminals R xs ws (D .shared) (D .rowBin) (D .rowFld)) 5 𝟎;
       innerMs = honest F (tableRounds F (innerCells F))
           (record {
             tops = 0;
             lows = length (inner D);
             cells = zipInner F (combo R (D .rowBin) (D .rowFld) (D .alpha))
-                (folded R x ws (D .shared));
+                (folded R xs ws (D .shared));
           }) (inner D);
-      vz = dot F (eqTable F (inner D)) (folded R x ws (D .shared));
+      vz = dot F (eqTable F (inner D)) (folded R xs ws (D .shared));
       values = map (trueValue D ws) (R .segs);
     }

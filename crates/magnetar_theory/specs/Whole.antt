@@ -10,11 +10,11 @@ use Rattle.magnetar_theory.specs.Lists.{lists}
 use Rattle.magnetar_theory.specs.Absorbed.{absorbedCount}
 use Rattle.magnetar_theory.specs.Gf128.{Element, gf128}
 
-module _ (R : Relation gf128) (x : List Element) (ws : List (List Element)) where
+module _ (R : Relation gf128) (xs ws : List (List Element)) where
   -- every row of both systems holds for every login
   abbrev pub Good : Type 0
-  Good = Zeros gf128 (residues gf128 (R .bin) (vectors gf128 ws x)) × Zeros gf128 (residues gf128 (R .fld) (vectors gf128 ws x))
+  Good = Zeros gf128 (residues gf128 (R .bin) (vectors gf128 ws xs)) × Zeros gf128 (residues gf128 (R .fld) (vectors gf128 ws xs))
 
   -- the list of a draw, from the proof's elements absorbed before it and the draws before it
   abbrev pub listOf : ℕ → List Element → List Element → List Element
-  listOf s w earlier = lists gf128 s R x ws (take (absorbedCount s (R .bin .logRows) (R .fld .logRows) (length earlier)) w) earlier
+  listOf s w earlier = lists gf128 s R xs ws (take (absorbedCount s (R .bin .logRows) (R .fld .logRows) (length earlier)) w) earlier

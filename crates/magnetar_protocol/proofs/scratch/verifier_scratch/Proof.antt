@@ -15,7 +15,7 @@ verifier-words-requires : tie.Need-verifier-words-requires
 verifier-words-requires c κs =
     let x = c .before .before .args in
     let g = counts-given (x .m) (x .q) (x .rb) (x .rf) _ (c .before .size-refusal .ensures) (c .if1 .left) in
-    (g .columns .high, g .bin .high, g .fld .high)
+    (g .columns .high, g .logins .high, g .bin .high, g .fld .high)
 
 returns-2 : tie.Need-returns-2
 returns-2 c =
