@@ -84,26 +84,26 @@ module _ (R : Rules) (z : ℕ) (e : z ≡ firstRefusal 0 (ruleTests R)) where
   pub verify-by : (x w : List ℕ) (n c s : ℕ)
       → firstRefusal 0 (verifyTestsBy z (sizesOnlyOf R) (length x) (length w) n c s) ≡ firstRefusal 0 (verifyTests R x w n c s)
   verify-by x w n c s =
-      joined (sizeTests (R .m) (R .q) ++ publicTests (R .m) x) (ruleTests R) laid (verifyLentTests (sizesOnlyOf R) (length w) n c s)
+      joined (sizeTests (R .m) (R .q) ++ publicTests (R .m) (R .q) x) (ruleTests R) laid (verifyLentTests (sizesOnlyOf R) (length w) n c s)
       (counterTests n ++ (roomTestOf (claimWords R) c ++ (roomTestOf (verifierScratchOf R) s ++ proofTests (sizesOnlyOf R) w))) z e same
     where
-      same : firstRefusal 0 (sizeTests (R .m) (R .q) ++ publicTests (R .m) x) ≡ 0 → z ≡ 0
+      same : firstRefusal 0 (sizeTests (R .m) (R .q) ++ publicTests (R .m) (R .q) x) ≡ 0 → z ≡ 0
           → verifyLentTests (sizesOnlyOf R) (length w) n c s ≡ counterTests n ++ (roomTestOf (claimWords R) c ++ (roomTestOf (verifierScratchOf R) s ++ proofTests (sizesOnlyOf R) w))
       same h f =
-          let k = first-refusal-clear 0 (sizeTests (R .m) (R .q) ++ publicTests (R .m) x) refl h .1 in
+          let k = first-refusal-clear 0 (sizeTests (R .m) (R .q) ++ publicTests (R .m) (R .q) x) refl h .1 in
           let r = verifier-within (R .m) (R .q) (rowsBin R) (rowsFld R) (sizes-none (k .0) (k .1 .0) f) in
           rw r
 
   pub prove-by : (ws x : List ℕ) (n w c s : ℕ)
       → firstRefusal 0 (proveTestsBy z (sizesOnlyOf R) (length ws) (length x) n w c s) ≡ firstRefusal 0 (proveTests R ws x n w c s)
   prove-by ws x n w c s =
-      joined (sizeTests (R .m) (R .q) ++ (packedTests (R .m / 2) (R .q) ws ++ publicTests (R .m) x)) (ruleTests R) laid (proveLentTests (sizesOnlyOf R) n w c s)
+      joined (sizeTests (R .m) (R .q) ++ (packedTests (R .m / 2) (R .q) ws ++ publicTests (R .m) (R .q) x)) (ruleTests R) laid (proveLentTests (sizesOnlyOf R) n w c s)
       (counterTests n ++ (roomTestOf (proofWords R) w ++ (roomTestOf (claimWords R) c ++ roomTestOf (proverScratchOf R) s))) z e same
     where
-      same : firstRefusal 0 (sizeTests (R .m) (R .q) ++ (packedTests (R .m / 2) (R .q) ws ++ publicTests (R .m) x)) ≡ 0 → z ≡ 0
+      same : firstRefusal 0 (sizeTests (R .m) (R .q) ++ (packedTests (R .m / 2) (R .q) ws ++ publicTests (R .m) (R .q) x)) ≡ 0 → z ≡ 0
           → proveLentTests (sizesOnlyOf R) n w c s ≡ counterTests n ++ (roomTestOf (proofWords R) w ++ (roomTestOf (claimWords R) c ++ roomTestOf (proverScratchOf R) s))
       same h f =
-          let k = first-refusal-clear 0 (sizeTests (R .m) (R .q) ++ (packedTests (R .m / 2) (R .q) ws ++ publicTests (R .m) x)) refl h .1 in
+          let k = first-refusal-clear 0 (sizeTests (R .m) (R .q) ++ (packedTests (R .m / 2) (R .q) ws ++ publicTests (R .m) (R .q) x)) refl h .1 in
           let r = prover-within (R .m) (R .q) (rowsBin R) (rowsFld R) (sizes-none (k .0) (k .1 .0) f) in
           rw r
 

@@ -19,7 +19,7 @@ use Rattle.magnetar_matrix.specs.Packed.{packedBit, loginPart, unpacked}
 use Rattle.magnetar_matrix.proofs.TableLaws.{elements-words}
 use Rattle.magnetar_matrix.proofs.LoginParts.{bit-unpacked}
 use Rattle.magnetar_protocol.specs.Run.{claims, verdict, ClaimsTrue}
-use Rattle.magnetar_protocol.specs.RunSizes.{SizedRelation, SizedBatch}
+use Rattle.magnetar_protocol.specs.RunSizes.{SizedRelation, SizedBatch, SizedPublic}
 use Rattle.magnetar_protocol.specs.Soundness.{NoBitOutside}
 use Rattle.magnetar_protocol.specs.Prover.{proverProof, proverClaims}
 use Rattle.magnetar_schedule.specs.RealRun.{verifierDraws, verifierTranscript, proverDraws, proverTranscript, sentProof, Agrees}
@@ -28,10 +28,10 @@ use Rattle.magnetar_schedule.proofs.RealRuns.{completeness-run}
 use Rattle.magnetar_relation.specs.Rules.{Rules, relationOf}
 use Rattle.magnetar_protocol.specs.RunTests.{counterTests, proofTests}
 use Rattle.magnetar_spartan.specs.Refusals.{rulesTests, claimWords, proofWords, verifierScratchOf, proverScratchOf, verifyTests, proveTests, sizesOnlyOf}
-use Rattle.magnetar_spartan.specs.Outcome.{Proved, batchOf, verifyRefusal, verifyVerdict, verifyOutcome, proveRefusal, proveDraws, proveOutcome}
+use Rattle.magnetar_spartan.specs.Outcome.{Proved, batchOf, verifyRefusal, verifyVerdict, verifyOutcome, proveRefusal, proveDraws, proveOutcome, columnsOf}
 use Rattle.magnetar_spartan.specs.Proving.{ValidRun}
 use Rattle.magnetar_spartan.specs.Theorems.{AreWords, AcceptedBy, ProvedCall, Unrefused}
-use Rattle.magnetar_spartan.proofs.SizedRules.{rules-numbered}
+use Rattle.magnetar_spartan.proofs.SizedRules.{rules-numbered, sized-columns}
 use Rattle.magnetar_spartan.proofs.Ended.{provable}
 use Rattle.magnetar_spartan.proofs.PassedTests.{first-refusal-none, clear-front, clear-back, clear-join, same-passes}
 use Rattle.magnetar_spartan.proofs.Sound.{word-elements, front, claims-size, returned-words, returned}
@@ -74,30 +74,30 @@ module _ (R : Rules) (ws x : List ℕ) (t : Transcript) (w c s : List ℕ) where
   handed = take (proofWords R) (proveOutcome R ws x t w c s .proof)
 
   abbrev sent : List ℕ
-  sent = sentProof (relationOf R) (batchOf R ws) (elements x) t
+  sent = sentProof (relationOf R) (batchOf R ws) (columnsOf R x) t
 
   handed-is : proveRefusal R ws x t w c s ≡ 0 → proofWords R ≡ 2 * length sent → handed ≡ words sent
   unfolding proveOutcome proveDraws sentProof
   handed-is hp h =
-      rw hp (front (proverProof (relationOf R) (batchOf R ws) (elements x) (proverDraws (relationOf R) (batchOf R ws) (elements x) t)) (drop (proofWords R) w) (proofWords R) h)
+      rw hp (front (proverProof (relationOf R) (batchOf R ws) (columnsOf R x) (proverDraws (relationOf R) (batchOf R ws) (columnsOf R x) t)) (drop (proofWords R) w) (proofWords R) h)
 
   accepted-of : (p c′ s′ : List ℕ) → verifyRefusal R x p t c′ s′ ≡ 0 → elements p ≡ sent
-      → verdict (relationOf R) (elements x) sent (verifierDraws (relationOf R) sent t) ≡ 0 → verifyOutcome R x p t c′ s′ .code ≡ 0
+      → verdict (relationOf R) (columnsOf R x) sent (verifierDraws (relationOf R) sent t) ≡ 0 → verifyOutcome R x p t c′ s′ .code ≡ 0
   unfolding verifyOutcome verifyVerdict
   accepted-of p c′ s′ hv e a = rw (hv, e) a
 
   transcripts : (p c′ s′ : List ℕ) → verifyRefusal R x p t c′ s′ ≡ 0 → elements p ≡ sent → proveRefusal R ws x t w c s ≡ 0
-      → verifierTranscript (relationOf R) (elements x) sent t ≡ proverTranscript (relationOf R) (batchOf R ws) (elements x) t
+      → verifierTranscript (relationOf R) (columnsOf R x) sent t ≡ proverTranscript (relationOf R) (batchOf R ws) (columnsOf R x) t
       → verifyOutcome R x p t c′ s′ .transcript ≡ proveOutcome R ws x t w c s .transcript
   unfolding verifyOutcome proveOutcome
   transcripts p c′ s′ hv e hp a = rw (hv, hp, e) a
 
   claims-handed : proveRefusal R ws x t w c s ≡ 0
-      → claimWords R ≡ 2 * length (proverClaims (relationOf R) (batchOf R ws) (proverDraws (relationOf R) (batchOf R ws) (elements x) t))
-      → take (claimWords R) (proveOutcome R ws x t w c s .claims) ≡ words (proverClaims (relationOf R) (batchOf R ws) (proverDraws (relationOf R) (batchOf R ws) (elements x) t))
+      → claimWords R ≡ 2 * length (proverClaims (relationOf R) (batchOf R ws) (proverDraws (relationOf R) (batchOf R ws) (columnsOf R x) t))
+      → take (claimWords R) (proveOutcome R ws x t w c s .claims) ≡ words (proverClaims (relationOf R) (batchOf R ws) (proverDraws (relationOf R) (batchOf R ws) (columnsOf R x) t))
   unfolding proveOutcome proveDraws
   claims-handed hp h =
-      rw hp (front (proverClaims (relationOf R) (batchOf R ws) (proverDraws (relationOf R) (batchOf R ws) (elements x) t)) (drop (claimWords R) c) (claimWords R) h)
+      rw hp (front (proverClaims (relationOf R) (batchOf R ws) (proverDraws (relationOf R) (batchOf R ws) (columnsOf R x) t)) (drop (claimWords R) c) (claimWords R) h)
 
   -- the verifier's tests 1 to 14 are among the prover's, and its 15 and 16 are these three
   unrefused : (p c′ s′ : List ℕ) → proveRefusal R ws x t w c s ≡ 0 → claimWords R ≤ length c′ → verifierScratchOf R ≤ length s′
@@ -130,18 +130,18 @@ module _ (R : Rules) (ws x : List ℕ) (t : Transcript) (w c s : List ℕ) where
     relation : SizedRelation (relationOf R)
     relation = able .ready
 
-    public : suc (length (elements x)) ≡ R .m / 2
-    public = omega (arith, elements-length x, able .public, able .ready .columns .low)
+    public : SizedPublic (relationOf R) (columnsOf R x)
+    public = sized-columns R (able .ready) x (able .public) wx
 
     size : proofWords R ≡ 2 * length sent
-    size = ap (λ (n : ℕ). 2 * n) (sym (sent-length (relationOf R) (batchOf R ws) (elements x) t))
+    size = ap (λ (n : ℕ). 2 * n) (sym (sent-length (relationOf R) (batchOf R ws) (columnsOf R x) t))
 
     written : length handed ≡ proofWords R
     written = ap length (handed-is hp size) ∙ words-length sent ∙ sym size
 
   -- wherever neither end is refused by 1 to 16
   verify-complete : (c′ s′ : List ℕ) → AreWords x → proveRefusal R ws x t w c s ≡ 0 → verifyRefusal R x handed t c′ s′ ≡ 0
-      → Good (relationOf R) (batchOf R ws) (elements x) → NoBitOutside (relationOf R) (batchOf R ws)
+      → Good (relationOf R) (batchOf R ws) (columnsOf R x) → NoBitOutside (relationOf R) (batchOf R ws)
       → let o = proveOutcome R ws x t w c s in AcceptedBy R ws x t (o .proof) (o .claims) (o .transcript) c′ s′
   verify-complete c′ s′ wx hp hv good stray =
       record { accepted = accepted; same-claims = same; true-claims = subst (ClaimsTrue r b) held (agrees .true-claims); same-transcript = ends }
@@ -152,8 +152,8 @@ module _ (R : Rules) (ws x : List ℕ) (t : Transcript) (w c s : List ℕ) where
       b : Batch
       b = batchOf R ws
 
-      agrees : Agrees r b (elements x) t
-      agrees = completeness-run r b (elements x) t (relation wx hp) (sized-batch R ws) (public wx hp) (word-elements x wx) good stray
+      agrees : Agrees r b (columnsOf R x) t
+      agrees = completeness-run r b (columnsOf R x) t (relation wx hp) (sized-batch R ws) (public wx hp) good stray
 
       given : elements handed ≡ sent
       given = ap elements (handed-is hp (size wx hp)) ∙ elements-words sent
@@ -164,7 +164,7 @@ module _ (R : Rules) (ws x : List ℕ) (t : Transcript) (w c s : List ℕ) where
       claims-given : claims r (elements handed) (verifierDraws r (elements handed) t) ≡ claims r sent (verifierDraws r sent t)
       claims-given = ap (λ (l : List ℕ). claims r l (verifierDraws r l t)) given
 
-      verifier-claims : claims r (elements handed) (verifierDraws r (elements handed) t) ≡ proverClaims r b (proverDraws r b (elements x) t)
+      verifier-claims : claims r (elements handed) (verifierDraws r (elements handed) t) ≡ proverClaims r b (proverDraws r b (columnsOf R x) t)
       verifier-claims = claims-given ∙ agrees .same-claims
 
       same : take (claimWords R) (verifyOutcome R x handed t c′ s′ .claims) ≡ take (claimWords R) (proveOutcome R ws x t w c s .claims)

@@ -29,7 +29,7 @@ use Rattle.magnetar_spartan.proofs.SizedRules.{rules-numbered, ready}
 -- ---- what is left where no test is bad
 pub record Verifiable (R : Rules) (x w : List ℕ) (n c s : ℕ) : Type 0 where
   pub ready : ValidRules R
-  pub public : length x ≡ R .m - 2
+  pub public : length x ≡ R .q * (R .m - 2)
   pub claims : claimWords R ≤ c
   pub scratch : verifierScratchOf R ≤ s
   pub proof : length w ≡ proofWords R
@@ -49,7 +49,7 @@ verifiable R x w n c s e =
     let b = clear-back (rulesTests R) rest (k .1 .1 .1) in
     record {
       ready = rules-ready R rest (k .0, (k .1 .0, tt)) (k .1 .1 .1);
-      public = eqb-true (length x) (R .m - 2) (not-false _ (k .1 .1 .0));
+      public = eqb-true (length x) (R .q * (R .m - 2)) (not-false _ (k .1 .1 .0));
       claims = ltb-false c (claimWords R) (b .1 .0);
       scratch = ltb-false s (verifierScratchOf R) (b .1 .1 .0);
       proof = eqb-true (length w) (proofWords R) (not-false _ (b .1 .1 .1 .0));
@@ -87,7 +87,7 @@ provable R ws x n w c s e =
     record {
       ready = rules-ready R rest (k .0, (k .1 .0, tt)) (k .1 .1 .1 .1);
       packed = eqb-true (length ws) (R .q * loginWords (R .m / 2)) (not-false _ (k .1 .1 .0));
-      public = eqb-true (length x) (R .m - 2) (not-false _ (k .1 .1 .1 .0));
+      public = eqb-true (length x) (R .q * (R .m - 2)) (not-false _ (k .1 .1 .1 .0));
       proof = ltb-false w (proofWords R) (b .1 .0);
       claims = ltb-false c (claimWords R) (b .1 .1 .0);
       scratch = ltb-false s (proverScratchOf R) (b .1 .1 .1 .0);

@@ -12,10 +12,10 @@ use Rattle.magnetar_field.specs.Tabulate.{tabulate}
 use Rattle.magnetar_field.specs.Words.{elements, words}
 use Rattle.magnetar_field.proofs.Elements.{words-length, elements-length}
 use Rattle.magnetar_field.proofs.Tabulation.{tabulate-of, tabulate-length}
-use Rattle.magnetar_layout.specs.Login.{loginWords}
+use Rattle.magnetar_layout.specs.Login.{loginWords, publicWords}
 use Rattle.magnetar_layout.specs.Tests.{sizeTests, packedTests, publicTests, lengthTest, roomTest}
-use Rattle.magnetar_matrix.specs.Batch.{Batch, folded, foldedAt, publicFolded}
-use Rattle.magnetar_matrix.specs.Packed.{unpacked}
+use Rattle.magnetar_matrix.specs.Batch.{Batch, PublicColumns, folded, foldedAt, publicFolded, publicFoldedAt}
+use Rattle.magnetar_matrix.specs.Packed.{unpacked, publicOf}
 use Rattle.magnetar_matrix.proofs.TableLaws.{elements-words}
 use Rattle.magnetar_r1cs.proofs.Points.{log-most}
 use Rattle.magnetar_batch.specs.Entries.{foldInRefusal, foldInOut, publicInRefusal, publicInOut}
@@ -46,6 +46,10 @@ point-reversed d k n h =
 folded-length : (q w : ℕ) (b : Batch) (p : List ℕ) → length (folded q w b p) ≡ w
 unfolding folded
 folded-length q w b p = tabulate-length (foldedAt q b p) w
+
+pub half-length : (q w : ℕ) (x : PublicColumns) (p : List ℕ) → length (publicFolded q w x p) ≡ w
+unfolding publicFolded
+half-length q w x p = tabulate-length (publicFoldedAt q x p) w
 
 module _ (q w n k : ℕ) (ws x d s p u : List ℕ) (lp : length p ≡ 2 * n)
     (ep : elements p ≡ tabulate (λ i. getD (elements d) (k + (n - 1 - i)) 0) n)
@@ -102,7 +106,7 @@ module _ (q w n k : ℕ) (ws x d s p u : List ℕ) (lp : length p ≡ 2 * n)
   -- the public half behind them
   module _ (v : List ℕ) (ev : v ≡ publicInOut x q w p (take (length folds - 6 * w) (drop (6 * w) folds))) where
     abbrev h : List ℕ
-    h = publicFolded (elements x) (elements p)
+    h = publicFolded q w (publicOf q w x) (elements p)
 
     folds-fore : folds ≡ fore ++ (replicate (2 * q) 0 ++ drop (6 * w + 2 * q) s)
     folds-fore = folds-are ∙ append-assoc fore (replicate (2 * q) 0) (drop (6 * w + 2 * q) s)
@@ -115,59 +119,67 @@ module _ (q w n k : ℕ) (ws x d s p u : List ℕ) (lp : length p ≡ 2 * n)
     public-none : publicInRefusal x q w p (drop (6 * w) folds) ≡ 0
     unfolding publicInRefusal
     public-none =
-        let room : 2 * w ≤ length (drop (6 * w) folds) = rw (length-drop, folds-long) (omega (arith, F .room)) in
-        first-refusal-none (sizeTests (2 * w) q ++ publicTests (2 * w) x ++ lengthTest (2 * log₂ q) p ++ roomTest (2 * w) (drop (6 * w) folds)) (
+        let room : 2 * w + 2 * q ≤ length (drop (6 * w) folds) = rw (length-drop, folds-long) (omega (arith, F .room)) in
+        first-refusal-none
+        (sizeTests (2 * w) q ++ publicTests (2 * w) q x ++ lengthTest (2 * log₂ q) p ++ roomTest (2 * w + 2 * q) (drop (6 * w) folds)) (
           size-passes 2 65536 (2 * w) (F .columns),
           (
             size-passes 1 4096 q (F .logins),
             (
-              same-passes (length x) (2 * w - 2) (F .public),
-              (same-passes (length p) (2 * log₂ q) point-long, (most-passes (length (drop (6 * w) folds)) (2 * w) room, tt)),
+              same-passes (length x) (q * publicWords w) (F .public),
+              (same-passes (length p) (2 * log₂ q) point-long, (most-passes (length (drop (6 * w) folds)) (2 * w + 2 * q) room, tt)),
             ),
           ),
         )
 
     h-long : length (words h) ≡ 2 * w
-    h-long = words-length h ∙ (rw elements-length (omega (arith, F .public, F .columns .low)))
+    h-long = words-length h ∙ ap (λ (i : ℕ). 2 * i) (half-length q w (publicOf q w x) (elements p))
 
     abbrev new : List ℕ
     new = putMid (6 * w) (length folds - 6 * w) folds v
 
-    new-is : new ≡ fore ++ (words h ++ drop (8 * w) folds)
+    -- zeros in the place of the eq table, and the rest
+    abbrev after : List ℕ
+    after = replicate (2 * q) 0 ++ drop (8 * w + 2 * q) folds
+
+    new-is : new ≡ fore ++ (words h ++ after)
     new-is =
-        let a : 6 * w + 2 * w ≡ 8 * w = omega arith in
+        let a : 6 * w + (2 * w + 2 * q) ≡ 8 * w + 2 * q = omega arith in
         back-put folds v (6 * w) ∙ ap₂ (λ (y z : List ℕ). y ++ z)
         (ap (take (6 * w)) folds-fore ∙ take-at fore (replicate (2 * q) 0 ++ drop (6 * w + 2 * q) s) (6 * w) fore-long)
-        (ev ∙ rw (back-part folds (6 * w), public-none, drop-drop (2 * w) (6 * w) folds, a))
+        (ev ∙ rw (back-part folds (6 * w), public-none, drop-drop (2 * w + 2 * q) (6 * w) folds, a))
 
-    new-parts : new ≡ take (4 * w) s ++ (words f ++ (words h ++ drop (8 * w) folds))
-    new-parts = new-is ∙ append-assoc (take (4 * w) s) (words f) (words h ++ drop (8 * w) folds)
+    new-parts : new ≡ take (4 * w) s ++ (words f ++ (words h ++ after))
+    new-parts = new-is ∙ append-assoc (take (4 * w) s) (words f) (words h ++ after)
 
     columns-are : elements (take (2 * w) (drop (4 * w) new)) ≡ f
     columns-are =
         ap (λ (y : List ℕ). elements (take (2 * w) (drop (4 * w) y))) new-parts
-        ∙ (ap (λ (y : List ℕ). elements (take (2 * w) y)) (drop-at (take (4 * w) s) (words f ++ (words h ++ drop (8 * w) folds)) (4 * w) table-long)
-        ∙ (ap elements (take-at (words f) (words h ++ drop (8 * w) folds) (2 * w) f-long) ∙ elements-words f))
+        ∙ (ap (λ (y : List ℕ). elements (take (2 * w) y)) (drop-at (take (4 * w) s) (words f ++ (words h ++ after)) (4 * w) table-long)
+        ∙ (ap elements (take-at (words f) (words h ++ after) (2 * w) f-long) ∙ elements-words f))
 
     half-is : elements (take (2 * w) (drop (6 * w) new)) ≡ h
     half-is =
         ap (λ (y : List ℕ). elements (take (2 * w) (drop (6 * w) y))) new-is
-        ∙ (ap (λ (y : List ℕ). elements (take (2 * w) y)) (drop-at fore (words h ++ drop (8 * w) folds) (6 * w) fore-long)
-        ∙ (ap elements (take-at (words h) (drop (8 * w) folds) (2 * w) h-long) ∙ elements-words h))
+        ∙ (ap (λ (y : List ℕ). elements (take (2 * w) y)) (drop-at fore (words h ++ after) (6 * w) fore-long)
+        ∙ (ap elements (take-at (words h) after (2 * w) h-long) ∙ elements-words h))
 
     rest-is : drop (8 * w + 2 * q) new ≡ drop (8 * w + 2 * q) s
     rest-is =
-        let l : length (fore ++ words h) ≡ 8 * w = length-append fore (words h) ∙ omega (arith, fore-long, h-long) in
-        let k : length (fore ++ replicate (2 * q) 0) ≡ 6 * w + 2 * q = length-append fore (replicate (2 * q) 0) ∙ omega (arith, fore-long, length-replicate {A = ℕ} (2 * q) 0) in
-        ap (drop (8 * w + 2 * q)) (new-is ∙ sym (append-assoc fore (words h) (drop (8 * w) folds)))
-        ∙ (behind-front (8 * w) (8 * w + 2 * q) (fore ++ words h) folds l (omega arith)
-        ∙ (ap (drop (8 * w + 2 * q)) folds-are ∙ behind-front (6 * w + 2 * q) (8 * w + 2 * q) (fore ++ replicate (2 * q) 0) s k (omega arith)))
+        let z : List ℕ = replicate (2 * q) 0 in
+        let e : new ≡ ((fore ++ words h) ++ z) ++ drop (8 * w + 2 * q) folds =
+        new-is ∙ (sym (append-assoc fore (words h) after) ∙ sym (append-assoc (fore ++ words h) z (drop (8 * w + 2 * q) folds))) in
+        let l : length ((fore ++ words h) ++ z) ≡ 8 * w + 2 * q =
+        length-append (fore ++ words h) z ∙ omega (arith, length-append fore (words h), fore-long, h-long, length-replicate {A = ℕ} (2 * q) 0) in
+        let k : length (fore ++ z) ≡ 6 * w + 2 * q = length-append fore z ∙ omega (arith, fore-long, length-replicate {A = ℕ} (2 * q) 0) in
+        ap (drop (8 * w + 2 * q)) e ∙ (drop-at ((fore ++ words h) ++ z) (drop (8 * w + 2 * q) folds) (8 * w + 2 * q) l
+        ∙ (ap (drop (8 * w + 2 * q)) folds-are ∙ behind-front (6 * w + 2 * q) (8 * w + 2 * q) (fore ++ z) s k (omega arith)))
 
     pub fold-ends : FoldLeft q w n k ws x d s new
     fold-ends = (
-      ap (take (4 * w)) new-parts ∙ take-at (take (4 * w) s) (words f ++ (words h ++ drop (8 * w) folds)) (4 * w) table-long,
+      ap (take (4 * w)) new-parts ∙ take-at (take (4 * w) s) (words f ++ (words h ++ after)) (4 * w) table-long,
       columns-are ∙ ap (folded q w (unpacked q w ws)) point-is,
-      half-is ∙ ap (publicFolded (elements x)) point-is,
+      half-is ∙ ap (publicFolded q w (publicOf q w x)) point-is,
       rest-is,
     )
 

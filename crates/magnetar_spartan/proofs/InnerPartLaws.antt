@@ -16,7 +16,7 @@ use Rattle.magnetar_hash.specs.declared.transcript.TranscriptAnswer.{Transcript
 use Rattle.magnetar_layout.specs.Tests.{Tests, columnTests, layoutTests, roomTest, Sized}
 use Rattle.magnetar_layout.proofs.FirstRefusal.{Clear}
 use Rattle.magnetar_matrix.specs.Batch.{Relation, folded, publicFolded}
-use Rattle.magnetar_matrix.specs.Packed.{unpacked}
+use Rattle.magnetar_matrix.specs.Packed.{unpacked, publicOf}
 use Rattle.magnetar_batch.proofs.Rooms.{back-part, back-put}
 use Rattle.magnetar_protocol.specs.Shape.{logCols, proofElements, claimCount, sizesOnly}
 use Rattle.magnetar_protocol.specs.Draws.{drawCount}
@@ -188,7 +188,7 @@ module _ (R : Rules) (ws x w d c s : List ℕ) (t : Transcript)
         columns = subst (Sized 2 65536) (sym two) (ok .ready .columns);
         logins = ok .ready .logins;
         packed = ok .packed;
-        public = omega (arith, two, ok .public);
+        public = ok .public ∙ ap (λ (i : ℕ). R .q * (i - 2)) (sym two);
         point = refl;
         place = omega (arith, h);
         drawn = omega (arith, h, ld);
@@ -211,7 +211,7 @@ module _ (R : Rules) (ws x w d c s : List ℕ) (t : Transcript)
     columns-are : elements (take (R .m) (drop (2 * R .m) s₁)) ≡ columns
     columns-are = ap₂ (λ (i j : ℕ). elements (take i (drop j s₁))) (sym two) (sym four) ∙ folds .1
 
-    half-is : elements (take (R .m) (drop (3 * R .m) s₁)) ≡ publicFolded (elements x) point
+    half-is : elements (take (R .m) (drop (3 * R .m) s₁)) ≡ publicFolded (R .q) (R .m / 2) (publicOf (R .q) (R .m / 2) x) point
     half-is =
         let six : 6 * (R .m / 2) ≡ 3 * R .m = omega (arith, two) in
         ap₂ (λ (i j : ℕ). elements (take i (drop j s₁))) (sym two) (sym six) ∙ folds .2
@@ -222,7 +222,7 @@ module _ (R : Rules) (ws x w d c s : List ℕ) (t : Transcript)
 
     steps-are : innerRunSteps (sizesOnly (R .m) 1 1 1 (R .lengths)) s₁ t ≡ innerPartSteps R ws x d s t
     unfolding innerRunSteps
-    steps-are = rw (front-is, columns-are, half-is) (outlined (elements (take (2 * R .m) s)) columns (publicFolded (elements x) point))
+    steps-are = rw (front-is, columns-are, half-is) (outlined (elements (take (2 * R .m) s)) columns (publicFolded (R .q) (R .m / 2) (publicOf (R .q) (R .m / 2) x) point))
 
     -- the words behind the prover's scratch
     abbrev n : ℕ

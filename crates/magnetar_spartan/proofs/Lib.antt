@@ -17,3 +17,4 @@ pub mod FoldLaws
 pub mod InnerPartLaws
 pub mod ProductLaws
 pub mod ProveRun
+pub mod EqualWords

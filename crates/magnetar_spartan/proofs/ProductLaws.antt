@@ -290,7 +290,7 @@ module _ (k : ℕ) (R : Rules) (ws x s : List ℕ) (ok : ValidProducts R (length
   T = tableOf R ws x a
 
   made-is : (m : ℕ) → tableOf R ws x (made m) ≡ T
-  made-is m = table-same a (h .rows) m (take (h .to - h .from) (drop (h .from) (R .entries))) ws (elements x) (R .q) (R .m / 2) (part-is .rows) (part-is .entries)
+  made-is m = table-same a (h .rows) m (take (h .to - h .from) (drop (h .from) (R .entries))) ws x (R .q) (R .m / 2) (part-is .rows) (part-is .entries)
 
   even : 2 * (R .m / 2) ≡ R .m
   even = even-size (R .m) (ok .columns)
@@ -299,7 +299,7 @@ module _ (k : ℕ) (R : Rules) (ws x s : List ℕ) (ok : ValidProducts R (length
   rows-are = part-is .rows ∙ fits .rows
 
   T-long : length (words T) ≡ wordsNo k R
-  T-long = table-words a ws (elements x) (R .q) (R .m / 2) (fits .n) (fits .rows) ∙ sym (fits .words-are)
+  T-long = table-words a ws x (R .q) (R .m / 2) (fits .n) (fits .rows) ∙ sym (fits .words-are)
 
   twice : R .q * (2 * h .rows) ≡ wordsNo k R
   twice = ap (λ (i : ℕ). R .q * (2 * i)) rows-are ∙ (mul-left-comm (R .q) 2 (fits .n) ∙ sym (fits .words-are))
@@ -319,7 +319,7 @@ module _ (k : ℕ) (R : Rules) (ws x s : List ℕ) (ok : ValidProducts R (length
       let e : g .place ≡ placeNo k R = ap (λ (y : Part). y .place) eg ∙ part-is .place in
       let room : R .q * (2 * h .rows) ≤ length (drop (placeNo k R) s) = rw (length-drop, twice) (omega (arith, fits .room)) in
       let r = range-left M ws x (R .q) (R .m / 2) (drop (placeNo k R) s) (subst (Sized 2 65536) (sym even) (ok .columns)) (ok .logins) (ok .packed)
-      (ok .public ∙ ap (λ (i : ℕ). i - 2) (sym even)) (subst (Sized 1 65536) (sym rows-are) (fits .size)) (rw rows-are (fits .most)) room in
+      (ok .public ∙ ap (λ (i : ℕ). R .q * (i - 2)) (sym even)) (subst (Sized 1 65536) (sym rows-are) (fits .size)) (rw rows-are (fits .most)) room in
       let f : u ≡ words T ++ drop (wordsNo k R) (drop (placeNo k R) s) =
       eu ∙ (ap (λ (y : Part). rangeOut (record { rows = y .rows; cols = 2 * (R .m / 2); entries = take (y .to - y .from) (drop (y .from) (R .entries)) }) ws x (R .q) (R .m / 2)
       (take (length s - g .place) (drop (g .place) s))) eg
@@ -331,7 +331,7 @@ module _ (k : ℕ) (R : Rules) (ws x s : List ℕ) (ok : ValidProducts R (length
 
   -- made in front by a walk over records, and copied
   pub moved-there : (g : Part) → g ≡ h → (n : ℕ) → n ≡ productWords (R .q) (g .rows) → (u : List ℕ)
-      → u ≡ productsIn (R .q) (R .m / 2) (g .rows) ws (elements x) (take (g .to - g .from) (drop (g .from) (R .entries))) s
+      → u ≡ productsIn (R .q) (R .m / 2) (g .rows) ws x (take (g .to - g .from) (drop (g .from) (R .entries))) s
       → Placed (wordsNo k R) (placeNo k R) T s (copied (g .place) n u)
   moved-there g eg n en u eu =
       let M = made (R .m) in
@@ -339,9 +339,9 @@ module _ (k : ℕ) (R : Rules) (ws x s : List ℕ) (ok : ValidProducts R (length
       let f : n ≡ wordsNo k R =
       en ∙ (ap (λ (y : Part). productWords (R .q) (y .rows)) eg ∙ (ap (productWords (R .q)) rows-are ∙ (uncut (R .q) (fits .n) (ok .logins .high) (fits .size .high) ∙ sym (fits .words-are)))) in
       let room : R .q * (2 * h .rows) ≤ length s = rw twice (omega (arith, fits .room)) in
-      let r = products-in M ws (elements x) (R .q) (R .m / 2) s (ok .logins .high) (omega (arith, ok .columns .high)) (subst (Sized 1 65536) (sym rows-are) (fits .size)) room in
+      let r = products-in M ws x (R .q) (R .m / 2) s (ok .logins .high) (omega (arith, ok .columns .high)) (subst (Sized 1 65536) (sym rows-are) (fits .size)) room in
       let l : u ≡ words T ++ drop (wordsNo k R) s =
-      eu ∙ (ap (λ (y : Part). productsIn (R .q) (R .m / 2) (y .rows) ws (elements x) (take (y .to - y .from) (drop (y .from) (R .entries))) s) eg
+      eu ∙ (ap (λ (y : Part). productsIn (R .q) (R .m / 2) (y .rows) ws x (take (y .to - y .from) (drop (y .from) (R .entries))) s) eg
       ∙ (r ∙ ap₂ (λ (v : List ℕ) (i : ℕ). words v ++ drop i s) (made-is (R .m)) twice)) in
       rw (e, f) (placed-copied (wordsNo k R) (placeNo k R) T s T-long (fits .free) (fits .room) u l)
     where
@@ -354,14 +354,14 @@ module _ (k : ℕ) (R : Rules) (ws x s : List ℕ) (ok : ValidProducts R (length
 -- ---- a product over records, call by call
 pub product-ends : (k m q : ℕ) (sh : Shapes) (es : List Record) (ws x s : List ℕ) (g : Part) (w n : ℕ) (s₁ s₂ : List ℕ)
     → g ≡ partOf k q sh (length es) → w ≡ m / 2
-    → s₁ ≡ productsIn q w (g .rows) ws (elements x) (take (g .to - g .from) (drop (g .from) (entriesOfRecords es))) s
+    → s₁ ≡ productsIn q w (g .rows) ws x (take (g .to - g .from) (drop (g .from) (entriesOfRecords es))) s
     → (n ≡ productWords q (g .rows)) × (n ≤ 1073741824) → s₂ ≡ copied (g .place) n s₁
     → ProductLeft k (rulesOver m q [] sh (entriesOfRecords es)) ws x s s₂
 product-ends k m q sh es ws x s g w n s₁ s₂ eg ew e₁ en e₂ ok =
     let R : Rules = rulesOver m q [] sh (entriesOfRecords es) in
     subst (Placed (wordsNo k R) (placeNo k R) (tableOf R ws x (matrixNo k (relationOf R))) s) (sym e₂)
     (moved-there k R ws x s ok g (eg ∙ ap (partOf k q sh) (sym (records-length es))) n (en .0) s₁
-    (e₁ ∙ ap (λ (i : ℕ). productsIn q i (g .rows) ws (elements x) (take (g .to - g .from) (drop (g .from) (entriesOfRecords es))) s) ew))
+    (e₁ ∙ ap (λ (i : ℕ). productsIn q i (g .rows) ws x (take (g .to - g .from) (drop (g .from) (entriesOfRecords es))) s) ew))
 
 -- ---- all six
 module _ (R : Rules) (ws x s₀ s₁ s₂ s₃ s₄ s₅ s₆ : List ℕ) (p₁ : ProductLeft 5 R ws x s₀ s₁) (p₂ : ProductLeft 6 R ws x s₁ s₂) (p₃ : ProductLeft 7 R ws x s₂ s₃)

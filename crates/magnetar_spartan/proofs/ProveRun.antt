@@ -26,7 +26,7 @@ use Rattle.magnetar_protocol.specs.Shape.{logLogins, logBin, logFld, logCols}
 use Rattle.magnetar_protocol.specs.Draws.{Draws, drawCount, drawsOf, loginPoint}
 use Rattle.magnetar_protocol.specs.Checks.{combined}
 use Rattle.magnetar_protocol.specs.Run.{claims}
-use Rattle.magnetar_protocol.specs.RunSizes.{SizedMatrix, Elements}
+use Rattle.magnetar_protocol.specs.RunSizes.{SizedMatrix}
 use Rattle.magnetar_protocol.specs.Prover.{productTable, proverProof, proverClaims}
 use Rattle.magnetar_schedule.specs.Stepwise.{Steps, Tables, begin, tauSteps, outerAll, drawTimes, sendEach, outerSteps, fldRows, binRows, outerBegin, terminalsLeft, innerAll, innerRun, segmentValue, lowDraws, ended}
 use Rattle.magnetar_schedule.specs.RealRun.{proverDraws, proverTranscript}
@@ -46,7 +46,7 @@ use Rattle.magnetar_spartan.specs.Refusals.{sizesOnlyOf, rowsBin, rowsFl
 use Rattle.magnetar_spartan.specs.Numbers.{proveTestsBy}
 use Rattle.magnetar_spartan.specs.ValidRules.{ValidRules}
 use Rattle.magnetar_spartan.specs.Table.{tableAt}
-use Rattle.magnetar_spartan.specs.Outcome.{batchOf, proveDraws, proveRefusal, proveOutcome, provedInPlace}
+use Rattle.magnetar_spartan.specs.Outcome.{batchOf, proveDraws, proveRefusal, proveOutcome, provedInPlace, columnsOf}
 use Rattle.magnetar_spartan.specs.Theorems.{AreWords, ProvedCall}
 use Rattle.magnetar_spartan.specs.Proving.{sizesOnlyRules, ValidRun, outerNumber, OuterDone, sentBefore, drawnBefore, sentAll, drawnAll, innerPartSteps, InnerPartLeft}
 use Rattle.magnetar_spartan.specs.Products.{tablesWanted, Products, ProductsLeft}
@@ -55,8 +55,7 @@ use Rattle.magnetar_spartan.proofs.ByNumbers.{prove-by}
 use Rattle.magnetar_spartan.proofs.Ended.{provable, draws-small}
 use Rattle.magnetar_spartan.proofs.Room.{Beyond}
 use Rattle.magnetar_spartan.proofs.DrawnTable.{drawn-combined, drawn-beyond}
-use Rattle.magnetar_spartan.proofs.Sound.{word-elements}
-use Rattle.magnetar_spartan.proofs.Complete.{sized-batch, proved-call}
+use Rattle.magnetar_spartan.proofs.Complete.{proved-call}
 use Rattle.magnetar_spartan.proofs.FoldLaws.{behind-front}
 use Rattle.magnetar_spartan.proofs.InnerPartLaws.{laid-front}
 
@@ -123,7 +122,7 @@ module _ (R : Rules) (ws x w c s : List ℕ) (t : Transcript)
   B = batchOf R ws
 
   abbrev O : Steps
-  O = outerProving r B (elements x) t
+  O = outerProving r B (columnsOf R x) t
 
   abbrev z₀ : List ℕ
   z₀ = replicate 256 0
@@ -132,10 +131,10 @@ module _ (R : Rules) (ws x w c s : List ℕ) (t : Transcript)
   small = draws-small R (ok .ready)
 
   sent-long : length (words (O .sent)) ≡ sentBefore R
-  sent-long = words-length (O .sent) ∙ ap (λ (n : ℕ). 2 * n) (outer-proving-sent r B (elements x) t)
+  sent-long = words-length (O .sent) ∙ ap (λ (n : ℕ). 2 * n) (outer-proving-sent r B (columnsOf R x) t)
 
   drawn-long : length (words (O .runState .draws)) ≡ drawnBefore R
-  drawn-long = words-length (O .runState .draws) ∙ ap (λ (n : ℕ). 2 * n) (outer-proving-count r B (elements x) t)
+  drawn-long = words-length (O .runState .draws) ∙ ap (λ (n : ℕ). 2 * n) (outer-proving-count r B (columnsOf R x) t)
 
   -- ---- the outer rounds over the products
   module _ (s₁ : List ℕ) (P : Products R ws x s s₁) where
@@ -169,7 +168,7 @@ module _ (R : Rules) (ws x w c s : List ℕ) (t : Transcript)
           ),
         )
 
-    wanted : tablesWanted R ws x ≡ productTables r B (elements x)
+    wanted : tablesWanted R ws x ≡ productTables r B (columnsOf R x)
     unfolding productTable packedTable
     wanted = refl
 
@@ -178,7 +177,7 @@ module _ (R : Rules) (ws x w c s : List ℕ) (t : Transcript)
     played-is =
         sym (whole-is 2 q b f [] (tablesOf q b f s₁) t)
         ∙ ap (λ (T : Tables). outerWhole (log₂ q) (log₂ b) (log₂ f) T t) (P .tables ∙ wanted)
-        ∙ sym (outer-all r (productTables r B (elements x)) t)
+        ∙ sym (outer-all r (productTables r B (columnsOf R x)) t)
 
     module _ (u : Transcript) (d v s₂ : List ℕ) (done : OuterDone q b f w s₁ t u d v s₂) where
       u-is : u ≡ O .runState .transcript
@@ -197,7 +196,7 @@ module _ (R : Rules) (ws x w c s : List ℕ) (t : Transcript)
 
       counter-is : u .«squeeze_ctr» ≡ 6
       unfolding outerProving
-      counter-is = ap (λ (y : Transcript). y .«squeeze_ctr») u-is ∙ counter-left r (productTables r B (elements x)) (tauSteps r t)
+      counter-is = ap (λ (y : Transcript). y .«squeeze_ctr») u-is ∙ counter-left r (productTables r B (columnsOf R x)) (tauSteps r t)
 
       pub d-long : length d ≡ 256
       d-long =
@@ -248,7 +247,7 @@ module _ (R : Rules) (ws x w c s : List ℕ) (t : Transcript)
         table-is : elements (take (2 * R .m) s₃) ≡ combined r E
         table-is =
             elements-take (R .m) s₃ ∙ (table ∙ (ap (λ (l : List ℕ). combined r (drawsOf r l)) D-elements
-            ∙ combined-split r (O .runState .draws) (elements (replicate (2 * logCols o) 0)) (outer-proving-count r B (elements x) t) zeros-long))
+            ∙ combined-split r (O .runState .draws) (elements (replicate (2 * logCols o) 0)) (outer-proving-count r B (columnsOf R x) t) zeros-long))
 
         abbrev k : ℕ
         k = log₂ q + log₂ b + (log₂ q + log₂ f)
@@ -256,7 +255,7 @@ module _ (R : Rules) (ws x w c s : List ℕ) (t : Transcript)
         point-is : reverse (take (log₂ q) (drop k (elements d))) ≡ loginPoint E
         unfolding loginPoint drawsOf
         point-is =
-            let h : length (O .runState .draws) ≡ drawCount o - logCols o = outer-proving-count r B (elements x) t in
+            let h : length (O .runState .draws) ≡ drawCount o - logCols o = outer-proving-count r B (columnsOf R x) t in
             let e : elements d ≡ O .runState .draws ++ elements (drop (drawnBefore R) z₀) = ap elements d-is ∙ elements-behind (O .runState .draws) (drop (drawnBefore R) z₀) in
             ap reverse (ap (λ (l : List ℕ). take (log₂ q) (drop k l)) e ∙ (ap (take (log₂ q)) (drop-append-le k (O .runState .draws) (elements (drop (drawnBefore R) z₀)) (omega (arith, h)))
             ∙ take-append-le (log₂ q) (drop k (O .runState .draws)) (elements (drop (drawnBefore R) z₀)) (rw length-drop (omega (arith, h)))))
@@ -268,20 +267,20 @@ module _ (R : Rules) (ws x w c s : List ℕ) (t : Transcript)
         outlined T F H h = unfold innerAll innerRun segmentValue lowDraws ended in refl
 
         abbrev half : List ℕ
-        half = publicFolded (elements x) (loginPoint E)
+        half = publicFolded (R .q) (R .m / 2) (columnsOf R x) (loginPoint E)
 
         steps-are : p ≡ inner (combined r E) (folded q (R .m / 2) B (loginPoint E)) half (O .runState .transcript)
         steps-are = rw (table-is, point-is, u-is) (outlined (combined r E) (folded q (R .m / 2) B (loginPoint E)) half (O .runState .transcript))
 
-        whole : behind O p ≡ proving r B (elements x) t
-        whole = ap (behind O) steps-are ∙ sym (proving-after r B (elements x) t)
+        whole : behind O p ≡ proving r B (columnsOf R x) t
+        whole = ap (behind O) steps-are ∙ sym (proving-after r B (columnsOf R x) t)
 
-        said-is : sentAll R v p ≡ words (proving r B (elements x) t .sent)
+        said-is : sentAll R v p ≡ words (proving r B (columnsOf R x) t .sent)
         said-is =
             ap (λ (l : List ℕ). l ++ words (p .sent)) (ap (take (sentBefore R)) v-is ∙ take-at (words (O .sent)) (drop (sentBefore R) w) (sentBefore R) sent-long)
             ∙ (sym (words-append (O .sent) (p .sent)) ∙ ap (λ (y : Steps). words (y .sent)) whole)
 
-        drawn-is : drawnAll R d p ≡ words (proving r B (elements x) t .runState .draws)
+        drawn-is : drawnAll R d p ≡ words (proving r B (columnsOf R x) t .runState .draws)
         drawn-is =
             ap (λ (l : List ℕ). l ++ words (p .runState .draws)) (ap (take (drawnBefore R)) d-is ∙ take-at (words (O .runState .draws)) (drop (drawnBefore R) z₀) (drawnBefore R) drawn-long)
             ∙ (sym (words-append (O .runState .draws) (p .runState .draws)) ∙ ap (λ (y : Steps). words (y .runState .draws)) whole)
@@ -297,24 +296,23 @@ module _ (R : Rules) (ws x w c s : List ℕ) (t : Transcript)
           counter = omega (arith, counter-is);
         }
 
-        pub run-is : Elements (elements x) → proveRefusal R ws x t w c s ≡ 0 → (u′ : Transcript) (w′ c′ s′ : List ℕ)
+        pub run-is : proveRefusal R ws x t w c s ≡ 0 → (u′ : Transcript) (w′ c′ s′ : List ℕ)
             → InnerPartLeft (sizesOnlyRules (R .m) q b f (R .lengths)) ws x v d c s₃ u u′ w′ c′ s′
             → provedInPlace 0 u′ w′ c′ s′ ≡ proveOutcome R ws x t w c s
         unfolding proveOutcome proveDraws
-        run-is word none u′ w′ c′ s′ L =
+        run-is none u′ w′ c′ s′ L =
             let e = L later-ready in
-            let px : suc (length (elements x)) ≡ R .m / 2 = rw elements-length (omega (arith, ok .public, ok .ready .columns .low)) in
             let z : eqb (proveRefusal R ws x t w c s) 0 ≡ true = eq-eqb (proveRefusal R ws x t w c s) 0 none in
-            let eu : u′ ≡ proverTranscript r B (elements x) t = e .0 ∙ (ap (λ (y : Steps). y .runState .transcript) whole
-            ∙ proving-transcript r B (elements x) t (ok .ready) (sized-batch R ws) px word) in
-            let ew : w′ ≡ words (proverProof r B (elements x) (proverDraws r B (elements x) t)) ++ drop (proofWords R) w =
-            e .1 ∙ ap₂ _++_ (said-is ∙ ap words (proving-words r B (elements x) t (ok .ready) (sized-batch R ws) px word))
+            let eu : u′ ≡ proverTranscript r B (columnsOf R x) t = e .0 ∙ (ap (λ (y : Steps). y .runState .transcript) whole
+            ∙ proving-transcript r B (columnsOf R x) t (ok .ready)) in
+            let ew : w′ ≡ words (proverProof r B (columnsOf R x) (proverDraws r B (columnsOf R x) t)) ++ drop (proofWords R) w =
+            e .1 ∙ ap₂ _++_ (said-is ∙ ap words (proving-words r B (columnsOf R x) t (ok .ready)))
             (ap (drop (proofWords R)) v-is ∙ behind-front (sentBefore R) (proofWords R) (words (O .sent)) w sent-long (omega arith)) in
-            let cl : claims o (elements (sentAll R v p)) (elements (drawnAll R d p)) ≡ proverClaims r B (proverDraws r B (elements x) t) =
-            ap₂ (claims o) (ap elements said-is ∙ elements-words (proving r B (elements x) t .sent)) (ap elements drawn-is ∙ elements-words (proving r B (elements x) t .runState .draws))
-            ∙ (sym (claims-outlined r (proving r B (elements x) t .sent) (proving r B (elements x) t .runState .draws))
-            ∙ proving-claims r B (elements x) t (ok .ready) (sized-batch R ws) px word) in
-            let ec : c′ ≡ words (proverClaims r B (proverDraws r B (elements x) t)) ++ drop (claimWords R) c = e .2 ∙ ap (λ (l : List ℕ). words l ++ drop (claimWords R) c) cl in
+            let cl : claims o (elements (sentAll R v p)) (elements (drawnAll R d p)) ≡ proverClaims r B (proverDraws r B (columnsOf R x) t) =
+            ap₂ (claims o) (ap elements said-is ∙ elements-words (proving r B (columnsOf R x) t .sent)) (ap elements drawn-is ∙ elements-words (proving r B (columnsOf R x) t .runState .draws))
+            ∙ (sym (claims-outlined r (proving r B (columnsOf R x) t .sent) (proving r B (columnsOf R x) t .runState .draws))
+            ∙ proving-claims r B (columnsOf R x) t (ok .ready)) in
+            let ec : c′ ≡ words (proverClaims r B (proverDraws r B (columnsOf R x) t)) ++ drop (claimWords R) c = e .2 ∙ ap (λ (l : List ℕ). words l ++ drop (claimWords R) c) cl in
             let es : s′ ≡ replicate (proverScratchOf R) 0 ++ drop (proverScratchOf R) s = e .3 ∙ ap (λ (l : List ℕ). replicate (proverScratchOf R) 0 ++ l) (rest ∙ s₂-rest) in
             rw (z, eu, ew, ec, es)
 
@@ -355,7 +353,7 @@ module _ (R : Rules) (ws x w c s : List ℕ) (t : Transcript) where
       let b : Beyond (proverScratchOf R) s₂ s₃ = subst (Beyond (proverScratchOf R) s₂) (sym e) (drawn-beyond R (ok .ready) drawn s₂ many enough (proverScratchOf R) (omega arith)) in
       let front = ap (λ (l : List ℕ). take (R .m) (elements l)) e ∙ drawn-combined R (ok .ready) drawn s₂ many enough in
       let o : provedInPlace 0 u′ w′ c′ s′ ≡ proveOutcome R ws x t w c s =
-      run-is R ws x w c s t ok s₁ Q u d v s₂ done s₃ front (b .long) (b .rest) (word-elements x (later .0)) none u′ w′ c′ s′
+      run-is R ws x w c s t ok s₁ Q u d v s₂ done s₃ front (b .long) (b .rest) none u′ w′ c′ s′
       (later .1 (d-long R ws x w c s t ok s₁ Q u d v s₂ done)) in
       (o, proved-call R ws x t w c s (provedInPlace 0 u′ w′ c′ s′) (later .0) o refl)
 

@@ -12,6 +12,7 @@ use Rattle.magnetar_field.proofs.Elements.{elements-length, words-length}
 use Rattle.magnetar_field.proofs.Tabulation.{tabulate-length}
 use Rattle.magnetar_layout.specs.Tests.{sizeTests, publicTests, lengthTest, roomTest}
 use Rattle.magnetar_matrix.specs.Batch.{publicFolded}
+use Rattle.magnetar_matrix.specs.Packed.{publicOf}
 use Rattle.magnetar_matrix.proofs.TableLaws.{elements-words}
 use Rattle.magnetar_batch.specs.Entries.{publicInRefusal}
 use Rattle.magnetar_batch.proofs.Rooms.{front-kept, behind-is}
@@ -26,7 +27,7 @@ use Rattle.magnetar_spartan.specs.Stages.{drawnBack, publicHalfBehind, p
 use Rattle.magnetar_spartan.proofs.PassedTests.{first-refusal-none, size-passes, same-passes, most-passes}
 use Rattle.magnetar_spartan.proofs.Ended.{log-few, draws-small}
 use Rattle.magnetar_spartan.proofs.Room.{Beyond, in-front, over}
-use Rattle.magnetar_spartan.proofs.FoldLaws.{point-reversed}
+use Rattle.magnetar_spartan.proofs.FoldLaws.{point-reversed, half-length}
 
 -- a part of the elements of words d in front of others
 front-part : (k n : ℕ) (d b : List ℕ) → 2 * k + 2 * n ≤ length d → take n (drop k (elements (d ++ b))) ≡ take n (drop k (elements d))
@@ -38,8 +39,8 @@ front-part k n d b h =
     ∙ (rw e (ap elements g) ∙ elements-part k n (2 * k) (2 * k + 2 * n) d refl refl)
 
 -- ---- the words d of the draws, in front of 256; the public words x; and s with the table in front
-module _ (R : Rules) (P : ValidRules R) (x d s : List ℕ) (many : length d ≡ 2 * drawCount (sizesOnlyOf R)) (public : length x ≡ R .m - 2)
-    (room : 4 * R .m ≤ length s) where
+module _ (R : Rules) (P : ValidRules R) (x d s : List ℕ) (many : length d ≡ 2 * drawCount (sizesOnlyOf R)) (public : length x ≡ R .q * (R .m - 2))
+    (room : 4 * R .m + 2 * R .q ≤ length s) where
   abbrev l : ℕ
   l = log₂ (R .q)
 
@@ -73,61 +74,68 @@ module _ (R : Rules) (P : ValidRules R) (x d s : List ℕ) (many : length d ≡ 
 
   -- the half
   abbrev pub half : List ℕ
-  half = publicFolded (elements x) p
+  half = publicFolded (R .q) (R .m / 2) (publicOf (R .q) (R .m / 2) x) p
 
   even : 2 * (R .m / 2) ≡ R .m
   even = cols (R .m) (log₂ (R .m)) (P .columns) refl .even
 
   half-long : length half ≡ R .m / 2
-  half-long = omega (arith, elements-length x, even, public, P .columns .low)
+  half-long = half-length (R .q) (R .m / 2) (publicOf (R .q) (R .m / 2) x) p
 
   none : publicInRefusal x (R .q) (R .m / 2) (words p) (drop (2 * R .m) s) ≡ 0
   unfolding publicInRefusal
   none =
       let w = R .m / 2 in
-      first-refusal-none (sizeTests (2 * w) (R .q) ++ publicTests (2 * w) x ++ lengthTest (2 * l) (words p) ++ roomTest (2 * w) (drop (2 * R .m) s))
+      first-refusal-none
+      (sizeTests (2 * w) (R .q) ++ publicTests (2 * w) (R .q) x ++ lengthTest (2 * l) (words p) ++ roomTest (2 * w + 2 * R .q) (drop (2 * R .m) s))
       (rw even (
         size-passes 2 65536 (R .m) (P .columns),
         (
           size-passes 1 4096 (R .q) (P .logins),
           (
-            same-passes (length x) (R .m - 2) public,
+            same-passes (length x) (R .q * (R .m - 2)) public,
             (
               same-passes (length (words p)) (2 * l) (words-length p ∙ ap (λ (n : ℕ). 2 * n) point-long),
-              (most-passes (length (drop (2 * R .m) s)) (R .m) (rw length-drop (omega (arith, room))), tt),
+              (most-passes (length (drop (2 * R .m) s)) (R .m + 2 * R .q) (rw length-drop (omega (arith, room))), tt),
             ),
           ),
         ),
       ))
 
+  -- zeros in the place of the eq table, and the rest
+  abbrev after : List ℕ
+  after = replicate (2 * R .q) 0 ++ drop (3 * R .m + 2 * R .q) s
+
   abbrev pub laidBehindTable : List ℕ
-  laidBehindTable = take (2 * R .m) s ++ (words half ++ drop (3 * R .m) s)
+  laidBehindTable = take (2 * R .m) s ++ (words half ++ after)
 
   at-point : publicHalfBehind (R .m) (R .q) x p s ≡ laidBehindTable
   unfolding publicHalfBehind
   at-point =
       let a : 2 * min (R .m) (length s / 2) ≡ 2 * R .m = omega (arith, room) in
-      let t : 2 * R .m + R .m ≡ 3 * R .m = omega arith in
-      rw (a, none, even, drop-drop (R .m) (2 * R .m) s, t)
-      (ap (λ (z : List ℕ). take (2 * R .m) s ++ (words (publicFolded (elements x) z) ++ drop (3 * R .m) s)) (elements-words p))
+      let t : 2 * R .m + (R .m + 2 * R .q) ≡ 3 * R .m + 2 * R .q = omega arith in
+      rw (a, none, even, drop-drop (R .m + 2 * R .q) (2 * R .m) s, t)
+      (ap (λ (z : List ℕ). take (2 * R .m) s ++ (words (publicFolded (R .q) (R .m / 2) (publicOf (R .q) (R .m / 2) x) z) ++ after)) (elements-words p))
 
   pub laid : publicHalfAt (sizesOnlyOf R) x all s ≡ laidBehindTable
   laid = ap (λ (z : List ℕ). publicHalfBehind (R .m) (R .q) x z s) point ∙ at-point
 
   pub laid-table : take (R .m) (elements laidBehindTable) ≡ take (R .m) (elements s)
-  laid-table = front-kept (R .m) s (omega (arith, room)) (words half ++ drop (3 * R .m) s)
+  laid-table = front-kept (R .m) s (omega (arith, room)) (words half ++ after)
 
   pub laid-half : take (R .m / 2) (drop (R .m) (elements laidBehindTable)) ≡ half
   laid-half =
-      ap (take (R .m / 2)) (behind-is (R .m) s (omega (arith, room)) half (drop (3 * R .m) s))
-      ∙ take-at half (elements (drop (3 * R .m) s)) (R .m / 2) half-long
+      ap (take (R .m / 2)) (behind-is (R .m) s (omega (arith, room)) half after)
+      ∙ take-at half (elements after) (R .m / 2) half-long
 
-  pub laid-beyond : (n : ℕ) → 3 * R .m ≤ n → Beyond n s laidBehindTable
+  pub laid-beyond : (n : ℕ) → 3 * R .m + 2 * R .q ≤ n → Beyond n s laidBehindTable
   laid-beyond n h =
       let a = take (2 * R .m) s in
-      let rest = drop (3 * R .m) s in
+      let z : List ℕ = replicate (2 * R .q) 0 in
+      let rest = drop (3 * R .m + 2 * R .q) s in
       let la : length a ≡ 2 * R .m = length-take-le (2 * R .m) s (omega (arith, room)) in
-      let f : length (a ++ words half) ≡ 3 * R .m =
-      length-append a (words half) ∙ (ap₂ _+_ la (words-length half) ∙ omega (arith, half-long, even)) in
-      subst (Beyond n s) (append-assoc a (words half) rest)
-      (in-front n s (a ++ words half) rest (omega (arith, f, h)) (rw (f, length-drop) (omega (arith, room))) (ap (λ (i : ℕ). drop i s) (sym f)))
+      let f : length ((a ++ words half) ++ z) ≡ 3 * R .m + 2 * R .q =
+      length-append (a ++ words half) z
+      ∙ omega (arith, length-append a (words half), la, words-length half, half-long, even, length-replicate {A = ℕ} (2 * R .q) 0) in
+      subst (Beyond n s) (append-assoc (a ++ words half) z rest ∙ append-assoc a (words half) (z ++ rest))
+      (in-front n s ((a ++ words half) ++ z) rest (omega (arith, f, h)) (rw (f, length-drop) (omega (arith, room))) (ap (λ (i : ℕ). drop i s) (sym f)))

@@ -1,9 +1,9 @@
 -- Where no test from 1 to 10 is bad, the relation has the sizes that the theorems ask for.
 -- Assumes nothing.
-use mathlib.Core.Path.{_≡_, refl}
+use mathlib.Core.Path.{_≡_, refl, sym, ap, _∙_}
 use mathlib.Core.Bool.{true, false, not, _&&_}
 use mathlib.Core.List.{List, [], _∷_, _++_}
-use Prim.Native.Nat.{ℕ, _*_, _+_, _/_, _≤_}
+use Prim.Native.Nat.{ℕ, _*_, _+_, _-_, _/_, _≤_}
 use native.Mathlib.Omega.{arith}
 use lib.Dec.{eqb, ltb}
 use lib.ListN.{length, drop, length-take}
@@ -17,7 +17,9 @@ use Rattle.magnetar_layout.proofs.EveryLaws.{both}
 use Rattle.magnetar_layout.proofs.FirstRefusal.{Clear, numbered}
 use Rattle.magnetar_layout.proofs.SizeLaws.{not-bad}
 use Rattle.magnetar_matrix.specs.Matrix.{Entry, System}
-use Rattle.magnetar_protocol.specs.RunSizes.{SizedMatrix, SizedSystem}
+use Rattle.magnetar_matrix.specs.Packed.{publicWords}
+use Rattle.magnetar_matrix.proofs.PublicParts.{public-logins, public-count, public-below}
+use Rattle.magnetar_protocol.specs.RunSizes.{SizedMatrix, SizedSystem, SizedPublic}
 use Rattle.magnetar_relation.specs.declared.shapes.Shape.{Shape}
 use Rattle.magnetar_relation.specs.declared.shapes.SystemShape.{SystemShape}
 use Rattle.magnetar_relation.specs.Rules.{Rules, entriesIn, matrixAt, systemAt, relationOf, inMatrix, inSystem, inRelation}
@@ -25,6 +27,8 @@ use Rattle.magnetar_relation.specs.RuleTests.{rowTests, colTests, mostTests, nu
 use Rattle.magnetar_protocol.specs.RunTests.{runTests, outlineTests}
 use Rattle.magnetar_spartan.specs.Refusals.{rowsBin, rowsFld, rulesTests}
 use Rattle.magnetar_spartan.specs.ValidRules.{ValidRules}
+use Rattle.magnetar_spartan.specs.Outcome.{columnsOf}
+use Rattle.magnetar_spartan.specs.Theorems.{AreWords}
 use Rattle.magnetar_spartan.proofs.PassedTests.{numbered-join, clear-front, clear-back, size-passes, most-passes, true-passes}
 
 same : (a b : ℕ) → not (eqb a b) ≡ false → a ≡ b
@@ -140,3 +144,15 @@ module _ (R : Rules) (P : ValidRules R) where
 
   pub outline-passes : (l : Tests) → Clear l → Clear (outlineTests (R .m) (R .q) (rowsBin R) (rowsFld R) (R .lengths) ++ l)
   outline-passes l k = sizes-passes (layoutTests (R .m / 2) (R .lengths) ++ l) (layout-passes l k)
+
+-- the public columns that the public words hold, once refusal 3 does not apply
+pub sized-columns : (R : Rules) → ValidRules R → (x : List ℕ) → length x ≡ R .q * (R .m - 2) → AreWords x → SizedPublic (relationOf R) (columnsOf R x)
+sized-columns R P x l h =
+    let two : 2 * (R .m / 2) ≡ R .m = even-size (R .m) (P .columns) in
+    let w = R .m / 2 in
+    let k : length x ≡ R .q * publicWords w = l ∙ ap (λ (i : ℕ). R .q * (i - 2)) (sym two) in
+    record {
+      logins = public-logins (R .q) w x;
+      columns = λ u b. public-count (R .q) w x u (omega (arith, two, P .columns .low)) k b;
+      elements = public-below (R .q) w x h;
+    }

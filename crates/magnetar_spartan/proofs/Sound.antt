@@ -24,8 +24,9 @@ use Rattle.magnetar_protocol.proofs.ClaimParts.{claims-length}
 use Rattle.magnetar_schedule.proofs.Counts.{verifier-count, verifier-elements}
 use Rattle.magnetar_protocol.proofs.Soundness.{soundness}
 use Rattle.magnetar_relation.specs.Rules.{Rules, relationOf}
+use Rattle.magnetar_spartan.proofs.SizedRules.{sized-columns}
 use Rattle.magnetar_spartan.specs.Refusals.{claimWords}
-use Rattle.magnetar_spartan.specs.Outcome.{Verified, verifyRefusal, verifyVerdict, verifyClaims, verifyOutcome}
+use Rattle.magnetar_spartan.specs.Outcome.{Verified, verifyRefusal, verifyVerdict, verifyClaims, verifyOutcome, columnsOf}
 use Rattle.magnetar_spartan.specs.Theorems.{AreWords, AcceptedCall, SoundAny}
 use Rattle.magnetar_spartan.proofs.Ended.{Verifiable, verifiable}
 
@@ -50,13 +51,12 @@ module _ (R : Rules) (x w : List ℕ) (t : Transcript) (c s : List ℕ) (none : 
 pub verify-sound-any : SoundAny
 verify-sound-any R x w t c s none wx ww b d B many below =
     let f = fits R x w t c s none in
-    soundness (relationOf R) b (elements x) (elements w) d (record {
+    soundness (relationOf R) b (columnsOf R x) (elements w) d (record {
       run = record {
         relation = f .ready;
         batch = B;
-        public = omega (arith, elements-length x, f .public, f .ready .columns .low);
+        public = sized-columns R (f .ready) x (f .public) wx;
         draws = many;
-        elements-x = word-elements x wx;
         elements-d = below;
       };
       words = as-many R x w t c s none;

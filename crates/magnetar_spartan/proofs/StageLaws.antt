@@ -14,6 +14,7 @@ use Rattle.magnetar_field.proofs.Tabulation.{tabulate-length}
 use Rattle.magnetar_hash.specs.declared.transcript.Transcript.{Transcript}
 use Rattle.magnetar_hash.specs.declared.transcript.TranscriptAnswer.{TranscriptAnswer}
 use Rattle.magnetar_matrix.specs.Batch.{Relation, publicFolded}
+use Rattle.magnetar_matrix.specs.Packed.{publicOf}
 use Rattle.magnetar_protocol.specs.declared.first.Found.{Found}
 use Rattle.magnetar_protocol.specs.Draws.{drawCount}
 use Rattle.magnetar_matrix.proofs.TableLaws.{elements-words}
@@ -45,7 +46,8 @@ same-point : (x : List ℕ) (q w : ℕ) (p t y : List ℕ) → length p ≡ 2 * 
     → publicInOut x q w p y ≡ publicInOut x q w (words t) y
 unfolding publicInRefusal
 same-point x q w p t y l e =
-    ap₂ (λ (n : ℕ) (z : List ℕ). unlessRefused n (words (publicFolded (elements x) z) ++ drop (2 * w) y) y) refusal (e ∙ sym (elements-words t))
+    ap₂ (λ (n : ℕ) (z : List ℕ). unlessRefused n
+    (words (publicFolded q w (publicOf q w x) z) ++ (replicate (2 * q) 0 ++ drop (2 * w + 2 * q) y)) y) refusal (e ∙ sym (elements-words t))
   where
     refusal : publicInRefusal x q w p y ≡ publicInRefusal x q w (words t) y
     refusal = rw (words-length t, l)

@@ -27,7 +27,7 @@ use Rattle.magnetar_relation.specs.Steps.{clearedTo}
 use Rattle.magnetar_spartan.specs.declared.stages.OuterStage.{OuterStage}
 use Rattle.magnetar_spartan.specs.Refusals.{rowsBin, rowsFld, sizesOnlyOf, verifierScratchOf}
 use Rattle.magnetar_spartan.specs.Numbers.{verifyTestsBy}
-use Rattle.magnetar_spartan.specs.Outcome.{verified, verifyRefusal, verifyOutcome}
+use Rattle.magnetar_spartan.specs.Outcome.{columnsOf, verified, verifyRefusal, verifyOutcome}
 use Rattle.magnetar_spartan.specs.Theorems.{AreWords, AcceptedCall}
 use Rattle.magnetar_spartan.specs.Table.{tableAt}
 use Rattle.magnetar_spartan.specs.Stages.{drawnWords, runTo, drawnOf, publicHalfAt, outerAt, outerStage, checkedAt, scratchElements, finished, outerStageUnless, finishedUnless}
@@ -87,7 +87,7 @@ module _ (R : Rules) (x w : List ℕ) (t : Transcript) (c s : List ℕ) (none : 
   -- the table in front of u, where the checks come to it, and the public half v laid behind it
   module _ (u : List ℕ) (b : Beyond (verifierScratchOf R) s u)
       (table : F .code ≡ 0 → take (R .m) (elements u) ≡ combined (relationOf R) D) where
-    room-before : 4 * R .m ≤ length u
+    room-before : 4 * R .m + 2 * R .q ≤ length u
     room-before = omega (arith, fits .scratch, b .long)
 
     abbrev v : List ℕ
@@ -107,10 +107,10 @@ module _ (R : Rules) (x w : List ℕ) (t : Transcript) (c s : List ℕ) (none : 
     table-laid : F .code ≡ 0 → take (R .m) (elements v) ≡ combined (relationOf R) D
     table-laid z = laid-table R (fits .ready) x drawn u drawn-long (fits .public) room-before ∙ table z
 
-    half-is : take (R .m / 2) (drop (R .m) (elements v)) ≡ publicFolded (elements x) (loginPoint D)
+    half-is : take (R .m / 2) (drop (R .m) (elements v)) ≡ publicFolded (R .q) (R .m / 2) (columnsOf R x) (loginPoint D)
     half-is =
         laid-half R (fits .ready) x drawn u drawn-long (fits .public) room-before
-        ∙ ap (λ (l : List ℕ). publicFolded (elements x) (loginPoint (drawsOf (relationOf R) l)))
+        ∙ ap (λ (l : List ℕ). publicFolded (R .q) (R .m / 2) (columnsOf R x) (loginPoint (drawsOf (relationOf R) l)))
         (elements-words (verifierDraws (relationOf R) (elements w) t))
 
     after-end : Beyond (verifierScratchOf R) s (replicate (4 * R .m) 0 ++ drop (4 * R .m) v)

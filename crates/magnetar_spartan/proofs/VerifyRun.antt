@@ -32,7 +32,7 @@ use Rattle.magnetar_verifier.specs.Claims.{claimsRefusal, claimsOut}
 use Rattle.magnetar_relation.specs.Rules.{Rules, relationOf}
 use Rattle.magnetar_spartan.specs.Refusals.{rowsBin, rowsFld, sizesOnlyOf, proofWords, claimWords}
 use Rattle.magnetar_spartan.specs.ValidRules.{ValidRules}
-use Rattle.magnetar_spartan.specs.Outcome.{Verified, verifyVerdict, verifyClaims}
+use Rattle.magnetar_spartan.specs.Outcome.{Verified, verifyVerdict, verifyClaims, columnsOf}
 use Rattle.magnetar_spartan.specs.Stages.{drawnWords, runTo, outerAt, endAt, claimsAt, stoppedAt, checkedAt}
 use Rattle.magnetar_spartan.proofs.Ended.{draws-small}
 use Rattle.magnetar_spartan.proofs.PassedTests.{first-refusal-none, same-passes, most-passes, true-passes}
@@ -90,7 +90,7 @@ module _ (R : Rules) (P : ValidRules R) (x w : List ℕ) (t : Transcript) (proof
 
   outer-checks-are : checked.outerChecks o (elements w) (drawsOf o (elements d)) ≡ outerOf R x w t
   unfolding checked.outerChecks
-  outer-checks-are = rw parts (outer-is R (elements x) (elements w) (drawsOf (relationOf R) D))
+  outer-checks-are = rw parts (outer-is R (columnsOf R x) (elements w) (drawsOf (relationOf R) D))
 
   abbrev F : Found
   F = outerAt o w d
@@ -102,7 +102,7 @@ module _ (R : Rules) (P : ValidRules R) (x w : List ℕ) (t : Transcript) (proof
   -- ---- the later checks, with a table and the public half in front of s, and claims c
   module _ (c s : List ℕ) (hc : claimWords R ≤ length c) (hs : 4 * R .m ≤ length s)
       (table : F .code ≡ 0 → take (R .m) (elements s) ≡ combined (relationOf R) (drawsOf (relationOf R) D))
-      (half : take (R .m / 2) (drop (R .m) (elements s)) ≡ publicFolded (elements x) (loginPoint (drawsOf (relationOf R) D))) where
+      (half : take (R .m / 2) (drop (R .m) (elements s)) ≡ publicFolded (R .q) (R .m / 2) (columnsOf R x) (loginPoint (drawsOf (relationOf R) D))) where
     end-none : endRefusal o w d s ≡ 0
     unfolding endRefusal
     end-none =
@@ -118,7 +118,7 @@ module _ (R : Rules) (P : ValidRules R) (x w : List ℕ) (t : Transcript) (proof
     last-is z =
         let h = take (R .m / 2) (drop (R .m) (elements s)) in
         rw (end-none, parts)
-        (ap firstFound (later-is R (elements x) (elements w) (drawsOf (relationOf R) D) h (take (R .m) (elements s)) half (table z)))
+        (ap firstFound (later-is R (columnsOf R x) (elements w) (drawsOf (relationOf R) D) h (take (R .m) (elements s)) half (table z)))
 
     claims-none : claimsRefusal (R .m) (R .q) (rowsBin R) (rowsFld R) (R .lengths) w d c ≡ 0
     unfolding claimsRefusal
@@ -135,7 +135,7 @@ module _ (R : Rules) (P : ValidRules R) (x w : List ℕ) (t : Transcript) (proof
     -- ---- what is left: the number, the transcript and the claims
     abbrev pub Left : Verified → Type 0
     Left v =
-        (v .code ≡ verifyVerdict R x w t) × (v .transcript ≡ verifierTranscript (relationOf R) (elements x) (elements w) t)
+        (v .code ≡ verifyVerdict R x w t) × (v .transcript ≡ verifierTranscript (relationOf R) (columnsOf R x) (elements w) t)
         × (v .claims ≡ verifyClaims R x w t c)
 
     abbrev Stopped : Found → Type 0

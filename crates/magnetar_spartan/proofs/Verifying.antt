@@ -2,7 +2,7 @@
 -- Assumes nothing.
 use mathlib.Core.Path.{_≡_, refl, sym, ap, ap₂, _∙_}
 use mathlib.Core.List.{List, [], _++_, append-nil}
-use Prim.Native.Nat.{ℕ, _+_, _*_, _≤_}
+use Prim.Native.Nat.{ℕ, _+_, _*_, _/_, _≤_}
 use native.Mathlib.Omega.{arith}
 use lib.ListN.{length, take}
 use lib.Seq.{take-all}
@@ -10,7 +10,7 @@ use borrow.Author.Tests.{ne-eqb}
 use Rattle.magnetar_field.specs.Words.{elements, words, overlaid}
 use Rattle.magnetar_field.proofs.Elements.{words-length, overlaid-same}
 use Rattle.magnetar_hash.specs.declared.transcript.Transcript.{Transcript}
-use Rattle.magnetar_matrix.specs.Batch.{Relation, publicFolded}
+use Rattle.magnetar_matrix.specs.Batch.{Relation, PublicColumns, publicFolded}
 use Rattle.magnetar_protocol.specs.Shape.{logLogins}
 use Rattle.magnetar_protocol.specs.Proof.{innerRounds, valueZ, terminals}
 use Rattle.magnetar_protocol.specs.Draws.{Draws, drawsOf, drawCount, loginPoint}
@@ -27,7 +27,7 @@ use Rattle.magnetar_relation.specs.Rules.{Rules, relationOf}
 use Rattle.magnetar_field.proofs.Log2.{log₂-lt}
 use Rattle.magnetar_spartan.specs.Refusals.{rowsBin, rowsFld, sizesOnlyOf}
 use Rattle.magnetar_spartan.specs.ValidRules.{ValidRules}
-use Rattle.magnetar_spartan.specs.Outcome.{verifyVerdict}
+use Rattle.magnetar_spartan.specs.Outcome.{verifyVerdict, columnsOf}
 
 pub sizes-are : (R : Rules) → outlined (relationOf R) ≡ sizesOnlyOf R
 sizes-are R = refl
@@ -58,13 +58,13 @@ module _ (R : Rules) (w : List ℕ) (t : Transcript) where
       count = refl
 
 -- ---- the outer checks
-module _ (R : Rules) (x w : List ℕ) (D : Draws) where
+module _ (R : Rules) (x : PublicColumns) (w : List ℕ) (D : Draws) where
   pub outer-is : sharedChecks (sizesOnlyOf R) w D 0 (logLogins (sizesOnlyOf R)) ++ (rowChecks (sizesOnlyOf R) w D ++ terminalChecks (sizesOnlyOf R) w D)
       ≡ outerChecks (relationOf R) x w D
   outer-is =
       outlines (λ (r : Relation). sharedChecks r w D 0 (logLogins r) ++ (rowChecks r w D ++ terminalChecks r w D))
-      ∙ sym (ap₂ _++_ (shared-outlined (relationOf R) x w D 0 (logLogins (relationOf R)))
-      (ap₂ _++_ (rows-outlined (relationOf R) x w D) (terminals-outlined (relationOf R) x w D)))
+      ∙ sym (ap₂ _++_ (shared-outlined (relationOf R) w D 0 (logLogins (relationOf R)))
+      (ap₂ _++_ (rows-outlined (relationOf R) w D) (terminals-outlined (relationOf R) w D)))
     where
       outlines : (f : Relation → List Check) → f (sizesOnlyOf R) ≡ f (outlined (relationOf R))
       outlines f = ap f (sym (sizes-are R))
@@ -83,10 +83,10 @@ module _ (R : Rules) (x w : List ℕ) (t : Transcript) where
   drawn = verifierDraws rel (elements w) t
 
   abbrev pub outerOf : List Check
-  outerOf = outerChecks rel (elements x) (elements w) (drawsOf rel drawn)
+  outerOf = outerChecks rel (columnsOf R x) (elements w) (drawsOf rel drawn)
 
   abbrev pub laterOf : List Check
-  laterOf = laterChecks rel (elements x) (elements w) (drawsOf rel drawn)
+  laterOf = laterChecks rel (columnsOf R x) (elements w) (drawsOf rel drawn)
 
   -- the transcript after n events
   abbrev pub after : ℕ → Transcript
@@ -94,9 +94,9 @@ module _ (R : Rules) (x w : List ℕ) (t : Transcript) where
 
   -- what the run answers
   abbrev pub Answers : ℕ → Transcript → Type 0
-  Answers c u = (c ≡ verifyVerdict R x w t) × (u ≡ verifierTranscript rel (elements x) (elements w) t)
+  Answers c u = (c ≡ verifyVerdict R x w t) × (u ≡ verifierTranscript rel (columnsOf R x) (elements w) t)
 
-  stopped : (n : ℕ) → n ≡ stop rel (elements x) (elements w) drawn → after n ≡ verifierTranscript rel (elements x) (elements w) t
+  stopped : (n : ℕ) → n ≡ stop rel (columnsOf R x) (elements w) drawn → after n ≡ verifierTranscript rel (columnsOf R x) (elements w) t
   unfolding verifierTranscript
   stopped n e = ap₂ (λ (es : List Event) (k : ℕ). runFrom (elements w) (take k es) t .transcript) (sym (schedule-is R)) e
 
@@ -104,10 +104,10 @@ module _ (R : Rules) (x w : List ℕ) (t : Transcript) where
   pub answer-outer : (c n : ℕ) → c ≡ firstFailure outerOf → n ≡ firstStop outerOf 0 → (c ≡ 0 → ⊥) → Answers c (after n)
   unfolding verifyVerdict
   answer-outer c n e f h =
-      let a : c ≡ verdict rel (elements x) (elements w) drawn =
-      sym (verdict-blocks rel (elements x) (elements w) drawn ∙ rw (← e, ne-eqb c 0 h)) in
-      let b : n ≡ stop rel (elements x) (elements w) drawn =
-      f ∙ sym (run-stop-blocks rel (elements x) (elements w) drawn 0 ∙ rw (← e, ne-eqb c 0 h)) in
+      let a : c ≡ verdict rel (columnsOf R x) (elements w) drawn =
+      sym (verdict-blocks rel (columnsOf R x) (elements w) drawn ∙ rw (← e, ne-eqb c 0 h)) in
+      let b : n ≡ stop rel (columnsOf R x) (elements w) drawn =
+      f ∙ sym (run-stop-blocks rel (columnsOf R x) (elements w) drawn 0 ∙ rw (← e, ne-eqb c 0 h)) in
       (a, stopped n b)
 
   -- the outer checks pass, and some later one does not
@@ -115,22 +115,22 @@ module _ (R : Rules) (x w : List ℕ) (t : Transcript) where
       → Answers c (after n)
   unfolding verifyVerdict
   answer-later c n z e f h =
-      let a : c ≡ verdict rel (elements x) (elements w) drawn =
-      sym (verdict-blocks rel (elements x) (elements w) drawn ∙ rw (z, ← e)) in
-      let g = stop-any laterOf (length (schedule rel)) 0 (later-numbered rel (elements x) (elements w) (drawsOf rel drawn)) (λ k. h (e ∙ k)) in
-      let b : n ≡ stop rel (elements x) (elements w) drawn =
-      f ∙ sym (run-stop-blocks rel (elements x) (elements w) drawn 0 ∙ rw z g) in
+      let a : c ≡ verdict rel (columnsOf R x) (elements w) drawn =
+      sym (verdict-blocks rel (columnsOf R x) (elements w) drawn ∙ rw (z, ← e)) in
+      let g = stop-any laterOf (length (schedule rel)) 0 (later-numbered rel (columnsOf R x) (elements w) (drawsOf rel drawn)) (λ k. h (e ∙ k)) in
+      let b : n ≡ stop rel (columnsOf R x) (elements w) drawn =
+      f ∙ sym (run-stop-blocks rel (columnsOf R x) (elements w) drawn 0 ∙ rw z g) in
       (a, stopped n b)
 
   -- every check passes
   pub answer-none : (k : ℕ) → firstFailure outerOf ≡ 0 → firstFailure laterOf ≡ 0 → length (schedule (sizesOnlyOf R)) ≤ k → Answers 0 (after k)
   unfolding verifyVerdict
   answer-none k z e h =
-      let a : verdict rel (elements x) (elements w) drawn ≡ 0 = verdict-blocks rel (elements x) (elements w) drawn ∙ rw (z, e) in
+      let a : verdict rel (columnsOf R x) (elements w) drawn ≡ 0 = verdict-blocks rel (columnsOf R x) (elements w) drawn ∙ rw (z, e) in
       let l : length (schedule (sizesOnlyOf R)) ≤ length (schedule rel) = rw (schedule-is R) (omega arith) in (
         sym a,
         whole k h ∙ sym (whole (length (schedule rel)) l)
-            ∙ stopped (length (schedule rel)) (sym (stop-accepted rel (elements x) (elements w) drawn a)),
+            ∙ stopped (length (schedule rel)) (sym (stop-accepted rel (columnsOf R x) (elements w) drawn a)),
       )
     where
       whole : (k : ℕ) → length (schedule (sizesOnlyOf R)) ≤ k → after k ≡ runFrom (elements w) (schedule rel) t .transcript
@@ -139,9 +139,9 @@ module _ (R : Rules) (x w : List ℕ) (t : Transcript) where
 -- ---- the later checks, over a table that is the combined one and a half that is the folded one
 end-outlined : (r : Relation) (h w : List ℕ) (D : Draws) (T : List ℕ) → endChecks r h w D T ≡ endChecks (outlined r) h w D T
 unfolding endChecks innerChecks innerClaim innerRounds valueZ terminals
-end-outlined r h w D T = rw (identity-outlined r h w D h)
+end-outlined r h w D T = rw (identity-outlined r w D h)
 
-pub later-is : (R : Rules) (x w : List ℕ) (D : Draws) (h T : List ℕ) → h ≡ publicFolded x (loginPoint D) → T ≡ combined (relationOf R) D
+pub later-is : (R : Rules) (x : PublicColumns) (w : List ℕ) (D : Draws) (h T : List ℕ) → h ≡ publicFolded (R .q) (R .m / 2) x (loginPoint D) → T ≡ combined (relationOf R) D
     → endChecks (sizesOnlyOf R) h w D T ≡ laterChecks (relationOf R) x w D
 later-is R x w D h T eh e =
     ap (λ (r : Relation). endChecks r h w D T) (sym (sizes-are R)) ∙ sym (end-outlined (relationOf R) h w D T)

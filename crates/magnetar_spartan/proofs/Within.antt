@@ -190,7 +190,7 @@ least-rules = record {
     numbers (suc (suc (suc zero))) h = refl
     numbers (suc (suc (suc (suc i)))) h = refl
 
--- two packed words, and room for 20 words of proof and 40 of scratch, where no claim is made
-pub least-within : (t : Transcript) → t .«squeeze_ctr» < 2 ^ 32 → ProveWithin leastRules (replicate 2 0) [] t (replicate 20 0) [] (replicate 40 0)
+-- two packed words, and room for 20 words of proof and 42 of scratch, where no claim is made
+pub least-within : (t : Transcript) → t .«squeeze_ctr» < 2 ^ 32 → ProveWithin leastRules (replicate 2 0) [] t (replicate 20 0) [] (replicate 42 0)
 unfolding log₂ halvings
 least-within t h = record { rules = least-rules; packed = refl; public = refl; counter = h; proof = lit≤ tt; claims = lit≤ tt; scratch = lit≤ tt }

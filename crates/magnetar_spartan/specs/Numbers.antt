@@ -29,9 +29,9 @@ proveLentTests o n w c s =
 
 -- all of the verifier, with so many public words x
 abbrev pub verifyTestsBy : ℕ → Relation → (x w n claims scratch : ℕ) → Tests
-verifyTestsBy z o x w n c s = sizeTests (o .m) (o .q) ++ ((publicTestsOf (o .m) x ++ rulesTestsBy z o) ++ verifyLentTests o w n c s)
+verifyTestsBy z o x w n c s = sizeTests (o .m) (o .q) ++ ((publicTestsOf (o .m) (o .q) x ++ rulesTestsBy z o) ++ verifyLentTests o w n c s)
 
 -- all of the prover, with so many packed words ws
 abbrev pub proveTestsBy : ℕ → Relation → (ws x n proof claims scratch : ℕ) → Tests
 proveTestsBy z o ws x n w c s =
-    sizeTests (o .m) (o .q) ++ ((packedTestsOf (o .m / 2) (o .q) ws ++ (publicTestsOf (o .m) x ++ rulesTestsBy z o)) ++ proveLentTests o n w c s)
+    sizeTests (o .m) (o .q) ++ ((packedTestsOf (o .m / 2) (o .q) ws ++ (publicTestsOf (o .m) (o .q) x ++ rulesTestsBy z o)) ++ proveLentTests o n w c s)

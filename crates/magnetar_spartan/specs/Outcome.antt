@@ -9,13 +9,21 @@ use Rattle.magnetar_field.specs.Words.{elements, words}
 use Rattle.magnetar_hash.specs.declared.transcript.Transcript.{Transcript}
 use Rattle.magnetar_hash.specs.declared.transcript.TranscriptAnswer.{TranscriptAnswer}
 use Rattle.magnetar_layout.specs.Tests.{firstRefusal}
-use Rattle.magnetar_matrix.specs.Batch.{Batch}
-use Rattle.magnetar_matrix.specs.Packed.{unpacked}
+use Rattle.magnetar_matrix.specs.Batch.{Batch, PublicColumns}
+use Rattle.magnetar_matrix.specs.Packed.{unpacked, publicOf}
 use Rattle.magnetar_protocol.specs.Run.{verdict, claims}
 use Rattle.magnetar_protocol.specs.Prover.{proverProof, proverClaims}
 use Rattle.magnetar_schedule.specs.RealRun.{verifierDraws, verifierTranscript, proverDraws, proverTranscript}
 use Rattle.magnetar_relation.specs.Rules.{Rules, relationOf}
 use Rattle.magnetar_spartan.specs.Refusals.{verifyTests, proveTests, proofWords, claimWords, verifierScratchOf, proverScratchOf}
+
+-- the batch that the packed words hold
+abbrev pub batchOf : Rules → List ℕ → Batch
+batchOf R ws = unpacked (R .q) (R .m / 2) ws
+
+-- the public columns of each login that the public words hold
+abbrev pub columnsOf : Rules → List ℕ → PublicColumns
+columnsOf R x = publicOf (R .q) (R .m / 2) x
 
 -- ---- the verifier
 -- the number, the transcript, and what the claims buffer and the scratch hold
@@ -39,7 +47,7 @@ verifyRefusal R x w t c s = firstRefusal 0 (verifyTests R x w (t .«squeeze_ctr�
 
 -- the number among 21 to 29, or 0: the verdict at the draws of the transcript
 unfoldable pub verifyVerdict : Rules → (x w : List ℕ) → Transcript → ℕ
-verifyVerdict R x w t = verdict (relationOf R) (elements x) (elements w) (verifierDraws (relationOf R) (elements w) t)
+verifyVerdict R x w t = verdict (relationOf R) (columnsOf R x) (elements w) (verifierDraws (relationOf R) (elements w) t)
 
 -- the claims buffer: the claims in front where the proof is accepted
 unfoldable pub verifyClaims : Rules → (x w : List ℕ) → Transcript → List ℕ → List ℕ
@@ -53,7 +61,7 @@ verifyOutcome R x w t c s =
     unlessRefused (verifyRefusal R x w t c s)
     (record {
       code = verifyVerdict R x w t;
-      transcript = verifierTranscript (relationOf R) (elements x) (elements w) t;
+      transcript = verifierTranscript (relationOf R) (columnsOf R x) (elements w) t;
       claims = verifyClaims R x w t c;
       scratch = replicate (verifierScratchOf R) 0 ++ drop (verifierScratchOf R) s;
     })
@@ -76,13 +84,9 @@ proved a w c s = record { code = a .code; transcript = a .transcript; proof = w;
 abbrev pub provedInPlace : ℕ → Transcript → List ℕ → List ℕ → List ℕ → Proved
 provedInPlace n t w c s = record { code = n; transcript = t; proof = w; claims = c; scratch = s }
 
--- the batch that the packed words hold
-abbrev pub batchOf : Rules → List ℕ → Batch
-batchOf R ws = unpacked (R .q) (R .m / 2) ws
-
 -- the draws of its run
 unfoldable pub proveDraws : Rules → (ws x : List ℕ) → Transcript → List ℕ
-proveDraws R ws x t = proverDraws (relationOf R) (batchOf R ws) (elements x) t
+proveDraws R ws x t = proverDraws (relationOf R) (batchOf R ws) (columnsOf R x) t
 
 -- the number of its refusal among 1 to 15, or 0
 unfoldable pub proveRefusal : Rules → (ws x : List ℕ) → Transcript → (w c s : List ℕ) → ℕ
@@ -94,8 +98,8 @@ proveOutcome R ws x t w c s =
     unlessRefused (proveRefusal R ws x t w c s)
     (record {
       code = 0;
-      transcript = proverTranscript (relationOf R) (batchOf R ws) (elements x) t;
-      proof = words (proverProof (relationOf R) (batchOf R ws) (elements x) (proveDraws R ws x t)) ++ drop (proofWords R) w;
+      transcript = proverTranscript (relationOf R) (batchOf R ws) (columnsOf R x) t;
+      proof = words (proverProof (relationOf R) (batchOf R ws) (columnsOf R x) (proveDraws R ws x t)) ++ drop (proofWords R) w;
       claims = words (proverClaims (relationOf R) (batchOf R ws) (proveDraws R ws x t)) ++ drop (claimWords R) c;
       scratch = replicate (proverScratchOf R) 0 ++ drop (proverScratchOf R) s;
     })

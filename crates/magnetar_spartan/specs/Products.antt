@@ -68,7 +68,7 @@ placeNo k R = cond (ltb k 4) (slot k * wordsNo k R) (4 * wordsBin R + slot (k - 
 
 -- the products of the matrix a
 abbrev pub tableOf : Rules → (ws x : List ℕ) → Matrix → List ℕ
-tableOf R ws x a = packedTable a ws (elements x) (R .q) (R .m / 2)
+tableOf R ws x a = packedTable a ws x (R .q) (R .m / 2)
 
 -- ---- one table
 -- the first n words copied to place p; nothing where there is no room for both
@@ -90,7 +90,7 @@ pub record ValidProducts (R : Rules) (ws x s : ℕ) : Type 0 where
   pub bin : SizedSystem (R .m) (R .q) (relationOf R .bin)
   pub fld : SizedSystem (R .m) (R .q) (relationOf R .fld)
   pub packed : ws ≡ R .q * loginWords (R .m / 2)
-  pub public : x ≡ R .m - 2
+  pub public : x ≡ R .q * (R .m - 2)
   pub room : blockWords (R .q) (rowsBin R) (rowsFld R) ≤ s
 
 -- table k, where they have it

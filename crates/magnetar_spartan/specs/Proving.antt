@@ -8,10 +8,10 @@ use Rattle.magnetar_field.specs.Refusal.{unlessRefused}
 use Rattle.magnetar_field.specs.Sizes.{log₂}
 use Rattle.magnetar_field.specs.Words.{elements, words}
 use Rattle.magnetar_hash.specs.declared.transcript.Transcript.{Transcript}
-use Rattle.magnetar_layout.specs.Login.{loginWords}
+use Rattle.magnetar_layout.specs.Login.{loginWords, publicWords}
 use Rattle.magnetar_layout.specs.Tests.{Sized, mostColumns, mostLogins}
 use Rattle.magnetar_matrix.specs.Batch.{folded, publicFolded}
-use Rattle.magnetar_matrix.specs.Packed.{unpacked}
+use Rattle.magnetar_matrix.specs.Packed.{unpacked, publicOf}
 use Rattle.magnetar_relation.specs.declared.shapes.Shape.{Shape}
 use Rattle.magnetar_relation.specs.declared.shapes.SystemShape.{SystemShape}
 use Rattle.magnetar_relation.specs.Rules.{Rules}
@@ -37,7 +37,7 @@ sizesOnlyRules m q b f ns = record { m = m; q = q; lengths = ns; shapes = record
 pub record ValidRun (R : Rules) (ws x w c s n : ℕ) : Type 0 where
   pub ready : ValidRules R
   pub packed : ws ≡ R .q * loginWords (R .m / 2)
-  pub public : x ≡ R .m - 2
+  pub public : x ≡ R .q * (R .m - 2)
   pub proof : proofWords R ≤ w
   pub claims : claimWords R ≤ c
   pub scratch : proverScratchOf R ≤ s
@@ -61,7 +61,7 @@ pub record ValidFold (q w n k ws x d s : ℕ) : Type 0 where
   pub columns : Sized 2 mostColumns (2 * w)
   pub logins : Sized 1 mostLogins q
   pub packed : ws ≡ q * loginWords w
-  pub public : x ≡ 2 * w - 2
+  pub public : x ≡ q * publicWords w
   pub point : n ≡ log₂ q
   pub place : k ≤ 4096
   pub drawn : 2 * k + 2 * n ≤ d
@@ -72,7 +72,7 @@ abbrev pub FoldLeft : (q w n k : ℕ) → (ws x d s s′ : List ℕ) → Type 0
 FoldLeft q w n k ws x d s s′ =
     let p = reverse (take n (drop k (elements d))) in
     (take (4 * w) s′ ≡ take (4 * w) s) × (elements (take (2 * w) (drop (4 * w) s′)) ≡ folded q w (unpacked q w ws) p)
-    × (elements (take (2 * w) (drop (6 * w) s′)) ≡ publicFolded (elements x) p) × (drop (8 * w + 2 * q) s′ ≡ drop (8 * w + 2 * q) s)
+    × (elements (take (2 * w) (drop (6 * w) s′)) ≡ publicFolded q w (publicOf q w x) p) × (drop (8 * w + 2 * q) s′ ≡ drop (8 * w + 2 * q) s)
 
 -- where the draws for the logins' point begin
 abbrev pub loginAt : (q b f : ℕ) → ℕ
@@ -113,7 +113,8 @@ EndLeft R w d c s n p u w′ c′ s′ =
 abbrev pub innerPartSteps : Rules → (ws x d s : List ℕ) → Transcript → Steps
 innerPartSteps R ws x d s t =
     let p = reverse (take (log₂ (R .q)) (drop (loginAt (R .q) (rowsBin R) (rowsFld R)) (elements d))) in
-    innerAll (sizesOnlyOf R) (elements (take (2 * R .m) s)) (folded (R .q) (R .m / 2) (unpacked (R .q) (R .m / 2) ws) p) (publicFolded (elements x) p) (begin t)
+    innerAll (sizesOnlyOf R) (elements (take (2 * R .m) s)) (folded (R .q) (R .m / 2) (unpacked (R .q) (R .m / 2) ws) p)
+    (publicFolded (R .q) (R .m / 2) (publicOf (R .q) (R .m / 2) x) p) (begin t)
 
 -- what is left where a run has what it asks for
 abbrev pub InnerPartLeft : Rules → (ws x w d c s : List ℕ) → Transcript → Transcript → (w′ c′ s′ : List ℕ) → Type 0

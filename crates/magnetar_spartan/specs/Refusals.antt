@@ -3,12 +3,13 @@
 -- Assumes nothing.
 use mathlib.Core.List.{List, _++_}
 use Prim.Native.Nat.{ℕ, _*_, _/_}
-use Rattle.magnetar_layout.specs.Tests.{Tests, sizeTests, packedTests, publicTests, layoutTests, roomTestOf}
+use lib.ListN.{length}
+use Rattle.magnetar_layout.specs.Tests.{Tests, sizeTests, packedTestsOf, publicTestsOf, layoutTests, roomTestOf}
 use Rattle.magnetar_matrix.specs.Batch.{Relation}
 use Rattle.magnetar_relation.specs.Rules.{Rules}
 use Rattle.magnetar_relation.specs.RuleTests.{ruleTests}
 use Rattle.magnetar_protocol.specs.Shape.{proofElements, claimCount, sizesOnly}
-use Rattle.magnetar_protocol.specs.RunTests.{counterTests, proofTests}
+use Rattle.magnetar_protocol.specs.RunTests.{counterTests, proofTestsOf}
 use Rattle.magnetar_protocol.specs.Scratch.{verifierScratch, proverScratch}
 
 -- 4 to 10: the rules
@@ -37,7 +38,7 @@ claimWords R = 2 * claimCount (sizesOnlyOf R)
 
 -- the verifier's scratch
 abbrev pub verifierScratchOf : Rules → ℕ
-verifierScratchOf R = verifierScratch (R .m) (rowsBin R) (rowsFld R)
+verifierScratchOf R = verifierScratch (R .m) (R .q) (rowsBin R) (rowsFld R)
 
 -- the prover's scratch
 abbrev pub proverScratchOf : Rules → ℕ
@@ -46,11 +47,11 @@ proverScratchOf R = proverScratch (R .m) (R .q) (rowsBin R) (rowsFld R)
 -- ---- the verifier: public words x, proof words w, transcript's counter n, and how many words of claims and of scratch are lent
 abbrev pub verifyTests : Rules → (x w : List ℕ) → (n claims scratch : ℕ) → Tests
 verifyTests R x w n c s =
-    sizeTests (R .m) (R .q) ++ (publicTests (R .m) x ++ (rulesTests R ++ (counterTests n ++ (roomTestOf (claimWords R) c
-    ++ (roomTestOf (verifierScratchOf R) s ++ proofTests (sizesOnlyOf R) w)))))
+    sizeTests (R .m) (R .q) ++ (publicTestsOf (R .m) (R .q) (length x) ++ (rulesTests R ++ (counterTests n ++ (roomTestOf (claimWords R) c
+    ++ (roomTestOf (verifierScratchOf R) s ++ proofTestsOf (sizesOnlyOf R) (length w))))))
 
 -- ---- the prover: packed words ws, public words x, transcript's counter n, and how many words of proof, claims and scratch are lent
 abbrev pub proveTests : Rules → (ws x : List ℕ) → (n proof claims scratch : ℕ) → Tests
 proveTests R ws x n w c s =
-    sizeTests (R .m) (R .q) ++ (packedTests (R .m / 2) (R .q) ws ++ (publicTests (R .m) x ++ (rulesTests R ++ (counterTests n
+    sizeTests (R .m) (R .q) ++ (packedTestsOf (R .m / 2) (R .q) (length ws) ++ (publicTestsOf (R .m) (R .q) (length x) ++ (rulesTests R ++ (counterTests n
     ++ (roomTestOf (proofWords R) w ++ (roomTestOf (claimWords R) c ++ roomTestOf (proverScratchOf R) s))))))

@@ -94,7 +94,7 @@ checkedAt o w d t u f c s = stoppedAt o w d t u f (firstOf f (endAt o w d s)) c 
 
 -- the verifier's scratch, in elements
 abbrev pub scratchElements : Relation → ℕ
-scratchElements o = 2 * o .m + 2 * max (o .bin .a .rows) (o .fld .a .rows)
+scratchElements o = 2 * o .m + 2 * max (o .bin .a .rows) (o .fld .a .rows) + o .q
 
 -- the same with the scratch cleared
 abbrev pub cleared : Relation → Verified → Verified

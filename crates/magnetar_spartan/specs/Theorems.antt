@@ -5,10 +5,13 @@ use mathlib.Core.Path.{_≡_}
 use mathlib.Core.Logic.{_⊎_}
 use mathlib.Core.List.{List}
 use Prim.Native.Nat.{ℕ, _^_, _≤_}
-use lib.ListN.{length, take}
+use lib.ListN.{length, take, replicate}
 use Rattle.magnetar_field.specs.Words.{elements}
 use Rattle.magnetar_hash.specs.declared.transcript.Transcript.{Transcript}
 use Rattle.magnetar_matrix.specs.Batch.{Batch, Good}
+use Rattle.magnetar_matrix.specs.Packed.{publicWords, publicOf}
+use Rattle.magnetar_protocol.specs.EqualColumns.{equalColumns}
+use Rattle.magnetar_protocol.specs.Prover.{joined}
 use Rattle.magnetar_protocol.specs.Draws.{drawCount}
 use Rattle.magnetar_protocol.specs.Run.{claims, verdict, ClaimsTrue}
 use Rattle.magnetar_protocol.specs.RunSizes.{SizedBatch, EachBelow, Elements}
@@ -16,7 +19,7 @@ use Rattle.magnetar_protocol.specs.Soundness.{NoBitOutside, BadDraw}
 use Rattle.magnetar_schedule.specs.RealRun.{verifierDraws}
 use Rattle.magnetar_relation.specs.Rules.{Rules, relationOf}
 use Rattle.magnetar_spartan.specs.Refusals.{claimWords, proofWords, verifierScratchOf}
-use Rattle.magnetar_spartan.specs.Outcome.{batchOf, verifyRefusal, verifyOutcome, proveRefusal, proveOutcome}
+use Rattle.magnetar_spartan.specs.Outcome.{batchOf, columnsOf, verifyRefusal, verifyOutcome, proveRefusal, proveOutcome}
 
 -- every number is a word
 abbrev pub AreWords : List ℕ → Type 0
@@ -30,7 +33,7 @@ abbrev pub AcceptedCall : Rules → (x w : List ℕ) → Transcript → (c : Lis
 AcceptedCall R x w t c =
     (b : Batch) → SizedBatch (relationOf R) b → NoBitOutside (relationOf R) b
     → ClaimsTrue (relationOf R) b (elements (take (claimWords R) c))
-    → Good (relationOf R) b (elements x) ⊎ BadDraw (relationOf R) b (elements x) (elements w) (verifierDraws (relationOf R) (elements w) t)
+    → Good (relationOf R) b (columnsOf R x) ⊎ BadDraw (relationOf R) b (columnsOf R x) (elements w) (verifierDraws (relationOf R) (elements w) t)
 
 -- ---- a proved call
 -- Given the proof in front of the words w, the same rules, public words and transcript t, and the buffers c′ and s′ of its own, the verifier
@@ -45,7 +48,7 @@ pub record AcceptedBy (R : Rules) (ws x : List ℕ) (t : Transcript) (w c : List
 -- the transcript u at exit: where the batch is good and has no bit set outside the segments, every verifier with room enough accepts.
 abbrev pub ProvedCall : Rules → (ws x : List ℕ) → Transcript → (w c : List ℕ) → Transcript → Type 0
 ProvedCall R ws x t w c u =
-    Good (relationOf R) (batchOf R ws) (elements x) → NoBitOutside (relationOf R) (batchOf R ws)
+    Good (relationOf R) (batchOf R ws) (columnsOf R x) → NoBitOutside (relationOf R) (batchOf R ws)
     → (c′ s′ : List ℕ) → claimWords R ≤ length c′ → verifierScratchOf R ≤ length s′ → AcceptedBy R ws x t w c u c′ s′
 
 -- ---- laws beside them
@@ -55,9 +58,9 @@ abbrev pub SoundAny : Type 0
 SoundAny =
     (R : Rules) (x w : List ℕ) (t : Transcript) (c s : List ℕ) → verifyRefusal R x w t c s ≡ 0 → AreWords x → AreWords w
     → (b : Batch) (d : List ℕ) → SizedBatch (relationOf R) b → length d ≡ drawCount (relationOf R) → Elements d
-    → verdict (relationOf R) (elements x) (elements w) d ≡ 0 → NoBitOutside (relationOf R) b
+    → verdict (relationOf R) (columnsOf R x) (elements w) d ≡ 0 → NoBitOutside (relationOf R) b
     → ClaimsTrue (relationOf R) b (claims (relationOf R) (elements w) d)
-    → Good (relationOf R) b (elements x) ⊎ BadDraw (relationOf R) b (elements x) (elements w) d
+    → Good (relationOf R) b (columnsOf R x) ⊎ BadDraw (relationOf R) b (columnsOf R x) (elements w) d
 
 -- Of any batch, good or not (proofs/Complete `verify-unrefused`): a verifier with room enough refuses by none of 1 to 16 what the prover has
 -- written.
@@ -66,3 +69,8 @@ Unrefused =
     (R : Rules) (ws x : List ℕ) (t : Transcript) (w c s c′ s′ : List ℕ) → AreWords x → proveRefusal R ws x t w c s ≡ 0
     → claimWords R ≤ length c′ → verifierScratchOf R ≤ length s′
     → verifyRefusal R x (take (proofWords R) (proveOutcome R ws x t w c s .proof)) t c′ s′ ≡ 0
+
+-- Of public columns that all logins share (proofs/EqualWords `equal-words`): the public words of one login, lent once for each of q logins, hold
+-- equal columns. What a call says then is what `magnetar_protocol` specs/EqualColumns says of them.
+abbrev pub EqualWords : Type 0
+EqualWords = (q w : ℕ) (x : List ℕ) → length x ≡ publicWords w → publicOf q w (joined (replicate q x)) ≡ equalColumns q (elements x)

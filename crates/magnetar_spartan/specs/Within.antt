@@ -68,24 +68,24 @@ pub record ProveWithin (R : Rules) (ws x : List ℕ) (t : Transcript) (w c s : L
   pub rules : RulesWithin R
   -- 2, 3
   pub packed : length ws ≡ R .q * (2 * ((R .m / 2 + 127) / 128))
-  pub public : length x ≡ R .m - 2
+  pub public : length x ≡ R .q * (R .m - 2)
   -- 14
   pub counter : t .«squeeze_ctr» < 2 ^ 32
   -- 15
   pub proof : wordsOfProof R ≤ length w
   pub claims : wordsOfClaims R ≤ length c
-  pub scratch : 8 * (R .q * (rowsBin R + rowsFld R)) + 8 * R .m + 4 * max (rowsBin R) (rowsFld R) + 4 * R .q ≤ length s
+  pub scratch : 8 * (R .q * (rowsBin R + rowsFld R)) + 8 * R .m + 4 * max (rowsBin R) (rowsFld R) + 6 * R .q ≤ length s
 
 -- a call of the verifier: public words x, proof words w, transcript t, and room for claims c and scratch s
 pub record VerifyWithin (R : Rules) (x w : List ℕ) (t : Transcript) (c s : List ℕ) : Type 0 where
   pub rules : RulesWithin R
   -- 3
-  pub public : length x ≡ R .m - 2
+  pub public : length x ≡ R .q * (R .m - 2)
   -- 14
   pub counter : t .«squeeze_ctr» < 2 ^ 32
   -- 15
   pub claims : wordsOfClaims R ≤ length c
-  pub scratch : 4 * R .m + 4 * max (rowsBin R) (rowsFld R) ≤ length s
+  pub scratch : 4 * R .m + 4 * max (rowsBin R) (rowsFld R) + 2 * R .q ≤ length s
   -- 16
   pub proof : length w ≡ wordsOfProof R
 

@@ -141,7 +141,7 @@ pub(crate) fn verify(
     if y != 0 {
         return y;
     }
-    let y = tests::refuse(0, 3, x != m - 2);
+    let y = tests::refuse(0, 3, x != q * (m - 2));
     let y = tests::refuse(y, z, true);
     let y = segments(y, m, lens);
     if y != 0 {
@@ -172,7 +172,7 @@ pub(crate) fn prove(
         return y;
     }
     let y = tests::refuse(0, 2, packed != q * r1cs::login_words(m / 2));
-    let y = tests::refuse(y, 3, x != m - 2);
+    let y = tests::refuse(y, 3, x != q * (m - 2));
     let y = tests::refuse(y, z, true);
     let y = segments(y, m, lens);
     if y != 0 {

@@ -174,14 +174,17 @@ fn checks(
 }
 
 // Clears the verifier's scratch.
-fn clear_room(m: usize, rb: usize, rf: usize, s: &mut [u64])
-    ensures { λ _. ⌜ now (s .exit) ≡ clearedTo (scratchElements (sizesOnly m 0 rb rf [])) (now (s .entry)) ⌝ }
+fn clear_room(m: usize, q: usize, rb: usize, rf: usize, s: &mut [u64])
+    ensures { λ _. ⌜ now (s .exit) ≡ clearedTo (scratchElements (sizesOnly m q rb rf [])) (now (s .entry)) ⌝ }
 {
     let k = sizes::larger(rb, rf);
     let h = s.len() / 4;
     if m <= h {
         if k <= h - m {
-            step::clear_front(2 * m + 2 * k, s);
+            let n = 2 * m + 2 * k;
+            if q <= s.len() / 2 - n {
+                step::clear_front(n + q, s);
+            }
         }
     }
 }
@@ -214,6 +217,6 @@ pub(crate) fn finish(
     let f = g.found;
     lay_public(s, m, q, rb, rf, x, d);
     let a = checks(claims, s, d, m, q, rb, rf, lens, proof, t, u, f);
-    clear_room(m, rb, rf, s);
+    clear_room(m, q, rb, rf, s);
     a
 }

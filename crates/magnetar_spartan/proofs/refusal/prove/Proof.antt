@@ -2,7 +2,7 @@
 -- Assumes nothing.
 use mathlib.Core.Path.{_≡_}
 use mathlib.Core.List.{_++_}
-use Prim.Native.Nat.{_/_, _≤_}
+use Prim.Native.Nat.{_-_, _/_, _≤_}
 use native.Mathlib.Omega.{arith}
 use denote.Ref.{now}
 use Rattle.magnetar_layout.specs.Tests.{Tests, firstRefusal, sizeTests, packedTestsOf, publicTestsOf}
@@ -12,6 +12,7 @@ use Rattle.magnetar_protocol.specs.Shape.{sizesOnly}
 use Rattle.magnetar_spartan.specs.Numbers.{rulesTestsBy, proveLentTests}
 use Rattle.magnetar_spartan.proofs.Chains.{log-least, login-most, product-most}
 use Rattle.magnetar_spartan.proofs.ByNumbers.{Sizes, sizes-of, few-segments}
+use Rattle.magnetar_matrix.proofs.Blocks.{product-fits}
 use borrow.Author.Needs.{needs}
 use Rattle.magnetar_spartan.proofs.refusal.prove.Statement.{statement}
 use Rattle.magnetar_spartan.proofs.refusal.prove.Tie as tie
@@ -26,7 +27,7 @@ first s = sizeTests (s .args .m) (s .args .q)
 abbrev second : tie.Start → Tests
 second s =
     let x = s .args in
-    packedTestsOf (x .m / 2) (x .q) (x .packed) ++ (publicTestsOf (x .m) (x .x) ++ rulesTestsBy (x .z) (o s))
+    packedTestsOf (x .m / 2) (x .q) (x .packed) ++ (publicTestsOf (x .m) (x .q) (x .x) ++ rulesTestsBy (x .z) (o s))
 
 abbrev third : tie.Start → Tests
 third s = let x = s .args in proveLentTests (o s) (x .n) (x .proof) (x .claims) (x .scratch)
@@ -67,6 +68,13 @@ refuse-requires c κs = search needs
 
 sub-refuse : tie.Need-sub-refuse
 sub-refuse c = sizes (c .before .before) .columns .low
+
+mul-refuse-2 : tie.Need-mul-refuse-2
+mul-refuse-2 c =
+    let e = c .before .before in
+    let x = e .before .before .before .args in
+    let z = sizes e in
+    omega (arith, product-fits (x .q) (x .m - 2) (z .logins .high) (omega (arith, z .columns .high)))
 
 refuse-requires-2 : tie.Need-refuse-requires-2
 refuse-requires-2 c κs = search needs
@@ -114,6 +122,7 @@ prove-spec =
     mul-refuse
     refuse-requires
     sub-refuse
+    mul-refuse-2
     refuse-requires-2
     refuse-requires-3
     segments-requires

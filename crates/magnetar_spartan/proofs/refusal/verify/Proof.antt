@@ -1,6 +1,7 @@
 -- `magnetar_spartan::refusal::verify` meets its contract.
 -- Assumes nothing.
-use Prim.Native.Nat.{_/_}
+use Prim.Native.Nat.{_-_, _/_}
+use native.Mathlib.Omega.{arith}
 use mathlib.Core.Path.{_≡_}
 use mathlib.Core.List.{_++_}
 use denote.Ref.{now}
@@ -11,6 +12,7 @@ use Rattle.magnetar_protocol.specs.Shape.{sizesOnly}
 use Rattle.magnetar_spartan.specs.Numbers.{rulesTestsBy, verifyLentTests}
 use Rattle.magnetar_spartan.proofs.Chains.{log-least}
 use Rattle.magnetar_spartan.proofs.ByNumbers.{Sizes, sizes-of, few-segments}
+use Rattle.magnetar_matrix.proofs.Blocks.{product-fits}
 use borrow.Author.Needs.{needs}
 use Rattle.magnetar_spartan.proofs.refusal.verify.Statement.{statement}
 use Rattle.magnetar_spartan.proofs.refusal.verify.Tie as tie
@@ -23,7 +25,7 @@ abbrev first : tie.Start → Tests
 first s = sizeTests (s .args .m) (s .args .q)
 
 abbrev second : tie.Start → Tests
-second s = publicTestsOf (s .args .m) (s .args .x) ++ rulesTestsBy (s .args .z) (o s)
+second s = publicTestsOf (s .args .m) (s .args .q) (s .args .x) ++ rulesTestsBy (s .args .z) (o s)
 
 abbrev third : tie.Start → Tests
 third s = let x = s .args in verifyLentTests (o s) (x .proof) (x .n) (x .claims) (x .scratch)
@@ -45,6 +47,12 @@ returns c =
 
 sub-refuse : tie.Need-sub-refuse
 sub-refuse c = sizes c .columns .low
+
+mul-refuse : tie.Need-mul-refuse
+mul-refuse c =
+    let x = c .before .before .before .args in
+    let z = sizes c in
+    omega (arith, product-fits (x .q) (x .m - 2) (z .logins .high) (omega (arith, z .columns .high)))
 
 refuse-requires : tie.Need-refuse-requires
 refuse-requires c κs = search needs
@@ -89,6 +97,7 @@ verify-spec =
     size-refusal-requires
     returns
     sub-refuse
+    mul-refuse
     refuse-requires
     refuse-requires-2
     segments-requires

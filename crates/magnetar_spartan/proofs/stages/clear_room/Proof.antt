@@ -12,15 +12,22 @@ use Rattle.magnetar_spartan.specs.Stages.{scratchElements}
 use borrow.Author.Needs.{needs}
 use Rattle.magnetar_spartan.proofs.stages.clear_room.Statement.{statement}
 use Rattle.magnetar_spartan.proofs.stages.clear_room.Tie as tie
+use Rattle.magnetar_spartan.proofs.stages.clear_room.Reads as reads
 
 larger-requires : tie.Need-larger-requires
 larger-requires c κs = search needs
 
-mul-clear-front : tie.Need-mul-clear-front
-mul-clear-front c = search needs
+mul-n : tie.Need-mul-n
+mul-n c = search needs
 
-mul-clear-front-2 : tie.Need-mul-clear-front-2
-mul-clear-front-2 c = search needs
+mul-n-2 : tie.Need-mul-n-2
+mul-n-2 c = search needs
+
+add-n : tie.Need-add-n
+add-n c = search needs
+
+sub-if3 : tie.Need-sub-if3
+sub-if3 c = search needs
 
 add-clear-front : tie.Need-add-clear-front
 add-clear-front c = search needs
@@ -33,36 +40,37 @@ same-length c = search needs
 
 returns : tie.Need-returns
 returns c =
-    let f = c .before .before in
-    let l = f .before .before .before .before in
-    let s = l .before .before in
-    let x = s .args in
-    f .clear-front .ensures ∙ ap (λ (k : ℕ). clearedTo (2 * x .m + 2 * k) (now (x .s))) (l .larger .ensures)
+    let x = c .before .before .before .before .before .before .before .before .before .args in
+    c .before .before .clear-front .ensures ∙ ap (λ (k : ℕ). clearedTo (2 * x .m + 2 * k + x .q) (now (x .s))) (c .before .before .before .before .before .before .before .larger .ensures)
 
 returns-2 : tie.Need-returns-2
 returns-2 c =
-    let l = c .before .before in
-    let s = l .before .before in
-    let x = s .args in
-    cleared-none (scratchElements (sizesOnly (x .m) 0 (x .rb) (x .rf) [])) (now (x .s)) (omega (arith, l .larger .ensures))
+    let x = c .before .before .before .before .before .args in
+    cleared-none (scratchElements (sizesOnly (x .m) (x .q) (x .rb) (x .rf) [])) (now (x .s)) (omega (arith, c .before .before .before .larger .ensures))
 
 returns-3 : tie.Need-returns-3
 returns-3 c =
-    let l = c .before in
-    let s = l .before .before in
-    let x = s .args in
-    cleared-none (scratchElements (sizesOnly (x .m) 0 (x .rb) (x .rf) [])) (now (x .s)) (omega (arith, l .larger .ensures))
+    let x = c .before .before .before .before .args in
+    cleared-none (scratchElements (sizesOnly (x .m) (x .q) (x .rb) (x .rf) [])) (now (x .s)) (omega (arith, c .before .before .larger .ensures))
+
+returns-4 : tie.Need-returns-4
+returns-4 c =
+    let x = c .before .before .before .args in
+    cleared-none (scratchElements (sizesOnly (x .m) (x .q) (x .rb) (x .rf) [])) (now (x .s)) (omega (arith, c .before .larger .ensures))
 
 pub clear-room-spec : {M : Type 1} → statement M
 clear-room-spec =
     tie.close
     (tie.spec
     larger-requires
-    mul-clear-front
-    mul-clear-front-2
+    mul-n
+    mul-n-2
+    add-n
+    sub-if3
     add-clear-front
     clear-front-requires
     same-length
     returns
     returns-2
-    returns-3)
+    returns-3
+    returns-4)
