@@ -14,7 +14,7 @@ from forms import MATRICES, TRANSCRIPTS
 FIELD = "add mul square inv pow mulbit isbit chain eqchar2 eq fused eqat evalmle bind fold eqroom mleroom bindroom get put clear copy log2 ispower"
 HASH = "sha3 sha3rep parts partslens new newlens absorb absorbfield absorbwords absorbu64 absorbdigest draw rawdraw draws drawvec rawdrawvec febytes digest"
 SUMCHECK = "outer inner round capture outerend innerend eqpoints eqnext outermsg innermsg dropvar"
-MATRIX = "isbinary apply packed table at foldinst foldw layout reading segment"
+MATRIX = "isbinary apply packed table at foldinst foldw foldx layout reading segment"
 # How many lines an answer has; that of `checks` says it itself.
 LINES = {"combo": 2, "masks": 1, "check": 2, "digest": 1, "prove": 4, "verify": 3, "checks": None}
 
@@ -48,14 +48,23 @@ def found(answers):
     return told(1), 3 if told(1) else 4
 
 
+def has_own(case):
+    """Whether the logins of a case have unequal public columns."""
+    numbers = [int(n, 0) for n in case.split()[1:]]
+    m, q = numbers[1:3]
+    x = numbers[5 + numbers[3] :][: numbers[4 + numbers[3]]]
+    return len(x) == q * (m - 2) and len({tuple(x[u * (m - 2) : (u + 1) * (m - 2)]) for u in range(min(q, 4096))}) > 1
+
+
 def relations():
-    """The queries on relations: all, those that the core alone was asked, and how the runs end."""
-    answers, at, cases = lines("magnetar_cases", "stdout"), 0, 0
+    """The queries on relations and how many of these have unequal public columns: all, those that the core alone was asked, and how the runs end."""
+    answers, at, cases, own = lines("magnetar_cases", "stdout"), 0, 0, 0
     all_, alone, codes = collections.Counter(), collections.Counter(), collections.defaultdict(collections.Counter)
     for query in lines("magnetar_cases", "stdin"):
         op = query.split()[0]
         if op == "case":
             cases += 1
+            own += has_own(query)
         elif op == "#":
             at += 1
         else:
@@ -67,17 +76,21 @@ def relations():
             codes[op][code] += 1
             at += length
     assert at == len(answers)
-    return cases, all_, alone, codes
+    return cases, own, all_, alone, codes
 
 
 def columns():
-    """How many calls magnetar_limits makes at each number of columns, by the line before them that tells it."""
-    calls, m = collections.Counter(), None
+    """How many calls magnetar_limits makes at each number of columns, by the line before them that tells it, and how many of them on public
+    columns of each login's own."""
+    calls, m, own = collections.Counter(), None, False
     for line in lines("magnetar_limits", "stdout"):
         if line.startswith("m "):
-            m = int(line.split()[1].rstrip(","))
+            m, own = int(line.split()[1].rstrip(",")), False
+        elif line.startswith("each login"):
+            own = True
         elif line.startswith("  "):
             calls[m] += 1
+            calls["own"] += own
             assert m == 65536 or line[18:].startswith("1,"), line
     return calls
 
@@ -87,8 +100,8 @@ def rows():
     parts = [sum(singly[name] for name in names.split()) for names in (FIELD, HASH, SUMCHECK, MATRIX)]
     assert sum(parts) == sum(singly.values()), singly
     yield f"| `magnetar_vectors` | {thousands(sum(parts))}: field {parts[0]}, hash {parts[1]}, sum-checks {parts[2]}, matrices, folds and layouts {parts[3]} |"
-    cases, asked, alone, codes = relations()
-    yield f"| `magnetar_cases` | {thousands(sum(asked.values()))} on {cases} relations: {of(asked, LINES)} |"
+    cases, own, asked, alone, codes = relations()
+    yield f"| `magnetar_cases` | {thousands(sum(asked.values()))} on {cases} relations: {of(asked, LINES)}; {own} relations with public columns of each login's own |"
     both = [name for name in LINES if name != "checks"]
     records = {name: asked[name] - alone[name] for name in both}
     yield f"| of these also over records | {thousands(sum(records.values()))}: {of(records, both)}; the other {sum(alone.values())} of these kinds are answered after a line `alone`: the four lists are of unequal length, or of more than 384 entries |"
@@ -97,8 +110,8 @@ def rows():
     names = "absorb absorbfield absorbu64 absorbdigest draw drawvec isbinary apply packed table at".split()
     yield f"| `magnetar_forms` | {sum(forms.values())} of those of `magnetar_vectors`: {of(forms, names)}; those on a matrix whose four lists differ in length cannot be asked of records |"
     calls = columns()
-    assert set(calls) == {65536, 131072}
-    yield f"| `magnetar_limits` | {sum(calls.values())} calls: {calls[65536]} at m = 65,536, of one login and of two; {calls[131072]} at m = 131,072, each refused with 1 |"
+    assert set(calls) == {65536, 131072, "own"}
+    yield f"| `magnetar_limits` | {calls[65536] + calls[131072]} calls: {calls[65536]} at m = 65,536, of one login and of two, {calls['own']} of these on public columns of each login's own; {calls[131072]} at m = 131,072, each refused with 1 |"
     prove, verify = codes["prove"], codes["verify"]
     early = {op: sum(n for code, n in codes[op].items() if 1 <= code <= 16) for op in codes}
     late = {code: n for code, n in verify.items() if code > 16}

@@ -1,15 +1,16 @@
 #!/usr/bin/env python3
 """Writes what magnetar_limits has to write: the largest number of columns, run to a result (docs/VECTORS.md).
 
-    limits.py DRIVER
+    limits.py DRIVER COLUMNS
 
-DRIVER answers by the published Rust, for a relation and a batch that are filled here by the rule that crates/magnetar_limits/src/filled.rt
-states. That lent words past a result stay, that scratch is zero as far as its formula goes, and the refusals are document 01's.
+Both answer by the published Rust, COLUMNS where the two logins have public columns of their own, for a relation and a batch that are
+filled here by the rule that crates/magnetar_limits/src/filled.rt states. That lent words past a result stay, that scratch is zero as far
+as its formula goes, and the refusals are document 01's.
 """
 import sys
 
 sys.dont_write_bytecode = True
-from cases import Case, Room, Runs, Sheet, checked, flipped, numbers, shortly
+from cases import Case, Room, Runs, Sheet, checked, flipped, numbers, shared_product, shortly
 from make import MARK, TOP, listed
 
 MOST, STEP, TERMS = 65536, 0x9E3779B97F4A7C15, 512
@@ -45,8 +46,8 @@ def the_case(q):
 class Told:
     """The lines of the program."""
 
-    def __init__(self, driver):
-        self.sheet, self.lines, self.known = Sheet(driver), [], {}
+    def __init__(self, *commands):
+        self.sheet, self.lines, self.known = Sheet(*commands), [], {}
         self.ops, self.runs = self.sheet.ops, Runs(self.sheet)
         self.start = tuple(self.ops.ask("new " + b"limits".hex()).split()[1:])
 
@@ -74,9 +75,11 @@ class Told:
     # ---- at the limit, by the Rust
 
     def products(self, case):
-        for rows, cols, *parts in case.mats:
-            self.ops.run.stdin.write(f"matrix {rows} {cols} {len(parts[0])}\n" + "".join(" ".join(map(str, e)) + "\n" for e in zip(*parts)))
-            flag, _, *words = self.ops.ask(f"packed {case.q} {case.m // 2} {shortly(case.packed)} {shortly(case.x)}").split()[1:]
+        for k in range(6):
+            # whether the products are bits hangs on the matrix alone
+            flag, shared = shared_product(self.ops, case, k)
+            words = self.sheet.own(case, f"product {k}").split()[1:]
+            assert words == shared or not case.shared()
             self.line("packed product", {"true": "yes", "false": "no"}[flag], self.lent("products", PRODUCTS, [int(w, 0) for w in words]))
 
     def single(self, case):
@@ -90,8 +93,8 @@ class Told:
         self.line("combined table", 0, self.lent("table", TABLE, table), self.lent("scratch", SCRATCH, [0] * (2 * case.m + 2 * 4)))
 
     def verify(self, case, proof):
-        found, _ = self.runs.asked(case, self.start, proof)
-        verdict, *rest = found["verifier"].split(" ", 2)
+        found = self.runs.asked(case, self.start, proof)
+        verdict, *rest = found["verifier"].split()
         claims = numbers(found["verifier_claims"])[1:] if verdict == "accepted" else []
         code = 0 if verdict == "accepted" else int(rest[0])
         scratch = self.lent("scratch", SCRATCH, [0] * Room(case).verifier)
@@ -101,7 +104,7 @@ class Told:
     def whole(self, case):
         """The row check and both ends; the numbers of the verifier's answers, the second after a bit of the proof is turned."""
         self.line("row check", checked(self.sheet, case).removeprefix("= "), self.lent("scratch", SCRATCH, [0] * (6 * 4)))
-        found, room = self.runs.asked(case, self.start)[0], Room(case)
+        found, room = self.runs.asked(case, self.start), Room(case)
         proof, claims = numbers(found["proof"])[1:], numbers(found["claims"])[1:]
         assert len(proof) == room.proof == 124 + 16 * case.q
         self.run(
@@ -119,6 +122,14 @@ class Told:
         self.lines.append("the last bit of login 0 is not set")
         assert self.whole(case) == [[23, 23], [21, 21]][q - 1]
 
+    def own(self):
+        """The same two logins; the words of the second one's public columns go on where those of the first one end."""
+        case = the_case(2)
+        case.x = filled(2 * (MOST - 2), 1)
+        self.lines.append("each login its own public columns")
+        self.products(case)
+        assert self.whole(case) == [0, 29]
+
     # ---- past it, by document 01
 
     def past_the_limit(self):
@@ -135,11 +146,12 @@ class Told:
 
 
 def main():
-    if len(sys.argv) != 2:
+    if len(sys.argv) != 3:
         sys.exit(__doc__)
-    told = Told(sys.argv[1])
+    told = Told(*sys.argv[1:])
     told.at_the_limit(1)
     told.at_the_limit(2)
+    told.own()
     told.past_the_limit()
     (TOP / "crates" / "magnetar_limits" / "stdout").write_text("".join(f"{line}\n" for line in told.lines))
 

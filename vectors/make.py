@@ -1,11 +1,11 @@
 #!/usr/bin/env python3
 """Writes the queries of the test program and their recorded answers (docs/VECTORS.md).
 
-    make.py DRIVER FIELDOPS SUMOPS
+    make.py DRIVER FIELDOPS SUMOPS COLUMNS
 
-DRIVER, FIELDOPS and SUMOPS are commands that answer queries by the published Rust: DRIVER `mul`, `eq` and `evalmle` and
-those on parts, transcripts, matrices, folds and layouts, FIELDOPS the rest of the field, SUMOPS the sum-check. Hashes of
-bytes are Python's hashlib's.
+DRIVER, FIELDOPS, SUMOPS and COLUMNS are commands that answer queries by the published Rust: DRIVER `mul`, `eq` and `evalmle` and
+those on parts, transcripts, matrices, folds and layouts, FIELDOPS the rest of the field, SUMOPS the sum-check, COLUMNS those on logins
+with public columns of their own. Hashes of bytes are Python's hashlib's.
 What the Rust does not answer (refusals, and the words of a lent slice that a call leaves alone) is put together here
 from document 01 and from the Rust's answers to the same inputs.
 """
@@ -77,10 +77,10 @@ class Lines:
 class Sheet(Lines):
     """Queries on single functions, and the commands that answer them."""
 
-    def __init__(self, driver, fieldops, sumops):
+    def __init__(self, driver, fieldops, sumops, columns):
         super().__init__()
         self.section = {}
-        self.commands = {"driver": Rust(driver, "ops"), "fieldops": Rust(fieldops), "sumops": Rust(sumops)}
+        self.commands = {"driver": Rust(driver, "ops"), "fieldops": Rust(fieldops), "sumops": Rust(sumops), "columns": Rust(columns)}
 
     def note(self, text):
         self.section = {}
@@ -732,11 +732,67 @@ def matrices(sheet):
     sheet.said(f"isbinary 0 0 {Matrix(65536, 65536, [(65535, 65536, 1)]).text()}", "! 7")
     batches(sheet)
     layouts(sheet)
+    own_columns(sheet)
 
 
 def packed_words(q, w):
     """Rows of w bits, and bits that are not used set."""
     return [DICE.getrandbits(128) for _ in range(q * -(-w // 128))]
+
+
+def packed(sheet, m, pk, x, q, w, expected=None):
+    """Packed products, with words past them lent and with one too few; x holds the public columns of all logins."""
+    given = f"{m.text()} {brief(pk)} {brief(x)} 2 {q} {w}"
+    answer = sheet.commands["columns"].ask(f"packed {given}")
+    assert expected in (None, answer)
+    flag, _, *found = answer.split()[1:]
+    for extra in [0, 3]:
+        after = " ".join(["=", str(len(found) + extra)] + found + [MARK] * extra)
+        sheet.said(f"packed {len(found) + extra} 0 {given}", f"= {flag}", after)
+    sheet.said(f"packed {len(found) - 1} 0 {given}", "! 15", untouched(len(found) - 1))
+
+
+def own_columns(sheet):
+    """Logins with public columns of their own; these have dice of their own, so that they move no other answer."""
+    dice = random.Random(6)
+    sets = [[dice.choice([0, 1, 2, dice.getrandbits(9), dice.getrandbits(128)]) for _ in range(31)] for _ in range(8)]
+    sets[1], sets[2] = [0] * 31, [1] * 31
+    columns = lambda which, w: [e for k in which for e in sets[k][: w - 1]]
+    patterns = [[0], [0, 3], [4, 4], [1, 2, 1, 2], [3, 3, 4, 4], [3, 4, 5, 6], [5, 5, 5, 0], [0, 5, 5, 5], [0, 0, 3, 3, 3, 0, 7, 7], list(range(8)), [6] * 8]
+    sheet.note("packed batches whose logins have public columns of their own: all unequal, all equal, equal neighbours among unequal ones")
+    for turn, which in enumerate(patterns):
+        q, w, rows = len(which), [4, 2, 32, 8][turn % 4], [2, 1, 4][turn % 3]
+        m = Matrix(rows, 2 * w, [(dice.randrange(rows), col, dice.choice([0, 1, 2, dice.getrandbits(128)])) for col in range(0, 2 * w, -(-w // 6))])
+        m.entries += [(rows - 1, 2 * w - 1, 1), (rows - 1, w + 1, 3), (0, w + 1, 1)]
+        packed(sheet, m, [dice.getrandbits(128) for _ in range(q)], columns(which, w), q, w)
+    sheet.note("public words for one login, and one login's or a word more or less than all: 3")
+    for n in [3, 11, 13, 9, 15]:
+        sheet.said(f"packed 0 0 {Matrix(1, 8, []).text()} {brief([1] * 4)} {brief([5] * n)} 2 4 4", "! 3", untouched(0))
+        sheet.said(f"foldx 16 4 4 {brief([5] * n)} {brief([2, 3])} 0", untouched(16, 3))
+    sheet.note("public halves folded over the logins: the folded half, zeros in the place of the eq table, its value at a point")
+    for turn, which in enumerate(patterns):
+        q, w = len(which), [4, 1, 32, 2][turn % 4]
+        p, c = ([dice.getrandbits(128) for _ in range(n.bit_length() - 1)] for n in (q, w))
+        folded(sheet, columns(which, w), q, w, p, c)
+    sheet.note("at points of 0 and 1: one login's half, and one column")
+    for bits in range(4):
+        folded(sheet, columns([3, 4, 4, 5], 4), 4, 4, [bits % 2, bits // 2], [bits // 2, bits % 2])
+    sheet.note("folds of public halves that are refused: 1, 3, 11 and 15, the lowest first")
+    for q, w, x, p, code in [
+        (0, 2, 0, 0, 1), (3, 2, 3, 1, 1), (8192, 1, 0, 0, 1), (4096, 1, 0, 0, 11), (1, 0, 0, 0, 1), (1, 3, 2, 0, 1), (1, 65536, 0, 0, 1),
+        (1, 32768, 0, 0, 3), (2, 2, 1, 1, 3), (2, 2, 3, 0, 3), (2, 2, 2, 0, 11), (2, 2, 2, 2, 11), (2, 2, 2, 1, 15),
+    ]:
+        sheet.said(f"foldx 7 {q} {w} {brief([5] * x)} {brief([3] * p)} 0", untouched(7, code))
+
+
+def folded(sheet, x, q, w, p, c):
+    """The folded public half with words past it lent, and with one too few."""
+    given = f"{q} {w} {brief(x)} {brief(p)} {brief(c)}"
+    found = sheet.commands["columns"].ask(f"foldx {given}").split()[2:]
+    half, value, need = found[: 2 * w], " ".join(found[-2:]), 2 * w + 2 * q
+    for extra in [0, 3]:
+        sheet.said(f"foldx {need + extra} {given}", lent(half + ["0x0"] * (2 * q), extra), f"= 2 {value}")
+    sheet.said(f"foldx {need - 1} {given}", untouched(need - 1, 15))
 
 
 def batches(sheet):
@@ -749,12 +805,8 @@ def batches(sheet):
             if w > 1 and k == 1:
                 m.entries += [(DICE.randrange(rows), DICE.randrange(w + 1, 2 * w), 5)]
             m.told(sheet)
-            pk, x = brief(packed_words(q, w)), brief([DICE.getrandbits(9) for _ in range(w - 1)])
-            flag, _, *found = sheet.commands["driver"].ask(f"packed {q} {w} {pk} {x}").split()[1:]
-            for extra in [0, 3]:
-                after = " ".join(["=", str(len(found) + extra)] + found + [MARK] * extra)
-                sheet.said(f"packed {len(found) + extra} 0 {m.text()} {pk} {x} 2 {q} {w}", f"= {flag}", after)
-            sheet.said(f"packed {len(found) - 1} 0 {m.text()} {pk} {x} 2 {q} {w}", "! 15", untouched(len(found) - 1))
+            pk, x = packed_words(q, w), [DICE.getrandbits(9) for _ in range(w - 1)]
+            packed(sheet, m, pk, x * q, q, w, sheet.commands["driver"].ask(f"packed {q} {w} {brief(pk)} {brief(x)}"))
     sheet.note("packed batches that are refused: 1 to 7 and 15")
     m = Matrix(2, 4, [(0, 0, 1)])
     for q, w, pk, x, text, code in [
@@ -763,7 +815,7 @@ def batches(sheet):
         (1, 2, 0, 0, m.text(), 2), (1, 2, 2, 1, m.text(), 2), (1, 2, 1, 0, m.text(), 3), (1, 2, 1, 2, m.text(), 3),
         (1, 4, 1, 3, m.text(), 5), (1, 1, 1, 0, m.text(), 5), (1, 2, 1, 1, "3 4 0 0 0 0", 4), (1, 2, 1, 1, "2 4 1 2 1 0 1 1 1 0", 7),
         (1, 2, 1, 1, "2 4 1 0 1 0 1 1 0", 6), (1, 2, 1, 1, "2 4 2 2 2 1 0 1 1 1 0", 6),
-        (64, 2, 64, 1, "16384 4 0 0 0 0", 15), (64, 2, 64, 1, "32768 4 0 0 0 0", 4),
+        (64, 2, 64, 64, "16384 4 0 0 0 0", 15), (64, 2, 64, 64, "32768 4 0 0 0 0", 4),
     ]:
         sheet.said(f"packed 0 0 {text} {brief([3] * pk)} {brief([5] * x)} 2 {q} {w}", f"! {code}", untouched(0))
     sheet.note("document 01, row 9; folds of 1 to 8 logins of 1 to 256 bits, unused bits set")
@@ -836,7 +888,7 @@ def layouts(sheet):
 
 
 def main():
-    if len(sys.argv) != 4:
+    if len(sys.argv) != 5:
         sys.exit(__doc__)
     sheet = Sheet(*sys.argv[1:])
     rows(sheet)

@@ -85,7 +85,7 @@ fn run(input: &mut [u8], nums: &mut [u64], given: &mut [u64], sizes: &mut [usize
 fn main() {
     let mut input = text::input();
     let mut nums = [0u64; 1024];
-    let mut given = [0u64; 9216];
-    let mut sizes = [0usize; 9216];
+    let mut given = [0u64; 18432];
+    let mut sizes = [0usize; 18432];
     run(&mut input, &mut nums, &mut given, &mut sizes);
 }

@@ -203,8 +203,8 @@ pub(crate) fn input() -> [u8; 2097152] {
 }
 
 // Room for the scratch of the largest run, that of 4,096 logins, each word marked.
-pub(crate) fn room() -> [u64; 81944] {
-    [MARK; 81944]
+pub(crate) fn room() -> [u64; 90136] {
+    [MARK; 90136]
 }
 
 // The numbers after the count at index i, as many as it says.

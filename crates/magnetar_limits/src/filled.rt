@@ -58,11 +58,16 @@ pub(crate) fn packed() -> [u64; 1024] {
 // The words of the first login, or of both.
 pub(crate) fn logins(words: &[u64], q: usize) -> &[u64] {
     if q == 1 {
-        if 512 < words.len() {
-            return &words[0..512];
-        }
+        return &words[0..words.len() / 2];
     }
     words
+}
+
+// The public words of two logins that have the same columns.
+pub(crate) fn repeated(x: &mut [u64]) {
+    let n = x.len() / 2;
+    fill(&mut x[0..n], 1, STEP);
+    fill(&mut x[n..], 1, STEP);
 }
 
 // Column k of D: 0, 129, 258 and so on to 32,767 for k = 255, then 32,768 to 65,535.

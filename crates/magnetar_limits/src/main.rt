@@ -1,6 +1,6 @@
 // The most columns, m = 65,536, run to a result: packed products, fold, combined table, row check, prover and verifier, for one login
-// and for two. Then twice as many columns, which all six refuse. The program fills by rule what it lends, and writes of a slice its
-// digest. The expected answers are the Rust's (docs/VECTORS.md).
+// and for two, also where each has its own public columns. Then twice as many columns, which all six refuse. The program fills by rule
+// what it lends, and writes of a slice its digest. The expected answers are the Rust's (docs/VECTORS.md).
 mod filled;
 mod runs;
 mod tables;
@@ -55,16 +55,31 @@ fn past(x: &[u64], out: &mut [u64], scratch: &mut [u64]) {
     all(2 * M, 1, &packed, x, out, scratch);
 }
 
-fn run(x: &[u64], out: &mut [u64], scratch: &mut [u64]) {
-    both(1, x, out, scratch);
+// Both logins; the words of the second one's public columns go on where those of the first one end.
+fn own(x: &[u64], scratch: &mut [u64]) {
+    let packed = filled::packed();
+    print(b"each login its own public columns\n");
+    tables::products(M, 2, &packed, x);
+    whole(M, 2, &packed, x, scratch);
+}
+
+// One login and two with the same public columns.
+fn equal(x: &[u64], out: &mut [u64], scratch: &mut [u64]) {
+    both(1, filled::logins(x, 1), out, scratch);
     both(2, x, out, scratch);
+}
+
+fn run(x: &mut [u64], out: &mut [u64], scratch: &mut [u64]) {
+    filled::repeated(x);
+    equal(x, out, scratch);
+    filled::fill(x, 1, filled::STEP);
+    own(x, scratch);
     past(x, out, scratch);
 }
 
 fn main() {
-    let mut x = [0u64; 65534];
+    let mut x = [0u64; 131068];
     let mut out = [0u64; 131072];
     let mut scratch = [0u64; 524416];
-    filled::fill(&mut x, 1, filled::STEP);
-    run(&x, &mut out, &mut scratch);
+    run(&mut x, &mut out, &mut scratch);
 }

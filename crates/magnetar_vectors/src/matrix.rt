@@ -9,8 +9,10 @@ use crate::text::print_line;
 use crate::text::print_refusal;
 use crate::text::{self};
 use magnetar_batch::fold;
+use magnetar_field::sizes;
 use magnetar_layout::layout::Reading;
 use magnetar_layout::layout::{self};
+use magnetar_multilinear::multilinear;
 use magnetar_r1cs::r1cs::Flag;
 use magnetar_r1cs::r1cs::{self};
 
@@ -28,6 +30,8 @@ const PACKED: u64 = 0x7061636b6564;
 const FOLDINST: u64 = 0x666f6c64696e7374;
 
 const FOLDW: u64 = 0x666f6c6477;
+
+const FOLDX: u64 = 0x666f6c6478;
 
 const LAYOUT: u64 = 0x6c61796f7574;
 
@@ -199,6 +203,29 @@ fn witness(nums: &[u64], room: &mut [u64]) {
     witness_in(nums, room, text::front(&mut scratch, text::count(nums, 1)));
 }
 
+// The value of the folded public half of w columns at a point.
+fn half_at(half: &[u64], w: usize, point: &[u64]) {
+    let mut scratch = [0u64; 1024];
+    let n = 2 * sizes::least(w, 512);
+    print_evaluated(multilinear::eval_mle(text::first(half, n), point, &mut scratch));
+}
+
+// foldx LENT Q W X P C
+fn publics(nums: &[u64], room: &mut [u64]) {
+    let w = text::count(nums, 2);
+    let code = fold::fold_public_in(
+        nth(nums, 3, 0),
+        text::count(nums, 1),
+        w,
+        nth(nums, 3, 1),
+        room,
+    );
+    print_code(code, room);
+    if code == 0 {
+        half_at(room, w, nth(nums, 3, 2));
+    }
+}
+
 fn folds(op: u64, nums: &[u64], room: &mut [u64]) -> bool {
     if op == FOLDINST {
         instances(nums);
@@ -206,6 +233,10 @@ fn folds(op: u64, nums: &[u64], room: &mut [u64]) -> bool {
     }
     if op == FOLDW {
         witness(nums, room);
+        return true;
+    }
+    if op == FOLDX {
+        publics(nums, room);
         return true;
     }
     false
