@@ -15,13 +15,17 @@ fn print_vault(packed: &[u64]) {
     print(
         b"A vault of 4 logins: packed into bits, checked row by row, bound, proved, verified.\n\n",
     );
-    print(b"login   secret   saved   checksum   edition   packed\n");
+    print(b"login   secret   saved   checksum   edition   folder   packed\n");
     vault::print_login(packed, 0);
     vault::print_login(packed, 1);
     vault::print_login(packed, 2);
     vault::print_login(packed, 3);
-    print(b"columns: 0-7 secret, 8 saved, 9 checksum, 10-11 edition, 16-22 help the first rule;\n");
-    print(b"32 the one, 33 the office's key, 34 its stamp; segments: 0-7, 8-11, 16-23\n\n");
+    print(
+        b"columns: 0-7 secret, 8 saved, 9 checksum, 10-11 edition, 12-15 folder, 16-22 help the first rule;\n",
+    );
+    print(
+        b"segments: 0-7, 8-15, 16-23; 32 the one; public, each login's own: 33 folder, 34 edition\n\n",
+    );
 }
 
 fn print_rules() {
@@ -36,7 +40,10 @@ fn print_rules() {
         b"what is not saved has no secret      (1 + saved) * secret = 0                 fld, row 0\n",
     );
     print(
-        b"the edition is the office's          edition * key = stamp                    fld, row 1\n\n",
+        b"its folder is the public one         folder's bits * 1 = folder               fld, row 1\n",
+    );
+    print(
+        b"its edition is the public one        edition's bits * 1 = edition             fld, row 2\n\n",
     );
 }
 
@@ -81,7 +88,7 @@ fn print_sizes(proof: &[u64], claims: &[u64]) {
 // The laptop's end, with the claims that the office has; then the claims against the bits.
 fn verify(packed: &[u64], x: &[u64], committed: [u8; 32], proof: &[u64], office: &[u64]) {
     let mut claims = [0u64; 20];
-    let mut scratch = [0u64; 320];
+    let mut scratch = [0u64; rules::VERIFIER_SCRATCH];
     let t = vault::start(x, committed);
     let r = rules::verify(&mut claims, &mut scratch, 4, x, proof, t);
     print(b"verify     ");
@@ -101,7 +108,9 @@ fn print_bound(committed: [u8; 32]) {
     print(b", a hash of the packed words: it stands in for a commitment to the bits\n");
     print(b"bind       rules ");
     text::bytes(&digest);
-    print(b", commitment and public words go into both transcripts before any draw\n");
+    print(
+        b", commitment and the public words of every login go into both transcripts before any draw\n",
+    );
 }
 
 // What goes wrong, with the office's proof and claims.
@@ -110,14 +119,15 @@ fn go_wrong(packed: &[u64], x: &[u64], committed: [u8; 32], proof: &[u64], claim
     wrong::exchange(packed, x, committed, proof, claims);
     wrong::other_bits(packed, x, committed);
     wrong::batches(packed, x);
+    wrong::columns(packed, x);
     wrong::sizes(packed, x, committed, proof);
 }
 
 // The office's end, then the laptop's, then what goes wrong.
 fn prove(packed: &[u64], x: &[u64], committed: [u8; 32]) {
-    let mut proof = [0u64; 128];
+    let mut proof = [0u64; 136];
     let mut claims = [0u64; 20];
-    let mut scratch = [0u64; 1168];
+    let mut scratch = [0u64; rules::PROVER_SCRATCH];
     let t = vault::start(x, committed);
     let r = rules::prove(&mut proof, &mut claims, &mut scratch, 4, packed, x, t);
     print(b"prove      ");

@@ -12,7 +12,7 @@ use magnetar_layout::layout;
 use magnetar_multilinear::multilinear;
 
 // The words from a to b.
-fn between(s: &[u64], a: usize, b: usize) -> &[u64] {
+pub(crate) fn between(s: &[u64], a: usize, b: usize) -> &[u64] {
     if a <= b {
         if b <= s.len() {
             return &s[a..b];
@@ -43,15 +43,16 @@ fn holds(z: &[u64], i: usize, point: &[u64], claim: Gf128) -> bool {
     is(multilinear::eval_mle(segment, point, &mut scratch), claim)
 }
 
-// The first claim that is not true, or 3. A segment of 8 columns has 3 elements of r_low as its point, one of 4 has 2.
+// The first claim that is not true, or 3. A segment has 8 columns, so its point is the first 3 elements of r_low.
 fn first_false(z: &[u64], claims: &[u64]) -> usize {
-    if !holds(z, 0, between(claims, 4, 10), words::get(claims, 7)) {
+    let point = between(claims, 4, 10);
+    if !holds(z, 0, point, words::get(claims, 7)) {
         return 0;
     }
-    if !holds(z, 1, between(claims, 4, 8), words::get(claims, 8)) {
+    if !holds(z, 1, point, words::get(claims, 8)) {
         return 1;
     }
-    if !holds(z, 2, between(claims, 4, 10), words::get(claims, 9)) {
+    if !holds(z, 2, point, words::get(claims, 9)) {
         return 2;
     }
     3

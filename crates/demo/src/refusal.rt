@@ -11,7 +11,7 @@ fn relation(code: u32) {
     match code {
         1 => print(b"m or q is no power of two within its bounds"),
         2 => print(b"the packed words are not those of q logins"),
-        3 => print(b"the public words are not m - 2"),
+        3 => print(b"the public words are not m - 2 for each login"),
         4 => print(b"a number of rows is no power of two, unequal or too large"),
         5 => print(b"a matrix has not m columns"),
         6 => print(b"a matrix has too many entries, or slices or counts do not fit each other"),

@@ -1,13 +1,15 @@
 // The rules of the vault as matrices, and the calls on them. A row says (A z)(B z) = C z, z being a login's 32 bits, the constant 1
-// at column 32, and the public elements: the office's key at column 33, its stamp at 34, zeros after them.
+// at column 32, and the login's own public elements: its folder's number at column 33, its key edition at 34, zeros after them.
 //
 // bin, 16 rows:  0 to 3   (1 + s0)(1 + s1) = none of both, for each pair of the secret's bits
 //                4 to 6   the product of two nones is the none of all their bits
 //                7        saved * none of all = 0
 //                8        (the sum of the secret's bits + checksum) * 1 = 0
 //                9 to 15  empty, and so they hold
-// fld, 2 rows:   0        (1 + saved) * (s0 + s1 x + .. + s7 x^7) = 0
-//                1        (e0 + e1 x) * key = stamp
+// fld, 4 rows:   0        (1 + saved) * (s0 + s1 x + .. + s7 x^7) = 0
+//                1        (f0 + f1 x + f2 x^2 + f3 x^3) * 1 = folder
+//                2        (e0 + e1 x) * 1 = edition
+//                3        empty
 use magnetar_batch::check;
 use magnetar_batch::check::RowCheck;
 use magnetar_digest::digest;
@@ -20,11 +22,21 @@ use magnetar_spartan::virtual_spartan;
 
 const M: usize = 64;
 
+const Q: usize = 4;
+
 const BIN: usize = 16;
 
-const FLD: usize = 2;
+const FLD: usize = 4;
 
-pub(crate) const SEGMENTS: [usize; 3] = [8, 4, 8];
+// How many words of scratch the verifier and the prover of the vault ask for.
+pub(crate) const VERIFIER_SCRATCH: usize = 4 * M + 4 * BIN + 2 * Q;
+
+pub(crate) const PROVER_SCRATCH: usize = 8 * Q * (BIN + FLD) + 8 * M + 4 * BIN + 6 * Q;
+
+// How many public words the four logins have.
+pub(crate) const PUBLIC: usize = Q * (M - 2);
+
+pub(crate) const SEGMENTS: [usize; 3] = [8, 8, 8];
 
 // The rows and columns of the entries of each matrix; those of row 8 of A of bin, the sum with the checksum, stand apart.
 const AB_ROW: [usize; 12] = [0, 0, 1, 1, 2, 2, 3, 3, 4, 5, 6, 7];
@@ -43,19 +55,19 @@ const CB_ROW: [usize; 7] = [0, 1, 2, 3, 4, 5, 6];
 
 const CB_COL: [usize; 7] = [16, 17, 18, 19, 20, 21, 22];
 
-const AF_ROW: [usize; 4] = [0, 0, 1, 1];
+const AF_ROW: [usize; 8] = [0, 0, 1, 1, 1, 1, 2, 2];
 
-const AF_COL: [usize; 4] = [8, 32, 10, 11];
+const AF_COL: [usize; 8] = [8, 32, 12, 13, 14, 15, 10, 11];
 
-const BF_ROW: [usize; 9] = [0, 0, 0, 0, 0, 0, 0, 0, 1];
+const BF_ROW: [usize; 10] = [0, 0, 0, 0, 0, 0, 0, 0, 1, 2];
 
-const BF_COL: [usize; 9] = [0, 1, 2, 3, 4, 5, 6, 7, 33];
+const BF_COL: [usize; 10] = [0, 1, 2, 3, 4, 5, 6, 7, 32, 32];
 
-const CF_ROW: [usize; 1] = [1];
+const CF_ROW: [usize; 2] = [1, 2];
 
-const CF_COL: [usize; 1] = [34];
+const CF_COL: [usize; 2] = [33, 34];
 
-const HI: [u64; 55] = [0; 55];
+const HI: [u64; 61] = [0; 61];
 
 // Writes a number at a place, where there is one, and answers the next.
 fn put(out: &mut [usize], at: usize, n: usize) -> usize {
@@ -78,8 +90,8 @@ fn join(out: &mut [usize], n: usize, part: &[usize]) -> usize {
 }
 
 // The rows of the entries of A, B, C of bin, then of A, B, C of fld, one matrix behind the other.
-fn rows() -> [usize; 55] {
-    let mut all = [0usize; 55];
+fn rows() -> [usize; 61] {
+    let mut all = [0usize; 61];
     let r = join(&mut all, 0, &AB_ROW);
     let a = join(&mut all, r, &SUM_ROW);
     let b = join(&mut all, a, &BB_ROW);
@@ -91,8 +103,8 @@ fn rows() -> [usize; 55] {
 }
 
 // Their columns.
-fn cols() -> [usize; 55] {
-    let mut all = [0usize; 55];
+fn cols() -> [usize; 61] {
+    let mut all = [0usize; 61];
     let r = join(&mut all, 0, &AB_COL);
     let a = join(&mut all, r, &SUM_COL);
     let b = join(&mut all, a, &BB_COL);
@@ -103,17 +115,21 @@ fn cols() -> [usize; 55] {
     all
 }
 
-// The low words of their values: 1, but for x in A of fld and 1, x, .., x^7 in B of fld.
-fn lows() -> [u64; 55] {
-    let mut all = [1u64; 55];
+// The low words of their values: 1, but for the powers of x in A of fld, at the bits of folder and edition, and in B of fld, at those of
+// the secret.
+fn lows() -> [u64; 61] {
+    let mut all = [1u64; 61];
     all[44] = 2;
-    all[46] = 2;
-    all[47] = 4;
-    all[48] = 8;
-    all[49] = 16;
-    all[50] = 32;
-    all[51] = 64;
-    all[52] = 128;
+    all[45] = 4;
+    all[46] = 8;
+    all[48] = 2;
+    all[50] = 2;
+    all[51] = 4;
+    all[52] = 8;
+    all[53] = 16;
+    all[54] = 32;
+    all[55] = 64;
+    all[56] = 128;
     all
 }
 
@@ -132,9 +148,9 @@ fn shapes() -> Shapes {
         c: shape(BIN, 7),
     };
     let fld = SystemShape {
-        a: shape(FLD, 4),
-        b: shape(FLD, 9),
-        c: shape(FLD, 1),
+        a: shape(FLD, 8),
+        b: shape(FLD, 10),
+        c: shape(FLD, 2),
     };
     Shapes { bin, fld }
 }
@@ -144,7 +160,7 @@ pub(crate) fn digest() -> [u8; 32] {
     let row = rows();
     let col = cols();
     let lo = lows();
-    let r = digest::relation_digest(M, 4, &SEGMENTS, shapes(), &row, &col, &lo, &HI);
+    let r = digest::relation_digest(M, Q, &SEGMENTS, shapes(), &row, &col, &lo, &HI);
     r.digest
 }
 

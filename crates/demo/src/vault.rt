@@ -1,5 +1,6 @@
-// A login as bits. Columns 0 to 7 are the secret, 8 says that it is saved, 9 is the checksum, 10 and 11 are the edition. Columns 16 to
-// 22 help the rule on empty secrets: 16 to 19 say that two of the secret's bits are both 0, 20 and 21 that four are, 22 that all are.
+// A login as bits, and its public columns. Columns 0 to 7 are the secret, 8 says that it is saved, 9 is the checksum, 10 and 11 are the
+// key edition, 12 to 15 the folder. Columns 16 to 22 help the rule on empty secrets: 16 to 19 say that two of the secret's bits are both
+// 0, 20 and 21 that four are, 22 that all are.
 use crate::rules;
 use crate::text;
 use crate::text::print;
@@ -8,13 +9,6 @@ use magnetar_field::gf128::Gf128;
 use magnetar_field::words;
 use magnetar_hash::transcript;
 use magnetar_hash::transcript::Transcript;
-
-pub(crate) const EDITION: u64 = 2;
-
-const KEY: Gf128 = Gf128 {
-    lo: 0x0123456789abcdef,
-    hi: 0xfedcba9876543210,
-};
 
 // Whether bits 0 and 1 are both 0.
 fn none2(s: u64) -> u64 {
@@ -45,9 +39,10 @@ fn parity(s: u64) -> u64 {
     (two ^ (two >> 1)) & 1
 }
 
-// The word of a login with a secret of 8 bits and an edition of 2.
-pub(crate) fn login(secret: u64, saved: u64, edition: u64) -> u64 {
-    secret | (saved << 8) | (parity(secret) << 9) | (edition << 10) | (helpers(secret) << 16)
+// The word of a login with a secret of 8 bits, an edition of 2 and a folder of 4.
+pub(crate) fn login(secret: u64, saved: u64, edition: u64, folder: u64) -> u64 {
+    let rest = saved | (parity(secret) << 1) | (edition << 2) | (folder << 4);
+    secret | (rest << 8) | (helpers(secret) << 16)
 }
 
 // Sets the bits of login u: a login is two words, and its 32 bits are in the first.
@@ -71,19 +66,32 @@ fn get(packed: &[u64], u: usize) -> u64 {
 // The four logins that the office has saved.
 pub(crate) fn logins() -> [u64; 8] {
     let mut packed = [0u64; 8];
-    put(&mut packed, 0, login(0x4b, 1, EDITION));
-    put(&mut packed, 1, login(0xa7, 1, EDITION));
-    put(&mut packed, 2, login(0, 0, EDITION));
-    put(&mut packed, 3, login(0x80, 1, EDITION));
+    put(&mut packed, 0, login(0x4b, 1, 2, 5));
+    put(&mut packed, 1, login(0xa7, 1, 3, 5));
+    put(&mut packed, 2, login(0, 0, 1, 9));
+    put(&mut packed, 3, login(0x80, 1, 1, 9));
     packed
 }
 
-// The public words: the key, the stamp, which is the key times the edition, and zeros.
-pub(crate) fn public() -> [u64; 62] {
-    let edition = Gf128 { lo: EDITION, hi: 0 };
-    let mut x = [0u64; 62];
-    words::put(&mut x, 0, KEY);
-    words::put(&mut x, 1, gf128::mul(KEY, edition));
+fn small(lo: u64) -> Gf128 {
+    Gf128 { lo, hi: 0 }
+}
+
+// Sets the public columns of login u, which has 31: the edition, and before it the folder.
+pub(crate) fn publish(x: &mut [u64], u: usize, edition: u64, folder: u64) {
+    if u < 4 {
+        words::put(x, 31 * u, small(folder));
+        words::put(x, 31 * u + 1, small(edition));
+    }
+}
+
+// The public words of the four, login after login: folder, edition, and zeros.
+pub(crate) fn public() -> [u64; rules::PUBLIC] {
+    let mut x = [0u64; rules::PUBLIC];
+    publish(&mut x, 0, 2, 5);
+    publish(&mut x, 1, 3, 5);
+    publish(&mut x, 2, 1, 9);
+    publish(&mut x, 3, 1, 9);
     x
 }
 
@@ -121,19 +129,19 @@ pub(crate) fn unbound() -> Transcript {
     t.transcript
 }
 
-// The public words with the key 0x1111, and with the stamp that leaves their value at r_low as it was: so the proof that these claims
-// are of still fits. The second and the third of the public half, key and stamp, weigh r0 (1 + r1) and (1 + r0) r1 times the same.
-pub(crate) fn exchanged(x: &[u64], claims: &[u64]) -> [u64; 62] {
-    let key = Gf128 { lo: 0x1111, hi: 0 };
+// The public words with edition 3 for login 0, and with the third of its public columns such that their value at r_low stays as it was: so
+// the proof that these claims are of still fits. The elements 2 and 3 of the public half weigh (1 + r0) r1 and r0 r1 times the same.
+pub(crate) fn exchanged(x: &[u64], claims: &[u64]) -> [u64; rules::PUBLIC] {
+    let edition = small(3);
     let r0 = words::get(claims, 2);
-    let r1 = words::get(claims, 3);
-    let first = gf128::mul(r0, gf128::add(gf128::ONE, r1));
-    let second = gf128::mul(gf128::add(gf128::ONE, r0), r1);
-    let by = gf128::mul(gf128::add(key, words::get(x, 0)), first);
-    let more = gf128::mul(by, gf128::inv(second));
-    let mut other = [0u64; 62];
-    words::put(&mut other, 0, key);
-    words::put(&mut other, 1, gf128::add(words::get(x, 1), more));
+    let by = gf128::mul(
+        gf128::add(edition, words::get(x, 1)),
+        gf128::add(gf128::ONE, r0),
+    );
+    let mut other = [0u64; rules::PUBLIC];
+    words::copy(x, &mut other);
+    words::put(&mut other, 1, edition);
+    words::put(&mut other, 2, gf128::mul(by, gf128::inv(r0)));
     other
 }
 
@@ -150,6 +158,8 @@ pub(crate) fn print_login(packed: &[u64], u: usize) {
     text::number((w >> 9) & 1);
     print(b"         ");
     text::number((w >> 10) & 3);
+    print(b"        ");
+    text::number((w >> 12) & 15);
     print(b"   0x");
     text::hex(w, 8);
     print(b"\n");

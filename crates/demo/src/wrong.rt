@@ -1,5 +1,5 @@
 // What goes wrong: a word of the proof, public words chosen after it, other bits than the committed ones, a login, a bit outside the
-// segments, a size.
+// segments, public columns, a size.
 use crate::opened;
 use crate::refusal;
 use crate::rules;
@@ -39,10 +39,10 @@ pub(crate) fn check(packed: &[u64], x: &[u64]) {
     print_verdict(rules::row_check(&mut scratch, 4, packed, x));
 }
 
-// What the laptop says about a proof of q logins; there is room for the claims of 8.
+// What the laptop says about a proof of q logins.
 fn verified(q: usize, x: &[u64], proof: &[u64], t: Transcript) {
-    let mut claims = [0u64; 22];
-    let mut scratch = [0u64; 320];
+    let mut claims = [0u64; 20];
+    let mut scratch = [0u64; rules::VERIFIER_SCRATCH];
     let r = rules::verify(&mut claims, &mut scratch, q, x, proof, t);
     refusal::line(r.code);
 }
@@ -56,14 +56,14 @@ fn prove(
     proof: &mut [u64],
     claims: &mut [u64],
 ) -> u32 {
-    let mut scratch = [0u64; 1168];
+    let mut scratch = [0u64; rules::PROVER_SCRATCH];
     let r = rules::prove(proof, claims, &mut scratch, q, packed, x, t);
     r.code
 }
 
 // What the laptop says about the proof of a batch, which the office has committed to.
 fn proved(packed: &[u64], x: &[u64]) {
-    let mut proof = [0u64; 128];
+    let mut proof = [0u64; 136];
     let mut claims = [0u64; 20];
     let t = vault::start(x, vault::commitment(packed));
     let _done = prove(4, packed, x, t, &mut proof, &mut claims);
@@ -74,7 +74,7 @@ fn proved(packed: &[u64], x: &[u64]) {
 
 // Bit 0 of word i is changed on the way.
 fn word(what: &[u8], i: usize, x: &[u64], proof: &[u64], t: Transcript) {
-    let mut sent = [0u64; 128];
+    let mut sent = [0u64; 136];
     words::copy(proof, &mut sent);
     flip(&mut sent, i);
     print(what);
@@ -93,19 +93,19 @@ pub(crate) fn proofs(x: &[u64], committed: [u8; 32], proof: &[u64]) {
     word(b"  a shared round's polynomial of bin   ", 2, x, proof, t);
     word(b"  a shared round's polynomial of fld   ", 10, x, proof, t);
     word(b"  a row round's polynomial of bin      ", 34, x, proof, t);
-    word(b"  the row round's polynomial of fld    ", 66, x, proof, t);
-    word(b"  a value of bin after these rounds    ", 72, x, proof, t);
-    word(b"  a value of fld after these rounds    ", 78, x, proof, t);
-    word(b"  an inner round's polynomial          ", 86, x, proof, t);
-    word(b"  v_z, the logins' value at its end    ", 120, x, proof, t);
-    word(b"  a segment's value                    ", 122, x, proof, t);
+    word(b"  a row round's polynomial of fld      ", 66, x, proof, t);
+    word(b"  a value of bin after these rounds    ", 80, x, proof, t);
+    word(b"  a value of fld after these rounds    ", 86, x, proof, t);
+    word(b"  an inner round's polynomial          ", 94, x, proof, t);
+    word(b"  v_z, the logins' value at its end    ", 128, x, proof, t);
+    word(b"  a segment's value                    ", 130, x, proof, t);
 }
 
 // ---- Public words chosen after the proof.
 
 // Both ends start with a transcript that is bound to nothing.
 fn exchange_unbound(packed: &[u64], x: &[u64]) {
-    let mut proof = [0u64; 128];
+    let mut proof = [0u64; 136];
     let mut claims = [0u64; 20];
     let t = vault::unbound();
     let _done = prove(4, packed, x, t, &mut proof, &mut claims);
@@ -131,7 +131,7 @@ pub(crate) fn exchange(
     claims: &[u64],
 ) {
     print(
-        b"the key is exchanged after the proof is made, and a stamp found for which the proof still fits\n",
+        b"login 0 is given edition 3 after the proof is made, and an unused public column with which the proof still fits\n",
     );
     exchange_unbound(packed, x);
     exchange_bound(x, committed, proof, claims);
@@ -142,7 +142,7 @@ pub(crate) fn exchange(
 // What the laptop says about a proof, and then of its claims whoever has the committed bits.
 fn claimed(packed: &[u64], x: &[u64], committed: [u8; 32], proof: &[u64]) {
     let mut claims = [0u64; 20];
-    let mut scratch = [0u64; 320];
+    let mut scratch = [0u64; rules::VERIFIER_SCRATCH];
     let t = vault::start(x, committed);
     let r = rules::verify(&mut claims, &mut scratch, 4, x, proof, t);
     print(b"  verify     ");
@@ -153,7 +153,7 @@ fn claimed(packed: &[u64], x: &[u64], committed: [u8; 32], proof: &[u64]) {
 
 // The batch `other` is proved, and the packed words are those committed to.
 fn proved_other(packed: &[u64], other: &[u64], x: &[u64], committed: [u8; 32]) {
-    let mut proof = [0u64; 128];
+    let mut proof = [0u64; 136];
     let mut claims = [0u64; 20];
     let t = vault::start(x, committed);
     let _done = prove(4, other, x, t, &mut proof, &mut claims);
@@ -164,7 +164,7 @@ fn proved_other(packed: &[u64], other: &[u64], x: &[u64], committed: [u8; 32]) {
 pub(crate) fn other_bits(packed: &[u64], x: &[u64], committed: [u8; 32]) {
     let mut other = [0u64; 8];
     words::copy(packed, &mut other);
-    vault::put(&mut other, 0, vault::login(0x4c, 1, vault::EDITION));
+    vault::put(&mut other, 0, vault::login(0x4c, 1, 2, 5));
     print(b"login 0 is proved with another secret than the one committed to\n  row check  ");
     check(&other, x);
     proved_other(packed, &other, x, committed);
@@ -188,31 +188,45 @@ pub(crate) fn batches(packed: &[u64], x: &[u64]) {
     login(
         b"login 2 is saved without a secret",
         2,
-        vault::login(0, 1, vault::EDITION),
+        vault::login(0, 1, 1, 9),
         packed,
         x,
     );
     login(
-        b"login 1 is of edition 3",
+        b"login 1 is of edition 2, which is right for login 0",
         1,
-        vault::login(0xa7, 1, 3),
+        vault::login(0xa7, 1, 2, 5),
         packed,
         x,
     );
     login(
-        b"login 3 has a stray bit at column 13, which no rule reads and no segment has",
+        b"login 3 has a stray bit at column 24, which no rule reads and no segment has",
         3,
-        vault::login(0x80, 1, vault::EDITION) | 0x2000,
+        vault::login(0x80, 1, 1, 9) | 0x1000000,
         packed,
         x,
     );
+}
+
+// ---- Public columns.
+
+// Login 0 and login 1 have the same folder, so their editions alone are exchanged.
+pub(crate) fn columns(packed: &[u64], x: &[u64]) {
+    let mut other = [0u64; rules::PUBLIC];
+    words::copy(x, &mut other);
+    vault::publish(&mut other, 0, 3, 5);
+    vault::publish(&mut other, 1, 2, 5);
+    print(b"the public columns of logins 0 and 1 are exchanged\n  row check  ");
+    check(packed, &other);
+    print(b"  verify     ");
+    proved(packed, &other);
 }
 
 // ---- A size.
 
 // The office proves q logins.
 fn prove_size(q: usize, packed: &[u64], x: &[u64], t: Transcript) {
-    let mut proof = [0u64; 128];
+    let mut proof = [0u64; 136];
     let mut claims = [0u64; 20];
     refusal::line(prove(q, packed, x, t, &mut proof, &mut claims));
 }
@@ -223,6 +237,8 @@ pub(crate) fn sizes(packed: &[u64], x: &[u64], committed: [u8; 32], proof: &[u64
     prove_size(3, packed, x, t);
     print(b"  prove 8 logins, but 4 are packed     ");
     prove_size(8, packed, x, t);
-    print(b"  verify 8 logins by a proof of 4      ");
+    print(b"  verify 8 logins by the columns of 4  ");
     verified(8, x, proof, t);
+    print(b"  verify a proof without its end       ");
+    verified(4, x, opened::between(proof, 0, 134), t);
 }
