@@ -209,9 +209,13 @@ static void matrices(void)
 
     /* logins 0 to 3, with bits past the columns that do not matter */
     uint64_t packed[] = {0xf0, 0, 1, 0xff, 2, 0, 3, 0};
-    f = magnetar_apply_simd_packed(MAGNETAR_MATRIX(&binary), packed, 8, x, 2, 4, 2, out, 16);
+    uint64_t same[] = {5, 0, 5, 0, 5, 0, 5, 0}, own[] = {5, 0, 7, 0};
+    f = magnetar_apply_simd_packed(MAGNETAR_MATRIX(&binary), packed, 8, same, 8, 4, 2, out, 16);
     say("four logins:", f.code, out, 16);
     say_flag("of bits:", f);
+    f = magnetar_apply_simd_packed(MAGNETAR_MATRIX(&marked), packed, 4, own, 4, 2, 2, out, 8);
+    say("two logins with columns of their own:", f.code, out, 8);
+    say_flag("with the columns of one:", magnetar_apply_simd_packed(MAGNETAR_MATRIX(&marked), packed, 4, own, 2, 2, 2, out, 8));
     masks("masks, two logins a word:", &binary, packed, 1);
     masks("four logins a word:", &binary, packed, 2);
     masks("eight logins a word:", &binary, packed, 3);

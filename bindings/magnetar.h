@@ -3,7 +3,7 @@
  * What a caller must bind. Neither the prover nor the verifier absorbs the relation, the public elements or a commitment to the bits. So
  * before the run, at both ends and in the same order, absorb into the transcript
  *   1. the relation's digest, magnetar_relation_digest,
- *   2. the words of the public elements,
+ *   2. the words of the public elements of every login,
  *   3. the commitment to the packed words;
  * and after a proof was accepted check its claims against the commitment. A transcript without these three lets someone choose them after
  * the challenges are known, so that a proof is accepted for a batch that is not good. The commitment scheme is not part of this library.
@@ -36,7 +36,7 @@ enum {
     MAGNETAR_OK = 0,
     MAGNETAR_SIZES = 1,           /* m is no power of two from 2 to 65,536, or q none from 1 to 4,096 */
     MAGNETAR_PACKED = 2,          /* the packed words are not 2 q ceil(m / 256) */
-    MAGNETAR_PUBLIC = 3,          /* the public words are not m - 2 */
+    MAGNETAR_PUBLIC = 3,          /* the public words are not q (m - 2) */
     MAGNETAR_ROWS = 4,            /* rows no power of two from 1 to 65,536, unequal within a system, or q times rows over 2^20 */
     MAGNETAR_COLUMNS = 5,         /* a matrix whose columns are not m */
     MAGNETAR_ENTRIES = 6,         /* over 1,048,576 entries in a matrix, slices of unequal length, or counts that don't add up to it */
@@ -72,12 +72,13 @@ enum {
 #define MAGNETAR_PROOF_WORDS(s, b, f, n, segments) (2 * (8 * (size_t)(s) + 4 * (b) + 4 * (f) + 7 + 3 * (n) + (segments)))
 #define MAGNETAR_CLAIM_WORDS(s, n, segments) (2 * ((size_t)(s) + (n)-1 + (segments)))
 #define MAGNETAR_PACKED_WORDS(m, q) (2 * (size_t)(q) * (((size_t)(m) + 255) / 256)) /* a login: m / 2 bits, from bit 0 of a word on */
+#define MAGNETAR_PUBLIC_WORDS(m, q) ((size_t)(q) * ((size_t)(m) - 2)) /* a login: m / 2 - 1 elements */
 #define MAGNETAR_MOST_ROWS(rb, rf) ((size_t)((rb) > (rf) ? (rb) : (rf)))
 #define MAGNETAR_CHECK_SCRATCH(rb, rf) (6 * MAGNETAR_MOST_ROWS(rb, rf))
 #define MAGNETAR_COMBO_SCRATCH(m, rb, rf) (2 * (size_t)(m) + 2 * MAGNETAR_MOST_ROWS(rb, rf))
-#define MAGNETAR_VERIFIER_SCRATCH(m, rb, rf) (4 * (size_t)(m) + 4 * MAGNETAR_MOST_ROWS(rb, rf))
+#define MAGNETAR_VERIFIER_SCRATCH(m, q, rb, rf) (4 * (size_t)(m) + 4 * MAGNETAR_MOST_ROWS(rb, rf) + 2 * (size_t)(q))
 #define MAGNETAR_PROVER_SCRATCH(m, q, rb, rf) \
-    (8 * (size_t)(q) * ((size_t)(rb) + (rf)) + 8 * (size_t)(m) + 4 * MAGNETAR_MOST_ROWS(rb, rf) + 4 * (size_t)(q))
+    (8 * (size_t)(q) * ((size_t)(rb) + (rf)) + 8 * (size_t)(m) + 4 * MAGNETAR_MOST_ROWS(rb, rf) + 6 * (size_t)(q))
 
 typedef struct {
     uint64_t lo; /* bit i: the coefficient of x^i */
@@ -262,9 +263,9 @@ magnetar_value magnetar_eval_mle_at(size_t rows, size_t cols, const size_t *row,
 magnetar_flag magnetar_is_binary(size_t rows, size_t cols, const size_t *row, size_t row_len, const size_t *col, size_t col_len,
                                  const uint64_t *lo, size_t lo_len, const uint64_t *hi, size_t hi_len);
 
-/* The products with the z of each of q logins, which is its w = m / 2 bits, a 1 and the public elements x: one login behind the other, to the
- * first 2 q rows words of out. Yes where every value is 0 or 1 and no column exceeds w, so that all products are 0 or 1.
- * Refuses 1 to 7 and 15. */
+/* The products with the z of each of q logins, which is its w = m / 2 bits, a 1 and its public elements: one login behind the other, to the
+ * first 2 q rows words of out. x holds the public elements login after login, q (m - 2) words. Yes where every value is 0 or 1 and no column
+ * exceeds w, so that all products are 0 or 1. Refuses 1 to 7 and 15. */
 magnetar_flag magnetar_apply_simd_packed(size_t rows, size_t cols, const size_t *row, size_t row_len, const size_t *col, size_t col_len,
                                          const uint64_t *lo, size_t lo_len, const uint64_t *hi, size_t hi_len, const uint64_t *packed,
                                          size_t packed_len, const uint64_t *x, size_t x_len, size_t q, size_t w, uint64_t *out,
@@ -277,8 +278,8 @@ uint32_t magnetar_apply_simd_bit_masks(size_t rows, size_t cols, const size_t *r
                                        size_t packed_len, size_t q, size_t w, size_t v, uint64_t *out, size_t out_len);
 
 /* ---- A batch of q logins under the rules of two systems, bin and fld. The rules are six matrices, A, B, C of each: their shapes, and
- * their entries one behind the other in four slices, those of A, B, C of bin and then those of A, B, C of fld. x holds the words of the
- * public elements. */
+ * their entries one behind the other in four slices, those of A, B, C of bin and then those of A, B, C of fld. x holds q (m - 2) words: the
+ * m / 2 - 1 public elements of each login, login after login. Where all logins have the same, they stand there q times. */
 
 typedef struct {
     size_t rows, cols, entries;
@@ -312,7 +313,7 @@ uint32_t magnetar_build_m_combo(
     size_t row_len, const size_t *col, size_t col_len, const uint64_t *lo, size_t lo_len, const uint64_t *hi, size_t hi_len,
     const uint64_t *alphas, size_t alphas_len, const uint64_t *pb, size_t pb_len, const uint64_t *pf, size_t pf_len);
 
-/* Whether a batch keeps the rules, in plain: for each login z is its bits, a 1 and the public elements, and a row holds where the
+/* Whether a batch keeps the rules, in plain: for each login z is its bits, a 1 and its public elements, and a row holds where the
  * product of A z and B z is C z. Words of a login are two for each 128 columns, the lowest bit that of column 0; bits past the columns
  * are not read. Refuses 1 to 7 and 15; the scratch is cleared unless the call is refused. */
 typedef struct {

@@ -1,6 +1,6 @@
 #!/usr/bin/env bash
-# Proves and archives the library, builds the C examples and the Rust ones over it and runs them: the first of each writes
-# example.stdout, both write the same, and each verifies what the other proved. Needs rt, cc and cargo.
+# Proves and archives the library, builds the C examples and the Rust ones over it and runs them and the Rust crate's test: the first
+# example of each language writes example.stdout, both write the same, and each verifies what the other proved. Needs rt, cc and cargo.
 set -euo pipefail
 cd "$(dirname "$0")/.."
 rt staticlib magnetar_c >/dev/null
@@ -11,6 +11,7 @@ for name in example vault; do
     cargo build --quiet --release --offline --manifest-path bindings/rust/Cargo.toml --target-dir "$out" --example "$name"
     ln -sf "release/examples/$name" "$out/${name}_rust"
 done
+cargo test --quiet --release --offline --manifest-path bindings/rust/Cargo.toml --target-dir "$out" --lib >/dev/null
 for language in c rust; do
     "$out/example_$language" >"$out/example.$language.txt"
     "$out/vault_$language" prove >"$out/proof.$language.txt"

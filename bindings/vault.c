@@ -9,11 +9,12 @@
 #include <stdio.h>
 #include <string.h>
 
-enum { M = 64, Q = 4, BIN = 16, FLD = 2, SEGMENTS = 3, EDITION = 2, PUBLIC = M - 2 };
+enum { M = 64, Q = 4, BIN = 16, FLD = 4, SEGMENTS = 3 };
 
-#define PROOF MAGNETAR_PROOF_WORDS(2, 4, 1, 6, SEGMENTS)
+#define PROOF MAGNETAR_PROOF_WORDS(2, 4, 2, 6, SEGMENTS)
 #define CLAIMS MAGNETAR_CLAIM_WORDS(2, 6, SEGMENTS)
 #define PACKED MAGNETAR_PACKED_WORDS(M, Q)
+#define PUBLIC MAGNETAR_PUBLIC_WORDS(M, Q)
 #define SCRATCH MAGNETAR_PROVER_SCRATCH(M, Q, BIN, FLD) /* the longest of the three */
 
 static const size_t rules[] = {
@@ -22,7 +23,7 @@ static const size_t rules[] = {
 
 enum { RULES = sizeof rules / sizeof rules[0] / 4 };
 
-static size_t row[RULES], col[RULES], lens[SEGMENTS] = {8, 4, 8};
+static size_t row[RULES], col[RULES], lens[SEGMENTS] = {8, 8, 8};
 static uint64_t lo[RULES], hi[RULES], scratch[SCRATCH];
 
 /* The rules sorted by their matrix, and then joined. */
@@ -50,14 +51,21 @@ static uint64_t none(uint64_t secret, int from, int n)
     return (secret >> from & ((1u << n) - 1)) == 0;
 }
 
-static uint64_t login(uint64_t secret, uint64_t saved, uint64_t edition)
+static uint64_t login(uint64_t secret, uint64_t saved, uint64_t edition, uint64_t folder)
 {
     uint64_t parity = 0;
     for (int i = 0; i < 8; i++)
         parity ^= secret >> i & 1;
-    return secret | saved << 8 | parity << 9 | edition << 10 | none(secret, 0, 2) << 16 | none(secret, 2, 2) << 17
+    return secret | saved << 8 | parity << 9 | edition << 10 | folder << 12 | none(secret, 0, 2) << 16 | none(secret, 2, 2) << 17
            | none(secret, 4, 2) << 18 | none(secret, 6, 2) << 19 | none(secret, 0, 4) << 20 | none(secret, 4, 4) << 21
            | none(secret, 0, 8) << 22;
+}
+
+/* Sets the public columns of login u: the edition, and before it the folder. */
+static void publish(uint64_t *x, size_t u, uint64_t edition, uint64_t folder)
+{
+    x[u * (M - 2)] = folder;
+    x[u * (M - 2) + 2] = edition;
 }
 
 /* In the place of a commitment to the logins: the hash of their words' bytes, the low one first. */
@@ -92,8 +100,7 @@ static bool claims_hold(const uint64_t *claims, magnetar_digest commitment, cons
         || magnetar_fold_packed_w(packed, PACKED, Q, M / 2, r_inst, 4, folded, M, scratch, SCRATCH) != MAGNETAR_OK)
         return false;
     for (size_t i = 0; i < SEGMENTS; i++) {
-        size_t vars = lens[i] == 8 ? 3 : 2;
-        magnetar_value v = magnetar_eval_mle(folded + 2 * offsets[i], 2 * lens[i], r_low, 2 * vars, scratch, SCRATCH);
+        magnetar_value v = magnetar_eval_mle(folded + 2 * offsets[i], 2 * lens[i], r_low, 2 * 3, scratch, SCRATCH);
         if (v.code != MAGNETAR_OK || v.element.lo != values[2 * i] || v.element.hi != values[2 * i + 1])
             return false;
     }
@@ -117,10 +124,12 @@ static void show_rows(const char *what, magnetar_row_verdict a)
 int main(int argc, char **argv)
 {
     magnetar_relation r = relation();
-    uint64_t good[PACKED] = {login(0x4b, 1, EDITION), 0, login(0xa7, 1, EDITION), 0, login(0, 0, EDITION), 0, login(0x80, 1, EDITION), 0};
-    magnetar_element key = {0x0123456789abcdef, 0xfedcba9876543210}, edition = {EDITION, 0}, stamp = magnetar_mul(key, edition);
-    uint64_t x[PUBLIC] = {key.lo, key.hi, stamp.lo, stamp.hi};
-    uint64_t proof[PROOF], claims[CLAIMS];
+    uint64_t good[PACKED] = {login(0x4b, 1, 2, 5), 0, login(0xa7, 1, 3, 5), 0, login(0, 0, 1, 9), 0, login(0x80, 1, 1, 9), 0};
+    uint64_t x[PUBLIC] = {0}, y[PUBLIC], proof[PROOF], claims[CLAIMS];
+    publish(x, 0, 2, 5);
+    publish(x, 1, 3, 5);
+    publish(x, 2, 1, 9);
+    publish(x, 3, 1, 9);
     magnetar_digest_answer rules = magnetar_digest_of(&r);
     magnetar_digest commitment = commit(good);
     if (rules.code != MAGNETAR_OK)
@@ -161,12 +170,12 @@ int main(int argc, char **argv)
     }
     printf("\n");
 
-    /* what was not bound could be chosen now that the challenges are known: another key with its stamp, another commitment */
-    magnetar_element other = {0x1111, 0}, stamped = magnetar_mul(other, edition);
-    uint64_t y[PUBLIC] = {other.lo, other.hi, stamped.lo, stamped.hi};
+    /* what was not bound could be chosen now that the challenges are known: another edition of login 0, another commitment */
+    memcpy(y, x, sizeof x);
+    publish(y, 0, 3, 5);
     magnetar_digest changed = commitment;
     changed.bytes[0] ^= 1;
-    printf("with another key: %u",
+    printf("with another edition: %u",
            magnetar_verify(&r, y, PUBLIC, proof, PROOF, bound(rules.digest, y, commitment), claims, CLAIMS, scratch, SCRATCH).code);
     printf(", another commitment: %u\n",
            magnetar_verify(&r, x, PUBLIC, proof, PROOF, bound(rules.digest, x, changed), claims, CLAIMS, scratch, SCRATCH).code);
@@ -175,9 +184,9 @@ int main(int argc, char **argv)
         const char *what;
         size_t login;
         uint64_t bits;
-    } wrong[] = {{"saved without a secret,", 2, login(0, 1, EDITION)},
-                 {"of edition 3,", 1, login(0xa7, 1, 3)},
-                 {"with a stray bit,", 3, login(0x80, 1, EDITION) | 0x2000}};
+    } wrong[] = {{"saved without a secret,", 2, login(0, 1, 1, 9)},
+                 {"of the edition of another login,", 1, login(0xa7, 1, 2, 5)},
+                 {"with a stray bit,", 3, login(0x80, 1, 1, 9) | 0x1000000}};
     for (size_t i = 0; i < 3; i++) {
         uint64_t bad[PACKED], words[PROOF];
         memcpy(bad, good, sizeof good);
@@ -188,8 +197,15 @@ int main(int argc, char **argv)
         printf(" verify: %u\n", magnetar_verify(&r, x, PUBLIC, words, PROOF, u, claims, CLAIMS, scratch, SCRATCH).code);
     }
 
+    /* the columns of logins 0 and 1 exchanged */
+    publish(y, 1, 2, 5);
+    magnetar_transcript u = bound(rules.digest, y, commitment);
+    show_rows("with exchanged columns,", magnetar_check(&r, good, PACKED, y, PUBLIC, scratch, SCRATCH));
+    printf("prove: %u", magnetar_prove(&r, good, PACKED, y, PUBLIC, u, proof, PROOF, claims, CLAIMS, scratch, SCRATCH).code);
+    printf(" verify: %u\n", magnetar_verify(&r, y, PUBLIC, proof, PROOF, u, claims, CLAIMS, scratch, SCRATCH).code);
+
     printf("wrong sizes: %u", magnetar_verify(&r, x, PUBLIC, proof, PROOF - 2, t, claims, CLAIMS, scratch, SCRATCH).code);
-    printf(" %u", magnetar_verify(&r, x, PUBLIC - 2, proof, PROOF, t, claims, CLAIMS, scratch, SCRATCH).code);
+    printf(" %u", magnetar_verify(&r, x, M - 2, proof, PROOF, t, claims, CLAIMS, scratch, SCRATCH).code);
     printf(" %u", magnetar_prove(&r, good, PACKED - 2, x, PUBLIC, t, proof, PROOF, claims, CLAIMS, scratch, SCRATCH).code);
     r.q = 3;
     printf(" %u", magnetar_prove(&r, good, PACKED, x, PUBLIC, t, proof, PROOF, claims, CLAIMS, scratch, SCRATCH).code);

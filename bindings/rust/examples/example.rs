@@ -165,9 +165,11 @@ fn matrices() {
 
     // logins 0 to 3, with bits past the columns that do not matter
     let logins = [0xf0, 0, 1, 0xff, 2, 0, 3, 0];
-    let packed = binary.apply_simd_packed(&logins, &x, 4, 2);
+    let packed = binary.apply_simd_packed(&logins, &repeat_columns(&x, 4), 4, 2);
     say_words("four logins:", packed.clone().map(|p| p.0));
     say_flag("of bits:", packed.map(|p| p.1));
+    say_words("two logins with columns of their own:", marked.apply_simd_packed(&logins[..4], &smalls(&[5, 7]), 2, 2).map(|p| p.0));
+    say_flag("with the columns of one:", marked.apply_simd_packed(&logins[..4], &x, 2, 2).map(|p| p.1));
     say_numbers("masks, two logins a word:", binary.apply_simd_bit_masks(&logins, 4, 2, 1));
     say_numbers("four logins a word:", binary.apply_simd_bit_masks(&logins, 4, 2, 2));
     say_numbers("eight logins a word:", binary.apply_simd_bit_masks(&logins, 4, 2, 3));

@@ -5,8 +5,6 @@
 //! the words, so it hides nothing.
 use magnetar::*;
 
-const EDITION: u64 = 2;
-
 fn small(lo: u64) -> Element {
     Element { lo, hi: 0 }
 }
@@ -19,8 +17,8 @@ fn relation() -> Relation {
         Matrix::new(rows, 64, &entries)
     };
     let bin = [matrix(0, 16), matrix(1, 16), matrix(2, 16)];
-    let fld = [matrix(3, 2), matrix(4, 2), matrix(5, 2)];
-    Relation::new(64, 4, vec![8, 4, 8], &bin, &fld)
+    let fld = [matrix(3, 4), matrix(4, 4), matrix(5, 4)];
+    Relation::new(64, 4, vec![8, 8, 8], &bin, &fld)
 }
 
 /// Whether n bits of the secret, from bit `from` on, are all 0.
@@ -28,11 +26,17 @@ fn none(secret: u64, from: u64, n: u64) -> u64 {
     (secret >> from & ((1 << n) - 1) == 0) as u64
 }
 
-fn login(secret: u64, saved: u64, edition: u64) -> u64 {
+fn login(secret: u64, saved: u64, edition: u64, folder: u64) -> u64 {
     let parity = (secret.count_ones() % 2) as u64;
     let pairs = (0..4).fold(0, |all, i| all | none(secret, 2 * i, 2) << i);
     let helpers = pairs | none(secret, 0, 4) << 4 | none(secret, 4, 4) << 5 | none(secret, 0, 8) << 6;
-    secret | saved << 8 | parity << 9 | edition << 10 | helpers << 16
+    secret | saved << 8 | parity << 9 | edition << 10 | folder << 12 | helpers << 16
+}
+
+/// Sets the public columns of login u: the edition, and before it the folder.
+fn publish(x: &mut [u64], u: usize, edition: u64, folder: u64) {
+    x[u * 62] = folder;
+    x[u * 62 + 2] = edition;
 }
 
 /// In the place of a commitment to the logins: the hash of their words' bytes, the low one first.
@@ -83,13 +87,11 @@ fn code<T>(r: Result<T, Refusal>) -> u32 {
 
 fn main() {
     let mut r = relation();
-    let good = [login(0x4b, 1, EDITION), 0, login(0xa7, 1, EDITION), 0, login(0, 0, EDITION), 0, login(0x80, 1, EDITION), 0];
-    let public = |key| {
-        let mut x = words(&[key, mul(key, small(EDITION))]);
-        x.resize(62, 0);
-        x
-    };
-    let x = public(Element { lo: 0x0123456789abcdef, hi: 0xfedcba9876543210 });
+    let good = [login(0x4b, 1, 2, 5), 0, login(0xa7, 1, 3, 5), 0, login(0, 0, 1, 9), 0, login(0x80, 1, 1, 9), 0];
+    let mut x = vec![0; r.public_words().unwrap()];
+    for (u, edition, folder) in [(0, 2, 5), (1, 3, 5), (2, 1, 9), (3, 1, 9)] {
+        publish(&mut x, u, edition, folder);
+    }
     let rules = relation_digest(&r).unwrap();
 
     if std::env::args().nth(1).as_deref() == Some("prove") {
@@ -123,17 +125,18 @@ fn main() {
     }
     println!();
 
-    // what was not bound could be chosen now that the challenges are known: another key with its stamp, another commitment
-    let y = public(small(0x1111));
+    // what was not bound could be chosen now that the challenges are known: another edition of login 0, another commitment
+    let mut y = x.clone();
+    publish(&mut y, 0, 3, 5);
     let mut changed = commitment;
     changed.bytes[0] ^= 1;
-    print!("with another key: {}", code(verify(&r, &y, &proof, &mut bound(rules, &y, commitment))));
+    print!("with another edition: {}", code(verify(&r, &y, &proof, &mut bound(rules, &y, commitment))));
     println!(", another commitment: {}", code(verify(&r, &x, &proof, &mut bound(rules, &x, changed))));
 
     for (what, u, bits) in [
-        ("saved without a secret,", 2, login(0, 1, EDITION)),
-        ("of edition 3,", 1, login(0xa7, 1, 3)),
-        ("with a stray bit,", 3, login(0x80, 1, EDITION) | 0x2000),
+        ("saved without a secret,", 2, login(0, 1, 1, 9)),
+        ("of the edition of another login,", 1, login(0xa7, 1, 2, 5)),
+        ("with a stray bit,", 3, login(0x80, 1, 1, 9) | 0x1000000),
     ] {
         let mut bad = good;
         bad[2 * u] = bits;
@@ -143,8 +146,15 @@ fn main() {
         println!("prove: 0 verify: {}", code(verify(&r, &x, &words, &mut t.clone())));
     }
 
+    // the columns of logins 0 and 1 exchanged
+    publish(&mut y, 1, 2, 5);
+    let t = bound(rules, &y, commitment);
+    show_rows("with exchanged columns,", row_check(&r, &good, &y));
+    let (words, _) = prove(&r, &good, &y, &mut t.clone()).unwrap();
+    println!("prove: 0 verify: {}", code(verify(&r, &y, &words, &mut t.clone())));
+
     print!("wrong sizes: {}", code(verify(&r, &x, &proof[2..], &mut start.clone())));
-    print!(" {}", code(verify(&r, &x[2..], &proof, &mut start.clone())));
+    print!(" {}", code(verify(&r, &x[..62], &proof, &mut start.clone())));
     print!(" {}", code(prove(&r, &good[2..], &x, &mut start.clone())));
     r.q = 3;
     print!(" {}", code(prove(&r, &good, &x, &mut start.clone())));

@@ -6,7 +6,7 @@
 //! and in the same order, absorb into the transcript
 //!
 //! 1. the relation's digest, [`relation_digest`],
-//! 2. the words of the public elements,
+//! 2. the words of the public elements of every login,
 //! 3. the commitment to the packed words,
 //!
 //! and after a proof was accepted check its [`Claims`] against the commitment. A transcript without these three lets someone choose them
@@ -17,6 +17,9 @@
 //!
 //! Elements are of GF(2)[x] / (x^128 + x^7 + x^2 + x + 1). A point, a vector or a table of elements is a slice of words, two an element,
 //! the low one first. A table of 2^n elements has 2^(n+1) words; entry i is the value at the bits of i, bit 0 that of variable 0.
+//!
+//! The public words `x` of q logins with m columns are the m / 2 - 1 public elements of each login, login after login: q (m - 2) words.
+//! [`repeat_columns`] makes them where all logins have the same.
 mod hash;
 pub mod lent;
 mod matrix;
@@ -30,7 +33,9 @@ pub use hash::sha3_256;
 pub use matrix::Matrix;
 pub use refusal::Refusal;
 pub use rounds::{inner_message, outer_message, round_capturing, round_external};
-pub use run::{build_m_combo, fold_packed_w, layout_build, prove, relation_digest, row_check, verify, Claims, Failing, Relation, Rules};
+pub use run::{
+    build_m_combo, fold_packed_w, layout_build, prove, relation_digest, repeat_columns, row_check, verify, Claims, Failing, Relation, Rules,
+};
 pub use sys::{Digest, Element, Shape, Shapes, SystemShape, Transcript};
 pub use tables::{bind_var, drop_var, eq_build, eval_mle, fold_instances, mul, words};
 

@@ -77,8 +77,8 @@ impl Matrix {
         Refusal::check(found.code).map(|()| found.yes)
     }
 
-    /// The products with the z of each of q logins, which is its w bits, a 1 and the public elements x: one login behind the other. And
-    /// whether every value is 0 or 1 and no column exceeds w, so that all products are 0 or 1.
+    /// The products with the z of each of q logins, which is its w bits, a 1 and its public elements, whose words stand in `x` login after
+    /// login: one login behind the other. And whether every value is 0 or 1 and no column exceeds w, so that all products are 0 or 1.
     pub fn apply_simd_packed(&self, packed: &[u64], x: &[u64], q: usize, w: usize) -> Result<(Vec<u64>, bool), Refusal> {
         let mut out = room(self.rows.checked_mul(2).and_then(|n| n.checked_mul(q)));
         let found = unsafe {

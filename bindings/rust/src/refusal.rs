@@ -38,7 +38,7 @@ macro_rules! refusals {
 refusals! {
     Sizes = 1, "m is no power of two from 2 to 65,536, or q none from 1 to 4,096";
     Packed = 2, "the packed words are not 2 q ceil(m / 256)";
-    Public = 3, "the public words are not m - 2";
+    Public = 3, "the public words are not q (m - 2)";
     Rows = 4, "rows no power of two from 1 to 65,536, unequal within a system, or q times rows over 1,048,576";
     Columns = 5, "a matrix whose columns are not m";
     Entries = 6, "over 1,048,576 entries in a matrix, slices of unequal length, or counts that don't add up to it";

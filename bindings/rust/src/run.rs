@@ -94,6 +94,11 @@ impl Relation {
         self.m.div_ceil(256).checked_mul(self.q)?.checked_mul(2)
     }
 
+    /// The public words: q (m - 2).
+    pub fn public_words(&self) -> Option<usize> {
+        self.m.checked_sub(2)?.checked_mul(self.q)
+    }
+
     /// The words of the row check's scratch, where they can be counted: 6 max(Rb, Rf).
     pub fn check_scratch(&self) -> Option<usize> {
         self.most_rows().checked_mul(6)
@@ -104,17 +109,17 @@ impl Relation {
         self.m.checked_add(self.most_rows())?.checked_mul(2)
     }
 
-    /// The words of the prover's scratch: 8 q (Rb + Rf) + 8 m + 4 max(Rb, Rf) + 4 q.
+    /// The words of the prover's scratch: 8 q (Rb + Rf) + 8 m + 4 max(Rb, Rf) + 6 q.
     pub fn prover_scratch(&self) -> Option<usize> {
         let [rb, rf] = self.rows();
         let rows = rb.checked_add(rf)?;
         let tables = self.q.checked_mul(rows)?.checked_add(self.m)?.checked_mul(8)?;
-        self.most_rows().checked_add(self.q)?.checked_mul(4)?.checked_add(tables)
+        self.most_rows().checked_mul(4)?.checked_add(self.q.checked_mul(6)?)?.checked_add(tables)
     }
 
-    /// The words of the verifier's scratch: 4 m + 4 max(Rb, Rf).
+    /// The words of the verifier's scratch: 4 m + 4 max(Rb, Rf) + 2 q.
     pub fn verifier_scratch(&self) -> Option<usize> {
-        self.m.checked_add(self.most_rows())?.checked_mul(4)
+        self.m.checked_add(self.most_rows())?.checked_mul(4)?.checked_add(self.q.checked_mul(2)?)
     }
 
     fn claims(&self, words: Vec<u64>) -> Claims {
@@ -122,6 +127,11 @@ impl Relation {
         let (r_low, values) = rest.split_at(2 * (log(self.m) - 1));
         Claims { r_inst: r_inst.to_vec(), r_low: r_low.to_vec(), values: values.to_vec() }
     }
+}
+
+/// The public words of q logins that all have the public columns whose words these are.
+pub fn repeat_columns(columns: &[u64], q: usize) -> Vec<u64> {
+    columns.repeat(q)
 }
 
 /// The columns where segments of these lengths start in w witness columns: each at the next multiple of its length.
@@ -169,7 +179,7 @@ pub struct Failing {
     pub row: usize,
 }
 
-/// The first row that does not hold, or none; `packed` holds the bits of the logins, `x` the words of the public elements.
+/// The first row that does not hold, or none; `packed` holds the bits of the logins, `x` the words of their public elements.
 pub fn row_check(r: &Relation, packed: &[u64], x: &[u64]) -> Result<Option<Failing>, Refusal> {
     let mut scratch = room(r.check_scratch());
     let found = lent::row_check(&mut scratch, r.m, r.q, &r.rules, packed, x);
@@ -196,4 +206,21 @@ pub fn verify(r: &Relation, x: &[u64], proof: &[u64], t: &mut Transcript) -> Res
     *t = answer.transcript;
     Refusal::check(answer.code)?;
     Ok(r.claims(claims))
+}
+
+#[cfg(test)]
+mod tests {
+    use super::repeat_columns;
+    use crate::{Element, Matrix};
+
+    #[test]
+    fn every_login_has_the_repeated_columns() {
+        let (columns, logins) = ([5, 6], [3u64, 0, 1, 0]);
+        assert_eq!(repeat_columns(&columns, 2), [5, 6, 5, 6]);
+        assert!(repeat_columns(&[], 4).is_empty());
+        let matrix = Matrix::new(2, 4, &[(0, 1, Element { lo: 1, hi: 0 }), (1, 3, Element { lo: 2, hi: 0 })]);
+        let product = |packed: &[u64], x: &[u64], q| matrix.apply_simd_packed(packed, x, q, 2).unwrap().0;
+        let alone = [product(&logins[..2], &columns, 1), product(&logins[2..], &columns, 1)].concat();
+        assert_eq!(product(&logins, &repeat_columns(&columns, 2), 2), alone);
+    }
 }
