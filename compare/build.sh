@@ -11,4 +11,5 @@ rustc --edition 2021 -C opt-level=3 -C target-feature=+pclmulqdq,+sse4.1 -o "$ou
     --extern magnetar_hash="$release/libmagnetar_hash.rlib" --extern magnetar_sumcheck="$release/libmagnetar_sumcheck.rlib" \
     --extern magnetar_spartan="$release/libmagnetar_spartan.rlib" --extern open_spartan="$release/libopen_spartan.rlib" \
     --extern scripted_spartan="$release/libscripted_spartan.rlib" --extern scripted_hash="$release/libscripted_hash.rlib" \
+    --extern scripted_sumcheck="$release/libscripted_sumcheck.rlib" \
     --extern sha3="$(echo "$release"/deps/libsha3-*.rlib)" -L dependency="$release/deps" -L native="$archive"

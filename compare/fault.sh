@@ -105,4 +105,8 @@ fault counts magnetar_relation/src/rules.rt 'let n = entries_in(b) + entries_in(
 fault border magnetar_relation/src/range.rt 'after(c, t.c.entries, h)' 'after(c, t.b.entries, h)'
 # over records alone, the second matrix of a system takes the third one's alpha
 fault record-alpha magnetar_batch/src/combo_records.rt 'add_matrix(es, s, m, n, al, j, p, b, c);' 'add_matrix(es, s, m, n, al, k, p, b, c);'
+# public columns of login 0 for every login: in the packed products, in the folded public half, in the row check and over records
+fault first-products magnetar_r1cs/src/r1cs.rt 'if columns::repeats(x, l) {' 'if l <= x.len() {'
+fault first-half magnetar_batch/src/fold.rt 'let a = u * l;' 'let a = 0 * l;'
+fault first-login magnetar_relation/src/login.rt 'let a = login_start(u, k, x.len());' 'let a = login_start(0, k, x.len());'
 exit $missed

@@ -1,6 +1,7 @@
 //! The verifier's checks with given elements in the place of the draws: 0, 1, the same again, which no hash gives.
 use crate::forms::{number, scripted};
 use crate::model;
+use crate::own;
 use crate::random::Random;
 use crate::relation::{self, Relation, KINDS};
 use crate::sheet::Sheet;
@@ -8,6 +9,7 @@ use crate::tally::By::Rust;
 use crate::text::*;
 use magnetar_field::Gf128;
 use scripted_hash::Transcript;
+use scripted_spartan::r1cs::SimdInstance;
 use scripted_spartan::{prove_virtual_spartan, verify_virtual_spartan};
 
 fn log2(n: usize) -> usize {
@@ -25,14 +27,17 @@ fn checks(sheet: &mut Sheet, rel: &Relation, proof: &[u64], draws: &[Gf128]) {
     let (s, b, f, n) = (log2(rel.q), log2(rb), log2(rf), log2(rel.m));
     let room = model::room(rel);
     let mut t = Transcript::scripted(draws.iter().map(|e| e.0).collect());
-    let found = verify_virtual_spartan(
-        &scripted::relation(rel), &scripted::layout(rel.m / 2, &rel.lens), rel.q, &rel.rust_x(), &scripted::split(rel, proof), &mut t,
-    );
+    let (theirs, layout, split) = (scripted::relation(rel), scripted::layout(rel.m / 2, &rel.lens), scripted::split(rel, proof));
+    let found = if rel.own() {
+        own::scripted::verify(&theirs, &layout, &columns(rel), &split, &mut t)
+    } else {
+        verify_virtual_spartan(&theirs, &layout, rel.q, &rel.rust_x(), &split, &mut t)
+    };
     // tau of bin and fld, then the challenges in their order
     let rows = 3 * s + b + f;
     let (pb, pf) = (&draws[rows..rows + b], &draws[rows + b..rows + b + f]);
     let alphas = &draws[rows + b + f..rows + b + f + 6];
-    let cleared = counted((4 * rel.m).max(2 * rel.m + 2 * rb.max(rf)), room.verifier);
+    let cleared = counted((4 * rel.m).max(3 * rel.m + 2 * rel.q).max(2 * rel.m + 2 * rb.max(rf)), room.verifier);
     let events = t.log.len();
     let answer = match found {
         Err(e) if number(e) <= 26 => vec![format!("= {} {events}", number(e))],
@@ -49,14 +54,19 @@ fn checks(sheet: &mut Sheet, rel: &Relation, proof: &[u64], draws: &[Gf128]) {
         "checks {} {} {} {} {} {} {}",
         room.claims, room.verifier, list(proof), elements(draws), elements(alphas), elements(pb), elements(pf),
     );
-    sheet.ask_on("outer_checks, end_checks, write_claims", Rust, &rel.text(), query, answer);
+    let name = if rel.own() { "outer_checks, end_checks, write_claims, own columns" } else { "outer_checks, end_checks, write_claims" };
+    sheet.ask_on(name, Rust, &rel.text(), query, answer);
+}
+
+fn columns(rel: &Relation) -> SimdInstance {
+    SimdInstance { q: rel.q, m: rel.m, public: rel.rust_columns().public }
 }
 
 pub fn random(sheet: &mut Sheet, r: &mut Random) {
     let (m, q) = (2 << r.below(6), 1 << r.below(4));
     let rows = [1 << r.below(4), 1 << r.below(4)];
     let kind = r.pick(&KINDS);
-    let rel = relation::random(r, m, q, rows, 5, kind);
+    let rel = if r.one_in(3) { relation::own(r, m, q, rows, 5, kind) } else { relation::random(r, m, q, rows, 5, kind) };
     if rel.numbers() > 4000 || model::room(&rel).proof + 2 * number_of(&rel) > 900 {
         return;
     }
@@ -66,9 +76,12 @@ pub fn random(sheet: &mut Sheet, r: &mut Random) {
         _ => r.elements(number_of(&rel)),
     };
     let mut t = Transcript::scripted(draws.iter().map(|e| e.0).collect());
-    let (proof, _) = prove_virtual_spartan(
-        &scripted::relation(&rel), &scripted::layout(m / 2, &rel.lens), &rel.rust_packed(), &rel.rust_x(), q, &mut t,
-    );
+    let (theirs, layout, packed) = (scripted::relation(&rel), scripted::layout(m / 2, &rel.lens), rel.rust_packed());
+    let (proof, _) = if rel.own() {
+        own::scripted::prove(&theirs, &layout, &packed, &columns(&rel), &mut t)
+    } else {
+        prove_virtual_spartan(&theirs, &layout, &packed, &rel.rust_x(), q, &mut t)
+    };
     let proof = scripted::flat(&proof);
     checks(sheet, &rel, &proof, &draws);
     for _ in 0..4 {

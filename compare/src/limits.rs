@@ -70,7 +70,7 @@ fn large(m: usize, q: usize, rows: usize, entries: usize, segments: usize) -> Re
     let w = m / 2;
     let mut rel = Relation::empty(m, q, [rows, rows], vec![w / segments; segments]);
     rel.packed = r.words(rel.packed.len());
-    rel.x = r.words(m - 2);
+    rel.x = r.words(m - 2).repeat(q);
     for system in 0..2 {
         let binary = system == 0;
         for i in 0..entries {
@@ -96,7 +96,7 @@ fn large(m: usize, q: usize, rows: usize, entries: usize, segments: usize) -> Re
 /// m, q, q times rows, entries and segments at their limits: the run, a damaged proof, and one past each limit.
 pub fn runs(tally: &mut Tally, which: usize) {
     let t: State = ([5; 32], (1 << 32) - 1);
-    let rel = match which {
+    let mut rel = match which {
         0 => large(65536, 4096, 256, 600, 64),
         1 => large(65536, 16, 65536, model::MOST, 64),
         _ => large(65536, 4, 1, 100, 64),
@@ -108,15 +108,16 @@ pub fn runs(tally: &mut Tally, which: usize) {
     let last = bad.len() - 1;
     bad[last] ^= 1 << 63;
     runs::verify(tally, &rel, &t, &bad, room.claims, room.verifier);
-    let mut more = rel.clone();
-    more.matrices[5].put(0, 0, ZERO);
-    runs::verify(tally, &more, &t, &proof, room.claims, room.verifier);
-    let mut more = rel.clone();
-    more.matrices[3..].iter_mut().for_each(|m| m.rows *= 2);
-    runs::verify(tally, &more, &t, &proof, room.claims, room.verifier);
-    let mut more = rel.clone();
-    more.lens = vec![1; 65];
-    runs::verify(tally, &more, &t, &proof, room.claims, room.verifier);
+    // the public words are many: they are passed on, not copied
+    let edits: [fn(&mut Relation); 3] =
+        [|r| r.matrices[5].put(0, 0, ZERO), |r| r.matrices[3..].iter_mut().for_each(|m| m.rows *= 2), |r| r.lens = vec![1; 65]];
+    for edit in edits {
+        let x = std::mem::take(&mut rel.x);
+        let mut more = Relation { x, ..rel.clone() };
+        edit(&mut more);
+        runs::verify(tally, &more, &t, &proof, room.claims, room.verifier);
+        rel.x = more.x;
+    }
     runs::verify(tally, &rel, &(t.0, 1 << 32), &proof, room.claims, room.verifier);
 }
 

@@ -17,6 +17,7 @@ mod limits;
 mod listed;
 mod matrix;
 mod model;
+mod own;
 mod random;
 mod relation;
 mod runs;
@@ -48,14 +49,17 @@ enum Job {
     Tables,
     Limit(usize),
     Random(u64),
+    /// logins with public columns of their own
+    Own(u64),
     Wide(u64),
 }
 
 const THREADS: usize = 2;
 /// The parts of the exhaustive runs of prover and verifier.
 const PARTS: usize = 8;
-/// Seeds of the full run, and how many of them are of wide batches.
+/// Seeds of the full run, of public columns of each login's own, and of wide batches.
 const SEEDS: u64 = 2600;
+const OWN: u64 = 1000;
 const WIDE: u64 = 24;
 
 fn full() -> Vec<Job> {
@@ -63,6 +67,7 @@ fn full() -> Vec<Job> {
     jobs.extend((0..PARTS).map(Job::Runs));
     jobs.extend([Job::Tables, Job::Limit(2)]);
     jobs.extend((1..=SEEDS).map(Job::Random));
+    jobs.extend((1..=OWN).map(Job::Own));
     jobs.extend((1..=WIDE).map(Job::Wide));
     jobs
 }
@@ -106,6 +111,11 @@ impl Worker {
                 }
                 runs::random(&mut self.runs, r);
             }
+            Job::Own(seed) => {
+                let r = &mut Random(seed.wrapping_mul(0x9E3779B97F4A7C15));
+                whole::own(&mut self.cases, r);
+                runs::own(&mut self.runs, r);
+            }
             Job::Wide(seed) => limits::wide(&mut self.runs, seed),
         }
     }
@@ -136,7 +146,7 @@ fn main() {
     };
     // the Rust's panics are answers here
     std::panic::set_hook(Box::new(|info| {
-        if info.location().is_some_and(|l| l.file().starts_with("compare")) {
+        if info.location().is_some_and(|l| l.file().contains("compare/src")) {
             eprintln!("{info}");
         }
     }));
@@ -162,11 +172,15 @@ fn main() {
                     let job = match soak {
                         // a soak ends with its time, or with the first difference
                         Some((budget, _)) if start.elapsed() >= budget || first.lock().unwrap().is_some() => break,
-                        Some((_, seed)) => Job::Random(seed.wrapping_mul(1_000_003).wrapping_add(n as u64)),
+                        Some((_, seed)) => {
+                            let one = seed.wrapping_mul(1_000_003).wrapping_add(n as u64);
+                            if n % 4 == 3 { Job::Own(one) } else { Job::Random(one) }
+                        }
                         None if n < jobs.len() => jobs[n],
                         None => break,
                     };
                     if rust::caught(|| worker.work(job)).is_none() {
+                        eprintln!("job {n} has not ended");
                         failed.store(true, Ordering::Relaxed);
                         break;
                     }

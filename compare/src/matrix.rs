@@ -1,12 +1,13 @@
 //! Queries on matrices, folds and layouts.
 use crate::forms::plain;
 use crate::model;
+use crate::own;
 use crate::random::Random;
 use crate::relation::{self, Entries, Matrix};
 use crate::sheet::Sheet;
 use crate::tally::By::{Document, Rust};
 use crate::text::*;
-use magnetar_field::Gf128;
+use magnetar_field::{eval_mle, Gf128};
 use magnetar_spartan::r1cs::fold_instances;
 use open_spartan::virtual_spartan::open_fold_packed_w;
 
@@ -81,7 +82,11 @@ fn packed(sheet: &mut Sheet, m: &Matrix, packed: &[u64], x: &[u64], q: usize, w:
         n => n,
     };
     let answer = if n == 0 {
-        let (out, flag) = m.rust().apply_simd_packed(&wide(packed), &crate::rust::elements(x), q, w);
+        let (public, bits) = (relation::columns(q, w, x), wide(packed));
+        // whether the products are bits hangs on the matrix alone
+        let (shared, flag) = m.rust().apply_simd_packed(&bits, &public.public[0], q, w);
+        let out = m.rust().apply_simd(&own::plain::joint_z(&public, &bits), q);
+        assert!(public.public.iter().any(|x| *x != public.public[0]) || out == shared);
         vec![truth(flag), line(&marked(&words(&out), lent))]
     } else {
         vec![refused(n), line(&marked(&[], lent))]
@@ -109,6 +114,30 @@ fn fold_w(sheet: &mut Sheet, q: usize, w: usize, packed: &[u64], p: &[u64], lent
     };
     let query = format!("foldw {lent} {scratch} {q:#x} {w:#x} {} {}", list(packed), list(p));
     sheet.ask("fold::fold_packed_w", by(n), query, answer);
+}
+
+/// The folded public half, as `fold_public_part` has it column by column, and its value at a point.
+fn fold_x(sheet: &mut Sheet, q: usize, w: usize, x: &[u64], p: &[u64], c: &[u64], lent: usize) {
+    let bad = !(w.is_power_of_two() && w <= 32768 && q.is_power_of_two() && q <= 4096);
+    let n = if bad {
+        1
+    } else {
+        model::first(&[(3, x.len() != q * (2 * w - 2)), (11, p.len() != 2 * log2(q)), (15, lent < 2 * w + 2 * q)])
+    };
+    let answer = if n == 0 {
+        let (public, p, c) = (relation::columns(q, w, x), crate::rust::elements(p), crate::rust::elements(c));
+        let bits = |j: usize| (0..log2(w)).map(|i| Gf128((j >> i & 1) as u128)).collect::<Vec<_>>();
+        let half: Vec<Gf128> = (0..w).map(|j| public.fold_public_part(&p, &bits(j))).collect();
+        let value = public.fold_public_part(&p, &c);
+        assert_eq!(value, eval_mle(&half, &c));
+        let mut out = words(&half);
+        out.resize(2 * w + 2 * q, 0);
+        vec![code(0, &marked(&out, lent)), format!("= {}", elements(&[value]))]
+    } else {
+        vec![untouched(n, lent)]
+    };
+    let query = format!("foldx {lent} {q:#x} {w:#x} {} {} {}", list(x), list(p), list(c));
+    sheet.ask("fold::fold_public_in", by(n), query, answer);
 }
 
 fn fold_vector(sheet: &mut Sheet, v: &[u64], p: &[u64], scratch: usize) {
@@ -234,6 +263,8 @@ pub fn exhaustive(sheet: &mut Sheet) {
                     at(sheet, &m, &vec![3; 2 * log2(rows)], &vec![5; 2 * log2(cols)], 2 * (rows + cols));
                     for bits in 0..1u64 << (cols / 2) {
                         packed(sheet, &m, &[bits, 0], &vec![7; cols - 2], 1, cols / 2, 2 * rows);
+                        let x: Vec<u64> = (0..2 * cols as u64 - 4).collect();
+                        packed(sheet, &m, &[bits, 0, !bits, 0], &x, 2, cols / 2, 4 * rows);
                     }
                     for part in 0..4 {
                         let mut cut = m.clone();
@@ -252,8 +283,11 @@ pub fn exhaustive(sheet: &mut Sheet) {
     }
     for q in [0, 1, 2, 3, 4, 4096, 4097, 8192, usize::MAX] {
         for w in [0, 1, 2, 3, 32768, 65536, usize::MAX] {
+            // a point of the half's variables, where it has any
+            let low = vec![7; if w == 2 { 2 } else { 0 }];
             for n in 0..10 {
                 fold_w(sheet, q, w, &vec![3; n], &vec![5; n / 2], 4, 4);
+                fold_x(sheet, q, w, &vec![3; n], &vec![5; n / 2], &low, 2 * n);
                 packed(sheet, &Matrix::empty(1, 4), &vec![3; n], &vec![5; n / 2], q, w, 4);
             }
         }
@@ -292,15 +326,20 @@ pub fn random(sheet: &mut Sheet, r: &mut Random) {
     apply(sheet, &m, &z, 2 * rows + slack);
     table(sheet, &m, &p, near(2 * cols), 2 * rows + r.below(2));
     at(sheet, &m, &p, &c, near(2 * (rows + cols)));
-    // a batch of rows of another width
-    let (w, q) = (1 << r.below(9), 1 << r.below(5));
+    // a batch of rows of another width, whose public words a line holds
+    let w = 1 << r.below(9);
+    let q = (1 << r.below(5)).min(1024 / w);
     let batch = any(r, rows.min(8), 2 * w, 40);
     let bits = r.words(model::packed_words(q, w));
-    let x = words(&r.elements(w - 1));
+    let x = if r.one_in(2) { relation::own_columns(r, q, w) } else { words(&r.elements(w - 1)).repeat(q) };
     let total = batch.rows * q * 2;
     packed(sheet, &batch, &bits, &x, q, w, near(total));
     let point = words(&r.elements(log2(q)));
     fold_w(sheet, q, w, &bits, &point, near(2 * w), 2 * q + r.below(2));
+    let at_low = words(&r.elements(log2(w)));
+    if x.len() + 2 * w < 2000 {
+        fold_x(sheet, q, w, &x, &point, &at_low, near(2 * w + 2 * q));
+    }
     let vector = words(&r.elements(q));
     fold_vector(sheet, &vector, &point, near(2 * q));
     // lengths that are not wanted

@@ -38,7 +38,7 @@ pub fn batch(m: &Matrix, q: usize, w: usize, packed: usize, x: Option<usize>) ->
     }
     first(&[
         (2, packed != packed_words(q, w)),
-        (3, x.is_some_and(|n| n != 2 * w - 2)),
+        (3, x.is_some_and(|n| n != q * (2 * w - 2))),
         (4, rows_bad(m) || q * m.rows > MOST),
         (5, m.cols != 2 * w),
         (6, counts_bad(m)),
@@ -69,7 +69,7 @@ pub fn relation(r: &Relation, logins: bool, batch: bool, public: bool) -> u32 {
     let matrices = &r.matrices;
     first(&[
         (2, batch && r.packed.len() != packed_words(q, r.m / 2)),
-        (3, public && r.x.len() != r.m - 2),
+        (3, public && r.x.len() != q * (r.m - 2)),
         (4, (0..6).any(|k| rows_bad(&matrices[k]) || unequal(k) || q * matrices[k].rows > MOST)),
         (5, matrices.iter().any(|m| m.cols != r.m)),
         (6, matrices.iter().any(counts_bad) || r.told.iter().any(Option::is_some)),
@@ -97,8 +97,8 @@ pub fn room(r: &Relation) -> Room {
     Room {
         proof: 2 * (8 * s + 4 * log2(rb) + 4 * log2(rf) + 7 + 3 * n + l),
         claims: 2 * (s + n - 1 + l),
-        verifier: 4 * r.m + 4 * most,
-        prover: 8 * r.q * (rb + rf) + 8 * r.m + 4 * most + 4 * r.q,
+        verifier: 4 * r.m + 4 * most + 2 * r.q,
+        prover: 8 * r.q * (rb + rf) + 8 * r.m + 4 * most + 6 * r.q,
         check: 6 * most,
     }
 }

@@ -4,6 +4,7 @@ use crate::random::Random;
 use crate::rust;
 use crate::text;
 use magnetar_field::{mul, Gf128};
+use magnetar_spartan::r1cs::SimdInstance;
 use magnetar_spartan::{DualRelation, SegmentLayout, SparseMatrix};
 
 use magnetar::{Rules, Shapes};
@@ -68,7 +69,14 @@ pub struct Relation {
     /// what is told in the place of a matrix's number of entries; with these the numbers don't add up (`recut`)
     pub told: [Option<usize>; 6],
     pub packed: Vec<u64>,
+    /// the public words of every login, one behind the other
     pub x: Vec<u64>,
+}
+
+/// The public columns of q logins with w witness columns.
+pub fn columns(q: usize, w: usize, x: &[u64]) -> SimdInstance {
+    let n = 2 * w - 2;
+    SimdInstance { q, m: 2 * w, public: (0..q).map(|u| rust::elements(&x[u * n..(u + 1) * n])).collect() }
 }
 
 /// The length that most of a matrix's lists have.
@@ -86,7 +94,7 @@ impl Relation {
             matrices: std::array::from_fn(|k| Matrix::empty(rows[k / 3], m)),
             told: [None; 6],
             packed: vec![0; 2 * q * (m / 2).div_ceil(128)],
-            x: vec![0; m - 2],
+            x: vec![0; q * (m - 2)],
         }
     }
 
@@ -144,8 +152,20 @@ impl Relation {
         self.packed.chunks(2).map(|w| w[0] as u128 | (w[1] as u128) << 64).collect()
     }
 
+    /// Whether the logins have unequal public columns; not where there are too many or too few words.
+    pub fn own(&self) -> bool {
+        let n = self.m.saturating_sub(2);
+        n > 0 && Some(self.x.len()) == n.checked_mul(self.q) && self.x.chunks(n).any(|x| *x != self.x[..n])
+    }
+
+    /// The public columns of login 0, which all have where they have none of their own.
     pub fn rust_x(&self) -> Vec<Gf128> {
-        rust::elements(&self.x)
+        rust::elements(&self.x[..self.x.len() / self.q])
+    }
+
+    /// Those of each login.
+    pub fn rust_columns(&self) -> SimdInstance {
+        columns(self.q, self.m / 2, &self.x)
     }
 
     pub fn rust_relation(&self) -> DualRelation {
@@ -219,10 +239,10 @@ fn inside(w: usize, lens: &[usize]) -> Vec<bool> {
     out
 }
 
-/// A row of a system that holds for every batch and these public words.
+/// A row of a system that holds for every batch and these public words; for any public words where the logins have their own.
 fn good_row(r: &mut Random, rel: &mut Relation, system: usize, row: usize, binary: bool) {
     let w = rel.m / 2;
-    let x = rel.rust_x();
+    let x = if rel.own() { vec![] } else { rel.rust_x() };
     let [a, b, c] = &mut rel.matrices[3 * system..3 * system + 3] else { unreachable!() };
     let value = |r: &mut Random| if binary { Gf128(1) } else { r.element() };
     match r.below(if binary { 5 } else { 7 }) {
@@ -298,14 +318,57 @@ fn gate(r: &mut Random, rel: &mut Relation, system: usize, row: usize, to: usize
     }
 }
 
+/// A row about public columns of each login's own, which are made so: column `to` is the product of two lower ones, or a bit.
+fn public_gate(r: &mut Random, rel: &mut Relation, system: usize, row: usize, to: usize, bit: usize) {
+    let w = rel.m / 2;
+    let (from, other) = if to == 0 || r.one_in(2) { (bit, w) } else { (w + 1 + r.below(to), w + 1 + r.below(to)) };
+    for (k, col) in [from, other, w + 1 + to].into_iter().enumerate() {
+        rel.matrices[3 * system + k].put(row, col, Gf128(1));
+    }
+    let public = rel.rust_columns().public;
+    for login in 0..rel.q {
+        let value = if from == bit { Gf128(rel.bit(login, bit) as u128) } else { mul(public[login][from - w - 1], public[login][other - w - 1]) };
+        let at = login * (rel.m - 2) + 2 * to;
+        rel.x[at..at + 2].copy_from_slice(&text::words(&[value]));
+    }
+}
+
+/// Public columns for q logins: some sets of them, equal neighbours as often as not, the last login's mostly not the first one's; 0 and 1
+/// are frequent.
+pub fn own_columns(r: &mut Random, q: usize, w: usize) -> Vec<u64> {
+    let sets: Vec<Vec<u64>> = (0..2 + r.below(q)).map(|_| text::words(&r.elements(w - 1))).collect();
+    let (mut x, mut k) = (vec![], 0);
+    for u in 0..q {
+        if !r.one_in(2) {
+            k = r.below(sets.len());
+        }
+        if u > 0 && u + 1 == q && !r.one_in(8) {
+            k = 1 + r.below(sets.len() - 1);
+        }
+        x.extend(&sets[if u == 0 { 0 } else { k }]);
+    }
+    x
+}
+
+/// A batch whose logins have the same public columns.
 pub fn random(r: &mut Random, m: usize, q: usize, rows: [usize; 2], segments: usize, kind: Kind) -> Relation {
+    made(r, m, q, rows, segments, kind, false)
+}
+
+/// A batch whose logins have public columns of their own, if there are any.
+pub fn own(r: &mut Random, m: usize, q: usize, rows: [usize; 2], segments: usize, kind: Kind) -> Relation {
+    made(r, m, q, rows, segments, kind, true)
+}
+
+fn made(r: &mut Random, m: usize, q: usize, rows: [usize; 2], segments: usize, kind: Kind, own: bool) -> Relation {
     let w = m / 2;
     let lens = lengths(r, w, segments);
     let mut rel = Relation::empty(m, q, rows, lens);
     for word in rel.packed.iter_mut() {
         *word = if r.one_in(8) { 0 } else { r.word() };
     }
-    rel.x = text::words(&r.elements(w - 1));
+    rel.x = if own { own_columns(r, q, w) } else { text::words(&r.elements(w - 1)).repeat(q) };
+    let own = rel.own();
     if kind == Kind::Wild {
         for k in 0..6 {
             let binary = r.one_in(2);
@@ -333,10 +396,15 @@ pub fn random(r: &mut Random, m: usize, q: usize, rows: [usize; 2], segments: us
     }
     let binary = !r.one_in(3);
     // gates go up the columns, so that a bit that one of them reads is not changed by a later one
-    let mut next = 1 + r.below(w);
+    let (mut next, mut public) = (1 + r.below(w), 0);
+    let lowest = next;
     for system in 0..2 {
         for row in 0..rows[system] {
-            if next < w && r.one_in(3) {
+            if own && public + 1 < w && r.one_in(3) {
+                let bit = r.below(lowest);
+                public_gate(r, &mut rel, system, row, public, bit);
+                public += 1 + r.below(w);
+            } else if next < w && r.one_in(3) {
                 if inside[next] {
                     gate(r, &mut rel, system, row, next);
                 }
@@ -349,7 +417,10 @@ pub fn random(r: &mut Random, m: usize, q: usize, rows: [usize; 2], segments: us
             rel.matrices[3 * system + k].shuffle(r);
         }
     }
-    if kind == Kind::Bad {
+    if kind == Kind::Bad && own && r.one_in(2) {
+        let i = r.below(rel.x.len());
+        rel.x[i] ^= 1 << r.below(64);
+    } else if kind == Kind::Bad {
         let (login, col) = (r.below(q), r.below(w));
         let bit = rel.bit(login, col);
         rel.set_bit(login, col, !bit);

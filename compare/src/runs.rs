@@ -2,6 +2,7 @@
 use crate::forms::{number, plain};
 use crate::library::{self, Outcome};
 use crate::model::{self, Lent};
+use crate::own;
 use crate::random::Random;
 use crate::relation::{self, Entries, Kind, Matrix, Relation, KINDS};
 use crate::rust::{self, State};
@@ -15,64 +16,40 @@ fn log2(n: usize) -> usize {
     n.trailing_zeros() as usize
 }
 
-/// The challenges r_inst and r_low, drawn from the Rust's transcript: its claims hold them only as far as its segments go.
-fn challenges(r: &Relation, start: &State, proof: &[u64]) -> (Vec<Gf128>, Vec<Gf128>) {
-    let p = plain::split(r, proof);
-    let mut t = rust::transcript(start);
-    let [rb, rf] = r.rows();
-    t.challenge_field_vec("vs-tau-bin", log2(r.q) + log2(rb));
-    t.challenge_field_vec("vs-tau-fld", log2(r.q) + log2(rf));
-    let mut inst = vec![];
-    for (i, (bin, fld)) in p.outer_shared.iter().enumerate() {
-        let label = format!("vs-out-shared-{i}");
-        t.absorb_field(&label, &[&bin[..], fld].concat());
-        inst.insert(0, t.challenge_field(&label));
-    }
-    for (name, rounds) in [("rowbin", &p.outer_bin), ("rowfld", &p.outer_fld)] {
-        for (i, message) in rounds.iter().enumerate() {
-            let label = format!("vs-out-{name}-{i}");
-            t.absorb_field(&label, message);
-            t.challenge_field(&label);
-        }
-    }
-    for (i, v) in p.terminals.iter().enumerate() {
-        t.absorb_field(&format!("vs-terminal-{i}"), &[*v]);
-    }
-    t.challenge_field_vec("vs-alpha", 6);
-    let mut low = vec![];
-    for message in &p.inner {
-        t.absorb_field("vs-inner", message);
-        low.push(t.challenge_field("vs-inner"));
-    }
-    low.pop();
-    (inst, low)
-}
+/// So many entries of z a run has at most whose prover is compared with the parts put together.
+const PARTS: usize = 1024;
 
-/// The claims as document 01 orders their words; the Rust's own are compared with them.
-fn claims(r: &Relation, start: &State, proof: &[u64], theirs: &[magnetar_spartan::SegmentClaim]) -> Vec<u64> {
-    let (inst, low) = challenges(r, start, proof);
-    let values = rust::elements(&proof[proof.len() - 2 * r.lens.len()..]);
-    assert_eq!(theirs.len(), values.len());
-    for (i, c) in theirs.iter().enumerate() {
-        assert!(c.segment == i && c.r_inst == inst && c.r_local == low[..c.r_local.len()] && c.value == values[i]);
-    }
-    words(&[inst, low, values].concat())
-}
-
-/// The Rust's prover: proof, claims and transcript.
+/// The Rust's prover: proof, claims and transcript. Where the logins have public columns of their own it is put together of its parts,
+/// which have to give what the prover itself gives where they are equal.
 pub fn rust_prove(r: &Relation, start: &State) -> (Vec<u64>, Vec<u64>, State) {
-    let mut t = rust::transcript(start);
-    let (proof, theirs) = prove_virtual_spartan(&r.rust_relation(), &r.rust_layout(), &r.rust_packed(), &r.rust_x(), r.q, &mut t);
-    let proof = plain::flat(&proof);
-    let claims = claims(r, start, &proof, &theirs);
-    (proof, claims, rust::state(&t))
+    let (rel, layout, packed) = (r.rust_relation(), r.rust_layout(), r.rust_packed());
+    let whole = |own: bool| {
+        let mut t = rust::transcript(start);
+        let (proof, theirs) = if own {
+            own::plain::prove(&rel, &layout, &packed, &r.rust_columns(), &mut t)
+        } else {
+            prove_virtual_spartan(&rel, &layout, &packed, &r.rust_x(), r.q, &mut t)
+        };
+        let claims = own::plain::claims(&rel, r.q, &proof, &mut rust::transcript(start), &theirs);
+        (plain::flat(&proof), words(&claims), rust::state(&t))
+    };
+    let found = whole(r.own());
+    if !r.own() && r.q * r.m <= PARTS {
+        assert!(found == whole(true), "the Rust's parts are put together as its prover does it");
+    }
+    found
 }
 
 /// The Rust's verifier: number, claims and transcript.
 fn rust_verify(r: &Relation, start: &State, proof: &[u64]) -> (u32, Vec<u64>, State) {
-    let mut t = rust::transcript(start);
-    match verify_virtual_spartan(&r.rust_relation(), &r.rust_layout(), r.q, &r.rust_x(), &plain::split(r, proof), &mut t) {
-        Ok(theirs) => (0, claims(r, start, proof, &theirs), rust::state(&t)),
+    let (rel, layout, proof, mut t) = (r.rust_relation(), r.rust_layout(), plain::split(r, proof), rust::transcript(start));
+    let found = if r.own() {
+        own::plain::verify(&rel, &layout, &r.rust_columns(), &proof, &mut t)
+    } else {
+        verify_virtual_spartan(&rel, &layout, r.q, &r.rust_x(), &proof, &mut t)
+    };
+    match found {
+        Ok(theirs) => (0, words(&own::plain::claims(&rel, r.q, &proof, &mut rust::transcript(start), &theirs)), rust::state(&t)),
         Err(e) => (number(e), vec![], rust::state(&t)),
     }
 }
@@ -101,7 +78,8 @@ pub fn verify(tally: &mut Tally, r: &Relation, start: &State, proof: &[u64], cla
     let (by, expected) = to_verify(r, start, proof, claims, scratch);
     let found = library::verify(r, start, proof, claims, scratch);
     tally.verdict("verify", expected.code);
-    tally.compared("verify_virtual_spartan", by, found == expected, || {
+    let name = if r.own() { "verify_virtual_spartan, own columns" } else { "verify_virtual_spartan" };
+    tally.compared(name, by, found == expected, || {
         let query = format!("verify {} {claims} {scratch} {}", state(start), list(proof));
         format!("{}\n{query}\nexpected:\n{}\nhere:\n{}", r.text(), shown(&expected), shown(&found))
     });
@@ -126,7 +104,8 @@ pub fn prove(tally: &mut Tally, r: &Relation, start: &State, proof: usize, claim
     let (by, expected) = to_prove(r, start, proof, claims, scratch);
     let found = library::prove(r, start, proof, claims, scratch);
     tally.verdict("prove", expected.code);
-    tally.compared("prove_virtual_spartan", by, found == expected, || {
+    let name = if r.own() { "prove_virtual_spartan, own columns" } else { "prove_virtual_spartan" };
+    tally.compared(name, by, found == expected, || {
         let query = format!("prove {} {proof} {claims} {scratch}", state(start));
         format!("{}\n{query}\nexpected:\n{}\nhere:\n{}", r.text(), shown(&expected), shown(&found))
     });
@@ -144,7 +123,8 @@ pub fn check(tally: &mut Tally, r: &Relation, scratch: usize) {
     };
     let found = library::row_check(r, scratch);
     let by = if refusal == 0 { By::Rust } else { By::Document };
-    tally.compared("check::row_check", by, found == expected, || {
+    let name = if r.own() { "check::row_check, own columns" } else { "check::row_check" };
+    tally.compared(name, by, found == expected, || {
         format!("{}\ncheck {scratch}\nexpected {:?}, here {:?}", r.text(), expected.0, found.0)
     });
 }
@@ -339,7 +319,7 @@ fn damaged(tally: &mut Tally, r: &mut Random, rel: &Relation, t: &State, proof: 
     let extra = 1 + r.below(4);
     let longer = [proof, &r.words(extra)].concat();
     ask(tally, rel, t, &longer);
-    // another transcript, another counter, other public words, other rules
+    // another transcript, another counter, other public words, those of login 0 for all, other rules
     let mut u = *t;
     u.0[r.below(32)] ^= 1 << r.below(8);
     ask(tally, rel, &u, proof);
@@ -350,6 +330,10 @@ fn damaged(tally: &mut Tally, r: &mut Random, rel: &Relation, t: &State, proof: 
         let i = r.below(other.x.len());
         other.x[i] ^= 1 << r.below(64);
         ask(tally, &other, t, proof);
+        if rel.own() {
+            other.x = rel.x[..rel.m - 2].repeat(rel.q);
+            ask(tally, &other, t, proof);
+        }
     }
     let mut other = rel.clone();
     let k = r.below(6);
@@ -372,6 +356,19 @@ pub fn random(tally: &mut Tally, r: &mut Random) {
     let rows = [1 << r.below(4), 1 << r.below(4)];
     let kind = r.pick(&KINDS);
     let rel = relation::random(r, m, q, rows, 6, kind);
+    both(tally, r, rel, kind);
+}
+
+/// The same on logins with public columns of their own.
+pub fn own(tally: &mut Tally, r: &mut Random) {
+    let (m, q) = (4 << r.below(4), 2 << r.below(3));
+    let rows = [1 << r.below(3), 1 << r.below(3)];
+    let kind = r.pick(&KINDS);
+    let rel = relation::own(r, m, q, rows, 4, kind);
+    both(tally, r, rel, kind);
+}
+
+fn both(tally: &mut Tally, r: &mut Random, rel: Relation, kind: Kind) {
     let t = start(r);
     let slack = r.below(4);
     let (proof, code) = honest(tally, &rel, &t, slack);

@@ -3,6 +3,7 @@ use crate::forms::open;
 use crate::library::Outcome;
 use crate::matrix;
 use crate::model::{self, MOST};
+use crate::own;
 use crate::random::Random;
 use crate::relation::{self, Entries, Matrix, Relation, KINDS};
 use crate::runs;
@@ -14,7 +15,7 @@ use magnetar_field::{mul, Gf128};
 use open_spartan::virtual_spartan::open_build_m_combo;
 
 /// What the program has room for.
-const NUMBERS: usize = 4000;
+const NUMBERS: usize = 12000;
 
 fn log2(n: usize) -> usize {
     n.trailing_zeros() as usize
@@ -70,9 +71,14 @@ fn masks(sheet: &mut Sheet, m: &Matrix, packed: &[u64], q: usize, w: usize, v: u
 
 /// The first failing row: the Rust's products, compared row by row in document 01's order.
 pub fn first_failing(rel: &Relation) -> Option<(usize, usize, usize)> {
-    let (packed, x, rows) = (rel.rust_packed(), rel.rust_x(), rel.rows());
+    let (packed, rows) = (rel.rust_packed(), rel.rows());
+    let z = if rel.own() { own::plain::joint_z(&rel.rust_columns(), &packed) } else { vec![] };
+    let product = |m: &Matrix| match &z[..] {
+        [] => m.rust().apply_simd_packed(&packed, &rel.rust_x(), rel.q, rel.m / 2).0,
+        z => m.rust().apply_simd(z, rel.q),
+    };
     for system in 0..2 {
-        let [a, b, c] = [0, 1, 2].map(|k| rel.matrices[3 * system + k].rust().apply_simd_packed(&packed, &x, rel.q, rel.m / 2).0);
+        let [a, b, c] = [0, 1, 2].map(|k| product(&rel.matrices[3 * system + k]));
         for i in 0..a.len() {
             if mul(a[i], b[i]) != c[i] {
                 return Some((system, i / rows[system], i % rows[system]));
@@ -93,7 +99,8 @@ fn check(sheet: &mut Sheet, rel: &Relation, scratch: usize) {
     } else {
         vec![refused(n), counted(0, scratch)]
     };
-    sheet.ask_on("check::row_check", by(n), &rel.text(), format!("check {scratch}"), answer);
+    let name = if rel.own() { "check::row_check, own columns" } else { "check::row_check" };
+    sheet.ask_on(name, by(n), &rel.text(), format!("check {scratch}"), answer);
 }
 
 /// How the program tells of a run: number and transcript, proof, claims, scratch.
@@ -112,14 +119,16 @@ fn told(o: &Outcome) -> Vec<String> {
 fn prove(sheet: &mut Sheet, rel: &Relation, start: &rust::State, proof: usize, claims: usize, scratch: usize) -> Vec<u64> {
     let (by, o) = runs::to_prove(rel, start, proof, claims, scratch);
     let query = format!("prove {} {proof} {claims} {scratch}", state(start));
-    sheet.ask_on("prove_virtual_spartan, by query", by, &rel.text(), query, told(&o));
+    let name = if rel.own() { "prove_virtual_spartan, own columns, by query" } else { "prove_virtual_spartan, by query" };
+    sheet.ask_on(name, by, &rel.text(), query, told(&o));
     o.proof
 }
 
 fn verify(sheet: &mut Sheet, rel: &Relation, start: &rust::State, proof: &[u64], claims: usize, scratch: usize) {
     let (by, o) = runs::to_verify(rel, start, proof, claims, scratch);
     let query = format!("verify {} {claims} {scratch} {}", state(start), list(proof));
-    sheet.ask_on("verify_virtual_spartan, by query", by, &rel.text(), query, told(&o));
+    let name = if rel.own() { "verify_virtual_spartan, own columns, by query" } else { "verify_virtual_spartan, by query" };
+    sheet.ask_on(name, by, &rel.text(), query, told(&o));
 }
 
 fn verified(sheet: &mut Sheet, r: &mut Random, rel: &Relation) {
@@ -147,7 +156,7 @@ pub fn damage(r: &mut Random, rel: &mut Relation) {
     let k = r.below(6);
     let [rb, rf] = rel.rows();
     let far = r.pick(&[0, 1, 2, 3, 131072, 1 << 40, usize::MAX]);
-    match r.below(18) {
+    match r.below(19) {
         0 => rel.m = far,
         1 => rel.q = far,
         2 => rel.packed.truncate(r.below(rel.packed.len().max(1))),
@@ -164,7 +173,8 @@ pub fn damage(r: &mut Random, rel: &mut Relation) {
         13 => rel.matrices[k].put(0, rel.m, Gf128(0)),
         14 => rel.told[k] = Some(rel.matrices[k].row.len().wrapping_add(r.pick(&[1, 2, usize::MAX, MOST]))),
         15 => rel.told[k] = Some(r.pick(&[0, 1, MOST, MOST + 1, usize::MAX])),
-        16 => rel.lens.push(r.pick(&[0, 3, rel.m, rel.m / 2, usize::MAX])),
+        16 => rel.x.truncate(rel.m.saturating_sub(2)),
+        17 => rel.lens.push(r.pick(&[0, 3, rel.m, rel.m / 2, usize::MAX])),
         _ => rel.lens.extend(vec![1; 66]),
     }
     rel.recut();
@@ -207,6 +217,20 @@ pub fn exhaustive(sheet: &mut Sheet) {
     }
 }
 
+/// Logins with public columns of their own: runs and row checks.
+pub fn own(sheet: &mut Sheet, r: &mut Random) {
+    let (m, q) = (4 << r.below(4), 2 << r.below(3));
+    let rows = [1 << r.below(3), 1 << r.below(3)];
+    let kind = r.pick(&KINDS);
+    let rel = relation::own(r, m, q, rows, 4, kind);
+    verified(sheet, r, &rel);
+    let (room, slack) = (model::room(&rel), r.below(3));
+    check(sheet, &rel, room.check + slack);
+    let mut bad = rel.clone();
+    damage(r, &mut bad);
+    check(sheet, &bad, room.check);
+}
+
 pub fn random(sheet: &mut Sheet, r: &mut Random) {
     let (m, q) = (2 << r.below(8), 1 << r.below(5));
     let rows = [1 << r.below(4), 1 << r.below(4)];
@@ -239,7 +263,7 @@ pub fn random(sheet: &mut Sheet, r: &mut Random) {
     let s = log2(q);
     let v = r.below(s + 2);
     let need = if v <= s { rows << (s - v) } else { rows };
-    if packed.len() + 4 * one.row.len() < NUMBERS - 100 && need + slack < 2000 {
+    if packed.len() + 4 * one.row.len() < 4000 && need + slack < 2000 {
         masks(sheet, &one, &packed, q, w, v, (need + slack).saturating_sub(1));
         masks(sheet, &one, &packed, q, w, v, need);
     }
